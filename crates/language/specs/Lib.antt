@@ -1,0 +1,6 @@
+pub mod Tree
+pub mod Value
+pub mod Rest
+pub mod Step
+pub mod Rounds
+pub mod Resolve

@@ -1,0 +1,74 @@
+-- What expressions and right sides are worth (Ball and Rajamani 2000: variables of truth values).
+use Rattle.std.specs.Prelude.{◌≡◌, ℕ, zero, suc, Bool, false, List, [], ◌∷◌, not, ◌&&◌, ◌||◌, cond}
+use Rattle.language.specs.Tree.{Operator, implies, or, xor, and, equal, differs, Expression, const, var, negation, two, RightSide, any, value}
+
+-- where a variable's value is kept: a global by its number, or a place of the frame, which has the
+-- formals, then the locals, then the temporaries
+pub data Place : Type 0 where
+  global : ℕ → Place
+  local : ℕ → Place
+
+-- the value at a number, and 0 past the end
+abbrev pub bit : List Bool → ℕ → Bool
+bit [] n = false
+bit (b ∷ bs) zero = b
+bit (b ∷ bs) (suc n) = bit bs n
+
+-- the list with another value at a number; past the end nothing changes
+abbrev pub with_bit : List Bool → ℕ → Bool → List Bool
+with_bit [] n v = []
+with_bit (b ∷ bs) zero v = v ∷ bs
+with_bit (b ∷ bs) (suc n) v = b ∷ with_bit bs n v
+
+-- the truth tables
+abbrev pub operate : Operator → Bool → Bool → Bool
+operate implies a b = not a || b
+operate or a b = a || b
+operate xor a b = cond a (not b) b
+operate and a b = a && b
+operate equal a b = cond a b (not b)
+operate differs a b = cond a (not b) b
+
+-- the value at a place
+abbrev pub look_up : List Bool → List Bool → Place → Bool
+look_up globals locals (global n) = bit globals n
+look_up globals locals (local n) = bit locals n
+
+-- the one value of an expression
+abbrev pub value_of : List Bool → List Bool → Expression Place → Bool
+value_of globals locals (const b) = b
+value_of globals locals (var x) = look_up globals locals x
+value_of globals locals (negation e) = not (value_of globals locals e)
+value_of globals locals (two o a b) = operate o (value_of globals locals a) (value_of globals locals b)
+
+-- the values of expressions, in order
+abbrev pub values_of : List Bool → List Bool → List (Expression Place) → List Bool
+values_of globals locals [] = []
+values_of globals locals (e ∷ es) = value_of globals locals e ∷ values_of globals locals es
+
+-- b is a value of the right side: `?` has both, an expression its one
+abbrev pub IsValue : List Bool → List Bool → RightSide Place → Bool → Type 0
+IsValue globals locals any b = Unit {0}
+IsValue globals locals (value e) b = b ≡ value_of globals locals e
+
+-- the list has a value of each right side, in order
+abbrev pub AreValues : List Bool → List Bool → List (RightSide Place) → List Bool → Type 0
+AreValues globals locals [] [] = Unit {0}
+AreValues globals locals [] (b ∷ bs) = ⊥
+AreValues globals locals (r ∷ rs) [] = ⊥
+AreValues globals locals (r ∷ rs) (b ∷ bs) = IsValue globals locals r b × AreValues globals locals rs bs
+
+-- the globals after values are written to targets, one target after the other; the values were
+-- computed before
+abbrev pub written_globals : List Place → List Bool → List Bool → List Bool
+written_globals [] vs globals = globals
+written_globals (x ∷ xs) [] globals = globals
+written_globals (global n ∷ xs) (v ∷ vs) globals = written_globals xs vs (with_bit globals n v)
+written_globals (local n ∷ xs) (v ∷ vs) globals = written_globals xs vs globals
+
+-- the same of the places of the frame
+abbrev pub written_locals : List Place → List Bool → List Bool → List Bool
+written_locals [] vs locals = locals
+written_locals (x ∷ xs) [] locals = locals
+written_locals (global n ∷ xs) (v ∷ vs) locals = written_locals xs vs locals
+written_locals (local n ∷ xs) (v ∷ vs) locals = written_locals xs vs (with_bit locals n v)
