@@ -1,0 +1,7 @@
+-- The Post that is left to pass so many others from here is the one of the number from the front.
+use Rattle.std.proofs.Common.{◌≡◌, drop, slice_get}
+use Rattle.post_ledger.specs.History.{posts}
+use Rattle.post_ledger.proofs.legality.post_numbered.Given as goal
+
+abbrev pub invariant-loop-event : goal.invariant-loop-event
+invariant-loop-event g l = slice_get (posts (drop l.event-index l.events)) l.left ≡ slice_get (posts l.events) l.number
