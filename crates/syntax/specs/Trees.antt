@@ -12,10 +12,11 @@ use Rattle.syntax.specs.declared.tree.Expr.TheOpen as expr
 use Rattle.syntax.specs.declared.tree.Expr.TheFolds.{fold-Expr}
 use Rattle.syntax.specs.declared.tree.Rhs.{Rhs}
 use Rattle.syntax.specs.declared.tree.Rhs.TheVariants as rhs
+use Rattle.syntax.specs.declared.tree.Core.{Core}
 use Rattle.syntax.specs.declared.tree.Stmt.{Stmt}
 use Rattle.syntax.specs.declared.tree.Core.TheOpen.{Core-F, Stmt-F}
 use Rattle.syntax.specs.declared.tree.Core.TheOpen as core
-use Rattle.syntax.specs.declared.tree.Core.TheFolds.{fold-Stmt}
+use Rattle.syntax.specs.declared.tree.Core.TheFolds.{fold-Core, fold-Stmt}
 use Rattle.syntax.specs.declared.tree.Proc.{Proc}
 use Rattle.syntax.specs.declared.tree.Thread.{Thread}
 use Rattle.syntax.specs.declared.tree.Program.{Program}
@@ -61,43 +62,56 @@ rhs_of (rhs.Value e) = value (expr_of e)
 abbrev pub rhss_of : {A : Type 0} → List (Rhs A) → List (RightSide tree.Name)
 rhss_of rs = map rhs_of rs
 
--- One statement, without those after it: one that holds no others, an `if` with its two branches, or a
--- `while` with its body.
-pub data Item : Type 0 where
-  simple : Mark tree.Name → Simple tree.Name tree.Name tree.Name → Item
-  branch : Mark tree.Name → RightSide tree.Name → Block tree.Name tree.Name tree.Name → Block tree.Name tree.Name tree.Name → Item
-  repeat : Mark tree.Name → RightSide tree.Name → Block tree.Name tree.Name tree.Name → Item
+-- What a statement does: one that holds no others, an `if` with its right side and its two branches, or a
+-- `while` with its right side and its body.
+pub data Deed : Type 0 where
+  simple : Simple tree.Name tree.Name tree.Name → Deed
+  branch : RightSide tree.Name → Block tree.Name tree.Name tree.Name → Block tree.Name tree.Name tree.Name → Deed
+  repeat : RightSide tree.Name → Block tree.Name tree.Name tree.Name → Deed
+
+-- One statement, without those after it.
+pub record Item : Type 0 where
+  pub mark : Mark tree.Name
+  pub deed : Deed
+
+-- what a statement does, with its mark, put in front of the statements after it
+abbrev pub marked_before : Mark tree.Name → Deed → Block tree.Name tree.Name tree.Name → Block tree.Name tree.Name tree.Name
+marked_before m (simple s) k = one m s k
+marked_before m (branch r a b) k = choose m r a b k
+marked_before m (repeat r a) k = loop m r a k
 
 -- the statement, put in front of those after it
 abbrev pub before : Item → Block tree.Name tree.Name tree.Name → Block tree.Name tree.Name tree.Name
-before (simple m s) k = one m s k
-before (branch m r a b) k = choose m r a b k
-before (repeat m r a) k = loop m r a k
+before i k = marked_before i.mark i.deed k
 
 -- statements, in order, put in front of those after them
 abbrev pub all_before : List Item → Block tree.Name tree.Name tree.Name → Block tree.Name tree.Name tree.Name
 all_before [] k = k
 all_before (i ∷ is) k = before i (all_before is k)
 
--- one level of what a statement does, with its mark: the statements that it holds are trees already
-abbrev pub core_step : {A : Type 0} → Core-F A (Mark tree.Name → Item) Item → Mark tree.Name → Item
-core_step core.Skip m = simple m skip
-core_step (core.Assign xs rs) m = simple m (assign (names_of xs.items) (rhss_of rs.items))
-core_step (core.If r a b) m = branch m (rhs_of r) (all_before a.items done) (all_before b.items done)
-core_step (core.While r a) m = repeat m (rhs_of r) (all_before a.items done)
-core_step (core.Assert r) m = simple m (assert (rhs_of r))
-core_step (core.Assume r) m = simple m (assume (rhs_of r))
-core_step (core.Goto l) m = simple m (goto (name_of l))
-core_step core.Return m = simple m leave
-core_step (core.Call p es) m = simple m (call (name_of p) (exprs_of es.items))
+-- one level of what a statement does: the statements that it holds are trees already
+abbrev pub core_step : {A : Type 0} → Core-F A Deed Item → Deed
+core_step core.Skip = simple skip
+core_step (core.Assign xs rs) = simple (assign (names_of xs.items) (rhss_of rs.items))
+core_step (core.If r a b) = branch (rhs_of r) (all_before a.items done) (all_before b.items done)
+core_step (core.While r a) = repeat (rhs_of r) (all_before a.items done)
+core_step (core.Assert r) = simple (assert (rhs_of r))
+core_step (core.Assume r) = simple (assume (rhs_of r))
+core_step (core.Goto l) = simple (goto (name_of l))
+core_step core.Return = simple leave
+core_step (core.Call p es) = simple (call (name_of p) (exprs_of es.items))
 
 -- one level of a statement: its mark has its label, where it has one, and its offset
-abbrev pub stmt_step : {A : Type 0} → Stmt-F A (Mark tree.Name → Item) Item → Item
-stmt_step s = s.core (record { label = option_map name_of s.label; at = s.at })
+abbrev pub stmt_step : {A : Type 0} → Stmt-F A Deed Item → Item
+stmt_step s = record { mark = record { label = option_map name_of s.label; at = s.at }; deed = s.core }
+
+-- what a statement does
+abbrev pub deed_of : {A : Type 0} → Core A → Deed
+deed_of {A} = fold-Core A Deed Item core_step stmt_step
 
 -- a statement
 abbrev pub item_of : {A : Type 0} → Stmt A → Item
-item_of {A} = fold-Stmt A (Mark tree.Name → Item) Item core_step stmt_step
+item_of {A} = fold-Stmt A Deed Item core_step stmt_step
 
 -- statements, in order
 abbrev pub items_of : {A : Type 0} → List (Stmt A) → List Item
