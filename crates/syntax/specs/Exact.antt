@@ -37,5 +37,5 @@ expression_step rec (from l) (t ∷ ts) = (operand_step rec t >>= λ a. rec (aft
 expression_step rec (after l a) [] = Some (a, [])
 expression_step rec (after l a) (t ∷ ts) = go_on rec l a t ts (binds l t.kind)
 
-pub reading : Goal → Parser (Expression Name)
+unfoldable pub reading : Goal → Parser (Expression Name)
 reading = fix expression_step

@@ -31,17 +31,17 @@ take k [] = None
 take k (t ∷ ts) = cond (same_kind t.kind k) (Some (t, ts)) None
 
 -- a recursion that may go n levels deep
-pub run : {I X : Type 0} → ((I → Parser X) → I → Parser X) → ℕ → I → Parser X
+unfoldable pub run : {I X : Type 0} → ((I → Parser X) → I → Parser X) → ℕ → I → Parser X
 run step zero i ts = None
 run step (suc n) i ts = step (run step n) i ts
 
 -- a recursion that goes as deep as there are tokens
-pub fix : {I X : Type 0} → ((I → Parser X) → I → Parser X) → I → Parser X
+unfoldable pub fix : {I X : Type 0} → ((I → Parser X) → I → Parser X) → I → Parser X
 fix step i ts = run step (suc (length ts)) i ts
 
 -- p again and again, while the test holds of the tokens
 abbrev pub many_step : {X : Type 0} → (List Tok → Bool) → Parser X → (Unit {0} → Parser (List X)) → Unit {0} → Parser (List X)
 many_step test p rec u ts = cond (test ts) ((p >>= λ x. rec u >>= λ xs. give (x ∷ xs)) ts) (Some ([], ts))
 
-pub many : {X : Type 0} → (List Tok → Bool) → Parser X → Parser (List X)
+unfoldable pub many : {X : Type 0} → (List Tok → Bool) → Parser X → Parser (List X)
 many test p = fix (many_step test p) tt
