@@ -11,6 +11,10 @@ both {X} {x} {y} {ts} {us} e =
     let h : ◌≡◌ {A = X × List Tok} (x, ts) (y, us) = cc in
     (ap (λ (p : X × List Tok). p.0) h, ap (λ (p : X × List Tok). p.1) h)
 
+-- what holds of what was given holds of what was read
+pub carried : {X : Type 0} {x y : X} {ts us : List Tok} (P : X → List Tok → Type 0) → ◌≡◌ {A = Option (X × List Tok)} (Some (x, ts)) (Some (y, us)) → P x ts → P y us
+carried {X} {x} {y} {ts} {us} P e h = rw (← (both e).0, ← (both e).1) h
+
 -- what a chain that succeeds has in the middle
 pub record Between {X Y : Type 0} (p : Parser X) (f : X → Parser Y) (ts : List Tok) (y : Y) (rest : List Tok) : Type 0 where
   pub x : X
