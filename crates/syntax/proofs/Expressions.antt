@@ -1,0 +1,361 @@
+-- The function that reads expressions, and the grammar of expressions.
+use Rattle.std.specs.Prelude.{nat_le, option_and_then}
+use Rattle.std.proofs.Common.{◌≡◌, ℕ, zero, suc, ◌+◌, ◌<◌, ◌≤◌, Bool, true, false, cond, List, [], ◌∷◌, length, Option, Some, None, refl, sym, ◌∙◌, ap, arith, rules}
+use Rattle.std.proofs.lemmas.Bool.Decides.{nat_tests}
+use Rattle.language.specs.Tree.{Name, Operator, implies, or, xor, and, equal, differs, Expression, const, var, negation, two}
+use Rattle.tokens.specs.declared.vocabulary.Kind.{Kind}
+use Rattle.tokens.specs.declared.vocabulary.Kind.TheVariants as kind
+use Rattle.tokens.specs.Token.{Tok, same_kind}
+use Rattle.syntax.specs.Parser.{Parser, give, refuse, ◌>>=◌, take, fix}
+use Rattle.syntax.specs.Grammar.{Takes, takes, name_at, operator_at, level, left_level, right_level, Reads, reads_zero, reads_one, reads_name, reads_not, reads_paren, reads_two}
+use Rattle.syntax.specs.Exact.{Goal, from, after, binds, operand_step, go_on, expression_step, reading}
+use Rattle.syntax.proofs.KindTests.{same_kind-true, same_kind-is}
+use Rattle.syntax.proofs.Fixes.{both, Between, between, bind_is, Shrinks, Strict, Agree, Strict-Shrinks, Shrinks-give, Shrinks-refuse, Strict-take, Shrinks-bind, Agree-same, Agree-bind, Shrinks-cond, Agree-cond, IsStep, fix_shrinks, fix_is, Finds, fix_finds, carried}
+
+operand_shrinks : (f : Goal → Parser (Expression Name)) → ((i : Goal) → Shrinks (f i)) → (t : Tok) → Shrinks (operand_step f t)
+operand_shrinks f s t = search (s, Shrinks-cond, Shrinks-bind, Shrinks-give, Shrinks-refuse, Strict-Shrinks, Strict-take) depth 12
+
+operand_agrees : (n : ℕ) (f g : Goal → Parser (Expression Name)) → ((i : Goal) → Shrinks (f i)) → ((i : Goal) → Agree n (f i) (g i)) → (t : Tok) → Agree n (operand_step f t) (operand_step g t)
+operand_agrees n f g s a t = search (a, s, Agree-cond, Agree-bind, Agree-same) depth 12
+
+go_on_shrinks : (f : Goal → Parser (Expression Name)) → ((i : Goal) → Shrinks (f i)) → (l : ℕ) (a : Expression Name) (t : Tok) (ts : List Tok) (o : Option Operator) (e : Expression Name) (rest : List Tok) → go_on f l a t ts o ≡ Some (e, rest) → length rest ≤ length (t ∷ ts)
+go_on_shrinks f s l a t ts None e rest h = let j = (both h).1 in rw (← j) (omega arith)
+go_on_shrinks f s l a t ts (Some o) e rest h =
+    let j : length rest ≤ length ts = (Shrinks-bind (s (from (right_level o))) (λ b. s (after l (two o a b)))).by ts e rest h in
+    omega arith
+
+go_on_agrees : (n : ℕ) (f g : Goal → Parser (Expression Name)) → ((i : Goal) → Shrinks (f i)) → ((i : Goal) → Agree n (f i) (g i)) → (l : ℕ) (a : Expression Name) (t : Tok) (ts : List Tok) (o : Option Operator) → length ts < n → go_on f l a t ts o ≡ go_on g l a t ts o
+go_on_agrees n f g s h l a t ts None below = refl
+go_on_agrees n f g s h l a t ts (Some o) below =
+    (Agree-bind (h (from (right_level o))) (s (from (right_level o))) (λ b. h (after l (two o a b)))).at ts below
+
+step_shrinks : (f : Goal → Parser (Expression Name)) → ((i : Goal) → Shrinks (f i)) → (i : Goal) (ts : List Tok) (e : Expression Name) (rest : List Tok) → expression_step f i ts ≡ Some (e, rest) → length rest ≤ length ts
+step_shrinks f s (from l) [] e rest h = cc
+step_shrinks f s (from l) (t ∷ ts) e rest h =
+    let j : length rest ≤ length ts = (Shrinks-bind (operand_shrinks f s t) (λ a. s (after l a))).by ts e rest h in
+    omega arith
+step_shrinks f s (after l a) [] e rest h = let j = (both h).1 in rw (← j) (omega arith)
+step_shrinks f s (after l a) (t ∷ ts) e rest h = go_on_shrinks f s l a t ts (binds l t.kind) e rest h
+
+step_agrees : (n : ℕ) (f g : Goal → Parser (Expression Name)) → ((i : Goal) → Shrinks (f i)) → ((i : Goal) → Agree n (f i) (g i)) → (i : Goal) (ts : List Tok) → length ts < suc n → expression_step f i ts ≡ expression_step g i ts
+step_agrees n f g s a (from l) [] below = refl
+step_agrees n f g s a (from l) (t ∷ ts) below =
+    (Agree-bind (operand_agrees n f g s a t) (operand_shrinks f s t) (λ e. a (after l e))).at ts (omega arith)
+step_agrees n f g s a (after l e) [] below = refl
+step_agrees n f g s a (after l e) (t ∷ ts) below = go_on_agrees n f g s a l e t ts (binds l t.kind) (omega arith)
+
+pub expression_is_step : IsStep expression_step
+expression_is_step = record {
+    keeps = λ f s i. record { by = step_shrinks f s i };
+    local = λ n f g s a i. record { at = step_agrees n f g s a i };
+  }
+
+pub reading_is : (i : Goal) (ts : List Tok) → reading i ts ≡ expression_step reading i ts
+unfolding reading
+reading_is = fix_is expression_step expression_is_step
+
+pub reading_shrinks : (i : Goal) → Shrinks (reading i)
+unfolding reading
+reading_shrinks = fix_shrinks expression_step expression_is_step
+
+-- no operator of this level or above comes next
+pub data Stops (l : ℕ) : List Tok → Type 0 where
+  stops_end : Stops l []
+  stops_at : {t : Tok} {ts : List Tok} → binds l t.kind ≡ None → Stops l (t ∷ ts)
+
+-- the operands, by the kind of the first token
+module _ (f : Goal → Parser (Expression Name)) (t : Tok) where
+  operand_zero : t.kind ≡ kind.Zero → operand_step f t ≡ give (const false)
+  unfolding same_kind
+  operand_zero e = rw e refl
+
+  operand_one : t.kind ≡ kind.One → operand_step f t ≡ give (const true)
+  unfolding same_kind
+  operand_one e = rw e refl
+
+  operand_name : t.kind ≡ kind.Id → operand_step f t ≡ give (var (name_at t))
+  unfolding same_kind
+  operand_name e = rw e refl
+
+  operand_not : t.kind ≡ kind.Not → operand_step f t ≡ (f (from 5) >>= λ e. give (negation e))
+  unfolding same_kind
+  operand_not e = rw e refl
+
+  operand_paren : t.kind ≡ kind.Open → operand_step f t ≡ (f (from 0) >>= λ e. take kind.Close >>= λ _. give e)
+  unfolding same_kind
+  operand_paren e = rw e refl
+
+-- an operator binds at its own level and below it, and at no other
+some_binds : (l : ℕ) (k : Kind) (o : Operator) → operator_at k ≡ Some o → l ≤ level o → binds l k ≡ Some o
+some_binds l k o e h = rw e (grind (arith, nat_tests))
+
+binds_some : (l : ℕ) (p : Option Operator) (o : Operator) → option_and_then (λ o. cond (nat_le l (level o)) (Some o) None) p ≡ Some o → (p ≡ Some o) × (l ≤ level o)
+binds_some l None o e = cc
+binds_some l (Some q) o e = by_test l q o (nat_le l (level q)) refl e
+  where
+  by_test : (l : ℕ) (q o : Operator) (b : Bool) → nat_le l (level q) ≡ b → cond {A = Option Operator} b (Some q) None ≡ Some o → (Some q ≡ Some o) × (l ≤ level o)
+  by_test l q o true h e = let j : q ≡ o = cc in (ap Some j, rw (← j) (grind (arith, nat_tests)))
+  by_test l q o false h e = cc
+
+none_binds : (l : ℕ) (k : Kind) (o : Operator) → operator_at k ≡ Some o → binds l k ≡ None → level o < l
+none_binds l k o e h = by_test l o (nat_le l (level o)) refl (rw e at h)
+  where
+  by_test : (l : ℕ) (o : Operator) (b : Bool) → nat_le l (level o) ≡ b → cond {A = Option Operator} b (Some o) None ≡ None → level o < l
+  by_test l o true h e = cc
+  by_test l o false h e = grind (arith, nat_tests)
+
+weaker_none : (l m : ℕ) (p : Option Operator) → l ≤ m → option_and_then (λ o. cond (nat_le l (level o)) (Some o) None) p ≡ None → option_and_then (λ o. cond (nat_le m (level o)) (Some o) None) p ≡ None
+weaker_none l m None h e = refl
+weaker_none l m (Some o) h e = by_test l m o (nat_le l (level o)) refl h e
+  where
+  by_test : (l m : ℕ) (o : Operator) (b : Bool) → nat_le l (level o) ≡ b → l ≤ m → cond {A = Option Operator} b (Some o) None ≡ None → cond {A = Option Operator} (nat_le m (level o)) (Some o) None ≡ None
+  by_test l m o true h j e = cc
+  by_test l m o false h j e = let k : nat_le m (level o) ≡ false = grind (arith, nat_tests) in rw k refl
+
+pub Stops-weaker : {l m : ℕ} {ts : List Tok} → l ≤ m → Stops l ts → Stops m ts
+Stops-weaker h stops_end = stops_end
+Stops-weaker {l} {m} h (stops_at {t} {ts} e) = stops_at (weaker_none l m (operator_at t.kind) h e)
+
+-- at level 5 nothing binds
+none_at_5 : (p : Option Operator) → option_and_then (λ o. cond (nat_le 5 (level o)) (Some o) None) p ≡ None
+none_at_5 None = refl
+none_at_5 (Some implies) = refl
+none_at_5 (Some or) = refl
+none_at_5 (Some xor) = refl
+none_at_5 (Some and) = refl
+none_at_5 (Some equal) = refl
+none_at_5 (Some differs) = refl
+
+pub Stops-5 : (ts : List Tok) → Stops 5 ts
+Stops-5 [] = stops_end
+Stops-5 (t ∷ ts) = stops_at (none_at_5 (operator_at t.kind))
+
+-- where no operator comes next, what was read is all
+reading_stops : (l : ℕ) (a : Expression Name) (ts : List Tok) → Stops l ts → reading (after l a) ts ≡ Some (a, ts)
+reading_stops l a [] stops_end = reading_is (after l a) []
+reading_stops l a (t ∷ ts) (stops_at e) = reading_is (after l a) (t ∷ ts) ∙ ap (go_on reading l a t ts) e
+
+-- where an operator comes next, its right side is read
+reading_goes_on : (l : ℕ) (a b : Expression Name) (t : Tok) (us rest : List Tok) (o : Operator) → l ≤ level o → operator_at t.kind ≡ Some o → reading (from (right_level o)) us ≡ Some (b, rest) → reading (after l a) (t ∷ us) ≡ reading (after l (two o a b)) rest
+reading_goes_on l a b t us rest o h op e =
+    reading_is (after l a) (t ∷ us) ∙ ap (go_on reading l a t us) (some_binds l t.kind o op h)
+    ∙ bind_is (reading (from (right_level o))) (λ b. reading (after l (two o a b))) us b rest e
+
+-- the start of an expression is read as its operand, and what follows goes on from there
+reading_starts : (l : ℕ) (a : Expression Name) (t : Tok) (ts rest : List Tok) → operand_step reading t ts ≡ Some (a, rest) → reading (from l) (t ∷ ts) ≡ reading (after l a) rest
+reading_starts l a t ts rest e =
+    reading_is (from l) (t ∷ ts) ∙ bind_is (operand_step reading t) (λ a. reading (after l a)) ts a rest e
+
+pub take_is : {k : Kind} {ts rest : List Tok} → Takes k ts rest → (t : Tok) × (take k ts ≡ Some (t, rest))
+take_is {k} (takes {t} {rest} e) = (t, rw (same_kind-is e) refl)
+
+-- what may not come next after an expression of this level, for the expression to be whole
+abbrev bound : ℕ → ℕ
+bound zero = 0
+bound (suc l) = suc (suc l)
+
+-- the levels of an operator's sides
+left_bound : (o : Operator) → level o < bound (left_level o)
+left_bound implies = omega arith
+left_bound or = omega arith
+left_bound xor = omega arith
+left_bound and = omega arith
+left_bound equal = omega arith
+left_bound differs = omega arith
+
+level_left : (o : Operator) → level o ≤ left_level o
+level_left implies = omega arith
+level_left or = omega arith
+level_left xor = omega arith
+level_left and = omega arith
+level_left equal = omega arith
+level_left differs = omega arith
+
+bound_right : (o : Operator) (m : ℕ) → m ≤ level o → bound m ≤ right_level o
+bound_right implies zero h = omega arith
+bound_right implies (suc m) h = absurd (omega arith)
+bound_right o zero h = omega arith
+bound_right or (suc m) h = omega arith
+bound_right xor (suc m) h = omega arith
+bound_right and (suc m) h = omega arith
+bound_right equal (suc m) h = omega arith
+bound_right differs (suc m) h = omega arith
+
+bound_bound_right : (o : Operator) (m : ℕ) → m ≤ level o → bound m ≤ bound (right_level o)
+bound_bound_right implies zero h = omega arith
+bound_bound_right implies (suc m) h = absurd (omega arith)
+bound_bound_right o zero h = omega arith
+bound_bound_right or (suc m) h = omega arith
+bound_bound_right xor (suc m) h = omega arith
+bound_bound_right and (suc m) h = omega arith
+bound_bound_right equal (suc m) h = omega arith
+bound_bound_right differs (suc m) h = omega arith
+
+bound_above : (l : ℕ) → l ≤ bound l
+bound_above zero = omega arith
+bound_above (suc l) = omega arith
+
+close_stops : {l : ℕ} {us rest : List Tok} → Takes kind.Close us rest → Stops l us
+close_stops {l} (takes {t} {rest} e) = stops_at (ap (binds l) e)
+
+operator_stops : (l : ℕ) (t : Tok) (us : List Tok) (o : Operator) → operator_at t.kind ≡ Some o → level o < l → Stops l (t ∷ us)
+operator_stops l t us o e h = stops_at (rw e (let j : nat_le l (level o) ≡ false = grind (arith, nat_tests) in rw j refl))
+
+-- reading comes past each expression of the grammar
+passes : {m : ℕ} {ts rest : List Tok} {a : Expression Name} → Reads m ts a rest → (l : ℕ) → l ≤ m → Stops (bound m) rest → reading (from l) ts ≡ reading (after l a) rest
+passes (reads_zero {t = t} {rest = rest} e) l h s = reading_starts l _ t rest rest (ap (λ (p : Parser (Expression Name)). p rest) (operand_zero reading t e))
+passes (reads_one {t = t} {rest = rest} e) l h s = reading_starts l _ t rest rest (ap (λ (p : Parser (Expression Name)). p rest) (operand_one reading t e))
+passes (reads_name {t = t} {rest = rest} e) l h s = reading_starts l _ t rest rest (ap (λ (p : Parser (Expression Name)). p rest) (operand_name reading t e))
+passes (reads_not {t = t} {ts = ts} {rest = rest} {e = a} e r) l h s =
+    let inner : reading (from 5) ts ≡ Some (a, rest) = passes r 5 (omega arith) (Stops-weaker (omega arith) (Stops-5 rest)) ∙ reading_stops 5 a rest (Stops-5 rest) in
+    reading_starts l _ t ts rest (ap (λ (p : Parser (Expression Name)). p ts) (operand_not reading t e) ∙ bind_is (reading (from 5)) (λ e. give (negation e)) ts a rest inner)
+passes (reads_paren {t = t} {ts = ts} {us = us} {rest = rest} {e = a} e r c) l h s =
+    let inner : reading (from 0) ts ≡ Some (a, us) = passes r 0 (omega arith) (close_stops c) ∙ reading_stops 0 a us (close_stops c) in
+    let closed = take_is c in
+    reading_starts l _ t ts rest (ap (λ (p : Parser (Expression Name)). p ts) (operand_paren reading t e)
+        ∙ bind_is (reading (from 0)) (λ e. take kind.Close >>= λ _. give e) ts a us inner
+        ∙ bind_is (take kind.Close) (λ _. give a) us closed.0 rest closed.1)
+passes {m} (reads_two {t = t} {ts = ts} {us = us} {rest = rest} {a = a} {b = b} o low left op right) l h s =
+    let first : reading (from l) ts ≡ reading (after l a) (t ∷ us) =
+        passes left l (let j = level_left o in omega arith) (operator_stops (bound (left_level o)) t us o op (left_bound o)) in
+    let ends : Stops (right_level o) rest = Stops-weaker (bound_right o m low) s in
+    let second : reading (from (right_level o)) us ≡ Some (b, rest) =
+        passes right (right_level o) (omega arith) (Stops-weaker (bound_bound_right o m low) s) ∙ reading_stops (right_level o) b rest ends in
+    first ∙ reading_goes_on l a b t us rest o (omega arith) op second
+
+-- what the grammar has is read
+pub reading_complete : {l : ℕ} {ts rest : List Tok} {a : Expression Name} → Reads l ts a rest → Stops l rest → reading (from l) ts ≡ Some (a, rest)
+reading_complete {l} {ts} {rest} {a} r s = passes r l (omega arith) (Stops-weaker (bound_above l) s) ∙ reading_stops l a rest s
+
+-- an expression of a level is one of each lower level
+lower : {m : ℕ} {ts rest : List Tok} {a : Expression Name} → Reads m ts a rest → (l : ℕ) → l ≤ m → Reads l ts a rest
+lower (reads_zero e) l h = reads_zero e
+lower (reads_one e) l h = reads_one e
+lower (reads_name e) l h = reads_name e
+lower (reads_not e r) l h = reads_not e r
+lower (reads_paren e r c) l h = reads_paren e r c
+lower (reads_two o low left op right) l h = reads_two o (omega arith) left op right
+
+-- an operator of level l or above comes next
+data Next : List Tok → Operator → Type 0 where
+  next : {t : Tok} {ts : List Tok} {o : Operator} → operator_at t.kind ≡ Some o → Next (t ∷ ts) o
+
+-- what was read so far from ts on may stand left of each operator that may come next
+record Ready (l : ℕ) (ts : List Tok) (a : Expression Name) (us : List Tok) : Type 0 where
+  m : ℕ
+  above : l ≤ m
+  reads : Reads m ts a us
+  left : (o : Operator) → Next us o → left_level o ≤ m
+
+abbrev Found : Goal → List Tok → Expression Name → List Tok → Type 0
+Found (from l) ts e rest = Reads l ts e rest × Stops l rest
+Found (after l a) us e rest = (ts : List Tok) → Ready l ts a us → Reads l ts e rest × Stops l rest
+
+small_left : (o : Operator) → left_level o ≤ 5
+small_left implies = omega arith
+small_left or = omega arith
+small_left xor = omega arith
+small_left and = omega arith
+small_left equal = omega arith
+small_left differs = omega arith
+
+next_left : (o p : Operator) → level p < right_level o → left_level p ≤ level o
+next_left implies p h = absurd (omega arith)
+next_left or implies h = omega arith
+next_left or or h = omega arith
+next_left or xor h = omega arith
+next_left or and h = omega arith
+next_left or equal h = omega arith
+next_left or differs h = omega arith
+next_left xor implies h = omega arith
+next_left xor or h = omega arith
+next_left xor xor h = omega arith
+next_left xor and h = omega arith
+next_left xor equal h = omega arith
+next_left xor differs h = omega arith
+next_left and implies h = omega arith
+next_left and or h = omega arith
+next_left and xor h = omega arith
+next_left and and h = omega arith
+next_left and equal h = omega arith
+next_left and differs h = omega arith
+next_left equal implies h = omega arith
+next_left equal or h = omega arith
+next_left equal xor h = omega arith
+next_left equal and h = omega arith
+next_left equal equal h = omega arith
+next_left equal differs h = omega arith
+next_left differs implies h = omega arith
+next_left differs or h = omega arith
+next_left differs xor h = omega arith
+next_left differs and h = omega arith
+next_left differs equal h = omega arith
+next_left differs differs h = omega arith
+
+stops_next : {l : ℕ} {us : List Tok} {o : Operator} → Stops l us → Next us o → level o < l
+stops_next stops_end x = elim x [ ]
+stops_next {l} (stops_at {t} e) (next {o = o} h) = none_binds l t.kind o h e
+
+pub take_finds : (k : Kind) (ts : List Tok) (t : Tok) (rest : List Tok) → take k ts ≡ Some (t, rest) → Takes k ts rest × (ts ≡ t ∷ rest)
+take_finds k [] t rest e = cc
+take_finds k (u ∷ ts) t rest e = by_test k u t ts rest (same_kind u.kind k) refl e
+  where
+  by_test : (k : Kind) (u t : Tok) (ts rest : List Tok) (b : Bool) → same_kind u.kind k ≡ b → cond {A = Option (Tok × List Tok)} b (Some (u, ts)) None ≡ Some (t, rest) → Takes k (u ∷ ts) rest × (u ∷ ts ≡ t ∷ rest)
+  by_test k u t ts rest true is e = carried (λ t rest. Takes k (u ∷ ts) rest × (u ∷ ts ≡ t ∷ rest)) e (takes (same_kind-true is), refl)
+  by_test k u t ts rest false is e = cc
+
+-- what is read at the start is an operand of each level
+operand_finds : (f : Goal → Parser (Expression Name)) → Finds Found f → (t : Tok) (ts : List Tok) (a : Expression Name) (us : List Tok) → operand_step f t ts ≡ Some (a, us) → (m : ℕ) → Reads m (t ∷ ts) a us
+operand_finds f sound t ts a us e m = by_tests (same_kind t.kind kind.Zero) refl (same_kind t.kind kind.One) refl (same_kind t.kind kind.Id) refl (same_kind t.kind kind.Not) refl (same_kind t.kind kind.Open) refl e
+  where
+  negated : t.kind ≡ kind.Not → (f (from 5) >>= λ e. give (negation e)) ts ≡ Some (a, us) → Reads m (t ∷ ts) a us
+  negated is e =
+      let b = between (f (from 5)) (λ e. give (negation e)) ts a us e in
+      carried (λ a us. Reads m (t ∷ ts) a us) b.second (reads_not is (sound (from 5) ts b.x b.us b.first).0)
+  inside : t.kind ≡ kind.Open → (f (from 0) >>= λ e. take kind.Close >>= λ _. give e) ts ≡ Some (a, us) → Reads m (t ∷ ts) a us
+  inside is e =
+      let b = between (f (from 0)) (λ e. take kind.Close >>= λ _. give e) ts a us e in
+      let c = between (take kind.Close) (λ _. give b.x) b.us a us b.second in
+      carried (λ a us. Reads m (t ∷ ts) a us) c.second (reads_paren is (sound (from 0) ts b.x b.us b.first).0 (take_finds kind.Close b.us c.x c.us c.first).0)
+  by_tests : (z : Bool) → same_kind t.kind kind.Zero ≡ z → (i : Bool) → same_kind t.kind kind.One ≡ i → (n : Bool) → same_kind t.kind kind.Id ≡ n → (b : Bool) → same_kind t.kind kind.Not ≡ b → (o : Bool) → same_kind t.kind kind.Open ≡ o →
+      cond {A = Parser (Expression Name)} z (give (const false)) (cond i (give (const true)) (cond n (give (var (name_at t))) (cond b (f (from 5) >>= λ e. give (negation e)) (cond o (f (from 0) >>= λ e. take kind.Close >>= λ _. give e) refuse)))) ts ≡ Some (a, us) → Reads m (t ∷ ts) a us
+  by_tests true is i _ n _ b _ o _ e = carried (λ a us. Reads m (t ∷ ts) a us) e (reads_zero (same_kind-true is))
+  by_tests false _ true is n _ b _ o _ e = carried (λ a us. Reads m (t ∷ ts) a us) e (reads_one (same_kind-true is))
+  by_tests false _ false _ true is b _ o _ e = carried (λ a us. Reads m (t ∷ ts) a us) e (reads_name (same_kind-true is))
+  by_tests false _ false _ false _ true is o _ e = negated (same_kind-true is) e
+  by_tests false _ false _ false _ false _ true is e = inside (same_kind-true is) e
+  by_tests false _ false _ false _ false _ false _ e = cc
+
+go_on_finds : (f : Goal → Parser (Expression Name)) → Finds Found f → (l : ℕ) (a : Expression Name) (t : Tok) (us : List Tok) (o : Option Operator) → binds l t.kind ≡ o → (e : Expression Name) (rest : List Tok) → go_on f l a t us o ≡ Some (e, rest) → (ts : List Tok) → Ready l ts a (t ∷ us) → Reads l ts e rest × Stops l rest
+go_on_finds f sound l a t us None is e rest h ts ready =
+    carried (λ e rest. Reads l ts e rest × Stops l rest) h (lower ready.reads l ready.above, stops_at is)
+go_on_finds f sound l a t us (Some o) is e rest h ts ready =
+    let b = between (f (from (right_level o))) (λ b. f (after l (two o a b))) us e rest h in
+    let op = binds_some l (operator_at t.kind) o is in
+    let right = sound (from (right_level o)) us b.x b.us b.first in
+    let left : Reads (left_level o) ts a (t ∷ us) = lower ready.reads (left_level o) (ready.left o (next op.0)) in
+    sound (after l (two o a b.x)) b.us e rest b.second ts (record {
+        m = level o;
+        above = op.1;
+        reads = reads_two o (omega arith) left op.0 right.0;
+        left = λ p n. next_left o p (stops_next right.1 n);
+      })
+
+step_finds : (f : Goal → Parser (Expression Name)) → Finds Found f → Finds Found (expression_step f)
+step_finds f sound (from l) [] e rest h = cc
+step_finds f sound (from l) (t ∷ ts) e rest h =
+    let b = between (operand_step f t) (λ a. f (after l a)) ts e rest h in
+    sound (after l b.x) b.us e rest b.second (t ∷ ts) (record {
+        m = l + 5;
+        above = omega arith;
+        reads = operand_finds f sound t ts b.x b.us b.first (l + 5);
+        left = λ o n. let j = small_left o in omega arith;
+      })
+step_finds f sound (after l a) [] e rest h = λ ts ready.
+    carried (λ e rest. Reads l ts e rest × Stops l rest) h (lower ready.reads l ready.above, stops_end)
+step_finds f sound (after l a) (t ∷ us) e rest h = λ ts ready. go_on_finds f sound l a t us (binds l t.kind) refl e rest h ts ready
+
+-- what is read is in the grammar, and nothing that would make it longer comes next
+pub reading_finds : (l : ℕ) (ts : List Tok) (e : Expression Name) (rest : List Tok) → reading (from l) ts ≡ Some (e, rest) → Reads l ts e rest × Stops l rest
+unfolding reading
+reading_finds l ts e rest h = fix_finds expression_step Found step_finds (from l) ts e rest h

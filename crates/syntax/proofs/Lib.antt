@@ -1,0 +1,3 @@
+pub mod Fixes
+pub mod KindTests
+pub mod Expressions

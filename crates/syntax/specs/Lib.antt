@@ -1,0 +1,4 @@
+pub mod Trees
+pub mod Parser
+pub mod Grammar
+pub mod Exact

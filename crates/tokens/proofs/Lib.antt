@@ -1,0 +1,6 @@
+pub mod SameKind
+pub mod Spelled
+pub mod Runs
+pub mod Fronts
+pub mod InFront
+pub mod Reached

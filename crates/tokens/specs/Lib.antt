@@ -1,0 +1,5 @@
+pub mod Token
+pub mod Spelling
+pub mod Cuts
+pub mod Piece
+pub mod Fault

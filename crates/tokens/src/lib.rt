@@ -1,0 +1,10 @@
+//! The tokens of the input language: how a text is cut into them, and how deep they nest.
+#![tactic(auto)]
+
+mod cutting;
+mod piece;
+mod vocabulary;
+mod words;
+
+pub use cutting::{CutFault, cut};
+pub use vocabulary::{Kind, Token};
