@@ -1,5 +1,6 @@
 -- What is left to run in a frame, as a list of statements.
-use Rattle.std.specs.Prelude.{ℕ, Bool, true, false, List, [], ◌∷◌, Option, Some, None, cond}
+use Rattle.std.specs.Prelude.{ℕ, Bool, false, List, Option, Some, None, cond}
+use Rattle.std.specs.Str.{bytes_eq}
 use Rattle.language.specs.Tree.{Mark, Block, done, one, choose, loop}
 use Rattle.language.specs.Value.{Place}
 
@@ -20,10 +21,7 @@ join (loop m r x t) b = loop m r x (join t b)
 
 -- the same bytes
 abbrev pub same_text : List ℕ → List ℕ → Bool
-same_text [] [] = true
-same_text [] (y ∷ ys) = false
-same_text (x ∷ xs) [] = false
-same_text (x ∷ xs) (y ∷ ys) = cond (Rattle.std.specs.Prelude.nat_eq x y) (same_text xs ys) false
+same_text = bytes_eq
 
 -- the mark has this label
 abbrev pub has_label : Label → Mark Label → Bool
