@@ -1,5 +1,5 @@
 -- What expressions and right sides are worth (Ball and Rajamani 2000: variables of truth values).
-use Rattle.std.specs.Prelude.{◌≡◌, ℕ, zero, suc, Bool, false, List, [], ◌∷◌, not, ◌&&◌, ◌||◌, cond}
+use Rattle.std.specs.Prelude.{◌≡◌, ℕ, slice_index_or, slice_set, Bool, false, List, [], ◌∷◌, not, ◌&&◌, ◌||◌, cond}
 use Rattle.language.specs.Tree.{Operator, implies, or, xor, and, equal, differs, Expression, const, var, negation, two, RightSide, any, value}
 
 -- where a variable's value is kept: a global by its number, or a place of the frame, which has the
@@ -10,15 +10,11 @@ pub data Place : Type 0 where
 
 -- the value at a number, and 0 past the end
 abbrev pub bit : List Bool → ℕ → Bool
-bit [] n = false
-bit (b ∷ bs) zero = b
-bit (b ∷ bs) (suc n) = bit bs n
+bit bs n = slice_index_or bs n false
 
 -- the list with another value at a number; past the end nothing changes
 abbrev pub with_bit : List Bool → ℕ → Bool → List Bool
-with_bit [] n v = []
-with_bit (b ∷ bs) zero v = v ∷ bs
-with_bit (b ∷ bs) (suc n) v = b ∷ with_bit bs n v
+with_bit bs n v = slice_set bs n v
 
 -- the truth tables
 abbrev pub operate : Operator → Bool → Bool → Bool
