@@ -1,0 +1,3 @@
+pub mod Straight
+pub mod Members
+pub mod Reach

@@ -1,0 +1,5 @@
+//! The command line of bebopk: from words and bytes to a reply.
+#![tactic(auto)]
+
+mod evaluate;
+mod reach;
