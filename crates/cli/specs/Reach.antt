@@ -1,5 +1,5 @@
 -- The valuations that an analysis keeps.
-use Rattle.std.specs.Prelude.{◌≡◌, ℕ, Bool, List, [], ◌∷◌, map, ◌⊎◌, ◌↔◌}
+use Rattle.std.specs.Prelude.{◌≡◌, ℕ, Bool, List, [], ◌∷◌, map, ◌⊎◌, ◌↔◌, IsTrue, true, false}
 use Rattle.std.specs.declared.vec.Vec.{Vec}
 use Rattle.language.specs.Tree.{RightSide}
 use Rattle.language.specs.Value.{Place, IsValue, AreValues, with_bit, written_globals}
@@ -25,6 +25,10 @@ AreFrom P rows new = (g : List Bool) → Member g new ↔ From P rows g
 abbrev pub IsWith : ℕ → Bool → List Bool → List Bool → Type 0
 IsWith n v row g = g ≡ with_bit row n v
 
+-- it is wanted, and g is the row with this value at this number
+abbrev pub IsWithIf : Bool → ℕ → Bool → List Bool → List Bool → Type 0
+IsWithIf wanted n v row g = IsTrue wanted × (g ≡ with_bit row n v)
+
 -- g is the row with a value of the side, computed at the old globals, at this number
 abbrev pub IsWithSome : List Bool → ℕ → RightSide Place → List Bool → List Bool → Type 0
 IsWithSome old n side row g = (v : Bool) × IsValue old [] side v × (g ≡ with_bit row n v)
@@ -39,4 +43,8 @@ IsAssigned xs rs row g = IsWritten row xs rs row g
 
 -- g is the row, and 1 is a value of the side there
 abbrev pub IsPassed : RightSide Place → List Bool → List Bool → Type 0
-IsPassed side row g = (g ≡ row) × IsValue row [] side Rattle.std.specs.Prelude.true
+IsPassed side row g = (g ≡ row) × IsValue row [] side true
+
+-- at some row 0 is a value of the side
+abbrev pub SomeFails : RightSide Place → List (List Bool) → Type 0
+SomeFails side rows = (row : List Bool) × Member row rows × IsValue row [] side false
