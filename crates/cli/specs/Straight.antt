@@ -1,19 +1,32 @@
 -- Programs of the first part of the language, and how they fail.
-use Rattle.std.specs.Prelude.{◌≡◌, ℕ, ◌≤◌, Bool, true, false, List, [], ◌∷◌, ◌⊎◌, None, length}
+use Rattle.std.specs.Prelude.{◌≡◌, ℕ, ◌≤◌, Bool, true, false, List, [], ◌∷◌, ◌⊎◌, ◌↔◌, None, length}
 use Rattle.language.specs.Tree.{Name, Block, done, one, choose, loop, skip, assign, assert, assume, goto, leave, call, Procedure, Tree}
 use Rattle.language.specs.Value.{Place, IsValue, AreValues, written_globals}
 use Rattle.language.specs.Rest.{Code}
-use Rattle.language.specs.Resolve.{Scope, scope_of, resolve_block}
+use Rattle.language.specs.Resolve.{Scope, resolve_block}
+use Rattle.syntax.specs.Trees.{Deed, simple, branch, repeat, Item, all_before}
+use Rattle.cli.specs.Members.{Member}
 
--- a list of skips, assignments and asserts without labels
-abbrev pub IsStraight : Block Name Name Name → Type 0
-IsStraight done = Unit {0}
-IsStraight (one m skip t) = (m.label ≡ None) × IsStraight t
-IsStraight (one m (assign xs rs) t) = (m.label ≡ None) × IsStraight t
-IsStraight (one m (assert r) t) = (m.label ≡ None) × IsStraight t
-IsStraight (one m _ t) = ⊥
-IsStraight (choose m r a b t) = ⊥
-IsStraight (loop m r a t) = ⊥
+-- a skip, an assignment with as many right sides as targets, or an assert
+abbrev pub IsStraightDeed : Deed → Type 0
+IsStraightDeed (simple skip) = Unit {0}
+IsStraightDeed (simple (assign xs rs)) = length xs ≡ length rs
+IsStraightDeed (simple (assert r)) = Unit {0}
+IsStraightDeed (simple (assume r)) = ⊥
+IsStraightDeed (simple (goto x)) = ⊥
+IsStraightDeed (simple leave) = ⊥
+IsStraightDeed (simple (call p es)) = ⊥
+IsStraightDeed (branch r a b) = ⊥
+IsStraightDeed (repeat r a) = ⊥
+
+-- a statement of the first part of the language: it has no label
+abbrev pub IsStraightItem : Item → Type 0
+IsStraightItem i = (i.mark.label ≡ None) × IsStraightDeed i.deed
+
+-- statements of the first part of the language
+abbrev pub AreStraight : List Item → Type 0
+AreStraight [] = Unit {0}
+AreStraight (i ∷ is) = IsStraightItem i × AreStraight is
 
 -- some run of the statements from these globals, on a frame without places, comes to an assert that fails
 abbrev pub FailsFrom : Code → List Bool → Type 0
@@ -28,3 +41,19 @@ FailsFrom (loop m r a t) g = ⊥
 -- the scope in which every variable is a global
 abbrev pub globals_only : List Name → Scope
 globals_only globals = record { globals = globals; locals = []; procedures = [] }
+
+-- some run of the statements from one of these globals comes to an assert that fails
+abbrev pub SomeFailFrom : Code → List (List Bool) → Type 0
+SomeFailFrom code rows = (g : List Bool) × Member g rows × FailsFrom code g
+
+-- statements in order, with their names resolved in this scope
+abbrev pub code_of : Scope → List Item → Code
+code_of s is = resolve_block s (all_before is done)
+
+-- what is left fails from some row, whatever comes after this statement
+abbrev pub FailsAt : Scope → Item → List (List Bool) → Type 0
+FailsAt s i rows = (is : List Item) → SomeFailFrom (code_of s (i ∷ is)) rows
+
+-- what comes after this statement fails from some of the new rows exactly where the whole fails from some row
+abbrev pub Leads : Scope → Item → List (List Bool) → List (List Bool) → Type 0
+Leads s i rows new = (is : List Item) → SomeFailFrom (code_of s (i ∷ is)) rows ↔ SomeFailFrom (code_of s is) new

@@ -1,5 +1,6 @@
 //! The command line of bebopk: from words and bytes to a reply.
 #![tactic(auto)]
 
+mod analysis;
 mod evaluate;
 mod reach;
