@@ -2,7 +2,7 @@
 use Rattle.std.specs.Prelude.{◌≡◌, ℕ, ◌≤◌, Bool, true, false, List, [], ◌∷◌, ◌⊎◌, ◌↔◌, None, length}
 use Rattle.language.specs.Tree.{Name, Block, done, one, choose, loop, skip, assign, assert, assume, goto, leave, call, Procedure, Tree}
 use Rattle.language.specs.Value.{Place, IsValue, AreValues, written_globals}
-use Rattle.language.specs.Rest.{Code}
+use Rattle.language.specs.Rest.{Code, same_text}
 use Rattle.language.specs.Resolve.{Scope, resolve_block}
 use Rattle.syntax.specs.Trees.{Deed, simple, branch, repeat, Item, all_before}
 use Rattle.cli.specs.Members.{Member}
@@ -57,3 +57,23 @@ FailsAt s i rows = (is : List Item) → SomeFailFrom (code_of s (i ∷ is)) rows
 -- what comes after this statement fails from some of the new rows exactly where the whole fails from some row
 abbrev pub Leads : Scope → Item → List (List Bool) → List (List Bool) → Type 0
 Leads s i rows new = (is : List Item) → SomeFailFrom (code_of s (i ∷ is)) rows ↔ SomeFailFrom (code_of s is) new
+
+-- the tree of a program with these globals and one procedure without formals and locals, which one thread line names
+abbrev pub first_tree : List Name → Name → List Item → ℕ → Name → Tree
+first_tree globals name items at named = record {
+  globals = globals;
+  procedures = record { name = name; formals = []; locals = []; body = all_before items done } ∷ [];
+  threads = record { at = at; name = named } ∷ [];
+}
+
+-- A tree of the first part of the language: at most 8 globals; one procedure without formals, locals and labels,
+-- of skips, assignments and asserts; one thread line that names it.
+pub record IsFirstPart (t : Tree) : Type 0 where
+  pub name : Name
+  pub items : List Item
+  pub at : ℕ
+  pub named : Name
+  pub shape : t ≡ first_tree t.globals name items at named
+  pub straight : AreStraight items
+  pub same : same_text named.text name.text ≡ true
+  pub few : length t.globals ≤ 8

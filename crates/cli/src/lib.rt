@@ -4,3 +4,4 @@
 mod analysis;
 mod evaluate;
 mod reach;
+pub mod unsafety;
