@@ -60,15 +60,19 @@ leads_skip s i rows e =
 pub leads_assign : (s : Scope) (i : Item) (xs : List tree.Name) (rs : List (tree.RightSide tree.Name)) (rows new : List (List Bool)) → i.deed ≡ simple (assign xs rs) → AreFrom (IsAssigned (map (place_of s) xs) (map (resolve_side s) rs)) rows new → Leads s i rows new
 leads_assign s i xs rs rows new e are =
     subst (λ d. (is : List Item) → SomeFailFrom (resolve_block s (marked_before i.mark d (all_before is done))) rows ↔ SomeFailFrom (code_of s is) new) (sym e)
-    (λ is. (λ h. (written_globals (map (place_of s) xs) h.2.0 h.0, (are (written_globals (map (place_of s) xs) h.2.0 h.0)).1 (h.0, h.1, (h.2.0, h.2.1, refl)), h.2.2),
-            λ h. let of = (are h.0).0 h.1 in (of.0, of.1, (of.2.0, of.2.1, subst (FailsFrom (code_of s is)) of.2.2 h.2))))
+    (λ is. (
+      λ h. (written_globals (map (place_of s) xs) h.2.0 h.0, (are (written_globals (map (place_of s) xs) h.2.0 h.0)).1 (h.0, h.1, (h.2.0, h.2.1, refl)), h.2.2),
+      λ h. let of = (are h.0).0 h.1 in (of.0, of.1, (of.2.0, of.2.1, subst (FailsFrom (code_of s is)) of.2.2 h.2)),
+    ))
 
 -- an assert that fails nowhere leads to the rows that it lets pass
 pub leads_assert : (s : Scope) (i : Item) (r : tree.RightSide tree.Name) (rows new : List (List Bool)) → i.deed ≡ simple (assert r) → (SomeFails (resolve_side s r) rows → ⊥) → AreFrom (IsPassed (resolve_side s r)) rows new → Leads s i rows new
 leads_assert s i r rows new e none are =
     subst (λ d. (is : List Item) → SomeFailFrom (resolve_block s (marked_before i.mark d (all_before is done))) rows ↔ SomeFailFrom (code_of s is) new) (sym e)
-    (λ is. (λ h. elim h.2 [ inl fails ↦ absurd (none (h.0, h.1, fails)) | inr on ↦ (h.0, (are h.0).1 (h.0, h.1, (refl, on.0)), on.1) ],
-            λ h. let of = (are h.0).0 h.1 in (of.0, of.1, inr (of.2.1, subst (FailsFrom (code_of s is)) of.2.0 h.2))))
+    (λ is. (
+      λ h. elim h.2 [ inl fails ↦ absurd (none (h.0, h.1, fails)) | inr on ↦ (h.0, (are h.0).1 (h.0, h.1, (refl, on.0)), on.1) ],
+      λ h. let of = (are h.0).0 h.1 in (of.0, of.1, inr (of.2.1, subst (FailsFrom (code_of s is)) of.2.0 h.2)),
+    ))
 
 -- an assert that fails at a row fails
 pub fails_assert : (s : Scope) (i : Item) (r : tree.RightSide tree.Name) (rows : List (List Bool)) → i.deed ≡ simple (assert r) → SomeFails (resolve_side s r) rows → FailsAt s i rows

@@ -1,3 +1,4 @@
+pub mod FirstLemmas
 pub mod ItemLemmas
 pub mod MemberLemmas
 pub mod StraightRuns

@@ -34,9 +34,10 @@ member_append x (y ∷ xs) ys (inr h) = elim (member_append x xs ys h) [ inl a �
 
 -- in a list with one more at its end is what was in it, and that one
 pub member_push : {A : Type 0} (x : A) (xs : List A) (y : A) → Member x (xs ++ y ∷ []) ↔ (Member x xs ⊎ (x ≡ y))
-member_push x xs y =
-    (λ h. elim (member_append x xs (y ∷ []) h) [ inl a ↦ inl a | inr b ↦ inr (elim b [ inl e ↦ e | inr never ↦ absurd never ]) ],
-     λ h. elim h [ inl a ↦ member_left x xs (y ∷ []) a | inr e ↦ member_right x xs (y ∷ []) (inl e) ])
+member_push x xs y = (
+  λ h. elim (member_append x xs (y ∷ []) h) [ inl a ↦ inl a | inr b ↦ inr (elim b [ inl e ↦ e | inr never ↦ absurd never ]) ],
+  λ h. elim h [ inl a ↦ member_left x xs (y ∷ []) a | inr e ↦ member_right x xs (y ∷ []) (inl e) ],
+)
 
 -- the rows with one more at their end
 pub rows_push : {A : Type 0} (rows : List (Vec Bool A)) (row : Vec Bool A) (g : List Bool) → Member g (rows_of (rows ++ row ∷ [])) ↔ (Member g (rows_of rows) ⊎ (g ≡ row.items))
@@ -45,19 +46,23 @@ rows_push rows row g =
 
 -- what comes of rows with one more at their end
 from_push : (P : List Bool → List Bool → Type 0) (rows : List (List Bool)) (row g : List Bool) → From P (rows ++ row ∷ []) g ↔ (From P rows g ⊎ P row g)
-from_push P rows row g =
-    (λ h. elim ((member_push h.0 rows row).0 h.1) [ inl there ↦ inl (h.0, there, h.2) | inr last ↦ inr (subst (λ r. P r g) last h.2) ],
-     λ h. elim h [ inl there ↦ (there.0, (member_push there.0 rows row).1 (inl there.1), there.2) | inr last ↦ (row, (member_push row rows row).1 (inr refl), last) ])
+from_push P rows row g = (
+  λ h. elim ((member_push h.0 rows row).0 h.1) [ inl there ↦ inl (h.0, there, h.2) | inr last ↦ inr (subst (λ r. P r g) last h.2) ],
+  λ h. elim h [ inl there ↦ (there.0, (member_push there.0 rows row).1 (inl there.1), there.2) | inr last ↦ (row, (member_push row rows row).1 (inr refl), last) ],
+)
 
 -- one row more is added
 pub adds_push : (P : List Bool → List Bool → Type 0) (old mid new rows : List (List Bool)) (row : List Bool) → Adds P old mid rows → ((g : List Bool) → Member g new ↔ (Member g mid ⊎ P row g)) → Adds P old new (rows ++ row ∷ [])
-adds_push P old mid new rows row before step g =
-    (λ h. elim ((step g).0 h) [
-        inl there ↦ elim ((before g).0 there) [ inl a ↦ inl a | inr b ↦ inr ((from_push P rows row g).1 (inl b)) ]
-      | inr last ↦ inr ((from_push P rows row g).1 (inr last)) ],
-     λ h. elim h [
-        inl a ↦ (step g).1 (inl ((before g).1 (inl a)))
-      | inr b ↦ elim ((from_push P rows row g).0 b) [ inl c ↦ (step g).1 (inl ((before g).1 (inr c))) | inr last ↦ (step g).1 (inr last) ] ])
+adds_push P old mid new rows row before step g = (
+  λ h. elim ((step g).0 h) [
+    | inl there ↦ elim ((before g).0 there) [ inl a ↦ inl a | inr b ↦ inr ((from_push P rows row g).1 (inl b)) ]
+    | inr last ↦ inr ((from_push P rows row g).1 (inr last))
+  ],
+  λ h. elim h [
+    | inl a ↦ (step g).1 (inl ((before g).1 (inl a)))
+    | inr b ↦ elim ((from_push P rows row g).0 b) [ inl c ↦ (step g).1 (inl ((before g).1 (inr c))) | inr last ↦ (step g).1 (inr last) ]
+  ],
+)
 
 -- before the first row nothing is added
 pub adds_none : (P : List Bool → List Bool → Type 0) (old : List (List Bool)) → Adds P old old []
@@ -83,11 +88,13 @@ from_none P rows new h g = (λ m. elim ((h g).0 m) [ inl never ↦ absurd never 
 
 -- both values of a side
 pub both_values : (old : List Bool) (n : ℕ) (side : RightSide Place) (rows mid new : List (List Bool)) (zero_is one_is : Bool) → (IsTrue zero_is ↔ IsValue old [] side false) → (IsTrue one_is ↔ IsValue old [] side true) → Adds (IsWithIf zero_is n false) [] mid rows → Adds (IsWithIf one_is n true) mid new rows → AreFrom (IsWithSome old n side) rows new
-both_values old n side rows mid new zero_is one_is z o first second g =
-    (λ m. elim ((second g).0 m) [
-        inl before ↦ elim ((first g).0 before) [ inl never ↦ absurd never | inr a ↦ (a.0, a.1, (false, z.0 a.2.0, a.2.1)) ]
-      | inr b ↦ (b.0, b.1, (true, o.0 b.2.0, b.2.1)) ],
-     λ h. of_value h.0 h.1 h.2.0 h.2.1 h.2.2)
+both_values old n side rows mid new zero_is one_is z o first second g = (
+  λ m. elim ((second g).0 m) [
+    | inl before ↦ elim ((first g).0 before) [ inl never ↦ absurd never | inr a ↦ (a.0, a.1, (false, z.0 a.2.0, a.2.1)) ]
+    | inr b ↦ (b.0, b.1, (true, o.0 b.2.0, b.2.1))
+  ],
+  λ h. of_value h.0 h.1 h.2.0 h.2.1 h.2.2,
+)
   where
     of_value : (row : List Bool) → Member row rows → (v : Bool) → IsValue old [] side v → g ≡ with_bit row n v → Member g new
     of_value row there true is e = (second g).1 (inr (row, there, (o.1 is, e)))
@@ -100,6 +107,7 @@ write_step old n side xs rs rows new are g = (λ h. on h.0 h.1 h.2.0 h.2.1 h.2.2
     on : (row : List Bool) → Member row rows → (vs : List Bool) → AreValues old [] (side ∷ rs) vs → g ≡ written_globals (global n ∷ xs) vs row → From (IsWritten old xs rs) new g
     on row there [] never e = absurd never
     on row there (v ∷ vs) is e = (with_bit row n v, (are (with_bit row n v)).1 (row, there, (v, is.0, refl)), (vs, is.1, e))
+
     back : (row : List Bool) → From (IsWithSome old n side) rows row → (vs : List Bool) → AreValues old [] rs vs → g ≡ written_globals xs vs row → From (IsWritten old (global n ∷ xs) (side ∷ rs)) rows g
     back row of vs is e = (of.0, of.1, (of.2.0 ∷ vs, (of.2.1, is), e ∙ ap (written_globals xs vs) of.2.2))
 
@@ -117,9 +125,10 @@ fails_here side row rest is = (row, inl refl, is)
 
 -- a row that does not fail is passed over
 pub fails_later : (side : RightSide Place) (row : List Bool) (rest : List (List Bool)) → (IsValue row [] side false → ⊥) → SomeFails side (row ∷ rest) ↔ SomeFails side rest
-fails_later side row rest not_here =
-    (λ h. elim h.1 [ inl same ↦ absurd (not_here (subst (λ r. IsValue r [] side false) same h.2)) | inr there ↦ (h.0, there, h.2) ],
-     λ h. (h.0, inr h.1, h.2))
+fails_later side row rest not_here = (
+  λ h. elim h.1 [ inl same ↦ absurd (not_here (subst (λ r. IsValue r [] side false) same h.2)) | inr there ↦ (h.0, there, h.2) ],
+  λ h. (h.0, inr h.1, h.2),
+)
 
 -- what is not wanted is not added, and what is wanted is
 pub adds_not : (n : ℕ) (v : Bool) (old rows : List (List Bool)) → Adds (IsWithIf false n v) old old rows
@@ -129,9 +138,10 @@ adds_not n v old rows g = (λ m. inl m, λ h. elim h [ inl m ↦ m | inr never �
     false-true e = cc
 
 pub adds_yes : (n : ℕ) (v : Bool) (old new rows : List (List Bool)) → Adds (IsWith n v) old new rows → Adds (IsWithIf true n v) old new rows
-adds_yes n v old new rows h g =
-    (λ m. elim ((h g).0 m) [ inl a ↦ inl a | inr b ↦ inr (b.0, b.1, (refl, b.2)) ],
-     λ m. elim m [ inl a ↦ (h g).1 (inl a) | inr b ↦ (h g).1 (inr (b.0, b.1, b.2.1)) ])
+adds_yes n v old new rows h g = (
+  λ m. elim ((h g).0 m) [ inl a ↦ inl a | inr b ↦ inr (b.0, b.1, (refl, b.2)) ],
+  λ m. elim m [ inl a ↦ (h g).1 (inl a) | inr b ↦ (h g).1 (inr (b.0, b.1, b.2.1)) ],
+)
 
 -- what comes of one row
 pub from_one : (P : List Bool → List Bool → Type 0) (row g : List Bool) → From P (row ∷ []) g ↔ P row g

@@ -123,18 +123,20 @@ same_code gs ps (i ∷ is) ok = same_more gs ps i.mark i.deed is ok.0.1 (same_co
 
 -- the meaning of a program of the first part fails within one round exactly where its statements fail from zeros
 unsafe_one : (p : Program) (k : ℕ) (s : Scope) (is : List Item) (n : ℕ) → AreStraight is → p.globals ≡ n → map (starting_stack p.routines) p.threads ≡ (frame k [] (code_of s is) ∷ []) ∷ [] → Unsafe p 1 ↔ FailsFrom (code_of s is) (zeros n)
-unsafe_one p k s is n ok globals stacks =
-    (λ u. within u.0 u.1 u.2 u.3 u.4 u.5,
-     λ f. let (m, after) = fails_reached p k s is ok (zeros n) f in
-          let (u, run, fails) = after_pick p m (at_code k (zeros n) (code_of s is)) Fails after in
-          (0, omega arith, zeros n, (frame k [] (code_of s is) ∷ []) ∷ [], (ap zeros (sym globals), sym stacks), inl (u, (m, run), fails)))
+unsafe_one p k s is n ok globals stacks = (
+  λ u. within u.0 u.1 u.2 u.3 u.4 u.5,
+  λ f. let (m, after) = fails_reached p k s is ok (zeros n) f in
+      let (u, run, fails) = after_pick p m (at_code k (zeros n) (code_of s is)) Fails after in
+      (0, omega arith, zeros n, (frame k [] (code_of s is) ∷ []) ∷ [], (ap zeros (sym globals), sym stacks), inl (u, (m, run), fails)),
+)
   where
     from_start : (g : List Bool) (ss : List (List Frame)) → g ≡ zeros n → ss ≡ (frame k [] (code_of s is) ∷ []) ∷ [] → FailsInRound p g ss → FailsFrom (code_of s is) (zeros n)
     from_start g ss eg es f =
         elim (subst (λ h. FailsInRound p h ((frame k [] (code_of s is) ∷ []) ∷ [])) eg (subst (FailsInRound p g) es f)) [
-          inl (u, (m, run), fails) ↦ reached_fails p k s is ok m (zeros n) (after_map p m (at_code k (zeros n) (code_of s is)) (λ v. v ≡ u) Fails (λ v e. subst Fails (sym e) fails) run)
-        | inr never ↦ absurd never.3
+          | inl (u, (m, run), fails) ↦ reached_fails p k s is ok m (zeros n) (after_map p m (at_code k (zeros n) (code_of s is)) (λ v. v ≡ u) Fails (λ v e. subst Fails (sym e) fails) run)
+          | inr never ↦ absurd never.3
         ]
+
     within : (r : ℕ) → r < 1 → (g : List Bool) (ss : List (List Frame)) → Rounds p r (zeros p.globals) (map (starting_stack p.routines) p.threads) g ss → FailsInRound p g ss → FailsFrom (code_of s is) (zeros n)
     within zero small g ss start f = from_start g ss (start.0 ∙ ap zeros globals) (start.1 ∙ stacks) f
     within (suc r) small g ss start f = absurd (omega arith)
@@ -145,5 +147,5 @@ first_unsafe gs name is at named ok same =
     let t = first_tree gs name is at named in
     let p = meaning_of t in
     let stacks : map (starting_stack p.routines) p.threads ≡ (frame 0 [] (code_of (globals_only gs) is) ∷ []) ∷ [] =
-        ap (λ b. starting_stack p.routines (cond b 0 1) ∷ []) same ∙ ap (λ c. (frame 0 [] c ∷ []) ∷ []) (same_code gs (name ∷ []) is ok) in
+    ap (λ b. starting_stack p.routines (cond b 0 1) ∷ []) same ∙ ap (λ c. (frame 0 [] c ∷ []) ∷ []) (same_code gs (name ∷ []) is ok) in
     unsafe_one p 0 (globals_only gs) is (length gs) ok refl stacks

@@ -1,3 +1,5 @@
 pub mod Straight
 pub mod Members
 pub mod Reach
+pub mod Limits
+pub mod Verdict

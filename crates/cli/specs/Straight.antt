@@ -66,11 +66,10 @@ first_tree globals name items at named = record {
   threads = record { at = at; name = named } ∷ [];
 }
 
--- A tree of the first part of the language: at most 8 globals; one procedure without formals, locals and labels,
--- of skips, assignments and asserts; one thread line that names it.
-pub record IsFirstPart (t : Tree) : Type 0 where
+-- A tree of the first part of the language with these statements: at most 8 globals; one procedure without formals
+-- and locals, of skips, assignments and asserts without labels; one thread line that names it.
+pub record IsFirstPart (t : Tree) (items : List Item) : Type 0 where
   pub name : Name
-  pub items : List Item
   pub at : ℕ
   pub named : Name
   pub shape : t ≡ first_tree t.globals name items at named

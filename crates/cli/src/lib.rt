@@ -2,6 +2,12 @@
 #![tactic(auto)]
 
 mod analysis;
+mod asked;
 mod evaluate;
+mod first;
+mod line;
 mod reach;
 pub mod unsafety;
+
+pub use asked::{LineFault, Order};
+pub use line::order;

@@ -91,7 +91,6 @@ fn add_with<A: Allocator + Copy>(
     Ok(())
 }
 
-
 /// Adds each row with a value at a number, if that is wanted.
 fn add_if<A: Allocator + Copy>(
     wanted: bool,
@@ -174,7 +173,10 @@ pub(crate) fn assigned<N: Allocator, A: Allocator + Copy>(
 {
     let mut out = Vec::new(alloc);
     for row in rows {
-        add_all(&mut out, written(alloc, globals, row.as_slice(), targets, sides)?)?;
+        add_all(
+            &mut out,
+            written(alloc, globals, row.as_slice(), targets, sides)?,
+        )?;
     }
     Ok(out)
 }

@@ -12,5 +12,4 @@ ghost use Rattle.cli.specs.Straight.{AreStraight, FailsFrom, code_of, globals_on
 pub fn straight_programs_fail_as_their_statements()
     ensures { (gs : List Name) (name : Name) (is : List Item) (at : ℕ) (named : Name) → AreStraight is → same_text named.text name.text ≡ true
         → Unsafe (meaning_of (first_tree gs name is at named)) 1 ↔ FailsFrom (code_of (globals_only gs) is) (zeros (length gs)) }
-{
-}
+{}

@@ -52,9 +52,9 @@ returns-in_ok-assigned-in-Assign g c =
     let e = item_deed c.args.stmt.now ∙ ap deed_of c.in-Assign.is ∙ deed_of-Assign c.in-Assign.targets c.in-Assign.sides in
     let new : List (List Bool) = rows_of c.in_ok-assigned-in-Assign.field-0.items in
     let are : AreFrom (IsAssigned (map (place_of s) (names_of c.in-Assign.targets.items)) (map (resolve_side s) (rhss_of c.in-Assign.sides.items))) (rows_of c.args.rows.items) new =
-        subst (λ ts. AreFrom (IsAssigned (map (place_of s) (names_of ts)) (map (resolve_side s) (rhss_of c.in-Assign.sides.items))) (rows_of c.args.rows.items) new) c.deref.ensures.value
-        (subst (λ ss. AreFrom (IsAssigned (map (place_of s) (names_of c.deref.result.now)) (map (resolve_side s) (rhss_of ss))) (rows_of c.args.rows.items) new) c.deref-in-Assign.ensures.value
-        (subst (λ l. AreFrom (IsAssigned (map (place_of s) (names_of c.deref.result.now)) (map (resolve_side s) (rhss_of c.deref-in-Assign.result.now))) (rows_of l) new) c.as_slice.ensures.value c.in_ok-assigned-in-Assign.ensures)) in
+    subst (λ ts. AreFrom (IsAssigned (map (place_of s) (names_of ts)) (map (resolve_side s) (rhss_of c.in-Assign.sides.items))) (rows_of c.args.rows.items) new) c.deref.ensures.value
+    (subst (λ ss. AreFrom (IsAssigned (map (place_of s) (names_of c.deref.result.now)) (map (resolve_side s) (rhss_of ss))) (rows_of c.args.rows.items) new) c.deref-in-Assign.ensures.value
+    (subst (λ l. AreFrom (IsAssigned (map (place_of s) (names_of c.deref.result.now)) (map (resolve_side s) (rhss_of c.deref-in-Assign.result.now))) (rows_of l) new) c.as_slice.ensures.value c.in_ok-assigned-in-Assign.ensures)) in
     leads_assign s (item_of c.args.stmt.now) (names_of c.in-Assign.targets.items) (rhss_of c.in-Assign.sides.items) (rows_of c.args.rows.items) new e are
 
 pub returns-in_ok-passed-in-Assert : goal.returns-in_ok-passed-in-Assert
@@ -64,6 +64,6 @@ returns-in_ok-passed-in-Assert g c =
     let side = resolve_side s (rhs_of c.in-Assert.side) in
     let new : List (List Bool) = rows_of c.in_ok-passed-in-Assert.field-0.items in
     let none : SomeFails side (rows_of c.args.rows.items) → ⊥ =
-        λ h. false-true (sym c.if-some_fails.false ∙ c.some_fails.ensures.1 (subst (λ l. SomeFails side (rows_of l)) (sym c.as_slice-in-Assert.ensures.value) h)) in
+    λ h. false-true (sym c.if-some_fails.false ∙ c.some_fails.ensures.1 (subst (λ l. SomeFails side (rows_of l)) (sym c.as_slice-in-Assert.ensures.value) h)) in
     let are : AreFrom (IsPassed side) (rows_of c.args.rows.items) new = subst (λ l. AreFrom (IsPassed side) (rows_of l) new) c.as_slice-in-Assert-2.ensures.value c.in_ok-passed-in-Assert.ensures in
     leads_assert s (item_of c.args.stmt.now) (rhs_of c.in-Assert.side) (rows_of c.args.rows.items) new e none are

@@ -12,4 +12,4 @@ invariant-loop-stmt g l =
     let s = globals_only (names_of l.globals) in
     AreStraight (items_of (drop l.stmt-index l.body))
     × (SomeFailFrom (code_of s (items_of (drop l.stmt-index l.body))) (rows_of l.rows.items)
-       ↔ FailsFrom (code_of s (items_of l.body)) (zeros (length l.globals)))
+    ↔ FailsFrom (code_of s (items_of l.body)) (zeros (length l.globals)))

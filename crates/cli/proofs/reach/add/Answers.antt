@@ -14,6 +14,6 @@ returns-in_ok-push g c row =
 pub returns-else-not-known : goal.returns-else-not-known
 returns-else-not-known g c row =
     let found : Member c.args.row.items (rows_of c.args.rows.now.items) =
-        subst (λ r. Member r (rows_of c.args.rows.now.items)) c.as_slice-2.ensures.value
-        (subst (λ l. Member c.as_slice-2.result.now (rows_of l)) c.as_slice.ensures.value (c.is_among-known.ensures.0 c.if-not-known.false)) in
+    subst (λ r. Member r (rows_of c.args.rows.now.items)) c.as_slice-2.ensures.value
+    (subst (λ l. Member c.as_slice-2.result.now (rows_of l)) c.as_slice.ensures.value (c.is_among-known.ensures.0 c.if-not-known.false)) in
     (λ h. inl h, λ h. elim h [ inl there ↦ there | inr same ↦ subst (λ r. Member r (rows_of c.args.rows.now.items)) (sym same) found ])

@@ -12,14 +12,17 @@ loop-row-preserved g c r =
     let before = c.loop-row.invariant r in
     let row = c.in-Some.row in
     let rest : Member r (rows_of c.loop-row.rows.items) ↔ (Member r (rows_of c.pop.new.self.items) ⊎ (r ≡ row.items)) =
-        subst (λ l. Member r (rows_of l) ↔ (Member r (rows_of c.pop.new.self.items) ⊎ (r ≡ row.items))) (sym c.in-Some.ensures.items) (rows_push c.pop.new.self.items row r) in
-    let more = c.in_ok-add.ensures r in
-    (λ h. elim h [
-        inl m ↦ elim (more.0 m) [ inl mid ↦ before.0 (inl mid) | inr last ↦ before.0 (inr (rest.1 (inr last))) ]
-      | inr p ↦ before.0 (inr (rest.1 (inl p))) ],
-     λ h. elim (before.1 h) [
-        inl mid ↦ inl (more.1 (inl mid))
-      | inr there ↦ elim (rest.0 there) [ inl p ↦ inr p | inr last ↦ inl (more.1 (inr last)) ] ])
+    subst (λ l. Member r (rows_of l) ↔ (Member r (rows_of c.pop.new.self.items) ⊎ (r ≡ row.items))) (sym c.in-Some.ensures.items) (rows_push c.pop.new.self.items row r) in
+    let more = c.in_ok-add.ensures r in (
+      λ h. elim h [
+        | inl m ↦ elim (more.0 m) [ inl mid ↦ before.0 (inl mid) | inr last ↦ before.0 (inr (rest.1 (inr last))) ]
+        | inr p ↦ before.0 (inr (rest.1 (inl p)))
+      ],
+      λ h. elim (before.1 h) [
+        | inl mid ↦ inl (more.1 (inl mid))
+        | inr there ↦ elim (rest.0 there) [ inl p ↦ inr p | inr last ↦ inl (more.1 (inr last)) ]
+      ],
+    )
 
 pub returns : goal.returns
 returns g c r =

@@ -18,9 +18,9 @@ loop-row-preserved g c =
     let new : List (List Bool) = rows_of c.add.new.rows.items in
     let row = c.row-item.result in
     let same : c.in_ok-changed.field-0.items ≡ with_bit row.items c.args.number c.args.value =
-        c.in_ok-changed.ensures ∙ ap (λ l. with_bit l c.args.number c.args.value) c.as_slice.ensures.value in
+    c.in_ok-changed.ensures ∙ ap (λ l. with_bit l c.args.number c.args.value) c.as_slice.ensures.value in
     let one : (r : List Bool) → Member r new ↔ (Member r mid ⊎ P row.items r) =
-        λ r. subst (λ w. Member r new ↔ (Member r mid ⊎ (r ≡ w))) same (c.in_ok-add.ensures r) in
+    λ r. subst (λ w. Member r new ↔ (Member r mid ⊎ (r ≡ w))) same (c.in_ok-add.ensures r) in
     subst (Adds P old new) (sym (rows_more c.args.rows.now c.loop-row.row-index row c.loop-row-test.true c.row-item.is))
     (adds_push P old mid new (rows_of _) row.items c.loop-row.invariant one)
 

@@ -18,10 +18,12 @@ loop-row-preserved g c =
     let new : List (List Bool) = rows_of c.add_all.new.out.items in
     let row = c.row-item.result in
     let made : AreFrom (IsWritten row.items xs rs) (row.items ∷ []) (rows_of c.in_ok-written.field-0.items) =
-        subst (λ l. AreFrom (IsWritten l xs rs) (l ∷ []) (rows_of c.in_ok-written.field-0.items)) c.as_slice.ensures.value c.in_ok-written.ensures in
+    subst (λ l. AreFrom (IsWritten l xs rs) (l ∷ []) (rows_of c.in_ok-written.field-0.items)) c.as_slice.ensures.value c.in_ok-written.ensures in
     let one : (r : List Bool) → Member r new ↔ (Member r mid ⊎ IsAssigned xs rs row.items r) =
-        λ r. (λ m. elim ((c.in_ok-add_all.ensures r).0 m) [ inl there ↦ inl there | inr w ↦ inr ((from_one (IsWritten row.items xs rs) row.items r).0 ((made r).0 w)) ],
-              λ m. elim m [ inl there ↦ (c.in_ok-add_all.ensures r).1 (inl there) | inr w ↦ (c.in_ok-add_all.ensures r).1 (inr ((made r).1 ((from_one (IsWritten row.items xs rs) row.items r).1 w))) ]) in
+    λ r. (
+      λ m. elim ((c.in_ok-add_all.ensures r).0 m) [ inl there ↦ inl there | inr w ↦ inr ((from_one (IsWritten row.items xs rs) row.items r).0 ((made r).0 w)) ],
+      λ m. elim m [ inl there ↦ (c.in_ok-add_all.ensures r).1 (inl there) | inr w ↦ (c.in_ok-add_all.ensures r).1 (inr ((made r).1 ((from_one (IsWritten row.items xs rs) row.items r).1 w))) ],
+    ) in
     subst (Adds (IsAssigned xs rs) [] new) (sym (rows_more c.args.rows.now c.loop-row.row-index row c.loop-row-test.true c.row-item.is))
     (adds_push (IsAssigned xs rs) [] mid new (rows_of _) row.items c.loop-row.invariant one)
 

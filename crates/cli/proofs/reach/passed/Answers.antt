@@ -16,7 +16,7 @@ loop-row-preserved g c =
     let new : List (List Bool) = rows_of c.add_passed.new.out.items in
     let row = c.row-item.result in
     let one : (r : List Bool) → Member r new ↔ (Member r mid ⊎ P row.items r) =
-        λ r. subst (λ w. Member r new ↔ (Member r mid ⊎ P w r)) c.as_slice.ensures.value (c.in_ok-add_passed.ensures r) in
+    λ r. subst (λ w. Member r new ↔ (Member r mid ⊎ P w r)) c.as_slice.ensures.value (c.in_ok-add_passed.ensures r) in
     subst (Adds P [] new) (sym (rows_more c.args.rows.now c.loop-row.row-index row c.loop-row-test.true c.row-item.is))
     (adds_push P [] mid new (rows_of _) row.items c.loop-row.invariant one)
 

@@ -11,6 +11,6 @@ pub returns : goal.returns
 returns g c =
     let side = resolve_side (globals_only (names_of c.args.globals.now)) (rhs_of c.args.side.now) in
     let first : Adds (IsWithIf c.has_value-zero.result c.args.number false) [] (rows_of c.add_if.new.out.items) (rows_of c.args.rows.now) =
-        subst (λ old. Adds (IsWithIf c.has_value-zero.result c.args.number false) old (rows_of c.add_if.new.out.items) (rows_of c.args.rows.now)) (ap rows_of c.new-out.ensures.items) c.in_ok-add_if.ensures in
+    subst (λ old. Adds (IsWithIf c.has_value-zero.result c.args.number false) old (rows_of c.add_if.new.out.items) (rows_of c.args.rows.now)) (ap rows_of c.new-out.ensures.items) c.in_ok-add_if.ensures in
     both_values c.args.old.now c.args.number side (rows_of c.args.rows.now) (rows_of c.add_if.new.out.items) (rows_of c.add_if-2.new.out.items) c.has_value-zero.result c.has_value-one.result
     c.has_value-zero.ensures c.has_value-one.ensures first c.in_ok-add_if-2.ensures
