@@ -1,3 +1,4 @@
 pub mod Fixes
 pub mod KindTests
 pub mod Expressions
+pub mod Folds

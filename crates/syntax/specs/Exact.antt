@@ -39,3 +39,8 @@ expression_step rec (after l a) (t ∷ ts) = go_on rec l a t ts (binds l t.kind)
 
 unfoldable pub reading : Goal → Parser (Expression Name)
 reading = fix expression_step
+
+-- an operand
+unfoldable pub operand : Parser (Expression Name)
+operand [] = None
+operand (t ∷ ts) = operand_step reading t ts

@@ -2,3 +2,4 @@ pub mod Trees
 pub mod Parser
 pub mod Grammar
 pub mod Exact
+pub mod Gives

@@ -1,6 +1,10 @@
 //! Reads texts of the language into trees.
 #![tactic(auto)]
 
+mod expression;
+mod fault;
+mod reader;
 mod tree;
 
+pub use fault::ReadFault;
 pub use tree::{Core, Expr, Name, Op, Proc, Program, Rhs, Stmt, Thread};
