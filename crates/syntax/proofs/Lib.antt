@@ -2,3 +2,4 @@ pub mod Fixes
 pub mod KindTests
 pub mod Expressions
 pub mod Folds
+pub mod Exactly
