@@ -127,3 +127,72 @@ module _ {X : Type 0} (test : List Tok → Bool) (p : Parser X) (strict : Strict
     next : {us rest : List Tok} {xs : List X} → Many P us xs rest → S rest → S us
     next no_more s = s
     next (one_more {ts = us} {us = vs} {x = y} h t) s = joins us (starts us y vs h)
+
+-- behind commas
+behind_begins : {X : Type 0} {P : List Tok → X → List Tok → Type 0} (k : Kind) (ts : List Tok) (x : X) (us : List Tok) → Behind k P ts x us → begins k ts ≡ true
+behind_begins k ts x us (behind t h) = begins_takes t
+
+pub Strict-behind : {X : Type 0} {p : Parser X} (k : Kind) → Shrinks p → Strict (take k >>= λ _. p)
+Strict-behind {p = p} k s = Strict-bind (Strict-take k) (λ t. s)
+
+pub more_finds : {X : Type 0} {P : List Tok → X → List Tok → Type 0} {S : List Tok → Type 0} {p : Parser X} → Strict p → Exactly P S p → (ts : List Tok) (xs : List X) (rest : List Tok) → more p ts ≡ Some (xs, rest) → Many (Behind kind.Comma P) ts xs rest × (begins kind.Comma rest ≡ false)
+more_finds {P = P} {p = p} s is = many_finds (begins kind.Comma) (take kind.Comma >>= λ _. p) (Strict-behind kind.Comma (Strict-Shrinks s)) (Behind kind.Comma P) (exactly_behind kind.Comma is).finds
+
+pub more_reads : {X : Type 0} {P : List Tok → X → List Tok → Type 0} {S : List Tok → Type 0} {p : Parser X} → Strict p → Exactly P S p → ((us : List Tok) → begins kind.Comma us ≡ true → S us) → {ts rest : List Tok} {xs : List X} → Many (Behind kind.Comma P) ts xs rest → S rest → begins kind.Comma rest ≡ false → more p ts ≡ Some (xs, rest)
+more_reads {P = P} {p = p} s is joins m h e = many_reads (begins kind.Comma) (take kind.Comma >>= λ _. p) (Strict-behind kind.Comma (Strict-Shrinks s)) (exactly_behind kind.Comma is) (λ ts x us b. behind_begins kind.Comma ts x us b) joins m h e
+
+pub more_shrinks : {X : Type 0} {p : Parser X} → Strict p → Shrinks (more p)
+more_shrinks {p = p} s = many_shrinks (begins kind.Comma) (take kind.Comma >>= λ _. p) (Strict-behind kind.Comma (Strict-Shrinks s))
+
+pub Strict-list : {X : Type 0} {p : Parser X} → Strict p → Strict (list p)
+Strict-list s = Strict-bind s (λ x. Shrinks-bind (more_shrinks s) (λ xs. Shrinks-give (x ∷ xs)))
+
+-- a list is read, where no comma follows
+abbrev pub NoComma : (List Tok → Type 0) → List Tok → Type 0
+NoComma S ts = S ts × (begins kind.Comma ts ≡ false)
+
+pub exactly_list : {X : Type 0} {P : List Tok → X → List Tok → Type 0} {S : List Tok → Type 0} {p : Parser X} → Strict p → Exactly P S p → ((us : List Tok) → begins kind.Comma us ≡ true → S us) → Exactly (Listed P) (NoComma S) (list p)
+exactly_list {X} {P} {S} {p} s is joins = record {
+    finds = λ ts xs rest e.
+        let b = between p (λ x. more p >>= λ xs. give (x ∷ xs)) ts xs rest e in
+        let c = between (more p) (λ xs. give (b.x ∷ xs)) b.us xs rest b.second in
+        carried (λ xs rest. Listed P ts xs rest) c.second (listed (is.finds ts b.x b.us b.first) (more_finds s is b.us c.x c.us c.first).0);
+    reads = went;
+  }
+  where
+  next : {us rest : List Tok} {xs : List X} → Many (Behind kind.Comma P) us xs rest → S rest → S us
+  next no_more s = s
+  next (one_more {ts = us} (behind t h) m) s = joins us (begins_takes t)
+  went : (ts : List Tok) (xs : List X) (rest : List Tok) → Listed P ts xs rest → NoComma S rest → list p ts ≡ Some (xs, rest)
+  went ts xs rest (listed {us = us} {x = x} {xs = ys} h m) n =
+      bind_is p (λ x. more p >>= λ xs. give (x ∷ xs)) ts x us (is.reads ts x us h (next m n.0))
+      ∙ bind_is (more p) (λ xs. give (x ∷ xs)) us ys rest (more_reads s is joins m n.0 n.1)
+
+-- nothing or a list is read before a closing parenthesis
+pub exactly_perhaps : {X : Type 0} {P : List Tok → X → List Tok → Type 0} {S : List Tok → Type 0} {p : Parser X} → Strict p → Exactly P S p → ((us : List Tok) → begins kind.Comma us ≡ true → S us) → ((us rest : List Tok) → Takes kind.Close us rest → S us) → ((ts : List Tok) (x : X) (us : List Tok) → P ts x us → begins kind.Close ts ≡ false) → Exactly (Perhaps P) (λ ts. begins kind.Close ts ≡ true) (perhaps p)
+unfolding same_kind
+exactly_perhaps {X} {P} {S} {p} s is joins close other = record {
+    finds = λ ts xs rest e. by_choice ts xs rest (chosen (begins kind.Close ts) (Some ([], ts)) (list p ts) (Some (xs, rest)) e);
+    reads = went;
+  }
+  where
+  by_choice : (ts : List Tok) (xs : List X) (rest : List Tok) → ((begins kind.Close ts ≡ true) × (◌≡◌ {A = Option (List X × List Tok)} (Some ([], ts)) (Some (xs, rest)))) ⊎ ((begins kind.Close ts ≡ false) × (list p ts ≡ Some (xs, rest))) → Perhaps P ts xs rest
+  by_choice ts xs rest (inl h) = carried (λ xs rest. Perhaps P ts xs rest) h.1 nothing
+  by_choice ts xs rest (inr h) = something ((exactly_list s is joins).finds ts xs rest h.1)
+  closes : (us : List Tok) → begins kind.Close us ≡ true → NoComma S us
+  closes us e = let t = begins_take kind.Close us e in (close us t.1 t.3, begins_other kind.Comma t.3 refl)
+  begins_so : (ts : List Tok) (xs : List X) (rest : List Tok) → Listed P ts xs rest → begins kind.Close ts ≡ false
+  begins_so ts xs rest (listed {us = us} {x = x} h m) = other ts x us h
+  went : (ts : List Tok) (xs : List X) (rest : List Tok) → Perhaps P ts xs rest → begins kind.Close rest ≡ true → perhaps p ts ≡ Some (xs, rest)
+  went ts xs rest nothing e = rw e refl
+  went ts xs rest (something h) e = let f = begins_so ts xs rest h in rw f ((exactly_list s is joins).reads ts xs rest h (closes rest e))
+
+pub shrinks_perhaps : {X : Type 0} {p : Parser X} → Strict p → Shrinks (perhaps p)
+shrinks_perhaps {X} {p} s = record { by = λ ts xs rest e. by_choice ts xs rest (chosen (begins kind.Close ts) (Some ([], ts)) (list p ts) (Some (xs, rest)) e) }
+  where
+  by_choice : (ts : List Tok) (xs : List X) (rest : List Tok) → ((begins kind.Close ts ≡ true) × (◌≡◌ {A = Option (List X × List Tok)} (Some ([], ts)) (Some (xs, rest)))) ⊎ ((begins kind.Close ts ≡ false) × (list p ts ≡ Some (xs, rest))) → length rest ≤ length ts
+  by_choice ts xs rest (inl h) = let j = (both h.1).1 in rw j (omega arith)
+  by_choice ts xs rest (inr h) = let j : length rest < length ts = (Strict-list s).by ts xs rest h.1 in omega arith
+
+pub strict_parens : {X : Type 0} {p : Parser X} → Shrinks p → Strict (parens p)
+strict_parens s = Strict-bind (Strict-take kind.Open) (λ t. Shrinks-bind s (λ x. Shrinks-bind (Strict-Shrinks (Strict-take kind.Close)) (λ u. Shrinks-give x)))

@@ -392,3 +392,12 @@ ends_empty l a (t ∷ ts) e = absurd (omega arith)
 
 pub ends_before : (l : ℕ) (a : Expression Name) (ts us : List Token) (t : Token) → ts ≡ t ∷ us → binds l t.kind ≡ None → reading (after l a) (toks_of ts) ≡ Some (a, toks_of ts)
 ends_before l a ts us t e h = rw e (stops_here l a (tok_of t) (toks_of us) h)
+
+pub reading_strict : (l : ℕ) → Strict (reading (from l))
+reading_strict l = record { by = λ ts a rest e. by_list l ts a rest (sym (reading_is (from l) ts) ∙ e) }
+  where
+  by_list : (l : ℕ) (ts : List Tok) (a : Expression Name) (rest : List Tok) → expression_step reading (from l) ts ≡ Some (a, rest) → length rest < length ts
+  by_list l [] a rest e = cc
+  by_list l (t ∷ ts) a rest e =
+      let j : length rest ≤ length ts = (Shrinks-bind (operand_shrinks reading reading_shrinks t) (λ a. reading_shrinks (after l a))).by ts a rest e in
+      omega arith

@@ -3,3 +3,5 @@ pub mod KindTests
 pub mod Expressions
 pub mod Folds
 pub mod Exactly
+pub mod Parts
+pub mod Sections

@@ -117,19 +117,23 @@ branching block = test >>= λ r. take kind.Then >>= λ _. block >>= λ a. take k
 abbrev pub repeating : Parser (Block Name Name Name) → Parser Deed
 repeating block = test >>= λ r. take kind.Do >>= λ _. block >>= λ a. take kind.Od >>= λ _. give (repeat r a)
 
--- what a statement does, by its first token
+-- what a statement does that begins with this token
+abbrev pub deed_by : Parser (Block Name Name Name) → Tok → Parser Deed
+deed_by block t =
+    cond (same_kind t.kind kind.Skip) (take kind.Semicolon >>= λ _. give (simple skip))
+    (cond (same_kind t.kind kind.Return) (take kind.Semicolon >>= λ _. give (simple leave))
+    (cond (same_kind t.kind kind.Goto) (name >>= λ l. take kind.Semicolon >>= λ _. give (simple (goto l)))
+    (cond (same_kind t.kind kind.Assert) (test >>= λ r. take kind.Semicolon >>= λ _. give (simple (assert r)))
+    (cond (same_kind t.kind kind.Assume) (test >>= λ r. take kind.Semicolon >>= λ _. give (simple (assume r)))
+    (cond (same_kind t.kind kind.If) (branching block)
+    (cond (same_kind t.kind kind.While) (repeating block)
+    (cond (same_kind t.kind kind.Id) (named t)
+    refuse)))))))
+
+-- what a statement does
 abbrev pub deed_step : Parser (Block Name Name Name) → Parser Deed
 deed_step block [] = None
-deed_step block (t ∷ ts) =
-    cond (same_kind t.kind kind.Skip) ((take kind.Semicolon >>= λ _. give (simple skip)) ts)
-    (cond (same_kind t.kind kind.Return) ((take kind.Semicolon >>= λ _. give (simple leave)) ts)
-    (cond (same_kind t.kind kind.Goto) ((name >>= λ l. take kind.Semicolon >>= λ _. give (simple (goto l))) ts)
-    (cond (same_kind t.kind kind.Assert) ((test >>= λ r. take kind.Semicolon >>= λ _. give (simple (assert r))) ts)
-    (cond (same_kind t.kind kind.Assume) ((test >>= λ r. take kind.Semicolon >>= λ _. give (simple (assume r))) ts)
-    (cond (same_kind t.kind kind.If) (branching block ts)
-    (cond (same_kind t.kind kind.While) (repeating block ts)
-    (cond (same_kind t.kind kind.Id) (named t ts)
-    None)))))))
+deed_step block (t ∷ ts) = deed_by block t ts
 
 -- whether a token of this kind begins a statement
 abbrev pub starts : Kind → Bool
