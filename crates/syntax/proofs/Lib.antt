@@ -5,3 +5,4 @@ pub mod Folds
 pub mod Exactly
 pub mod Parts
 pub mod Sections
+pub mod Sound
