@@ -6,3 +6,4 @@ pub mod Exactly
 pub mod Parts
 pub mod Sections
 pub mod Sound
+pub mod Complete
