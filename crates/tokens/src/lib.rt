@@ -2,9 +2,11 @@
 #![tactic(auto)]
 
 mod cutting;
+mod depth;
 mod piece;
 mod vocabulary;
 mod words;
 
 pub use cutting::{CutFault, cut};
+pub use depth::is_too_deep;
 pub use vocabulary::{Kind, Token};
