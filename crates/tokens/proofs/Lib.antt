@@ -4,3 +4,4 @@ pub mod Runs
 pub mod Fronts
 pub mod InFront
 pub mod Reached
+pub mod Deep

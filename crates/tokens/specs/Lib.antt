@@ -3,3 +3,4 @@ pub mod Spelling
 pub mod Cuts
 pub mod Piece
 pub mod Fault
+pub mod Depth

@@ -2,9 +2,16 @@
 #![tactic(auto)]
 
 mod cutting;
+mod depth;
 mod piece;
+mod text;
 mod vocabulary;
 mod words;
 
 pub use cutting::{CutFault, cut};
+pub use depth::is_too_deep;
+pub use text::as_ascii;
 pub use vocabulary::{Kind, Token};
+
+#[cfg(test)]
+mod tests;
