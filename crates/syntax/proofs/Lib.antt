@@ -7,3 +7,4 @@ pub mod Parts
 pub mod Sections
 pub mod Sound
 pub mod Complete
+pub mod Loops

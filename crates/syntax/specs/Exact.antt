@@ -1,12 +1,12 @@
 -- The grammar once more, as functions.
-use Rattle.std.specs.Prelude.{ℕ, Bool, true, false, nat_le, ◌&&◌, ◌||◌, List, [], ◌∷◌, cond, Option, Some, None, option_and_then}
+use Rattle.std.specs.Prelude.{ℕ, Bool, true, false, nat_le, ◌&&◌, ◌||◌, List, [], ◌∷◌, ◌++◌, cond, Option, Some, None, option_and_then}
 use Rattle.language.specs.Tree.{Name, Operator, Expression, const, var, negation, two, RightSide, any, value, skip, assign, assert, assume, goto, leave, call, Mark, Block, done, Procedure, ThreadLine, Tree}
 use Rattle.tokens.specs.declared.vocabulary.Kind.{Kind}
 use Rattle.tokens.specs.declared.vocabulary.Kind.TheVariants as kind
 use Rattle.tokens.specs.Token.{Tok, same_kind}
 use Rattle.syntax.specs.Parser.{Parser, give, refuse, ◌>>=◌, begins, take, fix, many}
 use Rattle.syntax.specs.Grammar.{name_at, operator_at, level, right_level, joined}
-use Rattle.syntax.specs.Trees.{Deed, simple, branch, repeat, Item, before}
+use Rattle.syntax.specs.Trees.{Deed, simple, branch, repeat, Item, before, all_before}
 
 -- What is read: an expression of this level, or what follows the expression read so far.
 pub data Goal : Type 0 where
@@ -200,3 +200,27 @@ thread_lines = thread_line >>= λ l. many any_left thread_line >>= λ ls. give (
 -- a program, and the tokens after it, which are none
 unfoldable pub program : Parser Tree
 program = all_declarations >>= λ gs. procedures >>= λ ps. thread_lines >>= λ ls. give (record { globals = gs; procedures = ps; threads = ls })
+
+-- a list, with others in front
+abbrev pub prepend : {X : Type 0} → List X → Option (List X × List Tok) → Option (List X × List Tok)
+prepend xs None = None
+prepend xs (Some p) = Some (xs ++ p.0, p.1)
+
+-- statements, with others in front
+abbrev pub put_before : List Item → Option (Block Name Name Name × List Tok) → Option (Block Name Name Name × List Tok)
+put_before is None = None
+put_before is (Some p) = Some (all_before is p.0, p.1)
+
+-- the names, right sides and expressions that follow in a list
+unfoldable pub more_names : Parser (List Name)
+more_names = more name
+
+unfoldable pub more_rights : Parser (List (RightSide Name))
+more_rights = more right
+
+unfoldable pub more_expressions : Parser (List (Expression Name))
+more_expressions = more expression
+
+-- the expressions of a list
+unfoldable pub expressions : Parser (List (Expression Name))
+expressions = list expression

@@ -3,6 +3,7 @@
 
 mod expression;
 mod fault;
+mod lists;
 mod reader;
 mod tree;
 

@@ -1,0 +1,117 @@
+-- The steps of the loops that read lists.
+use Rattle.std.proofs.Common.{◌≡◌, ℕ, Bool, true, false, cond, List, [], ◌∷◌, ◌++◌, length, Option, Some, None, refl, sym, ◌∙◌, ap, arith, rules, append_assoc}
+use Rattle.std.specs.Prelude.{option_and_then}
+use Rattle.language.specs.Tree.{Name, Expression, RightSide}
+use Rattle.tokens.specs.declared.vocabulary.Kind.TheVariants as kind
+use Rattle.tokens.specs.Token.{Tok}
+use Rattle.syntax.specs.Parser.{Parser, give, ◌>>=◌, begins, take, many}
+use Rattle.syntax.specs.Exact.{name, more, list, expression, right, names, rights, expressions, more_names, more_rights, more_expressions, prepend}
+use Rattle.syntax.proofs.Fixes.{bind_is, Strict, Strict-Shrinks}
+use Rattle.syntax.proofs.Exactly.{many_is, many_ends, Strict-behind, begins_takes}
+use Rattle.syntax.proofs.Expressions.{take_finds}
+use Rattle.syntax.proofs.Parts.{strict_name, strict_right, strict_expression}
+
+-- a list with nothing behind it
+append_none : {X : Type 0} (xs : List X) → xs ++ [] ≡ xs
+append_none [] = refl
+append_none (x ∷ xs) = ap (λ ys. x ∷ ys) (append_none xs)
+
+append_more : {X : Type 0} (xs : List X) (x : X) (ys : List X) → xs ++ (x ∷ ys) ≡ (xs ++ (x ∷ [])) ++ ys
+append_more [] x ys = refl
+append_more (y ∷ xs) x ys = ap (λ zs. y ∷ zs) (append_more xs x ys)
+
+prepend_more : {X : Type 0} (xs : List X) (x : X) (p : Parser (List X)) (us : List Tok) → prepend xs ((p >>= λ ys. give (x ∷ ys)) us) ≡ prepend (xs ++ (x ∷ [])) (p us)
+prepend_more {X} xs x p us = by_option (p us)
+  where
+  by_option : (r : Option (List X × List Tok)) → prepend xs (option_and_then (λ (q : List X × List Tok). Some (x ∷ q.0, q.1)) r) ≡ prepend (xs ++ (x ∷ [])) r
+  by_option None = refl
+  by_option (Some q) = ap (λ (zs : List X). Some (zs, q.1)) (append_more xs x q.0)
+
+module _ {X : Type 0} (p : Parser X) (s : Strict p) where
+  list_start : (ts : List Tok) (x : X) (us : List Tok) → p ts ≡ Some (x, us) → list p ts ≡ prepend (x ∷ []) (more p us)
+  list_start ts x us e = bind_is p (λ x. more p >>= λ xs. give (x ∷ xs)) ts x us e ∙ prepend_first x (more p us)
+    where
+    prepend_first : (x : X) (r : Option (List X × List Tok)) → option_and_then (λ (q : List X × List Tok). Some (x ∷ q.0, q.1)) r ≡ prepend (x ∷ []) r
+    prepend_first x None = refl
+    prepend_first x (Some q) = refl
+
+  list_no_start : (ts : List Tok) → p ts ≡ None → list p ts ≡ None
+  list_no_start ts e = rw e refl
+
+  more_at : (ts : List Tok) (t : Tok) (us : List Tok) → take kind.Comma ts ≡ Some (t, us) → more p ts ≡ (p >>= λ x. more p >>= λ xs. give (x ∷ xs)) us
+  more_at ts t us e =
+      let h = begins_takes (take_finds kind.Comma ts t us e).0 in
+      many_is (begins kind.Comma) (take kind.Comma >>= λ _. p) (Strict-behind kind.Comma (Strict-Shrinks s)) ts ∙ rw (h, e) refl
+
+  more_go_on : (xs : List X) (ts : List Tok) (t : Tok) (us : List Tok) (x : X) (vs : List Tok) → take kind.Comma ts ≡ Some (t, us) → p us ≡ Some (x, vs) → prepend xs (more p ts) ≡ prepend (xs ++ (x ∷ [])) (more p vs)
+  more_go_on xs ts t us x vs e f =
+      ap (prepend xs) (more_at ts t us e ∙ bind_is p (λ x. more p >>= λ xs. give (x ∷ xs)) us x vs f) ∙ prepend_more xs x (more p) vs
+
+  more_refused : (xs : List X) (ts : List Tok) (t : Tok) (us : List Tok) → take kind.Comma ts ≡ Some (t, us) → p us ≡ None → prepend xs (more p ts) ≡ None
+  more_refused xs ts t us e f = ap (prepend xs) (more_at ts t us e ∙ rw f refl)
+
+  more_end : (xs : List X) (ts : List Tok) → begins kind.Comma ts ≡ false → prepend xs (more p ts) ≡ Some (xs, ts)
+  more_end xs ts e = ap (prepend xs) (many_ends (begins kind.Comma) (take kind.Comma >>= λ _. p) (Strict-behind kind.Comma (Strict-Shrinks s)) ts e) ∙ ap (λ (zs : List X). Some (zs, ts)) (append_none xs)
+
+-- names
+pub names_start : (ts : List Tok) (x : Name) (us : List Tok) → name ts ≡ Some (x, us) → names ts ≡ prepend (x ∷ []) (more_names us)
+unfolding names more_names
+names_start = list_start name strict_name
+
+pub names_no_start : (ts : List Tok) → name ts ≡ None → names ts ≡ None
+unfolding names
+names_no_start = list_no_start name strict_name
+
+pub names_go_on : (xs : List Name) (ts : List Tok) (t : Tok) (us : List Tok) (x : Name) (vs : List Tok) → take kind.Comma ts ≡ Some (t, us) → name us ≡ Some (x, vs) → prepend xs (more_names ts) ≡ prepend (xs ++ (x ∷ [])) (more_names vs)
+unfolding more_names
+names_go_on = more_go_on name strict_name
+
+pub names_refused : (xs : List Name) (ts : List Tok) (t : Tok) (us : List Tok) → take kind.Comma ts ≡ Some (t, us) → name us ≡ None → prepend xs (more_names ts) ≡ None
+unfolding more_names
+names_refused = more_refused name strict_name
+
+pub names_end : (xs : List Name) (ts : List Tok) → begins kind.Comma ts ≡ false → prepend xs (more_names ts) ≡ Some (xs, ts)
+unfolding more_names
+names_end = more_end name strict_name
+
+-- right sides
+pub rights_start : (ts : List Tok) (x : RightSide Name) (us : List Tok) → right ts ≡ Some (x, us) → rights ts ≡ prepend (x ∷ []) (more_rights us)
+unfolding rights more_rights
+rights_start = list_start right strict_right
+
+pub rights_no_start : (ts : List Tok) → right ts ≡ None → rights ts ≡ None
+unfolding rights
+rights_no_start = list_no_start right strict_right
+
+pub rights_go_on : (xs : List (RightSide Name)) (ts : List Tok) (t : Tok) (us : List Tok) (x : RightSide Name) (vs : List Tok) → take kind.Comma ts ≡ Some (t, us) → right us ≡ Some (x, vs) → prepend xs (more_rights ts) ≡ prepend (xs ++ (x ∷ [])) (more_rights vs)
+unfolding more_rights
+rights_go_on = more_go_on right strict_right
+
+pub rights_refused : (xs : List (RightSide Name)) (ts : List Tok) (t : Tok) (us : List Tok) → take kind.Comma ts ≡ Some (t, us) → right us ≡ None → prepend xs (more_rights ts) ≡ None
+unfolding more_rights
+rights_refused = more_refused right strict_right
+
+pub rights_end : (xs : List (RightSide Name)) (ts : List Tok) → begins kind.Comma ts ≡ false → prepend xs (more_rights ts) ≡ Some (xs, ts)
+unfolding more_rights
+rights_end = more_end right strict_right
+
+-- expressions
+pub expressions_start : (ts : List Tok) (x : Expression Name) (us : List Tok) → expression ts ≡ Some (x, us) → expressions ts ≡ prepend (x ∷ []) (more_expressions us)
+unfolding expressions more_expressions
+expressions_start = list_start expression strict_expression
+
+pub expressions_no_start : (ts : List Tok) → expression ts ≡ None → expressions ts ≡ None
+unfolding expressions
+expressions_no_start = list_no_start expression strict_expression
+
+pub expressions_go_on : (xs : List (Expression Name)) (ts : List Tok) (t : Tok) (us : List Tok) (x : Expression Name) (vs : List Tok) → take kind.Comma ts ≡ Some (t, us) → expression us ≡ Some (x, vs) → prepend xs (more_expressions ts) ≡ prepend (xs ++ (x ∷ [])) (more_expressions vs)
+unfolding more_expressions
+expressions_go_on = more_go_on expression strict_expression
+
+pub expressions_refused : (xs : List (Expression Name)) (ts : List Tok) (t : Tok) (us : List Tok) → take kind.Comma ts ≡ Some (t, us) → expression us ≡ None → prepend xs (more_expressions ts) ≡ None
+unfolding more_expressions
+expressions_refused = more_refused expression strict_expression
+
+pub expressions_end : (xs : List (Expression Name)) (ts : List Tok) → begins kind.Comma ts ≡ false → prepend xs (more_expressions ts) ≡ Some (xs, ts)
+unfolding more_expressions
+expressions_end = more_end expression strict_expression
