@@ -8,3 +8,4 @@ pub mod Sections
 pub mod Sound
 pub mod Complete
 pub mod Loops
+pub mod Exits

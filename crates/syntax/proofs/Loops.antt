@@ -1,6 +1,6 @@
 -- The steps of the loops that read lists.
 use Rattle.std.proofs.Common.{◌≡◌, ℕ, Bool, true, false, cond, List, [], ◌∷◌, ◌++◌, length, Option, Some, None, refl, sym, ◌∙◌, ap, arith, rules, append_assoc}
-use Rattle.std.specs.Prelude.{option_and_then}
+use Rattle.std.specs.Prelude.{option_and_then, map}
 use Rattle.language.specs.Tree.{Name, Expression, RightSide}
 use Rattle.tokens.specs.declared.vocabulary.Kind.TheVariants as kind
 use Rattle.tokens.specs.Token.{Tok}
@@ -19,6 +19,14 @@ append_none (x ∷ xs) = ap (λ ys. x ∷ ys) (append_none xs)
 append_more : {X : Type 0} (xs : List X) (x : X) (ys : List X) → xs ++ (x ∷ ys) ≡ (xs ++ (x ∷ [])) ++ ys
 append_more [] x ys = refl
 append_more (y ∷ xs) x ys = ap (λ zs. y ∷ zs) (append_more xs x ys)
+
+-- what a push leaves, seen by a view
+pub pushed : {X Y : Type 0} (f : X → Y) (xs ys : List X) (x : X) → ys ≡ xs ++ (x ∷ []) → map f xs ++ (f x ∷ []) ≡ map f ys
+pushed f xs ys x e = viewed f xs x ∙ ap (map f) (sym e)
+  where
+  viewed : {X Y : Type 0} (f : X → Y) (xs : List X) (x : X) → map f xs ++ (f x ∷ []) ≡ map f (xs ++ (x ∷ []))
+  viewed f [] x = refl
+  viewed f (y ∷ xs) x = ap (λ ys. f y ∷ ys) (viewed f xs x)
 
 prepend_more : {X : Type 0} (xs : List X) (x : X) (p : Parser (List X)) (us : List Tok) → prepend xs ((p >>= λ ys. give (x ∷ ys)) us) ≡ prepend (xs ++ (x ∷ [])) (p us)
 prepend_more {X} xs x p us = by_option (p us)
@@ -48,7 +56,7 @@ module _ {X : Type 0} (p : Parser X) (s : Strict p) where
       ap (prepend xs) (more_at ts t us e ∙ bind_is p (λ x. more p >>= λ xs. give (x ∷ xs)) us x vs f) ∙ prepend_more xs x (more p) vs
 
   more_refused : (xs : List X) (ts : List Tok) (t : Tok) (us : List Tok) → take kind.Comma ts ≡ Some (t, us) → p us ≡ None → prepend xs (more p ts) ≡ None
-  more_refused xs ts t us e f = ap (prepend xs) (more_at ts t us e ∙ rw f refl)
+  more_refused xs ts t us e f = let h : more p ts ≡ None = more_at ts t us e ∙ rw f refl in ap (prepend xs) h
 
   more_end : (xs : List X) (ts : List Tok) → begins kind.Comma ts ≡ false → prepend xs (more p ts) ≡ Some (xs, ts)
   more_end xs ts e = ap (prepend xs) (many_ends (begins kind.Comma) (take kind.Comma >>= λ _. p) (Strict-behind kind.Comma (Strict-Shrinks s)) ts e) ∙ ap (λ (zs : List X). Some (zs, ts)) (append_none xs)
