@@ -9,3 +9,4 @@ pub mod Sound
 pub mod Complete
 pub mod Loops
 pub mod Exits
+pub mod Goings

@@ -117,14 +117,30 @@ branching block = test >>= λ r. take kind.Then >>= λ _. block >>= λ a. take k
 abbrev pub repeating : Parser (Block Name Name Name) → Parser Deed
 repeating block = test >>= λ r. take kind.Do >>= λ _. block >>= λ a. take kind.Od >>= λ _. give (repeat r a)
 
+-- a semicolon, behind what a statement does
+abbrev pub ended : Deed → Parser Deed
+ended d = take kind.Semicolon >>= λ _. give d
+
+-- a `goto`, behind that word
+abbrev pub jumping : Parser Deed
+jumping = name >>= λ l. take kind.Semicolon >>= λ _. give (simple (goto l))
+
+-- an `assert`, behind that word
+abbrev pub asserting : Parser Deed
+asserting = test >>= λ r. take kind.Semicolon >>= λ _. give (simple (assert r))
+
+-- an `assume`, behind that word
+abbrev pub assuming : Parser Deed
+assuming = test >>= λ r. take kind.Semicolon >>= λ _. give (simple (assume r))
+
 -- what a statement does that begins with this token
 abbrev pub deed_by : Parser (Block Name Name Name) → Tok → Parser Deed
 deed_by block t =
-    cond (same_kind t.kind kind.Skip) (take kind.Semicolon >>= λ _. give (simple skip))
-    (cond (same_kind t.kind kind.Return) (take kind.Semicolon >>= λ _. give (simple leave))
-    (cond (same_kind t.kind kind.Goto) (name >>= λ l. take kind.Semicolon >>= λ _. give (simple (goto l)))
-    (cond (same_kind t.kind kind.Assert) (test >>= λ r. take kind.Semicolon >>= λ _. give (simple (assert r)))
-    (cond (same_kind t.kind kind.Assume) (test >>= λ r. take kind.Semicolon >>= λ _. give (simple (assume r)))
+    cond (same_kind t.kind kind.Skip) (ended (simple skip))
+    (cond (same_kind t.kind kind.Return) (ended (simple leave))
+    (cond (same_kind t.kind kind.Goto) jumping
+    (cond (same_kind t.kind kind.Assert) asserting
+    (cond (same_kind t.kind kind.Assume) assuming
     (cond (same_kind t.kind kind.If) (branching block)
     (cond (same_kind t.kind kind.While) (repeating block)
     (cond (same_kind t.kind kind.Id) (named t)
@@ -161,6 +177,12 @@ section = fix section_step tt
 
 unfoldable pub deed : Parser Deed
 deed = deed_step section
+
+unfoldable pub if_deed : Parser Deed
+if_deed = branching section
+
+unfoldable pub while_deed : Parser Deed
+while_deed = repeating section
 
 unfoldable pub item : Parser Item
 item = item_step section

@@ -5,6 +5,7 @@ mod expression;
 mod fault;
 mod lists;
 mod reader;
+mod statement;
 mod tree;
 
 pub use fault::ReadFault;

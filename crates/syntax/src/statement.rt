@@ -86,7 +86,6 @@ impl<'a, A: Allocator + Clone> Reader<'a, A> {
     }
 
     /// Reads a `goto`, behind that word.
-    #[tactic(auto, unfolding(crate::specs::Exact::jumping))]
     fn jumping<'t>(
         &self,
         tokens: &'t [Token<'t>],
@@ -100,7 +99,6 @@ impl<'a, A: Allocator + Clone> Reader<'a, A> {
     }
 
     /// Reads an `assert`, behind that word.
-    #[tactic(auto, unfolding(crate::specs::Exact::asserting))]
     fn asserting<'t>(
         &self,
         tokens: &'t [Token<'t>],
@@ -114,7 +112,6 @@ impl<'a, A: Allocator + Clone> Reader<'a, A> {
     }
 
     /// Reads an `assume`, behind that word.
-    #[tactic(auto, unfolding(crate::specs::Exact::assuming))]
     fn assuming<'t>(
         &self,
         tokens: &'t [Token<'t>],
@@ -128,7 +125,6 @@ impl<'a, A: Allocator + Clone> Reader<'a, A> {
     }
 
     /// Reads the semicolon behind `skip` or `return`.
-    #[tactic(auto, unfolding(crate::specs::Exact::ended))]
     fn ended<'t>(
         &self,
         core: Core<A>,
@@ -143,6 +139,7 @@ impl<'a, A: Allocator + Clone> Reader<'a, A> {
 
     /// Reads statements, at least one, as long as another comes.
     #[cycle(statements)]
+    #[tactic(auto, using(crate::proofs::Goings::sections_start, crate::proofs::Goings::sections_no_start, crate::proofs::Goings::sections_go_on, crate::proofs::Goings::sections_refused, crate::proofs::Goings::sections_end))]
     pub fn statements<'t>(
         &self,
         tokens: &'t [Token<'t>],
