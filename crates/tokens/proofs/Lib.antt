@@ -5,3 +5,4 @@ pub mod Fronts
 pub mod InFront
 pub mod Reached
 pub mod Deep
+pub mod PartsCut

@@ -4,3 +4,4 @@ pub mod Cuts
 pub mod Piece
 pub mod Fault
 pub mod Depth
+pub mod Parts

@@ -3,6 +3,7 @@
 
 mod cutting;
 mod depth;
+mod parts;
 mod piece;
 mod text;
 mod vocabulary;
@@ -10,6 +11,7 @@ mod words;
 
 pub use cutting::{CutFault, cut};
 pub use depth::is_too_deep;
+pub use parts::parts_are_cut;
 pub use text::as_ascii;
 pub use vocabulary::{Kind, Token};
 
