@@ -148,7 +148,7 @@ section_reads ts us vs rest m d k marks plain here does more =
     , marked_starts marks here)
 
 -- behind such a token no statement comes
-stops : {k : Kind} {ts us : List Tok} → Takes k ts us → starts k ≡ false → starts_here ts ≡ false
+pub stops : {k : Kind} {ts us : List Tok} → Takes k ts us → starts k ≡ false → starts_here ts ≡ false
 stops (takes e) h = rw e h
 
 -- statements are read, where no other follows
@@ -209,3 +209,11 @@ statements_read (if_statement {ts = ts} {t1 = t1} {t8 = t8} {rest = rest} {m = m
 statements_read (while_statement {ts = ts} {t1 = t1} {t6 = t6} {rest = rest} {m = m} {r = r} {a = a} {k = k} marks i h th sa na od more) e =
     read_from ts rest (loop m r a k) (section_reads ts t1 t6 rest m (repeat r a) k marks (word_cases i refl refl) (word_here i refl)
         (while_reads i h th ((statements_read sa (stops od refl)).1 na) od) (statements_read more e).0)
+
+-- where there is a statement, its first token begins one
+pub statements_start : {ts rest : List Tok} {b : Block Name Name Name} → Statements ts b rest → IsSome b → starts_here ts ≡ true
+unfolding same_kind
+statements_start nothing_more n = absurd n
+statements_start (statement {us = us} {vs = vs} {s = s} marks h more) n = marked_starts marks (simple_here us vs s h)
+statements_start (if_statement marks i h th sa na el sb nb fi more) n = marked_starts marks (word_here i refl)
+statements_start (while_statement marks i h th sa na od more) n = marked_starts marks (word_here i refl)

@@ -10,3 +10,4 @@ pub mod Complete
 pub mod Loops
 pub mod Exits
 pub mod Goings
+pub mod Programs

@@ -198,13 +198,20 @@ declaration = take kind.Decl >>= λ _. names >>= λ ns. take kind.Semicolon >>= 
 unfoldable pub all_declarations : Parser (List Name)
 all_declarations = many (begins kind.Decl) declaration >>= λ nss. give (joined nss)
 
+-- what stands in a procedure: begin, its locals, its statements, end
+unfoldable pub insides : Parser (List Name × Block Name Name Name)
+insides = take kind.Begin >>= λ _. all_declarations >>= λ ls. section >>= λ b. take kind.End >>= λ _. give (ls, b)
+
 -- a procedure
 unfoldable pub procedure : Parser Procedure
-procedure = name >>= λ n. formals >>= λ fs. take kind.Begin >>= λ _. all_declarations >>= λ ls. section >>= λ b. take kind.End >>= λ _. give (record { name = n; formals = fs; locals = ls; body = b })
+procedure = name >>= λ n. formals >>= λ fs. insides >>= λ p. give (record { name = n; formals = fs; locals = p.0; body = p.1 })
 
 -- procedures, as long as a name comes
+unfoldable pub more_procedures : Parser (List Procedure)
+more_procedures = many (begins kind.Id) procedure
+
 unfoldable pub procedures : Parser (List Procedure)
-procedures = procedure >>= λ p. many (begins kind.Id) procedure >>= λ ps. give (p ∷ ps)
+procedures = procedure >>= λ p. more_procedures >>= λ ps. give (p ∷ ps)
 
 -- a thread line
 unfoldable pub thread_line : Parser ThreadLine
@@ -216,8 +223,11 @@ any_left [] = false
 any_left (t ∷ ts) = true
 
 -- thread lines, to the end
+unfoldable pub more_lines : Parser (List ThreadLine)
+more_lines = many any_left thread_line
+
 unfoldable pub thread_lines : Parser (List ThreadLine)
-thread_lines = thread_line >>= λ l. many any_left thread_line >>= λ ls. give (l ∷ ls)
+thread_lines = thread_line >>= λ l. more_lines >>= λ ls. give (l ∷ ls)
 
 -- a program, and the tokens after it, which are none
 unfoldable pub program : Parser Tree

@@ -4,6 +4,7 @@
 mod expression;
 mod fault;
 mod lists;
+mod program;
 mod reader;
 mod statement;
 mod tree;
