@@ -30,6 +30,14 @@ pushed f xs ys x e = viewed f xs x ∙ ap (map f) (sym e)
   viewed f [] x = refl
   viewed f (y ∷ xs) x = ap (λ ys. f y ∷ ys) (viewed f xs x)
 
+-- what an append leaves, seen by a view
+pub appended : {X Y : Type 0} (f : X → Y) (xs ys zs : List X) → zs ≡ xs ++ ys → map f xs ++ map f ys ≡ map f zs
+appended f xs ys zs e = viewed f xs ys ∙ ap (map f) (sym e)
+  where
+  viewed : {X Y : Type 0} (f : X → Y) (xs ys : List X) → map f xs ++ map f ys ≡ map f (xs ++ ys)
+  viewed f [] ys = refl
+  viewed f (x ∷ xs) ys = ap (λ zs. f x ∷ zs) (viewed f xs ys)
+
 prepend_more : {X : Type 0} (xs : List X) (x : X) (p : Parser (List X)) (us : List Tok) → prepend xs ((p >>= λ ys. give (x ∷ ys)) us) ≡ prepend (xs ++ (x ∷ [])) (p us)
 prepend_more {X} xs x p us = by_option (p us)
   where

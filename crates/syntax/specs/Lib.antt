@@ -3,3 +3,5 @@ pub mod Parser
 pub mod Grammar
 pub mod Exact
 pub mod Gives
+pub mod Text
+pub mod Cutting

@@ -2,6 +2,7 @@
 
 use std::alloc::{AllocError, AllocFailed};
 use thiserror::Error;
+use tokens::CutFault;
 
 /// Why a text is not read. They are tested in the order of their numbers; a place is an offset in bytes.
 #[derive(Debug, Drop, Error)]
@@ -42,5 +43,19 @@ impl<T: Drop> From<AllocFailed<T>> for ReadFault {
 
     fn from(_e: AllocFailed<T>) -> ReadFault {
         ReadFault::Memory
+    }
+}
+
+impl From<CutFault> for ReadFault {
+    ghost use Rattle.std.specs.Prelude.{◌≡◌};
+    ghost use Rattle.syntax.specs.Cutting.{fault_of};
+
+    ghost from_gives = { λ c e. e ≡ fault_of c };
+
+    fn from(fault: CutFault) -> ReadFault {
+        match fault {
+            CutFault::Memory => ReadFault::Memory,
+            CutFault::Syntax(at) => ReadFault::Syntax(at),
+        }
     }
 }

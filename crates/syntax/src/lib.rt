@@ -6,8 +6,10 @@ mod fault;
 mod lists;
 mod program;
 mod reader;
+mod reading;
 mod statement;
 mod tree;
 
 pub use fault::ReadFault;
+pub use reading::read;
 pub use tree::{Core, Expr, Name, Op, Proc, Program, Rhs, Stmt, Thread};

@@ -15,6 +15,7 @@ use crate::fault::ReadFault;
 use crate::tree::Name;
 
 /// What all readers share: where trees are allocated, and the length of the text.
+#[derive(Drop)]
 pub struct Reader<'a, A: Allocator + Clone> {
     pub alloc: &'a A,
     pub end: u32,
