@@ -11,3 +11,4 @@ pub mod Loops
 pub mod Exits
 pub mod Goings
 pub mod Programs
+pub mod Texts
