@@ -5,10 +5,11 @@ use Rattle.std.proofs.lemmas.Bool.Decides.{nat_tests}
 use Rattle.language.specs.Tree.{Name, Operator, implies, or, xor, and, equal, differs, Expression, const, var, negation, two}
 use Rattle.tokens.specs.declared.vocabulary.Kind.{Kind}
 use Rattle.tokens.specs.declared.vocabulary.Kind.TheVariants as kind
-use Rattle.tokens.specs.Token.{Tok, same_kind}
+use Rattle.tokens.specs.declared.vocabulary.Token.{Token}
+use Rattle.tokens.specs.Token.{Tok, same_kind, tok_of, toks_of}
 use Rattle.syntax.specs.Parser.{Parser, give, refuse, ◌>>=◌, take, fix}
 use Rattle.syntax.specs.Grammar.{Takes, takes, name_at, operator_at, level, left_level, right_level, Reads, reads_zero, reads_one, reads_name, reads_not, reads_paren, reads_two}
-use Rattle.syntax.specs.Exact.{Goal, from, after, binds, operand_step, go_on, expression_step, reading}
+use Rattle.syntax.specs.Exact.{Goal, from, after, binds, operand_step, go_on, expression_step, reading, operand}
 use Rattle.syntax.proofs.KindTests.{same_kind-true, same_kind-is}
 use Rattle.syntax.proofs.Fixes.{both, Between, between, bind_is, Shrinks, Strict, Agree, Strict-Shrinks, Shrinks-give, Shrinks-refuse, Strict-take, Shrinks-bind, Agree-same, Agree-bind, Shrinks-cond, Agree-cond, IsStep, fix_shrinks, fix_is, Finds, fix_finds, carried}
 
@@ -359,3 +360,44 @@ step_finds f sound (after l a) (t ∷ us) e rest h = λ ts ready. go_on_finds f 
 pub reading_finds : (l : ℕ) (ts : List Tok) (e : Expression Name) (rest : List Tok) → reading (from l) ts ≡ Some (e, rest) → Reads l ts e rest × Stops l rest
 unfolding reading
 reading_finds l ts e rest h = fix_finds expression_step Found step_finds (from l) ts e rest h
+
+-- the steps of reading, as the loop takes them
+pub starts : (l : ℕ) (ts : List Tok) (a : Expression Name) (rest : List Tok) → operand ts ≡ Some (a, rest) → reading (from l) ts ≡ reading (after l a) rest
+unfolding operand
+starts l [] a rest e = cc
+starts l (t ∷ ts) a rest e = reading_starts l a t ts rest e
+
+pub no_start : (l : ℕ) (ts : List Tok) → operand ts ≡ None → reading (from l) ts ≡ None
+unfolding operand
+no_start l [] e = reading_is (from l) []
+no_start l (t ∷ ts) e = reading_is (from l) (t ∷ ts) ∙ rw e refl
+
+pub stops_here : (l : ℕ) (a : Expression Name) (t : Tok) (us : List Tok) → binds l t.kind ≡ None → reading (after l a) (t ∷ us) ≡ Some (a, t ∷ us)
+stops_here l a t us e = reading_stops l a (t ∷ us) (stops_at e)
+
+pub stops_at_end : (l : ℕ) (a : Expression Name) → reading (after l a) [] ≡ Some (a, [])
+stops_at_end l a = reading_stops l a [] stops_end
+
+pub goes_on : (l : ℕ) (a b : Expression Name) (t : Tok) (us rest : List Tok) (o : Operator) → binds l t.kind ≡ Some o → reading (from (right_level o)) us ≡ Some (b, rest) → reading (after l a) (t ∷ us) ≡ reading (after l (two o a b)) rest
+goes_on l a b t us rest o e f =
+    reading_is (after l a) (t ∷ us) ∙ ap (go_on reading l a t us) e
+    ∙ bind_is (reading (from (right_level o))) (λ b. reading (after l (two o a b))) us b rest f
+
+pub no_right : (l : ℕ) (a : Expression Name) (t : Tok) (us : List Tok) (o : Operator) → binds l t.kind ≡ Some o → reading (from (right_level o)) us ≡ None → reading (after l a) (t ∷ us) ≡ None
+no_right l a t us o e f = reading_is (after l a) (t ∷ us) ∙ ap (go_on reading l a t us) e ∙ rw f refl
+
+pub ends_empty : (l : ℕ) (a : Expression Name) (ts : List Token) → length ts ≡ 0 → reading (after l a) (toks_of ts) ≡ Some (a, toks_of ts)
+ends_empty l a [] e = stops_at_end l a
+ends_empty l a (t ∷ ts) e = absurd (omega arith)
+
+pub ends_before : (l : ℕ) (a : Expression Name) (ts us : List Token) (t : Token) → ts ≡ t ∷ us → binds l t.kind ≡ None → reading (after l a) (toks_of ts) ≡ Some (a, toks_of ts)
+ends_before l a ts us t e h = rw e (stops_here l a (tok_of t) (toks_of us) h)
+
+pub reading_strict : (l : ℕ) → Strict (reading (from l))
+reading_strict l = record { by = λ ts a rest e. by_list l ts a rest (sym (reading_is (from l) ts) ∙ e) }
+  where
+  by_list : (l : ℕ) (ts : List Tok) (a : Expression Name) (rest : List Tok) → expression_step reading (from l) ts ≡ Some (a, rest) → length rest < length ts
+  by_list l [] a rest e = cc
+  by_list l (t ∷ ts) a rest e =
+      let j : length rest ≤ length ts = (Shrinks-bind (operand_shrinks reading reading_shrinks t) (λ a. reading_shrinks (after l a))).by ts a rest e in
+      omega arith

@@ -1,3 +1,14 @@
 pub mod Fixes
 pub mod KindTests
 pub mod Expressions
+pub mod Folds
+pub mod Exactly
+pub mod Parts
+pub mod Sections
+pub mod Sound
+pub mod Complete
+pub mod Loops
+pub mod Exits
+pub mod Goings
+pub mod Programs
+pub mod Texts

@@ -1,11 +1,12 @@
 -- The grammar once more, as functions.
-use Rattle.std.specs.Prelude.{ℕ, Bool, true, false, nat_le, List, [], ◌∷◌, cond, Option, Some, None, option_and_then}
-use Rattle.language.specs.Tree.{Name, Operator, Expression, const, var, negation, two}
+use Rattle.std.specs.Prelude.{ℕ, Bool, true, false, nat_le, ◌&&◌, ◌||◌, List, [], ◌∷◌, ◌++◌, cond, Option, Some, None, option_and_then}
+use Rattle.language.specs.Tree.{Name, Operator, Expression, const, var, negation, two, RightSide, any, value, skip, assign, assert, assume, goto, leave, call, Mark, Block, done, Procedure, ThreadLine, Tree}
 use Rattle.tokens.specs.declared.vocabulary.Kind.{Kind}
 use Rattle.tokens.specs.declared.vocabulary.Kind.TheVariants as kind
 use Rattle.tokens.specs.Token.{Tok, same_kind}
-use Rattle.syntax.specs.Parser.{Parser, give, refuse, ◌>>=◌, take, fix}
-use Rattle.syntax.specs.Grammar.{name_at, operator_at, level, right_level}
+use Rattle.syntax.specs.Parser.{Parser, give, refuse, ◌>>=◌, begins, take, fix, many}
+use Rattle.syntax.specs.Grammar.{name_at, operator_at, level, right_level, joined}
+use Rattle.syntax.specs.Trees.{Deed, simple, branch, repeat, Item, before, all_before}
 
 -- What is read: an expression of this level, or what follows the expression read so far.
 pub data Goal : Type 0 where
@@ -39,3 +40,219 @@ expression_step rec (after l a) (t ∷ ts) = go_on rec l a t ts (binds l t.kind)
 
 unfoldable pub reading : Goal → Parser (Expression Name)
 reading = fix expression_step
+
+-- an operand
+unfoldable pub operand : Parser (Expression Name)
+operand [] = None
+operand (t ∷ ts) = operand_step reading t ts
+
+-- a name
+abbrev pub name : Parser Name
+name = take kind.Id >>= λ t. give (name_at t)
+
+-- p behind a comma, again and again
+abbrev pub more : {X : Type 0} → Parser X → Parser (List X)
+more p = many (begins kind.Comma) (take kind.Comma >>= λ _. p)
+
+-- p once or more often, with a comma before each but the first
+abbrev pub list : {X : Type 0} → Parser X → Parser (List X)
+list p = p >>= λ x. more p >>= λ xs. give (x ∷ xs)
+
+-- p in parentheses
+abbrev pub parens : {X : Type 0} → Parser X → Parser X
+parens p = take kind.Open >>= λ _. p >>= λ x. take kind.Close >>= λ _. give x
+
+-- nothing before a closing parenthesis, and else a list
+abbrev pub perhaps : {X : Type 0} → Parser X → Parser (List X)
+perhaps p ts = cond (begins kind.Close ts) (Some ([], ts)) (list p ts)
+
+-- an expression
+abbrev pub expression : Parser (Expression Name)
+expression = reading (from 0)
+
+-- a right side
+abbrev pub right : Parser (RightSide Name)
+right ts = cond (begins kind.Any ts) ((take kind.Any >>= λ _. give any) ts) ((expression >>= λ e. give (value e)) ts)
+
+-- the names, right sides and expressions of lists, and those in lists that may be empty
+unfoldable pub names : Parser (List Name)
+names = list name
+
+unfoldable pub rights : Parser (List (RightSide Name))
+rights = list right
+
+unfoldable pub formals : Parser (List Name)
+formals = parens (perhaps name)
+
+unfoldable pub arguments : Parser (List (Expression Name))
+arguments = parens (perhaps expression)
+
+unfoldable pub test : Parser (RightSide Name)
+test = parens right
+
+-- the mark of a statement
+unfoldable pub marked : Parser (Mark Name)
+marked [] = None
+marked (t ∷ ts) = cond (same_kind t.kind kind.Id && begins kind.Colon ts)
+    ((take kind.Colon >>= λ _. give (record { label = Some (name_at t); at = t.at })) ts)
+    (Some (record { label = None; at = t.at }, t ∷ ts))
+
+-- an assignment
+unfoldable pub assignment : Parser Deed
+assignment = names >>= λ xs. take kind.Assign >>= λ _. rights >>= λ rs. take kind.Semicolon >>= λ _. give (simple (assign xs rs))
+
+-- a call
+unfoldable pub calling : Parser Deed
+calling = name >>= λ p. arguments >>= λ es. take kind.Semicolon >>= λ _. give (simple (call p es))
+
+-- an assignment or a call, by the token after the name
+unfoldable pub named : Tok → List Tok → Option (Deed × List Tok)
+named t ts = cond (begins kind.Open ts) (calling (t ∷ ts)) (assignment (t ∷ ts))
+
+-- an `if`, behind that word
+abbrev pub branching : Parser (Block Name Name Name) → Parser Deed
+branching block = test >>= λ r. take kind.Then >>= λ _. block >>= λ a. take kind.Else >>= λ _. block >>= λ b. take kind.Fi >>= λ _. give (branch r a b)
+
+-- a `while`, behind that word
+abbrev pub repeating : Parser (Block Name Name Name) → Parser Deed
+repeating block = test >>= λ r. take kind.Do >>= λ _. block >>= λ a. take kind.Od >>= λ _. give (repeat r a)
+
+-- a semicolon, behind what a statement does
+abbrev pub ended : Deed → Parser Deed
+ended d = take kind.Semicolon >>= λ _. give d
+
+-- a `goto`, behind that word
+abbrev pub jumping : Parser Deed
+jumping = name >>= λ l. take kind.Semicolon >>= λ _. give (simple (goto l))
+
+-- an `assert`, behind that word
+abbrev pub asserting : Parser Deed
+asserting = test >>= λ r. take kind.Semicolon >>= λ _. give (simple (assert r))
+
+-- an `assume`, behind that word
+abbrev pub assuming : Parser Deed
+assuming = test >>= λ r. take kind.Semicolon >>= λ _. give (simple (assume r))
+
+-- what a statement does that begins with this token
+abbrev pub deed_by : Parser (Block Name Name Name) → Tok → Parser Deed
+deed_by block t =
+    cond (same_kind t.kind kind.Skip) (ended (simple skip))
+    (cond (same_kind t.kind kind.Return) (ended (simple leave))
+    (cond (same_kind t.kind kind.Goto) jumping
+    (cond (same_kind t.kind kind.Assert) asserting
+    (cond (same_kind t.kind kind.Assume) assuming
+    (cond (same_kind t.kind kind.If) (branching block)
+    (cond (same_kind t.kind kind.While) (repeating block)
+    (cond (same_kind t.kind kind.Id) (named t)
+    refuse)))))))
+
+-- what a statement does
+abbrev pub deed_step : Parser (Block Name Name Name) → Parser Deed
+deed_step block [] = None
+deed_step block (t ∷ ts) = deed_by block t ts
+
+-- whether a token of this kind begins a statement
+abbrev pub starts : Kind → Bool
+starts k = same_kind k kind.Skip || same_kind k kind.Return || same_kind k kind.Goto || same_kind k kind.Assert || same_kind k kind.Assume || same_kind k kind.If || same_kind k kind.While || same_kind k kind.Id
+
+-- whether a statement comes next
+abbrev pub starts_here : List Tok → Bool
+starts_here [] = false
+starts_here (t ∷ ts) = starts t.kind
+
+-- a statement
+abbrev pub item_step : Parser (Block Name Name Name) → Parser Item
+item_step block = marked >>= λ m. deed_step block >>= λ d. give (record { mark = m; deed = d })
+
+-- the statements that go on, if another comes
+abbrev pub rest_step : Parser (Block Name Name Name) → Parser (Block Name Name Name)
+rest_step block ts = cond (starts_here ts) (block ts) (Some (done, ts))
+
+-- one statement or more
+abbrev pub section_step : (Unit {0} → Parser (Block Name Name Name)) → Unit {0} → Parser (Block Name Name Name)
+section_step rec u = item_step (rec tt) >>= λ i. rest_step (rec tt) >>= λ k. give (before i k)
+
+unfoldable pub section : Parser (Block Name Name Name)
+section = fix section_step tt
+
+unfoldable pub deed : Parser Deed
+deed = deed_step section
+
+unfoldable pub if_deed : Parser Deed
+if_deed = branching section
+
+unfoldable pub while_deed : Parser Deed
+while_deed = repeating section
+
+unfoldable pub item : Parser Item
+item = item_step section
+
+unfoldable pub going_on : Parser (Block Name Name Name)
+going_on = rest_step section
+
+-- a declaration
+unfoldable pub declaration : Parser (List Name)
+declaration = take kind.Decl >>= λ _. names >>= λ ns. take kind.Semicolon >>= λ _. give ns
+
+-- declarations, as long as there are any
+unfoldable pub all_declarations : Parser (List Name)
+all_declarations = many (begins kind.Decl) declaration >>= λ nss. give (joined nss)
+
+-- what stands in a procedure: begin, its locals, its statements, end
+unfoldable pub insides : Parser (List Name × Block Name Name Name)
+insides = take kind.Begin >>= λ _. all_declarations >>= λ ls. section >>= λ b. take kind.End >>= λ _. give (ls, b)
+
+-- a procedure
+unfoldable pub procedure : Parser Procedure
+procedure = name >>= λ n. formals >>= λ fs. insides >>= λ p. give (record { name = n; formals = fs; locals = p.0; body = p.1 })
+
+-- procedures, as long as a name comes
+unfoldable pub more_procedures : Parser (List Procedure)
+more_procedures = many (begins kind.Id) procedure
+
+unfoldable pub procedures : Parser (List Procedure)
+procedures = procedure >>= λ p. more_procedures >>= λ ps. give (p ∷ ps)
+
+-- a thread line
+unfoldable pub thread_line : Parser ThreadLine
+thread_line = take kind.Thread >>= λ t. name >>= λ n. take kind.Semicolon >>= λ _. give (record { at = t.at; name = n })
+
+-- whether any token comes
+abbrev pub any_left : List Tok → Bool
+any_left [] = false
+any_left (t ∷ ts) = true
+
+-- thread lines, to the end
+unfoldable pub more_lines : Parser (List ThreadLine)
+more_lines = many any_left thread_line
+
+unfoldable pub thread_lines : Parser (List ThreadLine)
+thread_lines = thread_line >>= λ l. more_lines >>= λ ls. give (l ∷ ls)
+
+-- a program, and the tokens after it, which are none
+unfoldable pub program : Parser Tree
+program = all_declarations >>= λ gs. procedures >>= λ ps. thread_lines >>= λ ls. give (record { globals = gs; procedures = ps; threads = ls })
+
+-- a list, with others in front
+abbrev pub prepend : {X : Type 0} → List X → Option (List X × List Tok) → Option (List X × List Tok)
+prepend xs None = None
+prepend xs (Some p) = Some (xs ++ p.0, p.1)
+
+-- statements, with others in front
+abbrev pub put_before : List Item → Option (Block Name Name Name × List Tok) → Option (Block Name Name Name × List Tok)
+put_before is None = None
+put_before is (Some p) = Some (all_before is p.0, p.1)
+
+-- the names, right sides and expressions that follow in a list
+unfoldable pub more_names : Parser (List Name)
+more_names = more name
+
+unfoldable pub more_rights : Parser (List (RightSide Name))
+more_rights = more right
+
+unfoldable pub more_expressions : Parser (List (Expression Name))
+more_expressions = more expression
+
+-- the expressions of a list
+unfoldable pub expressions : Parser (List (Expression Name))
+expressions = list expression

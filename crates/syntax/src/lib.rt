@@ -1,6 +1,15 @@
 //! Reads texts of the language into trees.
 #![tactic(auto)]
 
+mod expression;
+mod fault;
+mod lists;
+mod program;
+mod reader;
+mod reading;
+mod statement;
 mod tree;
 
+pub use fault::ReadFault;
+pub use reading::read;
 pub use tree::{Core, Expr, Name, Op, Proc, Program, Rhs, Stmt, Thread};

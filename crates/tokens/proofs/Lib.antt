@@ -4,3 +4,5 @@ pub mod Runs
 pub mod Fronts
 pub mod InFront
 pub mod Reached
+pub mod Deep
+pub mod PartsCut

@@ -1,13 +1,16 @@
 -- How far a text has been cut.
 use Rattle.std.proofs.Common.{◌≡◌, true, ℕ, ◌+◌, ◌-◌, ◌<◌, List, [], ◌∷◌, ◌++◌, length, take, drop, refl, sym, ap, subst, ◌∙◌, arith, append_assoc, append-nil, length-append}
 use Rattle.std.proofs.Math.Seq.{drop-append_seam}
-use Rattle.std.proofs.lemmas.List.{take-append-drop, append_cancel_left}
+use Rattle.std.proofs.lemmas.List.{take-append-drop, append_cancel_left, map_push}
 use Rattle.std.specs.Prelude.{◌==◌}
 use Rattle.std.specs.Str.{IsAscii}
 use Rattle.std.proofs.lemmas.Bool.Decides.{nat_tests}
 use Rattle.std.proofs.lemmas.Str.{IsAscii-drop}
 use Rattle.tokens.specs.declared.vocabulary.Kind.{Kind}
-use Rattle.tokens.specs.Token.{Tok}
+use Rattle.std.specs.List.{slice_range}
+use Rattle.tokens.specs.declared.vocabulary.Token.{Token}
+use Rattle.tokens.specs.Token.{Tok, tok_of, toks_of}
+use Rattle.tokens.proofs.Runs.{from_start}
 use Rattle.tokens.specs.Cuts.{IsGap, IsToken, Cuts, nothing, gap, token, IsBad, BadAt, past_gap, past_token}
 use Rattle.tokens.proofs.Fronts.{gap_some, token_some, token_no_gap, one_gap, one_token, token_long}
 
@@ -118,10 +121,16 @@ over_gap text so_far at bs n rest r is e =
     subst (λ v. Reached text so_far (length text - length v) v) (sym e) (subst (λ m. Reached text so_far m (drop n bs)) place next)
 
 -- A step over a token of n bytes.
-pub over_token : (text : List ℕ) (so_far : List Tok) (at : ℕ) (bs : List ℕ) (k : Kind) (n : ℕ) (front rest : List ℕ) → Reached text so_far at bs → IsToken k (take n bs) (drop n bs) → front ≡ take n bs → rest ≡ drop n bs → Reached text (so_far ++ record { kind = k; at = at; text = front } ∷ []) (length text - length rest) rest
+over_token : (text : List ℕ) (so_far : List Tok) (at : ℕ) (bs : List ℕ) (k : Kind) (n : ℕ) (front rest : List ℕ) → Reached text so_far at bs → IsToken k (take n bs) (drop n bs) → front ≡ take n bs → rest ≡ drop n bs → Reached text (so_far ++ record { kind = k; at = at; text = front } ∷ []) (length text - length rest) rest
 over_token text so_far at bs k n front rest r is e f =
     let next : Reached text (so_far ++ record { kind = k; at = at; text = take n bs } ∷ []) (at + length (take n bs)) (drop n bs) = step_token text so_far at bs (take n bs) (drop n bs) (sym (take-append-drop n bs)) r k is in
     let place : at + length (take n bs) ≡ length text - length (drop n bs) = omega (arith, next.within) in
     subst (λ v. Reached text (so_far ++ record { kind = k; at = at; text = v } ∷ []) (length text - length rest) rest) (sym e)
     (subst (λ v. Reached text (so_far ++ record { kind = k; at = at; text = take n bs } ∷ []) (length text - length v) v) (sym f)
     (subst (λ m. Reached text (so_far ++ record { kind = k; at = at; text = take n bs } ∷ []) m (drop n bs)) place next))
+
+-- The token pushed, and the text behind it left.
+pub pushed : (text : List ℕ) (items after : List Token) (t : Token) (bs : List ℕ) (n : ℕ) (rest : List ℕ) → Reached text (toks_of items) t.at bs → IsToken t.kind (take n bs) (drop n bs) → t.text.now ≡ slice_range bs 0 n → rest ≡ drop n bs → after ≡ items ++ t ∷ [] → Reached text (toks_of after) (length text - length rest) rest
+pushed text items after t bs n rest r is e f grown =
+    subst (λ ts. Reached text ts (length text - length rest) rest) (sym (ap toks_of grown ∙ map_push tok_of items t))
+    (over_token text (toks_of items) t.at bs t.kind n t.text.now rest r is (e ∙ from_start bs n) f)

@@ -3,3 +3,5 @@ pub mod Spelling
 pub mod Cuts
 pub mod Piece
 pub mod Fault
+pub mod Depth
+pub mod Parts

@@ -2,9 +2,18 @@
 #![tactic(auto)]
 
 mod cutting;
+mod depth;
+mod parts;
 mod piece;
+mod text;
 mod vocabulary;
 mod words;
 
 pub use cutting::{CutFault, cut};
+pub use depth::is_too_deep;
+pub use parts::parts_are_cut;
+pub use text::as_ascii;
 pub use vocabulary::{Kind, Token};
+
+#[cfg(test)]
+mod tests;

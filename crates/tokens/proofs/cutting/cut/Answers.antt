@@ -1,10 +1,8 @@
-use Rattle.std.proofs.Common.{◌≡◌, length, ◌-◌, [], arith, sym, ap, subst, is_ok, ◌∙◌}
+use Rattle.std.proofs.Common.{◌≡◌, length, ◌-◌, [], arith, sym, ap, subst, is_ok}
 use Rattle.std.proofs.ResultArms.{chosen}
-use Rattle.std.proofs.lemmas.List.{map_push}
 use Rattle.tokens.specs.Cuts.{here}
-use Rattle.tokens.specs.Token.{tok_of, toks_of}
-use Rattle.tokens.proofs.Runs.{from_start}
-use Rattle.tokens.proofs.Reached.{Reached, start, over_gap, over_token, at_end, all_cut, only_cut, token_shortens}
+use Rattle.tokens.specs.Token.{toks_of}
+use Rattle.tokens.proofs.Reached.{Reached, start, over_gap, pushed, at_end, all_cut, only_cut, token_shortens}
 use Rattle.tokens.proofs.cutting.cut.Goals as goal
 
 pub loop-rest-init : goal.loop-rest-init
@@ -22,11 +20,8 @@ loop-rest-smaller g c = token_shortens _ _ _ _ c.in-Word.ensures.1 c.range_from-
 
 pub loop-rest-preserved : goal.loop-rest-preserved
 loop-rest-preserved g c =
-    let pushed = chosen _ _ _ _ c.push.ensures.items (ap is_ok c.in_ok-push-in-Word.was) in (
-      c.range_from-rest-in-Word.utf8,
-      subst (λ ts. Reached c.args.text.now ts (length c.args.text.now - length c.range_from-rest-in-Word.result.now) c.range_from-rest-in-Word.result.now) (sym (ap toks_of pushed ∙ map_push tok_of _ _))
-          (over_token _ _ _ _ _ _ _ _ c.loop-rest.invariant.1 c.in-Word.ensures.1 (c.range-word.ensures.value ∙ from_start _ _) c.range_from-rest-in-Word.ensures.value),
-    )
+    let grown = chosen _ _ _ _ c.push.ensures.items (ap is_ok c.in_ok-push-in-Word.was) in
+    (c.range_from-rest-in-Word.utf8, pushed _ _ _ _ _ _ _ c.loop-rest.invariant.1 c.in-Word.ensures.1 c.range-word.ensures.value c.range_from-rest-in-Word.ensures.value grown)
 
 pub returns-in-Bad-clause-place : goal.returns-in-Bad-clause-place
 returns-in-Bad-clause-place g c = c.loop-rest.invariant.1.bad _ (here c.in-Bad.ensures)

@@ -1,0 +1,12 @@
+-- Where a part is refused, so is the whole.
+use Rattle.std.proofs.Common.{◌≡◌, Option, None, Some}
+use Rattle.syntax.specs.Gives.{Fails}
+use Rattle.syntax.specs.declared.fault.ReadFault.{ReadFault}
+use Rattle.syntax.specs.declared.fault.ReadFault.TheVariants as fault
+
+pub fails_on : {Y Z : Type 0} (e : ReadFault) (given : Option Y) (other : Option Z) → (given ≡ None → other ≡ None) → Fails e given → Fails e other
+fails_on (fault.Syntax at) given other h f = h f
+fails_on fault.Memory given other h f = tt
+fails_on fault.TooLong given other h f = absurd f
+fails_on fault.NotAscii given other h f = absurd f
+fails_on fault.TooDeep given other h f = absurd f

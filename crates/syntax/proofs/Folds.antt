@@ -1,0 +1,34 @@
+-- The equations of the folds, at the values that the code makes.
+use Rattle.std.proofs.Common.{◌≡◌, List, [], ◌∷◌, ◌++◌, map, refl, sym, ◌∙◌, ap}
+use Rattle.std.specs.declared.boxed.Box.{Box}
+use Rattle.std.specs.declared.vec.Vec.{Vec}
+use Rattle.language.specs.Tree.{Name, Expression, two, skip, leave}
+use Rattle.syntax.specs.Trees.{operator_of, expr_step, expr_of, rhs_of, Deed, simple, branch, repeat, Item, core_step, stmt_step, deed_of, block_of}
+use Rattle.syntax.specs.declared.tree.Op.{Op}
+use Rattle.syntax.specs.declared.tree.Expr.{Expr}
+use Rattle.syntax.specs.declared.tree.Expr.TheVariants.{Two, rolls-Two}
+use Rattle.syntax.specs.declared.tree.Expr.TheOpen as open_expr
+use Rattle.syntax.specs.declared.tree.Rhs.{Rhs}
+use Rattle.syntax.specs.declared.tree.Stmt.{Stmt}
+use Rattle.syntax.specs.declared.tree.Core.TheVariants as core
+use Rattle.syntax.specs.declared.tree.Core.TheVariants.{rolls-Skip, rolls-Return, If, rolls-If, While, rolls-While}
+use Rattle.syntax.specs.declared.tree.Core.TheOpen as open_core
+use Rattle.syntax.specs.declared.tree.Core.TheFolds.{fold-roll-Core}
+use Rattle.syntax.specs.declared.tree.Expr.TheFolds.{fold-roll-Expr}
+
+pub expr_of-Two : {A : Type 0} (o : Op) (a b : Box (Expr A) A) (x y : Expr A) → a.value ≡ x → b.value ≡ y → expr_of (Two o a b) ≡ two (operator_of o) (expr_of x) (expr_of y)
+expr_of-Two {A} o a b x y e f =
+    ap expr_of (sym (rolls-Two o a b)) ∙ fold-roll-Expr A (Expression Name) expr_step (open_expr.Two o a b)
+    ∙ rw (e, f) refl
+
+pub deed_of-Skip : (A : Type 0) → deed_of {A = A} core.Skip ≡ simple skip
+deed_of-Skip A = ap deed_of (sym rolls-Skip) ∙ fold-roll-Core A Deed Item core_step stmt_step open_core.Skip
+
+pub deed_of-Return : (A : Type 0) → deed_of {A = A} core.Return ≡ simple leave
+deed_of-Return A = ap deed_of (sym rolls-Return) ∙ fold-roll-Core A Deed Item core_step stmt_step open_core.Return
+
+pub deed_of-If : {A : Type 0} (r : Rhs A) (a b : Vec (Stmt A) A) → deed_of (If r a b) ≡ branch (rhs_of r) (block_of a.items) (block_of b.items)
+deed_of-If {A} r a b = ap deed_of (sym (rolls-If r a b)) ∙ fold-roll-Core A Deed Item core_step stmt_step (open_core.If r a b)
+
+pub deed_of-While : {A : Type 0} (r : Rhs A) (a : Vec (Stmt A) A) → deed_of (While r a) ≡ repeat (rhs_of r) (block_of a.items)
+deed_of-While {A} r a = ap deed_of (sym (rolls-While r a)) ∙ fold-roll-Core A Deed Item core_step stmt_step (open_core.While r a)

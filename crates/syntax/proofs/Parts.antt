@@ -1,0 +1,147 @@
+-- The parts of statements, read just as the grammar says.
+use Rattle.std.proofs.Common.{◌≡◌, ℕ, zero, suc, ◌+◌, ◌<◌, ◌≤◌, Bool, true, false, cond, ◌||◌, List, [], ◌∷◌, ◌++◌, length, Option, Some, None, refl, sym, ◌∙◌, ap, arith, rules, ◌⊎◌, inl, inr}
+use Rattle.language.specs.Tree.{Name, Expression, RightSide, any, value}
+use Rattle.tokens.specs.declared.vocabulary.Kind.{Kind}
+use Rattle.tokens.specs.declared.vocabulary.Kind.TheVariants as kind
+use Rattle.tokens.specs.Token.{Tok, same_kind}
+use Rattle.syntax.specs.Parser.{Parser, give, refuse, ◌>>=◌, begins, take}
+use Rattle.syntax.specs.Grammar.{Takes, takes, name_at, Reads, reads_zero, reads_one, reads_name, reads_not, reads_paren, reads_two, IsName, is_name, InParens, Listed, Perhaps, IsExpression, IsRight, is_any, is_value}
+use Rattle.syntax.specs.Exact.{Goal, from, after, binds, expression_step, reading, name, names, expression, right, rights, formals, arguments, test}
+use Rattle.syntax.proofs.KindTests.{same_kind-true, same_kind-is}
+use Rattle.syntax.proofs.Fixes.{both, carried, Between, between, bind_is, Shrinks, Strict, Strict-Shrinks, Shrinks-give, Strict-take, Shrinks-bind, Strict-bind}
+use Rattle.syntax.proofs.Expressions.{Stops, stops_end, stops_at, take_is, take_finds, reading_finds, reading_complete, reading_shrinks, reading_strict}
+use Rattle.syntax.proofs.Exactly.{Exactly, Anything, chosen, begins_takes, begins_take, NoComma, exactly_list, exactly_parens, exactly_perhaps, Strict-list, strict_parens, shrinks_perhaps}
+
+-- names
+pub strict_name : Strict name
+strict_name = Strict-bind (Strict-take kind.Id) (λ t. Shrinks-give (name_at t))
+
+pub exactly_name : Exactly IsName Anything name
+exactly_name = record {
+    finds = λ ts x rest e.
+        let b = between (take kind.Id) (λ t. give (name_at t)) ts x rest e in
+        let f = take_finds kind.Id ts b.x b.us b.first in
+        carried (λ x rest. IsName ts x rest) b.second (found ts b.x b.us f.0 f.1);
+    reads = went;
+  }
+  where
+  kind_of : {ts rest : List Tok} (t : Tok) → Takes kind.Id ts rest → ts ≡ t ∷ rest → t.kind ≡ kind.Id
+  kind_of t (takes {t = u} e) same = let h : u ≡ t = cc in rw (← h) e
+  found : (ts : List Tok) (t : Tok) (us : List Tok) → Takes kind.Id ts us → ts ≡ t ∷ us → IsName ts (name_at t) us
+  found ts t us h e = rw e (is_name (kind_of t h e))
+  went : (ts : List Tok) (x : Name) (rest : List Tok) → IsName ts x rest → Unit {0} → name ts ≡ Some (x, rest)
+  went ts x rest (is_name {t = t} e) u = bind_is (take kind.Id) (λ t. give (name_at t)) (t ∷ rest) t rest (rw (same_kind-is e) refl)
+
+-- the kinds that begin an expression
+abbrev opens : Kind → Bool
+opens k = same_kind k kind.Zero || same_kind k kind.One || same_kind k kind.Id || same_kind k kind.Not || same_kind k kind.Open
+
+apart : (j k : Kind) → opens j ≡ true → opens k ≡ false → same_kind j k ≡ false
+apart j k e f = by_test j k (same_kind j k) refl e f
+  where
+  by_test : (j k : Kind) (b : Bool) → same_kind j k ≡ b → opens j ≡ true → opens k ≡ false → b ≡ false
+  by_test j k false s e f = refl
+  by_test j k true s e f = let h : j ≡ k = same_kind-true s in let i : opens k ≡ true = rw h at e in cc
+
+pub begins_no : {l : ℕ} {ts rest : List Tok} {e : Expression Name} (k : Kind) → opens k ≡ false → Reads l ts e rest → begins k ts ≡ false
+unfolding same_kind
+begins_no k h (reads_zero {t = t} e) = apart t.kind k (rw e refl) h
+begins_no k h (reads_one {t = t} e) = apart t.kind k (rw e refl) h
+begins_no k h (reads_name {t = t} e) = apart t.kind k (rw e refl) h
+begins_no k h (reads_not {t = t} e r) = apart t.kind k (rw e refl) h
+begins_no k h (reads_paren {t = t} e r c) = apart t.kind k (rw e refl) h
+begins_no k h (reads_two o low left op r) = begins_no k h left
+
+-- expressions
+pub strict_expression : Strict expression
+strict_expression = reading_strict 0
+
+pub exactly_expression : Exactly IsExpression (Stops 0) expression
+exactly_expression = record {
+    finds = λ ts x rest e. (reading_finds 0 ts x rest e).0;
+    reads = λ ts x rest r s. reading_complete r s;
+  }
+
+-- right sides
+pub strict_right : Strict right
+strict_right = record { by = λ ts x rest e. by_choice ts x rest (chosen (begins kind.Any ts) ((take kind.Any >>= λ _. give any) ts) ((expression >>= λ e. give (value e)) ts) (Some (x, rest)) e) }
+  where
+  by_choice : (ts : List Tok) (x : RightSide Name) (rest : List Tok) → ((begins kind.Any ts ≡ true) × ((take kind.Any >>= λ _. give any) ts ≡ Some (x, rest))) ⊎ ((begins kind.Any ts ≡ false) × ((expression >>= λ e. give (value e)) ts ≡ Some (x, rest))) → length rest < length ts
+  by_choice ts x rest (inl h) = (Strict-bind (Strict-take kind.Any) (λ t. Shrinks-give any)).by ts x rest h.1
+  by_choice ts x rest (inr h) = (Strict-bind strict_expression (λ e. Shrinks-give (value e))).by ts x rest h.1
+
+pub exactly_right : Exactly IsRight (Stops 0) right
+unfolding same_kind
+exactly_right = record {
+    finds = λ ts x rest e. by_choice ts x rest (chosen (begins kind.Any ts) ((take kind.Any >>= λ _. give any) ts) ((expression >>= λ e. give (value e)) ts) (Some (x, rest)) e);
+    reads = went;
+  }
+  where
+  by_choice : (ts : List Tok) (x : RightSide Name) (rest : List Tok) → ((begins kind.Any ts ≡ true) × ((take kind.Any >>= λ _. give any) ts ≡ Some (x, rest))) ⊎ ((begins kind.Any ts ≡ false) × ((expression >>= λ e. give (value e)) ts ≡ Some (x, rest))) → IsRight ts x rest
+  by_choice ts x rest (inl h) =
+      let b = between (take kind.Any) (λ _. give any) ts x rest h.1 in
+      carried (λ x rest. IsRight ts x rest) b.second (is_any (take_finds kind.Any ts b.x b.us b.first).0)
+  by_choice ts x rest (inr h) =
+      let b = between expression (λ e. give (value e)) ts x rest h.1 in
+      carried (λ x rest. IsRight ts x rest) b.second (is_value (exactly_expression.finds ts b.x b.us b.first))
+  went : (ts : List Tok) (x : RightSide Name) (rest : List Tok) → IsRight ts x rest → Stops 0 rest → right ts ≡ Some (x, rest)
+  went ts x rest (is_any t) s = rw (begins_takes t) (bind_is (take kind.Any) (λ _. give any) ts (take_is t).0 rest (take_is t).1)
+  went ts x rest (is_value {e = e} r) s =
+      let h = begins_no kind.Any refl r in
+      rw h (bind_is expression (λ e. give (value e)) ts e rest (exactly_expression.reads ts e rest r s))
+
+-- a comma and a closing parenthesis are no operators
+pub comma_stops : (us : List Tok) → begins kind.Comma us ≡ true → Stops 0 us
+comma_stops [] e = stops_end
+comma_stops (t ∷ us) e = stops_at (ap (binds 0) (same_kind-true e))
+
+pub close_stops : (us rest : List Tok) → Takes kind.Close us rest → Stops 0 us
+close_stops us rest (takes e) = stops_at (ap (binds 0) e)
+
+pub semicolon_stops : (us rest : List Tok) → Takes kind.Semicolon us rest → Stops 0 us
+semicolon_stops us rest (takes e) = stops_at (ap (binds 0) e)
+
+-- lists of names and right sides, formals, arguments, tests
+pub exactly_names : Exactly (Listed IsName) (NoComma Anything) names
+unfolding names
+exactly_names = exactly_list strict_name exactly_name (λ us e. tt)
+
+pub strict_names : Strict names
+unfolding names
+strict_names = Strict-list strict_name
+
+pub exactly_rights : Exactly (Listed IsRight) (NoComma (Stops 0)) rights
+unfolding rights
+exactly_rights = exactly_list strict_right exactly_right comma_stops
+
+pub strict_rights : Strict rights
+unfolding rights
+strict_rights = Strict-list strict_right
+
+name_begins : (ts : List Tok) (x : Name) (us : List Tok) → IsName ts x us → begins kind.Close ts ≡ false
+unfolding same_kind
+name_begins ts x us (is_name e) = rw e refl
+
+pub exactly_formals : Exactly (InParens (Perhaps IsName)) Anything formals
+unfolding formals
+exactly_formals = exactly_parens (exactly_perhaps strict_name exactly_name (λ us e. tt) (λ us rest t. tt) name_begins) (λ us rest t. begins_takes t)
+
+pub exactly_arguments : Exactly (InParens (Perhaps IsExpression)) Anything arguments
+unfolding arguments same_kind
+exactly_arguments = exactly_parens (exactly_perhaps strict_expression exactly_expression comma_stops close_stops (λ ts x us r. begins_no kind.Close refl r)) (λ us rest t. begins_takes t)
+
+pub exactly_test : Exactly (InParens IsRight) Anything test
+unfolding test
+exactly_test = exactly_parens exactly_right close_stops
+
+pub strict_formals : Strict formals
+unfolding formals
+strict_formals = strict_parens (shrinks_perhaps strict_name)
+
+pub strict_arguments : Strict arguments
+unfolding arguments
+strict_arguments = strict_parens (shrinks_perhaps strict_expression)
+
+pub strict_test : Strict test
+unfolding test
+strict_test = strict_parens (Strict-Shrinks strict_right)

@@ -1,0 +1,48 @@
+-- What reading the tokens of a text says of the text.
+use Rattle.std.specs.Prelude.{Result, Ok, Err, IfOk, IfErr}
+use Rattle.std.proofs.Common.{◌≡◌, ℕ, ◌≤◌, List, [], length, Option, Some, None, sym, ◌∙◌, ap, inl, inr}
+use Rattle.std.specs.Str.{IsAscii}
+use Rattle.language.specs.Tree.{Tree}
+use Rattle.tokens.specs.Token.{Tok}
+use Rattle.tokens.specs.Cuts.{Cuts}
+use Rattle.tokens.specs.Depth.{TooDeep}
+use Rattle.syntax.specs.declared.fault.ReadFault.{ReadFault}
+use Rattle.syntax.specs.declared.fault.ReadFault.TheVariants as fault
+use Rattle.syntax.specs.declared.tree.Program.{Program}
+use Rattle.syntax.specs.Gives.{Gives, Fails}
+use Rattle.syntax.specs.Grammar.{IsProgram}
+use Rattle.syntax.specs.Exact.{program}
+use Rattle.syntax.specs.Text.{Text, Stands}
+use Rattle.syntax.specs.Trees.{tree_of}
+use Rattle.syntax.proofs.Fixes.{both}
+use Rattle.syntax.proofs.Programs.{program_finds, program_reads}
+
+module _ (A : Type 0) (bytes : List ℕ) (tokens : List Tok) (within : length bytes ≤ 65536) (ascii : IsAscii bytes) (cut : Cuts 0 bytes tokens) (only : (others : List Tok) → Cuts 0 bytes others → others ≡ tokens) (shallow : TooDeep tokens → ⊥) where
+  pub text_found : (r : Result (Program A) ReadFault) → Gives {X = Program A} {Y = Tree × List Tok} (λ p. (tree_of p, [])) r (program tokens) → IfOk r (λ p. Text bytes (tree_of p))
+  text_found (Ok p) gives = record { within = within; ascii = ascii; tokens = tokens; cut = cut; shallow = shallow; program = program_finds tokens (tree_of p) [] gives }
+  text_found (Err e) gives = tt
+
+  reads : (tree : Tree) → Text bytes tree → program tokens ≡ Some (tree, [])
+  reads tree text = program_reads tokens tree (rw (only text.tokens text.cut) at text.program)
+
+  refuted : (e : ReadFault) (tree : Tree) → Text bytes tree → Fails {Y = Tree × List Tok} e (program tokens) → Fails e (Some tree)
+  refuted (fault.Syntax at) tree text f = let h = reads tree text in cc
+  refuted fault.Memory tree text f = tt
+  refuted fault.TooLong tree text f = absurd f
+  refuted fault.NotAscii tree text f = absurd f
+  refuted fault.TooDeep tree text f = absurd f
+
+  pub text_only : (r : Result (Program A) ReadFault) → Gives {X = Program A} {Y = Tree × List Tok} (λ p. (tree_of p, [])) r (program tokens) → (tree : Tree) → Text bytes tree → Gives tree_of r (Some tree)
+  text_only (Ok p) gives tree text = ap Some (both (sym (reads tree text) ∙ gives)).0
+  text_only (Err e) gives tree text = refuted e tree text gives
+
+  stands : (e : ReadFault) → Fails {Y = Tree × List Tok} e (program tokens) → Stands e bytes
+  stands (fault.Syntax at) f = (within, ascii, inr (tokens, cut, shallow, λ tree is. let h = program_reads tokens tree is in cc))
+  stands fault.Memory f = tt
+  stands fault.TooLong f = absurd f
+  stands fault.NotAscii f = absurd f
+  stands fault.TooDeep f = absurd f
+
+  pub text_fault : (r : Result (Program A) ReadFault) → Gives {X = Program A} {Y = Tree × List Tok} (λ p. (tree_of p, [])) r (program tokens) → IfErr r (λ e. Stands e bytes)
+  text_fault (Ok p) gives = tt
+  text_fault (Err e) gives = stands e gives

@@ -1,0 +1,115 @@
+//! Reading expressions by precedence.
+
+ghost use Rattle.std.specs.Prelude.{◌≡◌, ◌<◌, length, IfOk, option_map};
+ghost use Rattle.syntax.specs.Gives.{Gives};
+ghost use Rattle.syntax.specs.Grammar.{level, right_level};
+ghost use Rattle.syntax.specs.Exact.{binds, operand, reading, from};
+ghost use Rattle.syntax.specs.Trees.{operator_of, expr_of};
+ghost use Rattle.tokens.specs.Token.{toks_of};
+
+use std::alloc::Allocator;
+use tokens::{Kind, Token};
+
+use crate::fault::ReadFault;
+use crate::reader::Reader;
+use crate::tree::{Expr, Op};
+
+/// How strongly an operator binds.
+fn level_of(op: Op) -> u8
+    ensures { result ≡ level (operator_of op) }
+{
+    match op {
+        Op::Implies => 0,
+        Op::Or => 1,
+        Op::Xor => 2,
+        Op::And => 3,
+        Op::Equal | Op::Differs => 4,
+    }
+}
+
+/// How strongly what stands right of an operator binds at least: `=>` groups to the right, and the
+/// others to the left.
+fn right_level_of(op: Op) -> u8
+    ensures { result ≡ right_level (operator_of op) }
+{
+    match op {
+        Op::Implies => 0,
+        Op::Or => 2,
+        Op::Xor => 3,
+        Op::And => 4,
+        Op::Equal | Op::Differs => 5,
+    }
+}
+
+/// The operator that a token of this kind is, if it binds at this level or above.
+fn operator_of_kind(least: u8, kind: Kind) -> Option<Op>
+    ensures { option_map operator_of result ≡ binds least kind }
+{
+    let op = match kind {
+        Kind::Implies => Op::Implies,
+        Kind::Or => Op::Or,
+        Kind::Xor => Op::Xor,
+        Kind::And => Op::And,
+        Kind::Equal => Op::Equal,
+        Kind::Differs => Op::Differs,
+        _ => return None,
+    };
+    (least <= level_of(op)).then_some(op)
+}
+
+impl<'a, A: Allocator + Clone> Reader<'a, A> {
+    /// Reads an expression whose operators outside of parentheses bind at this level or above.
+    #[cycle(expressions)]
+    #[tactic(auto, using(crate::proofs::Expressions::starts, crate::proofs::Expressions::no_start, crate::proofs::Expressions::stops_here, crate::proofs::Expressions::stops_at_end, crate::proofs::Expressions::goes_on, crate::proofs::Expressions::no_right))]
+    pub fn expression<'t>(
+        &self,
+        least: u8,
+        tokens: &'t [Token<'t>],
+    ) -> Result<(Expr<A>, &'t [Token<'t>]), ReadFault>
+        ensures gives { Gives (λ p. (expr_of p.0, toks_of p.1.now)) result (reading (from least) (toks_of tokens.now)) }
+        ensures shorter { IfOk result (λ p. length p.1.now < length tokens.now) }
+    {
+        let (mut tree, mut rest) = self.operand(tokens)?;
+        while let Some((first, others)) = rest.split_first() {
+            let Some(op) = operator_of_kind(least, first.kind) else {
+                break;
+            };
+            let (right, after) = self.expression(right_level_of(op), others)?;
+            let left = Box::new(self.alloc.clone()?, tree)?;
+            let right = Box::new(self.alloc.clone()?, right)?;
+            tree = Expr::Two(op, left, right);
+            rest = after;
+        }
+        Ok((tree, rest))
+    }
+
+    /// Reads a constant, a name, `!` and an operand, or an expression in parentheses.
+    #[cycle(expressions)]
+    #[tactic(auto, unfolding(crate::specs::Exact::operand, tokens::specs::Token::same_kind))]
+    fn operand<'t>(
+        &self,
+        tokens: &'t [Token<'t>],
+    ) -> Result<(Expr<A>, &'t [Token<'t>]), ReadFault>
+        ensures gives { Gives (λ p. (expr_of p.0, toks_of p.1.now)) result (operand (toks_of tokens.now)) }
+        ensures shorter { IfOk result (λ p. length p.1.now < length tokens.now) }
+    {
+        let Some((first, rest)) = tokens.split_first() else {
+            return Err(ReadFault::Syntax(self.end));
+        };
+        match first.kind {
+            Kind::Zero => Ok((Expr::Const(false), rest)),
+            Kind::One => Ok((Expr::Const(true), rest)),
+            Kind::Id => Ok((Expr::Var(self.name(first)?), rest)),
+            Kind::Not => {
+                let (inner, after) = self.expression(5, rest)?;
+                Ok((Expr::Not(Box::new(self.alloc.clone()?, inner)?), after))
+            }
+            Kind::Open => {
+                let (inner, after) = self.expression(0, rest)?;
+                let (_, last) = self.take(Kind::Close, after)?;
+                Ok((inner, last))
+            }
+            _ => Err(ReadFault::Syntax(first.at)),
+        }
+    }
+}

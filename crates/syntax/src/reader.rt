@@ -1,0 +1,74 @@
+//! What each reader of tokens needs, and the readers of single tokens.
+
+ghost use Rattle.std.specs.Prelude.{◌≡◌, ◌<◌, length, IfOk, IsOkUnless};
+ghost use Rattle.syntax.specs.Gives.{Gives};
+ghost use Rattle.syntax.specs.Parser.{begins, take};
+ghost use Rattle.syntax.specs.Exact.{name};
+ghost use Rattle.syntax.specs.Grammar.{name_at};
+ghost use Rattle.syntax.specs.Trees.{name_of};
+ghost use Rattle.tokens.specs.Token.{tok_of, toks_of};
+
+use std::alloc::Allocator;
+use tokens::{Kind, Token};
+
+use crate::fault::ReadFault;
+use crate::tree::Name;
+
+/// What all readers share: where trees are allocated, and the length of the text.
+#[derive(Drop)]
+pub struct Reader<'a, A: Allocator + Clone> {
+    pub alloc: &'a A,
+    pub end: u32,
+}
+
+/// Whether a token of this kind comes next.
+pub fn begins(kind: Kind, tokens: &[Token<'_>]) -> bool
+    ensures { result ≡ begins kind (toks_of tokens.now) }
+{
+    match tokens.split_first() {
+        Some((first, _)) => first.kind.is(kind),
+        None => false,
+    }
+}
+
+impl<'a, A: Allocator + Clone> Reader<'a, A> {
+    /// Reads a token of this kind.
+    pub fn take<'t>(
+        &self,
+        kind: Kind,
+        tokens: &'t [Token<'t>],
+    ) -> Result<(Token<'t>, &'t [Token<'t>]), ReadFault>
+        ensures gives { Gives (λ p. (tok_of p.0, toks_of p.1.now)) result (take kind (toks_of tokens.now)) }
+        ensures shorter { IfOk result (λ p. length p.1.now < length tokens.now) }
+    {
+        let Some((first, rest)) = tokens.split_first() else {
+            return Err(ReadFault::Syntax(self.end));
+        };
+        if first.kind.is(kind) {
+            Ok((*first, rest))
+        } else {
+            Err(ReadFault::Syntax(first.at))
+        }
+    }
+
+    /// The name that a token is.
+    pub fn name(&self, token: &Token<'_>) -> Result<Name<A>, ReadFault>
+        ensures ok { IfOk result (λ n. name_of n ≡ name_at (tok_of token.now)) }
+        ensures err { IsOkUnless result ReadFault.Memory }
+    {
+        let text = String::from_str(self.alloc.clone()?, token.text)?;
+        Ok(Name { text, at: token.at })
+    }
+
+    /// Reads a name.
+    pub fn id<'t>(
+        &self,
+        tokens: &'t [Token<'t>],
+    ) -> Result<(Name<A>, &'t [Token<'t>]), ReadFault>
+        ensures gives { Gives (λ p. (name_of p.0, toks_of p.1.now)) result (name (toks_of tokens.now)) }
+        ensures shorter { IfOk result (λ p. length p.1.now < length tokens.now) }
+    {
+        let (token, rest) = self.take(Kind::Id, tokens)?;
+        Ok((self.name(&token)?, rest))
+    }
+}

@@ -1,0 +1,45 @@
+//! Reading a text.
+
+ghost use Rattle.std.specs.Prelude.{IfOk, IfErr, Some};
+ghost use Rattle.language.specs.Tree.{Tree};
+ghost use Rattle.syntax.specs.Gives.{Gives};
+ghost use Rattle.syntax.specs.Text.{Text, Stands};
+ghost use Rattle.syntax.specs.Trees.{tree_of};
+
+use std::alloc::Allocator;
+use tokens::{as_ascii, cut, is_too_deep};
+
+use crate::fault::ReadFault;
+use crate::reader::Reader;
+use crate::tree::Program;
+
+/// A text has at most so many bytes.
+const LIMIT: usize = 65536;
+
+/// Reads a text: its tree, with the offset of each name and statement. The faults are tested in the order of their
+/// numbers, but `Syntax`, which comes before `TooDeep` where the text is no list of tokens, and after it where the
+/// tokens are no program; `Memory` may come at any point.
+pub fn read<A: Allocator + Clone>(alloc: A, bytes: &[u8]) -> Result<Program<A>, ReadFault>
+    // What is read is a text with that tree.
+    ensures found { IfOk result (λ program. Text bytes.now (tree_of program)) }
+    // Each text is read, with its one tree, unless memory runs out.
+    ensures only { (tree : Tree) → Text bytes.now tree → Gives tree_of result (Some tree) }
+    // A fault that is answered stands.
+    ensures fault { IfErr result (λ fault. Stands fault bytes.now) }
+{
+    if bytes.len() > LIMIT {
+        return Err(ReadFault::TooLong);
+    }
+    let Some(text) = as_ascii(bytes) else {
+        return Err(ReadFault::NotAscii);
+    };
+    let tokens = cut(alloc.clone()?, text)?;
+    if is_too_deep(&tokens) {
+        return Err(ReadFault::TooDeep);
+    }
+    let reader = Reader {
+        alloc: &alloc,
+        end: text.len() as u32,
+    };
+    reader.program(&tokens)
+}

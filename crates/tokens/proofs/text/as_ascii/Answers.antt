@@ -1,0 +1,5 @@
+use Rattle.std.proofs.lemmas.Str.{IsUtf8-from_ascii}
+use Rattle.tokens.proofs.text.as_ascii.Goals as goal
+
+pub returns-in_default-clause-ascii : goal.returns-in_default-clause-ascii
+returns-in_default-clause-ascii c = λ ascii. c.in_default.ensures.cases.0 (IsUtf8-from_ascii _ ascii)
