@@ -3,3 +3,4 @@ pub mod Members
 pub mod Reach
 pub mod Limits
 pub mod Verdict
+pub mod Written

@@ -5,9 +5,12 @@ mod analysis;
 mod asked;
 mod evaluate;
 mod first;
+mod judge;
 mod line;
 mod reach;
+mod reply;
 pub mod unsafety;
 
 pub use asked::{LineFault, Order};
 pub use line::order;
+pub use reply::Reply;

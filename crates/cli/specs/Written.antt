@@ -1,0 +1,8 @@
+-- The bytes of a reply.
+use Rattle.std.specs.Prelude.{ℕ, List}
+use Rattle.std.specs.Cow.{cow_slice_items}
+use Rattle.cli.specs.declared.reply.Reply.{Reply}
+
+-- what a reply writes
+abbrev pub bytes_of : {A : Type 0} → Reply A → List ℕ
+bytes_of reply = cow_slice_items reply.bytes

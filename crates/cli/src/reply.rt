@@ -1,0 +1,28 @@
+//! Replies: what is written, and the status.
+
+ghost use Rattle.std.specs.Prelude.{◌≡◌};
+
+use std::alloc::Allocator;
+use std::borrow::CowSlice;
+
+/// What is written to the standard output, and the status of the program.
+#[derive(Drop)]
+pub struct Reply<A: Allocator> {
+    pub bytes: CowSlice<'static, u8, A>,
+    pub status: u8,
+}
+
+impl<A: Allocator> Reply<A> {
+    ghost use Rattle.cli.specs.Written.{bytes_of};
+
+    /// A reply whose text is fixed: it takes no memory.
+    pub(crate) fn fixed(text: &'static str, status: u8) -> Self
+        ensures bytes { bytes_of result ≡ text.entry.now }
+        ensures status { result.status ≡ status }
+    {
+        Reply {
+            bytes: CowSlice::Borrowed(text.as_bytes()),
+            status,
+        }
+    }
+}
