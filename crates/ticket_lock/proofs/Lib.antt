@@ -1,0 +1,2 @@
+pub mod CoreSteps
+pub mod Places
