@@ -1,2 +1,3 @@
 pub mod CoreSteps
 pub mod Places
+pub mod Carried

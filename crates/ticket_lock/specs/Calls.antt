@@ -1,6 +1,7 @@
 -- What each call of a lock at a place tells.
-use Rattle.std.specs.Prelude.{◌≡◌, ◌≢◌, ℕ, ◌+◌, ◌≤◌, List, [], ◌∷◌, length, Option, Some, None, MatchOption}
+use Rattle.std.specs.Prelude.{◌≡◌, ◌≢◌, ℕ, ◌+◌, ◌^◌, ◌<◌, ◌≤◌, List, [], ◌∷◌, length, Option, Some, None, MatchOption}
 use Rattle.atomic_table.specs.Table.{Me, Step, rest}
+use Rattle.atomic_table.specs.Seated.{TableId}
 use Rattle.atomic_table.specs.declared.shared.Seat.{Seat}
 use Rattle.ticket_lock.specs.declared.hand.Hand.{Hand}
 use Rattle.ticket_lock.specs.Count.{times}
@@ -11,6 +12,10 @@ use Rattle.ticket_lock.specs.Turns.{Kind, draws, waits, enters, passes, with_tic
 -- it is the same seat at the same table
 abbrev pub IsSameSeat : {S V : Type 0} → Seat S V → Seat S V → Type 0
 IsSameSeat old new = (new.table_id ≡ old.table_id) × (new.id ≡ old.id)
+
+-- the two words and the slot of a lock are among those of the table
+abbrev pub IsRoom : ℕ → ℕ → TableId → Type 0
+IsRoom word slot id = (word + 1 < id.words) × (word + 1 < 2 ^ 64) × (slot < id.slots)
 
 module _ {T : Type 0} where
   -- the hand has drawn a ticket that is above all that it drew and has, and not below the number of values left that it has seen

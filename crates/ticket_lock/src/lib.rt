@@ -2,7 +2,10 @@
 #![tactic(auto)]
 
 mod hand;
+mod place;
+mod plays;
 mod rule;
 
 pub use hand::Hand;
-pub use rule::{At, LockRule};
+pub use place::{draw_at, leave_at, look_at};
+pub use rule::LockRule;

@@ -4,12 +4,19 @@ ghost use Rattle.ticket_lock.specs.declared.hand.Hand.{Hand};
 ghost use Rattle.ticket_lock.specs.Turns.{Kind, Opens};
 
 use atomic_table::TableRule;
+use std::marker::Brand;
 
-/// Names the slot and the ticket that a step is about.
-pub trait At {
+// Names the slot and the ticket that a step is about, which a `Play` cannot see.
+pub(crate) trait At {
     ghost slot: { ℕ };
 
     ghost ticket: { ℕ };
+}
+
+impl At for Brand {
+    ghost slot = { 0 };
+
+    ghost ticket = { 0 };
 }
 
 /// A rule that holds the lock's rule at each of its places: a place is a word, at which the count of values left stands, with the next ticket in the
