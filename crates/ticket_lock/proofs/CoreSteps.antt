@@ -161,3 +161,21 @@ module _ {T : Type 0} (serving next : ℕ) (log : List T) (here : maybe.Option (
   at_most_one =
       let each_one = total_few (λ (x : Hand T). length x.inside) (in_hand serving) 1 hands inside_is in
       elim (dec_le next serving) [ yes d ↦ omega (arith, c.ahead serving d) | no d ↦ (let lt = lt_of_not-le d in omega (arith, c.held serving (omega arith) lt)) ]
+
+  -- the rule reads the hands only by what they have in all, and each by itself
+  pub core_same : (hands' : List (Hand T)) → ((n : ℕ) → total (in_hand n) hands' ≡ total (in_hand n) hands) → ((n : ℕ) → total (λ (x : Hand T). times n x.drawn) hands' ≡ total (λ (x : Hand T). times n x.drawn) hands)
+      → total (λ (x : Hand T). length x.drawn) hands' ≡ total (λ (x : Hand T). length x.drawn) hands → total (λ (x : Hand T). x.parts) hands' ≡ total (λ (x : Hand T). x.parts) hands
+      → total (λ (x : Hand T). length x.inside) hands' ≡ total (λ (x : Hand T). length x.inside) hands → ((j : ℕ) (x : Hand T) → get_elem? hands' j ≡ some x → Fits serving log x) → Core serving next log here hands'
+  core_same hands' same_hand same_drawn same_count same_parts same_inside each = record {
+    served = c.served;
+    order = c.order;
+    held = λ n lo hi. same_hand n ∙ c.held n lo hi;
+    past = λ n lo. same_hand n ∙ c.past n lo;
+    ahead = λ n hi. same_hand n ∙ c.ahead n hi;
+    drawn_once = λ n hi. same_drawn n ∙ c.drawn_once n hi;
+    undrawn = λ n hi. same_drawn n ∙ c.undrawn n hi;
+    drawn = same_count ∙ c.drawn;
+    parts = omega (arith, c.parts);
+    each = each;
+    home = λ none. c.home (sym same_inside ∙ none);
+  }

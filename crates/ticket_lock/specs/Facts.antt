@@ -52,6 +52,20 @@ module _ {A : Type 0} where
   map-set g (x ∷ xs) zero b = refl
   map-set g (x ∷ xs) (suc i) b = ap (λ r. g x ∷ r) (map-set g xs i b)
 
+  pub map-snoc : {B : Type 0} (g : B → A) (l : List B) (b : B) → map g (l ++ b ∷ []) ≡ map g l ++ g b ∷ []
+  map-snoc g [] b = refl
+  map-snoc g (x ∷ xs) b = ap (λ r. g x ∷ r) (map-snoc g xs b)
+
+  pub total_zero : (f : A → ℕ) (l : List A) → ((j : ℕ) (w : A) → get_elem? l j ≡ some w → f w ≡ 0) → total f l ≡ 0
+  total_zero f [] none = refl
+  total_zero f (x ∷ xs) none = omega (arith, none 0 x refl, total_zero f xs (λ j w d. none (suc j) w d))
+
+  -- where f is 0 of each element but one, it is in all what it is of that one
+  pub total_only : (f : A → ℕ) (l : List A) (i : ℕ) (v : A) → get_elem? l i ≡ some v → ((j : ℕ) (w : A) → j ≢ i → get_elem? l j ≡ some w → f w ≡ 0) → total f l ≡ f v
+  total_only f [] i v e none = absurd (some-ne-none v (sym e))
+  total_only f (x ∷ xs) zero v e none = let same : f x ≡ f v = ap f (some-injective x v e) in omega (arith, total_zero f xs (λ j w d. none (suc j) w (λ h. omega arith) d))
+  total_only f (x ∷ xs) (suc i) v e none = omega (arith, none 0 x (λ h. omega arith) refl, total_only f xs i v e (λ j w ne d. none (suc j) w (λ h. ne (omega arith)) d))
+
   pub set_again : (l : List A) (i : ℕ) (a : A) → get_elem? l i ≡ some a → set l i a ≡ l
   set_again [] i a e = refl
   set_again (x ∷ xs) zero a e = ap (λ y. y ∷ xs) (sym (some-injective x a e))

@@ -2,10 +2,14 @@
 #![tactic(auto)]
 
 mod hand;
+mod law;
 mod place;
 mod plays;
 mod rule;
+mod view;
 
 pub use hand::Hand;
+pub use law::LaneLaw;
 pub use place::{draw_at, leave_at, look_at};
 pub use rule::LockRule;
+pub use view::{Opening, View};
