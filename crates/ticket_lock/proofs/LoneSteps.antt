@@ -16,7 +16,7 @@ use Rattle.ticket_lock.specs.History.{StartsWith, EndsIn, longer, IsRising}
 use Rattle.ticket_lock.specs.Core.{in_hand, Fits, Core}
 use Rattle.ticket_lock.specs.Turns.{Kept}
 use Rattle.ticket_lock.specs.Lone.{hand_of, numbers, new_hand, new_view, nobody, taken_in, merged, just_seen, Knows, Lone, TookIn}
-use Rattle.ticket_lock.specs.Facts.{total_set, total-snoc, total_at, total_only, total-map, at_set, at_snoc, at_longer, at_last, set_here, set_else, set_again, at_inside, map-set, map-snoc, at-map, times-append, StartsWith-length, StartsWith-whole, StartsWith-trans, StartsWith-refl, both_begin, rises_short}
+use Rattle.ticket_lock.specs.Facts.{total_set, total-snoc, total_at, total_two, total_only, total-map, at_set, at_snoc, at_longer, at_append, map-append, at_last, set_here, set_else, set_again, at_inside, map-set, map-snoc, at-map, times-append, StartsWith-length, StartsWith-whole, StartsWith-trans, StartsWith-refl, both_begin, rises_short}
 use Rattle.ticket_lock.specs.LoneOpens.{known_set, rebuilt}
 use Rattle.ticket_lock.proofs.CoreSteps.{core_same}
 
@@ -182,3 +182,114 @@ module _ {T Part : Type 0} (before : T → T → Type 0) (part : ℕ → T → P
         once = λ l. omega (arith, total-snoc (λ (u : View T). times l (numbers u)) s.views w, r.once l);
         known = known_more r.log s.views w r.known;
       }, refl)
+
+  -- a seat takes in what another has, and is told what it has seen
+  pub merges_allowed : (id : ℕ) (v : View T) (other : ℕ) (w : View T) → v.told ≡ [] → w.told ≡ [] → w.hand.inside ≡ [] → Joins Rule id v other w (merged v w) nobody
+  merges_allowed id v other w none_v none_w outside s r is_at apart is_now =
+      let b : View T = merged v w in
+      let z : View T = nobody in
+      let vs : List (View T) = set s.views id b in
+      let is_w : get_elem? s.views other ≡ some w = sym (set_else s.views id other b apart) ∙ is_now in
+      let hs : List (Hand T) = map (hand_of 0) s.views in
+      let is_hv = at-map (hand_of 0) s.views id v is_at in
+      let is_hw = at-map (hand_of 0) s.views other w is_w in
+      let is_hw_now : get_elem? (set hs id b.hand) other ≡ some w.hand = set_else hs id other b.hand apart ∙ is_hw in
+      let core = r.kept.core in
+      let serving : ℕ = get_or s.words 0 0 in
+      let fits_v = core.each id v.hand is_hv in
+      let fits_w = core.each other w.hand is_hw in
+      let knows_v = r.each_view id v is_at in
+      let knows_w = r.each_view other w is_w in
+      let hs' : List (Hand T) = set (set hs id b.hand) other z.hand in
+      let sum : (f : Hand T → ℕ) → f b.hand + f z.hand ≡ f v.hand + f w.hand → total f hs' ≡ total f hs = λ f e. omega (arith, total_set f hs id v.hand b.hand is_hv, total_set f (set hs id b.hand) other w.hand z.hand is_hw_now) in
+      let sums : (f : View T → ℕ) → f b + f z ≡ f v + f w → total f (set vs other z) ≡ total f s.views = λ f e. omega (arith, total_set f s.views id v b is_at, total_set f vs other w z is_now) in
+      let fits_b : Fits serving r.log b.hand = record {
+        begins = fits_v.begins;
+        inside = elim fits_v.inside [ inl o ↦ inl (λ i. o i ++ outside i) | inr o ↦ inr ((λ i. o.0 i ++ outside i), o.1) ];
+        few = omega (arith, length-append v.hand.drawn w.hand.drawn, fits_v.few, fits_w.few);
+        idle = λ none. (let iv = fits_v.idle (omega arith) in let iw = fits_w.idle (omega arith) in ((λ i. iv.0 i ++ iw.0 i), (λ i. iv.1 i ++ iw.1 i)));
+      } in
+      let c = core_same serving (get_or s.words 1 0) r.log (get_elem? s.homes 0) hs core hs'
+          (λ n. sum (in_hand n) (omega (arith, times-append n v.hand.tickets w.hand.tickets, times-append n v.hand.inside w.hand.inside)))
+          (λ n. sum (λ (x : Hand T). times n x.drawn) (omega (arith, times-append n v.hand.drawn w.hand.drawn)))
+          (sum (λ (x : Hand T). length x.drawn) (omega (arith, length-append v.hand.drawn w.hand.drawn)))
+          (sum (λ (x : Hand T). x.parts) (omega arith)) (sum (λ (x : Hand T). length x.inside) (omega (arith, length-append v.hand.inside w.hand.inside)))
+          (λ j x e. elim (at_set (set hs id b.hand) other j z.hand x e) [
+            inl t ↦ subst (λ q. Fits serving r.log q) t.1 record { begins = (r.log, refl); inside = inl refl; few = omega arith; idle = λ _. (refl, refl) }
+            | inr t ↦ elim (at_set hs id j b.hand x t.1) [ inl u ↦ subst (λ q. Fits serving r.log q) u.1 fits_b | inr u ↦ core.each j x u.1 ]
+          ]) in
+      let len : length b.own ≡ length v.own + length w.own = length-append v.own w.own in
+      let knows_b : Knows before part r.log b = record {
+        shares = omega (arith, knows_v.shares, knows_w.shares);
+        told = fits_w.begins;
+        owns = λ k l x y e ends. elim (at_append v.own w.own k (l, x) e) [ inl t ↦ knows_v.owns k l x y t ends | inr t ↦ knows_w.owns t.0 l x y t.1 ends ];
+      } in
+      let known : Known r.log (set vs other z) = dite (ℕ_discrete r.known.0 id)
+          (λ (e : r.known.0 ≡ id).
+              let is : r.known.1 ≡ v = some-injective r.known.1 v (sym r.known.2 ∙ (ap (get_elem? s.views) e ∙ is_at)) in
+              let K : View T → Type 0 = λ u. (0 < length u.own) × ((u.hand.seen ≡ r.log) ⊎ (u.told ≡ r.log)) in
+              let at_v = subst K is (r.known.3, r.known.4) in
+              (id, b, set_else vs other id z (λ i. apart (sym i)) ∙ set_here s.views id b (at_inside s.views id v is_at), omega (arith, at_v.0), elim at_v.1 [ inl q ↦ inl q | inr q ↦ absurd (not_told s r v.told none_v q) ]))
+          (λ (ne : r.known.0 ≢ id). dite (ℕ_discrete r.known.0 other)
+          (λ (e : r.known.0 ≡ other).
+              let is : r.known.1 ≡ w = some-injective r.known.1 w (sym r.known.2 ∙ (ap (get_elem? s.views) e ∙ is_w)) in
+              let K : View T → Type 0 = λ u. (0 < length u.own) × ((u.hand.seen ≡ r.log) ⊎ (u.told ≡ r.log)) in
+              let at_w = subst K is (r.known.3, r.known.4) in
+              (id, b, set_else vs other id z (λ i. apart (sym i)) ∙ set_here s.views id b (at_inside s.views id v is_at), omega (arith, at_w.0), elim at_w.1 [ inl q ↦ inr q | inr q ↦ absurd (not_told s r w.told none_w q) ]))
+          (λ (no : r.known.0 ≢ other). (r.known.0, r.known.1, set_else vs other r.known.0 z no ∙ (set_else s.views id r.known.0 b ne ∙ r.known.2), r.known.3, r.known.4))) in
+      record {
+        log = r.log;
+        kept = record { room = r.kept.room; core = subst (λ l. Core serving (get_or s.words 1 0) r.log (get_elem? s.homes 0) l) (sym (map-set (hand_of 0) vs other z ∙ ap (λ l. set l other z.hand) (map-set (hand_of 0) s.views id b))) c };
+        begun = r.begun;
+        rising = r.rising;
+        each_view = λ j u e. elim (at_set vs other j z u e) [
+          inl t ↦ subst (λ q. Knows before part r.log q) t.1 (knows_nothing r.log [])
+          | inr t ↦ elim (at_set s.views id j b u t.1) [ inl q ↦ subst (λ i. Knows before part r.log i) q.1 knows_b | inr q ↦ r.each_view j u q.1 ]
+        ];
+        whole = sums (λ (u : View T). length u.own) (omega arith) ∙ r.whole;
+        once = λ l. omega (arith, sums (λ (u : View T). times l (numbers u)) (omega (arith, ap (times l) (map-append (λ (p : ℕ × T). p.0) v.own w.own), times-append l (numbers v) (numbers w))), r.once l);
+        known = known;
+      }
+
+  -- what is left when a table is closed with a view that has all lanes, and no ticket
+  pub closes : (id : ℕ) (v : View T) (words : List ℕ) (xs : List (Option T)) → v.told ≡ [] → v.hand.tickets ≡ [] → v.hand.inside ≡ [] → length v.own ≡ lanes → Final (Seen Rule id v) words xs
+      → (x : T) × EndsIn v.hand.seen x × (get_elem? xs 0 ≡ some (Some x)) × (length v.hand.seen ≡ length v.hand.drawn + 1) × ((n : ℕ) → n < length v.hand.drawn → times n v.hand.drawn ≡ 1)
+  closes id v words xs none_told none_waits none_inside all final =
+      let s = final.0 in
+      let r = final.1.0 in
+      let is_at = final.1.1 in
+      let core = r.kept.core in
+      let serving : ℕ = get_or s.words 0 0 in
+      let next : ℕ = get_or s.words 1 0 in
+      let hs : List (Hand T) = map (hand_of 0) s.views in
+      let other_none : (j : ℕ) (u : View T) → j ≢ id → get_elem? s.views j ≡ some u → length u.own ≡ 0 = λ j u ne at_u.
+          (let two = total_two (λ (i : View T). length i.own) s.views id j v u (λ i. ne (sym i)) is_at at_u in omega (arith, r.whole)) in
+      let other_idle : (j : ℕ) (u : View T) → j ≢ id → get_elem? s.views j ≡ some u → u.hand.parts ≡ 0 = λ j u ne at_u. (r.each_view j u at_u).shares ∙ other_none j u ne at_u in
+      let other_fits : (j : ℕ) (u : View T) → get_elem? s.views j ≡ some u → Fits serving r.log u.hand = λ j u at_u. core.each j u.hand (at-map (hand_of 0) s.views j u at_u) in
+      let only : (f : Hand T → ℕ) → ((j : ℕ) (u : View T) → j ≢ id → get_elem? s.views j ≡ some u → f u.hand ≡ 0) → total f hs ≡ f v.hand = λ f none. total-map (hand_of 0) f s.views ∙ total_only (λ (u : View T). f u.hand) s.views id v is_at none in
+      let in_hands : (n : ℕ) → total (in_hand n) hs ≡ 0 = λ n. (let t : times n v.hand.tickets ≡ 0 = ap (times n) none_waits in let i : times n v.hand.inside ≡ 0 = ap (times n) none_inside in
+          omega (arith, only (in_hand n) (λ j u ne at_u. let idle = (other_fits j u at_u).idle (other_idle j u ne at_u) in let a : times n u.hand.tickets ≡ 0 = ap (times n) idle.0 in let b : times n u.hand.inside ≡ 0 = ap (times n) idle.1 in omega arith))) in
+      let served : next ≤ serving = elim (dec_le next serving) [ yes d ↦ d | no d ↦ (let lt = lt_of_not-le d in absurd (omega (arith, core.held serving (omega arith) lt, in_hands serving))) ] in
+      let nobody_in : total (λ (x : Hand T). length x.inside) hs ≡ 0 = only (λ (x : Hand T). length x.inside) (λ j u ne at_u. ap length ((other_fits j u at_u).idle (other_idle j u ne at_u)).1) ∙ ap length none_inside in
+      let other_drawn : (j : ℕ) (u : View T) → j ≢ id → get_elem? s.views j ≡ some u → length u.hand.drawn ≡ 0 = λ j u ne at_u. (let few = (other_fits j u at_u).few in let none = other_idle j u ne at_u in
+          let few' : length u.hand.drawn ≤ 0 * 2 ^ 56 = subst (λ k. length u.hand.drawn ≤ k * 2 ^ 56) none few in omega arith) in
+      let drawn : next ≡ length v.hand.drawn = sym core.drawn ∙ only (λ (x : Hand T). length x.drawn) other_drawn in
+      let whole : v.hand.seen ≡ r.log = dite (ℕ_discrete r.known.0 id)
+          (λ (e : r.known.0 ≡ id).
+              let is : r.known.1 ≡ v = some-injective r.known.1 v (sym r.known.2 ∙ (ap (get_elem? s.views) e ∙ is_at)) in
+              let K : View T → Type 0 = λ u. (u.hand.seen ≡ r.log) ⊎ (u.told ≡ r.log) in
+              let q : v.hand.seen ≡ r.log = elim (subst K is r.known.4) [ inl q ↦ q | inr q ↦ absurd (not_told s r v.told none_told q) ] in q)
+          (λ (ne : r.known.0 ≢ id). absurd (let z = other_none r.known.0 r.known.1 ne r.known.2 in omega (arith, r.known.3))) in
+      let home = core.home nobody_in in
+      let len : length v.hand.seen ≡ length r.log = ap length whole in
+      (
+        home.0,
+        subst (λ l. EndsIn l home.0) (sym whole) home.1,
+        final.4 0 (Some home.0) home.2,
+        omega (arith, core.served, core.order),
+        (λ n lt. sym (only (λ (x : Hand T). times n x.drawn) (λ j u ne at_u. none_of n u.hand.drawn (other_drawn j u ne at_u))) ∙ core.drawn_once n (omega arith)),
+      )
+    where
+      none_of : (n : ℕ) (l : List ℕ) → length l ≡ 0 → times n l ≡ 0
+      none_of n [] e = refl
+      none_of n (x ∷ xs) e = absurd (omega arith)

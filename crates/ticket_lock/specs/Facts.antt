@@ -107,6 +107,15 @@ module _ {A : Type 0} where
   at_longer (x ∷ xs) m zero a e = e
   at_longer (x ∷ xs) m (suc i) a e = at_longer xs m i a e
 
+  pub at_append : (l m : List A) (k : ℕ) (a : A) → get_elem? (l ++ m) k ≡ some a → (get_elem? l k ≡ some a) ⊎ ((j : ℕ) × (get_elem? m j ≡ some a))
+  at_append [] m k a e = inr (k, e)
+  at_append (x ∷ xs) m zero a e = inl e
+  at_append (x ∷ xs) m (suc k) a e = at_append xs m k a e
+
+  pub map-append : {B : Type 0} (g : B → A) (l m : List B) → map g (l ++ m) ≡ map g l ++ map g m
+  map-append g [] m = refl
+  map-append g (x ∷ xs) m = ap (λ r. g x ∷ r) (map-append g xs m)
+
   pub at_last : (l : List A) (a : A) → get_elem? (l ++ a ∷ []) (length l) ≡ some a
   at_last [] a = refl
   at_last (x ∷ xs) a = at_last xs a
