@@ -2,3 +2,4 @@ pub mod CoreSteps
 pub mod Places
 pub mod Carried
 pub mod LoneSteps
+pub mod Served

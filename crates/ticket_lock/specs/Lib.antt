@@ -6,3 +6,5 @@ pub mod Calls
 pub mod Lone
 pub mod Facts
 pub mod LoneOpens
+pub mod Lanes
+pub mod Promises
