@@ -3,3 +3,4 @@ pub mod Places
 pub mod Carried
 pub mod LoneSteps
 pub mod Served
+pub mod LoneOpening

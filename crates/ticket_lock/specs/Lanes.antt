@@ -1,5 +1,5 @@
 -- What contracts see of a lock, a lane, a guard and a note.
-use Rattle.std.specs.Prelude.{◌≡◌, ℕ, ◌+◌, ◌^◌, ◌<◌, ◌≤◌, List, [], ◌∷◌, map, length, Option, None}
+use Rattle.std.specs.Prelude.{◌≡◌, ℕ, zero, suc, ◌+◌, ◌^◌, ◌<◌, ◌≤◌, List, [], ◌∷◌, map, length, Option, None}
 use Rattle.atomic_table.specs.Table.{Me}
 use Rattle.atomic_table.specs.Seated.{TableId}
 use Rattle.ticket_lock.specs.declared.view.View.{View}
@@ -41,6 +41,15 @@ module _ {T : Type 0} where
   -- how contracts see a lane
   abbrev pub standing : TableId → ℕ → ℕ → View T → Standing T
   standing id number left v = record { lock = id; number = number; left = left; seen = v.hand.seen; tickets = v.hand.tickets; inside = v.hand.inside; drawn = v.hand.drawn; own = map (λ p. p.1) v.own }
+
+  -- a lane that has drawn nothing, and has seen the opening value
+  abbrev pub fresh_lane : TableId → ℕ → T → ℕ → Standing T
+  fresh_lane id budget x number = record { lock = id; number = number; left = budget; seen = x ∷ []; tickets = []; inside = []; drawn = []; own = x ∷ [] }
+
+  -- `count` such lanes, numbered from `first` on
+  abbrev pub fresh_lanes : TableId → ℕ → T → ℕ → ℕ → List (Standing T)
+  fresh_lanes id budget x first zero = []
+  fresh_lanes id budget x first (suc count) = fresh_lane id budget x first ∷ fresh_lanes id budget x (suc first) count
 
   -- a lane has one number and one share, has taken in what it was told, draws within its share, and holds the slot just while it is inside
   pub record IsLane (id : TableId) (number left : ℕ) (me : Me (Option T) (View T)) : Type 0 where

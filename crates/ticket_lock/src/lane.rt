@@ -5,7 +5,6 @@ use crate::alone::Place;
 use std::marker::Model;
 
 /// One of the lanes of a lock, for one thread at a time. Contracts see it as a `Standing`.
-#[derive(Drop)]
 pub struct Lane<T> {
     pub(crate) seat: Place<T>,
     pub(crate) number: u64,
@@ -22,7 +21,32 @@ impl<T> Model for Lane<T> {
     ghost invariant = { λ l. IsLane l.seat.table_id l.number l.left l.seat.me };
 }
 
+impl<T> Drop for Lane<T> {
+    fn drop(self) {
+        let Lane {
+            seat,
+            number: _,
+            left: _,
+        } = self;
+        drop(seat);
+    }
+}
+
 impl<T> Lane<T> {
+    ghost use Rattle.std.specs.Prelude.{◌≡◌};
+    ghost use Rattle.ticket_lock.specs.Lanes.{standing, IsLane};
+
+    pub(crate) fn into_seat(self) -> Place<T>
+        ensures { IsLane result.table_id self.number self.left result.me × (standing result.table_id self.number self.left result.me.0 ≡ self) }
+    {
+        let Lane {
+            seat,
+            number: _,
+            left: _,
+        } = self;
+        seat
+    }
+
     /// The lane's number, from 0 on.
     pub fn number(&self) -> u64
         ensures { result ≡ self.now.number }
@@ -89,7 +113,6 @@ impl<T> Guard<T> {
 }
 
 /// What a lane had seen, to be told to another. Contracts see it as a `Told`.
-#[derive(Drop)]
 pub struct Note<T> {
     pub(crate) seat: Place<T>,
 }
@@ -102,6 +125,26 @@ impl<T> Model for Note<T> {
     ghost view = { λ n. record { lock = n.seat.table_id; seen = n.seat.me.0.hand.seen } };
 
     ghost invariant = { λ n. IsNote n.seat.table_id n.seat.me };
+}
+
+impl<T> Note<T> {
+    ghost use Rattle.std.specs.Prelude.{◌≡◌, []};
+    ghost use Rattle.ticket_lock.specs.Lone.{new_view};
+    ghost use Rattle.ticket_lock.specs.Lanes.{IsSized};
+
+    pub(crate) fn into_seat(self) -> Place<T>
+        ensures { (result.table_id ≡ self.lock) × IsSized self.lock × (result.me ≡ (new_view self.seen [], [])) }
+    {
+        let Note { seat } = self;
+        seat
+    }
+}
+
+impl<T> Drop for Note<T> {
+    fn drop(self) {
+        let Note { seat } = self;
+        drop(seat);
+    }
 }
 
 /// A lane has drawn all its tickets.

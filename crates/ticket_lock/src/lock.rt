@@ -86,7 +86,7 @@ impl<T: LaneLaw, A: Allocator> TicketLock<T, A> {
         requires { (lane.old.lock ≡ self.now.id) × (note.lock ≡ self.now.id) }
         ensures { Learned T.before T.part note lane.old lane.new }
     {
-        let Note { seat } = note;
+        let seat = note.into_seat();
         self.board.shared.join_seat::<Merges>(&mut lane.seat, seat);
         self.board.shared.load::<TakesIn>(&mut lane.seat, 0);
     }

@@ -17,3 +17,10 @@ pub struct Opening<T> {
     pub value: Snapshot<T>,
     pub lanes: u64,
 }
+
+impl<T> Drop for Opening<T> {
+    fn drop(self) {
+        let Opening { value, lanes: _ } = self;
+        drop(value);
+    }
+}
