@@ -4,3 +4,4 @@ pub mod Carried
 pub mod LoneSteps
 pub mod Served
 pub mod LoneOpening
+pub mod Closing

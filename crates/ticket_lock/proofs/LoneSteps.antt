@@ -15,16 +15,16 @@ use Rattle.ticket_lock.specs.Count.{times, total}
 use Rattle.ticket_lock.specs.History.{StartsWith, EndsIn, longer, IsRising}
 use Rattle.ticket_lock.specs.Core.{in_hand, Fits, Core}
 use Rattle.ticket_lock.specs.Turns.{Kept}
-use Rattle.ticket_lock.specs.Lone.{hand_of, numbers, new_hand, new_view, nobody, taken_in, merged, just_seen, Knows, Lone, TookIn}
+use Rattle.ticket_lock.specs.Lone.{hand_of, numbers, new_hand, new_view, nobody, taken_in, merged, just_seen, IsWhole, Rests, Knows, Lone, TookIn}
 use Rattle.ticket_lock.specs.Facts.{total_set, total-snoc, total_at, total_two, total_only, total-map, at_set, at_snoc, at_longer, at_append, map-append, at_last, set_here, set_else, set_again, at_inside, map-set, map-snoc, at-map, times-append, StartsWith-length, StartsWith-whole, StartsWith-trans, StartsWith-refl, both_begin, rises_short}
 use Rattle.ticket_lock.specs.LoneOpens.{known_set, rebuilt}
 use Rattle.ticket_lock.proofs.CoreSteps.{core_same}
 
 module _ {A : Type 0} where
-  longer_first : (a b : List A) → length b ≤ length a → longer a b ≡ a
+  pub longer_first : (a b : List A) → length b ≤ length a → longer a b ≡ a
   longer_first a b d = rw (le-ltb (length a) (length b) d) refl
 
-  longer_second : (a b : List A) → length a < length b → longer a b ≡ b
+  pub longer_second : (a b : List A) → length a < length b → longer a b ≡ b
   longer_second a b d = rw (lt-ltb (length a) (length b) d) refl
 
   -- the longer of two beginnings of a history is one, and goes on from both
@@ -252,9 +252,12 @@ module _ {T Part : Type 0} (before : T → T → Type 0) (part : ℕ → T → P
       }
 
   -- what is left when a table is closed with a view that has all lanes, and no ticket
-  pub closes : (id : ℕ) (v : View T) (words : List ℕ) (xs : List (Option T)) → v.told ≡ [] → v.hand.tickets ≡ [] → v.hand.inside ≡ [] → length v.own ≡ lanes → Final (Seen Rule id v) words xs
-      → (x : T) × EndsIn v.hand.seen x × (get_elem? xs 0 ≡ some (Some x)) × (length v.hand.seen ≡ length v.hand.drawn + 1) × ((n : ℕ) → n < length v.hand.drawn → times n v.hand.drawn ≡ 1)
-  closes id v words xs none_told none_waits none_inside all final =
+  pub closes : (id : ℕ) (v : View T) (words : List ℕ) (xs : List (Option T)) → IsWhole lanes v → Final (Seen Rule id v) words xs → (x : T) × (get_elem? xs 0 ≡ some (Some x)) × Rests opening v x
+  closes id v words xs is_whole final =
+      let none_told = is_whole.0 in
+      let none_waits = is_whole.1 in
+      let none_inside = is_whole.2 in
+      let all = is_whole.3 in
       let s = final.0 in
       let r = final.1.0 in
       let is_at = final.1.1 in
@@ -284,10 +287,14 @@ module _ {T Part : Type 0} (before : T → T → Type 0) (part : ℕ → T → P
       let len : length v.hand.seen ≡ length r.log = ap length whole in
       (
         home.0,
-        subst (λ l. EndsIn l home.0) (sym whole) home.1,
         final.4 0 (Some home.0) home.2,
-        omega (arith, core.served, core.order),
-        (λ n lt. sym (only (λ (x : Hand T). times n x.drawn) (λ j u ne at_u. none_of n u.hand.drawn (other_drawn j u ne at_u))) ∙ core.drawn_once n (omega arith)),
+        (
+          subst (λ l. EndsIn l home.0) (sym whole) home.1,
+          subst (λ l. StartsWith l (opening ∷ [])) (sym whole) r.begun,
+          omega (arith, core.served, core.order),
+          (λ n lt. sym (only (λ (x : Hand T). times n x.drawn) (λ j u ne at_u. none_of n u.hand.drawn (other_drawn j u ne at_u))) ∙ core.drawn_once n (omega arith)),
+          (λ n le. sym (only (λ (x : Hand T). times n x.drawn) (λ j u ne at_u. none_of n u.hand.drawn (other_drawn j u ne at_u))) ∙ core.undrawn n (omega arith)),
+        ),
       )
     where
       none_of : (n : ℕ) (l : List ℕ) → length l ≡ 0 → times n l ≡ 0

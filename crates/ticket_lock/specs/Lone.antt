@@ -43,6 +43,15 @@ module _ {T : Type 0} where
   abbrev pub opening_view : Opening T → View T
   opening_view key = new_view (key.value.value ∷ []) (lanes_from 0 key.lanes key.value.value)
 
+  -- a view that has this many lanes, and has nothing to take in, no ticket and no guard
+  abbrev pub IsWhole : ℕ → View T → Type 0
+  IsWhole lanes v = (v.told ≡ []) × (v.hand.tickets ≡ []) × (v.hand.inside ≡ []) × (length v.own ≡ lanes)
+
+  -- x is the last value of the history seen, which begins with the opening value and has one value more than tickets were drawn; each ticket below the number of tickets was drawn once, and no other was
+  abbrev pub Rests : T → View T → T → Type 0
+  Rests opening v x = EndsIn v.hand.seen x × StartsWith v.hand.seen (opening ∷ []) × (length v.hand.seen ≡ length v.hand.drawn + 1)
+      × ((n : ℕ) → n < length v.hand.drawn → times n v.hand.drawn ≡ 1) × ((n : ℕ) → length v.hand.drawn ≤ n → times n v.hand.drawn ≡ 0)
+
   -- a view that has taken in what it was told
   abbrev pub taken_in : View T → View T
   taken_in v = record v { hand = record v.hand { seen = longer v.hand.seen v.told }; told = [] }

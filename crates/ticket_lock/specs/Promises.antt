@@ -1,6 +1,9 @@
 -- What the calls of a lock promise.
 use Rattle.std.specs.Prelude.{◌≡◌, ◌≢◌, ℕ, ◌+◌, ◌-◌, ◌<◌, ◌≤◌, List, [], ◌∷◌, ◌++◌, length}
-use Rattle.ticket_lock.specs.Count.{times, without}
+use mathlib.Core.Option.{some}
+use lib.ListN.{get_elem?}
+use Rattle.atomic_table.specs.Seated.{TableId}
+use Rattle.ticket_lock.specs.Count.{times, total, without}
 use Rattle.ticket_lock.specs.History.{StartsWith, EndsIn, longer, IsRising}
 use Rattle.ticket_lock.specs.Lanes.{Standing, Held, Told}
 
@@ -54,6 +57,23 @@ module _ {T : Type 0} where
       pub mine : StartsWith b.seen a.seen
       pub theirs : StartsWith b.seen note.seen
       pub rises : IsRising before b.seen
+
+  -- a lane of this lock with no ticket and no guard in hand
+  abbrev pub IsIdle : TableId → Standing T → Type 0
+  IsIdle id x = (x.lock ≡ id) × (x.tickets ≡ []) × (x.inside ≡ [])
+
+  -- the value is the last one of the longest history that a lane has seen, of which the history of each other lane is a beginning; it begins with the opening value, and has one value more than tickets were drawn;
+  -- each ticket below the number of tickets was drawn once by one lane, and no other was
+  pub record Closes (opening : T) (lanes : List (Standing T)) (value : T) : Type 0 where
+    pub place : ℕ
+    pub longest : Standing T
+    pub there : get_elem? lanes place ≡ some longest
+    pub last : EndsIn longest.seen value
+    pub begun : StartsWith longest.seen (opening ∷ [])
+    pub others : (j : ℕ) (x : Standing T) → get_elem? lanes j ≡ some x → StartsWith longest.seen x.seen
+    pub served : length longest.seen ≡ total (λ x. length x.drawn) lanes + 1
+    pub once : (n : ℕ) → n < total (λ x. length x.drawn) lanes → total (λ x. times n x.drawn) lanes ≡ 1
+    pub no_more : (n : ℕ) → total (λ x. length x.drawn) lanes ≤ n → total (λ x. times n x.drawn) lanes ≡ 0
 
   -- the lane has added the value to the history that it has seen, and is outside
   abbrev pub Left : T → Standing T → Standing T → Type 0

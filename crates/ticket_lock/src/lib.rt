@@ -2,6 +2,7 @@
 #![tactic(auto)]
 
 mod alone;
+mod close;
 mod hand;
 mod lane;
 mod law;

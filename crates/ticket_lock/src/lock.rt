@@ -1,6 +1,7 @@
 //! The lock, and what a lane does with it.
 ghost use Rattle.std.specs.Prelude.{◌≡◌, ◌<◌, [], ◌∷◌, MatchResult};
 ghost use Rattle.ticket_lock.specs.Count.{times};
+ghost use Rattle.ticket_lock.specs.Lanes.{IsSized};
 ghost use Rattle.ticket_lock.specs.Promises.{Drew, WasSpent, CameBack, Served, Entered, MayLeave, Left, Learned};
 
 use crate::alone::{Board, Merges, TakesIn, Tells};
@@ -13,6 +14,7 @@ use std::marker::Model;
 use std::sync::Wait;
 
 /// A value that one lane at a time may change, in the order of the tickets drawn. Contracts see it as a `Lock`.
+#[derive(Drop)]
 pub struct TicketLock<T: LaneLaw, A: Allocator> {
     pub(crate) board: Board<T, A>,
 }
@@ -28,6 +30,13 @@ impl<T: LaneLaw, A: Allocator> Model for TicketLock<T, A> {
 }
 
 impl<T: LaneLaw, A: Allocator> TicketLock<T, A> {
+    pub(crate) fn into_board(self) -> Board<T, A>
+        ensures { IsSized result.shared.table_id × (result.shared.table_id ≡ self.id) × (result.shared.key.value.value ≡ self.opening) × (result.shared.key.lanes ≡ self.lanes) }
+    {
+        let TicketLock { board } = self;
+        board
+    }
+
     /// Draws the next ticket: one fetch_add. `Spent` is answered exactly where the lane has drawn all its tickets, and changes nothing.
     /// The lane must be one of this lock.
     pub fn draw(&self, lane: &mut Lane<T>) -> Result<Ticket, Spent>
