@@ -5,3 +5,5 @@ pub mod LoneSteps
 pub mod Served
 pub mod LoneOpening
 pub mod Closing
+pub mod IntoIter
+pub mod Callers

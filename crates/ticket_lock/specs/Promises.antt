@@ -62,6 +62,10 @@ module _ {T : Type 0} where
   abbrev pub IsIdle : TableId → Standing T → Type 0
   IsIdle id x = (x.lock ≡ id) × (x.tickets ≡ []) × (x.inside ≡ [])
 
+  -- a lane of this lock that waits with one ticket, and has no guard
+  abbrev pub IsWaiting : TableId → ℕ → Standing T → Type 0
+  IsWaiting id ticket x = (x.lock ≡ id) × (x.tickets ≡ ticket ∷ []) × (x.inside ≡ [])
+
   -- the value is the last one of the longest history that a lane has seen, of which the history of each other lane is a beginning; it begins with the opening value, and has one value more than tickets were drawn;
   -- each ticket below the number of tickets was drawn once by one lane, and no other was
   pub record Closes (opening : T) (lanes : List (Standing T)) (value : T) : Type 0 where
