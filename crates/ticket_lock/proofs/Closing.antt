@@ -1,6 +1,5 @@
 -- What the seat that closes a lock has gathered of the lanes.
-use Rattle.std.proofs.Common.{◌≡◌, ◌⊎◌, inl, inr, ℕ, suc, ◌+◌, ◌<◌, ◌≤◌, List, [], ◌∷◌, ◌++◌, length, refl, sym, ap, ◌∙◌, subst, arith, length-append, lt_of_not-le, Some, All}
-use Rattle.std.proofs.lemmas.List.{append-nil}
+use Rattle.std.proofs.Common.{◌≡◌, ◌⊎◌, inl, inr, ℕ, suc, List, [], ◌∷◌, ◌++◌, length, refl, sym, ap, ◌∙◌, subst, arith, length-append, lt_of_not-le, Some, All}
 use mathlib.Core.Option.{some, some-injective}
 use native.Mathlib.Decide.{dec_le}
 use lib.ListN.{get_elem?}
@@ -73,12 +72,12 @@ module _ {T : Type 0} where
         count = omega (arith, ap length n_drawn, length-append v.hand.drawn w.hand.drawn, ap length w_drawn, total-snoc (λ (z : Standing T). length z.drawn) xs y, g.count);
         drawn = λ k. omega (arith, ap (times k) n_drawn, times-append k v.hand.drawn w.hand.drawn, ap (times k) w_drawn, total-snoc (λ (z : Standing T). times k z.drawn) xs y, g.drawn k);
         seen = λ j z e. elim (at_snoc xs y z j e) [
-          inl t ↦ subst (λ (q : Standing T). StartsWith n.hand.seen q.seen) t.1 (subst (λ l. StartsWith n.hand.seen l) w_seen theirs)
+          | inl t ↦ subst (λ (q : Standing T). StartsWith n.hand.seen q.seen) t.1 (subst (λ l. StartsWith n.hand.seen l) w_seen theirs)
           | inr t ↦ StartsWith-trans n.hand.seen v.hand.seen z.seen mine (g.seen j z t)
         ];
         top = elim (dec_le (length w.hand.seen) (length v.hand.seen)) [
-          yes d ↦ (let same : n.hand.seen ≡ v.hand.seen = n_seen ∙ longer_first v.hand.seen w.hand.seen d in elim g.top [
-            inl none ↦ inl (same ∙ none)
+          | yes d ↦ (let same : n.hand.seen ≡ v.hand.seen = n_seen ∙ longer_first v.hand.seen w.hand.seen d in elim g.top [
+            | inl none ↦ inl (same ∙ none)
             | inr t ↦ inr (t.0, t.1, at_longer xs (y ∷ []) t.0 t.1 t.2, t.3 ∙ sym same)
           ])
           | no d ↦ (let lt = lt_of_not-le d in let same : n.hand.seen ≡ w.hand.seen = n_seen ∙ longer_second v.hand.seen w.hand.seen lt in inr (length xs, y, at_last xs y, sym w_seen ∙ sym same))
@@ -90,8 +89,7 @@ module _ {T : Type 0} where
       → standing own_id number left own.0 ≡ y → IsIdle id y → n ≡ (merged m.0 own.0, m.1) → TookIn before part n o → (o.1 ≡ []) × Gathered (xs ++ y ∷ []) o.0
   gathers_step before part xs y id own_id number left m n o own g none lane is idle joined took =
       let n_view : n.0 ≡ merged m.0 own.0 = ap (λ z. z.0) joined in
-      let n_none : n.1 ≡ [] = ap (λ z. z.1) joined ∙ none in
-      (
+      let n_none : n.1 ≡ [] = ap (λ z. z.1) joined ∙ none in (
         ap (λ z. z.1) took.0 ∙ n_none,
         gathers_one xs m.0 o.0 y own_id number left own g lane is idle.1 idle.2 (ap (λ z. z.0) took.0 ∙ ap taken_in n_view) (subst (λ (z : View T). StartsWith o.0.hand.seen z.hand.seen) n_view took.1) (subst (λ (z : View T). StartsWith o.0.hand.seen z.told) n_view took.2),
       )
@@ -105,7 +103,7 @@ module _ {T : Type 0} where
 
   pub closes_is : (xs : List (Standing T)) (v : View T) (opening opening' x : T) → Gathered xs v → opening ≡ opening' → Rests opening v x → Closes opening' xs x
   closes_is xs v opening opening' x g same r = elim g.top [
-    inl none ↦ absurd (let z : length v.hand.seen ≡ 0 = ap length none in omega (arith, r.2))
+    | inl none ↦ absurd (let z : length v.hand.seen ≡ 0 = ap length none in omega (arith, r.2))
     | inr t ↦ record {
       place = t.0;
       longest = t.1;

@@ -1,13 +1,13 @@
 -- Each step of the lock keeps its rule.
-use Rattle.std.proofs.Common.{◌≡◌, ◌≢◌, ◌⊎◌, inl, inr, ℕ, zero, suc, ◌+◌, ◌*◌, ◌^◌, ◌<◌, ◌≤◌, List, [], ◌∷◌, ◌++◌, length, set, refl, sym, ap, ◌∙◌, subst, arith, Option, Some, length-append, lt_of_not-le}
+use Rattle.std.proofs.Common.{◌≡◌, ◌≢◌, inl, inr, ℕ, ◌+◌, ◌*◌, ◌^◌, ◌<◌, ◌≤◌, List, [], ◌∷◌, ◌++◌, length, set, refl, sym, ap, ◌∙◌, subst, arith, Option, Some, length-append, lt_of_not-le}
 use mathlib.Core.Option as maybe
 use mathlib.Core.Option.{some}
 use mathlib.Core.Logic.{dite}
 use native.Mathlib.Decide.{ℕ_discrete, dec_le}
 use lib.ListN.{get_elem?}
 use Rattle.ticket_lock.specs.declared.hand.Hand.{Hand}
-use Rattle.ticket_lock.specs.Count.{times, without, total}
-use Rattle.ticket_lock.specs.History.{StartsWith, EndsIn}
+use Rattle.ticket_lock.specs.Count.{times, total}
+use Rattle.ticket_lock.specs.History.{StartsWith}
 use Rattle.ticket_lock.specs.Core.{in_hand, Fits, Core}
 use Rattle.ticket_lock.specs.Turns.{with_ticket, with_entry, with_leave}
 use Rattle.ticket_lock.specs.Facts.{total_set, total_at, total_two, total_few, total_plus, at_set, set_here, at_inside, times-snoc, times-one, times-other, times-without, StartsWith-refl, StartsWith-more, EndsIn-more}
@@ -64,7 +64,7 @@ module _ {T : Type 0} (serving next : ℕ) (log : List T) (here : maybe.Option (
   outside some_of =
       let range = in_range serving (omega arith) in
       elim ((c.each id h is_at).inside) [
-        inl e ↦ e
+        | inl e ↦ e
         | inr e ↦ (let one : times serving h.inside ≡ 1 = subst (λ l. times serving l ≡ 1) (sym e.0) (times-one serving) in absurd (omega (arith, c.held serving (omega arith) range.1, total_at (in_hand serving) hands id h is_at)))
       ]
 
@@ -74,7 +74,7 @@ module _ {T : Type 0} (serving next : ℕ) (log : List T) (here : maybe.Option (
       let mine = c.each id h is_at in
       let out = outside some_of in
       let same : (n : ℕ) → total (in_hand n) (set hands id w) ≡ total (in_hand n) hands = λ n.
-          (let none : times n h.inside ≡ 0 = ap (times n) out in omega (arith, total_set (in_hand n) hands id h w is_at, times-without serving n h.tickets some_of)) in
+      (let none : times n h.inside ≡ 0 = ap (times n) out in omega (arith, total_set (in_hand n) hands id h w is_at, times-without serving n h.tickets some_of)) in
       record {
         served = c.served;
         order = c.order;
@@ -103,7 +103,7 @@ module _ {T : Type 0} (serving next : ℕ) (log : List T) (here : maybe.Option (
       let held_one = c.held serving (omega arith) range.1 in
       let at_most = total_at (in_hand serving) hands id h is_at in
       let other : (n : ℕ) → serving ≢ n → total (in_hand n) (set hands id w) ≡ total (in_hand n) hands = λ n ne.
-          (let none : times n h.inside ≡ 0 = ap (times n) inside ∙ times-other n serving ne in omega (arith, total_set (in_hand n) hands id h w is_at)) in
+      (let none : times n h.inside ≡ 0 = ap (times n) inside ∙ times-other n serving ne in omega (arith, total_set (in_hand n) hands id h w is_at)) in
       record {
         served = omega (arith, length-append log (y ∷ []), c.served);
         order = omega arith;
@@ -124,7 +124,7 @@ module _ {T : Type 0} (serving next : ℕ) (log : List T) (here : maybe.Option (
         } (λ j x ne e. let f = c.each j x e in record {
           begins = StartsWith-more log x.seen y f.begins;
           inside = inl (elim f.inside [
-            inl o ↦ o
+            | inl o ↦ o
             | inr o ↦ (let two = total_two (in_hand serving) hands id j h x (λ s. ne (sym s)) is_at e in
                 let also : times serving x.inside ≡ 1 = subst (λ l. times serving l ≡ 1) (sym o.0) (times-one serving) in absurd (omega arith))
           ]);
@@ -145,14 +145,14 @@ module _ {T : Type 0} (serving next : ℕ) (log : List T) (here : maybe.Option (
     where
       inside_counts : (j : ℕ) (x : Hand T) → get_elem? hands j ≡ some x → length x.inside ≤ times serving x.inside * 1
       inside_counts j x e = elim ((c.each j x e).inside) [
-        inl o ↦ (let z : length x.inside ≡ 0 = ap length o in omega arith)
+        | inl o ↦ (let z : length x.inside ≡ 0 = ap length o in omega arith)
         | inr o ↦ (let z : length x.inside ≡ 1 = ap length o.0 in let also : times serving x.inside ≡ 1 = subst (λ l. times serving l ≡ 1) (sym o.0) (times-one serving) in omega arith)
       ]
 
 module _ {T : Type 0} (serving next : ℕ) (log : List T) (here : maybe.Option (maybe.Option (Option T))) (hands : List (Hand T)) (c : Core serving next log here hands) where
   inside_is : (j : ℕ) (x : Hand T) → get_elem? hands j ≡ some x → length x.inside ≤ in_hand serving x * 1
   inside_is j x e = elim ((c.each j x e).inside) [
-    inl o ↦ (let z : length x.inside ≡ 0 = ap length o in omega arith)
+    | inl o ↦ (let z : length x.inside ≡ 0 = ap length o in omega arith)
     | inr o ↦ (let z : length x.inside ≡ 1 = ap length o.0 in let also : times serving x.inside ≡ 1 = subst (λ l. times serving l ≡ 1) (sym o.0) (times-one serving) in omega arith)
   ]
 

@@ -1,5 +1,5 @@
 -- The rule of a lone lock holds of a new table, and the lanes that are dealt.
-use Rattle.std.proofs.Common.{◌≡◌, ◌≢◌, inl, inr, ℕ, zero, suc, ◌+◌, ◌-◌, ◌*◌, ◌^◌, ◌<◌, ◌≤◌, List, [], ◌∷◌, ◌++◌, map, length, refl, sym, ap, ◌∙◌, subst, arith, Option, Some}
+use Rattle.std.proofs.Common.{◌≡◌, ◌≢◌, inl, ℕ, zero, suc, ◌+◌, ◌-◌, ◌<◌, ◌≤◌, List, [], ◌∷◌, ◌++◌, map, length, refl, sym, ap, ◌∙◌, subst, arith, Option, Some}
 use mathlib.Core.Option.{some, some-injective, some-ne-none}
 use mathlib.Core.Logic.{dite}
 use native.Mathlib.Decide.{ℕ_discrete}
@@ -8,14 +8,13 @@ use Rattle.atomic_table.specs.Table.{Me, Splits, opening}
 use Rattle.atomic_table.specs.Seated.{TableId}
 use Rattle.ticket_lock.specs.declared.hand.Hand.{Hand}
 use Rattle.ticket_lock.specs.declared.view.View.{View}
-use Rattle.ticket_lock.specs.Count.{times, total}
-use Rattle.ticket_lock.specs.History.{StartsWith, EndsIn, IsRising}
-use Rattle.ticket_lock.specs.Core.{in_hand, Fits, Core}
-use Rattle.ticket_lock.specs.Turns.{Kept}
+use Rattle.ticket_lock.specs.Count.{times}
+use Rattle.ticket_lock.specs.History.{IsRising}
+use Rattle.ticket_lock.specs.Core.{Fits}
 use Rattle.ticket_lock.specs.Lone.{lanes_from, new_view, less_one, just_one, Knows, Lone}
 use Rattle.ticket_lock.specs.Lanes.{Standing, standing, fresh_lane, fresh_lanes}
 use Rattle.ticket_lock.proofs.LoneSteps.{deals_allowed}
-use Rattle.ticket_lock.specs.Facts.{times-other, times-one, EndsIn-same, EndsIn-more, StartsWith-refl}
+use Rattle.ticket_lock.specs.Facts.{times-other, times-one, EndsIn-same, StartsWith-refl}
 
 module _ {T : Type 0} where
   pub length-lanes : (first count : ℕ) (x : T) → length (lanes_from first count x) ≡ count
@@ -73,8 +72,7 @@ module _ {T : Type 0} where
       let none : m.1 ≡ [] = ap (λ z. z.1) is in
       let own_view : own.0 ≡ just_one (new_view (x ∷ []) (lanes_from n left x)) = ap (λ z. z.0) own_is ∙ ap just_one first in
       let lane : standing own_id n' budget own.0 ≡ fresh_lane id budget x n = (λ i. standing (same_id i) (same_n i) budget (own_view i)) ∙ just_fresh id budget n left x some_of in
-      let zero_n : n ≡ 0 + n = omega arith in
-      (
+      let zero_n : n ≡ 0 + n = omega arith in (
         left - 1,
         omega arith,
         is' ∙ ((λ i. (less_one (first i), none i)) ∙ (λ i. (less_next (x ∷ []) n left x some_of i, []))),
@@ -117,9 +115,11 @@ module _ {T Part : Type 0} (before : T → T → Type 0) (part : ℕ → T → P
       each_hand : (h : Hand T) → Fits 0 (x ∷ []) h → (j : ℕ) (k : Hand T) → get_elem? (h ∷ []) j ≡ some k → Fits 0 (x ∷ []) k
       each_hand h f zero k e = subst (λ z. Fits 0 (x ∷ []) z) (some-injective h k e) f
       each_hand h f (suc j) k e = absurd (some-ne-none k (sym e))
+
       each_one : (v : View T) → Knows before part (x ∷ []) v → (j : ℕ) (k : View T) → get_elem? (v ∷ []) j ≡ some k → Knows before part (x ∷ []) k
       each_one v f zero k e = subst (λ z. Knows before part (x ∷ []) z) (some-injective v k e) f
       each_one v f (suc j) k e = absurd (some-ne-none k (sym e))
+
       rises_one : IsRising before (x ∷ [])
       rises_one zero zero a b le p q = let e : a ≡ b = sym (some-injective x a p) ∙ some-injective x b q in subst (λ z. before a z) e (same a)
       rises_one zero (suc j) a b le p q = absurd (some-ne-none b (sym q))

@@ -1,5 +1,5 @@
 -- Each step of a lock at a place may be taken, under every rule that lets a lock stand there.
-use Rattle.std.proofs.Common.{◌≡◌, ◌≢◌, ◌⊎◌, inl, inr, ℕ, zero, suc, ◌+◌, ◌*◌, ◌^◌, ◌%◌, ◌<◌, ◌≤◌, List, [], ◌∷◌, ◌++◌, map, length, set, get_or, refl, sym, ap, ◌∙◌, subst, arith, Option, Some, None, length-set, get_or-set_other, get_or-set_same}
+use Rattle.std.proofs.Common.{◌≡◌, ◌≢◌, inl, inr, ℕ, ◌+◌, ◌*◌, ◌^◌, ◌%◌, ◌<◌, List, [], ◌∷◌, ◌++◌, map, length, set, get_or, refl, sym, ap, ◌∙◌, subst, arith, Option, Some, length-set, get_or-set_other, get_or-set_same}
 use mathlib.Core.Option as maybe
 use mathlib.Core.Option.{some, none}
 use mathlib.Core.Logic.{dite}
@@ -7,12 +7,12 @@ use native.Mathlib.Decide.{ℕ_discrete}
 use lib.ListN.{get_elem?}
 use Rattle.atomic_table.specs.Table.{State, Me, keeps, takes, gives, Allows, rest}
 use Rattle.ticket_lock.specs.declared.hand.Hand.{Hand}
-use Rattle.ticket_lock.specs.Count.{times, total}
+use Rattle.ticket_lock.specs.Count.{times}
 use Rattle.ticket_lock.specs.History.{StartsWith, EndsIn}
-use Rattle.ticket_lock.specs.Core.{in_hand, Fits, Core}
-use Rattle.ticket_lock.specs.Turns.{Kind, draws, waits, enters, passes, with_ticket, with_entry, with_leave, Turns, Kept, Follows, Opens}
-use Rattle.ticket_lock.specs.Calls.{Draws, Enters, Drew, Waited, Entered, Loaded, Passed}
-use Rattle.ticket_lock.specs.Facts.{total_at, set_again, set_here, set_else, at_inside, at-map, StartsWith-length, EndsIn-some}
+use Rattle.ticket_lock.specs.Core.{in_hand, Core}
+use Rattle.ticket_lock.specs.Turns.{Kind, draws, waits, enters, passes, with_ticket, with_entry, with_leave, Kept, Opens}
+use Rattle.ticket_lock.specs.Calls.{Drew, Loaded, Passed}
+use Rattle.ticket_lock.specs.Facts.{total_at, set_again, set_here, set_else, at-map, StartsWith-length, EndsIn-some}
 use Rattle.ticket_lock.proofs.CoreSteps.{in_range, few_drawn, core_draws, outside, core_enters, core_passes, nobody_inside}
 
 module _ {T : Type 0} where
@@ -44,12 +44,25 @@ module _ {T V : Type 0} (holds : State (Option T) V → Type 0) (see : V → Han
       let c = core_draws serving next log here hands id h is_h kept.core room in
       let inside = kept.room in
       let kept' : Kept word slot log (set s.words (word + 1) n) s.homes (set hands id w) = kept_words word slot (word + 1) n serving (next + 1) log s.words s.homes (set hands id w) kept.room
-          (get_or-set_other s.words (word + 1) word n 0 (λ k. omega arith)) (get_or-set_same s.words (word + 1) n 0 inside ∙ e) c in
-      let r = o.2 id m.0 is_at draws (word + 1) n s.homes log w (inr refl) refl (λ k _. refl) (refl, (next, refl)) kept' asked in
-      (r.0, keeps, tt, r.2, (refl, (r.1, (omega (arith, StartsWith-length log h.seen fits.begins, kept.core.served, kept.core.order)), (λ k le. (
-        (let t = total_at (λ (x : Hand T). times k x.drawn) hands id h is_h in omega (arith, kept.core.undrawn k le)),
-        (let t = total_at (in_hand k) hands id h is_h in omega (arith, kept.core.ahead k le)),
-      ))), r.3))
+      (get_or-set_other s.words (word + 1) word n 0 (λ k. omega arith)) (get_or-set_same s.words (word + 1) n 0 inside ∙ e) c in
+      let r = o.2 id m.0 is_at draws (word + 1) n s.homes log w (inr refl) refl (λ k _. refl) (refl, (next, refl)) kept' asked in (
+        r.0,
+        keeps,
+        tt,
+        r.2,
+        (
+          refl,
+          (
+            r.1,
+            (omega (arith, StartsWith-length log h.seen fits.begins, kept.core.served, kept.core.order)),
+            (λ k le. (
+              (let t = total_at (λ (x : Hand T). times k x.drawn) hands id h is_h in omega (arith, kept.core.undrawn k le)),
+              (let t = total_at (in_hand k) hands id h is_h in omega (arith, kept.core.ahead k le)),
+            )),
+          ),
+          r.3,
+        ),
+      )
 
   pub looks_allowed : (slots id : ℕ) (m : Me (Option T) V) (ticket : ℕ) → 0 < times ticket (see m.0).tickets → asks waits m.0 → ((x : T) → asks (enters x) m.0)
       → Allows holds slots id m word (λ n. n) (Loaded see tells slot ticket m)
@@ -72,31 +85,30 @@ module _ {T V : Type 0} (holds : State (Option T) V → Type 0) (see : V → Han
       let same_b : get_or (set s.words word serving) (word + 1) 0 ≡ next = get_or-set_other s.words word (word + 1) serving 0 (λ k. omega arith) in
       dite (ℕ_discrete serving ticket)
       (λ (e : serving ≡ ticket).
-          let here_now : 0 < times serving h.tickets = subst (λ k. 0 < times k h.tickets) (sym e) some_of in
-          let home = kept.core.home (nobody_inside serving next log here hands id h is_h kept.core here_now) in
-          let x : T = home.0 in
-          let homes : List (maybe.Option (Option T)) = set s.homes slot none in
-          let w : Hand T = with_entry serving log h in
-          let c = core_enters serving next log here hands id h is_h kept.core (get_elem? homes slot) here_now in
-          let kept' : Kept word slot log (set s.words word serving) homes (set hands id w) = kept_words word slot word serving serving next log s.words homes (set hands id w) kept.room same_a same_b c in
-          let r = o.2 id m.0 is_at (enters x) word serving homes log w (inl refl) (length-set s.homes slot none) (λ k ne. set_else s.homes slot k none ne) (refl, home.1, (serving, refl)) kept' (ask_enters x) in
-          let seen : (see r.0).seen ≡ log = ap (λ (z : Hand T). z.seen) r.1 in
-          let E : List T → Type 0 = λ l. (see r.0 ≡ with_entry ticket l h) × (h.inside ≡ []) × (length l ≡ ticket + 1) × StartsWith l h.seen × EndsIn l x in
-          (
-            r.0,
-            takes slot (Some x),
-            home.2,
-            r.2,
-            (
-              (λ _. (x, (refl, subst E (sym seen) (subst (λ k. see r.0 ≡ with_entry k log h) e r.1, outside serving next log here hands id h is_h kept.core here_now, omega arith, fits.begins, home.1), r.3))),
-              λ ne. absurd (ne e),
-            ),
-          ))
+      let here_now : 0 < times serving h.tickets = subst (λ k. 0 < times k h.tickets) (sym e) some_of in
+      let home = kept.core.home (nobody_inside serving next log here hands id h is_h kept.core here_now) in
+      let x : T = home.0 in
+      let homes : List (maybe.Option (Option T)) = set s.homes slot none in
+      let w : Hand T = with_entry serving log h in
+      let c = core_enters serving next log here hands id h is_h kept.core (get_elem? homes slot) here_now in
+      let kept' : Kept word slot log (set s.words word serving) homes (set hands id w) = kept_words word slot word serving serving next log s.words homes (set hands id w) kept.room same_a same_b c in
+      let r = o.2 id m.0 is_at (enters x) word serving homes log w (inl refl) (length-set s.homes slot none) (λ k ne. set_else s.homes slot k none ne) (refl, home.1, (serving, refl)) kept' (ask_enters x) in
+      let seen : (see r.0).seen ≡ log = ap (λ (z : Hand T). z.seen) r.1 in
+      let E : List T → Type 0 = λ l. (see r.0 ≡ with_entry ticket l h) × (h.inside ≡ []) × (length l ≡ ticket + 1) × StartsWith l h.seen × EndsIn l x in (
+        r.0,
+        takes slot (Some x),
+        home.2,
+        r.2,
+        (
+          (λ _. (x, (refl, subst E (sym seen) (subst (λ k. see r.0 ≡ with_entry k log h) e r.1, outside serving next log here hands id h is_h kept.core here_now, omega arith, fits.begins, home.1), r.3))),
+          λ ne. absurd (ne e),
+        ),
+      ))
       (λ (ne : serving ≢ ticket).
-          let kept' : Kept word slot log (set s.words word serving) s.homes (set hands id h) = kept_words word slot word serving serving next log s.words s.homes (set hands id h) kept.room same_a same_b
-              (subst (λ l. Core serving next log here l) (sym (set_again hands id h is_h)) kept.core) in
-          let r = o.2 id m.0 is_at waits word serving s.homes log h (inl refl) refl (λ k _. refl) (refl, refl) kept' ask_waits in
-          (r.0, keeps, tt, r.2, ((λ e. absurd (ne e)), (λ _. (refl, r.1, omega arith, r.3)))))
+      let kept' : Kept word slot log (set s.words word serving) s.homes (set hands id h) = kept_words word slot word serving serving next log s.words s.homes (set hands id h) kept.room same_a same_b
+      (subst (λ l. Core serving next log here l) (sym (set_again hands id h is_h)) kept.core) in
+      let r = o.2 id m.0 is_at waits word serving s.homes log h (inl refl) refl (λ k _. refl) (refl, refl) kept' ask_waits in
+      (r.0, keeps, tt, r.2, ((λ e. absurd (ne e)), (λ _. (refl, r.1, omega arith, r.3)))))
 
   passes_with : (slots id : ℕ) (v : V) (y : T) (tail : List (ℕ × Option T)) (t : ℕ) → slot < slots → (see v).inside ≡ t ∷ [] → ((x : T) → EndsIn (see v).seen x → asks (passes x y) v)
       → Allows holds slots id (v, (slot, Some y) ∷ tail) word (λ n. (n + 1) % 2 ^ 64) (λ n. Passed see tells slot (v, (slot, Some y) ∷ tail))
@@ -119,19 +131,19 @@ module _ {T V : Type 0} (holds : State (Option T) V → Type 0) (see : V → Han
       let homes : List (maybe.Option (Option T)) = set s.homes slot (some (Some y)) in
       let home_is : get_elem? homes slot ≡ some (some (Some y)) = set_here s.homes slot (some (Some y)) (omega arith) in
       elim fits.inside [
-        inl none_in ↦ (let no : [] ≡ t ∷ [] = sym none_in ∙ is_inside in cc)
+        | inl none_in ↦ (let no : [] ≡ t ∷ [] = sym none_in ∙ is_inside in cc)
         | inr both ↦ (
-          let w : Hand T = with_leave y h in
-          let last = EndsIn-some log (omega (arith, kept.core.served)) in
-          let x : T = last.0 in
-          let ends : EndsIn h.seen x = subst (λ l. EndsIn l x) (sym both.1) last.1 in
-          let c = core_passes serving next log here hands id h is_h kept.core y both.0 both.1 in
-          let kept' : Kept word slot (log ++ y ∷ []) (set s.words word n) homes (set hands id w) = kept_words word slot word n (serving + 1) next (log ++ y ∷ []) s.words homes (set hands id w) kept.room
-              (get_or-set_same s.words word n 0 (omega arith) ∙ e) (get_or-set_other s.words word (word + 1) n 0 (λ k. omega arith))
-              (subst (λ z. Core (serving + 1) next (log ++ y ∷ []) z (set hands id w)) (sym home_is) c) in
-          let r = o.2 id v is_at (passes x y) word n homes (log ++ y ∷ []) w (inl refl) (length-set s.homes slot (some (Some y))) (λ k ne. set_else s.homes slot k (some (Some y)) ne)
-              (refl, last.1, both.1, refl) kept' (asked x ends) in
-          (r.0, gives, tt, r.2, (x, y, refl, refl, ends, r.1, r.3)))
+            let w : Hand T = with_leave y h in
+            let last = EndsIn-some log (omega (arith, kept.core.served)) in
+            let x : T = last.0 in
+            let ends : EndsIn h.seen x = subst (λ l. EndsIn l x) (sym both.1) last.1 in
+            let c = core_passes serving next log here hands id h is_h kept.core y both.0 both.1 in
+            let kept' : Kept word slot (log ++ y ∷ []) (set s.words word n) homes (set hands id w) = kept_words word slot word n (serving + 1) next (log ++ y ∷ []) s.words homes (set hands id w) kept.room
+            (get_or-set_same s.words word n 0 (omega arith) ∙ e) (get_or-set_other s.words word (word + 1) n 0 (λ k. omega arith))
+            (subst (λ z. Core (serving + 1) next (log ++ y ∷ []) z (set hands id w)) (sym home_is) c) in
+            let r = o.2 id v is_at (passes x y) word n homes (log ++ y ∷ []) w (inl refl) (length-set s.homes slot (some (Some y))) (λ k ne. set_else s.homes slot k (some (Some y)) ne)
+            (refl, last.1, both.1, refl) kept' (asked x ends) in
+            (r.0, gives, tt, r.2, (x, y, refl, refl, ends, r.1, r.3)))
       ]
 
   pub passes_allowed : (slots id : ℕ) (m : Me (Option T) V) (y : T) (t : ℕ) → slot < slots → m.1 ≡ (slot, Some y) ∷ rest m.1 → (see m.0).inside ≡ t ∷ [] → ((x : T) → EndsIn (see m.0).seen x → asks (passes x y) m.0)

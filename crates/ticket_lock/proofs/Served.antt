@@ -1,5 +1,5 @@
 -- From what a step tells to what a call of a lock promises.
-use Rattle.std.proofs.Common.{◌≡◌, ◌≢◌, ℕ, ◌+◌, ◌-◌, ◌<◌, ◌≤◌, List, [], ◌∷◌, ◌++◌, map, length, refl, sym, ap, ◌∙◌, subst, arith, eqb, cond, false, eq-eqb, ne_eqb, Option, None}
+use Rattle.std.proofs.Common.{◌≡◌, ◌≢◌, ℕ, ◌+◌, ◌-◌, ◌<◌, ◌≤◌, List, [], ◌∷◌, ◌++◌, map, refl, sym, ap, ◌∙◌, subst, arith, eqb, false, eq-eqb, ne_eqb}
 use mathlib.Core.Option.{some}
 use mathlib.Core.Logic.{dite}
 use native.Mathlib.Decide.{ℕ_discrete}
@@ -7,12 +7,11 @@ use lib.ListN.{get_elem?}
 use Rattle.atomic_table.specs.Seated.{TableId}
 use Rattle.ticket_lock.specs.declared.view.View.{View}
 use Rattle.ticket_lock.specs.Count.{times, without}
-use Rattle.ticket_lock.specs.History.{StartsWith, EndsIn}
 use Rattle.ticket_lock.specs.Turns.{enters}
 use Rattle.ticket_lock.specs.Calls.{Enters}
 use Rattle.ticket_lock.specs.Lone.{Tells}
 use Rattle.ticket_lock.specs.Lanes.{Standing, Held, standing}
-use Rattle.ticket_lock.specs.Promises.{Drew, Stands, Served, Entered}
+use Rattle.ticket_lock.specs.Promises.{Drew, Served, Entered}
 use Rattle.ticket_lock.specs.Facts.{times-snoc, times-one}
 
 -- the last of a list is the first of its kind

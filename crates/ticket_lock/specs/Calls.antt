@@ -1,6 +1,6 @@
 -- What each call of a lock at a place tells.
-use Rattle.std.specs.Prelude.{◌≡◌, ◌≢◌, ℕ, ◌+◌, ◌^◌, ◌<◌, ◌≤◌, List, [], ◌∷◌, length, Option, Some, None, MatchOption}
-use Rattle.atomic_table.specs.Table.{Me, Step, rest}
+use Rattle.std.specs.Prelude.{◌≡◌, ◌≢◌, ℕ, ◌+◌, ◌^◌, ◌<◌, ◌≤◌, [], ◌∷◌, length, Option, Some, None, MatchOption}
+use Rattle.atomic_table.specs.Table.{Me, rest}
 use Rattle.atomic_table.specs.Seated.{TableId}
 use Rattle.atomic_table.specs.declared.shared.Seat.{Seat}
 use Rattle.ticket_lock.specs.declared.hand.Hand.{Hand}

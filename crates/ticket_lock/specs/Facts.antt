@@ -1,12 +1,12 @@
 -- Lemmas on counting and on histories, which the laws of the rules cite.
-use Rattle.std.proofs.Common.{◌≡◌, ◌≢◌, ◌⊎◌, inl, inr, ℕ, zero, suc, ◌+◌, ◌*◌, ◌<◌, ◌≤◌, eqb, cond, true, false, Bool, List, [], ◌∷◌, ◌++◌, map, length, set, refl, sym, ap, ◌∙◌, subst, arith, append_assoc, eq-eqb, ne_eqb, length-append}
+use Rattle.std.proofs.Common.{◌≡◌, ◌≢◌, ◌⊎◌, inl, inr, ℕ, zero, suc, ◌+◌, ◌*◌, ◌<◌, ◌≤◌, eqb, cond, true, false, List, [], ◌∷◌, ◌++◌, map, length, set, refl, sym, ap, ◌∙◌, subst, arith, append_assoc, eq-eqb, ne_eqb, length-append}
 use Rattle.std.proofs.lemmas.List.{append-nil}
 use mathlib.Core.Option.{some, some-injective, some-ne-none}
 use mathlib.Core.Logic.{dite}
-use native.Mathlib.Decide.{ℕ_discrete, dec_le}
+use native.Mathlib.Decide.{ℕ_discrete}
 use lib.ListN.{get_elem?}
 use Rattle.ticket_lock.specs.Count.{times, without, total}
-use Rattle.ticket_lock.specs.History.{StartsWith, EndsIn, longer, IsRising}
+use Rattle.ticket_lock.specs.History.{StartsWith, EndsIn, IsRising}
 
 module _ {A : Type 0} where
   pub total_set : (f : A → ℕ) (l : List A) (i : ℕ) (v w : A) → get_elem? l i ≡ some v → total f (set l i w) + f v ≡ total f l + f w
@@ -179,9 +179,9 @@ module _ {A : Type 0} where
       → (l : List A) (x y : A) → EndsIn l x → before x y → IsRising before l → IsRising before (l ++ y ∷ [])
   rises_on before same on l x y ends step up i j a b le at_a at_b =
       elim (at_snoc l y b j at_b) [
-        inr old_b ↦ (let short = at_inside l j b old_b in elim (at_snoc l y a i at_a) [ inl t ↦ absurd (omega arith) | inr old_a ↦ up i j a b le old_a old_b ])
+        | inr old_b ↦ (let short = at_inside l j b old_b in elim (at_snoc l y a i at_a) [ inl t ↦ absurd (omega arith) | inr old_a ↦ up i j a b le old_a old_b ])
         | inl t ↦ elim (at_snoc l y a i at_a) [
-          inl s ↦ (let e : a ≡ b = sym s.1 ∙ t.1 in subst (λ z. before a z) e (same a))
+          | inl s ↦ (let e : a ≡ b = sym s.1 ∙ t.1 in subst (λ z. before a z) e (same a))
           | inr old_a ↦ (let short = at_inside l i a old_a in
               let n : ℕ = length ends.0 in
               let long : length l ≡ n + 1 = omega (arith, ap length ends.1, length-append ends.0 (x ∷ [])) in

@@ -28,11 +28,7 @@ impl LaneLaw for Marks {
 
 type Lock = TicketLock<Marks, Global>;
 
-fn open(
-    alloc: Global,
-    lanes: u8,
-    budget: u64,
-) -> Result<(Lock, Vec<Lane<Marks>>), AllocError>
+fn open(alloc: Global, lanes: u8, budget: u64) -> Result<(Lock, Vec<Lane<Marks>>), AllocError>
     requires { (0 < lanes) × (lanes ≤ 64) × (2 ≤ budget) × (budget ≤ 1000000) }
     ensures { IfOk result (λ r. All (IsIdle r.0.id) r.1.items × (vec_len r.1 ≡ lanes) × (r.0.lanes ≡ lanes)) }
 {
@@ -89,13 +85,7 @@ fn look_early<R: Abort>(rt: &R, lock: &Lock, lane: &mut Lane<Marks>, ticket: Tic
 }
 
 // Looks in turn, adds a mark and leaves. It says how many marks it found.
-fn serve<R: Abort>(
-    rt: &R,
-    lock: &Lock,
-    lane: &mut Lane<Marks>,
-    ticket: Ticket,
-    mark: u64,
-) -> usize
+fn serve<R: Abort>(rt: &R, lock: &Lock, lane: &mut Lane<Marks>, ticket: Ticket, mark: u64) -> usize
     requires { IsWaiting lock.now.id ticket lane.old }
     ensures { IsIdle lock.now.id lane.new }
 {

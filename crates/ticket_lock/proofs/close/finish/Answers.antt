@@ -1,4 +1,4 @@
-use Rattle.std.proofs.Common.{◌≡◌, sym, ◌∙◌, ap, subst, Some, None}
+use Rattle.std.proofs.Common.{◌≡◌, sym, ◌∙◌, subst, Some}
 use mathlib.Core.Option.{some-injective}
 use Rattle.ticket_lock.specs.Lone.{Rests}
 use Rattle.ticket_lock.proofs.LoneSteps.{closes}

@@ -19,5 +19,5 @@ loop-number-preserved g c =
     let now = c.loop-number.invariant in
     let did = c.split_seat-own.ensures in
     let r = dealt_next c.args.shared.now.table_id c.split_seat-own.result.table_id c.args.budget c.loop-number.number c.from.result c.args.lanes now.0 c.args.shared.now.key.value.value c.loop-number.seat.me c.split_seat-own.new.seat.me
-        c.split_seat-own.result.me c.loop-number.dealt.items c.push_reserved.new.self.items now.1 c.loop-number-test.true c.from.ensures (did.3 ∙ now.2) now.3 did.2 did.4 now.4 c.push_reserved.ensures.items in
+    c.split_seat-own.result.me c.loop-number.dealt.items c.push_reserved.new.self.items now.1 c.loop-number-test.true c.from.ensures (did.3 ∙ now.2) now.3 did.2 did.4 now.4 c.push_reserved.ensures.items in
     (r.0, r.1, did.0 ∙ now.2, r.2, r.3, c.push_reserved.ensures.capacity ∙ now.5)

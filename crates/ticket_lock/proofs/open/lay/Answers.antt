@@ -1,4 +1,4 @@
-use Rattle.std.proofs.Common.{◌≡◌, sym, ◌∙◌, ap, subst, arith, Some, [], ◌∷◌, zero}
+use Rattle.std.proofs.Common.{sym, ◌∙◌, ap, subst, arith, Some, [], ◌∷◌}
 use Rattle.atomic_table.specs.Table.{opening}
 use Rattle.ticket_lock.specs.Lone.{Lone, new_view, lanes_from}
 use Rattle.ticket_lock.proofs.LoneOpening.{opens}

@@ -1,4 +1,3 @@
-use Rattle.std.proofs.Common.{refl}
 use Rattle.ticket_lock.proofs.Places.{draws_allowed}
 use Rattle.ticket_lock.proofs.place.draw_step.Goals as goal
 

@@ -1,4 +1,4 @@
-use Rattle.std.proofs.Common.{refl, sym, ◌≡◌, ◌∙◌, arith, Some}
+use Rattle.std.proofs.Common.{sym, ◌∙◌, arith, Some}
 use Rattle.ticket_lock.proofs.Places.{looks_allowed}
 use Rattle.ticket_lock.proofs.Carried.{holds_it}
 use Rattle.ticket_lock.proofs.place.look_step.Goals as goal

@@ -1,4 +1,4 @@
-use Rattle.std.proofs.Common.{◌≡◌, subst, sym, ◌∙◌, ap, arith, length, All}
+use Rattle.std.proofs.Common.{subst, sym, ap, arith, length, All}
 use Rattle.ticket_lock.specs.Promises.{IsIdle}
 use Rattle.ticket_lock.proofs.IntoIter.{holds_along, gives_all}
 use Rattle.ticket_lock.proofs.tests.finish.Goals as goal

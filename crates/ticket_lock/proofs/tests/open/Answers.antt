@@ -9,8 +9,7 @@ pub returns-in-Ok : goal.returns-in-Ok
 returns-in-Ok c =
     let made = c.in-Ok.ensures.ok in
     let id = c.in-Ok.made.0.id in
-    let first : Marks = record { marks = c.new.result } in
-    (
+    let first : Marks = record { marks = c.new.result } in (
       subst (λ l. All (IsIdle id) l) (sym made.2) (fresh_idle id c.args.budget first 0 c.args.lanes),
       omega (arith, c.in-Ok.made.1.ok.0, ap length made.2, length-fresh id c.args.budget 0 c.args.lanes first),
       made.1,

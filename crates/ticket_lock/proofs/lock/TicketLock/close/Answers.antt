@@ -1,4 +1,4 @@
-use Rattle.std.proofs.Common.{◌≡◌, sym, ◌∙◌, ap, subst, arith, rules}
+use Rattle.std.proofs.Common.{sym, ◌∙◌, ap, subst, arith, rules}
 use Rattle.std.specs.Iterator.{Yields}
 use Rattle.ticket_lock.proofs.LoneSteps.{arrives_allowed, merges_allowed, takes_in_allowed}
 use Rattle.ticket_lock.proofs.Closing.{next_idle, gathers_step, closes_is}
@@ -18,8 +18,7 @@ join_seat-requires g c =
     let now = c.loop-lane.invariant in
     let idle = next_idle g.I.Iterator.next_gives c.args.lanes c.into_iter-lane-iterator.result c.loop-lane.lane-iterator c.next.new.self c.loop-lane.yielded c.in-Some.lane c.args.self.id c.into_iter-lane-iterator.ensures.into_iter_gives c.loop-lane.yielded_by c.in-Some.ensures.steps c.requires.idle in
     let own = c.into_seat-own.ensures in
-    let inside = ap (λ z. z.inside) own.1 ∙ idle.2 in
-    (
+    let inside = ap (λ z. z.inside) own.1 ∙ idle.2 in (
       now.0 ∙ sym board.1,
       ap (λ z. z.lock) own.1 ∙ (idle.0 ∙ sym board.1),
       own.0.outside inside,
@@ -41,7 +40,7 @@ loop-lane-preserved g c =
     let idle = next_idle g.I.Iterator.next_gives c.args.lanes c.into_iter-lane-iterator.result c.loop-lane.lane-iterator c.next.new.self c.loop-lane.yielded c.in-Some.lane c.args.self.id c.into_iter-lane-iterator.ensures.into_iter_gives c.loop-lane.yielded_by c.in-Some.ensures.steps c.requires.idle in
     let own = c.into_seat-own.ensures in
     let r = gathers_step L.before L.part c.loop-lane.yielded c.in-Some.lane c.args.self.id c.into_seat-own.result.table_id c.in-Some.lane.number c.in-Some.lane.left c.loop-lane.seat.me c.join_seat.new.seat.me c.load.new.seat.me c.into_seat-own.result.me
-        now.2 now.1 own.0 own.1 idle c.join_seat.ensures.2 c.load.ensures.2 in
+    now.2 now.1 own.0 own.1 idle c.join_seat.ensures.2 c.load.ensures.2 in
     (c.load.ensures.0 ∙ (c.join_seat.ensures.0 ∙ now.0), r.0, r.1, search rules, search rules)
 
 pub returns : goal.returns

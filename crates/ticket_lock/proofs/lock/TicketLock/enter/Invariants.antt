@@ -1,5 +1,3 @@
-use Rattle.std.proofs.Common.{◌≡◌, ◌<◌}
-use Rattle.ticket_lock.specs.Count.{times}
 use Rattle.ticket_lock.specs.Promises.{Drew}
 use Rattle.ticket_lock.proofs.lock.TicketLock.enter.Given as goal
 
