@@ -1,0 +1,77 @@
+-- From what a step tells to what a call of a lock promises.
+use Rattle.std.proofs.Common.{◌≡◌, ◌≢◌, ℕ, ◌+◌, ◌-◌, ◌<◌, ◌≤◌, List, [], ◌∷◌, ◌++◌, map, refl, sym, ap, ◌∙◌, subst, arith, eqb, false, eq-eqb, ne_eqb}
+use mathlib.Core.Option.{some}
+use mathlib.Core.Logic.{dite}
+use native.Mathlib.Decide.{ℕ_discrete}
+use lib.ListN.{get_elem?}
+use Rattle.atomic_table.specs.Seated.{TableId}
+use Rattle.ticket_lock.specs.declared.view.View.{View}
+use Rattle.ticket_lock.specs.Count.{times, without}
+use Rattle.ticket_lock.specs.Turns.{enters}
+use Rattle.ticket_lock.specs.Calls.{Enters}
+use Rattle.ticket_lock.specs.Lone.{Tells}
+use Rattle.ticket_lock.specs.Lanes.{Standing, Held, standing}
+use Rattle.ticket_lock.specs.Promises.{Drew, Served, Entered}
+use Rattle.ticket_lock.specs.Facts.{times-snoc, times-one}
+
+-- the last of a list is the first of its kind
+without-snoc : (n : ℕ) (xs : List ℕ) → times n xs ≡ 0 → without n (xs ++ n ∷ []) ≡ xs
+without-snoc n [] none = rw (eq-eqb n n refl) refl
+without-snoc n (x ∷ xs) none = dite (ℕ_discrete x n)
+    (λ (e : x ≡ n). let one = rw (eq-eqb x n e) at none in absurd (omega arith))
+    (λ (ne : x ≢ n). let s : eqb x n ≡ false = ne_eqb x n ne in let rest = rw s at none in rw s (ap (λ r. x ∷ r) (without-snoc n xs (omega arith))))
+
+module _ {T Part : Type 0} (before : T → T → Type 0) (part : ℕ → T → Part) where
+  pub served_is : (id id' : TableId) (number left ticket : ℕ) (v w : View T) (x : T) → id' ≡ id → ((o : T) × (v.own ≡ (number, o) ∷ [])) → Enters ticket x v.hand w.hand → Tells before part 0 (enters x) v w
+      → Served before part ticket record { value = x; number = ticket } (standing id number left v) (standing id' number left w)
+  served_is id id' number left ticket v w x same one e t = (
+    record {
+      number = refl;
+      turn = e.2;
+      later = e.3;
+      found = e.4;
+      own = λ y is. (let o = one.0 in let there : get_elem? v.own 0 ≡ some (number, o) = ap (λ l. get_elem? l 0) one.1 in
+          let l : List T = o ∷ [] in let m : List T = y ∷ [] in let both : l ≡ m = sym (ap (λ (q : List (ℕ × T)). map (λ p. p.1) q) one.1) ∙ is in
+          let f : List T → T = only o in t.3 0 number o there ∙ ap (λ q. part number (f q)) both);
+      rises = t.2;
+      outside = e.1;
+    },
+    (λ i. record {
+      lock = same i;
+      number = number;
+      left = left;
+      seen = w.hand.seen;
+      tickets = (e.0 i).tickets;
+      inside = (e.0 i).inside;
+      drawn = (e.0 i).drawn;
+      own = map (λ p. p.1) (t.1 i);
+    }),
+  )
+    where
+      only : T → List T → T
+      only d [] = d
+      only d (z ∷ zs) = z
+
+module _ {T : Type 0} where
+  pub drew_holds : (ticket : ℕ) (a b : Standing T) → Drew ticket a b → 0 < times ticket b.tickets
+  drew_holds ticket a b d = subst (λ (z : Standing T). 0 < times ticket z.tickets) (sym d.lane) (omega (arith, times-snoc ticket a.tickets ticket, times-one ticket))
+
+  module _ {Part : Type 0} (before : T → T → Type 0) (part : ℕ → T → Part) where
+    entered_from : (ticket : ℕ) (guard : Held T) (a c : Standing T) → 0 < a.left → ((k : ℕ) → ticket ≤ k → (times k a.drawn ≡ 0) × (times k a.tickets ≡ 0))
+        → Served before part ticket guard (record a { left = a.left - 1; tickets = a.tickets ++ ticket ∷ []; drawn = a.drawn ++ ticket ∷ [] }) c → Entered before part guard a c
+    entered_from ticket guard a c had fresh s =
+        let n : ticket ≡ guard.number = sym s.0.number in
+        let back : without ticket (a.tickets ++ ticket ∷ []) ≡ a.tickets = without-snoc ticket a.tickets (fresh ticket (omega arith)).1 in
+        let lane : c ≡ record a { left = a.left - 1; drawn = a.drawn ++ guard.number ∷ []; seen = c.seen; inside = guard.number ∷ [] } = s.1 ∙ (λ i. record a { left = a.left - 1; tickets = back i; drawn = a.drawn ++ n i ∷ []; seen = c.seen; inside = n i ∷ [] }) in
+        record {
+          had = had;
+          fresh = subst (λ m. (k : ℕ) → m ≤ k → (times k a.drawn ≡ 0) × (times k a.tickets ≡ 0)) n fresh;
+          stands = record { number = refl; turn = s.0.turn ∙ ap (λ m. m + 1) n; later = s.0.later; found = s.0.found; own = s.0.own; rises = s.0.rises; outside = s.0.outside };
+          lane = lane;
+        }
+
+    pub entered_is : (ticket : ℕ) (guard : Held T) (a b c : Standing T) → Drew ticket a b → Served before part ticket guard b c → Entered before part guard a c
+    entered_is ticket guard a b c d s = entered_from ticket guard a c d.had d.fresh (subst (λ z. Served before part ticket guard z c) d.lane s)
+
+    pub served_to : (x : T) (n ticket : ℕ) (a a' b : Standing T) → n ≡ ticket → a ≡ a' → Served before part n record { value = x; number = n } a b → Served before part ticket record { value = x; number = n } a' b
+    served_to x n ticket a a' b e d s = subst (λ z. Served before part ticket record { value = x; number = n } z b) d (subst (λ (k : ℕ). Served before part k record { value = x; number = n } a b) e s)

@@ -1,0 +1,67 @@
+-- What contracts see of a lock, a lane, a guard and a note.
+use Rattle.std.specs.Prelude.{◌≡◌, ℕ, zero, suc, ◌+◌, ◌^◌, ◌≤◌, List, [], ◌∷◌, map, length, Option, None}
+use Rattle.atomic_table.specs.Table.{Me}
+use Rattle.atomic_table.specs.Seated.{TableId}
+use Rattle.ticket_lock.specs.declared.view.View.{View}
+use Rattle.ticket_lock.specs.Lone.{new_view}
+
+-- a lock: which one it is, the opening value and the number of lanes
+pub record Lock (T : Type 0) : Type 0 where
+  pub id : TableId
+  pub opening : T
+  pub lanes : ℕ
+
+-- a lane: its lock and its number, how many tickets it has left to draw, the history that it has seen, the tickets that it waits with, the ticket that it is inside with if any, all tickets that it drew,
+-- and, alone in a list, the value that it left last or the opening value
+pub record Standing (T : Type 0) : Type 0 where
+  pub lock : TableId
+  pub number : ℕ
+  pub left : ℕ
+  pub seen : List T
+  pub tickets : List ℕ
+  pub inside : List ℕ
+  pub drawn : List ℕ
+  pub own : List T
+
+-- a guard: the value, and the ticket
+pub record Held (T : Type 0) : Type 0 where
+  pub value : T
+  pub number : ℕ
+
+-- a note: its lock, and the history that it tells of
+pub record Told (T : Type 0) : Type 0 where
+  pub lock : TableId
+  pub seen : List T
+
+-- the table of a lock has two words and a slot
+abbrev pub IsSized : TableId → Type 0
+IsSized id = (id.words ≡ 2) × (id.slots ≡ 1)
+
+module _ {T : Type 0} where
+  -- how contracts see a lane
+  abbrev pub standing : TableId → ℕ → ℕ → View T → Standing T
+  standing id number left v = record { lock = id; number = number; left = left; seen = v.hand.seen; tickets = v.hand.tickets; inside = v.hand.inside; drawn = v.hand.drawn; own = map (λ p. p.1) v.own }
+
+  -- a lane that has drawn nothing, and has seen the opening value
+  abbrev pub fresh_lane : TableId → ℕ → T → ℕ → Standing T
+  fresh_lane id budget x number = record { lock = id; number = number; left = budget; seen = x ∷ []; tickets = []; inside = []; drawn = []; own = x ∷ [] }
+
+  -- `count` such lanes, numbered from `first` on
+  abbrev pub fresh_lanes : TableId → ℕ → T → ℕ → ℕ → List (Standing T)
+  fresh_lanes id budget x first zero = []
+  fresh_lanes id budget x first (suc count) = fresh_lane id budget x first ∷ fresh_lanes id budget x (suc first) count
+
+  -- a lane has one number and one share, has taken in what it was told, draws within its share, and holds the slot just while it is inside
+  pub record IsLane (id : TableId) (number left : ℕ) (me : Me (Option T) (View T)) : Type 0 where
+    pub one : (x : T) × (me.0.own ≡ (number, x) ∷ [])
+    pub taken : me.0.told ≡ []
+    pub share : me.0.hand.parts ≡ 1
+    pub budget : length me.0.hand.drawn + left ≤ 2 ^ 56
+    pub sized : IsSized id
+    pub outside : me.0.hand.inside ≡ [] → me.1 ≡ []
+    pub inside : (t : ℕ) → me.0.hand.inside ≡ t ∷ [] → me.1 ≡ (0, None) ∷ []
+
+  -- a note tells of a history, and has nothing
+  pub record IsNote (id : TableId) (me : Me (Option T) (View T)) : Type 0 where
+    pub blank : me ≡ (new_view me.0.hand.seen [], [])
+    pub sized : IsSized id

@@ -1,0 +1,10 @@
+pub mod Count
+pub mod History
+pub mod Core
+pub mod Turns
+pub mod Calls
+pub mod Lone
+pub mod Facts
+pub mod LoneOpens
+pub mod Lanes
+pub mod Promises

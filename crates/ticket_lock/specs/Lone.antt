@@ -1,0 +1,114 @@
+-- The rule of a lock that has a table of its own: word 0 counts the values left, word 1 has the next ticket, and slot 0 the value.
+use Rattle.std.specs.Prelude.{◌≡◌, ◌≢◌, ◌⊎◌, ℕ, zero, suc, ◌+◌, ◌<◌, ◌≤◌, List, [], ◌∷◌, ◌++◌, map, length, take, drop, Option}
+use mathlib.Core.Option.{some}
+use lib.ListN.{get_elem?}
+use Rattle.atomic_table.specs.Table.{State, Me}
+use Rattle.ticket_lock.specs.declared.hand.Hand.{Hand}
+use Rattle.ticket_lock.specs.declared.view.View.{View}
+use Rattle.ticket_lock.specs.declared.view.Opening.{Opening}
+use Rattle.ticket_lock.specs.Count.{times, total}
+use Rattle.ticket_lock.specs.History.{StartsWith, EndsIn, longer, IsRising}
+use Rattle.ticket_lock.specs.Turns.{Kind, draws, waits, enters, passes, Kept}
+
+module _ {T : Type 0} where
+  -- the lock has its two words at the start of the table, and its slot there
+  abbrev pub IsStart : Opening T → ℕ → ℕ → Type 0
+  IsStart key word slot = (word ≡ 0) × (slot ≡ 0)
+
+  abbrev pub hand_of : ℕ → View T → Hand T
+  hand_of slot v = v.hand
+
+  -- the numbers of a view's lanes
+  abbrev pub numbers : View T → List ℕ
+  numbers v = map (λ p. p.0) v.own
+
+  -- `count` lanes, numbered from `first` on, each with the value x
+  abbrev pub lanes_from : ℕ → ℕ → T → List (ℕ × T)
+  lanes_from first zero x = []
+  lanes_from first (suc count) x = (first, x) ∷ lanes_from (suc first) count x
+
+  -- a hand that has seen this, and has nothing but its shares
+  abbrev pub new_hand : List T → ℕ → Hand T
+  new_hand seen parts = record { seen = seen; tickets = []; inside = []; drawn = []; parts = parts }
+
+  -- a view that has seen this, and has nothing but these lanes
+  abbrev pub new_view : List T → List (ℕ × T) → View T
+  new_view seen own = record { hand = new_hand seen (length own); told = []; own = own }
+
+  -- a view that knows nothing and has nothing
+  abbrev pub nobody : View T
+  nobody = new_view [] []
+
+  -- the first view has all lanes, and has seen the opening value
+  abbrev pub opening_view : Opening T → View T
+  opening_view key = new_view (key.value.value ∷ []) (lanes_from 0 key.lanes key.value.value)
+
+  -- a view that has this many lanes, and has nothing to take in, no ticket and no guard
+  abbrev pub IsWhole : ℕ → View T → Type 0
+  IsWhole lanes v = (v.told ≡ []) × (v.hand.tickets ≡ []) × (v.hand.inside ≡ []) × (length v.own ≡ lanes)
+
+  -- x is the last value of the history seen, which begins with the opening value and has one value more than tickets were drawn; each ticket below the number of tickets was drawn once, and no other was
+  abbrev pub Rests : T → View T → T → Type 0
+  Rests opening v x = EndsIn v.hand.seen x × StartsWith v.hand.seen (opening ∷ []) × (length v.hand.seen ≡ length v.hand.drawn + 1)
+      × ((n : ℕ) → n < length v.hand.drawn → times n v.hand.drawn ≡ 1) × ((n : ℕ) → length v.hand.drawn ≤ n → times n v.hand.drawn ≡ 0)
+
+  -- a view that has taken in what it was told
+  abbrev pub taken_in : View T → View T
+  taken_in v = record v { hand = record v.hand { seen = longer v.hand.seen v.told }; told = [] }
+
+  -- a view that has all that two had, and was told what the second had seen
+  abbrev pub merged : View T → View T → View T
+  merged v w = record {
+    hand = record { seen = v.hand.seen; tickets = v.hand.tickets ++ w.hand.tickets; inside = v.hand.inside ++ w.hand.inside; drawn = v.hand.drawn ++ w.hand.drawn; parts = v.hand.parts + w.hand.parts };
+    told = w.hand.seen;
+    own = v.own ++ w.own;
+  }
+
+  -- what it has seen, and all of its lanes but the first
+  abbrev pub less_one : View T → View T
+  less_one v = new_view v.hand.seen (drop 1 v.own)
+
+  -- what it has seen, and the first of its lanes
+  abbrev pub just_one : View T → View T
+  just_one v = new_view v.hand.seen (take 1 v.own)
+
+  -- what it has seen alone
+  abbrev pub just_seen : View T → View T
+  just_seen v = new_view v.hand.seen []
+
+module _ {T Part : Type 0} (before : T → T → Type 0) (part : ℕ → T → Part) where
+  -- a view's shares are its lanes; it was told a beginning of the history; and the last value of the history has the part of each of its lanes as that lane left it
+  pub record Knows (log : List T) (v : View T) : Type 0 where
+    pub shares : v.hand.parts ≡ length v.own
+    pub told : StartsWith log v.told
+    pub owns : (k l : ℕ) (x y : T) → get_elem? v.own k ≡ some (l, x) → EndsIn log y → part l y ≡ part l x
+
+  -- the lock's rule; the history begins with the opening value, and each value of it comes before the later ones; each lane is in one view at most, and all lanes are;
+  -- some view with a lane has seen the whole history or was told it
+  pub record Lone (opening : T) (lanes : ℕ) (s : State (Option T) (View T)) : Type 0 where
+    pub log : List T
+    pub kept : Kept 0 0 log s.words s.homes (map (hand_of 0) s.views)
+    pub begun : StartsWith log (opening ∷ [])
+    pub rising : IsRising before log
+    pub each_view : (j : ℕ) (v : View T) → get_elem? s.views j ≡ some v → Knows log v
+    pub whole : total (λ v. length v.own) s.views ≡ lanes
+    pub once : (l : ℕ) → total (λ v. times l (numbers v)) s.views ≤ 1
+    pub known : (j : ℕ) × (v : View T) × (get_elem? s.views j ≡ some v) × (0 < length v.own) × ((v.hand.seen ≡ log) ⊎ (v.told ≡ log))
+
+  -- of a value left it is asked that the value found comes before it, and that it has the parts of all lanes but the one that leaves as they were found
+  abbrev pub Asks : ℕ → Kind T → View T → Type 0
+  Asks slot draws v = Unit {0}
+  Asks slot waits v = Unit {0}
+  Asks slot (enters x) v = Unit {0}
+  Asks slot (passes x y) v = before x y × ((l : ℕ) × (z : T) × (v.own ≡ (l, z) ∷ []) × ((k : ℕ) → k ≢ l → part k y ≡ part k x))
+
+  -- a look in turn tells that the history rises, and that the value found has the lanes' parts as they left them; and a pass on that the value left is the one that its lane left last
+  abbrev pub Tells : ℕ → Kind T → View T → View T → Type 0
+  Tells slot draws v w = (w.told ≡ v.told) × (w.own ≡ v.own)
+  Tells slot waits v w = w ≡ v
+  Tells slot (enters x) v w = (w.told ≡ v.told) × (w.own ≡ v.own) × IsRising before w.hand.seen × ((k l : ℕ) (z : T) → get_elem? v.own k ≡ some (l, z) → part l x ≡ part l z)
+  Tells slot (passes x y) v w = (w.told ≡ v.told) × ((l : ℕ) (z : T) → v.own ≡ (l, z) ∷ [] → w.own ≡ (l, y) ∷ [])
+
+  -- a load at which a view takes in what it was told
+  abbrev pub TookIn : Me (Option T) (View T) → Me (Option T) (View T) → Type 0
+  TookIn m m' = (m' ≡ (taken_in m.0, m.1)) × StartsWith m'.0.hand.seen m.0.hand.seen × StartsWith m'.0.hand.seen m.0.told × IsRising before m'.0.hand.seen

@@ -1,0 +1,114 @@
+//! The three calls of a lock that stands at a place of a table, under any rule that lets it stand there.
+ghost use Rattle.std.specs.Prelude.{◌≡◌, ℕ, ◌*◌, ◌^◌, ◌<◌, [], ◌∷◌, length, None};
+ghost use Rattle.atomic_table.specs.Table.{rest};
+ghost use Rattle.ticket_lock.specs.Count.{times};
+ghost use Rattle.ticket_lock.specs.History.{EndsIn};
+ghost use Rattle.ticket_lock.specs.Turns.{draws, waits, enters, passes};
+ghost use Rattle.ticket_lock.specs.Calls.{IsSameSeat, IsRoom, Drew, Looked, Left};
+
+use crate::plays::{Draws, Looks, Passes};
+use crate::rule::{At, LockRule};
+use atomic_table::{Seat, Shared};
+use std::marker::Brand;
+
+fn draw_step<J: At, T, V, K, P: LockRule<T, V, K>>(
+    shared: &Shared<Option<T>, V, K, P>,
+    seat: &mut Seat<Option<T>, V>,
+    word: usize,
+    slot: usize,
+) -> u64
+    requires table { (seat.old.table_id ≡ shared.now.table_id) × IsRoom word J.slot shared.now.table_id × P.is_place shared.now.key word J.slot × (J.slot ≡ slot) }
+    requires room { length (P.see J.slot seat.old.me.0).drawn < (P.see J.slot seat.old.me.0).parts * 2 ^ 56 }
+    requires asks { P.asks J.slot draws seat.old.me.0 }
+    ensures { IsSameSeat seat.old seat.new × Drew (P.see J.slot) (P.tells J.slot) seat.old.me result seat.new.me }
+{
+    shared.fetch_add::<Draws<J, K, P>>(seat, word + 1, 1)
+}
+
+/// Draws the next ticket of the lock at this place: one fetch_add. The seat must have some of its share of the right to draw left.
+pub fn draw_at<T, V, K, P: LockRule<T, V, K>>(
+    shared: &Shared<Option<T>, V, K, P>,
+    seat: &mut Seat<Option<T>, V>,
+    word: usize,
+    slot: usize,
+) -> u64
+    requires table { (seat.old.table_id ≡ shared.now.table_id) × IsRoom word slot shared.now.table_id × P.is_place shared.now.key word slot }
+    requires room { length (P.see slot seat.old.me.0).drawn < (P.see slot seat.old.me.0).parts * 2 ^ 56 }
+    requires asks { P.asks slot draws seat.old.me.0 }
+    ensures { IsSameSeat seat.old seat.new × Drew (P.see slot) (P.tells slot) seat.old.me result seat.new.me }
+{
+    draw_step::<Brand, T, V, K, P>(shared, seat, word, slot)
+}
+
+fn look_step<J: At, T, V, K, P: LockRule<T, V, K>>(
+    shared: &Shared<Option<T>, V, K, P>,
+    seat: &mut Seat<Option<T>, V>,
+    word: usize,
+    slot: usize,
+    ticket: u64,
+) -> Option<T>
+    requires table { (seat.old.table_id ≡ shared.now.table_id) × IsRoom word J.slot shared.now.table_id × P.is_place shared.now.key word J.slot × (J.slot ≡ slot) × (J.ticket ≡ ticket) }
+    requires held { 0 < times J.ticket (P.see J.slot seat.old.me.0).tickets }
+    requires waits { P.asks J.slot waits seat.old.me.0 }
+    requires enters { (x : T) → P.asks J.slot (enters x) seat.old.me.0 }
+    ensures { IsSameSeat seat.old seat.new × Looked (P.see J.slot) (P.tells J.slot) J.slot J.ticket seat.old.me result seat.new.me }
+{
+    if shared.load::<Looks<J, K, P>>(seat, word) != ticket {
+        return None;
+    }
+    shared.exchange(seat, slot, None)
+}
+
+/// Looks whether it is this ticket's turn: one load, and where it is, one exchange that takes the value out. Where it is not, nothing changes, and fewer
+/// values were left than the ticket says. The ticket must be one of the seat's.
+pub fn look_at<T, V, K, P: LockRule<T, V, K>>(
+    shared: &Shared<Option<T>, V, K, P>,
+    seat: &mut Seat<Option<T>, V>,
+    word: usize,
+    slot: usize,
+    ticket: u64,
+) -> Option<T>
+    requires table { (seat.old.table_id ≡ shared.now.table_id) × IsRoom word slot shared.now.table_id × P.is_place shared.now.key word slot }
+    requires held { 0 < times ticket (P.see slot seat.old.me.0).tickets }
+    requires waits { P.asks slot waits seat.old.me.0 }
+    requires enters { (x : T) → P.asks slot (enters x) seat.old.me.0 }
+    ensures { IsSameSeat seat.old seat.new × Looked (P.see slot) (P.tells slot) slot ticket seat.old.me result seat.new.me }
+{
+    look_step::<Brand, T, V, K, P>(shared, seat, word, slot, ticket)
+}
+
+fn leave_step<J: At, T, V, K, P: LockRule<T, V, K>>(
+    shared: &Shared<Option<T>, V, K, P>,
+    seat: &mut Seat<Option<T>, V>,
+    word: usize,
+    slot: usize,
+    value: T,
+)
+    requires table { (seat.old.table_id ≡ shared.now.table_id) × IsRoom word J.slot shared.now.table_id × P.is_place shared.now.key word J.slot × (J.slot ≡ slot) }
+    requires out { seat.old.me.1 ≡ (J.slot, None) ∷ rest seat.old.me.1 }
+    requires inside { (t : ℕ) × ((P.see J.slot seat.old.me.0).inside ≡ t ∷ []) }
+    requires asks { (x : T) → EndsIn (P.see J.slot seat.old.me.0).seen x → P.asks J.slot (passes x value) seat.old.me.0 }
+    ensures { IsSameSeat seat.old seat.new × Left (P.see J.slot) (P.tells J.slot) value seat.old.me seat.new.me }
+{
+    let found = shared.exchange(seat, slot, Some(value));
+    let None = found else { unreachable!() };
+    shared.fetch_add::<Passes<J, K, P>>(seat, word, 1);
+}
+
+/// Leaves a value behind the last one of the history: one exchange that brings it home, and then one fetch_add that serves the next ticket.
+/// The seat must be inside.
+pub fn leave_at<T, V, K, P: LockRule<T, V, K>>(
+    shared: &Shared<Option<T>, V, K, P>,
+    seat: &mut Seat<Option<T>, V>,
+    word: usize,
+    slot: usize,
+    value: T,
+)
+    requires table { (seat.old.table_id ≡ shared.now.table_id) × IsRoom word slot shared.now.table_id × P.is_place shared.now.key word slot }
+    requires out { seat.old.me.1 ≡ (slot, None) ∷ rest seat.old.me.1 }
+    requires inside { (t : ℕ) × ((P.see slot seat.old.me.0).inside ≡ t ∷ []) }
+    requires asks { (x : T) → EndsIn (P.see slot seat.old.me.0).seen x → P.asks slot (passes x value) seat.old.me.0 }
+    ensures { IsSameSeat seat.old seat.new × Left (P.see slot) (P.tells slot) value seat.old.me seat.new.me }
+{
+    leave_step::<Brand, T, V, K, P>(shared, seat, word, slot, value);
+}
