@@ -25,10 +25,10 @@ pub first_shape : {A : Type 0} (p : Program A) (only : Proc A) (thread : Thread 
 first_shape {A} p only thread one_proc one_thread no_formals no_locals =
     let whole : List (Proc A) → List (Thread A) → tree.Tree = λ ps ts. record { globals = names_of p.globals.items; procedures = procs_of ps; threads = threads_of ts } in
     let with_names : List (Name A) → List (Name A) → tree.Tree = λ fs ls. record {
-        globals = names_of p.globals.items;
-        procedures = record { name = name_of only.name; formals = names_of fs; locals = names_of ls; body = block_of only.body.items } ∷ [];
-        threads = threads_of (thread ∷ []);
-      } in
+      globals = names_of p.globals.items;
+      procedures = record { name = name_of only.name; formals = names_of fs; locals = names_of ls; body = block_of only.body.items } ∷ [];
+      threads = threads_of (thread ∷ []);
+    } in
     ap (λ ps. whole ps p.threads.items) one_proc ∙ ap (whole (only ∷ [])) one_thread ∙ ap (λ fs. with_names fs only.locals.items) no_formals ∙ ap (with_names []) no_locals
 
 -- a program of the first part is unsafe within one round exactly where its statements fail from zeros

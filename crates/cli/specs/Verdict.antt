@@ -36,4 +36,4 @@ abbrev pub Answers : List ℕ → List ℕ → ℕ → Type 0
 Answers text bytes status =
     (t : Tree) × (items : List Item) × Text text t × IsFirstPart t items
     × (((bytes ≡ codes "unsafe\n") × (status ≡ 1) × Unsafe (meaning_of t) 1)
-       ⊎ ((bytes ≡ codes "safe\n") × (status ≡ 0) × (Unsafe (meaning_of t) 1 → ⊥)))
+    ⊎ ((bytes ≡ codes "safe\n") × (status ≡ 0) × (Unsafe (meaning_of t) 1 → ⊥)))

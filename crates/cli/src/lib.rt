@@ -2,6 +2,7 @@
 #![tactic(auto)]
 
 mod analysis;
+mod answers;
 mod asked;
 mod evaluate;
 mod first;
@@ -11,6 +12,10 @@ mod reach;
 mod reply;
 pub mod unsafety;
 
+pub use answers::{answer, no_memory};
 pub use asked::{LineFault, Order};
 pub use line::order;
 pub use reply::Reply;
+
+#[cfg(test)]
+mod tests;

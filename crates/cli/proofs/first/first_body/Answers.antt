@@ -21,7 +21,7 @@ returns-then-are_straight g c =
     let formals : only.formals.items ≡ [] = nil_from_length only.formals.items (omega (arith, eqb-true (vec_len only.formals) 0 (sym c.is_empty.ensures ∙ c.if-not-is_empty.false))) in
     let locals : only.locals.items ≡ [] = nil_from_length only.locals.items (omega (arith, eqb-true (vec_len only.locals) 0 (sym c.is_empty-else-not-is_empty.ensures ∙ c.if-not-is_empty-2.false))) in
     let same : same_text (name_of thread.name).text (name_of only.name).text ≡ true =
-        subst (λ t. same_text t (name_of only.name).text ≡ true) c.as_str.ensures.value (subst (λ t. same_text c.as_str.result.now t ≡ true) c.as_str-2.ensures.value (sym c.if-named.ensures)) in
+    subst (λ t. same_text t (name_of only.name).text ≡ true) c.as_str.ensures.value (subst (λ t. same_text c.as_str.result.now t ≡ true) c.as_str-2.ensures.value (sym c.if-named.ensures)) in
     record {
       name = name_of only.name;
       at = thread.at;

@@ -27,6 +27,10 @@ pub returns : goal.returns
 returns g c =
     let t = tree_of c.in_ok-program.program in
     let items = items_of c.in-Some.body.now in
-    let globals = named_globals c.as_slice.result.now c.in_ok-program.program.globals.items items c.as_slice.ensures.value in
-    (t, items, c.in_ok-program.ensures.found, c.in-Some.ensures,
-     λ unsafe_is. false-true (sym c.if-work.false ∙ c.in_ok-work.ensures.fails.1 (globals.1 ((first_meaning t items c.in-Some.ensures).0 unsafe_is))))
+    let globals = named_globals c.as_slice.result.now c.in_ok-program.program.globals.items items c.as_slice.ensures.value in (
+      t,
+      items,
+      c.in_ok-program.ensures.found,
+      c.in-Some.ensures,
+      λ unsafe_is. false-true (sym c.if-work.false ∙ c.in_ok-work.ensures.fails.1 (globals.1 ((first_meaning t items c.in-Some.ensures).0 unsafe_is))),
+    )

@@ -1,0 +1,203 @@
+//! The rows of the first part of the language, words of the command line, and refused allocations.
+
+use crate::answers::answer;
+use crate::asked::{LineFault, Order};
+use crate::line::order;
+use scarce::Scarce;
+use std::alloc::{AllocError, Global};
+use std::test::Fail;
+
+const ONE_ROUND: Order = Order::Check { rounds: 1 };
+
+/// Texts, and what is answered to each.
+static ROWS: [(&str, &str, u8); 22] = [
+    (
+        "decl x; t() begin x:=1; assert(x); end thread t;",
+        "safe\n",
+        0,
+    ),
+    (
+        "decl x; t() begin x:=1; assert(!x); end thread t;",
+        "unsafe\n",
+        1,
+    ),
+    ("t() begin assert(?); end thread t;", "unsafe\n", 1),
+    (
+        "t() begin assume(0); assert(?); end thread t;",
+        "refused: not yet\n",
+        2,
+    ),
+    (
+        "decl x,y; t() begin x,y:=1,x; assert(!y); end thread t;",
+        "safe\n",
+        0,
+    ),
+    (
+        "decl x,y; t() begin x:=1; x,y:=0,x; assert(x|!y); end thread t;",
+        "unsafe\n",
+        1,
+    ),
+    (
+        "decl x; t() begin x:=?; assert(x | !x); end thread t;",
+        "safe\n",
+        0,
+    ),
+    (
+        "decl x; t() begin x:=?; assert(x); end thread t;",
+        "unsafe\n",
+        1,
+    ),
+    (
+        "decl x; t() begin assert(0); assert(1); end thread t;",
+        "unsafe\n",
+        1,
+    ),
+    (
+        "decl x; t() begin x:=?; assert(!x=0 => x); end thread t;",
+        "safe\n",
+        0,
+    ),
+    (
+        "decl a,b,c; t() begin assert(a=>b=>c); end thread t;",
+        "safe\n",
+        0,
+    ),
+    (
+        "decl a,b,c; t() begin assert((a=>b)=>c); end thread t;",
+        "unsafe\n",
+        1,
+    ),
+    (
+        "decl a,b,c,d,e,f,g,h; t() begin skip; end thread t;",
+        "safe\n",
+        0,
+    ),
+    (
+        "decl a,b,c,d,e,f,g,h,i; t() begin skip; end thread t;",
+        "refused: not yet\n",
+        2,
+    ),
+    ("p(v) begin skip; end thread p;", "refused: not yet\n", 2),
+    ("t() begin L: skip; end thread t;", "refused: not yet\n", 2),
+    (
+        "t() begin skip; end thread t; thread t;",
+        "refused: not yet\n",
+        2,
+    ),
+    ("", "refused: 3 syntax at 0\n", 2),
+    (
+        "t() begin skip; end thread t; @",
+        "refused: 3 syntax at 30\n",
+        2,
+    ),
+    (
+        "t() begin x:=2; end thread t;",
+        "refused: 3 syntax at 13\n",
+        2,
+    ),
+    ("t() begin skip; end", "refused: 3 syntax at 19\n", 2),
+    (
+        "t() begin assert(\u{3b1}); end thread t;",
+        "refused: 2 not ascii\n",
+        2,
+    ),
+];
+
+#[test]
+fn rows_are_answered(rt: HostRuntime) {
+    for (text, bytes, status) in ROWS {
+        let reply = answer(&rt, text.as_bytes(), ONE_ROUND);
+        assert_eq!(rt; reply.bytes.as_slice(), bytes.as_bytes(), "{text}");
+        assert_eq!(rt; reply.status, status, "{text}");
+    }
+}
+
+/// A runtime that has nothing but a scarce allocator.
+#[derive(Drop)]
+struct Refusing<'a>(&'a Scarce<Global>);
+
+impl<'a> Alloc for Refusing<'a> {
+    type A = &'a Scarce<Global>;
+
+    fn alloc(&self) -> &'a Scarce<Global> {
+        self.0
+    }
+}
+
+/// With allocation N refused the answer is the want of memory, or the true one; at last no allocation is refused.
+fn refused_in_turn(alloc: Global, text: &str, bytes: &str) -> bool {
+    for nth in 1..1000u64 {
+        let scarce = Scarce::refusing(alloc, nth);
+        let reply = answer(&Refusing(&scarce), text.as_bytes(), ONE_ROUND);
+        let whole = reply.bytes.as_slice() == bytes.as_bytes();
+        if !scarce.refused() {
+            return whole;
+        }
+        if !whole && reply.bytes.as_slice() != b"no verdict: memory\n".as_slice() {
+            return false;
+        }
+    }
+    false
+}
+
+#[test]
+fn each_allocation_is_refused_in_turn(rt: HostRuntime) {
+    for (text, bytes, _) in ROWS {
+        assert!(rt; refused_in_turn(rt.alloc(), text, bytes), "{text}");
+    }
+}
+
+/// The words, in a `Vec`.
+fn words(alloc: Global, line: &str) -> Result<Vec<String>, AllocError> {
+    let mut all = Vec::new(alloc);
+    for word in line.split_whitespace() {
+        all.push(String::from_str(alloc, word)?)?;
+    }
+    Ok(all)
+}
+
+#[test]
+fn the_one_order_is_taken(rt: HostRuntime) -> Result<(), Fail> {
+    for line in [
+        "bebopk check --rounds 1 a.bp",
+        "bebopk check a.bp --rounds 1",
+        "bebopk check --rounds=1 a.bp",
+    ] {
+        let all = words(rt.alloc(), line)?;
+        match order(rt.alloc(), all.as_slice()) {
+            Ok((asked, file)) => {
+                assert_eq!(rt; asked, ONE_ROUND);
+                assert_eq!(rt; file.as_str(), "a.bp");
+            }
+            Err(_) => panic!(rt; "refused: {line}"),
+        }
+    }
+    Ok(())
+}
+
+#[test]
+fn other_words_are_refused(rt: HostRuntime) -> Result<(), Fail> {
+    for line in [
+        "bebopk",
+        "bebopk check --rounds 2 a.bp",
+        "bebopk check --rounds 0 a.bp",
+        "bebopk check a.bp",
+        "bebopk check --rounds 1",
+        "bebopk check --rounds 1 a.bp b.bp",
+        "bebopk check --rounds 1 --edges 3 a.bp",
+        "bebopk sequential --rounds 1 a.bp",
+        "bebopk look --rounds 1 a.bp",
+    ] {
+        let all = words(rt.alloc(), line)?;
+        match order(rt.alloc(), all.as_slice()) {
+            Err(LineFault::Refused(why)) => assert!(rt; !why.is_empty()),
+            _ => panic!(rt; "taken: {line}"),
+        }
+    }
+    let all = words(rt.alloc(), "bebopk --help")?;
+    match order(rt.alloc(), all.as_slice()) {
+        Err(LineFault::Help(text)) => assert!(rt; text.as_str().contains("check")),
+        _ => panic!(rt; "no help"),
+    }
+    Ok(())
+}
