@@ -1,13 +1,13 @@
 -- Functions that read just what a relation of the grammar says, part by part.
-use Rattle.std.proofs.Common.{◌≡◌, ℕ, zero, suc, ◌+◌, ◌<◌, ◌≤◌, Bool, true, false, cond, List, [], ◌∷◌, ◌++◌, length, Option, Some, None, refl, sym, ◌∙◌, ap, arith, rules, ◌⊎◌, inl, inr}
+use Rattle.std.proofs.Common.{◌≡◌, ℕ, suc, ◌<◌, ◌≤◌, Bool, true, false, cond, List, [], ◌∷◌, length, Option, Some, refl, ◌∙◌, ap, arith, ◌⊎◌, inl, inr}
 use Rattle.tokens.specs.declared.vocabulary.Kind.{Kind}
 use Rattle.tokens.specs.declared.vocabulary.Kind.TheVariants as kind
 use Rattle.tokens.specs.Token.{Tok, same_kind}
-use Rattle.syntax.specs.Parser.{Parser, give, refuse, ◌>>=◌, begins, take, run, fix, many_step, many}
-use Rattle.syntax.specs.Grammar.{Takes, takes, Behind, behind, InParens, in_parens, Many, no_more, one_more, Several, several, Listed, listed, Perhaps, nothing, something}
+use Rattle.syntax.specs.Parser.{Parser, give, ◌>>=◌, begins, take, fix, many_step, many}
+use Rattle.syntax.specs.Grammar.{Takes, takes, Behind, behind, InParens, in_parens, Many, no_more, one_more, Listed, listed, Perhaps, nothing, something}
 use Rattle.syntax.specs.Exact.{more, list, parens, perhaps}
 use Rattle.syntax.proofs.KindTests.{same_kind-true, same_kind-is}
-use Rattle.syntax.proofs.Fixes.{both, carried, Between, between, bind_is, Shrinks, Strict, Agree, Strict-Shrinks, Shrinks-give, Shrinks-refuse, Strict-take, Shrinks-bind, Strict-bind, Agree-same, Agree-bind, Agree-Strict-bind, Shrinks-cond, Agree-cond, IsStep, fix_shrinks, fix_is, Finds, fix_finds}
+use Rattle.syntax.proofs.Fixes.{both, carried, between, bind_is, Shrinks, Strict, Agree, Strict-Shrinks, Shrinks-give, Strict-take, Shrinks-bind, Strict-bind, Agree-same, Agree-bind, Agree-Strict-bind, IsStep, fix_shrinks, fix_is, Finds, fix_finds}
 use Rattle.syntax.proofs.Expressions.{take_is, take_finds}
 
 -- p reads what P says, wherever what follows is as S says, and nothing else.

@@ -1,17 +1,17 @@
 -- The function that reads expressions, and the grammar of expressions.
 use Rattle.std.specs.Prelude.{nat_le, option_and_then}
-use Rattle.std.proofs.Common.{◌≡◌, ℕ, zero, suc, ◌+◌, ◌<◌, ◌≤◌, Bool, true, false, cond, List, [], ◌∷◌, length, Option, Some, None, refl, sym, ◌∙◌, ap, arith, rules}
+use Rattle.std.proofs.Common.{◌≡◌, ℕ, zero, suc, ◌+◌, ◌<◌, ◌≤◌, Bool, true, false, cond, List, [], ◌∷◌, length, Option, Some, None, refl, sym, ◌∙◌, ap, arith}
 use Rattle.std.proofs.lemmas.Bool.Decides.{nat_tests}
 use Rattle.language.specs.Tree.{Name, Operator, implies, or, xor, and, equal, differs, Expression, const, var, negation, two}
 use Rattle.tokens.specs.declared.vocabulary.Kind.{Kind}
 use Rattle.tokens.specs.declared.vocabulary.Kind.TheVariants as kind
 use Rattle.tokens.specs.declared.vocabulary.Token.{Token}
 use Rattle.tokens.specs.Token.{Tok, same_kind, tok_of, toks_of}
-use Rattle.syntax.specs.Parser.{Parser, give, refuse, ◌>>=◌, take, fix}
+use Rattle.syntax.specs.Parser.{Parser, give, refuse, ◌>>=◌, take}
 use Rattle.syntax.specs.Grammar.{Takes, takes, name_at, operator_at, level, left_level, right_level, Reads, reads_zero, reads_one, reads_name, reads_not, reads_paren, reads_two}
 use Rattle.syntax.specs.Exact.{Goal, from, after, binds, operand_step, go_on, expression_step, reading, operand}
 use Rattle.syntax.proofs.KindTests.{same_kind-true, same_kind-is}
-use Rattle.syntax.proofs.Fixes.{both, Between, between, bind_is, Shrinks, Strict, Agree, Strict-Shrinks, Shrinks-give, Shrinks-refuse, Strict-take, Shrinks-bind, Agree-same, Agree-bind, Shrinks-cond, Agree-cond, IsStep, fix_shrinks, fix_is, Finds, fix_finds, carried}
+use Rattle.syntax.proofs.Fixes.{both, between, bind_is, Shrinks, Strict, Agree, Strict-Shrinks, Shrinks-give, Shrinks-refuse, Strict-take, Shrinks-bind, Agree-same, Agree-bind, Shrinks-cond, Agree-cond, IsStep, fix_shrinks, fix_is, Finds, fix_finds, carried}
 
 operand_shrinks : (f : Goal → Parser (Expression Name)) → ((i : Goal) → Shrinks (f i)) → (t : Tok) → Shrinks (operand_step f t)
 operand_shrinks f s t = search (s, Shrinks-cond, Shrinks-bind, Shrinks-give, Shrinks-refuse, Strict-Shrinks, Strict-take) depth 12

@@ -1,9 +1,9 @@
 -- Recursions over token lists: each reads no more than it is given, and is its own step.
 use Rattle.std.specs.Prelude.{option_and_then}
-use Rattle.std.proofs.Common.{◌≡◌, ℕ, zero, suc, ◌+◌, ◌<◌, ◌≤◌, Bool, true, false, cond, List, [], ◌∷◌, length, Option, Some, None, refl, sym, ◌∙◌, ap, arith, rules}
+use Rattle.std.proofs.Common.{◌≡◌, ℕ, zero, suc, ◌<◌, ◌≤◌, Bool, true, false, cond, List, [], ◌∷◌, length, Option, Some, None, refl, ap, arith}
 use Rattle.tokens.specs.declared.vocabulary.Kind.{Kind}
 use Rattle.tokens.specs.Token.{Tok, same_kind}
-use Rattle.syntax.specs.Parser.{Parser, give, refuse, ◌>>=◌, begins, take, run, fix, many_step, many}
+use Rattle.syntax.specs.Parser.{Parser, give, refuse, ◌>>=◌, take, run, fix}
 
 -- the parts of what was read
 pub both : {X : Type 0} {x y : X} {ts us : List Tok} → ◌≡◌ {A = Option (X × List Tok)} (Some (x, ts)) (Some (y, us)) → (x ≡ y) × (ts ≡ us)

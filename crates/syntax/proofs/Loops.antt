@@ -1,5 +1,5 @@
 -- The steps of the loops that read lists.
-use Rattle.std.proofs.Common.{◌≡◌, ℕ, Bool, true, false, cond, List, [], ◌∷◌, ◌++◌, length, Option, Some, None, refl, sym, ◌∙◌, ap, arith, rules, append_assoc}
+use Rattle.std.proofs.Common.{◌≡◌, Bool, true, false, List, [], ◌∷◌, ◌++◌, Option, Some, None, refl, sym, ◌∙◌, ap, append_assoc}
 use Rattle.std.specs.Prelude.{option_and_then, map}
 use Rattle.language.specs.Tree.{Name, Expression, RightSide, Procedure, ThreadLine}
 use Rattle.tokens.specs.declared.vocabulary.Kind.TheVariants as kind

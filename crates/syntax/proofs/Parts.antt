@@ -1,16 +1,16 @@
 -- The parts of statements, read just as the grammar says.
-use Rattle.std.proofs.Common.{◌≡◌, ℕ, zero, suc, ◌+◌, ◌<◌, ◌≤◌, Bool, true, false, cond, ◌||◌, List, [], ◌∷◌, ◌++◌, length, Option, Some, None, refl, sym, ◌∙◌, ap, arith, rules, ◌⊎◌, inl, inr}
+use Rattle.std.proofs.Common.{◌≡◌, ℕ, ◌<◌, Bool, true, false, ◌||◌, List, [], ◌∷◌, length, Some, refl, ap, ◌⊎◌, inl, inr}
 use Rattle.language.specs.Tree.{Name, Expression, RightSide, any, value}
 use Rattle.tokens.specs.declared.vocabulary.Kind.{Kind}
 use Rattle.tokens.specs.declared.vocabulary.Kind.TheVariants as kind
 use Rattle.tokens.specs.Token.{Tok, same_kind}
-use Rattle.syntax.specs.Parser.{Parser, give, refuse, ◌>>=◌, begins, take}
+use Rattle.syntax.specs.Parser.{give, ◌>>=◌, begins, take}
 use Rattle.syntax.specs.Grammar.{Takes, takes, name_at, Reads, reads_zero, reads_one, reads_name, reads_not, reads_paren, reads_two, IsName, is_name, InParens, Listed, Perhaps, IsExpression, IsRight, is_any, is_value}
-use Rattle.syntax.specs.Exact.{Goal, from, after, binds, expression_step, reading, name, names, expression, right, rights, formals, arguments, test}
+use Rattle.syntax.specs.Exact.{binds, name, names, expression, right, rights, formals, arguments, test}
 use Rattle.syntax.proofs.KindTests.{same_kind-true, same_kind-is}
-use Rattle.syntax.proofs.Fixes.{both, carried, Between, between, bind_is, Shrinks, Strict, Strict-Shrinks, Shrinks-give, Strict-take, Shrinks-bind, Strict-bind}
-use Rattle.syntax.proofs.Expressions.{Stops, stops_end, stops_at, take_is, take_finds, reading_finds, reading_complete, reading_shrinks, reading_strict}
-use Rattle.syntax.proofs.Exactly.{Exactly, Anything, chosen, begins_takes, begins_take, NoComma, exactly_list, exactly_parens, exactly_perhaps, Strict-list, strict_parens, shrinks_perhaps}
+use Rattle.syntax.proofs.Fixes.{carried, between, bind_is, Strict, Strict-Shrinks, Shrinks-give, Strict-take, Strict-bind}
+use Rattle.syntax.proofs.Expressions.{Stops, stops_end, stops_at, take_is, take_finds, reading_finds, reading_complete, reading_strict}
+use Rattle.syntax.proofs.Exactly.{Exactly, Anything, chosen, begins_takes, NoComma, exactly_list, exactly_parens, exactly_perhaps, Strict-list, strict_parens, shrinks_perhaps}
 
 -- names
 pub strict_name : Strict name

@@ -1,16 +1,16 @@
 -- Declarations, procedures, thread lines and programs, read just as the grammar says.
-use Rattle.std.proofs.Common.{◌≡◌, ℕ, zero, suc, ◌+◌, ◌<◌, ◌≤◌, Bool, true, false, cond, ◌||◌, List, [], ◌∷◌, ◌++◌, length, Option, Some, None, refl, sym, ◌∙◌, ap, arith, rules}
+use Rattle.std.proofs.Common.{◌≡◌, true, false, List, [], ◌∷◌, Some, refl, ◌∙◌}
 use Rattle.language.specs.Tree.{Name, Block, Procedure, ThreadLine, Tree}
 use Rattle.tokens.specs.declared.vocabulary.Kind.{Kind}
 use Rattle.tokens.specs.declared.vocabulary.Kind.TheVariants as kind
 use Rattle.tokens.specs.Token.{Tok, same_kind}
-use Rattle.syntax.specs.Parser.{Parser, give, refuse, ◌>>=◌, begins, take, many}
-use Rattle.syntax.specs.Grammar.{Takes, takes, IsName, is_name, InParens, Many, no_more, one_more, Several, several, Listed, Perhaps, IsSome, Statements, joined, IsDeclaration, is_declaration, Declarations, declarations, IsProcedure, is_procedure, IsThread, is_thread, IsProgram, is_program}
+use Rattle.syntax.specs.Parser.{Parser, give, ◌>>=◌, begins, take, many}
+use Rattle.syntax.specs.Grammar.{Takes, takes, IsName, is_name, InParens, Several, several, Perhaps, IsSome, Statements, joined, IsDeclaration, is_declaration, Declarations, declarations, IsProcedure, is_procedure, IsThread, is_thread, IsProgram, is_program}
 use Rattle.syntax.specs.Exact.{name, names, formals, starts, starts_here, section, declaration, all_declarations, insides, procedure, more_procedures, procedures, thread_line, any_left, more_lines, thread_lines, program}
-use Rattle.syntax.proofs.KindTests.{same_kind-true, same_kind-is}
-use Rattle.syntax.proofs.Fixes.{both, carried, Between, between, bind_is, Shrinks, Strict, Strict-Shrinks, Shrinks-give, Strict-take, Shrinks-bind, Strict-bind}
+use Rattle.syntax.proofs.KindTests.{same_kind-is}
+use Rattle.syntax.proofs.Fixes.{carried, between, bind_is, Shrinks, Strict, Strict-Shrinks, Shrinks-give, Strict-take, Shrinks-bind, Strict-bind}
 use Rattle.syntax.proofs.Expressions.{take_is, take_finds}
-use Rattle.syntax.proofs.Exactly.{Exactly, Anything, begins_takes, begins_other, NoComma, many_finds, many_reads, many_shrinks}
+use Rattle.syntax.proofs.Exactly.{Exactly, Anything, begins_takes, begins_other, many_finds, many_reads, many_shrinks}
 use Rattle.syntax.proofs.Parts.{strict_name, exactly_name, strict_names, exactly_names, strict_formals, exactly_formals}
 use Rattle.syntax.proofs.Sections.{section_shrinks}
 use Rattle.syntax.proofs.Sound.{section_finds}

@@ -1,19 +1,17 @@
 -- The function that reads statements is sound and complete for the grammar of statements.
-use Rattle.std.proofs.Common.{◌≡◌, ℕ, zero, suc, ◌+◌, ◌<◌, ◌≤◌, Bool, true, false, cond, ◌||◌, ◌&&◌, List, [], ◌∷◌, ◌++◌, length, Option, Some, None, refl, sym, ◌∙◌, ap, arith, rules, ◌⊎◌, inl, inr}
-use Rattle.language.specs.Tree.{Name, Expression, RightSide, Simple, skip, assign, assert, assume, goto, leave, call, Mark, Block, done, one, choose, loop}
-use Rattle.tokens.specs.declared.vocabulary.Kind.{Kind}
+use Rattle.std.proofs.Common.{◌≡◌, Bool, true, false, cond, ◌&&◌, List, [], ◌∷◌, Option, Some, None, refl, ◌⊎◌, inl, inr}
+use Rattle.language.specs.Tree.{Name, Simple, skip, assign, assert, assume, goto, leave, call, Mark, Block, done}
 use Rattle.tokens.specs.declared.vocabulary.Kind.TheVariants as kind
 use Rattle.tokens.specs.Token.{Tok, same_kind}
-use Rattle.syntax.specs.Parser.{Parser, give, refuse, ◌>>=◌, begins, take, fix}
-use Rattle.syntax.specs.Grammar.{Takes, takes, name_at, IsName, is_name, Behind, behind, InParens, in_parens, Many, no_more, one_more, Listed, listed, Perhaps, IsExpression, IsRight, IsMarked, bare, labelled, IsSimple, is_skip, is_return, is_goto, is_assert, is_assume, is_assign, is_call, IsSome, Statements, nothing_more, statement, if_statement, while_statement}
+use Rattle.syntax.specs.Parser.{Parser, give, refuse, ◌>>=◌, begins, take}
+use Rattle.syntax.specs.Grammar.{takes, name_at, IsMarked, bare, labelled, IsSimple, is_skip, is_return, is_goto, is_assert, is_assume, is_assign, is_call, IsSome, Statements, nothing_more, statement, if_statement, while_statement}
 use Rattle.syntax.specs.Trees.{Deed, simple, branch, repeat, Item, before, marked_before}
-use Rattle.syntax.specs.Exact.{name, names, rights, arguments, test, marked, assignment, calling, named, branching, repeating, deed_by, deed_step, starts, starts_here, item_step, rest_step, section_step, section}
-use Rattle.syntax.proofs.KindTests.{same_kind-true, same_kind-is}
-use Rattle.syntax.proofs.Fixes.{both, carried, Between, between, bind_is, Finds, fix_finds}
-use Rattle.syntax.proofs.Expressions.{Stops, take_is, take_finds}
-use Rattle.syntax.proofs.Exactly.{Exactly, Anything, chosen, begins_takes, begins_other, begins_take, NoComma}
-use Rattle.syntax.proofs.Parts.{exactly_name, exactly_names, exactly_rights, exactly_arguments, exactly_test, semicolon_stops}
-use Rattle.syntax.proofs.Sections.{section_is}
+use Rattle.syntax.specs.Exact.{name, names, rights, arguments, test, marked, assignment, calling, named, branching, repeating, deed_by, deed_step, starts_here, item_step, rest_step, section_step, section}
+use Rattle.syntax.proofs.KindTests.{same_kind-true}
+use Rattle.syntax.proofs.Fixes.{carried, between, Finds, fix_finds}
+use Rattle.syntax.proofs.Expressions.{take_finds}
+use Rattle.syntax.proofs.Exactly.{chosen}
+use Rattle.syntax.proofs.Parts.{exactly_name, exactly_names, exactly_rights, exactly_arguments, exactly_test}
 
 -- marks
 marked_at : (t : Tok) (ts : List Tok) (b : Bool) → same_kind t.kind kind.Id && begins kind.Colon ts ≡ b → (m : Mark Name) (rest : List Tok) → cond {A = Option (Mark Name × List Tok)} b ((take kind.Colon >>= λ _. give (record { label = Some (name_at t); at = t.at })) ts) (Some (record { label = None; at = t.at }, t ∷ ts)) ≡ Some (m, rest) → IsMarked (t ∷ ts) m rest

@@ -1,14 +1,8 @@
-use Rattle.std.proofs.Common.{rules, arith, ◌≡◌, ℕ, ◌≤◌, length, List, [], sym, ap}
+use Rattle.std.proofs.Common.{◌≡◌, List}
 use Rattle.std.specs.Prelude.{IsTrue}
-use Rattle.std.specs.Str.{IsAscii}
 use Rattle.tokens.specs.Token.{Tok, toks_of}
 use Rattle.tokens.specs.Cuts.{Cuts}
 use Rattle.tokens.specs.Depth.{TooDeep}
-use Rattle.language.specs.Tree.{Tree}
-use Rattle.syntax.specs.Gives.{Gives}
-use Rattle.syntax.specs.Exact.{program}
-use Rattle.syntax.specs.Trees.{tree_of}
-use Rattle.syntax.specs.declared.tree.Program.{Program}
 use Rattle.syntax.proofs.Texts.{text_found, text_only, text_fault}
 use Rattle.syntax.proofs.reading.read.Goals as goal
 

@@ -1,10 +1,7 @@
-use Rattle.std.proofs.Common.{rules, arith, ◌≡◌, ◌<◌, length, IfOk, ℕ, List, [], ◌∷◌, ◌∙◌, sym, ap, Some, None}
-use Rattle.std.proofs.lemmas.Grind.{common_steps}
-use Rattle.std.specs.Prelude.{option_map}
-use Rattle.language.specs.Tree.{Name, Expression, two}
-use Rattle.syntax.specs.Gives.{Gives}
-use Rattle.syntax.specs.Grammar.{level, right_level}
-use Rattle.syntax.specs.Exact.{binds, operand, reading, from, after}
+use Rattle.std.proofs.Common.{rules, ◌≡◌, List, ◌∙◌, sym, ap, Some}
+use Rattle.language.specs.Tree.{Name, Expression}
+use Rattle.syntax.specs.Grammar.{right_level}
+use Rattle.syntax.specs.Exact.{reading, from, after}
 use Rattle.syntax.specs.Trees.{operator_of, expr_of}
 use Rattle.tokens.specs.declared.vocabulary.Token.{Token}
 use Rattle.tokens.specs.Token.{tok_of, toks_of}

@@ -1,12 +1,10 @@
-use Rattle.std.proofs.Common.{rules, arith, ◌≡◌, ◌<◌, length, List, [], ◌∷◌, ◌++◌, ◌∙◌, ap, sym, Some, None}
+use Rattle.std.proofs.Common.{rules, arith, List, [], ◌∷◌, ◌++◌, ◌∙◌, ap, sym, Some}
 use Rattle.std.proofs.lemmas.Result.{err_from_is_err_and}
-use Rattle.language.specs.Tree.{Name, Block}
 use Rattle.tokens.specs.declared.vocabulary.Kind.TheVariants as kind
-use Rattle.tokens.specs.Token.{Tok, tok_of, toks_of, same_kind}
-use Rattle.syntax.specs.Gives.{Gives}
+use Rattle.tokens.specs.Token.{toks_of}
 use Rattle.syntax.specs.Parser.{take}
-use Rattle.syntax.specs.Exact.{section, item, going_on, put_before, deed, if_deed, while_deed, starts_here}
-use Rattle.syntax.specs.Trees.{Deed, Item, item_of, items_of, deed_of}
+use Rattle.syntax.specs.Exact.{section, going_on, put_before, if_deed, while_deed}
+use Rattle.syntax.specs.Trees.{Deed, Item, item_of, items_of}
 use Rattle.syntax.specs.declared.tree.Stmt.{Stmt}
 use Rattle.syntax.proofs.Exits.{fails_on}
 use Rattle.syntax.proofs.Folds.{deed_of-Skip, deed_of-Return, deed_of-If, deed_of-While}

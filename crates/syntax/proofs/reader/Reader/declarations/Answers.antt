@@ -1,4 +1,4 @@
-use Rattle.std.proofs.Common.{rules, arith, ◌≡◌, List, ◌∙◌, ap, sym}
+use Rattle.std.proofs.Common.{arith, List, ◌∙◌, ap, sym}
 use Rattle.language.specs.Tree.{Name}
 use Rattle.syntax.specs.Exact.{prepend, all_declarations}
 use Rattle.syntax.specs.Trees.{name_of, names_of}

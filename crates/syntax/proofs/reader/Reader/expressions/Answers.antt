@@ -1,6 +1,6 @@
-use Rattle.std.proofs.Common.{rules, ◌≡◌, List, ◌∙◌, ap}
+use Rattle.std.proofs.Common.{rules, List, ◌∙◌, ap}
 use Rattle.std.proofs.lemmas.Result.{err_from_is_err_and}
-use Rattle.language.specs.Tree.{Name, Expression, RightSide}
+use Rattle.language.specs.Tree.{Name, Expression}
 use Rattle.syntax.specs.Exact.{expression, expressions, prepend, more_expressions}
 use Rattle.syntax.specs.Trees.{expr_of, exprs_of}
 use Rattle.tokens.specs.Token.{tok_of, toks_of}

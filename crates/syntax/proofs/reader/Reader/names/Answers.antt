@@ -1,6 +1,6 @@
-use Rattle.std.proofs.Common.{rules, ◌≡◌, List, ◌∙◌, ap}
+use Rattle.std.proofs.Common.{rules, List, ◌∙◌, ap}
 use Rattle.std.proofs.lemmas.Result.{err_from_is_err_and}
-use Rattle.language.specs.Tree.{Name, Expression, RightSide}
+use Rattle.language.specs.Tree.{Name}
 use Rattle.syntax.specs.Exact.{name, names, prepend, more_names}
 use Rattle.syntax.specs.Trees.{name_of, names_of}
 use Rattle.tokens.specs.Token.{tok_of, toks_of}

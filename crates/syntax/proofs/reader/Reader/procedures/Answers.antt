@@ -1,11 +1,9 @@
-use Rattle.std.proofs.Common.{rules, ◌≡◌, List, ◌∙◌, ap, sym}
-use Rattle.std.proofs.lemmas.Result.{err_from_is_err_and}
+use Rattle.std.proofs.Common.{rules, List, ◌∙◌, ap, sym}
 use Rattle.language.specs.Tree.{Procedure}
-use Rattle.syntax.specs.Exact.{prepend, procedure, procedures, more_procedures}
+use Rattle.syntax.specs.Exact.{prepend, more_procedures}
 use Rattle.syntax.specs.Trees.{proc_of, procs_of}
 use Rattle.tokens.specs.Token.{toks_of}
-use Rattle.syntax.proofs.Exits.{fails_on}
-use Rattle.syntax.proofs.Loops.{procedures_go_on, procedures_refused, pushed}
+use Rattle.syntax.proofs.Loops.{procedures_go_on, pushed}
 use Rattle.syntax.proofs.reader.Reader.procedures.Goals as goal
 
 pub loop-rest-preserved : goal.loop-rest-preserved

@@ -1,11 +1,9 @@
-use Rattle.std.proofs.Common.{rules, ◌≡◌, List, ◌∙◌, ap, sym}
-use Rattle.std.proofs.lemmas.Result.{err_from_is_err_and}
+use Rattle.std.proofs.Common.{rules, List, ◌∙◌, ap, sym}
 use Rattle.language.specs.Tree.{ThreadLine}
-use Rattle.syntax.specs.Exact.{prepend, thread_line, thread_lines, more_lines}
+use Rattle.syntax.specs.Exact.{prepend, more_lines}
 use Rattle.syntax.specs.Trees.{thread_of, threads_of}
 use Rattle.tokens.specs.Token.{toks_of}
-use Rattle.syntax.proofs.Exits.{fails_on}
-use Rattle.syntax.proofs.Loops.{lines_go_on, lines_refused, pushed}
+use Rattle.syntax.proofs.Loops.{lines_go_on, pushed}
 use Rattle.syntax.proofs.reader.Reader.threads.Goals as goal
 
 pub loop-rest-preserved : goal.loop-rest-preserved
