@@ -19,9 +19,9 @@ marked_at t ts true is m rest e =
     let b = between (take kind.Colon) (λ _. give (record { label = Some (name_at t); at = t.at })) ts m rest e in
     carried (λ m rest. IsMarked (t ∷ ts) m rest) b.second (labelled (is_id (same_kind t.kind kind.Id) refl is) (take_finds kind.Colon ts b.x b.us b.first).0)
   where
-  is_id : (c : Bool) → same_kind t.kind kind.Id ≡ c → c && begins kind.Colon ts ≡ true → t.kind ≡ kind.Id
-  is_id true e h = same_kind-true e
-  is_id false e h = cc
+    is_id : (c : Bool) → same_kind t.kind kind.Id ≡ c → c && begins kind.Colon ts ≡ true → t.kind ≡ kind.Id
+    is_id true e h = same_kind-true e
+    is_id false e h = cc
 marked_at t ts false is m rest e = carried (λ m rest. IsMarked (t ∷ ts) m rest) e bare
 
 marked_finds : (ts : List Tok) (m : Mark Name) (rest : List Tok) → marked ts ≡ Some (m, rest) → IsMarked ts m rest
@@ -46,8 +46,8 @@ assignment_finds ts d rest e =
     let f = between rights (λ rs. take kind.Semicolon >>= λ _. give (simple (assign b.x rs))) c.us d rest c.second in
     let g = between (take kind.Semicolon) (λ _. give (simple (assign b.x f.x))) f.us d rest f.second in
     plain_found ts (assign b.x f.x) g.us
-        (is_assign (exactly_names.finds ts b.x b.us b.first) (take_finds kind.Assign b.us c.x c.us c.first).0 (exactly_rights.finds c.us f.x f.us f.first) (take_finds kind.Semicolon f.us g.x g.us g.first).0)
-        d rest g.second
+    (is_assign (exactly_names.finds ts b.x b.us b.first) (take_finds kind.Assign b.us c.x c.us c.first).0 (exactly_rights.finds c.us f.x f.us f.first) (take_finds kind.Semicolon f.us g.x g.us g.first).0)
+    d rest g.second
 
 calling_finds : (ts : List Tok) → FindsDeed calling ts
 unfolding calling
@@ -56,16 +56,16 @@ calling_finds ts d rest e =
     let c = between arguments (λ es. take kind.Semicolon >>= λ _. give (simple (call b.x es))) b.us d rest b.second in
     let f = between (take kind.Semicolon) (λ _. give (simple (call b.x c.x))) c.us d rest c.second in
     plain_found ts (call b.x c.x) f.us
-        (is_call (exactly_name.finds ts b.x b.us b.first) (exactly_arguments.finds b.us c.x c.us c.first) (take_finds kind.Semicolon c.us f.x f.us f.first).0)
-        d rest f.second
+    (is_call (exactly_name.finds ts b.x b.us b.first) (exactly_arguments.finds b.us c.x c.us c.first) (take_finds kind.Semicolon c.us f.x f.us f.first).0)
+    d rest f.second
 
 named_finds : (t : Tok) (ts : List Tok) → (d : Deed) (rest : List Tok) → named t ts ≡ Some (d, rest) → (us : List Tok) (m : Mark Name) → IsMarked us m (t ∷ ts) → (k : Block Name Name Name) (vs : List Tok) → Statements rest k vs → Statements us (marked_before m d k) vs
 unfolding named
 named_finds t ts d rest e = by_choice (chosen (begins kind.Open ts) (calling (t ∷ ts)) (assignment (t ∷ ts)) (Some (d, rest)) e)
   where
-  by_choice : ((begins kind.Open ts ≡ true) × (calling (t ∷ ts) ≡ Some (d, rest))) ⊎ ((begins kind.Open ts ≡ false) × (assignment (t ∷ ts) ≡ Some (d, rest))) → (us : List Tok) (m : Mark Name) → IsMarked us m (t ∷ ts) → (k : Block Name Name Name) (vs : List Tok) → Statements rest k vs → Statements us (marked_before m d k) vs
-  by_choice (inl h) = calling_finds (t ∷ ts) d rest h.1
-  by_choice (inr h) = assignment_finds (t ∷ ts) d rest h.1
+    by_choice : ((begins kind.Open ts ≡ true) × (calling (t ∷ ts) ≡ Some (d, rest))) ⊎ ((begins kind.Open ts ≡ false) × (assignment (t ∷ ts) ≡ Some (d, rest))) → (us : List Tok) (m : Mark Name) → IsMarked us m (t ∷ ts) → (k : Block Name Name Name) (vs : List Tok) → Statements rest k vs → Statements us (marked_before m d k) vs
+    by_choice (inl h) = calling_finds (t ∷ ts) d rest h.1
+    by_choice (inr h) = assignment_finds (t ∷ ts) d rest h.1
 
 -- what reading statements finds
 abbrev Found : Unit {0} → List Tok → Block Name Name Name → List Tok → Type 0
@@ -112,7 +112,7 @@ module _ (f : Unit {0} → Parser (Block Name Name Name)) (sound : Finds Found f
       let b = sound tt c4.us c5.x c5.us c5.first in
       carried (λ d vs. (us : List Tok) (m : Mark Name) → IsMarked us m (t ∷ ts) → (k : Block Name Name Name) (ws : List Tok) → Statements vs k ws → Statements us (marked_before m d k) ws) c6.second
       (λ us m marks k ws more. if_statement marks (takes is) (exactly_test.finds ts c1.x c1.us c1.first) (take_finds kind.Then c1.us c2.x c2.us c2.first).0 a.0 a.1
-          (take_finds kind.Else c3.us c4.x c4.us c4.first).0 b.0 b.1 (take_finds kind.Fi c5.us c6.x c6.us c6.first).0 more)
+      (take_finds kind.Else c3.us c4.x c4.us c4.first).0 b.0 b.1 (take_finds kind.Fi c5.us c6.x c6.us c6.first).0 more)
 
   while_finds : t.kind ≡ kind.While → FindsDeed (λ us. repeating (f tt) ts) (t ∷ ts)
   while_finds is d rest e =
@@ -123,7 +123,7 @@ module _ (f : Unit {0} → Parser (Block Name Name Name)) (sound : Finds Found f
       let a = sound tt c2.us c3.x c3.us c3.first in
       carried (λ d vs. (us : List Tok) (m : Mark Name) → IsMarked us m (t ∷ ts) → (k : Block Name Name Name) (ws : List Tok) → Statements vs k ws → Statements us (marked_before m d k) ws) c4.second
       (λ us m marks k ws more. while_statement marks (takes is) (exactly_test.finds ts c1.x c1.us c1.first) (take_finds kind.Do c1.us c2.x c2.us c2.first).0 a.0 a.1
-          (take_finds kind.Od c3.us c4.x c4.us c4.first).0 more)
+      (take_finds kind.Od c3.us c4.x c4.us c4.first).0 more)
 
   by_tests : (b1 : Bool) → same_kind t.kind kind.Skip ≡ b1 → (b2 : Bool) → same_kind t.kind kind.Return ≡ b2 → (b3 : Bool) → same_kind t.kind kind.Goto ≡ b3 → (b4 : Bool) → same_kind t.kind kind.Assert ≡ b4 → (b5 : Bool) → same_kind t.kind kind.Assume ≡ b5 → (b6 : Bool) → same_kind t.kind kind.If ≡ b6 → (b7 : Bool) → same_kind t.kind kind.While ≡ b7 → (b8 : Bool) → same_kind t.kind kind.Id ≡ b8 →
       FindsDeed (λ us. cond b1 (take kind.Semicolon >>= λ _. give (simple skip))
