@@ -1,5 +1,5 @@
 -- A text has one tree, and other bytes one fault.
-use Rattle.std.proofs.Common.{◌≡◌, ℕ, ◌<◌, ◌≤◌, List, [], length, Option, Some, None, refl, sym, ◌∙◌, ap, arith, ◌⊎◌, inl, inr}
+use Rattle.std.proofs.Common.{◌≡◌, ℕ, ◌<◌, List, refl, sym, ◌∙◌, arith, ◌⊎◌, inl, inr}
 use Rattle.language.specs.Tree.{Tree}
 use Rattle.tokens.specs.Token.{Tok}
 use Rattle.tokens.specs.Cuts.{Cuts, BadAt}
@@ -7,7 +7,6 @@ use Rattle.tokens.specs.Depth.{TooDeep}
 use Rattle.tokens.proofs.OneCut.{one_cut, never_both}
 use Rattle.syntax.specs.declared.fault.ReadFault.{ReadFault}
 use Rattle.syntax.specs.declared.fault.ReadFault.TheVariants as fault
-use Rattle.syntax.specs.Grammar.{IsProgram}
 use Rattle.syntax.specs.Text.{Text, Stands, DeepTokens, NoProgram, number}
 use Rattle.syntax.proofs.Fixes.{both}
 use Rattle.syntax.proofs.Programs.{program_reads}
