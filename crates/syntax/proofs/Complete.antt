@@ -1,17 +1,17 @@
 -- The statements that the grammar has are read.
-use Rattle.std.proofs.Common.{◌≡◌, ℕ, zero, suc, ◌+◌, ◌<◌, ◌≤◌, Bool, true, false, cond, ◌||◌, ◌&&◌, List, [], ◌∷◌, ◌++◌, length, Option, Some, None, refl, sym, ◌∙◌, ap, arith, rules, ◌⊎◌, inl, inr}
-use Rattle.language.specs.Tree.{Name, Expression, RightSide, Simple, skip, assign, assert, assume, goto, leave, call, Mark, Block, done, one, choose, loop}
+use Rattle.std.proofs.Common.{◌≡◌, Bool, true, false, ◌&&◌, List, [], ◌∷◌, Some, refl, ◌∙◌, ap, ◌⊎◌, inl, inr}
+use Rattle.language.specs.Tree.{Name, Expression, RightSide, Simple, skip, assign, assert, assume, goto, leave, call, Mark, Block, one, choose, loop}
 use Rattle.tokens.specs.declared.vocabulary.Kind.{Kind}
 use Rattle.tokens.specs.declared.vocabulary.Kind.TheVariants as kind
 use Rattle.tokens.specs.Token.{Tok, same_kind}
-use Rattle.syntax.specs.Parser.{Parser, give, refuse, ◌>>=◌, begins, take, fix}
-use Rattle.syntax.specs.Grammar.{Takes, takes, name_at, IsName, is_name, Behind, behind, InParens, in_parens, Many, no_more, one_more, Listed, listed, Perhaps, IsExpression, IsRight, IsMarked, bare, labelled, IsSimple, is_skip, is_return, is_goto, is_assert, is_assume, is_assign, is_call, IsSome, Statements, nothing_more, statement, if_statement, while_statement}
-use Rattle.syntax.specs.Trees.{Deed, simple, branch, repeat, Item, before, marked_before}
-use Rattle.syntax.specs.Exact.{name, names, rights, arguments, test, marked, assignment, calling, named, branching, repeating, deed_by, deed_step, starts, starts_here, item_step, rest_step, section_step, section}
+use Rattle.syntax.specs.Parser.{Parser, give, ◌>>=◌, begins, take}
+use Rattle.syntax.specs.Grammar.{Takes, takes, name_at, IsName, is_name, behind, InParens, in_parens, no_more, one_more, Listed, listed, Perhaps, IsExpression, IsRight, IsMarked, bare, labelled, IsSimple, is_skip, is_return, is_goto, is_assert, is_assume, is_assign, is_call, IsSome, Statements, nothing_more, statement, if_statement, while_statement}
+use Rattle.syntax.specs.Trees.{Deed, simple, branch, repeat, before, marked_before}
+use Rattle.syntax.specs.Exact.{name, names, rights, arguments, test, marked, assignment, calling, named, branching, repeating, deed_by, deed_step, starts, starts_here, item_step, rest_step, section}
 use Rattle.syntax.proofs.KindTests.{same_kind-true, same_kind-is}
 use Rattle.syntax.proofs.Fixes.{bind_is}
-use Rattle.syntax.proofs.Expressions.{Stops, take_is}
-use Rattle.syntax.proofs.Exactly.{Exactly, Anything, begins_takes, begins_other, NoComma}
+use Rattle.syntax.proofs.Expressions.{take_is}
+use Rattle.syntax.proofs.Exactly.{begins_takes, begins_other}
 use Rattle.syntax.proofs.Parts.{exactly_name, exactly_names, exactly_rights, exactly_arguments, exactly_test, semicolon_stops}
 use Rattle.syntax.proofs.Sections.{section_is}
 
@@ -88,20 +88,20 @@ simple_reads f (is_assign {ts = t ∷ ts} {us = us} {vs = vs} {ws = ws} {rest = 
     let n = names_next t ts us xs h in
     at ts (by_name f t n.0)
     ∙ rw (next_no kind.Open ts us vs refl refl n.1 a)
-      (bind_is names (λ xs. take kind.Assign >>= λ _. rights >>= λ rs. take kind.Semicolon >>= λ _. give (simple (assign xs rs))) (t ∷ ts) xs us
-          (exactly_names.reads (t ∷ ts) xs us h (tt, begins_other kind.Comma a refl))
-      ∙ passing (rights >>= λ rs. take kind.Semicolon >>= λ _. give (simple (assign xs rs))) a
-      ∙ bind_is rights (λ rs. take kind.Semicolon >>= λ _. give (simple (assign xs rs))) vs rs ws (exactly_rights.reads vs rs ws l (semicolon_stops ws rest c, begins_other kind.Comma c refl))
-      ∙ ends (simple (assign xs rs)) c)
+    (bind_is names (λ xs. take kind.Assign >>= λ _. rights >>= λ rs. take kind.Semicolon >>= λ _. give (simple (assign xs rs))) (t ∷ ts) xs us
+    (exactly_names.reads (t ∷ ts) xs us h (tt, begins_other kind.Comma a refl))
+    ∙ passing (rights >>= λ rs. take kind.Semicolon >>= λ _. give (simple (assign xs rs))) a
+    ∙ bind_is rights (λ rs. take kind.Semicolon >>= λ _. give (simple (assign xs rs))) vs rs ws (exactly_rights.reads vs rs ws l (semicolon_stops ws rest c, begins_other kind.Comma c refl))
+    ∙ ends (simple (assign xs rs)) c)
 simple_reads f (is_call {vs = vs} {p = p} {es = es} (is_name {t = t} {rest = us} is) h c) =
     at us (by_name f t is)
     ∙ rw (opens us vs es h)
-      (bind_is name (λ p. arguments >>= λ es. take kind.Semicolon >>= λ _. give (simple (call p es))) (t ∷ us) (name_at t) us (exactly_name.reads (t ∷ us) (name_at t) us (is_name is) tt)
-      ∙ bind_is arguments (λ es. take kind.Semicolon >>= λ _. give (simple (call (name_at t) es))) us es vs (exactly_arguments.reads us es vs h tt)
-      ∙ ends (simple (call (name_at t) es)) c)
+    (bind_is name (λ p. arguments >>= λ es. take kind.Semicolon >>= λ _. give (simple (call p es))) (t ∷ us) (name_at t) us (exactly_name.reads (t ∷ us) (name_at t) us (is_name is) tt)
+    ∙ bind_is arguments (λ es. take kind.Semicolon >>= λ _. give (simple (call (name_at t) es))) us es vs (exactly_arguments.reads us es vs h tt)
+    ∙ ends (simple (call (name_at t) es)) c)
   where
-  opens : (us vs : List Tok) (es : List (Expression Name)) → InParens (Perhaps IsExpression) us es vs → begins kind.Open us ≡ true
-  opens us vs es (in_parens o h c) = begins_takes o
+    opens : (us vs : List Tok) (es : List (Expression Name)) → InParens (Perhaps IsExpression) us es vs → begins kind.Open us ≡ true
+    opens us vs es (in_parens o h c) = begins_takes o
 
 -- no statement goes on as a label would
 if_no : {k : Kind} {ts us : List Tok} {t : Tok} → Takes k (t ∷ ts) us → same_kind k kind.Id ≡ false → same_kind t.kind kind.Id && begins kind.Colon ts ≡ false
@@ -110,9 +110,9 @@ if_no {ts = ts} (takes e) h = rw (e, h) refl
 colon_no : (t : Tok) (ts : List Tok) → begins kind.Colon ts ≡ false → same_kind t.kind kind.Id && begins kind.Colon ts ≡ false
 colon_no t ts e = rw e (by_test (same_kind t.kind kind.Id))
   where
-  by_test : (b : Bool) → b && false ≡ false
-  by_test true = refl
-  by_test false = refl
+    by_test : (b : Bool) → b && false ≡ false
+    by_test true = refl
+    by_test false = refl
 
 simple_no_label : (t : Tok) (ts rest : List Tok) (s : Simple Name Name Name) → IsSimple (t ∷ ts) s rest → (same_kind t.kind kind.Id && begins kind.Colon ts ≡ false) × (starts t.kind ≡ true)
 unfolding same_kind
@@ -139,13 +139,14 @@ marked_starts (labelled e c) h = rw e refl
 
 -- a statement and what follows it are read
 section_reads : (ts us vs rest : List Tok) (m : Mark Name) (d : Deed) (k : Block Name Name Name) → IsMarked ts m us → ((t : Tok) (ws : List Tok) → us ≡ t ∷ ws → (same_kind t.kind kind.Id && begins kind.Colon ws ≡ false) × (starts t.kind ≡ true)) → starts_here us ≡ true → deed_step section us ≡ Some (d, vs) → rest_step section vs ≡ Some (k, rest) → (section ts ≡ Some (marked_before m d k, rest)) × (starts_here ts ≡ true)
-section_reads ts us vs rest m d k marks plain here does more =
-    (section_is ts
-    ∙ bind_is (item_step section) (λ i. rest_step section >>= λ k. give (before i k)) ts (record { mark = m; deed = d }) vs
-        (bind_is marked (λ m. deed_step section >>= λ d. give (record { mark = m; deed = d })) ts m us (marked_reads marks (λ t ws e. (plain t ws e).0))
-        ∙ bind_is (deed_step section) (λ d. give (record { mark = m; deed = d })) us d vs does)
-    ∙ bind_is (rest_step section) (λ k. give (marked_before m d k)) vs k rest more
-    , marked_starts marks here)
+section_reads ts us vs rest m d k marks plain here does more = (
+  section_is ts
+      ∙ bind_is (item_step section) (λ i. rest_step section >>= λ k. give (before i k)) ts (record { mark = m; deed = d }) vs
+      (bind_is marked (λ m. deed_step section >>= λ d. give (record { mark = m; deed = d })) ts m us (marked_reads marks (λ t ws e. (plain t ws e).0))
+      ∙ bind_is (deed_step section) (λ d. give (record { mark = m; deed = d })) us d vs does)
+      ∙ bind_is (rest_step section) (λ k. give (marked_before m d k)) vs k rest more,
+  marked_starts marks here,
+)
 
 -- behind such a token no statement comes
 pub stops : {k : Kind} {ts us : List Tok} → Takes k ts us → starts k ≡ false → starts_here ts ≡ false
@@ -205,10 +206,10 @@ statements_read (statement {ts = ts} {us = us} {vs = vs} {rest = rest} {m = m} {
     read_from ts rest (one m s k) (section_reads ts us vs rest m (simple s) k marks (simple_cases h) (simple_here us vs s h) (simple_reads section h) (statements_read more e).0)
 statements_read (if_statement {ts = ts} {t1 = t1} {t8 = t8} {rest = rest} {m = m} {r = r} {a = a} {b = b} {k = k} marks i h th sa na el sb nb fi more) e =
     read_from ts rest (choose m r a b k) (section_reads ts t1 t8 rest m (branch r a b) k marks (word_cases i refl refl) (word_here i refl)
-        (if_reads i h th ((statements_read sa (stops el refl)).1 na) el ((statements_read sb (stops fi refl)).1 nb) fi) (statements_read more e).0)
+    (if_reads i h th ((statements_read sa (stops el refl)).1 na) el ((statements_read sb (stops fi refl)).1 nb) fi) (statements_read more e).0)
 statements_read (while_statement {ts = ts} {t1 = t1} {t6 = t6} {rest = rest} {m = m} {r = r} {a = a} {k = k} marks i h th sa na od more) e =
     read_from ts rest (loop m r a k) (section_reads ts t1 t6 rest m (repeat r a) k marks (word_cases i refl refl) (word_here i refl)
-        (while_reads i h th ((statements_read sa (stops od refl)).1 na) od) (statements_read more e).0)
+    (while_reads i h th ((statements_read sa (stops od refl)).1 na) od) (statements_read more e).0)
 
 -- where there is a statement, its first token begins one
 pub statements_start : {ts rest : List Tok} {b : Block Name Name Name} → Statements ts b rest → IsSome b → starts_here ts ≡ true

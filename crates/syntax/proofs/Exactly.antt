@@ -1,13 +1,13 @@
 -- Functions that read just what a relation of the grammar says, part by part.
-use Rattle.std.proofs.Common.{◌≡◌, ℕ, zero, suc, ◌+◌, ◌<◌, ◌≤◌, Bool, true, false, cond, List, [], ◌∷◌, ◌++◌, length, Option, Some, None, refl, sym, ◌∙◌, ap, arith, rules, ◌⊎◌, inl, inr}
+use Rattle.std.proofs.Common.{◌≡◌, ℕ, suc, ◌<◌, ◌≤◌, Bool, true, false, cond, List, [], ◌∷◌, length, Option, Some, refl, ◌∙◌, ap, arith, ◌⊎◌, inl, inr}
 use Rattle.tokens.specs.declared.vocabulary.Kind.{Kind}
 use Rattle.tokens.specs.declared.vocabulary.Kind.TheVariants as kind
 use Rattle.tokens.specs.Token.{Tok, same_kind}
-use Rattle.syntax.specs.Parser.{Parser, give, refuse, ◌>>=◌, begins, take, run, fix, many_step, many}
-use Rattle.syntax.specs.Grammar.{Takes, takes, Behind, behind, InParens, in_parens, Many, no_more, one_more, Several, several, Listed, listed, Perhaps, nothing, something}
+use Rattle.syntax.specs.Parser.{Parser, give, ◌>>=◌, begins, take, fix, many_step, many}
+use Rattle.syntax.specs.Grammar.{Takes, takes, Behind, behind, InParens, in_parens, Many, no_more, one_more, Listed, listed, Perhaps, nothing, something}
 use Rattle.syntax.specs.Exact.{more, list, parens, perhaps}
 use Rattle.syntax.proofs.KindTests.{same_kind-true, same_kind-is}
-use Rattle.syntax.proofs.Fixes.{both, carried, Between, between, bind_is, Shrinks, Strict, Agree, Strict-Shrinks, Shrinks-give, Shrinks-refuse, Strict-take, Shrinks-bind, Strict-bind, Agree-same, Agree-bind, Agree-Strict-bind, Shrinks-cond, Agree-cond, IsStep, fix_shrinks, fix_is, Finds, fix_finds}
+use Rattle.syntax.proofs.Fixes.{both, carried, between, bind_is, Shrinks, Strict, Agree, Strict-Shrinks, Shrinks-give, Strict-take, Shrinks-bind, Strict-bind, Agree-same, Agree-bind, Agree-Strict-bind, IsStep, fix_shrinks, fix_is, Finds, fix_finds}
 use Rattle.syntax.proofs.Expressions.{take_is, take_finds}
 
 -- p reads what P says, wherever what follows is as S says, and nothing else.
@@ -42,32 +42,32 @@ begins_take k (t ∷ ts) e = (t, ts, rw e refl, takes (same_kind-true e))
 -- behind a token
 pub exactly_behind : {X : Type 0} {P : List Tok → X → List Tok → Type 0} {S : List Tok → Type 0} {p : Parser X} (k : Kind) → Exactly P S p → Exactly (Behind k P) S (take k >>= λ _. p)
 exactly_behind {X} {P} {S} {p} k is = record {
-    finds = λ ts x rest e.
-        let b = between (take k) (λ _. p) ts x rest e in
-        behind (take_finds k ts b.x b.us b.first).0 (is.finds b.us x rest b.second);
-    reads = went;
-  }
+  finds = λ ts x rest e.
+      let b = between (take k) (λ _. p) ts x rest e in
+      behind (take_finds k ts b.x b.us b.first).0 (is.finds b.us x rest b.second);
+  reads = went;
+}
   where
-  went : (ts : List Tok) (x : X) (rest : List Tok) → Behind k P ts x rest → S rest → (take k >>= λ _. p) ts ≡ Some (x, rest)
-  went ts x rest (behind {us = us} t h) s = bind_is (take k) (λ _. p) ts (take_is t).0 us (take_is t).1 ∙ is.reads us x rest h s
+    went : (ts : List Tok) (x : X) (rest : List Tok) → Behind k P ts x rest → S rest → (take k >>= λ _. p) ts ≡ Some (x, rest)
+    went ts x rest (behind {us = us} t h) s = bind_is (take k) (λ _. p) ts (take_is t).0 us (take_is t).1 ∙ is.reads us x rest h s
 
 -- in parentheses
 pub exactly_parens : {X : Type 0} {P : List Tok → X → List Tok → Type 0} {S : List Tok → Type 0} {p : Parser X} → Exactly P S p → ((us rest : List Tok) → Takes kind.Close us rest → S us) → Exactly (InParens P) Anything (parens p)
 exactly_parens {X} {P} {S} {p} is close = record {
-    finds = λ ts x rest e.
-        let b = between (take kind.Open) (λ _. p >>= λ x. take kind.Close >>= λ _. give x) ts x rest e in
-        let c = between p (λ x. take kind.Close >>= λ _. give x) b.us x rest b.second in
-        let d = between (take kind.Close) (λ _. give c.x) c.us x rest c.second in
-        carried (λ x rest. InParens P ts x rest) d.second
-            (in_parens (take_finds kind.Open ts b.x b.us b.first).0 (is.finds b.us c.x c.us c.first) (take_finds kind.Close c.us d.x d.us d.first).0);
-    reads = went;
-  }
+  finds = λ ts x rest e.
+      let b = between (take kind.Open) (λ _. p >>= λ x. take kind.Close >>= λ _. give x) ts x rest e in
+      let c = between p (λ x. take kind.Close >>= λ _. give x) b.us x rest b.second in
+      let d = between (take kind.Close) (λ _. give c.x) c.us x rest c.second in
+      carried (λ x rest. InParens P ts x rest) d.second
+      (in_parens (take_finds kind.Open ts b.x b.us b.first).0 (is.finds b.us c.x c.us c.first) (take_finds kind.Close c.us d.x d.us d.first).0);
+  reads = went;
+}
   where
-  went : (ts : List Tok) (x : X) (rest : List Tok) → InParens P ts x rest → Unit {0} → parens p ts ≡ Some (x, rest)
-  went ts x rest (in_parens {us = us} {vs = vs} first h shut) s =
-      bind_is (take kind.Open) (λ _. p >>= λ x. take kind.Close >>= λ _. give x) ts (take_is first).0 us (take_is first).1
-      ∙ bind_is p (λ x. take kind.Close >>= λ _. give x) us x vs (is.reads us x vs h (close vs rest shut))
-      ∙ bind_is (take kind.Close) (λ _. give x) vs (take_is shut).0 rest (take_is shut).1
+    went : (ts : List Tok) (x : X) (rest : List Tok) → InParens P ts x rest → Unit {0} → parens p ts ≡ Some (x, rest)
+    went ts x rest (in_parens {us = us} {vs = vs} first h shut) s =
+        bind_is (take kind.Open) (λ _. p >>= λ x. take kind.Close >>= λ _. give x) ts (take_is first).0 us (take_is first).1
+        ∙ bind_is p (λ x. take kind.Close >>= λ _. give x) us x vs (is.reads us x vs h (close vs rest shut))
+        ∙ bind_is (take kind.Close) (λ _. give x) vs (take_is shut).0 rest (take_is shut).1
 
 -- again and again
 module _ {X : Type 0} (test : List Tok → Bool) (p : Parser X) (strict : Strict p) where
@@ -82,9 +82,9 @@ module _ {X : Type 0} (test : List Tok → Bool) (p : Parser X) (strict : Strict
 
   many_is_step : IsStep (many_step test p)
   many_is_step = record {
-      keeps = λ f s u. record { by = λ ts xs rest e. many_shrinks_at f s (test ts) ts xs rest e };
-      local = λ n f g s a u. record { at = λ ts below. many_agrees_at n f g s a ts below };
-    }
+    keeps = λ f s u. record { by = λ ts xs rest e. many_shrinks_at f s (test ts) ts xs rest e };
+    local = λ n f g s a u. record { at = λ ts below. many_agrees_at n f g s a ts below };
+  }
 
   pub many_is : (ts : List Tok) → many test p ts ≡ cond (test ts) ((p >>= λ x. many test p >>= λ xs. give (x ∷ xs)) ts) (Some ([], ts))
   unfolding many
@@ -106,13 +106,13 @@ module _ {X : Type 0} (test : List Tok → Bool) (p : Parser X) (strict : Strict
   many_found : (P : List Tok → X → List Tok → Type 0) → ((ts : List Tok) (x : X) (rest : List Tok) → p ts ≡ Some (x, rest) → P ts x rest) → Finds (λ (u : Unit {0}) ts xs rest. Many P ts xs rest × (test rest ≡ false)) (fix (many_step test p))
   many_found P h = fix_finds (many_step test p) (λ u ts xs rest. Many P ts xs rest × (test rest ≡ false)) (λ f sound u ts xs rest e. by_test f sound ts xs rest (test ts) refl e)
     where
-    by_test : (f : Unit {0} → Parser (List X)) → Finds (λ (u : Unit {0}) ts xs rest. Many P ts xs rest × (test rest ≡ false)) f → (ts : List Tok) (xs : List X) (rest : List Tok) (b : Bool) → test ts ≡ b → cond {A = Option (List X × List Tok)} b ((p >>= λ x. f tt >>= λ xs. give (x ∷ xs)) ts) (Some ([], ts)) ≡ Some (xs, rest) → Many P ts xs rest × (test rest ≡ false)
-    by_test f sound ts xs rest true is e =
-        let b = between p (λ x. f tt >>= λ xs. give (x ∷ xs)) ts xs rest e in
-        let c = between (f tt) (λ xs. give (b.x ∷ xs)) b.us xs rest b.second in
-        let tail = sound tt b.us c.x c.us c.first in
-        carried (λ xs rest. Many P ts xs rest × (test rest ≡ false)) c.second (one_more (h ts b.x b.us b.first) tail.0, tail.1)
-    by_test f sound ts xs rest false is e = carried (λ xs rest. Many P ts xs rest × (test rest ≡ false)) e (no_more, is)
+      by_test : (f : Unit {0} → Parser (List X)) → Finds (λ (u : Unit {0}) ts xs rest. Many P ts xs rest × (test rest ≡ false)) f → (ts : List Tok) (xs : List X) (rest : List Tok) (b : Bool) → test ts ≡ b → cond {A = Option (List X × List Tok)} b ((p >>= λ x. f tt >>= λ xs. give (x ∷ xs)) ts) (Some ([], ts)) ≡ Some (xs, rest) → Many P ts xs rest × (test rest ≡ false)
+      by_test f sound ts xs rest true is e =
+          let b = between p (λ x. f tt >>= λ xs. give (x ∷ xs)) ts xs rest e in
+          let c = between (f tt) (λ xs. give (b.x ∷ xs)) b.us xs rest b.second in
+          let tail = sound tt b.us c.x c.us c.first in
+          carried (λ xs rest. Many P ts xs rest × (test rest ≡ false)) c.second (one_more (h ts b.x b.us b.first) tail.0, tail.1)
+      by_test f sound ts xs rest false is e = carried (λ xs rest. Many P ts xs rest × (test rest ≡ false)) e (no_more, is)
 
   pub many_finds : (P : List Tok → X → List Tok → Type 0) → ((ts : List Tok) (x : X) (rest : List Tok) → p ts ≡ Some (x, rest) → P ts x rest) → (ts : List Tok) (xs : List X) (rest : List Tok) → many test p ts ≡ Some (xs, rest) → Many P ts xs rest × (test rest ≡ false)
   unfolding many
@@ -124,9 +124,9 @@ module _ {X : Type 0} (test : List Tok → Bool) (p : Parser X) (strict : Strict
   many_reads {P} {S} is starts joins (one_more {ts = ts} {us = us} {rest = rest} {x = x} {xs = xs} h t) s e =
       many_goes_on ts x us xs rest (starts ts x us h) (is.reads ts x us h (next t s)) (many_reads is starts joins t s e)
     where
-    next : {us rest : List Tok} {xs : List X} → Many P us xs rest → S rest → S us
-    next no_more s = s
-    next (one_more {ts = us} {us = vs} {x = y} h t) s = joins us (starts us y vs h)
+      next : {us rest : List Tok} {xs : List X} → Many P us xs rest → S rest → S us
+      next no_more s = s
+      next (one_more {ts = us} {us = vs} {x = y} h t) s = joins us (starts us y vs h)
 
 -- behind commas
 behind_begins : {X : Type 0} {P : List Tok → X → List Tok → Type 0} (k : Kind) (ts : List Tok) (x : X) (us : List Tok) → Behind k P ts x us → begins k ts ≡ true
@@ -153,46 +153,50 @@ NoComma S ts = S ts × (begins kind.Comma ts ≡ false)
 
 pub exactly_list : {X : Type 0} {P : List Tok → X → List Tok → Type 0} {S : List Tok → Type 0} {p : Parser X} → Strict p → Exactly P S p → ((us : List Tok) → begins kind.Comma us ≡ true → S us) → Exactly (Listed P) (NoComma S) (list p)
 exactly_list {X} {P} {S} {p} s is joins = record {
-    finds = λ ts xs rest e.
-        let b = between p (λ x. more p >>= λ xs. give (x ∷ xs)) ts xs rest e in
-        let c = between (more p) (λ xs. give (b.x ∷ xs)) b.us xs rest b.second in
-        carried (λ xs rest. Listed P ts xs rest) c.second (listed (is.finds ts b.x b.us b.first) (more_finds s is b.us c.x c.us c.first).0);
-    reads = went;
-  }
+  finds = λ ts xs rest e.
+      let b = between p (λ x. more p >>= λ xs. give (x ∷ xs)) ts xs rest e in
+      let c = between (more p) (λ xs. give (b.x ∷ xs)) b.us xs rest b.second in
+      carried (λ xs rest. Listed P ts xs rest) c.second (listed (is.finds ts b.x b.us b.first) (more_finds s is b.us c.x c.us c.first).0);
+  reads = went;
+}
   where
-  next : {us rest : List Tok} {xs : List X} → Many (Behind kind.Comma P) us xs rest → S rest → S us
-  next no_more s = s
-  next (one_more {ts = us} (behind t h) m) s = joins us (begins_takes t)
-  went : (ts : List Tok) (xs : List X) (rest : List Tok) → Listed P ts xs rest → NoComma S rest → list p ts ≡ Some (xs, rest)
-  went ts xs rest (listed {us = us} {x = x} {xs = ys} h m) n =
-      bind_is p (λ x. more p >>= λ xs. give (x ∷ xs)) ts x us (is.reads ts x us h (next m n.0))
-      ∙ bind_is (more p) (λ xs. give (x ∷ xs)) us ys rest (more_reads s is joins m n.0 n.1)
+    next : {us rest : List Tok} {xs : List X} → Many (Behind kind.Comma P) us xs rest → S rest → S us
+    next no_more s = s
+    next (one_more {ts = us} (behind t h) m) s = joins us (begins_takes t)
+
+    went : (ts : List Tok) (xs : List X) (rest : List Tok) → Listed P ts xs rest → NoComma S rest → list p ts ≡ Some (xs, rest)
+    went ts xs rest (listed {us = us} {x = x} {xs = ys} h m) n =
+        bind_is p (λ x. more p >>= λ xs. give (x ∷ xs)) ts x us (is.reads ts x us h (next m n.0))
+        ∙ bind_is (more p) (λ xs. give (x ∷ xs)) us ys rest (more_reads s is joins m n.0 n.1)
 
 -- nothing or a list is read before a closing parenthesis
 pub exactly_perhaps : {X : Type 0} {P : List Tok → X → List Tok → Type 0} {S : List Tok → Type 0} {p : Parser X} → Strict p → Exactly P S p → ((us : List Tok) → begins kind.Comma us ≡ true → S us) → ((us rest : List Tok) → Takes kind.Close us rest → S us) → ((ts : List Tok) (x : X) (us : List Tok) → P ts x us → begins kind.Close ts ≡ false) → Exactly (Perhaps P) (λ ts. begins kind.Close ts ≡ true) (perhaps p)
 unfolding same_kind
 exactly_perhaps {X} {P} {S} {p} s is joins close other = record {
-    finds = λ ts xs rest e. by_choice ts xs rest (chosen (begins kind.Close ts) (Some ([], ts)) (list p ts) (Some (xs, rest)) e);
-    reads = went;
-  }
+  finds = λ ts xs rest e. by_choice ts xs rest (chosen (begins kind.Close ts) (Some ([], ts)) (list p ts) (Some (xs, rest)) e);
+  reads = went;
+}
   where
-  by_choice : (ts : List Tok) (xs : List X) (rest : List Tok) → ((begins kind.Close ts ≡ true) × (◌≡◌ {A = Option (List X × List Tok)} (Some ([], ts)) (Some (xs, rest)))) ⊎ ((begins kind.Close ts ≡ false) × (list p ts ≡ Some (xs, rest))) → Perhaps P ts xs rest
-  by_choice ts xs rest (inl h) = carried (λ xs rest. Perhaps P ts xs rest) h.1 nothing
-  by_choice ts xs rest (inr h) = something ((exactly_list s is joins).finds ts xs rest h.1)
-  closes : (us : List Tok) → begins kind.Close us ≡ true → NoComma S us
-  closes us e = let t = begins_take kind.Close us e in (close us t.1 t.3, begins_other kind.Comma t.3 refl)
-  begins_so : (ts : List Tok) (xs : List X) (rest : List Tok) → Listed P ts xs rest → begins kind.Close ts ≡ false
-  begins_so ts xs rest (listed {us = us} {x = x} h m) = other ts x us h
-  went : (ts : List Tok) (xs : List X) (rest : List Tok) → Perhaps P ts xs rest → begins kind.Close rest ≡ true → perhaps p ts ≡ Some (xs, rest)
-  went ts xs rest nothing e = rw e refl
-  went ts xs rest (something h) e = let f = begins_so ts xs rest h in rw f ((exactly_list s is joins).reads ts xs rest h (closes rest e))
+    by_choice : (ts : List Tok) (xs : List X) (rest : List Tok) → ((begins kind.Close ts ≡ true) × (◌≡◌ {A = Option (List X × List Tok)} (Some ([], ts)) (Some (xs, rest)))) ⊎ ((begins kind.Close ts ≡ false) × (list p ts ≡ Some (xs, rest))) → Perhaps P ts xs rest
+    by_choice ts xs rest (inl h) = carried (λ xs rest. Perhaps P ts xs rest) h.1 nothing
+    by_choice ts xs rest (inr h) = something ((exactly_list s is joins).finds ts xs rest h.1)
+
+    closes : (us : List Tok) → begins kind.Close us ≡ true → NoComma S us
+    closes us e = let t = begins_take kind.Close us e in (close us t.1 t.3, begins_other kind.Comma t.3 refl)
+
+    begins_so : (ts : List Tok) (xs : List X) (rest : List Tok) → Listed P ts xs rest → begins kind.Close ts ≡ false
+    begins_so ts xs rest (listed {us = us} {x = x} h m) = other ts x us h
+
+    went : (ts : List Tok) (xs : List X) (rest : List Tok) → Perhaps P ts xs rest → begins kind.Close rest ≡ true → perhaps p ts ≡ Some (xs, rest)
+    went ts xs rest nothing e = rw e refl
+    went ts xs rest (something h) e = let f = begins_so ts xs rest h in rw f ((exactly_list s is joins).reads ts xs rest h (closes rest e))
 
 pub shrinks_perhaps : {X : Type 0} {p : Parser X} → Strict p → Shrinks (perhaps p)
 shrinks_perhaps {X} {p} s = record { by = λ ts xs rest e. by_choice ts xs rest (chosen (begins kind.Close ts) (Some ([], ts)) (list p ts) (Some (xs, rest)) e) }
   where
-  by_choice : (ts : List Tok) (xs : List X) (rest : List Tok) → ((begins kind.Close ts ≡ true) × (◌≡◌ {A = Option (List X × List Tok)} (Some ([], ts)) (Some (xs, rest)))) ⊎ ((begins kind.Close ts ≡ false) × (list p ts ≡ Some (xs, rest))) → length rest ≤ length ts
-  by_choice ts xs rest (inl h) = let j = (both h.1).1 in rw j (omega arith)
-  by_choice ts xs rest (inr h) = let j : length rest < length ts = (Strict-list s).by ts xs rest h.1 in omega arith
+    by_choice : (ts : List Tok) (xs : List X) (rest : List Tok) → ((begins kind.Close ts ≡ true) × (◌≡◌ {A = Option (List X × List Tok)} (Some ([], ts)) (Some (xs, rest)))) ⊎ ((begins kind.Close ts ≡ false) × (list p ts ≡ Some (xs, rest))) → length rest ≤ length ts
+    by_choice ts xs rest (inl h) = let j = (both h.1).1 in rw j (omega arith)
+    by_choice ts xs rest (inr h) = let j : length rest < length ts = (Strict-list s).by ts xs rest h.1 in omega arith
 
 pub strict_parens : {X : Type 0} {p : Parser X} → Shrinks p → Strict (parens p)
 strict_parens s = Strict-bind (Strict-take kind.Open) (λ t. Shrinks-bind s (λ x. Shrinks-bind (Strict-Shrinks (Strict-take kind.Close)) (λ u. Shrinks-give x)))

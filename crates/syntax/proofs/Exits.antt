@@ -1,5 +1,5 @@
 -- Where a part is refused, so is the whole.
-use Rattle.std.proofs.Common.{◌≡◌, Option, None, Some}
+use Rattle.std.proofs.Common.{◌≡◌, Option, None}
 use Rattle.syntax.specs.Gives.{Fails}
 use Rattle.syntax.specs.declared.fault.ReadFault.{ReadFault}
 use Rattle.syntax.specs.declared.fault.ReadFault.TheVariants as fault

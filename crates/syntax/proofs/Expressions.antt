@@ -1,17 +1,17 @@
 -- The function that reads expressions, and the grammar of expressions.
 use Rattle.std.specs.Prelude.{nat_le, option_and_then}
-use Rattle.std.proofs.Common.{◌≡◌, ℕ, zero, suc, ◌+◌, ◌<◌, ◌≤◌, Bool, true, false, cond, List, [], ◌∷◌, length, Option, Some, None, refl, sym, ◌∙◌, ap, arith, rules}
+use Rattle.std.proofs.Common.{◌≡◌, ℕ, zero, suc, ◌+◌, ◌<◌, ◌≤◌, Bool, true, false, cond, List, [], ◌∷◌, length, Option, Some, None, refl, sym, ◌∙◌, ap, arith}
 use Rattle.std.proofs.lemmas.Bool.Decides.{nat_tests}
 use Rattle.language.specs.Tree.{Name, Operator, implies, or, xor, and, equal, differs, Expression, const, var, negation, two}
 use Rattle.tokens.specs.declared.vocabulary.Kind.{Kind}
 use Rattle.tokens.specs.declared.vocabulary.Kind.TheVariants as kind
 use Rattle.tokens.specs.declared.vocabulary.Token.{Token}
 use Rattle.tokens.specs.Token.{Tok, same_kind, tok_of, toks_of}
-use Rattle.syntax.specs.Parser.{Parser, give, refuse, ◌>>=◌, take, fix}
+use Rattle.syntax.specs.Parser.{Parser, give, refuse, ◌>>=◌, take}
 use Rattle.syntax.specs.Grammar.{Takes, takes, name_at, operator_at, level, left_level, right_level, Reads, reads_zero, reads_one, reads_name, reads_not, reads_paren, reads_two}
 use Rattle.syntax.specs.Exact.{Goal, from, after, binds, operand_step, go_on, expression_step, reading, operand}
 use Rattle.syntax.proofs.KindTests.{same_kind-true, same_kind-is}
-use Rattle.syntax.proofs.Fixes.{both, Between, between, bind_is, Shrinks, Strict, Agree, Strict-Shrinks, Shrinks-give, Shrinks-refuse, Strict-take, Shrinks-bind, Agree-same, Agree-bind, Shrinks-cond, Agree-cond, IsStep, fix_shrinks, fix_is, Finds, fix_finds, carried}
+use Rattle.syntax.proofs.Fixes.{both, between, bind_is, Shrinks, Strict, Agree, Strict-Shrinks, Shrinks-give, Shrinks-refuse, Strict-take, Shrinks-bind, Agree-same, Agree-bind, Shrinks-cond, Agree-cond, IsStep, fix_shrinks, fix_is, Finds, fix_finds, carried}
 
 operand_shrinks : (f : Goal → Parser (Expression Name)) → ((i : Goal) → Shrinks (f i)) → (t : Tok) → Shrinks (operand_step f t)
 operand_shrinks f s t = search (s, Shrinks-cond, Shrinks-bind, Shrinks-give, Shrinks-refuse, Strict-Shrinks, Strict-take) depth 12
@@ -47,9 +47,9 @@ step_agrees n f g s a (after l e) (t ∷ ts) below = go_on_agrees n f g s a l e 
 
 pub expression_is_step : IsStep expression_step
 expression_is_step = record {
-    keeps = λ f s i. record { by = step_shrinks f s i };
-    local = λ n f g s a i. record { at = step_agrees n f g s a i };
-  }
+  keeps = λ f s i. record { by = step_shrinks f s i };
+  local = λ n f g s a i. record { at = step_agrees n f g s a i };
+}
 
 pub reading_is : (i : Goal) (ts : List Tok) → reading i ts ≡ expression_step reading i ts
 unfolding reading
@@ -94,24 +94,24 @@ binds_some : (l : ℕ) (p : Option Operator) (o : Operator) → option_and_then 
 binds_some l None o e = cc
 binds_some l (Some q) o e = by_test l q o (nat_le l (level q)) refl e
   where
-  by_test : (l : ℕ) (q o : Operator) (b : Bool) → nat_le l (level q) ≡ b → cond {A = Option Operator} b (Some q) None ≡ Some o → (Some q ≡ Some o) × (l ≤ level o)
-  by_test l q o true h e = let j : q ≡ o = cc in (ap Some j, rw (← j) (grind (arith, nat_tests)))
-  by_test l q o false h e = cc
+    by_test : (l : ℕ) (q o : Operator) (b : Bool) → nat_le l (level q) ≡ b → cond {A = Option Operator} b (Some q) None ≡ Some o → (Some q ≡ Some o) × (l ≤ level o)
+    by_test l q o true h e = let j : q ≡ o = cc in (ap Some j, rw (← j) (grind (arith, nat_tests)))
+    by_test l q o false h e = cc
 
 none_binds : (l : ℕ) (k : Kind) (o : Operator) → operator_at k ≡ Some o → binds l k ≡ None → level o < l
 none_binds l k o e h = by_test l o (nat_le l (level o)) refl (rw e at h)
   where
-  by_test : (l : ℕ) (o : Operator) (b : Bool) → nat_le l (level o) ≡ b → cond {A = Option Operator} b (Some o) None ≡ None → level o < l
-  by_test l o true h e = cc
-  by_test l o false h e = grind (arith, nat_tests)
+    by_test : (l : ℕ) (o : Operator) (b : Bool) → nat_le l (level o) ≡ b → cond {A = Option Operator} b (Some o) None ≡ None → level o < l
+    by_test l o true h e = cc
+    by_test l o false h e = grind (arith, nat_tests)
 
 weaker_none : (l m : ℕ) (p : Option Operator) → l ≤ m → option_and_then (λ o. cond (nat_le l (level o)) (Some o) None) p ≡ None → option_and_then (λ o. cond (nat_le m (level o)) (Some o) None) p ≡ None
 weaker_none l m None h e = refl
 weaker_none l m (Some o) h e = by_test l m o (nat_le l (level o)) refl h e
   where
-  by_test : (l m : ℕ) (o : Operator) (b : Bool) → nat_le l (level o) ≡ b → l ≤ m → cond {A = Option Operator} b (Some o) None ≡ None → cond {A = Option Operator} (nat_le m (level o)) (Some o) None ≡ None
-  by_test l m o true h j e = cc
-  by_test l m o false h j e = let k : nat_le m (level o) ≡ false = grind (arith, nat_tests) in rw k refl
+    by_test : (l m : ℕ) (o : Operator) (b : Bool) → nat_le l (level o) ≡ b → l ≤ m → cond {A = Option Operator} b (Some o) None ≡ None → cond {A = Option Operator} (nat_le m (level o)) (Some o) None ≡ None
+    by_test l m o true h j e = cc
+    by_test l m o false h j e = let k : nat_le m (level o) ≡ false = grind (arith, nat_tests) in rw k refl
 
 pub Stops-weaker : {l m : ℕ} {ts : List Tok} → l ≤ m → Stops l ts → Stops m ts
 Stops-weaker h stops_end = stops_end
@@ -214,14 +214,14 @@ passes (reads_paren {t = t} {ts = ts} {us = us} {rest = rest} {e = a} e r c) l h
     let inner : reading (from 0) ts ≡ Some (a, us) = passes r 0 (omega arith) (close_stops c) ∙ reading_stops 0 a us (close_stops c) in
     let closed = take_is c in
     reading_starts l _ t ts rest (ap (λ (p : Parser (Expression Name)). p ts) (operand_paren reading t e)
-        ∙ bind_is (reading (from 0)) (λ e. take kind.Close >>= λ _. give e) ts a us inner
-        ∙ bind_is (take kind.Close) (λ _. give a) us closed.0 rest closed.1)
+    ∙ bind_is (reading (from 0)) (λ e. take kind.Close >>= λ _. give e) ts a us inner
+    ∙ bind_is (take kind.Close) (λ _. give a) us closed.0 rest closed.1)
 passes {m} (reads_two {t = t} {ts = ts} {us = us} {rest = rest} {a = a} {b = b} o low left op right) l h s =
     let first : reading (from l) ts ≡ reading (after l a) (t ∷ us) =
-        passes left l (let j = level_left o in omega arith) (operator_stops (bound (left_level o)) t us o op (left_bound o)) in
+    passes left l (let j = level_left o in omega arith) (operator_stops (bound (left_level o)) t us o op (left_bound o)) in
     let ends : Stops (right_level o) rest = Stops-weaker (bound_right o m low) s in
     let second : reading (from (right_level o)) us ≡ Some (b, rest) =
-        passes right (right_level o) (omega arith) (Stops-weaker (bound_bound_right o m low) s) ∙ reading_stops (right_level o) b rest ends in
+    passes right (right_level o) (omega arith) (Stops-weaker (bound_bound_right o m low) s) ∙ reading_stops (right_level o) b rest ends in
     first ∙ reading_goes_on l a b t us rest o (omega arith) op second
 
 -- what the grammar has is read
@@ -301,31 +301,33 @@ pub take_finds : (k : Kind) (ts : List Tok) (t : Tok) (rest : List Tok) → take
 take_finds k [] t rest e = cc
 take_finds k (u ∷ ts) t rest e = by_test k u t ts rest (same_kind u.kind k) refl e
   where
-  by_test : (k : Kind) (u t : Tok) (ts rest : List Tok) (b : Bool) → same_kind u.kind k ≡ b → cond {A = Option (Tok × List Tok)} b (Some (u, ts)) None ≡ Some (t, rest) → Takes k (u ∷ ts) rest × (u ∷ ts ≡ t ∷ rest)
-  by_test k u t ts rest true is e = carried (λ t rest. Takes k (u ∷ ts) rest × (u ∷ ts ≡ t ∷ rest)) e (takes (same_kind-true is), refl)
-  by_test k u t ts rest false is e = cc
+    by_test : (k : Kind) (u t : Tok) (ts rest : List Tok) (b : Bool) → same_kind u.kind k ≡ b → cond {A = Option (Tok × List Tok)} b (Some (u, ts)) None ≡ Some (t, rest) → Takes k (u ∷ ts) rest × (u ∷ ts ≡ t ∷ rest)
+    by_test k u t ts rest true is e = carried (λ t rest. Takes k (u ∷ ts) rest × (u ∷ ts ≡ t ∷ rest)) e (takes (same_kind-true is), refl)
+    by_test k u t ts rest false is e = cc
 
 -- what is read at the start is an operand of each level
 operand_finds : (f : Goal → Parser (Expression Name)) → Finds Found f → (t : Tok) (ts : List Tok) (a : Expression Name) (us : List Tok) → operand_step f t ts ≡ Some (a, us) → (m : ℕ) → Reads m (t ∷ ts) a us
 operand_finds f sound t ts a us e m = by_tests (same_kind t.kind kind.Zero) refl (same_kind t.kind kind.One) refl (same_kind t.kind kind.Id) refl (same_kind t.kind kind.Not) refl (same_kind t.kind kind.Open) refl e
   where
-  negated : t.kind ≡ kind.Not → (f (from 5) >>= λ e. give (negation e)) ts ≡ Some (a, us) → Reads m (t ∷ ts) a us
-  negated is e =
-      let b = between (f (from 5)) (λ e. give (negation e)) ts a us e in
-      carried (λ a us. Reads m (t ∷ ts) a us) b.second (reads_not is (sound (from 5) ts b.x b.us b.first).0)
-  inside : t.kind ≡ kind.Open → (f (from 0) >>= λ e. take kind.Close >>= λ _. give e) ts ≡ Some (a, us) → Reads m (t ∷ ts) a us
-  inside is e =
-      let b = between (f (from 0)) (λ e. take kind.Close >>= λ _. give e) ts a us e in
-      let c = between (take kind.Close) (λ _. give b.x) b.us a us b.second in
-      carried (λ a us. Reads m (t ∷ ts) a us) c.second (reads_paren is (sound (from 0) ts b.x b.us b.first).0 (take_finds kind.Close b.us c.x c.us c.first).0)
-  by_tests : (z : Bool) → same_kind t.kind kind.Zero ≡ z → (i : Bool) → same_kind t.kind kind.One ≡ i → (n : Bool) → same_kind t.kind kind.Id ≡ n → (b : Bool) → same_kind t.kind kind.Not ≡ b → (o : Bool) → same_kind t.kind kind.Open ≡ o →
-      cond {A = Parser (Expression Name)} z (give (const false)) (cond i (give (const true)) (cond n (give (var (name_at t))) (cond b (f (from 5) >>= λ e. give (negation e)) (cond o (f (from 0) >>= λ e. take kind.Close >>= λ _. give e) refuse)))) ts ≡ Some (a, us) → Reads m (t ∷ ts) a us
-  by_tests true is i _ n _ b _ o _ e = carried (λ a us. Reads m (t ∷ ts) a us) e (reads_zero (same_kind-true is))
-  by_tests false _ true is n _ b _ o _ e = carried (λ a us. Reads m (t ∷ ts) a us) e (reads_one (same_kind-true is))
-  by_tests false _ false _ true is b _ o _ e = carried (λ a us. Reads m (t ∷ ts) a us) e (reads_name (same_kind-true is))
-  by_tests false _ false _ false _ true is o _ e = negated (same_kind-true is) e
-  by_tests false _ false _ false _ false _ true is e = inside (same_kind-true is) e
-  by_tests false _ false _ false _ false _ false _ e = cc
+    negated : t.kind ≡ kind.Not → (f (from 5) >>= λ e. give (negation e)) ts ≡ Some (a, us) → Reads m (t ∷ ts) a us
+    negated is e =
+        let b = between (f (from 5)) (λ e. give (negation e)) ts a us e in
+        carried (λ a us. Reads m (t ∷ ts) a us) b.second (reads_not is (sound (from 5) ts b.x b.us b.first).0)
+
+    inside : t.kind ≡ kind.Open → (f (from 0) >>= λ e. take kind.Close >>= λ _. give e) ts ≡ Some (a, us) → Reads m (t ∷ ts) a us
+    inside is e =
+        let b = between (f (from 0)) (λ e. take kind.Close >>= λ _. give e) ts a us e in
+        let c = between (take kind.Close) (λ _. give b.x) b.us a us b.second in
+        carried (λ a us. Reads m (t ∷ ts) a us) c.second (reads_paren is (sound (from 0) ts b.x b.us b.first).0 (take_finds kind.Close b.us c.x c.us c.first).0)
+
+    by_tests : (z : Bool) → same_kind t.kind kind.Zero ≡ z → (i : Bool) → same_kind t.kind kind.One ≡ i → (n : Bool) → same_kind t.kind kind.Id ≡ n → (b : Bool) → same_kind t.kind kind.Not ≡ b → (o : Bool) → same_kind t.kind kind.Open ≡ o →
+        cond {A = Parser (Expression Name)} z (give (const false)) (cond i (give (const true)) (cond n (give (var (name_at t))) (cond b (f (from 5) >>= λ e. give (negation e)) (cond o (f (from 0) >>= λ e. take kind.Close >>= λ _. give e) refuse)))) ts ≡ Some (a, us) → Reads m (t ∷ ts) a us
+    by_tests true is i _ n _ b _ o _ e = carried (λ a us. Reads m (t ∷ ts) a us) e (reads_zero (same_kind-true is))
+    by_tests false _ true is n _ b _ o _ e = carried (λ a us. Reads m (t ∷ ts) a us) e (reads_one (same_kind-true is))
+    by_tests false _ false _ true is b _ o _ e = carried (λ a us. Reads m (t ∷ ts) a us) e (reads_name (same_kind-true is))
+    by_tests false _ false _ false _ true is o _ e = negated (same_kind-true is) e
+    by_tests false _ false _ false _ false _ true is e = inside (same_kind-true is) e
+    by_tests false _ false _ false _ false _ false _ e = cc
 
 go_on_finds : (f : Goal → Parser (Expression Name)) → Finds Found f → (l : ℕ) (a : Expression Name) (t : Tok) (us : List Tok) (o : Option Operator) → binds l t.kind ≡ o → (e : Expression Name) (rest : List Tok) → go_on f l a t us o ≡ Some (e, rest) → (ts : List Tok) → Ready l ts a (t ∷ us) → Reads l ts e rest × Stops l rest
 go_on_finds f sound l a t us None is e rest h ts ready =
@@ -336,22 +338,22 @@ go_on_finds f sound l a t us (Some o) is e rest h ts ready =
     let right = sound (from (right_level o)) us b.x b.us b.first in
     let left : Reads (left_level o) ts a (t ∷ us) = lower ready.reads (left_level o) (ready.left o (next op.0)) in
     sound (after l (two o a b.x)) b.us e rest b.second ts (record {
-        m = level o;
-        above = op.1;
-        reads = reads_two o (omega arith) left op.0 right.0;
-        left = λ p n. next_left o p (stops_next right.1 n);
-      })
+      m = level o;
+      above = op.1;
+      reads = reads_two o (omega arith) left op.0 right.0;
+      left = λ p n. next_left o p (stops_next right.1 n);
+    })
 
 step_finds : (f : Goal → Parser (Expression Name)) → Finds Found f → Finds Found (expression_step f)
 step_finds f sound (from l) [] e rest h = cc
 step_finds f sound (from l) (t ∷ ts) e rest h =
     let b = between (operand_step f t) (λ a. f (after l a)) ts e rest h in
     sound (after l b.x) b.us e rest b.second (t ∷ ts) (record {
-        m = l + 5;
-        above = omega arith;
-        reads = operand_finds f sound t ts b.x b.us b.first (l + 5);
-        left = λ o n. let j = small_left o in omega arith;
-      })
+      m = l + 5;
+      above = omega arith;
+      reads = operand_finds f sound t ts b.x b.us b.first (l + 5);
+      left = λ o n. let j = small_left o in omega arith;
+    })
 step_finds f sound (after l a) [] e rest h = λ ts ready.
     carried (λ e rest. Reads l ts e rest × Stops l rest) h (lower ready.reads l ready.above, stops_end)
 step_finds f sound (after l a) (t ∷ us) e rest h = λ ts ready. go_on_finds f sound l a t us (binds l t.kind) refl e rest h ts ready
@@ -396,8 +398,8 @@ ends_before l a ts us t e h = rw e (stops_here l a (tok_of t) (toks_of us) h)
 pub reading_strict : (l : ℕ) → Strict (reading (from l))
 reading_strict l = record { by = λ ts a rest e. by_list l ts a rest (sym (reading_is (from l) ts) ∙ e) }
   where
-  by_list : (l : ℕ) (ts : List Tok) (a : Expression Name) (rest : List Tok) → expression_step reading (from l) ts ≡ Some (a, rest) → length rest < length ts
-  by_list l [] a rest e = cc
-  by_list l (t ∷ ts) a rest e =
-      let j : length rest ≤ length ts = (Shrinks-bind (operand_shrinks reading reading_shrinks t) (λ a. reading_shrinks (after l a))).by ts a rest e in
-      omega arith
+    by_list : (l : ℕ) (ts : List Tok) (a : Expression Name) (rest : List Tok) → expression_step reading (from l) ts ≡ Some (a, rest) → length rest < length ts
+    by_list l [] a rest e = cc
+    by_list l (t ∷ ts) a rest e =
+        let j : length rest ≤ length ts = (Shrinks-bind (operand_shrinks reading reading_shrinks t) (λ a. reading_shrinks (after l a))).by ts a rest e in
+        omega arith

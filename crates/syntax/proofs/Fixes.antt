@@ -1,9 +1,9 @@
 -- Recursions over token lists: each reads no more than it is given, and is its own step.
 use Rattle.std.specs.Prelude.{option_and_then}
-use Rattle.std.proofs.Common.{◌≡◌, ℕ, zero, suc, ◌+◌, ◌<◌, ◌≤◌, Bool, true, false, cond, List, [], ◌∷◌, length, Option, Some, None, refl, sym, ◌∙◌, ap, arith, rules}
+use Rattle.std.proofs.Common.{◌≡◌, ℕ, zero, suc, ◌<◌, ◌≤◌, Bool, true, false, cond, List, [], ◌∷◌, length, Option, Some, None, refl, ap, arith}
 use Rattle.tokens.specs.declared.vocabulary.Kind.{Kind}
 use Rattle.tokens.specs.Token.{Tok, same_kind}
-use Rattle.syntax.specs.Parser.{Parser, give, refuse, ◌>>=◌, begins, take, run, fix, many_step, many}
+use Rattle.syntax.specs.Parser.{Parser, give, refuse, ◌>>=◌, take, run, fix}
 
 -- the parts of what was read
 pub both : {X : Type 0} {x y : X} {ts us : List Tok} → ◌≡◌ {A = Option (X × List Tok)} (Some (x, ts)) (Some (y, us)) → (x ≡ y) × (ts ≡ us)
@@ -60,33 +60,40 @@ Strict-refuse = record { by = λ ts y rest e. cc }
 pub Strict-take : (k : Kind) → Strict (take k)
 Strict-take k = record { by = went k }
   where
-  chosen : (b : Bool) (t x : Tok) (ts rest : List Tok) → cond {A = Option (Tok × List Tok)} b (Some (t, ts)) None ≡ Some (x, rest) → ts ≡ rest
-  chosen true t x ts rest e = (both e).1
-  chosen false t x ts rest e = cc
-  went : (k : Kind) (ts : List Tok) (x : Tok) (rest : List Tok) → take k ts ≡ Some (x, rest) → length rest < length ts
-  went k [] x rest e = cc
-  went k (t ∷ ts) x rest e = let h : ts ≡ rest = chosen (same_kind t.kind k) t x ts rest e in rw (← h) (omega arith)
+    chosen : (b : Bool) (t x : Tok) (ts rest : List Tok) → cond {A = Option (Tok × List Tok)} b (Some (t, ts)) None ≡ Some (x, rest) → ts ≡ rest
+    chosen true t x ts rest e = (both e).1
+    chosen false t x ts rest e = cc
+
+    went : (k : Kind) (ts : List Tok) (x : Tok) (rest : List Tok) → take k ts ≡ Some (x, rest) → length rest < length ts
+    went k [] x rest e = cc
+    went k (t ∷ ts) x rest e = let h : ts ≡ rest = chosen (same_kind t.kind k) t x ts rest e in rw (← h) (omega arith)
 
 pub Shrinks-bind : {X Y : Type 0} {p : Parser X} {f : X → Parser Y} → Shrinks p → ((x : X) → Shrinks (f x)) → Shrinks (p >>= f)
-Shrinks-bind {p = p} {f = f} s h = record { by = λ ts y rest e.
-    let b = between p f ts y rest e in
-    let i : length b.us ≤ length ts = s.by ts b.x b.us b.first in
-    let j : length rest ≤ length b.us = (h b.x).by b.us y rest b.second in
-    omega arith }
+Shrinks-bind {p = p} {f = f} s h = record {
+  by = λ ts y rest e.
+      let b = between p f ts y rest e in
+      let i : length b.us ≤ length ts = s.by ts b.x b.us b.first in
+      let j : length rest ≤ length b.us = (h b.x).by b.us y rest b.second in
+      omega arith;
+}
 
 pub Strict-bind : {X Y : Type 0} {p : Parser X} {f : X → Parser Y} → Strict p → ((x : X) → Shrinks (f x)) → Strict (p >>= f)
-Strict-bind {p = p} {f = f} s h = record { by = λ ts y rest e.
-    let b = between p f ts y rest e in
-    let i : length b.us < length ts = s.by ts b.x b.us b.first in
-    let j : length rest ≤ length b.us = (h b.x).by b.us y rest b.second in
-    omega arith }
+Strict-bind {p = p} {f = f} s h = record {
+  by = λ ts y rest e.
+      let b = between p f ts y rest e in
+      let i : length b.us < length ts = s.by ts b.x b.us b.first in
+      let j : length rest ≤ length b.us = (h b.x).by b.us y rest b.second in
+      omega arith;
+}
 
 pub Shrinks-Strict-bind : {X Y : Type 0} {p : Parser X} {f : X → Parser Y} → Shrinks p → ((x : X) → Strict (f x)) → Strict (p >>= f)
-Shrinks-Strict-bind {p = p} {f = f} s h = record { by = λ ts y rest e.
-    let b = between p f ts y rest e in
-    let i : length b.us ≤ length ts = s.by ts b.x b.us b.first in
-    let j : length rest < length b.us = (h b.x).by b.us y rest b.second in
-    omega arith }
+Shrinks-Strict-bind {p = p} {f = f} s h = record {
+  by = λ ts y rest e.
+      let b = between p f ts y rest e in
+      let i : length b.us ≤ length ts = s.by ts b.x b.us b.first in
+      let j : length rest < length b.us = (h b.x).by b.us y rest b.second in
+      omega arith;
+}
 
 pub Agree-same : {X : Type 0} (n : ℕ) (p : Parser X) → Agree n p p
 Agree-same n p = record { at = λ ts h. refl }
@@ -96,17 +103,21 @@ bind_both f g None s e h = rw (← e) refl
 bind_both f g (Some q) s e h = rw (← e) (h q.0 q.1 refl)
 
 pub Agree-bind : {X Y : Type 0} {n : ℕ} {p q : Parser X} {f g : X → Parser Y} → Agree n p q → Shrinks p → ((x : X) → Agree n (f x) (g x)) → Agree n (p >>= f) (q >>= g)
-Agree-bind {n = n} {p = p} {q = q} {f = f} {g = g} a s h = record { at = λ ts below.
-    bind_both f g (p ts) (q ts) (a.at ts below) (λ x us e.
-        let i : length us ≤ length ts = s.by ts x us e in
-        (h x).at us (omega arith)) }
+Agree-bind {n = n} {p = p} {q = q} {f = f} {g = g} a s h = record {
+  at = λ ts below.
+      bind_both f g (p ts) (q ts) (a.at ts below) (λ x us e.
+      let i : length us ≤ length ts = s.by ts x us e in
+      (h x).at us (omega arith));
+}
 
 -- after a part that takes something, one more token may stand in front
 pub Agree-Strict-bind : {X Y : Type 0} {n : ℕ} {p q : Parser X} {f g : X → Parser Y} → Agree (suc n) p q → Strict p → ((x : X) → Agree n (f x) (g x)) → Agree (suc n) (p >>= f) (q >>= g)
-Agree-Strict-bind {n = n} {p = p} {q = q} {f = f} {g = g} a s h = record { at = λ ts below.
-    bind_both f g (p ts) (q ts) (a.at ts below) (λ x us e.
-        let i : length us < length ts = s.by ts x us e in
-        (h x).at us (omega arith)) }
+Agree-Strict-bind {n = n} {p = p} {q = q} {f = f} {g = g} a s h = record {
+  at = λ ts below.
+      bind_both f g (p ts) (q ts) (a.at ts below) (λ x us e.
+      let i : length us < length ts = s.by ts x us e in
+      (h x).at us (omega arith));
+}
 
 -- A step of a recursion that may be repeated: where the recursion reads no more than it is given, so does the step,
 -- and it looks at the recursion on shorter lists only.
@@ -136,7 +147,7 @@ module _ {I X : Type 0} (step : (I → Parser X) → I → Parser X) (good : IsS
   unfolding fix run
   fix_is i ts =
       (good.local (length ts) (run step (length ts)) (fix step) (run_shrinks (length ts))
-          (λ j. record { at = λ us below. (run_agrees (suc (length us)) (length ts) (suc (length us)) (omega arith) (omega arith) j).at us (omega arith) }) i).at ts (omega arith)
+      (λ j. record { at = λ us below. (run_agrees (suc (length us)) (length ts) (suc (length us)) (omega arith) (omega arith) j).at us (omega arith) }) i).at ts (omega arith)
 
 -- what each step keeps of what is read holds of what the recursion reads
 abbrev pub Finds : {I X : Type 0} → (I → List Tok → X → List Tok → Type 0) → (I → Parser X) → Type 0

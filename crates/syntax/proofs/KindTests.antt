@@ -1,6 +1,6 @@
 -- The test for a kind, and the kind.
-use Rattle.std.proofs.Common.{◌≡◌, ◌≢◌, Bool, true, false, refl, ap, sym, ◌∙◌, rules}
-use denote.Enum.Bare.{sameb, same_true}
+use Rattle.std.proofs.Common.{◌≡◌, true, refl, rules}
+use denote.Enum.Bare.{same_true}
 use Rattle.tokens.specs.contracts.vocabulary.Kind.{the_type}
 use Rattle.tokens.specs.declared.vocabulary.Kind.{Kind}
 use Rattle.tokens.specs.declared.vocabulary.Kind.TheVariants as kind

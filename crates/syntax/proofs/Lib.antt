@@ -12,3 +12,4 @@ pub mod Exits
 pub mod Goings
 pub mod Programs
 pub mod Texts
+pub mod OneTree

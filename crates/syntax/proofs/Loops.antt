@@ -1,5 +1,5 @@
 -- The steps of the loops that read lists.
-use Rattle.std.proofs.Common.{◌≡◌, ℕ, Bool, true, false, cond, List, [], ◌∷◌, ◌++◌, length, Option, Some, None, refl, sym, ◌∙◌, ap, arith, rules, append_assoc}
+use Rattle.std.proofs.Common.{◌≡◌, Bool, true, false, List, [], ◌∷◌, ◌++◌, Option, Some, None, refl, sym, ◌∙◌, ap, append_assoc}
 use Rattle.std.specs.Prelude.{option_and_then, map}
 use Rattle.language.specs.Tree.{Name, Expression, RightSide, Procedure, ThreadLine}
 use Rattle.tokens.specs.declared.vocabulary.Kind.TheVariants as kind
@@ -26,32 +26,32 @@ append_more (y ∷ xs) x ys = ap (λ zs. y ∷ zs) (append_more xs x ys)
 pub pushed : {X Y : Type 0} (f : X → Y) (xs ys : List X) (x : X) → ys ≡ xs ++ (x ∷ []) → map f xs ++ (f x ∷ []) ≡ map f ys
 pushed f xs ys x e = viewed f xs x ∙ ap (map f) (sym e)
   where
-  viewed : {X Y : Type 0} (f : X → Y) (xs : List X) (x : X) → map f xs ++ (f x ∷ []) ≡ map f (xs ++ (x ∷ []))
-  viewed f [] x = refl
-  viewed f (y ∷ xs) x = ap (λ ys. f y ∷ ys) (viewed f xs x)
+    viewed : {X Y : Type 0} (f : X → Y) (xs : List X) (x : X) → map f xs ++ (f x ∷ []) ≡ map f (xs ++ (x ∷ []))
+    viewed f [] x = refl
+    viewed f (y ∷ xs) x = ap (λ ys. f y ∷ ys) (viewed f xs x)
 
 -- what an append leaves, seen by a view
 pub appended : {X Y : Type 0} (f : X → Y) (xs ys zs : List X) → zs ≡ xs ++ ys → map f xs ++ map f ys ≡ map f zs
 appended f xs ys zs e = viewed f xs ys ∙ ap (map f) (sym e)
   where
-  viewed : {X Y : Type 0} (f : X → Y) (xs ys : List X) → map f xs ++ map f ys ≡ map f (xs ++ ys)
-  viewed f [] ys = refl
-  viewed f (x ∷ xs) ys = ap (λ zs. f x ∷ zs) (viewed f xs ys)
+    viewed : {X Y : Type 0} (f : X → Y) (xs ys : List X) → map f xs ++ map f ys ≡ map f (xs ++ ys)
+    viewed f [] ys = refl
+    viewed f (x ∷ xs) ys = ap (λ zs. f x ∷ zs) (viewed f xs ys)
 
 prepend_more : {X : Type 0} (xs : List X) (x : X) (p : Parser (List X)) (us : List Tok) → prepend xs ((p >>= λ ys. give (x ∷ ys)) us) ≡ prepend (xs ++ (x ∷ [])) (p us)
 prepend_more {X} xs x p us = by_option (p us)
   where
-  by_option : (r : Option (List X × List Tok)) → prepend xs (option_and_then (λ (q : List X × List Tok). Some (x ∷ q.0, q.1)) r) ≡ prepend (xs ++ (x ∷ [])) r
-  by_option None = refl
-  by_option (Some q) = ap (λ (zs : List X). Some (zs, q.1)) (append_more xs x q.0)
+    by_option : (r : Option (List X × List Tok)) → prepend xs (option_and_then (λ (q : List X × List Tok). Some (x ∷ q.0, q.1)) r) ≡ prepend (xs ++ (x ∷ [])) r
+    by_option None = refl
+    by_option (Some q) = ap (λ (zs : List X). Some (zs, q.1)) (append_more xs x q.0)
 
 module _ {X : Type 0} (p : Parser X) (s : Strict p) where
   list_start : (ts : List Tok) (x : X) (us : List Tok) → p ts ≡ Some (x, us) → list p ts ≡ prepend (x ∷ []) (more p us)
   list_start ts x us e = bind_is p (λ x. more p >>= λ xs. give (x ∷ xs)) ts x us e ∙ prepend_first x (more p us)
     where
-    prepend_first : (x : X) (r : Option (List X × List Tok)) → option_and_then (λ (q : List X × List Tok). Some (x ∷ q.0, q.1)) r ≡ prepend (x ∷ []) r
-    prepend_first x None = refl
-    prepend_first x (Some q) = refl
+      prepend_first : (x : X) (r : Option (List X × List Tok)) → option_and_then (λ (q : List X × List Tok). Some (x ∷ q.0, q.1)) r ≡ prepend (x ∷ []) r
+      prepend_first x None = refl
+      prepend_first x (Some q) = refl
 
   list_no_start : (ts : List Tok) → p ts ≡ None → list p ts ≡ None
   list_no_start ts e = rw e refl
@@ -139,9 +139,9 @@ module _ {X : Type 0} (test : List Tok → Bool) (p : Parser X) (s : Strict p) w
   some_start : (ts : List Tok) (x : X) (us : List Tok) → p ts ≡ Some (x, us) → (p >>= λ x. many test p >>= λ xs. give (x ∷ xs)) ts ≡ prepend (x ∷ []) (many test p us)
   some_start ts x us e = bind_is p (λ x. many test p >>= λ xs. give (x ∷ xs)) ts x us e ∙ prepend_first x (many test p us)
     where
-    prepend_first : (x : X) (r : Option (List X × List Tok)) → option_and_then (λ (q : List X × List Tok). Some (x ∷ q.0, q.1)) r ≡ prepend (x ∷ []) r
-    prepend_first x None = refl
-    prepend_first x (Some q) = refl
+      prepend_first : (x : X) (r : Option (List X × List Tok)) → option_and_then (λ (q : List X × List Tok). Some (x ∷ q.0, q.1)) r ≡ prepend (x ∷ []) r
+      prepend_first x None = refl
+      prepend_first x (Some q) = refl
 
   others_at : (ts : List Tok) → test ts ≡ true → many test p ts ≡ (p >>= λ x. many test p >>= λ xs. give (x ∷ xs)) ts
   others_at ts h = many_is test p s ts ∙ rw h refl
@@ -161,12 +161,12 @@ pub declarations_go_on : (xs : List Name) (ts : List Tok) (ns : List Name) (us :
 unfolding all_declarations
 declarations_go_on xs ts ns us h e =
     ap (λ (r : Option (List (List Name) × List Tok)). prepend xs (option_and_then (λ (q : List (List Name) × List Tok). Some (joined q.0, q.1)) r))
-        (others_at (begins kind.Decl) declaration strict_declaration ts h ∙ bind_is declaration (λ x. many (begins kind.Decl) declaration >>= λ xs. give (x ∷ xs)) ts ns us e)
+    (others_at (begins kind.Decl) declaration strict_declaration ts h ∙ bind_is declaration (λ x. many (begins kind.Decl) declaration >>= λ xs. give (x ∷ xs)) ts ns us e)
     ∙ by_option (many (begins kind.Decl) declaration us)
   where
-  by_option : (r : Option (List (List Name) × List Tok)) → prepend xs (option_and_then (λ (q : List (List Name) × List Tok). Some (joined q.0, q.1)) (option_and_then (λ (q : List (List Name) × List Tok). Some (ns ∷ q.0, q.1)) r)) ≡ prepend (xs ++ ns) (option_and_then (λ (q : List (List Name) × List Tok). Some (joined q.0, q.1)) r)
-  by_option None = refl
-  by_option (Some q) = ap (λ (zs : List Name). Some (zs, q.1)) (sym (append_assoc xs ns (joined q.0)))
+    by_option : (r : Option (List (List Name) × List Tok)) → prepend xs (option_and_then (λ (q : List (List Name) × List Tok). Some (joined q.0, q.1)) (option_and_then (λ (q : List (List Name) × List Tok). Some (ns ∷ q.0, q.1)) r)) ≡ prepend (xs ++ ns) (option_and_then (λ (q : List (List Name) × List Tok). Some (joined q.0, q.1)) r)
+    by_option None = refl
+    by_option (Some q) = ap (λ (zs : List Name). Some (zs, q.1)) (sym (append_assoc xs ns (joined q.0)))
 
 pub declarations_refused : (xs : List Name) (ts : List Tok) → begins kind.Decl ts ≡ true → declaration ts ≡ None → prepend xs (all_declarations ts) ≡ None
 unfolding all_declarations

@@ -1,16 +1,16 @@
 -- The parts of statements, read just as the grammar says.
-use Rattle.std.proofs.Common.{◌≡◌, ℕ, zero, suc, ◌+◌, ◌<◌, ◌≤◌, Bool, true, false, cond, ◌||◌, List, [], ◌∷◌, ◌++◌, length, Option, Some, None, refl, sym, ◌∙◌, ap, arith, rules, ◌⊎◌, inl, inr}
+use Rattle.std.proofs.Common.{◌≡◌, ℕ, ◌<◌, Bool, true, false, ◌||◌, List, [], ◌∷◌, length, Some, refl, ap, ◌⊎◌, inl, inr}
 use Rattle.language.specs.Tree.{Name, Expression, RightSide, any, value}
 use Rattle.tokens.specs.declared.vocabulary.Kind.{Kind}
 use Rattle.tokens.specs.declared.vocabulary.Kind.TheVariants as kind
 use Rattle.tokens.specs.Token.{Tok, same_kind}
-use Rattle.syntax.specs.Parser.{Parser, give, refuse, ◌>>=◌, begins, take}
+use Rattle.syntax.specs.Parser.{give, ◌>>=◌, begins, take}
 use Rattle.syntax.specs.Grammar.{Takes, takes, name_at, Reads, reads_zero, reads_one, reads_name, reads_not, reads_paren, reads_two, IsName, is_name, InParens, Listed, Perhaps, IsExpression, IsRight, is_any, is_value}
-use Rattle.syntax.specs.Exact.{Goal, from, after, binds, expression_step, reading, name, names, expression, right, rights, formals, arguments, test}
+use Rattle.syntax.specs.Exact.{binds, name, names, expression, right, rights, formals, arguments, test}
 use Rattle.syntax.proofs.KindTests.{same_kind-true, same_kind-is}
-use Rattle.syntax.proofs.Fixes.{both, carried, Between, between, bind_is, Shrinks, Strict, Strict-Shrinks, Shrinks-give, Strict-take, Shrinks-bind, Strict-bind}
-use Rattle.syntax.proofs.Expressions.{Stops, stops_end, stops_at, take_is, take_finds, reading_finds, reading_complete, reading_shrinks, reading_strict}
-use Rattle.syntax.proofs.Exactly.{Exactly, Anything, chosen, begins_takes, begins_take, NoComma, exactly_list, exactly_parens, exactly_perhaps, Strict-list, strict_parens, shrinks_perhaps}
+use Rattle.syntax.proofs.Fixes.{carried, between, bind_is, Strict, Strict-Shrinks, Shrinks-give, Strict-take, Strict-bind}
+use Rattle.syntax.proofs.Expressions.{Stops, stops_end, stops_at, take_is, take_finds, reading_finds, reading_complete, reading_strict}
+use Rattle.syntax.proofs.Exactly.{Exactly, Anything, chosen, begins_takes, NoComma, exactly_list, exactly_parens, exactly_perhaps, Strict-list, strict_parens, shrinks_perhaps}
 
 -- names
 pub strict_name : Strict name
@@ -18,19 +18,21 @@ strict_name = Strict-bind (Strict-take kind.Id) (λ t. Shrinks-give (name_at t))
 
 pub exactly_name : Exactly IsName Anything name
 exactly_name = record {
-    finds = λ ts x rest e.
-        let b = between (take kind.Id) (λ t. give (name_at t)) ts x rest e in
-        let f = take_finds kind.Id ts b.x b.us b.first in
-        carried (λ x rest. IsName ts x rest) b.second (found ts b.x b.us f.0 f.1);
-    reads = went;
-  }
+  finds = λ ts x rest e.
+      let b = between (take kind.Id) (λ t. give (name_at t)) ts x rest e in
+      let f = take_finds kind.Id ts b.x b.us b.first in
+      carried (λ x rest. IsName ts x rest) b.second (found ts b.x b.us f.0 f.1);
+  reads = went;
+}
   where
-  kind_of : {ts rest : List Tok} (t : Tok) → Takes kind.Id ts rest → ts ≡ t ∷ rest → t.kind ≡ kind.Id
-  kind_of t (takes {t = u} e) same = let h : u ≡ t = cc in rw (← h) e
-  found : (ts : List Tok) (t : Tok) (us : List Tok) → Takes kind.Id ts us → ts ≡ t ∷ us → IsName ts (name_at t) us
-  found ts t us h e = rw e (is_name (kind_of t h e))
-  went : (ts : List Tok) (x : Name) (rest : List Tok) → IsName ts x rest → Unit {0} → name ts ≡ Some (x, rest)
-  went ts x rest (is_name {t = t} e) u = bind_is (take kind.Id) (λ t. give (name_at t)) (t ∷ rest) t rest (rw (same_kind-is e) refl)
+    kind_of : {ts rest : List Tok} (t : Tok) → Takes kind.Id ts rest → ts ≡ t ∷ rest → t.kind ≡ kind.Id
+    kind_of t (takes {t = u} e) same = let h : u ≡ t = cc in rw (← h) e
+
+    found : (ts : List Tok) (t : Tok) (us : List Tok) → Takes kind.Id ts us → ts ≡ t ∷ us → IsName ts (name_at t) us
+    found ts t us h e = rw e (is_name (kind_of t h e))
+
+    went : (ts : List Tok) (x : Name) (rest : List Tok) → IsName ts x rest → Unit {0} → name ts ≡ Some (x, rest)
+    went ts x rest (is_name {t = t} e) u = bind_is (take kind.Id) (λ t. give (name_at t)) (t ∷ rest) t rest (rw (same_kind-is e) refl)
 
 -- the kinds that begin an expression
 abbrev opens : Kind → Bool
@@ -39,9 +41,9 @@ opens k = same_kind k kind.Zero || same_kind k kind.One || same_kind k kind.Id |
 apart : (j k : Kind) → opens j ≡ true → opens k ≡ false → same_kind j k ≡ false
 apart j k e f = by_test j k (same_kind j k) refl e f
   where
-  by_test : (j k : Kind) (b : Bool) → same_kind j k ≡ b → opens j ≡ true → opens k ≡ false → b ≡ false
-  by_test j k false s e f = refl
-  by_test j k true s e f = let h : j ≡ k = same_kind-true s in let i : opens k ≡ true = rw h at e in cc
+    by_test : (j k : Kind) (b : Bool) → same_kind j k ≡ b → opens j ≡ true → opens k ≡ false → b ≡ false
+    by_test j k false s e f = refl
+    by_test j k true s e f = let h : j ≡ k = same_kind-true s in let i : opens k ≡ true = rw h at e in cc
 
 pub begins_no : {l : ℕ} {ts rest : List Tok} {e : Expression Name} (k : Kind) → opens k ≡ false → Reads l ts e rest → begins k ts ≡ false
 unfolding same_kind
@@ -58,37 +60,38 @@ strict_expression = reading_strict 0
 
 pub exactly_expression : Exactly IsExpression (Stops 0) expression
 exactly_expression = record {
-    finds = λ ts x rest e. (reading_finds 0 ts x rest e).0;
-    reads = λ ts x rest r s. reading_complete r s;
-  }
+  finds = λ ts x rest e. (reading_finds 0 ts x rest e).0;
+  reads = λ ts x rest r s. reading_complete r s;
+}
 
 -- right sides
 pub strict_right : Strict right
 strict_right = record { by = λ ts x rest e. by_choice ts x rest (chosen (begins kind.Any ts) ((take kind.Any >>= λ _. give any) ts) ((expression >>= λ e. give (value e)) ts) (Some (x, rest)) e) }
   where
-  by_choice : (ts : List Tok) (x : RightSide Name) (rest : List Tok) → ((begins kind.Any ts ≡ true) × ((take kind.Any >>= λ _. give any) ts ≡ Some (x, rest))) ⊎ ((begins kind.Any ts ≡ false) × ((expression >>= λ e. give (value e)) ts ≡ Some (x, rest))) → length rest < length ts
-  by_choice ts x rest (inl h) = (Strict-bind (Strict-take kind.Any) (λ t. Shrinks-give any)).by ts x rest h.1
-  by_choice ts x rest (inr h) = (Strict-bind strict_expression (λ e. Shrinks-give (value e))).by ts x rest h.1
+    by_choice : (ts : List Tok) (x : RightSide Name) (rest : List Tok) → ((begins kind.Any ts ≡ true) × ((take kind.Any >>= λ _. give any) ts ≡ Some (x, rest))) ⊎ ((begins kind.Any ts ≡ false) × ((expression >>= λ e. give (value e)) ts ≡ Some (x, rest))) → length rest < length ts
+    by_choice ts x rest (inl h) = (Strict-bind (Strict-take kind.Any) (λ t. Shrinks-give any)).by ts x rest h.1
+    by_choice ts x rest (inr h) = (Strict-bind strict_expression (λ e. Shrinks-give (value e))).by ts x rest h.1
 
 pub exactly_right : Exactly IsRight (Stops 0) right
 unfolding same_kind
 exactly_right = record {
-    finds = λ ts x rest e. by_choice ts x rest (chosen (begins kind.Any ts) ((take kind.Any >>= λ _. give any) ts) ((expression >>= λ e. give (value e)) ts) (Some (x, rest)) e);
-    reads = went;
-  }
+  finds = λ ts x rest e. by_choice ts x rest (chosen (begins kind.Any ts) ((take kind.Any >>= λ _. give any) ts) ((expression >>= λ e. give (value e)) ts) (Some (x, rest)) e);
+  reads = went;
+}
   where
-  by_choice : (ts : List Tok) (x : RightSide Name) (rest : List Tok) → ((begins kind.Any ts ≡ true) × ((take kind.Any >>= λ _. give any) ts ≡ Some (x, rest))) ⊎ ((begins kind.Any ts ≡ false) × ((expression >>= λ e. give (value e)) ts ≡ Some (x, rest))) → IsRight ts x rest
-  by_choice ts x rest (inl h) =
-      let b = between (take kind.Any) (λ _. give any) ts x rest h.1 in
-      carried (λ x rest. IsRight ts x rest) b.second (is_any (take_finds kind.Any ts b.x b.us b.first).0)
-  by_choice ts x rest (inr h) =
-      let b = between expression (λ e. give (value e)) ts x rest h.1 in
-      carried (λ x rest. IsRight ts x rest) b.second (is_value (exactly_expression.finds ts b.x b.us b.first))
-  went : (ts : List Tok) (x : RightSide Name) (rest : List Tok) → IsRight ts x rest → Stops 0 rest → right ts ≡ Some (x, rest)
-  went ts x rest (is_any t) s = rw (begins_takes t) (bind_is (take kind.Any) (λ _. give any) ts (take_is t).0 rest (take_is t).1)
-  went ts x rest (is_value {e = e} r) s =
-      let h = begins_no kind.Any refl r in
-      rw h (bind_is expression (λ e. give (value e)) ts e rest (exactly_expression.reads ts e rest r s))
+    by_choice : (ts : List Tok) (x : RightSide Name) (rest : List Tok) → ((begins kind.Any ts ≡ true) × ((take kind.Any >>= λ _. give any) ts ≡ Some (x, rest))) ⊎ ((begins kind.Any ts ≡ false) × ((expression >>= λ e. give (value e)) ts ≡ Some (x, rest))) → IsRight ts x rest
+    by_choice ts x rest (inl h) =
+        let b = between (take kind.Any) (λ _. give any) ts x rest h.1 in
+        carried (λ x rest. IsRight ts x rest) b.second (is_any (take_finds kind.Any ts b.x b.us b.first).0)
+    by_choice ts x rest (inr h) =
+        let b = between expression (λ e. give (value e)) ts x rest h.1 in
+        carried (λ x rest. IsRight ts x rest) b.second (is_value (exactly_expression.finds ts b.x b.us b.first))
+
+    went : (ts : List Tok) (x : RightSide Name) (rest : List Tok) → IsRight ts x rest → Stops 0 rest → right ts ≡ Some (x, rest)
+    went ts x rest (is_any t) s = rw (begins_takes t) (bind_is (take kind.Any) (λ _. give any) ts (take_is t).0 rest (take_is t).1)
+    went ts x rest (is_value {e = e} r) s =
+        let h = begins_no kind.Any refl r in
+        rw h (bind_is expression (λ e. give (value e)) ts e rest (exactly_expression.reads ts e rest r s))
 
 -- a comma and a closing parenthesis are no operators
 pub comma_stops : (us : List Tok) → begins kind.Comma us ≡ true → Stops 0 us

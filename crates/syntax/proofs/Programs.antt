@@ -1,16 +1,16 @@
 -- Declarations, procedures, thread lines and programs, read just as the grammar says.
-use Rattle.std.proofs.Common.{◌≡◌, ℕ, zero, suc, ◌+◌, ◌<◌, ◌≤◌, Bool, true, false, cond, ◌||◌, List, [], ◌∷◌, ◌++◌, length, Option, Some, None, refl, sym, ◌∙◌, ap, arith, rules}
+use Rattle.std.proofs.Common.{◌≡◌, true, false, List, [], ◌∷◌, Some, refl, ◌∙◌}
 use Rattle.language.specs.Tree.{Name, Block, Procedure, ThreadLine, Tree}
 use Rattle.tokens.specs.declared.vocabulary.Kind.{Kind}
 use Rattle.tokens.specs.declared.vocabulary.Kind.TheVariants as kind
 use Rattle.tokens.specs.Token.{Tok, same_kind}
-use Rattle.syntax.specs.Parser.{Parser, give, refuse, ◌>>=◌, begins, take, many}
-use Rattle.syntax.specs.Grammar.{Takes, takes, IsName, is_name, InParens, Many, no_more, one_more, Several, several, Listed, Perhaps, IsSome, Statements, joined, IsDeclaration, is_declaration, Declarations, declarations, IsProcedure, is_procedure, IsThread, is_thread, IsProgram, is_program}
+use Rattle.syntax.specs.Parser.{Parser, give, ◌>>=◌, begins, take, many}
+use Rattle.syntax.specs.Grammar.{Takes, takes, IsName, is_name, InParens, Several, several, Perhaps, IsSome, Statements, joined, IsDeclaration, is_declaration, Declarations, declarations, IsProcedure, is_procedure, IsThread, is_thread, IsProgram, is_program}
 use Rattle.syntax.specs.Exact.{name, names, formals, starts, starts_here, section, declaration, all_declarations, insides, procedure, more_procedures, procedures, thread_line, any_left, more_lines, thread_lines, program}
-use Rattle.syntax.proofs.KindTests.{same_kind-true, same_kind-is}
-use Rattle.syntax.proofs.Fixes.{both, carried, Between, between, bind_is, Shrinks, Strict, Strict-Shrinks, Shrinks-give, Strict-take, Shrinks-bind, Strict-bind}
+use Rattle.syntax.proofs.KindTests.{same_kind-is}
+use Rattle.syntax.proofs.Fixes.{carried, between, bind_is, Shrinks, Strict, Strict-Shrinks, Shrinks-give, Strict-take, Shrinks-bind, Strict-bind}
 use Rattle.syntax.proofs.Expressions.{take_is, take_finds}
-use Rattle.syntax.proofs.Exactly.{Exactly, Anything, begins_takes, begins_other, NoComma, many_finds, many_reads, many_shrinks}
+use Rattle.syntax.proofs.Exactly.{Exactly, Anything, begins_takes, begins_other, many_finds, many_reads, many_shrinks}
 use Rattle.syntax.proofs.Parts.{strict_name, exactly_name, strict_names, exactly_names, strict_formals, exactly_formals}
 use Rattle.syntax.proofs.Sections.{section_shrinks}
 use Rattle.syntax.proofs.Sound.{section_finds}
@@ -29,18 +29,19 @@ pub exactly_declaration : Exactly IsDeclaration Anything declaration
 unfolding declaration
 exactly_declaration = record { finds = found; reads = went }
   where
-  found : (ts : List Tok) (ns : List Name) (rest : List Tok) → declaration ts ≡ Some (ns, rest) → IsDeclaration ts ns rest
-  found ts ns rest e =
-      let b = between (take kind.Decl) (λ _. names >>= λ ns. take kind.Semicolon >>= λ _. give ns) ts ns rest e in
-      let c = between names (λ ns. take kind.Semicolon >>= λ _. give ns) b.us ns rest b.second in
-      let d = between (take kind.Semicolon) (λ _. give c.x) c.us ns rest c.second in
-      carried (λ ns rest. IsDeclaration ts ns rest) d.second
-      (is_declaration (take_finds kind.Decl ts b.x b.us b.first).0 (exactly_names.finds b.us c.x c.us c.first) (take_finds kind.Semicolon c.us d.x d.us d.first).0)
-  went : (ts : List Tok) (ns : List Name) (rest : List Tok) → IsDeclaration ts ns rest → Unit {0} → declaration ts ≡ Some (ns, rest)
-  went ts ns rest (is_declaration {us = us} {vs = vs} d l s) u =
-      bind_is (take kind.Decl) (λ _. names >>= λ ns. take kind.Semicolon >>= λ _. give ns) ts (take_is d).0 us (take_is d).1
-      ∙ bind_is names (λ ns. take kind.Semicolon >>= λ _. give ns) us ns vs (exactly_names.reads us ns vs l (tt, comma_no s))
-      ∙ bind_is (take kind.Semicolon) (λ _. give ns) vs (take_is s).0 rest (take_is s).1
+    found : (ts : List Tok) (ns : List Name) (rest : List Tok) → declaration ts ≡ Some (ns, rest) → IsDeclaration ts ns rest
+    found ts ns rest e =
+        let b = between (take kind.Decl) (λ _. names >>= λ ns. take kind.Semicolon >>= λ _. give ns) ts ns rest e in
+        let c = between names (λ ns. take kind.Semicolon >>= λ _. give ns) b.us ns rest b.second in
+        let d = between (take kind.Semicolon) (λ _. give c.x) c.us ns rest c.second in
+        carried (λ ns rest. IsDeclaration ts ns rest) d.second
+        (is_declaration (take_finds kind.Decl ts b.x b.us b.first).0 (exactly_names.finds b.us c.x c.us c.first) (take_finds kind.Semicolon c.us d.x d.us d.first).0)
+
+    went : (ts : List Tok) (ns : List Name) (rest : List Tok) → IsDeclaration ts ns rest → Unit {0} → declaration ts ≡ Some (ns, rest)
+    went ts ns rest (is_declaration {us = us} {vs = vs} d l s) u =
+        bind_is (take kind.Decl) (λ _. names >>= λ ns. take kind.Semicolon >>= λ _. give ns) ts (take_is d).0 us (take_is d).1
+        ∙ bind_is names (λ ns. take kind.Semicolon >>= λ _. give ns) us ns vs (exactly_names.reads us ns vs l (tt, comma_no s))
+        ∙ bind_is (take kind.Semicolon) (λ _. give ns) vs (take_is s).0 rest (take_is s).1
 
 declaration_begins : (ts : List Tok) (ns : List Name) (us : List Tok) → IsDeclaration ts ns us → begins kind.Decl ts ≡ true
 declaration_begins ts ns us (is_declaration d l s) = begins_takes d
@@ -89,21 +90,22 @@ exactly_insides : Exactly IsInside Anything insides
 unfolding insides same_kind
 exactly_insides = record { finds = found; reads = went }
   where
-  found : (ts : List Tok) (p : List Name × Block Name Name Name) (rest : List Tok) → insides ts ≡ Some (p, rest) → IsInside ts p rest
-  found ts p rest e =
-      let b = between (take kind.Begin) (λ _. all_declarations >>= λ ls. after_locals ls) ts p rest e in
-      let c = between all_declarations after_locals b.us p rest b.second in
-      let d = between section (after_section c.x) c.us p rest c.second in
-      let f = between (take kind.End) (λ _. give (c.x, d.x)) d.us p rest d.second in
-      let s = section_finds c.us d.x d.us d.first in
-      carried (λ p rest. IsInside ts p rest) f.second
-      (is_inside (take_finds kind.Begin ts b.x b.us b.first).0 (declarations_found b.us c.x c.us c.first) s.0 s.1 (take_finds kind.End d.us f.x f.us f.first).0)
-  went : (ts : List Tok) (p : List Name × Block Name Name Name) (rest : List Tok) → IsInside ts p rest → Unit {0} → insides ts ≡ Some (p, rest)
-  went ts p rest (is_inside {us = us} {vs = vs} {ws = ws} {ls = ls} {b = b} g d s n e) u =
-      bind_is (take kind.Begin) (λ _. all_declarations >>= λ ls. after_locals ls) ts (take_is g).0 us (take_is g).1
-      ∙ bind_is all_declarations after_locals us ls vs (declarations_read us ls vs d (no_declaration vs (statements_start s n)))
-      ∙ bind_is section (after_section ls) vs b ws ((statements_read s (stops e refl)).1 n)
-      ∙ bind_is (take kind.End) (λ _. give (ls, b)) ws (take_is e).0 rest (take_is e).1
+    found : (ts : List Tok) (p : List Name × Block Name Name Name) (rest : List Tok) → insides ts ≡ Some (p, rest) → IsInside ts p rest
+    found ts p rest e =
+        let b = between (take kind.Begin) (λ _. all_declarations >>= λ ls. after_locals ls) ts p rest e in
+        let c = between all_declarations after_locals b.us p rest b.second in
+        let d = between section (after_section c.x) c.us p rest c.second in
+        let f = between (take kind.End) (λ _. give (c.x, d.x)) d.us p rest d.second in
+        let s = section_finds c.us d.x d.us d.first in
+        carried (λ p rest. IsInside ts p rest) f.second
+        (is_inside (take_finds kind.Begin ts b.x b.us b.first).0 (declarations_found b.us c.x c.us c.first) s.0 s.1 (take_finds kind.End d.us f.x f.us f.first).0)
+
+    went : (ts : List Tok) (p : List Name × Block Name Name Name) (rest : List Tok) → IsInside ts p rest → Unit {0} → insides ts ≡ Some (p, rest)
+    went ts p rest (is_inside {us = us} {vs = vs} {ws = ws} {ls = ls} {b = b} g d s n e) u =
+        bind_is (take kind.Begin) (λ _. all_declarations >>= λ ls. after_locals ls) ts (take_is g).0 us (take_is g).1
+        ∙ bind_is all_declarations after_locals us ls vs (declarations_read us ls vs d (no_declaration vs (statements_start s n)))
+        ∙ bind_is section (after_section ls) vs b ws ((statements_read s (stops e refl)).1 n)
+        ∙ bind_is (take kind.End) (λ _. give (ls, b)) ws (take_is e).0 rest (take_is e).1
 
 pub strict_procedure : Strict procedure
 unfolding procedure
@@ -119,18 +121,19 @@ pub exactly_procedure : Exactly IsProcedure Anything procedure
 unfolding procedure
 exactly_procedure = record { finds = found; reads = went }
   where
-  found : (ts : List Tok) (p : Procedure) (rest : List Tok) → procedure ts ≡ Some (p, rest) → IsProcedure ts p rest
-  found ts p rest e =
-      let b = between name (λ n. formals >>= λ fs. after_formals n fs) ts p rest e in
-      let c = between formals (after_formals b.x) b.us p rest b.second in
-      let d = between insides (λ p. give (record { name = b.x; formals = c.x; locals = p.0; body = p.1 })) c.us p rest c.second in
-      carried (λ p rest. IsProcedure ts p rest) d.second
-      (procedure_of (exactly_name.finds ts b.x b.us b.first) (exactly_formals.finds b.us c.x c.us c.first) (exactly_insides.finds c.us d.x d.us d.first))
-  went : (ts : List Tok) (p : Procedure) (rest : List Tok) → IsProcedure ts p rest → Unit {0} → procedure ts ≡ Some (p, rest)
-  went ts p rest (is_procedure {us = us} {vs = vs} {n = n} {formals = fs} {locals = ls} {body = b} h f g d s m e) u =
-      bind_is name (λ n. formals >>= λ fs. after_formals n fs) ts n us (exactly_name.reads ts n us h tt)
-      ∙ bind_is formals (after_formals n) us fs vs (exactly_formals.reads us fs vs f tt)
-      ∙ bind_is insides (λ p. give (record { name = n; formals = fs; locals = p.0; body = p.1 })) vs (ls, b) rest (exactly_insides.reads vs (ls, b) rest (is_inside g d s m e) tt)
+    found : (ts : List Tok) (p : Procedure) (rest : List Tok) → procedure ts ≡ Some (p, rest) → IsProcedure ts p rest
+    found ts p rest e =
+        let b = between name (λ n. formals >>= λ fs. after_formals n fs) ts p rest e in
+        let c = between formals (after_formals b.x) b.us p rest b.second in
+        let d = between insides (λ p. give (record { name = b.x; formals = c.x; locals = p.0; body = p.1 })) c.us p rest c.second in
+        carried (λ p rest. IsProcedure ts p rest) d.second
+        (procedure_of (exactly_name.finds ts b.x b.us b.first) (exactly_formals.finds b.us c.x c.us c.first) (exactly_insides.finds c.us d.x d.us d.first))
+
+    went : (ts : List Tok) (p : Procedure) (rest : List Tok) → IsProcedure ts p rest → Unit {0} → procedure ts ≡ Some (p, rest)
+    went ts p rest (is_procedure {us = us} {vs = vs} {n = n} {formals = fs} {locals = ls} {body = b} h f g d s m e) u =
+        bind_is name (λ n. formals >>= λ fs. after_formals n fs) ts n us (exactly_name.reads ts n us h tt)
+        ∙ bind_is formals (after_formals n) us fs vs (exactly_formals.reads us fs vs f tt)
+        ∙ bind_is insides (λ p. give (record { name = n; formals = fs; locals = p.0; body = p.1 })) vs (ls, b) rest (exactly_insides.reads vs (ls, b) rest (is_inside g d s m e) tt)
 
 name_begins : {ts us : List Tok} {n : Name} → IsName ts n us → begins kind.Id ts ≡ true
 name_begins (is_name e) = same_kind-is e
@@ -167,26 +170,27 @@ after_name t n = take kind.Semicolon >>= λ _. give (record { at = t.at; name = 
 thread_of_takes : (t : Tok) {ts us vs rest : List Tok} {n : Name} → ts ≡ t ∷ us → Takes kind.Thread ts us → IsName us n vs → Takes kind.Semicolon vs rest → IsThread ts (record { at = t.at; name = n }) rest
 thread_of_takes t e k n s = rw e (is_thread (kind_of (rw e at k)) n s)
   where
-  kind_of : {k : Kind} {t : Tok} {us vs : List Tok} → Takes k (t ∷ us) vs → t.kind ≡ k
-  kind_of (takes e) = e
+    kind_of : {k : Kind} {t : Tok} {us vs : List Tok} → Takes k (t ∷ us) vs → t.kind ≡ k
+    kind_of (takes e) = e
 
 pub exactly_thread_line : Exactly IsThread Anything thread_line
 unfolding thread_line
 exactly_thread_line = record { finds = found; reads = went }
   where
-  found : (ts : List Tok) (l : ThreadLine) (rest : List Tok) → thread_line ts ≡ Some (l, rest) → IsThread ts l rest
-  found ts l rest e =
-      let b = between (take kind.Thread) (λ t. name >>= λ n. after_name t n) ts l rest e in
-      let c = between name (after_name b.x) b.us l rest b.second in
-      let d = between (take kind.Semicolon) (λ _. give (record { at = b.x.at; name = c.x })) c.us l rest c.second in
-      let f = take_finds kind.Thread ts b.x b.us b.first in
-      carried (λ l rest. IsThread ts l rest) d.second
-      (thread_of_takes b.x f.1 f.0 (exactly_name.finds b.us c.x c.us c.first) (take_finds kind.Semicolon c.us d.x d.us d.first).0)
-  went : (ts : List Tok) (l : ThreadLine) (rest : List Tok) → IsThread ts l rest → Unit {0} → thread_line ts ≡ Some (l, rest)
-  went ts l rest (is_thread {t = t} {us = us} {vs = vs} {n = n} e h s) u =
-      bind_is (take kind.Thread) (λ t. name >>= λ n. after_name t n) (t ∷ us) t us (rw (same_kind-is e) refl)
-      ∙ bind_is name (after_name t) us n vs (exactly_name.reads us n vs h tt)
-      ∙ bind_is (take kind.Semicolon) (λ _. give (record { at = t.at; name = n })) vs (take_is s).0 rest (take_is s).1
+    found : (ts : List Tok) (l : ThreadLine) (rest : List Tok) → thread_line ts ≡ Some (l, rest) → IsThread ts l rest
+    found ts l rest e =
+        let b = between (take kind.Thread) (λ t. name >>= λ n. after_name t n) ts l rest e in
+        let c = between name (after_name b.x) b.us l rest b.second in
+        let d = between (take kind.Semicolon) (λ _. give (record { at = b.x.at; name = c.x })) c.us l rest c.second in
+        let f = take_finds kind.Thread ts b.x b.us b.first in
+        carried (λ l rest. IsThread ts l rest) d.second
+        (thread_of_takes b.x f.1 f.0 (exactly_name.finds b.us c.x c.us c.first) (take_finds kind.Semicolon c.us d.x d.us d.first).0)
+
+    went : (ts : List Tok) (l : ThreadLine) (rest : List Tok) → IsThread ts l rest → Unit {0} → thread_line ts ≡ Some (l, rest)
+    went ts l rest (is_thread {t = t} {us = us} {vs = vs} {n = n} e h s) u =
+        bind_is (take kind.Thread) (λ t. name >>= λ n. after_name t n) (t ∷ us) t us (rw (same_kind-is e) refl)
+        ∙ bind_is name (after_name t) us n vs (exactly_name.reads us n vs h tt)
+        ∙ bind_is (take kind.Semicolon) (λ _. give (record { at = t.at; name = n })) vs (take_is s).0 rest (take_is s).1
 
 line_begins : (ts : List Tok) (l : ThreadLine) (us : List Tok) → IsThread ts l us → any_left ts ≡ true
 line_begins ts l us (is_thread e h s) = refl
@@ -234,13 +238,17 @@ program_reads ts p (is_program {us = us} {vs = vs} {globals = gs} {procedures = 
     ∙ bind_is procedures (after_procedures gs) us ps vs (procedures_read us ps vs m (by_line t))
     ∙ bind_is thread_lines (λ ls. give (record { globals = gs; procedures = ps; threads = ls })) vs ls [] (lines_read vs ls t)
   where
-  by_name : {ts us : List Tok} {n : Name} → IsName ts n us → begins kind.Decl ts ≡ false
-  by_name (is_name e) = rw e refl
-  by_first : {ts us : List Tok} {p : Procedure} → IsProcedure ts p us → begins kind.Decl ts ≡ false
-  by_first (is_procedure h f g d s m e) = by_name h
-  by_procedure : {ts us : List Tok} {ps : List Procedure} → Several IsProcedure ts ps us → begins kind.Decl ts ≡ false
-  by_procedure (several h m) = by_first h
-  by_thread : {ts us : List Tok} {l : ThreadLine} → IsThread ts l us → begins kind.Id ts ≡ false
-  by_thread (is_thread e h s) = rw e refl
-  by_line : {ts us : List Tok} {ls : List ThreadLine} → Several IsThread ts ls us → begins kind.Id ts ≡ false
-  by_line (several h m) = by_thread h
+    by_name : {ts us : List Tok} {n : Name} → IsName ts n us → begins kind.Decl ts ≡ false
+    by_name (is_name e) = rw e refl
+
+    by_first : {ts us : List Tok} {p : Procedure} → IsProcedure ts p us → begins kind.Decl ts ≡ false
+    by_first (is_procedure h f g d s m e) = by_name h
+
+    by_procedure : {ts us : List Tok} {ps : List Procedure} → Several IsProcedure ts ps us → begins kind.Decl ts ≡ false
+    by_procedure (several h m) = by_first h
+
+    by_thread : {ts us : List Tok} {l : ThreadLine} → IsThread ts l us → begins kind.Id ts ≡ false
+    by_thread (is_thread e h s) = rw e refl
+
+    by_line : {ts us : List Tok} {ls : List ThreadLine} → Several IsThread ts ls us → begins kind.Id ts ≡ false
+    by_line (several h m) = by_thread h

@@ -1,14 +1,13 @@
 -- The function that reads statements, and the grammar of statements: that it reads no more than it is given.
-use Rattle.std.proofs.Common.{◌≡◌, ℕ, zero, suc, ◌+◌, ◌<◌, ◌≤◌, Bool, true, false, cond, ◌||◌, ◌&&◌, List, [], ◌∷◌, ◌++◌, length, Option, Some, None, refl, sym, ◌∙◌, ap, arith, rules, ◌⊎◌, inl, inr}
-use Rattle.language.specs.Tree.{Name, Expression, RightSide, skip, assign, assert, assume, goto, leave, call, Mark, Block, done, one, choose, loop}
-use Rattle.tokens.specs.declared.vocabulary.Kind.{Kind}
+use Rattle.std.proofs.Common.{◌≡◌, ℕ, suc, ◌<◌, ◌≤◌, Bool, true, false, cond, ◌&&◌, List, [], ◌∷◌, length, Option, Some, None, refl, arith, ◌⊎◌, inl, inr}
+use Rattle.language.specs.Tree.{Name, assign, call, Mark, Block, done}
 use Rattle.tokens.specs.declared.vocabulary.Kind.TheVariants as kind
 use Rattle.tokens.specs.Token.{Tok, same_kind}
 use Rattle.syntax.specs.Parser.{Parser, give, refuse, ◌>>=◌, begins, take}
 use Rattle.syntax.specs.Grammar.{name_at}
-use Rattle.syntax.specs.Trees.{Deed, simple, branch, repeat, Item, before}
-use Rattle.syntax.specs.Exact.{name, names, rights, arguments, test, marked, assignment, calling, named, branching, repeating, deed_by, deed_step, starts_here, item_step, rest_step, section_step, section}
-use Rattle.syntax.proofs.Fixes.{both, Shrinks, Strict, Agree, Strict-Shrinks, Shrinks-give, Shrinks-refuse, Strict-take, Shrinks-bind, Strict-bind, Shrinks-Strict-bind, Agree-same, Agree-bind, Agree-Strict-bind, Shrinks-cond, Agree-cond, IsStep, fix_shrinks, fix_is}
+use Rattle.syntax.specs.Trees.{Deed, simple, branch, repeat, before}
+use Rattle.syntax.specs.Exact.{test, marked, assignment, calling, named, branching, repeating, deed_by, deed_step, starts_here, item_step, rest_step, section_step, section}
+use Rattle.syntax.proofs.Fixes.{both, Shrinks, Strict, Agree, Strict-Shrinks, Shrinks-give, Shrinks-refuse, Strict-take, Shrinks-bind, Strict-bind, Shrinks-Strict-bind, Agree-same, Agree-bind, Agree-Strict-bind, Shrinks-cond, IsStep, fix_shrinks, fix_is}
 use Rattle.syntax.proofs.Exactly.{chosen}
 use Rattle.syntax.proofs.Parts.{strict_name, strict_names, strict_rights, strict_arguments, strict_test}
 
@@ -24,22 +23,23 @@ pub shrinks_named : (t : Tok) → Shrinks (named t)
 unfolding named
 shrinks_named t = record { by = λ ts x rest e. by_choice ts x rest (chosen (begins kind.Open ts) (calling (t ∷ ts)) (assignment (t ∷ ts)) (Some (x, rest)) e) }
   where
-  by_choice : (ts : List Tok) (x : Deed) (rest : List Tok) → ((begins kind.Open ts ≡ true) × (calling (t ∷ ts) ≡ Some (x, rest))) ⊎ ((begins kind.Open ts ≡ false) × (assignment (t ∷ ts) ≡ Some (x, rest))) → length rest ≤ length ts
-  by_choice ts x rest (inl h) = let j : length rest < length (t ∷ ts) = strict_calling.by (t ∷ ts) x rest h.1 in omega arith
-  by_choice ts x rest (inr h) = let j : length rest < length (t ∷ ts) = strict_assignment.by (t ∷ ts) x rest h.1 in omega arith
+    by_choice : (ts : List Tok) (x : Deed) (rest : List Tok) → ((begins kind.Open ts ≡ true) × (calling (t ∷ ts) ≡ Some (x, rest))) ⊎ ((begins kind.Open ts ≡ false) × (assignment (t ∷ ts) ≡ Some (x, rest))) → length rest ≤ length ts
+    by_choice ts x rest (inl h) = let j : length rest < length (t ∷ ts) = strict_calling.by (t ∷ ts) x rest h.1 in omega arith
+    by_choice ts x rest (inr h) = let j : length rest < length (t ∷ ts) = strict_assignment.by (t ∷ ts) x rest h.1 in omega arith
 
 pub shrinks_marked : Shrinks marked
 unfolding marked
 shrinks_marked = record { by = by_list }
   where
-  by_choice : (t : Tok) (ts : List Tok) (m : Mark Name) (rest : List Tok) (b : Bool) → cond {A = Option (Mark Name × List Tok)} b ((take kind.Colon >>= λ _. give (record { label = Some (name_at t); at = t.at })) ts) (Some (record { label = None; at = t.at }, t ∷ ts)) ≡ Some (m, rest) → length rest ≤ length (t ∷ ts)
-  by_choice t ts m rest true e =
-      let j : length rest < length ts = (Strict-bind (Strict-take kind.Colon) (λ _. Shrinks-give (record { label = Some (name_at t); at = t.at }))).by ts m rest e in
-      omega arith
-  by_choice t ts m rest false e = let j = (both e).1 in rw (← j) (omega arith)
-  by_list : (ts : List Tok) (m : Mark Name) (rest : List Tok) → marked ts ≡ Some (m, rest) → length rest ≤ length ts
-  by_list [] m rest e = cc
-  by_list (t ∷ ts) m rest e = by_choice t ts m rest (same_kind t.kind kind.Id && begins kind.Colon ts) e
+    by_choice : (t : Tok) (ts : List Tok) (m : Mark Name) (rest : List Tok) (b : Bool) → cond {A = Option (Mark Name × List Tok)} b ((take kind.Colon >>= λ _. give (record { label = Some (name_at t); at = t.at })) ts) (Some (record { label = None; at = t.at }, t ∷ ts)) ≡ Some (m, rest) → length rest ≤ length (t ∷ ts)
+    by_choice t ts m rest true e =
+        let j : length rest < length ts = (Strict-bind (Strict-take kind.Colon) (λ _. Shrinks-give (record { label = Some (name_at t); at = t.at }))).by ts m rest e in
+        omega arith
+    by_choice t ts m rest false e = let j = (both e).1 in rw (← j) (omega arith)
+
+    by_list : (ts : List Tok) (m : Mark Name) (rest : List Tok) → marked ts ≡ Some (m, rest) → length rest ≤ length ts
+    by_list [] m rest e = cc
+    by_list (t ∷ ts) m rest e = by_choice t ts m rest (same_kind t.kind kind.Id && begins kind.Colon ts) e
 
 module _ (f g : Parser (Block Name Name Name)) (s : Shrinks f) where
   branching_shrinks : Shrinks (branching f)
@@ -58,9 +58,9 @@ module _ (f g : Parser (Block Name Name Name)) (s : Shrinks f) where
   pub deed_strict : Strict (deed_step f)
   deed_strict = record { by = by_list }
     where
-    by_list : (ts : List Tok) (d : Deed) (rest : List Tok) → deed_step f ts ≡ Some (d, rest) → length rest < length ts
-    by_list [] d rest e = cc
-    by_list (t ∷ ts) d rest e = let j : length rest ≤ length ts = (deed_shrinks t).by ts d rest e in omega arith
+      by_list : (ts : List Tok) (d : Deed) (rest : List Tok) → deed_step f ts ≡ Some (d, rest) → length rest < length ts
+      by_list [] d rest e = cc
+      by_list (t ∷ ts) d rest e = let j : length rest ≤ length ts = (deed_shrinks t).by ts d rest e in omega arith
 
   pub item_strict : Strict (item_step f)
   item_strict = Shrinks-Strict-bind shrinks_marked (λ m. Strict-bind deed_strict (λ d. Shrinks-give (record { mark = m; deed = d })))
@@ -68,9 +68,9 @@ module _ (f g : Parser (Block Name Name Name)) (s : Shrinks f) where
   rest_shrinks : Shrinks (rest_step f)
   rest_shrinks = record { by = λ ts k rest e. by_choice ts k rest (starts_here ts) e }
     where
-    by_choice : (ts : List Tok) (k : Block Name Name Name) (rest : List Tok) (b : Bool) → cond {A = Option (Block Name Name Name × List Tok)} b (f ts) (Some (done, ts)) ≡ Some (k, rest) → length rest ≤ length ts
-    by_choice ts k rest true e = s.by ts k rest e
-    by_choice ts k rest false e = let j = (both e).1 in rw (← j) (omega arith)
+      by_choice : (ts : List Tok) (k : Block Name Name Name) (rest : List Tok) (b : Bool) → cond {A = Option (Block Name Name Name × List Tok)} b (f ts) (Some (done, ts)) ≡ Some (k, rest) → length rest ≤ length ts
+      by_choice ts k rest true e = s.by ts k rest e
+      by_choice ts k rest false e = let j = (both e).1 in rw (← j) (omega arith)
 
   branching_agrees : (n : ℕ) → Agree n f g → Agree n (branching f) (branching g)
   branching_agrees n a =
@@ -87,24 +87,24 @@ module _ (f g : Parser (Block Name Name Name)) (s : Shrinks f) where
   deed_agrees n a t = let x = branching_agrees n a in let y = repeating_agrees n a in
       by_tests x y (same_kind t.kind kind.Skip) (same_kind t.kind kind.Return) (same_kind t.kind kind.Goto) (same_kind t.kind kind.Assert) (same_kind t.kind kind.Assume) (same_kind t.kind kind.If) (same_kind t.kind kind.While) (named t) _ _ _ _ _
     where
-    by_tests : Agree n (branching f) (branching g) → Agree n (repeating f) (repeating g) → (skips returns jumps asserts assumes ifs whiles : Bool) (other p q u v w : Parser Deed) → Agree n
-        (cond skips p (cond returns q (cond jumps u (cond asserts v (cond assumes w (cond ifs (branching f) (cond whiles (repeating f) (cond (same_kind t.kind kind.Id) other refuse))))))))
-        (cond skips p (cond returns q (cond jumps u (cond asserts v (cond assumes w (cond ifs (branching g) (cond whiles (repeating g) (cond (same_kind t.kind kind.Id) other refuse))))))))
-    by_tests x y true b c d e f g o p q u v w = Agree-same n _
-    by_tests x y false true c d e f g o p q u v w = Agree-same n _
-    by_tests x y false false true d e f g o p q u v w = Agree-same n _
-    by_tests x y false false false true e f g o p q u v w = Agree-same n _
-    by_tests x y false false false false true f g o p q u v w = Agree-same n _
-    by_tests x y false false false false false true g o p q u v w = x
-    by_tests x y false false false false false false true o p q u v w = y
-    by_tests x y false false false false false false false o p q u v w = Agree-same n _
+      by_tests : Agree n (branching f) (branching g) → Agree n (repeating f) (repeating g) → (skips returns jumps asserts assumes ifs whiles : Bool) (other p q u v w : Parser Deed) → Agree n
+          (cond skips p (cond returns q (cond jumps u (cond asserts v (cond assumes w (cond ifs (branching f) (cond whiles (repeating f) (cond (same_kind t.kind kind.Id) other refuse))))))))
+          (cond skips p (cond returns q (cond jumps u (cond asserts v (cond assumes w (cond ifs (branching g) (cond whiles (repeating g) (cond (same_kind t.kind kind.Id) other refuse))))))))
+      by_tests x y true b c d e f g o p q u v w = Agree-same n _
+      by_tests x y false true c d e f g o p q u v w = Agree-same n _
+      by_tests x y false false true d e f g o p q u v w = Agree-same n _
+      by_tests x y false false false true e f g o p q u v w = Agree-same n _
+      by_tests x y false false false false true f g o p q u v w = Agree-same n _
+      by_tests x y false false false false false true g o p q u v w = x
+      by_tests x y false false false false false false true o p q u v w = y
+      by_tests x y false false false false false false false o p q u v w = Agree-same n _
 
   deed_step_agrees : (n : ℕ) → Agree n f g → Agree (suc n) (deed_step f) (deed_step g)
   deed_step_agrees n a = record { at = by_list }
     where
-    by_list : (ts : List Tok) → length ts < suc n → deed_step f ts ≡ deed_step g ts
-    by_list [] below = refl
-    by_list (t ∷ ts) below = (deed_agrees n a t).at ts (omega arith)
+      by_list : (ts : List Tok) → length ts < suc n → deed_step f ts ≡ deed_step g ts
+      by_list [] below = refl
+      by_list (t ∷ ts) below = (deed_agrees n a t).at ts (omega arith)
 
   item_agrees : (n : ℕ) → Agree n f g → Agree (suc n) (item_step f) (item_step g)
   item_agrees n a = Agree-bind (Agree-same (suc n) marked) shrinks_marked (λ m. Agree-bind (deed_step_agrees n a) (Strict-Shrinks deed_strict) (λ d. Agree-same (suc n) (give (record { mark = m; deed = d }))))
@@ -114,10 +114,10 @@ module _ (f g : Parser (Block Name Name Name)) (s : Shrinks f) where
 
 pub section_is_step : IsStep section_step
 section_is_step = record {
-    keeps = λ f s u. Shrinks-bind (Strict-Shrinks (item_strict (f tt) (f tt) (s tt))) (λ i. Shrinks-bind (rest_shrinks (f tt) (f tt) (s tt)) (λ k. Shrinks-give (before i k)));
-    local = λ n f g s a u. Agree-Strict-bind (item_agrees (f tt) (g tt) (s tt) n (a tt)) (item_strict (f tt) (f tt) (s tt))
-        (λ i. Agree-bind (rest_agrees (f tt) (g tt) (s tt) n (a tt)) (rest_shrinks (f tt) (f tt) (s tt)) (λ k. Agree-same n (give (before i k))));
-  }
+  keeps = λ f s u. Shrinks-bind (Strict-Shrinks (item_strict (f tt) (f tt) (s tt))) (λ i. Shrinks-bind (rest_shrinks (f tt) (f tt) (s tt)) (λ k. Shrinks-give (before i k)));
+  local = λ n f g s a u. Agree-Strict-bind (item_agrees (f tt) (g tt) (s tt) n (a tt)) (item_strict (f tt) (f tt) (s tt))
+      (λ i. Agree-bind (rest_agrees (f tt) (g tt) (s tt) n (a tt)) (rest_shrinks (f tt) (f tt) (s tt)) (λ k. Agree-same n (give (before i k))));
+}
 
 pub section_is : (ts : List Tok) → section ts ≡ (item_step section >>= λ i. rest_step section >>= λ k. give (before i k)) ts
 unfolding section

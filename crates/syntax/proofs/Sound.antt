@@ -1,19 +1,17 @@
 -- The function that reads statements is sound and complete for the grammar of statements.
-use Rattle.std.proofs.Common.{◌≡◌, ℕ, zero, suc, ◌+◌, ◌<◌, ◌≤◌, Bool, true, false, cond, ◌||◌, ◌&&◌, List, [], ◌∷◌, ◌++◌, length, Option, Some, None, refl, sym, ◌∙◌, ap, arith, rules, ◌⊎◌, inl, inr}
-use Rattle.language.specs.Tree.{Name, Expression, RightSide, Simple, skip, assign, assert, assume, goto, leave, call, Mark, Block, done, one, choose, loop}
-use Rattle.tokens.specs.declared.vocabulary.Kind.{Kind}
+use Rattle.std.proofs.Common.{◌≡◌, Bool, true, false, cond, ◌&&◌, List, [], ◌∷◌, Option, Some, None, refl, ◌⊎◌, inl, inr}
+use Rattle.language.specs.Tree.{Name, Simple, skip, assign, assert, assume, goto, leave, call, Mark, Block, done}
 use Rattle.tokens.specs.declared.vocabulary.Kind.TheVariants as kind
 use Rattle.tokens.specs.Token.{Tok, same_kind}
-use Rattle.syntax.specs.Parser.{Parser, give, refuse, ◌>>=◌, begins, take, fix}
-use Rattle.syntax.specs.Grammar.{Takes, takes, name_at, IsName, is_name, Behind, behind, InParens, in_parens, Many, no_more, one_more, Listed, listed, Perhaps, IsExpression, IsRight, IsMarked, bare, labelled, IsSimple, is_skip, is_return, is_goto, is_assert, is_assume, is_assign, is_call, IsSome, Statements, nothing_more, statement, if_statement, while_statement}
+use Rattle.syntax.specs.Parser.{Parser, give, refuse, ◌>>=◌, begins, take}
+use Rattle.syntax.specs.Grammar.{takes, name_at, IsMarked, bare, labelled, IsSimple, is_skip, is_return, is_goto, is_assert, is_assume, is_assign, is_call, IsSome, Statements, nothing_more, statement, if_statement, while_statement}
 use Rattle.syntax.specs.Trees.{Deed, simple, branch, repeat, Item, before, marked_before}
-use Rattle.syntax.specs.Exact.{name, names, rights, arguments, test, marked, assignment, calling, named, branching, repeating, deed_by, deed_step, starts, starts_here, item_step, rest_step, section_step, section}
-use Rattle.syntax.proofs.KindTests.{same_kind-true, same_kind-is}
-use Rattle.syntax.proofs.Fixes.{both, carried, Between, between, bind_is, Finds, fix_finds}
-use Rattle.syntax.proofs.Expressions.{Stops, take_is, take_finds}
-use Rattle.syntax.proofs.Exactly.{Exactly, Anything, chosen, begins_takes, begins_other, begins_take, NoComma}
-use Rattle.syntax.proofs.Parts.{exactly_name, exactly_names, exactly_rights, exactly_arguments, exactly_test, semicolon_stops}
-use Rattle.syntax.proofs.Sections.{section_is}
+use Rattle.syntax.specs.Exact.{name, names, rights, arguments, test, marked, assignment, calling, named, branching, repeating, deed_by, deed_step, starts_here, item_step, rest_step, section_step, section}
+use Rattle.syntax.proofs.KindTests.{same_kind-true}
+use Rattle.syntax.proofs.Fixes.{carried, between, Finds, fix_finds}
+use Rattle.syntax.proofs.Expressions.{take_finds}
+use Rattle.syntax.proofs.Exactly.{chosen}
+use Rattle.syntax.proofs.Parts.{exactly_name, exactly_names, exactly_rights, exactly_arguments, exactly_test}
 
 -- marks
 marked_at : (t : Tok) (ts : List Tok) (b : Bool) → same_kind t.kind kind.Id && begins kind.Colon ts ≡ b → (m : Mark Name) (rest : List Tok) → cond {A = Option (Mark Name × List Tok)} b ((take kind.Colon >>= λ _. give (record { label = Some (name_at t); at = t.at })) ts) (Some (record { label = None; at = t.at }, t ∷ ts)) ≡ Some (m, rest) → IsMarked (t ∷ ts) m rest
@@ -21,9 +19,9 @@ marked_at t ts true is m rest e =
     let b = between (take kind.Colon) (λ _. give (record { label = Some (name_at t); at = t.at })) ts m rest e in
     carried (λ m rest. IsMarked (t ∷ ts) m rest) b.second (labelled (is_id (same_kind t.kind kind.Id) refl is) (take_finds kind.Colon ts b.x b.us b.first).0)
   where
-  is_id : (c : Bool) → same_kind t.kind kind.Id ≡ c → c && begins kind.Colon ts ≡ true → t.kind ≡ kind.Id
-  is_id true e h = same_kind-true e
-  is_id false e h = cc
+    is_id : (c : Bool) → same_kind t.kind kind.Id ≡ c → c && begins kind.Colon ts ≡ true → t.kind ≡ kind.Id
+    is_id true e h = same_kind-true e
+    is_id false e h = cc
 marked_at t ts false is m rest e = carried (λ m rest. IsMarked (t ∷ ts) m rest) e bare
 
 marked_finds : (ts : List Tok) (m : Mark Name) (rest : List Tok) → marked ts ≡ Some (m, rest) → IsMarked ts m rest
@@ -48,8 +46,8 @@ assignment_finds ts d rest e =
     let f = between rights (λ rs. take kind.Semicolon >>= λ _. give (simple (assign b.x rs))) c.us d rest c.second in
     let g = between (take kind.Semicolon) (λ _. give (simple (assign b.x f.x))) f.us d rest f.second in
     plain_found ts (assign b.x f.x) g.us
-        (is_assign (exactly_names.finds ts b.x b.us b.first) (take_finds kind.Assign b.us c.x c.us c.first).0 (exactly_rights.finds c.us f.x f.us f.first) (take_finds kind.Semicolon f.us g.x g.us g.first).0)
-        d rest g.second
+    (is_assign (exactly_names.finds ts b.x b.us b.first) (take_finds kind.Assign b.us c.x c.us c.first).0 (exactly_rights.finds c.us f.x f.us f.first) (take_finds kind.Semicolon f.us g.x g.us g.first).0)
+    d rest g.second
 
 calling_finds : (ts : List Tok) → FindsDeed calling ts
 unfolding calling
@@ -58,16 +56,16 @@ calling_finds ts d rest e =
     let c = between arguments (λ es. take kind.Semicolon >>= λ _. give (simple (call b.x es))) b.us d rest b.second in
     let f = between (take kind.Semicolon) (λ _. give (simple (call b.x c.x))) c.us d rest c.second in
     plain_found ts (call b.x c.x) f.us
-        (is_call (exactly_name.finds ts b.x b.us b.first) (exactly_arguments.finds b.us c.x c.us c.first) (take_finds kind.Semicolon c.us f.x f.us f.first).0)
-        d rest f.second
+    (is_call (exactly_name.finds ts b.x b.us b.first) (exactly_arguments.finds b.us c.x c.us c.first) (take_finds kind.Semicolon c.us f.x f.us f.first).0)
+    d rest f.second
 
 named_finds : (t : Tok) (ts : List Tok) → (d : Deed) (rest : List Tok) → named t ts ≡ Some (d, rest) → (us : List Tok) (m : Mark Name) → IsMarked us m (t ∷ ts) → (k : Block Name Name Name) (vs : List Tok) → Statements rest k vs → Statements us (marked_before m d k) vs
 unfolding named
 named_finds t ts d rest e = by_choice (chosen (begins kind.Open ts) (calling (t ∷ ts)) (assignment (t ∷ ts)) (Some (d, rest)) e)
   where
-  by_choice : ((begins kind.Open ts ≡ true) × (calling (t ∷ ts) ≡ Some (d, rest))) ⊎ ((begins kind.Open ts ≡ false) × (assignment (t ∷ ts) ≡ Some (d, rest))) → (us : List Tok) (m : Mark Name) → IsMarked us m (t ∷ ts) → (k : Block Name Name Name) (vs : List Tok) → Statements rest k vs → Statements us (marked_before m d k) vs
-  by_choice (inl h) = calling_finds (t ∷ ts) d rest h.1
-  by_choice (inr h) = assignment_finds (t ∷ ts) d rest h.1
+    by_choice : ((begins kind.Open ts ≡ true) × (calling (t ∷ ts) ≡ Some (d, rest))) ⊎ ((begins kind.Open ts ≡ false) × (assignment (t ∷ ts) ≡ Some (d, rest))) → (us : List Tok) (m : Mark Name) → IsMarked us m (t ∷ ts) → (k : Block Name Name Name) (vs : List Tok) → Statements rest k vs → Statements us (marked_before m d k) vs
+    by_choice (inl h) = calling_finds (t ∷ ts) d rest h.1
+    by_choice (inr h) = assignment_finds (t ∷ ts) d rest h.1
 
 -- what reading statements finds
 abbrev Found : Unit {0} → List Tok → Block Name Name Name → List Tok → Type 0
@@ -114,7 +112,7 @@ module _ (f : Unit {0} → Parser (Block Name Name Name)) (sound : Finds Found f
       let b = sound tt c4.us c5.x c5.us c5.first in
       carried (λ d vs. (us : List Tok) (m : Mark Name) → IsMarked us m (t ∷ ts) → (k : Block Name Name Name) (ws : List Tok) → Statements vs k ws → Statements us (marked_before m d k) ws) c6.second
       (λ us m marks k ws more. if_statement marks (takes is) (exactly_test.finds ts c1.x c1.us c1.first) (take_finds kind.Then c1.us c2.x c2.us c2.first).0 a.0 a.1
-          (take_finds kind.Else c3.us c4.x c4.us c4.first).0 b.0 b.1 (take_finds kind.Fi c5.us c6.x c6.us c6.first).0 more)
+      (take_finds kind.Else c3.us c4.x c4.us c4.first).0 b.0 b.1 (take_finds kind.Fi c5.us c6.x c6.us c6.first).0 more)
 
   while_finds : t.kind ≡ kind.While → FindsDeed (λ us. repeating (f tt) ts) (t ∷ ts)
   while_finds is d rest e =
@@ -125,7 +123,7 @@ module _ (f : Unit {0} → Parser (Block Name Name Name)) (sound : Finds Found f
       let a = sound tt c2.us c3.x c3.us c3.first in
       carried (λ d vs. (us : List Tok) (m : Mark Name) → IsMarked us m (t ∷ ts) → (k : Block Name Name Name) (ws : List Tok) → Statements vs k ws → Statements us (marked_before m d k) ws) c4.second
       (λ us m marks k ws more. while_statement marks (takes is) (exactly_test.finds ts c1.x c1.us c1.first) (take_finds kind.Do c1.us c2.x c2.us c2.first).0 a.0 a.1
-          (take_finds kind.Od c3.us c4.x c4.us c4.first).0 more)
+      (take_finds kind.Od c3.us c4.x c4.us c4.first).0 more)
 
   by_tests : (b1 : Bool) → same_kind t.kind kind.Skip ≡ b1 → (b2 : Bool) → same_kind t.kind kind.Return ≡ b2 → (b3 : Bool) → same_kind t.kind kind.Goto ≡ b3 → (b4 : Bool) → same_kind t.kind kind.Assert ≡ b4 → (b5 : Bool) → same_kind t.kind kind.Assume ≡ b5 → (b6 : Bool) → same_kind t.kind kind.If ≡ b6 → (b7 : Bool) → same_kind t.kind kind.While ≡ b7 → (b8 : Bool) → same_kind t.kind kind.Id ≡ b8 →
       FindsDeed (λ us. cond b1 (take kind.Semicolon >>= λ _. give (simple skip))

@@ -1,6 +1,6 @@
 -- What reading the tokens of a text says of the text.
 use Rattle.std.specs.Prelude.{Result, Ok, Err, IfOk, IfErr}
-use Rattle.std.proofs.Common.{◌≡◌, ℕ, ◌≤◌, List, [], length, Option, Some, None, sym, ◌∙◌, ap, inl, inr}
+use Rattle.std.proofs.Common.{◌≡◌, ℕ, ◌≤◌, List, [], length, Some, sym, ◌∙◌, ap, inr}
 use Rattle.std.specs.Str.{IsAscii}
 use Rattle.language.specs.Tree.{Tree}
 use Rattle.tokens.specs.Token.{Tok}
@@ -10,7 +10,6 @@ use Rattle.syntax.specs.declared.fault.ReadFault.{ReadFault}
 use Rattle.syntax.specs.declared.fault.ReadFault.TheVariants as fault
 use Rattle.syntax.specs.declared.tree.Program.{Program}
 use Rattle.syntax.specs.Gives.{Gives, Fails}
-use Rattle.syntax.specs.Grammar.{IsProgram}
 use Rattle.syntax.specs.Exact.{program}
 use Rattle.syntax.specs.Text.{Text, Stands}
 use Rattle.syntax.specs.Trees.{tree_of}

@@ -3,7 +3,7 @@ use Rattle.std.specs.Prelude.{ℕ, ◌<◌, ◌≤◌, ◌⊎◌, List, length}
 use Rattle.std.specs.Str.{IsAscii}
 use Rattle.language.specs.Tree.{Tree}
 use Rattle.tokens.specs.Token.{Tok}
-use Rattle.tokens.specs.Cuts.{Cuts}
+use Rattle.tokens.specs.Cuts.{Cuts, BadAt}
 use Rattle.tokens.specs.Depth.{TooDeep}
 use Rattle.syntax.specs.declared.fault.ReadFault.{ReadFault}
 use Rattle.syntax.specs.declared.fault.ReadFault.TheVariants as fault
@@ -19,10 +19,6 @@ pub record Text (bytes : List ℕ) (tree : Tree) : Type 0 where
   pub shallow : TooDeep tokens → ⊥
   pub program : IsProgram tokens tree
 
--- The bytes are no list of tokens.
-abbrev pub NoTokens : List ℕ → Type 0
-NoTokens bytes = (tokens : List Tok) → Cuts 0 bytes tokens → ⊥
-
 -- The bytes are cut into tokens that are too deep.
 abbrev pub DeepTokens : List ℕ → Type 0
 DeepTokens bytes = (tokens : List Tok) × Cuts 0 bytes tokens × TooDeep tokens
@@ -31,11 +27,20 @@ DeepTokens bytes = (tokens : List Tok) × Cuts 0 bytes tokens × TooDeep tokens
 abbrev pub NoProgram : List ℕ → Type 0
 NoProgram bytes = (tokens : List Tok) × Cuts 0 bytes tokens × (TooDeep tokens → ⊥) × ((tree : Tree) → IsProgram tokens tree → ⊥)
 
--- The fault stands, and none that is tested before it: too many bytes; a byte that is not ASCII; no list of tokens;
--- tokens that are too deep; tokens that are no program. Want of memory may come at any point.
+-- The fault stands, and none that is tested before it: too many bytes; a byte that is not ASCII; a place
+-- up to which the bytes are cut into tokens and where no token begins; tokens that are too deep; tokens that are no
+-- program. Want of memory may come at any point.
 abbrev pub Stands : ReadFault → List ℕ → Type 0
 Stands fault.TooLong bytes = 65536 < length bytes
 Stands fault.NotAscii bytes = (length bytes ≤ 65536) × (IsAscii bytes → ⊥)
-Stands (fault.Syntax at) bytes = (length bytes ≤ 65536) × IsAscii bytes × (NoTokens bytes ⊎ NoProgram bytes)
+Stands (fault.Syntax at) bytes = (length bytes ≤ 65536) × IsAscii bytes × (BadAt 0 bytes at ⊎ NoProgram bytes)
 Stands fault.TooDeep bytes = (length bytes ≤ 65536) × IsAscii bytes × DeepTokens bytes
 Stands fault.Memory bytes = Unit {0}
+
+-- The faults are tested in the order of these numbers, but that the tokens are tested for being a program last.
+abbrev pub number : ReadFault → ℕ
+number fault.TooLong = 1
+number fault.NotAscii = 2
+number (fault.Syntax at) = 3
+number fault.TooDeep = 4
+number fault.Memory = 5

@@ -7,12 +7,11 @@ ghost use Rattle.syntax.specs.Exact.{binds, operand, reading, from};
 ghost use Rattle.syntax.specs.Trees.{operator_of, expr_of};
 ghost use Rattle.tokens.specs.Token.{toks_of};
 
-use std::alloc::Allocator;
-use tokens::{Kind, Token};
-
 use crate::fault::ReadFault;
 use crate::reader::Reader;
 use crate::tree::{Expr, Op};
+use std::alloc::Allocator;
+use tokens::{Kind, Token};
 
 /// How strongly an operator binds.
 fn level_of(op: Op) -> u8
@@ -86,10 +85,7 @@ impl<'a, A: Allocator + Clone> Reader<'a, A> {
     /// Reads a constant, a name, `!` and an operand, or an expression in parentheses.
     #[cycle(expressions)]
     #[tactic(auto, unfolding(crate::specs::Exact::operand, tokens::specs::Token::same_kind))]
-    fn operand<'t>(
-        &self,
-        tokens: &'t [Token<'t>],
-    ) -> Result<(Expr<A>, &'t [Token<'t>]), ReadFault>
+    fn operand<'t>(&self, tokens: &'t [Token<'t>]) -> Result<(Expr<A>, &'t [Token<'t>]), ReadFault>
         ensures gives { Gives (λ p. (expr_of p.0, toks_of p.1.now)) result (operand (toks_of tokens.now)) }
         ensures shorter { IfOk result (λ p. length p.1.now < length tokens.now) }
     {

@@ -3,6 +3,7 @@
 
 mod expression;
 mod fault;
+mod laws;
 mod lists;
 mod program;
 mod reader;
@@ -11,5 +12,9 @@ mod statement;
 mod tree;
 
 pub use fault::ReadFault;
+pub use laws::texts_have_one_tree;
 pub use reading::read;
 pub use tree::{Core, Expr, Name, Op, Proc, Program, Rhs, Stmt, Thread};
+
+#[cfg(test)]
+mod tests;

@@ -6,19 +6,15 @@ ghost use Rattle.syntax.specs.Exact.{right, names, rights, expressions, formals,
 ghost use Rattle.syntax.specs.Trees.{names_of, rhs_of, rhss_of, exprs_of};
 ghost use Rattle.tokens.specs.Token.{toks_of};
 
-use std::alloc::Allocator;
-use tokens::{Kind, Token};
-
 use crate::fault::ReadFault;
 use crate::reader::{Reader, begins};
 use crate::tree::{Expr, Name, Rhs};
+use std::alloc::Allocator;
+use tokens::{Kind, Token};
 
 impl<'a, A: Allocator + Clone> Reader<'a, A> {
     /// Reads `?` or an expression.
-    pub fn right<'t>(
-        &self,
-        tokens: &'t [Token<'t>],
-    ) -> Result<(Rhs<A>, &'t [Token<'t>]), ReadFault>
+    pub fn right<'t>(&self, tokens: &'t [Token<'t>]) -> Result<(Rhs<A>, &'t [Token<'t>]), ReadFault>
         ensures gives { Gives (λ p. (rhs_of p.0, toks_of p.1.now)) result (right (toks_of tokens.now)) }
         ensures shorter { IfOk result (λ p. length p.1.now < length tokens.now) }
     {
@@ -133,10 +129,7 @@ impl<'a, A: Allocator + Clone> Reader<'a, A> {
 
     /// Reads a right side in parentheses.
     #[tactic(auto, unfolding(crate::specs::Exact::test))]
-    pub fn test<'t>(
-        &self,
-        tokens: &'t [Token<'t>],
-    ) -> Result<(Rhs<A>, &'t [Token<'t>]), ReadFault>
+    pub fn test<'t>(&self, tokens: &'t [Token<'t>]) -> Result<(Rhs<A>, &'t [Token<'t>]), ReadFault>
         ensures gives { Gives (λ p. (rhs_of p.0, toks_of p.1.now)) result (test (toks_of tokens.now)) }
         ensures shorter { IfOk result (λ p. length p.1.now < length tokens.now) }
     {

@@ -6,12 +6,11 @@ ghost use Rattle.syntax.specs.Exact.{declaration, all_declarations, insides, pro
 ghost use Rattle.syntax.specs.Trees.{names_of, block_of, proc_of, procs_of, thread_of, threads_of, tree_of};
 ghost use Rattle.tokens.specs.Token.{toks_of};
 
-use std::alloc::Allocator;
-use tokens::{Kind, Token};
-
 use crate::fault::ReadFault;
 use crate::reader::{Reader, begins};
 use crate::tree::{Name, Proc, Program, Stmt, Thread};
+use std::alloc::Allocator;
+use tokens::{Kind, Token};
 
 /// Whether any token comes.
 fn any_left(tokens: &[Token<'_>]) -> bool
@@ -129,10 +128,7 @@ impl<'a, A: Allocator + Clone> Reader<'a, A> {
 
     /// Reads a thread line.
     #[tactic(auto, unfolding(crate::specs::Exact::thread_line))]
-    fn thread<'t>(
-        &self,
-        tokens: &'t [Token<'t>],
-    ) -> Result<(Thread<A>, &'t [Token<'t>]), ReadFault>
+    fn thread<'t>(&self, tokens: &'t [Token<'t>]) -> Result<(Thread<A>, &'t [Token<'t>]), ReadFault>
         ensures gives { Gives (λ p. (thread_of p.0, toks_of p.1.now)) result (thread_line (toks_of tokens.now)) }
         ensures shorter { IfOk result (λ p. length p.1.now < length tokens.now) }
     {

@@ -8,11 +8,10 @@ ghost use Rattle.syntax.specs.Grammar.{name_at};
 ghost use Rattle.syntax.specs.Trees.{name_of};
 ghost use Rattle.tokens.specs.Token.{tok_of, toks_of};
 
-use std::alloc::Allocator;
-use tokens::{Kind, Token};
-
 use crate::fault::ReadFault;
 use crate::tree::Name;
+use std::alloc::Allocator;
+use tokens::{Kind, Token};
 
 /// What all readers share: where trees are allocated, and the length of the text.
 #[derive(Drop)]
@@ -61,10 +60,7 @@ impl<'a, A: Allocator + Clone> Reader<'a, A> {
     }
 
     /// Reads a name.
-    pub fn id<'t>(
-        &self,
-        tokens: &'t [Token<'t>],
-    ) -> Result<(Name<A>, &'t [Token<'t>]), ReadFault>
+    pub fn id<'t>(&self, tokens: &'t [Token<'t>]) -> Result<(Name<A>, &'t [Token<'t>]), ReadFault>
         ensures gives { Gives (λ p. (name_of p.0, toks_of p.1.now)) result (name (toks_of tokens.now)) }
         ensures shorter { IfOk result (λ p. length p.1.now < length tokens.now) }
     {

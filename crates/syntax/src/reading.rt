@@ -6,12 +6,11 @@ ghost use Rattle.syntax.specs.Gives.{Gives};
 ghost use Rattle.syntax.specs.Text.{Text, Stands};
 ghost use Rattle.syntax.specs.Trees.{tree_of};
 
-use std::alloc::Allocator;
-use tokens::{as_ascii, cut, is_too_deep};
-
 use crate::fault::ReadFault;
 use crate::reader::Reader;
 use crate::tree::Program;
+use std::alloc::Allocator;
+use tokens::{as_ascii, cut, is_too_deep};
 
 /// A text has at most so many bytes.
 const LIMIT: usize = 65536;

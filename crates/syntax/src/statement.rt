@@ -6,12 +6,11 @@ ghost use Rattle.syntax.specs.Exact.{marked, assignment, calling, jumping, asser
 ghost use Rattle.syntax.specs.Trees.{name_of, deed_of, item_of, block_of};
 ghost use Rattle.tokens.specs.Token.{tok_of, toks_of};
 
-use std::alloc::Allocator;
-use tokens::{Kind, Token};
-
 use crate::fault::ReadFault;
 use crate::reader::{Reader, begins};
 use crate::tree::{Core, Name, Stmt};
+use std::alloc::Allocator;
+use tokens::{Kind, Token};
 
 /// Whether a statement comes next.
 #[tactic(auto, unfolding(tokens::specs::Token::same_kind))]
@@ -72,10 +71,7 @@ impl<'a, A: Allocator + Clone> Reader<'a, A> {
 
     /// Reads a call.
     #[tactic(auto, unfolding(crate::specs::Exact::calling))]
-    fn calling<'t>(
-        &self,
-        tokens: &'t [Token<'t>],
-    ) -> Result<(Core<A>, &'t [Token<'t>]), ReadFault>
+    fn calling<'t>(&self, tokens: &'t [Token<'t>]) -> Result<(Core<A>, &'t [Token<'t>]), ReadFault>
         ensures gives { Gives (λ p. (deed_of p.0, toks_of p.1.now)) result (calling (toks_of tokens.now)) }
         ensures shorter { IfOk result (λ p. length p.1.now < length tokens.now) }
     {
@@ -86,10 +82,7 @@ impl<'a, A: Allocator + Clone> Reader<'a, A> {
     }
 
     /// Reads a `goto`, behind that word.
-    fn jumping<'t>(
-        &self,
-        tokens: &'t [Token<'t>],
-    ) -> Result<(Core<A>, &'t [Token<'t>]), ReadFault>
+    fn jumping<'t>(&self, tokens: &'t [Token<'t>]) -> Result<(Core<A>, &'t [Token<'t>]), ReadFault>
         ensures gives { Gives (λ p. (deed_of p.0, toks_of p.1.now)) result (jumping (toks_of tokens.now)) }
         ensures shorter { IfOk result (λ p. length p.1.now < length tokens.now) }
     {
@@ -112,10 +105,7 @@ impl<'a, A: Allocator + Clone> Reader<'a, A> {
     }
 
     /// Reads an `assume`, behind that word.
-    fn assuming<'t>(
-        &self,
-        tokens: &'t [Token<'t>],
-    ) -> Result<(Core<A>, &'t [Token<'t>]), ReadFault>
+    fn assuming<'t>(&self, tokens: &'t [Token<'t>]) -> Result<(Core<A>, &'t [Token<'t>]), ReadFault>
         ensures gives { Gives (λ p. (deed_of p.0, toks_of p.1.now)) result (assuming (toks_of tokens.now)) }
         ensures shorter { IfOk result (λ p. length p.1.now < length tokens.now) }
     {
@@ -176,10 +166,7 @@ impl<'a, A: Allocator + Clone> Reader<'a, A> {
     /// Reads what a statement does.
     #[cycle(statements)]
     #[tactic(auto, unfolding(crate::specs::Exact::deed, crate::specs::Exact::if_deed, crate::specs::Exact::while_deed, crate::specs::Exact::named, tokens::specs::Token::same_kind))]
-    fn core<'t>(
-        &self,
-        tokens: &'t [Token<'t>],
-    ) -> Result<(Core<A>, &'t [Token<'t>]), ReadFault>
+    fn core<'t>(&self, tokens: &'t [Token<'t>]) -> Result<(Core<A>, &'t [Token<'t>]), ReadFault>
         ensures gives { Gives (λ p. (deed_of p.0, toks_of p.1.now)) result (deed (toks_of tokens.now)) }
         ensures shorter { IfOk result (λ p. length p.1.now < length tokens.now) }
     {
@@ -203,10 +190,7 @@ impl<'a, A: Allocator + Clone> Reader<'a, A> {
     /// Reads an `if`, behind that word.
     #[cycle(statements)]
     #[tactic(auto, unfolding(crate::specs::Exact::if_deed))]
-    fn branch<'t>(
-        &self,
-        tokens: &'t [Token<'t>],
-    ) -> Result<(Core<A>, &'t [Token<'t>]), ReadFault>
+    fn branch<'t>(&self, tokens: &'t [Token<'t>]) -> Result<(Core<A>, &'t [Token<'t>]), ReadFault>
         ensures gives { Gives (λ p. (deed_of p.0, toks_of p.1.now)) result (if_deed (toks_of tokens.now)) }
         ensures shorter { IfOk result (λ p. length p.1.now < length tokens.now) }
     {
@@ -222,10 +206,7 @@ impl<'a, A: Allocator + Clone> Reader<'a, A> {
     /// Reads a `while`, behind that word.
     #[cycle(statements)]
     #[tactic(auto, unfolding(crate::specs::Exact::while_deed))]
-    fn repeat<'t>(
-        &self,
-        tokens: &'t [Token<'t>],
-    ) -> Result<(Core<A>, &'t [Token<'t>]), ReadFault>
+    fn repeat<'t>(&self, tokens: &'t [Token<'t>]) -> Result<(Core<A>, &'t [Token<'t>]), ReadFault>
         ensures gives { Gives (λ p. (deed_of p.0, toks_of p.1.now)) result (while_deed (toks_of tokens.now)) }
         ensures shorter { IfOk result (λ p. length p.1.now < length tokens.now) }
     {

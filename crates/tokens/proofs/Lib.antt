@@ -6,3 +6,4 @@ pub mod InFront
 pub mod Reached
 pub mod Deep
 pub mod PartsCut
+pub mod OneCut

@@ -32,7 +32,7 @@ start text ascii = record {
 }
 
 -- What is cut behind a gap.
-past_the_gap : (at : ℕ) (bs text rest : List ℕ) (tokens : List Tok) → bs ≡ text ++ rest → IsGap text rest → Cuts at bs tokens → Cuts (at + length text) rest tokens
+pub past_the_gap : (at : ℕ) (bs text rest : List ℕ) (tokens : List Tok) → bs ≡ text ++ rest → IsGap text rest → Cuts at bs tokens → Cuts (at + length text) rest tokens
 past_the_gap at bs text rest tokens e is nothing = absurd (gap_some text rest e is)
 past_the_gap at bs text rest tokens e is (gap other left f also cut) =
     let same : text ≡ other = one_gap text rest other left (sym e ∙ f) is also in
@@ -41,7 +41,7 @@ past_the_gap at bs text rest tokens e is (gap other left f also cut) =
 past_the_gap at bs text rest tokens e is (token k other left f also cut) = absurd (token_no_gap k other left text rest (sym f ∙ e) also is)
 
 -- What is cut behind a token.
-past_the_token : (at : ℕ) (bs : List ℕ) (k : Kind) (text rest : List ℕ) (tokens : List Tok) → bs ≡ text ++ rest → IsToken k text rest → Cuts at bs tokens → (others : List Tok) × (tokens ≡ record { kind = k; at = at; text = text } ∷ others) × Cuts (at + length text) rest others
+pub past_the_token : (at : ℕ) (bs : List ℕ) (k : Kind) (text rest : List ℕ) (tokens : List Tok) → bs ≡ text ++ rest → IsToken k text rest → Cuts at bs tokens → (others : List Tok) × (tokens ≡ record { kind = k; at = at; text = text } ∷ others) × Cuts (at + length text) rest others
 past_the_token at bs k text rest tokens e is nothing = absurd (token_some k text rest e is)
 past_the_token at bs k text rest tokens e is (gap other left f also cut) = absurd (token_no_gap k text rest other left (sym e ∙ f) is also)
 past_the_token at bs k text rest tokens e is (token {tokens = others} j other left f also cut) =
@@ -79,13 +79,13 @@ module _ (text : List ℕ) (so_far : List Tok) (at : ℕ) (bs v w : List ℕ) (e
   }
 
 -- What is bad is not cut.
-uncut : (at : ℕ) (bs : List ℕ) (tokens : List Tok) → IsBad bs → Cuts at bs tokens → ⊥
+pub uncut : (at : ℕ) (bs : List ℕ) (tokens : List Tok) → IsBad bs → Cuts at bs tokens → ⊥
 uncut at bs tokens is nothing = omega (arith, is.some)
 uncut at bs tokens is (gap text rest e also cut) = is.no_gap text rest e also
 uncut at bs tokens is (token k text rest e also cut) = is.no_token k text rest e also
 
 -- Of no bytes no tokens are cut.
-nothing_left : (at : ℕ) (tokens : List Tok) → Cuts at [] tokens → tokens ≡ []
+pub nothing_left : (at : ℕ) (tokens : List Tok) → Cuts at [] tokens → tokens ≡ []
 nothing_left at tokens nothing = refl
 nothing_left at tokens (gap text rest e is cut) = absurd (gap_some text rest e is)
 nothing_left at tokens (token k text rest e is cut) = absurd (token_some k text rest e is)

@@ -1,8 +1,8 @@
 //! A text as a list of tokens.
 
-ghost use Rattle.std.specs.Prelude.{◌≡◌, ◌≤◌, List, length, IfOk, IfErr};
+ghost use Rattle.std.specs.Prelude.{◌≡◌, ◌≤◌, ℕ, List, length, IfOk, IfErr};
 ghost use Rattle.std.specs.Str.{IsAscii};
-ghost use Rattle.tokens.specs.Cuts.{Cuts};
+ghost use Rattle.tokens.specs.Cuts.{Cuts, BadAt};
 ghost use Rattle.tokens.specs.Fault.{NamesPlace, IsUncut};
 ghost use Rattle.tokens.specs.declared.cutting.CutFault.TheVariants.{Memory};
 ghost use Rattle.tokens.specs.Token.{Tok, toks_of};
@@ -60,3 +60,10 @@ pub fn cut<'a, A: Allocator>(alloc: A, text: &'a str) -> Result<Vec<Token<'a>, A
     }
     Ok(tokens)
 }
+
+/// A law: no bytes are cut in two ways, none are both cut and bad, and none are bad in two places.
+pub fn cutting_is_unique()
+    ensures tokens { (at : ℕ) (bytes : List ℕ) (tokens others : List Tok) → Cuts at bytes tokens → Cuts at bytes others → tokens ≡ others }
+    ensures uncut { (at place : ℕ) (bytes : List ℕ) (tokens : List Tok) → BadAt at bytes place → Cuts at bytes tokens → ⊥ }
+    ensures place { (at place other : ℕ) (bytes : List ℕ) → BadAt at bytes place → BadAt at bytes other → place ≡ other }
+{}

@@ -9,7 +9,7 @@ mod text;
 mod vocabulary;
 mod words;
 
-pub use cutting::{CutFault, cut};
+pub use cutting::{CutFault, cut, cutting_is_unique};
 pub use depth::is_too_deep;
 pub use parts::parts_are_cut;
 pub use text::as_ascii;

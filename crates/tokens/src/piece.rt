@@ -68,7 +68,7 @@ pub fn front(text: &str) -> Piece
     if let Some(comment) = bytes.strip_prefix(b"//") {
         return Piece::Gap(2 + line_len(comment));
     }
-    match sign_at_front(text) {
+    match sign_at_front(bytes) {
         Some((kind, length)) => Piece::Word(kind, length),
         None => Piece::Bad,
     }

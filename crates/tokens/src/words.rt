@@ -1,7 +1,6 @@
 //! The words and signs of the language, by their spelling.
 
-ghost use Rattle.std.specs.Prelude.{◌≡◌, ◌≢◌, ◌≤◌, ◌++◌, ◌<◌, ℕ, List, take, length, Some, IfSome, IfNone};
-ghost use Rattle.std.specs.Str.{IsAscii};
+ghost use Rattle.std.specs.Prelude.{◌≡◌, ◌≢◌, ◌≤◌, ◌++◌, ◌<◌, ◌∷◌, [], ℕ, List, take, length, Some, IfSome, IfNone};
 ghost use Rattle.tokens.specs.declared.vocabulary.Kind.{Kind};
 ghost use Rattle.tokens.specs.Cuts.{IsLongestSign};
 ghost use Rattle.tokens.specs.Spelling.{reserved_word, sign, IsWord, AreWordBytes};
@@ -36,26 +35,36 @@ fn reserved(word: &str) -> Option<Kind>
     }
 }
 
-// The sign that is spelled so.
-fn sign(text: &str) -> Option<Kind>
-    ensures some { IfSome result (λ k. sign k ≡ Some text.now) }
-    ensures none { IfNone result ((k : Kind) → sign k ≢ Some text.now) }
+// The sign of one byte.
+fn short_sign(byte: u8) -> Option<Kind>
+    ensures some { IfSome result (λ k. sign k ≡ Some (byte ∷ [])) }
+    ensures none { IfNone result ((k : Kind) → sign k ≢ Some (byte ∷ [])) }
 {
-    match text {
-        "," => Some(Kind::Comma),
-        ";" => Some(Kind::Semicolon),
-        ":" => Some(Kind::Colon),
-        ":=" => Some(Kind::Assign),
-        "(" => Some(Kind::Open),
-        ")" => Some(Kind::Close),
-        "?" => Some(Kind::Any),
-        "=>" => Some(Kind::Implies),
-        "|" => Some(Kind::Or),
-        "^" => Some(Kind::Xor),
-        "&" => Some(Kind::And),
-        "=" => Some(Kind::Equal),
-        "!=" => Some(Kind::Differs),
-        "!" => Some(Kind::Not),
+    match byte {
+        b',' => Some(Kind::Comma),
+        b';' => Some(Kind::Semicolon),
+        b':' => Some(Kind::Colon),
+        b'(' => Some(Kind::Open),
+        b')' => Some(Kind::Close),
+        b'?' => Some(Kind::Any),
+        b'|' => Some(Kind::Or),
+        b'^' => Some(Kind::Xor),
+        b'&' => Some(Kind::And),
+        b'=' => Some(Kind::Equal),
+        b'!' => Some(Kind::Not),
+        _ => None,
+    }
+}
+
+// The sign of two bytes.
+fn long_sign(first: u8, second: u8) -> Option<Kind>
+    ensures some { IfSome result (λ k. sign k ≡ Some (first ∷ second ∷ [])) }
+    ensures none { IfNone result ((k : Kind) → sign k ≢ Some (first ∷ second ∷ [])) }
+{
+    match (first, second) {
+        (b':', b'=') => Some(Kind::Assign),
+        (b'=', b'>') => Some(Kind::Implies),
+        (b'!', b'=') => Some(Kind::Differs),
         _ => None,
     }
 }
@@ -78,20 +87,20 @@ pub fn word_kind(word: &str) -> Option<Kind>
 }
 
 // The longest sign at the front of a text, with its length.
-pub fn sign_at_front(text: &str) -> Option<(Kind, usize)>
-    requires some { 0 < length text.now }
-    requires ascii { IsAscii text.now }
-    ensures within { IfSome result (λ found. found.1 ≤ length text.now) }
-    ensures some { IfSome result (λ found. sign found.0 ≡ Some (take found.1 text.now)) }
-    ensures longest { IfSome result (λ found. IsLongestSign (take found.1 text.now) text.now) }
-    ensures none { IfNone result ((k : Kind) (spelled rest : List ℕ) → sign k ≡ Some spelled → text.now ≢ spelled ++ rest) }
+pub fn sign_at_front(bytes: &[u8]) -> Option<(Kind, usize)>
+    requires { 0 < length bytes.now }
+    ensures within { IfSome result (λ found. found.1 ≤ length bytes.now) }
+    ensures some { IfSome result (λ found. sign found.0 ≡ Some (take found.1 bytes.now)) }
+    ensures longest { IfSome result (λ found. IsLongestSign (take found.1 bytes.now) bytes.now) }
+    ensures none { IfNone result ((k : Kind) (spelled rest : List ℕ) → sign k ≡ Some spelled → bytes.now ≢ spelled ++ rest) }
 {
-    if text.len() >= 2 {
-        if let Some(kind) = sign(&text[..2]) {
+    let first = bytes[0];
+    if bytes.len() >= 2 {
+        if let Some(kind) = long_sign(first, bytes[1]) {
             return Some((kind, 2));
         }
     }
-    match sign(&text[..1]) {
+    match short_sign(first) {
         Some(kind) => Some((kind, 1)),
         None => None,
     }

@@ -1,14 +1,8 @@
-use Rattle.std.proofs.Common.{rules, arith, ◌≡◌, ℕ, ◌≤◌, length, List, [], sym, ap}
+use Rattle.std.proofs.Common.{◌≡◌, List}
 use Rattle.std.specs.Prelude.{IsTrue}
-use Rattle.std.specs.Str.{IsAscii}
 use Rattle.tokens.specs.Token.{Tok, toks_of}
 use Rattle.tokens.specs.Cuts.{Cuts}
 use Rattle.tokens.specs.Depth.{TooDeep}
-use Rattle.language.specs.Tree.{Tree}
-use Rattle.syntax.specs.Gives.{Gives}
-use Rattle.syntax.specs.Exact.{program}
-use Rattle.syntax.specs.Trees.{tree_of}
-use Rattle.syntax.specs.declared.tree.Program.{Program}
 use Rattle.syntax.proofs.Texts.{text_found, text_only, text_fault}
 use Rattle.syntax.proofs.reading.read.Goals as goal
 
@@ -19,7 +13,7 @@ returns-clause-found g c =
     let only : (others : List Tok) → Cuts 0 c.args.bytes.now others → others ≡ toks_of c.in_ok-tokens.tokens.items = λ others h. c.in_ok-tokens.ensures.only others (rw same h) in
     let shallow : TooDeep (toks_of c.in_ok-tokens.tokens.items) → ⊥ = λ deep. let is : IsTrue c.is_too_deep.result = c.is_too_deep.ensures.1 (rw c.deref.ensures.value deep) in let no = c.if-is_too_deep.false in cc in
     text_found g.row.A.Denot c.args.bytes.now (toks_of c.in_ok-tokens.tokens.items) c.if-bytes-gt-LIMIT.false c.in-Some.ensures.ascii cut only shallow
-        c.program.result (rw c.deref-2.ensures.value at c.program.ensures.gives)
+    c.program.result (rw c.deref-2.ensures.value at c.program.ensures.gives)
 
 pub returns-clause-only : goal.returns-clause-only
 returns-clause-only g c =
@@ -28,7 +22,7 @@ returns-clause-only g c =
     let only : (others : List Tok) → Cuts 0 c.args.bytes.now others → others ≡ toks_of c.in_ok-tokens.tokens.items = λ others h. c.in_ok-tokens.ensures.only others (rw same h) in
     let shallow : TooDeep (toks_of c.in_ok-tokens.tokens.items) → ⊥ = λ deep. let is : IsTrue c.is_too_deep.result = c.is_too_deep.ensures.1 (rw c.deref.ensures.value deep) in let no = c.if-is_too_deep.false in cc in
     text_only g.row.A.Denot c.args.bytes.now (toks_of c.in_ok-tokens.tokens.items) c.if-bytes-gt-LIMIT.false c.in-Some.ensures.ascii cut only shallow
-        c.program.result (rw c.deref-2.ensures.value at c.program.ensures.gives)
+    c.program.result (rw c.deref-2.ensures.value at c.program.ensures.gives)
 
 pub returns-clause-fault : goal.returns-clause-fault
 returns-clause-fault g c =
@@ -37,4 +31,4 @@ returns-clause-fault g c =
     let only : (others : List Tok) → Cuts 0 c.args.bytes.now others → others ≡ toks_of c.in_ok-tokens.tokens.items = λ others h. c.in_ok-tokens.ensures.only others (rw same h) in
     let shallow : TooDeep (toks_of c.in_ok-tokens.tokens.items) → ⊥ = λ deep. let is : IsTrue c.is_too_deep.result = c.is_too_deep.ensures.1 (rw c.deref.ensures.value deep) in let no = c.if-is_too_deep.false in cc in
     text_fault g.row.A.Denot c.args.bytes.now (toks_of c.in_ok-tokens.tokens.items) c.if-bytes-gt-LIMIT.false c.in-Some.ensures.ascii cut only shallow
-        c.program.result (rw c.deref-2.ensures.value at c.program.ensures.gives)
+    c.program.result (rw c.deref-2.ensures.value at c.program.ensures.gives)

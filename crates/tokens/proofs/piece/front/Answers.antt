@@ -46,10 +46,11 @@ returns-in-Some-strip_prefix c =
 
 pub returns-in-Some-sign_at_front : goal.returns-in-Some-sign_at_front
 returns-in-Some-sign_at_front c =
-    let found = c.in-Some-sign_at_front.ensures in sign_in_front _ _ _ found.within found.some found.longest
+    let found = c.in-Some-sign_at_front.ensures in
+    rw c.as_bytes-bytes.ensures.value at (sign_in_front _ _ _ found.within found.some found.longest)
 
 pub returns-in-None-sign_at_front : goal.returns-in-None-sign_at_front
 returns-in-None-sign_at_front c =
     let text = c.as_bytes-bytes.ensures.value in
     bad_front _ c.requires.some (rw text at (sym c.is_word_byte.ensures ∙ c.if-is_word_byte.false)) (rw text at (sym c.is_blank.ensures ∙ c.if-is_blank.false))
-    (rw text at (strip_prefix_is Decides-eqb c.as_bytes-bytes.result.now (47 ∷ 47 ∷ []) None c.in_default.ensures.cases)) c.in-None-sign_at_front.ensures.none
+    (rw text at (strip_prefix_is Decides-eqb c.as_bytes-bytes.result.now (47 ∷ 47 ∷ []) None c.in_default.ensures.cases)) (rw text at c.in-None-sign_at_front.ensures.none)

@@ -1,12 +1,10 @@
-use Rattle.std.proofs.Common.{rules, arith, ◌≡◌, ◌<◌, length, List, [], ◌∷◌, ◌++◌, ◌∙◌, ap, sym, Some, None}
+use Rattle.std.proofs.Common.{rules, arith, List, [], ◌∷◌, ◌++◌, ◌∙◌, ap, sym, Some}
 use Rattle.std.proofs.lemmas.Result.{err_from_is_err_and}
-use Rattle.language.specs.Tree.{Name, Block}
 use Rattle.tokens.specs.declared.vocabulary.Kind.TheVariants as kind
-use Rattle.tokens.specs.Token.{Tok, tok_of, toks_of, same_kind}
-use Rattle.syntax.specs.Gives.{Gives}
+use Rattle.tokens.specs.Token.{toks_of}
 use Rattle.syntax.specs.Parser.{take}
-use Rattle.syntax.specs.Exact.{section, item, going_on, put_before, deed, if_deed, while_deed, starts_here}
-use Rattle.syntax.specs.Trees.{Deed, Item, item_of, items_of, deed_of}
+use Rattle.syntax.specs.Exact.{section, going_on, put_before, if_deed, while_deed}
+use Rattle.syntax.specs.Trees.{Deed, Item, item_of, items_of}
 use Rattle.syntax.specs.declared.tree.Stmt.{Stmt}
 use Rattle.syntax.proofs.Exits.{fails_on}
 use Rattle.syntax.proofs.Folds.{deed_of-Skip, deed_of-Return, deed_of-If, deed_of-While}
@@ -18,19 +16,19 @@ pub branch-returns-in_err-others-clause-gives : goal.branch-returns-in_err-other
 branch-returns-in_err-others-clause-gives g t c =
     let p = err_from_is_err_and c.from_residual-in_err-others.result c.from_residual-in_err-others.ensures.1 in
     rw (p.1, p.2) (fails_on _ (take kind.Else (toks_of c.in_ok-yes.between.now)) (if_deed (toks_of c.args.tokens.now))
-        (if_no_else (toks_of c.args.tokens.now) c.in_ok-side.ensures.gives c.in_ok-inside.ensures.gives c.in_ok-yes.ensures.gives) c.in_err-others.ensures.gives)
+    (if_no_else (toks_of c.args.tokens.now) c.in_ok-side.ensures.gives c.in_ok-inside.ensures.gives c.in_ok-yes.ensures.gives) c.in_err-others.ensures.gives)
 
 pub branch-returns-in_err-no-clause-gives : goal.branch-returns-in_err-no-clause-gives
 branch-returns-in_err-no-clause-gives g t c =
     let p = err_from_is_err_and c.from_residual-in_err-no.result c.from_residual-in_err-no.ensures.1 in
     rw (p.1, p.2) (fails_on _ (section (toks_of c.in_ok-others.others.now)) (if_deed (toks_of c.args.tokens.now))
-        (if_no_no (toks_of c.args.tokens.now) c.in_ok-side.ensures.gives c.in_ok-inside.ensures.gives c.in_ok-yes.ensures.gives c.in_ok-others.ensures.gives) c.in_err-no.ensures.gives)
+    (if_no_no (toks_of c.args.tokens.now) c.in_ok-side.ensures.gives c.in_ok-inside.ensures.gives c.in_ok-yes.ensures.gives c.in_ok-others.ensures.gives) c.in_err-no.ensures.gives)
 
 pub branch-returns-in_err-rest-clause-gives : goal.branch-returns-in_err-rest-clause-gives
 branch-returns-in_err-rest-clause-gives g t c =
     let p = err_from_is_err_and c.from_residual-in_err-rest.result c.from_residual-in_err-rest.ensures.1 in
     rw (p.1, p.2) (fails_on _ (take kind.Fi (toks_of c.in_ok-no.ended.now)) (if_deed (toks_of c.args.tokens.now))
-        (if_no_end (toks_of c.args.tokens.now) c.in_ok-side.ensures.gives c.in_ok-inside.ensures.gives c.in_ok-yes.ensures.gives c.in_ok-others.ensures.gives c.in_ok-no.ensures.gives) c.in_err-rest.ensures.gives)
+    (if_no_end (toks_of c.args.tokens.now) c.in_ok-side.ensures.gives c.in_ok-inside.ensures.gives c.in_ok-yes.ensures.gives c.in_ok-others.ensures.gives c.in_ok-no.ensures.gives) c.in_err-rest.ensures.gives)
 
 pub branch-returns-clause-gives : goal.branch-returns-clause-gives
 branch-returns-clause-gives g t c =
@@ -53,7 +51,7 @@ pub repeat-returns-in_err-rest-clause-gives : goal.repeat-returns-in_err-rest-cl
 repeat-returns-in_err-rest-clause-gives g t c =
     let p = err_from_is_err_and c.from_residual-in_err-rest.result c.from_residual-in_err-rest.ensures.1 in
     rw (p.1, p.2) (fails_on _ (take kind.Od (toks_of c.in_ok-body.ended.now)) (while_deed (toks_of c.args.tokens.now))
-        (while_no_end (toks_of c.args.tokens.now) c.in_ok-side.ensures.gives c.in_ok-inside.ensures.gives c.in_ok-body.ensures.gives) c.in_err-rest.ensures.gives)
+    (while_no_end (toks_of c.args.tokens.now) c.in_ok-side.ensures.gives c.in_ok-inside.ensures.gives c.in_ok-body.ensures.gives) c.in_err-rest.ensures.gives)
 
 pub repeat-returns-clause-gives : goal.repeat-returns-clause-gives
 repeat-returns-clause-gives g t c =
@@ -62,17 +60,17 @@ repeat-returns-clause-gives g t c =
 
 pub statements-loop-rest-init : goal.statements-loop-rest-init
 statements-loop-rest-init g t c = record {
-    whole =
-        sections_start (toks_of c.args.tokens.now) (item_of c.in_ok-first.first) (toks_of c.in_ok-first.rest.now) c.in_ok-first.ensures.gives
-        ∙ ap (λ (is : List Item). put_before is (going_on (toks_of c.in_ok-first.rest.now))) (pushed item_of [] c.push.new.self.items c.in_ok-first.first (c.in_ok-push.ensures.items ∙ ap (λ (xs : List (Stmt g.row.A.Denot)). xs ++ (c.in_ok-first.first ∷ [])) c.new-list.ensures.items));
-    shorter = c.in_ok-first.ensures.shorter;
-  }
+  whole =
+      sections_start (toks_of c.args.tokens.now) (item_of c.in_ok-first.first) (toks_of c.in_ok-first.rest.now) c.in_ok-first.ensures.gives
+      ∙ ap (λ (is : List Item). put_before is (going_on (toks_of c.in_ok-first.rest.now))) (pushed item_of [] c.push.new.self.items c.in_ok-first.first (c.in_ok-push.ensures.items ∙ ap (λ (xs : List (Stmt g.row.A.Denot)). xs ++ (c.in_ok-first.first ∷ [])) c.new-list.ensures.items));
+  shorter = c.in_ok-first.ensures.shorter;
+}
 
 pub statements-loop-rest-preserved : goal.statements-loop-rest-preserved
 statements-loop-rest-preserved g t c = record {
-    whole =
-        c.loop-rest.invariant.whole
-        ∙ sections_go_on (items_of c.loop-rest.list.items) (toks_of c.loop-rest.rest.now) (item_of c.in_ok-next.next) (toks_of c.in_ok-next.after.now) (sym c.begins_statement.ensures ∙ c.loop-rest-test.true) c.in_ok-next.ensures.gives
-        ∙ ap (λ (is : List Item). put_before is (going_on (toks_of c.in_ok-next.after.now))) (pushed item_of c.loop-rest.list.items c.push-in-loop-rest.new.self.items c.in_ok-next.next c.in_ok-push-2.ensures.items);
-    shorter = search rules;
-  }
+  whole =
+      c.loop-rest.invariant.whole
+      ∙ sections_go_on (items_of c.loop-rest.list.items) (toks_of c.loop-rest.rest.now) (item_of c.in_ok-next.next) (toks_of c.in_ok-next.after.now) (sym c.begins_statement.ensures ∙ c.loop-rest-test.true) c.in_ok-next.ensures.gives
+      ∙ ap (λ (is : List Item). put_before is (going_on (toks_of c.in_ok-next.after.now))) (pushed item_of c.loop-rest.list.items c.push-in-loop-rest.new.self.items c.in_ok-next.next c.in_ok-push-2.ensures.items);
+  shorter = search rules;
+}

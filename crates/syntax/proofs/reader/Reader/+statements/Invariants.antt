@@ -22,9 +22,9 @@ decreases-repeat g l = 4 * length l.tokens.now + 1
 -- what is read so far, with what is read from here on, is the whole
 abbrev pub invariant-statements-loop-rest : goal.invariant-statements-loop-rest
 invariant-statements-loop-rest g l = record {
-    whole : section (toks_of l.tokens) ≡ put_before (items_of l.list.items) (going_on (toks_of l.rest));
-    shorter : length l.rest < length l.tokens
-  }
+  whole : section (toks_of l.tokens) ≡ put_before (items_of l.list.items) (going_on (toks_of l.rest));
+  shorter : length l.rest < length l.tokens;
+}
 
 abbrev pub decreases-statements-loop-rest : goal.decreases-statements-loop-rest
 decreases-statements-loop-rest g l = length l.rest

@@ -1,4 +1,4 @@
-use Rattle.std.proofs.Common.{rules, arith, ◌≡◌, List, ◌∙◌, ap, sym}
+use Rattle.std.proofs.Common.{arith, List, ◌∙◌, ap, sym}
 use Rattle.language.specs.Tree.{Name}
 use Rattle.syntax.specs.Exact.{prepend, all_declarations}
 use Rattle.syntax.specs.Trees.{name_of, names_of}
@@ -8,10 +8,10 @@ use Rattle.syntax.proofs.reader.Reader.declarations.Goals as goal
 
 pub loop-rest-preserved : goal.loop-rest-preserved
 loop-rest-preserved g c = record {
-    whole =
-        c.loop-rest.invariant.whole
-        ∙ declarations_go_on (names_of c.loop-rest.list.items) (toks_of c.loop-rest.rest.now) (names_of c.in_ok-next.next.items) (toks_of c.in_ok-next.after.now)
-            (sym c.begins.ensures ∙ c.loop-rest-test.true) c.in_ok-next.ensures.gives
-        ∙ ap (λ (xs : List Name). prepend xs (all_declarations (toks_of c.in_ok-next.after.now))) (appended name_of c.loop-rest.list.items c.in_ok-next.next.items c.append.new.self.items c.in_ok-append.ensures.items);
-    no_longer = omega (arith, c.loop-rest.invariant.no_longer, c.in_ok-next.ensures.shorter);
-  }
+  whole =
+      c.loop-rest.invariant.whole
+      ∙ declarations_go_on (names_of c.loop-rest.list.items) (toks_of c.loop-rest.rest.now) (names_of c.in_ok-next.next.items) (toks_of c.in_ok-next.after.now)
+      (sym c.begins.ensures ∙ c.loop-rest-test.true) c.in_ok-next.ensures.gives
+      ∙ ap (λ (xs : List Name). prepend xs (all_declarations (toks_of c.in_ok-next.after.now))) (appended name_of c.loop-rest.list.items c.in_ok-next.next.items c.append.new.self.items c.in_ok-append.ensures.items);
+  no_longer = omega (arith, c.loop-rest.invariant.no_longer, c.in_ok-next.ensures.shorter);
+}
