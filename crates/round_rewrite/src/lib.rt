@@ -1,0 +1,2 @@
+//! The rewriting of a concurrent Boolean program into a sequential one, for a number of rounds.
+#![tactic(auto)]
