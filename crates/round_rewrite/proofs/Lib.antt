@@ -1,3 +1,5 @@
 pub mod Texts
 pub mod Plain
 pub mod Blocks
+pub mod Laid
+pub mod Translate

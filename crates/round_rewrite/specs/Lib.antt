@@ -1,3 +1,4 @@
 pub mod Table
 pub mod Places
 pub mod Names
+pub mod Scoped
