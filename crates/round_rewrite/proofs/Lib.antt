@@ -3,3 +3,5 @@ pub mod Plain
 pub mod Blocks
 pub mod Laid
 pub mod Translate
+pub mod Leading
+pub mod Assigned
