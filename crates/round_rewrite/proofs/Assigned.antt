@@ -8,7 +8,7 @@ use Rattle.language.specs.Step.{Frame, frame, State, state}
 use Rattle.round_rewrite.specs.Table.{Naming, numbers, plain, at, expression, side, written, rounds, targets, sides, draws, each, drawing, statement}
 use Rattle.round_rewrite.specs.Places.{places, is_global, bits_at}
 use Rattle.round_rewrite.specs.Scoped.{PlaceInScope, PlacesInScope, SideInScope, SidesInScope}
-use Rattle.round_rewrite.proofs.Laid.{row, with_row, row_bit, row_with, with_own, with_right, length-with, length-with_row, long-with_row, long_row, bit_right, bits_of, lay, Shape}
+use Rattle.round_rewrite.proofs.Laid.{row, with_row, row_bit, row_with, with_own, with_right, with_left, length-with, length-with_row, long-with_row, long_row, bit_right, bits_of, lay, Shape}
 use Rattle.round_rewrite.proofs.Translate.{same, same_refl, same_false, at_is, expression_is}
 use Rattle.round_rewrite.proofs.Plain.{World, PlainSteps, PlainAfter}
 use Rattle.round_rewrite.proofs.Leading.{Leads, Never, unstep}
@@ -177,3 +177,120 @@ module _ (n last own : ℕ) (C S : List (List Bool)) (q : ℕ) (s b : Bool) (sha
       or_false : (x : Bool) → (x || false) ≡ x
       or_false true = refl
       or_false false = refl
+
+  copies_of : ℕ → List ℕ → List Place
+  copies_of i ks = map (λ k. global (k * n + i)) ks
+
+  locals_skip : (i : ℕ) (v : Bool) (ks : List ℕ) (ts : List Place) (ws L : List Bool) → written_locals (copies_of i ks ++ ts) (map (spread i v) ks ++ ws) L ≡ written_locals ts ws L
+  unfolding copies_of
+  locals_skip i v [] ts ws L = refl
+  locals_skip i v (k ∷ ks) ts ws L = locals_skip i v ks ts ws L
+
+  spread_past : (h : List Bool) (i : ℕ) (v : Bool) (k m : ℕ) (ts : List Place) (ws : List Bool) → length h ≡ n → i < n → q < k → k + m ≤ suc last → written_globals (copies_of i (numbers k m) ++ ts) (map (spread i v) (numbers k m) ++ ws) (lay (with_row C q h) S (bits_of q s b)) ≡ written_globals ts ws (lay (with_row C q h) S (bits_of q s b))
+  unfolding copies_of
+  spread_past h i v k zero ts ws eh hi past end = refl
+  spread_past h i v k (suc m) ts ws eh hi past end =
+      ap (written_globals (copies_of i (numbers (suc k) m) ++ ts) (map (spread i v) (numbers (suc k) m) ++ ws)) ((spread_one h i v k eh hi (omega arith)).1 (omega arith))
+      ∙ spread_past h i v (suc k) m ts ws eh hi (omega arith) (omega arith)
+
+  spread_upto : (h : List Bool) (i : ℕ) (v : Bool) (k m : ℕ) (ts : List Place) (ws : List Bool) → length h ≡ n → i < n → k ≤ q → q < k + m → k + m ≤ suc last → written_globals (copies_of i (numbers k m) ++ ts) (map (spread i v) (numbers k m) ++ ws) (lay (with_row C q h) S (bits_of q s b)) ≡ written_globals ts ws (lay (with_row C q (with_bit h i v)) S (bits_of q s b))
+  unfolding copies_of
+  spread_upto h i v k zero ts ws eh hi le lt end = absurd (omega arith)
+  spread_upto h i v k (suc m) ts ws eh hi le lt end = elim (cases_eq k q) [
+      | inl e ↦
+          ap (written_globals (copies_of i (numbers (suc k) m) ++ ts) (map (spread i v) (numbers (suc k) m) ++ ws)) ((spread_one h i v k eh hi (omega arith)).0 e)
+          ∙ spread_past (with_bit h i v) i v (suc k) m ts ws (length-with h i v ∙ eh) hi (omega arith) (omega arith)
+      | inr ne ↦
+          ap (written_globals (copies_of i (numbers (suc k) m) ++ ts) (map (spread i v) (numbers (suc k) m) ++ ws)) ((spread_one h i v k eh hi (omega arith)).1 ne)
+          ∙ spread_upto h i v (suc k) m ts ws eh hi (omega arith) (omega arith) (omega arith)
+    ]
+
+  spread_all : List Place → List (RightSide Place) → List Bool → List Bool
+  spread_all [] rs vs = []
+  spread_all (x ∷ xs) [] vs = []
+  spread_all (x ∷ xs) (r ∷ rs) [] = []
+  spread_all (global i ∷ xs) (r ∷ rs) (v ∷ vs) = map (spread i v) (numbers 0 (suc last)) ++ spread_all xs rs vs
+  spread_all (local i ∷ xs) (r ∷ rs) (v ∷ vs) = v ∷ spread_all xs rs vs
+
+  drawn_is : (j : ℕ) → look_up X (l ++ tmp) (local (own + j)) ≡ bit tmp j
+  drawn_is j = bit_right l tmp (own + j) j (ap (λ z. z + j) (sym el))
+
+  expr_is : (e : Expression Place) → Rattle.round_rewrite.specs.Scoped.InScope n own e → value_of X (l ++ tmp) (expression (places n last own) last e) ≡ value_of (row C q) l e
+  unfolding X
+  expr_is e h = expression_is n last own C S q s b (l ++ tmp) shape small within l tmp refl el e h
+
+  sides_are : (j : ℕ) (xs : List Place) (rs : List (RightSide Place)) (vs : List Bool) → AreValues (row C q) l rs vs → Picked j xs rs vs tmp → PlacesInScope n own xs → SidesInScope n own rs → AreValues X (l ++ tmp) (sides (places n last own) last j xs rs) (spread_all xs rs vs)
+  unfolding spread_all
+  sides_are j [] rs vs a p hx hr = tt
+  sides_are j (x ∷ xs) [] vs a p hx hr = tt
+  sides_are j (x ∷ xs) (r ∷ rs) [] a p hx hr = absurd a
+  sides_are j (global i ∷ xs) (any ∷ rs) (v ∷ vs) a p hx hr =
+      spread_are (var (local (own + j))) v i hx.0 (drawn_is j ∙ p.0) (numbers 0 (suc last)) all_below _ _ (sides_are (suc j) xs rs vs a.1 p.1 hx.1 hr.1)
+  sides_are j (global i ∷ xs) (value e ∷ rs) (v ∷ vs) a p hx hr =
+      spread_are (expression (places n last own) last e) v i hx.0 (expr_is e hr.0 ∙ sym a.0) (numbers 0 (suc last)) all_below _ _ (sides_are j xs rs vs a.1 p hx.1 hr.1)
+  sides_are j (local i ∷ xs) (any ∷ rs) (v ∷ vs) a p hx hr = (tt, sides_are j xs rs vs a.1 p hx.1 hr.1)
+  sides_are j (local i ∷ xs) (value e ∷ rs) (v ∷ vs) a p hx hr = (a.0 ∙ sym (expr_is e hr.0), sides_are j xs rs vs a.1 p hx.1 hr.1)
+
+  sides_back : (j : ℕ) (xs : List Place) (rs : List (RightSide Place)) (ws : List Bool) → PlacesInScope n own xs → SidesInScope n own rs → AreValues X (l ++ tmp) (sides (places n last own) last j xs rs) ws → (vs : List Bool) × AreValues (row C q) l rs vs × (ws ≡ spread_all xs rs vs)
+  unfolding spread_all
+  sides_back j [] rs [] hx hr a = let (vs, h) = some_values (row C q) l rs in (vs, h, refl)
+  sides_back j [] rs (w ∷ ws) hx hr a = absurd a
+  sides_back j (x ∷ xs) [] [] hx hr a = ([], tt, refl)
+  sides_back j (x ∷ xs) [] (w ∷ ws) hx hr a = absurd a
+  sides_back j (global i ∷ xs) (any ∷ rs) ws hx hr a =
+      let (us, e, h) = spread_back (var (local (own + j))) (bit tmp j) i hx.0 (drawn_is j) (numbers 0 (suc last)) all_below _ ws a in
+      let (vs, hv, ev) = sides_back (suc j) xs rs us hx.1 hr.1 h in
+      (bit tmp j ∷ vs, (tt, hv), e ∙ ap (λ z. map (spread i (bit tmp j)) (numbers 0 (suc last)) ++ z) ev)
+  sides_back j (global i ∷ xs) (value e ∷ rs) ws hx hr a =
+      let (us, e1, h) = spread_back (expression (places n last own) last e) (value_of (row C q) l e) i hx.0 (expr_is e hr.0) (numbers 0 (suc last)) all_below _ ws a in
+      let (vs, hv, ev) = sides_back j xs rs us hx.1 hr.1 h in
+      (value_of (row C q) l e ∷ vs, (refl, hv), e1 ∙ ap (λ z. map (spread i (value_of (row C q) l e)) (numbers 0 (suc last)) ++ z) ev)
+  sides_back j (local i ∷ xs) (any ∷ rs) [] hx hr a = absurd a
+  sides_back j (local i ∷ xs) (any ∷ rs) (w ∷ ws) hx hr a =
+      let (vs, hv, ev) = sides_back j xs rs ws hx.1 hr.1 a.1 in
+      (w ∷ vs, (tt, hv), ap (λ z. w ∷ z) ev)
+  sides_back j (local i ∷ xs) (value e ∷ rs) [] hx hr a = absurd a
+  sides_back j (local i ∷ xs) (value e ∷ rs) (w ∷ ws) hx hr a =
+      let (vs, hv, ev) = sides_back j xs rs ws hx.1 hr.1 a.1 in
+      (w ∷ vs, (a.0 ∙ expr_is e hr.0, hv), ap (λ z. w ∷ z) ev)
+
+  writes : (xs : List Place) (rs : List (RightSide Place)) (vs h : List Bool) → AreValues (row C q) l rs vs → PlacesInScope n own xs → length h ≡ n → written_globals (targets (places n last own) last xs rs) (spread_all xs rs vs) (lay (with_row C q h) S (bits_of q s b)) ≡ lay (with_row C q (written_globals xs vs h)) S (bits_of q s b)
+  unfolding spread_all copies_of
+  writes [] rs vs h a hx eh = refl
+  writes (x ∷ xs) [] [] h a hx eh = refl
+  writes (x ∷ xs) [] (v ∷ vs) h a hx eh = absurd a
+  writes (x ∷ xs) (r ∷ rs) [] h a hx eh = absurd a
+  writes (global i ∷ xs) (r ∷ rs) (v ∷ vs) h a hx eh =
+      spread_upto h i v 0 (suc last) (targets (places n last own) last xs rs) (spread_all xs rs vs) eh hx.0 (omega arith) (omega arith) (omega arith)
+      ∙ writes xs rs vs (with_bit h i v) a.1 hx.1 (length-with h i v ∙ eh)
+  writes (local i ∷ xs) (r ∷ rs) (v ∷ vs) h a hx eh = writes xs rs vs h a.1 hx.1 eh
+
+  writes_locals : (xs : List Place) (rs : List (RightSide Place)) (vs l' : List Bool) → AreValues (row C q) l rs vs → PlacesInScope n own xs → length l' ≡ own → written_locals (targets (places n last own) last xs rs) (spread_all xs rs vs) (l' ++ tmp) ≡ written_locals xs vs l' ++ tmp
+  unfolding spread_all copies_of
+  writes_locals [] rs vs l' a hx eh = refl
+  writes_locals (x ∷ xs) [] [] l' a hx eh = refl
+  writes_locals (x ∷ xs) [] (v ∷ vs) l' a hx eh = absurd a
+  writes_locals (x ∷ xs) (r ∷ rs) [] l' a hx eh = absurd a
+  writes_locals (global i ∷ xs) (r ∷ rs) (v ∷ vs) l' a hx eh =
+      locals_skip i v (numbers 0 (suc last)) (targets (places n last own) last xs rs) (spread_all xs rs vs) (l' ++ tmp)
+      ∙ writes_locals xs rs vs l' a.1 hx.1 eh
+  writes_locals (local i ∷ xs) (r ∷ rs) (v ∷ vs) l' a hx eh =
+      ap (written_locals (targets (places n last own) last xs rs) (spread_all xs rs vs)) (with_left l' tmp i v (let z : length l' ≡ own = eh in let z' : i < own = hx.0 in omega arith))
+      ∙ writes_locals xs rs vs (with_bit l' i v) a.1 hx.1 (length-with l' i v ∙ eh)
+
+pub length-written_globals : (xs : List Place) (vs g : List Bool) → length (written_globals xs vs g) ≡ length g
+length-written_globals [] vs g = refl
+length-written_globals (x ∷ xs) [] g = refl
+length-written_globals (global i ∷ xs) (v ∷ vs) g = length-written_globals xs vs (with_bit g i v) ∙ length-with g i v
+length-written_globals (local i ∷ xs) (v ∷ vs) g = length-written_globals xs vs g
+
+pub length-written_locals : (xs : List Place) (vs l : List Bool) → length (written_locals xs vs l) ≡ length l
+length-written_locals [] vs l = refl
+length-written_locals (x ∷ xs) [] l = refl
+length-written_locals (global i ∷ xs) (v ∷ vs) l = length-written_locals xs vs l
+length-written_locals (local i ∷ xs) (v ∷ vs) l = length-written_locals xs vs (with_bit l i v) ∙ length-with l i v
+
+pub with-own_row : (C : List (List Bool)) (k : ℕ) → with_row C k (row C k) ≡ C
+with-own_row [] k = refl
+with-own_row (r ∷ C) zero = refl
+with-own_row (r ∷ C) (suc k) = ap (λ z. r ∷ z) (with-own_row C k)
