@@ -5,3 +5,4 @@ pub mod Laid
 pub mod Translate
 pub mod Leading
 pub mod Assigned
+pub mod Frames
