@@ -6,3 +6,4 @@ pub mod Translate
 pub mod Leading
 pub mod Assigned
 pub mod Frames
+pub mod Prologue
