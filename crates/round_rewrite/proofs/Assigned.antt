@@ -53,7 +53,7 @@ drawn_to zero j ts tmp = tmp
 drawn_to (suc d) j [] tmp = tmp
 drawn_to (suc d) j (t ∷ ts) tmp = drawn_to d (suc j) ts (with_bit tmp j t)
 
-length-drawn : (d j : ℕ) (ts tmp : List Bool) → length (drawn_to d j ts tmp) ≡ length tmp
+pub length-drawn : (d j : ℕ) (ts tmp : List Bool) → length (drawn_to d j ts tmp) ≡ length tmp
 length-drawn zero j ts tmp = refl
 length-drawn (suc d) j [] tmp = refl
 length-drawn (suc d) j (t ∷ ts) tmp = length-drawn d (suc j) ts (with_bit tmp j t) ∙ length-with tmp j t
@@ -64,7 +64,7 @@ bit-drawn (suc d) j [] tmp i h = refl
 bit-drawn (suc d) j (t ∷ ts) tmp i h = bit-drawn d (suc j) ts (with_bit tmp j t) i (omega arith) ∙ bit-with_other tmp j i t (omega arith)
 
 -- the values of the `?` with a global target
-picks : List Place → List (RightSide Place) → List Bool → List Bool
+pub picks : List Place → List (RightSide Place) → List Bool → List Bool
 picks [] rs vs = []
 picks (x ∷ xs) [] vs = []
 picks (x ∷ xs) (r ∷ rs) [] = []
@@ -74,7 +74,7 @@ picks (local i ∷ xs) (any ∷ rs) (v ∷ vs) = picks xs rs vs
 picks (local i ∷ xs) (value e ∷ rs) (v ∷ vs) = picks xs rs vs
 
 -- the temporaries from j on have those values
-abbrev Picked : ℕ → List Place → List (RightSide Place) → List Bool → List Bool → Type 0
+abbrev pub Picked : ℕ → List Place → List (RightSide Place) → List Bool → List Bool → Type 0
 Picked j [] rs vs tmp = Unit {0}
 Picked j (x ∷ xs) [] vs tmp = Unit {0}
 Picked j (x ∷ xs) (r ∷ rs) [] tmp = Unit {0}
@@ -83,7 +83,7 @@ Picked j (global i ∷ xs) (value e ∷ rs) (v ∷ vs) tmp = Picked j xs rs vs t
 Picked j (local i ∷ xs) (any ∷ rs) (v ∷ vs) tmp = Picked j xs rs vs tmp
 Picked j (local i ∷ xs) (value e ∷ rs) (v ∷ vs) tmp = Picked j xs rs vs tmp
 
-picked : (g l : List Bool) (j : ℕ) (xs : List Place) (rs : List (RightSide Place)) (vs tmp : List Bool) → AreValues g l rs vs → j + draws is_global xs rs ≤ length tmp → Picked j xs rs vs (drawn_to (draws is_global xs rs) j (picks xs rs vs) tmp)
+pub picked : (g l : List Bool) (j : ℕ) (xs : List Place) (rs : List (RightSide Place)) (vs tmp : List Bool) → AreValues g l rs vs → j + draws is_global xs rs ≤ length tmp → Picked j xs rs vs (drawn_to (draws is_global xs rs) j (picks xs rs vs) tmp)
 unfolding picks
 picked g l j [] rs vs tmp a h = tt
 picked g l j (x ∷ xs) [] vs tmp a h = tt
@@ -97,7 +97,7 @@ picked g l j (global i ∷ xs) (value e ∷ rs) (v ∷ vs) tmp a h = picked g l 
 picked g l j (local i ∷ xs) (any ∷ rs) (v ∷ vs) tmp a h = picked g l j xs rs vs tmp a.1 h
 picked g l j (local i ∷ xs) (value e ∷ rs) (v ∷ vs) tmp a h = picked g l j xs rs vs tmp a.1 h
 
-any_are : (X L g l : List Bool) (j : ℕ) (xs : List Place) (rs : List (RightSide Place)) (vs : List Bool) → AreValues g l rs vs → AreValues X L (each any (numbers j (draws is_global xs rs))) (picks xs rs vs)
+pub any_are : (X L g l : List Bool) (j : ℕ) (xs : List Place) (rs : List (RightSide Place)) (vs : List Bool) → AreValues g l rs vs → AreValues X L (each any (numbers j (draws is_global xs rs))) (picks xs rs vs)
 unfolding picks
 any_are X L g l j [] rs vs a = tt
 any_are X L g l j (x ∷ xs) [] vs a = tt
@@ -107,7 +107,7 @@ any_are X L g l j (global i ∷ xs) (value e ∷ rs) (v ∷ vs) a = any_are X L 
 any_are X L g l j (local i ∷ xs) (any ∷ rs) (v ∷ vs) a = any_are X L g l j xs rs vs a.1
 any_are X L g l j (local i ∷ xs) (value e ∷ rs) (v ∷ vs) a = any_are X L g l j xs rs vs a.1
 
-drawn_writes : (X l tmp : List Bool) (own d j : ℕ) (ts : List Bool) → length l ≡ own → (written_globals (map (λ k. local (own + k)) (numbers j d)) ts X ≡ X) × (written_locals (map (λ k. local (own + k)) (numbers j d)) ts (l ++ tmp) ≡ l ++ drawn_to d j ts tmp)
+pub drawn_writes : (X l tmp : List Bool) (own d j : ℕ) (ts : List Bool) → length l ≡ own → (written_globals (map (λ k. local (own + k)) (numbers j d)) ts X ≡ X) × (written_locals (map (λ k. local (own + k)) (numbers j d)) ts (l ++ tmp) ≡ l ++ drawn_to d j ts tmp)
 drawn_writes X l tmp own zero j ts e = (refl, refl)
 drawn_writes X l tmp own (suc d) j [] e = (refl, refl)
 drawn_writes X l tmp own (suc d) j (t ∷ ts) e =
@@ -116,7 +116,7 @@ drawn_writes X l tmp own (suc d) j (t ∷ ts) e =
 
 module _ (n last own : ℕ) (C S : List (List Bool)) (q : ℕ) (s b : Bool) (shape : Shape n last C S) (small : last < 4) (within : q ≤ last) (l tmp : List Bool) (el : length l ≡ own) where
 
-  X : List Bool
+  abbrev pub X : List Bool
   X = lay C S (bits_of q s b)
 
   -- what the copy of global i for round k gets where it gets v
@@ -124,7 +124,7 @@ module _ (n last own : ℕ) (C S : List (List Bool)) (q : ℕ) (s b : Bool) (sha
   spread i v k = (same k q && v) || (not (same k q) && bit (row C k) i)
 
   written_is : (d : Expression Place) (v : Bool) (i k : ℕ) → i < n → k ≤ last → value_of X (l ++ tmp) d ≡ v → (u : Bool) → IsValue X (l ++ tmp) (written (places n last own) last d (global i) k) u ≡ (u ≡ spread i v k)
-  unfolding X spread
+  unfolding spread
   written_is d v i k hi hk ed u =
       let e : value_of (lay C S (bits_of q s b)) (l ++ tmp) (at (places n last own) last k) ≡ same k q = at_is n last own C S q s b (l ++ tmp) shape small within k hk in
       let c : bit (lay C S (bits_of q s b)) (k * n + i) ≡ bit (row C k) i = row_bit n C _ k i shape.copies (let z : length C ≡ suc last = shape.rounds in omega arith) hi in
@@ -205,7 +205,7 @@ module _ (n last own : ℕ) (C S : List (List Bool)) (q : ℕ) (s b : Bool) (sha
           ∙ spread_upto h i v (suc k) m ts ws eh hi (omega arith) (omega arith) (omega arith)
     ]
 
-  spread_all : List Place → List (RightSide Place) → List Bool → List Bool
+  pub spread_all : List Place → List (RightSide Place) → List Bool → List Bool
   spread_all [] rs vs = []
   spread_all (x ∷ xs) [] vs = []
   spread_all (x ∷ xs) (r ∷ rs) [] = []
@@ -216,10 +216,9 @@ module _ (n last own : ℕ) (C S : List (List Bool)) (q : ℕ) (s b : Bool) (sha
   drawn_is j = bit_right l tmp (own + j) j (ap (λ z. z + j) (sym el))
 
   expr_is : (e : Expression Place) → Rattle.round_rewrite.specs.Scoped.InScope n own e → value_of X (l ++ tmp) (expression (places n last own) last e) ≡ value_of (row C q) l e
-  unfolding X
   expr_is e h = expression_is n last own C S q s b (l ++ tmp) shape small within l tmp refl el e h
 
-  sides_are : (j : ℕ) (xs : List Place) (rs : List (RightSide Place)) (vs : List Bool) → AreValues (row C q) l rs vs → Picked j xs rs vs tmp → PlacesInScope n own xs → SidesInScope n own rs → AreValues X (l ++ tmp) (sides (places n last own) last j xs rs) (spread_all xs rs vs)
+  pub sides_are : (j : ℕ) (xs : List Place) (rs : List (RightSide Place)) (vs : List Bool) → AreValues (row C q) l rs vs → Picked j xs rs vs tmp → PlacesInScope n own xs → SidesInScope n own rs → AreValues X (l ++ tmp) (sides (places n last own) last j xs rs) (spread_all xs rs vs)
   unfolding spread_all
   sides_are j [] rs vs a p hx hr = tt
   sides_are j (x ∷ xs) [] vs a p hx hr = tt
@@ -231,7 +230,7 @@ module _ (n last own : ℕ) (C S : List (List Bool)) (q : ℕ) (s b : Bool) (sha
   sides_are j (local i ∷ xs) (any ∷ rs) (v ∷ vs) a p hx hr = (tt, sides_are j xs rs vs a.1 p hx.1 hr.1)
   sides_are j (local i ∷ xs) (value e ∷ rs) (v ∷ vs) a p hx hr = (a.0 ∙ sym (expr_is e hr.0), sides_are j xs rs vs a.1 p hx.1 hr.1)
 
-  sides_back : (j : ℕ) (xs : List Place) (rs : List (RightSide Place)) (ws : List Bool) → PlacesInScope n own xs → SidesInScope n own rs → AreValues X (l ++ tmp) (sides (places n last own) last j xs rs) ws → (vs : List Bool) × AreValues (row C q) l rs vs × (ws ≡ spread_all xs rs vs)
+  pub sides_back : (j : ℕ) (xs : List Place) (rs : List (RightSide Place)) (ws : List Bool) → PlacesInScope n own xs → SidesInScope n own rs → AreValues X (l ++ tmp) (sides (places n last own) last j xs rs) ws → (vs : List Bool) × AreValues (row C q) l rs vs × (ws ≡ spread_all xs rs vs)
   unfolding spread_all
   sides_back j [] rs [] hx hr a = let (vs, h) = some_values (row C q) l rs in (vs, h, refl)
   sides_back j [] rs (w ∷ ws) hx hr a = absurd a
@@ -254,7 +253,7 @@ module _ (n last own : ℕ) (C S : List (List Bool)) (q : ℕ) (s b : Bool) (sha
       let (vs, hv, ev) = sides_back j xs rs ws hx.1 hr.1 a.1 in
       (w ∷ vs, (a.0 ∙ expr_is e hr.0, hv), ap (λ z. w ∷ z) ev)
 
-  writes : (xs : List Place) (rs : List (RightSide Place)) (vs h : List Bool) → AreValues (row C q) l rs vs → PlacesInScope n own xs → length h ≡ n → written_globals (targets (places n last own) last xs rs) (spread_all xs rs vs) (lay (with_row C q h) S (bits_of q s b)) ≡ lay (with_row C q (written_globals xs vs h)) S (bits_of q s b)
+  pub writes : (xs : List Place) (rs : List (RightSide Place)) (vs h : List Bool) → AreValues (row C q) l rs vs → PlacesInScope n own xs → length h ≡ n → written_globals (targets (places n last own) last xs rs) (spread_all xs rs vs) (lay (with_row C q h) S (bits_of q s b)) ≡ lay (with_row C q (written_globals xs vs h)) S (bits_of q s b)
   unfolding spread_all copies_of
   writes [] rs vs h a hx eh = refl
   writes (x ∷ xs) [] [] h a hx eh = refl
@@ -265,7 +264,7 @@ module _ (n last own : ℕ) (C S : List (List Bool)) (q : ℕ) (s b : Bool) (sha
       ∙ writes xs rs vs (with_bit h i v) a.1 hx.1 (length-with h i v ∙ eh)
   writes (local i ∷ xs) (r ∷ rs) (v ∷ vs) h a hx eh = writes xs rs vs h a.1 hx.1 eh
 
-  writes_locals : (xs : List Place) (rs : List (RightSide Place)) (vs l' : List Bool) → AreValues (row C q) l rs vs → PlacesInScope n own xs → length l' ≡ own → written_locals (targets (places n last own) last xs rs) (spread_all xs rs vs) (l' ++ tmp) ≡ written_locals xs vs l' ++ tmp
+  pub writes_locals : (xs : List Place) (rs : List (RightSide Place)) (vs l' : List Bool) → AreValues (row C q) l rs vs → PlacesInScope n own xs → length l' ≡ own → written_locals (targets (places n last own) last xs rs) (spread_all xs rs vs) (l' ++ tmp) ≡ written_locals xs vs l' ++ tmp
   unfolding spread_all copies_of
   writes_locals [] rs vs l' a hx eh = refl
   writes_locals (x ∷ xs) [] [] l' a hx eh = refl

@@ -7,3 +7,4 @@ pub mod Leading
 pub mod Assigned
 pub mod Frames
 pub mod Prologue
+pub mod Drawing
