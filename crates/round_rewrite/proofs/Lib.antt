@@ -8,3 +8,4 @@ pub mod Assigned
 pub mod Frames
 pub mod Prologue
 pub mod Drawing
+pub mod Forward
