@@ -9,3 +9,4 @@ pub mod Frames
 pub mod Prologue
 pub mod Drawing
 pub mod Forward
+pub mod Backward
