@@ -10,3 +10,4 @@ pub mod Prologue
 pub mod Drawing
 pub mod Forward
 pub mod Backward
+pub mod Turns
