@@ -11,3 +11,4 @@ pub mod Drawing
 pub mod Forward
 pub mod Backward
 pub mod Turns
+pub mod ThreadBack
