@@ -12,3 +12,4 @@ pub mod Forward
 pub mod Backward
 pub mod Turns
 pub mod ThreadBack
+pub mod ThreadOn
