@@ -13,3 +13,4 @@ pub mod Backward
 pub mod Turns
 pub mod ThreadBack
 pub mod ThreadOn
+pub mod Compose
