@@ -14,3 +14,4 @@ pub mod Turns
 pub mod ThreadBack
 pub mod ThreadOn
 pub mod Compose
+pub mod Guessing
