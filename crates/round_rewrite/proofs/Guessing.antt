@@ -113,3 +113,100 @@ module _ (n last : ℕ) where
   row_values_back C X L k j (suc m) a (v ∷ b) (x ∷ vs) long h er ea eb within h' =
       ap₂ (λ y z. y ∷ z) (h'.0 ∙ (row_bit n C X k j long h (omega arith) ∙ (ap (λ z. bit z j) er ∙ bit_right a (v ∷ b) j 0 (omega arith))))
       (row_values_back C X L k (suc j) m (a ++ v ∷ []) b vs long h (er ∙ sym (append_assoc a (v ∷ []) b)) (let z : length (a ++ v ∷ []) ≡ length a + 1 = length-append a (v ∷ []) in omega arith) (omega arith) (omega arith) h'.1)
+
+nil_of_length : (a : List Bool) → length a ≡ 0 → a ≡ []
+nil_of_length [] e = refl
+nil_of_length (x ∷ a) e = absurd (omega arith)
+
+no_locals : (xs : List Place) (vs : List Bool) → written_locals xs vs [] ≡ []
+no_locals [] vs = refl
+no_locals (x ∷ xs) [] = refl
+no_locals (global i ∷ xs) (v ∷ vs) = no_locals xs vs
+no_locals (local i ∷ xs) (v ∷ vs) = no_locals xs vs
+
+abbrev pub main_at : List Bool → Code → State
+main_at g t = state g (frame 0 [] t ∷ [])
+
+-- the guess v for round k + 1 is written and saved
+abbrev pub guessed : List (List Bool) → List (List Bool) → ℕ → List Bool → List Bool → List Bool
+guessed C S k v bits = lay (with_row C (suc k) v) (with_row S k v) bits
+
+not_guessed : (n last : ℕ) (C S : List (List Bool)) (bits : List Bool) (k : ℕ) (v : List Bool) → n ≡ 0 → Shape n last C S → k < last → length v ≡ n → guessed C S k v bits ≡ lay C S bits
+not_guessed n last C S bits k v e shape lt ev =
+    let c : row C (suc k) ≡ v = nil_of_length (row C (suc k)) (Rattle.round_rewrite.proofs.Laid.long_row n C (suc k) shape.copies (let z : length C ≡ suc last = shape.rounds in omega arith) ∙ e) ∙ sym (nil_of_length v (ev ∙ e)) in
+    let s : row S k ≡ v = nil_of_length (row S k) (Rattle.round_rewrite.proofs.Laid.long_row n S k shape.saved (let z : length S ≡ last = shape.guesses in omega arith) ∙ e) ∙ sym (nil_of_length v (ev ∙ e)) in
+    ap₂ (λ x y. lay x y bits)
+    (ap (with_row C (suc k)) (sym c) ∙ Rattle.round_rewrite.proofs.Assigned.with-own_row C (suc k))
+    (ap (with_row S k) (sym s) ∙ Rattle.round_rewrite.proofs.Assigned.with-own_row S k)
+
+module _ (n last : ℕ) (C S : List (List Bool)) (bits : List Bool) (k : ℕ) (shape : Shape n last C S) (lt : k < last) where
+
+  room : suc k < length C
+  room = let z : length C ≡ suc last = shape.rounds in omega arith
+
+  room' : k < length S
+  room' = let z : length S ≡ last = shape.guesses in omega arith
+
+  first_write : (v : List Bool) → length v ≡ n → written_globals (map (copy_at n (suc k)) (map global (numbers 0 n))) v (lay C S bits) ≡ lay (with_row C (suc k) v) S bits
+  first_write v ev =
+      copy_writes n last C (flat S ++ bits) (suc k) 0 n v shape.copies room (omega arith) ev
+      ∙ ap (λ z. lay (with_row C (suc k) z) S bits) (fill_row v (row C (suc k)) (Rattle.round_rewrite.proofs.Laid.long_row n C (suc k) shape.copies room ∙ sym ev))
+
+  second_write : (v : List Bool) → length v ≡ n → written_globals (map (save_at n last (suc k)) (map global (numbers 0 n))) v (lay (with_row C (suc k) v) S bits) ≡ guessed C S k v bits
+  second_write v ev =
+      let D : List (List Bool) = with_row C (suc k) v in
+      let ed : length (flat D) ≡ suc last * n =
+        length-flat n D (long-with_row n C (suc k) v shape.copies ev) ∙ ap (λ z. z * n) (length-with_row C (suc k) v ∙ shape.rounds) in
+      save_writes n last (flat D) S bits k 0 n v ed shape.saved room' (omega arith) ev
+      ∙ ap (λ z. lay D (with_row S k z) bits) (fill_row v (row S k) (Rattle.round_rewrite.proofs.Laid.long_row n S k shape.saved room' ∙ sym ev))
+
+  saved_values : (v L : List Bool) → length v ≡ n → AreValues (lay (with_row C (suc k) v) S bits) L (map (λ y. value (var (copy_at n (suc k) y))) (map global (numbers 0 n))) v
+  saved_values v L ev =
+      row_values n last (with_row C (suc k) v) (flat S ++ bits) L (suc k) 0 n [] v (long-with_row n C (suc k) v shape.copies ev)
+      (let z : length (with_row C (suc k) v) ≡ length C = length-with_row C (suc k) v in let r : suc k < length C = room in omega arith) (row-with_same C (suc k) v room) refl ev (omega arith)
+
+  saved_back : (v L us : List Bool) → length v ≡ n → AreValues (lay (with_row C (suc k) v) S bits) L (map (λ y. value (var (copy_at n (suc k) y))) (map global (numbers 0 n))) us → us ≡ v
+  saved_back v L us ev a =
+      row_values_back n last (with_row C (suc k) v) (flat S ++ bits) L (suc k) 0 n [] v us (long-with_row n C (suc k) v shape.copies ev)
+      (let z : length (with_row C (suc k) v) ≡ length C = length-with_row C (suc k) v in let r : suc k < length C = room in omega arith) (row-with_same C (suc k) v room) refl ev (omega arith) a
+
+-- one guess
+pub guess_leads : (w : World) (n last : ℕ) (C S : List (List Bool)) (bits : List Bool) (k : ℕ) → Shape n last C S → k < last → (t : Code) (Q : State → Type 0) (v : List Bool) → length v ≡ n → Leads w (main_at (guessed C S k v bits) t) Q → Leads w (main_at (lay C S bits) (guess (places n last 0) last (all_globals n) (suc k) t)) Q
+guess_leads w zero last C S bits k shape lt t Q v ev h =
+    subst (λ z. Leads w (main_at z t) Q) (not_guessed zero last C S bits k v refl shape lt ev) h
+guess_leads w (suc n) last C S bits k shape lt t Q v ev (m, h) =
+    let xs : List Place = map global (numbers 0 (suc n)) in
+    let to : List Place = map (copy_at (suc n) (suc k)) xs in
+    let to' : List Place = map (save_at (suc n) last (suc k)) xs in
+    let rest : Code = one plain (assign to' (map (λ y. value (var (copy_at (suc n) (suc k) y))) xs)) t in
+    let X1 : List Bool = lay (with_row C (suc k) v) S bits in
+    let h1 : PlainAfter w m (state (written_globals to' v X1) (frame 0 (written_locals to' v []) t ∷ [])) Q =
+      subst (λ z. PlainAfter w m (state (written_globals to' v X1) (frame 0 z t ∷ [])) Q) (sym (no_locals to' v))
+      (subst (λ z. PlainAfter w m (main_at z t) Q) (sym (second_write (suc n) last C S bits k shape lt v ev)) h) in
+    let h2 : PlainAfter w (suc m) (main_at X1 rest) Q = (v, saved_values (suc n) last C S bits k shape lt v [] ev, h1) in
+    (suc (suc m), (v, any_values (suc n) last (lay C S bits) [] (suc n) 0 v ev,
+      subst (λ z. PlainAfter w (suc m) (state (written_globals to v (lay C S bits)) (frame 0 z rest ∷ [])) Q) (sym (no_locals to v))
+      (subst (λ z. PlainAfter w (suc m) (main_at z rest) Q) (sym (first_write (suc n) last C S bits k shape lt v ev)) h2)))
+
+pub guess_back : (w : World) (n last : ℕ) (C S : List (List Bool)) (bits : List Bool) (k : ℕ) → Shape n last C S → k < last → (t : Code) (N : ℕ) → PlainAfter w N (main_at (lay C S bits) (guess (places n last 0) last (all_globals n) (suc k) t)) (Bad n last) → (v : List Bool) × (length v ≡ n) × (M : ℕ) × (M ≤ N) × PlainAfter w M (main_at (guessed C S k v bits) t) (Bad n last)
+guess_back w zero last C S bits k shape lt t N h =
+    ([], refl, N, omega arith, subst (λ z. PlainAfter w N (main_at z t) (Bad zero last)) (sym (not_guessed zero last C S bits k [] refl shape lt refl)) h)
+guess_back w (suc n) last C S bits k shape lt t N h =
+    let xs : List Place = map global (numbers 0 (suc n)) in
+    let to : List Place = map (copy_at (suc n) (suc k)) xs in
+    let to' : List Place = map (save_at (suc n) last (suc k)) xs in
+    let R : List (RightSide Place) = map (λ y. value (var (copy_at (suc n) (suc k) y))) xs in
+    let rest : Code = one plain (assign to' R) t in
+    let (M1, e1, (v, a1, h1)) = unstep_main w (suc n) last N (lay C S bits) [] plain (assign to (each any xs)) rest h in
+    let ev : length v ≡ suc n = any_length (suc n) last (lay C S bits) [] (suc n) 0 v a1 in
+    let X1 : List Bool = lay (with_row C (suc k) v) S bits in
+    let h2 : PlainAfter w M1 (main_at X1 rest) (Bad (suc n) last) =
+      subst (λ z. PlainAfter w M1 (main_at z rest) (Bad (suc n) last)) (first_write (suc n) last C S bits k shape lt v ev)
+      (subst (λ z. PlainAfter w M1 (state (written_globals to v (lay C S bits)) (frame 0 z rest ∷ [])) (Bad (suc n) last)) (no_locals to v) h1) in
+    let (M2, e2, (us, a2, h3)) = unstep_main w (suc n) last M1 X1 [] plain (assign to' R) t h2 in
+    let eu : us ≡ v = saved_back (suc n) last C S bits k shape lt v [] us ev a2 in
+    let h4 : PlainAfter w M2 (state (written_globals to' v X1) (frame 0 (written_locals to' v []) t ∷ [])) (Bad (suc n) last) =
+      subst (λ z. PlainAfter w M2 (state (written_globals to' z X1) (frame 0 (written_locals to' z []) t ∷ [])) (Bad (suc n) last)) eu h3 in
+    (v, ev, M2, omega arith,
+      subst (λ z. PlainAfter w M2 (main_at z t) (Bad (suc n) last)) (second_write (suc n) last C S bits k shape lt v ev)
+      (subst (λ z. PlainAfter w M2 (state (written_globals to' v X1) (frame 0 z t ∷ [])) (Bad (suc n) last)) (no_locals to' v) h4))
