@@ -15,3 +15,4 @@ pub mod ThreadBack
 pub mod ThreadOn
 pub mod Compose
 pub mod Guessing
+pub mod Checking
