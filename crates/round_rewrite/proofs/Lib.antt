@@ -16,3 +16,4 @@ pub mod ThreadOn
 pub mod Compose
 pub mod Guessing
 pub mod Checking
+pub mod Starting
