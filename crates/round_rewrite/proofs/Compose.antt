@@ -158,7 +158,7 @@ copies_linked : (k : ℕ) (g : List Bool) → Linked g (copies k g) (copies k g)
 copies_linked zero g = tt
 copies_linked (suc k) g = (refl, copies_linked k g)
 
-copies_long : (n k : ℕ) (g : List Bool) → length g ≡ n → Long n (copies k g) × (length (copies k g) ≡ k)
+pub copies_long : (n k : ℕ) (g : List Bool) → length g ≡ n → Long n (copies k g) × (length (copies k g) ≡ k)
 copies_long n zero g e = (tt, refl)
 copies_long n (suc k) g e = let h = copies_long n k g e in ((e, h.0), ap suc h.1)
 

@@ -129,7 +129,7 @@ each_at P [] c r h e = cc
 each_at P (x ∷ rs) zero r h e = let same : x ≡ r = cc in subst P same h.0
 each_at P (x ∷ rs) (suc c) r h e = each_at P rs c r h.1 e
 
-zeros-add : (a b : ℕ) → zeros (a + b) ≡ zeros a ++ zeros b
+pub zeros-add : (a b : ℕ) → zeros (a + b) ≡ zeros a ++ zeros b
 zeros-add zero b = ap zeros (Rattle.std.proofs.Common.zero-add b)
 zeros-add (suc a) b = ap zeros (Rattle.std.proofs.Common.suc-add a b) ∙ ap (λ z. false ∷ z) (zeros-add a b)
 

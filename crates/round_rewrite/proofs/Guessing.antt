@@ -14,7 +14,7 @@ use Rattle.round_rewrite.proofs.Leading.{Leads}
 -- the first procedure is over, and `bad` is 1
 abbrev pub Bad : ℕ → ℕ → State → Type 0
 Bad n last (state g []) = ⊥
-Bad n last (state g (frame c l done ∷ [])) = bit g (bits_at n last + 3) ≡ true
+Bad n last (state g (frame c l done ∷ [])) = (c ≡ 0) × (bit g (bits_at n last + 3) ≡ true)
 Bad n last (state g (frame c l done ∷ f ∷ fs)) = ⊥
 Bad n last (state g (frame c l (one m s t) ∷ fs)) = ⊥
 Bad n last (state g (frame c l (choose m r a b t) ∷ fs)) = ⊥

@@ -17,3 +17,4 @@ pub mod Compose
 pub mod Guessing
 pub mod Checking
 pub mod Starting
+pub mod Assembly

@@ -27,6 +27,27 @@ turns_keep p n (g ∷ G) s (h ∷ H) s' long (mid, run, more) =
     let r = turns_keep p n G mid H s' long.1 more in
     ((run_keeps p g h s mid run ∙ long.0, r.0), ap suc r.1)
 
+pub threads_keep : (p : Program) (n : ℕ) (G : List (List Bool)) (ss : List (List Frame)) (H : List (List Bool)) (ss' : List (List Frame)) → Long n G → Threads p G ss H ss' → Long n H × (length H ≡ length G)
+threads_keep p n G [] H [] long e = (subst (Long n) (sym e) long, ap length e)
+threads_keep p n G [] H (x ∷ ss') long e = absurd e
+threads_keep p n G (s ∷ ss) H [] long e = absurd e
+threads_keep p n G (s ∷ ss) H (s' ∷ ss') long (K, ts, more) =
+    let k = turns_keep p n G s K s' long ts in
+    let r = threads_keep p n K ss H ss' k.0 more in
+    (r.0, r.1 ∙ k.1)
+
+pub fails_keep : (p : Program) (n : ℕ) (G : List (List Bool)) (ss : List (List Frame)) (H : List (List Bool)) → Long n G → FailThreads p G ss H → Long n H × (length H ≡ length G)
+fails_keep p n G [] H long h = absurd h
+fails_keep p n G (s ∷ ss) H long (inl (K, ss', ft, more)) =
+    let (s', ts) = fail_is_turns p G s K ft in
+    let k = turns_keep p n G s K s' long ts in
+    let r = threads_keep p n K ss H ss' k.0 more in
+    (r.0, r.1 ∙ k.1)
+fails_keep p n G (s ∷ ss) H long (inr (K, s', ts, more)) =
+    let k = turns_keep p n G s K s' long ts in
+    let r = fails_keep p n K ss H k.0 more in
+    (r.0, r.1 ∙ k.1)
+
 abbrev first_frame : ℕ → Option Routine → List Frame
 first_frame c None = []
 first_frame c (Some r) = frame c (zeros r.places) r.body ∷ []

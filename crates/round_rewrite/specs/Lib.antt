@@ -2,3 +2,4 @@ pub mod Table
 pub mod Places
 pub mod Names
 pub mod Scoped
+pub mod Law
