@@ -61,7 +61,7 @@ zeros_lie n last =
 
 module _ (p : Program) (last : ℕ) where
 
-  abbrev result : Program
+  abbrev pub result : Program
   result = in_text_order (rewritten_program last p)
 
   bare_rewritten_routine : (o : Option Routine) → option_map bare_routine (option_map numbered_routine (option_map (rewritten_routine p.globals last) o)) ≡ option_map (put_routine p last) o
@@ -84,13 +84,13 @@ module _ (p : Program) (last : ℕ) where
       ∙ rest-rewritten (places p.globals last r.places) last x r.body done done refl);
   }
 
-  abbrev body : Code
+  abbrev pub body : Code
   body = main (places p.globals last 0) last (all_globals p.globals) p.threads
 
-  abbrev start : State
+  abbrev pub start : State
   start = state (zeros (bits_at p.globals last + 4)) (frame 0 [] (numbered 1 body) ∷ [])
 
-  start_is : bare_state start ≡ main_at (lay (copies (suc last) (zeros p.globals)) (copies last (zeros p.globals)) (bits_of 0 false false)) body
+  pub start_is : bare_state start ≡ main_at (lay (copies (suc last) (zeros p.globals)) (copies last (zeros p.globals)) (bits_of 0 false false)) body
   start_is = ap₂ main_at (zeros_lie p.globals last) (bare-numbered 1 body ∙ bare-main (places p.globals last 0) last (all_globals p.globals) p.threads)
 
   module _ (fits : FitsScopes p) (small : last < 4) where

@@ -18,3 +18,5 @@ pub mod Guessing
 pub mod Checking
 pub mod Starting
 pub mod Assembly
+pub mod Uncalled
+pub mod Theorem
