@@ -20,3 +20,4 @@ pub mod Starting
 pub mod Assembly
 pub mod Uncalled
 pub mod Theorem
+pub mod Spelling
