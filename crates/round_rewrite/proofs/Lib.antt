@@ -21,3 +21,7 @@ pub mod Assembly
 pub mod Uncalled
 pub mod Theorem
 pub mod Spelling
+pub mod Numbering
+pub mod Placing
+pub mod Resolved
+pub mod Matching

@@ -70,7 +70,7 @@ snoc_last (x ∷ a) (y ∷ b) u v e =
     let r = snoc_last a b u v t in
     (r.0, ap₂ (λ p q. p ∷ q) h r.1)
 
-digit_is : (k : ℕ) → k < 4 → decimal (suc k) ≡ (49 + k) ∷ []
+pub digit_is : (k : ℕ) → k < 4 → decimal (suc k) ≡ (49 + k) ∷ []
 unfolding digits
 digit_is zero h = refl
 digit_is (suc zero) h = refl

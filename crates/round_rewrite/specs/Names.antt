@@ -10,10 +10,10 @@ named text = record { text = text; at = 0 }
 
 -- x__1, x__2 and so on, for the rounds from 0; and x__s2, x__s3 and so on
 abbrev pub copy_name : ℕ → Name → Name
-copy_name k x = named (x.text ++ codes "__" ++ decimal (suc k))
+copy_name k x = named (x.text ++ (codes "__" ++ decimal (suc k)))
 
 abbrev pub save_name : ℕ → Name → Name
-save_name k x = named (x.text ++ codes "__s" ++ decimal (suc k))
+save_name k x = named (x.text ++ (codes "__s" ++ decimal (suc k)))
 
 -- tmp__t1, tmp__t2 and so on
 abbrev pub drawn_name : ℕ → Name

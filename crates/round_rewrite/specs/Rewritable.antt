@@ -19,6 +19,11 @@ abbrev pub AreFree : List Name → Type 0
 AreFree [] = Unit {0}
 AreFree (x ∷ xs) = (has_double x.text ≡ false) × AreFree xs
 
+-- no two names are the same
+abbrev pub AreDistinct : List Name → Type 0
+AreDistinct [] = Unit {0}
+AreDistinct (x ∷ xs) = (is_declared x.text xs ≡ false) × AreDistinct xs
+
 -- the variable is a formal, a local or a global
 abbrev pub Declared : Scope → Name → Type 0
 Declared s x = is_declared x.text s.locals ≡ false → is_declared x.text s.globals ≡ true
@@ -82,9 +87,11 @@ abbrev pub EachLine : List Name → List ThreadLine → Type 0
 EachLine ps [] = Unit {0}
 EachLine ps (line ∷ lines) = (is_declared line.name.text ps ≡ true) × EachLine ps lines
 
--- every name is declared, and no declared variable or procedure has two underscores in a row
+-- every name is declared, no two globals are the same, and no declared variable or procedure has two
+-- underscores in a row
 pub record IsRewritable (t : Tree) : Type 0 where
   pub globals : AreFree t.globals
+  pub distinct : AreDistinct t.globals
   pub procedures : EachProcedure (ProcedureRewritable t) t.procedures
   pub threads : EachLine (map (λ (p : Procedure). p.name) t.procedures) t.threads
 
