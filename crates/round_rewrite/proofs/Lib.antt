@@ -25,3 +25,4 @@ pub mod Numbering
 pub mod Placing
 pub mod Resolved
 pub mod Matching
+pub mod Meaning

@@ -13,7 +13,7 @@ use Rattle.round_rewrite.proofs.Numbering.{number_right}
 use Rattle.round_rewrite.proofs.Placing.{scope, wider, copy_place, save_place}
 use Rattle.round_rewrite.proofs.Resolved.{lo, hi, st}
 
-same_text_other : (a b : List ℕ) → same_text a b ≡ false → same_text b a ≡ false
+pub same_text_other : (a b : List ℕ) → same_text a b ≡ false → same_text b a ≡ false
 same_text_other a b h = same_text_false b a (λ e. let bad : true ≡ false = sym (same_text_refl a) ∙ (ap (same_text a) (sym e) ∙ h) in cc)
 
 none_cons : (c r : Bool) → cond c true r ≡ false → (c ≡ false) × (r ≡ false)

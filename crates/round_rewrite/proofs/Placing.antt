@@ -45,7 +45,7 @@ the_temporary (suc e) j (suc d) lt all =
     (ap (λ c. cond c true (is_declared (drawn_name (j + suc e)).text (map drawn_name (numbers (suc j) d)))) other ∙ (ap (λ k. is_declared (drawn_name k).text (map drawn_name (numbers (suc j) d))) z ∙ ih.0),
      ap (λ c. cond c 0 (suc (number_of (drawn_name (j + suc e)).text (map drawn_name (numbers (suc j) d))))) other ∙ ap suc (ap (λ k. number_of (drawn_name k).text (map drawn_name (numbers (suc j) d))) z ∙ ih.1))
 
-length-numbers : (j d : ℕ) → length (numbers j d) ≡ d
+pub length-numbers : (j d : ℕ) → length (numbers j d) ≡ d
 length-numbers j zero = refl
 length-numbers j (suc d) = ap suc (length-numbers (suc j) d)
 
