@@ -1,10 +1,12 @@
 -- The two rewritten texts that are known in full, computed.
-use Rattle.std.proofs.Common.{◌≡◌, ℕ, zero, suc, List, [], ◌∷◌, refl}
+use Rattle.std.proofs.Common.{◌≡◌, ℕ, zero, suc, List, [], ◌∷◌, refl, arith}
 use Rattle.std.specs.Prelude.{codes, None}
 use Rattle.std.specs.Fmt.{digits}
 use Rattle.language.specs.Tree.{Name, Expression, const, var, negation, two, or, xor, and, equal, RightSide, any, value, Simple, skip, assign, assert, assume, goto, leave, call, Mark, Block, done, one, choose, loop, Procedure, Tree}
 use Rattle.round_rewrite.specs.Table.{plain}
 use Rattle.round_rewrite.specs.Names.{named, rewritten_tree}
+use Rattle.round_rewrite.specs.Rewritable.{IsRewritable, IsNarrow}
+use Rattle.language.specs.Sequential.{statements, point_of, numbered}
 
 abbrev n : List ℕ → Name
 n = named
@@ -91,3 +93,27 @@ second_rewritten : rewritten_tree 1 second ≡ record {
 }
 unfolding digits
 second_rewritten = refl
+
+-- the first text's `t` has statements 1 to 10, and the eighth is the `return`
+first_statements : statements (prologue_of at_1 (one plain skip done)) ≡ 10
+first_statements = refl
+
+-- both texts meet the premises of the theorem
+first_rewritable : IsRewritable first
+first_rewritable = record {
+  globals = tt;
+  distinct = tt;
+  procedures = (record { name = refl; own = tt; body = (tt, tt) }, tt);
+  threads = (refl, tt);
+}
+
+second_rewritable : IsRewritable second
+second_rewritable = record {
+  globals = (refl, tt);
+  distinct = (refl, tt);
+  procedures = (record { name = refl; own = tt; body = (((λ h. refl, tt), (tt, tt)), tt) }, tt);
+  threads = (refl, tt);
+}
+
+second_narrow : IsNarrow 1 second
+second_narrow = (omega arith, (omega arith, tt))
