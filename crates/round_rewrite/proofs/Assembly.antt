@@ -1,28 +1,26 @@
 -- The rewriting theorem over places, put together.
-use Rattle.std.proofs.Common.{◌≡◌, ℕ, zero, suc, ◌+◌, ◌-◌, ◌*◌, ◌<◌, ◌≤◌, Bool, true, false, cond, List, [], ◌∷◌, ◌++◌, length, map, Option, Some, None, option_map, slice_get, refl, sym, ◌∙◌, ap, subst, ap₂, arith, append_assoc, ◌⊎◌, inl, inr}
+use Rattle.std.proofs.Common.{◌≡◌, ℕ, zero, suc, ◌+◌, ◌-◌, ◌*◌, ◌<◌, Bool, true, false, List, [], ◌∷◌, ◌++◌, length, map, Option, Some, None, option_map, slice_get, refl, sym, ◌∙◌, ap, ap₂, arith, append_assoc, ◌⊎◌, inl, inr}
 use Rattle.std.proofs.lemmas.Option.{slice_get-map}
-use Rattle.language.specs.Tree.{Mark, Block, done, one, choose, loop}
-use Rattle.language.specs.Value.{Place, global, bit}
-use Rattle.language.specs.Rest.{Label, Code, rest_from}
-use Rattle.language.specs.Step.{Routine, Program, Frame, frame, State, state, zeros, body_of, AfterSteps, Runs}
-use Rattle.language.specs.Rounds.{starting_stack, Rounds, FailsInRound, Unsafe}
-use Rattle.language.specs.Sequential.{numbered, numbered_routine, in_text_order, Valuation, point_of, Pair}
+use Rattle.language.specs.Tree.{done}
+use Rattle.language.specs.Value.{Place}
+use Rattle.language.specs.Rest.{Code, rest_from}
+use Rattle.language.specs.Step.{Routine, Program, frame, State, state, zeros, body_of}
+use Rattle.language.specs.Rounds.{starting_stack, Unsafe}
+use Rattle.language.specs.Sequential.{numbered, numbered_routine, in_text_order}
 use Rattle.round_rewrite.specs.Table.{Naming, numbers, plain, guess, guesses, starts, check, checks, main, rewritten}
 use Rattle.round_rewrite.specs.Places.{places, bits_at, all_globals, rewritten_routine, main_routine, rewritten_program}
 use Rattle.round_rewrite.specs.Scoped.{FitsScopes}
 use Rattle.round_rewrite.proofs.Laid.{Long, flat, row, bits_of, lay, Shape, bits_bit}
-use Rattle.round_rewrite.proofs.Plain.{World, PlainSteps, PlainAfter, bare, bare_state, bare_routine, world_of, plain_after, bare-numbered, rest-numbered}
+use Rattle.round_rewrite.proofs.Plain.{PlainAfter, bare, bare_state, bare_routine, world_of, bare-numbered, rest-numbered}
 use Rattle.round_rewrite.proofs.Leading.{Leads}
 use Rattle.round_rewrite.proofs.Blocks.{bare-rewritten, rest-rewritten}
-use Rattle.round_rewrite.proofs.Frames.{put_rest, put_routine, IsWorld, length-zeros, zeros-add}
-use Rattle.round_rewrite.proofs.Turns.{after_map, after_pick}
+use Rattle.round_rewrite.proofs.Frames.{put_routine, IsWorld, length-zeros, zeros-add}
 use Rattle.round_rewrite.proofs.Compose.{Linked, FailThreads, copies, copies_long, to_rounds, from_rounds}
 use Rattle.round_rewrite.proofs.Guessing.{Bad, main_at}
 use Rattle.round_rewrite.proofs.Checking.{Fill, guesses_lead, guesses_back, checks_lead, checks_back, linked_rows, rows_linked}
 use Rattle.round_rewrite.proofs.Starting.{Ran, fails_lead, starts_back, fails_keep}
 
 module _ (w : Naming Place Place ℕ ℕ) (last : ℕ) where
-
   bare-guess : (xs : List Place) (k : ℕ) (t : Code) → bare (guess w last xs k t) ≡ guess w last xs k (bare t)
   bare-guess [] k t = refl
   bare-guess (x ∷ xs) k t = refl
@@ -60,15 +58,16 @@ zeros_lie n last =
     ∙ ap₂ (λ x y. x ++ (y ++ zeros 4)) (sym (flat_copies n (suc last))) (sym (flat_copies n last))))
 
 module _ (p : Program) (last : ℕ) where
-
   abbrev pub result : Program
   result = in_text_order (rewritten_program last p)
 
   bare_rewritten_routine : (o : Option Routine) → option_map bare_routine (option_map numbered_routine (option_map (rewritten_routine p.globals last) o)) ≡ option_map (put_routine p last) o
   bare_rewritten_routine None = refl
   bare_rewritten_routine (Some r) =
-      λ i. Some (record { places = r.places + Rattle.round_rewrite.specs.Table.temporaries Rattle.round_rewrite.specs.Places.is_global r.body;
-        body = (bare-numbered 1 (rewritten (places p.globals last r.places) last r.body) ∙ bare-rewritten (places p.globals last r.places) last r.body) i })
+      λ i. Some (record {
+        places = r.places + Rattle.round_rewrite.specs.Table.temporaries Rattle.round_rewrite.specs.Places.is_global r.body;
+        body = (bare-numbered 1 (rewritten (places p.globals last r.places) last r.body) ∙ bare-rewritten (places p.globals last r.places) last r.body) i;
+      })
 
   routines_at : (c : ℕ) → slice_get result.routines (suc c) ≡ option_map numbered_routine (option_map (rewritten_routine p.globals last) (slice_get p.routines c))
   routines_at c =
@@ -79,9 +78,9 @@ module _ (p : Program) (last : ℕ) where
   is_world = record {
     enters_is = λ c. ap (option_map bare_routine) (routines_at c) ∙ bare_rewritten_routine (slice_get p.routines c);
     jumps_is = λ c r x e.
-      ap (λ o. option_map bare (rest_from x (body_of o) done)) (routines_at c ∙ ap (λ o. option_map numbered_routine (option_map (rewritten_routine p.globals last) o)) e)
-      ∙ (rest-numbered x 1 (rewritten (places p.globals last r.places) last r.body) done done refl
-      ∙ rest-rewritten (places p.globals last r.places) last x r.body done done refl);
+        ap (λ o. option_map bare (rest_from x (body_of o) done)) (routines_at c ∙ ap (λ o. option_map numbered_routine (option_map (rewritten_routine p.globals last) o)) e)
+        ∙ (rest-numbered x 1 (rewritten (places p.globals last r.places) last r.body) done done refl
+        ∙ rest-rewritten (places p.globals last r.places) last x r.body done done refl);
   }
 
   abbrev pub body : Code
@@ -94,7 +93,6 @@ module _ (p : Program) (last : ℕ) where
   start_is = ap₂ main_at (zeros_lie p.globals last) (bare-numbered 1 body ∙ bare-main (places p.globals last 0) last (all_globals p.globals) p.threads)
 
   module _ (fits : FitsScopes p) (small : last < 4) where
-
     abbrev n : ℕ
     n = p.globals
 
@@ -103,7 +101,13 @@ module _ (p : Program) (last : ℕ) where
 
     first_fill : Fill (world_of result) n last z (length-zeros n) (bits_of 0 false false) 0 last [] (copies last z) (copies last z)
     first_fill = let c = copies_long n last z (length-zeros n) in record {
-      a_long = tt; d_long = c.0; e_long = c.0; a_length = refl; d_length = c.1; e_length = c.1; all = omega arith;
+      a_long = tt;
+      d_long = c.0;
+      e_long = c.0;
+      a_length = refl;
+      d_length = c.1;
+      e_length = c.1;
+      all = omega arith;
     }
 
     abbrev checks_code : Code
@@ -132,11 +136,11 @@ module _ (p : Program) (last : ℕ) where
         rows G (y ∷ G') eG long link ft =
             guesses_lead (world_of result) n last z (length-zeros n) (bits_of 0 false false) (starts (places n last 0) last p.threads checks_code) (Bad n last) last 0 [] (copies last z) (copies last z) G first_fill long eG
             (fails_lead p last fits small (world_of result) is_world G long eG (Bad n last) checks_code p.threads fits.threads (z ∷ G) (length-zeros n, long) (ap suc eG) (y ∷ G') ft
-              (λ q s. let kept = fails_keep p n (z ∷ G) (map (starting_stack p.routines) p.threads) (y ∷ G') (length-zeros n, long) ft in
-                let sh : Shape n last (y ∷ G') G = shape_of (y ∷ G') G kept.0 long (kept.1 ∙ ap suc eG) eG in
-                checks_lead (world_of result) n last (y ∷ G') G (bits_of q s true) sh done (Bad n last) last 0 (omega arith)
-                (λ i lt. rows_linked G y G' link.1 i (omega arith)) (over (y ∷ G') G sh q s))
-              false 0 false)
+            (λ q s. let kept = fails_keep p n (z ∷ G) (map (starting_stack p.routines) p.threads) (y ∷ G') (length-zeros n, long) ft in
+            let sh : Shape n last (y ∷ G') G = shape_of (y ∷ G') G kept.0 long (kept.1 ∙ ap suc eG) eG in
+            checks_lead (world_of result) n last (y ∷ G') G (bits_of q s true) sh done (Bad n last) last 0 (omega arith)
+            (λ i lt. rows_linked G y G' link.1 i (omega arith)) (over (y ∷ G') G sh q s))
+            false 0 false)
 
     -- a run that ends with bad: the source is unsafe
     pub leads_unsafe : (N : ℕ) → PlainAfter (world_of result) N (main_at (lay (copies (suc last) z) (copies last z) (bits_of 0 false false)) body) (Bad n last) → Unsafe p (suc last)
@@ -148,6 +152,7 @@ module _ (p : Program) (last : ℕ) where
         fails G y G' eG link ft =
             let (r, lt, g, ts, rounds, f) = to_rounds p z (z ∷ G) (map (starting_stack p.routines) p.threads) (y ∷ G') (refl, link) ft in
             (r, omega arith, g, ts, rounds, f)
+
         rows : (G : List (List Bool)) (long : Long n G) (eG : length G ≡ last) → Ran p last fits small (world_of result) is_world G long eG p.threads checks_code (z ∷ G) false → Unsafe p (suc last)
         rows G long eG x =
             let sh : Shape n last x.rows G = shape_of x.rows G x.long long (x.same ∙ ap suc eG) eG in
@@ -158,6 +163,7 @@ module _ (p : Program) (last : ℕ) where
             failing : {A B : Type 0} → x.bad ≡ true → ((x.bad ≡ false) × A) ⊎ ((x.bad ≡ true) × B) → B
             failing e (inl (e', a)) = absurd (let bad : true ≡ false = sym e ∙ e' in cc)
             failing e (inr (e', b)) = b
+
             turned : (G : List (List Bool)) → length G ≡ last → (H : List (List Bool)) → length H ≡ suc last → ((i : ℕ) → i < last → row G i ≡ row H i) → FailThreads p (z ∷ G) (map (starting_stack p.routines) p.threads) H → Unsafe p (suc last)
             turned G eG [] eH facts ft = absurd (omega arith)
             turned G eG (y ∷ H) eH facts ft = fails G y H eG (linked_rows G y H (omega arith) (λ k lt. facts k (omega arith))) ft

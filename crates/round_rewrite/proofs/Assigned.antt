@@ -1,17 +1,13 @@
 -- The rewritten assignment: draw, spread over the copies, write.
-use Rattle.std.proofs.Common.{◌≡◌, ℕ, zero, suc, ◌+◌, ◌*◌, ◌<◌, ◌≤◌, Bool, true, false, not, ◌&&◌, ◌||◌, List, [], ◌∷◌, ◌++◌, length, map, refl, sym, ◌∙◌, ap, subst, ap₂, arith, ◌⊎◌, inl, inr}
+use Rattle.std.proofs.Common.{◌≡◌, ℕ, zero, suc, ◌+◌, ◌*◌, ◌<◌, ◌≤◌, Bool, true, false, not, ◌&&◌, ◌||◌, List, [], ◌∷◌, ◌++◌, length, map, refl, sym, ◌∙◌, ap, subst, ap₂, arith, inl, inr}
 use Rattle.std.proofs.lemmas.Bool.{cases_eq}
-use Rattle.language.specs.Tree.{Expression, const, var, negation, two, or, and, RightSide, any, value, Simple, assign, Mark, Block, one}
+use Rattle.language.specs.Tree.{Expression, var, RightSide, any, value}
 use Rattle.language.specs.Value.{Place, global, local, bit, with_bit, look_up, value_of, IsValue, AreValues, written_globals, written_locals}
-use Rattle.language.specs.Rest.{Label, Code}
-use Rattle.language.specs.Step.{Frame, frame, State, state}
-use Rattle.round_rewrite.specs.Table.{Naming, numbers, plain, at, expression, side, written, rounds, targets, sides, draws, each, drawing, statement}
-use Rattle.round_rewrite.specs.Places.{places, is_global, bits_at}
+use Rattle.round_rewrite.specs.Table.{numbers, at, expression, written, targets, sides, draws, each}
+use Rattle.round_rewrite.specs.Places.{places, is_global}
 use Rattle.round_rewrite.specs.Scoped.{PlaceInScope, PlacesInScope, SideInScope, SidesInScope}
-use Rattle.round_rewrite.proofs.Laid.{row, with_row, row_bit, row_with, with_own, with_right, with_left, length-with, length-with_row, long-with_row, long_row, bit_right, bits_of, lay, Shape}
+use Rattle.round_rewrite.proofs.Laid.{row, with_row, row_bit, row_with, with_own, with_right, with_left, length-with, length-with_row, long-with_row, bit_right, bits_of, lay, Shape}
 use Rattle.round_rewrite.proofs.Translate.{same, same_refl, same_false, at_is, expression_is}
-use Rattle.round_rewrite.proofs.Plain.{World, PlainSteps, PlainAfter}
-use Rattle.round_rewrite.proofs.Leading.{Leads, Never, unstep}
 
 pub row-with_same : (C : List (List Bool)) (k : ℕ) (v : List Bool) → k < length C → row (with_row C k v) k ≡ v
 row-with_same [] k v h = absurd (omega arith)
@@ -90,9 +86,10 @@ picked g l j (x ∷ xs) [] vs tmp a h = tt
 picked g l j (x ∷ xs) (r ∷ rs) [] tmp a h = absurd a
 picked g l j (global i ∷ xs) (any ∷ rs) (v ∷ vs) tmp a h =
     let room : j + suc (draws is_global xs rs) ≤ length tmp = h in
-    let e : length (with_bit tmp j v) ≡ length tmp = length-with tmp j v in
-    (bit-drawn (draws is_global xs rs) (suc j) (picks xs rs vs) (with_bit tmp j v) j (omega arith) ∙ bit-with tmp j v (omega arith),
-     picked g l (suc j) xs rs vs (with_bit tmp j v) a.1 (omega arith))
+    let e : length (with_bit tmp j v) ≡ length tmp = length-with tmp j v in (
+      bit-drawn (draws is_global xs rs) (suc j) (picks xs rs vs) (with_bit tmp j v) j (omega arith) ∙ bit-with tmp j v (omega arith),
+      picked g l (suc j) xs rs vs (with_bit tmp j v) a.1 (omega arith),
+    )
 picked g l j (global i ∷ xs) (value e ∷ rs) (v ∷ vs) tmp a h = picked g l j xs rs vs tmp a.1 h
 picked g l j (local i ∷ xs) (any ∷ rs) (v ∷ vs) tmp a h = picked g l j xs rs vs tmp a.1 h
 picked g l j (local i ∷ xs) (value e ∷ rs) (v ∷ vs) tmp a h = picked g l j xs rs vs tmp a.1 h
@@ -115,7 +112,6 @@ drawn_writes X l tmp own (suc d) j (t ∷ ts) e =
     (ih.0, ap (written_locals (map (λ k. local (own + k)) (numbers (suc j) d)) ts) (with_right l tmp (own + j) j t (ap (λ z. z + j) (sym e))) ∙ ih.1)
 
 module _ (n last own : ℕ) (C S : List (List Bool)) (q : ℕ) (s b : Bool) (shape : Shape n last C S) (small : last < 4) (within : q ≤ last) (l tmp : List Bool) (el : length l ≡ own) where
-
   abbrev pub X : List Bool
   X = lay C S (bits_of q s b)
 
@@ -161,18 +157,19 @@ module _ (n last own : ℕ) (C S : List (List Bool)) (q : ℕ) (s b : Bool) (sha
       let lc : length C ≡ suc last = shape.rounds in
       let ld : length D ≡ length C = length-with_row C q h in
       let write : (u : Bool) → with_bit (lay D S (bits_of q s b)) (k * n + i) u ≡ lay (with_row D k (with_bit (row D k) i u)) S (bits_of q s b) =
-        λ u. row_with n D _ k i u (long-with_row n C q h shape.copies eh) (omega arith) hi in
-      ((λ e.
-          let w1 : with_row D k (with_bit (row D k) i v) ≡ with_row C q (with_bit h i v) =
+      λ u. row_with n D _ k i u (long-with_row n C q h shape.copies eh) (omega arith) hi in (
+        (λ e.
+            let w1 : with_row D k (with_bit (row D k) i v) ≡ with_row C q (with_bit h i v) =
             subst (λ j. with_row D j (with_bit (row D j) i v) ≡ with_row C q (with_bit h i v)) (sym e)
             (ap (λ z. with_row D q (with_bit z i v)) (row-with_same C q h (omega arith)) ∙ with-with_row C q h (with_bit h i v)) in
-          let new : ((same k q && v) || (not (same k q) && bit (row C k) i)) ≡ v =
+            let new : ((same k q && v) || (not (same k q) && bit (row C k) i)) ≡ v =
             ap (λ t. (t && v) || (not t && bit (row C k) i)) (ap (λ j. same j q) e ∙ same_refl q) ∙ or_false v in
-          ap (with_bit (lay D S (bits_of q s b)) (k * n + i)) new ∙ (write v ∙ ap (λ z. lay z S (bits_of q s b)) w1)),
-       (λ ne.
-          let old : ((same k q && v) || (not (same k q) && bit (row C k) i)) ≡ bit (row D k) i =
+            ap (with_bit (lay D S (bits_of q s b)) (k * n + i)) new ∙ (write v ∙ ap (λ z. lay z S (bits_of q s b)) w1)),
+        (λ ne.
+            let old : ((same k q && v) || (not (same k q) && bit (row C k) i)) ≡ bit (row D k) i =
             ap (λ t. (t && v) || (not t && bit (row C k) i)) (same_false k q ne) ∙ ap (λ z. bit z i) (sym (row-with_other C q k h (λ e. ne (sym e)))) in
-          ap (with_bit (lay D S (bits_of q s b)) (k * n + i)) old ∙ (write (bit (row D k) i) ∙ ap (λ z. lay z S (bits_of q s b)) (with_own D k i))))
+            ap (with_bit (lay D S (bits_of q s b)) (k * n + i)) old ∙ (write (bit (row D k) i) ∙ ap (λ z. lay z S (bits_of q s b)) (with_own D k i))),
+      )
     where
       or_false : (x : Bool) → (x || false) ≡ x
       or_false true = refl
@@ -197,13 +194,13 @@ module _ (n last own : ℕ) (C S : List (List Bool)) (q : ℕ) (s b : Bool) (sha
   unfolding copies_of
   spread_upto h i v k zero ts ws eh hi le lt end = absurd (omega arith)
   spread_upto h i v k (suc m) ts ws eh hi le lt end = elim (cases_eq k q) [
-      | inl e ↦
-          ap (written_globals (copies_of i (numbers (suc k) m) ++ ts) (map (spread i v) (numbers (suc k) m) ++ ws)) ((spread_one h i v k eh hi (omega arith)).0 e)
-          ∙ spread_past (with_bit h i v) i v (suc k) m ts ws (length-with h i v ∙ eh) hi (omega arith) (omega arith)
-      | inr ne ↦
-          ap (written_globals (copies_of i (numbers (suc k) m) ++ ts) (map (spread i v) (numbers (suc k) m) ++ ws)) ((spread_one h i v k eh hi (omega arith)).1 ne)
-          ∙ spread_upto h i v (suc k) m ts ws eh hi (omega arith) (omega arith) (omega arith)
-    ]
+    | inl e ↦
+        ap (written_globals (copies_of i (numbers (suc k) m) ++ ts) (map (spread i v) (numbers (suc k) m) ++ ws)) ((spread_one h i v k eh hi (omega arith)).0 e)
+        ∙ spread_past (with_bit h i v) i v (suc k) m ts ws (length-with h i v ∙ eh) hi (omega arith) (omega arith)
+    | inr ne ↦
+        ap (written_globals (copies_of i (numbers (suc k) m) ++ ts) (map (spread i v) (numbers (suc k) m) ++ ws)) ((spread_one h i v k eh hi (omega arith)).1 ne)
+        ∙ spread_upto h i v (suc k) m ts ws eh hi (omega arith) (omega arith) (omega arith)
+  ]
 
   pub spread_all : List Place → List (RightSide Place) → List Bool → List Bool
   spread_all [] rs vs = []

@@ -1,23 +1,21 @@
 -- A run of the rewritten program from behind a prologue begins with a step of the source, or with its failure.
-use Rattle.std.proofs.Common.{◌≡◌, ℕ, zero, suc, ◌+◌, ◌-◌, ◌*◌, ◌<◌, ◌≤◌, Bool, true, false, cond, List, [], ◌∷◌, ◌++◌, length, map, Option, Some, None, option_map, slice_get, refl, sym, ◌∙◌, ap, subst, ap₂, arith, append_assoc}
-use Rattle.language.specs.Tree.{Expression, const, RightSide, any, value, Simple, skip, assign, assert, assume, goto, leave, call, Mark, Block, done, one, choose, loop}
-use Rattle.language.specs.Value.{Place, global, local, with_bit, values_of, IsValue, AreValues, written_globals, written_locals}
+use Rattle.std.proofs.Common.{◌≡◌, ℕ, suc, ◌+◌, ◌<◌, ◌≤◌, Bool, true, false, cond, List, [], ◌∷◌, ◌++◌, length, map, Option, Some, None, option_map, slice_get, refl, sym, ◌∙◌, ap, subst, ap₂, arith}
+use Rattle.language.specs.Tree.{Expression, const, RightSide, value, skip, assign, assert, assume, goto, leave, call, Mark, done, one, choose, loop}
+use Rattle.language.specs.Value.{Place, global, with_bit, values_of, IsValue, AreValues, written_globals, written_locals}
 use Rattle.language.specs.Rest.{Label, Code, join, rest_from}
-use Rattle.language.specs.Step.{Routine, Program, Frame, frame, State, state, zeros, fresh, AtRoutine, AtRest, body_of, StepsTo, AfterSteps, Fails}
-use Rattle.round_rewrite.specs.Table.{Naming, plain, draws, temporaries, expression, side, stop_test, prologue, statement}
+use Rattle.language.specs.Step.{Routine, Program, Frame, frame, State, state, zeros, fresh, AtRoutine, AtRest, body_of, StepsTo, Fails}
+use Rattle.round_rewrite.specs.Table.{plain, temporaries, expression, side, stop_test, statement}
 use Rattle.round_rewrite.specs.Places.{places, is_global, bits_at}
-use Rattle.round_rewrite.specs.Scoped.{AreInScope, SideInScope, SimpleInScope, Throughout, EachRoutine, RoutineInScope, FitsScopes}
+use Rattle.round_rewrite.specs.Scoped.{AreInScope, SideInScope, FitsScopes}
 use Rattle.round_rewrite.proofs.Laid.{row, with_row, long_row, bits_of, lay, Shape, bits_with}
 use Rattle.round_rewrite.proofs.Translate.{side_is, expressions_are}
 use Rattle.round_rewrite.proofs.Assigned.{length-written_globals, length-written_locals, with-own_row}
 use Rattle.round_rewrite.proofs.Drawing.{assign_back}
-use Rattle.round_rewrite.proofs.Plain.{World, PlainSteps, PlainAfter, bare}
+use Rattle.round_rewrite.proofs.Plain.{World, PlainAfter}
 use Rattle.round_rewrite.proofs.Leading.{Leads, Never, unstep, Later, later, later_now}
-use Rattle.round_rewrite.proofs.Blocks.{put, put-join, put-again}
 use Rattle.round_rewrite.proofs.Prologue.{stop_leads, stop_back}
-use Rattle.round_rewrite.proofs.Frames.{Fits, Roomy, Both, source, Good, AllGood, put_rest, callers, stack, put_routine, IsWorld, each_at, roomy, throughout-join, throughout-rest, IfThere, fresh_more, length-fresh, length-zeros}
-
-use Rattle.round_rewrite.proofs.Forward.{both, good_with, body_fits, jump_good, call_good, branch_fits, put_branch, loop_fits, put_loop, inner, naming, turned, unturned, row_long, side_at}
+use Rattle.round_rewrite.proofs.Frames.{Both, source, Good, AllGood, put_rest, callers, stack, put_routine, IsWorld, fresh_more}
+use Rattle.round_rewrite.proofs.Forward.{both, good_with, jump_good, call_good, branch_fits, put_branch, loop_fits, put_loop, inner}
 
 length_values : (g l : List Bool) (es : List (Expression Place)) → length (values_of g l es) ≡ length es
 length_values g l [] = refl
@@ -30,7 +28,6 @@ two_back X L r0 r1 (x ∷ y ∷ []) a = (x, y, refl, a.0, a.1.0)
 two_back X L r0 r1 (x ∷ y ∷ z ∷ vs) a = absurd a.1.1
 
 module _ (p : Program) (last : ℕ) (fits : FitsScopes p) (small : last < 4) (w : World) (isw : IsWorld p last w) (C S : List (List Bool)) (q : ℕ) (b : Bool) (shape : Shape p.globals last C S) (within : q ≤ last) (m : Frame) (Q : State → Type 0) (single : (g : List Bool) (f f' : Frame) (fs : List Frame) → Q (state g (f ∷ f' ∷ fs)) → ⊥) where
-
   abbrev pub X : List Bool
   X = lay C S (bits_of q false b)
 
@@ -63,7 +60,7 @@ module _ (p : Program) (last : ℕ) (fits : FitsScopes p) (small : last < 4) (w 
   unwind_leads c L [] q' b' (k, h) = (suc k, h)
   unwind_leads c L (a ∷ bs) q' b' h =
       let r = stop_leads w p.globals last a.own C S shape small (suc a.c) (a.l ++ a.tmp) (callers p last bs m) Q q' true b' (put_rest p last a.own a.rest)
-        (unwind_leads (suc a.c) (a.l ++ a.tmp) bs q' b' h) in
+      (unwind_leads (suc a.c) (a.l ++ a.tmp) bs q' b' h) in
       (suc r.0, r.1)
 
   -- a frame that leaves where stop is 0
@@ -114,9 +111,9 @@ module _ (p : Program) (last : ℕ) (fits : FitsScopes p) (small : last < 4) (w 
       let (n1, e1, r1) = unstep w Q N X (frame (suc c) (l ++ tmp) (fail_code (put_rest p last own t))) fs (never_below bs) run in
       let (x, y, ex, ix, iy) = two_back X (l ++ tmp) (value (const true)) (value (const true)) r1.0 r1.1 in
       let r2 : PlainAfter w n1 (state (with_bit (with_bit X (bits_at p.globals last + 3) x) (bits_at p.globals last + 2) y) (frame (suc c) (l ++ tmp) rest ∷ fs)) Q =
-        subst (λ vs. PlainAfter w n1 (state (written_globals two vs X) (frame (suc c) (written_locals two vs (l ++ tmp)) rest ∷ fs)) Q) ex r1.2 in
+      subst (λ vs. PlainAfter w n1 (state (written_globals two vs X) (frame (suc c) (written_locals two vs (l ++ tmp)) rest ∷ fs)) Q) ex r1.2 in
       let r3 : PlainAfter w n1 (state (lay C S (bits_of q true true)) (frame (suc c) (l ++ tmp) rest ∷ fs)) Q =
-        subst (λ z. PlainAfter w n1 (state z (frame (suc c) (l ++ tmp) rest ∷ fs)) Q) (fail_writes x y ix iy) r2 in
+      subst (λ z. PlainAfter w n1 (state z (frame (suc c) (l ++ tmp) rest ∷ fs)) Q) (fail_writes x y ix iy) r2 in
       let (n4, e4, r4) = unstep w Q n1 (lay C S (bits_of q true true)) (frame (suc c) (l ++ tmp) rest) fs (never_below bs) r3 in
       failed (back_value own l tmp h.long r h.fits.0.0 false is) (n4, omega arith, r4)
 
@@ -125,8 +122,8 @@ module _ (p : Program) (last : ℕ) (fits : FitsScopes p) (small : last < 4) (w 
   jump_back N c own l tmp k x t bs (Some found) h good e a =
       let goal : State = state (row C q) (frame c l found ∷ map source bs) in
       let step : AtRest (rest_from x (body_of (slice_get p.routines c)) done) (λ u. state (row C q) (frame c l u ∷ map source bs) ≡ goal) =
-        subst (λ r. AtRest (rest_from x (body_of r) done) (λ u. state (row C q) (frame c l u ∷ map source bs) ≡ goal)) (sym h.there)
-        (subst (λ o. AtRest o (λ u. state (row C q) (frame c l u ∷ map source bs) ≡ goal)) (sym e) refl) in
+      subst (λ r. AtRest (rest_from x (body_of r) done) (λ u. state (row C q) (frame c l u ∷ map source bs) ≡ goal)) (sym h.there)
+      (subst (λ o. AtRest o (λ u. state (row C q) (frame c l u ∷ map source bs) ≡ goal)) (sym e) refl) in
       moved_here N c l tmp (one k (goto x) t) bs (both c own l tmp found ∷ bs)
       (jump_good p last c own l tmp (one k (goto x) t) x found fits h e, good) step a
 
@@ -137,12 +134,12 @@ module _ (p : Program) (last : ℕ) (fits : FitsScopes p) (small : last < 4) (w 
       let d : ℕ = temporaries is_global r.body in
       let lv : length vs ≤ r.places = subst (λ k. k ≤ r.places) (sym (length_values (row C q) l es)) short in
       let ev : values_of X (l ++ tmp) (map (expression (places p.globals last own) last) es) ≡ vs =
-        expressions_are p.globals last own C S q false b (l ++ tmp) shape small within l tmp refl h.long es scope in
+      expressions_are p.globals last own C S q false b (l ++ tmp) shape small within l tmp refl h.long es scope in
       let ef : fresh (r.places + d) (values_of X (l ++ tmp) (map (expression (places p.globals last own) last) es)) ≡ fresh r.places vs ++ zeros d =
-        ap (fresh (r.places + d)) ev ∙ fresh_more r.places d vs lv in
+      ap (fresh (r.places + d)) ev ∙ fresh_more r.places d vs lv in
       let goal : State = state (row C q) (frame q' (fresh r.places vs) r.body ∷ frame c l t ∷ map source bs) in
       let step : AtRoutine (slice_get p.routines q') (λ z. state (row C q) (frame q' (fresh z.places vs) z.body ∷ frame c l t ∷ map source bs) ≡ goal) =
-        subst (λ o. AtRoutine o (λ z. state (row C q) (frame q' (fresh z.places vs) z.body ∷ frame c l t ∷ map source bs) ≡ goal)) (sym e) refl in
+      subst (λ o. AtRoutine o (λ z. state (row C q) (frame q' (fresh z.places vs) z.body ∷ frame c l t ∷ map source bs) ≡ goal)) (sym e) refl in
       moved_here N c l tmp (one k (call q' es) t) bs (both q' r.places (fresh r.places vs) (zeros d) r.body ∷ both c own l tmp t ∷ bs)
       (call_good p last q' r vs fits e lv, (good_with p last c own l tmp (one k (call q' es) t) l tmp t h refl refl h.fits.1, good)) step
       (a.0, a.1, subst (λ z. PlainAfter w a.0 (state X (frame (suc q') z (put_rest p last r.places r.body) ∷ callers p last (both c own l tmp t ∷ bs) m)) Q) ef a.2)
@@ -179,6 +176,7 @@ module _ (p : Program) (last : ℕ) (fits : FitsScopes p) (small : last < 4) (w 
     where
       branches : (v : Bool) (n1 c own : ℕ) (l tmp : List Bool) (t : Code) (bs : List Both) → PlainAfter w n1 (state X (frame (suc c) (l ++ tmp) (cond v (join (one plain skip done) (put_rest p last own t)) (join (fail_code done) (put_rest p last own t))) ∷ callers p last bs m)) Q → PlainAfter w n1 (state X (frame (suc c) (l ++ tmp) (cond v (one plain skip (put_rest p last own t)) (fail_code (put_rest p last own t))) ∷ callers p last bs m)) Q
       branches v n1 c own l tmp t bs r = r
+
       longer : {n1 : ℕ} → Begins n1 c l tmp (one k (assert r) t) bs → N ≡ suc n1 → Begins N c l tmp (one k (assert r) t) bs
       longer {n1} (moved g' bs' eg good s r) e = moved g' bs' eg good s (later w Q _ N n1 e r)
       longer {n1} (failed f r) e = failed f (later w Q _ N n1 e r)
@@ -190,11 +188,11 @@ module _ (p : Program) (last : ℕ) (fits : FitsScopes p) (small : last < 4) (w 
   step_back N c own l tmp (one k (goto x) t) bs h good run =
       let (n1, e1, r1) = unstep w Q N X (frame (suc c) (l ++ tmp) (statement (places p.globals last own) last (goto x) (put_rest p last own t))) (callers p last bs m) (never_below bs) run in
       let where_to : w.jumps (suc c) x ≡ option_map (put_rest p last own) (rest_from x h.routine.body done) =
-        isw.jumps_is c h.routine x h.there ∙ ap (λ o. option_map (put_rest p last o) (rest_from x h.routine.body done)) h.own_is in
+      isw.jumps_is c h.routine x h.there ∙ ap (λ o. option_map (put_rest p last o) (rest_from x h.routine.body done)) h.own_is in
       let F : Code → State = λ u. state X (frame (suc c) (l ++ tmp) u ∷ callers p last bs m) in
       jump_back N c own l tmp k x t bs (rest_from x h.routine.body done) h good refl
       (at_rest_later N n1 (option_map (put_rest p last own) (rest_from x h.routine.body done)) F e1
-        (subst (λ o. AtRest o (λ u. PlainAfter w n1 (F u) Q)) where_to r1))
+      (subst (λ o. AtRest o (λ u. PlainAfter w n1 (F u) Q)) where_to r1))
   step_back N c own l tmp (one k leave t) bs h good run =
       let (n1, e1, r1) = unstep w Q N X (frame (suc c) (l ++ tmp) (one plain leave (put_rest p last own t))) (callers p last bs m) (never_below bs) run in
       moved_here N c l tmp (one k leave t) bs (both c own l tmp done ∷ bs)
@@ -204,7 +202,7 @@ module _ (p : Program) (last : ℕ) (fits : FitsScopes p) (small : last < 4) (w 
       let F : Routine → State = λ z. state X (frame (suc q') (fresh z.places (values_of X (l ++ tmp) (map (expression (places p.globals last own) last) es))) z.body ∷ callers p last (both c own l tmp t ∷ bs) m) in
       call_back N c own l tmp k t q' es bs (slice_get p.routines q') refl h good h.fits.0.0.0 h.fits.0.0.1
       (at_routine_later N n1 (option_map (put_routine p last) (slice_get p.routines q')) F e1
-        (subst (λ o. AtRoutine o (λ z. PlainAfter w n1 (F z) Q)) (isw.enters_is q') r1))
+      (subst (λ o. AtRoutine o (λ z. PlainAfter w n1 (F z) Q)) (isw.enters_is q') r1))
   step_back N c own l tmp (choose k r x y t) bs h good run =
       let (n1, e1, r1) = unstep w Q N X (frame (suc c) (l ++ tmp) (choose plain (side (places p.globals last own) last r) (put_rest p last own x) (put_rest p last own y) (put_rest p last own t))) (callers p last bs m) (never_below bs) run in
       let v : Bool = r1.0 in

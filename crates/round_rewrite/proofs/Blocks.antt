@@ -1,9 +1,9 @@
 -- How the rewriting goes with joining, with leaving out labels and numbers, and with jumps.
-use Rattle.std.proofs.Common.{◌≡◌, ℕ, zero, suc, ◌+◌, Bool, true, false, cond, List, [], ◌∷◌, map, Option, Some, None, option_map, slice_get, refl, sym, ◌∙◌, ap, subst, ap₂}
-use Rattle.language.specs.Tree.{Simple, skip, assign, assert, assume, goto, leave, call, Mark, Block, done, one, choose, loop, RightSide, value}
+use Rattle.std.proofs.Common.{◌≡◌, ℕ, zero, suc, Bool, true, false, cond, Option, Some, None, option_map, refl, sym, ◌∙◌, ap, ap₂}
+use Rattle.language.specs.Tree.{Simple, skip, assign, assert, assume, goto, leave, call, Mark, done, one, choose, loop, RightSide}
 use Rattle.language.specs.Value.{Place}
 use Rattle.language.specs.Rest.{Label, Code, join, rest_from, first_of_two, has_label}
-use Rattle.round_rewrite.specs.Table.{Naming, plain, draws, drawing, prologue, statement, rewritten, side, stop_test}
+use Rattle.round_rewrite.specs.Table.{Naming, plain, draws, drawing, prologue, statement, rewritten, side}
 use Rattle.round_rewrite.proofs.Plain.{bare, bare-join, found, firsts}
 
 pub join_assoc : (a b c : Code) → join (join a b) c ≡ join a (join b c)
@@ -32,20 +32,19 @@ rest-join x (one m s t) b k =
     ∙ sym (cond_first (has_label x m) (one m s (join t (join b k))) (rest_from x t (join b k)) (rest_from x b k))
 rest-join x (choose m r y z t) b k =
     (λ i. cond (has_label x m) (Some (choose m r y z (join_assoc t b k i)))
-      (first_of_two (rest_from x y (join_assoc t b k i)) (first_of_two (rest_from x z (join_assoc t b k i)) (rest-join x t b k i))))
+    (first_of_two (rest_from x y (join_assoc t b k i)) (first_of_two (rest_from x z (join_assoc t b k i)) (rest-join x t b k i))))
     ∙ (ap (cond (has_label x m) (Some (choose m r y z (join t (join b k)))))
-        (ap (first_of_two (rest_from x y (join t (join b k)))) (sym (first_assoc (rest_from x z (join t (join b k))) (rest_from x t (join b k)) (rest_from x b k)))
-        ∙ sym (first_assoc (rest_from x y (join t (join b k))) (first_of_two (rest_from x z (join t (join b k))) (rest_from x t (join b k))) (rest_from x b k)))
+    (ap (first_of_two (rest_from x y (join t (join b k)))) (sym (first_assoc (rest_from x z (join t (join b k))) (rest_from x t (join b k)) (rest_from x b k)))
+    ∙ sym (first_assoc (rest_from x y (join t (join b k))) (first_of_two (rest_from x z (join t (join b k))) (rest_from x t (join b k))) (rest_from x b k)))
     ∙ sym (cond_first (has_label x m) _ _ (rest_from x b k)))
 rest-join x (loop m r y t) b k =
     (λ i. cond (has_label x m) (Some (loop m r y (join_assoc t b k i)))
-      (first_of_two (rest_from x y (loop m r y (join_assoc t b k i))) (rest-join x t b k i)))
+    (first_of_two (rest_from x y (loop m r y (join_assoc t b k i))) (rest-join x t b k i)))
     ∙ (ap (cond (has_label x m) (Some (loop m r y (join t (join b k)))))
-        (sym (first_assoc (rest_from x y (loop m r y (join t (join b k)))) (rest_from x t (join b k)) (rest_from x b k)))
+    (sym (first_assoc (rest_from x y (loop m r y (join t (join b k)))) (rest_from x t (join b k)) (rest_from x b k)))
     ∙ sym (cond_first (has_label x m) _ _ (rest_from x b k)))
 
 module _ (w : Naming Place Place ℕ ℕ) (last : ℕ) where
-
   pub bare-drawing : (n : ℕ) (t : Code) → bare (drawing w last n t) ≡ drawing w last n (bare t)
   bare-drawing zero t = refl
   bare-drawing (suc n) t = refl
@@ -97,8 +96,8 @@ module _ (w : Naming Place Place ℕ ℕ) (last : ℕ) where
       λ i. prologue w last plain (choose plain (side w last r) (bare-rewritten a i) (bare-rewritten b i) (bare-rewritten t i))
   bare-rewritten (loop m r a t) =
       λ i. prologue w last plain (loop plain (side w last r)
-        ((bare-join (rewritten w last a) (prologue w last plain done) ∙ ap (λ z. join z (prologue w last plain done)) (bare-rewritten a)) i)
-        (bare-rewritten t i))
+      ((bare-join (rewritten w last a) (prologue w last plain done) ∙ ap (λ z. join z (prologue w last plain done)) (bare-rewritten a)) i)
+      (bare-rewritten t i))
 
   rewritten-join : (a b : Code) → rewritten w last (join a b) ≡ join (rewritten w last a) (rewritten w last b)
   rewritten-join done b = refl
@@ -126,7 +125,7 @@ module _ (w : Naming Place Place ℕ ℕ) (last : ℕ) where
   rest-rewritten x done k k' e = refl
   rest-rewritten x (one m s t) k k' e =
       let whole : bare (join (statement w last s (rewritten w last t)) k) ≡ statement w last s (put (join t k')) =
-        ap bare (statement-join s (rewritten w last t) k) ∙ (bare-statement s (join (rewritten w last t) k) ∙ ap (statement w last s) (tails t k k' e)) in
+      ap bare (statement-join s (rewritten w last t) k) ∙ (bare-statement s (join (rewritten w last t) k) ∙ ap (statement w last s) (tails t k k' e)) in
       found bare put (has_label x m) _ _ _ _ (ap (prologue w last plain) whole)
       (ap (option_map bare) (rest-statement x s (rewritten w last t) k) ∙ rest-rewritten x t k k' e)
   rest-rewritten x (choose m r a b t) k k' e =
@@ -143,9 +142,9 @@ module _ (w : Naming Place Place ℕ ℕ) (last : ℕ) where
       let bodies : bare body ≡ join (put a) pd = bare-join (rewritten w last a) pd ∙ ap (λ z. join z pd) (bare-rewritten a) in
       let again : Code = loop plain (side w last r) body (join (rewritten w last t) k) in
       let agains : bare (join pd again) ≡ put (loop m r a (join t k')) =
-        (λ i. prologue w last plain (loop plain (side w last r) (bodies i) (after i))) in
+      (λ i. prologue w last plain (loop plain (side w last r) (bodies i) (after i))) in
       found bare put (has_label x m) _ _ _ _ agains
       (firsts bare put _ _ _ _
-        (ap (option_map bare) (rest-join x (rewritten w last a) pd again ∙ first_none (rest_from x (rewritten w last a) (join pd again)))
-        ∙ rest-rewritten x a (join pd again) (loop m r a (join t k')) agains)
+      (ap (option_map bare) (rest-join x (rewritten w last a) pd again ∙ first_none (rest_from x (rewritten w last a) (join pd again)))
+      ∙ rest-rewritten x a (join pd again) (loop m r a (join t k')) agains)
       (rest-rewritten x t k k' e))

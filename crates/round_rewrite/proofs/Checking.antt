@@ -1,20 +1,19 @@
 -- All guesses, and the checks that each round ended with the guess for the round after it, both ways.
-use Rattle.std.proofs.Common.{◌≡◌, ℕ, zero, suc, ◌+◌, ◌*◌, ◌<◌, ◌≤◌, Bool, true, false, cond, not, List, [], ◌∷◌, ◌++◌, length, map, refl, sym, ◌∙◌, ap, subst, ap₂, arith, append_assoc, length-append, ◌⊎◌, inl, inr}
+use Rattle.std.proofs.Common.{◌≡◌, ℕ, zero, suc, ◌+◌, ◌*◌, ◌<◌, ◌≤◌, Bool, true, false, cond, not, List, [], ◌∷◌, ◌++◌, length, map, refl, sym, ◌∙◌, ap, subst, ap₂, arith, append_assoc, length-append, inl, inr}
 use Rattle.std.proofs.lemmas.Bool.{cases_eq}
-use Rattle.language.specs.Tree.{Expression, var, two, equal, RightSide, any, value, Simple, assign, assume, Mark, Block, done, one}
-use Rattle.language.specs.Value.{Place, global, local, bit, with_bit, value_of}
-use Rattle.language.specs.Rest.{Label, Code}
-use Rattle.language.specs.Step.{Frame, frame, State, state}
-use Rattle.round_rewrite.specs.Table.{Naming, numbers, plain, guess, guesses, check, checks}
-use Rattle.round_rewrite.specs.Places.{places, copy_at, save_at, bits_at, all_globals}
+use Rattle.language.specs.Tree.{var, two, equal, value, assume}
+use Rattle.language.specs.Value.{global, bit}
+use Rattle.language.specs.Rest.{Code}
+use Rattle.language.specs.Step.{State}
+use Rattle.round_rewrite.specs.Table.{numbers, plain, guesses, check, checks}
+use Rattle.round_rewrite.specs.Places.{places, all_globals}
 use Rattle.round_rewrite.proofs.Laid.{Long, long_row, row, with_row, row_bit, with_middle, bit_right, length-flat, flat, lay, Shape, long-append}
-use Rattle.round_rewrite.proofs.Plain.{World, PlainSteps, PlainAfter}
+use Rattle.round_rewrite.proofs.Plain.{World, PlainAfter}
 use Rattle.round_rewrite.proofs.Leading.{Leads}
 use Rattle.round_rewrite.proofs.Compose.{Linked}
 use Rattle.round_rewrite.proofs.Guessing.{Bad, unstep_main, main_at, guessed, guess_leads, guess_back}
 
 module _ (w : World) (n last : ℕ) (g : List Bool) (eg : length g ≡ n) (bits : List Bool) where
-
   -- the rows a guessed already, those of d and e still to be
   abbrev pub Open : List (List Bool) → List (List Bool) → List (List Bool) → List Bool
   Open a d e = lay (g ∷ (a ++ d)) (a ++ e) bits
@@ -56,9 +55,9 @@ module _ (w : World) (n last : ℕ) (g : List Bool) (eg : length g ≡ n) (bits 
   guessed_is : (k m : ℕ) (a d e : List (List Bool)) (x y u : List Bool) → Fill k (suc m) a (x ∷ d) (y ∷ e) → guessed (g ∷ (a ++ x ∷ d)) (a ++ y ∷ e) k u bits ≡ Open (a ++ u ∷ []) d e
   guessed_is k m a d e x y u f =
       let c : with_row (a ++ x ∷ d) k u ≡ (a ++ u ∷ []) ++ d =
-        ap (λ j. with_row (a ++ x ∷ d) j u) (sym f.a_length) ∙ (with_middle a x u d ∙ sym (append_assoc a (u ∷ []) d)) in
+      ap (λ j. with_row (a ++ x ∷ d) j u) (sym f.a_length) ∙ (with_middle a x u d ∙ sym (append_assoc a (u ∷ []) d)) in
       let s : with_row (a ++ y ∷ e) k u ≡ (a ++ u ∷ []) ++ e =
-        ap (λ j. with_row (a ++ y ∷ e) j u) (sym f.a_length) ∙ (with_middle a y u e ∙ sym (append_assoc a (u ∷ []) e)) in
+      ap (λ j. with_row (a ++ y ∷ e) j u) (sym f.a_length) ∙ (with_middle a y u e ∙ sym (append_assoc a (u ∷ []) e)) in
       ap₂ (λ p q. lay (g ∷ p) q bits) c s
 
   pub guesses_lead : (t : Code) (Q : State → Type 0) (m k : ℕ) (a d e u : List (List Bool)) → Fill k m a d e → Long n u → length u ≡ m → Leads w (main_at (lay (g ∷ (a ++ u)) (a ++ u) bits) t) Q → Leads w (main_at (Open a d e) (guesses (places n last 0) last (all_globals n) (numbers (suc k) m) t)) Q
@@ -73,8 +72,8 @@ module _ (w : World) (n last : ℕ) (g : List Bool) (eg : length g ≡ n) (bits 
       guess_leads w n last (g ∷ (a ++ x ∷ d)) (a ++ y ∷ e) bits k (fill_shape k (suc m) a (x ∷ d) (y ∷ e) f) (let z : k + suc m ≡ last = f.all in omega arith)
       (guesses (places n last 0) last (all_globals n) (numbers (suc (suc k)) m) t) Q v lu.0
       (subst (λ z. Leads w (main_at z (guesses (places n last 0) last (all_globals n) (numbers (suc (suc k)) m) t)) Q) (sym (guessed_is k m a d e x y v f))
-        (guesses_lead t Q m (suc k) (a ++ v ∷ []) d e u (fill_next k m a d e x y v f lu.0) lu.1 (omega arith)
-          (subst (λ z. Leads w (main_at (lay (g ∷ z) z bits) t) Q) (sym (append_assoc a (v ∷ []) u)) h)))
+      (guesses_lead t Q m (suc k) (a ++ v ∷ []) d e u (fill_next k m a d e x y v f lu.0) lu.1 (omega arith)
+      (subst (λ z. Leads w (main_at (lay (g ∷ z) z bits) t) Q) (sym (append_assoc a (v ∷ []) u)) h)))
 
   pub guesses_back : (t : Code) (m k : ℕ) (a d e : List (List Bool)) → Fill k m a d e → (N : ℕ) → PlainAfter w N (main_at (Open a d e) (guesses (places n last 0) last (all_globals n) (numbers (suc k) m) t)) (Bad n last) → (u : List (List Bool)) × Long n u × (length u ≡ m) × (M : ℕ) × PlainAfter w M (main_at (lay (g ∷ (a ++ u)) (a ++ u) bits) t) (Bad n last)
   guesses_back t zero k a [] [] f N h = ([], tt, refl, N, h)
@@ -84,9 +83,9 @@ module _ (w : World) (n last : ℕ) (g : List Bool) (eg : length g ≡ n) (bits 
   guesses_back t (suc m) k a (x ∷ d) [] f N h = absurd (let z : zero ≡ suc m = f.e_length in omega arith)
   guesses_back t (suc m) k a (x ∷ d) (y ∷ e) f N h =
       let (v, ev, M, le, h1) = guess_back w n last (g ∷ (a ++ x ∷ d)) (a ++ y ∷ e) bits k (fill_shape k (suc m) a (x ∷ d) (y ∷ e) f) (let z : k + suc m ≡ last = f.all in omega arith)
-        (guesses (places n last 0) last (all_globals n) (numbers (suc (suc k)) m) t) N h in
+      (guesses (places n last 0) last (all_globals n) (numbers (suc (suc k)) m) t) N h in
       let (u, lu, eu, M', h2) = guesses_back t m (suc k) (a ++ v ∷ []) d e (fill_next k m a d e x y v f ev) M
-        (subst (λ z. PlainAfter w M (main_at z (guesses (places n last 0) last (all_globals n) (numbers (suc (suc k)) m) t)) (Bad n last)) (guessed_is k m a d e x y v f) h1) in
+      (subst (λ z. PlainAfter w M (main_at z (guesses (places n last 0) last (all_globals n) (numbers (suc (suc k)) m) t)) (Bad n last)) (guessed_is k m a d e x y v f) h1) in
       (v ∷ u, (ev, lu), ap suc eu, M', subst (λ z. PlainAfter w M' (main_at (lay (g ∷ z) z bits) t) (Bad n last)) (append_assoc a (v ∷ []) u) h2)
 
 same_true : (a b : Bool) → a ≡ b → true ≡ cond a b (not b)
@@ -109,7 +108,6 @@ same_bits (suc n) (x ∷ a) (y ∷ b) ea eb h =
     ap₂ (λ p q. p ∷ q) (h 0 (omega arith)) (same_bits n a b (omega arith) (omega arith) (λ i lt. h (suc i) (omega arith)))
 
 module _ (w : World) (n last : ℕ) (C S : List (List Bool)) (bits : List Bool) (shape : Shape n last C S) where
-
   abbrev X : List Bool
   X = lay C S bits
 
@@ -126,9 +124,14 @@ module _ (w : World) (n last : ℕ) (C S : List (List Bool)) (bits : List Bool) 
   check_leads : (t : Code) (Q : State → Type 0) (k : ℕ) → k < last → row S k ≡ row C k → (m j : ℕ) → j + m ≤ n → Leads w (main_at X t) Q → Leads w (main_at X (check (places n last 0) last (map global (numbers j m)) k t)) Q
   check_leads t Q k lt e zero j within h = h
   check_leads t Q k lt e (suc m) j within h =
-      let r = check_leads t Q k lt e m (suc j) (omega arith) h in
-      (suc r.0, (same_true (bit X (suc last * n + (k * n + j))) (bit X (k * n + j))
-        (saved_bit k j lt (omega arith) ∙ (ap (λ z. bit z j) e ∙ sym (copied_bit k j lt (omega arith)))), r.1))
+      let r = check_leads t Q k lt e m (suc j) (omega arith) h in (
+        suc r.0,
+        (
+          same_true (bit X (suc last * n + (k * n + j))) (bit X (k * n + j))
+              (saved_bit k j lt (omega arith) ∙ (ap (λ z. bit z j) e ∙ sym (copied_bit k j lt (omega arith)))),
+          r.1,
+        ),
+      )
 
   check_back : (t : Code) (k : ℕ) → k < last → (m j : ℕ) → j + m ≤ n → (N : ℕ) → PlainAfter w N (main_at X (check (places n last 0) last (map global (numbers j m)) k t)) (Bad n last) → ((i : ℕ) → j ≤ i → i < j + m → bit (row S k) i ≡ bit (row C k) i) × (M : ℕ) × PlainAfter w M (main_at X t) (Bad n last)
   check_back t k lt zero j within N h = ((λ i le l. absurd (omega arith)), N, h)
@@ -136,7 +139,7 @@ module _ (w : World) (n last : ℕ) (C S : List (List Bool)) (bits : List Bool) 
       let (M, e, (is, run)) = unstep_main w n last N X [] plain (assume (value (two equal (var (global (suc last * n + (k * n + j)))) (var (global (k * n + j)))))) (check (places n last 0) last (map global (numbers (suc j) m)) k t) h in
       let (facts, M', run') = check_back t k lt m (suc j) (omega arith) M run in
       let here : bit (row S k) j ≡ bit (row C k) j =
-        sym (saved_bit k j lt (omega arith)) ∙ (true_same (bit X (suc last * n + (k * n + j))) (bit X (k * n + j)) is ∙ copied_bit k j lt (omega arith)) in
+      sym (saved_bit k j lt (omega arith)) ∙ (true_same (bit X (suc last * n + (k * n + j))) (bit X (k * n + j)) is ∙ copied_bit k j lt (omega arith)) in
       ((λ i le l. elim (cases_eq i j) [ inl same ↦ subst (λ z. bit (row S k) z ≡ bit (row C k) z) (sym same) here | inr other ↦ facts i (omega arith) (omega arith) ]), M', run')
 
   pub checks_lead : (t : Code) (Q : State → Type 0) (m k : ℕ) → k + m ≤ last → ((i : ℕ) → i < last → row S i ≡ row C i) → Leads w (main_at X t) Q → Leads w (main_at X (checks (places n last 0) last (all_globals n) (numbers k m) t)) Q
@@ -151,10 +154,10 @@ module _ (w : World) (n last : ℕ) (C S : List (List Bool)) (bits : List Bool) 
       let (facts, M, run) = check_back (checks (places n last 0) last (all_globals n) (numbers (suc k) m) t) k (omega arith) n 0 (omega arith) N h in
       let (more, M', run') = checks_back t m (suc k) (omega arith) M run in
       let here : row S k ≡ row C k =
-        same_bits n (row S k) (row C k)
-        (long_row n S k shape.saved (let z : length S ≡ last = shape.guesses in omega arith))
-        (long_row n C k shape.copies (let z : length C ≡ suc last = shape.rounds in omega arith))
-        (λ i lt. facts i (omega arith) (omega arith)) in
+      same_bits n (row S k) (row C k)
+      (long_row n S k shape.saved (let z : length S ≡ last = shape.guesses in omega arith))
+      (long_row n C k shape.copies (let z : length C ≡ suc last = shape.rounds in omega arith))
+      (λ i lt. facts i (omega arith) (omega arith)) in
       ((λ i le l. elim (cases_eq i k) [ inl same ↦ subst (λ z. row S z ≡ row C z) (sym same) here | inr other ↦ more i (omega arith) (omega arith) ]), M', run')
 
 -- what the checks say is that the rows are linked

@@ -3,11 +3,11 @@ use Rattle.std.proofs.Common.{◌≡◌, ℕ, zero, suc, ◌+◌, ◌<◌, ◌�
 use Rattle.language.specs.Tree.{skip, assign, assert, assume, goto, leave, call, done, one, choose, loop}
 use Rattle.language.specs.Value.{values_of}
 use Rattle.language.specs.Rest.{Code, rest_from}
-use Rattle.language.specs.Step.{Routine, Program, Frame, frame, State, state, fresh, AtRoutine, AtRest, body_of, StepsTo, AfterSteps, Runs, Fails}
+use Rattle.language.specs.Step.{Routine, Program, Frame, frame, State, state, fresh, AtRoutine, AtRest, body_of, StepsTo, AfterSteps, Runs}
 use Rattle.language.specs.Rounds.{Round, Rounds, FailsInRound}
 use Rattle.round_rewrite.proofs.Laid.{Long}
 use Rattle.round_rewrite.proofs.Assigned.{length-written_globals}
-use Rattle.round_rewrite.proofs.Turns.{Turns, FailTurns, idle, no_steps, after_pick}
+use Rattle.round_rewrite.proofs.Turns.{Turns, FailTurns, idle}
 
 -- steps keep how many globals there are
 abbrev how_many : State → ℕ
@@ -107,6 +107,7 @@ row_join p g G (s ∷ ss) [] g' G' ss' r h = absurd r
 row_join p g G (s ∷ ss) (m ∷ mid) g' G' [] r h = absurd h
 row_join p g G (s ∷ ss) (m ∷ mid) g' G' (s' ∷ ss') (k, run, round) (H, ts, more) =
     (k ∷ H, (m, run, ts), row_join p k H ss mid g' G' ss' round more)
+
 fail_join : (p : Program) (g : List Bool) (G : List (List Bool)) (ss mid : List (List Frame)) (g' : List Bool) (G' : List (List Bool)) → Round p g ss g' mid → FailThreads p G mid G' → FailThreads p (g ∷ G) ss (g' ∷ G')
 fail_join p g G [] [] g' G' r h = absurd h
 fail_join p g G [] (x ∷ mid) g' G' r h = let e : x ∷ mid ≡ [] = r.1 in cc

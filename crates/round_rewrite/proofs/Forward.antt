@@ -1,19 +1,19 @@
 -- A step of the source is a run of the rewritten program.
-use Rattle.std.proofs.Common.{◌≡◌, ℕ, zero, suc, ◌+◌, ◌-◌, ◌*◌, ◌<◌, ◌≤◌, Bool, true, false, cond, List, [], ◌∷◌, ◌++◌, length, map, Option, Some, None, option_map, slice_get, refl, sym, ◌∙◌, ap, subst, ap₂, arith, append_assoc}
-use Rattle.language.specs.Tree.{Expression, const, RightSide, any, value, Simple, skip, assign, assert, assume, goto, leave, call, Mark, Block, done, one, choose, loop}
-use Rattle.language.specs.Value.{Place, global, local, values_of, IsValue, AreValues, written_globals, written_locals}
+use Rattle.std.proofs.Common.{◌≡◌, ℕ, suc, ◌+◌, ◌<◌, ◌≤◌, Bool, true, false, cond, List, [], ◌∷◌, ◌++◌, length, map, Option, Some, None, option_map, slice_get, refl, sym, ◌∙◌, ap, subst, arith}
+use Rattle.language.specs.Tree.{Expression, RightSide, skip, assign, assert, assume, goto, leave, call, Mark, done, one, choose, loop}
+use Rattle.language.specs.Value.{Place, values_of, IsValue, written_globals, written_locals}
 use Rattle.language.specs.Rest.{Label, Code, join, rest_from}
-use Rattle.language.specs.Step.{Routine, Program, Frame, frame, State, state, zeros, fresh, AtRoutine, AtRest, body_of, StepsTo, AfterSteps, Fails}
-use Rattle.round_rewrite.specs.Table.{Naming, plain, draws, temporaries, expression, side, stop_test, prologue, statement}
-use Rattle.round_rewrite.specs.Places.{places, is_global, bits_at}
-use Rattle.round_rewrite.specs.Scoped.{AreInScope, SideInScope, SimpleInScope, Throughout, EachRoutine, RoutineInScope, FitsScopes}
-use Rattle.round_rewrite.proofs.Laid.{row, with_row, long_row, bits_of, lay, Shape, bits_with}
+use Rattle.language.specs.Step.{Routine, Program, Frame, frame, State, state, zeros, fresh, AtRoutine, AtRest, body_of, StepsTo}
+use Rattle.round_rewrite.specs.Table.{Naming, plain, temporaries, expression, side, prologue, statement}
+use Rattle.round_rewrite.specs.Places.{places, is_global}
+use Rattle.round_rewrite.specs.Scoped.{AreInScope, SideInScope, RoutineInScope, FitsScopes}
+use Rattle.round_rewrite.proofs.Laid.{row, with_row, long_row, bits_of, lay, Shape}
 use Rattle.round_rewrite.proofs.Translate.{side_is, expressions_are}
 use Rattle.round_rewrite.proofs.Assigned.{length-written_globals, length-written_locals, with-own_row}
 use Rattle.round_rewrite.proofs.Drawing.{assign_leads}
-use Rattle.round_rewrite.proofs.Plain.{World, PlainSteps, PlainAfter, bare}
+use Rattle.round_rewrite.proofs.Plain.{World, PlainAfter}
 use Rattle.round_rewrite.proofs.Leading.{Leads}
-use Rattle.round_rewrite.proofs.Blocks.{put, put-join, put-again}
+use Rattle.round_rewrite.proofs.Blocks.{put-join, put-again}
 use Rattle.round_rewrite.proofs.Prologue.{prologue_goes, stop_leads}
 use Rattle.round_rewrite.proofs.Frames.{Fits, Roomy, Both, source, Good, AllGood, put_rest, callers, stack, put_routine, IsWorld, each_at, roomy, throughout-join, throughout-rest, IfThere, fresh_more, length-fresh, length-zeros}
 
@@ -55,10 +55,10 @@ put_loop p last own false k r x t = refl
 pub jump_good : (p : Program) (last c own : ℕ) (l tmp : List Bool) (rest : Code) (x : Label) (found : Code) → FitsScopes p → (h : Good p last (both c own l tmp rest)) → rest_from x h.routine.body done ≡ Some found → Good p last (both c own l tmp found)
 jump_good p last c own l tmp rest x found fits h e =
     let inside : Fits p.routines p.globals own (length tmp) h.routine.body =
-      subst (λ k. Fits p.routines p.globals k (length tmp) h.routine.body) h.own_is (body_fits p c h.routine (length tmp) fits h.there h.room) in
+    subst (λ k. Fits p.routines p.globals k (length tmp) h.routine.body) h.own_is (body_fits p c h.routine (length tmp) fits h.there h.room) in
     let there : IfThere (Fits p.routines p.globals own (length tmp)) (Some found) =
-      subst (IfThere (Fits p.routines p.globals own (length tmp))) e
-      (throughout-rest (Roomy p.routines p.globals own (length tmp)) (SideInScope p.globals own) x h.routine.body done inside tt) in
+    subst (IfThere (Fits p.routines p.globals own (length tmp))) e
+    (throughout-rest (Roomy p.routines p.globals own (length tmp)) (SideInScope p.globals own) x h.routine.body done inside tt) in
     good_with p last c own l tmp rest l tmp found h refl refl there
 
 -- a new frame of a procedure fits
@@ -76,7 +76,6 @@ call_good p last q r vs fits e short =
     }
 
 module _ (p : Program) (last : ℕ) (fits : FitsScopes p) (small : last < 4) (w : World) (isw : IsWorld p last w) (C S : List (List Bool)) (q : ℕ) (b : Bool) (shape : Shape p.globals last C S) (within : q ≤ last) (m : Frame) where
-
   abbrev pub X : List Bool
   X = lay C S (bits_of q false b)
 
@@ -105,7 +104,6 @@ module _ (p : Program) (last : ℕ) (fits : FitsScopes p) (small : last < 4) (w 
   side_at own l tmp el r h v = side_is p.globals last own C S q false b (l ++ tmp) shape small within l tmp refl el r h v
 
   module _ (Q : State → Type 0) where
-
     -- a frame that leaves, where stop is 0
     pub pop_leads : (c : ℕ) (L : List Bool) (bs : List Both) → Leads w (state X (stack p last bs m)) Q → Leads w (state X (frame c L done ∷ callers p last bs m)) Q
     pop_leads c L [] (k, h) = (suc k, h)
@@ -121,7 +119,6 @@ module _ (p : Program) (last : ℕ) (fits : FitsScopes p) (small : last < 4) (w 
     enter_leads c own L (loop k r x t) fs h = prologue_goes w p.globals last own C S shape small c L fs Q q b _ h
 
     module _ (R : State → Type 0) where
-
       -- what has to be shown of the states that the step leads to
       abbrev pub Next : Type 0
       Next = (g' : List Bool) (bs : List Both) → length g' ≡ p.globals → AllGood p last bs → R (state g' (map source bs)) → Leads w (state (turned g') (stack p last bs m)) Q
@@ -142,9 +139,9 @@ module _ (p : Program) (last : ℕ) (fits : FitsScopes p) (small : last < 4) (w 
           let lv : length vs ≤ r.places = subst (λ k. k ≤ r.places) (sym (length_values (row C q) l es)) short in
           let k = same_globals next (both q' r.places (fresh r.places vs) (zeros d) r.body ∷ both c own l tmp t ∷ bs) (call_good p last q' r vs fits e lv, (h, good)) a in
           let ev : values_of X (l ++ tmp) (map (expression (naming own) last) es) ≡ vs =
-            expressions_are p.globals last own C S q false b (l ++ tmp) shape small within l tmp refl h.long es scope in
+          expressions_are p.globals last own C S q false b (l ++ tmp) shape small within l tmp refl h.long es scope in
           let ef : fresh (r.places + d) (values_of X (l ++ tmp) (map (expression (naming own) last) es)) ≡ fresh r.places vs ++ zeros d =
-            ap (fresh (r.places + d)) ev ∙ fresh_more r.places d vs lv in
+          ap (fresh (r.places + d)) ev ∙ fresh_more r.places d vs lv in
           (k.0, subst (λ z. PlainAfter w k.0 (state X (frame (suc q') z (put_rest p last r.places r.body) ∷ callers p last (both c own l tmp t ∷ bs) m)) Q) (sym ef) k.1)
         where
           length_values : (g l : List Bool) (es : List (Expression Place)) → length (values_of g l es) ≡ length es
@@ -160,8 +157,8 @@ module _ (p : Program) (last : ℕ) (fits : FitsScopes p) (small : last < 4) (w 
       step_leads c own l tmp (one k (assign xs rs) t) bs h good s next =
           assign_leads w p.globals last own (suc c) (callers p last bs m) Q C S q b shape small within l tmp h.long xs rs s.0 (put_rest p last own t) s.1 h.fits.0.0.0 h.fits.0.0.1 h.fits.0.1
           (λ tmp' et. next (written_globals xs s.0 (row C q)) (both c own (written_locals xs s.0 l) tmp' t ∷ bs)
-            (length-written_globals xs s.0 (row C q) ∙ row_long)
-            (good_with p last c own l tmp (one k (assign xs rs) t) (written_locals xs s.0 l) tmp' t h (length-written_locals xs s.0 l) et h.fits.1, good) s.2)
+          (length-written_globals xs s.0 (row C q) ∙ row_long)
+          (good_with p last c own l tmp (one k (assign xs rs) t) (written_locals xs s.0 l) tmp' t h (length-written_locals xs s.0 l) et h.fits.1, good) s.2)
       step_leads c own l tmp (one k (assert r) t) bs h good s next =
           let z = same_globals next (both c own l tmp t ∷ bs) (good_with p last c own l tmp (one k (assert r) t) l tmp t h refl refl h.fits.1, good) s.1 in
           (suc (suc z.0), (true, subst (λ T. T) (sym (side_at own l tmp h.long r h.fits.0.0 true)) s.0, z.1))
@@ -170,10 +167,10 @@ module _ (p : Program) (last : ℕ) (fits : FitsScopes p) (small : last < 4) (w 
           (suc z.0, (subst (λ T. T) (sym (side_at own l tmp h.long r h.fits.0.0 true)) s.0, z.1))
       step_leads c own l tmp (one k (goto x) t) bs h good s next =
           let found : AtRest (rest_from x h.routine.body done) (λ u. R (state (row C q) (frame c l u ∷ map source bs))) =
-            subst (λ o. AtRest (rest_from x (body_of o) done) (λ u. R (state (row C q) (frame c l u ∷ map source bs)))) h.there s in
+          subst (λ o. AtRest (rest_from x (body_of o) done) (λ u. R (state (row C q) (frame c l u ∷ map source bs)))) h.there s in
           let z = jump_leads c own l tmp (one k (goto x) t) x bs (rest_from x h.routine.body done) h good refl found next in
           let where_to : w.jumps (suc c) x ≡ option_map (put_rest p last own) (rest_from x h.routine.body done) =
-            isw.jumps_is c h.routine x h.there ∙ ap (λ o. option_map (put_rest p last o) (rest_from x h.routine.body done)) h.own_is in
+          isw.jumps_is c h.routine x h.there ∙ ap (λ o. option_map (put_rest p last o) (rest_from x h.routine.body done)) h.own_is in
           (suc z.0, subst (λ o. AtRest o (λ u. PlainAfter w z.0 (state X (frame (suc c) (l ++ tmp) u ∷ callers p last bs m)) Q)) (sym where_to) z.1)
       step_leads c own l tmp (one k leave t) bs h good s next =
           let r = same_globals next (both c own l tmp done ∷ bs) (good_with p last c own l tmp (one k leave t) l tmp done h refl refl tt, good) s in
@@ -184,12 +181,22 @@ module _ (p : Program) (last : ℕ) (fits : FitsScopes p) (small : last < 4) (w 
       step_leads c own l tmp (choose k r x y t) bs h good (v, is, s) next =
           let S' : (z : Code) → Fits p.routines p.globals own (length tmp) z → Good p last (both c own l tmp z) = λ z f. good_with p last c own l tmp (choose k r x y t) l tmp z h refl refl f in
           let branch : Leads w (state X (frame (suc c) (l ++ tmp) (put_rest p last own (cond v (join x t) (join y t))) ∷ callers p last bs m)) Q =
-            same_globals next (both c own l tmp (cond v (join x t) (join y t)) ∷ bs) (S' (cond v (join x t) (join y t)) (branch_fits p own (length tmp) v x y t h.fits.1 h.fits.2 h.fits.3), good) s in
-          (suc branch.0, (v, subst (λ T. T) (sym (side_at own l tmp h.long r h.fits.0 v)) is,
-            subst (λ z. PlainAfter w branch.0 (state X (frame (suc c) (l ++ tmp) z ∷ callers p last bs m)) Q) (put_branch p last own v x y t) branch.1))
+          same_globals next (both c own l tmp (cond v (join x t) (join y t)) ∷ bs) (S' (cond v (join x t) (join y t)) (branch_fits p own (length tmp) v x y t h.fits.1 h.fits.2 h.fits.3), good) s in (
+            suc branch.0,
+            (
+              v,
+              subst (λ T. T) (sym (side_at own l tmp h.long r h.fits.0 v)) is,
+              subst (λ z. PlainAfter w branch.0 (state X (frame (suc c) (l ++ tmp) z ∷ callers p last bs m)) Q) (put_branch p last own v x y t) branch.1,
+            ),
+          )
       step_leads c own l tmp (loop k r x t) bs h good (v, is, s) next =
           let branch : Leads w (state X (frame (suc c) (l ++ tmp) (put_rest p last own (cond v (join x (loop k r x t)) t)) ∷ callers p last bs m)) Q =
-            same_globals next (both c own l tmp (cond v (join x (loop k r x t)) t) ∷ bs)
-            (good_with p last c own l tmp (loop k r x t) l tmp (cond v (join x (loop k r x t)) t) h refl refl (loop_fits p own (length tmp) v k r x t h.fits), good) s in
-          (suc branch.0, (v, subst (λ T. T) (sym (side_at own l tmp h.long r h.fits.0 v)) is,
-            subst (λ z. PlainAfter w branch.0 (state X (frame (suc c) (l ++ tmp) z ∷ callers p last bs m)) Q) (put_loop p last own v k r x t) branch.1))
+          same_globals next (both c own l tmp (cond v (join x (loop k r x t)) t) ∷ bs)
+          (good_with p last c own l tmp (loop k r x t) l tmp (cond v (join x (loop k r x t)) t) h refl refl (loop_fits p own (length tmp) v k r x t h.fits), good) s in (
+            suc branch.0,
+            (
+              v,
+              subst (λ T. T) (sym (side_at own l tmp h.long r h.fits.0 v)) is,
+              subst (λ z. PlainAfter w branch.0 (state X (frame (suc c) (l ++ tmp) z ∷ callers p last bs m)) Q) (put_loop p last own v k r x t) branch.1,
+            ),
+          )

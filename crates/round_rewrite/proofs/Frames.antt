@@ -1,12 +1,12 @@
 -- A stack of the source and the temporaries together give the rewritten stack.
 use Rattle.std.proofs.Common.{◌≡◌, ℕ, zero, suc, ◌+◌, ◌-◌, ◌*◌, ◌<◌, ◌≤◌, max, Bool, true, false, cond, List, [], ◌∷◌, ◌++◌, length, map, Option, Some, None, option_map, slice_get, refl, sym, ◌∙◌, ap, subst, ap₂, arith, ◌⊎◌, inl, inr, append_assoc, length-append}
-use Rattle.language.specs.Tree.{Simple, skip, assign, assert, assume, goto, leave, call, Mark, Block, done, one, choose, loop, RightSide}
+use Rattle.language.specs.Tree.{Simple, skip, assign, assert, assume, goto, leave, call, Mark, done, one, choose, loop, RightSide}
 use Rattle.language.specs.Value.{Place}
 use Rattle.language.specs.Rest.{Label, Code, join, rest_from, first_of_two, has_label}
-use Rattle.language.specs.Step.{Routine, Program, Frame, frame, State, state, zeros, fresh, AtRoutine, body_of}
-use Rattle.round_rewrite.specs.Table.{Naming, plain, draws, temporaries, stop_test}
+use Rattle.language.specs.Step.{Routine, Program, Frame, frame, zeros, fresh}
+use Rattle.round_rewrite.specs.Table.{draws, temporaries, stop_test}
 use Rattle.round_rewrite.specs.Places.{places, is_global}
-use Rattle.round_rewrite.specs.Scoped.{SimpleInScope, SideInScope, Throughout, EachRoutine, RoutineInScope, FitsScopes}
+use Rattle.round_rewrite.specs.Scoped.{SimpleInScope, SideInScope, Throughout, EachRoutine}
 use Rattle.round_rewrite.proofs.Plain.{World}
 use Rattle.round_rewrite.proofs.Blocks.{put}
 
@@ -90,7 +90,6 @@ abbrev pub source : Both → Frame
 source b = frame b.c b.l b.rest
 
 module _ (p : Program) (last : ℕ) where
-
   -- the frame is one of a procedure that is there, and fits
   pub record Good (b : Both) : Type 0 where
     pub routine : Routine

@@ -1,10 +1,10 @@
 -- The guesses and the checks of the first procedure, both ways.
-use Rattle.std.proofs.Common.{◌≡◌, ℕ, zero, suc, ◌+◌, ◌*◌, ◌<◌, ◌≤◌, Bool, true, false, cond, not, List, [], ◌∷◌, ◌++◌, length, map, refl, sym, ◌∙◌, ap, subst, ap₂, arith, append_assoc, length-append}
-use Rattle.language.specs.Tree.{Expression, var, two, equal, RightSide, any, value, Simple, skip, assign, assert, assume, goto, leave, call, Mark, Block, done, one, choose, loop}
-use Rattle.language.specs.Value.{Place, global, local, bit, with_bit, value_of, IsValue, AreValues, written_globals, written_locals}
+use Rattle.std.proofs.Common.{◌≡◌, ℕ, zero, suc, ◌+◌, ◌*◌, ◌<◌, ◌≤◌, Bool, true, List, [], ◌∷◌, ◌++◌, length, map, refl, sym, ◌∙◌, ap, subst, ap₂, arith, append_assoc, length-append}
+use Rattle.language.specs.Tree.{var, RightSide, any, value, Simple, assign, Mark, done, one, choose, loop}
+use Rattle.language.specs.Value.{Place, global, local, bit, with_bit, AreValues, written_globals, written_locals}
 use Rattle.language.specs.Rest.{Label, Code}
 use Rattle.language.specs.Step.{Frame, frame, State, state}
-use Rattle.round_rewrite.specs.Table.{Naming, numbers, plain, each, guess, guesses, check, checks}
+use Rattle.round_rewrite.specs.Table.{numbers, plain, each, guess}
 use Rattle.round_rewrite.specs.Places.{places, copy_at, save_at, bits_at, all_globals}
 use Rattle.round_rewrite.proofs.Laid.{Long, row, with_row, row_bit, row_with, row_middle, with_middle, with_right, bit_right, length-flat, flat, lay, Shape, length-with, length-with_row, long-with_row, long-append}
 use Rattle.round_rewrite.proofs.Assigned.{row-with_same, with-with_row}
@@ -47,14 +47,13 @@ fill_all a (v ∷ vs) [] e = absurd (omega arith)
 fill_all a (v ∷ vs) (x ∷ b) e =
     let one_more : length (a ++ v ∷ []) ≡ suc (length a) = length-append a (v ∷ []) ∙ omega arith in
     let here : with_bit (a ++ x ∷ b) (length a) v ≡ (a ++ v ∷ []) ++ b =
-      with_right a (x ∷ b) (length a) 0 v (omega arith) ∙ sym (append_assoc a (v ∷ []) b) in
+    with_right a (x ∷ b) (length a) 0 v (omega arith) ∙ sym (append_assoc a (v ∷ []) b) in
     (λ i. fill (sym one_more i) vs (here i)) ∙ (fill_all (a ++ v ∷ []) vs b (omega arith) ∙ append_assoc a (v ∷ []) vs)
 
 pub fill_row : (vs r : List Bool) → length r ≡ length vs → fill 0 vs r ≡ vs
 fill_row vs r e = fill_all [] vs r e
 
 module _ (n last : ℕ) where
-
   copy_writes : (C : List (List Bool)) (X : List Bool) (k j m : ℕ) (vs : List Bool) → Long n C → k < length C → j + m ≤ n → length vs ≡ m → written_globals (map (copy_at n k) (map global (numbers j m))) vs (flat C ++ X) ≡ flat (with_row C k (fill j vs (row C k))) ++ X
   copy_writes C X k j zero [] long h within e = ap (λ z. flat z ++ X) (sym (Rattle.round_rewrite.proofs.Assigned.with-own_row C k))
   copy_writes C X k j zero (v ∷ vs) long h within e = absurd (omega arith)
@@ -76,7 +75,7 @@ module _ (n last : ℕ) where
       let el : length (with_bit (row S k) j v) ≡ n = length-with (row S k) j v ∙ Rattle.round_rewrite.proofs.Laid.long_row n S k long h in
       let same : row D k ≡ with_bit (row S k) j v = row-with_same S k (with_bit (row S k) j v) h in
       ap (written_globals (map (save_at n last (suc k)) (map global (numbers (suc j) m))) vs)
-        (with_right A (flat S ++ X) (suc last * n + (k * n + j)) (k * n + j) v (ap (λ z. z + (k * n + j)) (sym ea)) ∙ ap (λ z. A ++ z) (row_with n S X k j v long h (omega arith)))
+      (with_right A (flat S ++ X) (suc last * n + (k * n + j)) (k * n + j) v (ap (λ z. z + (k * n + j)) (sym ea)) ∙ ap (λ z. A ++ z) (row_with n S X k j v long h (omega arith)))
       ∙ (save_writes A D X k (suc j) m vs ea (long-with_row n S k (with_bit (row S k) j v) long el) (let z : length D ≡ length S = length-with_row S k (with_bit (row S k) j v) in omega arith) (omega arith) (omega arith)
       ∙ ap (λ z. A ++ (flat z ++ X)) (ap (λ z. with_row D k (fill (suc j) vs z)) same ∙ with-with_row S k (with_bit (row S k) j v) (fill (suc j) vs (with_bit (row S k) j v))))
 
@@ -100,9 +99,10 @@ module _ (n last : ℕ) where
   row_values C X L k j zero a [] long h er ea eb within = tt
   row_values C X L k j zero a (v ∷ b) long h er ea eb within = absurd (omega arith)
   row_values C X L k j (suc m) a [] long h er ea eb within = absurd (omega arith)
-  row_values C X L k j (suc m) a (v ∷ b) long h er ea eb within =
-      (sym (row_bit n C X k j long h (omega arith) ∙ (ap (λ z. bit z j) er ∙ bit_right a (v ∷ b) j 0 (omega arith))),
-       row_values C X L k (suc j) m (a ++ v ∷ []) b long h (er ∙ sym (append_assoc a (v ∷ []) b)) (let z : length (a ++ v ∷ []) ≡ length a + 1 = length-append a (v ∷ []) in omega arith) (omega arith) (omega arith))
+  row_values C X L k j (suc m) a (v ∷ b) long h er ea eb within = (
+    sym (row_bit n C X k j long h (omega arith) ∙ (ap (λ z. bit z j) er ∙ bit_right a (v ∷ b) j 0 (omega arith))),
+    row_values C X L k (suc j) m (a ++ v ∷ []) b long h (er ∙ sym (append_assoc a (v ∷ []) b)) (let z : length (a ++ v ∷ []) ≡ length a + 1 = length-append a (v ∷ []) in omega arith) (omega arith) (omega arith),
+  )
 
   row_values_back : (C : List (List Bool)) (X L : List Bool) (k j m : ℕ) (a b vs : List Bool) → Long n C → k < length C → row C k ≡ a ++ b → length a ≡ j → length b ≡ m → j + m ≤ n → AreValues (flat C ++ X) L (reads k (map global (numbers j m))) vs → vs ≡ b
   row_values_back C X L k j zero a [] [] long h er ea eb within h' = refl
@@ -140,7 +140,6 @@ not_guessed n last C S bits k v e shape lt ev =
     (ap (with_row S k) (sym s) ∙ Rattle.round_rewrite.proofs.Assigned.with-own_row S k)
 
 module _ (n last : ℕ) (C S : List (List Bool)) (bits : List Bool) (k : ℕ) (shape : Shape n last C S) (lt : k < last) where
-
   room : suc k < length C
   room = let z : length C ≡ suc last = shape.rounds in omega arith
 
@@ -156,7 +155,7 @@ module _ (n last : ℕ) (C S : List (List Bool)) (bits : List Bool) (k : ℕ) (s
   second_write v ev =
       let D : List (List Bool) = with_row C (suc k) v in
       let ed : length (flat D) ≡ suc last * n =
-        length-flat n D (long-with_row n C (suc k) v shape.copies ev) ∙ ap (λ z. z * n) (length-with_row C (suc k) v ∙ shape.rounds) in
+      length-flat n D (long-with_row n C (suc k) v shape.copies ev) ∙ ap (λ z. z * n) (length-with_row C (suc k) v ∙ shape.rounds) in
       save_writes n last (flat D) S bits k 0 n v ed shape.saved room' (omega arith) ev
       ∙ ap (λ z. lay D (with_row S k z) bits) (fill_row v (row S k) (Rattle.round_rewrite.proofs.Laid.long_row n S k shape.saved room' ∙ sym ev))
 
@@ -181,12 +180,17 @@ guess_leads w (suc n) last C S bits k shape lt t Q v ev (m, h) =
     let rest : Code = one plain (assign to' (map (λ y. value (var (copy_at (suc n) (suc k) y))) xs)) t in
     let X1 : List Bool = lay (with_row C (suc k) v) S bits in
     let h1 : PlainAfter w m (state (written_globals to' v X1) (frame 0 (written_locals to' v []) t ∷ [])) Q =
-      subst (λ z. PlainAfter w m (state (written_globals to' v X1) (frame 0 z t ∷ [])) Q) (sym (no_locals to' v))
-      (subst (λ z. PlainAfter w m (main_at z t) Q) (sym (second_write (suc n) last C S bits k shape lt v ev)) h) in
-    let h2 : PlainAfter w (suc m) (main_at X1 rest) Q = (v, saved_values (suc n) last C S bits k shape lt v [] ev, h1) in
-    (suc (suc m), (v, any_values (suc n) last (lay C S bits) [] (suc n) 0 v ev,
-      subst (λ z. PlainAfter w (suc m) (state (written_globals to v (lay C S bits)) (frame 0 z rest ∷ [])) Q) (sym (no_locals to v))
-      (subst (λ z. PlainAfter w (suc m) (main_at z rest) Q) (sym (first_write (suc n) last C S bits k shape lt v ev)) h2)))
+    subst (λ z. PlainAfter w m (state (written_globals to' v X1) (frame 0 z t ∷ [])) Q) (sym (no_locals to' v))
+    (subst (λ z. PlainAfter w m (main_at z t) Q) (sym (second_write (suc n) last C S bits k shape lt v ev)) h) in
+    let h2 : PlainAfter w (suc m) (main_at X1 rest) Q = (v, saved_values (suc n) last C S bits k shape lt v [] ev, h1) in (
+      suc (suc m),
+      (
+        v,
+        any_values (suc n) last (lay C S bits) [] (suc n) 0 v ev,
+        subst (λ z. PlainAfter w (suc m) (state (written_globals to v (lay C S bits)) (frame 0 z rest ∷ [])) Q) (sym (no_locals to v))
+            (subst (λ z. PlainAfter w (suc m) (main_at z rest) Q) (sym (first_write (suc n) last C S bits k shape lt v ev)) h2),
+      ),
+    )
 
 pub guess_back : (w : World) (n last : ℕ) (C S : List (List Bool)) (bits : List Bool) (k : ℕ) → Shape n last C S → k < last → (t : Code) (N : ℕ) → PlainAfter w N (main_at (lay C S bits) (guess (places n last 0) last (all_globals n) (suc k) t)) (Bad n last) → (v : List Bool) × (length v ≡ n) × (M : ℕ) × (M ≤ N) × PlainAfter w M (main_at (guessed C S k v bits) t) (Bad n last)
 guess_back w zero last C S bits k shape lt t N h =
@@ -201,12 +205,16 @@ guess_back w (suc n) last C S bits k shape lt t N h =
     let ev : length v ≡ suc n = any_length (suc n) last (lay C S bits) [] (suc n) 0 v a1 in
     let X1 : List Bool = lay (with_row C (suc k) v) S bits in
     let h2 : PlainAfter w M1 (main_at X1 rest) (Bad (suc n) last) =
-      subst (λ z. PlainAfter w M1 (main_at z rest) (Bad (suc n) last)) (first_write (suc n) last C S bits k shape lt v ev)
-      (subst (λ z. PlainAfter w M1 (state (written_globals to v (lay C S bits)) (frame 0 z rest ∷ [])) (Bad (suc n) last)) (no_locals to v) h1) in
+    subst (λ z. PlainAfter w M1 (main_at z rest) (Bad (suc n) last)) (first_write (suc n) last C S bits k shape lt v ev)
+    (subst (λ z. PlainAfter w M1 (state (written_globals to v (lay C S bits)) (frame 0 z rest ∷ [])) (Bad (suc n) last)) (no_locals to v) h1) in
     let (M2, e2, (us, a2, h3)) = unstep_main w (suc n) last M1 X1 [] plain (assign to' R) t h2 in
     let eu : us ≡ v = saved_back (suc n) last C S bits k shape lt v [] us ev a2 in
     let h4 : PlainAfter w M2 (state (written_globals to' v X1) (frame 0 (written_locals to' v []) t ∷ [])) (Bad (suc n) last) =
-      subst (λ z. PlainAfter w M2 (state (written_globals to' z X1) (frame 0 (written_locals to' z []) t ∷ [])) (Bad (suc n) last)) eu h3 in
-    (v, ev, M2, omega arith,
+    subst (λ z. PlainAfter w M2 (state (written_globals to' z X1) (frame 0 (written_locals to' z []) t ∷ [])) (Bad (suc n) last)) eu h3 in (
+      v,
+      ev,
+      M2,
+      omega arith,
       subst (λ z. PlainAfter w M2 (main_at z t) (Bad (suc n) last)) (second_write (suc n) last C S bits k shape lt v ev)
-      (subst (λ z. PlainAfter w M2 (state (written_globals to' v X1) (frame 0 z t ∷ [])) (Bad (suc n) last)) (no_locals to' v) h4))
+          (subst (λ z. PlainAfter w M2 (state (written_globals to' v X1) (frame 0 z t ∷ [])) (Bad (suc n) last)) (no_locals to' v) h4),
+    )

@@ -1,5 +1,5 @@
 -- How the globals of the rewritten program lie: copies round by round, saved guesses, the round's bits, stop, bad.
-use Rattle.std.proofs.Common.{◌≡◌, ℕ, zero, suc, ◌+◌, ◌*◌, ◌<◌, ◌≤◌, Bool, true, false, List, [], ◌∷◌, ◌++◌, length, map, refl, sym, ◌∙◌, ap, subst, ap₂, arith, append_assoc, length-append, suc-add, zero-add}
+use Rattle.std.proofs.Common.{◌≡◌, ℕ, zero, suc, ◌+◌, ◌*◌, ◌<◌, Bool, true, false, List, [], ◌∷◌, ◌++◌, length, refl, sym, ◌∙◌, ap, arith, append_assoc, length-append, zero-add}
 use Rattle.language.specs.Value.{bit, with_bit}
 use Rattle.round_rewrite.specs.Places.{bits_at}
 

@@ -1,6 +1,6 @@
 -- Runs of the plain machine that come to a property.
-use Rattle.std.proofs.Common.{◌≡◌, ℕ, zero, suc, ◌<◌, ◌≤◌, Bool, List, [], ◌∷◌, refl, arith}
-use Rattle.language.specs.Step.{Frame, frame, State, state}
+use Rattle.std.proofs.Common.{◌≡◌, ℕ, zero, suc, ◌<◌, Bool, List, ◌∷◌, refl, arith}
+use Rattle.language.specs.Step.{Frame, State, state}
 use Rattle.round_rewrite.proofs.Plain.{World, PlainSteps, PlainAfter}
 
 -- some run leads from s to a state with the property

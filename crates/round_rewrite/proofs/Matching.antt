@@ -1,14 +1,14 @@
 -- The first procedure by names, resolved, is the first procedure by places.
-use Rattle.std.proofs.Common.{◌≡◌, ℕ, zero, suc, ◌+◌, ◌*◌, ◌<◌, ◌≤◌, Bool, true, false, cond, not, List, [], ◌∷◌, ◌++◌, length, map, codes, refl, sym, ◌∙◌, ap, subst, ap₂, arith, append_assoc, length-append}
-use Rattle.language.specs.Tree.{Name, Expression, const, var, two, equal, RightSide, any, value, Simple, assign, assume, call, Mark, Block, done, one, ThreadLine, Tree}
-use Rattle.language.specs.Value.{Place, global, local}
-use Rattle.language.specs.Rest.{Label, Code, same_text}
-use Rattle.language.specs.Resolve.{number_of, is_declared, Scope, place_of, resolve_expression, resolve_side, resolve_simple, resolve_mark, resolve_block}
+use Rattle.std.proofs.Common.{◌≡◌, ℕ, zero, suc, ◌+◌, ◌<◌, ◌≤◌, Bool, true, false, cond, List, [], ◌∷◌, ◌++◌, length, map, refl, sym, ◌∙◌, ap, subst, ap₂, arith, append_assoc, length-append}
+use Rattle.language.specs.Tree.{Name, const, var, two, equal, any, value, assign, assume, call, Block, done, one, ThreadLine, Tree}
+use Rattle.language.specs.Value.{Place, global}
+use Rattle.language.specs.Rest.{Code, same_text}
+use Rattle.language.specs.Resolve.{number_of, is_declared, Scope, place_of, resolve_side, resolve_block}
 use Rattle.round_rewrite.specs.Table.{Naming, numbers, plain, each, guess, guesses, starts, check, checks, main}
-use Rattle.round_rewrite.specs.Places.{places, is_global, copy_at, save_at, bits_at, all_globals}
-use Rattle.round_rewrite.specs.Names.{named, copy_name, save_name, drawn_name, names}
+use Rattle.round_rewrite.specs.Places.{places, copy_at, save_at, all_globals}
+use Rattle.round_rewrite.specs.Names.{copy_name, save_name, names}
 use Rattle.round_rewrite.specs.Rewritable.{AreFree, AreDistinct, EachLine}
-use Rattle.round_rewrite.proofs.Spelling.{same_text_true, same_text_refl, same_text_false}
+use Rattle.round_rewrite.proofs.Spelling.{same_text_refl, same_text_false}
 use Rattle.round_rewrite.proofs.Numbering.{number_right}
 use Rattle.round_rewrite.proofs.Placing.{scope, wider, copy_place, save_place}
 use Rattle.round_rewrite.proofs.Resolved.{lo, hi, st}
@@ -31,7 +31,6 @@ not_before (p ∷ pre) x rest h =
     ap (λ c. cond c true (is_declared x.text pre)) (same_text_other p.text x.text (not_later p.text pre x rest h.0)) ∙ not_before pre x rest h.1
 
 module _ (t : Tree) (gs ps : List Name) (last : ℕ) (gs_free : AreFree gs) (distinct : AreDistinct gs) (few : 0 ≤ 64) (small : last < 4) (ps' : List Name) (called : (q : Name) → is_declared q.text ps ≡ true → number_of q.text ps' ≡ suc (number_of q.text ps)) where
-
   abbrev n : ℕ
   n = length gs
 
@@ -64,10 +63,11 @@ module _ (t : Tree) (gs ps : List Name) (last : ℕ) (gs_free : AreFree gs) (dis
       let r = number_right x.text pre (x ∷ suf) before in
       let there : is_declared x.text gs ≡ true = ap (is_declared x.text) e ∙ (r.1 ∙ ap (λ c. cond c true (is_declared x.text suf)) (same_text_refl x.text)) in
       let at : number_of x.text gs ≡ j =
-        ap (number_of x.text) e ∙ (r.0 ∙ (ap (λ c. length pre + cond c 0 (suc (number_of x.text suf))) (same_text_refl x.text) ∙ (let z : length pre + 0 ≡ j = omega arith in z))) in
-      ((λ k le. copy_place gs [] ps 0 last gs_free tt few small ps' x k le refl there ∙ ap (λ i. copy_at n k (global i)) at),
-       (λ k lt. save_place gs [] ps 0 last gs_free tt few small ps' x k lt refl there ∙ ap (λ i. save_at n last (suc k) (global i)) at),
-       matches_from (pre ++ x ∷ []) suf (e ∙ sym (append_assoc pre (x ∷ []) suf)) (suc j) (let z : length (pre ++ x ∷ []) ≡ length pre + 1 = length-append pre (x ∷ []) in omega arith))
+      ap (number_of x.text) e ∙ (r.0 ∙ (ap (λ c. length pre + cond c 0 (suc (number_of x.text suf))) (same_text_refl x.text) ∙ (let z : length pre + 0 ≡ j = omega arith in z))) in (
+        (λ k le. copy_place gs [] ps 0 last gs_free tt few small ps' x k le refl there ∙ ap (λ i. copy_at n k (global i)) at),
+        (λ k lt. save_place gs [] ps 0 last gs_free tt few small ps' x k lt refl there ∙ ap (λ i. save_at n last (suc k) (global i)) at),
+        matches_from (pre ++ x ∷ []) suf (e ∙ sym (append_assoc pre (x ∷ []) suf)) (suc j) (let z : length (pre ++ x ∷ []) ≡ length pre + 1 = length-append pre (x ∷ []) in omega arith),
+      )
 
   copies_match : (xs : List Name) (ys : List Place) → Matches xs ys → (k : ℕ) → k ≤ last → map (place_of sm') (map (copy_name k) xs) ≡ map (copy_at n k) ys
   copies_match [] [] m k le = refl
@@ -99,7 +99,7 @@ module _ (t : Tree) (gs ps : List Name) (last : ℕ) (gs_free : AreFree gs) (dis
   guess_match (x ∷ xs) [] m k lt b b' e = absurd m
   guess_match (x ∷ xs) (y ∷ ys) m k lt b b' e =
       λ i. one plain (assign (copies_match (x ∷ xs) (y ∷ ys) m (suc k) (omega arith) i) (any_match (x ∷ xs) (y ∷ ys) m i))
-        (one plain (assign (saves_match (x ∷ xs) (y ∷ ys) m k lt i) (reads_match (x ∷ xs) (y ∷ ys) m (suc k) (omega arith) i)) (e i))
+      (one plain (assign (saves_match (x ∷ xs) (y ∷ ys) m k lt i) (reads_match (x ∷ xs) (y ∷ ys) m (suc k) (omega arith) i)) (e i))
 
   guesses_match : (xs : List Name) (ys : List Place) → Matches xs ys → (k m : ℕ) → k + m ≤ last → (b : Block Name Name Name) (b' : Code) → resolve_block sm' b ≡ b' → resolve_block sm' (guesses N last xs (numbers (suc k) m) b) ≡ guesses P last ys (numbers (suc k) m) b'
   guesses_match xs ys ms k zero le b b' e = e
@@ -122,8 +122,8 @@ module _ (t : Tree) (gs ps : List Name) (last : ℕ) (gs_free : AreFree gs) (dis
   starts_match [] h b b' e = e
   starts_match (line ∷ lines) h b b' e =
       λ i. one plain (assign (hi t gs [] ps 0 last gs_free tt few small ps' called i ∷ lo t gs [] ps 0 last gs_free tt few small ps' called i ∷ st t gs [] ps 0 last gs_free tt few small ps' called i ∷ [])
-          (value (const false) ∷ value (const false) ∷ value (const false) ∷ []))
-        (one plain (call (called line.name h.0 i) []) (starts_match lines h.1 b b' e i))
+      (value (const false) ∷ value (const false) ∷ value (const false) ∷ []))
+      (one plain (call (called line.name h.0 i) []) (starts_match lines h.1 b b' e i))
 
   pub main_resolved : (lines : List ThreadLine) → EachLine ps lines → resolve_block sm' (main N last gs (map (λ (line : ThreadLine). line.name) lines)) ≡ main P last (all_globals n) (map (λ (line : ThreadLine). number_of line.name.text ps) lines)
   main_resolved lines h =
@@ -132,4 +132,4 @@ module _ (t : Tree) (gs ps : List Name) (last : ℕ) (gs_free : AreFree gs) (dis
       (starts N last (map (λ (line : ThreadLine). line.name) lines) (checks N last gs (numbers 0 last) done))
       (starts P last (map (λ (line : ThreadLine). number_of line.name.text ps) lines) (checks P last (all_globals n) (numbers 0 last) done))
       (starts_match lines h (checks N last gs (numbers 0 last) done) (checks P last (all_globals n) (numbers 0 last) done)
-        (checks_match gs (all_globals n) ms 0 last (omega arith) done done refl))
+      (checks_match gs (all_globals n) ms 0 last (omega arith) done done refl))

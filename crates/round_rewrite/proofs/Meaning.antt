@@ -1,22 +1,22 @@
 -- The rewritten tree means the rewritten program, and the theorem over names.
-use Rattle.std.proofs.Common.{◌≡◌, ℕ, zero, suc, ◌+◌, ◌*◌, ◌<◌, ◌≤◌, Bool, true, false, cond, not, List, [], ◌∷◌, ◌++◌, length, map, codes, Option, Some, None, option_map, slice_get, refl, sym, ◌∙◌, ap, subst, ap₂, arith, append_assoc, length-append}
+use Rattle.std.proofs.Common.{◌≡◌, ℕ, zero, suc, ◌+◌, ◌*◌, ◌<◌, ◌≤◌, Bool, true, false, cond, List, [], ◌∷◌, ◌++◌, length, map, codes, Option, Some, None, option_map, slice_get, refl, sym, ◌∙◌, ap, subst, ap₂, arith, append_assoc, length-append}
 use Rattle.std.proofs.lemmas.List.{length-map}
 use Rattle.std.proofs.lemmas.Option.{slice_get-map}
-use Rattle.language.specs.Tree.{Name, Expression, const, var, negation, two, RightSide, any, value, Simple, skip, assign, assert, assume, goto, leave, call, Mark, Block, done, one, choose, loop, Procedure, ThreadLine, Tree}
-use Rattle.language.specs.Value.{Place, global, local}
-use Rattle.language.specs.Rest.{Label, Code, same_text}
-use Rattle.language.specs.Step.{Routine, Program, AtRoutine}
-use Rattle.language.specs.Resolve.{number_of, is_declared, Scope, place_of, resolve_expression, resolve_side, resolve_simple, resolve_mark, resolve_block, scope_of, routine_of, meaning_of}
+use Rattle.language.specs.Tree.{Name, Expression, const, var, negation, two, RightSide, any, value, Simple, skip, assign, assert, assume, goto, leave, call, Block, done, one, choose, loop, Procedure, ThreadLine, Tree}
+use Rattle.language.specs.Value.{global, local}
+use Rattle.language.specs.Rest.{same_text}
+use Rattle.language.specs.Step.{AtRoutine}
+use Rattle.language.specs.Resolve.{number_of, is_declared, Scope, place_of, resolve_expression, resolve_side, resolve_simple, resolve_block, scope_of, routine_of, meaning_of}
 use Rattle.language.specs.Sequential.{in_text_order, sequential_of}
 use Rattle.round_rewrite.specs.Table.{Naming, numbers, temporaries, rewritten, main, globals}
-use Rattle.round_rewrite.specs.Places.{places, is_global, bits_at, all_globals, rewritten_routine, main_routine, rewritten_program}
+use Rattle.round_rewrite.specs.Places.{places, is_global, bits_at, rewritten_routine, main_routine, rewritten_program}
 use Rattle.round_rewrite.specs.Names.{named, copy_name, save_name, drawn_name, names, rewritten_procedure, main_procedure, rewritten_tree}
 use Rattle.round_rewrite.specs.Scoped.{PlaceInScope, InScope, AreInScope, SideInScope, SidesInScope, PlacesInScope, SimpleInScope, Throughout, EachRoutine, EachThread, RoutineInScope, FitsScopes}
 use Rattle.round_rewrite.specs.Rewritable.{has_double, AreFree, Declared, AllDeclared, ExpressionDeclared, ExpressionsDeclared, SideDeclared, SidesDeclared, HasRoom, SimpleDeclared, BlockDeclared, ProcedureRewritable, EachProcedure, EachLine, IsRewritable, width, IsNarrow}
 use Rattle.round_rewrite.specs.Law.{SomeBad, Keeps, KeepsTree}
 use Rattle.round_rewrite.proofs.Spelling.{free_differs}
 use Rattle.round_rewrite.proofs.Numbering.{free_name, length-rows}
-use Rattle.round_rewrite.proofs.Placing.{scope, wider, bad_place, length-numbers}
+use Rattle.round_rewrite.proofs.Placing.{wider, bad_place, length-numbers}
 use Rattle.round_rewrite.proofs.Resolved.{by_test, temporaries_resolved, block_resolved}
 use Rattle.round_rewrite.proofs.Matching.{main_resolved, same_text_other}
 use Rattle.round_rewrite.proofs.Theorem.{keeps}
@@ -41,7 +41,6 @@ number_less x (y ∷ xs) h = go (same_text x y.text) h (λ k. number_less x xs k
     go false k rec = let z : number_of x xs < length xs = rec k in omega arith
 
 module _ (t : Tree) (last : ℕ) (ok : IsRewritable t) (small : last < 4) where
-
   abbrev t' : Tree
   t' = rewritten_tree last t
 
@@ -89,11 +88,11 @@ module _ (t : Tree) (last : ℕ) (ok : IsRewritable t) (small : last < 4) where
       let d : ℕ = drawn_of p in
       let few : d ≤ 64 = few_drawn p narrow in
       let counts : temporaries (names own).is_shared p.body ≡ temporaries is_global (resolve_block (scope_of t p) p.body) =
-        temporaries_resolved t gs own ps d last ok.globals h.own few small ps' called p.body in
+      temporaries_resolved t gs own ps d last ok.globals h.own few small ps' called p.body in
       let bodies : resolve_block (wider gs own ps d last ok.globals h.own few small ps') (rewritten (names own) last p.body) ≡ rewritten (places (length gs) last (length own)) last (resolve_block (scope_of t p) p.body) =
-        block_resolved t gs own ps d last ok.globals h.own few small ps' called p.body h.body (omega arith) in
+      block_resolved t gs own ps d last ok.globals h.own few small ps' called p.body h.body (omega arith) in
       let scoped : resolve_block (scope_of t' (rewritten_procedure last p)) (rewritten (names own) last p.body) ≡ resolve_block (wider gs own ps d last ok.globals h.own few small ps') (rewritten (names own) last p.body) =
-        ap (λ l. resolve_block (record { globals = t'.globals; locals = l; procedures = ps' }) (rewritten (names own) last p.body)) (sym (append_assoc p.formals p.locals (temps_of p))) in
+      ap (λ l. resolve_block (record { globals = t'.globals; locals = l; procedures = ps' }) (rewritten (names own) last p.body)) (sym (append_assoc p.formals p.locals (temps_of p))) in
       λ i. record { places = (length-own p ∙ ap (λ z. length own + z) counts) i; body = (scoped ∙ bodies) i }
 
   routines_are : (procs : List Procedure) → EachProcedure (ProcedureRewritable t) procs → EachProcedure (λ (p : Procedure). width t' p ≤ 64) (map (rewritten_procedure last) procs) → map (routine_of t') (map (rewritten_procedure last) procs) ≡ map (rewritten_routine (length gs) last) (map (routine_of t) procs)
@@ -124,7 +123,6 @@ module _ (t : Tree) (last : ℕ) (ok : IsRewritable t) (small : last < 4) where
 
   -- a rewritable tree's program fits its scopes
   module _ (own : List Name) where
-
     abbrev s : Scope
     s = record { globals = gs; locals = own; procedures = ps }
 
@@ -166,10 +164,11 @@ module _ (t : Tree) (last : ℕ) (ok : IsRewritable t) (small : last < 4) where
     simple_fits (assume r) h = side_fits r h
     simple_fits (goto x) h = tt
     simple_fits leave h = tt
-    simple_fits (call q es) h =
-        (expressions_fit es h.0,
-         subst (λ o. AtRoutine o (λ r. length (map (resolve_expression s) es) ≤ r.places)) (sym (slice_get-map (routine_of t) t.procedures (number_of q.text ps)))
-           (room_fits (slice_get t.procedures (number_of q.text ps)) es h.2))
+    simple_fits (call q es) h = (
+      expressions_fit es h.0,
+      subst (λ o. AtRoutine o (λ r. length (map (resolve_expression s) es) ≤ r.places)) (sym (slice_get-map (routine_of t) t.procedures (number_of q.text ps)))
+          (room_fits (slice_get t.procedures (number_of q.text ps)) es h.2),
+    )
 
     block_fits : (b : Block Name Name Name) → BlockDeclared t s b → Throughout (SimpleInScope (meaning_of t).routines (length gs) (length own)) (SideInScope (length gs) (length own)) (resolve_block s b)
     block_fits done h = tt
@@ -188,9 +187,10 @@ module _ (t : Tree) (last : ℕ) (ok : IsRewritable t) (small : last < 4) where
 
   threads_fit : (lines : List ThreadLine) → EachLine ps lines → EachThread (meaning_of t).routines (map (λ (line : ThreadLine). number_of line.name.text ps) lines)
   threads_fit [] h = tt
-  threads_fit (line ∷ lines) h =
-      (there t.procedures (number_of line.name.text ps) (let z : number_of line.name.text ps < length ps = number_less line.name.text ps h.0 in let e : length ps ≡ length t.procedures = length-map t.procedures (λ (p : Procedure). p.name) in omega arith),
-       threads_fit lines h.1)
+  threads_fit (line ∷ lines) h = (
+    there t.procedures (number_of line.name.text ps) (let z : number_of line.name.text ps < length ps = number_less line.name.text ps h.0 in let e : length ps ≡ length t.procedures = length-map t.procedures (λ (p : Procedure). p.name) in omega arith),
+    threads_fit lines h.1,
+  )
 
   pub fits_scopes : FitsScopes (meaning_of t)
   fits_scopes = record { routines = routines_fit t.procedures ok.procedures; threads = threads_fit t.threads ok.threads }
@@ -204,5 +204,5 @@ module _ (t : Tree) (last : ℕ) (ok : IsRewritable t) (small : last < 4) where
   keeps_tree narrow =
       let k : Keeps last (meaning_of t) = keeps (meaning_of t) last fits_scopes small in
       let same : SomeBad (in_text_order (rewritten_program last (meaning_of t))) (bits_at (length gs) last + 3) ≡ SomeBad (sequential_of t') (number_of (codes "bad__") t'.globals) =
-        ap₂ (λ p b. SomeBad (in_text_order p) b) (sym (meaning_is narrow)) (sym bad_number) in
+      ap₂ (λ p b. SomeBad (in_text_order p) b) (sym (meaning_is narrow)) (sym bad_number) in
       ((λ u. subst (λ T. T) same (k.0 u)), (λ b. k.1 (subst (λ T. T) (sym same) b)))

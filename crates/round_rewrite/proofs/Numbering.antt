@@ -1,16 +1,11 @@
 -- Where the printed names stand among the rewritten program's globals, formals, locals and temporaries.
 use Rattle.std.proofs.Common.{◌≡◌, ℕ, zero, suc, ◌+◌, ◌*◌, ◌<◌, ◌≤◌, Bool, true, false, cond, not, List, [], ◌∷◌, ◌++◌, length, map, codes, refl, sym, ◌∙◌, ap, subst, ap₂, arith, append_assoc, length-append, ◌⊎◌, inl, inr}
-use Rattle.std.proofs.lemmas.Bool.{cases_eq}
-use Rattle.std.specs.Prelude.{decimal}
 use Rattle.language.specs.Tree.{Name}
-use Rattle.language.specs.Value.{Place, global, local}
 use Rattle.language.specs.Rest.{same_text}
-use Rattle.language.specs.Resolve.{number_of, is_declared, Scope, place_of}
-use Rattle.round_rewrite.specs.Table.{Naming, numbers, copied, globals}
-use Rattle.round_rewrite.specs.Places.{copy_at, save_at, bits_at}
-use Rattle.round_rewrite.specs.Names.{named, copy_name, save_name, drawn_name, names}
-use Rattle.round_rewrite.specs.Rewritable.{has_double, AreFree, Declared}
-use Rattle.round_rewrite.proofs.Spelling.{same_text_true, same_text_refl, same_text_false, same_text-append, free_differs, copies_differ, saves_differ, save_no_copy, low_no_copy, low_no_save, drawn_differ, no_drawn}
+use Rattle.language.specs.Resolve.{number_of, is_declared}
+use Rattle.round_rewrite.specs.Table.{Naming, numbers, copied}
+use Rattle.round_rewrite.specs.Rewritable.{has_double, AreFree}
+use Rattle.round_rewrite.proofs.Spelling.{same_text_true, free_differs}
 
 declared_step : (c : Bool) (r r' : Bool) → cond c true r ≡ true → (c ≡ true) ⊎ (r ≡ true)
 declared_step true r r' h = inl refl
@@ -24,9 +19,10 @@ pub number_right : (t : List ℕ) (xs ys : List Name) → is_declared t xs ≡ f
 number_right t [] ys h = (sym (Rattle.std.proofs.Common.zero-add (number_of t ys)), refl)
 number_right t (x ∷ xs) ys h =
     let k = none_step (same_text t x.text) (is_declared t xs) h in
-    let r = number_right t xs ys k.1 in
-    (ap (λ c. cond c 0 (suc (number_of t (xs ++ ys)))) k.0 ∙ (ap suc r.0 ∙ (let z : suc (length xs + number_of t ys) ≡ suc (length xs) + number_of t ys = omega arith in z)),
-     ap (λ c. cond c true (is_declared t (xs ++ ys))) k.0 ∙ r.1)
+    let r = number_right t xs ys k.1 in (
+      ap (λ c. cond c 0 (suc (number_of t (xs ++ ys)))) k.0 ∙ (ap suc r.0 ∙ (let z : suc (length xs + number_of t ys) ≡ suc (length xs) + number_of t ys = omega arith in z)),
+      ap (λ c. cond c true (is_declared t (xs ++ ys))) k.0 ∙ r.1,
+    )
 
 number_here : (c : Bool) (a b : ℕ) → a ≡ b → cond c 0 (suc a) ≡ cond c 0 (suc b)
 number_here c a b e = ap (λ z. cond c 0 (suc z)) e
@@ -60,7 +56,6 @@ pub record Spelled (f : ℕ → Name → Name) : Type 0 where
   pub unlike : (k j : ℕ) (x y : Name) → k < 4 → j < 4 → (k ≡ j → ⊥) → same_text (f k x).text (f j y).text ≡ false
 
 module _ (w : Naming Name Name Name Name) (last : ℕ) (f : ℕ → Name → Name) (xs : List Name) where
-
   abbrev rows : ℕ → ℕ → List Name
   rows j m = copied w last f xs (numbers j m)
 
@@ -69,7 +64,7 @@ module _ (w : Naming Name Name Name Name) (last : ℕ) (f : ℕ → Name → Nam
   length-rows j (suc m) =
       length-append (map (f j) xs) (rows (suc j) m)
       ∙ (let a : length (map (f j) xs) ≡ length xs = Rattle.std.proofs.lemmas.List.length-map xs (f j) in
-         let b : length (rows (suc j) m) ≡ m * length xs = length-rows (suc j) m in omega arith)
+      let b : length (rows (suc j) m) ≡ m * length xs = length-rows (suc j) m in omega arith)
 
   pub none_in_row : (t : List ℕ) (j : ℕ) (ys : List Name) → ((y : Name) → same_text t (f j y).text ≡ false) → is_declared t (map (f j) ys) ≡ false
   none_in_row t j [] h = refl
@@ -93,15 +88,17 @@ module _ (w : Naming Name Name Name Name) (last : ℕ) (f : ℕ → Name → Nam
   in_rows sp x h zero j (suc m) lt all =
       let e : j + zero ≡ j = omega arith in
       let r = in_row sp x j xs in
-      let l = number_left (f j x).text (map (f j) xs) (rows (suc j) m) (r.0 ∙ h) in
-      (ap (λ k. is_declared (f k x).text (rows j (suc m))) e ∙ l.1,
-       ap (λ k. number_of (f k x).text (rows j (suc m))) e ∙ (l.0 ∙ (r.1 ∙ (let z : number_of x.text xs ≡ zero * length xs + number_of x.text xs = omega arith in z))))
+      let l = number_left (f j x).text (map (f j) xs) (rows (suc j) m) (r.0 ∙ h) in (
+        ap (λ k. is_declared (f k x).text (rows j (suc m))) e ∙ l.1,
+        ap (λ k. number_of (f k x).text (rows j (suc m))) e ∙ (l.0 ∙ (r.1 ∙ (let z : number_of x.text xs ≡ zero * length xs + number_of x.text xs = omega arith in z))),
+      )
   in_rows sp x h (suc d) j (suc m) lt all =
       let e : j + suc d ≡ suc j + d = omega arith in
       let none : is_declared (f (j + suc d) x).text (map (f j) xs) ≡ false = none_in_row (f (j + suc d) x).text j xs (λ y. sp.unlike (j + suc d) j x y (omega arith) (omega arith) (λ q. omega arith)) in
       let r = number_right (f (j + suc d) x).text (map (f j) xs) (rows (suc j) m) none in
       let ih = in_rows sp x h d (suc j) m (omega arith) (omega arith) in
-      let a : length (map (f j) xs) ≡ length xs = Rattle.std.proofs.lemmas.List.length-map xs (f j) in
-      (r.1 ∙ (ap (λ k. is_declared (f k x).text (rows (suc j) m)) e ∙ ih.0),
-       r.0 ∙ (ap (λ k. length (map (f j) xs) + number_of (f k x).text (rows (suc j) m)) e
-       ∙ (ap (λ z. length (map (f j) xs) + z) ih.1 ∙ (let z : length (map (f j) xs) + (d * length xs + number_of x.text xs) ≡ suc d * length xs + number_of x.text xs = omega arith in z))))
+      let a : length (map (f j) xs) ≡ length xs = Rattle.std.proofs.lemmas.List.length-map xs (f j) in (
+        r.1 ∙ (ap (λ k. is_declared (f k x).text (rows (suc j) m)) e ∙ ih.0),
+        r.0 ∙ (ap (λ k. length (map (f j) xs) + number_of (f k x).text (rows (suc j) m)) e
+            ∙ (ap (λ z. length (map (f j) xs) + z) ih.1 ∙ (let z : length (map (f j) xs) + (d * length xs + number_of x.text xs) ≡ suc d * length xs + number_of x.text xs = omega arith in z))),
+      )

@@ -1,18 +1,16 @@
 -- The printed names stand at their places.
-use Rattle.std.proofs.Common.{◌≡◌, ℕ, zero, suc, ◌+◌, ◌*◌, ◌<◌, ◌≤◌, Bool, true, false, cond, not, List, [], ◌∷◌, ◌++◌, length, map, codes, refl, sym, ◌∙◌, ap, subst, ap₂, arith, append_assoc, length-append}
-use Rattle.std.proofs.lemmas.Bool.{cases_eq}
+use Rattle.std.proofs.Common.{◌≡◌, ℕ, zero, suc, ◌+◌, ◌*◌, ◌<◌, ◌≤◌, true, false, cond, List, [], ◌∷◌, ◌++◌, length, map, codes, refl, sym, ◌∙◌, ap, ap₂, arith, append_assoc, length-append}
 use Rattle.std.specs.Prelude.{decimal}
-use Rattle.std.proofs.lemmas.List.{length-map}
 use Rattle.language.specs.Tree.{Name}
-use Rattle.language.specs.Value.{Place, global, local}
+use Rattle.language.specs.Value.{global, local}
 use Rattle.language.specs.Rest.{same_text}
 use Rattle.language.specs.Resolve.{number_of, is_declared, Scope, place_of}
 use Rattle.round_rewrite.specs.Table.{Naming, numbers, copied, globals}
 use Rattle.round_rewrite.specs.Places.{copy_at, save_at, bits_at}
 use Rattle.round_rewrite.specs.Names.{named, copy_name, save_name, drawn_name, names}
-use Rattle.round_rewrite.specs.Rewritable.{has_double, AreFree, Declared}
-use Rattle.round_rewrite.proofs.Spelling.{same_text_true, same_text_refl, same_text_false, same_text-append, free_differs, copies_differ, saves_differ, save_no_copy, low_no_copy, low_no_save, drawn_differ, no_drawn, digit_is}
-use Rattle.round_rewrite.proofs.Numbering.{number_right, number_left, not_free, free_name, Spelled, length-rows, none_in_row, none_in_rows, in_rows}
+use Rattle.round_rewrite.specs.Rewritable.{has_double, AreFree}
+use Rattle.round_rewrite.proofs.Spelling.{same_text_refl, same_text_false, same_text-append, copies_differ, saves_differ, save_no_copy, low_no_copy, low_no_save, drawn_differ, no_drawn, digit_is}
+use Rattle.round_rewrite.proofs.Numbering.{number_right, number_left, not_free, free_name, Spelled, length-rows, none_in_rows, in_rows}
 
 pub copies_spelled : Spelled copy_name
 copies_spelled = record {
@@ -35,22 +33,23 @@ the_temporary : (e j d : ℕ) → e < d → j + d ≤ 64 → (is_declared (drawn
 the_temporary e j zero lt all = absurd (omega arith)
 the_temporary zero j (suc d) lt all =
     let z : j + zero ≡ j = omega arith in
-    let same : same_text (drawn_name (j + zero)).text (drawn_name j).text ≡ true = ap (λ k. same_text (drawn_name k).text (drawn_name j).text) z ∙ same_text_refl (drawn_name j).text in
-    (ap (λ c. cond c true (is_declared (drawn_name (j + zero)).text (map drawn_name (numbers (suc j) d)))) same,
-     ap (λ c. cond c 0 (suc (number_of (drawn_name (j + zero)).text (map drawn_name (numbers (suc j) d))))) same)
+    let same : same_text (drawn_name (j + zero)).text (drawn_name j).text ≡ true = ap (λ k. same_text (drawn_name k).text (drawn_name j).text) z ∙ same_text_refl (drawn_name j).text in (
+      ap (λ c. cond c true (is_declared (drawn_name (j + zero)).text (map drawn_name (numbers (suc j) d)))) same,
+      ap (λ c. cond c 0 (suc (number_of (drawn_name (j + zero)).text (map drawn_name (numbers (suc j) d))))) same,
+    )
 the_temporary (suc e) j (suc d) lt all =
     let z : j + suc e ≡ suc j + e = omega arith in
     let other : same_text (drawn_name (j + suc e)).text (drawn_name j).text ≡ false = drawn_differ (j + suc e) j (omega arith) (omega arith) (λ q. omega arith) in
-    let ih = the_temporary e (suc j) d (omega arith) (omega arith) in
-    (ap (λ c. cond c true (is_declared (drawn_name (j + suc e)).text (map drawn_name (numbers (suc j) d)))) other ∙ (ap (λ k. is_declared (drawn_name k).text (map drawn_name (numbers (suc j) d))) z ∙ ih.0),
-     ap (λ c. cond c 0 (suc (number_of (drawn_name (j + suc e)).text (map drawn_name (numbers (suc j) d))))) other ∙ ap suc (ap (λ k. number_of (drawn_name k).text (map drawn_name (numbers (suc j) d))) z ∙ ih.1))
+    let ih = the_temporary e (suc j) d (omega arith) (omega arith) in (
+      ap (λ c. cond c true (is_declared (drawn_name (j + suc e)).text (map drawn_name (numbers (suc j) d)))) other ∙ (ap (λ k. is_declared (drawn_name k).text (map drawn_name (numbers (suc j) d))) z ∙ ih.0),
+      ap (λ c. cond c 0 (suc (number_of (drawn_name (j + suc e)).text (map drawn_name (numbers (suc j) d))))) other ∙ ap suc (ap (λ k. number_of (drawn_name k).text (map drawn_name (numbers (suc j) d))) z ∙ ih.1),
+    )
 
 pub length-numbers : (j d : ℕ) → length (numbers j d) ≡ d
 length-numbers j zero = refl
 length-numbers j (suc d) = ap suc (length-numbers (suc j) d)
 
 module _ (gs own ps : List Name) (d last : ℕ) (gs_free : AreFree gs) (own_free : AreFree own) (few : d ≤ 64) (small : last < 4) where
-
   w : Naming Name Name Name Name
   w = names []
 
@@ -97,7 +96,7 @@ module _ (gs own ps : List Name) (d last : ℕ) (gs_free : AreFree gs) (own_free
       let free : has_double x.text ≡ false = free_name x.text gs gs_free there in
       let t : List ℕ = (copy_name k x).text in
       let out : is_declared t (own ++ temps) ≡ false =
-        outside x.text (decimal (suc k)) (λ i. same_text_false t (drawn_name i).text (digit_not_t k (omega arith) [] (decimal (suc i)) x.text free)) in
+      outside x.text (decimal (suc k)) (λ i. same_text_false t (drawn_name i).text (digit_not_t k (omega arith) [] (decimal (suc i)) x.text free)) in
       let r = in_rows (names []) last copy_name gs copies_spelled x there k 0 (suc last) (omega arith) (omega arith) in
       let z : 0 + k ≡ k = omega arith in
       let inA : is_declared t A ≡ true = ap (λ y. is_declared (copy_name y x).text A) (sym z) ∙ r.0 in
@@ -113,7 +112,7 @@ module _ (gs own ps : List Name) (d last : ℕ) (gs_free : AreFree gs) (own_free
       let free : has_double x.text ≡ false = free_name x.text gs gs_free there in
       let t : List ℕ = (save_name (suc k) x).text in
       let out : is_declared t (own ++ temps) ≡ false =
-        outside x.text (115 ∷ decimal (suc (suc k))) (λ i. same_text_false t (drawn_name i).text (no_drawn x.text 115 (decimal (suc (suc k))) (decimal (suc i)) free (λ z. omega arith))) in
+      outside x.text (115 ∷ decimal (suc (suc k))) (λ i. same_text_false t (drawn_name i).text (no_drawn x.text 115 (decimal (suc (suc k))) (decimal (suc i)) free (λ z. omega arith))) in
       let r = in_rows (names []) last save_name gs saves_spelled x there k 1 last lt (omega arith) in
       let z : 1 + k ≡ suc k = omega arith in
       let inB : is_declared t B ≡ true = ap (λ y. is_declared (save_name y x).text B) (sym z) ∙ r.0 in

@@ -1,12 +1,11 @@
 -- The machine whose rests carry no labels and no numbers, and that it makes the same steps.
-use Rattle.std.proofs.Common.{◌≡◌, ℕ, zero, suc, ◌+◌, ◌<◌, Bool, true, false, cond, List, [], ◌∷◌, map, Option, Some, None, option_map, slice_get, refl, sym, ◌∙◌, ap, subst, ap₂}
+use Rattle.std.proofs.Common.{◌≡◌, ℕ, zero, suc, ◌+◌, Bool, true, false, cond, List, [], ◌∷◌, map, Option, Some, None, option_map, slice_get, refl, sym, ◌∙◌, ap, ap₂}
 use mathlib.Core.Path.{fun_ext}
-use Rattle.std.proofs.lemmas.Option.{slice_get-map}
-use Rattle.language.specs.Tree.{Simple, skip, assign, assert, assume, goto, leave, call, Mark, Block, done, one, choose, loop, RightSide}
+use Rattle.language.specs.Tree.{skip, assign, assert, assume, goto, leave, call, Mark, done, one, choose, loop, RightSide}
 use Rattle.language.specs.Value.{Place, values_of, IsValue, AreValues, written_globals, written_locals}
 use Rattle.language.specs.Rest.{Label, Code, join, rest_from, first_of_two, has_label}
 use Rattle.language.specs.Step.{Routine, Program, Frame, frame, State, state, fresh, AtRoutine, AtRest, body_of, StepsTo, AfterSteps}
-use Rattle.language.specs.Sequential.{statements, marked, numbered, numbered_routine, in_text_order}
+use Rattle.language.specs.Sequential.{statements, marked, numbered}
 use Rattle.round_rewrite.specs.Table.{plain}
 
 -- the block without labels and numbers
@@ -112,7 +111,7 @@ bare-numbered n done = refl
 bare-numbered n (one m s t) = ap (one plain s) (bare-numbered (suc n) t)
 bare-numbered n (choose m r a b t) =
     λ i. choose plain r (bare-numbered (suc n) a i) (bare-numbered (suc n + statements a) b i)
-      (bare-numbered (suc n + (statements a + statements b)) t i)
+    (bare-numbered (suc n + (statements a + statements b)) t i)
 bare-numbered n (loop m r a t) =
     λ i. loop plain r (bare-numbered (suc n) a i) (bare-numbered (suc n + statements a) t i)
 
@@ -149,7 +148,7 @@ rest-numbered x n (loop m r a t) k k' e =
     let nt : ℕ = suc n + statements a in
     let tails : bare (join (numbered nt t) k) ≡ bare (join t k') = tails-numbered nt t k k' e in
     let wholes : loop plain r (bare (numbered (suc n) a)) (bare (join (numbered nt t) k)) ≡ loop plain r (bare a) (bare (join t k')) =
-      λ i. loop plain r (bare-numbered (suc n) a i) (tails i) in
+    λ i. loop plain r (bare-numbered (suc n) a i) (tails i) in
     found bare bare (has_label x m) _ _ _ _ wholes
     (firsts bare bare _ _ _ _ (rest-numbered x (suc n) a (loop (marked n m) r (numbered (suc n) a) (join (numbered nt t) k)) (loop m r a (join t k')) wholes)
     (rest-numbered x nt t k k' e))

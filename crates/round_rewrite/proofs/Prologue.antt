@@ -1,15 +1,15 @@
 -- What the prologue, the test of stop, and frames that leave do, both ways.
-use Rattle.std.proofs.Common.{◌≡◌, ℕ, zero, suc, ◌+◌, ◌*◌, ◌<◌, ◌≤◌, Bool, true, false, not, ◌&&◌, ◌||◌, cond, List, [], ◌∷◌, ◌++◌, length, map, refl, sym, ◌∙◌, ap, subst, ap₂, arith, ◌⊎◌, inl, inr}
+use Rattle.std.proofs.Common.{◌≡◌, ℕ, zero, suc, ◌+◌, ◌<◌, ◌≤◌, Bool, true, false, not, cond, List, [], ◌∷◌, refl, sym, ◌∙◌, ap, subst, ap₂, arith, inl, inr}
 use Rattle.std.proofs.lemmas.Bool.{cases_eq}
-use Rattle.language.specs.Tree.{Expression, const, var, negation, two, xor, RightSide, any, value, Simple, skip, assign, assume, leave, Mark, Block, done, one, choose, loop}
-use Rattle.language.specs.Value.{Place, global, local, bit, with_bit, value_of, IsValue, AreValues, written_globals, written_locals}
-use Rattle.language.specs.Rest.{Label, Code, join}
+use Rattle.language.specs.Tree.{const, var, negation, two, xor, RightSide, any, value, skip, assign, leave, done, one, choose}
+use Rattle.language.specs.Value.{Place, global, bit, with_bit, value_of, IsValue, AreValues, written_globals, written_locals}
+use Rattle.language.specs.Rest.{Code, join}
 use Rattle.language.specs.Step.{Frame, frame, State, state}
-use Rattle.round_rewrite.specs.Table.{Naming, plain, at, stop_test, rise, prologue}
+use Rattle.round_rewrite.specs.Table.{plain, at, stop_test, rise, prologue}
 use Rattle.round_rewrite.specs.Places.{places, bits_at}
 use Rattle.round_rewrite.proofs.Laid.{high, low, bits_of, lay, Shape, bits_bit, bits_with}
 use Rattle.round_rewrite.proofs.Translate.{same, same_refl, same_false, at_is}
-use Rattle.round_rewrite.proofs.Plain.{World, PlainSteps, PlainAfter}
+use Rattle.round_rewrite.proofs.Plain.{World, PlainAfter}
 use Rattle.round_rewrite.proofs.Leading.{Leads, Never, unstep, Later, later, later_now}
 
 high_next : (q : ℕ) → q < 3 → high (suc q) ≡ cond (high q) (not (low q)) (low q)
@@ -29,7 +29,6 @@ not_true true e = cc
 not_true false e = refl
 
 module _ (w : World) (n last own : ℕ) (C S : List (List Bool)) (shape : Shape n last C S) (small : last < 4) (c : ℕ) (L : List Bool) (fs : List Frame) (Q : State → Type 0) where
-
   abbrev pub now : ℕ → Bool → Bool → List Bool
   now q s b = lay C S (bits_of q s b)
 
@@ -78,19 +77,40 @@ module _ (w : World) (n last own : ℕ) (C S : List (List Bool)) (shape : Shape 
   prologue_rises q b t lt (m, h) =
       let X : List Bool = now q false b in
       let free : true ≡ not (value_of X L (at (places n last own) last last)) =
-        sym (ap not (at_is n last own C S q false b L shape small (omega arith) last (omega arith) ∙ same_false last q (omega arith))) in
-      (suc (suc (suc m)),
-        (true, tt, (free,
-        (high (suc q) ∷ low (suc q) ∷ [],
-         (sym (high_is q b (omega arith)), (sym (low_is q b (omega arith)), tt)),
-         subst (λ z. PlainAfter w m (on z (prologue (places n last own) last plain t)) Q) (sym (rise_writes q b _ _ refl refl)) h))))
+      sym (ap not (at_is n last own C S q false b L shape small (omega arith) last (omega arith) ∙ same_false last q (omega arith))) in (
+        suc (suc (suc m)),
+        (
+          true,
+          tt,
+          (
+            free,
+            (
+              high (suc q) ∷ low (suc q) ∷ [],
+              (sym (high_is q b (omega arith)), (sym (low_is q b (omega arith)), tt)),
+              subst (λ z. PlainAfter w m (on z (prologue (places n last own) last plain t)) Q) (sym (rise_writes q b _ _ refl refl)) h,
+            ),
+          ),
+        ),
+      )
 
   pub prologue_stops : (q : ℕ) (b : Bool) (t : Code) → Leads w (on (now q true b) done) Q → Leads w (on (now q false b) (prologue (places n last own) last plain t)) Q
   prologue_stops q b t h =
-      let r = stop_leads q true b t h in
-      (suc (suc (suc r.0)),
-        (false, tt, (true, tt, (true ∷ [], (refl, tt),
-        subst (λ z. PlainAfter w r.0 (on z (stop_test (places n last own) last t)) Q) (sym (bits_with n last C S (bits_of q false b) 2 true shape)) r.1))))
+      let r = stop_leads q true b t h in (
+        suc (suc (suc r.0)),
+        (
+          false,
+          tt,
+          (
+            true,
+            tt,
+            (
+              true ∷ [],
+              (refl, tt),
+              subst (λ z. PlainAfter w r.0 (on z (stop_test (places n last own) last t)) Q) (sym (bits_with n last C S (bits_of q false b) 2 true shape)) r.1,
+            ),
+          ),
+        ),
+      )
 
   -- what a run from a prologue does
   pub data Exits (N q : ℕ) (b : Bool) (t : Code) : Type 0 where
@@ -120,9 +140,9 @@ module _ (w : World) (n last own : ℕ) (C S : List (List Bool)) (shape : Shape 
       let (m, e, k) = unstep w Q N _ _ fs never h in
       let (x, ex, ix) = one_back (now q false b) (value (const true)) k.0 k.1 in
       let k' : PlainAfter w m (state (written_globals (global (bits_at n last + 2) ∷ []) (x ∷ []) (now q false b)) (frame c L (stop_test (places n last own) last t) ∷ fs)) Q =
-        subst (λ vs. PlainAfter w m (state (written_globals (global (bits_at n last + 2) ∷ []) vs (now q false b)) (frame c (written_locals (global (bits_at n last + 2) ∷ []) vs L) (stop_test (places n last own) last t) ∷ fs)) Q) ex k.2 in
+      subst (λ vs. PlainAfter w m (state (written_globals (global (bits_at n last + 2) ∷ []) vs (now q false b)) (frame c (written_locals (global (bits_at n last + 2) ∷ []) vs L) (stop_test (places n last own) last t) ∷ fs)) Q) ex k.2 in
       let write : with_bit (now q false b) (bits_at n last + 2) x ≡ now q true b =
-        ap (with_bit (now q false b) (bits_at n last + 2)) ix ∙ bits_with n last C S (bits_of q false b) 2 true shape in
+      ap (with_bit (now q false b) (bits_at n last + 2)) ix ∙ bits_with n last C S (bits_of q false b) 2 true shape in
       stopped (later w Q (on (now q true b) done) N m e (stop_back never m q true b t (subst (λ z. PlainAfter w m (on z (stop_test (places n last own) last t)) Q) write k')))
   exits_stop never N q b false t h =
       let (m, e, k) = unstep w Q N _ _ fs never h in
@@ -136,14 +156,15 @@ module _ (w : World) (n last own : ℕ) (C S : List (List Bool)) (shape : Shape 
       let (m1, e1, k1) = unstep w Q m _ _ fs never k.1 in
       let (x, y, ex, ix, iy) = raised_back N q b t X (value (two xor (var (global (bits_at n last + 0))) (var (global (bits_at n last + 1))))) (value (negation (var (global (bits_at n last + 1))))) (global 0) (global 0) k1.0 k1.1 in
       let free : same last q ≡ false =
-        sym (at_is n last own C S q false b L shape small within last (omega arith)) ∙ not_true (value_of X L (at (places n last own) last last)) k.0 in
+      sym (at_is n last own C S q false b L shape small within last (omega arith)) ∙ not_true (value_of X L (at (places n last own) last last)) k.0 in
       let lt : q < last = elim (cases_eq q last) [
         | inl eq ↦ absurd (let bad : true ≡ false = sym (ap (same last) eq ∙ same_refl last) ∙ free in cc)
-        | inr ne ↦ omega arith ] in
+        | inr ne ↦ omega arith
+      ] in
       let k' : PlainAfter w m1 (state (with_bit (with_bit X (bits_at n last + 0) x) (bits_at n last + 1) y) (frame c L (prologue (places n last own) last plain t) ∷ fs)) Q =
-        subst (λ vs. PlainAfter w m1 (state (written_globals (global (bits_at n last + 0) ∷ global (bits_at n last + 1) ∷ []) vs X) (frame c (written_locals (global (bits_at n last + 0) ∷ global (bits_at n last + 1) ∷ []) vs L) (prologue (places n last own) last plain t) ∷ fs)) Q) ex k1.2 in
+      subst (λ vs. PlainAfter w m1 (state (written_globals (global (bits_at n last + 0) ∷ global (bits_at n last + 1) ∷ []) vs X) (frame c (written_locals (global (bits_at n last + 0) ∷ global (bits_at n last + 1) ∷ []) vs L) (prologue (places n last own) last plain t) ∷ fs)) Q) ex k1.2 in
       let write : with_bit (with_bit X (bits_at n last + 0) x) (bits_at n last + 1) y ≡ now (suc q) false b =
-        rise_writes q b x y (ix ∙ high_is q b (omega arith)) (iy ∙ low_is q b (omega arith)) in
+      rise_writes q b x y (ix ∙ high_is q b (omega arith)) (iy ∙ low_is q b (omega arith)) in
       rose lt (m1, omega arith, subst (λ z. PlainAfter w m1 (on z (prologue (places n last own) last plain t)) Q) write k')
   exits_loop never N q b false t within h =
       let (m, e, k) = unstep w Q N _ _ fs never h in
@@ -151,6 +172,7 @@ module _ (w : World) (n last own : ℕ) (C S : List (List Bool)) (shape : Shape 
     where
       branches : (m q : ℕ) (b v : Bool) (t : Code) → PlainAfter w m (on (now q false b) (cond v (join (one plain (assign (global (bits_at n last + 2) ∷ []) (value (const true) ∷ [])) done) (stop_test (places n last own) last t)) (join (one plain skip done) (stop_test (places n last own) last t)))) Q → PlainAfter w m (on (now q false b) (cond v (one plain (assign (global (bits_at n last + 2) ∷ []) (value (const true) ∷ [])) (stop_test (places n last own) last t)) (one plain skip (stop_test (places n last own) last t)))) Q
       branches m q b v t h = h
+
       shorter : (N m q : ℕ) (b : Bool) (t : Code) → N ≡ suc m → Exits m q b t → Exits N q b t
       shorter N m q b t e (rose lt r) = rose lt (later w Q _ N m e r)
       shorter N m q b t e (went r) = went (later w Q _ N m e r)

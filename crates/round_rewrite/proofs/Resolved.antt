@@ -1,11 +1,11 @@
 -- The rewritten block by names, resolved, is the rewritten block by places of the resolved block.
-use Rattle.std.proofs.Common.{◌≡◌, ℕ, zero, suc, ◌+◌, ◌*◌, ◌/◌, ◌%◌, ◌<◌, ◌≤◌, max, Bool, true, false, cond, not, List, [], ◌∷◌, ◌++◌, length, map, codes, refl, sym, ◌∙◌, ap, subst, ap₂, arith}
+use Rattle.std.proofs.Common.{◌≡◌, ℕ, zero, suc, ◌+◌, ◌/◌, ◌%◌, ◌<◌, ◌≤◌, max, Bool, true, false, cond, not, List, [], ◌∷◌, ◌++◌, length, map, codes, refl, sym, ◌∙◌, ap, subst, ap₂, arith}
 use Rattle.std.proofs.lemmas.List.{map-append}
 use Rattle.language.specs.Tree.{Name, Expression, const, var, negation, two, or, and, xor, RightSide, any, value, Simple, skip, assign, assert, assume, goto, leave, call, Mark, Block, done, one, choose, loop, Tree}
 use Rattle.language.specs.Value.{Place, global, local}
-use Rattle.language.specs.Rest.{Label, Code, join}
+use Rattle.language.specs.Rest.{join}
 use Rattle.language.specs.Resolve.{number_of, is_declared, Scope, place_of, resolve_expression, resolve_side, resolve_simple, resolve_mark, resolve_block}
-use Rattle.round_rewrite.specs.Table.{Naming, numbers, plain, literal, at, joined, read, expression, side, written, rounds, targets, sides, draws, temporaries, each, drawing, stop_test, prologue, statement, rewritten}
+use Rattle.round_rewrite.specs.Table.{Naming, numbers, plain, literal, at, joined, read, expression, side, written, rounds, targets, sides, draws, temporaries, drawing, stop_test, prologue, statement, rewritten}
 use Rattle.round_rewrite.specs.Places.{places, is_global, copy_at, bits_at}
 use Rattle.round_rewrite.specs.Names.{named, copy_name, drawn_name, names}
 use Rattle.round_rewrite.specs.Rewritable.{AreFree, Declared, AllDeclared, ExpressionDeclared, ExpressionsDeclared, SideDeclared, SidesDeclared, SimpleDeclared, BlockDeclared}
@@ -27,7 +27,6 @@ literal_resolved s zero x = refl
 literal_resolved s (suc m) x = refl
 
 module _ (t : Tree) (gs own ps : List Name) (d last : ℕ) (gs_free : AreFree gs) (own_free : AreFree own) (few : d ≤ 64) (small : last < 4) (ps' : List Name) (called : (q : Name) → is_declared q.text ps ≡ true → number_of q.text ps' ≡ suc (number_of q.text ps)) where
-
   abbrev pub s : Scope
   s = scope gs own ps d last gs_free own_free few small
 
@@ -65,7 +64,7 @@ module _ (t : Tree) (gs own ps : List Name) (d last : ℕ) (gs_free : AreFree gs
   pub at_resolved : (k : ℕ) → resolve_expression s' (at N last k) ≡ at P last k
   at_resolved k =
       λ i. two and ((literal_resolved s' (k / 2 % 2) (named (codes "rh__")) ∙ ap (literal (k / 2 % 2)) hi) i)
-        ((literal_resolved s' (k % 2) (named (codes "rl__")) ∙ ap (literal (k % 2)) lo) i)
+      ((literal_resolved s' (k % 2) (named (codes "rl__")) ∙ ap (literal (k % 2)) lo) i)
 
   joined_resolved : (x : Name) → Declared s x → is_declared x.text own ≡ false → (k : ℕ) → k ≤ last → resolve_expression s' (joined N last k x) ≡ joined P last k (place_of s x)
   joined_resolved x h hidden zero le = λ i. two and (at_resolved 0 i) (var (copied_place x h hidden 0 le i))
@@ -75,9 +74,9 @@ module _ (t : Tree) (gs own ps : List Name) (d last : ℕ) (gs_free : AreFree gs
   read_resolved : (x : Name) → Declared s x → resolve_expression s' (read N last x) ≡ read P last (place_of s x)
   read_resolved x h = by_test (is_declared x.text own)
       (λ e. ap (λ c. resolve_expression s' (cond (not c) (joined N last last x) (var x))) e
-        ∙ (ap var (kept_place gs own ps d last gs_free own_free few small ps' x e ∙ own_place x e) ∙ sym (ap (read P last) (own_place x e))))
+      ∙ (ap var (kept_place gs own ps d last gs_free own_free few small ps' x e ∙ own_place x e) ∙ sym (ap (read P last) (own_place x e))))
       (λ e. ap (λ c. resolve_expression s' (cond (not c) (joined N last last x) (var x))) e
-        ∙ (joined_resolved x h e last (omega arith) ∙ (ap (joined P last last) (shared_place x e) ∙ sym (ap (read P last) (shared_place x e)))))
+      ∙ (joined_resolved x h e last (omega arith) ∙ (ap (joined P last last) (shared_place x e) ∙ sym (ap (read P last) (shared_place x e)))))
 
   expression_resolved : (e : Expression Name) → ExpressionDeclared s e → resolve_expression s' (expression N last e) ≡ expression P last (resolve_expression s e)
   expression_resolved (const b) h = refl
@@ -97,7 +96,7 @@ module _ (t : Tree) (gs own ps : List Name) (d last : ℕ) (gs_free : AreFree gs
   written_resolved x h hidden e e' ee j zero le = refl
   written_resolved x h hidden e e' ee j (suc m) le =
       λ i. value (two or (two and (at_resolved j i) (ee i)) (two and (negation (at_resolved j i)) (var (copied_place x h hidden j (omega arith) i))))
-        ∷ written_resolved x h hidden e e' ee (suc j) m (omega arith) i
+      ∷ written_resolved x h hidden e e' ee (suc j) m (omega arith) i
 
   copies_resolved : (x : Name) → Declared s x → is_declared x.text own ≡ false → (j m : ℕ) → j + m ≤ suc last → map (place_of s') (map (λ k. copy_name k x) (numbers j m)) ≡ map (λ k. copy_at (length gs) k (place_of s x)) (numbers j m)
   copies_resolved x h hidden j zero le = refl
@@ -115,11 +114,11 @@ module _ (t : Tree) (gs own ps : List Name) (d last : ℕ) (gs_free : AreFree gs
       let there : Place → List Place = λ y. cond (is_global y) (map (λ k. copy_at (length gs) k y) (rounds P last) ++ targets P last (map (place_of s) xs) (map (resolve_side s) rs)) (y ∷ targets P last (map (place_of s) xs) (map (resolve_side s) rs)) in
       by_test (is_declared x.text own)
       (λ e. ap (λ c. map (place_of s') (cond (not c) (here ++ targets N last xs rs) (x ∷ targets N last xs rs))) e
-        ∙ (ap₂ (λ a b. a ∷ b) (kept_place gs own ps d last gs_free own_free few small ps' x e ∙ own_place x e) ih ∙ sym (ap there (own_place x e))))
+      ∙ (ap₂ (λ a b. a ∷ b) (kept_place gs own ps d last gs_free own_free few small ps' x e ∙ own_place x e) ih ∙ sym (ap there (own_place x e))))
       (λ e. ap (λ c. map (place_of s') (cond (not c) (here ++ targets N last xs rs) (x ∷ targets N last xs rs))) e
-        ∙ (map-append (place_of s') here (targets N last xs rs)
-        ∙ (ap₂ (λ a b. a ++ b) (copies_resolved x h.0 e 0 (suc last) (omega arith) ∙ ap (λ y. map (λ k. copy_at (length gs) k y) (rounds P last)) (shared_place x e)) ih
-        ∙ sym (ap there (shared_place x e)))))
+      ∙ (map-append (place_of s') here (targets N last xs rs)
+      ∙ (ap₂ (λ a b. a ++ b) (copies_resolved x h.0 e 0 (suc last) (omega arith) ∙ ap (λ y. map (λ k. copy_at (length gs) k y) (rounds P last)) (shared_place x e)) ih
+      ∙ sym (ap there (shared_place x e)))))
 
   drawn_resolved : (j : ℕ) → j < d → resolve_expression s' (var (drawn_name j)) ≡ var (local (length own + j))
   drawn_resolved j lt = ap var (drawn_place gs own ps d last gs_free own_free few small ps' j lt)
@@ -133,16 +132,16 @@ module _ (t : Tree) (gs own ps : List Name) (d last : ℕ) (gs_free : AreFree gs
       let there : Place → List (RightSide Place) = λ y. cond (is_global y) (map (written P last (var (local (length own + j))) y) (rounds P last) ++ Rest (suc j)) (any ∷ Rest j) in
       by_test (is_declared x.text own)
       (λ e.
-        let less : j + draws N.is_shared xs rs ≤ d = subst (λ c. j + cond (not c) (suc (draws N.is_shared xs rs)) (draws N.is_shared xs rs) ≤ d) e room in
-        ap (λ c. map (resolve_side s') (cond (not c) (here ++ sides N last (suc j) xs rs) (any ∷ sides N last j xs rs))) e
-        ∙ (ap (λ b. any ∷ b) (sides_resolved j xs rs h.1 hr.1 less) ∙ sym (ap there (own_place x e))))
+      let less : j + draws N.is_shared xs rs ≤ d = subst (λ c. j + cond (not c) (suc (draws N.is_shared xs rs)) (draws N.is_shared xs rs) ≤ d) e room in
+      ap (λ c. map (resolve_side s') (cond (not c) (here ++ sides N last (suc j) xs rs) (any ∷ sides N last j xs rs))) e
+      ∙ (ap (λ b. any ∷ b) (sides_resolved j xs rs h.1 hr.1 less) ∙ sym (ap there (own_place x e))))
       (λ e.
-        let more : j + suc (draws N.is_shared xs rs) ≤ d = subst (λ c. j + cond (not c) (suc (draws N.is_shared xs rs)) (draws N.is_shared xs rs) ≤ d) e room in
-        ap (λ c. map (resolve_side s') (cond (not c) (here ++ sides N last (suc j) xs rs) (any ∷ sides N last j xs rs))) e
-        ∙ (map-append (resolve_side s') here (sides N last (suc j) xs rs)
-        ∙ (ap₂ (λ a b. a ++ b) (written_resolved x h.0 e (var (drawn_name j)) (var (local (length own + j))) (drawn_resolved j (omega arith)) 0 (suc last) (omega arith) ∙ ap (λ y. map (written P last (var (local (length own + j))) y) (rounds P last)) (shared_place x e))
-          (sides_resolved (suc j) xs rs h.1 hr.1 (omega arith))
-        ∙ sym (ap there (shared_place x e)))))
+      let more : j + suc (draws N.is_shared xs rs) ≤ d = subst (λ c. j + cond (not c) (suc (draws N.is_shared xs rs)) (draws N.is_shared xs rs) ≤ d) e room in
+      ap (λ c. map (resolve_side s') (cond (not c) (here ++ sides N last (suc j) xs rs) (any ∷ sides N last j xs rs))) e
+      ∙ (map-append (resolve_side s') here (sides N last (suc j) xs rs)
+      ∙ (ap₂ (λ a b. a ++ b) (written_resolved x h.0 e (var (drawn_name j)) (var (local (length own + j))) (drawn_resolved j (omega arith)) 0 (suc last) (omega arith) ∙ ap (λ y. map (written P last (var (local (length own + j))) y) (rounds P last)) (shared_place x e))
+      (sides_resolved (suc j) xs rs h.1 hr.1 (omega arith))
+      ∙ sym (ap there (shared_place x e)))))
   sides_resolved j (x ∷ xs) (value v ∷ rs) h hr room =
       let Rest : List (RightSide Place) = sides P last j (map (place_of s) xs) (map (resolve_side s) rs) in
       let V : Expression Place = expression P last (resolve_expression s v) in
@@ -150,12 +149,12 @@ module _ (t : Tree) (gs own ps : List Name) (d last : ℕ) (gs_free : AreFree gs
       let there : Place → List (RightSide Place) = λ y. cond (is_global y) (map (written P last V y) (rounds P last) ++ Rest) (value V ∷ Rest) in
       by_test (is_declared x.text own)
       (λ e. ap (λ c. map (resolve_side s') (cond (not c) (here ++ sides N last j xs rs) (value (expression N last v) ∷ sides N last j xs rs))) e
-        ∙ (ap₂ (λ a b. value a ∷ b) (expression_resolved v hr.0) (sides_resolved j xs rs h.1 hr.1 room) ∙ sym (ap there (own_place x e))))
+      ∙ (ap₂ (λ a b. value a ∷ b) (expression_resolved v hr.0) (sides_resolved j xs rs h.1 hr.1 room) ∙ sym (ap there (own_place x e))))
       (λ e. ap (λ c. map (resolve_side s') (cond (not c) (here ++ sides N last j xs rs) (value (expression N last v) ∷ sides N last j xs rs))) e
-        ∙ (map-append (resolve_side s') here (sides N last j xs rs)
-        ∙ (ap₂ (λ a b. a ++ b) (written_resolved x h.0 e (expression N last v) V (expression_resolved v hr.0) 0 (suc last) (omega arith) ∙ ap (λ y. map (written P last V y) (rounds P last)) (shared_place x e))
-          (sides_resolved j xs rs h.1 hr.1 room)
-        ∙ sym (ap there (shared_place x e)))))
+      ∙ (map-append (resolve_side s') here (sides N last j xs rs)
+      ∙ (ap₂ (λ a b. a ++ b) (written_resolved x h.0 e (expression N last v) V (expression_resolved v hr.0) 0 (suc last) (omega arith) ∙ ap (λ y. map (written P last V y) (rounds P last)) (shared_place x e))
+      (sides_resolved j xs rs h.1 hr.1 room)
+      ∙ sym (ap there (shared_place x e)))))
 
   draws_resolved : (xs : List Name) (rs : List (RightSide Name)) → draws N.is_shared xs rs ≡ draws is_global (map (place_of s) xs) (map (resolve_side s) rs)
   draws_resolved [] rs = refl
@@ -193,10 +192,10 @@ module _ (t : Tree) (gs own ps : List Name) (d last : ℕ) (gs_free : AreFree gs
   prologue_resolved : (m : Mark Name) (k : Block Name Name Name) → resolve_block s' (prologue N last m k) ≡ prologue P last (resolve_mark m) (resolve_block s' k)
   prologue_resolved m k =
       λ i. loop (resolve_mark m) any
-        (one plain (assume (value (negation (at_resolved last i))))
-        (one plain (assign (hi i ∷ lo i ∷ []) (value (two xor (var (hi i)) (var (lo i))) ∷ value (negation (var (lo i))) ∷ [])) done))
-        (choose plain any (one plain (assign (st i ∷ []) (value (const true) ∷ [])) done) (one plain skip done)
-        (choose plain (value (var (st i))) (one plain leave done) (one plain skip done) (resolve_block s' k)))
+      (one plain (assume (value (negation (at_resolved last i))))
+      (one plain (assign (hi i ∷ lo i ∷ []) (value (two xor (var (hi i)) (var (lo i))) ∷ value (negation (var (lo i))) ∷ [])) done))
+      (choose plain any (one plain (assign (st i ∷ []) (value (const true) ∷ [])) done) (one plain skip done)
+      (choose plain (value (var (st i))) (one plain leave done) (one plain skip done) (resolve_block s' k)))
 
   abbrev drawn_in : Simple Name Name Name → ℕ
   drawn_in skip = 0
@@ -215,7 +214,7 @@ module _ (t : Tree) (gs own ps : List Name) (d last : ℕ) (gs_free : AreFree gs
       ∙ (λ i. drawing P last (draws_resolved xs rs i) (one plain (assign (targets_resolved xs rs h.0 i) (sides_resolved 0 xs rs h.0 h.1 (omega arith) i)) (resolve_block s' k)))
   statement_resolved (assert r) k h room =
       λ i. choose plain (side_resolved r h i) (one plain skip done)
-        (one plain (assign (bd i ∷ st i ∷ []) (value (const true) ∷ value (const true) ∷ [])) (one plain leave done)) (resolve_block s' k)
+      (one plain (assign (bd i ∷ st i ∷ []) (value (const true) ∷ value (const true) ∷ [])) (one plain leave done)) (resolve_block s' k)
   statement_resolved (assume r) k h room = λ i. one plain (assume (side_resolved r h i)) (resolve_block s' k)
   statement_resolved (goto x) k h room = refl
   statement_resolved leave k h room = refl
@@ -236,12 +235,12 @@ module _ (t : Tree) (gs own ps : List Name) (d last : ℕ) (gs_free : AreFree gs
       let less = less_one m c k room in
       prologue_resolved m (statement N last c (rewritten N last k))
       ∙ ap (prologue P last (resolve_mark m))
-        (statement_resolved c (rewritten N last k) h.0 less.1 ∙ ap (statement P last (resolve_simple s c)) (block_resolved k h.1 less.0))
+      (statement_resolved c (rewritten N last k) h.0 less.1 ∙ ap (statement P last (resolve_simple s c)) (block_resolved k h.1 less.0))
   block_resolved (choose m r a b k) h room =
       prologue_resolved m (choose plain (side N last r) (rewritten N last a) (rewritten N last b) (rewritten N last k))
       ∙ (λ i. prologue P last (resolve_mark m) (choose plain (side_resolved r h.0 i) (block_resolved a h.1 (omega arith) i) (block_resolved b h.2 (omega arith) i) (block_resolved k h.3 (omega arith) i)))
   block_resolved (loop m r a k) h room =
       let inside : resolve_block s' (join (rewritten N last a) (prologue N last plain done)) ≡ join (rewritten P last (resolve_block s a)) (prologue P last plain done) =
-        resolve-join s' (rewritten N last a) (prologue N last plain done) ∙ ap₂ join (block_resolved a h.1 (omega arith)) (prologue_resolved plain done) in
+      resolve-join s' (rewritten N last a) (prologue N last plain done) ∙ ap₂ join (block_resolved a h.1 (omega arith)) (prologue_resolved plain done) in
       prologue_resolved m (loop plain (side N last r) (join (rewritten N last a) (prologue N last plain done)) (rewritten N last k))
       ∙ (λ i. prologue P last (resolve_mark m) (loop plain (side_resolved r h.0 i) (inside i) (block_resolved k h.2 (omega arith) i)))

@@ -1,13 +1,11 @@
 -- Which printed names differ.
-use Rattle.std.proofs.Common.{◌≡◌, ℕ, zero, suc, ◌+◌, ◌<◌, ◌≤◌, ◌^◌, Bool, true, false, cond, ◌&&◌, ◌||◌, List, [], ◌∷◌, ◌++◌, length, map, nat_eq, codes, refl, sym, ◌∙◌, ap, subst, ap₂, arith, append_assoc, ◌⊎◌, inl, inr}
+use Rattle.std.proofs.Common.{◌≡◌, ℕ, zero, suc, ◌+◌, ◌<◌, Bool, true, false, cond, ◌&&◌, ◌||◌, List, [], ◌∷◌, ◌++◌, nat_eq, refl, sym, ◌∙◌, ap, ap₂, arith, append_assoc}
 use Rattle.std.proofs.lemmas.List.{append_cancel_right, append_cancel_left}
 use Rattle.std.proofs.lemmas.Bool.{eq-eqb, eqb-true}
 use Rattle.std.proofs.lemmas.Fmt.{decimal_injective}
 use Rattle.std.specs.Prelude.{decimal}
 use Rattle.std.specs.Fmt.{digits}
-use Rattle.language.specs.Tree.{Name}
 use Rattle.language.specs.Rest.{same_text}
-use Rattle.round_rewrite.specs.Names.{named, copy_name, save_name, drawn_name}
 use Rattle.round_rewrite.specs.Rewritable.{begins_low, has_double}
 
 nat_eq_true : (a b : ℕ) → nat_eq a b ≡ true → a ≡ b

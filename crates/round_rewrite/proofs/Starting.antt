@@ -1,17 +1,17 @@
 -- The first procedure runs the threads, one after the other, both ways.
-use Rattle.std.proofs.Common.{◌≡◌, ℕ, zero, suc, ◌+◌, ◌-◌, ◌*◌, ◌<◌, ◌≤◌, Bool, true, false, cond, List, [], ◌∷◌, ◌++◌, length, map, Option, Some, None, option_map, slice_get, refl, sym, ◌∙◌, ap, subst, ap₂, arith, ◌⊎◌, inl, inr}
-use Rattle.language.specs.Tree.{RightSide, value, const, Simple, assign, call, Mark, Block, done, one}
-use Rattle.language.specs.Value.{Place, global, local, with_bit, AreValues, written_globals, written_locals}
-use Rattle.language.specs.Rest.{Label, Code}
+use Rattle.std.proofs.Common.{◌≡◌, ℕ, suc, ◌+◌, ◌-◌, ◌<◌, Bool, true, false, List, [], ◌∷◌, ◌++◌, length, map, Option, Some, None, option_map, slice_get, refl, sym, ◌∙◌, ap, subst, arith, ◌⊎◌, inl, inr}
+use Rattle.language.specs.Tree.{RightSide, value, const, assign, call, one}
+use Rattle.language.specs.Value.{Place, global, with_bit, AreValues, written_globals, written_locals}
+use Rattle.language.specs.Rest.{Code}
 use Rattle.language.specs.Step.{Routine, Program, Frame, frame, State, state, zeros, fresh, AtRoutine}
 use Rattle.language.specs.Rounds.{starting_stack}
 use Rattle.round_rewrite.specs.Table.{Naming, plain, temporaries, starts}
 use Rattle.round_rewrite.specs.Places.{places, is_global, bits_at}
 use Rattle.round_rewrite.specs.Scoped.{EachThread, FitsScopes}
 use Rattle.round_rewrite.proofs.Laid.{Long, bits_of, lay, Shape, bits_with}
-use Rattle.round_rewrite.proofs.Plain.{World, PlainSteps, PlainAfter}
+use Rattle.round_rewrite.proofs.Plain.{World, PlainAfter}
 use Rattle.round_rewrite.proofs.Leading.{Leads}
-use Rattle.round_rewrite.proofs.Frames.{Both, source, Good, AllGood, put_rest, put_routine, callers, stack, IsWorld, fresh_more}
+use Rattle.round_rewrite.proofs.Frames.{Both, source, AllGood, put_rest, put_routine, stack, IsWorld, fresh_more}
 use Rattle.round_rewrite.proofs.Forward.{both, call_good}
 use Rattle.round_rewrite.proofs.Turns.{Turns, FailTurns}
 use Rattle.round_rewrite.proofs.Compose.{Threads, FailThreads, run_keeps, fail_is_turns}
@@ -53,7 +53,6 @@ first_frame c None = []
 first_frame c (Some r) = frame c (zeros r.places) r.body ∷ []
 
 module _ (p : Program) (last : ℕ) (fits : FitsScopes p) (small : last < 4) (w : World) (isw : IsWorld p last w) (S : List (List Bool)) (s_long : Long p.globals S) (s_length : length S ≡ last) where
-
   abbrev naming : Naming Place Place ℕ ℕ
   naming = places p.globals last 0
 
@@ -99,11 +98,16 @@ module _ (p : Program) (last : ℕ) (fits : FitsScopes p) (small : last < 4) (w 
   start_leads Q G shape q s b c r e t (k, h) =
       let Y : List Bool = lay G S (bits_of 0 false b) in
       let h1 : PlainAfter w k (state Y (frame (suc c) (fresh (r.places + temporaries is_global r.body) []) (put_rest p last r.places r.body) ∷ frame 0 [] t ∷ [])) Q =
-        subst (λ l. PlainAfter w k (state Y (frame (suc c) l (put_rest p last r.places r.body) ∷ frame 0 [] t ∷ [])) Q) (sym (fresh_now r)) h in
+      subst (λ l. PlainAfter w k (state Y (frame (suc c) l (put_rest p last r.places r.body) ∷ frame 0 [] t ∷ [])) Q) (sym (fresh_now r)) h in
       let h2 : PlainAfter w (suc k) (main_at Y (one plain (call (suc c) []) t)) Q =
-        subst (λ o. AtRoutine o (λ z. PlainAfter w k (state Y (frame (suc c) (fresh z.places []) z.body ∷ frame 0 [] t ∷ [])) Q)) (sym (enters_now c r e)) h1 in
-      (suc (suc k), (false ∷ false ∷ false ∷ [], (refl, (refl, (refl, tt))),
-        subst (λ z. PlainAfter w (suc k) (main_at z (one plain (call (suc c) []) t)) Q) (sym (zero_writes G shape q s b)) h2))
+      subst (λ o. AtRoutine o (λ z. PlainAfter w k (state Y (frame (suc c) (fresh z.places []) z.body ∷ frame 0 [] t ∷ [])) Q)) (sym (enters_now c r e)) h1 in (
+        suc (suc k),
+        (
+          false ∷ false ∷ false ∷ [],
+          (refl, (refl, (refl, tt))),
+          subst (λ z. PlainAfter w (suc k) (main_at z (one plain (call (suc c) []) t)) Q) (sym (zero_writes G shape q s b)) h2,
+        ),
+      )
 
   start_back : (G : List (List Bool)) → Shape p.globals last G S → (q : ℕ) (s b : Bool) (c : ℕ) (r : Routine) → slice_get p.routines c ≡ Some r → (t : Code) (N : ℕ) → PlainAfter w N (main_at (lay G S (bits_of q s b)) (one plain (assign zero_targets zero_sides) (one plain (call (suc c) []) t))) (Bad p.globals last) → (M : ℕ) × PlainAfter w M (state (lay G S (bits_of 0 false b)) (stack p last (starter c r ∷ []) (frame 0 [] t))) (Bad p.globals last)
   start_back G shape q s b c r e t N h =
@@ -113,11 +117,11 @@ module _ (p : Program) (last : ℕ) (fits : FitsScopes p) (small : last < 4) (w 
       let t' : Code = one plain (call (suc c) []) t in
       let (M1, e1, (vs, a, h1)) = unstep_main w n last N X [] plain (assign zero_targets zero_sides) t' h in
       let h2 : PlainAfter w M1 (main_at (with_bit (with_bit (with_bit X (bits_at n last + 0) false) (bits_at n last + 1) false) (bits_at n last + 2) false) t') (Bad n last) =
-        subst (λ z. PlainAfter w M1 (state (written_globals zero_targets z X) (frame 0 (written_locals zero_targets z []) t' ∷ [])) (Bad n last)) (zero_back X [] vs a) h1 in
+      subst (λ z. PlainAfter w M1 (state (written_globals zero_targets z X) (frame 0 (written_locals zero_targets z []) t' ∷ [])) (Bad n last)) (zero_back X [] vs a) h1 in
       let h3 : PlainAfter w M1 (main_at Y t') (Bad n last) = subst (λ z. PlainAfter w M1 (main_at z t') (Bad n last)) (zero_writes G shape q s b) h2 in
       let (M2, e2, h4) = unstep_main w n last M1 Y [] plain (call (suc c) []) t h3 in
       let h5 : PlainAfter w M2 (state Y (frame (suc c) (fresh (r.places + temporaries is_global r.body) []) (put_rest p last r.places r.body) ∷ frame 0 [] t ∷ [])) (Bad n last) =
-        subst (λ o. AtRoutine o (λ z. PlainAfter w M2 (state Y (frame (suc c) (fresh z.places []) z.body ∷ frame 0 [] t ∷ [])) (Bad n last))) (enters_now c r e) h4 in
+      subst (λ o. AtRoutine o (λ z. PlainAfter w M2 (state Y (frame (suc c) (fresh z.places []) z.body ∷ frame 0 [] t ∷ [])) (Bad n last))) (enters_now c r e) h4 in
       (M2, subst (λ l. PlainAfter w M2 (state Y (frame (suc c) l (put_rest p last r.places r.body) ∷ frame 0 [] t ∷ [])) (Bad n last)) (fresh_now r) h5)
 
   -- the threads run, and none fails
@@ -129,7 +133,7 @@ module _ (p : Program) (last : ℕ) (fits : FitsScopes p) (small : last < 4) (w 
   starts_lead Q t (c ∷ T) there (g ∷ G) long el G' (s' ∷ ss') (H, ts, more) b out q s =
       first Q t c T there (slice_get p.routines c) refl there.0 g G long el b s' H ts
       (let k = turns_keep p p.globals (g ∷ G) (starting_stack p.routines c) H s' long ts in
-       starts_lead Q t T there.1 H k.0 (k.1 ∙ el) G' ss' more b out) q s
+      starts_lead Q t T there.1 H k.0 (k.1 ∙ el) G' ss' more b out) q s
     where
       first : (Q : State → Type 0) (t : Code) (c : ℕ) (T : List ℕ) → EachThread p.routines (c ∷ T) → (o : Option Routine) → slice_get p.routines c ≡ o → AtRoutine o (λ r. Unit {0}) → (g : List Bool) (G : List (List Bool)) → Long p.globals (g ∷ G) → length (g ∷ G) ≡ suc last → (b : Bool) (s' : List Frame) (H : List (List Bool)) → Turns p (g ∷ G) (starting_stack p.routines c) H s' → ((q : ℕ) (s : Bool) → Leads w (main_at (lay H S (bits_of q s b)) (starts naming last T t)) Q) → (q : ℕ) (s : Bool) → Leads w (main_at (lay (g ∷ G) S (bits_of q s b)) (starts naming last (c ∷ T) t)) Q
       first Q t c T there None e h g G long el b s' H ts out q s = absurd h
@@ -138,7 +142,7 @@ module _ (p : Program) (last : ℕ) (fits : FitsScopes p) (small : last < 4) (w 
           let z : Zip p.globals last [] G S = record { pre_long = tt; post_long = long.1; saved = s_long; count = omega arith; guesses = s_length } in
           start_leads Q (g ∷ G) (zip_shape p.globals last [] G S g z long.0) q s b c r e (starts naming last T t)
           (turns_on p last fits small w isw S (frame 0 [] (starts naming last T t)) Q G [] g z long.0 b 0 (omega arith) (starter c r ∷ []) (starter_good c r e) x H s'
-            (subst (λ y. Turns p (g ∷ G) y (x ∷ H) s') (sym (starter_is c r e)) ts) out)
+          (subst (λ y. Turns p (g ∷ G) y (x ∷ H) s') (sym (starter_is c r e)) ts) out)
 
   -- the threads run, and one fails
   pub fails_lead : (Q : State → Type 0) (t : Code) (T : List ℕ) → EachThread p.routines T → (G : List (List Bool)) → Long p.globals G → length G ≡ suc last → (G' : List (List Bool)) → FailThreads p G (map (starting_stack p.routines) T) G' → ((q : ℕ) (s : Bool) → Leads w (main_at (lay G' S (bits_of q s true)) t) Q) → (b : Bool) (q : ℕ) (s : Bool) → Leads w (main_at (lay G S (bits_of q s b)) (starts naming last T t)) Q
@@ -156,7 +160,7 @@ module _ (p : Program) (last : ℕ) (fits : FitsScopes p) (small : last < 4) (w 
           let z : Zip p.globals last [] G S = record { pre_long = tt; post_long = long.1; saved = s_long; count = omega arith; guesses = s_length } in
           start_leads Q (g ∷ G) (zip_shape p.globals last [] G S g z long.0) q s b c r e (starts naming last T t)
           (fails_on p last fits small w isw S (frame 0 [] (starts naming last T t)) Q G [] g z long.0 b 0 (omega arith) (starter c r ∷ []) (starter_good c r e) x H
-            (subst (λ y. FailTurns p (g ∷ G) y (x ∷ H)) (sym (starter_is c r e)) ts) out)
+          (subst (λ y. FailTurns p (g ∷ G) y (x ∷ H)) (sym (starter_is c r e)) ts) out)
   fails_lead Q t (c ∷ T) there (g ∷ G) long el G' (inr (H, s', ts, more)) out b q s =
       let k = turns_keep p p.globals (g ∷ G) (starting_stack p.routines c) H s' long ts in
       running Q t c T (slice_get p.routines c) refl there.0 g G long el b H s' ts (fails_lead Q t T there.1 H k.0 (k.1 ∙ el) G' more out b) q s
@@ -168,7 +172,7 @@ module _ (p : Program) (last : ℕ) (fits : FitsScopes p) (small : last < 4) (w 
           let z : Zip p.globals last [] G S = record { pre_long = tt; post_long = long.1; saved = s_long; count = omega arith; guesses = s_length } in
           start_leads Q (g ∷ G) (zip_shape p.globals last [] G S g z long.0) q s b c r e (starts naming last T t)
           (turns_on p last fits small w isw S (frame 0 [] (starts naming last T t)) Q G [] g z long.0 b 0 (omega arith) (starter c r ∷ []) (starter_good c r e) x H s'
-            (subst (λ y. Turns p (g ∷ G) y (x ∷ H) s') (sym (starter_is c r e)) ts) out)
+          (subst (λ y. Turns p (g ∷ G) y (x ∷ H) s') (sym (starter_is c r e)) ts) out)
 
   -- the threads ran: they made their turns, or one failed
   pub record Ran (T : List ℕ) (t : Code) (G : List (List Bool)) (b : Bool) : Type 0 where
@@ -185,7 +189,14 @@ module _ (p : Program) (last : ℕ) (fits : FitsScopes p) (small : last < 4) (w 
   -- one thread ran, and then the others
   ran_more : (c : ℕ) (T : List ℕ) (t : Code) (G H : List (List Bool)) (b b1 : Bool) → length H ≡ length G → ((b1 ≡ b) × ((s' : List Frame) × Turns p G (starting_stack p.routines c) H s')) ⊎ ((b1 ≡ true) × FailTurns p G (starting_stack p.routines c) H) → Ran T t H b1 → Ran (c ∷ T) t G b
   ran_more c T t G H b b1 el first r = record {
-    left = r.left; rows = r.rows; long = r.long; same = r.same ∙ el; round = r.round; stop = r.stop; bad = r.bad; run = r.run;
+    left = r.left;
+    rows = r.rows;
+    long = r.long;
+    same = r.same ∙ el;
+    round = r.round;
+    stop = r.stop;
+    bad = r.bad;
+    run = r.run;
     turns = both_ran first r.turns;
   }
     where
@@ -204,7 +215,14 @@ module _ (p : Program) (last : ℕ) (fits : FitsScopes p) (small : last < 4) (w 
 
   pub starts_back : (t : Code) (T : List ℕ) → EachThread p.routines T → (G : List (List Bool)) → Long p.globals G → length G ≡ suc last → (q : ℕ) (s b : Bool) (N : ℕ) → PlainAfter w N (main_at (lay G S (bits_of q s b)) (starts naming last T t)) (Bad p.globals last) → Ran T t G b
   starts_back t [] there G long el q s b N h = record {
-    left = N; rows = G; long = long; same = refl; round = q; stop = s; bad = b; run = h;
+    left = N;
+    rows = G;
+    long = long;
+    same = refl;
+    round = q;
+    stop = s;
+    bad = b;
+    run = h;
     turns = inl (refl, ([], refl));
   }
   starts_back t (c ∷ T) there [] long el q s b N h = absurd (omega arith)
@@ -216,6 +234,6 @@ module _ (p : Program) (last : ℕ) (fits : FitsScopes p) (small : last < 4) (w 
       rest_ran t c T (Some r) e h g G long el q s b N run rec =
           let (f, x) = one_ran c r e (starts naming last T t) g G long el q s b N run in
           let turns : ((x.bad ≡ b) × ((s' : List Frame) × Turns p (g ∷ G) (starting_stack p.routines c) (x.g' ∷ x.post') s')) ⊎ ((x.bad ≡ true) × FailTurns p (g ∷ G) (starting_stack p.routines c) (x.g' ∷ x.post')) =
-            subst (λ y. ((x.bad ≡ b) × ((s' : List Frame) × Turns p (g ∷ G) y (x.g' ∷ x.post') s')) ⊎ ((x.bad ≡ true) × FailTurns p (g ∷ G) y (x.g' ∷ x.post'))) (starter_is c r e) x.turns in
+          subst (λ y. ((x.bad ≡ b) × ((s' : List Frame) × Turns p (g ∷ G) y (x.g' ∷ x.post') s')) ⊎ ((x.bad ≡ true) × FailTurns p (g ∷ G) y (x.g' ∷ x.post'))) (starter_is c r e) x.turns in
           ran_more c T t (g ∷ G) (x.g' ∷ x.post') b x.bad (ap suc x.same) turns
           (rec (x.g' ∷ x.post') (x.long, x.post_long) (ap suc x.same ∙ el) x.round x.stop x.bad x.left x.run)

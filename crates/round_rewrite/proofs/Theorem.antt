@@ -1,11 +1,11 @@
 -- The rewriting theorem over places.
-use Rattle.std.proofs.Common.{◌≡◌, ℕ, zero, suc, ◌+◌, ◌<◌, Bool, true, false, List, [], ◌∷◌, Option, Some, None, refl, sym, ◌∙◌, ap, subst, ◌⊎◌, inl, inr}
+use Rattle.std.proofs.Common.{◌≡◌, ℕ, suc, ◌+◌, ◌<◌, Bool, true, false, List, [], ◌∷◌, None, refl, sym, subst, inl, inr}
 use Rattle.language.specs.Tree.{done, one, choose, loop}
 use Rattle.language.specs.Value.{bit}
 use Rattle.language.specs.Rest.{Code}
-use Rattle.language.specs.Step.{Program, Frame, frame, State, state, zeros, AfterSteps, Runs}
+use Rattle.language.specs.Step.{Program, frame, State, state, zeros, AfterSteps, Runs}
 use Rattle.language.specs.Rounds.{Unsafe}
-use Rattle.language.specs.Sequential.{numbered, in_text_order, Valuation, point_of, Entered, IsZero, Pair}
+use Rattle.language.specs.Sequential.{numbered, in_text_order, Valuation, point_of, Entered}
 use Rattle.round_rewrite.specs.Table.{main}
 use Rattle.round_rewrite.specs.Places.{places, bits_at, all_globals, rewritten_program}
 use Rattle.round_rewrite.specs.Scoped.{FitsScopes}
@@ -19,7 +19,6 @@ use Rattle.round_rewrite.proofs.Assembly.{start_is, unsafe_leads, leads_unsafe}
 use Rattle.round_rewrite.proofs.Uncalled.{never_asked}
 
 module _ (p : Program) (last : ℕ) (fits : FitsScopes p) (small : last < 4) where
-
   abbrev result : Program
   result = in_text_order (rewritten_program last p)
 
@@ -55,7 +54,7 @@ module _ (p : Program) (last : ℕ) (fits : FitsScopes p) (small : last < 4) whe
   from_run : (n : ℕ) (b l : List Bool) (rest : Code) → None ≡ point_of rest → AfterSteps result n start (λ v. v ≡ state b (frame 0 l rest ∷ [])) → bit b (bits_at p.globals last + 3) ≡ true → Unsafe p (suc last)
   from_run n b l done e run bad =
       let h : AfterSteps result n start (λ u. Bad p.globals last (bare_state u)) =
-        after_map result n start (λ v. v ≡ state b (frame 0 l done ∷ [])) (λ u. Bad p.globals last (bare_state u)) (λ u eu. subst (λ v. Bad p.globals last (bare_state v)) (sym eu) (refl, bad)) run in
+      after_map result n start (λ v. v ≡ state b (frame 0 l done ∷ [])) (λ u. Bad p.globals last (bare_state u)) (λ u eu. subst (λ v. Bad p.globals last (bare_state v)) (sym eu) (refl, bad)) run in
       let h1 : PlainAfter (world_of result) n (bare_state start) (Bad p.globals last) = subst (λ T. T) (plain_after result n start (Bad p.globals last)) h in
       leads_unsafe p last fits small n (subst (λ s. PlainAfter (world_of result) n s (Bad p.globals last)) (start_is p last) h1)
   from_run n b l (one m s t) e run bad = cc
@@ -65,7 +64,7 @@ module _ (p : Program) (last : ℕ) (fits : FitsScopes p) (small : last < 4) whe
   from_entry : (a : Valuation) (b l : List Bool) (rest : Code) → None ≡ point_of rest → Entered result 0 a → Runs result (state a.globals (frame 0 a.places (numbered 1 body) ∷ [])) (state b (frame 0 l rest ∷ [])) → bit b (bits_at p.globals last + 3) ≡ true → Unsafe p (suc last)
   from_entry a b l rest e (inl (q, is)) run bad =
       let run' : Runs result start (state b (frame 0 l rest ∷ [])) =
-        subst (λ (v : Valuation). Runs result (state v.globals (frame 0 v.places (numbered 1 body) ∷ [])) (state b (frame 0 l rest ∷ []))) is run in
+      subst (λ (v : Valuation). Runs result (state v.globals (frame 0 v.places (numbered 1 body) ∷ [])) (state b (frame 0 l rest ∷ []))) is run in
       from_run run'.0 b l rest e run'.1 bad
   from_entry a b l rest e (inr (c, asks)) run bad = absurd (never_asked last p c a asks)
 

@@ -1,29 +1,29 @@
 -- A thread's turns, or turns that fail, are a run of the rewritten thread down to the first procedure.
-use Rattle.std.proofs.Common.{◌≡◌, ℕ, zero, suc, ◌+◌, ◌*◌, ◌-◌, ◌<◌, ◌≤◌, Bool, true, false, cond, List, [], ◌∷◌, ◌++◌, length, map, refl, sym, ◌∙◌, ap, subst, ap₂, arith, append_assoc, length-append, ◌⊎◌, inl, inr}
-use Rattle.language.specs.Tree.{RightSide, value, const, Simple, skip, assign, assert, assume, goto, leave, call, done, one, choose, loop}
-use Rattle.language.specs.Value.{Place, global, with_bit, IsValue}
-use Rattle.language.specs.Rest.{Label, Code}
-use Rattle.language.specs.Step.{Routine, Program, Frame, frame, State, state, StepsTo, AfterSteps, Runs, Fails}
+use Rattle.std.proofs.Common.{◌≡◌, ℕ, zero, suc, ◌+◌, ◌-◌, ◌<◌, ◌≤◌, Bool, true, false, List, [], ◌∷◌, ◌++◌, length, map, refl, sym, ◌∙◌, ap, subst, arith, append_assoc, inl, inr}
+use Rattle.language.specs.Tree.{skip, assign, assert, assume, goto, leave, call, done, one, choose, loop}
+use Rattle.language.specs.Value.{with_bit, IsValue}
+use Rattle.language.specs.Rest.{Code}
+use Rattle.language.specs.Step.{Program, Frame, frame, State, state, StepsTo, AfterSteps, Fails}
 use Rattle.round_rewrite.specs.Table.{plain, prologue}
 use Rattle.round_rewrite.specs.Places.{places, bits_at}
 use Rattle.round_rewrite.specs.Scoped.{FitsScopes}
-use Rattle.round_rewrite.proofs.Laid.{row, with_row, row_middle, with_middle, Long, bits_of, lay, Shape, bits_with}
-use Rattle.round_rewrite.proofs.Plain.{World, PlainSteps, PlainAfter}
+use Rattle.round_rewrite.proofs.Laid.{row, row_middle, with_middle, bits_of, lay, Shape, bits_with}
+use Rattle.round_rewrite.proofs.Plain.{World, PlainAfter}
 use Rattle.round_rewrite.proofs.Leading.{Leads}
 use Rattle.round_rewrite.proofs.Prologue.{prologue_goes, prologue_rises, prologue_stops, stop_leads}
 use Rattle.round_rewrite.proofs.Frames.{Both, source, Good, AllGood, put_rest, callers, stack, IsWorld}
-use Rattle.round_rewrite.proofs.Forward.{both, inner, side_at, pop_leads, enter_leads, step_leads}
+use Rattle.round_rewrite.proofs.Forward.{both, inner, side_at, pop_leads, step_leads}
 use Rattle.round_rewrite.proofs.Turns.{Turns, FailTurns}
 use Rattle.round_rewrite.proofs.ThreadBack.{Zip, zip_shape, zip_next, length-next}
 
 -- the parts of equal states
 pub globals_eq : (g h : List Bool) (s t : List Frame) → state g s ≡ state h t → g ≡ h
 globals_eq g h s t e = cc
+
 pub stacks_eq : (g h : List Bool) (s t : List Frame) → state g s ≡ state h t → s ≡ t
 stacks_eq g h s t e = cc
 
 module _ (p : Program) (last : ℕ) (fits : FitsScopes p) (small : last < 4) (w : World) (isw : IsWorld p last w) (S : List (List Bool)) (m : Frame) (Q : State → Type 0) where
-
   abbrev pub At : List (List Bool) → ℕ → Bool → Bool → List Frame → Type 0
   At C q s b fs = Leads w (state (lay C S (bits_of q s b)) fs) Q
 
@@ -32,7 +32,7 @@ module _ (p : Program) (last : ℕ) (fits : FitsScopes p) (small : last < 4) (w 
   unwind C shape c L [] q b (k, h) = (suc k, h)
   unwind C shape c L (a ∷ bs) q b h =
       let r = stop_leads w p.globals last a.own C S shape small (suc a.c) (a.l ++ a.tmp) (callers p last bs m) Q q true b (put_rest p last a.own a.rest)
-        (unwind C shape (suc a.c) (a.l ++ a.tmp) bs q b h) in
+      (unwind C shape (suc a.c) (a.l ++ a.tmp) bs q b h) in
       (suc r.0, r.1)
 
   -- the thread stops where it is
@@ -59,7 +59,6 @@ module _ (p : Program) (last : ℕ) (fits : FitsScopes p) (small : last < 4) (w 
       catch_up C shape (r - q) q r (omega arith) within b c own L t fs (prologue_goes w p.globals last own C S shape small c L fs Q r b t h)
 
   module _ (pre post : List (List Bool)) (z : Zip p.globals last pre post S) (b : Bool) where
-
     within : length pre ≤ last
     within = let c : length pre + length post ≡ last = z.count in omega arith
 
@@ -111,13 +110,22 @@ module _ (p : Program) (last : ℕ) (fits : FitsScopes p) (small : last < 4) (w 
         let u = unwind (rows g) (shape_at g eg) (suc c) (l ++ tmp) bs (length pre) true out in
         let zero_is : IsValue (row (rows g) (length pre)) l r false = subst (λ y. IsValue y l r false) (sym (row_middle pre g post)) f in
         let is : IsValue X (l ++ tmp) (Rattle.round_rewrite.specs.Table.side (places p.globals last own) last r) false =
-          subst (λ T. T) (sym (side_at p last fits small w isw (rows g) S (length pre) b (shape_at g eg) within m own l tmp good.long r good.fits.0.0 false)) zero_is in
+        subst (λ T. T) (sym (side_at p last fits small w isw (rows g) S (length pre) b (shape_at g eg) within m own l tmp good.long r good.fits.0.0 false)) zero_is in
         let writes : with_bit (with_bit X (bits_at p.globals last + 3) true) (bits_at p.globals last + 2) true ≡ lay (rows g) S (bits_of (length pre) true true) =
-          ap (λ y. with_bit y (bits_at p.globals last + 2) true) (bits_with p.globals last (rows g) S (bits_of (length pre) false b) 3 true (shape_at g eg))
-          ∙ bits_with p.globals last (rows g) S (bits_of (length pre) false true) 2 true (shape_at g eg) in
-        prologue_goes w p.globals last own (rows g) S (shape_at g eg) small (suc c) (l ++ tmp) (callers p last bs m) Q (length pre) b _
-        (suc (suc (suc u.0)), (false, is, (true ∷ true ∷ [], (refl, (refl, tt)),
-          subst (λ y. PlainAfter w u.0 (state y (frame (suc c) (l ++ tmp) done ∷ callers p last bs m)) Q) (sym writes) u.1)))
+        ap (λ y. with_bit y (bits_at p.globals last + 2) true) (bits_with p.globals last (rows g) S (bits_of (length pre) false b) 3 true (shape_at g eg))
+        ∙ bits_with p.globals last (rows g) S (bits_of (length pre) false true) 2 true (shape_at g eg) in
+        prologue_goes w p.globals last own (rows g) S (shape_at g eg) small (suc c) (l ++ tmp) (callers p last bs m) Q (length pre) b _ (
+          suc (suc (suc u.0)),
+          (
+            false,
+            is,
+            (
+              true ∷ true ∷ [],
+              (refl, (refl, tt)),
+              subst (λ y. PlainAfter w u.0 (state y (frame (suc c) (l ++ tmp) done ∷ callers p last bs m)) Q) (sym writes) u.1,
+            ),
+          ),
+        )
     fail_inner g eg c own l tmp (one a (assume r) t) bs good f out = absurd f
     fail_inner g eg c own l tmp (one a (goto x) t) bs good f out = absurd f
     fail_inner g eg c own l tmp (one a leave t) bs good f out = absurd f
@@ -148,10 +156,10 @@ module _ (p : Program) (last : ℕ) (fits : FitsScopes p) (small : last < 4) (w 
   turns_on (h ∷ post) pre g z eg b q le bs goods g' (h' ∷ post') s' (mid, (k, run), rest) out =
       row_on pre (h ∷ post) z b k g' mid
       (λ q' le' bs' goods' e eg'.
-        subst (λ y. At y q' false b (stack p last bs' m)) (append_assoc pre (g' ∷ []) (h ∷ post))
-        (turns_on post (pre ++ g' ∷ []) h (zip_next p.globals last pre post S g' h z eg') z.post_long.0 b q' (let n : length (pre ++ g' ∷ []) ≡ suc (length pre) = length-next pre g' in omega arith) bs' goods' h' post' s'
-          (subst (λ y. Turns p (h ∷ post) y (h' ∷ post') s') (sym e) rest)
-          (λ q'' s. subst (λ y. At y q'' s b (m ∷ [])) (sym (append_assoc pre (g' ∷ []) (h' ∷ post'))) (out q'' s))))
+      subst (λ y. At y q' false b (stack p last bs' m)) (append_assoc pre (g' ∷ []) (h ∷ post))
+      (turns_on post (pre ++ g' ∷ []) h (zip_next p.globals last pre post S g' h z eg') z.post_long.0 b q' (let n : length (pre ++ g' ∷ []) ≡ suc (length pre) = length-next pre g' in omega arith) bs' goods' h' post' s'
+      (subst (λ y. Turns p (h ∷ post) y (h' ∷ post') s') (sym e) rest)
+      (λ q'' s. subst (λ y. At y q'' s b (m ∷ [])) (sym (append_assoc pre (g' ∷ []) (h' ∷ post'))) (out q'' s))))
       g eg q le bs goods run
 
   -- turns that fail are a run down to the first procedure that sets bad
@@ -159,15 +167,15 @@ module _ (p : Program) (last : ℕ) (fits : FitsScopes p) (small : last < 4) (w 
   fails_on post pre g z eg b q le bs goods g' post' (inl (mid, (k, run), f, e)) out =
       row_on pre post z b k g' mid
       (λ q' le' bs' goods' em eg'. fail_on pre post z b g' eg' q' le' bs' goods' (subst (λ y. Fails (state g' y)) (sym em) f)
-        (subst (λ y. At (pre ++ g' ∷ y) (length pre) true true (m ∷ [])) e (out (length pre) true)))
+      (subst (λ y. At (pre ++ g' ∷ y) (length pre) true true (m ∷ [])) e (out (length pre) true)))
       g eg q le bs goods run
   fails_on [] pre g z eg b q le bs goods g' post' (inr (mid, (k, run), rest)) out = absurd rest
   fails_on (h ∷ post) pre g z eg b q le bs goods g' [] (inr (mid, (k, run), rest)) out = absurd rest
   fails_on (h ∷ post) pre g z eg b q le bs goods g' (h' ∷ post') (inr (mid, (k, run), rest)) out =
       row_on pre (h ∷ post) z b k g' mid
       (λ q' le' bs' goods' e eg'.
-        subst (λ y. At y q' false b (stack p last bs' m)) (append_assoc pre (g' ∷ []) (h ∷ post))
-        (fails_on post (pre ++ g' ∷ []) h (zip_next p.globals last pre post S g' h z eg') z.post_long.0 b q' (let n : length (pre ++ g' ∷ []) ≡ suc (length pre) = length-next pre g' in omega arith) bs' goods' h' post'
-          (subst (λ y. FailTurns p (h ∷ post) y (h' ∷ post')) (sym e) rest)
-          (λ q'' s. subst (λ y. At y q'' s true (m ∷ [])) (sym (append_assoc pre (g' ∷ []) (h' ∷ post'))) (out q'' s))))
+      subst (λ y. At y q' false b (stack p last bs' m)) (append_assoc pre (g' ∷ []) (h ∷ post))
+      (fails_on post (pre ++ g' ∷ []) h (zip_next p.globals last pre post S g' h z eg') z.post_long.0 b q' (let n : length (pre ++ g' ∷ []) ≡ suc (length pre) = length-next pre g' in omega arith) bs' goods' h' post'
+      (subst (λ y. FailTurns p (h ∷ post) y (h' ∷ post')) (sym e) rest)
+      (λ q'' s. subst (λ y. At y q'' s true (m ∷ [])) (sym (append_assoc pre (g' ∷ []) (h' ∷ post'))) (out q'' s))))
       g eg q le bs goods run

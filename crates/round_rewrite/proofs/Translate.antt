@@ -1,10 +1,10 @@
 -- What the rewritten expressions are worth.
-use Rattle.std.proofs.Common.{◌≡◌, ℕ, zero, suc, ◌+◌, ◌*◌, ◌/◌, ◌%◌, ◌<◌, ◌≤◌, Bool, true, false, not, ◌&&◌, ◌||◌, List, [], ◌∷◌, ◌++◌, length, map, refl, sym, ◌∙◌, ap, subst, ap₂, arith, ◌⊎◌, inl, inr}
+use Rattle.std.proofs.Common.{◌≡◌, ℕ, zero, suc, ◌+◌, ◌*◌, ◌/◌, ◌%◌, ◌<◌, ◌≤◌, Bool, true, false, not, ◌&&◌, ◌||◌, List, [], ◌∷◌, ◌++◌, length, map, refl, sym, ◌∙◌, ap, ap₂, arith, inl, inr}
 use Rattle.std.proofs.lemmas.Bool.{cases_eq}
-use Rattle.language.specs.Tree.{Expression, const, var, negation, two, or, and, RightSide, any, value}
-use Rattle.language.specs.Value.{Place, global, local, bit, with_bit, operate, look_up, value_of, values_of, IsValue}
-use Rattle.round_rewrite.specs.Table.{Naming, has_value, literal, at, joined, read, expression, side}
-use Rattle.round_rewrite.specs.Places.{places, bits_at}
+use Rattle.language.specs.Tree.{Expression, const, var, negation, two, RightSide, any, value}
+use Rattle.language.specs.Value.{Place, global, local, bit, operate, look_up, value_of, values_of, IsValue}
+use Rattle.round_rewrite.specs.Table.{literal, at, joined, expression, side}
+use Rattle.round_rewrite.specs.Places.{places}
 use Rattle.round_rewrite.specs.Scoped.{InScope, AreInScope, SideInScope}
 use Rattle.round_rewrite.proofs.Laid.{bit_left, row, row_bit, high, low, bits_of, lay, Shape, bits_bit}
 
@@ -53,7 +53,6 @@ closed (suc (suc (suc (suc k)))) q h h' = absurd (omega arith)
 closed k (suc (suc (suc (suc q)))) h h' = absurd (omega arith)
 
 module _ (n last own : ℕ) (C S : List (List Bool)) (q : ℕ) (s b : Bool) (L : List Bool) (shape : Shape n last C S) (small : last < 4) (within : q ≤ last) where
-
   abbrev pub globals_now : List Bool
   globals_now = lay C S (bits_of q s b)
 
@@ -85,12 +84,12 @@ module _ (n last own : ℕ) (C S : List (List Bool)) (q : ℕ) (s b : Bool) (L :
       let e : q ≡ zero = omega arith in
       ap₂ (λ x y. x && y) (at_is zero h ∙ (ap (same zero) e ∙ refl)) (copy_is zero i h h' ∙ ap (λ z. bit (row C z) i) (sym e))
   from (suc k) i h h' le = elim (cases_eq q (suc k)) [
-      | inl e ↦ ap₂ (λ x y. x || y) (before k i (omega arith) h' (omega arith))
-          (ap₂ (λ x y. x && y) (at_is (suc k) h ∙ (ap (same (suc k)) e ∙ same_refl (suc k))) (copy_is (suc k) i h h' ∙ ap (λ z. bit (row C z) i) (sym e)))
-      | inr ne ↦ ap₂ (λ x y. x || y) (from k i (omega arith) h' (omega arith))
-          (and_false _ _ (at_is (suc k) h ∙ same_false (suc k) q (omega arith)))
-          ∙ or_false _
-    ]
+    | inl e ↦ ap₂ (λ x y. x || y) (before k i (omega arith) h' (omega arith))
+        (ap₂ (λ x y. x && y) (at_is (suc k) h ∙ (ap (same (suc k)) e ∙ same_refl (suc k))) (copy_is (suc k) i h h' ∙ ap (λ z. bit (row C z) i) (sym e)))
+    | inr ne ↦ ap₂ (λ x y. x || y) (from k i (omega arith) h' (omega arith))
+        (and_false _ _ (at_is (suc k) h ∙ same_false (suc k) q (omega arith)))
+        ∙ or_false _
+  ]
 
   -- a rewritten read is the read of the round's copy; locals stand before the temporaries
   pub expression_is : (l tmp : List Bool) → L ≡ l ++ tmp → length l ≡ own → (e : Expression Place) → InScope n own e → value_of globals_now L (expression (places n last own) last e) ≡ value_of (row C q) l e

@@ -1,8 +1,8 @@
 -- One thread's turns over rows of globals, one row for each round.
-use Rattle.std.proofs.Common.{◌≡◌, ℕ, zero, suc, ◌+◌, ◌<◌, ◌≤◌, Bool, true, false, cond, List, [], ◌∷◌, Option, Some, None, slice_get, refl, sym, ◌∙◌, ap, subst, ◌⊎◌, inl, inr}
+use Rattle.std.proofs.Common.{◌≡◌, ℕ, zero, suc, Bool, List, [], ◌∷◌, Option, Some, None, slice_get, refl, sym, subst, ◌⊎◌, inl, inr}
 use Rattle.language.specs.Tree.{skip, assign, assert, assume, goto, leave, call, done, one, choose, loop}
-use Rattle.language.specs.Value.{values_of, IsValue, written_globals, written_locals}
-use Rattle.language.specs.Rest.{Code, join, rest_from}
+use Rattle.language.specs.Value.{values_of}
+use Rattle.language.specs.Rest.{Code, rest_from}
 use Rattle.language.specs.Step.{Routine, Program, Frame, frame, State, state, fresh, AtRoutine, AtRest, body_of, StepsTo, AfterSteps, Runs, Fails}
 
 at_rest_map : (o : Option Code) (P Q : Code → Type 0) → ((c : Code) → P c → Q c) → AtRest o P → AtRest o Q

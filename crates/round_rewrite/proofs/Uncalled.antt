@@ -1,10 +1,9 @@
 -- Nobody calls the first procedure of a rewritten program, so it is entered once, with every value 0.
-use Rattle.std.proofs.Common.{◌≡◌, ℕ, zero, suc, ◌+◌, Bool, true, false, cond, List, [], ◌∷◌, map, Option, Some, None, option_map, slice_get, refl, sym, ◌∙◌, ap, subst, ◌⊎◌, inl, inr}
-use Rattle.language.specs.Tree.{RightSide, Simple, skip, assign, assert, assume, goto, leave, call, Mark, Block, done, one, choose, loop}
+use Rattle.std.proofs.Common.{◌≡◌, ℕ, zero, suc, ◌+◌, Bool, true, false, cond, List, [], ◌∷◌, map, Option, Some, None, slice_get, refl, sym, ◌∙◌, subst}
+use Rattle.language.specs.Tree.{RightSide, Simple, skip, assign, assert, assume, goto, leave, call, Mark, done, one, choose, loop}
 use Rattle.language.specs.Value.{Place, values_of}
 use Rattle.language.specs.Rest.{Label, Code, join, rest_from}
-use Rattle.language.specs.Step.{Routine, Program, Frame, frame, State, state, zeros, fresh, AtRoutine, AtRest, body_of, StepsTo, AfterSteps, Runs}
-use Rattle.language.specs.Rounds.{starting_stack}
+use Rattle.language.specs.Step.{Routine, Program, Frame, frame, State, state, fresh, AtRoutine, AtRest, body_of, StepsTo, AfterSteps}
 use Rattle.language.specs.Sequential.{statements, numbered, numbered_routine, in_text_order, Valuation, Calls, Asks}
 use Rattle.round_rewrite.specs.Table.{Naming, numbers, plain, side, draws, drawing, statement, prologue, rewritten, guess, guesses, starts, check, checks, main}
 use Rattle.round_rewrite.specs.Places.{places, all_globals, rewritten_routine, main_routine, rewritten_program}
@@ -41,7 +40,6 @@ away-numbered n (choose m r a b t) h = (tt, away-numbered (suc n) a h.1, away-nu
 away-numbered n (loop m r a t) h = (tt, away-numbered (suc n) a h.1, away-numbered (suc n + statements a) t h.2)
 
 module _ (n last own : ℕ) where
-
   abbrev w : Naming Place Place ℕ ℕ
   w = places n last own
 
@@ -101,7 +99,6 @@ away_routines n last (r ∷ rs) zero = away-numbered 1 (rewritten (places n last
 away_routines n last (r ∷ rs) (suc c) = away_routines n last rs c
 
 module _ (p : Program) (bodies : (c : ℕ) → RoutineAway (slice_get p.routines c)) where
-
   away_body : (o : Option Routine) → RoutineAway o → Away (body_of o)
   away_body None h = tt
   away_body (Some r) h = h
@@ -148,12 +145,13 @@ module _ (p : Program) (bodies : (c : ℕ) → RoutineAway (slice_get p.routines
 pub never_asked : (last : ℕ) (p : Program) (c : ℕ) (a : Valuation) → Asks (in_text_order (rewritten_program last p)) c 0 a → ⊥
 never_asked last p c a (g, l, rest, fs, (n, run), calls) =
     let main_away : Away (numbered 1 (main (places p.globals last 0) last (all_globals p.globals) p.threads)) =
-      away-numbered 1 (main (places p.globals last 0) last (all_globals p.globals) p.threads) (away-main p.globals last 0 (all_globals p.globals) p.threads) in
+    away-numbered 1 (main (places p.globals last 0) last (all_globals p.globals) p.threads) (away-main p.globals last 0 (all_globals p.globals) p.threads) in
     no_call g l rest (run_away (in_text_order (rewritten_program last p)) (bodies main_away) n _ (state g (frame c l rest ∷ fs)) (main_away, tt) run).0 calls
   where
     bodies : Away (numbered 1 (main (places p.globals last 0) last (all_globals p.globals) p.threads)) → (k : ℕ) → RoutineAway (slice_get (map numbered_routine (main_routine last p ∷ map (rewritten_routine p.globals last) p.routines)) k)
     bodies h zero = h
     bodies h (suc k) = away_routines p.globals last p.routines k
+
     no_call : (g l : List Bool) (rest : Code) → Away rest → Calls (in_text_order (rewritten_program last p)) g l rest 0 a → ⊥
     no_call g l done h k = k
     no_call g l (one m skip t) h k = k

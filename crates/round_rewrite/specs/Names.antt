@@ -1,5 +1,5 @@
 -- The rewriting of a text's tree, by the names that are printed.
-use Rattle.std.specs.Prelude.{ℕ, suc, ◌+◌, Bool, not, List, [], ◌∷◌, ◌++◌, map, codes, decimal}
+use Rattle.std.specs.Prelude.{ℕ, suc, not, List, [], ◌∷◌, ◌++◌, map, codes, decimal}
 use Rattle.language.specs.Tree.{Name, Procedure, ThreadLine, Tree}
 use Rattle.language.specs.Resolve.{is_declared}
 use Rattle.round_rewrite.specs.Table.{Naming, numbers, temporaries, rewritten, main, globals}

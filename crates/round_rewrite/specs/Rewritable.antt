@@ -1,5 +1,5 @@
 -- What the rewriting theorem over names asks of a text's tree. A program without scope faults has it.
-use Rattle.std.specs.Prelude.{◌≡◌, ℕ, suc, ◌+◌, ◌≤◌, Bool, true, false, List, [], ◌∷◌, ◌++◌, ◌&&◌, ◌||◌, Option, Some, None, length, map, nat_eq, slice_get}
+use Rattle.std.specs.Prelude.{◌≡◌, ℕ, ◌+◌, ◌≤◌, Bool, true, false, List, [], ◌∷◌, ◌++◌, ◌&&◌, ◌||◌, Option, Some, None, length, map, nat_eq, slice_get}
 use Rattle.language.specs.Tree.{Name, Expression, const, var, negation, two, RightSide, any, value, Simple, skip, assign, assert, assume, goto, leave, call, Block, done, one, choose, loop, Procedure, ThreadLine, Tree}
 use Rattle.language.specs.Resolve.{is_declared, number_of, Scope, scope_of}
 use Rattle.round_rewrite.specs.Names.{rewritten_tree}

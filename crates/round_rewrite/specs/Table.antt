@@ -1,7 +1,7 @@
 -- The rewriting for so many rounds, as one table over trees. Rounds count from 0 here; `last` is the last
 -- of them. (Only the idea, to guess the globals of later rounds and to check the guesses at the end, is that
 -- of Lal and Reps 2008.)
-use Rattle.std.specs.Prelude.{ℕ, zero, suc, ◌/◌, ◌%◌, Bool, true, false, List, [], ◌∷◌, ◌++◌, Option, Some, None, map, reverse, cond, nat_eq, max}
+use Rattle.std.specs.Prelude.{ℕ, zero, suc, ◌/◌, ◌%◌, Bool, true, false, List, [], ◌∷◌, ◌++◌, None, map, reverse, cond, max}
 use Rattle.language.specs.Tree.{Expression, const, var, negation, two, or, xor, and, equal, RightSide, any, value, Simple, skip, assign, assert, assume, goto, leave, call, Mark, Block, done, one, choose, loop}
 use Rattle.language.specs.Rest.{join}
 
@@ -71,7 +71,6 @@ temporaries is_shared (choose m r a b t) =
 temporaries is_shared (loop m r a t) = max (temporaries is_shared a) (temporaries is_shared t)
 
 module _ {V W P Q : Type 0} (w : Naming V W P Q) (last : ℕ) where
-
   -- the round is k
   abbrev pub at : ℕ → Expression W
   at k = has_value k w.bits
@@ -120,7 +119,6 @@ module _ {V W P Q : Type 0} (w : Naming V W P Q) (last : ℕ) where
       (value (expression e) ∷ sides j xs rs)
 
   module _ {L : Type 0} where
-
     -- the draw of so many temporaries, if any
     abbrev pub drawing : ℕ → Block W Q L → Block W Q L
     drawing zero t = t

@@ -16,12 +16,10 @@ ghost use Rattle.round_rewrite.specs.Scoped.{FitsScopes};
 /// where `main__` of the rewritten tree can end with `bad__` being 1.
 pub fn rewriting_keeps_failures()
     ensures { (t : Tree) (last : ℕ) → IsRewritable t → IsNarrow last t → last < 4 → KeepsTree last t }
-{
-}
+{}
 
 /// The same of resolved programs: the rewriting over places keeps exactly the failing asserts, with no
 /// bound on widths.
 pub fn rewriting_keeps_failures_of_resolved_programs()
     ensures { (p : Program) (last : ℕ) → FitsScopes p → last < 4 → Keeps last p }
-{
-}
+{}
