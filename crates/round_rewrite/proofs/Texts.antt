@@ -1,8 +1,14 @@
 -- The two rewritten texts that are known in full, computed.
-use Rattle.std.proofs.Common.{◌≡◌, ℕ, List, [], ◌∷◌, refl, arith}
+use Rattle.std.proofs.Common.{◌≡◌, ℕ, List, [], ◌∷◌, refl, inl, arith}
 use Rattle.std.specs.Prelude.{codes, None}
 use Rattle.std.specs.Fmt.{digits}
-use Rattle.language.specs.Tree.{Name, Expression, const, var, negation, two, or, xor, and, equal, RightSide, any, value, skip, assign, assume, leave, call, Block, done, one, choose, loop, Tree}
+use Rattle.language.specs.Tree.{Name, Expression, const, var, negation, two, or, xor, and, equal, RightSide, any, value, skip, assign, assert, assume, leave, call, Block, done, one, choose, loop, Tree}
+use Rattle.language.specs.Step.{frame, state}
+use Rattle.language.specs.Rounds.{Unsafe}
+use Rattle.language.specs.Resolve.{meaning_of}
+use Rattle.language.specs.Sequential.{sequential_of}
+use Rattle.round_rewrite.specs.Law.{SomeBad}
+use Rattle.round_rewrite.proofs.Meaning.{keeps_tree}
 use Rattle.round_rewrite.specs.Table.{plain}
 use Rattle.round_rewrite.specs.Names.{named, rewritten_tree}
 use Rattle.round_rewrite.specs.Rewritable.{IsRewritable, IsNarrow}
@@ -133,3 +139,25 @@ second_rewritable = record {
 
 second_narrow : IsNarrow 1 second
 second_narrow = (omega arith, (omega arith, tt))
+
+-- a program that fails at once: both sides of the theorem hold of it
+abbrev third : Tree
+third = record {
+  globals = [];
+  procedures = record { name = n (codes "t"); formals = []; locals = []; body = one plain (assert any) done } ∷ [];
+  threads = record { at = 0; name = n (codes "t") } ∷ [];
+}
+
+third_rewritable : IsRewritable third
+third_rewritable = record {
+  globals = tt;
+  distinct = tt;
+  procedures = (record { name = refl; own = tt; body = (tt, tt) }, tt);
+  threads = (refl, tt);
+}
+
+third_unsafe : Unsafe (meaning_of third) 1
+third_unsafe = (0, omega arith, [], _, (refl, refl), inl (state [] (frame 0 [] (one plain (assert any) done) ∷ []), (0, refl), tt))
+
+third_bad : SomeBad (sequential_of (rewritten_tree 0 third)) 3
+third_bad = (keeps_tree third 0 third_rewritable (omega arith) (omega arith, (omega arith, tt))).0 third_unsafe

@@ -8,10 +8,11 @@ use Rattle.round_rewrite.specs.Table.{Naming, numbers, temporaries, rewritten, m
 abbrev pub named : List ℕ → Name
 named text = record { text = text; at = 0 }
 
--- x__1, x__2 and so on, for the rounds from 0; and x__s2, x__s3 and so on
+-- x__1, x__2 and so on: the copy for a round, from 0
 abbrev pub copy_name : ℕ → Name → Name
 copy_name k x = named (x.text ++ (codes "__" ++ decimal (suc k)))
 
+-- x__s2, x__s3 and so on: the guess saved for a round, from 0
 abbrev pub save_name : ℕ → Name → Name
 save_name k x = named (x.text ++ (codes "__s" ++ decimal (suc k)))
 

@@ -4,15 +4,17 @@ use Rattle.language.specs.Value.{Place, global, local}
 use Rattle.language.specs.Step.{Routine, Program}
 use Rattle.round_rewrite.specs.Table.{Naming, numbers, temporaries, rewritten, main}
 
+-- the place is a global
 abbrev pub is_global : Place → Bool
 is_global (global i) = true
 is_global (local i) = false
 
--- where the copies begin for round k, where there are n globals; and where the guesses saved for it do
+-- where the copies for round k stand, where there are n globals
 abbrev pub copy_at : ℕ → ℕ → Place → Place
 copy_at n k (global i) = global (k * n + i)
 copy_at n k (local i) = local i
 
+-- where the guesses saved for round k stand, behind the copies for all rounds
 abbrev pub save_at : ℕ → ℕ → ℕ → Place → Place
 save_at n last zero x = x
 save_at n last (suc k) (global i) = global (suc last * n + (k * n + i))

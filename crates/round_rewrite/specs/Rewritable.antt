@@ -28,24 +28,29 @@ AreDistinct (x ∷ xs) = (is_declared x.text xs ≡ false) × AreDistinct xs
 abbrev pub Declared : Scope → Name → Type 0
 Declared s x = is_declared x.text s.locals ≡ false → is_declared x.text s.globals ≡ true
 
+-- so is each of the variables
 abbrev pub AllDeclared : Scope → List Name → Type 0
 AllDeclared s [] = Unit {0}
 AllDeclared s (x ∷ xs) = Declared s x × AllDeclared s xs
 
+-- each variable of the expression is declared
 abbrev pub ExpressionDeclared : Scope → Expression Name → Type 0
 ExpressionDeclared s (const b) = Unit {0}
 ExpressionDeclared s (var x) = Declared s x
 ExpressionDeclared s (negation e) = ExpressionDeclared s e
 ExpressionDeclared s (two o a b) = ExpressionDeclared s a × ExpressionDeclared s b
 
+-- each variable of the expressions is declared
 abbrev pub ExpressionsDeclared : Scope → List (Expression Name) → Type 0
 ExpressionsDeclared s [] = Unit {0}
 ExpressionsDeclared s (e ∷ es) = ExpressionDeclared s e × ExpressionsDeclared s es
 
+-- each variable of the right side is declared
 abbrev pub SideDeclared : Scope → RightSide Name → Type 0
 SideDeclared s any = Unit {0}
 SideDeclared s (value e) = ExpressionDeclared s e
 
+-- each variable of the right sides is declared
 abbrev pub SidesDeclared : Scope → List (RightSide Name) → Type 0
 SidesDeclared s [] = Unit {0}
 SidesDeclared s (r ∷ rs) = SideDeclared s r × SidesDeclared s rs
@@ -67,6 +72,7 @@ SimpleDeclared t s (call q es) =
     ExpressionsDeclared s es × (is_declared q.text s.procedures ≡ true)
     × HasRoom (slice_get t.procedures (number_of q.text s.procedures)) (length es)
 
+-- so it is for each statement of the block
 abbrev pub BlockDeclared : Tree → Scope → Block Name Name Name → Type 0
 BlockDeclared t s done = Unit {0}
 BlockDeclared t s (one m c k) = SimpleDeclared t s c × BlockDeclared t s k
@@ -79,10 +85,12 @@ pub record ProcedureRewritable (t : Tree) (p : Procedure) : Type 0 where
   pub own : AreFree (p.formals ++ p.locals)
   pub body : BlockDeclared t (scope_of t p) p.body
 
+-- each procedure has the property
 abbrev pub EachProcedure : (Procedure → Type 0) → List Procedure → Type 0
 EachProcedure P [] = Unit {0}
 EachProcedure P (p ∷ ps) = P p × EachProcedure P ps
 
+-- each thread line names one of these procedures
 abbrev pub EachLine : List Name → List ThreadLine → Type 0
 EachLine ps [] = Unit {0}
 EachLine ps (line ∷ lines) = (is_declared line.name.text ps ≡ true) × EachLine ps lines

@@ -11,28 +11,34 @@ abbrev pub PlaceInScope : ℕ → ℕ → Place → Type 0
 PlaceInScope n own (global i) = i < n
 PlaceInScope n own (local i) = i < own
 
+-- each variable of the expression is in scope
 abbrev pub InScope : ℕ → ℕ → Expression Place → Type 0
 InScope n own (const b) = Unit {0}
 InScope n own (var x) = PlaceInScope n own x
 InScope n own (negation e) = InScope n own e
 InScope n own (two o a b) = InScope n own a × InScope n own b
 
+-- each variable of the expressions is in scope
 abbrev pub AreInScope : ℕ → ℕ → List (Expression Place) → Type 0
 AreInScope n own [] = Unit {0}
 AreInScope n own (e ∷ es) = InScope n own e × AreInScope n own es
 
+-- each variable of the right side is in scope
 abbrev pub SideInScope : ℕ → ℕ → RightSide Place → Type 0
 SideInScope n own any = Unit {0}
 SideInScope n own (value e) = InScope n own e
 
+-- each variable of the right sides is in scope
 abbrev pub SidesInScope : ℕ → ℕ → List (RightSide Place) → Type 0
 SidesInScope n own [] = Unit {0}
 SidesInScope n own (r ∷ rs) = SideInScope n own r × SidesInScope n own rs
 
+-- each of the places is in scope
 abbrev pub PlacesInScope : ℕ → ℕ → List Place → Type 0
 PlacesInScope n own [] = Unit {0}
 PlacesInScope n own (x ∷ xs) = PlaceInScope n own x × PlacesInScope n own xs
 
+-- the variables of a statement that holds no others are in scope, and a call has a place for each argument
 abbrev pub SimpleInScope : List Routine → ℕ → ℕ → Simple Place ℕ Label → Type 0
 SimpleInScope routines n own skip = Unit {0}
 SimpleInScope routines n own (assign xs rs) = PlacesInScope n own xs × SidesInScope n own rs
@@ -50,10 +56,12 @@ Throughout S R (one m s t) = S s × Throughout S R t
 Throughout S R (choose m r a b t) = R r × Throughout S R a × Throughout S R b × Throughout S R t
 Throughout S R (loop m r a t) = R r × Throughout S R a × Throughout S R t
 
+-- each procedure has the property
 abbrev pub EachRoutine : (Routine → Type 0) → List Routine → Type 0
 EachRoutine P [] = Unit {0}
 EachRoutine P (r ∷ rs) = P r × EachRoutine P rs
 
+-- each thread starts in a procedure that is there
 abbrev pub EachThread : List Routine → List ℕ → Type 0
 EachThread routines [] = Unit {0}
 EachThread routines (c ∷ cs) = AtRoutine (slice_get routines c) (λ r. Unit {0}) × EachThread routines cs

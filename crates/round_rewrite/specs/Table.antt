@@ -46,6 +46,7 @@ abbrev pub added : {W : Type 0} → Expression W → List W → List (RightSide 
 added carry [] = []
 added carry (b ∷ bits) = value (two xor (var b) carry) ∷ added (two and (var b) carry) bits
 
+-- the right sides that add 1 to bits, the low bit first
 abbrev pub raised : {W : Type 0} → List W → List (RightSide W)
 raised [] = []
 raised (low ∷ bits) = value (negation (var low)) ∷ added (var low) bits
@@ -80,16 +81,18 @@ module _ {V W P Q : Type 0} (w : Naming V W P Q) (last : ℕ) where
   joined zero x = two and (at 0) (var (w.copy 0 x))
   joined (suc k) x = two or (joined k x) (two and (at (suc k)) (var (w.copy (suc k) x)))
 
-  -- a read of a variable, an expression, a right side
+  -- a read of a variable: of a global the copy for the round, of a local itself
   abbrev pub read : V → Expression W
   read x = cond (w.is_shared x) (joined last x) (var (w.kept x))
 
+  -- an expression, with each read put so
   abbrev pub expression : Expression V → Expression W
   expression (const b) = const b
   expression (var x) = read x
   expression (negation e) = negation (expression e)
   expression (two o a b) = two o (expression a) (expression b)
 
+  -- a right side, with each read put so
   abbrev pub side : RightSide V → RightSide W
   side any = any
   side (value e) = value (expression e)
@@ -102,13 +105,14 @@ module _ {V W P Q : Type 0} (w : Naming V W P Q) (last : ℕ) where
   abbrev pub rounds : List ℕ
   rounds = numbers 0 (suc last)
 
-  -- the targets and the right sides of an assignment, where j temporaries stand for the `?` before it
+  -- the targets of an assignment: all copies of a global, a local itself; the right sides begin with temporary j
   abbrev pub targets : List V → List (RightSide V) → List W
   targets [] rs = []
   targets (x ∷ xs) [] = []
   targets (x ∷ xs) (r ∷ rs) =
       cond (w.is_shared x) (map (λ k. w.copy k x) rounds ++ targets xs rs) (w.kept x ∷ targets xs rs)
 
+  -- the right sides to those targets
   abbrev pub sides : ℕ → List V → List (RightSide V) → List (RightSide W)
   sides j [] rs = []
   sides j (x ∷ xs) [] = []
@@ -170,6 +174,7 @@ module _ {V W P Q : Type 0} (w : Naming V W P Q) (last : ℕ) where
         one plain (assign (map (w.copy k) (x ∷ xs)) (each any (x ∷ xs)))
         (one plain (assign (map (w.save k) (x ∷ xs)) (map (λ y. value (var (w.copy k y))) (x ∷ xs))) t)
 
+    -- the guesses for several rounds
     abbrev pub guesses : List V → List ℕ → Block W Q L → Block W Q L
     guesses xs [] t = t
     guesses xs (k ∷ ks) t = guess xs k (guesses xs ks t)
@@ -187,6 +192,7 @@ module _ {V W P Q : Type 0} (w : Naming V W P Q) (last : ℕ) where
     check (x ∷ xs) k t =
         one plain (assume (value (two equal (var (w.save (suc k) x)) (var (w.copy k x))))) (check xs k t)
 
+    -- the checks of several rounds
     abbrev pub checks : List V → List ℕ → Block W Q L → Block W Q L
     checks xs [] t = t
     checks xs (k ∷ ks) t = check xs k (checks xs ks t)
@@ -195,10 +201,11 @@ module _ {V W P Q : Type 0} (w : Naming V W P Q) (last : ℕ) where
     abbrev pub main : List V → List P → Block W Q L
     main xs ps = guesses xs (numbers 1 last) (starts ps (checks xs (numbers 0 last) done))
 
-  -- the globals in order: the copies round by round, the guesses saved, the round's bits, stop, bad
+  -- the globals written for these rounds, round by round
   abbrev pub copied : (ℕ → V → W) → List V → List ℕ → List W
   copied write xs [] = []
   copied write xs (k ∷ ks) = map (write k) xs ++ copied write xs ks
 
+  -- the globals in order: the copies round by round, the guesses saved, the round's bits, stop, bad
   abbrev pub globals : List V → List W
   globals xs = copied w.copy xs rounds ++ copied w.save xs (numbers 1 last) ++ reverse w.bits ++ w.stop ∷ w.bad ∷ []
