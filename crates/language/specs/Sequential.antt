@@ -1,7 +1,7 @@
 -- A sequential program: one thread, whose first procedure is the one that it starts in. Its statements are
 -- marked with their numbers in text order, from 1, an `if` or `while` before what it holds.
 -- (Path edges and summary edges after Ball and Rajamani 2000.)
-use Rattle.std.specs.Prelude.{◌≡◌, ℕ, suc, ◌+◌, Bool, List, [], ◌∷◌, Option, Some, None, map, ◌⊎◌, slice_get}
+use Rattle.std.specs.Prelude.{◌≡◌, ℕ, zero, suc, ◌+◌, Bool, List, [], ◌∷◌, ◌++◌, Option, Some, None, map, ◌⊎◌, slice_get}
 use Rattle.language.specs.Tree.{call, Mark, Block, done, one, choose, loop, Tree}
 use Rattle.language.specs.Value.{values_of}
 use Rattle.language.specs.Rest.{Code}
@@ -28,6 +28,18 @@ numbered n (choose m r a b t) =
     choose (marked n m) r (numbered (suc n) a) (numbered (suc n + statements a) b)
     (numbered (suc n + (statements a + statements b)) t)
 numbered n (loop m r a t) = loop (marked n m) r (numbered (suc n) a) (numbered (suc n + statements a) t)
+
+-- the numbers that the statements are marked with, in text order
+abbrev pub points : {V P L : Type 0} → Block V P L → List ℕ
+points done = []
+points (one m s t) = m.at ∷ points t
+points (choose m r a b t) = m.at ∷ (points a ++ (points b ++ points t))
+points (loop m r a t) = m.at ∷ (points a ++ points t)
+
+-- n numbers one after the other, the first of them k
+abbrev pub numbers : ℕ → ℕ → List ℕ
+numbers k zero = []
+numbers k (suc n) = k ∷ numbers (suc k) n
 
 -- the procedure, its statements marked with their numbers in text order, from 1
 abbrev pub numbered_routine : Routine → Routine

@@ -3,6 +3,7 @@
 -- of Lal and Reps 2008.)
 use Rattle.std.specs.Prelude.{ℕ, zero, suc, ◌/◌, ◌%◌, Bool, true, false, List, [], ◌∷◌, ◌++◌, None, map, reverse, cond, max}
 use Rattle.language.specs.Tree.{Expression, const, var, negation, two, or, xor, and, equal, RightSide, any, value, Simple, skip, assign, assert, assume, goto, leave, call, Mark, Block, done, one, choose, loop}
+pub use Rattle.language.specs.Sequential.{numbers}
 use Rattle.language.specs.Rest.{join}
 
 -- How the rewritten program writes its variables W, where those of the source are V. The names of one
@@ -20,11 +21,6 @@ pub record Naming (V W P Q : Type 0) : Type 0 where
   pub stop : W
   pub bad : W
   pub called : P → Q
-
--- n numbers one after the other, the first of them k
-abbrev pub numbers : ℕ → ℕ → List ℕ
-numbers k zero = []
-numbers k (suc n) = k ∷ numbers (suc k) n
 
 -- a mark without a label
 abbrev pub plain : {L : Type 0} → Mark L
