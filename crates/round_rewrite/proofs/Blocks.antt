@@ -1,0 +1,150 @@
+-- How the rewriting goes with joining, with leaving out labels and numbers, and with jumps.
+use Rattle.std.proofs.Common.{◌≡◌, ℕ, zero, suc, Bool, true, false, cond, Option, Some, None, option_map, refl, sym, ◌∙◌, ap, ap₂}
+use Rattle.language.specs.Tree.{Simple, skip, assign, assert, assume, goto, leave, call, Mark, done, one, choose, loop, RightSide}
+use Rattle.language.specs.Value.{Place}
+use Rattle.language.specs.Rest.{Label, Code, join, rest_from, first_of_two, has_label}
+use Rattle.round_rewrite.specs.Table.{Naming, plain, draws, drawing, prologue, statement, rewritten, side}
+use Rattle.round_rewrite.proofs.Plain.{bare, bare-join, found, firsts}
+
+pub join_assoc : (a b c : Code) → join (join a b) c ≡ join a (join b c)
+join_assoc done b c = refl
+join_assoc (one m s t) b c = ap (one m s) (join_assoc t b c)
+join_assoc (choose m r x y t) b c = ap (choose m r x y) (join_assoc t b c)
+join_assoc (loop m r x t) b c = ap (loop m r x) (join_assoc t b c)
+
+first_assoc : {A : Type 0} (x y z : Option A) → first_of_two (first_of_two x y) z ≡ first_of_two x (first_of_two y z)
+first_assoc None y z = refl
+first_assoc (Some a) y z = refl
+
+first_none : {A : Type 0} (x : Option A) → first_of_two x None ≡ x
+first_none None = refl
+first_none (Some a) = refl
+
+cond_first : {A : Type 0} (c : Bool) (a : A) (x y : Option A) → first_of_two (cond c (Some a) x) y ≡ cond c (Some a) (first_of_two x y)
+cond_first true a x y = refl
+cond_first false a x y = refl
+
+-- where a jump into two blocks leads
+rest-join : (x : Label) (a b k : Code) → rest_from x (join a b) k ≡ first_of_two (rest_from x a (join b k)) (rest_from x b k)
+rest-join x done b k = refl
+rest-join x (one m s t) b k =
+    (λ i. cond (has_label x m) (Some (one m s (join_assoc t b k i))) (rest-join x t b k i))
+    ∙ sym (cond_first (has_label x m) (one m s (join t (join b k))) (rest_from x t (join b k)) (rest_from x b k))
+rest-join x (choose m r y z t) b k =
+    (λ i. cond (has_label x m) (Some (choose m r y z (join_assoc t b k i)))
+    (first_of_two (rest_from x y (join_assoc t b k i)) (first_of_two (rest_from x z (join_assoc t b k i)) (rest-join x t b k i))))
+    ∙ (ap (cond (has_label x m) (Some (choose m r y z (join t (join b k)))))
+    (ap (first_of_two (rest_from x y (join t (join b k)))) (sym (first_assoc (rest_from x z (join t (join b k))) (rest_from x t (join b k)) (rest_from x b k)))
+    ∙ sym (first_assoc (rest_from x y (join t (join b k))) (first_of_two (rest_from x z (join t (join b k))) (rest_from x t (join b k))) (rest_from x b k)))
+    ∙ sym (cond_first (has_label x m) _ _ (rest_from x b k)))
+rest-join x (loop m r y t) b k =
+    (λ i. cond (has_label x m) (Some (loop m r y (join_assoc t b k i)))
+    (first_of_two (rest_from x y (loop m r y (join_assoc t b k i))) (rest-join x t b k i)))
+    ∙ (ap (cond (has_label x m) (Some (loop m r y (join t (join b k)))))
+    (sym (first_assoc (rest_from x y (loop m r y (join t (join b k)))) (rest_from x t (join b k)) (rest_from x b k)))
+    ∙ sym (cond_first (has_label x m) _ _ (rest_from x b k)))
+
+module _ (w : Naming Place Place ℕ ℕ) (last : ℕ) where
+  pub bare-drawing : (n : ℕ) (t : Code) → bare (drawing w last n t) ≡ drawing w last n (bare t)
+  bare-drawing zero t = refl
+  bare-drawing (suc n) t = refl
+
+  pub bare-statement : (s : Simple Place ℕ Label) (t : Code) → bare (statement w last s t) ≡ statement w last s (bare t)
+  bare-statement skip t = refl
+  bare-statement (assign xs rs) t = bare-drawing (draws w.is_shared xs rs) _
+  bare-statement (assert r) t = refl
+  bare-statement (assume r) t = refl
+  bare-statement (goto l) t = refl
+  bare-statement leave t = refl
+  bare-statement (call p es) t = refl
+
+  drawing-join : (n : ℕ) (t b : Code) → join (drawing w last n t) b ≡ drawing w last n (join t b)
+  drawing-join zero t b = refl
+  drawing-join (suc n) t b = refl
+
+  pub statement-join : (s : Simple Place ℕ Label) (t b : Code) → join (statement w last s t) b ≡ statement w last s (join t b)
+  statement-join skip t b = refl
+  statement-join (assign xs rs) t b = drawing-join (draws w.is_shared xs rs) _ b
+  statement-join (assert r) t b = refl
+  statement-join (assume r) t b = refl
+  statement-join (goto l) t b = refl
+  statement-join leave t b = refl
+  statement-join (call p es) t b = refl
+
+  rest-drawing : (x : Label) (n : ℕ) (t k : Code) → rest_from x (drawing w last n t) k ≡ rest_from x t k
+  rest-drawing x zero t k = refl
+  rest-drawing x (suc n) t k = refl
+
+  rest-statement : (x : Label) (s : Simple Place ℕ Label) (t k : Code) → rest_from x (statement w last s t) k ≡ rest_from x t k
+  rest-statement x skip t k = refl
+  rest-statement x (assign xs rs) t k = rest-drawing x (draws w.is_shared xs rs) _ k
+  rest-statement x (assert r) t k = refl
+  rest-statement x (assume r) t k = refl
+  rest-statement x (goto l) t k = refl
+  rest-statement x leave t k = refl
+  rest-statement x (call p es) t k = refl
+
+  -- the rewritten block without labels and numbers
+  abbrev pub put : Code → Code
+  put b = rewritten w last (bare b)
+
+  pub bare-rewritten : (b : Code) → bare (rewritten w last b) ≡ put b
+  bare-rewritten done = refl
+  bare-rewritten (one m s t) =
+      ap (prologue w last plain) (bare-statement s (rewritten w last t) ∙ ap (statement w last s) (bare-rewritten t))
+  bare-rewritten (choose m r a b t) =
+      λ i. prologue w last plain (choose plain (side w last r) (bare-rewritten a i) (bare-rewritten b i) (bare-rewritten t i))
+  bare-rewritten (loop m r a t) =
+      λ i. prologue w last plain (loop plain (side w last r)
+      ((bare-join (rewritten w last a) (prologue w last plain done) ∙ ap (λ z. join z (prologue w last plain done)) (bare-rewritten a)) i)
+      (bare-rewritten t i))
+
+  rewritten-join : (a b : Code) → rewritten w last (join a b) ≡ join (rewritten w last a) (rewritten w last b)
+  rewritten-join done b = refl
+  rewritten-join (one m s t) b =
+      ap (prologue w last m) (ap (statement w last s) (rewritten-join t b) ∙ sym (statement-join s (rewritten w last t) (rewritten w last b)))
+  rewritten-join (choose m r x y t) b =
+      ap (λ z. prologue w last m (choose plain (side w last r) (rewritten w last x) (rewritten w last y) z)) (rewritten-join t b)
+  rewritten-join (loop m r x t) b =
+      ap (λ z. prologue w last m (loop plain (side w last r) (join (rewritten w last x) (prologue w last plain done)) z)) (rewritten-join t b)
+
+  pub put-join : (a b : Code) → put (join a b) ≡ join (put a) (put b)
+  put-join a b = ap (rewritten w last) (bare-join a b) ∙ rewritten-join (bare a) (bare b)
+
+  -- the body of a loop, its end's prologue and the loop again are the rewritten body and loop
+  pub put-again : (m : Mark Label) (r : RightSide Place) (a t : Code) → put (join a (loop m r a t)) ≡ join (join (put a) (prologue w last plain done)) (loop plain (side w last r) (join (put a) (prologue w last plain done)) (put t))
+  put-again m r a t =
+      put-join a (loop m r a t)
+      ∙ sym (join_assoc (put a) (prologue w last plain done) (loop plain (side w last r) (join (put a) (prologue w last plain done)) (put t)))
+
+  tails : (t k k' : Code) → bare k ≡ put k' → bare (join (rewritten w last t) k) ≡ put (join t k')
+  tails t k k' e = bare-join (rewritten w last t) k ∙ (ap₂ join (bare-rewritten t) e ∙ sym (put-join t k'))
+
+  -- a jump in a rewritten block leads to the rewritten rest
+  pub rest-rewritten : (x : Label) (b k k' : Code) → bare k ≡ put k' → option_map bare (rest_from x (rewritten w last b) k) ≡ option_map put (rest_from x b k')
+  rest-rewritten x done k k' e = refl
+  rest-rewritten x (one m s t) k k' e =
+      let whole : bare (join (statement w last s (rewritten w last t)) k) ≡ statement w last s (put (join t k')) =
+      ap bare (statement-join s (rewritten w last t) k) ∙ (bare-statement s (join (rewritten w last t) k) ∙ ap (statement w last s) (tails t k k' e)) in
+      found bare put (has_label x m) _ _ _ _ (ap (prologue w last plain) whole)
+      (ap (option_map bare) (rest-statement x s (rewritten w last t) k) ∙ rest-rewritten x t k k' e)
+  rest-rewritten x (choose m r a b t) k k' e =
+      let after : bare (join (rewritten w last t) k) ≡ put (join t k') = tails t k k' e in
+      found bare put (has_label x m) _ _ _ _
+      (λ i. prologue w last plain (choose plain (side w last r) (bare-rewritten a i) (bare-rewritten b i) (after i)))
+      (firsts bare put _ _ _ _ (rest-rewritten x a (join (rewritten w last t) k) (join t k') after)
+      (firsts bare put _ _ _ _ (rest-rewritten x b (join (rewritten w last t) k) (join t k') after)
+      (rest-rewritten x t k k' e)))
+  rest-rewritten x (loop m r a t) k k' e =
+      let after : bare (join (rewritten w last t) k) ≡ put (join t k') = tails t k k' e in
+      let pd : Code = prologue w last plain done in
+      let body : Code = join (rewritten w last a) pd in
+      let bodies : bare body ≡ join (put a) pd = bare-join (rewritten w last a) pd ∙ ap (λ z. join z pd) (bare-rewritten a) in
+      let again : Code = loop plain (side w last r) body (join (rewritten w last t) k) in
+      let agains : bare (join pd again) ≡ put (loop m r a (join t k')) =
+      (λ i. prologue w last plain (loop plain (side w last r) (bodies i) (after i))) in
+      found bare put (has_label x m) _ _ _ _ agains
+      (firsts bare put _ _ _ _
+      (ap (option_map bare) (rest-join x (rewritten w last a) pd again ∙ first_none (rest_from x (rewritten w last a) (join pd again)))
+      ∙ rest-rewritten x a (join pd again) (loop m r a (join t k')) agains)
+      (rest-rewritten x t k k' e))

@@ -1,0 +1,160 @@
+-- How the globals of the rewritten program lie: copies round by round, saved guesses, the round's bits, stop, bad.
+use Rattle.std.proofs.Common.{◌≡◌, ℕ, zero, suc, ◌+◌, ◌*◌, ◌<◌, Bool, true, false, List, [], ◌∷◌, ◌++◌, length, refl, sym, ◌∙◌, ap, arith, append_assoc, length-append, zero-add}
+use Rattle.language.specs.Value.{bit, with_bit}
+use Rattle.round_rewrite.specs.Places.{bits_at}
+
+pub bit_right : (a b : List Bool) (i j : ℕ) → i ≡ length a + j → bit (a ++ b) i ≡ bit b j
+bit_right [] b i j e = ap (bit b) (e ∙ zero-add j)
+bit_right (x ∷ a) b zero j e = absurd (omega arith)
+bit_right (x ∷ a) b (suc i) j e = bit_right a b i j (omega arith)
+
+pub bit_left : (a b : List Bool) (i : ℕ) → i < length a → bit (a ++ b) i ≡ bit a i
+bit_left [] b i h = absurd (omega arith)
+bit_left (x ∷ a) b zero h = refl
+bit_left (x ∷ a) b (suc i) h = bit_left a b i (omega arith)
+
+pub with_right : (a b : List Bool) (i j : ℕ) (v : Bool) → i ≡ length a + j → with_bit (a ++ b) i v ≡ a ++ with_bit b j v
+with_right [] b i j v e = ap (λ k. with_bit b k v) (e ∙ zero-add j)
+with_right (x ∷ a) b zero j v e = absurd (omega arith)
+with_right (x ∷ a) b (suc i) j v e = ap (λ z. x ∷ z) (with_right a b i j v (omega arith))
+
+pub with_left : (a b : List Bool) (i : ℕ) (v : Bool) → i < length a → with_bit (a ++ b) i v ≡ with_bit a i v ++ b
+with_left [] b i v h = absurd (omega arith)
+with_left (x ∷ a) b zero v h = refl
+with_left (x ∷ a) b (suc i) v h = ap (λ z. x ∷ z) (with_left a b i v (omega arith))
+
+pub length-with : (a : List Bool) (i : ℕ) (v : Bool) → length (with_bit a i v) ≡ length a
+length-with [] i v = refl
+length-with (x ∷ a) zero v = refl
+length-with (x ∷ a) (suc i) v = ap suc (length-with a i v)
+
+pub with_same : (a : List Bool) (i : ℕ) → with_bit a i (bit a i) ≡ a
+with_same [] i = refl
+with_same (x ∷ a) zero = refl
+with_same (x ∷ a) (suc i) = ap (λ z. x ∷ z) (with_same a i)
+
+-- rows
+abbrev pub flat : List (List Bool) → List Bool
+flat [] = []
+flat (r ∷ rs) = r ++ flat rs
+
+abbrev pub Long : ℕ → List (List Bool) → Type 0
+Long n [] = Unit {0}
+Long n (r ∷ rs) = (length r ≡ n) × Long n rs
+
+abbrev pub row : List (List Bool) → ℕ → List Bool
+row [] k = []
+row (r ∷ rs) zero = r
+row (r ∷ rs) (suc k) = row rs k
+
+abbrev pub with_row : List (List Bool) → ℕ → List Bool → List (List Bool)
+with_row [] k v = []
+with_row (r ∷ rs) zero v = v ∷ rs
+with_row (r ∷ rs) (suc k) v = r ∷ with_row rs k v
+
+pub length-flat : (n : ℕ) (C : List (List Bool)) → Long n C → length (flat C) ≡ length C * n
+length-flat n [] h = omega arith
+length-flat n (r ∷ C) h = length-append r (flat C) ∙ (let e : length (flat C) ≡ length C * n = length-flat n C h.1 in let e' : length r ≡ n = h.0 in omega arith)
+
+pub row_bit : (n : ℕ) (C : List (List Bool)) (X : List Bool) (k i : ℕ) → Long n C → k < length C → i < n → bit (flat C ++ X) (k * n + i) ≡ bit (row C k) i
+row_bit n [] X k i long h h' = absurd (omega arith)
+row_bit n (r ∷ C) X zero i long h h' =
+    let e : length r ≡ n = long.0 in
+    let at : zero * n + i ≡ i = omega arith in
+    ap (bit ((r ++ flat C) ++ X)) at ∙ (ap (λ z. bit z i) (append_assoc r (flat C) X) ∙ bit_left r (flat C ++ X) i (omega arith))
+row_bit n (r ∷ C) X (suc k) i long h h' =
+    let e : length r ≡ n = long.0 in
+    let at : suc k * n + i ≡ length r + (k * n + i) = omega arith in
+    ap (λ z. bit z (suc k * n + i)) (append_assoc r (flat C) X)
+    ∙ (bit_right r (flat C ++ X) (suc k * n + i) (k * n + i) at ∙ row_bit n C X k i long.1 (omega arith) h')
+
+pub row_with : (n : ℕ) (C : List (List Bool)) (X : List Bool) (k i : ℕ) (v : Bool) → Long n C → k < length C → i < n → with_bit (flat C ++ X) (k * n + i) v ≡ flat (with_row C k (with_bit (row C k) i v)) ++ X
+row_with n [] X k i v long h h' = absurd (omega arith)
+row_with n (r ∷ C) X zero i v long h h' =
+    let e : length r ≡ n = long.0 in
+    let at : zero * n + i ≡ i = omega arith in
+    ap (λ j. with_bit ((r ++ flat C) ++ X) j v) at
+    ∙ (ap (λ z. with_bit z i v) (append_assoc r (flat C) X)
+    ∙ (with_left r (flat C ++ X) i v (omega arith) ∙ sym (append_assoc (with_bit r i v) (flat C) X)))
+row_with n (r ∷ C) X (suc k) i v long h h' =
+    let e : length r ≡ n = long.0 in
+    let at : suc k * n + i ≡ length r + (k * n + i) = omega arith in
+    ap (λ z. with_bit z (suc k * n + i) v) (append_assoc r (flat C) X)
+    ∙ (with_right r (flat C ++ X) (suc k * n + i) (k * n + i) v at
+    ∙ (ap (λ z. r ++ z) (row_with n C X k i v long.1 (omega arith) h')
+    ∙ sym (append_assoc r (flat (with_row C k (with_bit (row C k) i v))) X)))
+
+pub row_middle : (pre : List (List Bool)) (g : List Bool) (post : List (List Bool)) → row (pre ++ g ∷ post) (length pre) ≡ g
+row_middle [] g post = refl
+row_middle (r ∷ pre) g post = row_middle pre g post
+
+pub with_middle : (pre : List (List Bool)) (g h : List Bool) (post : List (List Bool)) → with_row (pre ++ g ∷ post) (length pre) h ≡ pre ++ h ∷ post
+with_middle [] g h post = refl
+with_middle (r ∷ pre) g h post = ap (λ z. r ∷ z) (with_middle pre g h post)
+
+pub with_own : (C : List (List Bool)) (k i : ℕ) → with_row C k (with_bit (row C k) i (bit (row C k) i)) ≡ C
+with_own [] k i = refl
+with_own (r ∷ C) zero i = ap (λ z. z ∷ C) (with_same r i)
+with_own (r ∷ C) (suc k) i = ap (λ z. r ∷ z) (with_own C k i)
+
+pub length-with_row : (C : List (List Bool)) (k : ℕ) (v : List Bool) → length (with_row C k v) ≡ length C
+length-with_row [] k v = refl
+length-with_row (r ∷ C) zero v = refl
+length-with_row (r ∷ C) (suc k) v = ap suc (length-with_row C k v)
+
+pub long-with_row : (n : ℕ) (C : List (List Bool)) (k : ℕ) (v : List Bool) → Long n C → length v ≡ n → Long n (with_row C k v)
+long-with_row n [] k v long e = tt
+long-with_row n (r ∷ C) zero v long e = (e, long.1)
+long-with_row n (r ∷ C) (suc k) v long e = (long.0, long-with_row n C k v long.1 e)
+
+pub long_row : (n : ℕ) (C : List (List Bool)) (k : ℕ) → Long n C → k < length C → length (row C k) ≡ n
+long_row n [] k long h = absurd (omega arith)
+long_row n (r ∷ C) zero long h = long.0
+long_row n (r ∷ C) (suc k) long h = long_row n C k long.1 (omega arith)
+
+pub long-append : (n : ℕ) (a b : List (List Bool)) → Long n a → Long n b → Long n (a ++ b)
+long-append n [] b ha hb = hb
+long-append n (r ∷ a) b ha hb = (ha.0, long-append n a b ha.1 hb)
+
+-- the bits of a round
+abbrev pub high : ℕ → Bool
+high zero = false
+high (suc zero) = false
+high (suc (suc q)) = true
+
+abbrev pub low : ℕ → Bool
+low zero = false
+low (suc zero) = true
+low (suc (suc zero)) = false
+low (suc (suc (suc q))) = true
+
+abbrev pub bits_of : ℕ → Bool → Bool → List Bool
+bits_of q s b = high q ∷ low q ∷ s ∷ b ∷ []
+
+abbrev pub lay : List (List Bool) → List (List Bool) → List Bool → List Bool
+lay C S bits = flat C ++ (flat S ++ bits)
+
+-- the rows have their numbers and lengths
+pub record Shape (n last : ℕ) (C S : List (List Bool)) : Type 0 where
+  pub copies : Long n C
+  pub saved : Long n S
+  pub rounds : length C ≡ suc last
+  pub guesses : length S ≡ last
+
+pub bits_index : (n last : ℕ) (C S : List (List Bool)) (j : ℕ) → Shape n last C S → bits_at n last + j ≡ length (flat C) + (length (flat S) + j)
+bits_index n last C S j h =
+    let a : length (flat C) ≡ length C * n = length-flat n C h.copies in
+    let b : length (flat S) ≡ length S * n = length-flat n S h.saved in
+    let c : length C * n ≡ suc last * n = ap (λ z. z * n) h.rounds in
+    let d : length S * n ≡ last * n = ap (λ z. z * n) h.guesses in
+    omega arith
+
+pub bits_bit : (n last : ℕ) (C S : List (List Bool)) (bits : List Bool) (j : ℕ) → Shape n last C S → bit (lay C S bits) (bits_at n last + j) ≡ bit bits j
+bits_bit n last C S bits j h =
+    bit_right (flat C) (flat S ++ bits) (bits_at n last + j) (length (flat S) + j) (bits_index n last C S j h)
+    ∙ bit_right (flat S) bits (length (flat S) + j) j refl
+
+pub bits_with : (n last : ℕ) (C S : List (List Bool)) (bits : List Bool) (j : ℕ) (v : Bool) → Shape n last C S → with_bit (lay C S bits) (bits_at n last + j) v ≡ lay C S (with_bit bits j v)
+bits_with n last C S bits j v h =
+    with_right (flat C) (flat S ++ bits) (bits_at n last + j) (length (flat S) + j) v (bits_index n last C S j h)
+    ∙ ap (λ z. flat C ++ z) (with_right (flat S) bits (length (flat S) + j) j v refl)

@@ -1,0 +1,104 @@
+-- Where the printed names stand among the rewritten program's globals, formals, locals and temporaries.
+use Rattle.std.proofs.Common.{◌≡◌, ℕ, zero, suc, ◌+◌, ◌*◌, ◌<◌, ◌≤◌, Bool, true, false, cond, not, List, [], ◌∷◌, ◌++◌, length, map, codes, refl, sym, ◌∙◌, ap, subst, ap₂, arith, append_assoc, length-append, ◌⊎◌, inl, inr}
+use Rattle.language.specs.Tree.{Name}
+use Rattle.language.specs.Rest.{same_text}
+use Rattle.language.specs.Resolve.{number_of, is_declared}
+use Rattle.round_rewrite.specs.Table.{Naming, numbers, copied}
+use Rattle.round_rewrite.specs.Rewritable.{has_double, AreFree}
+use Rattle.round_rewrite.proofs.Spelling.{same_text_true, free_differs}
+
+declared_step : (c : Bool) (r r' : Bool) → cond c true r ≡ true → (c ≡ true) ⊎ (r ≡ true)
+declared_step true r r' h = inl refl
+declared_step false r r' h = inr h
+
+none_step : (c : Bool) (r : Bool) → cond c true r ≡ false → (c ≡ false) × (r ≡ false)
+none_step true r h = cc
+none_step false r h = (refl, h)
+
+pub number_right : (t : List ℕ) (xs ys : List Name) → is_declared t xs ≡ false → (number_of t (xs ++ ys) ≡ length xs + number_of t ys) × (is_declared t (xs ++ ys) ≡ is_declared t ys)
+number_right t [] ys h = (sym (Rattle.std.proofs.Common.zero-add (number_of t ys)), refl)
+number_right t (x ∷ xs) ys h =
+    let k = none_step (same_text t x.text) (is_declared t xs) h in
+    let r = number_right t xs ys k.1 in (
+      ap (λ c. cond c 0 (suc (number_of t (xs ++ ys)))) k.0 ∙ (ap suc r.0 ∙ (let z : suc (length xs + number_of t ys) ≡ suc (length xs) + number_of t ys = omega arith in z)),
+      ap (λ c. cond c true (is_declared t (xs ++ ys))) k.0 ∙ r.1,
+    )
+
+number_here : (c : Bool) (a b : ℕ) → a ≡ b → cond c 0 (suc a) ≡ cond c 0 (suc b)
+number_here c a b e = ap (λ z. cond c 0 (suc z)) e
+
+pub number_left : (t : List ℕ) (xs ys : List Name) → is_declared t xs ≡ true → (number_of t (xs ++ ys) ≡ number_of t xs) × (is_declared t (xs ++ ys) ≡ true)
+number_left t [] ys h = cc
+number_left t (x ∷ xs) ys h = go (same_text t x.text) (λ k. number_left t xs ys k) h
+  where
+    go : (c : Bool) → (is_declared t xs ≡ true → (number_of t (xs ++ ys) ≡ number_of t xs) × (is_declared t (xs ++ ys) ≡ true)) → cond c true (is_declared t xs) ≡ true → (cond c 0 (suc (number_of t (xs ++ ys))) ≡ cond c 0 (suc (number_of t xs))) × (cond c true (is_declared t (xs ++ ys)) ≡ true)
+    go true rec k = (refl, refl)
+    go false rec k = let r = rec k in (ap suc r.0, r.1)
+
+-- a text that has two underscores is no declared name
+pub not_free : (a s : List ℕ) (xs : List Name) → AreFree xs → is_declared (a ++ 95 ∷ 95 ∷ s) xs ≡ false
+not_free a s [] h = refl
+not_free a s (x ∷ xs) h = ap (λ c. cond c true (is_declared (a ++ 95 ∷ 95 ∷ s) xs)) (free_differs x.text a s h.0) ∙ not_free a s xs h.1
+
+-- a declared name is one of the names
+pub free_name : (t : List ℕ) (xs : List Name) → AreFree xs → is_declared t xs ≡ true → has_double t ≡ false
+free_name t [] h d = cc
+free_name t (x ∷ xs) h d = go (same_text t x.text) refl d
+    (λ k. free_name t xs h.1 k)
+  where
+    go : (c : Bool) → same_text t x.text ≡ c → cond c true (is_declared t xs) ≡ true → (is_declared t xs ≡ true → has_double t ≡ false) → has_double t ≡ false
+    go true e k rec = ap has_double (same_text_true t x.text e) ∙ h.0
+    go false e k rec = rec k
+
+-- names written with a round: copies, or guesses
+pub record Spelled (f : ℕ → Name → Name) : Type 0 where
+  pub alike : (k : ℕ) (x y : Name) → same_text (f k x).text (f k y).text ≡ same_text x.text y.text
+  pub unlike : (k j : ℕ) (x y : Name) → k < 4 → j < 4 → (k ≡ j → ⊥) → same_text (f k x).text (f j y).text ≡ false
+
+module _ (w : Naming Name Name Name Name) (last : ℕ) (f : ℕ → Name → Name) (xs : List Name) where
+  abbrev rows : ℕ → ℕ → List Name
+  rows j m = copied w last f xs (numbers j m)
+
+  pub length-rows : (j m : ℕ) → length (rows j m) ≡ m * length xs
+  length-rows j zero = omega arith
+  length-rows j (suc m) =
+      length-append (map (f j) xs) (rows (suc j) m)
+      ∙ (let a : length (map (f j) xs) ≡ length xs = Rattle.std.proofs.lemmas.List.length-map xs (f j) in
+      let b : length (rows (suc j) m) ≡ m * length xs = length-rows (suc j) m in omega arith)
+
+  pub none_in_row : (t : List ℕ) (j : ℕ) (ys : List Name) → ((y : Name) → same_text t (f j y).text ≡ false) → is_declared t (map (f j) ys) ≡ false
+  none_in_row t j [] h = refl
+  none_in_row t j (y ∷ ys) h = ap (λ c. cond c true (is_declared t (map (f j) ys))) (h y) ∙ none_in_row t j ys h
+
+  pub none_in_rows : (t : List ℕ) (j m : ℕ) → ((i : ℕ) (y : Name) → i < j + m → same_text t (f i y).text ≡ false) → is_declared t (rows j m) ≡ false
+  none_in_rows t j zero h = refl
+  none_in_rows t j (suc m) h =
+      (number_right t (map (f j) xs) (rows (suc j) m) (none_in_row t j xs (λ y. h j y (omega arith)))).1
+      ∙ none_in_rows t (suc j) m (λ i y lt. h i y (omega arith))
+
+  in_row : Spelled f → (x : Name) (k : ℕ) (ys : List Name) → (is_declared (f k x).text (map (f k) ys) ≡ is_declared x.text ys) × (number_of (f k x).text (map (f k) ys) ≡ number_of x.text ys)
+  in_row sp x k [] = (refl, refl)
+  in_row sp x k (y ∷ ys) =
+      let r = in_row sp x k ys in
+      (ap₂ (λ c d. cond c true d) (sp.alike k x y) r.0, ap₂ (λ c d. cond c 0 (suc d)) (sp.alike k x y) r.1)
+
+  -- the name of round j + d stands d rows on
+  pub in_rows : Spelled f → (x : Name) → is_declared x.text xs ≡ true → (d j m : ℕ) → d < m → j + m ≤ 4 → (is_declared (f (j + d) x).text (rows j m) ≡ true) × (number_of (f (j + d) x).text (rows j m) ≡ d * length xs + number_of x.text xs)
+  in_rows sp x h d j zero lt all = absurd (omega arith)
+  in_rows sp x h zero j (suc m) lt all =
+      let e : j + zero ≡ j = omega arith in
+      let r = in_row sp x j xs in
+      let l = number_left (f j x).text (map (f j) xs) (rows (suc j) m) (r.0 ∙ h) in (
+        ap (λ k. is_declared (f k x).text (rows j (suc m))) e ∙ l.1,
+        ap (λ k. number_of (f k x).text (rows j (suc m))) e ∙ (l.0 ∙ (r.1 ∙ (let z : number_of x.text xs ≡ zero * length xs + number_of x.text xs = omega arith in z))),
+      )
+  in_rows sp x h (suc d) j (suc m) lt all =
+      let e : j + suc d ≡ suc j + d = omega arith in
+      let none : is_declared (f (j + suc d) x).text (map (f j) xs) ≡ false = none_in_row (f (j + suc d) x).text j xs (λ y. sp.unlike (j + suc d) j x y (omega arith) (omega arith) (λ q. omega arith)) in
+      let r = number_right (f (j + suc d) x).text (map (f j) xs) (rows (suc j) m) none in
+      let ih = in_rows sp x h d (suc j) m (omega arith) (omega arith) in
+      let a : length (map (f j) xs) ≡ length xs = Rattle.std.proofs.lemmas.List.length-map xs (f j) in (
+        r.1 ∙ (ap (λ k. is_declared (f k x).text (rows (suc j) m)) e ∙ ih.0),
+        r.0 ∙ (ap (λ k. length (map (f j) xs) + number_of (f k x).text (rows (suc j) m)) e
+            ∙ (ap (λ z. length (map (f j) xs) + z) ih.1 ∙ (let z : length (map (f j) xs) + (d * length xs + number_of x.text xs) ≡ suc d * length xs + number_of x.text xs = omega arith in z))),
+      )

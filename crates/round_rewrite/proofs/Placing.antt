@@ -1,0 +1,167 @@
+-- The printed names stand at their places.
+use Rattle.std.proofs.Common.{◌≡◌, ℕ, zero, suc, ◌+◌, ◌*◌, ◌<◌, ◌≤◌, true, false, cond, List, [], ◌∷◌, ◌++◌, length, map, codes, refl, sym, ◌∙◌, ap, ap₂, arith, append_assoc, length-append}
+use Rattle.std.specs.Prelude.{decimal}
+use Rattle.language.specs.Tree.{Name}
+use Rattle.language.specs.Value.{global, local}
+use Rattle.language.specs.Rest.{same_text}
+use Rattle.language.specs.Resolve.{number_of, is_declared, Scope, place_of}
+use Rattle.round_rewrite.specs.Table.{Naming, numbers, copied, globals}
+use Rattle.round_rewrite.specs.Places.{copy_at, save_at, bits_at}
+use Rattle.round_rewrite.specs.Names.{named, copy_name, save_name, drawn_name, names}
+use Rattle.round_rewrite.specs.Rewritable.{has_double, AreFree}
+use Rattle.round_rewrite.proofs.Spelling.{same_text_refl, same_text_false, same_text-append, copies_differ, saves_differ, save_no_copy, low_no_copy, low_no_save, drawn_differ, no_drawn, digit_is}
+use Rattle.round_rewrite.proofs.Numbering.{number_right, number_left, not_free, free_name, Spelled, length-rows, none_in_rows, in_rows}
+
+pub copies_spelled : Spelled copy_name
+copies_spelled = record {
+  alike = λ k x y. same_text-append x.text y.text (95 ∷ 95 ∷ decimal (suc k));
+  unlike = λ k j x y hk hj ne. copies_differ x.text y.text k j hk hj ne;
+}
+
+pub saves_spelled : Spelled save_name
+saves_spelled = record {
+  alike = λ k x y. same_text-append x.text y.text (95 ∷ 95 ∷ 115 ∷ decimal (suc k));
+  unlike = λ k j x y hk hj ne. saves_differ x.text y.text k j hk hj ne;
+}
+
+-- among temporaries
+no_temporary : (t : List ℕ) (j d : ℕ) → ((i : ℕ) → same_text t (drawn_name i).text ≡ false) → is_declared t (map drawn_name (numbers j d)) ≡ false
+no_temporary t j zero h = refl
+no_temporary t j (suc d) h = ap (λ c. cond c true (is_declared t (map drawn_name (numbers (suc j) d)))) (h j) ∙ no_temporary t (suc j) d h
+
+the_temporary : (e j d : ℕ) → e < d → j + d ≤ 64 → (is_declared (drawn_name (j + e)).text (map drawn_name (numbers j d)) ≡ true) × (number_of (drawn_name (j + e)).text (map drawn_name (numbers j d)) ≡ e)
+the_temporary e j zero lt all = absurd (omega arith)
+the_temporary zero j (suc d) lt all =
+    let z : j + zero ≡ j = omega arith in
+    let same : same_text (drawn_name (j + zero)).text (drawn_name j).text ≡ true = ap (λ k. same_text (drawn_name k).text (drawn_name j).text) z ∙ same_text_refl (drawn_name j).text in (
+      ap (λ c. cond c true (is_declared (drawn_name (j + zero)).text (map drawn_name (numbers (suc j) d)))) same,
+      ap (λ c. cond c 0 (suc (number_of (drawn_name (j + zero)).text (map drawn_name (numbers (suc j) d))))) same,
+    )
+the_temporary (suc e) j (suc d) lt all =
+    let z : j + suc e ≡ suc j + e = omega arith in
+    let other : same_text (drawn_name (j + suc e)).text (drawn_name j).text ≡ false = drawn_differ (j + suc e) j (omega arith) (omega arith) (λ q. omega arith) in
+    let ih = the_temporary e (suc j) d (omega arith) (omega arith) in (
+      ap (λ c. cond c true (is_declared (drawn_name (j + suc e)).text (map drawn_name (numbers (suc j) d)))) other ∙ (ap (λ k. is_declared (drawn_name k).text (map drawn_name (numbers (suc j) d))) z ∙ ih.0),
+      ap (λ c. cond c 0 (suc (number_of (drawn_name (j + suc e)).text (map drawn_name (numbers (suc j) d))))) other ∙ ap suc (ap (λ k. number_of (drawn_name k).text (map drawn_name (numbers (suc j) d))) z ∙ ih.1),
+    )
+
+pub length-numbers : (j d : ℕ) → length (numbers j d) ≡ d
+length-numbers j zero = refl
+length-numbers j (suc d) = ap suc (length-numbers (suc j) d)
+
+module _ (gs own ps : List Name) (d last : ℕ) (gs_free : AreFree gs) (own_free : AreFree own) (few : d ≤ 64) (small : last < 4) where
+  w : Naming Name Name Name Name
+  w = names []
+
+  abbrev temps : List Name
+  temps = map drawn_name (numbers 0 d)
+
+  abbrev pub scope : Scope
+  scope = record { globals = gs; locals = own; procedures = ps }
+
+  abbrev A : List Name
+  A = copied (names []) last copy_name gs (numbers 0 (suc last))
+
+  abbrev B : List Name
+  B = copied (names []) last save_name gs (numbers 1 last)
+
+  abbrev bit_names : List Name
+  bit_names = named (codes "rh__") ∷ named (codes "rl__") ∷ []
+
+  abbrev last_names : List Name
+  last_names = named (codes "stop__") ∷ named (codes "bad__") ∷ []
+
+  -- the scope of a rewritten procedure
+  abbrev pub wider : List Name → Scope
+  wider ps' = record { globals = globals (names []) last gs; locals = own ++ temps; procedures = ps' }
+
+  length-A : length A ≡ suc last * length gs
+  length-A = length-rows (names []) last copy_name gs 0 (suc last)
+
+  length-B : length B ≡ last * length gs
+  length-B = length-rows (names []) last save_name gs 1 last
+
+  -- a name with two underscores that is no temporary is no formal, local or temporary
+  outside : (a s : List ℕ) → ((i : ℕ) → same_text (a ++ 95 ∷ 95 ∷ s) (drawn_name i).text ≡ false) → is_declared (a ++ 95 ∷ 95 ∷ s) (own ++ temps) ≡ false
+  outside a s h = (number_right (a ++ 95 ∷ 95 ∷ s) own temps (not_free a s own own_free)).1 ∙ no_temporary (a ++ 95 ∷ 95 ∷ s) 0 d h
+
+  as_global : (ps' : List Name) (x : Name) (i j : ℕ) → is_declared x.text (own ++ temps) ≡ false → number_of x.text (globals (names []) last gs) ≡ i → i ≡ j → place_of (wider ps') x ≡ global j
+  as_global ps' x i j h e e' = ap (λ c. cond c (local (number_of x.text (own ++ temps))) (global (number_of x.text (globals (names []) last gs)))) h ∙ ap global (e ∙ e')
+
+  digit_not_t : (k : ℕ) → k < 4 → (t r : List ℕ) (x : List ℕ) → has_double x ≡ false → x ++ 95 ∷ 95 ∷ decimal (suc k) ≡ 116 ∷ 109 ∷ 112 ∷ 95 ∷ 95 ∷ 116 ∷ r → ⊥
+  digit_not_t k h t r x free e = no_drawn x (49 + k) [] r free (λ z. omega arith) (ap (λ y. x ++ 95 ∷ 95 ∷ y) (sym (digit_is k h)) ∙ e)
+
+  pub copy_place : (ps' : List Name) (x : Name) (k : ℕ) → k ≤ last → is_declared x.text own ≡ false → is_declared x.text gs ≡ true → place_of (wider ps') (copy_name k x) ≡ copy_at (length gs) k (place_of scope x)
+  copy_place ps' x k le hidden there =
+      let free : has_double x.text ≡ false = free_name x.text gs gs_free there in
+      let t : List ℕ = (copy_name k x).text in
+      let out : is_declared t (own ++ temps) ≡ false =
+      outside x.text (decimal (suc k)) (λ i. same_text_false t (drawn_name i).text (digit_not_t k (omega arith) [] (decimal (suc i)) x.text free)) in
+      let r = in_rows (names []) last copy_name gs copies_spelled x there k 0 (suc last) (omega arith) (omega arith) in
+      let z : 0 + k ≡ k = omega arith in
+      let inA : is_declared t A ≡ true = ap (λ y. is_declared (copy_name y x).text A) (sym z) ∙ r.0 in
+      let atA : number_of t A ≡ k * length gs + number_of x.text gs = ap (λ y. number_of (copy_name y x).text A) (sym z) ∙ r.1 in
+      let l1 = number_left t A B inA in
+      let l2 = number_left t (A ++ B) bit_names l1.1 in
+      let l3 = number_left t (A ++ B ++ bit_names) last_names l2.1 in
+      as_global ps' (copy_name k x) (number_of t A) (k * length gs + number_of x.text gs) out (l3.0 ∙ (l2.0 ∙ l1.0)) atA
+      ∙ ap (copy_at (length gs) k) (sym (ap (λ c. cond c (local (number_of x.text own)) (global (number_of x.text gs))) hidden))
+
+  pub save_place : (ps' : List Name) (x : Name) (k : ℕ) → k < last → is_declared x.text own ≡ false → is_declared x.text gs ≡ true → place_of (wider ps') (save_name (suc k) x) ≡ save_at (length gs) last (suc k) (place_of scope x)
+  save_place ps' x k lt hidden there =
+      let free : has_double x.text ≡ false = free_name x.text gs gs_free there in
+      let t : List ℕ = (save_name (suc k) x).text in
+      let out : is_declared t (own ++ temps) ≡ false =
+      outside x.text (115 ∷ decimal (suc (suc k))) (λ i. same_text_false t (drawn_name i).text (no_drawn x.text 115 (decimal (suc (suc k))) (decimal (suc i)) free (λ z. omega arith))) in
+      let r = in_rows (names []) last save_name gs saves_spelled x there k 1 last lt (omega arith) in
+      let z : 1 + k ≡ suc k = omega arith in
+      let inB : is_declared t B ≡ true = ap (λ y. is_declared (save_name y x).text B) (sym z) ∙ r.0 in
+      let atB : number_of t B ≡ k * length gs + number_of x.text gs = ap (λ y. number_of (save_name y x).text B) (sym z) ∙ r.1 in
+      let noA : is_declared t A ≡ false = none_in_rows (names []) last copy_name gs t 0 (suc last) (λ i y l. save_no_copy x.text y.text (suc k) i (omega arith) (omega arith)) in
+      let l1 = number_right t A B noA in
+      let l2 = number_left t (A ++ B) bit_names (l1.1 ∙ inB) in
+      let l3 = number_left t (A ++ B ++ bit_names) last_names l2.1 in
+      as_global ps' (save_name (suc k) x) (length A + number_of t B) (suc last * length gs + (k * length gs + number_of x.text gs)) out (l3.0 ∙ (l2.0 ∙ l1.0)) (ap₂ (λ p q. p + q) length-A atB)
+      ∙ ap (save_at (length gs) last (suc k)) (sym (ap (λ c. cond c (local (number_of x.text own)) (global (number_of x.text gs))) hidden))
+
+  pub kept_place : (ps' : List Name) (x : Name) → is_declared x.text own ≡ true → place_of (wider ps') x ≡ place_of scope x
+  kept_place ps' x here =
+      let l = number_left x.text own temps here in
+      ap (λ c. cond c (local (number_of x.text (own ++ temps))) (global (number_of x.text (globals (names []) last gs)))) l.1
+      ∙ (ap local l.0 ∙ sym (ap (λ c. cond c (local (number_of x.text own)) (global (number_of x.text gs))) here))
+
+  pub drawn_place : (ps' : List Name) (j : ℕ) → j < d → place_of (wider ps') (drawn_name j) ≡ local (length own + j)
+  drawn_place ps' j lt =
+      let t : List ℕ = (drawn_name j).text in
+      let r = number_right t own temps (not_free (116 ∷ 109 ∷ 112 ∷ []) (116 ∷ decimal (suc j)) own own_free) in
+      let z : 0 + j ≡ j = omega arith in
+      let k = the_temporary j 0 d lt (omega arith) in
+      let ink : is_declared t temps ≡ true = ap (λ y. is_declared (drawn_name y).text temps) (sym z) ∙ k.0 in
+      let atk : number_of t temps ≡ j = ap (λ y. number_of (drawn_name y).text temps) (sym z) ∙ k.1 in
+      ap (λ c. cond c (local (number_of t (own ++ temps))) (global (number_of t (globals (names []) last gs)))) (r.1 ∙ ink)
+      ∙ ap local (r.0 ∙ ap (λ y. length own + y) atk)
+
+  -- a name of the rewriting's own that ends in two underscores
+  low_place : (ps' : List Name) (a : List ℕ) (m : ℕ) → ((i : ℕ) → same_text (a ++ 95 ∷ 95 ∷ []) (drawn_name i).text ≡ false) → number_of (a ++ 95 ∷ 95 ∷ []) (bit_names ++ last_names) ≡ m → place_of (wider ps') (named (a ++ 95 ∷ 95 ∷ [])) ≡ global (bits_at (length gs) last + m)
+  low_place ps' a m differ at =
+      let t : List ℕ = a ++ 95 ∷ 95 ∷ [] in
+      let split : a ++ 95 ∷ 95 ∷ [] ≡ (a ++ 95 ∷ []) ++ 95 ∷ [] = sym (append_assoc a (95 ∷ []) (95 ∷ [])) in
+      let noA : is_declared t A ≡ false = none_in_rows (names []) last copy_name gs t 0 (suc last) (λ i y l. ap (λ z. same_text z (copy_name i y).text) split ∙ low_no_copy (a ++ 95 ∷ []) y.text i (omega arith)) in
+      let noB : is_declared t B ≡ false = none_in_rows (names []) last save_name gs t 1 last (λ i y l. ap (λ z. same_text z (save_name i y).text) split ∙ low_no_save (a ++ 95 ∷ []) y.text i (omega arith)) in
+      let r1 = number_right t A B noA in
+      let r2 = number_right t (A ++ B) (bit_names ++ last_names) (r1.1 ∙ noB) in
+      let lAB : length (A ++ B) ≡ bits_at (length gs) last = length-append A B ∙ ap₂ (λ p q. p + q) length-A length-B in
+      as_global ps' (named t) (length (A ++ B) + number_of t (bit_names ++ last_names)) (bits_at (length gs) last + m) (outside a [] differ)
+      (ap (number_of t) (append_assoc (A ++ B) bit_names last_names) ∙ r2.0) (ap₂ (λ p q. p + q) lAB at)
+
+  pub high_place : (ps' : List Name) → place_of (wider ps') (named (codes "rh__")) ≡ global (bits_at (length gs) last + 0)
+  high_place ps' = low_place ps' (114 ∷ 104 ∷ []) 0 (λ i. refl) refl
+
+  pub low_bit_place : (ps' : List Name) → place_of (wider ps') (named (codes "rl__")) ≡ global (bits_at (length gs) last + 1)
+  low_bit_place ps' = low_place ps' (114 ∷ 108 ∷ []) 1 (λ i. refl) refl
+
+  pub stop_place : (ps' : List Name) → place_of (wider ps') (named (codes "stop__")) ≡ global (bits_at (length gs) last + 2)
+  stop_place ps' = low_place ps' (115 ∷ 116 ∷ 111 ∷ 112 ∷ []) 2 (λ i. refl) refl
+
+  pub bad_place : (ps' : List Name) → place_of (wider ps') (named (codes "bad__")) ≡ global (bits_at (length gs) last + 3)
+  bad_place ps' = low_place ps' (98 ∷ 97 ∷ 100 ∷ []) 3 (λ i. refl) refl

@@ -1,0 +1,76 @@
+-- The rewriting theorem over places.
+use Rattle.std.proofs.Common.{◌≡◌, ℕ, suc, ◌+◌, ◌<◌, Bool, true, false, List, [], ◌∷◌, None, refl, sym, subst, inl, inr}
+use Rattle.language.specs.Tree.{done, one, choose, loop}
+use Rattle.language.specs.Value.{bit}
+use Rattle.language.specs.Rest.{Code}
+use Rattle.language.specs.Step.{Program, frame, State, state, zeros, AfterSteps, Runs}
+use Rattle.language.specs.Rounds.{Unsafe}
+use Rattle.language.specs.Sequential.{numbered, in_text_order, Valuation, point_of, Entered}
+use Rattle.round_rewrite.specs.Table.{main}
+use Rattle.round_rewrite.specs.Places.{places, bits_at, all_globals, rewritten_program}
+use Rattle.round_rewrite.specs.Scoped.{FitsScopes}
+use Rattle.round_rewrite.specs.Law.{SomeBad, Keeps}
+use Rattle.round_rewrite.proofs.Laid.{bits_of, lay}
+use Rattle.round_rewrite.proofs.Plain.{PlainAfter, bare_state, world_of, plain_after}
+use Rattle.round_rewrite.proofs.Turns.{after_map, after_pick}
+use Rattle.round_rewrite.proofs.Compose.{copies}
+use Rattle.round_rewrite.proofs.Guessing.{Bad, main_at}
+use Rattle.round_rewrite.proofs.Assembly.{start_is, unsafe_leads, leads_unsafe}
+use Rattle.round_rewrite.proofs.Uncalled.{never_asked}
+
+module _ (p : Program) (last : ℕ) (fits : FitsScopes p) (small : last < 4) where
+  abbrev result : Program
+  result = in_text_order (rewritten_program last p)
+
+  abbrev body : Code
+  body = main (places p.globals last 0) last (all_globals p.globals) p.threads
+
+  abbrev start : State
+  start = state (zeros (bits_at p.globals last + 4)) (frame 0 [] (numbered 1 body) ∷ [])
+
+  abbrev zero_valuation : Valuation
+  zero_valuation = record { globals = zeros (bits_at p.globals last + 4); places = [] }
+
+  abbrev bare_start : State
+  bare_start = main_at (lay (copies (suc last) (zeros p.globals)) (copies last (zeros p.globals)) (bits_of 0 false false)) body
+
+  to_pair : (n : ℕ) (u : State) → AfterSteps result n start (λ v. v ≡ u) → Bad p.globals last (bare_state u) → SomeBad result (bits_at p.globals last + 3)
+  to_pair n (state g []) run h = absurd h
+  to_pair n (state g (frame c l done ∷ [])) run h =
+      (zero_valuation, g, (l, (inl (refl, refl), (done, refl, (n, subst (λ k. AfterSteps result n start (λ v. v ≡ state g (frame k l done ∷ []))) h.0 run)))), h.1)
+  to_pair n (state g (frame c l done ∷ f ∷ fs)) run h = absurd h
+  to_pair n (state g (frame c l (one m s t) ∷ fs)) run h = absurd h
+  to_pair n (state g (frame c l (choose m r a b t) ∷ fs)) run h = absurd h
+  to_pair n (state g (frame c l (loop m r a t) ∷ fs)) run h = absurd h
+
+  pub unsafe_bad : Unsafe p (suc last) → SomeBad result (bits_at p.globals last + 3)
+  unsafe_bad unsafe =
+      let (n, h) = unsafe_leads p last fits small unsafe in
+      let h1 : PlainAfter (world_of result) n (bare_state start) (Bad p.globals last) = subst (λ s. PlainAfter (world_of result) n s (Bad p.globals last)) (sym (start_is p last)) h in
+      let h2 : AfterSteps result n start (λ u. Bad p.globals last (bare_state u)) = subst (λ T. T) (sym (plain_after result n start (Bad p.globals last))) h1 in
+      let (u, run, bad) = after_pick result n start (λ u. Bad p.globals last (bare_state u)) h2 in
+      to_pair n u run bad
+
+  from_run : (n : ℕ) (b l : List Bool) (rest : Code) → None ≡ point_of rest → AfterSteps result n start (λ v. v ≡ state b (frame 0 l rest ∷ [])) → bit b (bits_at p.globals last + 3) ≡ true → Unsafe p (suc last)
+  from_run n b l done e run bad =
+      let h : AfterSteps result n start (λ u. Bad p.globals last (bare_state u)) =
+      after_map result n start (λ v. v ≡ state b (frame 0 l done ∷ [])) (λ u. Bad p.globals last (bare_state u)) (λ u eu. subst (λ v. Bad p.globals last (bare_state v)) (sym eu) (refl, bad)) run in
+      let h1 : PlainAfter (world_of result) n (bare_state start) (Bad p.globals last) = subst (λ T. T) (plain_after result n start (Bad p.globals last)) h in
+      leads_unsafe p last fits small n (subst (λ s. PlainAfter (world_of result) n s (Bad p.globals last)) (start_is p last) h1)
+  from_run n b l (one m s t) e run bad = cc
+  from_run n b l (choose m r x y t) e run bad = cc
+  from_run n b l (loop m r x t) e run bad = cc
+
+  from_entry : (a : Valuation) (b l : List Bool) (rest : Code) → None ≡ point_of rest → Entered result 0 a → Runs result (state a.globals (frame 0 a.places (numbered 1 body) ∷ [])) (state b (frame 0 l rest ∷ [])) → bit b (bits_at p.globals last + 3) ≡ true → Unsafe p (suc last)
+  from_entry a b l rest e (inl (q, is)) run bad =
+      let run' : Runs result start (state b (frame 0 l rest ∷ [])) =
+      subst (λ (v : Valuation). Runs result (state v.globals (frame 0 v.places (numbered 1 body) ∷ [])) (state b (frame 0 l rest ∷ []))) is run in
+      from_run run'.0 b l rest e run'.1 bad
+  from_entry a b l rest e (inr (c, asks)) run bad = absurd (never_asked last p c a asks)
+
+  pub bad_unsafe : SomeBad result (bits_at p.globals last + 3) → Unsafe p (suc last)
+  bad_unsafe (a, b, (l, (entered, (rest, e, run))), bad) = from_entry a b l rest e entered run bad
+
+-- the theorem
+pub keeps : (p : Program) (last : ℕ) → FitsScopes p → last < 4 → Keeps last p
+keeps p last fits small = (unsafe_bad p last fits small, bad_unsafe p last fits small)

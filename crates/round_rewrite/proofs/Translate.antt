@@ -1,0 +1,108 @@
+-- What the rewritten expressions are worth.
+use Rattle.std.proofs.Common.{◌≡◌, ℕ, zero, suc, ◌+◌, ◌*◌, ◌/◌, ◌%◌, ◌<◌, ◌≤◌, Bool, true, false, not, ◌&&◌, ◌||◌, List, [], ◌∷◌, ◌++◌, length, map, refl, sym, ◌∙◌, ap, ap₂, arith, inl, inr}
+use Rattle.std.proofs.lemmas.Bool.{cases_eq}
+use Rattle.language.specs.Tree.{Expression, const, var, negation, two, RightSide, any, value}
+use Rattle.language.specs.Value.{Place, global, local, bit, operate, look_up, value_of, values_of, IsValue}
+use Rattle.round_rewrite.specs.Table.{literal, at, joined, expression, side}
+use Rattle.round_rewrite.specs.Places.{places}
+use Rattle.round_rewrite.specs.Scoped.{InScope, AreInScope, SideInScope}
+use Rattle.round_rewrite.proofs.Laid.{bit_left, row, row_bit, high, low, bits_of, lay, Shape, bits_bit}
+
+abbrev pub same : ℕ → ℕ → Bool
+same zero zero = true
+same zero (suc b) = false
+same (suc a) zero = false
+same (suc a) (suc b) = same a b
+
+pub same_refl : (a : ℕ) → same a a ≡ true
+same_refl zero = refl
+same_refl (suc a) = same_refl a
+
+pub same_false : (a b : ℕ) → (a ≡ b → ⊥) → same a b ≡ false
+same_false zero zero h = absurd (h refl)
+same_false zero (suc b) h = refl
+same_false (suc a) zero h = refl
+same_false (suc a) (suc b) h = same_false a b (λ e. h (ap suc e))
+
+abbrev lit : ℕ → Bool → Bool
+lit zero b = not b
+lit (suc n) b = b
+
+literal_is : (X L : List Bool) (n : ℕ) (x : Place) → value_of X L (literal n x) ≡ lit n (look_up X L x)
+literal_is X L zero x = refl
+literal_is X L (suc n) x = refl
+
+closed : (k q : ℕ) → k < 4 → q < 4 → (lit (k / 2 % 2) (high q) && lit (k % 2) (low q)) ≡ same k q
+closed zero zero h h' = refl
+closed zero (suc zero) h h' = refl
+closed zero (suc (suc zero)) h h' = refl
+closed zero (suc (suc (suc zero))) h h' = refl
+closed (suc zero) zero h h' = refl
+closed (suc zero) (suc zero) h h' = refl
+closed (suc zero) (suc (suc zero)) h h' = refl
+closed (suc zero) (suc (suc (suc zero))) h h' = refl
+closed (suc (suc zero)) zero h h' = refl
+closed (suc (suc zero)) (suc zero) h h' = refl
+closed (suc (suc zero)) (suc (suc zero)) h h' = refl
+closed (suc (suc zero)) (suc (suc (suc zero))) h h' = refl
+closed (suc (suc (suc zero))) zero h h' = refl
+closed (suc (suc (suc zero))) (suc zero) h h' = refl
+closed (suc (suc (suc zero))) (suc (suc zero)) h h' = refl
+closed (suc (suc (suc zero))) (suc (suc (suc zero))) h h' = refl
+closed (suc (suc (suc (suc k)))) q h h' = absurd (omega arith)
+closed k (suc (suc (suc (suc q)))) h h' = absurd (omega arith)
+
+module _ (n last own : ℕ) (C S : List (List Bool)) (q : ℕ) (s b : Bool) (L : List Bool) (shape : Shape n last C S) (small : last < 4) (within : q ≤ last) where
+  abbrev pub globals_now : List Bool
+  globals_now = lay C S (bits_of q s b)
+
+  -- `at` k is the test that the round is k
+  pub at_is : (k : ℕ) → k ≤ last → value_of globals_now L (at (places n last own) last k) ≡ same k q
+  at_is k h =
+      ap₂ (λ x y. x && y) (literal_is globals_now L (k / 2 % 2) _) (literal_is globals_now L (k % 2) _)
+      ∙ (ap₂ (λ x y. lit (k / 2 % 2) x && lit (k % 2) y) (bits_bit n last C S (bits_of q s b) 0 shape) (bits_bit n last C S (bits_of q s b) 1 shape)
+      ∙ closed k q (omega arith) (omega arith))
+
+  copy_is : (k i : ℕ) → k ≤ last → i < n → bit globals_now (k * n + i) ≡ bit (row C k) i
+  copy_is k i h h' = row_bit n C _ k i shape.copies (let e : length C ≡ suc last = shape.rounds in omega arith) h'
+
+  or_false : (x : Bool) → (x || false) ≡ x
+  or_false true = refl
+  or_false false = refl
+
+  and_false : (x y : Bool) → x ≡ false → (x && y) ≡ false
+  and_false x y e = ap (λ z. z && y) e
+
+  before : (k i : ℕ) → k ≤ last → i < n → k < q → value_of globals_now L (joined (places n last own) last k (global i)) ≡ false
+  before zero i h h' lt = and_false _ _ (at_is zero h ∙ same_false zero q (omega arith))
+  before (suc k) i h h' lt =
+      ap₂ (λ x y. x || y) (before k i (omega arith) h' (omega arith))
+      (and_false _ _ (at_is (suc k) h ∙ same_false (suc k) q (omega arith)))
+
+  from : (k i : ℕ) → k ≤ last → i < n → q ≤ k → value_of globals_now L (joined (places n last own) last k (global i)) ≡ bit (row C q) i
+  from zero i h h' le =
+      let e : q ≡ zero = omega arith in
+      ap₂ (λ x y. x && y) (at_is zero h ∙ (ap (same zero) e ∙ refl)) (copy_is zero i h h' ∙ ap (λ z. bit (row C z) i) (sym e))
+  from (suc k) i h h' le = elim (cases_eq q (suc k)) [
+    | inl e ↦ ap₂ (λ x y. x || y) (before k i (omega arith) h' (omega arith))
+        (ap₂ (λ x y. x && y) (at_is (suc k) h ∙ (ap (same (suc k)) e ∙ same_refl (suc k))) (copy_is (suc k) i h h' ∙ ap (λ z. bit (row C z) i) (sym e)))
+    | inr ne ↦ ap₂ (λ x y. x || y) (from k i (omega arith) h' (omega arith))
+        (and_false _ _ (at_is (suc k) h ∙ same_false (suc k) q (omega arith)))
+        ∙ or_false _
+  ]
+
+  -- a rewritten read is the read of the round's copy; locals stand before the temporaries
+  pub expression_is : (l tmp : List Bool) → L ≡ l ++ tmp → length l ≡ own → (e : Expression Place) → InScope n own e → value_of globals_now L (expression (places n last own) last e) ≡ value_of (row C q) l e
+  expression_is l tmp eL el (const c) h = refl
+  expression_is l tmp eL el (var (global i)) h = from last i (omega arith) h within
+  expression_is l tmp eL el (var (local i)) h = ap (λ z. bit z i) eL ∙ bit_left l tmp i (omega arith)
+  expression_is l tmp eL el (negation e) h = ap not (expression_is l tmp eL el e h)
+  expression_is l tmp eL el (two o x y) h = ap₂ (operate o) (expression_is l tmp eL el x h.0) (expression_is l tmp eL el y h.1)
+
+  pub expressions_are : (l tmp : List Bool) → L ≡ l ++ tmp → length l ≡ own → (es : List (Expression Place)) → AreInScope n own es → values_of globals_now L (map (expression (places n last own) last) es) ≡ values_of (row C q) l es
+  expressions_are l tmp eL el [] h = refl
+  expressions_are l tmp eL el (e ∷ es) h = ap₂ (λ x xs. x ∷ xs) (expression_is l tmp eL el e h.0) (expressions_are l tmp eL el es h.1)
+
+  pub side_is : (l tmp : List Bool) → L ≡ l ++ tmp → length l ≡ own → (r : RightSide Place) → SideInScope n own r → (v : Bool) → IsValue globals_now L (side (places n last own) last r) v ≡ IsValue (row C q) l r v
+  side_is l tmp eL el any h v = refl
+  side_is l tmp eL el (value e) h v = ap (λ z. v ≡ z) (expression_is l tmp eL el e h)

@@ -1,0 +1,6 @@
+pub mod Table
+pub mod Places
+pub mod Names
+pub mod Scoped
+pub mod Law
+pub mod Rewritable

@@ -1,0 +1,112 @@
+-- What the rewriting theorem over names asks of a text's tree. A program without scope faults has it.
+use Rattle.std.specs.Prelude.{◌≡◌, ℕ, ◌+◌, ◌≤◌, Bool, true, false, List, [], ◌∷◌, ◌++◌, ◌&&◌, ◌||◌, Option, Some, None, length, map, nat_eq, slice_get}
+use Rattle.language.specs.Tree.{Name, Expression, const, var, negation, two, RightSide, any, value, Simple, skip, assign, assert, assume, goto, leave, call, Block, done, one, choose, loop, Procedure, ThreadLine, Tree}
+use Rattle.language.specs.Resolve.{is_declared, number_of, Scope, scope_of}
+use Rattle.round_rewrite.specs.Names.{rewritten_tree}
+
+-- the text begins with an underscore
+abbrev pub begins_low : List ℕ → Bool
+begins_low [] = false
+begins_low (c ∷ text) = nat_eq c 95
+
+-- two underscores stand in a row in the text
+abbrev pub has_double : List ℕ → Bool
+has_double [] = false
+has_double (c ∷ text) = (nat_eq c 95 && begins_low text) || has_double text
+
+-- no name has two underscores in a row
+abbrev pub AreFree : List Name → Type 0
+AreFree [] = Unit {0}
+AreFree (x ∷ xs) = (has_double x.text ≡ false) × AreFree xs
+
+-- no two names are the same
+abbrev pub AreDistinct : List Name → Type 0
+AreDistinct [] = Unit {0}
+AreDistinct (x ∷ xs) = (is_declared x.text xs ≡ false) × AreDistinct xs
+
+-- the variable is a formal, a local or a global
+abbrev pub Declared : Scope → Name → Type 0
+Declared s x = is_declared x.text s.locals ≡ false → is_declared x.text s.globals ≡ true
+
+-- so is each of the variables
+abbrev pub AllDeclared : Scope → List Name → Type 0
+AllDeclared s [] = Unit {0}
+AllDeclared s (x ∷ xs) = Declared s x × AllDeclared s xs
+
+-- each variable of the expression is declared
+abbrev pub ExpressionDeclared : Scope → Expression Name → Type 0
+ExpressionDeclared s (const b) = Unit {0}
+ExpressionDeclared s (var x) = Declared s x
+ExpressionDeclared s (negation e) = ExpressionDeclared s e
+ExpressionDeclared s (two o a b) = ExpressionDeclared s a × ExpressionDeclared s b
+
+-- each variable of the expressions is declared
+abbrev pub ExpressionsDeclared : Scope → List (Expression Name) → Type 0
+ExpressionsDeclared s [] = Unit {0}
+ExpressionsDeclared s (e ∷ es) = ExpressionDeclared s e × ExpressionsDeclared s es
+
+-- each variable of the right side is declared
+abbrev pub SideDeclared : Scope → RightSide Name → Type 0
+SideDeclared s any = Unit {0}
+SideDeclared s (value e) = ExpressionDeclared s e
+
+-- each variable of the right sides is declared
+abbrev pub SidesDeclared : Scope → List (RightSide Name) → Type 0
+SidesDeclared s [] = Unit {0}
+SidesDeclared s (r ∷ rs) = SideDeclared s r × SidesDeclared s rs
+
+-- the first procedure of this name is there, and has at least so many formals and locals
+abbrev pub HasRoom : Option Procedure → ℕ → Type 0
+HasRoom None n = ⊥
+HasRoom (Some p) n = n ≤ length (p.formals ++ p.locals)
+
+-- the names of a statement are declared, and a call has no more arguments than there are places
+abbrev pub SimpleDeclared : Tree → Scope → Simple Name Name Name → Type 0
+SimpleDeclared t s skip = Unit {0}
+SimpleDeclared t s (assign xs rs) = AllDeclared s xs × SidesDeclared s rs
+SimpleDeclared t s (assert r) = SideDeclared s r
+SimpleDeclared t s (assume r) = SideDeclared s r
+SimpleDeclared t s (goto x) = Unit {0}
+SimpleDeclared t s leave = Unit {0}
+SimpleDeclared t s (call q es) =
+    ExpressionsDeclared s es × (is_declared q.text s.procedures ≡ true)
+    × HasRoom (slice_get t.procedures (number_of q.text s.procedures)) (length es)
+
+-- so it is for each statement of the block
+abbrev pub BlockDeclared : Tree → Scope → Block Name Name Name → Type 0
+BlockDeclared t s done = Unit {0}
+BlockDeclared t s (one m c k) = SimpleDeclared t s c × BlockDeclared t s k
+BlockDeclared t s (choose m r a b k) = SideDeclared s r × BlockDeclared t s a × BlockDeclared t s b × BlockDeclared t s k
+BlockDeclared t s (loop m r a k) = SideDeclared s r × BlockDeclared t s a × BlockDeclared t s k
+
+-- the procedure's names are free of two underscores in a row, and all names in it are declared
+pub record ProcedureRewritable (t : Tree) (p : Procedure) : Type 0 where
+  pub name : has_double p.name.text ≡ false
+  pub own : AreFree (p.formals ++ p.locals)
+  pub body : BlockDeclared t (scope_of t p) p.body
+
+-- each procedure has the property
+abbrev pub EachProcedure : (Procedure → Type 0) → List Procedure → Type 0
+EachProcedure P [] = Unit {0}
+EachProcedure P (p ∷ ps) = P p × EachProcedure P ps
+
+-- each thread line names one of these procedures
+abbrev pub EachLine : List Name → List ThreadLine → Type 0
+EachLine ps [] = Unit {0}
+EachLine ps (line ∷ lines) = (is_declared line.name.text ps ≡ true) × EachLine ps lines
+
+-- every name is declared, no two globals are the same, and no declared variable or procedure has two
+-- underscores in a row
+pub record IsRewritable (t : Tree) : Type 0 where
+  pub globals : AreFree t.globals
+  pub distinct : AreDistinct t.globals
+  pub procedures : EachProcedure (ProcedureRewritable t) t.procedures
+  pub threads : EachLine (map (λ (p : Procedure). p.name) t.procedures) t.threads
+
+-- how many places a procedure's valuations have: the globals, formals and locals
+abbrev pub width : Tree → Procedure → ℕ
+width t p = length t.globals + length (p.formals ++ p.locals)
+
+-- every procedure of the rewritten tree has at most 64 places
+abbrev pub IsNarrow : ℕ → Tree → Type 0
+IsNarrow last t = EachProcedure (λ (p : Procedure). width (rewritten_tree last t) p ≤ 64) (rewritten_tree last t).procedures

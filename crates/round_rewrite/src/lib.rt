@@ -1,0 +1,25 @@
+//! The rewriting of a concurrent Boolean program into a sequential one, for a number of rounds.
+//!
+//! The copies of the globals for each round are guessed at the start and checked at the end: the idea is that
+//! of Lal and Reps (2008), the construction is this project's own.
+#![tactic(auto)]
+
+ghost use Rattle.std.specs.Prelude.{ℕ, ◌<◌};
+ghost use Rattle.language.specs.Tree.{Tree};
+ghost use Rattle.language.specs.Step.{Program};
+ghost use Rattle.round_rewrite.specs.Law.{Keeps, KeepsTree};
+ghost use Rattle.round_rewrite.specs.Rewritable.{IsRewritable, IsNarrow};
+ghost use Rattle.round_rewrite.specs.Scoped.{FitsScopes};
+
+/// The rewriting theorem, over the names that are printed: for 1 to 4 rounds (`last` + 1 of them), a tree
+/// whose names are declared, and widths of at most 64, some run within the rounds fails an assert exactly
+/// where `main__` of the rewritten tree can end with `bad__` being 1.
+pub fn rewriting_keeps_failures()
+    ensures { (t : Tree) (last : ℕ) → IsRewritable t → IsNarrow last t → last < 4 → KeepsTree last t }
+{}
+
+/// The same of resolved programs: the rewriting over places keeps exactly the failing asserts, with no
+/// bound on widths.
+pub fn rewriting_keeps_failures_of_resolved_programs()
+    ensures { (p : Program) (last : ℕ) → FitsScopes p → last < 4 → Keeps last p }
+{}
