@@ -4,3 +4,4 @@ pub mod Rest
 pub mod Step
 pub mod Rounds
 pub mod Resolve
+pub mod Examples
