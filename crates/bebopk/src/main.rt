@@ -3,11 +3,10 @@
 
 use cli::{LineFault, Reply, answer, no_memory, order};
 use std::alloc::{AllocError, Allocator, Global};
-use std::env;
-use std::fs;
 use std::io::{self, ErrorKind, Read, Write};
 use std::process::ExitCode;
 use std::rt::{Env, Files};
+use std::{env, fs};
 
 /// One byte more than a text may have, so that a longer one is seen to be longer.
 const MOST: u64 = 65_537;

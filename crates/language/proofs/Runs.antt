@@ -1,9 +1,9 @@
 -- Steps and runs, as properties of where they lead.
-use Rattle.std.proofs.Common.{◌≡◌, ℕ, zero, suc, Bool, cond, List, [], ◌∷◌, Option, Some, None, slice_get, refl, sym, subst}
+use Rattle.std.proofs.Common.{◌≡◌, ℕ, zero, suc, [], ◌∷◌, Option, Some, None, slice_get, refl, sym, subst}
 use Rattle.language.specs.Tree.{skip, assign, assert, assume, goto, leave, call, done, one, choose, loop}
-use Rattle.language.specs.Value.{values_of, written_globals, written_locals}
-use Rattle.language.specs.Rest.{Code, join, rest_from}
-use Rattle.language.specs.Step.{Routine, Program, Frame, frame, State, state, fresh, AtRoutine, AtRest, body_of, StepsTo, AfterSteps, Runs}
+use Rattle.language.specs.Value.{values_of}
+use Rattle.language.specs.Rest.{Code, rest_from}
+use Rattle.language.specs.Step.{Routine, Program, frame, State, state, fresh, AtRoutine, AtRest, body_of, StepsTo, AfterSteps, Runs}
 
 at_rest_map : (o : Option Code) (P Q : Code → Type 0) → ((c : Code) → P c → Q c) → AtRest o P → AtRest o Q
 at_rest_map None P Q f h = h

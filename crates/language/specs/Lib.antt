@@ -5,3 +5,4 @@ pub mod Step
 pub mod Rounds
 pub mod Resolve
 pub mod Sequential
+pub mod Examples

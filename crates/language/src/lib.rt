@@ -1,17 +1,20 @@
 //! What a concurrent Boolean program means.
 #![tactic(auto)]
 
-ghost use Rattle.language.specs.Step.{Program, State, Step, state};
-ghost use Rattle.language.specs.Rest.{Code};
-ghost use Rattle.language.specs.Sequential.{numbered, points, numbers, statements};
-ghost use Rattle.std.specs.Prelude.{◌≡◌, ℕ, List, Bool, []};
+mod laws;
+mod numbering;
+mod verdicts;
 
-/// A thread whose stack is empty has no step.
-pub fn an_empty_stack_has_no_step()
-    ensures { (p : Program) (g : List Bool) (t : State) → Step p (state g []) t → ⊥ }
-{}
-
-/// The statements of a block that is marked in text order have the numbers from the first one on, each once.
-pub fn statements_are_numbered_in_text_order()
-    ensures { (n : ℕ) (b : Code) → points (numbered n b) ≡ numbers n (statements b) }
-{}
+pub use laws::{
+    a_label_in_a_loop_leads_back_to_the_loop, a_local_hides_a_global,
+    a_loop_comes_back_behind_its_body, a_swap_computes_before_it_writes,
+    an_assert_fails_where_0_is_a_value, an_assert_steps_where_1_is_a_value,
+    an_assert_with_both_values_fails_and_goes_on, an_empty_stack_has_no_step,
+    joining_to_nothing_changes_nothing, what_follows_a_block_follows_its_rests,
+};
+pub use numbering::statements_are_numbered_in_text_order;
+pub use verdicts::{
+    a_checked_write_is_never_unsafe, a_reader_before_the_writer_needs_two_rounds,
+    a_spinning_thread_keeps_no_failure_away, a_writer_before_the_reader_needs_one_round,
+    more_rounds_reach_more, no_threads_never_fail,
+};

@@ -2,33 +2,18 @@
 use Rattle.std.proofs.Common.{◌≡◌, ℕ, zero, suc, ◌+◌, ◌<◌, Bool, true, false, cond, ◌&&◌, ◌||◌, List, [], ◌∷◌, ◌++◌, nat_eq, refl, sym, ◌∙◌, ap, ap₂, arith, append_assoc}
 use Rattle.std.proofs.lemmas.List.{append_cancel_right, append_cancel_left}
 use Rattle.std.proofs.lemmas.Bool.{eq-eqb, eqb-true}
+use Rattle.std.proofs.lemmas.Slice.Eq.{bytes_eq-Decides}
 use Rattle.std.proofs.lemmas.Fmt.{decimal_injective}
 use Rattle.std.specs.Prelude.{decimal}
 use Rattle.std.specs.Fmt.{digits}
 use Rattle.language.specs.Rest.{same_text}
 use Rattle.round_rewrite.specs.Rewritable.{begins_low, has_double}
 
-nat_eq_true : (a b : ℕ) → nat_eq a b ≡ true → a ≡ b
-nat_eq_true a b h = eqb-true a b h
-
-nat_eq_refl : (a : ℕ) → nat_eq a a ≡ true
-nat_eq_refl a = eq-eqb a a refl
-
-cond_true : (c v : Bool) → cond c v false ≡ true → (c ≡ true) × (v ≡ true)
-cond_true true v h = (refl, h)
-cond_true false v h = cc
-
 pub same_text_true : (a b : List ℕ) → same_text a b ≡ true → a ≡ b
-same_text_true [] [] h = refl
-same_text_true [] (y ∷ b) h = cc
-same_text_true (x ∷ a) [] h = cc
-same_text_true (x ∷ a) (y ∷ b) h =
-    let k = cond_true (nat_eq x y) (same_text a b) h in
-    ap₂ (λ p q. p ∷ q) (nat_eq_true x y k.0) (same_text_true a b k.1)
+same_text_true a b h = (bytes_eq-Decides a b).0 h
 
 pub same_text_refl : (a : List ℕ) → same_text a a ≡ true
-same_text_refl [] = refl
-same_text_refl (x ∷ a) = ap (λ c. cond c (same_text a a) false) (nat_eq_refl x) ∙ same_text_refl a
+same_text_refl a = (bytes_eq-Decides a a).1 refl
 
 pub same_text_false : (a b : List ℕ) → (a ≡ b → ⊥) → same_text a b ≡ false
 same_text_false a b h = go (same_text a b) refl

@@ -1,0 +1,82 @@
+-- Small programs, by places and as trees, for the laws on what programs mean.
+use Rattle.std.specs.Prelude.{ℕ, false, true, [], ◌∷◌, None}
+use Rattle.language.specs.Tree.{Name, const, var, negation, value, skip, assign, assert, Mark, done, one, loop, Tree}
+use Rattle.language.specs.Value.{global, local}
+use Rattle.language.specs.Rest.{Code}
+use Rattle.language.specs.Step.{Routine, Program}
+
+-- the mark of a statement without a label
+abbrev pub bare : {L : Type 0} → Mark L
+bare = record { label = None; at = 0 }
+
+-- a procedure without formals and locals that has these statements
+abbrev pub routine : Code → Routine
+routine body = record { places = 0; body = body }
+
+-- x:=1; where x is the first global
+abbrev pub setting : Code → Code
+setting t = one bare (assign (global 0 ∷ []) (value (const true) ∷ [])) t
+
+-- decl x; a() begin x:=1; end b() begin assert(!x); end thread a; thread b;
+abbrev pub writer_then_reader : Program
+writer_then_reader = record {
+  globals = 1;
+  routines = routine (setting done) ∷ routine (one bare (assert (value (negation (var (global 0))))) done) ∷ [];
+  threads = 0 ∷ 1 ∷ [];
+}
+
+-- decl x; a() begin x:=1; end b() begin assert(!x); end thread b; thread a;
+abbrev pub reader_then_writer : Program
+reader_then_writer = record {
+  globals = 1;
+  routines = routine (setting done) ∷ routine (one bare (assert (value (negation (var (global 0))))) done) ∷ [];
+  threads = 1 ∷ 0 ∷ [];
+}
+
+-- b() begin while (1) do skip; od end a() begin assert(0); end thread b; thread a;
+abbrev pub spinner_then_failure : Program
+spinner_then_failure = record {
+  globals = 0;
+  routines =
+      routine (loop bare (value (const true)) (one bare skip done) done)
+      ∷ routine (one bare (assert (value (const false))) done) ∷ [];
+  threads = 0 ∷ 1 ∷ [];
+}
+
+-- decl x; t() begin x:=1; assert(x); end thread t;
+abbrev pub checked_write : Program
+checked_write = record {
+  globals = 1;
+  routines = routine (setting (one bare (assert (value (var (global 0)))) done)) ∷ [];
+  threads = 0 ∷ [];
+}
+
+-- the name whose text is one byte
+abbrev pub letter : ℕ → Name
+letter byte = record { text = byte ∷ []; at = 0 }
+
+-- decl x; t() begin decl x; x:=1; assert(!x); end thread t;
+abbrev pub hiding_tree : Tree
+hiding_tree = record {
+  globals = letter 120 ∷ [];
+  procedures = record {
+    name = letter 116;
+    formals = [];
+    locals = letter 120 ∷ [];
+    body = one bare (assign (letter 120 ∷ []) (value (const true) ∷ []))
+        (one bare (assert (value (negation (var (letter 120))))) done);
+  } ∷ [];
+  threads = record { at = 0; name = letter 116 } ∷ [];
+}
+
+-- what that tree means: the variable is the place of the frame
+abbrev pub hiding_program : Program
+hiding_program = record {
+  globals = 1;
+  routines = record {
+    places = 1;
+    body = one bare (assign (local 0 ∷ []) (value (const true) ∷ []))
+        (one bare (assert (value (negation (var (local 0))))) done);
+  } ∷ [];
+  threads = 0 ∷ [];
+}

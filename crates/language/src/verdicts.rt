@@ -1,0 +1,35 @@
+//! Laws on whole runs: what more rounds change, and the verdicts of small programs.
+ghost use Rattle.std.specs.Prelude.{◌≡◌, ◌≤◌, ℕ, []};
+ghost use Rattle.language.specs.Step.{Program};
+ghost use Rattle.language.specs.Rounds.{Unsafe};
+ghost use Rattle.language.specs.Examples.{writer_then_reader, reader_then_writer, spinner_then_failure, checked_write};
+
+/// What is unsafe within some rounds is unsafe within more.
+pub fn more_rounds_reach_more()
+    ensures { (p : Program) (j k : ℕ) → j ≤ k → Unsafe p j → Unsafe p k }
+{}
+
+/// A program without threads is never unsafe.
+pub fn no_threads_never_fail()
+    ensures { (p : Program) (k : ℕ) → p.threads ≡ [] → Unsafe p k → ⊥ }
+{}
+
+/// Where the writer comes before the reader, one round suffices.
+pub fn a_writer_before_the_reader_needs_one_round()
+    ensures { Unsafe writer_then_reader 1 }
+{}
+
+/// Where the reader comes before the writer, it takes a second round.
+pub fn a_reader_before_the_writer_needs_two_rounds()
+    ensures { (Unsafe reader_then_writer 1 → ⊥) × Unsafe reader_then_writer 2 }
+{}
+
+/// A thread that never ends keeps no other from failing.
+pub fn a_spinning_thread_keeps_no_failure_away()
+    ensures { Unsafe spinner_then_failure 1 }
+{}
+
+/// An assert of what the one thread has just written holds within any number of rounds.
+pub fn a_checked_write_is_never_unsafe()
+    ensures { (k : ℕ) → Unsafe checked_write k → ⊥ }
+{}
