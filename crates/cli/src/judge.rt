@@ -9,6 +9,7 @@ ghost use Rattle.cli.specs.Verdict.{IsVerdict, IsWorkedOff, with_post, with_take
 
 use crate::analysis::fails;
 use crate::first::first_body;
+use crate::slips::has_slip;
 use post_ledger::Mailbox;
 use std::alloc::{AllocError, Allocator};
 use syntax::{Name, ReadFault, Stmt, read};
@@ -97,6 +98,9 @@ pub(crate) fn judge<A: Allocator + Copy>(alloc: A, text: &[u8]) -> Result<Verdic
     let Some(body) = first_body(&program) else {
         return Ok(Verdict::NotYet);
     };
+    if has_slip(program.globals.as_slice(), program.procs.as_slice(), body) {
+        return Ok(Verdict::NotYet);
+    }
     let work = worked(alloc, program.globals.as_slice(), body)?;
     if work.fails {
         Ok(Verdict::Unsafe)

@@ -10,6 +10,7 @@ mod judge;
 mod line;
 mod reach;
 mod reply;
+mod slips;
 pub mod unsafety;
 
 pub use answers::{answer, no_memory};

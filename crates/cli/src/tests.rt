@@ -10,7 +10,7 @@ use std::test::Fail;
 const ONE_ROUND: Order = Order::Check { rounds: 1 };
 
 /// Texts, and what is answered to each.
-static ROWS: [(&str, &str, u8); 22] = [
+static ROWS: [(&str, &str, u8); 28] = [
     (
         "decl x; t() begin x:=1; assert(x); end thread t;",
         "safe\n",
@@ -84,6 +84,28 @@ static ROWS: [(&str, &str, u8); 22] = [
         "refused: not yet\n",
         2,
     ),
+    ("t() begin x:=1; end thread t;", "refused: not yet\n", 2),
+    (
+        "decl x,x; t() begin x:=0; end thread t;",
+        "refused: not yet\n",
+        2,
+    ),
+    (
+        "decl x; t() begin x,x:=0,1; end thread t;",
+        "refused: not yet\n",
+        2,
+    ),
+    (
+        "decl x; t() begin assert(!y); end thread t;",
+        "refused: not yet\n",
+        2,
+    ),
+    (
+        "decl a__b; t() begin skip; end thread t;",
+        "refused: not yet\n",
+        2,
+    ),
+    ("t() begin skip; end thread z;", "refused: not yet\n", 2),
     ("", "refused: 3 syntax at 0\n", 2),
     (
         "t() begin skip; end thread t; @",

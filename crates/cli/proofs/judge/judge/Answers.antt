@@ -20,14 +20,14 @@ pub returns-then-work : goal.returns-then-work
 returns-then-work g c =
     let t = tree_of c.in_ok-program.program in
     let items = items_of c.in-Some.body.now in
-    let globals = named_globals c.as_slice.result.now c.in_ok-program.program.globals.items items c.as_slice.ensures.value in
+    let globals = named_globals c.as_slice-3.result.now c.in_ok-program.program.globals.items items c.as_slice-3.ensures.value in
     (t, items, c.in_ok-program.ensures.found, c.in-Some.ensures, (first_meaning t items c.in-Some.ensures).1 (globals.0 (c.in_ok-work.ensures.fails.0 c.if-work.true)))
 
 pub returns : goal.returns
 returns g c =
     let t = tree_of c.in_ok-program.program in
     let items = items_of c.in-Some.body.now in
-    let globals = named_globals c.as_slice.result.now c.in_ok-program.program.globals.items items c.as_slice.ensures.value in (
+    let globals = named_globals c.as_slice-3.result.now c.in_ok-program.program.globals.items items c.as_slice-3.ensures.value in (
       t,
       items,
       c.in_ok-program.ensures.found,
