@@ -59,8 +59,8 @@ pub fn order(alloc: Global, words: &[String]) -> Result<(Order, String), LineFau
         return Err(LineFault::Memory);
     };
     match (check.get_one::<u8>("rounds"), check.get_str("file")) {
-        (Some(1), Some(file)) => match String::from_str(alloc, file) {
-            Ok(file) => Ok((Order::Check { rounds: 1 }, file)),
+        (Some(rounds), Some(file)) if rounds == 1 => match String::from_str(alloc, file) {
+            Ok(file) => Ok((Order::Check { rounds }, file)),
             Err(_) => Err(LineFault::Memory),
         },
         _ => Err(LineFault::Memory),
