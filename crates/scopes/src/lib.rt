@@ -1,0 +1,4 @@
+//! The faults of scopes: names without a declaration, names declared twice, and counts that differ.
+#![tactic(auto)]
+
+mod names;
