@@ -150,3 +150,14 @@ pub end_flat : {W : ℕ → Type 0} {X : Type 0} {Y : Type 0} {Z : Type 0} (P : 
     → all [] ≡ [] → length xs ≤ i → Kept W (λ n. AnyOf (λ z. P z n) (all (map f (drop i xs)))) a → Finds W a
 end_flat {W} {X} {Y} {Z} P all f xs i a law le k =
     finish a (subst (λ (l : List Z). Kept W (λ n. AnyOf (λ z. P z n) l) a) (ap (λ (l : List X). all (map f l)) (drop_all i xs le) ∙ law) k) (λ n h. h)
+
+pub both_of : {P Q : ℕ → Type 0} (a b r : Option ℕ) → r ≡ earlier_of a b → Finds P a → Finds Q b → Finds (λ k. P k ⊎ Q k) r
+both_of {P} {Q} a b r e p q = subst (λ (o : Option ℕ). Finds (λ k. P k ⊎ Q k) o) (sym e) (both a b p q)
+
+-- a search in a thing is one in what equals it
+pub moved : {X : Type 0} (P : X → ℕ → Type 0) (x y : X) (r : Option ℕ) → y ≡ x → Finds (λ n. P x n) r → Finds (λ n. P y n) r
+moved {X} P x y r e h = subst (λ (z : X). Finds (λ n. P z n) r) (sym e) h
+
+pub in_both_of : {X : Type 0} (P : X → ℕ → Type 0) (xs ys zs : List X) (a b r : Option ℕ) → r ≡ earlier_of a b → zs ≡ xs ++ ys → Finds (λ n. AnyOf (λ x. P x n) xs) a → Finds (λ n. AnyOf (λ x. P x n) ys) b → Finds (λ n. AnyOf (λ x. P x n) zs) r
+in_both_of {X} P xs ys zs a b r e f h k =
+    subst (λ (o : Option ℕ). Finds (λ n. AnyOf (λ x. P x n) zs) o) (sym e) (moved (λ (l : List X) n. AnyOf (λ x. P x n) l) (xs ++ ys) zs (earlier_of a b) f (in_both P xs ys a b h k))

@@ -61,8 +61,8 @@ label_is s = ap (λ (i : Item). i.mark.label) (item_is s)
 pub at_is : {A : Type 0} (s : Stmt A) → (statement_of s).mark.at ≡ s.at
 at_is s = ap (λ (i : Item). i.mark.at) (item_is s)
 
-pub expr_of-Const : {A : Type 0} (b : Bool) → expr_of {A = A} (expr.Const b) ≡ const b
-expr_of-Const {A} b = ap expr_of (sym (rolls-Const b)) ∙ fold-roll-Expr A (Expression tree.Name) expr_step (open_expr.Const b)
+pub expr_of-Const : (A : Type 0) (b : Bool) → expr_of {A = A} (expr.Const b) ≡ const b
+expr_of-Const A b = ap expr_of (sym (rolls-Const b)) ∙ fold-roll-Expr A (Expression tree.Name) expr_step (open_expr.Const b)
 
 pub expr_of-Var : {A : Type 0} (x : Name A) → expr_of (expr.Var x) ≡ var (name_of x)
 expr_of-Var {A} x = ap expr_of (sym (rolls-Var x)) ∙ fold-roll-Expr A (Expression tree.Name) expr_step (open_expr.Var x)

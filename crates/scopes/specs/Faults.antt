@@ -29,13 +29,14 @@ abbrev pub CallsUnknown : List Procedure → ℕ → Head → Type 0
 CallsUnknown ps n (plain (call q es)) = (q.at ≡ n) × (named q.text ps ≡ None)
 CallsUnknown ps n _ = ⊥
 
+-- a statement has at n a variable that is none of these, or calls a procedure that has no declaration
+abbrev pub IsUndeclaredIn : List Name → List Procedure → Statement → ℕ → Type 0
+IsUndeclaredIn variables ps s n = AnyOf (λ x. IsUnknown variables n x) (used_by s.head) ⊎ CallsUnknown ps n s.head
+
 -- a variable or a called procedure at n has no declaration
 abbrev pub Undeclared : Tree → ℕ → Type 0
 Undeclared t n =
-    AnyOf (λ (p : Procedure).
-      AnyOf (λ (s : Statement). AnyOf (IsUnknown (known t p) n) (used_by s.head) ⊎ CallsUnknown t.procedures n s.head)
-        (statements_of p.body))
-      t.procedures
+    AnyOf (λ (p : Procedure). AnyOf (λ s. IsUndeclaredIn (known t p) t.procedures s n) (statements_of p.body)) t.procedures
 
 -- a name at n has the text of one that comes before it in the list
 abbrev pub Repeated : List Name → ℕ → Type 0

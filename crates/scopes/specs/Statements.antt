@@ -85,3 +85,9 @@ lent ns = map (λ r. name_of r.now) ns
 -- statements behind references, in order
 abbrev pub lent_statements : {A : Type 0} → List (Bor (Stmt A)) → List Statement
 lent_statements ss = map (λ r. statement_of r.now) ss
+
+-- the statements that a statement holds
+abbrev pub inside : Deed → List Statement
+inside (simple s) = []
+inside (branch r a b) = statements_of a ++ statements_of b
+inside (repeat r a) = statements_of a

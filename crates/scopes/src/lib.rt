@@ -2,3 +2,5 @@
 #![tactic(auto)]
 
 mod names;
+mod statements;
+mod undeclared;

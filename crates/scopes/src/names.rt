@@ -86,7 +86,8 @@ pub fn repeated<A: Allocator>(names: &[&Name<A>]) -> Option<u32>
 {
     let mut found = None;
     for (i, name) in names.iter().enumerate() {
-        found = earlier(found, copy_of(name, &names[i + 1..]));
+        let (_, rest) = names.split_at(i + 1);
+        found = earlier(found, copy_of(name, rest));
     }
     found
 }
