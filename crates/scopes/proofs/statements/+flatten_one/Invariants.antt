@@ -1,7 +1,7 @@
-use Rattle.std.proofs.Common.{◌≡◌, ◌++◌, drop, None, Some, option_map}
-use Rattle.syntax.specs.Trees.{name_of, names_of, exprs_of, rhss_of, procs_of, proc_of, block_of, tree_of}
+use Rattle.std.proofs.Common.{◌≡◌, ◌++◌, drop, length}
+use Rattle.syntax.specs.Trees.{name_of, names_of, exprs_of, rhss_of, procs_of, proc_of, block_of, tree_of, deed_of}
 use Rattle.scopes.specs.Find.{AnyOf, Kept}
-use Rattle.scopes.specs.Statements.{lent, lent_statements, statement_of, statements_of, used_by, variables_of_all, variables_of_sides}
+use Rattle.scopes.specs.Statements.{lent, lent_statements, inside, statement_of, statements_of, used_by, variables_of_all, variables_of_sides}
 use Rattle.scopes.specs.Faults.{named, known, IsUnknown, IsUndeclaredIn, Undeclared}
 use Rattle.scopes.proofs.statements.+flatten_one.Given as goal
 
@@ -13,3 +13,6 @@ invariant-loop-other g l = lent_statements l.list.items ++ statements_of (block_
 
 abbrev pub invariant-loop-each : goal.invariant-loop-each
 invariant-loop-each g l = lent_statements l.list.items ++ statements_of (block_of (drop l.each-index l.each-items)) ≡ lent_statements l.initial.list.items ++ statements_of (block_of l.each-items)
+
+abbrev pub decreases-flatten_one : goal.decreases-flatten_one
+decreases-flatten_one g l = length (inside (deed_of l.stmt.now.core))
