@@ -1,5 +1,5 @@
 -- Where the faults of scopes stand: each is a property of a tree and an offset.
-use Rattle.std.specs.Prelude.{◌≡◌, ◌≢◌, ℕ, suc, List, [], ◌∷◌, ◌++◌, Bool, true, false, Option, Some, None, length, map, cond, slice_get, slice_index, ◌⊎◌, ◌+◌}
+use Rattle.std.specs.Prelude.{◌≡◌, ◌≢◌, ℕ, suc, List, [], ◌∷◌, ◌++◌, Bool, true, false, Option, Some, None, length, map, cond, slice_get, slice_index, ◌==◌, ◌⊎◌, ◌+◌}
 use Rattle.language.specs.Tree.{Name, RightSide, Simple, skip, assign, assert, assume, goto, leave, call, Procedure, ThreadLine, Tree}
 use Rattle.language.specs.Rest.{same_text}
 use Rattle.language.specs.Resolve.{is_declared}
@@ -52,16 +52,17 @@ abbrev pub targets_of : Head → List Name
 targets_of (plain (assign xs rs)) = xs
 targets_of _ = []
 
+-- a name at n comes again among the formals and locals of a procedure, or among the targets of an assignment in it
+abbrev pub IsTwiceIn : Procedure → ℕ → Type 0
+IsTwiceIn p n = Repeated (p.formals ++ p.locals) n ⊎ AnyOf (λ s. Repeated (targets_of s.head) n) (statements_of p.body)
+
 -- a name at n comes again among the globals, the procedures, the formals and locals of one procedure, or the
 -- targets of one assignment
 abbrev pub DeclaredTwice : Tree → ℕ → Type 0
 DeclaredTwice t n =
     Repeated t.globals n
     ⊎ (Repeated (names t.procedures) n
-    ⊎ AnyOf (λ (p : Procedure).
-        Repeated (p.formals ++ p.locals) n
-        ⊎ AnyOf (λ (s : Statement). Repeated (targets_of s.head) n) (statements_of p.body))
-      t.procedures)
+    ⊎ AnyOf (λ p. IsTwiceIn p n) t.procedures)
 
 -- where a list of targets begins: at its first, or where it is empty, where the statement does
 abbrev pub first_at : ℕ → List Name → ℕ
@@ -83,9 +84,13 @@ abbrev pub WrongCount : Tree → ℕ → Type 0
 WrongCount t n =
     AnyOf (λ (p : Procedure). AnyOf (Miscounts t.procedures n) (statements_of p.body)) t.procedures
 
+-- the procedure has no formals
+abbrev pub no_formals : Procedure → Bool
+no_formals p = length p.formals == 0
+
 -- a thread can start in this procedure: it is there, and has no formals
 abbrev pub CanStart : Option Procedure → Type 0
-CanStart p = IsThere p (λ q. length q.formals ≡ 0)
+CanStart p = IsThere p (λ q. no_formals q ≡ true)
 
 -- a thread line names at n no procedure, or one with formals
 abbrev pub BadThread : Tree → ℕ → Type 0

@@ -4,3 +4,5 @@
 mod names;
 mod statements;
 mod undeclared;
+mod threads;
+mod twice;
