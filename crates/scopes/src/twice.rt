@@ -79,3 +79,17 @@ pub fn twice_among<A: Allocator + Clone>(alloc: &A, procs: &[Proc<A>]) -> Result
     }
     Ok(found)
 }
+
+/// The least offset of a name that comes again among the globals, the procedures, the formals and locals of one
+/// procedure, or the targets of one assignment; nothing where none does. An error is a refused growth.
+pub fn first_twice<A: Allocator + Clone>(alloc: &A, program: &Program<A>) -> Result<Option<u32>, AllocError>
+    ensures { IfOk result (λ r. Finds (λ n. DeclaredTwice (tree_of program.now) n) r) }
+{
+    let globals = lend(&program.globals, Vec::new(alloc.clone()?))?;
+    let first = repeated(&globals);
+    let called = proc_names(&program.procs, Vec::new(alloc.clone()?))?;
+    let second = repeated(&called);
+    let third = twice_among(alloc, &program.procs)?;
+    let later = earlier(second, third);
+    Ok(earlier(first, later))
+}

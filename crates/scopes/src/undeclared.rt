@@ -155,8 +155,9 @@ pub fn of_proc<A: Allocator + Clone>(alloc: &A, program: &Program<A>, proc: &Pro
     Ok(of_statements(&known, &program.procs, &stmts))
 }
 
-/// The least offset of a variable or a called procedure that has no declaration.
-pub fn undeclared<A: Allocator + Clone>(alloc: &A, program: &Program<A>) -> Result<Option<u32>, AllocError>
+/// The least offset of a variable or a called procedure that has no declaration; nothing where each has one. An
+/// error is a refused growth.
+pub fn first_undeclared<A: Allocator + Clone>(alloc: &A, program: &Program<A>) -> Result<Option<u32>, AllocError>
     ensures { IfOk result (λ r. Finds (λ n. Undeclared (tree_of program.now) n) r) }
 {
     let mut found = None;

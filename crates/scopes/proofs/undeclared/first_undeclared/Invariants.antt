@@ -3,7 +3,7 @@ use Rattle.syntax.specs.Trees.{name_of, names_of, exprs_of, rhss_of, procs_of, p
 use Rattle.scopes.specs.Find.{AnyOf, Kept}
 use Rattle.scopes.specs.Statements.{lent, lent_statements, statement_of, statements_of, used_by, variables_of_all, variables_of_sides}
 use Rattle.scopes.specs.Faults.{named, known, IsUnknown, IsUndeclaredIn, Undeclared}
-use Rattle.scopes.proofs.undeclared.undeclared.Given as goal
+use Rattle.scopes.proofs.undeclared.first_undeclared.Given as goal
 
 abbrev pub invariant-loop-proc : goal.invariant-loop-proc
 invariant-loop-proc g l =

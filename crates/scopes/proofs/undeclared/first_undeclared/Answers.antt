@@ -4,7 +4,7 @@ use Rattle.scopes.specs.Find.{AnyOf}
 use Rattle.scopes.specs.Statements.{statements_of}
 use Rattle.scopes.specs.Faults.{IsUndeclaredIn, known}
 use Rattle.scopes.proofs.Found.{begin, next_any, end_any}
-use Rattle.scopes.proofs.undeclared.undeclared.Goals as goal
+use Rattle.scopes.proofs.undeclared.first_undeclared.Goals as goal
 
 pub loop-proc-init : goal.loop-proc-init
 loop-proc-init g c = begin

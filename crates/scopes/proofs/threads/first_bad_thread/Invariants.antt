@@ -2,7 +2,7 @@ use Rattle.std.proofs.Common.{◌≡◌, drop}
 use Rattle.syntax.specs.Trees.{procs_of, threads_of}
 use Rattle.scopes.specs.Find.{AnyOf, Kept}
 use Rattle.scopes.specs.Faults.{named, CanStart}
-use Rattle.scopes.proofs.threads.bad_thread.Given as goal
+use Rattle.scopes.proofs.threads.first_bad_thread.Given as goal
 
 abbrev pub invariant-loop-line : goal.invariant-loop-line
 invariant-loop-line g l =

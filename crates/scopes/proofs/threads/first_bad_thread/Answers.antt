@@ -2,7 +2,7 @@ use Rattle.std.proofs.Common.{◌≡◌}
 use Rattle.syntax.specs.Trees.{thread_of, procs_of}
 use Rattle.scopes.specs.Faults.{named, CanStart}
 use Rattle.scopes.proofs.Found.{begin, next_any, end_any}
-use Rattle.scopes.proofs.threads.bad_thread.Goals as goal
+use Rattle.scopes.proofs.threads.first_bad_thread.Goals as goal
 
 pub loop-line-init : goal.loop-line-init
 loop-line-init g c = begin
