@@ -61,11 +61,11 @@ pub smaller : {A : Type 0} (l : List (Stmt A)) (i : ℕ) (s : Stmt A) → i < le
 smaller [] i s lt is = absurd (omega arith)
 smaller {A} (x ∷ l) zero s lt is =
     let e : length (statements_of (block_of (x ∷ l))) ≡ length (statement_of x ∷ inside (deed_of x.core)) + length (statements_of (block_of l)) =
-      ap length (first x l) ∙ length-append (statement_of x ∷ inside (deed_of x.core)) (statements_of (block_of l)) in
+    ap length (first x l) ∙ length-append (statement_of x ∷ inside (deed_of x.core)) (statements_of (block_of l)) in
     let f : length (inside (deed_of s.core)) ≡ length (inside (deed_of x.core)) = ap (λ (y : Stmt A). length (inside (deed_of y.core))) is in
     omega arith
 smaller (x ∷ l) (suc i) s lt is =
     let e : length (statements_of (block_of (x ∷ l))) ≡ length (statement_of x ∷ inside (deed_of x.core)) + length (statements_of (block_of l)) =
-      ap length (first x l) ∙ length-append (statement_of x ∷ inside (deed_of x.core)) (statements_of (block_of l)) in
+    ap length (first x l) ∙ length-append (statement_of x ∷ inside (deed_of x.core)) (statements_of (block_of l)) in
     let f : length (inside (deed_of s.core)) + 1 ≤ length (statements_of (block_of l)) = smaller l i s (omega arith) is in
     omega arith

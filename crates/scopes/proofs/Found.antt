@@ -140,11 +140,11 @@ pub next_flat : {W : ℕ → Type 0} {X : Type 0} {Y : Type 0} {Z : Type 0} (P :
     → Kept W (λ n. AnyOf (λ z. P z n) (all (map f (drop (i + 1) xs)))) r
 next_flat {W} {X} {Y} {Z} P all g f xs i x a b r law lt is e k h =
     let there : all (map f (drop i xs)) ≡ g (f x) ++ all (map f (drop (i + 1) xs)) =
-      ap (λ (l : List X). all (map f l)) (drop_more xs i x lt ∙ ap (λ (y : X). y ∷ drop (i + 1) xs) (sym is)) ∙ law (f x) (map f (drop (i + 1) xs)) in
+    ap (λ (l : List X). all (map f l)) (drop_more xs i x lt ∙ ap (λ (y : X). y ∷ drop (i + 1) xs) (sym is)) ∙ law (f x) (map f (drop (i + 1) xs)) in
     subst (λ (o : Option ℕ). Kept W (λ n. AnyOf (λ z. P z n) (all (map f (drop (i + 1) xs)))) o) (sym e)
     (step a b
-      (weaker a (λ n q. elim q [ inl l ↦ any_left (λ z. P z n) _ _ l | inr l ↦ any_right (λ z. P z n) (g (f x)) _ l ]) (λ n. any_append (λ z. P z n) (g (f x)) _)
-        (subst (λ (l : List Z). Kept W (λ n. AnyOf (λ z. P z n) l) a) there k)) h)
+    (weaker a (λ n q. elim q [ inl l ↦ any_left (λ z. P z n) _ _ l | inr l ↦ any_right (λ z. P z n) (g (f x)) _ l ]) (λ n. any_append (λ z. P z n) (g (f x)) _)
+    (subst (λ (l : List Z). Kept W (λ n. AnyOf (λ z. P z n) l) a) there k)) h)
 
 pub end_flat : {W : ℕ → Type 0} {X : Type 0} {Y : Type 0} {Z : Type 0} (P : Z → ℕ → Type 0) (all : List Y → List Z) (f : X → Y) (xs : List X) (i : ℕ) (a : Option ℕ)
     → all [] ≡ [] → length xs ≤ i → Kept W (λ n. AnyOf (λ z. P z n) (all (map f (drop i xs)))) a → Finds W a

@@ -106,8 +106,8 @@ GoesNowhere labels n _ = ⊥
 abbrev pub BadLabel : Tree → ℕ → Type 0
 BadLabel t n =
     AnyOf (λ (p : Procedure). let labels = labels_of (statements_of p.body) in
-      AnyOf (λ (s : Statement). GoesNowhere labels n s.head) (statements_of p.body) ⊎ Repeated labels n)
-      t.procedures
+    AnyOf (λ (s : Statement). GoesNowhere labels n s.head) (statements_of p.body) ⊎ Repeated labels n)
+    t.procedures
 
 -- two underscores stand side by side in the text
 abbrev pub HasTwoUnderscores : List ℕ → Type 0
@@ -123,8 +123,8 @@ Reserved t n =
     IsReserved t.globals n
     ⊎ (IsReserved (names t.procedures) n
     ⊎ AnyOf (λ (p : Procedure).
-        IsReserved (p.formals ++ p.locals) n ⊎ IsReserved (labels_of (statements_of p.body)) n)
-      t.procedures)
+    IsReserved (p.formals ++ p.locals) n ⊎ IsReserved (labels_of (statements_of p.body)) n)
+    t.procedures)
 
 -- the 32nd procedure has its name at n, the 9th thread line stands at n, or the 1,001st statement of the whole
 -- text does

@@ -18,13 +18,7 @@ pub fn earlier(a: Option<u32>, b: Option<u32>) -> Option<u32>
     match (a, b) {
         (None, b) => b,
         (Some(m), None) => Some(m),
-        (Some(m), Some(n)) => {
-            if m <= n {
-                Some(m)
-            } else {
-                Some(n)
-            }
-        }
+        (Some(m), Some(n)) => { if m <= n { Some(m) } else { Some(n) } }
     }
 }
 
@@ -118,7 +112,11 @@ pub fn has_two_underscores<A: Allocator>(x: &Name<A>) -> bool
 pub fn reserved_at<A: Allocator>(x: &Name<A>) -> Option<u32>
     ensures { Finds (λ n. (x.now.at ≡ n) × HasTwoUnderscores (name_of x.now).text) result }
 {
-    if has_two_underscores(x) { Some(x.at) } else { None }
+    if has_two_underscores(x) {
+        Some(x.at)
+    } else {
+        None
+    }
 }
 
 /// The least offset of a name with two underscores in a row.

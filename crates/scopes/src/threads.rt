@@ -5,11 +5,10 @@ ghost use Rattle.syntax.specs.Trees.{name_of, proc_of, procs_of, tree_of};
 ghost use Rattle.scopes.specs.Find.{Finds};
 ghost use Rattle.scopes.specs.Faults.{named, no_formals, CanStart, BadThread};
 
-use std::alloc::Allocator;
-use syntax::{Proc, Program, Thread};
-
 use crate::names::earlier;
 use crate::undeclared::find;
+use std::alloc::Allocator;
+use syntax::{Proc, Program, Thread};
 
 /// Whether a thread can start in this procedure: it has no formals.
 pub fn takes_nothing<A: Allocator>(proc: &Proc<A>) -> bool

@@ -6,11 +6,10 @@ ghost use Rattle.scopes.specs.Find.{AnyOf, Finds};
 ghost use Rattle.scopes.specs.Statements.{lent, lent_statements, statement_of};
 ghost use Rattle.scopes.specs.Faults.{Repeated, names, targets_of, IsTwiceIn, DeclaredTwice};
 
-use std::alloc::{AllocError, Allocator};
-use syntax::{Core, Name, Proc, Program, Stmt};
-
 use crate::names::{earlier, lend, repeated};
 use crate::statements::flatten;
+use std::alloc::{AllocError, Allocator};
+use syntax::{Core, Name, Proc, Program, Stmt};
 
 /// References to the names of procedures, in order.
 pub fn proc_names<'a, A: Allocator>(
@@ -27,7 +26,10 @@ pub fn proc_names<'a, A: Allocator>(
 }
 
 /// The least offset of a target that comes again in a statement's assignment.
-pub fn target_again<A: Allocator + Clone>(alloc: &A, stmt: &Stmt<A>) -> Result<Option<u32>, AllocError>
+pub fn target_again<A: Allocator + Clone>(
+    alloc: &A,
+    stmt: &Stmt<A>,
+) -> Result<Option<u32>, AllocError>
     ensures { IfOk result (λ r. Finds (λ n. Repeated (targets_of (statement_of stmt.now).head) n) r) }
 {
     match &stmt.core {
@@ -47,7 +49,10 @@ pub fn target_again<A: Allocator + Clone>(alloc: &A, stmt: &Stmt<A>) -> Result<O
 }
 
 /// The same for several statements.
-pub fn targets_again<A: Allocator + Clone>(alloc: &A, stmts: &[&Stmt<A>]) -> Result<Option<u32>, AllocError>
+pub fn targets_again<A: Allocator + Clone>(
+    alloc: &A,
+    stmts: &[&Stmt<A>],
+) -> Result<Option<u32>, AllocError>
     ensures { IfOk result (λ r. Finds (λ n. AnyOf (λ s. Repeated (targets_of s.head) n) (lent_statements stmts.now)) r) }
 {
     let mut found = None;
@@ -70,7 +75,10 @@ pub fn twice_in<A: Allocator + Clone>(alloc: &A, proc: &Proc<A>) -> Result<Optio
 }
 
 /// The same for several procedures.
-pub fn twice_among<A: Allocator + Clone>(alloc: &A, procs: &[Proc<A>]) -> Result<Option<u32>, AllocError>
+pub fn twice_among<A: Allocator + Clone>(
+    alloc: &A,
+    procs: &[Proc<A>],
+) -> Result<Option<u32>, AllocError>
     ensures { IfOk result (λ r. Finds (λ n. AnyOf (λ p. IsTwiceIn p n) (procs_of procs.now)) r) }
 {
     let mut found = None;
@@ -82,7 +90,10 @@ pub fn twice_among<A: Allocator + Clone>(alloc: &A, procs: &[Proc<A>]) -> Result
 
 /// The least offset of a name that comes again among the globals, the procedures, the formals and locals of one
 /// procedure, or the targets of one assignment; nothing where none does. An error is a refused growth.
-pub fn first_twice<A: Allocator + Clone>(alloc: &A, program: &Program<A>) -> Result<Option<u32>, AllocError>
+pub fn first_twice<A: Allocator + Clone>(
+    alloc: &A,
+    program: &Program<A>,
+) -> Result<Option<u32>, AllocError>
     ensures { IfOk result (λ r. Finds (λ n. DeclaredTwice (tree_of program.now) n) r) }
 {
     let globals = lend(&program.globals, Vec::new(alloc.clone()?))?;

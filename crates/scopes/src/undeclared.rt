@@ -6,11 +6,10 @@ ghost use Rattle.scopes.specs.Find.{AnyOf, Finds};
 ghost use Rattle.scopes.specs.Statements.{lent, lent_statements, statement_of, statements_of, used_by, variables_of, variables_of_all, variables_of_side, variables_of_sides};
 ghost use Rattle.scopes.specs.Faults.{named, known, IsUnknown, CallsUnknown, IsUndeclaredIn, Undeclared};
 
-use std::alloc::{AllocError, Allocator};
-use syntax::{Core, Expr, Name, Proc, Program, Rhs, Stmt};
-
 use crate::names::{earlier, is_same, lend, unknown};
 use crate::statements::flatten;
+use std::alloc::{AllocError, Allocator};
+use syntax::{Core, Expr, Name, Proc, Program, Rhs, Stmt};
 
 /// The first procedure that is named as `x` is written.
 pub fn find<'a, A: Allocator>(procs: &'a [Proc<A>], x: &Name<A>) -> Option<&'a Proc<A>>
@@ -125,7 +124,11 @@ pub fn in_call<A: Allocator>(procs: &[Proc<A>], stmt: &Stmt<A>) -> Option<u32>
 }
 
 /// The least offset of a variable or a called procedure of a statement that has no declaration.
-pub fn of_statement<A: Allocator>(known: &[&Name<A>], procs: &[Proc<A>], stmt: &Stmt<A>) -> Option<u32>
+pub fn of_statement<A: Allocator>(
+    known: &[&Name<A>],
+    procs: &[Proc<A>],
+    stmt: &Stmt<A>,
+) -> Option<u32>
     ensures { Finds (λ n. IsUndeclaredIn (lent known.now) (procs_of procs.now) (statement_of stmt.now) n) result }
 {
     let first = in_statement(known, stmt);
@@ -134,7 +137,11 @@ pub fn of_statement<A: Allocator>(known: &[&Name<A>], procs: &[Proc<A>], stmt: &
 }
 
 /// The same for several statements.
-pub fn of_statements<A: Allocator>(known: &[&Name<A>], procs: &[Proc<A>], stmts: &[&Stmt<A>]) -> Option<u32>
+pub fn of_statements<A: Allocator>(
+    known: &[&Name<A>],
+    procs: &[Proc<A>],
+    stmts: &[&Stmt<A>],
+) -> Option<u32>
     ensures { Finds (λ n. AnyOf (λ s. IsUndeclaredIn (lent known.now) (procs_of procs.now) s n) (lent_statements stmts.now)) result }
 {
     let mut found = None;
@@ -145,7 +152,11 @@ pub fn of_statements<A: Allocator>(known: &[&Name<A>], procs: &[Proc<A>], stmts:
 }
 
 /// The same for a procedure.
-pub fn of_proc<A: Allocator + Clone>(alloc: &A, program: &Program<A>, proc: &Proc<A>) -> Result<Option<u32>, AllocError>
+pub fn of_proc<A: Allocator + Clone>(
+    alloc: &A,
+    program: &Program<A>,
+    proc: &Proc<A>,
+) -> Result<Option<u32>, AllocError>
     ensures { IfOk result (λ r. Finds (λ n. AnyOf (λ s. IsUndeclaredIn (known (tree_of program.now) (proc_of proc.now)) (tree_of program.now).procedures s n) (statements_of (proc_of proc.now).body)) r) }
 {
     let formals = lend(&proc.formals, Vec::new(alloc.clone()?))?;
@@ -157,7 +168,10 @@ pub fn of_proc<A: Allocator + Clone>(alloc: &A, program: &Program<A>, proc: &Pro
 
 /// The least offset of a variable or a called procedure that has no declaration; nothing where each has one. An
 /// error is a refused growth.
-pub fn first_undeclared<A: Allocator + Clone>(alloc: &A, program: &Program<A>) -> Result<Option<u32>, AllocError>
+pub fn first_undeclared<A: Allocator + Clone>(
+    alloc: &A,
+    program: &Program<A>,
+) -> Result<Option<u32>, AllocError>
     ensures { IfOk result (λ r. Finds (λ n. Undeclared (tree_of program.now) n) r) }
 {
     let mut found = None;

@@ -21,7 +21,7 @@ loop-each-preserved g t c =
 pub flatten_one-requires : goal.flatten_one-requires
 flatten_one-requires g t c κs within =
     let part : length (inside (deed_of c.one-item.result.core)) + 1 ≤ length (statements_of (block_of c.deref-one-items.result.now)) =
-      smaller c.deref-one-items.result.now c.loop-one.one-index c.one-item.result c.loop-one-test.true c.one-item.is in
+    smaller c.deref-one-items.result.now c.loop-one.one-index c.one-item.result c.loop-one-test.true c.one-item.is in
     let same : length (statements_of (block_of c.deref-one-items.result.now)) ≡ length (statements_of (block_of c.in-If.then.items)) = ap (λ l. length (statements_of (block_of l))) c.deref-one-items.ensures.value in
     let whole : length (inside (deed_of c.args.stmt.now.core)) ≡ length (statements_of (block_of c.in-If.then.items)) + length (statements_of (block_of c.in-If.otherwise.items)) = ap (λ d. length (inside d)) (ap deed_of c.in-If.is ∙ deed_of-If _ _ _) ∙ length-append (statements_of (block_of c.in-If.then.items)) (statements_of (block_of c.in-If.otherwise.items)) in
     let less : length (inside (deed_of c.one-item.result.core)) < length (inside (deed_of c.args.stmt.now.core)) = omega (arith, part, same, whole) in
@@ -30,7 +30,7 @@ flatten_one-requires g t c κs within =
 pub flatten_one-requires-in-loop-other : goal.flatten_one-requires-in-loop-other
 flatten_one-requires-in-loop-other g t c κs within =
     let part : length (inside (deed_of c.other-item.result.core)) + 1 ≤ length (statements_of (block_of c.deref-other-items.result.now)) =
-      smaller c.deref-other-items.result.now c.loop-other.other-index c.other-item.result c.loop-other-test.true c.other-item.is in
+    smaller c.deref-other-items.result.now c.loop-other.other-index c.other-item.result c.loop-other-test.true c.other-item.is in
     let same : length (statements_of (block_of c.deref-other-items.result.now)) ≡ length (statements_of (block_of c.in-If.otherwise.items)) = ap (λ l. length (statements_of (block_of l))) c.deref-other-items.ensures.value in
     let whole : length (inside (deed_of c.args.stmt.now.core)) ≡ length (statements_of (block_of c.in-If.then.items)) + length (statements_of (block_of c.in-If.otherwise.items)) = ap (λ d. length (inside d)) (ap deed_of c.in-If.is ∙ deed_of-If _ _ _) ∙ length-append (statements_of (block_of c.in-If.then.items)) (statements_of (block_of c.in-If.otherwise.items)) in
     let less : length (inside (deed_of c.other-item.result.core)) < length (inside (deed_of c.args.stmt.now.core)) = omega (arith, part, same, whole) in
@@ -39,7 +39,7 @@ flatten_one-requires-in-loop-other g t c κs within =
 pub flatten_one-requires-in-loop-each : goal.flatten_one-requires-in-loop-each
 flatten_one-requires-in-loop-each g t c κs within =
     let part : length (inside (deed_of c.each-item.result.core)) + 1 ≤ length (statements_of (block_of c.deref-each-items.result.now)) =
-      smaller c.deref-each-items.result.now c.loop-each.each-index c.each-item.result c.loop-each-test.true c.each-item.is in
+    smaller c.deref-each-items.result.now c.loop-each.each-index c.each-item.result c.loop-each-test.true c.each-item.is in
     let same : length (statements_of (block_of c.deref-each-items.result.now)) ≡ length (statements_of (block_of c.in-While.body.items)) = ap (λ l. length (statements_of (block_of l))) c.deref-each-items.ensures.value in
     let whole : length (inside (deed_of c.args.stmt.now.core)) ≡ length (statements_of (block_of c.in-While.body.items)) = ap (λ d. length (inside d)) (ap deed_of c.in-While.is ∙ deed_of-While _ _) in
     let less : length (inside (deed_of c.each-item.result.core)) < length (inside (deed_of c.args.stmt.now.core)) = omega (arith, part, same, whole) in

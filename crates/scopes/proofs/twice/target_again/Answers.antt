@@ -36,5 +36,5 @@ pub returns-in_ok-list-in-Assign : goal.returns-in_ok-list-in-Assign
 returns-in_ok-list-in-Assign g c =
     moved (λ h n. Repeated (targets_of h) n) _ _ _ (head_is c.args.stmt.now _ (ap deed_of c.in-Assign.is ∙ deed_of-Assign _ _))
     (moved (λ l n. Repeated l n) (lent c.in_ok-list-in-Assign.list.items) (names_of c.in-Assign.targets.items) c.repeated.result
-      (sym (c.in_ok-list-in-Assign.ensures ∙ ap (λ l. lent l ++ names_of c.deref.result.now) c.new.ensures.items ∙ ap names_of c.deref.ensures.value))
-      (rw c.deref-in-Assign.ensures.value at c.repeated.ensures))
+    (sym (c.in_ok-list-in-Assign.ensures ∙ ap (λ l. lent l ++ names_of c.deref.result.now) c.new.ensures.items ∙ ap names_of c.deref.ensures.value))
+    (rw c.deref-in-Assign.ensures.value at c.repeated.ensures))

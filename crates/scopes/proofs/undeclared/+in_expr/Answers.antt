@@ -19,5 +19,5 @@ pub returns-in-Two : goal.returns-in-Two
 returns-in-Two g t c =
     in_both_of (λ x n. IsUnknown (lent c.args.known.now) n x) _ _ _ c.in_expr-first.result c.in_expr-second.result c.earlier.result c.earlier.ensures
     (ap (λ e. variables_of (expr_of e)) c.in-Two.is ∙ ap variables_of (expr_of-Two _ _ _)
-      ∙ ap (λ e. variables_of (expr_of e) ++ variables_of (expr_of c.in-Two.right.value)) (sym c.deref-in-Two.ensures) ∙ ap (λ e. variables_of (expr_of c.deref-in-Two.result.now) ++ variables_of (expr_of e)) (sym c.deref-in-Two-2.ensures))
+    ∙ ap (λ e. variables_of (expr_of e) ++ variables_of (expr_of c.in-Two.right.value)) (sym c.deref-in-Two.ensures) ∙ ap (λ e. variables_of (expr_of c.deref-in-Two.result.now) ++ variables_of (expr_of e)) (sym c.deref-in-Two-2.ensures))
     c.in_expr-first.ensures c.in_expr-second.ensures

@@ -33,6 +33,6 @@ pub returns-in-Call : goal.returns-in-Call
 returns-in-Call g c = moved (λ h n. AnyOf (λ x. IsUnknown (lent c.args.known.now) n x) (used_by h)) _ _ _ (head_is c.args.stmt.now _ (ap deed_of c.in-Call.is ∙ deed_of-Call _ _)) (rw c.deref-in-Call.ensures.value at c.in_exprs.ensures)
 
 pub returns-in-Assign : goal.returns-in-Assign
-returns-in-Assign g c = moved (λ h n. AnyOf (λ x. IsUnknown (lent c.args.known.now) n x) (used_by h)) _ _ _ (head_is c.args.stmt.now _ (ap deed_of c.in-Assign.is ∙ deed_of-Assign _ _)) 
+returns-in-Assign g c = moved (λ h n. AnyOf (λ x. IsUnknown (lent c.args.known.now) n x) (used_by h)) _ _ _ (head_is c.args.stmt.now _ (ap deed_of c.in-Assign.is ∙ deed_of-Assign _ _))
     (in_both_of (λ x n. IsUnknown (lent c.args.known.now) n x) (names_of c.in-Assign.targets.items) (variables_of_sides (rhss_of c.in-Assign.sides.items)) _ c.in_targets-first.result c.in_rhss-second.result c.earlier.result c.earlier.ensures refl
-      (rw c.deref.ensures.value at c.in_targets-first.ensures) (rw c.deref-in-Assign.ensures.value at c.in_rhss-second.ensures))
+    (rw c.deref.ensures.value at c.in_targets-first.ensures) (rw c.deref-in-Assign.ensures.value at c.in_rhss-second.ensures))
