@@ -1,0 +1,4 @@
+pub mod Found
+pub mod Heads
+pub mod Flat
+pub mod Again

@@ -1,0 +1,7 @@
+use Rattle.std.proofs.Common.{◌≡◌, ◌++◌, drop}
+use Rattle.syntax.specs.Trees.{names_of}
+use Rattle.scopes.specs.Statements.{lent}
+use Rattle.scopes.proofs.names.lend.Given as goal
+
+abbrev pub invariant-loop-name : goal.invariant-loop-name
+invariant-loop-name g l = lent l.into.items ++ names_of (drop l.name-index l.names) ≡ lent l.initial.into.items ++ names_of l.names

@@ -1,0 +1,18 @@
+use Rattle.std.proofs.Common.{◌≡◌, ◌++◌, drop, length}
+use Rattle.syntax.specs.Trees.{name_of, names_of, exprs_of, rhss_of, procs_of, proc_of, block_of, tree_of, deed_of}
+use Rattle.scopes.specs.Find.{AnyOf, Kept}
+use Rattle.scopes.specs.Statements.{lent, lent_statements, inside, statement_of, statements_of, used_by, variables_of_all, variables_of_sides}
+use Rattle.scopes.specs.Faults.{named, known, IsUnknown, IsUndeclaredIn, Undeclared}
+use Rattle.scopes.proofs.statements.+flatten_one.Given as goal
+
+abbrev pub invariant-loop-one : goal.invariant-loop-one
+invariant-loop-one g l = lent_statements l.list.items ++ statements_of (block_of (drop l.one-index l.one-items)) ≡ lent_statements l.initial.list.items ++ statements_of (block_of l.one-items)
+
+abbrev pub invariant-loop-other : goal.invariant-loop-other
+invariant-loop-other g l = lent_statements l.list.items ++ statements_of (block_of (drop l.other-index l.other-items)) ≡ lent_statements l.initial.list.items ++ statements_of (block_of l.other-items)
+
+abbrev pub invariant-loop-each : goal.invariant-loop-each
+invariant-loop-each g l = lent_statements l.list.items ++ statements_of (block_of (drop l.each-index l.each-items)) ≡ lent_statements l.initial.list.items ++ statements_of (block_of l.each-items)
+
+abbrev pub decreases-flatten_one : goal.decreases-flatten_one
+decreases-flatten_one g l = length (inside (deed_of l.stmt.now.core))

@@ -1,0 +1,11 @@
+use Rattle.syntax.specs.Trees.{rhs_of, expr_of}
+use Rattle.std.proofs.Common.{ap, ◌∙◌}
+use Rattle.scopes.specs.Find.{AnyOf}
+use Rattle.scopes.specs.Statements.{lent, variables_of_side}
+use Rattle.scopes.specs.Faults.{IsUnknown}
+use Rattle.scopes.proofs.Found.{moved}
+use Rattle.scopes.proofs.undeclared.in_rhs.Goals as goal
+
+pub returns-in-Value : goal.returns-in-Value
+returns-in-Value g c =
+    moved (λ r n. AnyOf (λ x. IsUnknown (lent c.args.known.now) n x) (variables_of_side (rhs_of r))) _ _ c.in_expr.result c.in-Value.is c.in_expr.ensures

@@ -1,0 +1,10 @@
+use Rattle.std.proofs.Common.{◌≡◌, ◌++◌, drop, None, Some, option_map}
+use Rattle.syntax.specs.Trees.{name_of, names_of, exprs_of, rhss_of, procs_of, proc_of, block_of, tree_of}
+use Rattle.scopes.specs.Find.{AnyOf, Kept}
+use Rattle.scopes.specs.Statements.{lent, lent_statements, statement_of, statements_of, used_by, variables_of_all, variables_of_sides}
+use Rattle.scopes.specs.Faults.{named, known, IsUnknown, IsUndeclaredIn, Undeclared}
+use Rattle.scopes.proofs.undeclared.in_rhss.Given as goal
+
+abbrev pub invariant-loop-rhs : goal.invariant-loop-rhs
+invariant-loop-rhs g l =
+    Kept (λ n. AnyOf (λ x. IsUnknown (lent l.known) n x) (variables_of_sides (rhss_of (l.sides)))) (λ n. AnyOf (λ x. IsUnknown (lent l.known) n x) (variables_of_sides (rhss_of (drop l.rhs-index l.sides)))) l.found

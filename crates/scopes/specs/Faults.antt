@@ -1,0 +1,135 @@
+-- Where the faults of scopes stand: each is a property of a tree and an offset.
+use Rattle.std.specs.Prelude.{◌≡◌, ◌≢◌, ℕ, suc, List, [], ◌∷◌, ◌++◌, Bool, true, false, Option, Some, None, length, map, cond, slice_get, slice_index, ◌==◌, ◌⊎◌, ◌+◌}
+use Rattle.language.specs.Tree.{Name, RightSide, Simple, skip, assign, assert, assume, goto, leave, call, Procedure, ThreadLine, Tree}
+use Rattle.language.specs.Rest.{same_text}
+use Rattle.language.specs.Resolve.{is_declared}
+use Rattle.scopes.specs.Find.{AnyOf}
+use Rattle.scopes.specs.Statements.{Head, plain, tests, Statement, statements_of, statements_of_all, used_by, labels_of}
+
+-- the first procedure of this name, where there is one
+abbrev pub named : List ℕ → List Procedure → Option Procedure
+named text [] = None
+named text (p ∷ ps) = cond (same_text text p.name.text) (Some p) (named text ps)
+
+-- the procedure is there, and it has the property
+abbrev pub IsThere : {X : Type 0} → Option X → (X → Type 0) → Type 0
+IsThere None P = ⊥
+IsThere (Some p) P = P p
+
+-- a name stands at n, and none of the lists declares it
+abbrev pub IsUnknown : List Name → ℕ → Name → Type 0
+IsUnknown names n x = (x.at ≡ n) × (is_declared x.text names ≡ false)
+
+-- the names of variables that a statement of the procedure can use: its formals, its locals, the globals
+abbrev pub known : Tree → Procedure → List Name
+known t p = (p.formals ++ p.locals) ++ t.globals
+
+-- a called procedure that stands at n and has no declaration
+abbrev pub CallsUnknown : List Procedure → ℕ → Head → Type 0
+CallsUnknown ps n (plain (call q es)) = (q.at ≡ n) × (named q.text ps ≡ None)
+CallsUnknown ps n _ = ⊥
+
+-- a statement has at n a variable that is none of these, or calls a procedure that has no declaration
+abbrev pub IsUndeclaredIn : List Name → List Procedure → Statement → ℕ → Type 0
+IsUndeclaredIn variables ps s n = AnyOf (λ x. IsUnknown variables n x) (used_by s.head) ⊎ CallsUnknown ps n s.head
+
+-- a variable or a called procedure at n has no declaration
+abbrev pub Undeclared : Tree → ℕ → Type 0
+Undeclared t n =
+    AnyOf (λ (p : Procedure). AnyOf (λ s. IsUndeclaredIn (known t p) t.procedures s n) (statements_of p.body)) t.procedures
+
+-- a name at n has the text of one that comes before it in the list
+abbrev pub Repeated : List Name → ℕ → Type 0
+Repeated [] n = ⊥
+Repeated (x ∷ xs) n = AnyOf (λ (y : Name). (y.at ≡ n) × (same_text x.text y.text ≡ true)) xs ⊎ Repeated xs n
+
+-- the names of procedures
+abbrev pub names : List Procedure → List Name
+names ps = map (λ (p : Procedure). p.name) ps
+
+-- the targets of an assignment
+abbrev pub targets_of : Head → List Name
+targets_of (plain (assign xs rs)) = xs
+targets_of _ = []
+
+-- a name at n comes again among the formals and locals of a procedure, or among the targets of an assignment in it
+abbrev pub IsTwiceIn : Procedure → ℕ → Type 0
+IsTwiceIn p n = Repeated (p.formals ++ p.locals) n ⊎ AnyOf (λ s. Repeated (targets_of s.head) n) (statements_of p.body)
+
+-- a name at n comes again among the globals, the procedures, the formals and locals of one procedure, or the
+-- targets of one assignment
+abbrev pub DeclaredTwice : Tree → ℕ → Type 0
+DeclaredTwice t n =
+    Repeated t.globals n
+    ⊎ (Repeated (names t.procedures) n
+    ⊎ AnyOf (λ p. IsTwiceIn p n) t.procedures)
+
+-- where a list of targets begins: at its first, or where it is empty, where the statement does
+abbrev pub first_at : ℕ → List Name → ℕ
+first_at m [] = m
+first_at m (x ∷ xs) = x.at
+
+-- a statement's targets and right sides, or its arguments and the formals of the procedure that it calls, differ
+-- in number; n is the offset of the first target or of the called name
+abbrev pub Miscounts : List Procedure → ℕ → Statement → Type 0
+Miscounts ps n s = counted s.mark.at s.head
+  where
+    counted : ℕ → Head → Type 0
+    counted m (plain (assign xs rs)) = (first_at m xs ≡ n) × (length xs ≢ length rs)
+    counted m (plain (call q es)) = (q.at ≡ n) × IsThere (named q.text ps) (λ p. length p.formals ≢ length es)
+    counted m _ = ⊥
+
+-- an assignment at n has more or fewer targets than right sides, or a call more or fewer arguments than formals
+abbrev pub WrongCount : Tree → ℕ → Type 0
+WrongCount t n =
+    AnyOf (λ (p : Procedure). AnyOf (Miscounts t.procedures n) (statements_of p.body)) t.procedures
+
+-- the procedure has no formals
+abbrev pub no_formals : Procedure → Bool
+no_formals p = length p.formals == 0
+
+-- a thread can start in this procedure: it is there, and has no formals
+abbrev pub CanStart : Option Procedure → Type 0
+CanStart p = IsThere p (λ q. no_formals q ≡ true)
+
+-- a thread line names at n no procedure, or one with formals
+abbrev pub BadThread : Tree → ℕ → Type 0
+BadThread t n =
+    AnyOf (λ (line : ThreadLine). (line.name.at ≡ n) × (CanStart (named line.name.text t.procedures) → ⊥)) t.threads
+
+-- a goto that stands at n names none of these labels
+abbrev pub GoesNowhere : List Name → ℕ → Head → Type 0
+GoesNowhere labels n (plain (goto l)) = IsUnknown labels n l
+GoesNowhere labels n _ = ⊥
+
+-- a goto names at n no label of its procedure, or a label of a procedure comes again at n
+abbrev pub BadLabel : Tree → ℕ → Type 0
+BadLabel t n =
+    AnyOf (λ (p : Procedure). let labels = labels_of (statements_of p.body) in
+    AnyOf (λ (s : Statement). GoesNowhere labels n s.head) (statements_of p.body) ⊎ Repeated labels n)
+    t.procedures
+
+-- two underscores stand side by side in the text
+abbrev pub HasTwoUnderscores : List ℕ → Type 0
+HasTwoUnderscores text = (k : ℕ) × (slice_index text k ≡ 95) × (slice_index text (k + 1) ≡ 95)
+
+-- one of the names stands at n and has two underscores in a row
+abbrev pub IsReserved : List Name → ℕ → Type 0
+IsReserved xs n = AnyOf (λ (x : Name). (x.at ≡ n) × HasTwoUnderscores x.text) xs
+
+-- a declared variable, procedure or label at n has two underscores in a row
+abbrev pub Reserved : Tree → ℕ → Type 0
+Reserved t n =
+    IsReserved t.globals n
+    ⊎ (IsReserved (names t.procedures) n
+    ⊎ AnyOf (λ (p : Procedure).
+    IsReserved (p.formals ++ p.locals) n ⊎ IsReserved (labels_of (statements_of p.body)) n)
+    t.procedures)
+
+-- the 32nd procedure has its name at n, the 9th thread line stands at n, or the 1,001st statement of the whole
+-- text does
+abbrev pub TooMany : Tree → ℕ → Type 0
+TooMany t n =
+    IsThere (slice_get t.procedures 31) (λ p. p.name.at ≡ n)
+    ⊎ (IsThere (slice_get t.threads 8) (λ line. line.at ≡ n)
+    ⊎ IsThere (slice_get (statements_of_all t.procedures) 1000) (λ s. s.mark.at ≡ n))

@@ -1,0 +1,27 @@
+-- What it is to find the least offset with a property.
+use Rattle.std.specs.Prelude.{◌≡◌, ℕ, ◌≤◌, nat_le, List, [], ◌∷◌, Option, Some, None, cond, ◌⊎◌}
+
+-- some member of the list has the property
+abbrev pub AnyOf : {X : Type 0} → (X → Type 0) → List X → Type 0
+AnyOf P [] = ⊥
+AnyOf P (x ∷ xs) = P x ⊎ AnyOf P xs
+
+-- nothing, where no number has the property; else the least that has it
+abbrev pub IsLeast : (ℕ → Type 0) → Option ℕ → Type 0
+IsLeast P None = (n : ℕ) → P n → ⊥
+IsLeast P (Some n) = P n × ((m : ℕ) → P m → n ≤ m)
+
+-- the answer is the least number with the property, or nothing where no number has it
+pub record Finds (P : ℕ → Type 0) (answer : Option ℕ) : Type 0 where
+  pub least : IsLeast P answer
+
+-- the lesser of two numbers that may be there
+unfoldable pub earlier_of : Option ℕ → Option ℕ → Option ℕ
+earlier_of None b = b
+earlier_of (Some m) None = Some m
+earlier_of (Some m) (Some n) = cond (nat_le m n) (Some m) (Some n)
+
+-- What a search has found so far goes with every answer for what remains: together they are an answer for
+-- the whole.
+pub record Kept (Whole Rest : ℕ → Type 0) (found : Option ℕ) : Type 0 where
+  pub goes : (rest : Option ℕ) → Finds Rest rest → Finds Whole (earlier_of found rest)

@@ -1,0 +1,12 @@
+//! The faults of scopes: names without a declaration, names declared twice, and threads that can't start.
+#![tactic(auto)]
+
+mod names;
+mod statements;
+mod threads;
+mod twice;
+mod undeclared;
+
+pub use threads::first_bad_thread;
+pub use twice::first_twice;
+pub use undeclared::first_undeclared;

@@ -1,0 +1,131 @@
+//! Searches among names.
+
+ghost use Rattle.std.specs.Prelude.{◌≡◌, ◌++◌, IfOk, IsTrue, ◌↔◌, true};
+ghost use Rattle.language.specs.Rest.{same_text};
+ghost use Rattle.language.specs.Resolve.{is_declared};
+ghost use Rattle.syntax.specs.Trees.{name_of, names_of};
+ghost use Rattle.scopes.specs.Find.{AnyOf, Finds, earlier_of};
+ghost use Rattle.scopes.specs.Statements.{lent};
+ghost use Rattle.scopes.specs.Faults.{Repeated, IsUnknown, IsReserved, HasTwoUnderscores};
+
+use std::alloc::{AllocError, Allocator};
+use syntax::Name;
+
+/// The lesser of two offsets that may be there.
+pub fn earlier(a: Option<u32>, b: Option<u32>) -> Option<u32>
+    ensures { result ≡ earlier_of a b }
+{
+    match (a, b) {
+        (None, b) => b,
+        (Some(m), None) => Some(m),
+        (Some(m), Some(n)) => { if m <= n { Some(m) } else { Some(n) } }
+    }
+}
+
+/// Puts references to names behind those that are there.
+pub fn lend<'a, A: Allocator>(
+    names: &'a [Name<A>],
+    mut into: Vec<&'a Name<A>, A>,
+) -> Result<Vec<&'a Name<A>, A>, AllocError>
+    ensures { IfOk result (λ v. lent v.items ≡ lent into.entry.items ++ names_of names.now) }
+{
+    for name in names {
+        into.push(name)?;
+    }
+    Ok(into)
+}
+
+/// Whether two names are written the same.
+#[tactic(auto, using(crate::proofs::Found::same_bytes))]
+pub fn is_same<A: Allocator>(x: &Name<A>, y: &Name<A>) -> bool
+    ensures { result ≡ same_text (name_of x.now).text (name_of y.now).text }
+{
+    x.text.as_str() == y.text.as_str()
+}
+
+/// Whether one of the names is written as `x` is.
+pub fn declares<A: Allocator>(names: &[&Name<A>], x: &Name<A>) -> bool
+    ensures { result ≡ is_declared (name_of x.now).text (lent names.now) }
+{
+    for name in names {
+        if is_same(x, name) {
+            return true;
+        }
+    }
+    false
+}
+
+/// The offset of `y`, where it is written as `x` is.
+#[tactic(auto, using(crate::proofs::Found::here, crate::proofs::Found::not_here))]
+pub fn same_at<A: Allocator>(x: &Name<A>, y: &Name<A>) -> Option<u32>
+    ensures { Finds (λ n. (y.now.at ≡ n) × (same_text (name_of x.now).text (name_of y.now).text ≡ true)) result }
+{
+    if is_same(x, y) { Some(y.at) } else { None }
+}
+
+/// The least offset of a name that is written as `x` is.
+pub fn copy_of<A: Allocator>(x: &Name<A>, names: &[&Name<A>]) -> Option<u32>
+    ensures { Finds (λ n. AnyOf (λ y. (y.at ≡ n) × (same_text (name_of x.now).text y.text ≡ true)) (lent names.now)) result }
+{
+    let mut found = None;
+    for name in names {
+        found = earlier(found, same_at(x, name));
+    }
+    found
+}
+
+/// The least offset of a name that is written as one before it.
+pub fn repeated<A: Allocator>(names: &[&Name<A>]) -> Option<u32>
+    ensures { Finds (Repeated (lent names.now)) result }
+{
+    let mut found = None;
+    for (i, name) in names.iter().enumerate() {
+        let (_, rest) = names.split_at(i + 1);
+        found = earlier(found, copy_of(name, rest));
+    }
+    found
+}
+
+/// The offset of a name that is not among those known.
+#[tactic(auto, using(crate::proofs::Found::here, crate::proofs::Found::not_here))]
+pub fn unknown<A: Allocator>(known: &[&Name<A>], x: &Name<A>) -> Option<u32>
+    ensures { Finds (λ n. IsUnknown (lent known.now) n (name_of x.now)) result }
+{
+    if declares(known, x) { None } else { Some(x.at) }
+}
+
+/// Whether two underscores stand side by side in a name.
+pub fn has_two_underscores<A: Allocator>(x: &Name<A>) -> bool
+    ensures { IsTrue result ↔ HasTwoUnderscores (name_of x.now).text }
+{
+    let text = x.text.as_bytes();
+    for i in 1..text.len() {
+        if text[i - 1] == b'_' && text[i] == b'_' {
+            return true;
+        }
+    }
+    false
+}
+
+/// The offset of a name with two underscores in a row.
+#[tactic(auto, using(crate::proofs::Found::here, crate::proofs::Found::not_here))]
+pub fn reserved_at<A: Allocator>(x: &Name<A>) -> Option<u32>
+    ensures { Finds (λ n. (x.now.at ≡ n) × HasTwoUnderscores (name_of x.now).text) result }
+{
+    if has_two_underscores(x) {
+        Some(x.at)
+    } else {
+        None
+    }
+}
+
+/// The least offset of a name with two underscores in a row.
+pub fn reserved<A: Allocator>(names: &[&Name<A>]) -> Option<u32>
+    ensures { Finds (IsReserved (lent names.now)) result }
+{
+    let mut found = None;
+    for name in names {
+        found = earlier(found, reserved_at(name));
+    }
+    found
+}

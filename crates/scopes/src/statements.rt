@@ -1,0 +1,57 @@
+//! The statements of a block as one list.
+
+ghost use Rattle.std.specs.Prelude.{◌≡◌, ◌++◌, ◌∷◌, IfOk};
+ghost use Rattle.syntax.specs.Trees.{block_of, deed_of};
+ghost use Rattle.scopes.specs.Statements.{lent_statements, statement_of, statements_of, inside};
+
+use std::alloc::{AllocError, Allocator};
+use syntax::{Core, Stmt};
+
+/// Puts references to the statements of a block, in the order of the text, behind those that are there.
+pub fn flatten<'a, A: Allocator>(
+    stmts: &'a [Stmt<A>],
+    into: Vec<&'a Stmt<A>, A>,
+) -> Result<Vec<&'a Stmt<A>, A>, AllocError>
+    ensures { IfOk result (λ v. lent_statements v.items ≡ lent_statements into.entry.items ++ statements_of (block_of stmts.now)) }
+{
+    let mut list = into;
+    for stmt in stmts {
+        list = flatten_one(stmt, list)?;
+    }
+    Ok(list)
+}
+
+/// The same for one statement and those that it holds.
+fn flatten_one<'a, A: Allocator>(
+    stmt: &'a Stmt<A>,
+    into: Vec<&'a Stmt<A>, A>,
+) -> Result<Vec<&'a Stmt<A>, A>, AllocError>
+    ensures { IfOk result (λ v. lent_statements v.items ≡ lent_statements into.entry.items ++ (statement_of stmt.now ∷ inside (deed_of stmt.now.core))) }
+{
+    let mut list = into;
+    list.push(stmt)?;
+    match &stmt.core {
+        Core::If(_, then, otherwise) => {
+            for one in then {
+                list = flatten_one(one, list)?;
+            }
+            for other in otherwise {
+                list = flatten_one(other, list)?;
+            }
+            Ok(list)
+        }
+        Core::While(_, body) => {
+            for each in body {
+                list = flatten_one(each, list)?;
+            }
+            Ok(list)
+        }
+        Core::Skip => Ok(list),
+        Core::Return => Ok(list),
+        Core::Goto(_) => Ok(list),
+        Core::Assign(_, _) => Ok(list),
+        Core::Call(_, _) => Ok(list),
+        Core::Assert(_) => Ok(list),
+        Core::Assume(_) => Ok(list),
+    }
+}

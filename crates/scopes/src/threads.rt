@@ -1,0 +1,46 @@
+//! Thread lines that name no procedure, or one with formals.
+
+ghost use Rattle.std.specs.Prelude.{◌≡◌};
+ghost use Rattle.syntax.specs.Trees.{name_of, proc_of, procs_of, tree_of};
+ghost use Rattle.scopes.specs.Find.{Finds};
+ghost use Rattle.scopes.specs.Faults.{named, no_formals, CanStart, BadThread};
+
+use crate::names::earlier;
+use crate::undeclared::find;
+use std::alloc::Allocator;
+use syntax::{Proc, Program, Thread};
+
+/// Whether a thread can start in this procedure: it has no formals.
+pub fn takes_nothing<A: Allocator>(proc: &Proc<A>) -> bool
+    ensures { result ≡ no_formals (proc_of proc.now) }
+{
+    proc.formals.as_slice().is_empty()
+}
+
+/// The offset of the name in a thread line, where no thread can start in what it names.
+pub fn cannot_start<A: Allocator>(procs: &[Proc<A>], line: &Thread<A>) -> Option<u32>
+    ensures { Finds (λ n. (line.now.name.at ≡ n) × (CanStart (named (name_of line.now.name).text (procs_of procs.now)) → ⊥)) result }
+{
+    match find(procs, &line.name) {
+        None => Some(line.name.at),
+        Some(proc) => {
+            if takes_nothing(proc) {
+                None
+            } else {
+                Some(line.name.at)
+            }
+        }
+    }
+}
+
+/// The least offset of a name in a thread line that names no procedure, or one with formals; nothing where each
+/// line names one in which a thread can start.
+pub fn first_bad_thread<A: Allocator>(program: &Program<A>) -> Option<u32>
+    ensures { Finds (λ n. BadThread (tree_of program.now) n) result }
+{
+    let mut found = None;
+    for line in &program.threads {
+        found = earlier(found, cannot_start(&program.procs, line));
+    }
+    found
+}

@@ -1,0 +1,106 @@
+//! Names that come twice.
+
+ghost use Rattle.std.specs.Prelude.{◌≡◌, ◌++◌, IfOk};
+ghost use Rattle.syntax.specs.Trees.{proc_of, procs_of, tree_of};
+ghost use Rattle.scopes.specs.Find.{AnyOf, Finds};
+ghost use Rattle.scopes.specs.Statements.{lent, lent_statements, statement_of};
+ghost use Rattle.scopes.specs.Faults.{Repeated, names, targets_of, IsTwiceIn, DeclaredTwice};
+
+use crate::names::{earlier, lend, repeated};
+use crate::statements::flatten;
+use std::alloc::{AllocError, Allocator};
+use syntax::{Core, Name, Proc, Program, Stmt};
+
+/// References to the names of procedures, in order.
+pub fn proc_names<'a, A: Allocator>(
+    procs: &'a [Proc<A>],
+    into: Vec<&'a Name<A>, A>,
+) -> Result<Vec<&'a Name<A>, A>, AllocError>
+    ensures { IfOk result (λ v. lent v.items ≡ lent into.entry.items ++ names (procs_of procs.now)) }
+{
+    let mut list = into;
+    for proc in procs {
+        list.push(&proc.name)?;
+    }
+    Ok(list)
+}
+
+/// The least offset of a target that comes again in a statement's assignment.
+pub fn target_again<A: Allocator + Clone>(
+    alloc: &A,
+    stmt: &Stmt<A>,
+) -> Result<Option<u32>, AllocError>
+    ensures { IfOk result (λ r. Finds (λ n. Repeated (targets_of (statement_of stmt.now).head) n) r) }
+{
+    match &stmt.core {
+        Core::Assign(targets, _) => {
+            let list = lend(targets, Vec::new(alloc.clone()?))?;
+            Ok(repeated(&list))
+        }
+        Core::Skip => Ok(None),
+        Core::Return => Ok(None),
+        Core::Goto(_) => Ok(None),
+        Core::Call(_, _) => Ok(None),
+        Core::If(_, _, _) => Ok(None),
+        Core::While(_, _) => Ok(None),
+        Core::Assert(_) => Ok(None),
+        Core::Assume(_) => Ok(None),
+    }
+}
+
+/// The same for several statements.
+pub fn targets_again<A: Allocator + Clone>(
+    alloc: &A,
+    stmts: &[&Stmt<A>],
+) -> Result<Option<u32>, AllocError>
+    ensures { IfOk result (λ r. Finds (λ n. AnyOf (λ s. Repeated (targets_of s.head) n) (lent_statements stmts.now)) r) }
+{
+    let mut found = None;
+    for stmt in stmts {
+        found = earlier(found, target_again(alloc, stmt)?);
+    }
+    Ok(found)
+}
+
+/// The least offset of a name that comes again in a procedure.
+pub fn twice_in<A: Allocator + Clone>(alloc: &A, proc: &Proc<A>) -> Result<Option<u32>, AllocError>
+    ensures { IfOk result (λ r. Finds (λ n. IsTwiceIn (proc_of proc.now) n) r) }
+{
+    let formals = lend(&proc.formals, Vec::new(alloc.clone()?))?;
+    let own = lend(&proc.locals, formals)?;
+    let first = repeated(&own);
+    let stmts = flatten(&proc.body, Vec::new(alloc.clone()?))?;
+    let second = targets_again(alloc, &stmts)?;
+    Ok(earlier(first, second))
+}
+
+/// The same for several procedures.
+pub fn twice_among<A: Allocator + Clone>(
+    alloc: &A,
+    procs: &[Proc<A>],
+) -> Result<Option<u32>, AllocError>
+    ensures { IfOk result (λ r. Finds (λ n. AnyOf (λ p. IsTwiceIn p n) (procs_of procs.now)) r) }
+{
+    let mut found = None;
+    for proc in procs {
+        found = earlier(found, twice_in(alloc, proc)?);
+    }
+    Ok(found)
+}
+
+/// The least offset of a name that comes again among the globals, the procedures, the formals and locals of one
+/// procedure, or the targets of one assignment; nothing where none does. An error is a refused growth.
+pub fn first_twice<A: Allocator + Clone>(
+    alloc: &A,
+    program: &Program<A>,
+) -> Result<Option<u32>, AllocError>
+    ensures { IfOk result (λ r. Finds (λ n. DeclaredTwice (tree_of program.now) n) r) }
+{
+    let globals = lend(&program.globals, Vec::new(alloc.clone()?))?;
+    let first = repeated(&globals);
+    let called = proc_names(&program.procs, Vec::new(alloc.clone()?))?;
+    let second = repeated(&called);
+    let third = twice_among(alloc, &program.procs)?;
+    let later = earlier(second, third);
+    Ok(earlier(first, later))
+}
