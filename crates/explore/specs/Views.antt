@@ -1,5 +1,5 @@
 -- What the search's values stand for.
-use Rattle.std.specs.Prelude.{◌≡◌, ℕ, Bool, List, [], ◌∷◌, map}
+use Rattle.std.specs.Prelude.{◌≡◌, ℕ, ◌<◌, Bool, List, [], ◌∷◌, map}
 use Rattle.std.specs.Borrow.{Bor}
 use Rattle.std.specs.declared.vec.Vec.{Vec}
 use Rattle.language.specs.Tree as tree
@@ -10,7 +10,7 @@ use Rattle.language.specs.Value.{AreValues, with_bit, written_globals, written_l
 use Rattle.language.specs.Rest.{Code, join}
 use Rattle.language.specs.Step as step
 use Rattle.language.specs.Step.{Frame, frame, State, Step, Fails, Runs}
-use Rattle.language.specs.Rounds.{Round, FailsInRound}
+use Rattle.language.specs.Rounds.{Round, Rounds, FailsInRound}
 use Rattle.syntax.specs.Trees.{tree_of, proc_of, block_of}
 use Rattle.syntax.specs.declared.tree.Program.{Program}
 use Rattle.syntax.specs.declared.tree.Proc.{Proc}
@@ -85,3 +85,8 @@ abbrev pub RoundMeans : Turn → step.Program → List Bool → List (List Frame
 RoundMeans turn.Failed p g stacks g' stacks' = FailsInRound p g stacks
 RoundMeans turn.Ended p g stacks g' stacks' = Round p g stacks g' stacks'
 RoundMeans turn.Stopped p g stacks g' stacks' = Unit {0}
+
+-- unsafe within n rounds from these globals and stacks
+abbrev pub UnsafeFrom : step.Program → ℕ → List Bool → List (List Frame) → Type 0
+UnsafeFrom p n g stacks =
+    (r : ℕ) × (r < n) × (h : List Bool) × (stacks' : List (List Frame)) × Rounds p r g stacks h stacks' × FailsInRound p h stacks'
