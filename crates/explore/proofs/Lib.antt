@@ -1,2 +1,3 @@
 mod NameLemmas
 mod RestLemmas
+mod StepLemmas

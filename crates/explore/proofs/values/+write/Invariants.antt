@@ -3,4 +3,4 @@ use Rattle.std.proofs.Common.{length}
 use Rattle.explore.proofs.values.+write.Given as goal
 
 abbrev pub decreases-write : goal.decreases-write
-decreases-write g l = length l.targets
+decreases-write g l = length l.targets.now

@@ -1,5 +1,6 @@
 -- The formals come before the locals, and both before the globals.
 use Rattle.std.proofs.Common.{◌≡◌, ◌∙◌, ℕ, List, ◌++◌, ◌+◌, true, false, sym, ap, length}
+use Rattle.std.proofs.lemmas.List.{length-map}
 use Rattle.std.specs.String.{string_bytes}
 use Rattle.language.specs.Resolve.{number_of, is_declared}
 use Rattle.language.specs.Value.{global, local}
@@ -30,7 +31,8 @@ returns-in_ok-place g c =
     sym (c.declares-else-declares.ensures ∙ ap (λ u. is_declared u (names_of c.as_slice-locals.result.now)) c.as_str-text.ensures.value ∙ ap (λ l. is_declared t (names_of l)) c.as_slice-locals.ensures.value) ∙ c.if-declares-2.true in
     let n : c.number-then-declares-2.result ≡ number_of t ls =
     c.number-then-declares-2.ensures ∙ ap (λ u. number_of u (names_of c.as_slice-locals.result.now)) c.as_str-text.ensures.value ∙ ap (λ l. number_of t (names_of l)) c.as_slice-locals.ensures.value in
-    let sum : c.in_ok-place.place ≡ length fs + number_of t ls = ? in
+    let sum : c.in_ok-place.place ≡ length fs + number_of t ls =
+    c.in_ok-place.ensures.1 ∙ ap (λ m. m + c.number-then-declares-2.result) (ap length c.as_slice-formals.ensures.value ∙ sym (length-map c.args.proc.now.formals.items name_of)) ∙ ap (λ m. length fs + m) n in
     ap local (sum ∙ sym (number_second t fs ls no)) ∙ sym (place_declared (scope_at c.args.program.now c.args.proc.now) (name_of c.args.x.now) (declared_second t fs ls no ∙ yes))
 
 pub returns-else-declares-2 : goal.returns-else-declares-2
