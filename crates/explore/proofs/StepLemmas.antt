@@ -4,7 +4,7 @@ use Rattle.std.specs.declared.vec.Vec.{Vec}
 use Rattle.language.specs.Tree as tree
 use Rattle.language.specs.Tree.{Mark, Block, done, skip, assign, assert, assume, goto, leave, call}
 use Rattle.language.specs.Resolve.{Scope, place_of, resolve_side, resolve_block}
-use Rattle.language.specs.Value.{IsValue}
+use Rattle.language.specs.Value.{IsValue, written_locals}
 use Rattle.language.specs.Rest.{Code, join}
 use Rattle.language.specs.Step.{Program, frame, state, Step, Fails}
 use Rattle.syntax.specs.Trees.{Deed, Item, simple, branch, repeat, marked_before, core_step, stmt_step, item_of, deed_of, name_of, names_of, rhs_of, rhss_of, exprs_of, block_of}
@@ -67,7 +67,7 @@ pub assign_step : (p : Program) (g l g' l' : List Bool) (c : ℕ) (s : Scope) (m
     old ≡ with_first s m d b k → new ≡ join (resolve_block s b) k → Step p (state g (frame c l old ∷ [])) (state g' (frame c l' new ∷ []))
 assign_step p g l g' l' c s m d b k old new xs rs is (vs, are, eg, el) eo en =
     subst (λ o. Step p (state g (frame c l o ∷ [])) (state g' (frame c l' new ∷ []))) (sym (eo ∙ ap (λ e. with_first s m e b k) is))
-    (vs, are, ap (λ x. state x _) (sym eg) ∙ ap (λ x. state g' (frame c x _ ∷ [])) (sym el) ∙ ap (λ x. state g' (frame c l' x ∷ [])) (sym en))
+    (vs, are, ap (λ x. state x (frame c (written_locals (map (place_of s) xs) vs l) (join (resolve_block s b) k) ∷ [])) (sym eg) ∙ ap (λ x. state g' (frame c x (join (resolve_block s b) k) ∷ [])) (sym el) ∙ ap (λ x. state g' (frame c l' x ∷ [])) (sym en))
 
 pub assert_step : (p : Program) (g l : List Bool) (c : ℕ) (s : Scope) (m : Mark tree.Name) (d : Deed) (b : Names) (k old new : Code) (r : tree.RightSide tree.Name) →
     d ≡ simple (assert r) → IsValue g l (resolve_side s r) true →

@@ -1,0 +1,4 @@
+use Rattle.explore.proofs.turns.+round.Goals as goal
+
+pub returns-in-Ended : goal.returns-in-Ended
+returns-in-Ended g c = ?
