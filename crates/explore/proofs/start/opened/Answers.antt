@@ -1,0 +1,4 @@
+use Rattle.explore.proofs.start.opened.Goals as goal
+
+pub returns : goal.returns
+returns g c = ?
