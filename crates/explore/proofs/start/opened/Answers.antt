@@ -34,7 +34,7 @@ returns g c =
     let fs = q.formals.items in
     let ls = q.locals.items in
     let places : c.in-Some-checked_add.places ≡ length (names_of fs ++ names_of ls) =
-    c.in-Some-checked_add.ensures.1 ∙ ap (λ k. k + c.len-2.result) (c.len.ensures ∙ sym (length-map fs name_of)) ∙ ap (λ k. length (names_of fs) + k) (c.len-2.ensures ∙ sym (length-map ls name_of)) ∙ sym (length-append (names_of fs) (names_of ls)) in
+    c.in-Some-checked_add.ensures.1 ∙ ap (λ k. k + c.len-2.result) (c.len.ensures ∙ q.formals.ok.0 ∙ sym (length-map fs name_of)) ∙ ap (λ k. length (names_of fs) + k) (c.len-2.ensures ∙ q.locals.ok.0 ∙ sym (length-map ls name_of)) ∙ sym (length-append (names_of fs) (names_of ls)) in
     let locals : c.in_ok-locals.locals.items ≡ zeros r.places = c.in_ok-locals.ensures ∙ ap zeros places in
     let code : code_at s c.push.new.self.items ≡ r.body =
     pushed s c.push.new.self.items c.new-rest.result.items c.as_slice-2.result q.body.items c.in_ok-push.ensures.items c.as_slice-2.ensures.value
