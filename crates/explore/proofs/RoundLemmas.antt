@@ -19,13 +19,6 @@ round_length p g [] g' stacks' f = ap length f.1
 round_length p g (s ∷ stacks) g' [] f = absurd f
 round_length p g (s ∷ stacks) g' (t ∷ stacks') (h, turn, more) = let e = round_length p h stacks g' stacks' more in omega (arith, e)
 
--- a turn, and what the others do after it
-pub turn_then : {E : Type 0} (p : Program) (g h g' : List Bool) (stack stack' : List Frame) (stacks stacks' : List (List Frame)) (r : Result Turn E) → TurnMeans Ended p (state g stack) (state h stack') →
-    IfOk r (λ o. RoundMeans o p h stacks g' stacks') → IfOk r (λ o. RoundMeans o p g (stack ∷ stacks) g' (stack' ∷ stacks'))
-turn_then p g h g' stack stack' stacks stacks' (Err e) turn f = tt
-turn_then p g h g' stack stack' stacks stacks' (Ok Failed) turn f = inr (h, stack', turn, f)
-turn_then p g h g' stack stack' stacks stacks' (Ok Ended) turn f = (h, turn, f)
-turn_then p g h g' stack stack' stacks stacks' (Ok Stopped) turn f = tt
-
+-- the stack of a thread that starts in a procedure that is there
 pub started : (rs : List Routine) (n : ℕ) (r : Routine) → slice_get rs n ≡ Some r → starting_stack rs n ≡ frame n (zeros r.places) r.body ∷ []
 started rs n r e = rw e refl

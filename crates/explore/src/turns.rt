@@ -57,12 +57,12 @@ pub(crate) fn round<'a, N: Allocator, A: Allocator + Copy>(
 ) -> Result<Turn, AllocError>
     ensures { IfOk result (λ o. RoundMeans o (program_of program.now) globals.old.items (stacks_of program.now threads.old) globals.new.items (stacks_of program.now threads.new)) }
 {
-    let Some((first, others)) = threads.split_first_mut() else {
-        return Ok(Turn::Ended);
-    };
-    match take_turn(alloc, program, globals, first, bits)? {
-        Turn::Failed => Ok(Turn::Failed),
-        Turn::Stopped => Ok(Turn::Stopped),
-        Turn::Ended => round(alloc, program, globals, others, bits),
+    for i in 0..threads.len() {
+        match take_turn(alloc, program, globals, &mut threads[i], bits)? {
+            Turn::Failed => return Ok(Turn::Failed),
+            Turn::Stopped => return Ok(Turn::Stopped),
+            Turn::Ended => {}
+        }
     }
+    Ok(Turn::Ended)
 }
