@@ -1,11 +1,9 @@
 -- Rounds, and what is unsafe after one.
-use Rattle.std.proofs.Common.{◌≡◌, ℕ, suc, ◌<◌, ◌≤◌, ◌-◌, ◌+◌, List, [], ◌∷◌, Bool, length, ap, arith, inl, inr, refl}
-use Rattle.std.specs.Prelude.{Result, Ok, Err, IfOk, slice_get, Some}
-use Rattle.language.specs.Step.{Program, Frame, frame, Routine, state, zeros}
+use Rattle.std.proofs.Common.{◌≡◌, ℕ, suc, ◌<◌, ◌≤◌, ◌+◌, List, [], ◌∷◌, Bool, length, ap, arith, refl}
+use Rattle.std.specs.Prelude.{slice_get, Some}
+use Rattle.language.specs.Step.{Program, Frame, frame, Routine, zeros}
 use Rattle.language.specs.Rounds.{Round, FailsInRound, starting_stack}
-use Rattle.explore.specs.declared.turns.Turn.{Turn}
-use Rattle.explore.specs.declared.turns.Turn.TheVariants.{Failed, Ended, Stopped}
-use Rattle.explore.specs.Views.{UnsafeFrom, RoundMeans, TurnMeans}
+use Rattle.explore.specs.Views.{UnsafeFrom}
 
 pub failing_now : (p : Program) (n : ℕ) (g : List Bool) (stacks : List (List Frame)) → 0 < n → FailsInRound p g stacks → UnsafeFrom p n g stacks
 failing_now p n g stacks some f = (0, some, g, stacks, (refl, refl), f)

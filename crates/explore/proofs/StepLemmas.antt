@@ -1,5 +1,5 @@
 -- The equations of the folds over statements, and the step of each kind of statement.
-use Rattle.std.proofs.Common.{◌≡◌, ℕ, List, [], ◌∷◌, Bool, true, false, cond, map, refl, sym, ◌∙◌, ap, subst}
+use Rattle.std.proofs.Common.{◌≡◌, ℕ, List, [], ◌∷◌, Bool, true, false, cond, map, sym, ◌∙◌, ap, subst}
 use Rattle.std.specs.declared.vec.Vec.{Vec}
 use Rattle.language.specs.Tree as tree
 use Rattle.language.specs.Tree.{Mark, Block, done, skip, assign, assert, assume, goto, leave, call}
@@ -12,7 +12,6 @@ use Rattle.syntax.specs.declared.tree.Name.{Name}
 use Rattle.syntax.specs.declared.tree.Expr.{Expr}
 use Rattle.syntax.specs.declared.tree.Rhs.{Rhs}
 use Rattle.syntax.specs.declared.tree.Stmt.{Stmt}
-use Rattle.syntax.specs.declared.tree.Core.{Core}
 use Rattle.syntax.specs.declared.tree.Core.TheVariants.{Skip, Assign, If, While, Assert, Assume, Goto, Return, Call, rolls-Assign, rolls-Skip, rolls-Assert, rolls-If, rolls-While, rolls-Assume, rolls-Goto, rolls-Return, rolls-Call}
 use Rattle.syntax.specs.declared.tree.Core.TheOpen as layer
 use Rattle.syntax.specs.declared.tree.Core.TheFolds.{fold-roll-Core, fold_out-Stmt}

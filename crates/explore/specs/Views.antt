@@ -1,7 +1,6 @@
 -- What the search's values stand for.
 use Rattle.std.specs.Prelude.{◌≡◌, ℕ, ◌<◌, Bool, List, [], ◌∷◌, map}
 use Rattle.std.specs.Borrow.{Bor}
-use Rattle.std.specs.declared.vec.Vec.{Vec}
 use Rattle.language.specs.Tree as tree
 use Rattle.language.specs.Tree.{RightSide, done}
 use Rattle.language.specs.Resolve.{Scope, scope_of, place_of, resolve_side, resolve_block, meaning_of}

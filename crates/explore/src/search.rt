@@ -27,7 +27,13 @@ fn replay<N: Allocator, A: Allocator + Copy>(
         return Ok(false);
     };
     for _ in 0..rounds {
-        match round(alloc, program, &mut globals, threads.as_mut_slice(), &mut bits)? {
+        match round(
+            alloc,
+            program,
+            &mut globals,
+            threads.as_mut_slice(),
+            &mut bits,
+        )? {
             Turn::Failed => return Ok(true),
             Turn::Stopped => return Ok(false),
             Turn::Ended => {}
@@ -46,7 +52,11 @@ pub fn finds_failure<N: Allocator, A: Allocator + Copy>(
 ) -> Result<bool, AllocError>
     ensures { IfOk result (λ b. IsTrue b → Unsafe (program_of program.now) rounds) }
 {
-    let left = if decisions < DECISIONS { decisions } else { DECISIONS };
+    let left = if decisions < DECISIONS {
+        decisions
+    } else {
+        DECISIONS
+    };
     for mask in 0..(1u32 << left) {
         if replay(alloc, program, rounds, Bits { mask, left })? {
             return Ok(true);

@@ -9,7 +9,7 @@ ghost use Rattle.syntax.specs.Trees.{procs_of};
 
 use crate::thread::Thread;
 use std::alloc::{AllocError, Allocator};
-use syntax::{Program, Proc};
+use syntax::{Proc, Program};
 
 /// So many values of 0.
 pub(crate) fn all_zero<A: Allocator>(alloc: A, count: usize) -> Result<Vec<bool, A>, AllocError>

@@ -43,7 +43,16 @@ pub(crate) fn step<'a, N: Allocator, A: Allocator + Copy>(
             Ok(Outcome::Stepped)
         }
         Core::Assign(xs, rs) => {
-            if !assign(alloc, program, proc, globals, &mut thread.locals, xs, rs, bits)? {
+            if !assign(
+                alloc,
+                program,
+                proc,
+                globals,
+                &mut thread.locals,
+                xs,
+                rs,
+                bits,
+            )? {
                 return Ok(Outcome::Stuck);
             }
             thread.rest.push(more)?;

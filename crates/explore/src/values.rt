@@ -43,11 +43,7 @@ fn declares<N: Allocator>(names: &[Name<N>], text: &str) -> bool
 }
 
 /// The place of a variable of a procedure; `None` only where its number would not fit.
-fn stands_for<N: Allocator>(
-    program: &Program<N>,
-    proc: &Proc<N>,
-    x: &Name<N>,
-) -> Option<Place>
+fn stands_for<N: Allocator>(program: &Program<N>, proc: &Proc<N>, x: &Name<N>) -> Option<Place>
     ensures { IfSome result (λ p. place_seen p ≡ place_of (scope_at program.now proc.now) (name_of x.now)) }
 {
     let text = x.text.as_str();

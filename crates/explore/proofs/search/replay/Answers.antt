@@ -1,7 +1,6 @@
 -- One round more.
-use Rattle.std.proofs.Common.{◌≡◌, ◌∙◌, ◌<◌, ◌≤◌, ◌-◌, ◌+◌, ◌++◌, List, Bool, subst, sym, ap, arith, take, drop, length}
+use Rattle.std.proofs.Common.{◌≡◌, ◌∙◌, ◌-◌, ◌+◌, ◌++◌, List, Bool, subst, sym, ap, arith, take, drop, length}
 use Rattle.std.proofs.lemmas.List.{take_all, drop_all, append-nil, length-map}
-use Rattle.language.specs.Step.{Frame}
 use Rattle.language.specs.Rounds.{Round, FailsInRound}
 use Rattle.explore.specs.Views.{program_of, stack_of, stacks_of, RoundMeans, UnsafeFrom}
 use Rattle.explore.proofs.RoundLemmas.{failing_now, failing_later, round_length}
@@ -15,7 +14,7 @@ returns-in-Failed g c so =
     let means : FailsInRound p before (stacks_of program c.as_mut_slice.result.now) =
     subst (λ o. RoundMeans o p before (stacks_of program c.as_mut_slice.result.now) c.round.new.globals.items (stacks_of program c.round.new.threads)) c.in-Failed.is c.in_ok-round.ensures in
     c.loop.invariant (failing_now p (c.args.rounds - c.loop.counter) before (stacks_of program c.loop.threads.items) (omega (arith, c.loop-test.true))
-      (subst (λ ts. FailsInRound p before (stacks_of program ts)) c.as_mut_slice.ensures.value means))
+    (subst (λ ts. FailsInRound p before (stacks_of program ts)) c.as_mut_slice.ensures.value means))
 
 pub loop-preserved : goal.loop-preserved
 loop-preserved g c u =
@@ -33,4 +32,4 @@ loop-preserved g c u =
     let same : take c.loop.threads.len (new ++ drop (length new) old) ≡ new =
     ap (λ l. take c.loop.threads.len (new ++ l)) (drop_all (length new) old (omega (arith, even))) ∙ ap (take c.loop.threads.len) (append-nil new) ∙ take_all c.loop.threads.len new (omega (arith, even, whole)) in
     c.loop.invariant (failing_later p (c.args.rounds - (c.loop.counter + 1)) (c.args.rounds - c.loop.counter) before after (stacks_of program old) (stacks_of program new) (omega (arith, c.loop-test.true)) round
-      (subst (λ ts. UnsafeFrom p (c.args.rounds - (c.loop.counter + 1)) after (stacks_of program ts)) same u))
+    (subst (λ ts. UnsafeFrom p (c.args.rounds - (c.loop.counter + 1)) after (stacks_of program ts)) same u))

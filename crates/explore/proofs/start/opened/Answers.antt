@@ -1,11 +1,10 @@
 -- A fresh frame of the procedure.
-use Rattle.std.proofs.Common.{◌≡◌, ◌∙◌, ◌+◌, ◌++◌, ◌∷◌, [], List, Bool, Some, map, length, sym, ap, subst, refl}
+use Rattle.std.proofs.Common.{◌≡◌, ◌∙◌, ◌+◌, ◌++◌, ◌∷◌, [], Some, map, length, sym, ap, subst, refl}
 use Rattle.std.proofs.lemmas.List.{length-map, length-append}
 use Rattle.std.proofs.lemmas.Option.{slice_get-map, slice_get_read}
 use Rattle.std.specs.Prelude.{slice_get, option_map}
 use Rattle.language.specs.Tree.{Procedure}
 use Rattle.language.specs.Step.{frame, zeros}
-use Rattle.language.specs.Rest.{join}
 use Rattle.language.specs.Resolve.{number_of, routine_of, resolve_block}
 use Rattle.language.specs.Rounds.{starting_stack}
 use Rattle.language.proofs.Rests.{join_done}

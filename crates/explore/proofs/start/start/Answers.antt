@@ -1,9 +1,8 @@
 -- One line more.
-use Rattle.std.proofs.Common.{◌≡◌, ◌∙◌, ◌+◌, ◌++◌, ◌∷◌, [], ℕ, List, map, length, take, drop, sym, ap, subst}
+use Rattle.std.proofs.Common.{◌≡◌, ◌∙◌, ◌+◌, ◌++◌, ◌∷◌, [], ℕ, map, take, sym, ap, subst}
 use Rattle.std.specs.Prelude.{IfSome}
 use Rattle.std.proofs.lemmas.List.{take_more, take_all, map-append}
 use Rattle.language.specs.Tree.{Procedure, ThreadLine}
-use Rattle.language.specs.Step.{Frame}
 use Rattle.language.specs.Resolve.{number_of}
 use Rattle.language.specs.Rounds.{starting_stack}
 use Rattle.syntax.specs.Trees.{procs_of, thread_of, threads_of}

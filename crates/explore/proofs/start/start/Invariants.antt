@@ -11,5 +11,5 @@ abbrev pub invariant-loop-line : goal.invariant-loop-line
 invariant-loop-line g l =
     stacks_of l.program l.threads.items
     ≡ map (starting_stack (program_of l.program).routines)
-        (map (λ (line : ThreadLine). number_of line.name.text (map (λ (q : Procedure). q.name) (procs_of l.program.procs.items)))
-          (threads_of (take l.line-index l.program.threads.items)))
+    (map (λ (line : ThreadLine). number_of line.name.text (map (λ (q : Procedure). q.name) (procs_of l.program.procs.items)))
+    (threads_of (take l.line-index l.program.threads.items)))

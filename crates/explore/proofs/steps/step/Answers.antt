@@ -1,6 +1,5 @@
 -- The step of each kind of statement.
-use Rattle.std.proofs.Common.{◌≡◌, ◌∙◌, ◌∷◌, true, false, cond, refl, sym, ap, subst}
-use Rattle.std.specs.Prelude.{IsTrue}
+use Rattle.std.proofs.Common.{◌≡◌, ◌∙◌, true, false, cond, refl, sym, ap, subst}
 use Rattle.language.specs.Resolve.{resolve_block, resolve_side}
 use Rattle.language.specs.Rest.{Code, join}
 use Rattle.language.specs.Value.{IsValue}

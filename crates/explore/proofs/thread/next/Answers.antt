@@ -1,5 +1,5 @@
 -- What is taken off comes first; what is empty changes nothing.
-use Rattle.std.proofs.Common.{◌≡◌, ◌∙◌, List, [], sym, ap, length}
+use Rattle.std.proofs.Common.{◌≡◌, ◌∙◌, sym, ap, length}
 use Rattle.std.proofs.lemmas.List.{nil_from_length}
 use Rattle.std.proofs.lemmas.Bool.{eqb-true}
 use Rattle.language.specs.Resolve.{resolve_block}
@@ -18,4 +18,4 @@ pub loop-top-preserved : goal.loop-top-preserved
 loop-top-preserved g c s =
     let none : length c.in-Some.top.now ≡ 0 = eqb-true (length c.in-Some.top.now) 0 (sym c.is_empty.ensures ∙ c.if-not-is_empty.false) in
     ap (λ l. join (resolve_block s (block_of l)) (code_at s c.pop.new.self.items)) (sym (nil_from_length c.in-Some.top.now none))
-    ∙ sym (sym (c.loop-top.invariant s) ∙ ap (code_at s) c.in-Some.ensures.items ∙ code_push s done c.pop.new.self.items c.in-Some.top) 
+    ∙ sym (sym (c.loop-top.invariant s) ∙ ap (code_at s) c.in-Some.ensures.items ∙ code_push s done c.pop.new.self.items c.in-Some.top)

@@ -1,7 +1,7 @@
 -- One turn more of the round.
 use Rattle.std.proofs.Common.{◌≡◌, ◌∙◌, ◌<◌, ◌+◌, ◌++◌, ◌∷◌, [], List, Bool, take, drop, set, get_or, length, subst, sym, ap, arith, inl, inr, refl}
 use Rattle.std.proofs.lemmas.List.{drop_more, drop_all, drop-set-lt, take_more_set, take_all, append-nil, append_assoc, map-append}
-use Rattle.language.specs.Step.{Frame, state}
+use Rattle.language.specs.Step.{state}
 use Rattle.language.specs.Rounds.{Round, FailsInRound}
 use Rattle.explore.specs.Views.{program_of, stack_of, stacks_of, TurnMeans}
 use Rattle.explore.proofs.turns.round.Goals as goal
@@ -25,10 +25,10 @@ loop-i-preserved g c =
     ap (stacks_of program) (take_more_set ts i y inside) ∙ map-append (stack_of program) (take i ts) (y ∷ []) in (
       λ f. c.loop-i.invariant.0 (subst (FailsInRound p before) (sym left) (inr (mid, stack_of program y, turn, subst (λ l. FailsInRound p mid (stacks_of program l)) same f))),
       λ h later r.
-      let whole : Round p c.args.globals.now.items (stacks_of program c.args.threads.now) h (stacks_of program (take i ts) ++ (stack_of program y ∷ later)) =
-      c.loop-i.invariant.1 h (stack_of program y ∷ later) (subst (λ l. Round p before l h (stack_of program y ∷ later)) (sym left) (mid, turn, subst (λ l. Round p mid (stacks_of program l) h later) same r)) in
-      subst (λ l. Round p c.args.globals.now.items (stacks_of program c.args.threads.now) h l)
-      (sym (append_assoc (stacks_of program (take i ts)) (stack_of program y ∷ []) later) ∙ ap (λ l. l ++ later) (sym taken)) whole,
+          let whole : Round p c.args.globals.now.items (stacks_of program c.args.threads.now) h (stacks_of program (take i ts) ++ (stack_of program y ∷ later)) =
+          c.loop-i.invariant.1 h (stack_of program y ∷ later) (subst (λ l. Round p before l h (stack_of program y ∷ later)) (sym left) (mid, turn, subst (λ l. Round p mid (stacks_of program l) h later) same r)) in
+          subst (λ l. Round p c.args.globals.now.items (stacks_of program c.args.threads.now) h l)
+          (sym (append_assoc (stacks_of program (take i ts)) (stack_of program y ∷ []) later) ∙ ap (λ l. l ++ later) (sym taken)) whole,
     )
 
 pub returns-in-Failed : goal.returns-in-Failed

@@ -1,6 +1,6 @@
 -- One step more of the turn.
 use Rattle.std.proofs.Common.{subst}
-use Rattle.language.specs.Step.{State, state, Fails, Step}
+use Rattle.language.specs.Step.{State, state}
 use Rattle.language.proofs.Runs.{step_runs, no_steps}
 use Rattle.explore.specs.Views.{program_of, stack_of, StepMeans}
 use Rattle.explore.proofs.turns.take_turn.Goals as goal

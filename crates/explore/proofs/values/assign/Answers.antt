@@ -1,5 +1,5 @@
 -- The values are computed at the old globals and places.
-use Rattle.std.proofs.Common.{◌≡◌, ◌∙◌, List, Bool, map, sym, ap, subst}
+use Rattle.std.proofs.Common.{◌∙◌, List, Bool, map, ap, subst}
 use Rattle.std.specs.Prelude.{IfSome}
 use Rattle.language.specs.Resolve.{place_of, resolve_side}
 use Rattle.language.specs.Value.{AreValues, written_globals, written_locals}
