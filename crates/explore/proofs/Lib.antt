@@ -1,0 +1,4 @@
+mod NameLemmas
+mod RestLemmas
+mod StepLemmas
+mod RoundLemmas
