@@ -7,7 +7,7 @@ use Rattle.language.specs.Resolve.{number_of, is_declared, Scope, place_of, reso
 use Rattle.round_rewrite.specs.Table.{Naming, numbers, plain, each, guess, guesses, starts, check, checks, main}
 use Rattle.round_rewrite.specs.Places.{places, copy_at, save_at, all_globals}
 use Rattle.round_rewrite.specs.Names.{copy_name, save_name, names}
-use Rattle.round_rewrite.specs.Rewritable.{AreFree, AreDistinct, EachLine}
+use Rattle.scopes.specs.Rewritable.{AreFree, AreDistinct, EachLine}
 use Rattle.round_rewrite.proofs.Spelling.{same_text_refl, same_text_false}
 use Rattle.round_rewrite.proofs.Numbering.{number_right}
 use Rattle.round_rewrite.proofs.Placing.{scope, wider, copy_place, save_place}

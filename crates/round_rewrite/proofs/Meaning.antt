@@ -12,7 +12,8 @@ use Rattle.round_rewrite.specs.Table.{Naming, numbers, temporaries, rewritten, m
 use Rattle.round_rewrite.specs.Places.{places, is_global, bits_at, rewritten_routine, main_routine, rewritten_program}
 use Rattle.round_rewrite.specs.Names.{named, copy_name, save_name, drawn_name, names, rewritten_procedure, main_procedure, rewritten_tree}
 use Rattle.round_rewrite.specs.Scoped.{PlaceInScope, InScope, AreInScope, SideInScope, SidesInScope, PlacesInScope, SimpleInScope, Throughout, EachRoutine, EachThread, RoutineInScope, FitsScopes}
-use Rattle.round_rewrite.specs.Rewritable.{has_double, AreFree, Declared, AllDeclared, ExpressionDeclared, ExpressionsDeclared, SideDeclared, SidesDeclared, HasRoom, SimpleDeclared, BlockDeclared, ProcedureRewritable, EachProcedure, EachLine, IsRewritable, width, IsNarrow}
+use Rattle.scopes.specs.Rewritable.{has_double, AreFree, Declared, AllDeclared, ExpressionDeclared, ExpressionsDeclared, SideDeclared, SidesDeclared, HasRoom, SimpleDeclared, BlockDeclared, ProcedureRewritable, EachProcedure, EachLine, IsRewritable}
+use Rattle.round_rewrite.specs.Narrow.{width, IsNarrow}
 use Rattle.round_rewrite.specs.Law.{SomeBad, Keeps, KeepsTree}
 use Rattle.round_rewrite.proofs.Spelling.{free_differs}
 use Rattle.round_rewrite.proofs.Numbering.{free_name, length-rows}

@@ -4,7 +4,7 @@ use Rattle.language.specs.Tree.{Name}
 use Rattle.language.specs.Rest.{same_text}
 use Rattle.language.specs.Resolve.{number_of, is_declared}
 use Rattle.round_rewrite.specs.Table.{Naming, numbers, copied}
-use Rattle.round_rewrite.specs.Rewritable.{has_double, AreFree}
+use Rattle.scopes.specs.Rewritable.{has_double, AreFree}
 use Rattle.round_rewrite.proofs.Spelling.{same_text_true, free_differs}
 
 declared_step : (c : Bool) (r r' : Bool) → cond c true r ≡ true → (c ≡ true) ⊎ (r ≡ true)

@@ -8,7 +8,7 @@ use Rattle.language.specs.Resolve.{number_of, is_declared, Scope, place_of, reso
 use Rattle.round_rewrite.specs.Table.{Naming, numbers, plain, literal, at, joined, read, expression, side, written, rounds, targets, sides, draws, temporaries, drawing, stop_test, prologue, statement, rewritten}
 use Rattle.round_rewrite.specs.Places.{places, is_global, copy_at, bits_at}
 use Rattle.round_rewrite.specs.Names.{named, copy_name, drawn_name, names}
-use Rattle.round_rewrite.specs.Rewritable.{AreFree, Declared, AllDeclared, ExpressionDeclared, ExpressionsDeclared, SideDeclared, SidesDeclared, SimpleDeclared, BlockDeclared}
+use Rattle.scopes.specs.Rewritable.{AreFree, Declared, AllDeclared, ExpressionDeclared, ExpressionsDeclared, SideDeclared, SidesDeclared, SimpleDeclared, BlockDeclared}
 use Rattle.round_rewrite.proofs.Placing.{scope, wider, copy_place, kept_place, drawn_place, high_place, low_bit_place, stop_place, bad_place}
 
 -- a test made once

@@ -7,7 +7,7 @@ use Rattle.std.proofs.lemmas.Fmt.{decimal_injective}
 use Rattle.std.specs.Prelude.{decimal}
 use Rattle.std.specs.Fmt.{digits}
 use Rattle.language.specs.Rest.{same_text}
-use Rattle.round_rewrite.specs.Rewritable.{begins_low, has_double}
+use Rattle.scopes.specs.Rewritable.{begins_low, has_double}
 
 pub same_text_true : (a b : List ℕ) → same_text a b ≡ true → a ≡ b
 same_text_true a b h = (bytes_eq-Decides a b).0 h

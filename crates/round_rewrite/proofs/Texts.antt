@@ -11,7 +11,8 @@ use Rattle.round_rewrite.specs.Law.{SomeBad}
 use Rattle.round_rewrite.proofs.Meaning.{keeps_tree}
 use Rattle.round_rewrite.specs.Table.{plain}
 use Rattle.round_rewrite.specs.Names.{named, rewritten_tree}
-use Rattle.round_rewrite.specs.Rewritable.{IsRewritable, IsNarrow}
+use Rattle.scopes.specs.Rewritable.{IsRewritable}
+use Rattle.round_rewrite.specs.Narrow.{IsNarrow}
 use Rattle.language.specs.Sequential.{statements}
 
 abbrev n : List ℕ → Name

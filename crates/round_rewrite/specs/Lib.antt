@@ -3,4 +3,4 @@ pub mod Places
 pub mod Names
 pub mod Scoped
 pub mod Law
-pub mod Rewritable
+pub mod Narrow

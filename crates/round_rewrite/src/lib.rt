@@ -8,7 +8,8 @@ ghost use Rattle.std.specs.Prelude.{ℕ, ◌<◌};
 ghost use Rattle.language.specs.Tree.{Tree};
 ghost use Rattle.language.specs.Step.{Program};
 ghost use Rattle.round_rewrite.specs.Law.{Keeps, KeepsTree};
-ghost use Rattle.round_rewrite.specs.Rewritable.{IsRewritable, IsNarrow};
+ghost use Rattle.scopes.specs.Rewritable.{IsRewritable};
+ghost use Rattle.round_rewrite.specs.Narrow.{IsNarrow};
 ghost use Rattle.round_rewrite.specs.Scoped.{FitsScopes};
 
 /// The rewriting theorem, over the names that are printed: for 1 to 4 rounds (`last` + 1 of them), a tree

@@ -102,12 +102,15 @@ abbrev pub GoesNowhere : List Name → ℕ → Head → Type 0
 GoesNowhere labels n (plain (goto l)) = IsUnknown labels n l
 GoesNowhere labels n _ = ⊥
 
+-- a goto of the procedure names at n none of its labels, or a label of it comes again at n
+abbrev pub MislabelledIn : ℕ → Procedure → Type 0
+MislabelledIn n p =
+    AnyOf (λ (s : Statement). GoesNowhere (labels_of (statements_of p.body)) n s.head) (statements_of p.body)
+    ⊎ Repeated (labels_of (statements_of p.body)) n
+
 -- a goto names at n no label of its procedure, or a label of a procedure comes again at n
 abbrev pub BadLabel : Tree → ℕ → Type 0
-BadLabel t n =
-    AnyOf (λ (p : Procedure). let labels = labels_of (statements_of p.body) in
-    AnyOf (λ (s : Statement). GoesNowhere labels n s.head) (statements_of p.body) ⊎ Repeated labels n)
-    t.procedures
+BadLabel t n = AnyOf (MislabelledIn n) t.procedures
 
 -- two underscores stand side by side in the text
 abbrev pub HasTwoUnderscores : List ℕ → Type 0
@@ -117,14 +120,16 @@ HasTwoUnderscores text = (k : ℕ) × (slice_index text k ≡ 95) × (slice_inde
 abbrev pub IsReserved : List Name → ℕ → Type 0
 IsReserved xs n = AnyOf (λ (x : Name). (x.at ≡ n) × HasTwoUnderscores x.text) xs
 
+-- a formal, a local or a label of the procedure at n has two underscores in a row
+abbrev pub ReservedIn : ℕ → Procedure → Type 0
+ReservedIn n p = IsReserved (p.formals ++ p.locals) n ⊎ IsReserved (labels_of (statements_of p.body)) n
+
 -- a declared variable, procedure or label at n has two underscores in a row
 abbrev pub Reserved : Tree → ℕ → Type 0
 Reserved t n =
     IsReserved t.globals n
     ⊎ (IsReserved (names t.procedures) n
-    ⊎ AnyOf (λ (p : Procedure).
-    IsReserved (p.formals ++ p.locals) n ⊎ IsReserved (labels_of (statements_of p.body)) n)
-    t.procedures)
+    ⊎ AnyOf (ReservedIn n) t.procedures)
 
 -- the 32nd procedure has its name at n, the 9th thread line stands at n, or the 1,001st statement of the whole
 -- text does

@@ -1,3 +1,6 @@
 pub mod Find
 pub mod Statements
 pub mod Faults
+pub mod Checked
+pub mod Resolves
+pub mod Rewritable

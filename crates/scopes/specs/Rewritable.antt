@@ -1,8 +1,7 @@
 -- What the rewriting theorem over names asks of a text's tree. A program without scope faults has it.
-use Rattle.std.specs.Prelude.{◌≡◌, ℕ, ◌+◌, ◌≤◌, Bool, true, false, List, [], ◌∷◌, ◌++◌, ◌&&◌, ◌||◌, Option, Some, None, length, map, nat_eq, slice_get}
+use Rattle.std.specs.Prelude.{◌≡◌, ℕ, ◌≤◌, Bool, true, false, List, [], ◌∷◌, ◌++◌, ◌&&◌, ◌||◌, Option, Some, None, length, map, nat_eq, slice_get}
 use Rattle.language.specs.Tree.{Name, Expression, const, var, negation, two, RightSide, any, value, Simple, skip, assign, assert, assume, goto, leave, call, Block, done, one, choose, loop, Procedure, ThreadLine, Tree}
 use Rattle.language.specs.Resolve.{is_declared, number_of, Scope, scope_of}
-use Rattle.round_rewrite.specs.Names.{rewritten_tree}
 
 -- the text begins with an underscore
 abbrev pub begins_low : List ℕ → Bool
@@ -102,11 +101,3 @@ pub record IsRewritable (t : Tree) : Type 0 where
   pub distinct : AreDistinct t.globals
   pub procedures : EachProcedure (ProcedureRewritable t) t.procedures
   pub threads : EachLine (map (λ (p : Procedure). p.name) t.procedures) t.threads
-
--- how many places a procedure's valuations have: the globals, formals and locals
-abbrev pub width : Tree → Procedure → ℕ
-width t p = length t.globals + length (p.formals ++ p.locals)
-
--- every procedure of the rewritten tree has at most 64 places
-abbrev pub IsNarrow : ℕ → Tree → Type 0
-IsNarrow last t = EachProcedure (λ (p : Procedure). width (rewritten_tree last t) p ≤ 64) (rewritten_tree last t).procedures
