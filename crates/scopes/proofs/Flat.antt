@@ -2,9 +2,10 @@
 use Rattle.std.proofs.Common.{◌≡◌, ℕ, ◌+◌, ◌<◌, ◌≤◌, List, [], ◌∷◌, ◌++◌, length, map, drop, get_or, refl, sym, ◌∙◌, ap, append_assoc, append-nil, zero, suc, arith, length-append}
 use Rattle.std.proofs.lemmas.List.{drop_more, drop_all}
 use Rattle.language.specs.Tree.{Name, Mark, Block, done}
-use Rattle.syntax.specs.Trees.{Deed, simple, branch, repeat, Item, item_of, items_of, all_before, before, marked_before, block_of, deed_of}
+use Rattle.syntax.specs.Trees.{Deed, simple, branch, repeat, Item, item_of, items_of, all_before, before, marked_before, block_of, deed_of, proc_of, procs_of}
+use Rattle.syntax.specs.declared.tree.Proc.{Proc}
 use Rattle.syntax.specs.declared.tree.Stmt.{Stmt}
-use Rattle.scopes.specs.Statements.{Statement, statement_of, statements_of, head_of, inside}
+use Rattle.scopes.specs.Statements.{Statement, statement_of, statements_of, statements_of_all, head_of, inside}
 use Rattle.scopes.proofs.Heads.{item_is}
 
 put : (m : Mark Name) (d : Deed) (k : Block Name Name Name) → statements_of (marked_before m d k) ≡ record { mark = m; head = head_of d } ∷ (inside d ++ statements_of k)
@@ -69,3 +70,14 @@ smaller (x ∷ l) (suc i) s lt is =
     ap length (first x l) ∙ length-append (statement_of x ∷ inside (deed_of x.core)) (statements_of (block_of l)) in
     let f : length (inside (deed_of s.core)) + 1 ≤ length (statements_of (block_of l)) = smaller l i s (omega arith) is in
     omega arith
+
+-- a loop that puts the statements of procedures behind others
+pub one_procedure : {A : Type 0} (l : List (Proc A)) (i : ℕ) (p : Proc A) (old new w : List Statement)
+    → i < length l → p ≡ get_or l i p → old ++ statements_of_all (procs_of (drop i l)) ≡ w
+    → new ≡ old ++ statements_of (proc_of p).body
+    → new ++ statements_of_all (procs_of (drop (i + 1) l)) ≡ w
+one_procedure {A} l i p old new w lt is h e =
+    ap (λ (x : List Statement). x ++ statements_of_all (procs_of (drop (i + 1) l))) e
+    ∙ append_assoc old (statements_of (proc_of p).body) (statements_of_all (procs_of (drop (i + 1) l)))
+    ∙ ap (λ (x : List (Proc A)). old ++ statements_of_all (procs_of x)) (sym (drop_more l i p lt ∙ ap (λ (y : Proc A). y ∷ drop (i + 1) l) (sym is)))
+    ∙ h

@@ -1,5 +1,5 @@
 -- Putting searches for the least offset together.
-use Rattle.std.proofs.Common.{◌≡◌, ℕ, ◌+◌, ◌<◌, ◌≤◌, nat_le, nat_eq, ◌&&◌, rules, Bool, true, false, cond, List, [], ◌∷◌, ◌++◌, length, map, drop, get_or, Option, Some, None, ◌⊎◌, inl, inr, refl, sym, ◌∙◌, ap, subst, arith}
+use Rattle.std.proofs.Common.{◌≡◌, ◌≢◌, ℕ, ◌+◌, ◌<◌, ◌≤◌, nat_le, nat_eq, ◌&&◌, rules, Bool, true, false, cond, List, [], ◌∷◌, ◌++◌, length, map, drop, get_or, Option, Some, None, ◌⊎◌, inl, inr, refl, sym, ◌∙◌, ap, subst, arith}
 use Rattle.std.proofs.lemmas.List.{drop_more, drop_all}
 use Rattle.std.proofs.lemmas.Bool.Decides.{leb_tells}
 use Rattle.std.specs.Str.{bytes_eq}
@@ -154,3 +154,8 @@ moved {X} P x y r e h = subst (λ (z : X). Finds (λ n. P z n) r) (sym e) h
 pub in_both_of : {X : Type 0} (P : X → ℕ → Type 0) (xs ys zs : List X) (a b r : Option ℕ) → r ≡ earlier_of a b → zs ≡ xs ++ ys → Finds (λ n. AnyOf (λ x. P x n) xs) a → Finds (λ n. AnyOf (λ x. P x n) ys) b → Finds (λ n. AnyOf (λ x. P x n) zs) r
 in_both_of {X} P xs ys zs a b r e f h k =
     subst (λ (o : Option ℕ). Finds (λ n. AnyOf (λ x. P x n) zs) o) (sym e) (moved (λ (l : List X) n. AnyOf (λ x. P x n) l) (xs ++ ys) zs (earlier_of a b) f (in_both P xs ys a b h k))
+
+-- two numbers of one thing and another are compared by what they equal
+pub compared : (a b m x n y : ℕ) (r : Option ℕ) → b ≡ a → x ≡ m → y ≡ n → Finds (λ k. (a ≡ k) × (m ≢ n)) r → Finds (λ k. (b ≡ k) × (x ≢ y)) r
+compared a b m x n y r e f g h =
+    moved (λ b k. (b ≡ k) × (x ≢ y)) a b r e (moved (λ x k. (a ≡ k) × (x ≢ y)) m x r f (moved (λ y k. (a ≡ k) × (m ≢ y)) n y r g h))

@@ -1,16 +1,24 @@
 //! The faults of scopes: names without a declaration, names declared twice, and threads that can't start.
 #![tactic(auto)]
 
+mod counts;
 mod fault;
+mod labels;
 mod laws;
+mod limits;
 mod names;
+mod reserved;
 mod statements;
 mod threads;
 mod twice;
 mod undeclared;
 
+pub use counts::first_wrong_count;
 pub use fault::ScopeFault;
+pub use labels::first_bad_label;
 pub use laws::{checked_trees_are_rewritable, checked_trees_resolve};
+pub use limits::first_too_many;
+pub use reserved::first_reserved;
 pub use threads::first_bad_thread;
 pub use twice::first_twice;
 pub use undeclared::first_undeclared;

@@ -1,0 +1,19 @@
+use Rattle.language.specs.Tree.{Procedure}
+use Rattle.syntax.specs.Trees.{proc_of, procs_of}
+use Rattle.scopes.specs.Find.{AnyOf}
+use Rattle.scopes.specs.Statements.{statements_of}
+use Rattle.scopes.specs.Faults.{Miscounts}
+use Rattle.scopes.proofs.Found.{begin, next_any, end_any}
+use Rattle.scopes.proofs.counts.first_wrong_count.Goals as goal
+
+pub loop-proc-init : goal.loop-proc-init
+loop-proc-init g c = begin
+
+pub loop-proc-preserved : goal.loop-proc-preserved
+loop-proc-preserved g c =
+    next_any (λ (p : Procedure) n. AnyOf (Miscounts (procs_of c.args.program.now.procs.items) n) (statements_of p.body)) proc_of c.args.program.now.procs.items c.loop-proc.proc-index c.proc-item.result c.loop-proc.found c.in_ok-miscounted_in.field-0 c.earlier-found.result
+    (rw c.deref-proc-items.ensures.value at c.loop-proc-test.true) (rw c.deref-proc-items.ensures.value at c.proc-item.is) c.earlier-found.ensures c.loop-proc.invariant (rw c.deref.ensures.value at c.in_ok-miscounted_in.ensures)
+
+pub returns : goal.returns
+returns g c =
+    end_any (λ (p : Procedure) n. AnyOf (Miscounts (procs_of c.args.program.now.procs.items) n) (statements_of p.body)) proc_of c.args.program.now.procs.items c.loop-proc.proc-index c.loop-proc.found (rw c.deref-proc-items.ensures.value at c.loop-proc-test.false) c.loop-proc.invariant

@@ -1,0 +1,91 @@
+//! Assignments and calls whose two sides differ in number.
+
+ghost use Rattle.std.specs.Prelude.{◌≡◌, ◌≢◌, IfOk, length};
+ghost use Rattle.syntax.specs.Trees.{names_of, proc_of, procs_of, tree_of};
+ghost use Rattle.scopes.specs.Find.{AnyOf, Finds};
+ghost use Rattle.scopes.specs.Statements.{lent_statements, statement_of, statements_of};
+ghost use Rattle.scopes.specs.Faults.{first_at, Miscounts, WrongCount};
+
+use crate::names::earlier;
+use crate::statements::flatten;
+use crate::undeclared::find;
+use std::alloc::{AllocError, Allocator};
+use syntax::{Core, Name, Proc, Program, Stmt};
+
+/// Where the targets of a statement begin; where there are none, where the statement does.
+pub fn start<A: Allocator>(stmt: &Stmt<A>, targets: &[Name<A>]) -> u32
+    ensures { result ≡ first_at stmt.now.at (names_of targets.now) }
+{
+    match targets.first() {
+        Some(target) => target.at,
+        None => stmt.at,
+    }
+}
+
+/// The offset `at`, where the two numbers differ.
+#[tactic(auto, using(crate::proofs::Found::here, crate::proofs::Found::not_here))]
+pub fn unequal(at: u32, left: usize, right: usize) -> Option<u32>
+    ensures { Finds (λ n. (at ≡ n) × (left ≢ right)) result }
+{
+    if left == right { None } else { Some(at) }
+}
+
+/// The offset of the first target or of the called name, where the two sides of a statement differ in number.
+pub fn miscounted<A: Allocator>(procs: &[Proc<A>], stmt: &Stmt<A>) -> Option<u32>
+    ensures { Finds (λ n. Miscounts (procs_of procs.now) n (statement_of stmt.now)) result }
+{
+    match &stmt.core {
+        Core::Assign(targets, sides) => {
+            unequal(start(stmt, targets), targets.len(), sides.len())
+        }
+        Core::Call(name, arguments) => match find(procs, name) {
+            None => None,
+            Some(proc) => unequal(name.at, proc.formals.len(), arguments.len()),
+        },
+        Core::Skip => None,
+        Core::Return => None,
+        Core::Goto(_) => None,
+        Core::If(_, _, _) => None,
+        Core::While(_, _) => None,
+        Core::Assert(_) => None,
+        Core::Assume(_) => None,
+    }
+}
+
+/// The same for several statements.
+pub fn miscounted_among<A: Allocator>(procs: &[Proc<A>], stmts: &[&Stmt<A>]) -> Option<u32>
+    ensures { Finds (λ n. AnyOf (Miscounts (procs_of procs.now) n) (lent_statements stmts.now)) result }
+{
+    let mut found = None;
+    for stmt in stmts {
+        found = earlier(found, miscounted(procs, stmt));
+    }
+    found
+}
+
+/// The same for a procedure.
+pub fn miscounted_in<A: Allocator + Clone>(
+    alloc: &A,
+    procs: &[Proc<A>],
+    proc: &Proc<A>,
+) -> Result<Option<u32>, AllocError>
+    ensures { IfOk result (λ r. Finds (λ n. AnyOf (Miscounts (procs_of procs.now) n) (statements_of (proc_of proc.now).body)) r) }
+{
+    let stmts = flatten(&proc.body, Vec::new(alloc.clone()?))?;
+    Ok(miscounted_among(procs, &stmts))
+}
+
+/// The least offset of an assignment's first target, or of a called name, whose two sides differ in number; nothing
+/// where none do. An error is a refused growth.
+pub fn first_wrong_count<A: Allocator + Clone>(
+    alloc: &A,
+    program: &Program<A>,
+) -> Result<Option<u32>, AllocError>
+    ensures { IfOk result (λ r. Finds (λ n. WrongCount (tree_of program.now) n) r) }
+{
+    let mut found = None;
+    for proc in &program.procs {
+        found = earlier(found, miscounted_in(alloc, &program.procs, proc)?);
+    }
+    Ok(found)
+}

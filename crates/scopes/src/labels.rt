@@ -1,0 +1,85 @@
+//! Labels: `goto` without one, and labels that are defined twice.
+
+ghost use Rattle.std.specs.Prelude.{◌≡◌, ◌++◌, ◌⊎◌, IfOk};
+ghost use Rattle.syntax.specs.Trees.{proc_of, tree_of};
+ghost use Rattle.scopes.specs.Find.{AnyOf, Finds};
+ghost use Rattle.scopes.specs.Statements.{lent, lent_statements, statement_of, labels_of};
+ghost use Rattle.scopes.specs.Faults.{GoesNowhere, MislabelledIn, BadLabel};
+
+use crate::names::{earlier, repeated, unknown};
+use crate::statements::flatten;
+use std::alloc::{AllocError, Allocator};
+use syntax::{Core, Name, Proc, Program, Stmt};
+
+/// Puts references to the labels that statements define, in order, behind those that are there.
+pub fn labels<'a, A: Allocator>(
+    stmts: &[&'a Stmt<A>],
+    into: Vec<&'a Name<A>, A>,
+) -> Result<Vec<&'a Name<A>, A>, AllocError>
+    ensures { IfOk result (λ v. lent v.items ≡ lent into.entry.items ++ labels_of (lent_statements stmts.now)) }
+{
+    let mut list = into;
+    for stmt in stmts {
+        if let Some(label) = &stmt.label {
+            list.push(label)?;
+        }
+    }
+    Ok(list)
+}
+
+/// The offset of the name in a `goto`, where it is none of the labels.
+pub fn lost<A: Allocator>(labels: &[&Name<A>], stmt: &Stmt<A>) -> Option<u32>
+    ensures { Finds (λ n. GoesNowhere (lent labels.now) n (statement_of stmt.now).head) result }
+{
+    match &stmt.core {
+        Core::Goto(label) => unknown(labels, label),
+        Core::Skip => None,
+        Core::Return => None,
+        Core::Assign(_, _) => None,
+        Core::Call(_, _) => None,
+        Core::If(_, _, _) => None,
+        Core::While(_, _) => None,
+        Core::Assert(_) => None,
+        Core::Assume(_) => None,
+    }
+}
+
+/// The same for several statements.
+pub fn lost_among<A: Allocator>(labels: &[&Name<A>], stmts: &[&Stmt<A>]) -> Option<u32>
+    ensures { Finds (λ n. AnyOf (λ s. GoesNowhere (lent labels.now) n s.head) (lent_statements stmts.now)) result }
+{
+    let mut found = None;
+    for stmt in stmts {
+        found = earlier(found, lost(labels, stmt));
+    }
+    found
+}
+
+/// The least offset of a label of a procedure that is defined twice, or of the name of a `goto` that is none.
+pub fn mislabelled<A: Allocator + Clone>(
+    alloc: &A,
+    proc: &Proc<A>,
+) -> Result<Option<u32>, AllocError>
+    ensures { IfOk result (λ r. Finds (λ n. MislabelledIn n (proc_of proc.now)) r) }
+{
+    let stmts = flatten(&proc.body, Vec::new(alloc.clone()?))?;
+    let labels = labels(&stmts, Vec::new(alloc.clone()?))?;
+    let first = lost_among(&labels, &stmts);
+    let second = repeated(&labels);
+    Ok(earlier(first, second))
+}
+
+/// The least offset of the name in a `goto` that is no label of its procedure, or of a label that is defined again;
+/// nothing where there is none. An error is a refused growth.
+pub fn first_bad_label<A: Allocator + Clone>(
+    alloc: &A,
+    program: &Program<A>,
+) -> Result<Option<u32>, AllocError>
+    ensures { IfOk result (λ r. Finds (λ n. BadLabel (tree_of program.now) n) r) }
+{
+    let mut found = None;
+    for proc in &program.procs {
+        found = earlier(found, mislabelled(alloc, proc)?);
+    }
+    Ok(found)
+}

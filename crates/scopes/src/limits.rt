@@ -1,0 +1,81 @@
+//! More procedures, thread lines or statements than there may be.
+
+ghost use Rattle.std.specs.Prelude.{◌≡◌, ◌++◌, IfOk, slice_get};
+ghost use Rattle.syntax.specs.Trees.{procs_of, threads_of, tree_of};
+ghost use Rattle.scopes.specs.Find.{Finds};
+ghost use Rattle.scopes.specs.Statements.{lent_statements, statements_of_all};
+ghost use Rattle.scopes.specs.Faults.{IsThere, TooMany};
+
+use crate::names::earlier;
+use crate::statements::flatten;
+use std::alloc::{AllocError, Allocator};
+use syntax::{Proc, Program, Stmt, Thread};
+
+/// The most procedures that a program has.
+const PROCEDURES: usize = 31;
+
+/// The most thread lines.
+const THREADS: usize = 8;
+
+/// The most statements, over all procedures.
+const STATEMENTS: usize = 1000;
+
+/// The offset of the name of the first procedure too many.
+pub fn procedure_too_many<A: Allocator>(procs: &[Proc<A>]) -> Option<u32>
+    ensures { Finds (λ n. IsThere (slice_get (procs_of procs.now) 31) (λ p. p.name.at ≡ n)) result }
+{
+    match procs.get(PROCEDURES) {
+        Some(proc) => Some(proc.name.at),
+        None => None,
+    }
+}
+
+/// The offset of the first thread line too many.
+pub fn thread_too_many<A: Allocator>(threads: &[Thread<A>]) -> Option<u32>
+    ensures { Finds (λ n. IsThere (slice_get (threads_of threads.now) 8) (λ line. line.at ≡ n)) result }
+{
+    match threads.get(THREADS) {
+        Some(line) => Some(line.at),
+        None => None,
+    }
+}
+
+/// The offset of the first statement too many.
+pub fn statement_too_many<A: Allocator>(stmts: &[&Stmt<A>]) -> Option<u32>
+    ensures { Finds (λ n. IsThere (slice_get (lent_statements stmts.now) 1000) (λ s. s.mark.at ≡ n)) result }
+{
+    match stmts.get(STATEMENTS) {
+        Some(stmt) => Some(stmt.at),
+        None => None,
+    }
+}
+
+/// References to the statements of procedures, in order.
+pub fn all_statements<'a, A: Allocator>(
+    procs: &'a [Proc<A>],
+    into: Vec<&'a Stmt<A>, A>,
+) -> Result<Vec<&'a Stmt<A>, A>, AllocError>
+    ensures { IfOk result (λ v. lent_statements v.items ≡ lent_statements into.entry.items ++ statements_of_all (procs_of procs.now)) }
+{
+    let mut list = into;
+    for proc in procs {
+        list = flatten(&proc.body, list)?;
+    }
+    Ok(list)
+}
+
+/// The least offset of a 32nd procedure's name, of a 9th thread line or of a 1,001st statement of the whole text;
+/// nothing where there is none. An error is a refused growth.
+pub fn first_too_many<A: Allocator + Clone>(
+    alloc: &A,
+    program: &Program<A>,
+) -> Result<Option<u32>, AllocError>
+    ensures { IfOk result (λ r. Finds (λ n. TooMany (tree_of program.now) n) r) }
+{
+    let stmts = all_statements(&program.procs, Vec::new(alloc.clone()?))?;
+    let first = procedure_too_many(&program.procs);
+    let second = thread_too_many(&program.threads);
+    let third = statement_too_many(&stmts);
+    let later = earlier(second, third);
+    Ok(earlier(first, later))
+}

@@ -1,0 +1,60 @@
+//! Declared names with two underscores in a row, which are kept for the rewriting.
+
+ghost use Rattle.std.specs.Prelude.{◌≡◌, IfOk};
+ghost use Rattle.syntax.specs.Trees.{proc_of, procs_of, tree_of};
+ghost use Rattle.scopes.specs.Find.{AnyOf, Finds};
+ghost use Rattle.scopes.specs.Faults.{ReservedIn, Reserved};
+
+use crate::labels::labels;
+use crate::names::{earlier, lend, reserved};
+use crate::statements::flatten;
+use crate::twice::proc_names;
+use std::alloc::{AllocError, Allocator};
+use syntax::{Proc, Program};
+
+/// The least offset of a formal, a local or a label of a procedure with two underscores in a row.
+pub fn reserved_in<A: Allocator + Clone>(
+    alloc: &A,
+    proc: &Proc<A>,
+) -> Result<Option<u32>, AllocError>
+    ensures { IfOk result (λ r. Finds (λ n. ReservedIn n (proc_of proc.now)) r) }
+{
+    let formals = lend(&proc.formals, Vec::new(alloc.clone()?))?;
+    let own = lend(&proc.locals, formals)?;
+    let first = reserved(&own);
+    let stmts = flatten(&proc.body, Vec::new(alloc.clone()?))?;
+    let labels = labels(&stmts, Vec::new(alloc.clone()?))?;
+    let second = reserved(&labels);
+    Ok(earlier(first, second))
+}
+
+/// The same for several procedures.
+pub fn reserved_among<A: Allocator + Clone>(
+    alloc: &A,
+    procs: &[Proc<A>],
+) -> Result<Option<u32>, AllocError>
+    ensures { IfOk result (λ r. Finds (λ n. AnyOf (ReservedIn n) (procs_of procs.now)) r) }
+{
+    let mut found = None;
+    for proc in procs {
+        found = earlier(found, reserved_in(alloc, proc)?);
+    }
+    Ok(found)
+}
+
+/// The least offset of a declared variable, procedure or label with two underscores in a row; nothing where none has.
+/// An error is a refused growth.
+pub fn first_reserved<A: Allocator + Clone>(
+    alloc: &A,
+    program: &Program<A>,
+) -> Result<Option<u32>, AllocError>
+    ensures { IfOk result (λ r. Finds (λ n. Reserved (tree_of program.now) n) r) }
+{
+    let globals = lend(&program.globals, Vec::new(alloc.clone()?))?;
+    let first = reserved(&globals);
+    let called = proc_names(&program.procs, Vec::new(alloc.clone()?))?;
+    let second = reserved(&called);
+    let third = reserved_among(alloc, &program.procs)?;
+    let later = earlier(second, third);
+    Ok(earlier(first, later))
+}
