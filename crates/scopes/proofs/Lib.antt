@@ -3,6 +3,7 @@ pub mod Heads
 pub mod Flat
 pub mod Again
 pub mod Positions
+pub mod First
 pub mod Works
 pub mod Resolving
 pub mod Rewriting

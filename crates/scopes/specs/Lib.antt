@@ -2,5 +2,6 @@ pub mod Find
 pub mod Statements
 pub mod Faults
 pub mod Checked
+pub mod First
 pub mod Resolves
 pub mod Rewritable

@@ -44,3 +44,24 @@ impl From<AllocError> for ScopeFault {
         ScopeFault::Memory
     }
 }
+
+impl ScopeFault {
+    ghost use Rattle.std.specs.Prelude.{◌≡◌};
+    ghost use Rattle.scopes.specs.Checked.{offset};
+
+    /// The offset of a fault; 0 of `Memory`, which has none.
+    pub(crate) fn offset(&self) -> u32
+        ensures { result ≡ offset self.now }
+    {
+        match self {
+            ScopeFault::Undeclared(at) => *at,
+            ScopeFault::DeclaredTwice(at) => *at,
+            ScopeFault::WrongCount(at) => *at,
+            ScopeFault::BadThread(at) => *at,
+            ScopeFault::BadLabel(at) => *at,
+            ScopeFault::Reserved(at) => *at,
+            ScopeFault::TooMany(at) => *at,
+            ScopeFault::Memory => 0,
+        }
+    }
+}

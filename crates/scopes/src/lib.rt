@@ -1,6 +1,7 @@
 //! The faults of scopes: names without a declaration, names declared twice, and threads that can't start.
 #![tactic(auto)]
 
+mod checking;
 mod counts;
 mod fault;
 mod labels;
@@ -8,11 +9,13 @@ mod laws;
 mod limits;
 mod names;
 mod reserved;
+mod sooner;
 mod statements;
 mod threads;
 mod twice;
 mod undeclared;
 
+pub use checking::{Checked, check};
 pub use counts::first_wrong_count;
 pub use fault::ScopeFault;
 pub use labels::first_bad_label;

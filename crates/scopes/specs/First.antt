@@ -1,0 +1,19 @@
+-- Which of several faults is answered.
+use Rattle.std.specs.Prelude.{◌≡◌, ◌<◌, nat_le, Option, Some, None, cond}
+use Rattle.scopes.specs.declared.fault.ScopeFault.{ScopeFault}
+use Rattle.scopes.specs.Checked.{offset, ComesFirst}
+
+-- nothing, where no fault has the property; else one that has it, before all that do
+abbrev pub IsFirst : (ScopeFault → Type 0) → Option ScopeFault → Type 0
+IsFirst S None = (f : ScopeFault) → S f → ⊥
+IsFirst S (Some f) = S f × ((g : ScopeFault) → S g → ComesFirst f g)
+
+-- the answer is the first fault with the property, or nothing where no fault has it
+pub record FindsFirst (S : ScopeFault → Type 0) (answer : Option ScopeFault) : Type 0 where
+  pub first : IsFirst S answer
+
+-- of two faults that may be there, the one with the lesser offset, and at one offset the former
+unfoldable pub sooner_of : Option ScopeFault → Option ScopeFault → Option ScopeFault
+sooner_of None b = b
+sooner_of (Some f) None = Some f
+sooner_of (Some f) (Some g) = cond (nat_le (offset f) (offset g)) (Some f) (Some g)

@@ -1,0 +1,73 @@
+//! The check of scopes as a whole.
+
+ghost use Rattle.std.specs.Prelude.{◌≡◌, ◌⊎◌, IfOk, IfErr};
+ghost use Rattle.syntax.specs.Trees.{tree_of};
+ghost use Rattle.scopes.specs.Checked.{IsChecked, IsFirstFault, Stands};
+ghost use Rattle.scopes.specs.declared.fault.ScopeFault.TheVariants.{Memory};
+ghost use Rattle.scopes.specs.First.{FindsFirst};
+
+use crate::counts::first_wrong_count;
+use crate::fault::ScopeFault;
+use crate::labels::first_bad_label;
+use crate::limits::first_too_many;
+use crate::reserved::first_reserved;
+use crate::sooner::sooner;
+use crate::threads::first_bad_thread;
+use crate::twice::first_twice;
+use crate::undeclared::first_undeclared;
+use std::alloc::{AllocError, Allocator};
+use syntax::Program;
+
+/// A program in which no fault of scopes stands.
+#[derive(Drop)]
+pub struct Checked<A: Allocator> {
+    program: Program<A>,
+    pub ghost checked: { IsChecked (tree_of program) },
+}
+
+impl<A: Allocator> Checked<A> {
+    /// The program, as it was read.
+    pub fn program(&self) -> &Program<A>
+        ensures same { result.now ≡ self.now.program }
+        ensures checked { IsChecked (tree_of result.now) }
+    {
+        &self.program
+    }
+}
+
+/// The fault that is answered of those that stand in a program.
+pub fn first_fault<A: Allocator + Clone>(
+    alloc: &A,
+    program: &Program<A>,
+) -> Result<Option<ScopeFault>, AllocError>
+    ensures { IfOk result (λ r. FindsFirst (Stands (tree_of program.now)) r) }
+{
+    let undeclared = first_undeclared(alloc, program)?.map(ScopeFault::Undeclared);
+    let twice = first_twice(alloc, program)?.map(ScopeFault::DeclaredTwice);
+    let counts = first_wrong_count(alloc, program)?.map(ScopeFault::WrongCount);
+    let threads = first_bad_thread(program).map(ScopeFault::BadThread);
+    let labels = first_bad_label(alloc, program)?.map(ScopeFault::BadLabel);
+    let reserved = first_reserved(alloc, program)?.map(ScopeFault::Reserved);
+    let many = first_too_many(alloc, program)?.map(ScopeFault::TooMany);
+    let to_seven = sooner(undeclared, twice);
+    let to_eight = sooner(to_seven, counts);
+    let to_nine = sooner(to_eight, threads);
+    let to_ten = sooner(to_nine, labels);
+    let to_eleven = sooner(to_ten, reserved);
+    Ok(sooner(to_eleven, many))
+}
+
+/// Checks the scopes of a program: the program is given back, checked, where none of the faults stands in it. Of several
+/// faults that stand, the one with the least offset is answered, and at one offset the one with the least number;
+/// `Memory` comes where a growth was refused. What the check needs besides the program is taken from `alloc`.
+pub fn check<A: Allocator + Clone>(alloc: A, program: Program<A>) -> Result<Checked<A>, ScopeFault>
+    // What is checked is the program that came in, and no fault stands in it.
+    ensures checked { IfOk result (λ c. (c.program ≡ program) × IsChecked (tree_of program)) }
+    // A fault that is answered stands at its place, and it is the first that does, unless memory ran out.
+    ensures fault { IfErr result (λ f. (f ≡ Memory) ⊎ IsFirstFault (tree_of program) f) }
+{
+    match first_fault(&alloc, &program)? {
+        None => Ok(Checked { program }),
+        Some(fault) => Err(fault),
+    }
+}

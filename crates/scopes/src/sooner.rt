@@ -1,0 +1,23 @@
+//! Which of two faults is answered.
+
+ghost use Rattle.std.specs.Prelude.{◌≡◌};
+ghost use Rattle.scopes.specs.First.{sooner_of};
+
+use crate::fault::ScopeFault;
+
+/// The fault with the lesser offset of two that may be there; at one offset the former.
+pub fn sooner(a: Option<ScopeFault>, b: Option<ScopeFault>) -> Option<ScopeFault>
+    ensures { result ≡ sooner_of a b }
+{
+    match (a, b) {
+        (None, b) => b,
+        (Some(f), None) => Some(f),
+        (Some(f), Some(g)) => {
+            if f.offset() <= g.offset() {
+                Some(f)
+            } else {
+                Some(g)
+            }
+        }
+    }
+}
