@@ -11,6 +11,7 @@ use Rattle.cli.specs.declared.judge.Verdict.TheVariants as verdict
 use Rattle.language.specs.Tree.{Tree}
 use Rattle.language.specs.Resolve.{meaning_of}
 use Rattle.language.specs.Rounds.{Unsafe}
+use Rattle.scopes.specs.Checked.{IsChecked}
 use Rattle.cli.specs.Straight.{IsFirstPart}
 
 -- the histories of the one mailbox: the one message posted by the starter, and then taken
@@ -26,14 +27,14 @@ IsWorkedOff history = history ≡ Post 1 Entry ∷ Take 1 Entry ∷ Done 0 ∷ [
 
 -- what a verdict says of the bytes
 abbrev pub IsVerdict : List ℕ → Verdict → Type 0
-IsVerdict bytes verdict.Safe = (t : Tree) × (items : List Item) × Text bytes t × IsFirstPart t items × (Unsafe (meaning_of t) 1 → ⊥)
-IsVerdict bytes verdict.Unsafe = (t : Tree) × (items : List Item) × Text bytes t × IsFirstPart t items × Unsafe (meaning_of t) 1
+IsVerdict bytes verdict.Safe = (t : Tree) × (items : List Item) × Text bytes t × IsChecked t × IsFirstPart t items × (Unsafe (meaning_of t) 1 → ⊥)
+IsVerdict bytes verdict.Unsafe = (t : Tree) × (items : List Item) × Text bytes t × IsChecked t × IsFirstPart t items × Unsafe (meaning_of t) 1
 IsVerdict bytes verdict.NotYet = Unit {0}
 
--- The reply says what a text comes to at one round: it is the text of a program of the first part, and the reply is
+-- The reply says what a text comes to at one round: it is the text of a checked program of the first part, and the reply is
 -- `unsafe` with status 1 where some run of one round fails an assert, `safe` with status 0 where none does.
 abbrev pub Answers : List ℕ → List ℕ → ℕ → Type 0
 Answers text bytes status =
-    (t : Tree) × (items : List Item) × Text text t × IsFirstPart t items
+    (t : Tree) × (items : List Item) × Text text t × IsChecked t × IsFirstPart t items
     × (((bytes ≡ codes "unsafe\n") × (status ≡ 1) × Unsafe (meaning_of t) 1)
     ⊎ ((bytes ≡ codes "safe\n") × (status ≡ 0) × (Unsafe (meaning_of t) 1 → ⊥)))

@@ -5,7 +5,9 @@ ghost use Rattle.cli.specs.Written.{bytes_of};
 
 use crate::asked::Order;
 use crate::judge::{Verdict, judge};
+use crate::refusal::Refusal;
 use crate::reply::Reply;
+use scopes::ScopeFault;
 use std::alloc::{AllocError, Allocator};
 use std::borrow::CowSlice;
 use syntax::ReadFault;
@@ -18,35 +20,69 @@ pub fn no_memory<A: Allocator>() -> Reply<A>
     Reply::fixed("no verdict: memory\n", 3)
 }
 
-/// The reply to a text with a syntax fault at this offset.
-fn syntax_fault<A: Allocator>(alloc: A, at: u32) -> Result<Reply<A>, AllocError>
+/// The line of a fault with its words, number first, and its offset.
+fn line<A: Allocator>(alloc: A, words: &str, at: u32) -> Result<Reply<A>, AllocError>
     ensures { IfOk result (λ r. r.status ≡ 2) }
 {
-    let line = format!(in alloc; "refused: 3 syntax at {at}\n")?;
+    let line = format!(in alloc; "refused: {words} at {at}\n")?;
     Ok(Reply {
         bytes: CowSlice::Owned(line.into_bytes()),
         status: 2,
     })
 }
 
+/// The reply where a fault stands at an offset.
+fn refused_at<A: Allocator>(alloc: A, words: &str, at: u32) -> Reply<A>
+    ensures { (result.status ≡ 2) ⊎ (result.status ≡ 3) }
+{
+    match line(alloc, words, at) {
+        Ok(reply) => reply,
+        Err(_) => no_memory(),
+    }
+}
+
 /// The reply to a text that is not read.
-fn refused<A: Allocator>(alloc: A, fault: ReadFault) -> Reply<A>
+fn unread<A: Allocator>(alloc: A, fault: ReadFault) -> Reply<A>
     ensures { (result.status ≡ 2) ⊎ (result.status ≡ 3) }
 {
     match fault {
         ReadFault::TooLong => Reply::fixed("refused: 1 too long\n", 2),
         ReadFault::NotAscii => Reply::fixed("refused: 2 not ascii\n", 2),
+        ReadFault::Syntax(at) => refused_at(alloc, "3 syntax", at),
         ReadFault::TooDeep => Reply::fixed("refused: 4 too deep\n", 2),
         ReadFault::Memory => no_memory(),
-        ReadFault::Syntax(at) => match syntax_fault(alloc, at) {
-            Ok(reply) => reply,
-            Err(_) => no_memory(),
-        },
     }
 }
 
-/// The reply to a text. Where its status is 0 or 1, the text is that of a program of the first part of the language,
-/// and the reply is `unsafe` with status 1 exactly where some run of one round fails an assert.
+/// The reply to a text in which a fault of scopes stands.
+fn unchecked<A: Allocator>(alloc: A, fault: ScopeFault) -> Reply<A>
+    ensures { (result.status ≡ 2) ⊎ (result.status ≡ 3) }
+{
+    match fault {
+        ScopeFault::Undeclared(at) => refused_at(alloc, "6 undeclared", at),
+        ScopeFault::DeclaredTwice(at) => refused_at(alloc, "7 declared twice", at),
+        ScopeFault::WrongCount(at) => refused_at(alloc, "8 wrong count", at),
+        ScopeFault::BadThread(at) => refused_at(alloc, "9 bad thread", at),
+        ScopeFault::BadLabel(at) => refused_at(alloc, "10 bad label", at),
+        ScopeFault::Reserved(at) => refused_at(alloc, "11 reserved", at),
+        ScopeFault::TooMany(at) => refused_at(alloc, "12 too many", at),
+        ScopeFault::Memory => no_memory(),
+    }
+}
+
+/// The reply to a text that gets no verdict.
+fn refused<A: Allocator>(alloc: A, refusal: Refusal) -> Reply<A>
+    ensures { (result.status ≡ 2) ⊎ (result.status ≡ 3) }
+{
+    match refusal {
+        Refusal::Unread(fault) => unread(alloc, fault),
+        Refusal::Unchecked(fault) => unchecked(alloc, fault),
+        Refusal::Memory => no_memory(),
+    }
+}
+
+/// The reply to a text. Where its status is 0 or 1, the text is that of a checked program of the first part of the
+/// language, and the reply is `unsafe` with status 1 exactly where some run of one round fails an assert.
 pub fn answer<R: Alloc>(rt: &R, text: &[u8], order: Order) -> Reply<R::A>
     ensures answers { result.status ≤ 1 → Answers text.now (bytes_of result) result.status }
     ensures status { result.status ≤ 3 }
@@ -57,6 +93,6 @@ pub fn answer<R: Alloc>(rt: &R, text: &[u8], order: Order) -> Reply<R::A>
         Ok(Verdict::Safe) => Reply::fixed("safe\n", 0),
         Ok(Verdict::Unsafe) => Reply::fixed("unsafe\n", 1),
         Ok(Verdict::NotYet) => Reply::fixed("refused: not yet\n", 2),
-        Err(fault) => refused(rt.alloc(), fault),
+        Err(refusal) => refused(rt.alloc(), refusal),
     }
 }

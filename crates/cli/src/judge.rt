@@ -9,10 +9,11 @@ ghost use Rattle.cli.specs.Verdict.{IsVerdict, IsWorkedOff, with_post, with_take
 
 use crate::analysis::fails;
 use crate::first::first_body;
-use crate::slips::has_slip;
+use crate::refusal::Refusal;
 use post_ledger::Mailbox;
+use scopes::check;
 use std::alloc::{AllocError, Allocator};
-use syntax::{Name, ReadFault, Stmt, read};
+use syntax::{Name, Stmt, read};
 
 /// What a text of the first part comes to.
 #[derive(Clone, Copy, Debug, PartialEq, Eq)]
@@ -91,16 +92,15 @@ fn worked<N: Allocator, A: Allocator + Copy>(
 }
 
 /// The verdict on a text.
-pub(crate) fn judge<A: Allocator + Copy>(alloc: A, text: &[u8]) -> Result<Verdict, ReadFault>
+pub(crate) fn judge<A: Allocator + Copy>(alloc: A, text: &[u8]) -> Result<Verdict, Refusal>
     ensures { IfOk result (λ v. IsVerdict text.now v) }
 {
-    let program = read(alloc, text)?;
-    let Some(body) = first_body(&program) else {
+    let read = read(alloc, text)?;
+    let checked = check(alloc, read)?;
+    let program = checked.program();
+    let Some(body) = first_body(program) else {
         return Ok(Verdict::NotYet);
     };
-    if has_slip(program.globals.as_slice(), program.procs.as_slice(), body) {
-        return Ok(Verdict::NotYet);
-    }
     let work = worked(alloc, program.globals.as_slice(), body)?;
     if work.fails {
         Ok(Verdict::Unsafe)

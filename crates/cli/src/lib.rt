@@ -9,8 +9,8 @@ mod first;
 mod judge;
 mod line;
 mod reach;
+mod refusal;
 mod reply;
-mod slips;
 pub mod unsafety;
 
 pub use answers::{answer, no_memory};

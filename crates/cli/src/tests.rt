@@ -10,7 +10,7 @@ use std::test::Fail;
 const ONE_ROUND: Order = Order::Check { rounds: 1 };
 
 /// Texts, and what is answered to each.
-static ROWS: [(&str, &str, u8); 28] = [
+static ROWS: [(&str, &str, u8); 36] = [
     (
         "decl x; t() begin x:=1; assert(x); end thread t;",
         "safe\n",
@@ -77,35 +77,87 @@ static ROWS: [(&str, &str, u8); 28] = [
         "refused: not yet\n",
         2,
     ),
-    ("p(v) begin skip; end thread p;", "refused: not yet\n", 2),
+    (
+        "p(v) begin skip; end thread p;",
+        "refused: 9 bad thread at 28\n",
+        2,
+    ),
     ("t() begin L: skip; end thread t;", "refused: not yet\n", 2),
     (
         "t() begin skip; end thread t; thread t;",
         "refused: not yet\n",
         2,
     ),
-    ("t() begin x:=1; end thread t;", "refused: not yet\n", 2),
+    (
+        "t() begin x:=1; end thread t;",
+        "refused: 6 undeclared at 10\n",
+        2,
+    ),
     (
         "decl x,x; t() begin x:=0; end thread t;",
-        "refused: not yet\n",
+        "refused: 7 declared twice at 7\n",
         2,
     ),
     (
         "decl x; t() begin x,x:=0,1; end thread t;",
-        "refused: not yet\n",
+        "refused: 7 declared twice at 20\n",
         2,
     ),
     (
         "decl x; t() begin assert(!y); end thread t;",
-        "refused: not yet\n",
+        "refused: 6 undeclared at 26\n",
         2,
     ),
     (
         "decl a__b; t() begin skip; end thread t;",
+        "refused: 11 reserved at 5\n",
+        2,
+    ),
+    (
+        "t() begin skip; end thread z;",
+        "refused: 9 bad thread at 27\n",
+        2,
+    ),
+    (
+        "decl x; t() begin x:=0,1; end thread t;",
+        "refused: 8 wrong count at 18\n",
+        2,
+    ),
+    (
+        "p(v) begin skip; end t() begin p(); end thread t;",
+        "refused: 8 wrong count at 31\n",
+        2,
+    ),
+    (
+        "t() begin goto L; end thread t;",
+        "refused: 10 bad label at 15\n",
+        2,
+    ),
+    (
+        "t() begin goto a__b; end thread t;",
+        "refused: 10 bad label at 15\n",
+        2,
+    ),
+    (
+        "decl x,x; t() begin y:=0; end thread t;",
+        "refused: 7 declared twice at 7\n",
+        2,
+    ),
+    (
+        "t() begin y:=0,1; end thread t;",
+        "refused: 6 undeclared at 10\n",
+        2,
+    ),
+    (
+        "t() begin skip; end thread t; thread t; thread t; thread t; thread t; thread t; thread t; thread t; thread t;",
+        "refused: 12 too many at 100\n",
+        2,
+    ),
+    (
+        "t() begin skip; end thread t; thread t; thread t; thread t; thread t; thread t; thread t; thread t;",
         "refused: not yet\n",
         2,
     ),
-    ("t() begin skip; end thread z;", "refused: not yet\n", 2),
     ("", "refused: 3 syntax at 0\n", 2),
     (
         "t() begin skip; end thread t; @",
@@ -132,6 +184,29 @@ fn rows_are_answered(rt: HostRuntime) {
         assert_eq!(rt; reply.bytes.as_slice(), bytes.as_bytes(), "{text}");
         assert_eq!(rt; reply.status, status, "{text}");
     }
+}
+
+/// A procedure with so many statements, and one thread that runs it.
+fn statements(alloc: Global, count: u32) -> Result<String, AllocError> {
+    let mut text = String::from_str(alloc, "t() begin ")?;
+    for _nth in 0..count {
+        text.push_str("skip;")?;
+    }
+    text.push_str(" end thread t;")?;
+    Ok(text)
+}
+
+#[test]
+fn the_statement_past_a_thousand_is_refused(rt: HostRuntime) -> Result<(), Fail> {
+    for (count, bytes) in [
+        (1000u32, "safe\n"),
+        (1001, "refused: 12 too many at 5010\n"),
+    ] {
+        let text = statements(rt.alloc(), count)?;
+        let reply = answer(&rt, text.as_str().as_bytes(), ONE_ROUND);
+        assert_eq!(rt; reply.bytes.as_slice(), bytes.as_bytes());
+    }
+    Ok(())
 }
 
 /// A runtime that has nothing but a scarce allocator.

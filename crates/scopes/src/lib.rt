@@ -1,4 +1,4 @@
-//! The faults of scopes: names without a declaration, names declared twice, and threads that can't start.
+//! The check of scopes: what is checked is meaningful, and each slip is named with its place.
 #![tactic(auto)]
 
 mod checking;
@@ -25,3 +25,6 @@ pub use reserved::first_reserved;
 pub use threads::first_bad_thread;
 pub use twice::first_twice;
 pub use undeclared::first_undeclared;
+
+#[cfg(test)]
+mod tests;

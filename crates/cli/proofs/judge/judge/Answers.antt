@@ -4,7 +4,9 @@ use Rattle.std.specs.Prelude.{IsTrue, ◌↔◌}
 use Rattle.std.proofs.lemmas.List.{length-map}
 use Rattle.language.specs.Step.{zeros}
 use Rattle.syntax.specs.Trees.{Item, tree_of, names_of, name_of, items_of}
+use Rattle.syntax.specs.Text.{Text}
 use Rattle.syntax.specs.declared.tree.Name.{Name}
+use Rattle.syntax.specs.declared.tree.Program.{Program}
 use Rattle.cli.specs.Straight.{FailsFrom, code_of, globals_only}
 use Rattle.cli.proofs.FirstLemmas.{first_meaning}
 use Rattle.cli.proofs.ItemLemmas.{false-true}
@@ -18,19 +20,24 @@ named_globals names globals items same =
 
 pub returns-then-work : goal.returns-then-work
 returns-then-work g c =
-    let t = tree_of c.in_ok-program.program in
+    let program = c.program-program.result.now in
+    let t = tree_of program in
     let items = items_of c.in-Some.body.now in
-    let globals = named_globals c.as_slice-3.result.now c.in_ok-program.program.globals.items items c.as_slice-3.ensures.value in
-    (t, items, c.in_ok-program.ensures.found, c.in-Some.ensures, (first_meaning t items c.in-Some.ensures).1 (globals.0 (c.in_ok-work.ensures.fails.0 c.if-work.true)))
+    let globals = named_globals c.as_slice.result.now program.globals.items items c.as_slice.ensures.value in
+    let text : Text c.args.text.now t = subst (λ (p : Program _). Text c.args.text.now (tree_of p)) (sym (c.program-program.ensures.same ∙ c.in_ok-checked.ensures.checked.0)) c.in_ok-read.ensures.found in
+    (t, items, text, c.program-program.ensures.checked, c.in-Some.ensures, (first_meaning t items c.in-Some.ensures).1 (globals.0 (c.in_ok-work.ensures.fails.0 c.if-work.true)))
 
 pub returns : goal.returns
 returns g c =
-    let t = tree_of c.in_ok-program.program in
+    let program = c.program-program.result.now in
+    let t = tree_of program in
     let items = items_of c.in-Some.body.now in
-    let globals = named_globals c.as_slice-3.result.now c.in_ok-program.program.globals.items items c.as_slice-3.ensures.value in (
+    let globals = named_globals c.as_slice.result.now program.globals.items items c.as_slice.ensures.value in
+    let text : Text c.args.text.now t = subst (λ (p : Program _). Text c.args.text.now (tree_of p)) (sym (c.program-program.ensures.same ∙ c.in_ok-checked.ensures.checked.0)) c.in_ok-read.ensures.found in (
       t,
       items,
-      c.in_ok-program.ensures.found,
+      text,
+      c.program-program.ensures.checked,
       c.in-Some.ensures,
       λ unsafe_is. false-true (sym c.if-work.false ∙ c.in_ok-work.ensures.fails.1 (globals.1 ((first_meaning t items c.in-Some.ensures).0 unsafe_is))),
     )

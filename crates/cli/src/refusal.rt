@@ -1,0 +1,34 @@
+//! Why a text gets no verdict.
+
+use scopes::ScopeFault;
+use std::alloc::AllocError;
+use syntax::ReadFault;
+
+/// Why a text gets no verdict.
+#[derive(Debug, Drop)]
+pub(crate) enum Refusal {
+    /// It is not read.
+    Unread(ReadFault),
+    /// A fault of scopes stands in it.
+    Unchecked(ScopeFault),
+    /// A growth was refused.
+    Memory,
+}
+
+impl From<ReadFault> for Refusal {
+    fn from(fault: ReadFault) -> Refusal {
+        Refusal::Unread(fault)
+    }
+}
+
+impl From<ScopeFault> for Refusal {
+    fn from(fault: ScopeFault) -> Refusal {
+        Refusal::Unchecked(fault)
+    }
+}
+
+impl From<AllocError> for Refusal {
+    fn from(_e: AllocError) -> Refusal {
+        Refusal::Memory
+    }
+}
