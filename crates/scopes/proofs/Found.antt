@@ -1,5 +1,6 @@
 -- Putting searches for the least offset together.
 use Rattle.std.proofs.Common.{◌≡◌, ◌≢◌, ℕ, ◌+◌, ◌<◌, ◌≤◌, nat_le, nat_eq, ◌&&◌, rules, Bool, true, false, cond, List, [], ◌∷◌, ◌++◌, length, map, drop, get_or, Option, Some, None, ◌⊎◌, inl, inr, refl, sym, ◌∙◌, ap, subst, arith}
+use Rattle.std.specs.Prelude.{Result, Ok, Err, IfOk}
 use Rattle.std.proofs.lemmas.List.{drop_more, drop_all}
 use Rattle.std.proofs.lemmas.Bool.Decides.{leb_tells}
 use Rattle.std.specs.Str.{bytes_eq}
@@ -159,3 +160,8 @@ in_both_of {X} P xs ys zs a b r e f h k =
 pub compared : (a b m x n y : ℕ) (r : Option ℕ) → b ≡ a → x ≡ m → y ≡ n → Finds (λ k. (a ≡ k) × (m ≢ n)) r → Finds (λ k. (b ≡ k) × (x ≢ y)) r
 compared a b m x n y r e f g h =
     moved (λ b k. (b ≡ k) × (x ≢ y)) a b r e (moved (λ x k. (a ≡ k) × (x ≢ y)) m x r f (moved (λ y k. (a ≡ k) × (m ≢ y)) n y r g h))
+
+-- what follows of an answer, where there is one
+pub on_ok : {E : Type 0} (P Q : Option ℕ → Type 0) (r : Result (Option ℕ) E) → ((o : Option ℕ) → P o → Q o) → IfOk r P → IfOk r Q
+on_ok P Q (Ok o) f h = f o h
+on_ok P Q (Err e) f h = tt

@@ -1,7 +1,7 @@
 pub mod Found
 pub mod Heads
 pub mod Flat
-pub mod Again
+pub mod Seen
 pub mod Positions
 pub mod First
 pub mod Works

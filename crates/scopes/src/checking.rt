@@ -36,7 +36,7 @@ impl<A: Allocator> Checked<A> {
 }
 
 /// The fault that is answered of those that stand in a program.
-pub fn first_fault<A: Allocator + Clone>(
+pub fn first_fault<A: Allocator + Copy>(
     alloc: &A,
     program: &Program<A>,
 ) -> Result<Option<ScopeFault>, AllocError>
@@ -60,7 +60,7 @@ pub fn first_fault<A: Allocator + Clone>(
 /// Checks the scopes of a program: the program is given back, checked, where none of the faults stands in it. Of several
 /// faults that stand, the one with the least offset is answered, and at one offset the one with the least number;
 /// `Memory` comes where a growth was refused. What the check needs besides the program is taken from `alloc`.
-pub fn check<A: Allocator + Clone>(alloc: A, program: Program<A>) -> Result<Checked<A>, ScopeFault>
+pub fn check<A: Allocator + Copy>(alloc: A, program: Program<A>) -> Result<Checked<A>, ScopeFault>
     // What is checked is the program that came in, and no fault stands in it.
     ensures checked { IfOk result (λ c. (c.program ≡ program) × IsChecked (tree_of program)) }
     // A fault that is answered stands at its place, and it is the first that does, unless memory ran out.

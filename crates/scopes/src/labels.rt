@@ -6,7 +6,8 @@ ghost use Rattle.scopes.specs.Find.{AnyOf, Finds};
 ghost use Rattle.scopes.specs.Statements.{lent, lent_statements, statement_of, labels_of};
 ghost use Rattle.scopes.specs.Faults.{GoesNowhere, MislabelledIn, BadLabel};
 
-use crate::names::{earlier, repeated, unknown};
+use crate::known::{Known, repeated};
+use crate::names::earlier;
 use crate::statements::flatten;
 use std::alloc::{AllocError, Allocator};
 use syntax::{Core, Name, Proc, Program, Stmt};
@@ -28,11 +29,11 @@ pub fn labels<'a, A: Allocator>(
 }
 
 /// The offset of the name in a `goto`, where it is none of the labels.
-pub fn lost<A: Allocator>(labels: &[&Name<A>], stmt: &Stmt<A>) -> Option<u32>
-    ensures { Finds (λ n. GoesNowhere (lent labels.now) n (statement_of stmt.now).head) result }
+pub fn lost<A: Allocator + Copy>(labels: &Known<A>, stmt: &Stmt<A>) -> Option<u32>
+    ensures { Finds (λ n. GoesNowhere (lent labels.now.names.items) n (statement_of stmt.now).head) result }
 {
     match &stmt.core {
-        Core::Goto(label) => unknown(labels, label),
+        Core::Goto(label) => labels.unknown(label),
         Core::Skip => None,
         Core::Return => None,
         Core::Assign(_, _) => None,
@@ -45,8 +46,8 @@ pub fn lost<A: Allocator>(labels: &[&Name<A>], stmt: &Stmt<A>) -> Option<u32>
 }
 
 /// The same for several statements.
-pub fn lost_among<A: Allocator>(labels: &[&Name<A>], stmts: &[&Stmt<A>]) -> Option<u32>
-    ensures { Finds (λ n. AnyOf (λ s. GoesNowhere (lent labels.now) n s.head) (lent_statements stmts.now)) result }
+pub fn lost_among<A: Allocator + Copy>(labels: &Known<A>, stmts: &[&Stmt<A>]) -> Option<u32>
+    ensures { Finds (λ n. AnyOf (λ s. GoesNowhere (lent labels.now.names.items) n s.head) (lent_statements stmts.now)) result }
 {
     let mut found = None;
     for stmt in stmts {
@@ -56,7 +57,7 @@ pub fn lost_among<A: Allocator>(labels: &[&Name<A>], stmts: &[&Stmt<A>]) -> Opti
 }
 
 /// The least offset of a label of a procedure that is defined twice, or of the name of a `goto` that is none.
-pub fn mislabelled<A: Allocator + Clone>(
+pub fn mislabelled<A: Allocator + Copy>(
     alloc: &A,
     proc: &Proc<A>,
 ) -> Result<Option<u32>, AllocError>
@@ -64,14 +65,15 @@ pub fn mislabelled<A: Allocator + Clone>(
 {
     let stmts = flatten(&proc.body, Vec::new(alloc.clone()?))?;
     let labels = labels(&stmts, Vec::new(alloc.clone()?))?;
-    let first = lost_among(&labels, &stmts);
-    let second = repeated(&labels);
+    let second = repeated(*alloc, &labels)?;
+    let known = Known::new(*alloc, labels)?;
+    let first = lost_among(&known, &stmts);
     Ok(earlier(first, second))
 }
 
 /// The least offset of the name in a `goto` that is no label of its procedure, or of a label that is defined again;
 /// nothing where there is none. An error is a refused growth.
-pub fn first_bad_label<A: Allocator + Clone>(
+pub fn first_bad_label<A: Allocator + Copy>(
     alloc: &A,
     program: &Program<A>,
 ) -> Result<Option<u32>, AllocError>

@@ -4,6 +4,7 @@
 mod checking;
 mod counts;
 mod fault;
+mod known;
 mod labels;
 mod laws;
 mod limits;

@@ -1,12 +1,11 @@
 //! Searches among names.
 
-ghost use Rattle.std.specs.Prelude.{◌≡◌, ◌++◌, IfOk, IsTrue, ◌↔◌, true};
+ghost use Rattle.std.specs.Prelude.{◌≡◌, ◌++◌, IfOk, IsTrue, ◌↔◌};
 ghost use Rattle.language.specs.Rest.{same_text};
-ghost use Rattle.language.specs.Resolve.{is_declared};
 ghost use Rattle.syntax.specs.Trees.{name_of, names_of};
-ghost use Rattle.scopes.specs.Find.{AnyOf, Finds, earlier_of};
+ghost use Rattle.scopes.specs.Find.{Finds, earlier_of};
 ghost use Rattle.scopes.specs.Statements.{lent};
-ghost use Rattle.scopes.specs.Faults.{Repeated, IsUnknown, IsReserved, HasTwoUnderscores};
+ghost use Rattle.scopes.specs.Faults.{IsReserved, HasTwoUnderscores};
 
 use std::alloc::{AllocError, Allocator};
 use syntax::Name;
@@ -41,57 +40,6 @@ pub fn is_same<A: Allocator>(x: &Name<A>, y: &Name<A>) -> bool
     ensures { result ≡ same_text (name_of x.now).text (name_of y.now).text }
 {
     x.text.as_str() == y.text.as_str()
-}
-
-/// Whether one of the names is written as `x` is.
-pub fn declares<A: Allocator>(names: &[&Name<A>], x: &Name<A>) -> bool
-    ensures { result ≡ is_declared (name_of x.now).text (lent names.now) }
-{
-    for name in names {
-        if is_same(x, name) {
-            return true;
-        }
-    }
-    false
-}
-
-/// The offset of `y`, where it is written as `x` is.
-#[tactic(auto, using(crate::proofs::Found::here, crate::proofs::Found::not_here))]
-pub fn same_at<A: Allocator>(x: &Name<A>, y: &Name<A>) -> Option<u32>
-    ensures { Finds (λ n. (y.now.at ≡ n) × (same_text (name_of x.now).text (name_of y.now).text ≡ true)) result }
-{
-    if is_same(x, y) { Some(y.at) } else { None }
-}
-
-/// The least offset of a name that is written as `x` is.
-pub fn copy_of<A: Allocator>(x: &Name<A>, names: &[&Name<A>]) -> Option<u32>
-    ensures { Finds (λ n. AnyOf (λ y. (y.at ≡ n) × (same_text (name_of x.now).text y.text ≡ true)) (lent names.now)) result }
-{
-    let mut found = None;
-    for name in names {
-        found = earlier(found, same_at(x, name));
-    }
-    found
-}
-
-/// The least offset of a name that is written as one before it.
-pub fn repeated<A: Allocator>(names: &[&Name<A>]) -> Option<u32>
-    ensures { Finds (Repeated (lent names.now)) result }
-{
-    let mut found = None;
-    for (i, name) in names.iter().enumerate() {
-        let (_, rest) = names.split_at(i + 1);
-        found = earlier(found, copy_of(name, rest));
-    }
-    found
-}
-
-/// The offset of a name that is not among those known.
-#[tactic(auto, using(crate::proofs::Found::here, crate::proofs::Found::not_here))]
-pub fn unknown<A: Allocator>(known: &[&Name<A>], x: &Name<A>) -> Option<u32>
-    ensures { Finds (λ n. IsUnknown (lent known.now) n (name_of x.now)) result }
-{
-    if declares(known, x) { None } else { Some(x.at) }
 }
 
 /// Whether two underscores stand side by side in a name.

@@ -173,15 +173,8 @@ static CHOICES: [(&str, &str); 15] = [
 ];
 
 /// What is answered to a text, by what allocator.
-fn answered<A: Allocator + Clone>(
-    host: Global,
-    alloc: A,
-    text: &str,
-) -> Result<String, AllocError> {
-    let Ok(unread) = alloc.clone() else {
-        return Err(AllocError);
-    };
-    match read(unread, text.as_bytes()) {
+fn answered<A: Allocator + Copy>(host: Global, alloc: A, text: &str) -> Result<String, AllocError> {
+    match read(alloc, text.as_bytes()) {
         Ok(program) => match check(alloc, program) {
             Ok(_) => String::from_str(host, "checked"),
             Err(fault) => format!(in host; "{fault}"),

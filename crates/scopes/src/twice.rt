@@ -6,7 +6,8 @@ ghost use Rattle.scopes.specs.Find.{AnyOf, Finds};
 ghost use Rattle.scopes.specs.Statements.{lent, lent_statements, statement_of};
 ghost use Rattle.scopes.specs.Faults.{Repeated, names, targets_of, IsTwiceIn, DeclaredTwice};
 
-use crate::names::{earlier, lend, repeated};
+use crate::known::repeated;
+use crate::names::{earlier, lend};
 use crate::statements::flatten;
 use std::alloc::{AllocError, Allocator};
 use syntax::{Core, Name, Proc, Program, Stmt};
@@ -26,7 +27,7 @@ pub fn proc_names<'a, A: Allocator>(
 }
 
 /// The least offset of a target that comes again in a statement's assignment.
-pub fn target_again<A: Allocator + Clone>(
+pub fn target_again<A: Allocator + Copy>(
     alloc: &A,
     stmt: &Stmt<A>,
 ) -> Result<Option<u32>, AllocError>
@@ -35,7 +36,7 @@ pub fn target_again<A: Allocator + Clone>(
     match &stmt.core {
         Core::Assign(targets, _) => {
             let list = lend(targets, Vec::new(alloc.clone()?))?;
-            Ok(repeated(&list))
+            repeated(*alloc, &list)
         }
         Core::Skip => Ok(None),
         Core::Return => Ok(None),
@@ -49,7 +50,7 @@ pub fn target_again<A: Allocator + Clone>(
 }
 
 /// The same for several statements.
-pub fn targets_again<A: Allocator + Clone>(
+pub fn targets_again<A: Allocator + Copy>(
     alloc: &A,
     stmts: &[&Stmt<A>],
 ) -> Result<Option<u32>, AllocError>
@@ -63,19 +64,19 @@ pub fn targets_again<A: Allocator + Clone>(
 }
 
 /// The least offset of a name that comes again in a procedure.
-pub fn twice_in<A: Allocator + Clone>(alloc: &A, proc: &Proc<A>) -> Result<Option<u32>, AllocError>
+pub fn twice_in<A: Allocator + Copy>(alloc: &A, proc: &Proc<A>) -> Result<Option<u32>, AllocError>
     ensures { IfOk result (λ r. Finds (λ n. IsTwiceIn (proc_of proc.now) n) r) }
 {
     let formals = lend(&proc.formals, Vec::new(alloc.clone()?))?;
     let own = lend(&proc.locals, formals)?;
-    let first = repeated(&own);
+    let first = repeated(*alloc, &own)?;
     let stmts = flatten(&proc.body, Vec::new(alloc.clone()?))?;
     let second = targets_again(alloc, &stmts)?;
     Ok(earlier(first, second))
 }
 
 /// The same for several procedures.
-pub fn twice_among<A: Allocator + Clone>(
+pub fn twice_among<A: Allocator + Copy>(
     alloc: &A,
     procs: &[Proc<A>],
 ) -> Result<Option<u32>, AllocError>
@@ -90,16 +91,16 @@ pub fn twice_among<A: Allocator + Clone>(
 
 /// The least offset of a name that comes again among the globals, the procedures, the formals and locals of one
 /// procedure, or the targets of one assignment; nothing where none does. An error is a refused growth.
-pub fn first_twice<A: Allocator + Clone>(
+pub fn first_twice<A: Allocator + Copy>(
     alloc: &A,
     program: &Program<A>,
 ) -> Result<Option<u32>, AllocError>
     ensures { IfOk result (λ r. Finds (λ n. DeclaredTwice (tree_of program.now) n) r) }
 {
     let globals = lend(&program.globals, Vec::new(alloc.clone()?))?;
-    let first = repeated(&globals);
+    let first = repeated(*alloc, &globals)?;
     let called = proc_names(&program.procs, Vec::new(alloc.clone()?))?;
-    let second = repeated(&called);
+    let second = repeated(*alloc, &called)?;
     let third = twice_among(alloc, &program.procs)?;
     let later = earlier(second, third);
     Ok(earlier(first, later))

@@ -6,7 +6,8 @@ ghost use Rattle.scopes.specs.Find.{AnyOf, Finds};
 ghost use Rattle.scopes.specs.Statements.{lent, lent_statements, statement_of, statements_of, used_by, variables_of, variables_of_all, variables_of_side, variables_of_sides};
 ghost use Rattle.scopes.specs.Faults.{named, known, IsUnknown, CallsUnknown, IsUndeclaredIn, Undeclared};
 
-use crate::names::{earlier, is_same, lend, unknown};
+use crate::known::Known;
+use crate::names::{earlier, is_same, lend};
 use crate::statements::flatten;
 use std::alloc::{AllocError, Allocator};
 use syntax::{Core, Expr, Name, Proc, Program, Rhs, Stmt};
@@ -24,12 +25,12 @@ pub fn find<'a, A: Allocator>(procs: &'a [Proc<A>], x: &Name<A>) -> Option<&'a P
 }
 
 /// The least offset of a variable of an expression that is not among those known.
-pub fn in_expr<A: Allocator>(known: &[&Name<A>], e: &Expr<A>) -> Option<u32>
-    ensures { Finds (λ n. AnyOf (λ x. IsUnknown (lent known.now) n x) (variables_of (expr_of e.now))) result }
+pub fn in_expr<A: Allocator + Copy>(known: &Known<A>, e: &Expr<A>) -> Option<u32>
+    ensures { Finds (λ n. AnyOf (λ x. IsUnknown (lent known.now.names.items) n x) (variables_of (expr_of e.now))) result }
 {
     match e {
         Expr::Const(_) => None,
-        Expr::Var(x) => unknown(known, x),
+        Expr::Var(x) => known.unknown(x),
         Expr::Not(inner) => in_expr(known, inner),
         Expr::Two(_, left, right) => {
             let first = in_expr(known, left);
@@ -40,8 +41,8 @@ pub fn in_expr<A: Allocator>(known: &[&Name<A>], e: &Expr<A>) -> Option<u32>
 }
 
 /// The same for several expressions.
-pub fn in_exprs<A: Allocator>(known: &[&Name<A>], exprs: &[Expr<A>]) -> Option<u32>
-    ensures { Finds (λ n. AnyOf (λ x. IsUnknown (lent known.now) n x) (variables_of_all (exprs_of exprs.now))) result }
+pub fn in_exprs<A: Allocator + Copy>(known: &Known<A>, exprs: &[Expr<A>]) -> Option<u32>
+    ensures { Finds (λ n. AnyOf (λ x. IsUnknown (lent known.now.names.items) n x) (variables_of_all (exprs_of exprs.now))) result }
 {
     let mut found = None;
     for e in exprs {
@@ -51,8 +52,8 @@ pub fn in_exprs<A: Allocator>(known: &[&Name<A>], exprs: &[Expr<A>]) -> Option<u
 }
 
 /// The same for a right side.
-pub fn in_rhs<A: Allocator>(known: &[&Name<A>], rhs: &Rhs<A>) -> Option<u32>
-    ensures { Finds (λ n. AnyOf (λ x. IsUnknown (lent known.now) n x) (variables_of_side (rhs_of rhs.now))) result }
+pub fn in_rhs<A: Allocator + Copy>(known: &Known<A>, rhs: &Rhs<A>) -> Option<u32>
+    ensures { Finds (λ n. AnyOf (λ x. IsUnknown (lent known.now.names.items) n x) (variables_of_side (rhs_of rhs.now))) result }
 {
     match rhs {
         Rhs::Any => None,
@@ -61,8 +62,8 @@ pub fn in_rhs<A: Allocator>(known: &[&Name<A>], rhs: &Rhs<A>) -> Option<u32>
 }
 
 /// The same for several right sides.
-pub fn in_rhss<A: Allocator>(known: &[&Name<A>], sides: &[Rhs<A>]) -> Option<u32>
-    ensures { Finds (λ n. AnyOf (λ x. IsUnknown (lent known.now) n x) (variables_of_sides (rhss_of sides.now))) result }
+pub fn in_rhss<A: Allocator + Copy>(known: &Known<A>, sides: &[Rhs<A>]) -> Option<u32>
+    ensures { Finds (λ n. AnyOf (λ x. IsUnknown (lent known.now.names.items) n x) (variables_of_sides (rhss_of sides.now))) result }
 {
     let mut found = None;
     for rhs in sides {
@@ -72,19 +73,19 @@ pub fn in_rhss<A: Allocator>(known: &[&Name<A>], sides: &[Rhs<A>]) -> Option<u32
 }
 
 /// The same for the targets of an assignment.
-pub fn in_targets<A: Allocator>(known: &[&Name<A>], targets: &[Name<A>]) -> Option<u32>
-    ensures { Finds (λ n. AnyOf (λ x. IsUnknown (lent known.now) n x) (names_of targets.now)) result }
+pub fn in_targets<A: Allocator + Copy>(known: &Known<A>, targets: &[Name<A>]) -> Option<u32>
+    ensures { Finds (λ n. AnyOf (λ x. IsUnknown (lent known.now.names.items) n x) (names_of targets.now)) result }
 {
     let mut found = None;
     for target in targets {
-        found = earlier(found, unknown(known, target));
+        found = earlier(found, known.unknown(target));
     }
     found
 }
 
 /// The same for the variables of a statement, without those of the statements that it holds.
-pub fn in_statement<A: Allocator>(known: &[&Name<A>], stmt: &Stmt<A>) -> Option<u32>
-    ensures { Finds (λ n. AnyOf (λ x. IsUnknown (lent known.now) n x) (used_by (statement_of stmt.now).head)) result }
+pub fn in_statement<A: Allocator + Copy>(known: &Known<A>, stmt: &Stmt<A>) -> Option<u32>
+    ensures { Finds (λ n. AnyOf (λ x. IsUnknown (lent known.now.names.items) n x) (used_by (statement_of stmt.now).head)) result }
 {
     match &stmt.core {
         Core::Skip => None,
@@ -124,12 +125,12 @@ pub fn in_call<A: Allocator>(procs: &[Proc<A>], stmt: &Stmt<A>) -> Option<u32>
 }
 
 /// The least offset of a variable or a called procedure of a statement that has no declaration.
-pub fn of_statement<A: Allocator>(
-    known: &[&Name<A>],
+pub fn of_statement<A: Allocator + Copy>(
+    known: &Known<A>,
     procs: &[Proc<A>],
     stmt: &Stmt<A>,
 ) -> Option<u32>
-    ensures { Finds (λ n. IsUndeclaredIn (lent known.now) (procs_of procs.now) (statement_of stmt.now) n) result }
+    ensures { Finds (λ n. IsUndeclaredIn (lent known.now.names.items) (procs_of procs.now) (statement_of stmt.now) n) result }
 {
     let first = in_statement(known, stmt);
     let second = in_call(procs, stmt);
@@ -137,12 +138,12 @@ pub fn of_statement<A: Allocator>(
 }
 
 /// The same for several statements.
-pub fn of_statements<A: Allocator>(
-    known: &[&Name<A>],
+pub fn of_statements<A: Allocator + Copy>(
+    known: &Known<A>,
     procs: &[Proc<A>],
     stmts: &[&Stmt<A>],
 ) -> Option<u32>
-    ensures { Finds (λ n. AnyOf (λ s. IsUndeclaredIn (lent known.now) (procs_of procs.now) s n) (lent_statements stmts.now)) result }
+    ensures { Finds (λ n. AnyOf (λ s. IsUndeclaredIn (lent known.now.names.items) (procs_of procs.now) s n) (lent_statements stmts.now)) result }
 {
     let mut found = None;
     for stmt in stmts {
@@ -152,7 +153,7 @@ pub fn of_statements<A: Allocator>(
 }
 
 /// The same for a procedure.
-pub fn of_proc<A: Allocator + Clone>(
+pub fn of_proc<A: Allocator + Copy>(
     alloc: &A,
     program: &Program<A>,
     proc: &Proc<A>,
@@ -161,14 +162,15 @@ pub fn of_proc<A: Allocator + Clone>(
 {
     let formals = lend(&proc.formals, Vec::new(alloc.clone()?))?;
     let own = lend(&proc.locals, formals)?;
-    let known = lend(&program.globals, own)?;
+    let all = lend(&program.globals, own)?;
+    let known = Known::new(*alloc, all)?;
     let stmts = flatten(&proc.body, Vec::new(alloc.clone()?))?;
     Ok(of_statements(&known, &program.procs, &stmts))
 }
 
 /// The least offset of a variable or a called procedure that has no declaration; nothing where each has one. An
 /// error is a refused growth.
-pub fn first_undeclared<A: Allocator + Clone>(
+pub fn first_undeclared<A: Allocator + Copy>(
     alloc: &A,
     program: &Program<A>,
 ) -> Result<Option<u32>, AllocError>

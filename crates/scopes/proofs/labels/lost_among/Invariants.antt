@@ -6,5 +6,5 @@ use Rattle.scopes.proofs.labels.lost_among.Given as goal
 
 abbrev pub invariant-loop-stmt : goal.invariant-loop-stmt
 invariant-loop-stmt g l =
-    Kept (λ n. AnyOf (λ s. GoesNowhere (lent l.labels) n s.head) (lent_statements l.stmts))
-    (λ n. AnyOf (λ s. GoesNowhere (lent l.labels) n s.head) (lent_statements (drop l.stmt-index l.stmts))) l.found
+    Kept (λ n. AnyOf (λ s. GoesNowhere (lent l.labels.names.items) n s.head) (lent_statements l.stmts))
+    (λ n. AnyOf (λ s. GoesNowhere (lent l.labels.names.items) n s.head) (lent_statements (drop l.stmt-index l.stmts))) l.found

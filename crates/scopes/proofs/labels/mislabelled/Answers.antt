@@ -13,9 +13,10 @@ returns g c =
     c.in_ok-stmts.ensures ∙ ap (λ l. lent_statements l ++ statements_of (block_of c.deref.result.now)) c.new.ensures.items ∙ ap (λ l. statements_of (block_of l)) c.deref.ensures.value in
     let labels : lent c.in_ok-labels.labels.items ≡ labels_of (statements_of (block_of c.args.proc.now.body.items)) =
     c.in_ok-labels.ensures ∙ ap (λ l. lent l ++ labels_of (lent_statements c.deref-2.result.now)) c.new-2.ensures.items ∙ ap (λ l. labels_of (lent_statements l)) c.deref-2.ensures.value ∙ ap labels_of stmts in
-    both_of c.lost_among-first.result c.repeated-second.result c.earlier.result c.earlier.ensures
-    (moved (λ (l : List Name) n. AnyOf (λ (s : Statement). GoesNowhere l n s.head) (statements_of (block_of c.args.proc.now.body.items))) (lent c.in_ok-labels.labels.items) _ c.lost_among-first.result (sym labels)
-    (moved (λ (l : List Statement) n. AnyOf (λ (s : Statement). GoesNowhere (lent c.in_ok-labels.labels.items) n s.head) l) (lent_statements c.in_ok-stmts.stmts.items) _ c.lost_among-first.result (sym stmts)
-    (rw (c.deref-3.ensures.value, c.deref-4.ensures.value) at c.lost_among-first.ensures)))
-    (moved (λ (l : List Name) n. Repeated l n) (lent c.in_ok-labels.labels.items) _ c.repeated-second.result (sym labels)
-    (rw c.deref-5.ensures.value at c.repeated-second.ensures))
+    let known : lent c.in_ok-known.known.names.items ≡ labels_of (statements_of (block_of c.args.proc.now.body.items)) = c.in_ok-known.ensures ∙ labels in
+    both_of c.lost_among-first.result c.in_ok-second.second c.earlier.result c.earlier.ensures
+    (moved (λ (l : List Name) n. AnyOf (λ (s : Statement). GoesNowhere l n s.head) (statements_of (block_of c.args.proc.now.body.items))) (lent c.in_ok-known.known.names.items) _ c.lost_among-first.result (sym known)
+    (moved (λ (l : List Statement) n. AnyOf (λ (s : Statement). GoesNowhere (lent c.in_ok-known.known.names.items) n s.head) l) (lent_statements c.in_ok-stmts.stmts.items) _ c.lost_among-first.result (sym stmts)
+    (rw c.deref-4.ensures.value at c.lost_among-first.ensures)))
+    (moved (λ (l : List Name) n. Repeated l n) (lent c.in_ok-labels.labels.items) _ c.in_ok-second.second (sym labels)
+    (rw c.deref-3.ensures.value at c.in_ok-second.ensures))

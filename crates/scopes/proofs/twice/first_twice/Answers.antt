@@ -9,12 +9,12 @@ use Rattle.scopes.proofs.twice.first_twice.Goals as goal
 
 pub returns : goal.returns
 returns g c =
-    both_of c.repeated-first.result c.earlier-later.result c.earlier.result c.earlier.ensures
-    (moved (λ (l : List Name) n. Repeated l n) (lent c.in_ok-globals.globals.items) _ c.repeated-first.result
+    both_of c.in_ok-first.first c.earlier-later.result c.earlier.result c.earlier.ensures
+    (moved (λ (l : List Name) n. Repeated l n) (lent c.in_ok-globals.globals.items) _ c.in_ok-first.first
     (sym (c.in_ok-globals.ensures ∙ ap (λ l. lent l ++ names_of c.deref.result.now) c.new.ensures.items ∙ ap names_of c.deref.ensures.value))
-    (rw c.deref-2.ensures.value at c.repeated-first.ensures))
-    (both_of c.repeated-second.result c.in_ok-third.third c.earlier-later.result c.earlier-later.ensures
-    (moved (λ (l : List Name) n. Repeated l n) (lent c.in_ok-called.called.items) _ c.repeated-second.result
+    (rw c.deref-2.ensures.value at c.in_ok-first.ensures))
+    (both_of c.in_ok-second.second c.in_ok-third.third c.earlier-later.result c.earlier-later.ensures
+    (moved (λ (l : List Name) n. Repeated l n) (lent c.in_ok-called.called.items) _ c.in_ok-second.second
     (sym (c.in_ok-called.ensures ∙ ap (λ l. lent l ++ names (procs_of c.deref-3.result.now)) c.new-2.ensures.items ∙ ap (λ l. names (procs_of l)) c.deref-3.ensures.value))
-    (rw c.deref-4.ensures.value at c.repeated-second.ensures))
+    (rw c.deref-4.ensures.value at c.in_ok-second.ensures))
     (rw c.deref-5.ensures.value at c.in_ok-third.ensures))

@@ -4,7 +4,7 @@ use Rattle.syntax.specs.Trees.{name_of, names_of, rhs_of, rhss_of, exprs_of, pro
 use Rattle.scopes.specs.Find.{AnyOf, Finds}
 use Rattle.scopes.specs.Statements.{Head, plain, tests, lent, used_by, variables_of, variables_of_side, variables_of_sides, variables_of_all, statement_of}
 use Rattle.scopes.proofs.Heads.{head_is, label_is, at_is, deed_of-Skip, deed_of-Return, deed_of-Goto, deed_of-Assign, deed_of-If, deed_of-While, deed_of-Assert, deed_of-Assume, deed_of-Call}
-use Rattle.scopes.proofs.Found.{moved, nowhere, only, in_both_of, both_of}
+use Rattle.scopes.proofs.Found.{moved, nowhere, on_ok}
 use Rattle.scopes.specs.Faults.{Repeated, targets_of}
 use Rattle.scopes.proofs.twice.target_again.Goals as goal
 
@@ -34,7 +34,8 @@ returns-in-Assume g c = moved (λ h n. Repeated (targets_of h) n) _ _ _ (head_is
 
 pub returns-in_ok-list-in-Assign : goal.returns-in_ok-list-in-Assign
 returns-in_ok-list-in-Assign g c =
-    moved (λ h n. Repeated (targets_of h) n) _ _ _ (head_is c.args.stmt.now _ (ap deed_of c.in-Assign.is ∙ deed_of-Assign _ _))
-    (moved (λ l n. Repeated l n) (lent c.in_ok-list-in-Assign.list.items) (names_of c.in-Assign.targets.items) c.repeated.result
+    on_ok (λ o. Finds (Repeated (lent c.deref-in-Assign.result.now)) o) (λ o. Finds (λ n. Repeated (targets_of (statement_of c.args.stmt.now).head) n) o) c.repeated.result
+    (λ o h. moved (λ d n. Repeated (targets_of d) n) _ _ o (head_is c.args.stmt.now _ (ap deed_of c.in-Assign.is ∙ deed_of-Assign _ _))
+    (moved (λ l n. Repeated l n) (lent c.in_ok-list-in-Assign.list.items) (names_of c.in-Assign.targets.items) o
     (sym (c.in_ok-list-in-Assign.ensures ∙ ap (λ l. lent l ++ names_of c.deref.result.now) c.new.ensures.items ∙ ap names_of c.deref.ensures.value))
-    (rw c.deref-in-Assign.ensures.value at c.repeated.ensures))
+    (rw c.deref-in-Assign.ensures.value at h))) c.repeated.ensures

@@ -7,4 +7,4 @@ use Rattle.scopes.proofs.undeclared.in_exprs.Given as goal
 
 abbrev pub invariant-loop-e : goal.invariant-loop-e
 invariant-loop-e g l =
-    Kept (λ n. AnyOf (λ x. IsUnknown (lent l.known) n x) (variables_of_all (exprs_of (l.exprs)))) (λ n. AnyOf (λ x. IsUnknown (lent l.known) n x) (variables_of_all (exprs_of (drop l.e-index l.exprs)))) l.found
+    Kept (λ n. AnyOf (λ x. IsUnknown (lent l.known.names.items) n x) (variables_of_all (exprs_of (l.exprs)))) (λ n. AnyOf (λ x. IsUnknown (lent l.known.names.items) n x) (variables_of_all (exprs_of (drop l.e-index l.exprs)))) l.found

@@ -10,7 +10,7 @@ loop-rhs-init g c = begin
 
 pub loop-rhs-preserved : goal.loop-rhs-preserved
 loop-rhs-preserved g c =
-    next_flat (λ x n. IsUnknown (lent c.args.known.now) n x) variables_of_sides variables_of_side rhs_of c.args.sides.now c.loop-rhs.rhs-index c.rhs-item.result c.loop-rhs.found c.in_rhs.result c.earlier-found.result (λ y ys. refl) (omega arith) c.rhs-item.is c.earlier-found.ensures c.loop-rhs.invariant c.in_rhs.ensures
+    next_flat (λ x n. IsUnknown (lent c.args.known.now.names.items) n x) variables_of_sides variables_of_side rhs_of c.args.sides.now c.loop-rhs.rhs-index c.rhs-item.result c.loop-rhs.found c.in_rhs.result c.earlier-found.result (λ y ys. refl) (omega arith) c.rhs-item.is c.earlier-found.ensures c.loop-rhs.invariant c.in_rhs.ensures
 
 pub returns : goal.returns
-returns g c = end_flat (λ x n. IsUnknown (lent c.args.known.now) n x) variables_of_sides rhs_of c.args.sides.now c.loop-rhs.rhs-index c.loop-rhs.found refl (omega arith) c.loop-rhs.invariant
+returns g c = end_flat (λ x n. IsUnknown (lent c.args.known.now.names.items) n x) variables_of_sides rhs_of c.args.sides.now c.loop-rhs.rhs-index c.loop-rhs.found refl (omega arith) c.loop-rhs.invariant

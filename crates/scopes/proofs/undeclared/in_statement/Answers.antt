@@ -9,30 +9,30 @@ use Rattle.scopes.specs.Faults.{IsUnknown}
 use Rattle.scopes.proofs.undeclared.in_statement.Goals as goal
 
 pub returns-in-Skip : goal.returns-in-Skip
-returns-in-Skip g c = moved (λ h n. AnyOf (λ x. IsUnknown (lent c.args.known.now) n x) (used_by h)) _ _ _ (head_is c.args.stmt.now _ (ap deed_of c.in-Skip.is ∙ deed_of-Skip _)) (nowhere (λ n h. h))
+returns-in-Skip g c = moved (λ h n. AnyOf (λ x. IsUnknown (lent c.args.known.now.names.items) n x) (used_by h)) _ _ _ (head_is c.args.stmt.now _ (ap deed_of c.in-Skip.is ∙ deed_of-Skip _)) (nowhere (λ n h. h))
 
 pub returns-in-Return : goal.returns-in-Return
-returns-in-Return g c = moved (λ h n. AnyOf (λ x. IsUnknown (lent c.args.known.now) n x) (used_by h)) _ _ _ (head_is c.args.stmt.now _ (ap deed_of c.in-Return.is ∙ deed_of-Return _)) (nowhere (λ n h. h))
+returns-in-Return g c = moved (λ h n. AnyOf (λ x. IsUnknown (lent c.args.known.now.names.items) n x) (used_by h)) _ _ _ (head_is c.args.stmt.now _ (ap deed_of c.in-Return.is ∙ deed_of-Return _)) (nowhere (λ n h. h))
 
 pub returns-in-Goto : goal.returns-in-Goto
-returns-in-Goto g c = moved (λ h n. AnyOf (λ x. IsUnknown (lent c.args.known.now) n x) (used_by h)) _ _ _ (head_is c.args.stmt.now _ (ap deed_of c.in-Goto.is ∙ deed_of-Goto _)) (nowhere (λ n h. h))
+returns-in-Goto g c = moved (λ h n. AnyOf (λ x. IsUnknown (lent c.args.known.now.names.items) n x) (used_by h)) _ _ _ (head_is c.args.stmt.now _ (ap deed_of c.in-Goto.is ∙ deed_of-Goto _)) (nowhere (λ n h. h))
 
 pub returns-in-If : goal.returns-in-If
-returns-in-If g c = moved (λ h n. AnyOf (λ x. IsUnknown (lent c.args.known.now) n x) (used_by h)) _ _ _ (head_is c.args.stmt.now _ (ap deed_of c.in-If.is ∙ deed_of-If _ _ _)) c.in_rhs.ensures
+returns-in-If g c = moved (λ h n. AnyOf (λ x. IsUnknown (lent c.args.known.now.names.items) n x) (used_by h)) _ _ _ (head_is c.args.stmt.now _ (ap deed_of c.in-If.is ∙ deed_of-If _ _ _)) c.in_rhs.ensures
 
 pub returns-in-While : goal.returns-in-While
-returns-in-While g c = moved (λ h n. AnyOf (λ x. IsUnknown (lent c.args.known.now) n x) (used_by h)) _ _ _ (head_is c.args.stmt.now _ (ap deed_of c.in-While.is ∙ deed_of-While _ _)) c.in_rhs-in-While.ensures
+returns-in-While g c = moved (λ h n. AnyOf (λ x. IsUnknown (lent c.args.known.now.names.items) n x) (used_by h)) _ _ _ (head_is c.args.stmt.now _ (ap deed_of c.in-While.is ∙ deed_of-While _ _)) c.in_rhs-in-While.ensures
 
 pub returns-in-Assert : goal.returns-in-Assert
-returns-in-Assert g c = moved (λ h n. AnyOf (λ x. IsUnknown (lent c.args.known.now) n x) (used_by h)) _ _ _ (head_is c.args.stmt.now _ (ap deed_of c.in-Assert.is ∙ deed_of-Assert _)) c.in_rhs-in-Assert.ensures
+returns-in-Assert g c = moved (λ h n. AnyOf (λ x. IsUnknown (lent c.args.known.now.names.items) n x) (used_by h)) _ _ _ (head_is c.args.stmt.now _ (ap deed_of c.in-Assert.is ∙ deed_of-Assert _)) c.in_rhs-in-Assert.ensures
 
 pub returns-in-Assume : goal.returns-in-Assume
-returns-in-Assume g c = moved (λ h n. AnyOf (λ x. IsUnknown (lent c.args.known.now) n x) (used_by h)) _ _ _ (head_is c.args.stmt.now _ (ap deed_of c.in-Assume.is ∙ deed_of-Assume _)) c.in_rhs-in-Assume.ensures
+returns-in-Assume g c = moved (λ h n. AnyOf (λ x. IsUnknown (lent c.args.known.now.names.items) n x) (used_by h)) _ _ _ (head_is c.args.stmt.now _ (ap deed_of c.in-Assume.is ∙ deed_of-Assume _)) c.in_rhs-in-Assume.ensures
 
 pub returns-in-Call : goal.returns-in-Call
-returns-in-Call g c = moved (λ h n. AnyOf (λ x. IsUnknown (lent c.args.known.now) n x) (used_by h)) _ _ _ (head_is c.args.stmt.now _ (ap deed_of c.in-Call.is ∙ deed_of-Call _ _)) (rw c.deref-in-Call.ensures.value at c.in_exprs.ensures)
+returns-in-Call g c = moved (λ h n. AnyOf (λ x. IsUnknown (lent c.args.known.now.names.items) n x) (used_by h)) _ _ _ (head_is c.args.stmt.now _ (ap deed_of c.in-Call.is ∙ deed_of-Call _ _)) (rw c.deref-in-Call.ensures.value at c.in_exprs.ensures)
 
 pub returns-in-Assign : goal.returns-in-Assign
-returns-in-Assign g c = moved (λ h n. AnyOf (λ x. IsUnknown (lent c.args.known.now) n x) (used_by h)) _ _ _ (head_is c.args.stmt.now _ (ap deed_of c.in-Assign.is ∙ deed_of-Assign _ _))
-    (in_both_of (λ x n. IsUnknown (lent c.args.known.now) n x) (names_of c.in-Assign.targets.items) (variables_of_sides (rhss_of c.in-Assign.sides.items)) _ c.in_targets-first.result c.in_rhss-second.result c.earlier.result c.earlier.ensures refl
+returns-in-Assign g c = moved (λ h n. AnyOf (λ x. IsUnknown (lent c.args.known.now.names.items) n x) (used_by h)) _ _ _ (head_is c.args.stmt.now _ (ap deed_of c.in-Assign.is ∙ deed_of-Assign _ _))
+    (in_both_of (λ x n. IsUnknown (lent c.args.known.now.names.items) n x) (names_of c.in-Assign.targets.items) (variables_of_sides (rhss_of c.in-Assign.sides.items)) _ c.in_targets-first.result c.in_rhss-second.result c.earlier.result c.earlier.ensures refl
     (rw c.deref.ensures.value at c.in_targets-first.ensures) (rw c.deref-in-Assign.ensures.value at c.in_rhss-second.ensures))

@@ -7,4 +7,4 @@ use Rattle.scopes.proofs.undeclared.in_targets.Given as goal
 
 abbrev pub invariant-loop-target : goal.invariant-loop-target
 invariant-loop-target g l =
-    Kept (λ n. AnyOf (λ x. IsUnknown (lent l.known) n x) (names_of (l.targets))) (λ n. AnyOf (λ x. IsUnknown (lent l.known) n x) (names_of (drop l.target-index l.targets))) l.found
+    Kept (λ n. AnyOf (λ x. IsUnknown (lent l.known.names.items) n x) (names_of (l.targets))) (λ n. AnyOf (λ x. IsUnknown (lent l.known.names.items) n x) (names_of (drop l.target-index l.targets))) l.found

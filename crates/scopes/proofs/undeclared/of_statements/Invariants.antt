@@ -7,4 +7,4 @@ use Rattle.scopes.proofs.undeclared.of_statements.Given as goal
 
 abbrev pub invariant-loop-stmt : goal.invariant-loop-stmt
 invariant-loop-stmt g l =
-    Kept (λ n. AnyOf (λ s. IsUndeclaredIn (lent l.known) (procs_of l.procs) s n) (lent_statements l.stmts)) (λ n. AnyOf (λ s. IsUndeclaredIn (lent l.known) (procs_of l.procs) s n) (lent_statements (drop l.stmt-index l.stmts))) l.found
+    Kept (λ n. AnyOf (λ s. IsUndeclaredIn (lent l.known.names.items) (procs_of l.procs) s n) (lent_statements l.stmts)) (λ n. AnyOf (λ s. IsUndeclaredIn (lent l.known.names.items) (procs_of l.procs) s n) (lent_statements (drop l.stmt-index l.stmts))) l.found

@@ -1,0 +1,17 @@
+-- Texts that are looked up.
+use Rattle.std.specs.Prelude.{◌≡◌, ℕ, ◌⊎◌, true, List}
+use Rattle.std.specs.Str.{bytes_eq}
+use Rattle.indexmap.specs.IndexSet.{IndexSet, contains_by}
+use Rattle.language.specs.Tree.{Name}
+use Rattle.language.specs.Resolve.{is_declared}
+use Rattle.scopes.specs.Find.{AnyOf}
+use Rattle.scopes.specs.Faults.{Repeated}
+use denote.Ref.{Bor}
+
+-- the texts of the set are those of the names
+abbrev pub AreTexts : {S : Type 0} → IndexSet (Bor (List ℕ)) S → List Name → Type 0
+AreTexts s ns = (text : List ℕ) → contains_by (λ k. bytes_eq text k.now) s ≡ is_declared text ns
+
+-- a name at n has the text of one before it, where some names come before the list
+abbrev pub IsAgain : List Name → List Name → ℕ → Type 0
+IsAgain before ns n = AnyOf (λ (y : Name). (y.at ≡ n) × (is_declared y.text before ≡ true)) ns ⊎ Repeated ns n
