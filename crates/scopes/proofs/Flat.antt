@@ -1,8 +1,8 @@
 -- The statements of a block, one statement after the other.
 use Rattle.std.proofs.Common.{◌≡◌, ℕ, ◌+◌, ◌<◌, ◌≤◌, List, [], ◌∷◌, ◌++◌, length, map, drop, get_or, refl, sym, ◌∙◌, ap, append_assoc, append-nil, zero, suc, arith, length-append}
 use Rattle.std.proofs.lemmas.List.{drop_more, drop_all}
-use Rattle.language.specs.Tree.{Name, Mark, Block, done}
-use Rattle.syntax.specs.Trees.{Deed, simple, branch, repeat, Item, item_of, items_of, all_before, before, marked_before, block_of, deed_of, proc_of, procs_of}
+use Rattle.language.specs.Tree.{Name, Mark, Block}
+use Rattle.syntax.specs.Trees.{Deed, simple, branch, repeat, Item, item_of, marked_before, block_of, deed_of, proc_of, procs_of}
 use Rattle.syntax.specs.declared.tree.Proc.{Proc}
 use Rattle.syntax.specs.declared.tree.Stmt.{Stmt}
 use Rattle.scopes.specs.Statements.{Statement, statement_of, statements_of, statements_of_all, head_of, inside}

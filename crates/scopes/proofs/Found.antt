@@ -1,11 +1,11 @@
 -- Putting searches for the least offset together.
-use Rattle.std.proofs.Common.{◌≡◌, ◌≢◌, ℕ, ◌+◌, ◌<◌, ◌≤◌, nat_le, nat_eq, ◌&&◌, rules, Bool, true, false, cond, List, [], ◌∷◌, ◌++◌, length, map, drop, get_or, Option, Some, None, ◌⊎◌, inl, inr, refl, sym, ◌∙◌, ap, subst, arith}
+use Rattle.std.proofs.Common.{◌≡◌, ◌≢◌, ℕ, ◌+◌, ◌<◌, ◌≤◌, nat_le, rules, Bool, true, false, cond, List, [], ◌∷◌, ◌++◌, length, map, drop, get_or, Option, Some, None, ◌⊎◌, inl, inr, refl, sym, ◌∙◌, ap, subst, arith}
 use Rattle.std.specs.Prelude.{Result, Ok, Err, IfOk}
 use Rattle.std.proofs.lemmas.List.{drop_more, drop_all}
 use Rattle.std.proofs.lemmas.Bool.Decides.{leb_tells}
 use Rattle.std.specs.Str.{bytes_eq}
 use Rattle.language.specs.Rest.{same_text}
-use Rattle.scopes.specs.Find.{AnyOf, IsLeast, Finds, earlier_of, Kept}
+use Rattle.scopes.specs.Find.{AnyOf, Finds, earlier_of, Kept}
 
 lesser : {P Q : ℕ → Type 0} (m n : ℕ) (b : Bool) → nat_le m n ≡ b → Finds P (Some m) → Finds Q (Some n) → Finds (λ k. P k ⊎ Q k) (cond b (Some m) (Some n))
 lesser m n true e p q =

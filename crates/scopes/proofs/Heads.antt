@@ -1,5 +1,5 @@
 -- What a statement is as its form is known.
-use Rattle.std.proofs.Common.{◌≡◌, ℕ, List, [], ◌∷◌, ◌++◌, map, option_map, refl, sym, ◌∙◌, ap, rules}
+use Rattle.std.proofs.Common.{◌≡◌, option_map, sym, ◌∙◌, ap}
 use Rattle.std.specs.declared.vec.Vec.{Vec}
 use Rattle.std.specs.declared.boxed.Box.{Box}
 use Rattle.std.specs.Prelude.{Bool}
@@ -19,7 +19,7 @@ use Rattle.syntax.specs.declared.tree.Core.TheVariants as core
 use Rattle.syntax.specs.declared.tree.Core.TheVariants.{rolls-Skip, rolls-Return, rolls-Assign, rolls-Assert, rolls-Assume, rolls-Goto, rolls-Call, rolls-If, rolls-While}
 use Rattle.syntax.specs.declared.tree.Core.TheOpen as open_core
 use Rattle.syntax.specs.declared.tree.Core.TheFolds.{fold-roll-Core, fold_out-Stmt}
-use Rattle.scopes.specs.Statements.{statement_of, head_of, Head, plain, tests}
+use Rattle.scopes.specs.Statements.{statement_of, head_of}
 
 pub item_is : {A : Type 0} (s : Stmt A) → item_of s ≡ record { mark = record { label = option_map name_of s.label; at = s.at }; deed = deed_of s.core }
 item_is {A} s = fold_out-Stmt A Deed Item core_step stmt_step s

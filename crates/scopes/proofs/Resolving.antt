@@ -1,16 +1,15 @@
 -- A checked tree resolves.
-use Rattle.std.proofs.Common.{◌≡◌, ℕ, zero, suc, ◌+◌, ◌<◌, Bool, true, false, cond, List, [], ◌∷◌, ◌++◌, length, Option, Some, None, ◌⊎◌, inl, inr, refl, sym, ◌∙◌, ap, subst, arith, append_assoc}
-use Rattle.std.specs.Prelude.{slice_get}
-use Rattle.language.specs.Tree.{Name, skip, assign, assert, assume, goto, leave, call, Mark, Block, done, one, choose, loop, Procedure, ThreadLine, Tree}
-use Rattle.language.specs.Value.{Place, global, local}
+use Rattle.std.proofs.Common.{◌≡◌, ℕ, suc, ◌<◌, Bool, true, false, cond, List, [], ◌∷◌, ◌++◌, length, Option, Some, None, ◌⊎◌, inl, inr, refl, sym, ◌∙◌, ap, subst, arith, append_assoc}
+use Rattle.language.specs.Tree.{Name, skip, assign, assert, assume, goto, leave, call, Block, done, one, choose, loop, Procedure, Tree}
+use Rattle.language.specs.Value.{global, local}
 use Rattle.language.specs.Rest.{Code, same_text, has_label, first_of_two, join, rest_from}
 use Rattle.language.specs.Step.{AtRest}
-use Rattle.language.specs.Resolve.{number_of, is_declared, Scope, scope_of, place_of, resolve_mark, resolve_simple, resolve_side, resolve_block}
+use Rattle.language.specs.Resolve.{number_of, is_declared, Scope, scope_of, place_of, resolve_mark, resolve_side, resolve_block}
 use Rattle.scopes.specs.Statements.{Head, plain, tests, Statement, statements_of, used_by, label_of, labels_of}
-use Rattle.scopes.specs.Faults.{named, names, known, IsThere}
+use Rattle.scopes.specs.Faults.{known, IsThere}
 use Rattle.scopes.specs.Checked.{IsChecked}
-use Rattle.scopes.specs.Resolves.{Each, IsPlaceIn, GoesSomewhere, StatementResolves, Resolves}
-use Rattle.scopes.proofs.Works.{each_of, in_either, named_is, Called, Labelled, Works, IsGood, good, threads_start}
+use Rattle.scopes.specs.Resolves.{IsPlaceIn, GoesSomewhere, Resolves}
+use Rattle.scopes.proofs.Works.{each_of, in_either, named_is, Called, Labelled, good, threads_start}
 
 number_less : (x : List ℕ) (xs : List Name) → is_declared x xs ≡ true → number_of x xs < length xs
 number_less x [] h = cc

@@ -1,12 +1,12 @@
 -- A checked tree has what the rewriting asks.
-use Rattle.std.proofs.Common.{◌≡◌, ℕ, zero, suc, ◌+◌, ◌<◌, ◌≤◌, Bool, true, false, cond, ◌&&◌, ◌||◌, nat_eq, List, [], ◌∷◌, ◌++◌, length, map, get_or, Option, Some, None, ◌⊎◌, inl, inr, refl, sym, ◌∙◌, ap, subst, arith, length-append}
+use Rattle.std.proofs.Common.{◌≡◌, ℕ, suc, ◌+◌, Bool, true, false, cond, ◌&&◌, ◌||◌, nat_eq, List, [], ◌∷◌, ◌++◌, length, get_or, Option, Some, None, inl, inr, refl, sym, ◌∙◌, subst, arith, length-append}
 use Rattle.std.specs.Prelude.{slice_get}
 use Rattle.std.proofs.lemmas.Bool.{eqb-true}
 use Rattle.language.specs.Tree.{Name, Expression, const, var, negation, two, RightSide, any, value, Simple, skip, assign, assert, assume, goto, leave, call, Block, done, one, choose, loop, Procedure, ThreadLine, Tree}
 use Rattle.language.specs.Rest.{same_text}
 use Rattle.language.specs.Resolve.{number_of, is_declared, Scope, scope_of}
 use Rattle.scopes.specs.Find.{AnyOf}
-use Rattle.scopes.specs.Statements.{Head, plain, tests, Statement, statements_of, used_by, variables_of, variables_of_side, variables_of_sides, variables_of_all}
+use Rattle.scopes.specs.Statements.{plain, Statement, statements_of, used_by, variables_of, variables_of_side, variables_of_sides, variables_of_all}
 use Rattle.scopes.specs.Faults.{named, names, known, IsThere, HasTwoUnderscores, IsReserved, Repeated}
 use Rattle.scopes.specs.declared.fault.ScopeFault.TheVariants as fault
 use Rattle.scopes.specs.Checked.{IsChecked}

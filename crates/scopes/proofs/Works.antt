@@ -1,14 +1,14 @@
 -- What a checked tree's statements and names are: each fact, where the fault that denies it stands nowhere.
-use Rattle.std.proofs.Common.{◌≡◌, ◌≢◌, ℕ, zero, suc, ◌+◌, ◌<◌, ◌≤◌, Bool, true, false, cond, List, [], ◌∷◌, ◌++◌, length, map, Option, Some, None, ◌⊎◌, inl, inr, refl, sym, ◌∙◌, ap, subst, arith, append_assoc}
+use Rattle.std.proofs.Common.{◌≡◌, ◌≢◌, ℕ, suc, Bool, true, false, cond, List, [], ◌∷◌, ◌++◌, length, Option, Some, None, ◌⊎◌, inl, inr, refl}
 use Rattle.std.specs.Prelude.{slice_get}
 use Rattle.std.proofs.lemmas.Bool.{eqb-true}
 use Rattle.std.proofs.lemmas.Bool.Decides.{eqb_tells}
-use Rattle.language.specs.Tree.{Name, Simple, skip, assign, assert, assume, goto, leave, call, Procedure, ThreadLine, Tree}
+use Rattle.language.specs.Tree.{Name, skip, assign, assert, assume, goto, leave, call, Procedure, ThreadLine, Tree}
 use Rattle.language.specs.Rest.{same_text}
 use Rattle.language.specs.Resolve.{number_of, is_declared}
 use Rattle.scopes.specs.Find.{AnyOf}
 use Rattle.scopes.specs.Statements.{Head, plain, tests, Statement, statements_of, used_by, labels_of}
-use Rattle.scopes.specs.Faults.{named, names, IsThere, IsUnknown, known, CallsUnknown, IsUndeclaredIn, Miscounts, GoesNowhere, MislabelledIn, ReservedIn, CanStart, no_formals}
+use Rattle.scopes.specs.Faults.{named, names, IsThere, IsUnknown, known, CallsUnknown, IsUndeclaredIn, Miscounts, GoesNowhere, MislabelledIn, ReservedIn, CanStart}
 use Rattle.scopes.specs.declared.fault.ScopeFault.TheVariants as fault
 use Rattle.scopes.specs.Checked.{IsChecked}
 use Rattle.scopes.specs.Resolves.{Each}

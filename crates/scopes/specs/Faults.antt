@@ -1,10 +1,10 @@
 -- Where the faults of scopes stand: each is a property of a tree and an offset.
-use Rattle.std.specs.Prelude.{◌≡◌, ◌≢◌, ℕ, suc, List, [], ◌∷◌, ◌++◌, Bool, true, false, Option, Some, None, length, map, cond, slice_get, slice_index, ◌==◌, ◌⊎◌, ◌+◌}
-use Rattle.language.specs.Tree.{Name, RightSide, Simple, skip, assign, assert, assume, goto, leave, call, Procedure, ThreadLine, Tree}
+use Rattle.std.specs.Prelude.{◌≡◌, ◌≢◌, ℕ, List, [], ◌∷◌, ◌++◌, Bool, true, false, Option, Some, None, length, map, cond, slice_get, slice_index, ◌==◌, ◌⊎◌, ◌+◌}
+use Rattle.language.specs.Tree.{Name, assign, goto, call, Procedure, ThreadLine, Tree}
 use Rattle.language.specs.Rest.{same_text}
 use Rattle.language.specs.Resolve.{is_declared}
 use Rattle.scopes.specs.Find.{AnyOf}
-use Rattle.scopes.specs.Statements.{Head, plain, tests, Statement, statements_of, statements_of_all, used_by, labels_of}
+use Rattle.scopes.specs.Statements.{Head, plain, Statement, statements_of, statements_of_all, used_by, labels_of}
 
 -- the first procedure of this name, where there is one
 abbrev pub named : List ℕ → List Procedure → Option Procedure

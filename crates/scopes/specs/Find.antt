@@ -1,5 +1,5 @@
 -- What it is to find the least offset with a property.
-use Rattle.std.specs.Prelude.{◌≡◌, ℕ, ◌≤◌, nat_le, List, [], ◌∷◌, Option, Some, None, cond, ◌⊎◌}
+use Rattle.std.specs.Prelude.{ℕ, ◌≤◌, nat_le, List, [], ◌∷◌, Option, Some, None, cond, ◌⊎◌}
 
 -- some member of the list has the property
 abbrev pub AnyOf : {X : Type 0} → (X → Type 0) → List X → Type 0

@@ -1,5 +1,5 @@
 -- Which of several faults is answered.
-use Rattle.std.specs.Prelude.{◌≡◌, ◌<◌, nat_le, Option, Some, None, cond}
+use Rattle.std.specs.Prelude.{nat_le, Option, Some, None, cond}
 use Rattle.scopes.specs.declared.fault.ScopeFault.{ScopeFault}
 use Rattle.scopes.specs.Checked.{offset, ComesFirst}
 

@@ -1,8 +1,8 @@
 -- What the names of a checked tree stand for is there.
-use Rattle.std.specs.Prelude.{◌≡◌, ℕ, ◌<◌, List, [], ◌∷◌, ◌++◌, Option, Some, None, length, slice_get}
-use Rattle.language.specs.Tree.{Name, Simple, goto, call, done, Procedure, ThreadLine, Tree}
+use Rattle.std.specs.Prelude.{◌≡◌, ◌<◌, List, [], ◌∷◌, ◌++◌, length, slice_get}
+use Rattle.language.specs.Tree.{goto, call, done, Procedure, ThreadLine, Tree}
 use Rattle.language.specs.Value.{Place, global, local}
-use Rattle.language.specs.Rest.{Code, rest_from}
+use Rattle.language.specs.Rest.{rest_from}
 use Rattle.language.specs.Step.{AtRest}
 use Rattle.language.specs.Resolve.{number_of, place_of, scope_of, resolve_block}
 use Rattle.scopes.specs.Faults.{IsThere, names}

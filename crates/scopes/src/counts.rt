@@ -64,20 +64,20 @@ pub fn miscounted_among<A: Allocator>(procs: &[Proc<A>], stmts: &[&Stmt<A>]) -> 
 }
 
 /// The same for a procedure.
-pub fn miscounted_in<A: Allocator + Clone>(
+pub fn miscounted_in<A: Allocator + Copy>(
     alloc: &A,
     procs: &[Proc<A>],
     proc: &Proc<A>,
 ) -> Result<Option<u32>, AllocError>
     ensures { IfOk result (λ r. Finds (λ n. AnyOf (Miscounts (procs_of procs.now) n) (statements_of (proc_of proc.now).body)) r) }
 {
-    let stmts = flatten(&proc.body, Vec::new(alloc.clone()?))?;
+    let stmts = flatten(&proc.body, Vec::new(*alloc))?;
     Ok(miscounted_among(procs, &stmts))
 }
 
 /// The least offset of an assignment's first target, or of a called name, whose two sides differ in number; nothing
 /// where none do. An error is a refused growth.
-pub fn first_wrong_count<A: Allocator + Clone>(
+pub fn first_wrong_count<A: Allocator + Copy>(
     alloc: &A,
     program: &Program<A>,
 ) -> Result<Option<u32>, AllocError>

@@ -63,8 +63,8 @@ pub fn mislabelled<A: Allocator + Copy>(
 ) -> Result<Option<u32>, AllocError>
     ensures { IfOk result (λ r. Finds (λ n. MislabelledIn n (proc_of proc.now)) r) }
 {
-    let stmts = flatten(&proc.body, Vec::new(alloc.clone()?))?;
-    let labels = labels(&stmts, Vec::new(alloc.clone()?))?;
+    let stmts = flatten(&proc.body, Vec::new(*alloc))?;
+    let labels = labels(&stmts, Vec::new(*alloc))?;
     let second = repeated(*alloc, &labels)?;
     let known = Known::new(*alloc, labels)?;
     let first = lost_among(&known, &stmts);

@@ -66,13 +66,13 @@ pub fn all_statements<'a, A: Allocator>(
 
 /// The least offset of a 32nd procedure's name, of a 9th thread line or of a 1,001st statement of the whole text;
 /// nothing where there is none. An error is a refused growth.
-pub fn first_too_many<A: Allocator + Clone>(
+pub fn first_too_many<A: Allocator + Copy>(
     alloc: &A,
     program: &Program<A>,
 ) -> Result<Option<u32>, AllocError>
     ensures { IfOk result (λ r. Finds (λ n. TooMany (tree_of program.now) n) r) }
 {
-    let stmts = all_statements(&program.procs, Vec::new(alloc.clone()?))?;
+    let stmts = all_statements(&program.procs, Vec::new(*alloc))?;
     let first = procedure_too_many(&program.procs);
     let second = thread_too_many(&program.threads);
     let third = statement_too_many(&stmts);

@@ -13,23 +13,23 @@ use std::alloc::{AllocError, Allocator};
 use syntax::{Proc, Program};
 
 /// The least offset of a formal, a local or a label of a procedure with two underscores in a row.
-pub fn reserved_in<A: Allocator + Clone>(
+pub fn reserved_in<A: Allocator + Copy>(
     alloc: &A,
     proc: &Proc<A>,
 ) -> Result<Option<u32>, AllocError>
     ensures { IfOk result (λ r. Finds (λ n. ReservedIn n (proc_of proc.now)) r) }
 {
-    let formals = lend(&proc.formals, Vec::new(alloc.clone()?))?;
+    let formals = lend(&proc.formals, Vec::new(*alloc))?;
     let own = lend(&proc.locals, formals)?;
     let first = reserved(&own);
-    let stmts = flatten(&proc.body, Vec::new(alloc.clone()?))?;
-    let labels = labels(&stmts, Vec::new(alloc.clone()?))?;
+    let stmts = flatten(&proc.body, Vec::new(*alloc))?;
+    let labels = labels(&stmts, Vec::new(*alloc))?;
     let second = reserved(&labels);
     Ok(earlier(first, second))
 }
 
 /// The same for several procedures.
-pub fn reserved_among<A: Allocator + Clone>(
+pub fn reserved_among<A: Allocator + Copy>(
     alloc: &A,
     procs: &[Proc<A>],
 ) -> Result<Option<u32>, AllocError>
@@ -44,15 +44,15 @@ pub fn reserved_among<A: Allocator + Clone>(
 
 /// The least offset of a declared variable, procedure or label with two underscores in a row; nothing where none has.
 /// An error is a refused growth.
-pub fn first_reserved<A: Allocator + Clone>(
+pub fn first_reserved<A: Allocator + Copy>(
     alloc: &A,
     program: &Program<A>,
 ) -> Result<Option<u32>, AllocError>
     ensures { IfOk result (λ r. Finds (λ n. Reserved (tree_of program.now) n) r) }
 {
-    let globals = lend(&program.globals, Vec::new(alloc.clone()?))?;
+    let globals = lend(&program.globals, Vec::new(*alloc))?;
     let first = reserved(&globals);
-    let called = proc_names(&program.procs, Vec::new(alloc.clone()?))?;
+    let called = proc_names(&program.procs, Vec::new(*alloc))?;
     let second = reserved(&called);
     let third = reserved_among(alloc, &program.procs)?;
     let later = earlier(second, third);

@@ -35,7 +35,7 @@ pub fn target_again<A: Allocator + Copy>(
 {
     match &stmt.core {
         Core::Assign(targets, _) => {
-            let list = lend(targets, Vec::new(alloc.clone()?))?;
+            let list = lend(targets, Vec::new(*alloc))?;
             repeated(*alloc, &list)
         }
         Core::Skip => Ok(None),
@@ -67,10 +67,10 @@ pub fn targets_again<A: Allocator + Copy>(
 pub fn twice_in<A: Allocator + Copy>(alloc: &A, proc: &Proc<A>) -> Result<Option<u32>, AllocError>
     ensures { IfOk result (λ r. Finds (λ n. IsTwiceIn (proc_of proc.now) n) r) }
 {
-    let formals = lend(&proc.formals, Vec::new(alloc.clone()?))?;
+    let formals = lend(&proc.formals, Vec::new(*alloc))?;
     let own = lend(&proc.locals, formals)?;
     let first = repeated(*alloc, &own)?;
-    let stmts = flatten(&proc.body, Vec::new(alloc.clone()?))?;
+    let stmts = flatten(&proc.body, Vec::new(*alloc))?;
     let second = targets_again(alloc, &stmts)?;
     Ok(earlier(first, second))
 }
@@ -97,9 +97,9 @@ pub fn first_twice<A: Allocator + Copy>(
 ) -> Result<Option<u32>, AllocError>
     ensures { IfOk result (λ r. Finds (λ n. DeclaredTwice (tree_of program.now) n) r) }
 {
-    let globals = lend(&program.globals, Vec::new(alloc.clone()?))?;
+    let globals = lend(&program.globals, Vec::new(*alloc))?;
     let first = repeated(*alloc, &globals)?;
-    let called = proc_names(&program.procs, Vec::new(alloc.clone()?))?;
+    let called = proc_names(&program.procs, Vec::new(*alloc))?;
     let second = repeated(*alloc, &called)?;
     let third = twice_among(alloc, &program.procs)?;
     let later = earlier(second, third);

@@ -160,11 +160,11 @@ pub fn of_proc<A: Allocator + Copy>(
 ) -> Result<Option<u32>, AllocError>
     ensures { IfOk result (λ r. Finds (λ n. AnyOf (λ s. IsUndeclaredIn (known (tree_of program.now) (proc_of proc.now)) (tree_of program.now).procedures s n) (statements_of (proc_of proc.now).body)) r) }
 {
-    let formals = lend(&proc.formals, Vec::new(alloc.clone()?))?;
+    let formals = lend(&proc.formals, Vec::new(*alloc))?;
     let own = lend(&proc.locals, formals)?;
     let all = lend(&program.globals, own)?;
     let known = Known::new(*alloc, all)?;
-    let stmts = flatten(&proc.body, Vec::new(alloc.clone()?))?;
+    let stmts = flatten(&proc.body, Vec::new(*alloc))?;
     Ok(of_statements(&known, &program.procs, &stmts))
 }
 

@@ -1,4 +1,4 @@
-use Rattle.std.proofs.Common.{◌≡◌, ◌++◌, List, sym, ◌∙◌, ap}
+use Rattle.std.proofs.Common.{◌++◌, List, sym, ◌∙◌, ap}
 use Rattle.syntax.specs.Trees.{procs_of, block_of}
 use Rattle.scopes.specs.Find.{AnyOf}
 use Rattle.scopes.specs.Statements.{Statement, lent_statements, statements_of}

@@ -1,7 +1,6 @@
-use Rattle.std.proofs.Common.{◌≡◌, ℕ, ◌<◌, List, length, take, sym, subst, arith, rules}
+use Rattle.std.proofs.Common.{◌<◌, List, length, take, sym, subst, arith, rules}
 use Rattle.language.specs.Tree as tree
 use Rattle.syntax.specs.Trees.{name_of}
-use Rattle.syntax.specs.declared.tree.Name.{Name}
 use Rattle.scopes.specs.Known.{AreTexts}
 use Rattle.scopes.specs.Statements.{lent}
 use Rattle.scopes.proofs.Seen.{begin_seen, one_taken, next_seen, end_seen}

@@ -1,10 +1,8 @@
-use Rattle.std.proofs.Common.{◌≡◌, ◌≢◌, ◌++◌, ◌∙◌, ℕ, List, length, ap, sym, refl, rules, arith}
-use Rattle.language.specs.Tree.{Name, skip, assign, assert, assume, goto, leave, call}
-use Rattle.syntax.specs.Trees.{name_of, names_of, rhs_of, rhss_of, exprs_of, procs_of, deed_of}
-use Rattle.scopes.specs.Find.{AnyOf, Finds}
-use Rattle.scopes.specs.Statements.{Head, plain, tests, lent, statement_of}
-use Rattle.scopes.proofs.Heads.{head_is, label_is, at_is, deed_of-Skip, deed_of-Return, deed_of-Goto, deed_of-Assign, deed_of-If, deed_of-While, deed_of-Assert, deed_of-Assume, deed_of-Call}
-use Rattle.scopes.proofs.Found.{moved, nowhere, only, both_of}
+use Rattle.std.proofs.Common.{◌∙◌, ap}
+use Rattle.syntax.specs.Trees.{deed_of}
+use Rattle.scopes.specs.Statements.{lent}
+use Rattle.scopes.proofs.Heads.{head_is, deed_of-Skip, deed_of-Return, deed_of-Goto, deed_of-Assign, deed_of-If, deed_of-While, deed_of-Assert, deed_of-Assume, deed_of-Call}
+use Rattle.scopes.proofs.Found.{moved, nowhere}
 use Rattle.scopes.specs.Faults.{GoesNowhere}
 use Rattle.scopes.proofs.labels.lost.Goals as goal
 

@@ -1,4 +1,3 @@
-use Rattle.std.proofs.Common.{ℕ, arith}
 use Rattle.scopes.proofs.Positions.{statement_at, statement_past}
 use Rattle.scopes.proofs.limits.statement_too_many.Goals as goal
 

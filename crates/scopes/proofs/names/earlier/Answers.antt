@@ -1,4 +1,4 @@
-use Rattle.std.proofs.Common.{Option, Some, None, ◌≡◌, cond, true, false, nat_le, rules}
+use Rattle.std.proofs.Common.{rules}
 use Rattle.scopes.specs.Find.{earlier_of}
 use Rattle.scopes.proofs.names.earlier.Goals as goal
 

@@ -1,9 +1,8 @@
-use Rattle.std.proofs.Common.{◌≡◌, ◌++◌, List, sym, ◌∙◌, ap}
+use Rattle.std.proofs.Common.{◌++◌, List, sym, ◌∙◌, ap}
 use Rattle.language.specs.Tree.{Name}
 use Rattle.syntax.specs.Trees.{names_of, procs_of}
-use Rattle.scopes.specs.Find.{AnyOf}
 use Rattle.scopes.specs.Statements.{lent}
-use Rattle.scopes.specs.Faults.{IsReserved, ReservedIn, names}
+use Rattle.scopes.specs.Faults.{IsReserved, names}
 use Rattle.scopes.proofs.Found.{moved, both_of}
 use Rattle.scopes.proofs.reserved.first_reserved.Goals as goal
 

@@ -1,4 +1,4 @@
-use Rattle.std.proofs.Common.{Option, Some, None, ◌≡◌, ◌<◌, ◌≤◌, cond, true, false, nat_le, rules, arith, sym, ap₂, ◌∙◌}
+use Rattle.std.proofs.Common.{◌<◌, ◌≤◌, rules, arith, sym, ap₂, ◌∙◌}
 use Rattle.scopes.specs.Checked.{offset}
 use Rattle.scopes.specs.First.{sooner_of}
 use Rattle.scopes.proofs.First.{takes_former, takes_latter}

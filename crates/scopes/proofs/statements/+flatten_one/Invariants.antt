@@ -1,8 +1,6 @@
 use Rattle.std.proofs.Common.{◌≡◌, ◌++◌, drop, length}
-use Rattle.syntax.specs.Trees.{name_of, names_of, exprs_of, rhss_of, procs_of, proc_of, block_of, tree_of, deed_of}
-use Rattle.scopes.specs.Find.{AnyOf, Kept}
-use Rattle.scopes.specs.Statements.{lent, lent_statements, inside, statement_of, statements_of, used_by, variables_of_all, variables_of_sides}
-use Rattle.scopes.specs.Faults.{named, known, IsUnknown, IsUndeclaredIn, Undeclared}
+use Rattle.syntax.specs.Trees.{block_of, deed_of}
+use Rattle.scopes.specs.Statements.{lent_statements, inside, statements_of}
 use Rattle.scopes.proofs.statements.+flatten_one.Given as goal
 
 abbrev pub invariant-loop-one : goal.invariant-loop-one

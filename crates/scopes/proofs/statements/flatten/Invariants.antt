@@ -1,8 +1,6 @@
-use Rattle.std.proofs.Common.{◌≡◌, ◌++◌, drop, None, Some, option_map}
-use Rattle.syntax.specs.Trees.{name_of, names_of, exprs_of, rhss_of, procs_of, proc_of, block_of, tree_of}
-use Rattle.scopes.specs.Find.{AnyOf, Kept}
-use Rattle.scopes.specs.Statements.{lent, lent_statements, statement_of, statements_of, used_by, variables_of_all, variables_of_sides}
-use Rattle.scopes.specs.Faults.{named, known, IsUnknown, IsUndeclaredIn, Undeclared}
+use Rattle.std.proofs.Common.{◌≡◌, ◌++◌, drop}
+use Rattle.syntax.specs.Trees.{block_of}
+use Rattle.scopes.specs.Statements.{lent_statements, statements_of}
 use Rattle.scopes.proofs.statements.flatten.Given as goal
 
 abbrev pub invariant-loop-stmt : goal.invariant-loop-stmt

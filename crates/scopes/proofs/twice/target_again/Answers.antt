@@ -1,9 +1,8 @@
-use Rattle.std.proofs.Common.{◌≡◌, ◌++◌, ◌∙◌, ℕ, ap, sym, refl, rules, arith}
-use Rattle.language.specs.Tree.{skip, assign, assert, assume, goto, leave, call}
-use Rattle.syntax.specs.Trees.{name_of, names_of, rhs_of, rhss_of, exprs_of, procs_of, deed_of}
-use Rattle.scopes.specs.Find.{AnyOf, Finds}
-use Rattle.scopes.specs.Statements.{Head, plain, tests, lent, used_by, variables_of, variables_of_side, variables_of_sides, variables_of_all, statement_of}
-use Rattle.scopes.proofs.Heads.{head_is, label_is, at_is, deed_of-Skip, deed_of-Return, deed_of-Goto, deed_of-Assign, deed_of-If, deed_of-While, deed_of-Assert, deed_of-Assume, deed_of-Call}
+use Rattle.std.proofs.Common.{◌++◌, ◌∙◌, ap, sym}
+use Rattle.syntax.specs.Trees.{names_of, deed_of}
+use Rattle.scopes.specs.Find.{Finds}
+use Rattle.scopes.specs.Statements.{lent, statement_of}
+use Rattle.scopes.proofs.Heads.{head_is, deed_of-Skip, deed_of-Return, deed_of-Goto, deed_of-Assign, deed_of-If, deed_of-While, deed_of-Assert, deed_of-Assume, deed_of-Call}
 use Rattle.scopes.proofs.Found.{moved, nowhere, on_ok}
 use Rattle.scopes.specs.Faults.{Repeated, targets_of}
 use Rattle.scopes.proofs.twice.target_again.Goals as goal

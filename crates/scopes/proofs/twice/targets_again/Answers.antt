@@ -1,6 +1,4 @@
 use Rattle.std.proofs.Common.{arith}
-use Rattle.scopes.specs.Statements.{statement_of}
-use Rattle.scopes.specs.Faults.{Repeated, targets_of}
 use Rattle.scopes.proofs.Found.{begin, next_any, end_any}
 use Rattle.scopes.proofs.twice.targets_again.Goals as goal
 

@@ -1,4 +1,4 @@
-use Rattle.std.proofs.Common.{◌≡◌, ◌++◌, List, sym, ◌∙◌, ap}
+use Rattle.std.proofs.Common.{◌++◌, List, sym, ◌∙◌, ap}
 use Rattle.language.specs.Tree.{Name}
 use Rattle.syntax.specs.Trees.{names_of, block_of}
 use Rattle.scopes.specs.Find.{AnyOf}

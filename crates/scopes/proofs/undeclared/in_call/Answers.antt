@@ -1,10 +1,7 @@
-use Rattle.std.proofs.Common.{◌≡◌, ◌++◌, ◌∙◌, ℕ, ap, sym, refl, rules, arith}
-use Rattle.language.specs.Tree.{skip, assign, assert, assume, goto, leave, call}
-use Rattle.syntax.specs.Trees.{name_of, names_of, rhs_of, rhss_of, exprs_of, procs_of, deed_of}
-use Rattle.scopes.specs.Find.{AnyOf, Finds}
-use Rattle.scopes.specs.Statements.{Head, plain, tests, lent, used_by, variables_of, variables_of_side, variables_of_sides, variables_of_all, statement_of}
-use Rattle.scopes.proofs.Heads.{head_is, label_is, at_is, deed_of-Skip, deed_of-Return, deed_of-Goto, deed_of-Assign, deed_of-If, deed_of-While, deed_of-Assert, deed_of-Assume, deed_of-Call}
-use Rattle.scopes.proofs.Found.{moved, nowhere, only, in_both_of, both_of}
+use Rattle.std.proofs.Common.{◌∙◌, ap, sym, refl}
+use Rattle.syntax.specs.Trees.{procs_of, deed_of}
+use Rattle.scopes.proofs.Heads.{head_is, deed_of-Skip, deed_of-Return, deed_of-Goto, deed_of-Assign, deed_of-If, deed_of-While, deed_of-Assert, deed_of-Assume, deed_of-Call}
+use Rattle.scopes.proofs.Found.{moved, nowhere, only}
 use Rattle.scopes.specs.Faults.{CallsUnknown}
 use Rattle.scopes.proofs.undeclared.in_call.Goals as goal
 

@@ -1,6 +1,6 @@
 use Rattle.std.proofs.Common.{arith, refl}
-use Rattle.syntax.specs.Trees.{expr_of, rhs_of}
-use Rattle.scopes.specs.Statements.{lent, variables_of, variables_of_all, variables_of_side, variables_of_sides}
+use Rattle.syntax.specs.Trees.{expr_of}
+use Rattle.scopes.specs.Statements.{lent, variables_of, variables_of_all}
 use Rattle.scopes.specs.Faults.{IsUnknown}
 use Rattle.scopes.proofs.Found.{begin, next_flat, end_flat}
 use Rattle.scopes.proofs.undeclared.in_exprs.Goals as goal

@@ -1,5 +1,4 @@
-use Rattle.syntax.specs.Trees.{rhs_of, expr_of}
-use Rattle.std.proofs.Common.{ap, ◌∙◌}
+use Rattle.syntax.specs.Trees.{rhs_of}
 use Rattle.scopes.specs.Find.{AnyOf}
 use Rattle.scopes.specs.Statements.{lent, variables_of_side}
 use Rattle.scopes.specs.Faults.{IsUnknown}

@@ -1,6 +1,6 @@
-use Rattle.std.proofs.Common.{◌≡◌, ◌++◌, List, sym, ◌∙◌, ap}
+use Rattle.std.proofs.Common.{◌++◌, List, sym, ◌∙◌, ap}
 use Rattle.language.specs.Tree.{Name}
-use Rattle.syntax.specs.Trees.{name_of, names_of, procs_of, block_of}
+use Rattle.syntax.specs.Trees.{name_of, procs_of, block_of}
 use Rattle.scopes.specs.Find.{AnyOf}
 use Rattle.scopes.specs.Statements.{Statement, lent, lent_statements, statements_of}
 use Rattle.scopes.specs.Faults.{IsUndeclaredIn}

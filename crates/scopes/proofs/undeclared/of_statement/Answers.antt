@@ -1,4 +1,3 @@
-use Rattle.std.proofs.Common.{◌≡◌}
 use Rattle.scopes.proofs.Found.{both_of}
 use Rattle.scopes.proofs.undeclared.of_statement.Goals as goal
 
