@@ -5,3 +5,4 @@ pub mod Exact
 pub mod Gives
 pub mod Text
 pub mod Cutting
+pub mod Printed

@@ -5,6 +5,9 @@ mod expression;
 mod fault;
 mod laws;
 mod lists;
+mod print_expressions;
+mod print_statements;
+mod printing;
 mod program;
 mod reader;
 mod reading;
@@ -13,6 +16,7 @@ mod tree;
 
 pub use fault::ReadFault;
 pub use laws::texts_have_one_tree;
+pub use printing::print;
 pub use reading::read;
 pub use tree::{Core, Expr, Name, Op, Proc, Program, Rhs, Stmt, Thread};
 
