@@ -13,3 +13,5 @@ pub mod Goings
 pub mod Programs
 pub mod Texts
 pub mod OneTree
+pub mod Prints
+pub mod PrintedBlocks

@@ -6,3 +6,4 @@ pub mod Gives
 pub mod Text
 pub mod Cutting
 pub mod Printed
+pub mod PrintedDeed

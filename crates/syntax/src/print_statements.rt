@@ -1,11 +1,11 @@
 //! Printing statements and blocks.
 
-ghost use Rattle.std.specs.Prelude.{◌≡◌, ◌+◌, ◌++◌, ◌∷◌, [], IfOk, option_map};
+ghost use Rattle.std.specs.Prelude.{◌≡◌, ◌+◌, ◌++◌, IfOk, option_map};
 ghost use Rattle.std.specs.String.{string_bytes};
-ghost use Rattle.language.specs.Tree.{done};
 ghost use Rattle.tokens.specs.Parts.{text_of};
-ghost use Rattle.syntax.specs.Trees.{name_of, rhs_of, item_of, block_of, before};
-ghost use Rattle.syntax.specs.Printed.{in_parens, side_parts, label_parts, margin, block_parts};
+ghost use Rattle.syntax.specs.Trees.{name_of, rhs_of, deed_of, block_of};
+ghost use Rattle.syntax.specs.Printed.{side_parts, label_parts, margin, block_parts};
+ghost use Rattle.syntax.specs.PrintedDeed.{deed_parts};
 
 use crate::print_expressions::{print_expressions, print_name, print_names, print_side, print_sides};
 use crate::tree::{Core, Name, Rhs, Stmt};
@@ -28,17 +28,16 @@ pub fn print_margin<A: Allocator>(out: &mut String<A>, level: usize) -> Result<(
     Ok(())
 }
 
-/// Prints a line of this level.
+/// Prints a text behind the margin of this level.
 fn print_line<A: Allocator>(
     out: &mut String<A>,
     level: usize,
     text: &str,
 ) -> Result<(), AllocError>
-    ensures { IfOk result (λ _. string_bytes out.new ≡ string_bytes out.old ++ (text_of (margin level) ++ (text.now ++ (10 ∷ [])))) }
+    ensures { IfOk result (λ _. string_bytes out.new ≡ string_bytes out.old ++ (text_of (margin level) ++ text.now)) }
 {
     print_margin(out, level)?;
-    out.push_str(text)?;
-    out.push_str("\n")
+    out.push_str(text)
 }
 
 /// Prints a label, where there is one.
@@ -55,16 +54,18 @@ fn print_label<N: Allocator, A: Allocator>(
     out.push_str(": ")
 }
 
-/// Prints a right side in parentheses.
+/// Prints a right side between two texts.
 fn print_test<N: Allocator, A: Allocator>(
     out: &mut String<A>,
+    before: &str,
     side: &Rhs<N>,
+    behind: &str,
 ) -> Result<(), AllocError>
-    ensures { IfOk result (λ _. string_bytes out.new ≡ string_bytes out.old ++ text_of (in_parens (side_parts (rhs_of side.now)))) }
+    ensures { IfOk result (λ _. string_bytes out.new ≡ string_bytes out.old ++ (before.now ++ (text_of (side_parts (rhs_of side.now)) ++ behind.now))) }
 {
-    out.push_str("(")?;
+    out.push_str(before)?;
     print_side(out, side)?;
-    out.push_str(")")
+    out.push_str(behind)
 }
 
 /// Prints the statements of a block at this level.
@@ -77,23 +78,23 @@ pub fn print_block<N: Allocator, A: Allocator>(
     ensures { IfOk result (λ _. string_bytes out.new ≡ string_bytes out.old ++ text_of (block_parts level (block_of stmts.now))) }
 {
     for stmt in stmts {
-        print_statement(out, level, stmt)?;
+        print_margin(out, level)?;
+        print_label(out, &stmt.label)?;
+        print_core(out, level, &stmt.core)?;
     }
     Ok(())
 }
 
-/// Prints a statement at this level.
+/// Prints what a statement of this level does, behind its margin and its label.
 #[cycle(printing)]
-fn print_statement<N: Allocator, A: Allocator>(
+fn print_core<N: Allocator, A: Allocator>(
     out: &mut String<A>,
     level: usize,
-    stmt: &Stmt<N>,
+    core: &Core<N>,
 ) -> Result<(), AllocError>
-    ensures { IfOk result (λ _. string_bytes out.new ≡ string_bytes out.old ++ text_of (block_parts level (before (item_of stmt.now) done))) }
+    ensures { IfOk result (λ _. string_bytes out.new ≡ string_bytes out.old ++ text_of (deed_parts level (deed_of core.now))) }
 {
-    print_margin(out, level)?;
-    print_label(out, &stmt.label)?;
-    match &stmt.core {
+    match core {
         Core::Skip => out.push_str("skip;\n"),
         Core::Return => out.push_str("return;\n"),
         Core::Goto(label) => {
@@ -113,31 +114,21 @@ fn print_statement<N: Allocator, A: Allocator>(
             print_expressions(out, arguments)?;
             out.push_str(");\n")
         }
-        Core::Assert(side) => {
-            out.push_str("assert")?;
-            print_test(out, side)?;
-            out.push_str(";\n")
-        }
-        Core::Assume(side) => {
-            out.push_str("assume")?;
-            print_test(out, side)?;
-            out.push_str(";\n")
-        }
+        Core::Assert(side) => print_test(out, "assert(", side, ");\n"),
+        Core::Assume(side) => print_test(out, "assume(", side, ");\n"),
         Core::If(side, then, otherwise) => {
-            out.push_str("if ")?;
-            print_test(out, side)?;
-            out.push_str(" then\n")?;
-            print_block(out, below(level)?, then)?;
-            print_line(out, level, "else")?;
-            print_block(out, below(level)?, otherwise)?;
-            print_line(out, level, "fi")
+            let inner = below(level)?;
+            print_test(out, "if (", side, ") then\n")?;
+            print_block(out, inner, then)?;
+            print_line(out, level, "else\n")?;
+            print_block(out, inner, otherwise)?;
+            print_line(out, level, "fi\n")
         }
         Core::While(side, body) => {
-            out.push_str("while ")?;
-            print_test(out, side)?;
-            out.push_str(" do\n")?;
-            print_block(out, below(level)?, body)?;
-            print_line(out, level, "od")
+            let inner = below(level)?;
+            print_test(out, "while (", side, ") do\n")?;
+            print_block(out, inner, body)?;
+            print_line(out, level, "od\n")
         }
     }
 }
