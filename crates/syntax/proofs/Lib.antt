@@ -15,3 +15,4 @@ pub mod Texts
 pub mod OneTree
 pub mod Prints
 pub mod PrintedBlocks
+pub mod PrintedDeeds

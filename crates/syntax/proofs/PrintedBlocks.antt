@@ -1,5 +1,5 @@
 -- Texts of statements, as they grow.
-use Rattle.std.proofs.Common.{◌≡◌, ℕ, ◌+◌, ◌<◌, ◌≤◌, List, [], ◌∷◌, ◌++◌, length, map, drop, get_or, refl, sym, ◌∙◌, ap, append_assoc, append-nil, zero, suc, arith, Option, None, Some, option_map}
+use Rattle.std.proofs.Common.{◌≡◌, ℕ, ◌+◌, ◌<◌, ◌≤◌, List, [], ◌∷◌, ◌++◌, length, map, drop, get_or, refl, sym, ◌∙◌, ap, append_assoc, append-nil, zero, suc, add-one, arith, Option, None, Some, option_map}
 use Rattle.std.proofs.lemmas.List.{drop_more, drop_all}
 use Rattle.language.specs.Tree.{Name, Mark, Block, done, one, choose, loop}
 use Rattle.tokens.specs.Parts.{Part, space, line, fixed, text_of}
@@ -9,6 +9,14 @@ use Rattle.syntax.specs.declared.tree.Core.TheFolds.{fold_out-Stmt}
 use Rattle.syntax.specs.Trees.{name_of, Deed, simple, branch, repeat, Item, item_of, core_step, stmt_step, deed_of, marked_before, before, all_before, items_of, block_of}
 use Rattle.syntax.specs.Printed.{label_parts, margin, line_of, test_parts, simple_parts, block_parts}
 use Rattle.syntax.specs.PrintedDeed.{deed_parts}
+
+-- one level more
+margin_more : (level : ℕ) → text_of (margin (suc level)) ≡ text_of (margin level) ++ (32 ∷ 32 ∷ [])
+margin_more zero = refl
+margin_more (suc level) = ap (λ (t : List ℕ). 32 ∷ 32 ∷ t) (margin_more level)
+
+pub two_more : (level : ℕ) (old mid new : List ℕ) → mid ≡ old ++ text_of (margin level) → new ≡ mid ++ (32 ∷ 32 ∷ []) → new ≡ old ++ text_of (margin (level + 1))
+two_more level old mid new h e = e ∙ ap (λ (t : List ℕ). t ++ (32 ∷ 32 ∷ [])) h ∙ append_assoc old _ _ ∙ ap (λ (t : List ℕ). old ++ t) (sym (ap (λ (n : ℕ). text_of (margin n)) (add-one level) ∙ margin_more level))
 
 pub item_is : {A : Type 0} (s : Stmt A) → item_of s ≡ record { mark = record { label = option_map name_of s.label; at = s.at }; deed = deed_of s.core }
 item_is {A} s = fold_out-Stmt A Deed Item core_step stmt_step s
