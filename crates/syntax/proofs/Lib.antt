@@ -16,3 +16,4 @@ pub mod OneTree
 pub mod Prints
 pub mod PrintedBlocks
 pub mod PrintedDeeds
+pub mod PrintedPrograms
