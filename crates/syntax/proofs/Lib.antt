@@ -17,3 +17,6 @@ pub mod Prints
 pub mod PrintedBlocks
 pub mod PrintedDeeds
 pub mod PrintedPrograms
+pub mod PrintsBack
+pub mod PrintsBackBlocks
+pub mod PrintsBackPrograms

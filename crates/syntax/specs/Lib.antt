@@ -7,3 +7,5 @@ pub mod Text
 pub mod Cutting
 pub mod Printed
 pub mod PrintedDeed
+pub mod Offsets
+pub mod InGrammar

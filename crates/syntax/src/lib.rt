@@ -7,6 +7,7 @@ mod laws;
 mod lists;
 mod print_expressions;
 mod print_statements;
+mod printed_laws;
 mod printing;
 mod program;
 mod reader;
@@ -16,6 +17,7 @@ mod tree;
 
 pub use fault::ReadFault;
 pub use laws::texts_have_one_tree;
+pub use printed_laws::printed_texts_are_read_back;
 pub use printing::print;
 pub use reading::read;
 pub use tree::{Core, Expr, Name, Op, Proc, Program, Rhs, Stmt, Thread};
