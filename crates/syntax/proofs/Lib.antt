@@ -20,3 +20,6 @@ pub mod PrintedPrograms
 pub mod PrintsBack
 pub mod PrintsBackBlocks
 pub mod PrintsBackPrograms
+pub mod PrintsApart
+pub mod TextsInGrammar
+pub mod ReadsBack

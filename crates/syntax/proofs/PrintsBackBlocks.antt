@@ -12,7 +12,6 @@ use Rattle.syntax.specs.Printed as printed
 use Rattle.syntax.specs.Printed.{name_parts, separated, expression_parts, side_parts, ended, simple_parts, label_parts, margin, line_of, test_parts, block_parts}
 use Rattle.syntax.proofs.PrintsBack.{Read, Shows, put, expression_shows, side_shows, name_shows, list_shows, perhaps_shows, parens_show}
 
-
 side_in_parens : (r : RightSide Name) → Shows (InParens IsRight) unplaced_side (printed.in_parens (side_parts r)) r
 side_in_parens r = parens_show IsRight unplaced_side (side_parts r) r (side_shows r)
 
@@ -50,7 +49,6 @@ simple_shows (call p es) ok at more =
       same = ap (call (unplaced p)) inside.same;
       reads = is_call (is_name refl) inside.reads (takes refl);
     })
-
 
 simple_begun : (s : Simple Name Name Name) → SimpleInGrammar s → (more : List Part) → (k : Kind) × (w : List ℕ) × (others : List Part) × (simple_parts s ++ more ≡ shown k w ∷ others)
 simple_begun skip ok more = (_, _, _, refl)

@@ -6,7 +6,6 @@ use Rattle.tokens.specs.Spelling.{IsName}
 use Rattle.syntax.specs.Grammar.{IsSome}
 use Rattle.syntax.specs.Text.{Text, DeepTokens}
 use Rattle.syntax.specs.Offsets.{SameButOffsets}
-use Rattle.syntax.specs.Printed.{printed}
 
 -- A name is made of word bytes, begins with no digit, and is no keyword.
 abbrev pub IsId : Name → Type 0
@@ -71,10 +70,10 @@ pub record InGrammar (t : Tree) : Type 0 where
   pub some_thread : 0 < length t.threads
   pub threads : AllByRecursion ThreadInGrammar t.threads
 
--- The text that is printed for a tree is within the limits of texts: at most 65,536 bytes, and not too deep.
-pub record PrintsWithinLimits (t : Tree) : Type 0 where
-  pub bytes : length (printed t) ≤ 65536
-  pub shallow : DeepTokens (printed t) → ⊥
+-- The bytes are within the limits of texts: at most 65,536, and not cut into tokens that are too deep.
+pub record WithinLimits (bytes : List ℕ) : Type 0 where
+  pub few : length bytes ≤ 65536
+  pub shallow : DeepTokens bytes → ⊥
 
 -- The bytes are the text of a program with this tree, offsets aside.
 abbrev pub IsTextOf : List ℕ → Tree → Type 0

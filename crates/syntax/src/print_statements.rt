@@ -7,7 +7,9 @@ ghost use Rattle.syntax.specs.Trees.{name_of, rhs_of, deed_of, block_of};
 ghost use Rattle.syntax.specs.Printed.{side_parts, label_parts, margin, block_parts};
 ghost use Rattle.syntax.specs.PrintedDeed.{deed_parts};
 
-use crate::print_expressions::{print_expressions, print_name, print_names, print_side, print_sides};
+use crate::print_expressions::{
+    print_expressions, print_name, print_names, print_side, print_sides,
+};
 use crate::tree::{Core, Name, Rhs, Stmt};
 use std::alloc::{AllocError, Allocator};
 
@@ -29,11 +31,7 @@ pub fn print_margin<A: Allocator>(out: &mut String<A>, level: usize) -> Result<(
 }
 
 /// Prints a text behind the margin of this level.
-fn print_line<A: Allocator>(
-    out: &mut String<A>,
-    level: usize,
-    text: &str,
-) -> Result<(), AllocError>
+fn print_line<A: Allocator>(out: &mut String<A>, level: usize, text: &str) -> Result<(), AllocError>
     ensures { IfOk result (λ _. string_bytes out.new ≡ string_bytes out.old ++ (text_of (margin level) ++ text.now)) }
 {
     print_margin(out, level)?;

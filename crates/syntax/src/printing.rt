@@ -5,6 +5,7 @@ ghost use Rattle.std.specs.String.{string_bytes};
 ghost use Rattle.tokens.specs.Parts.{text_of};
 ghost use Rattle.syntax.specs.Grammar.{joined};
 ghost use Rattle.syntax.specs.Trees.{names_of, proc_of, procs_of, threads_of, tree_of};
+ghost use Rattle.syntax.specs.InGrammar.{InGrammar, WithinLimits, IsTextOf};
 ghost use Rattle.syntax.specs.Printed.{declaration_parts, procedure_parts, thread_parts, printed};
 
 use crate::print_expressions::{print_name, print_names};
@@ -80,6 +81,8 @@ pub fn print<N: Allocator, A: Allocator>(
 ) -> Result<String<A>, AllocError>
     // The text is the printed form of the tree.
     ensures form { IfOk result (λ text. string_bytes text ≡ printed (tree_of program.now)) }
+    // Within the limits of texts it is a text with that tree, offsets aside, where the tree is one of the grammar.
+    ensures back { InGrammar (tree_of program.now) → IfOk result (λ text. WithinLimits (string_bytes text) → IsTextOf (string_bytes text) (tree_of program.now)) }
 {
     let mut out = String::new(alloc);
     print_declaration(&mut out, 0, &program.globals)?;
