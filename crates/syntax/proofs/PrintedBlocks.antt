@@ -1,13 +1,13 @@
 -- Texts of statements, as they grow.
-use Rattle.std.proofs.Common.{◌≡◌, ℕ, ◌+◌, ◌<◌, ◌≤◌, List, [], ◌∷◌, ◌++◌, length, map, drop, get_or, refl, sym, ◌∙◌, ap, append_assoc, append-nil, zero, suc, add-one, arith, Option, None, Some, option_map}
+use Rattle.std.proofs.Common.{◌≡◌, ℕ, ◌+◌, ◌<◌, ◌≤◌, List, [], ◌∷◌, ◌++◌, length, drop, get_or, refl, sym, ◌∙◌, ap, append_assoc, append-nil, zero, suc, add-one, arith, option_map}
 use Rattle.std.proofs.lemmas.List.{drop_more, drop_all}
 use Rattle.language.specs.Tree.{Name, Mark, Block, done, one, choose, loop}
-use Rattle.tokens.specs.Parts.{Part, space, line, fixed, text_of}
+use Rattle.tokens.specs.Parts.{text_of}
 use Rattle.tokens.proofs.PartsCut.{text_of-append}
 use Rattle.syntax.specs.declared.tree.Stmt.{Stmt}
 use Rattle.syntax.specs.declared.tree.Core.TheFolds.{fold_out-Stmt}
-use Rattle.syntax.specs.Trees.{name_of, Deed, simple, branch, repeat, Item, item_of, core_step, stmt_step, deed_of, marked_before, before, all_before, items_of, block_of}
-use Rattle.syntax.specs.Printed.{label_parts, margin, line_of, test_parts, simple_parts, block_parts}
+use Rattle.syntax.specs.Trees.{name_of, Deed, simple, branch, repeat, Item, item_of, core_step, stmt_step, deed_of, marked_before, before, block_of}
+use Rattle.syntax.specs.Printed.{label_parts, margin, block_parts}
 use Rattle.syntax.specs.PrintedDeed.{deed_parts}
 
 -- one level more

@@ -1,10 +1,10 @@
 -- Texts of what statements do, as they grow.
-use Rattle.std.proofs.Common.{◌≡◌, ℕ, ◌+◌, cond, List, [], ◌∷◌, ◌++◌, refl, sym, ◌∙◌, ap, append_assoc, suc, add-one}
+use Rattle.std.proofs.Common.{◌≡◌, ℕ, ◌+◌, cond, List, [], ◌∷◌, ◌++◌, sym, ◌∙◌, ap, append_assoc, suc, add-one}
 use Rattle.std.specs.Prelude.{Result, IfOk, is_ok}
 use Rattle.std.specs.declared.vec.Vec.{Vec}
 use Rattle.language.specs.Tree as tree
 use Rattle.language.specs.Tree.{Expression, RightSide, Simple, assign, assert, assume, call, Block}
-use Rattle.tokens.specs.Parts.{Part, space, line, fixed, text_of}
+use Rattle.tokens.specs.Parts.{text_of}
 use Rattle.tokens.proofs.PartsCut.{text_of-append}
 use Rattle.syntax.specs.declared.tree.Name.{Name}
 use Rattle.syntax.specs.declared.tree.Expr.{Expr}

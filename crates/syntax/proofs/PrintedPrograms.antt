@@ -1,5 +1,5 @@
 -- Texts of declarations, procedures and programs, as they grow.
-use Rattle.std.proofs.Common.{◌≡◌, ℕ, ◌+◌, ◌<◌, cond, List, [], ◌∷◌, ◌++◌, length, map, drop, get_or, refl, sym, ◌∙◌, ap, append_assoc, arith, codes}
+use Rattle.std.proofs.Common.{◌≡◌, ℕ, ◌+◌, ◌<◌, cond, List, [], ◌∷◌, ◌++◌, length, map, drop, get_or, sym, ◌∙◌, ap, append_assoc, codes}
 use Rattle.std.specs.Prelude.{◌==◌, false, Result, IfOk, is_ok}
 use Rattle.std.proofs.lemmas.List.{drop_more}
 use Rattle.language.specs.Tree as tree
@@ -10,7 +10,7 @@ use Rattle.syntax.specs.declared.tree.Proc.{Proc}
 use Rattle.syntax.specs.declared.tree.Program.{Program}
 use Rattle.syntax.specs.Grammar.{joined}
 use Rattle.syntax.specs.Trees.{name_of, names_of, proc_of, procs_of, threads_of, tree_of, block_of}
-use Rattle.syntax.specs.Printed.{name_parts, separated, margin, block_parts, declaration_parts, procedure_parts, thread_parts, program_parts, printed}
+use Rattle.syntax.specs.Printed.{name_parts, separated, margin, block_parts, declaration_parts, procedure_parts, thread_parts, printed}
 use Rattle.syntax.proofs.Prints.{pushed_last}
 
 declaration_text : (level : ℕ) (n : tree.Name) (ns : List tree.Name)

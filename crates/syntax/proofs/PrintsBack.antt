@@ -1,12 +1,10 @@
 -- The tokens of printed parts, by the grammar.
-use Rattle.std.proofs.Common.{◌≡◌, ℕ, zero, suc, ◌+◌, ◌<◌, ◌≤◌, Bool, true, false, List, [], ◌∷◌, ◌++◌, length, map, refl, sym, ◌∙◌, ap, append_assoc, append-nil, arith, Option, None, Some, option_map}
-use Rattle.std.specs.List.{AllByRecursion}
-use Rattle.language.specs.Tree.{Name, Operator, implies, or, xor, and, equal, differs, Expression, const, var, negation, two, RightSide, any, value, Simple, skip, assign, assert, assume, goto, leave, call, Mark, Block, done, one, choose, loop, Procedure, ThreadLine, Tree}
-use Rattle.tokens.specs.declared.vocabulary.Kind.{Kind}
+use Rattle.std.proofs.Common.{◌≡◌, ℕ, ◌+◌, ◌<◌, ◌≤◌, true, false, List, [], ◌∷◌, ◌++◌, length, map, refl, ap, append_assoc, arith, Some}
+use Rattle.language.specs.Tree.{Name, Operator, implies, or, xor, and, equal, differs, Expression, const, var, negation, two, RightSide, any, value}
 use Rattle.tokens.specs.declared.vocabulary.Kind.TheVariants as kind
 use Rattle.tokens.specs.Token.{Tok}
-use Rattle.tokens.specs.Parts.{Part, shown, space, line, spelling, fixed, tokens_of}
-use Rattle.syntax.specs.Grammar.{Takes, takes, name_at, operator_at, level, left_level, right_level, Reads, reads_zero, reads_one, reads_name, reads_not, reads_paren, reads_two, IsName, is_name, Behind, behind, InParens, in_parens, Many, no_more, one_more, Several, several, Listed, listed, Perhaps, nothing, something, IsRight, is_any, is_value}
+use Rattle.tokens.specs.Parts.{Part, space, spelling, fixed, tokens_of}
+use Rattle.syntax.specs.Grammar.{takes, operator_at, level, left_level, right_level, Reads, reads_zero, reads_one, reads_name, reads_not, reads_paren, reads_two, IsName, is_name, Behind, behind, InParens, in_parens, Many, no_more, one_more, Listed, listed, Perhaps, nothing, something, IsRight, is_any, is_value}
 use Rattle.syntax.specs.Offsets.{unplaced, unplaced_expression, unplaced_side}
 use Rattle.syntax.specs.Printed as printed
 use Rattle.syntax.specs.Printed.{name_parts, after_commas, separated, kind_of, operation, operand_parts, expression_parts, side_parts}

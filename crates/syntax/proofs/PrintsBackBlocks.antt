@@ -1,11 +1,11 @@
 -- The tokens of printed statements and blocks, by the grammar.
-use Rattle.std.proofs.Common.{◌≡◌, ℕ, zero, suc, ◌+◌, ◌<◌, List, [], ◌∷◌, ◌++◌, length, map, refl, sym, ◌∙◌, ap, subst, append_assoc, arith, Option, None, Some}
-use Rattle.language.specs.Tree.{Name, Expression, RightSide, Simple, skip, assign, assert, assume, goto, leave, call, Mark, Block, done, one, choose, loop}
+use Rattle.std.proofs.Common.{◌≡◌, ℕ, zero, suc, ◌+◌, List, [], ◌∷◌, ◌++◌, length, map, refl, sym, ◌∙◌, ap, subst, append_assoc, arith, Option, None, Some}
+use Rattle.language.specs.Tree.{Name, RightSide, Simple, skip, assign, assert, assume, goto, leave, call, Block, done, one, choose, loop}
 use Rattle.tokens.specs.declared.vocabulary.Kind.{Kind}
 use Rattle.tokens.specs.declared.vocabulary.Kind.TheVariants as kind
 use Rattle.tokens.specs.Token.{Tok}
 use Rattle.tokens.specs.Parts.{Part, shown, space, line, spelling, fixed, tokens_of}
-use Rattle.syntax.specs.Grammar.{Takes, takes, IsName, is_name, InParens, Listed, Perhaps, IsExpression, IsRight, IsMarked, bare, labelled, IsSimple, is_skip, is_return, is_goto, is_assert, is_assume, is_assign, is_call, IsSome, Statements, nothing_more, statement, if_statement, while_statement}
+use Rattle.syntax.specs.Grammar.{Takes, takes, IsName, is_name, InParens, Perhaps, IsExpression, IsRight, IsMarked, bare, labelled, IsSimple, is_skip, is_return, is_goto, is_assert, is_assume, is_assign, is_call, IsSome, Statements, nothing_more, statement, if_statement, while_statement}
 use Rattle.syntax.specs.Offsets.{unplaced, unplaced_expression, unplaced_side, unplaced_simple, unplaced_mark, unplaced_block}
 use Rattle.syntax.specs.InGrammar.{SimpleInGrammar, BlockInGrammar}
 use Rattle.syntax.specs.Printed as printed

@@ -1,16 +1,16 @@
 -- The tokens of printed declarations, procedures and programs, by the grammar.
-use Rattle.std.proofs.Common.{◌≡◌, ℕ, zero, suc, ◌+◌, ◌<◌, List, [], ◌∷◌, ◌++◌, length, map, refl, sym, ◌∙◌, ap, subst, append_assoc, append-nil, arith}
+use Rattle.std.proofs.Common.{◌≡◌, ℕ, ◌+◌, ◌<◌, List, [], ◌∷◌, ◌++◌, length, map, refl, ◌∙◌, ap, subst, append_assoc, append-nil, arith}
 use Rattle.std.specs.List.{AllByRecursion}
 use Rattle.language.specs.Tree.{Name, Procedure, ThreadLine, Tree}
 use Rattle.tokens.specs.declared.vocabulary.Kind.TheVariants as kind
 use Rattle.tokens.specs.Token.{Tok}
-use Rattle.tokens.specs.Parts.{Part, space, line, spelling, fixed, tokens_of}
-use Rattle.syntax.specs.Grammar.{takes, IsName, is_name, Many, no_more, one_more, Several, several, Perhaps, joined, IsDeclaration, is_declaration, Declarations, declarations, IsProcedure, is_procedure, IsThread, is_thread, IsProgram, is_program}
-use Rattle.syntax.specs.Offsets.{unplaced, unplaced_block, unplaced_procedure, unplaced_thread, unplaced_tree}
+use Rattle.tokens.specs.Parts.{Part, space, line, fixed, tokens_of}
+use Rattle.syntax.specs.Grammar.{takes, IsName, is_name, Many, no_more, one_more, Several, several, Perhaps, joined, is_declaration, Declarations, declarations, IsProcedure, is_procedure, IsThread, is_thread, IsProgram, is_program}
+use Rattle.syntax.specs.Offsets.{unplaced, unplaced_procedure, unplaced_thread, unplaced_tree}
 use Rattle.syntax.specs.InGrammar.{ProcedureInGrammar, ThreadInGrammar, InGrammar}
 use Rattle.syntax.specs.Printed as printed
 use Rattle.syntax.specs.Printed.{name_parts, separated, ended, line_of, block_parts, declaration_parts, procedure_parts, thread_parts, program_parts}
-use Rattle.syntax.proofs.PrintsBack.{Read, Shows, put, name_shows, list_shows, perhaps_shows, parens_show}
+use Rattle.syntax.proofs.PrintsBack.{Shows, put, name_shows, list_shows, perhaps_shows, parens_show}
 use Rattle.syntax.proofs.PrintsBackBlocks.{put_tokens, line_at, word_at, some_too, block_shows}
 
 declaration_shows : (ns : List Name) (level : ℕ) → Shows Declarations (map unplaced) (declaration_parts level ns) ns

@@ -1,7 +1,7 @@
 -- The tree of a text is one of the grammar.
-use Rattle.std.proofs.Common.{◌≡◌, ℕ, ◌<◌, List, [], ◌∷◌, ◌++◌, length, refl, sym, ◌∙◌, arith, Option, None, Some}
+use Rattle.std.proofs.Common.{◌≡◌, ℕ, ◌<◌, List, [], ◌∷◌, ◌++◌, length, arith, None, Some}
 use Rattle.std.specs.List.{AllByRecursion}
-use Rattle.language.specs.Tree.{Name, Expression, RightSide, Simple, Mark, Block, Procedure, ThreadLine, Tree}
+use Rattle.language.specs.Tree.{Name, Tree}
 use Rattle.tokens.specs.declared.vocabulary.Kind.{Kind}
 use Rattle.tokens.specs.declared.vocabulary.Kind.TheVariants as kind
 use Rattle.tokens.specs.Token.{Tok}

@@ -23,4 +23,8 @@ pub use reading::read;
 pub use tree::{Core, Expr, Name, Op, Proc, Program, Rhs, Stmt, Thread};
 
 #[cfg(test)]
+mod broken_tests;
+#[cfg(test)]
+mod print_tests;
+#[cfg(test)]
 mod tests;

@@ -1,4 +1,4 @@
-use Rattle.std.proofs.Common.{◌++◌, arith}
+use Rattle.std.proofs.Common.{arith}
 use Rattle.std.specs.String.{string_bytes}
 use Rattle.syntax.specs.Trees.{rhs_of}
 use Rattle.syntax.specs.Printed.{side_parts}

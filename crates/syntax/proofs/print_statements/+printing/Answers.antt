@@ -1,4 +1,4 @@
-use Rattle.std.proofs.Common.{◌≡◌, ◌++◌, ◌+◌, ◌<◌, ◌*◌, arith}
+use Rattle.std.proofs.Common.{◌+◌, ◌<◌, ◌*◌, arith}
 use Rattle.std.specs.String.{string_bytes}
 use Rattle.syntax.specs.Trees.{deed_of, block_of}
 use Rattle.syntax.proofs.PrintedBlocks.{one_printed, none_left, fewer, count, held}
