@@ -57,4 +57,5 @@ pub program_printed : {A : Type 0} (p : Program A) (globals : List (Name A)) (pr
     → globals ≡ p.globals.items → procs ≡ p.procs.items → threads ≡ p.threads.items
     → s1 ≡ old ++ text_of (declaration_parts 0 (names_of globals)) → s2 ≡ s1 ++ text_of (joined (map procedure_parts (procs_of procs))) → s3 ≡ s2 ++ text_of (joined (map thread_parts (threads_of threads)))
     → s3 ≡ printed (tree_of p)
+unfolding printed
 program_printed p globals procs threads old s1 s2 s3 e g q t h1 h2 h3 = rw (h3, h2, h1, e, g, q, t) (simp (text_of-append, append_assoc))

@@ -9,6 +9,7 @@ use Rattle.syntax.proofs.PrintsApart.{program_apart}
 use Rattle.syntax.proofs.PrintsBackPrograms.{program_shows}
 
 pub reads_back : (t : Tree) → InGrammar t → WithinLimits (printed t) → IsTextOf (printed t) t
+unfolding printed
 reads_back t ok limits =
     let apart = program_apart t ok in
     let shows = program_shows t ok in

@@ -122,5 +122,5 @@ abbrev pub program_parts : Tree → List Part
 program_parts t = declaration_parts 0 t.globals ++ (joined (map procedure_parts t.procedures) ++ joined (map thread_parts t.threads))
 
 -- The text that is printed for a tree.
-abbrev pub printed : Tree → List ℕ
+unfoldable pub printed : Tree → List ℕ
 printed t = text_of (program_parts t)
