@@ -22,12 +22,12 @@ ExpressionInGrammar (var x) = IsId x
 ExpressionInGrammar (negation e) = ExpressionInGrammar e
 ExpressionInGrammar (two o a b) = ExpressionInGrammar a × ExpressionInGrammar b
 
--- A right side: the same.
+-- The names of a right side are ids.
 abbrev pub SideInGrammar : RightSide Name → Type 0
 SideInGrammar any = Unit {0}
 SideInGrammar (value e) = ExpressionInGrammar e
 
--- An assignment has a target and a right side at least.
+-- The names of a statement are ids, and an assignment has a target and a right side at least.
 abbrev pub SimpleInGrammar : Simple Name Name Name → Type 0
 SimpleInGrammar skip = Unit {0}
 SimpleInGrammar (assign xs rs) = (0 < length xs) × AreIds xs × (0 < length rs) × AllByRecursion SideInGrammar rs
@@ -42,14 +42,15 @@ abbrev pub LabelInGrammar : Option Name → Type 0
 LabelInGrammar None = Unit {0}
 LabelInGrammar (Some l) = IsId l
 
--- A branch of an `if` and the body of a `while` have a statement at least.
+-- The labels and the statements of a block are of the grammar, and a branch of an `if` and the body of a `while` have a
+-- statement at least.
 abbrev pub BlockInGrammar : Block Name Name Name → Type 0
 BlockInGrammar done = Unit {0}
 BlockInGrammar (one m s k) = LabelInGrammar m.label × SimpleInGrammar s × BlockInGrammar k
 BlockInGrammar (choose m r a b k) = LabelInGrammar m.label × SideInGrammar r × IsSome a × BlockInGrammar a × IsSome b × BlockInGrammar b × BlockInGrammar k
 BlockInGrammar (loop m r a k) = LabelInGrammar m.label × SideInGrammar r × IsSome a × BlockInGrammar a × BlockInGrammar k
 
--- So has the body of a procedure.
+-- The names of a procedure are ids, and its body has a statement at least.
 pub record ProcedureInGrammar (p : Procedure) : Type 0 where
   pub name : IsId p.name
   pub formals : AreIds p.formals
