@@ -9,3 +9,4 @@ pub mod Printed
 pub mod PrintedDeed
 pub mod Offsets
 pub mod InGrammar
+pub mod PrintedExample

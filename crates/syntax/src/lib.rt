@@ -17,7 +17,7 @@ mod tree;
 
 pub use fault::ReadFault;
 pub use laws::texts_have_one_tree;
-pub use printed_laws::printed_texts_are_read_back;
+pub use printed_laws::{a_loop_is_printed_over_lines, printed_texts_are_read_back};
 pub use printing::print;
 pub use reading::read;
 pub use tree::{Core, Expr, Name, Op, Proc, Program, Rhs, Stmt, Thread};
