@@ -2,8 +2,10 @@
 use Rattle.std.proofs.Common.{◌≡◌, refl, sym, ◌∙◌, ap}
 use Rattle.std.specs.declared.boxed.Box.{Box}
 use Rattle.std.specs.declared.vec.Vec.{Vec}
-use Rattle.language.specs.Tree.{Name, Expression, two, skip, leave}
-use Rattle.syntax.specs.Trees.{operator_of, expr_step, expr_of, rhs_of, Deed, simple, branch, repeat, Item, core_step, stmt_step, deed_of, block_of}
+use Rattle.language.specs.Tree as tree
+use Rattle.language.specs.Tree.{Expression, two, skip, assign, assert, assume, leave, call}
+use Rattle.syntax.specs.Trees.{operator_of, expr_step, expr_of, name_of, names_of, exprs_of, rhs_of, rhss_of, Deed, simple, branch, repeat, Item, core_step, stmt_step, deed_of, block_of}
+use Rattle.syntax.specs.declared.tree.Name.{Name}
 use Rattle.syntax.specs.declared.tree.Op.{Op}
 use Rattle.syntax.specs.declared.tree.Expr.{Expr}
 use Rattle.syntax.specs.declared.tree.Expr.TheVariants.{Two, rolls-Two}
@@ -11,14 +13,14 @@ use Rattle.syntax.specs.declared.tree.Expr.TheOpen as open_expr
 use Rattle.syntax.specs.declared.tree.Rhs.{Rhs}
 use Rattle.syntax.specs.declared.tree.Stmt.{Stmt}
 use Rattle.syntax.specs.declared.tree.Core.TheVariants as core
-use Rattle.syntax.specs.declared.tree.Core.TheVariants.{rolls-Skip, rolls-Return, If, rolls-If, While, rolls-While}
+use Rattle.syntax.specs.declared.tree.Core.TheVariants.{rolls-Skip, rolls-Return, rolls-Assign, rolls-Assert, rolls-Assume, rolls-Call, If, rolls-If, While, rolls-While}
 use Rattle.syntax.specs.declared.tree.Core.TheOpen as open_core
 use Rattle.syntax.specs.declared.tree.Core.TheFolds.{fold-roll-Core}
 use Rattle.syntax.specs.declared.tree.Expr.TheFolds.{fold-roll-Expr}
 
 pub expr_of-Two : {A : Type 0} (o : Op) (a b : Box (Expr A) A) (x y : Expr A) → a.value ≡ x → b.value ≡ y → expr_of (Two o a b) ≡ two (operator_of o) (expr_of x) (expr_of y)
 expr_of-Two {A} o a b x y e f =
-    ap expr_of (sym (rolls-Two o a b)) ∙ fold-roll-Expr A (Expression Name) expr_step (open_expr.Two o a b)
+    ap expr_of (sym (rolls-Two o a b)) ∙ fold-roll-Expr A (Expression tree.Name) expr_step (open_expr.Two o a b)
     ∙ rw (e, f) refl
 
 pub deed_of-Skip : (A : Type 0) → deed_of {A = A} core.Skip ≡ simple skip
@@ -26,6 +28,18 @@ deed_of-Skip A = ap deed_of (sym rolls-Skip) ∙ fold-roll-Core A Deed Item core
 
 pub deed_of-Return : (A : Type 0) → deed_of {A = A} core.Return ≡ simple leave
 deed_of-Return A = ap deed_of (sym rolls-Return) ∙ fold-roll-Core A Deed Item core_step stmt_step open_core.Return
+
+pub deed_of-Assign : {A : Type 0} (xs : Vec (Name A) A) (rs : Vec (Rhs A) A) → deed_of (core.Assign xs rs) ≡ simple (assign (names_of xs.items) (rhss_of rs.items))
+deed_of-Assign {A} xs rs = ap deed_of (sym (rolls-Assign xs rs)) ∙ fold-roll-Core A Deed Item core_step stmt_step (open_core.Assign xs rs)
+
+pub deed_of-Assert : {A : Type 0} (r : Rhs A) → deed_of (core.Assert r) ≡ simple (assert (rhs_of r))
+deed_of-Assert {A} r = ap deed_of (sym (rolls-Assert r)) ∙ fold-roll-Core A Deed Item core_step stmt_step (open_core.Assert r)
+
+pub deed_of-Assume : {A : Type 0} (r : Rhs A) → deed_of (core.Assume r) ≡ simple (assume (rhs_of r))
+deed_of-Assume {A} r = ap deed_of (sym (rolls-Assume r)) ∙ fold-roll-Core A Deed Item core_step stmt_step (open_core.Assume r)
+
+pub deed_of-Call : {A : Type 0} (p : Name A) (es : Vec (Expr A) A) → deed_of (core.Call p es) ≡ simple (call (name_of p) (exprs_of es.items))
+deed_of-Call {A} p es = ap deed_of (sym (rolls-Call p es)) ∙ fold-roll-Core A Deed Item core_step stmt_step (open_core.Call p es)
 
 pub deed_of-If : {A : Type 0} (r : Rhs A) (a b : Vec (Stmt A) A) → deed_of (If r a b) ≡ branch (rhs_of r) (block_of a.items) (block_of b.items)
 deed_of-If {A} r a b = ap deed_of (sym (rolls-If r a b)) ∙ fold-roll-Core A Deed Item core_step stmt_step (open_core.If r a b)

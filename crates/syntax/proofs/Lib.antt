@@ -13,3 +13,13 @@ pub mod Goings
 pub mod Programs
 pub mod Texts
 pub mod OneTree
+pub mod Prints
+pub mod PrintedBlocks
+pub mod PrintedDeeds
+pub mod PrintedPrograms
+pub mod PrintsBack
+pub mod PrintsBackBlocks
+pub mod PrintsBackPrograms
+pub mod PrintsApart
+pub mod TextsInGrammar
+pub mod ReadsBack

@@ -1,6 +1,6 @@
 -- What reading the tokens of a text says of the text.
-use Rattle.std.specs.Prelude.{Result, Ok, Err, IfOk, IfErr}
-use Rattle.std.proofs.Common.{◌≡◌, ℕ, ◌≤◌, List, [], length, Some, sym, ◌∙◌, ap, inr}
+use Rattle.std.specs.Prelude.{Result, Ok, Err, IfOk, IfErr, MatchResult}
+use Rattle.std.proofs.Common.{◌≡◌, ℕ, ◌≤◌, List, [], length, Some, refl, sym, ◌∙◌, inr}
 use Rattle.std.specs.Str.{IsAscii}
 use Rattle.language.specs.Tree.{Tree}
 use Rattle.tokens.specs.Token.{Tok}
@@ -24,16 +24,16 @@ module _ (A : Type 0) (bytes : List ℕ) (tokens : List Tok) (within : length by
   reads : (tree : Tree) → Text bytes tree → program tokens ≡ Some (tree, [])
   reads tree text = program_reads tokens tree (rw (only text.tokens text.cut) at text.program)
 
-  refuted : (e : ReadFault) (tree : Tree) → Text bytes tree → Fails {Y = Tree × List Tok} e (program tokens) → Fails e (Some tree)
-  refuted (fault.Syntax at) tree text f = let h = reads tree text in cc
-  refuted fault.Memory tree text f = tt
-  refuted fault.TooLong tree text f = absurd f
-  refuted fault.NotAscii tree text f = absurd f
-  refuted fault.TooDeep tree text f = absurd f
+  only_memory : (e : ReadFault) (tree : Tree) → Text bytes tree → Fails {Y = Tree × List Tok} e (program tokens) → e ≡ fault.Memory
+  only_memory (fault.Syntax at) tree text f = let h = reads tree text in cc
+  only_memory fault.Memory tree text f = refl
+  only_memory fault.TooLong tree text f = absurd f
+  only_memory fault.NotAscii tree text f = absurd f
+  only_memory fault.TooDeep tree text f = absurd f
 
-  pub text_only : (r : Result (Program A) ReadFault) → Gives {X = Program A} {Y = Tree × List Tok} (λ p. (tree_of p, [])) r (program tokens) → (tree : Tree) → Text bytes tree → Gives tree_of r (Some tree)
-  text_only (Ok p) gives tree text = ap Some (both (sym (reads tree text) ∙ gives)).0
-  text_only (Err e) gives tree text = refuted e tree text gives
+  pub text_only : (r : Result (Program A) ReadFault) → Gives {X = Program A} {Y = Tree × List Tok} (λ p. (tree_of p, [])) r (program tokens) → (tree : Tree) → Text bytes tree → MatchResult r (λ p. tree_of p ≡ tree) (λ e. e ≡ fault.Memory)
+  text_only (Ok p) gives tree text = sym (both (sym (reads tree text) ∙ gives)).0
+  text_only (Err e) gives tree text = only_memory e tree text gives
 
   stands : (e : ReadFault) → Fails {Y = Tree × List Tok} e (program tokens) → Stands e bytes
   stands (fault.Syntax at) f = (within, ascii, inr (tokens, cut, shallow, λ tree is. let h = program_reads tokens tree is in cc))

@@ -5,3 +5,8 @@ pub mod Exact
 pub mod Gives
 pub mod Text
 pub mod Cutting
+pub mod Printed
+pub mod PrintedDeed
+pub mod Offsets
+pub mod InGrammar
+pub mod PrintedExample

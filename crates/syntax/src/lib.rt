@@ -5,6 +5,10 @@ mod expression;
 mod fault;
 mod laws;
 mod lists;
+mod print_expressions;
+mod print_statements;
+mod printed_laws;
+mod printing;
 mod program;
 mod reader;
 mod reading;
@@ -13,8 +17,14 @@ mod tree;
 
 pub use fault::ReadFault;
 pub use laws::texts_have_one_tree;
+pub use printed_laws::{a_loop_is_printed_over_lines, printed_texts_are_read_back};
+pub use printing::print;
 pub use reading::read;
 pub use tree::{Core, Expr, Name, Op, Proc, Program, Rhs, Stmt, Thread};
 
+#[cfg(test)]
+mod broken_tests;
+#[cfg(test)]
+mod print_tests;
 #[cfg(test)]
 mod tests;

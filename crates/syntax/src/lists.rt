@@ -1,4 +1,4 @@
-//! Reading right sides, and lists with commas.
+//! Reading right sides, and lists with commas. Most lists have one element, so they begin with room for one.
 
 ghost use Rattle.std.specs.Prelude.{◌≡◌, ◌<◌, length, IfOk};
 ghost use Rattle.syntax.specs.Gives.{Gives};
@@ -36,7 +36,7 @@ impl<'a, A: Allocator + Clone> Reader<'a, A> {
         ensures shorter { IfOk result (λ p. length p.1.now < length tokens.now) }
     {
         let (first, mut rest) = self.id(tokens)?;
-        let mut list = Vec::new(self.alloc.clone()?);
+        let mut list = Vec::with_capacity(self.alloc.clone()?, 1)?;
         list.push(first)?;
         while begins(Kind::Comma, rest) {
             let (_, others) = self.take(Kind::Comma, rest)?;
@@ -57,7 +57,7 @@ impl<'a, A: Allocator + Clone> Reader<'a, A> {
         ensures shorter { IfOk result (λ p. length p.1.now < length tokens.now) }
     {
         let (first, mut rest) = self.right(tokens)?;
-        let mut list = Vec::new(self.alloc.clone()?);
+        let mut list = Vec::with_capacity(self.alloc.clone()?, 1)?;
         list.push(first)?;
         while begins(Kind::Comma, rest) {
             let (_, others) = self.take(Kind::Comma, rest)?;
@@ -78,7 +78,7 @@ impl<'a, A: Allocator + Clone> Reader<'a, A> {
         ensures shorter { IfOk result (λ p. length p.1.now < length tokens.now) }
     {
         let (first, mut rest) = self.expression(0, tokens)?;
-        let mut list = Vec::new(self.alloc.clone()?);
+        let mut list = Vec::with_capacity(self.alloc.clone()?, 1)?;
         list.push(first)?;
         while begins(Kind::Comma, rest) {
             let (_, others) = self.take(Kind::Comma, rest)?;

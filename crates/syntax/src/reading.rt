@@ -1,10 +1,10 @@
 //! Reading a text.
 
-ghost use Rattle.std.specs.Prelude.{IfOk, IfErr, Some};
+ghost use Rattle.std.specs.Prelude.{◌≡◌, IfOk, IfErr, MatchResult};
 ghost use Rattle.language.specs.Tree.{Tree};
-ghost use Rattle.syntax.specs.Gives.{Gives};
 ghost use Rattle.syntax.specs.Text.{Text, Stands};
 ghost use Rattle.syntax.specs.Trees.{tree_of};
+ghost use Rattle.syntax.specs.declared.fault.ReadFault.TheVariants.{Memory};
 
 use crate::fault::ReadFault;
 use crate::reader::Reader;
@@ -22,7 +22,7 @@ pub fn read<A: Allocator + Clone>(alloc: A, bytes: &[u8]) -> Result<Program<A>, 
     // What is read is a text with that tree.
     ensures found { IfOk result (λ program. Text bytes.now (tree_of program)) }
     // Each text is read, with its one tree, unless memory runs out.
-    ensures only { (tree : Tree) → Text bytes.now tree → Gives tree_of result (Some tree) }
+    ensures only { (tree : Tree) → Text bytes.now tree → MatchResult result (λ program. tree_of program ≡ tree) (λ fault. fault ≡ Memory) }
     // A fault that is answered stands.
     ensures fault { IfErr result (λ fault. Stands fault bytes.now) }
 {

@@ -1,0 +1,120 @@
+-- Texts of what statements do, as they grow.
+use Rattle.std.proofs.Common.{◌≡◌, ℕ, ◌+◌, cond, List, [], ◌∷◌, ◌++◌, sym, ◌∙◌, ap, append_assoc, suc, add-one}
+use Rattle.std.specs.Prelude.{Result, IfOk, is_ok}
+use Rattle.std.specs.declared.vec.Vec.{Vec}
+use Rattle.language.specs.Tree as tree
+use Rattle.language.specs.Tree.{Expression, RightSide, Simple, assign, assert, assume, call, Block}
+use Rattle.tokens.specs.Parts.{text_of}
+use Rattle.tokens.proofs.PartsCut.{text_of-append}
+use Rattle.syntax.specs.declared.tree.Name.{Name}
+use Rattle.syntax.specs.declared.tree.Expr.{Expr}
+use Rattle.syntax.specs.declared.tree.Rhs.{Rhs}
+use Rattle.syntax.specs.declared.tree.Stmt.{Stmt}
+use Rattle.syntax.specs.declared.tree.Core.{Core}
+use Rattle.syntax.specs.declared.tree.Core.TheVariants as core
+use Rattle.syntax.specs.Trees.{name_of, names_of, exprs_of, rhs_of, rhss_of, Deed, simple, branch, repeat, deed_of, block_of}
+use Rattle.syntax.specs.Printed.{name_parts, separated, expression_parts, side_parts, margin, block_parts}
+use Rattle.syntax.specs.PrintedDeed.{deed_parts}
+use Rattle.syntax.proofs.Folds.{deed_of-Assign, deed_of-Assert, deed_of-Assume, deed_of-Call, deed_of-If, deed_of-While}
+use Rattle.syntax.proofs.Prints.{pushed_last, put_last}
+
+assign_text : (level : ℕ) (xs : List tree.Name) (rs : List (RightSide tree.Name))
+    → text_of (deed_parts level (simple (assign xs rs))) ≡ text_of (separated name_parts xs) ++ ((32 ∷ 58 ∷ 61 ∷ 32 ∷ []) ++ (text_of (separated side_parts rs) ++ (59 ∷ 10 ∷ [])))
+assign_text level xs rs = simp (text_of-append, append_assoc)
+
+call_text : (level : ℕ) (p : tree.Name) (es : List (Expression tree.Name))
+    → text_of (deed_parts level (simple (call p es))) ≡ text_of (name_parts p) ++ ((40 ∷ []) ++ (text_of (separated expression_parts es) ++ (41 ∷ 59 ∷ 10 ∷ [])))
+call_text level p es = simp (text_of-append, append_assoc)
+
+-- "assert(" and "assume("
+abbrev pub assert_open : List ℕ
+assert_open = 97 ∷ 115 ∷ 115 ∷ 101 ∷ 114 ∷ 116 ∷ 40 ∷ []
+
+abbrev pub assume_open : List ℕ
+assume_open = 97 ∷ 115 ∷ 115 ∷ 117 ∷ 109 ∷ 101 ∷ 40 ∷ []
+
+assert_text : (level : ℕ) (r : RightSide tree.Name) → text_of (deed_parts level (simple (assert r))) ≡ assert_open ++ (text_of (side_parts r) ++ (41 ∷ 59 ∷ 10 ∷ []))
+assert_text level r = simp (text_of-append, append_assoc)
+
+assume_text : (level : ℕ) (r : RightSide tree.Name) → text_of (deed_parts level (simple (assume r))) ≡ assume_open ++ (text_of (side_parts r) ++ (41 ∷ 59 ∷ 10 ∷ []))
+assume_text level r = simp (text_of-append, append_assoc)
+
+-- "if (", ") then", "else" and "fi", each of the last three with a line feed
+abbrev pub if_open : List ℕ
+if_open = 105 ∷ 102 ∷ 32 ∷ 40 ∷ []
+
+abbrev pub then_line : List ℕ
+then_line = 41 ∷ 32 ∷ 116 ∷ 104 ∷ 101 ∷ 110 ∷ 10 ∷ []
+
+abbrev pub else_line : List ℕ
+else_line = 101 ∷ 108 ∷ 115 ∷ 101 ∷ 10 ∷ []
+
+abbrev pub fi_line : List ℕ
+fi_line = 102 ∷ 105 ∷ 10 ∷ []
+
+if_text : (level : ℕ) (r : RightSide tree.Name) (a b : Block tree.Name tree.Name tree.Name)
+    → text_of (deed_parts level (branch r a b)) ≡ (if_open ++ (text_of (side_parts r) ++ then_line)) ++ (text_of (block_parts (suc level) a) ++ ((text_of (margin level) ++ else_line) ++ (text_of (block_parts (suc level) b) ++ (text_of (margin level) ++ fi_line))))
+if_text level r a b = simp (text_of-append, append_assoc)
+
+-- "while (", ") do" and "od", each of the last two with a line feed
+abbrev pub while_open : List ℕ
+while_open = 119 ∷ 104 ∷ 105 ∷ 108 ∷ 101 ∷ 32 ∷ 40 ∷ []
+
+abbrev pub do_line : List ℕ
+do_line = 41 ∷ 32 ∷ 100 ∷ 111 ∷ 10 ∷ []
+
+abbrev pub od_line : List ℕ
+od_line = 111 ∷ 100 ∷ 10 ∷ []
+
+while_text : (level : ℕ) (r : RightSide tree.Name) (a : Block tree.Name tree.Name tree.Name)
+    → text_of (deed_parts level (repeat r a)) ≡ (while_open ++ (text_of (side_parts r) ++ do_line)) ++ (text_of (block_parts (suc level) a) ++ (text_of (margin level) ++ od_line))
+while_text level r a = simp (text_of-append, append_assoc)
+
+-- texts put behind one another
+four : (old a b c d : List ℕ) → (((old ++ a) ++ b) ++ c) ++ d ≡ old ++ (a ++ (b ++ (c ++ d)))
+four old a b c d = simp append_assoc
+
+module _ {A X E : Type 0} (level : ℕ) (r : Result X E) (k : Core A) (old new : List ℕ) where
+  -- the text that a deed adds
+  abbrev Adds : Type 0
+  Adds = IfOk r (λ _. new ≡ old ++ text_of (deed_parts level (deed_of k)))
+
+  deed_text : (d : Deed) (w : List ℕ) → deed_of k ≡ d → text_of (deed_parts level d) ≡ w → old ++ w ≡ old ++ text_of (deed_parts level (deed_of k))
+  deed_text d w e f = ap (λ (t : List ℕ). old ++ t) (sym (ap (λ (x : Deed). text_of (deed_parts level x)) e ∙ f))
+
+  pub assigned : (xs : Vec (Name A) A) (rs : Vec (Rhs A) A) (names : List (Name A)) (sides : List (Rhs A)) (s1 s2 s3 : List ℕ)
+      → k ≡ core.Assign xs rs → names ≡ xs.items → sides ≡ rs.items
+      → s1 ≡ old ++ text_of (separated name_parts (names_of names)) → s2 ≡ s1 ++ (32 ∷ 58 ∷ 61 ∷ 32 ∷ []) → s3 ≡ s2 ++ text_of (separated side_parts (rhss_of sides))
+      → new ≡ cond (is_ok r) (s3 ++ (59 ∷ 10 ∷ [])) s3 → Adds
+  assigned xs rs names sides s1 s2 s3 is e f h1 h2 h3 last =
+      pushed_last r new s3 _ _ last (rw (h3, h2, h1, e, f) (four old _ _ _ _ ∙ deed_text (simple (assign (names_of xs.items) (rhss_of rs.items))) _ (ap deed_of is ∙ deed_of-Assign xs rs) (assign_text level _ _)))
+
+  pub called : (p : Name A) (es : Vec (Expr A) A) (exprs : List (Expr A)) (s1 s2 s3 : List ℕ)
+      → k ≡ core.Call p es → exprs ≡ es.items
+      → s1 ≡ old ++ text_of (name_parts (name_of p)) → s2 ≡ s1 ++ (40 ∷ []) → s3 ≡ s2 ++ text_of (separated expression_parts (exprs_of exprs))
+      → new ≡ cond (is_ok r) (s3 ++ (41 ∷ 59 ∷ 10 ∷ [])) s3 → Adds
+  called p es exprs s1 s2 s3 is e h1 h2 h3 last =
+      pushed_last r new s3 _ _ last (rw (h3, h2, h1, e) (four old _ _ _ _ ∙ deed_text (simple (call (name_of p) (exprs_of es.items))) _ (ap deed_of is ∙ deed_of-Call p es) (call_text level (name_of p) (exprs_of es.items))))
+
+  pub asserted : (side : Rhs A) → k ≡ core.Assert side → IfOk r (λ _. new ≡ old ++ (assert_open ++ (text_of (side_parts (rhs_of side)) ++ (41 ∷ 59 ∷ 10 ∷ [])))) → Adds
+  asserted side is last = put_last r new old _ _ last (deed_text (simple (assert (rhs_of side))) _ (ap deed_of is ∙ deed_of-Assert side) (assert_text level (rhs_of side)))
+
+  pub assumed : (side : Rhs A) → k ≡ core.Assume side → IfOk r (λ _. new ≡ old ++ (assume_open ++ (text_of (side_parts (rhs_of side)) ++ (41 ∷ 59 ∷ 10 ∷ [])))) → Adds
+  assumed side is last = put_last r new old _ _ last (deed_text (simple (assume (rhs_of side))) _ (ap deed_of is ∙ deed_of-Assume side) (assume_text level (rhs_of side)))
+
+  pub branched : (side : Rhs A) (a b : Vec (Stmt A) A) (xs ys : List (Stmt A)) (inner : ℕ) (s1 s2 s3 s4 : List ℕ)
+      → k ≡ core.If side a b → inner ≡ level + 1 → xs ≡ a.items → ys ≡ b.items
+      → s1 ≡ old ++ (if_open ++ (text_of (side_parts (rhs_of side)) ++ then_line)) → s2 ≡ s1 ++ text_of (block_parts inner (block_of xs))
+      → s3 ≡ s2 ++ (text_of (margin level) ++ else_line) → s4 ≡ s3 ++ text_of (block_parts inner (block_of ys))
+      → IfOk r (λ _. new ≡ s4 ++ (text_of (margin level) ++ fi_line)) → Adds
+  branched side a b xs ys inner s1 s2 s3 s4 is below e f h1 h2 h3 h4 last =
+      let deeper : inner ≡ suc level = below ∙ add-one level in
+      put_last r new s4 _ _ last (rw (h4, h3, h2, h1, e, f, deeper) (simp append_assoc (ap (λ (t : List ℕ). old ++ t) (sym (ap (λ (x : Deed). text_of (deed_parts level x)) (ap deed_of is ∙ deed_of-If side a b) ∙ if_text level _ _ _ ∙ simp append_assoc)))))
+
+  pub repeated : (side : Rhs A) (a : Vec (Stmt A) A) (xs : List (Stmt A)) (inner : ℕ) (s1 s2 : List ℕ)
+      → k ≡ core.While side a → inner ≡ level + 1 → xs ≡ a.items
+      → s1 ≡ old ++ (while_open ++ (text_of (side_parts (rhs_of side)) ++ do_line)) → s2 ≡ s1 ++ text_of (block_parts inner (block_of xs))
+      → IfOk r (λ _. new ≡ s2 ++ (text_of (margin level) ++ od_line)) → Adds
+  repeated side a xs inner s1 s2 is below e h1 h2 last =
+      let deeper : inner ≡ suc level = below ∙ add-one level in
+      put_last r new s2 _ _ last (rw (h2, h1, e, deeper) (append_assoc (old ++ (while_open ++ (text_of (side_parts (rhs_of side)) ++ do_line))) _ _ ∙ append_assoc old _ _ ∙ deed_text (repeat (rhs_of side) (block_of a.items)) _ (ap deed_of is ∙ deed_of-While side a) (while_text level _ _)))

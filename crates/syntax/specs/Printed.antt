@@ -1,0 +1,126 @@
+-- The printed form of a tree: the tokens and blanks that make its text.
+use Rattle.std.specs.Prelude.{ℕ, zero, suc, cond, List, [], ◌∷◌, ◌++◌, map, Option, Some, None}
+use Rattle.language.specs.Tree.{Name, Operator, implies, or, xor, and, equal, differs, Expression, const, var, negation, two, RightSide, any, value, Simple, skip, assign, assert, assume, goto, leave, call, Block, done, one, choose, loop, Procedure, ThreadLine, Tree}
+use Rattle.tokens.specs.declared.vocabulary.Kind.{Kind}
+use Rattle.tokens.specs.declared.vocabulary.Kind.TheVariants as kind
+use Rattle.tokens.specs.Parts.{Part, shown, space, line, fixed, text_of}
+use Rattle.syntax.specs.Grammar.{joined}
+
+-- A name is printed as it is.
+abbrev pub name_parts : Name → List Part
+name_parts n = shown kind.Id n.text ∷ []
+
+-- What stands in parentheses.
+abbrev pub in_parens : List Part → List Part
+in_parens inside = fixed kind.Open ∷ (inside ++ (fixed kind.Close ∷ []))
+
+-- Each with a comma and a space in front.
+abbrev pub after_commas : {X : Type 0} → (X → List Part) → List X → List Part
+after_commas show [] = []
+after_commas show (x ∷ xs) = fixed kind.Comma ∷ space ∷ (show x ++ after_commas show xs)
+
+-- Names, targets, right sides and arguments are separated by a comma and a space.
+abbrev pub separated : {X : Type 0} → (X → List Part) → List X → List Part
+separated show [] = []
+separated show (x ∷ xs) = show x ++ after_commas show xs
+
+-- The token of an operator.
+abbrev pub kind_of : Operator → Kind
+kind_of implies = kind.Implies
+kind_of or = kind.Or
+kind_of xor = kind.Xor
+kind_of and = kind.And
+kind_of equal = kind.Equal
+kind_of differs = kind.Differs
+
+-- A two-sided operator stands between its operands, with one space on both sides.
+abbrev pub operation : Operator → List Part → List Part → List Part
+operation o a b = a ++ (space ∷ fixed (kind_of o) ∷ space ∷ b)
+
+-- An operand is a constant, a name, `!` followed at once by its operand, or a two-sided operation in parentheses.
+abbrev pub operand_parts : Expression Name → List Part
+operand_parts (const b) = fixed (cond b kind.One kind.Zero) ∷ []
+operand_parts (var x) = name_parts x
+operand_parts (negation e) = fixed kind.Not ∷ operand_parts e
+operand_parts (two o a b) = in_parens (operation o (operand_parts a) (operand_parts b))
+
+-- An expression is printed as an operand is, but a two-sided operation without parentheses around it.
+abbrev pub expression_parts : Expression Name → List Part
+expression_parts (const b) = operand_parts (const b)
+expression_parts (var x) = operand_parts (var x)
+expression_parts (negation e) = operand_parts (negation e)
+expression_parts (two o a b) = operation o (operand_parts a) (operand_parts b)
+
+-- A right side is `?` or an expression.
+abbrev pub side_parts : RightSide Name → List Part
+side_parts any = fixed kind.Any ∷ []
+side_parts (value e) = expression_parts e
+
+-- What a semicolon ends.
+abbrev pub ended : List Part → List Part
+ended parts = parts ++ (fixed kind.Semicolon ∷ [])
+
+-- A statement that holds no others, as it stands on its line.
+abbrev pub simple_parts : Simple Name Name Name → List Part
+simple_parts skip = ended (fixed kind.Skip ∷ [])
+simple_parts (assign xs rs) = ended (separated name_parts xs ++ (space ∷ fixed kind.Assign ∷ space ∷ separated side_parts rs))
+simple_parts (assert r) = ended (fixed kind.Assert ∷ in_parens (side_parts r))
+simple_parts (assume r) = ended (fixed kind.Assume ∷ in_parens (side_parts r))
+simple_parts (goto l) = ended (fixed kind.Goto ∷ space ∷ name_parts l)
+simple_parts leave = ended (fixed kind.Return ∷ [])
+simple_parts (call p es) = ended (name_parts p ++ in_parens (separated expression_parts es))
+
+-- The statement's first line begins with its label, a colon and a space, where it has a label.
+abbrev pub label_parts : Option Name → List Part
+label_parts None = []
+label_parts (Some l) = name_parts l ++ (fixed kind.Colon ∷ space ∷ [])
+
+-- Two spaces for each level.
+abbrev pub margin : ℕ → List Part
+margin zero = []
+margin (suc level) = space ∷ space ∷ margin level
+
+-- A line has the spaces of its level in front, and ends with a line feed.
+abbrev pub line_of : ℕ → List Part → List Part
+line_of level parts = margin level ++ (parts ++ (line ∷ []))
+
+-- A test stands between its keywords, in parentheses, with a space on both sides of them.
+abbrev pub test_parts : Kind → RightSide Name → Kind → List Part
+test_parts first r last = fixed first ∷ space ∷ (in_parens (side_parts r) ++ (space ∷ fixed last ∷ []))
+
+-- The statements of a block, each on a line of its own; `if (r) then`, `else`, `fi`, `while (r) do` and `od` stand on
+-- lines of their own, and what they enclose is one level further in.
+abbrev pub block_parts : ℕ → Block Name Name Name → List Part
+block_parts level done = []
+block_parts level (one m s k) = line_of level (label_parts m.label ++ simple_parts s) ++ block_parts level k
+block_parts level (choose m r a b k) =
+    line_of level (label_parts m.label ++ test_parts kind.If r kind.Then) ++ (block_parts (suc level) a
+    ++ (line_of level (fixed kind.Else ∷ []) ++ (block_parts (suc level) b
+    ++ (line_of level (fixed kind.Fi ∷ []) ++ block_parts level k))))
+block_parts level (loop m r a k) =
+    line_of level (label_parts m.label ++ test_parts kind.While r kind.Do) ++ (block_parts (suc level) a
+    ++ (line_of level (fixed kind.Od ∷ []) ++ block_parts level k))
+
+-- All names declared in one place are on one line, if there are any.
+abbrev pub declaration_parts : ℕ → List Name → List Part
+declaration_parts level [] = []
+declaration_parts level (n ∷ ns) = line_of level (ended (fixed kind.Decl ∷ space ∷ separated name_parts (n ∷ ns)))
+
+-- A procedure is its name with its formals in parentheses, `begin`, its locals and its statements one level further
+-- in, and `end`.
+abbrev pub procedure_parts : Procedure → List Part
+procedure_parts p =
+    line_of 0 (name_parts p.name ++ in_parens (separated name_parts p.formals)) ++ (line_of 0 (fixed kind.Begin ∷ [])
+    ++ (declaration_parts 1 p.locals ++ (block_parts 1 p.body ++ line_of 0 (fixed kind.End ∷ []))))
+
+-- A thread line.
+abbrev pub thread_parts : ThreadLine → List Part
+thread_parts t = line_of 0 (ended (fixed kind.Thread ∷ space ∷ name_parts t.name))
+
+-- The declaration of all globals, the procedures, and a line for each thread.
+abbrev pub program_parts : Tree → List Part
+program_parts t = declaration_parts 0 t.globals ++ (joined (map procedure_parts t.procedures) ++ joined (map thread_parts t.threads))
+
+-- The text that is printed for a tree.
+unfoldable pub printed : Tree → List ℕ
+printed t = text_of (program_parts t)

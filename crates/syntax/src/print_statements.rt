@@ -1,0 +1,132 @@
+//! Printing statements and blocks.
+
+ghost use Rattle.std.specs.Prelude.{◌≡◌, ◌+◌, ◌++◌, IfOk, option_map};
+ghost use Rattle.std.specs.String.{string_bytes};
+ghost use Rattle.tokens.specs.Parts.{text_of};
+ghost use Rattle.syntax.specs.Trees.{name_of, rhs_of, deed_of, block_of};
+ghost use Rattle.syntax.specs.Printed.{side_parts, label_parts, margin, block_parts};
+ghost use Rattle.syntax.specs.PrintedDeed.{deed_parts};
+
+use crate::print_expressions::{
+    print_expressions, print_name, print_names, print_side, print_sides,
+};
+use crate::tree::{Core, Name, Rhs, Stmt};
+use std::alloc::{AllocError, Allocator};
+
+/// The level below. No memory holds a line so far in that its level fits no number.
+fn below(level: usize) -> Result<usize, AllocError>
+    ensures { IfOk result (λ next. next ≡ level + 1) }
+{
+    level.checked_add(1).ok_or(AllocError)
+}
+
+/// Prints two spaces for each level.
+pub fn print_margin<A: Allocator>(out: &mut String<A>, level: usize) -> Result<(), AllocError>
+    ensures { IfOk result (λ _. string_bytes out.new ≡ string_bytes out.old ++ text_of (margin level)) }
+{
+    for _ in 0..level {
+        out.push_str("  ")?;
+    }
+    Ok(())
+}
+
+/// Prints a text behind the margin of this level.
+fn print_line<A: Allocator>(out: &mut String<A>, level: usize, text: &str) -> Result<(), AllocError>
+    ensures { IfOk result (λ _. string_bytes out.new ≡ string_bytes out.old ++ (text_of (margin level) ++ text.now)) }
+{
+    print_margin(out, level)?;
+    out.push_str(text)
+}
+
+/// Prints a label, where there is one.
+fn print_label<N: Allocator, A: Allocator>(
+    out: &mut String<A>,
+    label: &Option<Name<N>>,
+) -> Result<(), AllocError>
+    ensures { IfOk result (λ _. string_bytes out.new ≡ string_bytes out.old ++ text_of (label_parts (option_map name_of label.now))) }
+{
+    let Some(name) = label else {
+        return Ok(());
+    };
+    print_name(out, name)?;
+    out.push_str(": ")
+}
+
+/// Prints a right side between two texts.
+fn print_test<N: Allocator, A: Allocator>(
+    out: &mut String<A>,
+    before: &str,
+    side: &Rhs<N>,
+    behind: &str,
+) -> Result<(), AllocError>
+    ensures { IfOk result (λ _. string_bytes out.new ≡ string_bytes out.old ++ (before.now ++ (text_of (side_parts (rhs_of side.now)) ++ behind.now))) }
+{
+    out.push_str(before)?;
+    print_side(out, side)?;
+    out.push_str(behind)
+}
+
+/// Prints the statements of a block at this level.
+#[cycle(printing)]
+pub fn print_block<N: Allocator, A: Allocator>(
+    out: &mut String<A>,
+    level: usize,
+    stmts: &[Stmt<N>],
+) -> Result<(), AllocError>
+    ensures { IfOk result (λ _. string_bytes out.new ≡ string_bytes out.old ++ text_of (block_parts level (block_of stmts.now))) }
+{
+    for stmt in stmts {
+        print_margin(out, level)?;
+        print_label(out, &stmt.label)?;
+        print_core(out, level, &stmt.core)?;
+    }
+    Ok(())
+}
+
+/// Prints what a statement of this level does, behind its margin and its label.
+#[cycle(printing)]
+fn print_core<N: Allocator, A: Allocator>(
+    out: &mut String<A>,
+    level: usize,
+    core: &Core<N>,
+) -> Result<(), AllocError>
+    ensures { IfOk result (λ _. string_bytes out.new ≡ string_bytes out.old ++ text_of (deed_parts level (deed_of core.now))) }
+{
+    match core {
+        Core::Skip => out.push_str("skip;\n"),
+        Core::Return => out.push_str("return;\n"),
+        Core::Goto(label) => {
+            out.push_str("goto ")?;
+            print_name(out, label)?;
+            out.push_str(";\n")
+        }
+        Core::Assign(targets, sides) => {
+            print_names(out, targets)?;
+            out.push_str(" := ")?;
+            print_sides(out, sides)?;
+            out.push_str(";\n")
+        }
+        Core::Call(name, arguments) => {
+            print_name(out, name)?;
+            out.push_str("(")?;
+            print_expressions(out, arguments)?;
+            out.push_str(");\n")
+        }
+        Core::Assert(side) => print_test(out, "assert(", side, ");\n"),
+        Core::Assume(side) => print_test(out, "assume(", side, ");\n"),
+        Core::If(side, then, otherwise) => {
+            let inner = below(level)?;
+            print_test(out, "if (", side, ") then\n")?;
+            print_block(out, inner, then)?;
+            print_line(out, level, "else\n")?;
+            print_block(out, inner, otherwise)?;
+            print_line(out, level, "fi\n")
+        }
+        Core::While(side, body) => {
+            let inner = below(level)?;
+            print_test(out, "while (", side, ") do\n")?;
+            print_block(out, inner, body)?;
+            print_line(out, level, "od\n")
+        }
+    }
+}
