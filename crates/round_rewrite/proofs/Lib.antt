@@ -26,3 +26,5 @@ pub mod Placing
 pub mod Resolved
 pub mod Matching
 pub mod Meaning
+pub mod Pushed
+pub mod Assigning

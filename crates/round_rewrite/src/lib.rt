@@ -4,12 +4,20 @@
 //! of Lal and Reps (2008), the construction is this project's own.
 #![tactic(auto)]
 
+mod assignment;
+mod expression;
+mod names;
+mod rounds;
+mod writer;
+
 ghost use Rattle.std.specs.Prelude.{ℕ, ◌<◌};
 ghost use Rattle.language.specs.Tree.{Tree};
 ghost use Rattle.language.specs.Step.{Program};
 ghost use Rattle.round_rewrite.specs.Law.{Keeps, KeepsTree};
 ghost use Rattle.round_rewrite.specs.Rewritable.{IsRewritable, IsNarrow};
 ghost use Rattle.round_rewrite.specs.Scoped.{FitsScopes};
+
+pub use rounds::Rounds;
 
 /// The rewriting theorem, over the names that are printed: for 1 to 4 rounds (`last` + 1 of them), a tree
 /// whose names are declared, and widths of at most 64, some run within the rounds fails an assert exactly
