@@ -28,3 +28,5 @@ pub mod Matching
 pub mod Meaning
 pub mod Pushed
 pub mod Assigning
+pub mod Laying
+pub mod Deeds

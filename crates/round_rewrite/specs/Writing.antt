@@ -1,12 +1,12 @@
--- What a writer stands for.
-use Rattle.std.specs.Prelude.{◌≡◌, List, ◌++◌}
+-- What a writer stands for, and what it is to put statements behind others.
+use Rattle.std.specs.Prelude.{◌≡◌, true, List, [], ◌∷◌, ◌++◌, codes}
 use Rattle.language.specs.Tree as tree
-use Rattle.language.specs.Tree.{Block}
+use Rattle.language.specs.Tree.{const, var, any, value, skip, assign, leave, Block, done, one, Mark}
 use Rattle.syntax.specs.declared.tree.Stmt.{Stmt}
-use Rattle.syntax.specs.Trees.{names_of, items_of, all_before}
+use Rattle.syntax.specs.Trees.{Deed, branch, names_of, items_of, all_before}
 use Rattle.round_rewrite.specs.declared.writer.Writer.{Writer}
-use Rattle.round_rewrite.specs.Table.{Naming}
-use Rattle.round_rewrite.specs.Names.{names}
+use Rattle.round_rewrite.specs.Table.{Naming, plain}
+use Rattle.round_rewrite.specs.Names.{named, names}
 
 -- how the procedure's names are written
 abbrev pub naming_of : {N A : Type 0} → Writer N A → Naming tree.Name tree.Name tree.Name tree.Name
@@ -16,6 +16,23 @@ naming_of w = names (names_of w.formals.now ++ names_of w.locals.now)
 abbrev pub Statements : Type 0
 Statements = Block tree.Name tree.Name tree.Name
 
--- statements have been put behind those that stood there: in front of any others they read so
+-- Statements have been put behind those that stood there: with any others behind them, they read as `form` does
+-- with the others.
 abbrev pub Lays : {A : Type 0} → List (Stmt A) → List (Stmt A) → (Statements → Statements) → Type 0
 Lays old new form = (rest : Statements) → all_before (items_of new) rest ≡ all_before (items_of old) (form rest)
+
+-- what tests whether to stop
+abbrev pub stop_testing : Deed
+stop_testing = branch (value (var (named (codes "stop__")))) (one plain leave done) (one plain skip done)
+
+-- what decides whether to stop
+abbrev pub stopping : Deed
+stopping =
+    branch any (one plain (assign (named (codes "stop__") ∷ []) (value (const true) ∷ [])) done) (one plain skip done)
+
+-- what an assert of this right side becomes
+abbrev pub failing : tree.RightSide tree.Name → Deed
+failing r =
+    branch r (one plain skip done)
+    (one plain (assign (named (codes "bad__") ∷ named (codes "stop__") ∷ []) (value (const true) ∷ value (const true) ∷ []))
+    (one plain leave done))

@@ -1,6 +1,6 @@
 //! What assignments are rewritten to.
 
-ghost use Rattle.std.specs.Prelude.{◌≡◌, suc, ◌+◌, ◌<◌, ◌≤◌, ◌++◌, IfOk, map, length};
+ghost use Rattle.std.specs.Prelude.{◌≡◌, suc, ◌+◌, ◌<◌, ◌≤◌, ◌^◌, ◌++◌, IfOk, map, length};
 ghost use Rattle.language.specs.Tree.{any, var};
 ghost use Rattle.syntax.specs.Trees.{name_of, names_of, expr_of, rhs_of, rhss_of};
 ghost use Rattle.round_rewrite.specs.Table.{numbers, draws, targets, sides, written, expression, each};
@@ -17,9 +17,9 @@ use syntax::{Expr, Name, Rhs};
 pub fn temporaries<A: Allocator + Clone>(
     alloc: &A,
     names: Vec<Name<A>, A>,
-    number: u32,
+    number: usize,
 ) -> Result<Vec<Name<A>, A>, AllocError>
-    requires { number < 65536 }
+    requires { number < 2 ^ 63 }
     ensures { IfOk result (λ v. names_of v.items ≡ names_of names.items ++ map drawn_name (numbers 0 number)) }
 {
     let mut list = names;
@@ -33,7 +33,7 @@ pub fn temporaries<A: Allocator + Clone>(
 #[tactic(auto, using(crate::proofs::Pushed::pushed))]
 pub fn any_values<A: Allocator + Clone>(
     alloc: &A,
-    number: u32,
+    number: usize,
 ) -> Result<Vec<Rhs<A>, A>, AllocError>
     ensures { IfOk result (λ v. rhss_of v.items ≡ each any (numbers 0 number)) }
 {
@@ -49,8 +49,7 @@ impl<'a, N: Allocator, A: Allocator + Clone> Writer<'a, N, A> {
 
     /// How many `?` with a global target an assignment has: so many temporaries it draws. Each call has a target
     /// less; a checked program of at most 64 places has no more targets than places.
-    pub fn draws(&self, xs: &[Name<N>], rs: &[Rhs<N>]) -> u32
-        requires { length xs.now < 65536 }
+    pub fn draws(&self, xs: &[Name<N>], rs: &[Rhs<N>]) -> usize
         ensures count { result ≡ draws (naming_of self.now).is_shared (names_of xs.now) (rhss_of rs.now) }
         ensures few { result ≤ length xs.now }
     {
@@ -111,11 +110,11 @@ impl<'a, N: Allocator, A: Allocator + Clone> Writer<'a, N, A> {
     #[tactic(auto, using(crate::proofs::Pushed::pushed))]
     fn drawn_sides(
         &self,
-        number: u32,
+        number: usize,
         x: &Name<N>,
         into: Vec<Rhs<A>, A>,
     ) -> Result<Vec<Rhs<A>, A>, AllocError>
-        requires { number < 65536 }
+        requires { number < 2 ^ 63 }
         ensures { IfOk result (λ v. rhss_of v.items ≡ rhss_of into.items ++ map (written (naming_of self.now) self.now.rounds.last (var (drawn_name number)) (name_of x.now)) (numbers 0 (suc self.now.rounds.last))) }
     {
         let mut list = into;
@@ -147,12 +146,12 @@ impl<'a, N: Allocator, A: Allocator + Clone> Writer<'a, N, A> {
     /// Puts the right sides of an assignment behind others; the first temporary that is free has this number.
     pub fn sides(
         &self,
-        number: u32,
+        number: usize,
         xs: &[Name<N>],
         rs: &[Rhs<N>],
         into: Vec<Rhs<A>, A>,
     ) -> Result<Vec<Rhs<A>, A>, AllocError>
-        requires { number + length xs.now < 65536 }
+        requires { number + length xs.now < 2 ^ 63 }
         ensures { IfOk result (λ v. rhss_of v.items ≡ rhss_of into.items ++ sides (naming_of self.now) self.now.rounds.last number (names_of xs.now) (rhss_of rs.now)) }
     {
         let Some((x, more)) = xs.split_first() else {

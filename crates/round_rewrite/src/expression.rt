@@ -1,6 +1,6 @@
 //! What expressions are rewritten to.
 
-ghost use Rattle.std.specs.Prelude.{◌≡◌, ◌<◌, ◌≤◌, IfOk, map};
+ghost use Rattle.std.specs.Prelude.{◌≡◌, ◌<◌, ◌^◌, IfOk, map};
 ghost use Rattle.language.specs.Resolve.{is_declared};
 ghost use Rattle.language.specs.Tree.{const, var, negation, two};
 ghost use Rattle.syntax.specs.Trees.{name_of, operator_of, expr_of, exprs_of, rhs_of};
@@ -20,8 +20,8 @@ pub fn variable<A: Allocator + Clone>(alloc: &A, text: &str) -> Result<Expr<A>, 
 }
 
 /// A temporary, counted from 0.
-pub fn temporary<A: Allocator + Clone>(alloc: &A, number: u32) -> Result<Expr<A>, AllocError>
-    requires { number < 65536 }
+pub fn temporary<A: Allocator + Clone>(alloc: &A, number: usize) -> Result<Expr<A>, AllocError>
+    requires { number < 2 ^ 63 }
     ensures { IfOk result (λ e. expr_of e ≡ var (drawn_name number)) }
 {
     Ok(Expr::Var(drawn(alloc.clone()?, number)?))

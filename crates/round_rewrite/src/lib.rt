@@ -5,6 +5,8 @@
 #![tactic(auto)]
 
 mod assignment;
+mod block;
+mod cores;
 mod expression;
 mod names;
 mod rounds;

@@ -1,6 +1,6 @@
 //! The names of a rewritten program.
 
-ghost use Rattle.std.specs.Prelude.{◌≡◌, ◌<◌, IfOk};
+ghost use Rattle.std.specs.Prelude.{◌≡◌, ◌<◌, ◌^◌, IfOk};
 ghost use Rattle.language.specs.Resolve.{is_declared};
 ghost use Rattle.syntax.specs.Trees.{name_of, names_of};
 ghost use Rattle.round_rewrite.specs.Names.{named, copy_name, save_name, drawn_name};
@@ -55,8 +55,8 @@ pub fn save<N: Allocator, A: Allocator>(
 }
 
 /// A temporary, counted from 0.
-pub fn drawn<A: Allocator>(alloc: A, number: u32) -> Result<Name<A>, AllocError>
-    requires { number < 65536 }
+pub fn drawn<A: Allocator>(alloc: A, number: usize) -> Result<Name<A>, AllocError>
+    requires { number < 2 ^ 63 }
     ensures { IfOk result (λ n. name_of n ≡ drawn_name number) }
 {
     let number = number + 1;

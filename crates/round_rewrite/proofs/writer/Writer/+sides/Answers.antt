@@ -30,7 +30,7 @@ returns-in_ok-all-in-Any g t c =
 pub returns-in_ok-all-in-Value : goal.returns-in_ok-all-in-Value
 returns-in_ok-all-in-Value g t c =
     sides_value (naming_of c.args.self.now) c.args.self.now.rounds.last c.args.number (names_of c.args.xs.now) (rhss_of c.args.rs.now) (rhss_of c.args.into.items)
-    (name_of c.in-Some.x.now) (names_of c.in-Some.more.now) (expr_of c.in-Value.e.now) (rhss_of c.in-Some-split_first.others.now)
+    (name_of c.in-Some.x.now) (names_of c.in-Some.more.now) (expr_of c.in-Value.e) (rhss_of c.in-Some-split_first.others.now)
     (ap names_of c.in-Some.ensures.cases.0)
     (ap rhss_of (c.in-Some-split_first.ensures.cases.0 ∙ ap (λ r. r ∷ c.in-Some-split_first.others.now) c.in-Value.is))
     (sym c.is_shared.ensures ∙ c.if-not-is_shared.false)
