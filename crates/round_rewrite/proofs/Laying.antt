@@ -26,3 +26,7 @@ then a b c f g first second k = second k ∙ first (g k)
 -- the same statements, said otherwise
 pub said : {A : Type 0} (a b : List (Stmt A)) (f g : Statements → Statements) → Lays a b f → ((k : Statements) → f k ≡ g k) → Lays a b g
 said a b f g first same k = first k ∙ ap (all_before (items_of a)) (same k)
+
+-- one statement, whose deed is said otherwise
+pub laid : {A : Type 0} (a b : List (Stmt A)) (m : Mark tree.Name) (d d' : Deed) → Lays a b (λ k. marked_before m d k) → d ≡ d' → Lays a b (λ k. marked_before m d' k)
+laid a b m d d' l e k = l k ∙ ap (λ x. all_before (items_of a) (marked_before m x k)) e

@@ -30,3 +30,5 @@ pub mod Pushed
 pub mod Assigning
 pub mod Laying
 pub mod Deeds
+pub mod Held
+pub mod Forms

@@ -1,11 +1,12 @@
 -- What a writer stands for, and what it is to put statements behind others.
-use Rattle.std.specs.Prelude.{◌≡◌, true, List, [], ◌∷◌, ◌++◌, codes}
+use Rattle.std.specs.Prelude.{◌≡◌, ℕ, true, List, [], ◌∷◌, ◌++◌, codes}
 use Rattle.language.specs.Tree as tree
-use Rattle.language.specs.Tree.{const, var, any, value, skip, assign, leave, Block, done, one, Mark}
+use Rattle.language.specs.Tree.{const, var, any, value, skip, assign, leave, Mark, Block, done, one, choose, loop}
 use Rattle.syntax.specs.declared.tree.Stmt.{Stmt}
-use Rattle.syntax.specs.Trees.{Deed, branch, names_of, items_of, all_before}
+use Rattle.syntax.specs.Trees.{Deed, simple, branch, repeat, Item, names_of, items_of, all_before}
+use Rattle.language.specs.Rest.{join}
 use Rattle.round_rewrite.specs.declared.writer.Writer.{Writer}
-use Rattle.round_rewrite.specs.Table.{Naming, plain}
+use Rattle.round_rewrite.specs.Table.{Naming, plain, side, prologue, statement, rewritten}
 use Rattle.round_rewrite.specs.Names.{named, names}
 
 -- how the procedure's names are written
@@ -36,3 +37,19 @@ failing r =
     branch r (one plain skip done)
     (one plain (assign (named (codes "bad__") ∷ named (codes "stop__") ∷ []) (value (const true) ∷ value (const true) ∷ []))
     (one plain leave done))
+
+module _ (w : Naming tree.Name tree.Name tree.Name tree.Name) (last : ℕ) where
+  -- a statement rewritten, without its prologue, in front of others
+  abbrev pub bare_form : Deed → Statements → Statements
+  bare_form (simple s) k = statement w last s k
+  bare_form (branch r a b) k = choose plain (side w last r) (rewritten w last a) (rewritten w last b) k
+  bare_form (repeat r a) k = loop plain (side w last r) (join (rewritten w last a) (prologue w last plain done)) k
+
+  -- a statement rewritten, in front of others
+  abbrev pub form : Item → Statements → Statements
+  form i k = prologue w last i.mark (bare_form i.deed k)
+
+  -- statements rewritten, in front of others
+  abbrev pub forms : List Item → Statements → Statements
+  forms [] k = k
+  forms (i ∷ is) k = form i (forms is k)

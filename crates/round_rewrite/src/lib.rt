@@ -10,6 +10,7 @@ mod cores;
 mod expression;
 mod names;
 mod rounds;
+mod statement;
 mod writer;
 
 ghost use Rattle.std.specs.Prelude.{ℕ, ◌<◌};
