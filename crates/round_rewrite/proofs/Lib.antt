@@ -32,3 +32,4 @@ pub mod Laying
 pub mod Deeds
 pub mod Held
 pub mod Forms
+pub mod Mains

@@ -9,6 +9,9 @@ numbers_last start (suc k) =
     ap (λ ns. start ∷ ns) (numbers_last (suc start) k
     ∙ ap (λ n. numbers (suc start) k ++ n ∷ []) (let e : suc start + k ≡ start + suc k = omega arith in e))
 
+pub numbers_next : (start k : ℕ) → numbers start (k + 1) ≡ numbers start k ++ (start + k) ∷ []
+numbers_next start k = ap (numbers start) (let e : k + 1 ≡ suc k = omega arith in e) ∙ numbers_last start k
+
 -- one more is pushed
 pub pushed : {A B : Type 0} (view : A → B) (f : ℕ → B) (old : List B) (items : List A) (item : A) (k : ℕ) → map view items ≡ old ++ map f (numbers 0 k) → view item ≡ f k → map view (items ++ item ∷ []) ≡ old ++ map f (numbers 0 (k + 1))
 pushed view f old items item k e i =

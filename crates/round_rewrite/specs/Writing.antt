@@ -1,5 +1,5 @@
 -- What a writer stands for, and what it is to put statements behind others.
-use Rattle.std.specs.Prelude.{◌≡◌, ℕ, true, List, [], ◌∷◌, ◌++◌, codes}
+use Rattle.std.specs.Prelude.{◌≡◌, ℕ, true, List, [], ◌∷◌, ◌++◌, map, codes}
 use Rattle.language.specs.Tree as tree
 use Rattle.language.specs.Tree.{const, var, any, value, skip, assign, leave, Mark, Block, done, one, choose, loop}
 use Rattle.syntax.specs.declared.tree.Stmt.{Stmt}
@@ -21,6 +21,10 @@ Statements = Block tree.Name tree.Name tree.Name
 -- with the others.
 abbrev pub Lays : {A : Type 0} → List (Stmt A) → List (Stmt A) → (Statements → Statements) → Type 0
 Lays old new form = (rest : Statements) → all_before (items_of new) rest ≡ all_before (items_of old) (form rest)
+
+-- the names that thread lines have
+abbrev pub line_names : List tree.ThreadLine → List tree.Name
+line_names ts = map (λ (line : tree.ThreadLine). line.name) ts
 
 -- what tests whether to stop
 abbrev pub stop_testing : Deed

@@ -14,11 +14,11 @@ use crate::writer::Writer;
 use std::alloc::{AllocError, Allocator};
 use syntax::{Core, Expr, Name, Op, Rhs};
 
-/// The right side 1.
-fn one_value<A: Allocator>() -> Rhs<A>
-    ensures { rhs_of result ≡ value (const true) }
+/// A constant as a right side.
+pub fn constant<A: Allocator>(bit: bool) -> Rhs<A>
+    ensures { rhs_of result ≡ value (const bit) }
 {
-    Rhs::Value(Expr::Const(true))
+    Rhs::Value(Expr::Const(bit))
 }
 
 /// Puts a name that stands in no text behind others.
@@ -51,7 +51,7 @@ fn set<A: Allocator + Clone>(alloc: &A, text: &str) -> Result<Core<A>, AllocErro
     ensures { IfOk result (λ c. deed_of c ≡ simple (assign (named text.now ∷ []) (value (const true) ∷ []))) }
 {
     let targets = push_name(alloc, text, Vec::new(alloc.clone()?))?;
-    let sides = push_side(one_value(), Vec::new(alloc.clone()?))?;
+    let sides = push_side(constant(true), Vec::new(alloc.clone()?))?;
     Ok(Core::Assign(targets, sides))
 }
 
@@ -65,8 +65,8 @@ fn set_both<A: Allocator + Clone>(
 {
     let target = push_name(alloc, first, Vec::new(alloc.clone()?))?;
     let targets = push_name(alloc, second, target)?;
-    let side = push_side(one_value(), Vec::new(alloc.clone()?))?;
-    let sides = push_side(one_value(), side)?;
+    let side = push_side(constant(true), Vec::new(alloc.clone()?))?;
+    let sides = push_side(constant(true), side)?;
     Ok(Core::Assign(targets, sides))
 }
 

@@ -12,11 +12,30 @@ use crate::writer::Writer;
 use std::alloc::{AllocError, Allocator};
 use syntax::{Expr, Name, Op, Rhs};
 
+/// A read of a name.
+pub fn read_of<A: Allocator>(x: Name<A>) -> Expr<A>
+    ensures { expr_of result ≡ var (name_of x) }
+{
+    Expr::Var(x)
+}
+
 /// A variable.
 pub fn variable<A: Allocator + Clone>(alloc: &A, text: &str) -> Result<Expr<A>, AllocError>
     ensures { IfOk result (λ e. expr_of e ≡ var (named text.now)) }
 {
     Ok(Expr::Var(fixed(alloc.clone()?, text)?))
+}
+
+/// A read of the copy of a global for a round.
+pub fn copy_of<N: Allocator, A: Allocator + Clone>(
+    alloc: &A,
+    round: u8,
+    x: &Name<N>,
+) -> Result<Expr<A>, AllocError>
+    requires { round < 4 }
+    ensures { IfOk result (λ e. expr_of e ≡ var (copy_name round (name_of x.now))) }
+{
+    Ok(Expr::Var(copy(alloc.clone()?, round, x)?))
 }
 
 /// A temporary, counted from 0.
@@ -76,21 +95,18 @@ impl<'a, N: Allocator, A: Allocator + Clone> Writer<'a, N, A> {
         operation(self.alloc, Op::And, high, low)
     }
 
-    /// The copy of a global for a round.
-    pub fn copy_of(&self, round: u8, x: &Name<N>) -> Result<Expr<A>, AllocError>
-        requires { round < 4 }
-        ensures { IfOk result (λ e. expr_of e ≡ var (copy_name round (name_of x.now))) }
-    {
-        Ok(Expr::Var(copy(self.alloc.clone()?, round, x)?))
-    }
-
     /// The copy of a global for the round, where the round is this one.
     fn active(&self, round: u8, x: &Name<N>) -> Result<Expr<A>, AllocError>
         requires { round < 4 }
         ensures { IfOk result (λ e. expr_of e ≡ two Rattle.language.specs.Tree.and (at (naming_of self.now) self.now.rounds.last round) (var (copy_name round (name_of x.now)))) }
     {
         let is_round = self.at(round)?;
-        operation(self.alloc, Op::And, is_round, self.copy_of(round, x)?)
+        operation(
+            self.alloc,
+            Op::And,
+            is_round,
+            copy_of(self.alloc, round, x)?,
+        )
     }
 
     /// A read of a global: its copy for the round.
@@ -164,7 +180,7 @@ impl<'a, N: Allocator, A: Allocator + Clone> Writer<'a, N, A> {
     {
         let new = operation(self.alloc, Op::And, self.at(round)?, value)?;
         let other = not(self.alloc, self.at(round)?)?;
-        let old = operation(self.alloc, Op::And, other, self.copy_of(round, x)?)?;
+        let old = operation(self.alloc, Op::And, other, copy_of(self.alloc, round, x)?)?;
         Ok(Rhs::Value(operation(self.alloc, Op::Or, new, old)?))
     }
 }

@@ -8,6 +8,8 @@ mod assignment;
 mod block;
 mod cores;
 mod expression;
+mod lists;
+mod main_procedure;
 mod names;
 mod rounds;
 mod statement;

@@ -9,5 +9,5 @@ use Rattle.round_rewrite.proofs.cores.set.Goals as goal
 pub returns : goal.returns
 returns g c =
     let targets = c.in_ok-targets.ensures ∙ ap (λ ns. names_of ns ++ named c.args.text.now ∷ []) c.new.ensures.items in
-    let sides = c.in_ok-sides.ensures ∙ (λ i. rhss_of (c.new-2.ensures.items i) ++ c.one_value.ensures i ∷ []) in
+    let sides = c.in_ok-sides.ensures ∙ (λ i. rhss_of (c.new-2.ensures.items i) ++ c.constant.ensures i ∷ []) in
     deed_of_assign _ _ ∙ (λ i. simple (assign (targets i) (sides i)))

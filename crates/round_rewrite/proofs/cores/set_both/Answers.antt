@@ -10,6 +10,6 @@ pub returns : goal.returns
 returns g c =
     let target = c.in_ok-target.ensures ∙ ap (λ ns. names_of ns ++ named c.args.first.now ∷ []) c.new.ensures.items in
     let targets = c.in_ok-targets.ensures ∙ ap (λ ns. ns ++ named c.args.second.now ∷ []) target in
-    let side = c.in_ok-side.ensures ∙ (λ i. rhss_of (c.new-2.ensures.items i) ++ c.one_value.ensures i ∷ []) in
-    let sides = c.in_ok-sides.ensures ∙ (λ i. side i ++ c.one_value-2.ensures i ∷ []) in
+    let side = c.in_ok-side.ensures ∙ (λ i. rhss_of (c.new-2.ensures.items i) ++ c.constant.ensures i ∷ []) in
+    let sides = c.in_ok-sides.ensures ∙ (λ i. side i ++ c.constant-2.ensures i ∷ []) in
     deed_of_assign _ _ ∙ (λ i. simple (assign (targets i) (sides i)))
