@@ -33,3 +33,4 @@ pub mod Deeds
 pub mod Held
 pub mod Forms
 pub mod Mains
+pub mod Needing

@@ -1,12 +1,12 @@
 -- What a writer stands for, and what it is to put statements behind others.
-use Rattle.std.specs.Prelude.{◌≡◌, ℕ, true, List, [], ◌∷◌, ◌++◌, map, codes}
+use Rattle.std.specs.Prelude.{◌≡◌, ◌≤◌, ℕ, Bool, max, true, List, [], ◌∷◌, ◌++◌, map, codes}
 use Rattle.language.specs.Tree as tree
 use Rattle.language.specs.Tree.{const, var, any, value, skip, assign, leave, Mark, Block, done, one, choose, loop}
 use Rattle.syntax.specs.declared.tree.Stmt.{Stmt}
 use Rattle.syntax.specs.Trees.{Deed, simple, branch, repeat, Item, names_of, items_of, all_before}
 use Rattle.language.specs.Rest.{join}
 use Rattle.round_rewrite.specs.declared.writer.Writer.{Writer}
-use Rattle.round_rewrite.specs.Table.{Naming, plain, side, prologue, statement, rewritten}
+use Rattle.round_rewrite.specs.Table.{Naming, draws, temporaries, plain, side, prologue, statement, rewritten}
 use Rattle.round_rewrite.specs.Names.{named, names}
 
 -- how the procedure's names are written
@@ -57,3 +57,19 @@ module _ (w : Naming tree.Name tree.Name tree.Name tree.Name) (last : ℕ) where
   abbrev pub forms : List Item → Statements → Statements
   forms [] k = k
   forms (i ∷ is) k = form i (forms is k)
+
+-- how many temporaries one statement needs, with those that it holds
+abbrev pub deed_needs : (tree.Name → Bool) → Deed → ℕ
+deed_needs is_shared (simple (assign xs rs)) = draws is_shared xs rs
+deed_needs is_shared (simple s) = 0
+deed_needs is_shared (branch r a b) = max (temporaries is_shared a) (temporaries is_shared b)
+deed_needs is_shared (repeat r a) = temporaries is_shared a
+
+-- how many temporaries a procedure needs
+abbrev pub procedure_needs : tree.Procedure → ℕ
+procedure_needs p = temporaries (names (p.formals ++ p.locals)).is_shared p.body
+
+-- no procedure needs more than 64 temporaries
+abbrev pub AreFew : List tree.Procedure → Type 0
+AreFew [] = Unit {0}
+AreFew (p ∷ ps) = (procedure_needs p ≤ 64) × AreFew ps

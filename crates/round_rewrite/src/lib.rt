@@ -11,6 +11,8 @@ mod expression;
 mod lists;
 mod main_procedure;
 mod names;
+mod needs;
+mod procedures;
 mod rounds;
 mod statement;
 mod writer;
