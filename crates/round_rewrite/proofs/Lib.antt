@@ -34,3 +34,5 @@ pub mod Held
 pub mod Forms
 pub mod Mains
 pub mod Needing
+pub mod Copied
+pub mod Widths

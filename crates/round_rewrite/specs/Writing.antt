@@ -1,5 +1,5 @@
 -- What a writer stands for, and what it is to put statements behind others.
-use Rattle.std.specs.Prelude.{◌≡◌, ◌≤◌, ℕ, Bool, max, true, List, [], ◌∷◌, ◌++◌, map, codes}
+use Rattle.std.specs.Prelude.{◌≡◌, ◌≤◌, ◌+◌, ℕ, length, Bool, max, true, List, [], ◌∷◌, ◌++◌, map, codes}
 use Rattle.language.specs.Tree as tree
 use Rattle.language.specs.Tree.{const, var, any, value, skip, assign, leave, Mark, Block, done, one, choose, loop}
 use Rattle.syntax.specs.declared.tree.Stmt.{Stmt}
@@ -73,3 +73,7 @@ procedure_needs p = temporaries (names (p.formals ++ p.locals)).is_shared p.body
 abbrev pub AreFew : List tree.Procedure → Type 0
 AreFew [] = Unit {0}
 AreFew (p ∷ ps) = (procedure_needs p ≤ 64) × AreFew ps
+
+-- the globals, so many, and what the procedure has of its own are at most 64 places
+abbrev pub IsOwnNarrow : ℕ → tree.Procedure → Type 0
+IsOwnNarrow globals p = globals + (length p.formals + (length p.locals + procedure_needs p)) ≤ 64

@@ -8,6 +8,8 @@ mod assignment;
 mod block;
 mod cores;
 mod expression;
+mod fault;
+mod globals;
 mod lists;
 mod main_procedure;
 mod names;
@@ -15,6 +17,7 @@ mod needs;
 mod procedures;
 mod rounds;
 mod statement;
+mod width;
 mod writer;
 
 ghost use Rattle.std.specs.Prelude.{ℕ, ◌<◌};
@@ -24,6 +27,7 @@ ghost use Rattle.round_rewrite.specs.Law.{Keeps, KeepsTree};
 ghost use Rattle.round_rewrite.specs.Rewritable.{IsRewritable, IsNarrow};
 ghost use Rattle.round_rewrite.specs.Scoped.{FitsScopes};
 
+pub use fault::RewriteFault;
 pub use rounds::Rounds;
 
 /// The rewriting theorem, over the names that are printed: for 1 to 4 rounds (`last` + 1 of them), a tree
