@@ -1,5 +1,5 @@
 -- How wide the procedures of the rewritten program are.
-use Rattle.std.proofs.Common.{◌≡◌, ℕ, zero, suc, ◌+◌, ◌*◌, ◌<◌, ◌≤◌, List, [], ◌∷◌, ◌++◌, length, length-append, get_or, drop, map, codes, refl, sym, ◌∙◌, ap, subst, arith}
+use Rattle.std.proofs.Common.{◌≡◌, ℕ, zero, suc, ◌+◌, ◌*◌, ◌<◌, ◌≤◌, List, [], ◌∷◌, ◌++◌, length, length-append, get_or, drop, map, codes, refl, sym, ◌∙◌, ap, subst, arith, append_assoc}
 use Rattle.std.proofs.lemmas.List.{length-map, drop_more, drop_all}
 use Rattle.std.specs.Prelude.{◌↔◌}
 use Rattle.language.specs.Tree.{Name, Procedure, Tree}
@@ -7,22 +7,27 @@ use Rattle.syntax.specs.declared.tree.Proc.{Proc}
 use Rattle.syntax.specs.Trees.{proc_of, procs_of}
 use Rattle.round_rewrite.specs.Table.{Naming, numbers, copied, globals, temporaries}
 use Rattle.round_rewrite.specs.Places.{bits_at}
-use Rattle.round_rewrite.specs.Names.{names, copy_name, save_name, drawn_name, rewritten_procedure, main_procedure, rewritten_tree}
+use Rattle.round_rewrite.specs.Names.{named, names, copy_name, save_name, drawn_name, rewritten_procedure, main_procedure, rewritten_tree}
 use Rattle.round_rewrite.specs.Rewritable.{EachProcedure, width, IsNarrow}
 use Rattle.round_rewrite.specs.Writing.{procedure_needs, IsOwnNarrow, AreFew}
 use Rattle.round_rewrite.proofs.Numbering.{length-rows}
+use Rattle.round_rewrite.proofs.Placing.{length-numbers}
+use Rattle.round_rewrite.proofs.Copied.{gathered}
 
-length-numbers : (k n : ℕ) → length (numbers k n) ≡ n
-length-numbers k zero = refl
-length-numbers k (suc n) = ap suc (length-numbers (suc k) n)
+four_behind : {B : Type 0} (xs : List B) (a b c d : B) → (((xs ++ a ∷ []) ++ b ∷ []) ++ c ∷ []) ++ d ∷ [] ≡ xs ++ (a ∷ b ∷ c ∷ d ∷ [])
+four_behind xs a b c d =
+    ap (λ ns. (ns ++ c ∷ []) ++ d ∷ []) (append_assoc xs (a ∷ []) (b ∷ []))
+    ∙ (ap (λ ns. ns ++ d ∷ []) (append_assoc xs (a ∷ b ∷ []) (c ∷ [])) ∙ append_assoc xs (a ∷ b ∷ c ∷ []) (d ∷ []))
 
 pub length-globals : (last : ℕ) (xs : List Name) → length (globals (names []) last xs) ≡ bits_at (length xs) last + 4
 length-globals last xs =
     let a = length-rows (names []) last copy_name xs 0 (suc last) in
     let b = length-rows (names []) last save_name xs 1 last in
-    let c = length-append (copied (names []) last copy_name xs (numbers 0 (suc last))) (copied (names []) last save_name xs (numbers 1 last) ++ Rattle.round_rewrite.specs.Names.named (codes "rh__") ∷ Rattle.round_rewrite.specs.Names.named (codes "rl__") ∷ Rattle.round_rewrite.specs.Names.named (codes "stop__") ∷ Rattle.round_rewrite.specs.Names.named (codes "bad__") ∷ []) in
-    let d = length-append (copied (names []) last save_name xs (numbers 1 last)) (Rattle.round_rewrite.specs.Names.named (codes "rh__") ∷ Rattle.round_rewrite.specs.Names.named (codes "rl__") ∷ Rattle.round_rewrite.specs.Names.named (codes "stop__") ∷ Rattle.round_rewrite.specs.Names.named (codes "bad__") ∷ []) in
-    ?
+    let four = named (codes "rh__") ∷ named (codes "rl__") ∷ named (codes "stop__") ∷ named (codes "bad__") ∷ [] in
+    let first = copied (names []) last copy_name xs (numbers 0 (suc last)) in
+    let second = copied (names []) last save_name xs (numbers 1 last) in
+    let c : length (globals (names []) last xs) ≡ length ((first ++ second) ++ four) = ap length (sym (gathered first second (named (codes "rh__")) (named (codes "rl__")) (named (codes "stop__")) (named (codes "bad__"))) ∙ four_behind (first ++ second) (named (codes "rh__")) (named (codes "rl__")) (named (codes "stop__")) (named (codes "bad__"))) in
+    c ∙ (length-append (first ++ second) four ∙ (ap (λ n. n + 4) (length-append first second ∙ (λ i. a i + b i))))
 
 own_places : (last : ℕ) (p : Procedure) → length ((rewritten_procedure last p).formals ++ (rewritten_procedure last p).locals) ≡ length p.formals + (length p.locals + procedure_needs p)
 own_places last p =

@@ -15,6 +15,7 @@ mod main_procedure;
 mod names;
 mod needs;
 mod procedures;
+mod rewriting;
 mod rounds;
 mod statement;
 mod width;
@@ -28,6 +29,7 @@ ghost use Rattle.round_rewrite.specs.Rewritable.{IsRewritable, IsNarrow};
 ghost use Rattle.round_rewrite.specs.Scoped.{FitsScopes};
 
 pub use fault::RewriteFault;
+pub use rewriting::rewrite;
 pub use rounds::Rounds;
 
 /// The rewriting theorem, over the names that are printed: for 1 to 4 rounds (`last` + 1 of them), a tree

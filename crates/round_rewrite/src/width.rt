@@ -24,19 +24,29 @@ fn is_own_narrow<N: Allocator, A: Allocator + Clone>(
     requires { globals ≤ 64 }
     ensures { IsTrue result ↔ IsOwnNarrow globals (proc_of proc.now) }
 {
+    let formals = proc.formals.as_slice();
+    let locals = proc.locals.as_slice();
     let writer = Writer {
         alloc,
         rounds,
-        formals: proc.formals.as_slice(),
-        locals: proc.locals.as_slice(),
+        formals,
+        locals,
     };
     let needs = writer.needs(&proc.body);
-    let formals = proc.formals.len();
-    let locals = proc.locals.len();
-    if formals > PLACES || locals > PLACES || needs > PLACES {
+    if formals.len() > PLACES {
         return false;
     }
-    globals + (formals + (locals + needs)) <= PLACES
+    if locals.len() > PLACES {
+        return false;
+    }
+    if needs > PLACES {
+        return false;
+    }
+    let places = globals + (formals.len() + (locals.len() + needs));
+    if places > PLACES {
+        return false;
+    }
+    true
 }
 
 /// How many globals the rewritten program has; `None` only where they are more than 64.
@@ -60,7 +70,7 @@ pub fn is_narrow<N: Allocator, A: Allocator + Clone>(
 ) -> bool
     ensures { IsTrue result ↔ IsNarrow rounds.last (tree_of program.now) }
 {
-    let Some(globals) = global_count(rounds, program.globals.len()) else {
+    let Some(globals) = global_count(rounds, program.globals.as_slice().len()) else {
         return false;
     };
     for proc in &program.procs {
