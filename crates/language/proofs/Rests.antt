@@ -1,11 +1,11 @@
 -- Joined blocks, and rests from labels.
 use Rattle.std.proofs.Common.{◌≡◌, Bool, true, false, cond, Option, Some, None, refl, sym, ◌∙◌, ap}
 use Rattle.std.specs.Prelude.{option_map}
-use Rattle.language.specs.Tree.{Mark, RightSide, done, one, choose, loop}
+use Rattle.language.specs.Tree.{Block, Mark, RightSide, done, one, choose, loop}
 use Rattle.language.specs.Value.{Place}
 use Rattle.language.specs.Rest.{Label, Code, join, has_label, first_of_two, rest_from}
 
-pub join_done : (a : Code) → join a done ≡ a
+pub join_done : {V P L : Type 0} (a : Block V P L) → join a done ≡ a
 join_done done = refl
 join_done (one m s t) = ap (one m s) (join_done t)
 join_done (choose m r a b t) = ap (choose m r a b) (join_done t)

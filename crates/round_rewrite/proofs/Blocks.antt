@@ -1,6 +1,6 @@
 -- How the rewriting goes with joining, with leaving out labels and numbers, and with jumps.
 use Rattle.std.proofs.Common.{◌≡◌, ℕ, zero, suc, Bool, true, false, cond, Option, Some, None, option_map, refl, sym, ◌∙◌, ap, ap₂}
-use Rattle.language.specs.Tree.{Simple, skip, assign, assert, assume, goto, leave, call, Mark, done, one, choose, loop, RightSide}
+use Rattle.language.specs.Tree.{Simple, skip, assign, assert, assume, goto, leave, call, Mark, Block, done, one, choose, loop, RightSide}
 use Rattle.language.specs.Value.{Place}
 use Rattle.language.specs.Rest.{Label, Code, join, rest_from, first_of_two, has_label}
 use Rattle.round_rewrite.specs.Table.{Naming, plain, draws, drawing, prologue, statement, rewritten, side}
@@ -44,6 +44,20 @@ rest-join x (loop m r y t) b k =
     (sym (first_assoc (rest_from x y (loop m r y (join t (join b k)))) (rest_from x t (join b k)) (rest_from x b k)))
     ∙ sym (cond_first (has_label x m) _ _ (rest_from x b k)))
 
+module _ {V W P Q L : Type 0} (w : Naming V W P Q) (last : ℕ) where
+  drawing-join : (n : ℕ) (t b : Block W Q L) → join (drawing w last n t) b ≡ drawing w last n (join t b)
+  drawing-join zero t b = refl
+  drawing-join (suc n) t b = refl
+
+  pub statement-join : (s : Simple V P L) (t b : Block W Q L) → join (statement w last s t) b ≡ statement w last s (join t b)
+  statement-join skip t b = refl
+  statement-join (assign xs rs) t b = drawing-join (draws w.is_shared xs rs) _ b
+  statement-join (assert r) t b = refl
+  statement-join (assume r) t b = refl
+  statement-join (goto l) t b = refl
+  statement-join leave t b = refl
+  statement-join (call p es) t b = refl
+
 module _ (w : Naming Place Place ℕ ℕ) (last : ℕ) where
   pub bare-drawing : (n : ℕ) (t : Code) → bare (drawing w last n t) ≡ drawing w last n (bare t)
   bare-drawing zero t = refl
@@ -57,19 +71,6 @@ module _ (w : Naming Place Place ℕ ℕ) (last : ℕ) where
   bare-statement (goto l) t = refl
   bare-statement leave t = refl
   bare-statement (call p es) t = refl
-
-  drawing-join : (n : ℕ) (t b : Code) → join (drawing w last n t) b ≡ drawing w last n (join t b)
-  drawing-join zero t b = refl
-  drawing-join (suc n) t b = refl
-
-  pub statement-join : (s : Simple Place ℕ Label) (t b : Code) → join (statement w last s t) b ≡ statement w last s (join t b)
-  statement-join skip t b = refl
-  statement-join (assign xs rs) t b = drawing-join (draws w.is_shared xs rs) _ b
-  statement-join (assert r) t b = refl
-  statement-join (assume r) t b = refl
-  statement-join (goto l) t b = refl
-  statement-join leave t b = refl
-  statement-join (call p es) t b = refl
 
   rest-drawing : (x : Label) (n : ℕ) (t k : Code) → rest_from x (drawing w last n t) k ≡ rest_from x t k
   rest-drawing x zero t k = refl
@@ -102,7 +103,7 @@ module _ (w : Naming Place Place ℕ ℕ) (last : ℕ) where
   rewritten-join : (a b : Code) → rewritten w last (join a b) ≡ join (rewritten w last a) (rewritten w last b)
   rewritten-join done b = refl
   rewritten-join (one m s t) b =
-      ap (prologue w last m) (ap (statement w last s) (rewritten-join t b) ∙ sym (statement-join s (rewritten w last t) (rewritten w last b)))
+      ap (prologue w last m) (ap (statement w last s) (rewritten-join t b) ∙ sym (statement-join w last s (rewritten w last t) (rewritten w last b)))
   rewritten-join (choose m r x y t) b =
       ap (λ z. prologue w last m (choose plain (side w last r) (rewritten w last x) (rewritten w last y) z)) (rewritten-join t b)
   rewritten-join (loop m r x t) b =
@@ -125,7 +126,7 @@ module _ (w : Naming Place Place ℕ ℕ) (last : ℕ) where
   rest-rewritten x done k k' e = refl
   rest-rewritten x (one m s t) k k' e =
       let whole : bare (join (statement w last s (rewritten w last t)) k) ≡ statement w last s (put (join t k')) =
-      ap bare (statement-join s (rewritten w last t) k) ∙ (bare-statement s (join (rewritten w last t) k) ∙ ap (statement w last s) (tails t k k' e)) in
+      ap bare (statement-join w last s (rewritten w last t) k) ∙ (bare-statement s (join (rewritten w last t) k) ∙ ap (statement w last s) (tails t k k' e)) in
       found bare put (has_label x m) _ _ _ _ (ap (prologue w last plain) whole)
       (ap (option_map bare) (rest-statement x s (rewritten w last t) k) ∙ rest-rewritten x t k k' e)
   rest-rewritten x (choose m r a b t) k k' e =

@@ -26,3 +26,13 @@ pub mod Placing
 pub mod Resolved
 pub mod Matching
 pub mod Meaning
+pub mod Pushed
+pub mod Assigning
+pub mod Laying
+pub mod Deeds
+pub mod Held
+pub mod Forms
+pub mod Mains
+pub mod Needing
+pub mod Copied
+pub mod Widths

@@ -4,3 +4,4 @@ pub mod Names
 pub mod Scoped
 pub mod Law
 pub mod Narrow
+pub mod Writing

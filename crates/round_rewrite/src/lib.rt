@@ -4,6 +4,24 @@
 //! of Lal and Reps (2008), the construction is this project's own.
 #![tactic(auto)]
 
+mod assignment;
+mod block;
+mod cores;
+mod expression;
+mod fault;
+mod globals;
+mod lists;
+mod main_procedure;
+mod names;
+mod needs;
+mod procedures;
+mod rewriting;
+mod rounds;
+mod sequential;
+mod statement;
+mod width;
+mod writer;
+
 ghost use Rattle.std.specs.Prelude.{ℕ, ◌<◌};
 ghost use Rattle.language.specs.Tree.{Tree};
 ghost use Rattle.language.specs.Step.{Program};
@@ -11,6 +29,11 @@ ghost use Rattle.round_rewrite.specs.Law.{Keeps, KeepsTree};
 ghost use Rattle.scopes.specs.Rewritable.{IsRewritable};
 ghost use Rattle.round_rewrite.specs.Narrow.{IsNarrow};
 ghost use Rattle.round_rewrite.specs.Scoped.{FitsScopes};
+
+pub use fault::RewriteFault;
+pub use rewriting::rewrite;
+pub use rounds::Rounds;
+pub use sequential::Sequential;
 
 /// The rewriting theorem, over the names that are printed: for 1 to 4 rounds (`last` + 1 of them), a tree
 /// whose names are declared, and widths of at most 64, some run within the rounds fails an assert exactly

@@ -1,0 +1,32 @@
+-- Statements put behind others.
+use Rattle.std.proofs.Common.{◌≡◌, List, [], ◌∷◌, ◌++◌, refl, sym, ◌∙◌, ap, option_map}
+use Rattle.std.proofs.lemmas.List.{map-append}
+use Rattle.language.specs.Tree as tree
+use Rattle.language.specs.Tree.{Mark}
+use Rattle.syntax.specs.declared.tree.Stmt.{Stmt}
+use Rattle.syntax.specs.declared.tree.Core.TheFolds.{fold_out-Stmt}
+use Rattle.syntax.specs.Trees.{Deed, Item, name_of, core_step, stmt_step, item_of, items_of, deed_of, before, marked_before, all_before}
+use Rattle.round_rewrite.specs.Writing.{Statements, Lays}
+
+all_before_last : (is : List Item) (i : Item) (k : Statements) → all_before (is ++ i ∷ []) k ≡ all_before is (before i k)
+all_before_last [] i k = refl
+all_before_last (j ∷ is) i k = ap (before j) (all_before_last is i k)
+
+pub lays_pushed : {A : Type 0} (old : List (Stmt A)) (s : Stmt A) {new : List (Stmt A)} → new ≡ old ++ s ∷ [] → Lays old new (λ k. marked_before (record { label = option_map name_of s.label; at = s.at }) (deed_of s.core) k)
+lays_pushed {A} old s e k =
+    ap (λ ss. all_before (items_of ss) k) e
+    ∙ (ap (λ is. all_before is k) (map-append item_of old (s ∷ []))
+    ∙ (all_before_last (items_of old) (item_of s) k
+    ∙ ap (λ i. all_before (items_of old) (before i k)) (fold_out-Stmt A Deed Item core_step stmt_step s)))
+
+-- one lot of statements behind another
+pub then : {A : Type 0} (a b c : List (Stmt A)) (f g : Statements → Statements) → Lays a b f → Lays b c g → Lays a c (λ k. f (g k))
+then a b c f g first second k = second k ∙ first (g k)
+
+-- the same statements, said otherwise
+pub said : {A : Type 0} (a b : List (Stmt A)) (f g : Statements → Statements) → Lays a b f → ((k : Statements) → f k ≡ g k) → Lays a b g
+said a b f g first same k = first k ∙ ap (all_before (items_of a)) (same k)
+
+-- one statement, whose deed is said otherwise
+pub laid : {A : Type 0} (a b : List (Stmt A)) (m : Mark tree.Name) (d d' : Deed) → Lays a b (λ k. marked_before m d k) → d ≡ d' → Lays a b (λ k. marked_before m d' k)
+laid a b m d d' l e k = l k ∙ ap (λ x. all_before (items_of a) (marked_before m x k)) e

@@ -1,0 +1,74 @@
+-- How wide the procedures of the rewritten program are.
+use Rattle.std.proofs.Common.{◌≡◌, ℕ, zero, suc, ◌+◌, ◌*◌, ◌<◌, ◌≤◌, List, [], ◌∷◌, ◌++◌, length, length-append, get_or, drop, map, codes, refl, sym, ◌∙◌, ap, subst, arith, append_assoc}
+use Rattle.std.proofs.lemmas.List.{length-map, drop_more, drop_all}
+use Rattle.std.specs.Prelude.{◌↔◌}
+use Rattle.language.specs.Tree.{Name, Procedure, Tree}
+use Rattle.syntax.specs.declared.tree.Proc.{Proc}
+use Rattle.syntax.specs.Trees.{proc_of, procs_of}
+use Rattle.round_rewrite.specs.Table.{Naming, numbers, copied, globals, temporaries}
+use Rattle.round_rewrite.specs.Places.{bits_at}
+use Rattle.round_rewrite.specs.Names.{named, names, copy_name, save_name, drawn_name, rewritten_procedure, main_procedure, rewritten_tree}
+use Rattle.scopes.specs.Rewritable.{EachProcedure}
+use Rattle.round_rewrite.specs.Narrow.{width, IsNarrow}
+use Rattle.round_rewrite.specs.Writing.{procedure_needs, IsOwnNarrow, AreFew}
+use Rattle.round_rewrite.proofs.Numbering.{length-rows}
+use Rattle.round_rewrite.proofs.Placing.{length-numbers}
+use Rattle.round_rewrite.proofs.Copied.{gathered}
+
+four_behind : {B : Type 0} (xs : List B) (a b c d : B) → (((xs ++ a ∷ []) ++ b ∷ []) ++ c ∷ []) ++ d ∷ [] ≡ xs ++ (a ∷ b ∷ c ∷ d ∷ [])
+four_behind xs a b c d =
+    ap (λ ns. (ns ++ c ∷ []) ++ d ∷ []) (append_assoc xs (a ∷ []) (b ∷ []))
+    ∙ (ap (λ ns. ns ++ d ∷ []) (append_assoc xs (a ∷ b ∷ []) (c ∷ [])) ∙ append_assoc xs (a ∷ b ∷ c ∷ []) (d ∷ []))
+
+pub length-globals : (last : ℕ) (xs : List Name) → length (globals (names []) last xs) ≡ bits_at (length xs) last + 4
+length-globals last xs =
+    let a = length-rows (names []) last copy_name xs 0 (suc last) in
+    let b = length-rows (names []) last save_name xs 1 last in
+    let four = named (codes "rh__") ∷ named (codes "rl__") ∷ named (codes "stop__") ∷ named (codes "bad__") ∷ [] in
+    let first = copied (names []) last copy_name xs (numbers 0 (suc last)) in
+    let second = copied (names []) last save_name xs (numbers 1 last) in
+    let c : length (globals (names []) last xs) ≡ length ((first ++ second) ++ four) = ap length (sym (gathered first second (named (codes "rh__")) (named (codes "rl__")) (named (codes "stop__")) (named (codes "bad__"))) ∙ four_behind (first ++ second) (named (codes "rh__")) (named (codes "rl__")) (named (codes "stop__")) (named (codes "bad__"))) in
+    c ∙ (length-append (first ++ second) four ∙ (ap (λ n. n + 4) (length-append first second ∙ (λ i. a i + b i))))
+
+own_places : (last : ℕ) (p : Procedure) → length ((rewritten_procedure last p).formals ++ (rewritten_procedure last p).locals) ≡ length p.formals + (length p.locals + procedure_needs p)
+own_places last p =
+    let temps = map drawn_name (numbers 0 (procedure_needs p)) in
+    let t : length temps ≡ procedure_needs p = length-map (numbers 0 (procedure_needs p)) drawn_name ∙ length-numbers 0 (procedure_needs p) in
+    length-append p.formals (p.locals ++ temps)
+    ∙ ap (λ n. length p.formals + n) (length-append p.locals temps ∙ ap (λ n. length p.locals + n) t)
+
+module _ (t : Tree) (last n : ℕ) (is : bits_at (length t.globals) last + 4 ≡ n) where
+  wide : length (rewritten_tree last t).globals ≡ n
+  wide = length-globals last t.globals ∙ is
+
+  into : (ps : List Procedure) → EachProcedure (IsOwnNarrow n) ps → EachProcedure (λ p. width (rewritten_tree last t) p ≤ 64) (map (rewritten_procedure last) ps)
+  into [] e = e
+  into (p ∷ ps) e = (subst (λ z. z ≤ 64) (sym ((λ i. wide i + own_places last p i))) e.0, into ps e.1)
+
+  out : (ps : List Procedure) → EachProcedure (λ p. width (rewritten_tree last t) p ≤ 64) (map (rewritten_procedure last) ps) → EachProcedure (IsOwnNarrow n) ps
+  out [] e = e
+  out (p ∷ ps) e = (subst (λ z. z ≤ 64) (λ i. wide i + own_places last p i) e.0, out ps e.1)
+
+  -- the program is narrow where the globals and each procedure's own places are at most 64
+  pub narrow : n ≤ 64 → EachProcedure (IsOwnNarrow n) t.procedures → IsNarrow last t
+  narrow few e =
+      let w = wide in
+      let main : length (rewritten_tree last t).globals + 0 ≤ 64 = omega (arith, w, few) in
+      (main, into t.procedures e)
+
+  pub narrow_globals : IsNarrow last t → n ≤ 64
+  narrow_globals e = let w = wide in let m : length (rewritten_tree last t).globals + 0 ≤ 64 = e.0 in omega (arith, w, m)
+
+  pub narrow_procedures : IsNarrow last t → EachProcedure (IsOwnNarrow n) t.procedures
+  narrow_procedures e = out t.procedures e.1
+
+-- a narrow program needs few temporaries
+pub few_needs : (n : ℕ) (ps : List Procedure) → EachProcedure (IsOwnNarrow n) ps → AreFew ps
+few_needs n [] e = tt
+few_needs n (p ∷ ps) e = (let h : n + (length p.formals + (length p.locals + procedure_needs p)) ≤ 64 = e.0 in let k : procedure_needs p ≤ 64 = omega (arith, h) in k, few_needs n ps e.1)
+
+-- each procedure of a list has what all have
+pub each_at : {A : Type 0} (P : Procedure → Type 0) (ss : List (Proc A)) (i : ℕ) (s : Proc A) → i < length ss → s ≡ get_or ss i s → EachProcedure P (procs_of ss) → P (proc_of s)
+each_at P [] i s lt is e = absurd (omega arith)
+each_at P (x ∷ ss) zero s lt is e = subst (λ y. P (proc_of y)) (sym is) e.0
+each_at P (x ∷ ss) (suc i) s lt is e = each_at P ss i s (omega arith) is e.1

@@ -1,0 +1,13 @@
+use Rattle.std.proofs.Common.{◌≡◌, ◌∙◌, ap, List, [], ◌∷◌, ◌++◌}
+use Rattle.language.specs.Tree.{negation, two, xor, any, value, assign, assume, done}
+use Rattle.syntax.specs.Trees.{simple, branch, repeat, names_of, rhs_of, rhss_of, marked_before}
+use Rattle.round_rewrite.specs.Table.{plain}
+use Rattle.round_rewrite.specs.Names.{named}
+use Rattle.round_rewrite.proofs.Deeds.{deed_of_skip, deed_of_return, deed_of_assign, deed_of_assume, deed_of_if, deed_of_while}
+use Rattle.round_rewrite.proofs.cores.stop_choice.Goals as goal
+
+pub returns : goal.returns
+returns g c =
+    let yes = c.in_ok-yes.ensures ∙ ap (λ d. marked_before plain d done) c.in_ok-set.ensures in
+    let no = c.in_ok-no.ensures ∙ ap (λ d. marked_before plain d done) (deed_of_skip g.row.A.Denot) in
+    deed_of_if _ _ _ ∙ (λ i. branch any (yes i) (no i))

@@ -1,0 +1,10 @@
+-- The names for the rounds so far.
+use Rattle.std.proofs.Common.{◌≡◌, ◌++◌, []}
+use Rattle.syntax.specs.Trees.{names_of}
+use Rattle.round_rewrite.specs.Table.{numbers, copied}
+use Rattle.round_rewrite.specs.Names.{names, copy_name, save_name}
+use Rattle.round_rewrite.proofs.globals.all_copies.Given as goal
+
+abbrev pub invariant-loop-round : goal.invariant-loop-round
+invariant-loop-round g l =
+    names_of l.list.items ≡ names_of l.fn.into.items ++ copied (names []) l.fn.rounds.last copy_name (names_of l.xs) (numbers 0 l.round)

@@ -1,0 +1,20 @@
+use Rattle.std.proofs.Common.{◌≡◌, suc, ◌+◌, ◌∙◌, ap, sym, refl, arith, [], ◌∷◌, ◌++◌, codes, append_assoc}
+use Rattle.syntax.specs.Trees.{names_of}
+use Rattle.round_rewrite.specs.Table.{numbers, copied}
+use Rattle.round_rewrite.specs.Names.{named, names, copy_name, save_name}
+use Rattle.round_rewrite.proofs.Copied.{copied_next, gathered}
+use Rattle.round_rewrite.proofs.globals.globals.Goals as goal
+
+pub returns : goal.returns
+returns g c =
+    let last = c.args.rounds.last in
+    let xs = names_of c.args.xs.now in
+    let first = copied (names []) last copy_name xs (numbers 0 (suc last)) in
+    let second = copied (names []) last save_name xs (numbers 1 last) in
+    let copied = c.in_ok-copied.ensures ∙ ap (λ ns. names_of ns ++ first) c.new.ensures.items in
+    let saved = c.in_ok-saved.ensures ∙ ap (λ ns. ns ++ second) copied in
+    let high = c.in_ok-high.ensures ∙ ap (λ ns. ns ++ named (codes "rh__") ∷ []) saved in
+    let low = c.in_ok-low.ensures ∙ ap (λ ns. ns ++ named (codes "rl__") ∷ []) high in
+    let stop = c.in_ok-stop.ensures ∙ ap (λ ns. ns ++ named (codes "stop__") ∷ []) low in
+    let bad = c.in_ok-all.ensures ∙ ap (λ ns. ns ++ named (codes "bad__") ∷ []) stop in
+    bad ∙ gathered first second (named (codes "rh__")) (named (codes "rl__")) (named (codes "stop__")) (named (codes "bad__"))

@@ -1,0 +1,10 @@
+-- The names so far, and what the others come to.
+use Rattle.std.proofs.Common.{◌≡◌, ◌++◌, map, drop}
+use Rattle.language.specs.Tree.{any, var, value}
+use Rattle.syntax.specs.Trees.{names_of, rhss_of}
+use Rattle.round_rewrite.specs.Table.{each}
+use Rattle.round_rewrite.specs.Names.{copy_name, save_name}
+use Rattle.round_rewrite.proofs.lists.all_again.Given as goal
+
+abbrev pub invariant-loop-x : goal.invariant-loop-x
+invariant-loop-x g l = names_of l.list.items ++ names_of (drop l.x-index l.xs) ≡ names_of l.fn.into.items ++ names_of l.xs

@@ -1,0 +1,11 @@
+use Rattle.std.proofs.Common.{◌≡◌, ◌∙◌, ap, refl, ◌++◌, ◌+◌, map, drop}
+use Rattle.language.specs.Tree.{any, var, value}
+use Rattle.syntax.specs.Trees.{name_of, names_of, rhs_of, rhss_of}
+use Rattle.round_rewrite.specs.Names.{copy_name, save_name}
+use Rattle.round_rewrite.proofs.Pushed.{one_through}
+use Rattle.round_rewrite.proofs.lists.copies.Goals as goal
+
+pub loop-x-preserved : goal.loop-x-preserved
+loop-x-preserved g c =
+    ap (λ l. names_of l ++ map (copy_name c.args.round) (names_of (drop (c.loop-x.x-index + 1) c.args.xs.now))) c.in_ok-push.ensures.items
+    ∙ one_through name_of (copy_name c.args.round) name_of c.loop-x.list.items c.in_ok-copy.field-0 c.args.xs.now c.loop-x.x-index c.x-item.result _ c.loop-x-test.true c.x-item.is c.in_ok-copy.ensures c.loop-x.invariant

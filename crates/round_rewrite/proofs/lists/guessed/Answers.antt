@@ -1,0 +1,11 @@
+use Rattle.std.proofs.Common.{◌≡◌, ◌∙◌, ap, refl, ◌++◌, ◌+◌, map, drop}
+use Rattle.language.specs.Tree.{any, var, value}
+use Rattle.syntax.specs.Trees.{name_of, names_of, rhs_of, rhss_of}
+use Rattle.round_rewrite.specs.Names.{copy_name, save_name}
+use Rattle.round_rewrite.proofs.Pushed.{one_through}
+use Rattle.round_rewrite.proofs.lists.guessed.Goals as goal
+
+pub loop-x-preserved : goal.loop-x-preserved
+loop-x-preserved g c =
+    ap (λ l. rhss_of l ++ map (λ w. any) (names_of (drop (c.loop-x._x-index + 1) c.args.xs.now))) c.in_ok-push.ensures.items
+    ∙ one_through rhs_of (λ w. any) name_of c.loop-x.list.items _ c.args.xs.now c.loop-x._x-index c._x-item.result _ c.loop-x-test.true c._x-item.is refl c.loop-x.invariant

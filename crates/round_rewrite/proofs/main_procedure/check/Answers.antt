@@ -1,0 +1,23 @@
+use Rattle.std.proofs.Common.{◌≡◌, ℕ, suc, false, ◌+◌, ◌∙◌, ap, sym, refl, arith, List, [], ◌∷◌, ◌++◌, map, codes}
+use Rattle.language.specs.Tree as tree
+use Rattle.language.specs.Tree.{equal, const, var, value, two, assign, assume, call, one, done}
+use Rattle.syntax.specs.Trees.{simple, name_of, names_of, rhss_of, thread_of, threads_of, items_of, all_before}
+use Rattle.round_rewrite.specs.Table.{numbers, plain, guesses, starts, check, checks}
+use Rattle.round_rewrite.specs.Names.{named, names, copy_name, save_name}
+use Rattle.round_rewrite.specs.Writing.{Statements, line_names}
+use Rattle.round_rewrite.proofs.Laying.{laid}
+use Rattle.round_rewrite.proofs.Mains.{each_more, each_end, guess_some, guesses_next, checks_next}
+use Rattle.round_rewrite.proofs.Deeds.{deed_of_assign, deed_of_assume, deed_of_call}
+use Rattle.round_rewrite.proofs.main_procedure.check.Goals as goal
+
+pub loop-x-preserved : goal.loop-x-preserved
+loop-x-preserved g c =
+    each_more name_of (λ xs. check (names []) c.args.last xs c.args.round)
+    (λ y k. one plain (assume (value (two equal (var (save_name (suc c.args.round) y)) (var (copy_name c.args.round y))))) k) (λ y ys k. refl) c.args.xs.now c.loop-x.x-index c.x-item.result c.loop-x-test.true c.x-item.is
+    c.loop-x.list.items c.in_ok-list.list.items (laid _ _ plain _ _ c.in_ok-list.ensures c.in_ok-core.ensures)
+    (λ rest. all_before (items_of c.args.into.items) (check (names []) c.args.last (names_of c.args.xs.now) c.args.round rest)) c.loop-x.invariant
+
+pub returns : goal.returns
+returns g c =
+    each_end name_of (λ xs. check (names []) c.args.last xs c.args.round) (λ k. refl) c.args.xs.now c.loop-x.x-index c.loop-x-test.false c.loop-x.list.items
+    (λ rest. all_before (items_of c.args.into.items) (check (names []) c.args.last (names_of c.args.xs.now) c.args.round rest)) c.loop-x.invariant

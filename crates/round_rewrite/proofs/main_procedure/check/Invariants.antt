@@ -1,0 +1,12 @@
+-- What stands with the other checks behind it.
+use Rattle.std.proofs.Common.{◌≡◌, [], drop}
+use Rattle.syntax.specs.Trees.{names_of, threads_of, items_of, all_before}
+use Rattle.round_rewrite.specs.Table.{numbers, guesses, starts, check, checks}
+use Rattle.round_rewrite.specs.Names.{names}
+use Rattle.round_rewrite.specs.Writing.{Statements, Lays, line_names}
+use Rattle.round_rewrite.proofs.main_procedure.check.Given as goal
+
+abbrev pub invariant-loop-x : goal.invariant-loop-x
+invariant-loop-x g l =
+    (rest : Statements) → all_before (items_of l.list.items) (check (names []) l.last (names_of (drop l.x-index l.xs)) l.round rest)
+    ≡ all_before (items_of l.fn.into.items) (check (names []) l.last (names_of l.xs) l.round rest)

@@ -1,0 +1,11 @@
+-- The checks so far.
+use Rattle.std.proofs.Common.{◌≡◌, [], drop}
+use Rattle.syntax.specs.Trees.{names_of, threads_of, items_of, all_before}
+use Rattle.round_rewrite.specs.Table.{numbers, guesses, starts, check, checks}
+use Rattle.round_rewrite.specs.Names.{names}
+use Rattle.round_rewrite.specs.Writing.{Statements, Lays, line_names}
+use Rattle.round_rewrite.proofs.main_procedure.checks.Given as goal
+
+abbrev pub invariant-loop-round : goal.invariant-loop-round
+invariant-loop-round g l =
+    Lays l.fn.into.items l.list.items (λ k. checks (names []) l.rounds.last (names_of l.xs) (numbers 0 l.round) k)

@@ -1,0 +1,22 @@
+use Rattle.std.proofs.Common.{◌≡◌, ℕ, suc, false, ◌+◌, ◌∙◌, ap, sym, refl, arith, List, [], ◌∷◌, ◌++◌, map, codes}
+use Rattle.language.specs.Tree as tree
+use Rattle.language.specs.Tree.{equal, const, var, value, two, assign, assume, call, one, done}
+use Rattle.syntax.specs.Trees.{simple, name_of, names_of, rhss_of, thread_of, threads_of, items_of, all_before}
+use Rattle.round_rewrite.specs.Table.{numbers, plain, guesses, starts, check, checks}
+use Rattle.round_rewrite.specs.Names.{named, names, copy_name, save_name}
+use Rattle.round_rewrite.specs.Writing.{Statements, line_names}
+use Rattle.round_rewrite.proofs.Laying.{laid}
+use Rattle.round_rewrite.proofs.Mains.{each_more, each_end, guess_some, guesses_next, checks_next}
+use Rattle.round_rewrite.proofs.Deeds.{deed_of_assign, deed_of_assume, deed_of_call}
+use Rattle.round_rewrite.proofs.main_procedure.guess.Goals as goal
+
+pub returns : goal.returns
+returns g c =
+    let xs = names_of c.args.xs.now in
+    let targets = c.in_ok-targets.ensures ∙ ap (λ ns. names_of ns ++ map (copy_name c.args.round) xs) c.new.ensures.items in
+    let kept = c.in_ok-kept.ensures ∙ ap (λ ns. names_of ns ++ map (save_name c.args.round) xs) c.new-2.ensures.items in
+    let drawn = laid _ _ plain _ _ c.in_ok-drawn.ensures (deed_of_assign _ _ ∙ (λ i. simple (assign (targets i) (c.in_ok-sides.ensures i)))) in
+    let saved = laid _ _ plain _ _ c.in_ok-saved.ensures (deed_of_assign _ _ ∙ (λ i. simple (assign (kept i) (c.in_ok-values.ensures i)))) in
+    λ k. saved k
+    ∙ (drawn _
+    ∙ ap (all_before (items_of c.args.into.items)) (sym (guess_some (names []) c.args.last xs _ _ c.args.round k (ap names_of c.in-Some.ensures.cases.0))))

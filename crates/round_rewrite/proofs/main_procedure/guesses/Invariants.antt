@@ -1,0 +1,11 @@
+-- The guesses so far.
+use Rattle.std.proofs.Common.{◌≡◌, [], drop}
+use Rattle.syntax.specs.Trees.{names_of, threads_of, items_of, all_before}
+use Rattle.round_rewrite.specs.Table.{numbers, guesses, starts, check, checks}
+use Rattle.round_rewrite.specs.Names.{names}
+use Rattle.round_rewrite.specs.Writing.{Statements, Lays, line_names}
+use Rattle.round_rewrite.proofs.main_procedure.guesses.Given as goal
+
+abbrev pub invariant-loop-before : goal.invariant-loop-before
+invariant-loop-before g l =
+    Lays l.fn.into.items l.list.items (λ k. guesses (names []) l.rounds.last (names_of l.xs) (numbers 1 l.before) k)

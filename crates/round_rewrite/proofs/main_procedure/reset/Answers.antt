@@ -1,0 +1,21 @@
+use Rattle.std.proofs.Common.{◌≡◌, ℕ, suc, false, ◌+◌, ◌∙◌, ap, sym, refl, arith, List, [], ◌∷◌, ◌++◌, map, codes}
+use Rattle.language.specs.Tree as tree
+use Rattle.language.specs.Tree.{equal, const, var, value, two, assign, assume, call, one, done}
+use Rattle.syntax.specs.Trees.{simple, name_of, names_of, rhss_of, thread_of, threads_of, items_of, all_before}
+use Rattle.round_rewrite.specs.Table.{numbers, plain, guesses, starts, check, checks}
+use Rattle.round_rewrite.specs.Names.{named, names, copy_name, save_name}
+use Rattle.round_rewrite.specs.Writing.{Statements, line_names}
+use Rattle.round_rewrite.proofs.Laying.{laid}
+use Rattle.round_rewrite.proofs.Mains.{each_more, each_end, guess_some, guesses_next, checks_next}
+use Rattle.round_rewrite.proofs.Deeds.{deed_of_assign, deed_of_assume, deed_of_call}
+use Rattle.round_rewrite.proofs.main_procedure.reset.Goals as goal
+
+pub returns : goal.returns
+returns g c =
+    let high = c.in_ok-high.ensures ∙ ap (λ ns. names_of ns ++ named (codes "rh__") ∷ []) c.new.ensures.items in
+    let low = c.in_ok-low.ensures ∙ ap (λ ns. ns ++ named (codes "rl__") ∷ []) high in
+    let targets = c.in_ok-targets.ensures ∙ ap (λ ns. ns ++ named (codes "stop__") ∷ []) low in
+    let first = c.in_ok-first.ensures ∙ (λ i. rhss_of (c.new-2.ensures.items i) ++ c.constant.ensures i ∷ []) in
+    let second = c.in_ok-second.ensures ∙ (λ i. first i ++ c.constant-2.ensures i ∷ []) in
+    let sides = c.in_ok-sides.ensures ∙ (λ i. second i ++ c.constant-3.ensures i ∷ []) in
+    deed_of_assign _ _ ∙ (λ i. simple (assign (targets i) (sides i)))

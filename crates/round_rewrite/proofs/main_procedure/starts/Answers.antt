@@ -1,0 +1,25 @@
+use Rattle.std.proofs.Common.{◌≡◌, ℕ, suc, false, ◌+◌, ◌∙◌, ap, sym, refl, arith, List, [], ◌∷◌, ◌++◌, map, codes}
+use Rattle.language.specs.Tree as tree
+use Rattle.language.specs.Tree.{equal, const, var, value, two, assign, assume, call, one, done}
+use Rattle.syntax.specs.Trees.{simple, name_of, names_of, rhss_of, thread_of, threads_of, items_of, all_before}
+use Rattle.round_rewrite.specs.Table.{numbers, plain, guesses, starts, check, checks}
+use Rattle.round_rewrite.specs.Names.{named, names, copy_name, save_name}
+use Rattle.round_rewrite.specs.Writing.{Statements, line_names}
+use Rattle.round_rewrite.proofs.Laying.{laid}
+use Rattle.round_rewrite.proofs.Mains.{each_more, each_end, guess_some, guesses_next, checks_next}
+use Rattle.round_rewrite.proofs.Deeds.{deed_of_assign, deed_of_assume, deed_of_call}
+use Rattle.round_rewrite.proofs.main_procedure.starts.Goals as goal
+
+pub loop-thread-preserved : goal.loop-thread-preserved
+loop-thread-preserved g c =
+    let begun = laid _ _ plain _ _ c.in_ok-begun.ensures c.in_ok-reset.ensures in
+    let called = laid _ _ plain _ _ c.in_ok-list.ensures (deed_of_call _ _ ∙ (λ i. simple (call (c.in_ok-name.ensures i) (Rattle.syntax.specs.Trees.exprs_of (c.new.ensures.items i))))) in
+    each_more thread_of (λ ls. starts (names []) c.args.last (line_names ls))
+    (λ y k. one plain (assign (named (codes "rh__") ∷ named (codes "rl__") ∷ named (codes "stop__") ∷ []) (value (const false) ∷ value (const false) ∷ value (const false) ∷ [])) (one plain (call y.name []) k)) (λ y ys k. refl) c.args.threads.now c.loop-thread.thread-index c.thread-item.result c.loop-thread-test.true c.thread-item.is
+    c.loop-thread.list.items c.in_ok-list.list.items (λ k. called k ∙ begun _)
+    (λ rest. all_before (items_of c.args.into.items) (starts (names []) c.args.last (line_names (threads_of c.args.threads.now)) rest)) c.loop-thread.invariant
+
+pub returns : goal.returns
+returns g c =
+    each_end thread_of (λ ls. starts (names []) c.args.last (line_names ls)) (λ k. refl) c.args.threads.now c.loop-thread.thread-index c.loop-thread-test.false c.loop-thread.list.items
+    (λ rest. all_before (items_of c.args.into.items) (starts (names []) c.args.last (line_names (threads_of c.args.threads.now)) rest)) c.loop-thread.invariant

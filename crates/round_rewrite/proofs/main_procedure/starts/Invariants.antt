@@ -1,0 +1,12 @@
+-- What stands with the other threads behind it.
+use Rattle.std.proofs.Common.{◌≡◌, [], drop}
+use Rattle.syntax.specs.Trees.{names_of, threads_of, items_of, all_before}
+use Rattle.round_rewrite.specs.Table.{numbers, guesses, starts, check, checks}
+use Rattle.round_rewrite.specs.Names.{names}
+use Rattle.round_rewrite.specs.Writing.{Statements, Lays, line_names}
+use Rattle.round_rewrite.proofs.main_procedure.starts.Given as goal
+
+abbrev pub invariant-loop-thread : goal.invariant-loop-thread
+invariant-loop-thread g l =
+    (rest : Statements) → all_before (items_of l.list.items) (starts (names []) l.last (line_names (threads_of (drop l.thread-index l.threads))) rest)
+    ≡ all_before (items_of l.fn.into.items) (starts (names []) l.last (line_names (threads_of l.threads)) rest)

@@ -1,0 +1,32 @@
+use Rattle.std.proofs.Common.{◌≡◌, ◌+◌, ◌<◌, ◌≤◌, ◌∙◌, ap, sym, refl, arith, [], ◌∷◌, ◌++◌, map, drop, append-nil}
+use Rattle.std.proofs.lemmas.List.{drop_more, drop_all, map-append}
+use Rattle.language.specs.Tree.{done}
+use Rattle.syntax.specs.Trees.{names_of, proc_of, procs_of, tree_of, threads_of, block_of, items_of, all_before}
+use Rattle.round_rewrite.specs.Table.{numbers, temporaries, main, rewritten}
+use Rattle.round_rewrite.specs.Names.{names, drawn_name, main_procedure, rewritten_procedure}
+use Rattle.round_rewrite.specs.Writing.{procedure_needs, AreFew, line_names}
+use Rattle.round_rewrite.proofs.Forms.{block_done}
+use Rattle.round_rewrite.proofs.Pushed.{one_through}
+use Rattle.round_rewrite.proofs.procedures.procedure.Goals as goal
+
+pub temporaries-requires : goal.temporaries-requires
+temporaries-requires g c =
+    let formals = ap names_of c.as_slice.ensures.value in
+    let locals = ap names_of c.as_slice-2.ensures.value in
+    let needs = c.needs.ensures ∙ (λ i. temporaries (names (formals i ++ locals i)).is_shared (block_of (c.deref-3.ensures.value i))) in
+    let few = c.requires in
+    omega (arith, needs, few)
+
+pub returns : goal.returns
+returns g c =
+    let formals = ap names_of c.as_slice.ensures.value in
+    let locals = ap names_of c.as_slice-2.ensures.value in
+    let needs = c.needs.ensures ∙ (λ i. temporaries (names (formals i ++ locals i)).is_shared (block_of (c.deref-3.ensures.value i))) in
+    let p = c.args.proc.now in
+    let last = c.args.rounds.last in
+    let first = c.in_ok-formals.ensures ∙ (λ i. names_of (c.new.ensures.items i) ++ names_of (c.deref.ensures.value i)) in
+    let kept = c.in_ok-kept.ensures ∙ (λ i. names_of (c.new-2.ensures.items i) ++ names_of (c.deref-2.ensures.value i)) in
+    let second = c.in_ok-locals.ensures ∙ (λ i. kept i ++ map drawn_name (numbers 0 (needs i))) in
+    let body = block_done (names (names_of c.as_slice.result.now ++ names_of c.as_slice-2.result.now)) last c.new-3.result.items c.in_ok-body.body.items c.deref-4.result.now p.body.items c.new-3.ensures.items c.deref-4.ensures.value c.in_ok-body.ensures
+    ∙ (λ i. rewritten (names (formals i ++ locals i)) last (block_of p.body.items)) in
+    λ i. record { name = c.in_ok-name.ensures i; formals = first i; locals = second i; body = body i }

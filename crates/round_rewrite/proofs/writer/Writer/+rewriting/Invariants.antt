@@ -1,0 +1,18 @@
+-- What stands with the rest rewritten behind it, and each call's measure: a statement holds fewer than its list.
+use Rattle.std.proofs.Common.{◌≡◌, ◌+◌, ◌*◌, drop}
+use Rattle.language.specs.Sequential.{statements}
+use Rattle.syntax.specs.Trees.{items_of, deed_of, block_of, all_before}
+use Rattle.round_rewrite.specs.Writing.{Statements, forms, naming_of}
+use Rattle.round_rewrite.proofs.Held.{held}
+use Rattle.round_rewrite.proofs.writer.Writer.+rewriting.Given as goal
+
+abbrev pub invariant-block-loop-stmt : goal.invariant-block-loop-stmt
+invariant-block-loop-stmt g l =
+    (rest : Statements) → all_before (items_of l.list.items) (forms (naming_of l.self) l.self.rounds.last (items_of (drop l.stmt-index l.stmts)) rest)
+    ≡ all_before (items_of l.fn.into.items) (forms (naming_of l.self) l.self.rounds.last (items_of l.stmts) rest)
+
+abbrev pub decreases-block : goal.decreases-block
+decreases-block g l = 2 * statements (block_of l.stmts.now) + 1
+
+abbrev pub decreases-core : goal.decreases-core
+decreases-core g l = 2 * held (deed_of l.core.now) + 2

@@ -1,0 +1,24 @@
+use Rattle.std.proofs.Common.{◌≡◌, ◌∙◌, ap, List, [], ◌∷◌, ◌++◌}
+use Rattle.language.specs.Tree.{any, assign, call}
+use Rattle.syntax.specs.Trees.{simple, repeat, names_of, rhss_of, items_of, all_before}
+use Rattle.round_rewrite.specs.Table.{plain, drawing, numbers, each, targets, sides}
+use Rattle.round_rewrite.specs.Names.{drawn_name}
+use Rattle.round_rewrite.specs.Writing.{naming_of}
+use Rattle.round_rewrite.proofs.Laying.{then, laid}
+use Rattle.round_rewrite.proofs.Forms.{drawing_some}
+use Rattle.round_rewrite.proofs.Deeds.{deed_of_assign, deed_of_call}
+use Rattle.round_rewrite.proofs.writer.Writer.assignment.Goals as goal
+
+pub returns : goal.returns
+returns g c =
+    let w = naming_of c.args.self.now in
+    let last = c.args.self.now.rounds.last in
+    let xs = names_of c.args.xs.now in
+    let rs = rhss_of c.args.rs.now in
+    let left = c.in_ok-targets.ensures ∙ ap (λ ns. names_of ns ++ targets w last xs rs) c.new.ensures.items in
+    let right = c.in_ok-sides.ensures ∙ ap (λ ns. rhss_of ns ++ sides w last 0 xs rs) c.new-2.ensures.items in
+    let deed = deed_of_assign _ _ ∙ (λ i. simple (assign (left i) (right i))) in
+    let assigned = laid _ _ plain _ _ c.in_ok-assigned.ensures deed in
+    λ k. assigned k
+    ∙ (c.in_ok-drawn.ensures _
+    ∙ ap (λ n. all_before (items_of c.args.into.items) (drawing w last n (Rattle.language.specs.Tree.one plain (assign (targets w last xs rs) (sides w last 0 xs rs)) k))) c.draws.ensures.count)

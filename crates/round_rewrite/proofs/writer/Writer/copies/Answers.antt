@@ -1,0 +1,13 @@
+use Rattle.std.proofs.Common.{◌≡◌, ◌++◌, map}
+use Rattle.language.specs.Tree.{var}
+use Rattle.syntax.specs.Trees.{name_of, names_of, expr_of, rhss_of}
+use Rattle.round_rewrite.specs.Table.{numbers, written, expression}
+use Rattle.round_rewrite.specs.Names.{copy_name, drawn_name}
+use Rattle.round_rewrite.specs.Writing.{naming_of}
+use Rattle.round_rewrite.proofs.Pushed.{over_rounds}
+use Rattle.round_rewrite.proofs.writer.Writer.copies.Goals as goal
+
+pub returns : goal.returns
+returns g c =
+    over_rounds (λ k. copy_name k (name_of c.args.x.now)) (names_of c.args.into.items) (names_of c.loop-round.list.items) c.loop-round.round c.count-round-end.result c.args.self.now.rounds.last
+    c.loop-round.invariant c.loop-round-test.false c.loop-round.auto.round-end c.count-round-end.ensures

@@ -1,0 +1,11 @@
+-- The copies so far.
+use Rattle.std.proofs.Common.{◌≡◌, ◌++◌, map}
+use Rattle.language.specs.Tree.{any, var}
+use Rattle.syntax.specs.Trees.{name_of, names_of, expr_of, rhss_of}
+use Rattle.round_rewrite.specs.Table.{numbers, written, expression, each}
+use Rattle.round_rewrite.specs.Names.{copy_name, drawn_name}
+use Rattle.round_rewrite.specs.Writing.{naming_of}
+use Rattle.round_rewrite.proofs.writer.Writer.copies.Given as goal
+
+abbrev pub invariant-loop-round : goal.invariant-loop-round
+invariant-loop-round g l = names_of l.list.items ≡ names_of l.fn.into.items ++ map (λ k. copy_name k (name_of l.x)) (numbers 0 l.round)

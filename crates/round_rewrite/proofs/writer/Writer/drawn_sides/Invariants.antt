@@ -1,0 +1,11 @@
+-- The right sides so far.
+use Rattle.std.proofs.Common.{◌≡◌, ◌++◌, map}
+use Rattle.language.specs.Tree.{any, var}
+use Rattle.syntax.specs.Trees.{name_of, names_of, expr_of, rhss_of}
+use Rattle.round_rewrite.specs.Table.{numbers, written, expression, each}
+use Rattle.round_rewrite.specs.Names.{copy_name, drawn_name}
+use Rattle.round_rewrite.specs.Writing.{naming_of}
+use Rattle.round_rewrite.proofs.writer.Writer.drawn_sides.Given as goal
+
+abbrev pub invariant-loop-round : goal.invariant-loop-round
+invariant-loop-round g l = rhss_of l.list.items ≡ rhss_of l.fn.into.items ++ map (written (naming_of l.self) l.self.rounds.last (var (drawn_name l.number)) (name_of l.x)) (numbers 0 l.round)

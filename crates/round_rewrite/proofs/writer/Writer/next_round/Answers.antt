@@ -1,0 +1,17 @@
+use Rattle.std.proofs.Common.{◌≡◌, ◌∙◌, ap, List, [], ◌∷◌, ◌++◌, codes}
+use Rattle.language.specs.Tree.{negation, two, xor, any, value, assign, assume, done}
+use Rattle.syntax.specs.Trees.{simple, branch, repeat, names_of, rhs_of, rhss_of, marked_before}
+use Rattle.round_rewrite.specs.Table.{plain}
+use Rattle.round_rewrite.specs.Names.{named}
+use Rattle.round_rewrite.proofs.Deeds.{deed_of_skip, deed_of_return, deed_of_assign, deed_of_assume, deed_of_if, deed_of_while}
+use Rattle.round_rewrite.proofs.writer.Writer.next_round.Goals as goal
+
+pub returns : goal.returns
+returns g c =
+    let target = c.in_ok-target.ensures ∙ ap (λ ns. names_of ns ++ named (codes "rh__") ∷ []) c.new.ensures.items in
+    let targets = c.in_ok-targets.ensures ∙ ap (λ ns. ns ++ named (codes "rl__") ∷ []) target in
+    let high = c.in_ok-operation.ensures ∙ (λ i. two xor (c.in_ok-old_high.ensures i) (c.in_ok-old_low.ensures i)) in
+    let low = c.in_ok-flipped.ensures ∙ ap negation c.in_ok-variable.ensures in
+    let side = c.in_ok-side.ensures ∙ (λ i. rhss_of (c.new-2.ensures.items i) ++ value (high i) ∷ []) in
+    let sides = c.in_ok-sides.ensures ∙ (λ i. side i ++ value (low i) ∷ []) in
+    deed_of_assign _ _ ∙ (λ i. simple (assign (targets i) (sides i)))

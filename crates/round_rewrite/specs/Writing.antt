@@ -1,0 +1,79 @@
+-- What a writer stands for, and what it is to put statements behind others.
+use Rattle.std.specs.Prelude.{◌≡◌, ◌≤◌, ◌+◌, ℕ, length, Bool, max, true, List, [], ◌∷◌, ◌++◌, map, codes}
+use Rattle.language.specs.Tree as tree
+use Rattle.language.specs.Tree.{const, var, any, value, skip, assign, leave, Mark, Block, done, one, choose, loop}
+use Rattle.syntax.specs.declared.tree.Stmt.{Stmt}
+use Rattle.syntax.specs.Trees.{Deed, simple, branch, repeat, Item, names_of, items_of, all_before}
+use Rattle.language.specs.Rest.{join}
+use Rattle.round_rewrite.specs.declared.writer.Writer.{Writer}
+use Rattle.round_rewrite.specs.Table.{Naming, draws, temporaries, plain, side, prologue, statement, rewritten}
+use Rattle.round_rewrite.specs.Names.{named, names}
+
+-- how the procedure's names are written
+abbrev pub naming_of : {N A : Type 0} → Writer N A → Naming tree.Name tree.Name tree.Name tree.Name
+naming_of w = names (names_of w.formals.now ++ names_of w.locals.now)
+
+-- a block of a text
+abbrev pub Statements : Type 0
+Statements = Block tree.Name tree.Name tree.Name
+
+-- Statements have been put behind those that stood there: with any others behind them, they read as `form` does
+-- with the others.
+abbrev pub Lays : {A : Type 0} → List (Stmt A) → List (Stmt A) → (Statements → Statements) → Type 0
+Lays old new form = (rest : Statements) → all_before (items_of new) rest ≡ all_before (items_of old) (form rest)
+
+-- the names that thread lines have
+abbrev pub line_names : List tree.ThreadLine → List tree.Name
+line_names ts = map (λ (line : tree.ThreadLine). line.name) ts
+
+-- what tests whether to stop
+abbrev pub stop_testing : Deed
+stop_testing = branch (value (var (named (codes "stop__")))) (one plain leave done) (one plain skip done)
+
+-- what decides whether to stop
+abbrev pub stopping : Deed
+stopping =
+    branch any (one plain (assign (named (codes "stop__") ∷ []) (value (const true) ∷ [])) done) (one plain skip done)
+
+-- what an assert of this right side becomes
+abbrev pub failing : tree.RightSide tree.Name → Deed
+failing r =
+    branch r (one plain skip done)
+    (one plain (assign (named (codes "bad__") ∷ named (codes "stop__") ∷ []) (value (const true) ∷ value (const true) ∷ []))
+    (one plain leave done))
+
+module _ (w : Naming tree.Name tree.Name tree.Name tree.Name) (last : ℕ) where
+  -- a statement rewritten, without its prologue, in front of others
+  abbrev pub bare_form : Deed → Statements → Statements
+  bare_form (simple s) k = statement w last s k
+  bare_form (branch r a b) k = choose plain (side w last r) (rewritten w last a) (rewritten w last b) k
+  bare_form (repeat r a) k = loop plain (side w last r) (join (rewritten w last a) (prologue w last plain done)) k
+
+  -- a statement rewritten, in front of others
+  abbrev pub form : Item → Statements → Statements
+  form i k = prologue w last i.mark (bare_form i.deed k)
+
+  -- statements rewritten, in front of others
+  abbrev pub forms : List Item → Statements → Statements
+  forms [] k = k
+  forms (i ∷ is) k = form i (forms is k)
+
+-- how many temporaries one statement needs, with those that it holds
+abbrev pub deed_needs : (tree.Name → Bool) → Deed → ℕ
+deed_needs is_shared (simple (assign xs rs)) = draws is_shared xs rs
+deed_needs is_shared (simple s) = 0
+deed_needs is_shared (branch r a b) = max (temporaries is_shared a) (temporaries is_shared b)
+deed_needs is_shared (repeat r a) = temporaries is_shared a
+
+-- how many temporaries a procedure needs
+abbrev pub procedure_needs : tree.Procedure → ℕ
+procedure_needs p = temporaries (names (p.formals ++ p.locals)).is_shared p.body
+
+-- no procedure needs more than 64 temporaries
+abbrev pub AreFew : List tree.Procedure → Type 0
+AreFew [] = Unit {0}
+AreFew (p ∷ ps) = (procedure_needs p ≤ 64) × AreFew ps
+
+-- the globals, so many, and what the procedure has of its own are at most 64 places
+abbrev pub IsOwnNarrow : ℕ → tree.Procedure → Type 0
+IsOwnNarrow globals p = globals + (length p.formals + (length p.locals + procedure_needs p)) ≤ 64

@@ -1,0 +1,182 @@
+//! What assignments are rewritten to.
+
+ghost use Rattle.std.specs.Prelude.{◌≡◌, suc, ◌+◌, ◌<◌, ◌≤◌, ◌^◌, ◌++◌, IfOk, map, length};
+ghost use Rattle.language.specs.Tree.{any, var};
+ghost use Rattle.syntax.specs.Trees.{name_of, names_of, expr_of, rhs_of, rhss_of};
+ghost use Rattle.round_rewrite.specs.Table.{numbers, draws, targets, sides, written, expression, each};
+ghost use Rattle.round_rewrite.specs.Names.{copy_name, drawn_name};
+
+use crate::expression::temporary;
+use crate::names::{again, copy, drawn};
+use crate::writer::Writer;
+use std::alloc::{AllocError, Allocator};
+use syntax::{Expr, Name, Rhs};
+
+/// The temporaries up to a number.
+#[tactic(auto, using(crate::proofs::Pushed::pushed))]
+pub fn temporaries<A: Allocator + Clone>(
+    alloc: &A,
+    names: Vec<Name<A>, A>,
+    number: usize,
+) -> Result<Vec<Name<A>, A>, AllocError>
+    requires { number < 2 ^ 63 }
+    ensures { IfOk result (λ v. names_of v.items ≡ names_of names.items ++ map drawn_name (numbers 0 number)) }
+{
+    let mut list = names;
+    for k in 0..number {
+        list.push(drawn(alloc.clone()?, k)?)?;
+    }
+    Ok(list)
+}
+
+/// As many `?` as are asked for.
+#[tactic(auto, using(crate::proofs::Pushed::pushed))]
+pub fn any_values<A: Allocator + Clone>(
+    alloc: &A,
+    number: usize,
+) -> Result<Vec<Rhs<A>, A>, AllocError>
+    ensures { IfOk result (λ v. rhss_of v.items ≡ each any (numbers 0 number)) }
+{
+    let mut list = Vec::new(alloc.clone()?);
+    for _ in 0..number {
+        list.push(Rhs::Any)?;
+    }
+    Ok(list)
+}
+
+impl<'a, N: Allocator, A: Allocator + Clone> Writer<'a, N, A> {
+    ghost use Rattle.round_rewrite.specs.Writing.{naming_of};
+
+    /// How many `?` with a global target an assignment has: so many temporaries it draws. Each call has a target
+    /// less; a checked program of at most 64 places has no more targets than places.
+    pub fn draws(&self, xs: &[Name<N>], rs: &[Rhs<N>]) -> usize
+        ensures count { result ≡ draws (naming_of self.now).is_shared (names_of xs.now) (rhss_of rs.now) }
+        ensures few { result ≤ length xs.now }
+    {
+        let Some((x, more)) = xs.split_first() else {
+            return 0;
+        };
+        let Some((r, others)) = rs.split_first() else {
+            return 0;
+        };
+        let number = self.draws(more, others);
+        if matches!(r, Rhs::Any) && self.is_shared(x) {
+            number + 1
+        } else {
+            number
+        }
+    }
+
+    /// Puts the copies of a global for each round behind targets.
+    #[tactic(auto, using(crate::proofs::Pushed::pushed))]
+    fn copies(&self, x: &Name<N>, into: Vec<Name<A>, A>) -> Result<Vec<Name<A>, A>, AllocError>
+        ensures { IfOk result (λ v. names_of v.items ≡ names_of into.items ++ map (λ k. copy_name k (name_of x.now)) (numbers 0 (suc self.now.rounds.last))) }
+    {
+        let mut list = into;
+        for round in 0..self.rounds.count() {
+            list.push(copy(self.alloc.clone()?, round, x)?)?;
+        }
+        Ok(list)
+    }
+
+    /// Puts the targets of an assignment behind others: all copies of a global, a local itself.
+    pub fn targets(
+        &self,
+        xs: &[Name<N>],
+        rs: &[Rhs<N>],
+        into: Vec<Name<A>, A>,
+    ) -> Result<Vec<Name<A>, A>, AllocError>
+        ensures { IfOk result (λ v. names_of v.items ≡ names_of into.items ++ targets (naming_of self.now) self.now.rounds.last (names_of xs.now) (rhss_of rs.now)) }
+    {
+        let Some((x, more)) = xs.split_first() else {
+            return Ok(into);
+        };
+        let Some((_, others)) = rs.split_first() else {
+            return Ok(into);
+        };
+        if self.is_shared(x) {
+            let list = self.copies(x, into)?;
+            let all = self.targets(more, others, list)?;
+            Ok(all)
+        } else {
+            let mut list = into;
+            list.push(again(self.alloc.clone()?, x)?)?;
+            let all = self.targets(more, others, list)?;
+            Ok(all)
+        }
+    }
+
+    /// Puts what the copies of a global get, where the global gets a temporary, behind right sides.
+    #[tactic(auto, using(crate::proofs::Pushed::pushed))]
+    fn drawn_sides(
+        &self,
+        number: usize,
+        x: &Name<N>,
+        into: Vec<Rhs<A>, A>,
+    ) -> Result<Vec<Rhs<A>, A>, AllocError>
+        requires { number < 2 ^ 63 }
+        ensures { IfOk result (λ v. rhss_of v.items ≡ rhss_of into.items ++ map (written (naming_of self.now) self.now.rounds.last (var (drawn_name number)) (name_of x.now)) (numbers 0 (suc self.now.rounds.last))) }
+    {
+        let mut list = into;
+        for round in 0..self.rounds.count() {
+            let value = temporary(self.alloc, number)?;
+            list.push(self.written(value, x, round)?)?;
+        }
+        Ok(list)
+    }
+
+    /// Puts what the copies of a global get, where the global gets an expression, behind right sides.
+    #[tactic(auto, using(crate::proofs::Pushed::pushed))]
+    fn value_sides(
+        &self,
+        e: &Expr<N>,
+        x: &Name<N>,
+        into: Vec<Rhs<A>, A>,
+    ) -> Result<Vec<Rhs<A>, A>, AllocError>
+        ensures { IfOk result (λ v. rhss_of v.items ≡ rhss_of into.items ++ map (written (naming_of self.now) self.now.rounds.last (expression (naming_of self.now) self.now.rounds.last (expr_of e.now)) (name_of x.now)) (numbers 0 (suc self.now.rounds.last))) }
+    {
+        let mut list = into;
+        for round in 0..self.rounds.count() {
+            let value = self.expression(e)?;
+            list.push(self.written(value, x, round)?)?;
+        }
+        Ok(list)
+    }
+
+    /// Puts the right sides of an assignment behind others; the first temporary that is free has this number.
+    pub fn sides(
+        &self,
+        number: usize,
+        xs: &[Name<N>],
+        rs: &[Rhs<N>],
+        into: Vec<Rhs<A>, A>,
+    ) -> Result<Vec<Rhs<A>, A>, AllocError>
+        requires { number + length xs.now < 2 ^ 63 }
+        ensures { IfOk result (λ v. rhss_of v.items ≡ rhss_of into.items ++ sides (naming_of self.now) self.now.rounds.last number (names_of xs.now) (rhss_of rs.now)) }
+    {
+        let Some((x, more)) = xs.split_first() else {
+            return Ok(into);
+        };
+        let Some((r, others)) = rs.split_first() else {
+            return Ok(into);
+        };
+        if !self.is_shared(x) {
+            let mut list = into;
+            list.push(self.side(r)?)?;
+            let all = self.sides(number, more, others, list)?;
+            return Ok(all);
+        }
+        match r {
+            Rhs::Any => {
+                let list = self.drawn_sides(number, x, into)?;
+                let all = self.sides(number + 1, more, others, list)?;
+                Ok(all)
+            }
+            Rhs::Value(e) => {
+                let list = self.value_sides(e, x, into)?;
+                let all = self.sides(number, more, others, list)?;
+                Ok(all)
+            }
+        }
+    }
+}

@@ -1,0 +1,56 @@
+//! Statements put behind others.
+
+ghost use Rattle.std.specs.Prelude.{◌≡◌, IfOk, option_map};
+ghost use Rattle.language.specs.Tree.{done};
+ghost use Rattle.syntax.specs.Trees.{name_of, deed_of, block_of, marked_before};
+ghost use Rattle.round_rewrite.specs.Writing.{Lays};
+ghost use Rattle.round_rewrite.specs.Table.{plain};
+
+use std::alloc::{AllocError, Allocator};
+use syntax::{Core, Name, Stmt};
+
+/// Puts a statement behind others.
+#[tactic(auto, using(crate::proofs::Laying::lays_pushed))]
+pub fn push_marked<A: Allocator>(
+    label: Option<Name<A>>,
+    at: u32,
+    core: Core<A>,
+    into: Vec<Stmt<A>, A>,
+) -> Result<Vec<Stmt<A>, A>, AllocError>
+    ensures { IfOk result (λ v. Lays into.items v.items (λ k. marked_before (record { label = option_map name_of label; at = at }) (deed_of core) k)) }
+{
+    let mut list = into;
+    list.push(Stmt { label, at, core })?;
+    Ok(list)
+}
+
+/// Puts a statement without a label behind others.
+pub fn push<A: Allocator>(
+    core: Core<A>,
+    into: Vec<Stmt<A>, A>,
+) -> Result<Vec<Stmt<A>, A>, AllocError>
+    ensures { IfOk result (λ v. Lays into.items v.items (λ k. marked_before plain (deed_of core) k)) }
+{
+    push_marked(None, 0, core, into)
+}
+
+/// The block of one statement.
+pub fn single<A: Allocator + Clone>(alloc: &A, core: Core<A>) -> Result<Vec<Stmt<A>, A>, AllocError>
+    ensures { IfOk result (λ v. block_of v.items ≡ marked_before plain (deed_of core) done) }
+{
+    let block = push(core, Vec::new(alloc.clone()?))?;
+    Ok(block)
+}
+
+/// The block of two statements.
+pub fn pair<A: Allocator + Clone>(
+    alloc: &A,
+    first: Core<A>,
+    second: Core<A>,
+) -> Result<Vec<Stmt<A>, A>, AllocError>
+    ensures { IfOk result (λ v. block_of v.items ≡ marked_before plain (deed_of first) (marked_before plain (deed_of second) done)) }
+{
+    let one = push(first, Vec::new(alloc.clone()?))?;
+    let block = push(second, one)?;
+    Ok(block)
+}

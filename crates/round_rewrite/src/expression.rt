@@ -1,0 +1,186 @@
+//! What expressions are rewritten to.
+
+ghost use Rattle.std.specs.Prelude.{◌≡◌, ◌<◌, ◌^◌, IfOk, map};
+ghost use Rattle.language.specs.Resolve.{is_declared};
+ghost use Rattle.language.specs.Tree.{const, var, negation, two};
+ghost use Rattle.syntax.specs.Trees.{name_of, operator_of, expr_of, exprs_of, rhs_of};
+ghost use Rattle.round_rewrite.specs.Table.{literal, at, joined, read, expression, side, written};
+ghost use Rattle.round_rewrite.specs.Names.{named, copy_name, drawn_name};
+
+use crate::names::{again, copy, declares, drawn, fixed};
+use crate::writer::Writer;
+use std::alloc::{AllocError, Allocator};
+use syntax::{Expr, Name, Op, Rhs};
+
+/// A read of a name.
+pub fn read_of<A: Allocator>(x: Name<A>) -> Expr<A>
+    ensures { expr_of result ≡ var (name_of x) }
+{
+    Expr::Var(x)
+}
+
+/// A variable.
+pub fn variable<A: Allocator + Clone>(alloc: &A, text: &str) -> Result<Expr<A>, AllocError>
+    ensures { IfOk result (λ e. expr_of e ≡ var (named text.now)) }
+{
+    Ok(Expr::Var(fixed(alloc.clone()?, text)?))
+}
+
+/// A read of the copy of a global for a round.
+pub fn copy_of<N: Allocator, A: Allocator + Clone>(
+    alloc: &A,
+    round: u8,
+    x: &Name<N>,
+) -> Result<Expr<A>, AllocError>
+    requires { round < 4 }
+    ensures { IfOk result (λ e. expr_of e ≡ var (copy_name round (name_of x.now))) }
+{
+    Ok(Expr::Var(copy(alloc.clone()?, round, x)?))
+}
+
+/// A temporary, counted from 0.
+pub fn temporary<A: Allocator + Clone>(alloc: &A, number: usize) -> Result<Expr<A>, AllocError>
+    requires { number < 2 ^ 63 }
+    ensures { IfOk result (λ e. expr_of e ≡ var (drawn_name number)) }
+{
+    Ok(Expr::Var(drawn(alloc.clone()?, number)?))
+}
+
+/// The negation of an expression.
+pub fn not<A: Allocator + Clone>(alloc: &A, e: Expr<A>) -> Result<Expr<A>, AllocError>
+    ensures { IfOk result (λ r. expr_of r ≡ negation (expr_of e)) }
+{
+    Ok(Expr::Not(Box::new(alloc.clone()?, e)?))
+}
+
+/// An operator between two expressions.
+pub fn operation<A: Allocator + Clone>(
+    alloc: &A,
+    op: Op,
+    left: Expr<A>,
+    right: Expr<A>,
+) -> Result<Expr<A>, AllocError>
+    ensures { IfOk result (λ r. expr_of r ≡ two (operator_of op) (expr_of left) (expr_of right)) }
+{
+    let left = Box::new(alloc.clone()?, left)?;
+    let right = Box::new(alloc.clone()?, right)?;
+    Ok(Expr::Two(op, left, right))
+}
+
+/// The variable where the bit is 1, its negation where it is 0.
+fn literal<A: Allocator + Clone>(alloc: &A, bit: u8, text: &str) -> Result<Expr<A>, AllocError>
+    ensures { IfOk result (λ e. expr_of e ≡ literal bit (named text.now)) }
+{
+    let bare = variable(alloc, text)?;
+    if bit == 0 { not(alloc, bare) } else { Ok(bare) }
+}
+
+impl<'a, N: Allocator, A: Allocator + Clone> Writer<'a, N, A> {
+    ghost use Rattle.round_rewrite.specs.Writing.{naming_of};
+
+    /// Whether a variable of the procedure is a global.
+    pub fn is_shared(&self, x: &Name<N>) -> bool
+        ensures { result ≡ (naming_of self.now).is_shared (name_of x.now) }
+    {
+        let text = x.text.as_str();
+        !declares(self.formals, text) && !declares(self.locals, text)
+    }
+
+    /// That the round is `round`.
+    pub fn at(&self, round: u8) -> Result<Expr<A>, AllocError>
+        ensures { IfOk result (λ e. expr_of e ≡ at (naming_of self.now) self.now.rounds.last round) }
+    {
+        let high = literal(self.alloc, round / 2 % 2, "rh__")?;
+        let low = literal(self.alloc, round % 2, "rl__")?;
+        operation(self.alloc, Op::And, high, low)
+    }
+
+    /// The copy of a global for the round, where the round is this one.
+    fn active(&self, round: u8, x: &Name<N>) -> Result<Expr<A>, AllocError>
+        requires { round < 4 }
+        ensures { IfOk result (λ e. expr_of e ≡ two Rattle.language.specs.Tree.and (at (naming_of self.now) self.now.rounds.last round) (var (copy_name round (name_of x.now)))) }
+    {
+        let is_round = self.at(round)?;
+        operation(
+            self.alloc,
+            Op::And,
+            is_round,
+            copy_of(self.alloc, round, x)?,
+        )
+    }
+
+    /// A read of a global: its copy for the round.
+    fn joined(&self, x: &Name<N>) -> Result<Expr<A>, AllocError>
+        ensures { IfOk result (λ e. expr_of e ≡ joined (naming_of self.now) self.now.rounds.last self.now.rounds.last (name_of x.now)) }
+    {
+        let mut join = self.active(0, x)?;
+        for round in 0..self.rounds.last {
+            let next = self.active(round + 1, x)?;
+            join = operation(self.alloc, Op::Or, join, next)?;
+        }
+        Ok(join)
+    }
+
+    /// A read of a variable.
+    fn read(&self, x: &Name<N>) -> Result<Expr<A>, AllocError>
+        ensures { IfOk result (λ e. expr_of e ≡ read (naming_of self.now) self.now.rounds.last (name_of x.now)) }
+    {
+        if self.is_shared(x) {
+            self.joined(x)
+        } else {
+            Ok(Expr::Var(again(self.alloc.clone()?, x)?))
+        }
+    }
+
+    /// An expression, with each read of a global put so.
+    pub fn expression(&self, e: &Expr<N>) -> Result<Expr<A>, AllocError>
+        ensures { IfOk result (λ r. expr_of r ≡ expression (naming_of self.now) self.now.rounds.last (expr_of e.now)) }
+    {
+        match e {
+            Expr::Const(b) => Ok(Expr::Const(*b)),
+            Expr::Var(x) => self.read(x),
+            Expr::Not(a) => {
+                let inner = self.expression(a)?;
+                not(self.alloc, inner)
+            }
+            Expr::Two(op, a, b) => {
+                let left = self.expression(a)?;
+                let right = self.expression(b)?;
+                operation(self.alloc, *op, left, right)
+            }
+        }
+    }
+
+    /// A right side, with each read of a global put so.
+    pub fn side(&self, r: &Rhs<N>) -> Result<Rhs<A>, AllocError>
+        ensures { IfOk result (λ s. rhs_of s ≡ side (naming_of self.now) self.now.rounds.last (rhs_of r.now)) }
+    {
+        match r {
+            Rhs::Any => Ok(Rhs::Any),
+            Rhs::Value(e) => Ok(Rhs::Value(self.expression(e)?)),
+        }
+    }
+
+    /// Arguments, with each read of a global put so.
+    pub fn arguments(&self, es: &[Expr<N>]) -> Result<Vec<Expr<A>, A>, AllocError>
+        ensures { IfOk result (λ v. exprs_of v.items ≡ map (expression (naming_of self.now) self.now.rounds.last) (exprs_of es.now)) }
+    {
+        let mut list = Vec::new(self.alloc.clone()?);
+        for e in es {
+            list.push(self.expression(e)?)?;
+        }
+        Ok(list)
+    }
+
+    /// What the copy of a global for a round gets where the global gets `value`: in that round the value, in every
+    /// other its own.
+    pub fn written(&self, value: Expr<A>, x: &Name<N>, round: u8) -> Result<Rhs<A>, AllocError>
+        requires { round < 4 }
+        ensures { IfOk result (λ r. rhs_of r ≡ written (naming_of self.now) self.now.rounds.last (expr_of value) (name_of x.now) round) }
+    {
+        let new = operation(self.alloc, Op::And, self.at(round)?, value)?;
+        let other = not(self.alloc, self.at(round)?)?;
+        let old = operation(self.alloc, Op::And, other, copy_of(self.alloc, round, x)?)?;
+        Ok(Rhs::Value(operation(self.alloc, Op::Or, new, old)?))
+    }
+}

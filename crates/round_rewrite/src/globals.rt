@@ -1,0 +1,61 @@
+//! The globals of a rewritten program.
+
+ghost use Rattle.std.specs.Prelude.{◌≡◌, ◌++◌, suc, [], IfOk};
+ghost use Rattle.syntax.specs.Trees.{names_of};
+ghost use Rattle.round_rewrite.specs.Table.{numbers, copied, globals};
+ghost use Rattle.round_rewrite.specs.Names.{names, copy_name, save_name};
+
+use crate::cores::push_name;
+use crate::lists::{copies, saves};
+use crate::rounds::Rounds;
+use std::alloc::{AllocError, Allocator};
+use syntax::Name;
+
+/// Puts the copies of the globals for every round behind names.
+fn all_copies<N: Allocator, A: Allocator + Clone>(
+    alloc: &A,
+    rounds: Rounds,
+    xs: &[Name<N>],
+    into: Vec<Name<A>, A>,
+) -> Result<Vec<Name<A>, A>, AllocError>
+    ensures { IfOk result (λ v. names_of v.items ≡ names_of into.items ++ copied (names []) rounds.last copy_name (names_of xs.now) (numbers 0 (suc rounds.last))) }
+{
+    let mut list = into;
+    for round in 0..rounds.count() {
+        list = copies(alloc, round, xs, list)?;
+    }
+    Ok(list)
+}
+
+/// Puts the guesses that are saved for every round from the second on behind names.
+fn all_saves<N: Allocator, A: Allocator + Clone>(
+    alloc: &A,
+    rounds: Rounds,
+    xs: &[Name<N>],
+    into: Vec<Name<A>, A>,
+) -> Result<Vec<Name<A>, A>, AllocError>
+    ensures { IfOk result (λ v. names_of v.items ≡ names_of into.items ++ copied (names []) rounds.last save_name (names_of xs.now) (numbers 1 rounds.last)) }
+{
+    let mut list = into;
+    for before in 0..rounds.last {
+        list = saves(alloc, before + 1, xs, list)?;
+    }
+    Ok(list)
+}
+
+/// The globals in order: the copies round by round, the guesses saved, the round's bits, `stop__` and `bad__`.
+pub fn globals<N: Allocator, A: Allocator + Clone>(
+    alloc: &A,
+    rounds: Rounds,
+    xs: &[Name<N>],
+) -> Result<Vec<Name<A>, A>, AllocError>
+    ensures { IfOk result (λ v. names_of v.items ≡ globals (names []) rounds.last (names_of xs.now)) }
+{
+    let copied = all_copies(alloc, rounds, xs, Vec::new(alloc.clone()?))?;
+    let saved = all_saves(alloc, rounds, xs, copied)?;
+    let high = push_name(alloc, "rh__", saved)?;
+    let low = push_name(alloc, "rl__", high)?;
+    let stop = push_name(alloc, "stop__", low)?;
+    let all = push_name(alloc, "bad__", stop)?;
+    Ok(all)
+}

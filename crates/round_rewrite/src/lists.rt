@@ -1,0 +1,91 @@
+//! Lists of names and right sides, one for each name.
+
+ghost use Rattle.std.specs.Prelude.{◌≡◌, ◌++◌, ◌<◌, IfOk, map};
+ghost use Rattle.language.specs.Tree.{any, var, value};
+ghost use Rattle.syntax.specs.Trees.{names_of, rhss_of};
+ghost use Rattle.round_rewrite.specs.Table.{each};
+ghost use Rattle.round_rewrite.specs.Names.{copy_name, save_name};
+
+use crate::expression::copy_of;
+use crate::names::{again, copy, save};
+use std::alloc::{AllocError, Allocator};
+use syntax::{Name, Rhs};
+
+/// Puts names once more behind others.
+pub fn all_again<N: Allocator, A: Allocator + Clone>(
+    alloc: &A,
+    xs: &[Name<N>],
+    into: Vec<Name<A>, A>,
+) -> Result<Vec<Name<A>, A>, AllocError>
+    ensures { IfOk result (λ v. names_of v.items ≡ names_of into.items ++ names_of xs.now) }
+{
+    let mut list = into;
+    for x in xs {
+        list.push(again(alloc.clone()?, x)?)?;
+    }
+    Ok(list)
+}
+
+/// Puts the copies of globals for a round behind names.
+pub fn copies<N: Allocator, A: Allocator + Clone>(
+    alloc: &A,
+    round: u8,
+    xs: &[Name<N>],
+    into: Vec<Name<A>, A>,
+) -> Result<Vec<Name<A>, A>, AllocError>
+    requires { round < 4 }
+    ensures { IfOk result (λ v. names_of v.items ≡ names_of into.items ++ map (copy_name round) (names_of xs.now)) }
+{
+    let mut list = into;
+    for x in xs {
+        list.push(copy(alloc.clone()?, round, x)?)?;
+    }
+    Ok(list)
+}
+
+/// Puts the guesses of globals that are saved for a round behind names.
+pub fn saves<N: Allocator, A: Allocator + Clone>(
+    alloc: &A,
+    round: u8,
+    xs: &[Name<N>],
+    into: Vec<Name<A>, A>,
+) -> Result<Vec<Name<A>, A>, AllocError>
+    requires { round < 4 }
+    ensures { IfOk result (λ v. names_of v.items ≡ names_of into.items ++ map (save_name round) (names_of xs.now)) }
+{
+    let mut list = into;
+    for x in xs {
+        list.push(save(alloc.clone()?, round, x)?)?;
+    }
+    Ok(list)
+}
+
+/// A `?` for each name.
+pub fn guessed<N: Allocator, A: Allocator>(
+    alloc: A,
+    xs: &[Name<N>],
+) -> Result<Vec<Rhs<A>, A>, AllocError>
+    ensures { IfOk result (λ v. rhss_of v.items ≡ each any (names_of xs.now)) }
+{
+    let mut list = Vec::new(alloc);
+    for _x in xs {
+        list.push(Rhs::Any)?;
+    }
+    Ok(list)
+}
+
+/// The copies of globals for a round, as right sides.
+pub fn reads<N: Allocator, A: Allocator + Clone>(
+    alloc: &A,
+    round: u8,
+    xs: &[Name<N>],
+) -> Result<Vec<Rhs<A>, A>, AllocError>
+    requires { round < 4 }
+    ensures { IfOk result (λ v. rhss_of v.items ≡ map (λ y. value (var (copy_name round y))) (names_of xs.now)) }
+{
+    let mut list = Vec::new(alloc.clone()?);
+    for x in xs {
+        list.push(Rhs::Value(copy_of(alloc, round, x)?))?;
+    }
+    Ok(list)
+}

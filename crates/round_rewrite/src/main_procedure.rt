@@ -1,0 +1,153 @@
+//! The first procedure of a rewritten program: guesses, threads and checks.
+
+ghost use Rattle.std.specs.Prelude.{◌≡◌, ◌<◌, ◌+◌, suc, false, [], ◌∷◌, IfOk, codes};
+ghost use Rattle.language.specs.Tree.{equal, var, value, two, const, assign, assume, call};
+ghost use Rattle.syntax.specs.Trees.{simple, name_of, names_of, threads_of, deed_of, block_of};
+ghost use Rattle.round_rewrite.specs.Table.{numbers, guess, guesses, starts, check, checks, main};
+ghost use Rattle.round_rewrite.specs.Names.{named, names, copy_name, save_name};
+ghost use Rattle.round_rewrite.specs.Writing.{Lays, line_names};
+
+use crate::block::push;
+use crate::cores::{constant, push_name, push_side};
+use crate::expression::{copy_of, operation, read_of};
+use crate::lists::{copies, guessed, reads, saves};
+use crate::names::{again, save};
+use crate::rounds::Rounds;
+use std::alloc::{AllocError, Allocator};
+use syntax::{Core, Name, Op, Rhs, Stmt, Thread};
+
+/// Puts the guess of the globals for one round, saved, behind others.
+fn guess<N: Allocator, A: Allocator + Clone>(
+    alloc: &A,
+    last: u8,
+    round: u8,
+    xs: &[Name<N>],
+    into: Vec<Stmt<A>, A>,
+) -> Result<Vec<Stmt<A>, A>, AllocError>
+    requires { round < 4 }
+    ensures { IfOk result (λ v. Lays into.items v.items (λ k. guess (names []) last (names_of xs.now) round k)) }
+{
+    let Some((_first, _)) = xs.split_first() else {
+        return Ok(into);
+    };
+    let targets = copies(alloc, round, xs, Vec::new(alloc.clone()?))?;
+    let sides = guessed(alloc.clone()?, xs)?;
+    let drawn = push(Core::Assign(targets, sides), into)?;
+    let kept = saves(alloc, round, xs, Vec::new(alloc.clone()?))?;
+    let values = reads(alloc, round, xs)?;
+    let saved = push(Core::Assign(kept, values), drawn)?;
+    Ok(saved)
+}
+
+/// Puts the guesses of the globals for every round from the second on behind others.
+fn guesses<N: Allocator, A: Allocator + Clone>(
+    alloc: &A,
+    rounds: Rounds,
+    xs: &[Name<N>],
+    into: Vec<Stmt<A>, A>,
+) -> Result<Vec<Stmt<A>, A>, AllocError>
+    ensures { IfOk result (λ v. Lays into.items v.items (λ k. guesses (names []) rounds.last (names_of xs.now) (numbers 1 rounds.last) k)) }
+{
+    let mut list = into;
+    for before in 0..rounds.last {
+        list = guess(alloc, rounds.last, before + 1, xs, list)?;
+    }
+    Ok(list)
+}
+
+/// That the round and `stop__` get 0.
+fn reset<A: Allocator + Clone>(alloc: &A) -> Result<Core<A>, AllocError>
+    ensures { IfOk result (λ c. deed_of c ≡ simple (assign (named (codes "rh__") ∷ named (codes "rl__") ∷ named (codes "stop__") ∷ []) (value (const false) ∷ value (const false) ∷ value (const false) ∷ []))) }
+{
+    let high = push_name(alloc, "rh__", Vec::new(alloc.clone()?))?;
+    let low = push_name(alloc, "rl__", high)?;
+    let targets = push_name(alloc, "stop__", low)?;
+    let first = push_side(constant(false), Vec::new(alloc.clone()?))?;
+    let second = push_side(constant(false), first)?;
+    let sides = push_side(constant(false), second)?;
+    Ok(Core::Assign(targets, sides))
+}
+
+/// Puts the threads, one after the other, behind others.
+fn starts<N: Allocator, A: Allocator + Clone>(
+    alloc: &A,
+    last: u8,
+    threads: &[Thread<N>],
+    into: Vec<Stmt<A>, A>,
+) -> Result<Vec<Stmt<A>, A>, AllocError>
+    ensures { IfOk result (λ v. Lays into.items v.items (λ k. starts (names []) last (line_names (threads_of threads.now)) k)) }
+{
+    let mut list = into;
+    for thread in threads {
+        let begun = push(reset(alloc)?, list)?;
+        let name = again(alloc.clone()?, &thread.name)?;
+        list = push(Core::Call(name, Vec::new(alloc.clone()?)), begun)?;
+    }
+    Ok(list)
+}
+
+/// That a round's guess of a global is what the round before ended with.
+fn agrees<N: Allocator, A: Allocator + Clone>(
+    alloc: &A,
+    round: u8,
+    x: &Name<N>,
+) -> Result<Core<A>, AllocError>
+    requires { round < 3 }
+    ensures { IfOk result (λ c. deed_of c ≡ simple (assume (value (two equal (var (save_name (suc round) (name_of x.now))) (var (copy_name round (name_of x.now))))))) }
+{
+    let saved = save(alloc.clone()?, round + 1, x)?;
+    let kept = read_of(saved);
+    let reached = copy_of(alloc, round, x)?;
+    let same = operation(alloc, Op::Equal, kept, reached)?;
+    Ok(Core::Assume(Rhs::Value(same)))
+}
+
+/// Puts the check that a round ended with the guess for the next one behind others.
+fn check<N: Allocator, A: Allocator + Clone>(
+    alloc: &A,
+    last: u8,
+    round: u8,
+    xs: &[Name<N>],
+    into: Vec<Stmt<A>, A>,
+) -> Result<Vec<Stmt<A>, A>, AllocError>
+    requires { round < 3 }
+    ensures { IfOk result (λ v. Lays into.items v.items (λ k. check (names []) last (names_of xs.now) round k)) }
+{
+    let mut list = into;
+    for x in xs {
+        let core = agrees(alloc, round, x)?;
+        list = push(core, list)?;
+    }
+    Ok(list)
+}
+
+/// Puts the checks of every round but the last behind others.
+fn checks<N: Allocator, A: Allocator + Clone>(
+    alloc: &A,
+    rounds: Rounds,
+    xs: &[Name<N>],
+    into: Vec<Stmt<A>, A>,
+) -> Result<Vec<Stmt<A>, A>, AllocError>
+    ensures { IfOk result (λ v. Lays into.items v.items (λ k. checks (names []) rounds.last (names_of xs.now) (numbers 0 rounds.last) k)) }
+{
+    let mut list = into;
+    for round in 0..rounds.last {
+        list = check(alloc, rounds.last, round, xs, list)?;
+    }
+    Ok(list)
+}
+
+/// The body of the first procedure.
+pub fn main_body<N: Allocator, A: Allocator + Clone>(
+    alloc: &A,
+    rounds: Rounds,
+    xs: &[Name<N>],
+    threads: &[Thread<N>],
+) -> Result<Vec<Stmt<A>, A>, AllocError>
+    ensures { IfOk result (λ v. block_of v.items ≡ main (names []) rounds.last (names_of xs.now) (line_names (threads_of threads.now))) }
+{
+    let guessed = guesses(alloc, rounds, xs, Vec::new(alloc.clone()?))?;
+    let started = starts(alloc, rounds.last, threads, guessed)?;
+    let checked = checks(alloc, rounds, xs, started)?;
+    Ok(checked)
+}

@@ -1,0 +1,77 @@
+//! The names of a rewritten program.
+
+ghost use Rattle.std.specs.Prelude.{◌≡◌, ◌<◌, ◌^◌, IfOk};
+ghost use Rattle.language.specs.Resolve.{is_declared};
+ghost use Rattle.syntax.specs.Trees.{name_of, names_of};
+ghost use Rattle.round_rewrite.specs.Names.{named, copy_name, save_name, drawn_name};
+
+use std::alloc::{AllocError, Allocator};
+use syntax::Name;
+
+/// A name that stands in no text.
+pub fn fixed<A: Allocator>(alloc: A, text: &str) -> Result<Name<A>, AllocError>
+    ensures { IfOk result (λ n. name_of n ≡ named text.now) }
+{
+    let text = String::from_str(alloc, text)?;
+    Ok(Name { text, at: 0 })
+}
+
+/// The name once more.
+pub fn again<N: Allocator, A: Allocator>(alloc: A, x: &Name<N>) -> Result<Name<A>, AllocError>
+    ensures { IfOk result (λ n. name_of n ≡ name_of x.now) }
+{
+    let text = String::from_str(alloc, x.text.as_str())?;
+    Ok(Name { text, at: x.at })
+}
+
+/// The copy of a global for a round, counted from 0.
+pub fn copy<N: Allocator, A: Allocator>(
+    alloc: A,
+    round: u8,
+    x: &Name<N>,
+) -> Result<Name<A>, AllocError>
+    requires { round < 4 }
+    ensures { IfOk result (λ n. name_of n ≡ copy_name round (name_of x.now)) }
+{
+    let text = x.text.as_str();
+    let number = round + 1;
+    let text = format!(in alloc; "{text}__{number}")?;
+    Ok(Name { text, at: 0 })
+}
+
+/// The guess of a global that is saved for a round, counted from 0.
+pub fn save<N: Allocator, A: Allocator>(
+    alloc: A,
+    round: u8,
+    x: &Name<N>,
+) -> Result<Name<A>, AllocError>
+    requires { round < 4 }
+    ensures { IfOk result (λ n. name_of n ≡ save_name round (name_of x.now)) }
+{
+    let text = x.text.as_str();
+    let number = round + 1;
+    let text = format!(in alloc; "{text}__s{number}")?;
+    Ok(Name { text, at: 0 })
+}
+
+/// A temporary, counted from 0.
+pub fn drawn<A: Allocator>(alloc: A, number: usize) -> Result<Name<A>, AllocError>
+    requires { number < 2 ^ 63 }
+    ensures { IfOk result (λ n. name_of n ≡ drawn_name number) }
+{
+    let number = number + 1;
+    let text = format!(in alloc; "tmp__t{number}")?;
+    Ok(Name { text, at: 0 })
+}
+
+/// Whether some name has this text.
+pub fn declares<N: Allocator>(names: &[Name<N>], text: &str) -> bool
+    ensures { result ≡ is_declared text.now (names_of names.now) }
+{
+    for name in names {
+        if text == name.text.as_str() {
+            return true;
+        }
+    }
+    false
+}

@@ -1,0 +1,55 @@
+//! How many temporaries a procedure needs.
+
+ghost use Rattle.std.specs.Prelude.{◌≡◌, max};
+ghost use Rattle.syntax.specs.Trees.{deed_of, block_of};
+ghost use Rattle.round_rewrite.specs.Table.{temporaries};
+ghost use Rattle.round_rewrite.specs.Writing.{deed_needs};
+
+use crate::writer::Writer;
+use std::alloc::Allocator;
+use syntax::{Core, Stmt};
+
+/// The larger of two numbers.
+fn larger(a: usize, b: usize) -> usize
+    ensures { result ≡ max a b }
+{
+    if a < b { b } else { a }
+}
+
+impl<'a, N: Allocator, A: Allocator + Clone> Writer<'a, N, A> {
+    ghost use Rattle.round_rewrite.specs.Writing.{naming_of};
+
+    /// How many temporaries statements need: as many as the assignment that draws most.
+    #[cycle(needs)]
+    pub fn needs(&self, stmts: &[Stmt<N>]) -> usize
+        ensures { result ≡ temporaries (naming_of self.now).is_shared (block_of stmts.now) }
+    {
+        let mut number = 0;
+        for stmt in stmts {
+            number = larger(number, self.needs_of(&stmt.core));
+        }
+        number
+    }
+
+    /// How many temporaries one statement needs, with those that it holds.
+    #[cycle(needs)]
+    fn needs_of(&self, core: &Core<N>) -> usize
+        ensures { result ≡ deed_needs (naming_of self.now).is_shared (deed_of core.now) }
+    {
+        match core {
+            Core::Assign(xs, rs) => self.draws(xs, rs),
+            Core::If(_, a, b) => {
+                let yes = self.needs(a);
+                let no = self.needs(b);
+                larger(yes, no)
+            }
+            Core::While(_, a) => self.needs(a),
+            Core::Skip => 0,
+            Core::Return => 0,
+            Core::Goto(_) => 0,
+            Core::Call(_, _) => 0,
+            Core::Assert(_) => 0,
+            Core::Assume(_) => 0,
+        }
+    }
+}

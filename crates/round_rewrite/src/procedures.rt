@@ -1,0 +1,81 @@
+//! The procedures of a rewritten program.
+
+ghost use Rattle.std.specs.Prelude.{◌≡◌, ◌≤◌, ◌++◌, ◌∷◌, IfOk, map};
+ghost use Rattle.language.specs.Tree.{Procedure};
+ghost use Rattle.syntax.specs.Trees.{proc_of, procs_of, tree_of};
+ghost use Rattle.round_rewrite.specs.Names.{main_procedure, rewritten_procedure};
+ghost use Rattle.round_rewrite.specs.Writing.{procedure_needs, AreFew};
+
+use crate::assignment::temporaries;
+use crate::lists::all_again;
+use crate::main_procedure::main_body;
+use crate::names::{again, fixed};
+use crate::rounds::Rounds;
+use crate::writer::Writer;
+use std::alloc::{AllocError, Allocator};
+use syntax::{Proc, Program};
+
+/// A procedure rewritten.
+fn procedure<N: Allocator, A: Allocator + Clone>(
+    alloc: &A,
+    rounds: Rounds,
+    proc: &Proc<N>,
+) -> Result<Proc<A>, AllocError>
+    requires { procedure_needs (proc_of proc.now) ≤ 64 }
+    ensures { IfOk result (λ p. proc_of p ≡ rewritten_procedure rounds.last (proc_of proc.now)) }
+{
+    let writer = Writer {
+        alloc,
+        rounds,
+        formals: proc.formals.as_slice(),
+        locals: proc.locals.as_slice(),
+    };
+    let name = again(alloc.clone()?, &proc.name)?;
+    let formals = all_again(alloc, &proc.formals, Vec::new(alloc.clone()?))?;
+    let kept = all_again(alloc, &proc.locals, Vec::new(alloc.clone()?))?;
+    let locals = temporaries(alloc, kept, writer.needs(&proc.body))?;
+    let body = writer.block(&proc.body, Vec::new(alloc.clone()?))?;
+    Ok(Proc {
+        name,
+        formals,
+        locals,
+        body,
+    })
+}
+
+/// The first procedure.
+fn first<N: Allocator, A: Allocator + Clone>(
+    alloc: &A,
+    rounds: Rounds,
+    program: &Program<N>,
+) -> Result<Proc<A>, AllocError>
+    ensures { IfOk result (λ p. proc_of p ≡ main_procedure rounds.last (tree_of program.now)) }
+{
+    let name = fixed(alloc.clone()?, "main__")?;
+    let formals = Vec::new(alloc.clone()?);
+    let locals = Vec::new(alloc.clone()?);
+    let body = main_body(alloc, rounds, &program.globals, &program.threads)?;
+    Ok(Proc {
+        name,
+        formals,
+        locals,
+        body,
+    })
+}
+
+/// The procedures, the first one first.
+pub fn procedures<N: Allocator, A: Allocator + Clone>(
+    alloc: &A,
+    rounds: Rounds,
+    program: &Program<N>,
+) -> Result<Vec<Proc<A>, A>, AllocError>
+    requires { AreFew (procs_of program.now.procs.items) }
+    ensures { IfOk result (λ v. procs_of v.items ≡ main_procedure rounds.last (tree_of program.now) ∷ map (rewritten_procedure rounds.last) (procs_of program.now.procs.items)) }
+{
+    let mut list = Vec::new(alloc.clone()?);
+    list.push(first(alloc, rounds, program)?)?;
+    for proc in &program.procs {
+        list.push(procedure(alloc, rounds, proc)?)?;
+    }
+    Ok(list)
+}

@@ -1,0 +1,70 @@
+//! The rewriting of a program.
+
+ghost use Rattle.std.specs.Prelude.{◌≡◌, ◌⊎◌, [], ◌∷◌, IfOk, IfErr, codes};
+ghost use Rattle.syntax.specs.Trees.{threads_of, tree_of};
+ghost use Rattle.round_rewrite.specs.Law.{KeepsTree};
+ghost use Rattle.round_rewrite.specs.Names.{named, rewritten_tree};
+ghost use Rattle.round_rewrite.specs.Narrow.{IsNarrow};
+ghost use Rattle.round_rewrite.specs.declared.fault.RewriteFault.TheVariants.{TooWide, Memory};
+
+use crate::fault::RewriteFault;
+use crate::globals::globals;
+use crate::names::fixed;
+use crate::procedures::procedures;
+use crate::rounds::Rounds;
+use crate::sequential::Sequential;
+use crate::width::is_narrow;
+use scopes::Checked;
+use std::alloc::{AllocError, Allocator};
+use syntax::{Program, Thread};
+
+/// The one thread line: that of the first procedure.
+fn threads<A: Allocator + Clone>(alloc: &A) -> Result<Vec<Thread<A>, A>, AllocError>
+    ensures { IfOk result (λ v. threads_of v.items ≡ record { at = 0; name = named (codes "main__") } ∷ []) }
+{
+    let mut list = Vec::new(alloc.clone()?);
+    let name = fixed(alloc.clone()?, "main__")?;
+    list.push(Thread { at: 0, name })?;
+    Ok(list)
+}
+
+/// The rewritten program of a program that is narrow enough.
+fn written<N: Allocator, A: Allocator + Clone>(
+    alloc: &A,
+    rounds: Rounds,
+    program: &Program<N>,
+) -> Result<Program<A>, AllocError>
+    requires { IsNarrow rounds.last (tree_of program.now) }
+    ensures { IfOk result (λ p. tree_of p ≡ rewritten_tree rounds.last (tree_of program.now)) }
+{
+    let globals = globals(alloc, rounds, &program.globals)?;
+    let procs = procedures(alloc, rounds, program)?;
+    let threads = threads(alloc)?;
+    Ok(Program {
+        globals,
+        procs,
+        threads,
+    })
+}
+
+/// Rewrites a checked program for a number of rounds into a sequential program. `TooWide` comes exactly where some
+/// procedure of it has more than 64 places, and takes no memory; `Memory` where a growth was refused.
+pub fn rewrite<N: Allocator, A: Allocator + Clone>(
+    alloc: &A,
+    checked: &Checked<N>,
+    rounds: Rounds,
+) -> Result<Sequential<A>, RewriteFault>
+    // What is answered is the program of the table.
+    ensures rewritten { IfOk result (λ s. tree_of s.program ≡ rewritten_tree rounds.last (tree_of checked.now.program)) }
+    // The source is unsafe within the rounds exactly where some pair of `main__` of that program has `bad__`.
+    ensures keeps { IfOk result (λ s. KeepsTree rounds.last (tree_of checked.now.program)) }
+    // A fault is that the program is too wide, and then it is, or that memory ran out, and then it is not.
+    ensures fault { IfErr result (λ f. ((f ≡ TooWide) × (IsNarrow rounds.last (tree_of checked.now.program) → ⊥)) ⊎ ((f ≡ Memory) × IsNarrow rounds.last (tree_of checked.now.program))) }
+{
+    let source = checked.program();
+    if !is_narrow(alloc, rounds, source) {
+        return Err(RewriteFault::TooWide);
+    }
+    let program = written(alloc, rounds, source)?;
+    Ok(Sequential { program })
+}
