@@ -47,3 +47,6 @@ pub fn rewriting_keeps_failures()
 pub fn rewriting_keeps_failures_of_resolved_programs()
     ensures { (p : Program) (last : ℕ) → FitsScopes p → last < 4 → Keeps last p }
 {}
+
+#[cfg(test)]
+mod tests;
