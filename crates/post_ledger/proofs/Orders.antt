@@ -1,5 +1,5 @@
 -- How an order grows, and what its counts say of its histories.
-use Rattle.std.proofs.Common.{◌≡◌, ◌≢◌, inl, inr, ℕ, zero, suc, ◌+◌, ◌<◌, ◌≤◌, eqb, cond, Bool, true, false, List, [], ◌∷◌, ◌++◌, Some, length, take, slice_get, Contains, nat_eq, refl, sym, ap, ◌∙◌, subst, arith, eq-eqb, ne_eqb}
+use Rattle.std.proofs.Common.{◌≡◌, ◌≢◌, inl, inr, ℕ, zero, suc, ◌+◌, ◌*◌, ◌<◌, ◌≤◌, eqb, cond, Bool, true, false, List, [], ◌∷◌, ◌++◌, Some, length, take, slice_get, Contains, nat_eq, refl, sym, ap, ◌∙◌, subst, arith, eq-eqb, ne_eqb}
 use Rattle.std.specs.Prelude.{◌↔◌}
 use Rattle.std.proofs.lemmas.List.{append-nil, length_push, take-append-le, take_at}
 use Rattle.std.proofs.lemmas.Option.{slice_get_within}
@@ -111,7 +111,7 @@ module _ {M : Type 0} where
       take_all (x ∷ xs) = ap (λ r. x ∷ r) (take_all xs)
 
   -- what an entry needs that it may come after an order: its mailbox, that its event may follow there, and a Post its job
-  abbrev UnderJob : List (Entry M) → Entry M → Type 0
+  abbrev pub UnderJob : List (Entry M) → Entry M → Type 0
   UnderJob order (Posted to s m t) = HasJob s t order
   UnderJob order (Taken of s m) = Unit {0}
   UnderJob order (Completed of t) = Unit {0}
@@ -146,20 +146,20 @@ module _ {M : Type 0} where
       only_one i e at P here = elim (at_push_cases [] (Posted to boxes m 0) e i at) [ inl none ↦ cc | inr last ↦ subst P last.1 here ]
 
 -- the numbers below n, each with its value, added up
-abbrev sum_to : (ℕ → ℕ) → ℕ → ℕ
+abbrev pub sum_to : (ℕ → ℕ) → ℕ → ℕ
 sum_to f zero = 0
 sum_to f (suc n) = f n + sum_to f n
 
-sum_same : (f g : ℕ → ℕ) (n : ℕ) → ((i : ℕ) → i < n → f i ≡ g i) → sum_to f n ≡ sum_to g n
+pub sum_same : (f g : ℕ → ℕ) (n : ℕ) → ((i : ℕ) → i < n → f i ≡ g i) → sum_to f n ≡ sum_to g n
 sum_same f g zero same = refl
 sum_same f g (suc n) same = omega (arith, same n (omega arith), sum_same f g n (λ i h. same i (omega arith)))
 
-sum_le : (f g : ℕ → ℕ) (n : ℕ) → ((i : ℕ) → i < n → f i ≤ g i) → sum_to f n ≤ sum_to g n
+pub sum_le : (f g : ℕ → ℕ) (n : ℕ) → ((i : ℕ) → i < n → f i ≤ g i) → sum_to f n ≤ sum_to g n
 sum_le f g zero le = omega arith
 sum_le f g (suc n) le = omega (arith, le n (omega arith), sum_le f g n (λ i h. le i (omega arith)))
 
 -- where one value is k more and the others are the same, the sum is k more
-sum_more : (f g : ℕ → ℕ) (m k n : ℕ) → m < n → f m ≡ k + g m → ((i : ℕ) → i ≢ m → f i ≡ g i) → sum_to f n ≡ k + sum_to g n
+pub sum_more : (f g : ℕ → ℕ) (m k n : ℕ) → m < n → f m ≡ k + g m → ((i : ℕ) → i ≢ m → f i ≡ g i) → sum_to f n ≡ k + sum_to g n
 sum_more f g m k zero short here else = absurd (omega arith)
 sum_more f g m k (suc n) short here else = elim (cases_eq n m) [
   | inl same ↦ (let top : f n ≡ k + g n = subst (λ j. f j ≡ k + g j) (sym same) here in omega (arith, top, sum_same f g n (λ i h. else i (λ e. omega arith))))
@@ -167,16 +167,28 @@ sum_more f g m k (suc n) short here else = elim (cases_eq n m) [
 ]
 
 -- where no value is above and the sums are the same, each value is
-sum_tight : (f g : ℕ → ℕ) (n i : ℕ) → ((j : ℕ) → j < n → f j ≤ g j) → sum_to f n ≡ sum_to g n → i < n → f i ≡ g i
+pub sum_tight : (f g : ℕ → ℕ) (n i : ℕ) → ((j : ℕ) → j < n → f j ≤ g j) → sum_to f n ≡ sum_to g n → i < n → f i ≡ g i
 sum_tight f g zero i le same short = absurd (omega arith)
 sum_tight f g (suc n) i le same short = elim (cases_eq i n) [
   | inl last ↦ (let less = sum_le f g n (λ j h. le j (omega arith)) in let top = le n (omega arith) in let e : f n ≡ g n = omega arith in subst (λ j. f j ≡ g j) (sym last) e)
   | inr other ↦ (let less = sum_le f g n (λ j h. le j (omega arith)) in let top = le n (omega arith) in sum_tight f g n i (λ j h. le j (omega arith)) (omega arith) (omega arith))
 ]
 
+-- where no value is above and one is below, so is the sum
+pub sum_less : (f g : ℕ → ℕ) (n k : ℕ) → ((i : ℕ) → i < n → f i ≤ g i) → k < n → f k < g k → sum_to f n < sum_to g n
+sum_less f g zero k le short less = absurd (omega arith)
+sum_less f g (suc n) k le short less = elim (cases_eq k n) [
+  | inl last ↦ (let top : f n < g n = subst (λ j. f j < g j) last less in omega (arith, sum_le f g n (λ i h. le i (omega arith))))
+  | inr other ↦ (let below : k < n = omega arith in omega (arith, le n (omega arith), sum_less f g n k (λ i h. le i (omega arith)) below less))
+]
+
+pub sum_thrice : (f : ℕ → ℕ) (n : ℕ) → sum_to (λ i. 3 * f i) n ≡ 3 * sum_to f n
+sum_thrice f zero = refl
+sum_thrice f (suc n) = omega (arith, sum_thrice f n)
+
 module _ {M : Type 0} where
   -- a history has a count of its own kind: each event's, added up
-  split_count : (f : List (Event M) → ℕ) → ((e : Event M) (h : List (Event M)) → f (e ∷ h) ≡ f (e ∷ []) + f h) → f [] ≡ 0 → (count : List (Entry M) → ℕ) → count [] ≡ 0 → ((e : Entry M) (es : List (Entry M)) → count (e ∷ es) ≡ f (event_of e ∷ []) + count es)
+  pub split_count : (f : List (Event M) → ℕ) → ((e : Event M) (h : List (Event M)) → f (e ∷ h) ≡ f (e ∷ []) + f h) → f [] ≡ 0 → (count : List (Entry M) → ℕ) → count [] ≡ 0 → ((e : Entry M) (es : List (Entry M)) → count (e ∷ es) ≡ f (event_of e ∷ []) + count es)
       → (boxes : ℕ) (order : List (Entry M)) → ((i : ℕ) (e : Entry M) → slice_get order i ≡ Some e → mailbox_of e < boxes) → count order ≡ sum_to (λ q. f (part q order)) boxes
   split_count f cons none count count_none count_cons boxes [] inside = count_none ∙ sym (sum_same (λ q. f []) (λ q. 0) boxes (λ i h. none) ∙ zeros boxes)
     where
@@ -260,3 +272,37 @@ module _ {M : Type 0} where
       let some_of : 0 < length order = omega (arith, ap length law.opens.3) in
       let may = entry_may boxes order rest e longer some_of in
       absurd (nothing_may boxes order e law closed may.0 may.1)
+
+  -- an event is a Post, a Take or a Done
+  events_are : (h : List (Event M)) → length h ≡ length (posts h) + length (takes h) + length (dones h)
+  events_are [] = refl
+  events_are (Post s m ∷ h) = omega (arith, events_are h)
+  events_are (Take s m ∷ h) = omega (arith, events_are h)
+  events_are (Done t ∷ h) = omega (arith, events_are h)
+
+  length_is : (boxes : ℕ) (order : List (Entry M)) → IsLawful boxes order → length order ≡ sum_to (λ q. length (part q order)) boxes
+  length_is boxes order law = split_count length (λ e h. omega arith) refl length refl (λ e es. omega arith) boxes order law.inside
+
+  thrice_is : (boxes : ℕ) (order : List (Entry M)) → IsLawful boxes order → 3 * posted order ≡ sum_to (λ q. 3 * length (posts (part q order))) boxes
+  thrice_is boxes order law = omega (arith, posted_is boxes order law, sum_thrice (λ q. length (posts (part q order))) boxes)
+
+  history_short : (boxes : ℕ) (order : List (Entry M)) → IsLawful boxes order → (q : ℕ) → length (part q order) ≤ 3 * length (posts (part q order))
+  history_short boxes order law q = let z = sizes_of (part q order) (law.legal q) in omega (arith, events_are (part q order), dones_few (part q order) z, z.fewer)
+
+  -- each Post has two more events at most
+  pub order_short : (boxes : ℕ) (order : List (Entry M)) → IsLawful boxes order → length order ≤ 3 * posted order
+  order_short boxes order law = omega (arith, length_is boxes order law, thrice_is boxes order law, sum_le (λ q. length (part q order)) (λ q. 3 * length (posts (part q order))) boxes (λ q h. history_short boxes order law q))
+
+  -- and fewer, where a mailbox has a Post that is not taken, or a Take that is not completed
+  pub order_shorter : (boxes : ℕ) (order : List (Entry M)) (q : ℕ) → IsLawful boxes order → q < boxes → length (dones (part q order)) < length (posts (part q order)) → length order < 3 * posted order
+  order_shorter boxes order q law short owes =
+      let z = sizes_of (part q order) (law.legal q) in
+      let less : length (part q order) < 3 * length (posts (part q order)) = omega (arith, events_are (part q order), dones_few (part q order) z, z.fewer) in
+      omega (arith, length_is boxes order law, thrice_is boxes order law, sum_less (λ q. length (part q order)) (λ q. 3 * length (posts (part q order))) boxes q (λ k h. history_short boxes order law k) short less)
+
+  -- who has a job has a mailbox
+  pub job_inside : (boxes : ℕ) (order : List (Entry M)) (p t : ℕ) → IsLawful boxes order → HasJob p t order → p < boxes
+  job_inside boxes order p t law job = elim (cases_lt p boxes) [
+    | inl near ↦ near
+    | inr far ↦ (let none : length (takes (part p order)) ≡ 0 = ap (λ h. length (takes h)) (part_outside p boxes order far law.inside) in absurd (omega (arith, job.0)))
+  ]

@@ -91,6 +91,18 @@ impl<M: Copy, A: Allocator> Mailbox<M, A> {
         ensures unchanged { IfNone result (self.new ≡ self.old) }
         ensures some { IfSome result (λ t. (t.0 ≡ length (takes self.old)) × TakesOldest self.old self.new t.1) }
     {
+        match self.take_from() {
+            None => None,
+            Some((number, _, message)) => Some((number, message)),
+        }
+    }
+
+    /// The same, with the number of the message's sender before the message.
+    pub fn take_from(&mut self) -> Option<(u64, u8, M)>
+        ensures none { IsNone result ↔ (length (posts self.old) ≡ length (takes self.old)) }
+        ensures unchanged { IfNone result (self.new ≡ self.old) }
+        ensures some { IfSome result (λ t. (t.0 ≡ length (takes self.old)) × (slice_get (posts self.old) (length (takes self.old)) ≡ Some (t.1, t.2)) × (self.new ≡ self.old ++ Event.Take t.1 t.2 ∷ [])) }
+    {
         if self.untaken == 0 {
             return None;
         }
@@ -101,7 +113,7 @@ impl<M: Copy, A: Allocator> Mailbox<M, A> {
         self.taken += 1;
         self.untaken -= 1;
         self.open += 1;
-        Some((number, message))
+        Some((number, sender, message))
     }
 
     /// Records that the take of this number is completed. Takes no memory.
