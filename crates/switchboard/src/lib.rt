@@ -2,9 +2,11 @@
 #![tactic(auto)]
 
 mod board;
+mod book;
 mod calls;
 mod mail;
 
 pub use board::Board;
+pub use book::Book;
 pub use calls::{Abort, Cause, Job, PostFault, Taken};
 pub use mail::Mail;
