@@ -1,16 +1,23 @@
 -- What each call of a book keeps.
-use Rattle.std.proofs.Common.{◌≡◌, ◌≢◌, inl, inr, ℕ, zero, suc, ◌+◌, ◌*◌, ◌<◌, ◌≤◌, List, [], ◌∷◌, ◌++◌, Some, length, set, get_or, slice_get, Contains, refl, sym, ap, ◌∙◌, subst, arith, length-append, length-set}
+use Rattle.std.proofs.Common.{◌≡◌, ◌≢◌, inl, inr, ℕ, zero, suc, ◌+◌, ◌*◌, ◌<◌, ◌≤◌, List, [], ◌∷◌, ◌++◌, Some, length, set, get_or, slice_get, Contains, refl, sym, ap, ◌∙◌, subst, arith, length-set}
 use Rattle.std.proofs.lemmas.List.{append-nil}
 use Rattle.std.proofs.lemmas.Option.{slice_get-get_or, slice_get_within}
 use Rattle.std.proofs.lemmas.Bool.{cases_eq}
 use Rattle.post_ledger.specs.declared.event.Event.{Event}
-use Rattle.post_ledger.specs.declared.event.Event.TheVariants.{Post, Take, Done}
+use Rattle.post_ledger.specs.declared.event.Event.TheVariants.{Post}
 use Rattle.post_ledger.specs.declared.entry.Entry.{Entry}
-use Rattle.post_ledger.specs.declared.entry.Entry.TheVariants.{Posted, Taken, Completed}
-use Rattle.post_ledger.specs.History.{posts, takes, dones, MayFollow, IsLegal}
-use Rattle.post_ledger.specs.Orders.{mailbox_of, event_of, part, posted, completed, HasJob, IsLawful, IsClosed}
+use Rattle.post_ledger.specs.declared.entry.Entry.TheVariants.{Posted, Completed}
+use Rattle.post_ledger.specs.declared.entry.Entry.TheVariants as entry
+use Rattle.post_ledger.specs.History.{posts, takes, dones, MayFollow}
+use Rattle.post_ledger.specs.Orders.{mailbox_of, event_of, part, completed, HasJob, IsLawful, IsClosed}
 use Rattle.post_ledger.proofs.Orders.{part-append, part_here, part_else, posted-append, completed-append, UnderJob, lawful_push, lawful_open, order_short, order_shorter, sizes_of, dones_few, dones_fewer, job_inside, counted_closed}
-use Rattle.switchboard.specs.Books.{Kept}
+use Rattle.std.proofs.Common.{Bool, true, false, None}
+use Rattle.std.specs.Prelude.{Option, is_some, IsSome}
+use Rattle.switchboard.specs.declared.calls.Abort.{Abort}
+use Rattle.switchboard.specs.Sights.{State}
+use Rattle.switchboard.specs.declared.calls.Taken.{Taken}
+use Rattle.switchboard.specs.declared.calls.Taken.TheVariants.{Message}
+use Rattle.switchboard.specs.Books.{Kept, with_entry, Takes, Answers}
 
 module _ {X : Type 0} where
   some_same : (x y : X) → Some x ≡ Some y → x ≡ y
@@ -132,8 +139,25 @@ module _ {M : Type 0} where
   completed_few : (order : List (Entry M)) → completed order ≤ length order
   completed_few [] = omega arith
   completed_few (Posted to s m t ∷ es) = omega (arith, completed_few es)
-  completed_few (Taken of s m ∷ es) = omega (arith, completed_few es)
+  completed_few (entry.Taken of s m ∷ es) = omega (arith, completed_few es)
   completed_few (Completed of t ∷ es) = omega (arith, completed_few es)
 
   pub few_done : (hs : List (List (Event M))) (order : List (Entry M)) (cap ps ds : ℕ) → Kept hs order cap ps ds → ds ≤ length order
   few_done hs order cap ps ds k = omega (arith, k.all_completed, completed_few order)
+
+pub none_of : {X : Type 0} (o : Option X) (b : Bool) → b ≡ is_some o → b ≡ false → o ≡ None
+none_of None b is none = refl
+none_of (Some x) b is none = cc
+
+pub some_of : {X : Type 0} (o : Option X) (b : Bool) → b ≡ is_some o → b ≡ true → IsSome o
+some_of o b is there = sym is ∙ there
+
+module _ {M W : Type 0} where
+  -- the state of the fields after one more event
+  pub state_push : (w : W) (hs hs' : List (List (Event M))) (order order' : List (Entry M)) (e : Entry M) (a : Option Abort) (s : State M W) → length hs' ≡ length hs → order' ≡ order ++ e ∷ []
+      → (let fields : State M W = record { world = w; boxes = length hs; order = order; aborted = a } in fields ≡ s) → (let fields : State M W = record { world = w; boxes = length hs'; order = order'; aborted = a } in fields ≡ with_entry e s)
+  state_push w hs hs' order order' e a s same longer is = (λ i. record { world = w; boxes = same i; order = longer i; aborted = a }) ∙ ap (with_entry e) is
+
+  -- the answer is that take
+  pub answers_message : (by job : ℕ) (m : M) (s t : State M W) (r : Taken M) → r ≡ Message job m → Takes by job m s t → Answers by r s t
+  answers_message by job m s t r is took = subst (λ x. Answers by x s t) (sym is) took

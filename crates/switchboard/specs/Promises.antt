@@ -1,5 +1,5 @@
 -- What the calls of a board promise.
-use Rattle.std.specs.Prelude.{◌≡◌, ◌⊎◌, ◌↔◌, ℕ, ◌+◌, ◌<◌, Bool, true, false, IsTrue, IsSome, List, [], ◌∷◌, ◌++◌, Option, Some, None, Result, Ok, Err, length, slice_get}
+use Rattle.std.specs.Prelude.{◌≡◌, ◌⊎◌, ◌↔◌, ℕ, ◌+◌, Bool, true, false, IsTrue, IsSome, List, [], ◌∷◌, ◌++◌, Option, Some, None, Result, Ok, Err, length, slice_get}
 use Rattle.atomic_table.specs.Seated.{TableId}
 use Rattle.ticket_lock.specs.declared.lane.Spent.{Spent}
 use Rattle.ticket_lock.specs.History.{StartsWith}
@@ -13,7 +13,7 @@ use Rattle.switchboard.specs.declared.calls.PostFault.{PostFault}
 use Rattle.switchboard.specs.declared.calls.PostFault.TheVariants as fault
 use Rattle.switchboard.specs.declared.calls.Taken as answers
 use Rattle.switchboard.specs.declared.calls.Taken.TheVariants as answer
-use Rattle.switchboard.specs.Sights.{State, Sight, Account, Before, abort_of, IsSound}
+use Rattle.switchboard.specs.Sights.{Sight, Account, Before, abort_of, IsSound}
 
 module _ {M W : Type 0} where
   -- the pass has used up its calls, and nothing changed

@@ -1,5 +1,5 @@
 //! The book of a board: all its mailboxes, and the order of their events. It knows of no thread.
-ghost use Rattle.std.specs.Prelude.{◌≡◌, ℕ, ◌<◌, ◌≤◌, ◌++◌, ◌∷◌, [], ◌↔◌, List, Some, IsTrue, IsSome, length, slice_get, vec_capacity, OnOk, IfOk, IfErr};
+ghost use Rattle.std.specs.Prelude.{◌≡◌, ℕ, ◌<◌, ◌≤◌, ◌++◌, ◌∷◌, [], ◌↔◌, List, Some, IsTrue, IsSome, length, slice_get, vec_len, vec_capacity, OnOk, IfOk, IfErr};
 ghost use Rattle.post_ledger.specs.declared.entry.Entry.TheVariants.{Posted, Completed};
 ghost use Rattle.post_ledger.specs.declared.event.Event.{Event};
 ghost use Rattle.post_ledger.specs.Orders.{HasJob, IsClosed};
@@ -52,15 +52,29 @@ fn empty_mailboxes<M: Copy, A: Allocator + Clone>(
     Ok(mailboxes)
 }
 
+/// Writes a take down behind the order, and answers its message.
+fn note_take<M: Copy, A: Allocator>(
+    order: &mut Vec<Entry<M>, A>,
+    by: u8,
+    found: (u64, u8, M),
+) -> Taken<M>
+    requires { vec_len order.old < vec_capacity order.old }
+    ensures answer { result ≡ Taken.Message found.0 found.2 }
+    ensures order { order.new.items ≡ order.old.items ++ Entry.Taken by found.1 found.2 ∷ [] }
+    ensures room { vec_capacity order.new ≡ vec_capacity order.old }
+{
+    let (take, sender, message) = found;
+    order.push_reserved(Entry::Taken {
+        of: by,
+        sender,
+        message,
+    });
+    Taken::Message(Job { take }, message)
+}
+
 impl<M: Copy, W, A: Allocator> Book<M, W, A> {
     /// A book of so many mailboxes, with the opening post in one of them.
-    pub fn open(
-        alloc: A,
-        world: &W,
-        boxes: u8,
-        to: u8,
-        first: M,
-    ) -> Result<Self, AllocError>
+    pub fn open(alloc: A, world: &W, boxes: u8, to: u8, first: M) -> Result<Self, AllocError>
     where
         A: Clone,
         requires { (to < boxes) × (boxes ≤ 64) }
@@ -92,13 +106,7 @@ impl<M: Copy, W, A: Allocator> Book<M, W, A> {
 
     /// Posts a message to a mailbox, under a job of the sender, and reserves the places of its Take and its Done. A post that is refused
     /// hands its message back.
-    pub fn post(
-        &mut self,
-        by: u8,
-        job: &Job,
-        to: u8,
-        message: M,
-    ) -> Result<(), PostFault<M>>
+    pub fn post(&mut self, by: u8, job: &Job, to: u8, message: M) -> Result<(), PostFault<M>>
         requires job { HasJob by job.now self.old.order }
         requires to { to < self.old.boxes }
         ensures ok { OnOk result ((self.old.aborted ≡ None) × (self.new ≡ with_entry (Posted to by message job.now) self.old)) }
@@ -142,14 +150,7 @@ impl<M: Copy, W, A: Allocator> Book<M, W, A> {
         let mailbox = &mut self.mailboxes[usize::from(by)];
         match mailbox.take_from() {
             None => Taken::Empty,
-            Some((take, sender, message)) => {
-                self.order.push_reserved(Entry::Taken {
-                    of: by,
-                    sender,
-                    message,
-                });
-                Taken::Message(Job { take }, message)
-            }
+            Some(found) => note_take(&mut self.order, by, found),
         }
     }
 
