@@ -1,3 +1,5 @@
 pub mod Sights
 pub mod Books
 pub mod Promises
+pub mod Passes
+pub mod Laws

@@ -5,8 +5,12 @@ mod board;
 mod book;
 mod calls;
 mod mail;
+mod one;
+mod pass;
 
 pub use board::Board;
 pub use book::Book;
 pub use calls::{Abort, Cause, Job, PostFault, Taken};
 pub use mail::Mail;
+pub use one::OneLock;
+pub use pass::{OnePass, OneTold};

@@ -1,0 +1,1 @@
+use Rattle.switchboard.proofs.one.OneLock.abort.Goals as goal
