@@ -220,7 +220,7 @@ module _ {M W : Type 0} (fits : W → ℕ → M → Type 0) where
   ticket_stays true a b some_of less is = omega arith
   ticket_stays false a b some_of less is = cc
 
-  some_later : (s t : State M W) → Before s t → IsSome s.aborted → IsSome t.aborted
+  pub some_later : (s t : State M W) → Before s t → IsSome s.aborted → IsSome t.aborted
   some_later s t b known = later s.aborted t.aborted b.aborted known
     where
       later : (o q : Option Abort) → ((a : Abort) → o ≡ Some a → q ≡ Some a) → IsSome o → IsSome q
@@ -436,3 +436,11 @@ module _ {M W : Type 0} (fits : W → ℕ → M → Type 0) where
 
   pub post_allowed : (n job to : ℕ) (m : M) (x : State M W) → to < x.boxes → HasJob n job x.order → fits x.world to m → Allowed (entry.Posted to n m job) x
   post_allowed n job to m x near has fit = record { near = near; follows = tt; under = has; fit = fit }
+
+  pub aborted_when : (q : Abort) (a b : Standing (State M W)) (x y : State M W) (w : W) (boxes : ℕ) (kept : Bool) (p : IsPass fits a w boxes kept) → kept ≡ true → Visit a b x y → Kept a.number x y → y ≡ record x { aborted = abort_of x.aborted q } → MadeAbort fits q (showing a kept p.last) (showing b false y)
+  aborted_when q a b x y w boxes true p e v k is = aborted_is q a b x y w boxes p v k is
+  aborted_when q a b x y w boxes false p e v k is = cc
+
+  pub again_when : (q : Abort) (a : Standing (State M W)) (w : W) (boxes : ℕ) (kept : Bool) (p : IsPass fits a w boxes kept) → kept ≡ false → MadeAbort fits q (showing a kept p.last) (showing a kept p.last)
+  again_when q a w boxes true p e = cc
+  again_when q a w boxes false p e = aborted_again q a w boxes p

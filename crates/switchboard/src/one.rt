@@ -1,12 +1,12 @@
 //! The board behind one lock.
 ghost use Rattle.std.specs.Prelude.{◌≡◌, ◌<◌, MatchResult};
 ghost use Rattle.post_ledger.specs.Orders.{HasJob};
-ghost use Rattle.switchboard.specs.Promises.{WasSpent, WasPosted, WasRefused, Took, WasDone, MadeAbort};
+ghost use Rattle.switchboard.specs.Promises.{WasSpent, WasPosted, WasRefused, Took, WasDone, MadeAbort, Learned};
 
 use crate::book::Book;
 use crate::calls::{Cause, Job, PostFault, Taken};
 use crate::mail::Mail;
-use crate::pass::OnePass;
+use crate::pass::{OnePass, OneTold};
 use std::alloc::Allocator;
 use std::sync::Wait;
 use ticket_lock::{Spent, TicketLock};
@@ -123,5 +123,23 @@ impl<M: Mail<World = W>, W, A: Allocator> OneLock<M, W, A> {
         pass.kept = false;
         guard.value().abort(number, cause);
         self.lock.leave(&mut pass.lane, guard);
+    }
+
+    fn tell(&self, pass: &mut OnePass<M, W, A>) -> OneTold<M, W, A>
+        requires { pass.old.board ≡ self.now.lock.id }
+        ensures same { pass.new ≡ pass.old }
+        ensures told { result ≡ record { board = pass.old.board; order = pass.old.seen.order; aborted = pass.old.seen.aborted } }
+    {
+        OneTold {
+            note: self.lock.tell(&mut pass.lane),
+        }
+    }
+
+    fn learn(&self, pass: &mut OnePass<M, W, A>, told: OneTold<M, W, A>)
+        requires { (pass.old.board ≡ self.now.lock.id) × (told.board ≡ self.now.lock.id) }
+        ensures { Learned M.fits told pass.old pass.new }
+    {
+        let OneTold { note } = told;
+        self.lock.learn(&mut pass.lane, note);
     }
 }
