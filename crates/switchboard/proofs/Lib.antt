@@ -1,3 +1,5 @@
 pub mod Keeping
 pub mod Visits
 pub mod Learning
+pub mod Settling
+pub mod Opening

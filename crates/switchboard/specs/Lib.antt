@@ -3,3 +3,4 @@ pub mod Books
 pub mod Promises
 pub mod Passes
 pub mod Laws
+pub mod Unwraps

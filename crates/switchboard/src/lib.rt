@@ -4,6 +4,7 @@
 mod board;
 mod book;
 mod calls;
+mod lanes;
 mod mail;
 mod one;
 mod pass;

@@ -1,13 +1,17 @@
 //! The board behind one lock.
-ghost use Rattle.std.specs.Prelude.{◌≡◌, ◌<◌, MatchResult};
+ghost use Rattle.std.specs.Prelude.{◌≡◌, ◌<◌, ◌≤◌, ◌^◌, MatchResult, IfOk};
 ghost use Rattle.post_ledger.specs.Orders.{HasJob};
-ghost use Rattle.switchboard.specs.Promises.{WasSpent, WasPosted, WasRefused, Took, WasDone, MadeAbort, Learned};
+ghost use Rattle.switchboard.specs.Sights.{opened, fresh_sights};
+ghost use Rattle.switchboard.specs.Promises.{WasSpent, WasPosted, WasRefused, Took, WasDone, MadeAbort, Learned, AreAll, Settles};
 
 use crate::book::Book;
 use crate::calls::{Cause, Job, PostFault, Taken};
+use crate::lanes::Lanes;
 use crate::mail::Mail;
 use crate::pass::{OnePass, OneTold};
-use std::alloc::Allocator;
+use post_ledger::Ledger;
+use std::alloc::{AllocError, Allocator};
+use std::snapshot::Snapshot;
 use std::sync::Wait;
 use ticket_lock::{Spent, TicketLock};
 
@@ -37,6 +41,37 @@ impl<M: Mail<World = W>, W, A: Allocator> OnePass<M, W, A> {
 }
 
 impl<M: Mail<World = W>, W, A: Allocator> OneLock<M, W, A> {
+    fn open_with_budget(
+        alloc: A,
+        world: &W,
+        boxes: u8,
+        to: u8,
+        first: M,
+        budget: u64,
+    ) -> Result<(Self, Vec<OnePass<M, W, A>, A>), AllocError>
+    where
+        A: Clone,
+        requires boxes { (to < boxes) × (boxes ≤ 64) }
+        requires budget { (2 ≤ budget) × (budget ≤ 2 ^ 56) }
+        requires fits { M.fits world.now to first }
+        ensures { IfOk result (λ r. (r.0.lock.lanes ≡ boxes) × (r.1.items ≡ fresh_sights r.0.lock.id budget (opened world.now boxes to first) 0 boxes)) }
+    {
+        let book = Book::open(alloc.clone()?, world, boxes, to, first)?;
+        let mut passes = Vec::with_capacity(alloc.clone()?, usize::from(boxes))?;
+        let Ok((lock, lanes)) = TicketLock::with_budget(alloc, book, boxes, budget) else {
+            return Err(AllocError);
+        };
+        for lane in lanes {
+            passes.push_reserved(OnePass {
+                lane,
+                world: Snapshot::of(world),
+                boxes,
+                kept: true,
+            });
+        }
+        Ok((OneLock { lock }, passes))
+    }
+
     fn post<R: Wait>(
         &self,
         rt: &R,
@@ -141,5 +176,16 @@ impl<M: Mail<World = W>, W, A: Allocator> OneLock<M, W, A> {
     {
         let OneTold { note } = told;
         self.lock.learn(&mut pass.lane, note);
+    }
+
+    fn into_ledger(self, passes: Vec<OnePass<M, W, A>, A>) -> Ledger<M, A>
+        requires { AreAll self.lock.id self.lock.lanes passes.items }
+        ensures { Settles M.fits self.lock.lanes passes.items result.histories.items result.closed }
+    {
+        let OneLock { lock } = self;
+        let book = lock.close(Lanes {
+            passes: passes.into_iter(),
+        });
+        book.into_ledger()
     }
 }

@@ -25,6 +25,7 @@ impl<W, M: Mail<World = W>, A: Allocator> LaneLaw for Book<M, W, A> {
 }
 
 /// A pass of a board behind one lock. Contracts see it as a `Sight`.
+#[derive(Drop)]
 pub struct OnePass<M: Mail<World = W>, W, A: Allocator> {
     pub(crate) lane: Lane<Book<M, W, A>>,
     pub(crate) world: Snapshot<W>,
@@ -45,6 +46,7 @@ impl<M: Mail<World = W>, W, A: Allocator> Model for OnePass<M, W, A> {
 }
 
 /// What a pass had seen. Contracts see it as an `Account`.
+#[derive(Drop)]
 pub struct OneTold<M: Mail<World = W>, W, A: Allocator> {
     pub(crate) note: Note<Book<M, W, A>>,
 }

@@ -9,11 +9,11 @@ use Rattle.atomic_table.specs.Table.{Me}
 use Rattle.atomic_table.specs.Seated.{TableId}
 use Rattle.ticket_lock.specs.declared.view.View.{View}
 use Rattle.ticket_lock.specs.Count.{times, total}
-use Rattle.ticket_lock.specs.History.{StartsWith, longer}
+use Rattle.ticket_lock.specs.History.{StartsWith, longer, IsRising}
 use Rattle.ticket_lock.specs.Lone.{taken_in, merged, nobody, TookIn, IsWhole, Rests, KeepsParts}
 use Rattle.ticket_lock.specs.Lanes.{Standing, standing, IsLane}
-use Rattle.ticket_lock.specs.Promises.{IsIdle, Closes, KeepsOwn}
-use Rattle.ticket_lock.specs.Facts.{total-snoc, times-append, at_snoc, at_last, at_longer, StartsWith-trans}
+use Rattle.ticket_lock.specs.Promises.{IsIdle, Closes, KeepsOwn, ComesLast}
+use Rattle.ticket_lock.specs.Facts.{total-snoc, times-append, at_snoc, at_last, at_longer, StartsWith-trans, rises_last}
 use Rattle.ticket_lock.proofs.LoneSteps.{longer_first, longer_second}
 
 module _ {S A : Type 0} (steps : S → Option A → S → Type 0) where
@@ -100,6 +100,10 @@ module _ {T : Type 0} where
   -- the value has each lane's part, where it has those of the view's lanes
   pub keeps_own : {Part : Type 0} (part : ℕ → T → Part) (xs : List (Standing T)) (v : View T) (x : T) → Gathered xs v → KeepsParts part v x → KeepsOwn part xs x
   keeps_own part xs v x g keeps j y z e has = let o = g.own j y z e has in keeps o.0 y.number z o.1
+
+  -- what each lane has seen last comes before the last of the longest history
+  pub comes_last : (before : T → T → Type 0) (opening : T) (xs : List (Standing T)) (v : View T) (value : T) → Gathered xs v → IsRising before v.hand.seen → Rests opening v value → ComesLast before xs value
+  comes_last before opening xs v value g rises r j y x e ends = rises_last before v.hand.seen y.seen x value rises (g.seen j y e) ends r.0
 
   -- the seat after it took in a lane
   pub gathers_step : {Part : Type 0} (before : T → T → Type 0) (part : ℕ → T → Part) (xs : List (Standing T)) (y : Standing T) (id own_id : TableId) (number left : ℕ) (m n o own : Me (Option T) (View T)) → Gathered xs m.0 → m.1 ≡ [] → IsLane own_id number left own

@@ -10,7 +10,7 @@ use Rattle.atomic_table.specs.Table.{State, Me, keeps, Allows, Splits, Joins, En
 use Rattle.ticket_lock.specs.declared.hand.Hand.{Hand}
 use Rattle.ticket_lock.specs.declared.view.View.{View}
 use Rattle.ticket_lock.specs.Count.{times, total}
-use Rattle.ticket_lock.specs.History.{StartsWith, EndsIn, longer}
+use Rattle.ticket_lock.specs.History.{StartsWith, EndsIn, longer, IsRising}
 use Rattle.ticket_lock.specs.Core.{in_hand, Fits, Core}
 use Rattle.ticket_lock.specs.Turns.{Kept}
 use Rattle.ticket_lock.specs.Lone.{hand_of, numbers, new_view, nobody, taken_in, merged, just_seen, IsWhole, Rests, KeepsParts, Knows, Lone, TookIn}
@@ -259,7 +259,7 @@ module _ {T Part : Type 0} (before : T → T → Type 0) (part : ℕ → T → P
       }
 
   -- what is left when a table is closed with a view that has all lanes, and no ticket
-  pub closes : (id : ℕ) (v : View T) (words : List ℕ) (xs : List (Option T)) → IsWhole lanes v → Final (Seen Rule id v) words xs → (x : T) × (get_elem? xs 0 ≡ some (Some x)) × Rests opening v x × KeepsParts part v x
+  pub closes : (id : ℕ) (v : View T) (words : List ℕ) (xs : List (Option T)) → IsWhole lanes v → Final (Seen Rule id v) words xs → (x : T) × (get_elem? xs 0 ≡ some (Some x)) × Rests opening v x × KeepsParts part v x × IsRising before v.hand.seen
   closes id v words xs is_whole final =
       let none_told = is_whole.0 in
       let none_waits = is_whole.1 in
@@ -302,6 +302,7 @@ module _ {T Part : Type 0} (before : T → T → Type 0) (part : ℕ → T → P
           (λ n le. sym (only (λ (x : Hand T). times n x.drawn) (λ j u ne at_u. none_of n u.hand.drawn (other_drawn j u ne at_u))) ∙ core.undrawn n (omega arith)),
         ),
         (λ k l z at. (r.each_view id v is_at).owns k l z home.0 at home.1),
+        subst (λ l. IsRising before l) (sym whole) r.rising,
       )
     where
       none_of : (n : ℕ) (l : List ℕ) → length l ≡ 0 → times n l ≡ 0

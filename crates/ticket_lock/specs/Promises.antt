@@ -64,6 +64,10 @@ module _ {T : Type 0} where
   abbrev pub KeepsOwn : {Part : Type 0} → (ℕ → T → Part) → List (Standing T) → T → Type 0
   KeepsOwn part lanes value = (j : ℕ) (y : Standing T) (z : T) → get_elem? lanes j ≡ some y → y.own ≡ z ∷ [] → part y.number value ≡ part y.number z
 
+  -- what each lane has seen last comes before the value
+  abbrev pub ComesLast : (T → T → Type 0) → List (Standing T) → T → Type 0
+  ComesLast before lanes value = (j : ℕ) (y : Standing T) (x : T) → get_elem? lanes j ≡ some y → EndsIn y.seen x → before x value
+
   -- a lane of this lock with no ticket and no guard in hand
   abbrev pub IsIdle : TableId → Standing T → Type 0
   IsIdle id x = (x.lock ≡ id) × (x.tickets ≡ []) × (x.inside ≡ [])
