@@ -1,5 +1,6 @@
 -- What the passes of a new board know.
-use Rattle.std.proofs.Common.{inl, inr, ◌≡◌, ℕ, zero, suc, ◌+◌, ◌<◌, ◌≤◌, true, List, [], ◌∷◌, ◌++◌, Some, length, slice_get, refl, sym, ap, ◌∙◌, subst, arith}
+use Rattle.std.specs.Prelude.{Result, IfOk, map}
+use Rattle.std.proofs.Common.{inl, inr, Ok, Err, ◌≡◌, ℕ, zero, suc, ◌+◌, ◌<◌, ◌≤◌, true, List, [], ◌∷◌, ◌++◌, Some, length, slice_get, refl, sym, ap, ◌∙◌, subst, arith}
 use Rattle.atomic_table.specs.Seated.{TableId}
 use Rattle.ticket_lock.specs.Lanes.{Standing, fresh_lane, fresh_lanes}
 use Rattle.post_ledger.specs.declared.entry.Entry.{Entry}
@@ -87,3 +88,12 @@ module _ {M W : Type 0} where
       not_by = λ e. refl;
       knows = λ e. cc;
     }
+
+-- what holds of a value that was given
+pub on_ok : {X E : Type 0} (r : Result X E) (P Q : X → Type 0) → ((x : X) → P x → Q x) → IfOk r P → IfOk r Q
+on_ok (Ok x) P Q f h = f x h
+on_ok (Err e) P Q f h = h
+
+pub map_same : {X : Type 0} (l : List X) → map (λ x. x) l ≡ l
+map_same [] = refl
+map_same (x ∷ xs) = ap (λ r. x ∷ r) (map_same xs)

@@ -4,6 +4,7 @@ ghost use Rattle.post_ledger.specs.Orders.{HasJob};
 ghost use Rattle.switchboard.specs.Sights.{opened, fresh_sights};
 ghost use Rattle.switchboard.specs.Promises.{WasSpent, WasPosted, WasRefused, Took, WasDone, MadeAbort, Learned, AreAll, Settles};
 
+use crate::board::Board;
 use crate::book::Book;
 use crate::calls::{Cause, Job, PostFault, Taken};
 use crate::lanes::Lanes;
@@ -13,7 +14,7 @@ use post_ledger::Ledger;
 use std::alloc::{AllocError, Allocator};
 use std::snapshot::Snapshot;
 use std::sync::Wait;
-use ticket_lock::{Spent, TicketLock};
+use ticket_lock::{MOST_TICKETS, Spent, TicketLock};
 
 /// All mailboxes, the counts and the abort behind one ticket lock.
 #[derive(Drop)]
@@ -187,5 +188,89 @@ impl<M: Mail<World = W>, W, A: Allocator> OneLock<M, W, A> {
             passes: passes.into_iter(),
         });
         book.into_ledger()
+    }
+}
+
+impl<M: Mail<World = W>, W, A: Allocator + Clone> Board<M, A> for OneLock<M, W, A> {
+    type Pass = OnePass<M, W, A>;
+
+    type Told = OneTold<M, W, A>;
+
+    ghost identity = { λ b. b.lock.id };
+
+    ghost mailboxes = { λ b. b.lock.lanes };
+
+    ghost sight = { λ p. p };
+
+    ghost account = { λ t. t };
+
+    fn open(
+        alloc: A,
+        world: &W,
+        boxes: u8,
+        to: u8,
+        first: M,
+    ) -> Result<(Self, Vec<OnePass<M, W, A>, A>), AllocError> {
+        OneLock::open_with_budget(alloc, world, boxes, to, first, MOST_TICKETS)
+    }
+
+    fn open_with_budget(
+        alloc: A,
+        world: &W,
+        boxes: u8,
+        to: u8,
+        first: M,
+        budget: u64,
+    ) -> Result<(Self, Vec<OnePass<M, W, A>, A>), AllocError> {
+        OneLock::open_with_budget(alloc, world, boxes, to, first, budget)
+    }
+
+    fn post<R: Wait>(
+        &self,
+        rt: &R,
+        pass: &mut OnePass<M, W, A>,
+        job: &Job,
+        to: u8,
+        message: M,
+    ) -> Result<(), PostFault<M>> {
+        OneLock::post(self, rt, pass, job, to, message)
+    }
+
+    fn take<R: Wait>(&self, rt: &R, pass: &mut OnePass<M, W, A>) -> Result<Taken<M>, Spent> {
+        OneLock::take(self, rt, pass)
+    }
+
+    fn done<R: Wait>(
+        &self,
+        rt: &R,
+        pass: &mut OnePass<M, W, A>,
+        job: Job,
+    ) -> Result<(), (Job, Spent)> {
+        OneLock::done(self, rt, pass, job)
+    }
+
+    fn abort<R: Wait>(
+        &self,
+        rt: &R,
+        pass: &mut OnePass<M, W, A>,
+        job: Option<Job>,
+        cause: Cause,
+    ) {
+        OneLock::abort(self, rt, pass, job, cause)
+    }
+
+    fn tell(&self, pass: &mut OnePass<M, W, A>) -> OneTold<M, W, A> {
+        OneLock::tell(self, pass)
+    }
+
+    fn learn(&self, pass: &mut OnePass<M, W, A>, told: OneTold<M, W, A>) {
+        OneLock::learn(self, pass, told)
+    }
+
+    fn into_ledger(self, passes: Vec<OnePass<M, W, A>, A>) -> Ledger<M, A>
+        requires { AreAll self.lock.id self.lock.lanes passes.items }
+        ensures { Settles M.fits self.lock.lanes passes.items result.histories.items result.closed }
+    {
+        OneLock::into_ledger(self, passes)
     }
 }
