@@ -1,6 +1,6 @@
 -- What a pass knows after it was told what another had seen.
-use Rattle.std.proofs.Common.{◌≡◌, ◌⊎◌, inl, inr, ℕ, ◌<◌, ◌≤◌, Bool, true, false, not, List, [], Some, None, length, refl, sym, ap, ◌∙◌, subst, arith}
-use Rattle.std.specs.Prelude.{Option, IsSome}
+use Rattle.std.proofs.Common.{◌≡◌, ◌⊎◌, inl, inr, ℕ, ◌<◌, Bool, true, false, not, List, [], Some, None, length, refl, sym, ap, ◌∙◌, subst, arith}
+use Rattle.std.specs.Prelude.{Option}
 use Rattle.std.proofs.Common.{lt_of_not-le}
 use native.Mathlib.Decide.{dec_le}
 use Rattle.ticket_lock.specs.Lanes.{Standing, Told}
@@ -13,7 +13,7 @@ use Rattle.post_ledger.specs.Orders.{own}
 use Rattle.post_ledger.proofs.Orders.{own-append}
 use Rattle.switchboard.specs.declared.calls.Abort.{Abort}
 use Rattle.switchboard.specs.Sights.{State, Before, IsSound}
-use Rattle.switchboard.specs.Promises.{GoesOn, MadeNone, Learned}
+use Rattle.switchboard.specs.Promises.{Learned}
 use Rattle.switchboard.specs.Passes.{is_by, calls_of, share, account_of, Comes, IsPass}
 use Rattle.switchboard.proofs.Visits.{latest_is, showing, some_later}
 

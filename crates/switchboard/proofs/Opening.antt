@@ -1,13 +1,12 @@
 -- What the passes of a new board know.
 use Rattle.std.specs.Prelude.{Result, IfOk, map}
-use Rattle.std.proofs.Common.{inl, inr, Ok, Err, ◌≡◌, ℕ, zero, suc, ◌+◌, ◌<◌, ◌≤◌, true, List, [], ◌∷◌, ◌++◌, Some, length, slice_get, refl, sym, ap, ◌∙◌, subst, arith}
+use Rattle.std.proofs.Common.{inl, inr, Ok, Err, ◌≡◌, ℕ, zero, suc, ◌+◌, ◌<◌, ◌≤◌, true, List, [], ◌∷◌, ◌++◌, length, refl, sym, ap, ◌∙◌, subst, arith}
 use Rattle.atomic_table.specs.Seated.{TableId}
 use Rattle.ticket_lock.specs.Lanes.{Standing, fresh_lane, fresh_lanes}
-use Rattle.post_ledger.specs.declared.entry.Entry.{Entry}
 use Rattle.post_ledger.specs.declared.entry.Entry.TheVariants.{Posted}
 use Rattle.post_ledger.proofs.Histories.{at_push_cases}
 use Rattle.post_ledger.proofs.Orders.{lawful_open}
-use Rattle.switchboard.specs.Sights.{State, Sight, IsSound, opened, fresh_sight, fresh_sights}
+use Rattle.switchboard.specs.Sights.{State, IsSound, opened, fresh_sight, fresh_sights}
 use Rattle.switchboard.specs.Passes.{IsPass, sight_of}
 
 -- the lane behind some of the new ones is the next

@@ -1,25 +1,23 @@
 -- What the passes of a board know together at its end.
-use Rattle.std.proofs.Common.{◌≡◌, ℕ, zero, suc, ◌+◌, ◌<◌, ◌≤◌, Bool, true, false, not, List, [], ◌∷◌, ◌++◌, Some, None, length, slice_get, refl, sym, ap, ◌∙◌, subst, arith, All, append_assoc, eq-eqb, IsTrue}
+use Rattle.std.proofs.Common.{◌≡◌, ℕ, zero, suc, ◌<◌, Bool, true, false, not, List, [], ◌∷◌, ◌++◌, Some, length, slice_get, refl, sym, ap, ◌∙◌, subst, arith, All, eq-eqb, IsTrue}
 use Rattle.std.specs.Prelude.{◌↔◌, Option}
 use Rattle.std.proofs.lemmas.List.{append-nil}
 use Rattle.std.specs.Iterator.{Yields, Drains, HoldsAlong}
-use Rattle.std.specs.Vec.Iter.{into_iter_items, into_iter_len}
+use Rattle.std.specs.Vec.Iter.{into_iter_items}
 use Rattle.std.specs.declared.vec.IntoIter.{IntoIter}
 use mathlib.Core.Option.{some}
 use lib.ListN.{get_elem?}
 use Rattle.atomic_table.specs.Seated.{TableId}
 use Rattle.ticket_lock.specs.Lanes.{Standing}
-use Rattle.ticket_lock.specs.History.{StartsWith}
 use Rattle.ticket_lock.specs.Promises.{IsIdle, KeepsOwn, ComesLast}
 use Rattle.post_ledger.specs.declared.event.Event.{Event}
 use Rattle.post_ledger.specs.declared.entry.Entry.{Entry}
 use Rattle.post_ledger.specs.Orders.{own, IsLawful, IsClosed}
 use Rattle.post_ledger.proofs.Orders.{nothing_follows, element_at}
-use Rattle.switchboard.specs.declared.calls.Abort.{Abort}
 use Rattle.switchboard.specs.Sights.{State, Sight, Before, IsSound}
 use Rattle.switchboard.specs.Books.{AreParts}
 use Rattle.switchboard.specs.Promises.{AreAll, Settles}
-use Rattle.switchboard.specs.Passes.{is_by, share, sight_of, Comes, IsPass}
+use Rattle.switchboard.specs.Passes.{is_by, share, Comes, IsPass}
 use Rattle.switchboard.specs.Unwraps.{IsLaneOf, Unwraps}
 use Rattle.switchboard.proofs.Visits.{showing, shows}
 

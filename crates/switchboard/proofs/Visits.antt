@@ -1,19 +1,17 @@
 -- What a pass knows after it was inside once.
-use Rattle.std.proofs.Common.{◌≡◌, ◌≢◌, ◌⊎◌, inl, inr, ℕ, zero, suc, ◌+◌, ◌-◌, ◌<◌, Bool, true, false, not, List, [], ◌∷◌, ◌++◌, Some, None, Ok, Err, length, take, slice_get, Contains, refl, sym, ap, ◌∙◌, subst, arith, IfErr, OnOk, MatchResult, ne_eqb, eq-eqb}
+use Rattle.std.proofs.Common.{◌≡◌, ◌≢◌, inl, inr, ℕ, zero, suc, ◌+◌, ◌-◌, ◌<◌, Bool, true, false, not, List, [], ◌∷◌, ◌++◌, Some, None, Ok, Err, length, slice_get, Contains, refl, sym, ap, ◌∙◌, subst, arith, IfErr, OnOk, MatchResult, ne_eqb}
 use Rattle.std.specs.Prelude.{Option, Result, IsSome}
 use Rattle.std.proofs.lemmas.List.{append-nil}
 use Rattle.std.proofs.lemmas.Bool.{cases_eq}
 use Rattle.ticket_lock.specs.Lanes.{Standing, Held}
-use Rattle.ticket_lock.specs.History.{StartsWith, EndsIn}
+use Rattle.ticket_lock.specs.History.{EndsIn}
 use Rattle.ticket_lock.specs.Promises.{Entered, MayLeave, Left}
-use Rattle.ticket_lock.specs.Facts.{rises_last, EndsIn-same, StartsWith-refl, StartsWith-more}
-use Rattle.ticket_lock.specs.declared.lane.Spent.{Spent}
-use Rattle.post_ledger.specs.declared.event.Event.{Event}
+use Rattle.ticket_lock.specs.Facts.{rises_last, EndsIn-same, StartsWith-refl}
 use Rattle.post_ledger.specs.declared.event.Event.TheVariants as event
 use Rattle.post_ledger.specs.declared.entry.Entry.{Entry}
 use Rattle.post_ledger.specs.declared.entry.Entry.TheVariants as entry
 use Rattle.post_ledger.specs.History.{posts, takes, dones, MayFollow}
-use Rattle.post_ledger.specs.Orders.{mailbox_of, event_of, maker_of, part, own, HasJob, IsLawful, IsClosed}
+use Rattle.post_ledger.specs.Orders.{mailbox_of, event_of, maker_of, part, own, HasJob}
 use Rattle.post_ledger.proofs.Histories.{at_push_cases}
 use Rattle.post_ledger.proofs.Orders.{UnderJob, lawful_push, part-append, part_here, part_else, own-append, own_here, own_else, job_inside}
 use Rattle.switchboard.specs.declared.calls.Abort.{Abort}
@@ -23,7 +21,7 @@ use Rattle.switchboard.specs.declared.calls.Taken.{Taken}
 use Rattle.switchboard.specs.declared.calls.Taken.TheVariants as answer
 use Rattle.switchboard.specs.Sights.{State, Sight, Before, IsSound, abort_of}
 use Rattle.switchboard.specs.Books.{with_entry, Takes, Answers, Refuses}
-use Rattle.switchboard.specs.Promises.{GoesOn, MadeNone, Looked, Added, WasSpent, WasPosted, WasRefused, TookMessage, Took, MadeAbort}
+use Rattle.switchboard.specs.Promises.{GoesOn, Looked, Added, WasPosted, WasRefused, Took, MadeAbort}
 use Rattle.switchboard.specs.Passes.{is_by, latest, calls_of, share, sight_of, Comes, IsPass}
 use Rattle.switchboard.specs.Laws.{before_refl, before_trans}
 

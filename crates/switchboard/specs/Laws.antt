@@ -1,7 +1,7 @@
 -- The law of the states that a lock keeps for a board.
-use Rattle.std.proofs.Common.{◌≡◌, ℕ, Some, refl, ◌∙◌}
+use Rattle.std.proofs.Common.{ℕ, refl, ◌∙◌}
 use Rattle.ticket_lock.specs.Facts.{StartsWith-refl, StartsWith-trans}
-use Rattle.switchboard.specs.Sights.{State, Before, IsSound}
+use Rattle.switchboard.specs.Sights.{State, Before}
 use Rattle.switchboard.specs.Passes.{Comes}
 
 module _ {M W : Type 0} where

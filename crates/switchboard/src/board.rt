@@ -4,18 +4,17 @@ ghost use Rattle.std.specs.Option.{ForSome};
 ghost use Rattle.atomic_table.specs.Seated.{TableId};
 ghost use Rattle.post_ledger.specs.Orders.{HasJob};
 ghost use Rattle.switchboard.specs.Sights.{Sight, Account, opened, fresh_sights};
-ghost use Rattle.switchboard.specs.Promises.{WasSpent, WasPosted, WasRefused, Took, WasDone, MadeAbort, Learned, AreAll, Settles};
+ghost use Rattle.switchboard.specs.Promises.{WasSpent, WasPosted, WasRefused, Took, WasDone, MadeAbort, Learned};
 
 use crate::calls::{Cause, Job, PostFault, Taken};
 use crate::mail::Mail;
-use post_ledger::Ledger;
 use std::alloc::{AllocError, Allocator};
 use std::sync::Wait;
 use ticket_lock::Spent;
 
 /// Mailboxes with a pass each, numbered alike: pass i alone takes from mailbox i, and is the sender of what it posts. Every call stands at one
 /// order of the board's events, of which its pass has seen a beginning.
-pub trait Board<M: Mail, A: Allocator + Clone>: Sized {
+pub trait Board<M: Mail, A: Allocator>: Sized {
     /// What one thread at a time works with.
     type Pass;
 
@@ -38,6 +37,8 @@ pub trait Board<M: Mail, A: Allocator + Clone>: Sized {
         to: u8,
         first: M,
     ) -> Result<(Self, Vec<Self::Pass, A>), AllocError>
+    where
+        A: Clone,
         requires boxes { (to < boxes) × (boxes ≤ 64) }
         requires fits { M.fits world.now to first }
         ensures { IfOk result (λ r. (mailboxes r.0 ≡ boxes) × (map sight r.1.items ≡ fresh_sights (identity r.0) (2 ^ 56) (opened world.now boxes to first) 0 boxes)) };
@@ -51,6 +52,8 @@ pub trait Board<M: Mail, A: Allocator + Clone>: Sized {
         first: M,
         budget: u64,
     ) -> Result<(Self, Vec<Self::Pass, A>), AllocError>
+    where
+        A: Clone,
         requires boxes { (to < boxes) × (boxes ≤ 64) }
         requires budget { (2 ≤ budget) × (budget ≤ 2 ^ 56) }
         requires fits { M.fits world.now to first }
@@ -97,9 +100,4 @@ pub trait Board<M: Mail, A: Allocator + Clone>: Sized {
     fn learn(&self, pass: &mut Self::Pass, told: Self::Told)
         requires { ((sight pass.old).board ≡ identity self.now) × ((account told).board ≡ identity self.now) }
         ensures { Learned M.fits (account told) (sight pass.old) (sight pass.new) };
-
-    /// The end of the board, which takes all its passes.
-    fn into_ledger(self, passes: Vec<Self::Pass, A>) -> Ledger<M, A>
-        requires { AreAll (identity self) (mailboxes self) (map sight passes.items) }
-        ensures { Settles M.fits (mailboxes self) (map sight passes.items) result.histories.items result.closed };
 }

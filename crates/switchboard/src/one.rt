@@ -18,8 +18,8 @@ use ticket_lock::{MOST_TICKETS, Spent, TicketLock};
 
 /// All mailboxes, the counts and the abort behind one ticket lock.
 #[derive(Drop)]
-pub struct OneLock<M: Mail<World = W>, W, A: Allocator> {
-    lock: TicketLock<Book<M, W, A>, A>,
+pub struct OneLock<M: Mail, A: Allocator> {
+    lock: TicketLock<Book<M, M::World, A>, A>,
 }
 
 impl<M: Mail<World = W>, W, A: Allocator> OnePass<M, W, A> {
@@ -41,15 +41,15 @@ impl<M: Mail<World = W>, W, A: Allocator> OnePass<M, W, A> {
     }
 }
 
-impl<M: Mail<World = W>, W, A: Allocator> OneLock<M, W, A> {
+impl<M: Mail, A: Allocator> OneLock<M, A> {
     fn open_with_budget(
         alloc: A,
-        world: &W,
+        world: &M::World,
         boxes: u8,
         to: u8,
         first: M,
         budget: u64,
-    ) -> Result<(Self, Vec<OnePass<M, W, A>, A>), AllocError>
+    ) -> Result<(Self, Vec<OnePass<M, M::World, A>, A>), AllocError>
     where
         A: Clone,
         requires boxes { (to < boxes) × (boxes ≤ 64) }
@@ -76,7 +76,7 @@ impl<M: Mail<World = W>, W, A: Allocator> OneLock<M, W, A> {
     fn post<R: Wait>(
         &self,
         rt: &R,
-        pass: &mut OnePass<M, W, A>,
+        pass: &mut OnePass<M, M::World, A>,
         job: &Job,
         to: u8,
         message: M,
@@ -98,7 +98,7 @@ impl<M: Mail<World = W>, W, A: Allocator> OneLock<M, W, A> {
         answer
     }
 
-    fn take<R: Wait>(&self, rt: &R, pass: &mut OnePass<M, W, A>) -> Result<Taken<M>, Spent>
+    fn take<R: Wait>(&self, rt: &R, pass: &mut OnePass<M, M::World, A>) -> Result<Taken<M>, Spent>
         requires { pass.old.board ≡ self.now.lock.id }
         ensures { Took M.fits result pass.old pass.new }
     {
@@ -117,7 +117,7 @@ impl<M: Mail<World = W>, W, A: Allocator> OneLock<M, W, A> {
     fn done<R: Wait>(
         &self,
         rt: &R,
-        pass: &mut OnePass<M, W, A>,
+        pass: &mut OnePass<M, M::World, A>,
         job: Job,
     ) -> Result<(), (Job, Spent)>
         requires board { pass.old.board ≡ self.now.lock.id }
@@ -139,7 +139,7 @@ impl<M: Mail<World = W>, W, A: Allocator> OneLock<M, W, A> {
     fn abort<R: Wait>(
         &self,
         rt: &R,
-        pass: &mut OnePass<M, W, A>,
+        pass: &mut OnePass<M, M::World, A>,
         job: Option<Job>,
         cause: Cause,
     )
@@ -161,7 +161,7 @@ impl<M: Mail<World = W>, W, A: Allocator> OneLock<M, W, A> {
         self.lock.leave(&mut pass.lane, guard);
     }
 
-    fn tell(&self, pass: &mut OnePass<M, W, A>) -> OneTold<M, W, A>
+    fn tell(&self, pass: &mut OnePass<M, M::World, A>) -> OneTold<M, M::World, A>
         requires { pass.old.board ≡ self.now.lock.id }
         ensures same { pass.new ≡ pass.old }
         ensures told { result ≡ record { board = pass.old.board; order = pass.old.seen.order; aborted = pass.old.seen.aborted } }
@@ -171,7 +171,7 @@ impl<M: Mail<World = W>, W, A: Allocator> OneLock<M, W, A> {
         }
     }
 
-    fn learn(&self, pass: &mut OnePass<M, W, A>, told: OneTold<M, W, A>)
+    fn learn(&self, pass: &mut OnePass<M, M::World, A>, told: OneTold<M, M::World, A>)
         requires { (pass.old.board ≡ self.now.lock.id) × (told.board ≡ self.now.lock.id) }
         ensures { Learned M.fits told pass.old pass.new }
     {
@@ -179,7 +179,8 @@ impl<M: Mail<World = W>, W, A: Allocator> OneLock<M, W, A> {
         self.lock.learn(&mut pass.lane, note);
     }
 
-    fn into_ledger(self, passes: Vec<OnePass<M, W, A>, A>) -> Ledger<M, A>
+    /// What is left of the board, which takes all its passes in the order of their numbers. Takes no memory.
+    pub fn into_ledger(self, passes: Vec<OnePass<M, M::World, A>, A>) -> Ledger<M, A>
         requires { AreAll self.lock.id self.lock.lanes passes.items }
         ensures { Settles M.fits self.lock.lanes passes.items result.histories.items result.closed }
     {
@@ -191,10 +192,10 @@ impl<M: Mail<World = W>, W, A: Allocator> OneLock<M, W, A> {
     }
 }
 
-impl<M: Mail<World = W>, W, A: Allocator + Clone> Board<M, A> for OneLock<M, W, A> {
-    type Pass = OnePass<M, W, A>;
+impl<M: Mail, A: Allocator> Board<M, A> for OneLock<M, A> {
+    type Pass = OnePass<M, M::World, A>;
 
-    type Told = OneTold<M, W, A>;
+    type Told = OneTold<M, M::World, A>;
 
     ghost identity = { λ b. b.lock.id };
 
@@ -206,29 +207,35 @@ impl<M: Mail<World = W>, W, A: Allocator + Clone> Board<M, A> for OneLock<M, W, 
 
     fn open(
         alloc: A,
-        world: &W,
+        world: &M::World,
         boxes: u8,
         to: u8,
         first: M,
-    ) -> Result<(Self, Vec<OnePass<M, W, A>, A>), AllocError> {
+    ) -> Result<(Self, Vec<OnePass<M, M::World, A>, A>), AllocError>
+    where
+        A: Clone,
+    {
         OneLock::open_with_budget(alloc, world, boxes, to, first, MOST_TICKETS)
     }
 
     fn open_with_budget(
         alloc: A,
-        world: &W,
+        world: &M::World,
         boxes: u8,
         to: u8,
         first: M,
         budget: u64,
-    ) -> Result<(Self, Vec<OnePass<M, W, A>, A>), AllocError> {
+    ) -> Result<(Self, Vec<OnePass<M, M::World, A>, A>), AllocError>
+    where
+        A: Clone,
+    {
         OneLock::open_with_budget(alloc, world, boxes, to, first, budget)
     }
 
     fn post<R: Wait>(
         &self,
         rt: &R,
-        pass: &mut OnePass<M, W, A>,
+        pass: &mut OnePass<M, M::World, A>,
         job: &Job,
         to: u8,
         message: M,
@@ -236,14 +243,14 @@ impl<M: Mail<World = W>, W, A: Allocator + Clone> Board<M, A> for OneLock<M, W, 
         OneLock::post(self, rt, pass, job, to, message)
     }
 
-    fn take<R: Wait>(&self, rt: &R, pass: &mut OnePass<M, W, A>) -> Result<Taken<M>, Spent> {
+    fn take<R: Wait>(&self, rt: &R, pass: &mut OnePass<M, M::World, A>) -> Result<Taken<M>, Spent> {
         OneLock::take(self, rt, pass)
     }
 
     fn done<R: Wait>(
         &self,
         rt: &R,
-        pass: &mut OnePass<M, W, A>,
+        pass: &mut OnePass<M, M::World, A>,
         job: Job,
     ) -> Result<(), (Job, Spent)> {
         OneLock::done(self, rt, pass, job)
@@ -252,25 +259,18 @@ impl<M: Mail<World = W>, W, A: Allocator + Clone> Board<M, A> for OneLock<M, W, 
     fn abort<R: Wait>(
         &self,
         rt: &R,
-        pass: &mut OnePass<M, W, A>,
+        pass: &mut OnePass<M, M::World, A>,
         job: Option<Job>,
         cause: Cause,
     ) {
         OneLock::abort(self, rt, pass, job, cause)
     }
 
-    fn tell(&self, pass: &mut OnePass<M, W, A>) -> OneTold<M, W, A> {
+    fn tell(&self, pass: &mut OnePass<M, M::World, A>) -> OneTold<M, M::World, A> {
         OneLock::tell(self, pass)
     }
 
-    fn learn(&self, pass: &mut OnePass<M, W, A>, told: OneTold<M, W, A>) {
+    fn learn(&self, pass: &mut OnePass<M, M::World, A>, told: OneTold<M, M::World, A>) {
         OneLock::learn(self, pass, told)
-    }
-
-    fn into_ledger(self, passes: Vec<OnePass<M, W, A>, A>) -> Ledger<M, A>
-        requires { AreAll self.lock.id self.lock.lanes passes.items }
-        ensures { Settles M.fits self.lock.lanes passes.items result.histories.items result.closed }
-    {
-        OneLock::into_ledger(self, passes)
     }
 }

@@ -1,11 +1,10 @@
 -- The pass's job is one of the state that it finds.
-use Rattle.std.proofs.Common.{◌≡◌, ◌<◌, refl, sym, ap, ◌∙◌, subst, arith, OnOk, IfErr, None}
-use Rattle.post_ledger.specs.declared.entry.Entry.TheVariants.{Posted, Taken, Completed}
+use Rattle.std.proofs.Common.{refl, sym, ap, ◌∙◌, subst}
+use Rattle.post_ledger.specs.declared.entry.Entry.TheVariants.{Completed}
 use Rattle.post_ledger.specs.Orders.{HasJob}
-use Rattle.switchboard.specs.Books.{with_entry, Answers, Refuses}
-use Rattle.switchboard.specs.Sights.{abort_of}
+use Rattle.switchboard.specs.Books.{with_entry}
 use Rattle.switchboard.specs.Passes.{sight_of}
-use Rattle.switchboard.specs.Promises.{Added, Took, MadeAbort}
+use Rattle.switchboard.specs.Promises.{Added}
 use Rattle.switchboard.proofs.Visits.{found_here, shows, job_found, job_allowed, step_keeps, adds, may_leave, visit_is, some_calls, pass_stays, added_is, after_shows, showing, moved}
 use Rattle.switchboard.proofs.one.OneLock.done.Goals as goal
 

@@ -1,6 +1,5 @@
 -- The passes' lanes are all lanes of the lock.
-use Rattle.std.proofs.Common.{◌≡◌, ◌<◌, length, sym, subst, arith}
-use Rattle.std.specs.Vec.Iter.{into_iter_items}
+use Rattle.std.proofs.Common.{◌<◌, sym, subst, arith}
 use Rattle.ticket_lock.specs.Facts.{at_inside}
 use Rattle.switchboard.specs.declared.lanes.Lanes.{Lanes}
 use Rattle.switchboard.specs.Promises.{AreAll}

@@ -1,5 +1,5 @@
 -- What the pass has seen last then is what one of the two had.
-use Rattle.std.proofs.Common.{◌≡◌, ◌∷◌, [], length, length-append, sym, ap, ◌∙◌, subst, arith}
+use Rattle.std.proofs.Common.{◌∷◌, [], length, length-append, sym, ap, ◌∙◌, subst, arith}
 use Rattle.ticket_lock.specs.Facts.{EndsIn-some, StartsWith-length}
 use Rattle.switchboard.specs.Passes.{sight_of}
 use Rattle.switchboard.specs.Promises.{Learned}

@@ -1,10 +1,9 @@
 -- The lane that comes is the next new one.
-use Rattle.std.proofs.Common.{◌≡◌, ◌≤◌, ◌<◌, ◌+◌, ◌∷◌, ◌++◌, [], true, length, suc, sym, ap, ◌∙◌, subst, arith, append_assoc, length-append, add-one}
-use Rattle.std.proofs.lemmas.List.{append-nil, length_push}
+use Rattle.std.proofs.Common.{◌≡◌, ◌+◌, ◌∷◌, ◌++◌, [], true, length, suc, sym, ap, ◌∙◌, subst, arith, append_assoc, length-append}
+use Rattle.std.proofs.lemmas.List.{length_push}
 use Rattle.std.specs.Vec.Iter.{into_iter_items}
-use Rattle.ticket_lock.specs.Lanes.{fresh_lane, fresh_lanes}
-use Rattle.switchboard.specs.Sights.{opened, fresh_sight, fresh_sights}
-use Rattle.switchboard.specs.Passes.{IsPass, sight_of}
+use Rattle.switchboard.specs.Sights.{fresh_sights}
+use Rattle.switchboard.specs.Passes.{IsPass}
 use Rattle.switchboard.proofs.Opening.{fresh_at, fresh_count, sights_push, sights_count, sight_fresh, pass_fresh}
 use Rattle.switchboard.proofs.one.OneLock.open_with_budget.Goals as goal
 

@@ -1,11 +1,9 @@
 -- The message is posted under a job of the state that the pass finds, or nothing changes.
-use Rattle.std.proofs.Common.{◌≡◌, ◌<◌, true, false, refl, sym, ap, ◌∙◌, subst, arith, OnOk, IfErr, None}
-use Rattle.post_ledger.specs.declared.entry.Entry.TheVariants.{Posted, Taken, Completed}
+use Rattle.std.proofs.Common.{◌≡◌, ◌<◌, refl, sym, ap, ◌∙◌, subst, arith, OnOk, IfErr, None}
+use Rattle.post_ledger.specs.declared.entry.Entry.TheVariants.{Posted}
 use Rattle.post_ledger.specs.Orders.{HasJob}
-use Rattle.switchboard.specs.Books.{with_entry, Answers, Refuses}
-use Rattle.switchboard.specs.Sights.{abort_of}
+use Rattle.switchboard.specs.Books.{with_entry, Refuses}
 use Rattle.switchboard.specs.Passes.{sight_of}
-use Rattle.switchboard.specs.Promises.{Added, Took, MadeAbort}
 use Rattle.switchboard.proofs.Visits.{found_here, shows, job_found, post_allowed, post_step, post_still, posted_is, PostAnswer, step_keeps, may_leave, visit_is, some_calls, pass_stays, after_shows, showing, moved}
 use Rattle.switchboard.proofs.one.OneLock.post.Goals as goal
 

@@ -1,11 +1,8 @@
 -- The pass answers what the state that it finds has for it.
-use Rattle.std.proofs.Common.{◌≡◌, ◌<◌, true, false, refl, sym, ap, ◌∙◌, subst, arith, OnOk, IfErr, None}
-use Rattle.post_ledger.specs.declared.entry.Entry.TheVariants.{Posted, Taken, Completed}
-use Rattle.post_ledger.specs.Orders.{HasJob}
-use Rattle.switchboard.specs.Books.{with_entry, Answers, Refuses}
-use Rattle.switchboard.specs.Sights.{abort_of}
+use Rattle.std.proofs.Common.{◌<◌, sym, ap, ◌∙◌, subst, arith}
+use Rattle.switchboard.specs.Books.{Answers}
 use Rattle.switchboard.specs.Passes.{sight_of}
-use Rattle.switchboard.specs.Promises.{Added, Took, MadeAbort}
+use Rattle.switchboard.specs.Promises.{Took}
 use Rattle.switchboard.proofs.Visits.{found_here, shows, take_step, take_still, took_is, step_keeps, may_leave, visit_is, some_calls, pass_stays, after_shows, showing, moved}
 use Rattle.std.proofs.Common.{Ok}
 use Rattle.switchboard.proofs.one.OneLock.take.Goals as goal
