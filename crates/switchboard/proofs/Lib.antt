@@ -3,3 +3,4 @@ pub mod Visits
 pub mod Learning
 pub mod Settling
 pub mod Opening
+pub mod Jobs

@@ -8,6 +8,8 @@ mod lanes;
 mod mail;
 mod one;
 mod pass;
+#[cfg(test)]
+mod tests;
 
 pub use board::Board;
 pub use book::Book;
