@@ -15,7 +15,11 @@ use Rattle.post_ledger.specs.Orders.{part, own, HasJob}
 use Rattle.post_ledger.proofs.Histories.{takes-append, dones-append}
 use Rattle.post_ledger.proofs.Orders.{part-append, part_here, part_else, sizes_of}
 use Rattle.switchboard.specs.Sights.{State, Sight}
-use Rattle.switchboard.specs.Promises.{MadeNone, Added, TookMessage}
+use Rattle.std.proofs.Common.{Ok, Err, MatchResult}
+use Rattle.std.specs.Prelude.{Result}
+use Rattle.switchboard.specs.declared.calls.PostFault.{PostFault}
+use Rattle.switchboard.specs.declared.calls.PostFault.TheVariants as fault
+use Rattle.switchboard.specs.Promises.{MadeNone, Added, TookMessage, WasPosted, WasRefused}
 use Rattle.switchboard.proofs.Visits.{job_stays, takes_own, dones_own}
 
 get_front : {X : Type 0} (a b : List X) (i : ℕ) (x : X) → slice_get a i ≡ Some x → slice_get (a ++ b) i ≡ Some x
@@ -75,3 +79,20 @@ module _ {M W : Type 0} (fits : W → ℕ → M → Type 0) where
         omega (arith, count, k.number),
         (λ there. let early = z.earlier job (list_any-from_Contains nat_eq_equiv job (dones (part n front)) (subst (λ l. Contains l job) names there)) in omega (arith, early, k.number)),
       )
+
+  -- a post, made or refused, leaves the jobs
+  pub post_keeps : (s t : Sight M W) (job to : ℕ) (m : M) (r : Result (Unit {0}) (PostFault M)) → MatchResult r (λ _. WasPosted fits job to m s t) (λ f. WasRefused fits m f s t) → (j : ℕ) → HasJob s.number j s.seen.order → HasJob t.number j t.seen.order
+  post_keeps s t job to m (Ok u) p j has = kept_added s t j (Posted to s.number m job) p.0 (no_done_post s.number to s.number m job) has
+  post_keeps s t job to m (Err (fault.Spent back)) p j has = subst (λ (z : Sight M W). HasJob z.number j z.seen.order) (sym p.1.1) has
+  post_keeps s t job to m (Err (fault.Memory back)) p j has = kept_none s t j p.1.0 has
+  post_keeps s t job to m (Err (fault.Aborted back)) p j has = kept_none s t j p.1.0 has
+
+  pub post_same : (s t : Sight M W) (job to : ℕ) (m : M) (r : Result (Unit {0}) (PostFault M)) → MatchResult r (λ _. WasPosted fits job to m s t) (λ f. WasRefused fits m f s t) → (t.board ≡ s.board) × (t.seen.boxes ≡ s.seen.boxes)
+  post_same s t job to m (Ok u) p = (p.0.goes.board, p.0.goes.before.boxes)
+  post_same s t job to m (Err (fault.Spent back)) p = (ap (λ (z : Sight M W). z.board) p.1.1, ap (λ (z : Sight M W). z.seen.boxes) p.1.1)
+  post_same s t job to m (Err (fault.Memory back)) p = (p.1.0.goes.board, p.1.0.goes.before.boxes)
+  post_same s t job to m (Err (fault.Aborted back)) p = (p.1.0.goes.board, p.1.0.goes.before.boxes)
+
+-- what was given is that value
+pub given : {X : Type 0} (x y : X) → Some x ≡ Some y → x ≡ y
+given x y e = cc
