@@ -1,20 +1,19 @@
 -- Which jobs a pass has after a call, for callers of a board.
-use Rattle.std.proofs.Common.{◌≡◌, ◌≢◌, inl, inr, ℕ, zero, suc, ◌+◌, ◌<◌, true, List, [], ◌∷◌, ◌++◌, Some, length, take, slice_get, Contains, nat_eq, refl, sym, ap, ◌∙◌, subst, arith, length-append}
+use Rattle.std.proofs.Common.{◌≡◌, inl, inr, ℕ, zero, suc, ◌+◌, List, [], ◌∷◌, ◌++◌, Some, length, slice_get, Contains, refl, sym, ap, ◌∙◌, subst, arith, length-append}
 use Rattle.std.proofs.lemmas.List.{append-nil, length_push, take-append-le}
 use Rattle.std.proofs.lemmas.Option.{slice_get_within}
 use Rattle.std.proofs.lemmas.Bool.{cases_eq}
 use Rattle.std.proofs.lemmas.Map.Views.{list_any-from_Contains}
 use Rattle.std.specs.Cmp.{nat_eq_equiv}
-use Rattle.std.specs.List.{list_any}
 use Rattle.post_ledger.specs.declared.event.Event.{Event}
 use Rattle.post_ledger.specs.declared.event.Event.TheVariants as event
 use Rattle.post_ledger.specs.declared.entry.Entry.{Entry}
-use Rattle.post_ledger.specs.declared.entry.Entry.TheVariants.{Posted, Taken, Completed}
+use Rattle.post_ledger.specs.declared.entry.Entry.TheVariants.{Posted, Taken}
 use Rattle.post_ledger.specs.History.{takes, dones, IsLegal, MayFollow}
 use Rattle.post_ledger.specs.Orders.{part, own, HasJob}
 use Rattle.post_ledger.proofs.Histories.{takes-append, dones-append}
 use Rattle.post_ledger.proofs.Orders.{part-append, part_here, part_else, sizes_of}
-use Rattle.switchboard.specs.Sights.{State, Sight}
+use Rattle.switchboard.specs.Sights.{Sight}
 use Rattle.std.proofs.Common.{Ok, Err, MatchResult}
 use Rattle.std.specs.Prelude.{Result}
 use Rattle.switchboard.specs.declared.calls.PostFault.{PostFault}
