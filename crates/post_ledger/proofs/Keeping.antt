@@ -105,7 +105,7 @@ counts_grow h h' cap cap' n u t o same grown kept =
     })
 
 -- a number that is not in a list is not found there
-not_found : (xs : List ℕ) (q : ℕ) → (Contains xs q → ⊥) → list_any (nat_eq q) xs ≡ false
+pub not_found : (xs : List ℕ) (q : ℕ) → (Contains xs q → ⊥) → list_any (nat_eq q) xs ≡ false
 not_found xs q fresh = elim (cases_Bool (list_any (nat_eq q) xs)) [ inl found ↦ absurd (fresh (Contains-from_any eqb-true q xs found)) | inr none ↦ none ]
 
 false-true : false ≡ true → ⊥
@@ -120,7 +120,7 @@ found_push xs x q e =
     ]
 
 -- the numbers of completed Takes with one more
-more_earlier : (xs : List ℕ) (t q : ℕ) → ((k : ℕ) → list_any (nat_eq k) xs ≡ true → k < t) → q < t → (k : ℕ) → list_any (nat_eq k) (xs ++ q ∷ []) ≡ true → k < t
+pub more_earlier : (xs : List ℕ) (t q : ℕ) → ((k : ℕ) → list_any (nat_eq k) xs ≡ true → k < t) → q < t → (k : ℕ) → list_any (nat_eq k) (xs ++ q ∷ []) ≡ true → k < t
 more_earlier xs t q earlier old k e = elim (found_push xs q k e) [ inl found ↦ earlier k found | inr same ↦ omega (arith, same) ]
 
 -- a Take that no Done names is open

@@ -1,10 +1,19 @@
-//! Mailboxes that keep their whole history: what was posted, what was taken, and which takes are completed.
+//! Mailboxes that keep their whole history: what was posted, what was taken, and which takes are completed; and the
+//! orders of a board with several mailboxes.
 #![tactic(auto)]
 
+mod entry;
 mod event;
+mod laws;
+mod ledger;
 mod legality;
 mod mailbox;
+mod side;
 
+pub use entry::Entry;
 pub use event::Event;
+pub use laws::{a_run_of_two_mailboxes, closed_by_counting, nothing_follows_the_close};
+pub use ledger::Ledger;
 pub use legality::legal;
 pub use mailbox::Mailbox;
+pub use side::{Side, by_sender};

@@ -91,6 +91,18 @@ impl<M: Copy, A: Allocator> Mailbox<M, A> {
         ensures unchanged { IfNone result (self.new ≡ self.old) }
         ensures some { IfSome result (λ t. (t.0 ≡ length (takes self.old)) × TakesOldest self.old self.new t.1) }
     {
+        match self.take_from() {
+            None => None,
+            Some((number, _, message)) => Some((number, message)),
+        }
+    }
+
+    /// The same, with the number of the message's sender before the message.
+    pub fn take_from(&mut self) -> Option<(u64, u8, M)>
+        ensures none { IsNone result ↔ (length (posts self.old) ≡ length (takes self.old)) }
+        ensures unchanged { IfNone result (self.new ≡ self.old) }
+        ensures some { IfSome result (λ t. (t.0 ≡ length (takes self.old)) × (slice_get (posts self.old) (length (takes self.old)) ≡ Some (t.1, t.2)) × (self.new ≡ self.old ++ Event.Take t.1 t.2 ∷ [])) }
+    {
         if self.untaken == 0 {
             return None;
         }
@@ -101,7 +113,7 @@ impl<M: Copy, A: Allocator> Mailbox<M, A> {
         self.taken += 1;
         self.untaken -= 1;
         self.open += 1;
-        Some((number, message))
+        Some((number, sender, message))
     }
 
     /// Records that the take of this number is completed. Takes no memory.
@@ -127,6 +139,7 @@ impl<M: Copy, A: Allocator> Mailbox<M, A> {
 mod tests {
     use super::*;
     use crate::legality::legal;
+    use crate::side::{Side, by_sender};
     use std::test::Fail;
 
     #[test]
@@ -149,6 +162,34 @@ mod tests {
         ];
         assert_eq!(rt; mailbox.history(), history.as_slice());
         assert!(rt; legal(mailbox.history()));
+        Ok(())
+    }
+
+    #[test]
+    fn each_sender_has_its_messages_in_order(rt: HostRuntime) -> Result<(), Fail> {
+        let mut mailbox = Mailbox::new(rt.alloc());
+        assert_eq!(rt; mailbox.post(0, 5u8), Ok(()));
+        assert_eq!(rt; mailbox.post(1, 7), Ok(()));
+        assert_eq!(rt; mailbox.post(0, 6), Ok(()));
+        assert_eq!(rt; mailbox.take(), Some((0, 5)));
+        assert_eq!(rt; mailbox.take(), Some((1, 7)));
+        mailbox.done(1);
+        let post = |sender, message| Event::Post { sender, message };
+        let take = |sender, message| Event::Take { sender, message };
+        let history = [
+            post(0, 5),
+            post(1, 7),
+            post(0, 6),
+            take(0, 5),
+            take(1, 7),
+            Event::Done { take: 1 },
+        ];
+        assert_eq!(rt; mailbox.history(), history.as_slice());
+        assert!(rt; legal(mailbox.history()));
+        let posted = by_sender(rt.alloc(), mailbox.history(), 0, Side::Posts)?;
+        assert_eq!(rt; posted.as_slice(), [5, 6].as_slice());
+        let taken = by_sender(rt.alloc(), mailbox.history(), 0, Side::Takes)?;
+        assert_eq!(rt; taken.as_slice(), [5].as_slice());
         Ok(())
     }
 

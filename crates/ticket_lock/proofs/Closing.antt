@@ -1,5 +1,5 @@
 -- What the seat that closes a lock has gathered of the lanes.
-use Rattle.std.proofs.Common.{◌≡◌, ◌⊎◌, inl, inr, ℕ, suc, List, [], ◌∷◌, ◌++◌, length, refl, sym, ap, ◌∙◌, subst, arith, length-append, lt_of_not-le, Some, All}
+use Rattle.std.proofs.Common.{◌≡◌, ◌⊎◌, inl, inr, ℕ, suc, List, [], ◌∷◌, ◌++◌, length, map, refl, sym, ap, ◌∙◌, subst, arith, length-append, lt_of_not-le, Some, All}
 use mathlib.Core.Option.{some, some-injective}
 use native.Mathlib.Decide.{dec_le}
 use lib.ListN.{get_elem?}
@@ -9,11 +9,11 @@ use Rattle.atomic_table.specs.Table.{Me}
 use Rattle.atomic_table.specs.Seated.{TableId}
 use Rattle.ticket_lock.specs.declared.view.View.{View}
 use Rattle.ticket_lock.specs.Count.{times, total}
-use Rattle.ticket_lock.specs.History.{StartsWith, longer}
-use Rattle.ticket_lock.specs.Lone.{taken_in, merged, nobody, TookIn, IsWhole, Rests}
+use Rattle.ticket_lock.specs.History.{StartsWith, longer, IsRising}
+use Rattle.ticket_lock.specs.Lone.{taken_in, merged, nobody, TookIn, IsWhole, Rests, KeepsParts}
 use Rattle.ticket_lock.specs.Lanes.{Standing, standing, IsLane}
-use Rattle.ticket_lock.specs.Promises.{IsIdle, Closes}
-use Rattle.ticket_lock.specs.Facts.{total-snoc, times-append, at_snoc, at_last, at_longer, StartsWith-trans}
+use Rattle.ticket_lock.specs.Promises.{IsIdle, Closes, KeepsOwn, ComesLast}
+use Rattle.ticket_lock.specs.Facts.{total-snoc, times-append, at_snoc, at_last, at_longer, StartsWith-trans, rises_last}
 use Rattle.ticket_lock.proofs.LoneSteps.{longer_first, longer_second}
 
 module _ {S A : Type 0} (steps : S → Option A → S → Type 0) where
@@ -36,6 +36,7 @@ module _ {T : Type 0} where
     pub count : length v.hand.drawn ≡ total (λ y. length y.drawn) xs
     pub drawn : (n : ℕ) → times n v.hand.drawn ≡ total (λ y. times n y.drawn) xs
     pub seen : (j : ℕ) (y : Standing T) → get_elem? xs j ≡ some y → StartsWith v.hand.seen y.seen
+    pub own : (j : ℕ) (y : Standing T) (z : T) → get_elem? xs j ≡ some y → y.own ≡ z ∷ [] → (k : ℕ) × (get_elem? v.own k ≡ some (y.number, z))
     pub top : (v.hand.seen ≡ []) ⊎ ((j : ℕ) × (y : Standing T) × (get_elem? xs j ≡ some y) × (y.seen ≡ v.hand.seen))
 
   pub gathers_none : (v : View T) → v ≡ nobody → Gathered [] v
@@ -47,11 +48,15 @@ module _ {T : Type 0} where
     count = refl;
     drawn = λ n. refl;
     seen = λ j y e. absurd (no_item j y e);
+    own = λ j y z e _. absurd (no_item j y e);
     top = inl refl;
   }
     where
       no_item : (j : ℕ) (y : Standing T) → (let none : List (Standing T) = [] in get_elem? none j ≡ some y) → ⊥
       no_item j y e = mathlib.Core.Option.some-ne-none y (sym e)
+
+  only : (x y : T) → (let l : List T = x ∷ [] in let m : List T = y ∷ [] in l ≡ m) → x ≡ y
+  only x y e = cc
 
   pub gathers_one : (xs : List (Standing T)) (v n : View T) (y : Standing T) (id : TableId) (number left : ℕ) (me : Me (Option T) (View T)) → Gathered xs v → IsLane id number left me → standing id number left me.0 ≡ y
       → y.tickets ≡ [] → y.inside ≡ [] → n ≡ taken_in (merged v me.0) → StartsWith n.hand.seen v.hand.seen → StartsWith n.hand.seen me.0.hand.seen → Gathered (xs ++ y ∷ []) n
@@ -75,6 +80,14 @@ module _ {T : Type 0} where
           | inl t ↦ subst (λ (q : Standing T). StartsWith n.hand.seen q.seen) t.1 (subst (λ l. StartsWith n.hand.seen l) w_seen theirs)
           | inr t ↦ StartsWith-trans n.hand.seen v.hand.seen z.seen mine (g.seen j z t)
         ];
+        own = λ j x z e has. elim (at_snoc xs y x j e) [
+          | inl t ↦ (let o = lane.one in
+              let number_is : number ≡ x.number = ap (λ (q : Standing T). q.number) (is ∙ t.1) in
+              let own_is : o.0 ∷ [] ≡ z ∷ [] = sym (ap (λ (q : List (ℕ × T)). map (λ p. p.1) q) o.1) ∙ (ap (λ (q : Standing T). q.own) (is ∙ t.1) ∙ has) in
+              let value : o.0 ≡ z = only o.0 z own_is in
+              (length v.own, subst (λ l. get_elem? l (length v.own) ≡ some (x.number, z)) (sym (ap (λ (q : View T). q.own) now ∙ ap (λ l. v.own ++ l) o.1)) (subst (λ p. get_elem? (v.own ++ (number, o.0) ∷ []) (length v.own) ≡ some p) (λ i. (number_is i, value i)) (at_last v.own (number, o.0)))))
+          | inr t ↦ (let old = g.own j x z t has in (old.0, subst (λ l. get_elem? l old.0 ≡ some (x.number, z)) (sym (ap (λ (q : View T). q.own) now)) (at_longer v.own w.own old.0 (x.number, z) old.1)))
+        ];
         top = elim (dec_le (length w.hand.seen) (length v.hand.seen)) [
           | yes d ↦ (let same : n.hand.seen ≡ v.hand.seen = n_seen ∙ longer_first v.hand.seen w.hand.seen d in elim g.top [
             | inl none ↦ inl (same ∙ none)
@@ -83,6 +96,14 @@ module _ {T : Type 0} where
           | no d ↦ (let lt = lt_of_not-le d in let same : n.hand.seen ≡ w.hand.seen = n_seen ∙ longer_second v.hand.seen w.hand.seen lt in inr (length xs, y, at_last xs y, sym w_seen ∙ sym same))
         ];
       }
+
+  -- the value has each lane's part, where it has those of the view's lanes
+  pub keeps_own : {Part : Type 0} (part : ℕ → T → Part) (xs : List (Standing T)) (v : View T) (x : T) → Gathered xs v → KeepsParts part v x → KeepsOwn part xs x
+  keeps_own part xs v x g keeps j y z e has = let o = g.own j y z e has in keeps o.0 y.number z o.1
+
+  -- what each lane has seen last comes before the last of the longest history
+  pub comes_last : (before : T → T → Type 0) (opening : T) (xs : List (Standing T)) (v : View T) (value : T) → Gathered xs v → IsRising before v.hand.seen → Rests opening v value → ComesLast before xs value
+  comes_last before opening xs v value g rises r j y x e ends = rises_last before v.hand.seen y.seen x value rises (g.seen j y e) ends r.0
 
   -- the seat after it took in a lane
   pub gathers_step : {Part : Type 0} (before : T → T → Type 0) (part : ℕ → T → Part) (xs : List (Standing T)) (y : Standing T) (id own_id : TableId) (number left : ℕ) (m n o own : Me (Option T) (View T)) → Gathered xs m.0 → m.1 ≡ [] → IsLane own_id number left own

@@ -10,11 +10,11 @@ use Rattle.atomic_table.specs.Table.{State, Me, keeps, Allows, Splits, Joins, En
 use Rattle.ticket_lock.specs.declared.hand.Hand.{Hand}
 use Rattle.ticket_lock.specs.declared.view.View.{View}
 use Rattle.ticket_lock.specs.Count.{times, total}
-use Rattle.ticket_lock.specs.History.{StartsWith, EndsIn, longer}
+use Rattle.ticket_lock.specs.History.{StartsWith, EndsIn, longer, IsRising}
 use Rattle.ticket_lock.specs.Core.{in_hand, Fits, Core}
 use Rattle.ticket_lock.specs.Turns.{Kept}
-use Rattle.ticket_lock.specs.Lone.{hand_of, numbers, new_view, nobody, taken_in, merged, just_seen, IsWhole, Rests, Knows, Lone, TookIn}
-use Rattle.ticket_lock.specs.Facts.{total_set, total-snoc, total_two, total_only, total-map, at_set, at_snoc, at_longer, at_append, map-append, at_last, set_here, set_else, set_again, at_inside, map-set, map-snoc, at-map, times-append, StartsWith-length, StartsWith-whole, StartsWith-refl, both_begin, rises_short}
+use Rattle.ticket_lock.specs.Lone.{hand_of, numbers, new_view, nobody, taken_in, merged, just_seen, IsWhole, Rests, KeepsParts, Knows, Lone, TookIn}
+use Rattle.ticket_lock.specs.Facts.{total_set, total-snoc, total_two, total_only, total-map, at_set, at_snoc, at_longer, at_append, map-append, at_last, set_here, set_else, set_again, at_inside, map-set, map-snoc, at-map, times-append, StartsWith-length, StartsWith-whole, StartsWith-refl, both_begin, EndsIn-some, rises_short, rises_last}
 use Rattle.ticket_lock.specs.LoneOpens.{rebuilt}
 use Rattle.ticket_lock.proofs.CoreSteps.{core_same}
 
@@ -156,7 +156,13 @@ module _ {T Part : Type 0} (before : T → T → Type 0) (part : ℕ → T → P
       (λ (ne : r.known.0 ≢ id). (r.known.0, r.known.1, set_else s.views id r.known.0 w ne ∙ r.known.2, r.known.3, r.known.4)) in
       let kept' : Kept 0 0 r.log s.words s.homes (set hs id w.hand) = record { room = r.kept.room; core = c } in
       let done = rebuilt before part opening lanes s r id v is_at r.log s.words s.homes w kept' r.begun r.rising refl refl record { shares = knows.shares; told = (r.log, refl); owns = knows.owns } (λ j u _ e. r.each_view j u e) known in
-      (w, keeps, tt, subst (λ (ws : List ℕ). Rule record { words = ws; homes = s.homes; views = set s.views id w }) (sym (set-get_or s.words 0 0)) done, (refl, l.1, l.2, rises_short before r.log w.hand.seen l.0 r.rising))
+      (w, keeps, tt, subst (λ (ws : List ℕ). Rule record { words = ws; homes = s.homes; views = set s.views id w }) (sym (set-get_or s.words 0 0)) done, (
+        refl,
+        l.1,
+        l.2,
+        rises_short before r.log w.hand.seen l.0 r.rising,
+        (λ k lane x at. let last = EndsIn-some r.log (log_some s r) in (last.0, knows.owns k lane x last.0 at last.1, λ z ends. rises_last before r.log w.hand.seen z last.0 r.rising l.0 ends last.1)),
+      ))
 
   -- a new seat knows nothing
   pub arrives_allowed : (slots : ℕ) → Enters Rule slots 0 (λ n w. w ≡ nobody)
@@ -253,7 +259,7 @@ module _ {T Part : Type 0} (before : T → T → Type 0) (part : ℕ → T → P
       }
 
   -- what is left when a table is closed with a view that has all lanes, and no ticket
-  pub closes : (id : ℕ) (v : View T) (words : List ℕ) (xs : List (Option T)) → IsWhole lanes v → Final (Seen Rule id v) words xs → (x : T) × (get_elem? xs 0 ≡ some (Some x)) × Rests opening v x
+  pub closes : (id : ℕ) (v : View T) (words : List ℕ) (xs : List (Option T)) → IsWhole lanes v → Final (Seen Rule id v) words xs → (x : T) × (get_elem? xs 0 ≡ some (Some x)) × Rests opening v x × KeepsParts part v x × IsRising before v.hand.seen
   closes id v words xs is_whole final =
       let none_told = is_whole.0 in
       let none_waits = is_whole.1 in
@@ -295,6 +301,8 @@ module _ {T Part : Type 0} (before : T → T → Type 0) (part : ℕ → T → P
           (λ n lt. sym (only (λ (x : Hand T). times n x.drawn) (λ j u ne at_u. none_of n u.hand.drawn (other_drawn j u ne at_u))) ∙ core.drawn_once n (omega arith)),
           (λ n le. sym (only (λ (x : Hand T). times n x.drawn) (λ j u ne at_u. none_of n u.hand.drawn (other_drawn j u ne at_u))) ∙ core.undrawn n (omega arith)),
         ),
+        (λ k l z at. (r.each_view id v is_at).owns k l z home.0 at home.1),
+        subst (λ l. IsRising before l) (sym whole) r.rising,
       )
     where
       none_of : (n : ℕ) (l : List ℕ) → length l ≡ 0 → times n l ≡ 0

@@ -7,11 +7,15 @@ use lib.ListN.{get_elem?}
 use Rattle.atomic_table.specs.Seated.{TableId}
 use Rattle.ticket_lock.specs.declared.view.View.{View}
 use Rattle.ticket_lock.specs.Count.{times, without}
+use Rattle.atomic_table.specs.Table.{Me}
+use Rattle.std.specs.Prelude.{Option}
+use Rattle.std.proofs.lemmas.List.{append-nil}
+use Rattle.ticket_lock.specs.History.{StartsWith, longer}
 use Rattle.ticket_lock.specs.Turns.{enters}
 use Rattle.ticket_lock.specs.Calls.{Enters}
-use Rattle.ticket_lock.specs.Lone.{Tells}
-use Rattle.ticket_lock.specs.Lanes.{Standing, Held, standing}
-use Rattle.ticket_lock.specs.Promises.{Drew, Served, Entered}
+use Rattle.ticket_lock.specs.Lone.{Tells, TookIn, merged, new_view}
+use Rattle.ticket_lock.specs.Lanes.{Standing, Held, Told, standing}
+use Rattle.ticket_lock.specs.Promises.{Drew, Served, Entered, Learned}
 use Rattle.ticket_lock.specs.Facts.{times-snoc, times-one}
 
 -- the last of a list is the first of its kind
@@ -75,3 +79,44 @@ module _ {T : Type 0} where
 
     pub served_to : (x : T) (n ticket : ℕ) (a a' b : Standing T) → n ≡ ticket → a ≡ a' → Served before part n record { value = x; number = n } a b → Served before part ticket record { value = x; number = n } a' b
     served_to x n ticket a a' b e d s = subst (λ z. Served before part ticket record { value = x; number = n } z b) d (subst (λ (k : ℕ). Served before part k record { value = x; number = n } a b) e s)
+
+module _ {T Part : Type 0} (before : T → T → Type 0) (part : ℕ → T → Part) where
+  alone : (x y : T) → (let l : List T = x ∷ [] in let m : List T = y ∷ [] in l ≡ m) → x ≡ y
+  alone x y e = cc
+
+  learned_of : (id : TableId) (number left : ℕ) (v m : Me (Option T) (View T)) (x : T) (seen : List T) (note : Told T) → note.seen ≡ seen → v.0.own ≡ (number, x) ∷ [] → TookIn before part (merged v.0 (new_view seen []), v.1) m
+      → Learned before part note (standing id number left v.0) (standing id number left m.0)
+  learned_of id number left v m x seen note is one took =
+      let h = v.0.hand in
+      let e = ap (λ z. z.0) took.0 in
+      let back = sym is in
+      let own : v.0.own ++ [] ≡ (number, x) ∷ [] = append-nil v.0.own ∙ one in
+      record {
+        lane = ap (standing id number left) e ∙ (λ i. record {
+          lock = id;
+          number = number;
+          left = left;
+          seen = longer h.seen (back i);
+          tickets = append-nil h.tickets i;
+          inside = append-nil h.inside i;
+          drawn = append-nil h.drawn i;
+          own = map (λ p. p.1) (append-nil v.0.own i);
+        });
+        mine = took.1;
+        theirs = subst (λ l. StartsWith m.0.hand.seen l) (sym is) took.2;
+        rises = took.3;
+        own = λ y has.
+            let there : get_elem? (v.0.own ++ []) 0 ≡ some (number, x) = ap (λ l. get_elem? l 0) own in
+            let last = took.4 0 number x there in
+            let same : x ≡ y = alone x y (sym (ap (λ (q : List (ℕ × T)). map (λ p. p.1) q) one) ∙ has) in
+            (last.0, last.1 ∙ ap (part number) same, last.2);
+      }
+
+  -- a lane that was told of a history and took it in
+  pub learned_is : (id id' : TableId) (number left : ℕ) (a : Standing T) (note : Told T) (v w m n : Me (Option T) (View T)) → standing id number left v.0 ≡ a → id' ≡ id → ((x : T) × (v.0.own ≡ (number, x) ∷ []))
+      → w ≡ (new_view note.seen [], []) → m ≡ (merged v.0 w.0, v.1) → TookIn before part m n → Learned before part note a (standing id' number left n.0)
+  learned_is id id' number left a note v w m n is same one blank joined took =
+      let view : w.0 ≡ new_view note.seen [] = ap (λ z. z.0) blank in
+      let whole : m ≡ (merged v.0 (new_view note.seen []), v.1) = joined ∙ (λ i. (merged v.0 (view i), v.1)) in
+      let r = learned_of id number left v n one.0 note.seen note refl one.1 (subst (λ z. TookIn before part z n) whole took) in
+      subst (λ z. Learned before part note z (standing id' number left n.0)) is (subst (λ z. Learned before part note (standing id number left v.0) (standing z number left n.0)) (sym same) r)

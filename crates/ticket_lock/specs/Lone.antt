@@ -56,6 +56,10 @@ module _ {T : Type 0} where
   abbrev pub taken_in : View T → View T
   taken_in v = record v { hand = record v.hand { seen = longer v.hand.seen v.told }; told = [] }
 
+  -- the value has the part of each lane of the view as that lane left it
+  abbrev pub KeepsParts : {Part : Type 0} → (ℕ → T → Part) → View T → T → Type 0
+  KeepsParts part v x = (k l : ℕ) (z : T) → get_elem? v.own k ≡ some (l, z) → part l x ≡ part l z
+
   -- a view that has all that two had, and was told what the second had seen
   abbrev pub merged : View T → View T → View T
   merged v w = record {
@@ -109,6 +113,7 @@ module _ {T Part : Type 0} (before : T → T → Type 0) (part : ℕ → T → P
   Tells slot (enters x) v w = (w.told ≡ v.told) × (w.own ≡ v.own) × IsRising before w.hand.seen × ((k l : ℕ) (z : T) → get_elem? v.own k ≡ some (l, z) → part l x ≡ part l z)
   Tells slot (passes x y) v w = (w.told ≡ v.told) × ((l : ℕ) (z : T) → v.own ≡ (l, z) ∷ [] → w.own ≡ (l, y) ∷ [])
 
-  -- a load at which a view takes in what it was told
+  -- a load at which a view takes in what it was told; the last value of the lock's history has each of its lanes' parts as that lane left it, and what it has seen comes before that value
   abbrev pub TookIn : Me (Option T) (View T) → Me (Option T) (View T) → Type 0
   TookIn m m' = (m' ≡ (taken_in m.0, m.1)) × StartsWith m'.0.hand.seen m.0.hand.seen × StartsWith m'.0.hand.seen m.0.told × IsRising before m'.0.hand.seen
+      × ((k l : ℕ) (x : T) → get_elem? m.0.own k ≡ some (l, x) → (y : T) × (part l y ≡ part l x) × ((z : T) → EndsIn m'.0.hand.seen z → before z y))

@@ -51,12 +51,22 @@ module _ {T : Type 0} where
       pub later : (x : T) → EndsIn a.seen x → before x left
       pub apart : (x : T) → EndsIn a.seen x → (k : ℕ) → k ≢ a.number → part k left ≡ part k x
 
-    -- the lane has seen what it had seen and what the note tells, and what comes first of the two values that it had seen last and has seen last now, comes before
+    -- the lane has seen what it had seen and what the note tells, and what comes first of the two values that it had seen last and has seen last now, comes before;
+    -- and what it has seen last comes before a value of the lock that has the lane's own part as the lane left it
     pub record Learned (note : Told T) (a b : Standing T) : Type 0 where
       pub lane : b ≡ record a { seen = longer a.seen note.seen }
       pub mine : StartsWith b.seen a.seen
       pub theirs : StartsWith b.seen note.seen
       pub rises : IsRising before b.seen
+      pub own : (x : T) → a.own ≡ x ∷ [] → (y : T) × (part a.number y ≡ part a.number x) × ((z : T) → EndsIn b.seen z → before z y)
+
+  -- the value has each lane's own part as that lane left it
+  abbrev pub KeepsOwn : {Part : Type 0} → (ℕ → T → Part) → List (Standing T) → T → Type 0
+  KeepsOwn part lanes value = (j : ℕ) (y : Standing T) (z : T) → get_elem? lanes j ≡ some y → y.own ≡ z ∷ [] → part y.number value ≡ part y.number z
+
+  -- what each lane has seen last comes before the value
+  abbrev pub ComesLast : (T → T → Type 0) → List (Standing T) → T → Type 0
+  ComesLast before lanes value = (j : ℕ) (y : Standing T) (x : T) → get_elem? lanes j ≡ some y → EndsIn y.seen x → before x value
 
   -- a lane of this lock with no ticket and no guard in hand
   abbrev pub IsIdle : TableId → Standing T → Type 0

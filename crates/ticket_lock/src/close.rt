@@ -2,9 +2,10 @@
 ghost use Rattle.std.specs.Prelude.{◌≡◌, ℕ, List, length, All};
 ghost use Rattle.std.specs.Iterator.{IsFinite, HoldsAlong, Drains};
 ghost use Rattle.ticket_lock.specs.declared.lane.Lane.{Lane};
-ghost use Rattle.ticket_lock.specs.Lone.{IsWhole, Rests};
+ghost use Rattle.ticket_lock.specs.Lone.{IsWhole, Rests, KeepsParts};
+ghost use Rattle.ticket_lock.specs.History.{IsRising};
 ghost use Rattle.ticket_lock.specs.Lanes.{IsSized};
-ghost use Rattle.ticket_lock.specs.Promises.{IsIdle, Closes};
+ghost use Rattle.ticket_lock.specs.Promises.{IsIdle, Closes, KeepsOwn, ComesLast};
 
 use crate::alone::{Arrives, Board, Merges, Place, TakesIn};
 use crate::lane::Lane;
@@ -16,7 +17,9 @@ use std::alloc::Allocator;
 fn finish<T: LaneLaw, A: Allocator>(board: Board<T, A>, seat: Place<T>) -> T
     requires table { (seat.table_id ≡ board.shared.table_id) × IsSized board.shared.table_id }
     requires whole { IsWhole board.shared.key.lanes seat.me.0 }
-    ensures { Rests board.shared.key.value.value seat.me.0 result }
+    ensures rests { Rests board.shared.key.value.value seat.me.0 result }
+    ensures parts { KeepsParts T.part seat.me.0 result }
+    ensures rises { IsRising T.before seat.me.0.hand.seen }
 {
     let mut closed = board.close_with(seat);
     let last = closed.take(0);
@@ -26,14 +29,14 @@ fn finish<T: LaneLaw, A: Allocator>(board: Board<T, A>, seat: Place<T>) -> T
 }
 
 impl<T: LaneLaw, A: Allocator> TicketLock<T, A> {
-    /// The value that was left last, or the opening value where none was. The iterator must give all lanes of the lock, none with a ticket or a guard
+    /// The value that was left last, or the opening value where none was; it has each lane's own part as that lane left it, and what each lane had seen comes before it. The iterator must give all lanes of the lock, none with a ticket or a guard
     /// in hand.
     pub fn close<I: Iterator<Item = Lane<T>> + Drop>(self, lanes: I) -> T
         requires can { I.can_next lanes }
         requires finite { IsFinite (I.remaining lanes) }
         requires idle { HoldsAlong I.next_gives lanes (All (IsIdle self.id)) }
         requires all { (xs : List (Lane T)) → Drains I.next_gives lanes xs → length xs ≡ self.lanes }
-        ensures { (xs : List (Lane T)) × Drains I.next_gives lanes xs × Closes self.opening xs result }
+        ensures { (xs : List (Lane T)) × Drains I.next_gives lanes xs × Closes self.opening xs result × KeepsOwn T.part xs result × ComesLast T.before xs result }
     {
         let board = self.into_board();
         let (_, mut seat) = board.shared.load_new_seat::<Arrives>(0);

@@ -1,6 +1,6 @@
 use Rattle.std.proofs.Common.{◌≡◌, sym, ◌∙◌, subst, Some}
 use mathlib.Core.Option.{some-injective}
-use Rattle.ticket_lock.specs.Lone.{Rests}
+use Rattle.ticket_lock.specs.Lone.{Rests, KeepsParts}
 use Rattle.ticket_lock.proofs.LoneSteps.{closes}
 use Rattle.ticket_lock.proofs.close.finish.Goals as goal
 
@@ -18,4 +18,4 @@ returns g c =
     let r = closes L.before L.part key.value.value key.lanes c.args.seat.id c.args.seat.me.0 _ _ c.requires.whole c.close_with-closed.ensures.values.2 in
     let e : Some r.0 ≡ Some c.in-Some.value = some-injective (Some r.0) c.take-last.result (sym r.1 ∙ c.take-last.ensures.value) ∙ c.in-Some.is in
     let same : r.0 ≡ c.in-Some.value = cc in
-    subst (λ x. Rests key.value.value c.args.seat.me.0 x) same r.2
+    record { rests = subst (λ x. Rests key.value.value c.args.seat.me.0 x) same r.2; parts = subst (λ x. KeepsParts L.part c.args.seat.me.0 x) same r.3; rises = r.4 }

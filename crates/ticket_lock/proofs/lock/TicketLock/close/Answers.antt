@@ -1,7 +1,7 @@
 use Rattle.std.proofs.Common.{sym, ◌∙◌, ap, subst, arith, rules}
 use Rattle.std.specs.Iterator.{Yields}
 use Rattle.ticket_lock.proofs.LoneSteps.{arrives_allowed, merges_allowed, takes_in_allowed}
-use Rattle.ticket_lock.proofs.Closing.{next_idle, gathers_step, closes_is}
+use Rattle.ticket_lock.proofs.Closing.{next_idle, gathers_step, closes_is, keeps_own, comes_last}
 use Rattle.ticket_lock.proofs.lock.TicketLock.close.Goals as goal
 
 pub load_new_seat-seat-requires : goal.load_new_seat-seat-requires
@@ -48,4 +48,4 @@ returns g c =
     let board = c.into_board-board.ensures in
     let so_far : Yields g.I.Iterator.next_gives c.into_iter-lane-iterator.result c.loop-lane.yielded c.loop-lane.lane-iterator = c.loop-lane.yielded_by in
     let from : Yields g.I.Iterator.next_gives c.args.lanes c.loop-lane.yielded c.loop-lane.lane-iterator = subst (λ s. Yields g.I.Iterator.next_gives s c.loop-lane.yielded c.loop-lane.lane-iterator) c.into_iter-lane-iterator.ensures.into_iter_gives so_far in
-    (c.loop-lane.yielded, (c.next.new.self, (c.loop-lane.lane-iterator, from, c.in-None.ensures.steps)), closes_is c.loop-lane.yielded c.loop-lane.seat.me.0 _ _ c.finish.result c.loop-lane.invariant.2 board.2 c.finish.ensures)
+    (c.loop-lane.yielded, (c.next.new.self, (c.loop-lane.lane-iterator, from, c.in-None.ensures.steps)), closes_is c.loop-lane.yielded c.loop-lane.seat.me.0 _ _ c.finish.result c.loop-lane.invariant.2 board.2 c.finish.ensures.rests, keeps_own g.T.LaneLaw.part c.loop-lane.yielded c.loop-lane.seat.me.0 c.finish.result c.loop-lane.invariant.2 c.finish.ensures.parts, comes_last g.T.LaneLaw.before _ c.loop-lane.yielded c.loop-lane.seat.me.0 c.finish.result c.loop-lane.invariant.2 c.finish.ensures.rises c.finish.ensures.rests)

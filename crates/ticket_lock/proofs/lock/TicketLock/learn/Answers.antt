@@ -1,5 +1,6 @@
 use Rattle.std.proofs.Common.{arith, sym, ◌∙◌, ap}
 use Rattle.ticket_lock.proofs.LoneSteps.{merges_allowed, takes_in_allowed}
+use Rattle.ticket_lock.proofs.Served.{learned_is}
 use Rattle.ticket_lock.proofs.lock.TicketLock.learn.Goals as goal
 
 pub join_seat-requires : goal.join_seat-requires
@@ -22,3 +23,10 @@ load-requires g c =
       omega (arith, c.self.invariant.0),
       takes_in_allowed g.T.LaneLaw.before g.T.LaneLaw.part key.value.value key.lanes _ _ _,
     )
+
+pub returns : goal.returns
+returns g c =
+    let L = g.T.LaneLaw in
+    let lane = c.lane.inside in
+    learned_is L.before L.part lane.seat.table_id c.load.new.seat.table_id lane.number lane.left c.args.lane.now c.args.note lane.seat.me c.into_seat-seat.result.me c.join_seat.new.seat.me c.load.new.seat.me
+    c.lane.view_is (c.load.ensures.0 ∙ c.join_seat.ensures.0) c.lane.invariant.one c.into_seat-seat.ensures.2 c.join_seat.ensures.2 c.load.ensures.2

@@ -5,7 +5,7 @@ use Rattle.post_ledger.specs.declared.event.Event.TheVariants.{Post, Take}
 use Rattle.post_ledger.specs.History.{posts, takes, TakesOldest}
 use Rattle.post_ledger.proofs.Histories.{takes_few, post_at}
 use Rattle.post_ledger.proofs.Keeping.{counts_take, counts_grow}
-use Rattle.post_ledger.proofs.mailbox.Mailbox.take.Goals as goal
+use Rattle.post_ledger.proofs.mailbox.Mailbox.take_from.Goals as goal
 
 pub overflow_add-self-2 : goal.overflow_add-self-2
 overflow_add-self-2 g c = omega (arith, takes_few c.self.inside.events.items, c.self.invariant.all_taken, c.self.invariant.room)
@@ -29,6 +29,6 @@ returns-clause-some g c =
     let skipped : posts (take o.at i.events.items) ≡ posts (take i.next i.events.items) = subst (λ l. posts (take o.at l) ≡ posts (take i.next l)) c.deref.ensures.value o.ensures.skipped in
     let before : length (posts (take o.at i.events.items)) ≡ length (takes i.events.items) = ap length skipped ∙ c.self.invariant.passed ∙ sym c.self.invariant.all_taken in (
       sym c.self.invariant.all_taken ∙ ap (λ l. length (takes l)) c.self.view_is,
-      subst (λ l. TakesOldest l c.push_reserved.new.self.items o.message) c.self.view_is
-          (o.sender, post_at i.events.items o.at o.sender o.message (length (takes i.events.items)) here before, c.push_reserved.ensures.items),
+      subst (λ l. slice_get (posts l) (length (takes l)) ≡ Some (o.sender, o.message)) c.self.view_is (post_at i.events.items o.at o.sender o.message (length (takes i.events.items)) here before),
+      subst (λ l. c.push_reserved.new.self.items ≡ l ++ Take o.sender o.message ∷ []) c.self.view_is c.push_reserved.ensures.items,
     )

@@ -1,0 +1,97 @@
+-- Which jobs a pass has after a call, for callers of a board.
+use Rattle.std.proofs.Common.{◌≡◌, inl, inr, ℕ, zero, suc, ◌+◌, List, [], ◌∷◌, ◌++◌, Some, length, slice_get, Contains, refl, sym, ap, ◌∙◌, subst, arith, length-append}
+use Rattle.std.proofs.lemmas.List.{append-nil, length_push, take-append-le}
+use Rattle.std.proofs.lemmas.Option.{slice_get_within}
+use Rattle.std.proofs.lemmas.Bool.{cases_eq}
+use Rattle.std.proofs.lemmas.Map.Views.{list_any-from_Contains}
+use Rattle.std.specs.Cmp.{nat_eq_equiv}
+use Rattle.post_ledger.specs.declared.event.Event.{Event}
+use Rattle.post_ledger.specs.declared.event.Event.TheVariants as event
+use Rattle.post_ledger.specs.declared.entry.Entry.{Entry}
+use Rattle.post_ledger.specs.declared.entry.Entry.TheVariants.{Posted, Taken}
+use Rattle.post_ledger.specs.History.{takes, dones, IsLegal, MayFollow}
+use Rattle.post_ledger.specs.Orders.{part, own, HasJob}
+use Rattle.post_ledger.proofs.Histories.{takes-append, dones-append}
+use Rattle.post_ledger.proofs.Orders.{part-append, part_here, part_else, sizes_of}
+use Rattle.switchboard.specs.Sights.{Sight}
+use Rattle.std.proofs.Common.{Ok, Err, MatchResult}
+use Rattle.std.specs.Prelude.{Result}
+use Rattle.switchboard.specs.declared.calls.PostFault.{PostFault}
+use Rattle.switchboard.specs.declared.calls.PostFault.TheVariants as fault
+use Rattle.switchboard.specs.Promises.{MadeNone, Added, TookMessage, WasPosted, WasRefused}
+use Rattle.switchboard.proofs.Visits.{job_stays, takes_own, dones_own}
+
+get_front : {X : Type 0} (a b : List X) (i : ℕ) (x : X) → slice_get a i ≡ Some x → slice_get (a ++ b) i ≡ Some x
+get_front [] b i x e = cc
+get_front (y ∷ a) b zero x e = e
+get_front (y ∷ a) b (suc i) x e = get_front a b i x e
+
+module _ {M : Type 0} where
+  -- a beginning of a legal history is legal
+  legal_front : (h : List (Event M)) (e : Event M) → IsLegal (h ++ e ∷ []) → IsLegal h
+  legal_front h e legal i x at =
+      let short : _ = slice_get_within h i x at in
+      subst (λ before. MayFollow before x) (take-append-le i h (e ∷ []) (omega arith)) (legal i x (get_front h (e ∷ []) i x at))
+
+  takes_more : (n : ℕ) (a : List (Entry M)) (e : Entry M) → length (takes (part n (a ++ e ∷ []))) ≡ length (takes (part n a)) + length (takes (part n (e ∷ [])))
+  takes_more n a e = ap (λ l. length (takes l)) (part-append n a (e ∷ [])) ∙ (ap length (takes-append (part n a) (part n (e ∷ []))) ∙ length-append (takes (part n a)) (takes (part n (e ∷ []))))
+
+  dones_more : (n : ℕ) (a : List (Entry M)) (e : Entry M) → dones (part n (a ++ e ∷ [])) ≡ dones (part n a) ++ dones (part n (e ∷ []))
+  dones_more n a e = ap dones (part-append n a (e ∷ [])) ∙ dones-append (part n a) (part n (e ∷ []))
+
+  -- a Post is no Done, and neither is a Take
+  pub no_done_post : (n to s : ℕ) (m : M) (t : ℕ) → dones (part n (Posted to s m t ∷ [])) ≡ []
+  no_done_post n to s m t = elim (cases_eq to n) [ inl here ↦ ap dones (part_here n (Posted to s m t) [] here) | inr else ↦ ap dones (part_else n (Posted to s m t) [] else) ]
+
+  pub no_done_take : (n of s : ℕ) (m : M) → dones (part n (Taken of s m ∷ [])) ≡ []
+  no_done_take n of s m = elim (cases_eq of n) [ inl here ↦ ap dones (part_here n (Taken of s m) [] here) | inr else ↦ ap dones (part_else n (Taken of s m) [] else) ]
+
+  -- a job stays one after one more event of the pass that is no Done
+  more_events : (n j : ℕ) (a b : List (Entry M)) (e : Entry M) → own n b ≡ own n a ++ e ∷ [] → dones (part n (e ∷ [])) ≡ [] → HasJob n j a → HasJob n j b
+  more_events n j a b e longer none has =
+      let list : List (Entry M) = own n a in
+      let count = ap length (takes_own n b) ∙ (ap (λ l. length (takes (part n l))) longer ∙ takes_more n list e) in
+      let names : dones (part n b) ≡ dones (part n a) = dones_own n b ∙ (ap (λ l. dones (part n l)) longer ∙ (dones_more n list e ∙ (ap (λ l. dones (part n list) ++ l) none ∙ (append-nil (dones (part n list)) ∙ sym (dones_own n a))))) in
+      (omega (arith, count, ap length (takes_own n a), has.0), subst (λ l. Contains l j → ⊥) (sym names) has.1)
+
+module _ {M W : Type 0} (fits : W → ℕ → M → Type 0) where
+  -- where the pass made no event it has the jobs that it had
+  pub kept_none : (s t : Sight M W) (j : ℕ) → MadeNone fits s t → HasJob s.number j s.seen.order → HasJob t.number j t.seen.order
+  kept_none s t j m has = subst (λ n. HasJob n j t.seen.order) (sym m.goes.number) (job_stays s.number j s.seen.order t.seen.order (sym m.own) has)
+
+  -- and so it has after an event of its own that is no Done
+  pub kept_added : (s t : Sight M W) (j : ℕ) (e : Entry M) → Added fits e s t → dones (part s.number (e ∷ [])) ≡ [] → HasJob s.number j s.seen.order → HasJob t.number j t.seen.order
+  kept_added s t j e a none has = subst (λ n. HasJob n j t.seen.order) (sym a.goes.number) (more_events s.number j s.seen.order t.seen.order e a.own none has)
+
+  -- the job of a message taken is one of the pass
+  pub job_new : (s t : Sight M W) (job : ℕ) (m : M) → TookMessage fits job m s t → HasJob t.number job t.seen.order
+  job_new s t job m k =
+      let n : ℕ = s.number in
+      let front : List (Entry M) = k.added.front in
+      let e : Entry M = Taken n k.sender m in
+      let whole : part n t.seen.order ≡ part n front ++ event.Take k.sender m ∷ [] = ap (part n) k.added.last ∙ (part-append n front (e ∷ []) ∙ ap (λ l. part n front ++ l) (part_here n e [] refl)) in
+      let legal : IsLegal (part n front) = legal_front (part n front) (event.Take k.sender m) (subst IsLegal whole (k.added.goes.sound.lawful.legal n)) in
+      let z = sizes_of (part n front) legal in
+      let count : length (takes (part n t.seen.order)) ≡ length (takes (part n front)) + 1 = ap (λ l. length (takes l)) whole ∙ (ap length (takes-append (part n front) (event.Take k.sender m ∷ [])) ∙ length_push (takes (part n front)) (k.sender, m)) in
+      let names : dones (part n t.seen.order) ≡ dones (part n front) = ap dones whole ∙ (dones-append (part n front) (event.Take k.sender m ∷ []) ∙ append-nil (dones (part n front))) in
+      subst (λ i. HasJob i job t.seen.order) (sym k.added.goes.number) (
+        omega (arith, count, k.number),
+        (λ there. let early = z.earlier job (list_any-from_Contains nat_eq_equiv job (dones (part n front)) (subst (λ l. Contains l job) names there)) in omega (arith, early, k.number)),
+      )
+
+  -- a post, made or refused, leaves the jobs
+  pub post_keeps : (s t : Sight M W) (job to : ℕ) (m : M) (r : Result (Unit {0}) (PostFault M)) → MatchResult r (λ _. WasPosted fits job to m s t) (λ f. WasRefused fits m f s t) → (j : ℕ) → HasJob s.number j s.seen.order → HasJob t.number j t.seen.order
+  post_keeps s t job to m (Ok u) p j has = kept_added s t j (Posted to s.number m job) p.0 (no_done_post s.number to s.number m job) has
+  post_keeps s t job to m (Err (fault.Spent back)) p j has = subst (λ (z : Sight M W). HasJob z.number j z.seen.order) (sym p.1.1) has
+  post_keeps s t job to m (Err (fault.Memory back)) p j has = kept_none s t j p.1.0 has
+  post_keeps s t job to m (Err (fault.Aborted back)) p j has = kept_none s t j p.1.0 has
+
+  pub post_same : (s t : Sight M W) (job to : ℕ) (m : M) (r : Result (Unit {0}) (PostFault M)) → MatchResult r (λ _. WasPosted fits job to m s t) (λ f. WasRefused fits m f s t) → (t.board ≡ s.board) × (t.seen.boxes ≡ s.seen.boxes)
+  post_same s t job to m (Ok u) p = (p.0.goes.board, p.0.goes.before.boxes)
+  post_same s t job to m (Err (fault.Spent back)) p = (ap (λ (z : Sight M W). z.board) p.1.1, ap (λ (z : Sight M W). z.seen.boxes) p.1.1)
+  post_same s t job to m (Err (fault.Memory back)) p = (p.1.0.goes.board, p.1.0.goes.before.boxes)
+  post_same s t job to m (Err (fault.Aborted back)) p = (p.1.0.goes.board, p.1.0.goes.before.boxes)
+
+-- what was given is that value
+pub given : {X : Type 0} (x y : X) → Some x ≡ Some y → x ≡ y
+given x y e = cc

@@ -1,0 +1,112 @@
+-- What a pass knows after it was told what another had seen.
+use Rattle.std.proofs.Common.{◌≡◌, ◌⊎◌, inl, inr, ℕ, ◌<◌, Bool, true, false, not, List, [], Some, None, length, refl, sym, ap, ◌∙◌, subst, arith}
+use Rattle.std.specs.Prelude.{Option}
+use Rattle.std.proofs.Common.{lt_of_not-le}
+use native.Mathlib.Decide.{dec_le}
+use Rattle.ticket_lock.specs.Lanes.{Standing, Told}
+use Rattle.ticket_lock.specs.History.{StartsWith, EndsIn, longer}
+use Rattle.ticket_lock.specs.Promises as lock
+use Rattle.ticket_lock.specs.Facts.{rises_last, EndsIn-same, EndsIn-some, StartsWith-whole, StartsWith-length}
+use Rattle.ticket_lock.proofs.LoneSteps.{longer_first, longer_second}
+use Rattle.post_ledger.specs.declared.entry.Entry.{Entry}
+use Rattle.post_ledger.specs.Orders.{own}
+use Rattle.post_ledger.proofs.Orders.{own-append}
+use Rattle.switchboard.specs.declared.calls.Abort.{Abort}
+use Rattle.switchboard.specs.Sights.{State, Before, IsSound}
+use Rattle.switchboard.specs.Promises.{Learned}
+use Rattle.switchboard.specs.Passes.{is_by, calls_of, share, account_of, Comes, IsPass}
+use Rattle.switchboard.proofs.Visits.{latest_is, showing, some_later}
+
+-- whether the abort is the pass's own, if it stays from first to last, is the same in between
+by_between : (n : ℕ) (o p q : Option Abort) → ((a : Abort) → o ≡ Some a → p ≡ Some a) → ((a : Abort) → p ≡ Some a → q ≡ Some a) → is_by n q ≡ is_by n o → is_by n p ≡ is_by n o
+by_between n (Some a) p q f h same = ap (is_by n) (f a refl)
+by_between n None None q f h same = refl
+by_between n None (Some b) q f h same = sym (ap (is_by n) (h b refl)) ∙ same
+
+module _ {M W : Type 0} where
+  -- a later order has a longer own list
+  own_more : (n : ℕ) (s t : State M W) → Before s t → StartsWith (own n t.order) (own n s.order)
+  own_more n s t b = (own n b.order.0, ap (own n) b.order.1 ∙ own-append n s.order b.order.0)
+
+  -- an own list that stays from first to last is the same in between
+  own_between : (n : ℕ) (s t u : State M W) → Before s t → Before t u → own n u.order ≡ own n s.order → own n t.order ≡ own n s.order
+  own_between n s t u p q same =
+      let short = StartsWith-length (own n u.order) (own n t.order) (own_more n t u q) in
+      StartsWith-whole (own n t.order) (own n s.order) (own_more n s t p) (omega (arith, short, ap length same))
+
+  module _ (fits : W → ℕ → M → Type 0) where
+    -- what the pass has seen last, after it learned
+    pub record News (n : ℕ) (last y : State M W) : Type 0 where
+      pub before : Before last y
+      pub sound : IsSound fits y
+      pub part : share n y ≡ share n last
+
+    pub news_is : (note : Told (State M W)) (a b : Standing (State M W)) (w : W) (boxes : ℕ) (kept : Bool) (p : IsPass fits a w boxes kept) → lock.Learned (Comes fits) share note a b → (y : State M W) → EndsIn b.seen y → News a.number p.last y
+    news_is note a b w boxes kept p l y ends =
+        let on = rises_last (Comes fits) b.seen a.seen p.last y l.rises l.mine p.ends ends in
+        let z = l.own p.left p.has in
+        let to = z.2 y ends in
+        let same = z.1 ∙ sym p.own_part in
+        let list = own_between a.number p.last y z.0 on.0 to.0 (ap (λ (q : List (Entry M) × Bool). q.0) same) in
+        let by = by_between a.number p.last.aborted y.aborted z.0.aborted on.0.aborted to.0.aborted (ap (λ (q : List (Entry M) × Bool). q.1) same) in
+        record { before = on.0; sound = on.1 p.sound; part = λ i. (list i, by i) }
+
+    pub pass_learned : (note : Told (State M W)) (a b : Standing (State M W)) (w : W) (boxes : ℕ) (kept : Bool) (p : IsPass fits a w boxes kept) → lock.Learned (Comes fits) share note a b → (y : State M W) → EndsIn b.seen y → IsPass fits b w boxes kept
+    pass_learned note a b w boxes kept p l y ends =
+        let n = news_is note a b w boxes kept p l y ends in
+        let number : b.number ≡ a.number = ap (λ (z : Standing (State M W)). z.number) l.lane in
+        record {
+          waits = ap (λ (z : Standing (State M W)). z.tickets) l.lane ∙ p.waits;
+          outside = ap (λ (z : Standing (State M W)). z.inside) l.lane ∙ p.outside;
+          last = y;
+          ends = ends;
+          sound = n.sound;
+          same_world = n.before.world ∙ p.same_world;
+          same_boxes = n.before.boxes ∙ p.same_boxes;
+          left = p.left;
+          has = ap (λ (z : Standing (State M W)). z.own) l.lane ∙ p.has;
+          own_part = subst (λ k. share k y ≡ share k p.left) (sym number) (n.part ∙ p.own_part);
+          number = subst (λ k. k < boxes) (sym number) p.number;
+          few = p.few;
+          ticket = λ e. subst (λ k. 0 < k) (sym (ap (λ (z : Standing (State M W)). z.left) l.lane)) (p.ticket e);
+          not_by = λ e. ap (λ k. is_by k p.left.aborted) number ∙ p.not_by e;
+          knows = λ e. some_later fits p.last y n.before (p.knows e);
+        }
+
+    -- it is what one of the two had seen last
+    pub one_of : (note : Told (State M W)) (a b : Standing (State M W)) → lock.Learned (Comes fits) share note a b → (x y : State M W) → EndsIn a.seen x → EndsIn b.seen y → (y ≡ x) ⊎ EndsIn note.seen y
+    one_of note a b l x y ends_a ends =
+        let seen : b.seen ≡ longer a.seen note.seen = ap (λ (z : Standing (State M W)). z.seen) l.lane in
+        elim (dec_le (length note.seen) (length a.seen)) [
+          | yes d ↦ inl (EndsIn-same a.seen y x (subst (λ s. EndsIn s y) (seen ∙ longer_first a.seen note.seen d) ends) ends_a)
+          | no d ↦ (let lt = lt_of_not-le d in inr (subst (λ s. EndsIn s y) (seen ∙ longer_second a.seen note.seen lt) ends))
+        ]
+
+    pub learned_is : (note : Told (State M W)) (a b : Standing (State M W)) (w : W) (boxes : ℕ) (kept : Bool) (p : IsPass fits a w boxes kept) → lock.Learned (Comes fits) share note a b → 0 < length note.seen → (y : State M W) → EndsIn b.seen y → Learned fits (account_of note) (showing fits a kept p.last) (showing fits b kept y)
+    learned_is note a b w boxes kept p l told y ends =
+        let n = news_is note a b w boxes kept p l y ends in
+        let z = EndsIn-some note.seen told in
+        let theirs = rises_last (Comes fits) b.seen note.seen z.0 y l.rises l.theirs z.1 ends in
+        let order = latest_is (λ (s : State M W). s.order) [] note.seen z.0 z.1 in
+        let aborted = latest_is (λ (s : State M W). s.aborted) None note.seen z.0 z.1 in
+        let board = ap (λ (q : Standing (State M W)). q.lock) l.lane in
+        let number = ap (λ (q : Standing (State M W)). q.number) l.lane in
+        let left = ap (λ (q : Standing (State M W)). q.left) l.lane in
+        record {
+          none = record {
+            goes = record { board = board; number = number; before = n.before; sound = n.sound; knows = λ made. some_later fits p.last y n.before (p.knows (flip kept made)) };
+            made = refl;
+            own = ap (λ (q : List (Entry M) × Bool). q.0) n.part;
+          };
+          calls = ap (λ k. calls_of kept k) left;
+          theirs = subst (λ o. StartsWith y.order o) (sym order) theirs.0.order;
+          abort = λ q is. theirs.0.aborted q (sym aborted ∙ is);
+          one = elim (one_of note a b l p.last y p.ends ends) [
+            | inl same ↦ inl (λ i. record { board = board i; number = number i; calls = calls_of kept (left i); made = not kept; seen = same i })
+            | inr from ↦ (let same : z.0 ≡ y = EndsIn-same note.seen z.0 y z.1 from in inr (ap (λ (s : State M W). s.order) (sym same) ∙ sym order, ap (λ (s : State M W). s.aborted) (sym same) ∙ sym aborted))
+          ];
+        }
+      where
+        flip : (b : Bool) → not b ≡ true → b ≡ false
+        flip true e = cc
+        flip false e = refl

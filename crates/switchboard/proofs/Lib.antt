@@ -1,0 +1,6 @@
+pub mod Keeping
+pub mod Visits
+pub mod Learning
+pub mod Settling
+pub mod Opening
+pub mod Jobs

@@ -1,0 +1,66 @@
+-- What a pass of the board behind one lock has of its lane.
+use Rattle.std.specs.Prelude.{◌≡◌, ℕ, ◌-◌, ◌<◌, ◌≤◌, ◌==◌, if◌then◌else◌, not, Bool, true, false, List, [], ◌∷◌, Option, Some, None, IsSome}
+use Rattle.ticket_lock.specs.Lanes.{Standing, Told}
+use Rattle.ticket_lock.specs.History.{EndsIn}
+use Rattle.post_ledger.specs.declared.entry.Entry.{Entry}
+use Rattle.post_ledger.specs.Orders.{own}
+use Rattle.switchboard.specs.declared.calls.Abort.{Abort}
+use Rattle.switchboard.specs.Sights.{State, Sight, Account, Before, IsSound}
+
+-- whether the abort, if there was one, is of this pass
+abbrev pub is_by : ℕ → Option Abort → Bool
+is_by p None = false
+is_by p (Some a) = a.by == p
+
+-- of the last of a list, or where there is none
+abbrev pub latest : {A B : Type 0} → (A → B) → B → List A → B
+latest f d [] = d
+latest f d (x ∷ []) = f x
+latest f d (x ∷ y ∷ ys) = latest f d (y ∷ ys)
+
+-- how many calls a lane with so many tickets has, where one is kept for an abort
+abbrev pub calls_of : Bool → ℕ → ℕ
+calls_of kept left = if kept then left - 1 else left
+
+module _ {M W : Type 0} where
+  -- a pass's own part of a state: its own list, and whether the abort is its own
+  abbrev pub share : ℕ → State M W → List (Entry M) × Bool
+  share p s = (own p s.order, is_by p s.aborted)
+
+  -- how contracts see a pass
+  abbrev pub sight_of : Standing (State M W) → W → ℕ → Bool → Sight M W
+  sight_of lane w boxes kept = record {
+    board = lane.lock;
+    number = lane.number;
+    calls = calls_of kept lane.left;
+    made = not kept;
+    seen = record { world = w; boxes = boxes; order = latest (λ s. s.order) [] lane.seen; aborted = latest (λ s. s.aborted) None lane.seen };
+  }
+
+  -- how contracts see what a pass told
+  abbrev pub account_of : Told (State M W) → Account M
+  account_of note = record { board = note.lock; order = latest (λ s. s.order) [] note.seen; aborted = latest (λ s. s.aborted) None note.seen }
+
+  module _ (fits : W → ℕ → M → Type 0) where
+    -- one state comes before another under the lock: the second goes on from the first, and is sound where the first is
+    abbrev pub Comes : State M W → State M W → Type 0
+    Comes s t = Before s t × (IsSound fits s → IsSound fits t)
+
+    -- The lane is outside and waits for nothing; what it has seen last is sound, and has the pass's own part as the lane left it; a ticket is kept
+    -- until the pass makes an abort.
+    pub record IsPass (lane : Standing (State M W)) (w : W) (boxes : ℕ) (kept : Bool) : Type 0 where
+      pub waits : lane.tickets ≡ []
+      pub outside : lane.inside ≡ []
+      pub last : State M W
+      pub ends : EndsIn lane.seen last
+      pub sound : IsSound fits last
+      pub same_world : last.world ≡ w
+      pub same_boxes : last.boxes ≡ boxes
+      pub left : State M W
+      pub has : lane.own ≡ left ∷ []
+      pub own_part : share lane.number last ≡ share lane.number left
+      pub number : lane.number < boxes
+      pub few : boxes ≤ 64
+      pub ticket : kept ≡ true → 0 < lane.left
+      pub not_by : kept ≡ true → is_by lane.number left.aborted ≡ false
+      pub knows : kept ≡ false → IsSome last.aborted

@@ -1,0 +1,117 @@
+-- What the calls of a board promise.
+use Rattle.std.specs.Prelude.{◌≡◌, ◌⊎◌, ◌↔◌, ℕ, ◌+◌, Bool, true, false, IsTrue, IsSome, List, [], ◌∷◌, ◌++◌, Option, Some, None, Result, Ok, Err, length, slice_get}
+use Rattle.atomic_table.specs.Seated.{TableId}
+use Rattle.ticket_lock.specs.declared.lane.Spent.{Spent}
+use Rattle.ticket_lock.specs.History.{StartsWith}
+use Rattle.post_ledger.specs.declared.event.Event.{Event}
+use Rattle.post_ledger.specs.declared.entry.Entry.{Entry}
+use Rattle.post_ledger.specs.declared.entry.Entry.TheVariants.{Posted, Taken, Completed}
+use Rattle.post_ledger.specs.History.{posts, takes, TakesOldest}
+use Rattle.post_ledger.specs.Orders.{part, own, IsLawful, IsClosed}
+use Rattle.switchboard.specs.declared.calls.Abort.{Abort}
+use Rattle.switchboard.specs.declared.calls.PostFault.{PostFault}
+use Rattle.switchboard.specs.declared.calls.PostFault.TheVariants as fault
+use Rattle.switchboard.specs.declared.calls.Taken as answers
+use Rattle.switchboard.specs.declared.calls.Taken.TheVariants as answer
+use Rattle.switchboard.specs.Sights.{Sight, Account, Before, abort_of, IsSound}
+
+module _ {M W : Type 0} where
+  -- the pass has used up its calls, and nothing changed
+  abbrev pub WasSpent : Sight M W → Sight M W → Type 0
+  WasSpent s t = (s.calls ≡ 0) × (t ≡ s)
+
+  -- all passes of a board, in the order of their numbers
+  abbrev pub AreAll : TableId → ℕ → List (Sight M W) → Type 0
+  AreAll id boxes passes = (length passes ≡ boxes) × ((j : ℕ) (p : Sight M W) → slice_get passes j ≡ Some p → (p.board ≡ id) × (p.number ≡ j) × (p.seen.boxes ≡ boxes))
+
+module _ {M W : Type 0} (fits : W → ℕ → M → Type 0) where
+  -- What each call keeps: the pass stays the same one, its order begins with all that it had seen, which is sound, and who made an abort
+  -- knows of one.
+  pub record GoesOn (s t : Sight M W) : Type 0 where
+    pub board : t.board ≡ s.board
+    pub number : t.number ≡ s.number
+    pub before : Before s.seen t.seen
+    pub sound : IsSound fits t.seen
+    pub knows : t.made ≡ true → IsSome t.seen.aborted
+
+  -- the call made no event: the own list stays
+  pub record MadeNone (s t : Sight M W) : Type 0 where
+    pub goes : GoesOn s t
+    pub made : t.made ≡ s.made
+    pub own : own s.number t.seen.order ≡ own s.number s.seen.order
+
+  -- the same, and one call of the pass is used up
+  abbrev pub Looked : Sight M W → Sight M W → Type 0
+  Looked s t = MadeNone s t × (s.calls ≡ t.calls + 1)
+
+  -- the call made this event: it is the last of the order, and the own list is the old one and this event; one call is used up
+  pub record Added (e : Entry M) (s t : Sight M W) : Type 0 where
+    pub goes : GoesOn s t
+    pub made : t.made ≡ s.made
+    pub calls : s.calls ≡ t.calls + 1
+    pub front : List (Entry M)
+    pub last : t.seen.order ≡ front ++ e ∷ []
+    pub found : StartsWith front s.seen.order
+    pub own : own s.number t.seen.order ≡ own s.number s.seen.order ++ e ∷ []
+
+  -- the message was posted, on a board that was not aborted
+  abbrev pub WasPosted : ℕ → ℕ → M → Sight M W → Sight M W → Type 0
+  WasPosted job to m s t = Added (Posted to s.number m job) s t × (t.seen.aborted ≡ None)
+
+  -- the message came back: the calls are used up; there was no memory, on a board that was not aborted; or the board was aborted
+  abbrev pub WasRefused : M → PostFault M → Sight M W → Sight M W → Type 0
+  WasRefused m (fault.Spent back) s t = (back ≡ m) × WasSpent s t
+  WasRefused m (fault.Memory back) s t = (back ≡ m) × Looked s t × (t.seen.aborted ≡ None)
+  WasRefused m (fault.Aborted back) s t = (back ≡ m) × Looked s t × IsSome t.seen.aborted
+
+  -- the oldest message not yet taken was taken, of a board that was not aborted; it fits the mailbox, and the job is that of the take
+  pub record TookMessage (job : ℕ) (m : M) (s t : Sight M W) : Type 0 where
+    pub sender : ℕ
+    pub added : Added (Taken s.number sender m) s t
+    pub oldest : TakesOldest (part s.number added.front) (part s.number t.seen.order) m
+    pub number : job ≡ length (takes (part s.number added.front))
+    pub fit : fits s.seen.world s.number m
+    pub alive : t.seen.aborted ≡ None
+
+  -- what a take answers: closed, where the order is; aborted, where it is not and the board is; else the oldest message, or that every one is taken
+  abbrev pub Took : Result (answers.Taken M) Spent → Sight M W → Sight M W → Type 0
+  Took (Err e) s t = WasSpent s t
+  Took (Ok (answer.Message job m)) s t = TookMessage job m s t
+  Took (Ok answer.Empty) s t = Looked s t × (IsClosed t.seen.order → ⊥) × (t.seen.aborted ≡ None) × (length (posts (part s.number t.seen.order)) ≡ length (takes (part s.number t.seen.order)))
+  Took (Ok answer.Closed) s t = Looked s t × IsClosed t.seen.order
+  Took (Ok answer.Aborted) s t = Looked s t × (IsClosed t.seen.order → ⊥) × IsSome t.seen.aborted
+
+  -- the take of the job is completed
+  abbrev pub WasDone : ℕ → Sight M W → Sight M W → Type 0
+  WasDone job s t = Added (Completed s.number job) s t
+
+  -- the board is aborted by this pass, unless it was before; no call is used up, and the pass made no event. A second abort of the pass changes nothing
+  pub record MadeAbort (a : Abort) (s t : Sight M W) : Type 0 where
+    pub goes : GoesOn s t
+    pub made : t.made ≡ true
+    pub calls : t.calls ≡ s.calls
+    pub own : own s.number t.seen.order ≡ own s.number s.seen.order
+    pub first : s.made ≡ false → (before : Option Abort) × (t.seen.aborted ≡ abort_of before a)
+    pub again : s.made ≡ true → t ≡ s
+
+  -- the pass has seen what it had seen and what it was told, and no more
+  pub record Learned (told : Account M) (s t : Sight M W) : Type 0 where
+    pub none : MadeNone s t
+    pub calls : t.calls ≡ s.calls
+    pub theirs : StartsWith t.seen.order told.order
+    pub abort : (a : Abort) → told.aborted ≡ Some a → t.seen.aborted ≡ Some a
+    pub one : (t ≡ s) ⊎ ((t.seen.order ≡ told.order) × (t.seen.aborted ≡ told.aborted))
+
+  -- What is left of a board: one lawful order, which begins with each pass's order and has each pass's own list; its parts are the histories; it is closed where
+  -- all its histories are, and where some pass knows the close; and the abort that some pass knows of was made by a pass.
+  pub record Settles (boxes : ℕ) (passes : List (Sight M W)) (histories : List (List (Event M))) (closed : Bool) : Type 0 where
+    pub order : List (Entry M)
+    pub lawful : IsLawful boxes order
+    pub fitting : (j : ℕ) (p : Sight M W) → slice_get passes j ≡ Some p → (i to sender : ℕ) (m : M) (t : ℕ) → slice_get order i ≡ Some (Posted to sender m t) → fits p.seen.world to m
+    pub begins : (j : ℕ) (p : Sight M W) → slice_get passes j ≡ Some p → StartsWith order p.seen.order
+    pub own : (j : ℕ) (p : Sight M W) → slice_get passes j ≡ Some p → own j order ≡ own j p.seen.order
+    pub count : length histories ≡ boxes
+    pub parts : (q : ℕ) (h : List (Event M)) → slice_get histories q ≡ Some h → h ≡ part q order
+    pub close : IsTrue closed ↔ IsClosed order
+    pub known : (j : ℕ) (p : Sight M W) → slice_get passes j ≡ Some p → IsClosed p.seen.order → closed ≡ true
+    pub aborts : (j : ℕ) (p : Sight M W) (a : Abort) → slice_get passes j ≡ Some p → p.seen.aborted ≡ Some a → (q : Sight M W) × (slice_get passes a.by ≡ Some q) × (q.made ≡ true)

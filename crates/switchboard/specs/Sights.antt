@@ -1,0 +1,62 @@
+-- What a board keeps, and what a pass has seen of it.
+use Rattle.std.specs.Prelude.{◌≡◌, ℕ, zero, suc, ◌-◌, ◌<◌, Bool, false, List, [], ◌∷◌, Option, Some, None, slice_get}
+use Rattle.atomic_table.specs.Seated.{TableId}
+use Rattle.ticket_lock.specs.History.{StartsWith}
+use Rattle.post_ledger.specs.declared.entry.Entry.{Entry}
+use Rattle.post_ledger.specs.declared.entry.Entry.TheVariants.{Posted}
+use Rattle.post_ledger.specs.Orders.{IsLawful}
+use Rattle.switchboard.specs.declared.calls.Abort.{Abort}
+
+-- the world of its messages, the number of its mailboxes, the order of its events, and its first abort, if there was one
+pub record State (M W : Type 0) : Type 0 where
+  pub world : W
+  pub boxes : ℕ
+  pub order : List (Entry M)
+  pub aborted : Option Abort
+
+-- a pass: its board and its number, how many calls it has left, whether it made an abort, and the state of the board as it has seen it
+pub record Sight (M W : Type 0) : Type 0 where
+  pub board : TableId
+  pub number : ℕ
+  pub calls : ℕ
+  pub made : Bool
+  pub seen : State M W
+
+-- what a pass told: its board, and the order and the abort that it had seen
+pub record Account (M : Type 0) : Type 0 where
+  pub board : TableId
+  pub order : List (Entry M)
+  pub aborted : Option Abort
+
+-- the abort that stands after one more: the first
+abbrev pub abort_of : Option Abort → Abort → Option Abort
+abort_of None a = Some a
+abort_of (Some b) a = Some b
+
+module _ {M W : Type 0} where
+  -- a board on which nothing but the opening post was made
+  abbrev pub opened : W → ℕ → ℕ → M → State M W
+  opened world boxes to first = record { world = world; boxes = boxes; order = Posted to boxes first 0 ∷ []; aborted = None }
+
+  -- the second state goes on from the first: its order begins with the first's, and the first's abort stays
+  pub record Before (s t : State M W) : Type 0 where
+    pub world : t.world ≡ s.world
+    pub boxes : t.boxes ≡ s.boxes
+    pub order : StartsWith t.order s.order
+    pub aborted : (a : Abort) → s.aborted ≡ Some a → t.aborted ≡ Some a
+
+  -- a pass that has seen the opening post alone
+  abbrev pub fresh_sight : TableId → ℕ → State M W → ℕ → Sight M W
+  fresh_sight id budget s number = record { board = id; number = number; calls = budget - 1; made = false; seen = s }
+
+  -- so many passes, numbered from `first` on
+  abbrev pub fresh_sights : TableId → ℕ → State M W → ℕ → ℕ → List (Sight M W)
+  fresh_sights id budget s first zero = []
+  fresh_sights id budget s first (suc count) = fresh_sight id budget s first ∷ fresh_sights id budget s (suc first) count
+
+  module _ (fits : W → ℕ → M → Type 0) where
+    -- sound: the order is lawful, each message posted fits its mailbox, and an abort is by one of the passes
+    pub record IsSound (s : State M W) : Type 0 where
+      pub lawful : IsLawful s.boxes s.order
+      pub fitting : (i to sender : ℕ) (m : M) (t : ℕ) → slice_get s.order i ≡ Some (Posted to sender m t) → fits s.world to m
+      pub by : (a : Abort) → s.aborted ≡ Some a → a.by < s.boxes

@@ -1,0 +1,103 @@
+//! The calls of a board.
+ghost use Rattle.std.specs.Prelude.{◌≡◌, ℕ, ◌+◌, ◌^◌, ◌<◌, ◌≤◌, map, IfOk, MatchResult};
+ghost use Rattle.std.specs.Option.{ForSome};
+ghost use Rattle.atomic_table.specs.Seated.{TableId};
+ghost use Rattle.post_ledger.specs.Orders.{HasJob};
+ghost use Rattle.switchboard.specs.Sights.{Sight, Account, opened, fresh_sights};
+ghost use Rattle.switchboard.specs.Promises.{WasSpent, WasPosted, WasRefused, Took, WasDone, MadeAbort, Learned};
+
+use crate::calls::{Cause, Job, PostFault, Taken};
+use crate::mail::Mail;
+use std::alloc::{AllocError, Allocator};
+use std::sync::Wait;
+use ticket_lock::Spent;
+
+/// Mailboxes with a pass each, numbered alike: pass i alone takes from mailbox i, and is the sender of what it posts. Every call stands at one
+/// order of the board's events, of which its pass has seen a beginning.
+pub trait Board<M: Mail, A: Allocator>: Sized {
+    /// What one thread at a time works with.
+    type Pass;
+
+    /// What a pass had seen, to be told to another.
+    type Told;
+
+    ghost identity: { Self → TableId };
+
+    ghost mailboxes: { Self → ℕ };
+
+    ghost sight: { Self.Pass → Sight M M.World };
+
+    ghost account: { Self.Told → Account M };
+
+    /// A board of 1 to 64 mailboxes, with the opening post in one of them, and its passes in the order of their numbers.
+    fn open(
+        alloc: A,
+        world: &M::World,
+        boxes: u8,
+        to: u8,
+        first: M,
+    ) -> Result<(Self, Vec<Self::Pass, A>), AllocError>
+    where
+        A: Clone,
+        requires boxes { (to < boxes) × (boxes ≤ 64) }
+        requires fits { M.fits world.now to first }
+        ensures { IfOk result (λ r. (mailboxes r.0 ≡ boxes) × (map sight r.1.items ≡ fresh_sights (identity r.0) (2 ^ 56) (opened world.now boxes to first) 0 boxes)) };
+
+    /// The same, where each pass has fewer calls: one fewer than `budget`, from 2 to 2^56.
+    fn open_with_budget(
+        alloc: A,
+        world: &M::World,
+        boxes: u8,
+        to: u8,
+        first: M,
+        budget: u64,
+    ) -> Result<(Self, Vec<Self::Pass, A>), AllocError>
+    where
+        A: Clone,
+        requires boxes { (to < boxes) × (boxes ≤ 64) }
+        requires budget { (2 ≤ budget) × (budget ≤ 2 ^ 56) }
+        requires fits { M.fits world.now to first }
+        ensures { IfOk result (λ r. (mailboxes r.0 ≡ boxes) × (map sight r.1.items ≡ fresh_sights (identity r.0) budget (opened world.now boxes to first) 0 boxes)) };
+
+    /// Posts a message that fits the mailbox, under a job of the pass. A post that is refused hands its message back.
+    fn post<R: Wait>(
+        &self,
+        rt: &R,
+        pass: &mut Self::Pass,
+        job: &Job,
+        to: u8,
+        message: M,
+    ) -> Result<(), PostFault<M>>
+        requires board { (sight pass.old).board ≡ identity self.now }
+        requires job { HasJob (sight pass.old).number job.now (sight pass.old).seen.order }
+        requires fits { (to < (sight pass.old).seen.boxes) × M.fits (sight pass.old).seen.world to message }
+        ensures { MatchResult result (λ _. WasPosted M.fits job.now to message (sight pass.old) (sight pass.new)) (λ f. WasRefused M.fits message f (sight pass.old) (sight pass.new)) };
+
+    /// Takes the oldest message of the pass's mailbox, with a job; or says that the board is closed, or aborted, or the mailbox empty.
+    fn take<R: Wait>(&self, rt: &R, pass: &mut Self::Pass) -> Result<Taken<M>, Spent>
+        requires { (sight pass.old).board ≡ identity self.now }
+        ensures { Took M.fits result (sight pass.old) (sight pass.new) };
+
+    /// Records that the message of the job is dealt with, also after an abort.
+    fn done<R: Wait>(&self, rt: &R, pass: &mut Self::Pass, job: Job) -> Result<(), (Job, Spent)>
+        requires board { (sight pass.old).board ≡ identity self.now }
+        requires job { HasJob (sight pass.old).number job (sight pass.old).seen.order }
+        ensures { MatchResult result (λ _. WasDone M.fits job (sight pass.old) (sight pass.new)) (λ e. (e.0 ≡ job) × WasSpent (sight pass.old) (sight pass.new)) };
+
+    /// Aborts the board, and spends the job without completing its message.
+    fn abort<R: Wait>(&self, rt: &R, pass: &mut Self::Pass, job: Option<Job>, cause: Cause)
+        requires board { (sight pass.old).board ≡ identity self.now }
+        requires job { ForSome job (λ j. HasJob (sight pass.old).number j (sight pass.old).seen.order) }
+        ensures { MadeAbort M.fits (record { by = (sight pass.old).number; cause = cause }) (sight pass.old) (sight pass.new) };
+
+    /// What the pass has seen, for another pass.
+    fn tell(&self, pass: &mut Self::Pass) -> Self::Told
+        requires { (sight pass.old).board ≡ identity self.now }
+        ensures same { sight pass.new ≡ sight pass.old }
+        ensures told { account result ≡ record { board = (sight pass.old).board; order = (sight pass.old).seen.order; aborted = (sight pass.old).seen.aborted } };
+
+    /// The pass has then seen what it had seen and what it was told.
+    fn learn(&self, pass: &mut Self::Pass, told: Self::Told)
+        requires { ((sight pass.old).board ≡ identity self.now) × ((account told).board ≡ identity self.now) }
+        ensures { Learned M.fits (account told) (sight pass.old) (sight pass.new) };
+}

@@ -1,0 +1,19 @@
+//! Mailboxes behind one lock: each call stands in legal histories of all mailboxes.
+#![tactic(auto)]
+
+mod board;
+mod book;
+mod calls;
+mod lanes;
+mod mail;
+mod one;
+mod pass;
+#[cfg(test)]
+mod tests;
+
+pub use board::Board;
+pub use book::Book;
+pub use calls::{Abort, Cause, Job, PostFault, Taken};
+pub use mail::Mail;
+pub use one::OneLock;
+pub use pass::{OnePass, OneTold};
