@@ -155,14 +155,19 @@ module _ {T Part : Type 0} (before : T → T → Type 0) (part : ℕ → T → P
       (id, w, set_here s.views id w (at_inside s.views id v is_at), at_v.0, inl (longer_whole r.log v.hand.seen v.told fits.begins knows.told at_v.1)))
       (λ (ne : r.known.0 ≢ id). (r.known.0, r.known.1, set_else s.views id r.known.0 w ne ∙ r.known.2, r.known.3, r.known.4)) in
       let kept' : Kept 0 0 r.log s.words s.homes (set hs id w.hand) = record { room = r.kept.room; core = c } in
-      let done = rebuilt before part opening lanes s r id v is_at r.log s.words s.homes w kept' r.begun r.rising refl refl record { shares = knows.shares; told = (r.log, refl); owns = knows.owns } (λ j u _ e. r.each_view j u e) known in
-      (w, keeps, tt, subst (λ (ws : List ℕ). Rule record { words = ws; homes = s.homes; views = set s.views id w }) (sym (set-get_or s.words 0 0)) done, (
-        refl,
-        l.1,
-        l.2,
-        rises_short before r.log w.hand.seen l.0 r.rising,
-        (λ k lane x at. let last = EndsIn-some r.log (log_some s r) in (last.0, knows.owns k lane x last.0 at last.1, λ z ends. rises_last before r.log w.hand.seen z last.0 r.rising l.0 ends last.1)),
-      ))
+      let done = rebuilt before part opening lanes s r id v is_at r.log s.words s.homes w kept' r.begun r.rising refl refl record { shares = knows.shares; told = (r.log, refl); owns = knows.owns } (λ j u _ e. r.each_view j u e) known in (
+        w,
+        keeps,
+        tt,
+        subst (λ (ws : List ℕ). Rule record { words = ws; homes = s.homes; views = set s.views id w }) (sym (set-get_or s.words 0 0)) done,
+        (
+          refl,
+          l.1,
+          l.2,
+          rises_short before r.log w.hand.seen l.0 r.rising,
+          (λ k lane x at. let last = EndsIn-some r.log (log_some s r) in (last.0, knows.owns k lane x last.0 at last.1, λ z ends. rises_last before r.log w.hand.seen z last.0 r.rising l.0 ends last.1)),
+        ),
+      )
 
   -- a new seat knows nothing
   pub arrives_allowed : (slots : ℕ) → Enters Rule slots 0 (λ n w. w ≡ nobody)
