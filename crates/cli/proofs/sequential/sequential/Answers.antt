@@ -15,6 +15,6 @@ returns g c =
       of = c.in_ok-program.ensures.found;
       checked = c.in_ok-checked.ensures.checked.1;
       same = c.in_ok-printed.ensures.form
-      ∙ ap printed (ap tree_of c.program.ensures
-      ∙ (c.in_ok-rewritten.ensures.rewritten ∙ ap (rewritten_tree last) (ap tree_of c.in_ok-checked.ensures.checked.0)));
+          ∙ ap printed (ap tree_of c.program.ensures
+          ∙ (c.in_ok-rewritten.ensures.rewritten ∙ ap (rewritten_tree last) (ap tree_of c.in_ok-checked.ensures.checked.0)));
     }
