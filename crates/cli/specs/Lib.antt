@@ -4,3 +4,4 @@ pub mod Reach
 pub mod Limits
 pub mod Verdict
 pub mod Written
+pub mod Replies

@@ -1,5 +1,6 @@
 //! From the bytes of a text to a reply.
 ghost use Rattle.std.specs.Prelude.{◌≡◌, ◌⊎◌, ◌≤◌, IfOk, codes};
+ghost use Rattle.cli.specs.Replies.{IsSequential, Replies};
 ghost use Rattle.cli.specs.Verdict.{Answers};
 ghost use Rattle.cli.specs.Written.{bytes_of};
 
@@ -7,6 +8,7 @@ use crate::asked::Order;
 use crate::judge::{Verdict, judge};
 use crate::refusal::Refusal;
 use crate::reply::Reply;
+use crate::sequential::sequential;
 use scopes::ScopeFault;
 use std::alloc::{AllocError, Allocator};
 use std::borrow::CowSlice;
@@ -77,22 +79,48 @@ fn refused<A: Allocator>(alloc: A, refusal: Refusal) -> Reply<A>
     match refusal {
         Refusal::Unread(fault) => unread(alloc, fault),
         Refusal::Unchecked(fault) => unchecked(alloc, fault),
+        Refusal::TooWide => Reply::fixed("refused: 14 too wide\n", 2),
         Refusal::Memory => no_memory(),
     }
 }
 
-/// The reply to a text. Where its status is 0 or 1, the text is that of a checked program of the first part of the
-/// language, and the reply is `unsafe` with status 1 exactly where some run of one round fails an assert.
-pub fn answer<R: Alloc>(rt: &R, text: &[u8], order: Order) -> Reply<R::A>
+/// The reply to a text that is to be checked.
+fn verdict<R: Alloc>(rt: &R, text: &[u8]) -> Reply<R::A>
     ensures answers { result.status ≤ 1 → Answers text.now (bytes_of result) result.status }
     ensures status { result.status ≤ 3 }
 {
-    let Order::Check { rounds: _ } = order;
     let alloc = rt.alloc();
     match judge(&alloc, text) {
         Ok(Verdict::Safe) => Reply::fixed("safe\n", 0),
         Ok(Verdict::Unsafe) => Reply::fixed("unsafe\n", 1),
         Ok(Verdict::NotYet) => Reply::fixed("refused: not yet\n", 2),
         Err(refusal) => refused(rt.alloc(), refusal),
+    }
+}
+
+/// The reply to a text that is to be rewritten.
+fn rewriting<R: Alloc>(rt: &R, text: &[u8], rounds: u8) -> Reply<R::A>
+    ensures prints { result.status ≤ 1 → (result.status ≡ 0) × IsSequential text.now rounds (bytes_of result) }
+    ensures status { result.status ≤ 3 }
+{
+    match sequential(rt, text, rounds) {
+        Ok(printed) => Reply {
+            bytes: CowSlice::Owned(printed.into_bytes()),
+            status: 0,
+        },
+        Err(refusal) => refused(rt.alloc(), refusal),
+    }
+}
+
+/// The reply to a text. Where its status is 0 or 1, the text is that of a checked program. To `Check` the program is then of
+/// the first part of the language, and the reply is `unsafe` with status 1 exactly where some run of one round fails an assert;
+/// to `Sequential` the bytes are the printed form of the program that it is rewritten to.
+pub fn answer<R: Alloc>(rt: &R, text: &[u8], order: Order) -> Reply<R::A>
+    ensures answers { result.status ≤ 1 → Replies text.now order (bytes_of result) result.status }
+    ensures status { result.status ≤ 3 }
+{
+    match order {
+        Order::Check { rounds: _ } => verdict(rt, text),
+        Order::Sequential { rounds } => rewriting(rt, text, rounds),
     }
 }

@@ -5,6 +5,8 @@
 pub enum Order {
     /// Whether a run of at most so many rounds fails an assert.
     Check { rounds: u8 },
+    /// The sequential program that it is rewritten to for so many rounds.
+    Sequential { rounds: u8 },
 }
 
 /// Why the words give no order. The texts are those of `clap`.

@@ -11,6 +11,7 @@ mod line;
 mod reach;
 mod refusal;
 mod reply;
+mod sequential;
 pub mod unsafety;
 
 pub use answers::{answer, no_memory};

@@ -1,5 +1,6 @@
 //! Why a text gets no verdict.
 
+use round_rewrite::RewriteFault;
 use scopes::ScopeFault;
 use std::alloc::AllocError;
 use syntax::ReadFault;
@@ -11,6 +12,8 @@ pub(crate) enum Refusal {
     Unread(ReadFault),
     /// A fault of scopes stands in it.
     Unchecked(ScopeFault),
+    /// Some procedure of the rewritten program has more than 64 places.
+    TooWide,
     /// A growth was refused.
     Memory,
 }
@@ -30,5 +33,14 @@ impl From<ScopeFault> for Refusal {
 impl From<AllocError> for Refusal {
     fn from(_e: AllocError) -> Refusal {
         Refusal::Memory
+    }
+}
+
+impl From<RewriteFault> for Refusal {
+    fn from(fault: RewriteFault) -> Refusal {
+        match fault {
+            RewriteFault::TooWide => Refusal::TooWide,
+            RewriteFault::Memory => Refusal::Memory,
+        }
     }
 }

@@ -222,10 +222,10 @@ impl<'a> Alloc for Refusing<'a> {
 }
 
 /// With allocation N refused the answer is the want of memory, or the true one; at last no allocation is refused.
-fn refused_in_turn(alloc: Global, text: &str, bytes: &str) -> bool {
+fn refused_in_turn(alloc: Global, asked: Order, text: &str, bytes: &str) -> bool {
     for nth in 1..1000u64 {
         let scarce = Scarce::refusing(alloc, nth);
-        let reply = answer(&Refusing(&scarce), text.as_bytes(), ONE_ROUND);
+        let reply = answer(&Refusing(&scarce), text.as_bytes(), asked);
         let whole = reply.bytes.as_slice() == bytes.as_bytes();
         if !scarce.refused() {
             return whole;
@@ -240,7 +240,79 @@ fn refused_in_turn(alloc: Global, text: &str, bytes: &str) -> bool {
 #[test]
 fn each_allocation_is_refused_in_turn(rt: HostRuntime) {
     for (text, bytes, _) in ROWS {
-        assert!(rt; refused_in_turn(rt.alloc(), text, bytes), "{text}");
+        assert!(rt;
+            refused_in_turn(rt.alloc(), ONE_ROUND, text, bytes),
+            "{text}"
+        );
+    }
+}
+
+/// The first text at one round, rewritten.
+const REWRITTEN: &str = "decl rh__, rl__, stop__, bad__;
+main__()
+begin
+  rh__, rl__, stop__ := 0, 0, 0;
+  t();
+end
+t()
+begin
+  while (?) do
+    assume(!(!rh__ & !rl__));
+    rh__, rl__ := rh__ ^ rl__, !rl__;
+  od
+  if (?) then
+    stop__ := 1;
+  else
+    skip;
+  fi
+  if (stop__) then
+    return;
+  else
+    skip;
+  fi
+  skip;
+end
+thread main__;
+";
+
+/// Texts, numbers of rounds, and what is answered to `sequential`.
+static REWRITINGS: [(&str, u8, &str, u8); 6] = [
+    ("t() begin skip; end thread t;", 1, REWRITTEN, 0),
+    (
+        "decl a,b,c,d,e,f,g,h,i; t() begin skip; end thread t;",
+        4,
+        "refused: 14 too wide\n",
+        2,
+    ),
+    (
+        "decl a,b,c,d,e,f,g,h; t() begin decl k,l,m,n,o; skip; end thread t;",
+        4,
+        "refused: 14 too wide\n",
+        2,
+    ),
+    ("", 1, "refused: 3 syntax at 0\n", 2),
+    (
+        "decl a__b; t() begin skip; end thread t;",
+        2,
+        "refused: 11 reserved at 5\n",
+        2,
+    ),
+    (
+        "t() begin goto L; end thread t;",
+        3,
+        "refused: 10 bad label at 15\n",
+        2,
+    ),
+];
+
+#[test]
+fn rewritten_programs_are_printed(rt: HostRuntime) {
+    for (text, rounds, bytes, status) in REWRITINGS {
+        let asked = Order::Sequential { rounds };
+        let reply = answer(&rt, text.as_bytes(), asked);
+        assert_eq!(rt; reply.bytes.as_slice(), bytes.as_bytes(), "{text}");
+        assert_eq!(rt; reply.status, status, "{text}");
+        assert!(rt; refused_in_turn(rt.alloc(), asked, text, bytes), "{text}");
     }
 }
 
@@ -254,7 +326,7 @@ fn words(alloc: Global, line: &str) -> Result<Vec<String>, AllocError> {
 }
 
 #[test]
-fn the_one_order_is_taken(rt: HostRuntime) -> Result<(), Fail> {
+fn a_check_is_for_one_round(rt: HostRuntime) -> Result<(), Fail> {
     for line in [
         "bebopk check --rounds 1 a.bp",
         "bebopk check a.bp --rounds 1",
@@ -273,6 +345,22 @@ fn the_one_order_is_taken(rt: HostRuntime) -> Result<(), Fail> {
 }
 
 #[test]
+fn a_rewriting_is_for_one_to_four_rounds(rt: HostRuntime) -> Result<(), Fail> {
+    for rounds in 1..5u8 {
+        let line = format!(in rt.alloc(); "bebopk sequential --rounds {rounds} a.bp")?;
+        let all = words(rt.alloc(), line.as_str())?;
+        match order(rt.alloc(), all.as_slice()) {
+            Ok((asked, file)) => {
+                assert_eq!(rt; asked, Order::Sequential { rounds });
+                assert_eq!(rt; file.as_str(), "a.bp");
+            }
+            Err(_) => panic!(rt; "refused: {line}"),
+        }
+    }
+    Ok(())
+}
+
+#[test]
 fn other_words_are_refused(rt: HostRuntime) -> Result<(), Fail> {
     for line in [
         "bebopk",
@@ -282,7 +370,10 @@ fn other_words_are_refused(rt: HostRuntime) -> Result<(), Fail> {
         "bebopk check --rounds 1",
         "bebopk check --rounds 1 a.bp b.bp",
         "bebopk check --rounds 1 --edges 3 a.bp",
-        "bebopk sequential --rounds 1 a.bp",
+        "bebopk sequential a.bp",
+        "bebopk sequential --rounds 0 a.bp",
+        "bebopk sequential --rounds 5 a.bp",
+        "bebopk sequential --rounds 1",
         "bebopk look --rounds 1 a.bp",
     ] {
         let all = words(rt.alloc(), line)?;

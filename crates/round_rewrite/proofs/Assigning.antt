@@ -1,5 +1,5 @@
 -- One target of an assignment after the other.
-use Rattle.std.proofs.Common.{◌≡◌, ℕ, suc, ◌+◌, Bool, true, false, cond, List, [], ◌∷◌, ◌++◌, map, refl, sym, ◌∙◌, ap, ap₂, append_assoc}
+use Rattle.std.proofs.Common.{◌≡◌, ℕ, suc, true, false, cond, List, [], ◌∷◌, ◌++◌, map, sym, ◌∙◌, ap, ap₂, append_assoc}
 use Rattle.language.specs.Tree.{Name, Expression, var, RightSide, any, value}
 use Rattle.round_rewrite.specs.Table.{Naming, numbers, rounds, targets, sides, side, expression, written}
 

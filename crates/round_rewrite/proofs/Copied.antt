@@ -1,5 +1,5 @@
 -- The globals of the rewritten program, one round after the other.
-use Rattle.std.proofs.Common.{◌≡◌, ℕ, zero, suc, ◌+◌, List, [], ◌∷◌, ◌++◌, map, refl, sym, ◌∙◌, ap, arith, append_assoc, append-nil}
+use Rattle.std.proofs.Common.{◌≡◌, ℕ, ◌+◌, List, [], ◌∷◌, ◌++◌, map, sym, ◌∙◌, ap, append_assoc, append-nil}
 use Rattle.language.specs.Tree.{Name}
 use Rattle.round_rewrite.specs.Table.{Naming, numbers, copied}
 use Rattle.round_rewrite.proofs.Pushed.{numbers_next}

@@ -1,5 +1,5 @@
 -- What each kind of statement does, by the fold over statements.
-use Rattle.std.proofs.Common.{◌≡◌, List, refl, sym, ◌∙◌, ap}
+use Rattle.std.proofs.Common.{◌≡◌, sym, ◌∙◌, ap}
 use Rattle.std.specs.declared.vec.Vec.{Vec}
 use Rattle.language.specs.Tree.{skip, assign, assert, assume, goto, leave, call}
 use Rattle.syntax.specs.Trees.{Deed, Item, simple, branch, repeat, core_step, stmt_step, item_of, deed_of, name_of, names_of, rhs_of, rhss_of, exprs_of, block_of}

@@ -7,7 +7,7 @@ use Rattle.language.specs.Rest.{join}
 use Rattle.syntax.specs.declared.tree.Stmt.{Stmt}
 use Rattle.syntax.specs.declared.tree.Core.{Core}
 use Rattle.syntax.specs.declared.tree.Core.TheFolds.{fold_out-Stmt}
-use Rattle.syntax.specs.Trees.{Deed, simple, branch, repeat, Item, name_of, core_step, stmt_step, item_of, items_of, deed_of, marked_before, all_before, block_of}
+use Rattle.syntax.specs.Trees.{Deed, simple, branch, repeat, Item, name_of, core_step, stmt_step, items_of, deed_of, marked_before, all_before, block_of}
 use Rattle.round_rewrite.specs.Table.{Naming, numbers, each, plain, side, drawing, prologue, statement, rewritten}
 use Rattle.round_rewrite.specs.Writing.{Statements, Lays, bare_form, form, forms}
 use Rattle.language.proofs.Rests.{join_done}

@@ -1,5 +1,5 @@
 -- Statements put behind others.
-use Rattle.std.proofs.Common.{◌≡◌, List, [], ◌∷◌, ◌++◌, refl, sym, ◌∙◌, ap, option_map}
+use Rattle.std.proofs.Common.{◌≡◌, List, [], ◌∷◌, ◌++◌, refl, ◌∙◌, ap, option_map}
 use Rattle.std.proofs.lemmas.List.{map-append}
 use Rattle.language.specs.Tree as tree
 use Rattle.language.specs.Tree.{Mark}

@@ -1,5 +1,5 @@
 -- What is pushed for one number after the other.
-use Rattle.std.proofs.Common.{◌≡◌, ℕ, zero, suc, ◌+◌, ◌≤◌, List, [], ◌∷◌, ◌++◌, map, refl, sym, ◌∙◌, ap, ap₂, arith, append_assoc, drop, get_or, length, ◌<◌}
+use Rattle.std.proofs.Common.{◌≡◌, ℕ, zero, suc, ◌+◌, ◌≤◌, List, [], ◌∷◌, ◌++◌, map, sym, ◌∙◌, ap, ap₂, arith, append_assoc, drop, get_or, length, ◌<◌}
 use Rattle.std.proofs.lemmas.List.{map-append, drop_more}
 use Rattle.language.specs.Sequential.{numbers}
 

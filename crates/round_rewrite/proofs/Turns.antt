@@ -1,10 +1,7 @@
 -- One thread's turns over rows of globals, one row for each round.
 pub use Rattle.language.proofs.Runs.{steps_map, after_map, steps_pick, after_pick, step_runs, no_steps}
-use Rattle.std.proofs.Common.{◌≡◌, ℕ, zero, suc, Bool, List, [], ◌∷◌, Option, Some, None, slice_get, refl, sym, subst, ◌⊎◌, inl, inr}
-use Rattle.language.specs.Tree.{skip, assign, assert, assume, goto, leave, call, done, one, choose, loop}
-use Rattle.language.specs.Value.{values_of}
-use Rattle.language.specs.Rest.{Code, rest_from}
-use Rattle.language.specs.Step.{Routine, Program, Frame, frame, State, state, fresh, AtRoutine, AtRest, body_of, StepsTo, AfterSteps, Runs, Fails}
+use Rattle.std.proofs.Common.{◌≡◌, Bool, List, [], ◌∷◌, refl, ◌⊎◌, inl, inr}
+use Rattle.language.specs.Step.{Program, Frame, state, StepsTo, Runs, Fails}
 
 -- a thread's turns: from each row to the row after it, its stack kept between them
 abbrev pub Turns : Program → List (List Bool) → List Frame → List (List Bool) → List Frame → Type 0

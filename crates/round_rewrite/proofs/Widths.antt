@@ -1,13 +1,12 @@
 -- How wide the procedures of the rewritten program are.
-use Rattle.std.proofs.Common.{◌≡◌, ℕ, zero, suc, ◌+◌, ◌*◌, ◌<◌, ◌≤◌, List, [], ◌∷◌, ◌++◌, length, length-append, get_or, drop, map, codes, refl, sym, ◌∙◌, ap, subst, arith, append_assoc}
-use Rattle.std.proofs.lemmas.List.{length-map, drop_more, drop_all}
-use Rattle.std.specs.Prelude.{◌↔◌}
+use Rattle.std.proofs.Common.{◌≡◌, ℕ, zero, suc, ◌+◌, ◌<◌, ◌≤◌, List, [], ◌∷◌, ◌++◌, length, length-append, get_or, map, codes, sym, ◌∙◌, ap, subst, arith, append_assoc}
+use Rattle.std.proofs.lemmas.List.{length-map}
 use Rattle.language.specs.Tree.{Name, Procedure, Tree}
 use Rattle.syntax.specs.declared.tree.Proc.{Proc}
 use Rattle.syntax.specs.Trees.{proc_of, procs_of}
-use Rattle.round_rewrite.specs.Table.{Naming, numbers, copied, globals, temporaries}
+use Rattle.round_rewrite.specs.Table.{numbers, copied, globals}
 use Rattle.round_rewrite.specs.Places.{bits_at}
-use Rattle.round_rewrite.specs.Names.{named, names, copy_name, save_name, drawn_name, rewritten_procedure, main_procedure, rewritten_tree}
+use Rattle.round_rewrite.specs.Names.{named, names, copy_name, save_name, drawn_name, rewritten_procedure, rewritten_tree}
 use Rattle.scopes.specs.Rewritable.{EachProcedure}
 use Rattle.round_rewrite.specs.Narrow.{width, IsNarrow}
 use Rattle.round_rewrite.specs.Writing.{procedure_needs, IsOwnNarrow, AreFew}

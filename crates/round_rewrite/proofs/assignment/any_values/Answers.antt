@@ -1,4 +1,4 @@
-use Rattle.std.proofs.Common.{◌≡◌, ◌≤◌, ◌∙◌, refl, ap, arith, []}
+use Rattle.std.proofs.Common.{◌∙◌, refl, ap, arith, []}
 use Rattle.language.specs.Tree.{any}
 use Rattle.syntax.specs.Trees.{rhs_of, rhss_of}
 use Rattle.syntax.specs.declared.tree.Rhs.TheVariants as rhs

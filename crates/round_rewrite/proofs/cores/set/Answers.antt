@@ -1,9 +1,8 @@
-use Rattle.std.proofs.Common.{◌≡◌, ◌∙◌, ap, List, [], ◌∷◌, ◌++◌}
-use Rattle.language.specs.Tree.{negation, two, xor, any, value, assign, assume, done}
-use Rattle.syntax.specs.Trees.{simple, branch, repeat, names_of, rhs_of, rhss_of, marked_before}
-use Rattle.round_rewrite.specs.Table.{plain}
+use Rattle.std.proofs.Common.{◌∙◌, ap, [], ◌∷◌, ◌++◌}
+use Rattle.language.specs.Tree.{assign}
+use Rattle.syntax.specs.Trees.{simple, names_of, rhss_of}
 use Rattle.round_rewrite.specs.Names.{named}
-use Rattle.round_rewrite.proofs.Deeds.{deed_of_skip, deed_of_return, deed_of_assign, deed_of_assume, deed_of_if, deed_of_while}
+use Rattle.round_rewrite.proofs.Deeds.{deed_of_assign}
 use Rattle.round_rewrite.proofs.cores.set.Goals as goal
 
 pub returns : goal.returns

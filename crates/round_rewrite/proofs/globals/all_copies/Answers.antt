@@ -1,7 +1,7 @@
-use Rattle.std.proofs.Common.{◌≡◌, suc, ◌+◌, ◌∙◌, ap, sym, refl, arith, [], ◌∷◌, ◌++◌, codes, append_assoc}
+use Rattle.std.proofs.Common.{◌≡◌, suc, ◌+◌, ◌∙◌, ap, arith, [], ◌++◌}
 use Rattle.syntax.specs.Trees.{names_of}
 use Rattle.round_rewrite.specs.Table.{numbers, copied}
-use Rattle.round_rewrite.specs.Names.{named, names, copy_name, save_name}
+use Rattle.round_rewrite.specs.Names.{names, copy_name}
 use Rattle.round_rewrite.proofs.Copied.{copied_next}
 use Rattle.round_rewrite.proofs.globals.all_copies.Goals as goal
 

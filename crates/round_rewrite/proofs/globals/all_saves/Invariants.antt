@@ -2,7 +2,7 @@
 use Rattle.std.proofs.Common.{◌≡◌, ◌++◌, []}
 use Rattle.syntax.specs.Trees.{names_of}
 use Rattle.round_rewrite.specs.Table.{numbers, copied}
-use Rattle.round_rewrite.specs.Names.{names, copy_name, save_name}
+use Rattle.round_rewrite.specs.Names.{names, save_name}
 use Rattle.round_rewrite.proofs.globals.all_saves.Given as goal
 
 abbrev pub invariant-loop-before : goal.invariant-loop-before

@@ -1,8 +1,8 @@
-use Rattle.std.proofs.Common.{◌≡◌, suc, ◌+◌, ◌∙◌, ap, sym, refl, arith, [], ◌∷◌, ◌++◌, codes, append_assoc}
+use Rattle.std.proofs.Common.{suc, ◌∙◌, ap, [], ◌∷◌, ◌++◌, codes}
 use Rattle.syntax.specs.Trees.{names_of}
 use Rattle.round_rewrite.specs.Table.{numbers, copied}
 use Rattle.round_rewrite.specs.Names.{named, names, copy_name, save_name}
-use Rattle.round_rewrite.proofs.Copied.{copied_next, gathered}
+use Rattle.round_rewrite.proofs.Copied.{gathered}
 use Rattle.round_rewrite.proofs.globals.globals.Goals as goal
 
 pub returns : goal.returns

@@ -1,7 +1,6 @@
-use Rattle.std.proofs.Common.{◌≡◌, ◌∙◌, ap, refl, ◌++◌, ◌+◌, map, drop}
-use Rattle.language.specs.Tree.{any, var, value}
-use Rattle.syntax.specs.Trees.{name_of, names_of, rhs_of, rhss_of}
-use Rattle.round_rewrite.specs.Names.{copy_name, save_name}
+use Rattle.std.proofs.Common.{◌∙◌, ap, ◌++◌, ◌+◌, map, drop}
+use Rattle.syntax.specs.Trees.{name_of, names_of}
+use Rattle.round_rewrite.specs.Names.{copy_name}
 use Rattle.round_rewrite.proofs.Pushed.{one_through}
 use Rattle.round_rewrite.proofs.lists.copies.Goals as goal
 

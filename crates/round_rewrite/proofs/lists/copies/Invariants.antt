@@ -1,9 +1,7 @@
 -- The names so far, and what the others come to.
 use Rattle.std.proofs.Common.{◌≡◌, ◌++◌, map, drop}
-use Rattle.language.specs.Tree.{any, var, value}
-use Rattle.syntax.specs.Trees.{names_of, rhss_of}
-use Rattle.round_rewrite.specs.Table.{each}
-use Rattle.round_rewrite.specs.Names.{copy_name, save_name}
+use Rattle.syntax.specs.Trees.{names_of}
+use Rattle.round_rewrite.specs.Names.{copy_name}
 use Rattle.round_rewrite.proofs.lists.copies.Given as goal
 
 abbrev pub invariant-loop-x : goal.invariant-loop-x

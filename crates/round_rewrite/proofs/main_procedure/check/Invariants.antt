@@ -1,9 +1,9 @@
 -- What stands with the other checks behind it.
 use Rattle.std.proofs.Common.{◌≡◌, [], drop}
-use Rattle.syntax.specs.Trees.{names_of, threads_of, items_of, all_before}
-use Rattle.round_rewrite.specs.Table.{numbers, guesses, starts, check, checks}
+use Rattle.syntax.specs.Trees.{names_of, items_of, all_before}
+use Rattle.round_rewrite.specs.Table.{check}
 use Rattle.round_rewrite.specs.Names.{names}
-use Rattle.round_rewrite.specs.Writing.{Statements, Lays, line_names}
+use Rattle.round_rewrite.specs.Writing.{Statements}
 use Rattle.round_rewrite.proofs.main_procedure.check.Given as goal
 
 abbrev pub invariant-loop-x : goal.invariant-loop-x

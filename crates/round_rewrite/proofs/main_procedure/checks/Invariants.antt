@@ -1,9 +1,9 @@
 -- The checks so far.
-use Rattle.std.proofs.Common.{◌≡◌, [], drop}
-use Rattle.syntax.specs.Trees.{names_of, threads_of, items_of, all_before}
-use Rattle.round_rewrite.specs.Table.{numbers, guesses, starts, check, checks}
+use Rattle.std.proofs.Common.{[]}
+use Rattle.syntax.specs.Trees.{names_of}
+use Rattle.round_rewrite.specs.Table.{numbers, checks}
 use Rattle.round_rewrite.specs.Names.{names}
-use Rattle.round_rewrite.specs.Writing.{Statements, Lays, line_names}
+use Rattle.round_rewrite.specs.Writing.{Lays}
 use Rattle.round_rewrite.proofs.main_procedure.checks.Given as goal
 
 abbrev pub invariant-loop-round : goal.invariant-loop-round

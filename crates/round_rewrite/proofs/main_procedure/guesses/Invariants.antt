@@ -1,9 +1,9 @@
 -- The guesses so far.
-use Rattle.std.proofs.Common.{◌≡◌, [], drop}
-use Rattle.syntax.specs.Trees.{names_of, threads_of, items_of, all_before}
-use Rattle.round_rewrite.specs.Table.{numbers, guesses, starts, check, checks}
+use Rattle.std.proofs.Common.{[]}
+use Rattle.syntax.specs.Trees.{names_of}
+use Rattle.round_rewrite.specs.Table.{numbers, guesses}
 use Rattle.round_rewrite.specs.Names.{names}
-use Rattle.round_rewrite.specs.Writing.{Statements, Lays, line_names}
+use Rattle.round_rewrite.specs.Writing.{Lays}
 use Rattle.round_rewrite.proofs.main_procedure.guesses.Given as goal
 
 abbrev pub invariant-loop-before : goal.invariant-loop-before

@@ -1,13 +1,10 @@
-use Rattle.std.proofs.Common.{◌≡◌, refl, ◌+◌, ◌<◌, ◌≤◌, ◌∙◌, ap, sym, subst, arith, ◌∷◌, length, drop}
+use Rattle.std.proofs.Common.{◌≡◌, refl, ◌+◌, ◌∙◌, ap, sym, subst, ◌∷◌, length, drop}
 use Rattle.std.proofs.lemmas.List.{drop_more, drop_all, length-map}
 use Rattle.std.proofs.lemmas.Bool.{false≢true}
-use Rattle.syntax.specs.Trees.{name_of, names_of, proc_of, procs_of, tree_of}
+use Rattle.syntax.specs.Trees.{name_of, names_of, procs_of, tree_of}
 use Rattle.round_rewrite.specs.Places.{bits_at}
 use Rattle.scopes.specs.Rewritable.{EachProcedure}
-use Rattle.round_rewrite.specs.Narrow.{IsNarrow}
-use Rattle.round_rewrite.specs.Writing.{procedure_needs, IsOwnNarrow}
-use Rattle.round_rewrite.specs.Table.{temporaries}
-use Rattle.round_rewrite.specs.Names.{names}
+use Rattle.round_rewrite.specs.Writing.{IsOwnNarrow}
 use Rattle.round_rewrite.proofs.Widths.{narrow, narrow_globals, narrow_procedures, each_at}
 use Rattle.round_rewrite.proofs.width.is_narrow.Goals as goal
 

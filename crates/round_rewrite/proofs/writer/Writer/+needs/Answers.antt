@@ -1,4 +1,4 @@
-use Rattle.std.proofs.Common.{◌≡◌, ◌+◌, ◌*◌, ◌<◌, ◌≤◌, max, ◌∙◌, ap, sym, arith}
+use Rattle.std.proofs.Common.{◌+◌, ◌*◌, ◌<◌, max, ◌∙◌, ap, sym, arith}
 use Rattle.language.specs.Sequential.{statements}
 use Rattle.syntax.specs.Trees.{deed_of, block_of, names_of, rhss_of}
 use Rattle.round_rewrite.specs.Table.{draws, temporaries}

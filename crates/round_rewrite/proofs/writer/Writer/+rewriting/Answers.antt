@@ -1,4 +1,4 @@
-use Rattle.std.proofs.Common.{◌≡◌, ◌+◌, ◌*◌, ◌<◌, ◌≤◌, ◌∙◌, ap, sym, arith}
+use Rattle.std.proofs.Common.{◌+◌, ◌*◌, ◌<◌, ◌∙◌, ap, arith}
 use Rattle.language.specs.Tree.{skip, leave, goto, assert, assume, assign, call, done}
 use Rattle.language.specs.Sequential.{statements}
 use Rattle.syntax.specs.Trees.{simple, branch, repeat, name_of, names_of, rhs_of, rhss_of, exprs_of, deed_of, block_of, items_of, all_before}

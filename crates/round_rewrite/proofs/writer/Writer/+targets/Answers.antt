@@ -1,4 +1,4 @@
-use Rattle.std.proofs.Common.{◌≡◌, sym, ◌∙◌, ap, [], ◌∷◌, ◌++◌}
+use Rattle.std.proofs.Common.{sym, ◌∙◌, ap, [], ◌∷◌, ◌++◌}
 use Rattle.std.proofs.lemmas.List.{map-append}
 use Rattle.syntax.specs.Trees.{name_of, names_of, rhs_of, rhss_of}
 use Rattle.round_rewrite.specs.Writing.{naming_of}

@@ -1,12 +1,9 @@
-use Rattle.std.proofs.Common.{◌≡◌, ◌∙◌, ap, List, [], ◌∷◌, ◌++◌}
-use Rattle.language.specs.Tree.{any, assign, call}
-use Rattle.syntax.specs.Trees.{simple, repeat, names_of, rhss_of, items_of, all_before}
-use Rattle.round_rewrite.specs.Table.{plain, drawing, numbers, each, targets, sides}
-use Rattle.round_rewrite.specs.Names.{drawn_name}
-use Rattle.round_rewrite.specs.Writing.{naming_of}
-use Rattle.round_rewrite.proofs.Laying.{then, laid}
-use Rattle.round_rewrite.proofs.Forms.{drawing_some}
-use Rattle.round_rewrite.proofs.Deeds.{deed_of_assign, deed_of_call}
+use Rattle.std.proofs.Common.{◌∙◌}
+use Rattle.language.specs.Tree.{call}
+use Rattle.syntax.specs.Trees.{simple}
+use Rattle.round_rewrite.specs.Table.{plain}
+use Rattle.round_rewrite.proofs.Laying.{laid}
+use Rattle.round_rewrite.proofs.Deeds.{deed_of_call}
 use Rattle.round_rewrite.proofs.writer.Writer.call.Goals as goal
 
 pub returns : goal.returns

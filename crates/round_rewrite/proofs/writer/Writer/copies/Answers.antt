@@ -1,9 +1,5 @@
-use Rattle.std.proofs.Common.{◌≡◌, ◌++◌, map}
-use Rattle.language.specs.Tree.{var}
-use Rattle.syntax.specs.Trees.{name_of, names_of, expr_of, rhss_of}
-use Rattle.round_rewrite.specs.Table.{numbers, written, expression}
-use Rattle.round_rewrite.specs.Names.{copy_name, drawn_name}
-use Rattle.round_rewrite.specs.Writing.{naming_of}
+use Rattle.syntax.specs.Trees.{name_of, names_of}
+use Rattle.round_rewrite.specs.Names.{copy_name}
 use Rattle.round_rewrite.proofs.Pushed.{over_rounds}
 use Rattle.round_rewrite.proofs.writer.Writer.copies.Goals as goal
 

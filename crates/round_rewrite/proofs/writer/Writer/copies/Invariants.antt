@@ -1,10 +1,8 @@
 -- The copies so far.
 use Rattle.std.proofs.Common.{◌≡◌, ◌++◌, map}
-use Rattle.language.specs.Tree.{any, var}
-use Rattle.syntax.specs.Trees.{name_of, names_of, expr_of, rhss_of}
-use Rattle.round_rewrite.specs.Table.{numbers, written, expression, each}
-use Rattle.round_rewrite.specs.Names.{copy_name, drawn_name}
-use Rattle.round_rewrite.specs.Writing.{naming_of}
+use Rattle.syntax.specs.Trees.{name_of, names_of}
+use Rattle.round_rewrite.specs.Table.{numbers}
+use Rattle.round_rewrite.specs.Names.{copy_name}
 use Rattle.round_rewrite.proofs.writer.Writer.copies.Given as goal
 
 abbrev pub invariant-loop-round : goal.invariant-loop-round

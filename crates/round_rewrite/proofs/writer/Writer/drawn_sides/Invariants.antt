@@ -1,9 +1,9 @@
 -- The right sides so far.
 use Rattle.std.proofs.Common.{◌≡◌, ◌++◌, map}
-use Rattle.language.specs.Tree.{any, var}
-use Rattle.syntax.specs.Trees.{name_of, names_of, expr_of, rhss_of}
-use Rattle.round_rewrite.specs.Table.{numbers, written, expression, each}
-use Rattle.round_rewrite.specs.Names.{copy_name, drawn_name}
+use Rattle.language.specs.Tree.{var}
+use Rattle.syntax.specs.Trees.{name_of, rhss_of}
+use Rattle.round_rewrite.specs.Table.{numbers, written}
+use Rattle.round_rewrite.specs.Names.{drawn_name}
 use Rattle.round_rewrite.specs.Writing.{naming_of}
 use Rattle.round_rewrite.proofs.writer.Writer.drawn_sides.Given as goal
 
