@@ -1,6 +1,9 @@
 //! The program: words of the command line in, a reply and its status out.
 #![tactic(auto)]
 
+ghost use Rattle.std.specs.Prelude.{◌≡◌, ◌⊎◌, ◌≤◌};
+ghost use Rattle.bebopk.specs.Status.{status_of};
+
 use cli::{LineFault, Reply, answer, no_memory, order};
 use std::alloc::{AllocError, Allocator, Global};
 use std::io::{self, ErrorKind, Read, Write};
@@ -27,7 +30,9 @@ fn text_of<R: Files + Alloc>(rt: &R, path: &str) -> io::Result<Vec<u8, R::A>> {
 }
 
 /// Writes the reply, and gives its status; 3 where writing fails.
-fn written<R: Print, A: Allocator>(rt: &R, reply: Reply<A>) -> u8 {
+fn written<R: Print, A: Allocator>(rt: &R, reply: Reply<A>) -> u8
+    ensures { (result ≡ reply.status) ⊎ (result ≡ 3) }
+{
     let mut out = io::writer(rt);
     match out.write_all(reply.bytes.as_slice()) {
         Ok(()) => reply.status,
@@ -36,7 +41,9 @@ fn written<R: Print, A: Allocator>(rt: &R, reply: Reply<A>) -> u8 {
 }
 
 /// Writes a fixed line, and gives the status; 3 where writing fails.
-fn said<R: Print>(rt: &R, text: &str, status: u8) -> u8 {
+fn said<R: Print>(rt: &R, text: &str, status: u8) -> u8
+    ensures { (result ≡ status) ⊎ (result ≡ 3) }
+{
     match rt.print(text) {
         Ok(()) => status,
         Err(_) => 3,
@@ -44,7 +51,9 @@ fn said<R: Print>(rt: &R, text: &str, status: u8) -> u8 {
 }
 
 /// Answers words that give no order: help on the standard output, `refused: line` with the reason on standard error.
-fn refused<R: Print + Eprint>(rt: &R, fault: &LineFault) -> u8 {
+fn refused<R: Print + Eprint>(rt: &R, fault: &LineFault) -> u8
+    ensures { (result ≡ status_of fault.now) ⊎ (result ≡ 3) }
+{
     match fault {
         LineFault::Help(text) => said(rt, text.as_str(), 0),
         LineFault::Refused(why) => {
@@ -55,8 +64,10 @@ fn refused<R: Print + Eprint>(rt: &R, fault: &LineFault) -> u8 {
     }
 }
 
-/// Answers the words.
-fn run<R: Files + Print + Eprint + AllocGlobal>(rt: &R, words: &[String]) -> u8 {
+/// Answers the words, with a status of at most 3.
+fn run<R: Files + Print + Eprint + AllocGlobal>(rt: &R, words: &[String]) -> u8
+    ensures { result ≤ 3 }
+{
     let (asked, path) = match order(rt.alloc(), words) {
         Ok(found) => found,
         Err(fault) => return refused(rt, &fault),

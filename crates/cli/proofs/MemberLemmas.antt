@@ -1,9 +1,6 @@
 -- What is in lists that are made of others.
-use Rattle.std.proofs.Common.{◌≡◌, ℕ, zero, suc, List, [], ◌∷◌, ◌++◌, ◌⊎◌, Bool, true, false, ◌||◌, map, refl, sym, ◌∙◌, ap, inl, inr, subst, ◌<◌, ◌≤◌, ◌+◌, length, take, drop, get_or}
+use Rattle.std.proofs.Common.{◌≡◌, ℕ, List, [], ◌∷◌, ◌++◌, ◌⊎◌, Bool, true, false, map, refl, sym, ◌∙◌, ap, inl, inr, subst, ◌<◌, ◌≤◌, ◌+◌, length, take, drop, get_or}
 use Rattle.std.specs.Prelude.{◌↔◌, IsTrue}
-use Rattle.std.specs.List.{list_any}
-use Rattle.std.specs.Bool.{Decides}
-use Rattle.std.proofs.lemmas.Bool.{or_cases, cases_Bool}
 use Rattle.std.proofs.lemmas.List.{map-append, take_more, take_all, drop_more}
 use Rattle.std.specs.declared.vec.Vec.{Vec}
 use Rattle.cli.specs.Members.{Member}
@@ -11,6 +8,7 @@ use Rattle.cli.specs.Reach.{rows_of, From, Adds, AreFrom, IsWith, IsWithIf, IsWi
 use Rattle.language.specs.Tree as tree
 use Rattle.language.specs.Tree.{RightSide}
 use Rattle.std.specs.String.{string_bytes}
+use Rattle.std.proofs.lemmas.Bool.{false≢true}
 use Rattle.language.specs.Resolve.{number_of, place_of, resolve_side}
 use Rattle.syntax.specs.declared.tree.Name.{Name}
 use Rattle.syntax.specs.declared.tree.Rhs.{Rhs}
@@ -132,10 +130,7 @@ fails_later side row rest not_here = (
 
 -- what is not wanted is not added, and what is wanted is
 pub adds_not : (n : ℕ) (v : Bool) (old rows : List (List Bool)) → Adds (IsWithIf false n v) old old rows
-adds_not n v old rows g = (λ m. inl m, λ h. elim h [ inl m ↦ m | inr never ↦ absurd (false-true never.2.0) ])
-  where
-    false-true : false ≡ true → ⊥
-    false-true e = cc
+adds_not n v old rows g = (λ m. inl m, λ h. elim h [ inl m ↦ m | inr never ↦ absurd (false≢true never.2.0) ])
 
 pub adds_yes : (n : ℕ) (v : Bool) (old new rows : List (List Bool)) → Adds (IsWith n v) old new rows → Adds (IsWithIf true n v) old new rows
 adds_yes n v old new rows h g = (

@@ -1,45 +1,19 @@
 //! What names stand for, what right sides are worth, and writing.
 ghost use Rattle.std.specs.Prelude.{◌≡◌, ◌↔◌, IsTrue, IfSome, IfOk, map};
-ghost use Rattle.language.specs.Resolve.{number_of, is_declared, place_of, resolve_expression, resolve_side};
+ghost use Rattle.language.specs.Resolve.{place_of, resolve_expression, resolve_side};
 ghost use Rattle.language.specs.Value.{look_up, bit, with_bit, value_of, operate, IsValue, AreValues, written_globals, written_locals};
 ghost use Rattle.syntax.specs.Trees.{name_of, names_of, expr_of, operator_of, rhs_of, rhss_of};
 ghost use Rattle.explore.specs.Views.{scope_at, place_seen, global_after, local_after, IsAssigned};
 
 use crate::bits::Bits;
 use std::alloc::{AllocError, Allocator};
-use syntax::{Expr, Name, Op, Proc, Program, Rhs};
+use syntax::{Expr, Name, Op, Proc, Program, Rhs, declares, number_of_name};
 
 /// Where the value of a variable is kept.
 #[derive(Clone, Copy, Debug)]
 pub(crate) enum Place {
     Global(usize),
     Local(usize),
-}
-
-/// How many names come before the first with this text.
-fn number<N: Allocator>(names: &[Name<N>], text: &str) -> usize
-    ensures { result ≡ number_of text.now (names_of names.now) }
-{
-    let mut at: usize = 0;
-    for name in names {
-        if text == name.text.as_str() {
-            return at;
-        }
-        at += 1;
-    }
-    at
-}
-
-/// Whether some name has this text.
-fn declares<N: Allocator>(names: &[Name<N>], text: &str) -> bool
-    ensures { result ≡ is_declared text.now (names_of names.now) }
-{
-    for name in names {
-        if text == name.text.as_str() {
-            return true;
-        }
-    }
-    false
 }
 
 /// The place of a variable of a procedure; `None` only where its number would not fit.
@@ -50,12 +24,12 @@ fn stands_for<N: Allocator>(program: &Program<N>, proc: &Proc<N>, x: &Name<N>) -
     let formals = proc.formals.as_slice();
     let locals = proc.locals.as_slice();
     if declares(formals, text) {
-        Some(Place::Local(number(formals, text)))
+        Some(Place::Local(number_of_name(formals, text)))
     } else if declares(locals, text) {
-        let place = formals.len().checked_add(number(locals, text))?;
+        let place = formals.len().checked_add(number_of_name(locals, text))?;
         Some(Place::Local(place))
     } else {
-        Some(Place::Global(number(program.globals.as_slice(), text)))
+        Some(Place::Global(number_of_name(program.globals.as_slice(), text)))
     }
 }
 

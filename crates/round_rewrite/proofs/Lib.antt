@@ -29,8 +29,6 @@ pub mod Meaning
 pub mod Pushed
 pub mod Assigning
 pub mod Laying
-pub mod Deeds
-pub mod Held
 pub mod Forms
 pub mod Mains
 pub mod Needing

@@ -2,12 +2,12 @@
 use Rattle.std.proofs.Common.{◌≡◌, ℕ, ◌+◌, ◌<◌, ◌≤◌, Bool, max, List, ◌∷◌, length, get_or, drop, refl, sym, ◌∙◌, ap, arith}
 use Rattle.std.proofs.lemmas.List.{drop_more, drop_all}
 use Rattle.language.specs.Tree as tree
-use Rattle.language.specs.Tree.{skip, assign, assert, assume, goto, leave, call, Mark, Block}
+use Rattle.language.specs.Tree.{skip, assign, assert, assume, goto, leave, call, Mark}
 use Rattle.syntax.specs.declared.tree.Stmt.{Stmt}
 use Rattle.syntax.specs.Trees.{Deed, simple, branch, repeat, item_of, deed_of, block_of, marked_before}
 use Rattle.round_rewrite.specs.Table.{temporaries}
 use Rattle.round_rewrite.specs.Writing.{Statements, deed_needs}
-use Rattle.round_rewrite.proofs.Deeds.{item_deed}
+use Rattle.syntax.proofs.Folds.{item_deed}
 
 max_zero : (n : ℕ) → n ≡ max 0 n
 max_zero n = omega arith

@@ -1,39 +1,18 @@
 -- Where the printed names stand among the rewritten program's globals, formals, locals and temporaries.
-use Rattle.std.proofs.Common.{◌≡◌, ℕ, zero, suc, ◌+◌, ◌*◌, ◌<◌, ◌≤◌, Bool, true, false, cond, not, List, [], ◌∷◌, ◌++◌, length, map, codes, refl, sym, ◌∙◌, ap, subst, ap₂, arith, append_assoc, length-append, ◌⊎◌, inl, inr}
+use Rattle.std.proofs.Common.{◌≡◌, ℕ, zero, suc, ◌+◌, ◌*◌, ◌<◌, ◌≤◌, Bool, true, false, cond, List, [], ◌∷◌, ◌++◌, length, map, refl, ◌∙◌, ap, ap₂, arith, length-append}
 use Rattle.language.specs.Tree.{Name}
 use Rattle.language.specs.Rest.{same_text}
 use Rattle.language.specs.Resolve.{number_of, is_declared}
 use Rattle.round_rewrite.specs.Table.{Naming, numbers, copied}
 use Rattle.scopes.specs.Rewritable.{has_double, AreFree}
+use Rattle.language.proofs.Names.{declared_first, declared_second, number_first, number_second}
 use Rattle.round_rewrite.proofs.Spelling.{same_text_true, free_differs}
 
-declared_step : (c : Bool) (r r' : Bool) → cond c true r ≡ true → (c ≡ true) ⊎ (r ≡ true)
-declared_step true r r' h = inl refl
-declared_step false r r' h = inr h
-
-none_step : (c : Bool) (r : Bool) → cond c true r ≡ false → (c ≡ false) × (r ≡ false)
-none_step true r h = cc
-none_step false r h = (refl, h)
-
 pub number_right : (t : List ℕ) (xs ys : List Name) → is_declared t xs ≡ false → (number_of t (xs ++ ys) ≡ length xs + number_of t ys) × (is_declared t (xs ++ ys) ≡ is_declared t ys)
-number_right t [] ys h = (sym (Rattle.std.proofs.Common.zero-add (number_of t ys)), refl)
-number_right t (x ∷ xs) ys h =
-    let k = none_step (same_text t x.text) (is_declared t xs) h in
-    let r = number_right t xs ys k.1 in (
-      ap (λ c. cond c 0 (suc (number_of t (xs ++ ys)))) k.0 ∙ (ap suc r.0 ∙ (let z : suc (length xs + number_of t ys) ≡ suc (length xs) + number_of t ys = omega arith in z)),
-      ap (λ c. cond c true (is_declared t (xs ++ ys))) k.0 ∙ r.1,
-    )
-
-number_here : (c : Bool) (a b : ℕ) → a ≡ b → cond c 0 (suc a) ≡ cond c 0 (suc b)
-number_here c a b e = ap (λ z. cond c 0 (suc z)) e
+number_right t xs ys h = (number_second t xs ys h, declared_second t xs ys h)
 
 pub number_left : (t : List ℕ) (xs ys : List Name) → is_declared t xs ≡ true → (number_of t (xs ++ ys) ≡ number_of t xs) × (is_declared t (xs ++ ys) ≡ true)
-number_left t [] ys h = cc
-number_left t (x ∷ xs) ys h = go (same_text t x.text) (λ k. number_left t xs ys k) h
-  where
-    go : (c : Bool) → (is_declared t xs ≡ true → (number_of t (xs ++ ys) ≡ number_of t xs) × (is_declared t (xs ++ ys) ≡ true)) → cond c true (is_declared t xs) ≡ true → (cond c 0 (suc (number_of t (xs ++ ys))) ≡ cond c 0 (suc (number_of t xs))) × (cond c true (is_declared t (xs ++ ys)) ≡ true)
-    go true rec k = (refl, refl)
-    go false rec k = let r = rec k in (ap suc r.0, r.1)
+number_left t xs ys h = (number_first t xs ys h, declared_first t xs ys h)
 
 -- a text that has two underscores is no declared name
 pub not_free : (a s : List ℕ) (xs : List Name) → AreFree xs → is_declared (a ++ 95 ∷ 95 ∷ s) xs ≡ false

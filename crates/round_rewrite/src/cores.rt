@@ -71,7 +71,6 @@ fn set_both<A: Allocator + Clone>(
 }
 
 /// The test of `stop__`: a thread that is stopped leaves.
-#[tactic(auto, using(crate::proofs::Deeds::deed_of_skip, crate::proofs::Deeds::deed_of_return, crate::proofs::Deeds::deed_of_if))]
 pub fn stop_test<A: Allocator + Clone>(alloc: &A) -> Result<Core<A>, AllocError>
     ensures { IfOk result (λ c. deed_of c ≡ stop_testing) }
 {
@@ -82,7 +81,6 @@ pub fn stop_test<A: Allocator + Clone>(alloc: &A) -> Result<Core<A>, AllocError>
 }
 
 /// The choice to stop.
-#[tactic(auto, using(crate::proofs::Deeds::deed_of_skip, crate::proofs::Deeds::deed_of_if))]
 pub fn stop_choice<A: Allocator + Clone>(alloc: &A) -> Result<Core<A>, AllocError>
     ensures { IfOk result (λ c. deed_of c ≡ stopping) }
 {
@@ -92,7 +90,6 @@ pub fn stop_choice<A: Allocator + Clone>(alloc: &A) -> Result<Core<A>, AllocErro
 }
 
 /// What an assert becomes: where its right side is 0, `bad__` and `stop__` are raised, and the procedure is left.
-#[tactic(auto, using(crate::proofs::Deeds::deed_of_skip, crate::proofs::Deeds::deed_of_return, crate::proofs::Deeds::deed_of_if))]
 pub fn checked<A: Allocator + Clone>(alloc: &A, side: Rhs<A>) -> Result<Core<A>, AllocError>
     ensures { IfOk result (λ c. deed_of c ≡ failing (rhs_of side)) }
 {
@@ -121,7 +118,6 @@ impl<'a, N: Allocator, A: Allocator + Clone> Writer<'a, N, A> {
     }
 
     /// The loop of the prologue: on to the next round, any number of times, as long as there is one.
-    #[tactic(auto, using(crate::proofs::Deeds::deed_of_while))]
     pub fn rising(&self) -> Result<Core<A>, AllocError>
         ensures { IfOk result (λ c. deed_of c ≡ repeat any (rise (naming_of self.now) self.now.rounds.last)) }
     {

@@ -7,10 +7,10 @@ ghost use Rattle.syntax.specs.Trees.{name_of, operator_of, expr_of, exprs_of, rh
 ghost use Rattle.round_rewrite.specs.Table.{literal, at, joined, read, expression, side, written};
 ghost use Rattle.round_rewrite.specs.Names.{named, copy_name, drawn_name};
 
-use crate::names::{again, copy, declares, drawn, fixed};
+use crate::names::{again, copy, drawn, fixed};
 use crate::writer::Writer;
 use std::alloc::{AllocError, Allocator};
-use syntax::{Expr, Name, Op, Rhs};
+use syntax::{Expr, Name, Op, Rhs, declares};
 
 /// A read of a name.
 pub fn read_of<A: Allocator>(x: Name<A>) -> Expr<A>

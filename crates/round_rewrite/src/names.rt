@@ -1,8 +1,7 @@
 //! The names of a rewritten program.
 
 ghost use Rattle.std.specs.Prelude.{◌≡◌, ◌<◌, ◌^◌, IfOk};
-ghost use Rattle.language.specs.Resolve.{is_declared};
-ghost use Rattle.syntax.specs.Trees.{name_of, names_of};
+ghost use Rattle.syntax.specs.Trees.{name_of};
 ghost use Rattle.round_rewrite.specs.Names.{named, copy_name, save_name, drawn_name};
 
 use std::alloc::{AllocError, Allocator};
@@ -62,16 +61,4 @@ pub fn drawn<A: Allocator>(alloc: A, number: usize) -> Result<Name<A>, AllocErro
     let number = number + 1;
     let text = format!(in alloc; "tmp__t{number}")?;
     Ok(Name { text, at: 0 })
-}
-
-/// Whether some name has this text.
-pub fn declares<N: Allocator>(names: &[Name<N>], text: &str) -> bool
-    ensures { result ≡ is_declared text.now (names_of names.now) }
-{
-    for name in names {
-        if text == name.text.as_str() {
-            return true;
-        }
-    }
-    false
 }

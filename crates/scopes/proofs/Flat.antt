@@ -1,12 +1,12 @@
 -- The statements of a block, one statement after the other.
-use Rattle.std.proofs.Common.{◌≡◌, ℕ, ◌+◌, ◌<◌, ◌≤◌, List, [], ◌∷◌, ◌++◌, length, map, drop, get_or, refl, sym, ◌∙◌, ap, append_assoc, append-nil, zero, suc, arith, length-append}
+use Rattle.std.proofs.Common.{◌≡◌, ℕ, ◌+◌, ◌<◌, ◌≤◌, List, [], ◌∷◌, ◌++◌, length, map, drop, get_or, refl, sym, ◌∙◌, ap, append_assoc, append-nil}
 use Rattle.std.proofs.lemmas.List.{drop_more, drop_all}
 use Rattle.language.specs.Tree.{Name, Mark, Block}
 use Rattle.syntax.specs.Trees.{Deed, simple, branch, repeat, Item, item_of, marked_before, block_of, deed_of, proc_of, procs_of}
 use Rattle.syntax.specs.declared.tree.Proc.{Proc}
 use Rattle.syntax.specs.declared.tree.Stmt.{Stmt}
 use Rattle.scopes.specs.Statements.{Statement, statement_of, statements_of, statements_of_all, head_of, inside}
-use Rattle.scopes.proofs.Heads.{item_is}
+use Rattle.syntax.proofs.Folds.{item_is}
 
 put : (m : Mark Name) (d : Deed) (k : Block Name Name Name) → statements_of (marked_before m d k) ≡ record { mark = m; head = head_of d } ∷ (inside d ++ statements_of k)
 put m (simple s) k = refl
@@ -56,20 +56,6 @@ gathered {X} {Y} h n f o k d1 d2 d3 x1 x2 x3 a b c e p q r =
     sym (a ∙ ap (λ (l : List Y). l ++ map h d3) (b ∙ ap (λ (l : List Y). l ++ map h d2) (c ∙ ap (λ (l : List Y). l ++ map h d1) e))
     ∙ ap (λ (l : List X). (map h l ++ map h d2) ++ map h d3) p ∙ ap (λ (l : List X). (map h x1 ++ map h l) ++ map h d3) q
     ∙ ap (λ (l : List X). (map h x1 ++ map h x2) ++ map h l) r)
-
--- a statement of a list, with those that it holds, is no more than the list's statements
-pub smaller : {A : Type 0} (l : List (Stmt A)) (i : ℕ) (s : Stmt A) → i < length l → s ≡ get_or l i s → length (inside (deed_of s.core)) + 1 ≤ length (statements_of (block_of l))
-smaller [] i s lt is = absurd (omega arith)
-smaller {A} (x ∷ l) zero s lt is =
-    let e : length (statements_of (block_of (x ∷ l))) ≡ length (statement_of x ∷ inside (deed_of x.core)) + length (statements_of (block_of l)) =
-    ap length (first x l) ∙ length-append (statement_of x ∷ inside (deed_of x.core)) (statements_of (block_of l)) in
-    let f : length (inside (deed_of s.core)) ≡ length (inside (deed_of x.core)) = ap (λ (y : Stmt A). length (inside (deed_of y.core))) is in
-    omega arith
-smaller (x ∷ l) (suc i) s lt is =
-    let e : length (statements_of (block_of (x ∷ l))) ≡ length (statement_of x ∷ inside (deed_of x.core)) + length (statements_of (block_of l)) =
-    ap length (first x l) ∙ length-append (statement_of x ∷ inside (deed_of x.core)) (statements_of (block_of l)) in
-    let f : length (inside (deed_of s.core)) + 1 ≤ length (statements_of (block_of l)) = smaller l i s (omega arith) is in
-    omega arith
 
 -- a loop that puts the statements of procedures behind others
 pub one_procedure : {A : Type 0} (l : List (Proc A)) (i : ℕ) (p : Proc A) (old new w : List Statement)

@@ -2,6 +2,7 @@ pub mod Fixes
 pub mod KindTests
 pub mod Expressions
 pub mod Folds
+pub mod Held
 pub mod Exactly
 pub mod Parts
 pub mod Sections

@@ -1,12 +1,12 @@
 -- Texts of statements, as they grow.
-use Rattle.std.proofs.Common.{◌≡◌, ℕ, ◌+◌, ◌<◌, ◌≤◌, List, [], ◌∷◌, ◌++◌, length, drop, get_or, refl, sym, ◌∙◌, ap, append_assoc, append-nil, zero, suc, add-one, arith, option_map}
+use Rattle.std.proofs.Common.{◌≡◌, ℕ, ◌+◌, ◌<◌, ◌≤◌, List, [], ◌∷◌, ◌++◌, length, drop, get_or, refl, sym, ◌∙◌, ap, append_assoc, append-nil, zero, suc, add-one, option_map}
 use Rattle.std.proofs.lemmas.List.{drop_more, drop_all}
-use Rattle.language.specs.Tree.{Name, Mark, Block, done, one, choose, loop}
+use Rattle.language.specs.Tree.{Name, Mark, Block, one}
 use Rattle.tokens.specs.Parts.{text_of}
 use Rattle.tokens.proofs.PartsCut.{text_of-append}
 use Rattle.syntax.specs.declared.tree.Stmt.{Stmt}
-use Rattle.syntax.specs.declared.tree.Core.TheFolds.{fold_out-Stmt}
-use Rattle.syntax.specs.Trees.{name_of, Deed, simple, branch, repeat, Item, item_of, core_step, stmt_step, deed_of, marked_before, before, block_of}
+use Rattle.syntax.specs.Trees.{name_of, Deed, simple, branch, repeat, Item, deed_of, marked_before, before, block_of}
+use Rattle.syntax.proofs.Folds.{item_is}
 use Rattle.syntax.specs.Printed.{label_parts, margin, block_parts}
 use Rattle.syntax.specs.PrintedDeed.{deed_parts}
 
@@ -17,9 +17,6 @@ margin_more (suc level) = ap (λ (t : List ℕ). 32 ∷ 32 ∷ t) (margin_more l
 
 pub two_more : (level : ℕ) (old mid new : List ℕ) → mid ≡ old ++ text_of (margin level) → new ≡ mid ++ (32 ∷ 32 ∷ []) → new ≡ old ++ text_of (margin (level + 1))
 two_more level old mid new h e = e ∙ ap (λ (t : List ℕ). t ++ (32 ∷ 32 ∷ [])) h ∙ append_assoc old _ _ ∙ ap (λ (t : List ℕ). old ++ t) (sym (ap (λ (n : ℕ). text_of (margin n)) (add-one level) ∙ margin_more level))
-
-pub item_is : {A : Type 0} (s : Stmt A) → item_of s ≡ record { mark = record { label = option_map name_of s.label; at = s.at }; deed = deed_of s.core }
-item_is {A} s = fold_out-Stmt A Deed Item core_step stmt_step s
 
 -- A statement's text: its margin, its label, and what it does, in front of the statements after it.
 marked_text : (level : ℕ) (m : Mark Name) (d : Deed) (k : Block Name Name Name)
@@ -48,35 +45,3 @@ one_printed {A} level l i s old s1 s2 new w lt is h h1 h2 h3 =
 pub none_left : {A : Type 0} (level : ℕ) (l : List (Stmt A)) (i : ℕ) (old w : List ℕ) → length l ≤ i → old ++ text_of (block_parts level (block_of (drop i l))) ≡ w → old ≡ w
 none_left {A} level l i old w le h =
     sym (append-nil old) ∙ ap (λ (x : List (Stmt A)). old ++ text_of (block_parts level (block_of x))) (sym (drop_all i l le)) ∙ h
-
--- how many statements a block has, with those inside
-abbrev pub count : Block Name Name Name → ℕ
-count done = 0
-count (one m s k) = 1 + count k
-count (choose m r a b k) = 1 + count a + count b + count k
-count (loop m r a k) = 1 + count a + count k
-
--- how many statements a statement holds
-abbrev pub held : Deed → ℕ
-held (simple s) = 0
-held (branch r a b) = count a + count b
-held (repeat r a) = count a
-
-count_marked : (m : Mark Name) (d : Deed) (k : Block Name Name Name) → count (marked_before m d k) ≡ 1 + held d + count k
-count_marked m (simple s) k = refl
-count_marked m (branch r a b) k = omega arith
-count_marked m (repeat r a) k = refl
-
-count_first : {A : Type 0} (s : Stmt A) (k : List (Stmt A)) → count (block_of (s ∷ k)) ≡ 1 + held (deed_of s.core) + count (block_of k)
-count_first s k = ap (λ (i : Item). count (before i (block_of k))) (item_is s) ∙ count_marked (record { label = option_map name_of s.label; at = s.at }) (deed_of s.core) (block_of k)
-
-pub fewer : {A : Type 0} (l : List (Stmt A)) (i : ℕ) (s : Stmt A) → i < length l → s ≡ get_or l i s → held (deed_of s.core) < count (block_of l)
-fewer [] i s lt is = absurd (omega arith)
-fewer {A} (x ∷ l) zero s lt is =
-    let e : count (block_of (x ∷ l)) ≡ 1 + held (deed_of x.core) + count (block_of l) = count_first x l in
-    let f : held (deed_of s.core) ≡ held (deed_of x.core) = ap (λ (y : Stmt A). held (deed_of y.core)) is in
-    omega arith
-fewer (x ∷ l) (suc i) s lt is =
-    let e : count (block_of (x ∷ l)) ≡ 1 + held (deed_of x.core) + count (block_of l) = count_first x l in
-    let f : held (deed_of s.core) < count (block_of l) = fewer l i s (omega arith) is in
-    omega arith

@@ -44,7 +44,7 @@ pub two_pushed : {A X E : Type 0} (r : Result X E) (o : Op) (a b : Box (Expr A) 
     → s1 ≡ old ++ (40 ∷ []) → s2 ≡ s1 ++ text_of (operand_parts (expr_of x)) → s3 ≡ s2 ++ text_of (space ∷ fixed (kind_of (operator_of o)) ∷ space ∷ []) → s4 ≡ s3 ++ text_of (operand_parts (expr_of y))
     → new ≡ cond (is_ok r) (s4 ++ (41 ∷ [])) s4 → IfOk r (λ _. new ≡ old ++ text_of (operand_parts (expr_of e)))
 two_pushed r o a b e x y old s1 s2 s3 s4 new is left right h1 h2 h3 h4 last =
-    let tree : expr_of e ≡ two (operator_of o) (expr_of x) (expr_of y) = ap expr_of is ∙ expr_of-Two o a b x y left right in
+    let tree : expr_of e ≡ two (operator_of o) (expr_of x) (expr_of y) = ap expr_of is ∙ expr_of-Two o a b ∙ (λ i. two (operator_of o) (expr_of (left i)) (expr_of (right i))) in
     let form : text_of (operand_parts (expr_of e)) ≡ 40 ∷ (text_of (operand_parts (expr_of x)) ++ (text_of (space ∷ fixed (kind_of (operator_of o)) ∷ space ∷ []) ++ (text_of (operand_parts (expr_of y)) ++ (41 ∷ [])))) =
     ap (λ (t : Expression Name). text_of (operand_parts t)) tree ∙ text_of-operand (operator_of o) (expr_of x) (expr_of y) in
     pushed_last r new s4 (41 ∷ []) _ last (rw (h4, h3, h2, h1) (five old (40 ∷ []) _ _ _ (41 ∷ []) ∙ ap (λ (t : List ℕ). old ++ t) (sym form)))
@@ -54,7 +54,7 @@ pub two_printed : {A X E : Type 0} (r : Result X E) (o : Op) (a b : Box (Expr A)
     → s1 ≡ old ++ text_of (operand_parts (expr_of x)) → s2 ≡ s1 ++ text_of (space ∷ fixed (kind_of (operator_of o)) ∷ space ∷ [])
     → IfOk r (λ _. new ≡ s2 ++ text_of (operand_parts (expr_of y))) → IfOk r (λ _. new ≡ old ++ text_of (expression_parts (expr_of e)))
 two_printed r o a b e x y old s1 s2 new is left right h1 h2 last =
-    let tree : expr_of e ≡ two (operator_of o) (expr_of x) (expr_of y) = ap expr_of is ∙ expr_of-Two o a b x y left right in
+    let tree : expr_of e ≡ two (operator_of o) (expr_of x) (expr_of y) = ap expr_of is ∙ expr_of-Two o a b ∙ (λ i. two (operator_of o) (expr_of (left i)) (expr_of (right i))) in
     let form : text_of (expression_parts (expr_of e)) ≡ text_of (operand_parts (expr_of x)) ++ (text_of (space ∷ fixed (kind_of (operator_of o)) ∷ space ∷ []) ++ text_of (operand_parts (expr_of y))) =
     ap (λ (t : Expression Name). text_of (expression_parts t)) tree ∙ text_of-operation (operator_of o) (operand_parts (expr_of x)) (operand_parts (expr_of y)) in
     put_last r new s2 _ _ last (rw (h2, h1) (append_assoc (old ++ text_of (operand_parts (expr_of x))) _ _ ∙ append_assoc old _ _ ∙ ap (λ (t : List ℕ). old ++ t) (sym form)))

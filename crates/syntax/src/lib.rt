@@ -5,6 +5,7 @@ mod expression;
 mod fault;
 mod laws;
 mod lists;
+mod names;
 mod print_expressions;
 mod print_statements;
 mod printed_laws;
@@ -17,6 +18,7 @@ mod tree;
 
 pub use fault::ReadFault;
 pub use laws::texts_have_one_tree;
+pub use names::{declares, number_of_name};
 pub use printed_laws::{a_loop_is_printed_over_lines, printed_texts_are_read_back};
 pub use printing::print;
 pub use reading::read;

@@ -1,16 +1,15 @@
 -- Each kind of statement of the first part, and that no other comes.
-use Rattle.std.proofs.Common.{◌≡◌, ◌∙◌, List, Bool, ap, subst, sym, false, true, map, rules}
+use Rattle.std.proofs.Common.{◌≡◌, ◌∙◌, List, Bool, ap, subst, sym, false, map}
 use Rattle.std.proofs.lemmas.List.{length-map}
-use Rattle.std.specs.Prelude.{length, IsTrue, ◌↔◌}
+use Rattle.std.specs.Prelude.{length}
+use Rattle.std.proofs.lemmas.Bool.{false≢true}
 use Rattle.language.specs.Resolve.{place_of, resolve_side}
 use Rattle.syntax.specs.Trees.{deed_of, item_of, name_of, names_of, rhs_of, rhss_of}
-use Rattle.cli.specs.Straight.{globals_only, IsStraightDeed, IsStraightItem}
+use Rattle.cli.specs.Straight.{globals_only, IsStraightDeed}
 use Rattle.cli.specs.Reach.{rows_of, AreFrom, IsAssigned, IsPassed, SomeFails}
-use Rattle.cli.proofs.ItemLemmas.{item_deed, deed_of-Skip, deed_of-Assign, deed_of-Assert, deed_of-If, deed_of-While, deed_of-Assume, deed_of-Goto, deed_of-Return, deed_of-Call, leads_skip, leads_assign, leads_assert, fails_assert}
+use Rattle.syntax.proofs.Folds.{item_deed, deed_of-Skip, deed_of-Assign, deed_of-Assert, deed_of-If, deed_of-While, deed_of-Assume, deed_of-Goto, deed_of-Return, deed_of-Call}
+use Rattle.cli.proofs.ItemLemmas.{leads_skip, leads_assign, leads_assert}
 use Rattle.cli.proofs.analysis.after.Goals as goal
-
-false-true : false ≡ true → ⊥
-false-true e = cc
 
 pub assigned-requires : goal.assigned-requires
 assigned-requires g c =
@@ -64,6 +63,6 @@ returns-in_ok-passed-in-Assert g c =
     let side = resolve_side s (rhs_of c.in-Assert.side) in
     let new : List (List Bool) = rows_of c.in_ok-passed-in-Assert.field-0.items in
     let none : SomeFails side (rows_of c.args.rows.items) → ⊥ =
-    λ h. false-true (sym c.if-some_fails.false ∙ c.some_fails.ensures.1 (subst (λ l. SomeFails side (rows_of l)) (sym c.as_slice-in-Assert.ensures.value) h)) in
+    λ h. false≢true (sym c.if-some_fails.false ∙ c.some_fails.ensures.1 (subst (λ l. SomeFails side (rows_of l)) (sym c.as_slice-in-Assert.ensures.value) h)) in
     let are : AreFrom (IsPassed side) (rows_of c.args.rows.items) new = subst (λ l. AreFrom (IsPassed side) (rows_of l) new) c.as_slice-in-Assert-2.ensures.value c.in_ok-passed-in-Assert.ensures in
     leads_assert s (item_of c.args.stmt.now) (rhs_of c.in-Assert.side) (rows_of c.args.rows.items) new e none are

@@ -1,13 +1,14 @@
 -- One statement further.
-use Rattle.std.proofs.Common.{◌≡◌, ◌∙◌, ◌∷◌, ◌++◌, [], List, Bool, Some, None, sym, subst, ap, refl, inl, inr, length, ℕ}
+use Rattle.std.proofs.Common.{◌≡◌, ◌∙◌, ◌∷◌, ◌++◌, [], List, Bool, sym, subst, ap, refl, inl, inr, length, ℕ}
 use Rattle.language.specs.Rest.{Code}
 use Rattle.std.specs.Prelude.{MatchOption}
 use Rattle.language.specs.Step.{zeros}
 use Rattle.syntax.specs.Trees.{names_of, item_of, items_of}
 use Rattle.cli.specs.Reach.{rows_of}
 use Rattle.cli.specs.Straight.{globals_only, code_of, AreStraight, FailsFrom, SomeFailFrom, FailsAt, Leads}
-use Rattle.cli.proofs.ItemLemmas.{items_drop, false-true}
+use Rattle.cli.proofs.ItemLemmas.{items_drop}
 use Rattle.std.proofs.lemmas.List.{drop_all}
+use Rattle.std.proofs.lemmas.Bool.{false≢true}
 use Rattle.cli.proofs.analysis.fails.Goals as goal
 
 at_zeros : (code : Code) (n : ℕ) → SomeFailFrom code (zeros n ∷ []) → FailsFrom code (zeros n)
@@ -51,6 +52,6 @@ pub returns : goal.returns
 returns g c =
     let s = globals_only (names_of c.args.globals.now) in
     let rows : List (List Bool) = rows_of c.loop-stmt.rows.items in (
-      λ never. absurd (false-true never),
+      λ never. absurd (false≢true never),
       λ f. absurd (subst (λ l. SomeFailFrom (code_of s (items_of l)) rows) (drop_all c.loop-stmt.stmt-index c.args.body.now c.loop-stmt-test.false) (c.loop-stmt.invariant.1.1 f)).2,
     )

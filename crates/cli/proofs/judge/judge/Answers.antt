@@ -1,7 +1,8 @@
 -- The analysis decides what the text means.
-use Rattle.std.proofs.Common.{◌≡◌, ◌∙◌, List, sym, subst, ap, true, false, length}
-use Rattle.std.specs.Prelude.{IsTrue, ◌↔◌}
+use Rattle.std.proofs.Common.{◌≡◌, ◌∙◌, List, sym, subst, true, false, length}
+use Rattle.std.specs.Prelude.{◌↔◌}
 use Rattle.std.proofs.lemmas.List.{length-map}
+use Rattle.std.proofs.lemmas.Bool.{false≢true}
 use Rattle.language.specs.Step.{zeros}
 use Rattle.syntax.specs.Trees.{Item, tree_of, names_of, name_of, items_of}
 use Rattle.syntax.specs.Text.{Text}
@@ -9,7 +10,6 @@ use Rattle.syntax.specs.declared.tree.Name.{Name}
 use Rattle.syntax.specs.declared.tree.Program.{Program}
 use Rattle.cli.specs.Straight.{FailsFrom, code_of, globals_only}
 use Rattle.cli.proofs.FirstLemmas.{first_meaning}
-use Rattle.cli.proofs.ItemLemmas.{false-true}
 use Rattle.cli.proofs.judge.judge.Goals as goal
 
 -- the analysis speaks of the names in the tree
@@ -39,5 +39,5 @@ returns g c =
       text,
       c.program-program.ensures.checked,
       c.in-Some.ensures,
-      λ unsafe_is. false-true (sym c.if-work.false ∙ c.in_ok-work.ensures.fails.1 (globals.1 ((first_meaning t items c.in-Some.ensures).0 unsafe_is))),
+      λ unsafe_is. false≢true (sym c.if-work.false ∙ c.in_ok-work.ensures.fails.1 (globals.1 ((first_meaning t items c.in-Some.ensures).0 unsafe_is))),
     )

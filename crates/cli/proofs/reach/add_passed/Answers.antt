@@ -1,9 +1,6 @@
 -- The row is added exactly where the side passes.
-use Rattle.std.proofs.Common.{◌≡◌, ◌⊎◌, ◌∙◌, [], List, Bool, true, false, sym, subst, inl, inr}
-use Rattle.language.specs.Resolve.{resolve_side}
-use Rattle.language.specs.Value.{IsValue}
-use Rattle.syntax.specs.Trees.{names_of, rhs_of}
-use Rattle.cli.specs.Straight.{globals_only}
+use Rattle.std.proofs.Common.{◌∙◌, true, false, sym, inl, inr}
+use Rattle.std.proofs.lemmas.Bool.{false≢true}
 use Rattle.cli.proofs.reach.add_passed.Goals as goal
 
 pub returns-in_ok-add : goal.returns-in_ok-add
@@ -15,7 +12,4 @@ returns-in_ok-add g c r =
 
 pub returns-else-has_value : goal.returns-else-has_value
 returns-else-has_value g c r =
-    (λ m. inl m, λ m. elim m [ inl there ↦ there | inr last ↦ absurd (false-true (sym c.if-has_value.false ∙ c.has_value.ensures.1 last.1)) ])
-  where
-    false-true : false ≡ true → ⊥
-    false-true e = cc
+    (λ m. inl m, λ m. elim m [ inl there ↦ there | inr last ↦ absurd (false≢true (sym c.if-has_value.false ∙ c.has_value.ensures.1 last.1)) ])

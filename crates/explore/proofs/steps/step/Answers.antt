@@ -6,7 +6,8 @@ use Rattle.language.specs.Value.{IsValue}
 use Rattle.syntax.specs.Trees.{deed_of, item_of, block_of, names_of, rhs_of, rhss_of}
 use Rattle.explore.specs.Views.{program_of, scope_at, code_at, IsAssigned}
 use Rattle.explore.proofs.RestLemmas.{then, pushed}
-use Rattle.explore.proofs.StepLemmas.{with_first, item_deed, deed_of-Skip, deed_of-Assign, deed_of-If, deed_of-While, deed_of-Assert, deed_of-Assume, skip_step, assign_step, branch_step, repeat_step, assert_step, assume_step, assert_fails}
+use Rattle.syntax.proofs.Folds.{item_deed, deed_of-Skip, deed_of-Assign, deed_of-If, deed_of-While, deed_of-Assert, deed_of-Assume}
+use Rattle.explore.proofs.StepLemmas.{with_first, skip_step, assign_step, branch_step, repeat_step, assert_step, assume_step, assert_fails}
 use Rattle.explore.proofs.steps.step.Goals as goal
 
 pub returns-in_ok-push-in-Skip : goal.returns-in_ok-push-in-Skip

@@ -2,11 +2,11 @@ use Rattle.std.proofs.Common.{◌∙◌, ap, [], ◌∷◌, ◌++◌}
 use Rattle.language.specs.Tree.{assign}
 use Rattle.syntax.specs.Trees.{simple, names_of, rhss_of}
 use Rattle.round_rewrite.specs.Names.{named}
-use Rattle.round_rewrite.proofs.Deeds.{deed_of_assign}
+use Rattle.syntax.proofs.Folds.{deed_of-Assign}
 use Rattle.round_rewrite.proofs.cores.set.Goals as goal
 
 pub returns : goal.returns
 returns g c =
     let targets = c.in_ok-targets.ensures ∙ ap (λ ns. names_of ns ++ named c.args.text.now ∷ []) c.new.ensures.items in
     let sides = c.in_ok-sides.ensures ∙ (λ i. rhss_of (c.new-2.ensures.items i) ++ c.constant.ensures i ∷ []) in
-    deed_of_assign _ _ ∙ (λ i. simple (assign (targets i) (sides i)))
+    deed_of-Assign _ _ ∙ (λ i. simple (assign (targets i) (sides i)))

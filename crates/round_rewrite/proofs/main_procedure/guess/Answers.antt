@@ -5,7 +5,7 @@ use Rattle.round_rewrite.specs.Table.{plain}
 use Rattle.round_rewrite.specs.Names.{names, copy_name, save_name}
 use Rattle.round_rewrite.proofs.Laying.{laid}
 use Rattle.round_rewrite.proofs.Mains.{guess_some}
-use Rattle.round_rewrite.proofs.Deeds.{deed_of_assign}
+use Rattle.syntax.proofs.Folds.{deed_of-Assign}
 use Rattle.round_rewrite.proofs.main_procedure.guess.Goals as goal
 
 pub returns : goal.returns
@@ -13,8 +13,8 @@ returns g c =
     let xs = names_of c.args.xs.now in
     let targets = c.in_ok-targets.ensures ∙ ap (λ ns. names_of ns ++ map (copy_name c.args.round) xs) c.new.ensures.items in
     let kept = c.in_ok-kept.ensures ∙ ap (λ ns. names_of ns ++ map (save_name c.args.round) xs) c.new-2.ensures.items in
-    let drawn = laid _ _ plain _ _ c.in_ok-drawn.ensures (deed_of_assign _ _ ∙ (λ i. simple (assign (targets i) (c.in_ok-sides.ensures i)))) in
-    let saved = laid _ _ plain _ _ c.in_ok-saved.ensures (deed_of_assign _ _ ∙ (λ i. simple (assign (kept i) (c.in_ok-values.ensures i)))) in
+    let drawn = laid _ _ plain _ _ c.in_ok-drawn.ensures (deed_of-Assign _ _ ∙ (λ i. simple (assign (targets i) (c.in_ok-sides.ensures i)))) in
+    let saved = laid _ _ plain _ _ c.in_ok-saved.ensures (deed_of-Assign _ _ ∙ (λ i. simple (assign (kept i) (c.in_ok-values.ensures i)))) in
     λ k. saved k
     ∙ (drawn _
     ∙ ap (all_before (items_of c.args.into.items)) (sym (guess_some (names []) c.args.last xs _ _ c.args.round k (ap names_of c.in-Some.ensures.cases.0))))

@@ -2,7 +2,7 @@ use Rattle.std.proofs.Common.{◌∙◌, ap, [], ◌∷◌, ◌++◌, codes}
 use Rattle.language.specs.Tree.{assign}
 use Rattle.syntax.specs.Trees.{simple, names_of, rhss_of}
 use Rattle.round_rewrite.specs.Names.{named}
-use Rattle.round_rewrite.proofs.Deeds.{deed_of_assign}
+use Rattle.syntax.proofs.Folds.{deed_of-Assign}
 use Rattle.round_rewrite.proofs.main_procedure.reset.Goals as goal
 
 pub returns : goal.returns
@@ -13,4 +13,4 @@ returns g c =
     let first = c.in_ok-first.ensures ∙ (λ i. rhss_of (c.new-2.ensures.items i) ++ c.constant.ensures i ∷ []) in
     let second = c.in_ok-second.ensures ∙ (λ i. first i ++ c.constant-2.ensures i ∷ []) in
     let sides = c.in_ok-sides.ensures ∙ (λ i. second i ++ c.constant-3.ensures i ∷ []) in
-    deed_of_assign _ _ ∙ (λ i. simple (assign (targets i) (sides i)))
+    deed_of-Assign _ _ ∙ (λ i. simple (assign (targets i) (sides i)))

@@ -1,7 +1,8 @@
 use Rattle.std.proofs.Common.{◌≡◌, ◌≢◌, ◌∙◌, length, ap, sym, refl, arith}
 use Rattle.syntax.specs.Trees.{name_of, names_of, rhs_of, exprs_of, procs_of, deed_of}
 use Rattle.scopes.specs.Statements.{statement_of}
-use Rattle.scopes.proofs.Heads.{head_is, at_is, deed_of-Skip, deed_of-Return, deed_of-Goto, deed_of-Assign, deed_of-If, deed_of-While, deed_of-Assert, deed_of-Assume, deed_of-Call}
+use Rattle.syntax.proofs.Folds.{deed_of-Skip, deed_of-Return, deed_of-Goto, deed_of-Assign, deed_of-If, deed_of-While, deed_of-Assert, deed_of-Assume, deed_of-Call}
+use Rattle.scopes.proofs.Heads.{head_is, at_is}
 use Rattle.scopes.proofs.Found.{moved, nowhere}
 use Rattle.std.proofs.Common.{Option, Some, subst}
 use Rattle.std.proofs.lemmas.List.{length-map}

@@ -1,9 +1,11 @@
-use Rattle.std.proofs.Common.{arith, ◌≡◌, ◌+◌, ◌<◌, ◌≤◌, length, length-append, ◌++◌, ◌∙◌, ap}
+use Rattle.std.proofs.Common.{arith, ◌+◌, ◌<◌, ◌++◌, ◌∙◌, ap}
 use Rattle.std.proofs.lemmas.List.{map-append}
 use Rattle.syntax.specs.Trees.{deed_of, block_of}
-use Rattle.scopes.proofs.Heads.{deed_of-Skip, deed_of-Return, deed_of-Goto, deed_of-Assign, deed_of-If, deed_of-While, deed_of-Assert, deed_of-Assume, deed_of-Call}
+use Rattle.syntax.proofs.Folds.{deed_of-Skip, deed_of-Return, deed_of-Goto, deed_of-Assign, deed_of-If, deed_of-While, deed_of-Assert, deed_of-Assume, deed_of-Call}
 use Rattle.scopes.specs.Statements.{lent_statements, statement_of, statements_of, inside}
-use Rattle.scopes.proofs.Flat.{smaller, one_more, no_more, after_two, after_one, after_none}
+use Rattle.language.specs.Sequential.{statements}
+use Rattle.syntax.proofs.Held.{held, smaller}
+use Rattle.scopes.proofs.Flat.{one_more, no_more, after_two, after_one, after_none}
 use Rattle.scopes.proofs.statements.+flatten_one.Goals as goal
 
 pub loop-one-preserved : goal.loop-one-preserved
@@ -20,29 +22,26 @@ loop-each-preserved g t c =
 
 pub flatten_one-requires : goal.flatten_one-requires
 flatten_one-requires g t c κs within =
-    let part : length (inside (deed_of c.one-item.result.core)) + 1 ≤ length (statements_of (block_of c.deref-one-items.result.now)) =
-    smaller c.deref-one-items.result.now c.loop-one.one-index c.one-item.result c.loop-one-test.true c.one-item.is in
-    let same : length (statements_of (block_of c.deref-one-items.result.now)) ≡ length (statements_of (block_of c.in-If.then.items)) = ap (λ l. length (statements_of (block_of l))) c.deref-one-items.ensures.value in
-    let whole : length (inside (deed_of c.args.stmt.now.core)) ≡ length (statements_of (block_of c.in-If.then.items)) + length (statements_of (block_of c.in-If.otherwise.items)) = ap (λ d. length (inside d)) (ap deed_of c.in-If.is ∙ deed_of-If _ _ _) ∙ length-append (statements_of (block_of c.in-If.then.items)) (statements_of (block_of c.in-If.otherwise.items)) in
-    let less : length (inside (deed_of c.one-item.result.core)) < length (inside (deed_of c.args.stmt.now.core)) = omega (arith, part, same, whole) in
+    let part = smaller c.deref-one-items.result.now c.loop-one.one-index c.one-item.result c.loop-one-test.true c.one-item.is in
+    let same = ap (λ l. statements (block_of l)) c.deref-one-items.ensures.value in
+    let whole = ap held (ap deed_of c.in-If.is ∙ deed_of-If _ _ _) in
+    let less : held (deed_of c.one-item.result.core) < held (deed_of c.args.stmt.now.core) = omega (arith, part, same, whole) in
     (rw (← c.decreases) less, within)
 
 pub flatten_one-requires-in-loop-other : goal.flatten_one-requires-in-loop-other
 flatten_one-requires-in-loop-other g t c κs within =
-    let part : length (inside (deed_of c.other-item.result.core)) + 1 ≤ length (statements_of (block_of c.deref-other-items.result.now)) =
-    smaller c.deref-other-items.result.now c.loop-other.other-index c.other-item.result c.loop-other-test.true c.other-item.is in
-    let same : length (statements_of (block_of c.deref-other-items.result.now)) ≡ length (statements_of (block_of c.in-If.otherwise.items)) = ap (λ l. length (statements_of (block_of l))) c.deref-other-items.ensures.value in
-    let whole : length (inside (deed_of c.args.stmt.now.core)) ≡ length (statements_of (block_of c.in-If.then.items)) + length (statements_of (block_of c.in-If.otherwise.items)) = ap (λ d. length (inside d)) (ap deed_of c.in-If.is ∙ deed_of-If _ _ _) ∙ length-append (statements_of (block_of c.in-If.then.items)) (statements_of (block_of c.in-If.otherwise.items)) in
-    let less : length (inside (deed_of c.other-item.result.core)) < length (inside (deed_of c.args.stmt.now.core)) = omega (arith, part, same, whole) in
+    let part = smaller c.deref-other-items.result.now c.loop-other.other-index c.other-item.result c.loop-other-test.true c.other-item.is in
+    let same = ap (λ l. statements (block_of l)) c.deref-other-items.ensures.value in
+    let whole = ap held (ap deed_of c.in-If.is ∙ deed_of-If _ _ _) in
+    let less : held (deed_of c.other-item.result.core) < held (deed_of c.args.stmt.now.core) = omega (arith, part, same, whole) in
     (rw (← c.decreases) less, within)
 
 pub flatten_one-requires-in-loop-each : goal.flatten_one-requires-in-loop-each
 flatten_one-requires-in-loop-each g t c κs within =
-    let part : length (inside (deed_of c.each-item.result.core)) + 1 ≤ length (statements_of (block_of c.deref-each-items.result.now)) =
-    smaller c.deref-each-items.result.now c.loop-each.each-index c.each-item.result c.loop-each-test.true c.each-item.is in
-    let same : length (statements_of (block_of c.deref-each-items.result.now)) ≡ length (statements_of (block_of c.in-While.body.items)) = ap (λ l. length (statements_of (block_of l))) c.deref-each-items.ensures.value in
-    let whole : length (inside (deed_of c.args.stmt.now.core)) ≡ length (statements_of (block_of c.in-While.body.items)) = ap (λ d. length (inside d)) (ap deed_of c.in-While.is ∙ deed_of-While _ _) in
-    let less : length (inside (deed_of c.each-item.result.core)) < length (inside (deed_of c.args.stmt.now.core)) = omega (arith, part, same, whole) in
+    let part = smaller c.deref-each-items.result.now c.loop-each.each-index c.each-item.result c.loop-each-test.true c.each-item.is in
+    let same = ap (λ l. statements (block_of l)) c.deref-each-items.ensures.value in
+    let whole = ap held (ap deed_of c.in-While.is ∙ deed_of-While _ _) in
+    let less : held (deed_of c.each-item.result.core) < held (deed_of c.args.stmt.now.core) = omega (arith, part, same, whole) in
     (rw (← c.decreases) less, within)
 
 pub returns-after-loop-other : goal.returns-after-loop-other

@@ -4,7 +4,7 @@ use Rattle.scopes.specs.Statements.{lent, variables_of}
 use Rattle.scopes.proofs.Found.{moved, in_both_of}
 use Rattle.syntax.specs.Trees.{expr_of}
 use Rattle.scopes.specs.Faults.{IsUnknown}
-use Rattle.scopes.proofs.Heads.{expr_of-Not, expr_of-Two}
+use Rattle.syntax.proofs.Folds.{expr_of-Not, expr_of-Two}
 use Rattle.scopes.proofs.undeclared.+in_expr.Goals as goal
 
 pub returns-in-Not : goal.returns-in-Not

@@ -2,7 +2,8 @@ use Rattle.std.proofs.Common.{◌∙◌, ap, refl}
 use Rattle.syntax.specs.Trees.{names_of, rhss_of, deed_of}
 use Rattle.scopes.specs.Find.{AnyOf}
 use Rattle.scopes.specs.Statements.{lent, used_by, variables_of_sides}
-use Rattle.scopes.proofs.Heads.{head_is, deed_of-Skip, deed_of-Return, deed_of-Goto, deed_of-Assign, deed_of-If, deed_of-While, deed_of-Assert, deed_of-Assume, deed_of-Call}
+use Rattle.syntax.proofs.Folds.{deed_of-Skip, deed_of-Return, deed_of-Goto, deed_of-Assign, deed_of-If, deed_of-While, deed_of-Assert, deed_of-Assume, deed_of-Call}
+use Rattle.scopes.proofs.Heads.{head_is}
 use Rattle.scopes.proofs.Found.{moved, nowhere, in_both_of}
 use Rattle.scopes.specs.Faults.{IsUnknown}
 use Rattle.scopes.proofs.undeclared.in_statement.Goals as goal

@@ -1,14 +1,16 @@
-use Rattle.std.proofs.Common.{◌+◌, ◌<◌, ◌*◌, arith}
+use Rattle.std.proofs.Common.{◌+◌, ◌<◌, ◌≤◌, ◌*◌, arith}
 use Rattle.std.specs.String.{string_bytes}
 use Rattle.syntax.specs.Trees.{deed_of, block_of}
-use Rattle.syntax.proofs.PrintedBlocks.{one_printed, none_left, fewer, count, held}
+use Rattle.language.specs.Sequential.{statements}
+use Rattle.syntax.proofs.Held.{held, smaller}
+use Rattle.syntax.proofs.PrintedBlocks.{one_printed, none_left}
 use Rattle.syntax.proofs.PrintedDeeds.{assigned, called, asserted, assumed, branched, repeated}
 use Rattle.syntax.proofs.print_statements.+printing.Goals as goal
 
 pub print_block-print_core-requires : goal.print_block-print_core-requires
 print_block-print_core-requires g t c κs within =
-    let less : held (deed_of c.stmt-item.result.core) < count (block_of c.args.stmts.now) = fewer c.args.stmts.now c.loop-stmt.stmt-index c.stmt-item.result c.loop-stmt-test.true c.stmt-item.is in
-    let falls : 2 * held (deed_of c.stmt-item.result.core) + 1 < 2 * count (block_of c.args.stmts.now) = omega arith in
+    let less : held (deed_of c.stmt-item.result.core) + 1 ≤ statements (block_of c.args.stmts.now) = smaller c.args.stmts.now c.loop-stmt.stmt-index c.stmt-item.result c.loop-stmt-test.true c.stmt-item.is in
+    let falls : 2 * held (deed_of c.stmt-item.result.core) + 1 < 2 * statements (block_of c.args.stmts.now) = omega arith in
     (rw (← c.decreases) falls, within)
 
 pub print_block-loop-stmt-preserved : goal.print_block-loop-stmt-preserved

@@ -3,7 +3,8 @@ use Rattle.std.specs.String.{string_bytes}
 use Rattle.tokens.specs.Parts.{text_of}
 use Rattle.syntax.specs.Trees.{deed_of, block_of}
 use Rattle.syntax.specs.Printed.{block_parts}
-use Rattle.syntax.proofs.PrintedBlocks.{count, held}
+use Rattle.language.specs.Sequential.{statements}
+use Rattle.syntax.proofs.Held.{held}
 use Rattle.syntax.proofs.print_statements.+printing.Given as goal
 
 -- the text so far, with what is left, is the whole
@@ -13,7 +14,7 @@ invariant-print_block-loop-stmt g l =
     ≡ string_bytes l.initial.out ++ text_of (block_parts l.level (block_of l.stmts))
 
 abbrev pub decreases-print_block : goal.decreases-print_block
-decreases-print_block g l = 2 * count (block_of l.stmts.now)
+decreases-print_block g l = 2 * statements (block_of l.stmts.now)
 
 abbrev pub decreases-print_core : goal.decreases-print_core
 decreases-print_core g l = 2 * held (deed_of l.core.now) + 1

@@ -3,9 +3,9 @@ use Rattle.language.specs.Sequential.{statements}
 use Rattle.syntax.specs.Trees.{deed_of, block_of, names_of, rhss_of}
 use Rattle.round_rewrite.specs.Table.{draws, temporaries}
 use Rattle.round_rewrite.specs.Writing.{naming_of, deed_needs}
-use Rattle.round_rewrite.proofs.Held.{held, smaller}
+use Rattle.syntax.proofs.Held.{held, smaller}
 use Rattle.round_rewrite.proofs.Needing.{one_more, no_more}
-use Rattle.round_rewrite.proofs.Deeds.{deed_of_skip, deed_of_return, deed_of_goto, deed_of_assert, deed_of_assume, deed_of_assign, deed_of_call, deed_of_if, deed_of_while}
+use Rattle.syntax.proofs.Folds.{deed_of-Skip, deed_of-Return, deed_of-Goto, deed_of-Assert, deed_of-Assume, deed_of-Assign, deed_of-Call, deed_of-If, deed_of-While}
 use Rattle.round_rewrite.proofs.writer.Writer.+needs.Goals as goal
 
 pub needs-needs_of-requires : goal.needs-needs_of-requires
@@ -25,43 +25,43 @@ needs-returns g t c =
 
 pub needs_of-returns-in-Skip : goal.needs_of-returns-in-Skip
 needs_of-returns-in-Skip g t c =
-    ap (deed_needs (naming_of c.args.self.now).is_shared) (sym (ap deed_of c.in-Skip.is ∙ deed_of_skip _))
+    ap (deed_needs (naming_of c.args.self.now).is_shared) (sym (ap deed_of c.in-Skip.is ∙ deed_of-Skip _))
 
 pub needs_of-returns-in-Return : goal.needs_of-returns-in-Return
 needs_of-returns-in-Return g t c =
-    ap (deed_needs (naming_of c.args.self.now).is_shared) (sym (ap deed_of c.in-Return.is ∙ deed_of_return _))
+    ap (deed_needs (naming_of c.args.self.now).is_shared) (sym (ap deed_of c.in-Return.is ∙ deed_of-Return _))
 
 pub needs_of-returns-in-Goto : goal.needs_of-returns-in-Goto
 needs_of-returns-in-Goto g t c =
-    ap (deed_needs (naming_of c.args.self.now).is_shared) (sym (ap deed_of c.in-Goto.is ∙ deed_of_goto _))
+    ap (deed_needs (naming_of c.args.self.now).is_shared) (sym (ap deed_of c.in-Goto.is ∙ deed_of-Goto _))
 
 pub needs_of-returns-in-Call : goal.needs_of-returns-in-Call
 needs_of-returns-in-Call g t c =
-    ap (deed_needs (naming_of c.args.self.now).is_shared) (sym (ap deed_of c.in-Call.is ∙ deed_of_call _ _))
+    ap (deed_needs (naming_of c.args.self.now).is_shared) (sym (ap deed_of c.in-Call.is ∙ deed_of-Call _ _))
 
 pub needs_of-returns-in-Assert : goal.needs_of-returns-in-Assert
 needs_of-returns-in-Assert g t c =
-    ap (deed_needs (naming_of c.args.self.now).is_shared) (sym (ap deed_of c.in-Assert.is ∙ deed_of_assert _))
+    ap (deed_needs (naming_of c.args.self.now).is_shared) (sym (ap deed_of c.in-Assert.is ∙ deed_of-Assert _))
 
 pub needs_of-returns-in-Assume : goal.needs_of-returns-in-Assume
 needs_of-returns-in-Assume g t c =
-    ap (deed_needs (naming_of c.args.self.now).is_shared) (sym (ap deed_of c.in-Assume.is ∙ deed_of_assume _))
+    ap (deed_needs (naming_of c.args.self.now).is_shared) (sym (ap deed_of c.in-Assume.is ∙ deed_of-Assume _))
 
 pub needs_of-returns-in-Assign : goal.needs_of-returns-in-Assign
 needs_of-returns-in-Assign g t c =
     let shared = (naming_of c.args.self.now).is_shared in
     c.draws.ensures.count ∙ ((λ i. draws shared (names_of (c.deref.ensures.value i)) (rhss_of (c.deref-in-Assign.ensures.value i)))
-    ∙ ap (deed_needs shared) (sym (ap deed_of c.in-Assign.is ∙ deed_of_assign _ _)))
+    ∙ ap (deed_needs shared) (sym (ap deed_of c.in-Assign.is ∙ deed_of-Assign _ _)))
 
 pub needs_of-returns-in-If : goal.needs_of-returns-in-If
 needs_of-returns-in-If g t c =
     let shared = (naming_of c.args.self.now).is_shared in
     let yes = c.needs-yes.ensures ∙ ap (λ l. temporaries shared (block_of l)) c.deref-in-If.ensures.value in
     let no = c.needs-no.ensures ∙ ap (λ l. temporaries shared (block_of l)) c.deref-in-If-2.ensures.value in
-    c.larger.ensures ∙ ((λ i. max (yes i) (no i)) ∙ ap (deed_needs shared) (sym (ap deed_of c.in-If.is ∙ deed_of_if _ _ _)))
+    c.larger.ensures ∙ ((λ i. max (yes i) (no i)) ∙ ap (deed_needs shared) (sym (ap deed_of c.in-If.is ∙ deed_of-If _ _ _)))
 
 pub needs_of-returns-in-While : goal.needs_of-returns-in-While
 needs_of-returns-in-While g t c =
     let shared = (naming_of c.args.self.now).is_shared in
     c.needs.ensures ∙ (ap (λ l. temporaries shared (block_of l)) c.deref-in-While.ensures.value
-    ∙ ap (deed_needs shared) (sym (ap deed_of c.in-While.is ∙ deed_of_while _ _)))
+    ∙ ap (deed_needs shared) (sym (ap deed_of c.in-While.is ∙ deed_of-While _ _)))

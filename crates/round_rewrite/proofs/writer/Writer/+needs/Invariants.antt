@@ -4,7 +4,7 @@ use Rattle.language.specs.Sequential.{statements}
 use Rattle.syntax.specs.Trees.{deed_of, block_of}
 use Rattle.round_rewrite.specs.Table.{temporaries}
 use Rattle.round_rewrite.specs.Writing.{naming_of}
-use Rattle.round_rewrite.proofs.Held.{held}
+use Rattle.syntax.proofs.Held.{held}
 use Rattle.round_rewrite.proofs.writer.Writer.+needs.Given as goal
 
 abbrev pub invariant-needs-loop-stmt : goal.invariant-needs-loop-stmt

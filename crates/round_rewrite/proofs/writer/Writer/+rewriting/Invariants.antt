@@ -3,7 +3,7 @@ use Rattle.std.proofs.Common.{◌≡◌, ◌+◌, ◌*◌, drop}
 use Rattle.language.specs.Sequential.{statements}
 use Rattle.syntax.specs.Trees.{items_of, deed_of, block_of, all_before}
 use Rattle.round_rewrite.specs.Writing.{Statements, forms, naming_of}
-use Rattle.round_rewrite.proofs.Held.{held}
+use Rattle.syntax.proofs.Held.{held}
 use Rattle.round_rewrite.proofs.writer.Writer.+rewriting.Given as goal
 
 abbrev pub invariant-block-loop-stmt : goal.invariant-block-loop-stmt

@@ -1,10 +1,10 @@
 use Rattle.std.proofs.Common.{◌∙◌, ap, ◌++◌}
-use Rattle.language.specs.Tree.{any, assign, call}
+use Rattle.language.specs.Tree.{assign}
 use Rattle.syntax.specs.Trees.{simple, names_of, rhss_of, items_of, all_before}
 use Rattle.round_rewrite.specs.Table.{plain, drawing, targets, sides}
 use Rattle.round_rewrite.specs.Writing.{naming_of}
 use Rattle.round_rewrite.proofs.Laying.{laid}
-use Rattle.round_rewrite.proofs.Deeds.{deed_of_assign}
+use Rattle.syntax.proofs.Folds.{deed_of-Assign}
 use Rattle.round_rewrite.proofs.writer.Writer.assignment.Goals as goal
 
 pub returns : goal.returns
@@ -15,7 +15,7 @@ returns g c =
     let rs = rhss_of c.args.rs.now in
     let left = c.in_ok-targets.ensures ∙ ap (λ ns. names_of ns ++ targets w last xs rs) c.new.ensures.items in
     let right = c.in_ok-sides.ensures ∙ ap (λ ns. rhss_of ns ++ sides w last 0 xs rs) c.new-2.ensures.items in
-    let deed = deed_of_assign _ _ ∙ (λ i. simple (assign (left i) (right i))) in
+    let deed = deed_of-Assign _ _ ∙ (λ i. simple (assign (left i) (right i))) in
     let assigned = laid _ _ plain _ _ c.in_ok-assigned.ensures deed in
     λ k. assigned k
     ∙ (c.in_ok-drawn.ensures _

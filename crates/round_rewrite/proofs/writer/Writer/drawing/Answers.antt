@@ -1,4 +1,4 @@
-use Rattle.std.proofs.Common.{◌≡◌, ◌∙◌, ap, List, [], ◌∷◌, ◌++◌}
+use Rattle.std.proofs.Common.{◌∙◌, ap, ◌++◌}
 use Rattle.language.specs.Tree.{assign}
 use Rattle.syntax.specs.Trees.{simple, names_of, items_of, all_before}
 use Rattle.round_rewrite.specs.Table.{plain, numbers}
@@ -6,7 +6,7 @@ use Rattle.round_rewrite.specs.Names.{drawn_name}
 use Rattle.round_rewrite.specs.Writing.{naming_of}
 use Rattle.round_rewrite.proofs.Laying.{laid}
 use Rattle.round_rewrite.proofs.Forms.{drawing_some}
-use Rattle.round_rewrite.proofs.Deeds.{deed_of_assign}
+use Rattle.syntax.proofs.Folds.{deed_of-Assign}
 use Rattle.round_rewrite.proofs.writer.Writer.drawing.Goals as goal
 
 pub returns : goal.returns
@@ -14,6 +14,6 @@ returns g c =
     let w = naming_of c.args.self.now in
     let last = c.args.self.now.rounds.last in
     let named = c.in_ok-targets.ensures ∙ ap (λ ns. names_of ns ++ Rattle.std.proofs.Common.map drawn_name (numbers 0 c.args.number)) c.new.ensures.items in
-    let deed = deed_of_assign _ _ ∙ (λ i. simple (assign (named i) (c.in_ok-sides.ensures i))) in
+    let deed = deed_of-Assign _ _ ∙ (λ i. simple (assign (named i) (c.in_ok-sides.ensures i))) in
     λ k. laid _ _ plain _ _ c.in_ok-drawn.ensures deed k
     ∙ ap (all_before (items_of c.args.into.items)) (Rattle.std.proofs.Common.sym (drawing_some w last c.args.number k c.if-number-eq0.false))

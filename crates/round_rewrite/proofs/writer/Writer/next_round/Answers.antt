@@ -2,7 +2,7 @@ use Rattle.std.proofs.Common.{◌∙◌, ap, [], ◌∷◌, ◌++◌, codes}
 use Rattle.language.specs.Tree.{negation, two, xor, value, assign}
 use Rattle.syntax.specs.Trees.{simple, names_of, rhss_of}
 use Rattle.round_rewrite.specs.Names.{named}
-use Rattle.round_rewrite.proofs.Deeds.{deed_of_assign}
+use Rattle.syntax.proofs.Folds.{deed_of-Assign}
 use Rattle.round_rewrite.proofs.writer.Writer.next_round.Goals as goal
 
 pub returns : goal.returns
@@ -13,4 +13,4 @@ returns g c =
     let low = c.in_ok-flipped.ensures ∙ ap negation c.in_ok-variable.ensures in
     let side = c.in_ok-side.ensures ∙ (λ i. rhss_of (c.new-2.ensures.items i) ++ value (high i) ∷ []) in
     let sides = c.in_ok-sides.ensures ∙ (λ i. side i ++ value (low i) ∷ []) in
-    deed_of_assign _ _ ∙ (λ i. simple (assign (targets i) (sides i)))
+    deed_of-Assign _ _ ∙ (λ i. simple (assign (targets i) (sides i)))

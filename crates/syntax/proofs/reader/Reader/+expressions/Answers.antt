@@ -1,5 +1,5 @@
 use Rattle.std.proofs.Common.{rules, ◌≡◌, List, ◌∙◌, sym, ap, Some}
-use Rattle.language.specs.Tree.{Name, Expression}
+use Rattle.language.specs.Tree.{Name, Expression, two}
 use Rattle.syntax.specs.Grammar.{right_level}
 use Rattle.syntax.specs.Exact.{reading, from, after}
 use Rattle.syntax.specs.Trees.{operator_of, expr_of}
@@ -21,7 +21,7 @@ expression-loop-first-preserved g t c = record {
       ∙ goes_on c.args.least (expr_of c.loop-first.tree) (expr_of c.in_ok-right.right) (tok_of c.in-Some.first.now) (toks_of c.in-Some.others.now) (toks_of c.in_ok-right.after.now) (operator_of op)
       (sym c.in-Some-operator_of_kind.ensures) right
       ∙ ap (λ (e : Expression Name). reading (after c.args.least e) (toks_of c.in_ok-right.after.now))
-      (sym (expr_of-Two op c.in_ok-left.left c.in_ok-right-2.right c.loop-first.tree c.in_ok-right.right c.in_ok-left.ensures.ok c.in_ok-right-2.ensures.ok));
+      (sym (expr_of-Two op c.in_ok-left.left c.in_ok-right-2.right ∙ (λ i. two (operator_of op) (expr_of (c.in_ok-left.ensures.ok i)) (expr_of (c.in_ok-right-2.ensures.ok i)))));
   shorter = search rules;
 }
 

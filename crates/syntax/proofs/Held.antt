@@ -4,7 +4,7 @@ use Rattle.language.specs.Tree.{Name, Mark, Block}
 use Rattle.language.specs.Sequential.{statements}
 use Rattle.syntax.specs.declared.tree.Stmt.{Stmt}
 use Rattle.syntax.specs.Trees.{Deed, simple, branch, repeat, item_of, deed_of, block_of, marked_before}
-use Rattle.round_rewrite.proofs.Deeds.{item_deed}
+use Rattle.syntax.proofs.Folds.{item_deed}
 
 -- how many statements stand inside of what a statement does
 abbrev pub held : Deed → ℕ

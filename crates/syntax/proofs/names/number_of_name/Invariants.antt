@@ -2,7 +2,7 @@
 use Rattle.std.proofs.Common.{◌≡◌, ◌+◌, ◌≤◌, drop}
 use Rattle.language.specs.Resolve.{number_of}
 use Rattle.syntax.specs.Trees.{names_of}
-use Rattle.explore.proofs.values.number.Given as goal
+use Rattle.syntax.proofs.names.number_of_name.Given as goal
 
 abbrev pub invariant-loop-name : goal.invariant-loop-name
 invariant-loop-name g l =
