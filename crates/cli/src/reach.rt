@@ -7,9 +7,9 @@ ghost use Rattle.cli.specs.Members.{Member};
 ghost use Rattle.cli.specs.Reach.{rows_of, Adds, AreFrom, IsWith, IsWithIf, IsWithSome, IsWritten, IsAssigned, IsPassed, SomeFails};
 ghost use Rattle.cli.specs.Straight.{globals_only};
 
-use crate::evaluate::{evaluated, number};
+use crate::evaluate::evaluated;
 use std::alloc::{AllocError, Allocator};
-use syntax::{Name, Rhs};
+use syntax::{Name, Rhs, number_of_name};
 
 /// Whether the right side has this value.
 pub(crate) fn has_value<N: Allocator>(
@@ -141,7 +141,7 @@ fn written<N: Allocator, A: Allocator + Copy>(
     let mut rows = Vec::new(alloc);
     rows.push(Vec::from_slice(alloc, old)?)?;
     for i in 0..targets.len() {
-        let place = number(globals, targets[i].text.as_str());
+        let place = number_of_name(globals, targets[i].text.as_str());
         rows = with_values(alloc, globals, old, rows.as_slice(), place, &sides[i])?;
     }
     Ok(rows)

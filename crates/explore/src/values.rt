@@ -1,13 +1,13 @@
 //! What names stand for, what right sides are worth, and writing.
 ghost use Rattle.std.specs.Prelude.{◌≡◌, ◌↔◌, IsTrue, IfSome, IfOk, map};
 ghost use Rattle.language.specs.Resolve.{place_of, resolve_expression, resolve_side};
-ghost use Rattle.language.specs.Value.{look_up, bit, with_bit, value_of, operate, IsValue, AreValues, written_globals, written_locals};
-ghost use Rattle.syntax.specs.Trees.{name_of, names_of, expr_of, operator_of, rhs_of, rhss_of};
+ghost use Rattle.language.specs.Value.{look_up, bit, with_bit, value_of, IsValue, AreValues, written_globals, written_locals};
+ghost use Rattle.syntax.specs.Trees.{name_of, names_of, expr_of, rhs_of, rhss_of};
 ghost use Rattle.explore.specs.Views.{scope_at, place_seen, global_after, local_after, IsAssigned};
 
 use crate::bits::Bits;
 use std::alloc::{AllocError, Allocator};
-use syntax::{Expr, Name, Op, Proc, Program, Rhs, declares, number_of_name};
+use syntax::{Expr, Name, Proc, Program, Rhs, declares, number_of_name};
 
 /// Where the value of a variable is kept.
 #[derive(Clone, Copy, Debug)]
@@ -50,20 +50,6 @@ fn at_place(globals: &[bool], locals: &[bool], place: Place) -> bool
     }
 }
 
-/// The value of an operator.
-fn operated(op: Op, left: bool, right: bool) -> bool
-    ensures { result ≡ operate (operator_of op) left right }
-{
-    match op {
-        Op::Implies => !left || right,
-        Op::Or => left || right,
-        Op::Xor => left != right,
-        Op::And => left && right,
-        Op::Equal => left == right,
-        Op::Differs => left != right,
-    }
-}
-
 /// The value of an expression; `None` only where a place's number would not fit.
 fn evaluated<N: Allocator>(
     program: &Program<N>,
@@ -87,7 +73,7 @@ fn evaluated<N: Allocator>(
         Expr::Two(op, a, b) => {
             let left = evaluated(program, proc, globals, locals, a)?;
             let right = evaluated(program, proc, globals, locals, b)?;
-            Some(operated(*op, left, right))
+            Some(op.apply(left, right))
         }
     }
 }

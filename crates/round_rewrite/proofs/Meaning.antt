@@ -12,6 +12,7 @@ use Rattle.round_rewrite.specs.Table.{Naming, numbers, temporaries, rewritten, m
 use Rattle.round_rewrite.specs.Places.{places, is_global, bits_at, rewritten_routine, main_routine, rewritten_program}
 use Rattle.round_rewrite.specs.Names.{named, copy_name, save_name, drawn_name, names, rewritten_procedure, main_procedure, rewritten_tree}
 use Rattle.round_rewrite.specs.Scoped.{PlaceInScope, InScope, AreInScope, SideInScope, SidesInScope, PlacesInScope, SimpleInScope, Throughout, EachRoutine, EachThread, RoutineInScope, FitsScopes}
+use Rattle.language.proofs.Names.{number_less}
 use Rattle.scopes.specs.Rewritable.{has_double, AreFree, Declared, AllDeclared, ExpressionDeclared, ExpressionsDeclared, SideDeclared, SidesDeclared, HasRoom, SimpleDeclared, BlockDeclared, ProcedureRewritable, EachProcedure, EachLine, IsRewritable}
 use Rattle.round_rewrite.specs.Narrow.{width, IsNarrow}
 use Rattle.round_rewrite.specs.Law.{SomeBad, Keeps, KeepsTree}
@@ -32,14 +33,6 @@ names_kept last (p ∷ procs) = ap (λ z. p.name ∷ z) (names_kept last procs)
 free_names : (t : Tree) (procs : List Procedure) → EachProcedure (ProcedureRewritable t) procs → AreFree (map (λ (p : Procedure). p.name) procs)
 free_names t [] h = tt
 free_names t (p ∷ procs) h = (h.0.name, free_names t procs h.1)
-
-number_less : (x : List ℕ) (xs : List Name) → is_declared x xs ≡ true → number_of x xs < length xs
-number_less x [] h = cc
-number_less x (y ∷ xs) h = go (same_text x y.text) h (λ k. number_less x xs k)
-  where
-    go : (c : Bool) → cond c true (is_declared x xs) ≡ true → (is_declared x xs ≡ true → number_of x xs < length xs) → cond c 0 (suc (number_of x xs)) < suc (length xs)
-    go true k rec = omega arith
-    go false k rec = let z : number_of x xs < length xs = rec k in omega arith
 
 module _ (t : Tree) (last : ℕ) (ok : IsRewritable t) (small : last < 4) where
   abbrev t' : Tree

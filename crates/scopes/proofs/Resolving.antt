@@ -1,23 +1,16 @@
 -- A checked tree resolves.
-use Rattle.std.proofs.Common.{◌≡◌, ℕ, suc, ◌<◌, Bool, true, false, cond, List, [], ◌∷◌, ◌++◌, length, Option, Some, None, ◌⊎◌, inl, inr, refl, sym, ◌∙◌, ap, subst, arith, append_assoc}
+use Rattle.std.proofs.Common.{◌≡◌, ℕ, suc, Bool, true, false, cond, List, [], ◌∷◌, ◌++◌, length, Option, Some, None, ◌⊎◌, inl, inr, refl, sym, ◌∙◌, ap, subst, arith, append_assoc}
 use Rattle.language.specs.Tree.{Name, skip, assign, assert, assume, goto, leave, call, Block, done, one, choose, loop, Procedure, Tree}
 use Rattle.language.specs.Value.{global, local}
 use Rattle.language.specs.Rest.{Code, same_text, has_label, first_of_two, join, rest_from}
 use Rattle.language.specs.Step.{AtRest}
 use Rattle.language.specs.Resolve.{number_of, is_declared, Scope, scope_of, place_of, resolve_mark, resolve_side, resolve_block}
+use Rattle.language.proofs.Names.{number_less}
 use Rattle.scopes.specs.Statements.{Head, plain, tests, Statement, statements_of, used_by, label_of, labels_of}
 use Rattle.scopes.specs.Faults.{known, IsThere}
 use Rattle.scopes.specs.Checked.{IsChecked}
 use Rattle.scopes.specs.Resolves.{IsPlaceIn, GoesSomewhere, Resolves}
 use Rattle.scopes.proofs.Works.{each_of, in_either, named_is, Called, Labelled, good, threads_start}
-
-number_less : (x : List ℕ) (xs : List Name) → is_declared x xs ≡ true → number_of x xs < length xs
-number_less x [] h = cc
-number_less x (y ∷ xs) h = go (same_text x y.text) h (λ k. number_less x xs k)
-  where
-    go : (c : Bool) → cond c true (is_declared x xs) ≡ true → (is_declared x xs ≡ true → number_of x xs < length xs) → cond c 0 (suc (number_of x xs)) < suc (length xs)
-    go true k rec = omega arith
-    go false k rec = let z : number_of x xs < length xs = rec k in omega arith
 
 placed : (t : Tree) (p : Procedure) (x : Name) → is_declared x.text (known t p) ≡ true → IsPlaceIn t p (place_of (scope_of t p) x)
 placed t p x h = go (is_declared x.text (p.formals ++ p.locals)) refl (in_either x.text (p.formals ++ p.locals) t.globals h)

@@ -1,4 +1,7 @@
 //! The trees of programs, with the offset of each name and statement.
+ghost use Rattle.std.specs.Prelude.{◌≡◌};
+ghost use Rattle.language.specs.Value.{operate};
+ghost use Rattle.syntax.specs.Trees.{operator_of};
 
 use std::alloc::Allocator;
 
@@ -99,4 +102,20 @@ pub enum Op {
     Equal,
     /// `!=`
     Differs,
+}
+
+impl Op {
+    /// The value of the operator for two values.
+    pub fn apply(self, left: bool, right: bool) -> bool
+        ensures { result ≡ operate (operator_of self) left right }
+    {
+        match self {
+            Op::Implies => !left || right,
+            Op::Or => left || right,
+            Op::Xor => left != right,
+            Op::And => left && right,
+            Op::Equal => left == right,
+            Op::Differs => left != right,
+        }
+    }
 }

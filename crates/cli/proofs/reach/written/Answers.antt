@@ -26,10 +26,10 @@ loop-i-preserved g c r =
     let x = c.index-targets-i.result in
     let side = c.index-sides-i.result in
     let inside : c.loop-i.i < length c.args.sides.now = omega arith in
-    let are : AreFrom (IsWithSome c.args.old.now c.number-place.result (resolve_side (globals_only gs) (rhs_of side))) (rows_of c.loop-i.rows.items) (rows_of c.in_ok-rows.rows.items) =
-    subst (λ l. AreFrom (IsWithSome c.args.old.now c.number-place.result (resolve_side (globals_only gs) (rhs_of side))) (rows_of l) (rows_of c.in_ok-rows.rows.items)) c.as_slice.ensures.value c.in_ok-rows.ensures in
-    let place = c.number-place.ensures ∙ ap (λ t. number_of t gs) c.as_str.ensures.value ∙ ap (λ (n : Name _). number_of (string_bytes n.text) gs) (sym c.index-targets-i.is) in
-    let step = written_more gs c.args.targets.now c.args.sides.now c.args.old.now (rows_of c.loop-i.rows.items) (rows_of c.in_ok-rows.rows.items) c.loop-i.i c.number-place.result x side
+    let are : AreFrom (IsWithSome c.args.old.now c.number_of_name-place.result (resolve_side (globals_only gs) (rhs_of side))) (rows_of c.loop-i.rows.items) (rows_of c.in_ok-rows.rows.items) =
+    subst (λ l. AreFrom (IsWithSome c.args.old.now c.number_of_name-place.result (resolve_side (globals_only gs) (rhs_of side))) (rows_of l) (rows_of c.in_ok-rows.rows.items)) c.as_slice.ensures.value c.in_ok-rows.ensures in
+    let place = c.number_of_name-place.ensures ∙ ap (λ t. number_of t gs) c.as_str.ensures.value ∙ ap (λ (n : Name _). number_of (string_bytes n.text) gs) (sym c.index-targets-i.is) in
+    let step = written_more gs c.args.targets.now c.args.sides.now c.args.old.now (rows_of c.loop-i.rows.items) (rows_of c.in_ok-rows.rows.items) c.loop-i.i c.number_of_name-place.result x side
     c.loop-i-test.true c.index-targets-i.is inside c.index-sides-i.is place are r in
     let before = c.loop-i.invariant r in
     (λ h. before.0 (step.1 h), λ h. step.0 (before.1 h))

@@ -6,8 +6,7 @@ use Rattle.language.specs.Resolve.{number_of, is_declared}
 use Rattle.language.specs.Value.{global, local}
 use Rattle.syntax.specs.Trees.{name_of, names_of}
 use Rattle.explore.specs.Views.{scope_at}
-use Rattle.language.proofs.Names.{declared_first, declared_second, number_first, number_second}
-use Rattle.explore.proofs.NameLemmas.{place_declared, place_other}
+use Rattle.language.proofs.Names.{declared_first, declared_second, number_first, number_second, place_declared, place_other}
 use Rattle.explore.proofs.values.stands_for.Goals as goal
 
 pub returns-then-declares : goal.returns-then-declares

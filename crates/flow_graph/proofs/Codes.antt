@@ -1,0 +1,113 @@
+-- Postfix code put together.
+use Rattle.std.proofs.Common.{◌≡◌, ◌<◌, ◌≤◌, ℕ, zero, suc, ◌+◌, ◌-◌, ◌*◌, ◌^◌, min, max, ◌==◌, nat_lt, cond, Bool, true, false, List, [], ◌∷◌, ◌++◌, length, length-append, refl, sym, ◌∙◌, ap, subst, arith, append_assoc, append-nil, pow-suc}
+use Rattle.std.proofs.Math.Pow.{pow_mono}
+use Rattle.std.proofs.lemmas.Bool.{eqb-true, eqb-false, ltb-true, ltb-false}
+use Rattle.language.specs.Tree.{Expression, two}
+use Rattle.syntax.specs.Trees.{operator_of}
+use Rattle.syntax.specs.declared.tree.Op.{Op}
+use Rattle.flow_graph.specs.Located.{worth}
+use Rattle.flow_graph.specs.Postfix.{after_steps, top, IsShallow, need, Evaluates, Puts}
+use Rattle.flow_graph.specs.declared.postfix.Step.{Step}
+use Rattle.flow_graph.specs.declared.postfix.Step.TheVariants.{Apply, ApplySwapped}
+
+-- what two operands need together
+record Together (n m N : ℕ) : Type 0 where
+  pub first : N ≤ 64 → m ≤ n → (n ≤ N) × (m + 1 ≤ N)
+  pub second : N ≤ 64 → n < m → (m ≤ N) × (n + 1 ≤ N)
+  pub long : 2 ^ N ≤ 2 ^ n + 2 ^ m
+
+together : (n m : ℕ) → Together n m (cond (n == m) (min (n + 1) 4294967295) (max n m))
+together n m = go (n == m) refl
+  where
+    go : (b : Bool) → (n == m) ≡ b → Together n m (cond b (min (n + 1) 4294967295) (max n m))
+    go true e = let same = eqb-true n m e in record {
+      first = λ fits le. (omega (arith, fits), omega (arith, fits, same));
+      second = λ fits less. absurd (omega (arith, less, same));
+      long =
+          let up : 2 ^ min (n + 1) 4294967295 ≤ 2 ^ suc n = pow_mono (let le : min (n + 1) 4294967295 ≤ suc n = omega arith in le) in
+          let twice : 2 ^ m ≡ 2 ^ n = ap (λ k. 2 ^ k) (sym same) in
+          omega (arith, up, twice, pow-suc 2 n);
+    }
+    go false e = let apart = eqb-false n m e in record {
+      first = λ fits le. (omega arith, omega (arith, le, apart));
+      second = λ fits less. (omega arith, omega (arith, less));
+      long = larger (nat_lt n m) refl;
+    }
+      where
+        larger : (b : Bool) → nat_lt n m ≡ b → 2 ^ max n m ≤ 2 ^ n + 2 ^ m
+        larger true is = let same : 2 ^ max n m ≡ 2 ^ m = ap (λ j. 2 ^ j) (let less = ltb-true n m is in omega (arith, less)) in omega (arith, same)
+        larger false is = let same : 2 ^ max n m ≡ 2 ^ n = ap (λ j. 2 ^ j) (let least = ltb-false n m is in omega (arith, least)) in omega (arith, same)
+
+-- steps behind steps, and one more behind them
+joined : (x y rest : List Step) (last : Step) → (x ++ (y ++ (last ∷ []))) ++ rest ≡ x ++ (y ++ (last ∷ rest))
+joined x y rest last = append_assoc x (y ++ (last ∷ [])) rest ∙ ap (λ l. x ++ l) (append_assoc y (last ∷ []) rest)
+
+behind : (old left right new x y : List Step) (last : Step) → left ≡ old ++ x → right ≡ left ++ y → new ≡ right ++ (last ∷ []) → new ≡ old ++ (x ++ (y ++ (last ∷ [])))
+behind old left right new x y last e f h =
+    h ∙ ap (λ l. l ++ (last ∷ [])) (f ∙ ap (λ l. l ++ y) e) ∙ append_assoc (old ++ x) y (last ∷ []) ∙ append_assoc old x (y ++ (last ∷ []))
+
+length_joined : (x y : List Step) (last : Step) → length (x ++ (y ++ (last ∷ []))) ≡ length x + (length y + 1)
+length_joined x y last = length-append x (y ++ (last ∷ [])) ∙ ap (λ n. length x + n) (length-append y (last ∷ []))
+
+module _ (a b : Expression ℕ) (op : Op) (old left right new : List Step) where
+  -- the left operand first
+  pub applied : need b ≤ need a → Puts old left a → Puts left right b → new ≡ right ++ (Apply op ∷ []) → Puts old new (two (operator_of op) a b)
+  applied le p q e =
+      let x = p.0 in
+      let y = q.0 in
+      let t = together (need a) (need b) in (
+        x ++ (y ++ (Apply op ∷ [])),
+        behind old left right new x y (Apply op) p.1 q.1 e,
+        record {
+          puts = λ f rest stack.
+              ap (λ l. after_steps f l stack) (joined x y rest (Apply op))
+              ∙ p.2.puts f (y ++ (Apply op ∷ rest)) stack
+              ∙ q.2.puts f (Apply op ∷ rest) (worth f a ∷ stack);
+          shallow = λ depth rest fits deep.
+              subst (IsShallow depth) (sym (joined x y rest (Apply op)))
+              (p.2.shallow depth (y ++ (Apply op ∷ rest)) (let n = (t.first (omega (arith, fits)) le).0 in omega (arith, n, fits))
+              (q.2.shallow (suc depth) (Apply op ∷ rest) (let n = (t.first (omega (arith, fits)) le).1 in omega (arith, n, fits))
+              (omega arith, subst (λ d. IsShallow d rest) (let same : suc depth ≡ suc (suc depth) - 1 = omega arith in same) deep)));
+          long = omega (arith, t.long, p.2.long, q.2.long, length_joined x y (Apply op));
+        },
+      )
+
+  -- the right operand first
+  pub swapped : need a < need b → Puts old left b → Puts left right a → new ≡ right ++ (ApplySwapped op ∷ []) → Puts old new (two (operator_of op) a b)
+  swapped less p q e =
+      let x = p.0 in
+      let y = q.0 in
+      let t = together (need a) (need b) in (
+        x ++ (y ++ (ApplySwapped op ∷ [])),
+        behind old left right new x y (ApplySwapped op) p.1 q.1 e,
+        record {
+          puts = λ f rest stack.
+              ap (λ l. after_steps f l stack) (joined x y rest (ApplySwapped op))
+              ∙ p.2.puts f (y ++ (ApplySwapped op ∷ rest)) stack
+              ∙ q.2.puts f (ApplySwapped op ∷ rest) (worth f b ∷ stack);
+          shallow = λ depth rest fits deep.
+              subst (IsShallow depth) (sym (joined x y rest (ApplySwapped op)))
+              (p.2.shallow depth (y ++ (ApplySwapped op ∷ rest)) (let n = (t.second (omega (arith, fits)) less).0 in omega (arith, n, fits))
+              (q.2.shallow (suc depth) (ApplySwapped op ∷ rest) (let n = (t.second (omega (arith, fits)) less).1 in omega (arith, n, fits))
+              (omega arith, subst (λ d. IsShallow d rest) (let same : suc depth ≡ suc (suc depth) - 1 = omega arith in same) deep)));
+          long = omega (arith, t.long, p.2.long, q.2.long, length_joined x y (ApplySwapped op));
+        },
+      )
+
+-- The steps of an expression alone are shallow: a need above 64 would take more than 2^64 of them.
+pub shallow_alone : (e : Expression ℕ) (old new : List Step) → Puts old new e → old ≡ [] → length new < 2 ^ 64 → IsShallow 0 new
+shallow_alone e old new p none short =
+    let same : new ≡ p.0 ++ [] = p.1 ∙ ap (λ l. l ++ p.0) none ∙ sym (append-nil p.0) in
+    subst (IsShallow 0) (sym same) (p.2.shallow 0 [] (few (need e) (λ more. let huge : 2 ^ 65 ≤ 2 ^ need e = pow_mono {i = 65} (let above : 65 ≤ need e = omega (arith, more) in above) in omega (arith, huge, p.2.long, short, ap length (p.1 ∙ ap (λ l. l ++ p.0) none)))) tt)
+  where
+    few : (n : ℕ) → (64 < n → ⊥) → 0 + n ≤ 64
+    few n h = go (nat_lt 64 n) refl
+      where
+        go : (b : Bool) → nat_lt 64 n ≡ b → 0 + n ≤ 64
+        go true is = absurd (h (ltb-true 64 n is))
+        go false is = let least = ltb-false 64 n is in omega (arith, least)
+
+pub worth_alone : (f : ℕ → Bool) (e : Expression ℕ) (old new : List Step) → Puts old new e → old ≡ [] → top (after_steps f new []) ≡ worth f e
+worth_alone f e old new p none =
+    let same : new ≡ p.0 ++ [] = p.1 ∙ ap (λ l. l ++ p.0) none ∙ sym (append-nil p.0) in
+    ap (λ l. top (after_steps f l [])) same ∙ ap top (p.2.puts f [] [])

@@ -1,0 +1,4 @@
+pub mod Bits
+pub mod Located
+pub mod Views
+pub mod Postfix

@@ -1,0 +1,77 @@
+-- Postfix code: expressions as steps over a stack of values.
+use mathlib.Core.HLevel.{×_prop, Unit-prop}
+use native.Mathlib.Bridge.{le_prop}
+use Rattle.std.specs.Prelude.{◌≡◌, ◌<◌, ◌≤◌, ℕ, suc, ◌+◌, ◌-◌, ◌*◌, ◌^◌, min, max, Bool, false, not, cond, ◌==◌, List, [], ◌∷◌, ◌++◌, length}
+use Rattle.language.specs.Tree.{Expression, const, var, negation, two}
+use Rattle.language.specs.Value.{operate}
+use Rattle.syntax.specs.Trees.{operator_of}
+use Rattle.flow_graph.specs.Located.{worth}
+use Rattle.flow_graph.specs.declared.postfix.Step.{Step}
+use Rattle.flow_graph.specs.declared.postfix.Step.TheVariants.{Read, Constant, Not, Apply, ApplySwapped}
+
+-- what a step makes of the stack, its top first: a bit or a constant is put on it, `Not` turns the top, and an operator
+-- takes two values, the right one from the top, or the left one where the operands came in the other order
+abbrev pub after_step : (ℕ → Bool) → Step → List Bool → List Bool
+after_step f (Read b) stack = f b ∷ stack
+after_step f (Constant b) stack = b ∷ stack
+after_step f Not [] = []
+after_step f Not (a ∷ stack) = not a ∷ stack
+after_step f (Apply o) [] = []
+after_step f (Apply o) (b ∷ []) = b ∷ []
+after_step f (Apply o) (b ∷ a ∷ stack) = operate (operator_of o) a b ∷ stack
+after_step f (ApplySwapped o) [] = []
+after_step f (ApplySwapped o) (a ∷ []) = a ∷ []
+after_step f (ApplySwapped o) (a ∷ b ∷ stack) = operate (operator_of o) a b ∷ stack
+
+-- what the steps make of the stack, one after the other
+abbrev pub after_steps : (ℕ → Bool) → List Step → List Bool → List Bool
+after_steps f [] stack = stack
+after_steps f (s ∷ ss) stack = after_steps f ss (after_step f s stack)
+
+-- the top of the stack; 0 where there is none
+abbrev pub top : List Bool → Bool
+top [] = false
+top (b ∷ bs) = b
+
+-- from a stack with so many values, each step finds what it takes, and none leaves more than 64
+abbrev pub IsShallow : ℕ → List Step → Type 0
+IsShallow depth [] = Unit {0}
+IsShallow depth (Read b ∷ ss) = (depth < 64) × ((b < 64) × IsShallow (suc depth) ss)
+IsShallow depth (Constant b ∷ ss) = (depth < 64) × IsShallow (suc depth) ss
+IsShallow depth (Not ∷ ss) = (1 ≤ depth) × IsShallow depth ss
+IsShallow depth (Apply o ∷ ss) = (2 ≤ depth) × IsShallow (depth - 1) ss
+IsShallow depth (ApplySwapped o ∷ ss) = (2 ≤ depth) × IsShallow (depth - 1) ss
+
+less_prop : (i n : ℕ) → IsProp (i < n)
+less_prop i n = le_prop
+
+few_prop : (i n : ℕ) → IsProp (i ≤ n)
+few_prop i n = le_prop
+
+-- this has one proof at most, so a type may carry it
+pub IsShallow-prop : (depth : ℕ) (steps : List Step) → IsProp (IsShallow depth steps)
+IsShallow-prop depth [] = Unit-prop
+IsShallow-prop depth (Read b ∷ ss) = ×_prop (less_prop depth 64) (×_prop (less_prop b 64) (IsShallow-prop (suc depth) ss))
+IsShallow-prop depth (Constant b ∷ ss) = ×_prop (less_prop depth 64) (IsShallow-prop (suc depth) ss)
+IsShallow-prop depth (Not ∷ ss) = ×_prop (few_prop 1 depth) (IsShallow-prop depth ss)
+IsShallow-prop depth (Apply o ∷ ss) = ×_prop (few_prop 2 depth) (IsShallow-prop (depth - 1) ss)
+IsShallow-prop depth (ApplySwapped o ∷ ss) = ×_prop (few_prop 2 depth) (IsShallow-prop (depth - 1) ss)
+
+-- how many values a stack holds at most while an expression is evaluated, the operand that needs more first
+-- (Ershov's number; more than 2^32 - 1 are not told apart)
+abbrev pub need : Expression ℕ → ℕ
+need (const b) = 1
+need (var i) = 1
+need (negation e) = need e
+need (two o a b) = cond (need a == need b) (min (need a + 1) 4294967295) (max (need a) (need b))
+
+-- The steps evaluate the expression: they put its worth on the stack, within the expression's need; and they are so many
+-- that a need above 64 would take more of them than memory has.
+pub record Evaluates (e : Expression ℕ) (steps : List Step) : Type 0 where
+  pub puts : (f : ℕ → Bool) (rest : List Step) (stack : List Bool) → after_steps f (steps ++ rest) stack ≡ after_steps f rest (worth f e ∷ stack)
+  pub shallow : (depth : ℕ) (rest : List Step) → depth + need e ≤ 64 → IsShallow (suc depth) rest → IsShallow depth (steps ++ rest)
+  pub long : 2 ^ need e ≤ 2 * length steps
+
+-- such steps have been put behind others
+abbrev pub Puts : List Step → List Step → Expression ℕ → Type 0
+Puts old new e = (steps : List Step) × (new ≡ old ++ steps) × Evaluates e steps

@@ -1,0 +1,13 @@
+-- What the scope of a procedure stands for.
+use Rattle.std.specs.Prelude.{◌≤◌, ◌+◌, ℕ, ◌++◌, length, []}
+use Rattle.language.specs.Resolve as resolve
+use Rattle.syntax.specs.Trees.{names_of}
+use Rattle.flow_graph.specs.declared.scope.Scope.{Scope}
+
+-- the scope; where calls lead is no matter of expressions
+abbrev pub scope_seen : {N : Type 0} → Scope N → resolve.Scope
+scope_seen s = record { globals = names_of s.globals.now; locals = names_of s.formals.now ++ names_of s.locals.now; procedures = [] }
+
+-- at most 64 variables
+abbrev pub IsSmall : {N : Type 0} → Scope N → Type 0
+IsSmall s = length s.globals.now + (length s.formals.now + length s.locals.now) ≤ 64

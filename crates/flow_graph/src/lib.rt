@@ -1,0 +1,5 @@
+//! Flow graphs: the steps inside one call of a sequential program.
+#![tactic(auto)]
+
+mod postfix;
+mod scope;

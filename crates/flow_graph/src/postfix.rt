@@ -1,0 +1,135 @@
+//! Postfix code for expressions.
+
+ghost use Rattle.std.specs.Prelude.{◌≡◌, ℕ, Bool, List, [], ◌∷◌, length, IfOk};
+ghost use Rattle.syntax.specs.Trees.{expr_of};
+ghost use Rattle.flow_graph.specs.Bits.{bit_of, coded};
+ghost use Rattle.flow_graph.specs.Located.{located, worth};
+ghost use Rattle.flow_graph.specs.Postfix.{IsShallow, IsShallow-prop, after_step, after_steps, top, need, Puts};
+ghost use Rattle.flow_graph.specs.Views.{scope_seen, IsSmall};
+
+use crate::scope::Scope;
+use std::alloc::{AllocError, Allocator};
+use syntax::{Expr, Op};
+
+/// One step of postfix code, over a stack of values.
+#[derive(Clone, Copy, Debug)]
+pub(crate) enum Step {
+    /// Puts the value of a bit on the stack.
+    Read(u8),
+    /// Puts a value on the stack.
+    Constant(bool),
+    /// Turns the top.
+    Not,
+    /// Takes two values, the right one from the top, and puts the operator's.
+    Apply(Op),
+    /// The same, with the left one on top.
+    ApplySwapped(Op),
+}
+
+/// One more than the greatest number that can be doubled.
+const HALF: u64 = 9_223_372_036_854_775_808;
+
+/// The stack after a step; the stack is a number whose lowest bit is the top.
+fn stepped(step: Step, values: u64, stack: u64) -> u64
+    ensures { (s : List Bool) → stack ≡ coded s → IsShallow (length s) (step ∷ []) → result ≡ coded (after_step (bit_of values) step s) }
+{
+    match step {
+        Step::Read(b) => stack % HALF * 2 + (values >> (b % 64) & 1),
+        Step::Constant(b) => stack % HALF * 2 + b as u64,
+        Step::Not => stack / 2 * 2 + (1 - stack % 2),
+        Step::Apply(op) => {
+            let value = op.apply(stack / 2 % 2 == 1, stack % 2 == 1);
+            stack / 4 * 2 + value as u64
+        }
+        Step::ApplySwapped(op) => {
+            let value = op.apply(stack % 2 == 1, stack / 2 % 2 == 1);
+            stack / 4 * 2 + value as u64
+        }
+    }
+}
+
+/// An expression as postfix code, which never needs a stack of more than 64 values.
+#[derive(Debug, Drop)]
+pub(crate) struct Postfix<A: Allocator> {
+    pub(crate) steps: Vec<Step, A>,
+    pub(crate) ghost shallow: { IsShallow 0 steps.items } by { IsShallow-prop 0 steps.items },
+}
+
+impl<A: Allocator> Postfix<A> {
+    /// What the expression is worth for these values.
+    pub(crate) fn value(&self, values: u64) -> bool
+        ensures { result ≡ top (after_steps (bit_of values) self.now.steps.items []) }
+    {
+        let mut stack: u64 = 0;
+        for step in self.steps.as_slice() {
+            stack = stepped(*step, values, stack);
+        }
+        stack % 2 == 1
+    }
+}
+
+impl<'a, N: Allocator> Scope<'a, N> {
+    /// How many values a stack holds at most while an expression is evaluated, the operand that needs more first.
+    fn need(&self, e: &Expr<N>) -> u32
+        ensures { result ≡ need (located (scope_seen self.now) (expr_of e.now)) }
+    {
+        match e {
+            Expr::Const(_) => 1,
+            Expr::Var(_) => 1,
+            Expr::Not(a) => self.need(a),
+            Expr::Two(_, a, b) => {
+                let left = self.need(a);
+                let right = self.need(b);
+                if left == right {
+                    left.saturating_add(1)
+                } else {
+                    left.max(right)
+                }
+            }
+        }
+    }
+
+    /// Puts the steps of an expression behind others.
+    fn put<A: Allocator>(&self, e: &Expr<N>, steps: &mut Vec<Step, A>) -> Result<(), AllocError>
+        requires { IsSmall self.now }
+        ensures { IfOk result (λ _. Puts steps.old.items steps.new.items (located (scope_seen self.now) (expr_of e.now))) }
+    {
+        match e {
+            Expr::Const(b) => steps.push(Step::Constant(*b))?,
+            Expr::Var(x) => match self.bit(x) {
+                Some(b) => steps.push(Step::Read(b))?,
+                None => steps.push(Step::Constant(false))?,
+            },
+            Expr::Not(a) => {
+                self.put(a, steps)?;
+                steps.push(Step::Not)?
+            }
+            Expr::Two(op, a, b) => {
+                if self.need(a) < self.need(b) {
+                    self.put(b, steps)?;
+                    self.put(a, steps)?;
+                    steps.push(Step::ApplySwapped(*op))?
+                } else {
+                    self.put(a, steps)?;
+                    self.put(b, steps)?;
+                    steps.push(Step::Apply(*op))?
+                }
+            }
+        }
+        Ok(())
+    }
+
+    /// An expression as postfix code.
+    pub(crate) fn postfix<A: Allocator>(
+        &self,
+        alloc: A,
+        e: &Expr<N>,
+    ) -> Result<Postfix<A>, AllocError>
+        requires { IsSmall self.now }
+        ensures { IfOk result (λ p. (f : ℕ → Bool) → top (after_steps f p.steps.items []) ≡ worth f (located (scope_seen self.now) (expr_of e.now))) }
+    {
+        let mut steps = Vec::new(alloc);
+        self.put(e, &mut steps)?;
+        Ok(Postfix { steps })
+    }
+}

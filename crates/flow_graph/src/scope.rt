@@ -1,0 +1,40 @@
+//! Where the variables of a procedure stand in a valuation.
+
+ghost use Rattle.std.specs.Prelude.{◌≡◌, ◌<◌, length, IfSome};
+ghost use Rattle.language.specs.Resolve.{place_of};
+ghost use Rattle.syntax.specs.Trees.{name_of};
+ghost use Rattle.flow_graph.specs.Located.{bit_of_place};
+ghost use Rattle.flow_graph.specs.Views.{scope_seen, IsSmall};
+
+use std::alloc::Allocator;
+use syntax::{Name, declares, number_of_name};
+
+/// The names in whose scope the statements of a procedure stand; at most 64 variables.
+#[derive(Clone, Copy)]
+pub(crate) struct Scope<'a, N: Allocator> {
+    pub(crate) globals: &'a [Name<N>],
+    pub(crate) formals: &'a [Name<N>],
+    pub(crate) locals: &'a [Name<N>],
+}
+
+impl<'a, N: Allocator> Scope<'a, N> {
+    /// The bit of a variable: `None` where it is declared nowhere.
+    pub(crate) fn bit(&self, x: &Name<N>) -> Option<u8>
+        requires { IsSmall self.now }
+        ensures bit { result ≡ bit_of_place (length (scope_seen self.now).globals) (place_of (scope_seen self.now) (name_of x.now)) }
+        ensures small { IfSome result (λ b. b < 64) }
+    {
+        let text = x.text.as_str();
+        let globals = self.globals.len();
+        if declares(self.formals, text) {
+            let at = globals + number_of_name(self.formals, text);
+            Some(at as u8)
+        } else if declares(self.locals, text) {
+            let at = globals + self.formals.len() + number_of_name(self.locals, text);
+            Some(at as u8)
+        } else {
+            let at = number_of_name(self.globals, text);
+            if at < globals { Some(at as u8) } else { None }
+        }
+    }
+}
