@@ -1,3 +1,4 @@
 pub mod Places
 pub mod Stacks
 pub mod Codes
+pub mod Rows

@@ -2,3 +2,4 @@ pub mod Bits
 pub mod Located
 pub mod Views
 pub mod Postfix
+pub mod Tables

@@ -3,3 +3,4 @@
 
 mod postfix;
 mod scope;
+mod table;

@@ -1,0 +1,213 @@
+-- Outputs of truth tables, bit by bit.
+use Rattle.std.proofs.Common.{◌≡◌, ◌<◌, ◌≤◌, ℕ, zero, suc, ◌+◌, ◌-◌, ◌*◌, ◌/◌, ◌%◌, ◌^◌, min, max, ◌==◌, nat_lt, cond, not, ◌&&◌, ◌||◌, Bool, true, false, List, [], ◌∷◌, ◌++◌, length, map, w64, refl, sym, ◌∙◌, ap, subst, arith, append-nil, append_assoc}
+use Rattle.std.specs.Int.{bit_at, bit_not}
+use Rattle.std.specs.Int.RustNames.{bit_and, bit_or, bit_xor}
+use Rattle.std.proofs.lemmas.Bool.{eqb-true, eqb-false, false≢true}
+use Rattle.std.proofs.lemmas.Nat.Bits.{bit_at_lowest, bit_at-suc, bit_at_ones, bit_at-lt, bit_at_and, bit_at_or, bit_at_xor, bit_at_not}
+use Rattle.language.specs.Tree.{Operator, Expression, const, var, negation, two}
+use Rattle.language.specs.Value.{operate}
+use Rattle.std.proofs.Math.Nat.{mul_assoc, mul-add}
+use Rattle.std.proofs.Math.Pow.{pow_mono}
+use Rattle.std.proofs.lemmas.List.{length-map}
+use Rattle.flow_graph.proofs.Stacks.{worth_small, coded_small}
+use Rattle.flow_graph.specs.Bits.{bit_of, worth_of, coded}
+use Rattle.flow_graph.specs.Located.{worth}
+use Rattle.flow_graph.specs.Tables.{slot, is_input, Reads, Tabulates, AreBits, Widens}
+
+-- ---- operators on words
+
+-- what holds of 0 and 1 holds of two bits
+two_bits : (P : ℕ → ℕ → Type 0) → P 0 0 → P 0 1 → P 1 0 → P 1 1 → (x y : ℕ) → x < 2 → y < 2 → P x y
+two_bits P a b c d zero zero h k = a
+two_bits P a b c d zero (suc zero) h k = b
+two_bits P a b c d (suc zero) zero h k = c
+two_bits P a b c d (suc zero) (suc zero) h k = d
+two_bits P a b c d (suc (suc x)) y h k = absurd (omega (arith, h))
+two_bits P a b c d x (suc (suc y)) h k = absurd (omega (arith, k))
+
+pub bits_and : (a b j : ℕ) → bit_of (bit_and a b) j ≡ (bit_of a j && bit_of b j)
+bits_and a b j =
+    ap (λ n. n == 1) (bit_at_and a b j)
+    ∙ two_bits (λ x y. (min x y == 1) ≡ ((x == 1) && (y == 1))) refl refl refl refl (bit_at a j) (bit_at b j) (bit_at-lt a j) (bit_at-lt b j)
+
+pub bits_or : (a b j : ℕ) → bit_of (bit_or a b) j ≡ (bit_of a j || bit_of b j)
+bits_or a b j =
+    ap (λ n. n == 1) (bit_at_or a b j)
+    ∙ two_bits (λ x y. (max x y == 1) ≡ ((x == 1) || (y == 1))) refl refl refl refl (bit_at a j) (bit_at b j) (bit_at-lt a j) (bit_at-lt b j)
+
+pub bits_xor : (a b j : ℕ) → bit_of (bit_xor a b) j ≡ cond (bit_of a j) (not (bit_of b j)) (bit_of b j)
+bits_xor a b j =
+    ap (λ n. n == 1) (bit_at_xor a b j)
+    ∙ two_bits (λ x y. ((x + y) % 2 == 1) ≡ cond (x == 1) (not (y == 1)) (y == 1)) refl refl refl refl (bit_at a j) (bit_at b j) (bit_at-lt a j) (bit_at-lt b j)
+
+pub bits_not : (a j : ℕ) → a < 2 ^ 64 → j < 64 → bit_of (18446744073709551615 - a) j ≡ not (bit_of a j)
+bits_not a j h k =
+    ap (λ n. n == 1) (bit_at_not w64 a j h k)
+    ∙ two_bits (λ x y. (1 - x == 1) ≡ not (x == 1)) refl refl refl refl (bit_at a j) 0 (bit_at-lt a j) (omega arith)
+
+pub turned : (a b : Bool) → cond (not a) (not b) b ≡ cond a b (not b)
+turned true b = refl
+turned false b = refl
+
+-- ---- the outputs of one input
+
+-- each number below n passes the test
+abbrev pub all_below : ℕ → (ℕ → Bool) → Bool
+all_below zero test = true
+all_below (suc n) test = cond (test n) (all_below n test) false
+
+below : (n : ℕ) (test : ℕ → Bool) → all_below n test ≡ true → (j : ℕ) → j < n → test j ≡ true
+below zero test h j less = absurd (omega (arith, less))
+below (suc n) test h j less = go (test n) refl h (λ k inside. below n test k j inside)
+  where
+    last : (b : Bool) → (j == n) ≡ b → test n ≡ true → (j < n → test j ≡ true) → test j ≡ true
+    last true e is rest = ap test (eqb-true j n e) ∙ is
+    last false e is rest = let apart = eqb-false j n e in rest (omega (arith, less, apart))
+
+    go : (b : Bool) → test n ≡ b → cond b (all_below n test) false ≡ true → (all_below n test ≡ true → j < n → test j ≡ true) → test j ≡ true
+    go true is k rest = last (j == n) refl is (rest k)
+    go false is k rest = absurd (false≢true k)
+
+-- the same value
+abbrev pub same : Bool → Bool → Bool
+same true b = b
+same false b = not b
+
+same_is : (a b : Bool) → same a b ≡ true → a ≡ b
+same_is true true h = refl
+same_is true false h = absurd (false≢true h)
+same_is false true h = absurd (false≢true h)
+same_is false false h = refl
+
+pub rows_of_slot : (outputs s : ℕ) → all_below 64 (λ j. same (bit_of outputs j) (bit_of j s)) ≡ true → (j : ℕ) → j < 64 → bit_of outputs j ≡ bit_of j s
+rows_of_slot outputs s h j less = same_is (bit_of outputs j) (bit_of j s) (below 64 (λ k. same (bit_of outputs k) (bit_of k s)) h j less)
+
+-- ---- inputs
+
+pub slot_most : (b : ℕ) (xs : List ℕ) → slot b xs ≤ length xs
+slot_most b [] = omega arith
+slot_most b (x ∷ xs) = go (b == x) (slot_most b xs)
+  where
+    go : (c : Bool) → slot b xs ≤ length xs → cond c 0 (suc (slot b xs)) ≤ suc (length xs)
+    go true h = omega arith
+    go false h = omega (arith, h)
+
+pub slot_inside : (b : ℕ) (xs : List ℕ) → slot b xs < length xs → is_input b xs ≡ true
+slot_inside b [] h = absurd (omega (arith, h))
+slot_inside b (x ∷ xs) h = go (b == x) h (slot_inside b xs)
+  where
+    go : (c : Bool) → cond c 0 (suc (slot b xs)) < suc (length xs) → (slot b xs < length xs → is_input b xs ≡ true) → cond c true (is_input b xs) ≡ true
+    go true k rest = refl
+    go false k rest = rest (omega (arith, k))
+
+-- inputs behind others change no slot of these
+pub slot_kept : (b : ℕ) (xs ys : List ℕ) → is_input b xs ≡ true → (slot b (xs ++ ys) ≡ slot b xs) × (is_input b (xs ++ ys) ≡ true)
+slot_kept b [] ys h = absurd (false≢true h)
+slot_kept b (x ∷ xs) ys h = go (b == x) h (slot_kept b xs ys)
+  where
+    go : (c : Bool) → cond c true (is_input b xs) ≡ true → (is_input b xs ≡ true → (slot b (xs ++ ys) ≡ slot b xs) × (is_input b (xs ++ ys) ≡ true))
+        → (cond c 0 (suc (slot b (xs ++ ys))) ≡ cond c 0 (suc (slot b xs))) × (cond c true (is_input b (xs ++ ys)) ≡ true)
+    go true k rest = (refl, refl)
+    go false k rest = let r = rest k in (ap suc r.0, r.1)
+
+pub slot_last : (b : ℕ) (xs : List ℕ) → (slot b (xs ++ (b ∷ [])) ≡ slot b xs) × (is_input b (xs ++ (b ∷ [])) ≡ true)
+slot_last b [] = go (b == b) refl
+  where
+    go : (c : Bool) → (b == b) ≡ c → (◌≡◌ {A = ℕ} (cond c 0 1) 0) × (cond c true false ≡ true)
+    go true e = (refl, refl)
+    go false e = absurd (eqb-false b b e refl)
+slot_last b (x ∷ xs) = go (b == x) (slot_last b xs)
+  where
+    go : (c : Bool) → (slot b (xs ++ (b ∷ [])) ≡ slot b xs) × (is_input b (xs ++ (b ∷ [])) ≡ true)
+        → (cond c 0 (suc (slot b (xs ++ (b ∷ [])))) ≡ cond c 0 (suc (slot b xs))) × (cond c true (is_input b (xs ++ (b ∷ []))) ≡ true)
+    go true r = (refl, refl)
+    go false r = (ap suc r.0, r.1)
+
+-- a read of the bit in this slot
+pub reads_slot : (b outputs s : ℕ) (xs : List ℕ) → slot b xs ≡ s → is_input b xs ≡ true → ((j : ℕ) → j < 64 → bit_of outputs j ≡ bit_of j s) → Tabulates xs outputs (var b)
+reads_slot b outputs s xs at there right = record { reads = there; rows = λ j less. right j less ∙ ap (bit_of j) (sym at) }
+
+pub bits_pushed : (b : ℕ) (xs : List ℕ) → b < 64 → AreBits xs → AreBits (xs ++ (b ∷ []))
+bits_pushed b [] h k = (h, tt)
+bits_pushed b (x ∷ xs) h k = (k.0, bits_pushed b xs h k.1)
+
+-- ---- expressions
+
+-- where an expression reads only inputs, what it is worth hangs on their values alone
+pub worth_same : (f g : ℕ → Bool) (xs : List ℕ) (e : Expression ℕ) → Reads xs e → ((b : ℕ) → is_input b xs ≡ true → f b ≡ g b) → worth f e ≡ worth g e
+worth_same f g xs (const b) r alike = refl
+worth_same f g xs (var i) r alike = alike i r
+worth_same f g xs (negation e) r alike = ap not (worth_same f g xs e r alike)
+worth_same f g xs (two o a b) r alike =
+    ap (λ x. operate o x (worth f b)) (worth_same f g xs a r.0 alike) ∙ ap (λ x. operate o (worth g a) x) (worth_same f g xs b r.1 alike)
+
+reads_widened : (xs ys : List ℕ) (e : Expression ℕ) → Reads xs e → Reads (xs ++ ys) e
+reads_widened xs ys (const b) r = tt
+reads_widened xs ys (var i) r = (slot_kept i xs ys r).1
+reads_widened xs ys (negation e) r = reads_widened xs ys e r
+reads_widened xs ys (two o a b) r = (reads_widened xs ys a r.0, reads_widened xs ys b r.1)
+
+widened : (xs ys : List ℕ) (w : ℕ) (e : Expression ℕ) → Tabulates xs w e → Tabulates (xs ++ ys) w e
+widened xs ys w e t = record {
+  reads = reads_widened xs ys e t.reads;
+  rows = λ j less. t.rows j less ∙ worth_same (λ b. bit_of j (slot b xs)) (λ b. bit_of j (slot b (xs ++ ys))) xs e t.reads (λ b h. ap (bit_of j) (sym (slot_kept b xs ys h).0));
+}
+
+pub constant_one : (xs : List ℕ) → Tabulates xs 18446744073709551615 (const true)
+constant_one xs = record { reads = tt; rows = λ j less. ap (λ n. n == 1) (bit_at_ones 64 j less) }
+
+pub complemented : (xs : List ℕ) (w v : ℕ) (e : Expression ℕ) → ((j : ℕ) → j < 64 → bit_of v j ≡ not (bit_of w j)) → Tabulates xs w e → Tabulates xs v (negation e)
+complemented xs w v e turns t = record { reads = t.reads; rows = λ j less. turns j less ∙ ap not (t.rows j less) }
+
+pub operated : (xs ys : List ℕ) (l r w : ℕ) (o : Operator) (a b : Expression ℕ) → Widens xs ys → Tabulates xs l a → Tabulates ys r b
+    → ((j : ℕ) → j < 64 → bit_of w j ≡ operate o (bit_of l j) (bit_of r j)) → Tabulates ys w (two o a b)
+operated xs ys l r w o a b more s t right =
+    let left : Tabulates ys l a = subst (λ zs. Tabulates zs l a) (sym more.1) (widened xs more.0 l a s) in record {
+      reads = (left.reads, t.reads);
+      rows = λ j less. right j less ∙ ap (λ x. operate o x (bit_of r j)) (left.rows j less) ∙ ap (λ x. operate o (worth (λ c. bit_of j (slot c ys)) a) x) (t.rows j less);
+    }
+
+-- ---- rows
+
+-- bit 0 of a row is its first value, and the others are those of the rest
+pub first_bit : (b : Bool) (n : ℕ) → bit_of (worth_of b + 2 * n) 0 ≡ b
+first_bit b n = ap (λ k. k == 1) (bit_at_lowest (worth_of b + 2 * n) ∙ (let z : (worth_of b + 2 * n) % 2 ≡ worth_of b = omega (arith, worth_small b) in z)) ∙ one b
+  where
+    one : (c : Bool) → (worth_of c == 1) ≡ c
+    one true = refl
+    one false = refl
+
+pub later_bit : (b : Bool) (n i : ℕ) → bit_of (worth_of b + 2 * n) (suc i) ≡ bit_of n i
+later_bit b n i = ap (λ k. k == 1) (bit_at-suc (worth_of b + 2 * n) i ∙ ap (λ k. bit_at k i) (let z : (worth_of b + 2 * n) / 2 ≡ n = omega (arith, worth_small b) in z))
+
+row_bit : (f : ℕ → Bool) (xs : List ℕ) (b : ℕ) → is_input b xs ≡ true → bit_of (coded (map f xs)) (slot b xs) ≡ f b
+row_bit f [] b h = absurd (false≢true h)
+row_bit f (x ∷ xs) b h = go (b == x) refl h (row_bit f xs b)
+  where
+    go : (c : Bool) → (b == x) ≡ c → cond c true (is_input b xs) ≡ true → (is_input b xs ≡ true → bit_of (coded (map f xs)) (slot b xs) ≡ f b)
+        → bit_of (worth_of (f x) + 2 * coded (map f xs)) (cond c 0 (suc (slot b xs))) ≡ f b
+    go true e k rest = first_bit (f x) (coded (map f xs)) ∙ ap f (sym (eqb-true b x e))
+    go false e k rest = later_bit (f x) (coded (map f xs)) (slot b xs) ∙ rest k
+
+-- the table's bit in the row of a valuation is what the expression is worth there
+pub looked_up : (f : ℕ → Bool) (xs : List ℕ) (w : ℕ) (e : Expression ℕ) → length xs ≤ 6 → Tabulates xs w e → bit_of w (coded (map f xs)) ≡ worth f e
+looked_up f xs w e few t =
+    let most : 2 ^ length (map f xs) ≤ 2 ^ 6 = pow_mono (let z : length (map f xs) ≤ 6 = omega (arith, few, length-map xs f) in z) in
+    t.rows (coded (map f xs)) (omega (arith, most, coded_small (map f xs)))
+    ∙ worth_same (λ b. bit_of (coded (map f xs)) (slot b xs)) f xs e t.reads (λ b h. row_bit f xs b h)
+
+-- one value more of a row: its place counts what it is worth
+split : (p : ℕ) (b : Bool) (n : ℕ) → p * (worth_of b + 2 * n) ≡ worth_of b * p + p * 2 * n
+split p true n = mul-add p 1 (2 * n) ∙ (let a : p * 2 * n ≡ p * (2 * n) = mul_assoc p 2 n in omega (arith, a))
+split p false n = let a : p * 2 * n ≡ p * (2 * n) = mul_assoc p 2 n in let z : 0 + 2 * n ≡ 2 * n = omega arith in ap (λ k. p * k) z ∙ omega (arith, a)
+
+pub row_step : (f : ℕ → Bool) (xs rest : List ℕ) (x row place bit whole : ℕ) → row + place * coded (map f xs) ≡ whole → xs ≡ x ∷ rest → bit ≡ worth_of (f x)
+    → (row + bit * place) + place * 2 * coded (map f rest) ≡ whole
+row_step f xs rest x row place bit whole h e is =
+    let all : place * coded (map f xs) ≡ worth_of (f x) * place + place * 2 * coded (map f rest) = ap (λ l. place * coded (map f l)) e ∙ split place (f x) (coded (map f rest)) in
+    let one : bit * place ≡ worth_of (f x) * place = ap (λ n. n * place) is in
+    omega (arith, h, all, one)
+
+pub below_next : (b : Bool) (row place bit : ℕ) → row < place → bit ≡ worth_of b → row + bit * place < place * 2
+below_next true row place bit h is = let e : bit * place ≡ 1 * place = ap (λ n. n * place) is in omega (arith, h, e)
+below_next false row place bit h is = let e : bit * place ≡ 0 * place = ap (λ n. n * place) is in omega (arith, h, e)

@@ -1,0 +1,46 @@
+-- Truth tables: the worth of an expression of a few bits for each of their values.
+use mathlib.Core.HLevel.{×_prop, Unit-prop}
+use native.Mathlib.Bridge.{le_prop}
+use Rattle.std.specs.Prelude.{◌≡◌, ◌<◌, ℕ, suc, Bool, true, false, cond, ◌==◌, List, [], ◌∷◌, ◌++◌}
+use Rattle.language.specs.Tree.{Expression, const, var, negation, two}
+use Rattle.flow_graph.specs.Bits.{bit_of}
+use Rattle.flow_graph.specs.Located.{worth}
+
+-- how many inputs come before the first that is this bit
+abbrev pub slot : ℕ → List ℕ → ℕ
+slot b [] = 0
+slot b (x ∷ xs) = cond (b == x) 0 (suc (slot b xs))
+
+-- some input is this bit
+abbrev pub is_input : ℕ → List ℕ → Bool
+is_input b [] = false
+is_input b (x ∷ xs) = cond (b == x) true (is_input b xs)
+
+-- each bit that the expression reads is an input
+abbrev pub Reads : List ℕ → Expression ℕ → Type 0
+Reads inputs (const b) = Unit {0}
+Reads inputs (var i) = is_input i inputs ≡ true
+Reads inputs (negation e) = Reads inputs e
+Reads inputs (two o a b) = Reads inputs a × Reads inputs b
+
+-- Bit j of the outputs is what the expression is worth where each input has the value of its bit of j.
+pub record Tabulates (inputs : List ℕ) (outputs : ℕ) (e : Expression ℕ) : Type 0 where
+  pub reads : Reads inputs e
+  pub rows : (j : ℕ) → j < 64 → bit_of outputs j ≡ worth (λ b. bit_of j (slot b inputs)) e
+
+-- each input is one of 64 bits
+abbrev pub AreBits : List ℕ → Type 0
+AreBits [] = Unit {0}
+AreBits (b ∷ bs) = (b < 64) × AreBits bs
+
+less_prop : (i n : ℕ) → IsProp (i < n)
+less_prop i n = le_prop
+
+-- this has one proof at most, so a type may carry it
+pub AreBits-prop : (bs : List ℕ) → IsProp (AreBits bs)
+AreBits-prop [] = Unit-prop
+AreBits-prop (b ∷ bs) = ×_prop (less_prop b 64) (AreBits-prop bs)
+
+-- inputs that were there, and some more
+abbrev pub Widens : List ℕ → List ℕ → Type 0
+Widens old new = (more : List ℕ) × (new ≡ old ++ more)
