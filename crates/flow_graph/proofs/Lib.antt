@@ -2,3 +2,4 @@ pub mod Places
 pub mod Stacks
 pub mod Codes
 pub mod Rows
+pub mod Worths

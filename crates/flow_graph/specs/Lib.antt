@@ -3,3 +3,4 @@ pub mod Located
 pub mod Views
 pub mod Postfix
 pub mod Tables
+pub mod Formulas

@@ -1,0 +1,13 @@
+use Rattle.std.proofs.Common.{◌∙◌, ◌++◌}
+use Rattle.syntax.specs.Trees.{expr_of}
+use Rattle.flow_graph.specs.Bits.{bit_of, coded}
+use Rattle.flow_graph.specs.Views.{scope_seen}
+use Rattle.flow_graph.proofs.Worths.{worth_is_value}
+use Rattle.flow_graph.proofs.scope.Scope.formula.Goals as goal
+
+pub returns-in-Some : goal.returns-in-Some
+returns-in-Some g c gs ls e = c.in-Some.ensures (coded (gs ++ ls)) ∙ worth_is_value (scope_seen c.args.self.now) gs ls (expr_of c.args.e.now) e
+
+pub returns-in_ok-postfix-in-None : goal.returns-in_ok-postfix-in-None
+returns-in_ok-postfix-in-None g c gs ls e =
+    c.in_ok-postfix-in-None.ensures (bit_of (coded (gs ++ ls))) ∙ worth_is_value (scope_seen c.args.self.now) gs ls (expr_of c.args.e.now) e

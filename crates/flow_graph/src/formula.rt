@@ -1,0 +1,49 @@
+//! Expressions compiled once, to be evaluated often.
+
+ghost use Rattle.std.specs.Prelude.{◌≡◌, IfOk};
+ghost use Rattle.syntax.specs.Trees.{expr_of};
+ghost use Rattle.flow_graph.specs.Formulas.{says, Says};
+ghost use Rattle.flow_graph.specs.Views.{scope_seen, IsSmall};
+
+use crate::postfix::Postfix;
+use crate::scope::Scope;
+use crate::table::Table;
+use std::alloc::{AllocError, Allocator};
+use syntax::Expr;
+
+/// An expression over the bits of a valuation: a truth table where it has at most six of them, else postfix code.
+#[derive(Debug, Drop)]
+pub(crate) enum Formula<A: Allocator> {
+    Table(Table),
+    Code(Postfix<A>),
+}
+
+impl<A: Allocator> Formula<A> {
+    /// The value of the expression for a valuation, which is a number: the globals from bit 0 in the order of their
+    /// declaration, then the formals and locals.
+    pub(crate) fn value(&self, values: u64) -> bool
+        ensures { result ≡ says self.now values }
+    {
+        match self {
+            Formula::Table(table) => table.value(values),
+            Formula::Code(code) => code.value(values),
+        }
+    }
+}
+
+impl<'a, N: Allocator> Scope<'a, N> {
+    /// Compiles an expression.
+    pub(crate) fn formula<A: Allocator>(
+        &self,
+        alloc: A,
+        e: &Expr<N>,
+    ) -> Result<Formula<A>, AllocError>
+        requires { IsSmall self.now }
+        ensures { IfOk result (λ f. Says f (scope_seen self.now) (expr_of e.now)) }
+    {
+        match self.table(e) {
+            Some(table) => Ok(Formula::Table(table)),
+            None => Ok(Formula::Code(self.postfix(alloc, e)?)),
+        }
+    }
+}
