@@ -1,12 +1,12 @@
 -- Postfix code put together.
-use Rattle.std.proofs.Common.{◌≡◌, ◌<◌, ◌≤◌, ℕ, zero, suc, ◌+◌, ◌-◌, ◌*◌, ◌^◌, min, max, ◌==◌, nat_lt, cond, Bool, true, false, List, [], ◌∷◌, ◌++◌, length, length-append, refl, sym, ◌∙◌, ap, subst, arith, append_assoc, append-nil, pow-suc}
+use Rattle.std.proofs.Common.{◌≡◌, ◌<◌, ◌≤◌, ℕ, suc, ◌+◌, ◌-◌, ◌^◌, min, max, ◌==◌, nat_lt, cond, Bool, true, false, List, [], ◌∷◌, ◌++◌, length, length-append, refl, sym, ◌∙◌, ap, subst, arith, append_assoc, append-nil, pow-suc}
 use Rattle.std.proofs.Math.Pow.{pow_mono}
 use Rattle.std.proofs.lemmas.Bool.{eqb-true, eqb-false, ltb-true, ltb-false}
 use Rattle.language.specs.Tree.{Expression, two}
 use Rattle.syntax.specs.Trees.{operator_of}
 use Rattle.syntax.specs.declared.tree.Op.{Op}
 use Rattle.flow_graph.specs.Located.{worth}
-use Rattle.flow_graph.specs.Postfix.{after_steps, top, IsShallow, need, Evaluates, Puts}
+use Rattle.flow_graph.specs.Postfix.{after_steps, top, IsShallow, need, Puts}
 use Rattle.flow_graph.specs.declared.postfix.Step.{Step}
 use Rattle.flow_graph.specs.declared.postfix.Step.TheVariants.{Apply, ApplySwapped}
 

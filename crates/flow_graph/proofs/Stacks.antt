@@ -1,11 +1,10 @@
 -- A stack of values as the bits of a number.
 use mir.Val.{bool_byte}
-use Rattle.std.proofs.Common.{◌≡◌, ◌<◌, ◌≤◌, ℕ, zero, suc, ◌+◌, ◌*◌, ◌/◌, ◌%◌, ◌^◌, ◌==◌, Bool, true, false, not, List, [], ◌∷◌, length, refl, sym, ◌∙◌, ap, arith, pow-suc}
+use Rattle.std.proofs.Common.{◌≡◌, ◌<◌, ◌≤◌, ℕ, zero, suc, ◌+◌, ◌*◌, ◌/◌, ◌%◌, ◌^◌, ◌==◌, Bool, true, false, List, [], ◌∷◌, length, refl, ◌∙◌, ap, arith, pow-suc}
 use Rattle.std.proofs.Math.Pow.{pow_mono}
 use Rattle.std.proofs.lemmas.Nat.Bits.{shr_and_one, bit_at-lt}
 use Rattle.std.specs.Int.{bit_at}
 use Rattle.std.specs.Int.RustNames.{bit_and}
-use Rattle.language.specs.Value.{operate}
 use Rattle.flow_graph.specs.Bits.{bit_of, worth_of, coded}
 
 pub worth_small : (b : Bool) → worth_of b < 2

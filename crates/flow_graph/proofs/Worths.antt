@@ -1,11 +1,11 @@
 -- What an expression over bits is worth is its value.
-use Rattle.std.proofs.Common.{◌≡◌, ◌<◌, ◌≤◌, ℕ, zero, suc, ◌+◌, ◌*◌, Bool, true, false, cond, not, nat_lt, ◌==◌, Some, None, List, [], ◌∷◌, ◌++◌, length, refl, sym, ◌∙◌, ap, arith}
+use Rattle.std.proofs.Common.{◌≡◌, ◌<◌, ◌≤◌, ℕ, zero, suc, ◌+◌, Bool, true, false, cond, not, nat_lt, ◌==◌, Some, None, List, [], ◌∷◌, ◌++◌, length, refl, sym, ◌∙◌, ap, arith}
 use Rattle.std.proofs.lemmas.Bool.{ltb-true, ltb-false}
 use Rattle.std.proofs.lemmas.Nat.Bits.{bit_at-zero}
 use Rattle.language.specs.Tree.{Name, Expression, const, var, negation, two}
 use Rattle.language.specs.Value.{Place, global, local, bit, look_up, operate, value_of}
 use Rattle.language.specs.Resolve.{Scope, place_of, resolve_expression}
-use Rattle.flow_graph.specs.Bits.{bit_of, worth_of, coded}
+use Rattle.flow_graph.specs.Bits.{bit_of, coded}
 use Rattle.flow_graph.specs.Located.{bit_of_place, read_of, located, worth}
 use Rattle.flow_graph.proofs.Rows.{first_bit, later_bit}
 

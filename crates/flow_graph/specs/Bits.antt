@@ -1,5 +1,5 @@
 -- Values as the bits of a number, the first value in bit 0.
-use Rattle.std.specs.Prelude.{◌≡◌, ℕ, ◌+◌, ◌*◌, Bool, true, false, List, [], ◌∷◌, ◌==◌}
+use Rattle.std.specs.Prelude.{ℕ, ◌+◌, ◌*◌, Bool, true, false, List, [], ◌∷◌, ◌==◌}
 use Rattle.std.specs.Int.{bit_at}
 
 -- whether bit i of the number is 1

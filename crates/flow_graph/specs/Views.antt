@@ -1,5 +1,5 @@
 -- What the scope of a procedure stands for.
-use Rattle.std.specs.Prelude.{◌≤◌, ◌+◌, ℕ, ◌++◌, length, []}
+use Rattle.std.specs.Prelude.{◌≤◌, ◌+◌, ◌++◌, length, []}
 use Rattle.language.specs.Resolve as resolve
 use Rattle.syntax.specs.Trees.{names_of}
 use Rattle.flow_graph.specs.declared.scope.Scope.{Scope}

@@ -5,3 +5,5 @@ mod formula;
 mod postfix;
 mod scope;
 mod table;
+#[cfg(test)]
+mod tests;

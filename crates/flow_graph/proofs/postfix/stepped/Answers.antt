@@ -1,6 +1,6 @@
 -- Each step does to the number what it does to the stack.
-use Rattle.std.proofs.Common.{◌≡◌, ◌∙◌, sym, ap, subst, length, [], ◌∷◌}
-use Rattle.flow_graph.specs.Bits.{bit_of, worth_of, coded}
+use Rattle.std.proofs.Common.{◌∙◌, sym, ap, subst, length, [], ◌∷◌}
+use Rattle.flow_graph.specs.Bits.{bit_of, coded}
 use Rattle.flow_graph.specs.Postfix.{IsShallow, after_step}
 use Rattle.flow_graph.proofs.Stacks.{pushed, shifted_worth, byte_worth}
 use Rattle.flow_graph.proofs.postfix.stepped.Goals as goal

@@ -1,7 +1,7 @@
 -- The bit is an input already, or becomes the last.
-use Rattle.std.proofs.Common.{◌≡◌, ◌<◌, ◌≤◌, ◌∙◌, ◌++◌, ◌∷◌, [], sym, ap, subst, length, refl, arith}
+use Rattle.std.proofs.Common.{◌≡◌, ◌∙◌, ◌++◌, ◌∷◌, [], sym, ap, subst, length, refl, arith}
 use Rattle.language.specs.Tree.{var}
-use Rattle.flow_graph.specs.Tables.{slot, is_input, Tabulates, AreBits}
+use Rattle.flow_graph.specs.Tables.{slot, Tabulates, AreBits}
 use Rattle.flow_graph.proofs.Rows.{slot_most, slot_inside, slot_last, reads_slot, bits_pushed}
 use Rattle.flow_graph.proofs.table.read.Goals as goal
 

@@ -1,10 +1,10 @@
 -- The outputs of an expression from those of its operands.
-use Rattle.std.proofs.Common.{◌≡◌, ◌∙◌, ◌-◌, sym, ap, subst, arith}
+use Rattle.std.proofs.Common.{◌∙◌, sym, ap, subst}
 use Rattle.language.specs.Tree.{const}
 use Rattle.syntax.specs.Trees.{operator_of, expr_of}
 use Rattle.syntax.proofs.Folds.{expr_of-Const, expr_of-Not, expr_of-Two}
 use Rattle.flow_graph.specs.Located.{located}
-use Rattle.flow_graph.specs.Tables.{Tabulates, Widens}
+use Rattle.flow_graph.specs.Tables.{Tabulates}
 use Rattle.flow_graph.specs.Views.{scope_seen}
 use Rattle.flow_graph.proofs.Rows.{constant_one, complemented, operated}
 use Rattle.flow_graph.proofs.scope.Scope.+outputs.Goals as goal

@@ -1,7 +1,6 @@
 -- Two operands and their operator: the one that needs more comes first.
-use Rattle.std.proofs.Common.{◌≡◌, ◌<◌, ◌≤◌, ◌∙◌, sym, ap, subst, arith}
-use Rattle.language.specs.Tree.{two}
-use Rattle.syntax.specs.Trees.{operator_of, expr_of}
+use Rattle.std.proofs.Common.{◌<◌, ◌≤◌, ◌∙◌, sym, ap, subst, arith}
+use Rattle.syntax.specs.Trees.{expr_of}
 use Rattle.syntax.proofs.Folds.{expr_of-Two}
 use Rattle.flow_graph.specs.Located.{located}
 use Rattle.flow_graph.specs.Postfix.{need, Puts}

@@ -1,5 +1,5 @@
 -- The formals come before the locals, and both before the globals.
-use Rattle.std.proofs.Common.{◌≡◌, ◌<◌, ◌+◌, ◌≤◌, ◌∙◌, true, false, sym, ap, arith, length, cond, nat_lt, Some, None}
+use Rattle.std.proofs.Common.{◌≡◌, ◌+◌, ◌∙◌, true, false, sym, ap, arith, length, Some}
 use Rattle.std.proofs.lemmas.List.{length-map}
 use Rattle.std.specs.String.{string_bytes}
 use Rattle.language.specs.Resolve.{number_of, is_declared}
