@@ -36,3 +36,5 @@ pub mod Mains
 pub mod Needing
 pub mod Copied
 pub mod Widths
+pub mod Uses
+pub mod Working
