@@ -38,3 +38,5 @@ pub mod Copied
 pub mod Widths
 pub mod Uses
 pub mod Working
+pub mod Ids
+pub mod Readable

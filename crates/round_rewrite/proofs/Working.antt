@@ -1,16 +1,16 @@
 -- Each statement of a checked tree rewritten works: its variables are declared, what it calls and goes to is there, and each
 -- target has its right side. So the rewritten tree resolves.
-use Rattle.std.proofs.Common.{◌≡◌, ℕ, zero, suc, ◌+◌, ◌<◌, ◌≤◌, max, Bool, true, false, cond, not, List, [], ◌∷◌, ◌++◌, length, map, reverse, codes, Option, Some, None, option_map, inl, inr, refl, sym, ◌∙◌, ap, subst, ap₂, arith, append_assoc}
+use Rattle.std.proofs.Common.{◌≡◌, ℕ, zero, suc, ◌+◌, ◌<◌, ◌≤◌, Bool, true, false, cond, List, [], ◌∷◌, ◌++◌, length, map, codes, Option, Some, None, option_map, inl, inr, refl, sym, ◌∙◌, ap, subst, ap₂, arith, append_assoc}
 use Rattle.std.proofs.lemmas.List.{length-map}
-use Rattle.language.specs.Tree.{Name, Expression, var, two, equal, RightSide, any, value, Simple, skip, assign, assert, assume, goto, leave, call, Mark, Block, done, one, choose, loop, Procedure, ThreadLine, Tree}
+use Rattle.language.specs.Tree.{Name, var, RightSide, any, value, Simple, skip, assign, assert, assume, goto, leave, call, Mark, Block, done, one, choose, loop, Procedure, ThreadLine, Tree}
 use Rattle.language.specs.Rest.{same_text, join}
 use Rattle.language.specs.Resolve.{is_declared}
 use Rattle.scopes.specs.Checked.{IsChecked}
-use Rattle.scopes.specs.Faults.{named, names as names_of, known, IsThere}
+use Rattle.scopes.specs.Faults.{named, known, IsThere}
 use Rattle.scopes.specs.Statements.{Head, plain, tests, Statement, statements_of, used_by, variables_of_side, label_of, labels_of}
-use Rattle.scopes.specs.Resolves.{Each, HasAllSides, Resolves}
+use Rattle.scopes.specs.Resolves.{Each, Resolves}
 use Rattle.scopes.specs.Rewritable.{IsRewritable}
-use Rattle.scopes.proofs.Works.{each_of, each_left, each_right, in_either, named_declared, Called, Labelled, Works, IsGood, Starts, good, threads_start}
+use Rattle.scopes.proofs.Works.{each_left, each_right, in_either, named_declared, Works, IsGood, Starts, good, threads_start}
 use Rattle.scopes.proofs.Resolving.{labels_append, working_resolves}
 use Rattle.scopes.proofs.Rewriting.{checked_rewritable}
 use Rattle.round_rewrite.specs.Table as table
@@ -259,12 +259,22 @@ module _ (t : Tree) (last : ℕ) (ok : IsChecked t) (small : last < 4) where
     prologue_works : (m : Mark Name) (k : Block Name Name Name) → Work p' (statements_of k) → Work p' (statements_of (prologue (names own) last m k))
     prologue_works m k h = (
       test_works p' any tt,
-      (assume_works p' _ (at_uses own last drawn (In p') (λ x. is_declared x.text (known t p) ≡ true) held last),
-      (assign_works p' _ _ (high_in p', (low_in p', (high_in p', (low_in p', (low_in p', tt))))) refl,
-      (test_works p' any tt,
-      (assign_works p' _ _ (stop_in p', tt) refl,
-      (skip_works p',
-      stop_test_works p' k own h))))),
+      (
+        assume_works p' _ (at_uses own last drawn (In p') (λ x. is_declared x.text (known t p) ≡ true) held last),
+        (
+          assign_works p' _ _ (high_in p', (low_in p', (high_in p', (low_in p', (low_in p', tt))))) refl,
+          (
+            test_works p' any tt,
+            (
+              assign_works p' _ _ (stop_in p', tt) refl,
+              (
+                skip_works p',
+                stop_test_works p' k own h,
+              ),
+            ),
+          ),
+        ),
+      ),
     )
 
     drawing_works : (n : ℕ) (k : Block Name Name Name) → n ≤ drawn → Work p' (statements_of k) → Work p' (statements_of (drawing (names own) last n k))
@@ -292,9 +302,13 @@ module _ (t : Tree) (last : ℕ) (ok : IsChecked t) (small : last < 4) where
         )
     statement_works m (assert r) b k w room h = (
       test_works p' (side (names own) last r) (side_uses own last drawn (In p') (λ x. is_declared x.text (known t p) ≡ true) held r w.variables),
-      (skip_works p',
-      (assign_works p' _ _ (bad_in p', (stop_in p', tt)) refl,
-      (leave_works p', h))),
+      (
+        skip_works p',
+        (
+          assign_works p' _ _ (bad_in p', (stop_in p', tt)) refl,
+          (leave_works p', h),
+        ),
+      ),
     )
     statement_works m (assume r) b k w room h = (assume_works p' (side (names own) last r) (side_uses own last drawn (In p') (λ x. is_declared x.text (known t p) ≡ true) held r w.variables), h)
     statement_works m (goto l) b k w room h = (record { variables = tt; called = tt; sides = tt; labelled = label_there l w.labelled }, h)
@@ -363,9 +377,11 @@ module _ (t : Tree) (last : ℕ) (ok : IsChecked t) (small : last < 4) where
       let saves : Each (In first) (map (save_name (suc k)) (x ∷ xs)) = written_each (In first) Global (save_name (suc k)) (x ∷ xs) (λ y i. in_globals first (save_name (suc k) y) (saves_there y i k lt)) g in (
         assign_works first (map (copy_name (suc k)) (x ∷ xs)) (map (λ y. any) (x ∷ xs)) (each_both (In first) (map (copy_name (suc k)) (x ∷ xs)) _ copies (any_uses (In first) (x ∷ xs)))
             (length-map (x ∷ xs) (copy_name (suc k)) ∙ sym (length-map (x ∷ xs) (λ y. any))),
-        (assign_works first (map (save_name (suc k)) (x ∷ xs)) (map (λ y. value (var (copy_name (suc k) y))) (x ∷ xs)) (each_both (In first) (map (save_name (suc k)) (x ∷ xs)) _ saves (copies_read (suc k) (x ∷ xs) (omega arith) g))
-            (length-map (x ∷ xs) (save_name (suc k)) ∙ sym (length-map (x ∷ xs) (λ y. value (var (copy_name (suc k) y))))),
-        h),
+        (
+          assign_works first (map (save_name (suc k)) (x ∷ xs)) (map (λ y. value (var (copy_name (suc k) y))) (x ∷ xs)) (each_both (In first) (map (save_name (suc k)) (x ∷ xs)) _ saves (copies_read (suc k) (x ∷ xs) (omega arith) g))
+              (length-map (x ∷ xs) (save_name (suc k)) ∙ sym (length-map (x ∷ xs) (λ y. value (var (copy_name (suc k) y))))),
+          h,
+        ),
       )
 
   guesses_work : (xs : List Name) (k m : ℕ) (b : Block Name Name Name) → k + m ≤ last → Each Global xs → Work first (statements_of b) → Work first (statements_of (guesses (names []) last xs (numbers (suc k) m) b))

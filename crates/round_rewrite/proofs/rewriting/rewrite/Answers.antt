@@ -1,5 +1,6 @@
-use Rattle.std.proofs.Common.{◌≡◌, ◌+◌, suc, length, sym, subst, ap, arith}
+use Rattle.std.proofs.Common.{sym, subst, ap, arith}
 use Rattle.language.specs.Tree.{Tree}
+use Rattle.syntax.specs.InGrammar.{InGrammar}
 use Rattle.syntax.specs.Trees.{tree_of}
 use Rattle.round_rewrite.specs.Law.{KeepsTree}
 use Rattle.scopes.specs.Resolves.{Resolves}
@@ -7,6 +8,7 @@ use Rattle.scopes.proofs.Rewriting.{checked_rewritable}
 use Rattle.round_rewrite.specs.Narrow.{AllNarrow}
 use Rattle.round_rewrite.proofs.Widths.{few_procedures, count_rewritten}
 use Rattle.round_rewrite.proofs.Working.{rewritten_resolves}
+use Rattle.round_rewrite.proofs.Readable.{rewritten_in_grammar}
 use Rattle.round_rewrite.proofs.Meaning.{keeps_tree}
 use Rattle.round_rewrite.proofs.rewriting.rewrite.Goals as goal
 
@@ -35,4 +37,7 @@ invariant_of-result-clause-few g c =
     omega (arith, few_procedures t c.program-source.ensures.checked, count_rewritten c.args.rounds.last t c.in_ok-program.program.procs.items (ap (λ (t : Tree). t.procedures) c.in_ok-program.ensures))
 
 pub returns-clause-grammar : goal.returns-clause-grammar
-returns-clause-grammar g c = ?
+returns-clause-grammar g c = λ h.
+    subst InGrammar (sym c.in_ok-program.ensures)
+    (rewritten_in_grammar (tree_of c.program-source.result.now) c.args.rounds.last c.args.rounds.few (c.is_narrow.ensures.0 c.if-not-is_narrow.false)
+    (subst InGrammar (ap tree_of (sym c.program-source.ensures.same)) h))

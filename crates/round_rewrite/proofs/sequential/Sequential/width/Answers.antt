@@ -1,26 +1,18 @@
 -- The places are counted, and they are at most 64.
-use Rattle.std.proofs.Common.{◌≡◌, ◌≤◌, ◌<◌, ◌∙◌, sym, subst, length, slice_get, ℕ, ◌+◌, ◌++◌, arith}
+use Rattle.std.proofs.Common.{◌≡◌, ◌+◌, ◌++◌, length, sym, subst, arith}
 use Rattle.scopes.specs.Faults.{IsThere}
-use Rattle.syntax.specs.Trees.{tree_of, names_of, proc_of}
+use Rattle.syntax.specs.Trees.{tree_of, names_of}
 use Rattle.round_rewrite.specs.Narrow.{width}
-use Rattle.round_rewrite.proofs.Widths.{each_at, proc_there, places_counted}
+use Rattle.round_rewrite.proofs.Widths.{proc_there, places_counted, places_few}
 use Rattle.round_rewrite.proofs.sequential.Sequential.width.Goals as goal
 
 pub overflow_add-result : goal.overflow_add-result
 overflow_add-result g c =
-    let program = c.args.self.now.program in
-    let proc = c.index-proc.result.now in
-    let narrow : length (names_of program.globals.items) + length (names_of proc.formals.items ++ names_of proc.locals.items) ≤ 64 = each_at (λ p. width (tree_of program) p ≤ 64) program.procs.items c.args.procedure proc c.requires c.index-proc.ensures c.args.self.now.narrow in
-    let counted = places_counted program.globals.items proc.formals.items proc.locals.items in
-    omega (arith, narrow, counted)
+    omega (arith, places_few c.args.self.now.program c.args.procedure c.index-proc.result.now c.requires c.index-proc.ensures c.args.self.now.narrow)
 
 pub overflow_cast-result : goal.overflow_cast-result
 overflow_cast-result g c =
-    let program = c.args.self.now.program in
-    let proc = c.index-proc.result.now in
-    let narrow : length (names_of program.globals.items) + length (names_of proc.formals.items ++ names_of proc.locals.items) ≤ 64 = each_at (λ p. width (tree_of program) p ≤ 64) program.procs.items c.args.procedure proc c.requires c.index-proc.ensures c.args.self.now.narrow in
-    let counted = places_counted program.globals.items proc.formals.items proc.locals.items in
-    omega (arith, narrow, counted)
+    omega (arith, places_few c.args.self.now.program c.args.procedure c.index-proc.result.now c.requires c.index-proc.ensures c.args.self.now.narrow)
 
 pub returns : goal.returns
 returns g c =
