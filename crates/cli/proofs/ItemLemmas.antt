@@ -12,11 +12,9 @@ use Rattle.syntax.specs.declared.tree.Name.{Name}
 use Rattle.syntax.specs.declared.tree.Expr.{Expr}
 use Rattle.syntax.specs.declared.tree.Rhs.{Rhs}
 use Rattle.syntax.specs.declared.tree.Stmt.{Stmt}
-use Rattle.syntax.specs.declared.tree.Core.{Core}
 use Rattle.syntax.specs.declared.tree.Core.TheVariants.{Skip, Assign, If, While, Assert, Assume, Goto, Return, Call, rolls-Assign, rolls-Skip, rolls-Assert, rolls-If, rolls-While, rolls-Assume, rolls-Goto, rolls-Return, rolls-Call}
 use Rattle.syntax.specs.declared.tree.Core.TheOpen as layer
 use Rattle.syntax.specs.declared.tree.Core.TheFolds.{fold-roll-Core, fold_out-Stmt}
-use Rattle.cli.specs.Members.{Member}
 use Rattle.cli.specs.Reach.{AreFrom, IsAssigned, IsPassed, SomeFails}
 use Rattle.cli.specs.Straight.{FailsFrom, SomeFailFrom, code_of, FailsAt, Leads}
 

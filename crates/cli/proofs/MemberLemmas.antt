@@ -1,9 +1,6 @@
 -- What is in lists that are made of others.
-use Rattle.std.proofs.Common.{◌≡◌, ℕ, zero, suc, List, [], ◌∷◌, ◌++◌, ◌⊎◌, Bool, true, false, ◌||◌, map, refl, sym, ◌∙◌, ap, inl, inr, subst, ◌<◌, ◌≤◌, ◌+◌, length, take, drop, get_or}
+use Rattle.std.proofs.Common.{◌≡◌, ℕ, List, [], ◌∷◌, ◌++◌, ◌⊎◌, Bool, true, false, map, refl, sym, ◌∙◌, ap, inl, inr, subst, ◌<◌, ◌≤◌, ◌+◌, length, take, drop, get_or}
 use Rattle.std.specs.Prelude.{◌↔◌, IsTrue}
-use Rattle.std.specs.List.{list_any}
-use Rattle.std.specs.Bool.{Decides}
-use Rattle.std.proofs.lemmas.Bool.{or_cases, cases_Bool}
 use Rattle.std.proofs.lemmas.List.{map-append, take_more, take_all, drop_more}
 use Rattle.std.specs.declared.vec.Vec.{Vec}
 use Rattle.cli.specs.Members.{Member}

@@ -1,12 +1,12 @@
 -- Each kind of statement of the first part, and that no other comes.
-use Rattle.std.proofs.Common.{◌≡◌, ◌∙◌, List, Bool, ap, subst, sym, false, true, map, rules}
+use Rattle.std.proofs.Common.{◌≡◌, ◌∙◌, List, Bool, ap, subst, sym, false, true, map}
 use Rattle.std.proofs.lemmas.List.{length-map}
-use Rattle.std.specs.Prelude.{length, IsTrue, ◌↔◌}
+use Rattle.std.specs.Prelude.{length}
 use Rattle.language.specs.Resolve.{place_of, resolve_side}
 use Rattle.syntax.specs.Trees.{deed_of, item_of, name_of, names_of, rhs_of, rhss_of}
-use Rattle.cli.specs.Straight.{globals_only, IsStraightDeed, IsStraightItem}
+use Rattle.cli.specs.Straight.{globals_only, IsStraightDeed}
 use Rattle.cli.specs.Reach.{rows_of, AreFrom, IsAssigned, IsPassed, SomeFails}
-use Rattle.cli.proofs.ItemLemmas.{item_deed, deed_of-Skip, deed_of-Assign, deed_of-Assert, deed_of-If, deed_of-While, deed_of-Assume, deed_of-Goto, deed_of-Return, deed_of-Call, leads_skip, leads_assign, leads_assert, fails_assert}
+use Rattle.cli.proofs.ItemLemmas.{item_deed, deed_of-Skip, deed_of-Assign, deed_of-Assert, deed_of-If, deed_of-While, deed_of-Assume, deed_of-Goto, deed_of-Return, deed_of-Call, leads_skip, leads_assign, leads_assert}
 use Rattle.cli.proofs.analysis.after.Goals as goal
 
 false-true : false ≡ true → ⊥

@@ -1,5 +1,5 @@
 -- A statement that is not straight is found; one that is is passed over.
-use Rattle.std.proofs.Common.{◌≡◌, ◌∙◌, sym, subst, refl}
+use Rattle.std.proofs.Common.{◌∙◌, sym, subst, refl}
 use Rattle.std.proofs.lemmas.List.{drop_all}
 use Rattle.syntax.specs.Trees.{items_of}
 use Rattle.cli.specs.Straight.{AreStraight}

@@ -1,5 +1,5 @@
 -- One statement further.
-use Rattle.std.proofs.Common.{◌≡◌, ◌∙◌, ◌∷◌, ◌++◌, [], List, Bool, Some, None, sym, subst, ap, refl, inl, inr, length, ℕ}
+use Rattle.std.proofs.Common.{◌≡◌, ◌∙◌, ◌∷◌, ◌++◌, [], List, Bool, sym, subst, ap, refl, inl, inr, length, ℕ}
 use Rattle.language.specs.Rest.{Code}
 use Rattle.std.specs.Prelude.{MatchOption}
 use Rattle.language.specs.Step.{zeros}

@@ -1,6 +1,6 @@
 -- The analysis decides what the text means.
-use Rattle.std.proofs.Common.{◌≡◌, ◌∙◌, List, sym, subst, ap, true, false, length}
-use Rattle.std.specs.Prelude.{IsTrue, ◌↔◌}
+use Rattle.std.proofs.Common.{◌≡◌, ◌∙◌, List, sym, subst, length}
+use Rattle.std.specs.Prelude.{◌↔◌}
 use Rattle.std.proofs.lemmas.List.{length-map}
 use Rattle.language.specs.Step.{zeros}
 use Rattle.syntax.specs.Trees.{Item, tree_of, names_of, name_of, items_of}

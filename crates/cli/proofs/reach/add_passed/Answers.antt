@@ -1,9 +1,5 @@
 -- The row is added exactly where the side passes.
-use Rattle.std.proofs.Common.{◌≡◌, ◌⊎◌, ◌∙◌, [], List, Bool, true, false, sym, subst, inl, inr}
-use Rattle.language.specs.Resolve.{resolve_side}
-use Rattle.language.specs.Value.{IsValue}
-use Rattle.syntax.specs.Trees.{names_of, rhs_of}
-use Rattle.cli.specs.Straight.{globals_only}
+use Rattle.std.proofs.Common.{◌≡◌, ◌∙◌, true, false, sym, inl, inr}
 use Rattle.cli.proofs.reach.add_passed.Goals as goal
 
 pub returns-in_ok-add : goal.returns-in_ok-add

@@ -1,6 +1,5 @@
 -- A row that fails is found; one that does not is passed over.
-use Rattle.std.proofs.Common.{◌≡◌, ◌∙◌, ◌∷◌, [], List, Bool, true, false, sym, subst, refl}
-use Rattle.std.specs.Prelude.{◌↔◌, IsTrue}
+use Rattle.std.proofs.Common.{◌≡◌, ◌∙◌, [], true, false, sym, subst, refl}
 use Rattle.language.specs.Resolve.{resolve_side}
 use Rattle.language.specs.Value.{IsValue}
 use Rattle.syntax.specs.Trees.{names_of, rhs_of}
