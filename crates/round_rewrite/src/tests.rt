@@ -114,6 +114,17 @@ fn the_two_texts_are_rewritten(rt: HostRuntime) -> Result<(), Fail> {
 }
 
 #[test]
+fn what_is_printed_is_read_and_printed_again(rt: HostRuntime) -> Result<(), Fail> {
+    for text in [SKIP_REWRITTEN, GUESS_REWRITTEN] {
+        match read(rt.alloc(), text.as_bytes()) {
+            Ok(program) => assert_eq!(rt; print(rt.alloc(), &program)?.as_str(), text),
+            Err(fault) => panic!(rt; "{fault}"),
+        }
+    }
+    Ok(())
+}
+
+#[test]
 fn a_line_stands_in_what_is_printed(rt: HostRuntime) -> Result<(), Fail> {
     for (text, count, line) in [
         (
