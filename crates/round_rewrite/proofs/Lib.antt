@@ -40,3 +40,4 @@ pub mod Uses
 pub mod Working
 pub mod Ids
 pub mod Readable
+pub mod Completing
