@@ -15,7 +15,7 @@ use Rattle.round_rewrite.specs.Names.{named, copy_name, save_name, drawn_name, n
 use Rattle.round_rewrite.specs.Narrow.{IsNarrow}
 use Rattle.round_rewrite.specs.Places.{bits_at}
 use Rattle.round_rewrite.specs.Writing.{procedure_needs, AreFew}
-use Rattle.round_rewrite.proofs.Resolved.{by_test}
+use Rattle.round_rewrite.proofs.Resolved.{by_test, rest_room}
 use Rattle.round_rewrite.proofs.Widths.{narrow_procedures, few_needs}
 use Rattle.round_rewrite.proofs.Uses.{each_both, any_uses, written_each, drawn_each, sides_even, Held, at_uses, arguments_use, side_uses, targets_held, sides_use}
 use Rattle.round_rewrite.proofs.Ids.{copy_id, save_id, drawn_id, high_id, low_id, stop_id, bad_id, main_id}
@@ -169,20 +169,11 @@ module _ (own : List Name) (last d : ℕ) (small : last < 4) (few : d ≤ 64) wh
     stop_test_in_grammar k h,
   )
 
-  rest_room : (m : Mark Name) (c : Simple Name Name Name) (k : Block Name Name Name) → temporaries (names own).is_shared (one m c k) ≤ d → temporaries (names own).is_shared k ≤ d
-  rest_room m skip k h = h
-  rest_room m (assign xs rs) k h = omega arith
-  rest_room m (assert r) k h = h
-  rest_room m (assume r) k h = h
-  rest_room m (goto x) k h = h
-  rest_room m leave k h = h
-  rest_room m (call q es) k h = h
-
   block_in_grammar : (b : Block Name Name Name) → BlockInGrammar b → temporaries (names own).is_shared b ≤ d → BlockInGrammar (rewritten (names own) last b)
   block_in_grammar done h room = tt
   block_in_grammar (one m c k) h room =
       prologue_in_grammar m (statement (names own) last c (rewritten (names own) last k)) h.0
-      (statement_in_grammar m c k (rewritten (names own) last k) h.1 room (block_in_grammar k h.2 (rest_room m c k room)))
+      (statement_in_grammar m c k (rewritten (names own) last k) h.1 room (block_in_grammar k h.2 (rest_room (names own).is_shared d m c k room)))
   block_in_grammar (choose m r a b k) h room =
       prologue_in_grammar m (choose plain (side (names own) last r) (rewritten (names own) last a) (rewritten (names own) last b) (rewritten (names own) last k)) h.0 (
         tt,

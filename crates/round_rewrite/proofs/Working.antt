@@ -20,7 +20,7 @@ use Rattle.round_rewrite.specs.Names.{copy_name, save_name, drawn_name, names, r
 use Rattle.round_rewrite.proofs.Spelling.{same_text_refl}
 use Rattle.round_rewrite.proofs.Numbering.{number_right, number_left, in_rows}
 use Rattle.round_rewrite.proofs.Placing.{copies_spelled, saves_spelled}
-use Rattle.round_rewrite.proofs.Resolved.{by_test}
+use Rattle.round_rewrite.proofs.Resolved.{by_test, rest_room}
 use Rattle.round_rewrite.proofs.Meaning.{not_main}
 use Rattle.round_rewrite.proofs.Uses.{each_both, any_uses, written_each, drawn_each, sides_even, Held, at_uses, arguments_use, side_uses, targets_held, sides_use}
 
@@ -124,9 +124,6 @@ module _ (t : Tree) (last : ℕ) (ok : IsChecked t) (small : last < 4) where
   abbrev t' : Tree
   t' = rewritten_tree last t
 
-  gs : List Name
-  gs = t.globals
-
   rewritable : IsRewritable t
   rewritable = checked_rewritable t ok
 
@@ -139,40 +136,36 @@ module _ (t : Tree) (last : ℕ) (ok : IsChecked t) (small : last < 4) where
       subst (λ o. Takes o n) (sym e) (takes_rewritten last n (named q.text t.procedures) h)
 
   -- the globals of the rewritten tree, part by part
+  abbrev A : List Name
+  A = copied (names []) last copy_name t.globals (numbers 0 (suc last))
+
+  abbrev B : List Name
+  B = copied (names []) last save_name t.globals (numbers 1 last)
+
+  abbrev bits : List Name
+  bits = renamed.named (codes "rh__") ∷ renamed.named (codes "rl__") ∷ []
+
+  abbrev lasts : List Name
+  lasts = renamed.named (codes "stop__") ∷ renamed.named (codes "bad__") ∷ []
+
   copies_there : (x : Name) → is_declared x.text t.globals ≡ true → (k : ℕ) → k ≤ last → is_declared (copy_name k x).text t'.globals ≡ true
   copies_there x h k le =
-      let A : List Name = copied (names []) last copy_name t.globals (numbers 0 (suc last)) in
-      let B : List Name = copied (names []) last save_name t.globals (numbers 1 last) in
-      let bits : List Name = renamed.named (codes "rh__") ∷ renamed.named (codes "rl__") ∷ [] in
-      let lasts : List Name = renamed.named (codes "stop__") ∷ renamed.named (codes "bad__") ∷ [] in
       let z : 0 + k ≡ k = omega arith in
       let inA : is_declared (copy_name k x).text A ≡ true = subst (λ y. is_declared (copy_name y x).text A ≡ true) z (in_rows (names []) last copy_name t.globals copies_spelled x h k 0 (suc last) (omega arith) (omega arith)).0 in
       declared_left (copy_name k x).text (A ++ B ++ bits) lasts (declared_left (copy_name k x).text (A ++ B) bits (declared_left (copy_name k x).text A B inA))
 
   saves_there : (x : Name) → is_declared x.text t.globals ≡ true → (k : ℕ) → k < last → is_declared (save_name (suc k) x).text t'.globals ≡ true
   saves_there x h k lt =
-      let A : List Name = copied (names []) last copy_name t.globals (numbers 0 (suc last)) in
-      let B : List Name = copied (names []) last save_name t.globals (numbers 1 last) in
-      let bits : List Name = renamed.named (codes "rh__") ∷ renamed.named (codes "rl__") ∷ [] in
-      let lasts : List Name = renamed.named (codes "stop__") ∷ renamed.named (codes "bad__") ∷ [] in
       let z : 1 + k ≡ suc k = omega arith in
       let inB : is_declared (save_name (suc k) x).text B ≡ true = subst (λ y. is_declared (save_name y x).text B ≡ true) z (in_rows (names []) last save_name t.globals saves_spelled x h k 1 last lt (omega arith)).0 in
       declared_left (save_name (suc k) x).text (A ++ B ++ bits) lasts (declared_left (save_name (suc k) x).text (A ++ B) bits (declared_right (save_name (suc k) x).text A B inB))
 
-  bits_there : (x : List ℕ) → is_declared x (renamed.named (codes "rh__") ∷ renamed.named (codes "rl__") ∷ []) ≡ true → is_declared x t'.globals ≡ true
+  bits_there : (x : List ℕ) → is_declared x bits ≡ true → is_declared x t'.globals ≡ true
   bits_there x h =
-      let A : List Name = copied (names []) last copy_name t.globals (numbers 0 (suc last)) in
-      let B : List Name = copied (names []) last save_name t.globals (numbers 1 last) in
-      let bits : List Name = renamed.named (codes "rh__") ∷ renamed.named (codes "rl__") ∷ [] in
-      let lasts : List Name = renamed.named (codes "stop__") ∷ renamed.named (codes "bad__") ∷ [] in
       declared_left x (A ++ B ++ bits) lasts (declared_right x (A ++ B) bits h)
 
-  lasts_there : (x : List ℕ) → is_declared x (renamed.named (codes "stop__") ∷ renamed.named (codes "bad__") ∷ []) ≡ true → is_declared x t'.globals ≡ true
+  lasts_there : (x : List ℕ) → is_declared x lasts ≡ true → is_declared x t'.globals ≡ true
   lasts_there x h =
-      let A : List Name = copied (names []) last copy_name t.globals (numbers 0 (suc last)) in
-      let B : List Name = copied (names []) last save_name t.globals (numbers 1 last) in
-      let bits : List Name = renamed.named (codes "rh__") ∷ renamed.named (codes "rl__") ∷ [] in
-      let lasts : List Name = renamed.named (codes "stop__") ∷ renamed.named (codes "bad__") ∷ [] in
       declared_right x (A ++ B ++ bits) lasts h
 
   -- in a procedure of the rewritten tree
@@ -235,17 +228,20 @@ module _ (t : Tree) (last : ℕ) (ok : IsChecked t) (small : last < 4) where
     abbrev Was : Head → Type 0
     Was h = Works t p h
 
+    abbrev Known : Name → Type 0
+    Known x = is_declared x.text (known t p) ≡ true
+
     own_in : (x : Name) → is_declared x.text (own ++ temps) ≡ true → In p' x
     own_in x h = declared_left x.text (p.formals ++ (p.locals ++ temps)) t'.globals (subst (λ ns. is_declared x.text ns ≡ true) (append_assoc p.formals p.locals temps) h)
 
-    copied_in : (x : Name) → is_declared x.text (known t p) ≡ true → is_declared x.text own ≡ false → (k : ℕ) → k ≤ last → In p' (copy_name k x)
+    copied_in : (x : Name) → Known x → is_declared x.text own ≡ false → (k : ℕ) → k ≤ last → In p' (copy_name k x)
     copied_in x h hidden k le =
         elim (in_either x.text own t.globals h) [
           | inl e ↦ absurd (let bad : true ≡ false = sym e ∙ hidden in cc)
           | inr e ↦ in_globals p' (copy_name k x) (copies_there x e k le)
         ]
 
-    held : Held own last drawn (In p') (λ x. is_declared x.text (known t p) ≡ true)
+    held : Held own last drawn (In p') Known
     held = record {
       high = high_in p';
       low = low_in p';
@@ -260,7 +256,7 @@ module _ (t : Tree) (last : ℕ) (ok : IsChecked t) (small : last < 4) where
     prologue_works m k h = (
       test_works p' any tt,
       (
-        assume_works p' _ (at_uses own last drawn (In p') (λ x. is_declared x.text (known t p) ≡ true) held last),
+        assume_works p' _ (at_uses own last drawn (In p') Known held last),
         (
           assign_works p' _ _ (high_in p', (low_in p', (high_in p', (low_in p', (low_in p', tt))))) refl,
           (
@@ -295,13 +291,13 @@ module _ (t : Tree) (last : ℕ) (ok : IsChecked t) (small : last < 4) where
         drawing_works (draws (names own).is_shared xs rs) (one table.plain (assign (targets (names own) last xs rs) (sides (names own) last 0 xs rs)) k) (omega arith) (
           assign_works p' (targets (names own) last xs rs) (sides (names own) last 0 xs rs)
               (each_both (In p') (targets (names own) last xs rs) _
-              (targets_held own last drawn (In p') (λ x. is_declared x.text (known t p) ≡ true) held xs rs (each_left _ xs _ w.variables))
-              (sides_use own last drawn (In p') (λ x. is_declared x.text (known t p) ≡ true) held 0 xs rs (each_left _ xs _ w.variables) (each_right _ xs _ w.variables) (omega arith)))
+              (targets_held own last drawn (In p') Known held xs rs (each_left _ xs _ w.variables))
+              (sides_use own last drawn (In p') Known held 0 xs rs (each_left _ xs _ w.variables) (each_right _ xs _ w.variables) (omega arith)))
               (sides_even own last 0 xs rs),
           h,
         )
     statement_works m (assert r) b k w room h = (
-      test_works p' (side (names own) last r) (side_uses own last drawn (In p') (λ x. is_declared x.text (known t p) ≡ true) held r w.variables),
+      test_works p' (side (names own) last r) (side_uses own last drawn (In p') Known held r w.variables),
       (
         skip_works p',
         (
@@ -310,12 +306,12 @@ module _ (t : Tree) (last : ℕ) (ok : IsChecked t) (small : last < 4) where
         ),
       ),
     )
-    statement_works m (assume r) b k w room h = (assume_works p' (side (names own) last r) (side_uses own last drawn (In p') (λ x. is_declared x.text (known t p) ≡ true) held r w.variables), h)
+    statement_works m (assume r) b k w room h = (assume_works p' (side (names own) last r) (side_uses own last drawn (In p') Known held r w.variables), h)
     statement_works m (goto l) b k w room h = (record { variables = tt; called = tt; sides = tt; labelled = label_there l w.labelled }, h)
     statement_works m leave b k w room h = (leave_works p', h)
     statement_works m (call q es) b k w room h = (
       record {
-        variables = arguments_use own last drawn (In p') (λ x. is_declared x.text (known t p) ≡ true) held es w.variables;
+        variables = arguments_use own last drawn (In p') Known held es w.variables;
         called = subst (λ n. Takes (named q.text t'.procedures) n) (sym (length-map es (expression (names own) last))) (takes_there q (length es) w.called);
         sides = tt;
         labelled = tt;
@@ -323,23 +319,14 @@ module _ (t : Tree) (last : ℕ) (ok : IsChecked t) (small : last < 4) where
       stop_test_works p' k own h,
     )
 
-    rest_room : (m : Mark Name) (c : Simple Name Name Name) (k : Block Name Name Name) → temporaries (names own).is_shared (one m c k) ≤ drawn → temporaries (names own).is_shared k ≤ drawn
-    rest_room m skip k h = h
-    rest_room m (assign xs rs) k h = omega arith
-    rest_room m (assert r) k h = h
-    rest_room m (assume r) k h = h
-    rest_room m (goto x) k h = h
-    rest_room m leave k h = h
-    rest_room m (call q es) k h = h
-
     block_works : (b : Block Name Name Name) → Each (λ (s : Statement). Was s.head) (statements_of b) → temporaries (names own).is_shared b ≤ drawn → Work p' (statements_of (rewritten (names own) last b))
     block_works done h room = tt
-    block_works (one m c k) h room = prologue_works m (statement (names own) last c (rewritten (names own) last k)) (statement_works m c k (rewritten (names own) last k) h.0 room (block_works k h.1 (rest_room m c k room)))
+    block_works (one m c k) h room = prologue_works m (statement (names own) last c (rewritten (names own) last k)) (statement_works m c k (rewritten (names own) last k) h.0 room (block_works k h.1 (rest_room (names own).is_shared drawn m c k room)))
     block_works (choose m r a b k) h room =
         let W : Statement → Type 0 = λ s. Was s.head in
         let inside : Each W (statements_of b ++ statements_of k) = each_right W (statements_of a) (statements_of b ++ statements_of k) h.1 in
         prologue_works m (choose table.plain (side (names own) last r) (rewritten (names own) last a) (rewritten (names own) last b) (rewritten (names own) last k)) (
-          test_works p' (side (names own) last r) (side_uses own last drawn (In p') (λ x. is_declared x.text (known t p) ≡ true) held r h.0.variables),
+          test_works p' (side (names own) last r) (side_uses own last drawn (In p') Known held r h.0.variables),
           each_both (λ (s : Statement). Works t' p' s.head) (statements_of (rewritten (names own) last a)) (statements_of (rewritten (names own) last b) ++ statements_of (rewritten (names own) last k))
               (block_works a (each_left W (statements_of a) (statements_of b ++ statements_of k) h.1) (omega arith))
               (each_both (λ (s : Statement). Works t' p' s.head) (statements_of (rewritten (names own) last b)) (statements_of (rewritten (names own) last k))
@@ -348,7 +335,7 @@ module _ (t : Tree) (last : ℕ) (ok : IsChecked t) (small : last < 4) where
     block_works (loop m r a k) h room =
         let W : Statement → Type 0 = λ s. Was s.head in
         prologue_works m (loop table.plain (side (names own) last r) (join (rewritten (names own) last a) (prologue (names own) last table.plain done)) (rewritten (names own) last k)) (
-          test_works p' (side (names own) last r) (side_uses own last drawn (In p') (λ x. is_declared x.text (known t p) ≡ true) held r h.0.variables),
+          test_works p' (side (names own) last r) (side_uses own last drawn (In p') Known held r h.0.variables),
           each_both (λ (s : Statement). Works t' p' s.head) (statements_of (join (rewritten (names own) last a) (prologue (names own) last table.plain done))) (statements_of (rewritten (names own) last k))
               (each_join (λ (s : Statement). Works t' p' s.head) (rewritten (names own) last a) (prologue (names own) last table.plain done)
               (block_works a (each_left W (statements_of a) (statements_of k) h.1) (omega arith)) (prologue_works table.plain done tt))
