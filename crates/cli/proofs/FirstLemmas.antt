@@ -1,6 +1,5 @@
 -- The tree of a program with one plain procedure and one thread line.
-use Rattle.std.proofs.Common.{◌≡◌, ◌∙◌, List, [], ◌∷◌, ℕ, length, get_or, ap, sym, refl, subst}
-use Rattle.std.specs.declared.vec.Vec.{Vec}
+use Rattle.std.proofs.Common.{◌≡◌, ◌∙◌, List, [], ◌∷◌, length, get_or, ap, sym, subst}
 use Rattle.language.specs.Tree as tree
 use Rattle.syntax.specs.declared.tree.Program.{Program}
 use Rattle.syntax.specs.declared.tree.Proc.{Proc}

@@ -2,7 +2,7 @@
 use Rattle.std.proofs.Common.{◌≡◌, ◌∙◌, ℕ, zero, suc, List, [], ◌∷◌, ◌++◌, Some, ap, sym, subst, refl, length, slice_get, arith}
 use Rattle.std.specs.Prelude.{Contains, ◌<◌}
 use Rattle.post_ledger.specs.declared.event.Event.{Event}
-use Rattle.post_ledger.specs.declared.event.Event.TheVariants.{Post, Take, Done}
+use Rattle.post_ledger.specs.declared.event.Event.TheVariants.{Post, Take}
 use Rattle.post_ledger.specs.History.{posts, takes, dones, TakesOldest}
 use Rattle.cli.specs.declared.judge.Message.{Message}
 use Rattle.cli.specs.declared.judge.Message.TheVariants.{Entry}

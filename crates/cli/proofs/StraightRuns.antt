@@ -1,11 +1,11 @@
 -- Runs of programs of the first part of the language.
-use Rattle.std.proofs.Common.{◌≡◌, ℕ, zero, suc, ◌<◌, ◌+◌, List, [], ◌∷◌, ◌⊎◌, Bool, true, false, inl, inr, refl, sym, ◌∙◌, ap, subst, map, cond, length, arith}
+use Rattle.std.proofs.Common.{◌≡◌, ℕ, zero, suc, ◌<◌, List, [], ◌∷◌, Bool, true, inl, inr, refl, sym, ◌∙◌, ap, subst, map, cond, length, arith}
 use Rattle.std.specs.Prelude.{◌↔◌}
 use Rattle.language.specs.Tree as tree
 use Rattle.language.specs.Tree.{Mark, Block, Expression, const, var, negation, two, RightSide, any, value, skip, assign, assert, assume, goto, leave, call, done}
-use Rattle.language.specs.Value.{Place, global, local, IsValue, AreValues, written_globals, written_locals}
+use Rattle.language.specs.Value.{Place, global, local, written_globals, written_locals}
 use Rattle.language.specs.Rest.{Code, same_text}
-use Rattle.language.specs.Step.{Program, State, Frame, frame, state, zeros, StepsTo, AfterSteps, Runs, Fails}
+use Rattle.language.specs.Step.{Program, State, Frame, frame, state, zeros, AfterSteps, Fails}
 use Rattle.language.specs.Rounds.{Rounds, FailsInRound, starting_stack, Unsafe}
 use Rattle.language.specs.Resolve.{Scope, resolve_expression, resolve_side, resolve_block, resolve_mark, place_of, meaning_of}
 use Rattle.syntax.specs.Trees.{Deed, Item, simple, branch, repeat, marked_before, all_before}

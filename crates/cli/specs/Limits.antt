@@ -1,5 +1,5 @@
 -- The limits of an order's values.
-use Rattle.std.specs.Prelude.{◌≡◌, ◌≤◌, ℕ}
+use Rattle.std.specs.Prelude.{◌≡◌, ◌≤◌}
 use Rattle.cli.specs.declared.asked.Order.{Order}
 use Rattle.cli.specs.declared.asked.Order.TheVariants.{Check, Sequential}
 

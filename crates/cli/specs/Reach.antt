@@ -1,5 +1,5 @@
 -- The valuations that an analysis keeps.
-use Rattle.std.specs.Prelude.{◌≡◌, ℕ, Bool, List, [], ◌∷◌, map, ◌⊎◌, ◌↔◌, IsTrue, true, false}
+use Rattle.std.specs.Prelude.{◌≡◌, ℕ, Bool, List, [], map, ◌⊎◌, ◌↔◌, IsTrue, true, false}
 use Rattle.std.specs.declared.vec.Vec.{Vec}
 use Rattle.language.specs.Tree.{RightSide}
 use Rattle.language.specs.Value.{Place, IsValue, AreValues, with_bit, written_globals}

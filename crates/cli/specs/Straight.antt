@@ -1,7 +1,7 @@
 -- Programs of the first part of the language, and how they fail.
 use Rattle.std.specs.Prelude.{◌≡◌, ℕ, ◌≤◌, Bool, true, false, List, [], ◌∷◌, ◌⊎◌, ◌↔◌, None, length}
-use Rattle.language.specs.Tree.{Name, Block, done, one, choose, loop, skip, assign, assert, assume, goto, leave, call, Procedure, Tree}
-use Rattle.language.specs.Value.{Place, IsValue, AreValues, written_globals}
+use Rattle.language.specs.Tree.{Name, done, one, choose, loop, skip, assign, assert, assume, goto, leave, call, Tree}
+use Rattle.language.specs.Value.{IsValue, AreValues, written_globals}
 use Rattle.language.specs.Rest.{Code, same_text}
 use Rattle.language.specs.Resolve.{Scope, resolve_block}
 use Rattle.syntax.specs.Trees.{Deed, simple, branch, repeat, Item, all_before}

@@ -316,6 +316,25 @@ fn rewritten_programs_are_printed(rt: HostRuntime) {
     }
 }
 
+#[test]
+fn at_most_64_places_are_printed(rt: HostRuntime) {
+    for (text, status) in [
+        ("decl a,b,c,d,e,f,g,h; t() begin skip; end thread t;", 0u8),
+        ("decl a,b,c,d,e,f,g,h,i; t() begin skip; end thread t;", 2),
+        (
+            "decl a,b,c,d,e,f,g,h; t() begin decl k,l,m,n; skip; end thread t;",
+            0,
+        ),
+        (
+            "decl a,b,c,d,e,f,g,h; t() begin decl k,l,m,n,o; skip; end thread t;",
+            2,
+        ),
+    ] {
+        let reply = answer(&rt, text.as_bytes(), Order::Sequential { rounds: 4 });
+        assert_eq!(rt; reply.status, status, "{text}");
+    }
+}
+
 /// The words, in a `Vec`.
 fn words(alloc: Global, line: &str) -> Result<Vec<String>, AllocError> {
     let mut all = Vec::new(alloc);

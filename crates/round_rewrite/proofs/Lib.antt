@@ -34,3 +34,8 @@ pub mod Mains
 pub mod Needing
 pub mod Copied
 pub mod Widths
+pub mod Uses
+pub mod Working
+pub mod Ids
+pub mod Readable
+pub mod Completing

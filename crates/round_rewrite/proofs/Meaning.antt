@@ -30,9 +30,15 @@ names_kept : (last : ℕ) (procs : List Procedure) → map (λ (p : Procedure). 
 names_kept last [] = refl
 names_kept last (p ∷ procs) = ap (λ z. p.name ∷ z) (names_kept last procs)
 
-free_names : (t : Tree) (procs : List Procedure) → EachProcedure (ProcedureRewritable t) procs → AreFree (map (λ (p : Procedure). p.name) procs)
+pub free_names : (t : Tree) (procs : List Procedure) → EachProcedure (ProcedureRewritable t) procs → AreFree (map (λ (p : Procedure). p.name) procs)
 free_names t [] h = tt
 free_names t (p ∷ procs) h = (h.0.name, free_names t procs h.1)
+
+-- no procedure of the source is named as the first one of the rewritten program
+pub not_main : (t : Tree) → IsRewritable t → (x : List ℕ) → is_declared x (map (λ (p : Procedure). p.name) t.procedures) ≡ true → same_text x (codes "main__") ≡ false
+not_main t ok x h =
+    let free : has_double x ≡ false = free_name x (map (λ (p : Procedure). p.name) t.procedures) (free_names t t.procedures ok.procedures) h in
+    same_text_other (codes "main__") x (free_differs x (109 ∷ 97 ∷ 105 ∷ 110 ∷ []) [] free)
 
 module _ (t : Tree) (last : ℕ) (ok : IsRewritable t) (small : last < 4) where
   abbrev t' : Tree
@@ -49,8 +55,7 @@ module _ (t : Tree) (last : ℕ) (ok : IsRewritable t) (small : last < 4) where
 
   called : (q : Name) → is_declared q.text ps ≡ true → number_of q.text ps' ≡ suc (number_of q.text ps)
   called q h =
-      let free : has_double q.text ≡ false = free_name q.text ps (free_names t t.procedures ok.procedures) h in
-      let other : same_text q.text (codes "main__") ≡ false = same_text_other (codes "main__") q.text (free_differs q.text (109 ∷ 97 ∷ 105 ∷ 110 ∷ []) [] free) in
+      let other : same_text q.text (codes "main__") ≡ false = not_main t ok q.text h in
       ap (λ c. cond c 0 (suc (number_of q.text (map (λ (p : Procedure). p.name) (map (rewritten_procedure last) t.procedures))))) other
       ∙ ap (λ z. suc (number_of q.text z)) (names_kept last t.procedures)
 

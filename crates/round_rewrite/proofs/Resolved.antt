@@ -16,6 +16,16 @@ pub by_test : {A : Type 0} (c : Bool) → (c ≡ true → A) → (c ≡ false �
 by_test true f g = f refl
 by_test false f g = g refl
 
+-- what stands behind a statement needs no more temporaries than both
+pub rest_room : {V P L : Type 0} (is_shared : V → Bool) (d : ℕ) (m : Mark L) (c : Simple V P L) (k : Block V P L) → temporaries is_shared (one m c k) ≤ d → temporaries is_shared k ≤ d
+rest_room is_shared d m skip k h = h
+rest_room is_shared d m (assign xs rs) k h = omega arith
+rest_room is_shared d m (assert r) k h = h
+rest_room is_shared d m (assume r) k h = h
+rest_room is_shared d m (goto x) k h = h
+rest_room is_shared d m leave k h = h
+rest_room is_shared d m (call q es) k h = h
+
 resolve-join : (s : Scope) (a b : Block Name Name Name) → resolve_block s (join a b) ≡ join (resolve_block s a) (resolve_block s b)
 resolve-join s done b = refl
 resolve-join s (one m c t) b = ap (one (resolve_mark m) (resolve_simple s c)) (resolve-join s t b)
@@ -220,22 +230,21 @@ module _ (t : Tree) (gs own ps : List Name) (d last : ℕ) (gs_free : AreFree gs
   statement_resolved leave k h room = refl
   statement_resolved (call q es) k h room = λ i. one plain (call (called q h.1 i) (expressions_resolved es h.0 i)) (stop_resolved k i)
 
-  less_one : (m : Mark Name) (c : Simple Name Name Name) (k : Block Name Name Name) → temporaries N.is_shared (one m c k) ≤ d → (temporaries N.is_shared k ≤ d) × (drawn_in c ≤ d)
-  less_one m skip k h = (h, omega arith)
-  less_one m (assign xs rs) k h = (omega arith, omega arith)
-  less_one m (assert r) k h = (h, omega arith)
-  less_one m (assume r) k h = (h, omega arith)
-  less_one m (goto x) k h = (h, omega arith)
-  less_one m leave k h = (h, omega arith)
-  less_one m (call q es) k h = (h, omega arith)
+  drawn_room : (m : Mark Name) (c : Simple Name Name Name) (k : Block Name Name Name) → temporaries N.is_shared (one m c k) ≤ d → drawn_in c ≤ d
+  drawn_room m skip k h = omega arith
+  drawn_room m (assign xs rs) k h = omega arith
+  drawn_room m (assert r) k h = omega arith
+  drawn_room m (assume r) k h = omega arith
+  drawn_room m (goto x) k h = omega arith
+  drawn_room m leave k h = omega arith
+  drawn_room m (call q es) k h = omega arith
 
   pub block_resolved : (b : Block Name Name Name) → BlockDeclared t s b → temporaries N.is_shared b ≤ d → resolve_block s' (rewritten N last b) ≡ rewritten P last (resolve_block s b)
   block_resolved done h room = refl
   block_resolved (one m c k) h room =
-      let less = less_one m c k room in
       prologue_resolved m (statement N last c (rewritten N last k))
       ∙ ap (prologue P last (resolve_mark m))
-      (statement_resolved c (rewritten N last k) h.0 less.1 ∙ ap (statement P last (resolve_simple s c)) (block_resolved k h.1 less.0))
+      (statement_resolved c (rewritten N last k) h.0 (drawn_room m c k room) ∙ ap (statement P last (resolve_simple s c)) (block_resolved k h.1 (rest_room N.is_shared d m c k room)))
   block_resolved (choose m r a b k) h room =
       prologue_resolved m (choose plain (side N last r) (rewritten N last a) (rewritten N last b) (rewritten N last k))
       ∙ (λ i. prologue P last (resolve_mark m) (choose plain (side_resolved r h.0 i) (block_resolved a h.1 (omega arith) i) (block_resolved b h.2 (omega arith) i) (block_resolved k h.3 (omega arith) i)))

@@ -1,14 +1,19 @@
--- How wide the procedures of the rewritten program are.
-use Rattle.std.proofs.Common.{◌≡◌, ℕ, zero, suc, ◌+◌, ◌<◌, ◌≤◌, List, [], ◌∷◌, ◌++◌, length, length-append, get_or, map, codes, sym, ◌∙◌, ap, subst, arith, append_assoc}
+-- How wide the procedures of the rewritten program are, and how many there are.
+use Rattle.std.proofs.Common.{◌≡◌, ℕ, zero, suc, ◌+◌, ◌<◌, ◌≤◌, Some, inl, refl, slice_get, List, [], ◌∷◌, ◌++◌, length, length-append, get_or, map, codes, sym, ◌∙◌, ap, subst, arith, append_assoc}
 use Rattle.std.proofs.lemmas.List.{length-map}
 use Rattle.language.specs.Tree.{Name, Procedure, Tree}
+use Rattle.syntax.specs.declared.tree.Name as declared
 use Rattle.syntax.specs.declared.tree.Proc.{Proc}
-use Rattle.syntax.specs.Trees.{proc_of, procs_of}
+use Rattle.syntax.specs.declared.tree.Program.{Program}
+use Rattle.syntax.specs.Trees.{name_of, names_of, proc_of, procs_of, tree_of}
+use Rattle.scopes.specs.declared.fault.ScopeFault.TheVariants as fault
+use Rattle.scopes.specs.Checked.{IsChecked}
+use Rattle.scopes.specs.Faults.{IsThere}
 use Rattle.round_rewrite.specs.Table.{numbers, copied, globals}
 use Rattle.round_rewrite.specs.Places.{bits_at}
 use Rattle.round_rewrite.specs.Names.{named, names, copy_name, save_name, drawn_name, rewritten_procedure, rewritten_tree}
 use Rattle.scopes.specs.Rewritable.{EachProcedure}
-use Rattle.round_rewrite.specs.Narrow.{width, IsNarrow}
+use Rattle.round_rewrite.specs.Narrow.{width, AllNarrow, IsNarrow}
 use Rattle.round_rewrite.specs.Writing.{procedure_needs, IsOwnNarrow, AreFew}
 use Rattle.round_rewrite.proofs.Numbering.{length-rows}
 use Rattle.round_rewrite.proofs.Placing.{length-numbers}
@@ -71,3 +76,34 @@ pub each_at : {A : Type 0} (P : Procedure → Type 0) (ss : List (Proc A)) (i : 
 each_at P [] i s lt is e = absurd (omega arith)
 each_at P (x ∷ ss) zero s lt is e = subst (λ y. P (proc_of y)) (sym is) e.0
 each_at P (x ∷ ss) (suc i) s lt is e = each_at P ss i s (omega arith) is e.1
+
+-- the procedure at an index, as a tree
+pub proc_there : {A : Type 0} (ss : List (Proc A)) (i : ℕ) (s : Proc A) → i < length ss → s ≡ get_or ss i s → slice_get (procs_of ss) i ≡ Some (proc_of s)
+proc_there [] i s lt is = absurd (omega arith)
+proc_there (x ∷ ss) zero s lt is = ap (λ y. Some (proc_of y)) (sym is)
+proc_there (x ∷ ss) (suc i) s lt is = proc_there ss i s (omega arith) is
+
+-- the places of a procedure of a program, counted
+pub places_counted : {A : Type 0} (globals formals locals : List (declared.Name A)) → length (names_of globals) + length (names_of formals ++ names_of locals) ≡ length globals + (length formals + length locals)
+places_counted globals formals locals =
+    let a : length (names_of formals ++ names_of locals) ≡ length (names_of formals) + length (names_of locals) = length-append (names_of formals) (names_of locals) in
+    (λ i. length-map globals name_of i + (a ∙ (λ j. length-map formals name_of j + length-map locals name_of j)) i)
+
+-- they are at most 64 in a narrow program
+pub places_few : {A : Type 0} (program : Program A) (i : ℕ) (p : Proc A) → i < length program.procs.items → p ≡ get_or program.procs.items i p → AllNarrow (tree_of program) → length program.globals.items + (length p.formals.items + length p.locals.items) ≤ 64
+places_few program i p lt is narrow =
+    subst (λ n. n ≤ 64) (places_counted program.globals.items p.formals.items p.locals.items)
+    (each_at (λ q. width (tree_of program) q ≤ 64) program.procs.items i p lt is narrow)
+
+few_from : (ps : List Procedure) (k : ℕ) → ((n : ℕ) → IsThere (slice_get ps k) (λ p. p.name.at ≡ n) → ⊥) → length ps ≤ k
+few_from [] k h = omega arith
+few_from (p ∷ ps) zero h = absurd (h p.name.at refl)
+few_from (p ∷ ps) (suc k) h = let z : length ps ≤ k = few_from ps k h in omega arith
+
+-- a checked tree has at most 31 procedures
+pub few_procedures : (t : Tree) → IsChecked t → length t.procedures ≤ 31
+few_procedures t ok = few_from t.procedures 31 (λ n h. ok (fault.TooMany n) (inl h))
+
+-- the procedures of a program that is a tree rewritten, counted
+pub count_rewritten : {A : Type 0} (last : ℕ) (t : Tree) (ps : List (Proc A)) → procs_of ps ≡ (rewritten_tree last t).procedures → length ps ≡ suc (length t.procedures)
+count_rewritten last t ps e = sym (length-map ps proc_of) ∙ (ap length e ∙ ap suc (length-map t.procedures (rewritten_procedure last)))

@@ -1,5 +1,7 @@
 -- How many places the procedures of a tree and of the rewritten tree have.
-use Rattle.std.specs.Prelude.{ℕ, ◌+◌, ◌≤◌, ◌++◌, length}
+use mathlib.Core.HLevel.{×_prop, Unit-prop}
+use native.Mathlib.Bridge.{le_prop}
+use Rattle.std.specs.Prelude.{ℕ, ◌+◌, ◌≤◌, List, [], ◌∷◌, ◌++◌, length}
 use Rattle.language.specs.Tree.{Procedure, Tree}
 use Rattle.scopes.specs.Rewritable.{EachProcedure}
 use Rattle.round_rewrite.specs.Names.{rewritten_tree}
@@ -8,6 +10,18 @@ use Rattle.round_rewrite.specs.Names.{rewritten_tree}
 abbrev pub width : Tree → Procedure → ℕ
 width t p = length t.globals + length (p.formals ++ p.locals)
 
+-- every procedure of the tree has at most 64 places
+abbrev pub AllNarrow : Tree → Type 0
+AllNarrow t = EachProcedure (λ (p : Procedure). width t p ≤ 64) t.procedures
+
 -- every procedure of the rewritten tree has at most 64 places
 abbrev pub IsNarrow : ℕ → Tree → Type 0
-IsNarrow last t = EachProcedure (λ (p : Procedure). width (rewritten_tree last t) p ≤ 64) (rewritten_tree last t).procedures
+IsNarrow last t = AllNarrow (rewritten_tree last t)
+
+-- this has one proof at most, so a type may carry it
+pub AllNarrow-prop : (t : Tree) → IsProp (AllNarrow t)
+AllNarrow-prop t = each t.procedures
+  where
+    each : (ps : List Procedure) → IsProp (EachProcedure (λ (p : Procedure). width t p ≤ 64) ps)
+    each [] = Unit-prop
+    each (p ∷ ps) = ×_prop le_prop (each ps)

@@ -25,7 +25,10 @@ mod writer;
 ghost use Rattle.std.specs.Prelude.{ℕ, ◌<◌};
 ghost use Rattle.language.specs.Tree.{Tree};
 ghost use Rattle.language.specs.Step.{Program};
+ghost use Rattle.language.specs.Sequential.{sequential_of};
+ghost use Rattle.round_rewrite.specs.Complete.{IsComplete};
 ghost use Rattle.round_rewrite.specs.Law.{Keeps, KeepsTree};
+ghost use Rattle.scopes.specs.Resolves.{Resolves};
 ghost use Rattle.scopes.specs.Rewritable.{IsRewritable};
 ghost use Rattle.round_rewrite.specs.Narrow.{IsNarrow};
 ghost use Rattle.round_rewrite.specs.Scoped.{FitsScopes};
@@ -46,6 +49,12 @@ pub fn rewriting_keeps_failures()
 /// bound on widths.
 pub fn rewriting_keeps_failures_of_resolved_programs()
     ensures { (p : Program) (last : ℕ) → FitsScopes p → last < 4 → Keeps last p }
+{}
+
+/// What a tree that resolves means as a sequential program is complete: each variable has its place, each target its right
+/// side, each call a procedure with a place for each argument, and each `goto` a rest that begins at its label.
+pub fn resolving_trees_are_complete()
+    ensures { (t : Tree) → Resolves t → IsComplete (sequential_of t) }
 {}
 
 #[cfg(test)]

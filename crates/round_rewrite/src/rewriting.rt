@@ -1,6 +1,7 @@
 //! The rewriting of a program.
 
 ghost use Rattle.std.specs.Prelude.{◌≡◌, ◌⊎◌, [], ◌∷◌, IfOk, IfErr, codes};
+ghost use Rattle.syntax.specs.InGrammar.{InGrammar};
 ghost use Rattle.syntax.specs.Trees.{threads_of, tree_of};
 ghost use Rattle.round_rewrite.specs.Law.{KeepsTree};
 ghost use Rattle.round_rewrite.specs.Names.{named, rewritten_tree};
@@ -58,6 +59,8 @@ pub fn rewrite<N: Allocator, A: Allocator + Clone>(
     ensures rewritten { IfOk result (λ s. tree_of s.program ≡ rewritten_tree rounds.last (tree_of checked.now.program)) }
     // The source is unsafe within the rounds exactly where some pair of `main__` of that program has `bad__`.
     ensures keeps { IfOk result (λ s. KeepsTree rounds.last (tree_of checked.now.program)) }
+    // It is a tree of the grammar where the source is.
+    ensures grammar { InGrammar (tree_of checked.now.program) → IfOk result (λ s. InGrammar (tree_of s.program)) }
     // A fault is that the program is too wide, and then it is, or that memory ran out, and then it is not.
     ensures fault { IfErr result (λ f. ((f ≡ TooWide) × (IsNarrow rounds.last (tree_of checked.now.program) → ⊥)) ⊎ ((f ≡ Memory) × IsNarrow rounds.last (tree_of checked.now.program))) }
 {

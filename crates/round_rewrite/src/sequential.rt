@@ -1,15 +1,26 @@
 //! Sequential programs.
 
-ghost use Rattle.std.specs.Prelude.{◌≡◌};
+ghost use Rattle.std.specs.Prelude.{◌≡◌, ◌≤◌, ◌<◌, length, slice_get};
+ghost use Rattle.scopes.specs.Faults.{IsThere};
+ghost use Rattle.scopes.specs.Resolves.{Resolves};
+ghost use Rattle.scopes.specs.ResolvesOnce.{Resolves-prop};
+ghost use Rattle.syntax.specs.Trees.{tree_of};
+ghost use Rattle.round_rewrite.specs.Narrow.{width, AllNarrow, AllNarrow-prop};
 
 use std::alloc::Allocator;
 use syntax::Program;
 
 /// A sequential program that a checked program was rewritten to. Its procedure 0 is `main__`; the others follow in the order
-/// of the source, from 1.
+/// of the source, from 1. What it carries: its tree resolves, so each variable has its place, each call a procedure with as
+/// many formals as it has arguments, each `goto` a rest, and each target a right side; each procedure has at most 64 places;
+/// and there are 1 to 32 procedures.
 #[derive(Drop)]
 pub struct Sequential<A: Allocator> {
     pub(crate) program: Program<A>,
+    pub ghost resolves: { Resolves (tree_of program) } by { Resolves-prop (tree_of program) },
+    pub ghost narrow: { AllNarrow (tree_of program) } by { AllNarrow-prop (tree_of program) },
+    pub ghost some: { 1 ≤ length program.procs.items },
+    pub ghost few: { length program.procs.items ≤ 32 },
 }
 
 impl<A: Allocator> Sequential<A> {
@@ -18,5 +29,15 @@ impl<A: Allocator> Sequential<A> {
         ensures { result.now ≡ self.now.program }
     {
         &self.program
+    }
+
+    /// How many places the valuations of a procedure have: the globals, and its formals, locals and temporaries.
+    pub fn width(&self, procedure: u8) -> u8
+        requires { procedure < length self.now.program.procs.items }
+        ensures { IsThere (slice_get (tree_of self.now.program).procedures procedure) (λ p. result ≡ width (tree_of self.now.program) p) }
+    {
+        let proc = &self.program.procs[procedure as usize];
+        let own = proc.formals.len() + proc.locals.len();
+        (self.program.globals.len() + own) as u8
     }
 }

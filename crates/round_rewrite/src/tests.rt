@@ -114,6 +114,17 @@ fn the_two_texts_are_rewritten(rt: HostRuntime) -> Result<(), Fail> {
 }
 
 #[test]
+fn what_is_printed_is_read_and_printed_again(rt: HostRuntime) -> Result<(), Fail> {
+    for text in [SKIP_REWRITTEN, GUESS_REWRITTEN] {
+        match read(rt.alloc(), text.as_bytes()) {
+            Ok(program) => assert_eq!(rt; print(rt.alloc(), &program)?.as_str(), text),
+            Err(fault) => panic!(rt; "{fault}"),
+        }
+    }
+    Ok(())
+}
+
+#[test]
 fn a_line_stands_in_what_is_printed(rt: HostRuntime) -> Result<(), Fail> {
     for (text, count, line) in [
         (
@@ -156,6 +167,58 @@ fn at_most_64_places_are_rewritten(rt: HostRuntime) -> Result<(), Fail> {
             panic!(rt; "no memory");
         };
         assert_eq!(rt; printed.as_str() == "14 too wide", wide);
+    }
+    Ok(())
+}
+
+/// The widths of the rewritten program's procedures in order, each with a comma behind it; nothing where the text is not
+/// rewritten.
+fn widths(alloc: Global, text: &str, count: u8) -> Result<String, AllocError> {
+    let mut line = String::new(alloc);
+    let Ok(program) = read(alloc, text.as_bytes()) else {
+        return Ok(line);
+    };
+    let Ok(checked) = check(alloc, program) else {
+        return Ok(line);
+    };
+    let Some(rounds) = Rounds::new(count) else {
+        return Ok(line);
+    };
+    let Ok(sequential) = rewrite(&alloc, &checked, rounds) else {
+        return Ok(line);
+    };
+    for procedure in 0..32u8 {
+        if (procedure as usize) < sequential.program().procs.len() {
+            let width = sequential.width(procedure);
+            line.push_str(format!(in alloc; "{width},")?.as_str())?;
+        }
+    }
+    Ok(line)
+}
+
+#[test]
+fn a_procedure_is_as_wide_as_its_places_are_many(rt: HostRuntime) -> Result<(), Fail> {
+    for (text, count, wanted) in [
+        (
+            "decl a,b,c,d,e,f,g,h; t() begin skip; end thread t;",
+            4u8,
+            "60,60,",
+        ),
+        (
+            "decl a,b,c,d,e,f,g,h; t() begin decl k,l,m,n; skip; end thread t;",
+            4,
+            "60,64,",
+        ),
+        ("decl x; t() begin decl x; x:=1; end thread t;", 1, "5,6,"),
+        (GUESS, 2, "7,8,"),
+        (
+            "p(a, b) begin decl c; skip; end t() begin p(0, 1); end thread t;",
+            1,
+            "4,7,4,",
+        ),
+    ] {
+        let line = widths(rt.alloc(), text, count)?;
+        assert_eq!(rt; line.as_str(), wanted);
     }
     Ok(())
 }

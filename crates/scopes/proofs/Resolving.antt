@@ -9,8 +9,8 @@ use Rattle.language.proofs.Names.{number_less}
 use Rattle.scopes.specs.Statements.{Head, plain, tests, Statement, statements_of, used_by, label_of, labels_of}
 use Rattle.scopes.specs.Faults.{known, IsThere}
 use Rattle.scopes.specs.Checked.{IsChecked}
-use Rattle.scopes.specs.Resolves.{IsPlaceIn, GoesSomewhere, Resolves}
-use Rattle.scopes.proofs.Works.{each_of, in_either, named_is, Called, Labelled, good, threads_start}
+use Rattle.scopes.specs.Resolves.{Each, IsPlaceIn, GoesSomewhere, Resolves}
+use Rattle.scopes.proofs.Works.{each_of, in_either, named_is, Called, Labelled, Works, Starts, good, threads_start}
 
 placed : (t : Tree) (p : Procedure) (x : Name) → is_declared x.text (known t p) ≡ true → IsPlaceIn t p (place_of (scope_of t p) x)
 placed t p x h = go (is_declared x.text (p.formals ++ p.locals)) refl (in_either x.text (p.formals ++ p.locals) t.globals h)
@@ -43,7 +43,7 @@ one_of None b (inl h) = absurd h
 one_of None b (inr h) = h
 one_of (Some a) b h = tt
 
-labels_append : (xs ys : List Statement) → labels_of (xs ++ ys) ≡ labels_of xs ++ labels_of ys
+pub labels_append : (xs ys : List Statement) → labels_of (xs ++ ys) ≡ labels_of xs ++ labels_of ys
 labels_append [] ys = refl
 labels_append (s ∷ xs) ys = ap (λ l. label_of s.mark.label ++ l) (labels_append xs ys) ∙ sym (append_assoc (label_of s.mark.label) (labels_of xs) (labels_of ys))
 
@@ -88,11 +88,16 @@ target_there t p (plain (assume r)) c l = tt
 target_there t p (plain leave) c l = tt
 target_there t p (tests r) c l = tt
 
-pub checked_resolves : (t : Tree) → IsChecked t → Resolves t
-checked_resolves t ok = record {
+-- a tree resolves where each statement works and each thread starts
+pub working_resolves : (t : Tree) → Each (λ (p : Procedure). Each (λ (s : Statement). Works t p s.head) (statements_of p.body)) t.procedures → Each (Starts t.procedures) t.threads → Resolves t
+working_resolves t work start = record {
   statements = each_of t.procedures (λ p g. each_of (statements_of p.body) (λ s w. record {
     variables = each_of (used_by s.head) (λ x h. placed t p x h) w.variables;
     target = target_there t p s.head w.called w.labelled;
-  }) g.statements) (good t ok);
-  threads = each_of t.threads (λ line h. subst (λ o. IsThere o (λ r. length r.formals ≡ 0)) (named_is line.name.text t.procedures) h.1) (threads_start t ok);
+    sides = w.sides;
+  }) g) work;
+  threads = each_of t.threads (λ line h. subst (λ o. IsThere o (λ r. length r.formals ≡ 0)) (named_is line.name.text t.procedures) h.1) start;
 }
+
+pub checked_resolves : (t : Tree) → IsChecked t → Resolves t
+checked_resolves t ok = working_resolves t (each_of t.procedures (λ p g. g.statements) (good t ok)) (threads_start t ok)

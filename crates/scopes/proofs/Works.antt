@@ -8,10 +8,10 @@ use Rattle.language.specs.Rest.{same_text}
 use Rattle.language.specs.Resolve.{number_of, is_declared}
 use Rattle.scopes.specs.Find.{AnyOf}
 use Rattle.scopes.specs.Statements.{Head, plain, tests, Statement, statements_of, used_by, labels_of}
-use Rattle.scopes.specs.Faults.{named, names, IsThere, IsUnknown, known, CallsUnknown, IsUndeclaredIn, Miscounts, GoesNowhere, MislabelledIn, ReservedIn, CanStart}
+use Rattle.scopes.specs.Faults.{named, names, IsThere, IsUnknown, known, CallsUnknown, IsUndeclaredIn, first_at, Miscounts, GoesNowhere, MislabelledIn, ReservedIn, CanStart}
 use Rattle.scopes.specs.declared.fault.ScopeFault.TheVariants as fault
 use Rattle.scopes.specs.Checked.{IsChecked}
-use Rattle.scopes.specs.Resolves.{Each}
+use Rattle.scopes.specs.Resolves.{Each, HasAllSides}
 
 pub each_of : {X : Type 0} {P Q : X → Type 0} (xs : List X) → ((x : X) → P x → Q x) → Each P xs → Each Q xs
 each_of [] f h = tt
@@ -94,6 +94,20 @@ called vs ps s u c = go s.head (λ n h. u n (inr h)) (λ n h. c n h)
     go (plain leave) a b = tt
     go (tests r) a b = tt
 
+-- an assignment that is counted right has as many right sides as targets
+sided : (ps : List Procedure) (s : Statement) → ((n : ℕ) → Miscounts ps n s → ⊥) → HasAllSides s.head
+sided ps s c = go s.head (λ n h. c n h)
+  where
+    go : (h : Head) → ((n : ℕ) → Miscounts ps n (record { mark = s.mark; head = h }) → ⊥) → HasAllSides h
+    go (plain (assign xs rs)) b = settled (length xs) (length rs) (λ k. b (first_at s.mark.at xs) (refl, k))
+    go (plain (call q es)) b = tt
+    go (plain skip) b = tt
+    go (plain (assert r)) b = tt
+    go (plain (assume r)) b = tt
+    go (plain (goto l)) b = tt
+    go (plain leave) b = tt
+    go (tests r) b = tt
+
 -- the label of a goto is one of these
 abbrev pub Labelled : List Name → Head → Type 0
 Labelled ls (plain (goto l)) = is_declared l.text ls ≡ true
@@ -115,10 +129,11 @@ labelled ls (plain (assume r)) a = tt
 labelled ls (plain leave) a = tt
 labelled ls (tests r) a = tt
 
--- the variables of a statement are known, and what it calls and goes to is there
+-- the variables of a statement are known, what it calls and goes to is there, and each target has its right side
 pub record Works (t : Tree) (p : Procedure) (h : Head) : Type 0 where
   pub variables : Each (λ (x : Name). is_declared x.text (known t p) ≡ true) (used_by h)
   pub called : Called t.procedures h
+  pub sides : HasAllSides h
   pub labelled : Labelled (labels_of (statements_of p.body)) h
 
 -- no fault of a procedure stands in this one
@@ -136,6 +151,7 @@ all_work t p (s ∷ ss) u c g = (
   record {
     variables = each_of (used_by s.head) (λ x h. is_known (known t p) x h) (nowhere_in (λ x n. IsUnknown (known t p) n x) (used_by s.head) (λ n h. u n (inl (inl h))));
     called = called (known t p) t.procedures s (λ n h. u n (inl h)) (λ n h. c n (inl h));
+    sides = sided t.procedures s (λ n h. c n (inl h));
     labelled = labelled (labels_of (statements_of p.body)) s.head (λ n h. g n (inl h));
   },
   all_work t p ss (λ n h. u n (inr h)) (λ n h. c n (inr h)) (λ n h. g n (inr h)),
@@ -160,12 +176,15 @@ pub good : (t : Tree) → IsChecked t → Each (IsGood t) t.procedures
 good t ok =
     all_good t t.procedures (λ n. ok (fault.Undeclared n)) (λ n. ok (fault.WrongCount n)) (λ n. ok (fault.BadLabel n)) (λ n h. ok (fault.Reserved n) (inr (inr h)))
 
+-- the thread line names a procedure that is there, with no formals
+abbrev pub Starts : List Procedure → ThreadLine → Type 0
+Starts ps line = (named line.name.text ps ≡ None → ⊥) × IsThere (named line.name.text ps) (λ r. length r.formals ≡ 0)
+
 starts : (o : Option Procedure) → ((CanStart o → ⊥) → ⊥) → (o ≡ None → ⊥) × IsThere o (λ r. length r.formals ≡ 0)
 starts None h = absurd (h (λ x. x))
 starts (Some r) h = ((λ e. cc), settled (length r.formals) 0 (λ k. h (λ e. k (eqb-true (length r.formals) 0 e))))
 
--- each thread line names a procedure that is there, with no formals
-pub threads_start : (t : Tree) → IsChecked t → Each (λ (line : ThreadLine). (named line.name.text t.procedures ≡ None → ⊥) × IsThere (named line.name.text t.procedures) (λ r. length r.formals ≡ 0)) t.threads
+pub threads_start : (t : Tree) → IsChecked t → Each (Starts t.procedures) t.threads
 threads_start t ok =
     each_of t.threads (λ line h. starts (named line.name.text t.procedures) (λ k. h line.name.at (refl, k)))
     (nowhere_in (λ (line : ThreadLine) n. (line.name.at ≡ n) × (CanStart (named line.name.text t.procedures) → ⊥)) t.threads (λ n. ok (fault.BadThread n)))

@@ -5,4 +5,5 @@ pub mod Known
 pub mod Checked
 pub mod First
 pub mod Resolves
+pub mod ResolvesOnce
 pub mod Rewritable

@@ -1,6 +1,6 @@
 -- What the names of a checked tree stand for is there.
 use Rattle.std.specs.Prelude.{◌≡◌, ◌<◌, List, [], ◌∷◌, ◌++◌, length, slice_get}
-use Rattle.language.specs.Tree.{goto, call, done, Procedure, ThreadLine, Tree}
+use Rattle.language.specs.Tree.{assign, goto, call, done, Procedure, ThreadLine, Tree}
 use Rattle.language.specs.Value.{Place, global, local}
 use Rattle.language.specs.Rest.{rest_from}
 use Rattle.language.specs.Step.{AtRest}
@@ -26,10 +26,16 @@ GoesSomewhere t p (plain (call q es)) =
 GoesSomewhere t p (plain (goto l)) = AtRest (rest_from l.text (resolve_block (scope_of t p) p.body) done) (λ rest. Unit {0})
 GoesSomewhere t p _ = Unit {0}
 
--- each variable of the statement has its place, and what it calls or goes to is there
+-- an assignment has as many right sides as targets
+abbrev pub HasAllSides : Head → Type 0
+HasAllSides (plain (assign xs rs)) = length xs ≡ length rs
+HasAllSides _ = Unit {0}
+
+-- each variable of the statement has its place, what it calls or goes to is there, and each target has its right side
 pub record StatementResolves (t : Tree) (p : Procedure) (s : Statement) : Type 0 where
   pub variables : Each (λ x. IsPlaceIn t p (place_of (scope_of t p) x)) (used_by s.head)
   pub target : GoesSomewhere t p s.head
+  pub sides : HasAllSides s.head
 
 -- resolving never fails: every statement of every procedure resolves, and each thread starts in a procedure that is
 -- there and has no formals

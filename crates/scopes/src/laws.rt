@@ -7,7 +7,7 @@ ghost use Rattle.scopes.specs.Rewritable.{IsRewritable};
 
 /// Resolving never fails on a checked tree: each variable has a place among the globals or the formals and locals of
 /// its procedure, each call a procedure with as many formals as it has arguments, each `goto` a rest that begins at its
-/// label, and each thread line a procedure without formals.
+/// label, each target a right side, and each thread line a procedure without formals.
 pub fn checked_trees_resolve()
     ensures { (t : Tree) → IsChecked t → Resolves t }
 {}

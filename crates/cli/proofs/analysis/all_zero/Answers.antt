@@ -1,5 +1,5 @@
 -- One zero more.
-use Rattle.std.proofs.Common.{◌≡◌, ◌∙◌, ◌++◌, ◌∷◌, ◌+◌, [], ℕ, zero, suc, false, List, Bool, refl, sym, ap, add-one}
+use Rattle.std.proofs.Common.{◌≡◌, ◌∙◌, ◌++◌, ◌∷◌, [], ℕ, zero, suc, false, List, Bool, refl, sym, ap, add-one}
 use Rattle.language.specs.Step.{zeros}
 use Rattle.cli.proofs.analysis.all_zero.Goals as goal
 

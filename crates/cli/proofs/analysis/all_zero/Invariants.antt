@@ -1,5 +1,5 @@
 -- As many zeros as turns.
-use Rattle.std.proofs.Common.{◌≡◌, length}
+use Rattle.std.proofs.Common.{◌≡◌}
 use Rattle.language.specs.Step.{zeros}
 use Rattle.cli.proofs.analysis.all_zero.Given as goal
 

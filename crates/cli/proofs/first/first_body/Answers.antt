@@ -1,11 +1,10 @@
 -- Each test that was passed gives one part of the shape.
-use Rattle.std.proofs.Common.{◌≡◌, ◌∙◌, ◌∷◌, ◌≤◌, [], length, ℕ, List, sym, subst, ap, arith, true}
+use Rattle.std.proofs.Common.{◌≡◌, ◌∙◌, ◌∷◌, ◌≤◌, [], sym, subst, arith, true}
 use Rattle.std.proofs.lemmas.Bool.{eqb-true}
 use Rattle.std.proofs.lemmas.List.{nil_from_length, length-map}
 use Rattle.std.specs.Vec.{vec_len}
 use Rattle.language.specs.Rest.{same_text}
 use Rattle.syntax.specs.Trees.{names_of, name_of, items_of, tree_of}
-use Rattle.syntax.specs.declared.tree.Proc.{Proc}
 use Rattle.cli.specs.Straight.{IsFirstPart, AreStraight}
 use Rattle.cli.proofs.FirstLemmas.{only_one, first_shape}
 use Rattle.cli.proofs.first.first_body.Goals as goal

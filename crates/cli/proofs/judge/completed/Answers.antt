@@ -1,6 +1,4 @@
 -- The one Take is open.
-use Rattle.std.proofs.Common.{◌≡◌, ◌∙◌, ◌∷◌, ◌++◌, [], ap, sym}
-use Rattle.post_ledger.specs.declared.event.Event.TheVariants.{Done}
 use Rattle.cli.proofs.OneMessage.{take_is_open, not_done}
 use Rattle.cli.proofs.judge.completed.Goals as goal
 

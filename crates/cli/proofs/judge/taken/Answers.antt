@@ -1,6 +1,6 @@
 -- The one Post is taken.
 use Rattle.cli.proofs.OneMessage.{not_all_taken, taken_one}
-use Rattle.std.proofs.Common.{◌≡◌, ◌∙◌, ap, length, sym, refl, subst}
+use Rattle.std.proofs.Common.{◌∙◌, ap, length, refl}
 use Rattle.post_ledger.specs.History.{takes}
 use Rattle.cli.proofs.judge.taken.Goals as goal
 

@@ -1,5 +1,5 @@
 -- One row more, or the row that was there already.
-use Rattle.std.proofs.Common.{◌≡◌, ◌⊎◌, List, Bool, sym, subst, inl, inr, refl}
+use Rattle.std.proofs.Common.{◌≡◌, ◌⊎◌, sym, subst, inl, inr}
 use Rattle.std.specs.Prelude.{◌↔◌}
 use Rattle.cli.specs.Members.{Member}
 use Rattle.cli.specs.Reach.{rows_of}

@@ -1,5 +1,5 @@
 -- Either all rows are added or none.
-use Rattle.std.proofs.Common.{◌≡◌, Bool, sym, subst, true, false}
+use Rattle.std.proofs.Common.{sym, subst}
 use Rattle.cli.specs.Reach.{rows_of, Adds, IsWithIf}
 use Rattle.cli.proofs.MemberLemmas.{adds_yes, adds_not}
 use Rattle.cli.proofs.reach.add_if.Goals as goal

@@ -1,5 +1,5 @@
 -- One row more is kept where the side passes.
-use Rattle.std.proofs.Common.{◌≡◌, ◌⊎◌, [], List, Bool, sym, subst}
+use Rattle.std.proofs.Common.{◌⊎◌, [], List, Bool, sym, subst}
 use Rattle.std.specs.Prelude.{◌↔◌}
 use Rattle.language.specs.Resolve.{resolve_side}
 use Rattle.syntax.specs.Trees.{names_of, rhs_of}

@@ -1,6 +1,5 @@
 -- `==` of two lists of bits decides whether they are the same.
 use Rattle.std.proofs.Common.{◌≡◌, Bool, true, false, refl}
-use Rattle.std.specs.Prelude.{IsTrue, ◌↔◌}
 use Rattle.std.specs.Bool.{Decides, beq}
 use Rattle.std.proofs.lemmas.Slice.Eq.{slice_eq-Decides}
 use Rattle.cli.proofs.reach.same_row.Goals as goal

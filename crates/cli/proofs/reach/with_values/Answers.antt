@@ -1,5 +1,5 @@
 -- The rows with 0 and the rows with 1, each where it is a value.
-use Rattle.std.proofs.Common.{◌≡◌, [], List, Bool, false, subst, ap}
+use Rattle.std.proofs.Common.{[], false, subst, ap}
 use Rattle.language.specs.Resolve.{resolve_side}
 use Rattle.syntax.specs.Trees.{names_of, rhs_of}
 use Rattle.cli.specs.Straight.{globals_only}

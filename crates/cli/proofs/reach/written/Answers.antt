@@ -1,5 +1,5 @@
 -- One target more is written; at the end none is left.
-use Rattle.std.proofs.Common.{◌≡◌, ◌⊎◌, ◌∙◌, ◌<◌, ◌++◌, ◌∷◌, [], List, Bool, sym, subst, ap, inl, inr, arith, map, drop, length}
+use Rattle.std.proofs.Common.{◌≡◌, ◌∙◌, ◌<◌, ◌++◌, ◌∷◌, [], sym, subst, ap, arith, map, drop, length}
 use Rattle.std.specs.Prelude.{◌↔◌}
 use Rattle.std.proofs.lemmas.List.{drop_all}
 use Rattle.language.specs.Resolve.{number_of, place_of, resolve_side}

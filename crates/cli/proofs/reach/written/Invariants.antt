@@ -1,5 +1,5 @@
 -- What is left to write, to the rows so far, makes what the whole makes of the old valuation.
-use Rattle.std.proofs.Common.{◌≡◌, ◌∷◌, [], List, Bool, map, drop}
+use Rattle.std.proofs.Common.{◌∷◌, [], List, Bool, map, drop}
 use Rattle.std.specs.Prelude.{◌↔◌}
 use Rattle.language.specs.Resolve.{place_of, resolve_side}
 use Rattle.syntax.specs.Trees.{names_of, rhss_of}
