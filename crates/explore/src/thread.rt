@@ -10,9 +10,8 @@ use std::alloc::Allocator;
 use syntax::{Proc, Stmt};
 
 /// A frame: its procedure and that one's number, the values of its places, and what is left to run: lists of
-/// statements, of which the last runs first. A list here is always the end of one that stands in the program, so
-/// what is left from a label on is found without copying a statement; in front of a loop's body stands the list that
-/// begins with the loop.
+/// statements, of which the last runs first. Each is a part of a list that stands in the program, the end of a block or
+/// a loop alone: so no step copies a statement, and what is left from a label on is found on the way down to it.
 #[derive(Drop)]
 pub(crate) struct Frame<'a, N: Allocator, A: Allocator> {
     pub(crate) number: usize,
