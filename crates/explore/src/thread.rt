@@ -1,5 +1,5 @@
 //! A thread: its stack of frames.
-ghost use Rattle.std.specs.Prelude.{◌≡◌, MatchOption};
+ghost use Rattle.std.specs.Prelude.{◌≡◌, ◌<◌, length, MatchOption, IfSome};
 ghost use Rattle.language.specs.Tree.{done};
 ghost use Rattle.language.specs.Resolve.{Scope, resolve_block};
 ghost use Rattle.language.specs.Rest.{join};
@@ -31,7 +31,8 @@ pub(crate) struct Thread<'a, N: Allocator, A: Allocator> {
 pub(crate) fn next<'a, N: Allocator, A: Allocator>(
     rest: &mut Vec<&'a [Stmt<N>], A>,
 ) -> Option<&'a [Stmt<N>]>
-    ensures { MatchOption result ((s : Scope) → code_at s rest.old.items ≡ done) (λ top. (s : Scope) → code_at s rest.old.items ≡ join (resolve_block s (block_of top.now)) (code_at s rest.new.items)) }
+    ensures left { MatchOption result ((s : Scope) → code_at s rest.old.items ≡ done) (λ top. (s : Scope) → code_at s rest.old.items ≡ join (resolve_block s (block_of top.now)) (code_at s rest.new.items)) }
+    ensures some { IfSome result (λ top. 0 < length top.now) }
 {
     while let Some(top) = rest.pop() {
         if !top.is_empty() {

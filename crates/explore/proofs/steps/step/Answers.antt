@@ -20,7 +20,7 @@ returns-in_default g c =
     let means : StepMeans c.finish.result (program_of program) (state c.args.globals.now.items (frame top.number top.locals.items done ∷ fs)) (state c.args.globals.now.items (stack_of program t)) =
     subst (λ z. StepMeans c.finish.result (program_of program) (state z (frame top.number top.locals.items done ∷ fs)) (state z (stack_of program t))) c.deref.ensures.value (c.finish.ensures top.number top.locals.items) in
     subst (λ k. StepMeans c.finish.result (program_of program) (state c.args.globals.now.items (frame top.number top.locals.items k ∷ fs)) (state c.args.globals.now.items (stack_of program t)))
-    (sym (c.in_default.ensures (scope_at program top.proc.now))) means
+    (sym (c.in_default.ensures.left (scope_at program top.proc.now))) means
 
 pub returns-in-Skip : goal.returns-in-Skip
 returns-in-Skip g c =
@@ -31,7 +31,7 @@ returns-in-Skip g c =
     let stmt = c.in-Some-split_first.stmt.now in
     let i = item_of stmt in
     let old : stack_of program c.args.thread.now ≡ led_by program i.mark i.deed f ∷ fs =
-    headed program top c.next.new.rest.items c.push.new.self c.in-Some.list.now stmt c.in-Some-split_first.more fs c.in-Some.ensures c.in-Some-split_first.ensures.cases.0 c.in_ok-push.ensures.items in
+    headed program top c.next.new.rest.items c.push.new.self c.in-Some.list.now stmt c.in-Some-split_first.more fs c.in-Some.ensures.left c.in-Some-split_first.ensures.cases.0 c.in_ok-push.ensures.items in
     let is : i.deed ≡ simple skip = item_deed stmt ∙ ap deed_of c.in-Skip.is ∙ deed_of-Skip _ in
     stepped Stepped program i.mark i.deed (simple skip) c.args.globals.now.items c.args.globals.now.items (stack_of program c.args.thread.now) f f fs old is (λ m fs. refl)
 
@@ -44,7 +44,7 @@ returns-in-Assign g c =
     let stmt = c.in-Some-split_first.stmt.now in
     let i = item_of stmt in
     let old : stack_of program c.args.thread.now ≡ led_by program i.mark i.deed f ∷ fs =
-    headed program top c.next.new.rest.items c.push.new.self c.in-Some.list.now stmt c.in-Some-split_first.more fs c.in-Some.ensures c.in-Some-split_first.ensures.cases.0 c.in_ok-push.ensures.items in
+    headed program top c.next.new.rest.items c.push.new.self c.in-Some.list.now stmt c.in-Some-split_first.more fs c.in-Some.ensures.left c.in-Some-split_first.ensures.cases.0 c.in_ok-push.ensures.items in
     let xs = c.deref-in-Assign.result.now in
     let rs = c.deref-in-Assign-2.result.now in
     let is : i.deed ≡ simple (assign (names_of xs) (rhss_of rs)) =
@@ -65,7 +65,7 @@ returns-in-If g c =
     let stmt = c.in-Some-split_first.stmt.now in
     let i = item_of stmt in
     let old : stack_of program c.args.thread.now ≡ led_by program i.mark i.deed f ∷ fs =
-    headed program top c.next.new.rest.items c.push.new.self c.in-Some.list.now stmt c.in-Some-split_first.more fs c.in-Some.ensures c.in-Some-split_first.ensures.cases.0 c.in_ok-push.ensures.items in
+    headed program top c.next.new.rest.items c.push.new.self c.in-Some.list.now stmt c.in-Some-split_first.more fs c.in-Some.ensures.left c.in-Some-split_first.ensures.cases.0 c.in_ok-push.ensures.items in
     let a = c.deref-in-If-2.result.now in
     let b = c.deref-in-If-3.result.now in
     let r = rhs_of c.in-If.r in
@@ -87,7 +87,7 @@ returns-in-While g c =
     let stmt = c.in-Some-split_first.stmt.now in
     let i = item_of stmt in
     let old : stack_of program c.args.thread.now ≡ led_by program i.mark i.deed f ∷ fs =
-    headed program top c.next.new.rest.items c.push.new.self c.in-Some.list.now stmt c.in-Some-split_first.more fs c.in-Some.ensures c.in-Some-split_first.ensures.cases.0 c.in_ok-push.ensures.items in
+    headed program top c.next.new.rest.items c.push.new.self c.in-Some.list.now stmt c.in-Some-split_first.more fs c.in-Some.ensures.left c.in-Some-split_first.ensures.cases.0 c.in_ok-push.ensures.items in
     let a = c.deref-in-While-2.result.now in
     let r = rhs_of c.in-While.r in
     let again = take 1 c.in-Some.list.now in
@@ -110,7 +110,7 @@ returns-in-Assert g c =
     let stmt = c.in-Some-split_first.stmt.now in
     let i = item_of stmt in
     let old : stack_of program c.args.thread.now ≡ led_by program i.mark i.deed f ∷ fs =
-    headed program top c.next.new.rest.items c.push.new.self c.in-Some.list.now stmt c.in-Some-split_first.more fs c.in-Some.ensures c.in-Some-split_first.ensures.cases.0 c.in_ok-push.ensures.items in
+    headed program top c.next.new.rest.items c.push.new.self c.in-Some.list.now stmt c.in-Some-split_first.more fs c.in-Some.ensures.left c.in-Some-split_first.ensures.cases.0 c.in_ok-push.ensures.items in
     let r = rhs_of c.in-Assert.r in
     let is : i.deed ≡ simple (assert r) = item_deed stmt ∙ ap deed_of c.in-Assert.is ∙ deed_of-Assert c.in-Assert.r in
     stepped_at c.check.result program i.mark i.deed (simple (assert r)) c.deref-in-Assert.result.now c.args.globals.now.items (stack_of program c.args.thread.now) f f fs c.deref-in-Assert.ensures.value old is c.check.ensures
@@ -124,7 +124,7 @@ returns-in-Assume g c =
     let stmt = c.in-Some-split_first.stmt.now in
     let i = item_of stmt in
     let old : stack_of program c.args.thread.now ≡ led_by program i.mark i.deed f ∷ fs =
-    headed program top c.next.new.rest.items c.push.new.self c.in-Some.list.now stmt c.in-Some-split_first.more fs c.in-Some.ensures c.in-Some-split_first.ensures.cases.0 c.in_ok-push.ensures.items in
+    headed program top c.next.new.rest.items c.push.new.self c.in-Some.list.now stmt c.in-Some-split_first.more fs c.in-Some.ensures.left c.in-Some-split_first.ensures.cases.0 c.in_ok-push.ensures.items in
     let r = rhs_of c.in-Assume.r in
     let is : i.deed ≡ simple (assume r) = item_deed stmt ∙ ap deed_of c.in-Assume.is ∙ deed_of-Assume c.in-Assume.r in
     stepped_at c.suppose.result program i.mark i.deed (simple (assume r)) c.deref-in-Assume.result.now c.args.globals.now.items (stack_of program c.args.thread.now) f f fs c.deref-in-Assume.ensures.value old is c.suppose.ensures
@@ -138,7 +138,7 @@ returns-in-Goto g c =
     let stmt = c.in-Some-split_first.stmt.now in
     let i = item_of stmt in
     let old : stack_of program c.args.thread.now ≡ led_by program i.mark i.deed f ∷ fs =
-    headed program top c.next.new.rest.items c.push.new.self c.in-Some.list.now stmt c.in-Some-split_first.more fs c.in-Some.ensures c.in-Some-split_first.ensures.cases.0 c.in_ok-push.ensures.items in
+    headed program top c.next.new.rest.items c.push.new.self c.in-Some.list.now stmt c.in-Some-split_first.more fs c.in-Some.ensures.left c.in-Some-split_first.ensures.cases.0 c.in_ok-push.ensures.items in
     let x = name_of c.in-Goto.x in
     let is : i.deed ≡ simple (goto x) = item_deed stmt ∙ ap deed_of c.in-Goto.is ∙ deed_of-Goto c.in-Goto.x in
     let G = c.deref-in-Goto.result.now in
@@ -156,7 +156,7 @@ returns-in-Return g c =
     let stmt = c.in-Some-split_first.stmt.now in
     let i = item_of stmt in
     let old : stack_of program c.args.thread.now ≡ led_by program i.mark i.deed f ∷ fs =
-    headed program top c.next.new.rest.items c.push.new.self c.in-Some.list.now stmt c.in-Some-split_first.more fs c.in-Some.ensures c.in-Some-split_first.ensures.cases.0 c.in_ok-push.ensures.items in
+    headed program top c.next.new.rest.items c.push.new.self c.in-Some.list.now stmt c.in-Some-split_first.more fs c.in-Some.ensures.left c.in-Some-split_first.ensures.cases.0 c.in_ok-push.ensures.items in
     let is : i.deed ≡ simple leave = item_deed stmt ∙ ap deed_of c.in-Return.is ∙ deed_of-Return _ in
     stepped_at c.leave_frame.result program i.mark i.deed (simple leave) c.deref-in-Return.result.now c.args.globals.now.items (stack_of program c.args.thread.now) f c.leave_frame.new.frame fs c.deref-in-Return.ensures.value old is c.leave_frame.ensures
 
@@ -169,7 +169,7 @@ returns-in-Call g c =
     let stmt = c.in-Some-split_first.stmt.now in
     let i = item_of stmt in
     let old : stack_of program c.args.thread.now ≡ led_by program i.mark i.deed f ∷ fs =
-    headed program top c.next.new.rest.items c.push.new.self c.in-Some.list.now stmt c.in-Some-split_first.more fs c.in-Some.ensures c.in-Some-split_first.ensures.cases.0 c.in_ok-push.ensures.items in
+    headed program top c.next.new.rest.items c.push.new.self c.in-Some.list.now stmt c.in-Some-split_first.more fs c.in-Some.ensures.left c.in-Some-split_first.ensures.cases.0 c.in_ok-push.ensures.items in
     let es = c.deref-in-Call-2.result.now in
     let p = name_of c.in-Call.p in
     let is : i.deed ≡ simple (call p (exprs_of es)) =
