@@ -1,4 +1,6 @@
-mod NameLemmas
 mod RestLemmas
 mod StepLemmas
 mod RoundLemmas
+mod EntryLemmas
+mod JumpLemmas
+mod SimpleLemmas

@@ -1,8 +1,7 @@
 -- Rounds, and what is unsafe after one.
 use Rattle.std.proofs.Common.{◌≡◌, ℕ, suc, ◌<◌, ◌≤◌, ◌+◌, List, [], ◌∷◌, Bool, length, ap, arith, refl}
-use Rattle.std.specs.Prelude.{slice_get, Some}
-use Rattle.language.specs.Step.{Program, Frame, frame, Routine, zeros}
-use Rattle.language.specs.Rounds.{Round, FailsInRound, starting_stack}
+use Rattle.language.specs.Step.{Program, Frame}
+use Rattle.language.specs.Rounds.{Round, FailsInRound}
 use Rattle.explore.specs.Views.{UnsafeFrom}
 
 pub failing_now : (p : Program) (n : ℕ) (g : List Bool) (stacks : List (List Frame)) → 0 < n → FailsInRound p g stacks → UnsafeFrom p n g stacks
@@ -16,7 +15,3 @@ pub round_length : (p : Program) (g : List Bool) (stacks : List (List Frame)) (g
 round_length p g [] g' stacks' f = ap length f.1
 round_length p g (s ∷ stacks) g' [] f = absurd f
 round_length p g (s ∷ stacks) g' (t ∷ stacks') (h, turn, more) = let e = round_length p h stacks g' stacks' more in omega (arith, e)
-
--- the stack of a thread that starts in a procedure that is there
-pub started : (rs : List Routine) (n : ℕ) (r : Routine) → slice_get rs n ≡ Some r → starting_stack rs n ≡ frame n (zeros r.places) r.body ∷ []
-started rs n r e = rw e refl

@@ -1,21 +1,22 @@
 -- What the search's values stand for.
-use Rattle.std.specs.Prelude.{◌≡◌, ℕ, ◌<◌, Bool, List, [], ◌∷◌, map}
+use Rattle.std.specs.Prelude.{◌≡◌, ℕ, ◌<◌, Bool, true, false, List, [], ◌∷◌, Some, None, map, reverse, slice_get}
 use Rattle.std.specs.Borrow.{Bor}
 use Rattle.language.specs.Tree as tree
-use Rattle.language.specs.Tree.{RightSide, done}
+use Rattle.language.specs.Tree.{RightSide, Mark, Block, done, loop}
 use Rattle.language.specs.Resolve.{Scope, scope_of, place_of, resolve_side, resolve_block, meaning_of}
 use Rattle.language.specs.Value as place
 use Rattle.language.specs.Value.{AreValues, with_bit, written_globals, written_locals}
-use Rattle.language.specs.Rest.{Code, join}
+use Rattle.language.specs.Rest.{Label, Code, join, rest_from}
 use Rattle.language.specs.Step as step
-use Rattle.language.specs.Step.{Frame, frame, State, Step, Fails, Runs}
+use Rattle.language.specs.Step.{Frame, frame, State, state, fresh, AtRoutine, Step, Fails, Runs}
 use Rattle.language.specs.Rounds.{Round, Rounds, FailsInRound}
-use Rattle.syntax.specs.Trees.{tree_of, proc_of, block_of}
+use Rattle.syntax.specs.Trees.{Deed, repeat, marked_before, tree_of, proc_of, block_of}
 use Rattle.syntax.specs.declared.tree.Program.{Program}
 use Rattle.syntax.specs.declared.tree.Proc.{Proc}
 use Rattle.syntax.specs.declared.tree.Stmt.{Stmt}
 use Rattle.explore.specs.declared.values.Place.{Place}
 use Rattle.explore.specs.declared.values.Place.TheVariants.{Global, Local}
+use Rattle.explore.specs.declared.thread.Frame as held
 use Rattle.explore.specs.declared.thread.Thread.{Thread}
 use Rattle.explore.specs.declared.steps.Outcome.{Outcome}
 use Rattle.explore.specs.declared.steps.Outcome.TheVariants as outcome
@@ -59,9 +60,17 @@ code_onto s k (b ∷ bs) = code_onto s (join (resolve_block s (block_of b.now)) 
 abbrev pub code_at : {N : Type 0} → Scope → List (Bor (List (Stmt N))) → Code
 code_at s bs = code_onto s done bs
 
--- the stack of a thread: its one frame
+-- a frame
+abbrev pub frame_of : {N A : Type 0} → Program N → held.Frame N A → Frame
+frame_of program f = frame f.number f.locals.items (code_at (scope_at program f.proc.now) f.rest.items)
+
+-- the callers of a thread, the last first
+abbrev pub callers_of : {N A : Type 0} → Program N → Thread N A → List Frame
+callers_of program t = reverse (map (frame_of program) t.callers.items)
+
+-- the stack of a thread: the frame that runs, and then its callers
 abbrev pub stack_of : {N A : Type 0} → Program N → Thread N A → List Frame
-stack_of program t = frame t.number t.locals.items (code_at (scope_at program t.proc.now) t.rest.items) ∷ []
+stack_of program t = frame_of program t.top ∷ callers_of program t
 
 -- the stacks of the threads
 abbrev pub stacks_of : {N A : Type 0} → Program N → List (Thread N A) → List (List Frame)
@@ -72,6 +81,42 @@ abbrev pub StepMeans : Outcome → step.Program → State → State → Type 0
 StepMeans outcome.Failed p s t = Fails s
 StepMeans outcome.Stepped p s t = Step p s t
 StepMeans outcome.Stuck p s t = Unit {0}
+
+-- the frame, with a statement in front of what it has left to run
+abbrev pub led_by : {N A : Type 0} → Program N → Mark tree.Name → Deed → held.Frame N A → Frame
+led_by program m d f =
+    let s = scope_at program f.proc.now in
+    frame f.number f.locals.items (join (resolve_block s (marked_before m d done)) (code_at s f.rest.items))
+
+-- What a try at a statement, whatever its mark and the frames below, says of the globals and the frame before and
+-- after it; the frame before has what comes after the statement.
+abbrev pub StatementMeans : {N A : Type 0} → Outcome → Program N → Deed → List Bool → held.Frame N A → List Bool → held.Frame N A → Type 0
+StatementMeans o program d g f g' f' =
+    (m : Mark tree.Name) (fs : List Frame)
+    → StepMeans o (program_of program) (state g (led_by program m d f ∷ fs)) (state g' (frame_of program f' ∷ fs))
+
+-- the same of a `while`, where a block is the loop alone
+abbrev pub LoopMeans : {N A : Type 0} → Outcome → Program N → RightSide tree.Name → (body alone : Block tree.Name tree.Name tree.Name) → List Bool → held.Frame N A → held.Frame N A → Type 0
+LoopMeans o program r body alone g f f' =
+    (m : Mark tree.Name) (fs : List Frame) → alone ≡ loop m r body done
+    → StepMeans o (program_of program) (state g (led_by program m (repeat r body) f ∷ fs)) (state g (frame_of program f' ∷ fs))
+
+-- the same of a call, which also changes the thread's callers
+abbrev pub CallMeans : {N A : Type 0} → Outcome → Program N → Deed → List Bool → Thread N A → Thread N A → Type 0
+CallMeans o program d g t t' =
+    (m : Mark tree.Name)
+    → StepMeans o (program_of program) (state g (led_by program m d t.top ∷ callers_of program t)) (state g (stack_of program t'))
+
+-- the frame is new, of the procedure of this number, with these arguments
+abbrev pub IsEntered : {N A : Type 0} → Program N → ℕ → List Bool → held.Frame N A → Type 0
+IsEntered program n arguments f =
+    AtRoutine (slice_get (program_of program).routines n) (λ routine. frame_of program f ≡ frame n (fresh routine.places arguments) routine.body)
+
+-- What a search for a label in a block says of what comes after the block, before it and after it: what is left to
+-- run from the label on; or there is none, and nothing has changed.
+abbrev pub JumpMeans : {N : Type 0} → Bool → Label → Block tree.Name tree.Name tree.Name → (old new : List (Bor (List (Stmt N)))) → Type 0
+JumpMeans true x b old new = (s : Scope) → rest_from x (resolve_block s b) (code_at s old) ≡ Some (code_at s new)
+JumpMeans false x b old new = ((s : Scope) → rest_from x (resolve_block s b) (code_at s old) ≡ None) × (new ≡ old)
 
 -- what a turn says of them: a run to a failing assert, or a run to the state after it
 abbrev pub TurnMeans : Turn → step.Program → State → State → Type 0

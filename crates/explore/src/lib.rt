@@ -2,8 +2,10 @@
 #![tactic(auto)]
 
 mod bits;
+mod calls;
+mod entry;
+mod jumps;
 mod search;
-mod start;
 mod steps;
 mod thread;
 mod turns;

@@ -4,7 +4,7 @@ ghost use Rattle.language.specs.Rounds.{Unsafe};
 ghost use Rattle.explore.specs.Views.{program_of};
 
 use crate::bits::Bits;
-use crate::start::{all_zero, start};
+use crate::entry::{all_zero, start};
 use crate::turns::{Turn, round};
 use std::alloc::{AllocError, Allocator};
 use syntax::Program;

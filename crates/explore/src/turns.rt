@@ -26,7 +26,7 @@ const STEPS: u32 = 32;
 /// One turn: before each step a decision says whether the turn goes on.
 fn take_turn<'a, N: Allocator, A: Allocator + Copy>(
     alloc: A,
-    program: &Program<N>,
+    program: &'a Program<N>,
     globals: &mut Vec<bool, A>,
     thread: &mut Thread<'a, N, A>,
     bits: &mut Bits,
@@ -50,7 +50,7 @@ fn take_turn<'a, N: Allocator, A: Allocator + Copy>(
 /// One round: a turn for each thread in order.
 pub(crate) fn round<'a, N: Allocator, A: Allocator + Copy>(
     alloc: A,
-    program: &Program<N>,
+    program: &'a Program<N>,
     globals: &mut Vec<bool, A>,
     threads: &mut [Thread<'a, N, A>],
     bits: &mut Bits,

@@ -1,8 +1,8 @@
 //! What names stand for, what right sides are worth, and writing.
 ghost use Rattle.std.specs.Prelude.{◌≡◌, ◌↔◌, IsTrue, IfSome, IfOk, map};
 ghost use Rattle.language.specs.Resolve.{place_of, resolve_expression, resolve_side};
-ghost use Rattle.language.specs.Value.{look_up, bit, with_bit, value_of, IsValue, AreValues, written_globals, written_locals};
-ghost use Rattle.syntax.specs.Trees.{name_of, names_of, expr_of, rhs_of, rhss_of};
+ghost use Rattle.language.specs.Value.{look_up, bit, with_bit, value_of, values_of, IsValue, AreValues, written_globals, written_locals};
+ghost use Rattle.syntax.specs.Trees.{name_of, names_of, expr_of, exprs_of, rhs_of, rhss_of};
 ghost use Rattle.explore.specs.Views.{scope_at, place_seen, global_after, local_after, IsAssigned};
 
 use crate::bits::Bits;
@@ -137,6 +137,27 @@ fn all_chosen<N: Allocator, A: Allocator>(
     Ok(Some(values))
 }
 
+/// The values of expressions, in order; `None` only where a place's number would not fit.
+pub(crate) fn all_evaluated<N: Allocator, A: Allocator>(
+    alloc: A,
+    program: &Program<N>,
+    proc: &Proc<N>,
+    globals: &[bool],
+    locals: &[bool],
+    expressions: &[Expr<N>],
+) -> Result<Option<Vec<bool, A>>, AllocError>
+    ensures { IfOk result (λ o. IfSome o (λ vs. vs.items ≡ values_of globals.now locals.now (map (resolve_expression (scope_at program.now proc.now)) (exprs_of expressions.now)))) }
+{
+    let mut all = Vec::new(alloc);
+    for e in expressions {
+        match evaluated(program, proc, globals, locals, e) {
+            Some(value) => all.push(value)?,
+            None => return Ok(None),
+        }
+    }
+    Ok(Some(all))
+}
+
 /// Writes a value at a place.
 fn write_at<A: Allocator>(
     globals: &mut Vec<bool, A>,
@@ -187,7 +208,7 @@ fn write<N: Allocator, A: Allocator>(
 }
 
 /// Computes a value of each right side, and then writes them to the targets. False where the decisions lead no further.
-pub(crate) fn assign<N: Allocator, A: Allocator>(
+pub(crate) fn assign_sides<N: Allocator, A: Allocator>(
     alloc: A,
     program: &Program<N>,
     proc: &Proc<N>,

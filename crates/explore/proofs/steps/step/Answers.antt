@@ -1,225 +1,184 @@
 -- The step of each kind of statement.
-use Rattle.std.proofs.Common.{◌≡◌, ◌∙◌, true, false, cond, refl, sym, ap, subst}
-use Rattle.language.specs.Resolve.{resolve_block, resolve_side}
-use Rattle.language.specs.Rest.{Code, join}
-use Rattle.language.specs.Value.{IsValue}
-use Rattle.syntax.specs.Trees.{deed_of, item_of, block_of, names_of, rhs_of, rhss_of}
-use Rattle.explore.specs.Views.{program_of, scope_at, code_at, IsAssigned}
-use Rattle.explore.proofs.RestLemmas.{then, pushed}
-use Rattle.syntax.proofs.Folds.{item_deed, deed_of-Skip, deed_of-Assign, deed_of-If, deed_of-While, deed_of-Assert, deed_of-Assume}
-use Rattle.explore.proofs.StepLemmas.{with_first, skip_step, assign_step, branch_step, repeat_step, assert_step, assume_step, assert_fails}
+use Rattle.std.proofs.Common.{◌≡◌, ◌∙◌, ◌∷◌, take, refl, sym, ap, subst}
+use Rattle.language.specs.Step.{frame, state}
+use Rattle.language.specs.Tree.{skip, assign, assert, assume, goto, leave, call, loop, done}
+use Rattle.syntax.specs.Trees.{simple, branch, repeat, marked_before, deed_of, item_of, block_of, name_of, names_of, rhs_of, rhss_of, exprs_of}
+use Rattle.explore.specs.declared.thread.Frame as held
+use Rattle.explore.specs.declared.thread.Thread.{Thread}
+use Rattle.explore.specs.declared.steps.Outcome.TheVariants.{Stepped}
+use Rattle.explore.specs.Views.{program_of, scope_at, frame_of, callers_of, stack_of, led_by, StepMeans, StatementMeans, LoopMeans, CallMeans}
+use Rattle.explore.proofs.JumpLemmas.{ok_map}
+use Rattle.syntax.proofs.Folds.{item_deed, deed_of-Skip, deed_of-Assign, deed_of-If, deed_of-While, deed_of-Assert, deed_of-Assume, deed_of-Goto, deed_of-Return, deed_of-Call}
+use Rattle.explore.proofs.StepLemmas.{headed, stepped, stepped_at, looped_at, called_at}
 use Rattle.explore.proofs.steps.step.Goals as goal
 
-pub returns-in_ok-push-in-Skip : goal.returns-in_ok-push-in-Skip
-returns-in_ok-push-in-Skip g c =
-    let p = program_of c.args.program.now in
-    let s = scope_at c.args.program.now c.args.thread.now.proc.now in
-    let G = c.args.globals.now.items in
-    let L = c.args.thread.now.locals.items in
-    let n = c.args.thread.now.number in
-    let stmt = c.in-Some-split_first.stmt.now in
-    let more = c.in-Some-split_first.more in
-    let rest = c.next.new.rest.items in
-    let K : Code = code_at s rest in
-    let m = (item_of stmt).mark in
-    let d = (item_of stmt).deed in
-    let b = block_of more.now in
-    let old : code_at s c.args.thread.now.rest.items ≡ with_first s m d b K =
-    c.in-Some.ensures s ∙ ap (λ l. join (resolve_block s (block_of l)) K) c.in-Some-split_first.ensures.cases.0 in
-    let is = item_deed stmt ∙ ap deed_of c.in-Skip.is ∙ deed_of-Skip _ in
-    let new = pushed s c.push.new.self.items rest more more.now c.in_ok-push-in-Skip.ensures.items refl in
-    skip_step p G L n s m d b K (code_at s c.args.thread.now.rest.items) (code_at s c.push.new.self.items) is old new
+pub returns-in_default : goal.returns-in_default
+returns-in_default g c =
+    let program = c.args.program.now in
+    let top = c.args.thread.now.top in
+    let t = c.finish.new.thread in
+    let fs = callers_of program c.args.thread.now in
+    let means : StepMeans c.finish.result (program_of program) (state c.args.globals.now.items (frame top.number top.locals.items done ∷ fs)) (state c.args.globals.now.items (stack_of program t)) =
+    subst (λ z. StepMeans c.finish.result (program_of program) (state z (frame top.number top.locals.items done ∷ fs)) (state z (stack_of program t))) c.deref.ensures.value (c.finish.ensures top.number top.locals.items) in
+    subst (λ k. StepMeans c.finish.result (program_of program) (state c.args.globals.now.items (frame top.number top.locals.items k ∷ fs)) (state c.args.globals.now.items (stack_of program t)))
+    (sym (c.in_default.ensures.left (scope_at program top.proc.now))) means
 
-pub returns-in_ok-push-in-Assign : goal.returns-in_ok-push-in-Assign
-returns-in_ok-push-in-Assign g c =
-    let p = program_of c.args.program.now in
-    let s = scope_at c.args.program.now c.args.thread.now.proc.now in
-    let G = c.args.globals.now.items in
-    let L = c.args.thread.now.locals.items in
-    let n = c.args.thread.now.number in
+pub returns-in-Skip : goal.returns-in-Skip
+returns-in-Skip g c =
+    let program = c.args.program.now in
+    let top = c.args.thread.now.top in
+    let f : held.Frame g.row.N.Denot g.row.A.Denot = record top { rest = c.push.new.self } in
+    let fs = callers_of program c.args.thread.now in
     let stmt = c.in-Some-split_first.stmt.now in
-    let more = c.in-Some-split_first.more in
-    let rest = c.next.new.rest.items in
-    let K : Code = code_at s rest in
-    let m = (item_of stmt).mark in
-    let d = (item_of stmt).deed in
-    let b = block_of more.now in
-    let old : code_at s c.args.thread.now.rest.items ≡ with_first s m d b K =
-    c.in-Some.ensures s ∙ ap (λ l. join (resolve_block s (block_of l)) K) c.in-Some-split_first.ensures.cases.0 in
-    let is = item_deed stmt ∙ ap deed_of c.in-Assign.is ∙ deed_of-Assign c.in-Assign.xs c.in-Assign.rs in
-    let new = pushed s c.push-in-Assign.new.self.items rest more more.now c.in_ok-push-in-Assign.ensures.items refl in
-    let G' = c.assign.new.globals.items in
-    let L' = c.assign.new.locals.items in
-    let done_so : IsAssigned s (names_of c.deref.result.now) (rhss_of c.deref-in-Assign.result.now) G L G' L' = c.in_ok-assign-in-Assign.ensures c.if-not-branch.false in
-    let written : IsAssigned s (names_of c.in-Assign.xs.items) (rhss_of c.in-Assign.rs.items) G L G' L' =
-    subst (λ l. IsAssigned s (names_of l) (rhss_of c.in-Assign.rs.items) G L G' L') c.deref.ensures.value
-    (subst (λ l. IsAssigned s (names_of c.deref.result.now) (rhss_of l) G L G' L') c.deref-in-Assign.ensures.value done_so) in
-    assign_step p G L G' L' n s m d b K (code_at s c.args.thread.now.rest.items) (code_at s c.push-in-Assign.new.self.items) (names_of c.in-Assign.xs.items) (rhss_of c.in-Assign.rs.items) is written old new
+    let i = item_of stmt in
+    let old : stack_of program c.args.thread.now ≡ led_by program i.mark i.deed f ∷ fs =
+    headed program top c.next.new.rest.items c.push.new.self c.in-Some.list.now stmt c.in-Some-split_first.more fs c.in-Some.ensures.left c.in-Some-split_first.ensures.cases.0 c.in_ok-push.ensures.items in
+    let is : i.deed ≡ simple skip = item_deed stmt ∙ ap deed_of c.in-Skip.is ∙ deed_of-Skip _ in
+    stepped Stepped program i.mark i.deed (simple skip) c.args.globals.now.items c.args.globals.now.items (stack_of program c.args.thread.now) f f fs old is (λ m fs. refl)
 
-pub returns-in_ok-push-in-If-2 : goal.returns-in_ok-push-in-If-2
-returns-in_ok-push-in-If-2 g c =
-    let p = program_of c.args.program.now in
-    let s = scope_at c.args.program.now c.args.thread.now.proc.now in
-    let G = c.args.globals.now.items in
-    let L = c.args.thread.now.locals.items in
-    let n = c.args.thread.now.number in
+pub returns-in-Assign : goal.returns-in-Assign
+returns-in-Assign g c =
+    let program = c.args.program.now in
+    let top = c.args.thread.now.top in
+    let f : held.Frame g.row.N.Denot g.row.A.Denot = record top { rest = c.push.new.self } in
+    let fs = callers_of program c.args.thread.now in
     let stmt = c.in-Some-split_first.stmt.now in
-    let more = c.in-Some-split_first.more in
-    let rest = c.next.new.rest.items in
-    let K : Code = code_at s rest in
-    let m = (item_of stmt).mark in
-    let d = (item_of stmt).deed in
-    let b = block_of more.now in
-    let old : code_at s c.args.thread.now.rest.items ≡ with_first s m d b K =
-    c.in-Some.ensures s ∙ ap (λ l. join (resolve_block s (block_of l)) K) c.in-Some-split_first.ensures.cases.0 in
-    let is = item_deed stmt ∙ ap deed_of c.in-If.is ∙ deed_of-If c.in-If.r c.in-If.a c.in-If.b in
-    let side = resolve_side s (rhs_of c.in-If.r) in
-    let value : IsValue G L side c.in-Some-chosen.value =
-    subst (λ z. IsValue z L side c.in-Some-chosen.value) c.deref-in-If.ensures.value (subst (λ z. IsValue c.deref-in-If.result.now z side c.in-Some-chosen.value) c.deref-in-If-2.ensures.value (c.in-Some-chosen.ensures)) in
-    let mid = pushed s c.push-in-If.new.self.items rest more more.now c.in_ok-push-in-If.ensures.items refl in
-    let new = pushed s c.push-then-value.new.self.items c.push-in-If.new.self.items c.as_slice.result c.in-If.a.items c.in_ok-push-in-If-2.ensures.items c.as_slice.ensures.value
-    ∙ ap (λ k. then s c.in-If.a.items k) mid ∙ ap (λ v. cond v (then s c.in-If.a.items (join (resolve_block s b) K)) (then s c.in-If.b.items (join (resolve_block s b) K))) (sym c.if-value.true) in
-    branch_step p G L n s m d b K (code_at s c.args.thread.now.rest.items) (code_at s c.push-then-value.new.self.items) (rhs_of c.in-If.r) (block_of c.in-If.a.items) (block_of c.in-If.b.items) c.in-Some-chosen.value is value old new
+    let i = item_of stmt in
+    let old : stack_of program c.args.thread.now ≡ led_by program i.mark i.deed f ∷ fs =
+    headed program top c.next.new.rest.items c.push.new.self c.in-Some.list.now stmt c.in-Some-split_first.more fs c.in-Some.ensures.left c.in-Some-split_first.ensures.cases.0 c.in_ok-push.ensures.items in
+    let xs = c.deref-in-Assign.result.now in
+    let rs = c.deref-in-Assign-2.result.now in
+    let is : i.deed ≡ simple (assign (names_of xs) (rhss_of rs)) =
+    item_deed stmt ∙ ap deed_of c.in-Assign.is ∙ deed_of-Assign c.in-Assign.xs c.in-Assign.rs
+    ∙ ap (λ l. simple (assign (names_of l) (rhss_of c.in-Assign.rs.items))) (sym c.deref-in-Assign.ensures.value) ∙ ap (λ l. simple (assign (names_of xs) (rhss_of l))) (sym c.deref-in-Assign-2.ensures.value) in
+    let G = c.args.globals.now.items in
+    let G' = c.set.new.globals.items in
+    ok_map c.set.result (λ o. StatementMeans o program (simple (assign (names_of xs) (rhss_of rs))) G f G' c.set.new.frame)
+    (λ o. StepMeans o (program_of program) (state G (stack_of program c.args.thread.now)) (state G' (frame_of program c.set.new.frame ∷ fs)))
+    (λ o h. stepped o program i.mark i.deed (simple (assign (names_of xs) (rhss_of rs))) G G' (stack_of program c.args.thread.now) f c.set.new.frame fs old is h) c.set.ensures
 
-pub returns-then-has_value : goal.returns-then-has_value
-returns-then-has_value g c =
-    let p = program_of c.args.program.now in
-    let s = scope_at c.args.program.now c.args.thread.now.proc.now in
-    let G = c.args.globals.now.items in
-    let L = c.args.thread.now.locals.items in
-    let n = c.args.thread.now.number in
+pub returns-in-If : goal.returns-in-If
+returns-in-If g c =
+    let program = c.args.program.now in
+    let top = c.args.thread.now.top in
+    let f : held.Frame g.row.N.Denot g.row.A.Denot = record top { rest = c.push.new.self } in
+    let fs = callers_of program c.args.thread.now in
     let stmt = c.in-Some-split_first.stmt.now in
-    let more = c.in-Some-split_first.more in
-    let rest = c.next.new.rest.items in
-    let K : Code = code_at s rest in
-    let m = (item_of stmt).mark in
-    let d = (item_of stmt).deed in
-    let b = block_of more.now in
-    let old : code_at s c.args.thread.now.rest.items ≡ with_first s m d b K =
-    c.in-Some.ensures s ∙ ap (λ l. join (resolve_block s (block_of l)) K) c.in-Some-split_first.ensures.cases.0 in
-    let is = item_deed stmt ∙ ap deed_of c.in-Assert.is ∙ deed_of-Assert c.in-Assert.r in
-    let side = resolve_side s (rhs_of c.in-Assert.r) in
-    let value : IsValue G L side false =
-    subst (λ z. IsValue z L side false) c.deref-in-Assert.ensures.value (subst (λ z. IsValue c.deref-in-Assert.result.now z side false) c.deref-in-Assert-2.ensures.value (c.has_value.ensures c.if-has_value.true)) in
-    assert_fails G L n s m d b K (code_at s c.args.thread.now.rest.items) (rhs_of c.in-Assert.r) is value old
+    let i = item_of stmt in
+    let old : stack_of program c.args.thread.now ≡ led_by program i.mark i.deed f ∷ fs =
+    headed program top c.next.new.rest.items c.push.new.self c.in-Some.list.now stmt c.in-Some-split_first.more fs c.in-Some.ensures.left c.in-Some-split_first.ensures.cases.0 c.in_ok-push.ensures.items in
+    let a = c.deref-in-If-2.result.now in
+    let b = c.deref-in-If-3.result.now in
+    let r = rhs_of c.in-If.r in
+    let is : i.deed ≡ branch r (block_of a) (block_of b) =
+    item_deed stmt ∙ ap deed_of c.in-If.is ∙ deed_of-If c.in-If.r c.in-If.a c.in-If.b
+    ∙ ap (λ l. branch r (block_of l) (block_of c.in-If.b.items)) (sym c.deref-in-If-2.ensures.value) ∙ ap (λ l. branch r (block_of a) (block_of l)) (sym c.deref-in-If-3.ensures.value) in
+    let G = c.deref-in-If.result.now in
+    let G' = c.args.globals.now.items in
+    ok_map c.go_into.result (λ o. StatementMeans o program (branch r (block_of a) (block_of b)) G f G c.go_into.new.frame)
+    (λ o. StepMeans o (program_of program) (state G' (stack_of program c.args.thread.now)) (state G' (frame_of program c.go_into.new.frame ∷ fs)))
+    (λ o h. stepped_at o program i.mark i.deed (branch r (block_of a) (block_of b)) G G' (stack_of program c.args.thread.now) f c.go_into.new.frame fs c.deref-in-If.ensures.value old is h) c.go_into.ensures
 
-pub returns-in_ok-push-in-If-3 : goal.returns-in_ok-push-in-If-3
-returns-in_ok-push-in-If-3 g c =
-    let p = program_of c.args.program.now in
-    let s = scope_at c.args.program.now c.args.thread.now.proc.now in
-    let G = c.args.globals.now.items in
-    let L = c.args.thread.now.locals.items in
-    let n = c.args.thread.now.number in
+pub returns-in-While : goal.returns-in-While
+returns-in-While g c =
+    let program = c.args.program.now in
+    let top = c.args.thread.now.top in
+    let f : held.Frame g.row.N.Denot g.row.A.Denot = record top { rest = c.push.new.self } in
+    let fs = callers_of program c.args.thread.now in
     let stmt = c.in-Some-split_first.stmt.now in
-    let more = c.in-Some-split_first.more in
-    let rest = c.next.new.rest.items in
-    let K : Code = code_at s rest in
-    let m = (item_of stmt).mark in
-    let d = (item_of stmt).deed in
-    let b = block_of more.now in
-    let old : code_at s c.args.thread.now.rest.items ≡ with_first s m d b K =
-    c.in-Some.ensures s ∙ ap (λ l. join (resolve_block s (block_of l)) K) c.in-Some-split_first.ensures.cases.0 in
-    let is = item_deed stmt ∙ ap deed_of c.in-If.is ∙ deed_of-If c.in-If.r c.in-If.a c.in-If.b in
-    let side = resolve_side s (rhs_of c.in-If.r) in
-    let value : IsValue G L side c.in-Some-chosen.value =
-    subst (λ z. IsValue z L side c.in-Some-chosen.value) c.deref-in-If.ensures.value (subst (λ z. IsValue c.deref-in-If.result.now z side c.in-Some-chosen.value) c.deref-in-If-2.ensures.value (c.in-Some-chosen.ensures)) in
-    let mid = pushed s c.push-in-If.new.self.items rest more more.now c.in_ok-push-in-If.ensures.items refl in
-    let new = pushed s c.push-else-value.new.self.items c.push-in-If.new.self.items c.as_slice-else-value.result c.in-If.b.items c.in_ok-push-in-If-3.ensures.items c.as_slice-else-value.ensures.value
-    ∙ ap (λ k. then s c.in-If.b.items k) mid ∙ ap (λ v. cond v (then s c.in-If.a.items (join (resolve_block s b) K)) (then s c.in-If.b.items (join (resolve_block s b) K))) (sym c.if-value.false) in
-    branch_step p G L n s m d b K (code_at s c.args.thread.now.rest.items) (code_at s c.push-else-value.new.self.items) (rhs_of c.in-If.r) (block_of c.in-If.a.items) (block_of c.in-If.b.items) c.in-Some-chosen.value is value old new
+    let i = item_of stmt in
+    let old : stack_of program c.args.thread.now ≡ led_by program i.mark i.deed f ∷ fs =
+    headed program top c.next.new.rest.items c.push.new.self c.in-Some.list.now stmt c.in-Some-split_first.more fs c.in-Some.ensures.left c.in-Some-split_first.ensures.cases.0 c.in_ok-push.ensures.items in
+    let a = c.deref-in-While-2.result.now in
+    let r = rhs_of c.in-While.r in
+    let again = take 1 c.in-Some.list.now in
+    let is : i.deed ≡ repeat r (block_of a) =
+    item_deed stmt ∙ ap deed_of c.in-While.is ∙ deed_of-While c.in-While.r c.in-While.a ∙ ap (λ l. repeat r (block_of l)) (sym c.deref-in-While-2.ensures.value) in
+    let alone : block_of again ≡ loop i.mark r (block_of a) done =
+    ap (λ l. block_of (take 1 l)) c.in-Some-split_first.ensures.cases.0 ∙ ap (λ d. marked_before i.mark d done) is in
+    let G = c.deref-in-While.result.now in
+    let G' = c.args.globals.now.items in
+    ok_map c.go_round.result (λ o. LoopMeans o program r (block_of a) (block_of again) G f c.go_round.new.frame)
+    (λ o. StepMeans o (program_of program) (state G' (stack_of program c.args.thread.now)) (state G' (frame_of program c.go_round.new.frame ∷ fs)))
+    (λ o h. looped_at o program i.mark i.deed r (block_of a) (block_of again) G G' (stack_of program c.args.thread.now) f c.go_round.new.frame fs c.deref-in-While.ensures.value old is alone h) c.go_round.ensures
 
-pub returns-in_ok-push-in-While-2 : goal.returns-in_ok-push-in-While-2
-returns-in_ok-push-in-While-2 g c =
-    let p = program_of c.args.program.now in
-    let s = scope_at c.args.program.now c.args.thread.now.proc.now in
-    let G = c.args.globals.now.items in
-    let L = c.args.thread.now.locals.items in
-    let n = c.args.thread.now.number in
+pub returns-in-Assert : goal.returns-in-Assert
+returns-in-Assert g c =
+    let program = c.args.program.now in
+    let top = c.args.thread.now.top in
+    let f : held.Frame g.row.N.Denot g.row.A.Denot = record top { rest = c.push.new.self } in
+    let fs = callers_of program c.args.thread.now in
     let stmt = c.in-Some-split_first.stmt.now in
-    let more = c.in-Some-split_first.more in
-    let rest = c.next.new.rest.items in
-    let K : Code = code_at s rest in
-    let m = (item_of stmt).mark in
-    let d = (item_of stmt).deed in
-    let b = block_of more.now in
-    let old : code_at s c.args.thread.now.rest.items ≡ with_first s m d b K =
-    c.in-Some.ensures s ∙ ap (λ l. join (resolve_block s (block_of l)) K) c.in-Some-split_first.ensures.cases.0 in
-    let is = item_deed stmt ∙ ap deed_of c.in-While.is ∙ deed_of-While c.in-While.r c.in-While.a in
-    let side = resolve_side s (rhs_of c.in-While.r) in
-    let value : IsValue G L side c.in-Some-chosen-2.value =
-    subst (λ z. IsValue z L side c.in-Some-chosen-2.value) c.deref-in-While.ensures.value (subst (λ z. IsValue c.deref-in-While.result.now z side c.in-Some-chosen-2.value) c.deref-in-While-2.ensures.value (c.in-Some-chosen-2.ensures)) in
-    let mid : code_at s c.push-then-value-2.new.self.items ≡ with_first s m d b K =
-    pushed s c.push-then-value-2.new.self.items rest c.in-Some.top c.in-Some.top.now c.in_ok-push-in-While.ensures.items refl ∙ ap (λ l. then s l K) c.in-Some-split_first.ensures.cases.0 in
-    let new = pushed s c.push-then-value-2-2.new.self.items c.push-then-value-2.new.self.items c.as_slice-then-value-2.result c.in-While.a.items c.in_ok-push-in-While-2.ensures.items c.as_slice-then-value-2.ensures.value
-    ∙ ap (λ k. then s c.in-While.a.items k) mid ∙ ap (λ v. cond v (then s c.in-While.a.items (with_first s m d b K)) (join (resolve_block s b) K)) (sym c.if-value-2.true) in
-    repeat_step p G L n s m d b K (code_at s c.args.thread.now.rest.items) (code_at s c.push-then-value-2-2.new.self.items) (rhs_of c.in-While.r) (block_of c.in-While.a.items) c.in-Some-chosen-2.value is value old new
+    let i = item_of stmt in
+    let old : stack_of program c.args.thread.now ≡ led_by program i.mark i.deed f ∷ fs =
+    headed program top c.next.new.rest.items c.push.new.self c.in-Some.list.now stmt c.in-Some-split_first.more fs c.in-Some.ensures.left c.in-Some-split_first.ensures.cases.0 c.in_ok-push.ensures.items in
+    let r = rhs_of c.in-Assert.r in
+    let is : i.deed ≡ simple (assert r) = item_deed stmt ∙ ap deed_of c.in-Assert.is ∙ deed_of-Assert c.in-Assert.r in
+    stepped_at c.check.result program i.mark i.deed (simple (assert r)) c.deref-in-Assert.result.now c.args.globals.now.items (stack_of program c.args.thread.now) f f fs c.deref-in-Assert.ensures.value old is c.check.ensures
 
-pub returns-in_ok-push-in-While-3 : goal.returns-in_ok-push-in-While-3
-returns-in_ok-push-in-While-3 g c =
-    let p = program_of c.args.program.now in
-    let s = scope_at c.args.program.now c.args.thread.now.proc.now in
-    let G = c.args.globals.now.items in
-    let L = c.args.thread.now.locals.items in
-    let n = c.args.thread.now.number in
+pub returns-in-Assume : goal.returns-in-Assume
+returns-in-Assume g c =
+    let program = c.args.program.now in
+    let top = c.args.thread.now.top in
+    let f : held.Frame g.row.N.Denot g.row.A.Denot = record top { rest = c.push.new.self } in
+    let fs = callers_of program c.args.thread.now in
     let stmt = c.in-Some-split_first.stmt.now in
-    let more = c.in-Some-split_first.more in
-    let rest = c.next.new.rest.items in
-    let K : Code = code_at s rest in
-    let m = (item_of stmt).mark in
-    let d = (item_of stmt).deed in
-    let b = block_of more.now in
-    let old : code_at s c.args.thread.now.rest.items ≡ with_first s m d b K =
-    c.in-Some.ensures s ∙ ap (λ l. join (resolve_block s (block_of l)) K) c.in-Some-split_first.ensures.cases.0 in
-    let is = item_deed stmt ∙ ap deed_of c.in-While.is ∙ deed_of-While c.in-While.r c.in-While.a in
-    let side = resolve_side s (rhs_of c.in-While.r) in
-    let value : IsValue G L side c.in-Some-chosen-2.value =
-    subst (λ z. IsValue z L side c.in-Some-chosen-2.value) c.deref-in-While.ensures.value (subst (λ z. IsValue c.deref-in-While.result.now z side c.in-Some-chosen-2.value) c.deref-in-While-2.ensures.value (c.in-Some-chosen-2.ensures)) in
-    let new = pushed s c.push-else-value-2.new.self.items rest more more.now c.in_ok-push-in-While-3.ensures.items refl
-    ∙ ap (λ v. cond v (then s c.in-While.a.items (with_first s m d b K)) (join (resolve_block s b) K)) (sym c.if-value-2.false) in
-    repeat_step p G L n s m d b K (code_at s c.args.thread.now.rest.items) (code_at s c.push-else-value-2.new.self.items) (rhs_of c.in-While.r) (block_of c.in-While.a.items) c.in-Some-chosen-2.value is value old new
+    let i = item_of stmt in
+    let old : stack_of program c.args.thread.now ≡ led_by program i.mark i.deed f ∷ fs =
+    headed program top c.next.new.rest.items c.push.new.self c.in-Some.list.now stmt c.in-Some-split_first.more fs c.in-Some.ensures.left c.in-Some-split_first.ensures.cases.0 c.in_ok-push.ensures.items in
+    let r = rhs_of c.in-Assume.r in
+    let is : i.deed ≡ simple (assume r) = item_deed stmt ∙ ap deed_of c.in-Assume.is ∙ deed_of-Assume c.in-Assume.r in
+    stepped_at c.suppose.result program i.mark i.deed (simple (assume r)) c.deref-in-Assume.result.now c.args.globals.now.items (stack_of program c.args.thread.now) f f fs c.deref-in-Assume.ensures.value old is c.suppose.ensures
 
-pub returns-in_ok-push-in-Assert-2 : goal.returns-in_ok-push-in-Assert-2
-returns-in_ok-push-in-Assert-2 g c =
-    let p = program_of c.args.program.now in
-    let s = scope_at c.args.program.now c.args.thread.now.proc.now in
-    let G = c.args.globals.now.items in
-    let L = c.args.thread.now.locals.items in
-    let n = c.args.thread.now.number in
+pub returns-in-Goto : goal.returns-in-Goto
+returns-in-Goto g c =
+    let program = c.args.program.now in
+    let top = c.args.thread.now.top in
+    let f : held.Frame g.row.N.Denot g.row.A.Denot = record top { rest = c.push.new.self } in
+    let fs = callers_of program c.args.thread.now in
     let stmt = c.in-Some-split_first.stmt.now in
-    let more = c.in-Some-split_first.more in
-    let rest = c.next.new.rest.items in
-    let K : Code = code_at s rest in
-    let m = (item_of stmt).mark in
-    let d = (item_of stmt).deed in
-    let b = block_of more.now in
-    let old : code_at s c.args.thread.now.rest.items ≡ with_first s m d b K =
-    c.in-Some.ensures s ∙ ap (λ l. join (resolve_block s (block_of l)) K) c.in-Some-split_first.ensures.cases.0 in
-    let is = item_deed stmt ∙ ap deed_of c.in-Assert.is ∙ deed_of-Assert c.in-Assert.r in
-    let side = resolve_side s (rhs_of c.in-Assert.r) in
-    let value : IsValue G L side true =
-    subst (λ z. IsValue z L side true) c.deref-in-Assert-3.ensures.value (subst (λ z. IsValue c.deref-in-Assert-3.result.now z side true) c.deref-in-Assert-4.ensures.value (c.has_value-in-Assert.ensures c.if-not-has_value.false)) in
-    let new = pushed s c.push-in-Assert.new.self.items rest more more.now c.in_ok-push-in-Assert-2.ensures.items refl in
-    assert_step p G L n s m d b K (code_at s c.args.thread.now.rest.items) (code_at s c.push-in-Assert.new.self.items) (rhs_of c.in-Assert.r) is value old new
+    let i = item_of stmt in
+    let old : stack_of program c.args.thread.now ≡ led_by program i.mark i.deed f ∷ fs =
+    headed program top c.next.new.rest.items c.push.new.self c.in-Some.list.now stmt c.in-Some-split_first.more fs c.in-Some.ensures.left c.in-Some-split_first.ensures.cases.0 c.in_ok-push.ensures.items in
+    let x = name_of c.in-Goto.x in
+    let is : i.deed ≡ simple (goto x) = item_deed stmt ∙ ap deed_of c.in-Goto.is ∙ deed_of-Goto c.in-Goto.x in
+    let G = c.deref-in-Goto.result.now in
+    let G' = c.args.globals.now.items in
+    ok_map c.go_to.result (λ o. StatementMeans o program (simple (goto x)) G f G c.go_to.new.frame)
+    (λ o. StepMeans o (program_of program) (state G' (stack_of program c.args.thread.now)) (state G' (frame_of program c.go_to.new.frame ∷ fs)))
+    (λ o h. stepped_at o program i.mark i.deed (simple (goto x)) G G' (stack_of program c.args.thread.now) f c.go_to.new.frame fs c.deref-in-Goto.ensures.value old is h) c.go_to.ensures
 
-pub returns-in_ok-push-in-Assume : goal.returns-in_ok-push-in-Assume
-returns-in_ok-push-in-Assume g c =
-    let p = program_of c.args.program.now in
-    let s = scope_at c.args.program.now c.args.thread.now.proc.now in
-    let G = c.args.globals.now.items in
-    let L = c.args.thread.now.locals.items in
-    let n = c.args.thread.now.number in
+pub returns-in-Return : goal.returns-in-Return
+returns-in-Return g c =
+    let program = c.args.program.now in
+    let top = c.args.thread.now.top in
+    let f : held.Frame g.row.N.Denot g.row.A.Denot = record top { rest = c.push.new.self } in
+    let fs = callers_of program c.args.thread.now in
     let stmt = c.in-Some-split_first.stmt.now in
-    let more = c.in-Some-split_first.more in
-    let rest = c.next.new.rest.items in
-    let K : Code = code_at s rest in
-    let m = (item_of stmt).mark in
-    let d = (item_of stmt).deed in
-    let b = block_of more.now in
-    let old : code_at s c.args.thread.now.rest.items ≡ with_first s m d b K =
-    c.in-Some.ensures s ∙ ap (λ l. join (resolve_block s (block_of l)) K) c.in-Some-split_first.ensures.cases.0 in
-    let is = item_deed stmt ∙ ap deed_of c.in-Assume.is ∙ deed_of-Assume c.in-Assume.r in
-    let side = resolve_side s (rhs_of c.in-Assume.r) in
-    let value : IsValue G L side true =
-    subst (λ z. IsValue z L side true) c.deref-in-Assume.ensures.value (subst (λ z. IsValue c.deref-in-Assume.result.now z side true) c.deref-in-Assume-2.ensures.value (c.has_value-in-Assume.ensures c.if-not-has_value-2.false)) in
-    let new = pushed s c.push-in-Assume.new.self.items rest more more.now c.in_ok-push-in-Assume.ensures.items refl in
-    assume_step p G L n s m d b K (code_at s c.args.thread.now.rest.items) (code_at s c.push-in-Assume.new.self.items) (rhs_of c.in-Assume.r) is value old new
+    let i = item_of stmt in
+    let old : stack_of program c.args.thread.now ≡ led_by program i.mark i.deed f ∷ fs =
+    headed program top c.next.new.rest.items c.push.new.self c.in-Some.list.now stmt c.in-Some-split_first.more fs c.in-Some.ensures.left c.in-Some-split_first.ensures.cases.0 c.in_ok-push.ensures.items in
+    let is : i.deed ≡ simple leave = item_deed stmt ∙ ap deed_of c.in-Return.is ∙ deed_of-Return _ in
+    stepped_at c.leave_frame.result program i.mark i.deed (simple leave) c.deref-in-Return.result.now c.args.globals.now.items (stack_of program c.args.thread.now) f c.leave_frame.new.frame fs c.deref-in-Return.ensures.value old is c.leave_frame.ensures
+
+pub returns-in-Call : goal.returns-in-Call
+returns-in-Call g c =
+    let program = c.args.program.now in
+    let top = c.args.thread.now.top in
+    let f : held.Frame g.row.N.Denot g.row.A.Denot = record top { rest = c.push.new.self } in
+    let fs = callers_of program c.args.thread.now in
+    let stmt = c.in-Some-split_first.stmt.now in
+    let i = item_of stmt in
+    let old : stack_of program c.args.thread.now ≡ led_by program i.mark i.deed f ∷ fs =
+    headed program top c.next.new.rest.items c.push.new.self c.in-Some.list.now stmt c.in-Some-split_first.more fs c.in-Some.ensures.left c.in-Some-split_first.ensures.cases.0 c.in_ok-push.ensures.items in
+    let es = c.deref-in-Call-2.result.now in
+    let p = name_of c.in-Call.p in
+    let is : i.deed ≡ simple (call p (exprs_of es)) =
+    item_deed stmt ∙ ap deed_of c.in-Call.is ∙ deed_of-Call c.in-Call.p c.in-Call.es ∙ ap (λ l. simple (call p (exprs_of l))) (sym c.deref-in-Call-2.ensures.value) in
+    let G = c.deref-in-Call.result.now in
+    let G' = c.args.globals.now.items in
+    let t : Thread g.row.N.Denot g.row.A.Denot = record c.args.thread.now { top = f } in
+    let t' = c.enter.new.thread in
+    ok_map c.enter.result (λ o. CallMeans o program (simple (call p (exprs_of es))) G t t')
+    (λ o. StepMeans o (program_of program) (state G' (stack_of program c.args.thread.now)) (state G' (stack_of program t')))
+    (λ o h. called_at o program i.mark i.deed (simple (call p (exprs_of es))) G G' (stack_of program c.args.thread.now) t t' c.deref-in-Call.ensures.value old is h) c.enter.ensures

@@ -10,8 +10,8 @@ use Rattle.explore.specs.Views.{code_at}
 use Rattle.explore.proofs.RestLemmas.{code_push}
 use Rattle.explore.proofs.thread.next.Goals as goal
 
-pub returns-then-not-is_empty : goal.returns-then-not-is_empty
-returns-then-not-is_empty g c s =
+pub returns-then-not-is_empty-clause-left : goal.returns-then-not-is_empty-clause-left
+returns-then-not-is_empty-clause-left g c s =
     sym (c.loop-top.invariant s) ∙ ap (code_at s) c.in-Some.ensures.items ∙ code_push s done c.pop.new.self.items c.in-Some.top
 
 pub loop-top-preserved : goal.loop-top-preserved

@@ -5,7 +5,7 @@ use Rattle.language.specs.Resolve.{place_of, resolve_side}
 use Rattle.language.specs.Value.{AreValues, written_globals, written_locals}
 use Rattle.syntax.specs.Trees.{names_of, rhss_of}
 use Rattle.explore.specs.Views.{scope_at}
-use Rattle.explore.proofs.values.assign.Goals as goal
+use Rattle.explore.proofs.values.assign_sides.Goals as goal
 
 pub returns-in-Some : goal.returns-in-Some
 returns-in-Some g c written =

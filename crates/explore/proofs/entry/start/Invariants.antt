@@ -5,7 +5,7 @@ use Rattle.language.specs.Resolve.{number_of}
 use Rattle.language.specs.Rounds.{starting_stack}
 use Rattle.syntax.specs.Trees.{procs_of, threads_of}
 use Rattle.explore.specs.Views.{program_of, stacks_of}
-use Rattle.explore.proofs.start.start.Given as goal
+use Rattle.explore.proofs.entry.start.Given as goal
 
 abbrev pub invariant-loop-line : goal.invariant-loop-line
 invariant-loop-line g l =

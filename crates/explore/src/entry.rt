@@ -1,13 +1,13 @@
-//! The threads before their first step.
+//! Frames before their first step, and the threads before theirs.
 ghost use Rattle.std.specs.Prelude.{◌≡◌, IfOk, IfSome, map};
-ghost use Rattle.language.specs.Step.{zeros};
+ghost use Rattle.language.specs.Step.{zeros, fresh};
 ghost use Rattle.language.specs.Rounds.{starting_stack};
-ghost use Rattle.explore.specs.Views.{program_of, stack_of, stacks_of};
+ghost use Rattle.explore.specs.Views.{program_of, stacks_of, IsEntered};
 ghost use Rattle.language.specs.Resolve.{number_of};
 ghost use Rattle.language.specs.Tree.{Procedure};
 ghost use Rattle.syntax.specs.Trees.{procs_of};
 
-use crate::thread::Thread;
+use crate::thread::{Frame, Thread};
 use std::alloc::{AllocError, Allocator};
 use syntax::{Proc, Program};
 
@@ -20,6 +20,17 @@ pub(crate) fn all_zero<A: Allocator>(alloc: A, count: usize) -> Result<Vec<bool,
         row.push(false)?;
     }
     Ok(row)
+}
+
+/// The values of so many places: the arguments, and 0 in every other place.
+fn filled<A: Allocator>(arguments: Vec<bool, A>, places: usize) -> Result<Vec<bool, A>, AllocError>
+    ensures { IfOk result (λ values. values.items ≡ fresh places arguments.items) }
+{
+    let mut values = arguments;
+    for _ in 0..places.saturating_sub(values.len()) {
+        values.push(false)?;
+    }
+    Ok(values)
 }
 
 /// The number of the first procedure of this name: how many come before it.
@@ -36,13 +47,15 @@ fn number_of_procedure<N: Allocator>(procs: &[Proc<N>], text: &str) -> usize
     at
 }
 
-/// A thread that starts in the procedure of this name.
-fn opened<'a, N: Allocator, A: Allocator + Copy>(
+/// A new frame of the procedure of this name with these arguments; `None` where there is no such procedure, or where
+/// the number of its places would not fit.
+pub(crate) fn entered<'a, N: Allocator, A: Allocator + Copy>(
     alloc: A,
     program: &'a Program<N>,
     text: &str,
-) -> Result<Option<Thread<'a, N, A>>, AllocError>
-    ensures { IfOk result (λ o. IfSome o (λ t. stack_of program.now t ≡ starting_stack (program_of program.now).routines (number_of text.now (map (λ (p : Procedure). p.name) (procs_of program.now.procs.items))))) }
+    arguments: Vec<bool, A>,
+) -> Result<Option<Frame<'a, N, A>>, AllocError>
+    ensures { IfOk result (λ o. IfSome o (λ f. IsEntered program.now (number_of text.now (map (λ (p : Procedure). p.name) (procs_of program.now.procs.items))) arguments.items f)) }
 {
     let number = number_of_procedure(program.procs.as_slice(), text);
     let Some(proc) = program.procs.get(number) else {
@@ -51,10 +64,10 @@ fn opened<'a, N: Allocator, A: Allocator + Copy>(
     let Some(places) = proc.formals.len().checked_add(proc.locals.len()) else {
         return Ok(None);
     };
-    let locals = all_zero(alloc, places)?;
+    let locals = filled(arguments, places)?;
     let mut rest = Vec::new(alloc);
     rest.push(proc.body.as_slice())?;
-    Ok(Some(Thread {
+    Ok(Some(Frame {
         number,
         proc,
         locals,
@@ -71,10 +84,13 @@ pub(crate) fn start<'a, N: Allocator, A: Allocator + Copy>(
 {
     let mut threads = Vec::new(alloc);
     for line in &program.threads {
-        match opened(alloc, program, line.name.text.as_str())? {
-            Some(thread) => threads.push(thread)?,
-            None => return Ok(None),
-        }
+        let Some(top) = entered(alloc, program, line.name.text.as_str(), Vec::new(alloc))? else {
+            return Ok(None);
+        };
+        threads.push(Thread {
+            top,
+            callers: Vec::new(alloc),
+        })?;
     }
     Ok(Some(threads))
 }
