@@ -5,3 +5,4 @@ pub mod Limits
 pub mod Verdict
 pub mod Written
 pub mod Replies
+pub mod Refusals

@@ -19,24 +19,44 @@ pub(crate) enum Refusal {
 }
 
 impl From<ReadFault> for Refusal {
+    ghost use Rattle.std.specs.Prelude.{◌≡◌};
+    ghost use Rattle.cli.specs.declared.refusal.Refusal.TheVariants.{Unread};
+
+    ghost from_gives = { λ fault refusal. refusal ≡ Unread fault };
+
     fn from(fault: ReadFault) -> Refusal {
         Refusal::Unread(fault)
     }
 }
 
 impl From<ScopeFault> for Refusal {
+    ghost use Rattle.std.specs.Prelude.{◌≡◌};
+    ghost use Rattle.cli.specs.declared.refusal.Refusal.TheVariants.{Unchecked};
+
+    ghost from_gives = { λ fault refusal. refusal ≡ Unchecked fault };
+
     fn from(fault: ScopeFault) -> Refusal {
         Refusal::Unchecked(fault)
     }
 }
 
 impl From<AllocError> for Refusal {
+    ghost use Rattle.std.specs.Prelude.{◌≡◌};
+    ghost use Rattle.cli.specs.declared.refusal.Refusal.TheVariants.{Memory};
+
+    ghost from_gives = { λ _ refusal. refusal ≡ Memory };
+
     fn from(_e: AllocError) -> Refusal {
         Refusal::Memory
     }
 }
 
 impl From<RewriteFault> for Refusal {
+    ghost use Rattle.std.specs.Prelude.{◌≡◌};
+    ghost use Rattle.cli.specs.Refusals.{refusal_of};
+
+    ghost from_gives = { λ fault refusal. refusal ≡ refusal_of fault };
+
     fn from(fault: RewriteFault) -> Refusal {
         match fault {
             RewriteFault::TooWide => Refusal::TooWide,
