@@ -42,7 +42,8 @@ IsShallow depth (Not ∷ ss) = (1 ≤ depth) × IsShallow depth ss
 IsShallow depth (Apply o ∷ ss) = (2 ≤ depth) × IsShallow (depth - 1) ss
 IsShallow depth (ApplySwapped o ∷ ss) = (2 ≤ depth) × IsShallow (depth - 1) ss
 
-less_prop : (i n : ℕ) → IsProp (i < n)
+-- an inequality of numbers has one proof at most
+pub less_prop : (i n : ℕ) → IsProp (i < n)
 less_prop i n = le_prop
 
 few_prop : (i n : ℕ) → IsProp (i ≤ n)

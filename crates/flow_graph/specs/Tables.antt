@@ -1,10 +1,10 @@
 -- Truth tables: the worth of an expression of a few bits for each of their values.
 use mathlib.Core.HLevel.{×_prop, Unit-prop}
-use native.Mathlib.Bridge.{le_prop}
 use Rattle.std.specs.Prelude.{◌≡◌, ◌<◌, ℕ, suc, Bool, true, false, cond, ◌==◌, List, [], ◌∷◌, ◌++◌}
 use Rattle.language.specs.Tree.{Expression, const, var, negation, two}
 use Rattle.flow_graph.specs.Bits.{bit_of}
 use Rattle.flow_graph.specs.Located.{worth}
+use Rattle.flow_graph.specs.Postfix.{less_prop}
 
 -- how many inputs come before the first that is this bit
 abbrev pub slot : ℕ → List ℕ → ℕ
@@ -32,9 +32,6 @@ pub record Tabulates (inputs : List ℕ) (outputs : ℕ) (e : Expression ℕ) : 
 abbrev pub AreBits : List ℕ → Type 0
 AreBits [] = Unit {0}
 AreBits (b ∷ bs) = (b < 64) × AreBits bs
-
-less_prop : (i n : ℕ) → IsProp (i < n)
-less_prop i n = le_prop
 
 -- this has one proof at most, so a type may carry it
 pub AreBits-prop : (bs : List ℕ) → IsProp (AreBits bs)
