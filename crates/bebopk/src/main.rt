@@ -1,10 +1,11 @@
 //! The program: words of the command line in, a reply and its status out.
 #![tactic(auto)]
 
-ghost use Rattle.std.specs.Prelude.{◌≡◌, ◌⊎◌, ◌≤◌};
+ghost use Rattle.std.specs.Prelude.{◌≡◌, ◌⊎◌, ◌≤◌, ℕ, List, MatchResult};
+ghost use Rattle.cli.specs.Replies.{Replies};
 ghost use Rattle.bebopk.specs.Status.{status_of};
 
-use cli::{LineFault, Reply, answer, no_memory, order};
+use cli::{LineFault, Order, Reply, answer, no_memory, order};
 use std::alloc::{AllocError, Allocator, Global};
 use std::io::{self, ErrorKind, Read, Write};
 use std::process::ExitCode;
@@ -64,16 +65,20 @@ fn refused<R: Print + Eprint>(rt: &R, fault: &LineFault) -> u8
     }
 }
 
-/// Answers the words, with a status of at most 3.
-fn run<R: Files + Print + Eprint + AllocGlobal>(rt: &R, words: &[String]) -> u8
-    ensures { result ≤ 3 }
+/// Answers what the words ask for. A status of at most 1 to an order says what the reply to some text says.
+fn run<R: Files + Print + Eprint + AllocGlobal>(
+    rt: &R,
+    asked: Result<(Order, String), LineFault>,
+) -> u8
+    ensures small { result ≤ 3 }
+    ensures answers { MatchResult asked (λ order. result ≤ 1 → (text bytes : List ℕ) × Replies text order.0 bytes result) (λ fault. (result ≡ status_of fault) ⊎ (result ≡ 3)) }
 {
-    let (asked, path) = match order(rt.alloc(), words) {
+    let (order, path) = match asked {
         Ok(found) => found,
         Err(fault) => return refused(rt, &fault),
     };
     match text_of(rt, path.as_str()) {
-        Ok(text) => written(rt, answer(rt, text.as_slice(), asked)),
+        Ok(text) => written(rt, answer(rt, text.as_slice(), order)),
         Err(error) if error.kind() == ErrorKind::OutOfMemory => said(rt, "no verdict: memory\n", 3),
         Err(_) => said(rt, "refused: file\n", 2),
     }
@@ -81,7 +86,7 @@ fn run<R: Files + Print + Eprint + AllocGlobal>(rt: &R, words: &[String]) -> u8
 
 fn main(rt: HostRuntime) -> ExitCode {
     let status = match words(&rt) {
-        Ok(words) => run(&rt, words.as_slice()),
+        Ok(words) => run(&rt, order(rt.alloc(), words.as_slice())),
         Err(_) => written(&rt, no_memory::<Global>()),
     };
     ExitCode::from(status)
