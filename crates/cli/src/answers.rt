@@ -114,7 +114,8 @@ fn rewriting<R: Alloc>(rt: &R, text: &[u8], rounds: u8) -> Reply<R::A>
 
 /// The reply to a text. Where its status is 0 or 1, the text is that of a checked program. To `Check` the program is then of
 /// the first part of the language, and the reply is `unsafe` with status 1 exactly where some run of one round fails an assert;
-/// to `Sequential` the bytes are the printed form of the program that it is rewritten to.
+/// to `Sequential` the bytes are the printed form of the program that it is rewritten to, and within the limits of texts they
+/// are read back as that program.
 pub fn answer<R: Alloc>(rt: &R, text: &[u8], order: Order) -> Reply<R::A>
     ensures answers { result.status ≤ 1 → Replies text.now order (bytes_of result) result.status }
     ensures status { result.status ≤ 3 }
