@@ -186,6 +186,15 @@ mod tests {
         ];
         assert_eq!(rt; mailbox.history(), history.as_slice());
         assert!(rt; legal(mailbox.history()));
+        let done_of_none = [
+            post(0, 5),
+            post(1, 7),
+            post(0, 6),
+            take(0, 5),
+            take(1, 7),
+            Event::Done { take: 2 },
+        ];
+        assert!(rt; !legal(done_of_none.as_slice()));
         let posted = by_sender(rt.alloc(), mailbox.history(), 0, Side::Posts)?;
         assert_eq!(rt; posted.as_slice(), [5, 6].as_slice());
         let taken = by_sender(rt.alloc(), mailbox.history(), 0, Side::Takes)?;
