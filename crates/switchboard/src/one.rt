@@ -1,5 +1,5 @@
 //! The board behind one lock.
-ghost use Rattle.std.specs.Prelude.{◌≡◌, ◌<◌, ◌≤◌, ◌^◌, MatchResult, IfOk};
+ghost use Rattle.std.specs.Prelude.{◌≡◌, ◌<◌, ◌≤◌, ◌^◌, map, MatchResult, IfOk};
 ghost use Rattle.post_ledger.specs.Orders.{HasJob};
 ghost use Rattle.switchboard.specs.Sights.{opened, fresh_sights};
 ghost use Rattle.switchboard.specs.Promises.{WasSpent, WasPosted, WasRefused, Took, WasDone, MadeAbort, Learned, AreAll, Settles};
@@ -272,5 +272,12 @@ impl<M: Mail, A: Allocator> Board<M, A> for OneLock<M, A> {
 
     fn learn(&self, pass: &mut OnePass<M, M::World, A>, told: OneTold<M, M::World, A>) {
         OneLock::learn(self, pass, told)
+    }
+
+    fn into_ledger(board: Self, passes: Vec<OnePass<M, M::World, A>, A>) -> Ledger<M, A>
+        requires { AreAll board.lock.id board.lock.lanes (map (λ p. p) passes.items) }
+        ensures { Settles M.fits board.lock.lanes (map (λ p. p) passes.items) result.histories.items result.closed }
+    {
+        OneLock::into_ledger(board, passes)
     }
 }
