@@ -1,5 +1,5 @@
 //! The calls of a board.
-ghost use Rattle.std.specs.Prelude.{◌≡◌, ℕ, ◌+◌, ◌^◌, ◌<◌, ◌≤◌, map, IfOk, MatchResult};
+ghost use Rattle.std.specs.Prelude.{◌≡◌, ℕ, ◌+◌, ◌^◌, ◌<◌, ◌≤◌, map, [], IfOk, MatchResult};
 ghost use Rattle.std.specs.Option.{ForSome};
 ghost use Rattle.atomic_table.specs.Seated.{TableId};
 ghost use Rattle.post_ledger.specs.Orders.{HasJob};
@@ -103,7 +103,9 @@ pub trait Board<M: Mail, A: Allocator>: Sized {
         ensures { Learned M.fits (account told) (sight pass.old) (sight pass.new) };
 
     /// What is left of the board, which takes all its passes in the order of their numbers. Takes no memory.
-    fn into_ledger(board: Self, passes: Vec<Self::Pass, A>) -> Ledger<M, A>
-        requires { AreAll (identity board) (mailboxes board) (map sight passes.items) }
-        ensures { Settles M.fits (mailboxes board) (map sight passes.items) result.histories.items result.closed };
+    /// What is left of the board, which takes all its passes out of the list, in the order of their numbers. Takes no memory.
+    fn into_ledger(self, passes: &mut Vec<Self::Pass, A>) -> Ledger<M, A>
+        requires { AreAll (identity self) (mailboxes self) (map sight passes.old.items) }
+        ensures empty { passes.new.items ≡ [] }
+        ensures settles { Settles M.fits (mailboxes self) (map sight passes.old.items) result.histories.items result.closed };
 }

@@ -5,9 +5,9 @@ use Rattle.switchboard.proofs.Opening.{map_same}
 use Rattle.switchboard.proofs.one.OneLockBoard.into_ledger.Goals as goal
 
 pub into_ledger-requires : goal.into_ledger-requires
-into_ledger-requires g c = subst (AreAll c.args.board.lock.id c.args.board.lock.lanes) (map_same c.args.passes.items) c.requires
+into_ledger-requires g c = subst (AreAll c.args.self.lock.id c.args.self.lock.lanes) (map_same c.args.passes.now.items) c.requires
 
-pub returns : goal.returns
-returns g c =
-    subst (λ l. Settles g.M.Mail.fits c.args.board.lock.lanes l c.into_ledger.result.histories.items c.into_ledger.result.closed)
-    (sym (map_same c.args.passes.items)) c.into_ledger.ensures
+pub returns-clause-settles : goal.returns-clause-settles
+returns-clause-settles g c =
+    subst (λ l. Settles g.M.Mail.fits c.args.self.lock.lanes l c.into_ledger.result.histories.items c.into_ledger.result.closed)
+    (sym (map_same c.args.passes.now.items)) c.into_ledger.ensures.settles
