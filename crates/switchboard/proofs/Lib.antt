@@ -5,3 +5,4 @@ pub mod Settling
 pub mod Opening
 pub mod Jobs
 pub mod Staying
+pub mod Sending

@@ -1,20 +1,18 @@
 -- What a pass that knows the close, or an abort, finds later.
-use Rattle.std.proofs.Common.{◌≡◌, ◌∙◌, ℕ, zero, suc, ◌+◌, List, [], ◌∷◌, ◌++◌, Some, None, length, refl, sym, ap, subst, arith, Ok, Err, length-append}
+use Rattle.std.proofs.Common.{◌≡◌, ◌∙◌, ℕ, ◌++◌, Some, None, length, sym, ap, subst, arith, Ok, Err}
 use Rattle.std.specs.Prelude.{Result, Option, IsSome}
 use Rattle.std.proofs.lemmas.List.{append-nil, length_push}
 use Rattle.ticket_lock.specs.declared.lane.Spent.{Spent}
-use Rattle.ticket_lock.specs.History.{StartsWith}
 use Rattle.ticket_lock.specs.Facts.{StartsWith-length}
 use Rattle.post_ledger.specs.declared.entry.Entry.{Entry}
 use Rattle.post_ledger.specs.Orders.{IsLawful, IsClosed}
 use Rattle.post_ledger.proofs.Orders.{nothing_follows}
-use Rattle.switchboard.specs.declared.calls.Abort.{Abort}
 use Rattle.switchboard.specs.declared.calls.PostFault.{PostFault}
 use Rattle.switchboard.specs.declared.calls.PostFault.TheVariants as fault
 use Rattle.switchboard.specs.declared.calls.Taken as answers
 use Rattle.switchboard.specs.declared.calls.Taken.TheVariants as answer
-use Rattle.switchboard.specs.Sights.{State, Sight, Before, IsSound}
-use Rattle.switchboard.specs.Promises.{GoesOn, MadeNone, Added, WasPosted, WasRefused, Took, SaysClosed, SaysStopped, IsStopped}
+use Rattle.switchboard.specs.Sights.{Sight, IsSound}
+use Rattle.switchboard.specs.Promises.{GoesOn, Added, WasPosted, WasRefused, Took, SaysClosed, SaysStopped, IsStopped}
 use Rattle.switchboard.proofs.Visits.{some_later}
 
 some_not_none : {X : Type 0} (o : Option X) → IsSome o → o ≡ None → ⊥

@@ -1,5 +1,5 @@
 //! The board behind one lock.
-ghost use Rattle.std.specs.Prelude.{◌≡◌, ◌<◌, ◌≤◌, ◌^◌, map, MatchResult, IfOk, [], vec_len};
+ghost use Rattle.std.specs.Prelude.{◌≡◌, ◌<◌, ◌≤◌, ◌^◌, map, MatchResult, IfOk, []};
 ghost use Rattle.post_ledger.specs.Orders.{HasJob};
 ghost use Rattle.switchboard.specs.Sights.{opened, fresh_sights};
 ghost use Rattle.switchboard.specs.Promises.{WasSpent, WasPosted, WasRefused, Took, WasDone, MadeAbort, Learned, AreAll, Settles};
@@ -21,9 +21,7 @@ use ticket_lock::{MOST_TICKETS, Spent, TicketLock};
 #[derive(Drop)]
 pub struct OneLock<M: Mail, A: Allocator> {
     lock: TicketLock<Book<M, M::World, A>, A>,
-    /// An empty list, which takes the passes in at the end.
-    room: Vec<OnePass<M, A>, A>,
-    ghost is_empty: { vec_len room ≡ 0 },
+    heap: A,
 }
 
 impl<M: Mail, A: Allocator> OnePass<M, A> {
@@ -63,7 +61,7 @@ impl<M: Mail, A: Allocator> OneLock<M, A> {
     {
         let book = Book::open(alloc.clone()?, world, boxes, to, first)?;
         let mut passes = Vec::with_capacity(alloc.clone()?, usize::from(boxes))?;
-        let own = alloc.clone()?;
+        let heap = alloc.clone()?;
         let Ok((lock, lanes)) = TicketLock::with_budget(alloc, book, boxes, budget) else {
             return Err(AllocError);
         };
@@ -75,8 +73,7 @@ impl<M: Mail, A: Allocator> OneLock<M, A> {
                 kept: true,
             });
         }
-        let room = Vec::new(own);
-        Ok((OneLock { lock, room }, passes))
+        Ok((OneLock { lock, heap }, passes))
     }
 
     fn post<R: Wait>(
@@ -179,8 +176,8 @@ impl<M: Mail, A: Allocator> OneLock<M, A> {
         ensures empty { passes.new.items ≡ [] }
         ensures settles { Settles M.fits self.lock.lanes passes.old.items result.histories.items result.closed }
     {
-        let OneLock { lock, room } = self;
-        let all = mem::replace(passes, room);
+        let OneLock { lock, heap } = self;
+        let all = mem::replace(passes, Vec::new(heap));
         let book = lock.close(Lanes {
             passes: all.into_iter(),
         });
