@@ -140,6 +140,7 @@ mod tests {
     use super::*;
     use crate::legality::legal;
     use crate::side::{Side, by_sender};
+    use scarce::Scarce;
     use std::test::Fail;
 
     #[test]
@@ -200,6 +201,35 @@ mod tests {
         let taken = by_sender(rt.alloc(), mailbox.history(), 0, Side::Takes)?;
         assert_eq!(rt; taken.as_slice(), [5].as_slice());
         Ok(())
+    }
+
+    #[test]
+    fn a_refused_post_changes_nothing(rt: HostRuntime) -> Result<(), Fail> {
+        for nth in 1..20u64 {
+            let scarce = Scarce::refusing(rt.alloc(), nth);
+            let mut mailbox = Mailbox::new(&scarce);
+            for n in 0..10u8 {
+                if let Err(back) = mailbox.post(0, n) {
+                    assert_eq!(rt; back, n);
+                    assert_eq!(rt; mailbox.history().len(), usize::from(n));
+                    assert_eq!(rt; mailbox.post(0, back), Ok(()));
+                }
+            }
+            let asked = scarce.asked();
+            for n in 0..10u8 {
+                assert_eq!(rt; mailbox.take(), Some((u64::from(n), n)));
+            }
+            assert_eq!(rt; scarce.asked(), asked);
+            let few = Scarce::refusing(rt.alloc(), nth);
+            match by_sender(&few, mailbox.history(), 0, Side::Takes) {
+                Ok(taken) => assert_eq!(rt; (taken.len(), few.refused()), (10, false)),
+                Err(_) => assert!(rt; few.refused()),
+            }
+            if !scarce.refused() && !few.refused() {
+                return Ok(());
+            }
+        }
+        panic!(&rt; "refused without end")
     }
 
     #[test]
