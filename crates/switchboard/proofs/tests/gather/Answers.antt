@@ -1,5 +1,5 @@
 -- The pass comes behind those of the lower numbers.
-use Rattle.std.proofs.Common.{◌≡◌, ◌∙◌, ℕ, ◌+◌, List, [], ◌∷◌, ◌++◌, cond, Ok, Err, length, refl, arith}
+use Rattle.std.proofs.Common.{◌≡◌, ◌∙◌, ℕ, ◌+◌, List, [], ◌∷◌, ◌++◌, cond, Ok, Err, length, arith}
 use Rattle.std.specs.Prelude.{Result, IfOk, is_ok}
 use Rattle.atomic_table.specs.Seated.{TableId}
 use Rattle.switchboard.specs.Sights.{Sight}
