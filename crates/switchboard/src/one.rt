@@ -21,6 +21,7 @@ use ticket_lock::{MOST_TICKETS, Spent, TicketLock};
 #[derive(Drop)]
 pub struct OneLock<M: Mail, A: Allocator> {
     lock: TicketLock<Book<M, M::World, A>, A>,
+    /// For the empty list that is left in the place of the passes.
     heap: A,
 }
 
