@@ -1,3 +1,4 @@
 pub mod Histories
 pub mod Keeping
 pub mod Orders
+mod Closing

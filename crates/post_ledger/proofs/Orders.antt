@@ -79,7 +79,7 @@ module _ {M : Type 0} where
       let more = length-le_from_distinct_below (dones h ++ t ∷ []) (length (takes h)) (IsDistinct-push nat_eq_equiv (dones h) t s.once (not_found (dones h) t fresh)) (more_earlier (dones h) (length (takes h)) t s.earlier old) in
       omega (arith, more, length_push (dones h) t)
 
-  sizes_push : (h : List (Event M)) (e : Event M) → Sizes h → MayFollow h e → Sizes (h ++ e ∷ [])
+  pub sizes_push : (h : List (Event M)) (e : Event M) → Sizes h → MayFollow h e → Sizes (h ++ e ∷ [])
   sizes_push h (Post s m) z may = record {
     fewer = omega (arith, ap length (takes-append h (Post s m ∷ [])), ap length (append-nil (takes h)), ap length (posts-append h (Post s m ∷ [])), length_push (posts h) (s, m), z.fewer);
     once = subst (IsDistinct nat_eq) (sym (dones-append h (Post s m ∷ []) ∙ append-nil (dones h))) z.once;
@@ -96,7 +96,7 @@ module _ {M : Type 0} where
     earlier = λ t found. (let old = more_earlier (dones h) (length (takes h)) q z.earlier may.0 t (subst (λ l. list_any (nat_eq t) l ≡ true) (dones-append h (Done q ∷ [])) found) in omega (arith, old, ap length (takes-append h (Done q ∷ [])), ap length (append-nil (takes h))));
   }
 
-  sizes_to : (h : List (Event M)) → IsLegal h → (n : ℕ) → n ≤ length h → Sizes (take n h)
+  pub sizes_to : (h : List (Event M)) → IsLegal h → (n : ℕ) → n ≤ length h → Sizes (take n h)
   sizes_to h legal zero le = record { fewer = omega arith; once = unfold IsDistinct in tt; earlier = λ t found. cc }
   sizes_to h legal (suc n) le =
       let at = element_at h n (omega arith) in

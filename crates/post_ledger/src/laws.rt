@@ -1,10 +1,38 @@
 //! Laws on orders of a board.
-ghost use Rattle.std.specs.Prelude.{◌≡◌, ◌↔◌, ℕ, List, [], ◌∷◌, ◌++◌};
+ghost use Rattle.std.specs.Prelude.{◌≡◌, ◌↔◌, ◌<◌, ℕ, List, [], ◌∷◌, ◌++◌, length, take, nat_eq, Contains};
+ghost use Rattle.std.specs.List.{IsDistinct};
+ghost use Rattle.post_ledger.specs.declared.event.Event.{Event};
 ghost use Rattle.post_ledger.specs.declared.event.Event.TheVariants.{Post, Take, Done};
 ghost use Rattle.post_ledger.specs.declared.entry.Entry.{Entry};
 ghost use Rattle.post_ledger.specs.declared.entry.Entry.TheVariants.{Posted, Taken, Completed};
-ghost use Rattle.post_ledger.specs.Orders.{IsLawful, IsClosed, part, own, posted, completed};
+ghost use Rattle.post_ledger.specs.History.{posts, takes, dones, IsLegal};
+ghost use Rattle.post_ledger.specs.Sides.{sent, taken};
+ghost use Rattle.post_ledger.specs.Orders.{IsLawful, IsCompleted, IsClosed, HasJob, part, own, posted, completed};
 ghost use Rattle.post_ledger.specs.Row.{row, beginning};
+
+/// Messages are taken in the order in which they were posted: the Takes of a legal history are the first of its Posts.
+pub fn takes_are_the_first_posts<M>()
+    ensures { (h : List (Event M)) → IsLegal h → takes h ≡ take (length (takes h)) (posts h) }
+{}
+
+/// In a legal history with as many Posts as Takes as Dones, what was taken is what was posted, in order, and of each sender what
+/// was taken is what it sent; each Take is completed, and none twice.
+pub fn what_was_sent_was_taken<M>()
+    ensures all { (h : List (Event M)) → IsLegal h → IsCompleted h → takes h ≡ posts h }
+    ensures each { (h : List (Event M)) (s : ℕ) → IsLegal h → IsCompleted h → taken s h ≡ sent s h }
+    ensures done { (h : List (Event M)) (t : ℕ) → IsLegal h → IsCompleted h → t < length (takes h) → Contains (dones h) t }
+    ensures once { (h : List (Event M)) → IsLegal h → IsDistinct nat_eq (dones h) }
+{}
+
+/// The same of a board: in each mailbox of a lawful order that is closed, what was taken of each sender is what it sent.
+pub fn what_was_sent_on_a_board_was_taken<M>()
+    ensures { (boxes : ℕ) (order : List (Entry M)) (q s : ℕ) → IsLawful boxes order → IsClosed order → taken s (part q order) ≡ sent s (part q order) }
+{}
+
+/// Nobody has a job at the close.
+pub fn nobody_has_a_job_at_the_close<M>()
+    ensures { (boxes : ℕ) (order : List (Entry M)) (p t : ℕ) → IsLawful boxes order → IsClosed order → HasJob p t order → ⊥ }
+{}
 
 /// The close by counting: a lawful order is closed exactly where it has as many Dones as Posts.
 pub fn closed_by_counting<M>()

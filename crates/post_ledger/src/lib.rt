@@ -12,7 +12,11 @@ mod side;
 
 pub use entry::Entry;
 pub use event::Event;
-pub use laws::{a_run_of_two_mailboxes, closed_by_counting, nothing_follows_the_close};
+pub use laws::{
+    a_run_of_two_mailboxes, closed_by_counting, nobody_has_a_job_at_the_close,
+    nothing_follows_the_close, takes_are_the_first_posts, what_was_sent_on_a_board_was_taken,
+    what_was_sent_was_taken,
+};
 pub use ledger::Ledger;
 pub use legality::legal;
 pub use mailbox::Mailbox;

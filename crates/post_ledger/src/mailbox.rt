@@ -140,6 +140,7 @@ mod tests {
     use super::*;
     use crate::legality::legal;
     use crate::side::{Side, by_sender};
+    use scarce::Scarce;
     use std::test::Fail;
 
     #[test]
@@ -186,11 +187,49 @@ mod tests {
         ];
         assert_eq!(rt; mailbox.history(), history.as_slice());
         assert!(rt; legal(mailbox.history()));
+        let done_of_none = [
+            post(0, 5),
+            post(1, 7),
+            post(0, 6),
+            take(0, 5),
+            take(1, 7),
+            Event::Done { take: 2 },
+        ];
+        assert!(rt; !legal(done_of_none.as_slice()));
         let posted = by_sender(rt.alloc(), mailbox.history(), 0, Side::Posts)?;
         assert_eq!(rt; posted.as_slice(), [5, 6].as_slice());
         let taken = by_sender(rt.alloc(), mailbox.history(), 0, Side::Takes)?;
         assert_eq!(rt; taken.as_slice(), [5].as_slice());
         Ok(())
+    }
+
+    #[test]
+    fn a_refused_post_changes_nothing(rt: HostRuntime) -> Result<(), Fail> {
+        for nth in 1..20u64 {
+            let scarce = Scarce::refusing(rt.alloc(), nth);
+            let mut mailbox = Mailbox::new(&scarce);
+            for n in 0..10u8 {
+                if let Err(back) = mailbox.post(0, n) {
+                    assert_eq!(rt; back, n);
+                    assert_eq!(rt; mailbox.history().len(), usize::from(n));
+                    assert_eq!(rt; mailbox.post(0, back), Ok(()));
+                }
+            }
+            let asked = scarce.asked();
+            for n in 0..10u8 {
+                assert_eq!(rt; mailbox.take(), Some((u64::from(n), n)));
+            }
+            assert_eq!(rt; scarce.asked(), asked);
+            let few = Scarce::refusing(rt.alloc(), nth);
+            match by_sender(&few, mailbox.history(), 0, Side::Takes) {
+                Ok(taken) => assert_eq!(rt; (taken.len(), few.refused()), (10, false)),
+                Err(_) => assert!(rt; few.refused()),
+            }
+            if !scarce.refused() && !few.refused() {
+                return Ok(());
+            }
+        }
+        panic!(&rt; "refused without end")
     }
 
     #[test]

@@ -1,6 +1,7 @@
 -- Which jobs a pass has after a call, for callers of a board.
-use Rattle.std.proofs.Common.{◌≡◌, inl, inr, ℕ, zero, suc, ◌+◌, List, [], ◌∷◌, ◌++◌, Some, length, slice_get, Contains, refl, sym, ap, ◌∙◌, subst, arith, length-append}
+use Rattle.std.proofs.Common.{◌≡◌, ◌≢◌, inl, inr, ℕ, zero, suc, ◌+◌, List, [], ◌∷◌, ◌++◌, Some, length, slice_get, Contains, refl, sym, ap, ◌∙◌, subst, arith, length-append}
 use Rattle.std.proofs.lemmas.List.{append-nil, length_push, take-append-le}
+use Rattle.std.proofs.lemmas.List.Elements.{Contains-push_cases}
 use Rattle.std.proofs.lemmas.Option.{slice_get_within}
 use Rattle.std.proofs.lemmas.Bool.{cases_eq}
 use Rattle.std.proofs.lemmas.Map.Views.{list_any-from_Contains}
@@ -8,17 +9,18 @@ use Rattle.std.specs.Cmp.{nat_eq_equiv}
 use Rattle.post_ledger.specs.declared.event.Event.{Event}
 use Rattle.post_ledger.specs.declared.event.Event.TheVariants as event
 use Rattle.post_ledger.specs.declared.entry.Entry.{Entry}
-use Rattle.post_ledger.specs.declared.entry.Entry.TheVariants.{Posted, Taken}
+use Rattle.post_ledger.specs.declared.entry.Entry.TheVariants.{Posted, Taken, Completed}
 use Rattle.post_ledger.specs.History.{takes, dones, IsLegal, MayFollow}
 use Rattle.post_ledger.specs.Orders.{part, own, HasJob}
-use Rattle.post_ledger.proofs.Histories.{takes-append, dones-append}
+use Rattle.post_ledger.proofs.Histories.{takes-append, dones-append, at_push_cases}
 use Rattle.post_ledger.proofs.Orders.{part-append, part_here, part_else, sizes_of}
+use Rattle.atomic_table.specs.Seated.{TableId}
 use Rattle.switchboard.specs.Sights.{Sight}
 use Rattle.std.proofs.Common.{Ok, Err, MatchResult}
 use Rattle.std.specs.Prelude.{Result}
 use Rattle.switchboard.specs.declared.calls.PostFault.{PostFault}
 use Rattle.switchboard.specs.declared.calls.PostFault.TheVariants as fault
-use Rattle.switchboard.specs.Promises.{MadeNone, Added, TookMessage, WasPosted, WasRefused}
+use Rattle.switchboard.specs.Promises.{AreFirst, MadeNone, Added, TookMessage, WasPosted, WasRefused, WasDone}
 use Rattle.switchboard.proofs.Visits.{job_stays, takes_own, dones_own}
 
 get_front : {X : Type 0} (a b : List X) (i : ℕ) (x : X) → slice_get a i ≡ Some x → slice_get (a ++ b) i ≡ Some x
@@ -79,6 +81,32 @@ module _ {M W : Type 0} (fits : W → ℕ → M → Type 0) where
         (λ there. let early = z.earlier job (list_any-from_Contains nat_eq_equiv job (dones (part n front)) (subst (λ l. Contains l job) names there)) in omega (arith, early, k.number)),
       )
 
+  -- the job of a message taken is none that the pass had
+  pub job_other : (s t : Sight M W) (job j : ℕ) (m : M) → TookMessage fits job m s t → HasJob s.number j s.seen.order → j ≢ job
+  job_other s t job j m k has same =
+      let n : ℕ = s.number in
+      let rest = k.added.found.0 in
+      let front : List (Entry M) = k.added.front in
+      let count : length (takes (part n front)) ≡ length (takes (part n s.seen.order)) + length (takes (part n rest)) = ap (λ l. length (takes (part n l))) k.added.found.1 ∙ (ap (λ l. length (takes l)) (part-append n s.seen.order rest) ∙ (ap length (takes-append (part n s.seen.order) (part n rest)) ∙ length-append (takes (part n s.seen.order)) (takes (part n rest)))) in
+      omega (arith, count, k.number, has.0, same)
+
+  -- a take leaves the jobs
+  pub take_keeps : (s t : Sight M W) (job j : ℕ) (m : M) → TookMessage fits job m s t → HasJob s.number j s.seen.order → HasJob t.number j t.seen.order
+  take_keeps s t job j m k has = kept_added s t j (Taken s.number k.sender m) k.added (no_done_take s.number s.number k.sender m) has
+
+  -- a completion leaves every other job
+  pub done_keeps : (s t : Sight M W) (job j : ℕ) → WasDone fits job s t → j ≢ job → HasJob s.number j s.seen.order → HasJob t.number j t.seen.order
+  done_keeps s t job j a other has =
+      let n : ℕ = s.number in
+      let e : Entry M = Completed n job in
+      let list : List (Entry M) = own n s.seen.order in
+      let count = ap length (takes_own n t.seen.order) ∙ (ap (λ l. length (takes (part n l))) a.own ∙ takes_more n list e) in
+      let names : dones (part n t.seen.order) ≡ dones (part n s.seen.order) ++ job ∷ [] = dones_own n t.seen.order ∙ (ap (λ l. dones (part n l)) a.own ∙ (dones_more n list e ∙ (ap (λ l. dones (part n list) ++ dones l) (part_here n e [] refl) ∙ ap (λ l. l ++ job ∷ []) (sym (dones_own n s.seen.order))))) in
+      subst (λ i. HasJob i j t.seen.order) (sym a.goes.number) (
+        omega (arith, count, ap length (takes_own n s.seen.order), has.0),
+        (λ there. elim (Contains-push_cases (dones (part n s.seen.order)) job j (subst (λ l. Contains l j) names there)) [ inl old ↦ has.1 old | inr same ↦ other (sym same) ]),
+      )
+
   -- a post, made or refused, leaves the jobs
   pub post_keeps : (s t : Sight M W) (job to : ℕ) (m : M) (r : Result (Unit {0}) (PostFault M)) → MatchResult r (λ _. WasPosted fits job to m s t) (λ f. WasRefused fits m f s t) → (j : ℕ) → HasJob s.number j s.seen.order → HasJob t.number j t.seen.order
   post_keeps s t job to m (Ok u) p j has = kept_added s t j (Posted to s.number m job) p.0 (no_done_post s.number to s.number m job) has
@@ -86,12 +114,21 @@ module _ {M W : Type 0} (fits : W → ℕ → M → Type 0) where
   post_keeps s t job to m (Err (fault.Memory back)) p j has = kept_none s t j p.1.0 has
   post_keeps s t job to m (Err (fault.Aborted back)) p j has = kept_none s t j p.1.0 has
 
-  pub post_same : (s t : Sight M W) (job to : ℕ) (m : M) (r : Result (Unit {0}) (PostFault M)) → MatchResult r (λ _. WasPosted fits job to m s t) (λ f. WasRefused fits m f s t) → (t.board ≡ s.board) × (t.seen.boxes ≡ s.seen.boxes)
-  post_same s t job to m (Ok u) p = (p.0.goes.board, p.0.goes.before.boxes)
-  post_same s t job to m (Err (fault.Spent back)) p = (ap (λ (z : Sight M W). z.board) p.1.1, ap (λ (z : Sight M W). z.seen.boxes) p.1.1)
-  post_same s t job to m (Err (fault.Memory back)) p = (p.1.0.goes.board, p.1.0.goes.before.boxes)
-  post_same s t job to m (Err (fault.Aborted back)) p = (p.1.0.goes.board, p.1.0.goes.before.boxes)
+  pub post_same : (s t : Sight M W) (job to : ℕ) (m : M) (r : Result (Unit {0}) (PostFault M)) → MatchResult r (λ _. WasPosted fits job to m s t) (λ f. WasRefused fits m f s t) → (t.board ≡ s.board) × (t.number ≡ s.number) × (t.seen.boxes ≡ s.seen.boxes)
+  post_same s t job to m (Ok u) p = (p.0.goes.board, p.0.goes.number, p.0.goes.before.boxes)
+  post_same s t job to m (Err (fault.Spent back)) p = (ap (λ (z : Sight M W). z.board) p.1.1, ap (λ (z : Sight M W). z.number) p.1.1, ap (λ (z : Sight M W). z.seen.boxes) p.1.1)
+  post_same s t job to m (Err (fault.Memory back)) p = (p.1.0.goes.board, p.1.0.goes.number, p.1.0.goes.before.boxes)
+  post_same s t job to m (Err (fault.Aborted back)) p = (p.1.0.goes.board, p.1.0.goes.number, p.1.0.goes.before.boxes)
 
 -- what was given is that value
 pub given : {X : Type 0} (x y : X) → Some x ≡ Some y → x ≡ y
 given x y e = cc
+
+module _ {M W : Type 0} where
+  -- the pass of the next number behind those of the lower numbers
+  pub first_more : (id : TableId) (boxes : ℕ) (passes longer : List (Sight M W)) (p : Sight M W) → AreFirst id boxes passes → longer ≡ passes ++ p ∷ [] → p.board ≡ id → p.number ≡ length passes → p.seen.boxes ≡ boxes → AreFirst id boxes longer
+  first_more id boxes passes longer p first more board number count j q at =
+      elim (at_push_cases passes p q j (subst (λ l. slice_get l j ≡ Some q) more at)) [
+        | inl old ↦ first j q old
+        | inr last ↦ subst (λ (z : Sight M W). (z.board ≡ id) × (z.number ≡ j) × (z.seen.boxes ≡ boxes)) last.1 (board, number ∙ sym last.0, count)
+      ]

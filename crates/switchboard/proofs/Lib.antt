@@ -4,3 +4,5 @@ pub mod Learning
 pub mod Settling
 pub mod Opening
 pub mod Jobs
+pub mod Staying
+pub mod Sending

@@ -20,9 +20,35 @@ module _ {M W : Type 0} where
   abbrev pub WasSpent : Sight M W → Sight M W → Type 0
   WasSpent s t = (s.calls ≡ 0) × (t ≡ s)
 
+  -- the first passes of a board with so many mailboxes, in the order of their numbers
+  abbrev pub AreFirst : TableId → ℕ → List (Sight M W) → Type 0
+  AreFirst id boxes passes = (j : ℕ) (p : Sight M W) → slice_get passes j ≡ Some p → (p.board ≡ id) × (p.number ≡ j) × (p.seen.boxes ≡ boxes)
+
   -- all passes of a board, in the order of their numbers
   abbrev pub AreAll : TableId → ℕ → List (Sight M W) → Type 0
-  AreAll id boxes passes = (length passes ≡ boxes) × ((j : ℕ) (p : Sight M W) → slice_get passes j ≡ Some p → (p.board ≡ id) × (p.number ≡ j) × (p.seen.boxes ≡ boxes))
+  AreAll id boxes passes = (length passes ≡ boxes) × AreFirst id boxes passes
+
+-- a take says that the board is closed, or that the calls are used up
+abbrev pub SaysClosed : {M : Type 0} → Result (answers.Taken M) Spent → Type 0
+SaysClosed (Err e) = Unit {0}
+SaysClosed (Ok answer.Closed) = Unit {0}
+SaysClosed (Ok answer.Aborted) = ⊥
+SaysClosed (Ok answer.Empty) = ⊥
+SaysClosed (Ok (answer.Message job m)) = ⊥
+
+-- a take says that the board is closed or aborted, or that the calls are used up
+abbrev pub SaysStopped : {M : Type 0} → Result (answers.Taken M) Spent → Type 0
+SaysStopped (Err e) = Unit {0}
+SaysStopped (Ok answer.Closed) = Unit {0}
+SaysStopped (Ok answer.Aborted) = Unit {0}
+SaysStopped (Ok answer.Empty) = ⊥
+SaysStopped (Ok (answer.Message job m)) = ⊥
+
+-- a post is refused since the board was aborted, or since the calls are used up
+abbrev pub IsStopped : {M : Type 0} → PostFault M → Type 0
+IsStopped (fault.Spent m) = Unit {0}
+IsStopped (fault.Aborted m) = Unit {0}
+IsStopped (fault.Memory m) = ⊥
 
 module _ {M W : Type 0} (fits : W → ℕ → M → Type 0) where
   -- What each call keeps: the pass stays the same one, its order begins with all that it had seen, which is sound, and who made an abort

@@ -1,13 +1,14 @@
 //! The calls of a board.
-ghost use Rattle.std.specs.Prelude.{◌≡◌, ℕ, ◌+◌, ◌^◌, ◌<◌, ◌≤◌, map, IfOk, MatchResult};
+ghost use Rattle.std.specs.Prelude.{◌≡◌, ℕ, ◌+◌, ◌^◌, ◌<◌, ◌≤◌, map, [], IfOk, MatchResult};
 ghost use Rattle.std.specs.Option.{ForSome};
 ghost use Rattle.atomic_table.specs.Seated.{TableId};
 ghost use Rattle.post_ledger.specs.Orders.{HasJob};
 ghost use Rattle.switchboard.specs.Sights.{Sight, Account, opened, fresh_sights};
-ghost use Rattle.switchboard.specs.Promises.{WasSpent, WasPosted, WasRefused, Took, WasDone, MadeAbort, Learned};
+ghost use Rattle.switchboard.specs.Promises.{WasSpent, WasPosted, WasRefused, Took, WasDone, MadeAbort, Learned, AreAll, Settles};
 
 use crate::calls::{Cause, Job, PostFault, Taken};
 use crate::mail::Mail;
+use post_ledger::Ledger;
 use std::alloc::{AllocError, Allocator};
 use std::sync::Wait;
 use ticket_lock::Spent;
@@ -100,4 +101,11 @@ pub trait Board<M: Mail, A: Allocator>: Sized {
     fn learn(&self, pass: &mut Self::Pass, told: Self::Told)
         requires { ((sight pass.old).board ≡ identity self.now) × ((account told).board ≡ identity self.now) }
         ensures { Learned M.fits (account told) (sight pass.old) (sight pass.new) };
+
+    /// What is left of the board, which takes all its passes in the order of their numbers. Takes no memory.
+    /// What is left of the board, which takes all its passes out of the list, in the order of their numbers. Takes no memory.
+    fn into_ledger(self, passes: &mut Vec<Self::Pass, A>) -> Ledger<M, A>
+        requires { AreAll (identity self) (mailboxes self) (map sight passes.old.items) }
+        ensures empty { passes.new.items ≡ [] }
+        ensures settles { Settles M.fits (mailboxes self) (map sight passes.old.items) result.histories.items result.closed };
 }

@@ -5,15 +5,21 @@ mod board;
 mod book;
 mod calls;
 mod lanes;
+mod laws;
 mod mail;
+#[cfg(test)]
+mod many;
 mod one;
 mod pass;
+#[cfg(test)]
+mod refusals;
 #[cfg(test)]
 mod tests;
 
 pub use board::Board;
 pub use book::Book;
 pub use calls::{Abort, Cause, Job, PostFault, Taken};
+pub use laws::{an_abort_stays, nothing_is_posted_after_the_close, the_close_stays};
 pub use mail::Mail;
 pub use one::OneLock;
 pub use pass::{OnePass, OneTold};

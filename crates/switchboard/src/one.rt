@@ -1,5 +1,5 @@
 //! The board behind one lock.
-ghost use Rattle.std.specs.Prelude.{◌≡◌, ◌<◌, ◌≤◌, ◌^◌, MatchResult, IfOk};
+ghost use Rattle.std.specs.Prelude.{◌≡◌, ◌<◌, ◌≤◌, ◌^◌, map, MatchResult, IfOk, []};
 ghost use Rattle.post_ledger.specs.Orders.{HasJob};
 ghost use Rattle.switchboard.specs.Sights.{opened, fresh_sights};
 ghost use Rattle.switchboard.specs.Promises.{WasSpent, WasPosted, WasRefused, Took, WasDone, MadeAbort, Learned, AreAll, Settles};
@@ -12,6 +12,7 @@ use crate::mail::Mail;
 use crate::pass::{OnePass, OneTold};
 use post_ledger::Ledger;
 use std::alloc::{AllocError, Allocator};
+use std::mem;
 use std::snapshot::Snapshot;
 use std::sync::Wait;
 use ticket_lock::{MOST_TICKETS, Spent, TicketLock};
@@ -20,9 +21,11 @@ use ticket_lock::{MOST_TICKETS, Spent, TicketLock};
 #[derive(Drop)]
 pub struct OneLock<M: Mail, A: Allocator> {
     lock: TicketLock<Book<M, M::World, A>, A>,
+    /// For the empty list that is left in the place of the passes.
+    heap: A,
 }
 
-impl<M: Mail<World = W>, W, A: Allocator> OnePass<M, W, A> {
+impl<M: Mail, A: Allocator> OnePass<M, A> {
     // How many calls it has left.
     fn calls(&self) -> u64
         ensures { result ≡ self.now.calls }
@@ -49,7 +52,7 @@ impl<M: Mail, A: Allocator> OneLock<M, A> {
         to: u8,
         first: M,
         budget: u64,
-    ) -> Result<(Self, Vec<OnePass<M, M::World, A>, A>), AllocError>
+    ) -> Result<(Self, Vec<OnePass<M, A>, A>), AllocError>
     where
         A: Clone,
         requires boxes { (to < boxes) × (boxes ≤ 64) }
@@ -59,6 +62,7 @@ impl<M: Mail, A: Allocator> OneLock<M, A> {
     {
         let book = Book::open(alloc.clone()?, world, boxes, to, first)?;
         let mut passes = Vec::with_capacity(alloc.clone()?, usize::from(boxes))?;
+        let heap = alloc.clone()?;
         let Ok((lock, lanes)) = TicketLock::with_budget(alloc, book, boxes, budget) else {
             return Err(AllocError);
         };
@@ -70,13 +74,13 @@ impl<M: Mail, A: Allocator> OneLock<M, A> {
                 kept: true,
             });
         }
-        Ok((OneLock { lock }, passes))
+        Ok((OneLock { lock, heap }, passes))
     }
 
     fn post<R: Wait>(
         &self,
         rt: &R,
-        pass: &mut OnePass<M, M::World, A>,
+        pass: &mut OnePass<M, A>,
         job: &Job,
         to: u8,
         message: M,
@@ -98,7 +102,7 @@ impl<M: Mail, A: Allocator> OneLock<M, A> {
         answer
     }
 
-    fn take<R: Wait>(&self, rt: &R, pass: &mut OnePass<M, M::World, A>) -> Result<Taken<M>, Spent>
+    fn take<R: Wait>(&self, rt: &R, pass: &mut OnePass<M, A>) -> Result<Taken<M>, Spent>
         requires { pass.old.board ≡ self.now.lock.id }
         ensures { Took M.fits result pass.old pass.new }
     {
@@ -114,12 +118,7 @@ impl<M: Mail, A: Allocator> OneLock<M, A> {
         Ok(answer)
     }
 
-    fn done<R: Wait>(
-        &self,
-        rt: &R,
-        pass: &mut OnePass<M, M::World, A>,
-        job: Job,
-    ) -> Result<(), (Job, Spent)>
+    fn done<R: Wait>(&self, rt: &R, pass: &mut OnePass<M, A>, job: Job) -> Result<(), (Job, Spent)>
         requires board { pass.old.board ≡ self.now.lock.id }
         requires job { HasJob pass.old.number job pass.old.seen.order }
         ensures { MatchResult result (λ _. WasDone M.fits job pass.old pass.new) (λ e. (e.0 ≡ job) × WasSpent pass.old pass.new) }
@@ -136,13 +135,7 @@ impl<M: Mail, A: Allocator> OneLock<M, A> {
         Ok(())
     }
 
-    fn abort<R: Wait>(
-        &self,
-        rt: &R,
-        pass: &mut OnePass<M, M::World, A>,
-        job: Option<Job>,
-        cause: Cause,
-    )
+    fn abort<R: Wait>(&self, rt: &R, pass: &mut OnePass<M, A>, job: Option<Job>, cause: Cause)
         requires { pass.old.board ≡ self.now.lock.id }
         ensures { MadeAbort M.fits (record { by = pass.old.number; cause = cause }) pass.old pass.new }
     {
@@ -161,7 +154,7 @@ impl<M: Mail, A: Allocator> OneLock<M, A> {
         self.lock.leave(&mut pass.lane, guard);
     }
 
-    fn tell(&self, pass: &mut OnePass<M, M::World, A>) -> OneTold<M, M::World, A>
+    fn tell(&self, pass: &mut OnePass<M, A>) -> OneTold<M, A>
         requires { pass.old.board ≡ self.now.lock.id }
         ensures same { pass.new ≡ pass.old }
         ensures told { result ≡ record { board = pass.old.board; order = pass.old.seen.order; aborted = pass.old.seen.aborted } }
@@ -171,7 +164,7 @@ impl<M: Mail, A: Allocator> OneLock<M, A> {
         }
     }
 
-    fn learn(&self, pass: &mut OnePass<M, M::World, A>, told: OneTold<M, M::World, A>)
+    fn learn(&self, pass: &mut OnePass<M, A>, told: OneTold<M, A>)
         requires { (pass.old.board ≡ self.now.lock.id) × (told.board ≡ self.now.lock.id) }
         ensures { Learned M.fits told pass.old pass.new }
     {
@@ -179,23 +172,24 @@ impl<M: Mail, A: Allocator> OneLock<M, A> {
         self.lock.learn(&mut pass.lane, note);
     }
 
-    /// What is left of the board, which takes all its passes in the order of their numbers. Takes no memory.
-    pub fn into_ledger(self, passes: Vec<OnePass<M, M::World, A>, A>) -> Ledger<M, A>
-        requires { AreAll self.lock.id self.lock.lanes passes.items }
-        ensures { Settles M.fits self.lock.lanes passes.items result.histories.items result.closed }
+    fn into_ledger(self, passes: &mut Vec<OnePass<M, A>, A>) -> Ledger<M, A>
+        requires { AreAll self.lock.id self.lock.lanes passes.old.items }
+        ensures empty { passes.new.items ≡ [] }
+        ensures settles { Settles M.fits self.lock.lanes passes.old.items result.histories.items result.closed }
     {
-        let OneLock { lock } = self;
+        let OneLock { lock, heap } = self;
+        let all = mem::replace(passes, Vec::new(heap));
         let book = lock.close(Lanes {
-            passes: passes.into_iter(),
+            passes: all.into_iter(),
         });
         book.into_ledger()
     }
 }
 
 impl<M: Mail, A: Allocator> Board<M, A> for OneLock<M, A> {
-    type Pass = OnePass<M, M::World, A>;
+    type Pass = OnePass<M, A>;
 
-    type Told = OneTold<M, M::World, A>;
+    type Told = OneTold<M, A>;
 
     ghost identity = { λ b. b.lock.id };
 
@@ -211,7 +205,7 @@ impl<M: Mail, A: Allocator> Board<M, A> for OneLock<M, A> {
         boxes: u8,
         to: u8,
         first: M,
-    ) -> Result<(Self, Vec<OnePass<M, M::World, A>, A>), AllocError>
+    ) -> Result<(Self, Vec<OnePass<M, A>, A>), AllocError>
     where
         A: Clone,
     {
@@ -225,7 +219,7 @@ impl<M: Mail, A: Allocator> Board<M, A> for OneLock<M, A> {
         to: u8,
         first: M,
         budget: u64,
-    ) -> Result<(Self, Vec<OnePass<M, M::World, A>, A>), AllocError>
+    ) -> Result<(Self, Vec<OnePass<M, A>, A>), AllocError>
     where
         A: Clone,
     {
@@ -235,7 +229,7 @@ impl<M: Mail, A: Allocator> Board<M, A> for OneLock<M, A> {
     fn post<R: Wait>(
         &self,
         rt: &R,
-        pass: &mut OnePass<M, M::World, A>,
+        pass: &mut OnePass<M, A>,
         job: &Job,
         to: u8,
         message: M,
@@ -243,34 +237,36 @@ impl<M: Mail, A: Allocator> Board<M, A> for OneLock<M, A> {
         OneLock::post(self, rt, pass, job, to, message)
     }
 
-    fn take<R: Wait>(&self, rt: &R, pass: &mut OnePass<M, M::World, A>) -> Result<Taken<M>, Spent> {
+    fn take<R: Wait>(&self, rt: &R, pass: &mut OnePass<M, A>) -> Result<Taken<M>, Spent> {
         OneLock::take(self, rt, pass)
     }
 
     fn done<R: Wait>(
         &self,
         rt: &R,
-        pass: &mut OnePass<M, M::World, A>,
+        pass: &mut OnePass<M, A>,
         job: Job,
     ) -> Result<(), (Job, Spent)> {
         OneLock::done(self, rt, pass, job)
     }
 
-    fn abort<R: Wait>(
-        &self,
-        rt: &R,
-        pass: &mut OnePass<M, M::World, A>,
-        job: Option<Job>,
-        cause: Cause,
-    ) {
+    fn abort<R: Wait>(&self, rt: &R, pass: &mut OnePass<M, A>, job: Option<Job>, cause: Cause) {
         OneLock::abort(self, rt, pass, job, cause)
     }
 
-    fn tell(&self, pass: &mut OnePass<M, M::World, A>) -> OneTold<M, M::World, A> {
+    fn tell(&self, pass: &mut OnePass<M, A>) -> OneTold<M, A> {
         OneLock::tell(self, pass)
     }
 
-    fn learn(&self, pass: &mut OnePass<M, M::World, A>, told: OneTold<M, M::World, A>) {
+    fn learn(&self, pass: &mut OnePass<M, A>, told: OneTold<M, A>) {
         OneLock::learn(self, pass, told)
+    }
+
+    fn into_ledger(self, passes: &mut Vec<OnePass<M, A>, A>) -> Ledger<M, A>
+        requires { AreAll self.lock.id self.lock.lanes (map (λ p. p) passes.old.items) }
+        ensures empty { passes.new.items ≡ [] }
+        ensures settles { Settles M.fits self.lock.lanes (map (λ p. p) passes.old.items) result.histories.items result.closed }
+    {
+        OneLock::into_ledger(self, passes)
     }
 }

@@ -26,19 +26,19 @@ impl<W, M: Mail<World = W>, A: Allocator> LaneLaw for Book<M, W, A> {
 
 /// A pass of a board behind one lock. Contracts see it as a `Sight`.
 #[derive(Drop)]
-pub struct OnePass<M: Mail<World = W>, W, A: Allocator> {
-    pub(crate) lane: Lane<Book<M, W, A>>,
-    pub(crate) world: Snapshot<W>,
+pub struct OnePass<M: Mail, A: Allocator> {
+    pub(crate) lane: Lane<Book<M, M::World, A>>,
+    pub(crate) world: Snapshot<M::World>,
     pub(crate) boxes: u8,
     /// Whether the ticket of the first abort is still kept.
     pub(crate) kept: bool,
 }
 
-impl<M: Mail<World = W>, W, A: Allocator> Model for OnePass<M, W, A> {
+impl<M: Mail, A: Allocator> Model for OnePass<M, A> {
     ghost use Rattle.switchboard.specs.Sights.{Sight};
     ghost use Rattle.switchboard.specs.Passes.{sight_of, IsPass};
 
-    ghost Value = { Sight M W };
+    ghost Value = { Sight M M.World };
 
     ghost view = { λ p. sight_of p.lane p.world.value p.boxes p.kept };
 
@@ -47,11 +47,11 @@ impl<M: Mail<World = W>, W, A: Allocator> Model for OnePass<M, W, A> {
 
 /// What a pass had seen. Contracts see it as an `Account`.
 #[derive(Drop)]
-pub struct OneTold<M: Mail<World = W>, W, A: Allocator> {
-    pub(crate) note: Note<Book<M, W, A>>,
+pub struct OneTold<M: Mail, A: Allocator> {
+    pub(crate) note: Note<Book<M, M::World, A>>,
 }
 
-impl<M: Mail<World = W>, W, A: Allocator> Model for OneTold<M, W, A> {
+impl<M: Mail, A: Allocator> Model for OneTold<M, A> {
     ghost use Rattle.std.specs.Prelude.{◌<◌, length};
     ghost use Rattle.switchboard.specs.Sights.{Account};
     ghost use Rattle.switchboard.specs.Passes.{account_of};

@@ -2,6 +2,7 @@ ghost use Rattle.std.specs.Prelude.{◌≡◌, ◌+◌, ◌<◌, ◌≤◌, [], 
 ghost use Rattle.ticket_lock.specs.Promises.{IsIdle, IsWaiting};
 
 use crate::{Lane, LaneLaw, Ticket, TicketLock};
+use scarce::Scarce;
 use std::alloc::{AllocError, AllocFailed, Global};
 use std::process::Abort;
 use std::sync::Wait;
@@ -152,6 +153,26 @@ fn a_lane_that_learned_is_served_at_its_first_look(rt: HostRuntime) -> Result<()
     assert_eq!(rt; ticket.number(), 1);
     assert_eq!(rt; serve(&rt, &lock, &mut second, ticket, 2), 1);
     Ok(())
+}
+
+#[test]
+fn a_refused_lock_hands_its_value_back(rt: HostRuntime) -> Result<(), Fail> {
+    for nth in 1..20u64 {
+        let scarce = Scarce::refusing(rt.alloc(), nth);
+        let mut marks = Vec::new(rt.alloc());
+        marks.push((7, 8))?;
+        match TicketLock::with_budget(&scarce, Marks { marks }, 3, 5) {
+            Ok((_lock, lanes)) => {
+                assert_eq!(rt; (lanes.len(), scarce.refused()), (3, false));
+                return Ok(());
+            }
+            Err(back) => {
+                assert!(rt; scarce.refused());
+                assert_eq!(rt; back.marks.as_slice(), [(7, 8)].as_slice());
+            }
+        }
+    }
+    panic!(&rt; "refused without end")
 }
 
 // Enters, adds a mark and leaves, `rounds` times.

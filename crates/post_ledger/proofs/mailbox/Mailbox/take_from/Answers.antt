@@ -2,7 +2,7 @@
 use Rattle.std.proofs.Common.{◌≡◌, ◌<◌, ◌∷◌, ◌++◌, [], Some, length, sym, ap, ◌∙◌, subst, arith, take, slice_get}
 use Rattle.std.specs.Vec.{vec_capacity}
 use Rattle.post_ledger.specs.declared.event.Event.TheVariants.{Post, Take}
-use Rattle.post_ledger.specs.History.{posts, takes, TakesOldest}
+use Rattle.post_ledger.specs.History.{posts, takes}
 use Rattle.post_ledger.proofs.Histories.{takes_few, post_at}
 use Rattle.post_ledger.proofs.Keeping.{counts_take, counts_grow}
 use Rattle.post_ledger.proofs.mailbox.Mailbox.take_from.Goals as goal
