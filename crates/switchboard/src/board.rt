@@ -102,7 +102,6 @@ pub trait Board<M: Mail, A: Allocator>: Sized {
         requires { ((sight pass.old).board ≡ identity self.now) × ((account told).board ≡ identity self.now) }
         ensures { Learned M.fits (account told) (sight pass.old) (sight pass.new) };
 
-    /// What is left of the board, which takes all its passes in the order of their numbers. Takes no memory.
     /// What is left of the board, which takes all its passes out of the list, in the order of their numbers. Takes no memory.
     fn into_ledger(self, passes: &mut Vec<Self::Pass, A>) -> Ledger<M, A>
         requires { AreAll (identity self) (mailboxes self) (map sight passes.old.items) }
