@@ -1,8 +1,9 @@
-//! Laws on what is left to run in a procedure, and on its points.
-ghost use Rattle.std.specs.Prelude.{◌≡◌, ℕ, Some, map};
+//! Laws on what is left to run in a procedure, on its points, and on the steps inside one call.
+ghost use Rattle.std.specs.Prelude.{◌≡◌, ℕ, List, Bool, Some, map, slice_get};
 ghost use Rattle.language.specs.Rest.{Code};
-ghost use Rattle.language.specs.Sequential.{numbered, numbers, statements, point_of};
-ghost use Rattle.language.specs.Flow.{rests, IsRestOf};
+ghost use Rattle.language.specs.Step.{Routine, Program, Frame, frame, state, body_of};
+ghost use Rattle.language.specs.Sequential.{numbered, numbers, statements, point_of, Valuation, Reaches};
+ghost use Rattle.language.specs.Flow.{rests, Member, IsRestOf, Flow};
 
 /// In a block that is marked in text order, what is left from its statements on has their numbers as points, in order.
 pub fn rests_have_their_points_in_text_order()
@@ -12,4 +13,16 @@ pub fn rests_have_their_points_in_text_order()
 /// In a body that is marked in text order, a point tells what is left to run.
 pub fn a_point_tells_its_rest()
     ensures { (n : ℕ) (b r r' : Code) → IsRestOf (numbered n b) r → IsRestOf (numbered n b) r' → point_of r ≡ point_of r' → r ≡ r' }
+{}
+
+/// A flow leads from what can be left to run of a body to what can be left to run of it.
+pub fn a_flow_stays_in_its_body()
+    ensures { (p : Program) (q : ℕ) (routine : Routine) (v v' : Valuation) (r r' : Code) → slice_get p.routines q ≡ Some routine
+        → IsRestOf routine.body r → Flow p q v r v' r' → IsRestOf routine.body r' }
+{}
+
+/// In a sequential run, what is left in each frame can be left to run of its procedure's body.
+pub fn each_frame_stands_in_its_body()
+    ensures { (p : Program) (g : List Bool) (stack : List Frame) (q : ℕ) (l : List Bool) (r : Code) → Reaches p (state g stack)
+        → Member (frame q l r) stack → IsRestOf (body_of (slice_get p.routines q)) r }
 {}

@@ -6,7 +6,10 @@ mod laws;
 mod numbering;
 mod verdicts;
 
-pub use flows::{a_point_tells_its_rest, rests_have_their_points_in_text_order};
+pub use flows::{
+    a_flow_stays_in_its_body, a_point_tells_its_rest, each_frame_stands_in_its_body,
+    rests_have_their_points_in_text_order,
+};
 pub use laws::{
     a_label_in_a_loop_leads_back_to_the_loop, a_local_hides_a_global,
     a_loop_comes_back_behind_its_body, a_swap_computes_before_it_writes,
