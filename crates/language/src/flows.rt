@@ -1,7 +1,9 @@
 //! Laws on what is left to run in a procedure, on its points, and on the steps inside one call.
-ghost use Rattle.std.specs.Prelude.{◌≡◌, ℕ, List, Bool, Some, map, slice_get};
-ghost use Rattle.language.specs.Rest.{Code};
-ghost use Rattle.language.specs.Step.{Routine, Program, Frame, frame, state, body_of};
+ghost use Rattle.std.specs.Prelude.{◌≡◌, ◌↔◌, ◌∷◌, ℕ, List, Bool, Some, map, slice_get};
+ghost use Rattle.language.specs.Tree.{Mark, Expression, call, one, done};
+ghost use Rattle.language.specs.Value.{Place};
+ghost use Rattle.language.specs.Rest.{Label, Code};
+ghost use Rattle.language.specs.Step.{Routine, Program, Frame, frame, state, Step, body_of};
 ghost use Rattle.language.specs.Sequential.{numbered, numbers, statements, point_of, Valuation, Reaches};
 ghost use Rattle.language.specs.Flow.{rests, Member, IsRestOf, Flow};
 
@@ -19,6 +21,23 @@ pub fn a_point_tells_its_rest()
 pub fn a_flow_stays_in_its_body()
     ensures { (p : Program) (q : ℕ) (routine : Routine) (v v' : Valuation) (r r' : Code) → slice_get p.routines q ≡ Some routine
         → IsRestOf routine.body r → Flow p q v r v' r' → IsRestOf routine.body r' }
+{}
+
+/// A flow is the same step over whatever callers wait below.
+pub fn callers_do_not_matter_to_a_flow()
+    ensures { (p : Program) (q : ℕ) (v v' : Valuation) (r r' : Code) (fs : List Frame)
+        → Flow p q v r v' r' ↔ Step p (state v.globals (frame q v.places r ∷ fs)) (state v'.globals (frame q v'.places r' ∷ fs)) }
+{}
+
+/// No flow enters a procedure.
+pub fn a_call_has_no_flow()
+    ensures { (p : Program) (q n : ℕ) (v v' : Valuation) (m : Mark Label) (es : List (Expression Place)) (t r' : Code)
+        → Flow p q v (one m (call n es) t) v' r' → ⊥ }
+{}
+
+/// No flow leads from the exit.
+pub fn the_exit_has_no_flow()
+    ensures { (p : Program) (q : ℕ) (v v' : Valuation) (r' : Code) → Flow p q v done v' r' → ⊥ }
 {}
 
 /// In a sequential run, what is left in each frame can be left to run of its procedure's body.
