@@ -1,11 +1,11 @@
 //! Laws on what is left to run in a procedure, on its points, and on the steps inside one call.
-ghost use Rattle.std.specs.Prelude.{◌≡◌, ◌↔◌, ◌∷◌, ℕ, List, Bool, Some, map, slice_get};
+ghost use Rattle.std.specs.Prelude.{◌≡◌, ◌↔◌, ◌⊎◌, ◌∷◌, ℕ, List, Bool, Some, map, slice_get};
 ghost use Rattle.language.specs.Tree.{Mark, Expression, call, one, done};
 ghost use Rattle.language.specs.Value.{Place};
 ghost use Rattle.language.specs.Rest.{Label, Code};
-ghost use Rattle.language.specs.Step.{Routine, Program, Frame, frame, state, Step, body_of};
+ghost use Rattle.language.specs.Step.{Routine, Program, Frame, frame, State, state, Step, body_of};
 ghost use Rattle.language.specs.Sequential.{numbered, numbers, statements, point_of, Valuation, Reaches};
-ghost use Rattle.language.specs.Flow.{rests, Member, IsRestOf, Flow};
+ghost use Rattle.language.specs.Flow.{rests, Member, IsRestOf, Flow, FlowsTo, ReturnsTo, EntersTo};
 
 /// In a block that is marked in text order, what is left from its statements on has their numbers as points, in order.
 pub fn rests_have_their_points_in_text_order()
@@ -38,6 +38,12 @@ pub fn a_call_has_no_flow()
 /// No flow leads from the exit.
 pub fn the_exit_has_no_flow()
     ensures { (p : Program) (q : ℕ) (v v' : Valuation) (r' : Code) → Flow p q v done v' r' → ⊥ }
+{}
+
+/// Each step of a top frame is a flow, a return or the entering of a procedure.
+pub fn a_step_flows_or_returns_or_enters()
+    ensures { (p : Program) (q : ℕ) (v : Valuation) (r : Code) (callers : List Frame) (s : State)
+        → Step p (state v.globals (frame q v.places r ∷ callers)) s ↔ (FlowsTo p q v r callers s ⊎ (ReturnsTo v r callers s ⊎ EntersTo p q v r callers s)) }
 {}
 
 /// In a sequential run, what is left in each frame can be left to run of its procedure's body.
