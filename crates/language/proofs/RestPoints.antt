@@ -1,5 +1,5 @@
 -- The points of what is left to run in a numbered block.
-use Rattle.std.proofs.Common.{◌≡◌, Bool, true, false, ℕ, zero, suc, ◌<◌, List, [], ◌∷◌, ◌++◌, Option, Some, None, map, inl, inr, refl, sym, ◌∙◌, ap, ap₂, arith}
+use Rattle.std.proofs.Common.{◌≡◌, ◌↔◌, Bool, true, false, ℕ, zero, suc, ◌+◌, ◌<◌, List, [], ◌∷◌, ◌++◌, length, Option, Some, None, map, slice_get, inl, inr, refl, sym, ◌∙◌, ap, ap₂, arith, length-append}
 use Rattle.std.proofs.lemmas.List.{map-append}
 use Rattle.std.proofs.lemmas.Option.{none-some}
 use Rattle.std.proofs.lemmas.Bool.{true≢false}
@@ -88,3 +88,60 @@ point_tells_rest n b r r' (inl e) (inr f') same = absurd (not_the_exit n b r' f'
 point_tells_rest n b r r' (inr f) (inl e') same = absurd (not_the_exit n b r f (same ∙ ap point_of e'))
 point_tells_rest n b r r' (inr f) (inr f') same =
     same_member n (statements b) (rests (numbered n b) done) r r' (numbered_rests n b done) f f' same
+
+-- the place of a member in a list whose points are numbers in order, and its point
+place_gives_point : (k n : ℕ) (xs : List Code) (r : Code) (i j : ℕ) → map point_of xs ≡ map Some (numbers k n) → j ≡ k + i → slice_get xs i ≡ Some r →
+    Member r xs × (point_of r ≡ Some j)
+place_gives_point k n [] r i j e sum at = absurd (none-some r at)
+place_gives_point k zero (x ∷ xs) r i j e sum at = absurd (not_empty (point_of x) (map point_of xs) e)
+place_gives_point k (suc n) (x ∷ xs) r zero j e sum at =
+    let same : x ≡ r = ap (code_or x) at in
+    let number : k ≡ j = omega arith in
+    (inl (sym same), ap point_of (sym same) ∙ ap (head_or None) e ∙ ap Some number)
+  where
+    code_or : Code → Option Code → Code
+    code_or d None = d
+    code_or d (Some c) = c
+place_gives_point k (suc n) (x ∷ xs) r (suc i) j e sum at =
+    let (f, point) = place_gives_point (suc k) n xs r i j (ap rest_of e) (omega arith) at in
+    (inr f, point)
+
+point_gives_place : (k n : ℕ) (xs : List Code) (r : Code) (i j : ℕ) → map point_of xs ≡ map Some (numbers k n) → j ≡ k + i → Member r xs → point_of r ≡ Some j →
+    slice_get xs i ≡ Some r
+point_gives_place k n [] r i j e sum f point = absurd f
+point_gives_place k zero (x ∷ xs) r i j e sum f point = absurd (not_empty (point_of x) (map point_of xs) e)
+point_gives_place k (suc n) (x ∷ xs) r zero j e sum (inl same) point = ap Some (sym same)
+point_gives_place k (suc n) (x ∷ xs) r (suc i) j e sum (inl same) point =
+    let first : k ≡ j = ap number_or_0 (sym (ap (head_or None) e) ∙ ap point_of (sym same) ∙ point) in
+    absurd (omega arith)
+point_gives_place k (suc n) (x ∷ xs) r zero j e sum (inr f) point =
+    let (h, at, above) = point_above (suc k) n xs r (ap rest_of e) f in
+    let first : h ≡ j = ap number_or_0 (sym at ∙ point) in
+    absurd (omega arith)
+point_gives_place k (suc n) (x ∷ xs) r (suc i) j e sum (inr f) point =
+    point_gives_place (suc k) n xs r i j (ap rest_of e) (omega arith) f point
+
+pub rest_at_point : (b r : Code) (i : ℕ) →
+    (slice_get (rests (numbered 1 b) done) i ≡ Some r) ↔ (IsRestOf (numbered 1 b) r × (point_of r ≡ Some (suc i)))
+rest_at_point b r i = (forth, λ h. back h.0 h.1)
+  where
+    forth : slice_get (rests (numbered 1 b) done) i ≡ Some r → IsRestOf (numbered 1 b) r × (point_of r ≡ Some (suc i))
+    forth at =
+        let (f, point) = place_gives_point 1 (statements b) (rests (numbered 1 b) done) r i (suc i) (numbered_rests 1 b done) (omega arith) at in
+        (inr f, point)
+
+    back : IsRestOf (numbered 1 b) r → point_of r ≡ Some (suc i) → slice_get (rests (numbered 1 b) done) i ≡ Some r
+    back (inl e) point = absurd (none-some (suc i) (sym (ap point_of e) ∙ point))
+    back (inr f) point =
+        point_gives_place 1 (statements b) (rests (numbered 1 b) done) r i (suc i) (numbered_rests 1 b done) (omega arith) f point
+
+pub rests_count : (b k : Code) → length (rests b k) ≡ statements b
+rests_count done k = refl
+rests_count (one m s t) k = ap suc (rests_count t k)
+rests_count (choose m r a b t) k =
+    ap suc (length-append (rests a (join t k)) (rests b (join t k) ++ rests t k)
+    ∙ ap₂ (λ x y. x + y) (rests_count a (join t k))
+    (length-append (rests b (join t k)) (rests t k) ∙ ap₂ (λ x y. x + y) (rests_count b (join t k)) (rests_count t k)))
+rests_count (loop m r a t) k =
+    ap suc (length-append (rests a (loop m r a (join t k))) (rests t k)
+    ∙ ap₂ (λ x y. x + y) (rests_count a (loop m r a (join t k))) (rests_count t k))

@@ -1,6 +1,6 @@
 //! Laws on what is left to run in a procedure, on its points, and on the steps inside one call.
-ghost use Rattle.std.specs.Prelude.{◌≡◌, ◌↔◌, ◌⊎◌, ◌∷◌, ℕ, List, Bool, Some, map, slice_get};
-ghost use Rattle.language.specs.Tree.{Mark, Expression, call, one, done};
+ghost use Rattle.std.specs.Prelude.{◌≡◌, ◌↔◌, ◌⊎◌, ◌∷◌, [], ℕ, suc, length, List, Bool, Some, map, slice_get};
+ghost use Rattle.language.specs.Tree.{Mark, RightSide, Expression, Simple, call, done, one, choose, loop};
 ghost use Rattle.language.specs.Value.{Place};
 ghost use Rattle.language.specs.Rest.{Label, Code};
 ghost use Rattle.language.specs.Step.{Routine, Program, Frame, frame, State, state, Step, body_of};
@@ -15,6 +15,25 @@ pub fn rests_have_their_points_in_text_order()
 /// In a body that is marked in text order, a point tells what is left to run.
 pub fn a_point_tells_its_rest()
     ensures { (n : ℕ) (b r r' : Code) → IsRestOf (numbered n b) r → IsRestOf (numbered n b) r' → point_of r ≡ point_of r' → r ≡ r' }
+{}
+
+/// In a body that is marked in text order, the rest at a place of the list is the one whose point is one more.
+pub fn rests_stand_at_their_points()
+    ensures { (b r : Code) (i : ℕ) → (slice_get (rests (numbered 1 b) done) i ≡ Some r) ↔ (IsRestOf (numbered 1 b) r × (point_of r ≡ Some (suc i))) }
+{}
+
+/// A block has as many rests as statements.
+pub fn each_statement_has_one_rest()
+    ensures { (b k : Code) → length (rests b k) ≡ statements b }
+{}
+
+/// What is left from a statement in a loop's body on comes back to the loop, and from one in a branch to what follows.
+pub fn rests_go_on_behind_what_holds_them()
+    ensures { (m : Mark Label) (c : RightSide Place) (s s' u : Simple Place ℕ Label)
+        → (rests (loop m c (one m s done) (one m s' done)) done
+        ≡ loop m c (one m s done) (one m s' done) ∷ one m s (loop m c (one m s done) (one m s' done)) ∷ one m s' done ∷ [])
+        × (rests (choose m c (one m s done) (one m s' done) (one m u done)) done
+        ≡ choose m c (one m s done) (one m s' done) (one m u done) ∷ one m s (one m u done) ∷ one m s' (one m u done) ∷ one m u done ∷ []) }
 {}
 
 /// A flow leads from what can be left to run of a body to what can be left to run of it.

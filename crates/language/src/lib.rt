@@ -9,7 +9,8 @@ mod verdicts;
 pub use flows::{
     a_call_has_no_flow, a_flow_stays_in_its_body, a_point_tells_its_rest,
     a_step_flows_or_returns_or_enters, callers_do_not_matter_to_a_flow,
-    each_frame_stands_in_its_body, rests_have_their_points_in_text_order, the_exit_has_no_flow,
+    each_frame_stands_in_its_body, each_statement_has_one_rest, rests_go_on_behind_what_holds_them,
+    rests_have_their_points_in_text_order, rests_stand_at_their_points, the_exit_has_no_flow,
 };
 pub use laws::{
     a_label_in_a_loop_leads_back_to_the_loop, a_local_hides_a_global,
