@@ -19,7 +19,7 @@ pub use laws::{
     an_assert_with_both_values_fails_and_goes_on, an_empty_stack_has_no_step,
     joining_to_nothing_changes_nothing, what_follows_a_block_follows_its_rests,
 };
-pub use numbering::statements_are_numbered_in_text_order;
+pub use numbering::{each_body_is_numbered_from_1, statements_are_numbered_in_text_order};
 pub use verdicts::{
     a_checked_write_is_never_unsafe, a_reader_before_the_writer_needs_two_rounds,
     a_spinning_thread_keeps_no_failure_away, a_writer_before_the_reader_needs_one_round,
