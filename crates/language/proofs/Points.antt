@@ -1,8 +1,9 @@
--- The points of a numbered block.
-use Rattle.std.proofs.Common.{◌≡◌, ℕ, zero, suc, ◌+◌, ◌∷◌, ◌++◌, refl, ◌∙◌, ap, ap₂, arith}
+-- The points of a numbered block, and the bodies of a numbered program.
+use Rattle.std.proofs.Common.{◌≡◌, ℕ, zero, suc, ◌+◌, List, [], map, slice_get, ◌∷◌, ◌++◌, refl, ◌∙◌, ap, ap₂, arith}
 use Rattle.language.specs.Tree.{done, one, choose, loop}
 use Rattle.language.specs.Rest.{Code}
-use Rattle.language.specs.Sequential.{statements, numbered, points, numbers}
+use Rattle.language.specs.Step.{Routine, body_of}
+use Rattle.language.specs.Sequential.{statements, numbered, points, numbers, numbered_routine}
 
 numbers-append : (k a b j c : ℕ) → j ≡ k + a → c ≡ a + b → numbers k a ++ numbers j b ≡ numbers k c
 numbers-append k zero b j c e e' = let x : j ≡ k = omega arith in let y : b ≡ c = omega arith in ap₂ numbers x y
@@ -25,3 +26,8 @@ points_numbered n (loop m r a t) =
     ap (λ z. n ∷ z)
     (ap₂ (λ x y. x ++ y) (points_numbered (suc n) a) (points_numbered nt t)
     ∙ numbers-append (suc n) (statements a) (statements t) nt (statements a + statements t) refl refl)
+
+pub bodies_numbered : (rs : List Routine) (q : ℕ) → body_of (slice_get (map numbered_routine rs) q) ≡ numbered 1 (body_of (slice_get rs q))
+bodies_numbered [] q = refl
+bodies_numbered (r ∷ rs) zero = refl
+bodies_numbered (r ∷ rs) (suc q) = bodies_numbered rs q

@@ -5,7 +5,7 @@ use Rattle.language.specs.Value.{values_of}
 use Rattle.language.specs.Rest.{Code, rest_from}
 use Rattle.language.specs.Step.{Routine, Program, frame, State, state, fresh, AtRoutine, AtRest, body_of, StepsTo, AfterSteps, Runs}
 
-at_rest_map : (o : Option Code) (P Q : Code → Type 0) → ((c : Code) → P c → Q c) → AtRest o P → AtRest o Q
+pub at_rest_map : (o : Option Code) (P Q : Code → Type 0) → ((c : Code) → P c → Q c) → AtRest o P → AtRest o Q
 at_rest_map None P Q f h = h
 at_rest_map (Some c) P Q f h = f c h
 

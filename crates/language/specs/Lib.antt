@@ -5,4 +5,5 @@ pub mod Step
 pub mod Rounds
 pub mod Resolve
 pub mod Sequential
+pub mod Flow
 pub mod Examples

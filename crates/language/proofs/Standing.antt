@@ -1,0 +1,100 @@
+-- Each frame stands at a rest of its procedure's body, and steps keep that.
+use Rattle.std.proofs.Common.{◌≡◌, ℕ, zero, suc, true, false, List, [], ◌∷◌, Option, Some, None, slice_get, inl, inr, refl, sym, ap, subst, Bool}
+use Rattle.language.specs.Tree.{skip, assign, assert, assume, goto, leave, call, done, one, choose, loop}
+use Rattle.language.specs.Value.{values_of, written_globals, written_locals}
+use Rattle.language.specs.Rest.{Code, Label, join, rest_from}
+use Rattle.language.specs.Step.{Routine, Program, Frame, frame, State, state, fresh, zeros, AtRoutine, AtRest, body_of, StepsTo, AfterSteps}
+use Rattle.language.specs.Rounds.{starting_stack}
+use Rattle.language.specs.Sequential.{Valuation, Reaches}
+use Rattle.language.specs.Flow.{Member, IsRestOf, Flow}
+use Rattle.language.proofs.Rests.{join_done}
+use Rattle.language.proofs.RestMembers.{in_whole, member_from, rest_follows}
+
+-- what is left in a frame of procedure q can be left there
+abbrev Stands : Program → ℕ → Code → Type 0
+Stands p q r = IsRestOf (body_of (slice_get p.routines q)) r
+
+abbrev AllStand : Program → List Frame → Type 0
+AllStand p [] = Unit {0}
+AllStand p (frame q l r ∷ fs) = Stands p q r × AllStand p fs
+
+abbrev Standing : Program → State → Type 0
+Standing p (state g fs) = AllStand p fs
+
+-- a whole body can be left to run
+whole_stands : (b : Code) → IsRestOf b b
+whole_stands b = subst (IsRestOf b) (join_done b) (in_whole b done)
+
+-- a procedure's number tells its body
+entered : (p : Program) (q : ℕ) (o : Option Routine) → slice_get p.routines q ≡ o → (P : State → Type 0) (F : Routine → State) →
+    ((routine : Routine) → Stands p q routine.body → Standing p (F routine)) → AtRoutine o (λ routine. P (F routine)) → (u : State) × Standing p u × P u
+entered p q None e P F stand h = absurd h
+entered p q (Some routine) e P F stand h =
+    (F routine, stand routine (subst (λ b. IsRestOf b routine.body) (sym (ap body_of e)) (whole_stands routine.body)), h)
+
+jumped : (x : Label) (p : Program) (c : ℕ) (o : Option Code) → rest_from x (body_of (slice_get p.routines c)) done ≡ o → (P : State → Type 0) (F : Code → State) →
+    ((rest : Code) → Stands p c rest → Standing p (F rest)) → AtRest o (λ rest. P (F rest)) → (u : State) × Standing p u × P u
+jumped x p c None e P F stand h = absurd h
+jumped x p c (Some rest) e P F stand h =
+    (F rest, stand rest (inr (member_from x (body_of (slice_get p.routines c)) done rest e)), h)
+
+-- a step from a state whose frames all stand leads to such a state
+steps_stand : (p : Program) (s : State) (P : State → Type 0) → Standing p s → StepsTo p s P → (u : State) × Standing p u × P u
+steps_stand p (state g []) P at h = absurd h
+steps_stand p (state g (frame c l done ∷ fs)) P at h = (state g fs, at.1, h)
+steps_stand p (state g (frame c l (one m skip t) ∷ fs)) P at h =
+    (state g (frame c l t ∷ fs), (rest_follows (body_of (slice_get p.routines c)) (one m skip t) t at.0 refl, at.1), h)
+steps_stand p (state g (frame c l (one m (assign xs rs) t) ∷ fs)) P at (vs, values, h) =
+    (state (written_globals xs vs g) (frame c (written_locals xs vs l) t ∷ fs), (rest_follows (body_of (slice_get p.routines c)) (one m (assign xs rs) t) t at.0 refl, at.1), h)
+steps_stand p (state g (frame c l (one m (assert r) t) ∷ fs)) P at h =
+    (state g (frame c l t ∷ fs), (rest_follows (body_of (slice_get p.routines c)) (one m (assert r) t) t at.0 refl, at.1), h.1)
+steps_stand p (state g (frame c l (one m (assume r) t) ∷ fs)) P at h =
+    (state g (frame c l t ∷ fs), (rest_follows (body_of (slice_get p.routines c)) (one m (assume r) t) t at.0 refl, at.1), h.1)
+steps_stand p (state g (frame c l (one m (goto x) t) ∷ fs)) P at h =
+    jumped x p c (rest_from x (body_of (slice_get p.routines c)) done) refl P (λ rest. state g (frame c l rest ∷ fs)) (λ rest stands. (stands, at.1)) h
+steps_stand p (state g (frame c l (one m leave t) ∷ fs)) P at h = (state g (frame c l done ∷ fs), (inl refl, at.1), h)
+steps_stand p (state g (frame c l (one m (call q es) t) ∷ fs)) P at h =
+    entered p q (slice_get p.routines q) refl P (λ routine. state g (frame q (fresh routine.places (values_of g l es)) routine.body ∷ frame c l t ∷ fs))
+    (λ routine stands. (stands, (rest_follows (body_of (slice_get p.routines c)) (one m (call q es) t) t at.0 refl, at.1))) h
+steps_stand p (state g (frame c l (choose m r a b t) ∷ fs)) P at (true, is, h) =
+    (state g (frame c l (join a t) ∷ fs), (rest_follows (body_of (slice_get p.routines c)) (choose m r a b t) (join a t) at.0 (inl refl), at.1), h)
+steps_stand p (state g (frame c l (choose m r a b t) ∷ fs)) P at (false, is, h) =
+    (state g (frame c l (join b t) ∷ fs), (rest_follows (body_of (slice_get p.routines c)) (choose m r a b t) (join b t) at.0 (inr refl), at.1), h)
+steps_stand p (state g (frame c l (loop m r a t) ∷ fs)) P at (true, is, h) =
+    (state g (frame c l (join a (loop m r a t)) ∷ fs), (rest_follows (body_of (slice_get p.routines c)) (loop m r a t) (join a (loop m r a t)) at.0 (inl refl), at.1), h)
+steps_stand p (state g (frame c l (loop m r a t) ∷ fs)) P at (false, is, h) =
+    (state g (frame c l t ∷ fs), (rest_follows (body_of (slice_get p.routines c)) (loop m r a t) t at.0 (inr refl), at.1), h)
+
+-- so does each run
+run_stands : (p : Program) (n : ℕ) (s t : State) → Standing p s → AfterSteps p n s (λ u. u ≡ t) → Standing p t
+run_stands p zero s t at h = subst (Standing p) h at
+run_stands p (suc n) s t at h =
+    let (u, there, more) = steps_stand p s (λ v. AfterSteps p n v (λ z. z ≡ t)) at h in
+    run_stands p n u t there more
+
+pub flow_stays : (p : Program) (q : ℕ) (routine : Routine) (v v' : Valuation) (r r' : Code) → slice_get p.routines q ≡ Some routine →
+    IsRestOf routine.body r → Flow p q v r v' r' → IsRestOf routine.body r'
+flow_stays p q routine v v' r r' e at flow =
+    let same : body_of (slice_get p.routines q) ≡ routine.body = ap body_of e in
+    let (u, there, is) = steps_stand p (state v.globals (frame q v.places r ∷ [])) (λ z. z ≡ state v'.globals (frame q v'.places r' ∷ []))
+    (subst (λ b. IsRestOf b r) (sym same) at, tt) flow in
+    subst (λ b. IsRestOf b r') same (subst (Standing p) is there).0
+
+-- the stack before the first step: one frame, whose whole body is left
+start_stands : (p : Program) (n : ℕ) → AllStand p (starting_stack p.routines n)
+start_stands p n = of_routine (slice_get p.routines n) refl
+  where
+    of_routine : (o : Option Routine) → slice_get p.routines n ≡ o → AllStand p (elim o as (λ x. List Frame) [ None ↦ [] | Some routine ↦ frame n (zeros routine.places) routine.body ∷ [] ])
+    of_routine None e = tt
+    of_routine (Some routine) e = (subst (λ b. IsRestOf b routine.body) (sym (ap body_of e)) (whole_stands routine.body), tt)
+
+-- a frame of a stack whose frames all stand
+member_stands : (p : Program) (fs : List Frame) (q : ℕ) (l : List Bool) (r : Code) → AllStand p fs → Member (frame q l r) fs → Stands p q r
+member_stands p [] q l r at f = absurd f
+member_stands p (frame c k t ∷ fs) q l r at (inl e) = (subst (λ z. AllStand p (z ∷ fs)) (sym e) at).0
+member_stands p (frame c k t ∷ fs) q l r at (inr f) = member_stands p fs q l r at.1 f
+
+pub frame_stands : (p : Program) (g : List Bool) (stack : List Frame) (q : ℕ) (l : List Bool) (r : Code) → Reaches p (state g stack) → Member (frame q l r) stack →
+    IsRestOf (body_of (slice_get p.routines q)) r
+frame_stands p g stack q l r (n, run) f =
+    member_stands p stack q l r (run_stands p n (state (zeros p.globals) (starting_stack p.routines 0)) (state g stack) (start_stands p 0) run) f
