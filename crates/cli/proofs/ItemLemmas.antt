@@ -7,7 +7,6 @@ use Rattle.language.specs.Tree.{skip, assign, assert, done}
 use Rattle.language.specs.Resolve.{Scope, place_of, resolve_side, resolve_block}
 use Rattle.language.specs.Value.{written_globals}
 use Rattle.syntax.specs.Trees.{Item, simple, marked_before, all_before, item_of, items_of}
-use Rattle.syntax.specs.declared.tree.Name.{Name}
 use Rattle.syntax.specs.declared.tree.Stmt.{Stmt}
 use Rattle.cli.specs.Reach.{AreFrom, IsAssigned, IsPassed, SomeFails}
 use Rattle.cli.specs.Straight.{FailsFrom, SomeFailFrom, code_of, FailsAt, Leads}

@@ -3,7 +3,8 @@ use Rattle.std.proofs.Common.{◌≡◌, ℕ, List, [], ◌∷◌, ◌++◌, ◌
 use Rattle.std.specs.Prelude.{◌↔◌, IsTrue}
 use Rattle.std.proofs.lemmas.List.{map-append, take_more, take_all, drop_more}
 use Rattle.std.specs.declared.vec.Vec.{Vec}
-use Rattle.cli.specs.Members.{Member}
+use Rattle.language.specs.Flow.{Member}
+use Rattle.language.proofs.Members.{member_left, member_right, member_append}
 use Rattle.cli.specs.Reach.{rows_of, From, Adds, AreFrom, IsWith, IsWithIf, IsWithSome, IsWritten, SomeFails}
 use Rattle.language.specs.Tree as tree
 use Rattle.language.specs.Tree.{RightSide}
@@ -15,20 +16,6 @@ use Rattle.syntax.specs.declared.tree.Rhs.{Rhs}
 use Rattle.syntax.specs.Trees.{names_of, rhs_of, rhss_of}
 use Rattle.cli.specs.Straight.{globals_only}
 use Rattle.language.specs.Value.{Place, global, IsValue, AreValues, with_bit, written_globals}
-
-pub member_left : {A : Type 0} (x : A) (xs ys : List A) → Member x xs → Member x (xs ++ ys)
-member_left x [] ys h = absurd h
-member_left x (y ∷ xs) ys (inl e) = inl e
-member_left x (y ∷ xs) ys (inr h) = inr (member_left x xs ys h)
-
-pub member_right : {A : Type 0} (x : A) (xs ys : List A) → Member x ys → Member x (xs ++ ys)
-member_right x [] ys h = h
-member_right x (y ∷ xs) ys h = inr (member_right x xs ys h)
-
-pub member_append : {A : Type 0} (x : A) (xs ys : List A) → Member x (xs ++ ys) → Member x xs ⊎ Member x ys
-member_append x [] ys h = inr h
-member_append x (y ∷ xs) ys (inl e) = inl (inl e)
-member_append x (y ∷ xs) ys (inr h) = elim (member_append x xs ys h) [ inl a ↦ inl (inr a) | inr b ↦ inr b ]
 
 -- in a list with one more at its end is what was in it, and that one
 pub member_push : {A : Type 0} (x : A) (xs : List A) (y : A) → Member x (xs ++ y ∷ []) ↔ (Member x xs ⊎ (x ≡ y))

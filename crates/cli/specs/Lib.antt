@@ -1,5 +1,4 @@
 pub mod Straight
-pub mod Members
 pub mod Reach
 pub mod Limits
 pub mod Verdict

@@ -3,7 +3,7 @@ use Rattle.std.specs.Prelude.{◌≡◌, ℕ, Bool, List, [], map, ◌⊎◌, �
 use Rattle.std.specs.declared.vec.Vec.{Vec}
 use Rattle.language.specs.Tree.{RightSide}
 use Rattle.language.specs.Value.{Place, IsValue, AreValues, with_bit, written_globals}
-use Rattle.cli.specs.Members.{Member}
+use Rattle.language.specs.Flow.{Member}
 
 -- the valuations, as lists
 abbrev pub rows_of : {A : Type 0} → List (Vec Bool A) → List (List Bool)

@@ -5,7 +5,7 @@ use Rattle.language.specs.Value.{IsValue, AreValues, written_globals}
 use Rattle.language.specs.Rest.{Code, same_text}
 use Rattle.language.specs.Resolve.{Scope, resolve_block}
 use Rattle.syntax.specs.Trees.{Deed, simple, branch, repeat, Item, all_before}
-use Rattle.cli.specs.Members.{Member}
+use Rattle.language.specs.Flow.{Member}
 
 -- a skip, an assignment with as many right sides as targets, or an assert
 abbrev pub IsStraightDeed : Deed → Type 0

@@ -3,7 +3,7 @@ ghost use Rattle.std.specs.Prelude.{◌≡◌, ◌⊎◌, ◌↔◌, ◌∷◌, 
 ghost use Rattle.language.specs.Resolve.{place_of, resolve_side};
 ghost use Rattle.language.specs.Value.{with_bit, IsValue};
 ghost use Rattle.syntax.specs.Trees.{names_of, rhs_of, rhss_of};
-ghost use Rattle.cli.specs.Members.{Member};
+ghost use Rattle.language.specs.Flow.{Member};
 ghost use Rattle.cli.specs.Reach.{rows_of, Adds, AreFrom, IsWith, IsWithIf, IsWithSome, IsWritten, IsAssigned, IsPassed, SomeFails};
 ghost use Rattle.cli.specs.Straight.{globals_only};
 

@@ -1,24 +1,11 @@
 -- What is left to run after a step is again left from a statement of the block on, or what comes after it.
-use Rattle.std.proofs.Common.{◌≡◌, Bool, true, false, cond, List, [], ◌∷◌, ◌++◌, ◌⊎◌, Option, Some, None, inl, inr, refl, sym, ap, subst}
+use Rattle.std.proofs.Common.{◌≡◌, Bool, true, false, cond, ◌++◌, ◌⊎◌, Option, Some, None, inl, inr, refl, sym, ap, subst}
 use Rattle.std.proofs.lemmas.Option.{none-some}
 use Rattle.language.specs.Tree.{Mark, RightSide, Simple, done, one, choose, loop}
 use Rattle.language.specs.Value.{Place}
 use Rattle.language.specs.Rest.{Label, Code, join, has_label, first_of_two, rest_from}
 use Rattle.language.specs.Flow.{rests, Member, IsRestOf}
-
-member_left : {A : Type 0} (x : A) (xs ys : List A) → Member x xs → Member x (xs ++ ys)
-member_left x [] ys h = absurd h
-member_left x (y ∷ xs) ys (inl e) = inl e
-member_left x (y ∷ xs) ys (inr h) = inr (member_left x xs ys h)
-
-member_right : {A : Type 0} (x : A) (xs ys : List A) → Member x ys → Member x (xs ++ ys)
-member_right x [] ys h = h
-member_right x (y ∷ xs) ys h = inr (member_right x xs ys h)
-
-member_append : {A : Type 0} (x : A) (xs ys : List A) → Member x (xs ++ ys) → Member x xs ⊎ Member x ys
-member_append x [] ys h = inr h
-member_append x (y ∷ xs) ys (inl e) = inl (inl e)
-member_append x (y ∷ xs) ys (inr h) = elim (member_append x xs ys h) [ inl a ↦ inl (inr a) | inr b ↦ inr b ]
+use Rattle.language.proofs.Members.{member_left, member_right, member_append}
 
 -- r is what comes after the block, or left from one of its statements on
 abbrev In : Code → Code → Code → Type 0

@@ -1,5 +1,5 @@
 -- Each kind of statement of the first part, and that no other comes.
-use Rattle.std.proofs.Common.{◌≡◌, ◌∙◌, List, Bool, ap, subst, sym, false, map}
+use Rattle.std.proofs.Common.{◌≡◌, ◌∙◌, List, Bool, ap, subst, sym, map}
 use Rattle.std.proofs.lemmas.List.{length-map}
 use Rattle.std.specs.Prelude.{length}
 use Rattle.std.proofs.lemmas.Bool.{false≢true}

@@ -1,5 +1,5 @@
 -- The analysis decides what the text means.
-use Rattle.std.proofs.Common.{◌≡◌, ◌∙◌, List, sym, subst, true, false, length}
+use Rattle.std.proofs.Common.{◌≡◌, ◌∙◌, List, sym, subst, length}
 use Rattle.std.specs.Prelude.{◌↔◌}
 use Rattle.std.proofs.lemmas.List.{length-map}
 use Rattle.std.proofs.lemmas.Bool.{false≢true}

@@ -1,7 +1,7 @@
 -- One row more, or the row that was there already.
 use Rattle.std.proofs.Common.{◌≡◌, ◌⊎◌, sym, subst, inl, inr}
 use Rattle.std.specs.Prelude.{◌↔◌}
-use Rattle.cli.specs.Members.{Member}
+use Rattle.language.specs.Flow.{Member}
 use Rattle.cli.specs.Reach.{rows_of}
 use Rattle.cli.proofs.MemberLemmas.{rows_push}
 use Rattle.cli.proofs.reach.add.Goals as goal

@@ -2,7 +2,7 @@
 use Rattle.std.proofs.Common.{◌≡◌, ◌⊎◌, [], sym, subst, inl, inr, arith}
 use Rattle.std.proofs.lemmas.List.{nil_from_length}
 use Rattle.std.specs.Prelude.{◌↔◌}
-use Rattle.cli.specs.Members.{Member}
+use Rattle.language.specs.Flow.{Member}
 use Rattle.cli.specs.Reach.{rows_of}
 use Rattle.cli.proofs.MemberLemmas.{rows_push}
 use Rattle.cli.proofs.reach.add_all.Goals as goal

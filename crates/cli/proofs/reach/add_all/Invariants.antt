@@ -1,7 +1,7 @@
 -- The rows that are added and those that are left are all rows.
 use Rattle.std.proofs.Common.{List, Bool, length}
 use Rattle.std.specs.Prelude.{◌↔◌, ◌⊎◌}
-use Rattle.cli.specs.Members.{Member}
+use Rattle.language.specs.Flow.{Member}
 use Rattle.cli.specs.Reach.{rows_of}
 use Rattle.cli.proofs.reach.add_all.Given as goal
 

@@ -1,5 +1,5 @@
 -- The row is added exactly where the side passes.
-use Rattle.std.proofs.Common.{◌∙◌, true, false, sym, inl, inr}
+use Rattle.std.proofs.Common.{◌∙◌, sym, inl, inr}
 use Rattle.std.proofs.lemmas.Bool.{false≢true}
 use Rattle.cli.proofs.reach.add_passed.Goals as goal
 

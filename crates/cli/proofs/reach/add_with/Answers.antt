@@ -2,7 +2,7 @@
 use Rattle.std.proofs.Common.{◌≡◌, ◌⊎◌, ◌∙◌, List, Bool, sym, subst, ap}
 use Rattle.std.specs.Prelude.{◌↔◌}
 use Rattle.language.specs.Value.{with_bit}
-use Rattle.cli.specs.Members.{Member}
+use Rattle.language.specs.Flow.{Member}
 use Rattle.cli.specs.Reach.{rows_of, Adds, IsWith}
 use Rattle.cli.proofs.MemberLemmas.{adds_push, adds_none, rows_more, rows_all}
 use Rattle.cli.proofs.reach.add_with.Goals as goal

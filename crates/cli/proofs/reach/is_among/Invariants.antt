@@ -1,7 +1,7 @@
 -- The valuation is still to be found among the rows that are left.
 use Rattle.std.proofs.Common.{drop}
 use Rattle.std.specs.Prelude.{◌↔◌}
-use Rattle.cli.specs.Members.{Member}
+use Rattle.language.specs.Flow.{Member}
 use Rattle.cli.specs.Reach.{rows_of}
 use Rattle.cli.proofs.reach.is_among.Given as goal
 

@@ -3,7 +3,7 @@ use Rattle.std.proofs.Common.{◌⊎◌, [], List, Bool, sym, subst}
 use Rattle.std.specs.Prelude.{◌↔◌}
 use Rattle.language.specs.Resolve.{resolve_side}
 use Rattle.syntax.specs.Trees.{names_of, rhs_of}
-use Rattle.cli.specs.Members.{Member}
+use Rattle.language.specs.Flow.{Member}
 use Rattle.cli.specs.Straight.{globals_only}
 use Rattle.cli.specs.Reach.{rows_of, Adds, IsPassed}
 use Rattle.cli.proofs.MemberLemmas.{adds_push, from_none, rows_more, rows_all}

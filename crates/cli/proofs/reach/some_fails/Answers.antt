@@ -1,5 +1,5 @@
 -- A row that fails is found; one that does not is passed over.
-use Rattle.std.proofs.Common.{◌∙◌, [], true, false, sym, subst, refl}
+use Rattle.std.proofs.Common.{◌∙◌, [], false, sym, subst, refl}
 use Rattle.std.proofs.lemmas.Bool.{false≢true}
 use Rattle.language.specs.Resolve.{resolve_side}
 use Rattle.language.specs.Value.{IsValue}

@@ -6,7 +6,7 @@ use Rattle.language.specs.Resolve.{number_of, place_of, resolve_side}
 use Rattle.std.specs.String.{string_bytes}
 use Rattle.syntax.specs.declared.tree.Name.{Name}
 use Rattle.syntax.specs.Trees.{names_of, rhs_of, rhss_of}
-use Rattle.cli.specs.Members.{Member}
+use Rattle.language.specs.Flow.{Member}
 use Rattle.cli.specs.Straight.{globals_only}
 use Rattle.cli.specs.Reach.{rows_of, From, AreFrom, IsWithSome, IsWritten}
 use Rattle.cli.proofs.MemberLemmas.{written_more, write_end}
