@@ -5,4 +5,3 @@ pub mod Settling
 pub mod Opening
 pub mod Jobs
 pub mod Staying
-pub mod Sending

@@ -7,16 +7,16 @@ ghost use Rattle.switchboard.specs.Sights.{opened, abort_of};
 ghost use Rattle.switchboard.specs.Books.{with_entry, Answers, Refuses, AreParts};
 
 use crate::calls::{Abort, Cause, Job, PostFault, Taken};
+use crate::world::Shown;
 use post_ledger::{Entry, Ledger, Mailbox};
 use std::alloc::{AllocError, Allocator};
 use std::marker::Model;
-use std::snapshot::Snapshot;
 
 /// All mailboxes of a board, and the order of their events. Each call makes one event at most, in time that does not grow with the order.
 /// Contracts see it as a `State`.
 #[derive(Drop)]
 pub struct Book<M, W, A: Allocator> {
-    world: Snapshot<W>,
+    world: Shown<W>,
     mailboxes: Vec<Mailbox<M, A>, A>,
     /// The events so far, with spare room for a Take and a Done of each Post that lacks them.
     order: Vec<Entry<M>, A>,
@@ -93,7 +93,7 @@ impl<M: Copy, W, A: Allocator> Book<M, W, A> {
                     under: 0,
                 });
                 Ok(Book {
-                    world: Snapshot::of(world),
+                    world: Shown::of(world),
                     mailboxes,
                     order,
                     posted: 1,

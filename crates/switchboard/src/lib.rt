@@ -15,6 +15,7 @@ mod pass;
 mod refusals;
 #[cfg(test)]
 mod tests;
+mod world;
 
 pub use board::Board;
 pub use book::Book;

@@ -1,20 +1,33 @@
-//! Many messages, of four passes that take turns on one thread.
+//! Many messages, of four threads at work on one board.
 ghost use Rattle.std.specs.Prelude.{◌≡◌, ◌<◌, ℕ, IfOk};
 ghost use Rattle.post_ledger.specs.Orders.{HasJob};
 
-use crate::tests::{Answer, Line, Lines, done, found, gather, message, post, settle};
+use crate::tests::{Line, Lines, done, gather, message, post, settle};
 use crate::{Board, Job, Taken};
 use post_ledger::{Event, Side, by_sender};
 use std::alloc::{AllocError, Global};
 use std::process::Abort;
 use std::sync::Wait;
 use std::test::Fail;
+use std::thread;
+use std::thread::{Threads, join};
 
-// How many messages each pass posts.
+// How many messages each thread posts.
 const MESSAGES: u32 = 10_000;
 
-// Takes a message and completes it. It says whether there was one.
-fn serve<R: Wait + Abort>(rt: &R, board: &Lines<Global>, pass: &mut Line<Global>) -> bool
+// How many times a thread looks for a message, at most, after its own posts.
+const LOOKS: u32 = 10_000_000;
+
+// How a look for a message went.
+#[derive(Clone, Copy, Debug, PartialEq, Eq)]
+enum Look {
+    Served,
+    Empty,
+    Closed,
+}
+
+// Takes a message and completes it, if there is one.
+fn serve<R: Wait + Abort>(rt: &R, board: &Lines<Global>, pass: &mut Line<Global>) -> Look
     requires { pass.old.board ≡ board.now.lock.id }
     ensures pass { (pass.new.board ≡ pass.old.board) × (pass.new.number ≡ pass.old.number) × (pass.new.seen.boxes ≡ pass.old.seen.boxes) }
     ensures keeps { (j : ℕ) → HasJob pass.old.number j pass.old.seen.order → HasJob pass.new.number j pass.new.seen.order }
@@ -22,10 +35,10 @@ fn serve<R: Wait + Abort>(rt: &R, board: &Lines<Global>, pass: &mut Line<Global>
     match Board::take(board, rt, pass) {
         Ok(Taken::Message(job, _)) => {
             done(rt, board, pass, job);
-            true
+            Look::Served
         }
-        Ok(Taken::Empty) => false,
-        Ok(Taken::Closed) => false,
+        Ok(Taken::Empty) => Look::Empty,
+        Ok(Taken::Closed) => Look::Closed,
         Ok(Taken::Aborted) | Err(_) => panic!(rt; "stopped"),
     }
 }
@@ -49,30 +62,61 @@ fn posts<R: Wait + Abort>(
         if post(rt, board, pass, job, to, sender * 100_000 + n + 1).is_err() {
             panic!(rt; "refused");
         }
-        let _served = serve(rt, board, pass);
+        let _look = serve(rt, board, pass);
     }
 }
 
-// Takes and completes what is in the mailbox.
-fn drain<R: Wait + Abort>(rt: &R, board: &Lines<Global>, pass: &mut Line<Global>)
+// Looks for messages until the board is closed. It says whether it found the close.
+fn drain<R: Wait + Abort>(rt: &R, board: &Lines<Global>, pass: &mut Line<Global>) -> bool
     requires { pass.old.board ≡ board.now.lock.id }
     ensures { (pass.new.board ≡ pass.old.board) × (pass.new.number ≡ pass.old.number) × (pass.new.seen.boxes ≡ pass.old.seen.boxes) }
 {
-    for _look in 0..5 * MESSAGES {
-        if !serve(rt, board, pass) {
-            return;
+    for _look in 0..LOOKS {
+        match serve(rt, board, pass) {
+            Look::Served => {}
+            Look::Empty => thread::yield_now(),
+            Look::Closed => return true,
         }
     }
+    false
 }
 
-// What one pass posts: all under the job of the first message of its mailbox.
-fn work<R: Wait + Abort>(rt: &R, board: &Lines<Global>, pass: &mut Line<Global>, sender: u32)
-    requires { (pass.old.board ≡ board.now.lock.id) × (pass.old.seen.boxes ≡ 4) × (sender < 4) }
-    ensures { (pass.new.board ≡ pass.old.board) × (pass.new.number ≡ pass.old.number) × (pass.new.seen.boxes ≡ pass.old.seen.boxes) }
+// What one thread does: all its posts are under the job of the first message of its mailbox.
+fn work<R: Wait + Abort>(
+    rt: &R,
+    board: &Lines<Global>,
+    mut pass: Line<Global>,
+    sender: u32,
+) -> (Line<Global>, bool)
+    requires { (pass.board ≡ board.now.lock.id) × (pass.seen.boxes ≡ 4) × (sender < 4) }
+    ensures { (result.0.board ≡ pass.board) × (result.0.number ≡ pass.number) × (result.0.seen.boxes ≡ 4) }
 {
-    let (job, _first) = message(rt, board, pass);
-    posts(rt, board, pass, &job, sender);
-    done(rt, board, pass, job);
+    let (job, _first) = message(rt, board, &mut pass);
+    posts(rt, board, &mut pass, &job, sender);
+    done(rt, board, &mut pass, job);
+    let closed = drain(rt, board, &mut pass);
+    (pass, closed)
+}
+
+// The work of two threads.
+fn two_work<R: Threads + Wait + Abort + Sync>(
+    rt: &R,
+    board: &Lines<Global>,
+    first: (Line<Global>, u32),
+    second: (Line<Global>, u32),
+) -> ((Line<Global>, bool), (Line<Global>, bool))
+    requires first { (first.0.board ≡ board.now.lock.id) × (first.0.seen.boxes ≡ 4) × (first.1 < 4) }
+    requires second { (second.0.board ≡ board.now.lock.id) × (second.0.seen.boxes ≡ 4) × (second.1 < 4) }
+    ensures first { (result.0.0.board ≡ board.now.lock.id) × (result.0.0.number ≡ first.0.number) × (result.0.0.seen.boxes ≡ 4) }
+    ensures second { (result.1.0.board ≡ board.now.lock.id) × (result.1.0.number ≡ second.0.number) × (result.1.0.seen.boxes ≡ 4) }
+{
+    let (one, one_sender) = first;
+    let (two, two_sender) = second;
+    join(
+        rt,
+        move || work(rt, board, one, one_sender),
+        move || work(rt, board, two, two_sender),
+    )
 }
 
 // A board of four mailboxes, with the opening post 0 in mailbox 0, and its passes.
@@ -133,25 +177,19 @@ fn taken_in_order(
 }
 
 #[test]
-fn four_passes_close_a_board(rt: HostRuntime) -> Result<(), Fail> {
-    let (board, mut a, mut b, mut c, mut d) = four(&rt)?;
+fn four_threads_close_a_board(rt: HostRuntime) -> Result<(), Fail> {
+    let (board, mut a, b, c, d) = four(&rt)?;
     let (job, _opening) = message(&rt, &board, &mut a);
     for to in 0..4u8 {
         assert_eq!(rt; post(&rt, &board, &mut a, &job, to, 0), Ok(()));
     }
     done(&rt, &board, &mut a, job);
-    work(&rt, &board, &mut a, 0);
-    work(&rt, &board, &mut b, 1);
-    work(&rt, &board, &mut c, 2);
-    work(&rt, &board, &mut d, 3);
-    drain(&rt, &board, &mut a);
-    drain(&rt, &board, &mut b);
-    drain(&rt, &board, &mut c);
-    drain(&rt, &board, &mut d);
-    assert_eq!(rt; found(&rt, &board, &mut a), Answer::Closed);
-    assert_eq!(rt; found(&rt, &board, &mut b), Answer::Closed);
-    assert_eq!(rt; found(&rt, &board, &mut c), Answer::Closed);
-    assert_eq!(rt; found(&rt, &board, &mut d), Answer::Closed);
+    let (((a, a_closed), (b, b_closed)), ((c, c_closed), (d, d_closed))) = join(
+        &rt,
+        || two_work(&rt, &board, (a, 0), (b, 1)),
+        || two_work(&rt, &board, (c, 2), (d, 3)),
+    );
+    assert!(rt; a_closed && b_closed && c_closed && d_closed);
     let mut passes = Vec::new(rt.alloc());
     gather(&board, &mut passes, a)?;
     gather(&board, &mut passes, b)?;

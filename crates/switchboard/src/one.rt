@@ -10,10 +10,10 @@ use crate::calls::{Cause, Job, PostFault, Taken};
 use crate::lanes::Lanes;
 use crate::mail::Mail;
 use crate::pass::{OnePass, OneTold};
+use crate::world::Shown;
 use post_ledger::Ledger;
 use std::alloc::{AllocError, Allocator};
 use std::mem;
-use std::snapshot::Snapshot;
 use std::sync::Wait;
 use ticket_lock::{MOST_TICKETS, Spent, TicketLock};
 
@@ -69,7 +69,7 @@ impl<M: Mail, A: Allocator> OneLock<M, A> {
         for lane in lanes {
             passes.push_reserved(OnePass {
                 lane,
-                world: Snapshot::of(world),
+                world: Shown::of(world),
                 boxes,
                 kept: true,
             });

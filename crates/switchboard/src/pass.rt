@@ -1,11 +1,11 @@
 //! What a thread holds of the board behind one lock.
 use crate::book::Book;
 use crate::mail::Mail;
+use crate::world::Shown;
 use post_ledger::Entry;
 use std::alloc::Allocator;
 use std::collections::LinkedList;
 use std::marker::Model;
-use std::snapshot::Snapshot;
 use ticket_lock::{Lane, LaneLaw, Note};
 
 // A state comes before those that go on from it. A pass's own part is what it made itself.
@@ -28,7 +28,7 @@ impl<W, M: Mail<World = W>, A: Allocator> LaneLaw for Book<M, W, A> {
 #[derive(Drop)]
 pub struct OnePass<M: Mail, A: Allocator> {
     pub(crate) lane: Lane<Book<M, M::World, A>>,
-    pub(crate) world: Snapshot<M::World>,
+    pub(crate) world: Shown<M::World>,
     pub(crate) boxes: u8,
     /// Whether the ticket of the first abort is still kept.
     pub(crate) kept: bool,

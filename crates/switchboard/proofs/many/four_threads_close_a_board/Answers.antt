@@ -1,6 +1,6 @@
 -- A post leaves the job.
 use Rattle.std.proofs.Common.{◌∙◌}
-use Rattle.switchboard.proofs.many.four_passes_close_a_board.Goals as goal
+use Rattle.switchboard.proofs.many.four_threads_close_a_board.Goals as goal
 
 pub loop-to-preserved : goal.loop-to-preserved
 loop-to-preserved g c =

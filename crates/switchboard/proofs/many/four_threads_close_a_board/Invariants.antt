@@ -1,7 +1,7 @@
 -- The first pass is the same, and keeps the job.
 use Rattle.std.proofs.Common.{◌≡◌}
 use Rattle.post_ledger.specs.Orders.{HasJob}
-use Rattle.switchboard.proofs.many.four_passes_close_a_board.Given as goal
+use Rattle.switchboard.proofs.many.four_threads_close_a_board.Given as goal
 
 abbrev pub invariant-loop-to : goal.invariant-loop-to
 invariant-loop-to g l =
