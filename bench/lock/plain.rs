@@ -1,4 +1,5 @@
-// The same loop over std's Mutex and over a plain ticket lock, for comparison with the proved lock.
+// The same loop over std's Mutex and over a plain ticket lock, for comparison with the proved lock. The ticket lock waits in two ways: with pauses that
+// grow, as crossbeam's Backoff does, and with equal ones. After some pauses it yields.
 use std::cell::UnsafeCell;
 use std::sync::Mutex;
 use std::sync::atomic::{AtomicU64, Ordering::SeqCst};
@@ -16,20 +17,17 @@ struct TicketLock {
 unsafe impl Sync for TicketLock {}
 
 impl TicketLock {
-    // Waits as crossbeam's Backoff does: it spins a while, and then yields.
-    fn enter(&self) -> u64 {
+    fn enter(&self, grows: bool) -> u64 {
         let ticket = self.next.fetch_add(1, SeqCst);
-        let mut step = 0;
+        let mut looks = 0;
         while self.serving.load(SeqCst) != ticket {
-            if step <= 6 {
-                for _ in 0..1u32 << step {
+            if looks < if grows { 7 } else { 16 } {
+                for _ in 0..if grows { 1u32 << looks } else { 8 } {
                     std::hint::spin_loop();
                 }
+                looks += 1;
             } else {
                 thread::yield_now();
-            }
-            if step <= 10 {
-                step += 1;
             }
         }
         unsafe { (*self.value.get()).take().unwrap() }
@@ -56,17 +54,20 @@ fn measure<F: Fn() + Sync>(threads: u64, round: F) -> u128 {
 }
 
 fn main() {
-    for threads in 1..=4 {
-        let lock = TicketLock {
-            serving: AtomicU64::new(0),
-            next: AtomicU64::new(0),
-            value: UnsafeCell::new(Some(0)),
-        };
-        let nanos = measure(threads, || {
-            let value = lock.enter();
-            lock.leave(value + 1);
-        });
-        println!("plain ticket lock in Rust, {threads} threads: {nanos} ns a hand-over");
+    for grows in [false, true] {
+        for threads in 1..=4 {
+            let lock = TicketLock {
+                serving: AtomicU64::new(0),
+                next: AtomicU64::new(0),
+                value: UnsafeCell::new(Some(0)),
+            };
+            let nanos = measure(threads, || {
+                let value = lock.enter(grows);
+                lock.leave(value + 1);
+            });
+            let pauses = if grows { "growing" } else { "equal" };
+            println!("plain ticket lock in Rust with {pauses} pauses, {threads} threads: {nanos} ns a hand-over");
+        }
     }
     for threads in 1..=4 {
         let lock = Mutex::new(0u64);
