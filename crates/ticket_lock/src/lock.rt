@@ -12,6 +12,19 @@ use crossbeam_utils::Backoff;
 use std::alloc::Allocator;
 use std::marker::Model;
 use std::sync::Wait;
+use std::thread;
+
+// How often a ticket is looked at before its thread yields, since the one that it waits for may have no processor.
+const LOOKS: u32 = 16;
+
+// The pause between two looks, which does not grow with them: a ticket that oversleeps its turn holds up all behind it, who would
+// oversleep the more.
+fn pause() {
+    let backoff = Backoff::new();
+    backoff.spin();
+    backoff.spin();
+    backoff.spin();
+}
 
 /// A value that one lane at a time may change, in the order of the tickets drawn. Contracts see it as a `Lock`.
 #[derive(Drop)]
@@ -100,20 +113,26 @@ impl<T: LaneLaw, A: Allocator> TicketLock<T, A> {
         self.board.shared.load::<TakesIn>(&mut lane.seat, 0);
     }
 
-    /// Draws a ticket and looks until it is served, yielding between two looks. `Spent` is answered exactly where the lane has drawn all its tickets, and
-    /// changes nothing. The lane must be one of this lock.
+    /// Draws a ticket and looks until it is served, with a pause between two looks, and after some looks yields between two.
+    /// `Spent` is answered exactly where the lane has drawn all its tickets, and changes nothing. The lane must be one of this
+    /// lock.
     pub fn enter<R: Wait>(&self, rt: &R, lane: &mut Lane<T>) -> Result<Guard<T>, Spent>
         requires { lane.old.lock ≡ self.now.id }
         ensures { MatchResult result (λ g. Entered T.before T.part g lane.old lane.new) (λ _. WasSpent lane.old lane.new) }
     {
         let mut ticket = self.draw(lane)?;
-        let backoff = Backoff::new();
+        let mut looks = 0u32;
         for _ in rt.forever() {
             match self.look(lane, ticket) {
                 Ok(guard) => return Ok(guard),
                 Err(back) => ticket = back,
             }
-            backoff.snooze();
+            if looks < LOOKS {
+                looks += 1;
+                pause();
+            } else {
+                thread::yield_now();
+            }
         }
         unreachable!()
     }
