@@ -9,9 +9,9 @@ use Rattle.syntax.specs.Trees.{names_of}
 use Rattle.syntax.specs.declared.tree.Name as declared
 use Rattle.flow_graph.specs.Located.{bit_of_place}
 
-module _ (gs fs ls : List Name) (x : Name) where
+module _ (gs fs ls ps : List Name) (x : Name) where
   abbrev scope : Scope
-  scope = record { globals = gs; locals = fs ++ ls; procedures = [] }
+  scope = record { globals = gs; locals = fs ++ ls; procedures = ps }
 
   pub among_formals : is_declared x.text fs ≡ true → bit_of_place (length gs) (place_of scope x) ≡ Some (length gs + number_of x.text fs)
   among_formals h =

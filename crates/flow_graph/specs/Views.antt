@@ -1,12 +1,13 @@
 -- What the scope of a procedure stands for.
-use Rattle.std.specs.Prelude.{◌≤◌, ◌+◌, ◌++◌, length, []}
+use Rattle.std.specs.Prelude.{◌≤◌, ◌+◌, ◌++◌, length, map}
+use Rattle.language.specs.Tree.{Procedure}
 use Rattle.language.specs.Resolve as resolve
-use Rattle.syntax.specs.Trees.{names_of}
+use Rattle.syntax.specs.Trees.{names_of, procs_of}
 use Rattle.flow_graph.specs.declared.scope.Scope.{Scope}
 
--- the scope; where calls lead is no matter of expressions
+-- the scope
 abbrev pub scope_seen : {N : Type 0} → Scope N → resolve.Scope
-scope_seen s = record { globals = names_of s.globals.now; locals = names_of s.formals.now ++ names_of s.locals.now; procedures = [] }
+scope_seen s = record { globals = names_of s.globals.now; locals = names_of s.formals.now ++ names_of s.locals.now; procedures = map (λ (p : Procedure). p.name) (procs_of s.procedures.now) }
 
 -- at most 64 variables
 abbrev pub IsSmall : {N : Type 0} → Scope N → Type 0

@@ -4,6 +4,7 @@
 mod formula;
 mod postfix;
 mod scope;
+mod side;
 mod table;
 #[cfg(test)]
 mod tests;

@@ -7,14 +7,15 @@ ghost use Rattle.flow_graph.specs.Located.{bit_of_place};
 ghost use Rattle.flow_graph.specs.Views.{scope_seen, IsSmall};
 
 use std::alloc::Allocator;
-use syntax::{Name, declares, number_of_name};
+use syntax::{Name, Proc, declares, number_of_name};
 
-/// The names in whose scope the statements of a procedure stand; at most 64 variables.
+/// The names in whose scope the statements of a procedure stand: at most 64 variables, and the procedures.
 #[derive(Clone, Copy)]
 pub(crate) struct Scope<'a, N: Allocator> {
     pub(crate) globals: &'a [Name<N>],
     pub(crate) formals: &'a [Name<N>],
     pub(crate) locals: &'a [Name<N>],
+    pub(crate) procedures: &'a [Proc<N>],
 }
 
 impl<'a, N: Allocator> Scope<'a, N> {

@@ -19,6 +19,7 @@ fn compiled<A: Allocator>(
         globals: program.globals.as_slice(),
         formals: proc.formals.as_slice(),
         locals: proc.locals.as_slice(),
+        procedures: program.procs.as_slice(),
     };
     if scope.globals.len() > 20 || scope.formals.len() > 20 || scope.locals.len() > 20 {
         return Ok(None);
