@@ -4,3 +4,4 @@ pub mod Codes
 pub mod Rows
 pub mod Worths
 pub mod Nodes
+pub mod Calls

@@ -201,7 +201,7 @@ split : (p : ℕ) (b : Bool) (n : ℕ) → p * (worth_of b + 2 * n) ≡ worth_of
 split p true n = mul-add p 1 (2 * n) ∙ (let a : p * 2 * n ≡ p * (2 * n) = mul_assoc p 2 n in omega (arith, a))
 split p false n = let a : p * 2 * n ≡ p * (2 * n) = mul_assoc p 2 n in let z : 0 + 2 * n ≡ 2 * n = omega arith in ap (λ k. p * k) z ∙ omega (arith, a)
 
-pub row_step : (f : ℕ → Bool) (xs rest : List ℕ) (x row place bit whole : ℕ) → row + place * coded (map f xs) ≡ whole → xs ≡ x ∷ rest → bit ≡ worth_of (f x)
+pub row_step : {A : Type 0} (f : A → Bool) (xs rest : List A) (x : A) (row place bit whole : ℕ) → row + place * coded (map f xs) ≡ whole → xs ≡ x ∷ rest → bit ≡ worth_of (f x)
     → (row + bit * place) + place * 2 * coded (map f rest) ≡ whole
 row_step f xs rest x row place bit whole h e is =
     let all : place * coded (map f xs) ≡ worth_of (f x) * place + place * 2 * coded (map f rest) = ap (λ l. place * coded (map f l)) e ∙ split place (f x) (coded (map f rest)) in

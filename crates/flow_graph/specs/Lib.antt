@@ -5,3 +5,6 @@ pub mod Postfix
 pub mod Tables
 pub mod Formulas
 pub mod Nodes
+pub mod Assignments
+pub mod Calls
+pub mod Flows

@@ -13,7 +13,7 @@ use syntax::Expr;
 
 /// An expression over the bits of a valuation: a truth table where it has at most six of them, else postfix code.
 #[derive(Debug, Drop)]
-pub(crate) enum Formula<A: Allocator> {
+pub enum Formula<A: Allocator> {
     Table(Table),
     Code(Postfix<A>),
 }

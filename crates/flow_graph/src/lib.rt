@@ -1,10 +1,19 @@
 //! Flow graphs: the steps inside one call of a sequential program.
 #![tactic(auto)]
 
+mod assignment;
+mod call;
+mod flow;
 mod formula;
+mod point;
 mod postfix;
 mod scope;
 mod side;
 mod table;
+pub use assignment::Assignment;
+pub use call::Call;
+pub use flow::Flow;
+pub use point::{EXIT, Point};
+
 #[cfg(test)]
 mod tests;

@@ -13,7 +13,7 @@ use syntax::{Expr, Op};
 
 /// One step of postfix code, over a stack of values.
 #[derive(Clone, Copy, Debug)]
-pub(crate) enum Step {
+pub enum Step {
     /// Puts the value of a bit on the stack.
     Read(u8),
     /// Puts a value on the stack.
@@ -50,7 +50,7 @@ fn stepped(step: Step, values: u64, stack: u64) -> u64
 
 /// An expression as postfix code, which never needs a stack of more than 64 values.
 #[derive(Debug, Drop)]
-pub(crate) struct Postfix<A: Allocator> {
+pub struct Postfix<A: Allocator> {
     pub(crate) steps: Vec<Step, A>,
     pub(crate) ghost shallow: { IsShallow 0 steps.items } by { IsShallow-prop 0 steps.items },
 }

@@ -12,7 +12,7 @@ use syntax::Rhs;
 
 /// A right side, compiled.
 #[derive(Debug, Drop)]
-pub(crate) enum Side<A: Allocator> {
+pub enum Side<A: Allocator> {
     /// `?`, which has both values.
     Any,
     /// An expression, which has one.

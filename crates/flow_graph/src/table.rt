@@ -20,7 +20,7 @@ const MOST: usize = 6;
 /// An expression as a truth table: where each input has the value of its bit of j, the expression is worth bit j of the
 /// outputs.
 #[derive(Debug, Drop)]
-pub(crate) struct Table {
+pub struct Table {
     pub(crate) inputs: ArrayVec<u8, MOST>,
     pub(crate) outputs: u64,
     pub(crate) ghost bits: { AreBits inputs.items } by { AreBits-prop inputs.items },

@@ -1,0 +1,18 @@
+-- Each argument is one bit more of the entry.
+use Rattle.std.proofs.Common.{◌∷◌, ◌+◌, ◌∙◌, ◌<◌, ap, sym, drop, arith}
+use Rattle.std.proofs.lemmas.List.{drop_more}
+use Rattle.flow_graph.specs.Bits.{worth_of}
+use Rattle.flow_graph.specs.Formulas.{says}
+use Rattle.flow_graph.proofs.Calls.{argument_step}
+use Rattle.flow_graph.proofs.Stacks.{byte_worth}
+use Rattle.flow_graph.proofs.call.Call.entry.Goals as goal
+
+pub loop-argument-preserved : goal.loop-argument-preserved
+loop-argument-preserved g c =
+    let xs = c.as_slice-argument-items.result.now in
+    let i = c.loop-argument.argument-index in
+    let next = drop_more xs i c.argument-item.result c.loop-argument-test.true ∙ ap (λ x. x ∷ drop (i + 1) xs) (sym c.argument-item.is) in
+    let bit : c.loop-argument.bit < 64 = omega (arith, c.loop-argument.invariant.2, c.loop-argument-test.true, c.as_slice-argument-items.ensures.len, c.args.self.now.fits) in
+    let (whole, below) = argument_step (λ f. says f c.args.values) (drop i xs) (drop (i + 1) xs) c.argument-item.result c.loop-argument.entry c.loop-argument.bit _ _
+      c.loop-argument.invariant.0 next (byte_worth c.value.result ∙ ap worth_of c.value.ensures) c.loop-argument.invariant.1 bit in
+    (whole, below, omega (arith, c.loop-argument.invariant.2))

@@ -1,0 +1,55 @@
+//! Calls, compiled, and the returns from them.
+
+ghost use Rattle.std.specs.Prelude.{◌≡◌, ◌≤◌, ◌^◌, ◌%◌, ◌+◌, length};
+ghost use Rattle.flow_graph.specs.Calls.{entry_of};
+
+use crate::formula::Formula;
+use crate::point::Point;
+use std::alloc::Allocator;
+
+/// The lowest bits of a number.
+pub(crate) fn low_bits(values: u64, count: u8) -> u64
+    ensures { result ≡ values % 2 ^ count }
+{
+    if count < 64 { values % (1 << count) } else { values }
+}
+
+/// The call of a procedure, compiled.
+#[derive(Debug, Drop)]
+pub struct Call<A: Allocator> {
+    pub(crate) callee: u8,
+    pub(crate) globals: u8,
+    pub(crate) arguments: Vec<Formula<A>, A>,
+    pub(crate) back: Point,
+    pub ghost fits: { globals + length arguments.items ≤ 64 },
+}
+
+impl<A: Allocator> Call<A> {
+    /// The number of the procedure that is called.
+    pub fn callee(&self) -> u8
+        ensures { result ≡ self.now.callee }
+    {
+        self.callee
+    }
+
+    /// The point at which the caller goes on after the return.
+    pub fn back(&self) -> Point
+        ensures { result ≡ self.now.back }
+    {
+        self.back
+    }
+
+    /// The valuation with which the procedure is entered from the caller's: the globals as they are, the arguments, and 0 in
+    /// every other place.
+    pub fn entry(&self, values: u64) -> u64
+        ensures { result ≡ entry_of self.now.globals self.now.arguments.items values }
+    {
+        let mut entry = low_bits(values, self.globals);
+        let mut bit = self.globals;
+        for argument in self.arguments.as_slice() {
+            entry += (argument.value(values) as u64) << bit;
+            bit += 1;
+        }
+        entry
+    }
+}
