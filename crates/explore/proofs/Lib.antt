@@ -3,4 +3,3 @@ mod StepLemmas
 mod RoundLemmas
 mod EntryLemmas
 mod JumpLemmas
-mod SimpleLemmas

@@ -9,7 +9,7 @@ ghost use Rattle.syntax.specs.Trees.{procs_of};
 
 use crate::thread::{Frame, Thread};
 use std::alloc::{AllocError, Allocator};
-use syntax::{Proc, Program};
+use syntax::{Program, number_of_procedure};
 
 /// So many values of 0.
 pub(crate) fn all_zero<A: Allocator>(alloc: A, count: usize) -> Result<Vec<bool, A>, AllocError>
@@ -31,20 +31,6 @@ fn filled<A: Allocator>(arguments: Vec<bool, A>, places: usize) -> Result<Vec<bo
         values.push(false)?;
     }
     Ok(values)
-}
-
-/// The number of the first procedure of this name: how many come before it.
-fn number_of_procedure<N: Allocator>(procs: &[Proc<N>], text: &str) -> usize
-    ensures { result ≡ number_of text.now (map (λ (p : Procedure). p.name) (procs_of procs.now)) }
-{
-    let mut at: usize = 0;
-    for proc in procs {
-        if text == proc.name.text.as_str() {
-            return at;
-        }
-        at += 1;
-    }
-    at
 }
 
 /// A new frame of the procedure of this name with these arguments; `None` where there is no such procedure, or where

@@ -1,25 +1,13 @@
 //! `goto`: what is left to run from a label on.
-ghost use Rattle.std.specs.Prelude.{◌≡◌, IfOk};
+ghost use Rattle.std.specs.Prelude.{IfOk};
 ghost use Rattle.language.specs.Tree.{goto};
-ghost use Rattle.language.specs.Resolve.{resolve_mark};
-ghost use Rattle.language.specs.Rest.{has_label};
-ghost use Rattle.syntax.specs.Trees.{simple, item_of, block_of, name_of};
+ghost use Rattle.syntax.specs.Trees.{simple, block_of, name_of};
 ghost use Rattle.explore.specs.Views.{JumpMeans, StatementMeans};
 
 use crate::steps::Outcome;
 use crate::thread::Frame;
 use std::alloc::{AllocError, Allocator};
 use syntax::{Core, Name, Program, Stmt};
-
-/// Whether a statement has this label.
-fn is_labelled<N: Allocator>(stmt: &Stmt<N>, label: &str) -> bool
-    ensures { result ≡ has_label label.now (resolve_mark (item_of stmt.now).mark) }
-{
-    match &stmt.label {
-        Some(name) => label == name.text.as_str(),
-        None => false,
-    }
-}
 
 /// Looks for the first statement of a block, and of those inside, that has this label. Where there is one, what is
 /// left to run from it on stands in front of `rest`; else `rest` is as it was.
@@ -33,7 +21,7 @@ fn jump<'a, N: Allocator, A: Allocator>(
     let Some((stmt, more)) = block.split_first() else {
         return Ok(false);
     };
-    if is_labelled(stmt, label) {
+    if stmt.is_labelled(label) {
         rest.push(block)?;
         return Ok(true);
     }

@@ -8,3 +8,4 @@ pub mod Nodes
 pub mod Assignments
 pub mod Calls
 pub mod Flows
+pub mod Lowering

@@ -4,11 +4,14 @@
 mod assignment;
 mod call;
 mod flow;
+mod labels;
+mod lowering;
 mod formula;
 mod point;
 mod postfix;
 mod scope;
 mod side;
+mod sizes;
 mod table;
 pub use assignment::Assignment;
 pub use call::Call;

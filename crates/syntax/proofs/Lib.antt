@@ -24,3 +24,4 @@ pub mod PrintsBackPrograms
 pub mod PrintsApart
 pub mod TextsInGrammar
 pub mod ReadsBack
+pub mod Plain

@@ -18,7 +18,7 @@ mod tree;
 
 pub use fault::ReadFault;
 pub use laws::texts_have_one_tree;
-pub use names::{declares, number_of_name};
+pub use names::{declares, number_of_name, number_of_procedure};
 pub use printed_laws::{a_loop_is_printed_over_lines, printed_texts_are_read_back};
 pub use printing::print;
 pub use reading::read;

@@ -1,10 +1,12 @@
-//! Looking names up by their texts.
+//! Looking names, procedures and labels up by their texts.
 
-ghost use Rattle.std.specs.Prelude.{◌≡◌};
-ghost use Rattle.language.specs.Resolve.{number_of, is_declared};
-ghost use Rattle.syntax.specs.Trees.{names_of};
+ghost use Rattle.std.specs.Prelude.{◌≡◌, map};
+ghost use Rattle.language.specs.Tree.{Procedure};
+ghost use Rattle.language.specs.Resolve.{number_of, is_declared, resolve_mark};
+ghost use Rattle.language.specs.Rest.{has_label};
+ghost use Rattle.syntax.specs.Trees.{names_of, procs_of, item_of};
 
-use crate::tree::Name;
+use crate::tree::{Name, Proc, Stmt};
 use std::alloc::Allocator;
 
 /// How many of the names come before the first with this text: all of them, where none has it.
@@ -31,4 +33,30 @@ pub fn declares<N: Allocator>(names: &[Name<N>], text: &str) -> bool
         }
     }
     false
+}
+
+/// How many of the procedures come before the first with this name: all of them, where none has it.
+pub fn number_of_procedure<N: Allocator>(procs: &[Proc<N>], text: &str) -> usize
+    ensures { result ≡ number_of text.now (map (λ (p : Procedure). p.name) (procs_of procs.now)) }
+{
+    let mut at: usize = 0;
+    for proc in procs {
+        if text == proc.name.text.as_str() {
+            return at;
+        }
+        at += 1;
+    }
+    at
+}
+
+impl<N: Allocator> Stmt<N> {
+    /// Whether the statement has this label.
+    pub fn is_labelled(&self, label: &str) -> bool
+        ensures { result ≡ has_label label.now (resolve_mark (item_of self.now).mark) }
+    {
+        match &self.label {
+            Some(name) => label == name.text.as_str(),
+            None => false,
+        }
+    }
 }

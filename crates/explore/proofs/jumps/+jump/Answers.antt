@@ -8,7 +8,7 @@ use Rattle.syntax.proofs.Held.{held}
 use Rattle.explore.specs.Views.{JumpMeans, code_at}
 use Rattle.explore.proofs.RestLemmas.{pushed}
 use Rattle.syntax.proofs.Folds.{item_deed, deed_of-If, deed_of-While}
-use Rattle.explore.proofs.SimpleLemmas.{is_simple}
+use Rattle.syntax.proofs.Plain.{is_simple}
 use Rattle.explore.proofs.JumpLemmas.{fewer_behind, fewer_held, at_label, past_simple, in_first, in_second, past_branch, in_loop, past_loop, popped, goes_on, found, lost, ok_map}
 use Rattle.explore.proofs.jumps.+jump.Goals as goal
 

@@ -3,7 +3,7 @@ use Rattle.std.proofs.Common.{◌≡◌, ◌+◌, ◌≤◌, drop, map}
 use Rattle.language.specs.Tree.{Procedure}
 use Rattle.language.specs.Resolve.{number_of}
 use Rattle.syntax.specs.Trees.{procs_of}
-use Rattle.explore.proofs.entry.number_of_procedure.Given as goal
+use Rattle.syntax.proofs.names.number_of_procedure.Given as goal
 
 abbrev pub invariant-loop-proc : goal.invariant-loop-proc
 invariant-loop-proc g l =

@@ -1,0 +1,48 @@
+//! The points of labels.
+
+ghost use Rattle.std.specs.Prelude.{◌≡◌, ◌≤◌, ◌+◌, ◌∷◌, [], option_map};
+ghost use Rattle.language.specs.Resolve.{Scope, resolve_block};
+ghost use Rattle.language.specs.Rest.{Code, rest_from};
+ghost use Rattle.language.specs.Sequential.{statements, numbered};
+ghost use Rattle.syntax.specs.Trees.{block_of};
+ghost use Rattle.flow_graph.specs.Nodes.{at};
+
+use crate::point::Point;
+use crate::sizes::{size, size_of};
+use std::alloc::Allocator;
+use syntax::{Core, Stmt};
+
+/// The point of the first statement with this label, those inside of others included, where the first of the statements has
+/// this number; `None` where none has the label.
+#[cycle(finding)]
+pub(crate) fn find<N: Allocator>(label: &str, stmts: &[Stmt<N>], first: Point) -> Option<Point>
+    ensures { (s : Scope) (k : Code) → first + statements (block_of stmts.now) ≤ 18446744073709551615 → result ≡ option_map at (rest_from label.now (numbered first (resolve_block s (block_of stmts.now))) k) }
+{
+    let mut at = first;
+    for stmt in stmts {
+        if let Some(found) = find_at(label, stmt, at) {
+            return Some(found);
+        }
+        at = at.saturating_add(size_of(stmt));
+    }
+    None
+}
+
+/// The same for one statement, which has this number, and those inside of it.
+#[cycle(finding)]
+fn find_at<N: Allocator>(label: &str, stmt: &Stmt<N>, number: Point) -> Option<Point>
+    ensures { (s : Scope) (k : Code) → number + statements (block_of (stmt.now ∷ [])) ≤ 18446744073709551615 → result ≡ option_map at (rest_from label.now (numbered number (resolve_block s (block_of (stmt.now ∷ [])))) k) }
+{
+    if stmt.is_labelled(label) {
+        return Some(number);
+    }
+    let inside = number.saturating_add(1);
+    match &stmt.core {
+        Core::If(_, a, b) => match find(label, a, inside) {
+            Some(found) => Some(found),
+            None => find(label, b, inside.saturating_add(size(a))),
+        },
+        Core::While(_, a) => find(label, a, inside),
+        _ => None,
+    }
+}

@@ -1,0 +1,187 @@
+//! From statements to flows.
+
+ghost use Rattle.std.specs.Prelude.{ℕ, ◌≡◌, ◌≤◌, ◌<◌, ◌+◌, ◌∷◌, [], IfOk, length, map};
+ghost use Rattle.language.specs.Tree.{done};
+ghost use Rattle.language.specs.Resolve.{number_of, place_of, resolve_expression, resolve_side, resolve_block};
+ghost use Rattle.language.specs.Rest.{Code, join, rest_from};
+ghost use Rattle.language.specs.Sequential.{statements, numbered};
+ghost use Rattle.language.specs.Flow.{rests};
+ghost use Rattle.syntax.specs.Trees.{name_of, names_of, rhs_of, rhss_of, exprs_of, block_of};
+ghost use Rattle.flow_graph.specs.Nodes.{at, node_of, goes, stops, goes_to, tests, assumes, assigns, calls};
+ghost use Rattle.flow_graph.specs.Flows.{Does};
+ghost use Rattle.flow_graph.specs.Lowering.{IsLowerable, scope_of, body_of, DoesIn, LoweredIn, DoesFirst};
+
+use crate::call::Call;
+use crate::flow::Flow;
+use crate::formula::Formula;
+use crate::labels::find;
+use crate::point::{EXIT, Point};
+use crate::scope::Scope;
+use crate::side::Side;
+use crate::sizes::{size, size_of};
+use crate::table::Table;
+use arrayvec::ArrayVec;
+use std::alloc::{AllocError, Allocator};
+use syntax::{Core, Expr, Name, Rhs, Stmt, number_of_procedure};
+
+/// The point at which statements begin, the first of which has this number, where the run goes on at `after` behind them.
+fn begin<N: Allocator>(stmts: &[Stmt<N>], first: Point, after: Point) -> Point
+    ensures { (s : Rattle.language.specs.Resolve.Scope) (k : Code) → at k ≡ after → result ≡ at (join (numbered first (resolve_block s (block_of stmts.now))) k) }
+{
+    if stmts.is_empty() { after } else { first }
+}
+
+/// A flow on which no run goes on.
+fn nowhere<A: Allocator>() -> Flow<A>
+    ensures { (g l m : ℕ) → Does result stops g l m }
+{
+    let always_0 = Table {
+        inputs: ArrayVec::new(),
+        outputs: 0,
+    };
+    Flow::Assume(Side::Value(Formula::Table(always_0)), EXIT)
+}
+
+/// What the statements of one procedure are lowered with: where it allocates, the names in scope, and the procedure's body.
+pub(crate) struct Lowering<'a, N: Allocator, A: Allocator + Clone> {
+    pub(crate) alloc: &'a A,
+    pub(crate) scope: Scope<'a, N>,
+    pub(crate) body: &'a [Stmt<N>],
+}
+
+impl<'a, N: Allocator, A: Allocator + Clone> Lowering<'a, N, A> {
+    /// On to a point.
+    fn going(&self, to: Point) -> Result<Flow<A>, AllocError>
+        requires { IsLowerable self.now }
+        ensures { IfOk result (λ f. DoesIn self.now f (goes to)) }
+    {
+        Ok(Flow::Assign(self.scope.assignment(self.alloc, &[], &[])?, to))
+    }
+
+    /// On to the statement with a label.
+    fn jump(&self, label: &Name<N>) -> Result<Flow<A>, AllocError>
+        requires { IsLowerable self.now }
+        ensures { IfOk result (λ f. statements (block_of self.now.body.now) < 18446744073709551615 → DoesIn self.now f (goes_to (rest_from (name_of label.now).text (body_of self.now) done))) }
+    {
+        match find(label.text.as_str(), self.body, 1) {
+            Some(to) => self.going(to),
+            None => Ok(nowhere()),
+        }
+    }
+
+    /// One of two ways on, by a right side.
+    fn test(&self, r: &Rhs<N>, yes: Point, no: Point) -> Result<Flow<A>, AllocError>
+        requires { IsLowerable self.now }
+        ensures { IfOk result (λ f. DoesIn self.now f (tests (resolve_side (scope_of self.now) (rhs_of r.now)) yes no)) }
+    {
+        if yes == no {
+            return self.going(yes);
+        }
+        Ok(Flow::Test(self.scope.side(self.alloc.clone()?, r)?, yes, no))
+    }
+
+    /// On where 1 is a value of a right side.
+    fn assumption(&self, r: &Rhs<N>, to: Point) -> Result<Flow<A>, AllocError>
+        requires { IsLowerable self.now }
+        ensures { IfOk result (λ f. DoesIn self.now f (assumes (resolve_side (scope_of self.now) (rhs_of r.now)) to)) }
+    {
+        Ok(Flow::Assume(self.scope.side(self.alloc.clone()?, r)?, to))
+    }
+
+    /// An assignment.
+    fn assignment(&self, xs: &[Name<N>], rs: &[Rhs<N>], to: Point) -> Result<Flow<A>, AllocError>
+        requires { IsLowerable self.now }
+        ensures { IfOk result (λ f. DoesIn self.now f (assigns (map (place_of (scope_of self.now)) (names_of xs.now)) (map (resolve_side (scope_of self.now)) (rhss_of rs.now)) to)) }
+    {
+        Ok(Flow::Assign(self.scope.assignment(self.alloc, xs, rs)?, to))
+    }
+
+    /// A call. No run goes on where there is no such procedure, or where its valuation would have more than 64 places.
+    fn call(&self, p: &Name<N>, es: &[Expr<N>], back: Point) -> Result<Flow<A>, AllocError>
+        requires { IsLowerable self.now }
+        ensures { IfOk result (λ f. DoesIn self.now f (calls (number_of (name_of p.now).text (scope_of self.now).procedures) (map (resolve_expression (scope_of self.now)) (exprs_of es.now)) back)) }
+    {
+        let callee = number_of_procedure(self.scope.procedures, p.text.as_str());
+        if callee >= self.scope.procedures.len() || es.len() > 64 - self.scope.globals.len() {
+            return Ok(nowhere());
+        }
+        let mut arguments = Vec::new(self.alloc.clone()?);
+        for e in es {
+            arguments.push(self.scope.formula(self.alloc.clone()?, e)?)?;
+        }
+        Ok(Flow::Call(Call {
+            callee: callee as u8,
+            globals: self.scope.globals.len() as u8,
+            arguments,
+            back,
+        }))
+    }
+
+    /// What a statement leads to, which has this number, where the run goes on at `after` behind it.
+    fn flow(&self, stmt: &Stmt<N>, number: Point, after: Point) -> Result<Flow<A>, AllocError>
+        requires { IsLowerable self.now }
+        ensures { IfOk result (λ f. DoesFirst self.now f stmt.now number after) }
+    {
+        match &stmt.core {
+            Core::Skip => self.going(after),
+            Core::Assign(xs, rs) => self.assignment(xs, rs, after),
+            Core::If(r, a, b) => {
+                let inside = number.saturating_add(1);
+                let yes = begin(a, inside, after);
+                let no = begin(b, inside.saturating_add(size(a)), after);
+                self.test(r, yes, no)
+            }
+            Core::While(r, a) => {
+                self.test(r, begin(a, number.saturating_add(1), number), after)
+            }
+            Core::Assert(r) => self.assumption(r, after),
+            Core::Assume(r) => self.assumption(r, after),
+            Core::Goto(label) => self.jump(label),
+            Core::Return => self.going(EXIT),
+            Core::Call(p, es) => self.call(p, es, after),
+        }
+    }
+
+    /// Puts the flows of statements behind others, where the run goes on at `after` behind them.
+    #[cycle(lowering)]
+    pub(crate) fn block(
+        &self,
+        stmts: &[Stmt<N>],
+        after: Point,
+        flows: &mut Vec<Flow<A>, A>,
+    ) -> Result<(), AllocError>
+        requires { IsLowerable self.now }
+        ensures { IfOk result (λ _. LoweredIn self.now flows.old.items flows.new.items stmts.now after) }
+    {
+        let mut rest = stmts;
+        while let Some((stmt, more)) = rest.split_first() {
+            let behind = flows.len().saturating_add(size_of(stmt));
+            self.statement(stmt, begin(more, behind, after), flows)?;
+            rest = more;
+        }
+        Ok(())
+    }
+
+    /// Puts the flows of a statement, and of those inside of it, behind others.
+    #[cycle(lowering)]
+    fn statement(
+        &self,
+        stmt: &Stmt<N>,
+        after: Point,
+        flows: &mut Vec<Flow<A>, A>,
+    ) -> Result<(), AllocError>
+        requires { IsLowerable self.now }
+        ensures { IfOk result (λ _. LoweredIn self.now flows.old.items flows.new.items (stmt.now ∷ []) after) }
+    {
+        let number = flows.len();
+        flows.push(self.flow(stmt, number, after)?)?;
+        match &stmt.core {
+            Core::If(_, a, b) => {
+                self.block(a, after, flows)?;
+                self.block(b, after, flows)
+            }
+            Core::While(_, a) => self.block(a, number, flows),
+            _ => Ok(()),
+        }
+    }
+}
