@@ -15,7 +15,8 @@ rest_found : (o : Option Code) (P : Code → Type 0) → AtRest o P → (rest : 
 rest_found None P h = absurd h
 rest_found (Some rest) P h = (rest, refl, h)
 
-routine_found : (o : Option Routine) (P : Routine → Type 0) → AtRoutine o P → (routine : Routine) × (o ≡ Some routine) × P routine
+-- the procedure that has the property
+pub routine_found : (o : Option Routine) (P : Routine → Type 0) → AtRoutine o P → (routine : Routine) × (o ≡ Some routine) × P routine
 routine_found None P h = absurd h
 routine_found (Some routine) P h = (routine, refl, h)
 
