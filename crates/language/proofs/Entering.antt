@@ -3,7 +3,7 @@ use Rattle.std.proofs.Common.{◌≡◌, ℕ, List, [], ◌∷◌, Bool, Option,
 use Rattle.language.specs.Tree.{Mark, Expression, skip, assign, assert, assume, goto, leave, call, done, one, choose, loop}
 use Rattle.language.specs.Value.{Place, values_of}
 use Rattle.language.specs.Rest.{Label, Code}
-use Rattle.language.specs.Step.{Routine, Program, Frame, frame, State, state, zeros, fresh, AtRoutine, body_of}
+use Rattle.language.specs.Step.{Routine, Program, Frame, frame, state, zeros, fresh, AtRoutine, body_of}
 use Rattle.language.specs.Rounds.{starting_stack}
 use Rattle.language.specs.Sequential.{Valuation, Reaches, Calls, Asks, IsZero, Entered, Caller, starter, caller, Message, entry, summary, IsDue}
 use Rattle.language.specs.Flow.{IsRestOf, after_first}

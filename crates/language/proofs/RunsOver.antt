@@ -1,8 +1,8 @@
 -- Runs one after the other, and runs over callers that wait below.
-use Rattle.std.proofs.Common.{◌≡◌, ℕ, zero, suc, List, [], ◌∷◌, ◌++◌, Bool, inl, inr, refl, sym, ap, subst, slice_get}
+use Rattle.std.proofs.Common.{◌≡◌, ℕ, zero, suc, List, [], ◌∷◌, ◌++◌, inl, inr, refl, sym, ap, subst, slice_get}
 use Rattle.language.specs.Tree.{done}
 use Rattle.language.specs.Rest.{Code}
-use Rattle.language.specs.Step.{Program, Frame, frame, State, state, body_of, Step, StepsTo, AfterSteps, Runs}
+use Rattle.language.specs.Step.{Program, Frame, frame, State, state, body_of, Step, AfterSteps, Runs}
 use Rattle.language.specs.Sequential.{Valuation, Calls}
 use Rattle.language.specs.Flow.{Flow, after_first}
 use Rattle.language.proofs.Runs.{steps_pick, step_runs, no_steps}

@@ -1,15 +1,15 @@
 -- By due messages, what is reached is a path edge, and what is owed is due.
-use Rattle.std.proofs.Common.{◌≡◌, ◌↔◌, ℕ, List, [], ◌∷◌, Bool, Option, Some, None, inl, inr, refl, sym, ap, subst, slice_get}
+use Rattle.std.proofs.Common.{◌≡◌, ℕ, List, [], ◌∷◌, Bool, Option, Some, None, refl, subst, slice_get}
 use Rattle.std.proofs.lemmas.Option.{none-some}
 use Rattle.language.specs.Tree.{done, one, choose, loop}
 use Rattle.language.specs.Rest.{Code}
 use Rattle.language.specs.Step.{Routine, Program, frame, State, state, AtRoutine, body_of, Runs}
-use Rattle.language.specs.Sequential.{Valuation, point_of, Calls, Asks, Entered, Edge, Pair, Caller, Message, entry, caller, summary, IsDue}
+use Rattle.language.specs.Sequential.{Valuation, point_of, Calls, Asks, Entered, Edge, Pair, Message, entry, caller, summary, IsDue}
 use Rattle.language.specs.Flow.{after_first}
 use Rattle.language.specs.Messages.{Reached, starts, flows, returns, Owes, asks, tells, AreDue, EdgeTo}
 use Rattle.language.proofs.RunsOver.{runs_then, runs_step, runs_over, entering, returning}
 use Rattle.language.proofs.Runs.{no_steps}
-use Rattle.language.proofs.Entering.{IsThere, callee_there, entered_comes, entered_there, due_entered}
+use Rattle.language.proofs.Entering.{entered_comes, entered_there, due_entered}
 
 -- a single frame of q, with the whole body left
 abbrev pub alone : Program → ℕ → Valuation → State
