@@ -11,7 +11,7 @@ use Rattle.language.proofs.Rests.{join_done}
 use Rattle.language.proofs.RestMembers.{in_whole, member_from, rest_follows}
 
 -- what is left in a frame of procedure q can be left there
-abbrev Stands : Program → ℕ → Code → Type 0
+abbrev pub Stands : Program → ℕ → Code → Type 0
 Stands p q r = IsRestOf (body_of (slice_get p.routines q)) r
 
 abbrev AllStand : Program → List Frame → Type 0
@@ -22,7 +22,7 @@ abbrev Standing : Program → State → Type 0
 Standing p (state g fs) = AllStand p fs
 
 -- a whole body can be left to run
-whole_stands : (b : Code) → IsRestOf b b
+pub whole_stands : (b : Code) → IsRestOf b b
 whole_stands b = subst (IsRestOf b) (join_done b) (in_whole b done)
 
 -- a procedure's number tells its body
@@ -72,13 +72,17 @@ run_stands p (suc n) s t at h =
     let (u, there, more) = steps_stand p s (λ v. AfterSteps p n v (λ z. z ≡ t)) at h in
     run_stands p n u t there more
 
+-- what a flow leads to can be left there too
+pub flow_stands : (p : Program) (q : ℕ) (v v' : Valuation) (r r' : Code) → Stands p q r → Flow p q v r v' r' → Stands p q r'
+flow_stands p q v v' r r' at flow =
+    let (u, there, is) = steps_stand p (state v.globals (frame q v.places r ∷ [])) (λ z. z ≡ state v'.globals (frame q v'.places r' ∷ [])) (at, tt) flow in
+    (subst (Standing p) is there).0
+
 pub flow_stays : (p : Program) (q : ℕ) (routine : Routine) (v v' : Valuation) (r r' : Code) → slice_get p.routines q ≡ Some routine →
     IsRestOf routine.body r → Flow p q v r v' r' → IsRestOf routine.body r'
 flow_stays p q routine v v' r r' e at flow =
     let same : body_of (slice_get p.routines q) ≡ routine.body = ap body_of e in
-    let (u, there, is) = steps_stand p (state v.globals (frame q v.places r ∷ [])) (λ z. z ≡ state v'.globals (frame q v'.places r' ∷ []))
-    (subst (λ b. IsRestOf b r) (sym same) at, tt) flow in
-    subst (λ b. IsRestOf b r') same (subst (Standing p) is there).0
+    subst (λ b. IsRestOf b r') same (flow_stands p q v v' r r' (subst (λ b. IsRestOf b r) (sym same) at) flow)
 
 -- the stack before the first step: one frame, whose whole body is left
 start_stands : (p : Program) (n : ℕ) → AllStand p (starting_stack p.routines n)

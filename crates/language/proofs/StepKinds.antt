@@ -11,11 +11,13 @@ use Rattle.language.proofs.Callers.{flow_over_callers}
 abbrev Kinds : Program → ℕ → Valuation → Code → List Frame → State → Type 0
 Kinds p q v r fs s = FlowsTo p q v r fs s ⊎ (ReturnsTo v r fs s ⊎ EntersTo p q v r fs s)
 
-rest_found : (o : Option Code) (P : Code → Type 0) → AtRest o P → (rest : Code) × (o ≡ Some rest) × P rest
+-- the rest that has the property
+pub rest_found : (o : Option Code) (P : Code → Type 0) → AtRest o P → (rest : Code) × (o ≡ Some rest) × P rest
 rest_found None P h = absurd h
 rest_found (Some rest) P h = (rest, refl, h)
 
-routine_found : (o : Option Routine) (P : Routine → Type 0) → AtRoutine o P → (routine : Routine) × (o ≡ Some routine) × P routine
+-- the procedure that has the property
+pub routine_found : (o : Option Routine) (P : Routine → Type 0) → AtRoutine o P → (routine : Routine) × (o ≡ Some routine) × P routine
 routine_found None P h = absurd h
 routine_found (Some routine) P h = (routine, refl, h)
 

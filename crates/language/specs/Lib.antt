@@ -6,4 +6,5 @@ pub mod Rounds
 pub mod Resolve
 pub mod Sequential
 pub mod Flow
+pub mod Messages
 pub mod Examples

@@ -3,6 +3,7 @@
 
 mod flows;
 mod laws;
+mod messages;
 mod numbering;
 mod verdicts;
 
@@ -18,6 +19,14 @@ pub use laws::{
     an_assert_fails_where_0_is_a_value, an_assert_steps_where_1_is_a_value,
     an_assert_with_both_values_fails_and_goes_on, an_empty_stack_has_no_step,
     joining_to_nothing_changes_nothing, what_follows_a_block_follows_its_rests,
+};
+pub use messages::{
+    a_message_is_due_where_a_procedure_is, a_pair_has_nothing_left_to_run,
+    a_path_edge_has_a_rest_at_its_point, by_due_messages_only_due_messages_are_owed,
+    by_due_messages_only_path_edges_are_reached, closed_messages_are_those_due,
+    closed_messages_hold_all_that_is_due, due_messages_have_their_widths,
+    more_messages_reach_and_owe_more, what_is_reached_has_an_entry, what_is_reached_has_its_widths,
+    what_is_reached_stands_in_its_body,
 };
 pub use numbering::{each_body_is_numbered_from_1, statements_are_numbered_in_text_order};
 pub use verdicts::{
