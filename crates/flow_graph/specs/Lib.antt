@@ -9,3 +9,5 @@ pub mod Assignments
 pub mod Calls
 pub mod Flows
 pub mod Lowering
+pub mod Returns
+pub mod Graphs

@@ -4,6 +4,7 @@
 mod assignment;
 mod call;
 mod flow;
+mod graph;
 mod labels;
 mod lowering;
 mod formula;
@@ -16,6 +17,7 @@ mod table;
 pub use assignment::Assignment;
 pub use call::Call;
 pub use flow::Flow;
+pub use graph::{Graph, Graphs};
 pub use point::{EXIT, Point};
 
 #[cfg(test)]

@@ -39,14 +39,14 @@ pub fn declares<N: Allocator>(names: &[Name<N>], text: &str) -> bool
 pub fn number_of_procedure<N: Allocator>(procs: &[Proc<N>], text: &str) -> usize
     ensures { result ≡ number_of text.now (map (λ (p : Procedure). p.name) (procs_of procs.now)) }
 {
-    let mut at: usize = 0;
+    let mut before: usize = 0;
     for proc in procs {
         if text == proc.name.text.as_str() {
-            return at;
+            return before;
         }
-        at += 1;
+        before += 1;
     }
-    at
+    before
 }
 
 impl<N: Allocator> Stmt<N> {

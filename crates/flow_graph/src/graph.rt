@@ -1,0 +1,79 @@
+//! Flow graphs.
+
+ghost use Rattle.std.specs.Prelude.{◌≡◌, ◌<◌, length, slice_get, Some};
+ghost use Rattle.flow_graph.specs.Returns.{left, resumed};
+
+use crate::call::low_bits;
+use crate::flow::Flow;
+use crate::point::Point;
+use std::alloc::Allocator;
+
+/// The flow graph of a procedure: a point before each statement and the exit, and what leads on from each. A valuation is a
+/// number of 64 bits: the globals from bit 0 in the order of their declaration, then the formals, locals and temporaries.
+#[derive(Debug, Drop)]
+pub struct Graph<A: Allocator> {
+    pub(crate) flows: Vec<Flow<A>, A>,
+    pub(crate) start: Point,
+    pub(crate) globals: u8,
+}
+
+impl<A: Allocator> Graph<A> {
+    /// The point of the first statement; the exit, where there is none.
+    pub fn start(&self) -> Point
+        ensures { result ≡ self.now.start }
+    {
+        self.start
+    }
+
+    /// How many points there are: as many as statements, and the exit.
+    pub fn points(&self) -> usize
+        ensures { result ≡ length self.now.flows.items }
+    {
+        self.flows.len()
+    }
+
+    /// What leads on from a point.
+    pub fn flow(&self, point: Point) -> &Flow<A>
+        requires { point < length self.now.flows.items }
+        ensures { slice_get self.now.flows.items point ≡ Some result.now }
+    {
+        &self.flows[point]
+    }
+
+    /// The globals of a valuation: what a call leaves that ends with it.
+    pub fn left(&self, values: u64) -> u64
+        ensures { result ≡ left self.now.globals values }
+    {
+        low_bits(values, self.globals)
+    }
+
+    /// The valuation of a caller after a call that left these globals: the places are the caller's.
+    pub fn resumed(&self, values: u64, globals: u64) -> u64
+        ensures { result ≡ resumed self.now.globals values globals }
+    {
+        low_bits(globals, self.globals) + (values - low_bits(values, self.globals))
+    }
+}
+
+/// The flow graphs of the procedures of a sequential program, by number.
+#[derive(Debug, Drop)]
+pub struct Graphs<A: Allocator> {
+    pub(crate) graphs: Vec<Graph<A>, A>,
+}
+
+impl<A: Allocator> Graphs<A> {
+    /// How many procedures there are.
+    pub fn len(&self) -> usize
+        ensures { result ≡ length self.now.graphs.items }
+    {
+        self.graphs.len()
+    }
+
+    /// The graph of a procedure.
+    pub fn graph(&self, procedure: u8) -> &Graph<A>
+        requires { procedure < length self.now.graphs.items }
+        ensures { slice_get self.now.graphs.items procedure ≡ Some result.now }
+    {
+        &self.graphs[procedure as usize]
+    }
+}
