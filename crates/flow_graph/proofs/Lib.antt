@@ -5,3 +5,6 @@ pub mod Rows
 pub mod Worths
 pub mod Nodes
 pub mod Calls
+pub mod Counted
+pub mod Numbered
+pub mod Searching
