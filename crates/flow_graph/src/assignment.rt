@@ -1,5 +1,5 @@
 //! Stub.
-ghost use Rattle.std.specs.Prelude.{◌≡◌, IfOk};
+ghost use Rattle.std.specs.Prelude.{◌≡◌, [], IfOk};
 ghost use Rattle.syntax.specs.Trees.{names_of, rhss_of};
 ghost use Rattle.flow_graph.specs.Assignments.{assigned, Assigns};
 ghost use Rattle.flow_graph.specs.Views.{scope_seen, IsSmall};
@@ -23,6 +23,16 @@ pub struct Assignment<A: Allocator> {
 }
 
 impl<A: Allocator> Assignment<A> {
+    /// No write.
+    pub(crate) fn nothing(alloc: A) -> Assignment<A>
+        ensures { (result.writes.items ≡ []) × (result.last ≡ 0) }
+    {
+        Assignment {
+            writes: Vec::new(alloc),
+            last: 0,
+        }
+    }
+
     pub(crate) fn last(&self) -> u64
         ensures { result ≡ self.now.last }
     {

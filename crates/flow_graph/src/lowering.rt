@@ -11,6 +11,7 @@ ghost use Rattle.flow_graph.specs.Nodes.{at, node_of, goes, stops, goes_to, test
 ghost use Rattle.flow_graph.specs.Flows.{Does};
 ghost use Rattle.flow_graph.specs.Lowering.{IsLowerable, scope_of, body_of, DoesIn, LoweredIn, DoesFirst};
 
+use crate::assignment::Assignment;
 use crate::call::Call;
 use crate::flow::Flow;
 use crate::formula::Formula;
@@ -55,7 +56,7 @@ impl<'a, N: Allocator, A: Allocator + Clone> Lowering<'a, N, A> {
         requires { IsLowerable self.now }
         ensures { IfOk result (λ f. DoesIn self.now f (goes to)) }
     {
-        Ok(Flow::Assign(self.scope.assignment(self.alloc, &[], &[])?, to))
+        Ok(Flow::Assign(Assignment::nothing(self.alloc.clone()?), to))
     }
 
     /// On to the statement with a label.
