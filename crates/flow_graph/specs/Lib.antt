@@ -4,3 +4,4 @@ pub mod Views
 pub mod Postfix
 pub mod Tables
 pub mod Formulas
+pub mod Assignments

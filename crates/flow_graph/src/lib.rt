@@ -1,6 +1,7 @@
 //! Flow graphs: the steps inside one call of a sequential program.
 #![tactic(auto)]
 
+mod assignment;
 mod formula;
 mod postfix;
 mod scope;

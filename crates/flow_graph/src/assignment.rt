@@ -1,0 +1,134 @@
+//! Simultaneous assignments, compiled once, to be made often.
+
+ghost use Rattle.std.specs.Prelude.{◌≡◌, ◌+◌, ◌≤◌, ◌<◌, ◌^◌, length, map, IfOk, IfSome};
+ghost use Rattle.syntax.specs.Trees.{name_of, names_of, rhss_of};
+ghost use Rattle.flow_graph.specs.Assignments.{masked, got, choice_left, anys, assigned, Assigns, bit_of_name, lasting};
+ghost use Rattle.flow_graph.specs.Views.{scope_seen, IsSmall};
+
+use crate::scope::Scope;
+use crate::side::Side;
+use std::alloc::{AllocError, Allocator};
+use syntax::{Name, Rhs};
+
+/// A bit that an assignment writes, and what it gets.
+#[derive(Debug, Drop)]
+pub(crate) struct Write<A: Allocator> {
+    /// The bit, alone.
+    pub(crate) mask: u64,
+    pub(crate) side: Side<A>,
+}
+
+/// The valuation with another value for the bits of a mask.
+fn masked(values: u64, mask: u64, value: bool) -> u64
+    ensures { result ≡ masked values mask value }
+{
+    let set = values | mask;
+    if value { set } else { set ^ mask }
+}
+
+impl<A: Allocator> Side<A> {
+    /// The value of a right side: for `?` the lowest bit of the choice.
+    fn got(&self, values: u64, choice: u64) -> bool
+        ensures { result ≡ got self.now values choice }
+    {
+        match self {
+            Side::Any => choice % 2 == 1,
+            Side::Value(formula) => formula.value(values),
+        }
+    }
+
+    /// What is left of the choice for the right sides behind this one.
+    fn choice_left(&self, choice: u64) -> u64
+        ensures { result ≡ choice_left self.now choice }
+    {
+        match self {
+            Side::Any => choice / 2,
+            Side::Value(_) => choice,
+        }
+    }
+}
+
+/// The number of the last choice for the `?` of these writes, of which there are so many or fewer.
+fn last_choice<A: Allocator>(writes: &[Write<A>]) -> u64
+    requires { anys writes.now ≤ 64 }
+    ensures { result + 1 ≡ 2 ^ anys writes.now }
+{
+    let mut last: u64 = 0;
+    for write in writes {
+        last = match &write.side {
+            Side::Any => last * 2 + 1,
+            Side::Value(_) => last,
+        };
+    }
+    last
+}
+
+/// A simultaneous assignment, compiled. No bit is written twice.
+#[derive(Debug, Drop)]
+pub(crate) struct Assignment<A: Allocator> {
+    pub(crate) writes: Vec<Write<A>, A>,
+    pub(crate) last: u64,
+}
+
+impl<A: Allocator> Assignment<A> {
+    /// The number of the last next valuation: they are numbered from 0, by the choices of `?`.
+    pub(crate) fn last(&self) -> u64
+        ensures { result ≡ self.now.last }
+    {
+        self.last
+    }
+
+    /// The next valuation of this number. All right sides are computed over `values` before a bit is written; the values of the `?` are
+    /// the bits of `choice`, from the lowest, in the order of the targets.
+    pub(crate) fn next(&self, values: u64, choice: u64) -> u64
+        ensures { result ≡ assigned self.now values choice }
+    {
+        let mut next = values;
+        let mut left = choice;
+        for write in self.writes.as_slice() {
+            next = masked(next, write.mask, write.side.got(values, left));
+            left = write.side.choice_left(left);
+        }
+        next
+    }
+}
+
+impl<'a, N: Allocator> Scope<'a, N> {
+    /// The bit of a target, whose value lasts: `None` where it is declared nowhere, or is among the later targets.
+    fn lasting(&self, target: &Name<N>, later: &[Name<N>]) -> Option<u8>
+        requires { IsSmall self.now }
+        ensures bit { result ≡ lasting (bit_of_name (scope_seen self.now) (name_of target.now)) (map (bit_of_name (scope_seen self.now)) (names_of later.now)) }
+        ensures small { IfSome result (λ b. b < 64) }
+    {
+        let bit = self.bit(target)?;
+        for other in later {
+            if self.bit(other) == Some(bit) {
+                return None;
+            }
+        }
+        Some(bit)
+    }
+
+    /// Compiles a simultaneous assignment. Targets without right sides and right sides without targets are left out.
+    pub(crate) fn assignment<A: Allocator + Clone>(
+        &self,
+        alloc: &A,
+        targets: &[Name<N>],
+        sides: &[Rhs<N>],
+    ) -> Result<Assignment<A>, AllocError>
+        requires { IsSmall self.now }
+        ensures { IfOk result (λ a. Assigns a (scope_seen self.now) (names_of targets.now) (rhss_of sides.now)) }
+    {
+        let count = targets.len().min(sides.len());
+        let mut writes = Vec::new(alloc.clone()?);
+        for at in 0..count {
+            if let Some(bit) = self.lasting(&targets[at], &targets[at + 1..count]) {
+                let side = self.side(alloc.clone()?, &sides[at])?;
+                let mask = 1 << bit;
+                writes.push(Write { mask, side })?;
+            }
+        }
+        let last = last_choice(writes.as_slice());
+        Ok(Assignment { writes, last })
+    }
+}
