@@ -3,7 +3,7 @@ use Rattle.std.proofs.Common.{◌≡◌, ◌≢◌, ◌<◌, ◌≤◌, ℕ, zer
 use Rattle.std.specs.List.{AllByRecursion, IsDistinct, list_any}
 use Rattle.std.specs.Int.RustNames.{bit_or, bit_xor}
 use Rattle.std.proofs.lemmas.Bool.{false≢true, true≢false, eqb-true, eqb-false, ltb-true, ltb-false}
-use Rattle.std.proofs.lemmas.List.{length-append, get_or-set_same, get_or-set_other, set-append_left, set-append_right, set_past, length-set, drop_more}
+use Rattle.std.proofs.lemmas.List.{length-append, length-drop, length-map, get_or-set_same, get_or-set_other, set-append_left, set-append_right, set_past, length-set, drop_more, append-nil}
 use Rattle.std.proofs.Math.Pow.{pow_mono}
 use Rattle.std.proofs.lemmas.Map.Keys.{IsDistinct-cons}
 use Rattle.std.proofs.lemmas.Map.Steps.{length-le_from_distinct_below}
@@ -12,6 +12,9 @@ use Rattle.language.specs.Tree.{Name, RightSide, any, value}
 use Rattle.language.specs.Value.{Place, global, local, bit, with_bit, value_of, AreValues, written_globals, written_locals}
 use Rattle.language.specs.Resolve.{Scope, is_declared, number_of, place_of, resolve_expression, resolve_side}
 use Rattle.language.proofs.Names.{number_less, place_declared, place_other}
+use Rattle.syntax.specs.Trees.{name_of, names_of, rhs_of, rhss_of}
+use Rattle.syntax.specs.declared.tree.Name as syntax
+use Rattle.syntax.specs.declared.tree.Rhs.{Rhs}
 use Rattle.flow_graph.specs.Assignments.{masked, got, choice_left, written, any_of, anys, bit_of_name, is_bit, is_among, lasting, Assigns}
 use Rattle.flow_graph.specs.Bits.{bit_of, worth_of, coded}
 use Rattle.flow_graph.specs.Formulas.{SaysSide}
@@ -488,3 +491,81 @@ anys_step ws i w h e = ap anys (drop_more ws i w h) ∙ ap (λ x. any_of x.side 
 
 pub room : (n last : ℕ) → last + 1 ≡ 2 ^ n → n < 64 → last * 2 + 1 < 2 ^ 64
 room n last e h = let most : 2 ^ n ≤ 2 ^ 63 = pow_mono (let z : n ≤ 63 = omega (arith, h) in z) in omega (arith, e, most)
+
+-- the later targets that have a right side
+later_paired : {X Y Z R : Type 0} (f : Z → Option ℕ) (g : X → Z) (h : Y → R) (xs : List X) (ys : List Y) (n : ℕ) → n ≡ min (length xs) (length ys)
+    → map f (map g (take n xs)) ≡ paired (map f (map g xs)) (map h ys)
+later_paired f g h [] ys zero e = refl
+later_paired f g h [] ys (suc n) e = absurd (omega (arith, e))
+later_paired f g h (x ∷ xs) [] zero e = refl
+later_paired f g h (x ∷ xs) [] (suc n) e = absurd (omega (arith, e))
+later_paired f g h (x ∷ xs) (y ∷ ys) zero e = absurd (omega (arith, e))
+later_paired f g h (x ∷ xs) (y ∷ ys) (suc n) e = ap (λ l. f (g x) ∷ l) (later_paired f g h xs ys n (omega (arith, e)))
+
+kept_step : {X Y Z R : Type 0} (f : Z → Option ℕ) (g : X → Z) (h : Y → R) (xs : List X) (ys : List Y) (at n : ℕ) (x : X) (y : Y)
+    → at < length xs → at < length ys → x ≡ get_or xs at x → y ≡ get_or ys at y → n ≡ min (length (drop (at + 1) xs)) (length (drop (at + 1) ys))
+    → kept (map f (map g (drop at xs))) (map h (drop at ys))
+    ≡ kept_one (lasting (f (g x)) (map f (map g (take n (drop (at + 1) xs))))) (h y) (kept (map f (map g (drop (at + 1) xs))) (map h (drop (at + 1) ys)))
+kept_step f g h xs ys at n x y inside within is there count =
+    ap (λ l. kept (map f (map g l)) (map h (drop at ys))) (drop_more xs at x inside ∙ ap (λ z. z ∷ drop (at + 1) xs) (sym is))
+    ∙ ap (λ l. kept (map f (map g (x ∷ drop (at + 1) xs))) (map h l)) (drop_more ys at y within ∙ ap (λ z. z ∷ drop (at + 1) ys) (sym there))
+    ∙ ap (λ l. kept_one (lasting (f (g x)) l) (h y) (kept (map f (map g (drop (at + 1) xs))) (map h (drop (at + 1) ys))))
+    (sym (later_paired f g h (drop (at + 1) xs) (drop (at + 1) ys) n count))
+
+-- the writes for the targets from this one on
+abbrev pub kept_from : {N : Type 0} → Scope → List (syntax.Name N) → List (Rhs N) → ℕ → List (ℕ × RightSide Name)
+kept_from s xs ys at = kept (map (bit_of_name s) (names_of (drop at xs))) (rhss_of (drop at ys))
+
+-- writes for what is left, behind those so far, are writes for all
+abbrev pub Leads : {A : Type 0} → Scope → List (Write A) → List (ℕ × RightSide Name) → List (ℕ × RightSide Name) → Type 0
+Leads {A} s old ks all = (ws : List (Write A)) → Compiled s ws ks → Compiled s (old ++ ws) all
+
+element : {Y : Type 0} (ys : List Y) (at : ℕ) → at < length ys → (y : Y) × (y ≡ get_or ys at y)
+element [] at h = absurd (omega (arith, h))
+element (y ∷ ys) zero h = (y, refl)
+element (y ∷ ys) (suc at) h = element ys at (omega (arith, h))
+
+module _ {N A : Type 0} (s : Scope) (xs : List (syntax.Name N)) (ys : List (Rhs N)) (at count : ℕ) (old new : List (Write A)) (all : List (ℕ × RightSide Name)) (x : syntax.Name N)
+    (inside : at < count) (few : count ≡ min (length xs) (length ys)) (found : x ≡ get_or xs at x) where
+  -- what lasts of the target here
+  abbrev pub lasting_here : Option ℕ
+  lasting_here = lasting (bit_of_name s (name_of x)) (map (bit_of_name s) (names_of (take (count - (at + 1)) (drop (at + 1) xs))))
+
+  one_step : (y : Rhs N) → y ≡ get_or ys at y → kept_from s xs ys at ≡ kept_one lasting_here (rhs_of y) (kept_from s xs ys (at + 1))
+  one_step y there =
+      kept_step (bit_of_name s) name_of rhs_of xs ys at (count - (at + 1)) x y (omega (arith, inside, few)) (omega (arith, inside, few)) found there
+      (omega (arith, inside, few, length-drop (at + 1) xs, length-drop (at + 1) ys))
+
+  pub passed_over : lasting_here ≡ None → new ≡ old → Leads s old (kept_from s xs ys at) all → Leads s new (kept_from s xs ys (at + 1)) all
+  passed_over gone same leads ws h =
+      let y = element ys at (omega (arith, inside, few)) in
+      subst (λ l. Compiled s (l ++ ws) all) (sym same)
+      (leads ws (subst (Compiled s ws) (sym (one_step y.0 y.1 ∙ ap (λ o. kept_one o (rhs_of y.0) (kept_from s xs ys (at + 1))) gone)) h))
+
+  pub one_written : (y : Rhs N) (w : Write A) (b : ℕ) → y ≡ get_or ys at y → lasting_here ≡ Some b → w.mask ≡ 2 ^ b → SaysSide w.side s (rhs_of y) → new ≡ old ++ (w ∷ [])
+      → Leads s old (kept_from s xs ys at) all → Leads s new (kept_from s xs ys (at + 1)) all
+  one_written y w b there lasts mask says same leads ws h =
+      subst (λ l. Compiled s l all) (sym (ap (λ l. l ++ ws) same ∙ append_assoc old (w ∷ []) ws))
+      (leads (w ∷ ws) (subst (Compiled s (w ∷ ws)) (sym (one_step y there ∙ ap (λ o. kept_one o (rhs_of y) (kept_from s xs ys (at + 1))) lasts)) ((mask, says), h)))
+
+kept_none : {X Y Z R : Type 0} (f : Z → Option ℕ) (g : X → Z) (h : Y → R) (xs : List X) (ys : List Y) (n : ℕ) → n ≡ min (length xs) (length ys)
+    → kept (map f (map g (drop n xs))) (map h (drop n ys)) ≡ []
+kept_none f g h [] ys zero e = refl
+kept_none f g h [] ys (suc n) e = absurd (omega (arith, e))
+kept_none f g h (x ∷ xs) [] zero e = refl
+kept_none f g h (x ∷ xs) [] (suc n) e = absurd (omega (arith, e))
+kept_none f g h (x ∷ xs) (y ∷ ys) zero e = absurd (omega (arith, e))
+kept_none f g h (x ∷ xs) (y ∷ ys) (suc n) e = kept_none f g h xs ys n (omega (arith, e))
+
+-- where no target is left, the writes are all
+pub all_written : {N A : Type 0} (s : Scope) (xs : List (syntax.Name N)) (ys : List (Rhs N)) (n : ℕ) (ws : List (Write A)) → n ≡ min (length xs) (length ys)
+    → Leads s ws (kept_from s xs ys n) (kept_from s xs ys 0) → Compiled s ws (kept_from s xs ys 0)
+all_written {A} s xs ys n ws e leads =
+    subst (λ l. Compiled s l (kept_from s xs ys 0)) (append-nil ws)
+    (leads [] (subst (Compiled {A = A} s []) (sym (kept_none (bit_of_name s) name_of rhs_of xs ys n e)) tt))
+
+pub one_bit : (b : ℕ) → b < 64 → 1 * 2 ^ b % 2 ^ 64 ≡ 2 ^ b
+one_bit b h = let most : 2 ^ b ≤ 2 ^ 63 = pow_mono (let z : b ≤ 63 = omega (arith, h) in z) in omega (arith, most)
+
+pub few_variables : {N : Type 0} (gs fs ls : List (syntax.Name N)) → length gs + (length fs + length ls) ≤ 64 → length (names_of gs) + length (names_of fs ++ names_of ls) ≤ 64
+few_variables gs fs ls h = omega (arith, h, length-map gs name_of, length-map fs name_of, length-map ls name_of, length-append (names_of fs) (names_of ls))

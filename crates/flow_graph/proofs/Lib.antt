@@ -3,4 +3,4 @@ pub mod Stacks
 pub mod Codes
 pub mod Rows
 pub mod Worths
-mod Assignments
+pub mod Assignments
