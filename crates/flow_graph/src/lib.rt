@@ -2,6 +2,8 @@
 #![tactic(auto)]
 
 mod assignment;
+#[cfg(test)]
+mod assignment_tests;
 mod formula;
 mod postfix;
 mod scope;

@@ -13,7 +13,7 @@ loop-at-preserved g c =
     let xs = c.args.targets.now in
     let ys = c.args.sides.now in
     elim c.match-lasting.branch [
-      in-Some+in_ok-clone-2+in_ok-side+in_ok-push w ↦
+      | in-Some+in_ok-clone-2+in_ok-side+in_ok-push w ↦
           one_written s xs ys c.loop-at.at c.min-count.result c.loop-at.writes.items c.match-lasting.writes.items (kept_from s xs ys 0) c.index-targets-at.result
           c.loop-at-test.true (omega (arith, c.min-count.ensures)) c.index-targets-at.is w.index-sides-at.result _ w.in-Some.bit w.index-sides-at.is (sym w.in-Some.ensures.bit) (one_bit w.in-Some.bit w.in-Some.ensures.small)
           w.in_ok-side.ensures (ap (λ v. v.items) w.writes-is ∙ w.in_ok-push.ensures.items) c.loop-at.invariant
