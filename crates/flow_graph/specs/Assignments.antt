@@ -12,7 +12,7 @@ use Rattle.flow_graph.specs.declared.side.Side.TheVariants as side
 use Rattle.flow_graph.specs.declared.assignment.Write.{Write}
 use Rattle.flow_graph.specs.declared.assignment.Assignment.{Assignment}
 
--- the valuation with another value for the bits of a mask
+-- the valuation with this value for the bits of a mask
 abbrev pub masked : ℕ → ℕ → Bool → ℕ
 masked values mask true = bit_or values mask
 masked values mask false = bit_xor (bit_or values mask) mask
@@ -22,12 +22,12 @@ abbrev pub got : {A : Type 0} → Side A → ℕ → ℕ → Bool
 got side.Any values choice = bit_of choice 0
 got (side.Value f) values choice = says f values
 
--- the choice without the bit that the right side took
+-- the choice for the right sides behind this one
 abbrev pub choice_left : {A : Type 0} → Side A → ℕ → ℕ
 choice_left side.Any choice = choice / 2
 choice_left (side.Value f) choice = choice
 
--- what the writes make of a valuation, where the right sides are computed over another
+-- the valuation after the writes, whose right sides are computed over `values`
 abbrev pub written : {A : Type 0} → List (Write A) → ℕ → ℕ → ℕ → ℕ
 written [] values choice next = next
 written (w ∷ ws) values choice next = written ws values (choice_left w.side choice) (masked next w.mask (got w.side values choice))
@@ -50,7 +50,7 @@ anys (w ∷ ws) = any_of w.side + anys ws
 abbrev pub bit_of_name : Scope → Name → Option ℕ
 bit_of_name s x = bit_of_place (length s.globals) (place_of s x)
 
--- this is the bit
+-- the bit is this one
 abbrev pub is_bit : ℕ → Option ℕ → Bool
 is_bit b None = false
 is_bit b (Some c) = c == b
@@ -65,13 +65,15 @@ abbrev pub lasting : Option ℕ → List (Option ℕ) → Option ℕ
 lasting None ts = None
 lasting (Some b) ts = cond (is_among b ts) None (Some b)
 
+-- the valuation after these values are written to the targets, one after the other
+abbrev pub after_values : Scope → List Name → List Bool → List Bool → List Bool → ℕ
+after_values s xs vs globals places = coded (written_globals (map (place_of s) xs) vs globals ++ written_locals (map (place_of s) xs) vs places)
+
 -- The numbers up to the last give each next valuation of the simultaneous assignment, no other, and each once.
 pub record Assigns {A : Type 0} (a : Assignment A) (s : Scope) (xs : List Name) (rs : List (RightSide Name)) : Type 0 where
   pub reaches : (globals places vs : List Bool) → length globals ≡ length s.globals → length places ≡ length s.locals
-      → AreValues globals places (map (resolve_side s) rs) vs
-      → (i : ℕ) × (i ≤ a.last) × (assigned a (coded (globals ++ places)) i ≡ coded (written_globals (map (place_of s) xs) vs globals ++ written_locals (map (place_of s) xs) vs places))
+      → AreValues globals places (map (resolve_side s) rs) vs → (i : ℕ) × (i ≤ a.last) × (assigned a (coded (globals ++ places)) i ≡ after_values s xs vs globals places)
   pub only : (globals places : List Bool) (i : ℕ) → length globals ≡ length s.globals → length places ≡ length s.locals → i ≤ a.last
-      → (vs : List Bool) × AreValues globals places (map (resolve_side s) rs) vs
-      × (assigned a (coded (globals ++ places)) i ≡ coded (written_globals (map (place_of s) xs) vs globals ++ written_locals (map (place_of s) xs) vs places))
+      → (vs : List Bool) × AreValues globals places (map (resolve_side s) rs) vs × (assigned a (coded (globals ++ places)) i ≡ after_values s xs vs globals places)
   pub once : (globals places : List Bool) (i j : ℕ) → length globals ≡ length s.globals → length places ≡ length s.locals → i ≤ a.last → j ≤ a.last
       → assigned a (coded (globals ++ places)) i ≡ assigned a (coded (globals ++ places)) j → i ≡ j

@@ -18,7 +18,7 @@ pub(crate) struct Write<A: Allocator> {
     pub(crate) side: Side<A>,
 }
 
-/// The valuation with another value for the bits of a mask.
+/// The valuation with this value for the bits of a mask.
 fn masked(values: u64, mask: u64, value: bool) -> u64
     ensures { result ≡ masked values mask value }
 {
@@ -27,7 +27,7 @@ fn masked(values: u64, mask: u64, value: bool) -> u64
 }
 
 impl<A: Allocator> Side<A> {
-    /// The value of a right side: for `?` the lowest bit of the choice.
+    /// The value of a right side for a valuation: for `?` it is the lowest bit of the choice.
     fn got(&self, values: u64, choice: u64) -> bool
         ensures { result ≡ got self.now values choice }
     {
@@ -37,7 +37,7 @@ impl<A: Allocator> Side<A> {
         }
     }
 
-    /// What is left of the choice for the right sides behind this one.
+    /// The choice for the right sides behind this one.
     fn choice_left(&self, choice: u64) -> u64
         ensures { result ≡ choice_left self.now choice }
     {
@@ -48,7 +48,7 @@ impl<A: Allocator> Side<A> {
     }
 }
 
-/// The number of the last choice for the `?` of these writes, of which there are so many or fewer.
+/// The number of the last choice for the `?` of these writes: the choices are numbered from 0.
 fn last_choice<A: Allocator>(writes: &[Write<A>]) -> u64
     requires { anys writes.now ≤ 64 }
     ensures { result + 1 ≡ 2 ^ anys writes.now }
@@ -78,8 +78,8 @@ impl<A: Allocator> Assignment<A> {
         self.last
     }
 
-    /// The next valuation of this number. All right sides are computed over `values` before a bit is written; the values of the `?` are
-    /// the bits of `choice`, from the lowest, in the order of the targets.
+    /// The next valuation of this number. All right sides are computed over `values` before a bit is written; the
+    /// values of the `?` are the bits of `choice`, from the lowest, in the order of the targets.
     pub(crate) fn next(&self, values: u64, choice: u64) -> u64
         ensures { result ≡ assigned self.now values choice }
     {
@@ -94,7 +94,7 @@ impl<A: Allocator> Assignment<A> {
 }
 
 impl<'a, N: Allocator> Scope<'a, N> {
-    /// The bit of a target, whose value lasts: `None` where it is declared nowhere, or is among the later targets.
+    /// The bit of a target: `None` where it is declared nowhere, or a later target writes it again.
     fn lasting(&self, target: &Name<N>, later: &[Name<N>]) -> Option<u8>
         requires { IsSmall self.now }
         ensures bit { result ≡ lasting (bit_of_name (scope_seen self.now) (name_of target.now)) (map (bit_of_name (scope_seen self.now)) (names_of later.now)) }
@@ -109,7 +109,8 @@ impl<'a, N: Allocator> Scope<'a, N> {
         Some(bit)
     }
 
-    /// Compiles a simultaneous assignment. Targets without right sides and right sides without targets are left out.
+    /// Compiles a simultaneous assignment; without targets it is one that writes nothing. A target that is declared
+    /// nowhere is not written, nor is one without a right side.
     pub(crate) fn assignment<A: Allocator + Clone>(
         &self,
         alloc: &A,
