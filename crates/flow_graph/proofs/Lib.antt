@@ -8,3 +8,4 @@ pub mod Calls
 pub mod Counted
 pub mod Numbered
 pub mod Searching
+pub mod Assignments

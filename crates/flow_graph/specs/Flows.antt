@@ -1,8 +1,8 @@
 -- What flows lead to, by numbers, and what nodes they do.
-use Rattle.std.specs.Prelude.{◌≡◌, ◌≤◌, ◌<◌, ℕ, ◌+◌, Bool, cond, ◌==◌, Option, Some, None, List, [], ◌∷◌, ◌++◌, length}
+use Rattle.std.specs.Prelude.{◌≡◌, ◌≤◌, ◌<◌, ℕ, ◌+◌, Bool, cond, Option, Some, None, List, [], ◌∷◌, ◌++◌, length}
 use Rattle.language.specs.Sequential.{Valuation}
 use Rattle.flow_graph.specs.Bits.{coded}
-use Rattle.flow_graph.specs.Formulas.{says}
+use Rattle.flow_graph.specs.Formulas.{side_value}
 use Rattle.flow_graph.specs.Assignments.{assigned}
 use Rattle.flow_graph.specs.Calls.{entry_of}
 use Rattle.flow_graph.specs.Nodes.{Node, Leads, Asks}
@@ -15,11 +15,6 @@ use Rattle.flow_graph.specs.declared.flow.Flow.TheVariants.{Assign, Test, Assume
 abbrev pub code : Valuation → ℕ
 code v = coded (v.globals ++ v.places)
 
--- the value of a right side: `?` is 1 for the choice 1
-abbrev pub value_at : {A : Type 0} → Side A → ℕ → ℕ → Bool
-value_at side.Any values choice = choice == 1
-value_at (side.Value f) values choice = says f values
-
 -- the last choice
 abbrev pub last_of : {A : Type 0} → Flow A → ℕ
 last_of (Assign a to) = a.last
@@ -31,9 +26,9 @@ last_of Return = 0
 
 -- the point and the valuation that a flow leads to for a choice, inside the call
 abbrev pub next_of : {A : Type 0} → Flow A → ℕ → ℕ → Option (ℕ × ℕ)
-next_of (Assign a to) values choice = Some (to, assigned a.writes.items values choice)
-next_of (Test s j k) values choice = Some (cond (value_at s values choice) j k, values)
-next_of (Assume s to) values choice = cond (value_at s values 1) (Some (to, values)) None
+next_of (Assign a to) values choice = Some (to, assigned a values choice)
+next_of (Test s j k) values choice = Some (cond (side_value s values choice) j k, values)
+next_of (Assume s to) values choice = cond (side_value s values 1) (Some (to, values)) None
 next_of (Call c) values choice = None
 next_of Return values choice = None
 

@@ -25,3 +25,8 @@ SaysSide side.Any s any = Unit {0}
 SaysSide side.Any s (value e) = ⊥
 SaysSide (side.Value f) s any = ⊥
 SaysSide (side.Value f) s (value e) = Says f s e
+
+-- the value of a compiled right side: for `?` the lowest bit of the choice, else what it says of the valuation
+abbrev pub side_value : {A : Type 0} → Side A → ℕ → ℕ → Bool
+side_value side.Any values choice = bit_of choice 0
+side_value (side.Value f) values choice = says f values

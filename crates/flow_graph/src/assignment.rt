@@ -1,21 +1,59 @@
-//! Stub.
-ghost use Rattle.std.specs.Prelude.{◌≡◌, [], IfOk};
-ghost use Rattle.syntax.specs.Trees.{names_of, rhss_of};
-ghost use Rattle.flow_graph.specs.Assignments.{assigned, Assigns};
+//! Simultaneous assignments, compiled once, to be made often.
+
+ghost use Rattle.std.specs.Prelude.{◌≡◌, ◌+◌, ◌≤◌, ◌<◌, ◌^◌, [], length, map, IfOk, IfSome};
+ghost use Rattle.syntax.specs.Trees.{name_of, names_of, rhss_of};
+ghost use Rattle.flow_graph.specs.Assignments.{masked, choice_left, anys, assigned, Assigns, bit_of_name, lasting};
 ghost use Rattle.flow_graph.specs.Views.{scope_seen, IsSmall};
+
 use crate::scope::Scope;
 use crate::side::Side;
 use std::alloc::{AllocError, Allocator};
 use syntax::{Name, Rhs};
 
-/// A write.
+/// A bit that an assignment writes, and what it gets.
 #[derive(Debug, Drop)]
 pub(crate) struct Write<A: Allocator> {
-    pub(crate) bit: u8,
+    /// The bit, alone.
+    pub(crate) mask: u64,
     pub(crate) side: Side<A>,
 }
 
-/// An assignment.
+/// The valuation with this value for the bits of a mask.
+fn masked(values: u64, mask: u64, value: bool) -> u64
+    ensures { result ≡ masked values mask value }
+{
+    let set = values | mask;
+    if value { set } else { set ^ mask }
+}
+
+impl<A: Allocator> Side<A> {
+    /// The choice for the right sides behind this one.
+    fn choice_left(&self, choice: u64) -> u64
+        ensures { result ≡ choice_left self.now choice }
+    {
+        match self {
+            Side::Any => choice / 2,
+            Side::Value(_) => choice,
+        }
+    }
+}
+
+/// The number of the last choice for the `?` of these writes: the choices are numbered from 0.
+fn last_choice<A: Allocator>(writes: &[Write<A>]) -> u64
+    requires { anys writes.now ≤ 64 }
+    ensures { result + 1 ≡ 2 ^ anys writes.now }
+{
+    let mut last: u64 = 0;
+    for write in writes {
+        last = match &write.side {
+            Side::Any => last * 2 + 1,
+            Side::Value(_) => last,
+        };
+    }
+    last
+}
+
+/// A simultaneous assignment, compiled. No bit is written twice.
 #[derive(Debug, Drop)]
 pub struct Assignment<A: Allocator> {
     pub(crate) writes: Vec<Write<A>, A>,
@@ -23,7 +61,7 @@ pub struct Assignment<A: Allocator> {
 }
 
 impl<A: Allocator> Assignment<A> {
-    /// No write.
+    /// The assignment that writes nothing.
     pub(crate) fn nothing(alloc: A) -> Assignment<A>
         ensures { (result.writes.items ≡ []) × (result.last ≡ 0) }
     {
@@ -33,19 +71,46 @@ impl<A: Allocator> Assignment<A> {
         }
     }
 
+    /// The number of the last next valuation: they are numbered from 0, by the choices of `?`.
     pub(crate) fn last(&self) -> u64
         ensures { result ≡ self.now.last }
     {
         self.last
     }
+
+    /// The next valuation of this number. All right sides are computed over `values` before a bit is written; the
+    /// values of the `?` are the bits of `choice`, from the lowest, in the order of the targets.
     pub(crate) fn next(&self, values: u64, choice: u64) -> u64
-        ensures { result ≡ assigned self.now.writes.items values choice }
+        ensures { result ≡ assigned self.now values choice }
     {
-        values
+        let mut next = values;
+        let mut left = choice;
+        for write in self.writes.as_slice() {
+            next = masked(next, write.mask, write.side.value(values, left));
+            left = write.side.choice_left(left);
+        }
+        next
     }
 }
 
 impl<'a, N: Allocator> Scope<'a, N> {
+    /// The bit of a target: `None` where it is declared nowhere, or a later target writes it again.
+    fn lasting(&self, target: &Name<N>, later: &[Name<N>]) -> Option<u8>
+        requires { IsSmall self.now }
+        ensures bit { result ≡ lasting (bit_of_name (scope_seen self.now) (name_of target.now)) (map (bit_of_name (scope_seen self.now)) (names_of later.now)) }
+        ensures small { IfSome result (λ b. b < 64) }
+    {
+        let bit = self.bit(target)?;
+        for other in later {
+            if self.bit(other) == Some(bit) {
+                return None;
+            }
+        }
+        Some(bit)
+    }
+
+    /// Compiles a simultaneous assignment. A target that is declared
+    /// nowhere is not written, nor is one without a right side.
     pub(crate) fn assignment<A: Allocator + Clone>(
         &self,
         alloc: &A,
@@ -55,6 +120,16 @@ impl<'a, N: Allocator> Scope<'a, N> {
         requires { IsSmall self.now }
         ensures { IfOk result (λ a. Assigns a (scope_seen self.now) (names_of targets.now) (rhss_of sides.now)) }
     {
-        Ok(Assignment { writes: Vec::new(alloc.clone()?), last: 0 })
+        let count = targets.len().min(sides.len());
+        let mut writes = Vec::new(alloc.clone()?);
+        for at in 0..count {
+            if let Some(bit) = self.lasting(&targets[at], &targets[at + 1..count]) {
+                let side = self.side(alloc.clone()?, &sides[at])?;
+                let mask = 1 << bit;
+                writes.push(Write { mask, side })?;
+            }
+        }
+        let last = last_choice(writes.as_slice());
+        Ok(Assignment { writes, last })
     }
 }

@@ -1,25 +1,13 @@
 //! What leads on from a point.
 
 ghost use Rattle.std.specs.Prelude.{◌≡◌};
-ghost use Rattle.flow_graph.specs.Flows.{last_of, next_of, value_at};
+ghost use Rattle.flow_graph.specs.Flows.{last_of, next_of};
 
 use crate::assignment::Assignment;
 use crate::call::Call;
 use crate::point::Point;
 use crate::side::Side;
 use std::alloc::Allocator;
-
-impl<A: Allocator> Side<A> {
-    /// The value of the right side for a valuation: `?` has the value 1 for the choice 1, and else 0.
-    fn value(&self, values: u64, choice: u64) -> bool
-        ensures { result ≡ value_at self.now values choice }
-    {
-        match self {
-            Side::Any => choice == 1,
-            Side::Value(formula) => formula.value(values),
-        }
-    }
-}
 
 /// What leads on from a point, inside the call or out of it.
 #[derive(Debug, Drop)]

@@ -2,23 +2,25 @@
 #![tactic(auto)]
 
 mod assignment;
+#[cfg(test)]
+mod assignment_tests;
 mod call;
 mod flow;
+mod formula;
 mod graph;
 mod labels;
 mod lowering;
-mod formula;
 mod point;
 mod postfix;
 mod scope;
 mod side;
 mod sizes;
 mod table;
+#[cfg(test)]
+mod tests;
+
 pub use assignment::Assignment;
 pub use call::Call;
 pub use flow::Flow;
 pub use graph::{Graph, Graphs};
 pub use point::{EXIT, Point};
-
-#[cfg(test)]
-mod tests;

@@ -1,8 +1,8 @@
 //! Right sides, compiled.
 
-ghost use Rattle.std.specs.Prelude.{IfOk};
+ghost use Rattle.std.specs.Prelude.{◌≡◌, IfOk};
 ghost use Rattle.syntax.specs.Trees.{rhs_of};
-ghost use Rattle.flow_graph.specs.Formulas.{SaysSide};
+ghost use Rattle.flow_graph.specs.Formulas.{side_value, SaysSide};
 ghost use Rattle.flow_graph.specs.Views.{scope_seen, IsSmall};
 
 use crate::formula::Formula;
@@ -17,6 +17,18 @@ pub enum Side<A: Allocator> {
     Any,
     /// An expression, which has one.
     Value(Formula<A>),
+}
+
+impl<A: Allocator> Side<A> {
+    /// The value of the right side for a valuation: for `?` it is the lowest bit of the choice.
+    pub(crate) fn value(&self, values: u64, choice: u64) -> bool
+        ensures { result ≡ side_value self.now values choice }
+    {
+        match self {
+            Side::Any => choice % 2 == 1,
+            Side::Value(formula) => formula.value(values),
+        }
+    }
 }
 
 impl<'a, N: Allocator> Scope<'a, N> {

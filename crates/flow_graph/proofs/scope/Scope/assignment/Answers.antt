@@ -1,0 +1,45 @@
+-- Each target is written, unless it is declared nowhere or written again.
+use Rattle.std.proofs.Common.{◌≡◌, ◌≤◌, ◌+◌, ◌^◌, length, map, ap, sym, ◌∙◌, subst, arith}
+use Rattle.syntax.specs.Trees.{name_of, names_of, rhss_of}
+use Rattle.flow_graph.specs.Assignments.{anys, bit_of_name}
+use Rattle.flow_graph.specs.Views.{scope_seen}
+use Rattle.flow_graph.proofs.Assignments.{Compiled, kept_from, all_written, anys_same, anys_few, assigns, few_variables, names_below, one_bit, one_written, passed_over}
+use Rattle.flow_graph.proofs.scope.Scope.assignment.Goals as goal
+use Rattle.flow_graph.proofs.scope.Scope.assignment.Goals.{in-Some+in_ok-clone-2+in_ok-side+in_ok-push, in_default}
+
+pub loop-at-preserved : goal.loop-at-preserved
+loop-at-preserved g c =
+    let s = scope_seen c.args.self.now in
+    let xs = c.args.targets.now in
+    let ys = c.args.sides.now in
+    elim c.match-lasting.branch [
+      | in-Some+in_ok-clone-2+in_ok-side+in_ok-push w ↦
+          one_written s xs ys c.loop-at.at c.min-count.result c.loop-at.writes.items c.match-lasting.writes.items (kept_from s xs ys 0) c.index-targets-at.result
+          c.loop-at-test.true (omega (arith, c.min-count.ensures)) c.index-targets-at.is w.index-sides-at.result _ w.in-Some.bit w.index-sides-at.is (sym w.in-Some.ensures.bit) (one_bit w.in-Some.bit w.in-Some.ensures.small)
+          w.in_ok-side.ensures (ap (λ v. v.items) w.writes-is ∙ w.in_ok-push.ensures.items) c.loop-at.invariant
+      | in_default w ↦
+          passed_over s xs ys c.loop-at.at c.min-count.result c.loop-at.writes.items c.match-lasting.writes.items (kept_from s xs ys 0) c.index-targets-at.result
+          c.loop-at-test.true (omega (arith, c.min-count.ensures)) c.index-targets-at.is (sym c.lasting.ensures.bit ∙ w.in_default.is) (ap (λ v. v.items) w.writes-is) c.loop-at.invariant
+    ]
+
+pub last_choice-last-requires : goal.last_choice-last-requires
+last_choice-last-requires g c =
+    let s = scope_seen c.args.self.now in
+    let xs = c.args.targets.now in
+    let ys = c.args.sides.now in
+    let ws = c.loop-at.writes.items in
+    let all = all_written s xs ys c.loop-at.at ws (omega (arith, c.min-count.ensures)) c.loop-at.invariant in
+    let few = anys_few (length s.globals + length s.locals) (map (bit_of_name s) (names_of xs)) (rhss_of ys) (names_below s (names_of xs)) in
+    let same = anys_same s ws (kept_from s xs ys 0) all in
+    let view = ap anys c.as_slice.ensures.value in
+    let room = few_variables c.args.self.now.globals.now c.args.self.now.formals.now c.args.self.now.locals.now c.requires in
+    omega (arith, few, same, view, room)
+
+pub returns : goal.returns
+returns g c =
+    let s = scope_seen c.args.self.now in
+    let xs = c.args.targets.now in
+    let ys = c.args.sides.now in
+    let ws = c.loop-at.writes.items in
+    let all = all_written s xs ys c.loop-at.at ws (omega (arith, c.min-count.ensures)) c.loop-at.invariant in
+    assigns _ s (names_of xs) (rhss_of ys) all (c.last_choice-last.ensures ∙ ap (λ l. 2 ^ anys l) c.as_slice.ensures.value)
