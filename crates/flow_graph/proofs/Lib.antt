@@ -9,3 +9,5 @@ pub mod Counted
 pub mod Numbered
 pub mod Searching
 pub mod Assignments
+pub mod Doing
+pub mod Lowered

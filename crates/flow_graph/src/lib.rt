@@ -5,6 +5,7 @@ mod assignment;
 #[cfg(test)]
 mod assignment_tests;
 mod call;
+mod drawing;
 mod flow;
 mod formula;
 mod graph;
@@ -21,6 +22,7 @@ mod tests;
 
 pub use assignment::Assignment;
 pub use call::Call;
+pub use drawing::graphs;
 pub use flow::Flow;
 pub use graph::{Graph, Graphs};
 pub use point::{EXIT, Point};

@@ -26,7 +26,7 @@ use std::alloc::{AllocError, Allocator};
 use syntax::{Core, Expr, Name, Rhs, Stmt, number_of_procedure};
 
 /// The point at which statements begin, the first of which has this number, where the run goes on at `after` behind them.
-fn begin<N: Allocator>(stmts: &[Stmt<N>], first: Point, after: Point) -> Point
+pub(crate) fn begin<N: Allocator>(stmts: &[Stmt<N>], first: Point, after: Point) -> Point
     ensures { (s : Rattle.language.specs.Resolve.Scope) (k : Code) → at k ≡ after → result ≡ at (join (numbered first (resolve_block s (block_of stmts.now))) k) }
 {
     if stmts.is_empty() { after } else { first }
@@ -44,6 +44,7 @@ fn nowhere<A: Allocator>() -> Flow<A>
 }
 
 /// What the statements of one procedure are lowered with: where it allocates, the names in scope, and the procedure's body.
+#[derive(Drop)]
 pub(crate) struct Lowering<'a, N: Allocator, A: Allocator + Clone> {
     pub(crate) alloc: &'a A,
     pub(crate) scope: Scope<'a, N>,
@@ -103,7 +104,10 @@ impl<'a, N: Allocator, A: Allocator + Clone> Lowering<'a, N, A> {
         ensures { IfOk result (λ f. DoesIn self.now f (calls (number_of (name_of p.now).text (scope_of self.now).procedures) (map (resolve_expression (scope_of self.now)) (exprs_of es.now)) back)) }
     {
         let callee = number_of_procedure(self.scope.procedures, p.text.as_str());
-        if callee >= self.scope.procedures.len() || es.len() > 64 - self.scope.globals.len() {
+        if callee >= self.scope.procedures.len() {
+            return Ok(nowhere());
+        }
+        if es.len() > 64 - self.scope.globals.len() {
             return Ok(nowhere());
         }
         let mut arguments = Vec::new(self.alloc.clone()?);

@@ -1,0 +1,91 @@
+-- Statements lowered one after the other.
+use Rattle.std.proofs.Common.{◌≡◌, ℕ, suc, ◌+◌, ◌<◌, Option, Some, None, option_map, List, [], ◌++◌, ◌∷◌, length, map, refl, sym, ◌∙◌, ap, subst, arith}
+use Rattle.std.proofs.lemmas.List.{map-append, append_assoc, append-nil}
+use Rattle.std.proofs.lemmas.Option.{none-some}
+use Rattle.flow_graph.proofs.Doing.{same_there}
+use Rattle.language.specs.Tree as tree
+use Rattle.language.specs.Tree.{Mark, done, one, choose, loop}
+use Rattle.language.specs.Resolve.{Scope, resolve_mark, resolve_side, resolve_block}
+use Rattle.language.specs.Rest.{Code, join}
+use Rattle.language.specs.Sequential.{statements, numbered, marked}
+use Rattle.language.specs.Flow.{rests}
+use Rattle.syntax.specs.declared.tree.Stmt.{Stmt}
+use Rattle.syntax.specs.Trees.{Deed, simple, branch, repeat, item_of, block_of}
+use Rattle.flow_graph.specs.Nodes.{Node, at, node_of, goes, stops, goes_to}
+use Rattle.flow_graph.specs.Flows.{Does, AllDo, Lowered}
+use Rattle.flow_graph.specs.declared.flow.Flow.{Flow}
+use Rattle.flow_graph.proofs.Numbered.{Names, led, tail, behind_simple, behind_branch, behind_repeat}
+
+-- a first statement begins at its number
+begins_led : (n : ℕ) (s : Scope) (m : Mark tree.Name) (d : Deed) (t : Names) (k : Code) → n ≡ at (join (led n s m d t) k)
+begins_led n s m (simple c) t k = refl
+begins_led n s m (branch r a b) t k = refl
+begins_led n s m (repeat r a) t k = refl
+
+pub begins : {A : Type 0} (l : List (Stmt A)) (n : ℕ) (s : Scope) (k : Code) → 0 < length l → n ≡ at (join (numbered n (resolve_block s (block_of l))) k)
+begins [] n s k h = absurd (omega (arith, h))
+begins (x ∷ l) n s k h = begins_led n s (item_of x).mark (item_of x).deed (block_of l) k
+
+-- a label that is found, and one that is not
+pub goes_found : (o : Option Code) (to : ℕ) → option_map at o ≡ Some to → goes_to o ≡ goes to
+goes_found None to e = absurd (none-some _ e)
+goes_found (Some r) to e = ap goes (same_there (at r) to e)
+
+pub goes_lost : (o : Option Code) → option_map at o ≡ None → goes_to o ≡ stops
+goes_lost None e = refl
+goes_lost (Some r) e = absurd (none-some _ (sym e))
+
+-- what can be left to run from a statement and those inside of it on, and then from those behind it on
+rests_led : (n : ℕ) (s : Scope) (m : Mark tree.Name) (d : Deed) (t : Names) (k : Code) → rests (led n s m d t) k ≡ rests (led n s m d done) (join (tail n s m d t) k) ++ rests (tail n s m d t) k
+rests_led n s m (simple c) t k = ap (λ T. rests (one (marked n (resolve_mark m)) (Rattle.language.specs.Resolve.resolve_simple s c) done) (join T k) ++ rests T k) (behind_simple n s m t c)
+rests_led n s m (branch r a b) t k =
+    ap (λ l. choose (marked n (resolve_mark m)) (resolve_side s r) A B (join T' k) ∷ l)
+    (ap (λ l. rests A (join T' k) ++ (l ++ rests T' k)) (sym (append-nil (rests B (join T' k))))
+    ∙ sym (append_assoc (rests A (join T' k)) (rests B (join T' k) ++ []) (rests T' k)))
+    ∙ ap (λ T. rests (choose (marked n (resolve_mark m)) (resolve_side s r) A B done) (join T k) ++ rests T k) (behind_branch n s m t r a b)
+  where
+    A : Code
+    A = numbered (suc n) (resolve_block s a)
+
+    B : Code
+    B = numbered (suc n + statements (resolve_block s a)) (resolve_block s b)
+
+    T' : Code
+    T' = numbered (suc n + (statements (resolve_block s a) + statements (resolve_block s b))) (resolve_block s t)
+rests_led n s m (repeat r a) t k =
+    ap (λ l. again (join T' k) ∷ (l ++ rests T' k)) (sym (append-nil (rests A (again (join T' k)))))
+    ∙ ap (λ T. rests (again done) (join T k) ++ rests T k) (behind_repeat n s m t r a)
+  where
+    A : Code
+    A = numbered (suc n) (resolve_block s a)
+
+    again : Code → Code
+    again k = loop (marked n (resolve_mark m)) (resolve_side s r) A k
+
+    T' : Code
+    T' = numbered (suc n + statements (resolve_block s a)) (resolve_block s t)
+
+pub nodes_split : {A : Type 0} (body : Code) (n j : ℕ) (s : Scope) (x : Stmt A) (l : List (Stmt A)) (k : Code) → j ≡ n + statements (block_of (x ∷ [])) →
+    map (node_of body) (rests (numbered n (resolve_block s (block_of (x ∷ l)))) k)
+    ≡ map (node_of body) (rests (numbered n (resolve_block s (block_of (x ∷ [])))) (join (numbered j (resolve_block s (block_of l))) k)) ++ map (node_of body) (rests (numbered j (resolve_block s (block_of l))) k)
+nodes_split body n j s x l k e =
+    ap (map (node_of body)) (rests_led n s (item_of x).mark (item_of x).deed (block_of l) k)
+    ∙ map-append (node_of body) (rests (numbered n (resolve_block s (block_of (x ∷ [])))) (join (numbered (n + statements (block_of (x ∷ []))) (resolve_block s (block_of l))) k)) (rests (numbered (n + statements (block_of (x ∷ []))) (resolve_block s (block_of l))) k)
+    ∙ ap (λ i. map (node_of body) (rests (numbered n (resolve_block s (block_of (x ∷ [])))) (join (numbered i (resolve_block s (block_of l))) k)) ++ map (node_of body) (rests (numbered i (resolve_block s (block_of l))) k)) (sym e)
+
+-- flows behind flows
+all_do : {A : Type 0} (fs gs : List (Flow A)) (ns ms : List Node) (g l m : ℕ) → AllDo fs ns g l m → AllDo gs ms g l m → AllDo (fs ++ gs) (ns ++ ms) g l m
+all_do [] gs [] ms g l m a b = b
+all_do [] gs (n ∷ ns) ms g l m a b = absurd a
+all_do (f ∷ fs) gs [] ms g l m a b = absurd a
+all_do (f ∷ fs) gs (n ∷ ns) ms g l m a b = (a.0, all_do fs gs ns ms g l m a.1 b)
+
+pub lowered_then : {A : Type 0} (old mid new : List (Flow A)) (ns ms : List Node) (g l m : ℕ) → Lowered old mid ns g l m → Lowered mid new ms g l m → Lowered old new (ns ++ ms) g l m
+lowered_then old mid new ns ms g l m (fs, e, a) (gs, f, b) =
+    (fs ++ gs, f ∙ ap (λ x. x ++ gs) e ∙ append_assoc old fs gs, all_do fs gs ns ms g l m a b)
+
+pub lowered_none : {A : Type 0} (fs : List (Flow A)) (g l m : ℕ) → Lowered fs fs [] g l m
+lowered_none fs g l m = ([], sym (append-nil fs), tt)
+
+pub lowered_one : {A : Type 0} (old new : List (Flow A)) (f : Flow A) (n : Node) (g l m : ℕ) → new ≡ old ++ (f ∷ []) → Does f n g l m → Lowered old new (n ∷ []) g l m
+lowered_one old new f n g l m e d = (f ∷ [], e, (d, tt))

@@ -1,0 +1,26 @@
+-- The graph that is drawn of a procedure.
+use Rattle.std.specs.Prelude.{◌≡◌, ◌≤◌, ◌+◌, length}
+use Rattle.language.specs.Rest.{Code}
+use Rattle.language.specs.Sequential.{numbered}
+use Rattle.language.specs.Resolve.{scope_of, resolve_block}
+use Rattle.syntax.specs.Trees.{tree_of, proc_of}
+use Rattle.syntax.specs.declared.tree.Program.{Program}
+use Rattle.syntax.specs.declared.tree.Proc.{Proc}
+use Rattle.flow_graph.specs.Nodes.{at, nodes_of}
+use Rattle.flow_graph.specs.Flows.{AllDo}
+use Rattle.flow_graph.specs.declared.graph.Graph.{Graph}
+
+-- at most 64 variables are in the procedure's scope, and at most 32 procedures
+abbrev pub HasRoom : {N : Type 0} → Program N → Proc N → Type 0
+HasRoom t p = (length t.globals.items + (length p.formals.items + length p.locals.items) ≤ 64) × (length t.procs.items ≤ 32)
+
+-- the procedure's body as code
+abbrev pub body_of : {N : Type 0} → Program N → Proc N → Code
+body_of t p = numbered 1 (resolve_block (scope_of (tree_of t) (proc_of p)) (proc_of p).body)
+
+-- The graph of the procedure: it begins where the body does, and its flows do what happens at the points of the body, the
+-- exit first.
+abbrev pub Draws : {N A : Type 0} → Program N → Proc N → Graph A → Type 0
+Draws t p graph =
+    (graph.globals ≡ length t.globals.items) × (graph.start ≡ at (body_of t p))
+    × AllDo graph.flows.items (nodes_of (body_of t p)) (length t.globals.items) (length (scope_of (tree_of t) (proc_of p)).locals) (length t.procs.items)

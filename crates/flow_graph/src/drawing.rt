@@ -1,0 +1,61 @@
+//! The flow graphs of a sequential program.
+
+ghost use Rattle.std.specs.Prelude.{◌≤◌, ◌+◌, length, IfOk};
+ghost use Rattle.language.specs.Sequential.{sequential_of};
+ghost use Rattle.syntax.specs.Trees.{tree_of};
+ghost use Rattle.flow_graph.specs.Drawing.{Draws, HasRoom};
+ghost use Rattle.flow_graph.specs.Graphs.{AreGraphs};
+
+use crate::flow::Flow;
+use crate::graph::{Graph, Graphs};
+use crate::lowering::{Lowering, begin};
+use crate::point::EXIT;
+use crate::scope::Scope;
+use round_rewrite::Sequential;
+use std::alloc::{AllocError, Allocator};
+use syntax::{Proc, Program};
+
+/// The flow graph of one procedure of a program.
+fn graph<N: Allocator, A: Allocator + Clone>(
+    alloc: &A,
+    program: &Program<N>,
+    proc: &Proc<N>,
+) -> Result<Graph<A>, AllocError>
+    requires { HasRoom program.now proc.now }
+    ensures { IfOk result (λ g. Draws program.now proc.now g) }
+{
+    let body = proc.body.as_slice();
+    let lowering = Lowering {
+        alloc,
+        scope: Scope {
+            globals: program.globals.as_slice(),
+            formals: proc.formals.as_slice(),
+            locals: proc.locals.as_slice(),
+            procedures: program.procs.as_slice(),
+        },
+        body,
+    };
+    let mut flows = Vec::new(alloc.clone()?);
+    flows.push(Flow::Return)?;
+    lowering.block(body, EXIT, &mut flows)?;
+    Ok(Graph {
+        flows,
+        start: begin(body, 1, EXIT),
+        globals: program.globals.len() as u8,
+    })
+}
+
+/// The flow graphs of the procedures of a sequential program, by number. Answers an error where memory is refused.
+pub fn graphs<N: Allocator, A: Allocator + Clone>(
+    alloc: &A,
+    sequential: &Sequential<N>,
+) -> Result<Graphs<A>, AllocError>
+    ensures { IfOk result (λ gs. AreGraphs (sequential_of (tree_of sequential.now.program)) gs.graphs.items) }
+{
+    let program = sequential.program();
+    let mut graphs = Vec::new(alloc.clone()?);
+    for proc in &program.procs {
+        graphs.push(graph(alloc, program, proc)?)?;
+    }
+    Ok(Graphs { graphs })
+}
