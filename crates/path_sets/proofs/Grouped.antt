@@ -52,7 +52,7 @@ pub in_group : (gs : Groups) (i p : ℕ) (s : BTreeSet Ends) (e : Ends) → slic
 in_group [] i p s e at m = absurd (true≢false (ap is_some (sym at)))
 in_group (g ∷ gs) zero p s e at m =
     subst (λ (h : ℕ × BTreeSet Ends). Member (edge_at p e) (map (edge_at h.0) h.1.keys ++ edges gs)) (sym (same_inside g (p, s) at))
-        (member_left (edge_at p e) (map (edge_at p) s.keys) (edges gs) (image_in (edge_at p) e s.keys m))
+    (member_left (edge_at p e) (map (edge_at p) s.keys) (edges gs) (image_in (edge_at p) e s.keys m))
 in_group (g ∷ gs) (suc i) p s e at m =
     member_right (edge_at p e) (map (edge_at g.0) g.1.keys) (edges gs) (in_group gs i p s e at m)
 
@@ -64,9 +64,10 @@ point_of p q e es m = ap (λ (t : Triple). t.point) (image_of (edge_at q) (edge_
 pub no_edge : (gs : Groups) (p : ℕ) (e : Ends) → AllByRecursion (λ k. eqb p k ≡ false) (keys_of gs) → Member (edge_at p e) (edges gs) → ⊥
 no_edge [] p e all m = elim m [ ]
 no_edge (g ∷ gs) p e (apart, all) m =
-    elim (member_append (edge_at p e) (map (edge_at g.0) g.1.keys) (edges gs) m)
-      [ inl here' ↦ true≢false (sym (eq-eqb p g.0 (point_of p g.0 e g.1.keys here')) ∙ apart)
-      | inr later ↦ no_edge gs p e all later ]
+    elim (member_append (edge_at p e) (map (edge_at g.0) g.1.keys) (edges gs) m) [
+      | inl here' ↦ true≢false (sym (eq-eqb p g.0 (point_of p g.0 e g.1.keys here')) ∙ apart)
+      | inr later ↦ no_edge gs p e all later
+    ]
 
 -- the ends of an edge of a point are in the point's set
 own_ends : (p : ℕ) (e : Ends) (es : List Ends) → Member (edge_at p e) (map (edge_at p) es) → Member e es
@@ -82,20 +83,22 @@ only_in_group (g ∷ gs) zero p s e d at m =
     let same : g ≡ (p, s) = same_inside g (p, s) at in
     let m' : Member (edge_at p e) (map (edge_at p) s.keys ++ edges gs) = subst (λ (h : ℕ × BTreeSet Ends). Member (edge_at p e) (map (edge_at h.0) h.1.keys ++ edges gs)) same m in
     let apart : AllByRecursion (λ k. eqb p k ≡ false) (keys_of gs) = subst (λ (h : ℕ × BTreeSet Ends). AllByRecursion (λ k. eqb h.0 k ≡ false) (keys_of gs)) same (IsDistinct-head eqb g.0 (keys_of gs) d) in
-    elim (member_append (edge_at p e) (map (edge_at p) s.keys) (edges gs) m')
-      [ inl own ↦ own_ends p e s.keys own
-      | inr later ↦ absurd (no_edge gs p e apart later) ]
+    elim (member_append (edge_at p e) (map (edge_at p) s.keys) (edges gs) m') [
+      | inl own ↦ own_ends p e s.keys own
+      | inr later ↦ absurd (no_edge gs p e apart later)
+    ]
 only_in_group (g ∷ gs) (suc i) p s e d at m =
-    elim (member_append (edge_at p e) (map (edge_at g.0) g.1.keys) (edges gs) m)
-      [ inl first ↦ absurd (true≢false (sym (eq-eqb g.0 p (sym (point_of p g.0 e g.1.keys first))) ∙ of_each (λ k. eqb g.0 k ≡ false) gs i p s at (IsDistinct-head eqb g.0 (keys_of gs) d)))
-      | inr later ↦ only_in_group gs i p s e (IsDistinct-tail eqb g.0 (keys_of gs) d) at later ]
+    elim (member_append (edge_at p e) (map (edge_at g.0) g.1.keys) (edges gs) m) [
+      | inl first ↦ absurd (true≢false (sym (eq-eqb g.0 p (sym (point_of p g.0 e g.1.keys first))) ∙ of_each (λ k. eqb g.0 k ≡ false) gs i p s at (IsDistinct-head eqb g.0 (keys_of gs) d)))
+      | inr later ↦ only_in_group gs i p s e (IsDistinct-tail eqb g.0 (keys_of gs) d) at later
+    ]
 
 -- one more in a point's set is one more edge
 pub put_in_group : (gs : Groups) (i p : ℕ) (s t : BTreeSet Ends) (e : Ends) → slice_get gs i ≡ Some (p, s) → Inserts e s.keys t.keys → Inserts (edge_at p e) (edges gs) (edges (set_value_at gs i t))
 put_in_group [] i p s t e at more = absurd (true≢false (ap is_some (sym at)))
 put_in_group (g ∷ gs) zero p s t e at more =
     subst (λ (h : ℕ × BTreeSet Ends). Inserts (edge_at p e) (map (edge_at h.0) h.1.keys ++ edges gs) (map (edge_at h.0) t.keys ++ edges gs)) (sym (same_inside g (p, s) at))
-        (before (edge_at p e) (map (edge_at p) s.keys) (map (edge_at p) t.keys) (edges gs) (mapped (edge_at p) e s.keys t.keys more))
+    (before (edge_at p e) (map (edge_at p) s.keys) (map (edge_at p) t.keys) (edges gs) (mapped (edge_at p) e s.keys t.keys more))
 put_in_group (g ∷ gs) (suc i) p s t e at more =
     behind (edge_at p e) (map (edge_at g.0) g.1.keys) (edges gs) (edges (set_value_at gs i t)) (put_in_group gs i p s t e at more)
 

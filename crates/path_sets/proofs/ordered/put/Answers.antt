@@ -13,8 +13,8 @@ returns-in_ok-insert-in-Some-clause-ok g c =
     let point = found_at _ _ c.args.point c.in-Some.ensures.index in
     let value = c.index_mut.ensures.value in
     settled gs c.in-Some.at c.args.point c.index_mut.result.now c.insert.new.self c.args.ends c.in-Some.ensures.unique
-        (pair_at gs c.in-Some.at c.args.point c.index_mut.result.now point value)
-        c.in_ok-insert-in-Some.field-0 told.added told.keys told.unchanged value
+    (pair_at gs c.in-Some.at c.args.point c.index_mut.result.now point value)
+    c.in_ok-insert-in-Some.field-0 told.added told.keys told.unchanged value
 
 pub returns-in_err-insert-in-Some-clause-err : goal.returns-in_err-insert-in-Some-clause-err
 returns-in_err-insert-in-Some-clause-err g c =

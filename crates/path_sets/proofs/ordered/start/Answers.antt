@@ -15,7 +15,7 @@ returns-clause-ok g c =
     let e = c.args.ends in
     let one : c.insert.new.self.keys ≡ e ∷ [] = c.in_ok-insert.ensures.keys ∙ ap (λ ks. insert_key ends_cmp ks e) c.new-first.ensures.empty in
     let last : c.insert-2.new.self.entries ≡ gs ++ (c.args.point, c.insert.new.self) ∷ [] =
-        c.in_ok-insert-2.ensures.entries ∙ insert_entry-new nat_eq c.args.points.now c.args.point c.insert.new.self c.requires in
-    ( subst (λ (hs : Groups). Inserts (edge_at c.args.point e) (edges gs) (edges hs)) (sym last) (put_last gs c.args.point c.insert.new.self e one)
-    , no_edge gs c.args.point e (absent gs c.args.point c.requires)
+    c.in_ok-insert-2.ensures.entries ∙ insert_entry-new nat_eq c.args.points.now c.args.point c.insert.new.self c.requires in (
+      subst (λ (hs : Groups). Inserts (edge_at c.args.point e) (edges gs) (edges hs)) (sym last) (put_last gs c.args.point c.insert.new.self e one),
+      no_edge gs c.args.point e (absent gs c.args.point c.requires),
     )

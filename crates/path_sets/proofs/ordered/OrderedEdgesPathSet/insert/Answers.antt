@@ -15,7 +15,7 @@ invariant_of-self-then-added g c =
 pub returns-then-added-clause-members : goal.returns-then-added-clause-members
 returns-then-added-clause-members g c =
     let put_in = was_put_in _ _ _ c.in_ok-added.added c.if-added.true c.in_ok-added.ensures.ok in
-    λ t.
-        ( is_new_or_old _ t _ _ put_in.0
-        , λ h. elim h [ inl e ↦ subst (λ x. Member x (edges c.put.new.points.entries)) (sym e) (is_in _ _ _ put_in.0) | inr m ↦ stays_in _ t _ _ put_in.0 m ]
-        )
+    λ t. (
+      is_new_or_old _ t _ _ put_in.0,
+      λ h. elim h [ inl e ↦ subst (λ x. Member x (edges c.put.new.points.entries)) (sym e) (is_in _ _ _ put_in.0) | inr m ↦ stays_in _ t _ _ put_in.0 m ],
+    )
