@@ -1,5 +1,5 @@
 -- The edges of all points, and the set of one point among them.
-use Rattle.std.proofs.Common.{◌≡◌, ℕ, ◌<◌, Bool, true, false, not, cond, eqb, List, [], ◌∷◌, ◌++◌, ◌⊎◌, Option, None, Some, map, get_or, slice_get, position, inl, inr, refl, sym, ap, ◌∙◌, subst, true≢false, suc, zero, eq-eqb, is_some}
+use Rattle.std.proofs.Common.{◌≡◌, ℕ, Bool, true, false, cond, eqb, List, [], ◌∷◌, ◌++◌, Option, None, Some, map, get_or, slice_get, position, inl, inr, refl, sym, ap, ◌∙◌, subst, true≢false, suc, zero, eq-eqb, is_some}
 use Rattle.std.specs.Map.{keys_of, values_of, lookup}
 use Rattle.std.specs.List.{IsDistinct, AllByRecursion}
 use Rattle.std.specs.BTreeSet.{BTreeSet}
@@ -11,9 +11,9 @@ use Rattle.indexmap.specs.IndexMap.{set_value_at}
 use Rattle.language.specs.Flow.{Member}
 use Rattle.language.proofs.Members.{member_left, member_right, member_append}
 use Rattle.path_sets.specs.declared.ends.Ends.{Ends}
-use Rattle.path_sets.specs.Triples.{Triple, triple}
+use Rattle.path_sets.specs.Triples.{Triple}
 use Rattle.path_sets.specs.Edges.{edge_at, edges}
-use Rattle.path_sets.specs.Inserts.{Inserts, here, there}
+use Rattle.path_sets.specs.Inserts.{Inserts, here}
 use Rattle.path_sets.proofs.Inserted.{behind, before, mapped, image_in, image_of}
 
 -- the points, each with its set

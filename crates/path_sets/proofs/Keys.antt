@@ -1,15 +1,15 @@
 -- The keys of an ordered set, and one more of them.
-use Rattle.std.proofs.Common.{Ordering, ◌≡◌, ℕ, Bool, true, false, not, List, [], ◌∷◌, inl, inr, refl, sym, ap, ◌∙◌, subst, true≢false, ◌||◌}
+use Rattle.std.proofs.Common.{Ordering, ◌≡◌, true, false, List, [], ◌∷◌, inl, inr, refl, sym, ap, ◌∙◌, true≢false, ◌||◌}
 use Rattle.std.specs.Ordering.{is_eq, match_ordering, ordering_then, nat_cmp}
 use Rattle.std.specs.declared.cmp.Ordering.TheVariants.{Less, Equal, Greater}
 use Rattle.std.specs.List.{list_any}
 use Rattle.std.specs.BTreeMap.{is_at}
-use Rattle.std.specs.BTreeSet.{BTreeSet, contains, insert_key}
+use Rattle.std.specs.BTreeSet.{insert_key}
 use Rattle.std.proofs.lemmas.Cmp.{tied_itself, nat_cmp_total}
 use Rattle.std.proofs.lemmas.Map.Lookups.{exact_unsigned}
 use Rattle.language.specs.Flow.{Member}
 use Rattle.path_sets.specs.declared.ends.Ends.{Ends}
-use Rattle.path_sets.specs.Inserts.{Inserts, here, there, Settles}
+use Rattle.path_sets.specs.Inserts.{Inserts, here, there}
 
 module _ {K : Type 0} (cmp : K → K → Ordering) (exact : (x y : K) → cmp x y ≡ Equal → x ≡ y) (itself : (x : K) → cmp x x ≡ Equal) where
   -- a key that is found is in the list

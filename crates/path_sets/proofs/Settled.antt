@@ -1,5 +1,5 @@
 -- What an insert into a point's set does to the edges of all points.
-use Rattle.std.proofs.Common.{◌≡◌, ℕ, Bool, true, false, not, List, [], ◌∷◌, Option, None, Some, position, slice_get, refl, sym, ap, ◌∙◌, subst, true≢false, nat_eq}
+use Rattle.std.proofs.Common.{◌≡◌, ℕ, Bool, true, false, not, List, Some, slice_get, refl, sym, ◌∙◌, subst, true≢false, nat_eq}
 use Rattle.std.specs.Bool.{OnFalse}
 use Rattle.std.specs.List.{IsDistinct, list_any}
 use Rattle.std.specs.Map.{keys_of, values_of}
@@ -11,7 +11,7 @@ use Rattle.path_sets.specs.declared.ends.Ends.{Ends}
 use Rattle.path_sets.specs.Edges.{edge_at, edges}
 use Rattle.path_sets.specs.Inserts.{Inserts, Settles}
 use Rattle.path_sets.proofs.Keys.{ends_cmp, same_ends, ends_themselves, found_is_in, is_found, put_in}
-use Rattle.path_sets.proofs.Grouped.{Groups, pair_at, found_at, in_group, only_in_group, put_in_group, same_group}
+use Rattle.path_sets.proofs.Grouped.{Groups, in_group, only_in_group, put_in_group, same_group}
 
 module _ (gs : Groups) (i p : ℕ) (s t : BTreeSet Ends) (e : Ends)
     (distinct : IsDistinct nat_eq (keys_of gs)) (at : slice_get gs i ≡ Some (p, s)) where

@@ -1,5 +1,5 @@
 -- One more item in a list.
-use Rattle.std.specs.Prelude.{◌≡◌, Bool, true, false, List, ◌∷◌, ◌⊎◌}
+use Rattle.std.specs.Prelude.{◌≡◌, Bool, true, false, List, ◌∷◌}
 use Rattle.language.specs.Flow.{Member}
 
 -- the second list is the first with x put in at one place

@@ -1,8 +1,6 @@
-use Rattle.std.proofs.Common.{◌≡◌, List, [], ◌∷◌, ◌++◌, nat_eq, ap, sym, ◌∙◌, subst}
-use Rattle.std.specs.Prelude.{ℕ}
-use Rattle.std.specs.BTreeSet.{BTreeSet, insert_key}
+use Rattle.std.proofs.Common.{◌≡◌, [], ◌∷◌, ◌++◌, nat_eq, ap, sym, ◌∙◌, subst}
+use Rattle.std.specs.BTreeSet.{insert_key}
 use Rattle.indexmap.proofs.CallerLemmas.{insert_entry-new}
-use Rattle.path_sets.specs.declared.ends.Ends.{Ends}
 use Rattle.path_sets.specs.Edges.{edge_at, edges}
 use Rattle.path_sets.specs.Inserts.{Inserts}
 use Rattle.path_sets.proofs.Grouped.{Groups, absent, no_edge, put_last}

@@ -1,4 +1,4 @@
-use Rattle.std.proofs.Common.{◌≡◌, true, false, refl, sym, ◌∙◌, true≢false, Option, None, Some, is_some}
+use Rattle.std.proofs.Common.{◌≡◌, false, refl, sym, ◌∙◌, true≢false, Option, None, Some, is_some}
 use Rattle.path_sets.specs.declared.ends.Ends.{Ends}
 use Rattle.path_sets.proofs.Keys.{ends_cmp, same_ends, ends_themselves, found_is_in, is_found}
 use Rattle.path_sets.proofs.Grouped.{pair_at, found_at, in_group, only_in_group, absent, no_edge}

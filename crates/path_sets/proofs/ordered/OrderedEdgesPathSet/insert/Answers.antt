@@ -1,4 +1,4 @@
-use Rattle.std.proofs.Common.{◌≡◌, inl, inr, arith, sym, subst, ◌∙◌}
+use Rattle.std.proofs.Common.{inl, inr, arith, sym, subst}
 use Rattle.language.specs.Flow.{Member}
 use Rattle.path_sets.specs.Edges.{edges}
 use Rattle.path_sets.proofs.Inserted.{is_new_or_old, is_in, stays_in, one_longer, still_none_twice}
