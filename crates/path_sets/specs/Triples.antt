@@ -9,6 +9,7 @@ pub record Triple : Type 0 where
   pub point : ℕ
   pub values : ℕ
 
+-- the path edge of these three
 abbrev pub triple : ℕ → ℕ → ℕ → Triple
 triple e p v = record { entry = e; point = p; values = v }
 

@@ -16,7 +16,8 @@ use std::hash::{BuildHasherDefault, FoldHasher};
 /// The edges of each point that has any, the points in the order in which they are first reached.
 type Points<A> = IndexMap<u32, BTreeSet<Ends, A>, BuildHasherDefault<FoldHasher>, A>;
 
-/// Path edges in one ordered set for each point that is reached.
+/// Path edges in one ordered set for each point that is reached, of all entries together: where each entry reaches a
+/// point with one valuation, a set for each of them would hold one edge.
 #[derive(Drop)]
 pub struct OrderedEdges<A: Allocator> {
     points: Points<A>,
