@@ -1,0 +1,69 @@
+-- What is in a list with one more item, and how such lists are put together.
+use Rattle.std.proofs.Common.{◌≡◌, ◌+◌, List, [], ◌∷◌, ◌++◌, ◌⊎◌, map, length, inl, inr, refl, sym, ap, arith}
+use Rattle.language.specs.Flow.{Member}
+use Rattle.path_sets.specs.Triples.{NoneTwice}
+use Rattle.path_sets.specs.Inserts.{Inserts, here, there}
+
+-- what is in the longer list is x, or was there
+pub is_new_or_old : {A : Type 0} (x t : A) (xs ys : List A) → Inserts x xs ys → Member t ys → (t ≡ x) ⊎ Member t xs
+is_new_or_old x t xs ys (here _) (inl e) = inl e
+is_new_or_old x t xs ys (here _) (inr m) = inr m
+is_new_or_old x t xs ys (there y _ _ i) (inl e) = inr (inl e)
+is_new_or_old x t xs ys (there y us vs i) (inr m) =
+    elim (is_new_or_old x t us vs i m) [ inl e ↦ inl e | inr n ↦ inr (inr n) ]
+
+-- x is in the longer list
+pub is_in : {A : Type 0} (x : A) (xs ys : List A) → Inserts x xs ys → Member x ys
+is_in x xs ys (here _) = inl refl
+is_in x xs ys (there y us vs i) = inr (is_in x us vs i)
+
+-- and so is what was there
+pub stays_in : {A : Type 0} (x t : A) (xs ys : List A) → Inserts x xs ys → Member t xs → Member t ys
+stays_in x t xs ys (here _) m = inr m
+stays_in x t xs ys (there y _ _ i) (inl e) = inl e
+stays_in x t xs ys (there y us vs i) (inr m) = inr (stays_in x t us vs i m)
+
+-- the list is longer by one
+pub one_longer : {A : Type 0} (x : A) (xs ys : List A) → Inserts x xs ys → length ys ≡ length xs + 1
+one_longer x xs ys (here us) = omega arith
+one_longer x xs ys (there y us vs i) = let e = one_longer x us vs i in omega (arith, e)
+
+-- nothing stands twice where x is new
+pub still_none_twice : {A : Type 0} (x : A) (xs ys : List A) → Inserts x xs ys → (Member x xs → ⊥) → NoneTwice xs → NoneTwice ys
+still_none_twice x xs ys (here _) new n = (new, n)
+still_none_twice x xs ys (there y us vs i) new (y_once, n) = (
+  λ m. elim (is_new_or_old x y us vs i m) [ inl e ↦ new (inl (sym e)) | inr old ↦ y_once old ],
+  still_none_twice x us vs i (λ m. new (inr m)) n,
+)
+
+-- the same behind other items
+pub behind : {A : Type 0} (x : A) (zs xs ys : List A) → Inserts x xs ys → Inserts x (zs ++ xs) (zs ++ ys)
+behind x [] xs ys i = i
+behind x (z ∷ zs) xs ys i = there z (zs ++ xs) (zs ++ ys) (behind x zs xs ys i)
+
+-- the same before other items
+pub before : {A : Type 0} (x : A) (xs ys zs : List A) → Inserts x xs ys → Inserts x (xs ++ zs) (ys ++ zs)
+before x xs ys zs (here us) = here (us ++ zs)
+before x xs ys zs (there y us vs i) = there y (us ++ zs) (vs ++ zs) (before x us vs zs i)
+
+-- the same of each item's image
+pub mapped : {A B : Type 0} (f : A → B) (x : A) (xs ys : List A) → Inserts x xs ys → Inserts (f x) (map f xs) (map f ys)
+mapped f x xs ys (here us) = here (map f us)
+mapped f x xs ys (there y us vs i) = there (f y) (map f us) (map f vs) (mapped f x us vs i)
+
+-- at the end
+pub at_end : {A : Type 0} (x : A) (xs : List A) → Inserts x xs (xs ++ x ∷ [])
+at_end x [] = here []
+at_end x (y ∷ ys) = there y ys (ys ++ x ∷ []) (at_end x ys)
+
+-- the image of an item is among the images
+pub image_in : {A B : Type 0} (f : A → B) (x : A) (xs : List A) → Member x xs → Member (f x) (map f xs)
+image_in f x [] m = elim m [ ]
+image_in f x (y ∷ ys) (inl e) = inl (ap f e)
+image_in f x (y ∷ ys) (inr m) = inr (image_in f x ys m)
+
+-- what is among the images is the image of an item
+pub image_of : {A B : Type 0} (f : A → B) (t : B) (xs : List A) → Member t (map f xs) → (x : A) × Member x xs × (t ≡ f x)
+image_of f t [] m = elim m [ ]
+image_of f t (y ∷ ys) (inl e) = (y, inl refl, e)
+image_of f t (y ∷ ys) (inr m) = let r = image_of f t ys m in (r.0, inr r.1, r.2)

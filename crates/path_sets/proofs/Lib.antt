@@ -1,0 +1,4 @@
+pub mod Inserted
+pub mod Keys
+pub mod Grouped
+pub mod Settled

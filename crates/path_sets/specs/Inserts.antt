@@ -1,0 +1,13 @@
+-- One more item in a list.
+use Rattle.std.specs.Prelude.{◌≡◌, Bool, true, false, List, ◌∷◌}
+use Rattle.language.specs.Flow.{Member}
+
+-- the second list is the first with x put in at one place
+pub data Inserts {A : Type 0} (x : A) : List A → List A → Type 0 where
+  here : (xs : List A) → Inserts x xs (x ∷ xs)
+  there : (y : A) (xs ys : List A) → Inserts x xs ys → Inserts x (y ∷ xs) (y ∷ ys)
+
+-- x was put in where it was no member, or the list stays where it was one; the answer says which
+abbrev pub Settles : {A : Type 0} → A → List A → List A → Bool → Type 0
+Settles x old new true = Inserts x old new × (Member x old → ⊥)
+Settles x old new false = (new ≡ old) × Member x old

@@ -1,0 +1,15 @@
+//! Sets of path edges: the triples of an entry valuation, a point of a procedure and a valuation at that point, for
+//! one procedure of a sequential program (path edges after Ball and Rajamani 2000).
+//!
+//! A set grows and never shrinks: the tabulation of a procedure inserts each path edge as it is found, and works on it
+//! once, where `insert` answers that it was new.
+#![tactic(auto)]
+
+mod ends;
+mod ordered;
+mod path_set;
+#[cfg(test)]
+mod tests;
+
+pub use ordered::OrderedEdges;
+pub use path_set::PathSet;

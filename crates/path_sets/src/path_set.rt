@@ -1,0 +1,38 @@
+//! What every set of path edges offers.
+
+ghost use Rattle.std.specs.Prelude.{◌≡◌, ℕ, ◌+◌, ◌<◌, ◌^◌, ◌↔◌, ◌⊎◌, List, [], length, IsTrue, IfOk, OnOk, OnErr, if◌then◌else◌};
+ghost use Rattle.std.specs.Bool.{OnTrue, OnFalse};
+ghost use Rattle.language.specs.Flow.{Member};
+ghost use Rattle.path_sets.specs.Triples.{Triple, triple, NoneTwice};
+
+use std::alloc::{AllocError, Allocator};
+
+/// A set of triples: an entry valuation, a point and the valuation there. A valuation is a number whose bits are the
+/// values of the places; point 0 is the exit, and any other a statement's number.
+pub trait PathSet<A: Allocator>: Sized + Drop {
+    ghost members: { Self → List Triple };
+
+    /// A set with no members, which takes no memory yet.
+    fn empty(alloc: A) -> Self
+        ensures { members result ≡ [] };
+
+    /// Puts a triple into the set. Answers whether it is new: `false` where it is a member already. Where memory is
+    /// refused, the set stays as it was.
+    fn insert(&mut self, entry: u64, point: u32, values: u64) -> Result<bool, AllocError>
+        requires { length (members self.old) < 2 ^ 63 }
+        ensures members { OnOk result ((t : Triple) → Member t (members self.new) ↔ ((t ≡ triple entry point values) ⊎ Member t (members self.old))) }
+        ensures new { IfOk result (λ added. OnTrue added (¬ Member (triple entry point values) (members self.old))) }
+        ensures known { IfOk result (λ added. OnFalse added (Member (triple entry point values) (members self.old))) }
+        ensures len { IfOk result (λ added. length (members self.new) ≡ length (members self.old) + (if added then 1 else 0)) }
+        ensures err { OnErr result (members self.new ≡ members self.old) };
+
+    /// Whether the triple is a member.
+    fn contains(&self, entry: u64, point: u32, values: u64) -> bool
+        ensures { IsTrue result ↔ Member (triple entry point values) (members self.now) };
+
+    /// How many members there are.
+    fn len(&self) -> u64
+        ensures { result ≡ length (members self.now) };
+
+    ghost none_twice: { (s : Self) → NoneTwice (members s) };
+}
