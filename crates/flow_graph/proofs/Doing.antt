@@ -177,3 +177,8 @@ does_calls {A} c p es s m to_p globals there all = record {
 pub if_ok : {X E : Type 0} (r : Result X E) (P Q : X → Type 0) → ((x : X) → P x → Q x) → IfOk r P → IfOk r Q
 if_ok (Ok x) P Q f h = f x h
 if_ok (Err e) P Q f h = tt
+
+-- one formula more says one value more
+pub more_said : {A : Type 0} (f : A → Bool) (fs : List A) (x : A) (b : Bool) (bs : List Bool) → f x ≡ b → map f (fs ++ (x ∷ [])) ++ bs ≡ map f fs ++ (b ∷ bs)
+more_said f [] x b bs e = ap (λ v. v ∷ bs) e
+more_said f (y ∷ fs) x b bs e = ap (λ l. f y ∷ l) (more_said f fs x b bs e)

@@ -5,16 +5,16 @@ use Rattle.std.proofs.lemmas.Option.{none-some}
 use Rattle.flow_graph.proofs.Doing.{same_there}
 use Rattle.language.specs.Tree as tree
 use Rattle.language.specs.Tree.{Mark, done, one, choose, loop}
-use Rattle.language.specs.Resolve.{Scope, resolve_mark, resolve_side, resolve_block}
+use Rattle.language.specs.Resolve.{Scope, resolve_mark, resolve_simple, resolve_side, resolve_block}
 use Rattle.language.specs.Rest.{Code, join}
 use Rattle.language.specs.Sequential.{statements, numbered, marked}
 use Rattle.language.specs.Flow.{rests}
 use Rattle.syntax.specs.declared.tree.Stmt.{Stmt}
 use Rattle.syntax.specs.Trees.{Deed, simple, branch, repeat, item_of, block_of}
-use Rattle.flow_graph.specs.Nodes.{Node, at, node_of, goes, stops, goes_to}
+use Rattle.flow_graph.specs.Nodes.{Node, at, node_of, goes, stops, goes_to, tests}
 use Rattle.flow_graph.specs.Flows.{Does, AllDo, Lowered}
 use Rattle.flow_graph.specs.declared.flow.Flow.{Flow}
-use Rattle.flow_graph.proofs.Numbered.{Names, led, tail, behind_simple, behind_branch, behind_repeat}
+use Rattle.flow_graph.proofs.Numbered.{Names, led, tail, resolved_statements, behind_simple, behind_branch, behind_repeat}
 
 -- a first statement begins at its number
 begins_led : (n : ℕ) (s : Scope) (m : Mark tree.Name) (d : Deed) (t : Names) (k : Code) → n ≡ at (join (led n s m d t) k)
@@ -37,7 +37,7 @@ goes_lost (Some r) e = absurd (none-some _ (sym e))
 
 -- what can be left to run from a statement and those inside of it on, and then from those behind it on
 rests_led : (n : ℕ) (s : Scope) (m : Mark tree.Name) (d : Deed) (t : Names) (k : Code) → rests (led n s m d t) k ≡ rests (led n s m d done) (join (tail n s m d t) k) ++ rests (tail n s m d t) k
-rests_led n s m (simple c) t k = ap (λ T. rests (one (marked n (resolve_mark m)) (Rattle.language.specs.Resolve.resolve_simple s c) done) (join T k) ++ rests T k) (behind_simple n s m t c)
+rests_led n s m (simple c) t k = ap (λ T. rests (one (marked n (resolve_mark m)) (resolve_simple s c) done) (join T k) ++ rests T k) (behind_simple n s m t c)
 rests_led n s m (branch r a b) t k =
     ap (λ l. choose (marked n (resolve_mark m)) (resolve_side s r) A B (join T' k) ∷ l)
     (ap (λ l. rests A (join T' k) ++ (l ++ rests T' k)) (sym (append-nil (rests B (join T' k))))
@@ -89,3 +89,20 @@ lowered_none fs g l m = ([], sym (append-nil fs), tt)
 
 pub lowered_one : {A : Type 0} (old new : List (Flow A)) (f : Flow A) (n : Node) (g l m : ℕ) → new ≡ old ++ (f ∷ []) → Does f n g l m → Lowered old new (n ∷ []) g l m
 lowered_one old new f n g l m e d = (f ∷ [], e, (d, tt))
+
+-- what happens at a statement, by what it does
+pub node_simple : (body : Code) (n : ℕ) (s : Scope) (m : Mark tree.Name) (d : Deed) (c : tree.Simple tree.Name tree.Name tree.Name) (k : Code) → d ≡ simple c →
+    node_of body (join (led n s m d done) k) ≡ node_of body (one (marked n (resolve_mark m)) (resolve_simple s c) k)
+node_simple body n s m d c k is = ap (λ z. node_of body (join (led n s m z done) k)) is
+
+pub node_branch : (body : Code) (n : ℕ) (s : Scope) (m : Mark tree.Name) (d : Deed) (r : tree.RightSide tree.Name) (a b : Names) (k : Code) → d ≡ branch r a b →
+    node_of body (join (led n s m d done) k)
+    ≡ tests (resolve_side s r) (at (join (numbered (suc n) (resolve_block s a)) k)) (at (join (numbered (suc n + statements a) (resolve_block s b)) k))
+node_branch body n s m d r a b k is =
+    ap (λ z. node_of body (join (led n s m z done) k)) is
+    ∙ ap (λ j. tests (resolve_side s r) (at (join (numbered (suc n) (resolve_block s a)) k)) (at (join (numbered (suc n + j) (resolve_block s b)) k))) (resolved_statements s a)
+
+pub node_repeat : (body : Code) (n : ℕ) (s : Scope) (m : Mark tree.Name) (d : Deed) (r : tree.RightSide tree.Name) (a : Names) (k : Code) → d ≡ repeat r a →
+    node_of body (join (led n s m d done) k)
+    ≡ tests (resolve_side s r) (at (join (numbered (suc n) (resolve_block s a)) (loop (marked n (resolve_mark m)) (resolve_side s r) (numbered (suc n) (resolve_block s a)) k))) (at k)
+node_repeat body n s m d r a k is = ap (λ z. node_of body (join (led n s m z done) k)) is

@@ -1,22 +1,59 @@
 -- Each argument is compiled; a call that no run makes is none.
-use Rattle.std.proofs.Common.{◌≡◌, ◌+◌, ◌<◌, ◌≤◌, ◌++◌, ◌∷◌, [], drop, length, map, inl, inr, refl, sym, ◌∙◌, ap, subst, arith}
-use Rattle.std.proofs.lemmas.List.{drop_more, drop_all, length-map, append-nil}
+use Rattle.std.proofs.Common.{◌≡◌, ◌+◌, ◌<◌, ◌≤◌, ◌++◌, ◌∷◌, [], drop, length, map, inl, inr, refl, sym, ◌∙◌, ap, subst, arith, length-append}
+use Rattle.std.proofs.lemmas.List.{drop_more, drop_all, length-map, append-nil, append_assoc, map-append}
 use Rattle.std.specs.String.{string_bytes}
 use Rattle.language.specs.Value.{value_of, values_of}
 use Rattle.language.specs.Resolve.{number_of, resolve_expression}
-use Rattle.syntax.specs.Trees.{expr_of, exprs_of, names_of}
+use Rattle.syntax.specs.Trees.{name_of, expr_of, exprs_of, proc_of, procs_of}
+use Rattle.flow_graph.specs.Bits.{coded}
+use Rattle.flow_graph.specs.Formulas.{says}
 use Rattle.flow_graph.specs.Lowering.{scope_of}
-use Rattle.flow_graph.proofs.Doing.{does_no_call, does_calls}
+use Rattle.flow_graph.proofs.Doing.{does_no_call, does_calls, more_said}
 use Rattle.flow_graph.proofs.lowering.Lowering.call.Goals as goal
 
 pub returns-then-callee-self : goal.returns-then-callee-self
-returns-then-callee-self g c = ?
+returns-then-callee-self g c =
+    let s = scope_of c.args.self.now in
+    let procs = c.args.self.now.scope.procedures.now in
+    let e = ap (λ t. number_of t s.procedures) c.as_str.ensures.value in
+    let count : length s.procedures ≡ length procs = length-map (procs_of procs) _ ∙ length-map procs proc_of in
+    does_no_call c.nowhere.result _ _ c.args.back _ _ _ (inl (λ less. omega (arith, less, e, count, c.number_of_procedure-callee.ensures, c.if-callee-self.true))) (c.nowhere.ensures _ _ _)
 
 pub returns-then-es-self : goal.returns-then-es-self
-returns-then-es-self g c = ?
+returns-then-es-self g c =
+    let s = scope_of c.args.self.now in
+    let es = c.args.es.now in
+    let count : length (map (resolve_expression s) (exprs_of es)) ≡ length es = length-map (exprs_of es) (resolve_expression s) ∙ length-map es expr_of in
+    let globals : length s.globals ≡ length c.args.self.now.scope.globals.now = length-map c.args.self.now.scope.globals.now name_of in
+    does_no_call c.nowhere-then-es-self.result _ _ c.args.back _ _ _ (inr (λ few. omega (arith, few, count, globals, c.if-es-self.true))) (c.nowhere-then-es-self.ensures _ _ _)
 
 pub loop-e-preserved : goal.loop-e-preserved
-loop-e-preserved g c = ?
+loop-e-preserved g c =
+    let s = scope_of c.args.self.now in
+    let es = c.args.es.now in
+    let i = c.loop-e.e-index in
+    let old = c.loop-e.arguments.items in
+    let f = c.in_ok-formula.field-0 in
+    let next = drop_more es i c.e-item.result c.loop-e-test.true ∙ ap (λ x. x ∷ drop (i + 1) es) (sym c.e-item.is) in (
+      omega (arith, c.loop-e.invariant.0, ap length c.in_ok-push.ensures.items, length-append old (f ∷ [])),
+      λ gs ls wide.
+        ap (λ l. map (λ f. says f (coded (gs ++ ls))) l ++ values_of gs ls (map (resolve_expression s) (exprs_of (drop (i + 1) es)))) c.in_ok-push.ensures.items
+        ∙ more_said (λ f. says f (coded (gs ++ ls))) old f (value_of gs ls (resolve_expression s (expr_of c.e-item.result))) (values_of gs ls (map (resolve_expression s) (exprs_of (drop (i + 1) es)))) (c.in_ok-formula.ensures gs ls wide)
+        ∙ ap (λ l. map (λ f. says f (coded (gs ++ ls))) old ++ values_of gs ls (map (resolve_expression s) (exprs_of l))) (sym next)
+        ∙ c.loop-e.invariant.1 gs ls wide,
+    )
 
 pub returns : goal.returns
-returns g c = ?
+returns g c =
+    let s = scope_of c.args.self.now in
+    let procs = c.args.self.now.scope.procedures.now in
+    let es = c.args.es.now in
+    let e = ap (λ t. number_of t s.procedures) c.as_str.ensures.value in
+    let count : length s.procedures ≡ length procs = length-map (procs_of procs) _ ∙ length-map procs proc_of in
+    let globals : length s.globals ≡ length c.args.self.now.scope.globals.now = length-map c.args.self.now.scope.globals.now name_of in
+    let callee = c.number_of_procedure-callee.ensures ∙ e in
+    does_calls _ _ (map (resolve_expression s) (exprs_of es)) s _ callee (sym globals) (omega (arith, callee, count, c.if-callee-self.false))
+    (λ gs ls wide.
+      sym (append-nil (map (λ f. says f (coded (gs ++ ls))) c.loop-e.arguments.items))
+      ∙ ap (λ l. map (λ f. says f (coded (gs ++ ls))) c.loop-e.arguments.items ++ values_of gs ls (map (resolve_expression s) (exprs_of l))) (sym (drop_all c.loop-e.e-index es c.loop-e-test.false))
+      ∙ c.loop-e.invariant.1 gs ls wide)
