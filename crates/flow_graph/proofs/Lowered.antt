@@ -106,3 +106,38 @@ pub node_repeat : (body : Code) (n : ℕ) (s : Scope) (m : Mark tree.Name) (d : 
     node_of body (join (led n s m d done) k)
     ≡ tests (resolve_side s r) (at (join (numbered (suc n) (resolve_block s a)) (loop (marked n (resolve_mark m)) (resolve_side s r) (numbered (suc n) (resolve_block s a)) k))) (at k)
 node_repeat body n s m d r a k is = ap (λ z. node_of body (join (led n s m z done) k)) is
+
+-- what happens at a statement and at those inside of it, which have these numbers
+pub nodes_simple : (body : Code) (n : ℕ) (s : Scope) (m : Mark tree.Name) (d : Deed) (c : tree.Simple tree.Name tree.Name tree.Name) (k : Code) → d ≡ simple c →
+    map (node_of body) (rests (led n s m d done) k) ≡ node_of body (join (led n s m d done) k) ∷ []
+nodes_simple body n s m d c k is =
+    ap (λ z. map (node_of body) (rests (led n s m z done) k)) is ∙ ap (λ z. node_of body (join (led n s m z done) k) ∷ []) (sym is)
+
+pub nodes_branch : (body : Code) (n i j : ℕ) (s : Scope) (m : Mark tree.Name) (d : Deed) (r : tree.RightSide tree.Name) (a b : Names) (k : Code) → d ≡ branch r a b → i ≡ suc n → j ≡ suc n + statements a →
+    map (node_of body) (rests (led n s m d done) k)
+    ≡ node_of body (join (led n s m d done) k) ∷ (map (node_of body) (rests (numbered i (resolve_block s a)) k) ++ map (node_of body) (rests (numbered j (resolve_block s b)) k))
+nodes_branch body n i j s m d r a b k is at_i at_j =
+    ap (λ z. map (node_of body) (rests (led n s m z done) k)) is
+    ∙ ap (λ l. head ∷ l)
+    (ap (λ l. map (node_of body) (rests A k ++ l)) (append-nil (rests B k)) ∙ map-append (node_of body) (rests A k) (rests B k))
+    ∙ (λ t. node_of body (join (led n s m (sym is t) done) k) ∷ (map (node_of body) (rests (numbered (sym at_i t) (resolve_block s a)) k) ++ map (node_of body) (rests (numbered ((ap (λ z. suc n + z) (resolved_statements s a) ∙ sym at_j) t) (resolve_block s b)) k)))
+  where
+    A : Code
+    A = numbered (suc n) (resolve_block s a)
+
+    B : Code
+    B = numbered (suc n + statements (resolve_block s a)) (resolve_block s b)
+
+    head : Node
+    head = node_of body (join (led n s m (branch r a b) done) k)
+
+pub nodes_repeat : (body : Code) (n i : ℕ) (s : Scope) (m : Mark tree.Name) (d : Deed) (r : tree.RightSide tree.Name) (a : Names) (k : Code) → d ≡ repeat r a → i ≡ suc n →
+    map (node_of body) (rests (led n s m d done) k)
+    ≡ node_of body (join (led n s m d done) k) ∷ map (node_of body) (rests (numbered i (resolve_block s a)) (loop (marked n (resolve_mark m)) (resolve_side s r) (numbered (suc n) (resolve_block s a)) k))
+nodes_repeat body n i s m d r a k is at_i =
+    ap (λ z. map (node_of body) (rests (led n s m z done) k)) is
+    ∙ ap (λ l. node_of body (join (led n s m (repeat r a) done) k) ∷ map (node_of body) l) (append-nil (rests (numbered (suc n) (resolve_block s a)) again))
+    ∙ (λ t. node_of body (join (led n s m (sym is t) done) k) ∷ map (node_of body) (rests (numbered (sym at_i t) (resolve_block s a)) again))
+  where
+    again : Code
+    again = loop (marked n (resolve_mark m)) (resolve_side s r) (numbered (suc n) (resolve_block s a)) k
