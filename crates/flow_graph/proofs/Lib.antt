@@ -5,3 +5,5 @@ pub mod Rows
 pub mod Worths
 pub mod Nodes
 pub mod Calls
+pub mod Coding
+pub mod Reaching

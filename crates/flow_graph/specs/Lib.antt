@@ -11,3 +11,4 @@ pub mod Flows
 pub mod Lowering
 pub mod Returns
 pub mod Graphs
+pub mod Numbers
