@@ -7,3 +7,4 @@ pub mod Nodes
 pub mod Calls
 pub mod Coding
 pub mod Reaching
+pub mod Taking

@@ -1,5 +1,5 @@
 -- What a flow graph reaches and sends by numbers is what its procedure reaches and owes.
-use Rattle.std.proofs.Common.{◌≡◌, ◌⊎◌, ℕ, suc, ◌+◌, ◌≤◌, Bool, List, [], ◌∷◌, ◌++◌, length, Option, Some, None, slice_get, inl, inr, refl, sym, ◌∙◌, ap, ap₂, subst, arith}
+use Rattle.std.proofs.Common.{◌≡◌, ◌↔◌, ◌⊎◌, ℕ, suc, ◌+◌, ◌≤◌, Bool, List, [], ◌∷◌, ◌++◌, length, Option, Some, None, slice_get, inl, inr, refl, sym, ◌∙◌, ap, ap₂, subst, arith}
 use Rattle.std.proofs.lemmas.Option.{none-some, same_Some}
 use Rattle.language.specs.Tree.{Mark, Expression, call, done, one, choose, loop}
 use Rattle.language.specs.Value.{Place, values_of}
@@ -59,6 +59,18 @@ same_widths p q v w (g, l) (g', l') =
 -- a number tells the valuation of a procedure
 pub valuation_told : (p : Program) (q : ℕ) (v w : Valuation) → IsValuationOf p q v → IsValuationOf p q w → code v ≡ code w → v ≡ w
 valuation_told p q v w is is' e = let (g, l) = same_widths p q v w is is' in code_tells v w g l e
+
+-- numbers tell the message to a procedure
+pub message_told : (p : Program) (q : ℕ) (m n : Message) → IsMessageTo p q m → IsMessageTo p q n → by_numbers m ≡ by_numbers n → m ≡ n
+message_told p q (entry from v) (entry from' w) is is' e =
+    ap₂ entry (ap caller_of e) (valuation_told p q v w is is' (ap entry_of e))
+message_told p q (entry from v) (summary s w b) is is' e = absurd (let z : 0 ≡ 1 = ap kind_of e in omega (arith, z))
+message_told p q (summary s v b) (entry from w) is is' e = absurd (let z : 1 ≡ 0 = ap kind_of e in omega (arith, z))
+message_told p q (summary s v b) (summary s' w b') is is' e =
+    let es : s ≡ s' = ap procedure_of e in
+    let ev = valuation_told p s v w is.0 (subst (λ i. IsValuationOf p i w) (sym es) is'.0) (ap entry_of e) in
+    let eb = coded_tells b b' (is.1 ∙ sym is'.1) (ap left_of e) in
+    λ i. summary (es i) (ev i) (eb i)
 
 -- the values of arguments are as many
 length_values : (g l : List Bool) (es : List (Expression Place)) → length (values_of g l es) ≡ length es
@@ -132,6 +144,12 @@ rest_told b r r' is is' e = go (pointed r) (pointed r')
     go (inr h) (inl h') = rest_at_exit b r is (e ∙ ap at h') ∙ sym h'
     go (inr h) (inr h') = point_tells_rest 1 b r r' is is' (h ∙ ap Some e ∙ sym h')
 
+pub rest_in_order_told : (p : Program) → IsInTextOrder p → (q : ℕ) (r r' : Code) → IsRestOf (body_of (slice_get p.routines q)) r
+    → IsRestOf (body_of (slice_get p.routines q)) r' → at r ≡ at r' → r ≡ r'
+rest_in_order_told p order q r r' is is' e =
+    let (b, numbering) = order q in
+    rest_told b r r' (subst (λ k. IsRestOf k r) numbering is) (subst (λ k. IsRestOf k r') numbering is') e
+
 -- ---- graphs
 
 at_flow : {A : Type 0} (o : Option (Flow A)) (P : Flow A → Type 0) → AtFlow o P → (flow : Flow A) × (o ≡ Some flow) × P flow
@@ -156,7 +174,7 @@ module _ {A : Type 0} (p : Program) (q : ℕ) (graph : Graph A) (is : IsGraph p 
     -- ---- what is reached and owed has its numbers
 
     module _ (gives : (m : Message) → M m → K (by_numbers m)) where
-      reaches_reached : (a v : Valuation) (r : Code) → Reached p q M a v r → Reaches graph K (code a) (at r) (code v)
+      pub reaches_reached : (a v : Valuation) (r : Code) → Reached p q M a v r → Reaches graph K (code a) (at r) (code v)
       reaches_reached _ _ _ (by_messages.starts from a m) = subst (λ n. Reaches graph K (code a) n (code a)) is.start (starts from (code a) (gives (entry from a) m))
       reaches_reached _ _ _ (by_messages.flows a v v' r r' reached step) =
           let (flow, here, steps) = flow_at r (reached_stands p q M a v r reached) in
@@ -170,7 +188,7 @@ module _ {A : Type 0} (p : Program) (q : ℕ) (graph : Graph A) (is : IsGraph p 
           subst (Reaches graph K (code a) (at (after_first r))) back
           (returns (code a) (at r) (code v) s (code e) (at (after_first r)) (coded b) flow (reaches_reached a v r reached) here (steps.enters v e s wide calls) (gives (summary s e b) m))
 
-      sends_owed : (s : ℕ) (m : Message) → Owes p q M s m → Sends graph q K s (by_numbers m)
+      pub sends_owed : (s : ℕ) (m : Message) → Owes p q M s m → Sends graph q K s (by_numbers m)
       sends_owed _ _ (by_messages.asks a v e r s reached calls) =
           let (flow, here, steps) = flow_at r (reached_stands p q M a v r reached) in
           asks (code a) (at r) (code v) s (code e) (at (after_first r)) flow (reaches_reached a v r reached) here
@@ -201,7 +219,7 @@ module _ {A : Type 0} (p : Program) (q : ℕ) (graph : Graph A) (is : IsGraph p 
           let back : resumed graph.globals (code y) (coded b') ≡ coded (b' ++ y.places) = resumed_coded graph.globals y b' (wide.0 ∙ sym is.globals) (theirs.1 ∙ sym is.globals) in
           (x, record { globals = b'; places = y.places }, after_first r, by_messages.returns x y e r s b' reached calls m, ea, en, (λ i. resumed graph.globals (ev i) (eb i)) ∙ back)
 
-      reached_reaches : (a n v : ℕ) → Reaches graph K a n v → AreNumbersOf (Reached p q M) a n v
+      pub reached_reaches : (a n v : ℕ) → Reaches graph K a n v → AreNumbersOf (Reached p q M) a n v
       reached_reaches _ _ _ (starts from a k) = let (m, had, e) = tells_of (numbered_entry from a) k in begun from a m had e
       reached_reaches _ _ _ (flows a n v n' v' i flow reached here most next) =
           let (x, y, r, got, ea, en, ev) = reached_reaches a n v reached in
@@ -228,7 +246,7 @@ module _ {A : Type 0} (p : Program) (q : ℕ) (graph : Graph A) (is : IsGraph p 
           (summary q x y.globals, by_messages.tells x y s m (subst (Reached p q M x y) exit got),
             ap₂ (numbered_summary q) ea (ap (left graph.globals) ev ∙ left_coded graph.globals y (wide.0 ∙ sym is.globals)))
 
-      owed_sends : IsInTextOrder p → (s : ℕ) (k : NumberedMessage) → Sends graph q K s k → IsNumberOf (Owes p q M s) k
+      pub owed_sends : IsInTextOrder p → (s : ℕ) (k : NumberedMessage) → Sends graph q K s k → IsNumberOf (Owes p q M s) k
       owed_sends order _ _ (asks a n v s w n' flow reached here enters) =
           let (x, y, r, got, ea, en, ev) = reached_reaches a n v reached in
           let steps : HasSteps p q r flow = steps_at n r flow (reached_stands p q M x y r got) en here in
@@ -238,3 +256,20 @@ module _ {A : Type 0} (p : Program) (q : ℕ) (graph : Graph A) (is : IsGraph p 
           let (x, y, r, got, ea, en, ev) = reached_reaches a 0 v reached in
           let (m, had, same) = tells_of (numbered_entry (caller s) a) k in
           told order a v s x y r m got ea en ev had same
+
+    -- ---- both
+
+    module _ (gives : (m : Message) → M m → K (by_numbers m)) (fit : ArgumentsFit p) (tells_of : (k : NumberedMessage) → K k → IsNumberOf M k) where
+      pub reaches_numbers : (a n v : ℕ) → Reaches graph K a n v ↔ AreNumbersOf (Reached p q M) a n v
+      reaches_numbers a n v = (reached_reaches fit tells_of a n v, back)
+        where
+          back : AreNumbersOf (Reached p q M) a n v → Reaches graph K a n v
+          back (x, y, r, got, ea, en, ev) =
+              subst (Reaches graph K a n) (sym ev)
+              (subst (λ i. Reaches graph K a i (code y)) (sym en) (subst (λ i. Reaches graph K i (at r) (code y)) (sym ea) (reaches_reached gives x y r got)))
+
+      pub sends_numbers : IsInTextOrder p → (s : ℕ) (k : NumberedMessage) → Sends graph q K s k ↔ IsNumberOf (Owes p q M s) k
+      sends_numbers order s k = (
+        owed_sends fit tells_of order s k,
+        λ h. subst (Sends graph q K s) (sym h.2) (sends_owed gives s h.0 h.1),
+      )
