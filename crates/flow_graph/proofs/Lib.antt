@@ -8,3 +8,5 @@ pub mod Calls
 pub mod Coding
 pub mod Reaching
 pub mod Taking
+pub mod Holding
+pub mod Pairs

@@ -36,7 +36,7 @@ abbrev procedure_of : NumberedMessage → ℕ
 procedure_of (numbered_entry from a) = 0
 procedure_of (numbered_summary s a b) = s
 
-abbrev entry_of : NumberedMessage → ℕ
+abbrev pub entry_of : NumberedMessage → ℕ
 entry_of (numbered_entry from a) = a
 entry_of (numbered_summary s a b) = a
 
@@ -48,6 +48,10 @@ left_of (numbered_summary s a b) = b
 abbrev kind_of : NumberedMessage → ℕ
 kind_of (numbered_entry from a) = 0
 kind_of (numbered_summary s a b) = 1
+
+-- an entry is no summary
+pub entry_is : (from : Caller) (a s x b : ℕ) → numbered_entry from a ≡ numbered_summary s x b → ⊥
+entry_is from a s x b e = let z : 0 ≡ 1 = ap kind_of e in omega (arith, z)
 
 -- two valuations of one procedure have as many values
 same_widths : (p : Program) (q : ℕ) (v w : Valuation) → IsValuationOf p q v → IsValuationOf p q w → (length v.globals ≡ length w.globals) × (length v.places ≡ length w.places)
@@ -78,7 +82,7 @@ length_values g l [] = refl
 length_values g l (e ∷ es) = ap suc (length_values g l es)
 
 -- what is entered by a call that fits has the widths of its procedure
-called_valuation : (p : Program) → ArgumentsFit p → (q : ℕ) (v : Valuation) (r : Code) (s : ℕ) (e : Valuation) → length v.globals ≡ p.globals
+pub called_valuation : (p : Program) → ArgumentsFit p → (q : ℕ) (v : Valuation) (r : Code) (s : ℕ) (e : Valuation) → length v.globals ≡ p.globals
     → IsRestOf (body_of (slice_get p.routines q)) r → Calls p v.globals v.places r s e → IsValuationOf p s e
 called_valuation p fit q v r s e wide rest calls =
     let (m, es, t, same, h) = call_shape p v.globals v.places r s e calls in
@@ -161,7 +165,7 @@ module _ {A : Type 0} (p : Program) (q : ℕ) (graph : Graph A) (is : IsGraph p 
   body = body_of (slice_get p.routines q)
 
   -- at a rest of the body there is a flow with the steps from there
-  flow_at : (r : Code) → IsRestOf body r → (flow : Flow A) × (slice_get graph.flows.items (at r) ≡ Some flow) × HasSteps p q r flow
+  pub flow_at : (r : Code) → IsRestOf body r → (flow : Flow A) × (slice_get graph.flows.items (at r) ≡ Some flow) × HasSteps p q r flow
   flow_at r rest = at_flow (slice_get graph.flows.items (at r)) (HasSteps p q r) (is.steps r rest)
 
   -- the flow at the point has the steps from there

@@ -80,7 +80,7 @@ code_zero p a begins =
 module _ {A : Type 0} (p : Program) (graphs : List (Graph A)) (takes : List (List NumberedMessage)) (fit : ArgumentsFit p) (are : AreGraphs p graphs)
     (opening : TakesOpening takes) (sent : TakesSent graphs takes) (due : TakesDue p takes) where
   -- the messages that are due for a procedure and that it took
-  abbrev Had : ℕ → Message → Type 0
+  abbrev pub Had : ℕ → Message → Type 0
   Had q m = IsDue p q m × HasTaken takes q (by_numbers m)
 
   opened : HasOpening p Had
@@ -98,6 +98,9 @@ module _ {A : Type 0} (p : Program) (graphs : List (Graph A)) (takes : List (Lis
       let (graph, here) = there graphs p.routines q routine are.0 is in
       (owed_due p q (Had q) (λ n h. h.0) s m owed, sent_taken q s m graph here owed)
 
+  pub edges_had : (q : ℕ) (x y : Valuation) (r : Code) → EdgeTo p q x y r → Reached p q (Had q) x y r
+  edges_had q x y r = ((gathered p Had opened closed (λ s m d. d.0) q).1 x y r).1
+
   pub taken_due : (q : ℕ) (k : NumberedMessage) → HasTaken takes q k ↔ IsNumberOf (IsDue p q) k
   taken_due q k = (
     due q k,
@@ -109,7 +112,7 @@ module _ {A : Type 0} (p : Program) (graphs : List (Graph A)) (takes : List (Lis
     where
       back : AreNumbersOf (EdgeTo p q) a n v → Reaches graph (HasTaken takes q) a n v
       back (x, y, r, edge, ea, en, ev) =
-          let got : Reached p q (Had q) x y r = ((gathered p Had opened closed (λ s m d. d.0) q).1 x y r).1 edge in
+          let got = edges_had q x y r edge in
           let by = reaches_reached p q graph (are.1 q graph here) (Had q) (HasTaken takes q) (λ m h. due_message p fit q m h.0) (λ m h. h.1) x y r got in
           subst (Reaches graph (HasTaken takes q) a n) (sym ev)
           (subst (λ i. Reaches graph (HasTaken takes q) a i (code y)) (sym en) (subst (λ i. Reaches graph (HasTaken takes q) i (at r) (code y)) (sym ea) by))

@@ -12,3 +12,4 @@ pub mod Lowering
 pub mod Returns
 pub mod Graphs
 pub mod Numbers
+pub mod Triples

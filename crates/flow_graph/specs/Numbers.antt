@@ -1,11 +1,12 @@
 -- What a flow graph reaches by the messages that its procedure has, and the messages that it then sends: by numbers.
-use Rattle.std.specs.Prelude.{◌≡◌, ◌≤◌, ℕ, Option, Some, List, [], slice_get, slice_index_or}
+use Rattle.std.specs.Prelude.{◌≡◌, ◌≤◌, ℕ, Bool, Option, Some, List, [], slice_get, slice_index_or}
 use Rattle.language.specs.Rest.{Code}
 use Rattle.language.specs.Step.{Program, body_of}
-use Rattle.language.specs.Sequential.{numbered, Valuation, Caller, starter, caller, Message, entry, summary, IsDue}
+use Rattle.language.specs.Sequential.{numbered, Valuation, Edge, Pair, Entered, Caller, starter, caller, Message, entry, summary, IsDue}
 use Rattle.language.specs.Flow.{Member}
+use Rattle.language.specs.Messages.{IsValuationOf}
 use Rattle.flow_graph.specs.Bits.{coded}
-use Rattle.flow_graph.specs.Nodes.{at}
+use Rattle.flow_graph.specs.Nodes.{number, at}
 use Rattle.flow_graph.specs.Flows.{code, last_of, next_of, entered_by}
 use Rattle.flow_graph.specs.Returns.{left, resumed}
 use Rattle.flow_graph.specs.declared.flow.Flow.{Flow}
@@ -38,6 +39,10 @@ pub data Sends {A : Type 0} (graph : Graph A) (q : ℕ) (M : NumberedMessage →
       entered_by flow v ≡ Some (s, e, n') → Sends graph q M s (numbered_entry (caller q) e)
   tells : (a v s : ℕ) → M (numbered_entry (caller s) a) → Reaches graph M a 0 v → Sends graph q M s (numbered_summary q a (left graph.globals v))
 
+-- By the messages of which M holds, the graph is left with globals of the number b where it was entered with that of a.
+abbrev pub Leaves : {A : Type 0} → Graph A → (NumberedMessage → Type 0) → ℕ → ℕ → Type 0
+Leaves graph M a b = (v : ℕ) × Reaches graph M a 0 v × (b ≡ left graph.globals v)
+
 -- the message is, by numbers, one of which P holds
 abbrev pub IsNumberOf : (Message → Type 0) → NumberedMessage → Type 0
 IsNumberOf P k = (m : Message) × P m × (k ≡ by_numbers m)
@@ -45,6 +50,23 @@ IsNumberOf P k = (m : Message) × P m × (k ≡ by_numbers m)
 -- a and v are the numbers of valuations, and n of the point of a rest, of which P holds
 abbrev pub AreNumbersOf : (Valuation → Valuation → Code → Type 0) → ℕ → ℕ → ℕ → Type 0
 AreNumbersOf P a n v = (x : Valuation) × (y : Valuation) × (r : Code) × P x y r × (a ≡ code x) × (n ≡ at r) × (v ≡ code y)
+
+-- n is the number of a valuation of q
+abbrev pub IsNumberOfValuation : Program → ℕ → ℕ → Type 0
+IsNumberOfValuation p q n = (x : Valuation) × IsValuationOf p q x × (n ≡ code x)
+
+-- a is the number of a valuation with which q is entered
+abbrev pub IsNumberOfEntry : Program → ℕ → ℕ → Type 0
+IsNumberOfEntry p q a = (x : Valuation) × Entered p q x × (a ≡ code x)
+
+-- a and v are the numbers of the valuations of a path edge of q, and n of its point
+abbrev pub AreNumbersOfEdge : Program → ℕ → ℕ → ℕ → ℕ → Type 0
+AreNumbersOfEdge p q a n v =
+    (x : Valuation) × (y : Valuation) × (point : Option ℕ) × Edge p q x point y × (a ≡ code x) × (n ≡ number point) × (v ≡ code y)
+
+-- a and b are the numbers of a pair of q
+abbrev pub AreNumbersOfPair : Program → ℕ → ℕ → ℕ → Type 0
+AreNumbersOfPair p q a b = (x : Valuation) × (g : List Bool) × Pair p q x g × (a ≡ code x) × (b ≡ coded g)
 
 -- the statements of each procedure are marked with their numbers in text order, from 1
 abbrev pub IsInTextOrder : Program → Type 0
