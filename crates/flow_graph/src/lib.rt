@@ -15,6 +15,7 @@ mod scope;
 mod side;
 mod sizes;
 mod table;
+mod takes;
 pub use assignment::Assignment;
 pub use call::Call;
 pub use flow::Flow;
@@ -23,10 +24,17 @@ pub use numbers::{
     a_graph_reaches_what_its_procedure_reaches, a_graph_sends_what_its_procedure_owes,
     a_number_tells_its_valuation, by_due_messages_a_graph_reaches_path_edges,
     by_due_messages_a_graph_sends_due_messages, marked_programs_are_in_text_order,
+    messages_that_follow_hold_what_is_sent, more_messages_lead_a_graph_further,
     numbers_tell_their_message, the_number_of_a_point_tells_its_rest,
-    what_graphs_send_and_take_is_what_is_due,
+    the_number_of_a_valuation_has_its_width, the_numbers_of_a_path_edge_have_its_point,
+    triples_that_follow_hold_what_is_reached, what_a_graph_reaches_has_an_entry,
+    what_a_graph_reaches_has_its_widths, what_a_graph_sends_has_its_widths,
 };
 pub use point::{EXIT, Point};
+pub use takes::{
+    a_bad_pair_is_left_by_its_graph, the_entries_taken_are_those_entered,
+    what_graphs_leave_are_the_pairs, what_graphs_send_and_take_is_what_is_due,
+};
 
 #[cfg(test)]
 mod tests;

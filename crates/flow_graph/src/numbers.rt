@@ -1,15 +1,16 @@
 //! Laws on what flow graphs reach and send by the messages that their procedures have: by numbers.
 
-ghost use Rattle.std.specs.Prelude.{◌≡◌, ◌↔◌, ℕ, List, Some, map, slice_get};
+ghost use Rattle.std.specs.Prelude.{◌≡◌, ◌↔◌, ◌<◌, ℕ, ◌+◌, ◌^◌, List, Some, length, map, slice_get};
 ghost use Rattle.language.specs.Rest.{Code};
-ghost use Rattle.language.specs.Step.{Program, body_of};
-ghost use Rattle.language.specs.Sequential.{in_text_order, Valuation, Message, IsDue};
+ghost use Rattle.language.specs.Step.{Routine, Program, body_of};
+ghost use Rattle.language.specs.Sequential.{in_text_order, Valuation, Caller, Message, IsDue};
 ghost use Rattle.language.specs.Flow.{Member, IsRestOf};
 ghost use Rattle.language.specs.Messages.{Reached, Owes, EdgeTo, IsValuationOf, IsMessageTo, ArgumentsFit};
 ghost use Rattle.flow_graph.specs.Nodes.{at};
 ghost use Rattle.flow_graph.specs.Flows.{code};
-ghost use Rattle.flow_graph.specs.Graphs.{IsGraph, AreGraphs};
-ghost use Rattle.flow_graph.specs.Numbers.{NumberedMessage, by_numbers, Reaches, Sends, IsNumberOf, AreNumbersOf, IsInTextOrder, HasTaken, TakesOpening, TakesSent, TakesDue};
+ghost use Rattle.flow_graph.specs.Graphs.{IsGraph};
+ghost use Rattle.flow_graph.specs.Numbers.{NumberedMessage, numbered_entry, by_numbers, Reaches, Sends, IsNumberOf, AreNumbersOf, IsNumberOfValuation, AreNumbersOfEdge, IsInTextOrder};
+ghost use Rattle.flow_graph.specs.Triples.{HoldStarts, HoldFlows, HoldReturns, HoldAsks, HoldTells};
 ghost use Rattle.flow_graph.specs.declared.graph.Graph.{Graph};
 
 use std::alloc::Allocator;
@@ -42,14 +43,45 @@ pub fn by_due_messages_a_graph_sends_due_messages<A: Allocator>()
         → Sends graph q (λ j. Member j ks) s k → IsNumberOf (IsDue p s) k }
 {}
 
-/// Where the opening message and each message sent are taken, and none that is not due, those due are taken, and the path
-/// edges are reached and nothing else.
-pub fn what_graphs_send_and_take_is_what_is_due<A: Allocator>()
-    ensures { (p : Program) (graphs : List (Graph A)) (takes : List (List NumberedMessage)) → ArgumentsFit p → AreGraphs p graphs
-        → TakesOpening takes → TakesSent graphs takes → TakesDue p takes → (q : ℕ)
-        → ((k : NumberedMessage) → HasTaken takes q k ↔ IsNumberOf (IsDue p q) k)
-        × ((graph : Graph A) → slice_get graphs q ≡ Some graph → (a n v : ℕ)
-            → Reaches graph (HasTaken takes q) a n v ↔ AreNumbersOf (EdgeTo p q) a n v) }
+/// By messages of the widths of its procedure, a graph reaches only points that it has, with numbers of the procedure's
+/// valuations.
+pub fn what_a_graph_reaches_has_its_widths<A: Allocator>()
+    ensures { (p : Program) (q : ℕ) (graph : Graph A) (ks : List NumberedMessage) → ArgumentsFit p → IsGraph p q graph
+        → ((k : NumberedMessage) → Member k ks → IsNumberOf (IsMessageTo p q) k) → (a n v : ℕ) → Reaches graph (λ k. Member k ks) a n v
+        → (n < length graph.flows.items) × IsNumberOfValuation p q a × IsNumberOfValuation p q v }
+{}
+
+/// By messages of the widths of its procedure, a graph sends only messages of the widths of who they are for.
+pub fn what_a_graph_sends_has_its_widths<A: Allocator>()
+    ensures { (p : Program) (q : ℕ) (graph : Graph A) (ks : List NumberedMessage) → ArgumentsFit p → IsInTextOrder p → IsGraph p q graph
+        → ((k : NumberedMessage) → Member k ks → IsNumberOf (IsMessageTo p q) k) → (s : ℕ) (k : NumberedMessage)
+        → Sends graph q (λ j. Member j ks) s k → IsNumberOf (IsMessageTo p s) k }
+{}
+
+/// By more messages, a graph reaches what it reached, and sends what it sent.
+pub fn more_messages_lead_a_graph_further<A: Allocator>()
+    ensures { (q : ℕ) (graph : Graph A) (ks js : List NumberedMessage) → ((k : NumberedMessage) → Member k ks → Member k js)
+        → ((a n v : ℕ) → Reaches graph (λ k. Member k ks) a n v → Reaches graph (λ k. Member k js) a n v)
+        × ((s : ℕ) (k : NumberedMessage) → Sends graph q (λ i. Member i ks) s k → Sends graph q (λ i. Member i js) s k) }
+{}
+
+/// What a graph reaches from the number of an entry has an entry with this number.
+pub fn what_a_graph_reaches_has_an_entry<A: Allocator>()
+    ensures { (graph : Graph A) (ks : List NumberedMessage) (a n v : ℕ) → Reaches graph (λ k. Member k ks) a n v
+        → (from : Caller) × Member (numbered_entry from a) ks }
+{}
+
+/// Triples that hold the starts, and follow the flows and the returns, hold all that a graph reaches.
+pub fn triples_that_follow_hold_what_is_reached<A: Allocator>()
+    ensures { (graph : Graph A) (ks : List NumberedMessage) (ts : List (ℕ × ℕ × ℕ)) → HoldStarts graph ks ts → HoldFlows graph ts
+        → HoldReturns graph ks ts → (a n v : ℕ) → Reaches graph (λ k. Member k ks) a n v → Member (a, n, v) ts }
+{}
+
+/// Messages that, besides, hold what such triples ask and tell, hold all that a graph sends.
+pub fn messages_that_follow_hold_what_is_sent<A: Allocator>()
+    ensures { (q : ℕ) (graph : Graph A) (ks : List NumberedMessage) (ts : List (ℕ × ℕ × ℕ)) (sent : List (ℕ × NumberedMessage))
+        → HoldStarts graph ks ts → HoldFlows graph ts → HoldReturns graph ks ts → HoldAsks graph q ts sent
+        → HoldTells graph q ks ts sent → (s : ℕ) (k : NumberedMessage) → Sends graph q (λ j. Member j ks) s k → Member (s, k) sent }
 {}
 
 /// A number tells its valuation, of a procedure's.
@@ -71,4 +103,15 @@ pub fn the_number_of_a_point_tells_its_rest()
 /// Marked in text order, the bodies of a program are marked from 1 on.
 pub fn marked_programs_are_in_text_order()
     ensures { (p : Program) → IsInTextOrder (in_text_order p) }
+{}
+
+/// The number of a procedure's valuation has as many bits as there are globals and places.
+pub fn the_number_of_a_valuation_has_its_width()
+    ensures { (p : Program) (q : ℕ) (routine : Routine) (n : ℕ) → slice_get p.routines q ≡ Some routine → IsNumberOfValuation p q n
+        → n < 2 ^ (p.globals + routine.places) }
+{}
+
+/// The numbers of a path edge are those of its valuations and its point.
+pub fn the_numbers_of_a_path_edge_have_its_point()
+    ensures { (p : Program) (q a n v : ℕ) → AreNumbersOf (EdgeTo p q) a n v ↔ AreNumbersOfEdge p q a n v }
 {}

@@ -1,5 +1,5 @@
 use Rattle.flow_graph.proofs.Taking.{taken_due, edges_taken}
-use Rattle.flow_graph.proofs.numbers.what_graphs_send_and_take_is_what_is_due.Goals as goal
+use Rattle.flow_graph.proofs.takes.what_graphs_send_and_take_is_what_is_due.Goals as goal
 
 pub returns : goal.returns
 returns g c = λ p graphs takes fit are opening sent due q.
