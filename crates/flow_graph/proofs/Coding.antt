@@ -1,10 +1,10 @@
 -- Valuations and their numbers.
 use Rattle.std.proofs.Common.{◌≡◌, ℕ, zero, suc, ◌+◌, ◌-◌, ◌*◌, ◌<◌, ◌%◌, ◌^◌, Bool, true, false, List, [], ◌∷◌, ◌++◌, length, refl, sym, ◌∙◌, ap, ap₂, subst, arith, pow-suc, length-append}
-use Rattle.std.proofs.Math.Nat.{mul_assoc, mul_comm, mod-eq_of_lt}
+use Rattle.std.proofs.Math.Nat.{mul_assoc, mod-eq_of_lt}
 use Rattle.std.proofs.lemmas.Nat.{mod_low}
 use Rattle.language.specs.Step.{zeros}
 use Rattle.language.specs.Sequential.{Valuation}
-use Rattle.flow_graph.specs.Bits.{worth_of, coded}
+use Rattle.flow_graph.specs.Bits.{coded}
 use Rattle.flow_graph.specs.Flows.{code}
 use Rattle.flow_graph.specs.Returns.{left, resumed}
 use Rattle.flow_graph.proofs.Stacks.{coded_small}

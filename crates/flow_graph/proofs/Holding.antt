@@ -1,17 +1,17 @@
 -- What is reached and sent by numbers: the least that holds, more by more messages, and within the widths.
-use Rattle.std.proofs.Common.{◌≡◌, ◌≤◌, ◌<◌, ◌+◌, ◌^◌, ℕ, List, length, Some, slice_get, sym, ◌∙◌, ap, subst}
+use Rattle.std.proofs.Common.{◌≡◌, ◌≤◌, ◌<◌, ◌+◌, ◌^◌, ℕ, List, length, Some, slice_get, sym, subst}
 use Rattle.std.proofs.lemmas.Option.{slice_get_within}
-use Rattle.language.specs.Step.{Routine, Program, AtRoutine, body_of}
-use Rattle.language.specs.Sequential.{Valuation, Caller, caller, Message, entry, summary}
+use Rattle.language.specs.Step.{Routine, Program, AtRoutine}
+use Rattle.language.specs.Sequential.{Caller, caller, Message, entry}
 use Rattle.language.specs.Flow.{Member}
 use Rattle.language.specs.Messages as by_messages
-use Rattle.language.specs.Messages.{Reached, Owes, IsValuationOf, IsMessageTo, ArgumentsFit}
+use Rattle.language.specs.Messages.{Owes, IsMessageTo, ArgumentsFit}
 use Rattle.language.proofs.ByMessages.{reached_entry, reached_stands}
 use Rattle.language.proofs.Widths.{reached_valuation}
 use Rattle.flow_graph.specs.Flows.{code, last_of, next_of, entered_by}
-use Rattle.flow_graph.specs.Returns.{left, resumed}
+use Rattle.flow_graph.specs.Returns.{resumed}
 use Rattle.flow_graph.specs.Graphs.{IsGraph}
-use Rattle.flow_graph.specs.Numbers.{NumberedMessage, numbered_entry, numbered_summary, by_numbers, Reaches, starts, flows, returns, Sends, asks, tells, IsNumberOf, AreNumbersOf, IsNumberOfValuation, IsInTextOrder}
+use Rattle.flow_graph.specs.Numbers.{NumberedMessage, numbered_entry, numbered_summary, by_numbers, Reaches, starts, flows, returns, Sends, asks, tells, IsNumberOf, IsNumberOfValuation, IsInTextOrder}
 use Rattle.flow_graph.specs.Triples.{HoldStarts, HoldFlows, HoldReturns, HoldAsks, HoldTells}
 use Rattle.flow_graph.specs.declared.flow.Flow.{Flow}
 use Rattle.flow_graph.specs.declared.graph.Graph.{Graph}

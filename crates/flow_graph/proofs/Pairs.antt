@@ -1,15 +1,16 @@
 -- What graphs leave by numbers are the pairs.
-use Rattle.std.proofs.Common.{◌≡◌, ◌↔◌, ℕ, Bool, true, List, Option, Some, slice_get, inl, inr, refl, sym, ◌∙◌, ap, subst}
+use Rattle.std.proofs.Common.{◌≡◌, ◌↔◌, ℕ, true, List, Some, slice_get, inl, inr, refl, sym, ◌∙◌, ap, subst}
 use Rattle.language.specs.Tree.{done}
 use Rattle.language.specs.Value.{bit}
 use Rattle.language.specs.Rest.{Code}
 use Rattle.language.specs.Step.{Program, body_of}
-use Rattle.language.specs.Sequential.{point_of, Valuation, Edge, Pair, Entered, Caller, starter, caller, Message, entry, summary, IsDue}
+use Rattle.language.specs.Sequential.{point_of, Valuation, Caller, starter, caller, Message, entry, summary, IsDue}
 use Rattle.language.specs.Flow.{IsRestOf}
 use Rattle.language.specs.Messages.{Reached, EdgeTo, IsValuationOf, IsMessageTo, ArgumentsFit}
-use Rattle.language.proofs.ByMessages.{reached_stands}
+use Rattle.language.proofs.ByMessages.{reached_entry, reached_stands}
 use Rattle.language.proofs.Entering.{due_entered}
-use Rattle.language.proofs.Gathered.{edge_point, pair_exit}
+use Rattle.language.proofs.Gathered.{edge_reached, edge_point, pair_exit}
+use Rattle.language.proofs.Sound.{owed_due}
 use Rattle.language.proofs.Widths.{due_message, reached_valuation}
 use Rattle.round_rewrite.specs.Law.{SomeBad}
 use Rattle.flow_graph.specs.Bits.{bit_of, coded}
@@ -17,11 +18,11 @@ use Rattle.flow_graph.specs.Nodes.{number, at}
 use Rattle.flow_graph.specs.Flows.{code}
 use Rattle.flow_graph.specs.Returns.{left}
 use Rattle.flow_graph.specs.Graphs.{AreGraphs}
-use Rattle.flow_graph.specs.Numbers.{NumberedMessage, numbered_entry, numbered_summary, by_numbers, Reaches, Leaves, IsNumberOf, AreNumbersOf, IsNumberOfEntry, AreNumbersOfEdge, AreNumbersOfPair, IsInTextOrder, HasTaken, TakesOpening, TakesSent, TakesDue}
+use Rattle.flow_graph.specs.Numbers.{NumberedMessage, numbered_entry, by_numbers, Leaves, IsNumberOf, AreNumbersOf, IsNumberOfEntry, AreNumbersOfEdge, AreNumbersOfPair, IsInTextOrder, HasTaken, TakesOpening, TakesSent, TakesDue}
 use Rattle.flow_graph.specs.declared.graph.Graph.{Graph}
 use Rattle.flow_graph.proofs.Coding.{left_coded}
-use Rattle.flow_graph.proofs.Reaching.{rest_in_order_told, entry_of, entry_is}
-use Rattle.flow_graph.proofs.Taking.{Had, taken_due, edges_taken, edges_had}
+use Rattle.flow_graph.proofs.Reaching.{valuation_told, message_told, rest_in_order_told, entry_of, entry_is}
+use Rattle.flow_graph.proofs.Taking.{taken_due, edges_taken}
 use Rattle.flow_graph.proofs.Worths.{coded_bit}
 
 -- the numbers of a path edge, by its rest or by its point
@@ -34,32 +35,59 @@ edge_numbers p q a n v = (there, back)
     back : AreNumbersOfEdge p q a n v → AreNumbersOf (EdgeTo p q) a n v
     back (x, y, point, edge, ea, en, ev) = let (r, is, inside) = (edge_point p q x y point).0 edge in (x, y, r, inside, ea, en ∙ ap number is, ev)
 
-module _ {A : Type 0} (p : Program) (graphs : List (Graph A)) (takes : List (List NumberedMessage)) (fit : ArgumentsFit p) (are : AreGraphs p graphs)
-    (opening : TakesOpening takes) (sent : TakesSent graphs takes) (due : TakesDue p takes) where
-  -- a path edge has the widths of its procedure, and what is left can be left of its body
+module _ (p : Program) (fit : ArgumentsFit p) where
+  -- a path edge is reached by the messages that are due
+  edge_by_due : (q : ℕ) (x y : Valuation) (r : Code) → EdgeTo p q x y r → Reached p q (IsDue p q) x y r
+  edge_by_due q x y r = edge_reached p (IsDue p) (λ a begins. (refl, begins)) (λ k s m owed. owed_due p k (IsDue p k) (λ n d. d) s m owed) q x y r
+
+  -- so it has the widths of its procedure, and what is left can be left of its body
   edge_wide : (q : ℕ) (x y : Valuation) (r : Code) → EdgeTo p q x y r → IsValuationOf p q y
-  edge_wide q x y r edge =
-      reached_valuation p q (Had p graphs takes fit are opening sent due q) (λ m h. due_message p fit q m h.0) x y r (edges_had p graphs takes fit are opening sent due q x y r edge)
+  edge_wide q x y r edge = reached_valuation p q (IsDue p q) (due_message p fit q) x y r (edge_by_due q x y r edge)
+
+  edge_begins : (q : ℕ) (x y : Valuation) (r : Code) → EdgeTo p q x y r → IsValuationOf p q x
+  edge_begins q x y r edge =
+      let (from, is) = reached_entry p q (IsDue p q) x y r (edge_by_due q x y r edge) in
+      due_message p fit q (entry from x) is
 
   edge_stands : (q : ℕ) (x y : Valuation) (r : Code) → EdgeTo p q x y r → IsRestOf (body_of (slice_get p.routines q)) r
-  edge_stands q x y r edge = reached_stands p q (Had p graphs takes fit are opening sent due q) x y r (edges_had p graphs takes fit are opening sent due q x y r edge)
+  edge_stands q x y r edge = reached_stands p q (IsDue p q) x y r (edge_by_due q x y r edge)
 
+  -- the numbers of a message and of a path edge tell them
+  pub due_told : (q : ℕ) (m : Message) → IsMessageTo p q m → IsNumberOf (IsDue p q) (by_numbers m) ↔ IsDue p q m
+  due_told q m wide = (
+    λ h. subst (IsDue p q) (sym (message_told p q m h.0 wide (due_message p fit q h.0 h.1) h.2)) h.1,
+    λ is. (m, is, refl),
+  )
+
+  pub edge_told : IsInTextOrder p → (q : ℕ) (x y : Valuation) (r : Code) → IsValuationOf p q x → IsValuationOf p q y → IsRestOf (body_of (slice_get p.routines q)) r
+      → AreNumbersOf (EdgeTo p q) (code x) (at r) (code y) ↔ EdgeTo p q x y r
+  edge_told order q x y r begins wide stands = (there, λ edge. (x, y, r, edge, refl, refl, refl))
+    where
+      there : AreNumbersOf (EdgeTo p q) (code x) (at r) (code y) → EdgeTo p q x y r
+      there (x', y', r', edge, ex, en, ey) =
+          let ax : x' ≡ x = sym (valuation_told p q x x' begins (edge_begins q x' y' r' edge) ex) in
+          let ay : y' ≡ y = sym (valuation_told p q y y' wide (edge_wide q x' y' r' edge) ey) in
+          let ar : r' ≡ r = sym (rest_in_order_told p order q r r' stands (edge_stands q x' y' r' edge) en) in
+          subst (EdgeTo p q x y) ar (subst (λ z. EdgeTo p q x z r') ay (subst (λ z. EdgeTo p q z y' r') ax edge))
+
+module _ {A : Type 0} (p : Program) (graphs : List (Graph A)) (takes : List (List NumberedMessage)) (fit : ArgumentsFit p) (are : AreGraphs p graphs)
+    (opening : TakesOpening takes) (sent : TakesSent graphs takes) (due : TakesDue p takes) where
   pub pairs_left : IsInTextOrder p → (q : ℕ) (graph : Graph A) → slice_get graphs q ≡ Some graph → (a b : ℕ) → Leaves graph (HasTaken takes q) a b ↔ AreNumbersOfPair p q a b
   pairs_left order q graph here a b = (there, back)
     where
       there : Leaves graph (HasTaken takes q) a b → AreNumbersOfPair p q a b
       there (v, reached, eb) =
           let (x, y, r, edge, ea, en, ev) = (edges_taken p graphs takes fit are opening sent due q graph here a 0 v).0 reached in
-          let exit : r ≡ done = rest_in_order_told p order q r done (edge_stands q x y r edge) (inl refl) (sym en) in
+          let exit : r ≡ done = rest_in_order_told p order q r done (edge_stands p fit q x y r edge) (inl refl) (sym en) in
           let inside : EdgeTo p q x y done = subst (EdgeTo p q x y) exit edge in
-          let wide = edge_wide q x y r edge in
+          let wide = edge_wide p fit q x y r edge in
           (x, y.globals, (pair_exit p q x y.globals).1 (y.places, inside), ea, eb ∙ ap (left graph.globals) ev ∙ left_coded graph.globals y (wide.0 ∙ sym (are.1 q graph here).globals))
 
       back : AreNumbersOfPair p q a b → Leaves graph (HasTaken takes q) a b
       back (x, g, pair, ea, eb) =
           let (l, edge) = (pair_exit p q x g).0 pair in
           let y : Valuation = record { globals = g; places = l } in
-          let wide = edge_wide q x y done edge in
+          let wide = edge_wide p fit q x y done edge in
           (code y, (edges_taken p graphs takes fit are opening sent due q graph here a 0 (code y)).1 (x, y, done, edge, ea, refl, refl),
             eb ∙ sym (left_coded graph.globals y (wide.0 ∙ sym (are.1 q graph here).globals)))
 

@@ -1,10 +1,10 @@
 -- What a flow graph reaches and sends by numbers is what its procedure reaches and owes.
 use Rattle.std.proofs.Common.{◌≡◌, ◌↔◌, ◌⊎◌, ℕ, suc, ◌+◌, ◌≤◌, Bool, List, [], ◌∷◌, ◌++◌, length, Option, Some, None, slice_get, inl, inr, refl, sym, ◌∙◌, ap, ap₂, subst, arith}
-use Rattle.std.proofs.lemmas.Option.{none-some, same_Some}
-use Rattle.language.specs.Tree.{Mark, Expression, call, done, one, choose, loop}
+use Rattle.std.proofs.lemmas.Option.{same_Some}
+use Rattle.language.specs.Tree.{Expression, call, done, one, choose, loop}
 use Rattle.language.specs.Value.{Place, values_of}
-use Rattle.language.specs.Rest.{Label, Code, join}
-use Rattle.language.specs.Step.{Routine, Program, fresh, AtRoutine, body_of}
+use Rattle.language.specs.Rest.{Code, join}
+use Rattle.language.specs.Step.{Program, fresh, AtRoutine, body_of}
 use Rattle.language.specs.Sequential.{statements, marked, numbered, point_of, Valuation, Calls, Caller, caller, Message, entry, summary}
 use Rattle.language.specs.Flow.{rests, Member, IsRestOf, after_first}
 use Rattle.language.specs.Messages as by_messages
@@ -18,7 +18,7 @@ use Rattle.language.proofs.Widths.{reached_valuation}
 use Rattle.round_rewrite.proofs.Frames.{length-fresh}
 use Rattle.flow_graph.specs.Bits.{coded}
 use Rattle.flow_graph.specs.Nodes.{at}
-use Rattle.flow_graph.specs.Flows.{code, last_of, next_of, entered_by}
+use Rattle.flow_graph.specs.Flows.{code, next_of, entered_by}
 use Rattle.flow_graph.specs.Returns.{left, resumed}
 use Rattle.flow_graph.specs.Graphs.{HasSteps, AtFlow, IsGraph}
 use Rattle.flow_graph.specs.Numbers.{NumberedMessage, numbered_entry, numbered_summary, by_numbers, Reaches, starts, flows, returns, Sends, asks, tells, IsNumberOf, AreNumbersOf, IsInTextOrder}

@@ -1,9 +1,9 @@
 -- Where what graphs send is taken, and no more than is due, what is taken is what is due.
-use Rattle.std.proofs.Common.{◌≡◌, ◌↔◌, ℕ, zero, suc, List, [], ◌∷◌, length, map, Option, Some, slice_get, inl, inr, refl, sym, ◌∙◌, ap, subst, arith}
+use Rattle.std.proofs.Common.{◌≡◌, ◌↔◌, ℕ, zero, suc, List, [], ◌∷◌, length, map, Some, slice_get, inl, inr, refl, sym, ◌∙◌, ap, subst, arith}
 use Rattle.std.proofs.lemmas.Option.{none-some}
 use Rattle.language.specs.Rest.{Code}
 use Rattle.language.specs.Step.{Program, zeros}
-use Rattle.language.specs.Sequential.{Valuation, starter, caller, Message, entry, summary, IsZero, IsDue, in_text_order}
+use Rattle.language.specs.Sequential.{Valuation, starter, caller, Message, entry, IsZero, IsDue, in_text_order}
 use Rattle.language.specs.Flow.{Member}
 use Rattle.language.specs.Messages as by_messages
 use Rattle.language.specs.Messages.{Reached, Owes, IsMessageTo, ArgumentsFit, HasOpening, HasOwed, EdgeTo}
@@ -80,7 +80,7 @@ code_zero p a begins =
 module _ {A : Type 0} (p : Program) (graphs : List (Graph A)) (takes : List (List NumberedMessage)) (fit : ArgumentsFit p) (are : AreGraphs p graphs)
     (opening : TakesOpening takes) (sent : TakesSent graphs takes) (due : TakesDue p takes) where
   -- the messages that are due for a procedure and that it took
-  abbrev pub Had : ℕ → Message → Type 0
+  abbrev Had : ℕ → Message → Type 0
   Had q m = IsDue p q m × HasTaken takes q (by_numbers m)
 
   opened : HasOpening p Had
@@ -98,7 +98,7 @@ module _ {A : Type 0} (p : Program) (graphs : List (Graph A)) (takes : List (Lis
       let (graph, here) = there graphs p.routines q routine are.0 is in
       (owed_due p q (Had q) (λ n h. h.0) s m owed, sent_taken q s m graph here owed)
 
-  pub edges_had : (q : ℕ) (x y : Valuation) (r : Code) → EdgeTo p q x y r → Reached p q (Had q) x y r
+  edges_had : (q : ℕ) (x y : Valuation) (r : Code) → EdgeTo p q x y r → Reached p q (Had q) x y r
   edges_had q x y r = ((gathered p Had opened closed (λ s m d. d.0) q).1 x y r).1
 
   pub taken_due : (q : ℕ) (k : NumberedMessage) → HasTaken takes q k ↔ IsNumberOf (IsDue p q) k

@@ -23,7 +23,8 @@ pub use graph::{Graph, Graphs};
 pub use numbers::{
     a_graph_reaches_what_its_procedure_reaches, a_graph_sends_what_its_procedure_owes,
     a_number_tells_its_valuation, by_due_messages_a_graph_reaches_path_edges,
-    by_due_messages_a_graph_sends_due_messages, marked_programs_are_in_text_order,
+    by_due_messages_a_graph_sends_due_messages, its_numbers_tell_a_path_edge,
+    its_numbers_tell_that_a_message_is_due, marked_programs_are_in_text_order,
     messages_that_follow_hold_what_is_sent, more_messages_lead_a_graph_further,
     numbers_tell_their_message, the_number_of_a_point_tells_its_rest,
     the_number_of_a_valuation_has_its_width, the_numbers_of_a_path_edge_have_its_point,

@@ -94,6 +94,19 @@ pub fn numbers_tell_their_message()
     ensures { (p : Program) (q : ℕ) (m n : Message) → IsMessageTo p q m → IsMessageTo p q n → by_numbers m ≡ by_numbers n → m ≡ n }
 {}
 
+/// A message of the right widths is due exactly where its numbers are those of one that is.
+pub fn its_numbers_tell_that_a_message_is_due()
+    ensures { (p : Program) (q : ℕ) (m : Message) → ArgumentsFit p → IsMessageTo p q m
+        → IsNumberOf (IsDue p q) (by_numbers m) ↔ IsDue p q m }
+{}
+
+/// There is a path edge between valuations of a procedure exactly where their numbers, and that of its point, are those of one.
+pub fn its_numbers_tell_a_path_edge()
+    ensures { (p : Program) (q : ℕ) (x y : Valuation) (r : Code) → ArgumentsFit p → IsInTextOrder p → IsValuationOf p q x
+        → IsValuationOf p q y → IsRestOf (body_of (slice_get p.routines q)) r
+        → AreNumbersOf (EdgeTo p q) (code x) (at r) (code y) ↔ EdgeTo p q x y r }
+{}
+
 /// In a program that is marked in text order, the number of a point tells what is left to run.
 pub fn the_number_of_a_point_tells_its_rest()
     ensures { (p : Program) (q : ℕ) (r s : Code) → IsInTextOrder p → IsRestOf (body_of (slice_get p.routines q)) r
