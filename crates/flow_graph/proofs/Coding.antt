@@ -1,5 +1,5 @@
 -- Valuations and their numbers.
-use Rattle.std.proofs.Common.{◌≡◌, ℕ, zero, suc, ◌+◌, ◌-◌, ◌*◌, ◌<◌, ◌%◌, ◌^◌, Bool, true, false, List, [], ◌∷◌, ◌++◌, length, refl, sym, ◌∙◌, ap, ap₂, subst, arith, pow-suc, length-append}
+use Rattle.std.proofs.Common.{◌≡◌, ℕ, zero, suc, ◌+◌, ◌*◌, ◌<◌, ◌%◌, ◌^◌, Bool, true, false, List, [], ◌∷◌, ◌++◌, length, refl, sym, ◌∙◌, ap, ap₂, subst, arith, pow-suc, length-append}
 use Rattle.std.proofs.Math.Nat.{mul_assoc, mod-eq_of_lt}
 use Rattle.std.proofs.lemmas.Nat.{mod_low}
 use Rattle.language.specs.Step.{zeros}
@@ -47,7 +47,7 @@ split_back (x ∷ xs) (x' ∷ xs') ys ys' h e =
 pub code_tells : (v w : Valuation) → length v.globals ≡ length w.globals → length v.places ≡ length w.places → code v ≡ code w → v ≡ w
 code_tells v w globals places e =
     let whole : v.globals ++ v.places ≡ w.globals ++ w.places = coded_tells (v.globals ++ v.places) (w.globals ++ w.places)
-      (omega (arith, length-append v.globals v.places, length-append w.globals w.places, globals, places)) e in
+    (omega (arith, length-append v.globals v.places, length-append w.globals w.places, globals, places)) e in
     let front = split_front v.globals w.globals v.places w.places globals whole in
     let back = split_back v.globals w.globals v.places w.places globals whole in
     λ i. record { globals = front i; places = back i }

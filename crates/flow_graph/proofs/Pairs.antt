@@ -1,7 +1,6 @@
 -- What graphs leave by numbers are the pairs.
 use Rattle.std.proofs.Common.{◌≡◌, ◌↔◌, ℕ, true, List, Some, slice_get, inl, inr, refl, sym, ◌∙◌, ap, subst}
 use Rattle.language.specs.Tree.{done}
-use Rattle.language.specs.Value.{bit}
 use Rattle.language.specs.Rest.{Code}
 use Rattle.language.specs.Step.{Program, body_of}
 use Rattle.language.specs.Sequential.{point_of, Valuation, Caller, starter, caller, Message, entry, summary, IsDue}
@@ -87,9 +86,11 @@ module _ {A : Type 0} (p : Program) (graphs : List (Graph A)) (takes : List (Lis
       back (x, g, pair, ea, eb) =
           let (l, edge) = (pair_exit p q x g).0 pair in
           let y : Valuation = record { globals = g; places = l } in
-          let wide = edge_wide p fit q x y done edge in
-          (code y, (edges_taken p graphs takes fit are opening sent due q graph here a 0 (code y)).1 (x, y, done, edge, ea, refl, refl),
-            eb ∙ sym (left_coded graph.globals y (wide.0 ∙ sym (are.1 q graph here).globals)))
+          let wide = edge_wide p fit q x y done edge in (
+            code y,
+            (edges_taken p graphs takes fit are opening sent due q graph here a 0 (code y)).1 (x, y, done, edge, ea, refl, refl),
+            eb ∙ sym (left_coded graph.globals y (wide.0 ∙ sym (are.1 q graph here).globals)),
+          )
 
   -- some pair of the first procedure has `bad` where its graph is left with that bit
   pub bad_left : IsInTextOrder p → (graph : Graph A) → slice_get graphs 0 ≡ Some graph → (bad : ℕ)

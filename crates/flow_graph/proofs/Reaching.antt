@@ -1,7 +1,7 @@
 -- What a flow graph reaches and sends by numbers is what its procedure reaches and owes.
 use Rattle.std.proofs.Common.{◌≡◌, ◌↔◌, ◌⊎◌, ℕ, suc, ◌+◌, ◌≤◌, Bool, List, [], ◌∷◌, ◌++◌, length, Option, Some, None, slice_get, inl, inr, refl, sym, ◌∙◌, ap, ap₂, subst, arith}
 use Rattle.std.proofs.lemmas.Option.{same_Some}
-use Rattle.language.specs.Tree.{Expression, call, done, one, choose, loop}
+use Rattle.language.specs.Tree.{Expression, done, one, choose, loop}
 use Rattle.language.specs.Value.{Place, values_of}
 use Rattle.language.specs.Rest.{Code, join}
 use Rattle.language.specs.Step.{Program, fresh, AtRoutine, body_of}
@@ -188,7 +188,7 @@ module _ {A : Type 0} (p : Program) (q : ℕ) (graph : Graph A) (is : IsGraph p 
           let (flow, here, steps) = flow_at r (reached_stands p q M a v r reached) in
           let wide = reached_valuation p q M right a v r reached in
           let back : resumed graph.globals (code v) (coded b) ≡ coded (b ++ v.places) =
-            resumed_coded graph.globals v b (wide.0 ∙ sym is.globals) ((right (summary s e b) m).1 ∙ sym is.globals) in
+          resumed_coded graph.globals v b (wide.0 ∙ sym is.globals) ((right (summary s e b) m).1 ∙ sym is.globals) in
           subst (Reaches graph K (code a) (at (after_first r))) back
           (returns (code a) (at r) (code v) s (code e) (at (after_first r)) (coded b) flow (reaches_reached a v r reached) here (steps.enters v e s wide calls) (gives (summary s e b) m))
 
@@ -246,9 +246,11 @@ module _ {A : Type 0} (p : Program) (q : ℕ) (graph : Graph A) (is : IsGraph p 
           let (from, began) = reached_entry p q M x y r got in
           let ez : z ≡ x = valuation_told p q z x (right (entry c z) had) (right (entry from x) began) (sym (ap entry_of same) ∙ ea) in
           let m : M (entry (caller s) x) = subst (λ u. M (entry (caller s) u)) ez (subst (λ u. M (entry u z)) (sym (ap caller_of same)) had) in
-          let wide = reached_valuation p q M right x y r got in
-          (summary q x y.globals, by_messages.tells x y s m (subst (Reached p q M x y) exit got),
-            ap₂ (numbered_summary q) ea (ap (left graph.globals) ev ∙ left_coded graph.globals y (wide.0 ∙ sym is.globals)))
+          let wide = reached_valuation p q M right x y r got in (
+            summary q x y.globals,
+            by_messages.tells x y s m (subst (Reached p q M x y) exit got),
+            ap₂ (numbered_summary q) ea (ap (left graph.globals) ev ∙ left_coded graph.globals y (wide.0 ∙ sym is.globals)),
+          )
 
       pub owed_sends : IsInTextOrder p → (s : ℕ) (k : NumberedMessage) → Sends graph q K s k → IsNumberOf (Owes p q M s) k
       owed_sends order _ _ (asks a n v s w n' flow reached here enters) =

@@ -19,7 +19,7 @@ pub fn what_graphs_send_and_take_is_what_is_due<A: Allocator>()
         → TakesOpening takes → TakesSent graphs takes → TakesDue p takes → (q : ℕ)
         → ((k : NumberedMessage) → HasTaken takes q k ↔ IsNumberOf (IsDue p q) k)
         × ((graph : Graph A) → slice_get graphs q ≡ Some graph → (a n v : ℕ)
-            → Reaches graph (HasTaken takes q) a n v ↔ AreNumbersOf (EdgeTo p q) a n v) }
+        → Reaches graph (HasTaken takes q) a n v ↔ AreNumbersOf (EdgeTo p q) a n v) }
 {}
 
 /// The entries then taken have the numbers of the valuations with which procedures are entered.
