@@ -1,5 +1,5 @@
 -- What is reached and sent by numbers: the least that holds, more by more messages, and within the widths.
-use Rattle.std.proofs.Common.{◌≡◌, ◌≤◌, ◌<◌, ◌+◌, ◌^◌, ℕ, List, length, Some, slice_get, sym, subst}
+use Rattle.std.proofs.Common.{◌≡◌, ◌↔◌, ◌≤◌, ◌<◌, ◌+◌, ◌^◌, ℕ, List, length, Some, slice_get, sym, subst}
 use Rattle.std.proofs.lemmas.Option.{slice_get_within}
 use Rattle.language.specs.Step.{Routine, Program, AtRoutine}
 use Rattle.language.specs.Sequential.{Caller, caller, Message, entry}
@@ -9,7 +9,7 @@ use Rattle.language.specs.Messages.{Owes, IsMessageTo, ArgumentsFit}
 use Rattle.language.proofs.ByMessages.{reached_entry, reached_stands}
 use Rattle.language.proofs.Widths.{reached_valuation}
 use Rattle.flow_graph.specs.Flows.{code, last_of, next_of, entered_by}
-use Rattle.flow_graph.specs.Returns.{resumed}
+use Rattle.flow_graph.specs.Returns.{left, resumed}
 use Rattle.flow_graph.specs.Graphs.{IsGraph}
 use Rattle.flow_graph.specs.Numbers.{NumberedMessage, numbered_entry, numbered_summary, by_numbers, Reaches, starts, flows, returns, Sends, asks, tells, IsNumberOf, IsNumberOfValuation, IsInTextOrder}
 use Rattle.flow_graph.specs.Triples.{HoldStarts, HoldFlows, HoldReturns, HoldAsks, HoldTells}
@@ -56,6 +56,22 @@ module _ {A : Type 0} (graph : Graph A) (ms : List NumberedMessage) (ts : List (
       → Member (s, k) sent
   held_sent q sent asked told _ _ (asks a n v s e n' flow reached here enters) = asked a n v s e n' flow (held a n v reached) here enters
   held_sent q sent asked told _ _ (tells a v s k reached) = told a v s k (held a 0 v reached)
+
+-- triples of all that is reached, and of nothing else, follow
+module _ {A : Type 0} (graph : Graph A) (ms : List NumberedMessage) (ts : List (ℕ × ℕ × ℕ)) (all : (a n v : ℕ) → Member (a, n, v) ts ↔ Reaches graph (λ k. Member k ms) a n v) where
+  pub reached_follow : HoldStarts graph ms ts × HoldFlows graph ts × HoldReturns graph ms ts
+  reached_follow = (
+    λ from a k. (all a graph.start a).1 (starts from a k),
+    λ a n v n' v' i flow held here most next. (all a n' v').1 (flows a n v n' v' i flow ((all a n v).0 held) here most next),
+    λ a n v s e n' b flow held here enters k. (all a n' (resumed graph.globals v b)).1 (returns a n v s e n' b flow ((all a n v).0 held) here enters k),
+  )
+
+  pub sent_follow : (q : ℕ) (sent : List (ℕ × NumberedMessage)) → ((s : ℕ) (k : NumberedMessage) → Member (s, k) sent ↔ Sends graph q (λ j. Member j ms) s k)
+      → HoldAsks graph q ts sent × HoldTells graph q ms ts sent
+  sent_follow q sent each = (
+    λ a n v s e n' flow held here enters. (each s (numbered_entry (caller q) e)).1 (asks a n v s e n' flow ((all a n v).0 held) here enters),
+    λ a v s k held. (each s (numbered_summary q a (left graph.globals v))).1 (tells a v s k ((all a 0 v).0 held)),
+  )
 
 -- what a procedure owes by messages of its widths has the widths of who it is for
 owed_message : (p : Program) → ArgumentsFit p → (q : ℕ) (M : Message → Type 0) → ((m : Message) → M m → IsMessageTo p q m) → (s : ℕ) (m : Message) → Owes p q M s m → IsMessageTo p s m

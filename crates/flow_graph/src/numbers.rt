@@ -77,11 +77,26 @@ pub fn triples_that_follow_hold_what_is_reached<A: Allocator>()
         → HoldReturns graph ks ts → (a n v : ℕ) → Reaches graph (λ k. Member k ks) a n v → Member (a, n, v) ts }
 {}
 
+/// Triples of all that a graph reaches, and of nothing else, hold the starts and follow the flows and the returns.
+pub fn triples_of_all_that_is_reached_follow<A: Allocator>()
+    ensures { (graph : Graph A) (ks : List NumberedMessage) (ts : List (ℕ × ℕ × ℕ))
+        → ((a n v : ℕ) → Member (a, n, v) ts ↔ Reaches graph (λ k. Member k ks) a n v)
+        → HoldStarts graph ks ts × HoldFlows graph ts × HoldReturns graph ks ts }
+{}
+
 /// Messages that, besides, hold what such triples ask and tell, hold all that a graph sends.
 pub fn messages_that_follow_hold_what_is_sent<A: Allocator>()
     ensures { (q : ℕ) (graph : Graph A) (ks : List NumberedMessage) (ts : List (ℕ × ℕ × ℕ)) (sent : List (ℕ × NumberedMessage))
         → HoldStarts graph ks ts → HoldFlows graph ts → HoldReturns graph ks ts → HoldAsks graph q ts sent
         → HoldTells graph q ks ts sent → (s : ℕ) (k : NumberedMessage) → Sends graph q (λ j. Member j ks) s k → Member (s, k) sent }
+{}
+
+/// Beside triples of all that a graph reaches, the messages that it sends, and no others, hold what they ask and tell.
+pub fn messages_of_all_that_is_sent_follow<A: Allocator>()
+    ensures { (q : ℕ) (graph : Graph A) (ks : List NumberedMessage) (ts : List (ℕ × ℕ × ℕ)) (sent : List (ℕ × NumberedMessage))
+        → ((a n v : ℕ) → Member (a, n, v) ts ↔ Reaches graph (λ k. Member k ks) a n v)
+        → ((s : ℕ) (k : NumberedMessage) → Member (s, k) sent ↔ Sends graph q (λ j. Member j ks) s k)
+        → HoldAsks graph q ts sent × HoldTells graph q ks ts sent }
 {}
 
 /// A number tells its valuation, of a procedure's.
@@ -100,7 +115,7 @@ pub fn its_numbers_tell_that_a_message_is_due()
         → IsNumberOf (IsDue p q) (by_numbers m) ↔ IsDue p q m }
 {}
 
-/// There is a path edge between valuations of a procedure exactly where their numbers, and that of its point, are those of one.
+/// There is a path edge between valuations of a procedure exactly where their numbers, and its point's, are those of one.
 pub fn its_numbers_tell_a_path_edge()
     ensures { (p : Program) (q : ℕ) (x y : Valuation) (r : Code) → ArgumentsFit p → IsInTextOrder p → IsValuationOf p q x
         → IsValuationOf p q y → IsRestOf (body_of (slice_get p.routines q)) r
