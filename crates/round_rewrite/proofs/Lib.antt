@@ -39,3 +39,4 @@ pub mod Working
 pub mod Ids
 pub mod Readable
 pub mod Completing
+pub mod Sequences

@@ -22,15 +22,16 @@ mod statement;
 mod width;
 mod writer;
 
-ghost use Rattle.std.specs.Prelude.{ℕ, ◌<◌};
+ghost use Rattle.std.specs.Prelude.{◌≡◌, ℕ, ◌+◌, ◌<◌, ◌≤◌, Some, slice_get};
 ghost use Rattle.language.specs.Tree.{Tree};
-ghost use Rattle.language.specs.Step.{Program};
+ghost use Rattle.language.specs.Step.{Routine, Program};
+ghost use Rattle.language.specs.Messages.{ArgumentsFit};
 ghost use Rattle.language.specs.Sequential.{sequential_of};
 ghost use Rattle.round_rewrite.specs.Complete.{IsComplete};
 ghost use Rattle.round_rewrite.specs.Law.{Keeps, KeepsTree};
 ghost use Rattle.scopes.specs.Resolves.{Resolves};
 ghost use Rattle.scopes.specs.Rewritable.{IsRewritable};
-ghost use Rattle.round_rewrite.specs.Narrow.{IsNarrow};
+ghost use Rattle.round_rewrite.specs.Narrow.{AllNarrow, IsNarrow};
 ghost use Rattle.round_rewrite.specs.Scoped.{FitsScopes};
 
 pub use fault::RewriteFault;
@@ -55,6 +56,17 @@ pub fn rewriting_keeps_failures_of_resolved_programs()
 /// side, each call a procedure with a place for each argument, and each `goto` a rest that begins at its label.
 pub fn resolving_trees_are_complete()
     ensures { (t : Tree) → Resolves t → IsComplete (sequential_of t) }
+{}
+
+/// In a tree that resolves, as a sequential program, each call has a place for each argument.
+pub fn calls_of_resolving_trees_fit()
+    ensures { (t : Tree) → Resolves t → ArgumentsFit (sequential_of t) }
+{}
+
+/// In a tree whose procedures have at most 64 places each, as a sequential program, each valuation has at most 64 values.
+pub fn narrow_trees_have_narrow_valuations()
+    ensures { (t : Tree) → AllNarrow t → (q : ℕ) (routine : Routine) → slice_get (sequential_of t).routines q ≡ Some routine
+        → (sequential_of t).globals + routine.places ≤ 64 }
 {}
 
 #[cfg(test)]

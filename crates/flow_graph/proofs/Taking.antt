@@ -1,0 +1,122 @@
+-- Where what graphs send is taken, and no more than is due, what is taken is what is due.
+use Rattle.std.proofs.Common.{◌≡◌, ◌↔◌, ℕ, zero, suc, List, [], ◌∷◌, length, map, Some, slice_get, inl, inr, refl, sym, ◌∙◌, ap, subst, arith}
+use Rattle.std.proofs.lemmas.Option.{none-some}
+use Rattle.language.specs.Rest.{Code}
+use Rattle.language.specs.Step.{Program, zeros}
+use Rattle.language.specs.Sequential.{Valuation, starter, caller, Message, entry, IsZero, IsDue, in_text_order}
+use Rattle.language.specs.Flow.{Member}
+use Rattle.language.specs.Messages as by_messages
+use Rattle.language.specs.Messages.{Reached, Owes, IsMessageTo, ArgumentsFit, HasOpening, HasOwed, EdgeTo}
+use Rattle.language.proofs.ByMessages.{reached_entry}
+use Rattle.language.proofs.Entering.{due_there}
+use Rattle.language.proofs.Gathered.{gathered, reached_edge}
+use Rattle.language.proofs.Points.{bodies_numbered}
+use Rattle.language.proofs.Sound.{owed_due}
+use Rattle.language.proofs.StepKinds.{routine_found}
+use Rattle.language.proofs.Widths.{due_message}
+use Rattle.language.specs.Step as step
+use Rattle.flow_graph.specs.Nodes.{at}
+use Rattle.flow_graph.specs.Flows.{code}
+use Rattle.flow_graph.specs.Graphs.{IsGraph, AreGraphs}
+use Rattle.flow_graph.specs.Numbers.{NumberedMessage, numbered_entry, by_numbers, Reaches, Sends, IsNumberOf, AreNumbersOf, IsInTextOrder, HasTaken, TakesOpening, TakesSent, TakesDue}
+use Rattle.flow_graph.specs.declared.graph.Graph.{Graph}
+use Rattle.flow_graph.proofs.Coding.{coded_zeros}
+use Rattle.flow_graph.proofs.Reaching.{reaches_reached, reached_reaches, sends_owed, owed_sends}
+
+-- ---- members of a list, each through a function
+
+pub member_map : {X Y : Type 0} (f : X → Y) (xs : List X) (x : X) → Member x xs → Member (f x) (map f xs)
+member_map f [] x h = absurd h
+member_map f (y ∷ ys) x (inl e) = inl (ap f e)
+member_map f (y ∷ ys) x (inr h) = inr (member_map f ys x h)
+
+pub map_member : {X Y : Type 0} (f : X → Y) (xs : List X) (y : Y) → Member y (map f xs) → (x : X) × Member x xs × (y ≡ f x)
+map_member f [] y h = absurd h
+map_member f (x ∷ xs) y (inl e) = (x, inl refl, e)
+map_member f (x ∷ xs) y (inr h) = let (z, is, e) = map_member f xs y h in (z, inr is, e)
+
+-- a list as long as another has a member where the other has one
+there : {X Y : Type 0} (xs : List X) (ys : List Y) (q : ℕ) (y : Y) → length xs ≡ length ys → slice_get ys q ≡ Some y → (x : X) × (slice_get xs q ≡ Some x)
+there xs [] q y h e = absurd (none-some y e)
+there [] (z ∷ ys) q y h e = absurd (omega (arith, h))
+there (x ∷ xs) (z ∷ ys) zero y h e = (x, refl)
+there (x ∷ xs) (z ∷ ys) (suc q) y h e = there xs ys q y (omega (arith, h)) e
+
+-- ---- messages that are due
+
+module _ {A : Type 0} (p : Program) (fit : ArgumentsFit p) (q : ℕ) (graph : Graph A) (is : IsGraph p q graph) (K : NumberedMessage → Type 0)
+    (due : (k : NumberedMessage) → K k → IsNumberOf (IsDue p q) k) where
+  -- a message that is due and there by numbers
+  abbrev M : Message → Type 0
+  M m = IsDue p q m × K (by_numbers m)
+
+  right : (m : Message) → M m → IsMessageTo p q m
+  right m h = due_message p fit q m h.0
+
+  tells_of : (k : NumberedMessage) → K k → IsNumberOf M k
+  tells_of k h = let (m, d, e) = due k h in (m, (d, subst K e h), e)
+
+  pub edges_reached : (a n v : ℕ) → Reaches graph K a n v → AreNumbersOf (EdgeTo p q) a n v
+  edges_reached a n v h =
+      let (x, y, r, got, ea, en, ev) = reached_reaches p q graph is M K right fit tells_of a n v h in
+      (x, y, r, reached_edge p q M (λ m d. d.0) x y r got, ea, en, ev)
+
+  pub due_sent : IsInTextOrder p → (s : ℕ) (k : NumberedMessage) → Sends graph q K s k → IsNumberOf (IsDue p s) k
+  due_sent order s k h =
+      let (m, owed, e) = owed_sends p q graph is M K right fit tells_of order s k h in
+      (m, owed_due p q M (λ m d. d.0) s m owed, e)
+
+-- who owes a message has an entry
+owes_entry : (p : Program) (q : ℕ) (M : Message → Type 0) (s : ℕ) (m : Message) → Owes p q M s m → (k : Message) × M k
+owes_entry p q M _ _ (by_messages.asks a v e r s reached calls) = let (from, is) = reached_entry p q M a v r reached in (entry from a, is)
+owes_entry p q M _ _ (by_messages.tells a v s is reached) = (entry (caller s) a, is)
+
+-- the first valuation is the number 0
+code_zero : (p : Program) (a : Valuation) → IsZero p a → code a ≡ 0
+code_zero p a begins =
+    let (routine, is, e) = routine_found (slice_get p.routines 0) (λ r. a ≡ record { globals = zeros p.globals; places = zeros r.places }) begins in
+    ap code e ∙ coded_zeros p.globals routine.places
+
+module _ {A : Type 0} (p : Program) (graphs : List (Graph A)) (takes : List (List NumberedMessage)) (fit : ArgumentsFit p) (are : AreGraphs p graphs)
+    (opening : TakesOpening takes) (sent : TakesSent graphs takes) (due : TakesDue p takes) where
+  -- the messages that are due for a procedure and that it took
+  abbrev Had : ℕ → Message → Type 0
+  Had q m = IsDue p q m × HasTaken takes q (by_numbers m)
+
+  opened : HasOpening p Had
+  opened a begins = ((refl, begins), subst (λ n. HasTaken takes 0 (numbered_entry starter n)) (sym (code_zero p a begins)) opening)
+
+  sent_taken : (q s : ℕ) (m : Message) (graph : Graph A) → slice_get graphs q ≡ Some graph → Owes p q (Had q) s m → HasTaken takes s (by_numbers m)
+  sent_taken q s m graph here owed =
+      sent q s graph (by_numbers m) here
+      (sends_owed p q graph (are.1 q graph here) (Had q) (HasTaken takes q) (λ n h. due_message p fit q n h.0) (λ n h. h.1) s m owed)
+
+  closed : HasOwed p Had
+  closed q s m owed =
+      let (k, had) = owes_entry p q (Had q) s m owed in
+      let (routine, is) = due_there p q k had.0 in
+      let (graph, here) = there graphs p.routines q routine are.0 is in
+      (owed_due p q (Had q) (λ n h. h.0) s m owed, sent_taken q s m graph here owed)
+
+  edges_had : (q : ℕ) (x y : Valuation) (r : Code) → EdgeTo p q x y r → Reached p q (Had q) x y r
+  edges_had q x y r = ((gathered p Had opened closed (λ s m d. d.0) q).1 x y r).1
+
+  pub taken_due : (q : ℕ) (k : NumberedMessage) → HasTaken takes q k ↔ IsNumberOf (IsDue p q) k
+  taken_due q k = (
+    due q k,
+    λ h. subst (HasTaken takes q) (sym h.2) (((gathered p Had opened closed (λ s m d. d.0) q).0 h.0).1 h.1).1,
+  )
+
+  pub edges_taken : (q : ℕ) (graph : Graph A) → slice_get graphs q ≡ Some graph → (a n v : ℕ) → Reaches graph (HasTaken takes q) a n v ↔ AreNumbersOf (EdgeTo p q) a n v
+  edges_taken q graph here a n v = (edges_reached p fit q graph (are.1 q graph here) (HasTaken takes q) (due q) a n v, back)
+    where
+      back : AreNumbersOf (EdgeTo p q) a n v → Reaches graph (HasTaken takes q) a n v
+      back (x, y, r, edge, ea, en, ev) =
+          let got = edges_had q x y r edge in
+          let by = reaches_reached p q graph (are.1 q graph here) (Had q) (HasTaken takes q) (λ m h. due_message p fit q m h.0) (λ m h. h.1) x y r got in
+          subst (Reaches graph (HasTaken takes q) a n) (sym ev)
+          (subst (λ i. Reaches graph (HasTaken takes q) a i (code y)) (sym en) (subst (λ i. Reaches graph (HasTaken takes q) i (at r) (code y)) (sym ea) by))
+
+-- a program whose statements are marked with their numbers is
+pub ordered : (p : Program) → IsInTextOrder (in_text_order p)
+ordered p q = (step.body_of (slice_get p.routines q), bodies_numbered p.routines q)
