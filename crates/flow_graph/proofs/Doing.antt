@@ -1,7 +1,7 @@
 -- Flows that do what happens at nodes.
 use Rattle.std.proofs.Common.{◌≡◌, ◌≤◌, ◌<◌, ℕ, zero, suc, ◌+◌, Bool, true, false, cond, Option, Some, None, List, [], ◌∷◌, ◌++◌, length, map, refl, sym, ◌∙◌, ap, subst, arith, ◌*◌, ◌^◌, ◌%◌, ◌⊎◌, inl, inr, pow-suc, Result, Ok, Err, IfOk}
-use Rattle.std.proofs.Math.Nat.{mod-eq_of_lt, add-mul-mod_self_left, mul_assoc, mul_comm}
-use Rattle.std.proofs.lemmas.Option.{none-some}
+use Rattle.std.proofs.Math.Nat.{mul_comm}
+use Rattle.std.proofs.lemmas.Option.{none-some, same_Some}
 use Rattle.std.proofs.lemmas.Bool.{true≢false}
 use Rattle.language.specs.Tree.{Name, Expression, RightSide, any, value}
 use Rattle.language.specs.Value.{Place, value_of, values_of, IsValue, written_globals, written_locals}
@@ -10,7 +10,7 @@ use Rattle.language.specs.Sequential.{Valuation}
 use Rattle.flow_graph.specs.Bits.{bit_of, worth_of, coded}
 use Rattle.flow_graph.specs.Formulas.{says, Says, SaysSide, side_value}
 use Rattle.flow_graph.specs.Assignments.{assigned, Assigns}
-use Rattle.flow_graph.specs.Nodes.{goes, stops, goes_to, tests, assumes, assigns, calls, at}
+use Rattle.flow_graph.specs.Nodes.{goes, stops, goes_to, tests, assumes, assigns, calls, returns, at}
 use Rattle.flow_graph.specs.Flows.{code, last_of, next_of, entered_by, HasWidths, Does, AllDo, Lowered}
 use Rattle.flow_graph.proofs.Rows.{first_bit}
 use Rattle.flow_graph.specs.declared.side.Side.{Side}
@@ -22,27 +22,19 @@ use Rattle.flow_graph.specs.declared.flow.Flow.TheVariants as flow
 use Rattle.flow_graph.specs.declared.call.Call.{Call}
 use Rattle.flow_graph.specs.declared.formula.Formula.{Formula}
 use Rattle.flow_graph.specs.Calls.{entry_of}
-use Rattle.flow_graph.proofs.Stacks.{coded_small}
+use Rattle.flow_graph.proofs.Coding.{coded_append, left_coded}
 
 -- an expression has one value
-values_count : (g l : List Bool) (es : List (Expression Place)) → length (values_of g l es) ≡ length es
+pub values_count : (g l : List Bool) (es : List (Expression Place)) → length (values_of g l es) ≡ length es
 values_count g l [] = refl
 values_count g l (e ∷ es) = ap suc (values_count g l es)
 
--- what is there, where something is
-abbrev there_or : {A : Type 0} → A → Option A → A
-there_or d None = d
-there_or d (Some x) = x
-
-pub same_there : {A : Type 0} (x y : A) → Some x ≡ Some y → x ≡ y
-same_there x y e = ap (there_or x) e
-
 -- the two parts of a pair that is there
 same_first : (a b c d : ℕ) → ◌≡◌ {A = Option (ℕ × ℕ)} (Some (a, b)) (Some (c, d)) → a ≡ c
-same_first a b c d e = ap (λ (z : ℕ × ℕ). z.0) (same_there (a, b) (c, d) e)
+same_first a b c d e = ap (λ (z : ℕ × ℕ). z.0) (same_Some (a, b) (c, d) e)
 
 same_second : (a b c d : ℕ) → ◌≡◌ {A = Option (ℕ × ℕ)} (Some (a, b)) (Some (c, d)) → b ≡ d
-same_second a b c d e = ap (λ (z : ℕ × ℕ). z.1) (same_there (a, b) (c, d) e)
+same_second a b c d e = ap (λ (z : ℕ × ℕ). z.1) (same_Some (a, b) (c, d) e)
 
 -- a flow on without a write does a test whose two points are one
 pub does_same : {A : Type 0} (f : Flow A) (r : RightSide Place) (j k g l m : ℕ) → j ≡ k → Does f (goes j) g l m → Does f (tests r j k) g l m
@@ -127,32 +119,19 @@ does_no_call f p es k g l m ne d = record {
     refused a b (inl h) = h a
     refused a b (inr h) = h b
 
--- a list behind another counts for the places above it
-coded_behind : (xs ys : List Bool) → coded (xs ++ ys) ≡ coded xs + 2 ^ length xs * coded ys
-coded_behind [] ys = omega arith
-coded_behind (x ∷ xs) ys =
-    let e = coded_behind xs ys in
-    let twice : 2 ^ suc (length xs) * coded ys ≡ 2 * (2 ^ length xs * coded ys) = ap (λ n. n * coded ys) (pow-suc 2 (length xs) ∙ mul_comm (2 ^ length xs) 2) ∙ mul_assoc 2 (2 ^ length xs) (coded ys) in
-    omega (arith, e, twice)
-
--- the globals are the lowest bits
-pub coded_low : (xs ys : List Bool) → coded (xs ++ ys) % 2 ^ length xs ≡ coded xs
-coded_low xs ys =
-    ap (λ n. n % 2 ^ length xs) (coded_behind xs ys)
-    ∙ add-mul-mod_self_left (coded xs) (2 ^ length xs) (coded ys)
-    ∙ mod-eq_of_lt (coded_small xs)
-
 -- each formula says what its expression is worth, for valuations with so many globals
 abbrev pub AllSay : {A : Type 0} → List (Formula A) → Scope → List (Expression Place) → Type 0
 AllSay fs s es = (gs ls : List Bool) → length gs ≡ length s.globals → map (λ f. says f (coded (gs ++ ls))) fs ≡ values_of gs ls es
 
-entry_code : {A : Type 0} (fs : List (Formula A)) (s : Scope) (es : List (Expression Place)) (gs ls : List Bool) → AllSay fs s es → length gs ≡ length s.globals →
-    entry_of (length s.globals) fs (coded (gs ++ ls)) ≡ coded (gs ++ values_of gs ls es)
-entry_code fs s es gs ls all e =
-    ap (λ n. coded (gs ++ ls) % 2 ^ n + 2 ^ n * coded (map (λ f. says f (coded (gs ++ ls))) fs)) (sym e)
-    ∙ ap (λ n. n + 2 ^ length gs * coded (map (λ f. says f (coded (gs ++ ls))) fs)) (coded_low gs ls)
-    ∙ ap (λ bs. coded gs + 2 ^ length gs * coded bs) (all gs ls e)
-    ∙ sym (coded_behind gs (values_of gs ls es))
+entry_code : {A : Type 0} (fs : List (Formula A)) (s : Scope) (es : List (Expression Place)) (v : Valuation) → AllSay fs s es → length v.globals ≡ length s.globals →
+    entry_of (length s.globals) fs (code v) ≡ coded (v.globals ++ values_of v.globals v.places es)
+entry_code fs s es v all e =
+    let said = ap coded (all v.globals v.places e) in
+    let low = left_coded (length s.globals) v e in
+    let whole = coded_append v.globals (values_of v.globals v.places es) in
+    let above : 2 ^ length s.globals * coded (map (λ f. says f (code v)) fs) ≡ coded (values_of v.globals v.places es) * 2 ^ length v.globals =
+        mul_comm (2 ^ length s.globals) (coded (map (λ f. says f (code v)) fs)) ∙ λ t. said t * 2 ^ sym e t in
+    omega (arith, low, whole, above)
 
 pub does_calls : {A : Type 0} (c : Call A) (p : ℕ) (es : List (Expression Place)) (s : Scope) (m : ℕ) → c.callee ≡ p → c.globals ≡ length s.globals → p < m → AllSay c.arguments.items s es →
     Does (flow.Call c) (calls p es c.back) (length s.globals) (length s.locals) m
@@ -162,7 +141,7 @@ does_calls {A} c p es s m to_p globals there all = record {
   once = λ v i j x wide le lj hi hj. absurd (none-some _ hi);
   enters = λ v args q n wide (is, same, back) less few. λ t. Some ((to_p ∙ sym is) t, (entry v wide ∙ ap (λ bs. coded (v.globals ++ bs)) (sym same)) t, sym back t);
   entered = λ v q e n wide h.
-      let part : ◌≡◌ {A = ℕ × ℕ × ℕ} (c.callee, entry_of c.globals c.arguments.items (code v), c.back) (q, e, n) = same_there _ _ h in (
+      let part : ◌≡◌ {A = ℕ × ℕ × ℕ} (c.callee, entry_of c.globals c.arguments.items (code v), c.back) (q, e, n) = same_Some _ _ h in (
         values_of v.globals v.places es,
         (sym (ap (λ (z : ℕ × ℕ × ℕ). z.0) part) ∙ to_p, refl, sym (ap (λ (z : ℕ × ℕ × ℕ). z.2) part)),
         subst (λ z. z < m) (sym to_p ∙ ap (λ (z : ℕ × ℕ × ℕ). z.0) part) there,
@@ -171,7 +150,17 @@ does_calls {A} c p es s m to_p globals there all = record {
 }
   where
     entry : (v : Valuation) → HasWidths (length s.globals) (length s.locals) v → entry_of c.globals c.arguments.items (code v) ≡ coded (v.globals ++ values_of v.globals v.places es)
-    entry v wide = ap (λ n. entry_of n c.arguments.items (code v)) globals ∙ entry_code c.arguments.items s es v.globals v.places all wide.0
+    entry v wide = ap (λ n. entry_of n c.arguments.items (code v)) globals ∙ entry_code c.arguments.items s es v all wide.0
+
+-- at the exit nothing happens inside the call
+pub does_return : {A : Type 0} (g l m : ℕ) → Does {A = A} flow.Return returns g l m
+does_return g l m = record {
+  reaches = λ v v' n wide h. absurd h;
+  only = λ v i n w wide le h. absurd (none-some _ h);
+  once = λ v i j x wide le lj hi hj. absurd (none-some _ hi);
+  enters = λ v args q n wide asks less few. absurd asks;
+  entered = λ v q e n wide h. absurd (none-some _ h);
+}
 
 -- an answer that has what is asked, where it is one
 pub if_ok : {X E : Type 0} (r : Result X E) (P Q : X → Type 0) → ((x : X) → P x → Q x) → IfOk r P → IfOk r Q

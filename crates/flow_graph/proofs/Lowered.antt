@@ -1,8 +1,7 @@
 -- Statements lowered one after the other.
 use Rattle.std.proofs.Common.{◌≡◌, ℕ, suc, ◌+◌, ◌<◌, Option, Some, None, option_map, List, [], ◌++◌, ◌∷◌, length, map, refl, sym, ◌∙◌, ap, subst, arith}
 use Rattle.std.proofs.lemmas.List.{map-append, append_assoc, append-nil}
-use Rattle.std.proofs.lemmas.Option.{none-some}
-use Rattle.flow_graph.proofs.Doing.{same_there}
+use Rattle.std.proofs.lemmas.Option.{none-some, same_Some}
 use Rattle.language.specs.Tree as tree
 use Rattle.language.specs.Tree.{Mark, done, one, choose, loop}
 use Rattle.language.specs.Resolve.{Scope, resolve_mark, resolve_simple, resolve_side, resolve_block}
@@ -29,7 +28,7 @@ begins (x ∷ l) n s k h = begins_led n s (item_of x).mark (item_of x).deed (blo
 -- a label that is found, and one that is not
 pub goes_found : (o : Option Code) (to : ℕ) → option_map at o ≡ Some to → goes_to o ≡ goes to
 goes_found None to e = absurd (none-some _ e)
-goes_found (Some r) to e = ap goes (same_there (at r) to e)
+goes_found (Some r) to e = ap goes (same_Some (at r) to e)
 
 pub goes_lost : (o : Option Code) → option_map at o ≡ None → goes_to o ≡ stops
 goes_lost None e = refl

@@ -2,7 +2,7 @@
 use Rattle.std.specs.Prelude.{◌≡◌, ◌≤◌, ◌+◌, length}
 use Rattle.language.specs.Rest.{Code}
 use Rattle.language.specs.Sequential.{numbered}
-use Rattle.language.specs.Resolve.{scope_of, resolve_block}
+use Rattle.language.specs.Resolve.{Scope, scope_of, resolve_block}
 use Rattle.syntax.specs.Trees.{tree_of, proc_of}
 use Rattle.syntax.specs.declared.tree.Program.{Program}
 use Rattle.syntax.specs.declared.tree.Proc.{Proc}
@@ -14,13 +14,17 @@ use Rattle.flow_graph.specs.declared.graph.Graph.{Graph}
 abbrev pub HasRoom : {N : Type 0} → Program N → Proc N → Type 0
 HasRoom t p = (length t.globals.items + (length p.formals.items + length p.locals.items) ≤ 64) × (length t.procs.items ≤ 32)
 
+-- the names in the procedure's scope
+abbrev pub names_in : {N : Type 0} → Program N → Proc N → Scope
+names_in t p = scope_of (tree_of t) (proc_of p)
+
 -- the procedure's body as code
 abbrev pub body_of : {N : Type 0} → Program N → Proc N → Code
-body_of t p = numbered 1 (resolve_block (scope_of (tree_of t) (proc_of p)) (proc_of p).body)
+body_of t p = numbered 1 (resolve_block (names_in t p) (proc_of p).body)
 
 -- The graph of the procedure: it begins where the body does, and its flows do what happens at the points of the body, the
 -- exit first.
 abbrev pub Draws : {N A : Type 0} → Program N → Proc N → Graph A → Type 0
 Draws t p graph =
-    (graph.globals ≡ length t.globals.items) × (graph.start ≡ at (body_of t p))
-    × AllDo graph.flows.items (nodes_of (body_of t p)) (length t.globals.items) (length (scope_of (tree_of t) (proc_of p)).locals) (length t.procs.items)
+    (graph.globals ≡ length (names_in t p).globals) × (graph.start ≡ at (body_of t p))
+    × AllDo graph.flows.items (nodes_of (body_of t p)) (length (names_in t p).globals) (length (names_in t p).locals) (length (names_in t p).procedures)

@@ -11,9 +11,6 @@ pub mod Flows
 pub mod Lowering
 pub mod Returns
 pub mod Graphs
-<<<<<<< HEAD
 pub mod Drawing
-=======
 pub mod Numbers
 pub mod Triples
->>>>>>> h-num

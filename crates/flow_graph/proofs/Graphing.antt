@@ -1,0 +1,229 @@
+-- A graph whose flows do what happens at the points of a procedure's body has the procedure's steps.
+use Rattle.std.proofs.Common.{◌≡◌, ◌≤◌, ◌<◌, ◌+◌, ◌-◌, ℕ, zero, suc, Bool, false, Option, Some, None, option_map, List, [], ◌∷◌, ◌++◌, length, map, slice_get, inl, inr, refl, sym, ◌∙◌, ap, subst, arith, ◌*◌, ◌⊎◌, get_or, length-append}
+use Rattle.std.proofs.lemmas.List.{length-map, append_assoc}
+use Rattle.std.proofs.lemmas.Option.{none-some, same_Some, slice_get-map, slice_get-get_or, slice_get_within}
+use Rattle.language.specs.Tree.{Mark, Expression, skip, assign, assert, assume, goto, leave, call, done, one, choose, loop, Procedure, Tree}
+use Rattle.language.specs.Value.{Place, values_of}
+use Rattle.language.specs.Rest.{Label, Code, rest_from}
+use Rattle.language.specs.Resolve.{Scope, resolve_block}
+use Rattle.language.specs.Step.{Routine, Program, zeros, fresh, AtRoutine, body_of}
+use Rattle.language.specs.Sequential.{statements, numbered, point_of, Valuation, Calls, sequential_of}
+use Rattle.language.specs.Flow.{rests, Member, IsRestOf, after_first}
+use Rattle.language.specs.Messages.{IsValuationOf, ArgumentsFit}
+use Rattle.language.proofs.Entering.{call_shape}
+use Rattle.language.proofs.RestPoints.{rest_at_point, rests_count}
+use Rattle.language.proofs.StepKinds.{routine_found}
+use Rattle.syntax.specs.declared.tree.Program as tree
+use Rattle.syntax.specs.declared.tree.Proc.{Proc}
+use Rattle.syntax.specs.declared.tree.Name.{Name}
+use Rattle.syntax.specs.declared.tree.Stmt.{Stmt}
+use Rattle.syntax.specs.Trees.{tree_of, proc_of, procs_of, name_of, names_of, block_of}
+use Rattle.scopes.specs.Resolves.{Resolves}
+use Rattle.round_rewrite.specs.Narrow.{AllNarrow}
+use Rattle.round_rewrite.proofs.Sequences.{sequential_routine, resolving_fit, routines_counted, routine_at, narrow_places}
+use Rattle.flow_graph.specs.Bits.{worth_of, coded}
+use Rattle.flow_graph.specs.Nodes.{Node, number, at, node_of, nodes_of, goes_to, Asks}
+use Rattle.flow_graph.specs.Flows.{code, entered_by, HasWidths, Does, AllDo, Lowered}
+use Rattle.flow_graph.specs.Graphs.{HasSteps, AtFlow, IsGraph}
+use Rattle.flow_graph.specs.Drawing as drawing
+use Rattle.flow_graph.specs.Drawing.{Draws, HasRoom, names_in}
+use Rattle.flow_graph.specs.declared.flow.Flow.{Flow}
+use Rattle.flow_graph.specs.declared.graph.Graph.{Graph}
+use Rattle.flow_graph.proofs.Nodes.{flow_leads, lead_flows}
+use Rattle.flow_graph.specs.declared.flow.Flow.TheVariants as flow
+use Rattle.flow_graph.proofs.Doing.{values_count, does_return}
+
+-- the flow at a place does what happens at the node there
+all_do_at : {A : Type 0} (fs : List (Flow A)) (ns : List Node) (g l m i : ℕ) (n : Node) → AllDo fs ns g l m → slice_get ns i ≡ Some n → (f : Flow A) × (slice_get fs i ≡ Some f) × Does f n g l m
+all_do_at fs [] g l m i n a e = absurd (none-some _ e)
+all_do_at [] (x ∷ ns) g l m i n a e = absurd a
+all_do_at (f ∷ fs) (x ∷ ns) g l m zero n a e = (f, refl, subst (λ z. Does f z g l m) (same_Some x n e) a.0)
+all_do_at (f ∷ fs) (x ∷ ns) g l m (suc i) n a e = all_do_at fs ns g l m i n a.1 e
+
+all_do_length : {A : Type 0} (fs : List (Flow A)) (ns : List Node) (g l m : ℕ) → AllDo fs ns g l m → length fs ≡ length ns
+all_do_length [] [] g l m a = refl
+all_do_length [] (n ∷ ns) g l m a = absurd a
+all_do_length (f ∷ fs) [] g l m a = absurd a
+all_do_length (f ∷ fs) (n ∷ ns) g l m a = ap suc (all_do_length fs ns g l m a.1)
+
+-- a member has a place
+member_place : {A : Type 0} (x : A) (xs : List A) → Member x xs → (i : ℕ) × (slice_get xs i ≡ Some x)
+member_place x [] h = absurd h
+member_place x (y ∷ ys) (inl e) = (0, ap Some (sym e))
+member_place x (y ∷ ys) (inr h) = let (i, is) = member_place x ys h in (suc i, is)
+
+-- each rest is at its point, the exit first
+rest_placed : (b r : Code) → IsRestOf (numbered 1 b) r → slice_get (done ∷ rests (numbered 1 b) done) (at r) ≡ Some r
+rest_placed b r (inl e) = subst (λ z. slice_get (done ∷ rests (numbered 1 b) done) (at z) ≡ Some z) (sym e) refl
+rest_placed b r (inr h) =
+    let (i, is) = member_place r (rests (numbered 1 b) done) h in
+    let point = ((rest_at_point b r i).0 is).1 in
+    ap (λ o. slice_get (done ∷ rests (numbered 1 b) done) (number o)) point ∙ is
+
+-- places of 0 add nothing to a number
+coded_fresh : (g : List Bool) (n : ℕ) (args : List Bool) → coded (g ++ fresh n args) ≡ coded (g ++ args)
+coded_fresh g n args = ap coded (sym (append_assoc g args (zeros (n - length args)))) ∙ above (g ++ args) (n - length args)
+  where
+    above : (xs : List Bool) (n : ℕ) → coded (xs ++ zeros n) ≡ coded xs
+    above [] zero = refl
+    above [] (suc n) = let e : coded (zeros n) ≡ 0 = above [] n in omega (arith, e)
+    above (x ∷ xs) n = ap (λ k. worth_of x + 2 * k) (above xs n)
+
+-- only a node of a call calls
+module _ (body : Code) (v : Valuation) (s n : ℕ) (args : List Bool) where
+  no_jump : (o : Option Code) → Asks (goes_to o) v s args n → ⊥
+  no_jump None h = h
+  no_jump (Some r) h = h
+
+  asks_shape : (r : Code) → Asks (node_of body r) v s args n →
+      (m : Mark Label) × (es : List (Expression Place)) × (t : Code) × (r ≡ one m (call s es) t) × (args ≡ values_of v.globals v.places es) × (n ≡ at t)
+  asks_shape done h = absurd h
+  asks_shape (one m skip t) h = absurd h
+  asks_shape (one m (assign xs rs) t) h = absurd h
+  asks_shape (one m (assert c) t) h = absurd h
+  asks_shape (one m (assume c) t) h = absurd h
+  asks_shape (one m (goto x) t) h = absurd (no_jump (rest_from x body done) h)
+  asks_shape (one m leave t) h = absurd h
+  asks_shape (one m (call p es) t) (same, are, to) = (m, es, t, ap (λ k. one m (call k es) t) (sym same), are, to)
+  asks_shape (choose m c a b t) h = absurd h
+  asks_shape (loop m c a t) h = absurd h
+
+module _ (p : Program) (q : ℕ) (routine : Routine) (there : slice_get p.routines q ≡ Some routine) (fit : ArgumentsFit p)
+    (narrow : (s : ℕ) (r : Routine) → slice_get p.routines s ≡ Some r → p.globals + r.places ≤ 64) where
+  wide : (v : Valuation) → IsValuationOf p q v → HasWidths p.globals routine.places v
+  wide v w = (w.0, subst (λ o. AtRoutine o (λ r. length v.places ≡ r.places)) there w.1)
+
+  module _ {A : Type 0} (f : Flow A) (r : Code) (rest : IsRestOf (body_of (slice_get p.routines q)) r)
+      (d : Does f (node_of (body_of (slice_get p.routines q)) r) p.globals routine.places (length p.routines)) where
+    enters : (v a : Valuation) (s : ℕ) → IsValuationOf p q v → Calls p v.globals v.places r s a → entered_by f (code v) ≡ Some (s, code a, at (after_first r))
+    enters v a s w calls =
+        let (m, es, t, same, h) = call_shape p v.globals v.places r s a calls in
+        let args = values_of v.globals v.places es in
+        let (callee, is, made) = routine_found (slice_get p.routines s) (λ z. a ≡ record { globals = v.globals; places = fresh z.places args }) h in
+        let room : length es ≤ callee.places = subst (λ o. AtRoutine o (λ z. length es ≤ z.places)) is (fit q s m es t (subst (IsRestOf (body_of (slice_get p.routines q))) same rest)) in
+        let asks : Asks (node_of (body_of (slice_get p.routines q)) r) v s args (at (after_first r)) =
+            subst (λ z. Asks (node_of (body_of (slice_get p.routines q)) z) v s args (at (after_first z))) (sym same) (refl, refl, refl) in
+        let few = narrow s callee is in
+        d.enters v args s (at (after_first r)) (wide v w) asks (slice_get_within p.routines s callee is) (omega (arith, few, room, values_count v.globals v.places es))
+        ∙ ap (λ k. Some (s, k, at (after_first r))) (sym (ap code made ∙ coded_fresh v.globals callee.places args))
+    entered : (v : Valuation) (s e n : ℕ) → IsValuationOf p q v → entered_by f (code v) ≡ Some (s, e, n) → (a : Valuation) × Calls p v.globals v.places r s a × (e ≡ code a) × (n ≡ at (after_first r))
+    entered v s e n w h =
+        let (args, asks, less, is) = d.entered v s e n (wide v w) h in
+        let (m, es, t, same, are, to) = asks_shape (body_of (slice_get p.routines q)) v s n args r asks in
+        let callee = get_or p.routines s routine in
+        let found : slice_get p.routines s ≡ Some callee = slice_get-get_or p.routines s routine less in
+        let a : Valuation = record { globals = v.globals; places = fresh callee.places (values_of v.globals v.places es) } in (
+          a,
+          subst (λ z. Calls p v.globals v.places z s a) (sym same) (refl, subst (λ o. AtRoutine o (λ z. a ≡ record { globals = v.globals; places = fresh z.places (values_of v.globals v.places es) })) (sym found) refl),
+          is ∙ ap (λ bs. coded (v.globals ++ bs)) are ∙ sym (coded_fresh v.globals callee.places (values_of v.globals v.places es)),
+          to ∙ ap (λ z. at (after_first z)) (sym same),
+        )
+
+    has_steps : HasSteps p q r f
+    has_steps = record {
+      reaches = λ v v' r' w flow. d.reaches v v' (at r') (wide v w) (flow_leads p q v v' r r' flow);
+      only = λ v i n k w le h.
+          let (v', leads, is) = d.only v i n k (wide v w) le h in
+          let (r', flow, to) = lead_flows p q v v' r n leads in
+          (v', r', flow, to, is);
+      once = λ v i j x w le lj hi hj. d.once v i j x (wide v w) le lj hi hj;
+      enters = enters;
+      entered = entered;
+    }
+
+-- a drawn graph is that of the procedure of its number
+pub drawn_graph : {N A : Type 0} (t : tree.Program N) (q : ℕ) (proc : Proc N) (graph : Graph A) → Resolves (tree_of t) → AllNarrow (tree_of t) → slice_get t.procs.items q ≡ Some proc → Draws t proc graph →
+    IsGraph (sequential_of (tree_of t)) q graph
+drawn_graph {N} {A} t q proc graph resolves narrow is draws = record {
+  globals = draws.0;
+  start = draws.1 ∙ ap at (sym same);
+  points =
+      all_do_length graph.flows.items (nodes_of body) _ _ _ draws.2
+      ∙ ap suc (length-map (rests body done) (node_of body) ∙ sym (numbers_counted body))
+      ∙ ap (λ b. suc (statements b)) (sym same);
+  steps = λ r rest. flow_at r (subst (λ b. IsRestOf b r) same rest);
+}
+  where
+    p : Program
+    p = sequential_of (tree_of t)
+
+    body : Code
+    body = drawing.body_of t proc
+
+    there : slice_get p.routines q ≡ Some (sequential_routine (tree_of t) (proc_of proc))
+    there = routine_at (tree_of t) q (proc_of proc) (slice_get-map proc_of t.procs.items q ∙ ap (option_map proc_of) is)
+
+    same : body_of (slice_get p.routines q) ≡ body
+    same = ap body_of there
+
+    numbers_counted : (b : Code) → statements b ≡ length (rests b done)
+    numbers_counted b = sym (rests_count b done)
+
+    procedures : length (names_in t proc).procedures ≡ length p.routines
+    procedures = length-map (tree_of t).procedures _ ∙ sym (routines_counted (tree_of t))
+
+    flow_at : (r : Code) → IsRestOf body r → AtFlow (slice_get graph.flows.items (at r)) (HasSteps p q r)
+    flow_at r rest =
+        let placed = slice_get-map (node_of body) (done ∷ rests body done) (at r) ∙ ap (option_map (node_of body)) (rest_placed (resolve_block (names_in t proc) (proc_of proc).body) r rest) in
+        let (f, at_r, does) = all_do_at graph.flows.items (nodes_of body) _ _ _ (at r) (node_of body r) draws.2 placed in
+        subst (λ o. AtFlow o (HasSteps p q r)) (sym at_r)
+        (has_steps p q (sequential_routine (tree_of t) (proc_of proc)) there (resolving_fit (tree_of t) resolves) (narrow_places (tree_of t) narrow) f r (subst (λ b. IsRestOf b r) (sym same) rest)
+        (subst (λ b. Does f (node_of b r) p.globals (length (names_in t proc).locals) (length p.routines)) (sym same)
+        (subst (λ m. Does f (node_of body r) p.globals (length (names_in t proc).locals) m) procedures does)))
+
+-- the names in a scope and a body, by what declares them
+abbrev pub scope_in : {N : Type 0} → List (Name N) → List (Name N) → List (Name N) → List (Proc N) → Scope
+scope_in gs fs ls ps = record { globals = names_of gs; locals = names_of fs ++ names_of ls; procedures = map (λ (p : Procedure). p.name) (procs_of ps) }
+
+abbrev pub code_in : {N : Type 0} → List (Name N) → List (Name N) → List (Name N) → List (Proc N) → List (Stmt N) → Code
+code_in gs fs ls ps b = numbered 1 (resolve_block (scope_in gs fs ls ps) (block_of b))
+
+abbrev DrawnIn : {N A : Type 0} → List (Name N) → List (Name N) → List (Name N) → List (Proc N) → List (Stmt N) → List (Flow A) → Type 0
+DrawnIn gs fs ls ps b flows =
+    AllDo flows (nodes_of (code_in gs fs ls ps b)) (length (scope_in gs fs ls ps).globals) (length (scope_in gs fs ls ps).locals) (length (scope_in gs fs ls ps).procedures)
+
+-- behind the exit's flow, those of the body
+pub drawn_flows : {N A : Type 0} (gs gs' fs fs' ls ls' : List (Name N)) (ps ps' : List (Proc N)) (b b' : List (Stmt N)) (old new : List (Flow A)) →
+    gs ≡ gs' → fs ≡ fs' → ls ≡ ls' → ps ≡ ps' → b ≡ b' → old ≡ flow.Return ∷ [] →
+    Lowered old new (map (node_of (code_in gs fs ls ps b)) (rests (numbered (length old) (resolve_block (scope_in gs fs ls ps) (block_of b))) done)) (length (scope_in gs fs ls ps).globals) (length (scope_in gs fs ls ps).locals) (length (scope_in gs fs ls ps).procedures) →
+    DrawnIn gs' fs' ls' ps' b' new
+drawn_flows {N} {A} gs gs' fs fs' ls ls' ps ps' b b' old new eg ef el ep eb start (behind, is, all) =
+    subst (λ z. DrawnIn z fs' ls' ps' b' new) eg
+    (subst (λ z. DrawnIn gs z ls' ps' b' new) ef
+    (subst (λ z. DrawnIn gs fs z ps' b' new) el
+    (subst (λ z. DrawnIn gs fs ls z b' new) ep
+    (subst (λ z. DrawnIn gs fs ls ps z new) eb
+    (subst (λ z. DrawnIn gs fs ls ps b z) (sym (is ∙ ap (λ o. o ++ behind) start)) (
+      does_return _ _ _,
+      subst (λ n. AllDo behind (map (node_of (code_in gs fs ls ps b)) (rests (numbered n (resolve_block (scope_in gs fs ls ps) (block_of b))) done)) (length (scope_in gs fs ls ps).globals) (length (scope_in gs fs ls ps).locals) (length (scope_in gs fs ls ps).procedures))
+      (ap length start) all,
+    ))))))
+
+-- each graph is drawn of the procedure of its number
+abbrev pub AllDrawn : {N A : Type 0} → tree.Program N → List (Proc N) → List (Graph A) → Type 0
+AllDrawn {N} {A} t ps graphs = (q : ℕ) (graph : Graph A) → slice_get graphs q ≡ Some graph → (proc : Proc N) × (slice_get ps q ≡ Some proc) × Draws t proc graph
+
+at_end : {X : Type 0} (xs : List X) (x y : X) (q : ℕ) → slice_get (xs ++ (x ∷ [])) q ≡ Some y → (slice_get xs q ≡ Some y) ⊎ ((q ≡ length xs) × (x ≡ y))
+at_end [] x y zero e = inr (refl, same_Some x y e)
+at_end [] x y (suc q) e = absurd (none-some _ e)
+at_end (z ∷ xs) x y zero e = inl e
+at_end (z ∷ xs) x y (suc q) e =
+    elim (at_end xs x y q e) [ inl h ↦ inl h | inr h ↦ inr (ap suc h.0, h.1) ]
+
+pub drawn_more : {N A : Type 0} (t : tree.Program N) (ps : List (Proc N)) (old new : List (Graph A)) (i : ℕ) (proc : Proc N) (graph : Graph A) → AllDrawn t ps old → length old ≡ i → slice_get ps i ≡ Some proc →
+    Draws t proc graph → new ≡ old ++ (graph ∷ []) → AllDrawn t ps new
+drawn_more t ps old new i proc graph all count is draws e q found h =
+    elim (at_end old graph found q (sym (ap (λ l. slice_get l q) e) ∙ h)) [
+      | inl there ↦ all q found there
+      | inr (at_q, same) ↦ (proc, ap (slice_get ps) (at_q ∙ count) ∙ is, subst (Draws t proc) same draws)
+    ]
+
+-- in a narrow program there is room for each procedure's valuations
+pub has_room : {N : Type 0} (t : tree.Program N) (q : ℕ) (proc : Proc N) → AllNarrow (tree_of t) → slice_get t.procs.items q ≡ Some proc → length t.procs.items ≤ 32 → HasRoom t proc
+has_room t q proc narrow is few =
+    let room = narrow_places (tree_of t) narrow q (sequential_routine (tree_of t) (proc_of proc)) (routine_at (tree_of t) q (proc_of proc) (slice_get-map proc_of t.procs.items q ∙ ap (option_map proc_of) is)) in
+    let globals = length-map t.globals.items name_of in
+    let both = length-append (names_of proc.formals.items) (names_of proc.locals.items) in
+    let formals = length-map proc.formals.items name_of in
+    let locals = length-map proc.locals.items name_of in
+    (omega (arith, room, globals, both, formals, locals), few)

@@ -1,0 +1,31 @@
+-- Behind the exit's flow, those of the body.
+use Rattle.std.proofs.Common.{◌≡◌, ◌+◌, ◌++◌, ◌∷◌, [], length, refl, sym, ◌∙◌, ap, arith}
+use Rattle.std.proofs.lemmas.List.{length-map}
+use Rattle.language.specs.Tree.{done}
+use Rattle.language.specs.Resolve.{resolve_block}
+use Rattle.language.specs.Rest.{join}
+use Rattle.language.specs.Sequential.{numbered, statements}
+use Rattle.language.proofs.Rests.{join_done}
+use Rattle.syntax.specs.Trees.{name_of, block_of}
+use Rattle.flow_graph.specs.Nodes.{at}
+use Rattle.flow_graph.specs.Drawing.{names_in}
+use Rattle.flow_graph.specs.declared.flow.Flow.TheVariants as flow
+use Rattle.flow_graph.proofs.Graphing.{drawn_flows}
+use Rattle.flow_graph.proofs.drawing.graph.Goals as goal
+
+pub returns : goal.returns
+returns g c =
+    let t = c.args.program.now in
+    let p = c.args.proc.now in
+    let s = names_in t p in
+    let body = c.as_slice-body.ensures.value in
+    let old = c.push.new.self.items in
+    let start : old ≡ flow.Return ∷ [] = c.in_ok-push.ensures.items ∙ ap (λ l. l ++ (flow.Return ∷ [])) c.new-flows.ensures.items in
+    let lowered = c.in_ok-block.ensures in
+    let small = c.block.new.flows.small in
+    let one = ap length start in (
+      c.len.ensures ∙ t.globals.ok.0 ∙ sym (length-map t.globals.items name_of),
+      c.begin.ensures s done refl ∙ ap at (join_done (numbered 1 (resolve_block s (block_of c.as_slice-body.result.now)))) ∙ ap (λ l. at (numbered 1 (resolve_block s (block_of l)))) body,
+      drawn_flows _ _ _ _ _ _ _ _ _ _ old c.block.new.flows.items c.as_slice.ensures.value c.as_slice-2.ensures.value c.as_slice-3.ensures.value c.as_slice-4.ensures.value body start
+      (lowered.1 done refl (omega (arith, lowered.0, small, one), omega (arith, lowered.0, small, one))),
+    )

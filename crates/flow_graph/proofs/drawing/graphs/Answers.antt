@@ -1,0 +1,45 @@
+-- One graph more is that of the next procedure; at the end there is one of each.
+use Rattle.std.proofs.Common.{◌≡◌, ◌+◌, ◌∷◌, [], Some, List, length, map, slice_get, refl, sym, ◌∙◌, ap, subst, arith, length-append}
+use Rattle.std.proofs.lemmas.Option.{slice_get_read}
+use Rattle.std.proofs.lemmas.List.{length-map}
+use Rattle.round_rewrite.specs.Narrow.{AllNarrow}
+use Rattle.round_rewrite.proofs.Sequences.{routines_counted}
+use Rattle.syntax.specs.Trees.{tree_of, proc_of}
+use Rattle.flow_graph.proofs.Graphing.{AllDrawn, drawn_more, drawn_graph, has_room}
+use Rattle.flow_graph.proofs.drawing.graphs.Goals as goal
+
+pub graph-requires : goal.graph-requires
+graph-requires g c =
+    let t = c.program-program.result.now in
+    let items = c.deref-proc-items.ensures.value in
+    let same = c.program-program.ensures in
+    let proc = c.proc-item.result in
+    let is = slice_get_read c.deref-proc-items.result.now _ c.loop-proc.proc-index proc refl c.loop-proc-test.true c.proc-item.is in
+    has_room t c.loop-proc.proc-index proc (subst (λ z. AllNarrow (tree_of z)) (sym same) c.args.sequential.now.narrow) (ap (λ l. slice_get l c.loop-proc.proc-index) (sym items) ∙ is)
+    (omega (arith, ap (λ z. length z.procs.items) same, c.args.sequential.now.few))
+
+pub loop-proc-preserved : goal.loop-proc-preserved
+loop-proc-preserved g c =
+    let pushed = c.in_ok-push.ensures.items in
+    let proc = c.proc-item.result in
+    let is = slice_get_read c.deref-proc-items.result.now _ c.loop-proc.proc-index proc refl c.loop-proc-test.true c.proc-item.is in (
+      omega (arith, c.loop-proc.invariant.0, ap length pushed, length-append c.loop-proc.graphs.items (c.in_ok-graph.field-0 ∷ [])),
+      drawn_more c.program-program.result.now c.deref-proc-items.result.now c.loop-proc.graphs.items c.push.new.self.items c.loop-proc.proc-index proc c.in_ok-graph.field-0
+      c.loop-proc.invariant.1 c.loop-proc.invariant.0 is c.in_ok-graph.ensures pushed,
+    )
+
+pub returns : goal.returns
+returns g c =
+    let t = c.program-program.result.now in
+    let program = c.args.sequential.now.program in
+    let same = c.program-program.ensures in
+    let items = c.deref-proc-items.ensures.value in
+    let graphs = c.loop-proc.graphs.items in
+    let all = subst (λ z. AllDrawn z program.procs.items graphs) same (subst (λ l. AllDrawn t l graphs) (items ∙ ap (λ z. z.procs.items) same) c.loop-proc.invariant.1) in
+    let end : length graphs ≡ length program.procs.items =
+        omega (arith, c.loop-proc.invariant.0, c.loop-proc-test.false, c.loop-proc.auto.proc-index-end, ap length items, ap (λ z. length z.procs.items) same) in (
+      end ∙ sym (routines_counted (tree_of program) ∙ length-map program.procs.items proc_of),
+      λ q graph h.
+        let (proc, is, draws) = all q graph h in
+        drawn_graph program q proc graph c.args.sequential.now.resolves c.args.sequential.now.narrow is draws,
+    )
