@@ -30,6 +30,14 @@ module _ {A : Type 0} (graph : Graph A) (M : NumberedMessage → Type 0) where
   reaches_least T begins goes comes _ _ _ (returns a n v s e n' b flow reached here enters k) =
       comes a n v s e n' b flow (reaches_least T begins goes comes a n v reached) here enters k
 
+  -- what is sent is the least that has what is asked and told from what is reached
+  pub sends_least : (q : ℕ) (T : ℕ → ℕ → ℕ → Type 0) → ((a n v : ℕ) → Reaches graph M a n v → T a n v) → (S : ℕ → NumberedMessage → Type 0)
+      → ((a n v s e n' : ℕ) (flow : Flow A) → T a n v → slice_get graph.flows.items n ≡ Some flow → entered_by flow v ≡ Some (s, e, n') → S s (numbered_entry (caller q) e))
+      → ((a v s : ℕ) → M (numbered_entry (caller s) a) → T a 0 v → S s (numbered_summary q a (left graph.globals v)))
+      → (s : ℕ) (k : NumberedMessage) → Sends graph q M s k → S s k
+  sends_least q T least S asked told _ _ (asks a n v s e n' flow reached here enters) = asked a n v s e n' flow (least a n v reached) here enters
+  sends_least q T least S asked told _ _ (tells a v s k reached) = told a v s k (least a 0 v reached)
+
   -- what is reached from a number has an entry with it
   pub reaches_entry : (a n v : ℕ) → Reaches graph M a n v → (from : Caller) × M (numbered_entry from a)
   reaches_entry _ _ _ (starts from a k) = (from, k)
@@ -54,8 +62,7 @@ module _ {A : Type 0} (graph : Graph A) (ms : List NumberedMessage) (ts : List (
 
   pub held_sent : (q : ℕ) (sent : List (ℕ × NumberedMessage)) → HoldAsks graph q ts sent → HoldTells graph q ms ts sent → (s : ℕ) (k : NumberedMessage) → Sends graph q (λ j. Member j ms) s k
       → Member (s, k) sent
-  held_sent q sent asked told _ _ (asks a n v s e n' flow reached here enters) = asked a n v s e n' flow (held a n v reached) here enters
-  held_sent q sent asked told _ _ (tells a v s k reached) = told a v s k (held a 0 v reached)
+  held_sent q sent asked told = sends_least graph (λ k. Member k ms) q (λ a n v. Member (a, n, v) ts) held (λ s k. Member (s, k) sent) asked told
 
 -- triples of all that is reached, and of nothing else, follow
 module _ {A : Type 0} (graph : Graph A) (ms : List NumberedMessage) (ts : List (ℕ × ℕ × ℕ)) (all : (a n v : ℕ) → Member (a, n, v) ts ↔ Reaches graph (λ k. Member k ms) a n v) where
