@@ -1,5 +1,5 @@
 -- What compiled assignments do.
-use Rattle.std.specs.Prelude.{◌≡◌, ◌≤◌, ℕ, suc, ◌+◌, ◌/◌, ◌==◌, cond, Bool, true, false, Option, Some, None, List, [], ◌∷◌, ◌++◌, length, map}
+use Rattle.std.specs.Prelude.{◌≡◌, ◌≤◌, ℕ, ◌+◌, ◌/◌, ◌==◌, cond, Bool, true, false, Option, Some, None, List, [], ◌∷◌, ◌++◌, length, map}
 use Rattle.std.specs.Int.RustNames.{bit_or, bit_xor}
 use Rattle.language.specs.Tree.{Name, RightSide}
 use Rattle.language.specs.Value.{AreValues, written_globals, written_locals}

@@ -1,6 +1,6 @@
 -- One `?` more doubles the choices, of which there are 2^64 at most.
-use Rattle.std.proofs.Common.{◌≡◌, ◌+◌, ◌^◌, ◌<◌, suc, drop, ap, sym, ◌∙◌, add-one, arith, pow-suc}
-use Rattle.flow_graph.specs.Assignments.{any_of, anys}
+use Rattle.std.proofs.Common.{suc, ap, arith, pow-suc}
+use Rattle.flow_graph.specs.Assignments.{any_of}
 use Rattle.flow_graph.proofs.Assignments.{anys_step, room}
 use Rattle.flow_graph.proofs.assignment.last_choice.Goals as goal
 use Rattle.flow_graph.proofs.assignment.last_choice.Goals.{in-Any, in-Value}

@@ -1,9 +1,9 @@
 -- Each target is written, unless it is declared nowhere or written again.
-use Rattle.std.proofs.Common.{◌≡◌, ◌≤◌, ◌+◌, ◌^◌, length, map, ap, sym, ◌∙◌, subst, arith}
-use Rattle.syntax.specs.Trees.{name_of, names_of, rhss_of}
+use Rattle.std.proofs.Common.{◌+◌, ◌^◌, length, map, ap, sym, ◌∙◌, arith}
+use Rattle.syntax.specs.Trees.{names_of, rhss_of}
 use Rattle.flow_graph.specs.Assignments.{anys, bit_of_name}
 use Rattle.flow_graph.specs.Views.{scope_seen}
-use Rattle.flow_graph.proofs.Assignments.{Compiled, kept_from, all_written, anys_same, anys_few, assigns, few_variables, names_below, one_bit, one_written, passed_over}
+use Rattle.flow_graph.proofs.Assignments.{kept_from, all_written, anys_same, anys_few, assigns, few_variables, names_below, one_bit, one_written, passed_over}
 use Rattle.flow_graph.proofs.scope.Scope.assignment.Goals as goal
 use Rattle.flow_graph.proofs.scope.Scope.assignment.Goals.{in-Some+in_ok-clone-2+in_ok-side+in_ok-push, in_default}
 
