@@ -9,6 +9,8 @@ mod drawing;
 mod flow;
 mod formula;
 mod graph;
+#[cfg(test)]
+mod graph_tests;
 mod labels;
 mod lowering;
 mod numbers;

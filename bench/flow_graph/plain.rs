@@ -1,0 +1,181 @@
+// The same loops over flows of the same representation, as one writes them in Rust, for comparison with the proved crate:
+// truth tables whose row is gathered bit by bit, and writes with a mask each.
+use std::hint::black_box;
+use std::time::Instant;
+
+struct Table {
+    inputs: Vec<u8>,
+    outputs: u64,
+}
+
+impl Table {
+    fn new(inputs: &[u8], expression: impl Fn(&[bool]) -> bool) -> Formula {
+        let mut outputs = 0;
+        for row in 0..64u64 {
+            let bits: Vec<bool> = (0..inputs.len()).map(|slot| row >> slot & 1 == 1).collect();
+            outputs |= (expression(&bits) as u64) << row;
+        }
+        Formula::Table(Table { inputs: inputs.to_vec(), outputs })
+    }
+
+    fn value(&self, values: u64) -> bool {
+        let mut row = 0;
+        for (slot, input) in self.inputs.iter().enumerate() {
+            row |= (values >> input & 1) << slot;
+        }
+        self.outputs >> row & 1 == 1
+    }
+}
+
+#[derive(Clone, Copy)]
+enum Step {
+    Read(u8),
+    Not,
+    Xor,
+}
+
+enum Formula {
+    Table(Table),
+    Code(Vec<Step>),
+}
+
+impl Formula {
+    fn value(&self, values: u64) -> bool {
+        match self {
+            Formula::Table(table) => table.value(values),
+            Formula::Code(steps) => {
+                let mut stack = 0u64;
+                for step in steps {
+                    stack = match step {
+                        Step::Read(bit) => stack << 1 | (values >> bit & 1),
+                        Step::Not => stack ^ 1,
+                        Step::Xor => stack >> 1 ^ (stack & 1),
+                    };
+                }
+                stack & 1 == 1
+            }
+        }
+    }
+}
+
+enum Side {
+    Any,
+    Value(Formula),
+}
+
+impl Side {
+    fn value(&self, values: u64, choice: u64) -> bool {
+        match self {
+            Side::Any => choice & 1 == 1,
+            Side::Value(formula) => formula.value(values),
+        }
+    }
+}
+
+struct Write {
+    mask: u64,
+    side: Side,
+}
+
+enum Flow {
+    Assign(Vec<Write>, usize),
+    Test(Side, usize, usize),
+    Assume(Side, usize),
+    Return,
+}
+
+impl Flow {
+    fn next(&self, values: u64, choice: u64) -> Option<(usize, u64)> {
+        match self {
+            Flow::Assign(writes, to) => {
+                let mut next = values;
+                let mut left = choice;
+                for write in writes {
+                    if write.side.value(values, left) {
+                        next |= write.mask;
+                    } else {
+                        next &= !write.mask;
+                    }
+                    if let Side::Any = write.side {
+                        left >>= 1;
+                    }
+                }
+                Some((*to, next))
+            }
+            Flow::Test(side, yes, no) => {
+                Some((if side.value(values, choice) { *yes } else { *no }, values))
+            }
+            Flow::Assume(side, to) => side.value(values, 1).then_some((*to, values)),
+            Flow::Return => None,
+        }
+    }
+}
+
+fn sum(flow: &Flow, steps: u64) -> u64 {
+    let mut sum = 0u64;
+    for number in 0..steps {
+        let values = number.wrapping_mul(0x9e37_79b9_7f4a_7c15);
+        if let Some((point, next)) = flow.next(values, 0) {
+            sum = sum.wrapping_add(next).wrapping_add(point as u64);
+        }
+    }
+    sum
+}
+
+fn main() {
+    let steps: u64 = std::env::args().nth(1).unwrap().parse().unwrap();
+    let write = |bit: u8, formula: Formula| Write { mask: 1 << bit, side: Side::Value(formula) };
+    // Behind the globals rh__, rl__, stop__ and bad__ the locals a to f are the bits 4 to 9.
+    let one = Flow::Assign(
+        vec![write(4, Table::new(&[4, 5, 6, 7, 8, 9], |b| {
+            ((b[0] & b[1]) | !b[2]) ^ (!(b[3] & b[4]) | (b[5] == (b[0] | b[2])))
+        }))],
+        0,
+    );
+    let four = Flow::Assign(
+        vec![
+            write(4, Table::new(&[5, 6, 7], |b| b[0] ^ (b[1] & b[2]))),
+            write(5, Table::new(&[4, 7, 8], |b| b[0] | (!b[1] | b[2]))),
+            write(6, Table::new(&[8, 9, 4], |b| (b[0] == b[1]) & b[2])),
+            write(7, Table::new(&[5, 9], |b| !b[0] ^ b[1])),
+        ],
+        0,
+    );
+    let test = Flow::Test(
+        Side::Value(Table::new(&[4, 5, 6, 7], |b| (b[0] ^ b[1]) & (b[2] | !b[3]))),
+        11,
+        21,
+    );
+    let seven = Flow::Test(
+        Side::Value(Formula::Code(vec![
+            Step::Read(4),
+            Step::Read(5),
+            Step::Xor,
+            Step::Read(6),
+            Step::Xor,
+            Step::Read(7),
+            Step::Xor,
+            Step::Read(8),
+            Step::Xor,
+            Step::Read(9),
+            Step::Xor,
+            Step::Read(10),
+            Step::Xor,
+            Step::Not,
+        ])),
+        11,
+        21,
+    );
+    let others = [Flow::Assume(Side::Any, 0), Flow::Return];
+    black_box(&others);
+    for (name, flow) in [
+        ("one target", &one),
+        ("four targets", &four),
+        ("test", &test),
+        ("seven bits", &seven),
+    ] {
+        let start = Instant::now();
+        let sum = sum(black_box(flow), steps);
+        println!("{name}: {} {sum}", start.elapsed().as_nanos());
+    }
+}
