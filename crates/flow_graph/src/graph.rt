@@ -1,6 +1,9 @@
 //! Flow graphs.
 
-ghost use Rattle.std.specs.Prelude.{◌≡◌, ◌<◌, length, slice_get, Some};
+ghost use Rattle.std.specs.Prelude.{◌≡◌, ◌<◌, ◌++◌, Bool, List, length, slice_get, Some};
+ghost use Rattle.language.specs.Sequential.{Valuation};
+ghost use Rattle.flow_graph.specs.Bits.{coded};
+ghost use Rattle.flow_graph.specs.Flows.{code};
 ghost use Rattle.flow_graph.specs.Returns.{left, resumed};
 
 use crate::call::low_bits;
@@ -42,14 +45,16 @@ impl<A: Allocator> Graph<A> {
 
     /// The globals of a valuation: what a call leaves that ends with it.
     pub fn left(&self, values: u64) -> u64
-        ensures { result ≡ left self.now.globals values }
+        ensures number { result ≡ left self.now.globals values }
+        ensures globals { (v : Valuation) → length v.globals ≡ self.now.globals → values ≡ code v → result ≡ coded v.globals }
     {
         low_bits(values, self.globals)
     }
 
     /// The valuation of a caller after a call that left these globals: the places are the caller's.
     pub fn resumed(&self, values: u64, globals: u64) -> u64
-        ensures { result ≡ resumed self.now.globals values globals }
+        ensures number { result ≡ resumed self.now.globals values globals }
+        ensures valuation { (v : Valuation) (b : List Bool) → length v.globals ≡ self.now.globals → length b ≡ self.now.globals → values ≡ code v → globals ≡ coded b → result ≡ coded (b ++ v.places) }
     {
         low_bits(globals, self.globals) + (values - low_bits(values, self.globals))
     }
