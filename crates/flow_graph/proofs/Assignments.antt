@@ -1,7 +1,7 @@
 -- Assignments as lists of bits and right sides.
-use Rattle.std.proofs.Common.{◌≡◌, ◌≢◌, ◌<◌, ◌≤◌, ℕ, zero, suc, ◌+◌, ◌-◌, ◌*◌, ◌/◌, ◌%◌, ◌^◌, ◌==◌, eqb, min, not, ◌||◌, Bool, true, false, cond, nat_lt, Option, Some, None, List, [], ◌∷◌, ◌++◌, length, map, take, drop, get_or, refl, sym, ◌∙◌, ap, subst, arith, pow-suc, append_assoc, append-nil}
+use Rattle.std.proofs.Common.{◌≡◌, ◌<◌, ◌≤◌, ℕ, zero, suc, ◌+◌, ◌-◌, ◌*◌, ◌/◌, ◌%◌, ◌^◌, ◌==◌, eqb, min, not, ◌||◌, Bool, true, false, cond, nat_lt, Option, Some, None, List, [], ◌∷◌, ◌++◌, length, map, take, drop, get_or, refl, sym, ◌∙◌, ap, subst, arith, pow-suc, append_assoc, append-nil}
 use Rattle.std.specs.List.{AllByRecursion, IsDistinct, list_any}
-use Rattle.std.specs.Int.RustNames.{bit_or, bit_xor}
+use Rattle.std.specs.Int.RustNames.{bit_or}
 use Rattle.std.proofs.lemmas.Bool.{false≢true, true≢false, eqb-true, eqb-false, ltb-true, ltb-false}
 use Rattle.std.proofs.lemmas.List.{length-append, length-drop, length-map, get_or-set_same, get_or-set_other, set-append_left, set-append_right, set_past, length-set, drop_more, append-nil}
 use Rattle.std.proofs.Math.Pow.{pow_mono}
@@ -15,7 +15,7 @@ use Rattle.language.proofs.Names.{number_less, place_declared, place_other}
 use Rattle.syntax.specs.Trees.{name_of, names_of, rhs_of, rhss_of}
 use Rattle.syntax.specs.declared.tree.Name as syntax
 use Rattle.syntax.specs.declared.tree.Rhs.{Rhs}
-use Rattle.flow_graph.specs.Assignments.{masked, choice_left, written, any_of, anys, bit_of_name, is_bit, is_among, lasting, Assigns}
+use Rattle.flow_graph.specs.Assignments.{masked, choice_left, written, any_of, anys, bit_of_name, is_among, lasting, Assigns}
 use Rattle.flow_graph.specs.Bits.{bit_of, worth_of, coded}
 use Rattle.flow_graph.specs.Formulas.{SaysSide, side_value}
 use Rattle.flow_graph.specs.Located.{bit_of_place}

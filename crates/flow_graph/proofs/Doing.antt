@@ -1,17 +1,17 @@
 -- Flows that do what happens at nodes.
-use Rattle.std.proofs.Common.{◌≡◌, ◌≤◌, ◌<◌, ℕ, zero, suc, ◌+◌, Bool, true, false, cond, Option, Some, None, List, [], ◌∷◌, ◌++◌, length, map, refl, sym, ◌∙◌, ap, subst, arith, ◌*◌, ◌^◌, ◌%◌, ◌⊎◌, inl, inr, pow-suc, Result, Ok, Err, IfOk}
+use Rattle.std.proofs.Common.{◌≡◌, ◌≤◌, ◌<◌, ℕ, zero, suc, ◌+◌, Bool, true, false, cond, Option, Some, List, [], ◌∷◌, ◌++◌, length, map, refl, sym, ◌∙◌, ap, subst, arith, ◌*◌, ◌^◌, ◌⊎◌, inl, inr, Result, Ok, Err, IfOk}
 use Rattle.std.proofs.Math.Nat.{mul_comm}
 use Rattle.std.proofs.lemmas.Option.{none-some, same_Some}
 use Rattle.std.proofs.lemmas.Bool.{true≢false}
 use Rattle.language.specs.Tree.{Name, Expression, RightSide, any, value}
 use Rattle.language.specs.Value.{Place, value_of, values_of, IsValue, written_globals, written_locals}
-use Rattle.language.specs.Resolve.{Scope, place_of, resolve_expression, resolve_side}
+use Rattle.language.specs.Resolve.{Scope, place_of, resolve_side}
 use Rattle.language.specs.Sequential.{Valuation}
 use Rattle.flow_graph.specs.Bits.{bit_of, worth_of, coded}
-use Rattle.flow_graph.specs.Formulas.{says, Says, SaysSide, side_value}
+use Rattle.flow_graph.specs.Formulas.{says, SaysSide}
 use Rattle.flow_graph.specs.Assignments.{assigned, Assigns}
-use Rattle.flow_graph.specs.Nodes.{goes, stops, goes_to, tests, assumes, assigns, calls, returns, at}
-use Rattle.flow_graph.specs.Flows.{code, last_of, next_of, entered_by, HasWidths, Does, AllDo, Lowered}
+use Rattle.flow_graph.specs.Nodes.{goes, stops, tests, assigns, calls, returns}
+use Rattle.flow_graph.specs.Flows.{code, HasWidths, Does}
 use Rattle.flow_graph.proofs.Rows.{first_bit}
 use Rattle.flow_graph.specs.declared.side.Side.{Side}
 use Rattle.flow_graph.specs.declared.side.Side.TheVariants as side
@@ -130,7 +130,7 @@ entry_code fs s es v all e =
     let low = left_coded (length s.globals) v e in
     let whole = coded_append v.globals (values_of v.globals v.places es) in
     let above : 2 ^ length s.globals * coded (map (λ f. says f (code v)) fs) ≡ coded (values_of v.globals v.places es) * 2 ^ length v.globals =
-        mul_comm (2 ^ length s.globals) (coded (map (λ f. says f (code v)) fs)) ∙ λ t. said t * 2 ^ sym e t in
+    mul_comm (2 ^ length s.globals) (coded (map (λ f. says f (code v)) fs)) ∙ λ t. said t * 2 ^ sym e t in
     omega (arith, low, whole, above)
 
 pub does_calls : {A : Type 0} (c : Call A) (p : ℕ) (es : List (Expression Place)) (s : Scope) (m : ℕ) → c.callee ≡ p → c.globals ≡ length s.globals → p < m → AllSay c.arguments.items s es →

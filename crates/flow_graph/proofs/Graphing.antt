@@ -1,13 +1,13 @@
 -- A graph whose flows do what happens at the points of a procedure's body has the procedure's steps.
-use Rattle.std.proofs.Common.{◌≡◌, ◌≤◌, ◌<◌, ◌+◌, ◌-◌, ℕ, zero, suc, Bool, false, Option, Some, None, option_map, List, [], ◌∷◌, ◌++◌, length, map, slice_get, inl, inr, refl, sym, ◌∙◌, ap, subst, arith, ◌*◌, ◌⊎◌, get_or, length-append}
+use Rattle.std.proofs.Common.{◌≡◌, ◌≤◌, ◌+◌, ◌-◌, ℕ, zero, suc, Bool, Option, Some, None, option_map, List, [], ◌∷◌, ◌++◌, length, map, slice_get, inl, inr, refl, sym, ◌∙◌, ap, subst, arith, ◌*◌, ◌⊎◌, get_or, length-append}
 use Rattle.std.proofs.lemmas.List.{length-map, append_assoc}
 use Rattle.std.proofs.lemmas.Option.{none-some, same_Some, slice_get-map, slice_get-get_or, slice_get_within}
-use Rattle.language.specs.Tree.{Mark, Expression, skip, assign, assert, assume, goto, leave, call, done, one, choose, loop, Procedure, Tree}
+use Rattle.language.specs.Tree.{Mark, Expression, skip, assign, assert, assume, goto, leave, call, done, one, choose, loop, Procedure}
 use Rattle.language.specs.Value.{Place, values_of}
 use Rattle.language.specs.Rest.{Label, Code, rest_from}
 use Rattle.language.specs.Resolve.{Scope, resolve_block}
 use Rattle.language.specs.Step.{Routine, Program, zeros, fresh, AtRoutine, body_of}
-use Rattle.language.specs.Sequential.{statements, numbered, point_of, Valuation, Calls, sequential_of}
+use Rattle.language.specs.Sequential.{statements, numbered, Valuation, Calls, sequential_of}
 use Rattle.language.specs.Flow.{rests, Member, IsRestOf, after_first}
 use Rattle.language.specs.Messages.{IsValuationOf, ArgumentsFit}
 use Rattle.language.proofs.Entering.{call_shape}
@@ -102,10 +102,11 @@ module _ (p : Program) (q : ℕ) (routine : Routine) (there : slice_get p.routin
         let (callee, is, made) = routine_found (slice_get p.routines s) (λ z. a ≡ record { globals = v.globals; places = fresh z.places args }) h in
         let room : length es ≤ callee.places = subst (λ o. AtRoutine o (λ z. length es ≤ z.places)) is (fit q s m es t (subst (IsRestOf (body_of (slice_get p.routines q))) same rest)) in
         let asks : Asks (node_of (body_of (slice_get p.routines q)) r) v s args (at (after_first r)) =
-            subst (λ z. Asks (node_of (body_of (slice_get p.routines q)) z) v s args (at (after_first z))) (sym same) (refl, refl, refl) in
+        subst (λ z. Asks (node_of (body_of (slice_get p.routines q)) z) v s args (at (after_first z))) (sym same) (refl, refl, refl) in
         let few = narrow s callee is in
         d.enters v args s (at (after_first r)) (wide v w) asks (slice_get_within p.routines s callee is) (omega (arith, few, room, values_count v.globals v.places es))
         ∙ ap (λ k. Some (s, k, at (after_first r))) (sym (ap code made ∙ coded_fresh v.globals callee.places args))
+
     entered : (v : Valuation) (s e n : ℕ) → IsValuationOf p q v → entered_by f (code v) ≡ Some (s, e, n) → (a : Valuation) × Calls p v.globals v.places r s a × (e ≡ code a) × (n ≡ at (after_first r))
     entered v s e n w h =
         let (args, asks, less, is) = d.entered v s e n (wide v w) h in
@@ -196,7 +197,7 @@ drawn_flows {N} {A} gs gs' fs fs' ls ls' ps ps' b b' old new eg ef el ep eb star
     (subst (λ z. DrawnIn gs fs ls ps b z) (sym (is ∙ ap (λ o. o ++ behind) start)) (
       does_return _ _ _,
       subst (λ n. AllDo behind (map (node_of (code_in gs fs ls ps b)) (rests (numbered n (resolve_block (scope_in gs fs ls ps) (block_of b))) done)) (length (scope_in gs fs ls ps).globals) (length (scope_in gs fs ls ps).locals) (length (scope_in gs fs ls ps).procedures))
-      (ap length start) all,
+          (ap length start) all,
     ))))))
 
 -- each graph is drawn of the procedure of its number

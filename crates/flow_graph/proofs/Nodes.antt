@@ -1,10 +1,9 @@
 -- Nodes lead where flows lead.
-use Rattle.std.proofs.Common.{◌≡◌, ◌↔◌, ℕ, Bool, true, false, cond, List, [], ◌∷◌, Option, Some, None, slice_get, refl, sym, ◌∙◌, ap}
+use Rattle.std.proofs.Common.{◌≡◌, ℕ, true, false, [], ◌∷◌, Option, Some, None, slice_get, sym, ap}
 use Rattle.std.proofs.lemmas.Bool.{true≢false}
 use Rattle.language.specs.Tree.{skip, assign, assert, assume, goto, leave, call, done, one, choose, loop}
-use Rattle.language.specs.Value.{values_of, IsValue, written_globals, written_locals}
 use Rattle.language.specs.Rest.{Code, join, rest_from}
-use Rattle.language.specs.Step.{Routine, Program, Frame, frame, State, state, AtRest, body_of}
+use Rattle.language.specs.Step.{Program, frame, State, state, AtRest, body_of}
 use Rattle.language.specs.Sequential.{Valuation}
 use Rattle.language.specs.Flow.{Flow}
 use Rattle.language.proofs.Callers.{no_flow_from_call, no_flow_from_exit}

@@ -1,5 +1,5 @@
 -- Statements as numbered code, by the first and those after it.
-use Rattle.std.proofs.Common.{◌≡◌, ℕ, suc, ◌+◌, List, [], ◌++◌, ◌∷◌, refl, sym, ◌∙◌, ap, ap₂, arith}
+use Rattle.std.proofs.Common.{◌≡◌, ℕ, suc, ◌+◌, refl, ap, arith}
 use Rattle.language.specs.Tree as tree
 use Rattle.language.specs.Tree.{Mark, Block, done, one, choose, loop}
 use Rattle.language.specs.Resolve.{Scope, resolve_block}

@@ -4,9 +4,9 @@ use Rattle.std.specs.Int.RustNames.{bit_or, bit_xor}
 use Rattle.language.specs.Tree.{Name, RightSide}
 use Rattle.language.specs.Value.{AreValues, written_globals, written_locals}
 use Rattle.language.specs.Resolve.{Scope, place_of, resolve_side}
-use Rattle.flow_graph.specs.Bits.{bit_of, coded}
+use Rattle.flow_graph.specs.Bits.{coded}
 use Rattle.flow_graph.specs.Located.{bit_of_place}
-use Rattle.flow_graph.specs.Formulas.{says, side_value}
+use Rattle.flow_graph.specs.Formulas.{side_value}
 use Rattle.flow_graph.specs.declared.side.Side.{Side}
 use Rattle.flow_graph.specs.declared.side.Side.TheVariants as side
 use Rattle.flow_graph.specs.declared.assignment.Write.{Write}

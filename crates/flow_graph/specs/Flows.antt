@@ -6,7 +6,6 @@ use Rattle.flow_graph.specs.Formulas.{side_value}
 use Rattle.flow_graph.specs.Assignments.{assigned}
 use Rattle.flow_graph.specs.Calls.{entry_of}
 use Rattle.flow_graph.specs.Nodes.{Node, Leads, Asks}
-use Rattle.flow_graph.specs.declared.side.Side.{Side}
 use Rattle.flow_graph.specs.declared.side.Side.TheVariants as side
 use Rattle.flow_graph.specs.declared.flow.Flow.{Flow}
 use Rattle.flow_graph.specs.declared.flow.Flow.TheVariants.{Assign, Test, Assume, Call, Return}

@@ -1,6 +1,5 @@
 -- What the statements of a procedure are lowered to.
 use Rattle.std.specs.Prelude.{◌≡◌, ◌≤◌, ◌<◌, ◌+◌, ℕ, List, [], ◌∷◌, map, length}
-use Rattle.language.specs.Tree.{done}
 use Rattle.language.specs.Resolve.{Scope, resolve_block}
 use Rattle.language.specs.Rest.{Code, join}
 use Rattle.language.specs.Sequential.{statements, numbered}

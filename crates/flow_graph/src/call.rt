@@ -11,7 +11,11 @@ use std::alloc::Allocator;
 pub(crate) fn low_bits(values: u64, count: u8) -> u64
     ensures { result ≡ values % 2 ^ count }
 {
-    if count < 64 { values % (1 << count) } else { values }
+    if count < 64 {
+        values % (1 << count)
+    } else {
+        values
+    }
 }
 
 /// The call of a procedure, compiled.

@@ -43,7 +43,11 @@ impl<A: Allocator> Flow<A> {
         match self {
             Flow::Assign(assignment, to) => Some((*to, assignment.next(values, choice))),
             Flow::Test(side, yes, no) => {
-                let to = if side.value(values, choice) { *yes } else { *no };
+                let to = if side.value(values, choice) {
+                    *yes
+                } else {
+                    *no
+                };
                 Some((to, values))
             }
             Flow::Assume(side, to) => {

@@ -136,9 +136,7 @@ impl<'a, N: Allocator, A: Allocator + Clone> Lowering<'a, N, A> {
                 let no = begin(b, inside.saturating_add(size(a)), after);
                 self.test(r, yes, no)
             }
-            Core::While(r, a) => {
-                self.test(r, begin(a, number.saturating_add(1), number), after)
-            }
+            Core::While(r, a) => { self.test(r, begin(a, number.saturating_add(1), number), after) }
             Core::Assert(r) => self.assumption(r, after),
             Core::Assume(r) => self.assumption(r, after),
             Core::Goto(label) => self.jump(label),

@@ -1,7 +1,7 @@
 -- Texts of statements, as they grow.
 use Rattle.std.proofs.Common.{◌≡◌, ℕ, ◌+◌, ◌<◌, ◌≤◌, List, [], ◌∷◌, ◌++◌, length, drop, get_or, refl, sym, ◌∙◌, ap, append_assoc, append-nil, zero, suc, add-one, option_map}
 use Rattle.std.proofs.lemmas.List.{drop_more, drop_all}
-use Rattle.language.specs.Tree.{Name, Mark, Block, one}
+use Rattle.language.specs.Tree.{Name, Mark, Block}
 use Rattle.tokens.specs.Parts.{text_of}
 use Rattle.tokens.proofs.PartsCut.{text_of-append}
 use Rattle.syntax.specs.declared.tree.Stmt.{Stmt}

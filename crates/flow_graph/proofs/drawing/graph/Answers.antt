@@ -1,10 +1,9 @@
 -- Behind the exit's flow, those of the body.
-use Rattle.std.proofs.Common.{◌≡◌, ◌+◌, ◌++◌, ◌∷◌, [], length, refl, sym, ◌∙◌, ap, arith}
+use Rattle.std.proofs.Common.{◌≡◌, ◌++◌, ◌∷◌, [], length, refl, sym, ◌∙◌, ap, arith}
 use Rattle.std.proofs.lemmas.List.{length-map}
 use Rattle.language.specs.Tree.{done}
 use Rattle.language.specs.Resolve.{resolve_block}
-use Rattle.language.specs.Rest.{join}
-use Rattle.language.specs.Sequential.{numbered, statements}
+use Rattle.language.specs.Sequential.{numbered}
 use Rattle.language.proofs.Rests.{join_done}
 use Rattle.syntax.specs.Trees.{name_of, block_of}
 use Rattle.flow_graph.specs.Nodes.{at}
@@ -27,5 +26,5 @@ returns g c =
       c.len.ensures ∙ t.globals.ok.0 ∙ sym (length-map t.globals.items name_of),
       c.begin.ensures s done refl ∙ ap at (join_done (numbered 1 (resolve_block s (block_of c.as_slice-body.result.now)))) ∙ ap (λ l. at (numbered 1 (resolve_block s (block_of l)))) body,
       drawn_flows _ _ _ _ _ _ _ _ _ _ old c.block.new.flows.items c.as_slice.ensures.value c.as_slice-2.ensures.value c.as_slice-3.ensures.value c.as_slice-4.ensures.value body start
-      (lowered.1 done refl (omega (arith, lowered.0, small, one), omega (arith, lowered.0, small, one))),
+          (lowered.1 done refl (omega (arith, lowered.0, small, one), omega (arith, lowered.0, small, one))),
     )

@@ -1,5 +1,5 @@
 -- One graph more is that of the next procedure; at the end there is one of each.
-use Rattle.std.proofs.Common.{◌≡◌, ◌+◌, ◌∷◌, [], Some, List, length, map, slice_get, refl, sym, ◌∙◌, ap, subst, arith, length-append}
+use Rattle.std.proofs.Common.{◌≡◌, ◌∷◌, [], length, slice_get, refl, sym, ◌∙◌, ap, subst, arith, length-append}
 use Rattle.std.proofs.lemmas.Option.{slice_get_read}
 use Rattle.std.proofs.lemmas.List.{length-map}
 use Rattle.round_rewrite.specs.Narrow.{AllNarrow}
@@ -25,7 +25,7 @@ loop-proc-preserved g c =
     let is = slice_get_read c.deref-proc-items.result.now _ c.loop-proc.proc-index proc refl c.loop-proc-test.true c.proc-item.is in (
       omega (arith, c.loop-proc.invariant.0, ap length pushed, length-append c.loop-proc.graphs.items (c.in_ok-graph.field-0 ∷ [])),
       drawn_more c.program-program.result.now c.deref-proc-items.result.now c.loop-proc.graphs.items c.push.new.self.items c.loop-proc.proc-index proc c.in_ok-graph.field-0
-      c.loop-proc.invariant.1 c.loop-proc.invariant.0 is c.in_ok-graph.ensures pushed,
+          c.loop-proc.invariant.1 c.loop-proc.invariant.0 is c.in_ok-graph.ensures pushed,
     )
 
 pub returns : goal.returns
@@ -37,9 +37,9 @@ returns g c =
     let graphs = c.loop-proc.graphs.items in
     let all = subst (λ z. AllDrawn z program.procs.items graphs) same (subst (λ l. AllDrawn t l graphs) (items ∙ ap (λ z. z.procs.items) same) c.loop-proc.invariant.1) in
     let end : length graphs ≡ length program.procs.items =
-        omega (arith, c.loop-proc.invariant.0, c.loop-proc-test.false, c.loop-proc.auto.proc-index-end, ap length items, ap (λ z. length z.procs.items) same) in (
+    omega (arith, c.loop-proc.invariant.0, c.loop-proc-test.false, c.loop-proc.auto.proc-index-end, ap length items, ap (λ z. length z.procs.items) same) in (
       end ∙ sym (routines_counted (tree_of program) ∙ length-map program.procs.items proc_of),
       λ q graph h.
-        let (proc, is, draws) = all q graph h in
-        drawn_graph program q proc graph c.args.sequential.now.resolves c.args.sequential.now.narrow is draws,
+          let (proc, is, draws) = all q graph h in
+          drawn_graph program q proc graph c.args.sequential.now.resolves c.args.sequential.now.narrow is draws,
     )

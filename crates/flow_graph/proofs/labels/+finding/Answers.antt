@@ -1,5 +1,5 @@
 -- The label stands at a statement, inside of it, or behind it.
-use Rattle.std.proofs.Common.{◌≡◌, ◌<◌, ◌+◌, ◌*◌, suc, [], ◌∷◌, drop, Some, None, refl, ◌∙◌, ap, sym, arith}
+use Rattle.std.proofs.Common.{◌≡◌, ◌<◌, ◌+◌, ◌*◌, suc, [], ◌∷◌, drop, refl, ◌∙◌, ap, sym, arith}
 use Rattle.language.specs.Resolve.{resolve_mark, resolve_side, resolve_block}
 use Rattle.language.specs.Rest.{join, first_of_two}
 use Rattle.language.specs.Sequential.{statements, numbered, marked}
@@ -7,9 +7,8 @@ use Rattle.language.specs.Tree.{loop}
 use Rattle.syntax.specs.Trees.{item_of, deed_of, block_of, rhs_of}
 use Rattle.syntax.proofs.Held.{held, smaller}
 use Rattle.syntax.proofs.Folds.{item_deed, deed_of-If, deed_of-While}
-use Rattle.syntax.proofs.Plain.{is_simple}
 use Rattle.flow_graph.proofs.Counted.{alone_counts, next_counts}
-use Rattle.flow_graph.proofs.Searching.{place, place_next, place_nowhere, place_here, in_branch_first, in_branch_second, in_loop, in_simple}
+use Rattle.flow_graph.proofs.Searching.{place, place_next, place_nowhere, in_branch_first, in_branch_second, in_loop}
 use Rattle.flow_graph.proofs.labels.+finding.Goals as goal
 
 pub find-find_at-requires : goal.find-find_at-requires
@@ -28,9 +27,9 @@ find-returns-in-Some g t c s k most =
     let next = next_counts c.args.stmts.now c.loop-stmt.stmt-index stmt c.loop-stmt-test.true c.stmt-item.is in
     let here = c.find_at.ensures s (join (numbered j (resolve_block s (block_of more))) k) (omega (arith, so_far, next, most)) in
     sym (
-      same
-      ∙ place_next x c.loop-stmt.at j s c.args.stmts.now c.loop-stmt.stmt-index stmt k c.loop-stmt-test.true c.stmt-item.is refl
-      ∙ ap (λ o. first_of_two o (place x (numbered j (resolve_block s (block_of more))) k)) (sym here ∙ c.in-Some.is)
+    same
+    ∙ place_next x c.loop-stmt.at j s c.args.stmts.now c.loop-stmt.stmt-index stmt k c.loop-stmt-test.true c.stmt-item.is refl
+    ∙ ap (λ o. first_of_two o (place x (numbered j (resolve_block s (block_of more))) k)) (sym here ∙ c.in-Some.is)
     )
 
 pub find-loop-stmt-preserved : goal.find-loop-stmt-preserved
@@ -45,8 +44,8 @@ find-loop-stmt-preserved g t c s k most =
     let here = c.find_at.ensures s (join (numbered c.saturating_add-at.result (resolve_block s (block_of more))) k) (omega (arith, so_far, next, most)) in (
       omega (arith, so_far, next, j),
       same
-      ∙ place_next x c.loop-stmt.at c.saturating_add-at.result s c.args.stmts.now c.loop-stmt.stmt-index stmt k c.loop-stmt-test.true c.stmt-item.is j
-      ∙ ap (λ o. first_of_two o (place x (numbered c.saturating_add-at.result (resolve_block s (block_of more))) k)) (sym here ∙ c.in_default.is),
+          ∙ place_next x c.loop-stmt.at c.saturating_add-at.result s c.args.stmts.now c.loop-stmt.stmt-index stmt k c.loop-stmt-test.true c.stmt-item.is j
+          ∙ ap (λ o. first_of_two o (place x (numbered c.saturating_add-at.result (resolve_block s (block_of more))) k)) (sym here ∙ c.in_default.is),
     )
 
 pub find-returns : goal.find-returns
@@ -66,11 +65,11 @@ find_at-returns-in-Some g t c s k most =
     let inside : c.saturating_add-inside.result ≡ suc n = omega (arith, c.saturating_add-inside.ensures, whole, most) in
     let there = c.find.ensures s k (omega (arith, inside, whole, parts, count, most)) in
     sym (
-      in_branch_first x n c.in-Some.found s (item_of stmt).mark (item_of stmt).deed (rhs_of c.in-If.field-0) (block_of c.in-If.a.items) (block_of c.in-If.b.items) k is
-      (sym c.is_labelled.ensures ∙ c.if-is_labelled.false)
-      (ap (λ l. place x (numbered (suc n) (resolve_block s (block_of l))) k) (sym a)
-      ∙ ap (λ j. place x (numbered j (resolve_block s (block_of c.deref.result.now))) k) (sym inside)
-      ∙ sym there ∙ c.in-Some.is)
+    in_branch_first x n c.in-Some.found s (item_of stmt).mark (item_of stmt).deed (rhs_of c.in-If.field-0) (block_of c.in-If.a.items) (block_of c.in-If.b.items) k is
+    (sym c.is_labelled.ensures ∙ c.if-is_labelled.false)
+    (ap (λ l. place x (numbered (suc n) (resolve_block s (block_of l))) k) (sym a)
+    ∙ ap (λ j. place x (numbered j (resolve_block s (block_of c.deref.result.now))) k) (sym inside)
+    ∙ sym there ∙ c.in-Some.is)
     )
 
 pub find_at-returns-in-None : goal.find_at-returns-in-None
@@ -93,14 +92,14 @@ find_at-returns-in-None g t c s k most =
     let first = c.find.ensures s k (omega (arith, inside, whole, parts, count, most)) in
     let second = c.find-in-None.ensures s k (omega (arith, j, whole, parts, count_b, most)) in
     sym (
-      in_branch_second x n c.saturating_add.result s (item_of stmt).mark (item_of stmt).deed (rhs_of c.in-If.field-0) (block_of c.in-If.a.items) (block_of c.in-If.b.items) k is
-      (sym c.is_labelled.ensures ∙ c.if-is_labelled.false)
-      (ap (λ l. place x (numbered (suc n) (resolve_block s (block_of l))) k) (sym a)
-      ∙ ap (λ i. place x (numbered i (resolve_block s (block_of c.deref.result.now))) k) (sym inside)
-      ∙ sym first ∙ c.in-None.is)
-      j
-      ∙ ap (λ l. place x (numbered c.saturating_add.result (resolve_block s (block_of l))) k) (sym b)
-      ∙ sym second
+    in_branch_second x n c.saturating_add.result s (item_of stmt).mark (item_of stmt).deed (rhs_of c.in-If.field-0) (block_of c.in-If.a.items) (block_of c.in-If.b.items) k is
+    (sym c.is_labelled.ensures ∙ c.if-is_labelled.false)
+    (ap (λ l. place x (numbered (suc n) (resolve_block s (block_of l))) k) (sym a)
+    ∙ ap (λ i. place x (numbered i (resolve_block s (block_of c.deref.result.now))) k) (sym inside)
+    ∙ sym first ∙ c.in-None.is)
+    j
+    ∙ ap (λ l. place x (numbered c.saturating_add.result (resolve_block s (block_of l))) k) (sym b)
+    ∙ sym second
     )
 
 pub find_at-returns-in-While : goal.find_at-returns-in-While
@@ -117,8 +116,8 @@ find_at-returns-in-While g t c s k most =
     let again = loop (marked n (resolve_mark (item_of stmt).mark)) (resolve_side s (rhs_of c.in-While.field-0)) (numbered (suc n) (resolve_block s (block_of c.in-While.a.items))) k in
     let there = c.find-in-While.ensures s again (omega (arith, inside, whole, parts, count, most)) in
     sym (
-      in_loop x n s (item_of stmt).mark (item_of stmt).deed (rhs_of c.in-While.field-0) (block_of c.in-While.a.items) k is (sym c.is_labelled.ensures ∙ c.if-is_labelled.false)
-      ∙ ap (λ l. place x (numbered (suc n) (resolve_block s (block_of l))) again) (sym a)
-      ∙ ap (λ j. place x (numbered j (resolve_block s (block_of c.deref-in-While.result.now))) again) (sym inside)
-      ∙ sym there
+    in_loop x n s (item_of stmt).mark (item_of stmt).deed (rhs_of c.in-While.field-0) (block_of c.in-While.a.items) k is (sym c.is_labelled.ensures ∙ c.if-is_labelled.false)
+    ∙ ap (λ l. place x (numbered (suc n) (resolve_block s (block_of l))) again) (sym a)
+    ∙ ap (λ j. place x (numbered j (resolve_block s (block_of c.deref-in-While.result.now))) again) (sym inside)
+    ∙ sym there
     )

@@ -1,11 +1,10 @@
 -- The label stands where it stands among the other statements, the first of which has the number reached.
-use Rattle.std.proofs.Common.{◌≡◌, ◌≤◌, ◌+◌, ◌*◌, drop, option_map}
+use Rattle.std.proofs.Common.{◌≡◌, ◌≤◌, ◌+◌, ◌*◌, drop}
 use Rattle.language.specs.Resolve.{Scope, resolve_block}
-use Rattle.language.specs.Rest.{Code, rest_from}
+use Rattle.language.specs.Rest.{Code}
 use Rattle.language.specs.Sequential.{statements, numbered}
 use Rattle.syntax.specs.Trees.{deed_of, block_of}
 use Rattle.syntax.proofs.Held.{held}
-use Rattle.flow_graph.specs.Nodes.{at}
 use Rattle.flow_graph.proofs.Searching.{place}
 use Rattle.flow_graph.proofs.labels.+finding.Given as goal
 

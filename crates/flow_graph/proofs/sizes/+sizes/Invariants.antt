@@ -1,5 +1,5 @@
 -- What is counted so far, with what the other statements count; each call's measure is what it still has to count.
-use Rattle.std.proofs.Common.{◌≡◌, ◌≤◌, ◌+◌, ◌*◌, ◌∷◌, [], drop}
+use Rattle.std.proofs.Common.{◌≡◌, ◌≤◌, ◌+◌, ◌*◌, drop}
 use Rattle.language.specs.Sequential.{statements}
 use Rattle.syntax.specs.Trees.{deed_of, block_of}
 use Rattle.syntax.proofs.Held.{held}

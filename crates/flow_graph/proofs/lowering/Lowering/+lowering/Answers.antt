@@ -1,5 +1,5 @@
 -- Statements are lowered one after the other, and those inside of each behind it.
-use Rattle.std.proofs.Common.{◌≡◌, ◌≤◌, ◌<◌, ◌+◌, ◌*◌, suc, List, [], ◌∷◌, ◌++◌, length, map, refl, sym, ◌∙◌, ap, subst, arith, length-append}
+use Rattle.std.proofs.Common.{◌≡◌, ◌<◌, ◌+◌, ◌*◌, suc, [], ◌∷◌, ◌++◌, length, map, refl, sym, ◌∙◌, ap, subst, arith, length-append}
 use Rattle.std.proofs.lemmas.List.{nil_from_length}
 use Rattle.language.specs.Tree.{loop}
 use Rattle.language.specs.Resolve.{resolve_mark, resolve_side, resolve_block}
@@ -9,13 +9,12 @@ use Rattle.language.specs.Flow.{rests}
 use Rattle.syntax.specs.Trees.{item_of, deed_of, block_of, rhs_of}
 use Rattle.syntax.proofs.Held.{held, first_counts}
 use Rattle.syntax.proofs.Folds.{item_deed, deed_of-If, deed_of-While}
-use Rattle.syntax.proofs.Plain.{is_simple}
 use Rattle.flow_graph.specs.Nodes.{at, node_of}
 use Rattle.flow_graph.specs.Flows.{Lowered}
-use Rattle.flow_graph.specs.Lowering.{scope_of, body_of, code_from, IsCounted, DoesIn, LoweredIn}
+use Rattle.flow_graph.specs.Lowering.{scope_of, body_of, code_from, DoesIn}
 use Rattle.flow_graph.proofs.Counted.{alone_counts, split_counts}
 use Rattle.flow_graph.proofs.Doing.{if_ok}
-use Rattle.flow_graph.proofs.Lowered.{nodes_split, nodes_simple, nodes_branch, nodes_repeat, lowered_then, lowered_none, lowered_one}
+use Rattle.flow_graph.proofs.Lowered.{nodes_split, nodes_branch, nodes_repeat, lowered_then, lowered_none, lowered_one}
 use Rattle.flow_graph.proofs.lowering.Lowering.+lowering.Goals as goal
 
 pub block-loop-stmt-init : goal.block-loop-stmt-init
@@ -49,14 +48,14 @@ block-loop-stmt-preserved g t c =
       omega (arith, c.loop-stmt.invariant.0, whole, split),
       omega (arith, c.loop-stmt.invariant.1, lowered.0, whole, split),
       λ k new at_k few h.
-        let one = c.size_of.ensures (omega (arith, lowered.0, small)) in
-        let behind : c.saturating_add-behind.result ≡ length mid = omega (arith, c.saturating_add-behind.ensures, c.len.ensures, c.loop-stmt.flows.ok.0, one, lowered.0, small) in
-        let next = c.begin.ensures s k at_k ∙ ap (λ j. at (join (numbered j (resolve_block s (block_of more))) k)) behind in
-        let first = lowered.1 (join (code_from me (length mid) more) k) (sym next) (few.0, omega (arith, lowered.0, small)) in
-        c.loop-stmt.invariant.2 k new at_k few
-        (subst (λ ns. Lowered old new ns (length s.globals) (length s.locals) (length s.procedures))
-        (sym (ap (λ x. map (node_of (body_of me)) (rests (code_from me (length old) x) k)) e ∙ nodes_split (body_of me) (length old) (length mid) s stmt more k lowered.0))
-        (lowered_then old mid new _ _ _ _ _ first h)),
+          let one = c.size_of.ensures (omega (arith, lowered.0, small)) in
+          let behind : c.saturating_add-behind.result ≡ length mid = omega (arith, c.saturating_add-behind.ensures, c.len.ensures, c.loop-stmt.flows.ok.0, one, lowered.0, small) in
+          let next = c.begin.ensures s k at_k ∙ ap (λ j. at (join (numbered j (resolve_block s (block_of more))) k)) behind in
+          let first = lowered.1 (join (code_from me (length mid) more) k) (sym next) (few.0, omega (arith, lowered.0, small)) in
+          c.loop-stmt.invariant.2 k new at_k few
+          (subst (λ ns. Lowered old new ns (length s.globals) (length s.locals) (length s.procedures))
+          (sym (ap (λ x. map (node_of (body_of me)) (rests (code_from me (length old) x) k)) e ∙ nodes_split (body_of me) (length old) (length mid) s stmt more k lowered.0))
+          (lowered_then old mid new _ _ _ _ _ first h)),
     )
 
 pub block-returns : goal.block-returns
@@ -67,9 +66,9 @@ block-returns g t c =
     let none = nil_from_length c.loop-stmt.rest.now c.in_default.ensures.cases in (
       omega (arith, c.loop-stmt.invariant.1, ap (λ l. statements (block_of l)) none),
       λ k at_k few.
-        c.loop-stmt.invariant.2 k old at_k few
-        (subst (λ x. Lowered old old (map (node_of (body_of me)) (rests (code_from me (length old) x) k)) (length s.globals) (length s.locals) (length s.procedures)) (sym none)
-        (lowered_none old (length s.globals) (length s.locals) (length s.procedures))),
+          c.loop-stmt.invariant.2 k old at_k few
+          (subst (λ x. Lowered old old (map (node_of (body_of me)) (rests (code_from me (length old) x) k)) (length s.globals) (length s.locals) (length s.procedures)) (sym none)
+          (lowered_none old (length s.globals) (length s.locals) (length s.procedures))),
     )
 
 pub statement-returns-in_ok-block-in-If : goal.statement-returns-in_ok-block-in-If
@@ -98,16 +97,16 @@ statement-returns-in_ok-block-in-If g t c =
     (λ u second. (
       omega (arith, next, first.0, second.0, count_a, count_b, whole, parts),
       λ k at_k few.
-        let node = node_of (body_of me) (join (code_from me (length old) (stmt ∷ [])) k) in
-        let does = subst (λ n. DoesIn me f (node_of (body_of me) (join (code_from me n (stmt ∷ [])) k))) number
+          let node = node_of (body_of me) (join (code_from me (length old) (stmt ∷ [])) k) in
+          let does = subst (λ n. DoesIn me f (node_of (body_of me) (join (code_from me n (stmt ∷ [])) k))) number
           (c.in_ok-flow.ensures k at_k (few.0, omega (arith, few.1, number))) in
-        let here = first.1 k at_k (few.0, omega (arith, few.1, next, count_a, whole, parts)) in
-        let there = second.1 k at_k (few.0, omega (arith, few.1, first.0, next, count_a, count_b, whole, parts)) in
-        subst (λ ns. Lowered old new ns (length s.globals) (length s.locals) (length s.procedures))
-        (sym (nodes_branch (body_of me) (length old) (length one) (length mid) s i.mark i.deed (rhs_of c.in-If.field-0) (block_of c.in-If.a.items) (block_of c.in-If.b.items) k (item_deed stmt ∙ core)
-        next (omega (arith, first.0, next, count_a))
-        ∙ λ t. node ∷ (map (node_of (body_of me)) (rests (code_from me (length one) (sym a t)) k) ++ map (node_of (body_of me)) (rests (code_from me (length mid) (sym b t)) k))))
-        (lowered_then old one new (node ∷ []) _ _ _ _ (lowered_one old one f node _ _ _ pushed does) (lowered_then one mid new _ _ _ _ _ here there)),
+          let here = first.1 k at_k (few.0, omega (arith, few.1, next, count_a, whole, parts)) in
+          let there = second.1 k at_k (few.0, omega (arith, few.1, first.0, next, count_a, count_b, whole, parts)) in
+          subst (λ ns. Lowered old new ns (length s.globals) (length s.locals) (length s.procedures))
+          (sym (nodes_branch (body_of me) (length old) (length one) (length mid) s i.mark i.deed (rhs_of c.in-If.field-0) (block_of c.in-If.a.items) (block_of c.in-If.b.items) k (item_deed stmt ∙ core)
+          next (omega (arith, first.0, next, count_a))
+          ∙ λ t. node ∷ (map (node_of (body_of me)) (rests (code_from me (length one) (sym a t)) k) ++ map (node_of (body_of me)) (rests (code_from me (length mid) (sym b t)) k))))
+          (lowered_then old one new (node ∷ []) _ _ _ _ (lowered_one old one f node _ _ _ pushed does) (lowered_then one mid new _ _ _ _ _ here there)),
     ))
     c.block-in-If.ensures
 
@@ -133,14 +132,14 @@ statement-returns-in-While g t c =
     (λ u inside. (
       omega (arith, next, inside.0, count, whole, parts),
       λ k at_k few.
-        let node = node_of (body_of me) (join (code_from me (length old) (stmt ∷ [])) k) in
-        let again = loop (marked (length old) (resolve_mark i.mark)) (resolve_side s (rhs_of c.in-While.field-0)) (numbered (suc (length old)) (resolve_block s (block_of c.in-While.a.items))) k in
-        let does = subst (λ n. DoesIn me f (node_of (body_of me) (join (code_from me n (stmt ∷ [])) k))) number
+          let node = node_of (body_of me) (join (code_from me (length old) (stmt ∷ [])) k) in
+          let again = loop (marked (length old) (resolve_mark i.mark)) (resolve_side s (rhs_of c.in-While.field-0)) (numbered (suc (length old)) (resolve_block s (block_of c.in-While.a.items))) k in
+          let does = subst (λ n. DoesIn me f (node_of (body_of me) (join (code_from me n (stmt ∷ [])) k))) number
           (c.in_ok-flow.ensures k at_k (few.0, omega (arith, few.1, number))) in
-        let here = inside.1 again (sym number) (few.0, omega (arith, few.1, next, count, whole, parts)) in
-        subst (λ ns. Lowered old new ns (length s.globals) (length s.locals) (length s.procedures))
-        (sym (nodes_repeat (body_of me) (length old) (length one) s i.mark i.deed (rhs_of c.in-While.field-0) (block_of c.in-While.a.items) k (item_deed stmt ∙ core) next
-        ∙ λ t. node ∷ map (node_of (body_of me)) (rests (code_from me (length one) (sym a t)) again)))
-        (lowered_then old one new (node ∷ []) _ _ _ _ (lowered_one old one f node _ _ _ pushed does) here),
+          let here = inside.1 again (sym number) (few.0, omega (arith, few.1, next, count, whole, parts)) in
+          subst (λ ns. Lowered old new ns (length s.globals) (length s.locals) (length s.procedures))
+          (sym (nodes_repeat (body_of me) (length old) (length one) s i.mark i.deed (rhs_of c.in-While.field-0) (block_of c.in-While.a.items) k (item_deed stmt ∙ core) next
+          ∙ λ t. node ∷ map (node_of (body_of me)) (rests (code_from me (length one) (sym a t)) again)))
+          (lowered_then old one new (node ∷ []) _ _ _ _ (lowered_one old one f node _ _ _ pushed does) here),
     ))
     c.block-in-While.ensures

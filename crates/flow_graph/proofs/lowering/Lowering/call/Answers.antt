@@ -1,7 +1,6 @@
 -- Each argument is compiled; a call that no run makes is none.
-use Rattle.std.proofs.Common.{◌≡◌, ◌+◌, ◌<◌, ◌≤◌, ◌++◌, ◌∷◌, [], drop, length, map, inl, inr, refl, sym, ◌∙◌, ap, subst, arith, length-append}
-use Rattle.std.proofs.lemmas.List.{drop_more, drop_all, length-map, append-nil, append_assoc, map-append}
-use Rattle.std.specs.String.{string_bytes}
+use Rattle.std.proofs.Common.{◌≡◌, ◌+◌, ◌++◌, ◌∷◌, [], drop, length, map, inl, inr, sym, ◌∙◌, ap, arith, length-append}
+use Rattle.std.proofs.lemmas.List.{drop_more, drop_all, length-map, append-nil}
 use Rattle.language.specs.Value.{value_of, values_of}
 use Rattle.language.specs.Resolve.{number_of, resolve_expression}
 use Rattle.syntax.specs.Trees.{name_of, expr_of, exprs_of, proc_of, procs_of}
@@ -37,10 +36,10 @@ loop-e-preserved g c =
     let next = drop_more es i c.e-item.result c.loop-e-test.true ∙ ap (λ x. x ∷ drop (i + 1) es) (sym c.e-item.is) in (
       omega (arith, c.loop-e.invariant.0, ap length c.in_ok-push.ensures.items, length-append old (f ∷ [])),
       λ gs ls wide.
-        ap (λ l. map (λ f. says f (coded (gs ++ ls))) l ++ values_of gs ls (map (resolve_expression s) (exprs_of (drop (i + 1) es)))) c.in_ok-push.ensures.items
-        ∙ more_said (λ f. says f (coded (gs ++ ls))) old f (value_of gs ls (resolve_expression s (expr_of c.e-item.result))) (values_of gs ls (map (resolve_expression s) (exprs_of (drop (i + 1) es)))) (c.in_ok-formula.ensures gs ls wide)
-        ∙ ap (λ l. map (λ f. says f (coded (gs ++ ls))) old ++ values_of gs ls (map (resolve_expression s) (exprs_of l))) (sym next)
-        ∙ c.loop-e.invariant.1 gs ls wide,
+          ap (λ l. map (λ f. says f (coded (gs ++ ls))) l ++ values_of gs ls (map (resolve_expression s) (exprs_of (drop (i + 1) es)))) c.in_ok-push.ensures.items
+          ∙ more_said (λ f. says f (coded (gs ++ ls))) old f (value_of gs ls (resolve_expression s (expr_of c.e-item.result))) (values_of gs ls (map (resolve_expression s) (exprs_of (drop (i + 1) es)))) (c.in_ok-formula.ensures gs ls wide)
+          ∙ ap (λ l. map (λ f. says f (coded (gs ++ ls))) old ++ values_of gs ls (map (resolve_expression s) (exprs_of l))) (sym next)
+          ∙ c.loop-e.invariant.1 gs ls wide,
     )
 
 pub returns : goal.returns
@@ -54,6 +53,6 @@ returns g c =
     let callee = c.number_of_procedure-callee.ensures ∙ e in
     does_calls _ _ (map (resolve_expression s) (exprs_of es)) s _ callee (sym globals) (omega (arith, callee, count, c.if-callee-self.false))
     (λ gs ls wide.
-      sym (append-nil (map (λ f. says f (coded (gs ++ ls))) c.loop-e.arguments.items))
-      ∙ ap (λ l. map (λ f. says f (coded (gs ++ ls))) c.loop-e.arguments.items ++ values_of gs ls (map (resolve_expression s) (exprs_of l))) (sym (drop_all c.loop-e.e-index es c.loop-e-test.false))
-      ∙ c.loop-e.invariant.1 gs ls wide)
+    sym (append-nil (map (λ f. says f (coded (gs ++ ls))) c.loop-e.arguments.items))
+    ∙ ap (λ l. map (λ f. says f (coded (gs ++ ls))) c.loop-e.arguments.items ++ values_of gs ls (map (resolve_expression s) (exprs_of l))) (sym (drop_all c.loop-e.e-index es c.loop-e-test.false))
+    ∙ c.loop-e.invariant.1 gs ls wide)

@@ -1,5 +1,5 @@
 -- What the formulas so far say, and then the other arguments, are the values of all arguments.
-use Rattle.std.proofs.Common.{◌≡◌, ◌+◌, ◌++◌, Bool, List, drop, length, map}
+use Rattle.std.proofs.Common.{◌≡◌, ◌++◌, Bool, List, drop, length, map}
 use Rattle.language.specs.Value.{values_of}
 use Rattle.language.specs.Resolve.{resolve_expression}
 use Rattle.syntax.specs.Trees.{exprs_of}

@@ -1,11 +1,9 @@
 -- Where the label is found, the run goes on at its point, else nowhere.
-use Rattle.std.proofs.Common.{◌≡◌, ◌+◌, ◌≤◌, Option, option_map, sym, ◌∙◌, ap, subst, arith}
+use Rattle.std.proofs.Common.{option_map, sym, ◌∙◌, ap, subst, arith}
 use Rattle.std.specs.String.{string_bytes}
 use Rattle.language.specs.Tree.{done}
-use Rattle.language.specs.Rest.{Code, rest_from}
-use Rattle.language.specs.Sequential.{statements}
-use Rattle.syntax.specs.Trees.{block_of}
-use Rattle.flow_graph.specs.Nodes.{at, goes, goes_to}
+use Rattle.language.specs.Rest.{rest_from}
+use Rattle.flow_graph.specs.Nodes.{at, goes}
 use Rattle.flow_graph.specs.Lowering.{body_of, scope_of, DoesIn}
 use Rattle.flow_graph.proofs.Doing.{if_ok}
 use Rattle.flow_graph.proofs.Lowered.{goes_found, goes_lost}
@@ -15,11 +13,11 @@ pub returns-in-Some : goal.returns-in-Some
 returns-in-Some g c =
     if_ok c.going.result (λ f. DoesIn c.args.self.now f (goes c.in-Some.to)) _
     (λ f d few.
-      let found = c.find.ensures (scope_of c.args.self.now) done (omega (arith, few)) in
-      subst (DoesIn c.args.self.now f)
-      (sym (goes_found (rest_from (string_bytes c.args.label.now.text) (body_of c.args.self.now) done) c.in-Some.to
-      (ap (λ x. option_map at (rest_from x (body_of c.args.self.now) done)) (sym c.as_str.ensures.value) ∙ sym found ∙ c.in-Some.is)))
-      d)
+    let found = c.find.ensures (scope_of c.args.self.now) done (omega (arith, few)) in
+    subst (DoesIn c.args.self.now f)
+    (sym (goes_found (rest_from (string_bytes c.args.label.now.text) (body_of c.args.self.now) done) c.in-Some.to
+    (ap (λ x. option_map at (rest_from x (body_of c.args.self.now) done)) (sym c.as_str.ensures.value) ∙ sym found ∙ c.in-Some.is)))
+    d)
     c.going.ensures
 
 pub returns-in-None : goal.returns-in-None

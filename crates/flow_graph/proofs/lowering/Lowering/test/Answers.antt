@@ -1,10 +1,9 @@
 -- Where both points are one, nothing is tested.
-use Rattle.std.proofs.Common.{◌≡◌}
 use Rattle.language.specs.Resolve.{resolve_side}
 use Rattle.syntax.specs.Trees.{rhs_of}
 use Rattle.flow_graph.specs.Nodes.{goes, tests}
 use Rattle.flow_graph.specs.Lowering.{scope_of, DoesIn}
-use Rattle.flow_graph.proofs.Doing.{does_same, does_tests, if_ok}
+use Rattle.flow_graph.proofs.Doing.{does_same, if_ok}
 use Rattle.flow_graph.proofs.lowering.Lowering.test.Goals as goal
 
 pub returns-then-yes-no : goal.returns-then-yes-no
