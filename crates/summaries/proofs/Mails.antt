@@ -1,9 +1,13 @@
 -- Messages that compare as equal are the same.
-use Rattle.std.proofs.Common.{◌≡◌, ℕ, Bool, true, false, ◌&&◌, nat_eq, List, [], ◌∷◌, inl, inr, refl, sym, ap, ◌∙◌, true≢false, ◌||◌, not}
+use Rattle.std.proofs.Common.{◌≡◌, ◌≤◌, ◌+◌, ℕ, Bool, true, false, ◌&&◌, nat_eq, List, [], ◌∷◌, ◌++◌, length, if◌then◌else◌, inl, inr, refl, sym, ap, ◌∙◌, subst, true≢false, ◌||◌, not, Result, Ok, Err, arith}
+use Rattle.std.specs.Result.{IfOk, OnErr}
 use Rattle.std.specs.Bool.{OnTrue, OnFalse}
 use Rattle.std.specs.List.{list_any}
 use Rattle.std.proofs.lemmas.Map.Views.{exact_unsigned_eq}
 use Rattle.language.specs.Flow.{Member}
+use Rattle.language.proofs.Members.{member_append}
+use Rattle.path_sets.specs.Triples.{NoneTwice}
+use Rattle.indexmap.specs.IndexSet.{insert_key}
 use Rattle.summaries.specs.declared.due.Caller.{Caller}
 use Rattle.summaries.specs.declared.due.Caller.TheVariants.{Starter, Proc}
 use Rattle.summaries.specs.declared.due.Due.{Due}
@@ -75,3 +79,34 @@ fresh_or_known k ks false e = (tt, found_is_in eq-value.it same_mail k ks (by (l
     by : (b : Bool) → false ≡ not b → b ≡ true
     by true h = refl
     by false h = absurd (true≢false (sym h))
+
+-- nothing stands twice in a list with one more that was not in it
+pub none_twice_with : {K : Type 0} (k : K) (ks : List K) → (Member k ks → ⊥) → NoneTwice ks → NoneTwice (ks ++ k ∷ [])
+none_twice_with k [] new once = (λ m. elim m [ ], tt)
+none_twice_with k (x ∷ xs) new (x_once, once) = (
+  λ m. elim (member_append x xs (k ∷ []) m) [
+    | inl old ↦ x_once old
+    | inr last ↦ elim last [ inl e ↦ new (inl (sym e)) | inr none ↦ elim none [ ] ]
+  ],
+  none_twice_with k xs (λ m. new (inr m)) once,
+)
+
+-- and so it is where a message is inserted
+pub still_once : (k : Mail) (ks : List Mail) → NoneTwice ks → NoneTwice (insert_key eq-value.it ks k)
+still_once k ks once = by (list_any (eq-value.it k) ks) refl
+  where
+    by : (b : Bool) → list_any (eq-value.it k) ks ≡ b → NoneTwice (if b then ks else ks ++ k ∷ [])
+    by true e = once
+    by false e = none_twice_with k ks (λ m. true≢false (sym (is_found eq-value.it laws-law.refl k ks m) ∙ e)) once
+
+module _ {E : Type 0} (k : Mail) (ks after : List Mail) where
+  -- what an insert leaves, refused or not, has nothing twice
+  pub once_after : (r : Result Bool E) → IfOk r (λ _. after ≡ insert_key eq-value.it ks k) → OnErr r (after ≡ ks) → NoneTwice ks → NoneTwice after
+  once_after (Ok _) added same once = subst NoneTwice (sym added) (still_once k ks once)
+  once_after (Err _) added same once = subst NoneTwice (sym same) once
+
+  -- and is no shorter
+  pub within_after : (n : ℕ) (r : Result Bool E) → IfOk r (λ added. length after ≡ length ks + (if added then 1 else 0)) → OnErr r (after ≡ ks) → n ≤ length ks → n ≤ length after
+  within_after n (Ok true) longer same within = omega arith
+  within_after n (Ok false) longer same within = omega arith
+  within_after n (Err _) longer same within = subst (λ ms. n ≤ length ms) (sym same) within

@@ -3,6 +3,7 @@
 ghost use Rattle.std.specs.Prelude.{◌≡◌, ◌≤◌, ◌∷◌, [], ◌++◌, length, IfOk, OnErr, IfSome, IfNone};
 ghost use Rattle.std.specs.Bool.{OnTrue, OnFalse};
 ghost use Rattle.language.specs.Flow.{Member};
+ghost use Rattle.path_sets.specs.Triples.{NoneTwice, NoneTwice-prop};
 ghost use Rattle.summaries.specs.Waiting.{mail, waiting};
 
 use crate::due::Due;
@@ -23,6 +24,7 @@ pub(crate) struct Given<A: Allocator> {
     pub(crate) mails: IndexSet<Mail, BuildHasherDefault<FoldHasher>, A>,
     pub(crate) answered: usize,
     ghost within: { answered ≤ length mails.keys },
+    ghost once: { NoneTwice mails.keys } by { NoneTwice-prop mails.keys },
 }
 
 impl<A: Allocator + Copy> Given<A> {

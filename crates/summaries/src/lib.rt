@@ -9,6 +9,8 @@ mod found;
 mod given;
 mod groups;
 mod laws;
+#[cfg(test)]
+mod tests;
 
 pub use due::{Caller, Due};
 pub use edge_limit::EdgeLimit;
