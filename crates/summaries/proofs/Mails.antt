@@ -1,0 +1,112 @@
+-- Messages that compare as equal are the same.
+use Rattle.std.proofs.Common.{◌≡◌, ◌≤◌, ◌+◌, ℕ, Bool, true, false, ◌&&◌, nat_eq, List, [], ◌∷◌, ◌++◌, length, if◌then◌else◌, inl, inr, refl, sym, ap, ◌∙◌, subst, true≢false, ◌||◌, not, Result, Ok, Err, arith}
+use Rattle.std.specs.Result.{IfOk, OnErr}
+use Rattle.std.specs.Bool.{OnTrue, OnFalse}
+use Rattle.std.specs.List.{list_any}
+use Rattle.std.proofs.lemmas.Map.Views.{exact_unsigned_eq}
+use Rattle.language.specs.Flow.{Member}
+use Rattle.language.proofs.Members.{member_append}
+use Rattle.path_sets.specs.Triples.{NoneTwice}
+use Rattle.indexmap.specs.IndexSet.{insert_key}
+use Rattle.summaries.specs.declared.due.Caller.{Caller}
+use Rattle.summaries.specs.declared.due.Caller.TheVariants.{Starter, Proc}
+use Rattle.summaries.specs.declared.due.Due.{Due}
+use Rattle.summaries.specs.declared.due.Due.TheVariants.{Entry, Summary}
+use Rattle.summaries.specs.declared.given.Mail.{Mail}
+use Rattle.summaries.specs.contracts.given.MailPartialEq.TheImpl.{eq-value}
+use Rattle.summaries.specs.contracts.given.MailEq.TheImpl.Laws.{laws-law}
+use Rattle.summaries.specs.Waiting.{mail}
+
+-- a conjunction's parts
+both : (a b : Bool) → (a && b) ≡ true → (a ≡ true) × (b ≡ true)
+both true b h = (refl, h)
+both false b h = absurd (true≢false (sym h))
+
+-- callers that compare as equal are the same
+same_caller : (s t a b : ℕ) (x y : Caller) → eq-value.it (mail s (Entry x a)) (mail t (Entry y b)) ≡ true → (s ≡ t) × (a ≡ b) × (x ≡ y)
+unfolding both
+same_caller s t a b Starter Starter e =
+    let r = both (nat_eq s t) (nat_eq a b) e in
+    (exact_unsigned_eq s t r.0, exact_unsigned_eq a b r.1, refl)
+same_caller s t a b (Proc c) (Proc d) e =
+    let r = both (nat_eq s t) (nat_eq c d && nat_eq a b) e in
+    let u = both (nat_eq c d) (nat_eq a b) r.1 in
+    (exact_unsigned_eq s t r.0, exact_unsigned_eq a b u.1, ap Proc (exact_unsigned_eq c d u.0))
+same_caller s t a b Starter (Proc d) e = absurd (true≢false (sym (both (nat_eq s t) false e).1))
+same_caller s t a b (Proc c) Starter e = absurd (true≢false (sym (both (nat_eq s t) false e).1))
+
+-- messages that compare as equal are the same
+pub same_mail : (x y : Mail) → eq-value.it x y ≡ true → x ≡ y
+same_mail x y e = by x.to y.to x.due y.due e
+  where
+    by : (s t : ℕ) (d f : Due) → eq-value.it (mail s d) (mail t f) ≡ true → mail s d ≡ mail t f
+    by s t (Entry c a) (Entry d b) e = let r = same_caller s t a b c d e in λ j. mail (r.0 j) (Entry (r.2 j) (r.1 j))
+    by s t (Summary p a u) (Summary q b v) e =
+        let r = both (nat_eq s t) (nat_eq p q && (nat_eq a b && nat_eq u v)) e in
+        let k = both (nat_eq p q) (nat_eq a b && nat_eq u v) r.1 in
+        let l = both (nat_eq a b) (nat_eq u v) k.1 in
+        λ j. mail (exact_unsigned_eq s t r.0 j) (Summary (exact_unsigned_eq p q k.0 j) (exact_unsigned_eq a b l.0 j) (exact_unsigned_eq u v l.1 j))
+    by s t (Entry c a) (Summary q b v) e = absurd (true≢false (sym (both (nat_eq s t) false e).1))
+    by s t (Summary p a u) (Entry d b) e = absurd (true≢false (sym (both (nat_eq s t) false e).1))
+
+module _ {K : Type 0} (eq : K → K → Bool) where
+  -- a key that is found is in the list, where equal keys are the same
+  pub found_is_in : ((x y : K) → eq x y ≡ true → x ≡ y) → (k : K) (ks : List K) → list_any (eq k) ks ≡ true → Member k ks
+  found_is_in same k [] h = absurd (true≢false (sym h))
+  found_is_in same k (x ∷ xs) h = by (eq k x) refl h (found_is_in same k xs)
+    where
+      by : (b : Bool) → eq k x ≡ b → (b || list_any (eq k) xs) ≡ true → (list_any (eq k) xs ≡ true → Member k xs) → Member k (x ∷ xs)
+      by true e h rest = inl (same k x e)
+      by false e h rest = inr (rest h)
+
+  -- a key that is in the list is found
+  pub is_found : ((x : K) → eq x x ≡ true) → (k : K) (ks : List K) → Member k ks → list_any (eq k) ks ≡ true
+  is_found itself k [] m = elim m [ ]
+  is_found itself k (x ∷ xs) (inl e) = ap (λ b. b || list_any (eq k) xs) (ap (eq k) (sym e) ∙ itself k)
+  is_found itself k (x ∷ xs) (inr m) = by (eq k x) (is_found itself k xs m)
+    where
+      by : (b : Bool) → list_any (eq k) xs ≡ true → (b || list_any (eq k) xs) ≡ true
+      by true rest = refl
+      by false rest = rest
+
+-- which of the messages are given, by the answer of an insert
+pub fresh_or_known : (k : Mail) (ks : List Mail) (added : Bool) → added ≡ not (list_any (eq-value.it k) ks) →
+    OnTrue added (Member k ks → ⊥) × OnFalse added (Member k ks)
+fresh_or_known k ks true e =
+    (λ m. true≢false (e ∙ ap not (is_found eq-value.it laws-law.refl k ks m)), tt)
+fresh_or_known k ks false e = (tt, found_is_in eq-value.it same_mail k ks (by (list_any (eq-value.it k) ks) e))
+  where
+    by : (b : Bool) → false ≡ not b → b ≡ true
+    by true h = refl
+    by false h = absurd (true≢false (sym h))
+
+-- nothing stands twice in a list with one more that was not in it
+pub none_twice_with : {K : Type 0} (k : K) (ks : List K) → (Member k ks → ⊥) → NoneTwice ks → NoneTwice (ks ++ k ∷ [])
+none_twice_with k [] new once = (λ m. elim m [ ], tt)
+none_twice_with k (x ∷ xs) new (x_once, once) = (
+  λ m. elim (member_append x xs (k ∷ []) m) [
+    | inl old ↦ x_once old
+    | inr last ↦ elim last [ inl e ↦ new (inl (sym e)) | inr none ↦ elim none [ ] ]
+  ],
+  none_twice_with k xs (λ m. new (inr m)) once,
+)
+
+-- and so it is where a message is inserted
+pub still_once : (k : Mail) (ks : List Mail) → NoneTwice ks → NoneTwice (insert_key eq-value.it ks k)
+still_once k ks once = by (list_any (eq-value.it k) ks) refl
+  where
+    by : (b : Bool) → list_any (eq-value.it k) ks ≡ b → NoneTwice (if b then ks else ks ++ k ∷ [])
+    by true e = once
+    by false e = none_twice_with k ks (λ m. true≢false (sym (is_found eq-value.it laws-law.refl k ks m) ∙ e)) once
+
+module _ {E : Type 0} (k : Mail) (ks after : List Mail) where
+  -- what an insert leaves, refused or not, has nothing twice
+  pub once_after : (r : Result Bool E) → IfOk r (λ _. after ≡ insert_key eq-value.it ks k) → OnErr r (after ≡ ks) → NoneTwice ks → NoneTwice after
+  once_after (Ok _) added same once = subst NoneTwice (sym added) (still_once k ks once)
+  once_after (Err _) added same once = subst NoneTwice (sym same) once
+
+  -- and is no shorter
+  pub within_after : (n : ℕ) (r : Result Bool E) → IfOk r (λ added. length after ≡ length ks + (if added then 1 else 0)) → OnErr r (after ≡ ks) → n ≤ length ks → n ≤ length after
+  within_after n (Ok true) longer same within = omega arith
+  within_after n (Ok false) longer same within = omega arith
+  within_after n (Err _) longer same within = subst (λ ms. n ≤ length ms) (sym same) within

@@ -1,0 +1,4 @@
+pub mod Under
+pub mod Waiting
+pub mod Moves
+pub mod Found

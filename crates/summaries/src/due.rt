@@ -1,0 +1,31 @@
+//! What one procedure's table tells another.
+
+/// Who enters a procedure.
+#[derive(Clone, Copy, Debug, PartialEq, Eq, Hash)]
+pub enum Caller {
+    /// Nobody: procedure 0 is entered as the program starts.
+    Starter,
+    /// A call in the procedure of this number.
+    Proc(u8),
+}
+
+/// A message to a procedure. Valuations are numbers whose bits are the values of the places.
+#[derive(Clone, Copy, Debug, PartialEq, Eq, Hash)]
+pub enum Due {
+    /// The procedure is entered with the valuation `a`.
+    Entry {
+        /// Who enters it.
+        caller: Caller,
+        /// The valuation on entry.
+        a: u64,
+    },
+    /// A procedure that it calls leaves the globals `b` where it was entered with `a`.
+    Summary {
+        /// The procedure called.
+        p: u8,
+        /// The valuation on its entry.
+        a: u64,
+        /// The globals that it left.
+        b: u64,
+    },
+}

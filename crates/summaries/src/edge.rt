@@ -1,0 +1,24 @@
+//! Path edges of one procedure, and the calls on them.
+
+/// A path edge: the valuation on entry, the point, and the valuation there.
+#[derive(Clone, Copy, Debug, PartialEq, Eq)]
+pub(crate) struct Edge {
+    pub(crate) entry: u64,
+    pub(crate) point: u32,
+    pub(crate) values: u64,
+}
+
+/// A call: the procedure called and the valuation on its entry.
+#[derive(Clone, Copy, Debug, PartialEq, Eq, Hash)]
+pub(crate) struct Call {
+    pub(crate) callee: u8,
+    pub(crate) entered: u64,
+}
+
+/// Where a call stands: the entry of the procedure that calls, the point behind the call, and the valuation at the call.
+#[derive(Clone, Copy, Debug, PartialEq, Eq)]
+pub(crate) struct Site {
+    pub(crate) asked: u64,
+    pub(crate) next: u32,
+    pub(crate) values: u64,
+}

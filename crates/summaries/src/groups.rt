@@ -1,0 +1,52 @@
+//! Values that are found by a key.
+
+ghost use Rattle.std.specs.Prelude.{◌≡◌, [], ◌∷◌, ◌++◌, false, OnOk, OnErr};
+ghost use Rattle.summaries.specs.Under.{under};
+
+use indexmap::IndexMap;
+use std::alloc::{AllocError, Allocator};
+use std::hash::{BuildHasherDefault, FoldHasher, Hash};
+
+/// For each key the values that were added to it, in the order of adding.
+#[derive(Drop)]
+pub(crate) struct Groups<K: Eq + Hash + Drop, V: Drop, A: Allocator> {
+    pub(crate) by_key: IndexMap<K, Vec<V, A>, BuildHasherDefault<FoldHasher>, A>,
+}
+
+impl<K: Eq + Hash + Copy, V: Copy, A: Allocator + Copy> Groups<K, V, A> {
+    /// No values, which take no memory yet.
+    pub(crate) fn new(alloc: A) -> Self
+        ensures { (k : K) → under K.eq result.by_key k ≡ [] }
+    {
+        Groups {
+            by_key: IndexMap::new(alloc),
+        }
+    }
+
+    /// Adds a value to those of a key. Where memory is refused, each key has the values that it had.
+    pub(crate) fn add(&mut self, key: K, value: V) -> Result<(), AllocError>
+        ensures added { OnOk result (under K.eq self.new.by_key key ≡ under K.eq self.old.by_key key ++ value ∷ []) }
+        ensures others { OnOk result ((k : K) → K.eq key k ≡ false → under K.eq self.new.by_key k ≡ under K.eq self.old.by_key k) }
+        ensures err { OnErr result ((k : K) → under K.eq self.new.by_key k ≡ under K.eq self.old.by_key k) }
+    {
+        match self.by_key.get_index_of(&key) {
+            Some(at) => Ok(self.by_key[at].push(value)?),
+            None => {
+                let mut first = Vec::new(*self.by_key.allocator());
+                first.push(value)?;
+                self.by_key.insert(key, first)?;
+                Ok(())
+            }
+        }
+    }
+
+    /// The values of a key.
+    pub(crate) fn of(&self, key: K) -> &[V]
+        ensures { result.now ≡ under K.eq self.now.by_key key }
+    {
+        match self.by_key.get(&key) {
+            Some(values) => values.as_slice(),
+            None => &[],
+        }
+    }
+}

@@ -1,0 +1,17 @@
+//! Summaries of procedures: which path edges of one procedure are reached by the messages that its table has taken, and which
+//! messages the table then owes (summary edges after Ball and Rajamani 2000).
+#![tactic(auto)]
+
+mod due;
+mod edge;
+mod edge_limit;
+mod found;
+mod given;
+mod groups;
+mod laws;
+#[cfg(test)]
+mod tests;
+
+pub use due::{Caller, Due};
+pub use edge_limit::EdgeLimit;
+pub use laws::a_quiet_table_has_what_is_reached;
