@@ -11,7 +11,7 @@ const ALL: u64 = u64::MAX;
 /// Inserts, where the set is small enough.
 fn insert<A: Allocator, S: PathSet<A>>(
     set: &mut S,
-    edge: (u64, u32, u64),
+    edge: (u64, usize, u64),
 ) -> Result<bool, AllocError> {
     if set.len() > 1000 {
         return Err(AllocError);
@@ -19,7 +19,7 @@ fn insert<A: Allocator, S: PathSet<A>>(
     set.insert(edge.0, edge.1, edge.2)
 }
 
-fn contains<A: Allocator, S: PathSet<A>>(set: &S, edge: (u64, u32, u64)) -> bool {
+fn contains<A: Allocator, S: PathSet<A>>(set: &S, edge: (u64, usize, u64)) -> bool {
     set.contains(edge.0, edge.1, edge.2)
 }
 
@@ -39,11 +39,11 @@ fn three_edges_and_one_again(rt: HostRuntime) -> Result<(), Fail> {
     assert_eq!(rt; set.len(), 2);
     assert!(rt; insert(&mut set, (5, 0, 7))?);
     assert_eq!(rt; set.len(), 3);
-    for edge in [(5u64, 2u32, 7u64), (5, 2, 6), (5, 0, 7)] {
+    for edge in [(5u64, 2usize, 7u64), (5, 2, 6), (5, 0, 7)] {
         assert!(rt; contains(&set, edge));
     }
     for edge in [
-        (7u64, 2u32, 5u64),
+        (7u64, 2usize, 5u64),
         (5, 0, 6),
         (2, 5, 7),
         (6, 2, 7),
@@ -58,7 +58,7 @@ fn three_edges_and_one_again(rt: HostRuntime) -> Result<(), Fail> {
 fn one_valuation_at_two_points_and_of_two_entries(rt: HostRuntime) -> Result<(), Fail> {
     let mut set = ordered(rt.alloc());
     for edge in [
-        (1u64, 1u32, 1u64),
+        (1u64, 1usize, 1u64),
         (1, 2, 1),
         (2, 1, 1),
         (2, 2, 1),
@@ -77,11 +77,11 @@ fn one_valuation_at_two_points_and_of_two_entries(rt: HostRuntime) -> Result<(),
 fn least_and_greatest(rt: HostRuntime) -> Result<(), Fail> {
     let mut set = ordered(rt.alloc());
     let edges = [
-        (0u64, 0u32, 0u64),
-        (ALL, u32::MAX, ALL),
+        (0u64, 0usize, 0u64),
+        (ALL, usize::MAX, ALL),
         (0, 0, ALL),
         (ALL, 0, 0),
-        (0, u32::MAX, 0),
+        (0, usize::MAX, 0),
     ];
     for edge in edges {
         assert!(rt; insert(&mut set, edge)?);
@@ -96,11 +96,11 @@ fn least_and_greatest(rt: HostRuntime) -> Result<(), Fail> {
 }
 
 /// An edge at one of 7 points with one of 9 entries; 400 different ones, and then the first ones again.
-fn edge_of(number: u64) -> (u64, u32, u64) {
+fn edge_of(number: u64) -> (u64, usize, u64) {
     let number = number % 400;
     (
         number % 9,
-        (number % 7) as u32,
+        (number % 7) as usize,
         number.wrapping_mul(40_503) % 1000,
     )
 }

@@ -4,7 +4,7 @@
 #[derive(Clone, Copy, Debug, PartialEq, Eq)]
 pub(crate) struct Edge {
     pub(crate) entry: u64,
-    pub(crate) point: u32,
+    pub(crate) point: usize,
     pub(crate) values: u64,
 }
 
@@ -19,6 +19,6 @@ pub(crate) struct Call {
 #[derive(Clone, Copy, Debug, PartialEq, Eq)]
 pub(crate) struct Site {
     pub(crate) asked: u64,
-    pub(crate) next: u32,
+    pub(crate) next: usize,
     pub(crate) values: u64,
 }
