@@ -1,7 +1,7 @@
 -- How path edges and those pending grow, step by step.
 use Rattle.std.specs.Bool.{OnFalse}
 use Rattle.std.specs.Result.{IsErrAnd}
-use Rattle.std.proofs.Common.{◌≡◌, Bool, true, false, true≢false, List, [], ◌∷◌, ◌++◌, ◌⊎◌, inl, inr, refl, sym, ap, subst, ◌∙◌, ℕ, ◌+◌, ◌<◌, Result, Err, length, take, drop, get_or}
+use Rattle.std.proofs.Common.{◌≡◌, Bool, true, false, true≢false, List, [], ◌∷◌, ◌++◌, ◌⊎◌, inl, inr, refl, sym, ap, subst, ◌∙◌, ℕ, ◌+◌, ◌<◌, Result, Err, length, take, drop, get_or, if◌then◌else◌, arith, length-append}
 use Rattle.summaries.proofs.Firsts.{whole}
 use Rattle.std.proofs.lemmas.List.{take-append-drop}
 use Rattle.language.specs.Flow.{Member}
@@ -14,20 +14,21 @@ use Rattle.summaries.specs.Grows.{Grows, triple_of, edge_of, IsBehind}
 
 -- an edge that was there adds nothing
 pub known : (e : Edge) (old new : List Triple) (before : List Edge) (answer : Bool) → answer ≡ false → OnFalse answer (Member (triple_of e) old) →
-    ((t : Triple) → (Member t new → (t ≡ triple_of e) ⊎ Member t old) × ((t ≡ triple_of e) ⊎ Member t old → Member t new)) → Grows (λ t. t ≡ triple_of e) old new before before
-known e old new before true is there members = absurd (true≢false is)
-known e old new before false is there members = record {
+    ((t : Triple) → (Member t new → (t ≡ triple_of e) ⊎ Member t old) × ((t ≡ triple_of e) ⊎ Member t old → Member t new)) → length new ≡ length old + (if answer then 1 else 0) → Grows (λ t. t ≡ triple_of e) old new before before
+known e old new before true is there members longer = absurd (true≢false is)
+known e old new before false is there members longer = record {
   all = λ t w. (members t).1 (inl w);
   kept = λ t m. (members t).1 (inr m);
   only = λ t m. (members t).0 m;
   stays = λ x m. m;
   pending = λ t m. inl (elim ((members t).0 m) [ inl w ↦ subst (λ u. Member u old) (sym w) there | inr was ↦ was ]);
   edges = λ x m. inl m;
+  more = omega (arith, longer);
 }
 
 -- an edge that is new stands pending
-pub added : (e : Edge) (old new : List Triple) (before : List Edge) → ((t : Triple) → (Member t new → (t ≡ triple_of e) ⊎ Member t old) × ((t ≡ triple_of e) ⊎ Member t old → Member t new)) → Grows (λ t. t ≡ triple_of e) old new before (before ++ e ∷ [])
-added e old new before members = record {
+pub added : (e : Edge) (old new : List Triple) (before : List Edge) → ((t : Triple) → (Member t new → (t ≡ triple_of e) ⊎ Member t old) × ((t ≡ triple_of e) ⊎ Member t old → Member t new)) → length new ≡ length old + 1 → Grows (λ t. t ≡ triple_of e) old new before (before ++ e ∷ [])
+added e old new before members longer = record {
   all = λ t is. (members t).1 (inl is);
   kept = λ t m. (members t).1 (inr m);
   only = λ t m. (members t).0 m;
@@ -40,6 +41,7 @@ added e old new before members = record {
     | inl was ↦ inl was
     | inr last ↦ elim last [ inl is ↦ inr ((members (triple_of x)).1 (inl (ap triple_of is))) | inr none ↦ elim none [ ] ]
   ];
+  more = let l = length-append before (e ∷ []) in omega (arith, l, longer);
 }
 
 -- nothing more to add
@@ -51,6 +53,7 @@ nothing W edges pending none = record {
   stays = λ x m. m;
   pending = λ t m. inl m;
   edges = λ x m. inl m;
+  more = refl;
 }
 
 -- one step after another
@@ -73,6 +76,7 @@ both V W U old mid new before between after first second from to = record {
     | inl p ↦ elim (first.edges x p) [ inl was ↦ inl was | inr n ↦ inr (second.kept (triple_of x) n) ]
     | inr n ↦ inr n
   ];
+  more = let e = first.more in let f = second.more in omega (arith, e, f);
 }
 
 module _ (m : Moves) (site : Site) where
@@ -117,3 +121,8 @@ module _ (m : Moves) (site : Site) (bs : List ℕ) (i : ℕ) where
 -- what holds of an error holds of the one that is answered
 pub fault_of : {F : Type 0} (P : F → Type 0) (r : Result (Unit {0}) F) (fault : F) → IsErrAnd r P → r ≡ Err fault → P fault
 fault_of P r fault told is = subst (λ s. IsErrAnd s P) is told
+
+-- a new edge makes the list longer by one
+pub longer_by : (n o : ℕ) (answer : Bool) → answer ≡ true → n ≡ o + (if answer then 1 else 0) → n ≡ o + 1
+longer_by n o true is e = e
+longer_by n o false is e = absurd (true≢false (sym is))

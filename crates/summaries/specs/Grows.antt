@@ -1,5 +1,5 @@
 -- Path edges that are added, and stand pending.
-use Rattle.std.specs.Prelude.{◌≡◌, ℕ, List, ◌⊎◌}
+use Rattle.std.specs.Prelude.{◌≡◌, ℕ, List, ◌⊎◌, length, ◌+◌}
 use Rattle.language.specs.Flow.{Member}
 use Rattle.path_sets.specs.Triples.{Triple, triple}
 use Rattle.summaries.specs.declared.due.Caller.{Caller}
@@ -20,7 +20,7 @@ abbrev pub edge_of : Triple → Edge
 edge_of t = record { entry = t.entry; point = t.point; values = t.values }
 
 -- The triples of which W holds are edges after, beside those before, and no others; each edge that is new stands pending,
--- beside those before; and what comes to stand pending is an edge.
+-- beside those before; what comes to stand pending is an edge; and as many come to stand pending as there are new edges.
 pub record Grows (W : Triple → Type 0) (old new : List Triple) (before after : List Edge) : Type 0 where
   pub all : (t : Triple) → W t → Member t new
   pub kept : (t : Triple) → Member t old → Member t new
@@ -28,6 +28,7 @@ pub record Grows (W : Triple → Type 0) (old new : List Triple) (before after :
   pub stays : (x : Edge) → Member x before → Member x after
   pub pending : (t : Triple) → Member t new → Member t old ⊎ Member (edge_of t) after
   pub edges : (x : Edge) → Member x after → Member x before ⊎ Member (triple_of x) new
+  pub more : length after + length old ≡ length before + length new
 
 -- A triple is the edge behind the call of a site, for some of the globals that it left.
 abbrev pub IsBehind : Moves → Site → List ℕ → Triple → Type 0
