@@ -2,13 +2,18 @@
 //! messages the table then owes (summary edges after Ball and Rajamani 2000).
 #![tactic(auto)]
 
+mod body;
 mod due;
 mod edge;
 mod edge_limit;
 mod found;
 mod given;
+mod go_on;
 mod groups;
 mod laws;
+mod reach;
+mod table_fault;
+mod tell;
 #[cfg(test)]
 mod tests;
 

@@ -1,0 +1,44 @@
+//! An exit whose callers are known.
+
+ghost use Rattle.std.specs.Prelude.{◌≡◌, ◌⊎◌, [], ◌∷◌, OnOk};
+ghost use Rattle.language.specs.Flow.{Member};
+ghost use Rattle.summaries.specs.declared.given.Mail.{Mail};
+ghost use Rattle.summaries.specs.Grows.{Gives, IsTold};
+
+use crate::due::{Caller, Due};
+use crate::given::Given;
+use std::alloc::{AllocError, Allocator};
+
+/// Gives the summary of procedure `p` to a caller; the starter gets none.
+pub(crate) fn tell<A: Allocator + Copy>(
+    given: &mut Given<A>,
+    p: u8,
+    a: u64,
+    b: u64,
+    caller: Caller,
+) -> Result<(), AllocError>
+    ensures ok { OnOk result (Gives (IsTold p a b (caller ∷ [])) given.old.mails.keys given.new.mails.keys) }
+    ensures only { (x : Mail) → Member x given.new.mails.keys → IsTold p a b (caller ∷ []) x ⊎ Member x given.old.mails.keys }
+{
+    if let Caller::Proc(to) = caller {
+        given.give(to, Due::Summary { p, a, b })?;
+    }
+    Ok(())
+}
+
+/// Gives the summary of procedure `p` to each of its callers but the starter. At an error some have it.
+pub(crate) fn tell_all<A: Allocator + Copy>(
+    given: &mut Given<A>,
+    p: u8,
+    a: u64,
+    b: u64,
+    callers: &[Caller],
+) -> Result<(), AllocError>
+    ensures ok { OnOk result (Gives (IsTold p a b callers.now) given.old.mails.keys given.new.mails.keys) }
+    ensures only { (x : Mail) → Member x given.new.mails.keys → IsTold p a b callers.now x ⊎ Member x given.old.mails.keys }
+{
+    for caller in callers {
+        tell(given, p, a, b, *caller)?;
+    }
+    Ok(())
+}
