@@ -1,9 +1,14 @@
 //! Rows worked by hand, and refused memory.
 
 use crate::due::{Caller, Due};
+use crate::edge::Edge;
 use crate::edge_limit::EdgeLimit;
 use crate::given::Given;
 use crate::groups::Groups;
+use crate::reach::reach;
+use crate::table_fault::TableFault;
+use crate::tell::tell_all;
+use path_sets::{OrderedEdges, PathSet};
 use scarce::Scarce;
 use std::alloc::{AllocError, Allocator, Global};
 use std::test::Fail;
@@ -135,5 +140,45 @@ fn each_allocation_of_values_is_refused_in_turn(rt: HostRuntime) -> Result<(), F
         }
     }
     assert!(rt; 5 < last && last < 99);
+    Ok(())
+}
+
+#[test]
+fn a_new_edge_stands_pending_once(rt: HostRuntime) -> Result<(), Fail> {
+    let mut edges: OrderedEdges<Global> = PathSet::empty(rt.alloc());
+    let mut pending = Vec::new(rt.alloc());
+    let first = Edge {
+        entry: 5,
+        point: 2,
+        values: 7,
+    };
+    let second = Edge {
+        entry: 5,
+        point: 0,
+        values: 7,
+    };
+    if let Some(limit) = EdgeLimit::new(1) {
+        assert_eq!(rt; reach(&mut edges, &mut pending, limit, first), Ok(()));
+        assert_eq!(rt; reach(&mut edges, &mut pending, limit, first), Ok(()));
+        assert_eq!(rt;
+            reach(&mut edges, &mut pending, limit, second),
+            Err(TableFault::EdgeLimit)
+        );
+    }
+    assert_eq!(rt; edges.len(), 1);
+    assert_eq!(rt; pending.len(), 1);
+    assert_eq!(rt; pending.pop(), Some(first));
+    Ok(())
+}
+
+#[test]
+fn each_caller_but_the_starter_is_told(rt: HostRuntime) -> Result<(), Fail> {
+    let mut given = Given::new(rt.alloc());
+    let callers = [Caller::Proc(3), Caller::Starter, Caller::Proc(2)];
+    tell_all(&mut given, 1, 5, 6, &callers)?;
+    let summary = Due::Summary { p: 1, a: 5, b: 6 };
+    assert_eq!(rt; given.next(), Some((3u8, summary)));
+    assert_eq!(rt; given.next(), Some((2u8, summary)));
+    assert_eq!(rt; given.next(), None);
     Ok(())
 }
