@@ -7,6 +7,7 @@ ghost use Rattle.flow_graph.specs.Views.{scope_seen, IsSmall};
 
 use crate::scope::Scope;
 use crate::side::Side;
+use crate::word::Word;
 use std::alloc::{AllocError, Allocator};
 use syntax::{Name, Rhs};
 
@@ -14,12 +15,12 @@ use syntax::{Name, Rhs};
 #[derive(Debug, Drop)]
 pub(crate) struct Write<A: Allocator> {
     /// The bit, alone.
-    pub(crate) mask: u64,
+    pub(crate) mask: Word,
     pub(crate) side: Side<A>,
 }
 
 /// The valuation with this value for the bits of a mask.
-fn masked(values: u64, mask: u64, value: bool) -> u64
+fn masked(values: Word, mask: Word, value: bool) -> Word
     ensures { result ≡ masked values mask value }
 {
     let set = values | mask;
@@ -80,7 +81,7 @@ impl<A: Allocator> Assignment<A> {
 
     /// The next valuation of this number. All right sides are computed over `values` before a bit is written; the
     /// values of the `?` are the bits of `choice`, from the lowest, in the order of the targets.
-    pub(crate) fn next(&self, values: u64, choice: u64) -> u64
+    pub(crate) fn next(&self, values: Word, choice: u64) -> Word
         ensures { result ≡ assigned self.now values choice }
     {
         let mut next = values;

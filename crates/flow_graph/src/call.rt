@@ -5,10 +5,11 @@ ghost use Rattle.flow_graph.specs.Calls.{entry_of};
 
 use crate::formula::Formula;
 use crate::point::Point;
+use crate::word::Word;
 use std::alloc::Allocator;
 
 /// The lowest bits of a number.
-pub(crate) fn low_bits(values: u64, count: u8) -> u64
+pub(crate) fn low_bits(values: Word, count: u8) -> Word
     ensures { result ≡ values % 2 ^ count }
 {
     if count < 64 {
@@ -45,13 +46,13 @@ impl<A: Allocator> Call<A> {
 
     /// The valuation with which the procedure is entered from the caller's: the globals as they are, the arguments, and 0 in
     /// every other place.
-    pub fn entry(&self, values: u64) -> u64
+    pub fn entry(&self, values: Word) -> Word
         ensures { result ≡ entry_of self.now.globals self.now.arguments.items values }
     {
         let mut entry = low_bits(values, self.globals);
         let mut bit = self.globals;
         for argument in self.arguments.as_slice() {
-            entry += (argument.value(values) as u64) << bit;
+            entry += (argument.value(values) as Word) << bit;
             bit += 1;
         }
         entry

@@ -7,6 +7,7 @@ use crate::assignment::Assignment;
 use crate::call::Call;
 use crate::point::Point;
 use crate::side::Side;
+use crate::word::Word;
 use std::alloc::Allocator;
 
 /// What leads on from a point, inside the call or out of it.
@@ -37,7 +38,7 @@ impl<A: Allocator> Flow<A> {
     }
 
     /// Where the run goes on inside the call for a choice, and with which valuation; `None` where it does not.
-    pub fn next(&self, values: u64, choice: u64) -> Option<(Point, u64)>
+    pub fn next(&self, values: Word, choice: u64) -> Option<(Point, Word)>
         ensures { result ≡ next_of self.now values choice }
     {
         match self {

@@ -8,6 +8,7 @@ ghost use Rattle.flow_graph.specs.Views.{scope_seen, IsSmall};
 use crate::postfix::Postfix;
 use crate::scope::Scope;
 use crate::table::Table;
+use crate::word::Word;
 use std::alloc::{AllocError, Allocator};
 use syntax::Expr;
 
@@ -21,7 +22,7 @@ pub enum Formula<A: Allocator> {
 impl<A: Allocator> Formula<A> {
     /// The value of the expression for a valuation, which is a number: the globals from bit 0 in the order of their
     /// declaration, then the formals and locals.
-    pub(crate) fn value(&self, values: u64) -> bool
+    pub(crate) fn value(&self, values: Word) -> bool
         ensures { result ≡ says self.now values }
     {
         match self {

@@ -9,6 +9,7 @@ ghost use Rattle.flow_graph.specs.Returns.{left, resumed};
 use crate::call::low_bits;
 use crate::flow::Flow;
 use crate::point::Point;
+use crate::word::Word;
 use std::alloc::Allocator;
 
 /// The flow graph of a procedure: a point before each statement and the exit, and what leads on from each. A valuation is a
@@ -44,7 +45,7 @@ impl<A: Allocator> Graph<A> {
     }
 
     /// The globals of a valuation: what a call leaves that ends with it.
-    pub fn left(&self, values: u64) -> u64
+    pub fn left(&self, values: Word) -> Word
         ensures number { result ≡ left self.now.globals values }
         ensures globals { (v : Valuation) → length v.globals ≡ self.now.globals → values ≡ code v → result ≡ coded v.globals }
     {
@@ -52,7 +53,7 @@ impl<A: Allocator> Graph<A> {
     }
 
     /// The valuation of a caller after a call that left these globals: the places are the caller's.
-    pub fn resumed(&self, values: u64, globals: u64) -> u64
+    pub fn resumed(&self, values: Word, globals: Word) -> Word
         ensures number { result ≡ resumed self.now.globals values globals }
         ensures valuation { (v : Valuation) (b : List Bool) → length v.globals ≡ self.now.globals → length b ≡ self.now.globals → values ≡ code v → globals ≡ coded b → result ≡ coded (b ++ v.places) }
     {

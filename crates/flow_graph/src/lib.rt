@@ -23,6 +23,7 @@ mod table;
 mod takes;
 #[cfg(test)]
 mod tests;
+mod word;
 
 pub use assignment::Assignment;
 pub use call::Call;
@@ -46,3 +47,4 @@ pub use takes::{
     a_bad_pair_is_left_by_its_graph, the_entries_taken_are_those_entered,
     what_graphs_leave_are_the_pairs, what_graphs_send_and_take_is_what_is_due,
 };
+pub use word::Word;

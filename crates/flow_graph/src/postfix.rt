@@ -8,6 +8,7 @@ ghost use Rattle.flow_graph.specs.Postfix.{IsShallow, IsShallow-prop, after_step
 ghost use Rattle.flow_graph.specs.Views.{scope_seen, IsSmall};
 
 use crate::scope::Scope;
+use crate::word::Word;
 use std::alloc::{AllocError, Allocator};
 use syntax::{Expr, Op};
 
@@ -30,7 +31,7 @@ pub enum Step {
 const HALF: u64 = 9_223_372_036_854_775_808;
 
 /// The stack after a step; the stack is a number whose lowest bit is the top.
-fn stepped(step: Step, values: u64, stack: u64) -> u64
+fn stepped(step: Step, values: Word, stack: u64) -> u64
     ensures { (s : List Bool) → stack ≡ coded s → IsShallow (length s) (step ∷ []) → result ≡ coded (after_step (bit_of values) step s) }
 {
     match step {
@@ -57,7 +58,7 @@ pub struct Postfix<A: Allocator> {
 
 impl<A: Allocator> Postfix<A> {
     /// What the expression is worth for these values.
-    pub(crate) fn value(&self, values: u64) -> bool
+    pub(crate) fn value(&self, values: Word) -> bool
         ensures { result ≡ top (after_steps (bit_of values) self.now.steps.items []) }
     {
         let mut stack: u64 = 0;

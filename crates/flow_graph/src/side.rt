@@ -7,6 +7,7 @@ ghost use Rattle.flow_graph.specs.Views.{scope_seen, IsSmall};
 
 use crate::formula::Formula;
 use crate::scope::Scope;
+use crate::word::Word;
 use std::alloc::{AllocError, Allocator};
 use syntax::Rhs;
 
@@ -21,7 +22,7 @@ pub enum Side<A: Allocator> {
 
 impl<A: Allocator> Side<A> {
     /// The value of the right side for a valuation: for `?` it is the lowest bit of the choice.
-    pub(crate) fn value(&self, values: u64, choice: u64) -> bool
+    pub(crate) fn value(&self, values: Word, choice: u64) -> bool
         ensures { result ≡ side_value self.now values choice }
     {
         match self {

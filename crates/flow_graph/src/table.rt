@@ -10,6 +10,7 @@ ghost use Rattle.flow_graph.specs.Tables.{slot, Tabulates, AreBits, AreBits-prop
 ghost use Rattle.flow_graph.specs.Views.{scope_seen, IsSmall};
 
 use crate::scope::Scope;
+use crate::word::Word;
 use arrayvec::ArrayVec;
 use std::alloc::Allocator;
 use syntax::{Expr, Op};
@@ -28,7 +29,7 @@ pub struct Table {
 
 impl Table {
     /// What the expression is worth for these values.
-    pub(crate) fn value(&self, values: u64) -> bool
+    pub(crate) fn value(&self, values: Word) -> bool
         ensures { result ≡ bit_of self.now.outputs (coded (map (bit_of values) self.now.inputs.items)) }
     {
         let mut row: u64 = 0;
