@@ -1,5 +1,5 @@
 -- Flows that do what happens at nodes.
-use Rattle.std.proofs.Common.{◌≡◌, ◌≤◌, ◌<◌, ℕ, zero, suc, ◌+◌, Bool, true, false, cond, Option, Some, List, [], ◌∷◌, ◌++◌, length, map, refl, sym, ◌∙◌, ap, subst, arith, ◌*◌, ◌^◌, ◌⊎◌, inl, inr, Result, Ok, Err, IfOk}
+use Rattle.std.proofs.Common.{◌≡◌, ◌≤◌, ◌<◌, ℕ, zero, suc, ◌+◌, Bool, true, false, cond, Option, Some, List, [], ◌∷◌, ◌++◌, length, map, refl, sym, ◌∙◌, ap, subst, arith, ◌*◌, ◌^◌, ◌⊎◌, inl, inr}
 use Rattle.std.proofs.Math.Nat.{mul_comm}
 use Rattle.std.proofs.lemmas.Option.{none-some, same_Some}
 use Rattle.std.proofs.lemmas.Bool.{true≢false}
@@ -161,11 +161,6 @@ does_return g l m = record {
   enters = λ v args q n wide asks less few. absurd asks;
   entered = λ v q e n wide h. absurd (none-some _ h);
 }
-
--- an answer that has what is asked, where it is one
-pub if_ok : {X E : Type 0} (r : Result X E) (P Q : X → Type 0) → ((x : X) → P x → Q x) → IfOk r P → IfOk r Q
-if_ok (Ok x) P Q f h = f x h
-if_ok (Err e) P Q f h = tt
 
 -- one formula more says one value more
 pub more_said : {A : Type 0} (f : A → Bool) (fs : List A) (x : A) (b : Bool) (bs : List Bool) → f x ≡ b → map f (fs ++ (x ∷ [])) ++ bs ≡ map f fs ++ (b ∷ bs)

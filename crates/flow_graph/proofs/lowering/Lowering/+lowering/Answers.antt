@@ -1,6 +1,7 @@
 -- Statements are lowered one after the other, and those inside of each behind it.
 use Rattle.std.proofs.Common.{◌≡◌, ◌<◌, ◌+◌, ◌*◌, suc, [], ◌∷◌, ◌++◌, length, map, refl, sym, ◌∙◌, ap, subst, arith, length-append}
 use Rattle.std.proofs.lemmas.List.{nil_from_length}
+use Rattle.std.proofs.lemmas.Result.{IfOk-weaker}
 use Rattle.language.specs.Tree.{loop}
 use Rattle.language.specs.Resolve.{resolve_mark, resolve_side, resolve_block}
 use Rattle.language.specs.Rest.{join}
@@ -13,7 +14,6 @@ use Rattle.flow_graph.specs.Nodes.{at, node_of}
 use Rattle.flow_graph.specs.Flows.{Lowered}
 use Rattle.flow_graph.specs.Lowering.{scope_of, body_of, code_from, DoesIn}
 use Rattle.flow_graph.proofs.Counted.{alone_counts, split_counts}
-use Rattle.flow_graph.proofs.Doing.{if_ok}
 use Rattle.flow_graph.proofs.Lowered.{nodes_split, nodes_branch, nodes_repeat, lowered_then, lowered_none, lowered_one}
 use Rattle.flow_graph.proofs.lowering.Lowering.+lowering.Goals as goal
 
@@ -93,7 +93,7 @@ statement-returns-in_ok-block-in-If g t c =
     let number : c.len-number.result ≡ length old = c.len-number.ensures ∙ c.args.flows.now.ok.0 in
     let next : length one ≡ suc (length old) = omega (arith, ap length pushed, length-append old (f ∷ [])) in
     let first = c.in_ok-block-in-If.ensures in
-    if_ok c.block-in-If.result _ _
+    IfOk-weaker c.block-in-If.result _ _
     (λ u second. (
       omega (arith, next, first.0, second.0, count_a, count_b, whole, parts),
       λ k at_k few.
@@ -128,7 +128,7 @@ statement-returns-in-While g t c =
     let pushed = c.in_ok-push.ensures.items in
     let number : c.len-number.result ≡ length old = c.len-number.ensures ∙ c.args.flows.now.ok.0 in
     let next : length one ≡ suc (length old) = omega (arith, ap length pushed, length-append old (f ∷ [])) in
-    if_ok c.block-in-While.result _ _
+    IfOk-weaker c.block-in-While.result _ _
     (λ u inside. (
       omega (arith, next, inside.0, count, whole, parts),
       λ k at_k few.

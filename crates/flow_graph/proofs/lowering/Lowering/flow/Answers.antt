@@ -1,6 +1,7 @@
 -- Each statement leads where its node does.
 use Rattle.std.proofs.Common.{◌≡◌, ◌+◌, suc, map, refl, sym, ◌∙◌, ap, subst, arith}
 use Rattle.std.specs.String.{string_bytes}
+use Rattle.std.proofs.lemmas.Result.{IfOk-weaker}
 use Rattle.language.specs.Tree.{assign, assert, assume, goto, call, loop}
 use Rattle.language.specs.Resolve.{number_of, place_of, resolve_mark, resolve_expression, resolve_side, resolve_block}
 use Rattle.language.specs.Rest.{join}
@@ -11,7 +12,6 @@ use Rattle.syntax.proofs.Folds.{item_deed, deed_of-Assign, deed_of-Assert, deed_
 use Rattle.flow_graph.specs.Nodes.{at, tests, assumes, assigns, calls}
 use Rattle.flow_graph.specs.Lowering.{scope_of, body_of, DoesIn}
 use Rattle.flow_graph.proofs.Counted.{alone_counts}
-use Rattle.flow_graph.proofs.Doing.{if_ok}
 use Rattle.flow_graph.proofs.Lowered.{node_simple, node_branch, node_repeat}
 use Rattle.flow_graph.proofs.lowering.Lowering.flow.Goals as goal
 
@@ -21,7 +21,7 @@ returns-in-Assign g c =
     let i = item_of c.args.stmt.now in
     let xs = c.in-Assign.xs.items in
     let rs = c.in-Assign.rs.items in
-    if_ok c.assignment.result _ _
+    IfOk-weaker c.assignment.result _ _
     (λ f d k at_k few.
     subst (DoesIn c.args.self.now f)
     (sym (node_simple (body_of c.args.self.now) c.args.number s i.mark i.deed (assign (names_of xs) (rhss_of rs)) k (item_deed c.args.stmt.now ∙ ap deed_of c.in-Assign.is ∙ deed_of-Assign _ _)
@@ -39,7 +39,7 @@ returns-in-If g c =
     let parts = ap held core in
     let whole = alone_counts stmt in
     let count = ap (λ l. statements (block_of l)) c.deref-in-If-3.ensures.value in
-    if_ok c.test.result _ _
+    IfOk-weaker c.test.result _ _
     (λ f d k at_k few.
     let inside : c.saturating_add-inside.result ≡ suc n = omega (arith, c.saturating_add-inside.ensures, whole, few.1) in
     let size = c.size.ensures (omega (arith, whole, parts, count, few.1)) in
@@ -60,7 +60,7 @@ returns-in-While g c =
     let i = item_of stmt in
     let core = ap deed_of c.in-While.is ∙ deed_of-While c.in-While.r c.in-While.a in
     let whole = alone_counts stmt in
-    if_ok c.test-in-While.result _ _
+    IfOk-weaker c.test-in-While.result _ _
     (λ f d k at_k few.
     let inside : c.saturating_add-in-While.result ≡ suc n = omega (arith, c.saturating_add-in-While.ensures, whole, few.1) in
     let again = loop (marked n (resolve_mark i.mark)) (resolve_side s (rhs_of c.in-While.r)) (numbered (suc n) (resolve_block s (block_of c.in-While.a.items))) k in
@@ -75,7 +75,7 @@ pub returns-in-Assert : goal.returns-in-Assert
 returns-in-Assert g c =
     let s = scope_of c.args.self.now in
     let i = item_of c.args.stmt.now in
-    if_ok c.assumption.result _ _
+    IfOk-weaker c.assumption.result _ _
     (λ f d k at_k few.
     subst (DoesIn c.args.self.now f)
     (sym (node_simple (body_of c.args.self.now) c.args.number s i.mark i.deed (assert (rhs_of c.in-Assert.r)) k (item_deed c.args.stmt.now ∙ ap deed_of c.in-Assert.is ∙ deed_of-Assert _)
@@ -87,7 +87,7 @@ pub returns-in-Assume : goal.returns-in-Assume
 returns-in-Assume g c =
     let s = scope_of c.args.self.now in
     let i = item_of c.args.stmt.now in
-    if_ok c.assumption-in-Assume.result _ _
+    IfOk-weaker c.assumption-in-Assume.result _ _
     (λ f d k at_k few.
     subst (DoesIn c.args.self.now f)
     (sym (node_simple (body_of c.args.self.now) c.args.number s i.mark i.deed (assume (rhs_of c.in-Assume.r)) k (item_deed c.args.stmt.now ∙ ap deed_of c.in-Assume.is ∙ deed_of-Assume _)
@@ -99,7 +99,7 @@ pub returns-in-Goto : goal.returns-in-Goto
 returns-in-Goto g c =
     let s = scope_of c.args.self.now in
     let i = item_of c.args.stmt.now in
-    if_ok c.jump.result _ _
+    IfOk-weaker c.jump.result _ _
     (λ f d k at_k few.
     subst (DoesIn c.args.self.now f)
     (sym (node_simple (body_of c.args.self.now) c.args.number s i.mark i.deed (goto (name_of c.in-Goto.label)) k (item_deed c.args.stmt.now ∙ ap deed_of c.in-Goto.is ∙ deed_of-Goto _)))
@@ -111,7 +111,7 @@ returns-in-Call g c =
     let s = scope_of c.args.self.now in
     let i = item_of c.args.stmt.now in
     let es = c.in-Call.es.items in
-    if_ok c.call.result _ _
+    IfOk-weaker c.call.result _ _
     (λ f d k at_k few.
     subst (DoesIn c.args.self.now f)
     (sym (node_simple (body_of c.args.self.now) c.args.number s i.mark i.deed (call (name_of c.in-Call.p) (exprs_of es)) k (item_deed c.args.stmt.now ∙ ap deed_of c.in-Call.is ∙ deed_of-Call _ _)

@@ -1,17 +1,17 @@
 -- Where the label is found, the run goes on at its point, else nowhere.
 use Rattle.std.proofs.Common.{option_map, sym, ◌∙◌, ap, subst, arith}
 use Rattle.std.specs.String.{string_bytes}
+use Rattle.std.proofs.lemmas.Result.{IfOk-weaker}
 use Rattle.language.specs.Tree.{done}
 use Rattle.language.specs.Rest.{rest_from}
 use Rattle.flow_graph.specs.Nodes.{at, goes}
 use Rattle.flow_graph.specs.Lowering.{body_of, scope_of, DoesIn}
-use Rattle.flow_graph.proofs.Doing.{if_ok}
 use Rattle.flow_graph.proofs.Lowered.{goes_found, goes_lost}
 use Rattle.flow_graph.proofs.lowering.Lowering.jump.Goals as goal
 
 pub returns-in-Some : goal.returns-in-Some
 returns-in-Some g c =
-    if_ok c.going.result (λ f. DoesIn c.args.self.now f (goes c.in-Some.to)) _
+    IfOk-weaker c.going.result (λ f. DoesIn c.args.self.now f (goes c.in-Some.to)) _
     (λ f d few.
     let found = c.find.ensures (scope_of c.args.self.now) done (omega (arith, few)) in
     subst (DoesIn c.args.self.now f)
