@@ -1,5 +1,5 @@
 -- What is left to run from a label on, by the first statement.
-use Rattle.std.proofs.Common.{◌≡◌, ℕ, ◌-◌, ◌<◌, List, [], ◌∷◌, ◌++◌, Bool, true, false, cond, Some, None, Result, Ok, Err, IfOk, length, take, sym, ◌∙◌, ap, subst, arith, length-append}
+use Rattle.std.proofs.Common.{◌≡◌, ℕ, ◌-◌, ◌<◌, List, [], ◌∷◌, ◌++◌, Bool, true, false, cond, Some, None, length, take, sym, ◌∙◌, ap, subst, arith, length-append}
 use Rattle.std.proofs.lemmas.List.{take-append-le}
 use Rattle.std.proofs.Math.Seq.{take-length}
 use Rattle.std.specs.Borrow.{Bor}
@@ -117,8 +117,3 @@ found f x b old new e h = subst (λ v. JumpMeans v x b old new) e h
 pub lost : {N : Type 0} (f : Bool) (x : Label) (b : Names) (old new : List (Bor (List (Stmt N)))) → f ≡ false → JumpMeans f x b old new →
     ((s : Scope) → rest_from x (resolve_block s b) (code_at s old) ≡ None) × (new ≡ old)
 lost f x b old new e h = subst (λ v. JumpMeans v x b old new) e h
-
--- what an answer says may be known less of
-pub ok_map : {A E : Type 0} (r : Result A E) (P Q : A → Type 0) → ((v : A) → P v → Q v) → IfOk r P → IfOk r Q
-ok_map (Ok v) P Q f h = f v h
-ok_map (Err e) P Q f h = h

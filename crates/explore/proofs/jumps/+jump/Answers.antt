@@ -1,5 +1,6 @@
 -- Each case of the first statement.
 use Rattle.std.proofs.Common.{◌≡◌, ◌<◌, ◌∷◌, ◌∙◌, Some, None, refl, sym, ap, arith}
+use Rattle.std.proofs.lemmas.Result.{IfOk-weaker}
 use Rattle.language.specs.Resolve.{Scope, resolve_block}
 use Rattle.language.specs.Rest.{Code, join, rest_from}
 use Rattle.syntax.specs.Trees.{item_of, deed_of, block_of, rhs_of}
@@ -9,7 +10,7 @@ use Rattle.explore.specs.Views.{JumpMeans, code_at}
 use Rattle.explore.proofs.RestLemmas.{pushed}
 use Rattle.syntax.proofs.Folds.{item_deed, deed_of-If, deed_of-While}
 use Rattle.syntax.proofs.Plain.{is_simple}
-use Rattle.explore.proofs.JumpLemmas.{fewer_behind, fewer_held, at_label, past_simple, in_first, in_second, past_branch, in_loop, past_loop, popped, goes_on, found, lost, ok_map}
+use Rattle.explore.proofs.JumpLemmas.{fewer_behind, fewer_held, at_label, past_simple, in_first, in_second, past_branch, in_loop, past_loop, popped, goes_on, found, lost}
 use Rattle.explore.proofs.jumps.+jump.Goals as goal
 
 pub returns-then-is_labelled : goal.returns-then-is_labelled
@@ -173,7 +174,7 @@ returns-else-branch-2 g t c =
     (pushed s mid old c.in-Some.more more c.in_ok-push-in-If.ensures.items refl)
     (ap (λ l. rest_from x (resolve_block s (block_of l)) (code_at s mid)) (sym c.as_slice.ensures.value) ∙ first.0 s)
     (ap (λ l. rest_from x (resolve_block s (block_of b)) (code_at s l)) (sym first.1) ∙ ap (λ l. rest_from x (resolve_block s (block_of l)) (code_at s mid2)) (sym c.as_slice-in-If.ensures.value) ∙ second.0 s) in
-    ok_map c.jump-in-If-2.result (λ f. JumpMeans f x (block_of more) last new) (λ f. JumpMeans f x (block_of c.args.block.now) old new)
+    IfOk-weaker c.jump-in-If-2.result (λ f. JumpMeans f x (block_of more) last new) (λ f. JumpMeans f x (block_of c.args.block.now) old new)
     (λ f. goes_on f x (block_of more) (block_of c.args.block.now) old last new same past) c.jump-in-If-2.ensures
 
 pub returns-else-branch-3 : goal.returns-else-branch-3
@@ -196,7 +197,7 @@ returns-else-branch-3 g t c =
     ∙ past_loop x s (item_of stmt).mark (item_of stmt).deed (block_of more) (code_at s old) (code_at s mid) (rhs_of c.in-While.field-0) (block_of a) is (sym c.is_labelled.ensures ∙ c.if-is_labelled.false)
     (pushed s mid old c.args.block (stmt ∷ more) c.in_ok-push-in-While.ensures.items c.in-Some.ensures.cases.0)
     (ap (λ l. rest_from x (resolve_block s (block_of l)) (code_at s mid)) (sym c.as_slice-in-While.ensures.value) ∙ first.0 s) in
-    ok_map c.jump-in-While-2.result (λ f. JumpMeans f x (block_of more) last new) (λ f. JumpMeans f x (block_of c.args.block.now) old new)
+    IfOk-weaker c.jump-in-While-2.result (λ f. JumpMeans f x (block_of more) last new) (λ f. JumpMeans f x (block_of c.args.block.now) old new)
     (λ f. goes_on f x (block_of more) (block_of c.args.block.now) old last new same past) c.jump-in-While-2.ensures
 
 pub returns-in_default-core : goal.returns-in_default-core
@@ -210,5 +211,5 @@ returns-in_default-core g t c =
     let past : (s : Scope) → rest_from x (resolve_block s (block_of c.args.block.now)) (code_at s old) ≡ rest_from x (resolve_block s (block_of more)) (code_at s old) =
     λ s. ap (λ l. rest_from x (resolve_block s (block_of l)) (code_at s old)) c.in-Some.ensures.cases.0
     ∙ past_simple x s (item_of stmt).mark (item_of stmt).deed (block_of more) (code_at s old) plain.0 (item_deed stmt ∙ plain.1) (sym c.is_labelled.ensures ∙ c.if-is_labelled.false) in
-    ok_map c.jump-in_default-core.result (λ f. JumpMeans f x (block_of more) old new) (λ f. JumpMeans f x (block_of c.args.block.now) old new)
+    IfOk-weaker c.jump-in_default-core.result (λ f. JumpMeans f x (block_of more) old new) (λ f. JumpMeans f x (block_of c.args.block.now) old new)
     (λ f. goes_on f x (block_of more) (block_of c.args.block.now) old old new refl past) c.jump-in_default-core.ensures

@@ -1,5 +1,6 @@
 -- The step of each kind of statement.
 use Rattle.std.proofs.Common.{◌≡◌, ◌∙◌, ◌∷◌, take, refl, sym, ap, subst}
+use Rattle.std.proofs.lemmas.Result.{IfOk-weaker}
 use Rattle.language.specs.Step.{frame, state}
 use Rattle.language.specs.Tree.{skip, assign, assert, assume, goto, leave, call, loop, done}
 use Rattle.syntax.specs.Trees.{simple, branch, repeat, marked_before, deed_of, item_of, block_of, name_of, names_of, rhs_of, rhss_of, exprs_of}
@@ -7,7 +8,6 @@ use Rattle.explore.specs.declared.thread.Frame as held
 use Rattle.explore.specs.declared.thread.Thread.{Thread}
 use Rattle.explore.specs.declared.steps.Outcome.TheVariants.{Stepped}
 use Rattle.explore.specs.Views.{program_of, scope_at, frame_of, callers_of, stack_of, led_by, StepMeans, StatementMeans, LoopMeans, CallMeans}
-use Rattle.explore.proofs.JumpLemmas.{ok_map}
 use Rattle.syntax.proofs.Folds.{item_deed, deed_of-Skip, deed_of-Assign, deed_of-If, deed_of-While, deed_of-Assert, deed_of-Assume, deed_of-Goto, deed_of-Return, deed_of-Call}
 use Rattle.explore.proofs.StepLemmas.{headed, stepped, stepped_at, looped_at, called_at}
 use Rattle.explore.proofs.steps.step.Goals as goal
@@ -53,7 +53,7 @@ returns-in-Assign g c =
     ∙ ap (λ l. simple (assign (names_of l) (rhss_of c.in-Assign.rs.items))) (sym c.deref-in-Assign.ensures.value) ∙ ap (λ l. simple (assign (names_of xs) (rhss_of l))) (sym c.deref-in-Assign-2.ensures.value) in
     let G = c.args.globals.now.items in
     let G' = c.set.new.globals.items in
-    ok_map c.set.result (λ o. StatementMeans o program (simple (assign (names_of xs) (rhss_of rs))) G f G' c.set.new.frame)
+    IfOk-weaker c.set.result (λ o. StatementMeans o program (simple (assign (names_of xs) (rhss_of rs))) G f G' c.set.new.frame)
     (λ o. StepMeans o (program_of program) (state G (stack_of program c.args.thread.now)) (state G' (frame_of program c.set.new.frame ∷ fs)))
     (λ o h. stepped o program i.mark i.deed (simple (assign (names_of xs) (rhss_of rs))) G G' (stack_of program c.args.thread.now) f c.set.new.frame fs old is h) c.set.ensures
 
@@ -75,7 +75,7 @@ returns-in-If g c =
     ∙ ap (λ l. branch r (block_of l) (block_of c.in-If.b.items)) (sym c.deref-in-If-2.ensures.value) ∙ ap (λ l. branch r (block_of a) (block_of l)) (sym c.deref-in-If-3.ensures.value) in
     let G = c.deref-in-If.result.now in
     let G' = c.args.globals.now.items in
-    ok_map c.go_into.result (λ o. StatementMeans o program (branch r (block_of a) (block_of b)) G f G c.go_into.new.frame)
+    IfOk-weaker c.go_into.result (λ o. StatementMeans o program (branch r (block_of a) (block_of b)) G f G c.go_into.new.frame)
     (λ o. StepMeans o (program_of program) (state G' (stack_of program c.args.thread.now)) (state G' (frame_of program c.go_into.new.frame ∷ fs)))
     (λ o h. stepped_at o program i.mark i.deed (branch r (block_of a) (block_of b)) G G' (stack_of program c.args.thread.now) f c.go_into.new.frame fs c.deref-in-If.ensures.value old is h) c.go_into.ensures
 
@@ -98,7 +98,7 @@ returns-in-While g c =
     ap (λ l. block_of (take 1 l)) c.in-Some-split_first.ensures.cases.0 ∙ ap (λ d. marked_before i.mark d done) is in
     let G = c.deref-in-While.result.now in
     let G' = c.args.globals.now.items in
-    ok_map c.go_round.result (λ o. LoopMeans o program r (block_of a) (block_of again) G f c.go_round.new.frame)
+    IfOk-weaker c.go_round.result (λ o. LoopMeans o program r (block_of a) (block_of again) G f c.go_round.new.frame)
     (λ o. StepMeans o (program_of program) (state G' (stack_of program c.args.thread.now)) (state G' (frame_of program c.go_round.new.frame ∷ fs)))
     (λ o h. looped_at o program i.mark i.deed r (block_of a) (block_of again) G G' (stack_of program c.args.thread.now) f c.go_round.new.frame fs c.deref-in-While.ensures.value old is alone h) c.go_round.ensures
 
@@ -144,7 +144,7 @@ returns-in-Goto g c =
     let is : i.deed ≡ simple (goto x) = item_deed stmt ∙ ap deed_of c.in-Goto.is ∙ deed_of-Goto c.in-Goto.x in
     let G = c.deref-in-Goto.result.now in
     let G' = c.args.globals.now.items in
-    ok_map c.go_to.result (λ o. StatementMeans o program (simple (goto x)) G f G c.go_to.new.frame)
+    IfOk-weaker c.go_to.result (λ o. StatementMeans o program (simple (goto x)) G f G c.go_to.new.frame)
     (λ o. StepMeans o (program_of program) (state G' (stack_of program c.args.thread.now)) (state G' (frame_of program c.go_to.new.frame ∷ fs)))
     (λ o h. stepped_at o program i.mark i.deed (simple (goto x)) G G' (stack_of program c.args.thread.now) f c.go_to.new.frame fs c.deref-in-Goto.ensures.value old is h) c.go_to.ensures
 
@@ -179,6 +179,6 @@ returns-in-Call g c =
     let G' = c.args.globals.now.items in
     let t : Thread g.row.N.Denot g.row.A.Denot = record c.args.thread.now { top = f } in
     let t' = c.enter.new.thread in
-    ok_map c.enter.result (λ o. CallMeans o program (simple (call p (exprs_of es))) G t t')
+    IfOk-weaker c.enter.result (λ o. CallMeans o program (simple (call p (exprs_of es))) G t t')
     (λ o. StepMeans o (program_of program) (state G' (stack_of program c.args.thread.now)) (state G' (stack_of program t')))
     (λ o h. called_at o program i.mark i.deed (simple (call p (exprs_of es))) G G' (stack_of program c.args.thread.now) t t' c.deref-in-Call.ensures.value old is h) c.enter.ensures
