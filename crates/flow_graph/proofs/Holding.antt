@@ -10,8 +10,8 @@ use Rattle.language.proofs.ByMessages.{reached_entry, reached_stands}
 use Rattle.language.proofs.Widths.{reached_valuation}
 use Rattle.flow_graph.specs.Flows.{code, last_of, next_of, entered_by}
 use Rattle.flow_graph.specs.Returns.{left, resumed}
-use Rattle.flow_graph.specs.Graphs.{IsGraph}
-use Rattle.flow_graph.specs.Numbers.{NumberedMessage, numbered_entry, numbered_summary, by_numbers, Reaches, starts, flows, returns, Sends, asks, tells, IsNumberOf, IsNumberOfValuation, IsInTextOrder}
+use Rattle.flow_graph.specs.Graphs.{IsGraph, IsInTextOrder}
+use Rattle.flow_graph.specs.Numbers.{NumberedMessage, numbered_entry, numbered_summary, by_numbers, Reaches, starts, flows, returns, Sends, asks, tells, IsNumberOf, IsNumberOfValuation}
 use Rattle.flow_graph.specs.Triples.{HoldStarts, HoldFlows, HoldReturns, HoldAsks, HoldTells}
 use Rattle.flow_graph.specs.declared.flow.Flow.{Flow}
 use Rattle.flow_graph.specs.declared.graph.Graph.{Graph}

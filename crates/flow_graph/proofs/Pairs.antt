@@ -16,8 +16,8 @@ use Rattle.flow_graph.specs.Bits.{bit_of, coded}
 use Rattle.flow_graph.specs.Nodes.{number, at}
 use Rattle.flow_graph.specs.Flows.{code}
 use Rattle.flow_graph.specs.Returns.{left}
-use Rattle.flow_graph.specs.Graphs.{AreGraphs}
-use Rattle.flow_graph.specs.Numbers.{NumberedMessage, numbered_entry, by_numbers, Leaves, IsNumberOf, AreNumbersOf, IsNumberOfEntry, AreNumbersOfEdge, AreNumbersOfPair, IsInTextOrder, HasTaken, TakesOpening, TakesSent, TakesDue}
+use Rattle.flow_graph.specs.Graphs.{AreGraphs, IsInTextOrder}
+use Rattle.flow_graph.specs.Numbers.{NumberedMessage, numbered_entry, by_numbers, Leaves, IsNumberOf, AreNumbersOf, IsNumberOfEntry, AreNumbersOfEdge, AreNumbersOfPair, Sends}
 use Rattle.flow_graph.specs.declared.graph.Graph.{Graph}
 use Rattle.flow_graph.proofs.Coding.{left_coded}
 use Rattle.flow_graph.proofs.Reaching.{valuation_told, message_told, rest_in_order_told, entry_of, entry_is}
@@ -69,56 +69,58 @@ module _ (p : Program) (fit : ArgumentsFit p) where
           let ar : r' ≡ r = sym (rest_in_order_told p order q r r' stands (edge_stands q x' y' r' edge) en) in
           subst (EdgeTo p q x y) ar (subst (λ z. EdgeTo p q x z r') ay (subst (λ z. EdgeTo p q z y' r') ax edge))
 
-module _ {A : Type 0} (p : Program) (graphs : List (Graph A)) (takes : List (List NumberedMessage)) (fit : ArgumentsFit p) (are : AreGraphs p graphs)
-    (opening : TakesOpening takes) (sent : TakesSent graphs takes) (due : TakesDue p takes) where
-  pub pairs_left : IsInTextOrder p → (q : ℕ) (graph : Graph A) → slice_get graphs q ≡ Some graph → (a b : ℕ) → Leaves graph (HasTaken takes q) a b ↔ AreNumbersOfPair p q a b
+module _ {A : Type 0} (p : Program) (graphs : List (Graph A)) (T : ℕ → NumberedMessage → Type 0) (fit : ArgumentsFit p) (are : AreGraphs p graphs)
+    (opening : T 0 (numbered_entry starter 0))
+    (sent : (q s : ℕ) (graph : Graph A) (k : NumberedMessage) → slice_get graphs q ≡ Some graph → Sends graph q (T q) s k → T s k)
+    (due : (q : ℕ) (k : NumberedMessage) → T q k → IsNumberOf (IsDue p q) k) where
+  pub pairs_left : IsInTextOrder p → (q : ℕ) (graph : Graph A) → slice_get graphs q ≡ Some graph → (a b : ℕ) → Leaves graph (T q) a b ↔ AreNumbersOfPair p q a b
   pairs_left order q graph here a b = (there, back)
     where
-      there : Leaves graph (HasTaken takes q) a b → AreNumbersOfPair p q a b
+      there : Leaves graph (T q) a b → AreNumbersOfPair p q a b
       there (v, reached, eb) =
-          let (x, y, r, edge, ea, en, ev) = (edges_taken p graphs takes fit are opening sent due q graph here a 0 v).0 reached in
+          let (x, y, r, edge, ea, en, ev) = (edges_taken p graphs T fit are opening sent due q graph here a 0 v).0 reached in
           let exit : r ≡ done = rest_in_order_told p order q r done (edge_stands p fit q x y r edge) (inl refl) (sym en) in
           let inside : EdgeTo p q x y done = subst (EdgeTo p q x y) exit edge in
           let wide = edge_wide p fit q x y r edge in
           (x, y.globals, (pair_exit p q x y.globals).1 (y.places, inside), ea, eb ∙ ap (left graph.globals) ev ∙ left_coded graph.globals y (wide.0 ∙ sym (are.1 q graph here).globals))
 
-      back : AreNumbersOfPair p q a b → Leaves graph (HasTaken takes q) a b
+      back : AreNumbersOfPair p q a b → Leaves graph (T q) a b
       back (x, g, pair, ea, eb) =
           let (l, edge) = (pair_exit p q x g).0 pair in
           let y : Valuation = record { globals = g; places = l } in
           let wide = edge_wide p fit q x y done edge in (
             code y,
-            (edges_taken p graphs takes fit are opening sent due q graph here a 0 (code y)).1 (x, y, done, edge, ea, refl, refl),
+            (edges_taken p graphs T fit are opening sent due q graph here a 0 (code y)).1 (x, y, done, edge, ea, refl, refl),
             eb ∙ sym (left_coded graph.globals y (wide.0 ∙ sym (are.1 q graph here).globals)),
           )
 
   -- some pair of the first procedure has `bad` where its graph is left with that bit
   pub bad_left : IsInTextOrder p → (graph : Graph A) → slice_get graphs 0 ≡ Some graph → (bad : ℕ)
-      → SomeBad p bad ↔ ((a : ℕ) × (b : ℕ) × Leaves graph (HasTaken takes 0) a b × (bit_of b bad ≡ true))
+      → SomeBad p bad ↔ ((a : ℕ) × (b : ℕ) × Leaves graph (T 0) a b × (bit_of b bad ≡ true))
   bad_left order graph here bad = (
     λ h. (code h.0, coded h.1, (pairs_left order 0 graph here (code h.0) (coded h.1)).1 (h.0, h.1, h.2, refl, refl), coded_bit h.1 bad ∙ h.3),
     back,
   )
     where
-      back : (a : ℕ) × (b : ℕ) × Leaves graph (HasTaken takes 0) a b × (bit_of b bad ≡ true) → SomeBad p bad
+      back : (a : ℕ) × (b : ℕ) × Leaves graph (T 0) a b × (bit_of b bad ≡ true) → SomeBad p bad
       back (a, b, leaves, is) =
           let (x, g, pair, ea, eb) = (pairs_left order 0 graph here a b).0 leaves in
           (x, g, pair, sym (coded_bit g bad) ∙ ap (λ n. bit_of n bad) (sym eb) ∙ is)
 
   -- the entries taken are those with which procedures are entered
-  pub entries_taken : (q a : ℕ) → ((from : Caller) × HasTaken takes q (numbered_entry from a)) ↔ IsNumberOfEntry p q a
+  pub entries_taken : (q a : ℕ) → ((from : Caller) × T q (numbered_entry from a)) ↔ IsNumberOfEntry p q a
   entries_taken q a = (there, back)
     where
       of : (from : Caller) (m : Message) → IsDue p q m → numbered_entry from a ≡ by_numbers m → IsNumberOfEntry p q a
       of from (entry c x) is e = (x, due_entered p q c x is, ap entry_of e)
       of from (summary s x b) is e = absurd (entry_is from a s (code x) (coded b) e)
 
-      there : (from : Caller) × HasTaken takes q (numbered_entry from a) → IsNumberOfEntry p q a
+      there : (from : Caller) × T q (numbered_entry from a) → IsNumberOfEntry p q a
       there (from, had) = let (m, is, e) = due q (numbered_entry from a) had in of from m is e
 
-      has : (from : Caller) (x : Valuation) → IsDue p q (entry from x) → a ≡ code x → (c : Caller) × HasTaken takes q (numbered_entry c a)
-      has from x is e = (from, (taken_due p graphs takes fit are opening sent due q (numbered_entry from a)).1 (entry from x, is, ap (numbered_entry from) e))
+      has : (from : Caller) (x : Valuation) → IsDue p q (entry from x) → a ≡ code x → (c : Caller) × T q (numbered_entry c a)
+      has from x is e = (from, (taken_due p graphs T fit are opening sent due q (numbered_entry from a)).1 (entry from x, is, ap (numbered_entry from) e))
 
-      back : IsNumberOfEntry p q a → (from : Caller) × HasTaken takes q (numbered_entry from a)
+      back : IsNumberOfEntry p q a → (from : Caller) × T q (numbered_entry from a)
       back (x, inl begins, e) = has starter x begins e
       back (x, inr (c, asking), e) = has (caller c) x asking e

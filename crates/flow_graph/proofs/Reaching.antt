@@ -20,8 +20,8 @@ use Rattle.flow_graph.specs.Bits.{coded}
 use Rattle.flow_graph.specs.Nodes.{at}
 use Rattle.flow_graph.specs.Flows.{code, next_of, entered_by}
 use Rattle.flow_graph.specs.Returns.{left, resumed}
-use Rattle.flow_graph.specs.Graphs.{HasSteps, AtFlow, IsGraph}
-use Rattle.flow_graph.specs.Numbers.{NumberedMessage, numbered_entry, numbered_summary, by_numbers, Reaches, starts, flows, returns, Sends, asks, tells, IsNumberOf, AreNumbersOf, IsInTextOrder}
+use Rattle.flow_graph.specs.Graphs.{HasSteps, AtFlow, IsGraph, IsInTextOrder}
+use Rattle.flow_graph.specs.Numbers.{NumberedMessage, numbered_entry, numbered_summary, by_numbers, Reaches, starts, flows, returns, Sends, asks, tells, IsNumberOf, AreNumbersOf}
 use Rattle.flow_graph.specs.declared.flow.Flow.{Flow}
 use Rattle.flow_graph.specs.declared.graph.Graph.{Graph}
 use Rattle.flow_graph.proofs.Coding.{coded_tells, code_tells, left_coded, resumed_coded}

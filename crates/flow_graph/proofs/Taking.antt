@@ -17,8 +17,8 @@ use Rattle.language.proofs.Widths.{due_message}
 use Rattle.language.specs.Step as step
 use Rattle.flow_graph.specs.Nodes.{at}
 use Rattle.flow_graph.specs.Flows.{code}
-use Rattle.flow_graph.specs.Graphs.{IsGraph, AreGraphs}
-use Rattle.flow_graph.specs.Numbers.{NumberedMessage, numbered_entry, by_numbers, Reaches, Sends, IsNumberOf, AreNumbersOf, IsInTextOrder, HasTaken, TakesOpening, TakesSent, TakesDue}
+use Rattle.flow_graph.specs.Graphs.{IsGraph, AreGraphs, IsInTextOrder}
+use Rattle.flow_graph.specs.Numbers.{NumberedMessage, numbered_entry, by_numbers, Reaches, Sends, IsNumberOf, AreNumbersOf}
 use Rattle.flow_graph.specs.declared.graph.Graph.{Graph}
 use Rattle.flow_graph.proofs.Coding.{coded_zeros}
 use Rattle.flow_graph.proofs.Reaching.{reaches_reached, reached_reaches, sends_owed, owed_sends}
@@ -77,19 +77,22 @@ code_zero p a begins =
     let (routine, is, e) = routine_found (slice_get p.routines 0) (λ r. a ≡ record { globals = zeros p.globals; places = zeros r.places }) begins in
     ap code e ∙ coded_zeros p.globals routine.places
 
-module _ {A : Type 0} (p : Program) (graphs : List (Graph A)) (takes : List (List NumberedMessage)) (fit : ArgumentsFit p) (are : AreGraphs p graphs)
-    (opening : TakesOpening takes) (sent : TakesSent graphs takes) (due : TakesDue p takes) where
+-- T says which messages each procedure took
+module _ {A : Type 0} (p : Program) (graphs : List (Graph A)) (T : ℕ → NumberedMessage → Type 0) (fit : ArgumentsFit p) (are : AreGraphs p graphs)
+    (opening : T 0 (numbered_entry starter 0))
+    (sent : (q s : ℕ) (graph : Graph A) (k : NumberedMessage) → slice_get graphs q ≡ Some graph → Sends graph q (T q) s k → T s k)
+    (due : (q : ℕ) (k : NumberedMessage) → T q k → IsNumberOf (IsDue p q) k) where
   -- the messages that are due for a procedure and that it took
   abbrev Had : ℕ → Message → Type 0
-  Had q m = IsDue p q m × HasTaken takes q (by_numbers m)
+  Had q m = IsDue p q m × T q (by_numbers m)
 
   opened : HasOpening p Had
-  opened a begins = ((refl, begins), subst (λ n. HasTaken takes 0 (numbered_entry starter n)) (sym (code_zero p a begins)) opening)
+  opened a begins = ((refl, begins), subst (λ n. T 0 (numbered_entry starter n)) (sym (code_zero p a begins)) opening)
 
-  sent_taken : (q s : ℕ) (m : Message) (graph : Graph A) → slice_get graphs q ≡ Some graph → Owes p q (Had q) s m → HasTaken takes s (by_numbers m)
+  sent_taken : (q s : ℕ) (m : Message) (graph : Graph A) → slice_get graphs q ≡ Some graph → Owes p q (Had q) s m → T s (by_numbers m)
   sent_taken q s m graph here owed =
       sent q s graph (by_numbers m) here
-      (sends_owed p q graph (are.1 q graph here) (Had q) (HasTaken takes q) (λ n h. due_message p fit q n h.0) (λ n h. h.1) s m owed)
+      (sends_owed p q graph (are.1 q graph here) (Had q) (T q) (λ n h. due_message p fit q n h.0) (λ n h. h.1) s m owed)
 
   closed : HasOwed p Had
   closed q s m owed =
@@ -101,21 +104,21 @@ module _ {A : Type 0} (p : Program) (graphs : List (Graph A)) (takes : List (Lis
   edges_had : (q : ℕ) (x y : Valuation) (r : Code) → EdgeTo p q x y r → Reached p q (Had q) x y r
   edges_had q x y r = ((gathered p Had opened closed (λ s m d. d.0) q).1 x y r).1
 
-  pub taken_due : (q : ℕ) (k : NumberedMessage) → HasTaken takes q k ↔ IsNumberOf (IsDue p q) k
+  pub taken_due : (q : ℕ) (k : NumberedMessage) → T q k ↔ IsNumberOf (IsDue p q) k
   taken_due q k = (
     due q k,
-    λ h. subst (HasTaken takes q) (sym h.2) (((gathered p Had opened closed (λ s m d. d.0) q).0 h.0).1 h.1).1,
+    λ h. subst (T q) (sym h.2) (((gathered p Had opened closed (λ s m d. d.0) q).0 h.0).1 h.1).1,
   )
 
-  pub edges_taken : (q : ℕ) (graph : Graph A) → slice_get graphs q ≡ Some graph → (a n v : ℕ) → Reaches graph (HasTaken takes q) a n v ↔ AreNumbersOf (EdgeTo p q) a n v
-  edges_taken q graph here a n v = (edges_reached p fit q graph (are.1 q graph here) (HasTaken takes q) (due q) a n v, back)
+  pub edges_taken : (q : ℕ) (graph : Graph A) → slice_get graphs q ≡ Some graph → (a n v : ℕ) → Reaches graph (T q) a n v ↔ AreNumbersOf (EdgeTo p q) a n v
+  edges_taken q graph here a n v = (edges_reached p fit q graph (are.1 q graph here) (T q) (due q) a n v, back)
     where
-      back : AreNumbersOf (EdgeTo p q) a n v → Reaches graph (HasTaken takes q) a n v
+      back : AreNumbersOf (EdgeTo p q) a n v → Reaches graph (T q) a n v
       back (x, y, r, edge, ea, en, ev) =
           let got = edges_had q x y r edge in
-          let by = reaches_reached p q graph (are.1 q graph here) (Had q) (HasTaken takes q) (λ m h. due_message p fit q m h.0) (λ m h. h.1) x y r got in
-          subst (Reaches graph (HasTaken takes q) a n) (sym ev)
-          (subst (λ i. Reaches graph (HasTaken takes q) a i (code y)) (sym en) (subst (λ i. Reaches graph (HasTaken takes q) i (at r) (code y)) (sym ea) by))
+          let by = reaches_reached p q graph (are.1 q graph here) (Had q) (T q) (λ m h. due_message p fit q m h.0) (λ m h. h.1) x y r got in
+          subst (Reaches graph (T q) a n) (sym ev)
+          (subst (λ i. Reaches graph (T q) a i (code y)) (sym en) (subst (λ i. Reaches graph (T q) i (at r) (code y)) (sym ea) by))
 
 -- a program whose statements are marked with their numbers is
 pub ordered : (p : Program) → IsInTextOrder (in_text_order p)

@@ -2,10 +2,10 @@
 use Rattle.std.specs.Prelude.{◌≡◌, ◌≤◌, ℕ, suc, Option, Some, None, List, length, slice_get}
 use Rattle.language.specs.Rest.{Code}
 use Rattle.language.specs.Step.{Program, body_of}
-use Rattle.language.specs.Sequential.{statements, Valuation, Calls}
+use Rattle.language.specs.Sequential.{numbered, statements, Valuation, Calls}
 use Rattle.language.specs.Flow as steps
 use Rattle.language.specs.Flow.{IsRestOf, after_first}
-use Rattle.language.specs.Messages.{IsValuationOf}
+use Rattle.language.specs.Messages.{IsValuationOf, ArgumentsFit}
 use Rattle.flow_graph.specs.Nodes.{at}
 use Rattle.flow_graph.specs.Flows.{code, last_of, next_of, entered_by}
 use Rattle.flow_graph.specs.declared.flow.Flow.{Flow}
@@ -36,3 +36,11 @@ pub record IsGraph {A : Type 0} (p : Program) (q : ℕ) (graph : Graph A) : Type
 -- the graphs are those of the program's procedures, by number
 abbrev pub AreGraphs : {A : Type 0} → Program → List (Graph A) → Type 0
 AreGraphs {A} p graphs = (length graphs ≡ length p.routines) × ((q : ℕ) (graph : Graph A) → slice_get graphs q ≡ Some graph → IsGraph p q graph)
+
+-- the statements of each procedure are marked with their numbers in text order, from 1
+abbrev pub IsInTextOrder : Program → Type 0
+IsInTextOrder p = (q : ℕ) → (b : Code) × (body_of (slice_get p.routines q) ≡ numbered 1 b)
+
+-- The graphs are those of a program that is marked in text order, in which each call has a place for each argument.
+abbrev pub AreDrawnFrom : {A : Type 0} → Program → List (Graph A) → Type 0
+AreDrawnFrom p graphs = ArgumentsFit p × IsInTextOrder p × AreGraphs p graphs

@@ -68,10 +68,6 @@ AreNumbersOfEdge p q a n v =
 abbrev pub AreNumbersOfPair : Program → ℕ → ℕ → ℕ → Type 0
 AreNumbersOfPair p q a b = (x : Valuation) × (g : List Bool) × Pair p q x g × (a ≡ code x) × (b ≡ coded g)
 
--- the statements of each procedure are marked with their numbers in text order, from 1
-abbrev pub IsInTextOrder : Program → Type 0
-IsInTextOrder p = (q : ℕ) → (b : Code) × (body_of (slice_get p.routines q) ≡ numbered 1 b)
-
 -- The message is one that q took, where lists hold what each procedure took, by its number.
 abbrev pub HasTaken : List (List NumberedMessage) → ℕ → NumberedMessage → Type 0
 HasTaken takes q k = Member k (slice_index_or takes q [])

@@ -1,10 +1,11 @@
 //! The flow graphs of a sequential program.
 
-ghost use Rattle.std.specs.Prelude.{◌≤◌, ◌+◌, length, IfOk};
+ghost use Rattle.std.specs.Prelude.{◌≡◌, ◌≤◌, ◌+◌, length, IfOk, codes};
+ghost use Rattle.language.specs.Resolve.{number_of};
 ghost use Rattle.language.specs.Sequential.{sequential_of};
 ghost use Rattle.syntax.specs.Trees.{tree_of};
 ghost use Rattle.flow_graph.specs.Drawing.{Draws, HasRoom};
-ghost use Rattle.flow_graph.specs.Graphs.{AreGraphs};
+ghost use Rattle.flow_graph.specs.Graphs.{AreDrawnFrom};
 
 use crate::flow::Flow;
 use crate::graph::{Graph, Graphs};
@@ -13,7 +14,7 @@ use crate::point::EXIT;
 use crate::scope::Scope;
 use round_rewrite::Sequential;
 use std::alloc::{AllocError, Allocator};
-use syntax::{Proc, Program};
+use syntax::{Proc, Program, number_of_name};
 
 /// The flow graph of one procedure of a program.
 fn graph<N: Allocator, A: Allocator + Clone>(
@@ -50,12 +51,14 @@ pub fn graphs<N: Allocator, A: Allocator + Clone>(
     alloc: &A,
     sequential: &Sequential<N>,
 ) -> Result<Graphs<A>, AllocError>
-    ensures { IfOk result (λ gs. AreGraphs (sequential_of (tree_of sequential.now.program)) gs.graphs.items) }
+    ensures graphs { IfOk result (λ gs. AreDrawnFrom (sequential_of (tree_of sequential.now.program)) gs.graphs.items) }
+    ensures bad { IfOk result (λ gs. gs.bad ≡ number_of (codes "bad__") (tree_of sequential.now.program).globals) }
 {
     let program = sequential.program();
     let mut graphs = Vec::new(alloc.clone()?);
     for proc in &program.procs {
         graphs.push(graph(alloc, program, proc)?)?;
     }
-    Ok(Graphs { graphs })
+    let bad = number_of_name(&program.globals, "bad__");
+    Ok(Graphs { graphs, bad })
 }

@@ -65,6 +65,7 @@ impl<A: Allocator> Graph<A> {
 #[derive(Debug, Drop)]
 pub struct Graphs<A: Allocator> {
     pub(crate) graphs: Vec<Graph<A>, A>,
+    pub(crate) bad: usize,
 }
 
 impl<A: Allocator> Graphs<A> {
@@ -81,5 +82,12 @@ impl<A: Allocator> Graphs<A> {
         ensures { slice_get self.now.graphs.items procedure ≡ Some result.now }
     {
         &self.graphs[procedure as usize]
+    }
+
+    /// The bit of the global `bad__`, which a rewritten program has; as many as globals, where none has this name.
+    pub fn bad(&self) -> usize
+        ensures { result ≡ self.now.bad }
+    {
+        self.bad
     }
 }

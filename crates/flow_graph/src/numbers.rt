@@ -8,8 +8,8 @@ ghost use Rattle.language.specs.Flow.{Member, IsRestOf};
 ghost use Rattle.language.specs.Messages.{Reached, Owes, EdgeTo, IsValuationOf, IsMessageTo, ArgumentsFit};
 ghost use Rattle.flow_graph.specs.Nodes.{at};
 ghost use Rattle.flow_graph.specs.Flows.{code};
-ghost use Rattle.flow_graph.specs.Graphs.{IsGraph};
-ghost use Rattle.flow_graph.specs.Numbers.{NumberedMessage, numbered_entry, by_numbers, Reaches, Sends, IsNumberOf, AreNumbersOf, IsNumberOfValuation, AreNumbersOfEdge, IsInTextOrder};
+ghost use Rattle.flow_graph.specs.Graphs.{IsGraph, IsInTextOrder};
+ghost use Rattle.flow_graph.specs.Numbers.{NumberedMessage, numbered_entry, by_numbers, Reaches, Sends, IsNumberOf, AreNumbersOf, IsNumberOfValuation, AreNumbersOfEdge};
 ghost use Rattle.flow_graph.specs.Triples.{HoldStarts, HoldFlows, HoldReturns, HoldAsks, HoldTells};
 ghost use Rattle.flow_graph.specs.declared.graph.Graph.{Graph};
 

@@ -6,8 +6,8 @@ ghost use Rattle.language.specs.Sequential.{Caller, IsDue};
 ghost use Rattle.language.specs.Messages.{EdgeTo, ArgumentsFit};
 ghost use Rattle.round_rewrite.specs.Law.{SomeBad};
 ghost use Rattle.flow_graph.specs.Bits.{bit_of};
-ghost use Rattle.flow_graph.specs.Graphs.{AreGraphs};
-ghost use Rattle.flow_graph.specs.Numbers.{NumberedMessage, numbered_entry, Reaches, Leaves, IsNumberOf, AreNumbersOf, IsNumberOfEntry, AreNumbersOfPair, IsInTextOrder, HasTaken, TakesOpening, TakesSent, TakesDue};
+ghost use Rattle.flow_graph.specs.Graphs.{AreGraphs, IsInTextOrder};
+ghost use Rattle.flow_graph.specs.Numbers.{NumberedMessage, numbered_entry, Reaches, Leaves, IsNumberOf, AreNumbersOf, IsNumberOfEntry, AreNumbersOfPair, HasTaken, TakesOpening, TakesSent, TakesDue};
 ghost use Rattle.flow_graph.specs.declared.graph.Graph.{Graph};
 
 use std::alloc::Allocator;

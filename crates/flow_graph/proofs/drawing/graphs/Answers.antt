@@ -2,9 +2,11 @@
 use Rattle.std.proofs.Common.{◌≡◌, ◌∷◌, [], length, slice_get, refl, sym, ◌∙◌, ap, subst, arith, length-append}
 use Rattle.std.proofs.lemmas.Option.{slice_get_read}
 use Rattle.std.proofs.lemmas.List.{length-map}
+use Rattle.language.specs.Resolve.{meaning_of}
 use Rattle.round_rewrite.specs.Narrow.{AllNarrow}
-use Rattle.round_rewrite.proofs.Sequences.{routines_counted}
+use Rattle.round_rewrite.proofs.Sequences.{routines_counted, resolving_fit}
 use Rattle.syntax.specs.Trees.{tree_of, proc_of}
+use Rattle.flow_graph.proofs.Taking.{ordered}
 use Rattle.flow_graph.proofs.Graphing.{AllDrawn, drawn_more, drawn_graph, has_room}
 use Rattle.flow_graph.proofs.drawing.graphs.Goals as goal
 
@@ -28,8 +30,8 @@ loop-proc-preserved g c =
           c.loop-proc.invariant.1 c.loop-proc.invariant.0 is c.in_ok-graph.ensures pushed,
     )
 
-pub returns : goal.returns
-returns g c =
+pub returns-clause-graphs : goal.returns-clause-graphs
+returns-clause-graphs g c =
     let t = c.program-program.result.now in
     let program = c.args.sequential.now.program in
     let same = c.program-program.ensures in
@@ -38,8 +40,12 @@ returns g c =
     let all = subst (λ z. AllDrawn z program.procs.items graphs) same (subst (λ l. AllDrawn t l graphs) (items ∙ ap (λ z. z.procs.items) same) c.loop-proc.invariant.1) in
     let end : length graphs ≡ length program.procs.items =
     omega (arith, c.loop-proc.invariant.0, c.loop-proc-test.false, c.loop-proc.auto.proc-index-end, ap length items, ap (λ z. length z.procs.items) same) in (
-      end ∙ sym (routines_counted (tree_of program) ∙ length-map program.procs.items proc_of),
-      λ q graph h.
-          let (proc, is, draws) = all q graph h in
-          drawn_graph program q proc graph c.args.sequential.now.resolves c.args.sequential.now.narrow is draws,
+      resolving_fit (tree_of program) c.args.sequential.now.resolves,
+      ordered (meaning_of (tree_of program)),
+      (
+        end ∙ sym (routines_counted (tree_of program) ∙ length-map program.procs.items proc_of),
+        λ q graph h.
+            let (proc, is, draws) = all q graph h in
+            drawn_graph program q proc graph c.args.sequential.now.resolves c.args.sequential.now.narrow is draws,
+      ),
     )

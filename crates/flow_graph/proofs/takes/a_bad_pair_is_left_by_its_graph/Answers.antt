@@ -1,5 +1,6 @@
+use Rattle.flow_graph.specs.Numbers.{HasTaken}
 use Rattle.flow_graph.proofs.Pairs.{bad_left}
 use Rattle.flow_graph.proofs.takes.a_bad_pair_is_left_by_its_graph.Goals as goal
 
 pub returns : goal.returns
-returns g c = λ p graphs takes fit order are opening sent due. bad_left p graphs takes fit are opening sent due order
+returns g c = λ p graphs takes fit order are opening sent due. bad_left p graphs (HasTaken takes) fit are opening sent due order

@@ -1,5 +1,6 @@
+use Rattle.flow_graph.specs.Numbers.{HasTaken}
 use Rattle.flow_graph.proofs.Pairs.{entries_taken}
 use Rattle.flow_graph.proofs.takes.the_entries_taken_are_those_entered.Goals as goal
 
 pub returns : goal.returns
-returns g c = entries_taken
+returns g c = λ p graphs takes. entries_taken p graphs (HasTaken takes)

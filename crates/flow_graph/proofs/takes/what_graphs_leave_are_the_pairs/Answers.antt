@@ -1,5 +1,6 @@
+use Rattle.flow_graph.specs.Numbers.{HasTaken}
 use Rattle.flow_graph.proofs.Pairs.{pairs_left}
 use Rattle.flow_graph.proofs.takes.what_graphs_leave_are_the_pairs.Goals as goal
 
 pub returns : goal.returns
-returns g c = λ p graphs takes fit order are opening sent due. pairs_left p graphs takes fit are opening sent due order
+returns g c = λ p graphs takes fit order are opening sent due. pairs_left p graphs (HasTaken takes) fit are opening sent due order
