@@ -1,5 +1,7 @@
 pub mod Under
 pub mod Waiting
-pub mod Moves
+pub mod Dues
 pub mod Found
 pub mod Grows
+pub mod Tables
+pub mod Tabulated

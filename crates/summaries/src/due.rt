@@ -1,5 +1,7 @@
 //! What one procedure's table tells another.
 
+use flow_graph::Word;
+
 /// Who enters a procedure.
 #[derive(Clone, Copy, Debug, PartialEq, Eq, Hash)]
 pub enum Caller {
@@ -17,15 +19,15 @@ pub enum Due {
         /// Who enters it.
         caller: Caller,
         /// The valuation on entry.
-        a: u64,
+        a: Word,
     },
     /// A procedure that it calls leaves the globals `b` where it was entered with `a`.
     Summary {
         /// The procedure called.
         p: u8,
         /// The valuation on its entry.
-        a: u64,
+        a: Word,
         /// The globals that it left.
-        b: u64,
+        b: Word,
     },
 }

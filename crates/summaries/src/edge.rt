@@ -1,24 +1,26 @@
 //! Path edges of one procedure, and the calls on them.
 
+use flow_graph::{Point, Word};
+
 /// A path edge: the valuation on entry, the point, and the valuation there.
 #[derive(Clone, Copy, Debug, PartialEq, Eq)]
 pub(crate) struct Edge {
-    pub(crate) entry: u64,
-    pub(crate) point: usize,
-    pub(crate) values: u64,
+    pub(crate) entry: Word,
+    pub(crate) point: Point,
+    pub(crate) values: Word,
 }
 
 /// A call: the procedure called and the valuation on its entry.
 #[derive(Clone, Copy, Debug, PartialEq, Eq, Hash)]
 pub(crate) struct Call {
     pub(crate) callee: u8,
-    pub(crate) entered: u64,
+    pub(crate) entered: Word,
 }
 
 /// Where a call stands: the entry of the procedure that calls, the point behind the call, and the valuation at the call.
 #[derive(Clone, Copy, Debug, PartialEq, Eq)]
 pub(crate) struct Site {
-    pub(crate) asked: u64,
-    pub(crate) next: usize,
-    pub(crate) values: u64,
+    pub(crate) asked: Word,
+    pub(crate) next: Point,
+    pub(crate) values: Word,
 }

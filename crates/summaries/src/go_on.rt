@@ -1,35 +1,62 @@
-//! A call whose summaries are known.
+//! Calls whose summaries are known.
 
 ghost use Rattle.std.specs.Prelude.{◌≡◌, ◌≤◌, ◌⊎◌, length, OnOk, Err};
 ghost use Rattle.language.specs.Flow.{Member};
 ghost use Rattle.path_sets.specs.Triples.{Triple};
-ghost use Rattle.summaries.specs.Grows.{Grows, IsBehind};
+ghost use Rattle.summaries.specs.Grows.{Grows, IsBehind, IsEnded};
 
-use crate::body::Body;
 use crate::edge::{Edge, Site};
 use crate::edge_limit::EdgeLimit;
 use crate::reach::reach;
 use crate::table_fault::TableFault;
+use flow_graph::{Graph, Word};
 use path_sets::PathSet;
 use std::alloc::Allocator;
 
 /// Goes on behind the call of a site for each of the globals that it left. At an error some of the edges are added.
-pub(crate) fn go_on<B: Body, A: Allocator, S: PathSet<A>>(
-    body: &B,
+pub(crate) fn go_on<G: Allocator, A: Allocator, S: PathSet<A>>(
+    graph: &Graph<G>,
     edges: &mut S,
     pending: &mut Vec<Edge, A>,
     limit: EdgeLimit,
     site: Site,
-    summaries: &[u64],
+    summaries: &[Word],
 ) -> Result<(), TableFault>
     requires { length (S.members edges.old) ≤ limit.edges }
-    ensures ok { OnOk result (Grows (IsBehind (B.moves body.now) site summaries.now) (S.members edges.old) (S.members edges.new) pending.old.items pending.new.items) }
-    ensures only { (t : Triple) → Member t (S.members edges.new) → IsBehind (B.moves body.now) site summaries.now t ⊎ Member t (S.members edges.old) }
+    ensures ok { OnOk result (Grows (IsBehind graph.now site summaries.now) (S.members edges.old) (S.members edges.new) pending.old.items pending.new.items) }
+    ensures only { (t : Triple) → Member t (S.members edges.new) → IsBehind graph.now site summaries.now t ⊎ Member t (S.members edges.old) }
     ensures within { length (S.members edges.new) ≤ limit.edges }
-    ensures limit { result ≡ Err TableFault.EdgeLimit → (t : Triple) × IsBehind (B.moves body.now) site summaries.now t × (¬ Member t (S.members edges.new)) × (limit.edges ≤ length (S.members edges.new)) }
+    ensures limit { result ≡ Err TableFault.EdgeLimit → (t : Triple) × IsBehind graph.now site summaries.now t × (¬ Member t (S.members edges.new)) × (limit.edges ≤ length (S.members edges.new)) }
 {
     for globals in summaries {
-        let values = body.resumed(site.values, *globals);
+        let values = graph.resumed(site.values, *globals);
+        let edge = Edge {
+            entry: site.asked,
+            point: site.next,
+            values,
+        };
+        reach(edges, pending, limit, edge)?;
+    }
+    Ok(())
+}
+
+/// Goes on behind the call of each of these sites, for the globals that it left. At an error some of the edges are added.
+pub(crate) fn go_on_at_each<G: Allocator, A: Allocator, S: PathSet<A>>(
+    graph: &Graph<G>,
+    edges: &mut S,
+    pending: &mut Vec<Edge, A>,
+    limit: EdgeLimit,
+    sites: &[Site],
+    globals: Word,
+) -> Result<(), TableFault>
+    requires { length (S.members edges.old) ≤ limit.edges }
+    ensures ok { OnOk result (Grows (IsEnded graph.now sites.now globals) (S.members edges.old) (S.members edges.new) pending.old.items pending.new.items) }
+    ensures only { (t : Triple) → Member t (S.members edges.new) → IsEnded graph.now sites.now globals t ⊎ Member t (S.members edges.old) }
+    ensures within { length (S.members edges.new) ≤ limit.edges }
+    ensures limit { result ≡ Err TableFault.EdgeLimit → (t : Triple) × IsEnded graph.now sites.now globals t × (¬ Member t (S.members edges.new)) × (limit.edges ≤ length (S.members edges.new)) }
+{
+    for site in sites {
+        let values = graph.resumed(site.values, globals);
         let edge = Edge {
             entry: site.asked,
             point: site.next,

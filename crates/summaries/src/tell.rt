@@ -3,18 +3,19 @@
 ghost use Rattle.std.specs.Prelude.{◌≡◌, ◌⊎◌, [], ◌∷◌, OnOk};
 ghost use Rattle.language.specs.Flow.{Member};
 ghost use Rattle.summaries.specs.declared.given.Mail.{Mail};
-ghost use Rattle.summaries.specs.Grows.{Gives, IsTold};
+ghost use Rattle.summaries.specs.Grows.{Gives, IsTold, IsToldOf};
 
 use crate::due::{Caller, Due};
 use crate::given::Given;
+use flow_graph::Word;
 use std::alloc::{AllocError, Allocator};
 
 /// Gives the summary of procedure `p` to a caller; the starter gets none.
 pub(crate) fn tell<A: Allocator + Copy>(
     given: &mut Given<A>,
     p: u8,
-    a: u64,
-    b: u64,
+    a: Word,
+    b: Word,
     caller: Caller,
 ) -> Result<(), AllocError>
     ensures ok { OnOk result (Gives (IsTold p a b (caller ∷ [])) given.old.mails.keys given.new.mails.keys) }
@@ -30,8 +31,8 @@ pub(crate) fn tell<A: Allocator + Copy>(
 pub(crate) fn tell_all<A: Allocator + Copy>(
     given: &mut Given<A>,
     p: u8,
-    a: u64,
-    b: u64,
+    a: Word,
+    b: Word,
     callers: &[Caller],
 ) -> Result<(), AllocError>
     ensures ok { OnOk result (Gives (IsTold p a b callers.now) given.old.mails.keys given.new.mails.keys) }
@@ -39,6 +40,23 @@ pub(crate) fn tell_all<A: Allocator + Copy>(
 {
     for caller in callers {
         tell(given, p, a, b, *caller)?;
+    }
+    Ok(())
+}
+
+/// Gives a caller the summaries of procedure `p` for these globals that it left; the starter gets none. At an error it has some.
+pub(crate) fn tell_exits<A: Allocator + Copy>(
+    given: &mut Given<A>,
+    p: u8,
+    a: Word,
+    exits: &[Word],
+    caller: Caller,
+) -> Result<(), AllocError>
+    ensures ok { OnOk result (Gives (IsToldOf p a exits.now caller) given.old.mails.keys given.new.mails.keys) }
+    ensures only { (x : Mail) → Member x given.new.mails.keys → IsToldOf p a exits.now caller x ⊎ Member x given.old.mails.keys }
+{
+    for b in exits {
+        tell(given, p, a, *b, caller)?;
     }
     Ok(())
 }

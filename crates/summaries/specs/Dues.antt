@@ -1,0 +1,18 @@
+-- The messages of tables, as messages by numbers.
+use Rattle.language.specs.Sequential as sequential
+use Rattle.language.specs.Sequential.{starter, caller}
+use Rattle.flow_graph.specs.Numbers.{NumberedMessage, numbered_entry, numbered_summary}
+use Rattle.summaries.specs.declared.due.Caller.{Caller}
+use Rattle.summaries.specs.declared.due.Caller.TheVariants.{Starter, Proc}
+use Rattle.summaries.specs.declared.due.Due.{Due}
+use Rattle.summaries.specs.declared.due.Due.TheVariants.{Entry, Summary}
+
+-- who enters a procedure
+abbrev pub caller_of : sequential.Caller → Caller
+caller_of starter = Starter
+caller_of (caller q) = Proc q
+
+-- the message with these numbers
+abbrev pub due_of : NumberedMessage → Due
+due_of (numbered_entry from a) = Entry (caller_of from) a
+due_of (numbered_summary s a b) = Summary s a b

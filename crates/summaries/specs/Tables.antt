@@ -1,0 +1,84 @@
+-- What the table of one procedure promises, of which the path edges kept are listed by `members`.
+use Rattle.std.specs.Prelude.{◌≡◌, ◌≤◌, ◌<◌, ◌⊎◌, ◌↔◌, ◌++◌, ◌+◌, ℕ, Option, Some, None, Result, Ok, Err, List, [], length, take}
+use Rattle.language.specs.Flow.{Member}
+use Rattle.path_sets.specs.Triples.{Triple, triple, NoneTwice}
+use Rattle.flow_graph.specs.Numbers.{NumberedMessage, Reaches, Sends, Leaves}
+use Rattle.summaries.specs.declared.due.Due.{Due}
+use Rattle.summaries.specs.declared.found.Found.{Found}
+use Rattle.summaries.specs.declared.given.Mail.{Mail}
+use Rattle.summaries.specs.declared.table.Table.{Table}
+use Rattle.summaries.specs.declared.table_fault.TableFault.{TableFault}
+use Rattle.summaries.specs.declared.table_fault.TableFault.TheVariants.{EdgeLimit}
+use Rattle.summaries.specs.Under.{under}
+use Rattle.summaries.specs.Waiting.{mail}
+use Rattle.summaries.specs.Dues.{due_of}
+use Rattle.summaries.specs.Found.{pair, HasTaken, HasSite, HasExit, IsSound, IsComplete}
+
+-- the messages that `next` has answered, in order
+abbrev pub sent : {A : Type 0} → Found A → List Mail
+sent f = take f.given.answered f.given.mails.keys
+
+-- The messages taken are those taken before, and this one.
+abbrev pub TookAlso : {A : Type 0} → Due → Found A → Found A → Type 0
+TookAlso d old new = (k : NumberedMessage) → HasTaken new k ↔ ((due_of k ≡ d) ⊎ HasTaken old k)
+
+-- The messages taken are those taken before.
+abbrev pub TookSame : {A : Type 0} → Found A → Found A → Type 0
+TookSame old new = (new.entries ≡ old.entries) × (new.summaries ≡ old.summaries)
+
+-- the fault that an answer is
+abbrev pub fault_of : {T : Type 0} → Result T TableFault → Option TableFault
+fault_of (Ok _) = None
+fault_of (Err e) = Some e
+
+-- there are more than n triples, none twice, of which P holds
+abbrev pub HasMore : ℕ → (Triple → Type 0) → Type 0
+HasMore n P = (ts : List Triple) × NoneTwice ts × (n < length ts) × ((t : Triple) → Member t ts → P t)
+
+-- the table, failed where the answer is a fault
+abbrev pub failed_by : {G A S T : Type 0} → Result T TableFault → Table G A S → Table G A S
+failed_by (Ok _) t = t
+failed_by (Err e) t = record { graph = t.graph; procedure = t.procedure; limit = t.limit; edges = t.edges; found = t.found; fault = Some e }
+
+-- the triple is reached by the messages that the table has taken
+abbrev pub IsReached : {G A S : Type 0} → Table G A S → Triple → Type 0
+IsReached t x = Reaches t.graph.now (HasTaken t.found) x.entry x.point x.values
+
+-- The table is that of the same procedure, with the same limit.
+pub record StaysAs {G A S : Type 0} (old new : Table G A S) : Type 0 where
+  pub graph : new.graph.now ≡ old.graph.now
+  pub procedure : new.procedure ≡ old.procedure
+  pub limit : new.limit ≡ old.limit
+
+module _ {G A S : Type 0} (members : S → List Triple) where
+  -- All that the table holds is reached and sent, and nothing that is reached or sent is left out but by what is pending
+  -- and by the edges left aside.
+  abbrev pub Holds : (Triple → Type 0) → Table G A S → Type 0
+  Holds Aside t = IsSound t.graph.now t.procedure t.found (members t.edges) × IsComplete t.graph.now t.procedure t.found (members t.edges) Aside
+
+  -- The edges kept are reached by the messages taken, and no more than the limit; unless the table has failed, nothing is
+  -- left out but by what is pending; where it has failed for its limit, more edges than that are reached.
+  pub record IsTable (t : Table G A S) : Type 0 where
+    pub edges : (x : Triple) → Member x (members t.edges) → IsReached t x
+    pub within : length (members t.edges) ≤ t.limit.edges
+    pub holds : t.fault ≡ None → Holds (λ x. ⊥) t
+    pub many : t.fault ≡ Some EdgeLimit → HasMore t.limit.edges (IsReached t)
+
+  -- The table has taken nothing and answered nothing, and has not failed.
+  pub record IsNew (t : Table G A S) : Type 0 where
+    pub table : IsTable t
+    pub nothing : (k : NumberedMessage) → HasTaken t.found k → ⊥
+    pub answered : sent t.found ≡ []
+    pub fault : t.fault ≡ None
+
+  -- as many edges more came to stand pending as were found
+  abbrev pub IsLess : Table G A S → Table G A S → Type 0
+  IsLess old new =
+      (length new.found.pending.items + length (members old.edges) ≡ length old.found.pending.items + length (members new.edges))
+      × (length (members old.edges) ≤ length (members new.edges))
+
+  -- By the messages taken the edges kept are what is reached, and the messages answered are what is sent.
+  pub record IsQuiet (t : Table G A S) : Type 0 where
+    pub edges : (a n v : ℕ) → Reaches t.graph.now (HasTaken t.found) a n v ↔ Member (triple a n v) (members t.edges)
+    pub sends : (s : ℕ) (k : NumberedMessage) → Sends t.graph.now t.procedure (HasTaken t.found) s k ↔ Member (mail s (due_of k)) (sent t.found)
+    pub leaves : (a b : ℕ) → Member (pair a b) t.found.pairs.keys ↔ Leaves t.graph.now (HasTaken t.found) a b

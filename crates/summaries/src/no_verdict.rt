@@ -1,0 +1,45 @@
+//! Why an analysis has no verdict.
+
+ghost use Rattle.std.specs.Prelude.{◌≡◌};
+ghost use Rattle.summaries.specs.declared.no_verdict.NoVerdict.TheVariants.{Memory};
+
+use crate::table_fault::TableFault;
+use std::alloc::{AllocError, AllocFailed};
+
+/// Why an analysis has no verdict.
+#[derive(Clone, Copy, Debug, PartialEq, Eq)]
+pub enum NoVerdict {
+    /// Memory is refused: number 19.
+    Memory,
+    /// Some procedure has more path edges than the limit: number 20.
+    EdgeLimit,
+}
+
+impl From<AllocError> for NoVerdict {
+    ghost from_gives = { λ _ e. e ≡ Memory };
+
+    fn from(_e: AllocError) -> NoVerdict {
+        NoVerdict::Memory
+    }
+}
+
+impl<T: Drop> From<AllocFailed<T>> for NoVerdict {
+    ghost from_gives = { λ _ e. e ≡ Memory };
+
+    fn from(_e: AllocFailed<T>) -> NoVerdict {
+        NoVerdict::Memory
+    }
+}
+
+impl From<TableFault> for NoVerdict {
+    ghost use Rattle.summaries.specs.Tabulated.{no_verdict};
+
+    ghost from_gives = { λ fault e. e ≡ no_verdict fault };
+
+    fn from(fault: TableFault) -> NoVerdict {
+        match fault {
+            TableFault::Memory => NoVerdict::Memory,
+            TableFault::EdgeLimit => NoVerdict::EdgeLimit,
+        }
+    }
+}

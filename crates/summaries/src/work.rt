@@ -1,0 +1,193 @@
+//! The work of a table: on an edge, and on a message that comes.
+
+ghost use Rattle.std.specs.Prelude.{◌≡◌, ◌≤◌, ◌+◌, length, OnOk, Ok, Err, slice_get, Some};
+ghost use Rattle.language.specs.Flow.{Member};
+ghost use Rattle.path_sets.specs.Triples.{Triple};
+ghost use Rattle.flow_graph.specs.declared.flow.Flow.TheVariants as flow;
+ghost use Rattle.flow_graph.specs.Returns.{left};
+ghost use Rattle.flow_graph.specs.Calls.{entry_of};
+ghost use Rattle.summaries.specs.declared.due.Due.TheVariants.{Entry, Summary};
+ghost use Rattle.summaries.specs.Found.{HasExit, HasSite, site};
+ghost use Rattle.summaries.specs.Grows.{triple_of};
+ghost use Rattle.summaries.specs.Tables.{sent, Holds, IsReached, HasMore, TookAlso, TookSame, StaysAs, IsLess};
+
+use crate::due::{Caller, Due};
+use crate::edge::{Call, Edge, Site};
+use crate::go_on::{go_on, go_on_at_each};
+use crate::lead::lead;
+use crate::pair::Pair;
+use crate::reach::reach;
+use crate::table::Table;
+use crate::table_fault::TableFault;
+use crate::tell::{tell_all, tell_exits};
+use flow_graph::{EXIT, Flow, Word};
+use path_sets::PathSet;
+use std::alloc::{AllocError, Allocator};
+
+impl<'g, G: Allocator, A: Allocator + Copy, S: PathSet<A>> Table<'g, G, A, S> {
+    /// Keeps what an edge at the exit leaves, and tells it to the callers.
+    fn leave(&mut self, edge: Edge) -> Result<(), AllocError>
+        requires point { edge.point ≡ 0 }
+        requires edge { Member (triple_of edge) (S.members self.old.edges) }
+        requires holds { Holds S.members (λ t. t ≡ triple_of edge) self.old }
+        ensures ok { OnOk result (Holds S.members (λ t. t ≡ triple_of edge) self.new) }
+        ensures left { OnOk result (HasExit self.new.found edge.entry (left self.new.graph.now.globals edge.values)) }
+        ensures sent { OnOk result (sent self.new.found ≡ sent self.old.found) }
+        ensures taken { TookSame self.old.found self.new.found }
+        ensures edges { self.new.edges ≡ self.old.edges }
+        ensures pending { self.new.found.pending ≡ self.old.found.pending }
+        ensures stays { StaysAs self.old self.new }
+        ensures fault { self.new.fault ≡ self.old.fault }
+    {
+        let pair = Pair {
+            a: edge.entry,
+            b: self.graph.left(edge.values),
+        };
+        if self.found.pairs.insert(pair)? {
+            self.found.exits.add(pair.a, pair.b)?;
+            tell_all(
+                &mut self.found.given,
+                self.procedure,
+                pair.a,
+                pair.b,
+                self.found.entries.of(pair.a),
+            )?;
+        }
+        Ok(())
+    }
+
+    /// Asks for a procedure that is called from an edge, and goes on behind the call for what is known of it.
+    fn ask(&mut self, edge: Edge, call: &flow_graph::Call<G>) -> Result<(), TableFault>
+        requires call { slice_get self.old.graph.now.flows.items edge.point ≡ Some (flow.Call call.now) }
+        requires edge { Member (triple_of edge) (S.members self.old.edges) }
+        requires holds { Holds S.members (λ t. t ≡ triple_of edge) self.old }
+        requires within { length (S.members self.old.edges) ≤ self.old.limit.edges }
+        ensures ok { OnOk result (Holds S.members (λ t. t ≡ triple_of edge) self.new) }
+        ensures asked { OnOk result (HasSite self.new.found call.now.callee (entry_of call.now.globals call.now.arguments.items edge.values) (site edge.entry call.now.back edge.values)) }
+        ensures only { (t : Triple) → Member t (S.members self.new.edges) → IsReached self.new t }
+        ensures within { length (S.members self.new.edges) ≤ self.new.limit.edges }
+        ensures limit { result ≡ Err TableFault.EdgeLimit → HasMore self.new.limit.edges (IsReached self.new) }
+        ensures sent { OnOk result (sent self.new.found ≡ sent self.old.found) }
+        ensures taken { TookSame self.old.found self.new.found }
+        ensures exits { self.new.found.exits ≡ self.old.found.exits }
+        ensures less { OnOk result (IsLess S.members self.old self.new) }
+        ensures stays { StaysAs self.old self.new }
+        ensures fault { self.new.fault ≡ self.old.fault }
+    {
+        let key = Call {
+            callee: call.callee(),
+            entered: call.entry(edge.values),
+        };
+        let site = Site {
+            asked: edge.entry,
+            next: call.back(),
+            values: edge.values,
+        };
+        let due = Due::Entry {
+            caller: Caller::Proc(self.procedure),
+            a: key.entered,
+        };
+        self.found.given.give(key.callee, due)?;
+        self.found.sites.add(key, site)?;
+        go_on(
+            self.graph,
+            &mut self.edges,
+            &mut self.found.pending,
+            self.limit,
+            site,
+            self.found.summaries.of(key),
+        )
+    }
+
+    /// Works on an edge that is no longer pending: adds the edges that it leads to, and gives the messages that it makes due.
+    pub(crate) fn work(&mut self, edge: Edge) -> Result<(), TableFault>
+        requires edge { Member (triple_of edge) (S.members self.old.edges) }
+        requires holds { Holds S.members (λ t. t ≡ triple_of edge) self.old }
+        requires within { length (S.members self.old.edges) ≤ self.old.limit.edges }
+        ensures ok { OnOk result (Holds S.members (λ t. ⊥) self.new) }
+        ensures only { (t : Triple) → Member t (S.members self.new.edges) → IsReached self.new t }
+        ensures within { length (S.members self.new.edges) ≤ self.new.limit.edges }
+        ensures limit { result ≡ Err TableFault.EdgeLimit → HasMore self.new.limit.edges (IsReached self.new) }
+        ensures sent { OnOk result (sent self.new.found ≡ sent self.old.found) }
+        ensures taken { TookSame self.old.found self.new.found }
+        ensures less { OnOk result (IsLess S.members self.old self.new) }
+        ensures stays { StaysAs self.old self.new }
+        ensures fault { self.new.fault ≡ self.old.fault }
+    {
+        if edge.point == EXIT {
+            self.leave(edge)?;
+        }
+        if edge.point >= self.graph.points() {
+            return Ok(());
+        }
+        match self.graph.flow(edge.point) {
+            Flow::Call(call) => self.ask(edge, call),
+            flow => lead(
+                flow,
+                &mut self.edges,
+                &mut self.found.pending,
+                self.limit,
+                edge,
+            ),
+        }
+    }
+
+    /// Lets a caller enter the procedure: its start is reached, and the caller gets the summaries that are known.
+    pub(crate) fn begin(&mut self, caller: Caller, a: Word) -> Result<(), TableFault>
+        requires holds { Holds S.members (λ t. ⊥) self.old }
+        requires within { length (S.members self.old.edges) ≤ self.old.limit.edges }
+        ensures ok { OnOk result (Holds S.members (λ t. ⊥) self.new) }
+        ensures only { (t : Triple) → Member t (S.members self.new.edges) → IsReached self.new t }
+        ensures within { length (S.members self.new.edges) ≤ self.new.limit.edges }
+        ensures limit { result ≡ Err TableFault.EdgeLimit → HasMore self.new.limit.edges (IsReached self.new) }
+        ensures sent { OnOk result (sent self.new.found ≡ sent self.old.found) }
+        ensures taken { OnOk result (TookAlso (Entry caller a) self.old.found self.new.found) }
+        ensures stays { StaysAs self.old self.new }
+        ensures fault { self.new.fault ≡ self.old.fault }
+    {
+        self.found.entries.add(a, caller)?;
+        let start = Edge {
+            entry: a,
+            point: self.graph.start(),
+            values: a,
+        };
+        reach(
+            &mut self.edges,
+            &mut self.found.pending,
+            self.limit,
+            start,
+        )?;
+        tell_exits(
+            &mut self.found.given,
+            self.procedure,
+            a,
+            self.found.exits.of(a),
+            caller,
+        )?;
+        Ok(())
+    }
+
+    /// Goes on behind each call of this kind, for globals that it left.
+    pub(crate) fn end(&mut self, call: Call, b: Word) -> Result<(), TableFault>
+        requires holds { Holds S.members (λ t. ⊥) self.old }
+        requires within { length (S.members self.old.edges) ≤ self.old.limit.edges }
+        ensures ok { OnOk result (Holds S.members (λ t. ⊥) self.new) }
+        ensures only { (t : Triple) → Member t (S.members self.new.edges) → IsReached self.new t }
+        ensures within { length (S.members self.new.edges) ≤ self.new.limit.edges }
+        ensures limit { result ≡ Err TableFault.EdgeLimit → HasMore self.new.limit.edges (IsReached self.new) }
+        ensures sent { OnOk result (sent self.new.found ≡ sent self.old.found) }
+        ensures taken { OnOk result (TookAlso (Summary call.callee call.entered b) self.old.found self.new.found) }
+        ensures stays { StaysAs self.old self.new }
+        ensures fault { self.new.fault ≡ self.old.fault }
+    {
+        self.found.summaries.add(call, b)?;
+        go_on_at_each(
+            self.graph,
+            &mut self.edges,
+            &mut self.found.pending,
+            self.limit,
+            self.found.sites.of(call),
+            b,
+        )
+    }
+}
