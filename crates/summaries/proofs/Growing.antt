@@ -1,16 +1,17 @@
 -- How path edges and those pending grow, step by step.
 use Rattle.std.specs.Bool.{OnFalse}
 use Rattle.std.specs.Result.{IsErrAnd}
-use Rattle.std.proofs.Common.{◌≡◌, Bool, true, false, true≢false, List, [], ◌∷◌, ◌++◌, ◌⊎◌, inl, inr, refl, sym, ap, subst, ◌∙◌, ℕ, ◌+◌, ◌<◌, Result, Err, length, take, drop, get_or, if◌then◌else◌, arith, length-append}
-use Rattle.summaries.proofs.Firsts.{whole}
-use Rattle.std.proofs.lemmas.List.{take-append-drop}
+use Rattle.std.proofs.Common.{Option, Some, ◌≤◌, eq-or-lt_of_le, ◌≡◌, Bool, true, false, true≢false, List, [], ◌∷◌, ◌++◌, ◌⊎◌, inl, inr, refl, sym, ap, subst, ◌∙◌, ℕ, ◌+◌, ◌<◌, Result, Err, length, take, drop, get_or, if◌then◌else◌, arith, length-append}
+use Rattle.summaries.proofs.Eaches.{each_left, each_last, each_or_last}
+use Rattle.std.proofs.lemmas.Option.{same_Some}
 use Rattle.language.specs.Flow.{Member}
 use Rattle.language.proofs.Members.{member_left, member_right, member_append}
 use Rattle.path_sets.specs.Triples.{Triple, triple}
 use Rattle.summaries.specs.declared.edge.Edge.{Edge}
 use Rattle.summaries.specs.declared.edge.Site.{Site}
-use Rattle.summaries.specs.Moves.{Moves}
-use Rattle.summaries.specs.Grows.{Grows, triple_of, edge_of, IsBehind}
+use Rattle.flow_graph.specs.Flows.{last_of, next_of}
+use Rattle.flow_graph.specs.declared.flow.Flow.{Flow}
+use Rattle.summaries.specs.Grows.{Grows, Each, IsAt, IsNextBefore, IsNext, triple_of, edge_of}
 
 -- an edge that was there adds nothing
 pub known : (e : Edge) (old new : List Triple) (before : List Edge) (answer : Bool) → answer ≡ false → OnFalse answer (Member (triple_of e) old) →
@@ -24,6 +25,7 @@ known e old new before false is there members longer = record {
   pending = λ t m. inl (elim ((members t).0 m) [ inl w ↦ subst (λ u. Member u old) (sym w) there | inr was ↦ was ]);
   edges = λ x m. inl m;
   more = omega (arith, longer);
+  longer = omega (arith, longer);
 }
 
 -- an edge that is new stands pending
@@ -42,6 +44,7 @@ added e old new before members longer = record {
     | inr last ↦ elim last [ inl is ↦ inr ((members (triple_of x)).1 (inl (ap triple_of is))) | inr none ↦ elim none [ ] ]
   ];
   more = let l = length-append before (e ∷ []) in omega (arith, l, longer);
+  longer = omega (arith, longer);
 }
 
 -- nothing more to add
@@ -54,6 +57,7 @@ nothing W edges pending none = record {
   pending = λ t m. inl m;
   edges = λ x m. inl m;
   more = refl;
+  longer = omega arith;
 }
 
 -- one step after another
@@ -77,46 +81,17 @@ both V W U old mid new before between after first second from to = record {
     | inr n ↦ inr n
   ];
   more = let e = first.more in let f = second.more in omega (arith, e, f);
+  longer = let e = first.longer in let f = second.longer in omega (arith, e, f);
 }
 
-module _ (m : Moves) (site : Site) where
-  -- with no summaries nothing is behind the call
-  pub behind_none : (edges : List Triple) (pending : List Edge) → Grows (IsBehind m site []) edges edges pending pending
-  behind_none edges pending = nothing (IsBehind m site []) edges pending (λ t w. elim w.1 [ ])
-
-  -- what is behind it for a part of the summaries is behind it
-  pub behind_part : (bs cs : List ℕ) (t : Triple) → IsBehind m site bs t → IsBehind m site (bs ++ cs) t
-  behind_part bs cs t w = (w.0, member_left w.0 bs cs w.1, w.2)
-
-  -- the edge for the last summary
-  pub behind_last : (bs : List ℕ) (b : ℕ) → IsBehind m site (bs ++ b ∷ []) (triple site.asked site.next (m.resumed site.values b))
-  behind_last bs b = (b, member_right b bs (b ∷ []) (inl refl), refl)
-
-  -- one summary more
-  pub behind_more : (bs : List ℕ) (b : ℕ) (e : Edge) (old mid new : List Triple) (before between after : List Edge) → triple_of e ≡ triple site.asked site.next (m.resumed site.values b) →
-      Grows (IsBehind m site bs) old mid before between → Grows (λ t. t ≡ triple_of e) mid new between after → Grows (IsBehind m site (bs ++ b ∷ [])) old new before after
-  behind_more bs b e old mid new before between after is first second =
-      both (IsBehind m site bs) (λ t. t ≡ triple_of e) (IsBehind m site (bs ++ b ∷ [])) old mid new before between after first second
-      (λ t w. elim (member_append w.0 bs (b ∷ []) w.1) [
-        | inl n ↦ inl (w.0, n, w.2)
-        | inr last ↦ elim last [ inl same ↦ inr (w.2 ∙ ap (λ k. triple site.asked site.next (m.resumed site.values k)) same ∙ sym is) | inr none ↦ elim none [ ] ]
-      ])
-      (λ t w. elim w [
-        | inl u ↦ behind_part bs (b ∷ []) t u
-        | inr same ↦ subst (IsBehind m site (bs ++ b ∷ [])) (sym (same ∙ is)) (behind_last bs b)
-      ])
-
-module _ (m : Moves) (site : Site) (bs : List ℕ) (i : ℕ) where
-  -- what is behind the call for the first summaries is behind it for all of them
-  pub behind_first : (t : Triple) → IsBehind m site (take i bs) t → IsBehind m site bs t
-  behind_first t w = subst (λ l. IsBehind m site l t) (take-append-drop i bs) (behind_part m site (take i bs) (drop i bs) t w)
-
-  -- the edge for the summary at a place
-  pub behind_at : i < length bs → IsBehind m site bs (triple site.asked site.next (m.resumed site.values (get_or bs i 0)))
-  behind_at within =
-      let edge = triple site.asked site.next (m.resumed site.values (get_or bs i 0)) in
-      subst (λ l. IsBehind m site l edge) (whole bs i 0 within)
-      (behind_part m site (take i bs ++ get_or bs i 0 ∷ []) (drop (i + 1) bs) edge (behind_last m site (take i bs) (get_or bs i 0)))
+-- one item more
+pub each_more : {X : Type 0} (W : X → Triple → Type 0) (xs : List X) (x : X) (e : Edge) (old mid new : List Triple) (before between after : List Edge) →
+    ((t : Triple) → W x t → t ≡ triple_of e) → W x (triple_of e) →
+    Grows (Each W xs) old mid before between → Grows (λ t. t ≡ triple_of e) mid new between after → Grows (Each W (xs ++ x ∷ [])) old new before after
+each_more W xs x e old mid new before between after is own first second =
+    both (Each W xs) (λ t. t ≡ triple_of e) (Each W (xs ++ x ∷ [])) old mid new before between after first second
+    (λ t w. elim (each_or_last W xs x t w) [ inl n ↦ inl n | inr l ↦ inr (is t l) ])
+    (λ t w. elim w [ inl n ↦ each_left W xs (x ∷ []) t n | inr l ↦ subst (Each W (xs ++ x ∷ [])) (sym l) (each_last W xs x (triple_of e) own) ])
 
 -- what holds of an error holds of the one that is answered
 pub fault_of : {F : Type 0} (P : F → Type 0) (r : Result (Unit {0}) F) (fault : F) → IsErrAnd r P → r ≡ Err fault → P fault
@@ -126,3 +101,52 @@ fault_of P r fault told is = subst (λ s. IsErrAnd s P) is told
 pub longer_by : (n o : ℕ) (answer : Bool) → answer ≡ true → n ≡ o + (if answer then 1 else 0) → n ≡ o + 1
 longer_by n o true is e = e
 longer_by n o false is e = absurd (true≢false (sym is))
+
+-- what is reached, called otherwise
+pub grows_as : (V W : Triple → Type 0) (old new : List Triple) (before after : List Edge) → ((t : Triple) → V t → W t) → ((t : Triple) → W t → V t) →
+    Grows V old new before after → Grows W old new before after
+grows_as V W old new before after to from grows = record {
+  all = λ t w. grows.all t (from t w);
+  kept = grows.kept;
+  only = λ t m. elim (grows.only t m) [ inl v ↦ inl (to t v) | inr was ↦ inr was ];
+  stays = grows.stays;
+  pending = grows.pending;
+  edges = grows.edges;
+  more = grows.more;
+  longer = grows.longer;
+}
+
+-- the place where the run goes on
+pub is_at : (e : Edge) (next : Option (ℕ × ℕ)) (n v : ℕ) → next ≡ Some (n, v) → (t : Triple) → t ≡ triple e.entry n v → IsAt e next t
+is_at e next n v is t at = (n, v, is, at)
+
+pub at_is : (e : Edge) (next : Option (ℕ × ℕ)) (n v : ℕ) → next ≡ Some (n, v) → (t : Triple) → IsAt e next t → t ≡ triple e.entry n v
+at_is e next n v is t (n', v', is', at) = at ∙ ap (λ x. triple e.entry x.0 x.1) (same_Some (n', v') (n, v) (sym is' ∙ is))
+
+module _ {G : Type 0} (flow : Flow G) (e : Edge) where
+  -- no choice yet
+  pub next_none : (edges : List Triple) (pending : List Edge) → Grows (IsNextBefore 0 flow e) edges edges pending pending
+  next_none edges pending = nothing (IsNextBefore 0 flow e) edges pending (λ t w. let k = w.1 in omega (arith, k))
+
+  -- one choice more
+  pub next_more : (k : ℕ) (t : Triple) → IsNextBefore (k + 1) flow e t → IsNextBefore k flow e t ⊎ IsAt e (next_of flow e.values k) t
+  next_more k t (i, less, at) =
+      elim (eq-or-lt_of_le {n = i} {m = k} (omega (arith, less))) [
+        | inl same ↦ inr (subst (λ j. IsAt e (next_of flow e.values j) t) same at)
+        | inr before ↦ inl (i, before, at)
+      ]
+
+  pub next_so_far : (k : ℕ) (t : Triple) → IsNextBefore k flow e t ⊎ IsAt e (next_of flow e.values k) t → IsNextBefore (k + 1) flow e t
+  next_so_far k t (inl (i, less, at)) = (i, omega (arith, less), at)
+  next_so_far k t (inr at) = (k, omega arith, at)
+
+  -- the choices to the last are all
+  pub next_all : (k : ℕ) → last_of flow ≤ k → k ≤ last_of flow → (t : Triple) → IsNextBefore (k + 1) flow e t → IsNext flow e t
+  next_all k least most t (i, less, at) = (i, omega (arith, less, most), at)
+
+  pub all_next : (k : ℕ) → last_of flow ≤ k → k ≤ last_of flow → (t : Triple) → IsNext flow e t → IsNextBefore (k + 1) flow e t
+  all_next k least most t (i, less, at) = (i, omega (arith, less, least), at)
+
+  -- what comes of some choice so far comes of one
+  pub some_next : (k : ℕ) → k ≤ last_of flow → (t : Triple) → IsNextBefore k flow e t → IsNext flow e t
+  some_next k most t (i, less, at) = (i, omega (arith, less, most), at)

@@ -2,5 +2,10 @@ pub mod Quiet
 pub mod Indexed
 pub mod Mails
 pub mod Firsts
+pub mod Eaches
 pub mod Growing
 pub mod Telling
+pub mod Dues
+pub mod Adding
+pub mod Stepping
+pub mod Asking

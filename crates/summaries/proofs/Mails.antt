@@ -1,11 +1,12 @@
 -- Messages that compare as equal are the same.
-use Rattle.std.proofs.Common.{◌≡◌, ◌≤◌, ◌+◌, ℕ, Bool, true, false, ◌&&◌, nat_eq, List, [], ◌∷◌, ◌++◌, length, if◌then◌else◌, inl, inr, refl, sym, ap, ◌∙◌, subst, true≢false, ◌||◌, not, Result, Ok, Err, arith}
+use Rattle.std.proofs.Common.{take, drop, ◌≡◌, ◌≤◌, ◌+◌, ℕ, Bool, true, false, ◌&&◌, nat_eq, List, [], ◌∷◌, ◌++◌, length, if◌then◌else◌, inl, inr, refl, sym, ap, ◌∙◌, subst, true≢false, ◌||◌, not, Result, Ok, Err, arith}
+use Rattle.std.proofs.lemmas.List.{take-append-drop}
 use Rattle.std.specs.Result.{IfOk, OnErr}
 use Rattle.std.specs.Bool.{OnTrue, OnFalse}
 use Rattle.std.specs.List.{list_any}
 use Rattle.std.proofs.lemmas.Map.Views.{exact_unsigned_eq}
 use Rattle.language.specs.Flow.{Member}
-use Rattle.language.proofs.Members.{member_append}
+use Rattle.language.proofs.Members.{member_left, member_right, member_append}
 use Rattle.path_sets.specs.Triples.{NoneTwice}
 use Rattle.indexmap.specs.IndexSet.{insert_key}
 use Rattle.summaries.specs.declared.due.Caller.{Caller}
@@ -15,10 +16,10 @@ use Rattle.summaries.specs.declared.due.Due.TheVariants.{Entry, Summary}
 use Rattle.summaries.specs.declared.given.Mail.{Mail}
 use Rattle.summaries.specs.contracts.given.MailPartialEq.TheImpl.{eq-value}
 use Rattle.summaries.specs.contracts.given.MailEq.TheImpl.Laws.{laws-law}
-use Rattle.summaries.specs.Waiting.{mail}
+use Rattle.summaries.specs.Mails.{mail}
 
 -- a conjunction's parts
-both : (a b : Bool) → (a && b) ≡ true → (a ≡ true) × (b ≡ true)
+pub both : (a b : Bool) → (a && b) ≡ true → (a ≡ true) × (b ≡ true)
 both true b h = (refl, h)
 both false b h = absurd (true≢false (sym h))
 
@@ -110,3 +111,12 @@ module _ {E : Type 0} (k : Mail) (ks after : List Mail) where
   within_after n (Ok true) longer same within = omega arith
   within_after n (Ok false) longer same within = omega arith
   within_after n (Err _) longer same within = subst (λ ms. n ≤ length ms) (sym same) within
+
+-- what stands behind others is not among them, where nothing stands twice
+pub next_new : {K : Type 0} (ks : List K) (n m : ℕ) (k : K) → take m ks ≡ take n ks ++ k ∷ [] → NoneTwice ks → Member k (take n ks) → ⊥
+next_new {K = K} ks n m k more once = apart (take n ks) (drop m ks) (subst NoneTwice (sym (ap (λ l. l ++ drop m ks) (sym more) ∙ take-append-drop m ks)) once)
+  where
+    apart : (xs ys : List K) → NoneTwice ((xs ++ k ∷ []) ++ ys) → Member k xs → ⊥
+    apart [] ys o m = m
+    apart (x ∷ xs) ys (x_once, o) (inl e) = x_once (member_left x (xs ++ k ∷ []) ys (member_right x xs (k ∷ []) (inl (sym e))))
+    apart (x ∷ xs) ys (x_once, o) (inr m) = apart xs ys o m

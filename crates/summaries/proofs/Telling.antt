@@ -1,89 +1,68 @@
--- How messages come to be given, caller by caller.
-use Rattle.std.proofs.Common.{◌≡◌, ℕ, Bool, true, false, List, [], ◌∷◌, ◌++◌, inl, inr, refl, sym, subst, ◌+◌, ◌<◌, length, take, drop, get_or}
-use Rattle.std.proofs.lemmas.List.{take-append-drop}
+-- How messages come to be given, one by one.
+use Rattle.std.proofs.Common.{◌≡◌, Bool, true, false, List, [], ◌∷◌, ◌++◌, ◌⊎◌, inl, inr, refl, sym, subst, ap, ◌∙◌}
 use Rattle.std.specs.Bool.{OnTrue, OnFalse}
+use Rattle.std.proofs.lemmas.List.{append-nil, append_assoc}
 use Rattle.language.specs.Flow.{Member}
 use Rattle.language.proofs.Members.{member_left, member_right, member_append}
-use Rattle.summaries.specs.declared.due.Caller.{Caller}
-use Rattle.summaries.specs.declared.due.Caller.TheVariants.{Proc}
-use Rattle.summaries.specs.declared.due.Due.TheVariants.{Summary}
 use Rattle.summaries.specs.declared.given.Mail.{Mail}
-use Rattle.summaries.specs.Grows.{Gives, IsTold}
-use Rattle.summaries.specs.Waiting.{mail}
-use Rattle.summaries.proofs.Firsts.{whole}
+use Rattle.summaries.specs.Grows.{Gives, Each}
+use Rattle.summaries.proofs.Eaches.{each_left, each_last, each_or_last}
 
--- the number of a caller
-the : Caller → ℕ
-the (Proc n) = n
-the _ = 0
-
-number : (c to : ℕ) → Proc c ≡ Proc to → c ≡ to
-unfolding the
-number c to e = λ j. the (e j)
-
-module _ (p a b to : ℕ) (old new : List Mail) where
-  -- what is told to one caller is its summary
-  one_told : (x : Mail) → IsTold p a b (Proc to ∷ []) x → x ≡ mail to (Summary p a b)
-  one_told x (c, inl e, is) = subst (λ k. x ≡ mail k (Summary p a b)) (number c to e) is
-  one_told x (c, inr none, is) = elim none [ ]
-
-  -- its summary is told to a caller
-  is_told : IsTold p a b (Proc to ∷ []) (mail to (Summary p a b))
-  is_told = (to, inl refl, refl)
-
-  -- a summary that is given, new or not, is given to its caller
-  pub told_one : (added : Bool) → OnTrue added (new ≡ old ++ mail to (Summary p a b) ∷ []) → OnFalse added (Member (mail to (Summary p a b)) old) → OnFalse added (new ≡ old) → Gives (IsTold p a b (Proc to ∷ [])) old new
-  told_one true more known same = record {
-    all = λ x w. subst (Member x) (sym more) (member_right x old (mail to (Summary p a b) ∷ []) (inl (one_told x w)));
-    kept = λ x m. subst (Member x) (sym more) (member_left x old (mail to (Summary p a b) ∷ []) m);
-    only = λ x m. elim (member_append x old (mail to (Summary p a b) ∷ []) (subst (Member x) more m)) [
+module _ (m : Mail) (old new : List Mail) where
+  -- a message that is given, new or not
+  pub gives_one : (added : Bool) → OnTrue added (new ≡ old ++ m ∷ []) → OnFalse added (Member m old) → OnFalse added (new ≡ old) → Gives (λ x. x ≡ m) old new
+  gives_one true more known same = record {
+    all = λ x w. subst (Member x) (sym more) (member_right x old (m ∷ []) (inl w));
+    only = λ x n. elim (member_append x old (m ∷ []) (subst (Member x) more n)) [
       | inl was ↦ inr was
-      | inr last ↦ elim last [ inl e ↦ inl (subst (IsTold p a b (Proc to ∷ [])) (sym e) is_told) | inr none ↦ elim none [ ] ]
+      | inr last ↦ elim last [ inl e ↦ inl e | inr none ↦ elim none [ ] ]
     ];
+    behind = (m ∷ [], more);
   }
-  told_one false more known same = record {
-    all = λ x w. subst (Member x) (sym same) (subst (λ y. Member y old) (sym (one_told x w)) known);
-    kept = λ x m. subst (Member x) (sym same) m;
-    only = λ x m. inr (subst (Member x) same m);
-  }
-
-module _ (p a b : ℕ) where
-  -- no caller, nothing told
-  pub told_none : (given : List Mail) → Gives (IsTold p a b []) given given
-  told_none given = record {
-    all = λ x w. elim w.1 [ ];
-    kept = λ x m. m;
-    only = λ x m. inr m;
+  gives_one false more known same = record {
+    all = λ x w. subst (Member x) (sym same) (subst (λ y. Member y old) (sym w) known);
+    only = λ x n. inr (subst (Member x) same n);
+    behind = ([], same ∙ sym (append-nil old));
   }
 
-  -- what is told to a part of the callers is told
-  pub told_part : (cs ds : List Caller) (x : Mail) → IsTold p a b cs x → IsTold p a b (cs ++ ds) x
-  told_part cs ds x w = (w.0, member_left (Proc w.0) cs ds w.1, w.2)
+-- the same messages, called otherwise
+pub gives_as : (V W : Mail → Type 0) (old new : List Mail) → ((x : Mail) → V x → W x) → ((x : Mail) → W x → V x) → Gives V old new → Gives W old new
+gives_as V W old new to from gives = record {
+  all = λ x w. gives.all x (from x w);
+  only = λ x n. elim (gives.only x n) [ inl v ↦ inl (to x v) | inr was ↦ inr was ];
+  behind = gives.behind;
+}
 
-  pub told_rest : (cs ds : List Caller) (x : Mail) → IsTold p a b ds x → IsTold p a b (cs ++ ds) x
-  told_rest cs ds x w = (w.0, member_right (Proc w.0) cs ds w.1, w.2)
+-- nothing to give
+pub gives_none : (W : Mail → Type 0) (given : List Mail) → ((x : Mail) → W x → ⊥) → Gives W given given
+gives_none W given none = record {
+  all = λ x w. absurd (none x w);
+  only = λ x n. inr n;
+  behind = ([], sym (append-nil given));
+}
 
-  -- one caller more
-  pub told_more : (cs : List Caller) (c : Caller) (old mid new : List Mail) → Gives (IsTold p a b cs) old mid → Gives (IsTold p a b (c ∷ [])) mid new → Gives (IsTold p a b (cs ++ c ∷ [])) old new
-  told_more cs c old mid new first second = record {
-    all = λ x w. elim (member_append (Proc w.0) cs (c ∷ []) w.1) [
-      | inl m ↦ second.kept x (first.all x (w.0, m, w.2))
-      | inr m ↦ second.all x (w.0, m, w.2)
-    ];
-    kept = λ x m. second.kept x (first.kept x m);
-    only = λ x m. elim (second.only x m) [
-      | inl w ↦ inl (told_rest cs (c ∷ []) x w)
-      | inr n ↦ elim (first.only x n) [ inl w ↦ inl (told_part cs (c ∷ []) x w) | inr was ↦ inr was ]
-    ];
-  }
+-- what was given stays
+pub gives_kept : (W : Mail → Type 0) (old new : List Mail) → Gives W old new → (x : Mail) → Member x old → Member x new
+gives_kept W old new gives x m = subst (Member x) (sym gives.behind.1) (member_left x old gives.behind.0 m)
 
-module _ (p a b : ℕ) (callers : List Caller) (i : ℕ) where
-  -- what is told to the first callers is told
-  pub told_first : (x : Mail) → IsTold p a b (take i callers) x → IsTold p a b callers x
-  told_first x w = subst (λ l. IsTold p a b l x) (take-append-drop i callers) (told_part p a b (take i callers) (drop i callers) x w)
+-- one giving after another
+pub gives_both : (V W U : Mail → Type 0) (old mid new : List Mail) → Gives V old mid → Gives W mid new → ((x : Mail) → U x → V x ⊎ W x) → ((x : Mail) → V x ⊎ W x → U x) →
+    Gives U old new
+gives_both V W U old mid new first second from to = record {
+  all = λ x u. elim (from x u) [ inl v ↦ gives_kept W mid new second x (first.all x v) | inr w ↦ second.all x w ];
+  only = λ x n. elim (second.only x n) [
+    | inl w ↦ inl (to x (inr w))
+    | inr m ↦ elim (first.only x m) [ inl v ↦ inl (to x (inl v)) | inr was ↦ inr was ]
+  ];
+  behind = (
+    first.behind.0 ++ second.behind.0,
+    second.behind.1 ∙ ap (λ l. l ++ second.behind.0) first.behind.1 ∙ append_assoc old first.behind.0 second.behind.0,
+  );
+}
 
-  -- what is told to the caller at a place is told
-  pub told_at : (d : Caller) → i < length callers → (x : Mail) → IsTold p a b (get_or callers i d ∷ []) x → IsTold p a b callers x
-  told_at d within x w =
-      subst (λ l. IsTold p a b l x) (whole callers i d within)
-      (told_part p a b (take i callers ++ get_or callers i d ∷ []) (drop (i + 1) callers) x (told_rest p a b (take i callers) (get_or callers i d ∷ []) x w))
+-- one item more
+pub gives_more : {X : Type 0} (W : X → Mail → Type 0) (xs : List X) (y : X) (old mid new : List Mail) → Gives (Each W xs) old mid → Gives (W y) mid new → Gives (Each W (xs ++ y ∷ [])) old new
+gives_more W xs y old mid new first second =
+    gives_both (Each W xs) (W y) (Each W (xs ++ y ∷ [])) old mid new first second
+    (λ x w. each_or_last W xs y x w)
+    (λ x w. elim w [ inl n ↦ each_left W xs (y ∷ []) x n | inr l ↦ each_last W xs y x l ])

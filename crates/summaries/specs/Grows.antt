@@ -1,5 +1,5 @@
 -- Path edges that are added, and stand pending.
-use Rattle.std.specs.Prelude.{◌≡◌, ◌≤◌, ℕ, List, Some, ◌⊎◌, length, ◌+◌}
+use Rattle.std.specs.Prelude.{◌≡◌, ◌≤◌, ◌<◌, ℕ, Option, Some, List, ◌⊎◌, ◌++◌, length, ◌+◌}
 use Rattle.language.specs.Flow.{Member}
 use Rattle.path_sets.specs.Triples.{Triple, triple}
 use Rattle.flow_graph.specs.Flows.{last_of, next_of}
@@ -12,7 +12,7 @@ use Rattle.summaries.specs.declared.due.Due.TheVariants.{Summary}
 use Rattle.summaries.specs.declared.edge.Edge.{Edge}
 use Rattle.summaries.specs.declared.edge.Site.{Site}
 use Rattle.summaries.specs.declared.given.Mail.{Mail}
-use Rattle.summaries.specs.Waiting.{mail}
+use Rattle.summaries.specs.Mails.{mail}
 
 -- the path edge as a triple
 abbrev pub triple_of : Edge → Triple
@@ -34,28 +34,32 @@ pub record Grows (W : Triple → Type 0) (old new : List Triple) (before after :
   pub more : length after + length old ≡ length before + length new
   pub longer : length old ≤ length new
 
+-- A triple is where the run goes on from an edge, if it does.
+abbrev pub IsAt : Edge → Option (ℕ × ℕ) → Triple → Type 0
+IsAt e next t = (n : ℕ) × (v : ℕ) × (next ≡ Some (n, v)) × (t ≡ triple e.entry n v)
+
+-- A triple is where one of the first choices leads from an edge.
+abbrev pub IsNextBefore : {G : Type 0} → ℕ → Flow G → Edge → Triple → Type 0
+IsNextBefore k flow e t = (i : ℕ) × (i < k) × IsAt e (next_of flow e.values i) t
+
 -- A triple is where a choice leads from an edge.
 abbrev pub IsNext : {G : Type 0} → Flow G → Edge → Triple → Type 0
-IsNext flow e t = (i : ℕ) × (n : ℕ) × (v : ℕ) × (i ≤ last_of flow) × (next_of flow e.values i ≡ Some (n, v)) × (t ≡ triple e.entry n v)
+IsNext flow e t = (i : ℕ) × (i ≤ last_of flow) × IsAt e (next_of flow e.values i) t
 
--- A triple is the edge behind the call of a site, for some of the globals that it left.
-abbrev pub IsBehind : {G : Type 0} → Graph G → Site → List ℕ → Triple → Type 0
-IsBehind graph site bs t = (b : ℕ) × Member b bs × (t ≡ triple site.asked site.next (resumed graph.globals site.values b))
+-- W holds of it for some item of the list
+abbrev pub Each : {X T : Type 0} → (X → T → Type 0) → List X → T → Type 0
+Each {X} W xs t = (x : X) × Member x xs × W x t
 
--- A triple is the edge behind the call of some of the sites, for the globals that it left.
-abbrev pub IsEnded : {G : Type 0} → Graph G → List Site → ℕ → Triple → Type 0
-IsEnded graph sites b t = (site : Site) × Member site sites × (t ≡ triple site.asked site.next (resumed graph.globals site.values b))
+-- A triple is the edge behind the call of a site, for the globals that it left.
+abbrev pub IsBehind : {G : Type 0} → Graph G → Site → ℕ → Triple → Type 0
+IsBehind graph site b t = t ≡ triple site.asked site.next (resumed graph.globals site.values b)
 
--- The messages of which W holds are given after, beside those before, and no others.
+-- The messages of which W holds are given after, beside those before, and no others; they come behind those before.
 pub record Gives (W : Mail → Type 0) (old new : List Mail) : Type 0 where
   pub all : (x : Mail) → W x → Member x new
-  pub kept : (x : Mail) → Member x old → Member x new
   pub only : (x : Mail) → Member x new → W x ⊎ Member x old
+  pub behind : (more : List Mail) × (new ≡ old ++ more)
 
--- A message is the summary of procedure p for one of these callers.
-abbrev pub IsTold : ℕ → ℕ → ℕ → List Caller → Mail → Type 0
-IsTold p a b callers x = (c : ℕ) × Member (Proc c) callers × (x ≡ mail c (Summary p a b))
-
--- A message is the summary of procedure p for this caller, for some of the globals that it left.
-abbrev pub IsToldOf : ℕ → ℕ → List ℕ → Caller → Mail → Type 0
-IsToldOf p a bs from x = (b : ℕ) × (c : ℕ) × Member b bs × (from ≡ Proc c) × (x ≡ mail c (Summary p a b))
+-- A message is the summary of procedure p for this caller, which is not the starter.
+abbrev pub IsTold : ℕ → ℕ → ℕ → Caller → Mail → Type 0
+IsTold p a b from x = (c : ℕ) × (from ≡ Proc c) × (x ≡ mail c (Summary p a b))

@@ -1,5 +1,5 @@
 pub mod Under
-pub mod Waiting
+pub mod Mails
 pub mod Dues
 pub mod Found
 pub mod Grows

@@ -10,7 +10,7 @@ use Rattle.summaries.specs.declared.table.Table.{Table}
 use Rattle.summaries.specs.declared.table_fault.TableFault.{TableFault}
 use Rattle.summaries.specs.declared.table_fault.TableFault.TheVariants.{EdgeLimit}
 use Rattle.summaries.specs.Under.{under}
-use Rattle.summaries.specs.Waiting.{mail}
+use Rattle.summaries.specs.Mails.{mail}
 use Rattle.summaries.specs.Dues.{due_of}
 use Rattle.summaries.specs.Found.{pair, HasTaken, HasSite, HasExit, IsSound, IsComplete}
 

@@ -1,10 +1,10 @@
 //! The messages that a table has given.
 
-ghost use Rattle.std.specs.Prelude.{◌≡◌, ◌≤◌, ◌∷◌, [], ◌++◌, length, IfOk, OnErr, IfSome, IfNone};
+ghost use Rattle.std.specs.Prelude.{◌≡◌, ◌≤◌, ◌∷◌, [], ◌++◌, length, take, IfOk, OnErr, IfSome, IfNone};
 ghost use Rattle.std.specs.Bool.{OnTrue, OnFalse};
 ghost use Rattle.language.specs.Flow.{Member};
 ghost use Rattle.path_sets.specs.Triples.{NoneTwice, NoneTwice-prop};
-ghost use Rattle.summaries.specs.Waiting.{mail, waiting};
+ghost use Rattle.summaries.specs.Mails.{mail};
 
 use crate::due::Due;
 use indexmap::IndexSet;
@@ -52,11 +52,17 @@ impl<A: Allocator + Copy> Given<A> {
 
     /// The first message that is not answered yet, which then is.
     pub(crate) fn next(&mut self) -> Option<(u8, Due)>
-        ensures some { IfSome result (λ m. waiting self.old.mails.keys self.old.answered ≡ mail m.0 m.1 ∷ waiting self.new.mails.keys self.new.answered) }
-        ensures none { IfNone result (waiting self.old.mails.keys self.old.answered ≡ []) }
+        ensures some { IfSome result (λ m. take self.new.answered self.new.mails.keys ≡ take self.old.answered self.old.mails.keys ++ mail m.0 m.1 ∷ []) }
+        ensures new { IfSome result (λ m. ¬ Member (mail m.0 m.1) (take self.old.answered self.old.mails.keys)) }
+        ensures none { IfNone result (take self.old.answered self.old.mails.keys ≡ self.old.mails.keys) }
+        ensures same { IfNone result (self.new.answered ≡ self.old.answered) }
         ensures given { self.new.mails.keys ≡ self.old.mails.keys }
     {
-        let mail = *self.mails.as_slice().get(self.answered)?;
+        let mails = self.mails.as_slice();
+        if self.answered >= mails.len() {
+            return None;
+        }
+        let mail = mails[self.answered];
         self.answered += 1;
         Some((mail.to, mail.due))
     }

@@ -3,7 +3,7 @@
 ghost use Rattle.std.specs.Prelude.{◌≡◌, ◌≤◌, ◌⊎◌, length, OnOk, Err};
 ghost use Rattle.language.specs.Flow.{Member};
 ghost use Rattle.path_sets.specs.Triples.{Triple};
-ghost use Rattle.summaries.specs.Grows.{Grows, IsBehind, IsEnded};
+ghost use Rattle.summaries.specs.Grows.{Grows, Each, IsBehind};
 
 use crate::edge::{Edge, Site};
 use crate::edge_limit::EdgeLimit;
@@ -23,10 +23,10 @@ pub(crate) fn go_on<G: Allocator, A: Allocator, S: PathSet<A>>(
     summaries: &[Word],
 ) -> Result<(), TableFault>
     requires { length (S.members edges.old) ≤ limit.edges }
-    ensures ok { OnOk result (Grows (IsBehind graph.now site summaries.now) (S.members edges.old) (S.members edges.new) pending.old.items pending.new.items) }
-    ensures only { (t : Triple) → Member t (S.members edges.new) → IsBehind graph.now site summaries.now t ⊎ Member t (S.members edges.old) }
+    ensures ok { OnOk result (Grows (Each (IsBehind graph.now site) summaries.now) (S.members edges.old) (S.members edges.new) pending.old.items pending.new.items) }
+    ensures only { (t : Triple) → Member t (S.members edges.new) → Each (IsBehind graph.now site) summaries.now t ⊎ Member t (S.members edges.old) }
     ensures within { length (S.members edges.new) ≤ limit.edges }
-    ensures limit { result ≡ Err TableFault.EdgeLimit → (t : Triple) × IsBehind graph.now site summaries.now t × (¬ Member t (S.members edges.new)) × (limit.edges ≤ length (S.members edges.new)) }
+    ensures limit { result ≡ Err TableFault.EdgeLimit → (t : Triple) × Each (IsBehind graph.now site) summaries.now t × (¬ Member t (S.members edges.new)) × (limit.edges ≤ length (S.members edges.new)) }
 {
     for globals in summaries {
         let values = graph.resumed(site.values, *globals);
@@ -50,10 +50,10 @@ pub(crate) fn go_on_at_each<G: Allocator, A: Allocator, S: PathSet<A>>(
     globals: Word,
 ) -> Result<(), TableFault>
     requires { length (S.members edges.old) ≤ limit.edges }
-    ensures ok { OnOk result (Grows (IsEnded graph.now sites.now globals) (S.members edges.old) (S.members edges.new) pending.old.items pending.new.items) }
-    ensures only { (t : Triple) → Member t (S.members edges.new) → IsEnded graph.now sites.now globals t ⊎ Member t (S.members edges.old) }
+    ensures ok { OnOk result (Grows (Each (λ site. IsBehind graph.now site globals) sites.now) (S.members edges.old) (S.members edges.new) pending.old.items pending.new.items) }
+    ensures only { (t : Triple) → Member t (S.members edges.new) → Each (λ site. IsBehind graph.now site globals) sites.now t ⊎ Member t (S.members edges.old) }
     ensures within { length (S.members edges.new) ≤ limit.edges }
-    ensures limit { result ≡ Err TableFault.EdgeLimit → (t : Triple) × IsEnded graph.now sites.now globals t × (¬ Member t (S.members edges.new)) × (limit.edges ≤ length (S.members edges.new)) }
+    ensures limit { result ≡ Err TableFault.EdgeLimit → (t : Triple) × Each (λ site. IsBehind graph.now site globals) sites.now t × (¬ Member t (S.members edges.new)) × (limit.edges ≤ length (S.members edges.new)) }
 {
     for site in sites {
         let values = graph.resumed(site.values, globals);

@@ -31,7 +31,7 @@ impl<'g, G: Allocator, A: Allocator + Copy, S: PathSet<A>> Table<'g, G, A, S> {
     ghost use Rattle.path_sets.specs.Triples.{Triple};
     ghost use Rattle.flow_graph.specs.Numbers.{NumberedMessage, Sends};
     ghost use Rattle.summaries.specs.declared.due.Due.TheVariants.{Entry, Summary};
-    ghost use Rattle.summaries.specs.Waiting.{mail};
+    ghost use Rattle.summaries.specs.Mails.{mail};
     ghost use Rattle.summaries.specs.Dues.{due_of};
     ghost use Rattle.summaries.specs.Found.{HasTaken};
     ghost use Rattle.summaries.specs.Tables.{sent, IsTable, IsNew, IsQuiet, StaysAs, TookAlso, TookSame, fault_of, failed_by};

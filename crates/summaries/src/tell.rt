@@ -1,9 +1,9 @@
 //! An exit whose callers are known.
 
-ghost use Rattle.std.specs.Prelude.{◌≡◌, ◌⊎◌, [], ◌∷◌, OnOk};
+ghost use Rattle.std.specs.Prelude.{◌≡◌, ◌⊎◌, OnOk};
 ghost use Rattle.language.specs.Flow.{Member};
 ghost use Rattle.summaries.specs.declared.given.Mail.{Mail};
-ghost use Rattle.summaries.specs.Grows.{Gives, IsTold, IsToldOf};
+ghost use Rattle.summaries.specs.Grows.{Gives, Each, IsTold};
 
 use crate::due::{Caller, Due};
 use crate::given::Given;
@@ -18,8 +18,8 @@ pub(crate) fn tell<A: Allocator + Copy>(
     b: Word,
     caller: Caller,
 ) -> Result<(), AllocError>
-    ensures ok { OnOk result (Gives (IsTold p a b (caller ∷ [])) given.old.mails.keys given.new.mails.keys) }
-    ensures only { (x : Mail) → Member x given.new.mails.keys → IsTold p a b (caller ∷ []) x ⊎ Member x given.old.mails.keys }
+    ensures ok { OnOk result (Gives (IsTold p a b caller) given.old.mails.keys given.new.mails.keys) }
+    ensures only { (x : Mail) → Member x given.new.mails.keys → IsTold p a b caller x ⊎ Member x given.old.mails.keys }
 {
     if let Caller::Proc(to) = caller {
         given.give(to, Due::Summary { p, a, b })?;
@@ -35,8 +35,8 @@ pub(crate) fn tell_all<A: Allocator + Copy>(
     b: Word,
     callers: &[Caller],
 ) -> Result<(), AllocError>
-    ensures ok { OnOk result (Gives (IsTold p a b callers.now) given.old.mails.keys given.new.mails.keys) }
-    ensures only { (x : Mail) → Member x given.new.mails.keys → IsTold p a b callers.now x ⊎ Member x given.old.mails.keys }
+    ensures ok { OnOk result (Gives (Each (IsTold p a b) callers.now) given.old.mails.keys given.new.mails.keys) }
+    ensures only { (x : Mail) → Member x given.new.mails.keys → Each (IsTold p a b) callers.now x ⊎ Member x given.old.mails.keys }
 {
     for caller in callers {
         tell(given, p, a, b, *caller)?;
@@ -52,8 +52,8 @@ pub(crate) fn tell_exits<A: Allocator + Copy>(
     exits: &[Word],
     caller: Caller,
 ) -> Result<(), AllocError>
-    ensures ok { OnOk result (Gives (IsToldOf p a exits.now caller) given.old.mails.keys given.new.mails.keys) }
-    ensures only { (x : Mail) → Member x given.new.mails.keys → IsToldOf p a exits.now caller x ⊎ Member x given.old.mails.keys }
+    ensures ok { OnOk result (Gives (Each (λ b. IsTold p a b caller) exits.now) given.old.mails.keys given.new.mails.keys) }
+    ensures only { (x : Mail) → Member x given.new.mails.keys → Each (λ b. IsTold p a b caller) exits.now x ⊎ Member x given.old.mails.keys }
 {
     for b in exits {
         tell(given, p, a, *b, caller)?;

@@ -1,12 +1,29 @@
-use Rattle.std.proofs.Common.{[], ◌∷◌, sym, subst}
+use Rattle.std.proofs.Common.{◌≡◌, ℕ, refl, sym, ap, ◌∙◌, subst}
+use Rattle.summaries.specs.declared.due.Caller.{Caller}
+use Rattle.summaries.specs.declared.due.Caller.TheVariants.{Proc}
+use Rattle.summaries.specs.declared.due.Due.TheVariants.{Summary}
+use Rattle.summaries.specs.Mails.{mail}
 use Rattle.summaries.specs.Grows.{Gives, IsTold}
-use Rattle.summaries.proofs.Telling.{told_one}
+use Rattle.summaries.proofs.Telling.{gives_one, gives_as}
 use Rattle.summaries.proofs.tell.tell.Goals as goal
+
+-- the number of a caller
+the : Caller → ℕ
+the (Proc n) = n
+the _ = 0
+
+number : (c to : ℕ) → Proc c ≡ Proc to → c ≡ to
+unfolding the
+number c to e = ap the e
 
 pub returns-in_ok-give-clause-ok : goal.returns-in_ok-give-clause-ok
 returns-in_ok-give-clause-ok g c =
-    let one = told_one c.args.p c.args.a c.args.b c.in-Proc.to c.args.given.now.mails.keys c.give.new.self.mails.keys c.in_ok-give.field-0 c.in_ok-give.ensures.new c.in_ok-give.ensures.known c.in_ok-give.ensures.same in
-    subst (λ caller. Gives (IsTold c.args.p c.args.a c.args.b (caller ∷ [])) c.args.given.now.mails.keys c.give.new.self.mails.keys) (sym c.in-Proc.is) one
+    let told = mail c.in-Proc.to (Summary c.args.p c.args.a c.args.b) in
+    let one = gives_one told c.args.given.now.mails.keys c.give.new.self.mails.keys c.in_ok-give.field-0 c.in_ok-give.ensures.new c.in_ok-give.ensures.known c.in_ok-give.ensures.same in
+    gives_as (λ x. x ≡ told) (IsTold c.args.p c.args.a c.args.b c.args.caller) c.args.given.now.mails.keys c.give.new.self.mails.keys
+    (λ x e. (c.in-Proc.to, c.in-Proc.is, e))
+    (λ x w. w.2 ∙ ap (λ to. mail to (Summary c.args.p c.args.a c.args.b)) (number w.0 c.in-Proc.to (sym w.1 ∙ c.in-Proc.is)))
+    one
 
 pub returns-in_ok-give-clause-only : goal.returns-in_ok-give-clause-only
 returns-in_ok-give-clause-only g c = (returns-in_ok-give-clause-ok g c).only

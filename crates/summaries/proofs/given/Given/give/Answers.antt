@@ -1,4 +1,4 @@
-use Rattle.summaries.specs.Waiting.{mail}
+use Rattle.summaries.specs.Mails.{mail}
 use Rattle.summaries.proofs.Mails.{fresh_or_known, within_after, once_after}
 use Rattle.summaries.proofs.given.Given.give.Goals as goal
 

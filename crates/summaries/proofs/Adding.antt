@@ -1,0 +1,43 @@
+-- What is found by keys after one value more was added to a key.
+use Rattle.std.proofs.Common.{◌≡◌, ◌⊎◌, Bool, true, false, List, [], ◌∷◌, ◌++◌, inl, inr, refl, sym, subst, ◌&&◌, nat_eq}
+use Rattle.std.proofs.lemmas.Map.Views.{exact_unsigned_eq}
+use Rattle.language.specs.Flow.{Member}
+use Rattle.language.proofs.Members.{member_left, member_right, member_append}
+use Rattle.summaries.specs.declared.edge.Call.{Call}
+use Rattle.summaries.specs.Found.{call, call_eq}
+use Rattle.summaries.proofs.Mails.{both}
+
+-- calls that compare as equal are the same
+pub same_call : (x y : Call) → call_eq x y ≡ true → x ≡ y
+same_call x y e =
+    let r = both (nat_eq x.callee y.callee) (nat_eq x.entered y.entered) e in
+    λ j. call (exact_unsigned_eq x.callee y.callee r.0 j) (exact_unsigned_eq x.entered y.entered r.1 j)
+
+module _ {K V : Type 0} (eq : K → K → Bool) (same : (x y : K) → eq x y ≡ true → x ≡ y) (before after : K → List V) (key : K) (value : V)
+    (added : after key ≡ before key ++ value ∷ []) (others : (k : K) → eq key k ≡ false → after k ≡ before k) where
+  -- each value is one from before, or the new one
+  pub added_or : (k : K) (v : V) → Member v (after k) → Member v (before k) ⊎ ((key ≡ k) × (value ≡ v))
+  added_or k v m = by (eq key k) refl
+    where
+      by : (b : Bool) → eq key k ≡ b → Member v (before k) ⊎ ((key ≡ k) × (value ≡ v))
+      by true e =
+          let is = same key k e in
+          elim (member_append v (before key) (value ∷ []) (subst (Member v) added (subst (λ j. Member v (after j)) (sym is) m))) [
+            | inl was ↦ inl (subst (λ j. Member v (before j)) is was)
+            | inr last ↦ elim last [ inl this ↦ inr (is, sym this) | inr none ↦ elim none [ ] ]
+          ]
+      by false e = inl (subst (Member v) (others k e) m)
+
+  -- each value from before stays
+  pub added_keeps : (k : K) (v : V) → Member v (before k) → Member v (after k)
+  added_keeps k v m = by (eq key k) refl
+    where
+      by : (b : Bool) → eq key k ≡ b → Member v (after k)
+      by true e =
+          let is = same key k e in
+          subst (λ j. Member v (after j)) is (subst (Member v) (sym added) (member_left v (before key) (value ∷ []) (subst (λ j. Member v (before j)) (sym is) m)))
+      by false e = subst (Member v) (sym (others k e)) m
+
+  -- the new one is there
+  pub added_is : Member value (after key)
+  added_is = subst (Member value) (sym added) (member_right value (before key) (value ∷ []) (inl refl))

@@ -1,0 +1,34 @@
+-- What holds for some item of a list.
+use Rattle.std.proofs.Common.{ℕ, ◌+◌, ◌<◌, List, [], ◌∷◌, ◌++◌, ◌⊎◌, inl, inr, refl, subst, sym, length, take, drop, get_or}
+use Rattle.std.proofs.lemmas.List.{take-append-drop}
+use Rattle.language.proofs.Members.{member_left, member_right, member_append}
+use Rattle.summaries.specs.Grows.{Each}
+use Rattle.summaries.proofs.Firsts.{whole}
+
+module _ {X T : Type 0} (W : X → T → Type 0) where
+  -- for a part of the items, so for all
+  pub each_left : (xs ys : List X) (t : T) → Each W xs t → Each W (xs ++ ys) t
+  each_left xs ys t w = (w.0, member_left w.0 xs ys w.1, w.2)
+
+  -- for the last item, so for all
+  pub each_last : (xs : List X) (x : X) (t : T) → W x t → Each W (xs ++ x ∷ []) t
+  each_last xs x t w = (x, member_right x xs (x ∷ []) (inl refl), w)
+
+  -- for the items before the last, or for the last
+  pub each_or_last : (xs : List X) (x : X) (t : T) → Each W (xs ++ x ∷ []) t → Each W xs t ⊎ W x t
+  each_or_last xs x t w =
+      elim (member_append w.0 xs (x ∷ []) w.1) [
+        | inl n ↦ inl (w.0, n, w.2)
+        | inr last ↦ elim last [ inl e ↦ inr (subst (λ y. W y t) e w.2) | inr none ↦ elim none [ ] ]
+      ]
+
+  module _ (xs : List X) (i : ℕ) where
+    -- for the first items, so for all
+    pub each_first : (t : T) → Each W (take i xs) t → Each W xs t
+    each_first t w = subst (λ l. Each W l t) (take-append-drop i xs) (each_left (take i xs) (drop i xs) t w)
+
+    -- for the item at a place, so for all
+    pub each_at : (d : X) → i < length xs → (t : T) → W (get_or xs i d) t → Each W xs t
+    each_at d within t w =
+        subst (λ l. Each W l t) (whole xs i d within)
+        (each_left (take i xs ++ get_or xs i d ∷ []) (drop (i + 1) xs) t (each_last (take i xs) (get_or xs i d) t w))

@@ -1,0 +1,113 @@
+-- What a table holds while it takes a step: nothing more than is reached and sent, and nothing left out.
+use Rattle.std.proofs.Common.{◌≡◌, ◌≤◌, ◌<◌, ◌⊎◌, ◌↔◌, ℕ, Some, List, [], ◌∷◌, ◌++◌, length, inl, inr, refl, sym, subst, slice_get, arith}
+use Rattle.language.specs.Sequential.{Caller, caller}
+use Rattle.language.specs.Flow.{Member}
+use Rattle.language.proofs.Members.{member_left, member_right, member_append}
+use Rattle.path_sets.specs.Triples.{Triple, triple, NoneTwice}
+use Rattle.flow_graph.specs.Flows.{entered_by, last_of, next_of}
+use Rattle.flow_graph.specs.Returns.{left, resumed}
+use Rattle.flow_graph.specs.Numbers.{NumberedMessage, numbered_entry, numbered_summary, Reaches, flows, Sends, Leaves}
+use Rattle.flow_graph.specs.declared.flow.Flow.{Flow}
+use Rattle.flow_graph.specs.declared.graph.Graph.{Graph}
+use Rattle.flow_graph.proofs.Holding.{reaches_more, sends_more}
+use Rattle.summaries.specs.declared.edge.Edge.{Edge}
+use Rattle.summaries.specs.declared.found.Found.{Found}
+use Rattle.summaries.specs.Found.{edge, site, pair, HasTaken, HasSite, HasExit, HasGiven, IsPending, IsSound, IsWorked, IsComplete}
+use Rattle.summaries.specs.Grows.{Grows, IsNext, triple_of, edge_of}
+use Rattle.summaries.specs.Tables.{HasMore}
+
+-- A step of the table of procedure q from f, with the edges es, to g, with the edges ds: what comes to be held is reached
+-- and sent, nothing goes, and what is then to be held beside it is held.
+pub record Step {A G : Type 0} (graph : Graph G) (q : ℕ) (f g : Found A) (es ds : List Triple) : Type 0 where
+  pub taken : (k : NumberedMessage) → HasTaken f k → HasTaken g k
+  pub kept : (t : Triple) → Member t es → Member t ds
+  pub edge : (t : Triple) → Member t ds → Member t es ⊎ Reaches graph (HasTaken g) t.entry t.point t.values
+  pub new : (t : Triple) → Member t ds → Member t es ⊎ IsPending g t.entry t.point t.values
+  pub stays : (e : Edge) → Member e f.pending.items → Member e g.pending.items
+  pub pending : (e : Edge) → Member e g.pending.items → Member e f.pending.items ⊎ Member (triple_of e) ds
+  pub sites : (s e a n v : ℕ) → HasSite f s e (site a n v) → HasSite g s e (site a n v)
+  pub called : (s e a n' v : ℕ) → HasSite g s e (site a n' v) → HasSite f s e (site a n' v) ⊎ ((n : ℕ) × (flow : Flow G)
+      × Reaches graph (HasTaken g) a n v × (slice_get graph.flows.items n ≡ Some flow) × (entered_by flow v ≡ Some (s, e, n')))
+  pub exits : (a b : ℕ) → HasExit f a b → HasExit g a b
+  pub exit : (a b : ℕ) → HasExit g a b → HasExit f a b ⊎ Leaves graph (HasTaken g) a b
+  pub gives : (s : ℕ) (k : NumberedMessage) → HasGiven f s k → HasGiven g s k
+  pub given : (s : ℕ) (k : NumberedMessage) → HasGiven g s k → HasGiven f s k ⊎ Sends graph q (HasTaken g) s k
+  pub begun : (from : Caller) (a : ℕ) → HasTaken g (numbered_entry from a) → HasTaken f (numbered_entry from a) ⊎ Member (triple a graph.start a) ds
+  pub ended : (s e b a n v : ℕ) → HasSite g s e (site a n v) → HasTaken g (numbered_summary s e b) →
+      HasSite f s e (site a n v) × HasTaken f (numbered_summary s e b) ⊎ Member (triple a n (resumed graph.globals v b)) ds
+  pub asks : (s e a n v : ℕ) → HasSite g s e (site a n v) → HasSite f s e (site a n v) ⊎ HasGiven g s (numbered_entry (caller q) e)
+  pub tells : (a b c : ℕ) → HasExit g a b → HasTaken g (numbered_entry (caller c) a) →
+      HasExit f a b × HasTaken f (numbered_entry (caller c) a) ⊎ HasGiven g c (numbered_summary q a b)
+  pub pairs : ((a b : ℕ) → Member (pair a b) f.pairs.keys ↔ HasExit f a b) → (a b : ℕ) → Member (pair a b) g.pairs.keys ↔ HasExit g a b
+
+module _ {A G : Type 0} (graph : Graph G) (q : ℕ) (f g : Found A) (es ds : List Triple) (step : Step graph q f g es ds) where
+  -- after a step all is reached and sent
+  pub still_sound : IsSound graph q f es → IsSound graph q g ds
+  still_sound old = record {
+    edge = λ a n v m. elim (step.edge (triple a n v) m) [ inl was ↦ more a n v (old.edge a n v was) | inr is ↦ is ];
+    site = λ s e a n' v m. elim (step.called s e a n' v m) [
+      | inl was ↦ let (n, flow, reached, here, enters) = old.site s e a n' v was in (n, flow, more a n v reached, here, enters)
+      | inr is ↦ is
+    ];
+    exit = λ a b m. elim (step.exit a b m) [ inl was ↦ let (v, reached, is) = old.exit a b was in (v, more a 0 v reached, is) | inr is ↦ is ];
+    given = λ s k m. elim (step.given s k m) [ inl was ↦ sends_more graph (HasTaken f) (HasTaken g) step.taken q s k (old.given s k was) | inr is ↦ is ];
+    pending = λ a n v m. elim (step.pending (edge a n v) m) [ inl was ↦ step.kept (triple a n v) (old.pending a n v was) | inr is ↦ is ];
+  }
+    where
+      more : (a n v : ℕ) → Reaches graph (HasTaken f) a n v → Reaches graph (HasTaken g) a n v
+      more = reaches_more graph (HasTaken f) (HasTaken g) step.taken
+
+  -- what was worked on is
+  still_worked : (a n v : ℕ) → IsWorked graph q f es a n v → IsWorked graph q g ds a n v
+  still_worked a n v old = record {
+    flows = λ flow i n' v' here most next. step.kept (triple a n' v') (old.flows flow i n' v' here most next);
+    calls = λ flow s e n' here enters. step.sites s e a n' v (old.calls flow s e n' here enters);
+    leaves = λ is. step.exits a (left graph.globals v) (old.leaves is);
+  }
+
+  -- and nothing is left out
+  pub still_complete : (Aside : Triple → Type 0) → IsComplete graph q f es Aside → IsComplete graph q g ds Aside
+  still_complete Aside old = record {
+    begun = λ from a m. elim (step.begun from a m) [ inl was ↦ step.kept (triple a graph.start a) (old.begun from a was) | inr is ↦ is ];
+    worked = λ a n v m. elim (step.new (triple a n v) m) [
+      | inl was ↦ elim (old.worked a n v was) [
+        | inl aside ↦ inl aside
+        | inr rest ↦ elim rest [ inl pending ↦ inr (inl (step.stays (edge a n v) pending)) | inr worked ↦ inr (inr (still_worked a n v worked)) ]
+      ]
+      | inr is ↦ inr (inl is)
+    ];
+    ended = λ s e b a n v at taken. elim (step.ended s e b a n v at taken) [
+      | inl was ↦ step.kept (triple a n (resumed graph.globals v b)) (old.ended s e b a n v was.0 was.1)
+      | inr is ↦ is
+    ];
+    asks = λ s e a n v m. elim (step.asks s e a n v m) [ inl was ↦ step.gives s (numbered_entry (caller q) e) (old.asks s e a n v was) | inr is ↦ is ];
+    tells = λ a b c m taken. elim (step.tells a b c m taken) [
+      | inl was ↦ step.gives c (numbered_summary q a b) (old.tells a b c was.0 was.1)
+      | inr is ↦ is
+    ];
+    pairs = step.pairs old.pairs;
+  }
+
+module _ {A G : Type 0} (graph : Graph G) (q : ℕ) (f : Found A) (es : List Triple) where
+  -- an edge that was left aside and is worked on need not be
+  pub worked_off : (a n v : ℕ) → IsWorked graph q f es a n v → IsComplete graph q f es (λ t. t ≡ triple a n v) → IsComplete graph q f es (λ t. ⊥)
+  worked_off a n v worked old = record {
+    begun = old.begun;
+    worked = λ b m w there. elim (old.worked b m w there) [
+      | inl is ↦ inr (inr (subst (λ t. IsWorked graph q f es t.entry t.point t.values) (sym is) worked))
+      | inr rest ↦ inr rest
+    ];
+    ended = old.ended;
+    asks = old.asks;
+    tells = old.tells;
+    pairs = old.pairs;
+  }
+
+-- more edges than a limit are reached, where one beside as many is
+pub has_more : (limit : ℕ) (es : List Triple) (P : Triple → Type 0) → NoneTwice es → ((t : Triple) → Member t es → P t) → (t : Triple) → P t → (Member t es → ⊥) → limit ≤ length es → HasMore limit P
+has_more limit es P once all t is new full = (t ∷ es, (new, once), omega (arith, full), λ u m. elim m [ inl e ↦ subst P (sym e) is | inr was ↦ all u was ])
+
+-- by the same messages taken the edges of a table are reached
+pub all_reached : {A G : Type 0} (graph : Graph G) (q : ℕ) (f g : Found A) (es : List Triple) → IsSound graph q f es → ((k : NumberedMessage) → HasTaken f k → HasTaken g k) →
+    (t : Triple) → Member t es → Reaches graph (HasTaken g) t.entry t.point t.values
+all_reached graph q f g es sound taken t m = reaches_more graph (HasTaken f) (HasTaken g) taken t.entry t.point t.values (sound.edge t.entry t.point t.values m)

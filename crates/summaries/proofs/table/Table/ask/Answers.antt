@@ -1,0 +1,94 @@
+use Rattle.std.proofs.Common.{ℕ, ◌≡◌, ◌⊎◌, Some, Ok, Err, refl, sym, subst}
+use Rattle.std.proofs.lemmas.Result.{IfOk-weaker}
+use Rattle.path_sets.specs.Triples.{Triple}
+use Rattle.flow_graph.specs.Flows.{entered_by}
+use Rattle.flow_graph.specs.Numbers.{Reaches}
+use Rattle.flow_graph.specs.declared.flow.Flow.TheVariants as flow
+use Rattle.summaries.specs.declared.due.Caller.TheVariants.{Proc}
+use Rattle.summaries.specs.declared.due.Due.TheVariants.{Entry}
+use Rattle.language.specs.Flow.{Member}
+use Rattle.summaries.specs.Under.{under}
+use Rattle.summaries.specs.Mails.{mail}
+use Rattle.summaries.specs.Found.{HasSite, HasTaken, call, call_eq, site}
+use Rattle.summaries.specs.Grows.{Grows, Gives, Each, IsBehind, triple_of}
+use Rattle.summaries.proofs.Asking.{asked_to, ask_step, ask_only, behind_reached, asked_site, taken_there}
+use Rattle.summaries.proofs.Telling.{gives_one}
+use Rattle.summaries.proofs.Stepping.{still_sound, still_complete, all_reached, has_more}
+use Rattle.summaries.proofs.table.Table.ask.Given as given
+use Rattle.summaries.proofs.table.Table.ask.Goals as goal
+
+-- the flow is a call of this procedure
+enters : (g : given.Over) (c : goal.After-go_on g) → entered_by (flow.Call c.args.call.now) c.args.edge.values ≡ Some (c.callee.result, c.entry.result, c.back.result)
+enters g c = λ i. Some (sym c.callee.ensures i, sym c.entry.ensures i, sym c.back.ensures i)
+
+-- the entry is given
+gave : (g : given.Over) (c : goal.After-go_on g) →
+    Gives (λ m. m ≡ mail c.callee.result (Entry (Proc c.args.self.now.procedure) c.entry.result)) c.args.self.now.found.given.mails.keys c.give.new.self.mails.keys
+gave g c = gives_one _ _ _ c.in_ok-give.field-0 c.in_ok-give.ensures.new c.in_ok-give.ensures.known c.in_ok-give.ensures.same
+
+-- the summaries of the call are those that are found by it
+known : (g : given.Over) (c : goal.After-go_on g) →
+    let self = c.args.self.now in
+    let site = site c.args.edge.entry c.back.result c.args.edge.values in
+    Grows (Each (IsBehind self.graph.now site) c.of.result.now) (g.S.PathSet.members self.edges) (g.S.PathSet.members c.go_on.new.edges) self.found.pending.items c.go_on.new.pending.items →
+    Grows (Each (IsBehind self.graph.now site) (under call_eq self.found.summaries.by_key (call c.callee.result c.entry.result))) (g.S.PathSet.members self.edges) (g.S.PathSet.members c.go_on.new.edges) self.found.pending.items c.go_on.new.pending.items
+known g c =
+    let self = c.args.self.now in
+    subst (λ bs. Grows (Each (IsBehind self.graph.now (site c.args.edge.entry c.back.result c.args.edge.values)) bs) (g.S.PathSet.members self.edges) (g.S.PathSet.members c.go_on.new.edges) self.found.pending.items c.go_on.new.pending.items) c.of.ensures
+
+pub returns-in_err-give-clause-only : goal.returns-in_err-give-clause-only
+returns-in_err-give-clause-only g c =
+    let self = c.args.self.now in
+    all_reached self.graph.now self.procedure self.found (asked_to self.graph.now self.procedure self.found c.give.new.self self.found.sites self.found.pending)
+    (g.S.PathSet.members self.edges) c.requires.holds.0 (taken_there self.graph.now self.procedure self.found c.give.new.self self.found.sites self.found.pending)
+
+pub returns-in_err-add-clause-only : goal.returns-in_err-add-clause-only
+returns-in_err-add-clause-only g c =
+    let self = c.args.self.now in
+    all_reached self.graph.now self.procedure self.found (asked_to self.graph.now self.procedure self.found c.give.new.self c.add.new.self self.found.pending)
+    (g.S.PathSet.members self.edges) c.requires.holds.0 (taken_there self.graph.now self.procedure self.found c.give.new.self c.add.new.self self.found.pending)
+
+pub returns-clause-ok : goal.returns-clause-ok
+returns-clause-ok g c =
+    let self = c.args.self.now in
+    let e = c.args.edge in
+    let es = g.S.PathSet.members self.edges in
+    let ds = g.S.PathSet.members c.go_on.new.edges in
+    IfOk-weaker c.go_on.result _ _
+    (λ _ grown.
+        let step = ask_step self.graph.now self.procedure self.found c.give.new.self c.add.new.self c.go_on.new.pending es ds e c.callee.result c.entry.result c.back.result (flow.Call c.args.call.now)
+        c.requires.holds.0 c.requires.edge c.requires.call (enters g c) (gave g c) c.in_ok-add.ensures.added c.in_ok-add.ensures.others (known g c grown) in (
+          still_sound self.graph.now self.procedure self.found _ es ds step c.requires.holds.0,
+          still_complete self.graph.now self.procedure self.found _ es ds step (λ t. t ≡ triple_of e) c.requires.holds.1,
+        ))
+    c.go_on.ensures.ok
+
+pub returns-clause-asked : goal.returns-clause-asked
+returns-clause-asked g c =
+    let self = c.args.self.now in
+    let e = c.args.edge in
+    let found = asked_to self.graph.now self.procedure self.found c.give.new.self c.add.new.self c.go_on.new.pending in
+    let es = g.S.PathSet.members self.edges in
+    let ds = g.S.PathSet.members c.go_on.new.edges in
+    IfOk-weaker c.go_on.result _ _
+    (λ _ grown.
+        subst (λ (t : ℕ × ℕ × ℕ). HasSite found t.0 t.1 (site e.entry t.2 e.values)) (λ i. (c.callee.ensures i, c.entry.ensures i, c.back.ensures i))
+        (asked_site self.graph.now self.procedure self.found c.give.new.self c.add.new.self c.go_on.new.pending es ds e c.callee.result c.entry.result c.back.result (flow.Call c.args.call.now)
+        c.requires.holds.0 c.requires.edge c.requires.call (enters g c) (gave g c) c.in_ok-add.ensures.added c.in_ok-add.ensures.others (known g c grown)))
+    c.go_on.ensures.ok
+
+pub returns-clause-only : goal.returns-clause-only
+returns-clause-only g c =
+    let self = c.args.self.now in
+    ask_only self.graph.now self.procedure self.found c.give.new.self c.add.new.self c.go_on.new.pending (g.S.PathSet.members self.edges) (g.S.PathSet.members c.go_on.new.edges) c.args.edge
+    c.callee.result c.entry.result c.back.result (flow.Call c.args.call.now) c.requires.holds.0 c.requires.edge c.requires.call (enters g c) (subst (λ bs. (t : Triple) → Member t (g.S.PathSet.members c.go_on.new.edges) → Each (IsBehind self.graph.now (site c.args.edge.entry c.back.result c.args.edge.values)) bs t ⊎ Member t (g.S.PathSet.members self.edges)) c.of.ensures c.go_on.ensures.only)
+
+pub returns-clause-limit : goal.returns-clause-limit
+returns-clause-limit g c = λ is.
+    let self = c.args.self.now in
+    let ds = g.S.PathSet.members c.go_on.new.edges in
+    let (t, w, new, full) = c.go_on.ensures.limit is in
+    has_more self.limit.edges ds _ (g.met.S.PathSet.none_twice c.go_on.new.edges) (returns-clause-only g c) t
+    (behind_reached self.graph.now self.procedure self.found c.give.new.self c.add.new.self c.go_on.new.pending (g.S.PathSet.members self.edges) ds c.args.edge
+    c.callee.result c.entry.result c.back.result (flow.Call c.args.call.now) c.requires.holds.0 c.requires.edge c.requires.call (enters g c) t (subst (λ bs. Each (IsBehind self.graph.now (site c.args.edge.entry c.back.result c.args.edge.values)) bs t) c.of.ensures w))
+    new full
