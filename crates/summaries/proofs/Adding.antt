@@ -4,7 +4,8 @@ use Rattle.std.proofs.lemmas.Map.Views.{exact_unsigned_eq}
 use Rattle.language.specs.Flow.{Member}
 use Rattle.language.proofs.Members.{member_left, member_right, member_append}
 use Rattle.summaries.specs.declared.edge.Call.{Call}
-use Rattle.summaries.specs.Found.{call, call_eq}
+use Rattle.summaries.specs.declared.pair.Pair.{Pair}
+use Rattle.summaries.specs.Found.{call, call_eq, pair, pair_eq}
 use Rattle.summaries.proofs.Mails.{both}
 
 -- calls that compare as equal are the same
@@ -12,6 +13,12 @@ pub same_call : (x y : Call) → call_eq x y ≡ true → x ≡ y
 same_call x y e =
     let r = both (nat_eq x.callee y.callee) (nat_eq x.entered y.entered) e in
     λ j. call (exact_unsigned_eq x.callee y.callee r.0 j) (exact_unsigned_eq x.entered y.entered r.1 j)
+
+-- pairs that compare as equal are the same
+pub same_pair : (x y : Pair) → pair_eq x y ≡ true → x ≡ y
+same_pair x y e =
+    let r = both (nat_eq x.a y.a) (nat_eq x.b y.b) e in
+    λ j. pair (exact_unsigned_eq x.a y.a r.0 j) (exact_unsigned_eq x.b y.b r.1 j)
 
 module _ {K V : Type 0} (eq : K → K → Bool) (same : (x y : K) → eq x y ≡ true → x ≡ y) (before after : K → List V) (key : K) (value : V)
     (added : after key ≡ before key ++ value ∷ []) (others : (k : K) → eq key k ≡ false → after k ≡ before k) where

@@ -1,5 +1,5 @@
 -- Messages by numbers are told by what tables call them.
-use Rattle.std.proofs.Common.{◌≡◌, ℕ, refl, sym, ap, ◌∙◌}
+use Rattle.std.proofs.Common.{◌≡◌, ℕ, refl, sym, ap, ◌∙◌, subst}
 use Rattle.language.specs.Sequential as sequential
 use Rattle.language.specs.Sequential.{starter, caller}
 use Rattle.flow_graph.specs.Numbers.{NumberedMessage, numbered_entry, numbered_summary}
@@ -7,7 +7,9 @@ use Rattle.summaries.specs.declared.due.Caller.{Caller}
 use Rattle.summaries.specs.declared.due.Caller.TheVariants.{Starter, Proc}
 use Rattle.summaries.specs.declared.due.Due.{Due}
 use Rattle.summaries.specs.declared.due.Due.TheVariants.{Entry, Summary}
+use Rattle.summaries.specs.declared.edge.Call.{Call}
 use Rattle.summaries.specs.Dues.{caller_of, due_of}
+use Rattle.summaries.specs.Found.{call}
 
 -- the caller by number
 abbrev pub who : Caller → sequential.Caller
@@ -38,3 +40,41 @@ message_is (Summary s a b) = refl
 -- what a table calls a message tells it
 pub due_told : (k : NumberedMessage) (d : Due) → due_of k ≡ d → k ≡ message_of d
 due_told k d e = is_message k ∙ ap message_of e
+
+-- who enters a procedure, or the one given
+caller_in : Caller → Due → Caller
+caller_in c (Entry from a) = from
+caller_in c (Summary s a b) = c
+
+-- the valuation on entry
+entry_in : Due → ℕ
+entry_in (Entry from a) = a
+entry_in (Summary s a b) = a
+
+-- what was called, or the one given
+call_in : Call → Due → Call
+call_in k (Entry from a) = k
+call_in k (Summary s a b) = call s a
+
+-- what it left, or the number given
+left_in : ℕ → Due → ℕ
+left_in n (Entry from a) = n
+left_in n (Summary s a b) = b
+
+IsSummary : Due → Type 0
+IsSummary (Entry from a) = ⊥
+IsSummary (Summary s a b) = Unit {0}
+
+-- the parts of messages that are the same are
+pub same_entry : (from to : Caller) (a b : ℕ) → Entry from a ≡ Entry to b → (to ≡ from) × (b ≡ a)
+unfolding caller_in entry_in
+same_entry from to a b e = (sym (ap (caller_in from) e), sym (ap entry_in e))
+
+pub same_summary : (s p a x b y : ℕ) → Summary s a b ≡ Summary p x y → (call p x ≡ call s a) × (y ≡ b)
+unfolding call_in left_in
+same_summary s p a x b y e = (sym (ap (call_in (call s a)) e), sym (ap (left_in b) e))
+
+-- an entry is no summary
+pub apart : (from : Caller) (s a x b : ℕ) → Entry from a ≡ Summary s x b → ⊥
+unfolding IsSummary
+apart from s a x b e = subst IsSummary (sym e) tt

@@ -9,3 +9,7 @@ pub mod Dues
 pub mod Adding
 pub mod Stepping
 pub mod Asking
+pub mod Leading
+pub mod Leaving
+pub mod Beginning
+pub mod Ending

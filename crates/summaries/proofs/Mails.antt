@@ -1,6 +1,6 @@
 -- Messages that compare as equal are the same.
 use Rattle.std.proofs.Common.{take, drop, ◌≡◌, ◌≤◌, ◌+◌, ℕ, Bool, true, false, ◌&&◌, nat_eq, List, [], ◌∷◌, ◌++◌, length, if◌then◌else◌, inl, inr, refl, sym, ap, ◌∙◌, subst, true≢false, ◌||◌, not, Result, Ok, Err, arith}
-use Rattle.std.proofs.lemmas.List.{take-append-drop}
+use Rattle.std.proofs.lemmas.List.{take-append-drop, take-append-le}
 use Rattle.std.specs.Result.{IfOk, OnErr}
 use Rattle.std.specs.Bool.{OnTrue, OnFalse}
 use Rattle.std.specs.List.{list_any}
@@ -70,6 +70,23 @@ module _ {K : Type 0} (eq : K → K → Bool) where
       by true rest = refl
       by false rest = rest
 
+module _ {K : Type 0} (eq : K → K → Bool) (k : K) (ks after : List K) (added : Bool) (tells : added ≡ not (list_any (eq k) ks)) (keys : after ≡ insert_key eq ks k) where
+  -- a key that is new stands behind the others
+  pub inserted_new : added ≡ true → after ≡ ks ++ k ∷ []
+  inserted_new is = keys ∙ by (list_any (eq k) ks) (sym tells ∙ is)
+    where
+      by : (b : Bool) → not b ≡ true → (if b then ks else ks ++ k ∷ []) ≡ ks ++ k ∷ []
+      by true e = absurd (true≢false (sym e))
+      by false e = refl
+
+  -- with one that is known they are the same
+  pub inserted_known : added ≡ false → (after ≡ ks) × (list_any (eq k) ks ≡ true)
+  inserted_known is = let found = by (list_any (eq k) ks) (sym tells ∙ is) in (keys ∙ ap (λ b. if b then ks else ks ++ k ∷ []) found, found)
+    where
+      by : (b : Bool) → not b ≡ false → b ≡ true
+      by true e = refl
+      by false e = absurd (true≢false e)
+
 -- which of the messages are given, by the answer of an insert
 pub fresh_or_known : (k : Mail) (ks : List Mail) (added : Bool) → added ≡ not (list_any (eq-value.it k) ks) →
     OnTrue added (Member k ks → ⊥) × OnFalse added (Member k ks)
@@ -120,3 +137,7 @@ next_new {K = K} ks n m k more once = apart (take n ks) (drop m ks) (subst NoneT
     apart [] ys o m = m
     apart (x ∷ xs) ys (x_once, o) (inl e) = x_once (member_left x (xs ++ k ∷ []) ys (member_right x xs (k ∷ []) (inl (sym e))))
     apart (x ∷ xs) ys (x_once, o) (inr m) = apart xs ys o m
+
+-- with more messages behind, those that were answered are the same
+pub sent_still : {K : Type 0} (ks js : List K) (n m : ℕ) → n ≤ length ks → m ≡ n → (more : List K) × (js ≡ ks ++ more) → take m js ≡ take n ks
+sent_still ks js n m within same (more, is) = ap (λ i. take i js) same ∙ ap (take n) is ∙ take-append-le n ks more within

@@ -23,6 +23,10 @@ use Rattle.summaries.specs.Dues.{due_of}
 abbrev pub call_eq : Call → Call → Bool
 call_eq x y = nat_eq x.callee y.callee && nat_eq x.entered y.entered
 
+-- whether two pairs are the same
+abbrev pub pair_eq : Pair → Pair → Bool
+pair_eq x y = nat_eq x.a y.a && nat_eq x.b y.b
+
 -- the edge of these three
 abbrev pub edge : ℕ → ℕ → ℕ → Edge
 edge a n v = record { entry = a; point = n; values = v }

@@ -20,6 +20,7 @@ pub(crate) fn tell<A: Allocator + Copy>(
 ) -> Result<(), AllocError>
     ensures ok { OnOk result (Gives (IsTold p a b caller) given.old.mails.keys given.new.mails.keys) }
     ensures only { (x : Mail) → Member x given.new.mails.keys → IsTold p a b caller x ⊎ Member x given.old.mails.keys }
+    ensures answered { given.new.answered ≡ given.old.answered }
 {
     if let Caller::Proc(to) = caller {
         given.give(to, Due::Summary { p, a, b })?;
@@ -37,6 +38,7 @@ pub(crate) fn tell_all<A: Allocator + Copy>(
 ) -> Result<(), AllocError>
     ensures ok { OnOk result (Gives (Each (IsTold p a b) callers.now) given.old.mails.keys given.new.mails.keys) }
     ensures only { (x : Mail) → Member x given.new.mails.keys → Each (IsTold p a b) callers.now x ⊎ Member x given.old.mails.keys }
+    ensures answered { given.new.answered ≡ given.old.answered }
 {
     for caller in callers {
         tell(given, p, a, b, *caller)?;
@@ -54,6 +56,7 @@ pub(crate) fn tell_exits<A: Allocator + Copy>(
 ) -> Result<(), AllocError>
     ensures ok { OnOk result (Gives (Each (λ b. IsTold p a b caller) exits.now) given.old.mails.keys given.new.mails.keys) }
     ensures only { (x : Mail) → Member x given.new.mails.keys → Each (λ b. IsTold p a b caller) exits.now x ⊎ Member x given.old.mails.keys }
+    ensures answered { given.new.answered ≡ given.old.answered }
 {
     for b in exits {
         tell(given, p, a, *b, caller)?;

@@ -25,13 +25,12 @@ use path_sets::PathSet;
 use std::alloc::{AllocError, Allocator};
 
 impl<'g, G: Allocator, A: Allocator + Copy, S: PathSet<A>> Table<'g, G, A, S> {
-    /// Keeps what an edge at the exit leaves, and tells it to the callers.
+    /// Keeps what an edge leaves that is at the exit, and tells it to the callers.
     fn leave(&mut self, edge: Edge) -> Result<(), AllocError>
-        requires point { edge.point ≡ 0 }
         requires edge { Member (triple_of edge) (S.members self.old.edges) }
         requires holds { Holds S.members (λ t. t ≡ triple_of edge) self.old }
         ensures ok { OnOk result (Holds S.members (λ t. t ≡ triple_of edge) self.new) }
-        ensures left { OnOk result (HasExit self.new.found edge.entry (left self.new.graph.now.globals edge.values)) }
+        ensures left { OnOk result (edge.point ≡ 0 → HasExit self.new.found edge.entry (left self.new.graph.now.globals edge.values)) }
         ensures sent { OnOk result (sent self.new.found ≡ sent self.old.found) }
         ensures taken { TookSame self.old.found self.new.found }
         ensures edges { self.new.edges ≡ self.old.edges }
@@ -39,6 +38,9 @@ impl<'g, G: Allocator, A: Allocator + Copy, S: PathSet<A>> Table<'g, G, A, S> {
         ensures stays { StaysAs self.old self.new }
         ensures fault { self.new.fault ≡ self.old.fault }
     {
+        if edge.point != EXIT {
+            return Ok(());
+        }
         let pair = Pair {
             a: edge.entry,
             b: self.graph.left(edge.values),
@@ -114,9 +116,7 @@ impl<'g, G: Allocator, A: Allocator + Copy, S: PathSet<A>> Table<'g, G, A, S> {
         ensures stays { StaysAs self.old self.new }
         ensures fault { self.new.fault ≡ self.old.fault }
     {
-        if edge.point == EXIT {
-            self.leave(edge)?;
-        }
+        self.leave(edge)?;
         if edge.point >= self.graph.points() {
             return Ok(());
         }

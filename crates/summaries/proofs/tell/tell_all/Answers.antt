@@ -1,4 +1,4 @@
-use Rattle.std.proofs.Common.{inl, inr, sym, subst, take}
+use Rattle.std.proofs.Common.{◌∙◌, inl, inr, sym, subst, take}
 use Rattle.summaries.specs.declared.due.Caller.TheVariants.{Starter}
 use Rattle.summaries.specs.Grows.{Gives, Each, IsTold}
 use Rattle.summaries.proofs.Firsts.{take_more}
@@ -10,8 +10,10 @@ pub loop-caller-preserved : goal.loop-caller-preserved
 loop-caller-preserved g c =
     let xs = c.args.callers.now in
     let i = c.loop-caller.caller-index in
-    let more = gives_more (IsTold c.args.p c.args.a c.args.b) (take i xs) _ c.args.given.now.mails.keys c.loop-caller.given.mails.keys c.tell.new.given.mails.keys c.loop-caller.invariant c.in_ok-tell.ensures.ok in
-    subst (λ l. Gives (Each (IsTold c.args.p c.args.a c.args.b) l) c.args.given.now.mails.keys c.tell.new.given.mails.keys) (sym (take_more xs i Starter c.loop-caller-test.true)) more
+    let more = gives_more (IsTold c.args.p c.args.a c.args.b) (take i xs) _ c.args.given.now.mails.keys c.loop-caller.given.mails.keys c.tell.new.given.mails.keys c.loop-caller.invariant.0 c.in_ok-tell.ensures.ok in (
+      subst (λ l. Gives (Each (IsTold c.args.p c.args.a c.args.b) l) c.args.given.now.mails.keys c.tell.new.given.mails.keys) (sym (take_more xs i Starter c.loop-caller-test.true)) more,
+      c.in_ok-tell.ensures.answered ∙ c.loop-caller.invariant.1,
+    )
 
 pub returns-in_err-tell-clause-only : goal.returns-in_err-tell-clause-only
 returns-in_err-tell-clause-only g c = λ x there.
@@ -19,7 +21,7 @@ returns-in_err-tell-clause-only g c = λ x there.
     let i = c.loop-caller.caller-index in
     elim (c.in_err-tell.ensures.only x there) [
       | inl own ↦ inl (each_at (IsTold c.args.p c.args.a c.args.b) xs i Starter c.loop-caller-test.true x own)
-      | inr mid ↦ elim (c.loop-caller.invariant.only x mid) [
+      | inr mid ↦ elim (c.loop-caller.invariant.0.only x mid) [
         | inl first ↦ inl (each_first (IsTold c.args.p c.args.a c.args.b) xs i x first)
         | inr was ↦ inr was
       ]
@@ -27,7 +29,7 @@ returns-in_err-tell-clause-only g c = λ x there.
 
 pub returns-clause-only : goal.returns-clause-only
 returns-clause-only g c = λ x there.
-    elim (c.loop-caller.invariant.only x there) [
+    elim (c.loop-caller.invariant.0.only x there) [
       | inl first ↦ inl (each_first (IsTold c.args.p c.args.a c.args.b) c.args.callers.now c.loop-caller.caller-index x first)
       | inr was ↦ inr was
     ]

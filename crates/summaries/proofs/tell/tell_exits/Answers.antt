@@ -1,4 +1,5 @@
-use Rattle.std.proofs.Common.{inl, inr, sym, subst, take}
+use Rattle.std.proofs.Common.{◌≡◌, inl, inr, sym, ap, ◌∙◌, subst, take, length, arith}
+use Rattle.std.proofs.Math.Seq.{take-length}
 use Rattle.summaries.specs.Grows.{Gives, Each, IsTold}
 use Rattle.summaries.proofs.Firsts.{take_more}
 use Rattle.summaries.proofs.Eaches.{each_first, each_at}
@@ -9,8 +10,10 @@ pub loop-b-preserved : goal.loop-b-preserved
 loop-b-preserved g c =
     let xs = c.args.exits.now in
     let i = c.loop-b.b-index in
-    let more = gives_more (λ b. IsTold c.args.p c.args.a b c.args.caller) (take i xs) _ c.args.given.now.mails.keys c.loop-b.given.mails.keys c.tell.new.given.mails.keys c.loop-b.invariant c.in_ok-tell.ensures.ok in
-    subst (λ l. Gives (Each (λ b. IsTold c.args.p c.args.a b c.args.caller) l) c.args.given.now.mails.keys c.tell.new.given.mails.keys) (sym (take_more xs i 0 c.loop-b-test.true)) more
+    let more = gives_more (λ b. IsTold c.args.p c.args.a b c.args.caller) (take i xs) _ c.args.given.now.mails.keys c.loop-b.given.mails.keys c.tell.new.given.mails.keys c.loop-b.invariant.0 c.in_ok-tell.ensures.ok in (
+      subst (λ l. Gives (Each (λ b. IsTold c.args.p c.args.a b c.args.caller) l) c.args.given.now.mails.keys c.tell.new.given.mails.keys) (sym (take_more xs i 0 c.loop-b-test.true)) more,
+      c.in_ok-tell.ensures.answered ∙ c.loop-b.invariant.1,
+    )
 
 pub returns-in_err-tell-clause-only : goal.returns-in_err-tell-clause-only
 returns-in_err-tell-clause-only g c = λ x there.
@@ -18,7 +21,7 @@ returns-in_err-tell-clause-only g c = λ x there.
     let i = c.loop-b.b-index in
     elim (c.in_err-tell.ensures.only x there) [
       | inl own ↦ inl (each_at (λ b. IsTold c.args.p c.args.a b c.args.caller) xs i 0 c.loop-b-test.true x own)
-      | inr mid ↦ elim (c.loop-b.invariant.only x mid) [
+      | inr mid ↦ elim (c.loop-b.invariant.0.only x mid) [
         | inl first ↦ inl (each_first (λ b. IsTold c.args.p c.args.a b c.args.caller) xs i x first)
         | inr was ↦ inr was
       ]
@@ -26,7 +29,13 @@ returns-in_err-tell-clause-only g c = λ x there.
 
 pub returns-clause-only : goal.returns-clause-only
 returns-clause-only g c = λ x there.
-    elim (c.loop-b.invariant.only x there) [
+    elim (c.loop-b.invariant.0.only x there) [
       | inl first ↦ inl (each_first (λ b. IsTold c.args.p c.args.a b c.args.caller) c.args.exits.now c.loop-b.b-index x first)
       | inr was ↦ inr was
     ]
+
+pub returns-clause-ok : goal.returns-clause-ok
+returns-clause-ok g c =
+    let xs = c.args.exits.now in
+    let end : c.loop-b.b-index ≡ length xs = omega (arith, c.loop-b-test.false, c.loop-b.auto.b-index-end) in
+    subst (λ l. Gives (Each (λ b. IsTold c.args.p c.args.a b c.args.caller) l) c.args.given.now.mails.keys c.loop-b.given.mails.keys) (ap (λ n. take n xs) end ∙ take-length xs) c.loop-b.invariant.0

@@ -1,0 +1,119 @@
+-- The step of a table that takes an entry.
+use Rattle.std.proofs.Common.{◌≡◌, ◌↔◌, ◌⊎◌, ◌≤◌, ℕ, Bool, Some, None, List, [], ◌∷◌, ◌++◌, false, nat_eq, inl, inr, refl, sym, ap, ◌∙◌, subst, slice_get}
+use Rattle.std.specs.Prelude.{Vec}
+use Rattle.std.proofs.lemmas.Map.Views.{exact_unsigned_eq}
+use Rattle.language.specs.Sequential.{Caller, caller}
+use Rattle.language.specs.Flow.{Member}
+use Rattle.language.proofs.Members.{member_left, member_right, member_append}
+use Rattle.path_sets.specs.Triples.{Triple, triple}
+use Rattle.flow_graph.specs.Returns.{left}
+use Rattle.flow_graph.specs.Numbers.{NumberedMessage, numbered_entry, numbered_summary, Reaches, starts, Sends, tells, Leaves}
+use Rattle.flow_graph.specs.declared.graph.Graph.{Graph}
+use Rattle.flow_graph.proofs.Holding.{reaches_more}
+use Rattle.summaries.specs.declared.due.Caller as rust
+use Rattle.summaries.specs.declared.due.Caller.TheVariants.{Proc}
+use Rattle.summaries.specs.declared.due.Due.{Due}
+use Rattle.summaries.specs.declared.due.Due.TheVariants.{Entry, Summary}
+use Rattle.summaries.specs.declared.edge.Edge.{Edge}
+use Rattle.summaries.specs.declared.found.Found.{Found}
+use Rattle.summaries.specs.declared.given.Given.{Given}
+use Rattle.summaries.specs.declared.groups.Groups.{Groups}
+use Rattle.summaries.specs.Under.{under}
+use Rattle.summaries.specs.Mails.{mail}
+use Rattle.summaries.specs.Dues.{caller_of, due_of}
+use Rattle.summaries.specs.Found.{HasTaken, IsSound}
+use Rattle.summaries.specs.Grows.{Grows, Gives, Each, IsTold}
+use Rattle.summaries.specs.Tables.{TookAlso}
+use Rattle.summaries.proofs.Adding.{added_or, added_keeps, added_is}
+use Rattle.summaries.proofs.Dues.{who, who_is, due_told, same_entry, apart}
+use Rattle.summaries.proofs.Stepping.{Step}
+use Rattle.summaries.proofs.Telling.{gives_kept}
+
+module _ {A G : Type 0} (graph : Graph G) (q : ℕ) (f : Found A) (entries : Groups ℕ rust.Caller A) (given : Given A) (pending : Vec Edge A) (a : ℕ) (from : rust.Caller)
+    (added : under nat_eq entries.by_key a ≡ under nat_eq f.entries.by_key a ++ from ∷ [])
+    (others : (k : ℕ) → nat_eq a k ≡ false → under nat_eq entries.by_key k ≡ under nat_eq f.entries.by_key k) where
+  -- what is found, with other entries, messages given and edges pending
+  abbrev pub begun_to : Found A
+  begun_to = record { entries = entries; summaries = f.summaries; sites = f.sites; exits = f.exits; pairs = f.pairs; given = given; pending = pending }
+
+  abbrev M : NumberedMessage → Type 0
+  M = HasTaken begun_to
+
+  entry_or : (x : ℕ) (c : rust.Caller) → Member c (under nat_eq entries.by_key x) → Member c (under nat_eq f.entries.by_key x) ⊎ ((a ≡ x) × (from ≡ c))
+  entry_or = added_or nat_eq exact_unsigned_eq (under nat_eq f.entries.by_key) (under nat_eq entries.by_key) a from added others
+
+  -- the messages taken stay
+  pub taken_begun : (k : NumberedMessage) → HasTaken f k → HasTaken begun_to k
+  taken_begun (numbered_entry c x) h = added_keeps nat_eq exact_unsigned_eq (under nat_eq f.entries.by_key) (under nat_eq entries.by_key) a from added others x (caller_of c) h
+  taken_begun (numbered_summary s x y) h = h
+
+  -- the entry is taken
+  entered : M (numbered_entry (who from) a)
+  entered = subst (λ c. Member c (under nat_eq entries.by_key a)) (sym (who_is from))
+      (added_is nat_eq exact_unsigned_eq (under nat_eq f.entries.by_key) (under nat_eq entries.by_key) a from added others)
+
+  -- and no other
+  pub begun_also : TookAlso (Entry from a) f begun_to
+  begun_also (numbered_entry c x) = (
+    λ h. elim (entry_or x (caller_of c) h) [ inl was ↦ inr was | inr is ↦ inl (λ i. Entry (sym is.1 i) (sym is.0 i)) ],
+    λ w. elim w [
+      | inl is ↦
+        let (same, at) = same_entry (caller_of c) from x a is in
+        subst (λ y. Member (caller_of c) (under nat_eq entries.by_key y)) at
+        (subst (λ d. Member d (under nat_eq entries.by_key a)) same
+        (added_is nat_eq exact_unsigned_eq (under nat_eq f.entries.by_key) (under nat_eq entries.by_key) a from added others))
+      | inr was ↦ taken_begun (numbered_entry c x) was
+    ],
+  )
+  begun_also (numbered_summary s x y) = (λ h. inr h, λ w. elim w [ inl is ↦ absurd (apart from s a x y (sym is)) | inr was ↦ was ])
+
+  module _ (es ds : List Triple) (sound : IsSound graph q f es) where
+    -- the start is reached
+    pub start_reached : (t : Triple) → t ≡ triple a graph.start a → Reaches graph M t.entry t.point t.values
+    start_reached t is = subst (λ u. Reaches graph M u.entry u.point u.values) (sym is) (starts (who from) a entered)
+
+    -- so, where nothing but that is added, all edges are
+    pub begin_only : ((t : Triple) → Member t ds → (t ≡ triple a graph.start a) ⊎ Member t es) → (t : Triple) → Member t ds → Reaches graph M t.entry t.point t.values
+    begin_only only t m = elim (only t m) [
+      | inl is ↦ start_reached t is
+      | inr was ↦ reaches_more graph (HasTaken f) M taken_begun t.entry t.point t.values (sound.edge t.entry t.point t.values was)
+    ]
+
+    told : (s : ℕ) (k : NumberedMessage) → Each (λ b. IsTold q a b from) (under nat_eq f.exits.by_key a) (mail s (due_of k)) → Sends graph q M s k
+    told s k (b, m, (c, is, same)) =
+        let (v, reached, leaves) = sound.exit a b m in
+        subst (λ to. Sends graph q M to k) (sym (ap (λ x. x.to) same))
+        (subst (Sends graph q M c) (sym (due_told k (Summary q a b) (ap (λ x. x.due) same)))
+        (subst (λ y. Sends graph q M c (numbered_summary q a y)) (sym leaves)
+        (tells a v c (subst (λ d. Member d (under nat_eq entries.by_key a)) is
+        (added_is nat_eq exact_unsigned_eq (under nat_eq f.entries.by_key) (under nat_eq entries.by_key) a from added others))
+        (reaches_more graph (HasTaken f) M taken_begun a 0 v reached))))
+
+    pub begin_step : Grows (λ t. t ≡ triple a graph.start a) es ds f.pending.items pending.items
+        → Gives (Each (λ b. IsTold q a b from) (under nat_eq f.exits.by_key a)) f.given.mails.keys given.mails.keys
+        → Step graph q f begun_to es ds
+    begin_step grown gave = record {
+      taken = taken_begun;
+      kept = grown.kept;
+      edge = λ t m. elim (grown.only t m) [ inl is ↦ inr (start_reached t is) | inr was ↦ inl was ];
+      new = grown.pending;
+      stays = grown.stays;
+      pending = grown.edges;
+      sites = λ s x c n v m. m;
+      called = λ s x c n v m. inl m;
+      exits = λ x y m. m;
+      exit = λ x y m. inl m;
+      gives = λ s k m. gives_kept (Each (λ b. IsTold q a b from) (under nat_eq f.exits.by_key a)) f.given.mails.keys given.mails.keys gave (mail s (due_of k)) m;
+      given = λ s k m. elim (gave.only (mail s (due_of k)) m) [ inl w ↦ inr (told s k w) | inr was ↦ inl was ];
+      begun = λ c x h. elim (entry_or x (caller_of c) h) [
+        | inl was ↦ inl was
+        | inr is ↦ inr (grown.all (triple x graph.start x) (ap (λ y. triple y graph.start y) (sym is.0)))
+      ];
+      ended = λ s x y c n v at taken. inl (at, taken);
+      asks = λ s x c n v m. inl m;
+      tells = λ x y c m h. elim (entry_or x (Proc c) h) [
+        | inl was ↦ inl (m, was)
+        | inr is ↦ inr (gave.all (mail c (Summary q x y)) (y, subst (λ z. Member y (under nat_eq f.exits.by_key z)) (sym is.0) m, (c, is.1, ap (λ z. mail c (Summary q z y)) (sym is.0))))
+      ];
+      pairs = λ old. old;
+    }

@@ -1,0 +1,105 @@
+-- The step of a table that takes a summary.
+use Rattle.std.proofs.Common.{◌≡◌, ◌↔◌, ◌⊎◌, ◌≤◌, ℕ, Bool, Some, None, List, [], ◌∷◌, ◌++◌, false, nat_eq, inl, inr, refl, sym, ap, ◌∙◌, subst, slice_get}
+use Rattle.std.specs.Prelude.{Vec}
+use Rattle.std.proofs.lemmas.Map.Views.{exact_unsigned_eq}
+use Rattle.language.specs.Sequential.{Caller, caller}
+use Rattle.language.specs.Flow.{Member}
+use Rattle.language.proofs.Members.{member_left, member_right, member_append}
+use Rattle.path_sets.specs.Triples.{Triple, triple}
+use Rattle.flow_graph.specs.Flows.{entered_by}
+use Rattle.flow_graph.specs.Returns.{resumed}
+use Rattle.flow_graph.specs.Numbers.{NumberedMessage, numbered_entry, numbered_summary, Reaches, returns}
+use Rattle.flow_graph.specs.declared.graph.Graph.{Graph}
+use Rattle.flow_graph.proofs.Holding.{reaches_more}
+use Rattle.summaries.specs.declared.due.Due.TheVariants.{Entry, Summary}
+use Rattle.summaries.specs.declared.edge.Call.{Call}
+use Rattle.summaries.specs.declared.edge.Edge.{Edge}
+use Rattle.summaries.specs.declared.edge.Site.{Site}
+use Rattle.summaries.specs.declared.found.Found.{Found}
+use Rattle.summaries.specs.declared.groups.Groups.{Groups}
+use Rattle.summaries.specs.Under.{under}
+use Rattle.summaries.specs.Dues.{caller_of, due_of}
+use Rattle.summaries.specs.Found.{call, call_eq, site, HasTaken, HasSite, IsSound}
+use Rattle.summaries.specs.Grows.{Grows, Each, IsBehind}
+use Rattle.summaries.specs.Tables.{TookAlso}
+use Rattle.summaries.proofs.Adding.{same_call, added_or, added_keeps, added_is}
+use Rattle.summaries.proofs.Dues.{same_summary, apart}
+use Rattle.summaries.proofs.Stepping.{Step}
+
+module _ {A G : Type 0} (graph : Graph G) (q : ℕ) (f : Found A) (summaries : Groups Call ℕ A) (pending : Vec Edge A) (k : Call) (b : ℕ)
+    (added : under call_eq summaries.by_key k ≡ under call_eq f.summaries.by_key k ++ b ∷ [])
+    (others : (j : Call) → call_eq k j ≡ false → under call_eq summaries.by_key j ≡ under call_eq f.summaries.by_key j) where
+  -- what is found, with other summaries and edges pending
+  abbrev pub ended_to : Found A
+  ended_to = record { entries = f.entries; summaries = summaries; sites = f.sites; exits = f.exits; pairs = f.pairs; given = f.given; pending = pending }
+
+  abbrev M : NumberedMessage → Type 0
+  M = HasTaken ended_to
+
+  summary_or : (j : Call) (y : ℕ) → Member y (under call_eq summaries.by_key j) → Member y (under call_eq f.summaries.by_key j) ⊎ ((k ≡ j) × (b ≡ y))
+  summary_or = added_or call_eq same_call (under call_eq f.summaries.by_key) (under call_eq summaries.by_key) k b added others
+
+  -- the messages taken stay
+  pub taken_ended : (m : NumberedMessage) → HasTaken f m → HasTaken ended_to m
+  taken_ended (numbered_entry c x) h = h
+  taken_ended (numbered_summary s x y) h = added_keeps call_eq same_call (under call_eq f.summaries.by_key) (under call_eq summaries.by_key) k b added others (call s x) y h
+
+  -- the summary is taken
+  left_so : Member b (under call_eq summaries.by_key k)
+  left_so = added_is call_eq same_call (under call_eq f.summaries.by_key) (under call_eq summaries.by_key) k b added others
+
+  -- and no other
+  pub ended_also : TookAlso (Summary k.callee k.entered b) f ended_to
+  ended_also (numbered_entry c x) = (λ h. inr h, λ w. elim w [ inl is ↦ absurd (apart (caller_of c) k.callee x k.entered b is) | inr was ↦ was ])
+  ended_also (numbered_summary s x y) = (
+    λ h. elim (summary_or (call s x) y h) [ inl was ↦ inr was | inr is ↦ inl (λ i. Summary (sym is.0 i).callee (sym is.0 i).entered (sym is.1 i)) ],
+    λ w. elim w [
+      | inl is ↦
+        let (same, at) = same_summary s k.callee x k.entered y b is in
+        subst (λ j. Member y (under call_eq summaries.by_key j)) same (subst (λ z. Member z (under call_eq summaries.by_key k)) at left_so)
+      | inr was ↦ taken_ended (numbered_summary s x y) was
+    ],
+  )
+
+  module _ (es ds : List Triple) (sound : IsSound graph q f es) where
+    -- what is behind a call is reached
+    pub ended_reached : (t : Triple) → Each (λ y. IsBehind graph y b) (under call_eq f.sites.by_key k) t → Reaches graph M t.entry t.point t.values
+    ended_reached t (y, m, is) =
+        let (n, flow, reached, here, enters) = sound.site k.callee k.entered y.asked y.next y.values m in
+        subst (λ u. Reaches graph M u.entry u.point u.values) (sym is)
+        (returns y.asked n y.values k.callee k.entered y.next b flow (reaches_more graph (HasTaken f) M taken_ended y.asked n y.values reached) here enters left_so)
+
+    -- so, where nothing but that is added, all edges are
+    pub end_only : ((t : Triple) → Member t ds → Each (λ y. IsBehind graph y b) (under call_eq f.sites.by_key k) t ⊎ Member t es) → (t : Triple) → Member t ds → Reaches graph M t.entry t.point t.values
+    end_only only t m = elim (only t m) [
+      | inl w ↦ ended_reached t w
+      | inr was ↦ reaches_more graph (HasTaken f) M taken_ended t.entry t.point t.values (sound.edge t.entry t.point t.values was)
+    ]
+
+    pub end_step : Grows (Each (λ y. IsBehind graph y b) (under call_eq f.sites.by_key k)) es ds f.pending.items pending.items → Step graph q f ended_to es ds
+    end_step grown = record {
+      taken = taken_ended;
+      kept = grown.kept;
+      edge = λ t m. elim (grown.only t m) [ inl w ↦ inr (ended_reached t w) | inr was ↦ inl was ];
+      new = grown.pending;
+      stays = grown.stays;
+      pending = grown.edges;
+      sites = λ s x c n v m. m;
+      called = λ s x c n v m. inl m;
+      exits = λ x y m. m;
+      exit = λ x y m. inl m;
+      gives = λ s m h. h;
+      given = λ s m h. inl h;
+      begun = λ c x h. inl h;
+      ended = λ s x y c n v at taken. elim (summary_or (call s x) y taken) [
+        | inl was ↦ inl (at, was)
+        | inr is ↦ inr (grown.all (triple c n (resumed graph.globals v y)) (
+          site c n v,
+          subst (λ j. Member (site c n v) (under call_eq f.sites.by_key j)) (sym is.0) at,
+          ap (λ z. triple c n (resumed graph.globals v z)) (sym is.1),
+        ))
+      ];
+      asks = λ s x c n v m. inl m;
+      tells = λ x y c m h. inl (m, h);
+      pairs = λ old. old;
+    }

@@ -1,0 +1,137 @@
+-- The step of a table at an edge at the exit.
+use Rattle.std.proofs.Common.{◌≡◌, ◌↔◌, ◌⊎◌, ◌≤◌, ℕ, Bool, Some, None, List, [], ◌∷◌, ◌++◌, false, nat_eq, inl, inr, refl, sym, ap, ◌∙◌, subst, slice_get}
+use Rattle.std.specs.Prelude.{Vec}
+use Rattle.std.proofs.lemmas.Map.Views.{exact_unsigned_eq}
+use Rattle.language.specs.Sequential.{Caller, caller}
+use Rattle.language.specs.Flow.{Member}
+use Rattle.language.proofs.Members.{member_left, member_right, member_append}
+use Rattle.path_sets.specs.Triples.{Triple, triple}
+use Rattle.flow_graph.specs.Returns.{left}
+use Rattle.flow_graph.specs.Numbers.{NumberedMessage, numbered_entry, numbered_summary, Reaches, Sends, tells, Leaves}
+use Rattle.flow_graph.specs.declared.graph.Graph.{Graph}
+use Rattle.flow_graph.proofs.Holding.{reaches_more}
+use Rattle.summaries.specs.declared.due.Caller.TheVariants.{Proc}
+use Rattle.summaries.specs.declared.due.Due.TheVariants.{Summary}
+use Rattle.summaries.specs.declared.found.Found.{Found}
+use Rattle.summaries.specs.Under.{under}
+use Rattle.summaries.specs.Mails.{mail}
+use Rattle.summaries.specs.Dues.{due_of}
+use Rattle.summaries.specs.Found.{pair, HasTaken, HasExit, IsSound}
+use Rattle.summaries.specs.Grows.{Gives, Each, IsTold, triple_of}
+use Rattle.summaries.proofs.Adding.{added_or, added_keeps, added_is}
+use Rattle.summaries.proofs.Dues.{due_told}
+use Rattle.summaries.proofs.Stepping.{Step}
+use Rattle.summaries.proofs.Telling.{gives_kept}
+
+-- g has other exits, pairs and messages given
+module _ {A G : Type 0} (graph : Graph G) (q : ℕ) (f g : Found A) where
+  -- what is found, with other exits, pairs and messages given
+  abbrev pub left_to : Found A
+  left_to = record { entries = f.entries; summaries = f.summaries; sites = f.sites; exits = g.exits; pairs = g.pairs; given = g.given; pending = f.pending }
+
+  -- the messages taken are the same
+  pub taken_left : (k : NumberedMessage) → HasTaken f k → HasTaken left_to k
+  taken_left (numbered_entry from a) h = h
+  taken_left (numbered_summary s a b) h = h
+
+  module _ (es : List Triple) (a v b : ℕ) (is_left : b ≡ left graph.globals v) (sound : IsSound graph q f es) (there : Member (triple a 0 v) es)
+      (keys : g.pairs.keys ≡ f.pairs.keys ++ pair a b ∷ [])
+      (added : under nat_eq g.exits.by_key a ≡ under nat_eq f.exits.by_key a ++ b ∷ [])
+      (others : (k : ℕ) → nat_eq a k ≡ false → under nat_eq g.exits.by_key k ≡ under nat_eq f.exits.by_key k)
+      (gave : Gives (Each (IsTold q a b) (under nat_eq f.entries.by_key a)) f.given.mails.keys g.given.mails.keys) where
+    abbrev M : NumberedMessage → Type 0
+    M = HasTaken left_to
+
+    reached : Reaches graph M a 0 v
+    reached = reaches_more graph (HasTaken f) M taken_left a 0 v (sound.edge a 0 v there)
+
+    exit_or : (x y : ℕ) → Member y (under nat_eq g.exits.by_key x) → Member y (under nat_eq f.exits.by_key x) ⊎ ((a ≡ x) × (b ≡ y))
+    exit_or = added_or nat_eq exact_unsigned_eq (under nat_eq f.exits.by_key) (under nat_eq g.exits.by_key) a b added others
+
+    exit_keeps : (x y : ℕ) → Member y (under nat_eq f.exits.by_key x) → Member y (under nat_eq g.exits.by_key x)
+    exit_keeps = added_keeps nat_eq exact_unsigned_eq (under nat_eq f.exits.by_key) (under nat_eq g.exits.by_key) a b added others
+
+    pub left_exit : HasExit left_to a b
+    left_exit = added_is nat_eq exact_unsigned_eq (under nat_eq f.exits.by_key) (under nat_eq g.exits.by_key) a b added others
+
+    told : (s : ℕ) (k : NumberedMessage) → Each (IsTold q a b) (under nat_eq f.entries.by_key a) (mail s (due_of k)) → Sends graph q M s k
+    told s k (from, m, (c, is, same)) =
+        subst (λ to. Sends graph q M to k) (sym (ap (λ x. x.to) same))
+        (subst (Sends graph q M c) (sym (due_told k (Summary q a b) (ap (λ x. x.due) same)))
+        (subst (λ y. Sends graph q M c (numbered_summary q a y)) (sym is_left)
+        (tells a v c (subst (λ y. Member y (under nat_eq f.entries.by_key a)) is m) reached)))
+
+    pub leave_step : Step graph q f left_to es es
+    leave_step = record {
+      taken = taken_left;
+      kept = λ t m. m;
+      edge = λ t m. inl m;
+      new = λ t m. inl m;
+      stays = λ e m. m;
+      pending = λ e m. inl m;
+      sites = λ s x c n w m. m;
+      called = λ s x c n w m. inl m;
+      exits = exit_keeps;
+      exit = λ x y m. elim (exit_or x y m) [
+        | inl was ↦ inl was
+        | inr is ↦ inr (subst (λ z. Leaves graph M z y) is.0 (subst (Leaves graph M a) is.1 (v, reached, is_left)))
+      ];
+      gives = λ s k m. gives_kept (Each (IsTold q a b) (under nat_eq f.entries.by_key a)) f.given.mails.keys g.given.mails.keys gave (mail s (due_of k)) m;
+      given = λ s k m. elim (gave.only (mail s (due_of k)) m) [ inl w ↦ inr (told s k w) | inr was ↦ inl was ];
+      begun = λ from x h. inl h;
+      ended = λ s x y c n w at taken. inl (at, taken);
+      asks = λ s x c n w m. inl m;
+      tells = λ x y c m h. elim (exit_or x y m) [
+        | inl was ↦ inl (was, h)
+        | inr is ↦ inr (gave.all (mail c (Summary q x y)) (
+          Proc c,
+          subst (λ z. Member (Proc c) (under nat_eq f.entries.by_key z)) (sym is.0) h,
+          (c, refl, λ i. mail c (Summary q (sym is.0 i) (sym is.1 i))),
+        ))
+      ];
+      pairs = λ old x y. (
+        λ m. elim (member_append (pair x y) f.pairs.keys (pair a b ∷ []) (subst (Member (pair x y)) keys m)) [
+          | inl was ↦ exit_keeps x y ((old x y).0 was)
+          | inr last ↦ elim last [
+            | inl is ↦ subst (λ p. Member p.b (under nat_eq g.exits.by_key p.a)) (sym is) left_exit
+            | inr none ↦ elim none [ ]
+          ]
+        ],
+        λ m. subst (Member (pair x y)) (sym keys) (elim (exit_or x y m) [
+          | inl was ↦ member_left (pair x y) f.pairs.keys (pair a b ∷ []) ((old x y).1 was)
+          | inr is ↦ member_right (pair x y) f.pairs.keys (pair a b ∷ []) (inl (λ i. pair (sym is.0 i) (sym is.1 i)))
+        ]),
+      );
+    }
+
+module _ {A G : Type 0} (graph : Graph G) (q : ℕ) (f g : Found A) (same : g.pairs.keys ≡ f.pairs.keys) (es : List Triple) where
+  -- what is found, with other pairs
+  abbrev pub paired_to : Found A
+  paired_to = record { entries = f.entries; summaries = f.summaries; sites = f.sites; exits = f.exits; pairs = g.pairs; given = f.given; pending = f.pending }
+
+  -- the messages taken are the same
+  pub taken_paired : (k : NumberedMessage) → HasTaken f k → HasTaken paired_to k
+  taken_paired (numbered_entry from a) h = h
+  taken_paired (numbered_summary s a b) h = h
+
+  -- with the same pairs all is the same
+  pub known_step : Step graph q f paired_to es es
+  known_step = record {
+    taken = taken_paired;
+    kept = λ t m. m;
+    edge = λ t m. inl m;
+    new = λ t m. inl m;
+    stays = λ e m. m;
+    pending = λ e m. inl m;
+    sites = λ s x c n w m. m;
+    called = λ s x c n w m. inl m;
+    exits = λ x y m. m;
+    exit = λ x y m. inl m;
+    gives = λ s k m. m;
+    given = λ s k m. inl m;
+    begun = λ from x h. inl h;
+    ended = λ s x y c n w at taken. inl (at, taken);
+    asks = λ s x c n w m. inl m;
+    tells = λ x y c m h. inl (m, h);
+    pairs = λ old x y. (λ m. (old x y).0 (subst (Member (pair x y)) same m), λ m. subst (Member (pair x y)) (sym same) ((old x y).1 m));
+  }

@@ -1,0 +1,68 @@
+use Rattle.std.proofs.Common.{◌≡◌, ◌++◌, ◌∷◌, [], length, nat_eq, inl, refl, sym, subst, ap, ◌∙◌}
+use Rattle.std.proofs.lemmas.Result.{IfOk-weaker}
+use Rattle.language.specs.Flow.{Member}
+use Rattle.language.proofs.Members.{member_right}
+use Rattle.path_sets.specs.Triples.{triple}
+use Rattle.flow_graph.specs.Returns.{left}
+use Rattle.summaries.specs.declared.found.Found.{Found}
+use Rattle.summaries.specs.Under.{under}
+use Rattle.summaries.specs.Found.{pair, pair_eq, HasExit}
+use Rattle.summaries.specs.Grows.{Gives, Each, IsTold, triple_of}
+use Rattle.summaries.proofs.Adding.{same_pair}
+use Rattle.summaries.proofs.Mails.{inserted_new, inserted_known, found_is_in, sent_still}
+use Rattle.summaries.proofs.Leaving.{left_to, leave_step, paired_to, known_step}
+use Rattle.summaries.proofs.Stepping.{still_sound, still_complete}
+use Rattle.summaries.proofs.table.Table.leave.Given as given
+use Rattle.summaries.proofs.table.Table.leave.Goals as goal
+
+pub returns-in_ok-tell_all-clause-ok : goal.returns-in_ok-tell_all-clause-ok
+returns-in_ok-tell_all-clause-ok g c =
+    let self = c.args.self.now in
+    let f = self.found in
+    let e = c.args.edge in
+    let b = c.left.result in
+    let es = g.S.PathSet.members self.edges in
+    let h : Found g.row.A.Denot = record { entries = f.entries; summaries = f.summaries; sites = f.sites; exits = c.add.new.self; pairs = c.insert.new.self; given = c.tell_all.new.given; pending = f.pending } in
+    let there = subst (λ n. Member (triple e.entry n e.values) es) c.if-edge-ne-EXIT.false c.requires.edge in
+    let keys = inserted_new pair_eq (pair e.entry b) f.pairs.keys c.insert.new.self.keys c.in_ok-insert.field-0 c.in_ok-insert.ensures.added c.in_ok-insert.ensures.keys c.if-branch.true in
+    let gave = subst (λ cs. Gives (Each (IsTold self.procedure e.entry b) cs) f.given.mails.keys h.given.mails.keys) c.of.ensures c.in_ok-tell_all.ensures.ok in
+    let step = leave_step self.graph.now self.procedure f h es e.entry e.values b c.left.ensures.number c.requires.holds.0 there keys c.in_ok-add.ensures.added c.in_ok-add.ensures.others gave in (
+      still_sound self.graph.now self.procedure f h es es step c.requires.holds.0,
+      still_complete self.graph.now self.procedure f h es es step (λ t. t ≡ triple_of e) c.requires.holds.1,
+    )
+
+pub returns-in_ok-tell_all-clause-left : goal.returns-in_ok-tell_all-clause-left
+returns-in_ok-tell_all-clause-left g c = λ _.
+    let self = c.args.self.now in
+    let f = self.found in
+    let e = c.args.edge in
+    let b = c.left.result in
+    subst (λ y. Member y (under nat_eq c.add.new.self.by_key e.entry)) c.left.ensures.number
+    (subst (Member b) (sym c.in_ok-add.ensures.added) (member_right b (under nat_eq f.exits.by_key e.entry) (b ∷ []) (inl refl)))
+
+pub returns-in_ok-tell_all-clause-sent : goal.returns-in_ok-tell_all-clause-sent
+returns-in_ok-tell_all-clause-sent g c =
+    let f = c.args.self.now.found in
+    sent_still f.given.mails.keys c.tell_all.new.given.mails.keys f.given.answered c.tell_all.new.given.answered f.given.within c.in_ok-tell_all.ensures.answered c.in_ok-tell_all.ensures.ok.behind
+
+pub returns-else-branch-clause-ok : goal.returns-else-branch-clause-ok
+returns-else-branch-clause-ok g c =
+    let self = c.args.self.now in
+    let f = self.found in
+    let e = c.args.edge in
+    let es = g.S.PathSet.members self.edges in
+    let h : Found g.row.A.Denot = record { entries = f.entries; summaries = f.summaries; sites = f.sites; exits = f.exits; pairs = c.insert.new.self; given = f.given; pending = f.pending } in
+    let known = inserted_known pair_eq (pair e.entry c.left.result) f.pairs.keys c.insert.new.self.keys c.in_ok-insert.field-0 c.in_ok-insert.ensures.added c.in_ok-insert.ensures.keys c.if-branch.false in
+    let step = known_step self.graph.now self.procedure f h known.0 es in (
+      still_sound self.graph.now self.procedure f h es es step c.requires.holds.0,
+      still_complete self.graph.now self.procedure f h es es step (λ t. t ≡ triple_of e) c.requires.holds.1,
+    )
+
+pub returns-else-branch-clause-left : goal.returns-else-branch-clause-left
+returns-else-branch-clause-left g c = λ _.
+    let self = c.args.self.now in
+    let f = self.found in
+    let e = c.args.edge in
+    let known = inserted_known pair_eq (pair e.entry c.left.result) f.pairs.keys c.insert.new.self.keys c.in_ok-insert.field-0 c.in_ok-insert.ensures.added c.in_ok-insert.ensures.keys c.if-branch.false in
+    subst (λ b. Member b (under nat_eq f.exits.by_key e.entry)) c.left.ensures.number
+    ((c.requires.holds.1.pairs e.entry c.left.result).0 (found_is_in pair_eq same_pair (pair e.entry c.left.result) f.pairs.keys known.1))
