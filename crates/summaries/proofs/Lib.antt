@@ -9,6 +9,7 @@ pub mod Dues
 pub mod Adding
 pub mod Stepping
 pub mod Asking
+pub mod Working
 pub mod Leading
 pub mod Leaving
 pub mod Beginning

@@ -1,5 +1,6 @@
 -- What a table holds while it takes a step: nothing more than is reached and sent, and nothing left out.
-use Rattle.std.proofs.Common.{◌≡◌, ◌≤◌, ◌<◌, ◌⊎◌, ◌↔◌, ℕ, Some, List, [], ◌∷◌, ◌++◌, length, inl, inr, refl, sym, subst, slice_get, arith}
+use Rattle.std.proofs.Common.{◌≡◌, ◌≤◌, ◌<◌, ◌⊎◌, ◌↔◌, ℕ, Some, List, [], ◌∷◌, ◌++◌, length, inl, inr, refl, sym, subst, slice_get, nat_eq, arith, Result, Ok, Err}
+use Rattle.std.specs.Result.{OnOk}
 use Rattle.language.specs.Sequential.{Caller, caller}
 use Rattle.language.specs.Flow.{Member}
 use Rattle.language.proofs.Members.{member_left, member_right, member_append}
@@ -10,9 +11,12 @@ use Rattle.flow_graph.specs.Numbers.{NumberedMessage, numbered_entry, numbered_s
 use Rattle.flow_graph.specs.declared.flow.Flow.{Flow}
 use Rattle.flow_graph.specs.declared.graph.Graph.{Graph}
 use Rattle.flow_graph.proofs.Holding.{reaches_more, sends_more}
+use Rattle.summaries.specs.declared.edge.Call.{Call}
 use Rattle.summaries.specs.declared.edge.Edge.{Edge}
 use Rattle.summaries.specs.declared.found.Found.{Found}
-use Rattle.summaries.specs.Found.{edge, site, pair, HasTaken, HasSite, HasExit, HasGiven, IsPending, IsSound, IsWorked, IsComplete}
+use Rattle.summaries.specs.Under.{under}
+use Rattle.summaries.specs.Dues.{caller_of}
+use Rattle.summaries.specs.Found.{call, call_eq, edge, site, pair, HasTaken, HasSite, HasExit, HasGiven, IsPending, IsSound, IsWorked, IsComplete}
 use Rattle.summaries.specs.Grows.{Grows, IsNext, triple_of, edge_of}
 use Rattle.summaries.specs.Tables.{HasMore}
 
@@ -111,3 +115,14 @@ has_more limit es P once all t is new full = (t ∷ es, (new, once), omega (arit
 pub all_reached : {A G : Type 0} (graph : Graph G) (q : ℕ) (f g : Found A) (es : List Triple) → IsSound graph q f es → ((k : NumberedMessage) → HasTaken f k → HasTaken g k) →
     (t : Triple) → Member t es → Reaches graph (HasTaken g) t.entry t.point t.values
 all_reached graph q f g es sound taken t m = reaches_more graph (HasTaken f) (HasTaken g) taken t.entry t.point t.values (sound.edge t.entry t.point t.values m)
+
+-- where the entries and the summaries are the same, so are the messages taken
+pub taken_as : {A : Type 0} (f g : Found A) → ((a : ℕ) → under nat_eq g.entries.by_key a ≡ under nat_eq f.entries.by_key a) → ((c : Call) → under call_eq g.summaries.by_key c ≡ under call_eq f.summaries.by_key c) →
+    (k : NumberedMessage) → HasTaken f k → HasTaken g k
+taken_as f g entries summaries (numbered_entry from a) h = subst (Member (caller_of from)) (sym (entries a)) h
+taken_as f g entries summaries (numbered_summary s a b) h = subst (Member b) (sym (summaries (call s a))) h
+
+-- what follows of two facts where the answer is Ok
+pub both_ok : {T E P Q R : Type 0} (r : Result T E) → (P → Q → R) → OnOk r P → OnOk r Q → OnOk r R
+both_ok (Ok _) f p q = f p q
+both_ok (Err _) f p q = tt
