@@ -103,35 +103,3 @@ module _ {A G : Type 0} (graph : Graph G) (q : ℕ) (f g : Found A) where
         ]),
       );
     }
-
-module _ {A G : Type 0} (graph : Graph G) (q : ℕ) (f g : Found A) (same : g.pairs.keys ≡ f.pairs.keys) (es : List Triple) where
-  -- what is found, with other pairs
-  abbrev pub paired_to : Found A
-  paired_to = record { entries = f.entries; summaries = f.summaries; sites = f.sites; exits = f.exits; pairs = g.pairs; given = f.given; pending = f.pending }
-
-  -- the messages taken are the same
-  pub taken_paired : (k : NumberedMessage) → HasTaken f k → HasTaken paired_to k
-  taken_paired (numbered_entry from a) h = h
-  taken_paired (numbered_summary s a b) h = h
-
-  -- with the same pairs all is the same
-  pub known_step : Step graph q f paired_to es es
-  known_step = record {
-    taken = taken_paired;
-    kept = λ t m. m;
-    edge = λ t m. inl m;
-    new = λ t m. inl m;
-    stays = λ e m. m;
-    pending = λ e m. inl m;
-    sites = λ s x c n w m. m;
-    called = λ s x c n w m. inl m;
-    exits = λ x y m. m;
-    exit = λ x y m. inl m;
-    gives = λ s k m. m;
-    given = λ s k m. inl m;
-    begun = λ from x h. inl h;
-    ended = λ s x y c n w at taken. inl (at, taken);
-    asks = λ s x c n w m. inl m;
-    tells = λ x y c m h. inl (m, h);
-    pairs = λ old x y. (λ m. (old x y).0 (subst (Member (pair x y)) same m), λ m. subst (Member (pair x y)) (sym same) ((old x y).1 m));
-  }

@@ -14,3 +14,4 @@ pub mod Leading
 pub mod Leaving
 pub mod Beginning
 pub mod Ending
+pub mod Tabling

@@ -1,5 +1,5 @@
 -- Messages that compare as equal are the same.
-use Rattle.std.proofs.Common.{take, drop, ◌≡◌, ◌≤◌, ◌+◌, ℕ, Bool, true, false, ◌&&◌, nat_eq, List, [], ◌∷◌, ◌++◌, length, if◌then◌else◌, inl, inr, refl, sym, ap, ◌∙◌, subst, true≢false, ◌||◌, not, Result, Ok, Err, arith}
+use Rattle.std.proofs.Common.{zero, suc, take, drop, ◌≡◌, ◌≤◌, ◌+◌, ℕ, Bool, true, false, ◌&&◌, nat_eq, List, [], ◌∷◌, ◌++◌, length, if◌then◌else◌, inl, inr, refl, sym, ap, ◌∙◌, subst, true≢false, ◌||◌, not, Result, Ok, Err, arith}
 use Rattle.std.proofs.lemmas.List.{take-append-drop, take-append-le}
 use Rattle.std.specs.Result.{IfOk, OnErr}
 use Rattle.std.specs.Bool.{OnTrue, OnFalse}
@@ -141,3 +141,11 @@ next_new {K = K} ks n m k more once = apart (take n ks) (drop m ks) (subst NoneT
 -- with more messages behind, those that were answered are the same
 pub sent_still : {K : Type 0} (ks js : List K) (n m : ℕ) → n ≤ length ks → m ≡ n → (more : List K) × (js ≡ ks ++ more) → take m js ≡ take n ks
 sent_still ks js n m within same (more, is) = ap (λ i. take i js) same ∙ ap (take n) is ∙ take-append-le n ks more within
+
+-- of no messages none were answered
+pub sent_none : {K : Type 0} (ks : List K) (n : ℕ) → ks ≡ [] → take n ks ≡ []
+sent_none {K = K} ks n none = ap (take n) none ∙ by n
+  where
+    by : (i : ℕ) → take {A = K} i [] ≡ []
+    by zero = refl
+    by (suc i) = refl

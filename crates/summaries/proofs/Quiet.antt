@@ -1,13 +1,13 @@
 -- A table that is sound and complete, and has nothing pending, has what is reached and what is sent.
-use Rattle.std.proofs.Common.{◌≡◌, ℕ, List, [], ◌⊎◌, inl, inr, subst, refl}
+use Rattle.std.proofs.Common.{◌≡◌, ℕ, List, [], ◌⊎◌, inl, inr, subst, sym, refl}
 use Rattle.language.specs.Flow.{Member}
 use Rattle.path_sets.specs.Triples.{Triple, triple}
 use Rattle.flow_graph.specs.Flows.{entered_by}
 use Rattle.flow_graph.specs.Returns.{left}
-use Rattle.flow_graph.specs.Numbers.{NumberedMessage, Reaches, starts, flows, returns, Sends, asks, tells}
+use Rattle.flow_graph.specs.Numbers.{NumberedMessage, Reaches, starts, flows, returns, Sends, asks, tells, Leaves}
 use Rattle.flow_graph.specs.declared.graph.Graph.{Graph}
 use Rattle.summaries.specs.declared.found.Found.{Found}
-use Rattle.summaries.specs.Found.{edge, HasTaken, HasGiven, IsSound, IsWorked, IsComplete, IsQuiet}
+use Rattle.summaries.specs.Found.{edge, HasTaken, HasExit, HasGiven, IsSound, IsWorked, IsComplete, IsQuiet}
 
 module _ {A G : Type 0} (graph : Graph G) (q : ℕ) (f : Found A) (edges : List Triple)
     (complete : IsComplete graph q f edges (λ t. ⊥)) (none_pending : f.pending.items ≡ []) where
@@ -37,6 +37,11 @@ module _ {A G : Type 0} (graph : Graph G) (q : ℕ) (f : Found A) (edges : List 
       complete.asks s e a n' v ((is_worked a n v (is_edge a n v r)).calls flow s e n' here calls)
   is_given _ _ (tells a v c taken r) =
       complete.tells a (left graph.globals v) c ((is_worked a 0 v (is_edge a 0 v r)).leaves refl) taken
+
+  -- what is left is an exit
+  pub is_left : (a b : ℕ) → Leaves graph (HasTaken f) a b → HasExit f a b
+  unfolding is_worked
+  is_left a b (v, reached, is) = subst (HasExit f a) (sym is) ((is_worked a 0 v (is_edge a 0 v reached)).leaves refl)
 
   -- so, where all of it is reached and sent, the table is quiet
   pub is_quiet : IsSound graph q f edges → IsQuiet graph q f edges

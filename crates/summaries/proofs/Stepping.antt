@@ -1,6 +1,7 @@
 -- What a table holds while it takes a step: nothing more than is reached and sent, and nothing left out.
-use Rattle.std.proofs.Common.{◌≡◌, ◌≤◌, ◌<◌, ◌⊎◌, ◌↔◌, ℕ, Some, List, [], ◌∷◌, ◌++◌, length, inl, inr, refl, sym, subst, slice_get, nat_eq, arith, Result, Ok, Err}
+use Rattle.std.proofs.Common.{◌≡◌, ◌≤◌, ◌<◌, ◌⊎◌, ◌↔◌, ℕ, Some, List, [], ◌∷◌, ◌++◌, length, inl, inr, refl, sym, ap, subst, slice_get, nat_eq, arith, Result, Ok, Err}
 use Rattle.std.specs.Result.{OnOk}
+use Rattle.std.specs.Prelude.{Vec}
 use Rattle.language.specs.Sequential.{Caller, caller}
 use Rattle.language.specs.Flow.{Member}
 use Rattle.language.proofs.Members.{member_left, member_right, member_append}
@@ -13,10 +14,12 @@ use Rattle.flow_graph.specs.declared.graph.Graph.{Graph}
 use Rattle.flow_graph.proofs.Holding.{reaches_more, sends_more}
 use Rattle.summaries.specs.declared.edge.Call.{Call}
 use Rattle.summaries.specs.declared.edge.Edge.{Edge}
+use Rattle.summaries.specs.declared.edge.Site.{Site}
 use Rattle.summaries.specs.declared.found.Found.{Found}
 use Rattle.summaries.specs.Under.{under}
-use Rattle.summaries.specs.Dues.{caller_of}
-use Rattle.summaries.specs.Found.{call, call_eq, edge, site, pair, HasTaken, HasSite, HasExit, HasGiven, IsPending, IsSound, IsWorked, IsComplete}
+use Rattle.summaries.specs.Mails.{mail}
+use Rattle.summaries.specs.Dues.{caller_of, due_of}
+use Rattle.summaries.specs.Found.{call, call_eq, edge, site, pair, HasTaken, HasSite, HasExit, HasGiven, IsPending, IsSound, IsWorked, IsComplete, IsEmpty}
 use Rattle.summaries.specs.Grows.{Grows, IsNext, triple_of, edge_of}
 use Rattle.summaries.specs.Tables.{HasMore}
 
@@ -126,3 +129,114 @@ taken_as f g entries summaries (numbered_summary s a b) h = subst (Member b) (sy
 pub both_ok : {T E P Q R : Type 0} (r : Result T E) → (P → Q → R) → OnOk r P → OnOk r Q → OnOk r R
 both_ok (Ok _) f p q = f p q
 both_ok (Err _) f p q = tt
+
+-- g has pairs, messages given and edges pending as f has
+module _ {A G : Type 0} (graph : Graph G) (q : ℕ) (f g : Found A) (es : List Triple) (paired : g.pairs.keys ≡ f.pairs.keys) (gave : g.given.mails.keys ≡ f.given.mails.keys)
+    (pended : g.pending.items ≡ f.pending.items) where
+  -- what is found, with these
+  abbrev pub same_to : Found A
+  same_to = record { entries = f.entries; summaries = f.summaries; sites = f.sites; exits = f.exits; pairs = g.pairs; given = g.given; pending = g.pending }
+
+  -- nothing changes
+  pub same_step : Step graph q f same_to es es
+  same_step = record {
+    taken = taken_as f same_to (λ a. refl) (λ c. refl);
+    kept = λ t m. m;
+    edge = λ t m. inl m;
+    new = λ t m. inl m;
+    stays = λ e m. subst (Member e) (sym pended) m;
+    pending = λ e m. inl (subst (Member e) pended m);
+    sites = λ s x a n v m. m;
+    called = λ s x a n v m. inl m;
+    exits = λ a b m. m;
+    exit = λ a b m. inl m;
+    gives = λ s k m. subst (Member (mail s (due_of k))) (sym gave) m;
+    given = λ s k m. inl (subst (Member (mail s (due_of k))) gave m);
+    begun = λ from a h. inl h;
+    ended = λ s x b a n v at taken. inl (at, taken);
+    asks = λ s x a n v m. inl m;
+    tells = λ a b c m h. inl (m, h);
+    pairs = λ old a b. (λ m. (old a b).0 (subst (Member (pair a b)) paired m), λ m. subst (Member (pair a b)) (sym paired) ((old a b).1 m));
+  }
+
+module _ {A G : Type 0} (graph : Graph G) (q : ℕ) (f : Found A) (es : List Triple) (pending : Vec Edge A) (e : Edge) (popped : f.pending.items ≡ pending.items ++ e ∷ []) where
+  -- what is found, with the last edge no longer pending
+  abbrev pub popped_to : Found A
+  popped_to = record { entries = f.entries; summaries = f.summaries; sites = f.sites; exits = f.exits; pairs = f.pairs; given = f.given; pending = pending }
+
+  taken_there : (k : NumberedMessage) → HasTaken f k → HasTaken popped_to k
+  taken_there = taken_as f popped_to (λ a. refl) (λ c. refl)
+
+  more : (a n v : ℕ) → Reaches graph (HasTaken f) a n v → Reaches graph (HasTaken popped_to) a n v
+  more = reaches_more graph (HasTaken f) (HasTaken popped_to) taken_there
+
+  -- what was pending is pending or is the edge
+  was : (x : Edge) → Member x f.pending.items → Member x pending.items ⊎ (x ≡ e)
+  was x m = elim (member_append x pending.items (e ∷ []) (subst (Member x) popped m)) [
+    | inl there ↦ inl there
+    | inr last ↦ elim last [ inl is ↦ inr is | inr none ↦ elim none [ ] ]
+  ]
+
+  pub popped_sound : IsSound graph q f es → IsSound graph q popped_to es
+  popped_sound old = record {
+    edge = λ a n v m. more a n v (old.edge a n v m);
+    site = λ s x a n' v m. let (n, flow, reached, here, enters) = old.site s x a n' v m in (n, flow, more a n v reached, here, enters);
+    exit = λ a b m. let (v, reached, is) = old.exit a b m in (v, more a 0 v reached, is);
+    given = λ s k m. sends_more graph (HasTaken f) (HasTaken popped_to) taken_there q s k (old.given s k m);
+    pending = λ a n v m. old.pending a n v (subst (Member (edge a n v)) (sym popped) (member_left (edge a n v) pending.items (e ∷ []) m));
+  }
+
+  -- the edge may be left aside
+  pub popped_complete : IsComplete graph q f es (λ t. ⊥) → IsComplete graph q popped_to es (λ t. t ≡ triple_of e)
+  popped_complete old = record {
+    begun = λ from a h. old.begun from a h;
+    worked = λ a n v m. elim (old.worked a n v m) [
+      | inl none ↦ absurd none
+      | inr rest ↦ elim rest [
+        | inl pend ↦ elim (was (edge a n v) pend) [ inl there ↦ inr (inl there) | inr is ↦ inl (ap triple_of is) ]
+        | inr worked ↦ inr (inr (record { flows = worked.flows; calls = worked.calls; leaves = worked.leaves; }))
+      ]
+    ];
+    ended = λ s x b a n v at taken. old.ended s x b a n v at taken;
+    asks = old.asks;
+    tells = λ a b c m h. old.tells a b c m h;
+    pairs = old.pairs;
+  }
+
+  -- it is an edge
+  pub popped_edge : IsSound graph q f es → Member (triple_of e) es
+  popped_edge old = old.pending e.entry e.point e.values (subst (Member e) (sym popped) (member_right e pending.items (e ∷ []) (inl refl)))
+
+-- nothing is found yet
+module _ {A G : Type 0} (graph : Graph G) (q : ℕ) (f : Found A) (es : List Triple) (empty : IsEmpty f) (none : es ≡ []) where
+  no_edge : (t : Triple) → Member t es → ⊥
+  no_edge t m = subst (Member t) none m
+
+  no_site : (s e : ℕ) (x : Site) → HasSite f s e x → ⊥
+  no_site s e x m = subst (Member x) (empty.sites (call s e)) m
+
+  no_exit : (a b : ℕ) → HasExit f a b → ⊥
+  no_exit a b m = subst (Member b) (empty.exits a) m
+
+  pub no_message : (k : NumberedMessage) → HasTaken f k → ⊥
+  no_message (numbered_entry from a) h = subst (Member (caller_of from)) (empty.entries a) h
+  no_message (numbered_summary s a b) h = subst (Member b) (empty.summaries (call s a)) h
+
+  pub empty_sound : IsSound graph q f es
+  empty_sound = record {
+    edge = λ a n v m. absurd (no_edge (triple a n v) m);
+    site = λ s e a n v m. absurd (no_site s e (site a n v) m);
+    exit = λ a b m. absurd (no_exit a b m);
+    given = λ s k m. absurd (subst (Member (mail s (due_of k))) empty.given m);
+    pending = λ a n v m. absurd (subst (Member (edge a n v)) empty.pending m);
+  }
+
+  pub empty_complete : IsComplete graph q f es (λ t. ⊥)
+  empty_complete = record {
+    begun = λ from a h. absurd (no_message (numbered_entry from a) h);
+    worked = λ a n v m. absurd (no_edge (triple a n v) m);
+    ended = λ s e b a n v at taken. absurd (no_site s e (site a n v) at);
+    asks = λ s e a n v m. absurd (no_site s e (site a n v) m);
+    tells = λ a b c m h. absurd (no_exit a b m);
+    pairs = λ a b. (λ m. absurd (subst (Member (pair a b)) empty.pairs m), λ m. absurd (no_exit a b m));
+  }

@@ -1,5 +1,5 @@
 -- What the table of one procedure promises, of which the path edges kept are listed by `members`.
-use Rattle.std.specs.Prelude.{◌≡◌, ◌≤◌, ◌<◌, ◌⊎◌, ◌↔◌, ◌++◌, ◌+◌, ℕ, Option, Some, None, Result, Ok, Err, List, [], length, take}
+use Rattle.std.specs.Prelude.{◌≡◌, ◌≤◌, ◌<◌, ◌⊎◌, ◌↔◌, ◌++◌, ◌+◌, ◌-◌, ◌*◌, ℕ, Option, Some, None, Result, Ok, Err, List, [], length, take}
 use Rattle.language.specs.Flow.{Member}
 use Rattle.path_sets.specs.Triples.{Triple, triple, NoneTwice}
 use Rattle.flow_graph.specs.Numbers.{NumberedMessage, Reaches, Sends, Leaves}
@@ -76,6 +76,10 @@ module _ {G A S : Type 0} (members : S → List Triple) where
   IsLess old new =
       (length new.found.pending.items + length (members old.edges) ≡ length old.found.pending.items + length (members new.edges))
       × (length (members old.edges) ≤ length (members new.edges))
+
+  -- twice as many edges as there may still be, and those pending
+  abbrev pub work_left : Table G A S → ℕ
+  work_left t = 2 * (t.limit.edges - length (members t.edges)) + length t.found.pending.items
 
   -- By the messages taken the edges kept are what is reached, and the messages answered are what is sent.
   pub record IsQuiet (t : Table G A S) : Type 0 where

@@ -27,6 +27,7 @@ pub struct Table<'g, G: Allocator, A: Allocator, S: PathSet<A>> {
 
 impl<'g, G: Allocator, A: Allocator + Copy, S: PathSet<A>> Table<'g, G, A, S> {
     ghost use Rattle.std.specs.Prelude.{◌<◌, ◌≤◌, ◌⊎◌, ◌++◌, ◌∷◌, [], ℕ, length, slice_get, OnOk, OnErr, Ok, Err, IfOk, IfSome, IfNone};
+    ghost use Rattle.std.specs.Bool.{OnTrue, OnFalse};
     ghost use Rattle.language.specs.Flow.{Member};
     ghost use Rattle.path_sets.specs.Triples.{Triple};
     ghost use Rattle.flow_graph.specs.Numbers.{NumberedMessage, Sends};
@@ -34,7 +35,7 @@ impl<'g, G: Allocator, A: Allocator + Copy, S: PathSet<A>> Table<'g, G, A, S> {
     ghost use Rattle.summaries.specs.Mails.{mail};
     ghost use Rattle.summaries.specs.Dues.{due_of};
     ghost use Rattle.summaries.specs.Found.{HasTaken};
-    ghost use Rattle.summaries.specs.Tables.{sent, IsTable, IsNew, IsQuiet, StaysAs, TookAlso, TookSame, fault_of, failed_by};
+    ghost use Rattle.summaries.specs.Tables.{sent, IsTable, IsNew, IsQuiet, StaysAs, TookAlso, TookSame, fault_of, failed_by, work_left};
 
     /// The table of a procedure, which has taken nothing yet, and takes no memory.
     pub fn new(alloc: A, graphs: &'g Graphs<G>, procedure: u8, limit: EdgeLimit) -> Self
@@ -107,16 +108,54 @@ impl<'g, G: Allocator, A: Allocator + Copy, S: PathSet<A>> Table<'g, G, A, S> {
         if let Some(fault) = self.fault {
             return Err(fault);
         }
-        loop {
-            if let Some(mail) = self.found.given.next() {
+        'work: loop {
+            if let Some(mail) = self.answer() {
                 return Ok(Some(mail));
             }
-            let Some(edge) = self.found.pending.pop() else {
+            if !self.step()? {
                 return Ok(None);
-            };
-            let worked = self.work(edge);
-            self.keep(worked)?;
+            }
         }
+    }
+
+    /// The next message that was given and is not answered yet.
+    fn answer(&mut self) -> Option<(u8, Due)>
+        requires table { IsTable S.members self.old }
+        requires fault { self.old.fault ≡ None }
+        ensures table { IsTable S.members self.new }
+        ensures some { IfSome result (λ m. sent self.new.found ≡ sent self.old.found ++ mail m.0 m.1 ∷ []) }
+        ensures due { IfSome result (λ m. (k : NumberedMessage) → due_of k ≡ m.1 → Sends self.new.graph.now self.new.procedure (HasTaken self.new.found) m.0 k) }
+        ensures once { IfSome result (λ m. ¬ Member (mail m.0 m.1) (sent self.old.found)) }
+        ensures none { IfNone result (sent self.new.found ≡ sent self.old.found) }
+        ensures all { IfNone result (sent self.new.found ≡ self.new.found.given.mails.keys) }
+        ensures taken { TookSame self.old.found self.new.found }
+        ensures stays { StaysAs self.old self.new }
+        ensures fault { self.new.fault ≡ None }
+        ensures pending { self.new.found.pending ≡ self.old.found.pending }
+        ensures edges { self.new.edges ≡ self.old.edges }
+    {
+        self.found.given.next()
+    }
+
+    /// Works on one edge. Answers whether there was one.
+    fn step(&mut self) -> Result<bool, TableFault>
+        requires table { IsTable S.members self.old }
+        requires fault { self.old.fault ≡ None }
+        ensures table { IsTable S.members self.new }
+        ensures sent { OnOk result (sent self.new.found ≡ sent self.old.found) }
+        ensures taken { TookSame self.old.found self.new.found }
+        ensures stays { StaysAs self.old self.new }
+        ensures fault { self.new.fault ≡ fault_of result }
+        ensures less { IfOk result (λ worked. OnTrue worked (work_left S.members self.new < work_left S.members self.old)) }
+        ensures none { IfOk result (λ worked. OnFalse worked (self.new.found.pending.items ≡ [])) }
+        ensures given { IfOk result (λ worked. OnFalse worked (self.new.found.given ≡ self.old.found.given)) }
+    {
+        let Some(edge) = self.found.pending.pop() else {
+            return Ok(false);
+        };
+        let worked = self.work(edge);
+        self.keep(worked)?;
+        Ok(true)
     }
 
     /// Fails where the answer is a fault.

@@ -10,8 +10,8 @@ use Rattle.summaries.specs.Found.{pair, pair_eq, HasExit}
 use Rattle.summaries.specs.Grows.{Gives, Each, IsTold, triple_of}
 use Rattle.summaries.proofs.Adding.{same_pair}
 use Rattle.summaries.proofs.Mails.{inserted_new, inserted_known, found_is_in, sent_still}
-use Rattle.summaries.proofs.Leaving.{left_to, leave_step, paired_to, known_step}
-use Rattle.summaries.proofs.Stepping.{still_sound, still_complete}
+use Rattle.summaries.proofs.Leaving.{leave_step}
+use Rattle.summaries.proofs.Stepping.{still_sound, still_complete, same_step}
 use Rattle.summaries.proofs.table.Table.leave.Given as given
 use Rattle.summaries.proofs.table.Table.leave.Goals as goal
 
@@ -53,7 +53,7 @@ returns-else-branch-clause-ok g c =
     let es = g.S.PathSet.members self.edges in
     let h : Found g.row.A.Denot = record { entries = f.entries; summaries = f.summaries; sites = f.sites; exits = f.exits; pairs = c.insert.new.self; given = f.given; pending = f.pending } in
     let known = inserted_known pair_eq (pair e.entry c.left.result) f.pairs.keys c.insert.new.self.keys c.in_ok-insert.field-0 c.in_ok-insert.ensures.added c.in_ok-insert.ensures.keys c.if-branch.false in
-    let step = known_step self.graph.now self.procedure f h known.0 es in (
+    let step = same_step self.graph.now self.procedure f h es known.0 refl refl in (
       still_sound self.graph.now self.procedure f h es es step c.requires.holds.0,
       still_complete self.graph.now self.procedure f h es es step (λ t. t ≡ triple_of e) c.requires.holds.1,
     )

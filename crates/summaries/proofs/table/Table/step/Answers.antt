@@ -1,0 +1,30 @@
+use Rattle.std.proofs.Common.{◌≡◌, ◌++◌, ◌∷◌, [], refl, sym, ◌∙◌}
+use Rattle.std.proofs.lemmas.List.{append-nil}
+use Rattle.summaries.specs.declared.found.Found.{Found}
+use Rattle.summaries.proofs.Stepping.{popped_sound, popped_complete, popped_edge}
+use Rattle.summaries.proofs.Tabling.{same_table}
+use Rattle.summaries.proofs.table.Table.step.Goals as goal
+
+pub returns-in_default-clause-table : goal.returns-in_default-clause-table
+returns-in_default-clause-table g c =
+    let self = c.args.self.now in
+    let f = self.found in
+    let h : Found g.row.A.Denot = record { entries = f.entries; summaries = f.summaries; sites = f.sites; exits = f.exits; pairs = f.pairs; given = f.given; pending = c.pop.new.self } in
+    same_table g.S.PathSet.members self h refl refl (sym (c.in_default.ensures.items ∙ append-nil c.pop.new.self.items)) c.requires.table
+
+pub work-worked-requires-clause-edge : goal.work-worked-requires-clause-edge
+work-worked-requires-clause-edge g c =
+    let self = c.args.self.now in
+    let es = g.S.PathSet.members self.edges in
+    let popped : self.found.pending.items ≡ c.pop.new.self.items ++ c.in-Some.edge ∷ [] = c.in-Some.ensures.items in
+    popped_edge self.graph.now self.procedure self.found es c.pop.new.self c.in-Some.edge popped (c.requires.table.holds c.requires.fault).0
+
+pub work-worked-requires-clause-holds : goal.work-worked-requires-clause-holds
+work-worked-requires-clause-holds g c =
+    let self = c.args.self.now in
+    let es = g.S.PathSet.members self.edges in
+    let held = c.requires.table.holds c.requires.fault in
+    let popped : self.found.pending.items ≡ c.pop.new.self.items ++ c.in-Some.edge ∷ [] = c.in-Some.ensures.items in (
+      popped_sound self.graph.now self.procedure self.found es c.pop.new.self c.in-Some.edge popped held.0,
+      popped_complete self.graph.now self.procedure self.found es c.pop.new.self c.in-Some.edge popped held.1,
+    )
