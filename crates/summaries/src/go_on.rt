@@ -3,7 +3,7 @@
 ghost use Rattle.std.specs.Prelude.{◌≡◌, ◌≤◌, ◌⊎◌, length, OnOk, Err};
 ghost use Rattle.language.specs.Flow.{Member};
 ghost use Rattle.path_sets.specs.Triples.{Triple};
-ghost use Rattle.summaries.specs.Grows.{Grows, Each, IsBehind};
+ghost use Rattle.summaries.specs.Grows.{Grows, Each, IsBehind, triple_of};
 
 use crate::edge::{Edge, Site};
 use crate::edge_limit::EdgeLimit;
@@ -12,6 +12,17 @@ use crate::table_fault::TableFault;
 use flow_graph::{Graph, Word};
 use path_sets::PathSet;
 use std::alloc::Allocator;
+
+/// The edge behind the call of a site, for the globals that it left.
+fn behind<G: Allocator>(graph: &Graph<G>, site: Site, globals: Word) -> Edge
+    ensures { IsBehind graph.now site globals (triple_of result) }
+{
+    Edge {
+        entry: site.asked,
+        point: site.next,
+        values: graph.resumed(site.values, globals),
+    }
+}
 
 /// Goes on behind the call of a site for each of the globals that it left. At an error some of the edges are added.
 pub(crate) fn go_on<G: Allocator, A: Allocator, S: PathSet<A>>(
@@ -29,12 +40,7 @@ pub(crate) fn go_on<G: Allocator, A: Allocator, S: PathSet<A>>(
     ensures limit { result ≡ Err TableFault.EdgeLimit → (t : Triple) × Each (IsBehind graph.now site) summaries.now t × (¬ Member t (S.members edges.new)) × (limit.edges ≤ length (S.members edges.new)) }
 {
     for globals in summaries {
-        let values = graph.resumed(site.values, *globals);
-        let edge = Edge {
-            entry: site.asked,
-            point: site.next,
-            values,
-        };
+        let edge = behind(graph, site, *globals);
         reach(edges, pending, limit, edge)?;
     }
     Ok(())
@@ -56,12 +62,7 @@ pub(crate) fn go_on_at_each<G: Allocator, A: Allocator, S: PathSet<A>>(
     ensures limit { result ≡ Err TableFault.EdgeLimit → (t : Triple) × Each (λ site. IsBehind graph.now site globals) sites.now t × (¬ Member t (S.members edges.new)) × (limit.edges ≤ length (S.members edges.new)) }
 {
     for site in sites {
-        let values = graph.resumed(site.values, globals);
-        let edge = Edge {
-            entry: site.asked,
-            point: site.next,
-            values,
-        };
+        let edge = behind(graph, *site, globals);
         reach(edges, pending, limit, edge)?;
     }
     Ok(())

@@ -1,8 +1,7 @@
 use Rattle.std.proofs.Common.{Err, inl, inr, sym, ap, ◌∙◌, subst, take, get_or, ◌≡◌, length, arith}
 use Rattle.std.proofs.Math.Seq.{take-length}
-use Rattle.path_sets.specs.Triples.{triple}
 use Rattle.summaries.specs.Found.{site}
-use Rattle.summaries.specs.Grows.{Grows, Each, IsBehind}
+use Rattle.summaries.specs.Grows.{Grows, Each, IsBehind, triple_of}
 use Rattle.summaries.proofs.Growing.{each_more, fault_of}
 use Rattle.summaries.proofs.Firsts.{take_more}
 use Rattle.summaries.proofs.Eaches.{each_first, each_at}
@@ -12,11 +11,10 @@ pub returns-in_err-reach-clause-limit : goal.returns-in_err-reach-clause-limit
 returns-in_err-reach-clause-limit g c = λ e.
     let xs = c.args.sites.now in
     let i = c.loop-site.site-index in
-    let here = get_or xs i (site 0 0 0) in
-    let reached = triple here.asked here.next c.resumed-values.result in
+    let reached = triple_of c.behind-edge.result in
     let limit = c.in_err-reach.ensures.limit (ap Err (sym (fault_of _ _ _ c.from_residual.ensures.1 e))) in (
       reached,
-      each_at (λ site. IsBehind c.args.graph.now site c.args.globals) xs i (site 0 0 0) c.loop-site-test.true reached (ap (triple here.asked here.next) c.resumed-values.ensures.number),
+      each_at (λ site. IsBehind c.args.graph.now site c.args.globals) xs i (site 0 0 0) c.loop-site-test.true reached c.behind-edge.ensures,
       limit.0,
       limit.1,
     )
@@ -25,9 +23,8 @@ pub returns-in_err-reach-clause-only : goal.returns-in_err-reach-clause-only
 returns-in_err-reach-clause-only g c = λ t there.
     let xs = c.args.sites.now in
     let i = c.loop-site.site-index in
-    let here = get_or xs i (site 0 0 0) in
     elim (c.in_err-reach.ensures.only t there) [
-      | inl is ↦ inl (each_at (λ site. IsBehind c.args.graph.now site c.args.globals) xs i (site 0 0 0) c.loop-site-test.true t (is ∙ ap (triple here.asked here.next) c.resumed-values.ensures.number))
+      | inl is ↦ inl (each_at (λ site. IsBehind c.args.graph.now site c.args.globals) xs i (site 0 0 0) c.loop-site-test.true t (is ∙ c.behind-edge.ensures))
       | inr mid ↦ elim (c.loop-site.invariant.0.only t mid) [
         | inl first ↦ inl (each_first (λ site. IsBehind c.args.graph.now site c.args.globals) xs i t first)
         | inr was ↦ inr was
@@ -38,12 +35,10 @@ pub loop-site-preserved : goal.loop-site-preserved
 loop-site-preserved g c =
     let xs = c.args.sites.now in
     let i = c.loop-site.site-index in
-    let here = get_or xs i (site 0 0 0) in
-    let same = ap (triple here.asked here.next) c.resumed-values.ensures.number in
-    let more = each_more (λ site. IsBehind c.args.graph.now site c.args.globals) (take i xs) (get_or xs i (site 0 0 0)) (record { entry = here.asked; point = here.next; values = c.resumed-values.result })
+    let more = each_more (λ site. IsBehind c.args.graph.now site c.args.globals) (take i xs) (get_or xs i (site 0 0 0)) c.behind-edge.result
     (g.S.PathSet.members c.args.edges.now) (g.S.PathSet.members c.loop-site.edges) (g.S.PathSet.members c.reach.new.edges)
     c.args.pending.now.items c.loop-site.pending.items c.reach.new.pending.items
-    (λ t w. w ∙ sym same) same
+    (λ t w. w ∙ sym c.behind-edge.ensures) c.behind-edge.ensures
     c.loop-site.invariant.0 c.in_ok-reach.ensures.ok in (
       subst (λ l. Grows (Each (λ site. IsBehind c.args.graph.now site c.args.globals) l) (g.S.PathSet.members c.args.edges.now) (g.S.PathSet.members c.reach.new.edges) c.args.pending.now.items c.reach.new.pending.items) (sym (take_more xs i (site 0 0 0) c.loop-site-test.true)) more,
       c.in_ok-reach.ensures.within,
