@@ -4,3 +4,6 @@ pub mod Mails
 pub mod Firsts
 pub mod Growing
 pub mod Telling
+pub mod Replaced
+pub mod Sweeping
+pub mod Steps

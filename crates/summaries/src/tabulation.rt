@@ -62,14 +62,14 @@ fn deliver<G: Allocator, A: Allocator + Copy, S: PathSet<A>>(
 
 /// The starter enters procedure 0, and the tables take each other's messages until none owes any.
 fn run<G: Allocator, A: Allocator + Copy, S: PathSet<A>>(
-    tables: &mut [Table<'_, G, A, S>],
+    tables: &mut Vec<Table<'_, G, A, S>, A>,
 ) -> Result<(), TableFault>
     ghost program: { Program }
-    requires { AreTables S.members program (λ x. x ≡ opening) tables.old }
-    ensures tables { OnOk result (AreTables S.members program (λ x. ⊥) tables.new) }
-    ensures quiet { OnOk result (AreQuietBefore S.members (length tables.new) tables.new) }
-    ensures limits { (n : ℕ) → HaveLimit n tables.old → HaveLimit n tables.new }
-    ensures limit { result ≡ Err TableFault.EdgeLimit → (n : ℕ) → HaveLimit n tables.old → (q : ℕ) × HasMoreEdges program q n }
+    requires { AreTables S.members program (λ x. x ≡ opening) tables.old.items }
+    ensures tables { OnOk result (AreTables S.members program (λ x. ⊥) tables.new.items) }
+    ensures quiet { OnOk result (AreQuietBefore S.members (length tables.new.items) tables.new.items) }
+    ensures limits { (n : ℕ) → HaveLimit n tables.old.items → OnOk result (HaveLimit n tables.new.items) }
+    ensures limit { result ≡ Err TableFault.EdgeLimit → (n : ℕ) → HaveLimit n tables.old.items → (q : ℕ) × HasMoreEdges program q n }
 {
     if tables.is_empty() {
         return Ok(());
