@@ -7,3 +7,6 @@ pub mod Telling
 pub mod Replaced
 pub mod Sweeping
 pub mod Steps
+pub mod Once
+pub mod Tabulating
+pub mod Ascending

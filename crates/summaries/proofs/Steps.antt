@@ -136,7 +136,6 @@ module _ {G A S : Type 0} (members : S → List Triple) (p : Program) (Aside : M
 pub answered : {G A S : Type 0} (members : S → List Triple) (p : Program) (ts : List (Table G A S)) → AreTables members p (λ x. ⊥) ts
     → (q : ℕ) (t t' : Table G A S) → slice_get ts q ≡ Some t → IsTable members t' → t'.fault ≡ None → StaysAs t t' → TookSame t.found t'.found
     → (x : Mail) → sent t'.found ≡ sent t.found ++ x ∷ [] → AreTables members p (λ y. y ≡ x) (slice_set ts q t')
-unfolding goes_on
 answered members p ts are q t t' is table whole stays same x more =
     replaced members p (λ y. ⊥) (λ y. y ≡ x) ts q t t' are is (goes_on members p (λ y. ⊥) ts are q t t' is table whole stays same)
     (λ y m. elim (member_append y (sent t.found) (x ∷ []) (subst (Member y) more m)) [ inl old ↦ inl old | inr last ↦ elim last [ inl e ↦ inr e | inr none ↦ absurd none ] ])
@@ -146,7 +145,6 @@ answered members p ts are q t t' is table whole stays same x more =
 pub answered_none : {G A S : Type 0} (members : S → List Triple) (p : Program) (ts : List (Table G A S)) → AreTables members p (λ x. ⊥) ts
     → (q : ℕ) (t t' : Table G A S) → slice_get ts q ≡ Some t → IsTable members t' → t'.fault ≡ None → StaysAs t t' → TookSame t.found t'.found
     → sent t'.found ≡ sent t.found → AreTables members p (λ y. ⊥) (slice_set ts q t')
-unfolding goes_on
 answered_none members p ts are q t t' is table whole stays same none =
     replaced members p (λ y. ⊥) (λ y. ⊥) ts q t t' are is (goes_on members p (λ y. ⊥) ts are q t t' is table whole stays same)
     (λ y m. inl (subst (Member y) none m)) (λ y h. inl h)
@@ -212,13 +210,11 @@ module _ {G A S : Type 0} where
 
   pub less_room : (n : ℕ) (ts : List (Table G A S)) (i : ℕ) (t t' : Table G A S) (x : Mail) → slice_get ts i ≡ Some t → sent t'.found ≡ sent t.found ++ x ∷ [] → length (sent t'.found) < n
       → room n (slice_set ts i t') < room n ts
-  unfolding room_set
   less_room n ts i t t' x is more few =
       let longer : length (sent t'.found) ≡ length (sent t.found) + 1 = ap length more ∙ length-append (sent t.found) (x ∷ []) in
       omega (arith, room_set n ts i t t' is, longer, few)
 
   pub same_room : (n : ℕ) (ts : List (Table G A S)) (i : ℕ) (t t' : Table G A S) → slice_get ts i ≡ Some t → sent t'.found ≡ sent t.found → room n (slice_set ts i t') ≡ room n ts
-  unfolding room_set
   same_room n ts i t t' is same =
       let kept : left_of n t' ≡ left_of n t = ap (λ l. n - length l) same in
       omega (arith, room_set n ts i t t' is, kept)

@@ -1,5 +1,5 @@
 -- The tables of all procedures together, while a program is tabulated.
-use Rattle.std.specs.Prelude.{◌≡◌, ◌<◌, ◌⊎◌, ℕ, Option, Some, None, List, map, slice_get}
+use Rattle.std.specs.Prelude.{◌≡◌, ◌<◌, ◌⊎◌, ◌↔◌, ℕ, nat_eq, Option, Some, None, List, map, slice_get}
 use Rattle.language.specs.Step.{Program}
 use Rattle.language.specs.Sequential.{starter, IsDue}
 use Rattle.language.specs.Flow.{Member}
@@ -7,16 +7,21 @@ use Rattle.path_sets.specs.Triples.{Triple}
 use Rattle.flow_graph.specs.Graphs.{AreDrawnFrom}
 use Rattle.flow_graph.specs.Numbers.{NumberedMessage, numbered_entry, IsNumberOf}
 use Rattle.flow_graph.specs.declared.graph.Graph.{Graph}
+use Rattle.summaries.specs.declared.due.Caller.{Caller}
 use Rattle.summaries.specs.declared.due.Caller.TheVariants.{Starter}
 use Rattle.summaries.specs.declared.due.Due.{Due}
 use Rattle.summaries.specs.declared.due.Due.TheVariants.{Entry}
 use Rattle.summaries.specs.declared.found.Found.{Found}
 use Rattle.summaries.specs.declared.given.Mail.{Mail}
+use Rattle.summaries.specs.declared.pair.Pair.{Pair}
+use Rattle.summaries.specs.declared.summaries.Summary.{Summary}
 use Rattle.summaries.specs.declared.table.Table.{Table}
+use Rattle.summaries.specs.Under.{under}
 use Rattle.summaries.specs.Waiting.{mail}
 use Rattle.summaries.specs.Dues.{due_of}
 use Rattle.summaries.specs.Found.{HasTaken}
 use Rattle.summaries.specs.Tables.{sent, IsTable, IsNew, IsQuiet}
+use Rattle.summaries.specs.Tabulated.{IsAscending, ArePairsAscending}
 
 -- the starter's message: procedure 0 is entered, and every value is 0
 abbrev pub opening : Mail
@@ -43,6 +48,18 @@ module _ {G A S : Type 0} where
   -- each table may hold so many edges
   abbrev pub HaveLimit : ℕ → List (Table G A S) → Type 0
   HaveLimit n ts = (q : ℕ) (t : Table G A S) → slice_get ts q ≡ Some t → t.limit.edges ≡ n
+
+module _ {G A S : Type 0} where
+  -- The summary has the entries that the table has taken, and the pairs that it has found, both ascending.
+  pub record IsReadOff (t : Table G A S) (s : Summary A) : Type 0 where
+    pub ascend : IsAscending s.entries.items
+    pub entries : (a : ℕ) → Member a s.entries.items ↔ ((from : Caller) × Member from (under nat_eq t.found.entries.by_key a))
+    pub pairs_ascend : ArePairsAscending s.pairs.items
+    pub pairs : (x : Pair) → Member x s.pairs.items ↔ Member x t.found.pairs.keys
+
+  -- each summary is that of the table of its number
+  abbrev pub AreReadOff : List (Table G A S) → List (Summary A) → Type 0
+  AreReadOff ts ss = (q : ℕ) (t : Table G A S) (s : Summary A) → slice_get ts q ≡ Some t → slice_get ss q ≡ Some s → IsReadOff t s
 
 module _ {G A S : Type 0} (members : S → List Triple) where
   -- Each table is that of the procedure of its number, and has taken nothing yet.

@@ -1,11 +1,12 @@
 //! What tables found, as summaries.
 
-ghost use Rattle.std.specs.Prelude.{◌≡◌, ◌↔◌, ℕ, List, length, slice_get, Some, IfOk, nat_eq};
-ghost use Rattle.language.specs.Sequential.{Caller};
+ghost use Rattle.std.specs.Prelude.{◌≡◌, ◌↔◌, ℕ, length, IfOk, nat_eq};
 ghost use Rattle.language.specs.Flow.{Member};
-ghost use Rattle.flow_graph.specs.Numbers.{numbered_entry};
-ghost use Rattle.summaries.specs.Found.{HasTaken};
+ghost use Rattle.summaries.specs.declared.due.Caller.{Caller};
+ghost use Rattle.summaries.specs.declared.pair.Pair.{Pair};
+ghost use Rattle.summaries.specs.Under.{under};
 ghost use Rattle.summaries.specs.Tabulated.{IsAscending, ArePairsAscending};
+ghost use Rattle.summaries.specs.Together.{AreReadOff};
 
 use crate::due;
 use crate::groups::Groups;
@@ -23,10 +24,13 @@ fn entries<A: Allocator + Copy>(
     alloc: A,
     callers: &Groups<Word, due::Caller, A>,
 ) -> Result<Vec<Word, A>, AllocError>
+    ensures ascend { IfOk result (λ v. IsAscending v.items) }
+    ensures entries { IfOk result (λ v. (a : ℕ) → Member a v.items ↔ ((from : Caller) × Member from (under nat_eq callers.now.by_key a))) }
 {
     let mut entries = Vec::new(alloc);
-    for (entry, callers) in &callers.by_key {
-        if !callers.is_empty() {
+    let keys = callers.by_key.keys();
+    for entry in keys.as_slice() {
+        if !callers.of(*entry).is_empty() {
             entries.push(*entry)?;
         }
     }
@@ -39,6 +43,8 @@ fn pairs<A: Allocator + Copy>(
     alloc: A,
     pairs: &IndexSet<Pair, BuildHasherDefault<FoldHasher>, A>,
 ) -> Result<Vec<Pair, A>, AllocError>
+    ensures ascend { IfOk result (λ v. ArePairsAscending v.items) }
+    ensures pairs { IfOk result (λ v. (x : Pair) → Member x v.items ↔ Member x pairs.now.keys) }
 {
     let mut pairs = Vec::from_slice(alloc, pairs.as_slice())?;
     pairs.sort_unstable();
@@ -50,6 +56,8 @@ pub(crate) fn read<G: Allocator, A: Allocator + Copy, S: PathSet<A>>(
     alloc: A,
     tables: &[Table<'_, G, A, S>],
 ) -> Result<Vec<Summary<A>, A>, AllocError>
+    ensures len { IfOk result (λ v. length v.items ≡ length tables.now) }
+    ensures read { IfOk result (λ v. AreReadOff tables.now v.items) }
 {
     let mut summaries = Vec::new(alloc);
     for table in tables {

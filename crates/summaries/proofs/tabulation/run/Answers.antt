@@ -29,7 +29,6 @@ first_is : (g : Over) (c : After-index_mut g) → slice_get c.args.tables.now.it
 first_is g c = slice_get_read c.args.tables.now.items _ 0 c.index_mut.result.now refl (grind (arith, tests, c.args.tables.now.ok.0)) c.index_mut.ensures.value
 
 opened_due : (g : Over) (c : After-index_mut g) → (k : NumberedMessage) → due_of k ≡ Entry Starter 0 → IsNumberOf (IsDue g.program 0) k
-unfolding first_is
 opened_due g c = opening_due g.S.PathSet.members g.program (λ x. x ≡ opening) c.args.tables.now.items c.requires.1.1.1 c.index_mut.result.now (first_is g c)
 
 pub deliver-requires : goal.deliver-requires
@@ -87,19 +86,16 @@ answers_is : (g : Over) (c : In-Some g) → slice_get c.loop-at.tables.items c.l
 answers_is g c = slice_get_read c.loop-at.tables.items _ c.loop-at.at c.index_mut-in-loop-at.result.now refl (omega (arith, c.loop-at.tables.ok.0)) c.index_mut-in-loop-at.ensures.value
 
 to_due : (g : Over) (c : In-Some g) → To g c
-unfolding answers_is
 to_due g c =
     let next = c.in_ok-to.ensures in
     let sends = subst (λ o. IfSome o (λ m. (k : NumberedMessage) → due_of k ≡ m.1 → Sends c.next.new.self.graph.now c.next.new.self.procedure (HasTaken c.next.new.self.found) m.0 k)) c.in-Some.is next.due in
     mail_due g.S.PathSet.members g.program (λ x. ⊥) c.loop-at.tables.items c.loop-at.invariant.tables c.loop-at.at c.index_mut-in-loop-at.result.now c.next.new.self (answers_is g c) next.stays next.taken c.in-Some.to c.in-Some.due sends
 
 to_there : (g : Over) (c : In-Some g) → c.in-Some.to < length c.loop-at.tables.items
-unfolding to_due
 to_there g c = mail_receiver g.S.PathSet.members g.program (λ x. ⊥) c.loop-at.tables.items c.loop-at.invariant.tables c.in-Some.to c.in-Some.due (to_due g c)
 
 -- the tables, where the message is left aside
 then_aside : (g : Over) (c : In-Some g) → AreTables g.S.PathSet.members g.program (λ x. x ≡ mail c.in-Some.to c.in-Some.due) (slice_set c.loop-at.tables.items c.loop-at.at c.next.new.self)
-unfolding answers_is
 then_aside g c =
     let next = c.in_ok-to.ensures in
     let more = subst (λ o. IfSome o (λ m. sent c.next.new.self.found ≡ sent c.index_mut-in-loop-at.result.now.found ++ mail m.0 m.1 ∷ [])) c.in-Some.is next.some in
@@ -112,7 +108,6 @@ index_mut-requires-in-Some g c =
     omega (arith, there, same)
 
 to_is : (g : Over) (c : After-index_mut-in-Some g) → slice_get (slice_set c.loop-at.tables.items c.loop-at.at c.next.new.self) c.in-Some.to ≡ Some c.index_mut-in-Some.result.now
-unfolding to_there
 to_is g c =
     let there = to_there g (goal.at.deliver-requires-in-Some g c).In-Some in
     let same = length-set c.loop-at.tables.items c.loop-at.at c.next.new.self in
