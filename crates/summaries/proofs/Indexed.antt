@@ -14,7 +14,7 @@ the : {A : Type 0} → A → Option A → A
 the a None = a
 the a (Some x) = x
 
-same_inside : {A : Type 0} (x y : A) → Some x ≡ Some y → x ≡ y
+pub same_inside : {A : Type 0} (x y : A) → Some x ≡ Some y → x ≡ y
 unfolding the
 same_inside x y e = ap (the x) e
 

@@ -15,3 +15,9 @@ pub mod Leaving
 pub mod Beginning
 pub mod Ending
 pub mod Tabling
+pub mod Replaced
+pub mod Sweeping
+pub mod Steps
+pub mod Once
+pub mod Tabulating
+pub mod Ascending

@@ -5,3 +5,4 @@ pub mod Found
 pub mod Grows
 pub mod Tables
 pub mod Tabulated
+pub mod Together

@@ -14,10 +14,13 @@ mod lead;
 mod no_verdict;
 mod pair;
 mod reach;
+mod reading;
 mod summaries;
 mod table;
 mod table_fault;
 mod tabulation;
+#[cfg(test)]
+mod tabulation_tests;
 mod tell;
 #[cfg(test)]
 mod tests;

@@ -1,6 +1,7 @@
 //! What the procedures of a program do as a whole.
 
 ghost use Rattle.std.specs.Prelude.{◌≡◌, ◌<◌, ◌↔◌, length, slice_get, Some, IsTrue};
+ghost use Rattle.flow_graph.specs.Bits.{bit_of};
 
 use crate::pair::Pair;
 use flow_graph::Word;
@@ -18,6 +19,13 @@ pub(crate) struct Summary<A: Allocator> {
 pub struct Summaries<A: Allocator> {
     pub(crate) procedures: Vec<Summary<A>, A>,
     pub(crate) bad: usize,
+}
+
+/// Whether a bit of a valuation is 1. A valuation has 64 bits.
+fn has_bit(values: Word, bit: usize) -> bool
+    ensures { result ≡ bit_of values bit }
+{
+    bit < 64 && values >> bit & 1 == 1
 }
 
 impl<A: Allocator> Summaries<A> {
@@ -55,7 +63,7 @@ impl<A: Allocator> Summaries<A> {
             return false;
         };
         for pair in &main.pairs {
-            if pair.b >> self.bad & 1 == 1 {
+            if has_bit(pair.b, self.bad) {
                 return true;
             }
         }

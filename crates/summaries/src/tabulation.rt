@@ -1,17 +1,98 @@
 //! The tabulation of a whole program on one thread.
 
-ghost use Rattle.std.specs.Prelude.{◌≡◌, ◌↔◌, ℕ, IfOk, Err};
+ghost use Rattle.std.specs.Prelude.{◌≡◌, ◌↔◌, ℕ, length, map, IfOk, OnOk, Err};
 ghost use Rattle.language.specs.Step.{Program};
 ghost use Rattle.round_rewrite.specs.Law.{SomeBad};
 ghost use Rattle.flow_graph.specs.Graphs.{AreDrawnFrom};
+ghost use Rattle.summaries.specs.Tables.{sent, IsTable, StaysAs, TookAlso, fault_of};
 ghost use Rattle.summaries.specs.Tabulated.{AreSummaries, SomePairBad, HasMoreEdges};
+ghost use Rattle.summaries.specs.Together.{opening, graph_of, TookOnly, HaveLimit, AreNew, AreTables, AreQuietBefore};
 
+use crate::due::{Caller, Due};
 use crate::edge_limit::EdgeLimit;
 use crate::no_verdict::NoVerdict;
+use crate::reading::read;
 use crate::summaries::Summaries;
+use crate::table::Table;
+use crate::table_fault::TableFault;
 use flow_graph::Graphs;
 use path_sets::PathSet;
 use std::alloc::Allocator;
+
+/// The tables of all procedures, by number, which have taken nothing yet.
+fn tables_of<'g, G: Allocator, A: Allocator + Copy, S: PathSet<A>>(
+    alloc: A,
+    graphs: &'g Graphs<G>,
+    limit: EdgeLimit,
+) -> Result<Vec<Table<'g, G, A, S>, A>, NoVerdict>
+    ensures new { IfOk result (λ ts. AreNew S.members ts.items) }
+    ensures graphs { IfOk result (λ ts. map graph_of ts.items ≡ graphs.now.graphs.items) }
+    ensures limit { IfOk result (λ ts. HaveLimit limit.edges ts.items) }
+    ensures err { (e : NoVerdict) → result ≡ Err e → e ≡ NoVerdict.Memory }
+{
+    let mut tables = Vec::new(alloc);
+    for number in 0..graphs.len() {
+        // A program has at most 32 procedures.
+        let Ok(procedure) = u8::try_from(number) else {
+            return Err(NoVerdict::Memory);
+        };
+        tables.push(Table::new(alloc, graphs, procedure, limit))?;
+    }
+    Ok(tables)
+}
+
+/// The receiver's table takes a message.
+fn deliver<G: Allocator, A: Allocator + Copy, S: PathSet<A>>(
+    table: &mut Table<'_, G, A, S>,
+    due: Due,
+) -> Result<(), TableFault>
+    requires { IsTable S.members table.old }
+    ensures table { IsTable S.members table.new }
+    ensures taken { OnOk result (TookAlso due table.old.found table.new.found) }
+    ensures only { TookOnly due table.old.found table.new.found }
+    ensures sent { OnOk result (sent table.new.found ≡ sent table.old.found) }
+    ensures stays { StaysAs table.old table.new }
+    ensures fault { table.new.fault ≡ fault_of result }
+{
+    match due {
+        Due::Entry { caller, a } => table.take_entry(caller, a),
+        Due::Summary { p, a, b } => table.take_summary(p, a, b),
+    }
+}
+
+/// The starter enters procedure 0, and the tables take each other's messages until none owes any.
+fn run<G: Allocator, A: Allocator + Copy, S: PathSet<A>>(
+    tables: &mut Vec<Table<'_, G, A, S>, A>,
+) -> Result<(), TableFault>
+    ghost program: { Program }
+    requires { AreTables S.members program (λ x. x ≡ opening) tables.old.items }
+    ensures tables { OnOk result (AreTables S.members program (λ x. ⊥) tables.new.items) }
+    ensures quiet { OnOk result (AreQuietBefore S.members (length tables.new.items) tables.new.items) }
+    ensures limits { (n : ℕ) → HaveLimit n tables.old.items → OnOk result (HaveLimit n tables.new.items) }
+    ensures limit { result ≡ Err TableFault.EdgeLimit → (n : ℕ) → HaveLimit n tables.old.items → (q : ℕ) × HasMoreEdges program q n }
+{
+    if tables.is_empty() {
+        return Ok(());
+    }
+    let opening = Due::Entry {
+        caller: Caller::Starter,
+        a: 0,
+    };
+    deliver(&mut tables[0], opening)?;
+    let mut at = 0;
+    // The tables before `at` owe no message.
+    while at < tables.len() {
+        match tables[at].next()? {
+            Some((to, due)) => {
+                let to = to as usize;
+                deliver(&mut tables[to], due)?;
+                at = at.min(to);
+            }
+            None => at += 1,
+        }
+    }
+    Ok(())
+}
 
 /// The summaries of a program by its flow graphs, where no procedure has more path edges than the limit; the path edges are
 /// kept in sets of the type `S`. `EdgeLimit` is answered only where some procedure has more.
@@ -27,5 +108,9 @@ pub fn tabulate<G: Allocator, A: Allocator + Copy, S: PathSet<A>>(
     ensures few { IfOk result (λ s. (q : ℕ) → ¬ HasMoreEdges program q limit.edges) }
     ensures limit { result ≡ Err NoVerdict.EdgeLimit → (q : ℕ) × HasMoreEdges program q limit.edges }
 {
-    Err(NoVerdict::Memory)
+    let mut tables: Vec<Table<'_, G, A, S>, A> = tables_of(alloc, graphs, limit)?;
+    run(&mut tables)?;
+    let procedures = read(alloc, &tables)?;
+    let bad = graphs.bad();
+    Ok(Summaries { procedures, bad })
 }

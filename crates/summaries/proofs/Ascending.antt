@@ -1,0 +1,159 @@
+-- Lists that are sorted, and the members that they keep.
+use Rattle.std.proofs.Common.{◌≡◌, ◌<◌, ◌≤◌, ◌+◌, ◌↔◌, ◌⊎◌, ℕ, zero, suc, Bool, true, false, not, cond, ◌&&◌, ◌==◌, nat_eq, List, [], ◌∷◌, length, get_or, Option, Some, None, inl, inr, refl, sym, ap, ◌∙◌, subst, arith, true≢false, Ordering, Decides}
+use Rattle.std.specs.List.{filter, IsDistinct, Contains, AllByRecursion}
+use Rattle.std.specs.List.Sorted.{IsPermutation, IsSortedBy, IsSorted}
+use Rattle.std.specs.Ordering.{is_lt, is_eq, nat_cmp, ordering_then}
+use Rattle.std.specs.declared.cmp.Ordering.TheVariants.{Less, Equal, Greater}
+use Rattle.std.specs.Map.{keys_of, lookup}
+use Rattle.std.specs.Prelude.{Vec}
+use Rattle.std.proofs.lemmas.List.Sorted.{Contains-permutation, IsPermutation-sym}
+use Rattle.std.proofs.lemmas.Map.Keys.{IsDistinct-head, IsDistinct-tail, IsDistinct-cons, IsDistinct-IsPermutation, ge_from_not_lt}
+use Rattle.std.proofs.lemmas.Cmp.{tied_itself, nat_cmp_total}
+use Rattle.std.proofs.lemmas.Map.Lookups.{exact_unsigned}
+use Rattle.std.proofs.lemmas.Map.Views.{exact_unsigned_eq}
+use Rattle.std.proofs.lemmas.Bool.Decides.{nat_tests}
+use Rattle.language.specs.Flow.{Member}
+use Rattle.summaries.specs.declared.pair.Pair.{Pair}
+use Rattle.summaries.specs.Tabulated.{IsAscending, ArePairsAscending}
+use Rattle.summaries.specs.Under.{items_of}
+
+module _ {X : Type 0} where
+  -- a member stands somewhere in the list
+  member_contains : (x : X) (xs : List X) → Member x xs → Contains xs x
+  member_contains x [] m = absurd m
+  member_contains x (y ∷ ys) (inl e) = (0, omega arith, sym e)
+  member_contains x (y ∷ ys) (inr m) = let (k, below, is) = member_contains x ys m in (suc k, omega (arith, below), is)
+
+  contains_member : (x : X) (xs : List X) (k : ℕ) → k < length xs → get_or xs k x ≡ x → Member x xs
+  contains_member x [] k below is = absurd (omega (arith, below))
+  contains_member x (y ∷ ys) zero below is = inl (sym is)
+  contains_member x (y ∷ ys) (suc k) below is = inr (contains_member x ys k (omega (arith, below)) is)
+
+  -- the same members in another order
+  pub same_members : (xs ys : List X) → IsPermutation xs ys → (x : X) → Member x ys ↔ Member x xs
+  same_members xs ys moved x = (there ys xs (IsPermutation-sym xs ys moved), there xs ys moved)
+    where
+      there : (us vs : List X) → IsPermutation us vs → Member x us → Member x vs
+      there us vs h m = let (k, below, is) = Contains-permutation us vs x h (member_contains x us m) in contains_member x vs k below is
+
+  -- what passes is a member that passes
+  pub member_filter : (p : X → Bool) (x : X) (xs : List X) → Member x (filter p xs) ↔ (Member x xs × (p x ≡ true))
+  member_filter p x [] = (λ m. absurd m, λ h. h.0)
+  member_filter p x (y ∷ ys) = by (p y) refl (member_filter p x ys)
+    where
+      by : (b : Bool) → p y ≡ b → (Member x (filter p ys) ↔ (Member x ys × (p x ≡ true))) → Member x (cond b (y ∷ filter p ys) (filter p ys)) ↔ (Member x (y ∷ ys) × (p x ≡ true))
+      by true e rest = (
+        λ m. elim m [ inl same ↦ (inl same, ap p same ∙ e) | inr n ↦ (inr (rest.0 n).0, (rest.0 n).1) ],
+        λ h. elim h.0 [ inl same ↦ inl same | inr n ↦ inr (rest.1 (n, h.1)) ],
+      )
+      by false e rest = (
+        λ m. (inr (rest.0 m).0, (rest.0 m).1),
+        λ h. elim h.0 [ inl same ↦ absurd (true≢false (sym h.1 ∙ ap p same ∙ e)) | inr n ↦ rest.1 (n, h.1) ],
+      )
+
+  all_filter : (P : X → Type 0) (p : X → Bool) (xs : List X) → AllByRecursion P xs → AllByRecursion P (filter p xs)
+  all_filter P p [] all = all
+  all_filter P p (x ∷ xs) all = by (p x) (all_filter P p xs all.1)
+    where
+      by : (b : Bool) → AllByRecursion P (filter p xs) → AllByRecursion P (cond b (x ∷ filter p xs) (filter p xs))
+      by true rest = (all.0, rest)
+      by false rest = rest
+
+  -- and each is there once, where the members are
+  pub distinct_filter : (eq : X → X → Bool) (p : X → Bool) (xs : List X) → IsDistinct eq xs → IsDistinct eq (filter p xs)
+  distinct_filter eq p [] once = once
+  distinct_filter eq p (x ∷ xs) once =
+      by (p x) (all_filter (λ y. eq x y ≡ false) p xs (IsDistinct-head eq x xs once)) (distinct_filter eq p xs (IsDistinct-tail eq x xs once))
+    where
+      by : (b : Bool) → AllByRecursion (λ y. eq x y ≡ false) (filter p xs) → IsDistinct eq (filter p xs) → IsDistinct eq (cond b (x ∷ filter p xs) (filter p xs))
+      by true all rest = IsDistinct-cons eq x (filter p xs) all rest
+      by false all rest = rest
+
+  -- what follows in a sorted list is sorted
+  sorted_tail : (lt : X → X → Bool) (x : X) (xs : List X) → IsSortedBy lt (x ∷ xs) → IsSortedBy lt xs
+  sorted_tail lt x xs sorted k d low high =
+      let e : suc k + 1 ≡ suc (k + 1) = omega arith in
+      subst (λ n. lt (get_or (x ∷ xs) n d) (get_or (x ∷ xs) (suc k) d) ≡ false) e (sorted (suc k) d (omega arith) (omega (arith, high)))
+
+less : (x y : ℕ) → is_lt (nat_cmp y x) ≡ false → nat_eq x y ≡ false → x < y
+less x y after apart = let le = ge_from_not_lt y x after in grind (arith, nat_tests)
+
+-- numbers that are sorted and differ ascend
+pub numbers_ascend : (xs : List ℕ) → IsSorted nat_cmp xs → IsDistinct nat_eq xs → IsAscending xs
+numbers_ascend [] sorted once = tt
+numbers_ascend (x ∷ []) sorted once = tt
+numbers_ascend (x ∷ y ∷ zs) sorted once = (
+  less x y (sorted 0 0 (omega arith) (omega arith)) (IsDistinct-head nat_eq x (y ∷ zs) once).0,
+  numbers_ascend (y ∷ zs) (sorted_tail (λ a b. is_lt (nat_cmp a b)) x (y ∷ zs) sorted) (IsDistinct-tail nat_eq x (y ∷ zs) once),
+)
+
+-- how pairs compare
+abbrev pub pair_cmp : Pair → Pair → Ordering
+pair_cmp x y = ordering_then (nat_cmp x.a y.a) (nat_cmp x.b y.b)
+
+abbrev pub pair_eq : Pair → Pair → Bool
+pair_eq x y = nat_eq x.a y.a && nat_eq x.b y.b
+
+pair_less : (x y : Pair) → is_lt (pair_cmp y x) ≡ false → pair_eq x y ≡ false → (x.a < y.a) ⊎ (x.a ≡ y.a) × (x.b < y.b)
+pair_less x y after apart = by (nat_cmp y.a x.a) refl after (nat_eq x.a y.a) refl apart
+  where
+    equal : (m n : ℕ) → m ≡ n → nat_eq n m ≡ true
+    equal m n e = grind (arith, nat_tests)
+
+    by : (r : Ordering) → nat_cmp y.a x.a ≡ r → is_lt (ordering_then r (nat_cmp y.b x.b)) ≡ false → (b : Bool) → nat_eq x.a y.a ≡ b → (b && nat_eq x.b y.b) ≡ false → (x.a < y.a) ⊎ (x.a ≡ y.a) × (x.b < y.b)
+    by Less e h b f k = absurd (true≢false h)
+    by Equal e h true f k = inr (exact_unsigned_eq x.a y.a f, less x.b y.b h k)
+    by Equal e h false f k = absurd (true≢false (sym (equal y.a x.a (exact_unsigned y.a x.a e)) ∙ f))
+    by Greater e h true f k =
+        let same : nat_cmp y.a x.a ≡ Equal = ap (λ n. nat_cmp y.a n) (exact_unsigned_eq x.a y.a f) ∙ tied_itself nat_cmp_total y.a in
+        let no : ⊥ = cc in
+        absurd no
+    by Greater e h false f k = inl (less x.a y.a (ap is_lt e) f)
+
+pub pairs_ascend : (xs : List Pair) → IsSorted pair_cmp xs → IsDistinct pair_eq xs → ArePairsAscending xs
+pairs_ascend [] sorted once = tt
+pairs_ascend (x ∷ []) sorted once = tt
+pairs_ascend (x ∷ y ∷ zs) sorted once = (
+  pair_less x y (sorted 0 x (omega arith) (omega arith)) (IsDistinct-head pair_eq x (y ∷ zs) once).0,
+  pairs_ascend (y ∷ zs) (sorted_tail (λ a b. is_lt (pair_cmp a b)) x (y ∷ zs) sorted) (IsDistinct-tail pair_eq x (y ∷ zs) once),
+)
+
+-- a sort keeps each member once
+pub still_distinct : {X : Type 0} (eq : X → X → Bool) → ((x y : X) → eq x y ≡ eq y x) → (xs ys : List X) → IsPermutation xs ys → IsDistinct eq xs → IsDistinct eq ys
+still_distinct eq flips xs ys moved once = IsDistinct-IsPermutation eq flips xs ys moved once
+
+-- whether a list has a member
+abbrev pub has_any : {X : Type 0} → List X → Bool
+has_any xs = not (length xs == 0)
+
+module _ {V A : Type 0} where
+  -- a key that has values is among the keys
+  key_there : (a : ℕ) (v : V) (es : List (ℕ × Vec V A)) → Member v (items_of (lookup (nat_eq a) es)) → Member a (keys_of es)
+  key_there a v [] m = absurd m
+  key_there a v (e ∷ es) m = by (nat_eq a e.0) refl m (key_there a v es)
+    where
+      by : (b : Bool) → nat_eq a e.0 ≡ b → Member v (items_of (cond b (Some e.1) (lookup (nat_eq a) es))) → (Member v (items_of (lookup (nat_eq a) es)) → Member a (keys_of es)) → Member a (keys_of (e ∷ es))
+      by true f n rest = inl (exact_unsigned_eq a e.0 f)
+      by false f n rest = inr (rest n)
+
+  -- the keys that have values
+  pub keys_with_values : (a : ℕ) (es : List (ℕ × Vec V A)) → (Member a (keys_of es) × (has_any (items_of (lookup (nat_eq a) es)) ≡ true)) ↔ ((v : V) × Member v (items_of (lookup (nat_eq a) es)))
+  keys_with_values a es = (
+    λ h. some (items_of (lookup (nat_eq a) es)) h.1,
+    λ h. (key_there a h.0 es h.1, any h.0 (items_of (lookup (nat_eq a) es)) h.1),
+  )
+    where
+      some : (vs : List V) → has_any vs ≡ true → (v : V) × Member v vs
+      some [] e = absurd (true≢false (sym e))
+      some (v ∷ vs) e = (v, inl refl)
+
+      any : (v : V) (vs : List V) → Member v vs → has_any vs ≡ true
+      any v [] m = absurd m
+      any v (u ∷ us) m = grind (arith, nat_tests)
+
+-- whether numbers and pairs are the same does not depend on their order
+pub nat_eq_flips : (m n : ℕ) → nat_eq m n ≡ nat_eq n m
+nat_eq_flips m n = grind (arith, nat_tests)
+
+pub pair_eq_flips : (x y : Pair) → pair_eq x y ≡ pair_eq y x
+pair_eq_flips x y = λ j. nat_eq_flips x.a y.a j && nat_eq_flips x.b y.b j

@@ -1,0 +1,254 @@
+-- The steps of a tabulation.
+use Rattle.std.proofs.Common.{◌≡◌, ◌<◌, ◌≤◌, ◌+◌, ◌-◌, ◌*◌, ◌⊎◌, ◌++◌, ℕ, zero, suc, List, [], ◌∷◌, Some, None, map, slice_get, slice_set, length, take, inl, inr, refl, sym, ap, ◌∙◌, subst, arith, length-append, get_or}
+use Rattle.std.proofs.Common.{Result, Ok, Err, OnOk}
+use Rattle.std.specs.Result.{IsErrAnd}
+use Rattle.std.specs.List.{sum_by}
+use Rattle.std.proofs.lemmas.Option.{none-some, get_or_from_slice_get, slice_get_within, slice_get-get_or}
+use Rattle.std.proofs.lemmas.List.{length-map}
+use Rattle.std.proofs.lemmas.Nat.{mul-add-lt}
+use Rattle.std.proofs.Math.Nat.{mul_comm}
+use Rattle.std.proofs.lemmas.List.Sums.{sum_by-set}
+use Rattle.language.specs.Step.{Program, AtRoutine, zeros}
+use Rattle.language.specs.Sequential.{Caller, starter, caller, Valuation, entry, IsZero, IsDue}
+use Rattle.language.specs.Flow.{Member}
+use Rattle.language.proofs.Members.{member_append, member_right}
+use Rattle.language.proofs.Entering.{due_there}
+use Rattle.path_sets.specs.Triples.{Triple}
+use Rattle.flow_graph.specs.Flows.{code}
+use Rattle.flow_graph.specs.Graphs.{AreDrawnFrom, IsGraph}
+use Rattle.flow_graph.specs.Numbers.{NumberedMessage, numbered_entry, numbered_summary, by_numbers, IsNumberOf, Sends}
+use Rattle.flow_graph.specs.declared.graph.Graph.{Graph}
+use Rattle.flow_graph.proofs.Coding.{coded_zeros}
+use Rattle.flow_graph.proofs.Taking.{edges_reached, due_sent}
+use Rattle.flow_graph.proofs.Pairs.{edge_numbers}
+use Rattle.summaries.specs.declared.due.Caller.TheVariants.{Starter, Proc}
+use Rattle.summaries.specs.declared.due.Due.{Due}
+use Rattle.summaries.specs.declared.due.Due.TheVariants.{Entry, Summary}
+use Rattle.summaries.specs.declared.given.Mail.{Mail}
+use Rattle.summaries.specs.declared.table.Table.{Table}
+use Rattle.summaries.specs.declared.table_fault.TableFault.TheVariants.{EdgeLimit}
+use Rattle.summaries.specs.Waiting.{mail}
+use Rattle.summaries.specs.Dues.{due_of}
+use Rattle.summaries.specs.Found.{HasTaken}
+use Rattle.summaries.specs.Tables.{sent, IsTable, IsQuiet, StaysAs, TookAlso, TookSame}
+use Rattle.summaries.specs.Tabulated.{HasMoreEdges}
+use Rattle.summaries.specs.Together.{opening, graph_of, IsReceived, IsTaken, TookOnly, HaveLimit, AreTables, AreQuietBefore}
+use Rattle.summaries.proofs.Replaced.{get_set, set_get}
+use Rattle.summaries.proofs.Indexed.{same_inside}
+use Rattle.summaries.proofs.Sweeping.{same_taken, same_taken_back, Becomes, replaced}
+
+-- the numbers of a message
+number_of_due : (d : Due) → (k : NumberedMessage) × (due_of k ≡ d)
+number_of_due (Entry Starter a) = (numbered_entry starter a, refl)
+number_of_due (Entry (Proc q) a) = (numbered_entry (caller q) a, refl)
+number_of_due (Summary s a b) = (numbered_summary s a b, refl)
+
+-- what a message's numbers are, where it is the starter's
+is_opening : (k : NumberedMessage) → due_of k ≡ Entry Starter 0 → k ≡ numbered_entry starter 0
+is_opening (numbered_entry starter a) e = let same : a ≡ 0 = cc in ap (numbered_entry starter) same
+is_opening (numbered_entry (caller q) a) e = let no : ⊥ = cc in absurd no
+is_opening (numbered_summary s a b) e = let no : ⊥ = cc in absurd no
+
+-- as many in one list as in another: there is a second item where there is a first
+pub there_too : {X Y : Type 0} (xs : List X) (ys : List Y) (q : ℕ) (x : X) → length xs ≡ length ys → slice_get xs q ≡ Some x → (y : Y) × (slice_get ys q ≡ Some y)
+there_too [] ys q x h e = absurd (none-some x e)
+there_too (z ∷ zs) [] q x h e = absurd (omega (arith, h))
+there_too (z ∷ zs) (y ∷ ys) zero x h e = (y, refl)
+there_too (z ∷ zs) (y ∷ ys) (suc q) x h e = there_too zs ys q x (omega (arith, h)) e
+
+pub get_map : {X Y : Type 0} (f : X → Y) (xs : List X) (q : ℕ) (x : X) → slice_get xs q ≡ Some x → slice_get (map f xs) q ≡ Some (f x)
+get_map f [] q x e = absurd (none-some x e)
+get_map f (z ∷ zs) zero x e = ap (λ y. Some (f y)) (same_inside z x e)
+get_map f (z ∷ zs) (suc q) x e = get_map f zs q x e
+
+module _ {G A S : Type 0} (members : S → List Triple) (p : Program) (Aside : Mail → Type 0) (ts : List (Table G A S)) (are : AreTables members p Aside ts) where
+  -- as many tables as procedures
+  pub as_many : length ts ≡ length p.routines
+  as_many = sym (length-map ts graph_of) ∙ are.drawn.2.0
+
+  pub has_graph : (q : ℕ) (t : Table G A S) → slice_get ts q ≡ Some t → IsGraph p q t.graph.now
+  has_graph q t is = are.drawn.2.1 q t.graph.now (get_map graph_of ts q t is)
+
+  -- a message that is due has its receiver
+  pub is_receiver : (q : ℕ) (k : NumberedMessage) → IsNumberOf (IsDue p q) k → q < length ts
+  is_receiver q k (m, due, e) =
+      let (routine, is) = due_there p q m due in
+      let below : q < length p.routines = slice_get_within p.routines q routine is in
+      omega (arith, as_many, below)
+
+  -- the opening is due
+  pub opening_due : (t : Table G A S) → slice_get ts 0 ≡ Some t → (k : NumberedMessage) → due_of k ≡ Entry Starter 0 → IsNumberOf (IsDue p 0) k
+  opening_due t is k e =
+      let (routine, there) = there_too ts p.routines 0 t as_many is in
+      let x : Valuation = record { globals = zeros p.globals; places = zeros routine.places } in
+      let zero_is : code x ≡ 0 = coded_zeros p.globals routine.places in
+      let begins : IsZero p x = subst (λ o. AtRoutine o (λ r. x ≡ record { globals = zeros p.globals; places = zeros r.places })) (sym there) refl in
+      (entry starter x, (refl, begins), is_opening k e ∙ ap (numbered_entry starter) (sym zero_is))
+
+  -- what a table has taken is due, where it has taken only a message that is due beside what it had
+  pub only_due : (q : ℕ) (d : Due) (t t' : Table G A S) → slice_get ts q ≡ Some t → TookOnly d t.found t'.found
+      → ((k : NumberedMessage) → due_of k ≡ d → IsNumberOf (IsDue p q) k) → (k : NumberedMessage) → HasTaken t'.found k → IsNumberOf (IsDue p q) k
+  only_due q d t t' is only due k taken = elim (only k taken) [ inl e ↦ due k e | inr old ↦ are.due q t k is old ]
+
+  same_due : (q : ℕ) (t t' : Table G A S) → slice_get ts q ≡ Some t → TookSame t.found t'.found → (k : NumberedMessage) → HasTaken t'.found k → IsNumberOf (IsDue p q) k
+  same_due q t t' is same k taken = are.due q t k is (same_taken_back t.found t'.found same k taken)
+
+  -- a table that has failed for its limit has more edges than that
+  pub too_many : (q : ℕ) (t t' : Table G A S) → slice_get ts q ≡ Some t → IsTable members t' → StaysAs t t' → t'.fault ≡ Some EdgeLimit
+      → ((k : NumberedMessage) → HasTaken t'.found k → IsNumberOf (IsDue p q) k) → (n : ℕ) → HaveLimit n ts → (s : ℕ) × HasMoreEdges p s n
+  too_many q t t' is table stays failed due n limits =
+      let (xs, once, more, reached) = table.many failed in
+      let same : t'.limit.edges ≡ n = ap (λ l. l.edges) stays.limit ∙ limits q t is in
+      let graph : IsGraph p q t'.graph.now = subst (IsGraph p q) (sym stays.graph) (has_graph q t is) in
+      (q, (xs, once, omega (arith, more, same), λ x m. (edge_numbers p q x.entry x.point x.values).0 (edges_reached p are.drawn.0 q t'.graph.now graph (HasTaken t'.found) due x.entry x.point x.values (reached x m))))
+
+  pub same_too_many : (q : ℕ) (t t' : Table G A S) → slice_get ts q ≡ Some t → IsTable members t' → StaysAs t t' → t'.fault ≡ Some EdgeLimit → TookSame t.found t'.found
+      → (n : ℕ) → HaveLimit n ts → (s : ℕ) × HasMoreEdges p s n
+  same_too_many q t t' is table stays failed same = too_many q t t' is table stays failed (same_due q t t' is same)
+
+  -- what a table sends is due
+  pub sends_due : (q : ℕ) (t t' : Table G A S) → slice_get ts q ≡ Some t → StaysAs t t' → TookSame t.found t'.found
+      → (s : ℕ) (k : NumberedMessage) → Sends t'.graph.now t'.procedure (HasTaken t'.found) s k → IsNumberOf (IsDue p s) k
+  sends_due q t t' is stays same s k sends =
+      let graph : IsGraph p q t'.graph.now = subst (IsGraph p q) (sym stays.graph) (has_graph q t is) in
+      due_sent p are.drawn.0 q t'.graph.now graph (HasTaken t'.found) (same_due q t t' is same) are.drawn.1 s k
+      (subst (λ n. Sends t'.graph.now n (HasTaken t'.found) s k) (stays.procedure ∙ are.number q t is) sends)
+
+  pub mail_due : (q : ℕ) (t t' : Table G A S) → slice_get ts q ≡ Some t → StaysAs t t' → TookSame t.found t'.found → (s : ℕ) (d : Due)
+      → ((k : NumberedMessage) → due_of k ≡ d → Sends t'.graph.now t'.procedure (HasTaken t'.found) s k) → (k : NumberedMessage) → due_of k ≡ d → IsNumberOf (IsDue p s) k
+  mail_due q t t' is stays same s d sends k e = sends_due q t t' is stays same s k (sends k e)
+
+  -- so its receiver is there
+  pub mail_receiver : (s : ℕ) (d : Due) → ((k : NumberedMessage) → due_of k ≡ d → IsNumberOf (IsDue p s) k) → s < length ts
+  mail_receiver s d due = let (k, e) = number_of_due d in is_receiver s k (due k e)
+
+  -- where a table answers, or has nothing to answer
+  goes_on : (q : ℕ) (t t' : Table G A S) → slice_get ts q ≡ Some t → IsTable members t' → t'.fault ≡ None → StaysAs t t' → TookSame t.found t'.found → Becomes members p q t t'
+  goes_on q t t' is table whole stays same = record {
+    table = table;
+    whole = whole;
+    stays = stays;
+    keeps = same_taken t.found t'.found same;
+    due = same_due q t t' is same;
+  }
+
+-- a table answers a message, which then is left aside
+pub answered : {G A S : Type 0} (members : S → List Triple) (p : Program) (ts : List (Table G A S)) → AreTables members p (λ x. ⊥) ts
+    → (q : ℕ) (t t' : Table G A S) → slice_get ts q ≡ Some t → IsTable members t' → t'.fault ≡ None → StaysAs t t' → TookSame t.found t'.found
+    → (x : Mail) → sent t'.found ≡ sent t.found ++ x ∷ [] → AreTables members p (λ y. y ≡ x) (slice_set ts q t')
+answered members p ts are q t t' is table whole stays same x more =
+    replaced members p (λ y. ⊥) (λ y. y ≡ x) ts q t t' are is (goes_on members p (λ y. ⊥) ts are q t t' is table whole stays same)
+    (λ y m. elim (member_append y (sent t.found) (x ∷ []) (subst (Member y) more m)) [ inl old ↦ inl old | inr last ↦ elim last [ inl e ↦ inr e | inr none ↦ absurd none ] ])
+    (λ y h. absurd h)
+
+-- a table has nothing to answer
+pub answered_none : {G A S : Type 0} (members : S → List Triple) (p : Program) (ts : List (Table G A S)) → AreTables members p (λ x. ⊥) ts
+    → (q : ℕ) (t t' : Table G A S) → slice_get ts q ≡ Some t → IsTable members t' → t'.fault ≡ None → StaysAs t t' → TookSame t.found t'.found
+    → sent t'.found ≡ sent t.found → AreTables members p (λ y. ⊥) (slice_set ts q t')
+answered_none members p ts are q t t' is table whole stays same none =
+    replaced members p (λ y. ⊥) (λ y. ⊥) ts q t t' are is (goes_on members p (λ y. ⊥) ts are q t t' is table whole stays same)
+    (λ y m. inl (subst (Member y) none m)) (λ y h. inl h)
+
+-- the receiver takes the message that is left aside
+pub delivered : {G A S : Type 0} (members : S → List Triple) (p : Program) (s : ℕ) (d : Due) (ts : List (Table G A S)) → AreTables members p (λ y. y ≡ mail s d) ts
+    → (t t' : Table G A S) → slice_get ts s ≡ Some t → IsTable members t' → t'.fault ≡ None → StaysAs t t' → TookAlso d t.found t'.found → TookOnly d t.found t'.found
+    → sent t'.found ≡ sent t.found → ((k : NumberedMessage) → due_of k ≡ d → IsNumberOf (IsDue p s) k) → AreTables members p (λ y. ⊥) (slice_set ts s t')
+delivered {G} {A} {S} members p s d ts are t t' is table whole stays also only none due =
+    replaced members p (λ y. y ≡ mail s d) (λ y. ⊥) ts s t t' are is becomes (λ y m. inl (subst (Member y) none m))
+    (λ y e. inr (subst (IsReceived (slice_set ts s t')) (sym e) taken))
+  where
+    becomes : Becomes members p s t t'
+    becomes = record {
+      table = table;
+      whole = whole;
+      stays = stays;
+      keeps = λ k h. (also k).1 (inr h);
+      due = only_due members p (λ y. y ≡ mail s d) ts are s d t t' is only due;
+    }
+
+    taken : IsReceived (slice_set ts s t') (mail s d)
+    taken k e = subst (λ o. IsTaken o k) (sym (get_set ts s t' (slice_get_within ts s t is))) ((also k).1 (inl e))
+
+module _ {G A S : Type 0} (members : S → List Triple) where
+  -- one more table that owes nothing
+  pub one_more_quiet : (n : ℕ) (ts : List (Table G A S)) (t' : Table G A S) → AreQuietBefore members n ts → IsQuiet members t' → AreQuietBefore members (n + 1) (slice_set ts n t')
+  one_more_quiet n ts t' quiet now q u below e =
+      elim (set_get ts n q t' u e) [
+        | inl h ↦ subst (IsQuiet members) (sym h.1) now
+        | inr h ↦ quiet q u (other q n h.0 below) h.1
+      ]
+    where
+      other : (q n : ℕ) → (q ≡ n → ⊥) → q < n + 1 → q < n
+      other q n h b = omega (arith, h, b)
+
+  -- those before the tables that are replaced owe nothing
+  pub still_quiet : (n i j m : ℕ) (ts : List (Table G A S)) (t' u' : Table G A S) → AreQuietBefore members n ts → m ≤ n → m ≤ i → m ≤ j
+      → AreQuietBefore members m (slice_set (slice_set ts i t') j u')
+  still_quiet n i j m ts t' u' quiet a b c q v below e =
+      elim (set_get (slice_set ts i t') j q u' v e) [
+        | inl h ↦ absurd (omega (arith, h.0, below, c))
+        | inr h ↦ elim (set_get ts i q t' v h.1) [
+          | inl k ↦ absurd (omega (arith, k.0, below, b))
+          | inr k ↦ quiet q v (omega (arith, below, a)) k.1
+        ]
+      ]
+
+module _ {G A S : Type 0} where
+  -- how many messages the tables may answer still, where each may answer fewer than n
+  abbrev pub left_of : ℕ → Table G A S → ℕ
+  left_of n t = n - length (sent t.found)
+
+  pub room : ℕ → List (Table G A S) → ℕ
+  room n ts = sum_by (left_of n) ts
+
+  room_set : (n : ℕ) (ts : List (Table G A S)) (i : ℕ) (t t' : Table G A S) → slice_get ts i ≡ Some t → room n (slice_set ts i t') + left_of n t ≡ room n ts + left_of n t'
+  unfolding room
+  room_set n ts i t t' is =
+      let same : left_of n (get_or ts i t) ≡ left_of n t = ap (left_of n) (get_or_from_slice_get ts i t t is) in
+      let moved = sum_by-set (left_of n) ts i t' t (slice_get_within ts i t is) in
+      omega (arith, same, moved)
+
+  pub less_room : (n : ℕ) (ts : List (Table G A S)) (i : ℕ) (t t' : Table G A S) (x : Mail) → slice_get ts i ≡ Some t → sent t'.found ≡ sent t.found ++ x ∷ [] → length (sent t'.found) < n
+      → room n (slice_set ts i t') < room n ts
+  less_room n ts i t t' x is more few =
+      let longer : length (sent t'.found) ≡ length (sent t.found) + 1 = ap length more ∙ length-append (sent t.found) (x ∷ []) in
+      omega (arith, room_set n ts i t t' is, longer, few)
+
+  pub same_room : (n : ℕ) (ts : List (Table G A S)) (i : ℕ) (t t' : Table G A S) → slice_get ts i ≡ Some t → sent t'.found ≡ sent t.found → room n (slice_set ts i t') ≡ room n ts
+  same_room n ts i t t' is same =
+      let kept : left_of n t' ≡ left_of n t = ap (λ l. n - length l) same in
+      omega (arith, room_set n ts i t t' is, kept)
+
+-- what counts down: messages first, and then the tables that may owe one
+abbrev pub steps_left : ℕ → ℕ → ℕ → ℕ
+steps_left room tables at = room * (tables + 1) + (tables - at)
+
+pub fewer_rooms : (r s n i j : ℕ) → s < r → steps_left s n i < steps_left r n j
+fewer_rooms r s n i j h =
+    let below = mul-add-lt s (n + 1) (n - i) r h (omega arith) in
+    let same : (n + 1) * r ≡ r * (n + 1) = mul_comm (n + 1) r in
+    omega (arith, below, same)
+
+pub nearer : (r n i : ℕ) → i < n → steps_left r n (i + 1) < steps_left r n i
+nearer r n i h = omega (arith, h)
+
+-- what an answer that failed says
+pub fault_told : {F : Type 0} (P : F → Type 0) (r : Result (Unit {0}) F) (fault : F) → IsErrAnd r P → r ≡ Err fault → P fault
+fault_told P r fault told is = subst (λ s. IsErrAnd s P) is told
+
+pub refused : {F : Type 0} (P : Type 0) (Q : F → Type 0) (r : Result (Unit {0}) F) → IsErrAnd r Q → OnOk r P
+refused P Q (Ok _) told = absurd told
+refused P Q (Err _) told = tt
+
+-- where there are no tables, nothing is left aside
+pub none_aside : {G A S : Type 0} (members : S → List Triple) (p : Program) (Aside : Mail → Type 0) (ts : List (Table G A S)) → length ts ≡ 0 → AreTables members p Aside ts → AreTables members p (λ x. ⊥) ts
+none_aside members p Aside [] none are = record {
+  drawn = are.drawn;
+  table = are.table;
+  whole = are.whole;
+  number = are.number;
+  due = are.due;
+  opened = λ t e. absurd (none-some t e);
+  sent = λ q t x e m. absurd (none-some t e);
+}
+none_aside members p Aside (t ∷ ts) none are = absurd (omega (arith, none))

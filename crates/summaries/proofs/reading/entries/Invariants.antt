@@ -1,0 +1,10 @@
+-- The entries so far are the keys so far that have callers.
+use Rattle.std.proofs.Common.{◌≡◌, nat_eq, take}
+use Rattle.std.specs.List.{filter}
+use Rattle.indexmap.specs.IndexMap.{keys}
+use Rattle.summaries.specs.Under.{under}
+use Rattle.summaries.proofs.Ascending.{has_any}
+use Rattle.summaries.proofs.reading.entries.Given as goal
+
+abbrev pub invariant-loop-entry : goal.invariant-loop-entry
+invariant-loop-entry g l = l.entries.items ≡ filter (λ a. has_any (under nat_eq l.fn.callers.by_key a)) (take l.entry-index (keys l.fn.callers.by_key))

@@ -1,0 +1,206 @@
+-- Each step keeps that messages are taken, and the tables before `at` owe none.
+use Rattle.std.proofs.Common.{◌≡◌, ◌<◌, ◌≤◌, ◌+◌, ◌^◌, ◌++◌, ◌∷◌, [], ℕ, Some, Err, length, slice_get, slice_set, refl, sym, ap, ◌∙◌, subst, arith, length-set, tests, rules}
+use Rattle.std.proofs.lemmas.Option.{slice_get_read}
+use Rattle.std.specs.Option.{IfSome, IfNone}
+use Rattle.flow_graph.specs.Numbers.{NumberedMessage, IsNumberOf, Sends}
+use Rattle.language.specs.Sequential.{IsDue}
+use Rattle.summaries.specs.declared.due.Caller.TheVariants.{Starter}
+use Rattle.summaries.specs.declared.due.Due.TheVariants.{Entry}
+use Rattle.summaries.specs.declared.table_fault.TableFault.TheVariants.{EdgeLimit}
+use Rattle.summaries.specs.Waiting.{mail}
+use Rattle.summaries.specs.Dues.{due_of}
+use Rattle.summaries.specs.Found.{HasTaken}
+use Rattle.summaries.specs.Tables.{sent, IsQuiet}
+use Rattle.summaries.specs.Together.{opening, HaveLimit, AreTables}
+use Rattle.summaries.proofs.Sweeping.{limits_stay}
+use Rattle.summaries.proofs.Replaced.{get_set}
+use Rattle.summaries.proofs.Steps.{answered, answered_none, delivered, opening_due, mail_due, mail_receiver, only_due, too_many, same_too_many, one_more_quiet, still_quiet, room, steps_left, less_room, same_room, fewer_rooms, nearer, fault_told, refused, none_aside}
+use Rattle.summaries.proofs.tabulation.run.Goals as goal
+use Rattle.summaries.proofs.tabulation.run.Given.{Over}
+use Rattle.summaries.proofs.tabulation.run.Goals.{After-index_mut, In-Some, In-None, In_ok-deliver, After-index_mut-in-loop-at, After-index_mut-in-Some}
+
+-- ---- the opening
+
+pub returns-then-is_empty-clause-tables : goal.returns-then-is_empty-clause-tables
+returns-then-is_empty-clause-tables g c =
+    none_aside g.S.PathSet.members g.program (λ x. x ≡ opening) c.args.tables.now.items (grind (arith, tests, c.args.tables.now.ok.0)) c.requires.1.1.1
+
+first_is : (g : Over) (c : After-index_mut g) → slice_get c.args.tables.now.items 0 ≡ Some c.index_mut.result.now
+first_is g c = slice_get_read c.args.tables.now.items _ 0 c.index_mut.result.now refl (grind (arith, tests, c.args.tables.now.ok.0)) c.index_mut.ensures.value
+
+opened_due : (g : Over) (c : After-index_mut g) → (k : NumberedMessage) → due_of k ≡ Entry Starter 0 → IsNumberOf (IsDue g.program 0) k
+opened_due g c = opening_due g.S.PathSet.members g.program (λ x. x ≡ opening) c.args.tables.now.items c.requires.1.1.1 c.index_mut.result.now (first_is g c)
+
+pub deliver-requires : goal.deliver-requires
+deliver-requires g c = c.requires.1.1.1.table 0 c.index_mut.result.now (first_is g c)
+
+pub returns-in_err-deliver-clause-limits : goal.returns-in_err-deliver-clause-limits
+returns-in_err-deliver-clause-limits g c = λ n h. refused _ _ c.from_residual.result c.from_residual.ensures.1
+
+pub returns-in_err-deliver-clause-limit : goal.returns-in_err-deliver-clause-limit
+returns-in_err-deliver-clause-limit g c = λ e n h.
+    let delivers = c.in_err-deliver.ensures in
+    let told = fault_told _ c.from_residual.result EdgeLimit c.from_residual.ensures.1 e in
+    let ts = c.args.tables.now.items in
+    let a = (goal.at.returns-in_err-deliver-clause-limit g c).After-index_mut in
+    let due = only_due g.S.PathSet.members g.program (λ x. x ≡ opening) ts c.requires.1.1.1 0 (Entry Starter 0) c.index_mut.result.now c.deliver.new.table (first_is g a) delivers.only (opened_due g a) in
+    too_many g.S.PathSet.members g.program (λ x. x ≡ opening) ts c.requires.1.1.1 0 c.index_mut.result.now c.deliver.new.table (first_is g a) delivers.table delivers.stays (delivers.fault ∙ ap Some (sym told)) due n h
+
+pub loop-at-init : goal.loop-at-init
+loop-at-init g c = record {
+  tables =
+      let a = (goal.at.loop-at-init g c).After-index_mut in
+      let delivers = c.in_ok-deliver.ensures in
+      delivered g.S.PathSet.members g.program 0 (Entry Starter 0) c.args.tables.now.items c.requires.1.1.1 c.index_mut.result.now c.deliver.new.table (first_is g a) delivers.table delivers.fault delivers.stays delivers.taken delivers.only delivers.sent (opened_due g a);
+  quiet = λ q t below is. absurd (omega (arith, below));
+  within = omega arith;
+  limits = λ n h.
+      let a = (goal.at.loop-at-init g c).After-index_mut in
+      limits_stay n c.args.tables.now.items 0 c.index_mut.result.now c.deliver.new.table (first_is g a) c.in_ok-deliver.ensures.stays h;
+}
+
+-- ---- a table answers
+
+at_is : (g : Over) (c : After-index_mut-in-loop-at g) → slice_get c.loop-at.tables.items c.loop-at.at ≡ Some c.index_mut-in-loop-at.result.now
+at_is g c = slice_get_read c.loop-at.tables.items _ c.loop-at.at c.index_mut-in-loop-at.result.now refl (omega (arith, c.loop-at.tables.ok.0)) c.index_mut-in-loop-at.ensures.value
+
+pub next-requires : goal.next-requires
+next-requires g c = c.loop-at.invariant.tables.table c.loop-at.at c.index_mut-in-loop-at.result.now (at_is g c)
+
+pub returns-in_err-to-clause-limits : goal.returns-in_err-to-clause-limits
+returns-in_err-to-clause-limits g c = λ n h. refused _ _ c.from_residual-in_err-to.result c.from_residual-in_err-to.ensures.1
+
+pub returns-in_err-to-clause-limit : goal.returns-in_err-to-clause-limit
+returns-in_err-to-clause-limit g c = λ e n h.
+    let next = c.in_err-to.ensures in
+    let told = fault_told _ c.from_residual-in_err-to.result EdgeLimit c.from_residual-in_err-to.ensures.1 e in
+    let a = (goal.at.returns-in_err-to-clause-limit g c).After-index_mut-in-loop-at in
+    same_too_many g.S.PathSet.members g.program (λ x. ⊥) c.loop-at.tables.items c.loop-at.invariant.tables c.loop-at.at c.index_mut-in-loop-at.result.now c.next.new.self (at_is g a) next.table next.stays (next.fault ∙ ap Some (sym told)) next.taken n (c.loop-at.invariant.limits n h)
+
+-- ---- its receiver takes the message
+
+abbrev To : (g : Over) → In-Some g → Type 0
+To g c = (k : NumberedMessage) → due_of k ≡ c.in-Some.due → IsNumberOf (IsDue g.program c.in-Some.to) k
+
+answers_is : (g : Over) (c : In-Some g) → slice_get c.loop-at.tables.items c.loop-at.at ≡ Some c.index_mut-in-loop-at.result.now
+answers_is g c = slice_get_read c.loop-at.tables.items _ c.loop-at.at c.index_mut-in-loop-at.result.now refl (omega (arith, c.loop-at.tables.ok.0)) c.index_mut-in-loop-at.ensures.value
+
+to_due : (g : Over) (c : In-Some g) → To g c
+to_due g c =
+    let next = c.in_ok-to.ensures in
+    let sends = subst (λ o. IfSome o (λ m. (k : NumberedMessage) → due_of k ≡ m.1 → Sends c.next.new.self.graph.now c.next.new.self.procedure (HasTaken c.next.new.self.found) m.0 k)) c.in-Some.is next.due in
+    mail_due g.S.PathSet.members g.program (λ x. ⊥) c.loop-at.tables.items c.loop-at.invariant.tables c.loop-at.at c.index_mut-in-loop-at.result.now c.next.new.self (answers_is g c) next.stays next.taken c.in-Some.to c.in-Some.due sends
+
+to_there : (g : Over) (c : In-Some g) → c.in-Some.to < length c.loop-at.tables.items
+to_there g c = mail_receiver g.S.PathSet.members g.program (λ x. ⊥) c.loop-at.tables.items c.loop-at.invariant.tables c.in-Some.to c.in-Some.due (to_due g c)
+
+-- the tables, where the message is left aside
+then_aside : (g : Over) (c : In-Some g) → AreTables g.S.PathSet.members g.program (λ x. x ≡ mail c.in-Some.to c.in-Some.due) (slice_set c.loop-at.tables.items c.loop-at.at c.next.new.self)
+then_aside g c =
+    let next = c.in_ok-to.ensures in
+    let more = subst (λ o. IfSome o (λ m. sent c.next.new.self.found ≡ sent c.index_mut-in-loop-at.result.now.found ++ mail m.0 m.1 ∷ [])) c.in-Some.is next.some in
+    answered g.S.PathSet.members g.program c.loop-at.tables.items c.loop-at.invariant.tables c.loop-at.at c.index_mut-in-loop-at.result.now c.next.new.self (answers_is g c) next.table next.fault next.stays next.taken (mail c.in-Some.to c.in-Some.due) more
+
+pub index_mut-requires-in-Some : goal.index_mut-requires-in-Some
+index_mut-requires-in-Some g c =
+    let there = to_there g (goal.at.index_mut-requires-in-Some g c).In-Some in
+    let same = length-set c.loop-at.tables.items c.loop-at.at c.next.new.self in
+    omega (arith, there, same)
+
+to_is : (g : Over) (c : After-index_mut-in-Some g) → slice_get (slice_set c.loop-at.tables.items c.loop-at.at c.next.new.self) c.in-Some.to ≡ Some c.index_mut-in-Some.result.now
+to_is g c =
+    let there = to_there g (goal.at.deliver-requires-in-Some g c).In-Some in
+    let same = length-set c.loop-at.tables.items c.loop-at.at c.next.new.self in
+    slice_get_read (slice_set c.loop-at.tables.items c.loop-at.at c.next.new.self) _ c.in-Some.to c.index_mut-in-Some.result.now refl (omega (arith, there, same)) c.index_mut-in-Some.ensures.value
+
+pub deliver-requires-in-Some : goal.deliver-requires-in-Some
+deliver-requires-in-Some g c = (then_aside g (goal.at.deliver-requires-in-Some g c).In-Some).table c.in-Some.to c.index_mut-in-Some.result.now (to_is g c)
+
+pub returns-in_err-deliver-in-Some-clause-limits : goal.returns-in_err-deliver-in-Some-clause-limits
+returns-in_err-deliver-in-Some-clause-limits g c = λ n h. refused _ _ c.from_residual-in_err-deliver-in-Some.result c.from_residual-in_err-deliver-in-Some.ensures.1
+
+pub returns-in_err-deliver-in-Some-clause-limit : goal.returns-in_err-deliver-in-Some-clause-limit
+returns-in_err-deliver-in-Some-clause-limit g c = λ e n h.
+    let at = goal.at.returns-in_err-deliver-in-Some-clause-limit g c in
+    let delivers = c.in_err-deliver-in-Some.ensures in
+    let told = fault_told _ c.from_residual-in_err-deliver-in-Some.result EdgeLimit c.from_residual-in_err-deliver-in-Some.ensures.1 e in
+    let ts = slice_set c.loop-at.tables.items c.loop-at.at c.next.new.self in
+    let are = then_aside g at.In-Some in
+    let is = to_is g at.After-index_mut-in-Some in
+    let limits = limits_stay n c.loop-at.tables.items c.loop-at.at c.index_mut-in-loop-at.result.now c.next.new.self (answers_is g at.In-Some) c.in_ok-to.ensures.stays (c.loop-at.invariant.limits n h) in
+    let due = only_due g.S.PathSet.members g.program (λ x. x ≡ mail c.in-Some.to c.in-Some.due) ts are c.in-Some.to c.in-Some.due c.index_mut-in-Some.result.now c.deliver-in-Some.new.table is delivers.only (to_due g at.In-Some) in
+    too_many g.S.PathSet.members g.program (λ x. x ≡ mail c.in-Some.to c.in-Some.due) ts are c.in-Some.to c.index_mut-in-Some.result.now c.deliver-in-Some.new.table is delivers.table delivers.stays (delivers.fault ∙ ap Some (sym told)) due n limits
+
+pub loop-at-smaller-in-Some : goal.loop-at-smaller-in-Some
+loop-at-smaller-in-Some g c =
+    let at = goal.at.loop-at-smaller-in-Some g c in
+    let is = answers_is g at.In-Some in
+    let then = to_is g at.After-index_mut-in-Some in
+    let items = c.loop-at.tables.items in
+    let one = slice_set items c.loop-at.at c.next.new.self in
+    let two = slice_set one c.in-Some.to c.deliver-in-Some.new.table in
+    let next = c.in_ok-to.ensures in
+    let more = subst (λ o. IfSome o (λ m. sent c.next.new.self.found ≡ sent c.index_mut-in-loop-at.result.now.found ++ mail m.0 m.1 ∷ [])) c.in-Some.is next.some in
+    let few = subst (λ o. IfSome o (λ m. length (sent c.next.new.self.found) < 2 ^ 64)) c.in-Some.is next.few in
+    let less = less_room (2 ^ 64) items c.loop-at.at c.index_mut-in-loop-at.result.now c.next.new.self (mail c.in-Some.to c.in-Some.due) is more few in
+    let same = same_room (2 ^ 64) one c.in-Some.to c.index_mut-in-Some.result.now c.deliver-in-Some.new.table then c.in_ok-deliver-in-Some.ensures.sent in
+    let long : length two ≡ length items = length-set one c.in-Some.to c.deliver-in-Some.new.table ∙ length-set items c.loop-at.at c.next.new.self in
+    subst (λ n. steps_left (room (2 ^ 64) two) n c.min-at.result < steps_left (room (2 ^ 64) items) (length items) c.loop-at.at) (sym long)
+    (fewer_rooms (room (2 ^ 64) items) (room (2 ^ 64) two) (length items) c.min-at.result c.loop-at.at (subst (λ r. r < room (2 ^ 64) items) (sym same) less))
+
+pub loop-at-preserved-in-Some : goal.loop-at-preserved-in-Some
+loop-at-preserved-in-Some g c =
+    let at = goal.at.loop-at-preserved-in-Some g c in
+    let is = answers_is g at.In-Some in
+    let then = to_is g at.After-index_mut-in-Some in
+    let items = c.loop-at.tables.items in
+    let one = slice_set items c.loop-at.at c.next.new.self in
+    let two = slice_set one c.in-Some.to c.deliver-in-Some.new.table in
+    let delivers = c.in_ok-deliver-in-Some.ensures in
+    let long : length two ≡ length items = length-set one c.in-Some.to c.deliver-in-Some.new.table ∙ length-set items c.loop-at.at c.next.new.self in
+    record {
+      tables = delivered g.S.PathSet.members g.program c.in-Some.to c.in-Some.due one (then_aside g at.In-Some) c.index_mut-in-Some.result.now c.deliver-in-Some.new.table then delivers.table delivers.fault delivers.stays delivers.taken delivers.only delivers.sent (to_due g at.In-Some);
+      quiet = still_quiet g.S.PathSet.members c.loop-at.at c.loop-at.at c.in-Some.to c.min-at.result items c.next.new.self c.deliver-in-Some.new.table c.loop-at.invariant.quiet (omega arith) (omega arith) (omega arith);
+      within = omega (arith, long);
+      limits = λ n h.
+          limits_stay n one c.in-Some.to c.index_mut-in-Some.result.now c.deliver-in-Some.new.table then delivers.stays
+          (limits_stay n items c.loop-at.at c.index_mut-in-loop-at.result.now c.next.new.self is c.in_ok-to.ensures.stays (c.loop-at.invariant.limits n h));
+    }
+
+-- ---- a table owes none
+
+none_is : (g : Over) (c : In-None g) → slice_get c.loop-at.tables.items c.loop-at.at ≡ Some c.index_mut-in-loop-at.result.now
+none_is g c = slice_get_read c.loop-at.tables.items _ c.loop-at.at c.index_mut-in-loop-at.result.now refl (omega (arith, c.loop-at.tables.ok.0)) c.index_mut-in-loop-at.ensures.value
+
+pub loop-at-smaller : goal.loop-at-smaller
+loop-at-smaller g c =
+    let is = none_is g (goal.at.loop-at-smaller g c).In-None in
+    let items = c.loop-at.tables.items in
+    let one = slice_set items c.loop-at.at c.next.new.self in
+    let none = subst (λ o. IfNone o (sent c.next.new.self.found ≡ sent c.index_mut-in-loop-at.result.now.found)) c.in-None.is c.in_ok-to.ensures.none in
+    let same = same_room (2 ^ 64) items c.loop-at.at c.index_mut-in-loop-at.result.now c.next.new.self is none in
+    let long = length-set items c.loop-at.at c.next.new.self in
+    let within : c.loop-at.at < length items = omega (arith, c.loop-at.tables.ok.0) in
+    subst (λ n. steps_left (room (2 ^ 64) one) n (c.loop-at.at + 1) < steps_left (room (2 ^ 64) items) (length items) c.loop-at.at) (sym long)
+    (subst (λ r. steps_left r (length items) (c.loop-at.at + 1) < steps_left (room (2 ^ 64) items) (length items) c.loop-at.at) (sym same)
+    (nearer (room (2 ^ 64) items) (length items) c.loop-at.at within))
+
+pub loop-at-preserved : goal.loop-at-preserved
+loop-at-preserved g c =
+    let is = none_is g (goal.at.loop-at-preserved g c).In-None in
+    let items = c.loop-at.tables.items in
+    let next = c.in_ok-to.ensures in
+    let none = subst (λ o. IfNone o (sent c.next.new.self.found ≡ sent c.index_mut-in-loop-at.result.now.found)) c.in-None.is next.none in
+    let quiet = subst (λ o. IfNone o (IsQuiet g.S.PathSet.members c.next.new.self)) c.in-None.is next.quiet in
+    let long = length-set items c.loop-at.at c.next.new.self in
+    record {
+      tables = answered_none g.S.PathSet.members g.program items c.loop-at.invariant.tables c.loop-at.at c.index_mut-in-loop-at.result.now c.next.new.self is next.table next.fault next.stays next.taken none;
+      quiet = one_more_quiet g.S.PathSet.members c.loop-at.at items c.next.new.self c.loop-at.invariant.quiet quiet;
+      within = omega (arith, long, c.loop-at.tables.ok.0);
+      limits = λ n h. limits_stay n items c.loop-at.at c.index_mut-in-loop-at.result.now c.next.new.self is next.stays (c.loop-at.invariant.limits n h);
+    }
+
+pub returns-clause-quiet : goal.returns-clause-quiet
+returns-clause-quiet g c =
+    let all = c.loop-at.invariant.quiet in
+    λ q t below is. all q t (omega (arith, below, c.loop-at.tables.ok.0)) is

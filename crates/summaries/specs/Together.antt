@@ -1,0 +1,83 @@
+-- The tables of all procedures together, while a program is tabulated.
+use Rattle.std.specs.Prelude.{◌≡◌, ◌<◌, ◌⊎◌, ◌↔◌, ℕ, nat_eq, Option, Some, None, List, map, slice_get}
+use Rattle.language.specs.Step.{Program}
+use Rattle.language.specs.Sequential.{starter, IsDue}
+use Rattle.language.specs.Flow.{Member}
+use Rattle.path_sets.specs.Triples.{Triple}
+use Rattle.flow_graph.specs.Graphs.{AreDrawnFrom}
+use Rattle.flow_graph.specs.Numbers.{NumberedMessage, numbered_entry, IsNumberOf}
+use Rattle.flow_graph.specs.declared.graph.Graph.{Graph}
+use Rattle.summaries.specs.declared.due.Caller.{Caller}
+use Rattle.summaries.specs.declared.due.Caller.TheVariants.{Starter}
+use Rattle.summaries.specs.declared.due.Due.{Due}
+use Rattle.summaries.specs.declared.due.Due.TheVariants.{Entry}
+use Rattle.summaries.specs.declared.found.Found.{Found}
+use Rattle.summaries.specs.declared.given.Mail.{Mail}
+use Rattle.summaries.specs.declared.pair.Pair.{Pair}
+use Rattle.summaries.specs.declared.summaries.Summary.{Summary}
+use Rattle.summaries.specs.declared.table.Table.{Table}
+use Rattle.summaries.specs.Under.{under}
+use Rattle.summaries.specs.Waiting.{mail}
+use Rattle.summaries.specs.Dues.{due_of}
+use Rattle.summaries.specs.Found.{HasTaken}
+use Rattle.summaries.specs.Tables.{sent, IsTable, IsNew, IsQuiet}
+use Rattle.summaries.specs.Tabulated.{IsAscending, ArePairsAscending}
+
+-- the starter's message: procedure 0 is entered, and every value is 0
+abbrev pub opening : Mail
+opening = mail 0 (Entry Starter 0)
+
+-- Each message that the table has taken is this one, or was taken before.
+abbrev pub TookOnly : {A : Type 0} → Due → Found A → Found A → Type 0
+TookOnly d old new = (k : NumberedMessage) → HasTaken new k → (due_of k ≡ d) ⊎ HasTaken old k
+
+module _ {G A S : Type 0} where
+  -- the flow graph of the table's procedure
+  abbrev pub graph_of : Table G A S → Graph G
+  graph_of t = t.graph.now
+
+  -- there is a table, and it has taken the message of these numbers
+  abbrev pub IsTaken : Option (Table G A S) → NumberedMessage → Type 0
+  IsTaken None k = ⊥
+  IsTaken (Some t) k = HasTaken t.found k
+
+  -- the receiver's table has taken the message
+  abbrev pub IsReceived : List (Table G A S) → Mail → Type 0
+  IsReceived ts x = (k : NumberedMessage) → due_of k ≡ x.due → IsTaken (slice_get ts x.to) k
+
+  -- each table may hold so many edges
+  abbrev pub HaveLimit : ℕ → List (Table G A S) → Type 0
+  HaveLimit n ts = (q : ℕ) (t : Table G A S) → slice_get ts q ≡ Some t → t.limit.edges ≡ n
+
+module _ {G A S : Type 0} where
+  -- The summary has the entries that the table has taken, and the pairs that it has found, both ascending.
+  pub record IsReadOff (t : Table G A S) (s : Summary A) : Type 0 where
+    pub ascend : IsAscending s.entries.items
+    pub entries : (a : ℕ) → Member a s.entries.items ↔ ((from : Caller) × Member from (under nat_eq t.found.entries.by_key a))
+    pub pairs_ascend : ArePairsAscending s.pairs.items
+    pub pairs : (x : Pair) → Member x s.pairs.items ↔ Member x t.found.pairs.keys
+
+  -- each summary is that of the table of its number
+  abbrev pub AreReadOff : List (Table G A S) → List (Summary A) → Type 0
+  AreReadOff ts ss = (q : ℕ) (t : Table G A S) (s : Summary A) → slice_get ts q ≡ Some t → slice_get ss q ≡ Some s → IsReadOff t s
+
+module _ {G A S : Type 0} (members : S → List Triple) where
+  -- Each table is that of the procedure of its number, and has taken nothing yet.
+  pub record AreNew (ts : List (Table G A S)) : Type 0 where
+    pub fresh : (q : ℕ) (t : Table G A S) → slice_get ts q ≡ Some t → IsNew members t
+    pub number : (q : ℕ) (t : Table G A S) → slice_get ts q ≡ Some t → t.procedure ≡ q
+
+  -- The tables are those of the program's procedures, by number, and none has failed; what each has taken is due for its
+  -- procedure; and the opening and each message that was answered is taken by its receiver, but for those left aside.
+  pub record AreTables (p : Program) (Aside : Mail → Type 0) (ts : List (Table G A S)) : Type 0 where
+    pub drawn : AreDrawnFrom p (map graph_of ts)
+    pub table : (q : ℕ) (t : Table G A S) → slice_get ts q ≡ Some t → IsTable members t
+    pub whole : (q : ℕ) (t : Table G A S) → slice_get ts q ≡ Some t → t.fault ≡ None
+    pub number : (q : ℕ) (t : Table G A S) → slice_get ts q ≡ Some t → t.procedure ≡ q
+    pub due : (q : ℕ) (t : Table G A S) (k : NumberedMessage) → slice_get ts q ≡ Some t → HasTaken t.found k → IsNumberOf (IsDue p q) k
+    pub opened : (t : Table G A S) → slice_get ts 0 ≡ Some t → Aside opening ⊎ IsReceived ts opening
+    pub sent : (q : ℕ) (t : Table G A S) (x : Mail) → slice_get ts q ≡ Some t → Member x (sent t.found) → Aside x ⊎ IsReceived ts x
+
+  -- no table before this one owes a message
+  abbrev pub AreQuietBefore : ℕ → List (Table G A S) → Type 0
+  AreQuietBefore n ts = (q : ℕ) (t : Table G A S) → q < n → slice_get ts q ≡ Some t → IsQuiet members t

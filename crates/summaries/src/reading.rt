@@ -1,0 +1,72 @@
+//! What tables found, as summaries.
+
+ghost use Rattle.std.specs.Prelude.{◌≡◌, ◌↔◌, ℕ, length, IfOk, nat_eq};
+ghost use Rattle.language.specs.Flow.{Member};
+ghost use Rattle.summaries.specs.declared.due.Caller.{Caller};
+ghost use Rattle.summaries.specs.declared.pair.Pair.{Pair};
+ghost use Rattle.summaries.specs.Under.{under};
+ghost use Rattle.summaries.specs.Tabulated.{IsAscending, ArePairsAscending};
+ghost use Rattle.summaries.specs.Together.{AreReadOff};
+
+use crate::due;
+use crate::groups::Groups;
+use crate::pair::Pair;
+use crate::summaries::Summary;
+use crate::table::Table;
+use flow_graph::Word;
+use indexmap::IndexSet;
+use path_sets::PathSet;
+use std::alloc::{AllocError, Allocator};
+use std::hash::{BuildHasherDefault, FoldHasher};
+
+/// The valuations with which a procedure is entered, ascending.
+fn entries<A: Allocator + Copy>(
+    alloc: A,
+    callers: &Groups<Word, due::Caller, A>,
+) -> Result<Vec<Word, A>, AllocError>
+    ensures ascend { IfOk result (λ v. IsAscending v.items) }
+    ensures entries { IfOk result (λ v. (a : ℕ) → Member a v.items ↔ ((from : Caller) × Member from (under nat_eq callers.now.by_key a))) }
+{
+    let mut entries = Vec::new(alloc);
+    let keys = callers.by_key.keys();
+    for entry in keys.as_slice() {
+        if !callers.of(*entry).is_empty() {
+            entries.push(*entry)?;
+        }
+    }
+    entries.sort_unstable();
+    Ok(entries)
+}
+
+/// The pairs, ascending.
+fn pairs<A: Allocator + Copy>(
+    alloc: A,
+    pairs: &IndexSet<Pair, BuildHasherDefault<FoldHasher>, A>,
+) -> Result<Vec<Pair, A>, AllocError>
+    ensures ascend { IfOk result (λ v. ArePairsAscending v.items) }
+    ensures pairs { IfOk result (λ v. (x : Pair) → Member x v.items ↔ Member x pairs.now.keys) }
+{
+    let mut pairs = Vec::from_slice(alloc, pairs.as_slice())?;
+    pairs.sort_unstable();
+    Ok(pairs)
+}
+
+/// What the tables found, table by table.
+pub(crate) fn read<G: Allocator, A: Allocator + Copy, S: PathSet<A>>(
+    alloc: A,
+    tables: &[Table<'_, G, A, S>],
+) -> Result<Vec<Summary<A>, A>, AllocError>
+    ensures len { IfOk result (λ v. length v.items ≡ length tables.now) }
+    ensures read { IfOk result (λ v. AreReadOff tables.now v.items) }
+{
+    let mut summaries = Vec::new(alloc);
+    for table in tables {
+        let found = &table.found;
+        let summary = Summary {
+            entries: entries(alloc, &found.entries)?,
+            pairs: pairs(alloc, &found.pairs)?,
+        };
+        summaries.push(summary)?;
+    }
+    Ok(summaries)
+}
