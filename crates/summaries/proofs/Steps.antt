@@ -27,7 +27,7 @@ use Rattle.summaries.specs.declared.due.Due.TheVariants.{Entry, Summary}
 use Rattle.summaries.specs.declared.given.Mail.{Mail}
 use Rattle.summaries.specs.declared.table.Table.{Table}
 use Rattle.summaries.specs.declared.table_fault.TableFault.TheVariants.{EdgeLimit}
-use Rattle.summaries.specs.Waiting.{mail}
+use Rattle.summaries.specs.Mails.{mail}
 use Rattle.summaries.specs.Dues.{due_of}
 use Rattle.summaries.specs.Found.{HasTaken}
 use Rattle.summaries.specs.Tables.{sent, IsTable, IsQuiet, StaysAs, TookAlso, TookSame}

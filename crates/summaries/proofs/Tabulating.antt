@@ -15,7 +15,7 @@ use Rattle.flow_graph.specs.declared.graph.Graph.{Graph}
 use Rattle.flow_graph.proofs.Taking.{edges_taken}
 use Rattle.flow_graph.proofs.Pairs.{edge_numbers, pairs_left, bad_left, entries_taken}
 use Rattle.summaries.specs.declared.table.Table.{Table}
-use Rattle.summaries.specs.Waiting.{mail}
+use Rattle.summaries.specs.Mails.{mail}
 use Rattle.summaries.specs.Dues.{due_of}
 use Rattle.summaries.specs.Found.{pair, HasTaken}
 use Rattle.summaries.specs.Tables.{sent, IsTable, IsQuiet}

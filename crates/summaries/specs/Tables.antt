@@ -22,6 +22,10 @@ sent f = take f.given.answered f.given.mails.keys
 abbrev pub TookAlso : {A : Type 0} → Due → Found A → Found A → Type 0
 TookAlso d old new = (k : NumberedMessage) → HasTaken new k ↔ ((due_of k ≡ d) ⊎ HasTaken old k)
 
+-- Each message taken is this one, or was taken before.
+abbrev pub TookOnly : {A : Type 0} → Due → Found A → Found A → Type 0
+TookOnly d old new = (k : NumberedMessage) → HasTaken new k → (due_of k ≡ d) ⊎ HasTaken old k
+
 -- The messages taken are those taken before.
 abbrev pub TookSame : {A : Type 0} → Found A → Found A → Type 0
 TookSame old new = (new.entries ≡ old.entries) × (new.summaries ≡ old.summaries)

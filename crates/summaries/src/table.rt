@@ -35,7 +35,7 @@ impl<'g, G: Allocator, A: Allocator + Copy, S: PathSet<A>> Table<'g, G, A, S> {
     ghost use Rattle.summaries.specs.Mails.{mail};
     ghost use Rattle.summaries.specs.Dues.{due_of};
     ghost use Rattle.summaries.specs.Found.{HasTaken};
-    ghost use Rattle.summaries.specs.Tables.{sent, IsTable, IsNew, IsQuiet, StaysAs, TookAlso, TookSame, fault_of, failed_by, work_left};
+    ghost use Rattle.summaries.specs.Tables.{sent, IsTable, IsNew, IsQuiet, StaysAs, TookAlso, TookOnly, TookSame, fault_of, failed_by, work_left};
 
     /// The table of a procedure, which has taken nothing yet, and takes no memory.
     pub fn new(alloc: A, graphs: &'g Graphs<G>, procedure: u8, limit: EdgeLimit) -> Self
@@ -61,6 +61,7 @@ impl<'g, G: Allocator, A: Allocator + Copy, S: PathSet<A>> Table<'g, G, A, S> {
         requires { IsTable S.members self.old }
         ensures table { IsTable S.members self.new }
         ensures taken { OnOk result (TookAlso (Entry caller a) self.old.found self.new.found) }
+        ensures took { TookOnly (Entry caller a) self.old.found self.new.found }
         ensures sent { OnOk result (sent self.new.found ≡ sent self.old.found) }
         ensures stays { StaysAs self.old self.new }
         ensures fault { self.new.fault ≡ fault_of result }
@@ -78,6 +79,7 @@ impl<'g, G: Allocator, A: Allocator + Copy, S: PathSet<A>> Table<'g, G, A, S> {
         requires { IsTable S.members self.old }
         ensures table { IsTable S.members self.new }
         ensures taken { OnOk result (TookAlso (Summary p a b) self.old.found self.new.found) }
+        ensures took { TookOnly (Summary p a b) self.old.found self.new.found }
         ensures sent { OnOk result (sent self.new.found ≡ sent self.old.found) }
         ensures stays { StaysAs self.old self.new }
         ensures fault { self.new.fault ≡ fault_of result }

@@ -9,7 +9,7 @@ ghost use Rattle.flow_graph.specs.Calls.{entry_of};
 ghost use Rattle.summaries.specs.declared.due.Due.TheVariants.{Entry, Summary};
 ghost use Rattle.summaries.specs.Found.{HasExit, HasSite, site};
 ghost use Rattle.summaries.specs.Grows.{triple_of};
-ghost use Rattle.summaries.specs.Tables.{sent, Holds, IsReached, HasMore, TookAlso, TookSame, StaysAs, IsLess};
+ghost use Rattle.summaries.specs.Tables.{sent, Holds, IsReached, HasMore, TookAlso, TookOnly, TookSame, StaysAs, IsLess};
 
 use crate::due::{Caller, Due};
 use crate::edge::{Call, Edge, Site};
@@ -142,6 +142,7 @@ impl<'g, G: Allocator, A: Allocator + Copy, S: PathSet<A>> Table<'g, G, A, S> {
         ensures limit { result ≡ Err TableFault.EdgeLimit → HasMore self.new.limit.edges (IsReached self.new) }
         ensures sent { OnOk result (sent self.new.found ≡ sent self.old.found) }
         ensures taken { OnOk result (TookAlso (Entry caller a) self.old.found self.new.found) }
+        ensures took { TookOnly (Entry caller a) self.old.found self.new.found }
         ensures stays { StaysAs self.old self.new }
         ensures fault { self.new.fault ≡ self.old.fault }
     {
@@ -177,6 +178,7 @@ impl<'g, G: Allocator, A: Allocator + Copy, S: PathSet<A>> Table<'g, G, A, S> {
         ensures limit { result ≡ Err TableFault.EdgeLimit → HasMore self.new.limit.edges (IsReached self.new) }
         ensures sent { OnOk result (sent self.new.found ≡ sent self.old.found) }
         ensures taken { OnOk result (TookAlso (Summary call.callee call.entered b) self.old.found self.new.found) }
+        ensures took { TookOnly (Summary call.callee call.entered b) self.old.found self.new.found }
         ensures stays { StaysAs self.old self.new }
         ensures fault { self.new.fault ≡ self.old.fault }
     {

@@ -7,7 +7,7 @@ use Rattle.language.specs.Sequential.{IsDue}
 use Rattle.summaries.specs.declared.due.Caller.TheVariants.{Starter}
 use Rattle.summaries.specs.declared.due.Due.TheVariants.{Entry}
 use Rattle.summaries.specs.declared.table_fault.TableFault.TheVariants.{EdgeLimit}
-use Rattle.summaries.specs.Waiting.{mail}
+use Rattle.summaries.specs.Mails.{mail}
 use Rattle.summaries.specs.Dues.{due_of}
 use Rattle.summaries.specs.Found.{HasTaken}
 use Rattle.summaries.specs.Tables.{sent, IsQuiet}

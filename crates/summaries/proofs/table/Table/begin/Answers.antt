@@ -74,3 +74,16 @@ pub returns-clause-taken : goal.returns-clause-taken
 returns-clause-taken g c =
     let self = c.args.self.now in
     begun_also self.graph.now self.procedure self.found c.add.new.self c.tell_exits.new.given c.reach.new.pending c.args.a c.args.caller c.in_ok-add.ensures.added c.in_ok-add.ensures.others
+
+pub returns-in_err-reach-clause-took : goal.returns-in_err-reach-clause-took
+returns-in_err-reach-clause-took g c = λ k.
+    let self = c.args.self.now in
+    (begun_also self.graph.now self.procedure self.found c.add.new.self self.found.given c.reach.new.pending c.args.a c.args.caller c.in_ok-add.ensures.added c.in_ok-add.ensures.others k).0
+
+pub returns-in_err-tell_exits-clause-took : goal.returns-in_err-tell_exits-clause-took
+returns-in_err-tell_exits-clause-took g c = λ k.
+    let self = c.args.self.now in
+    (begun_also self.graph.now self.procedure self.found c.add.new.self c.tell_exits.new.given c.reach.new.pending c.args.a c.args.caller c.in_ok-add.ensures.added c.in_ok-add.ensures.others k).0
+
+pub returns-clause-took : goal.returns-clause-took
+returns-clause-took g c = λ k. (returns-clause-taken g c k).0

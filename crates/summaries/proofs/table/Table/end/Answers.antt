@@ -1,4 +1,4 @@
-use Rattle.std.proofs.Common.{◌≡◌, ◌⊎◌, refl, sym, subst}
+use Rattle.std.proofs.Common.{◌≡◌, ◌⊎◌, inr, refl, sym, subst}
 use Rattle.std.proofs.lemmas.Result.{IfOk-weaker}
 use Rattle.language.specs.Flow.{Member}
 use Rattle.path_sets.specs.Triples.{Triple}
@@ -60,3 +60,14 @@ returns-clause-taken g c =
     IfOk-weaker c.go_on_at_each.result _ _
     (λ _ _. ended_also self.graph.now self.procedure f c.add.new.self c.go_on_at_each.new.pending c.args.call c.args.b c.in_ok-add.ensures.added c.in_ok-add.ensures.others)
     c.go_on_at_each.ensures.ok
+
+pub returns-in_err-add-clause-took : goal.returns-in_err-add-clause-took
+returns-in_err-add-clause-took g c = λ k m.
+    let f = c.args.self.now.found in
+    let h : Found g.row.A.Denot = record { entries = f.entries; summaries = c.add.new.self; sites = f.sites; exits = f.exits; pairs = f.pairs; given = f.given; pending = f.pending } in
+    inr (taken_as h f (λ a. refl) (λ j. sym (c.in_err-add.ensures.err j)) k m)
+
+pub returns-clause-took : goal.returns-clause-took
+returns-clause-took g c = λ k.
+    let self = c.args.self.now in
+    (ended_also self.graph.now self.procedure self.found c.add.new.self c.go_on_at_each.new.pending c.args.call c.args.b c.in_ok-add.ensures.added c.in_ok-add.ensures.others k).0
