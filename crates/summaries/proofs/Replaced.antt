@@ -1,6 +1,7 @@
--- A list in which one item is replaced.
-use Rattle.std.proofs.Common.{◌≡◌, ◌<◌, ◌⊎◌, ℕ, zero, suc, List, [], ◌∷◌, length, Some, slice_get, slice_set, inl, inr, refl, sym, ap, subst, arith}
+-- A list in which one item is replaced, or that has one more.
+use Rattle.std.proofs.Common.{◌≡◌, ◌<◌, ◌⊎◌, ℕ, zero, suc, List, [], ◌∷◌, ◌++◌, map, length, Some, slice_get, slice_set, inl, inr, refl, sym, ap, subst, arith}
 use Rattle.std.proofs.lemmas.Option.{none-some}
+use Rattle.language.specs.Flow.{Member}
 use Rattle.summaries.proofs.Indexed.{same_inside}
 
 module _ {A : Type 0} where
@@ -30,3 +31,40 @@ module _ {A : Type 0} where
     where
       move : (n : ℕ) (z : A) → n ≡ i → z ≡ y → P n z
       move n z a b = subst (λ m. P m z) (sym a) (subst (P i) (sym b) new)
+
+  -- what is there in a list with one more item is that item, or was there before
+  pub pushed_get : (xs : List A) (y : A) (q : ℕ) (x : A) → slice_get (xs ++ y ∷ []) q ≡ Some x → ((q ≡ length xs) × (x ≡ y)) ⊎ (slice_get xs q ≡ Some x)
+  pushed_get [] y zero x e = inl (refl, sym (same_inside y x e))
+  pushed_get [] y (suc q) x e = absurd (none-some x e)
+  pushed_get (z ∷ zs) y zero x e = inr e
+  pushed_get (z ∷ zs) y (suc q) x e = elim (pushed_get zs y q x e) [ inl h ↦ inl (ap suc h.0, h.1) | inr h ↦ inr h ]
+
+  -- what holds of each item and of one more holds of each item then
+  pub each_pushed : (P : ℕ → A → Type 0) (xs : List A) (y : A) → ((q : ℕ) (x : A) → slice_get xs q ≡ Some x → P q x) → P (length xs) y
+      → (q : ℕ) (x : A) → slice_get (xs ++ y ∷ []) q ≡ Some x → P q x
+  each_pushed P xs y each new q x e =
+      elim (pushed_get xs y q x e) [
+        | inl h ↦ subst (λ m. P m x) (sym h.0) (subst (P (length xs)) (sym h.1) new)
+        | inr h ↦ each q x h
+      ]
+
+  -- a list whose images stand at the places of another one, as long, has that one as its images
+  pub map_is : {B : Type 0} (f : A → B) (xs : List A) (ys : List B) → length xs ≡ length ys → ((q : ℕ) (x : A) → slice_get xs q ≡ Some x → slice_get ys q ≡ Some (f x)) → map f xs ≡ ys
+  map_is f [] [] long each = refl
+  map_is f [] (y ∷ ys) long each = absurd (omega (arith, long))
+  map_is f (x ∷ xs) [] long each = absurd (omega (arith, long))
+  map_is f (x ∷ xs) (y ∷ ys) long each =
+      let first : f x ≡ y = sym (same_inside y (f x) (each 0 x refl)) in
+      let rest : map f xs ≡ ys = map_is f xs ys (omega (arith, long)) (λ q z e. each (suc q) z e) in
+      λ j. first j ∷ rest j
+
+  -- an item that is there is a member
+  pub got_member : (xs : List A) (q : ℕ) (x : A) → slice_get xs q ≡ Some x → Member x xs
+  got_member [] q x e = absurd (none-some x e)
+  got_member (y ∷ ys) zero x e = inl (sym (same_inside y x e))
+  got_member (y ∷ ys) (suc q) x e = inr (got_member ys q x e)
+
+  pub member_got : (xs : List A) (x : A) → Member x xs → (q : ℕ) × (slice_get xs q ≡ Some x) × (q < length xs)
+  member_got [] x m = absurd m
+  member_got (y ∷ ys) x (inl e) = (0, ap Some (sym e), omega arith)
+  member_got (y ∷ ys) x (inr m) = let (q, is, below) = member_got ys x m in (suc q, is, omega (arith, below))

@@ -26,13 +26,15 @@ use Rattle.summaries.specs.declared.due.Due.{Due}
 use Rattle.summaries.specs.declared.due.Due.TheVariants.{Entry, Summary}
 use Rattle.summaries.specs.declared.given.Mail.{Mail}
 use Rattle.summaries.specs.declared.table.Table.{Table}
-use Rattle.summaries.specs.declared.table_fault.TableFault.TheVariants.{EdgeLimit}
+use Rattle.summaries.specs.declared.table_fault.TableFault.{TableFault}
+use Rattle.summaries.specs.declared.table_fault.TableFault.TheVariants.{Memory, EdgeLimit}
+use Rattle.summaries.specs.declared.no_verdict.NoVerdict.TheVariants as verdict
 use Rattle.summaries.specs.Mails.{mail}
 use Rattle.summaries.specs.Dues.{due_of}
 use Rattle.summaries.specs.Found.{HasTaken}
-use Rattle.summaries.specs.Tables.{sent, IsTable, IsQuiet, StaysAs, TookAlso, TookSame}
-use Rattle.summaries.specs.Tabulated.{HasMoreEdges}
-use Rattle.summaries.specs.Together.{opening, graph_of, IsReceived, IsTaken, TookOnly, HaveLimit, AreTables, AreQuietBefore}
+use Rattle.summaries.specs.Tables.{sent, IsTable, IsQuiet, StaysAs, TookAlso, TookOnly, TookSame}
+use Rattle.summaries.specs.Tabulated.{no_verdict, HasMoreEdges}
+use Rattle.summaries.specs.Together.{opening, graph_of, IsReceived, IsTaken, HaveLimit, AreNew, AreTables, AreQuietBefore}
 use Rattle.summaries.proofs.Replaced.{get_set, set_get}
 use Rattle.summaries.proofs.Indexed.{same_inside}
 use Rattle.summaries.proofs.Sweeping.{same_taken, same_taken_back, Becomes, replaced}
@@ -233,12 +235,29 @@ pub nearer : (r n i : ℕ) → i < n → steps_left r n (i + 1) < steps_left r n
 nearer r n i h = omega (arith, h)
 
 -- what an answer that failed says
-pub fault_told : {F : Type 0} (P : F → Type 0) (r : Result (Unit {0}) F) (fault : F) → IsErrAnd r P → r ≡ Err fault → P fault
+pub fault_told : {T F : Type 0} (P : F → Type 0) (r : Result T F) (fault : F) → IsErrAnd r P → r ≡ Err fault → P fault
 fault_told P r fault told is = subst (λ s. IsErrAnd s P) is told
 
 pub refused : {F : Type 0} (P : Type 0) (Q : F → Type 0) (r : Result (Unit {0}) F) → IsErrAnd r Q → OnOk r P
 refused P Q (Ok _) told = absurd told
 refused P Q (Err _) told = tt
+
+-- the fault of a table for which there is no verdict for the limit
+pub limit_told : (fault : TableFault) → verdict.EdgeLimit ≡ no_verdict fault → fault ≡ EdgeLimit
+limit_told Memory e = let no : ⊥ = cc in absurd no
+limit_told EdgeLimit e = refl
+
+-- tables that are new have taken nothing but for the opening
+pub new_tables : {G A S : Type 0} (members : S → List Triple) (p : Program) (ts : List (Table G A S)) → AreDrawnFrom p (map graph_of ts) → AreNew members ts → AreTables members p (λ x. x ≡ opening) ts
+new_tables members p ts drawn new = record {
+  drawn = drawn;
+  table = λ q t is. (new.fresh q t is).table;
+  whole = λ q t is. (new.fresh q t is).fault;
+  number = new.number;
+  due = λ q t k is taken. absurd ((new.fresh q t is).nothing k taken);
+  opened = λ t is. inl refl;
+  sent = λ q t x is m. absurd (subst (Member x) (new.fresh q t is).answered m);
+}
 
 -- where there are no tables, nothing is left aside
 pub none_aside : {G A S : Type 0} (members : S → List Triple) (p : Program) (Aside : Mail → Type 0) (ts : List (Table G A S)) → length ts ≡ 0 → AreTables members p Aside ts → AreTables members p (λ x. ⊥) ts

@@ -1,9 +1,9 @@
 -- Where no table owes a message, the tables have the entries, the pairs and the path edges of their procedures.
-use Rattle.std.proofs.Common.{◌≡◌, ◌≤◌, ◌<◌, ◌↔◌, ◌⊎◌, ℕ, zero, suc, true, List, [], ◌∷◌, Option, Some, None, map, slice_get, length, inl, inr, refl, sym, ap, ◌∙◌, subst, arith}
+use Rattle.std.proofs.Common.{◌≡◌, ◌≤◌, ◌<◌, ◌↔◌, ◌⊎◌, ℕ, nat_eq, zero, suc, true, List, [], ◌∷◌, Option, Some, None, map, slice_get, length, inl, inr, refl, sym, ap, ◌∙◌, subst, arith}
 use Rattle.std.proofs.lemmas.Option.{none-some, slice_get_within}
 use Rattle.std.proofs.lemmas.List.{length-map}
 use Rattle.language.specs.Step.{Program}
-use Rattle.language.specs.Sequential.{Caller, starter, Valuation, IsDue, Entered}
+use Rattle.language.specs.Sequential.{Caller, starter, caller, Valuation, IsDue, Entered}
 use Rattle.language.specs.Flow.{Member}
 use Rattle.language.proofs.Entering.{entered_there}
 use Rattle.language.proofs.Gathered.{pair_exit}
@@ -14,16 +14,25 @@ use Rattle.flow_graph.specs.Numbers.{NumberedMessage, numbered_entry, Reaches, S
 use Rattle.flow_graph.specs.declared.graph.Graph.{Graph}
 use Rattle.flow_graph.proofs.Taking.{edges_taken}
 use Rattle.flow_graph.proofs.Pairs.{edge_numbers, pairs_left, bad_left, entries_taken}
+use Rattle.summaries.specs.declared.due.Caller as callers
+use Rattle.summaries.specs.declared.due.Caller.TheVariants.{Starter, Proc}
+use Rattle.summaries.specs.declared.summaries.Summary.{Summary}
 use Rattle.summaries.specs.declared.table.Table.{Table}
+use Rattle.summaries.specs.Under.{under}
 use Rattle.summaries.specs.Mails.{mail}
-use Rattle.summaries.specs.Dues.{due_of}
+use Rattle.summaries.specs.Dues.{caller_of, due_of}
 use Rattle.summaries.specs.Found.{pair, HasTaken}
 use Rattle.summaries.specs.Tables.{sent, IsTable, IsQuiet}
-use Rattle.summaries.specs.Tabulated.{HasMoreEdges}
-use Rattle.summaries.specs.Together.{graph_of, IsTaken, HaveLimit, AreTables, AreQuietBefore}
+use Rattle.summaries.specs.Tabulated.{IsSummary, HasMoreEdges}
+use Rattle.summaries.specs.Together.{graph_of, IsTaken, HaveLimit, IsReadOff, AreReadOff, AreTables, AreQuietBefore}
 use Rattle.summaries.proofs.Once.{no_longer}
 use Rattle.summaries.proofs.Steps.{there_too, get_map, as_many}
 use Rattle.summaries.proofs.Indexed.{same_inside}
+
+-- each caller has its number
+caller_is : (by : callers.Caller) → (from : Caller) × (caller_of from ≡ by)
+caller_is Starter = (starter, refl)
+caller_is (Proc q) = (caller q, refl)
 
 -- where there is an item there is a first one
 first_too : {X : Type 0} (xs : List X) (q : ℕ) (x : X) → slice_get xs q ≡ Some x → (y : X) × (slice_get xs 0 ≡ Some y)
@@ -60,7 +69,7 @@ module _ {G A S : Type 0} (members : S → List Triple) (p : Program) (ts : List
   pub edge_table : (q n : ℕ) → HasMoreEdges p q n → q < length ts
   edge_table q n (xs, once, more, all) =
       let (x, is) = has_one n xs more in
-      let (a, v, point, edge, told) = all x is in
+      let (a, v, point, edge, ea, en, ev) = all x is in
       entered_table q a edge.0
 
   -- where some pair is bad there is a first table
@@ -77,8 +86,8 @@ module _ {G A S : Type 0} (members : S → List Triple) (p : Program) (ts : List
     opening : (t : Table G A S) → slice_get ts 0 ≡ Some t → T 0 (numbered_entry starter 0)
     opening t is = elim (are.opened t is) [ inl none ↦ absurd none | inr received ↦ received (numbered_entry starter 0) refl ]
 
-    due : (q : ℕ) (k : NumberedMessage) → T q k → IsNumberOf (IsDue p q) k
-    due q k h = by (slice_get ts q) refl h
+    is_due : (q : ℕ) (k : NumberedMessage) → T q k → IsNumberOf (IsDue p q) k
+    is_due q k h = by (slice_get ts q) refl h
       where
         by : (o : Option (Table G A S)) → slice_get ts q ≡ o → IsTaken o k → IsNumberOf (IsDue p q) k
         by None e h = absurd h
@@ -103,14 +112,14 @@ module _ {G A S : Type 0} (members : S → List Triple) (p : Program) (ts : List
       pub table_entries : (a : ℕ) → ((from : Caller) × HasTaken t.found (numbered_entry from a)) ↔ IsNumberOfEntry p q a
       table_entries a =
           subst (λ (o : Option (Table G A S)). ((from : Caller) × IsTaken o (numbered_entry from a)) ↔ IsNumberOfEntry p q a) is
-          (entries_taken p (map graph_of ts) T are.drawn.0 are.drawn.2 started sent_taken due q a)
+          (entries_taken p (map graph_of ts) T are.drawn.0 are.drawn.2 started sent_taken is_due q a)
 
       -- the pairs that it keeps are those of its procedure
       pub table_pairs : (a b : ℕ) → Member (pair a b) t.found.pairs.keys ↔ AreNumbersOfPair p q a b
       table_pairs a b =
           let pairs : Leaves t.graph.now (HasTaken t.found) a b ↔ AreNumbersOfPair p q a b =
           subst (λ (o : Option (Table G A S)). Leaves t.graph.now (IsTaken o) a b ↔ AreNumbersOfPair p q a b) is
-          (pairs_left p (map graph_of ts) T are.drawn.0 are.drawn.2 started sent_taken due are.drawn.1 q t.graph.now here a b) in
+          (pairs_left p (map graph_of ts) T are.drawn.0 are.drawn.2 started sent_taken is_due are.drawn.1 q t.graph.now here a b) in
           let left = (quiet_at q t is).leaves a b in
           (λ m. pairs.0 (left.0 m), λ h. left.1 (pairs.1 h))
 
@@ -119,7 +128,7 @@ module _ {G A S : Type 0} (members : S → List Triple) (p : Program) (ts : List
       table_edges a n v =
           let edges : Reaches t.graph.now (HasTaken t.found) a n v ↔ AreNumbersOfEdge p q a n v =
           subst (λ (o : Option (Table G A S)). Reaches t.graph.now (IsTaken o) a n v ↔ AreNumbersOfEdge p q a n v) is
-          (let taken = edges_taken p (map graph_of ts) T are.drawn.0 are.drawn.2 started sent_taken due q t.graph.now here a n v in
+          (let taken = edges_taken p (map graph_of ts) T are.drawn.0 are.drawn.2 started sent_taken is_due q t.graph.now here a n v in
           let numbers = edge_numbers p q a n v in
           (λ r. numbers.0 (taken.0 r), λ h. taken.1 (numbers.1 h))) in
           let kept = (quiet_at q t is).edges a n v in
@@ -140,6 +149,43 @@ module _ {G A S : Type 0} (members : S → List Triple) (p : Program) (ts : List
     -- some pair is bad where some pair that the first table keeps has the bit
     pub table_bad : (t : Table G A S) → slice_get ts 0 ≡ Some t → (bad : ℕ) → SomeBad p bad ↔ ((a : ℕ) × (b : ℕ) × Member (pair a b) t.found.pairs.keys × (bit_of b bad ≡ true))
     table_bad t is bad =
-        let bits = bad_left p (map graph_of ts) T are.drawn.0 are.drawn.2 (opening t is) sent_taken due are.drawn.1 t.graph.now (get_map graph_of ts 0 t is) bad in
+        let bits = bad_left p (map graph_of ts) T are.drawn.0 are.drawn.2 (opening t is) sent_taken is_due are.drawn.1 t.graph.now (get_map graph_of ts 0 t is) bad in
         (λ h. let (a, b, leaves, bit) = bits.0 h in (a, b, ((quiet_at 0 t is).leaves a b).1 (subst (λ (o : Option (Table G A S)). Leaves t.graph.now (IsTaken o) a b) is leaves), bit),
         λ h. bits.1 (h.0, h.1, subst (λ (o : Option (Table G A S)). Leaves t.graph.now (IsTaken o) h.0 h.1) (sym is) (((quiet_at 0 t is).leaves h.0 h.1).0 h.2), h.3))
+
+    module _ (ss : List (Summary A)) (as_long : length ss ≡ length ts) (read : AreReadOff ts ss) where
+      -- a summary and its table
+      table_of : (q : ℕ) (s : Summary A) → slice_get ss q ≡ Some s → (t : Table G A S) × (slice_get ts q ≡ Some t) × IsReadOff t s
+      table_of q s is = let (t, there) = there_too ss ts q s as_long is in (t, there, read q t s there is)
+
+      -- what is read off are the summaries of the procedures
+      pub all_summaries : (q : ℕ) (s : Summary A) → slice_get ss q ≡ Some s → IsSummary p q s
+      all_summaries q s is =
+          let (t, there, off) = table_of q s is in
+          record {
+            ascend = off.ascend;
+            entries = λ a. (
+              λ m. let (by, taken) = (off.entries a).0 m in
+                  let (from, same) = caller_is by in
+                  (table_entries q t there a).0 (from, subst (λ c. Member c (under nat_eq t.found.entries.by_key a)) (sym same) taken),
+              λ h. let (from, taken) = (table_entries q t there a).1 h in (off.entries a).1 (caller_of from, taken),
+            );
+            pairs_ascend = off.pairs_ascend;
+            pairs = λ a b. (
+              λ m. (table_pairs q t there a b).0 ((off.pairs (pair a b)).0 m),
+              λ h. (off.pairs (pair a b)).1 ((table_pairs q t there a b).1 h),
+            );
+          }
+
+      -- and some pair is bad where the program has a bad pair
+      pub all_bad : (bad : ℕ)
+          → ((s : Summary A) × (slice_get ss 0 ≡ Some s) × ((a : ℕ) × (b : ℕ) × Member (pair a b) s.pairs.items × (bit_of b bad ≡ true))) ↔ SomeBad p bad
+      all_bad bad = (
+        λ h. let (t, there, off) = table_of 0 h.0 h.1 in
+            let (a, b, m, bit) = h.2 in
+            (table_bad t there bad).1 (a, b, (off.pairs (pair a b)).0 m, bit),
+        λ h. let (t, there) = got ts 0 (bad_table bad h) in
+            let (s, is) = there_too ts ss 0 t (sym as_long) there in
+            let (a, b, m, bit) = (table_bad t there bad).0 h in
+            (s, is, (a, b, ((read 0 t s there is).pairs (pair a b)).1 m, bit)),
+      )

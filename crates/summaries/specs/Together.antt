@@ -27,10 +27,6 @@ use Rattle.summaries.specs.Tabulated.{IsAscending, ArePairsAscending}
 abbrev pub opening : Mail
 opening = mail 0 (Entry Starter 0)
 
--- Each message that the table has taken is this one, or was taken before.
-abbrev pub TookOnly : {A : Type 0} → Due → Found A → Found A → Type 0
-TookOnly d old new = (k : NumberedMessage) → HasTaken new k → (due_of k ≡ d) ⊎ HasTaken old k
-
 module _ {G A S : Type 0} where
   -- the flow graph of the table's procedure
   abbrev pub graph_of : Table G A S → Graph G

@@ -26,7 +26,7 @@ pub struct Table<'g, G: Allocator, A: Allocator, S: PathSet<A>> {
 }
 
 impl<'g, G: Allocator, A: Allocator + Copy, S: PathSet<A>> Table<'g, G, A, S> {
-    ghost use Rattle.std.specs.Prelude.{◌<◌, ◌≤◌, ◌⊎◌, ◌++◌, ◌∷◌, [], ℕ, length, slice_get, OnOk, OnErr, Ok, Err, IfOk, IfSome, IfNone};
+    ghost use Rattle.std.specs.Prelude.{◌<◌, ◌≤◌, ◌^◌, ◌⊎◌, ◌++◌, ◌∷◌, [], ℕ, length, slice_get, OnOk, OnErr, Ok, Err, IfOk, IfSome, IfNone};
     ghost use Rattle.std.specs.Bool.{OnTrue, OnFalse};
     ghost use Rattle.language.specs.Flow.{Member};
     ghost use Rattle.path_sets.specs.Triples.{Triple};
@@ -101,6 +101,7 @@ impl<'g, G: Allocator, A: Allocator + Copy, S: PathSet<A>> Table<'g, G, A, S> {
         ensures some { IfOk result (λ r. IfSome r (λ m. sent self.new.found ≡ sent self.old.found ++ mail m.0 m.1 ∷ [])) }
         ensures due { IfOk result (λ r. IfSome r (λ m. (k : NumberedMessage) → due_of k ≡ m.1 → Sends self.new.graph.now self.new.procedure (HasTaken self.new.found) m.0 k)) }
         ensures once { IfOk result (λ r. IfSome r (λ m. ¬ Member (mail m.0 m.1) (sent self.old.found))) }
+        ensures few { length (sent self.new.found) < 2 ^ 64 }
         ensures none { IfOk result (λ r. IfNone r (sent self.new.found ≡ sent self.old.found)) }
         ensures quiet { IfOk result (λ r. IfNone r (IsQuiet S.members self.new)) }
         ensures stays { StaysAs self.old self.new }

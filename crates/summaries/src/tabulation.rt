@@ -4,9 +4,9 @@ ghost use Rattle.std.specs.Prelude.{◌≡◌, ◌↔◌, ℕ, length, map, IfOk
 ghost use Rattle.language.specs.Step.{Program};
 ghost use Rattle.round_rewrite.specs.Law.{SomeBad};
 ghost use Rattle.flow_graph.specs.Graphs.{AreDrawnFrom};
-ghost use Rattle.summaries.specs.Tables.{sent, IsTable, StaysAs, TookAlso, fault_of};
+ghost use Rattle.summaries.specs.Tables.{sent, IsTable, StaysAs, TookAlso, TookOnly, fault_of};
 ghost use Rattle.summaries.specs.Tabulated.{AreSummaries, SomePairBad, HasMoreEdges};
-ghost use Rattle.summaries.specs.Together.{opening, graph_of, TookOnly, HaveLimit, AreNew, AreTables, AreQuietBefore};
+ghost use Rattle.summaries.specs.Together.{opening, graph_of, HaveLimit, AreNew, AreTables, AreQuietBefore};
 
 use crate::due::{Caller, Due};
 use crate::edge_limit::EdgeLimit;

@@ -1,14 +1,33 @@
 -- One table more is that of the next graph.
+use Rattle.std.proofs.Common.{◌≡◌, ◌+◌, ◌∷◌, [], ◌++◌, ℕ, Some, length, slice_get, refl, sym, ap, ◌∙◌, subst, arith, length-append}
+use Rattle.summaries.specs.declared.table.Table.{Table}
+use Rattle.summaries.specs.Tables.{IsNew}
+use Rattle.summaries.specs.Together.{graph_of}
+use Rattle.summaries.proofs.Replaced.{each_pushed, map_is}
 use Rattle.summaries.proofs.tabulation.tables_of.Goals as goal
 
 pub loop-number-preserved : goal.loop-number-preserved
-loop-number-preserved g c = ?
+loop-number-preserved g c =
+    let pushed = c.in_ok-push.ensures.items in
+    let before = c.loop-number.tables.items in
+    let new = c.new.result in
+    let invariant = c.loop-number.invariant in
+    let place : c.in-Ok.procedure ≡ length before = c.in-Ok.ensures.1 ∙ sym invariant.count in
+    record {
+      count = omega (arith, invariant.count, ap length pushed, length-append before (new ∷ []));
+      fresh = λ q t is. each_pushed (λ n (u : Table g.row.G.Denot g.row.A.Denot g.row.S.Denot). IsNew g.S.PathSet.members u) before new invariant.fresh c.new.ensures.new q t (subst (λ l. slice_get l q ≡ Some t) pushed is);
+      numbered = λ q t is. each_pushed (λ n (u : Table g.row.G.Denot g.row.A.Denot g.row.S.Denot). u.procedure ≡ n) before new invariant.numbered (c.new.ensures.procedure ∙ place) q t (subst (λ l. slice_get l q ≡ Some t) pushed is);
+      limits = λ q t is. each_pushed (λ n (u : Table g.row.G.Denot g.row.A.Denot g.row.S.Denot). u.limit.edges ≡ c.args.limit.edges) before new invariant.limits (ap (λ l. l.edges) c.new.ensures.limit) q t (subst (λ l. slice_get l q ≡ Some t) pushed is);
+      graphs = λ q t is. each_pushed (λ n (u : Table g.row.G.Denot g.row.A.Denot g.row.S.Denot). slice_get c.args.graphs.now.graphs.items n ≡ Some u.graph.now) before new invariant.graphs (subst (λ n. slice_get c.args.graphs.now.graphs.items n ≡ Some new.graph.now) place c.new.ensures.graph) q t (subst (λ l. slice_get l q ≡ Some t) pushed is);
+    }
 
 pub returns-clause-new : goal.returns-clause-new
-returns-clause-new g c = ?
+returns-clause-new g c = record { fresh = c.loop-number.invariant.fresh; number = c.loop-number.invariant.numbered; }
 
 pub returns-clause-graphs : goal.returns-clause-graphs
-returns-clause-graphs g c = ?
+returns-clause-graphs g c =
+    map_is graph_of c.loop-number.tables.items c.args.graphs.now.graphs.items
+    (omega (arith, c.loop-number.invariant.count, c.loop-number-test.false, c.loop-number.auto.number-end, c.len-number-end.ensures)) c.loop-number.invariant.graphs
 
 pub returns-clause-limit : goal.returns-clause-limit
-returns-clause-limit g c = ?
+returns-clause-limit g c = c.loop-number.invariant.limits

@@ -1,0 +1,52 @@
+-- The pair that is found has the bit; where none is found, no pair of the first procedure has it.
+use Rattle.std.proofs.Common.{◌≡◌, ◌≤◌, true, Some, slice_get, get_or, length, inl, inr, refl, sym, ap, ◌∙◌, subst, arith, true≢false}
+use Rattle.std.proofs.Math.Nat.{eq-or-lt_of_le}
+use Rattle.std.proofs.lemmas.Option.{slice_get-get_or, get_or_from_slice_get}
+use Rattle.language.specs.Flow.{Member}
+use Rattle.flow_graph.specs.Bits.{bit_of}
+use Rattle.summaries.specs.declared.pair.Pair.{Pair}
+use Rattle.summaries.specs.declared.summaries.Summary.{Summary}
+use Rattle.summaries.specs.Found.{pair}
+use Rattle.summaries.proofs.Indexed.{same_inside}
+use Rattle.summaries.proofs.Replaced.{got_member, member_got}
+use Rattle.summaries.proofs.summaries.Summaries.bad.Given.{Over}
+use Rattle.summaries.proofs.summaries.Summaries.bad.Goals as goal
+use Rattle.summaries.proofs.summaries.Summaries.bad.Goals.{In-Some}
+
+-- the first procedure's summary is there
+main_is : (g : Over) (c : In-Some g) → slice_get c.args.self.now.procedures.items 0 ≡ Some c.in-Some.main.now
+main_is g c = ap (λ l. slice_get l 0) (sym c.as_slice.ensures.value) ∙ sym c.in-Some.ensures.value
+
+pub returns-then-has_bit : goal.returns-then-has_bit
+returns-then-has_bit g c = (λ _. (c.in-Some.main.now, main_is g (goal.at.returns-then-has_bit g c).In-Some, (x.a, x.b, member, bit)), λ _. refl)
+  where
+    x : Pair
+    x = get_or c.deref-pair-items.result.now c.loop-pair.pair-index (pair 0 0)
+
+    member : Member x c.in-Some.main.now.pairs.items
+    member =
+        subst (Member x) c.deref-pair-items.ensures.value
+        (got_member c.deref-pair-items.result.now c.loop-pair.pair-index x (slice_get-get_or c.deref-pair-items.result.now c.loop-pair.pair-index (pair 0 0) c.loop-pair-test.true))
+
+    bit : bit_of x.b c.args.self.now.bad ≡ true
+    bit = sym c.has_bit.ensures ∙ c.if-has_bit.true
+
+pub loop-pair-preserved : goal.loop-pair-preserved
+loop-pair-preserved g c = λ q x below is bit.
+    elim (eq-or-lt_of_le (let within : q ≤ c.loop-pair.pair-index = omega (arith, below) in within)) [
+      | inr before ↦ c.loop-pair.invariant q x before is bit
+      | inl now ↦
+        let here : get_or c.deref-pair-items.result.now c.loop-pair.pair-index (pair 0 0) ≡ x = get_or_from_slice_get c.deref-pair-items.result.now c.loop-pair.pair-index x (pair 0 0) (ap (slice_get c.deref-pair-items.result.now) (sym now) ∙ is) in
+        true≢false (sym bit ∙ ap (λ (y : Pair). bit_of y.b c.args.self.now.bad) (sym here) ∙ sym c.has_bit.ensures ∙ c.if-has_bit.false)
+    ]
+
+pub returns : goal.returns
+returns g c = (
+  λ e. absurd (true≢false (sym e)),
+  λ h.
+      let (summary, is, found) = h in
+      let (a, b, m, bit) = found in
+      let same = same_inside summary c.in-Some.main.now (sym is ∙ main_is g (goal.at.returns g c).In-Some) in
+      let (q, there, below) = member_got c.deref-pair-items.result.now (pair a b) (subst (Member (pair a b)) (ap (λ (s : Summary g.row.A.Denot). s.pairs.items) same ∙ sym c.deref-pair-items.ensures.value) m) in
+      absurd (c.loop-pair.invariant q (pair a b) (omega (arith, below, c.loop-pair-test.false)) there bit),
+)
