@@ -1,6 +1,6 @@
 -- Messages that compare as equal are the same.
-use Rattle.std.proofs.Common.{zero, suc, take, drop, ◌≡◌, ◌≤◌, ◌+◌, ℕ, Bool, true, false, ◌&&◌, nat_eq, List, [], ◌∷◌, ◌++◌, length, if◌then◌else◌, inl, inr, refl, sym, ap, ◌∙◌, subst, true≢false, ◌||◌, not, Result, Ok, Err, arith}
-use Rattle.std.proofs.lemmas.List.{take-append-drop, take-append-le}
+use Rattle.std.proofs.Common.{zero, suc, take, drop, ◌≡◌, ◌≤◌, ◌<◌, ◌+◌, ℕ, Bool, true, false, ◌&&◌, nat_eq, List, [], ◌∷◌, ◌++◌, length, if◌then◌else◌, inl, inr, refl, sym, ap, ◌∙◌, subst, true≢false, ◌||◌, not, Result, Ok, Err, arith}
+use Rattle.std.proofs.lemmas.List.{take-append-drop, take-append-le, length-take-le}
 use Rattle.std.specs.Result.{IfOk, OnErr}
 use Rattle.std.specs.Bool.{OnTrue, OnFalse}
 use Rattle.std.specs.List.{list_any}
@@ -149,3 +149,7 @@ sent_none {K = K} ks n none = ap (take n) none ∙ by n
     by : (i : ℕ) → take {A = K} i [] ≡ []
     by zero = refl
     by (suc i) = refl
+
+-- as few messages were answered as are counted
+pub sent_few : {K : Type 0} (ks : List K) (n limit : ℕ) → n ≤ length ks → n < limit → length (take n ks) < limit
+sent_few ks n limit within few = let same = length-take-le n ks within in omega (arith, same, few)

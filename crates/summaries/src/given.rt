@@ -1,6 +1,6 @@
 //! The messages that a table has given.
 
-ghost use Rattle.std.specs.Prelude.{◌≡◌, ◌≤◌, ◌∷◌, [], ◌++◌, length, take, IfOk, OnErr, IfSome, IfNone};
+ghost use Rattle.std.specs.Prelude.{◌≡◌, ◌≤◌, ◌<◌, ◌^◌, ◌∷◌, [], ◌++◌, length, take, IfOk, OnErr, IfSome, IfNone};
 ghost use Rattle.std.specs.Bool.{OnTrue, OnFalse};
 ghost use Rattle.language.specs.Flow.{Member};
 ghost use Rattle.path_sets.specs.Triples.{NoneTwice, NoneTwice-prop};
@@ -24,6 +24,7 @@ pub(crate) struct Given<A: Allocator> {
     pub(crate) mails: IndexSet<Mail, BuildHasherDefault<FoldHasher>, A>,
     pub(crate) answered: usize,
     ghost within: { answered ≤ length mails.keys },
+    ghost few: { answered < 2 ^ 64 },
     ghost once: { NoneTwice mails.keys } by { NoneTwice-prop mails.keys },
 }
 

@@ -11,5 +11,6 @@ returns-clause-known g c = (fresh_or_known _ _ c.in_ok-insert.field-0 c.in_ok-in
 pub invariant_of-self : goal.invariant_of-self
 invariant_of-self g c = record {
   within = within_after (mail c.args.to c.args.due) _ _ _ c.insert.result c.insert.ensures.len c.insert.ensures.err c.args.self.now.within;
+  few = c.args.self.now.few;
   once = once_after _ _ _ c.insert.result c.insert.ensures.keys c.insert.ensures.err c.args.self.now.once;
 }
