@@ -95,7 +95,7 @@ module _ {A G : Type 0} (graph : Graph G) (q : ℕ) (f : Found A) (given : Given
         gives = λ s' k m. gives_kept (λ m. m ≡ mail s (Entry (Proc q) x)) f.given.mails.keys given.mails.keys gave (mail s' (due_of k)) m;
         given = λ s' k m. elim (gave.only (mail s' (due_of k)) m) [
           | inl is ↦ inr (subst (λ to. Sends graph q M to k) (sym (ap (λ m. m.to) is))
-          (subst (Sends graph q M s) (sym (due_told k (Entry (Proc q) x) (ap (λ m. m.due) is))) (asks e.entry e.point e.values s x back flow reached here enters)))
+              (subst (Sends graph q M s) (sym (due_told k (Entry (Proc q) x) (ap (λ m. m.due) is))) (asks e.entry e.point e.values s x back flow reached here enters)))
           | inr was ↦ inl was
         ];
         begun = λ from a h. inl h;

@@ -58,10 +58,10 @@ module _ {A G : Type 0} (graph : Graph G) (q : ℕ) (f : Found A) (entries : Gro
     λ h. elim (entry_or x (caller_of c) h) [ inl was ↦ inr was | inr is ↦ inl (λ i. Entry (sym is.1 i) (sym is.0 i)) ],
     λ w. elim w [
       | inl is ↦
-        let (same, at) = same_entry (caller_of c) from x a is in
-        subst (λ y. Member (caller_of c) (under nat_eq entries.by_key y)) at
-        (subst (λ d. Member d (under nat_eq entries.by_key a)) same
-        (added_is nat_eq exact_unsigned_eq (under nat_eq f.entries.by_key) (under nat_eq entries.by_key) a from added others))
+          let (same, at) = same_entry (caller_of c) from x a is in
+          subst (λ y. Member (caller_of c) (under nat_eq entries.by_key y)) at
+          (subst (λ d. Member d (under nat_eq entries.by_key a)) same
+          (added_is nat_eq exact_unsigned_eq (under nat_eq f.entries.by_key) (under nat_eq entries.by_key) a from added others))
       | inr was ↦ taken_begun (numbered_entry c x) was
     ],
   )

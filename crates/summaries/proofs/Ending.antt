@@ -55,8 +55,8 @@ module _ {A G : Type 0} (graph : Graph G) (q : ℕ) (f : Found A) (summaries : G
     λ h. elim (summary_or (call s x) y h) [ inl was ↦ inr was | inr is ↦ inl (λ i. Summary (sym is.0 i).callee (sym is.0 i).entered (sym is.1 i)) ],
     λ w. elim w [
       | inl is ↦
-        let (same, at) = same_summary s k.callee x k.entered y b is in
-        subst (λ j. Member y (under call_eq summaries.by_key j)) same (subst (λ z. Member z (under call_eq summaries.by_key k)) at left_so)
+          let (same, at) = same_summary s k.callee x k.entered y b is in
+          subst (λ j. Member y (under call_eq summaries.by_key j)) same (subst (λ z. Member z (under call_eq summaries.by_key k)) at left_so)
       | inr was ↦ taken_ended (numbered_summary s x y) was
     ],
   )

@@ -194,7 +194,7 @@ module _ {A G : Type 0} (graph : Graph G) (q : ℕ) (f : Found A) (es : List Tri
       | inl none ↦ absurd none
       | inr rest ↦ elim rest [
         | inl pend ↦ elim (was (edge a n v) pend) [ inl there ↦ inr (inl there) | inr is ↦ inl (ap triple_of is) ]
-        | inr worked ↦ inr (inr (record { flows = worked.flows; calls = worked.calls; leaves = worked.leaves; }))
+        | inr worked ↦ inr (inr (record { flows = worked.flows; calls = worked.calls; leaves = worked.leaves }))
       ]
     ];
     ended = λ s x b a n v at taken. old.ended s x b a n v at taken;

@@ -88,7 +88,13 @@ impl<'g, G: Allocator, A: Allocator + Copy, S: PathSet<A>> Table<'g, G, A, S> {
         if let Some(fault) = self.fault {
             return Err(fault);
         }
-        let ended = self.end(Call { callee: p, entered: a }, b);
+        let ended = self.end(
+            Call {
+                callee: p,
+                entered: a,
+            },
+            b,
+        );
         self.keep(ended)
     }
 

@@ -20,8 +20,8 @@ choices-preserved g c =
     let from = c.args.from in
     let k = c.choices.choice in (
       both (IsNextBefore k flow from) (IsAt from (next_of flow from.values k)) (IsNextBefore (k + 1) flow from) _ _ _ _ _ _ c.choices.invariant.0
-      (subst (λ next. Grows (IsAt from next) (g.S.PathSet.members c.choices.edges) (g.S.PathSet.members c.reach_next.new.edges) c.choices.pending.items c.reach_next.new.pending.items) c.next-next.ensures c.in_ok-reach_next.ensures.ok)
-      (next_more flow from k) (next_so_far flow from k),
+          (subst (λ next. Grows (IsAt from next) (g.S.PathSet.members c.choices.edges) (g.S.PathSet.members c.reach_next.new.edges) c.choices.pending.items c.reach_next.new.pending.items) c.next-next.ensures c.in_ok-reach_next.ensures.ok)
+          (next_more flow from k) (next_so_far flow from k),
       c.in_ok-reach_next.ensures.within,
       omega (arith, c.if-choice-last.false, c.last.ensures),
     )

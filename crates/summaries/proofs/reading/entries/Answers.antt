@@ -25,9 +25,9 @@ loop-entry-preserved g c =
     subst (λ l. c.if-not-is_empty.entries.items ≡ filter p (take (i + 1) l)) same
     (elim c.if-not-is_empty.branch [
       | then-not-is_empty+in_ok-push w ↦
-        ap (λ v. v.items) w.entries-is ∙ w.in_ok-push.ensures.items ∙ ap (λ l. l ++ x ∷ []) so_far ∙ sym (more ∙ ap (λ b. filter p (take i items) ++ cond (not b) (x ∷ []) []) w.if-not-is_empty.true)
+          ap (λ v. v.items) w.entries-is ∙ w.in_ok-push.ensures.items ∙ ap (λ l. l ++ x ∷ []) so_far ∙ sym (more ∙ ap (λ b. filter p (take i items) ++ cond (not b) (x ∷ []) []) w.if-not-is_empty.true)
       | else-not-is_empty w ↦
-        ap (λ v. v.items) w.entries-is ∙ so_far ∙ sym (more ∙ ap (λ b. filter p (take i items) ++ cond (not b) (x ∷ []) []) w.if-not-is_empty.false ∙ append-nil (filter p (take i items)))
+          ap (λ v. v.items) w.entries-is ∙ so_far ∙ sym (more ∙ ap (λ b. filter p (take i items) ++ cond (not b) (x ∷ []) []) w.if-not-is_empty.false ∙ append-nil (filter p (take i items)))
     ])
 
 -- the entries are the keys that have callers

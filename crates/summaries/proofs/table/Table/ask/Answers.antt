@@ -56,11 +56,11 @@ returns-clause-ok g c =
     let ds = g.S.PathSet.members c.go_on.new.edges in
     IfOk-weaker c.go_on.result _ _
     (λ _ grown.
-        let step = ask_step self.graph.now self.procedure self.found c.give.new.self c.add.new.self c.go_on.new.pending es ds e c.callee.result c.entry.result c.back.result (flow.Call c.args.call.now)
-        c.requires.holds.0 c.requires.edge c.requires.call (enters g c) (gave g c) c.in_ok-add.ensures.added c.in_ok-add.ensures.others (known g c grown) in (
-          still_sound self.graph.now self.procedure self.found _ es ds step c.requires.holds.0,
-          still_complete self.graph.now self.procedure self.found _ es ds step (λ t. t ≡ triple_of e) c.requires.holds.1,
-        ))
+    let step = ask_step self.graph.now self.procedure self.found c.give.new.self c.add.new.self c.go_on.new.pending es ds e c.callee.result c.entry.result c.back.result (flow.Call c.args.call.now)
+    c.requires.holds.0 c.requires.edge c.requires.call (enters g c) (gave g c) c.in_ok-add.ensures.added c.in_ok-add.ensures.others (known g c grown) in (
+      still_sound self.graph.now self.procedure self.found _ es ds step c.requires.holds.0,
+      still_complete self.graph.now self.procedure self.found _ es ds step (λ t. t ≡ triple_of e) c.requires.holds.1,
+    ))
     c.go_on.ensures.ok
 
 pub returns-clause-asked : goal.returns-clause-asked
@@ -72,9 +72,9 @@ returns-clause-asked g c =
     let ds = g.S.PathSet.members c.go_on.new.edges in
     IfOk-weaker c.go_on.result _ _
     (λ _ grown.
-        subst (λ (t : ℕ × ℕ × ℕ). HasSite found t.0 t.1 (site e.entry t.2 e.values)) (λ i. (c.callee.ensures i, c.entry.ensures i, c.back.ensures i))
-        (asked_site self.graph.now self.procedure self.found c.give.new.self c.add.new.self c.go_on.new.pending es ds e c.callee.result c.entry.result c.back.result (flow.Call c.args.call.now)
-        c.requires.holds.0 c.requires.edge c.requires.call (enters g c) (gave g c) c.in_ok-add.ensures.added c.in_ok-add.ensures.others (known g c grown)))
+    subst (λ (t : ℕ × ℕ × ℕ). HasSite found t.0 t.1 (site e.entry t.2 e.values)) (λ i. (c.callee.ensures i, c.entry.ensures i, c.back.ensures i))
+    (asked_site self.graph.now self.procedure self.found c.give.new.self c.add.new.self c.go_on.new.pending es ds e c.callee.result c.entry.result c.back.result (flow.Call c.args.call.now)
+    c.requires.holds.0 c.requires.edge c.requires.call (enters g c) (gave g c) c.in_ok-add.ensures.added c.in_ok-add.ensures.others (known g c grown)))
     c.go_on.ensures.ok
 
 pub returns-clause-only : goal.returns-clause-only

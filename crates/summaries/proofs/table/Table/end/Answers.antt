@@ -25,11 +25,11 @@ returns-clause-ok g c =
     let ds = g.S.PathSet.members c.go_on_at_each.new.edges in
     IfOk-weaker c.go_on_at_each.result _ _
     (λ _ grown.
-        let known = subst (λ ss. Grows (Each (λ y. IsBehind self.graph.now y c.args.b) ss) es ds f.pending.items c.go_on_at_each.new.pending.items) c.of.ensures grown in
-        let step = end_step self.graph.now self.procedure f c.add.new.self c.go_on_at_each.new.pending c.args.call c.args.b c.in_ok-add.ensures.added c.in_ok-add.ensures.others es ds c.requires.holds.0 known in (
-          still_sound self.graph.now self.procedure f _ es ds step c.requires.holds.0,
-          still_complete self.graph.now self.procedure f _ es ds step (λ t. ⊥) c.requires.holds.1,
-        ))
+    let known = subst (λ ss. Grows (Each (λ y. IsBehind self.graph.now y c.args.b) ss) es ds f.pending.items c.go_on_at_each.new.pending.items) c.of.ensures grown in
+    let step = end_step self.graph.now self.procedure f c.add.new.self c.go_on_at_each.new.pending c.args.call c.args.b c.in_ok-add.ensures.added c.in_ok-add.ensures.others es ds c.requires.holds.0 known in (
+      still_sound self.graph.now self.procedure f _ es ds step c.requires.holds.0,
+      still_complete self.graph.now self.procedure f _ es ds step (λ t. ⊥) c.requires.holds.1,
+    ))
     c.go_on_at_each.ensures.ok
 
 pub returns-clause-only : goal.returns-clause-only

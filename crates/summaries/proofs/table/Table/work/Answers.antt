@@ -47,7 +47,7 @@ returns-in-Call-clause-ok g c =
     (λ holds asked. (
       holds.0,
       worked_off last.graph.now last.procedure last.found (g.S.PathSet.members last.edges) e.entry e.point e.values
-      (called_worked last.graph.now last.procedure last.found (g.S.PathSet.members last.edges) e leaves call here asked) holds.1,
+          (called_worked last.graph.now last.procedure last.found (g.S.PathSet.members last.edges) e leaves call here asked) holds.1,
     ))
     c.ask.ensures.ok c.ask.ensures.asked
 
@@ -62,14 +62,14 @@ returns-in_default g c =
     let here = c.flow.ensures in
     let only = lead_only new.graph.now new.procedure f c.lead.new.pending es ds e c.flow.result.now c.in_ok-leave.ensures.ok.0 there here c.lead.ensures.only in record {
       ok = IfOk-weaker c.lead.result _ _
-      (λ _ grown.
+          (λ _ grown.
           let step = lead_step new.graph.now new.procedure f c.lead.new.pending es ds e c.flow.result.now c.in_ok-leave.ensures.ok.0 there here grown in (
             still_sound new.graph.now new.procedure f _ es ds step c.in_ok-leave.ensures.ok.0,
             worked_off new.graph.now new.procedure _ ds e.entry e.point e.values
-            (led_worked new.graph.now new.procedure (led_to new.graph.now new.procedure f c.lead.new.pending) ds e c.in_ok-leave.ensures.left c.flow.result.now here c.in_default.not-Call grown.all)
-            (still_complete new.graph.now new.procedure f _ es ds step (λ t. t ≡ triple_of e) c.in_ok-leave.ensures.ok.1),
+                (led_worked new.graph.now new.procedure (led_to new.graph.now new.procedure f c.lead.new.pending) ds e c.in_ok-leave.ensures.left c.flow.result.now here c.in_default.not-Call grown.all)
+                (still_complete new.graph.now new.procedure f _ es ds step (λ t. t ≡ triple_of e) c.in_ok-leave.ensures.ok.1),
           ))
-      c.lead.ensures.ok;
+          c.lead.ensures.ok;
       only = only;
       within = c.lead.ensures.within;
       limit = λ is.
@@ -78,13 +78,13 @@ returns-in_default g c =
       sent = IfOk-weaker c.lead.result _ _ (λ _ _. c.in_ok-leave.ensures.sent) c.lead.ensures.ok;
       taken = c.in_ok-leave.ensures.taken;
       less = IfOk-weaker c.lead.result _ _
-      (λ _ grown.
+          (λ _ grown.
           let pending = ap (λ v. length v.items) c.in_ok-leave.ensures.pending in
           let edges = ap (λ s. length (g.S.PathSet.members s)) c.in_ok-leave.ensures.edges in
           let more = grown.more in
           let longer = grown.longer in
           (omega (arith, pending, edges, more), omega (arith, edges, longer)))
-      c.lead.ensures.ok;
-      stays = let s = c.in_ok-leave.ensures.stays in record { graph = s.graph; procedure = s.procedure; limit = s.limit; };
+          c.lead.ensures.ok;
+      stays = let s = c.in_ok-leave.ensures.stays in record { graph = s.graph; procedure = s.procedure; limit = s.limit };
       fault = c.in_ok-leave.ensures.fault;
     }
