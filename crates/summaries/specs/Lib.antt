@@ -1,7 +1,2 @@
-pub mod Under
-pub mod Waiting
-pub mod Dues
 pub mod Found
-pub mod Grows
-pub mod Tables
 pub mod Tabulated

@@ -18,6 +18,7 @@ pub(crate) struct Summary<A: Allocator> {
 pub struct Summaries<A: Allocator> {
     pub(crate) procedures: Vec<Summary<A>, A>,
     pub(crate) bad: usize,
+    ghost never: { ⊥ },
 }
 
 impl<A: Allocator> Summaries<A> {

@@ -1,8 +1,0 @@
-use Rattle.std.proofs.Common.{◌≤◌, length, take}
-use Rattle.summaries.specs.Grows.{Grows, IsBehind}
-use Rattle.summaries.proofs.go_on.go_on.Given as goal
-
-abbrev pub invariant-loop-globals : goal.invariant-loop-globals
-invariant-loop-globals g l =
-    Grows (IsBehind (g.B.Body.moves l.body) l.site (take l.globals-index l.summaries)) (g.S.PathSet.members l.initial.edges) (g.S.PathSet.members l.edges) l.initial.pending.items l.pending.items
-    × (length (g.S.PathSet.members l.edges) ≤ l.limit.edges)

@@ -1,5 +1,0 @@
-use Rattle.summaries.proofs.Quiet.{is_quiet}
-use Rattle.summaries.proofs.laws.a_quiet_table_has_what_is_reached.Goals as goal
-
-pub returns : goal.returns
-returns g c = λ m q f edges sound complete none_pending. is_quiet m q f edges complete none_pending sound

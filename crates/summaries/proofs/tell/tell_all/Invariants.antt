@@ -1,6 +1,0 @@
-use Rattle.std.proofs.Common.{take}
-use Rattle.summaries.specs.Grows.{Gives, IsTold}
-use Rattle.summaries.proofs.tell.tell_all.Given as goal
-
-abbrev pub invariant-loop-caller : goal.invariant-loop-caller
-invariant-loop-caller g l = Gives (IsTold l.p l.a l.b (take l.caller-index l.callers)) l.initial.given.mails.keys l.given.mails.keys
