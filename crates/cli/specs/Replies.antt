@@ -9,7 +9,7 @@ use Rattle.round_rewrite.specs.Names.{rewritten_tree}
 use Rattle.cli.specs.declared.asked.Order.{Order}
 use Rattle.cli.specs.declared.asked.Order.TheVariants.{Check, Sequential}
 use Rattle.cli.specs.declared.refusal.Refusal.{Refusal}
-use Rattle.cli.specs.Verdict.{Answers, IsOverLimit}
+use Rattle.cli.specs.Verdict.{Answers, IsOver}
 use Rattle.cli.specs.Refused.{Stands, line_of, status_of}
 
 -- the text is that of a checked program, the bytes are the printed form of its rewriting for so many rounds, and within the
@@ -25,7 +25,7 @@ pub record IsSequential (text : List ℕ) (rounds : ℕ) (bytes : List ℕ) : Ty
 
 -- the reply with a status of at most 1 is what was asked for
 abbrev pub Replies : List ℕ → Order → List ℕ → ℕ → Type 0
-Replies text (Check rounds edges) bytes status = Answers text rounds bytes status
+Replies text (Check rounds edges) bytes status = Answers text rounds edges bytes status
 Replies text (Sequential rounds) bytes status = (status ≡ 0) × IsSequential text rounds bytes
 
 -- how many rounds were asked for
@@ -35,7 +35,7 @@ rounds_of (Sequential rounds) = rounds
 
 -- a check was asked for, and some procedure of the text's rewriting has more path edges than its limit
 abbrev pub IsPastLimit : List ℕ → Order → Type 0
-IsPastLimit text (Check rounds edges) = IsOverLimit text rounds edges
+IsPastLimit text (Check rounds edges) = IsOver text rounds edges
 IsPastLimit text (Sequential rounds) = ⊥
 
 -- Some refusal stands for so many rounds and this limit, and the reply is its line with its status.

@@ -1,8 +1,6 @@
 -- The sequential program of a text.
 use Rattle.std.specs.Prelude.{◌≡◌, ℕ, suc, List}
 use Rattle.language.specs.Tree.{Tree}
-use Rattle.language.specs.Resolve.{meaning_of}
-use Rattle.language.specs.Rounds.{Unsafe}
 use Rattle.syntax.specs.InGrammar.{InGrammar}
 use Rattle.syntax.specs.Text.{Text}
 use Rattle.scopes.specs.Checked.{IsChecked}

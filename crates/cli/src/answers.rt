@@ -2,7 +2,7 @@
 ghost use Rattle.std.specs.Prelude.{◌≡◌, ◌⊎◌, ◌≤◌, IfOk, codes};
 ghost use Rattle.cli.specs.Refused.{line_at, line_of, memory_line, status_of, unchecked_line, unread_line};
 ghost use Rattle.cli.specs.Replies.{IsPastLimit, IsSequential, Refuses, RefusesFor, Replies};
-ghost use Rattle.cli.specs.Verdict.{Answers, IsOverLimit};
+ghost use Rattle.cli.specs.Verdict.{Answers, IsOver};
 ghost use Rattle.cli.specs.Written.{Says, bytes_of};
 ghost use Rattle.cli.specs.declared.refusal.Refusal.TheVariants.{Unchecked, Unread};
 
@@ -90,8 +90,8 @@ fn refused<A: Allocator>(alloc: A, refusal: Refusal) -> Reply<A>
 
 /// The reply to a text that is to be checked.
 fn verdict<R: Alloc>(rt: &R, text: &[u8], rounds: u8, edges: u32) -> Reply<R::A>
-    ensures { Answers text.now rounds (bytes_of result) result.status
-        ⊎ RefusesFor text.now rounds (IsOverLimit text.now rounds edges) (bytes_of result) result.status }
+    ensures { Answers text.now rounds edges (bytes_of result) result.status
+        ⊎ RefusesFor text.now rounds (IsOver text.now rounds edges) (bytes_of result) result.status }
 {
     let alloc = rt.alloc();
     match judge::<_, OrderedEdges<&R::A>>(&alloc, text, rounds, edges) {
@@ -115,11 +115,12 @@ fn rewriting<R: Alloc>(rt: &R, text: &[u8], rounds: u8) -> Reply<R::A>
     }
 }
 
-/// The reply to a text. Where its status is 0 or 1, the text is that of a checked program: to `Check` the reply is `unsafe` with
-/// status 1 exactly where some run of at most so many rounds fails an assert, and else `safe` with 0; to `Sequential` the bytes
-/// are the printed form of the program that it is rewritten to, and within the limits of texts they are read back as that
-/// program. Where its status is 2, a fault of the text stands and the bytes are its line. Where it is 3, there is no verdict: for
-/// want of memory, or since some procedure of the rewritten program has more path edges than the limit.
+/// The reply to a text. Where its status is 0 or 1, the text is that of a checked program. To `Check` no procedure of the
+/// program that it is rewritten to has then more path edges than the limit, and the reply is `unsafe` with status 1 exactly
+/// where some run of at most so many rounds fails an assert, and else `safe` with 0. To `Sequential` the bytes are the printed
+/// form of that program, and within the limits of texts they are read back as it. Where the status is 2, a fault of the text
+/// stands, and the bytes are its line. Where it is 3, there is no verdict: for want of memory, or since some procedure has more
+/// path edges than the limit.
 pub fn answer<R: Alloc>(rt: &R, text: &[u8], order: Order) -> Reply<R::A>
     ensures answers { result.status ≤ 1 → Replies text.now order (bytes_of result) result.status }
     ensures refuses { 2 ≤ result.status → Refuses text.now order (bytes_of result) result.status }

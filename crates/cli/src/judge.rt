@@ -8,7 +8,7 @@ ghost use Rattle.syntax.specs.Trees.{tree_of};
 ghost use Rattle.round_rewrite.specs.Law.{SomeBad};
 ghost use Rattle.summaries.specs.Tabulated.{HasMoreEdges, SomePairBad};
 ghost use Rattle.cli.specs.Refused.{Stands};
-ghost use Rattle.cli.specs.Verdict.{IsVerdict, IsOverLimit};
+ghost use Rattle.cli.specs.Verdict.{IsVerdict, IsOver};
 ghost use Rattle.cli.specs.declared.refusal.Refusal.TheVariants as refusal;
 
 use crate::refusal::Refusal;
@@ -38,6 +38,7 @@ fn tabulated<N: Allocator, A: Allocator + Copy, S: PathSet<A>>(
     ghost program: { Program }
     requires { program ≡ sequential_of (tree_of sequential.now.program) }
     ensures bad { IfOk result (λ s. SomePairBad s ↔ SomeBad program (number_of (codes "bad__") (tree_of sequential.now.program).globals)) }
+    ensures few { IfOk result (λ _. (q : ℕ) → ¬ HasMoreEdges program q limit.edges) }
     ensures fault { IfErr result (λ why. (why ≡ refusal.Memory) ⊎ ((why ≡ refusal.EdgeLimit) × ((q : ℕ) × HasMoreEdges program q limit.edges))) }
 {
     let graphs = graphs(&alloc, sequential)?;
@@ -52,8 +53,8 @@ pub(crate) fn judge<A: Allocator + Copy, S: PathSet<A>>(
     rounds: u8,
     edges: u32,
 ) -> Result<Verdict, Refusal>
-    ensures verdict { IfOk result (λ v. IsVerdict text.now rounds v) }
-    ensures stands { IfErr result (Stands text.now rounds (IsOverLimit text.now rounds edges)) }
+    ensures verdict { IfOk result (λ v. IsVerdict text.now rounds edges v) }
+    ensures stands { IfErr result (Stands text.now rounds (IsOver text.now rounds edges)) }
 {
     let sequential = rewritten(alloc, text, rounds)?;
     let Some(limit) = EdgeLimit::new(edges) else {

@@ -15,3 +15,5 @@ pub use asked::{LineFault, Order};
 pub use line::order;
 pub use reply::Reply;
 
+#[cfg(test)]
+mod tests;

@@ -46,11 +46,7 @@ fn command<'a>(alloc: Global) -> Result<Command<'a>, AllocError> {
         .arg(file(alloc))?;
     let sequential = Command::new(alloc, "sequential")
         .about("Prints the sequential program that K rounds are rewritten to")
-        .arg(
-            rounds(alloc)
-                .help("How many rounds: 1 to 4")
-                .required(true),
-        )?
+        .arg(rounds(alloc).help("How many rounds: 1 to 4").required(true))?
         .arg(file(alloc))?;
     Command::new(alloc, "bebopk")
         .about("Checks concurrent Boolean programs")

@@ -1,5 +1,5 @@
 -- Where tabulating fails, memory ran out or some procedure has more path edges than the limit.
-use Rattle.std.proofs.Common.{◌≡◌, ◌⊎◌, ◌∙◌, ℕ, List, inl, inr, refl, sym, ap, subst}
+use Rattle.std.proofs.Common.{◌≡◌, ◌⊎◌, ℕ, List, inl, inr, sym, subst}
 use Rattle.std.proofs.lemmas.Result.{err_from_is_err_and}
 use Rattle.language.specs.Sequential.{sequential_of}
 use Rattle.language.specs.Tree.{Tree}
@@ -9,17 +9,17 @@ use Rattle.cli.specs.declared.refusal.Refusal.{Refusal}
 use Rattle.cli.specs.declared.refusal.Refusal.TheVariants.{EdgeLimit, Memory}
 use Rattle.cli.specs.Refused.{Stands}
 use Rattle.cli.specs.Rewritten.{IsRewriting}
-use Rattle.cli.specs.Verdict.{IsOverLimit}
+use Rattle.cli.specs.Verdict.{IsOver}
 use Rattle.cli.proofs.judge.judge.Goals as goal
 
 -- what a fault of the tabulation says of the text
 stands : (text : List ℕ) (rounds edges limit : ℕ) (sequential : Tree) → IsRewriting text rounds sequential → limit ≡ edges → (why : Refusal) →
-    (why ≡ Memory) ⊎ ((why ≡ EdgeLimit) × ((q : ℕ) × HasMoreEdges (sequential_of sequential) q limit)) → Stands text rounds (IsOverLimit text rounds edges) why
-stands text rounds edges limit sequential found within why (inl e) = subst (Stands text rounds (IsOverLimit text rounds edges)) (sym e) tt
+    (why ≡ Memory) ⊎ ((why ≡ EdgeLimit) × ((q : ℕ) × HasMoreEdges (sequential_of sequential) q limit)) → Stands text rounds (IsOver text rounds edges) why
+stands text rounds edges limit sequential found within why (inl e) = subst (Stands text rounds (IsOver text rounds edges)) (sym e) tt
 stands text rounds edges limit sequential found within why (inr (e, (q, more))) =
     let at : HasMoreEdges (sequential_of sequential) q edges = subst (HasMoreEdges (sequential_of sequential) q) within more in
-    subst (Stands text rounds (IsOverLimit text rounds edges)) (sym e)
-    (found.tree, found.last, found.count, found.of, found.checked, (q, subst (λ t. HasMoreEdges (sequential_of t) q edges) found.same at))
+    subst (Stands text rounds (IsOver text rounds edges)) (sym e)
+    (found.tree, found.of, found.checked, (found.last, found.count, (q, subst (λ t. HasMoreEdges (sequential_of t) q edges) found.same at)))
 
 pub returns-in_err-summaries-clause-stands : goal.returns-in_err-summaries-clause-stands
 returns-in_err-summaries-clause-stands g c =
