@@ -1,7 +1,7 @@
-pub mod Straight
-pub mod Reach
 pub mod Limits
-pub mod Verdict
 pub mod Written
-pub mod Replies
+pub mod Rewritten
+pub mod Verdict
 pub mod Refusals
+pub mod Refused
+pub mod Replies

@@ -1,40 +1,38 @@
--- What an answer says of a text.
-use Rattle.std.specs.Prelude.{◌≡◌, ℕ, List, [], ◌∷◌, ◌⊎◌, codes}
-use Rattle.post_ledger.specs.declared.event.Event.{Event}
-use Rattle.post_ledger.specs.declared.event.Event.TheVariants.{Post, Take, Done}
-use Rattle.syntax.specs.Text.{Text}
-use Rattle.syntax.specs.Trees.{Item}
-use Rattle.cli.specs.declared.judge.Message.{Message}
-use Rattle.cli.specs.declared.judge.Message.TheVariants.{Entry}
-use Rattle.cli.specs.declared.judge.Verdict.{Verdict}
-use Rattle.cli.specs.declared.judge.Verdict.TheVariants as verdict
+-- What a verdict says of a text.
+use Rattle.std.specs.Prelude.{◌≡◌, ℕ, suc, List, ◌⊎◌, codes}
 use Rattle.language.specs.Tree.{Tree}
 use Rattle.language.specs.Resolve.{meaning_of}
 use Rattle.language.specs.Rounds.{Unsafe}
+use Rattle.language.specs.Sequential.{sequential_of}
+use Rattle.syntax.specs.Text.{Text}
 use Rattle.scopes.specs.Checked.{IsChecked}
-use Rattle.cli.specs.Straight.{IsFirstPart}
+use Rattle.round_rewrite.specs.Names.{rewritten_tree}
+use Rattle.summaries.specs.Tabulated.{HasMoreEdges}
+use Rattle.cli.specs.declared.judge.Verdict.{Verdict}
+use Rattle.cli.specs.declared.judge.Verdict.TheVariants as verdict
 
--- the histories of the one mailbox: the one message posted by the starter, and then taken
-abbrev pub with_post : List (Event Message)
-with_post = Post 1 Entry ∷ []
+-- Each procedure of the program's rewriting for so many rounds has at most `edges` path edges.
+abbrev pub IsWithinLimit : ℕ → ℕ → Tree → Type 0
+IsWithinLimit rounds edges t = (last : ℕ) × (suc last ≡ rounds) × ((q : ℕ) → ¬ HasMoreEdges (sequential_of (rewritten_tree last t)) q edges)
 
-abbrev pub with_take : List (Event Message)
-with_take = Post 1 Entry ∷ Take 1 Entry ∷ []
+-- Some procedure of the program's rewriting for so many rounds has more than `edges` path edges.
+abbrev pub IsOverLimit : ℕ → ℕ → Tree → Type 0
+IsOverLimit rounds edges t = (last : ℕ) × (suc last ≡ rounds) × ((q : ℕ) × HasMoreEdges (sequential_of (rewritten_tree last t)) q edges)
 
--- the one message was posted, taken and completed
-abbrev pub IsWorkedOff : List (Event Message) → Type 0
-IsWorkedOff history = history ≡ Post 1 Entry ∷ Take 1 Entry ∷ Done 0 ∷ []
+-- The text is that of a checked program, and some procedure of its rewriting has more path edges than the limit.
+abbrev pub IsOver : List ℕ → ℕ → ℕ → Type 0
+IsOver text rounds edges = (t : Tree) × Text text t × IsChecked t × IsOverLimit rounds edges t
 
--- what a verdict says of the bytes
-abbrev pub IsVerdict : List ℕ → Verdict → Type 0
-IsVerdict bytes verdict.Safe = (t : Tree) × (items : List Item) × Text bytes t × IsChecked t × IsFirstPart t items × (Unsafe (meaning_of t) 1 → ⊥)
-IsVerdict bytes verdict.Unsafe = (t : Tree) × (items : List Item) × Text bytes t × IsChecked t × IsFirstPart t items × Unsafe (meaning_of t) 1
-IsVerdict bytes verdict.NotYet = Unit {0}
+-- The text is that of a checked program within the limit of path edges, of which some run of at most so many rounds fails an
+-- assert, or none does.
+abbrev pub IsVerdict : List ℕ → ℕ → ℕ → Verdict → Type 0
+IsVerdict text rounds edges verdict.Safe = (t : Tree) × Text text t × IsChecked t × IsWithinLimit rounds edges t × ¬ Unsafe (meaning_of t) rounds
+IsVerdict text rounds edges verdict.Unsafe = (t : Tree) × Text text t × IsChecked t × IsWithinLimit rounds edges t × Unsafe (meaning_of t) rounds
 
--- The reply says what a text comes to at one round: it is the text of a checked program of the first part, and the reply is
--- `unsafe` with status 1 where some run of one round fails an assert, `safe` with status 0 where none does.
-abbrev pub Answers : List ℕ → List ℕ → ℕ → Type 0
-Answers text bytes status =
-    (t : Tree) × (items : List Item) × Text text t × IsChecked t × IsFirstPart t items
-    × (((bytes ≡ codes "unsafe\n") × (status ≡ 1) × Unsafe (meaning_of t) 1)
-    ⊎ ((bytes ≡ codes "safe\n") × (status ≡ 0) × (Unsafe (meaning_of t) 1 → ⊥)))
+-- The text is that of a checked program within the limit of path edges, and the reply is `unsafe` with status 1 where some run
+-- of at most so many rounds fails an assert, `safe` with status 0 where none does.
+abbrev pub Answers : List ℕ → ℕ → ℕ → List ℕ → ℕ → Type 0
+Answers text rounds edges bytes status =
+    (t : Tree) × Text text t × IsChecked t × IsWithinLimit rounds edges t
+    × (((bytes ≡ codes "unsafe\n") × (status ≡ 1) × Unsafe (meaning_of t) rounds)
+    ⊎ ((bytes ≡ codes "safe\n") × (status ≡ 0) × ¬ Unsafe (meaning_of t) rounds))

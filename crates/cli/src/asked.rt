@@ -3,8 +3,8 @@
 /// What is asked of a text.
 #[derive(Clone, Copy, Debug, PartialEq, Eq)]
 pub enum Order {
-    /// Whether a run of at most so many rounds fails an assert.
-    Check { rounds: u8 },
+    /// Whether a run of at most so many rounds fails an assert, where no procedure has more than so many path edges.
+    Check { rounds: u8, edges: u32 },
     /// The sequential program that it is rewritten to for so many rounds.
     Sequential { rounds: u8 },
 }

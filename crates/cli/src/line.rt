@@ -15,27 +15,38 @@ fn file<'a>(alloc: Global) -> Arg<'a> {
         .required(true)
 }
 
+/// The option `--rounds`.
+fn rounds<'a>(alloc: Global) -> Arg<'a> {
+    Arg::new(alloc, "rounds")
+        .long("rounds")
+        .value_name("K")
+        .value_parser(value_parser!(u8).range(1..=4))
+}
+
+/// The option `--edges`.
+fn edges<'a>(alloc: Global) -> Arg<'a> {
+    Arg::new(alloc, "edges")
+        .long("edges")
+        .value_name("N")
+        .help("How many path edges a procedure may have: 1 to 16777216")
+        .default_value("1000000")
+        .value_parser(value_parser!(u32).range(1..=16_777_216))
+}
+
 /// The command line of bebopk.
 fn command<'a>(alloc: Global) -> Result<Command<'a>, AllocError> {
-    let one = Arg::new(alloc, "rounds")
-        .long("rounds")
-        .value_name("K")
-        .help("How many rounds: 1")
-        .required(true)
-        .value_parser(value_parser!(u8).range(1..=1));
     let check = Command::new(alloc, "check")
         .about("Answers whether some run of at most K rounds fails an assert")
-        .arg(one)?
+        .arg(
+            rounds(alloc)
+                .help("How many rounds: 1 to 4")
+                .default_value("2"),
+        )?
+        .arg(edges(alloc))?
         .arg(file(alloc))?;
-    let few = Arg::new(alloc, "rounds")
-        .long("rounds")
-        .value_name("K")
-        .help("How many rounds: 1 to 4")
-        .required(true)
-        .value_parser(value_parser!(u8).range(1..=4));
     let sequential = Command::new(alloc, "sequential")
         .about("Prints the sequential program that K rounds are rewritten to")
-        .arg(few)?
+        .arg(rounds(alloc).help("How many rounds: 1 to 4").required(true))?
         .arg(file(alloc))?;
     Command::new(alloc, "bebopk")
         .about("Checks concurrent Boolean programs")
@@ -58,17 +69,20 @@ fn fault_of(alloc: Global, error: &Error) -> LineFault {
     }
 }
 
-/// The order of this name for so many rounds; `None` only of names and numbers that the command line lets nobody give.
-fn order_of(name: &str, rounds: u8) -> Option<Order>
+/// The order of this name with these values; `None` only of those that the command line lets nobody give.
+fn order_of(name: &str, rounds: u8, edges: Option<u32>) -> Option<Order>
     ensures { IfSome result IsWithinLimits }
 {
-    if name == "check" && rounds == 1 {
-        return Some(Order::Check { rounds });
+    if rounds < 1 || rounds > 4 {
+        return None;
     }
-    if name == "sequential" && 1 <= rounds && rounds <= 4 {
-        return Some(Order::Sequential { rounds });
+    match (name, edges) {
+        ("check", Some(edges)) if 1 <= edges && edges <= 16_777_216 => {
+            Some(Order::Check { rounds, edges })
+        }
+        ("sequential", None) => Some(Order::Sequential { rounds }),
+        _ => None,
     }
-    None
 }
 
 /// The order and the file that the words give, the program's own name first.
@@ -89,7 +103,8 @@ pub fn order(alloc: Global, words: &[String]) -> Result<(Order, String), LineFau
     let (Some(rounds), Some(file)) = (asked.get_one::<u8>("rounds"), asked.get_str("file")) else {
         return Err(LineFault::Memory);
     };
-    let Some(order) = order_of(name, rounds) else {
+    let edges = asked.get_one::<u32>("edges");
+    let Some(order) = order_of(name, rounds, edges) else {
         return Err(LineFault::Memory);
     };
     match String::from_str(alloc, file) {

@@ -3,6 +3,7 @@
 use round_rewrite::RewriteFault;
 use scopes::ScopeFault;
 use std::alloc::AllocError;
+use summaries::NoVerdict;
 use syntax::ReadFault;
 
 /// Why a text gets no verdict.
@@ -14,6 +15,8 @@ pub(crate) enum Refusal {
     Unchecked(ScopeFault),
     /// Some procedure of the rewritten program has more than 64 places.
     TooWide,
+    /// Some procedure of the rewritten program has more path edges than the limit.
+    EdgeLimit,
     /// A growth was refused.
     Memory,
 }
@@ -53,14 +56,28 @@ impl From<AllocError> for Refusal {
 
 impl From<RewriteFault> for Refusal {
     ghost use Rattle.std.specs.Prelude.{◌≡◌};
-    ghost use Rattle.cli.specs.Refusals.{refusal_of};
+    ghost use Rattle.cli.specs.Refusals.{refusal_of_rewriting};
 
-    ghost from_gives = { λ fault refusal. refusal ≡ refusal_of fault };
+    ghost from_gives = { λ fault refusal. refusal ≡ refusal_of_rewriting fault };
 
     fn from(fault: RewriteFault) -> Refusal {
         match fault {
             RewriteFault::TooWide => Refusal::TooWide,
             RewriteFault::Memory => Refusal::Memory,
+        }
+    }
+}
+
+impl From<NoVerdict> for Refusal {
+    ghost use Rattle.std.specs.Prelude.{◌≡◌};
+    ghost use Rattle.cli.specs.Refusals.{refusal_of_tabulation};
+
+    ghost from_gives = { λ why refusal. refusal ≡ refusal_of_tabulation why };
+
+    fn from(why: NoVerdict) -> Refusal {
+        match why {
+            NoVerdict::Memory => Refusal::Memory,
+            NoVerdict::EdgeLimit => Refusal::EdgeLimit,
         }
     }
 }

@@ -1,5 +1,0 @@
-pub mod FirstLemmas
-pub mod ItemLemmas
-pub mod MemberLemmas
-pub mod OneMessage
-pub mod StraightRuns

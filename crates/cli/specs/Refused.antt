@@ -1,0 +1,69 @@
+-- Why texts are refused, and the lines that say so.
+use Rattle.std.specs.Prelude.{◌≡◌, ℕ, suc, List, ◌++◌, ◌⊎◌, codes}
+use Rattle.std.specs.Fmt.{decimal}
+use Rattle.language.specs.Tree.{Tree}
+use Rattle.syntax.specs.Text as text
+use Rattle.syntax.specs.Text.{Text}
+use Rattle.syntax.specs.declared.fault.ReadFault.{ReadFault}
+use Rattle.syntax.specs.declared.fault.ReadFault.TheVariants as read
+use Rattle.scopes.specs.Checked.{IsChecked, IsFirstFault}
+use Rattle.scopes.specs.declared.fault.ScopeFault.{ScopeFault}
+use Rattle.scopes.specs.declared.fault.ScopeFault.TheVariants as scope
+use Rattle.round_rewrite.specs.Narrow.{IsNarrow}
+use Rattle.cli.specs.declared.refusal.Refusal.{Refusal}
+use Rattle.cli.specs.declared.refusal.Refusal.TheVariants.{Unread, Unchecked, TooWide, EdgeLimit, Memory}
+
+-- the line for want of memory
+abbrev pub memory_line : List ℕ
+memory_line = codes "no verdict: memory\n"
+
+-- the line of a fault with these words, at an offset
+abbrev pub line_at : List ℕ → ℕ → List ℕ
+line_at words at = codes "refused: " ++ (words ++ (codes " at " ++ (decimal at ++ codes "\n")))
+
+-- the line of a text that is not read
+abbrev pub unread_line : ReadFault → List ℕ
+unread_line read.TooLong = codes "refused: 1 too long\n"
+unread_line read.NotAscii = codes "refused: 2 not ascii\n"
+unread_line (read.Syntax at) = line_at (codes "3 syntax") at
+unread_line read.TooDeep = codes "refused: 4 too deep\n"
+unread_line read.Memory = memory_line
+
+-- the line of a program in which a fault of scopes stands
+abbrev pub unchecked_line : ScopeFault → List ℕ
+unchecked_line (scope.Undeclared at) = line_at (codes "6 undeclared") at
+unchecked_line (scope.DeclaredTwice at) = line_at (codes "7 declared twice") at
+unchecked_line (scope.WrongCount at) = line_at (codes "8 wrong count") at
+unchecked_line (scope.BadThread at) = line_at (codes "9 bad thread") at
+unchecked_line (scope.BadLabel at) = line_at (codes "10 bad label") at
+unchecked_line (scope.Reserved at) = line_at (codes "11 reserved") at
+unchecked_line (scope.TooMany at) = line_at (codes "12 too many") at
+unchecked_line scope.Memory = memory_line
+
+-- the line that says why a text gets no verdict
+abbrev pub line_of : Refusal → List ℕ
+line_of (Unread fault) = unread_line fault
+line_of (Unchecked fault) = unchecked_line fault
+line_of TooWide = codes "refused: 14 too wide\n"
+line_of EdgeLimit = codes "no verdict: edge limit\n"
+line_of Memory = memory_line
+
+-- 2 where the text is refused, 3 where memory or the edge limit gave out
+abbrev pub status_of : Refusal → ℕ
+status_of (Unread read.Memory) = 3
+status_of (Unread fault) = 2
+status_of (Unchecked scope.Memory) = 3
+status_of (Unchecked fault) = 2
+status_of TooWide = 2
+status_of EdgeLimit = 3
+status_of Memory = 3
+
+-- The refusal stands: the text is not read for this fault; or it is the text of a program in which this is the first fault of
+-- scopes; or of a checked program whose rewriting for so many rounds is too wide; or the edge limit is passed, as `Past` says.
+-- Want of memory may stand for every text.
+abbrev pub Stands : List ℕ → ℕ → Type 0 → Refusal → Type 0
+Stands bytes rounds Past (Unread fault) = text.Stands fault bytes
+Stands bytes rounds Past (Unchecked fault) = (t : Tree) × Text bytes t × ((fault ≡ scope.Memory) ⊎ IsFirstFault t fault)
+Stands bytes rounds Past TooWide = (t : Tree) × (last : ℕ) × (suc last ≡ rounds) × Text bytes t × IsChecked t × (IsNarrow last t → ⊥)
+Stands bytes rounds Past EdgeLimit = Past
+Stands bytes rounds Past Memory = Unit {0}

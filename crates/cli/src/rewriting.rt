@@ -1,0 +1,29 @@
+//! The sequential program of a text: what every order begins with.
+
+ghost use Rattle.std.specs.Prelude.{IfOk, IfErr};
+ghost use Rattle.syntax.specs.Trees.{tree_of};
+ghost use Rattle.cli.specs.Refused.{Stands};
+ghost use Rattle.cli.specs.Rewritten.{IsRewriting};
+
+use crate::refusal::Refusal;
+use round_rewrite::{Rounds, Sequential, rewrite};
+use scopes::check;
+use std::alloc::Allocator;
+use syntax::read;
+
+/// The sequential program that a text is rewritten to for so many rounds, 1 to 4.
+pub(crate) fn rewritten<A: Allocator + Copy>(
+    alloc: A,
+    text: &[u8],
+    rounds: u8,
+) -> Result<Sequential<A>, Refusal>
+    ensures rewriting { IfOk result (λ s. IsRewriting text.now rounds (tree_of s.program)) }
+    ensures stands { IfErr result (Stands text.now rounds ⊥) }
+{
+    let program = read(alloc, text)?;
+    let checked = check(alloc, program)?;
+    let Some(rounds) = Rounds::new(rounds) else {
+        return Err(Refusal::Memory);
+    };
+    Ok(rewrite(&alloc, &checked, rounds)?)
+}
