@@ -149,9 +149,10 @@ module _ {G A S : Type 0} (members : S → List Triple) (p : Program) (ts : List
     -- some pair is bad where some pair that the first table keeps has the bit
     pub table_bad : (t : Table G A S) → slice_get ts 0 ≡ Some t → (bad : ℕ) → SomeBad p bad ↔ ((a : ℕ) × (b : ℕ) × Member (pair a b) t.found.pairs.keys × (bit_of b bad ≡ true))
     table_bad t is bad =
-        let bits = bad_left p (map graph_of ts) T are.drawn.0 are.drawn.2 (opening t is) sent_taken is_due are.drawn.1 t.graph.now (get_map graph_of ts 0 t is) bad in
-        (λ h. let (a, b, leaves, bit) = bits.0 h in (a, b, ((quiet_at 0 t is).leaves a b).1 (subst (λ (o : Option (Table G A S)). Leaves t.graph.now (IsTaken o) a b) is leaves), bit),
-        λ h. bits.1 (h.0, h.1, subst (λ (o : Option (Table G A S)). Leaves t.graph.now (IsTaken o) h.0 h.1) (sym is) (((quiet_at 0 t is).leaves h.0 h.1).0 h.2), h.3))
+        let bits = bad_left p (map graph_of ts) T are.drawn.0 are.drawn.2 (opening t is) sent_taken is_due are.drawn.1 t.graph.now (get_map graph_of ts 0 t is) bad in (
+          λ h. let (a, b, leaves, bit) = bits.0 h in (a, b, ((quiet_at 0 t is).leaves a b).1 (subst (λ (o : Option (Table G A S)). Leaves t.graph.now (IsTaken o) a b) is leaves), bit),
+          λ h. bits.1 (h.0, h.1, subst (λ (o : Option (Table G A S)). Leaves t.graph.now (IsTaken o) h.0 h.1) (sym is) (((quiet_at 0 t is).leaves h.0 h.1).0 h.2), h.3),
+        )
 
     module _ (ss : List (Summary A)) (as_long : length ss ≡ length ts) (read : AreReadOff ts ss) where
       -- a summary and its table

@@ -22,7 +22,7 @@ loop-number-preserved g c =
     }
 
 pub returns-clause-new : goal.returns-clause-new
-returns-clause-new g c = record { fresh = c.loop-number.invariant.fresh; number = c.loop-number.invariant.numbered; }
+returns-clause-new g c = record { fresh = c.loop-number.invariant.fresh; number = c.loop-number.invariant.numbered }
 
 pub returns-clause-graphs : goal.returns-clause-graphs
 returns-clause-graphs g c =

@@ -36,8 +36,8 @@ loop-pair-preserved g c = λ q x below is bit.
     elim (eq-or-lt_of_le (let within : q ≤ c.loop-pair.pair-index = omega (arith, below) in within)) [
       | inr before ↦ c.loop-pair.invariant q x before is bit
       | inl now ↦
-        let here : get_or c.deref-pair-items.result.now c.loop-pair.pair-index (pair 0 0) ≡ x = get_or_from_slice_get c.deref-pair-items.result.now c.loop-pair.pair-index x (pair 0 0) (ap (slice_get c.deref-pair-items.result.now) (sym now) ∙ is) in
-        true≢false (sym bit ∙ ap (λ (y : Pair). bit_of y.b c.args.self.now.bad) (sym here) ∙ sym c.has_bit.ensures ∙ c.if-has_bit.false)
+          let here : get_or c.deref-pair-items.result.now c.loop-pair.pair-index (pair 0 0) ≡ x = get_or_from_slice_get c.deref-pair-items.result.now c.loop-pair.pair-index x (pair 0 0) (ap (slice_get c.deref-pair-items.result.now) (sym now) ∙ is) in
+          true≢false (sym bit ∙ ap (λ (y : Pair). bit_of y.b c.args.self.now.bad) (sym here) ∙ sym c.has_bit.ensures ∙ c.if-has_bit.false)
     ]
 
 pub returns : goal.returns
