@@ -26,7 +26,7 @@ pub struct Table<'g, G: Allocator, A: Allocator, S: PathSet<A>> {
 }
 
 impl<'g, G: Allocator, A: Allocator + Copy, S: PathSet<A>> Table<'g, G, A, S> {
-    ghost use Rattle.std.specs.Prelude.{◌<◌, ◌≤◌, ◌⊎◌, ◌++◌, ◌∷◌, [], ℕ, length, slice_get, OnOk, OnErr, Ok, Err, IfOk, IfSome, IfNone};
+    ghost use Rattle.std.specs.Prelude.{◌<◌, ◌≤◌, ◌^◌, ◌⊎◌, ◌++◌, ◌∷◌, [], ℕ, length, slice_get, OnOk, OnErr, Ok, Err, IfOk, IfSome, IfNone};
     ghost use Rattle.language.specs.Flow.{Member};
     ghost use Rattle.path_sets.specs.Triples.{Triple};
     ghost use Rattle.flow_graph.specs.Numbers.{NumberedMessage, Sends};
@@ -34,6 +34,7 @@ impl<'g, G: Allocator, A: Allocator + Copy, S: PathSet<A>> Table<'g, G, A, S> {
     ghost use Rattle.summaries.specs.Waiting.{mail};
     ghost use Rattle.summaries.specs.Dues.{due_of};
     ghost use Rattle.summaries.specs.Found.{HasTaken};
+    ghost use Rattle.summaries.specs.Together.{TookOnly};
     ghost use Rattle.summaries.specs.Tables.{sent, IsTable, IsNew, IsQuiet, StaysAs, TookAlso, TookSame, fault_of, failed_by};
 
     /// The table of a procedure, which has taken nothing yet, and takes no memory.
@@ -60,6 +61,7 @@ impl<'g, G: Allocator, A: Allocator + Copy, S: PathSet<A>> Table<'g, G, A, S> {
         requires { IsTable S.members self.old }
         ensures table { IsTable S.members self.new }
         ensures taken { OnOk result (TookAlso (Entry caller a) self.old.found self.new.found) }
+        ensures only { TookOnly (Entry caller a) self.old.found self.new.found }
         ensures sent { OnOk result (sent self.new.found ≡ sent self.old.found) }
         ensures stays { StaysAs self.old self.new }
         ensures fault { self.new.fault ≡ fault_of result }
@@ -77,6 +79,7 @@ impl<'g, G: Allocator, A: Allocator + Copy, S: PathSet<A>> Table<'g, G, A, S> {
         requires { IsTable S.members self.old }
         ensures table { IsTable S.members self.new }
         ensures taken { OnOk result (TookAlso (Summary p a b) self.old.found self.new.found) }
+        ensures only { TookOnly (Summary p a b) self.old.found self.new.found }
         ensures sent { OnOk result (sent self.new.found ≡ sent self.old.found) }
         ensures stays { StaysAs self.old self.new }
         ensures fault { self.new.fault ≡ fault_of result }
@@ -85,7 +88,13 @@ impl<'g, G: Allocator, A: Allocator + Copy, S: PathSet<A>> Table<'g, G, A, S> {
         if let Some(fault) = self.fault {
             return Err(fault);
         }
-        let ended = self.end(Call { callee: p, entered: a }, b);
+        let ended = self.end(
+            Call {
+                callee: p,
+                entered: a,
+            },
+            b,
+        );
         self.keep(ended)
     }
 
@@ -96,6 +105,7 @@ impl<'g, G: Allocator, A: Allocator + Copy, S: PathSet<A>> Table<'g, G, A, S> {
         ensures table { IsTable S.members self.new }
         ensures taken { TookSame self.old.found self.new.found }
         ensures some { IfOk result (λ r. IfSome r (λ m. sent self.new.found ≡ sent self.old.found ++ mail m.0 m.1 ∷ [])) }
+        ensures few { IfOk result (λ r. IfSome r (λ m. length (sent self.new.found) < 2 ^ 64)) }
         ensures due { IfOk result (λ r. IfSome r (λ m. (k : NumberedMessage) → due_of k ≡ m.1 → Sends self.new.graph.now self.new.procedure (HasTaken self.new.found) m.0 k)) }
         ensures once { IfOk result (λ r. IfSome r (λ m. ¬ Member (mail m.0 m.1) (sent self.old.found))) }
         ensures none { IfOk result (λ r. IfNone r (sent self.new.found ≡ sent self.old.found)) }
