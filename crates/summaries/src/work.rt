@@ -151,7 +151,12 @@ impl<'g, G: Allocator, A: Allocator + Copy, S: PathSet<A>> Table<'g, G, A, S> {
             point: self.graph.start(),
             values: a,
         };
-        reach(&mut self.edges, &mut self.found.pending, self.limit, start)?;
+        reach(
+            &mut self.edges,
+            &mut self.found.pending,
+            self.limit,
+            start,
+        )?;
         tell_exits(
             &mut self.found.given,
             self.procedure,
