@@ -32,7 +32,7 @@ fn tables_of<'g, G: Allocator, A: Allocator + Copy, S: PathSet<A>>(
 {
     let mut tables = Vec::new(alloc);
     for number in 0..graphs.len() {
-        // A program has at most 32 procedures.
+        // Never so: a program has at most 32 procedures, which the type of its graphs does not say.
         let Ok(procedure) = u8::try_from(number) else {
             return Err(NoVerdict::Memory);
         };

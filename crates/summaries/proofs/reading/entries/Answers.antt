@@ -39,17 +39,19 @@ all_keys g c =
 
 pub returns-clause-ascend : goal.returns-clause-ascend
 returns-clause-ascend g c =
+    let a = (goal.at.returns-clause-ascend g c).After-sort_unstable in
     let passes : ℕ → Bool = λ a. has_any (under nat_eq c.args.callers.now.by_key a) in
     let once = distinct_filter nat_eq passes (keys c.args.callers.now.by_key) c.keys-keys.ensures.unique in
     numbers_ascend c.sort_unstable.new.self.items c.sort_unstable.ensures.sorted
-    (still_distinct nat_eq nat_eq_flips c.loop-entry.entries.items c.sort_unstable.new.self.items c.sort_unstable.ensures.permutation (subst (IsDistinct nat_eq) (sym (all_keys g c)) once))
+    (still_distinct nat_eq nat_eq_flips c.loop-entry.entries.items c.sort_unstable.new.self.items c.sort_unstable.ensures.permutation (subst (IsDistinct nat_eq) (sym (all_keys g a)) once))
 
 pub returns-clause-entries : goal.returns-clause-entries
 returns-clause-entries g c = λ a.
+    let d = (goal.at.returns-clause-entries g c).After-sort_unstable in
     let passes : ℕ → Bool = λ a. has_any (under nat_eq c.args.callers.now.by_key a) in
     let sorted = same_members c.loop-entry.entries.items c.sort_unstable.new.self.items c.sort_unstable.ensures.permutation a in
     let kept = member_filter passes a (keys c.args.callers.now.by_key) in
     let valued = keys_with_values a c.args.callers.now.by_key.entries in (
-      λ m. valued.0 (kept.0 (subst (Member a) (all_keys g c) (sorted.0 m))),
-      λ h. sorted.1 (subst (Member a) (sym (all_keys g c)) (kept.1 (valued.1 h))),
+      λ m. valued.0 (kept.0 (subst (Member a) (all_keys g d) (sorted.0 m))),
+      λ h. sorted.1 (subst (Member a) (sym (all_keys g d)) (kept.1 (valued.1 h))),
     )
