@@ -146,26 +146,12 @@ fn main() {
         11,
         21,
     );
-    let seven = Flow::Test(
-        Side::Value(Formula::Code(vec![
-            Step::Read(4),
-            Step::Read(5),
-            Step::Xor,
-            Step::Read(6),
-            Step::Xor,
-            Step::Read(7),
-            Step::Xor,
-            Step::Read(8),
-            Step::Xor,
-            Step::Read(9),
-            Step::Xor,
-            Step::Read(10),
-            Step::Xor,
-            Step::Not,
-        ])),
-        11,
-        21,
-    );
+    let mut parity = vec![Step::Read(4)];
+    for bit in 5..=10 {
+        parity.extend([Step::Read(bit), Step::Xor]);
+    }
+    parity.push(Step::Not);
+    let seven = Flow::Test(Side::Value(Formula::Code(parity)), 11, 21);
     let others = [Flow::Assume(Side::Any, 0), Flow::Return];
     black_box(&others);
     for (name, flow) in [

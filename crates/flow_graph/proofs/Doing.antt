@@ -7,6 +7,7 @@ use Rattle.language.specs.Tree.{Name, Expression, RightSide, any, value}
 use Rattle.language.specs.Value.{Place, value_of, values_of, IsValue, written_globals, written_locals}
 use Rattle.language.specs.Resolve.{Scope, place_of, resolve_side}
 use Rattle.language.specs.Sequential.{Valuation}
+use Rattle.language.proofs.Lengths.{length_values}
 use Rattle.flow_graph.specs.Bits.{bit_of, worth_of, coded}
 use Rattle.flow_graph.specs.Formulas.{says, SaysSide}
 use Rattle.flow_graph.specs.Assignments.{assigned, Assigns}
@@ -23,11 +24,6 @@ use Rattle.flow_graph.specs.declared.call.Call.{Call}
 use Rattle.flow_graph.specs.declared.formula.Formula.{Formula}
 use Rattle.flow_graph.specs.Calls.{entry_of}
 use Rattle.flow_graph.proofs.Coding.{coded_append, left_coded}
-
--- an expression has one value
-pub values_count : (g l : List Bool) (es : List (Expression Place)) → length (values_of g l es) ≡ length es
-values_count g l [] = refl
-values_count g l (e ∷ es) = ap suc (values_count g l es)
 
 -- the two parts of a pair that is there
 same_first : (a b c d : ℕ) → ◌≡◌ {A = Option (ℕ × ℕ)} (Some (a, b)) (Some (c, d)) → a ≡ c
@@ -111,7 +107,7 @@ does_no_call f p es k g l m ne d = record {
   reaches = λ v v' n wide h. absurd h;
   only = λ v i n w wide le h. absurd (true≢false (d.only v i n w wide le h).1.0);
   once = d.once;
-  enters = λ v args q n wide (is, same, to) less few. absurd (refused (subst (λ z. z < m) is less) (subst (λ z. g + z ≤ 64) (ap length same ∙ values_count v.globals v.places es) few) ne);
+  enters = λ v args q n wide (is, same, to) less few. absurd (refused (subst (λ z. z < m) is less) (subst (λ z. g + z ≤ 64) (ap length same ∙ length_values v.globals v.places es) few) ne);
   entered = λ v q e n wide h. absurd (d.entered v q e n wide h).1;
 }
   where

@@ -12,6 +12,7 @@ use Rattle.language.specs.Flow.{rests, Member, IsRestOf, after_first}
 use Rattle.language.specs.Messages.{IsValuationOf, ArgumentsFit}
 use Rattle.language.proofs.Entering.{call_shape}
 use Rattle.language.proofs.RestPoints.{rest_at_point, rests_count}
+use Rattle.language.proofs.Lengths.{length_values}
 use Rattle.language.proofs.StepKinds.{routine_found}
 use Rattle.syntax.specs.declared.tree.Program as tree
 use Rattle.syntax.specs.declared.tree.Proc.{Proc}
@@ -31,7 +32,7 @@ use Rattle.flow_graph.specs.declared.flow.Flow.{Flow}
 use Rattle.flow_graph.specs.declared.graph.Graph.{Graph}
 use Rattle.flow_graph.proofs.Nodes.{flow_leads, lead_flows}
 use Rattle.flow_graph.specs.declared.flow.Flow.TheVariants as flow
-use Rattle.flow_graph.proofs.Doing.{values_count, does_return}
+use Rattle.flow_graph.proofs.Doing.{does_return}
 
 -- the flow at a place does what happens at the node there
 all_do_at : {A : Type 0} (fs : List (Flow A)) (ns : List Node) (g l m i : ℕ) (n : Node) → AllDo fs ns g l m → slice_get ns i ≡ Some n → (f : Flow A) × (slice_get fs i ≡ Some f) × Does f n g l m
@@ -104,7 +105,7 @@ module _ (p : Program) (q : ℕ) (routine : Routine) (there : slice_get p.routin
         let asks : Asks (node_of (body_of (slice_get p.routines q)) r) v s args (at (after_first r)) =
         subst (λ z. Asks (node_of (body_of (slice_get p.routines q)) z) v s args (at (after_first z))) (sym same) (refl, refl, refl) in
         let few = narrow s callee is in
-        d.enters v args s (at (after_first r)) (wide v w) asks (slice_get_within p.routines s callee is) (omega (arith, few, room, values_count v.globals v.places es))
+        d.enters v args s (at (after_first r)) (wide v w) asks (slice_get_within p.routines s callee is) (omega (arith, few, room, length_values v.globals v.places es))
         ∙ ap (λ k. Some (s, k, at (after_first r))) (sym (ap code made ∙ coded_fresh v.globals callee.places args))
 
     entered : (v : Valuation) (s e n : ℕ) → IsValuationOf p q v → entered_by f (code v) ≡ Some (s, e, n) → (a : Valuation) × Calls p v.globals v.places r s a × (e ≡ code a) × (n ≡ at (after_first r))

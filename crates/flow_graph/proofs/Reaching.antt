@@ -1,8 +1,8 @@
 -- What a flow graph reaches and sends by numbers is what its procedure reaches and owes.
-use Rattle.std.proofs.Common.{◌≡◌, ◌↔◌, ◌⊎◌, ℕ, suc, ◌+◌, ◌≤◌, Bool, List, [], ◌∷◌, ◌++◌, length, Option, Some, None, slice_get, inl, inr, refl, sym, ◌∙◌, ap, ap₂, subst, arith}
+use Rattle.std.proofs.Common.{◌≡◌, ◌↔◌, ◌⊎◌, ℕ, suc, ◌+◌, ◌≤◌, ◌++◌, length, Option, Some, None, slice_get, inl, inr, refl, sym, ◌∙◌, ap, ap₂, subst, arith}
 use Rattle.std.proofs.lemmas.Option.{same_Some}
-use Rattle.language.specs.Tree.{Expression, done, one, choose, loop}
-use Rattle.language.specs.Value.{Place, values_of}
+use Rattle.language.specs.Tree.{done, one, choose, loop}
+use Rattle.language.specs.Value.{values_of}
 use Rattle.language.specs.Rest.{Code, join}
 use Rattle.language.specs.Step.{Program, fresh, AtRoutine, body_of}
 use Rattle.language.specs.Sequential.{statements, marked, numbered, point_of, Valuation, Calls, Caller, caller, Message, entry, summary}
@@ -11,11 +11,11 @@ use Rattle.language.specs.Messages as by_messages
 use Rattle.language.specs.Messages.{Reached, Owes, IsValuationOf, IsMessageTo, ArgumentsFit}
 use Rattle.language.proofs.ByMessages.{reached_entry, reached_stands}
 use Rattle.language.proofs.Entering.{call_shape}
+use Rattle.language.proofs.Lengths.{length_fresh, length_values}
 use Rattle.language.proofs.Members.{member_append}
 use Rattle.language.proofs.RestPoints.{point_tells_rest}
 use Rattle.language.proofs.StepKinds.{routine_found}
 use Rattle.language.proofs.Widths.{reached_valuation}
-use Rattle.round_rewrite.proofs.Frames.{length-fresh}
 use Rattle.flow_graph.specs.Bits.{coded}
 use Rattle.flow_graph.specs.Nodes.{at}
 use Rattle.flow_graph.specs.Flows.{code, next_of, entered_by}
@@ -76,11 +76,6 @@ message_told p q (summary s v b) (summary s' w b') is is' e =
     let eb = coded_tells b b' (is.1 ∙ sym is'.1) (ap left_of e) in
     λ i. summary (es i) (ev i) (eb i)
 
--- the values of arguments are as many
-length_values : (g l : List Bool) (es : List (Expression Place)) → length (values_of g l es) ≡ length es
-length_values g l [] = refl
-length_values g l (e ∷ es) = ap suc (length_values g l es)
-
 -- what is entered by a call that fits has the widths of its procedure
 pub called_valuation : (p : Program) → ArgumentsFit p → (q : ℕ) (v : Valuation) (r : Code) (s : ℕ) (e : Valuation) → length v.globals ≡ p.globals
     → IsRestOf (body_of (slice_get p.routines q)) r → Calls p v.globals v.places r s e → IsValuationOf p s e
@@ -89,7 +84,7 @@ called_valuation p fit q v r s e wide rest calls =
     let (routine, is, made) = routine_found (slice_get p.routines s) (λ z. e ≡ record { globals = v.globals; places = fresh z.places (values_of v.globals v.places es) }) h in
     let few : length es ≤ routine.places = subst (λ o. AtRoutine o (λ z. length es ≤ z.places)) is (fit q s m es t (subst (IsRestOf (body_of (slice_get p.routines q))) same rest)) in
     let count : length (values_of v.globals v.places es) ≡ length es = length_values v.globals v.places es in
-    let places : length e.places ≡ routine.places = ap (λ (z : Valuation). length z.places) made ∙ length-fresh routine.places (values_of v.globals v.places es) (omega (arith, few, count)) in (
+    let places : length e.places ≡ routine.places = ap (λ (z : Valuation). length z.places) made ∙ length_fresh routine.places (values_of v.globals v.places es) (omega (arith, few, count)) in (
       ap (λ (z : Valuation). length z.globals) made ∙ wide,
       subst (λ o. AtRoutine o (λ z. length e.places ≡ z.places)) (sym is) places,
     )

@@ -6,6 +6,7 @@ use Rattle.language.specs.Tree.{Mark, done, one, choose, loop}
 use Rattle.language.specs.Resolve.{Scope, resolve_mark, resolve_simple, resolve_side, resolve_block}
 use Rattle.language.specs.Rest.{Label, Code, join, has_label, first_of_two, rest_from}
 use Rattle.language.specs.Sequential.{statements, numbered, marked}
+use Rattle.language.proofs.Rests.{first_none}
 use Rattle.syntax.specs.declared.tree.Stmt.{Stmt}
 use Rattle.syntax.specs.Trees.{Deed, simple, branch, repeat, item_of, block_of}
 use Rattle.flow_graph.specs.Nodes.{at}
@@ -18,10 +19,6 @@ place x b k = option_map at (rest_from x b k)
 pub place_of_two : (a b : Option Code) → option_map at (first_of_two a b) ≡ first_of_two (option_map at a) (option_map at b)
 place_of_two None b = refl
 place_of_two (Some r) b = refl
-
-pub or_nothing : {A : Type 0} (a : Option A) → first_of_two a None ≡ a
-or_nothing None = refl
-or_nothing (Some r) = refl
 
 -- one of three, as the first of two and the third
 of_three : (a b c : Option Code) → option_map at (first_of_two a (first_of_two b c)) ≡ first_of_two (option_map at (first_of_two a (first_of_two b None))) (option_map at c)
@@ -99,7 +96,7 @@ place_in_branch x n s m r a b k e =
     let B = numbered (suc n + statements (resolve_block s a)) (resolve_block s b) in
     ap (λ h. option_map at (cond h (Some (choose (marked n (resolve_mark m)) (resolve_side s r) A B k)) (first_of_two (rest_from x A k) (first_of_two (rest_from x B k) None)))) e
     ∙ place_of_two (rest_from x A k) (first_of_two (rest_from x B k) None)
-    ∙ ap (λ z. first_of_two (place x A k) (option_map at z)) (or_nothing (rest_from x B k))
+    ∙ ap (λ z. first_of_two (place x A k) (option_map at z)) (first_none (rest_from x B k))
 
 pub place_in_loop : (x : Label) (n : ℕ) (s : Scope) (m : Mark tree.Name) (r : tree.RightSide tree.Name) (a : Names) (k : Code) → has_label x (resolve_mark m) ≡ false →
     place x (led n s m (repeat r a) done) k ≡ place x (numbered (suc n) (resolve_block s a)) (loop (marked n (resolve_mark m)) (resolve_side s r) (numbered (suc n) (resolve_block s a)) k)
@@ -107,7 +104,7 @@ place_in_loop x n s m r a k e =
     let A = numbered (suc n) (resolve_block s a) in
     let again = loop (marked n (resolve_mark m)) (resolve_side s r) A k in
     ap (λ h. option_map at (cond h (Some again) (first_of_two (rest_from x A again) None))) e
-    ∙ ap (option_map at) (or_nothing (rest_from x A again))
+    ∙ ap (option_map at) (first_none (rest_from x A again))
 
 -- the same, where what the statement does is known by an equation
 pub in_branch_first : (x : Label) (n found : ℕ) (s : Scope) (m : Mark tree.Name) (d : Deed) (r : tree.RightSide tree.Name) (a b : Names) (k : Code) → d ≡ branch r a b →

@@ -1,6 +1,7 @@
 -- What an expression over bits is worth is its value.
-use Rattle.std.proofs.Common.{◌≡◌, ◌<◌, ◌≤◌, ℕ, zero, suc, ◌+◌, Bool, true, false, cond, not, nat_lt, ◌==◌, Some, None, List, [], ◌∷◌, ◌++◌, length, refl, sym, ◌∙◌, ap, arith}
+use Rattle.std.proofs.Common.{◌≡◌, ◌≤◌, ℕ, zero, suc, ◌+◌, Bool, true, false, cond, not, nat_lt, ◌==◌, Some, None, List, [], ◌∷◌, ◌++◌, length, refl, sym, ◌∙◌, ap, arith}
 use Rattle.std.proofs.lemmas.Bool.{ltb-true, ltb-false}
+use Rattle.std.proofs.lemmas.List.{get_or_append_left, get_or-append-add}
 use Rattle.std.proofs.lemmas.Nat.Bits.{bit_at-zero}
 use Rattle.language.specs.Tree.{Name, Expression, const, var, negation, two}
 use Rattle.language.specs.Value.{Place, global, local, bit, look_up, operate, value_of}
@@ -15,15 +16,6 @@ coded_bit [] i = ap (λ n. n == 1) (bit_at-zero i)
 coded_bit (b ∷ bs) zero = first_bit b (coded bs)
 coded_bit (b ∷ bs) (suc i) = later_bit b (coded bs) i ∙ coded_bit bs i
 
-bit_left : (xs ys : List Bool) (i : ℕ) → i < length xs → bit (xs ++ ys) i ≡ bit xs i
-bit_left [] ys i h = absurd (omega (arith, h))
-bit_left (x ∷ xs) ys zero h = refl
-bit_left (x ∷ xs) ys (suc i) h = bit_left xs ys i (omega (arith, h))
-
-bit_right : (xs ys : List Bool) (i : ℕ) → bit (xs ++ ys) (length xs + i) ≡ bit ys i
-bit_right [] ys i = ap (bit ys) (let z : 0 + i ≡ i = omega arith in z)
-bit_right (x ∷ xs) ys i = ap (bit (x ∷ (xs ++ ys))) (let z : suc (length xs) + i ≡ suc (length xs + i) = omega arith in z) ∙ bit_right xs ys i
-
 bit_past : (xs : List Bool) (i : ℕ) → length xs ≤ i → bit xs i ≡ false
 bit_past [] i h = refl
 bit_past (x ∷ xs) zero h = absurd (omega (arith, h))
@@ -31,11 +23,11 @@ bit_past (x ∷ xs) (suc i) h = bit_past xs i (omega (arith, h))
 
 -- a read of a place, by its bit
 read_worth : (n : ℕ) (gs ls : List Bool) (p : Place) → length gs ≡ n → worth (bit_of (coded (gs ++ ls))) (read_of (bit_of_place n p)) ≡ look_up gs ls p
-read_worth n gs ls (local i) e = coded_bit (gs ++ ls) (n + i) ∙ ap (λ k. bit (gs ++ ls) (k + i)) (sym e) ∙ bit_right gs ls i
+read_worth n gs ls (local i) e = coded_bit (gs ++ ls) (n + i) ∙ ap (λ k. bit (gs ++ ls) (k + i)) (sym e) ∙ get_or-append-add gs ls i false
 read_worth n gs ls (global i) e = go (nat_lt i n) refl
   where
     go : (b : Bool) → nat_lt i n ≡ b → worth (bit_of (coded (gs ++ ls))) (read_of (cond b (Some i) None)) ≡ bit gs i
-    go true is = coded_bit (gs ++ ls) i ∙ bit_left gs ls i (let less = ltb-true i n is in omega (arith, less, e))
+    go true is = coded_bit (gs ++ ls) i ∙ get_or_append_left gs ls false i (let less = ltb-true i n is in omega (arith, less, e))
     go false is = sym (bit_past gs i (let least = ltb-false i n is in omega (arith, least, e)))
 
 pub worth_is_value : (s : Scope) (gs ls : List Bool) (e : Expression Name) → length gs ≡ length s.globals → worth (bit_of (coded (gs ++ ls))) (located s e) ≡ value_of gs ls (resolve_expression s e)

@@ -1,6 +1,6 @@
 -- What is left to run after a step is again left from a statement of the block on, or what comes after it.
-use Rattle.std.proofs.Common.{◌≡◌, Bool, true, false, cond, ◌++◌, ◌⊎◌, Option, Some, None, inl, inr, refl, sym, ap, subst}
-use Rattle.std.proofs.lemmas.Option.{none-some}
+use Rattle.std.proofs.Common.{◌≡◌, Bool, true, false, cond, ◌++◌, ◌⊎◌, Option, Some, None, inl, inr, refl, sym, subst}
+use Rattle.std.proofs.lemmas.Option.{none-some, same_Some}
 use Rattle.language.specs.Tree.{Mark, RightSide, Simple, done, one, choose, loop}
 use Rattle.language.specs.Value.{Place}
 use Rattle.language.specs.Rest.{Label, Code, join, has_label, first_of_two, rest_from}
@@ -86,11 +86,7 @@ in_follows (loop m c a t) k r r' (inr f) next =
 
 -- the rest that is picked is one of the two
 picked : (b : Bool) (h r : Code) (o : Option Code) → cond b (Some h) o ≡ Some r → (r ≡ h) ⊎ (o ≡ Some r)
-picked true h r o e = inl (sym (ap (code_or h) e))
-  where
-    code_or : Code → Option Code → Code
-    code_or d None = d
-    code_or d (Some c) = c
+picked true h r o e = inl (sym (same_Some h r e))
 picked false h r o e = inr e
 
 first_picked : (o p : Option Code) (r : Code) → first_of_two o p ≡ Some r → (o ≡ Some r) ⊎ (p ≡ Some r)

@@ -1,7 +1,7 @@
 -- The points of what is left to run in a numbered block.
 use Rattle.std.proofs.Common.{◌≡◌, ◌↔◌, Bool, true, false, ℕ, zero, suc, ◌+◌, ◌<◌, List, [], ◌∷◌, ◌++◌, length, Option, Some, None, map, slice_get, inl, inr, refl, sym, ◌∙◌, ap, ap₂, arith, length-append}
 use Rattle.std.proofs.lemmas.List.{map-append}
-use Rattle.std.proofs.lemmas.Option.{none-some}
+use Rattle.std.proofs.lemmas.Option.{none-some, same_Some}
 use Rattle.std.proofs.lemmas.Bool.{true≢false}
 use Rattle.language.specs.Tree.{done, one, choose, loop}
 use Rattle.language.specs.Rest.{Code, join}
@@ -95,13 +95,9 @@ place_gives_point : (k n : ℕ) (xs : List Code) (r : Code) (i j : ℕ) → map 
 place_gives_point k n [] r i j e sum at = absurd (none-some r at)
 place_gives_point k zero (x ∷ xs) r i j e sum at = absurd (not_empty (point_of x) (map point_of xs) e)
 place_gives_point k (suc n) (x ∷ xs) r zero j e sum at =
-    let same : x ≡ r = ap (code_or x) at in
+    let same : x ≡ r = same_Some x r at in
     let number : k ≡ j = omega arith in
     (inl (sym same), ap point_of (sym same) ∙ ap (head_or None) e ∙ ap Some number)
-  where
-    code_or : Code → Option Code → Code
-    code_or d None = d
-    code_or d (Some c) = c
 place_gives_point k (suc n) (x ∷ xs) r (suc i) j e sum at =
     let (f, point) = place_gives_point (suc k) n xs r i j (ap rest_of e) (omega arith) at in
     (inr f, point)

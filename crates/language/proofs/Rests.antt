@@ -17,6 +17,10 @@ join_join (one m s t) b c = ap (one m s) (join_join t b c)
 join_join (choose m r x y t) b c = ap (choose m r x y) (join_join t b c)
 join_join (loop m r x t) b c = ap (loop m r x) (join_join t b c)
 
+pub first_none : {A : Type 0} (o : Option A) → first_of_two o None ≡ o
+first_none None = refl
+first_none (Some a) = refl
+
 -- k comes after the rest, where there is one
 abbrev behind : Code → Option Code → Option Code
 behind k o = option_map (λ rest. join rest k) o

@@ -1,45 +1,19 @@
 -- The widths of valuations: as many values as globals and as places.
-use Rattle.std.proofs.Common.{◌≡◌, ◌⊎◌, ℕ, zero, suc, ◌+◌, ◌-◌, ◌≤◌, List, [], ◌∷◌, Bool, inl, inr, refl, sym, ◌∙◌, ap, subst, arith, length, slice_get}
-use Rattle.std.proofs.lemmas.List.{length-append, length-set}
-use Rattle.language.specs.Tree.{Expression, skip, assign, assert, assume, goto, leave, call, done, one, choose, loop}
-use Rattle.language.specs.Value.{Place, global, local, values_of, with_bit, written_globals, written_locals}
+use Rattle.std.proofs.Common.{◌≡◌, ◌⊎◌, ℕ, zero, suc, ◌-◌, ◌≤◌, List, [], ◌∷◌, Bool, inl, inr, refl, sym, ◌∙◌, ap, subst, arith, length, slice_get}
+use Rattle.language.specs.Tree.{skip, assign, assert, assume, goto, leave, call, done, one, choose, loop}
+use Rattle.language.specs.Value.{values_of}
 use Rattle.language.specs.Rest.{Code, rest_from}
 use Rattle.language.specs.Step.{Program, frame, State, state, zeros, fresh, AtRoutine, body_of, Step, AfterSteps}
 use Rattle.language.specs.Sequential.{Valuation, Calls, Asks, IsZero, Entered, Message, entry, summary, IsDue}
 use Rattle.language.specs.Flow.{IsRestOf, Flow, FlowsTo, ReturnsTo, EntersTo}
 use Rattle.language.specs.Messages.{Reached, starts, flows, returns, IsValuationOf, IsMessageTo, ArgumentsFit}
 use Rattle.language.proofs.Runs.{steps_pick}
+use Rattle.language.proofs.Lengths.{length_zeros, length_fresh, length_values, length_globals, length_locals}
 use Rattle.language.proofs.Callers.{no_flow_from_call, no_flow_from_exit}
 use Rattle.language.proofs.StepKinds.{rest_found, routine_found, step_kinds}
 use Rattle.language.proofs.Standing.{frame_stands}
 use Rattle.language.proofs.Entering.{call_shape, due_entered}
 use Rattle.language.proofs.Sound.{alone, pair_inside}
-
-length_zeros : (n : ℕ) → length (zeros n) ≡ n
-length_zeros zero = refl
-length_zeros (suc n) = ap suc (length_zeros n)
-
-length_fresh : (n : ℕ) (arguments : List Bool) → length arguments ≤ n → length (fresh n arguments) ≡ n
-length_fresh n arguments few =
-    let all : length (fresh n arguments) ≡ length arguments + length (zeros (n - length arguments)) = length-append arguments (zeros (n - length arguments)) in
-    let more : length (zeros (n - length arguments)) ≡ n - length arguments = length_zeros (n - length arguments) in
-    omega (arith, all, more, few)
-
-length_values : (g l : List Bool) (es : List (Expression Place)) → length (values_of g l es) ≡ length es
-length_values g l [] = refl
-length_values g l (e ∷ es) = ap suc (length_values g l es)
-
-length_globals : (xs : List Place) (vs g : List Bool) → length (written_globals xs vs g) ≡ length g
-length_globals [] vs g = refl
-length_globals (x ∷ xs) [] g = refl
-length_globals (global n ∷ xs) (v ∷ vs) g = length_globals xs vs (with_bit g n v) ∙ length-set g n v
-length_globals (local n ∷ xs) (v ∷ vs) g = length_globals xs vs g
-
-length_locals : (xs : List Place) (vs l : List Bool) → length (written_locals xs vs l) ≡ length l
-length_locals [] vs l = refl
-length_locals (x ∷ xs) [] l = refl
-length_locals (global n ∷ xs) (v ∷ vs) l = length_locals xs vs l
-length_locals (local n ∷ xs) (v ∷ vs) l = length_locals xs vs (with_bit l n v) ∙ length-set l n v
 
 -- how many globals there are, and how many places the top frame has
 abbrev breadth : State → ℕ

@@ -1,10 +1,10 @@
 -- The edges of all points, and the set of one point among them.
-use Rattle.std.proofs.Common.{◌≡◌, ℕ, Bool, true, false, cond, eqb, List, [], ◌∷◌, ◌++◌, Option, None, Some, map, get_or, slice_get, position, inl, inr, refl, sym, ap, ◌∙◌, subst, true≢false, suc, zero, eq-eqb, is_some}
+use Rattle.std.proofs.Common.{◌≡◌, ℕ, Bool, true, false, cond, eqb, List, [], ◌∷◌, ◌++◌, None, Some, map, get_or, slice_get, position, inl, inr, refl, sym, ap, ◌∙◌, subst, true≢false, suc, zero, eq-eqb, is_some}
 use Rattle.std.specs.Map.{keys_of, values_of, lookup}
 use Rattle.std.specs.List.{IsDistinct, AllByRecursion}
 use Rattle.std.specs.BTreeSet.{BTreeSet}
 use Rattle.std.proofs.lemmas.Map.Keys.{IsDistinct-head, IsDistinct-tail}
-use Rattle.std.proofs.lemmas.Option.{slice_get-get_or}
+use Rattle.std.proofs.lemmas.Option.{slice_get-get_or, same_Some}
 use Rattle.std.proofs.lemmas.List.Quantifiers.{position-Some}
 use Rattle.std.proofs.lemmas.Map.Views.{exact_unsigned_eq}
 use Rattle.indexmap.specs.IndexMap.{set_value_at}
@@ -20,19 +20,10 @@ use Rattle.path_sets.proofs.Inserted.{behind, before, mapped, image_in, image_of
 abbrev pub Groups : Type 0
 Groups = List (ℕ × BTreeSet Ends)
 
--- the value that an option has
-the : {A : Type 0} → A → Option A → A
-the a None = a
-the a (Some x) = x
-
-same_inside : {A : Type 0} (x y : A) → Some x ≡ Some y → x ≡ y
-unfolding the
-same_inside x y e = ap (the x) e
-
 -- a key and a value at one place make the pair at that place
 pub pair_at : (gs : Groups) (i p : ℕ) (s : BTreeSet Ends) → slice_get (keys_of gs) i ≡ Some p → slice_get (values_of gs) i ≡ Some s → slice_get gs i ≡ Some (p, s)
 pair_at [] i p s k v = absurd (true≢false (ap is_some (sym k)))
-pair_at (g ∷ gs) zero p s k v = ap Some (λ j. (same_inside g.0 p k j, same_inside g.1 s v j))
+pair_at (g ∷ gs) zero p s k v = ap Some (λ j. (same_Some g.0 p k j, same_Some g.1 s v j))
 pair_at (g ∷ gs) (suc i) p s k v = pair_at gs i p s k v
 
 -- the point that is looked up stands at the place that is found
@@ -44,14 +35,14 @@ found_at ks i p h =
 -- what holds of each point holds of the one at a place
 of_each : (P : ℕ → Type 0) (gs : Groups) (i p : ℕ) (s : BTreeSet Ends) → slice_get gs i ≡ Some (p, s) → AllByRecursion P (keys_of gs) → P p
 of_each P [] i p s at all = absurd (true≢false (ap is_some (sym at)))
-of_each P (g ∷ gs) zero p s at all = subst P (ap (λ h. h.0) (same_inside g (p, s) at)) all.0
+of_each P (g ∷ gs) zero p s at all = subst P (ap (λ h. h.0) (same_Some g (p, s) at)) all.0
 of_each P (g ∷ gs) (suc i) p s at all = of_each P gs i p s at all.1
 
 -- an edge of a point's set is an edge
 pub in_group : (gs : Groups) (i p : ℕ) (s : BTreeSet Ends) (e : Ends) → slice_get gs i ≡ Some (p, s) → Member e s.keys → Member (edge_at p e) (edges gs)
 in_group [] i p s e at m = absurd (true≢false (ap is_some (sym at)))
 in_group (g ∷ gs) zero p s e at m =
-    subst (λ (h : ℕ × BTreeSet Ends). Member (edge_at p e) (map (edge_at h.0) h.1.keys ++ edges gs)) (sym (same_inside g (p, s) at))
+    subst (λ (h : ℕ × BTreeSet Ends). Member (edge_at p e) (map (edge_at h.0) h.1.keys ++ edges gs)) (sym (same_Some g (p, s) at))
     (member_left (edge_at p e) (map (edge_at p) s.keys) (edges gs) (image_in (edge_at p) e s.keys m))
 in_group (g ∷ gs) (suc i) p s e at m =
     member_right (edge_at p e) (map (edge_at g.0) g.1.keys) (edges gs) (in_group gs i p s e at m)
@@ -80,7 +71,7 @@ own_ends p e es m =
 pub only_in_group : (gs : Groups) (i p : ℕ) (s : BTreeSet Ends) (e : Ends) → IsDistinct eqb (keys_of gs) → slice_get gs i ≡ Some (p, s) → Member (edge_at p e) (edges gs) → Member e s.keys
 only_in_group [] i p s e d at m = absurd (true≢false (ap is_some (sym at)))
 only_in_group (g ∷ gs) zero p s e d at m =
-    let same : g ≡ (p, s) = same_inside g (p, s) at in
+    let same : g ≡ (p, s) = same_Some g (p, s) at in
     let m' : Member (edge_at p e) (map (edge_at p) s.keys ++ edges gs) = subst (λ (h : ℕ × BTreeSet Ends). Member (edge_at p e) (map (edge_at h.0) h.1.keys ++ edges gs)) same m in
     let apart : AllByRecursion (λ k. eqb p k ≡ false) (keys_of gs) = subst (λ (h : ℕ × BTreeSet Ends). AllByRecursion (λ k. eqb h.0 k ≡ false) (keys_of gs)) same (IsDistinct-head eqb g.0 (keys_of gs) d) in
     elim (member_append (edge_at p e) (map (edge_at p) s.keys) (edges gs) m') [
@@ -97,7 +88,7 @@ only_in_group (g ∷ gs) (suc i) p s e d at m =
 pub put_in_group : (gs : Groups) (i p : ℕ) (s t : BTreeSet Ends) (e : Ends) → slice_get gs i ≡ Some (p, s) → Inserts e s.keys t.keys → Inserts (edge_at p e) (edges gs) (edges (set_value_at gs i t))
 put_in_group [] i p s t e at more = absurd (true≢false (ap is_some (sym at)))
 put_in_group (g ∷ gs) zero p s t e at more =
-    subst (λ (h : ℕ × BTreeSet Ends). Inserts (edge_at p e) (map (edge_at h.0) h.1.keys ++ edges gs) (map (edge_at h.0) t.keys ++ edges gs)) (sym (same_inside g (p, s) at))
+    subst (λ (h : ℕ × BTreeSet Ends). Inserts (edge_at p e) (map (edge_at h.0) h.1.keys ++ edges gs) (map (edge_at h.0) t.keys ++ edges gs)) (sym (same_Some g (p, s) at))
     (before (edge_at p e) (map (edge_at p) s.keys) (map (edge_at p) t.keys) (edges gs) (mapped (edge_at p) e s.keys t.keys more))
 put_in_group (g ∷ gs) (suc i) p s t e at more =
     behind (edge_at p e) (map (edge_at g.0) g.1.keys) (edges gs) (edges (set_value_at gs i t)) (put_in_group gs i p s t e at more)
@@ -106,7 +97,7 @@ put_in_group (g ∷ gs) (suc i) p s t e at more =
 pub same_group : (gs : Groups) (i : ℕ) (s t : BTreeSet Ends) → slice_get (values_of gs) i ≡ Some s → t.keys ≡ s.keys → edges (set_value_at gs i t) ≡ edges gs
 same_group [] i s t at same = refl
 same_group (g ∷ gs) zero s t at same =
-    ap (λ ks. map (edge_at g.0) ks ++ edges gs) (same ∙ sym (ap (λ (h : BTreeSet Ends). h.keys) (same_inside g.1 s at)))
+    ap (λ ks. map (edge_at g.0) ks ++ edges gs) (same ∙ sym (ap (λ (h : BTreeSet Ends). h.keys) (same_Some g.1 s at)))
 same_group (g ∷ gs) (suc i) s t at same = ap (λ es. map (edge_at g.0) g.1.keys ++ es) (same_group gs i s t at same)
 
 -- a point that is not found is none of those kept

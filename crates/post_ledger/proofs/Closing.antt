@@ -1,9 +1,10 @@
 -- What a legal history with as many Posts as Takes as Dones says of its messages.
 use Rattle.std.proofs.Common.{◌≡◌, ◌∙◌, ℕ, zero, suc, ◌<◌, ◌≤◌, Bool, true, false, List, [], ◌∷◌, ◌++◌, length, take, Contains, nat_eq, refl, sym, ap, subst, arith}
 use Rattle.std.proofs.lemmas.List.{append-nil, length_push, take-append-le}
+use Rattle.std.proofs.Math.Seq.{take-length}
 use Rattle.std.specs.List.{IsDistinct, list_any}
 use Rattle.std.specs.Cmp.{nat_eq_equiv}
-use Rattle.std.proofs.lemmas.Bool.{eqb-true}
+use Rattle.std.proofs.lemmas.Bool.{eqb-true, false≢true}
 use Rattle.std.proofs.lemmas.Map.Views.{Contains-from_any, list_any-from_Contains}
 use Rattle.post_ledger.specs.declared.event.Event.{Event}
 use Rattle.post_ledger.specs.declared.event.Event.TheVariants.{Post, Take, Done}
@@ -13,10 +14,6 @@ use Rattle.post_ledger.specs.Sides.{messages_of, sent, taken}
 use Rattle.post_ledger.specs.Orders.{part, IsLawful, IsCompleted, IsClosed}
 use Rattle.post_ledger.proofs.Histories.{posts-append, takes-append, split_at_element}
 use Rattle.post_ledger.proofs.Orders.{Sizes, sizes_of, sizes_to, dones_fewer, element_at}
-
-take_all : {X : Type 0} (l : List X) → take (length l) l ≡ l
-take_all [] = refl
-take_all (x ∷ xs) = ap (λ r. x ∷ r) (take_all xs)
 
 module _ {M : Type 0} where
   -- the Takes are the first of the Posts
@@ -46,10 +43,10 @@ module _ {M : Type 0} where
       subst InOrder (sym parts.2) (in_order_push (take n h) at.0 (sizes_to h legal n (omega arith)) (in_order_to h legal n (omega arith)) (legal n at.0 at.1))
 
   pub in_order : (h : List (Event M)) → IsLegal h → takes h ≡ take (length (takes h)) (posts h)
-  in_order h legal = subst InOrder (take_all h) (in_order_to h legal (length h) (omega arith))
+  in_order h legal = subst InOrder (take-length h) (in_order_to h legal (length h) (omega arith))
 
   pub all_taken : (h : List (Event M)) → IsLegal h → IsCompleted h → takes h ≡ posts h
-  all_taken h legal completed = in_order h legal ∙ ap (λ n. take n (posts h)) (sym completed.0) ∙ take_all (posts h)
+  all_taken h legal completed = in_order h legal ∙ ap (λ n. take n (posts h)) (sym completed.0) ∙ take-length (posts h)
 
   pub each_taken : (h : List (Event M)) (s : ℕ) → IsLegal h → IsCompleted h → taken s h ≡ sent s h
   each_taken h s legal completed = ap (messages_of s) (all_taken h legal completed)
@@ -57,12 +54,9 @@ module _ {M : Type 0} where
   found_or_not : (h : List (Event M)) (t : ℕ) (found : Bool) → list_any (nat_eq t) (dones h) ≡ found → Sizes h → IsCompleted h → t < length (takes h) → Contains (dones h) t
   found_or_not h t true is z completed old = Contains-from_any eqb-true t (dones h) is
   found_or_not h t false is z completed old =
-      let fewer = dones_fewer h t z old (λ there. never (sym is ∙ list_any-from_Contains nat_eq_equiv t (dones h) there)) in
+      let fewer = dones_fewer h t z old (λ there. false≢true (sym is ∙ list_any-from_Contains nat_eq_equiv t (dones h) there)) in
       let all = completed.1 in
       absurd (omega arith)
-    where
-      never : false ≡ true → ⊥
-      never e = cc
 
   pub each_done : (h : List (Event M)) (t : ℕ) → IsLegal h → IsCompleted h → t < length (takes h) → Contains (dones h) t
   each_done h t legal completed old = found_or_not h t (list_any (nat_eq t) (dones h)) refl (sizes_of h legal) completed old

@@ -2,7 +2,7 @@
 use Rattle.std.proofs.Common.{◌≡◌, ℕ, zero, suc, ◌+◌, ◌<◌, ◌≤◌, List, [], ◌∷◌, ◌++◌, ◌⊎◌, Some, length, take, slice_get, refl, sym, ◌∙◌, ap, subst, inl, inr, arith, add-one, length-append}
 use Rattle.std.proofs.lemmas.Bool.{cases_eq}
 use Rattle.std.proofs.lemmas.List.{append-nil, take-append-le, take_at, length-take}
-use Rattle.std.proofs.lemmas.Option.{slice_get_within}
+use Rattle.std.proofs.lemmas.Option.{slice_get_within, same_Some}
 use Rattle.post_ledger.specs.declared.event.Event.{Event}
 use Rattle.post_ledger.specs.declared.event.Event.TheVariants.{Post, Take, Done}
 use Rattle.post_ledger.specs.History.{posts, takes, dones, MayFollow, IsLegal}
@@ -89,15 +89,12 @@ takes_more h i e at =
 pub takes_so_far : {M : Type 0} (h : List (Event M)) (i : ℕ) → length (takes (take i h)) ≤ i
 takes_so_far h i = omega (arith, takes_few (take i h), length-take i h)
 
-some_injective : {X : Type 0} {a b : X} → Some a ≡ Some b → a ≡ b
-some_injective s = cc
-
 -- what may follow at each place up to i, and at i, may follow at each place up to i + 1
 pub each_more : {M : Type 0} (h : List (Event M)) (i : ℕ) (e : Event M) → slice_get h i ≡ Some e → MayFollow (take i h) e → ((j : ℕ) (x : Event M) → j < i → slice_get h j ≡ Some x → MayFollow (take j h) x) → (j : ℕ) (x : Event M) → j < i + 1 → slice_get h j ≡ Some x → MayFollow (take j h) x
 each_more h i e at here below j x short there =
     elim (cases_eq j i) [
       | inl same ↦
           let one : Some e ≡ Some x = sym at ∙ ap (slice_get h) (sym same) ∙ there in
-          subst (λ k. MayFollow (take k h) x) (sym same) (subst (MayFollow (take i h)) (some_injective one) here)
+          subst (λ k. MayFollow (take k h) x) (sym same) (subst (MayFollow (take i h)) (same_Some e x one) here)
       | inr other ↦ let less : j < i = omega arith in below j x less there
     ]

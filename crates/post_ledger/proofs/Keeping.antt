@@ -4,7 +4,7 @@ use Rattle.std.proofs.lemmas.List.{append-nil, length_push, take-append-le}
 use Rattle.std.proofs.lemmas.Option.{slice_get_within}
 use Rattle.std.specs.List.{IsDistinct, list_any}
 use Rattle.std.specs.Cmp.{nat_eq_equiv}
-use Rattle.std.proofs.lemmas.Bool.{cases_Bool, or_cases, eqb-true}
+use Rattle.std.proofs.lemmas.Bool.{cases_Bool, or_cases, eqb-true, false≢true}
 use Rattle.std.proofs.lemmas.List.Folds.{list_any-append}
 use Rattle.std.proofs.lemmas.Map.Keys.{IsDistinct-push}
 use Rattle.std.proofs.lemmas.Map.Views.{Contains-from_any}
@@ -108,15 +108,12 @@ counts_grow h h' cap cap' n u t o same grown kept =
 pub not_found : (xs : List ℕ) (q : ℕ) → (Contains xs q → ⊥) → list_any (nat_eq q) xs ≡ false
 not_found xs q fresh = elim (cases_Bool (list_any (nat_eq q) xs)) [ inl found ↦ absurd (fresh (Contains-from_any eqb-true q xs found)) | inr none ↦ none ]
 
-false-true : false ≡ true → ⊥
-false-true e = cc
-
 -- what is found with one more at the end is found before, or is that one
 found_push : (xs : List ℕ) (x q : ℕ) → list_any (nat_eq q) (xs ++ x ∷ []) ≡ true → (list_any (nat_eq q) xs ≡ true) ⊎ (q ≡ x)
 found_push xs x q e =
     elim (or_cases (list_any (nat_eq q) xs) (list_any (nat_eq q) (x ∷ [])) (sym (list_any-append (nat_eq q) xs (x ∷ [])) ∙ e)) [
       | inl found ↦ inl found
-      | inr last ↦ inr (elim (or_cases (nat_eq q x) false last) [ inl same ↦ eqb-true q x same | inr never ↦ absurd (false-true never) ])
+      | inr last ↦ inr (elim (or_cases (nat_eq q x) false last) [ inl same ↦ eqb-true q x same | inr never ↦ absurd (false≢true never) ])
     ]
 
 -- the numbers of completed Takes with one more

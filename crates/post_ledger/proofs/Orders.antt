@@ -4,6 +4,7 @@ use Rattle.std.specs.Prelude.{◌↔◌}
 use Rattle.std.proofs.lemmas.List.{append-nil, length_push, take-append-le, take_at}
 use Rattle.std.proofs.lemmas.Option.{slice_get_within}
 use Rattle.std.proofs.lemmas.Bool.{cases_eq, cases_lt}
+use Rattle.std.proofs.Math.Seq.{take-length}
 use Rattle.std.specs.List.{IsDistinct, list_any}
 use Rattle.std.specs.Cmp.{nat_eq_equiv}
 use Rattle.std.proofs.lemmas.Map.Keys.{IsDistinct-push}
@@ -104,11 +105,7 @@ module _ {M : Type 0} where
       subst Sizes (sym parts.2) (sizes_push (take n h) at.0 (sizes_to h legal n (omega arith)) (legal n at.0 at.1))
 
   pub sizes_of : (h : List (Event M)) → IsLegal h → Sizes h
-  sizes_of h legal = subst Sizes (take_all h) (sizes_to h legal (length h) (omega arith))
-    where
-      take_all : {X : Type 0} (l : List X) → take (length l) l ≡ l
-      take_all [] = refl
-      take_all (x ∷ xs) = ap (λ r. x ∷ r) (take_all xs)
+  sizes_of h legal = subst Sizes (take-length h) (sizes_to h legal (length h) (omega arith))
 
   -- what an entry needs that it may come after an order: its mailbox, that its event may follow there, and a Post its job
   abbrev pub UnderJob : List (Entry M) → Entry M → Type 0

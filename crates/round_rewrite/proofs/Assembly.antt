@@ -7,6 +7,7 @@ use Rattle.language.specs.Rest.{Code, rest_from}
 use Rattle.language.specs.Step.{Routine, Program, frame, State, state, zeros, body_of}
 use Rattle.language.specs.Rounds.{starting_stack, Unsafe}
 use Rattle.language.specs.Sequential.{numbered, numbered_routine, in_text_order}
+use Rattle.language.proofs.Lengths.{length_zeros}
 use Rattle.round_rewrite.specs.Table.{Naming, numbers, plain, guess, guesses, starts, check, checks, main, rewritten}
 use Rattle.round_rewrite.specs.Places.{places, bits_at, all_globals, rewritten_routine, main_routine, rewritten_program}
 use Rattle.round_rewrite.specs.Scoped.{FitsScopes}
@@ -14,7 +15,7 @@ use Rattle.round_rewrite.proofs.Laid.{Long, flat, row, bits_of, lay, Shape, bits
 use Rattle.round_rewrite.proofs.Plain.{PlainAfter, bare, bare_state, bare_routine, world_of, bare-numbered, rest-numbered}
 use Rattle.round_rewrite.proofs.Leading.{Leads}
 use Rattle.round_rewrite.proofs.Blocks.{bare-rewritten, rest-rewritten}
-use Rattle.round_rewrite.proofs.Frames.{put_routine, IsWorld, length-zeros, zeros-add}
+use Rattle.round_rewrite.proofs.Frames.{put_routine, IsWorld, zeros-add}
 use Rattle.round_rewrite.proofs.Compose.{Linked, FailThreads, copies, copies_long, to_rounds, from_rounds}
 use Rattle.round_rewrite.proofs.Guessing.{Bad, main_at}
 use Rattle.round_rewrite.proofs.Checking.{Fill, guesses_lead, guesses_back, checks_lead, checks_back, linked_rows, rows_linked}
@@ -99,8 +100,8 @@ module _ (p : Program) (last : ℕ) where
     abbrev z : List Bool
     z = zeros n
 
-    first_fill : Fill (world_of result) n last z (length-zeros n) (bits_of 0 false false) 0 last [] (copies last z) (copies last z)
-    first_fill = let c = copies_long n last z (length-zeros n) in record {
+    first_fill : Fill (world_of result) n last z (length_zeros n) (bits_of 0 false false) 0 last [] (copies last z) (copies last z)
+    first_fill = let c = copies_long n last z (length_zeros n) in record {
       a_long = tt;
       d_long = c.0;
       e_long = c.0;
@@ -127,16 +128,16 @@ module _ (p : Program) (last : ℕ) where
     -- unsafe: the rewritten program has a run that ends with bad
     pub unsafe_leads : Unsafe p (suc last) → Leads (world_of result) (main_at (lay (copies (suc last) z) (copies last z) (bits_of 0 false false)) body) (Bad n last)
     unsafe_leads (r, lt, g, ss, rounds, f) =
-        let (G, G', e, long, link, ft) = from_rounds p n r (last - r) z (map (starting_stack p.routines) p.threads) g ss (length-zeros n) rounds f in
+        let (G, G', e, long, link, ft) = from_rounds p n r (last - r) z (map (starting_stack p.routines) p.threads) g ss (length_zeros n) rounds f in
         let eG : length G ≡ last = omega arith in
         rows G G' eG long link ft
       where
         rows : (G G' : List (List Bool)) → length G ≡ last → Long n G → Linked z (z ∷ G) G' → FailThreads p (z ∷ G) (map (starting_stack p.routines) p.threads) G' → Leads (world_of result) (main_at (lay (copies (suc last) z) (copies last z) (bits_of 0 false false)) body) (Bad n last)
         rows G [] eG long link ft = absurd link
         rows G (y ∷ G') eG long link ft =
-            guesses_lead (world_of result) n last z (length-zeros n) (bits_of 0 false false) (starts (places n last 0) last p.threads checks_code) (Bad n last) last 0 [] (copies last z) (copies last z) G first_fill long eG
-            (fails_lead p last fits small (world_of result) is_world G long eG (Bad n last) checks_code p.threads fits.threads (z ∷ G) (length-zeros n, long) (ap suc eG) (y ∷ G') ft
-            (λ q s. let kept = fails_keep p n (z ∷ G) (map (starting_stack p.routines) p.threads) (y ∷ G') (length-zeros n, long) ft in
+            guesses_lead (world_of result) n last z (length_zeros n) (bits_of 0 false false) (starts (places n last 0) last p.threads checks_code) (Bad n last) last 0 [] (copies last z) (copies last z) G first_fill long eG
+            (fails_lead p last fits small (world_of result) is_world G long eG (Bad n last) checks_code p.threads fits.threads (z ∷ G) (length_zeros n, long) (ap suc eG) (y ∷ G') ft
+            (λ q s. let kept = fails_keep p n (z ∷ G) (map (starting_stack p.routines) p.threads) (y ∷ G') (length_zeros n, long) ft in
             let sh : Shape n last (y ∷ G') G = shape_of (y ∷ G') G kept.0 long (kept.1 ∙ ap suc eG) eG in
             checks_lead (world_of result) n last (y ∷ G') G (bits_of q s true) sh done (Bad n last) last 0 (omega arith)
             (λ i lt. rows_linked G y G' link.1 i (omega arith)) (over (y ∷ G') G sh q s))
@@ -145,8 +146,8 @@ module _ (p : Program) (last : ℕ) where
     -- a run that ends with bad: the source is unsafe
     pub leads_unsafe : (N : ℕ) → PlainAfter (world_of result) N (main_at (lay (copies (suc last) z) (copies last z) (bits_of 0 false false)) body) (Bad n last) → Unsafe p (suc last)
     leads_unsafe N h =
-        let (G, long, eG, M, h1) = guesses_back (world_of result) n last z (length-zeros n) (bits_of 0 false false) (starts (places n last 0) last p.threads checks_code) last 0 [] (copies last z) (copies last z) first_fill N h in
-        rows G long eG (starts_back p last fits small (world_of result) is_world G long eG checks_code p.threads fits.threads (z ∷ G) (length-zeros n, long) (ap suc eG) 0 false false M h1)
+        let (G, long, eG, M, h1) = guesses_back (world_of result) n last z (length_zeros n) (bits_of 0 false false) (starts (places n last 0) last p.threads checks_code) last 0 [] (copies last z) (copies last z) first_fill N h in
+        rows G long eG (starts_back p last fits small (world_of result) is_world G long eG checks_code p.threads fits.threads (z ∷ G) (length_zeros n, long) (ap suc eG) 0 false false M h1)
       where
         fails : (G : List (List Bool)) (y : List Bool) (G' : List (List Bool)) → length G ≡ last → Linked y G G' → FailThreads p (z ∷ G) (map (starting_stack p.routines) p.threads) (y ∷ G') → Unsafe p (suc last)
         fails G y G' eG link ft =

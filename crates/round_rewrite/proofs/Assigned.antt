@@ -1,13 +1,14 @@
 -- The rewritten assignment: draw, spread over the copies, write.
-use Rattle.std.proofs.Common.{◌≡◌, ℕ, zero, suc, ◌+◌, ◌*◌, ◌<◌, ◌≤◌, Bool, true, false, not, ◌&&◌, ◌||◌, List, [], ◌∷◌, ◌++◌, length, map, refl, sym, ◌∙◌, ap, subst, ap₂, arith, inl, inr}
+use Rattle.std.proofs.Common.{◌≡◌, ℕ, zero, suc, ◌+◌, ◌*◌, ◌<◌, ◌≤◌, Bool, false, not, ◌&&◌, ◌||◌, List, [], ◌∷◌, ◌++◌, length, map, refl, sym, ◌∙◌, ap, subst, ap₂, arith, inl, inr}
 use Rattle.std.proofs.lemmas.Bool.{cases_eq}
+use Rattle.std.proofs.lemmas.List.{get_or-set_same, get_or-set_other, length-set, set-append_left}
 use Rattle.language.specs.Tree.{Expression, var, RightSide, any, value}
 use Rattle.language.specs.Value.{Place, global, local, bit, with_bit, look_up, value_of, IsValue, AreValues, written_globals, written_locals}
 use Rattle.round_rewrite.specs.Table.{numbers, at, expression, written, targets, sides, draws, each}
 use Rattle.round_rewrite.specs.Places.{places, is_global}
 use Rattle.round_rewrite.specs.Scoped.{PlaceInScope, PlacesInScope, SideInScope, SidesInScope}
-use Rattle.round_rewrite.proofs.Laid.{row, with_row, row_bit, row_with, with_own, with_right, with_left, length-with, length-with_row, long-with_row, bit_right, bits_of, lay, Shape}
-use Rattle.round_rewrite.proofs.Translate.{same, same_refl, same_false, at_is, expression_is}
+use Rattle.round_rewrite.proofs.Laid.{row, with_row, row_bit, row_with, with_own, with_right, length-with_row, long-with_row, bit_right, bits_of, lay, Shape}
+use Rattle.round_rewrite.proofs.Translate.{same, same_refl, same_false, at_is, expression_is, or_false}
 
 pub row-with_same : (C : List (List Bool)) (k : ℕ) (v : List Bool) → k < length C → row (with_row C k v) k ≡ v
 row-with_same [] k v h = absurd (omega arith)
@@ -31,18 +32,6 @@ some_values g l [] = ([], tt)
 some_values g l (any ∷ rs) = let (vs, h) = some_values g l rs in (false ∷ vs, (tt, h))
 some_values g l (value e ∷ rs) = let (vs, h) = some_values g l rs in (value_of g l e ∷ vs, (refl, h))
 
-bit-with : (t : List Bool) (j : ℕ) (v : Bool) → j < length t → bit (with_bit t j v) j ≡ v
-bit-with [] j v h = absurd (omega arith)
-bit-with (x ∷ t) zero v h = refl
-bit-with (x ∷ t) (suc j) v h = bit-with t j v (omega arith)
-
-bit-with_other : (t : List Bool) (j i : ℕ) (v : Bool) → (j ≡ i → ⊥) → bit (with_bit t j v) i ≡ bit t i
-bit-with_other [] j i v h = refl
-bit-with_other (x ∷ t) zero zero v h = absurd (h refl)
-bit-with_other (x ∷ t) zero (suc i) v h = refl
-bit-with_other (x ∷ t) (suc j) zero v h = refl
-bit-with_other (x ∷ t) (suc j) (suc i) v h = bit-with_other t j i v (λ e. h (ap suc e))
-
 -- the temporaries after d of them, from number j on, are drawn
 abbrev pub drawn_to : ℕ → ℕ → List Bool → List Bool → List Bool
 drawn_to zero j ts tmp = tmp
@@ -52,12 +41,12 @@ drawn_to (suc d) j (t ∷ ts) tmp = drawn_to d (suc j) ts (with_bit tmp j t)
 pub length-drawn : (d j : ℕ) (ts tmp : List Bool) → length (drawn_to d j ts tmp) ≡ length tmp
 length-drawn zero j ts tmp = refl
 length-drawn (suc d) j [] tmp = refl
-length-drawn (suc d) j (t ∷ ts) tmp = length-drawn d (suc j) ts (with_bit tmp j t) ∙ length-with tmp j t
+length-drawn (suc d) j (t ∷ ts) tmp = length-drawn d (suc j) ts (with_bit tmp j t) ∙ length-set tmp j t
 
 bit-drawn : (d j : ℕ) (ts tmp : List Bool) (i : ℕ) → i < j → bit (drawn_to d j ts tmp) i ≡ bit tmp i
 bit-drawn zero j ts tmp i h = refl
 bit-drawn (suc d) j [] tmp i h = refl
-bit-drawn (suc d) j (t ∷ ts) tmp i h = bit-drawn d (suc j) ts (with_bit tmp j t) i (omega arith) ∙ bit-with_other tmp j i t (omega arith)
+bit-drawn (suc d) j (t ∷ ts) tmp i h = bit-drawn d (suc j) ts (with_bit tmp j t) i (omega arith) ∙ get_or-set_other tmp j i t false (omega arith)
 
 -- the values of the `?` with a global target
 pub picks : List Place → List (RightSide Place) → List Bool → List Bool
@@ -86,8 +75,8 @@ picked g l j (x ∷ xs) [] vs tmp a h = tt
 picked g l j (x ∷ xs) (r ∷ rs) [] tmp a h = absurd a
 picked g l j (global i ∷ xs) (any ∷ rs) (v ∷ vs) tmp a h =
     let room : j + suc (draws is_global xs rs) ≤ length tmp = h in
-    let e : length (with_bit tmp j v) ≡ length tmp = length-with tmp j v in (
-      bit-drawn (draws is_global xs rs) (suc j) (picks xs rs vs) (with_bit tmp j v) j (omega arith) ∙ bit-with tmp j v (omega arith),
+    let e : length (with_bit tmp j v) ≡ length tmp = length-set tmp j v in (
+      bit-drawn (draws is_global xs rs) (suc j) (picks xs rs vs) (with_bit tmp j v) j (omega arith) ∙ get_or-set_same tmp j v false (omega arith),
       picked g l (suc j) xs rs vs (with_bit tmp j v) a.1 (omega arith),
     )
 picked g l j (global i ∷ xs) (value e ∷ rs) (v ∷ vs) tmp a h = picked g l j xs rs vs tmp a.1 h
@@ -170,10 +159,6 @@ module _ (n last own : ℕ) (C S : List (List Bool)) (q : ℕ) (s b : Bool) (sha
             ap (λ t. (t && v) || (not t && bit (row C k) i)) (same_false k q ne) ∙ ap (λ z. bit z i) (sym (row-with_other C q k h (λ e. ne (sym e)))) in
             ap (with_bit (lay D S (bits_of q s b)) (k * n + i)) old ∙ (write (bit (row D k) i) ∙ ap (λ z. lay z S (bits_of q s b)) (with_own D k i))),
       )
-    where
-      or_false : (x : Bool) → (x || false) ≡ x
-      or_false true = refl
-      or_false false = refl
 
   copies_of : ℕ → List ℕ → List Place
   copies_of i ks = map (λ k. global (k * n + i)) ks
@@ -196,7 +181,7 @@ module _ (n last own : ℕ) (C S : List (List Bool)) (q : ℕ) (s b : Bool) (sha
   spread_upto h i v k (suc m) ts ws eh hi le lt end = elim (cases_eq k q) [
     | inl e ↦
         ap (written_globals (copies_of i (numbers (suc k) m) ++ ts) (map (spread i v) (numbers (suc k) m) ++ ws)) ((spread_one h i v k eh hi (omega arith)).0 e)
-        ∙ spread_past (with_bit h i v) i v (suc k) m ts ws (length-with h i v ∙ eh) hi (omega arith) (omega arith)
+        ∙ spread_past (with_bit h i v) i v (suc k) m ts ws (length-set h i v ∙ eh) hi (omega arith) (omega arith)
     | inr ne ↦
         ap (written_globals (copies_of i (numbers (suc k) m) ++ ts) (map (spread i v) (numbers (suc k) m) ++ ws)) ((spread_one h i v k eh hi (omega arith)).1 ne)
         ∙ spread_upto h i v (suc k) m ts ws eh hi (omega arith) (omega arith) (omega arith)
@@ -258,7 +243,7 @@ module _ (n last own : ℕ) (C S : List (List Bool)) (q : ℕ) (s b : Bool) (sha
   writes (x ∷ xs) (r ∷ rs) [] h a hx eh = absurd a
   writes (global i ∷ xs) (r ∷ rs) (v ∷ vs) h a hx eh =
       spread_upto h i v 0 (suc last) (targets (places n last own) last xs rs) (spread_all xs rs vs) eh hx.0 (omega arith) (omega arith) (omega arith)
-      ∙ writes xs rs vs (with_bit h i v) a.1 hx.1 (length-with h i v ∙ eh)
+      ∙ writes xs rs vs (with_bit h i v) a.1 hx.1 (length-set h i v ∙ eh)
   writes (local i ∷ xs) (r ∷ rs) (v ∷ vs) h a hx eh = writes xs rs vs h a.1 hx.1 eh
 
   pub writes_locals : (xs : List Place) (rs : List (RightSide Place)) (vs l' : List Bool) → AreValues (row C q) l rs vs → PlacesInScope n own xs → length l' ≡ own → written_locals (targets (places n last own) last xs rs) (spread_all xs rs vs) (l' ++ tmp) ≡ written_locals xs vs l' ++ tmp
@@ -271,20 +256,8 @@ module _ (n last own : ℕ) (C S : List (List Bool)) (q : ℕ) (s b : Bool) (sha
       locals_skip i v (numbers 0 (suc last)) (targets (places n last own) last xs rs) (spread_all xs rs vs) (l' ++ tmp)
       ∙ writes_locals xs rs vs l' a.1 hx.1 eh
   writes_locals (local i ∷ xs) (r ∷ rs) (v ∷ vs) l' a hx eh =
-      ap (written_locals (targets (places n last own) last xs rs) (spread_all xs rs vs)) (with_left l' tmp i v (let z : length l' ≡ own = eh in let z' : i < own = hx.0 in omega arith))
-      ∙ writes_locals xs rs vs (with_bit l' i v) a.1 hx.1 (length-with l' i v ∙ eh)
-
-pub length-written_globals : (xs : List Place) (vs g : List Bool) → length (written_globals xs vs g) ≡ length g
-length-written_globals [] vs g = refl
-length-written_globals (x ∷ xs) [] g = refl
-length-written_globals (global i ∷ xs) (v ∷ vs) g = length-written_globals xs vs (with_bit g i v) ∙ length-with g i v
-length-written_globals (local i ∷ xs) (v ∷ vs) g = length-written_globals xs vs g
-
-pub length-written_locals : (xs : List Place) (vs l : List Bool) → length (written_locals xs vs l) ≡ length l
-length-written_locals [] vs l = refl
-length-written_locals (x ∷ xs) [] l = refl
-length-written_locals (global i ∷ xs) (v ∷ vs) l = length-written_locals xs vs l
-length-written_locals (local i ∷ xs) (v ∷ vs) l = length-written_locals xs vs (with_bit l i v) ∙ length-with l i v
+      ap (written_locals (targets (places n last own) last xs rs) (spread_all xs rs vs)) (set-append_left l' tmp i v (let z : length l' ≡ own = eh in let z' : i < own = hx.0 in omega arith))
+      ∙ writes_locals xs rs vs (with_bit l' i v) a.1 hx.1 (length-set l' i v ∙ eh)
 
 pub with-own_row : (C : List (List Bool)) (k : ℕ) → with_row C k (row C k) ≡ C
 with-own_row [] k = refl

@@ -4,22 +4,19 @@ use Rattle.language.specs.Tree.{Expression, const, RightSide, value, skip, assig
 use Rattle.language.specs.Value.{Place, global, with_bit, values_of, IsValue, AreValues, written_globals, written_locals}
 use Rattle.language.specs.Rest.{Label, Code, join, rest_from}
 use Rattle.language.specs.Step.{Routine, Program, Frame, frame, State, state, zeros, fresh, AtRoutine, AtRest, body_of, StepsTo, Fails}
+use Rattle.language.proofs.Lengths.{length_values, length_globals, length_locals}
 use Rattle.round_rewrite.specs.Table.{plain, temporaries, expression, side, stop_test, statement}
 use Rattle.round_rewrite.specs.Places.{places, is_global, bits_at}
 use Rattle.round_rewrite.specs.Scoped.{AreInScope, SideInScope, FitsScopes}
 use Rattle.round_rewrite.proofs.Laid.{row, with_row, long_row, bits_of, lay, Shape, bits_with}
 use Rattle.round_rewrite.proofs.Translate.{side_is, expressions_are}
-use Rattle.round_rewrite.proofs.Assigned.{length-written_globals, length-written_locals, with-own_row}
+use Rattle.round_rewrite.proofs.Assigned.{with-own_row}
 use Rattle.round_rewrite.proofs.Drawing.{assign_back}
 use Rattle.round_rewrite.proofs.Plain.{World, PlainAfter}
 use Rattle.round_rewrite.proofs.Leading.{Leads, Never, unstep, Later, later, later_now}
 use Rattle.round_rewrite.proofs.Prologue.{stop_leads, stop_back}
 use Rattle.round_rewrite.proofs.Frames.{Both, source, Good, AllGood, put_rest, callers, stack, put_routine, IsWorld, fresh_more}
 use Rattle.round_rewrite.proofs.Forward.{both, good_with, jump_good, call_good, branch_fits, put_branch, loop_fits, put_loop, inner}
-
-length_values : (g l : List Bool) (es : List (Expression Place)) → length (values_of g l es) ≡ length es
-length_values g l [] = refl
-length_values g l (e ∷ es) = ap suc (length_values g l es)
 
 two_back : (X L : List Bool) (r0 r1 : RightSide Place) (vs : List Bool) → AreValues X L (r0 ∷ r1 ∷ []) vs → (x : Bool) × (y : Bool) × (vs ≡ x ∷ y ∷ []) × IsValue X L r0 x × IsValue X L r1 y
 two_back X L r0 r1 [] a = absurd a
@@ -167,8 +164,8 @@ module _ (p : Program) (last : ℕ) (fits : FitsScopes p) (small : last < 4) (w 
   step_back N c own l tmp (one k (assign xs rs) t) bs h good run =
       let (M, vs, tmp', lt, are, et, r) = assign_back w p.globals last own (suc c) (callers p last bs m) Q C S q b shape small within l tmp h.long (never_below bs) N xs rs (put_rest p last own t) h.fits.0.0.0 h.fits.0.0.1 run in
       moved (written_globals xs vs (row C q)) (both c own (written_locals xs vs l) tmp' t ∷ bs)
-      (length-written_globals xs vs (row C q) ∙ long_now)
-      (good_with p last c own l tmp (one k (assign xs rs) t) (written_locals xs vs l) tmp' t h (length-written_locals xs vs l) et h.fits.1, good)
+      (length_globals xs vs (row C q) ∙ long_now)
+      (good_with p last c own l tmp (one k (assign xs rs) t) (written_locals xs vs l) tmp' t h (length_locals xs vs l) et h.fits.1, good)
       (vs, are, refl) (M, lt, r)
   step_back N c own l tmp (one k (assert r) t) bs h good run =
       let (n1, e1, r1) = unstep w Q N X (frame (suc c) (l ++ tmp) (statement (places p.globals last own) last (assert r) (put_rest p last own t))) (callers p last bs m) (never_below bs) run in

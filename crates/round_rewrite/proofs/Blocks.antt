@@ -3,22 +3,13 @@ use Rattle.std.proofs.Common.{◌≡◌, ℕ, zero, suc, Bool, true, false, cond
 use Rattle.language.specs.Tree.{Simple, skip, assign, assert, assume, goto, leave, call, Mark, Block, done, one, choose, loop, RightSide}
 use Rattle.language.specs.Value.{Place}
 use Rattle.language.specs.Rest.{Label, Code, join, rest_from, first_of_two, has_label}
+use Rattle.language.proofs.Rests.{join_join, first_none}
 use Rattle.round_rewrite.specs.Table.{Naming, plain, draws, drawing, prologue, statement, rewritten, side}
 use Rattle.round_rewrite.proofs.Plain.{bare, bare-join, found, firsts}
-
-pub join_assoc : (a b c : Code) → join (join a b) c ≡ join a (join b c)
-join_assoc done b c = refl
-join_assoc (one m s t) b c = ap (one m s) (join_assoc t b c)
-join_assoc (choose m r x y t) b c = ap (choose m r x y) (join_assoc t b c)
-join_assoc (loop m r x t) b c = ap (loop m r x) (join_assoc t b c)
 
 first_assoc : {A : Type 0} (x y z : Option A) → first_of_two (first_of_two x y) z ≡ first_of_two x (first_of_two y z)
 first_assoc None y z = refl
 first_assoc (Some a) y z = refl
-
-first_none : {A : Type 0} (x : Option A) → first_of_two x None ≡ x
-first_none None = refl
-first_none (Some a) = refl
 
 cond_first : {A : Type 0} (c : Bool) (a : A) (x y : Option A) → first_of_two (cond c (Some a) x) y ≡ cond c (Some a) (first_of_two x y)
 cond_first true a x y = refl
@@ -28,18 +19,18 @@ cond_first false a x y = refl
 rest-join : (x : Label) (a b k : Code) → rest_from x (join a b) k ≡ first_of_two (rest_from x a (join b k)) (rest_from x b k)
 rest-join x done b k = refl
 rest-join x (one m s t) b k =
-    (λ i. cond (has_label x m) (Some (one m s (join_assoc t b k i))) (rest-join x t b k i))
+    (λ i. cond (has_label x m) (Some (one m s (join_join t b k i))) (rest-join x t b k i))
     ∙ sym (cond_first (has_label x m) (one m s (join t (join b k))) (rest_from x t (join b k)) (rest_from x b k))
 rest-join x (choose m r y z t) b k =
-    (λ i. cond (has_label x m) (Some (choose m r y z (join_assoc t b k i)))
-    (first_of_two (rest_from x y (join_assoc t b k i)) (first_of_two (rest_from x z (join_assoc t b k i)) (rest-join x t b k i))))
+    (λ i. cond (has_label x m) (Some (choose m r y z (join_join t b k i)))
+    (first_of_two (rest_from x y (join_join t b k i)) (first_of_two (rest_from x z (join_join t b k i)) (rest-join x t b k i))))
     ∙ (ap (cond (has_label x m) (Some (choose m r y z (join t (join b k)))))
     (ap (first_of_two (rest_from x y (join t (join b k)))) (sym (first_assoc (rest_from x z (join t (join b k))) (rest_from x t (join b k)) (rest_from x b k)))
     ∙ sym (first_assoc (rest_from x y (join t (join b k))) (first_of_two (rest_from x z (join t (join b k))) (rest_from x t (join b k))) (rest_from x b k)))
     ∙ sym (cond_first (has_label x m) _ _ (rest_from x b k)))
 rest-join x (loop m r y t) b k =
-    (λ i. cond (has_label x m) (Some (loop m r y (join_assoc t b k i)))
-    (first_of_two (rest_from x y (loop m r y (join_assoc t b k i))) (rest-join x t b k i)))
+    (λ i. cond (has_label x m) (Some (loop m r y (join_join t b k i)))
+    (first_of_two (rest_from x y (loop m r y (join_join t b k i))) (rest-join x t b k i)))
     ∙ (ap (cond (has_label x m) (Some (loop m r y (join t (join b k)))))
     (sym (first_assoc (rest_from x y (loop m r y (join t (join b k)))) (rest_from x t (join b k)) (rest_from x b k)))
     ∙ sym (cond_first (has_label x m) _ _ (rest_from x b k)))
@@ -116,7 +107,7 @@ module _ (w : Naming Place Place ℕ ℕ) (last : ℕ) where
   pub put-again : (m : Mark Label) (r : RightSide Place) (a t : Code) → put (join a (loop m r a t)) ≡ join (join (put a) (prologue w last plain done)) (loop plain (side w last r) (join (put a) (prologue w last plain done)) (put t))
   put-again m r a t =
       put-join a (loop m r a t)
-      ∙ sym (join_assoc (put a) (prologue w last plain done) (loop plain (side w last r) (join (put a) (prologue w last plain done)) (put t)))
+      ∙ sym (join_join (put a) (prologue w last plain done) (loop plain (side w last r) (join (put a) (prologue w last plain done)) (put t)))
 
   tails : (t k k' : Code) → bare k ≡ put k' → bare (join (rewritten w last t) k) ≡ put (join t k')
   tails t k k' e = bare-join (rewritten w last t) k ∙ (ap₂ join (bare-rewritten t) e ∙ sym (put-join t k'))

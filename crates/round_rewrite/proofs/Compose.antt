@@ -5,8 +5,8 @@ use Rattle.language.specs.Value.{values_of}
 use Rattle.language.specs.Rest.{Code, rest_from}
 use Rattle.language.specs.Step.{Routine, Program, Frame, frame, State, state, fresh, AtRoutine, AtRest, body_of, StepsTo, AfterSteps, Runs}
 use Rattle.language.specs.Rounds.{Round, Rounds, FailsInRound}
+use Rattle.language.proofs.Lengths.{length_globals}
 use Rattle.round_rewrite.proofs.Laid.{Long}
-use Rattle.round_rewrite.proofs.Assigned.{length-written_globals}
 use Rattle.round_rewrite.proofs.Turns.{Turns, FailTurns, idle}
 
 -- steps keep how many globals there are
@@ -25,7 +25,7 @@ step_keeps : (p : Program) (s : State) (P : State → Type 0) → StepsTo p s P 
 step_keeps p (state g []) P h = absurd h
 step_keeps p (state g (frame c l done ∷ fs)) P h = (_, h, refl)
 step_keeps p (state g (frame c l (one m skip t) ∷ fs)) P h = (_, h, refl)
-step_keeps p (state g (frame c l (one m (assign xs rs) t) ∷ fs)) P h = (_, h.2, length-written_globals xs h.0 g)
+step_keeps p (state g (frame c l (one m (assign xs rs) t) ∷ fs)) P h = (_, h.2, length_globals xs h.0 g)
 step_keeps p (state g (frame c l (one m (assert r) t) ∷ fs)) P h = (_, h.1, refl)
 step_keeps p (state g (frame c l (one m (assume r) t) ∷ fs)) P h = (_, h.1, refl)
 step_keeps p (state g (frame c l (one m (goto x) t) ∷ fs)) P h =

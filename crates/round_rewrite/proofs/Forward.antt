@@ -4,18 +4,19 @@ use Rattle.language.specs.Tree.{Expression, RightSide, skip, assign, assert, ass
 use Rattle.language.specs.Value.{Place, values_of, IsValue, written_globals, written_locals}
 use Rattle.language.specs.Rest.{Label, Code, join, rest_from}
 use Rattle.language.specs.Step.{Routine, Program, Frame, frame, State, state, zeros, fresh, AtRoutine, AtRest, body_of, StepsTo}
+use Rattle.language.proofs.Lengths.{length_zeros, length_fresh, length_values, length_globals, length_locals}
 use Rattle.round_rewrite.specs.Table.{Naming, plain, temporaries, expression, side, prologue, statement}
 use Rattle.round_rewrite.specs.Places.{places, is_global}
 use Rattle.round_rewrite.specs.Scoped.{AreInScope, SideInScope, RoutineInScope, FitsScopes}
 use Rattle.round_rewrite.proofs.Laid.{row, with_row, long_row, bits_of, lay, Shape}
 use Rattle.round_rewrite.proofs.Translate.{side_is, expressions_are}
-use Rattle.round_rewrite.proofs.Assigned.{length-written_globals, length-written_locals, with-own_row}
+use Rattle.round_rewrite.proofs.Assigned.{with-own_row}
 use Rattle.round_rewrite.proofs.Drawing.{assign_leads}
 use Rattle.round_rewrite.proofs.Plain.{World, PlainAfter}
 use Rattle.round_rewrite.proofs.Leading.{Leads}
 use Rattle.round_rewrite.proofs.Blocks.{put-join, put-again}
 use Rattle.round_rewrite.proofs.Prologue.{prologue_goes, stop_leads}
-use Rattle.round_rewrite.proofs.Frames.{Fits, Roomy, Both, source, Good, AllGood, put_rest, callers, stack, put_routine, IsWorld, each_at, roomy, throughout-join, throughout-rest, IfThere, fresh_more, length-fresh, length-zeros}
+use Rattle.round_rewrite.proofs.Frames.{Fits, Roomy, Both, source, Good, AllGood, put_rest, callers, stack, put_routine, IsWorld, each_at, roomy, throughout-join, throughout-rest, IfThere, fresh_more}
 
 abbrev pub both : ℕ → ℕ → List Bool → List Bool → Code → Both
 both c own l tmp rest = record { c = c; own = own; l = l; tmp = tmp; rest = rest }
@@ -64,13 +65,13 @@ jump_good p last c own l tmp rest x found fits h e =
 -- a new frame of a procedure fits
 pub call_good : (p : Program) (last q : ℕ) (r : Routine) (vs : List Bool) → FitsScopes p → slice_get p.routines q ≡ Some r → length vs ≤ r.places → Good p last (both q r.places (fresh r.places vs) (zeros (temporaries is_global r.body)) r.body)
 call_good p last q r vs fits e short =
-    let d : length (zeros (temporaries is_global r.body)) ≡ temporaries is_global r.body = length-zeros (temporaries is_global r.body) in
+    let d : length (zeros (temporaries is_global r.body)) ≡ temporaries is_global r.body = length_zeros (temporaries is_global r.body) in
     let room : temporaries is_global r.body ≤ length (zeros (temporaries is_global r.body)) = omega arith in
     record {
       routine = r;
       there = e;
       own_is = refl;
-      long = length-fresh r.places vs short;
+      long = length_fresh r.places vs short;
       room = room;
       fits = body_fits p q r (length (zeros (temporaries is_global r.body))) fits e room;
     }
@@ -143,10 +144,6 @@ module _ (p : Program) (last : ℕ) (fits : FitsScopes p) (small : last < 4) (w 
           let ef : fresh (r.places + d) (values_of X (l ++ tmp) (map (expression (naming own) last) es)) ≡ fresh r.places vs ++ zeros d =
           ap (fresh (r.places + d)) ev ∙ fresh_more r.places d vs lv in
           (k.0, subst (λ z. PlainAfter w k.0 (state X (frame (suc q') z (put_rest p last r.places r.body) ∷ callers p last (both c own l tmp t ∷ bs) m)) Q) (sym ef) k.1)
-        where
-          length_values : (g l : List Bool) (es : List (Expression Place)) → length (values_of g l es) ≡ length es
-          length_values g l [] = refl
-          length_values g l (e ∷ es) = ap suc (length_values g l es)
 
       -- a step of the top frame
       pub step_leads : (c own : ℕ) (l tmp : List Bool) (rest : Code) (bs : List Both) → Good p last (both c own l tmp rest) → AllGood p last bs → StepsTo p (state (row C q) (frame c l rest ∷ map source bs)) R → Next → Leads w (state X (frame (suc c) (l ++ tmp) (inner own rest) ∷ callers p last bs m)) Q
@@ -157,8 +154,8 @@ module _ (p : Program) (last : ℕ) (fits : FitsScopes p) (small : last < 4) (w 
       step_leads c own l tmp (one k (assign xs rs) t) bs h good s next =
           assign_leads w p.globals last own (suc c) (callers p last bs m) Q C S q b shape small within l tmp h.long xs rs s.0 (put_rest p last own t) s.1 h.fits.0.0.0 h.fits.0.0.1 h.fits.0.1
           (λ tmp' et. next (written_globals xs s.0 (row C q)) (both c own (written_locals xs s.0 l) tmp' t ∷ bs)
-          (length-written_globals xs s.0 (row C q) ∙ row_long)
-          (good_with p last c own l tmp (one k (assign xs rs) t) (written_locals xs s.0 l) tmp' t h (length-written_locals xs s.0 l) et h.fits.1, good) s.2)
+          (length_globals xs s.0 (row C q) ∙ row_long)
+          (good_with p last c own l tmp (one k (assign xs rs) t) (written_locals xs s.0 l) tmp' t h (length_locals xs s.0 l) et h.fits.1, good) s.2)
       step_leads c own l tmp (one k (assert r) t) bs h good s next =
           let z = same_globals next (both c own l tmp t ∷ bs) (good_with p last c own l tmp (one k (assert r) t) l tmp t h refl refl h.fits.1, good) s.1 in
           (suc (suc z.0), (true, subst (λ T. T) (sym (side_at own l tmp h.long r h.fits.0.0 true)) s.0, z.1))

@@ -1,5 +1,5 @@
 -- A stack of the source and the temporaries together give the rewritten stack.
-use Rattle.std.proofs.Common.{◌≡◌, ℕ, zero, suc, ◌+◌, ◌-◌, ◌*◌, ◌<◌, ◌≤◌, max, Bool, true, false, cond, List, [], ◌∷◌, ◌++◌, length, map, Option, Some, None, option_map, slice_get, refl, sym, ◌∙◌, ap, subst, ap₂, arith, ◌⊎◌, inl, inr, append_assoc, length-append}
+use Rattle.std.proofs.Common.{◌≡◌, ℕ, zero, suc, ◌+◌, ◌-◌, ◌*◌, ◌<◌, ◌≤◌, max, Bool, true, false, cond, List, [], ◌∷◌, ◌++◌, length, map, Option, Some, None, option_map, slice_get, sym, ◌∙◌, ap, subst, ap₂, arith, ◌⊎◌, inl, inr, append_assoc}
 use Rattle.language.specs.Tree.{Simple, skip, assign, assert, assume, goto, leave, call, Mark, done, one, choose, loop, RightSide}
 use Rattle.language.specs.Value.{Place}
 use Rattle.language.specs.Rest.{Label, Code, join, rest_from, first_of_two, has_label}
@@ -137,12 +137,3 @@ pub fresh_more : (own d : ℕ) (vs : List Bool) → length vs ≤ own → fresh 
 fresh_more own d vs h =
     let e : own + d - length vs ≡ (own - length vs) + d = omega arith in
     ap (λ k. vs ++ zeros k) e ∙ (ap (λ z. vs ++ z) (zeros-add (own - length vs) d) ∙ sym (append_assoc vs (zeros (own - length vs)) (zeros d)))
-
-pub length-zeros : (n : ℕ) → length (zeros n) ≡ n
-length-zeros zero = refl
-length-zeros (suc n) = ap suc (length-zeros n)
-
-pub length-fresh : (own : ℕ) (vs : List Bool) → length vs ≤ own → length (fresh own vs) ≡ own
-length-fresh own vs h =
-    let e : length (zeros (own - length vs)) ≡ own - length vs = length-zeros (own - length vs) in
-    length-append vs (zeros (own - length vs)) ∙ omega arith

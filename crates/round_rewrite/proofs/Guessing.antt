@@ -1,12 +1,13 @@
 -- The guesses and the checks of the first procedure, both ways.
 use Rattle.std.proofs.Common.{◌≡◌, ℕ, zero, suc, ◌+◌, ◌*◌, ◌<◌, ◌≤◌, Bool, true, List, [], ◌∷◌, ◌++◌, length, map, refl, sym, ◌∙◌, ap, subst, ap₂, arith, append_assoc, length-append}
+use Rattle.std.proofs.lemmas.List.{length-set, nil_from_length}
 use Rattle.language.specs.Tree.{var, RightSide, any, value, Simple, assign, Mark, done, one, choose, loop}
 use Rattle.language.specs.Value.{Place, global, local, bit, with_bit, AreValues, written_globals, written_locals}
 use Rattle.language.specs.Rest.{Label, Code}
 use Rattle.language.specs.Step.{Frame, frame, State, state}
 use Rattle.round_rewrite.specs.Table.{numbers, plain, each, guess}
 use Rattle.round_rewrite.specs.Places.{places, copy_at, save_at, bits_at, all_globals}
-use Rattle.round_rewrite.proofs.Laid.{Long, row, with_row, row_bit, row_with, row_middle, with_middle, with_right, bit_right, length-flat, flat, lay, Shape, length-with, length-with_row, long-with_row, long-append}
+use Rattle.round_rewrite.proofs.Laid.{Long, row, with_row, row_bit, row_with, row_middle, with_middle, with_right, bit_right, length-flat, flat, lay, Shape, length-with_row, long-with_row, long-append}
 use Rattle.round_rewrite.proofs.Assigned.{row-with_same, with-with_row}
 use Rattle.round_rewrite.proofs.Plain.{World, PlainSteps, PlainAfter}
 use Rattle.round_rewrite.proofs.Leading.{Leads}
@@ -38,7 +39,7 @@ fill j (v ∷ vs) r = fill (suc j) vs (with_bit r j v)
 
 length-fill : (j : ℕ) (vs r : List Bool) → length (fill j vs r) ≡ length r
 length-fill j [] r = refl
-length-fill j (v ∷ vs) r = length-fill (suc j) vs (with_bit r j v) ∙ length-with r j v
+length-fill j (v ∷ vs) r = length-fill (suc j) vs (with_bit r j v) ∙ length-set r j v
 
 fill_all : (a vs b : List Bool) → length b ≡ length vs → fill (length a) vs (a ++ b) ≡ a ++ vs
 fill_all a [] [] e = refl
@@ -60,7 +61,7 @@ module _ (n last : ℕ) where
   copy_writes C X k j (suc m) [] long h within e = absurd (omega arith)
   copy_writes C X k j (suc m) (v ∷ vs) long h within e =
       let D : List (List Bool) = with_row C k (with_bit (row C k) j v) in
-      let el : length (with_bit (row C k) j v) ≡ n = length-with (row C k) j v ∙ Rattle.round_rewrite.proofs.Laid.long_row n C k long h in
+      let el : length (with_bit (row C k) j v) ≡ n = length-set (row C k) j v ∙ Rattle.round_rewrite.proofs.Laid.long_row n C k long h in
       let same : row D k ≡ with_bit (row C k) j v = row-with_same C k (with_bit (row C k) j v) h in
       ap (written_globals (map (copy_at n k) (map global (numbers (suc j) m))) vs) (row_with n C X k j v long h (omega arith))
       ∙ (copy_writes D X k (suc j) m vs (long-with_row n C k (with_bit (row C k) j v) long el) (let z : length D ≡ length C = length-with_row C k (with_bit (row C k) j v) in omega arith) (omega arith) (omega arith)
@@ -72,7 +73,7 @@ module _ (n last : ℕ) where
   save_writes A S X k j (suc m) [] ea long h within e = absurd (omega arith)
   save_writes A S X k j (suc m) (v ∷ vs) ea long h within e =
       let D : List (List Bool) = with_row S k (with_bit (row S k) j v) in
-      let el : length (with_bit (row S k) j v) ≡ n = length-with (row S k) j v ∙ Rattle.round_rewrite.proofs.Laid.long_row n S k long h in
+      let el : length (with_bit (row S k) j v) ≡ n = length-set (row S k) j v ∙ Rattle.round_rewrite.proofs.Laid.long_row n S k long h in
       let same : row D k ≡ with_bit (row S k) j v = row-with_same S k (with_bit (row S k) j v) h in
       ap (written_globals (map (save_at n last (suc k)) (map global (numbers (suc j) m))) vs)
       (with_right A (flat S ++ X) (suc last * n + (k * n + j)) (k * n + j) v (ap (λ z. z + (k * n + j)) (sym ea)) ∙ ap (λ z. A ++ z) (row_with n S X k j v long h (omega arith)))
@@ -114,10 +115,6 @@ module _ (n last : ℕ) where
       ap₂ (λ y z. y ∷ z) (h'.0 ∙ (row_bit n C X k j long h (omega arith) ∙ (ap (λ z. bit z j) er ∙ bit_right a (v ∷ b) j 0 (omega arith))))
       (row_values_back C X L k (suc j) m (a ++ v ∷ []) b vs long h (er ∙ sym (append_assoc a (v ∷ []) b)) (let z : length (a ++ v ∷ []) ≡ length a + 1 = length-append a (v ∷ []) in omega arith) (omega arith) (omega arith) h'.1)
 
-nil_of_length : (a : List Bool) → length a ≡ 0 → a ≡ []
-nil_of_length [] e = refl
-nil_of_length (x ∷ a) e = absurd (omega arith)
-
 no_locals : (xs : List Place) (vs : List Bool) → written_locals xs vs [] ≡ []
 no_locals [] vs = refl
 no_locals (x ∷ xs) [] = refl
@@ -133,8 +130,8 @@ guessed C S k v bits = lay (with_row C (suc k) v) (with_row S k v) bits
 
 not_guessed : (n last : ℕ) (C S : List (List Bool)) (bits : List Bool) (k : ℕ) (v : List Bool) → n ≡ 0 → Shape n last C S → k < last → length v ≡ n → guessed C S k v bits ≡ lay C S bits
 not_guessed n last C S bits k v e shape lt ev =
-    let c : row C (suc k) ≡ v = nil_of_length (row C (suc k)) (Rattle.round_rewrite.proofs.Laid.long_row n C (suc k) shape.copies (let z : length C ≡ suc last = shape.rounds in omega arith) ∙ e) ∙ sym (nil_of_length v (ev ∙ e)) in
-    let s : row S k ≡ v = nil_of_length (row S k) (Rattle.round_rewrite.proofs.Laid.long_row n S k shape.saved (let z : length S ≡ last = shape.guesses in omega arith) ∙ e) ∙ sym (nil_of_length v (ev ∙ e)) in
+    let c : row C (suc k) ≡ v = nil_from_length (row C (suc k)) (Rattle.round_rewrite.proofs.Laid.long_row n C (suc k) shape.copies (let z : length C ≡ suc last = shape.rounds in omega arith) ∙ e) ∙ sym (nil_from_length v (ev ∙ e)) in
+    let s : row S k ≡ v = nil_from_length (row S k) (Rattle.round_rewrite.proofs.Laid.long_row n S k shape.saved (let z : length S ≡ last = shape.guesses in omega arith) ∙ e) ∙ sym (nil_from_length v (ev ∙ e)) in
     ap₂ (λ x y. lay x y bits)
     (ap (with_row C (suc k)) (sym c) ∙ Rattle.round_rewrite.proofs.Assigned.with-own_row C (suc k))
     (ap (with_row S k) (sym s) ∙ Rattle.round_rewrite.proofs.Assigned.with-own_row S k)

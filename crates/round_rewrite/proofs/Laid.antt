@@ -1,5 +1,6 @@
 -- How the globals of the rewritten program lie: copies round by round, saved guesses, the round's bits, stop, bad.
 use Rattle.std.proofs.Common.{◌≡◌, ℕ, zero, suc, ◌+◌, ◌*◌, ◌<◌, Bool, true, false, List, [], ◌∷◌, ◌++◌, length, refl, sym, ◌∙◌, ap, arith, append_assoc, length-append, zero-add}
+use Rattle.std.proofs.lemmas.List.{get_or_append_left, set-append_left, set-get_or}
 use Rattle.language.specs.Value.{bit, with_bit}
 use Rattle.round_rewrite.specs.Places.{bits_at}
 
@@ -8,30 +9,10 @@ bit_right [] b i j e = ap (bit b) (e ∙ zero-add j)
 bit_right (x ∷ a) b zero j e = absurd (omega arith)
 bit_right (x ∷ a) b (suc i) j e = bit_right a b i j (omega arith)
 
-pub bit_left : (a b : List Bool) (i : ℕ) → i < length a → bit (a ++ b) i ≡ bit a i
-bit_left [] b i h = absurd (omega arith)
-bit_left (x ∷ a) b zero h = refl
-bit_left (x ∷ a) b (suc i) h = bit_left a b i (omega arith)
-
 pub with_right : (a b : List Bool) (i j : ℕ) (v : Bool) → i ≡ length a + j → with_bit (a ++ b) i v ≡ a ++ with_bit b j v
 with_right [] b i j v e = ap (λ k. with_bit b k v) (e ∙ zero-add j)
 with_right (x ∷ a) b zero j v e = absurd (omega arith)
 with_right (x ∷ a) b (suc i) j v e = ap (λ z. x ∷ z) (with_right a b i j v (omega arith))
-
-pub with_left : (a b : List Bool) (i : ℕ) (v : Bool) → i < length a → with_bit (a ++ b) i v ≡ with_bit a i v ++ b
-with_left [] b i v h = absurd (omega arith)
-with_left (x ∷ a) b zero v h = refl
-with_left (x ∷ a) b (suc i) v h = ap (λ z. x ∷ z) (with_left a b i v (omega arith))
-
-pub length-with : (a : List Bool) (i : ℕ) (v : Bool) → length (with_bit a i v) ≡ length a
-length-with [] i v = refl
-length-with (x ∷ a) zero v = refl
-length-with (x ∷ a) (suc i) v = ap suc (length-with a i v)
-
-pub with_same : (a : List Bool) (i : ℕ) → with_bit a i (bit a i) ≡ a
-with_same [] i = refl
-with_same (x ∷ a) zero = refl
-with_same (x ∷ a) (suc i) = ap (λ z. x ∷ z) (with_same a i)
 
 -- rows
 abbrev pub flat : List (List Bool) → List Bool
@@ -61,7 +42,7 @@ row_bit n [] X k i long h h' = absurd (omega arith)
 row_bit n (r ∷ C) X zero i long h h' =
     let e : length r ≡ n = long.0 in
     let at : zero * n + i ≡ i = omega arith in
-    ap (bit ((r ++ flat C) ++ X)) at ∙ (ap (λ z. bit z i) (append_assoc r (flat C) X) ∙ bit_left r (flat C ++ X) i (omega arith))
+    ap (bit ((r ++ flat C) ++ X)) at ∙ (ap (λ z. bit z i) (append_assoc r (flat C) X) ∙ get_or_append_left r (flat C ++ X) false i (omega arith))
 row_bit n (r ∷ C) X (suc k) i long h h' =
     let e : length r ≡ n = long.0 in
     let at : suc k * n + i ≡ length r + (k * n + i) = omega arith in
@@ -75,7 +56,7 @@ row_with n (r ∷ C) X zero i v long h h' =
     let at : zero * n + i ≡ i = omega arith in
     ap (λ j. with_bit ((r ++ flat C) ++ X) j v) at
     ∙ (ap (λ z. with_bit z i v) (append_assoc r (flat C) X)
-    ∙ (with_left r (flat C ++ X) i v (omega arith) ∙ sym (append_assoc (with_bit r i v) (flat C) X)))
+    ∙ (set-append_left r (flat C ++ X) i v (omega arith) ∙ sym (append_assoc (with_bit r i v) (flat C) X)))
 row_with n (r ∷ C) X (suc k) i v long h h' =
     let e : length r ≡ n = long.0 in
     let at : suc k * n + i ≡ length r + (k * n + i) = omega arith in
@@ -94,7 +75,7 @@ with_middle (r ∷ pre) g h post = ap (λ z. r ∷ z) (with_middle pre g h post)
 
 pub with_own : (C : List (List Bool)) (k i : ℕ) → with_row C k (with_bit (row C k) i (bit (row C k) i)) ≡ C
 with_own [] k i = refl
-with_own (r ∷ C) zero i = ap (λ z. z ∷ C) (with_same r i)
+with_own (r ∷ C) zero i = ap (λ z. z ∷ C) (set-get_or r i false)
 with_own (r ∷ C) (suc k) i = ap (λ z. r ∷ z) (with_own C k i)
 
 pub length-with_row : (C : List (List Bool)) (k : ℕ) (v : List Bool) → length (with_row C k v) ≡ length C

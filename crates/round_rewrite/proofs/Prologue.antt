@@ -148,6 +148,12 @@ module _ (w : World) (n last own : ℕ) (C S : List (List Bool)) (shape : Shape 
       let (m, e, k) = unstep w Q N _ _ fs never h in
       went (later w Q (on (now q false b) t) N m e (stop_back never m q false b t k))
 
+  -- what a run ends in after one step more
+  shorter : (N m q : ℕ) (b : Bool) (t : Code) → N ≡ suc m → Exits m q b t → Exits N q b t
+  shorter N m q b t e (rose lt r) = rose lt (later w Q _ N m e r)
+  shorter N m q b t e (went r) = went (later w Q _ N m e r)
+  shorter N m q b t e (stopped r) = stopped (later w Q _ N m e r)
+
   exits_loop : Never Q fs → (N q : ℕ) (b v : Bool) (t : Code) → q ≤ last → PlainAfter w N (on (now q false b) (cond v (join (rise (places n last own) last) (prologue (places n last own) last plain t)) (stop_branch t))) Q → Exits N q b t
   unfolding stop_branch
   exits_loop never N q b true t within h =
@@ -173,19 +179,9 @@ module _ (w : World) (n last own : ℕ) (C S : List (List Bool)) (shape : Shape 
       branches : (m q : ℕ) (b v : Bool) (t : Code) → PlainAfter w m (on (now q false b) (cond v (join (one plain (assign (global (bits_at n last + 2) ∷ []) (value (const true) ∷ [])) done) (stop_test (places n last own) last t)) (join (one plain skip done) (stop_test (places n last own) last t)))) Q → PlainAfter w m (on (now q false b) (cond v (one plain (assign (global (bits_at n last + 2) ∷ []) (value (const true) ∷ [])) (stop_test (places n last own) last t)) (one plain skip (stop_test (places n last own) last t)))) Q
       branches m q b v t h = h
 
-      shorter : (N m q : ℕ) (b : Bool) (t : Code) → N ≡ suc m → Exits m q b t → Exits N q b t
-      shorter N m q b t e (rose lt r) = rose lt (later w Q _ N m e r)
-      shorter N m q b t e (went r) = went (later w Q _ N m e r)
-      shorter N m q b t e (stopped r) = stopped (later w Q _ N m e r)
-
   -- every run from a prologue rises, goes on or stops
   pub exits : Never Q fs → (N q : ℕ) (b : Bool) (t : Code) → q ≤ last → PlainAfter w N (on (now q false b) (prologue (places n last own) last plain t)) Q → Exits N q b t
   unfolding stop_branch
   exits never N q b t within h =
       let (m, e, k) = unstep w Q N _ _ fs never h in
       shorter N m q b t e (exits_loop never m q b k.0 t within k.2)
-    where
-      shorter : (N m q : ℕ) (b : Bool) (t : Code) → N ≡ suc m → Exits m q b t → Exits N q b t
-      shorter N m q b t e (rose lt r) = rose lt (later w Q _ N m e r)
-      shorter N m q b t e (went r) = went (later w Q _ N m e r)
-      shorter N m q b t e (stopped r) = stopped (later w Q _ N m e r)

@@ -1,12 +1,17 @@
 -- What the rewritten expressions are worth.
 use Rattle.std.proofs.Common.{◌≡◌, ℕ, zero, suc, ◌+◌, ◌*◌, ◌/◌, ◌%◌, ◌<◌, ◌≤◌, Bool, true, false, not, ◌&&◌, ◌||◌, List, [], ◌∷◌, ◌++◌, length, map, refl, sym, ◌∙◌, ap, ap₂, arith, inl, inr}
 use Rattle.std.proofs.lemmas.Bool.{cases_eq}
+use Rattle.std.proofs.lemmas.List.{get_or_append_left}
 use Rattle.language.specs.Tree.{Expression, const, var, negation, two, RightSide, any, value}
 use Rattle.language.specs.Value.{Place, global, local, bit, operate, look_up, value_of, values_of, IsValue}
 use Rattle.round_rewrite.specs.Table.{literal, at, joined, expression, side}
 use Rattle.round_rewrite.specs.Places.{places}
 use Rattle.round_rewrite.specs.Scoped.{InScope, AreInScope, SideInScope}
-use Rattle.round_rewrite.proofs.Laid.{bit_left, row, row_bit, high, low, bits_of, lay, Shape, bits_bit}
+use Rattle.round_rewrite.proofs.Laid.{row, row_bit, high, low, bits_of, lay, Shape, bits_bit}
+
+pub or_false : (x : Bool) → (x || false) ≡ x
+or_false true = refl
+or_false false = refl
 
 abbrev pub same : ℕ → ℕ → Bool
 same zero zero = true
@@ -66,10 +71,6 @@ module _ (n last own : ℕ) (C S : List (List Bool)) (q : ℕ) (s b : Bool) (L :
   copy_is : (k i : ℕ) → k ≤ last → i < n → bit globals_now (k * n + i) ≡ bit (row C k) i
   copy_is k i h h' = row_bit n C _ k i shape.copies (let e : length C ≡ suc last = shape.rounds in omega arith) h'
 
-  or_false : (x : Bool) → (x || false) ≡ x
-  or_false true = refl
-  or_false false = refl
-
   and_false : (x y : Bool) → x ≡ false → (x && y) ≡ false
   and_false x y e = ap (λ z. z && y) e
 
@@ -95,7 +96,7 @@ module _ (n last own : ℕ) (C S : List (List Bool)) (q : ℕ) (s b : Bool) (L :
   pub expression_is : (l tmp : List Bool) → L ≡ l ++ tmp → length l ≡ own → (e : Expression Place) → InScope n own e → value_of globals_now L (expression (places n last own) last e) ≡ value_of (row C q) l e
   expression_is l tmp eL el (const c) h = refl
   expression_is l tmp eL el (var (global i)) h = from last i (omega arith) h within
-  expression_is l tmp eL el (var (local i)) h = ap (λ z. bit z i) eL ∙ bit_left l tmp i (omega arith)
+  expression_is l tmp eL el (var (local i)) h = ap (λ z. bit z i) eL ∙ get_or_append_left l tmp false i (omega arith)
   expression_is l tmp eL el (negation e) h = ap not (expression_is l tmp eL el e h)
   expression_is l tmp eL el (two o x y) h = ap₂ (operate o) (expression_is l tmp eL el x h.0) (expression_is l tmp eL el y h.1)
 

@@ -5,6 +5,7 @@ use Rattle.std.proofs.lemmas.List.{length-map}
 use Rattle.language.specs.Tree.{Name, var, RightSide, any, value, Simple, skip, assign, assert, assume, goto, leave, call, Mark, Block, done, one, choose, loop, Procedure, ThreadLine, Tree}
 use Rattle.language.specs.Rest.{same_text, join}
 use Rattle.language.specs.Resolve.{is_declared}
+use Rattle.language.proofs.Names.{declared_first}
 use Rattle.scopes.specs.Checked.{IsChecked}
 use Rattle.scopes.specs.Faults.{named, known, IsThere}
 use Rattle.scopes.specs.Statements.{Head, plain, tests, Statement, statements_of, used_by, variables_of_side, label_of, labels_of}
@@ -27,9 +28,6 @@ use Rattle.round_rewrite.proofs.Uses.{each_both, any_uses, written_each, drawn_e
 -- a name that is declared in the second of two lists is declared in both
 pub declared_right : (x : List ℕ) (xs ys : List Name) → is_declared x ys ≡ true → is_declared x (xs ++ ys) ≡ true
 declared_right x xs ys h = by_test (is_declared x xs) (λ e. (number_left x xs ys e).1) (λ e. (number_right x xs ys e).1 ∙ h)
-
-pub declared_left : (x : List ℕ) (xs ys : List Name) → is_declared x xs ≡ true → is_declared x (xs ++ ys) ≡ true
-declared_left x xs ys h = (number_left x xs ys h).1
 
 -- each of the names is declared
 each_declared : (xs ys : List Name) → ((x : List ℕ) → is_declared x xs ≡ true → is_declared x ys ≡ true) → Each (λ (x : Name). is_declared x.text ys ≡ true) xs
@@ -152,17 +150,17 @@ module _ (t : Tree) (last : ℕ) (ok : IsChecked t) (small : last < 4) where
   copies_there x h k le =
       let z : 0 + k ≡ k = omega arith in
       let inA : is_declared (copy_name k x).text A ≡ true = subst (λ y. is_declared (copy_name y x).text A ≡ true) z (in_rows (names []) last copy_name t.globals copies_spelled x h k 0 (suc last) (omega arith) (omega arith)).0 in
-      declared_left (copy_name k x).text (A ++ B ++ bits) lasts (declared_left (copy_name k x).text (A ++ B) bits (declared_left (copy_name k x).text A B inA))
+      declared_first (copy_name k x).text (A ++ B ++ bits) lasts (declared_first (copy_name k x).text (A ++ B) bits (declared_first (copy_name k x).text A B inA))
 
   saves_there : (x : Name) → is_declared x.text t.globals ≡ true → (k : ℕ) → k < last → is_declared (save_name (suc k) x).text t'.globals ≡ true
   saves_there x h k lt =
       let z : 1 + k ≡ suc k = omega arith in
       let inB : is_declared (save_name (suc k) x).text B ≡ true = subst (λ y. is_declared (save_name y x).text B ≡ true) z (in_rows (names []) last save_name t.globals saves_spelled x h k 1 last lt (omega arith)).0 in
-      declared_left (save_name (suc k) x).text (A ++ B ++ bits) lasts (declared_left (save_name (suc k) x).text (A ++ B) bits (declared_right (save_name (suc k) x).text A B inB))
+      declared_first (save_name (suc k) x).text (A ++ B ++ bits) lasts (declared_first (save_name (suc k) x).text (A ++ B) bits (declared_right (save_name (suc k) x).text A B inB))
 
   bits_there : (x : List ℕ) → is_declared x bits ≡ true → is_declared x t'.globals ≡ true
   bits_there x h =
-      declared_left x (A ++ B ++ bits) lasts (declared_right x (A ++ B) bits h)
+      declared_first x (A ++ B ++ bits) lasts (declared_right x (A ++ B) bits h)
 
   lasts_there : (x : List ℕ) → is_declared x lasts ≡ true → is_declared x t'.globals ≡ true
   lasts_there x h =
@@ -232,7 +230,7 @@ module _ (t : Tree) (last : ℕ) (ok : IsChecked t) (small : last < 4) where
     Known x = is_declared x.text (known t p) ≡ true
 
     own_in : (x : Name) → is_declared x.text (own ++ temps) ≡ true → In p' x
-    own_in x h = declared_left x.text (p.formals ++ (p.locals ++ temps)) t'.globals (subst (λ ns. is_declared x.text ns ≡ true) (append_assoc p.formals p.locals temps) h)
+    own_in x h = declared_first x.text (p.formals ++ (p.locals ++ temps)) t'.globals (subst (λ ns. is_declared x.text ns ≡ true) (append_assoc p.formals p.locals temps) h)
 
     copied_in : (x : Name) → Known x → is_declared x.text own ≡ false → (k : ℕ) → k ≤ last → In p' (copy_name k x)
     copied_in x h hidden k le =
@@ -248,7 +246,7 @@ module _ (t : Tree) (last : ℕ) (ok : IsChecked t) (small : last < 4) where
       stop = stop_in p';
       bad = bad_in p';
       copied = copied_in;
-      kept = λ x h e. own_in x (declared_left x.text own temps e);
+      kept = λ x h e. own_in x (declared_first x.text own temps e);
       drawn = λ j lt. own_in (drawn_name j) (declared_right (drawn_name j).text own temps (let z : 0 + j ≡ j = omega arith in subst (λ k. is_declared (drawn_name k).text temps ≡ true) z (temporary_declared j 0 drawn lt)));
     }
 

@@ -22,11 +22,7 @@ use Rattle.switchboard.specs.declared.calls.PostFault.{PostFault}
 use Rattle.switchboard.specs.declared.calls.PostFault.TheVariants as fault
 use Rattle.switchboard.specs.Promises.{AreFirst, MadeNone, Added, TookMessage, WasPosted, WasRefused, WasDone}
 use Rattle.switchboard.proofs.Visits.{job_stays, takes_own, dones_own}
-
-get_front : {X : Type 0} (a b : List X) (i : ℕ) (x : X) → slice_get a i ≡ Some x → slice_get (a ++ b) i ≡ Some x
-get_front [] b i x e = cc
-get_front (y ∷ a) b zero x e = e
-get_front (y ∷ a) b (suc i) x e = get_front a b i x e
+use Rattle.switchboard.proofs.Settling.{get_front}
 
 module _ {M : Type 0} where
   -- a beginning of a legal history is legal
@@ -119,10 +115,6 @@ module _ {M W : Type 0} (fits : W → ℕ → M → Type 0) where
   post_same s t job to m (Err (fault.Spent back)) p = (ap (λ (z : Sight M W). z.board) p.1.1, ap (λ (z : Sight M W). z.number) p.1.1, ap (λ (z : Sight M W). z.seen.boxes) p.1.1)
   post_same s t job to m (Err (fault.Memory back)) p = (p.1.0.goes.board, p.1.0.goes.number, p.1.0.goes.before.boxes)
   post_same s t job to m (Err (fault.Aborted back)) p = (p.1.0.goes.board, p.1.0.goes.number, p.1.0.goes.before.boxes)
-
--- what was given is that value
-pub given : {X : Type 0} (x y : X) → Some x ≡ Some y → x ≡ y
-given x y e = cc
 
 module _ {M W : Type 0} where
   -- the pass of the next number behind those of the lower numbers

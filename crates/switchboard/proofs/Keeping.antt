@@ -12,6 +12,7 @@ use Rattle.post_ledger.specs.History.{posts, takes, dones, MayFollow}
 use Rattle.post_ledger.specs.Orders.{mailbox_of, event_of, part, completed, HasJob, IsLawful, IsClosed}
 use Rattle.post_ledger.proofs.Orders.{part-append, part_here, part_else, posted-append, completed-append, UnderJob, lawful_push, lawful_open, order_short, order_shorter, sizes_of, dones_few, dones_fewer, job_inside, counted_closed}
 use Rattle.std.proofs.Common.{Bool, true, false, None}
+use Rattle.std.proofs.lemmas.Option.{same_Some}
 use Rattle.std.specs.Prelude.{Option, is_some, IsSome}
 use Rattle.switchboard.specs.declared.calls.Abort.{Abort}
 use Rattle.switchboard.specs.Sights.{State}
@@ -20,9 +21,6 @@ use Rattle.switchboard.specs.declared.calls.Taken.TheVariants.{Message}
 use Rattle.switchboard.specs.Books.{Kept, with_entry, Takes, Answers}
 
 module _ {X : Type 0} where
-  some_same : (x y : X) → Some x ≡ Some y → x ≡ y
-  some_same x y e = cc
-
   set_here : (xs : List X) (i : ℕ) (x y : X) → slice_get (set xs i x) i ≡ Some y → x ≡ y
   set_here [] i x y e = cc
   set_here (z ∷ xs) zero x y e = cc
@@ -41,7 +39,7 @@ module _ {X : Type 0} where
 
   set_again : (xs : List X) (i : ℕ) (x : X) → slice_get xs i ≡ Some x → set xs i x ≡ xs
   set_again [] i x e = refl
-  set_again (y ∷ ys) zero x e = ap (λ z. z ∷ ys) (sym (some_same y x e))
+  set_again (y ∷ ys) zero x e = ap (λ z. z ∷ ys) (sym (same_Some y x e))
   set_again (y ∷ ys) (suc i) x e = ap (λ r. y ∷ r) (set_again ys i x e)
 
   pub same_again : (xs : List X) (i : ℕ) (x y : X) → slice_get xs i ≡ Some x → y ≡ x → set xs i y ≡ xs

@@ -2,6 +2,7 @@
 use Rattle.std.proofs.Common.{◌≡◌, ◌⊎◌, inl, inr, ℕ, ◌<◌, Bool, true, false, not, List, [], Some, None, length, refl, sym, ap, ◌∙◌, subst, arith}
 use Rattle.std.specs.Prelude.{Option}
 use Rattle.std.proofs.Common.{lt_of_not-le}
+use Rattle.std.proofs.lemmas.Bool.{not-true}
 use native.Mathlib.Decide.{dec_le}
 use Rattle.ticket_lock.specs.Lanes.{Standing, Told}
 use Rattle.ticket_lock.specs.History.{StartsWith, EndsIn, longer}
@@ -94,7 +95,7 @@ module _ {M W : Type 0} where
         let left = ap (λ (q : Standing (State M W)). q.left) l.lane in
         record {
           none = record {
-            goes = record { board = board; number = number; before = n.before; sound = n.sound; knows = λ made. some_later fits p.last y n.before (p.knows (flip kept made)) };
+            goes = record { board = board; number = number; before = n.before; sound = n.sound; knows = λ made. some_later fits p.last y n.before (p.knows (not-true kept made)) };
             made = refl;
             own = ap (λ (q : List (Entry M) × Bool). q.0) n.part;
           };
@@ -106,7 +107,3 @@ module _ {M W : Type 0} where
             | inr from ↦ (let same : z.0 ≡ y = EndsIn-same note.seen z.0 y z.1 from in inr (ap (λ (s : State M W). s.order) (sym same) ∙ sym order, ap (λ (s : State M W). s.aborted) (sym same) ∙ sym aborted))
           ];
         }
-      where
-        flip : (b : Bool) → not b ≡ true → b ≡ false
-        flip true e = cc
-        flip false e = refl

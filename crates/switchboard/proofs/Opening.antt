@@ -9,24 +9,24 @@ use Rattle.post_ledger.proofs.Orders.{lawful_open}
 use Rattle.switchboard.specs.Sights.{State, IsSound, opened, fresh_sight, fresh_sights}
 use Rattle.switchboard.specs.Passes.{IsPass, sight_of}
 
+plus : (n : ℕ) → n ≡ n + 0
+plus n = omega arith
+
+shift : (a b : ℕ) → suc a + b ≡ a + suc b
+shift a b = omega arith
+
 -- the lane behind some of the new ones is the next
 pub fresh_at : {T : Type 0} (id : TableId) (budget : ℕ) (x : T) (first count : ℕ) (xs rest : List (Standing T)) (lane : Standing T) → xs ++ lane ∷ rest ≡ fresh_lanes id budget x first count → (lane ≡ fresh_lane id budget x (first + length xs)) × (length xs < count)
 fresh_at id budget x first zero [] rest lane e = (let none : lane ∷ rest ≡ [] = e in cc)
 fresh_at id budget x first zero (y ∷ xs) rest lane e = (let none : y ∷ (xs ++ lane ∷ rest) ≡ [] = e in cc)
-fresh_at id budget x first (suc count) [] rest lane e = (head e ∙ ap (fresh_lane id budget x) (add-zero-is first), omega arith)
+fresh_at id budget x first (suc count) [] rest lane e = (head e ∙ ap (fresh_lane id budget x) (plus first), omega arith)
   where
-    add-zero-is : (n : ℕ) → n ≡ n + 0
-    add-zero-is n = omega arith
-
     head : {X : Type 0} {a b : X} {xs ys : List X} → a ∷ xs ≡ b ∷ ys → a ≡ b
     head e = cc
 fresh_at id budget x first (suc count) (y ∷ xs) rest lane e =
     let r = fresh_at id budget x (suc first) count xs rest lane (tail e) in
     (r.0 ∙ ap (fresh_lane id budget x) (shift first (length xs)), omega (arith, r.1))
   where
-    shift : (a b : ℕ) → suc a + b ≡ a + suc b
-    shift a b = omega arith
-
     tail : {X : Type 0} {a b : X} {xs ys : List X} → a ∷ xs ≡ b ∷ ys → xs ≡ ys
     tail e = cc
 
@@ -38,13 +38,7 @@ module _ {M W : Type 0} where
   -- one more pass
   pub sights_push : (id : TableId) (budget : ℕ) (s : State M W) (first count : ℕ) → fresh_sights id budget s first (suc count) ≡ fresh_sights id budget s first count ++ fresh_sight id budget s (first + count) ∷ []
   sights_push id budget s first zero = ap (λ n. fresh_sight id budget s n ∷ []) (plus first)
-    where
-      plus : (n : ℕ) → n ≡ n + 0
-      plus n = omega arith
   sights_push id budget s first (suc count) = ap (λ l. fresh_sight id budget s first ∷ l) (sights_push id budget s (suc first) count ∙ ap (λ n. fresh_sights id budget s (suc first) count ++ fresh_sight id budget s n ∷ []) (shift first count))
-    where
-      shift : (a b : ℕ) → suc a + b ≡ a + suc b
-      shift a b = omega arith
 
   pub sights_count : (id : TableId) (budget : ℕ) (s : State M W) (first count : ℕ) → length (fresh_sights id budget s first count) ≡ count
   sights_count id budget s first zero = refl

@@ -1,7 +1,7 @@
 -- What the passes of a board know together at its end.
 use Rattle.std.proofs.Common.{◌≡◌, ℕ, zero, suc, ◌<◌, Bool, true, false, not, List, [], ◌∷◌, ◌++◌, Some, length, slice_get, refl, sym, ap, ◌∙◌, subst, arith, All, eq-eqb, IsTrue}
 use Rattle.std.specs.Prelude.{◌↔◌, Option}
-use Rattle.std.proofs.lemmas.List.{append-nil}
+use Rattle.std.proofs.lemmas.List.{append-nil, nil_from_length}
 use Rattle.std.specs.Iterator.{Yields, Drains, HoldsAlong}
 use Rattle.std.specs.Vec.Iter.{into_iter_items}
 use Rattle.std.specs.declared.vec.IntoIter.{IntoIter}
@@ -21,11 +21,7 @@ use Rattle.switchboard.specs.Passes.{is_by, share, Comes, IsPass}
 use Rattle.switchboard.specs.Unwraps.{IsLaneOf, Unwraps}
 use Rattle.switchboard.proofs.Visits.{showing, shows}
 
-none_left : {X : Type 0} (l : List X) → length l ≡ 0 → l ≡ []
-none_left [] e = refl
-none_left (x ∷ xs) e = absurd (omega arith)
-
-get_front : {X : Type 0} (xs ys : List X) (j : ℕ) (x : X) → slice_get xs j ≡ Some x → slice_get (xs ++ ys) j ≡ Some x
+pub get_front : {X : Type 0} (xs ys : List X) (j : ℕ) (x : X) → slice_get xs j ≡ Some x → slice_get (xs ++ ys) j ≡ Some x
 get_front [] ys j x e = cc
 get_front (z ∷ xs) ys zero x e = e
 get_front (z ∷ xs) ys (suc j) x e = get_front xs ys j x e
@@ -52,7 +48,7 @@ module _ {M W : Type 0} (fits : W → ℕ → M → Type 0) where
     all_pairs s xs d =
         let t = d.1.0 in
         let r = front s xs t d.1.1 in
-        let none : into_iter_items (of t) ≡ [] = none_left (into_iter_items (of t)) (omega (arith, d.1.2.0, (of t).rest.ok.0)) in
+        let none : into_iter_items (of t) ≡ [] = nil_from_length (into_iter_items (of t)) (omega (arith, d.1.2.0, (of t).rest.ok.0)) in
         subst (Pairs xs) (sym (r.1 ∙ (ap (λ l. r.0 ++ l) none ∙ append-nil r.0))) r.2
 
     -- a lane of a pass of this board is idle

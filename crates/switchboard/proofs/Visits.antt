@@ -2,7 +2,8 @@
 use Rattle.std.proofs.Common.{◌≡◌, ◌≢◌, inl, inr, ℕ, zero, suc, ◌+◌, ◌-◌, ◌<◌, Bool, true, false, not, List, [], ◌∷◌, ◌++◌, Some, None, Ok, Err, length, slice_get, Contains, refl, sym, ap, ◌∙◌, subst, arith, IfErr, OnOk, MatchResult, ne_eqb}
 use Rattle.std.specs.Prelude.{Option, Result, IsSome}
 use Rattle.std.proofs.lemmas.List.{append-nil}
-use Rattle.std.proofs.lemmas.Bool.{cases_eq}
+use Rattle.std.proofs.lemmas.Bool.{cases_eq, not-true}
+use Rattle.std.proofs.lemmas.Option.{same_Some}
 use Rattle.ticket_lock.specs.Lanes.{Standing, Held}
 use Rattle.ticket_lock.specs.History.{EndsIn}
 use Rattle.ticket_lock.specs.Promises.{Entered, MayLeave, Left}
@@ -24,9 +25,6 @@ use Rattle.switchboard.specs.Books.{with_entry, Takes, Answers, Refuses}
 use Rattle.switchboard.specs.Promises.{GoesOn, Looked, Added, WasPosted, WasRefused, Took, MadeAbort}
 use Rattle.switchboard.specs.Passes.{is_by, latest, calls_of, share, sight_of, Comes, IsPass}
 use Rattle.switchboard.specs.Laws.{before_refl, before_trans}
-
-some_same : {X : Type 0} (x y : X) → Some x ≡ Some y → x ≡ y
-some_same x y e = cc
 
 -- a relation at other ends
 pub moved : {X : Type 0} (R : X → X → Type 0) (s s' t t' : X) → s ≡ s' → t ≡ t' → R s t → R s' t'
@@ -270,11 +268,7 @@ module _ {M W : Type 0} (fits : W → ℕ → M → Type 0) where
   goes_on : (a b : Standing (State M W)) (x y : State M W) (w : W) (boxes : ℕ) (kept kept' : Bool) (p : IsPass fits a w boxes kept) → Visit a b x y → Kept a.number x y → (kept' ≡ false → IsSome y.aborted) → GoesOn fits (showing a kept p.last) (showing b kept' y)
   goes_on a b x y w boxes kept kept' p v k known =
       let f = found_of a b x y w boxes kept p v in
-      record { board = v.lock; number = v.number; before = before_trans p.last x y f.before k.before; sound = k.sound; knows = λ made. known (flip kept' made) }
-    where
-      flip : (b : Bool) → not b ≡ true → b ≡ false
-      flip true e = cc
-      flip false e = refl
+      record { board = v.lock; number = v.number; before = before_trans p.last x y f.before k.before; sound = k.sound; knows = λ made. known (not-true kept' made) }
 
   -- a call at which the pass made no event
   pub looked_is : (a b : Standing (State M W)) (x : State M W) (w : W) (boxes : ℕ) (kept : Bool) (p : IsPass fits a w boxes kept) → Visit a b x x → 0 < calls_of kept a.left → Looked fits (showing a kept p.last) (showing b kept x)
@@ -311,7 +305,7 @@ module _ {M W : Type 0} (fits : W → ℕ → M → Type 0) where
   ]
     where
       first : (j : ℕ) → slice_get ((s', m') ∷ posts (part q es)) j ≡ Some (s, m) → to ≡ q → ((i : ℕ) → slice_get (posts (part q es)) i ≡ Some (s, m) → fits w q m) → fits w q m
-      first zero is here rest = (let same : m' ≡ m = ap (λ (z : ℕ × M). z.1) (some_same (s', m') (s, m) is) in subst (λ i. fits w i m) here (subst (λ n. fits w to n) same (all 0 to s' m' t refl)))
+      first zero is here rest = (let same : m' ≡ m = ap (λ (z : ℕ × M). z.1) (same_Some (s', m') (s, m) is) in subst (λ i. fits w i m) here (subst (λ n. fits w to n) same (all 0 to s' m' t refl)))
       first (suc j) is here rest = rest j is
   posted_fits w q k s m (entry.Taken of s' m' ∷ es) all at = elim (cases_eq of q) [
     | inl here ↦ posted_fits w q k s m es (λ i. all (suc i)) (ap (λ l. slice_get (posts l) k) (sym (part_here q (entry.Taken of s' m') es here)) ∙ at)

@@ -14,6 +14,7 @@ pub mod Goings
 pub mod Programs
 pub mod Texts
 pub mod OneTree
+pub mod Appended
 pub mod Prints
 pub mod PrintedBlocks
 pub mod PrintedDeeds

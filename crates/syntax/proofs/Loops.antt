@@ -1,5 +1,6 @@
 -- The steps of the loops that read lists.
-use Rattle.std.proofs.Common.{◌≡◌, Bool, true, false, List, [], ◌∷◌, ◌++◌, Option, Some, None, refl, sym, ◌∙◌, ap, append_assoc}
+use Rattle.std.proofs.Common.{◌≡◌, Bool, true, false, List, [], ◌∷◌, ◌++◌, Option, Some, None, refl, sym, ◌∙◌, ap, append_assoc, append-nil}
+use Rattle.std.proofs.lemmas.List.{map-append}
 use Rattle.std.specs.Prelude.{option_and_then, map}
 use Rattle.language.specs.Tree.{Name, Expression, RightSide, Procedure, ThreadLine}
 use Rattle.tokens.specs.declared.vocabulary.Kind.TheVariants as kind
@@ -13,45 +14,28 @@ use Rattle.syntax.proofs.Expressions.{take_finds}
 use Rattle.syntax.proofs.Parts.{strict_name, strict_right, strict_expression}
 use Rattle.syntax.proofs.Programs.{strict_declaration, strict_procedure, strict_thread_line}
 
--- a list with nothing behind it
-append_none : {X : Type 0} (xs : List X) → xs ++ [] ≡ xs
-append_none [] = refl
-append_none (x ∷ xs) = ap (λ ys. x ∷ ys) (append_none xs)
-
-append_more : {X : Type 0} (xs : List X) (x : X) (ys : List X) → xs ++ (x ∷ ys) ≡ (xs ++ (x ∷ [])) ++ ys
-append_more [] x ys = refl
-append_more (y ∷ xs) x ys = ap (λ zs. y ∷ zs) (append_more xs x ys)
+-- what an append leaves, seen by a view
+pub appended : {X Y : Type 0} (f : X → Y) (xs ys zs : List X) → zs ≡ xs ++ ys → map f xs ++ map f ys ≡ map f zs
+appended f xs ys zs e = sym (map-append f xs ys) ∙ ap (map f) (sym e)
 
 -- what a push leaves, seen by a view
 pub pushed : {X Y : Type 0} (f : X → Y) (xs ys : List X) (x : X) → ys ≡ xs ++ (x ∷ []) → map f xs ++ (f x ∷ []) ≡ map f ys
-pushed f xs ys x e = viewed f xs x ∙ ap (map f) (sym e)
-  where
-    viewed : {X Y : Type 0} (f : X → Y) (xs : List X) (x : X) → map f xs ++ (f x ∷ []) ≡ map f (xs ++ (x ∷ []))
-    viewed f [] x = refl
-    viewed f (y ∷ xs) x = ap (λ ys. f y ∷ ys) (viewed f xs x)
-
--- what an append leaves, seen by a view
-pub appended : {X Y : Type 0} (f : X → Y) (xs ys zs : List X) → zs ≡ xs ++ ys → map f xs ++ map f ys ≡ map f zs
-appended f xs ys zs e = viewed f xs ys ∙ ap (map f) (sym e)
-  where
-    viewed : {X Y : Type 0} (f : X → Y) (xs ys : List X) → map f xs ++ map f ys ≡ map f (xs ++ ys)
-    viewed f [] ys = refl
-    viewed f (x ∷ xs) ys = ap (λ zs. f x ∷ zs) (viewed f xs ys)
+pushed f xs ys x e = appended f xs (x ∷ []) ys e
 
 prepend_more : {X : Type 0} (xs : List X) (x : X) (p : Parser (List X)) (us : List Tok) → prepend xs ((p >>= λ ys. give (x ∷ ys)) us) ≡ prepend (xs ++ (x ∷ [])) (p us)
 prepend_more {X} xs x p us = by_option (p us)
   where
     by_option : (r : Option (List X × List Tok)) → prepend xs (option_and_then (λ (q : List X × List Tok). Some (x ∷ q.0, q.1)) r) ≡ prepend (xs ++ (x ∷ [])) r
     by_option None = refl
-    by_option (Some q) = ap (λ (zs : List X). Some (zs, q.1)) (append_more xs x q.0)
+    by_option (Some q) = ap (λ (zs : List X). Some (zs, q.1)) (sym (append_assoc xs (x ∷ []) q.0))
+
+prepend_first : {X : Type 0} (x : X) (r : Option (List X × List Tok)) → option_and_then (λ (q : List X × List Tok). Some (x ∷ q.0, q.1)) r ≡ prepend (x ∷ []) r
+prepend_first x None = refl
+prepend_first x (Some q) = refl
 
 module _ {X : Type 0} (p : Parser X) (s : Strict p) where
   list_start : (ts : List Tok) (x : X) (us : List Tok) → p ts ≡ Some (x, us) → list p ts ≡ prepend (x ∷ []) (more p us)
   list_start ts x us e = bind_is p (λ x. more p >>= λ xs. give (x ∷ xs)) ts x us e ∙ prepend_first x (more p us)
-    where
-      prepend_first : (x : X) (r : Option (List X × List Tok)) → option_and_then (λ (q : List X × List Tok). Some (x ∷ q.0, q.1)) r ≡ prepend (x ∷ []) r
-      prepend_first x None = refl
-      prepend_first x (Some q) = refl
 
   list_no_start : (ts : List Tok) → p ts ≡ None → list p ts ≡ None
   list_no_start ts e = rw e refl
@@ -69,7 +53,7 @@ module _ {X : Type 0} (p : Parser X) (s : Strict p) where
   more_refused xs ts t us e f = let h : more p ts ≡ None = more_at ts t us e ∙ rw f refl in ap (prepend xs) h
 
   more_end : (xs : List X) (ts : List Tok) → begins kind.Comma ts ≡ false → prepend xs (more p ts) ≡ Some (xs, ts)
-  more_end xs ts e = ap (prepend xs) (many_ends (begins kind.Comma) (take kind.Comma >>= λ _. p) (Strict-behind kind.Comma (Strict-Shrinks s)) ts e) ∙ ap (λ (zs : List X). Some (zs, ts)) (append_none xs)
+  more_end xs ts e = ap (prepend xs) (many_ends (begins kind.Comma) (take kind.Comma >>= λ _. p) (Strict-behind kind.Comma (Strict-Shrinks s)) ts e) ∙ ap (λ (zs : List X). Some (zs, ts)) (append-nil xs)
 
 -- names
 pub names_start : (ts : List Tok) (x : Name) (us : List Tok) → name ts ≡ Some (x, us) → names ts ≡ prepend (x ∷ []) (more_names us)
@@ -138,10 +122,6 @@ expressions_end = more_end expression strict_expression
 module _ {X : Type 0} (test : List Tok → Bool) (p : Parser X) (s : Strict p) where
   some_start : (ts : List Tok) (x : X) (us : List Tok) → p ts ≡ Some (x, us) → (p >>= λ x. many test p >>= λ xs. give (x ∷ xs)) ts ≡ prepend (x ∷ []) (many test p us)
   some_start ts x us e = bind_is p (λ x. many test p >>= λ xs. give (x ∷ xs)) ts x us e ∙ prepend_first x (many test p us)
-    where
-      prepend_first : (x : X) (r : Option (List X × List Tok)) → option_and_then (λ (q : List X × List Tok). Some (x ∷ q.0, q.1)) r ≡ prepend (x ∷ []) r
-      prepend_first x None = refl
-      prepend_first x (Some q) = refl
 
   others_at : (ts : List Tok) → test ts ≡ true → many test p ts ≡ (p >>= λ x. many test p >>= λ xs. give (x ∷ xs)) ts
   others_at ts h = many_is test p s ts ∙ rw h refl
@@ -154,7 +134,7 @@ module _ {X : Type 0} (test : List Tok → Bool) (p : Parser X) (s : Strict p) w
   others_refused xs ts h e = let f : many test p ts ≡ None = others_at ts h ∙ rw e refl in ap (prepend xs) f
 
   others_end : (xs : List X) (ts : List Tok) → test ts ≡ false → prepend xs (many test p ts) ≡ Some (xs, ts)
-  others_end xs ts e = ap (prepend xs) (many_ends test p s ts e) ∙ ap (λ (zs : List X). Some (zs, ts)) (append_none xs)
+  others_end xs ts e = ap (prepend xs) (many_ends test p s ts e) ∙ ap (λ (zs : List X). Some (zs, ts)) (append-nil xs)
 
 -- declarations, one list after the other
 pub declarations_go_on : (xs : List Name) (ts : List Tok) (ns : List Name) (us : List Tok) → begins kind.Decl ts ≡ true → declaration ts ≡ Some (ns, us) → prepend xs (all_declarations ts) ≡ prepend (xs ++ ns) (all_declarations us)
@@ -178,7 +158,7 @@ pub declarations_end : (xs : List Name) (ts : List Tok) → begins kind.Decl ts 
 unfolding all_declarations
 declarations_end xs ts e =
     ap (λ (r : Option (List (List Name) × List Tok)). prepend xs (option_and_then (λ (q : List (List Name) × List Tok). Some (joined q.0, q.1)) r)) (many_ends (begins kind.Decl) declaration strict_declaration ts e)
-    ∙ ap (λ (zs : List Name). Some (zs, ts)) (append_none xs)
+    ∙ ap (λ (zs : List Name). Some (zs, ts)) (append-nil xs)
 
 pub prepend_nothing : {X : Type 0} (r : Option (List X × List Tok)) → r ≡ prepend [] r
 prepend_nothing None = refl

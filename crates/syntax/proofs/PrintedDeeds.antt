@@ -16,6 +16,7 @@ use Rattle.syntax.specs.Trees.{name_of, names_of, exprs_of, rhs_of, rhss_of, Dee
 use Rattle.syntax.specs.Printed.{name_parts, separated, expression_parts, side_parts, margin, block_parts}
 use Rattle.syntax.specs.PrintedDeed.{deed_parts}
 use Rattle.syntax.proofs.Folds.{deed_of-Assign, deed_of-Assert, deed_of-Assume, deed_of-Call, deed_of-If, deed_of-While}
+use Rattle.syntax.proofs.Appended.{four_behind}
 use Rattle.syntax.proofs.Prints.{pushed_last, put_last}
 
 assign_text : (level : ℕ) (xs : List tree.Name) (rs : List (RightSide tree.Name))
@@ -70,10 +71,6 @@ while_text : (level : ℕ) (r : RightSide tree.Name) (a : Block tree.Name tree.N
     → text_of (deed_parts level (repeat r a)) ≡ (while_open ++ (text_of (side_parts r) ++ do_line)) ++ (text_of (block_parts (suc level) a) ++ (text_of (margin level) ++ od_line))
 while_text level r a = simp (text_of-append, append_assoc)
 
--- texts put behind one another
-four : (old a b c d : List ℕ) → (((old ++ a) ++ b) ++ c) ++ d ≡ old ++ (a ++ (b ++ (c ++ d)))
-four old a b c d = simp append_assoc
-
 module _ {A X E : Type 0} (level : ℕ) (r : Result X E) (k : Core A) (old new : List ℕ) where
   -- the text that a deed adds
   abbrev Adds : Type 0
@@ -87,14 +84,14 @@ module _ {A X E : Type 0} (level : ℕ) (r : Result X E) (k : Core A) (old new :
       → s1 ≡ old ++ text_of (separated name_parts (names_of names)) → s2 ≡ s1 ++ (32 ∷ 58 ∷ 61 ∷ 32 ∷ []) → s3 ≡ s2 ++ text_of (separated side_parts (rhss_of sides))
       → new ≡ cond (is_ok r) (s3 ++ (59 ∷ 10 ∷ [])) s3 → Adds
   assigned xs rs names sides s1 s2 s3 is e f h1 h2 h3 last =
-      pushed_last r new s3 _ _ last (rw (h3, h2, h1, e, f) (four old _ _ _ _ ∙ deed_text (simple (assign (names_of xs.items) (rhss_of rs.items))) _ (ap deed_of is ∙ deed_of-Assign xs rs) (assign_text level _ _)))
+      pushed_last r new s3 _ _ last (rw (h3, h2, h1, e, f) (four_behind old _ _ _ _ ∙ deed_text (simple (assign (names_of xs.items) (rhss_of rs.items))) _ (ap deed_of is ∙ deed_of-Assign xs rs) (assign_text level _ _)))
 
   pub called : (p : Name A) (es : Vec (Expr A) A) (exprs : List (Expr A)) (s1 s2 s3 : List ℕ)
       → k ≡ core.Call p es → exprs ≡ es.items
       → s1 ≡ old ++ text_of (name_parts (name_of p)) → s2 ≡ s1 ++ (40 ∷ []) → s3 ≡ s2 ++ text_of (separated expression_parts (exprs_of exprs))
       → new ≡ cond (is_ok r) (s3 ++ (41 ∷ 59 ∷ 10 ∷ [])) s3 → Adds
   called p es exprs s1 s2 s3 is e h1 h2 h3 last =
-      pushed_last r new s3 _ _ last (rw (h3, h2, h1, e) (four old _ _ _ _ ∙ deed_text (simple (call (name_of p) (exprs_of es.items))) _ (ap deed_of is ∙ deed_of-Call p es) (call_text level (name_of p) (exprs_of es.items))))
+      pushed_last r new s3 _ _ last (rw (h3, h2, h1, e) (four_behind old _ _ _ _ ∙ deed_text (simple (call (name_of p) (exprs_of es.items))) _ (ap deed_of is ∙ deed_of-Call p es) (call_text level (name_of p) (exprs_of es.items))))
 
   pub asserted : (side : Rhs A) → k ≡ core.Assert side → IfOk r (λ _. new ≡ old ++ (assert_open ++ (text_of (side_parts (rhs_of side)) ++ (41 ∷ 59 ∷ 10 ∷ [])))) → Adds
   asserted side is last = put_last r new old _ _ last (deed_text (simple (assert (rhs_of side))) _ (ap deed_of is ∙ deed_of-Assert side) (assert_text level (rhs_of side)))

@@ -12,6 +12,7 @@ use Rattle.syntax.specs.declared.tree.Expr.{Expr}
 use Rattle.syntax.specs.declared.tree.Expr.TheVariants.{Two}
 use Rattle.syntax.specs.Trees.{operator_of, expr_of}
 use Rattle.syntax.proofs.Folds.{expr_of-Two}
+use Rattle.syntax.proofs.Appended.{five_behind}
 use Rattle.syntax.specs.Printed.{kind_of, operation, operand_parts, expression_parts, separated, after_commas}
 
 -- The text at the end of a function whose last call pushes s.
@@ -36,9 +37,6 @@ text_of-operand o a b =
     ∙ append_assoc (text_of (operand_parts a)) _ (41 ∷ [])
     ∙ ap (λ (x : List ℕ). text_of (operand_parts a) ++ x) (append_assoc (text_of (space ∷ fixed (kind_of o) ∷ space ∷ [])) (text_of (operand_parts b)) (41 ∷ [])))
 
-pub five : (old a b c d e : List ℕ) → ((((old ++ a) ++ b) ++ c) ++ d) ++ e ≡ old ++ (a ++ (b ++ (c ++ (d ++ e))))
-five old a b c d e = simp append_assoc
-
 pub two_pushed : {A X E : Type 0} (r : Result X E) (o : Op) (a b : Box (Expr A) A) (e x y : Expr A) (old s1 s2 s3 s4 new : List ℕ)
     → e ≡ Two o a b → a.value ≡ x → b.value ≡ y
     → s1 ≡ old ++ (40 ∷ []) → s2 ≡ s1 ++ text_of (operand_parts (expr_of x)) → s3 ≡ s2 ++ text_of (space ∷ fixed (kind_of (operator_of o)) ∷ space ∷ []) → s4 ≡ s3 ++ text_of (operand_parts (expr_of y))
@@ -47,7 +45,7 @@ two_pushed r o a b e x y old s1 s2 s3 s4 new is left right h1 h2 h3 h4 last =
     let tree : expr_of e ≡ two (operator_of o) (expr_of x) (expr_of y) = ap expr_of is ∙ expr_of-Two o a b ∙ (λ i. two (operator_of o) (expr_of (left i)) (expr_of (right i))) in
     let form : text_of (operand_parts (expr_of e)) ≡ 40 ∷ (text_of (operand_parts (expr_of x)) ++ (text_of (space ∷ fixed (kind_of (operator_of o)) ∷ space ∷ []) ++ (text_of (operand_parts (expr_of y)) ++ (41 ∷ [])))) =
     ap (λ (t : Expression Name). text_of (operand_parts t)) tree ∙ text_of-operand (operator_of o) (expr_of x) (expr_of y) in
-    pushed_last r new s4 (41 ∷ []) _ last (rw (h4, h3, h2, h1) (five old (40 ∷ []) _ _ _ (41 ∷ []) ∙ ap (λ (t : List ℕ). old ++ t) (sym form)))
+    pushed_last r new s4 (41 ∷ []) _ last (rw (h4, h3, h2, h1) (five_behind old (40 ∷ []) _ _ _ (41 ∷ []) ∙ ap (λ (t : List ℕ). old ++ t) (sym form)))
 
 pub two_printed : {A X E : Type 0} (r : Result X E) (o : Op) (a b : Box (Expr A) A) (e x y : Expr A) (old s1 s2 new : List ℕ)
     → e ≡ Two o a b → a.value ≡ x → b.value ≡ y

@@ -9,6 +9,7 @@ use Rattle.syntax.specs.Grammar.{joined}
 use Rattle.syntax.specs.InGrammar.{IsId, AreIds, ExpressionInGrammar, SideInGrammar, SimpleInGrammar, LabelInGrammar, BlockInGrammar, ProcedureInGrammar, ThreadInGrammar, InGrammar}
 use Rattle.syntax.specs.Printed as printed
 use Rattle.syntax.specs.Printed.{name_parts, after_commas, separated, kind_of, operation, operand_parts, expression_parts, side_parts, ended, simple_parts, label_parts, margin, line_of, test_parts, block_parts, declaration_parts, procedure_parts, thread_parts, program_parts}
+use Rattle.syntax.proofs.Appended.{four, five, six}
 
 -- No word comes next, and the parts stand apart.
 pub record Tail (more : List Part) : Type 0 where
@@ -187,15 +188,6 @@ while_fits : (r : RightSide Name) → SideInGrammar r → (more : List Part) →
 while_fits r ok more apart =
     put _ (fixed kind.While ∷ space ∷ (printed.in_parens (side_parts r) ++ (space ∷ fixed kind.Do ∷ line ∷ more))) (ap (λ (ps : List Part). fixed kind.While ∷ space ∷ ps) (append_assoc (printed.in_parens (side_parts r)) (space ∷ fixed kind.Do ∷ []) (line ∷ more)))
     (inl (reserved refl), tt, parens_fit (side_parts r) (side_fits r ok) (space ∷ fixed kind.Do ∷ line ∷ more) (inl (reserved refl), tt, apart))
-
-six : (a b c d e f g : List Part) → (a ++ (b ++ (c ++ (d ++ (e ++ f))))) ++ g ≡ a ++ (b ++ (c ++ (d ++ (e ++ (f ++ g)))))
-six a b c d e f g = simp append_assoc
-
-five : (a b c d e f : List Part) → (a ++ (b ++ (c ++ (d ++ e)))) ++ f ≡ a ++ (b ++ (c ++ (d ++ (e ++ f))))
-five a b c d e f = simp append_assoc
-
-four : (a b c d e : List Part) → (a ++ (b ++ (c ++ d))) ++ e ≡ a ++ (b ++ (c ++ (d ++ e)))
-four a b c d e = simp append_assoc
 
 block_fits : (b : Block Name Name Name) → BlockInGrammar b → (level : ℕ) (more : List Part) → AreApart more → AreApart (block_parts level b ++ more)
 block_fits done ok level more apart = apart

@@ -10,6 +10,7 @@ use Rattle.syntax.specs.Offsets.{unplaced, unplaced_expression, unplaced_side, u
 use Rattle.syntax.specs.InGrammar.{SimpleInGrammar, BlockInGrammar}
 use Rattle.syntax.specs.Printed as printed
 use Rattle.syntax.specs.Printed.{name_parts, separated, expression_parts, side_parts, ended, simple_parts, label_parts, margin, line_of, test_parts, block_parts}
+use Rattle.syntax.proofs.Appended.{four, six}
 use Rattle.syntax.proofs.PrintsBack.{Read, Shows, put, expression_shows, side_shows, name_shows, list_shows, perhaps_shows, parens_show}
 
 side_in_parens : (r : RightSide Name) → Shows (InParens IsRight) unplaced_side (printed.in_parens (side_parts r)) r
@@ -134,12 +135,6 @@ first_line level at label s more = let l = line_at level at (label ++ s) more in
 
 pub put_tokens : {X : Type 0} {P : List Tok → X → List Tok → Type 0} {bare : X → X} {x : X} {more : List Part} (ts us : List Tok) → ts ≡ us → Read P bare x us more → Read P bare x ts more
 put_tokens {X} {P} {bare} {x} {more} ts us e r = rw e r
-
-six : (a b c d e f g : List Part) → (a ++ (b ++ (c ++ (d ++ (e ++ f))))) ++ g ≡ a ++ (b ++ (c ++ (d ++ (e ++ (f ++ g)))))
-six a b c d e f g = simp append_assoc
-
-four : (a b c d e : List Part) → (a ++ (b ++ (c ++ d))) ++ e ≡ a ++ (b ++ (c ++ (d ++ e)))
-four a b c d e = simp append_assoc
 
 pub block_shows : (b : Block Name Name Name) → BlockInGrammar b → (level : ℕ) → Shows Statements unplaced_block (block_parts level b) b
 block_shows done ok level at more = record { found = done; next = at; same = refl; reads = nothing_more }

@@ -10,6 +10,7 @@ use Rattle.syntax.specs.Offsets.{unplaced, unplaced_procedure, unplaced_thread, 
 use Rattle.syntax.specs.InGrammar.{ProcedureInGrammar, ThreadInGrammar, InGrammar}
 use Rattle.syntax.specs.Printed as printed
 use Rattle.syntax.specs.Printed.{name_parts, separated, ended, line_of, block_parts, declaration_parts, procedure_parts, thread_parts, program_parts}
+use Rattle.syntax.proofs.Appended.{five}
 use Rattle.syntax.proofs.PrintsBack.{Shows, put, name_shows, list_shows, perhaps_shows, parens_show}
 use Rattle.syntax.proofs.PrintsBackBlocks.{put_tokens, line_at, word_at, some_too, block_shows}
 
@@ -28,9 +29,6 @@ declaration_shows (n ∷ ns) level at more =
       same = ap (map unplaced) (append-nil found.found) ∙ found.same;
       reads = declarations (one_more (is_declaration (takes refl) found.reads (takes refl)) no_more);
     })
-
-five : (a b c d e f : List Part) → (a ++ (b ++ (c ++ (d ++ e)))) ++ f ≡ a ++ (b ++ (c ++ (d ++ (e ++ f))))
-five a b c d e f = simp append_assoc
 
 procedure_shows : (p : Procedure) → ProcedureInGrammar p → Shows IsProcedure unplaced_procedure (procedure_parts p) p
 procedure_shows p ok at more =

@@ -15,6 +15,7 @@ use Rattle.ticket_lock.specs.Lanes.{Standing, standing, IsLane}
 use Rattle.ticket_lock.specs.Promises.{IsIdle, Closes, KeepsOwn, ComesLast}
 use Rattle.ticket_lock.specs.Facts.{total-snoc, times-append, at_snoc, at_last, at_longer, StartsWith-trans, rises_last}
 use Rattle.ticket_lock.proofs.LoneSteps.{longer_first, longer_second}
+use Rattle.ticket_lock.proofs.Served.{alone}
 
 module _ {S A : Type 0} (steps : S → Option A → S → Type 0) where
   -- one more item
@@ -55,9 +56,6 @@ module _ {T : Type 0} where
       no_item : (j : ℕ) (y : Standing T) → (let none : List (Standing T) = [] in get_elem? none j ≡ some y) → ⊥
       no_item j y e = mathlib.Core.Option.some-ne-none y (sym e)
 
-  only : (x y : T) → (let l : List T = x ∷ [] in let m : List T = y ∷ [] in l ≡ m) → x ≡ y
-  only x y e = cc
-
   pub gathers_one : (xs : List (Standing T)) (v n : View T) (y : Standing T) (id : TableId) (number left : ℕ) (me : Me (Option T) (View T)) → Gathered xs v → IsLane id number left me → standing id number left me.0 ≡ y
       → y.tickets ≡ [] → y.inside ≡ [] → n ≡ taken_in (merged v me.0) → StartsWith n.hand.seen v.hand.seen → StartsWith n.hand.seen me.0.hand.seen → Gathered (xs ++ y ∷ []) n
   gathers_one xs v n y id number left me g lane is no_ticket no_guard now mine theirs =
@@ -84,7 +82,7 @@ module _ {T : Type 0} where
           | inl t ↦ (let o = lane.one in
               let number_is : number ≡ x.number = ap (λ (q : Standing T). q.number) (is ∙ t.1) in
               let own_is : o.0 ∷ [] ≡ z ∷ [] = sym (ap (λ (q : List (ℕ × T)). map (λ p. p.1) q) o.1) ∙ (ap (λ (q : Standing T). q.own) (is ∙ t.1) ∙ has) in
-              let value : o.0 ≡ z = only o.0 z own_is in
+              let value : o.0 ≡ z = alone o.0 z own_is in
               (length v.own, subst (λ l. get_elem? l (length v.own) ≡ some (x.number, z)) (sym (ap (λ (q : View T). q.own) now ∙ ap (λ l. v.own ++ l) o.1)) (subst (λ p. get_elem? (v.own ++ (number, o.0) ∷ []) (length v.own) ≡ some p) (λ i. (number_is i, value i)) (at_last v.own (number, o.0)))))
           | inr t ↦ (let old = g.own j x z t has in (old.0, subst (λ l. get_elem? l old.0 ≡ some (x.number, z)) (sym (ap (λ (q : View T). q.own) now)) (at_longer v.own w.own old.0 (x.number, z) old.1)))
         ];

@@ -1,13 +1,9 @@
 -- What an iterator over a `Vec` gives, for callers of `close`.
 use Rattle.std.proofs.Common.{◌≡◌, ℕ, suc, ◌+◌, ◌<◌, List, [], ◌∷◌, ◌++◌, length, refl, sym, ap, ◌∙◌, subst, arith, All, Some, None}
-use Rattle.std.proofs.lemmas.List.{append-nil}
+use Rattle.std.proofs.lemmas.List.{append-nil, nil_from_length}
 use Rattle.std.specs.Iterator.{Yields, Drains, HoldsAlong}
 use Rattle.std.specs.Vec.Iter.{into_iter_items, into_iter_steps}
 use Rattle.std.specs.declared.vec.IntoIter.{IntoIter}
-
-none_left : {X : Type 0} (l : List X) → length l ≡ 0 → l ≡ []
-none_left [] e = refl
-none_left (x ∷ xs) e = absurd (omega arith)
 
 All-front : {X : Type 0} (P : X → Type 0) (xs ys : List X) → All P (xs ++ ys) → All P xs
 All-front P xs ys a k d h = subst P (front xs ys k d h) (a k d (omega (arith, Rattle.std.proofs.Common.length-append xs ys)))
@@ -25,7 +21,7 @@ module _ {X Z : Type 0} where
   pub gives_all : (s : IntoIter X Z) (xs : List X) → Drains into_iter_steps s xs → xs ≡ into_iter_items s
   gives_all s xs d =
       let t = d.1.0 in
-      let none : into_iter_items t ≡ [] = none_left (into_iter_items t) (omega (arith, d.1.2.0, t.rest.ok.0)) in
+      let none : into_iter_items t ≡ [] = nil_from_length (into_iter_items t) (omega (arith, d.1.2.0, t.rest.ok.0)) in
       sym (gives_front s xs t d.1.1 ∙ (ap (λ l. xs ++ l) none ∙ append-nil xs))
 
   pub holds_along : (P : X → Type 0) (s : IntoIter X Z) → All P (into_iter_items s) → HoldsAlong into_iter_steps s (All P)

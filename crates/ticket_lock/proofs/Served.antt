@@ -80,10 +80,10 @@ module _ {T : Type 0} where
     pub served_to : (x : T) (n ticket : ℕ) (a a' b : Standing T) → n ≡ ticket → a ≡ a' → Served before part n record { value = x; number = n } a b → Served before part ticket record { value = x; number = n } a' b
     served_to x n ticket a a' b e d s = subst (λ z. Served before part ticket record { value = x; number = n } z b) d (subst (λ (k : ℕ). Served before part k record { value = x; number = n } a b) e s)
 
-module _ {T Part : Type 0} (before : T → T → Type 0) (part : ℕ → T → Part) where
-  alone : (x y : T) → (let l : List T = x ∷ [] in let m : List T = y ∷ [] in l ≡ m) → x ≡ y
-  alone x y e = cc
+pub alone : {T : Type 0} (x y : T) → (let l : List T = x ∷ [] in let m : List T = y ∷ [] in l ≡ m) → x ≡ y
+alone x y e = cc
 
+module _ {T Part : Type 0} (before : T → T → Type 0) (part : ℕ → T → Part) where
   learned_of : (id : TableId) (number left : ℕ) (v m : Me (Option T) (View T)) (x : T) (seen : List T) (note : Told T) → note.seen ≡ seen → v.0.own ≡ (number, x) ∷ [] → TookIn before part (merged v.0 (new_view seen []), v.1) m
       → Learned before part note (standing id number left v.0) (standing id number left m.0)
   learned_of id number left v m x seen note is one took =

@@ -2,6 +2,7 @@
 use Rattle.std.proofs.Common.{◌≡◌, ℕ, [], ◌∷◌, List, true, false, nat_eq, refl, sym, ◌∙◌, arith, lit<, Contains}
 use Rattle.std.specs.List.{list_any}
 use Rattle.std.specs.Cmp.{nat_eq_equiv}
+use Rattle.std.proofs.lemmas.Bool.{false≢true}
 use Rattle.std.proofs.lemmas.Map.Views.{list_any-from_Contains}
 use Rattle.post_ledger.specs.declared.entry.Entry.{Entry}
 use Rattle.post_ledger.specs.declared.entry.Entry.TheVariants.{Posted, Taken, Completed}
@@ -10,11 +11,8 @@ use Rattle.post_ledger.specs.Row.{row, beginning}
 use Rattle.post_ledger.proofs.Orders.{lawful_open, lawful_push, counted_closed}
 use Rattle.post_ledger.proofs.laws.a_run_of_two_mailboxes.Goals as goal
 
-false-true : false ≡ true → ⊥
-false-true e = cc
-
 absent : (l : List ℕ) (t : ℕ) → list_any (nat_eq t) l ≡ false → Contains l t → ⊥
-absent l t none there = false-true (sym none ∙ list_any-from_Contains nat_eq_equiv t l there)
+absent l t none there = false≢true (sym none ∙ list_any-from_Contains nat_eq_equiv t l there)
 
 half : IsLawful 2 beginning
 half =
