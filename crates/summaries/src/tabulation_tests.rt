@@ -3,38 +3,55 @@
 //! The globals of a rewritten program without globals of its own are `rh__`, `rl__`, `stop__` and `bad__`, in the bits 0 to
 //! 3. `main__` is procedure 0; the others follow in the order of the text.
 
+ghost use Rattle.std.specs.Prelude.{◌≡◌};
+ghost use Rattle.language.specs.Sequential.{sequential_of};
+ghost use Rattle.language.specs.Step.{Program};
+ghost use Rattle.syntax.specs.Trees.{tree_of};
+
 use crate::edge_limit::EdgeLimit;
 use crate::no_verdict::NoVerdict;
 use crate::pair::Pair;
 use crate::summaries::Summaries;
 use crate::tabulation::tabulate;
-use flow_graph::{Graphs, graphs};
+use flow_graph::graphs;
 use path_sets::OrderedEdges;
-use round_rewrite::{Rounds, rewrite};
+use round_rewrite::{Rounds, Sequential, rewrite};
 use scarce::Scarce;
 use scopes::check;
 use std::alloc::{AllocError, Allocator, Global};
 use std::test::Fail;
 use syntax::read;
 
-/// The flow graphs of a text that is rewritten for some rounds.
-fn drawn(alloc: Global, text: &str, rounds: u8) -> Option<Graphs<Global>> {
+/// The sequential program that a text is rewritten to for some rounds.
+fn rewritten(alloc: Global, text: &str, rounds: u8) -> Option<Sequential<Global>> {
     let program = read(alloc, text.as_bytes()).ok()?;
     let checked = check(alloc, program).ok()?;
-    let sequential = rewrite(&alloc, &checked, Rounds::new(rounds)?).ok()?;
-    graphs(&alloc, &sequential).ok()
+    rewrite(&alloc, &checked, Rounds::new(rounds)?).ok()
 }
 
-/// The summaries by flow graphs, with so many path edges at most.
+/// The summaries of a sequential program by its flow graphs.
+fn by_graphs<A: Allocator + Copy>(
+    alloc: A,
+    sequential: &Sequential<Global>,
+    limit: EdgeLimit,
+) -> Result<Summaries<A>, NoVerdict>
+    ghost program: { Program }
+    requires { program ≡ sequential_of (tree_of sequential.now.program) }
+{
+    let graphs = graphs(&alloc, sequential)?;
+    tabulate::<_, _, OrderedEdges<_>>(alloc, &graphs, limit)
+}
+
+/// The summaries of a sequential program, with so many path edges at most.
 fn tabulated<A: Allocator + Copy>(
     alloc: A,
-    graphs: &Graphs<Global>,
+    sequential: &Sequential<Global>,
     edges: u32,
 ) -> Result<Summaries<A>, NoVerdict> {
     let Some(limit) = EdgeLimit::new(edges) else {
         return Err(NoVerdict::EdgeLimit);
     };
-    tabulate::<_, _, OrderedEdges<_>>(alloc, graphs, limit)
+    by_graphs(alloc, sequential, limit)
 }
 
 /// Whether a procedure has these entries, and these pairs, each as its entry and the globals that are left.
@@ -63,10 +80,10 @@ const SKIP: &str = "t() begin skip; end thread t;";
 
 #[test]
 fn a_skip_ends_or_stops(rt: HostRuntime) -> Result<(), Fail> {
-    let Some(graphs) = drawn(rt.alloc(), SKIP, 1) else {
-        panic!(rt; "not drawn");
+    let Some(sequential) = rewritten(rt.alloc(), SKIP, 1) else {
+        panic!(rt; "not rewritten");
     };
-    let summaries = tabulated(rt.alloc(), &graphs, 100)?;
+    let summaries = tabulated(rt.alloc(), &sequential, 100)?;
     assert_eq!(rt; summaries.len(), 2usize);
     for procedure in 0..2u8 {
         assert!(rt; has(&summaries, procedure, &[0], &[(0, 0b0000), (0, 0b0100)]));
@@ -80,10 +97,10 @@ const WRITES: &str = "decl x; a() begin x:=1; end b() begin assert(!x); end thre
 #[test]
 fn a_failing_assert_is_a_bad_pair(rt: HostRuntime) -> Result<(), Fail> {
     // x__1 is bit 0, so stop__ is 3 and bad__ 4.
-    let Some(graphs) = drawn(rt.alloc(), WRITES, 1) else {
-        panic!(rt; "not drawn");
+    let Some(sequential) = rewritten(rt.alloc(), WRITES, 1) else {
+        panic!(rt; "not rewritten");
     };
-    let summaries = tabulated(rt.alloc(), &graphs, 100)?;
+    let summaries = tabulated(rt.alloc(), &sequential, 100)?;
     assert_eq!(rt; summaries.len(), 3usize);
     let ends = [(0, 0b00000), (0, 0b01000), (0, 0b01001), (0, 0b11001)];
     assert!(rt; has(&summaries, 0, &[0], &ends));
@@ -98,10 +115,10 @@ const CALLS_ITSELF: &str = "f() begin if (?) then f(); else skip; fi end thread 
 
 #[test]
 fn a_procedure_that_calls_itself(rt: HostRuntime) -> Result<(), Fail> {
-    let Some(graphs) = drawn(rt.alloc(), CALLS_ITSELF, 1) else {
-        panic!(rt; "not drawn");
+    let Some(sequential) = rewritten(rt.alloc(), CALLS_ITSELF, 1) else {
+        panic!(rt; "not rewritten");
     };
-    let summaries = tabulated(rt.alloc(), &graphs, 100)?;
+    let summaries = tabulated(rt.alloc(), &sequential, 100)?;
     assert_eq!(rt; summaries.len(), 2usize);
     for procedure in 0..2u8 {
         assert!(rt; has(&summaries, procedure, &[0], &[(0, 0b0000), (0, 0b0100)]));
@@ -113,10 +130,10 @@ fn a_procedure_that_calls_itself(rt: HostRuntime) -> Result<(), Fail> {
 #[test]
 fn a_procedure_that_calls_itself_in_two_rounds(rt: HostRuntime) -> Result<(), Fail> {
     // In round 2 rl__ is 1.
-    let Some(graphs) = drawn(rt.alloc(), CALLS_ITSELF, 2) else {
-        panic!(rt; "not drawn");
+    let Some(sequential) = rewritten(rt.alloc(), CALLS_ITSELF, 2) else {
+        panic!(rt; "not rewritten");
     };
-    let summaries = tabulated(rt.alloc(), &graphs, 1000)?;
+    let summaries = tabulated(rt.alloc(), &sequential, 1000)?;
     assert_eq!(rt; summaries.len(), 2usize);
     let first = [(0, 0b0000), (0, 0b0010), (0, 0b0100), (0, 0b0110)];
     assert!(rt; has(&summaries, 0, &[0], &first));
@@ -139,10 +156,10 @@ const ARGUMENTS: &str =
 #[test]
 fn a_procedure_is_entered_with_its_arguments(rt: HostRuntime) -> Result<(), Fail> {
     // x__1 is bit 0, so stop__ is 3 and bad__ 4; v of p is bit 5.
-    let Some(graphs) = drawn(rt.alloc(), ARGUMENTS, 1) else {
-        panic!(rt; "not drawn");
+    let Some(sequential) = rewritten(rt.alloc(), ARGUMENTS, 1) else {
+        panic!(rt; "not rewritten");
     };
-    let summaries = tabulated(rt.alloc(), &graphs, 100)?;
+    let summaries = tabulated(rt.alloc(), &sequential, 100)?;
     assert_eq!(rt; summaries.len(), 3usize);
     let ends = [(0, 0b00000), (0, 0b01000), (0, 0b01001)];
     assert!(rt; has(&summaries, 0, &[0], &ends));
@@ -163,10 +180,10 @@ const SHARED: &str =
 
 #[test]
 fn a_summary_serves_all_its_callers(rt: HostRuntime) -> Result<(), Fail> {
-    let Some(graphs) = drawn(rt.alloc(), SHARED, 1) else {
-        panic!(rt; "not drawn");
+    let Some(sequential) = rewritten(rt.alloc(), SHARED, 1) else {
+        panic!(rt; "not rewritten");
     };
-    let summaries = tabulated(rt.alloc(), &graphs, 100)?;
+    let summaries = tabulated(rt.alloc(), &sequential, 100)?;
     assert_eq!(rt; summaries.len(), 4usize);
     for procedure in 0..4u8 {
         assert!(rt; has(&summaries, procedure, &[0], &[(0, 0b0000), (0, 0b0100)]));
@@ -178,10 +195,10 @@ fn a_summary_serves_all_its_callers(rt: HostRuntime) -> Result<(), Fail> {
 #[test]
 fn a_procedure_that_is_never_entered(rt: HostRuntime) -> Result<(), Fail> {
     let text = "p() begin skip; end t() begin skip; end thread t;";
-    let Some(graphs) = drawn(rt.alloc(), text, 1) else {
-        panic!(rt; "not drawn");
+    let Some(sequential) = rewritten(rt.alloc(), text, 1) else {
+        panic!(rt; "not rewritten");
     };
-    let summaries = tabulated(rt.alloc(), &graphs, 100)?;
+    let summaries = tabulated(rt.alloc(), &sequential, 100)?;
     assert_eq!(rt; summaries.len(), 3usize);
     assert!(rt; has(&summaries, 1, &[], &[]));
     assert!(rt; has(&summaries, 2, &[0], &[(0, 0b0000), (0, 0b0100)]));
@@ -191,12 +208,12 @@ fn a_procedure_that_is_never_entered(rt: HostRuntime) -> Result<(), Fail> {
 #[test]
 fn twelve_path_edges_are_within_a_limit_of_twelve(rt: HostRuntime) -> Result<(), Fail> {
     // t has 12 path edges and main__ 4.
-    let Some(graphs) = drawn(rt.alloc(), SKIP, 1) else {
-        panic!(rt; "not drawn");
+    let Some(sequential) = rewritten(rt.alloc(), SKIP, 1) else {
+        panic!(rt; "not rewritten");
     };
-    assert!(rt; tabulated(rt.alloc(), &graphs, 12).is_ok());
+    assert!(rt; tabulated(rt.alloc(), &sequential, 12).is_ok());
     for edges in [11u32, 4, 3, 1] {
-        let refused = tabulated(rt.alloc(), &graphs, edges).err();
+        let refused = tabulated(rt.alloc(), &sequential, edges).err();
         assert_eq!(rt; refused, Some(NoVerdict::EdgeLimit), "{edges}");
     }
     Ok(())
@@ -204,13 +221,13 @@ fn twelve_path_edges_are_within_a_limit_of_twelve(rt: HostRuntime) -> Result<(),
 
 #[test]
 fn each_allocation_is_refused_in_turn(rt: HostRuntime) -> Result<(), Fail> {
-    let Some(graphs) = drawn(rt.alloc(), ARGUMENTS, 1) else {
-        panic!(rt; "not drawn");
+    let Some(sequential) = rewritten(rt.alloc(), ARGUMENTS, 1) else {
+        panic!(rt; "not rewritten");
     };
     let mut last = 0u64;
     for nth in 1..400u64 {
         let scarce = Scarce::refusing(rt.alloc(), nth);
-        let refused = tabulated(&scarce, &graphs, 100).err();
+        let refused = tabulated(&scarce, &sequential, 100).err();
         last = nth;
         if !scarce.refused() {
             assert_eq!(rt; refused, None);
