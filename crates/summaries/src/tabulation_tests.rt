@@ -14,7 +14,7 @@ use crate::pair::Pair;
 use crate::summaries::Summaries;
 use crate::tabulation::tabulate;
 use flow_graph::graphs;
-use path_sets::OrderedEdges;
+use path_sets::{OrderedEdges, PathSet};
 use round_rewrite::{Rounds, Sequential, rewrite};
 use scarce::Scarce;
 use scopes::check;
@@ -29,8 +29,8 @@ fn rewritten(alloc: Global, text: &str, rounds: u8) -> Option<Sequential<Global>
     rewrite(&alloc, &checked, Rounds::new(rounds)?).ok()
 }
 
-/// The summaries of a sequential program by its flow graphs.
-fn by_graphs<A: Allocator + Copy>(
+/// The summaries of a sequential program by its flow graphs; the path edges are kept in sets of the type `S`.
+fn by_graphs<A: Allocator + Copy, S: PathSet<A>>(
     alloc: A,
     sequential: &Sequential<Global>,
     limit: EdgeLimit,
@@ -39,11 +39,11 @@ fn by_graphs<A: Allocator + Copy>(
     requires { program ≡ sequential_of (tree_of sequential.now.program) }
 {
     let graphs = graphs(&alloc, sequential)?;
-    tabulate::<_, _, OrderedEdges<_>>(alloc, &graphs, limit)
+    tabulate::<_, _, S>(alloc, &graphs, limit)
 }
 
-/// The summaries of a sequential program, with so many path edges at most.
-fn tabulated<A: Allocator + Copy>(
+/// The summaries of a sequential program, with so many path edges at most, kept in sets of the type `S`.
+fn tabulated<A: Allocator + Copy, S: PathSet<A>>(
     alloc: A,
     sequential: &Sequential<Global>,
     edges: u32,
@@ -51,7 +51,7 @@ fn tabulated<A: Allocator + Copy>(
     let Some(limit) = EdgeLimit::new(edges) else {
         return Err(NoVerdict::EdgeLimit);
     };
-    by_graphs(alloc, sequential, limit)
+    by_graphs::<_, S>(alloc, sequential, limit)
 }
 
 /// Whether a procedure has these entries, and these pairs, each as its entry and the globals that are left.
@@ -83,7 +83,7 @@ fn a_skip_ends_or_stops(rt: HostRuntime) -> Result<(), Fail> {
     let Some(sequential) = rewritten(rt.alloc(), SKIP, 1) else {
         panic!(rt; "not rewritten");
     };
-    let summaries = tabulated(rt.alloc(), &sequential, 100)?;
+    let summaries = tabulated::<_, OrderedEdges<_>>(rt.alloc(), &sequential, 100)?;
     assert_eq!(rt; summaries.len(), 2usize);
     for procedure in 0..2u8 {
         assert!(rt; has(&summaries, procedure, &[0], &[(0, 0b0000), (0, 0b0100)]));
@@ -100,7 +100,7 @@ fn a_failing_assert_is_a_bad_pair(rt: HostRuntime) -> Result<(), Fail> {
     let Some(sequential) = rewritten(rt.alloc(), WRITES, 1) else {
         panic!(rt; "not rewritten");
     };
-    let summaries = tabulated(rt.alloc(), &sequential, 100)?;
+    let summaries = tabulated::<_, OrderedEdges<_>>(rt.alloc(), &sequential, 100)?;
     assert_eq!(rt; summaries.len(), 3usize);
     let ends = [(0, 0b00000), (0, 0b01000), (0, 0b01001), (0, 0b11001)];
     assert!(rt; has(&summaries, 0, &[0], &ends));
@@ -118,7 +118,7 @@ fn a_procedure_that_calls_itself(rt: HostRuntime) -> Result<(), Fail> {
     let Some(sequential) = rewritten(rt.alloc(), CALLS_ITSELF, 1) else {
         panic!(rt; "not rewritten");
     };
-    let summaries = tabulated(rt.alloc(), &sequential, 100)?;
+    let summaries = tabulated::<_, OrderedEdges<_>>(rt.alloc(), &sequential, 100)?;
     assert_eq!(rt; summaries.len(), 2usize);
     for procedure in 0..2u8 {
         assert!(rt; has(&summaries, procedure, &[0], &[(0, 0b0000), (0, 0b0100)]));
@@ -133,7 +133,7 @@ fn a_procedure_that_calls_itself_in_two_rounds(rt: HostRuntime) -> Result<(), Fa
     let Some(sequential) = rewritten(rt.alloc(), CALLS_ITSELF, 2) else {
         panic!(rt; "not rewritten");
     };
-    let summaries = tabulated(rt.alloc(), &sequential, 1000)?;
+    let summaries = tabulated::<_, OrderedEdges<_>>(rt.alloc(), &sequential, 1000)?;
     assert_eq!(rt; summaries.len(), 2usize);
     let first = [(0, 0b0000), (0, 0b0010), (0, 0b0100), (0, 0b0110)];
     assert!(rt; has(&summaries, 0, &[0], &first));
@@ -159,7 +159,7 @@ fn a_procedure_is_entered_with_its_arguments(rt: HostRuntime) -> Result<(), Fail
     let Some(sequential) = rewritten(rt.alloc(), ARGUMENTS, 1) else {
         panic!(rt; "not rewritten");
     };
-    let summaries = tabulated(rt.alloc(), &sequential, 100)?;
+    let summaries = tabulated::<_, OrderedEdges<_>>(rt.alloc(), &sequential, 100)?;
     assert_eq!(rt; summaries.len(), 3usize);
     let ends = [(0, 0b00000), (0, 0b01000), (0, 0b01001)];
     assert!(rt; has(&summaries, 0, &[0], &ends));
@@ -183,7 +183,7 @@ fn a_summary_serves_all_its_callers(rt: HostRuntime) -> Result<(), Fail> {
     let Some(sequential) = rewritten(rt.alloc(), SHARED, 1) else {
         panic!(rt; "not rewritten");
     };
-    let summaries = tabulated(rt.alloc(), &sequential, 100)?;
+    let summaries = tabulated::<_, OrderedEdges<_>>(rt.alloc(), &sequential, 100)?;
     assert_eq!(rt; summaries.len(), 4usize);
     for procedure in 0..4u8 {
         assert!(rt; has(&summaries, procedure, &[0], &[(0, 0b0000), (0, 0b0100)]));
@@ -198,7 +198,7 @@ fn a_procedure_that_is_never_entered(rt: HostRuntime) -> Result<(), Fail> {
     let Some(sequential) = rewritten(rt.alloc(), text, 1) else {
         panic!(rt; "not rewritten");
     };
-    let summaries = tabulated(rt.alloc(), &sequential, 100)?;
+    let summaries = tabulated::<_, OrderedEdges<_>>(rt.alloc(), &sequential, 100)?;
     assert_eq!(rt; summaries.len(), 3usize);
     assert!(rt; has(&summaries, 1, &[], &[]));
     assert!(rt; has(&summaries, 2, &[0], &[(0, 0b0000), (0, 0b0100)]));
@@ -211,9 +211,9 @@ fn twelve_path_edges_are_within_a_limit_of_twelve(rt: HostRuntime) -> Result<(),
     let Some(sequential) = rewritten(rt.alloc(), SKIP, 1) else {
         panic!(rt; "not rewritten");
     };
-    assert!(rt; tabulated(rt.alloc(), &sequential, 12).is_ok());
+    assert!(rt; tabulated::<_, OrderedEdges<_>>(rt.alloc(), &sequential, 12).is_ok());
     for edges in [11u32, 4, 3, 1] {
-        let refused = tabulated(rt.alloc(), &sequential, edges).err();
+        let refused = tabulated::<_, OrderedEdges<_>>(rt.alloc(), &sequential, edges).err();
         assert_eq!(rt; refused, Some(NoVerdict::EdgeLimit), "{edges}");
     }
     Ok(())
@@ -227,7 +227,7 @@ fn each_allocation_is_refused_in_turn(rt: HostRuntime) -> Result<(), Fail> {
     let mut last = 0u64;
     for nth in 1..400u64 {
         let scarce = Scarce::refusing(rt.alloc(), nth);
-        let refused = tabulated(&scarce, &sequential, 100).err();
+        let refused = tabulated::<_, OrderedEdges<_>>(&scarce, &sequential, 100).err();
         last = nth;
         if !scarce.refused() {
             assert_eq!(rt; refused, None);
