@@ -1,7 +1,6 @@
 -- The step of a table at an edge that calls.
-use Rattle.std.proofs.Common.{◌≡◌, ℕ, Bool, Some, List, [], ◌∷◌, ◌++◌, ◌⊎◌, false, nat_eq, inl, inr, refl, sym, ap, subst, slice_get}
+use Rattle.std.proofs.Common.{◌≡◌, ℕ, Some, List, [], ◌∷◌, ◌++◌, ◌⊎◌, false, inl, inr, refl, sym, ap, subst, slice_get}
 use Rattle.std.specs.Prelude.{Vec}
-use Rattle.language.specs.Sequential.{caller}
 use Rattle.language.specs.Flow.{Member}
 use Rattle.path_sets.specs.Triples.{Triple, triple}
 use Rattle.flow_graph.specs.Flows.{entered_by}

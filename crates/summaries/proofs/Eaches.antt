@@ -1,5 +1,5 @@
 -- What holds for some item of a list.
-use Rattle.std.proofs.Common.{ℕ, ◌+◌, ◌<◌, List, [], ◌∷◌, ◌++◌, ◌⊎◌, inl, inr, refl, subst, sym, length, take, drop, get_or}
+use Rattle.std.proofs.Common.{ℕ, ◌+◌, ◌<◌, List, [], ◌∷◌, ◌++◌, ◌⊎◌, inl, inr, refl, subst, length, take, drop, get_or}
 use Rattle.std.proofs.lemmas.List.{take-append-drop}
 use Rattle.language.proofs.Members.{member_left, member_right, member_append}
 use Rattle.summaries.specs.Grows.{Each}

@@ -1,25 +1,20 @@
 -- The step of a table that takes a summary.
-use Rattle.std.proofs.Common.{◌≡◌, ◌↔◌, ◌⊎◌, ◌≤◌, ℕ, Bool, Some, None, List, [], ◌∷◌, ◌++◌, false, nat_eq, inl, inr, refl, sym, ap, ◌∙◌, subst, slice_get}
+use Rattle.std.proofs.Common.{◌≡◌, ◌⊎◌, ℕ, List, [], ◌∷◌, ◌++◌, false, inl, inr, sym, ap, subst}
 use Rattle.std.specs.Prelude.{Vec}
-use Rattle.std.proofs.lemmas.Map.Views.{exact_unsigned_eq}
-use Rattle.language.specs.Sequential.{Caller, caller}
 use Rattle.language.specs.Flow.{Member}
-use Rattle.language.proofs.Members.{member_left, member_right, member_append}
 use Rattle.path_sets.specs.Triples.{Triple, triple}
-use Rattle.flow_graph.specs.Flows.{entered_by}
 use Rattle.flow_graph.specs.Returns.{resumed}
 use Rattle.flow_graph.specs.Numbers.{NumberedMessage, numbered_entry, numbered_summary, Reaches, returns}
 use Rattle.flow_graph.specs.declared.graph.Graph.{Graph}
 use Rattle.flow_graph.proofs.Holding.{reaches_more}
-use Rattle.summaries.specs.declared.due.Due.TheVariants.{Entry, Summary}
+use Rattle.summaries.specs.declared.due.Due.TheVariants.{Summary}
 use Rattle.summaries.specs.declared.edge.Call.{Call}
 use Rattle.summaries.specs.declared.edge.Edge.{Edge}
-use Rattle.summaries.specs.declared.edge.Site.{Site}
 use Rattle.summaries.specs.declared.found.Found.{Found}
 use Rattle.summaries.specs.declared.groups.Groups.{Groups}
 use Rattle.summaries.specs.Under.{under}
-use Rattle.summaries.specs.Dues.{caller_of, due_of}
-use Rattle.summaries.specs.Found.{call, call_eq, site, HasTaken, HasSite, IsSound}
+use Rattle.summaries.specs.Dues.{caller_of}
+use Rattle.summaries.specs.Found.{call, call_eq, site, HasTaken, IsSound}
 use Rattle.summaries.specs.Grows.{Grows, Each, IsBehind}
 use Rattle.summaries.specs.Tables.{TookAlso}
 use Rattle.summaries.proofs.Adding.{same_call, added_or, added_keeps, added_is}

@@ -1,14 +1,13 @@
 -- How path edges and those pending grow, step by step.
 use Rattle.std.specs.Bool.{OnFalse}
 use Rattle.std.specs.Result.{IsErrAnd}
-use Rattle.std.proofs.Common.{Option, Some, ◌≤◌, eq-or-lt_of_le, ◌≡◌, Bool, true, false, true≢false, List, [], ◌∷◌, ◌++◌, ◌⊎◌, inl, inr, refl, sym, ap, subst, ◌∙◌, ℕ, ◌+◌, ◌<◌, Result, Err, length, take, drop, get_or, if◌then◌else◌, arith, length-append}
+use Rattle.std.proofs.Common.{Option, Some, ◌≤◌, eq-or-lt_of_le, ◌≡◌, Bool, true, false, true≢false, List, [], ◌∷◌, ◌++◌, ◌⊎◌, inl, inr, refl, sym, ap, subst, ◌∙◌, ℕ, ◌+◌, Result, Err, length, if◌then◌else◌, arith, length-append}
 use Rattle.summaries.proofs.Eaches.{each_left, each_last, each_or_last}
 use Rattle.std.proofs.lemmas.Option.{same_Some}
 use Rattle.language.specs.Flow.{Member}
 use Rattle.language.proofs.Members.{member_left, member_right, member_append}
 use Rattle.path_sets.specs.Triples.{Triple, triple}
 use Rattle.summaries.specs.declared.edge.Edge.{Edge}
-use Rattle.summaries.specs.declared.edge.Site.{Site}
 use Rattle.flow_graph.specs.Flows.{last_of, next_of}
 use Rattle.flow_graph.specs.declared.flow.Flow.{Flow}
 use Rattle.summaries.specs.Grows.{Grows, Each, IsAt, IsNextBefore, IsNext, triple_of, edge_of}

@@ -1,8 +1,6 @@
 -- The step of a table at an edge at the exit.
-use Rattle.std.proofs.Common.{◌≡◌, ◌↔◌, ◌⊎◌, ◌≤◌, ℕ, Bool, Some, None, List, [], ◌∷◌, ◌++◌, false, nat_eq, inl, inr, refl, sym, ap, ◌∙◌, subst, slice_get}
-use Rattle.std.specs.Prelude.{Vec}
+use Rattle.std.proofs.Common.{◌≡◌, ◌⊎◌, ℕ, List, [], ◌∷◌, ◌++◌, false, nat_eq, inl, inr, refl, sym, ap, subst}
 use Rattle.std.proofs.lemmas.Map.Views.{exact_unsigned_eq}
-use Rattle.language.specs.Sequential.{Caller, caller}
 use Rattle.language.specs.Flow.{Member}
 use Rattle.language.proofs.Members.{member_left, member_right, member_append}
 use Rattle.path_sets.specs.Triples.{Triple, triple}
@@ -17,7 +15,7 @@ use Rattle.summaries.specs.Under.{under}
 use Rattle.summaries.specs.Mails.{mail}
 use Rattle.summaries.specs.Dues.{due_of}
 use Rattle.summaries.specs.Found.{pair, HasTaken, HasExit, IsSound}
-use Rattle.summaries.specs.Grows.{Gives, Each, IsTold, triple_of}
+use Rattle.summaries.specs.Grows.{Gives, Each, IsTold}
 use Rattle.summaries.proofs.Adding.{added_or, added_keeps, added_is}
 use Rattle.summaries.proofs.Dues.{due_told}
 use Rattle.summaries.proofs.Stepping.{Step}

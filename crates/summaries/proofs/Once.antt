@@ -1,5 +1,5 @@
 -- A list with nothing twice is no longer than one that has all its members.
-use Rattle.std.proofs.Common.{◌≡◌, ◌≤◌, ◌+◌, ◌⊎◌, List, [], ◌∷◌, length, inl, inr, refl, sym, ap, ◌∙◌, subst, arith}
+use Rattle.std.proofs.Common.{◌≡◌, ◌≤◌, ◌+◌, ◌⊎◌, List, [], ◌∷◌, length, inl, inr, refl, sym, ◌∙◌, subst, arith}
 use Rattle.language.specs.Flow.{Member}
 use Rattle.path_sets.specs.Triples.{NoneTwice}
 

@@ -1,8 +1,7 @@
 -- A table that is sound and complete, and has nothing pending, has what is reached and what is sent.
-use Rattle.std.proofs.Common.{◌≡◌, ℕ, List, [], ◌⊎◌, inl, inr, subst, sym, refl}
+use Rattle.std.proofs.Common.{◌≡◌, ℕ, List, [], inl, inr, subst, sym, refl}
 use Rattle.language.specs.Flow.{Member}
 use Rattle.path_sets.specs.Triples.{Triple, triple}
-use Rattle.flow_graph.specs.Flows.{entered_by}
 use Rattle.flow_graph.specs.Returns.{left}
 use Rattle.flow_graph.specs.Numbers.{NumberedMessage, Reaches, starts, flows, returns, Sends, asks, tells, Leaves}
 use Rattle.flow_graph.specs.declared.graph.Graph.{Graph}

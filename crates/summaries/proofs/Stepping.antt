@@ -1,14 +1,14 @@
 -- What a table holds while it takes a step: nothing more than is reached and sent, and nothing left out.
-use Rattle.std.proofs.Common.{◌≡◌, ◌≤◌, ◌<◌, ◌⊎◌, ◌↔◌, ℕ, Some, List, [], ◌∷◌, ◌++◌, length, inl, inr, refl, sym, ap, subst, slice_get, nat_eq, arith, Result, Ok, Err}
+use Rattle.std.proofs.Common.{◌≡◌, ◌≤◌, ◌⊎◌, ◌↔◌, ℕ, Some, List, [], ◌∷◌, ◌++◌, length, inl, inr, refl, sym, ap, subst, slice_get, nat_eq, arith, Result, Ok, Err}
 use Rattle.std.specs.Result.{OnOk}
 use Rattle.std.specs.Prelude.{Vec}
 use Rattle.language.specs.Sequential.{Caller, caller}
 use Rattle.language.specs.Flow.{Member}
 use Rattle.language.proofs.Members.{member_left, member_right, member_append}
 use Rattle.path_sets.specs.Triples.{Triple, triple, NoneTwice}
-use Rattle.flow_graph.specs.Flows.{entered_by, last_of, next_of}
+use Rattle.flow_graph.specs.Flows.{entered_by}
 use Rattle.flow_graph.specs.Returns.{left, resumed}
-use Rattle.flow_graph.specs.Numbers.{NumberedMessage, numbered_entry, numbered_summary, Reaches, flows, Sends, Leaves}
+use Rattle.flow_graph.specs.Numbers.{NumberedMessage, numbered_entry, numbered_summary, Reaches, Sends, Leaves}
 use Rattle.flow_graph.specs.declared.flow.Flow.{Flow}
 use Rattle.flow_graph.specs.declared.graph.Graph.{Graph}
 use Rattle.flow_graph.proofs.Holding.{reaches_more, sends_more}
@@ -20,7 +20,7 @@ use Rattle.summaries.specs.Under.{under}
 use Rattle.summaries.specs.Mails.{mail}
 use Rattle.summaries.specs.Dues.{caller_of, due_of}
 use Rattle.summaries.specs.Found.{call, call_eq, edge, site, pair, HasTaken, HasSite, HasExit, HasGiven, IsPending, IsSound, IsWorked, IsComplete, IsEmpty}
-use Rattle.summaries.specs.Grows.{Grows, IsNext, triple_of, edge_of}
+use Rattle.summaries.specs.Grows.{triple_of}
 use Rattle.summaries.specs.Tables.{HasMore}
 
 -- A step of the table of procedure q from f, with the edges es, to g, with the edges ds: what comes to be held is reached

@@ -1,23 +1,22 @@
 -- The steps of a tabulation.
-use Rattle.std.proofs.Common.{◌≡◌, ◌<◌, ◌≤◌, ◌+◌, ◌-◌, ◌*◌, ◌⊎◌, ◌++◌, ℕ, zero, suc, List, [], ◌∷◌, Some, None, map, slice_get, slice_set, length, take, inl, inr, refl, sym, ap, ◌∙◌, subst, arith, length-append, get_or}
+use Rattle.std.proofs.Common.{◌≡◌, ◌<◌, ◌≤◌, ◌+◌, ◌-◌, ◌*◌, ◌++◌, ℕ, zero, suc, List, [], ◌∷◌, Some, None, map, slice_get, slice_set, length, inl, inr, refl, sym, ap, ◌∙◌, subst, arith, length-append, get_or}
 use Rattle.std.proofs.Common.{Result, Ok, Err, OnOk}
 use Rattle.std.specs.Result.{IsErrAnd}
 use Rattle.std.specs.List.{sum_by}
-use Rattle.std.proofs.lemmas.Option.{none-some, get_or_from_slice_get, slice_get_within, slice_get-get_or}
+use Rattle.std.proofs.lemmas.Option.{none-some, get_or_from_slice_get, slice_get_within}
 use Rattle.std.proofs.lemmas.List.{length-map}
 use Rattle.std.proofs.lemmas.Nat.{mul-add-lt}
 use Rattle.std.proofs.Math.Nat.{mul_comm}
 use Rattle.std.proofs.lemmas.List.Sums.{sum_by-set}
 use Rattle.language.specs.Step.{Program, AtRoutine, zeros}
-use Rattle.language.specs.Sequential.{Caller, starter, caller, Valuation, entry, IsZero, IsDue}
+use Rattle.language.specs.Sequential.{starter, caller, Valuation, entry, IsZero, IsDue}
 use Rattle.language.specs.Flow.{Member}
-use Rattle.language.proofs.Members.{member_append, member_right}
+use Rattle.language.proofs.Members.{member_append}
 use Rattle.language.proofs.Entering.{due_there}
 use Rattle.path_sets.specs.Triples.{Triple}
 use Rattle.flow_graph.specs.Flows.{code}
 use Rattle.flow_graph.specs.Graphs.{AreDrawnFrom, IsGraph}
-use Rattle.flow_graph.specs.Numbers.{NumberedMessage, numbered_entry, numbered_summary, by_numbers, IsNumberOf, Sends}
-use Rattle.flow_graph.specs.declared.graph.Graph.{Graph}
+use Rattle.flow_graph.specs.Numbers.{NumberedMessage, numbered_entry, numbered_summary, IsNumberOf, Sends}
 use Rattle.flow_graph.proofs.Coding.{coded_zeros}
 use Rattle.flow_graph.proofs.Taking.{edges_reached, due_sent}
 use Rattle.flow_graph.proofs.Pairs.{edge_numbers}

@@ -1,25 +1,22 @@
 -- What tables hold together where one of them takes or answers a message.
-use Rattle.std.proofs.Common.{◌≡◌, ◌<◌, ◌⊎◌, ◌++◌, ℕ, zero, suc, List, [], ◌∷◌, Some, None, map, slice_get, slice_set, length, inl, inr, refl, sym, ap, ◌∙◌, subst, arith}
+use Rattle.std.proofs.Common.{◌≡◌, ◌⊎◌, ℕ, zero, suc, List, [], ◌∷◌, Some, None, slice_get, slice_set, inl, inr, sym, ap, ◌∙◌, subst}
 use Rattle.std.proofs.Math.Seq.{map-set_same}
-use Rattle.std.proofs.lemmas.Option.{get_or_from_slice_get, slice_get_within}
+use Rattle.std.proofs.lemmas.Option.{get_or_from_slice_get}
 use Rattle.language.specs.Step.{Program}
 use Rattle.language.specs.Sequential.{IsDue}
 use Rattle.language.specs.Flow.{Member}
-use Rattle.language.proofs.Members.{member_append, member_left, member_right}
 use Rattle.path_sets.specs.Triples.{Triple}
 use Rattle.flow_graph.specs.Graphs.{AreDrawnFrom}
 use Rattle.flow_graph.specs.Numbers.{NumberedMessage, numbered_entry, numbered_summary, IsNumberOf}
-use Rattle.summaries.specs.declared.due.Due.{Due}
 use Rattle.summaries.specs.declared.found.Found.{Found}
 use Rattle.summaries.specs.declared.given.Mail.{Mail}
 use Rattle.summaries.specs.declared.table.Table.{Table}
 use Rattle.summaries.specs.Under.{under}
-use Rattle.summaries.specs.Mails.{mail}
-use Rattle.summaries.specs.Dues.{caller_of, due_of}
+use Rattle.summaries.specs.Dues.{caller_of}
 use Rattle.summaries.specs.Found.{call, call_eq, HasTaken}
-use Rattle.summaries.specs.Tables.{sent, IsTable, IsQuiet, StaysAs, TookAlso, TookSame}
-use Rattle.summaries.specs.Together.{opening, graph_of, IsTaken, IsReceived, HaveLimit, AreTables, AreQuietBefore}
-use Rattle.summaries.proofs.Replaced.{get_set, set_get, each_then}
+use Rattle.summaries.specs.Tables.{sent, IsTable, StaysAs, TookSame}
+use Rattle.summaries.specs.Together.{opening, graph_of, IsTaken, IsReceived, HaveLimit, AreTables}
+use Rattle.summaries.proofs.Replaced.{set_get, each_then}
 use Rattle.summaries.proofs.Indexed.{same_inside}
 use Rattle.std.proofs.Common.{nat_eq}
 

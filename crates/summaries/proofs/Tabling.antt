@@ -1,12 +1,12 @@
 -- What a table promises, between its calls.
-use Rattle.std.proofs.Common.{◌≡◌, ◌↔◌, ◌⊎◌, ℕ, Option, Some, None, List, [], ◌∷◌, ◌++◌, inl, inr, refl, sym, ap, ◌∙◌, subst, take, drop}
+use Rattle.std.proofs.Common.{◌≡◌, ℕ, Option, Some, None, List, [], ◌∷◌, ◌++◌, inl, refl, sym, subst, take, drop}
 use Rattle.std.specs.Option.{IfSome}
 use Rattle.std.proofs.lemmas.List.{take-append-drop}
 use Rattle.language.specs.Flow.{Member}
 use Rattle.language.proofs.Members.{member_left, member_right}
-use Rattle.path_sets.specs.Triples.{Triple, triple}
-use Rattle.flow_graph.specs.Numbers.{NumberedMessage, Sends}
-use Rattle.flow_graph.proofs.Holding.{reaches_more, sends_more}
+use Rattle.path_sets.specs.Triples.{Triple}
+use Rattle.flow_graph.specs.Numbers.{NumberedMessage}
+use Rattle.flow_graph.proofs.Holding.{reaches_more}
 use Rattle.summaries.specs.declared.due.Due.{Due}
 use Rattle.summaries.specs.declared.found.Found.{Found}
 use Rattle.summaries.specs.declared.given.Mail.{Mail}

@@ -1,13 +1,12 @@
 -- Where no table owes a message, the tables have the entries, the pairs and the path edges of their procedures.
-use Rattle.std.proofs.Common.{◌≡◌, ◌≤◌, ◌<◌, ◌↔◌, ◌⊎◌, ℕ, nat_eq, zero, suc, true, List, [], ◌∷◌, Option, Some, None, map, slice_get, length, inl, inr, refl, sym, ap, ◌∙◌, subst, arith}
+use Rattle.std.proofs.Common.{◌≡◌, ◌<◌, ◌↔◌, ℕ, nat_eq, zero, suc, true, List, [], ◌∷◌, Option, Some, None, map, slice_get, length, inl, inr, refl, sym, subst, arith}
 use Rattle.std.proofs.lemmas.Option.{none-some, slice_get_within}
-use Rattle.std.proofs.lemmas.List.{length-map}
 use Rattle.language.specs.Step.{Program}
 use Rattle.language.specs.Sequential.{Caller, starter, caller, Valuation, IsDue, Entered}
 use Rattle.language.specs.Flow.{Member}
 use Rattle.language.proofs.Entering.{entered_there}
 use Rattle.language.proofs.Gathered.{pair_exit}
-use Rattle.path_sets.specs.Triples.{Triple, triple, NoneTwice}
+use Rattle.path_sets.specs.Triples.{Triple, triple}
 use Rattle.round_rewrite.specs.Law.{SomeBad}
 use Rattle.flow_graph.specs.Bits.{bit_of}
 use Rattle.flow_graph.specs.Numbers.{NumberedMessage, numbered_entry, Reaches, Sends, Leaves, IsNumberOf, IsNumberOfEntry, AreNumbersOfEdge, AreNumbersOfPair}
@@ -22,7 +21,7 @@ use Rattle.summaries.specs.Under.{under}
 use Rattle.summaries.specs.Mails.{mail}
 use Rattle.summaries.specs.Dues.{caller_of, due_of}
 use Rattle.summaries.specs.Found.{pair, HasTaken}
-use Rattle.summaries.specs.Tables.{sent, IsTable, IsQuiet}
+use Rattle.summaries.specs.Tables.{IsQuiet}
 use Rattle.summaries.specs.Tabulated.{IsSummary, HasMoreEdges}
 use Rattle.summaries.specs.Together.{graph_of, IsTaken, HaveLimit, IsReadOff, AreReadOff, AreTables, AreQuietBefore}
 use Rattle.summaries.proofs.Once.{no_longer}

@@ -1,5 +1,5 @@
 -- What the table of one procedure promises, of which the path edges kept are listed by `members`.
-use Rattle.std.specs.Prelude.{◌≡◌, ◌≤◌, ◌<◌, ◌⊎◌, ◌↔◌, ◌++◌, ◌+◌, ◌-◌, ◌*◌, ℕ, Option, Some, None, Result, Ok, Err, List, [], length, take}
+use Rattle.std.specs.Prelude.{◌≡◌, ◌≤◌, ◌<◌, ◌⊎◌, ◌↔◌, ◌+◌, ◌-◌, ◌*◌, ℕ, Option, Some, None, Result, Ok, Err, List, [], length, take}
 use Rattle.language.specs.Flow.{Member}
 use Rattle.path_sets.specs.Triples.{Triple, triple, NoneTwice}
 use Rattle.flow_graph.specs.Numbers.{NumberedMessage, Reaches, Sends, Leaves}
@@ -9,10 +9,9 @@ use Rattle.summaries.specs.declared.given.Mail.{Mail}
 use Rattle.summaries.specs.declared.table.Table.{Table}
 use Rattle.summaries.specs.declared.table_fault.TableFault.{TableFault}
 use Rattle.summaries.specs.declared.table_fault.TableFault.TheVariants.{EdgeLimit}
-use Rattle.summaries.specs.Under.{under}
 use Rattle.summaries.specs.Mails.{mail}
 use Rattle.summaries.specs.Dues.{due_of}
-use Rattle.summaries.specs.Found.{pair, HasTaken, HasSite, HasExit, IsSound, IsComplete}
+use Rattle.summaries.specs.Found.{pair, HasTaken, IsSound, IsComplete}
 
 -- the messages that `next` has answered, in order
 abbrev pub sent : {A : Type 0} → Found A → List Mail

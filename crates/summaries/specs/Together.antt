@@ -1,17 +1,15 @@
 -- The tables of all procedures together, while a program is tabulated.
 use Rattle.std.specs.Prelude.{◌≡◌, ◌<◌, ◌⊎◌, ◌↔◌, ℕ, nat_eq, Option, Some, None, List, map, slice_get}
 use Rattle.language.specs.Step.{Program}
-use Rattle.language.specs.Sequential.{starter, IsDue}
+use Rattle.language.specs.Sequential.{IsDue}
 use Rattle.language.specs.Flow.{Member}
 use Rattle.path_sets.specs.Triples.{Triple}
 use Rattle.flow_graph.specs.Graphs.{AreDrawnFrom}
-use Rattle.flow_graph.specs.Numbers.{NumberedMessage, numbered_entry, IsNumberOf}
+use Rattle.flow_graph.specs.Numbers.{NumberedMessage, IsNumberOf}
 use Rattle.flow_graph.specs.declared.graph.Graph.{Graph}
 use Rattle.summaries.specs.declared.due.Caller.{Caller}
 use Rattle.summaries.specs.declared.due.Caller.TheVariants.{Starter}
-use Rattle.summaries.specs.declared.due.Due.{Due}
 use Rattle.summaries.specs.declared.due.Due.TheVariants.{Entry}
-use Rattle.summaries.specs.declared.found.Found.{Found}
 use Rattle.summaries.specs.declared.given.Mail.{Mail}
 use Rattle.summaries.specs.declared.pair.Pair.{Pair}
 use Rattle.summaries.specs.declared.summaries.Summary.{Summary}

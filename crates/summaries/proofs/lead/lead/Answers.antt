@@ -1,7 +1,7 @@
-use Rattle.std.proofs.Common.{◌≤◌, ◌+◌, Err, inl, inr, sym, ap, subst, ◌∙◌, arith}
+use Rattle.std.proofs.Common.{◌≤◌, ◌+◌, inl, inr, subst, arith}
 use Rattle.flow_graph.specs.Flows.{last_of, next_of}
 use Rattle.summaries.specs.Grows.{Grows, IsAt, IsNextBefore, IsNext}
-use Rattle.summaries.proofs.Growing.{both, grows_as, next_more, next_so_far, next_all, all_next, some_next, fault_of}
+use Rattle.summaries.proofs.Growing.{both, grows_as, next_more, next_so_far, next_all, all_next, some_next}
 use Rattle.summaries.proofs.lead.lead.Goals as goal
 
 pub returns-in_err-reach_next-clause-only : goal.returns-in_err-reach_next-clause-only

@@ -1,7 +1,7 @@
 use Rattle.std.proofs.Common.{◌≡◌, inl, inr, refl}
 use Rattle.std.proofs.lemmas.Result.{IfOk-weaker}
 use Rattle.path_sets.specs.Triples.{triple}
-use Rattle.summaries.specs.Grows.{Grows, IsAt}
+use Rattle.summaries.specs.Grows.{IsAt}
 use Rattle.summaries.proofs.Growing.{grows_as, is_at, at_is}
 use Rattle.summaries.proofs.lead.reach_next.Goals as goal
 

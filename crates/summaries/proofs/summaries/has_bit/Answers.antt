@@ -1,8 +1,7 @@
 -- A valuation is below 2 ^ 64, so no bit from 64 on is 1.
-use Rattle.std.proofs.Common.{◌≡◌, ◌<◌, ◌≤◌, ◌^◌, ◌/◌, ◌%◌, ◌==◌, ◌∙◌, ℕ, false, nat_lt, ap, sym, arith}
+use Rattle.std.proofs.Common.{◌≡◌, ◌<◌, ◌≤◌, ◌^◌, ◌%◌, ◌==◌, ◌∙◌, ℕ, false, nat_lt, ap, sym, arith}
 use Rattle.std.proofs.Math.Nat.{div-eq_of_lt, pow-le-pow_right}
 use Rattle.std.proofs.lemmas.Bool.Decides.{nat_tests}
-use Rattle.std.proofs.lemmas.Nat.Bits.{shr_and_one}
 use Rattle.flow_graph.specs.Bits.{bit_of}
 use Rattle.summaries.proofs.summaries.has_bit.Goals as goal
 

@@ -1,5 +1,5 @@
 -- Each step keeps that messages are taken, and the tables before `at` owe none.
-use Rattle.std.proofs.Common.{◌≡◌, ◌<◌, ◌≤◌, ◌+◌, ◌^◌, ◌++◌, ◌∷◌, [], ℕ, Some, Err, length, slice_get, slice_set, refl, sym, ap, ◌∙◌, subst, arith, length-set, tests, rules}
+use Rattle.std.proofs.Common.{◌≡◌, ◌<◌, ◌+◌, ◌^◌, ◌++◌, ◌∷◌, [], Some, length, slice_get, slice_set, refl, sym, ap, ◌∙◌, subst, arith, length-set, tests}
 use Rattle.std.proofs.lemmas.Option.{slice_get_read}
 use Rattle.std.specs.Option.{IfSome, IfNone}
 use Rattle.flow_graph.specs.Numbers.{NumberedMessage, IsNumberOf, Sends}
@@ -11,9 +11,8 @@ use Rattle.summaries.specs.Mails.{mail}
 use Rattle.summaries.specs.Dues.{due_of}
 use Rattle.summaries.specs.Found.{HasTaken}
 use Rattle.summaries.specs.Tables.{sent, IsQuiet}
-use Rattle.summaries.specs.Together.{opening, HaveLimit, AreTables}
+use Rattle.summaries.specs.Together.{opening, AreTables}
 use Rattle.summaries.proofs.Sweeping.{limits_stay}
-use Rattle.summaries.proofs.Replaced.{get_set}
 use Rattle.summaries.proofs.Steps.{answered, answered_none, delivered, opening_due, mail_due, mail_receiver, only_due, too_many, same_too_many, one_more_quiet, still_quiet, room, steps_left, less_room, same_room, fewer_rooms, nearer, fault_told, refused, none_aside}
 use Rattle.summaries.proofs.tabulation.run.Goals as goal
 use Rattle.summaries.proofs.tabulation.run.Given.{Over}

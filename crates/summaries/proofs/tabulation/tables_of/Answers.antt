@@ -1,5 +1,5 @@
 -- One table more is that of the next graph.
-use Rattle.std.proofs.Common.{◌≡◌, ◌+◌, ◌∷◌, [], ◌++◌, ℕ, Some, length, slice_get, refl, sym, ap, ◌∙◌, subst, arith, length-append}
+use Rattle.std.proofs.Common.{◌≡◌, ◌∷◌, [], Some, length, slice_get, sym, ap, ◌∙◌, subst, arith, length-append}
 use Rattle.summaries.specs.declared.table.Table.{Table}
 use Rattle.summaries.specs.Tables.{IsNew}
 use Rattle.summaries.specs.Together.{graph_of}

@@ -1,9 +1,9 @@
-use Rattle.std.proofs.Common.{◌≡◌, ℕ, refl, sym, ap, ◌∙◌, subst}
+use Rattle.std.proofs.Common.{◌≡◌, ℕ, sym, ap, ◌∙◌}
 use Rattle.summaries.specs.declared.due.Caller.{Caller}
 use Rattle.summaries.specs.declared.due.Caller.TheVariants.{Proc}
 use Rattle.summaries.specs.declared.due.Due.TheVariants.{Summary}
 use Rattle.summaries.specs.Mails.{mail}
-use Rattle.summaries.specs.Grows.{Gives, IsTold}
+use Rattle.summaries.specs.Grows.{IsTold}
 use Rattle.summaries.proofs.Telling.{gives_one, gives_as}
 use Rattle.summaries.proofs.tell.tell.Goals as goal
 

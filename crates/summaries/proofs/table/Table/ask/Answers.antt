@@ -1,15 +1,14 @@
-use Rattle.std.proofs.Common.{ℕ, ◌≡◌, ◌⊎◌, Some, Ok, Err, refl, sym, subst}
+use Rattle.std.proofs.Common.{ℕ, ◌≡◌, ◌⊎◌, Some, sym, subst}
 use Rattle.std.proofs.lemmas.Result.{IfOk-weaker}
 use Rattle.path_sets.specs.Triples.{Triple}
 use Rattle.flow_graph.specs.Flows.{entered_by}
-use Rattle.flow_graph.specs.Numbers.{Reaches}
 use Rattle.flow_graph.specs.declared.flow.Flow.TheVariants as flow
 use Rattle.summaries.specs.declared.due.Caller.TheVariants.{Proc}
 use Rattle.summaries.specs.declared.due.Due.TheVariants.{Entry}
 use Rattle.language.specs.Flow.{Member}
 use Rattle.summaries.specs.Under.{under}
 use Rattle.summaries.specs.Mails.{mail}
-use Rattle.summaries.specs.Found.{HasSite, HasTaken, call, call_eq, site}
+use Rattle.summaries.specs.Found.{HasSite, call, call_eq, site}
 use Rattle.summaries.specs.Grows.{Grows, Gives, Each, IsBehind, triple_of}
 use Rattle.summaries.proofs.Asking.{asked_to, ask_step, ask_only, behind_reached, asked_site, taken_there}
 use Rattle.summaries.proofs.Telling.{gives_one}

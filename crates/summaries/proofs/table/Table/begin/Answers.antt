@@ -1,10 +1,8 @@
-use Rattle.std.proofs.Common.{◌≡◌, ◌⊎◌, Err, inl, inr, refl, sym, ap, ◌∙◌, subst}
-use Rattle.std.proofs.lemmas.Result.{IfOk-weaker}
-use Rattle.language.specs.Flow.{Member}
-use Rattle.path_sets.specs.Triples.{Triple, triple}
+use Rattle.std.proofs.Common.{◌≡◌, Err, inl, inr, refl, sym, ap, ◌∙◌, subst}
+use Rattle.path_sets.specs.Triples.{triple}
 use Rattle.summaries.specs.declared.found.Found.{Found}
-use Rattle.summaries.specs.Grows.{Grows, Gives, Each, IsTold}
-use Rattle.summaries.proofs.Beginning.{begun_to, begun_also, begin_only, begin_step, start_reached}
+use Rattle.summaries.specs.Grows.{Gives, Each, IsTold}
+use Rattle.summaries.proofs.Beginning.{begun_also, begin_only, begin_step, start_reached}
 use Rattle.summaries.proofs.Growing.{grows_as, fault_of}
 use Rattle.summaries.proofs.Stepping.{still_sound, still_complete, all_reached, taken_as, has_more}
 use Rattle.summaries.proofs.table.Table.begin.Goals as goal

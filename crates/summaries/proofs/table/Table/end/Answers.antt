@@ -1,12 +1,10 @@
-use Rattle.std.proofs.Common.{◌≡◌, ◌⊎◌, inr, refl, sym, subst}
+use Rattle.std.proofs.Common.{◌⊎◌, inr, refl, sym, subst}
 use Rattle.std.proofs.lemmas.Result.{IfOk-weaker}
 use Rattle.language.specs.Flow.{Member}
 use Rattle.path_sets.specs.Triples.{Triple}
 use Rattle.summaries.specs.declared.found.Found.{Found}
-use Rattle.summaries.specs.Under.{under}
-use Rattle.summaries.specs.Found.{call_eq}
 use Rattle.summaries.specs.Grows.{Grows, Each, IsBehind}
-use Rattle.summaries.proofs.Ending.{ended_to, ended_also, end_only, end_step, ended_reached}
+use Rattle.summaries.proofs.Ending.{ended_also, end_only, end_step, ended_reached}
 use Rattle.summaries.proofs.Stepping.{still_sound, still_complete, all_reached, taken_as, has_more}
 use Rattle.summaries.proofs.table.Table.end.Goals as goal
 

@@ -1,4 +1,4 @@
-use Rattle.std.proofs.Common.{◌≡◌, ◌≤◌, None, Some, [], length, refl, ap, subst, sym, take, ◌∙◌, arith}
+use Rattle.std.proofs.Common.{length, refl, ap, subst, arith}
 use Rattle.std.proofs.lemmas.Option.{none-some}
 use Rattle.language.specs.Flow.{Member}
 use Rattle.summaries.proofs.Mails.{sent_none}

@@ -1,13 +1,12 @@
-use Rattle.std.proofs.Common.{◌≡◌, ◌≤◌, length, nat_eq, Some, slice_get, refl, sym, ap, ◌∙◌, subst, arith}
+use Rattle.std.proofs.Common.{◌≡◌, ◌≤◌, length, nat_eq, Some, slice_get, sym, ap, ◌∙◌, subst, arith}
 use Rattle.std.proofs.lemmas.Result.{IfOk-weaker}
 use Rattle.language.specs.Flow.{Member}
-use Rattle.path_sets.specs.Triples.{Triple, triple}
 use Rattle.flow_graph.specs.Numbers.{Reaches}
 use Rattle.flow_graph.specs.Returns.{left}
 use Rattle.flow_graph.specs.declared.flow.Flow.TheVariants.{Call}
 use Rattle.summaries.specs.Under.{under}
 use Rattle.summaries.specs.Found.{call_eq, HasTaken, HasExit}
-use Rattle.summaries.specs.Grows.{triple_of, IsNext}
+use Rattle.summaries.specs.Grows.{triple_of}
 use Rattle.summaries.proofs.Leading.{led_to, lead_only, lead_step, next_reached}
 use Rattle.summaries.proofs.Working.{beyond_worked, called_worked, led_worked}
 use Rattle.summaries.proofs.Stepping.{still_sound, still_complete, worked_off, both_ok, all_reached, taken_as, has_more}
