@@ -123,10 +123,6 @@ pub at_is : (e : Edge) (next : Option (ℕ × ℕ)) (n v : ℕ) → next ≡ Som
 at_is e next n v is t (n', v', is', at) = at ∙ ap (λ x. triple e.entry x.0 x.1) (same_Some (n', v') (n, v) (sym is' ∙ is))
 
 module _ {G : Type 0} (flow : Flow G) (e : Edge) where
-  -- no choice yet
-  pub next_none : (edges : List Triple) (pending : List Edge) → Grows (IsNextBefore 0 flow e) edges edges pending pending
-  next_none edges pending = nothing (IsNextBefore 0 flow e) edges pending (λ t w. let k = w.1 in omega (arith, k))
-
   -- one choice more
   pub next_more : (k : ℕ) (t : Triple) → IsNextBefore (k + 1) flow e t → IsNextBefore k flow e t ⊎ IsAt e (next_of flow e.values k) t
   next_more k t (i, less, at) =

@@ -33,14 +33,6 @@ gives_as V W old new to from gives = record {
   behind = gives.behind;
 }
 
--- nothing to give
-pub gives_none : (W : Mail → Type 0) (given : List Mail) → ((x : Mail) → W x → ⊥) → Gives W given given
-gives_none W given none = record {
-  all = λ x w. absurd (none x w);
-  only = λ x n. inr n;
-  behind = ([], sym (append-nil given));
-}
-
 -- what was given stays
 pub gives_kept : (W : Mail → Type 0) (old new : List Mail) → Gives W old new → (x : Mail) → Member x old → Member x new
 gives_kept W old new gives x m = subst (Member x) (sym gives.behind.1) (member_left x old gives.behind.0 m)
