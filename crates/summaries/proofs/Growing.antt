@@ -46,19 +46,6 @@ added e old new before members longer = record {
   longer = omega (arith, longer);
 }
 
--- nothing more to add
-pub nothing : (W : Triple → Type 0) (edges : List Triple) (pending : List Edge) → ((t : Triple) → W t → ⊥) → Grows W edges edges pending pending
-nothing W edges pending none = record {
-  all = λ t w. absurd (none t w);
-  kept = λ t m. m;
-  only = λ t m. inr m;
-  stays = λ x m. m;
-  pending = λ t m. inl m;
-  edges = λ x m. inl m;
-  more = refl;
-  longer = omega arith;
-}
-
 -- one step after another
 pub both : (V W U : Triple → Type 0) (old mid new : List Triple) (before between after : List Edge) →
     Grows V old mid before between → Grows W mid new between after → ((t : Triple) → U t → V t ⊎ W t) → ((t : Triple) → V t ⊎ W t → U t) →
