@@ -7,11 +7,15 @@ ghost use Rattle.std.specs.Prelude.{◌≡◌};
 ghost use Rattle.language.specs.Sequential.{sequential_of};
 ghost use Rattle.language.specs.Step.{Program};
 ghost use Rattle.syntax.specs.Trees.{tree_of};
+ghost use Rattle.summaries.specs.Tables.{IsTable};
 
+use crate::due::Caller;
 use crate::edge_limit::EdgeLimit;
 use crate::no_verdict::NoVerdict;
 use crate::pair::Pair;
 use crate::summaries::Summaries;
+use crate::table::Table;
+use crate::table_fault::TableFault;
 use crate::tabulation::tabulate;
 use flow_graph::graphs;
 use path_sets::{OrderedEdges, PathSet};
@@ -236,5 +240,53 @@ fn each_allocation_is_refused_in_turn(rt: HostRuntime) -> Result<(), Fail> {
         assert_eq!(rt; refused, Some(NoVerdict::Memory), "{nth}");
     }
     assert!(rt; 20 < last && last < 399);
+    Ok(())
+}
+
+/// Lets the starter enter the procedure of a table, and asks for all that the table then owes.
+fn worked<G: Allocator, A: Allocator + Copy, S: PathSet<A>>(
+    table: &mut Table<'_, G, A, S>,
+) -> Result<(), TableFault>
+    requires { IsTable S.members table.old }
+    ensures { IsTable S.members table.new }
+{
+    table.take_entry(Caller::Starter, 0)?;
+    'turns: for _ in 0..1000u32 {
+        if table.next()?.is_none() {
+            break;
+        }
+    }
+    Ok(())
+}
+
+#[test]
+fn a_table_that_was_refused_memory_answers_so_from_then_on(rt: HostRuntime) -> Result<(), Fail> {
+    let (Some(sequential), Some(limit)) = (rewritten(rt.alloc(), ARGUMENTS, 1), EdgeLimit::new(100))
+    else {
+        panic!(rt; "not rewritten");
+    };
+    let graphs = graphs(&rt.alloc(), &sequential)?;
+    if graphs.len() == 0 {
+        panic!(rt; "no graphs");
+    }
+    let mut last = 0u64;
+    for nth in 1..400u64 {
+        let scarce = Scarce::refusing(rt.alloc(), nth);
+        let mut table: Table<'_, _, _, OrderedEdges<_>> = Table::new(&scarce, &graphs, 0, limit);
+        let done = worked(&mut table);
+        last = nth;
+        if !scarce.refused() {
+            assert_eq!(rt; done, Ok(()));
+            break;
+        }
+        assert_eq!(rt; done, Err(TableFault::Memory), "{nth}");
+        assert_eq!(rt;
+            table.take_entry(Caller::Starter, 1),
+            Err(TableFault::Memory),
+            "{nth}"
+        );
+        assert_eq!(rt; table.next(), Err(TableFault::Memory), "{nth}");
+    }
+    assert!(rt; 5 < last && last < 399);
     Ok(())
 }
