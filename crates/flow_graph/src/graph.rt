@@ -1,6 +1,6 @@
 //! Flow graphs.
 
-ghost use Rattle.std.specs.Prelude.{◌≡◌, ◌<◌, ◌++◌, Bool, List, length, slice_get, Some};
+ghost use Rattle.std.specs.Prelude.{◌≡◌, ◌≤◌, ◌<◌, ◌++◌, Bool, List, length, slice_get, Some};
 ghost use Rattle.language.specs.Sequential.{Valuation};
 ghost use Rattle.flow_graph.specs.Bits.{coded};
 ghost use Rattle.flow_graph.specs.Flows.{code};
@@ -61,11 +61,12 @@ impl<A: Allocator> Graph<A> {
     }
 }
 
-/// The flow graphs of the procedures of a sequential program, by number.
+/// The flow graphs of the procedures of a sequential program, at most 32, by number.
 #[derive(Debug, Drop)]
 pub struct Graphs<A: Allocator> {
     pub(crate) graphs: Vec<Graph<A>, A>,
     pub(crate) bad: usize,
+    pub ghost few: { length graphs.items ≤ 32 },
 }
 
 impl<A: Allocator> Graphs<A> {

@@ -17,25 +17,20 @@ use crate::table::Table;
 use crate::table_fault::TableFault;
 use flow_graph::Graphs;
 use path_sets::PathSet;
-use std::alloc::Allocator;
+use std::alloc::{AllocError, Allocator};
 
 /// The tables of all procedures, by number, which have taken nothing yet.
 fn tables_of<'g, G: Allocator, A: Allocator + Copy, S: PathSet<A>>(
     alloc: A,
     graphs: &'g Graphs<G>,
     limit: EdgeLimit,
-) -> Result<Vec<Table<'g, G, A, S>, A>, NoVerdict>
+) -> Result<Vec<Table<'g, G, A, S>, A>, AllocError>
     ensures new { IfOk result (λ ts. AreNew S.members ts.items) }
     ensures graphs { IfOk result (λ ts. map graph_of ts.items ≡ graphs.now.graphs.items) }
     ensures limit { IfOk result (λ ts. HaveLimit limit.edges ts.items) }
-    ensures err { (e : NoVerdict) → result ≡ Err e → e ≡ NoVerdict.Memory }
 {
     let mut tables = Vec::new(alloc);
-    for number in 0..graphs.len() {
-        // Never so: a program has at most 32 procedures, which the type of its graphs does not say.
-        let Ok(procedure) = u8::try_from(number) else {
-            return Err(NoVerdict::Memory);
-        };
+    for procedure in 0..graphs.len() as u8 {
         tables.push(Table::new(alloc, graphs, procedure, limit))?;
     }
     Ok(tables)

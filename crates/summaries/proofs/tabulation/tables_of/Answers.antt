@@ -6,13 +6,13 @@ use Rattle.summaries.specs.Together.{graph_of}
 use Rattle.summaries.proofs.Replaced.{each_pushed, map_is}
 use Rattle.summaries.proofs.tabulation.tables_of.Goals as goal
 
-pub loop-number-preserved : goal.loop-number-preserved
-loop-number-preserved g c =
+pub loop-procedure-preserved : goal.loop-procedure-preserved
+loop-procedure-preserved g c =
     let pushed = c.in_ok-push.ensures.items in
-    let before = c.loop-number.tables.items in
+    let before = c.loop-procedure.tables.items in
     let new = c.new.result in
-    let invariant = c.loop-number.invariant in
-    let place : c.in-Ok.procedure ≡ length before = c.in-Ok.ensures.1 ∙ sym invariant.count in
+    let invariant = c.loop-procedure.invariant in
+    let place : c.loop-procedure.procedure ≡ length before = sym invariant.count in
     record {
       count = omega (arith, invariant.count, ap length pushed, length-append before (new ∷ []));
       fresh = λ q t is. each_pushed (λ n (u : Table g.row.G.Denot g.row.A.Denot g.row.S.Denot). IsNew g.S.PathSet.members u) before new invariant.fresh c.new.ensures.new q t (subst (λ l. slice_get l q ≡ Some t) pushed is);
@@ -22,12 +22,12 @@ loop-number-preserved g c =
     }
 
 pub returns-clause-new : goal.returns-clause-new
-returns-clause-new g c = record { fresh = c.loop-number.invariant.fresh; number = c.loop-number.invariant.numbered }
+returns-clause-new g c = record { fresh = c.loop-procedure.invariant.fresh; number = c.loop-procedure.invariant.numbered }
 
 pub returns-clause-graphs : goal.returns-clause-graphs
 returns-clause-graphs g c =
-    map_is graph_of c.loop-number.tables.items c.args.graphs.now.graphs.items
-    (omega (arith, c.loop-number.invariant.count, c.loop-number-test.false, c.loop-number.auto.number-end, c.len-number-end.ensures)) c.loop-number.invariant.graphs
+    map_is graph_of c.loop-procedure.tables.items c.args.graphs.now.graphs.items
+    (omega (arith, c.loop-procedure.invariant.count, c.loop-procedure-test.false, c.loop-procedure.auto.procedure-end, c.len-procedure-end.ensures)) c.loop-procedure.invariant.graphs
 
 pub returns-clause-limit : goal.returns-clause-limit
-returns-clause-limit g c = c.loop-number.invariant.limits
+returns-clause-limit g c = c.loop-procedure.invariant.limits

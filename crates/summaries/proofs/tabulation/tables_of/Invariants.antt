@@ -4,9 +4,9 @@ use Rattle.summaries.specs.declared.table.Table.{Table}
 use Rattle.summaries.specs.Tables.{IsNew}
 use Rattle.summaries.proofs.tabulation.tables_of.Given as goal
 
-abbrev pub invariant-loop-number : goal.invariant-loop-number
-invariant-loop-number g l = record {
-  count : length l.tables.items ≡ l.number;
+abbrev pub invariant-loop-procedure : goal.invariant-loop-procedure
+invariant-loop-procedure g l = record {
+  count : length l.tables.items ≡ l.procedure;
   fresh : (q : ℕ) (t : Table g.row.G.Denot g.row.A.Denot g.row.S.Denot) → slice_get l.tables.items q ≡ Some t → IsNew g.S.PathSet.members t;
   numbered : (q : ℕ) (t : Table g.row.G.Denot g.row.A.Denot g.row.S.Denot) → slice_get l.tables.items q ≡ Some t → t.procedure ≡ q;
   limits : (q : ℕ) (t : Table g.row.G.Denot g.row.A.Denot g.row.S.Denot) → slice_get l.tables.items q ≡ Some t → t.limit.edges ≡ l.fn.limit.edges;
