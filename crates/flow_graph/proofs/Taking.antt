@@ -1,10 +1,9 @@
 -- Where what graphs send is taken, and no more than is due, what is taken is what is due.
-use Rattle.std.proofs.Common.{◌≡◌, ◌↔◌, ℕ, zero, suc, List, [], ◌∷◌, length, map, Some, slice_get, inl, inr, refl, sym, ◌∙◌, ap, subst, arith}
+use Rattle.std.proofs.Common.{◌≡◌, ◌↔◌, ℕ, zero, suc, List, [], ◌∷◌, length, Some, slice_get, refl, sym, ◌∙◌, ap, subst, arith}
 use Rattle.std.proofs.lemmas.Option.{none-some}
 use Rattle.language.specs.Rest.{Code}
 use Rattle.language.specs.Step.{Program, zeros}
 use Rattle.language.specs.Sequential.{Valuation, starter, caller, Message, entry, IsZero, IsDue, in_text_order}
-use Rattle.language.specs.Flow.{Member}
 use Rattle.language.specs.Messages as by_messages
 use Rattle.language.specs.Messages.{Reached, Owes, IsMessageTo, ArgumentsFit, HasOpening, HasOwed, EdgeTo}
 use Rattle.language.proofs.ByMessages.{reached_entry}
@@ -23,24 +22,12 @@ use Rattle.flow_graph.specs.declared.graph.Graph.{Graph}
 use Rattle.flow_graph.proofs.Coding.{coded_zeros}
 use Rattle.flow_graph.proofs.Reaching.{reaches_reached, reached_reaches, sends_owed, owed_sends}
 
--- ---- members of a list, each through a function
-
-pub member_map : {X Y : Type 0} (f : X → Y) (xs : List X) (x : X) → Member x xs → Member (f x) (map f xs)
-member_map f [] x h = absurd h
-member_map f (y ∷ ys) x (inl e) = inl (ap f e)
-member_map f (y ∷ ys) x (inr h) = inr (member_map f ys x h)
-
-pub map_member : {X Y : Type 0} (f : X → Y) (xs : List X) (y : Y) → Member y (map f xs) → (x : X) × Member x xs × (y ≡ f x)
-map_member f [] y h = absurd h
-map_member f (x ∷ xs) y (inl e) = (x, inl refl, e)
-map_member f (x ∷ xs) y (inr h) = let (z, is, e) = map_member f xs y h in (z, inr is, e)
-
--- a list as long as another has a member where the other has one
-there : {X Y : Type 0} (xs : List X) (ys : List Y) (q : ℕ) (y : Y) → length xs ≡ length ys → slice_get ys q ≡ Some y → (x : X) × (slice_get xs q ≡ Some x)
-there xs [] q y h e = absurd (none-some y e)
-there [] (z ∷ ys) q y h e = absurd (omega (arith, h))
-there (x ∷ xs) (z ∷ ys) zero y h e = (x, refl)
-there (x ∷ xs) (z ∷ ys) (suc q) y h e = there xs ys q y (omega (arith, h)) e
+-- as many in one list as in another: there is a second item where there is a first
+pub there_too : {X Y : Type 0} (xs : List X) (ys : List Y) (q : ℕ) (x : X) → length xs ≡ length ys → slice_get xs q ≡ Some x → (y : Y) × (slice_get ys q ≡ Some y)
+there_too [] ys q x h e = absurd (none-some x e)
+there_too (z ∷ zs) [] q x h e = absurd (omega (arith, h))
+there_too (z ∷ zs) (y ∷ ys) zero x h e = (y, refl)
+there_too (z ∷ zs) (y ∷ ys) (suc q) x h e = there_too zs ys q x (omega (arith, h)) e
 
 -- ---- messages that are due
 
@@ -98,7 +85,7 @@ module _ {A : Type 0} (p : Program) (graphs : List (Graph A)) (T : ℕ → Numbe
   closed q s m owed =
       let (k, had) = owes_entry p q (Had q) s m owed in
       let (routine, is) = due_there p q k had.0 in
-      let (graph, here) = there graphs p.routines q routine are.0 is in
+      let (graph, here) = there_too p.routines graphs q routine (sym are.0) is in
       (owed_due p q (Had q) (λ n h. h.0) s m owed, sent_taken q s m graph here owed)
 
   edges_had : (q : ℕ) (x y : Valuation) (r : Code) → EdgeTo p q x y r → Reached p q (Had q) x y r

@@ -1,8 +1,8 @@
 -- What a flow graph reaches by the messages that its procedure has, and the messages that it then sends: by numbers.
 use Rattle.std.specs.Prelude.{◌≡◌, ◌≤◌, ℕ, Bool, Option, Some, List, [], slice_get, slice_index_or}
 use Rattle.language.specs.Rest.{Code}
-use Rattle.language.specs.Step.{Program, body_of}
-use Rattle.language.specs.Sequential.{numbered, Valuation, Edge, Pair, Entered, Caller, starter, caller, Message, entry, summary, IsDue}
+use Rattle.language.specs.Step.{Program}
+use Rattle.language.specs.Sequential.{Valuation, Edge, Pair, Entered, Caller, starter, caller, Message, entry, summary, IsDue}
 use Rattle.language.specs.Flow.{Member}
 use Rattle.language.specs.Messages.{IsValuationOf}
 use Rattle.flow_graph.specs.Bits.{coded}

@@ -1,5 +1,5 @@
 -- The widths of valuations: as many values as globals and as places.
-use Rattle.std.proofs.Common.{◌≡◌, ◌⊎◌, ℕ, zero, suc, ◌-◌, ◌≤◌, List, [], ◌∷◌, Bool, inl, inr, refl, sym, ◌∙◌, ap, subst, arith, length, slice_get}
+use Rattle.std.proofs.Common.{◌≡◌, ◌⊎◌, ℕ, zero, suc, ◌≤◌, List, [], ◌∷◌, Bool, inl, inr, refl, sym, ◌∙◌, ap, subst, arith, length, slice_get}
 use Rattle.language.specs.Tree.{skip, assign, assert, assume, goto, leave, call, done, one, choose, loop}
 use Rattle.language.specs.Value.{values_of}
 use Rattle.language.specs.Rest.{Code, rest_from}

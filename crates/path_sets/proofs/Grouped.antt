@@ -9,22 +9,22 @@ use Rattle.std.proofs.lemmas.List.Quantifiers.{position-Some}
 use Rattle.std.proofs.lemmas.Map.Views.{exact_unsigned_eq}
 use Rattle.indexmap.specs.IndexMap.{set_value_at}
 use Rattle.language.specs.Flow.{Member}
-use Rattle.language.proofs.Members.{member_left, member_right, member_append}
+use Rattle.language.proofs.Members.{member_left, member_right, member_append, member_map, map_member}
 use Rattle.path_sets.specs.declared.ends.Ends.{Ends}
 use Rattle.path_sets.specs.Triples.{Triple}
 use Rattle.path_sets.specs.Edges.{edge_at, edges}
 use Rattle.path_sets.specs.Inserts.{Inserts, here}
-use Rattle.path_sets.proofs.Inserted.{behind, before, mapped, image_in, image_of}
+use Rattle.path_sets.proofs.Inserted.{behind, before, mapped}
 
 -- the points, each with its set
 abbrev pub Groups : Type 0
 Groups = List (ℕ × BTreeSet Ends)
 
 -- a key and a value at one place make the pair at that place
-pub pair_at : (gs : Groups) (i p : ℕ) (s : BTreeSet Ends) → slice_get (keys_of gs) i ≡ Some p → slice_get (values_of gs) i ≡ Some s → slice_get gs i ≡ Some (p, s)
-pair_at [] i p s k v = absurd (true≢false (ap is_some (sym k)))
-pair_at (g ∷ gs) zero p s k v = ap Some (λ j. (same_Some g.0 p k j, same_Some g.1 s v j))
-pair_at (g ∷ gs) (suc i) p s k v = pair_at gs i p s k v
+pub pair_at : {K V : Type 0} (es : List (K × V)) (i : ℕ) (k : K) (v : V) → slice_get (keys_of es) i ≡ Some k → slice_get (values_of es) i ≡ Some v → slice_get es i ≡ Some (k, v)
+pair_at [] i k v key value = absurd (true≢false (ap is_some (sym key)))
+pair_at (e ∷ es) zero k v key value = ap Some (λ j. (same_Some e.0 k key j, same_Some e.1 v value j))
+pair_at (e ∷ es) (suc i) k v key value = pair_at es i k v key value
 
 -- the point that is looked up stands at the place that is found
 pub found_at : (ks : List ℕ) (i p : ℕ) → Some i ≡ position (eqb p) ks → slice_get ks i ≡ Some p
@@ -43,13 +43,13 @@ pub in_group : (gs : Groups) (i p : ℕ) (s : BTreeSet Ends) (e : Ends) → slic
 in_group [] i p s e at m = absurd (true≢false (ap is_some (sym at)))
 in_group (g ∷ gs) zero p s e at m =
     subst (λ (h : ℕ × BTreeSet Ends). Member (edge_at p e) (map (edge_at h.0) h.1.keys ++ edges gs)) (sym (same_Some g (p, s) at))
-    (member_left (edge_at p e) (map (edge_at p) s.keys) (edges gs) (image_in (edge_at p) e s.keys m))
+    (member_left (edge_at p e) (map (edge_at p) s.keys) (edges gs) (member_map (edge_at p) s.keys e m))
 in_group (g ∷ gs) (suc i) p s e at m =
     member_right (edge_at p e) (map (edge_at g.0) g.1.keys) (edges gs) (in_group gs i p s e at m)
 
 -- the edges of a set are those of its point
 point_of : (p q : ℕ) (e : Ends) (es : List Ends) → Member (edge_at p e) (map (edge_at q) es) → p ≡ q
-point_of p q e es m = ap (λ (t : Triple). t.point) (image_of (edge_at q) (edge_at p e) es m).2
+point_of p q e es m = ap (λ (t : Triple). t.point) (map_member (edge_at q) es (edge_at p e) m).2
 
 -- a point with no set has no edges
 pub no_edge : (gs : Groups) (p : ℕ) (e : Ends) → AllByRecursion (λ k. eqb p k ≡ false) (keys_of gs) → Member (edge_at p e) (edges gs) → ⊥
@@ -63,7 +63,7 @@ no_edge (g ∷ gs) p e (apart, all) m =
 -- the ends of an edge of a point are in the point's set
 own_ends : (p : ℕ) (e : Ends) (es : List Ends) → Member (edge_at p e) (map (edge_at p) es) → Member e es
 own_ends p e es m =
-    let r = image_of (edge_at p) (edge_at p e) es m in
+    let r = map_member (edge_at p) es (edge_at p e) m in
     let same : e ≡ r.0 = (λ j. record { entry = (r.2 j).entry; values = (r.2 j).values }) in
     subst (λ x. Member x es) (sym same) r.1
 

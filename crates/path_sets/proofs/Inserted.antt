@@ -56,14 +56,3 @@ pub at_end : {A : Type 0} (x : A) (xs : List A) → Inserts x xs (xs ++ x ∷ []
 at_end x [] = here []
 at_end x (y ∷ ys) = there y ys (ys ++ x ∷ []) (at_end x ys)
 
--- the image of an item is among the images
-pub image_in : {A B : Type 0} (f : A → B) (x : A) (xs : List A) → Member x xs → Member (f x) (map f xs)
-image_in f x [] m = elim m [ ]
-image_in f x (y ∷ ys) (inl e) = inl (ap f e)
-image_in f x (y ∷ ys) (inr m) = inr (image_in f x ys m)
-
--- what is among the images is the image of an item
-pub image_of : {A B : Type 0} (f : A → B) (t : B) (xs : List A) → Member t (map f xs) → (x : A) × Member x xs × (t ≡ f x)
-image_of f t [] m = elim m [ ]
-image_of f t (y ∷ ys) (inl e) = (y, inl refl, e)
-image_of f t (y ∷ ys) (inr m) = let r = image_of f t ys m in (r.0, inr r.1, r.2)

@@ -1,5 +1,5 @@
 -- The keys of an ordered set, and one more of them.
-use Rattle.std.proofs.Common.{Ordering, ◌≡◌, true, false, List, [], ◌∷◌, inl, inr, refl, sym, ap, ◌∙◌, true≢false, ◌||◌}
+use Rattle.std.proofs.Common.{Ordering, Bool, ◌≡◌, true, false, List, [], ◌∷◌, inl, inr, refl, sym, ap, ◌∙◌, true≢false, ◌||◌}
 use Rattle.std.specs.Ordering.{is_eq, match_ordering, ordering_then, nat_cmp}
 use Rattle.std.specs.declared.cmp.Ordering.TheVariants.{Less, Equal, Greater}
 use Rattle.std.specs.List.{list_any}
@@ -11,28 +11,27 @@ use Rattle.language.specs.Flow.{Member}
 use Rattle.path_sets.specs.declared.ends.Ends.{Ends}
 use Rattle.path_sets.specs.Inserts.{Inserts, here, there}
 
-module _ {K : Type 0} (cmp : K → K → Ordering) (exact : (x y : K) → cmp x y ≡ Equal → x ≡ y) (itself : (x : K) → cmp x x ≡ Equal) where
-  -- a key that is found is in the list
-  pub found_is_in : (k : K) (ks : List K) → list_any (is_at (cmp k)) ks ≡ true → Member k ks
-  found_is_in k [] h = absurd (true≢false (sym h))
-  found_is_in k (x ∷ xs) h = by (cmp k x) refl h (found_is_in k xs)
+module _ {K : Type 0} (eq : K → K → Bool) where
+  -- a key that is found is in the list, where equal keys are the same
+  pub found_is_in : ((x y : K) → eq x y ≡ true → x ≡ y) → (k : K) (ks : List K) → list_any (eq k) ks ≡ true → Member k ks
+  found_is_in same k [] h = absurd (true≢false (sym h))
+  found_is_in same k (x ∷ xs) h = by (eq k x) refl h (found_is_in same k xs)
     where
-      by : (r : Ordering) → cmp k x ≡ r → (is_eq r || list_any (is_at (cmp k)) xs) ≡ true → (list_any (is_at (cmp k)) xs ≡ true → Member k xs) → Member k (x ∷ xs)
-      by Less e h rest = inr (rest h)
-      by Equal e h rest = inl (exact k x e)
-      by Greater e h rest = inr (rest h)
+      by : (b : Bool) → eq k x ≡ b → (b || list_any (eq k) xs) ≡ true → (list_any (eq k) xs ≡ true → Member k xs) → Member k (x ∷ xs)
+      by true e h rest = inl (same k x e)
+      by false e h rest = inr (rest h)
 
   -- a key that is in the list is found
-  pub is_found : (k : K) (ks : List K) → Member k ks → list_any (is_at (cmp k)) ks ≡ true
-  is_found k [] m = elim m [ ]
-  is_found k (x ∷ xs) (inl e) = ap (λ r. is_eq r || list_any (is_at (cmp k)) xs) (ap (cmp k) (sym e) ∙ itself k)
-  is_found k (x ∷ xs) (inr m) = by (cmp k x) (is_found k xs m)
+  pub is_found : ((x : K) → eq x x ≡ true) → (k : K) (ks : List K) → Member k ks → list_any (eq k) ks ≡ true
+  is_found itself k [] m = elim m [ ]
+  is_found itself k (x ∷ xs) (inl e) = ap (λ b. b || list_any (eq k) xs) (ap (eq k) (sym e) ∙ itself k)
+  is_found itself k (x ∷ xs) (inr m) = by (eq k x) (is_found itself k xs m)
     where
-      by : (r : Ordering) → list_any (is_at (cmp k)) xs ≡ true → (is_eq r || list_any (is_at (cmp k)) xs) ≡ true
-      by Less rest = rest
-      by Equal rest = refl
-      by Greater rest = rest
+      by : (b : Bool) → list_any (eq k) xs ≡ true → (b || list_any (eq k) xs) ≡ true
+      by true rest = refl
+      by false rest = rest
 
+module _ {K : Type 0} (cmp : K → K → Ordering) where
   -- a key that is not found is put in at one place
   pub put_in : (k : K) (ks : List K) → list_any (is_at (cmp k)) ks ≡ false → Inserts k ks (insert_key cmp ks k)
   put_in k [] h = here []
@@ -47,9 +46,19 @@ module _ {K : Type 0} (cmp : K → K → Ordering) (exact : (x y : K) → cmp x 
 abbrev pub ends_cmp : Ends → Ends → Ordering
 ends_cmp x y = ordering_then (nat_cmp x.entry y.entry) (nat_cmp x.values y.values)
 
+-- whether two ends compare as equal
+abbrev pub ends_eq : Ends → Ends → Bool
+ends_eq x y = is_at (ends_cmp x) y
+
+-- what compares as equal is so
+equal : (r : Ordering) → is_eq r ≡ true → r ≡ Equal
+equal Less h = absurd (true≢false (sym h))
+equal Equal h = refl
+equal Greater h = absurd (true≢false (sym h))
+
 -- two ends that compare as equal are the same
-pub same_ends : (x y : Ends) → ends_cmp x y ≡ Equal → x ≡ y
-same_ends x y h = by (nat_cmp x.entry y.entry) refl h
+pub same_ends : (x y : Ends) → ends_eq x y ≡ true → x ≡ y
+same_ends x y h = by (nat_cmp x.entry y.entry) refl (equal (ends_cmp x y) h)
   where
     by : (r : Ordering) → nat_cmp x.entry y.entry ≡ r → ordering_then r (nat_cmp x.values y.values) ≡ Equal → x ≡ y
     by Less e h = absurd (true≢false (sym (ap is_eq h)))
@@ -57,5 +66,5 @@ same_ends x y h = by (nat_cmp x.entry y.entry) refl h
     by Greater e h = absurd (true≢false (sym (ap is_eq h)))
 
 -- ends compare as equal to themselves
-pub ends_themselves : (x : Ends) → ends_cmp x x ≡ Equal
-ends_themselves x = ap (λ r. ordering_then r (nat_cmp x.values x.values)) (tied_itself nat_cmp_total x.entry) ∙ tied_itself nat_cmp_total x.values
+pub ends_themselves : (x : Ends) → ends_eq x x ≡ true
+ends_themselves x = ap is_eq (ap (λ r. ordering_then r (nat_cmp x.values x.values)) (tied_itself nat_cmp_total x.entry) ∙ tied_itself nat_cmp_total x.values)

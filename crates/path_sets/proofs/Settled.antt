@@ -10,7 +10,7 @@ use Rattle.language.specs.Flow.{Member}
 use Rattle.path_sets.specs.declared.ends.Ends.{Ends}
 use Rattle.path_sets.specs.Edges.{edge_at, edges}
 use Rattle.path_sets.specs.Inserts.{Inserts, Settles}
-use Rattle.path_sets.proofs.Keys.{ends_cmp, same_ends, ends_themselves, found_is_in, is_found, put_in}
+use Rattle.path_sets.proofs.Keys.{ends_cmp, ends_eq, same_ends, ends_themselves, found_is_in, is_found, put_in}
 use Rattle.path_sets.proofs.Grouped.{Groups, in_group, only_in_group, put_in_group, same_group}
 
 module _ (gs : Groups) (i p : ℕ) (s t : BTreeSet Ends) (e : Ends)
@@ -22,10 +22,10 @@ module _ (gs : Groups) (i p : ℕ) (s t : BTreeSet Ends) (e : Ends)
     where
       by : (found : Bool) → list_any (is_at (ends_cmp e)) s.keys ≡ found → (added : Bool) → added ≡ not found → OnFalse added (t.keys ≡ s.keys) → Settles (edge_at p e) (edges gs) (edges (set_value_at gs i t)) added
       by true f true is same = absurd (true≢false is)
-      by true f false is same = (same_group gs i s t value same, in_group gs i p s e at (found_is_in ends_cmp same_ends ends_themselves e s.keys f))
+      by true f false is same = (same_group gs i s t value same, in_group gs i p s e at (found_is_in ends_eq same_ends e s.keys f))
       by false f true is same = (
-        put_in_group gs i p s t e at (subst (Inserts e s.keys) (sym keys) (put_in ends_cmp same_ends ends_themselves e s.keys f)),
-        λ m. true≢false (sym (is_found ends_cmp same_ends ends_themselves e s.keys (only_in_group gs i p s e distinct at m)) ∙ f),
+        put_in_group gs i p s t e at (subst (Inserts e s.keys) (sym keys) (put_in ends_cmp e s.keys f)),
+        λ m. true≢false (sym (is_found ends_eq ends_themselves e s.keys (only_in_group gs i p s e distinct at m)) ∙ f),
       )
       by false f false is same = absurd (true≢false (sym is))
 

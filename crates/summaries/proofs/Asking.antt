@@ -5,7 +5,7 @@ use Rattle.language.specs.Flow.{Member}
 use Rattle.path_sets.specs.Triples.{Triple, triple}
 use Rattle.flow_graph.specs.Flows.{entered_by}
 use Rattle.flow_graph.specs.Returns.{resumed}
-use Rattle.flow_graph.specs.Numbers.{NumberedMessage, numbered_entry, numbered_summary, Reaches, returns, Sends, asks}
+use Rattle.flow_graph.specs.Numbers.{NumberedMessage, Reaches, returns, Sends, asks}
 use Rattle.flow_graph.specs.declared.flow.Flow.{Flow}
 use Rattle.flow_graph.specs.declared.graph.Graph.{Graph}
 use Rattle.flow_graph.proofs.Holding.{reaches_more}
@@ -24,7 +24,7 @@ use Rattle.summaries.specs.Found.{call, call_eq, site, HasTaken, HasSite, IsSoun
 use Rattle.summaries.specs.Grows.{Grows, Gives, Each, IsBehind, triple_of}
 use Rattle.summaries.proofs.Adding.{same_call, added_or, added_keeps}
 use Rattle.summaries.proofs.Dues.{due_told}
-use Rattle.summaries.proofs.Stepping.{Step}
+use Rattle.summaries.proofs.Stepping.{Step, taken_as}
 use Rattle.summaries.proofs.Telling.{gives_kept}
 
 module _ {A G : Type 0} (graph : Graph G) (q : ℕ) (f : Found A) (given : Given A) (sites : Groups Call Site A) (pending : Vec Edge A) where
@@ -34,8 +34,7 @@ module _ {A G : Type 0} (graph : Graph G) (q : ℕ) (f : Found A) (given : Given
 
   -- the messages taken are the same
   pub taken_there : (k : NumberedMessage) → HasTaken f k → HasTaken asked_to k
-  taken_there (numbered_entry from a) h = h
-  taken_there (numbered_summary s a b) h = h
+  taken_there = taken_as f asked_to (λ a. refl) (λ c. refl)
 
   module _ (es ds : List Triple) (e : Edge) (s x back : ℕ) (flow : Flow G) (sound : IsSound graph q f es) (there : Member (triple_of e) es)
       (here : slice_get graph.flows.items e.point ≡ Some flow) (enters : entered_by flow e.values ≡ Some (s, x, back)) where

@@ -1,28 +1,14 @@
 -- The values of a key, where the value at a key's place is written.
-use Rattle.std.proofs.Common.{◌≡◌, ℕ, Bool, true, false, cond, List, [], ◌∷◌, ◌++◌, Option, None, Some, get_or, slice_get, position, zero, suc, refl, sym, ap, ◌∙◌, true≢false, is_some, if◌then◌else◌}
+use Rattle.std.proofs.Common.{◌≡◌, ℕ, Bool, true, false, cond, [], ◌∷◌, ◌++◌, Some, get_or, slice_get, position, refl, sym, ap, ◌∙◌, if◌then◌else◌}
 use Rattle.std.specs.Prelude.{Vec}
 use Rattle.std.specs.Cmp.{IsEquivalence}
-use Rattle.std.specs.Map.{keys_of, values_of, lookup}
+use Rattle.std.specs.Map.{lookup}
 use Rattle.std.proofs.lemmas.Option.{slice_get-get_or}
 use Rattle.std.proofs.lemmas.List.Quantifiers.{position-Some}
 use Rattle.indexmap.specs.IndexMap.{IndexMap, keys, values, get, with_value_at, IsUnique}
 use Rattle.indexmap.proofs.CallerLemmas.{updates-with_value_at}
+use Rattle.path_sets.proofs.Grouped.{pair_at}
 use Rattle.summaries.specs.Under.{items_of, under}
-
--- the value that an option has
-the : {A : Type 0} → A → Option A → A
-the a None = a
-the a (Some x) = x
-
-pub same_inside : {A : Type 0} (x y : A) → Some x ≡ Some y → x ≡ y
-unfolding the
-same_inside x y e = ap (the x) e
-
--- a key and a value at one place make the pair at that place
-pair_at : {K V : Type 0} (es : List (K × V)) (i : ℕ) (k : K) (v : V) → slice_get (keys_of es) i ≡ Some k → slice_get (values_of es) i ≡ Some v → slice_get es i ≡ Some (k, v)
-pair_at [] i k v key value = absurd (true≢false (ap is_some (sym key)))
-pair_at (e ∷ es) zero k v key value = ap Some (λ j. (same_inside e.0 k key j, same_inside e.1 v value j))
-pair_at (e ∷ es) (suc i) k v key value = pair_at es i k v key value
 
 module _ {K V A S : Type 0} (eq : K → K → Bool) (laws : IsEquivalence eq) (m : IndexMap K (Vec V A) S) (unique : IsUnique eq m)
     (i : ℕ) (k : K) (old new : Vec V A)

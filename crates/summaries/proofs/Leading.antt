@@ -1,9 +1,9 @@
 -- The step of a table at an edge whose choices lead on.
-use Rattle.std.proofs.Common.{◌≡◌, ◌⊎◌, ℕ, Some, List, inl, inr, sym, subst, slice_get}
+use Rattle.std.proofs.Common.{◌≡◌, ◌⊎◌, ℕ, Some, List, inl, inr, refl, sym, subst, slice_get}
 use Rattle.std.specs.Prelude.{Vec}
 use Rattle.language.specs.Flow.{Member}
 use Rattle.path_sets.specs.Triples.{Triple}
-use Rattle.flow_graph.specs.Numbers.{NumberedMessage, numbered_entry, numbered_summary, Reaches, flows}
+use Rattle.flow_graph.specs.Numbers.{NumberedMessage, Reaches, flows}
 use Rattle.flow_graph.specs.declared.flow.Flow.{Flow}
 use Rattle.flow_graph.specs.declared.graph.Graph.{Graph}
 use Rattle.flow_graph.proofs.Holding.{reaches_more}
@@ -11,7 +11,7 @@ use Rattle.summaries.specs.declared.edge.Edge.{Edge}
 use Rattle.summaries.specs.declared.found.Found.{Found}
 use Rattle.summaries.specs.Found.{HasTaken, IsSound}
 use Rattle.summaries.specs.Grows.{Grows, IsNext, triple_of}
-use Rattle.summaries.proofs.Stepping.{Step}
+use Rattle.summaries.proofs.Stepping.{Step, taken_as}
 
 module _ {A G : Type 0} (graph : Graph G) (q : ℕ) (f : Found A) (pending : Vec Edge A) where
   -- what is found, with other edges pending
@@ -20,8 +20,7 @@ module _ {A G : Type 0} (graph : Graph G) (q : ℕ) (f : Found A) (pending : Vec
 
   -- the messages taken are the same
   pub taken_led : (k : NumberedMessage) → HasTaken f k → HasTaken led_to k
-  taken_led (numbered_entry from a) h = h
-  taken_led (numbered_summary s a b) h = h
+  taken_led = taken_as f led_to (λ a. refl) (λ c. refl)
 
   module _ (es ds : List Triple) (e : Edge) (flow : Flow G) (sound : IsSound graph q f es) (there : Member (triple_of e) es)
       (here : slice_get graph.flows.items e.point ≡ Some flow) where

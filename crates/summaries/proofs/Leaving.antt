@@ -5,7 +5,7 @@ use Rattle.language.specs.Flow.{Member}
 use Rattle.language.proofs.Members.{member_left, member_right, member_append}
 use Rattle.path_sets.specs.Triples.{Triple, triple}
 use Rattle.flow_graph.specs.Returns.{left}
-use Rattle.flow_graph.specs.Numbers.{NumberedMessage, numbered_entry, numbered_summary, Reaches, Sends, tells, Leaves}
+use Rattle.flow_graph.specs.Numbers.{NumberedMessage, numbered_summary, Reaches, Sends, tells, Leaves}
 use Rattle.flow_graph.specs.declared.graph.Graph.{Graph}
 use Rattle.flow_graph.proofs.Holding.{reaches_more}
 use Rattle.summaries.specs.declared.due.Caller.TheVariants.{Proc}
@@ -18,7 +18,7 @@ use Rattle.summaries.specs.Found.{pair, HasTaken, HasExit, IsSound}
 use Rattle.summaries.specs.Grows.{Gives, Each, IsTold}
 use Rattle.summaries.proofs.Adding.{added_or, added_keeps, added_is}
 use Rattle.summaries.proofs.Dues.{due_told}
-use Rattle.summaries.proofs.Stepping.{Step}
+use Rattle.summaries.proofs.Stepping.{Step, taken_as}
 use Rattle.summaries.proofs.Telling.{gives_kept}
 
 -- g has other exits, pairs and messages given
@@ -29,8 +29,7 @@ module _ {A G : Type 0} (graph : Graph G) (q : ℕ) (f g : Found A) where
 
   -- the messages taken are the same
   pub taken_left : (k : NumberedMessage) → HasTaken f k → HasTaken left_to k
-  taken_left (numbered_entry from a) h = h
-  taken_left (numbered_summary s a b) h = h
+  taken_left = taken_as f left_to (λ a. refl) (λ c. refl)
 
   module _ (es : List Triple) (a v b : ℕ) (is_left : b ≡ left graph.globals v) (sound : IsSound graph q f es) (there : Member (triple a 0 v) es)
       (keys : g.pairs.keys ≡ f.pairs.keys ++ pair a b ∷ [])

@@ -1,5 +1,5 @@
 -- Messages that compare as equal are the same.
-use Rattle.std.proofs.Common.{zero, suc, take, drop, ◌≡◌, ◌≤◌, ◌<◌, ◌+◌, ℕ, Bool, true, false, ◌&&◌, nat_eq, List, [], ◌∷◌, ◌++◌, length, if◌then◌else◌, inl, inr, refl, sym, ap, ◌∙◌, subst, true≢false, ◌||◌, not, Result, Ok, Err, arith}
+use Rattle.std.proofs.Common.{zero, suc, take, drop, ◌≡◌, ◌≤◌, ◌<◌, ◌+◌, ℕ, Bool, true, false, ◌&&◌, nat_eq, List, [], ◌∷◌, ◌++◌, length, if◌then◌else◌, inl, inr, refl, sym, ap, ◌∙◌, subst, true≢false, not, Result, Ok, Err, arith}
 use Rattle.std.proofs.lemmas.List.{take-append-drop, take-append-le, length-take-le}
 use Rattle.std.specs.Result.{IfOk, OnErr}
 use Rattle.std.specs.Bool.{OnTrue, OnFalse}
@@ -8,6 +8,7 @@ use Rattle.std.proofs.lemmas.Map.Views.{exact_unsigned_eq}
 use Rattle.language.specs.Flow.{Member}
 use Rattle.language.proofs.Members.{member_left, member_right, member_append}
 use Rattle.path_sets.specs.Triples.{NoneTwice}
+use Rattle.path_sets.proofs.Keys.{found_is_in, is_found}
 use Rattle.indexmap.specs.IndexSet.{insert_key}
 use Rattle.summaries.specs.declared.due.Caller.{Caller}
 use Rattle.summaries.specs.declared.due.Caller.TheVariants.{Starter, Proc}
@@ -49,26 +50,6 @@ same_mail x y e = by x.to y.to x.due y.due e
         λ j. mail (exact_unsigned_eq s t r.0 j) (Summary (exact_unsigned_eq p q k.0 j) (exact_unsigned_eq a b l.0 j) (exact_unsigned_eq u v l.1 j))
     by s t (Entry c a) (Summary q b v) e = absurd (true≢false (sym (both (nat_eq s t) false e).1))
     by s t (Summary p a u) (Entry d b) e = absurd (true≢false (sym (both (nat_eq s t) false e).1))
-
-module _ {K : Type 0} (eq : K → K → Bool) where
-  -- a key that is found is in the list, where equal keys are the same
-  pub found_is_in : ((x y : K) → eq x y ≡ true → x ≡ y) → (k : K) (ks : List K) → list_any (eq k) ks ≡ true → Member k ks
-  found_is_in same k [] h = absurd (true≢false (sym h))
-  found_is_in same k (x ∷ xs) h = by (eq k x) refl h (found_is_in same k xs)
-    where
-      by : (b : Bool) → eq k x ≡ b → (b || list_any (eq k) xs) ≡ true → (list_any (eq k) xs ≡ true → Member k xs) → Member k (x ∷ xs)
-      by true e h rest = inl (same k x e)
-      by false e h rest = inr (rest h)
-
-  -- a key that is in the list is found
-  pub is_found : ((x : K) → eq x x ≡ true) → (k : K) (ks : List K) → Member k ks → list_any (eq k) ks ≡ true
-  is_found itself k [] m = elim m [ ]
-  is_found itself k (x ∷ xs) (inl e) = ap (λ b. b || list_any (eq k) xs) (ap (eq k) (sym e) ∙ itself k)
-  is_found itself k (x ∷ xs) (inr m) = by (eq k x) (is_found itself k xs m)
-    where
-      by : (b : Bool) → list_any (eq k) xs ≡ true → (b || list_any (eq k) xs) ≡ true
-      by true rest = refl
-      by false rest = rest
 
 module _ {K : Type 0} (eq : K → K → Bool) (k : K) (ks after : List K) (added : Bool) (tells : added ≡ not (list_any (eq k) ks)) (keys : after ≡ insert_key eq ks k) where
   -- a key that is new stands behind the others

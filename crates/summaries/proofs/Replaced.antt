@@ -1,8 +1,7 @@
 -- A list in which one item is replaced, or that has one more.
 use Rattle.std.proofs.Common.{◌≡◌, ◌<◌, ◌⊎◌, ℕ, zero, suc, List, [], ◌∷◌, ◌++◌, map, length, Some, slice_get, slice_set, inl, inr, refl, sym, ap, subst, arith}
-use Rattle.std.proofs.lemmas.Option.{none-some}
+use Rattle.std.proofs.lemmas.Option.{none-some, same_Some}
 use Rattle.language.specs.Flow.{Member}
-use Rattle.summaries.proofs.Indexed.{same_inside}
 
 module _ {A : Type 0} where
   -- the item is there
@@ -14,7 +13,7 @@ module _ {A : Type 0} where
   -- what is there is the item, or was there before
   pub set_get : (xs : List A) (i q : ℕ) (y x : A) → slice_get (slice_set xs i y) q ≡ Some x → ((q ≡ i) × (x ≡ y)) ⊎ ((q ≡ i → ⊥) × (slice_get xs q ≡ Some x))
   set_get [] i q y x e = absurd (none-some x e)
-  set_get (z ∷ zs) zero zero y x e = inl (refl, sym (same_inside y x e))
+  set_get (z ∷ zs) zero zero y x e = inl (refl, sym (same_Some y x e))
   set_get (z ∷ zs) zero (suc q) y x e = inr (λ h. omega (arith, h), e)
   set_get (z ∷ zs) (suc i) zero y x e = inr (λ h. omega (arith, h), e)
   set_get (z ∷ zs) (suc i) (suc q) y x e =
@@ -34,7 +33,7 @@ module _ {A : Type 0} where
 
   -- what is there in a list with one more item is that item, or was there before
   pub pushed_get : (xs : List A) (y : A) (q : ℕ) (x : A) → slice_get (xs ++ y ∷ []) q ≡ Some x → ((q ≡ length xs) × (x ≡ y)) ⊎ (slice_get xs q ≡ Some x)
-  pushed_get [] y zero x e = inl (refl, sym (same_inside y x e))
+  pushed_get [] y zero x e = inl (refl, sym (same_Some y x e))
   pushed_get [] y (suc q) x e = absurd (none-some x e)
   pushed_get (z ∷ zs) y zero x e = inr e
   pushed_get (z ∷ zs) y (suc q) x e = elim (pushed_get zs y q x e) [ inl h ↦ inl (ap suc h.0, h.1) | inr h ↦ inr h ]
@@ -54,14 +53,14 @@ module _ {A : Type 0} where
   map_is f [] (y ∷ ys) long each = absurd (omega (arith, long))
   map_is f (x ∷ xs) [] long each = absurd (omega (arith, long))
   map_is f (x ∷ xs) (y ∷ ys) long each =
-      let first : f x ≡ y = sym (same_inside y (f x) (each 0 x refl)) in
+      let first : f x ≡ y = sym (same_Some y (f x) (each 0 x refl)) in
       let rest : map f xs ≡ ys = map_is f xs ys (omega (arith, long)) (λ q z e. each (suc q) z e) in
       λ j. first j ∷ rest j
 
   -- an item that is there is a member
   pub got_member : (xs : List A) (q : ℕ) (x : A) → slice_get xs q ≡ Some x → Member x xs
   got_member [] q x e = absurd (none-some x e)
-  got_member (y ∷ ys) zero x e = inl (sym (same_inside y x e))
+  got_member (y ∷ ys) zero x e = inl (sym (same_Some y x e))
   got_member (y ∷ ys) (suc q) x e = inr (got_member ys q x e)
 
   pub member_got : (xs : List A) (x : A) → Member x xs → (q : ℕ) × (slice_get xs q ≡ Some x) × (q < length xs)

@@ -1,9 +1,9 @@
 -- The steps of a tabulation.
-use Rattle.std.proofs.Common.{◌≡◌, ◌<◌, ◌≤◌, ◌+◌, ◌-◌, ◌*◌, ◌++◌, ℕ, zero, suc, List, [], ◌∷◌, Some, None, map, slice_get, slice_set, length, inl, inr, refl, sym, ap, ◌∙◌, subst, arith, length-append, get_or}
+use Rattle.std.proofs.Common.{◌≡◌, ◌<◌, ◌≤◌, ◌+◌, ◌-◌, ◌*◌, ◌++◌, ℕ, List, [], ◌∷◌, Some, None, map, option_map, slice_get, slice_set, length, inl, inr, refl, sym, ap, ◌∙◌, subst, arith, length-append, get_or}
 use Rattle.std.proofs.Common.{Result, Ok, Err, OnOk}
 use Rattle.std.specs.Result.{IsErrAnd}
 use Rattle.std.specs.List.{sum_by}
-use Rattle.std.proofs.lemmas.Option.{none-some, get_or_from_slice_get, slice_get_within}
+use Rattle.std.proofs.lemmas.Option.{none-some, get_or_from_slice_get, slice_get_within, slice_get-map}
 use Rattle.std.proofs.lemmas.List.{length-map}
 use Rattle.std.proofs.lemmas.Nat.{mul-add-lt}
 use Rattle.std.proofs.Math.Nat.{mul_comm}
@@ -18,7 +18,7 @@ use Rattle.flow_graph.specs.Flows.{code}
 use Rattle.flow_graph.specs.Graphs.{AreDrawnFrom, IsGraph}
 use Rattle.flow_graph.specs.Numbers.{NumberedMessage, numbered_entry, numbered_summary, IsNumberOf, Sends}
 use Rattle.flow_graph.proofs.Coding.{coded_zeros}
-use Rattle.flow_graph.proofs.Taking.{edges_reached, due_sent}
+use Rattle.flow_graph.proofs.Taking.{there_too, edges_reached, due_sent}
 use Rattle.flow_graph.proofs.Pairs.{edge_numbers}
 use Rattle.summaries.specs.declared.due.Caller.TheVariants.{Starter, Proc}
 use Rattle.summaries.specs.declared.due.Due.{Due}
@@ -35,7 +35,6 @@ use Rattle.summaries.specs.Tables.{sent, IsTable, IsQuiet, StaysAs, TookAlso, To
 use Rattle.summaries.specs.Tabulated.{no_verdict, HasMoreEdges}
 use Rattle.summaries.specs.Together.{opening, graph_of, IsReceived, IsTaken, HaveLimit, AreNew, AreTables, AreQuietBefore}
 use Rattle.summaries.proofs.Replaced.{get_set, set_get}
-use Rattle.summaries.proofs.Indexed.{same_inside}
 use Rattle.summaries.proofs.Sweeping.{same_taken, same_taken_back, Becomes, replaced}
 
 -- the numbers of a message
@@ -50,17 +49,9 @@ is_opening (numbered_entry starter a) e = let same : a ≡ 0 = cc in ap (numbere
 is_opening (numbered_entry (caller q) a) e = let no : ⊥ = cc in absurd no
 is_opening (numbered_summary s a b) e = let no : ⊥ = cc in absurd no
 
--- as many in one list as in another: there is a second item where there is a first
-pub there_too : {X Y : Type 0} (xs : List X) (ys : List Y) (q : ℕ) (x : X) → length xs ≡ length ys → slice_get xs q ≡ Some x → (y : Y) × (slice_get ys q ≡ Some y)
-there_too [] ys q x h e = absurd (none-some x e)
-there_too (z ∷ zs) [] q x h e = absurd (omega (arith, h))
-there_too (z ∷ zs) (y ∷ ys) zero x h e = (y, refl)
-there_too (z ∷ zs) (y ∷ ys) (suc q) x h e = there_too zs ys q x (omega (arith, h)) e
-
+-- the image of what is there is there
 pub get_map : {X Y : Type 0} (f : X → Y) (xs : List X) (q : ℕ) (x : X) → slice_get xs q ≡ Some x → slice_get (map f xs) q ≡ Some (f x)
-get_map f [] q x e = absurd (none-some x e)
-get_map f (z ∷ zs) zero x e = ap (λ y. Some (f y)) (same_inside z x e)
-get_map f (z ∷ zs) (suc q) x e = get_map f zs q x e
+get_map f xs q x e = slice_get-map f xs q ∙ ap (option_map f) e
 
 module _ {G A S : Type 0} (members : S → List Triple) (p : Program) (Aside : Mail → Type 0) (ts : List (Table G A S)) (are : AreTables members p Aside ts) where
   -- as many tables as procedures

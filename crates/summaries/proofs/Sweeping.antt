@@ -1,7 +1,7 @@
 -- What tables hold together where one of them takes or answers a message.
 use Rattle.std.proofs.Common.{◌≡◌, ◌⊎◌, ℕ, zero, suc, List, [], ◌∷◌, Some, None, slice_get, slice_set, inl, inr, sym, ap, ◌∙◌, subst}
 use Rattle.std.proofs.Math.Seq.{map-set_same}
-use Rattle.std.proofs.lemmas.Option.{get_or_from_slice_get}
+use Rattle.std.proofs.lemmas.Option.{get_or_from_slice_get, same_Some}
 use Rattle.language.specs.Step.{Program}
 use Rattle.language.specs.Sequential.{IsDue}
 use Rattle.language.specs.Flow.{Member}
@@ -17,7 +17,6 @@ use Rattle.summaries.specs.Found.{call, call_eq, HasTaken}
 use Rattle.summaries.specs.Tables.{sent, IsTable, StaysAs, TookSame}
 use Rattle.summaries.specs.Together.{opening, graph_of, IsTaken, IsReceived, HaveLimit, AreTables}
 use Rattle.summaries.proofs.Replaced.{set_get, each_then}
-use Rattle.summaries.proofs.Indexed.{same_inside}
 use Rattle.std.proofs.Common.{nat_eq}
 
 -- what is taken stays so where the same was taken
@@ -33,7 +32,7 @@ module _ {G A S : Type 0} where
   pub taken_stays : (ts : List (Table G A S)) (i : ℕ) (t t' : Table G A S) → slice_get ts i ≡ Some t → ((k : NumberedMessage) → HasTaken t.found k → HasTaken t'.found k)
       → (q : ℕ) (k : NumberedMessage) → IsTaken (slice_get ts q) k → IsTaken (slice_get (slice_set ts i t') q) k
   taken_stays [] i t t' is keeps q k h = absurd h
-  taken_stays (x ∷ xs) zero t t' is keeps zero k h = keeps k (subst (λ (z : Table G A S). HasTaken z.found k) (same_inside x t is) h)
+  taken_stays (x ∷ xs) zero t t' is keeps zero k h = keeps k (subst (λ (z : Table G A S). HasTaken z.found k) (same_Some x t is) h)
   taken_stays (x ∷ xs) zero t t' is keeps (suc q) k h = h
   taken_stays (x ∷ xs) (suc i) t t' is keeps zero k h = h
   taken_stays (x ∷ xs) (suc i) t t' is keeps (suc q) k h = taken_stays xs i t t' is keeps q k h

@@ -1,6 +1,6 @@
 -- Where no table owes a message, the tables have the entries, the pairs and the path edges of their procedures.
 use Rattle.std.proofs.Common.{◌≡◌, ◌<◌, ◌↔◌, ℕ, nat_eq, zero, suc, true, List, [], ◌∷◌, Option, Some, None, map, slice_get, length, inl, inr, refl, sym, subst, arith}
-use Rattle.std.proofs.lemmas.Option.{none-some, slice_get_within}
+use Rattle.std.proofs.lemmas.Option.{none-some, slice_get_within, same_Some}
 use Rattle.language.specs.Step.{Program}
 use Rattle.language.specs.Sequential.{Caller, starter, caller, Valuation, IsDue, Entered}
 use Rattle.language.specs.Flow.{Member}
@@ -11,7 +11,7 @@ use Rattle.round_rewrite.specs.Law.{SomeBad}
 use Rattle.flow_graph.specs.Bits.{bit_of}
 use Rattle.flow_graph.specs.Numbers.{NumberedMessage, numbered_entry, Reaches, Sends, Leaves, IsNumberOf, IsNumberOfEntry, AreNumbersOfEdge, AreNumbersOfPair}
 use Rattle.flow_graph.specs.declared.graph.Graph.{Graph}
-use Rattle.flow_graph.proofs.Taking.{edges_taken}
+use Rattle.flow_graph.proofs.Taking.{there_too, edges_taken}
 use Rattle.flow_graph.proofs.Pairs.{edge_numbers, pairs_left, bad_left, entries_taken}
 use Rattle.summaries.specs.declared.due.Caller as callers
 use Rattle.summaries.specs.declared.due.Caller.TheVariants.{Starter, Proc}
@@ -25,8 +25,7 @@ use Rattle.summaries.specs.Tables.{IsQuiet}
 use Rattle.summaries.specs.Tabulated.{IsSummary, HasMoreEdges}
 use Rattle.summaries.specs.Together.{graph_of, IsTaken, HaveLimit, IsReadOff, AreReadOff, AreTables, AreQuietBefore}
 use Rattle.summaries.proofs.Once.{no_longer}
-use Rattle.summaries.proofs.Steps.{there_too, get_map, as_many}
-use Rattle.summaries.proofs.Indexed.{same_inside}
+use Rattle.summaries.proofs.Steps.{get_map, as_many}
 
 -- each caller has its number
 caller_is : (by : callers.Caller) → (from : Caller) × (caller_of from ≡ by)
@@ -41,7 +40,7 @@ first_too (y ∷ ys) q x e = (y, refl)
 -- what is among the images at a place is the image of what is there
 got_map : {X Y : Type 0} (f : X → Y) (xs : List X) (q : ℕ) (y : Y) → slice_get (map f xs) q ≡ Some y → (x : X) × (slice_get xs q ≡ Some x) × (y ≡ f x)
 got_map f [] q y e = absurd (none-some y e)
-got_map f (x ∷ xs) zero y e = (x, refl, sym (same_inside (f x) y e))
+got_map f (x ∷ xs) zero y e = (x, refl, sym (same_Some (f x) y e))
 got_map f (x ∷ xs) (suc q) y e = got_map f xs q y e
 
 -- below the length there is an item

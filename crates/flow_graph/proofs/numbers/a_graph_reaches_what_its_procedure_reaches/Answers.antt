@@ -2,7 +2,7 @@ use Rattle.std.proofs.Common.{map}
 use Rattle.language.specs.Flow.{Member}
 use Rattle.flow_graph.specs.Numbers.{by_numbers}
 use Rattle.flow_graph.proofs.Reaching.{reaches_numbers}
-use Rattle.flow_graph.proofs.Taking.{member_map, map_member}
+use Rattle.language.proofs.Members.{member_map, map_member}
 use Rattle.flow_graph.proofs.numbers.a_graph_reaches_what_its_procedure_reaches.Goals as goal
 
 pub returns : goal.returns

@@ -1,10 +1,9 @@
 -- One summary more is that of the next table.
 use Rattle.std.proofs.Common.{◌≡◌, ◌∷◌, [], Some, length, slice_get, refl, sym, ap, ◌∙◌, subst, arith, length-append}
-use Rattle.std.proofs.lemmas.Option.{slice_get_read}
+use Rattle.std.proofs.lemmas.Option.{slice_get_read, same_Some}
 use Rattle.summaries.specs.declared.summaries.Summary.{Summary}
 use Rattle.summaries.specs.declared.table.Table.{Table}
 use Rattle.summaries.specs.Together.{IsReadOff}
-use Rattle.summaries.proofs.Indexed.{same_inside}
 use Rattle.summaries.proofs.Replaced.{each_pushed}
 use Rattle.summaries.proofs.reading.read.Goals as goal
 
@@ -28,6 +27,6 @@ loop-table-preserved g c =
       read = λ q t s is_t is_s.
           each_pushed (λ n (u : Summary g.row.A.Denot). (v : Table g.row.G.Denot g.row.A.Denot g.row.S.Denot) → slice_get tables n ≡ Some v → IsReadOff v u) before new
           (λ n u is_u v is_v. invariant.read n v u is_v is_u)
-          (λ v is_v. subst (λ (w : Table g.row.G.Denot g.row.A.Denot g.row.S.Denot). IsReadOff w new) (same_inside table v (sym is ∙ ap (slice_get tables) (sym invariant.count) ∙ is_v)) read)
+          (λ v is_v. subst (λ (w : Table g.row.G.Denot g.row.A.Denot g.row.S.Denot). IsReadOff w new) (same_Some table v (sym is ∙ ap (slice_get tables) (sym invariant.count) ∙ is_v)) read)
           q s (subst (λ l. slice_get l q ≡ Some s) pushed is_s) t is_t;
     }

@@ -1,13 +1,12 @@
 -- The pair that is found has the bit; where none is found, no pair of the first procedure has it.
 use Rattle.std.proofs.Common.{◌≡◌, ◌≤◌, true, Some, slice_get, get_or, inl, inr, refl, sym, ap, ◌∙◌, subst, arith, true≢false}
 use Rattle.std.proofs.Math.Nat.{eq-or-lt_of_le}
-use Rattle.std.proofs.lemmas.Option.{slice_get-get_or, get_or_from_slice_get}
+use Rattle.std.proofs.lemmas.Option.{slice_get-get_or, get_or_from_slice_get, same_Some}
 use Rattle.language.specs.Flow.{Member}
 use Rattle.flow_graph.specs.Bits.{bit_of}
 use Rattle.summaries.specs.declared.pair.Pair.{Pair}
 use Rattle.summaries.specs.declared.summaries.Summary.{Summary}
 use Rattle.summaries.specs.Found.{pair}
-use Rattle.summaries.proofs.Indexed.{same_inside}
 use Rattle.summaries.proofs.Replaced.{got_member, member_got}
 use Rattle.summaries.proofs.summaries.Summaries.bad.Given.{Over}
 use Rattle.summaries.proofs.summaries.Summaries.bad.Goals as goal
@@ -46,7 +45,7 @@ returns g c = (
   λ h.
       let (summary, is, found) = h in
       let (a, b, m, bit) = found in
-      let same = same_inside summary c.in-Some.main.now (sym is ∙ main_is g (goal.at.returns g c).In-Some) in
+      let same = same_Some summary c.in-Some.main.now (sym is ∙ main_is g (goal.at.returns g c).In-Some) in
       let (q, there, below) = member_got c.deref-pair-items.result.now (pair a b) (subst (Member (pair a b)) (ap (λ (s : Summary g.row.A.Denot). s.pairs.items) same ∙ sym c.deref-pair-items.ensures.value) m) in
       absurd (c.loop-pair.invariant q (pair a b) (omega (arith, below, c.loop-pair-test.false)) there bit),
 )

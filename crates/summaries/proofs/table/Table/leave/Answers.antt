@@ -2,12 +2,13 @@ use Rattle.std.proofs.Common.{◌≡◌, ◌∷◌, [], nat_eq, inl, refl, sym, 
 use Rattle.language.specs.Flow.{Member}
 use Rattle.language.proofs.Members.{member_right}
 use Rattle.path_sets.specs.Triples.{triple}
+use Rattle.path_sets.proofs.Keys.{found_is_in}
 use Rattle.summaries.specs.declared.found.Found.{Found}
 use Rattle.summaries.specs.Under.{under}
 use Rattle.summaries.specs.Found.{pair, pair_eq}
 use Rattle.summaries.specs.Grows.{Gives, Each, IsTold, triple_of}
 use Rattle.summaries.proofs.Adding.{same_pair}
-use Rattle.summaries.proofs.Mails.{inserted_new, inserted_known, found_is_in, sent_still}
+use Rattle.summaries.proofs.Mails.{inserted_new, inserted_known, sent_still}
 use Rattle.summaries.proofs.Leaving.{leave_step}
 use Rattle.summaries.proofs.Stepping.{still_sound, still_complete, same_step}
 use Rattle.summaries.proofs.table.Table.leave.Goals as goal
