@@ -55,4 +55,3 @@ mapped f x xs ys (there y us vs i) = there (f y) (map f us) (map f vs) (mapped f
 pub at_end : {A : Type 0} (x : A) (xs : List A) → Inserts x xs (xs ++ x ∷ [])
 at_end x [] = here []
 at_end x (y ∷ ys) = there y ys (ys ++ x ∷ []) (at_end x ys)
-
