@@ -1,4 +1,5 @@
 pub mod Limits
+pub mod Line
 pub mod Written
 pub mod Rewritten
 pub mod Verdict

@@ -1,14 +1,20 @@
 //! What the words of the command line ask for.
-ghost use Rattle.std.specs.Prelude.{IfOk, IfSome};
+ghost use Rattle.std.specs.Prelude.{◌≡◌, false, List, map, IfErr, IfOk, IfSome, Some};
+ghost use Rattle.std.specs.String.{string_bytes};
+ghost use Rattle.clap.specs.Words.{Row, Text, app_of, kind_of, rule_of, subcommand_rows_of};
 ghost use Rattle.cli.specs.Limits.{IsWithinLimits};
+ghost use Rattle.cli.specs.Line as line;
 
 use crate::asked::{LineFault, Order};
 use clap::error::ErrorKind;
-use clap::{Arg, Command, Error, value_parser};
+use clap::{Arg, ArgMatches, Command, Error, value_parser};
 use std::alloc::{AllocError, Global};
 
 /// The argument FILE.
-fn file<'a>(alloc: Global) -> Arg<'a> {
+fn file<'a>(alloc: Global) -> Arg<'a>
+    ensures rule { rule_of result ≡ line.file }
+    ensures local { result.global ≡ false }
+{
     Arg::new(alloc, "file")
         .value_name("FILE")
         .help("The text of a program")
@@ -16,15 +22,22 @@ fn file<'a>(alloc: Global) -> Arg<'a> {
 }
 
 /// The option `--rounds`.
-fn rounds<'a>(alloc: Global) -> Arg<'a> {
+fn rounds<'a>(alloc: Global) -> Arg<'a>
+    ensures rule { rule_of result ≡ line.rounds }
+    ensures local { result.global ≡ false }
+{
     Arg::new(alloc, "rounds")
         .long("rounds")
         .value_name("K")
+        .help("How many rounds: 1 to 4")
         .value_parser(value_parser!(u8).range(1..=4))
 }
 
 /// The option `--edges`.
-fn edges<'a>(alloc: Global) -> Arg<'a> {
+fn edges<'a>(alloc: Global) -> Arg<'a>
+    ensures rule { rule_of result ≡ line.edges }
+    ensures local { result.global ≡ false }
+{
     Arg::new(alloc, "edges")
         .long("edges")
         .value_name("N")
@@ -34,19 +47,17 @@ fn edges<'a>(alloc: Global) -> Arg<'a> {
 }
 
 /// The command line of bebopk.
-fn command<'a>(alloc: Global) -> Result<Command<'a>, AllocError> {
+fn command<'a>(alloc: Global) -> Result<Command<'a>, AllocError>
+    ensures { IfOk result (λ c. app_of c ≡ line.bebopk) }
+{
     let check = Command::new(alloc, "check")
         .about("Answers whether some run of at most K rounds fails an assert")
-        .arg(
-            rounds(alloc)
-                .help("How many rounds: 1 to 4")
-                .default_value("2"),
-        )?
+        .arg(rounds(alloc).default_value("2"))?
         .arg(edges(alloc))?
         .arg(file(alloc))?;
     let sequential = Command::new(alloc, "sequential")
         .about("Prints the sequential program that K rounds are rewritten to")
-        .arg(rounds(alloc).help("How many rounds: 1 to 4").required(true))?
+        .arg(rounds(alloc).required(true))?
         .arg(file(alloc))?;
     Command::new(alloc, "bebopk")
         .about("Checks concurrent Boolean programs")
@@ -56,7 +67,9 @@ fn command<'a>(alloc: Global) -> Result<Command<'a>, AllocError> {
 }
 
 /// The fault that an error of `clap` is.
-fn fault_of(alloc: Global, error: &Error) -> LineFault {
+fn fault_of(alloc: Global, error: &Error) -> LineFault
+    ensures { line.IsOfKind (kind_of error.now) result }
+{
     let kind = error.kind();
     if kind == ErrorKind::OutOfMemory {
         return LineFault::Memory;
@@ -71,7 +84,8 @@ fn fault_of(alloc: Global, error: &Error) -> LineFault {
 
 /// The order of this name with these values; `None` only of those that the command line lets nobody give.
 fn order_of(name: &str, rounds: u8, edges: Option<u32>) -> Option<Order>
-    ensures { IfSome result IsWithinLimits }
+    ensures limits { IfSome result IsWithinLimits }
+    ensures named { IfSome result (λ order. line.IsNamed name.now rounds edges order) }
 {
     if rounds < 1 || rounds > 4 {
         return None;
@@ -85,30 +99,36 @@ fn order_of(name: &str, rounds: u8, edges: Option<u32>) -> Option<Order>
     }
 }
 
-/// The order and the file that the words give, the program's own name first.
-pub fn order(alloc: Global, words: &[String]) -> Result<(Order, String), LineFault>
-    ensures limits { IfOk result (λ o. IsWithinLimits o.0) }
+/// The order and the file of what was found for the words; `None` only of what the command line lets nobody give.
+fn asked<'a>(matches: &ArgMatches<'a>) -> Option<(Order, &'a str)>
+    ensures limits { IfSome result (λ o. IsWithinLimits o.0) }
+    ensures orders { IfSome result (λ o. (command : Text × List Row) × (subcommand_rows_of matches.now ≡ Some command) × line.Orders command o.0 o.1.now) }
 {
-    let command = match command(alloc) {
-        Ok(command) => command,
-        Err(_) => return Err(LineFault::Memory),
+    let (name, found) = matches.subcommand()?;
+    let rounds = found.get_one::<u8>("rounds")?;
+    let file = found.get_str("file")?;
+    let order = order_of(name, rounds, found.get_one::<u32>("edges"))?;
+    Some((order, file))
+}
+
+/// The order and the file that the command line gives for the words, the program's own name first, or why it gives none.
+pub fn order(alloc: Global, words: &[String]) -> Result<(Order, String), LineFault>
+    ensures asks { IfOk result (λ o. line.AskFor (map string_bytes words.now) o.0 (string_bytes o.1)) }
+    ensures limits { IfOk result (λ o. IsWithinLimits o.0) }
+    ensures refuses { IfErr result (λ why. line.Refuses (map string_bytes words.now) why) }
+{
+    let Ok(command) = command(alloc) else {
+        return Err(LineFault::Memory);
     };
     let matches = match command.try_get_matches_from(words) {
         Ok(matches) => matches,
         Err(error) => return Err(fault_of(alloc, &error)),
     };
-    let Some((name, asked)) = matches.subcommand() else {
+    let Some((order, path)) = asked(&matches) else {
         return Err(LineFault::Memory);
     };
-    let (Some(rounds), Some(file)) = (asked.get_one::<u8>("rounds"), asked.get_str("file")) else {
-        return Err(LineFault::Memory);
-    };
-    let edges = asked.get_one::<u32>("edges");
-    let Some(order) = order_of(name, rounds, edges) else {
-        return Err(LineFault::Memory);
-    };
-    match String::from_str(alloc, file) {
-        Ok(file) => Ok((order, file)),
+    match String::from_str(alloc, path) {
+        Ok(path) => Ok((order, path)),
         Err(_) => Err(LineFault::Memory),
     }
 }

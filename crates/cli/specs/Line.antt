@@ -1,0 +1,78 @@
+-- The command line of bebopk, and what words ask for by it.
+use Rattle.std.specs.Prelude.{◌≡◌, ◌≢◌, ◌⊎◌, ⊤, ℕ, List, [], ◌∷◌, Option, Some, true, pos, codes}
+use Rattle.std.specs.Str.Parse.{IsNumeral, digits_value, without_leading_plus}
+use Rattle.clap.specs.Simple.{on_top}
+use Rattle.clap.specs.Words.{App, IsAmong, Row, Rule, Text, fault_of, first_of, new_app, new_rule, one_of, subcommand_of, with_rule, with_subcommand}
+use Rattle.clap.specs.declared.builder.value_parser.ValueParser.TheVariants.{Signed}
+use Rattle.clap.specs.declared.error.kind.ErrorKind.{ErrorKind}
+use Rattle.clap.specs.declared.error.kind.ErrorKind.TheVariants as kind
+use Rattle.cli.specs.declared.asked.LineFault.{LineFault}
+use Rattle.cli.specs.declared.asked.LineFault.TheVariants.{Help, Memory, Refused}
+use Rattle.cli.specs.declared.asked.Order.{Order}
+use Rattle.cli.specs.declared.asked.Order.TheVariants.{Check, Sequential}
+
+-- an option that takes a number from 1 to the greatest one
+abbrev pub number_up_to : ℕ → Text → Rule
+number_up_to most name = record (new_rule name) { long = Some name; value_names = 1; parser = Some (Signed (pos 1) (pos most)) }
+
+abbrev pub rounds : Rule
+rounds = number_up_to 4 (codes "rounds")
+
+abbrev pub edges : Rule
+edges = record (number_up_to 16777216 (codes "edges")) { defaults = codes "1000000" ∷ [] }
+
+abbrev pub file : Rule
+file = record (new_rule (codes "file")) { value_names = 1; required = true }
+
+-- check [--rounds K] [--edges N] FILE
+abbrev pub check : App
+check = with_rule (with_rule (with_rule (new_app (codes "check")) (record rounds { defaults = codes "2" ∷ [] })) edges) file
+
+-- sequential --rounds K FILE
+abbrev pub sequential : App
+sequential = with_rule (with_rule (new_app (codes "sequential")) (record rounds { required = true })) file
+
+-- bebopk check .., or bebopk sequential ..
+abbrev pub bebopk : App
+bebopk = with_subcommand (with_subcommand (on_top (λ s. record s { subcommand_required = true }) (new_app (codes "bebopk"))) check.top) sequential.top
+
+-- The value that was found for this option, given or by default, reads as the number.
+abbrev pub Reads : List Row → Text → ℕ → Type 0
+Reads rows id n = (t : Text) × (one_of id rows ≡ Some t) × IsNumeral 10 (without_leading_plus t) × (digits_value 10 (without_leading_plus t) ≡ n)
+
+-- A command of this name, with what was found for its options, is the order.
+abbrev pub Gives : Text → List Row → Order → Type 0
+Gives name rows (Check k n) = (name ≡ codes "check") × Reads rows (codes "rounds") k × Reads rows (codes "edges") n
+Gives name rows (Sequential k) = (name ≡ codes "sequential") × Reads rows (codes "rounds") k
+
+-- A command of this name with these numbers is the order.
+abbrev pub IsNamed : Text → ℕ → Option ℕ → Order → Type 0
+IsNamed name k n (Check rounds edges) = (name ≡ codes "check") × (rounds ≡ k) × (n ≡ Some edges)
+IsNamed name k n (Sequential rounds) = (name ≡ codes "sequential") × (rounds ≡ k)
+
+-- What was found for a command is this order on this file.
+abbrev pub Orders : Text × List Row → Order → Text → Type 0
+Orders command order path = Gives command.0 command.1 order × (first_of (codes "file") command.1 ≡ Some path)
+
+-- The command line takes the words, the program's own name first, and gives this order on this file for them.
+pub record AskFor (words : List Text) (order : Order) (path : Text) : Type 0 where
+  pub taken : fault_of bebopk words ≡ []
+  pub command : Text × List Row
+  pub met : subcommand_of bebopk words ≡ Some command
+  pub orders : Orders command order path
+
+-- What is said of this kind is no fault of the words.
+abbrev pub IsShown : ErrorKind → Type 0
+IsShown k = (k ≡ kind.DisplayHelp) ⊎ (k ≡ kind.DisplayVersion)
+
+-- An error of this kind is the fault.
+abbrev pub IsOfKind : ErrorKind → LineFault → Type 0
+IsOfKind k (Help text) = IsShown k × (k ≢ kind.OutOfMemory)
+IsOfKind k (Refused text) = ¬ IsShown k × (k ≢ kind.OutOfMemory)
+IsOfKind k Memory = ⊤
+
+-- The command line does not take the words: help is asked for, or they have another fault. Memory may run out at any words.
+abbrev pub Refuses : List Text → LineFault → Type 0
+Refuses words (Help text) = (k : ErrorKind) × IsAmong k (fault_of bebopk words) × IsShown k
+Refuses words (Refused text) = (k : ErrorKind) × IsAmong k (fault_of bebopk words) × ¬ IsShown k
+Refuses words Memory = ⊤
