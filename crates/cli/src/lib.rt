@@ -14,6 +14,3 @@ pub use answers::{answer, no_memory};
 pub use asked::{LineFault, Order};
 pub use line::order;
 pub use reply::Reply;
-
-#[cfg(test)]
-mod tests;

@@ -8,8 +8,6 @@
 mod ends;
 mod ordered;
 mod path_set;
-#[cfg(test)]
-mod tests;
 
 pub use ordered::OrderedEdges;
 pub use path_set::PathSet;

@@ -19,11 +19,7 @@ mod summaries;
 mod table;
 mod table_fault;
 mod tabulation;
-#[cfg(test)]
-mod tabulation_tests;
 mod tell;
-#[cfg(test)]
-mod tests;
 mod work;
 
 pub use due::{Caller, Due};

@@ -1,5 +1,0 @@
-mod RestLemmas
-mod StepLemmas
-mod RoundLemmas
-mod EntryLemmas
-mod JumpLemmas

@@ -1,0 +1,46 @@
+//! One case.
+
+use crate::beginnings::beginnings;
+use crate::refused::{ALL, in_turn};
+use crate::text::bytes_of;
+use crate::words::{asked, print_fault, print_order};
+use cli::{Order, Reply, answer};
+use std::alloc::Allocator;
+use std::io::{self, Write};
+
+/// Prints the answer to a case.
+pub fn answered<R: Print + AllocGlobal>(rt: &R, line: &str) -> io::Result<()> {
+    if line.is_empty() || line.starts_with('#') {
+        return Ok(());
+    }
+    match line.split_once(" | ") {
+        Some((words, text)) => to_text(rt, words, text),
+        None => print_order(rt, line),
+    }
+}
+
+/// Prints the answer to words, with how they are to be asked in front, and a text.
+fn to_text<R: Print + AllocGlobal>(rt: &R, words: &str, text: &str) -> io::Result<()> {
+    let (how, words) = words.split_once(": ").unwrap_or(("", words));
+    let text = bytes_of(rt.alloc(), text)?;
+    match asked(rt.alloc(), words) {
+        Ok((order, _file)) => print_how(rt, how, text.as_slice(), order),
+        Err(fault) => print_fault(rt, &fault),
+    }
+}
+
+/// Prints the answer to an order, asked in one of the ways of the table in `main.rt`.
+fn print_how<R: Print + AllocGlobal>(rt: &R, how: &str, text: &[u8], order: Order) -> io::Result<()> {
+    match how.split_once(" allocation") {
+        Some((count, _)) => in_turn(rt, count.parse::<u64>().unwrap_or(ALL), text, order),
+        None if how == "each beginning" => beginnings(rt, text, order),
+        None if how == "status" => println!(rt; "{}", answer(rt, text, order).status),
+        None => print_reply(rt, &answer(rt, text, order)),
+    }
+}
+
+/// Prints a reply, its status first.
+pub fn print_reply<R: Print + Alloc, A: Allocator>(rt: &R, reply: &Reply<A>) -> io::Result<()> {
+    print!(rt; "{} ", reply.status)?;
+    io::writer(rt).write_all(reply.bytes.as_slice())
+}

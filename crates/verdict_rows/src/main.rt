@@ -1,0 +1,31 @@
+//! Rows of the command line: each line of the standard input is a case, and is printed again with what is answered to it.
+//!
+//! | Line | What is printed under it |
+//! |---|---|
+//! | `WORDS` | the order that the words of the command line give, or why they give none |
+//! | `WORDS \| TEXT` | the status and the reply to that text |
+//! | `status: WORDS \| TEXT` | the status alone |
+//! | `each beginning: WORDS \| TEXT` | the replies to its beginnings, the lengths of one reply in a row together |
+//! | `each allocation: WORDS \| TEXT` | the reply, where with allocation N refused, for each N, it is that one or `no verdict: memory` |
+//! | `200 allocations: WORDS \| TEXT` | the same for the first so many |
+//!
+//! A line that begins with `#` is a heading, and has no answer. A text may use the shorthand of `text.rt`.
+#![tactic(auto)]
+
+mod beginnings;
+mod case;
+mod refused;
+mod text;
+mod words;
+
+use std::io::{self, BufRead, BufReader};
+
+fn main(rt: HostRuntime) -> io::Result<()> {
+    let input = BufReader::new(rt.alloc(), rt.reader())?;
+    for line in input.lines(rt.alloc()) {
+        let line = line?;
+        println!(rt; "{line}")?;
+        case::answered(&rt, line.as_str())?;
+    }
+    Ok(())
+}

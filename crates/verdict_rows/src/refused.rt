@@ -1,0 +1,67 @@
+//! Each allocation refused in turn.
+
+use crate::case::print_reply;
+use cli::{Order, answer};
+use scarce::Scarce;
+use std::alloc::Global;
+use std::io;
+
+/// More allocations than any case makes.
+pub const ALL: u64 = 100_000;
+
+/// A runtime that has nothing but a scarce allocator.
+#[derive(Drop)]
+struct Refusing<'a>(&'a Scarce<Global>);
+
+impl<'a> Alloc for Refusing<'a> {
+    type A = &'a Scarce<Global>;
+
+    fn alloc(&self) -> &'a Scarce<Global> {
+        self.0
+    }
+}
+
+/// What came of one allocation refused.
+#[derive(Clone, Copy, Debug, PartialEq, Eq)]
+enum Came {
+    /// No allocation was refused, and the reply is the one without refusal.
+    Whole,
+    /// That reply, or the one for want of memory.
+    Either,
+    /// Another reply.
+    Other,
+}
+
+/// What comes where the allocation of this number is refused.
+fn refusing(alloc: Global, nth: u64, text: &[u8], order: Order, whole: &[u8]) -> Came {
+    let scarce = Scarce::refusing(alloc, nth);
+    let reply = answer(&Refusing(&scarce), text, order);
+    let bytes = reply.bytes.as_slice();
+    match (bytes == whole, scarce.refused()) {
+        (true, false) => Came::Whole,
+        (true, true) => Came::Either,
+        (false, true) if bytes == b"no verdict: memory\n".as_slice() => Came::Either,
+        (false, _) => Came::Other,
+    }
+}
+
+/// Prints the reply without refusal, where each allocation up to `most` that is refused leaves it or leads to `no verdict: memory`.
+pub fn in_turn<R: Print + AllocGlobal>(
+    rt: &R,
+    most: u64,
+    text: &[u8],
+    order: Order,
+) -> io::Result<()> {
+    let reply = answer(rt, text, order);
+    let mut came = Came::Either;
+    for nth in 1..=most {
+        came = refusing(rt.alloc(), nth, text, order, reply.bytes.as_slice());
+        if came != Came::Either {
+            break;
+        }
+    }
+    if came == Came::Other || most == ALL && came != Came::Whole {
+        return rt.print("another reply\n");
+    }
+    print_reply(rt, &reply)
+}

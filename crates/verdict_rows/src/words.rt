@@ -1,0 +1,42 @@
+//! Words of the command line.
+
+use cli::{LineFault, Order, order};
+use std::alloc::{AllocError, Global};
+use std::io;
+
+/// The order and the file of a line of words behind the program's name, or why there are none.
+pub fn asked(alloc: Global, line: &str) -> Result<(Order, String), LineFault> {
+    match split(alloc, line) {
+        Ok(words) => order(alloc, words.as_slice()),
+        Err(_) => Err(LineFault::Memory),
+    }
+}
+
+/// The words of a line, the program's name first.
+fn split(alloc: Global, line: &str) -> Result<Vec<String>, AllocError> {
+    let mut words = Vec::new(alloc);
+    words.push(String::from_str(alloc, "bebopk")?)?;
+    for word in line.split_whitespace() {
+        words.push(String::from_str(alloc, word)?)?;
+    }
+    Ok(words)
+}
+
+/// Prints the order that words give.
+pub fn print_order<R: Print + AllocGlobal>(rt: &R, line: &str) -> io::Result<()> {
+    match asked(rt.alloc(), line) {
+        Ok((Order::Check { rounds, edges }, file)) => println!(rt; "check {rounds} {edges} {file}"),
+        Ok((Order::Sequential { rounds }, file)) => println!(rt; "sequential {rounds} {file}"),
+        Err(fault) => print_fault(rt, &fault),
+    }
+}
+
+/// Prints why words give no order.
+pub fn print_fault<R: Print>(rt: &R, fault: &LineFault) -> io::Result<()> {
+    match fault {
+        LineFault::Help(text) if text.as_str().contains("check") => rt.print("help\n"),
+        LineFault::Refused(why) if !why.is_empty() => rt.print("refused: line\n"),
+        LineFault::Help(_) | LineFault::Refused(_) => rt.print("without a reason\n"),
+        LineFault::Memory => rt.print("no verdict: memory\n"),
+    }
+}
