@@ -5,43 +5,56 @@ use crate::refused_table::refused_table;
 use crate::sets::{keeps_each, steps};
 use crate::tables::messages;
 use crate::whole::{refused_summaries, summaries};
+use std::alloc::{AllocError, Global};
 use std::io;
 use summaries::EdgeLimit;
 
-/// Prints what comes of a case.
-pub fn answered<R: Print + AllocGlobal>(rt: &R, line: &str) -> io::Result<()> {
-    match line.split_once(": ") {
-        Some(("each allocation", line)) => refused(rt, line),
-        _ => plain(rt, line),
+/// Prints a line, and what comes of it; of a heading nothing does.
+pub fn print<R: Print + AllocGlobal>(rt: &R, line: &str) -> io::Result<()> {
+    println!(rt; "{line}")?;
+    let mut out = String::new(rt.alloc());
+    let answered = answer(rt.alloc(), &mut out, line);
+    match out.as_str().trim_end() {
+        _ if answered.is_err() => println!(rt; "no memory"),
+        "" => Ok(()),
+        text => println!(rt; "{text}"),
     }
 }
 
-/// Prints what comes of a case with ample memory.
-fn plain<R: Print + AllocGlobal>(rt: &R, line: &str) -> io::Result<()> {
+/// Writes what comes of a line.
+fn answer(alloc: Global, out: &mut String, line: &str) -> Result<(), AllocError> {
+    match line.split_once(": ") {
+        Some(("each allocation", line)) => refused(alloc, out, line),
+        _ => plain(alloc, out, line),
+    }
+}
+
+/// Writes what comes of a case with ample memory.
+fn plain(alloc: Global, out: &mut String, line: &str) -> Result<(), AllocError> {
     let (head, text) = line.split_once(" | ").unwrap_or((line, ""));
     match head.split_once(' ') {
-        Some(("limit", number)) => limit(rt, number),
-        Some(("set", words)) => steps(rt, words),
-        Some(("summaries", numbers)) => summaries(rt, first_word(numbers), text),
-        Some(("table", rest)) => messages(rt, rest, text),
+        Some(("limit", number)) => limit(out, number),
+        Some(("set", words)) => steps(alloc, out, words),
+        Some(("summaries", numbers)) => summaries(alloc, out, first_word(numbers), text),
+        Some(("table", rest)) => messages(alloc, out, rest, text),
         _ => Ok(()),
     }
 }
 
-/// Prints what comes of a case whose allocations are refused in turn.
-fn refused<R: Print + AllocGlobal>(rt: &R, line: &str) -> io::Result<()> {
+/// Writes what comes of a case whose allocations are refused in turn.
+fn refused(alloc: Global, out: &mut String, line: &str) -> Result<(), AllocError> {
     let (head, text) = line.split_once(" | ").unwrap_or((line, ""));
     match head.split_once(' ') {
-        Some(("summaries", numbers)) => refused_summaries(rt, first_word(numbers), text),
-        Some(("table", rest)) => refused_table(rt, rest, text),
-        _ => keeps_each(rt),
+        Some(("summaries", numbers)) => refused_summaries(alloc, out, first_word(numbers), text),
+        Some(("table", rest)) => refused_table(alloc, out, rest, text),
+        _ => write!(out, "{}", keeps_each(alloc)),
     }
 }
 
-/// Prints whether a limit may be this number.
-fn limit<R: Print>(rt: &R, number: &str) -> io::Result<()> {
+/// Writes whether a limit may be this number.
+fn limit(out: &mut String, number: &str) -> Result<(), AllocError> {
     match EdgeLimit::new(number.parse::<u32>().unwrap_or(0)) {
-        Some(limit) => println!(rt; "{}", limit.edges()),
-        None => rt.print("no limit\n"),
+        Some(limit) => write!(out, "{}", limit.edges()),
+        None => write!(out, "no limit"),
     }
 }

@@ -1,16 +1,15 @@
 //! A table that is refused memory.
 
-ghost use Rattle.std.specs.Prelude.{◌≡◌};
+ghost use Rattle.std.specs.Prelude.{◌<◌, length};
 ghost use Rattle.summaries.specs.Tables.{IsTable};
 
-use crate::fields::first_word;
+use crate::fields::{first, first_word};
 use crate::graphed::rewritten;
 use crate::tables::{message_of, take};
 use flow_graph::{Graphs, graphs};
 use path_sets::{OrderedEdges, PathSet};
 use scarce::Scarce;
-use std::alloc::{Allocator, Global};
-use std::io;
+use std::alloc::{AllocError, Allocator, Global};
 use summaries::{Due, EdgeLimit, Table, TableFault};
 
 /// The table takes a message and answers all that it then owes.
@@ -22,7 +21,7 @@ fn worked<G: Allocator, A: Allocator + Copy, S: PathSet<A>>(
     ensures { IsTable S.members table.new }
 {
     take(table, due)?;
-    for _turn in 0..1000u32 {
+    'turns: for _turn in 0..1000u32 {
         if table.next()?.is_none() {
             break;
         }
@@ -47,52 +46,62 @@ fn stays<G: Allocator, A: Allocator + Copy, S: PathSet<A>>(
         && table.next() == Err(TableFault::Memory)
 }
 
-/// Works a table with the allocation of this number refused: whether it was, and whether the table then stays failed.
-fn refusing(
-    alloc: Global,
-    nth: u64,
-    graphs: &Graphs<Global>,
+/// Works a table with the allocation of this number refused: whether it was, and whether the table then stays failed. Its edges
+/// are kept in a set of the type `S`.
+fn came_of<'a, G: Allocator, S: PathSet<&'a Scarce<Global>>>(
+    scarce: &'a Scarce<Global>,
+    graphs: &Graphs<G>,
     procedure: u8,
     due: Due,
     limit: EdgeLimit,
-) -> (bool, bool) {
-    if procedure as usize >= graphs.len() {
-        return (false, false);
-    }
-    let scarce = Scarce::refusing(alloc, nth);
-    let mut table: Table<'_, _, _, OrderedEdges<_>> = Table::new(&scarce, graphs, procedure, limit);
+) -> (bool, bool)
+    requires { procedure < length graphs.now.graphs.items }
+{
+    let mut table: Table<'_, G, &'a Scarce<Global>, S> = Table::new(
+        scarce, graphs, procedure, limit,
+    );
     let done = worked(&mut table, due);
-    let refused = scarce.refused();
-    (refused, stays(&mut table, done, refused, due))
+    let was_refused = scarce.refused();
+    (was_refused, stays(&mut table, done, was_refused, due))
 }
 
-/// Prints whether the table of a procedure that was refused memory answers so from then on.
-fn of_graphs<R: Print + AllocGlobal>(
-    rt: &R,
-    graphs: &Graphs<Global>,
-    procedure: u8,
-    due: Due,
-) -> io::Result<()> {
-    let Some(limit) = EdgeLimit::new(1000) else {
-        return Ok(());
+/// Whether the table of a procedure that was refused memory answers so from then on.
+fn of_graphs(alloc: Global, graphs: &Graphs<Global>, procedure: u64, due: Due) -> &'static str {
+    let (Ok(procedure), Some(limit)) = (u8::try_from(procedure), EdgeLimit::new(1000)) else {
+        return "no such procedure";
     };
+    if procedure as usize >= graphs.len() {
+        return "no such procedure";
+    }
     for nth in 1..400u64 {
-        match refusing(rt.alloc(), nth, graphs, procedure, due, limit) {
+        let scarce = Scarce::refusing(alloc, nth);
+        match came_of::<_, OrderedEdges<_>>(&scarce, graphs, procedure, due, limit) {
             (true, true) => {}
-            (false, true) if nth > 5 => return rt.print("fails for want of memory, and stays so\n"),
-            _ => return println!(rt; "another answer at {nth}"),
+            (false, true) if nth > 5 => return "fails for want of memory, and stays so",
+            _ => return "another answer",
         }
     }
-    rt.print("too many allocations\n")
+    "too many allocations"
 }
 
-/// Prints it for a procedure, rounds and one message, and a text.
-pub fn refused_table<R: Print + AllocGlobal>(rt: &R, asked: &str, text: &str) -> io::Result<()> {
+/// Writes it for a procedure, rounds and one message, and a text.
+pub fn refused_table(
+    alloc: Global,
+    out: &mut String,
+    asked: &str,
+    text: &str,
+) -> Result<(), AllocError> {
     let (procedure, rest) = first_word(asked);
     let (rounds, word) = rest.split_once(": ").unwrap_or((rest, ""));
-    let Some(sequential) = rewritten(rt.alloc(), text, rounds.parse::<u8>().unwrap_or(0)) else {
-        return rt.print("not rewritten\n");
+    let Some(sequential) = rewritten(alloc, text, first(rounds).0) else {
+        return write!(out, "not rewritten");
     };
-    let graphs = graphs(&rt.alloc(), &sequential)?;
-    of_graphs(rt, &graphs, procedure as u8, message_of(word))
+    match graphs(&alloc, &sequential) {
+        Ok(graphs) => write!(
+            out,
+            "{}",
+            of_graphs(alloc, &graphs, procedure, message_of(word))
+        ),
+        Err(_) => Err(AllocError),
+    }
 }

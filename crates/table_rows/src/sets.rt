@@ -4,7 +4,6 @@ use crate::fields::first;
 use path_sets::{OrderedEdges, PathSet};
 use scarce::Scarce;
 use std::alloc::{AllocError, Allocator, Global};
-use std::io;
 
 /// The triple of three numbers with points between them.
 fn triple_of(text: &str) -> (u64, usize, u64) {
@@ -28,30 +27,42 @@ fn contains<A: Allocator, S: PathSet<A>>(set: &S, edge: (u64, usize, u64)) -> bo
     set.contains(edge.0, edge.1, edge.2)
 }
 
-/// Prints what each step on an empty set answers.
-pub fn steps<R: Print + AllocGlobal>(rt: &R, words: &str) -> io::Result<()> {
-    let mut set: OrderedEdges<Global> = PathSet::empty(rt.alloc());
-    steps_on(rt, &mut set, words)
+/// Writes what each step on an empty set answers.
+pub fn steps(alloc: Global, out: &mut String, words: &str) -> Result<(), AllocError> {
+    steps_of::<_, OrderedEdges<_>>(alloc, out, words)
 }
 
-/// Prints what each step on a set answers.
-fn steps_on<R: Print, A: Allocator, S: PathSet<A>>(
-    rt: &R,
-    set: &mut S,
+/// Writes what each step on an empty set of the type `S` answers.
+fn steps_of<A: Allocator, S: PathSet<A>>(
+    alloc: A,
+    out: &mut String,
     words: &str,
-) -> io::Result<()> {
+) -> Result<(), AllocError> {
+    let mut set = S::empty(alloc);
     for word in words.split_whitespace() {
-        if let Some(edge) = word.strip_prefix('+') {
-            let new = insert(set, triple_of(edge))?;
-            rt.print(if new { "new " } else { "known " })?;
-        } else if let Some(edge) = word.strip_prefix('?') {
-            let is_member = contains(set, triple_of(edge));
-            rt.print(if is_member { "in " } else { "out " })?;
-        } else {
-            print!(rt; "{} ", set.len())?;
-        }
+        step(&mut set, out, word)?;
     }
-    rt.print("\n")
+    Ok(())
+}
+
+/// Writes what a step on a set answers.
+fn step<A: Allocator, S: PathSet<A>>(
+    set: &mut S,
+    out: &mut String,
+    word: &str,
+) -> Result<(), AllocError> {
+    if let Some(edge) = word.strip_prefix('+') {
+        match insert(set, triple_of(edge)) {
+            Ok(true) => write!(out, "new "),
+            Ok(false) => write!(out, "known "),
+            Err(_) => write!(out, "refused "),
+        }
+    } else if let Some(edge) = word.strip_prefix('?') {
+        let is_member = contains(set, triple_of(edge));
+        write!(out, "{}", if is_member { "in " } else { "out " })
+    } else {
+        write!(out, "{} ", set.len())
+    }
 }
 
 /// An edge at one of 7 points with one of 9 entries; 400 different ones, and then the first ones again.
@@ -78,7 +89,9 @@ fn keeps<A: Allocator, S: PathSet<A>>(set: &mut S, number: u64) -> Result<bool, 
     let (added, kept) = match insert(set, edge) {
         Ok(added) => (added, true),
         Err(_) => {
-            let kept = set.len() == before && contains(set, edge) == known && has_before(set, number);
+            let kept = set.len() == before
+                && contains(set, edge) == known
+                && has_before(set, number);
             (insert(set, edge)?, kept)
         }
     };
@@ -96,17 +109,38 @@ fn keeps_all<A: Allocator, S: PathSet<A>>(set: &mut S) -> Result<bool, AllocErro
     Ok(true)
 }
 
-/// Prints whether a set keeps its edges, whichever of its allocations is refused.
-pub fn keeps_each<R: Print + AllocGlobal>(rt: &R) -> io::Result<()> {
+/// What comes of 420 insertions with the allocation of this number refused.
+#[derive(Clone, Copy, PartialEq, Eq)]
+enum Came {
+    /// No allocation was refused, and the set kept its edges.
+    Whole,
+    /// One was refused, and the set kept its edges.
+    Kept,
+    /// The set lost an edge, or took memory while it was empty.
+    Lost,
+}
+
+/// What comes of it in a set of the type `S`.
+fn came_of<'a, S: PathSet<&'a Scarce<Global>>>(scarce: &'a Scarce<Global>) -> Came {
+    let mut set = S::empty(scarce);
+    let is_free = scarce.asked() == 0;
+    match keeps_all(&mut set) {
+        Ok(true) if is_free && scarce.refused() => Came::Kept,
+        Ok(true) if is_free => Came::Whole,
+        _ => Came::Lost,
+    }
+}
+
+/// Whether a set keeps its edges, whichever of its allocations is refused.
+pub fn keeps_each(alloc: Global) -> &'static str {
     for nth in 1..1000u64 {
-        let scarce = Scarce::refusing(rt.alloc(), nth);
-        let mut set: OrderedEdges<&Scarce<Global>> = PathSet::empty(&scarce);
-        if scarce.asked() > 0 || !keeps_all(&mut set)? {
-            return println!(rt; "lost at {nth}");
-        }
-        if !scarce.refused() {
-            return rt.print(if nth > 20 { "kept\n" } else { "few allocations\n" });
+        let scarce = Scarce::refusing(alloc, nth);
+        match came_of::<OrderedEdges<_>>(&scarce) {
+            Came::Kept => {}
+            Came::Whole if nth > 20 => return "kept",
+            Came::Whole => return "few allocations",
+            Came::Lost => return "lost",
         }
     }
-    rt.print("too many allocations\n")
+    "too many allocations"
 }

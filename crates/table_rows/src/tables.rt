@@ -3,44 +3,54 @@
 ghost use Rattle.std.specs.Prelude.{◌≡◌};
 ghost use Rattle.summaries.specs.Tables.{IsTable};
 
-use crate::fields::{first, first_word};
+use crate::fields::{first, first_word, procedure};
 use crate::graphed::rewritten;
 use flow_graph::{Graphs, graphs};
 use path_sets::{OrderedEdges, PathSet};
 use std::alloc::{AllocError, Allocator, Global};
-use std::io;
 use summaries::{Caller, Due, EdgeLimit, Table, TableFault};
 
 /// The message that a word stands for.
 pub fn message_of(word: &str) -> Due {
     match word.strip_prefix('s') {
         Some(numbers) => {
-            let (p, numbers) = first(numbers);
-            let (a, numbers) = first(numbers);
-            let b = first(numbers).0;
-            Due::Summary { p: p as u8, a, b }
+            let (p, numbers) = procedure(numbers);
+            let (a, b) = first(numbers);
+            Due::Summary {
+                p,
+                a,
+                b: first(b).0,
+            }
         }
         None => {
-            let (caller, valuation) = word.split_once('.').unwrap_or((word, ""));
-            let caller = caller.parse::<u8>().map_or(Caller::Starter, Caller::Proc);
-            let a = first(valuation).0;
-            Due::Entry { caller, a }
+            let (caller, a) = word.split_once('.').unwrap_or((word, ""));
+            let a = first(a).0;
+            match caller.parse::<u8>() {
+                Ok(p) => Due::Entry {
+                    caller: Caller::Proc(p),
+                    a,
+                },
+                Err(_) => Due::Entry {
+                    caller: Caller::Starter,
+                    a,
+                },
+            }
         }
     }
 }
 
-/// A message in the words of the cases.
-fn word_of(alloc: Global, due: Due) -> Result<String, AllocError> {
+/// A message behind its receiver, in the words of the cases.
+fn word_of(alloc: Global, to: u8, due: Due) -> Result<String, AllocError> {
     match due {
         Due::Entry {
             caller: Caller::Starter,
             a,
-        } => format!(in alloc; "S.{a}"),
+        } => format!(in alloc; "{to}<S.{a}"),
         Due::Entry {
             caller: Caller::Proc(p),
             a,
-        } => format!(in alloc; "{p}.{a}"),
-        Due::Summary { p, a, b } => format!(in alloc; "s{p}.{a}.{b}"),
+        } => format!(in alloc; "{to}<{p}.{a}"),
+        Due::Summary { p, a, b } => format!(in alloc; "{to}<s{p}.{a}.{b}"),
     }
 }
 
@@ -58,7 +68,7 @@ pub fn take<G: Allocator, A: Allocator + Copy, S: PathSet<A>>(
     }
 }
 
-/// All that the table owes, each message behind its receiver, in the order of the words.
+/// All that the table owes, in the order of the words.
 fn owed<G: Allocator, A: Allocator + Copy, S: PathSet<A>>(
     alloc: Global,
     table: &mut Table<'_, G, A, S>,
@@ -67,79 +77,80 @@ fn owed<G: Allocator, A: Allocator + Copy, S: PathSet<A>>(
     ensures { IsTable S.members table.new }
 {
     let mut words = Vec::new(alloc);
-    for _turn in 0..1000u32 {
-        match table.next() {
-            Ok(Some((to, due))) => {
-                let word = word_of(alloc, due)?;
-                words.push(format!(in alloc; "{to}<{word}")?)?;
-            }
-            Ok(None) => break,
-            Err(_) => return Err(AllocError),
-        }
+    'turns: for _turn in 0..1000u32 {
+        let Ok(Some((to, due))) = table.next() else {
+            break;
+        };
+        words.push(word_of(alloc, to, due)?)?;
     }
     words.sort()?;
     Ok(words)
 }
 
-/// Prints what the table owes after a message.
-fn print_owed<R: Print + AllocGlobal, G: Allocator, A: Allocator + Copy, S: PathSet<A>>(
-    rt: &R,
-    table: &mut Table<'_, G, A, S>,
-    word: &str,
-) -> io::Result<()>
-    requires { IsTable S.members table.old }
-    ensures { IsTable S.members table.new }
-{
-    print!(rt; "{word}:")?;
-    if take(table, message_of(word)).is_err() {
-        return rt.print(" fault\n");
-    }
-    let words = owed(rt.alloc(), table)?;
-    for word in &words {
-        print!(rt; " {word}")?;
-    }
-    rt.print("\n")
-}
-
-/// Prints what the table owes after each message.
-fn print_each<R: Print + AllocGlobal, G: Allocator, A: Allocator + Copy, S: PathSet<A>>(
-    rt: &R,
-    table: &mut Table<'_, G, A, S>,
-    words: &str,
-) -> io::Result<()>
-    requires { IsTable S.members table.old }
-{
-    for word in words.split_whitespace() {
-        print_owed(rt, table, word)?;
+/// Writes some words, each behind a blank.
+fn write_words(out: &mut String, words: &[String]) -> Result<(), AllocError> {
+    for word in words {
+        write!(out, " {word}")?;
     }
     Ok(())
 }
 
-/// Prints what the table of a procedure owes after each message.
-fn of_graphs<R: Print + AllocGlobal>(
-    rt: &R,
-    graphs: &Graphs<Global>,
-    procedure: u8,
-    words: &str,
-) -> io::Result<()> {
-    let Some(limit) = EdgeLimit::new(1000) else {
-        return Ok(());
-    };
-    if procedure as usize >= graphs.len() {
-        return rt.print("no such procedure\n");
+/// Writes what the table owes after a message.
+fn write_owed<G: Allocator, A: Allocator + Copy, S: PathSet<A>>(
+    alloc: Global,
+    out: &mut String,
+    table: &mut Table<'_, G, A, S>,
+    word: &str,
+) -> Result<(), AllocError>
+    requires { IsTable S.members table.old }
+    ensures { IsTable S.members table.new }
+{
+    write!(out, "{word}:")?;
+    if take(table, message_of(word)).is_err() {
+        return write!(out, " fault");
     }
-    let mut table: Table<'_, _, _, OrderedEdges<_>> =
-        Table::new(rt.alloc(), graphs, procedure, limit);
-    print_each(rt, &mut table, words)
+    match owed(alloc, table) {
+        Ok(words) => write_words(out, words.as_slice()),
+        Err(_) => write!(out, " no memory"),
+    }
 }
 
-/// Prints what the table of a procedure owes after each message: the procedure, the rounds and the messages, and the text.
-pub fn messages<R: Print + AllocGlobal>(rt: &R, asked: &str, text: &str) -> io::Result<()> {
+/// Writes what the table of a procedure owes after each message; its edges are kept in a set of the type `S`.
+fn of_graphs<G: Allocator, S: PathSet<Global>>(
+    alloc: Global,
+    out: &mut String,
+    graphs: &Graphs<G>,
+    procedure: u64,
+    words: &str,
+) -> Result<(), AllocError> {
+    let (Ok(procedure), Some(limit)) = (u8::try_from(procedure), EdgeLimit::new(1000)) else {
+        return Err(AllocError);
+    };
+    if procedure as usize >= graphs.len() {
+        return Err(AllocError);
+    }
+    let mut table: Table<'_, G, Global, S> = Table::new(alloc, graphs, procedure, limit);
+    'words: for word in words.split_whitespace() {
+        write_owed(alloc, out, &mut table, word)?;
+        write!(out, "\n")?;
+    }
+    Ok(())
+}
+
+/// Writes what the table of a procedure owes after each message: the procedure, the rounds and the messages, and the text.
+pub fn messages(
+    alloc: Global,
+    out: &mut String,
+    asked: &str,
+    text: &str,
+) -> Result<(), AllocError> {
     let (procedure, rest) = first_word(asked);
     let (rounds, words) = rest.split_once(": ").unwrap_or((rest, ""));
-    let Some(sequential) = rewritten(rt.alloc(), text, rounds.parse::<u8>().unwrap_or(0)) else {
-        return rt.print("not rewritten\n");
+    let Some(sequential) = rewritten(alloc, text, first(rounds).0) else {
+        return write!(out, "not rewritten");
     };
-    let graphs = graphs(&rt.alloc(), &sequential)?;
-    of_graphs(rt, &graphs, procedure as u8, words)
+    match graphs(&alloc, &sequential) {
+        Ok(graphs) => of_graphs::<_, OrderedEdges<_>>(alloc, out, &graphs, procedure, words),
+        Err(_) => Err(AllocError),
+    }
 }

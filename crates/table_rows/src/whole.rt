@@ -10,9 +10,8 @@ use flow_graph::graphs;
 use path_sets::{OrderedEdges, PathSet};
 use round_rewrite::Sequential;
 use scarce::Scarce;
-use std::alloc::{Allocator, Global};
-use std::io;
-use summaries::{EdgeLimit, NoVerdict, Summaries, tabulate};
+use std::alloc::{AllocError, Allocator, Global};
+use summaries::{EdgeLimit, NoVerdict, Pair, Summaries, tabulate};
 
 /// The summaries of a sequential program by its flow graphs; the path edges are kept in sets of the type `S`.
 fn by_graphs<A: Allocator + Copy, S: PathSet<A>>(
@@ -39,78 +38,86 @@ fn tabulated<A: Allocator + Copy, S: PathSet<A>>(
     }
 }
 
-/// Prints the summaries of a text, for rounds and path edges.
-pub fn summaries<R: Print + AllocGlobal>(
-    rt: &R,
+/// Writes the summaries of a text, for rounds and path edges.
+pub fn summaries(
+    alloc: Global,
+    out: &mut String,
     numbers: (u64, &str),
     text: &str,
-) -> io::Result<()> {
+) -> Result<(), AllocError> {
     let edges = numbers.1.parse::<u64>().unwrap_or(0);
-    let Some(sequential) = rewritten(rt.alloc(), text, numbers.0 as u8) else {
-        return rt.print("not rewritten\n");
-    };
-    match tabulated::<_, OrderedEdges<_>>(rt.alloc(), &sequential, edges) {
-        Ok(summaries) => print_all(rt, &summaries),
-        Err(why) => println!(rt; "{why:?}"),
+    match rewritten(alloc, text, numbers.0) {
+        Some(sequential) => write_summaries(alloc, out, &sequential, edges),
+        None => write!(out, "not rewritten"),
     }
 }
 
-/// Prints what each procedure does as a whole, and whether some pair of the first is bad.
-fn print_all<R: Print, A: Allocator>(rt: &R, summaries: &Summaries<A>) -> io::Result<()> {
-    for procedure in 0..summaries.len() {
-        print_one(rt, summaries, procedure as u8)?;
-    }
-    rt.print(if summaries.bad() { "bad\n" } else { "not bad\n" })
-}
-
-/// Prints the entries of a procedure and its pairs.
-fn print_one<R: Print, A: Allocator>(
-    rt: &R,
-    summaries: &Summaries<A>,
-    procedure: u8,
-) -> io::Result<()> {
-    if procedure as usize >= summaries.len() {
-        return Ok(());
-    }
-    print!(rt; "{procedure}: entered with")?;
-    for entry in summaries.entries(procedure) {
-        print!(rt; " {entry}")?;
-    }
-    print!(rt; "; pairs")?;
-    for pair in summaries.pairs(procedure) {
-        print!(rt; " {}-{}", pair.a, pair.b)?;
-    }
-    rt.print("\n")
-}
-
-/// What comes of a tabulation where an allocation is refused: whether one was, and why there are no summaries.
-fn refusing(
+/// Writes the summaries of a sequential program.
+fn write_summaries(
     alloc: Global,
-    nth: u64,
+    out: &mut String,
     sequential: &Sequential<Global>,
     edges: u64,
-) -> (bool, Option<NoVerdict>) {
-    let scarce = Scarce::refusing(alloc, nth);
-    let why = tabulated::<_, OrderedEdges<_>>(&scarce, sequential, edges).err();
-    (scarce.refused(), why)
+) -> Result<(), AllocError> {
+    match tabulated::<_, OrderedEdges<_>>(alloc, sequential, edges) {
+        Ok(summaries) => write_all(out, &summaries),
+        Err(why) => write!(out, "{why:?}"),
+    }
 }
 
-/// Prints whether each refused allocation leads to want of memory, and none to summaries.
-pub fn refused_summaries<R: Print + AllocGlobal>(
-    rt: &R,
-    numbers: (u64, &str),
-    text: &str,
-) -> io::Result<()> {
-    let edges = numbers.1.parse::<u64>().unwrap_or(0);
-    let Some(sequential) = rewritten(rt.alloc(), text, numbers.0 as u8) else {
-        return rt.print("not rewritten\n");
-    };
-    for nth in 1..400u64 {
-        match refusing(rt.alloc(), nth, &sequential, edges) {
-            (true, Some(NoVerdict::Memory)) => {}
-            (false, None) if nth > 20 => return rt.print("memory, and then summaries\n"),
-            (_, why) => return println!(rt; "at {nth}: {why:?}"),
+/// Writes what each procedure does as a whole, and whether some pair of the first is bad.
+fn write_all<A: Allocator>(out: &mut String, summaries: &Summaries<A>) -> Result<(), AllocError> {
+    for procedure in 0..=31u8 {
+        if (procedure as usize) < summaries.len() {
+            write!(out, "{procedure}: entered with")?;
+            write_entries(out, summaries.entries(procedure))?;
+            write_pairs(out, summaries.pairs(procedure))?;
         }
     }
-    rt.print("too many allocations\n")
+    write!(out, "{}", if summaries.bad() { "bad" } else { "not bad" })
+}
+
+/// Writes valuations.
+fn write_entries(out: &mut String, entries: &[u64]) -> Result<(), AllocError> {
+    for entry in entries {
+        write!(out, " {entry}")?;
+    }
+    Ok(())
+}
+
+/// Writes pairs.
+fn write_pairs(out: &mut String, pairs: &[Pair]) -> Result<(), AllocError> {
+    write!(out, "; pairs")?;
+    for pair in pairs {
+        write!(out, " {}-{}", pair.a, pair.b)?;
+    }
+    write!(out, "\n")
+}
+
+/// Writes whether each refused allocation leads to want of memory, and none to summaries.
+pub fn refused_summaries(
+    alloc: Global,
+    out: &mut String,
+    numbers: (u64, &str),
+    text: &str,
+) -> Result<(), AllocError> {
+    let edges = numbers.1.parse::<u64>().unwrap_or(0);
+    match rewritten(alloc, text, numbers.0) {
+        Some(sequential) => write!(out, "{}", refused_in_turn(alloc, &sequential, edges)),
+        None => write!(out, "not rewritten"),
+    }
+}
+
+/// What comes of a tabulation with each allocation refused in turn.
+fn refused_in_turn(alloc: Global, sequential: &Sequential<Global>, edges: u64) -> &'static str {
+    for nth in 1..400u64 {
+        let scarce = Scarce::refusing(alloc, nth);
+        let why = tabulated::<_, OrderedEdges<_>>(&scarce, sequential, edges).err();
+        match (scarce.refused(), why) {
+            (true, Some(NoVerdict::Memory)) => {}
+            (false, None) if nth > 20 => return "memory, and then summaries",
+            _ => return "another answer",
+        }
+    }
+    "too many allocations"
 }

@@ -33,7 +33,7 @@ enum Came {
 }
 
 /// What comes where the allocation of this number is refused.
-fn refusing(alloc: Global, nth: u64, text: &[u8], order: Order, whole: &[u8]) -> Came {
+fn came_of(alloc: Global, nth: u64, text: &[u8], order: Order, whole: &[u8]) -> Came {
     let scarce = Scarce::refusing(alloc, nth);
     let reply = answer(&Refusing(&scarce), text, order);
     let bytes = reply.bytes.as_slice();
@@ -55,7 +55,7 @@ pub fn in_turn<R: Print + AllocGlobal>(
     let reply = answer(rt, text, order);
     let mut came = Came::Either;
     for nth in 1..=most {
-        came = refusing(rt.alloc(), nth, text, order, reply.bytes.as_slice());
+        came = came_of(rt.alloc(), nth, text, order, reply.bytes.as_slice());
         if came != Came::Either {
             break;
         }
