@@ -30,7 +30,12 @@ fn to_text<R: Print + AllocGlobal>(rt: &R, words: &str, text: &str) -> io::Resul
 }
 
 /// Prints the answer to an order, asked in one of the ways of the table in `main.rt`.
-fn print_how<R: Print + AllocGlobal>(rt: &R, how: &str, text: &[u8], order: Order) -> io::Result<()> {
+fn print_how<R: Print + AllocGlobal>(
+    rt: &R,
+    how: &str,
+    text: &[u8],
+    order: Order,
+) -> io::Result<()> {
     match how.split_once(" allocation") {
         Some((count, _)) => in_turn(rt, count.parse::<u64>().unwrap_or(ALL), text, order),
         None if how == "each beginning" => beginnings(rt, text, order),
