@@ -2,12 +2,13 @@
 use Rattle.std.specs.Prelude.{option_and_then}
 use Rattle.std.proofs.Common.{◌≡◌, true, false, List, [], ◌∷◌, ◌++◌, Option, Some, None, refl, sym, ◌∙◌, ap}
 use Rattle.language.specs.Tree.{Name, RightSide, Block, done, skip, leave}
+use Rattle.tokens.specs.declared.vocabulary.Kind.{Kind}
 use Rattle.tokens.specs.declared.vocabulary.Kind.TheVariants as kind
 use Rattle.tokens.specs.declared.vocabulary.Token.{Token}
 use Rattle.tokens.specs.Token.{Tok, same_kind, toks_of}
 use Rattle.syntax.specs.Parser.{Parser, give, ◌>>=◌, take}
 use Rattle.syntax.specs.Trees.{Deed, simple, branch, repeat, Item, before, all_before}
-use Rattle.syntax.specs.Exact.{item_step, rest_step, starts_here, section, item, going_on, put_before, test, ended, deed, if_deed, while_deed}
+use Rattle.syntax.specs.Exact.{item_step, rest_step, starts_here, section, section_behind, item, going_on, put_before, test, ended, deed, if_deed, while_deed}
 use Rattle.syntax.proofs.Fixes.{bind_is}
 use Rattle.syntax.proofs.Sections.{section_is}
 
@@ -50,66 +51,77 @@ pub sections_end : (is : List Item) (ts : List Tok) → starts_here ts ≡ false
 unfolding going_on
 sections_end is ts e = rw e refl
 
+-- a keyword and the statements behind it, before what comes of them
+behind : {Y : Type 0} (k : Kind) (f : Block Name Name Name → Parser Y) (ts : List Tok) → (take k >>= λ _. (section >>= f)) ts ≡ (section_behind k >>= f) ts
+unfolding section_behind
+behind k f ts = by_option (take k ts)
+  where
+    by_option : (r : Option (Tok × List Tok)) → option_and_then (λ (q : Tok × List Tok). (section >>= f) q.1) r ≡ option_and_then (λ (q : Block Name Name Name × List Tok). f q.0 q.1) (option_and_then (λ (q : Tok × List Tok). section q.1) r)
+    by_option None = refl
+    by_option (Some q) = refl
+
+behind_none : {Y : Type 0} (k : Kind) (f : Block Name Name Name → Parser Y) (ts : List Tok) → section_behind k ts ≡ None → (take k >>= λ _. (section >>= f)) ts ≡ None
+behind_none k f ts e = behind k f ts ∙ rw e refl
+
+behind_some : {Y : Type 0} (k : Kind) (f : Block Name Name Name → Parser Y) (ts : List Tok) (a : Block Name Name Name) (us : List Tok) → section_behind k ts ≡ Some (a, us) → (take k >>= λ _. (section >>= f)) ts ≡ f a us
+behind_some k f ts a us e = behind k f ts ∙ bind_is (section_behind k) f ts a us e
+
 -- the steps of an `if`
 abbrev after_no : RightSide Name → Block Name Name Name → Block Name Name Name → Parser Deed
 after_no r a b = take kind.Fi >>= λ _. give (branch r a b)
 
-abbrev after_else : RightSide Name → Block Name Name Name → Parser Deed
-after_else r a = section >>= λ b. after_no r a b
-
 abbrev after_yes : RightSide Name → Block Name Name Name → Parser Deed
-after_yes r a = take kind.Else >>= λ _. after_else r a
-
-abbrev after_then : RightSide Name → Parser Deed
-after_then r = section >>= λ a. after_yes r a
+after_yes r a = take kind.Else >>= λ _. (section >>= λ b. after_no r a b)
 
 abbrev after_test : RightSide Name → Parser Deed
-after_test r = take kind.Then >>= λ _. after_then r
+after_test r = take kind.Then >>= λ _. (section >>= λ a. after_yes r a)
 
-module _ (ts : List Tok) {r : RightSide Name} {t1 t2 t3 : List Tok} {x : Tok} {a : Block Name Name Name}
-    (e1 : test ts ≡ Some (r, t1)) (e2 : take kind.Then t1 ≡ Some (x, t2)) (e3 : section t2 ≡ Some (a, t3)) where
-  if_yes : if_deed ts ≡ after_yes r a t3
+module _ (ts : List Tok) {r : RightSide Name} {t1 : List Tok} (e1 : test ts ≡ Some (r, t1)) where
+  if_test : if_deed ts ≡ after_test r t1
   unfolding if_deed
-  if_yes = bind_is test after_test ts r t1 e1 ∙ bind_is (take kind.Then) (λ _. after_then r) t1 x t2 e2 ∙ bind_is section (after_yes r) t2 a t3 e3
+  if_test = bind_is test after_test ts r t1 e1
 
-  pub if_no_else : take kind.Else t3 ≡ None → if_deed ts ≡ None
-  if_no_else e = if_yes ∙ rw e refl
+  pub if_no_yes : section_behind kind.Then t1 ≡ None → if_deed ts ≡ None
+  if_no_yes e = if_test ∙ behind_none kind.Then (after_yes r) t1 e
 
-  module _ {t4 : List Tok} {y : Tok} (e4 : take kind.Else t3 ≡ Some (y, t4)) where
-    if_else : if_deed ts ≡ after_else r a t4
-    if_else = if_yes ∙ bind_is (take kind.Else) (λ _. after_else r a) t3 y t4 e4
+  module _ {t2 : List Tok} {a : Block Name Name Name} (e2 : section_behind kind.Then t1 ≡ Some (a, t2)) where
+    if_yes : if_deed ts ≡ after_yes r a t2
+    if_yes = if_test ∙ behind_some kind.Then (after_yes r) t1 a t2 e2
 
-    pub if_no_no : section t4 ≡ None → if_deed ts ≡ None
-    if_no_no e = if_else ∙ rw e refl
+    pub if_no_no : section_behind kind.Else t2 ≡ None → if_deed ts ≡ None
+    if_no_no e = if_yes ∙ behind_none kind.Else (after_no r a) t2 e
 
-    module _ {t5 : List Tok} {b : Block Name Name Name} (e5 : section t4 ≡ Some (b, t5)) where
-      if_no : if_deed ts ≡ after_no r a b t5
-      if_no = if_else ∙ bind_is section (after_no r a) t4 b t5 e5
+    module _ {t3 : List Tok} {b : Block Name Name Name} (e3 : section_behind kind.Else t2 ≡ Some (b, t3)) where
+      if_no : if_deed ts ≡ after_no r a b t3
+      if_no = if_yes ∙ behind_some kind.Else (after_no r a) t2 b t3 e3
 
-      pub if_no_end : take kind.Fi t5 ≡ None → if_deed ts ≡ None
+      pub if_no_end : take kind.Fi t3 ≡ None → if_deed ts ≡ None
       if_no_end e = if_no ∙ rw e refl
 
-      pub if_whole : {t6 : List Tok} {z : Tok} → take kind.Fi t5 ≡ Some (z, t6) → if_deed ts ≡ Some (branch r a b, t6)
-      if_whole {t6} {z} e = if_no ∙ bind_is (take kind.Fi) (λ _. give (branch r a b)) t5 z t6 e
+      pub if_whole : {t4 : List Tok} {z : Tok} → take kind.Fi t3 ≡ Some (z, t4) → if_deed ts ≡ Some (branch r a b, t4)
+      if_whole {t4} {z} e = if_no ∙ bind_is (take kind.Fi) (λ _. give (branch r a b)) t3 z t4 e
 
 -- the steps of a `while`
 abbrev after_body : RightSide Name → Block Name Name Name → Parser Deed
 after_body r a = take kind.Od >>= λ _. give (repeat r a)
 
-abbrev after_do : RightSide Name → Parser Deed
-after_do r = section >>= λ a. after_body r a
-
-module _ (ts : List Tok) {r : RightSide Name} {t1 t2 t3 : List Tok} {x : Tok} {a : Block Name Name Name}
-    (e1 : test ts ≡ Some (r, t1)) (e2 : take kind.Do t1 ≡ Some (x, t2)) (e3 : section t2 ≡ Some (a, t3)) where
-  while_body : while_deed ts ≡ after_body r a t3
+module _ (ts : List Tok) {r : RightSide Name} {t1 : List Tok} (e1 : test ts ≡ Some (r, t1)) where
+  while_test : while_deed ts ≡ (take kind.Do >>= λ _. (section >>= after_body r)) t1
   unfolding while_deed
-  while_body = bind_is test (λ r. take kind.Do >>= λ _. after_do r) ts r t1 e1 ∙ bind_is (take kind.Do) (λ _. after_do r) t1 x t2 e2 ∙ bind_is section (after_body r) t2 a t3 e3
+  while_test = bind_is test (λ r. take kind.Do >>= λ _. (section >>= after_body r)) ts r t1 e1
 
-  pub while_no_end : take kind.Od t3 ≡ None → while_deed ts ≡ None
-  while_no_end e = while_body ∙ rw e refl
+  pub while_no_body : section_behind kind.Do t1 ≡ None → while_deed ts ≡ None
+  while_no_body e = while_test ∙ behind_none kind.Do (after_body r) t1 e
 
-  pub while_whole : {t4 : List Tok} {z : Tok} → take kind.Od t3 ≡ Some (z, t4) → while_deed ts ≡ Some (repeat r a, t4)
-  while_whole {t4} {z} e = while_body ∙ bind_is (take kind.Od) (λ _. give (repeat r a)) t3 z t4 e
+  module _ {t2 : List Tok} {a : Block Name Name Name} (e2 : section_behind kind.Do t1 ≡ Some (a, t2)) where
+    while_body : while_deed ts ≡ after_body r a t2
+    while_body = while_test ∙ behind_some kind.Do (after_body r) t1 a t2 e2
+
+    pub while_no_end : take kind.Od t2 ≡ None → while_deed ts ≡ None
+    while_no_end e = while_body ∙ rw e refl
+
+    pub while_whole : {t3 : List Tok} {z : Tok} → take kind.Od t2 ≡ Some (z, t3) → while_deed ts ≡ Some (repeat r a, t3)
+    while_whole {t3} {z} e = while_body ∙ bind_is (take kind.Od) (λ _. give (repeat r a)) t2 z t3 e
 
 -- statements of one word
 pub deed_skip : (ts us : List Token) (t : Token) → ts ≡ t ∷ us → t.kind ≡ kind.Skip → deed (toks_of ts) ≡ ended (simple skip) (toks_of us)

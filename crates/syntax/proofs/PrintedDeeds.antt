@@ -1,5 +1,5 @@
 -- Texts of what statements do, as they grow.
-use Rattle.std.proofs.Common.{◌≡◌, ℕ, ◌+◌, cond, List, [], ◌∷◌, ◌++◌, sym, ◌∙◌, ap, append_assoc, suc, add-one}
+use Rattle.std.proofs.Common.{◌≡◌, ℕ, ◌+◌, cond, List, [], ◌∷◌, ◌++◌, refl, sym, ◌∙◌, ap, append_assoc, suc, add-one}
 use Rattle.std.specs.Prelude.{Result, IfOk, is_ok}
 use Rattle.std.specs.declared.vec.Vec.{Vec}
 use Rattle.language.specs.Tree as tree
@@ -16,7 +16,7 @@ use Rattle.syntax.specs.Trees.{name_of, names_of, exprs_of, rhs_of, rhss_of, Dee
 use Rattle.syntax.specs.Printed.{name_parts, separated, expression_parts, side_parts, margin, block_parts}
 use Rattle.syntax.specs.PrintedDeed.{deed_parts}
 use Rattle.syntax.proofs.Folds.{deed_of-Assign, deed_of-Assert, deed_of-Assume, deed_of-Call, deed_of-If, deed_of-While}
-use Rattle.syntax.proofs.Appended.{four_behind}
+use Rattle.syntax.proofs.Appended.{four_behind, five_behind}
 use Rattle.syntax.proofs.Prints.{pushed_last, put_last}
 
 assign_text : (level : ℕ) (xs : List tree.Name) (rs : List (RightSide tree.Name))
@@ -71,6 +71,36 @@ while_text : (level : ℕ) (r : RightSide tree.Name) (a : Block tree.Name tree.N
     → text_of (deed_parts level (repeat r a)) ≡ (while_open ++ (text_of (side_parts r) ++ do_line)) ++ (text_of (block_parts (suc level) a) ++ (text_of (margin level) ++ od_line))
 while_text level r a = simp (text_of-append, append_assoc)
 
+module _ {A X E : Type 0} (r : Result X E) (old new s1 s2 s3 : List ℕ) where
+  pub assignment_pushed : (names : List (Name A)) (sides : List (Rhs A))
+      → s1 ≡ old ++ text_of (separated name_parts (names_of names)) → s2 ≡ s1 ++ (32 ∷ 58 ∷ 61 ∷ 32 ∷ []) → s3 ≡ s2 ++ text_of (separated side_parts (rhss_of sides))
+      → new ≡ cond (is_ok r) (s3 ++ (59 ∷ 10 ∷ [])) s3 → IfOk r (λ _. new ≡ old ++ text_of (deed_parts 0 (simple (assign (names_of names) (rhss_of sides)))))
+  assignment_pushed names sides h1 h2 h3 last =
+      pushed_last r new s3 _ _ last (rw (h3, h2, h1) (four_behind old _ _ _ _ ∙ ap (λ (t : List ℕ). old ++ t) (sym (assign_text 0 (names_of names) (rhss_of sides)))))
+
+  pub call_pushed : (p : Name A) (exprs : List (Expr A))
+      → s1 ≡ old ++ text_of (name_parts (name_of p)) → s2 ≡ s1 ++ (40 ∷ []) → s3 ≡ s2 ++ text_of (separated expression_parts (exprs_of exprs))
+      → new ≡ cond (is_ok r) (s3 ++ (41 ∷ 59 ∷ 10 ∷ [])) s3 → IfOk r (λ _. new ≡ old ++ text_of (deed_parts 0 (simple (call (name_of p) (exprs_of exprs)))))
+  call_pushed p exprs h1 h2 h3 last =
+      pushed_last r new s3 _ _ last (rw (h3, h2, h1) (four_behind old _ _ _ _ ∙ ap (λ (t : List ℕ). old ++ t) (sym (call_text 0 (name_of p) (exprs_of exprs)))))
+
+module _ {A X E : Type 0} (level inner : ℕ) (r : Result X E) (old new : List ℕ) (side : Rhs A) (xs : List (Stmt A)) (below : inner ≡ level + 1) where
+  deeper : inner ≡ suc level
+  deeper = below ∙ add-one level
+
+  pub branch_pushed : (ys : List (Stmt A)) (s1 s2 s3 s4 : List ℕ)
+      → s1 ≡ old ++ (if_open ++ (text_of (side_parts (rhs_of side)) ++ then_line)) → s2 ≡ s1 ++ text_of (block_parts inner (block_of xs))
+      → s3 ≡ s2 ++ (text_of (margin level) ++ else_line) → s4 ≡ s3 ++ text_of (block_parts inner (block_of ys))
+      → IfOk r (λ _. new ≡ s4 ++ (text_of (margin level) ++ fi_line)) → IfOk r (λ _. new ≡ old ++ text_of (deed_parts level (branch (rhs_of side) (block_of xs) (block_of ys))))
+  branch_pushed ys s1 s2 s3 s4 h1 h2 h3 h4 last =
+      put_last r new s4 _ _ last (rw (h4, h3, h2, h1, deeper) (five_behind old _ _ _ _ _ ∙ ap (λ (t : List ℕ). old ++ t) (sym (if_text level (rhs_of side) (block_of xs) (block_of ys)))))
+
+  pub loop_pushed : (s1 s2 : List ℕ)
+      → s1 ≡ old ++ (while_open ++ (text_of (side_parts (rhs_of side)) ++ do_line)) → s2 ≡ s1 ++ text_of (block_parts inner (block_of xs))
+      → IfOk r (λ _. new ≡ s2 ++ (text_of (margin level) ++ od_line)) → IfOk r (λ _. new ≡ old ++ text_of (deed_parts level (repeat (rhs_of side) (block_of xs))))
+  loop_pushed s1 s2 h1 h2 last =
+      put_last r new s2 _ _ last (rw (h2, h1, deeper) (append_assoc (old ++ (while_open ++ (text_of (side_parts (rhs_of side)) ++ do_line))) _ _ ∙ append_assoc old _ _ ∙ ap (λ (t : List ℕ). old ++ t) (sym (while_text level (rhs_of side) (block_of xs)))))
+
 module _ {A X E : Type 0} (level : ℕ) (r : Result X E) (k : Core A) (old new : List ℕ) where
   -- the text that a deed adds
   abbrev Adds : Type 0
@@ -79,19 +109,15 @@ module _ {A X E : Type 0} (level : ℕ) (r : Result X E) (k : Core A) (old new :
   deed_text : (d : Deed) (w : List ℕ) → deed_of k ≡ d → text_of (deed_parts level d) ≡ w → old ++ w ≡ old ++ text_of (deed_parts level (deed_of k))
   deed_text d w e f = ap (λ (t : List ℕ). old ++ t) (sym (ap (λ (x : Deed). text_of (deed_parts level x)) e ∙ f))
 
-  pub assigned : (xs : Vec (Name A) A) (rs : Vec (Rhs A) A) (names : List (Name A)) (sides : List (Rhs A)) (s1 s2 s3 : List ℕ)
-      → k ≡ core.Assign xs rs → names ≡ xs.items → sides ≡ rs.items
-      → s1 ≡ old ++ text_of (separated name_parts (names_of names)) → s2 ≡ s1 ++ (32 ∷ 58 ∷ 61 ∷ 32 ∷ []) → s3 ≡ s2 ++ text_of (separated side_parts (rhss_of sides))
-      → new ≡ cond (is_ok r) (s3 ++ (59 ∷ 10 ∷ [])) s3 → Adds
-  assigned xs rs names sides s1 s2 s3 is e f h1 h2 h3 last =
-      pushed_last r new s3 _ _ last (rw (h3, h2, h1, e, f) (four_behind old _ _ _ _ ∙ deed_text (simple (assign (names_of xs.items) (rhss_of rs.items))) _ (ap deed_of is ∙ deed_of-Assign xs rs) (assign_text level _ _)))
+  pub assigned : (xs : Vec (Name A) A) (rs : Vec (Rhs A) A) (names : List (Name A)) (sides : List (Rhs A)) → k ≡ core.Assign xs rs → names ≡ xs.items → sides ≡ rs.items
+      → IfOk r (λ _. new ≡ old ++ text_of (deed_parts 0 (simple (assign (names_of names) (rhss_of sides))))) → Adds
+  assigned xs rs names sides is e f last =
+      put_last r new old _ _ last (rw (e, f) (deed_text (simple (assign (names_of xs.items) (rhss_of rs.items))) _ (ap deed_of is ∙ deed_of-Assign xs rs) refl))
 
-  pub called : (p : Name A) (es : Vec (Expr A) A) (exprs : List (Expr A)) (s1 s2 s3 : List ℕ)
-      → k ≡ core.Call p es → exprs ≡ es.items
-      → s1 ≡ old ++ text_of (name_parts (name_of p)) → s2 ≡ s1 ++ (40 ∷ []) → s3 ≡ s2 ++ text_of (separated expression_parts (exprs_of exprs))
-      → new ≡ cond (is_ok r) (s3 ++ (41 ∷ 59 ∷ 10 ∷ [])) s3 → Adds
-  called p es exprs s1 s2 s3 is e h1 h2 h3 last =
-      pushed_last r new s3 _ _ last (rw (h3, h2, h1, e) (four_behind old _ _ _ _ ∙ deed_text (simple (call (name_of p) (exprs_of es.items))) _ (ap deed_of is ∙ deed_of-Call p es) (call_text level (name_of p) (exprs_of es.items))))
+  pub called : (p : Name A) (es : Vec (Expr A) A) (exprs : List (Expr A)) → k ≡ core.Call p es → exprs ≡ es.items
+      → IfOk r (λ _. new ≡ old ++ text_of (deed_parts 0 (simple (call (name_of p) (exprs_of exprs))))) → Adds
+  called p es exprs is e last =
+      put_last r new old _ _ last (rw e (deed_text (simple (call (name_of p) (exprs_of es.items))) _ (ap deed_of is ∙ deed_of-Call p es) refl))
 
   pub asserted : (side : Rhs A) → k ≡ core.Assert side → IfOk r (λ _. new ≡ old ++ (assert_open ++ (text_of (side_parts (rhs_of side)) ++ (41 ∷ 59 ∷ 10 ∷ [])))) → Adds
   asserted side is last = put_last r new old _ _ last (deed_text (simple (assert (rhs_of side))) _ (ap deed_of is ∙ deed_of-Assert side) (assert_text level (rhs_of side)))
@@ -99,19 +125,12 @@ module _ {A X E : Type 0} (level : ℕ) (r : Result X E) (k : Core A) (old new :
   pub assumed : (side : Rhs A) → k ≡ core.Assume side → IfOk r (λ _. new ≡ old ++ (assume_open ++ (text_of (side_parts (rhs_of side)) ++ (41 ∷ 59 ∷ 10 ∷ [])))) → Adds
   assumed side is last = put_last r new old _ _ last (deed_text (simple (assume (rhs_of side))) _ (ap deed_of is ∙ deed_of-Assume side) (assume_text level (rhs_of side)))
 
-  pub branched : (side : Rhs A) (a b : Vec (Stmt A) A) (xs ys : List (Stmt A)) (inner : ℕ) (s1 s2 s3 s4 : List ℕ)
-      → k ≡ core.If side a b → inner ≡ level + 1 → xs ≡ a.items → ys ≡ b.items
-      → s1 ≡ old ++ (if_open ++ (text_of (side_parts (rhs_of side)) ++ then_line)) → s2 ≡ s1 ++ text_of (block_parts inner (block_of xs))
-      → s3 ≡ s2 ++ (text_of (margin level) ++ else_line) → s4 ≡ s3 ++ text_of (block_parts inner (block_of ys))
-      → IfOk r (λ _. new ≡ s4 ++ (text_of (margin level) ++ fi_line)) → Adds
-  branched side a b xs ys inner s1 s2 s3 s4 is below e f h1 h2 h3 h4 last =
-      let deeper : inner ≡ suc level = below ∙ add-one level in
-      put_last r new s4 _ _ last (rw (h4, h3, h2, h1, e, f, deeper) (simp append_assoc (ap (λ (t : List ℕ). old ++ t) (sym (ap (λ (x : Deed). text_of (deed_parts level x)) (ap deed_of is ∙ deed_of-If side a b) ∙ if_text level _ _ _ ∙ simp append_assoc)))))
+  pub branched : (side : Rhs A) (a b : Vec (Stmt A) A) (xs ys : List (Stmt A)) → k ≡ core.If side a b → xs ≡ a.items → ys ≡ b.items
+      → IfOk r (λ _. new ≡ old ++ text_of (deed_parts level (branch (rhs_of side) (block_of xs) (block_of ys)))) → Adds
+  branched side a b xs ys is e f last =
+      put_last r new old _ _ last (rw (e, f) (deed_text (branch (rhs_of side) (block_of a.items) (block_of b.items)) _ (ap deed_of is ∙ deed_of-If side a b) refl))
 
-  pub repeated : (side : Rhs A) (a : Vec (Stmt A) A) (xs : List (Stmt A)) (inner : ℕ) (s1 s2 : List ℕ)
-      → k ≡ core.While side a → inner ≡ level + 1 → xs ≡ a.items
-      → s1 ≡ old ++ (while_open ++ (text_of (side_parts (rhs_of side)) ++ do_line)) → s2 ≡ s1 ++ text_of (block_parts inner (block_of xs))
-      → IfOk r (λ _. new ≡ s2 ++ (text_of (margin level) ++ od_line)) → Adds
-  repeated side a xs inner s1 s2 is below e h1 h2 last =
-      let deeper : inner ≡ suc level = below ∙ add-one level in
-      put_last r new s2 _ _ last (rw (h2, h1, e, deeper) (append_assoc (old ++ (while_open ++ (text_of (side_parts (rhs_of side)) ++ do_line))) _ _ ∙ append_assoc old _ _ ∙ deed_text (repeat (rhs_of side) (block_of a.items)) _ (ap deed_of is ∙ deed_of-While side a) (while_text level _ _)))
+  pub repeated : (side : Rhs A) (a : Vec (Stmt A) A) (xs : List (Stmt A)) → k ≡ core.While side a → xs ≡ a.items
+      → IfOk r (λ _. new ≡ old ++ text_of (deed_parts level (repeat (rhs_of side) (block_of xs)))) → Adds
+  repeated side a xs is e last =
+      put_last r new old _ _ last (rw e (deed_text (repeat (rhs_of side) (block_of a.items)) _ (ap deed_of is ∙ deed_of-While side a) refl))

@@ -175,6 +175,10 @@ section_step rec u = item_step (rec tt) >>= λ i. rest_step (rec tt) >>= λ k. g
 unfoldable pub section : Parser (Block Name Name Name)
 section = fix section_step tt
 
+-- a keyword, and the statements behind it
+unfoldable pub section_behind : Kind → Parser (Block Name Name Name)
+section_behind k = take k >>= λ _. section
+
 unfoldable pub deed : Parser Deed
 deed = deed_step section
 

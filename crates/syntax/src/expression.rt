@@ -74,8 +74,7 @@ impl<'a, A: Allocator + Clone> Reader<'a, A> {
                 break;
             };
             let (right, after) = self.expression(right_level_of(op), others)?;
-            let left = Box::new(self.alloc.clone()?, tree)?;
-            let right = Box::new(self.alloc.clone()?, right)?;
+            let (left, right) = self.boxed(tree, right)?;
             tree = Expr::Two(op, left, right);
             rest = after;
         }

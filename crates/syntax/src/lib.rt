@@ -23,10 +23,3 @@ pub use printed_laws::{a_loop_is_printed_over_lines, printed_texts_are_read_back
 pub use printing::print;
 pub use reading::read;
 pub use tree::{Core, Expr, Name, Op, Proc, Program, Rhs, Stmt, Thread};
-
-#[cfg(test)]
-mod broken_tests;
-#[cfg(test)]
-mod print_tests;
-#[cfg(test)]
-mod tests;

@@ -7,7 +7,7 @@ ghost use Rattle.syntax.specs.Trees.{names_of, rhs_of, rhss_of, exprs_of};
 ghost use Rattle.tokens.specs.Token.{toks_of};
 
 use crate::fault::ReadFault;
-use crate::reader::{Reader, begins};
+use crate::reader::{Reader, begins, put};
 use crate::tree::{Expr, Name, Rhs};
 use std::alloc::Allocator;
 use tokens::{Kind, Token};
@@ -36,12 +36,11 @@ impl<'a, A: Allocator + Clone> Reader<'a, A> {
         ensures shorter { IfOk result (λ p. length p.1.now < length tokens.now) }
     {
         let (first, mut rest) = self.id(tokens)?;
-        let mut list = Vec::with_capacity(self.alloc.clone()?, 1)?;
-        list.push(first)?;
+        let mut list = self.one(first)?;
         while begins(Kind::Comma, rest) {
             let (_, others) = self.take(Kind::Comma, rest)?;
             let (next, after) = self.id(others)?;
-            list.push(next)?;
+            put(&mut list, next)?;
             rest = after;
         }
         Ok((list, rest))
@@ -57,12 +56,11 @@ impl<'a, A: Allocator + Clone> Reader<'a, A> {
         ensures shorter { IfOk result (λ p. length p.1.now < length tokens.now) }
     {
         let (first, mut rest) = self.right(tokens)?;
-        let mut list = Vec::with_capacity(self.alloc.clone()?, 1)?;
-        list.push(first)?;
+        let mut list = self.one(first)?;
         while begins(Kind::Comma, rest) {
             let (_, others) = self.take(Kind::Comma, rest)?;
             let (next, after) = self.right(others)?;
-            list.push(next)?;
+            put(&mut list, next)?;
             rest = after;
         }
         Ok((list, rest))
@@ -78,12 +76,11 @@ impl<'a, A: Allocator + Clone> Reader<'a, A> {
         ensures shorter { IfOk result (λ p. length p.1.now < length tokens.now) }
     {
         let (first, mut rest) = self.expression(0, tokens)?;
-        let mut list = Vec::with_capacity(self.alloc.clone()?, 1)?;
-        list.push(first)?;
+        let mut list = self.one(first)?;
         while begins(Kind::Comma, rest) {
             let (_, others) = self.take(Kind::Comma, rest)?;
             let (next, after) = self.expression(0, others)?;
-            list.push(next)?;
+            put(&mut list, next)?;
             rest = after;
         }
         Ok((list, rest))

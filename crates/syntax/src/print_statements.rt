@@ -3,14 +3,15 @@
 ghost use Rattle.std.specs.Prelude.{◌≡◌, ◌+◌, ◌++◌, IfOk, option_map};
 ghost use Rattle.std.specs.String.{string_bytes};
 ghost use Rattle.tokens.specs.Parts.{text_of};
-ghost use Rattle.syntax.specs.Trees.{name_of, rhs_of, deed_of, block_of};
+ghost use Rattle.language.specs.Tree.{assign, goto, call};
+ghost use Rattle.syntax.specs.Trees.{name_of, names_of, exprs_of, rhs_of, rhss_of, simple, branch, repeat, deed_of, block_of};
 ghost use Rattle.syntax.specs.Printed.{side_parts, label_parts, margin, block_parts};
 ghost use Rattle.syntax.specs.PrintedDeed.{deed_parts};
 
 use crate::print_expressions::{
     print_expressions, print_name, print_names, print_side, print_sides,
 };
-use crate::tree::{Core, Name, Rhs, Stmt};
+use crate::tree::{Core, Expr, Name, Rhs, Stmt};
 use std::alloc::{AllocError, Allocator};
 
 /// The level below. No memory holds a line so far in that its level fits no number.
@@ -66,6 +67,46 @@ fn print_test<N: Allocator, A: Allocator>(
     out.push_str(behind)
 }
 
+/// Prints a jump, behind its margin and its label.
+fn print_jump<N: Allocator, A: Allocator>(
+    out: &mut String<A>,
+    label: &Name<N>,
+) -> Result<(), AllocError>
+    ensures { IfOk result (λ _. string_bytes out.new ≡ string_bytes out.old ++ text_of (deed_parts 0 (simple (goto (name_of label.now))))) }
+{
+    out.push_str("goto ")?;
+    print_name(out, label)?;
+    out.push_str(";\n")
+}
+
+/// Prints an assignment, behind its margin and its label.
+fn print_assignment<N: Allocator, A: Allocator>(
+    out: &mut String<A>,
+    targets: &[Name<N>],
+    sides: &[Rhs<N>],
+) -> Result<(), AllocError>
+    ensures { IfOk result (λ _. string_bytes out.new ≡ string_bytes out.old ++ text_of (deed_parts 0 (simple (assign (names_of targets.now) (rhss_of sides.now))))) }
+{
+    print_names(out, targets)?;
+    out.push_str(" := ")?;
+    print_sides(out, sides)?;
+    out.push_str(";\n")
+}
+
+/// Prints a call, behind its margin and its label.
+fn print_call<N: Allocator, A: Allocator>(
+    out: &mut String<A>,
+    name: &Name<N>,
+    arguments: &[Expr<N>],
+) -> Result<(), AllocError>
+    ensures { IfOk result (λ _. string_bytes out.new ≡ string_bytes out.old ++ text_of (deed_parts 0 (simple (call (name_of name.now) (exprs_of arguments.now))))) }
+{
+    print_name(out, name)?;
+    out.push_str("(")?;
+    print_expressions(out, arguments)?;
+    out.push_str(");\n")
+}
+
 /// Prints the statements of a block at this level.
 #[cycle(printing)]
 pub fn print_block<N: Allocator, A: Allocator>(
@@ -95,38 +136,47 @@ fn print_core<N: Allocator, A: Allocator>(
     match core {
         Core::Skip => out.push_str("skip;\n"),
         Core::Return => out.push_str("return;\n"),
-        Core::Goto(label) => {
-            out.push_str("goto ")?;
-            print_name(out, label)?;
-            out.push_str(";\n")
-        }
-        Core::Assign(targets, sides) => {
-            print_names(out, targets)?;
-            out.push_str(" := ")?;
-            print_sides(out, sides)?;
-            out.push_str(";\n")
-        }
-        Core::Call(name, arguments) => {
-            print_name(out, name)?;
-            out.push_str("(")?;
-            print_expressions(out, arguments)?;
-            out.push_str(");\n")
-        }
+        Core::Goto(label) => print_jump(out, label),
+        Core::Assign(targets, sides) => print_assignment(out, targets, sides),
+        Core::Call(name, arguments) => print_call(out, name, arguments),
         Core::Assert(side) => print_test(out, "assert(", side, ");\n"),
         Core::Assume(side) => print_test(out, "assume(", side, ");\n"),
-        Core::If(side, then, otherwise) => {
-            let inner = below(level)?;
-            print_test(out, "if (", side, ") then\n")?;
-            print_block(out, inner, then)?;
-            print_line(out, level, "else\n")?;
-            print_block(out, inner, otherwise)?;
-            print_line(out, level, "fi\n")
-        }
-        Core::While(side, body) => {
-            let inner = below(level)?;
-            print_test(out, "while (", side, ") do\n")?;
-            print_block(out, inner, body)?;
-            print_line(out, level, "od\n")
-        }
+        Core::If(side, then, otherwise) => print_branch(out, level, side, then, otherwise),
+        Core::While(side, body) => print_loop(out, level, side, body),
     }
+}
+
+/// Prints an `if` of this level, behind its margin and its label.
+#[cycle(printing)]
+fn print_branch<N: Allocator, A: Allocator>(
+    out: &mut String<A>,
+    level: usize,
+    side: &Rhs<N>,
+    then: &[Stmt<N>],
+    otherwise: &[Stmt<N>],
+) -> Result<(), AllocError>
+    ensures { IfOk result (λ _. string_bytes out.new ≡ string_bytes out.old ++ text_of (deed_parts level (branch (rhs_of side.now) (block_of then.now) (block_of otherwise.now)))) }
+{
+    let inner = below(level)?;
+    print_test(out, "if (", side, ") then\n")?;
+    print_block(out, inner, then)?;
+    print_line(out, level, "else\n")?;
+    print_block(out, inner, otherwise)?;
+    print_line(out, level, "fi\n")
+}
+
+/// Prints a `while` of this level, behind its margin and its label.
+#[cycle(printing)]
+fn print_loop<N: Allocator, A: Allocator>(
+    out: &mut String<A>,
+    level: usize,
+    side: &Rhs<N>,
+    body: &[Stmt<N>],
+) -> Result<(), AllocError>
+    ensures { IfOk result (λ _. string_bytes out.new ≡ string_bytes out.old ++ text_of (deed_parts level (repeat (rhs_of side.now) (block_of body.now)))) }
+{
+    let inner = below(level)?;
+    print_test(out, "while (", side, ") do\n")?;
+    print_block(out, inner, body)?;
+    print_line(out, level, "od\n")
 }

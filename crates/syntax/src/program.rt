@@ -7,7 +7,7 @@ ghost use Rattle.syntax.specs.Trees.{names_of, block_of, proc_of, procs_of, thre
 ghost use Rattle.tokens.specs.Token.{toks_of};
 
 use crate::fault::ReadFault;
-use crate::reader::{Reader, begins};
+use crate::reader::{Reader, begins, put};
 use crate::tree::{Name, Proc, Program, Stmt, Thread};
 use std::alloc::Allocator;
 use tokens::{Kind, Token};
@@ -115,12 +115,12 @@ impl<'a, A: Allocator + Clone> Reader<'a, A> {
         ensures gives { Gives (λ p. (procs_of p.0.items, toks_of p.1.now)) result (procedures (toks_of tokens.now)) }
         ensures shorter { IfOk result (λ p. length p.1.now < length tokens.now) }
     {
-        let (first, mut rest) = self.procedure(tokens)?;
         let mut list = Vec::new(self.alloc.clone()?);
-        list.push(first)?;
+        let (first, mut rest) = self.procedure(tokens)?;
+        put(&mut list, first)?;
         while begins(Kind::Id, rest) {
             let (next, after) = self.procedure(rest)?;
-            list.push(next)?;
+            put(&mut list, next)?;
             rest = after;
         }
         Ok((list, rest))
@@ -143,12 +143,12 @@ impl<'a, A: Allocator + Clone> Reader<'a, A> {
     fn threads<'t>(&self, tokens: &'t [Token<'t>]) -> Result<Vec<Thread<A>, A>, ReadFault>
         ensures gives { Gives (λ v. (threads_of v.items, [])) result (thread_lines (toks_of tokens.now)) }
     {
-        let (first, mut rest) = self.thread(tokens)?;
         let mut list = Vec::new(self.alloc.clone()?);
-        list.push(first)?;
+        let (first, mut rest) = self.thread(tokens)?;
+        put(&mut list, first)?;
         while any_left(rest) {
             let (next, after) = self.thread(rest)?;
-            list.push(next)?;
+            put(&mut list, next)?;
             rest = after;
         }
         Ok(list)

@@ -1,6 +1,6 @@
 //! What each reader of tokens needs, and the readers of single tokens.
 
-ghost use Rattle.std.specs.Prelude.{◌≡◌, ◌<◌, length, IfOk, IsOkUnless};
+ghost use Rattle.std.specs.Prelude.{◌≡◌, ◌<◌, ◌++◌, ◌∷◌, [], length, IfOk, IsOkUnless};
 ghost use Rattle.syntax.specs.Gives.{Gives};
 ghost use Rattle.syntax.specs.Parser.{begins, take};
 ghost use Rattle.syntax.specs.Exact.{name};
@@ -30,7 +30,37 @@ pub fn begins(kind: Kind, tokens: &[Token<'_>]) -> bool
     }
 }
 
+/// Puts a value behind the others.
+pub fn put<T: Drop, A: Allocator>(list: &mut Vec<T, A>, value: T) -> Result<(), ReadFault>
+    ensures ok { IfOk result (λ _. list.new.items ≡ list.old.items ++ (value ∷ [])) }
+    ensures err { IsOkUnless result ReadFault.Memory }
+{
+    list.push(value)?;
+    Ok(())
+}
+
 impl<'a, A: Allocator + Clone> Reader<'a, A> {
+    /// A list of one element, with room for no other.
+    pub fn one<T: Drop>(&self, first: T) -> Result<Vec<T, A>, ReadFault>
+        ensures ok { IfOk result (λ list. list.items ≡ first ∷ []) }
+        ensures err { IsOkUnless result ReadFault.Memory }
+    {
+        let mut list = Vec::with_capacity(self.alloc.clone()?, 1)?;
+        list.push(first)?;
+        Ok(list)
+    }
+
+    /// Two values, each in a box.
+    pub fn boxed<T: Drop>(&self, left: T, right: T) -> Result<(Box<T, A>, Box<T, A>), ReadFault>
+        ensures left { IfOk result (λ p. p.0.value ≡ left) }
+        ensures right { IfOk result (λ p. p.1.value ≡ right) }
+        ensures err { IsOkUnless result ReadFault.Memory }
+    {
+        let left = Box::new(self.alloc.clone()?, left)?;
+        let right = Box::new(self.alloc.clone()?, right)?;
+        Ok((left, right))
+    }
+
     /// Reads a token of this kind.
     pub fn take<'t>(
         &self,

@@ -2,12 +2,13 @@
 
 ghost use Rattle.std.specs.Prelude.{◌≡◌, ◌<◌, ◌≤◌, length, IfOk, option_map};
 ghost use Rattle.syntax.specs.Gives.{Gives};
-ghost use Rattle.syntax.specs.Exact.{marked, assignment, calling, jumping, asserting, assuming, ended, starts_here, section, item, deed, if_deed, while_deed};
-ghost use Rattle.syntax.specs.Trees.{name_of, deed_of, item_of, block_of};
+ghost use Rattle.syntax.specs.Exact.{marked, assignment, calling, jumping, asserting, assuming, ended, starts_here, section, section_behind, item, deed, if_deed, while_deed};
+ghost use Rattle.language.specs.Tree.{skip, leave};
+ghost use Rattle.syntax.specs.Trees.{name_of, simple, deed_of, item_of, block_of};
 ghost use Rattle.tokens.specs.Token.{tok_of, toks_of};
 
 use crate::fault::ReadFault;
-use crate::reader::{Reader, begins};
+use crate::reader::{Reader, begins, put};
 use crate::tree::{Core, Name, Stmt};
 use std::alloc::Allocator;
 use tokens::{Kind, Token};
@@ -114,17 +115,22 @@ impl<'a, A: Allocator + Clone> Reader<'a, A> {
         Ok((Core::Assume(side), rest))
     }
 
-    /// Reads the semicolon behind `skip` or `return`.
-    fn ended<'t>(
-        &self,
-        core: Core<A>,
-        tokens: &'t [Token<'t>],
-    ) -> Result<(Core<A>, &'t [Token<'t>]), ReadFault>
-        ensures gives { Gives (λ p. (deed_of p.0, toks_of p.1.now)) result (ended (deed_of core) (toks_of tokens.now)) }
+    /// Reads a `skip`, behind that word.
+    fn skipping<'t>(&self, tokens: &'t [Token<'t>]) -> Result<(Core<A>, &'t [Token<'t>]), ReadFault>
+        ensures gives { Gives (λ p. (deed_of p.0, toks_of p.1.now)) result (ended (simple skip) (toks_of tokens.now)) }
         ensures shorter { IfOk result (λ p. length p.1.now < length tokens.now) }
     {
         let (_, rest) = self.take(Kind::Semicolon, tokens)?;
-        Ok((core, rest))
+        Ok((Core::Skip, rest))
+    }
+
+    /// Reads a `return`, behind that word.
+    fn leaving<'t>(&self, tokens: &'t [Token<'t>]) -> Result<(Core<A>, &'t [Token<'t>]), ReadFault>
+        ensures gives { Gives (λ p. (deed_of p.0, toks_of p.1.now)) result (ended (simple leave) (toks_of tokens.now)) }
+        ensures shorter { IfOk result (λ p. length p.1.now < length tokens.now) }
+    {
+        let (_, rest) = self.take(Kind::Semicolon, tokens)?;
+        Ok((Core::Return, rest))
     }
 
     /// Reads statements, at least one, as long as another comes.
@@ -137,12 +143,12 @@ impl<'a, A: Allocator + Clone> Reader<'a, A> {
         ensures gives { Gives (λ p. (block_of p.0.items, toks_of p.1.now)) result (section (toks_of tokens.now)) }
         ensures shorter { IfOk result (λ p. length p.1.now < length tokens.now) }
     {
-        let (first, mut rest) = self.statement(tokens)?;
         let mut list = Vec::new(self.alloc.clone()?);
-        list.push(first)?;
+        let (first, mut rest) = self.statement(tokens)?;
+        put(&mut list, first)?;
         while begins_statement(rest) {
             let (next, after) = self.statement(rest)?;
-            list.push(next)?;
+            put(&mut list, next)?;
             rest = after;
         }
         Ok((list, rest))
@@ -174,8 +180,8 @@ impl<'a, A: Allocator + Clone> Reader<'a, A> {
             return Err(ReadFault::Syntax(self.end));
         };
         match first.kind {
-            Kind::Skip => self.ended(Core::Skip, others),
-            Kind::Return => self.ended(Core::Return, others),
+            Kind::Skip => self.skipping(others),
+            Kind::Return => self.leaving(others),
             Kind::Goto => self.jumping(others),
             Kind::Assert => self.asserting(others),
             Kind::Assume => self.assuming(others),
@@ -187,6 +193,21 @@ impl<'a, A: Allocator + Clone> Reader<'a, A> {
         }
     }
 
+    /// Reads a keyword, and the statements behind it.
+    #[cycle(statements)]
+    #[tactic(auto, unfolding(crate::specs::Exact::section_behind))]
+    fn block<'t>(
+        &self,
+        word: Kind,
+        tokens: &'t [Token<'t>],
+    ) -> Result<(Vec<Stmt<A>, A>, &'t [Token<'t>]), ReadFault>
+        ensures gives { Gives (λ p. (block_of p.0.items, toks_of p.1.now)) result (section_behind word (toks_of tokens.now)) }
+        ensures shorter { IfOk result (λ p. length p.1.now < length tokens.now) }
+    {
+        let (_, inside) = self.take(word, tokens)?;
+        self.statements(inside)
+    }
+
     /// Reads an `if`, behind that word.
     #[cycle(statements)]
     #[tactic(auto, unfolding(crate::specs::Exact::if_deed))]
@@ -195,10 +216,8 @@ impl<'a, A: Allocator + Clone> Reader<'a, A> {
         ensures shorter { IfOk result (λ p. length p.1.now < length tokens.now) }
     {
         let (side, opened) = self.test(tokens)?;
-        let (_, inside) = self.take(Kind::Then, opened)?;
-        let (yes, between) = self.statements(inside)?;
-        let (_, others) = self.take(Kind::Else, between)?;
-        let (no, ended) = self.statements(others)?;
+        let (yes, between) = self.block(Kind::Then, opened)?;
+        let (no, ended) = self.block(Kind::Else, between)?;
         let (_, rest) = self.take(Kind::Fi, ended)?;
         Ok((Core::If(side, yes, no), rest))
     }
@@ -211,8 +230,7 @@ impl<'a, A: Allocator + Clone> Reader<'a, A> {
         ensures shorter { IfOk result (λ p. length p.1.now < length tokens.now) }
     {
         let (side, opened) = self.test(tokens)?;
-        let (_, inside) = self.take(Kind::Do, opened)?;
-        let (body, ended) = self.statements(inside)?;
+        let (body, ended) = self.block(Kind::Do, opened)?;
         let (_, rest) = self.take(Kind::Od, ended)?;
         Ok((Core::While(side, body), rest))
     }

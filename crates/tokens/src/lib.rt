@@ -14,6 +14,3 @@ pub use depth::is_too_deep;
 pub use parts::parts_are_cut;
 pub use text::as_ascii;
 pub use vocabulary::{Kind, Token};
-
-#[cfg(test)]
-mod tests;

@@ -3,66 +3,72 @@ use Rattle.std.proofs.lemmas.Result.{err_from_is_err_and}
 use Rattle.tokens.specs.declared.vocabulary.Kind.TheVariants as kind
 use Rattle.tokens.specs.Token.{toks_of}
 use Rattle.syntax.specs.Parser.{take}
-use Rattle.syntax.specs.Exact.{section, going_on, put_before, if_deed, while_deed}
+use Rattle.syntax.specs.Exact.{section_behind, going_on, put_before, if_deed, while_deed}
 use Rattle.syntax.specs.Trees.{Deed, Item, item_of, items_of}
 use Rattle.syntax.specs.declared.tree.Stmt.{Stmt}
 use Rattle.syntax.proofs.Exits.{fails_on}
-use Rattle.syntax.proofs.Folds.{deed_of-Skip, deed_of-Return, deed_of-If, deed_of-While}
-use Rattle.syntax.proofs.Goings.{sections_start, sections_go_on, if_no_else, if_no_no, if_no_end, if_whole, while_no_end, while_whole, deed_skip, deed_return}
+use Rattle.syntax.proofs.Folds.{deed_of-If, deed_of-While}
+use Rattle.syntax.proofs.Goings.{sections_start, sections_go_on, if_no_yes, if_no_no, if_no_end, if_whole, while_no_body, while_no_end, while_whole, deed_skip, deed_return}
 use Rattle.syntax.proofs.Loops.{pushed}
 use Rattle.syntax.proofs.reader.Reader.+statements.Goals as goal
 
-pub branch-returns-in_err-others-clause-gives : goal.branch-returns-in_err-others-clause-gives
-branch-returns-in_err-others-clause-gives g t c =
-    let p = err_from_is_err_and c.from_residual-in_err-others.result c.from_residual-in_err-others.ensures.1 in
-    rw (p.1, p.2) (fails_on _ (take kind.Else (toks_of c.in_ok-yes.between.now)) (if_deed (toks_of c.args.tokens.now))
-    (if_no_else (toks_of c.args.tokens.now) c.in_ok-side.ensures.gives c.in_ok-inside.ensures.gives c.in_ok-yes.ensures.gives) c.in_err-others.ensures.gives)
+pub branch-returns-in_err-yes-clause-gives : goal.branch-returns-in_err-yes-clause-gives
+branch-returns-in_err-yes-clause-gives g t c =
+    let p = err_from_is_err_and c.from_residual-in_err-yes.result c.from_residual-in_err-yes.ensures.1 in
+    rw (p.1, p.2) (fails_on _ (section_behind kind.Then (toks_of c.in_ok-side.opened.now)) (if_deed (toks_of c.args.tokens.now))
+    (if_no_yes (toks_of c.args.tokens.now) c.in_ok-side.ensures.gives) c.in_err-yes.ensures.gives)
 
 pub branch-returns-in_err-no-clause-gives : goal.branch-returns-in_err-no-clause-gives
 branch-returns-in_err-no-clause-gives g t c =
     let p = err_from_is_err_and c.from_residual-in_err-no.result c.from_residual-in_err-no.ensures.1 in
-    rw (p.1, p.2) (fails_on _ (section (toks_of c.in_ok-others.others.now)) (if_deed (toks_of c.args.tokens.now))
-    (if_no_no (toks_of c.args.tokens.now) c.in_ok-side.ensures.gives c.in_ok-inside.ensures.gives c.in_ok-yes.ensures.gives c.in_ok-others.ensures.gives) c.in_err-no.ensures.gives)
+    rw (p.1, p.2) (fails_on _ (section_behind kind.Else (toks_of c.in_ok-yes.between.now)) (if_deed (toks_of c.args.tokens.now))
+    (if_no_no (toks_of c.args.tokens.now) c.in_ok-side.ensures.gives c.in_ok-yes.ensures.gives) c.in_err-no.ensures.gives)
 
 pub branch-returns-in_err-rest-clause-gives : goal.branch-returns-in_err-rest-clause-gives
 branch-returns-in_err-rest-clause-gives g t c =
     let p = err_from_is_err_and c.from_residual-in_err-rest.result c.from_residual-in_err-rest.ensures.1 in
     rw (p.1, p.2) (fails_on _ (take kind.Fi (toks_of c.in_ok-no.ended.now)) (if_deed (toks_of c.args.tokens.now))
-    (if_no_end (toks_of c.args.tokens.now) c.in_ok-side.ensures.gives c.in_ok-inside.ensures.gives c.in_ok-yes.ensures.gives c.in_ok-others.ensures.gives c.in_ok-no.ensures.gives) c.in_err-rest.ensures.gives)
+    (if_no_end (toks_of c.args.tokens.now) c.in_ok-side.ensures.gives c.in_ok-yes.ensures.gives c.in_ok-no.ensures.gives) c.in_err-rest.ensures.gives)
 
 pub branch-returns-clause-gives : goal.branch-returns-clause-gives
 branch-returns-clause-gives g t c =
-    if_whole (toks_of c.args.tokens.now) c.in_ok-side.ensures.gives c.in_ok-inside.ensures.gives c.in_ok-yes.ensures.gives c.in_ok-others.ensures.gives c.in_ok-no.ensures.gives c.in_ok-rest.ensures.gives
+    if_whole (toks_of c.args.tokens.now) c.in_ok-side.ensures.gives c.in_ok-yes.ensures.gives c.in_ok-no.ensures.gives c.in_ok-rest.ensures.gives
     ∙ ap (λ (d : Deed). Some (d, toks_of c.in_ok-rest.rest.now)) (sym (deed_of-If c.in_ok-side.side c.in_ok-yes.yes c.in_ok-no.no))
 
 pub branch-returns-clause-shorter : goal.branch-returns-clause-shorter
 branch-returns-clause-shorter g t c =
-    omega (arith, c.in_ok-side.ensures.shorter, c.in_ok-inside.ensures.shorter, c.in_ok-yes.ensures.shorter, c.in_ok-others.ensures.shorter, c.in_ok-no.ensures.shorter, c.in_ok-rest.ensures.shorter)
+    omega (arith, c.in_ok-side.ensures.shorter, c.in_ok-yes.ensures.shorter, c.in_ok-no.ensures.shorter, c.in_ok-rest.ensures.shorter)
 
 pub core-returns-in-Skip-clause-gives : goal.core-returns-in-Skip-clause-gives
 core-returns-in-Skip-clause-gives g t c =
-    rw (deed_skip c.args.tokens.now c.in-Some.others.now c.in-Some.first.now c.in-Some.ensures.cases.0 c.in-Skip.is) (rw (deed_of-Skip g.row.A.Denot) at c.ended.ensures.gives)
+    rw (deed_skip c.args.tokens.now c.in-Some.others.now c.in-Some.first.now c.in-Some.ensures.cases.0 c.in-Skip.is) c.skipping.ensures.gives
 
 pub core-returns-in-Return-clause-gives : goal.core-returns-in-Return-clause-gives
 core-returns-in-Return-clause-gives g t c =
-    rw (deed_return c.args.tokens.now c.in-Some.others.now c.in-Some.first.now c.in-Some.ensures.cases.0 c.in-Return.is) (rw (deed_of-Return g.row.A.Denot) at c.ended-in-Return.ensures.gives)
+    rw (deed_return c.args.tokens.now c.in-Some.others.now c.in-Some.first.now c.in-Some.ensures.cases.0 c.in-Return.is) c.leaving.ensures.gives
+
+pub repeat-returns-in_err-body-clause-gives : goal.repeat-returns-in_err-body-clause-gives
+repeat-returns-in_err-body-clause-gives g t c =
+    let p = err_from_is_err_and c.from_residual-in_err-body.result c.from_residual-in_err-body.ensures.1 in
+    rw (p.1, p.2) (fails_on _ (section_behind kind.Do (toks_of c.in_ok-side.opened.now)) (while_deed (toks_of c.args.tokens.now))
+    (while_no_body (toks_of c.args.tokens.now) c.in_ok-side.ensures.gives) c.in_err-body.ensures.gives)
 
 pub repeat-returns-in_err-rest-clause-gives : goal.repeat-returns-in_err-rest-clause-gives
 repeat-returns-in_err-rest-clause-gives g t c =
     let p = err_from_is_err_and c.from_residual-in_err-rest.result c.from_residual-in_err-rest.ensures.1 in
     rw (p.1, p.2) (fails_on _ (take kind.Od (toks_of c.in_ok-body.ended.now)) (while_deed (toks_of c.args.tokens.now))
-    (while_no_end (toks_of c.args.tokens.now) c.in_ok-side.ensures.gives c.in_ok-inside.ensures.gives c.in_ok-body.ensures.gives) c.in_err-rest.ensures.gives)
+    (while_no_end (toks_of c.args.tokens.now) c.in_ok-side.ensures.gives c.in_ok-body.ensures.gives) c.in_err-rest.ensures.gives)
 
 pub repeat-returns-clause-gives : goal.repeat-returns-clause-gives
 repeat-returns-clause-gives g t c =
-    while_whole (toks_of c.args.tokens.now) c.in_ok-side.ensures.gives c.in_ok-inside.ensures.gives c.in_ok-body.ensures.gives c.in_ok-rest.ensures.gives
+    while_whole (toks_of c.args.tokens.now) c.in_ok-side.ensures.gives c.in_ok-body.ensures.gives c.in_ok-rest.ensures.gives
     ∙ ap (λ (d : Deed). Some (d, toks_of c.in_ok-rest.rest.now)) (sym (deed_of-While c.in_ok-side.side c.in_ok-body.body))
 
 pub statements-loop-rest-init : goal.statements-loop-rest-init
 statements-loop-rest-init g t c = record {
   whole =
       sections_start (toks_of c.args.tokens.now) (item_of c.in_ok-first.first) (toks_of c.in_ok-first.rest.now) c.in_ok-first.ensures.gives
-      ∙ ap (λ (is : List Item). put_before is (going_on (toks_of c.in_ok-first.rest.now))) (pushed item_of [] c.push.new.self.items c.in_ok-first.first (c.in_ok-push.ensures.items ∙ ap (λ (xs : List (Stmt g.row.A.Denot)). xs ++ (c.in_ok-first.first ∷ [])) c.new-list.ensures.items));
+      ∙ ap (λ (is : List Item). put_before is (going_on (toks_of c.in_ok-first.rest.now))) (pushed item_of [] c.put.new.list.items c.in_ok-first.first (c.in_ok-put.ensures.ok ∙ ap (λ (xs : List (Stmt g.row.A.Denot)). xs ++ (c.in_ok-first.first ∷ [])) c.new-list.ensures.items));
   shorter = c.in_ok-first.ensures.shorter;
 }
 
@@ -71,6 +77,6 @@ statements-loop-rest-preserved g t c = record {
   whole =
       c.loop-rest.invariant.whole
       ∙ sections_go_on (items_of c.loop-rest.list.items) (toks_of c.loop-rest.rest.now) (item_of c.in_ok-next.next) (toks_of c.in_ok-next.after.now) (sym c.begins_statement.ensures ∙ c.loop-rest-test.true) c.in_ok-next.ensures.gives
-      ∙ ap (λ (is : List Item). put_before is (going_on (toks_of c.in_ok-next.after.now))) (pushed item_of c.loop-rest.list.items c.push-in-loop-rest.new.self.items c.in_ok-next.next c.in_ok-push-2.ensures.items);
+      ∙ ap (λ (is : List Item). put_before is (going_on (toks_of c.in_ok-next.after.now))) (pushed item_of c.loop-rest.list.items c.put-in-loop-rest.new.list.items c.in_ok-next.next c.in_ok-put-2.ensures.ok);
   shorter = search rules;
 }

@@ -14,7 +14,7 @@ loop-rest-preserved g c = record {
       c.loop-rest.invariant.whole
       ∙ names_go_on (names_of c.loop-rest.list.items) (toks_of c.loop-rest.rest.now) (tok_of c.in_ok-others.field-0-0) (toks_of c.in_ok-others.others.now) (name_of c.in_ok-next.next) (toks_of c.in_ok-next.after.now)
       c.in_ok-others.ensures.gives c.in_ok-next.ensures.gives
-      ∙ ap (λ (xs : List Name). prepend xs (more_names (toks_of c.in_ok-next.after.now))) (pushed name_of c.loop-rest.list.items c.push-in-loop-rest.new.self.items c.in_ok-next.next c.in_ok-push-2.ensures.items);
+      ∙ ap (λ (xs : List Name). prepend xs (more_names (toks_of c.in_ok-next.after.now))) (pushed name_of c.loop-rest.list.items c.put.new.list.items c.in_ok-next.next c.in_ok-put.ensures.ok);
   shorter = search rules;
 }
 

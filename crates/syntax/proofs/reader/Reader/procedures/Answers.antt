@@ -12,6 +12,6 @@ loop-rest-preserved g c = record {
       c.loop-rest.invariant.whole
       ∙ procedures_go_on (procs_of c.loop-rest.list.items) (toks_of c.loop-rest.rest.now) (proc_of c.in_ok-next.next) (toks_of c.in_ok-next.after.now)
       (sym c.begins.ensures ∙ c.loop-rest-test.true) c.in_ok-next.ensures.gives
-      ∙ ap (λ (xs : List Procedure). prepend xs (more_procedures (toks_of c.in_ok-next.after.now))) (pushed proc_of c.loop-rest.list.items c.push-in-loop-rest.new.self.items c.in_ok-next.next c.in_ok-push-2.ensures.items);
+      ∙ ap (λ (xs : List Procedure). prepend xs (more_procedures (toks_of c.in_ok-next.after.now))) (pushed proc_of c.loop-rest.list.items c.put-in-loop-rest.new.list.items c.in_ok-next.next c.in_ok-put-2.ensures.ok);
   shorter = search rules;
 }

@@ -12,6 +12,6 @@ loop-rest-preserved g c = record {
       c.loop-rest.invariant.whole
       ∙ lines_go_on (threads_of c.loop-rest.list.items) (toks_of c.loop-rest.rest.now) (thread_of c.in_ok-next.next) (toks_of c.in_ok-next.after.now)
       (sym c.any_left.ensures ∙ c.loop-rest-test.true) c.in_ok-next.ensures.gives
-      ∙ ap (λ (xs : List ThreadLine). prepend xs (more_lines (toks_of c.in_ok-next.after.now))) (pushed thread_of c.loop-rest.list.items c.push-in-loop-rest.new.self.items c.in_ok-next.next c.in_ok-push-2.ensures.items);
+      ∙ ap (λ (xs : List ThreadLine). prepend xs (more_lines (toks_of c.in_ok-next.after.now))) (pushed thread_of c.loop-rest.list.items c.put-in-loop-rest.new.list.items c.in_ok-next.next c.in_ok-put-2.ensures.ok);
   shorter = search rules;
 }
