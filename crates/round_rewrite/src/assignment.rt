@@ -14,7 +14,7 @@ use syntax::{Expr, Name, Rhs};
 
 /// The temporaries up to a number.
 #[tactic(auto, using(crate::proofs::Pushed::pushed))]
-pub fn temporaries<A: Allocator + Clone>(
+pub fn temporaries<A: Allocator + Copy>(
     alloc: &A,
     names: Vec<Name<A>, A>,
     number: usize,
@@ -24,27 +24,27 @@ pub fn temporaries<A: Allocator + Clone>(
 {
     let mut list = names;
     for k in 0..number {
-        list.push(drawn(alloc.clone()?, k)?)?;
+        list.push(drawn(*alloc, k)?)?;
     }
     Ok(list)
 }
 
 /// As many `?` as are asked for.
 #[tactic(auto, using(crate::proofs::Pushed::pushed))]
-pub fn any_values<A: Allocator + Clone>(
+pub fn any_values<A: Allocator + Copy>(
     alloc: &A,
     number: usize,
 ) -> Result<Vec<Rhs<A>, A>, AllocError>
     ensures { IfOk result (λ v. rhss_of v.items ≡ each any (numbers 0 number)) }
 {
-    let mut list = Vec::new(alloc.clone()?);
+    let mut list = Vec::new(*alloc);
     for _ in 0..number {
         list.push(Rhs::Any)?;
     }
     Ok(list)
 }
 
-impl<'a, N: Allocator, A: Allocator + Clone> Writer<'a, N, A> {
+impl<'a, N: Allocator, A: Allocator + Copy> Writer<'a, N, A> {
     ghost use Rattle.round_rewrite.specs.Writing.{naming_of};
 
     /// How many `?` with a global target an assignment has: so many temporaries it draws. Each call has a target
@@ -74,7 +74,7 @@ impl<'a, N: Allocator, A: Allocator + Clone> Writer<'a, N, A> {
     {
         let mut list = into;
         for round in 0..self.rounds.count() {
-            list.push(copy(self.alloc.clone()?, round, x)?)?;
+            list.push(copy(*self.alloc, round, x)?)?;
         }
         Ok(list)
     }
@@ -100,7 +100,7 @@ impl<'a, N: Allocator, A: Allocator + Clone> Writer<'a, N, A> {
             Ok(all)
         } else {
             let mut list = into;
-            list.push(again(self.alloc.clone()?, x)?)?;
+            list.push(again(*self.alloc, x)?)?;
             let all = self.targets(more, others, list)?;
             Ok(all)
         }

@@ -35,22 +35,9 @@ pub fn push<A: Allocator>(
 }
 
 /// The block of one statement.
-pub fn single<A: Allocator + Clone>(alloc: &A, core: Core<A>) -> Result<Vec<Stmt<A>, A>, AllocError>
+pub fn single<A: Allocator + Copy>(alloc: &A, core: Core<A>) -> Result<Vec<Stmt<A>, A>, AllocError>
     ensures { IfOk result (λ v. block_of v.items ≡ marked_before plain (deed_of core) done) }
 {
-    let block = push(core, Vec::new(alloc.clone()?))?;
-    Ok(block)
-}
-
-/// The block of two statements.
-pub fn pair<A: Allocator + Clone>(
-    alloc: &A,
-    first: Core<A>,
-    second: Core<A>,
-) -> Result<Vec<Stmt<A>, A>, AllocError>
-    ensures { IfOk result (λ v. block_of v.items ≡ marked_before plain (deed_of first) (marked_before plain (deed_of second) done)) }
-{
-    let one = push(first, Vec::new(alloc.clone()?))?;
-    let block = push(second, one)?;
+    let block = push(core, Vec::new(*alloc))?;
     Ok(block)
 }

@@ -1,13 +1,13 @@
 //! The statements of the rewriting that hold others.
 
-ghost use Rattle.std.specs.Prelude.{◌≡◌, true, [], ◌∷◌, ◌++◌, IfOk, reverse};
-ghost use Rattle.language.specs.Tree.{const, any, value, assign};
-ghost use Rattle.syntax.specs.Trees.{simple, repeat, names_of, rhs_of, rhss_of, deed_of};
-ghost use Rattle.round_rewrite.specs.Table.{rise, raised};
+ghost use Rattle.std.specs.Prelude.{◌≡◌, true, [], ◌∷◌, ◌++◌, IfOk, reverse, codes};
+ghost use Rattle.language.specs.Tree.{const, any, var, negation, two, xor, value, assign, assume};
+ghost use Rattle.syntax.specs.Trees.{simple, repeat, names_of, expr_of, rhs_of, rhss_of, deed_of};
+ghost use Rattle.round_rewrite.specs.Table.{at, rise, raised};
 ghost use Rattle.round_rewrite.specs.Names.{named};
 ghost use Rattle.round_rewrite.specs.Writing.{stop_testing, stopping, failing};
 
-use crate::block::{pair, single};
+use crate::block::{push, single};
 use crate::expression::{not, operation, variable};
 use crate::names::fixed;
 use crate::writer::Writer;
@@ -22,7 +22,7 @@ pub fn constant<A: Allocator>(bit: bool) -> Rhs<A>
 }
 
 /// Puts a name that stands in no text behind others.
-pub fn push_name<A: Allocator + Clone>(
+pub fn push_name<A: Allocator + Copy>(
     alloc: &A,
     text: &str,
     into: Vec<Name<A>, A>,
@@ -30,7 +30,7 @@ pub fn push_name<A: Allocator + Clone>(
     ensures { IfOk result (λ v. names_of v.items ≡ names_of into.items ++ named text.now ∷ []) }
 {
     let mut list = into;
-    list.push(fixed(alloc.clone()?, text)?)?;
+    list.push(fixed(*alloc, text)?)?;
     Ok(list)
 }
 
@@ -47,31 +47,31 @@ pub fn push_side<A: Allocator>(
 }
 
 /// That a variable gets 1.
-fn set<A: Allocator + Clone>(alloc: &A, text: &str) -> Result<Core<A>, AllocError>
+fn set<A: Allocator + Copy>(alloc: &A, text: &str) -> Result<Core<A>, AllocError>
     ensures { IfOk result (λ c. deed_of c ≡ simple (assign (named text.now ∷ []) (value (const true) ∷ []))) }
 {
-    let targets = push_name(alloc, text, Vec::new(alloc.clone()?))?;
-    let sides = push_side(constant(true), Vec::new(alloc.clone()?))?;
+    let targets = push_name(alloc, text, Vec::new(*alloc))?;
+    let sides = push_side(constant(true), Vec::new(*alloc))?;
     Ok(Core::Assign(targets, sides))
 }
 
 /// That two variables get 1.
-fn set_both<A: Allocator + Clone>(
+fn set_both<A: Allocator + Copy>(
     alloc: &A,
     first: &str,
     second: &str,
 ) -> Result<Core<A>, AllocError>
     ensures { IfOk result (λ c. deed_of c ≡ simple (assign (named first.now ∷ named second.now ∷ []) (value (const true) ∷ value (const true) ∷ []))) }
 {
-    let target = push_name(alloc, first, Vec::new(alloc.clone()?))?;
+    let target = push_name(alloc, first, Vec::new(*alloc))?;
     let targets = push_name(alloc, second, target)?;
-    let side = push_side(constant(true), Vec::new(alloc.clone()?))?;
+    let side = push_side(constant(true), Vec::new(*alloc))?;
     let sides = push_side(constant(true), side)?;
     Ok(Core::Assign(targets, sides))
 }
 
 /// The test of `stop__`: a thread that is stopped leaves.
-pub fn stop_test<A: Allocator + Clone>(alloc: &A) -> Result<Core<A>, AllocError>
+pub fn stop_test<A: Allocator + Copy>(alloc: &A) -> Result<Core<A>, AllocError>
     ensures { IfOk result (λ c. deed_of c ≡ stop_testing) }
 {
     let test = Rhs::Value(variable(alloc, "stop__")?);
@@ -81,7 +81,7 @@ pub fn stop_test<A: Allocator + Clone>(alloc: &A) -> Result<Core<A>, AllocError>
 }
 
 /// The choice to stop.
-pub fn stop_choice<A: Allocator + Clone>(alloc: &A) -> Result<Core<A>, AllocError>
+pub fn stop_choice<A: Allocator + Copy>(alloc: &A) -> Result<Core<A>, AllocError>
     ensures { IfOk result (λ c. deed_of c ≡ stopping) }
 {
     let yes = single(alloc, set(alloc, "stop__")?)?;
@@ -90,40 +90,74 @@ pub fn stop_choice<A: Allocator + Clone>(alloc: &A) -> Result<Core<A>, AllocErro
 }
 
 /// What an assert becomes: where its right side is 0, `bad__` and `stop__` are raised, and the procedure is left.
-pub fn checked<A: Allocator + Clone>(alloc: &A, side: Rhs<A>) -> Result<Core<A>, AllocError>
+pub fn checked<A: Allocator + Copy>(alloc: &A, side: Rhs<A>) -> Result<Core<A>, AllocError>
     ensures { IfOk result (λ c. deed_of c ≡ failing (rhs_of side)) }
 {
     let yes = single(alloc, Core::Skip)?;
-    let raise = set_both(alloc, "bad__", "stop__")?;
-    let no = pair(alloc, raise, Core::Return)?;
+    let raised = push(set_both(alloc, "bad__", "stop__")?, Vec::new(*alloc))?;
+    let no = push(Core::Return, raised)?;
     Ok(Core::If(side, yes, no))
 }
 
-impl<'a, N: Allocator, A: Allocator + Clone> Writer<'a, N, A> {
+/// The variables of the round's number.
+pub fn round_names<A: Allocator + Copy>(alloc: &A) -> Result<Vec<Name<A>, A>, AllocError>
+    ensures { IfOk result (λ v. names_of v.items ≡ named (codes "rh__") ∷ named (codes "rl__") ∷ []) }
+{
+    let high = push_name(alloc, "rh__", Vec::new(*alloc))?;
+    let names = push_name(alloc, "rl__", high)?;
+    Ok(names)
+}
+
+/// The high bit of the next round's number.
+fn next_high<A: Allocator + Copy>(alloc: &A) -> Result<Expr<A>, AllocError>
+    ensures { IfOk result (λ e. expr_of e ≡ two xor (var (named (codes "rh__"))) (var (named (codes "rl__")))) }
+{
+    let high = variable(alloc, "rh__")?;
+    let low = variable(alloc, "rl__")?;
+    let next = operation(alloc, Op::Xor, high, low)?;
+    Ok(next)
+}
+
+/// The low bit of the next round's number.
+fn next_low<A: Allocator + Copy>(alloc: &A) -> Result<Expr<A>, AllocError>
+    ensures { IfOk result (λ e. expr_of e ≡ negation (var (named (codes "rl__")))) }
+{
+    let low = variable(alloc, "rl__")?;
+    let next = not(alloc, low)?;
+    Ok(next)
+}
+
+impl<'a, N: Allocator, A: Allocator + Copy> Writer<'a, N, A> {
     ghost use Rattle.round_rewrite.specs.Writing.{naming_of};
 
     /// That the round's number grows by 1.
     fn next_round(&self) -> Result<Core<A>, AllocError>
         ensures { IfOk result (λ c. deed_of c ≡ simple (assign (reverse (naming_of self.now).bits) (reverse (raised (naming_of self.now).bits)))) }
     {
-        let target = push_name(self.alloc, "rh__", Vec::new(self.alloc.clone()?))?;
-        let targets = push_name(self.alloc, "rl__", target)?;
-        let old_high = variable(self.alloc, "rh__")?;
-        let old_low = variable(self.alloc, "rl__")?;
-        let new_high = Rhs::Value(operation(self.alloc, Op::Xor, old_high, old_low)?);
-        let flipped = not(self.alloc, variable(self.alloc, "rl__")?)?;
-        let side = push_side(new_high, Vec::new(self.alloc.clone()?))?;
-        let sides = push_side(Rhs::Value(flipped), side)?;
+        let targets = round_names(self.alloc)?;
+        let high = Rhs::Value(next_high(self.alloc)?);
+        let side = push_side(high, Vec::new(*self.alloc))?;
+        let low = Rhs::Value(next_low(self.alloc)?);
+        let sides = push_side(low, side)?;
         Ok(Core::Assign(targets, sides))
+    }
+
+    /// That there is a next round.
+    fn not_last(&self) -> Result<Core<A>, AllocError>
+        ensures { IfOk result
+            (λ c. deed_of c ≡ simple (assume (value (negation (at (naming_of self.now) self.now.rounds.last self.now.rounds.last))))) }
+    {
+        let is_last = self.at(self.rounds.last)?;
+        let other = not(self.alloc, is_last)?;
+        Ok(Core::Assume(Rhs::Value(other)))
     }
 
     /// The loop of the prologue: on to the next round, any number of times, as long as there is one.
     pub fn rising(&self) -> Result<Core<A>, AllocError>
         ensures { IfOk result (λ c. deed_of c ≡ repeat any (rise (naming_of self.now) self.now.rounds.last)) }
     {
-        let is_last = self.at(self.rounds.last)?;
-        let assume = Core::Assume(Rhs::Value(not(self.alloc, is_last)?));
-        let body = pair(self.alloc, assume, self.next_round()?)?;
+        let checked = push(self.not_last()?, Vec::new(*self.alloc))?;
+        let body = push(self.next_round()?, checked)?;
         Ok(Core::While(Rhs::Any, body))
     }
 }

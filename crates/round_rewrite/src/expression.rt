@@ -20,14 +20,14 @@ pub fn read_of<A: Allocator>(x: Name<A>) -> Expr<A>
 }
 
 /// A variable.
-pub fn variable<A: Allocator + Clone>(alloc: &A, text: &str) -> Result<Expr<A>, AllocError>
+pub fn variable<A: Allocator + Copy>(alloc: &A, text: &str) -> Result<Expr<A>, AllocError>
     ensures { IfOk result (λ e. expr_of e ≡ var (named text.now)) }
 {
-    Ok(Expr::Var(fixed(alloc.clone()?, text)?))
+    Ok(Expr::Var(fixed(*alloc, text)?))
 }
 
 /// A read of the copy of a global for a round.
-pub fn copy_of<N: Allocator, A: Allocator + Clone>(
+pub fn copy_of<N: Allocator, A: Allocator + Copy>(
     alloc: &A,
     round: u8,
     x: &Name<N>,
@@ -35,26 +35,26 @@ pub fn copy_of<N: Allocator, A: Allocator + Clone>(
     requires { round < 4 }
     ensures { IfOk result (λ e. expr_of e ≡ var (copy_name round (name_of x.now))) }
 {
-    Ok(Expr::Var(copy(alloc.clone()?, round, x)?))
+    Ok(Expr::Var(copy(*alloc, round, x)?))
 }
 
 /// A temporary, counted from 0.
-pub fn temporary<A: Allocator + Clone>(alloc: &A, number: usize) -> Result<Expr<A>, AllocError>
+pub fn temporary<A: Allocator + Copy>(alloc: &A, number: usize) -> Result<Expr<A>, AllocError>
     requires { number < 2 ^ 63 }
     ensures { IfOk result (λ e. expr_of e ≡ var (drawn_name number)) }
 {
-    Ok(Expr::Var(drawn(alloc.clone()?, number)?))
+    Ok(Expr::Var(drawn(*alloc, number)?))
 }
 
 /// The negation of an expression.
-pub fn not<A: Allocator + Clone>(alloc: &A, e: Expr<A>) -> Result<Expr<A>, AllocError>
+pub fn not<A: Allocator + Copy>(alloc: &A, e: Expr<A>) -> Result<Expr<A>, AllocError>
     ensures { IfOk result (λ r. expr_of r ≡ negation (expr_of e)) }
 {
-    Ok(Expr::Not(Box::new(alloc.clone()?, e)?))
+    Ok(Expr::Not(Box::new(*alloc, e)?))
 }
 
 /// An operator between two expressions.
-pub fn operation<A: Allocator + Clone>(
+pub fn operation<A: Allocator + Copy>(
     alloc: &A,
     op: Op,
     left: Expr<A>,
@@ -62,20 +62,20 @@ pub fn operation<A: Allocator + Clone>(
 ) -> Result<Expr<A>, AllocError>
     ensures { IfOk result (λ r. expr_of r ≡ two (operator_of op) (expr_of left) (expr_of right)) }
 {
-    let left = Box::new(alloc.clone()?, left)?;
-    let right = Box::new(alloc.clone()?, right)?;
+    let left = Box::new(*alloc, left)?;
+    let right = Box::new(*alloc, right)?;
     Ok(Expr::Two(op, left, right))
 }
 
 /// The variable where the bit is 1, its negation where it is 0.
-fn literal<A: Allocator + Clone>(alloc: &A, bit: u8, text: &str) -> Result<Expr<A>, AllocError>
+fn literal<A: Allocator + Copy>(alloc: &A, bit: u8, text: &str) -> Result<Expr<A>, AllocError>
     ensures { IfOk result (λ e. expr_of e ≡ literal bit (named text.now)) }
 {
     let bare = variable(alloc, text)?;
     if bit == 0 { not(alloc, bare) } else { Ok(bare) }
 }
 
-impl<'a, N: Allocator, A: Allocator + Clone> Writer<'a, N, A> {
+impl<'a, N: Allocator, A: Allocator + Copy> Writer<'a, N, A> {
     ghost use Rattle.round_rewrite.specs.Writing.{naming_of};
 
     /// Whether a variable of the procedure is a global.
@@ -128,7 +128,7 @@ impl<'a, N: Allocator, A: Allocator + Clone> Writer<'a, N, A> {
         if self.is_shared(x) {
             self.joined(x)
         } else {
-            Ok(Expr::Var(again(self.alloc.clone()?, x)?))
+            Ok(Expr::Var(again(*self.alloc, x)?))
         }
     }
 
@@ -165,11 +165,24 @@ impl<'a, N: Allocator, A: Allocator + Clone> Writer<'a, N, A> {
     pub fn arguments(&self, es: &[Expr<N>]) -> Result<Vec<Expr<A>, A>, AllocError>
         ensures { IfOk result (λ v. exprs_of v.items ≡ map (expression (naming_of self.now) self.now.rounds.last) (exprs_of es.now)) }
     {
-        let mut list = Vec::new(self.alloc.clone()?);
+        let mut list = Vec::new(*self.alloc);
         for e in es {
             list.push(self.expression(e)?)?;
         }
         Ok(list)
+    }
+
+    /// The copy of a global for a round, where the round is another one.
+    fn kept(&self, x: &Name<N>, round: u8) -> Result<Expr<A>, AllocError>
+        requires { round < 4 }
+        ensures { IfOk result
+            (λ e. expr_of e ≡ two Rattle.language.specs.Tree.and
+            (negation (at (naming_of self.now) self.now.rounds.last round)) (var (copy_name round (name_of x.now)))) }
+    {
+        let is_round = self.at(round)?;
+        let other = not(self.alloc, is_round)?;
+        let copy = copy_of(self.alloc, round, x)?;
+        operation(self.alloc, Op::And, other, copy)
     }
 
     /// What the copy of a global for a round gets where the global gets `value`: in that round the value, in every
@@ -178,9 +191,9 @@ impl<'a, N: Allocator, A: Allocator + Clone> Writer<'a, N, A> {
         requires { round < 4 }
         ensures { IfOk result (λ r. rhs_of r ≡ written (naming_of self.now) self.now.rounds.last (expr_of value) (name_of x.now) round) }
     {
-        let new = operation(self.alloc, Op::And, self.at(round)?, value)?;
-        let other = not(self.alloc, self.at(round)?)?;
-        let old = operation(self.alloc, Op::And, other, copy_of(self.alloc, round, x)?)?;
+        let old = self.kept(x, round)?;
+        let is_round = self.at(round)?;
+        let new = operation(self.alloc, Op::And, is_round, value)?;
         Ok(Rhs::Value(operation(self.alloc, Op::Or, new, old)?))
     }
 }

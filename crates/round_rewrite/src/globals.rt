@@ -12,7 +12,7 @@ use std::alloc::{AllocError, Allocator};
 use syntax::Name;
 
 /// Puts the copies of the globals for every round behind names.
-fn all_copies<N: Allocator, A: Allocator + Clone>(
+fn all_copies<N: Allocator, A: Allocator + Copy>(
     alloc: &A,
     rounds: Rounds,
     xs: &[Name<N>],
@@ -28,7 +28,7 @@ fn all_copies<N: Allocator, A: Allocator + Clone>(
 }
 
 /// Puts the guesses that are saved for every round from the second on behind names.
-fn all_saves<N: Allocator, A: Allocator + Clone>(
+fn all_saves<N: Allocator, A: Allocator + Copy>(
     alloc: &A,
     rounds: Rounds,
     xs: &[Name<N>],
@@ -44,14 +44,14 @@ fn all_saves<N: Allocator, A: Allocator + Clone>(
 }
 
 /// The globals in order: the copies round by round, the guesses saved, the round's bits, `stop__` and `bad__`.
-pub fn globals<N: Allocator, A: Allocator + Clone>(
+pub fn globals<N: Allocator, A: Allocator + Copy>(
     alloc: &A,
     rounds: Rounds,
     xs: &[Name<N>],
 ) -> Result<Vec<Name<A>, A>, AllocError>
     ensures { IfOk result (λ v. names_of v.items ≡ globals (names []) rounds.last (names_of xs.now)) }
 {
-    let copied = all_copies(alloc, rounds, xs, Vec::new(alloc.clone()?))?;
+    let copied = all_copies(alloc, rounds, xs, Vec::new(*alloc))?;
     let saved = all_saves(alloc, rounds, xs, copied)?;
     let high = push_name(alloc, "rh__", saved)?;
     let low = push_name(alloc, "rl__", high)?;

@@ -68,6 +68,3 @@ pub fn narrow_trees_have_narrow_valuations()
     ensures { (t : Tree) → AllNarrow t → (q : ℕ) (routine : Routine) → slice_get (sequential_of t).routines q ≡ Some routine
         → (sequential_of t).globals + routine.places ≤ 64 }
 {}
-
-#[cfg(test)]
-mod tests;

@@ -12,7 +12,7 @@ use std::alloc::{AllocError, Allocator};
 use syntax::{Name, Rhs};
 
 /// Puts names once more behind others.
-pub fn all_again<N: Allocator, A: Allocator + Clone>(
+pub fn all_again<N: Allocator, A: Allocator + Copy>(
     alloc: &A,
     xs: &[Name<N>],
     into: Vec<Name<A>, A>,
@@ -21,13 +21,13 @@ pub fn all_again<N: Allocator, A: Allocator + Clone>(
 {
     let mut list = into;
     for x in xs {
-        list.push(again(alloc.clone()?, x)?)?;
+        list.push(again(*alloc, x)?)?;
     }
     Ok(list)
 }
 
 /// Puts the copies of globals for a round behind names.
-pub fn copies<N: Allocator, A: Allocator + Clone>(
+pub fn copies<N: Allocator, A: Allocator + Copy>(
     alloc: &A,
     round: u8,
     xs: &[Name<N>],
@@ -38,13 +38,13 @@ pub fn copies<N: Allocator, A: Allocator + Clone>(
 {
     let mut list = into;
     for x in xs {
-        list.push(copy(alloc.clone()?, round, x)?)?;
+        list.push(copy(*alloc, round, x)?)?;
     }
     Ok(list)
 }
 
 /// Puts the guesses of globals that are saved for a round behind names.
-pub fn saves<N: Allocator, A: Allocator + Clone>(
+pub fn saves<N: Allocator, A: Allocator + Copy>(
     alloc: &A,
     round: u8,
     xs: &[Name<N>],
@@ -55,7 +55,7 @@ pub fn saves<N: Allocator, A: Allocator + Clone>(
 {
     let mut list = into;
     for x in xs {
-        list.push(save(alloc.clone()?, round, x)?)?;
+        list.push(save(*alloc, round, x)?)?;
     }
     Ok(list)
 }
@@ -75,7 +75,7 @@ pub fn guessed<N: Allocator, A: Allocator>(
 }
 
 /// The copies of globals for a round, as right sides.
-pub fn reads<N: Allocator, A: Allocator + Clone>(
+pub fn reads<N: Allocator, A: Allocator + Copy>(
     alloc: &A,
     round: u8,
     xs: &[Name<N>],
@@ -83,7 +83,7 @@ pub fn reads<N: Allocator, A: Allocator + Clone>(
     requires { round < 4 }
     ensures { IfOk result (λ v. rhss_of v.items ≡ map (λ y. value (var (copy_name round y))) (names_of xs.now)) }
 {
-    let mut list = Vec::new(alloc.clone()?);
+    let mut list = Vec::new(*alloc);
     for x in xs {
         list.push(Rhs::Value(copy_of(alloc, round, x)?))?;
     }

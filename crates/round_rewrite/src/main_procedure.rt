@@ -8,7 +8,7 @@ ghost use Rattle.round_rewrite.specs.Names.{named, names, copy_name, save_name};
 ghost use Rattle.round_rewrite.specs.Writing.{Lays, line_names};
 
 use crate::block::push;
-use crate::cores::{constant, push_name, push_side};
+use crate::cores::{constant, push_name, push_side, round_names};
 use crate::expression::{copy_of, operation, read_of};
 use crate::lists::{copies, guessed, reads, saves};
 use crate::names::{again, save};
@@ -17,7 +17,7 @@ use std::alloc::{AllocError, Allocator};
 use syntax::{Core, Name, Op, Rhs, Stmt, Thread};
 
 /// Puts the guess of the globals for one round, saved, behind others.
-fn guess<N: Allocator, A: Allocator + Clone>(
+fn guess<N: Allocator, A: Allocator + Copy>(
     alloc: &A,
     last: u8,
     round: u8,
@@ -30,17 +30,17 @@ fn guess<N: Allocator, A: Allocator + Clone>(
     let Some((_first, _)) = xs.split_first() else {
         return Ok(into);
     };
-    let targets = copies(alloc, round, xs, Vec::new(alloc.clone()?))?;
-    let sides = guessed(alloc.clone()?, xs)?;
+    let targets = copies(alloc, round, xs, Vec::new(*alloc))?;
+    let sides = guessed(*alloc, xs)?;
     let drawn = push(Core::Assign(targets, sides), into)?;
-    let kept = saves(alloc, round, xs, Vec::new(alloc.clone()?))?;
+    let kept = saves(alloc, round, xs, Vec::new(*alloc))?;
     let values = reads(alloc, round, xs)?;
     let saved = push(Core::Assign(kept, values), drawn)?;
     Ok(saved)
 }
 
 /// Puts the guesses of the globals for every round from the second on behind others.
-fn guesses<N: Allocator, A: Allocator + Clone>(
+fn guesses<N: Allocator, A: Allocator + Copy>(
     alloc: &A,
     rounds: Rounds,
     xs: &[Name<N>],
@@ -56,20 +56,19 @@ fn guesses<N: Allocator, A: Allocator + Clone>(
 }
 
 /// That the round and `stop__` get 0.
-fn reset<A: Allocator + Clone>(alloc: &A) -> Result<Core<A>, AllocError>
+fn reset<A: Allocator + Copy>(alloc: &A) -> Result<Core<A>, AllocError>
     ensures { IfOk result (λ c. deed_of c ≡ simple (assign (named (codes "rh__") ∷ named (codes "rl__") ∷ named (codes "stop__") ∷ []) (value (const false) ∷ value (const false) ∷ value (const false) ∷ []))) }
 {
-    let high = push_name(alloc, "rh__", Vec::new(alloc.clone()?))?;
-    let low = push_name(alloc, "rl__", high)?;
-    let targets = push_name(alloc, "stop__", low)?;
-    let first = push_side(constant(false), Vec::new(alloc.clone()?))?;
+    let names = round_names(alloc)?;
+    let targets = push_name(alloc, "stop__", names)?;
+    let first = push_side(constant(false), Vec::new(*alloc))?;
     let second = push_side(constant(false), first)?;
     let sides = push_side(constant(false), second)?;
     Ok(Core::Assign(targets, sides))
 }
 
 /// Puts the threads, one after the other, behind others.
-fn starts<N: Allocator, A: Allocator + Clone>(
+fn starts<N: Allocator, A: Allocator + Copy>(
     alloc: &A,
     last: u8,
     threads: &[Thread<N>],
@@ -80,14 +79,14 @@ fn starts<N: Allocator, A: Allocator + Clone>(
     let mut list = into;
     for thread in threads {
         let begun = push(reset(alloc)?, list)?;
-        let name = again(alloc.clone()?, &thread.name)?;
-        list = push(Core::Call(name, Vec::new(alloc.clone()?)), begun)?;
+        let name = again(*alloc, &thread.name)?;
+        list = push(Core::Call(name, Vec::new(*alloc)), begun)?;
     }
     Ok(list)
 }
 
 /// That a round's guess of a global is what the round before ended with.
-fn agrees<N: Allocator, A: Allocator + Clone>(
+fn agrees<N: Allocator, A: Allocator + Copy>(
     alloc: &A,
     round: u8,
     x: &Name<N>,
@@ -95,7 +94,7 @@ fn agrees<N: Allocator, A: Allocator + Clone>(
     requires { round < 3 }
     ensures { IfOk result (λ c. deed_of c ≡ simple (assume (value (two equal (var (save_name (suc round) (name_of x.now))) (var (copy_name round (name_of x.now))))))) }
 {
-    let saved = save(alloc.clone()?, round + 1, x)?;
+    let saved = save(*alloc, round + 1, x)?;
     let kept = read_of(saved);
     let reached = copy_of(alloc, round, x)?;
     let same = operation(alloc, Op::Equal, kept, reached)?;
@@ -103,7 +102,7 @@ fn agrees<N: Allocator, A: Allocator + Clone>(
 }
 
 /// Puts the check that a round ended with the guess for the next one behind others.
-fn check<N: Allocator, A: Allocator + Clone>(
+fn check<N: Allocator, A: Allocator + Copy>(
     alloc: &A,
     last: u8,
     round: u8,
@@ -122,7 +121,7 @@ fn check<N: Allocator, A: Allocator + Clone>(
 }
 
 /// Puts the checks of every round but the last behind others.
-fn checks<N: Allocator, A: Allocator + Clone>(
+fn checks<N: Allocator, A: Allocator + Copy>(
     alloc: &A,
     rounds: Rounds,
     xs: &[Name<N>],
@@ -138,7 +137,7 @@ fn checks<N: Allocator, A: Allocator + Clone>(
 }
 
 /// The body of the first procedure.
-pub fn main_body<N: Allocator, A: Allocator + Clone>(
+pub fn main_body<N: Allocator, A: Allocator + Copy>(
     alloc: &A,
     rounds: Rounds,
     xs: &[Name<N>],
@@ -146,7 +145,7 @@ pub fn main_body<N: Allocator, A: Allocator + Clone>(
 ) -> Result<Vec<Stmt<A>, A>, AllocError>
     ensures { IfOk result (λ v. block_of v.items ≡ main (names []) rounds.last (names_of xs.now) (line_names (threads_of threads.now))) }
 {
-    let guessed = guesses(alloc, rounds, xs, Vec::new(alloc.clone()?))?;
+    let guessed = guesses(alloc, rounds, xs, Vec::new(*alloc))?;
     let started = starts(alloc, rounds.last, threads, guessed)?;
     let checked = checks(alloc, rounds, xs, started)?;
     Ok(checked)

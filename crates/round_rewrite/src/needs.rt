@@ -16,7 +16,7 @@ fn larger(a: usize, b: usize) -> usize
     if a < b { b } else { a }
 }
 
-impl<'a, N: Allocator, A: Allocator + Clone> Writer<'a, N, A> {
+impl<'a, N: Allocator, A: Allocator + Copy> Writer<'a, N, A> {
     ghost use Rattle.round_rewrite.specs.Writing.{naming_of};
 
     /// How many temporaries statements need: as many as the assignment that draws most.

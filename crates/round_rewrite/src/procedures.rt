@@ -16,7 +16,7 @@ use std::alloc::{AllocError, Allocator};
 use syntax::{Proc, Program};
 
 /// A procedure rewritten.
-fn procedure<N: Allocator, A: Allocator + Clone>(
+fn procedure<N: Allocator, A: Allocator + Copy>(
     alloc: &A,
     rounds: Rounds,
     proc: &Proc<N>,
@@ -30,11 +30,11 @@ fn procedure<N: Allocator, A: Allocator + Clone>(
         formals: proc.formals.as_slice(),
         locals: proc.locals.as_slice(),
     };
-    let name = again(alloc.clone()?, &proc.name)?;
-    let formals = all_again(alloc, &proc.formals, Vec::new(alloc.clone()?))?;
-    let kept = all_again(alloc, &proc.locals, Vec::new(alloc.clone()?))?;
+    let name = again(*alloc, &proc.name)?;
+    let formals = all_again(alloc, &proc.formals, Vec::new(*alloc))?;
+    let kept = all_again(alloc, &proc.locals, Vec::new(*alloc))?;
     let locals = temporaries(alloc, kept, writer.needs(&proc.body))?;
-    let body = writer.block(&proc.body, Vec::new(alloc.clone()?))?;
+    let body = writer.block(&proc.body, Vec::new(*alloc))?;
     Ok(Proc {
         name,
         formals,
@@ -44,16 +44,16 @@ fn procedure<N: Allocator, A: Allocator + Clone>(
 }
 
 /// The first procedure.
-fn first<N: Allocator, A: Allocator + Clone>(
+fn first<N: Allocator, A: Allocator + Copy>(
     alloc: &A,
     rounds: Rounds,
     program: &Program<N>,
 ) -> Result<Proc<A>, AllocError>
     ensures { IfOk result (λ p. proc_of p ≡ main_procedure rounds.last (tree_of program.now)) }
 {
-    let name = fixed(alloc.clone()?, "main__")?;
-    let formals = Vec::new(alloc.clone()?);
-    let locals = Vec::new(alloc.clone()?);
+    let name = fixed(*alloc, "main__")?;
+    let formals = Vec::new(*alloc);
+    let locals = Vec::new(*alloc);
     let body = main_body(alloc, rounds, &program.globals, &program.threads)?;
     Ok(Proc {
         name,
@@ -64,7 +64,7 @@ fn first<N: Allocator, A: Allocator + Clone>(
 }
 
 /// The procedures, the first one first.
-pub fn procedures<N: Allocator, A: Allocator + Clone>(
+pub fn procedures<N: Allocator, A: Allocator + Copy>(
     alloc: &A,
     rounds: Rounds,
     program: &Program<N>,
@@ -72,7 +72,7 @@ pub fn procedures<N: Allocator, A: Allocator + Clone>(
     requires { AreFew (procs_of program.now.procs.items) }
     ensures { IfOk result (λ v. procs_of v.items ≡ main_procedure rounds.last (tree_of program.now) ∷ map (rewritten_procedure rounds.last) (procs_of program.now.procs.items)) }
 {
-    let mut list = Vec::new(alloc.clone()?);
+    let mut list = Vec::new(*alloc);
     list.push(first(alloc, rounds, program)?)?;
     for proc in &program.procs {
         list.push(procedure(alloc, rounds, proc)?)?;

@@ -20,17 +20,17 @@ use std::alloc::{AllocError, Allocator};
 use syntax::{Program, Thread};
 
 /// The one thread line: that of the first procedure.
-fn threads<A: Allocator + Clone>(alloc: &A) -> Result<Vec<Thread<A>, A>, AllocError>
+fn threads<A: Allocator + Copy>(alloc: &A) -> Result<Vec<Thread<A>, A>, AllocError>
     ensures { IfOk result (λ v. threads_of v.items ≡ record { at = 0; name = named (codes "main__") } ∷ []) }
 {
-    let mut list = Vec::new(alloc.clone()?);
-    let name = fixed(alloc.clone()?, "main__")?;
+    let mut list = Vec::new(*alloc);
+    let name = fixed(*alloc, "main__")?;
     list.push(Thread { at: 0, name })?;
     Ok(list)
 }
 
 /// The rewritten program of a program that is narrow enough.
-fn written<N: Allocator, A: Allocator + Clone>(
+fn written<N: Allocator, A: Allocator + Copy>(
     alloc: &A,
     rounds: Rounds,
     program: &Program<N>,
@@ -50,7 +50,7 @@ fn written<N: Allocator, A: Allocator + Clone>(
 
 /// Rewrites a checked program for a number of rounds into a sequential program. `TooWide` comes exactly where some
 /// procedure of it has more than 64 places, and takes no memory; `Memory` where a growth was refused.
-pub fn rewrite<N: Allocator, A: Allocator + Clone>(
+pub fn rewrite<N: Allocator, A: Allocator + Copy>(
     alloc: &A,
     checked: &Checked<N>,
     rounds: Rounds,

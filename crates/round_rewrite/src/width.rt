@@ -15,7 +15,7 @@ use syntax::{Proc, Program};
 const PLACES: usize = 64;
 
 /// Whether the globals of the rewritten program and what the procedure has of its own are at most 64 places.
-fn is_own_narrow<N: Allocator, A: Allocator + Clone>(
+fn is_own_narrow<N: Allocator, A: Allocator + Copy>(
     alloc: &A,
     rounds: Rounds,
     globals: usize,
@@ -63,7 +63,7 @@ fn global_count(rounds: Rounds, globals: usize) -> Option<usize>
 }
 
 /// Whether every procedure of the rewritten program has at most 64 places.
-pub fn is_narrow<N: Allocator, A: Allocator + Clone>(
+pub fn is_narrow<N: Allocator, A: Allocator + Copy>(
     alloc: &A,
     rounds: Rounds,
     program: &Program<N>,

@@ -7,3 +7,4 @@ pub mod First
 pub mod Works
 pub mod Resolving
 pub mod Rewriting
+pub mod Pushed

@@ -26,6 +26,3 @@ pub use reserved::first_reserved;
 pub use threads::first_bad_thread;
 pub use twice::first_twice;
 pub use undeclared::first_undeclared;
-
-#[cfg(test)]
-mod tests;

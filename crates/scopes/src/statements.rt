@@ -8,6 +8,7 @@ use std::alloc::{AllocError, Allocator};
 use syntax::{Core, Stmt};
 
 /// Puts references to the statements of a block, in the order of the text, behind those that are there.
+#[cycle(flattening)]
 pub fn flatten<'a, A: Allocator>(
     stmts: &'a [Stmt<A>],
     into: Vec<&'a Stmt<A>, A>,
@@ -22,6 +23,7 @@ pub fn flatten<'a, A: Allocator>(
 }
 
 /// The same for one statement and those that it holds.
+#[cycle(flattening)]
 fn flatten_one<'a, A: Allocator>(
     stmt: &'a Stmt<A>,
     into: Vec<&'a Stmt<A>, A>,
@@ -32,20 +34,10 @@ fn flatten_one<'a, A: Allocator>(
     list.push(stmt)?;
     match &stmt.core {
         Core::If(_, then, otherwise) => {
-            for one in then {
-                list = flatten_one(one, list)?;
-            }
-            for other in otherwise {
-                list = flatten_one(other, list)?;
-            }
-            Ok(list)
+            let first = flatten(then, list)?;
+            flatten(otherwise, first)
         }
-        Core::While(_, body) => {
-            for each in body {
-                list = flatten_one(each, list)?;
-            }
-            Ok(list)
-        }
+        Core::While(_, body) => flatten(body, list),
         Core::Skip => Ok(list),
         Core::Return => Ok(list),
         Core::Goto(_) => Ok(list),

@@ -12,7 +12,13 @@ invariant-block-loop-stmt g l =
     ≡ all_before (items_of l.fn.into.items) (forms (naming_of l.self) l.self.rounds.last (items_of l.stmts) rest)
 
 abbrev pub decreases-block : goal.decreases-block
-decreases-block g l = 2 * statements (block_of l.stmts.now) + 1
+decreases-block g l = 3 * statements (block_of l.stmts.now) + 1
+
+abbrev pub decreases-branch : goal.decreases-branch
+decreases-branch g l = 3 * (statements (block_of l.a.now) + statements (block_of l.b.now)) + 2
+
+abbrev pub decreases-repeat : goal.decreases-repeat
+decreases-repeat g l = 3 * statements (block_of l.a.now) + 2
 
 abbrev pub decreases-core : goal.decreases-core
-decreases-core g l = 2 * held (deed_of l.core.now) + 2
+decreases-core g l = 3 * held (deed_of l.core.now) + 3

@@ -1,0 +1,82 @@
+//! Reads cases, a line each, and prints each with its answer behind it: what is answered to a text by the check of scopes
+//! and by the rewriting.
+//!
+//! `check TEXT` and `parts TEXT` ask for the check, `rewrite COUNT TEXT`, `holds COUNT LINE :: TEXT`, `fits COUNT TEXT`
+//! and `widths COUNT TEXT` for the rewriting, and `rounds COUNT` for a number of rounds alone. `refuse` before a case has
+//! each allocation refused in turn. `{COUNT WORDS}` in a text stands for so many times these words. Lines that begin
+//! with `#`, and empty lines, are printed alone.
+#![tactic(auto)]
+
+mod answers;
+mod fault;
+mod refusals;
+
+use answers::words;
+use refusals::refused_in_turn;
+use std::alloc::{AllocError, Global};
+use std::io;
+
+/// A text with the same words so many times in it: what stands before them, `COUNT WORDS`, and what stands behind.
+fn repeated(
+    alloc: Global,
+    before: &str,
+    inside: &str,
+    after: &str,
+) -> Result<Option<String>, AllocError> {
+    let Some((number, words)) = inside.split_once(' ') else {
+        return Ok(None);
+    };
+    let Ok(count) = number.parse::<u32>() else {
+        return Ok(None);
+    };
+    let mut text = String::from_str(alloc, before)?;
+    for _nth in 0..count {
+        text.push_str(words)?;
+    }
+    text.push_str(after)?;
+    Ok(Some(text))
+}
+
+/// A line with the words written out that it repeats, if any.
+fn expanded(alloc: Global, line: &str) -> Result<String, AllocError> {
+    if let Some((before, rest)) = line.split_once('{') {
+        if let Some((inside, after)) = rest.split_once('}') {
+            if let Some(text) = repeated(alloc, before, inside, after)? {
+                return Ok(text);
+            }
+        }
+    }
+    String::from_str(alloc, line)
+}
+
+/// What is answered to a case.
+fn answered(host: Global, line: &str) -> Result<String, AllocError> {
+    let Some((word, rest)) = line.split_once(' ') else {
+        return String::from_str(host, "no such case");
+    };
+    if word != "refuse" {
+        return words(host, host, word, rest);
+    }
+    match rest.split_once(' ') {
+        Some((word, rest)) => refused_in_turn(host, word, rest),
+        None => String::from_str(host, "no such case"),
+    }
+}
+
+/// Prints a line, and its answer where it is a case.
+fn say<R: Print + AllocGlobal>(rt: &R, line: &str) -> io::Result<()> {
+    println!(rt; "{line}")?;
+    if line.is_empty() || line.starts_with('#') {
+        return Ok(());
+    }
+    let case = expanded(rt.alloc(), line)?;
+    let answer = answered(rt.alloc(), case.as_str())?;
+    println!(rt; "{answer}")
+}
+
+fn main(rt: HostRuntime) -> io::Result<()> {
+    for line in rt.lines(rt.alloc()) {
+        say(&rt, line?.as_str())?;
+    }
+    Ok(())
+}

@@ -1,0 +1,8 @@
+use Rattle.std.proofs.Common.{◌∙◌, ap}
+use Rattle.round_rewrite.specs.Table.{plain}
+use Rattle.round_rewrite.specs.Writing.{failing}
+use Rattle.round_rewrite.proofs.Laying.{laid}
+use Rattle.round_rewrite.proofs.writer.Writer.asserted.Goals as goal
+
+pub returns : goal.returns
+returns g c = laid _ _ plain _ _ c.in_ok-laid.ensures (c.in_ok-core.ensures ∙ ap failing c.in_ok-side.ensures)

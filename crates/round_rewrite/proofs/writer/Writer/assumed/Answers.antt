@@ -1,0 +1,10 @@
+use Rattle.std.proofs.Common.{◌∙◌, ap}
+use Rattle.language.specs.Tree.{assume}
+use Rattle.syntax.specs.Trees.{simple}
+use Rattle.round_rewrite.specs.Table.{plain}
+use Rattle.round_rewrite.proofs.Laying.{laid}
+use Rattle.syntax.proofs.Folds.{deed_of-Assume}
+use Rattle.round_rewrite.proofs.writer.Writer.assumed.Goals as goal
+
+pub returns : goal.returns
+returns g c = laid _ _ plain _ _ c.in_ok-laid.ensures (deed_of-Assume _ ∙ ap (λ r. simple (assume r)) c.in_ok-test.ensures)

@@ -1,0 +1,35 @@
+-- Lists that are put behind others, one after the other.
+use Rattle.std.proofs.Common.{◌≡◌, ℕ, ◌+◌, ◌<◌, ◌≤◌, List, [], ◌∷◌, ◌++◌, length, map, drop, get_or, Option, option_map, sym, ◌∙◌, ap, append_assoc, append-nil}
+use Rattle.std.proofs.lemmas.List.{map-append, drop_more, drop_all}
+use Rattle.language.specs.Tree.{Name}
+use Rattle.syntax.specs.declared.tree.Stmt.{Stmt}
+use Rattle.syntax.specs.Trees.{name_of}
+use Rattle.scopes.specs.Statements.{lent, lent_statements, label_of, labels_of}
+use Rattle.scopes.proofs.Heads.{label_is}
+use denote.Ref.{Bor}
+
+pub one_pushed : {X Y Z : Type 0} (f : X → Z) (h : Y → Z) (old : List X) (x : X) (l : List Y) (i : ℕ) (y : Y) (w : List Z) → i < length l → y ≡ get_or l i y → f x ≡ h y
+    → map f old ++ map h (drop i l) ≡ w → map f (old ++ x ∷ []) ++ map h (drop (i + 1) l) ≡ w
+one_pushed f h old x l i y w lt is e so =
+    let others = map h (drop (i + 1) l) in
+    ap (λ zs. zs ++ others) (map-append f old (x ∷ []))
+    ∙ (append_assoc (map f old) (f x ∷ []) others
+    ∙ (ap (λ z. map f old ++ z ∷ others) e
+    ∙ (ap (λ m. map f old ++ map h m) (sym (drop_more l i y lt ∙ ap (λ z. z ∷ drop (i + 1) l) (sym is))) ∙ so)))
+
+pub all_pushed : {Y Z : Type 0} (h : Y → Z) (old : List Z) (l : List Y) (i : ℕ) (w : List Z) → length l ≤ i → old ++ map h (drop i l) ≡ w → old ≡ w
+all_pushed h old l i w le so = sym (append-nil old) ∙ (sym (ap (λ m. old ++ map h m) (drop_all i l le)) ∙ so)
+
+-- one more statement's label, where it has one
+pub labelled : {A : Type 0} (ss : List (Bor (Stmt A))) (i : ℕ) (s : Bor (Stmt A)) (old new w : List Name) → i < length ss → s ≡ get_or ss i s → new ≡ old ++ label_of (option_map name_of s.now.label)
+    → old ++ labels_of (lent_statements (drop i ss)) ≡ w → new ++ labels_of (lent_statements (drop (i + 1) ss)) ≡ w
+labelled {A} ss i s old new w lt is e so =
+    let rest = labels_of (lent_statements (drop (i + 1) ss)) in
+    let here = ap (λ (l : List (Bor (Stmt A))). labels_of (lent_statements l)) (drop_more ss i s lt ∙ ap (λ (x : Bor (Stmt A)). x ∷ drop (i + 1) ss) (sym is))
+    ∙ ap (λ (o : Option Name). label_of o ++ rest) (label_is s.now) in
+    ap (λ (x : List Name). x ++ rest) e
+    ∙ (append_assoc old (label_of (option_map name_of s.now.label)) rest
+    ∙ (ap (λ (x : List Name). old ++ x) (sym here) ∙ so))
+
+pub all_labelled : {A : Type 0} (ss : List (Bor (Stmt A))) (i : ℕ) (old w : List Name) → length ss ≤ i → old ++ labels_of (lent_statements (drop i ss)) ≡ w → old ≡ w
+all_labelled {A} ss i old w le so = sym (append-nil old) ∙ (sym (ap (λ (l : List (Bor (Stmt A))). old ++ labels_of (lent_statements l)) (drop_all i ss le)) ∙ so)
