@@ -5,8 +5,6 @@ ghost use Rattle.std.specs.Prelude.{◌≡◌, ℕ, ◌≤◌, ◌<◌, ◌^◌,
 ghost use Rattle.scarce.specs.Refusals.{Refuses, inner_of};
 
 mod count;
-#[cfg(test)]
-mod tests;
 
 use count::{Count, permits};
 use std::alloc::{AllocError, Allocator};

@@ -7,14 +7,8 @@ mod calls;
 mod lanes;
 mod laws;
 mod mail;
-#[cfg(test)]
-mod many;
 mod one;
 mod pass;
-#[cfg(test)]
-mod refusals;
-#[cfg(test)]
-mod tests;
 mod world;
 
 pub use board::Board;

@@ -12,8 +12,6 @@ mod open;
 mod place;
 mod plays;
 mod rule;
-#[cfg(test)]
-mod tests;
 mod view;
 
 pub use alone::Alone;

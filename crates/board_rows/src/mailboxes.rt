@@ -1,0 +1,184 @@
+//! Rows of mailboxes, worked out by hand.
+ghost use Rattle.std.specs.Prelude.{◌≡◌, ◌++◌, ◌∷◌, []};
+ghost use Rattle.post_ledger.specs.History.{TakesOldest};
+ghost use Rattle.post_ledger.specs.declared.event.Event.TheVariants.{Post};
+
+use post_ledger::{Event, Mailbox, Side, by_sender, legal};
+use scarce::Scarce;
+use std::alloc::{AllocError, Allocator};
+use std::process::Abort;
+
+fn post(sender: u8, message: u8) -> Event<u8> {
+    Event::Post { sender, message }
+}
+
+fn take(sender: u8, message: u8) -> Event<u8> {
+    Event::Take { sender, message }
+}
+
+fn done(take: u64) -> Event<u8> {
+    Event::Done { take }
+}
+
+// Posts a message, which must not be refused.
+fn posts<R: Abort, A: Allocator>(rt: &R, mailbox: &mut Mailbox<u8, A>, sender: u8, message: u8)
+    ensures { mailbox.new ≡ mailbox.old ++ Post sender message ∷ [] }
+{
+    let answer = mailbox.post(sender, message);
+    assert_eq!(rt; answer, Ok(()));
+}
+
+// Takes the message, which has to be this one of this number.
+fn takes<R: Abort, A: Allocator>(rt: &R, mailbox: &mut Mailbox<u8, A>, number: u64, message: u8)
+    ensures { TakesOldest mailbox.old mailbox.new message }
+{
+    let answer = mailbox.take();
+    assert_eq!(rt; answer, Some((number, message)));
+}
+
+// The whole history has to be this, and legal.
+fn has<R: Abort, A: Allocator>(rt: &R, mailbox: &Mailbox<u8, A>, wanted: &[Event<u8>]) {
+    assert_eq!(rt; mailbox.history(), wanted);
+    assert!(rt; legal(mailbox.history()));
+}
+
+fn one_message<R: Abort, A: Allocator>(rt: &R, alloc: A) {
+    let mut mailbox = Mailbox::new(alloc);
+    posts(rt, &mut mailbox, 0, 5);
+    takes(rt, &mut mailbox, 0, 5);
+    assert_eq!(rt; mailbox.take(), None);
+    mailbox.done(0);
+    has(rt, &mailbox, &[post(0, 5), take(0, 5), done(0)]);
+}
+
+#[test]
+fn one_message_is_posted_taken_and_completed(rt: HostRuntime) {
+    one_message(&rt, rt.alloc());
+}
+
+// The messages of sender 0 at a side.
+fn at_side<R: Abort, A: Allocator>(
+    rt: &R,
+    alloc: A,
+    history: &[Event<u8>],
+    side: Side,
+    wanted: &[u8],
+) {
+    match by_sender(alloc, history, 0, side) {
+        Ok(messages) => assert_eq!(rt; messages.as_slice(), wanted),
+        Err(AllocError) => panic!(rt; "no memory"),
+    }
+}
+
+fn two_senders<R: Abort, A: Allocator>(rt: &R, alloc: A) -> Mailbox<u8, A> {
+    let mut mailbox = Mailbox::new(alloc);
+    posts(rt, &mut mailbox, 0, 5);
+    posts(rt, &mut mailbox, 1, 7);
+    posts(rt, &mut mailbox, 0, 6);
+    takes(rt, &mut mailbox, 0, 5);
+    takes(rt, &mut mailbox, 1, 7);
+    mailbox.done(1);
+    mailbox
+}
+
+#[test]
+fn each_sender_has_its_messages_in_order(rt: HostRuntime) {
+    let mailbox = two_senders(&rt, rt.alloc());
+    let first = [
+        post(0, 5),
+        post(1, 7),
+        post(0, 6),
+        take(0, 5),
+        take(1, 7),
+        done(1),
+    ];
+    has(&rt, &mailbox, &first);
+    let done_of_none = [
+        post(0, 5),
+        post(1, 7),
+        post(0, 6),
+        take(0, 5),
+        take(1, 7),
+        done(2),
+    ];
+    assert!(rt; !legal(done_of_none.as_slice()));
+    at_side(&rt, rt.alloc(), mailbox.history(), Side::Posts, &[5, 6]);
+    at_side(&rt, rt.alloc(), mailbox.history(), Side::Takes, &[5]);
+}
+
+// Posts the messages below ten, each again where it was refused: it comes back then, and nothing is recorded.
+fn posts_ten<R: Abort, A: Allocator>(rt: &R, mailbox: &mut Mailbox<u8, A>) {
+    for n in 0..10u8 {
+        if let Err(back) = mailbox.post(0, n) {
+            assert_eq!(rt; back, n);
+            assert_eq!(rt; mailbox.history().len(), usize::from(n));
+            assert_eq!(rt; mailbox.post(0, back), Ok(()));
+        }
+    }
+}
+
+fn takes_ten<R: Abort, A: Allocator>(rt: &R, mailbox: &mut Mailbox<u8, A>) {
+    for n in 0..10u8 {
+        assert_eq!(rt; mailbox.take(), Some((u64::from(n), n)));
+    }
+}
+
+// Whether the allocation of this number was refused to the list of the messages taken.
+fn list_was_refused<R: Abort, A: Allocator>(
+    rt: &R,
+    host: A,
+    history: &[Event<u8>],
+    nth: u64,
+) -> bool {
+    let few = Scarce::refusing(host, nth);
+    match by_sender(&few, history, 0, Side::Takes) {
+        Ok(taken) => assert_eq!(rt; (taken.len(), few.refused()), (10, false)),
+        Err(_) => assert!(rt; few.refused()),
+    }
+    few.refused()
+}
+
+// Whether the allocation of this number was refused to a mailbox of ten messages, or to their list.
+fn was_refused<R: Abort, A: Allocator>(rt: &R, host: A, other: A, nth: u64) -> bool {
+    let scarce = Scarce::refusing(host, nth);
+    let mut mailbox = Mailbox::new(&scarce);
+    posts_ten(rt, &mut mailbox);
+    let asked = scarce.asked();
+    takes_ten(rt, &mut mailbox);
+    assert_eq!(rt; scarce.asked(), asked);
+    let list = list_was_refused(rt, other, mailbox.history(), nth);
+    scarce.refused() || list
+}
+
+#[test]
+fn a_refused_post_changes_nothing(rt: HostRuntime) {
+    for nth in 1..20u64 {
+        if !was_refused(&rt, rt.alloc(), rt.alloc(), nth) {
+            return;
+        }
+    }
+    panic!(&rt; "refused without end")
+}
+
+#[test]
+fn what_is_out_of_order_is_not_legal(rt: HostRuntime) {
+    let before = [take(0, 5), post(0, 5)];
+    assert!(rt; !legal(before.as_slice()), "taken before it is posted");
+    let newest = [post(0, 5), post(0, 6), take(0, 6)];
+    assert!(rt; !legal(newest.as_slice()), "the newest first");
+    let again = [post(0, 5), take(0, 5), take(0, 5)];
+    assert!(rt; !legal(again.as_slice()), "taken twice");
+    let early = [post(0, 5), done(0)];
+    assert!(rt; !legal(early.as_slice()), "completed before it is taken");
+    let twice = [post(0, 5), take(0, 5), done(0), done(0)];
+    assert!(rt; !legal(twice.as_slice()), "completed twice");
+    let both = [
+        post(0, 5),
+        post(0, 6),
+        take(0, 5),
+        take(0, 6),
+        done(1),
+        done(0),
+    ];
+    assert!(rt; legal(both.as_slice()));
+}

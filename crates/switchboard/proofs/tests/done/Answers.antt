@@ -1,6 +1,0 @@
--- A completion leaves every other job.
-use Rattle.switchboard.proofs.Jobs.{done_keeps}
-use Rattle.switchboard.proofs.tests.done.Goals as goal
-
-pub returns-clause-keeps : goal.returns-clause-keeps
-returns-clause-keeps g c = λ j other has. done_keeps _ c.args.pass.now c.done.new.pass c.args.job j c.in-Ok.ensures other has
