@@ -5,6 +5,7 @@ mod flows;
 mod laws;
 mod messages;
 mod numbering;
+mod steps;
 mod verdicts;
 
 pub use flows::{
@@ -29,6 +30,12 @@ pub use messages::{
     what_is_reached_stands_in_its_body,
 };
 pub use numbering::{each_body_is_numbered_from_1, statements_are_numbered_in_text_order};
+pub use steps::{
+    a_call_enters_with_its_arguments, a_finished_frame_goes, a_goto_leads_to_its_label,
+    a_loop_goes_into_its_body_or_on, a_question_mark_has_both_values,
+    a_return_leaves_nothing_to_run, a_skip_goes_on, a_target_of_a_question_mark_gets_either_value,
+    an_assume_steps_where_1_is_a_value, an_if_goes_into_a_branch,
+};
 pub use verdicts::{
     a_checked_write_is_never_unsafe, a_reader_before_the_writer_needs_two_rounds,
     a_spinning_thread_keeps_no_failure_away, a_writer_before_the_reader_needs_one_round,
