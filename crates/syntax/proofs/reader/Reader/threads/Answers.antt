@@ -30,14 +30,18 @@ loop-rest-init g c = record {
 pub returns-in_err-first : goal.returns-in_err-first
 returns-in_err-first g c =
     let p = err_from_is_err_and c.from_residual-in_err-first.result c.from_residual-in_err-first.ensures.1 in
-    rw (p.1, p.2) (record { gives = (fails_on _ (thread_line (toks_of c.args.tokens.now)) (thread_lines (toks_of c.args.tokens.now))
-    (lines_no_start (toks_of c.args.tokens.now)) c.in_err-first.ensures.gives); })
+    rw (p.1, p.2) (record {
+      gives = (fails_on _ (thread_line (toks_of c.args.tokens.now)) (thread_lines (toks_of c.args.tokens.now))
+          (lines_no_start (toks_of c.args.tokens.now)) c.in_err-first.ensures.gives);
+    })
 
 pub returns-in_err-next : goal.returns-in_err-next
 returns-in_err-next g c =
     let p = err_from_is_err_and c.from_residual-in_err-next.result c.from_residual-in_err-next.ensures.1 in
-    rw (p.1, p.2) (record { gives = (fails_on _ (thread_line (toks_of c.loop-rest.rest.now)) (thread_lines (toks_of c.args.tokens.now))
-    (λ refused. c.loop-rest.invariant.whole ∙ lines_refused (threads_of c.loop-rest.list.items) (toks_of c.loop-rest.rest.now) (sym c.any_left.ensures ∙ c.loop-rest-test.true) refused) c.in_err-next.ensures.gives); })
+    rw (p.1, p.2) (record {
+      gives = (fails_on _ (thread_line (toks_of c.loop-rest.rest.now)) (thread_lines (toks_of c.args.tokens.now))
+          (λ refused. c.loop-rest.invariant.whole ∙ lines_refused (threads_of c.loop-rest.list.items) (toks_of c.loop-rest.rest.now) (sym c.any_left.ensures ∙ c.loop-rest-test.true) refused) c.in_err-next.ensures.gives);
+    })
 
 pub returns : goal.returns
-returns g c = record { gives = c.loop-rest.invariant.whole ∙ lines_end (threads_of c.loop-rest.list.items) (toks_of c.loop-rest.rest.now) (sym c.any_left.ensures ∙ c.loop-rest-test.false); }
+returns g c = record { gives = c.loop-rest.invariant.whole ∙ lines_end (threads_of c.loop-rest.list.items) (toks_of c.loop-rest.rest.now) (sym c.any_left.ensures ∙ c.loop-rest-test.false) }
