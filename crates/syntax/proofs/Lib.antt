@@ -3,6 +3,7 @@ pub mod KindTests
 pub mod Expressions
 pub mod Folds
 pub mod Held
+mod Counting
 pub mod Exactly
 pub mod Parts
 pub mod Sections

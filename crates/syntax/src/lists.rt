@@ -27,7 +27,6 @@ impl<'a, A: Allocator + Clone> Reader<'a, A> {
     }
 
     /// Reads names with commas between them.
-    #[tactic(auto, using(crate::proofs::Loops::names_start, crate::proofs::Loops::names_no_start, crate::proofs::Loops::names_go_on, crate::proofs::Loops::names_refused, crate::proofs::Loops::names_end))]
     pub fn names<'t>(
         &self,
         tokens: &'t [Token<'t>],
@@ -47,7 +46,6 @@ impl<'a, A: Allocator + Clone> Reader<'a, A> {
     }
 
     /// Reads right sides with commas between them.
-    #[tactic(auto, using(crate::proofs::Loops::rights_start, crate::proofs::Loops::rights_no_start, crate::proofs::Loops::rights_go_on, crate::proofs::Loops::rights_refused, crate::proofs::Loops::rights_end))]
     pub fn rights<'t>(
         &self,
         tokens: &'t [Token<'t>],
@@ -67,7 +65,6 @@ impl<'a, A: Allocator + Clone> Reader<'a, A> {
     }
 
     /// Reads expressions with commas between them.
-    #[tactic(auto, using(crate::proofs::Loops::expressions_start, crate::proofs::Loops::expressions_no_start, crate::proofs::Loops::expressions_go_on, crate::proofs::Loops::expressions_refused, crate::proofs::Loops::expressions_end))]
     fn expressions<'t>(
         &self,
         tokens: &'t [Token<'t>],

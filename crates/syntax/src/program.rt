@@ -107,7 +107,6 @@ impl<'a, A: Allocator + Clone> Reader<'a, A> {
     }
 
     /// Reads procedures, at least one, as long as another comes.
-    #[tactic(auto, using(crate::proofs::Loops::procedures_start, crate::proofs::Loops::procedures_no_start, crate::proofs::Loops::procedures_go_on, crate::proofs::Loops::procedures_refused, crate::proofs::Loops::procedures_end))]
     fn procedures<'t>(
         &self,
         tokens: &'t [Token<'t>],
@@ -139,7 +138,6 @@ impl<'a, A: Allocator + Clone> Reader<'a, A> {
     }
 
     /// Reads thread lines, at least one, to the end of the text.
-    #[tactic(auto, using(crate::proofs::Loops::lines_start, crate::proofs::Loops::lines_no_start, crate::proofs::Loops::lines_go_on, crate::proofs::Loops::lines_refused, crate::proofs::Loops::lines_end))]
     fn threads<'t>(&self, tokens: &'t [Token<'t>]) -> Result<Vec<Thread<A>, A>, ReadFault>
         ensures gives { Gives (λ v. (threads_of v.items, [])) result (thread_lines (toks_of tokens.now)) }
     {

@@ -3,12 +3,12 @@ use Rattle.std.proofs.lemmas.Result.{err_from_is_err_and}
 use Rattle.tokens.specs.declared.vocabulary.Kind.TheVariants as kind
 use Rattle.tokens.specs.Token.{toks_of}
 use Rattle.syntax.specs.Parser.{take}
-use Rattle.syntax.specs.Exact.{section_behind, going_on, put_before, if_deed, while_deed}
+use Rattle.syntax.specs.Exact.{item, section, section_behind, going_on, put_before, if_deed, while_deed}
 use Rattle.syntax.specs.Trees.{Deed, Item, item_of, items_of}
 use Rattle.syntax.specs.declared.tree.Stmt.{Stmt}
 use Rattle.syntax.proofs.Exits.{fails_on}
 use Rattle.syntax.proofs.Folds.{deed_of-If, deed_of-While}
-use Rattle.syntax.proofs.Goings.{sections_start, sections_go_on, if_no_yes, if_no_no, if_no_end, if_whole, while_no_body, while_no_end, while_whole, deed_skip, deed_return}
+use Rattle.syntax.proofs.Goings.{sections_start, sections_no_start, sections_go_on, sections_refused, if_no_yes, if_no_no, if_no_end, if_whole, while_no_body, while_no_end, while_whole, deed_skip, deed_return, deed_goto, deed_assert, deed_assume, deed_if, deed_while}
 use Rattle.syntax.proofs.Loops.{pushed}
 use Rattle.syntax.proofs.reader.Reader.+statements.Goals as goal
 
@@ -47,6 +47,26 @@ pub core-returns-in-Return-clause-gives : goal.core-returns-in-Return-clause-giv
 core-returns-in-Return-clause-gives g t c =
     rw (deed_return c.args.tokens.now c.in-Some.others.now c.in-Some.first.now c.in-Some.ensures.cases.0 c.in-Return.is) c.leaving.ensures.gives
 
+pub core-returns-in-Goto-clause-gives : goal.core-returns-in-Goto-clause-gives
+core-returns-in-Goto-clause-gives g t c =
+    rw (deed_goto c.args.tokens.now c.in-Some.others.now c.in-Some.first.now c.in-Some.ensures.cases.0 c.in-Goto.is) c.jumping.ensures.gives
+
+pub core-returns-in-Assert-clause-gives : goal.core-returns-in-Assert-clause-gives
+core-returns-in-Assert-clause-gives g t c =
+    rw (deed_assert c.args.tokens.now c.in-Some.others.now c.in-Some.first.now c.in-Some.ensures.cases.0 c.in-Assert.is) c.asserting.ensures.gives
+
+pub core-returns-in-Assume-clause-gives : goal.core-returns-in-Assume-clause-gives
+core-returns-in-Assume-clause-gives g t c =
+    rw (deed_assume c.args.tokens.now c.in-Some.others.now c.in-Some.first.now c.in-Some.ensures.cases.0 c.in-Assume.is) c.assuming.ensures.gives
+
+pub core-returns-in-If-clause-gives : goal.core-returns-in-If-clause-gives
+core-returns-in-If-clause-gives g t c =
+    rw (deed_if c.args.tokens.now c.in-Some.others.now c.in-Some.first.now c.in-Some.ensures.cases.0 c.in-If.is) c.branch-self.ensures.gives
+
+pub core-returns-in-While-clause-gives : goal.core-returns-in-While-clause-gives
+core-returns-in-While-clause-gives g t c =
+    rw (deed_while c.args.tokens.now c.in-Some.others.now c.in-Some.first.now c.in-Some.ensures.cases.0 c.in-While.is) c.repeat.ensures.gives
+
 pub repeat-returns-in_err-body-clause-gives : goal.repeat-returns-in_err-body-clause-gives
 repeat-returns-in_err-body-clause-gives g t c =
     let p = err_from_is_err_and c.from_residual-in_err-body.result c.from_residual-in_err-body.ensures.1 in
@@ -80,3 +100,15 @@ statements-loop-rest-preserved g t c = record {
       ∙ ap (λ (is : List Item). put_before is (going_on (toks_of c.in_ok-next.after.now))) (pushed item_of c.loop-rest.list.items c.put-in-loop-rest.new.list.items c.in_ok-next.next c.in_ok-put-2.ensures.ok);
   shorter = search rules;
 }
+
+pub statements-returns-in_err-first-clause-gives : goal.statements-returns-in_err-first-clause-gives
+statements-returns-in_err-first-clause-gives g t c =
+    let p = err_from_is_err_and c.from_residual-in_err-first.result c.from_residual-in_err-first.ensures.1 in
+    rw (p.1, p.2) (fails_on _ (item (toks_of c.args.tokens.now)) (section (toks_of c.args.tokens.now))
+    (sections_no_start (toks_of c.args.tokens.now)) c.in_err-first.ensures.gives)
+
+pub statements-returns-in_err-next-clause-gives : goal.statements-returns-in_err-next-clause-gives
+statements-returns-in_err-next-clause-gives g t c =
+    let p = err_from_is_err_and c.from_residual-in_err-next.result c.from_residual-in_err-next.ensures.1 in
+    rw (p.1, p.2) (fails_on _ (item (toks_of c.loop-rest.rest.now)) (section (toks_of c.args.tokens.now))
+    (λ refused. c.loop-rest.invariant.whole ∙ sections_refused (items_of c.loop-rest.list.items) (toks_of c.loop-rest.rest.now) (sym c.begins_statement.ensures ∙ c.loop-rest-test.true) refused) c.in_err-next.ensures.gives)

@@ -1,10 +1,10 @@
-use Rattle.std.proofs.Common.{rules, List, ◌∙◌, ap}
+use Rattle.std.proofs.Common.{rules, ◌≡◌, List, [], ◌∷◌, ◌∙◌, ap, sym}
 use Rattle.std.proofs.lemmas.Result.{err_from_is_err_and}
 use Rattle.language.specs.Tree.{Name}
 use Rattle.syntax.specs.Exact.{name, names, prepend, more_names}
 use Rattle.syntax.specs.Trees.{name_of, names_of}
 use Rattle.tokens.specs.Token.{tok_of, toks_of}
-use Rattle.syntax.proofs.Loops.{names_go_on, names_refused, pushed}
+use Rattle.syntax.proofs.Loops.{names_start, names_no_start, names_go_on, names_refused, names_end, pushed}
 use Rattle.syntax.proofs.Exits.{fails_on}
 use Rattle.syntax.proofs.reader.Reader.names.Goals as goal
 
@@ -24,3 +24,19 @@ returns-in_err-next-clause-gives g c =
     rw (p.1, p.2) (fails_on _ (name (toks_of c.in_ok-others.others.now)) (names (toks_of c.args.tokens.now))
     (λ refused. c.loop-rest.invariant.whole ∙ names_refused (names_of c.loop-rest.list.items) (toks_of c.loop-rest.rest.now) (tok_of c.in_ok-others.field-0-0) (toks_of c.in_ok-others.others.now) c.in_ok-others.ensures.gives refused)
     c.in_err-next.ensures.gives)
+
+pub loop-rest-init : goal.loop-rest-init
+loop-rest-init g c = record {
+  whole =
+      names_start (toks_of c.args.tokens.now) (name_of c.in_ok-first.first) (toks_of c.in_ok-first.rest.now) c.in_ok-first.ensures.gives
+      ∙ ap (λ (xs : List (Name)). prepend xs (more_names (toks_of c.in_ok-first.rest.now))) (pushed name_of [] c.in_ok-list.list.items c.in_ok-first.first c.in_ok-list.ensures.ok);
+  shorter = c.in_ok-first.ensures.shorter;
+}
+
+pub returns-in_err-first-clause-gives : goal.returns-in_err-first-clause-gives
+returns-in_err-first-clause-gives g c =
+    let p = err_from_is_err_and c.from_residual.result c.from_residual.ensures.1 in
+    rw (p.1, p.2) (fails_on _ (name (toks_of c.args.tokens.now)) (names (toks_of c.args.tokens.now)) (names_no_start (toks_of c.args.tokens.now)) c.in_err-first.ensures.gives)
+
+pub returns-clause-gives : goal.returns-clause-gives
+returns-clause-gives g c = c.loop-rest.invariant.whole ∙ names_end (names_of c.loop-rest.list.items) (toks_of c.loop-rest.rest.now) (sym c.begins.ensures ∙ c.loop-rest-test.false)
