@@ -1,10 +1,13 @@
--- Lists that are put behind others, one after the other.
-use Rattle.std.proofs.Common.{◌≡◌, ℕ, ◌+◌, ◌<◌, ◌≤◌, List, [], ◌∷◌, ◌++◌, length, map, drop, get_or, Option, option_map, sym, ◌∙◌, ap, append_assoc, append-nil}
+-- Loops that put one after the other behind what is there, or look for a name.
+use Rattle.std.proofs.Common.{◌≡◌, ℕ, ◌+◌, ◌<◌, ◌≤◌, List, [], ◌∷◌, ◌++◌, length, map, drop, get_or, Bool, true, false, cond, Option, Some, option_map, sym, ◌∙◌, ap, append_assoc, append-nil}
 use Rattle.std.proofs.lemmas.List.{map-append, drop_more, drop_all}
-use Rattle.language.specs.Tree.{Name}
+use Rattle.language.specs.Tree.{Name, Procedure}
+use Rattle.language.specs.Rest.{same_text}
+use Rattle.syntax.specs.declared.tree.Proc.{Proc}
 use Rattle.syntax.specs.declared.tree.Stmt.{Stmt}
-use Rattle.syntax.specs.Trees.{name_of}
-use Rattle.scopes.specs.Statements.{lent, lent_statements, label_of, labels_of}
+use Rattle.syntax.specs.Trees.{name_of, proc_of, procs_of}
+use Rattle.scopes.specs.Statements.{lent_statements, label_of, labels_of}
+use Rattle.scopes.specs.Faults.{named}
 use Rattle.scopes.proofs.Heads.{label_is}
 use denote.Ref.{Bor}
 
@@ -33,3 +36,17 @@ labelled {A} ss i s old new w lt is e so =
 
 pub all_labelled : {A : Type 0} (ss : List (Bor (Stmt A))) (i : ℕ) (old w : List Name) → length ss ≤ i → old ++ labels_of (lent_statements (drop i ss)) ≡ w → old ≡ w
 all_labelled {A} ss i old w le so = sym (append-nil old) ∙ (sym (ap (λ (l : List (Bor (Stmt A))). old ++ labels_of (lent_statements l)) (drop_all i ss le)) ∙ so)
+
+-- one more procedure that is looked at for its name
+at_name : {A : Type 0} (text : List ℕ) (ps : List (Proc A)) (i : ℕ) (p : Proc A) (w : Option Procedure) (b : Bool) → i < length ps → p ≡ get_or ps i p → w ≡ named text (procs_of (drop i ps)) → same_text text (name_of p.name).text ≡ b
+    → w ≡ cond b (Some (proc_of p)) (named text (procs_of (drop (i + 1) ps)))
+at_name {A} text ps i p w b lt is so e =
+    so
+    ∙ (ap (λ (l : List (Proc A)). named text (procs_of l)) (drop_more ps i p lt ∙ ap (λ (x : Proc A). x ∷ drop (i + 1) ps) (sym is))
+    ∙ ap (λ (t : Bool). cond t (Some (proc_of p)) (named text (procs_of (drop (i + 1) ps)))) e)
+
+pub named_here : {A : Type 0} (text : List ℕ) (ps : List (Proc A)) (i : ℕ) (p : Proc A) (w : Option Procedure) → i < length ps → p ≡ get_or ps i p → w ≡ named text (procs_of (drop i ps)) → same_text text (name_of p.name).text ≡ true → w ≡ Some (proc_of p)
+named_here text ps i p w lt is so e = at_name text ps i p w true lt is so e
+
+pub named_later : {A : Type 0} (text : List ℕ) (ps : List (Proc A)) (i : ℕ) (p : Proc A) (w : Option Procedure) → i < length ps → p ≡ get_or ps i p → w ≡ named text (procs_of (drop i ps)) → same_text text (name_of p.name).text ≡ false → w ≡ named text (procs_of (drop (i + 1) ps))
+named_later text ps i p w lt is so e = at_name text ps i p w false lt is so e

@@ -1,5 +1,5 @@
 -- A checked tree resolves.
-use Rattle.std.proofs.Common.{◌≡◌, ℕ, suc, Bool, true, false, cond, List, [], ◌∷◌, ◌++◌, length, Option, Some, None, ◌⊎◌, inl, inr, refl, sym, ◌∙◌, ap, subst, arith, append_assoc}
+use Rattle.std.proofs.Common.{◌≡◌, ℕ, Bool, true, false, cond, List, [], ◌∷◌, ◌++◌, length, Option, Some, None, ◌⊎◌, inl, inr, refl, sym, ◌∙◌, ap, subst, append_assoc}
 use Rattle.language.specs.Tree.{Name, skip, assign, assert, assume, goto, leave, call, Block, done, one, choose, loop, Procedure, Tree}
 use Rattle.language.specs.Value.{global, local}
 use Rattle.language.specs.Rest.{Code, same_text, has_label, first_of_two, join, rest_from}
