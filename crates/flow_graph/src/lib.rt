@@ -2,15 +2,11 @@
 #![tactic(auto)]
 
 mod assignment;
-#[cfg(test)]
-mod assignment_tests;
 mod call;
 mod drawing;
 mod flow;
 mod formula;
 mod graph;
-#[cfg(test)]
-mod graph_tests;
 mod labels;
 mod lowering;
 mod numbers;
@@ -21,8 +17,6 @@ mod side;
 mod sizes;
 mod table;
 mod takes;
-#[cfg(test)]
-mod tests;
 mod word;
 
 pub use assignment::Assignment;
