@@ -1,16 +1,12 @@
 -- Runs of the small programs.
-use Rattle.std.proofs.Common.{◌≡◌, ℕ, zero, suc, List, [], ◌∷◌, Bool, true, false, inl, inr, refl, sym, ◌∙◌, ap, subst, map, arith}
+use Rattle.std.proofs.Common.{◌≡◌, ℕ, zero, suc, List, [], ◌∷◌, Bool, true, false, inl, inr, refl, ◌∙◌, ap, subst, map, arith}
 use Rattle.language.specs.Tree.{const, var, negation, value, assert, one, done}
 use Rattle.language.specs.Value.{global, AreValues, written_globals, written_locals}
 use Rattle.language.specs.Rest.{Code}
-use Rattle.language.specs.Step.{Program, Frame, frame, State, state, zeros, StepsTo, AfterSteps, Runs, Fails}
+use Rattle.language.specs.Step.{Program, Frame, frame, State, state, zeros, StepsTo, AfterSteps, Fails}
 use Rattle.language.specs.Rounds.{Round, Rounds, FailsInRound, starting_stack, Unsafe}
 use Rattle.language.specs.Examples.{bare, setting, writer_then_reader, reader_then_writer, spinner_then_failure, checked_write}
-use Rattle.language.proofs.Runs.{after_map}
-
--- a run to a state that fails
-fails_after : (p : Program) (n : ℕ) (s u : State) → AfterSteps p n s (λ v. v ≡ u) → Fails u → AfterSteps p n s Fails
-fails_after p n s u run fails = after_map p n s (λ v. v ≡ u) Fails (λ v e. subst Fails (sym e) fails) run
+use Rattle.language.proofs.OneThread.{Somewhere, fails_after, never_unsafe}
 
 -- without threads there are none later
 round_of_none : (p : Program) (g g' : List Bool) (stacks' : List (List Frame)) → Round p g [] g' stacks' → stacks' ≡ []
@@ -99,31 +95,18 @@ data Sound : List Bool → List Frame → Type 0 where
   at_end : Sound (true ∷ []) (frame 0 [] done ∷ [])
   gone : Sound (true ∷ []) []
 
-abbrev AtSound : State → Type 0
-AtSound (state g stack) = Sound g stack
-
--- some sound state has the property
-abbrev Somewhere : (State → Type 0) → Type 0
-Somewhere P = (g : List Bool) × (stack : List Frame) × Sound g stack × P (state g stack)
-
 write_step : (b : Bool) (P : State → Type 0) (vs : List Bool) → AreValues (b ∷ []) [] (value (const true) ∷ []) vs →
-    P (state (written_globals (global 0 ∷ []) vs (b ∷ [])) (frame 0 (written_locals (global 0 ∷ []) vs []) checking ∷ [])) → Somewhere P
+    P (state (written_globals (global 0 ∷ []) vs (b ∷ [])) (frame 0 (written_locals (global 0 ∷ []) vs []) checking ∷ [])) → Somewhere Sound P
 write_step b P [] are f = absurd are
 write_step b P (v ∷ []) are f =
     (true ∷ [], frame 0 [] checking ∷ [], at_check, subst (λ x. P (state (x ∷ []) (frame 0 [] checking ∷ []))) are.0 f)
 write_step b P (v ∷ w ∷ vs) are f = absurd are.1
 
-sound_step : (g : List Bool) (stack : List Frame) → Sound g stack → (P : State → Type 0) → StepsTo checked_write (state g stack) P → Somewhere P
+sound_step : (g : List Bool) (stack : List Frame) → Sound g stack → (P : State → Type 0) → StepsTo checked_write (state g stack) P → Somewhere Sound P
 sound_step _ _ (at_write b) P (vs, are, f) = write_step b P vs are f
 sound_step _ _ at_check P f = (_, _, at_end, f.1)
 sound_step _ _ at_end P f = (_, _, gone, f)
 sound_step _ _ gone P f = absurd f
-
-sound_steps : (n : ℕ) (g : List Bool) (stack : List Frame) → Sound g stack → (P : State → Type 0) → AfterSteps checked_write n (state g stack) P → Somewhere P
-sound_steps zero g stack ok P f = (g, stack, ok, f)
-sound_steps (suc n) g stack ok P f =
-    let (h, stack', ok', f') = sound_step g stack ok (λ t. AfterSteps checked_write n t P) f in
-    sound_steps n h stack' ok' P f'
 
 sound_passes : (g : List Bool) (stack : List Frame) → Sound g stack → Fails (state g stack) → ⊥
 sound_passes _ _ (at_write b) f = f
@@ -131,32 +114,5 @@ sound_passes _ _ at_check f = grind (arith, f)
 sound_passes _ _ at_end f = f
 sound_passes _ _ gone f = f
 
-sound_turn : (g h : List Bool) (stack stack' : List Frame) → Sound g stack → Runs checked_write (state g stack) (state h stack') → Sound h stack'
-sound_turn g h stack stack' ok (n, run) =
-    let (h', stack'', ok', e) = sound_steps n g stack ok (λ u. u ≡ state h stack') run in
-    subst AtSound e ok'
-
--- the one stack is sound
-abbrev OneSound : List Bool → List (List Frame) → Type 0
-OneSound g stacks = (stack : List Frame) × (stacks ≡ stack ∷ []) × Sound g stack
-
-sound_round : (g g' : List Bool) (stack : List Frame) (stacks' : List (List Frame)) → Sound g stack → Round checked_write g (stack ∷ []) g' stacks' → OneSound g' stacks'
-sound_round g g' stack [] ok f = absurd f
-sound_round g g' stack (stack' ∷ more) ok (h, turn, (e, none)) =
-    (stack', ap (λ z. stack' ∷ z) none, subst (λ z. Sound z stack') (sym e) (sound_turn g h stack stack' ok turn))
-
-sound_rounds : (r : ℕ) (g g' : List Bool) (stacks stacks' : List (List Frame)) → OneSound g stacks → Rounds checked_write r g stacks g' stacks' → OneSound g' stacks'
-sound_rounds zero g g' stacks stacks' (stack, e, ok) f = (stack, f.1 ∙ e, subst (λ z. Sound z stack) (sym f.0) ok)
-sound_rounds (suc r) g g' stacks stacks' (stack, e, ok) (h, mid, first, more) =
-    sound_rounds r h g' mid stacks' (sound_round g h stack mid ok (subst (λ z. Round checked_write g z h mid) e first)) more
-
-sound_fails : (g : List Bool) (stack : List Frame) → Sound g stack → FailsInRound checked_write g (stack ∷ []) → ⊥
-sound_fails g stack ok (inl (s, (n, run), fails)) =
-    let (h, stack', ok', f) = sound_steps n g stack ok Fails (fails_after checked_write n (state g stack) s run fails) in
-    sound_passes h stack' ok' f
-sound_fails g stack ok (inr (h, stack', turn, never)) = never
-
 pub checked_write_holds : (k : ℕ) → Unsafe checked_write k → ⊥
-checked_write_holds k (r, small, g, stacks, rounds, fails) =
-    let (stack, e, ok) = sound_rounds r (zeros 1) g (map (starting_stack checked_write.routines) (0 ∷ [])) stacks (_, refl, at_write false) rounds in
-    sound_fails g stack ok (subst (FailsInRound checked_write g) e fails)
+checked_write_holds k = never_unsafe checked_write Sound sound_step sound_passes 0 refl (at_write false) k

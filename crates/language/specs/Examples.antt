@@ -1,6 +1,6 @@
 -- Small programs, by places and as trees, for the laws on what programs mean.
 use Rattle.std.specs.Prelude.{ℕ, false, true, [], ◌∷◌, None}
-use Rattle.language.specs.Tree.{Name, const, var, negation, value, skip, assign, assert, Mark, done, one, loop, Tree}
+use Rattle.language.specs.Tree.{Name, const, var, negation, value, skip, assign, assert, assume, call, Mark, done, one, loop, Tree}
 use Rattle.language.specs.Value.{global, local}
 use Rattle.language.specs.Rest.{Code}
 use Rattle.language.specs.Step.{Routine, Program}
@@ -49,6 +49,41 @@ checked_write = record {
   globals = 1;
   routines = routine (setting (one bare (assert (value (var (global 0)))) done)) ∷ [];
   threads = 0 ∷ [];
+}
+
+-- t() begin assert(!x); x:=1; end
+abbrev pub once : Routine
+once = routine (one bare (assert (value (negation (var (global 0))))) (setting done))
+
+-- decl x; t() begin assert(!x); x:=1; end thread t;
+abbrev pub run_once : Program
+run_once = record { globals = 1; routines = once ∷ []; threads = 0 ∷ [] }
+
+-- decl x; t() begin assert(!x); x:=1; end thread t; thread t;
+abbrev pub run_twice : Program
+run_twice = record { globals = 1; routines = once ∷ []; threads = 0 ∷ 0 ∷ [] }
+
+-- decl x; p(v) begin x:=v; end t() begin p(1); p(0); assert(!x); end thread t;
+abbrev pub passed_values : Program
+passed_values = record {
+  globals = 1;
+  routines =
+      record { places = 1; body = one bare (assign (global 0 ∷ []) (value (var (local 0)) ∷ [])) done }
+      ∷ routine (one bare (call 0 (const true ∷ [])) (one bare (call 0 (const false ∷ [])) (one bare (assert (value (negation (var (global 0))))) done)))
+      ∷ [];
+  threads = 1 ∷ [];
+}
+
+-- decl x,y,z; a() begin assume(x); y:=1; assume(z); assert(0); end b() begin x:=1; assume(y); z:=1; end thread a; thread b;
+abbrev pub handshake : Program
+handshake = record {
+  globals = 3;
+  routines =
+      routine (one bare (assume (value (var (global 0)))) (one bare (assign (global 1 ∷ []) (value (const true) ∷ []))
+      (one bare (assume (value (var (global 2)))) (one bare (assert (value (const false))) done))))
+      ∷ routine (setting (one bare (assume (value (var (global 1)))) (one bare (assign (global 2 ∷ []) (value (const true) ∷ [])) done)))
+      ∷ [];
+  threads = 0 ∷ 1 ∷ [];
 }
 
 -- the name whose text is one byte

@@ -37,7 +37,8 @@ pub use steps::{
     an_assume_steps_where_1_is_a_value, an_if_goes_into_a_branch,
 };
 pub use verdicts::{
-    a_checked_write_is_never_unsafe, a_reader_before_the_writer_needs_two_rounds,
+    a_checked_write_is_never_unsafe, a_handshake_needs_three_rounds,
+    a_reader_before_the_writer_needs_two_rounds, a_second_thread_of_one_procedure_fails,
     a_spinning_thread_keeps_no_failure_away, a_writer_before_the_reader_needs_one_round,
-    more_rounds_reach_more, no_threads_never_fail,
+    more_rounds_reach_more, no_threads_never_fail, the_value_passed_last_lasts,
 };

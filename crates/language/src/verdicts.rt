@@ -2,7 +2,7 @@
 ghost use Rattle.std.specs.Prelude.{◌≡◌, ◌≤◌, ℕ, []};
 ghost use Rattle.language.specs.Step.{Program};
 ghost use Rattle.language.specs.Rounds.{Unsafe};
-ghost use Rattle.language.specs.Examples.{writer_then_reader, reader_then_writer, spinner_then_failure, checked_write};
+ghost use Rattle.language.specs.Examples.{writer_then_reader, reader_then_writer, spinner_then_failure, checked_write, run_once, run_twice, passed_values, handshake};
 
 /// What is unsafe within some rounds is unsafe within more.
 pub fn more_rounds_reach_more()
@@ -32,4 +32,19 @@ pub fn a_spinning_thread_keeps_no_failure_away()
 /// An assert of what the one thread has just written holds within any number of rounds.
 pub fn a_checked_write_is_never_unsafe()
     ensures { (k : ℕ) → Unsafe checked_write k → ⊥ }
+{}
+
+/// A thread that asserts what it has not written yet fails nothing, and two of them do in the first round.
+pub fn a_second_thread_of_one_procedure_fails()
+    ensures { ((k : ℕ) → Unsafe run_once k → ⊥) × Unsafe run_twice 1 }
+{}
+
+/// A call writes the value that it was passed: the second of two is what lasts.
+pub fn the_value_passed_last_lasts()
+    ensures { (k : ℕ) → Unsafe passed_values k → ⊥ }
+{}
+
+/// Where two threads wait for each other in turn, it takes a round for each turn: three.
+pub fn a_handshake_needs_three_rounds()
+    ensures { (Unsafe handshake 2 → ⊥) × Unsafe handshake 3 }
 {}
