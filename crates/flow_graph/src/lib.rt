@@ -12,6 +12,7 @@ mod lowering;
 mod numbers;
 mod point;
 mod postfix;
+mod put;
 mod scope;
 mod side;
 mod sizes;

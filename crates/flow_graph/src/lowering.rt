@@ -1,6 +1,6 @@
 //! From statements to flows.
 
-ghost use Rattle.std.specs.Prelude.{ℕ, ◌≡◌, ◌≤◌, ◌<◌, ◌+◌, ◌∷◌, [], IfOk, length, map};
+ghost use Rattle.std.specs.Prelude.{ℕ, ◌≡◌, ◌≤◌, ◌<◌, ◌+◌, ◌++◌, ◌∷◌, [], IfOk, length, map};
 ghost use Rattle.language.specs.Tree.{done};
 ghost use Rattle.language.specs.Resolve.{number_of, place_of, resolve_expression, resolve_side, resolve_block};
 ghost use Rattle.language.specs.Rest.{Code, join, rest_from};
@@ -9,6 +9,7 @@ ghost use Rattle.language.specs.Flow.{rests};
 ghost use Rattle.syntax.specs.Trees.{name_of, names_of, rhs_of, rhss_of, exprs_of, block_of};
 ghost use Rattle.flow_graph.specs.Nodes.{at, node_of, goes, stops, goes_to, tests, assumes, assigns, calls};
 ghost use Rattle.flow_graph.specs.Flows.{Does};
+ghost use Rattle.flow_graph.specs.declared.flow.Flow.{Flow};
 ghost use Rattle.flow_graph.specs.Lowering.{IsLowerable, scope_of, body_of, DoesIn, LoweredIn, DoesFirst};
 
 use crate::assignment::Assignment;
@@ -17,6 +18,7 @@ use crate::flow::Flow;
 use crate::formula::Formula;
 use crate::labels::find;
 use crate::point::{EXIT, Point};
+use crate::put::put;
 use crate::scope::Scope;
 use crate::side::Side;
 use crate::sizes::{size, size_of};
@@ -145,6 +147,19 @@ impl<'a, N: Allocator, A: Allocator + Clone> Lowering<'a, N, A> {
         }
     }
 
+    /// Puts what a statement leads to behind others.
+    fn first(
+        &self,
+        stmt: &Stmt<N>,
+        after: Point,
+        flows: &mut Vec<Flow<A>, A>,
+    ) -> Result<(), AllocError>
+        requires { IsLowerable self.now }
+        ensures { IfOk result (λ _. (f : Flow A) × (flows.new.items ≡ flows.old.items ++ f ∷ []) × DoesFirst self.now f stmt.now (length flows.old.items) after) }
+    {
+        put(self.flow(stmt, flows.len(), after), flows)
+    }
+
     /// Puts the flows of statements behind others, where the run goes on at `after` behind them.
     #[cycle(lowering)]
     pub(crate) fn block(
@@ -177,7 +192,7 @@ impl<'a, N: Allocator, A: Allocator + Clone> Lowering<'a, N, A> {
         ensures { IfOk result (λ _. LoweredIn self.now flows.old.items flows.new.items (stmt.now ∷ []) after) }
     {
         let number = flows.len();
-        flows.push(self.flow(stmt, number, after)?)?;
+        self.first(stmt, after, flows)?;
         match &stmt.core {
             Core::If(_, a, b) => {
                 self.block(a, after, flows)?;

@@ -10,11 +10,12 @@ use Rattle.language.specs.Flow.{rests}
 use Rattle.syntax.specs.Trees.{item_of, deed_of, block_of, rhs_of}
 use Rattle.syntax.proofs.Held.{held, first_counts}
 use Rattle.syntax.proofs.Folds.{item_deed, deed_of-If, deed_of-While}
+use Rattle.syntax.proofs.Plain.{is_simple}
 use Rattle.flow_graph.specs.Nodes.{at, node_of}
 use Rattle.flow_graph.specs.Flows.{Lowered}
 use Rattle.flow_graph.specs.Lowering.{scope_of, body_of, code_from, DoesIn}
 use Rattle.flow_graph.proofs.Counted.{alone_counts, split_counts}
-use Rattle.flow_graph.proofs.Lowered.{nodes_split, nodes_branch, nodes_repeat, lowered_then, lowered_none, lowered_one}
+use Rattle.flow_graph.proofs.Lowered.{nodes_split, nodes_simple, nodes_branch, nodes_repeat, lowered_then, lowered_none, lowered_one}
 use Rattle.flow_graph.proofs.lowering.Lowering.+lowering.Goals as goal
 
 pub block-loop-stmt-init : goal.block-loop-stmt-init
@@ -78,10 +79,11 @@ statement-returns-in_ok-block-in-If g t c =
     let stmt = c.args.stmt.now in
     let i = item_of stmt in
     let old = c.args.flows.now.items in
-    let one = c.push.new.self.items in
+    let one = c.first.new.flows.items in
     let mid = c.block.new.flows.items in
     let new = c.block-in-If.new.flows.items in
-    let f = c.in_ok-flow.field-0 in
+    let made = c.in_ok-first.ensures in
+    let f = made.0 in
     let core = ap deed_of c.in-If.is ∙ deed_of-If c.in-If.field-0 c.in-If.a c.in-If.b in
     let parts = ap held core in
     let whole = alone_counts stmt in
@@ -89,7 +91,7 @@ statement-returns-in_ok-block-in-If g t c =
     let b = c.deref-in-If.ensures.value in
     let count_a = ap (λ l. statements (block_of l)) a in
     let count_b = ap (λ l. statements (block_of l)) b in
-    let pushed = c.in_ok-push.ensures.items in
+    let pushed = made.1 in
     let number : c.len-number.result ≡ length old = c.len-number.ensures ∙ c.args.flows.now.ok.0 in
     let next : length one ≡ suc (length old) = omega (arith, ap length pushed, length-append old (f ∷ [])) in
     let first = c.in_ok-block-in-If.ensures in
@@ -98,8 +100,7 @@ statement-returns-in_ok-block-in-If g t c =
       omega (arith, next, first.0, second.0, count_a, count_b, whole, parts),
       λ k at_k few.
           let node = node_of (body_of me) (join (code_from me (length old) (stmt ∷ [])) k) in
-          let does = subst (λ n. DoesIn me f (node_of (body_of me) (join (code_from me n (stmt ∷ [])) k))) number
-          (c.in_ok-flow.ensures k at_k (few.0, omega (arith, few.1, number))) in
+          let does = made.2 k at_k few in
           let here = first.1 k at_k (few.0, omega (arith, few.1, next, count_a, whole, parts)) in
           let there = second.1 k at_k (few.0, omega (arith, few.1, first.0, next, count_a, count_b, whole, parts)) in
           subst (λ ns. Lowered old new ns (length s.globals) (length s.locals) (length s.procedures))
@@ -117,15 +118,16 @@ statement-returns-in-While g t c =
     let stmt = c.args.stmt.now in
     let i = item_of stmt in
     let old = c.args.flows.now.items in
-    let one = c.push.new.self.items in
+    let one = c.first.new.flows.items in
     let new = c.block-in-While.new.flows.items in
-    let f = c.in_ok-flow.field-0 in
+    let made = c.in_ok-first.ensures in
+    let f = made.0 in
     let core = ap deed_of c.in-While.is ∙ deed_of-While c.in-While.field-0 c.in-While.a in
     let parts = ap held core in
     let whole = alone_counts stmt in
     let a = c.deref-in-While.ensures.value in
     let count = ap (λ l. statements (block_of l)) a in
-    let pushed = c.in_ok-push.ensures.items in
+    let pushed = made.1 in
     let number : c.len-number.result ≡ length old = c.len-number.ensures ∙ c.args.flows.now.ok.0 in
     let next : length one ≡ suc (length old) = omega (arith, ap length pushed, length-append old (f ∷ [])) in
     IfOk-weaker c.block-in-While.result _ _
@@ -134,8 +136,7 @@ statement-returns-in-While g t c =
       λ k at_k few.
           let node = node_of (body_of me) (join (code_from me (length old) (stmt ∷ [])) k) in
           let again = loop (marked (length old) (resolve_mark i.mark)) (resolve_side s (rhs_of c.in-While.field-0)) (numbered (suc (length old)) (resolve_block s (block_of c.in-While.a.items))) k in
-          let does = subst (λ n. DoesIn me f (node_of (body_of me) (join (code_from me n (stmt ∷ [])) k))) number
-          (c.in_ok-flow.ensures k at_k (few.0, omega (arith, few.1, number))) in
+          let does = made.2 k at_k few in
           let here = inside.1 again (sym number) (few.0, omega (arith, few.1, next, count, whole, parts)) in
           subst (λ ns. Lowered old new ns (length s.globals) (length s.locals) (length s.procedures))
           (sym (nodes_repeat (body_of me) (length old) (length one) s i.mark i.deed (rhs_of c.in-While.field-0) (block_of c.in-While.a.items) k (item_deed stmt ∙ core) next
@@ -143,3 +144,24 @@ statement-returns-in-While g t c =
           (lowered_then old one new (node ∷ []) _ _ _ _ (lowered_one old one f node _ _ _ pushed does) here),
     ))
     c.block-in-While.ensures
+
+pub statement-returns-in_default : goal.statement-returns-in_default
+statement-returns-in_default g t c =
+    let me = c.args.self.now in
+    let s = scope_of me in
+    let stmt = c.args.stmt.now in
+    let i = item_of stmt in
+    let old = c.args.flows.now.items in
+    let new = c.first.new.flows.items in
+    let made = c.in_ok-first.ensures in
+    let f = made.0 in
+    let deed = is_simple stmt.core c.in_default.not-If c.in_default.not-While in
+    let parts = ap held deed.1 in
+    let whole = alone_counts stmt in (
+      omega (arith, ap length made.1, length-append old (f ∷ []), parts, whole),
+      λ k at_k few.
+          let node = node_of (body_of me) (join (code_from me (length old) (stmt ∷ [])) k) in
+          subst (λ ns. Lowered old new ns (length s.globals) (length s.locals) (length s.procedures))
+          (sym (nodes_simple (body_of me) (length old) s i.mark i.deed deed.0 k (item_deed stmt ∙ deed.1)))
+          (lowered_one old new f node _ _ _ made.1 (made.2 k at_k few)),
+    )
