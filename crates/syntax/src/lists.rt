@@ -35,7 +35,7 @@ impl<'a, A: Allocator + Clone> Reader<'a, A> {
         ensures shorter { IfOk result (λ p. length p.1.now < length tokens.now) }
     {
         let (first, mut rest) = self.id(tokens)?;
-        let mut list = self.one(first)?;
+        let mut list = self.one(1, first)?;
         while begins(Kind::Comma, rest) {
             let (_, others) = self.take(Kind::Comma, rest)?;
             let (next, after) = self.id(others)?;
@@ -54,7 +54,7 @@ impl<'a, A: Allocator + Clone> Reader<'a, A> {
         ensures shorter { IfOk result (λ p. length p.1.now < length tokens.now) }
     {
         let (first, mut rest) = self.right(tokens)?;
-        let mut list = self.one(first)?;
+        let mut list = self.one(1, first)?;
         while begins(Kind::Comma, rest) {
             let (_, others) = self.take(Kind::Comma, rest)?;
             let (next, after) = self.right(others)?;
@@ -73,7 +73,7 @@ impl<'a, A: Allocator + Clone> Reader<'a, A> {
         ensures shorter { IfOk result (λ p. length p.1.now < length tokens.now) }
     {
         let (first, mut rest) = self.expression(0, tokens)?;
-        let mut list = self.one(first)?;
+        let mut list = self.one(1, first)?;
         while begins(Kind::Comma, rest) {
             let (_, others) = self.take(Kind::Comma, rest)?;
             let (next, after) = self.expression(0, others)?;

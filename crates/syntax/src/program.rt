@@ -114,9 +114,8 @@ impl<'a, A: Allocator + Clone> Reader<'a, A> {
         ensures gives { Gives (λ p. (procs_of p.0.items, toks_of p.1.now)) result (procedures (toks_of tokens.now)) }
         ensures shorter { IfOk result (λ p. length p.1.now < length tokens.now) }
     {
-        let mut list = Vec::new(self.alloc.clone()?);
         let (first, mut rest) = self.procedure(tokens)?;
-        put(&mut list, first)?;
+        let mut list = self.one(4, first)?;
         while begins(Kind::Id, rest) {
             let (next, after) = self.procedure(rest)?;
             put(&mut list, next)?;
@@ -141,9 +140,8 @@ impl<'a, A: Allocator + Clone> Reader<'a, A> {
     fn threads<'t>(&self, tokens: &'t [Token<'t>]) -> Result<Vec<Thread<A>, A>, ReadFault>
         ensures gives { Gives (λ v. (threads_of v.items, [])) result (thread_lines (toks_of tokens.now)) }
     {
-        let mut list = Vec::new(self.alloc.clone()?);
         let (first, mut rest) = self.thread(tokens)?;
-        put(&mut list, first)?;
+        let mut list = self.one(4, first)?;
         while any_left(rest) {
             let (next, after) = self.thread(rest)?;
             put(&mut list, next)?;

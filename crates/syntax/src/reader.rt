@@ -40,12 +40,12 @@ pub fn put<T: Drop, A: Allocator>(list: &mut Vec<T, A>, value: T) -> Result<(), 
 }
 
 impl<'a, A: Allocator + Clone> Reader<'a, A> {
-    /// A list of one element, with room for no other.
-    pub fn one<T: Drop>(&self, first: T) -> Result<Vec<T, A>, ReadFault>
+    /// A list of one element, with room for so many.
+    pub fn one<T: Drop>(&self, room: usize, first: T) -> Result<Vec<T, A>, ReadFault>
         ensures ok { IfOk result (λ list. list.items ≡ first ∷ []) }
         ensures err { IsOkUnless result ReadFault.Memory }
     {
-        let mut list = Vec::with_capacity(self.alloc.clone()?, 1)?;
+        let mut list = Vec::with_capacity(self.alloc.clone()?, room)?;
         list.push(first)?;
         Ok(list)
     }

@@ -143,9 +143,8 @@ impl<'a, A: Allocator + Clone> Reader<'a, A> {
         ensures gives { Gives (λ p. (block_of p.0.items, toks_of p.1.now)) result (section (toks_of tokens.now)) }
         ensures shorter { IfOk result (λ p. length p.1.now < length tokens.now) }
     {
-        let mut list = Vec::new(self.alloc.clone()?);
         let (first, mut rest) = self.statement(tokens)?;
-        put(&mut list, first)?;
+        let mut list = self.one(4, first)?;
         while begins_statement(rest) {
             let (next, after) = self.statement(rest)?;
             put(&mut list, next)?;

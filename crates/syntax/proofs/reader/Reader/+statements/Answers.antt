@@ -5,7 +5,6 @@ use Rattle.tokens.specs.Token.{toks_of}
 use Rattle.syntax.specs.Parser.{take}
 use Rattle.syntax.specs.Exact.{item, section, section_behind, going_on, put_before, if_deed, while_deed}
 use Rattle.syntax.specs.Trees.{Deed, Item, item_of, items_of}
-use Rattle.syntax.specs.declared.tree.Stmt.{Stmt}
 use Rattle.syntax.proofs.Exits.{fails_on}
 use Rattle.syntax.proofs.Folds.{deed_of-If, deed_of-While}
 use Rattle.syntax.proofs.Goings.{sections_start, sections_no_start, sections_go_on, sections_refused, if_no_yes, if_no_no, if_no_end, if_whole, while_no_body, while_no_end, while_whole, deed_skip, deed_return, deed_goto, deed_assert, deed_assume, deed_if, deed_while}
@@ -88,7 +87,7 @@ pub statements-loop-rest-init : goal.statements-loop-rest-init
 statements-loop-rest-init g t c = record {
   whole =
       sections_start (toks_of c.args.tokens.now) (item_of c.in_ok-first.first) (toks_of c.in_ok-first.rest.now) c.in_ok-first.ensures.gives
-      ∙ ap (λ (is : List Item). put_before is (going_on (toks_of c.in_ok-first.rest.now))) (pushed item_of [] c.put.new.list.items c.in_ok-first.first (c.in_ok-put.ensures.ok ∙ ap (λ (xs : List (Stmt g.row.A.Denot)). xs ++ (c.in_ok-first.first ∷ [])) c.new-list.ensures.items));
+      ∙ ap (λ (is : List Item). put_before is (going_on (toks_of c.in_ok-first.rest.now))) (pushed item_of [] c.in_ok-list.list.items c.in_ok-first.first c.in_ok-list.ensures.ok);
   shorter = c.in_ok-first.ensures.shorter;
 }
 
@@ -97,13 +96,13 @@ statements-loop-rest-preserved g t c = record {
   whole =
       c.loop-rest.invariant.whole
       ∙ sections_go_on (items_of c.loop-rest.list.items) (toks_of c.loop-rest.rest.now) (item_of c.in_ok-next.next) (toks_of c.in_ok-next.after.now) (sym c.begins_statement.ensures ∙ c.loop-rest-test.true) c.in_ok-next.ensures.gives
-      ∙ ap (λ (is : List Item). put_before is (going_on (toks_of c.in_ok-next.after.now))) (pushed item_of c.loop-rest.list.items c.put-in-loop-rest.new.list.items c.in_ok-next.next c.in_ok-put-2.ensures.ok);
+      ∙ ap (λ (is : List Item). put_before is (going_on (toks_of c.in_ok-next.after.now))) (pushed item_of c.loop-rest.list.items c.put.new.list.items c.in_ok-next.next c.in_ok-put.ensures.ok);
   shorter = search rules;
 }
 
 pub statements-returns-in_err-first-clause-gives : goal.statements-returns-in_err-first-clause-gives
 statements-returns-in_err-first-clause-gives g t c =
-    let p = err_from_is_err_and c.from_residual-in_err-first.result c.from_residual-in_err-first.ensures.1 in
+    let p = err_from_is_err_and c.from_residual.result c.from_residual.ensures.1 in
     rw (p.1, p.2) (fails_on _ (item (toks_of c.args.tokens.now)) (section (toks_of c.args.tokens.now))
     (sections_no_start (toks_of c.args.tokens.now)) c.in_err-first.ensures.gives)
 
