@@ -53,22 +53,47 @@ fn rewriting<A: Allocator + Copy>(
     }
 }
 
+/// Whether a line stands in a text.
+fn has_line(text: &str, line: &str) -> bool {
+    for each in text.split('\n') {
+        if each == line {
+            return true;
+        }
+    }
+    false
+}
+
 /// Whether a line stands in what is printed: `LINE :: TEXT`.
-fn holds<A: Allocator + Copy>(alloc: A, count: u8, rest: &str) -> Result<bool, TextFault> {
+fn holds<A: Allocator + Copy>(
+    host: Global,
+    alloc: A,
+    count: u8,
+    rest: &str,
+) -> Result<String, TextFault> {
     let Some((line, text)) = rest.split_once(" :: ") else {
         return Err(TextFault::Case);
     };
     let printed = printed(alloc, count, text)?;
-    for each in printed.as_str().split('\n') {
-        if each == line {
-            return Ok(true);
-        }
-    }
-    Ok(false)
+    let holds = has_line(printed.as_str(), line);
+    Ok(format!(in host; "{holds}")?)
 }
 
-/// The widths of a rewritten program's procedures in order, each with a comma behind it.
-fn widths<A: Allocator>(host: Global, sequential: &Sequential<A>) -> Result<String, AllocError> {
+/// Whether a text is narrow enough.
+fn fits<A: Allocator + Copy>(
+    host: Global,
+    alloc: A,
+    count: u8,
+    text: &str,
+) -> Result<String, TextFault> {
+    let _sequential = sequential(alloc, count, text)?;
+    Ok(String::from_str(host, "rewritten")?)
+}
+
+/// The widths of a sequential program's procedures in order, each with a comma behind it.
+fn all_widths<A: Allocator>(
+    host: Global,
+    sequential: &Sequential<A>,
+) -> Result<String, AllocError> {
     let mut line = String::new(host);
     for procedure in 0..32u8 {
         if (procedure as usize) < sequential.program().procs.len() {
@@ -79,8 +104,27 @@ fn widths<A: Allocator>(host: Global, sequential: &Sequential<A>) -> Result<Stri
     Ok(line)
 }
 
+/// The widths of a text, rewritten.
+fn widths<A: Allocator + Copy>(
+    host: Global,
+    alloc: A,
+    count: u8,
+    text: &str,
+) -> Result<String, TextFault> {
+    let sequential = sequential(alloc, count, text)?;
+    Ok(all_widths(host, &sequential)?)
+}
+
+/// Whether there is such a number of rounds.
+fn rounds(host: Global, count: u8) -> Result<String, TextFault> {
+    match Rounds::new(count) {
+        Some(_) => Ok(String::from_str(host, "some")?),
+        None => Err(TextFault::Rounds),
+    }
+}
+
 /// How many globals a program has, the names of its procedures and the offsets of its thread lines.
-fn parts<A: Allocator>(host: Global, program: &Program<A>) -> Result<String, AllocError> {
+fn all_parts<A: Allocator>(host: Global, program: &Program<A>) -> Result<String, AllocError> {
     let globals = program.globals.len();
     let mut line = format!(in host; "globals {globals}")?;
     for proc in &program.procs {
@@ -94,6 +138,18 @@ fn parts<A: Allocator>(host: Global, program: &Program<A>) -> Result<String, All
     Ok(line)
 }
 
+/// Whether no fault stands in a text.
+fn verdict<A: Allocator + Copy>(host: Global, alloc: A, text: &str) -> Result<String, TextFault> {
+    let _checked = checked(alloc, text)?;
+    Ok(String::from_str(host, "checked")?)
+}
+
+/// The parts of a text, checked.
+fn parts<A: Allocator + Copy>(host: Global, alloc: A, text: &str) -> Result<String, TextFault> {
+    let checked = checked(alloc, text)?;
+    Ok(all_parts(host, checked.program())?)
+}
+
 /// What is answered to a case with a number of rounds: `WORD COUNT TEXT`.
 fn counted<A: Allocator + Copy>(
     host: Global,
@@ -104,22 +160,10 @@ fn counted<A: Allocator + Copy>(
 ) -> Result<String, TextFault> {
     match word {
         "rewrite" => rewriting(host, alloc, count, text),
-        "holds" => {
-            let holds = holds(alloc, count, text)?;
-            Ok(format!(in host; "{holds}")?)
-        }
-        "fits" => {
-            let _sequential = sequential(alloc, count, text)?;
-            Ok(String::from_str(host, "rewritten")?)
-        }
-        "widths" => {
-            let sequential = sequential(alloc, count, text)?;
-            Ok(widths(host, &sequential)?)
-        }
-        "rounds" => match Rounds::new(count) {
-            Some(_) => Ok(String::from_str(host, "some")?),
-            None => Err(TextFault::Rounds),
-        },
+        "holds" => holds(host, alloc, count, text),
+        "fits" => fits(host, alloc, count, text),
+        "widths" => widths(host, alloc, count, text),
+        "rounds" => rounds(host, count),
         _ => Err(TextFault::Case),
     }
 }
@@ -146,14 +190,8 @@ fn answer<A: Allocator + Copy>(
     rest: &str,
 ) -> Result<String, TextFault> {
     match word {
-        "check" => {
-            let _checked = checked(alloc, rest)?;
-            Ok(String::from_str(host, "checked")?)
-        }
-        "parts" => {
-            let checked = checked(alloc, rest)?;
-            Ok(parts(host, checked.program())?)
-        }
+        "check" => verdict(host, alloc, rest),
+        "parts" => parts(host, alloc, rest),
         _ => numbered(host, alloc, word, rest),
     }
 }
