@@ -1,10 +1,12 @@
 //! Simultaneous assignments, compiled once, to be made often.
 
 ghost use Rattle.std.specs.Prelude.{◌≡◌, ◌+◌, ◌≤◌, ◌<◌, ◌^◌, [], length, map, IfOk, IfSome};
-ghost use Rattle.syntax.specs.Trees.{name_of, names_of, rhss_of};
+ghost use Rattle.syntax.specs.Trees.{name_of, names_of, rhs_of, rhss_of};
 ghost use Rattle.flow_graph.specs.Assignments.{masked, choice_left, anys, assigned, Assigns, bit_of_name, lasting};
+ghost use Rattle.flow_graph.specs.Formulas.{SaysSide};
 ghost use Rattle.flow_graph.specs.Views.{scope_seen, IsSmall};
 
+use crate::put::put;
 use crate::scope::Scope;
 use crate::side::Side;
 use crate::word::Word;
@@ -110,6 +112,21 @@ impl<'a, N: Allocator> Scope<'a, N> {
         Some(bit)
     }
 
+    /// Compiles what is written to a bit.
+    fn write<A: Allocator + Clone>(
+        &self,
+        alloc: &A,
+        bit: u8,
+        side: &Rhs<N>,
+    ) -> Result<Write<A>, AllocError>
+        requires { IsSmall self.now × (bit < 64) }
+        ensures { IfOk result (λ w. (w.mask ≡ 2 ^ bit) × SaysSide w.side (scope_seen self.now) (rhs_of side.now)) }
+    {
+        let side = self.side(alloc.clone()?, side)?;
+        let mask = 1 << bit;
+        Ok(Write { mask, side })
+    }
+
     /// Compiles a simultaneous assignment. A target that is declared
     /// nowhere is not written, nor is one without a right side.
     pub(crate) fn assignment<A: Allocator + Clone>(
@@ -125,9 +142,7 @@ impl<'a, N: Allocator> Scope<'a, N> {
         let mut writes = Vec::new(alloc.clone()?);
         for at in 0..count {
             if let Some(bit) = self.lasting(&targets[at], &targets[at + 1..count]) {
-                let side = self.side(alloc.clone()?, &sides[at])?;
-                let mask = 1 << bit;
-                writes.push(Write { mask, side })?;
+                put(self.write(alloc, bit, &sides[at]), &mut writes)?;
             }
         }
         let last = last_choice(writes.as_slice());

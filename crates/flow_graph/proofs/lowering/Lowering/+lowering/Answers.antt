@@ -13,7 +13,7 @@ use Rattle.syntax.proofs.Folds.{item_deed, deed_of-If, deed_of-While}
 use Rattle.syntax.proofs.Plain.{is_simple}
 use Rattle.flow_graph.specs.Nodes.{at, node_of}
 use Rattle.flow_graph.specs.Flows.{Lowered}
-use Rattle.flow_graph.specs.Lowering.{scope_of, body_of, code_from, DoesIn}
+use Rattle.flow_graph.specs.Lowering.{scope_of, body_of, code_from}
 use Rattle.flow_graph.proofs.Counted.{alone_counts, split_counts}
 use Rattle.flow_graph.proofs.Lowered.{nodes_split, nodes_simple, nodes_branch, nodes_repeat, lowered_then, lowered_none, lowered_one}
 use Rattle.flow_graph.proofs.lowering.Lowering.+lowering.Goals as goal

@@ -1,11 +1,13 @@
 -- Each target is written, unless it is declared nowhere or written again.
-use Rattle.std.proofs.Common.{◌+◌, ◌^◌, length, map, ap, sym, ◌∙◌, arith}
-use Rattle.syntax.specs.Trees.{names_of, rhss_of}
+use Rattle.std.proofs.Common.{◌≡◌, ◌+◌, ◌^◌, length, map, ap, sym, ◌∙◌, subst, arith}
+use Rattle.std.specs.Prelude.{IfOk}
+use Rattle.syntax.specs.Trees.{names_of, rhs_of, rhss_of}
 use Rattle.flow_graph.specs.Assignments.{anys, bit_of_name}
+use Rattle.flow_graph.specs.Formulas.{SaysSide}
 use Rattle.flow_graph.specs.Views.{scope_seen}
-use Rattle.flow_graph.proofs.Assignments.{kept_from, all_written, anys_same, anys_few, assigns, few_variables, names_below, one_bit, one_written, passed_over}
+use Rattle.flow_graph.proofs.Assignments.{kept_from, all_written, anys_same, anys_few, assigns, few_variables, names_below, one_written, passed_over}
 use Rattle.flow_graph.proofs.scope.Scope.assignment.Goals as goal
-use Rattle.flow_graph.proofs.scope.Scope.assignment.Goals.{in-Some+in_ok-clone-2+in_ok-side+in_ok-push, in_default}
+use Rattle.flow_graph.proofs.scope.Scope.assignment.Goals.{in-Some+in_ok-put, in_default}
 
 pub loop-at-preserved : goal.loop-at-preserved
 loop-at-preserved g c =
@@ -13,10 +15,12 @@ loop-at-preserved g c =
     let xs = c.args.targets.now in
     let ys = c.args.sides.now in
     elim c.match-lasting.branch [
-      | in-Some+in_ok-clone-2+in_ok-side+in_ok-push w ↦
+      | in-Some+in_ok-put w ↦
+          let made = w.in_ok-put.ensures in
+          let says = subst (λ r. IfOk r (λ x. (x.mask ≡ 2 ^ w.in-Some.bit) × SaysSide x.side s (rhs_of w.index-sides-at.result))) made.1 w.write.ensures in
           one_written s xs ys c.loop-at.at c.min-count.result c.loop-at.writes.items c.match-lasting.writes.items (kept_from s xs ys 0) c.index-targets-at.result
-          c.loop-at-test.true (omega (arith, c.min-count.ensures)) c.index-targets-at.is w.index-sides-at.result _ w.in-Some.bit w.index-sides-at.is (sym w.in-Some.ensures.bit) (one_bit w.in-Some.bit w.in-Some.ensures.small)
-          w.in_ok-side.ensures (ap (λ v. v.items) w.writes-is ∙ w.in_ok-push.ensures.items) c.loop-at.invariant
+          c.loop-at-test.true (omega (arith, c.min-count.ensures)) c.index-targets-at.is w.index-sides-at.result made.0 w.in-Some.bit w.index-sides-at.is (sym w.in-Some.ensures.bit) says.0
+          says.1 (ap (λ v. v.items) w.writes-is ∙ made.2) c.loop-at.invariant
       | in_default w ↦
           passed_over s xs ys c.loop-at.at c.min-count.result c.loop-at.writes.items c.match-lasting.writes.items (kept_from s xs ys 0) c.index-targets-at.result
           c.loop-at-test.true (omega (arith, c.min-count.ensures)) c.index-targets-at.is (sym c.lasting.ensures.bit ∙ w.in_default.is) (ap (λ v. v.items) w.writes-is) c.loop-at.invariant
