@@ -5,7 +5,7 @@ use std::alloc::{AllocError, Allocator, Global};
 use std::process::Abort;
 use std::thread;
 
-/// Pushes the numbers below 100, each again where it was refused; answers how many were refused, and the growth before which the last one was.
+/// Pushes the numbers below 100, each again where it was refused; answers how many were refused, and the growth before the last refusal.
 fn pushes<A: Allocator>(numbers: &mut Vec<u64, A>) -> Result<(u64, u64), AllocError> {
     let (mut refusals, mut growths, mut at) = (0u64, 0u64, 0u64);
     for n in 0..100u64 {

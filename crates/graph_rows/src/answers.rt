@@ -1,4 +1,4 @@
-//! Answers to questions on flow graphs. A question is a word and numbers: valuations in binary digits behind `0b`, all else in decimal digits.
+//! Answers to questions on flow graphs. A question is a word and numbers: valuations in binary digits behind `0b`, others in decimal.
 
 use flow_graph::{Call, Flow, Graph, Graphs, Point};
 use std::alloc::Allocator;

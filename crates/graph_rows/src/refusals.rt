@@ -6,8 +6,8 @@ use round_rewrite::Sequential;
 use scarce::Scarce;
 use std::alloc::Allocator;
 
-/// Whether the allocation of this number was refused. With it refused there are no graphs, or the answer is the wanted one; `None` where neither is
-/// so.
+/// Whether the allocation of this number was refused. With it refused there are no graphs, or the answer is the wanted one; `None` where
+/// neither is so.
 fn was_refused<A: Allocator + Copy>(
     alloc: A,
     nth: u64,
@@ -30,8 +30,8 @@ fn was_refused<A: Allocator + Copy>(
     }
 }
 
-/// The answer to the question, where with each allocation refused in turn there are no graphs, or the answer is the same; at last none is refused. There
-/// are three at least: for the list of graphs, and for the flows of two of them.
+/// The answer to the question, where with each allocation refused in turn there are no graphs, or the answer is the same; at last none
+/// is refused. There are three at least: for the list of graphs, and for the flows of two of them.
 pub(crate) fn each_refused<A: Allocator + Copy>(
     alloc: A,
     sequential: &Sequential<A>,
