@@ -7,7 +7,7 @@ use Rattle.tokens.specs.Token.{Tok, same_kind}
 use Rattle.syntax.specs.Parser.{Parser, give, ◌>>=◌, begins, take}
 use Rattle.syntax.specs.Grammar.{Takes, takes, name_at, IsName, is_name, behind, InParens, in_parens, no_more, one_more, Listed, listed, Perhaps, IsExpression, IsRight, IsMarked, bare, labelled, IsSimple, is_skip, is_return, is_goto, is_assert, is_assume, is_assign, is_call, IsSome, Statements, nothing_more, statement, if_statement, while_statement}
 use Rattle.syntax.specs.Trees.{Deed, simple, branch, repeat, before, marked_before}
-use Rattle.syntax.specs.Exact.{name, names, rights, arguments, test, marked, assignment, calling, named, branching, repeating, deed_by, deed_step, starts, starts_here, item_step, rest_step, section}
+use Rattle.syntax.specs.Exact.{name, names, rights, arguments, condition, marked, assignment, calling, named, branching, repeating, deed_by, deed_step, starts, starts_here, item_step, rest_step, section}
 use Rattle.syntax.proofs.KindTests.{same_kind-true, same_kind-is}
 use Rattle.syntax.proofs.Fixes.{bind_is}
 use Rattle.syntax.proofs.Expressions.{take_is}
@@ -29,11 +29,11 @@ module _ (f : Parser (Block Name Name Name)) (t : Tok) where
   unfolding same_kind
   by_goto e = rw e refl
 
-  by_assert : t.kind ≡ kind.Assert → deed_by f t ≡ (test >>= λ r. take kind.Semicolon >>= λ _. give (simple (assert r)))
+  by_assert : t.kind ≡ kind.Assert → deed_by f t ≡ (condition >>= λ r. take kind.Semicolon >>= λ _. give (simple (assert r)))
   unfolding same_kind
   by_assert e = rw e refl
 
-  by_assume : t.kind ≡ kind.Assume → deed_by f t ≡ (test >>= λ r. take kind.Semicolon >>= λ _. give (simple (assume r)))
+  by_assume : t.kind ≡ kind.Assume → deed_by f t ≡ (condition >>= λ r. take kind.Semicolon >>= λ _. give (simple (assume r)))
   unfolding same_kind
   by_assume e = rw e refl
 
@@ -80,9 +80,9 @@ simple_reads f (is_return (takes {t = t} {rest = us} is) c) = at us (by_return f
 simple_reads f (is_goto {vs = vs} {l = l} (takes {t = t} {rest = us} is) h c) =
     at us (by_goto f t is) ∙ bind_is name (λ l. take kind.Semicolon >>= λ _. give (simple (goto l))) us l vs (exactly_name.reads us l vs h tt) ∙ ends (simple (goto l)) c
 simple_reads f (is_assert {vs = vs} {r = r} (takes {t = t} {rest = us} is) h c) =
-    at us (by_assert f t is) ∙ bind_is test (λ r. take kind.Semicolon >>= λ _. give (simple (assert r))) us r vs (exactly_test.reads us r vs h tt) ∙ ends (simple (assert r)) c
+    at us (by_assert f t is) ∙ bind_is condition (λ r. take kind.Semicolon >>= λ _. give (simple (assert r))) us r vs (exactly_test.reads us r vs h tt) ∙ ends (simple (assert r)) c
 simple_reads f (is_assume {vs = vs} {r = r} (takes {t = t} {rest = us} is) h c) =
-    at us (by_assume f t is) ∙ bind_is test (λ r. take kind.Semicolon >>= λ _. give (simple (assume r))) us r vs (exactly_test.reads us r vs h tt) ∙ ends (simple (assume r)) c
+    at us (by_assume f t is) ∙ bind_is condition (λ r. take kind.Semicolon >>= λ _. give (simple (assume r))) us r vs (exactly_test.reads us r vs h tt) ∙ ends (simple (assume r)) c
 simple_reads f (is_assign {ts = []} (listed h m) a l c) = elim h [ ]
 simple_reads f (is_assign {ts = t ∷ ts} {us = us} {vs = vs} {ws = ws} {rest = rest} {xs = xs} {rs = rs} h a l c) =
     let n = names_next t ts us xs h in
@@ -184,7 +184,7 @@ word_here (takes e) h = rw e h
 if_reads : {t1 t2 t3 t4 t5 t6 t7 t8 : List Tok} {r : RightSide Name} {a b : Block Name Name Name} → Takes kind.If t1 t2 → InParens IsRight t2 r t3 → Takes kind.Then t3 t4 → section t4 ≡ Some (a, t5) → Takes kind.Else t5 t6 → section t6 ≡ Some (b, t7) → Takes kind.Fi t7 t8 → deed_step section t1 ≡ Some (branch r a b, t8)
 if_reads {t2 = t2} {t3 = t3} {t4 = t4} {t5 = t5} {t6 = t6} {t7 = t7} {r = r} {a = a} {b = b} (takes {t = t} is) h th sa el sb fi =
     at t2 (by_if section t is)
-    ∙ bind_is test (λ r. take kind.Then >>= λ _. section >>= λ a. take kind.Else >>= λ _. section >>= λ b. take kind.Fi >>= λ _. give (branch r a b)) t2 r t3 (exactly_test.reads t2 r t3 h tt)
+    ∙ bind_is condition (λ r. take kind.Then >>= λ _. section >>= λ a. take kind.Else >>= λ _. section >>= λ b. take kind.Fi >>= λ _. give (branch r a b)) t2 r t3 (exactly_test.reads t2 r t3 h tt)
     ∙ passing (section >>= λ a. take kind.Else >>= λ _. section >>= λ b. take kind.Fi >>= λ _. give (branch r a b)) th
     ∙ bind_is section (λ a. take kind.Else >>= λ _. section >>= λ b. take kind.Fi >>= λ _. give (branch r a b)) t4 a t5 sa
     ∙ passing (section >>= λ b. take kind.Fi >>= λ _. give (branch r a b)) el
@@ -194,7 +194,7 @@ if_reads {t2 = t2} {t3 = t3} {t4 = t4} {t5 = t5} {t6 = t6} {t7 = t7} {r = r} {a 
 while_reads : {t1 t2 t3 t4 t5 t6 : List Tok} {r : RightSide Name} {a : Block Name Name Name} → Takes kind.While t1 t2 → InParens IsRight t2 r t3 → Takes kind.Do t3 t4 → section t4 ≡ Some (a, t5) → Takes kind.Od t5 t6 → deed_step section t1 ≡ Some (repeat r a, t6)
 while_reads {t2 = t2} {t3 = t3} {t4 = t4} {t5 = t5} {r = r} {a = a} (takes {t = t} is) h th sa od =
     at t2 (by_while section t is)
-    ∙ bind_is test (λ r. take kind.Do >>= λ _. section >>= λ a. take kind.Od >>= λ _. give (repeat r a)) t2 r t3 (exactly_test.reads t2 r t3 h tt)
+    ∙ bind_is condition (λ r. take kind.Do >>= λ _. section >>= λ a. take kind.Od >>= λ _. give (repeat r a)) t2 r t3 (exactly_test.reads t2 r t3 h tt)
     ∙ passing (section >>= λ a. take kind.Od >>= λ _. give (repeat r a)) th
     ∙ bind_is section (λ a. take kind.Od >>= λ _. give (repeat r a)) t4 a t5 sa
     ∙ ends (repeat r a) od

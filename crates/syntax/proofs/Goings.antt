@@ -8,7 +8,7 @@ use Rattle.tokens.specs.declared.vocabulary.Token.{Token}
 use Rattle.tokens.specs.Token.{Tok, same_kind, toks_of}
 use Rattle.syntax.specs.Parser.{Parser, give, ◌>>=◌, take}
 use Rattle.syntax.specs.Trees.{Deed, simple, branch, repeat, Item, before, all_before}
-use Rattle.syntax.specs.Exact.{item_step, rest_step, starts_here, section, section_behind, item, going_on, put_before, test, ended, jumping, asserting, assuming, deed, if_deed, while_deed}
+use Rattle.syntax.specs.Exact.{item_step, rest_step, starts_here, section, section_behind, item, going_on, put_before, condition, ended, jumping, asserting, assuming, deed, if_deed, while_deed}
 use Rattle.syntax.proofs.Fixes.{bind_is}
 use Rattle.syntax.proofs.Sections.{section_is}
 
@@ -76,10 +76,10 @@ after_yes r a = take kind.Else >>= λ _. (section >>= λ b. after_no r a b)
 abbrev after_test : RightSide Name → Parser Deed
 after_test r = take kind.Then >>= λ _. (section >>= λ a. after_yes r a)
 
-module _ (ts : List Tok) {r : RightSide Name} {t1 : List Tok} (e1 : test ts ≡ Some (r, t1)) where
+module _ (ts : List Tok) {r : RightSide Name} {t1 : List Tok} (e1 : condition ts ≡ Some (r, t1)) where
   if_test : if_deed ts ≡ after_test r t1
   unfolding if_deed
-  if_test = bind_is test after_test ts r t1 e1
+  if_test = bind_is condition after_test ts r t1 e1
 
   pub if_no_yes : section_behind kind.Then t1 ≡ None → if_deed ts ≡ None
   if_no_yes e = if_test ∙ behind_none kind.Then (after_yes r) t1 e
@@ -105,10 +105,10 @@ module _ (ts : List Tok) {r : RightSide Name} {t1 : List Tok} (e1 : test ts ≡ 
 abbrev after_body : RightSide Name → Block Name Name Name → Parser Deed
 after_body r a = take kind.Od >>= λ _. give (repeat r a)
 
-module _ (ts : List Tok) {r : RightSide Name} {t1 : List Tok} (e1 : test ts ≡ Some (r, t1)) where
+module _ (ts : List Tok) {r : RightSide Name} {t1 : List Tok} (e1 : condition ts ≡ Some (r, t1)) where
   while_test : while_deed ts ≡ (take kind.Do >>= λ _. (section >>= after_body r)) t1
   unfolding while_deed
-  while_test = bind_is test (λ r. take kind.Do >>= λ _. (section >>= after_body r)) ts r t1 e1
+  while_test = bind_is condition (λ r. take kind.Do >>= λ _. (section >>= after_body r)) ts r t1 e1
 
   pub while_no_body : section_behind kind.Do t1 ≡ None → while_deed ts ≡ None
   while_no_body e = while_test ∙ behind_none kind.Do (after_body r) t1 e

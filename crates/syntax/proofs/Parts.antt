@@ -6,7 +6,7 @@ use Rattle.tokens.specs.declared.vocabulary.Kind.TheVariants as kind
 use Rattle.tokens.specs.Token.{Tok, same_kind}
 use Rattle.syntax.specs.Parser.{give, ◌>>=◌, begins, take}
 use Rattle.syntax.specs.Grammar.{Takes, takes, name_at, Reads, reads_zero, reads_one, reads_name, reads_not, reads_paren, reads_two, IsName, is_name, InParens, Listed, Perhaps, IsExpression, IsRight, is_any, is_value}
-use Rattle.syntax.specs.Exact.{binds, name, names, expression, right, rights, formals, arguments, test}
+use Rattle.syntax.specs.Exact.{binds, name, names, expression, right, rights, formals, arguments, condition}
 use Rattle.syntax.proofs.KindTests.{same_kind-true, same_kind-is}
 use Rattle.syntax.proofs.Fixes.{carried, between, bind_is, Strict, Strict-Shrinks, Shrinks-give, Strict-take, Strict-bind}
 use Rattle.syntax.proofs.Expressions.{Stops, stops_end, stops_at, take_is, take_finds, reading_finds, reading_complete, reading_strict}
@@ -133,8 +133,8 @@ pub exactly_arguments : Exactly (InParens (Perhaps IsExpression)) Anything argum
 unfolding arguments same_kind
 exactly_arguments = exactly_parens (exactly_perhaps strict_expression exactly_expression comma_stops close_stops (λ ts x us r. begins_no kind.Close refl r)) (λ us rest t. begins_takes t)
 
-pub exactly_test : Exactly (InParens IsRight) Anything test
-unfolding test
+pub exactly_test : Exactly (InParens IsRight) Anything condition
+unfolding condition
 exactly_test = exactly_parens exactly_right close_stops
 
 pub strict_formals : Strict formals
@@ -145,6 +145,6 @@ pub strict_arguments : Strict arguments
 unfolding arguments
 strict_arguments = strict_parens (shrinks_perhaps strict_expression)
 
-pub strict_test : Strict test
-unfolding test
+pub strict_test : Strict condition
+unfolding condition
 strict_test = strict_parens (Strict-Shrinks strict_right)

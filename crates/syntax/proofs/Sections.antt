@@ -6,7 +6,7 @@ use Rattle.tokens.specs.Token.{Tok, same_kind}
 use Rattle.syntax.specs.Parser.{Parser, give, refuse, ◌>>=◌, begins, take}
 use Rattle.syntax.specs.Grammar.{name_at}
 use Rattle.syntax.specs.Trees.{Deed, simple, branch, repeat, before}
-use Rattle.syntax.specs.Exact.{test, marked, assignment, calling, named, branching, repeating, deed_by, deed_step, starts_here, item_step, rest_step, section_step, section}
+use Rattle.syntax.specs.Exact.{condition, marked, assignment, calling, named, branching, repeating, deed_by, deed_step, starts_here, item_step, rest_step, section_step, section}
 use Rattle.syntax.proofs.Fixes.{both, Shrinks, Strict, Agree, Strict-Shrinks, Shrinks-give, Shrinks-refuse, Strict-take, Shrinks-bind, Strict-bind, Shrinks-Strict-bind, Agree-same, Agree-bind, Agree-Strict-bind, Shrinks-cond, IsStep, fix_shrinks, fix_is}
 use Rattle.syntax.proofs.Exactly.{chosen}
 use Rattle.syntax.proofs.Parts.{strict_name, strict_names, strict_rights, strict_arguments, strict_test}
@@ -74,13 +74,13 @@ module _ (f g : Parser (Block Name Name Name)) (s : Shrinks f) where
 
   branching_agrees : (n : ℕ) → Agree n f g → Agree n (branching f) (branching g)
   branching_agrees n a =
-      Agree-bind (Agree-same n test) (Strict-Shrinks strict_test) (λ r. Agree-bind (Agree-same n (take kind.Then)) (Strict-Shrinks (Strict-take kind.Then)) (λ _. Agree-bind a s (λ x.
+      Agree-bind (Agree-same n condition) (Strict-Shrinks strict_test) (λ r. Agree-bind (Agree-same n (take kind.Then)) (Strict-Shrinks (Strict-take kind.Then)) (λ _. Agree-bind a s (λ x.
       Agree-bind (Agree-same n (take kind.Else)) (Strict-Shrinks (Strict-take kind.Else)) (λ _. Agree-bind a s (λ y.
       Agree-same n (take kind.Fi >>= λ _. give (branch r x y)))))))
 
   repeating_agrees : (n : ℕ) → Agree n f g → Agree n (repeating f) (repeating g)
   repeating_agrees n a =
-      Agree-bind (Agree-same n test) (Strict-Shrinks strict_test) (λ r. Agree-bind (Agree-same n (take kind.Do)) (Strict-Shrinks (Strict-take kind.Do)) (λ _. Agree-bind a s (λ x.
+      Agree-bind (Agree-same n condition) (Strict-Shrinks strict_test) (λ r. Agree-bind (Agree-same n (take kind.Do)) (Strict-Shrinks (Strict-take kind.Do)) (λ _. Agree-bind a s (λ x.
       Agree-same n (take kind.Od >>= λ _. give (repeat r x)))))
 
   deed_agrees : (n : ℕ) → Agree n f g → (t : Tok) → Agree n (deed_by f t) (deed_by g t)

@@ -6,7 +6,7 @@ use Rattle.tokens.specs.Token.{Tok, same_kind}
 use Rattle.syntax.specs.Parser.{Parser, give, refuse, ◌>>=◌, begins, take}
 use Rattle.syntax.specs.Grammar.{takes, name_at, IsMarked, bare, labelled, IsSimple, is_skip, is_return, is_goto, is_assert, is_assume, is_assign, is_call, IsSome, Statements, nothing_more, statement, if_statement, while_statement}
 use Rattle.syntax.specs.Trees.{Deed, simple, branch, repeat, Item, before, marked_before}
-use Rattle.syntax.specs.Exact.{name, names, rights, arguments, test, marked, assignment, calling, named, branching, repeating, deed_by, deed_step, starts_here, item_step, rest_step, section_step, section}
+use Rattle.syntax.specs.Exact.{name, names, rights, arguments, condition, marked, assignment, calling, named, branching, repeating, deed_by, deed_step, starts_here, item_step, rest_step, section_step, section}
 use Rattle.syntax.proofs.KindTests.{same_kind-true}
 use Rattle.syntax.proofs.Fixes.{carried, between, Finds, fix_finds}
 use Rattle.syntax.proofs.Expressions.{take_finds}
@@ -88,21 +88,21 @@ module _ (f : Unit {0} → Parser (Block Name Name Name)) (sound : Finds Found f
       let c = between (take kind.Semicolon) (λ _. give (simple (goto b.x))) b.us d rest b.second in
       plain_found (t ∷ ts) (goto b.x) c.us (is_goto (takes is) (exactly_name.finds ts b.x b.us b.first) (take_finds kind.Semicolon b.us c.x c.us c.first).0) d rest c.second
 
-  assert_finds : t.kind ≡ kind.Assert → FindsDeed (λ us. (test >>= λ r. take kind.Semicolon >>= λ _. give (simple (assert r))) ts) (t ∷ ts)
+  assert_finds : t.kind ≡ kind.Assert → FindsDeed (λ us. (condition >>= λ r. take kind.Semicolon >>= λ _. give (simple (assert r))) ts) (t ∷ ts)
   assert_finds is d rest e =
-      let b = between test (λ r. take kind.Semicolon >>= λ _. give (simple (assert r))) ts d rest e in
+      let b = between condition (λ r. take kind.Semicolon >>= λ _. give (simple (assert r))) ts d rest e in
       let c = between (take kind.Semicolon) (λ _. give (simple (assert b.x))) b.us d rest b.second in
       plain_found (t ∷ ts) (assert b.x) c.us (is_assert (takes is) (exactly_test.finds ts b.x b.us b.first) (take_finds kind.Semicolon b.us c.x c.us c.first).0) d rest c.second
 
-  assume_finds : t.kind ≡ kind.Assume → FindsDeed (λ us. (test >>= λ r. take kind.Semicolon >>= λ _. give (simple (assume r))) ts) (t ∷ ts)
+  assume_finds : t.kind ≡ kind.Assume → FindsDeed (λ us. (condition >>= λ r. take kind.Semicolon >>= λ _. give (simple (assume r))) ts) (t ∷ ts)
   assume_finds is d rest e =
-      let b = between test (λ r. take kind.Semicolon >>= λ _. give (simple (assume r))) ts d rest e in
+      let b = between condition (λ r. take kind.Semicolon >>= λ _. give (simple (assume r))) ts d rest e in
       let c = between (take kind.Semicolon) (λ _. give (simple (assume b.x))) b.us d rest b.second in
       plain_found (t ∷ ts) (assume b.x) c.us (is_assume (takes is) (exactly_test.finds ts b.x b.us b.first) (take_finds kind.Semicolon b.us c.x c.us c.first).0) d rest c.second
 
   if_finds : t.kind ≡ kind.If → FindsDeed (λ us. branching (f tt) ts) (t ∷ ts)
   if_finds is d rest e =
-      let c1 = between test (λ r. take kind.Then >>= λ _. f tt >>= λ a. take kind.Else >>= λ _. f tt >>= λ b. take kind.Fi >>= λ _. give (branch r a b)) ts d rest e in
+      let c1 = between condition (λ r. take kind.Then >>= λ _. f tt >>= λ a. take kind.Else >>= λ _. f tt >>= λ b. take kind.Fi >>= λ _. give (branch r a b)) ts d rest e in
       let c2 = between (take kind.Then) (λ _. f tt >>= λ a. take kind.Else >>= λ _. f tt >>= λ b. take kind.Fi >>= λ _. give (branch c1.x a b)) c1.us d rest c1.second in
       let c3 = between (f tt) (λ a. take kind.Else >>= λ _. f tt >>= λ b. take kind.Fi >>= λ _. give (branch c1.x a b)) c2.us d rest c2.second in
       let c4 = between (take kind.Else) (λ _. f tt >>= λ b. take kind.Fi >>= λ _. give (branch c1.x c3.x b)) c3.us d rest c3.second in
@@ -116,7 +116,7 @@ module _ (f : Unit {0} → Parser (Block Name Name Name)) (sound : Finds Found f
 
   while_finds : t.kind ≡ kind.While → FindsDeed (λ us. repeating (f tt) ts) (t ∷ ts)
   while_finds is d rest e =
-      let c1 = between test (λ r. take kind.Do >>= λ _. f tt >>= λ a. take kind.Od >>= λ _. give (repeat r a)) ts d rest e in
+      let c1 = between condition (λ r. take kind.Do >>= λ _. f tt >>= λ a. take kind.Od >>= λ _. give (repeat r a)) ts d rest e in
       let c2 = between (take kind.Do) (λ _. f tt >>= λ a. take kind.Od >>= λ _. give (repeat c1.x a)) c1.us d rest c1.second in
       let c3 = between (f tt) (λ a. take kind.Od >>= λ _. give (repeat c1.x a)) c2.us d rest c2.second in
       let c4 = between (take kind.Od) (λ _. give (repeat c1.x c3.x)) c3.us d rest c3.second in
@@ -129,8 +129,8 @@ module _ (f : Unit {0} → Parser (Block Name Name Name)) (sound : Finds Found f
       FindsDeed (λ us. cond b1 (take kind.Semicolon >>= λ _. give (simple skip))
       (cond b2 (take kind.Semicolon >>= λ _. give (simple leave))
       (cond b3 (name >>= λ l. take kind.Semicolon >>= λ _. give (simple (goto l)))
-      (cond b4 (test >>= λ r. take kind.Semicolon >>= λ _. give (simple (assert r)))
-      (cond b5 (test >>= λ r. take kind.Semicolon >>= λ _. give (simple (assume r)))
+      (cond b4 (condition >>= λ r. take kind.Semicolon >>= λ _. give (simple (assert r)))
+      (cond b5 (condition >>= λ r. take kind.Semicolon >>= λ _. give (simple (assume r)))
       (cond b6 (branching (f tt))
       (cond b7 (repeating (f tt))
       (cond b8 (named t) refuse))))))) ts) (t ∷ ts)

@@ -87,8 +87,8 @@ formals = parens (perhaps name)
 unfoldable pub arguments : Parser (List (Expression Name))
 arguments = parens (perhaps expression)
 
-unfoldable pub test : Parser (RightSide Name)
-test = parens right
+unfoldable pub condition : Parser (RightSide Name)
+condition = parens right
 
 -- the mark of a statement
 unfoldable pub marked : Parser (Mark Name)
@@ -111,11 +111,11 @@ named t ts = cond (begins kind.Open ts) (calling (t ∷ ts)) (assignment (t ∷ 
 
 -- an `if`, behind that word
 abbrev pub branching : Parser (Block Name Name Name) → Parser Deed
-branching block = test >>= λ r. take kind.Then >>= λ _. block >>= λ a. take kind.Else >>= λ _. block >>= λ b. take kind.Fi >>= λ _. give (branch r a b)
+branching block = condition >>= λ r. take kind.Then >>= λ _. block >>= λ a. take kind.Else >>= λ _. block >>= λ b. take kind.Fi >>= λ _. give (branch r a b)
 
 -- a `while`, behind that word
 abbrev pub repeating : Parser (Block Name Name Name) → Parser Deed
-repeating block = test >>= λ r. take kind.Do >>= λ _. block >>= λ a. take kind.Od >>= λ _. give (repeat r a)
+repeating block = condition >>= λ r. take kind.Do >>= λ _. block >>= λ a. take kind.Od >>= λ _. give (repeat r a)
 
 -- a semicolon, behind what a statement does
 abbrev pub ended : Deed → Parser Deed
@@ -127,11 +127,11 @@ jumping = name >>= λ l. take kind.Semicolon >>= λ _. give (simple (goto l))
 
 -- an `assert`, behind that word
 abbrev pub asserting : Parser Deed
-asserting = test >>= λ r. take kind.Semicolon >>= λ _. give (simple (assert r))
+asserting = condition >>= λ r. take kind.Semicolon >>= λ _. give (simple (assert r))
 
 -- an `assume`, behind that word
 abbrev pub assuming : Parser Deed
-assuming = test >>= λ r. take kind.Semicolon >>= λ _. give (simple (assume r))
+assuming = condition >>= λ r. take kind.Semicolon >>= λ _. give (simple (assume r))
 
 -- what a statement does that begins with this token
 abbrev pub deed_by : Parser (Block Name Name Name) → Tok → Parser Deed

@@ -2,7 +2,7 @@
 
 ghost use Rattle.std.specs.Prelude.{◌≡◌, ◌<◌, length, IfOk};
 ghost use Rattle.syntax.specs.Gives.{Gives};
-ghost use Rattle.syntax.specs.Exact.{right, names, rights, expressions, formals, arguments, test};
+ghost use Rattle.syntax.specs.Exact.{right, names, rights, expressions, formals, arguments, condition};
 ghost use Rattle.syntax.specs.Trees.{names_of, rhs_of, rhss_of, exprs_of};
 ghost use Rattle.tokens.specs.Token.{toks_of};
 
@@ -122,9 +122,9 @@ impl<'a, A: Allocator + Clone> Reader<'a, A> {
     }
 
     /// Reads a right side in parentheses.
-    #[tactic(auto, unfolding(crate::specs::Exact::test))]
+    #[tactic(auto, unfolding(crate::specs::Exact::condition))]
     pub fn test<'t>(&self, tokens: &'t [Token<'t>]) -> Result<(Rhs<A>, &'t [Token<'t>]), ReadFault>
-        ensures gives { Gives (λ p. (rhs_of p.0, toks_of p.1.now)) result (test (toks_of tokens.now)) }
+        ensures gives { Gives (λ p. (rhs_of p.0, toks_of p.1.now)) result (condition (toks_of tokens.now)) }
         ensures shorter { IfOk result (λ p. length p.1.now < length tokens.now) }
     {
         let (_, inside) = self.take(Kind::Open, tokens)?;
