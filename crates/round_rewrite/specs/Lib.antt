@@ -6,3 +6,4 @@ pub mod Complete
 pub mod Law
 pub mod Narrow
 pub mod Writing
+pub mod WorkedTexts

@@ -27,8 +27,11 @@ ghost use Rattle.language.specs.Tree.{Tree};
 ghost use Rattle.language.specs.Step.{Routine, Program};
 ghost use Rattle.language.specs.Messages.{ArgumentsFit};
 ghost use Rattle.language.specs.Sequential.{sequential_of};
+ghost use Rattle.syntax.specs.Printed.{printed};
 ghost use Rattle.round_rewrite.specs.Complete.{IsComplete};
 ghost use Rattle.round_rewrite.specs.Law.{Keeps, KeepsTree};
+ghost use Rattle.round_rewrite.specs.Names.{rewritten_tree};
+ghost use Rattle.round_rewrite.specs.WorkedTexts as worked;
 ghost use Rattle.scopes.specs.Resolves.{Resolves};
 ghost use Rattle.scopes.specs.Rewritable.{IsRewritable};
 ghost use Rattle.round_rewrite.specs.Narrow.{AllNarrow, IsNarrow};
@@ -67,4 +70,15 @@ pub fn calls_of_resolving_trees_fit()
 pub fn narrow_trees_have_narrow_valuations()
     ensures { (t : Tree) → AllNarrow t → (q : ℕ) (routine : Routine) → slice_get (sequential_of t).routines q ≡ Some routine
         → (sequential_of t).globals + routine.places ≤ 64 }
+{}
+
+/// Three programs are rewritten to exactly these texts, byte for byte: one thread that does nothing, for one round; one that sets a
+/// global to either value, for two; and a program with each construct, for three.
+pub fn worked_programs_are_rewritten_to_these_texts()
+    ensures skipping { printed worked.skipping ≡ worked.skipping_text }
+    ensures one_round { printed (rewritten_tree 0 worked.skipping) ≡ worked.skipping_in_one_round }
+    ensures drawing { printed worked.drawing_once ≡ worked.drawing_text }
+    ensures two_rounds { printed (rewritten_tree 1 worked.drawing_once) ≡ worked.drawing_in_two_rounds }
+    ensures constructs { printed worked.each_construct ≡ worked.construct_text }
+    ensures three_rounds { printed (rewritten_tree 2 worked.each_construct) ≡ worked.constructs_in_three_rounds }
 {}
