@@ -26,6 +26,7 @@ use Rattle.flow_graph.specs.declared.side.Side.TheVariants as side
 use Rattle.flow_graph.proofs.Rows.{bits_or, bits_xor, first_bit}
 use Rattle.flow_graph.proofs.Stacks.{worth_small, bit_worth}
 use Rattle.flow_graph.proofs.Worths.{coded_bit}
+use Rattle.round_rewrite.specs.Limits.{most_places}
 
 -- ---- one bit
 
@@ -564,8 +565,8 @@ all_written {A} s xs ys n ws e leads =
     subst (λ l. Compiled s l (kept_from s xs ys 0)) (append-nil ws)
     (leads [] (subst (Compiled {A = A} s []) (sym (kept_none (bit_of_name s) name_of rhs_of xs ys n e)) tt))
 
-pub one_bit : (b : ℕ) → b < 64 → 1 * 2 ^ b % 2 ^ 64 ≡ 2 ^ b
+pub one_bit : (b : ℕ) → b < most_places → 1 * 2 ^ b % 2 ^ 64 ≡ 2 ^ b
 one_bit b h = let most : 2 ^ b ≤ 2 ^ 63 = pow_mono (let z : b ≤ 63 = omega (arith, h) in z) in omega (arith, most)
 
-pub few_variables : {N : Type 0} (gs fs ls : List (syntax.Name N)) → length gs + (length fs + length ls) ≤ 64 → length (names_of gs) + length (names_of fs ++ names_of ls) ≤ 64
+pub few_variables : {N : Type 0} (gs fs ls : List (syntax.Name N)) → length gs + (length fs + length ls) ≤ most_places → length (names_of gs) + length (names_of fs ++ names_of ls) ≤ 64
 few_variables gs fs ls h = omega (arith, h, length-map gs name_of, length-map fs name_of, length-map ls name_of, length-append (names_of fs) (names_of ls))

@@ -6,6 +6,7 @@ use Rattle.std.proofs.lemmas.Bool.{ltb-true, ltb-false}
 use Rattle.std.proofs.Math.Pow.{pow_mono}
 use Rattle.flow_graph.specs.Bits.{worth_of, coded}
 use Rattle.flow_graph.proofs.Rows.{row_step, below_next}
+use Rattle.round_rewrite.specs.Limits.{most_places}
 
 -- the place of the next bit counts twice that of this one
 doubled : (bit : ℕ) → 2 ^ (bit + 1) ≡ 2 ^ bit * 2
@@ -13,7 +14,7 @@ doubled bit = ap (λ n. 2 ^ n) (add-one bit) ∙ omega (arith, pow-suc 2 bit)
 
 -- one argument more of an entry
 pub argument_step : {A : Type 0} (f : A → Bool) (xs rest : List A) (x : A) (entry bit worth whole : ℕ) → entry + 2 ^ bit * coded (map f xs) ≡ whole → xs ≡ x ∷ rest
-    → worth ≡ worth_of (f x) → entry < 2 ^ bit → bit < 64
+    → worth ≡ worth_of (f x) → entry < 2 ^ bit → bit < most_places
     → (entry + worth * 2 ^ bit % 18446744073709551616 + 2 ^ (bit + 1) * coded (map f rest) ≡ whole) × (entry + worth * 2 ^ bit % 18446744073709551616 < 2 ^ (bit + 1))
 argument_step f xs rest x entry bit worth whole h e is small within =
     let twice = doubled bit in

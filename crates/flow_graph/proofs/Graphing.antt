@@ -33,6 +33,7 @@ use Rattle.flow_graph.specs.declared.graph.Graph.{Graph}
 use Rattle.flow_graph.proofs.Nodes.{flow_leads, lead_flows}
 use Rattle.flow_graph.specs.declared.flow.Flow.TheVariants as flow
 use Rattle.flow_graph.proofs.Doing.{does_return}
+use Rattle.round_rewrite.specs.Limits.{most_places}
 
 -- the flow at a place does what happens at the node there
 all_do_at : {A : Type 0} (fs : List (Flow A)) (ns : List Node) (g l m i : ℕ) (n : Node) → AllDo fs ns g l m → slice_get ns i ≡ Some n → (f : Flow A) × (slice_get fs i ≡ Some f) × Does f n g l m
@@ -90,7 +91,7 @@ module _ (body : Code) (v : Valuation) (s n : ℕ) (args : List Bool) where
   asks_shape (loop m c a t) h = absurd h
 
 module _ (p : Program) (q : ℕ) (routine : Routine) (there : slice_get p.routines q ≡ Some routine) (fit : ArgumentsFit p)
-    (narrow : (s : ℕ) (r : Routine) → slice_get p.routines s ≡ Some r → p.globals + r.places ≤ 64) where
+    (narrow : (s : ℕ) (r : Routine) → slice_get p.routines s ≡ Some r → p.globals + r.places ≤ most_places) where
   wide : (v : Valuation) → IsValuationOf p q v → HasWidths p.globals routine.places v
   wide v w = (w.0, subst (λ o. AtRoutine o (λ r. length v.places ≡ r.places)) there w.1)
 

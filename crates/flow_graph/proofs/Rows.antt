@@ -12,7 +12,8 @@ use Rattle.std.proofs.lemmas.List.{length-map}
 use Rattle.flow_graph.proofs.Stacks.{worth_small, coded_small}
 use Rattle.flow_graph.specs.Bits.{bit_of, worth_of, coded}
 use Rattle.flow_graph.specs.Located.{worth}
-use Rattle.flow_graph.specs.Tables.{slot, is_input, Reads, Tabulates, AreBits, Widens}
+use Rattle.flow_graph.specs.Tables.{slot, is_input, Reads, Tabulates, AreBits, Widens, most_rows}
+use Rattle.round_rewrite.specs.Limits.{most_places}
 
 -- ---- operators on words
 
@@ -40,7 +41,7 @@ bits_xor a b j =
     ap (λ n. n == 1) (bit_at_xor a b j)
     ∙ two_bits (λ x y. ((x + y) % 2 == 1) ≡ cond (x == 1) (not (y == 1)) (y == 1)) refl refl refl refl (bit_at a j) (bit_at b j) (bit_at-lt a j) (bit_at-lt b j)
 
-pub bits_not : (a j : ℕ) → a < 2 ^ 64 → j < 64 → bit_of (18446744073709551615 - a) j ≡ not (bit_of a j)
+pub bits_not : (a j : ℕ) → a < 2 ^ 64 → j < most_rows → bit_of (18446744073709551615 - a) j ≡ not (bit_of a j)
 bits_not a j h k =
     ap (λ n. n == 1) (bit_at_not w64 a j h k)
     ∙ two_bits (λ x y. (1 - x == 1) ≡ not (x == 1)) refl refl refl refl (bit_at a j) 0 (bit_at-lt a j) (omega arith)
@@ -79,7 +80,7 @@ same_is true false h = absurd (false≢true h)
 same_is false true h = absurd (false≢true h)
 same_is false false h = refl
 
-pub rows_of_slot : (outputs s : ℕ) → all_below 64 (λ j. same (bit_of outputs j) (bit_of j s)) ≡ true → (j : ℕ) → j < 64 → bit_of outputs j ≡ bit_of j s
+pub rows_of_slot : (outputs s : ℕ) → all_below 64 (λ j. same (bit_of outputs j) (bit_of j s)) ≡ true → (j : ℕ) → j < most_rows → bit_of outputs j ≡ bit_of j s
 rows_of_slot outputs s h j less = same_is (bit_of outputs j) (bit_of j s) (below 64 (λ k. same (bit_of outputs k) (bit_of k s)) h j less)
 
 -- ---- inputs
@@ -124,10 +125,10 @@ slot_last b (x ∷ xs) = go (b == x) (slot_last b xs)
     go false r = (ap suc r.0, r.1)
 
 -- a read of the bit in this slot
-pub reads_slot : (b outputs s : ℕ) (xs : List ℕ) → slot b xs ≡ s → is_input b xs ≡ true → ((j : ℕ) → j < 64 → bit_of outputs j ≡ bit_of j s) → Tabulates xs outputs (var b)
+pub reads_slot : (b outputs s : ℕ) (xs : List ℕ) → slot b xs ≡ s → is_input b xs ≡ true → ((j : ℕ) → j < most_rows → bit_of outputs j ≡ bit_of j s) → Tabulates xs outputs (var b)
 reads_slot b outputs s xs at there right = record { reads = there; rows = λ j less. right j less ∙ ap (bit_of j) (sym at) }
 
-pub bits_pushed : (b : ℕ) (xs : List ℕ) → b < 64 → AreBits xs → AreBits (xs ++ (b ∷ []))
+pub bits_pushed : (b : ℕ) (xs : List ℕ) → b < most_places → AreBits xs → AreBits (xs ++ (b ∷ []))
 bits_pushed b [] h k = (h, tt)
 bits_pushed b (x ∷ xs) h k = (k.0, bits_pushed b xs h k.1)
 
@@ -156,11 +157,11 @@ widened xs ys w e t = record {
 pub constant_one : (xs : List ℕ) → Tabulates xs 18446744073709551615 (const true)
 constant_one xs = record { reads = tt; rows = λ j less. ap (λ n. n == 1) (bit_at_ones 64 j less) }
 
-pub complemented : (xs : List ℕ) (w v : ℕ) (e : Expression ℕ) → ((j : ℕ) → j < 64 → bit_of v j ≡ not (bit_of w j)) → Tabulates xs w e → Tabulates xs v (negation e)
+pub complemented : (xs : List ℕ) (w v : ℕ) (e : Expression ℕ) → ((j : ℕ) → j < most_rows → bit_of v j ≡ not (bit_of w j)) → Tabulates xs w e → Tabulates xs v (negation e)
 complemented xs w v e turns t = record { reads = t.reads; rows = λ j less. turns j less ∙ ap not (t.rows j less) }
 
 pub operated : (xs ys : List ℕ) (l r w : ℕ) (o : Operator) (a b : Expression ℕ) → Widens xs ys → Tabulates xs l a → Tabulates ys r b
-    → ((j : ℕ) → j < 64 → bit_of w j ≡ operate o (bit_of l j) (bit_of r j)) → Tabulates ys w (two o a b)
+    → ((j : ℕ) → j < most_rows → bit_of w j ≡ operate o (bit_of l j) (bit_of r j)) → Tabulates ys w (two o a b)
 operated xs ys l r w o a b more s t right =
     let left : Tabulates ys l a = subst (λ zs. Tabulates zs l a) (sym more.1) (widened xs more.0 l a s) in record {
       reads = (left.reads, t.reads);

@@ -9,10 +9,12 @@ use Rattle.syntax.specs.declared.tree.Proc.{Proc}
 use Rattle.flow_graph.specs.Nodes.{at, nodes_of}
 use Rattle.flow_graph.specs.Flows.{AllDo}
 use Rattle.flow_graph.specs.declared.graph.Graph.{Graph}
+use Rattle.round_rewrite.specs.Limits.{most_places}
+use Rattle.flow_graph.specs.Drawn.{flows_of, start_of, globals_of}
 
--- at most 64 variables are in the procedure's scope, and at most 32 procedures
+-- no more variables than places are in the procedure's scope, and at most 32 procedures
 abbrev pub HasRoom : {N : Type 0} → Program N → Proc N → Type 0
-HasRoom t p = (length t.globals.items + (length p.formals.items + length p.locals.items) ≤ 64) × (length t.procs.items ≤ 32)
+HasRoom t p = (length t.globals.items + (length p.formals.items + length p.locals.items) ≤ most_places) × (length t.procs.items ≤ 32)
 
 -- the names in the procedure's scope
 abbrev pub names_in : {N : Type 0} → Program N → Proc N → Scope
@@ -26,5 +28,5 @@ body_of t p = numbered 1 (resolve_block (names_in t p) (proc_of p).body)
 -- exit first.
 abbrev pub Draws : {N A : Type 0} → Program N → Proc N → Graph A → Type 0
 Draws t p graph =
-    (graph.globals ≡ length (names_in t p).globals) × (graph.start ≡ at (body_of t p))
-    × AllDo graph.flows.items (nodes_of (body_of t p)) (length (names_in t p).globals) (length (names_in t p).locals) (length (names_in t p).procedures)
+    (globals_of graph ≡ length (names_in t p).globals) × (start_of graph ≡ at (body_of t p))
+    × AllDo (flows_of graph) (nodes_of (body_of t p)) (length (names_in t p).globals) (length (names_in t p).locals) (length (names_in t p).procedures)

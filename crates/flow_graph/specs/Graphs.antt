@@ -10,6 +10,7 @@ use Rattle.flow_graph.specs.Nodes.{at}
 use Rattle.flow_graph.specs.Flows.{code, last_of, next_of, entered_by}
 use Rattle.flow_graph.specs.declared.flow.Flow.{Flow}
 use Rattle.flow_graph.specs.declared.graph.Graph.{Graph}
+use Rattle.flow_graph.specs.Drawn.{flows_of, start_of, globals_of}
 
 -- The flow has the steps of procedure q where r is left to run: it leads to what a step inside the call leads to, to nothing
 -- else, and to each once; and it enters what a step enters, with the point after the call, and nothing else.
@@ -28,10 +29,10 @@ AtFlow (Some flow) P = P flow
 -- The graph is that of procedure q: it starts at the first statement, has a point for each statement and the exit, and at the
 -- point of each rest of the body the steps from there.
 pub record IsGraph {A : Type 0} (p : Program) (q : ℕ) (graph : Graph A) : Type 0 where
-  pub globals : graph.globals ≡ p.globals
-  pub start : graph.start ≡ at (body_of (slice_get p.routines q))
-  pub points : length graph.flows.items ≡ suc (statements (body_of (slice_get p.routines q)))
-  pub steps : (r : Code) → IsRestOf (body_of (slice_get p.routines q)) r → AtFlow (slice_get graph.flows.items (at r)) (HasSteps p q r)
+  pub globals : globals_of graph ≡ p.globals
+  pub start : start_of graph ≡ at (body_of (slice_get p.routines q))
+  pub points : length (flows_of graph) ≡ suc (statements (body_of (slice_get p.routines q)))
+  pub steps : (r : Code) → IsRestOf (body_of (slice_get p.routines q)) r → AtFlow (slice_get (flows_of graph) (at r)) (HasSteps p q r)
 
 -- the graphs are those of the program's procedures, by number
 abbrev pub AreGraphs : {A : Type 0} → Program → List (Graph A) → Type 0

@@ -10,6 +10,7 @@ pub mod Calls
 pub mod Flows
 pub mod Lowering
 pub mod Returns
+pub mod Drawn
 pub mod Graphs
 pub mod Drawing
 pub mod Numbers

@@ -11,6 +11,7 @@ use Rattle.flow_graph.specs.Flows.{code, last_of, next_of, entered_by}
 use Rattle.flow_graph.specs.Returns.{left, resumed}
 use Rattle.flow_graph.specs.declared.flow.Flow.{Flow}
 use Rattle.flow_graph.specs.declared.graph.Graph.{Graph}
+use Rattle.flow_graph.specs.Drawn.{flows_of, start_of, globals_of}
 
 -- A message by numbers: an entry has who enters and the number of the entry valuation; a summary has the procedure called
 -- and the numbers of its entry valuation and of the globals that it left.
@@ -26,22 +27,22 @@ by_numbers (summary s a b) = numbered_summary s (code a) (coded b)
 -- By the messages of which M holds, the graph reaches from the number of an entry a point with the number of a valuation:
 -- its start from each entry, what a flow leads to for one of its choices, and, behind a call, what a summary of it leads to.
 pub data Reaches {A : Type 0} (graph : Graph A) (M : NumberedMessage → Type 0) : ℕ → ℕ → ℕ → Type 0 where
-  starts : (from : Caller) (a : ℕ) → M (numbered_entry from a) → Reaches graph M a graph.start a
-  flows : (a n v n' v' i : ℕ) (flow : Flow A) → Reaches graph M a n v → slice_get graph.flows.items n ≡ Some flow → i ≤ last_of flow →
+  starts : (from : Caller) (a : ℕ) → M (numbered_entry from a) → Reaches graph M a (start_of graph) a
+  flows : (a n v n' v' i : ℕ) (flow : Flow A) → Reaches graph M a n v → slice_get (flows_of graph) n ≡ Some flow → i ≤ last_of flow →
       next_of flow v i ≡ Some (n', v') → Reaches graph M a n' v'
-  returns : (a n v s e n' b : ℕ) (flow : Flow A) → Reaches graph M a n v → slice_get graph.flows.items n ≡ Some flow →
-      entered_by flow v ≡ Some (s, e, n') → M (numbered_summary s e b) → Reaches graph M a n' (resumed graph.globals v b)
+  returns : (a n v s e n' b : ℕ) (flow : Flow A) → Reaches graph M a n v → slice_get (flows_of graph) n ≡ Some flow →
+      entered_by flow v ≡ Some (s, e, n') → M (numbered_summary s e b) → Reaches graph M a n' (resumed (globals_of graph) v b)
 
 -- By the messages of which M holds, the graph of procedure q sends a procedure: the entry of each call of it that is reached,
 -- and for each of its entries the summary of each valuation that is reached at the exit.
 pub data Sends {A : Type 0} (graph : Graph A) (q : ℕ) (M : NumberedMessage → Type 0) : ℕ → NumberedMessage → Type 0 where
-  asks : (a n v s e n' : ℕ) (flow : Flow A) → Reaches graph M a n v → slice_get graph.flows.items n ≡ Some flow →
+  asks : (a n v s e n' : ℕ) (flow : Flow A) → Reaches graph M a n v → slice_get (flows_of graph) n ≡ Some flow →
       entered_by flow v ≡ Some (s, e, n') → Sends graph q M s (numbered_entry (caller q) e)
-  tells : (a v s : ℕ) → M (numbered_entry (caller s) a) → Reaches graph M a 0 v → Sends graph q M s (numbered_summary q a (left graph.globals v))
+  tells : (a v s : ℕ) → M (numbered_entry (caller s) a) → Reaches graph M a 0 v → Sends graph q M s (numbered_summary q a (left (globals_of graph) v))
 
 -- By the messages of which M holds, the graph is left with globals of the number b where it was entered with that of a.
 abbrev pub Leaves : {A : Type 0} → Graph A → (NumberedMessage → Type 0) → ℕ → ℕ → Type 0
-Leaves graph M a b = (v : ℕ) × Reaches graph M a 0 v × (b ≡ left graph.globals v)
+Leaves graph M a b = (v : ℕ) × Reaches graph M a 0 v × (b ≡ left (globals_of graph) v)
 
 -- the message is, by numbers, one of which P holds
 abbrev pub IsNumberOf : (Message → Type 0) → NumberedMessage → Type 0

@@ -8,6 +8,7 @@ use Rattle.syntax.specs.Trees.{operator_of}
 use Rattle.flow_graph.specs.Located.{worth}
 use Rattle.flow_graph.specs.declared.postfix.Step.{Step}
 use Rattle.flow_graph.specs.declared.postfix.Step.TheVariants.{Read, Constant, Not, Apply, ApplySwapped}
+use Rattle.round_rewrite.specs.Limits.{most_places}
 
 -- what a step makes of the stack, its top first: a bit or a constant is put on it, `Not` turns the top, and an operator
 -- takes two values, the right one from the top, or the left one where the operands came in the other order
@@ -36,7 +37,7 @@ top (b ∷ bs) = b
 -- from a stack with so many values, each step finds what it takes, and none leaves more than 64
 abbrev pub IsShallow : ℕ → List Step → Type 0
 IsShallow depth [] = Unit {0}
-IsShallow depth (Read b ∷ ss) = (depth < 64) × ((b < 64) × IsShallow (suc depth) ss)
+IsShallow depth (Read b ∷ ss) = (depth < 64) × ((b < most_places) × IsShallow (suc depth) ss)
 IsShallow depth (Constant b ∷ ss) = (depth < 64) × IsShallow (suc depth) ss
 IsShallow depth (Not ∷ ss) = (1 ≤ depth) × IsShallow depth ss
 IsShallow depth (Apply o ∷ ss) = (2 ≤ depth) × IsShallow (depth - 1) ss
@@ -52,7 +53,7 @@ few_prop i n = le_prop
 -- this has one proof at most, so a type may carry it
 pub IsShallow-prop : (depth : ℕ) (steps : List Step) → IsProp (IsShallow depth steps)
 IsShallow-prop depth [] = Unit-prop
-IsShallow-prop depth (Read b ∷ ss) = ×_prop (less_prop depth 64) (×_prop (less_prop b 64) (IsShallow-prop (suc depth) ss))
+IsShallow-prop depth (Read b ∷ ss) = ×_prop (less_prop depth 64) (×_prop (less_prop b most_places) (IsShallow-prop (suc depth) ss))
 IsShallow-prop depth (Constant b ∷ ss) = ×_prop (less_prop depth 64) (IsShallow-prop (suc depth) ss)
 IsShallow-prop depth (Not ∷ ss) = ×_prop (few_prop 1 depth) (IsShallow-prop depth ss)
 IsShallow-prop depth (Apply o ∷ ss) = ×_prop (few_prop 2 depth) (IsShallow-prop (depth - 1) ss)

@@ -5,6 +5,7 @@ use Rattle.language.specs.Tree.{Expression, const, var, negation, two}
 use Rattle.flow_graph.specs.Bits.{bit_of}
 use Rattle.flow_graph.specs.Located.{worth}
 use Rattle.flow_graph.specs.Postfix.{less_prop}
+use Rattle.round_rewrite.specs.Limits.{most_places}
 
 -- how many inputs come before the first that is this bit
 abbrev pub slot : ℕ → List ℕ → ℕ
@@ -23,20 +24,24 @@ Reads inputs (var i) = is_input i inputs ≡ true
 Reads inputs (negation e) = Reads inputs e
 Reads inputs (two o a b) = Reads inputs a × Reads inputs b
 
+-- how many rows a table has: one for each value of six inputs
+abbrev pub most_rows : ℕ
+most_rows = 64
+
 -- Bit j of the outputs is what the expression is worth where each input has the value of its bit of j.
 pub record Tabulates (inputs : List ℕ) (outputs : ℕ) (e : Expression ℕ) : Type 0 where
   pub reads : Reads inputs e
-  pub rows : (j : ℕ) → j < 64 → bit_of outputs j ≡ worth (λ b. bit_of j (slot b inputs)) e
+  pub rows : (j : ℕ) → j < most_rows → bit_of outputs j ≡ worth (λ b. bit_of j (slot b inputs)) e
 
--- each input is one of 64 bits
+-- each input is a place
 abbrev pub AreBits : List ℕ → Type 0
 AreBits [] = Unit {0}
-AreBits (b ∷ bs) = (b < 64) × AreBits bs
+AreBits (b ∷ bs) = (b < most_places) × AreBits bs
 
 -- this has one proof at most, so a type may carry it
 pub AreBits-prop : (bs : List ℕ) → IsProp (AreBits bs)
 AreBits-prop [] = Unit-prop
-AreBits-prop (b ∷ bs) = ×_prop (less_prop b 64) (AreBits-prop bs)
+AreBits-prop (b ∷ bs) = ×_prop (less_prop b most_places) (AreBits-prop bs)
 
 -- inputs that were there, and some more
 abbrev pub Widens : List ℕ → List ℕ → Type 0

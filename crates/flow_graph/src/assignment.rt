@@ -5,6 +5,7 @@ ghost use Rattle.syntax.specs.Trees.{name_of, names_of, rhs_of, rhss_of};
 ghost use Rattle.flow_graph.specs.Assignments.{masked, choice_left, anys, assigned, Assigns, bit_of_name, lasting};
 ghost use Rattle.flow_graph.specs.Formulas.{SaysSide};
 ghost use Rattle.flow_graph.specs.Views.{scope_seen, IsSmall};
+ghost use Rattle.round_rewrite.specs.Limits.{most_places};
 
 use crate::put::put;
 use crate::scope::Scope;
@@ -43,7 +44,7 @@ impl<A: Allocator> Side<A> {
 
 /// The number of the last choice for the `?` of these writes: the choices are numbered from 0.
 fn last_choice<A: Allocator>(writes: &[Write<A>]) -> u64
-    requires { anys writes.now ≤ 64 }
+    requires { anys writes.now ≤ most_places }
     ensures { result + 1 ≡ 2 ^ anys writes.now }
 {
     let mut last: u64 = 0;
@@ -101,7 +102,7 @@ impl<'a, N: Allocator> Scope<'a, N> {
     fn lasting(&self, target: &Name<N>, later: &[Name<N>]) -> Option<u8>
         requires { IsSmall self.now }
         ensures bit { result ≡ lasting (bit_of_name (scope_seen self.now) (name_of target.now)) (map (bit_of_name (scope_seen self.now)) (names_of later.now)) }
-        ensures small { IfSome result (λ b. b < 64) }
+        ensures small { IfSome result (λ b. b < most_places) }
     {
         let bit = self.bit(target)?;
         for other in later {
@@ -119,7 +120,7 @@ impl<'a, N: Allocator> Scope<'a, N> {
         bit: u8,
         side: &Rhs<N>,
     ) -> Result<Write<A>, AllocError>
-        requires { IsSmall self.now × (bit < 64) }
+        requires { IsSmall self.now × (bit < most_places) }
         ensures { IfOk result (λ w. (w.mask ≡ 2 ^ bit) × SaysSide w.side (scope_seen self.now) (rhs_of side.now)) }
     {
         let side = self.side(alloc.clone()?, side)?;

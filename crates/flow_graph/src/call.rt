@@ -2,17 +2,18 @@
 
 ghost use Rattle.std.specs.Prelude.{◌≡◌, ◌≤◌, ◌^◌, ◌%◌, ◌+◌, length};
 ghost use Rattle.flow_graph.specs.Calls.{entry_of};
+ghost use Rattle.round_rewrite.specs.Limits.{most_places};
 
 use crate::formula::Formula;
 use crate::point::Point;
-use crate::word::Word;
+use crate::word::{BITS, Word};
 use std::alloc::Allocator;
 
 /// The lowest bits of a number.
 pub(crate) fn low_bits(values: Word, count: u8) -> Word
     ensures { result ≡ values % 2 ^ count }
 {
-    if count < 64 {
+    if count < BITS {
         values % (1 << count)
     } else {
         values
@@ -26,20 +27,22 @@ pub struct Call<A: Allocator> {
     pub(crate) globals: u8,
     pub(crate) arguments: Vec<Formula<A>, A>,
     pub(crate) back: Point,
-    pub ghost fits: { globals + length arguments.items ≤ 64 },
+    pub ghost fits: { globals + length arguments.items ≤ most_places },
 }
 
 impl<A: Allocator> Call<A> {
+    ghost use Rattle.flow_graph.specs.Drawn.{back_of, callee_of, entered_from};
+
     /// The number of the procedure that is called.
     pub fn callee(&self) -> u8
-        ensures { result ≡ self.now.callee }
+        ensures { result ≡ callee_of self.now }
     {
         self.callee
     }
 
     /// The point at which the caller goes on after the return.
     pub fn back(&self) -> Point
-        ensures { result ≡ self.now.back }
+        ensures { result ≡ back_of self.now }
     {
         self.back
     }
@@ -47,7 +50,7 @@ impl<A: Allocator> Call<A> {
     /// The valuation with which the procedure is entered from the caller's: the globals as they are, the arguments, and 0 in
     /// every other place.
     pub fn entry(&self, values: Word) -> Word
-        ensures { result ≡ entry_of self.now.globals self.now.arguments.items values }
+        ensures { result ≡ entered_from self.now values }
     {
         let mut entry = low_bits(values, self.globals);
         let mut bit = self.globals;

@@ -3,8 +3,9 @@
 ghost use Rattle.std.specs.Prelude.{◌≡◌, ◌≤◌, ◌+◌, length, IfOk, codes};
 ghost use Rattle.language.specs.Resolve.{number_of};
 ghost use Rattle.language.specs.Sequential.{sequential_of};
-ghost use Rattle.syntax.specs.Trees.{tree_of};
+ghost use Rattle.round_rewrite.specs.Programs.{sequential_tree};
 ghost use Rattle.flow_graph.specs.Drawing.{Draws, HasRoom};
+ghost use Rattle.flow_graph.specs.Drawn.{bad_of, graphs_of};
 ghost use Rattle.flow_graph.specs.Graphs.{AreDrawnFrom};
 
 use crate::flow::Flow;
@@ -51,8 +52,8 @@ pub fn graphs<N: Allocator, A: Allocator + Clone>(
     alloc: &A,
     sequential: &Sequential<N>,
 ) -> Result<Graphs<A>, AllocError>
-    ensures graphs { IfOk result (λ gs. AreDrawnFrom (sequential_of (tree_of sequential.now.program)) gs.graphs.items) }
-    ensures bad { IfOk result (λ gs. gs.bad ≡ number_of (codes "bad__") (tree_of sequential.now.program).globals) }
+    ensures graphs { IfOk result (λ gs. AreDrawnFrom (sequential_of (sequential_tree sequential.now)) (graphs_of gs)) }
+    ensures bad { IfOk result (λ gs. bad_of gs ≡ number_of (codes "bad__") (sequential_tree sequential.now).globals) }
 {
     let program = sequential.program();
     let mut graphs = Vec::new(alloc.clone()?);

@@ -22,40 +22,43 @@ pub struct Graph<A: Allocator> {
 }
 
 impl<A: Allocator> Graph<A> {
+    ghost use Rattle.flow_graph.specs.Drawn.{flows_of, globals_of, start_of};
+
     /// The point of the first statement; the exit, where there is none.
     pub fn start(&self) -> Point
-        ensures { result ≡ self.now.start }
+        ensures { result ≡ start_of self.now }
     {
         self.start
     }
 
     /// How many points there are: as many as statements, and the exit.
     pub fn points(&self) -> usize
-        ensures { result ≡ length self.now.flows.items }
+        ensures { result ≡ length (flows_of self.now) }
     {
         self.flows.len()
     }
 
     /// What leads on from a point.
     pub fn flow(&self, point: Point) -> &Flow<A>
-        requires { point < length self.now.flows.items }
-        ensures { slice_get self.now.flows.items point ≡ Some result.now }
+        requires { point < length (flows_of self.now) }
+        ensures { slice_get (flows_of self.now) point ≡ Some result.now }
     {
         &self.flows[point]
     }
 
     /// The globals of a valuation: what a call leaves that ends with it.
     pub fn left(&self, values: Word) -> Word
-        ensures number { result ≡ left self.now.globals values }
-        ensures globals { (v : Valuation) → length v.globals ≡ self.now.globals → values ≡ code v → result ≡ coded v.globals }
+        ensures number { result ≡ left (globals_of self.now) values }
+        ensures globals { (v : Valuation) → length v.globals ≡ globals_of self.now → values ≡ code v → result ≡ coded v.globals }
     {
         low_bits(values, self.globals)
     }
 
     /// The valuation of a caller after a call that left these globals: the places are the caller's.
     pub fn resumed(&self, values: Word, globals: Word) -> Word
-        ensures number { result ≡ resumed self.now.globals values globals }
-        ensures valuation { (v : Valuation) (b : List Bool) → length v.globals ≡ self.now.globals → length b ≡ self.now.globals → values ≡ code v → globals ≡ coded b → result ≡ coded (b ++ v.places) }
+        ensures number { result ≡ resumed (globals_of self.now) values globals }
+        ensures valuation { (v : Valuation) (b : List Bool) → length v.globals ≡ globals_of self.now → length b ≡ globals_of self.now
+            → values ≡ code v → globals ≡ coded b → result ≡ coded (b ++ v.places) }
     {
         low_bits(globals, self.globals) + (values - low_bits(values, self.globals))
     }
@@ -70,24 +73,26 @@ pub struct Graphs<A: Allocator> {
 }
 
 impl<A: Allocator> Graphs<A> {
+    ghost use Rattle.flow_graph.specs.Drawn.{bad_of, graphs_of};
+
     /// How many procedures there are.
     pub fn len(&self) -> usize
-        ensures { result ≡ length self.now.graphs.items }
+        ensures { result ≡ length (graphs_of self.now) }
     {
         self.graphs.len()
     }
 
     /// The graph of a procedure.
     pub fn graph(&self, procedure: u8) -> &Graph<A>
-        requires { procedure < length self.now.graphs.items }
-        ensures { slice_get self.now.graphs.items procedure ≡ Some result.now }
+        requires { procedure < length (graphs_of self.now) }
+        ensures { slice_get (graphs_of self.now) procedure ≡ Some result.now }
     {
         &self.graphs[procedure as usize]
     }
 
     /// The bit of the global `bad__`, which a rewritten program has; as many as globals, where none has this name.
     pub fn bad(&self) -> usize
-        ensures { result ≡ self.now.bad }
+        ensures { result ≡ bad_of self.now }
     {
         self.bad
     }

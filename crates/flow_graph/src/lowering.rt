@@ -24,6 +24,7 @@ use crate::side::Side;
 use crate::sizes::{size, size_of};
 use crate::table::Table;
 use arrayvec::ArrayVec;
+use round_rewrite::MOST_PLACES;
 use std::alloc::{AllocError, Allocator};
 use syntax::{Core, Expr, Name, Rhs, Stmt, number_of_procedure};
 
@@ -109,7 +110,7 @@ impl<'a, N: Allocator, A: Allocator + Clone> Lowering<'a, N, A> {
         if callee >= self.scope.procedures.len() {
             return Ok(nowhere());
         }
-        if es.len() > 64 - self.scope.globals.len() {
+        if es.len() > MOST_PLACES - self.scope.globals.len() {
             return Ok(nowhere());
         }
         let mut arguments = Vec::new(self.alloc.clone()?);

@@ -12,6 +12,7 @@ ghost use Rattle.flow_graph.specs.Graphs.{IsGraph, IsInTextOrder};
 ghost use Rattle.flow_graph.specs.Numbers.{NumberedMessage, numbered_entry, by_numbers, Reaches, Sends, IsNumberOf, AreNumbersOf, IsNumberOfValuation, AreNumbersOfEdge};
 ghost use Rattle.flow_graph.specs.Triples.{HoldStarts, HoldFlows, HoldReturns, HoldAsks, HoldTells};
 ghost use Rattle.flow_graph.specs.declared.graph.Graph.{Graph};
+ghost use Rattle.flow_graph.specs.Drawn.{flows_of};
 
 use std::alloc::Allocator;
 
@@ -48,7 +49,7 @@ pub fn by_due_messages_a_graph_sends_due_messages<A: Allocator>()
 pub fn what_a_graph_reaches_has_its_widths<A: Allocator>()
     ensures { (p : Program) (q : ℕ) (graph : Graph A) (ks : List NumberedMessage) → ArgumentsFit p → IsGraph p q graph
         → ((k : NumberedMessage) → Member k ks → IsNumberOf (IsMessageTo p q) k) → (a n v : ℕ) → Reaches graph (λ k. Member k ks) a n v
-        → (n < length graph.flows.items) × IsNumberOfValuation p q a × IsNumberOfValuation p q v }
+        → (n < length (flows_of graph)) × IsNumberOfValuation p q a × IsNumberOfValuation p q v }
 {}
 
 /// By messages of the widths of its procedure, a graph sends only messages of the widths of who they are for.

@@ -8,7 +8,7 @@ ghost use Rattle.flow_graph.specs.Postfix.{IsShallow, IsShallow-prop, after_step
 ghost use Rattle.flow_graph.specs.Views.{scope_seen, IsSmall};
 
 use crate::scope::Scope;
-use crate::word::Word;
+use crate::word::{BITS, Word};
 use std::alloc::{AllocError, Allocator};
 use syntax::{Expr, Op};
 
@@ -35,7 +35,7 @@ fn stepped(step: Step, values: Word, stack: u64) -> u64
     ensures { (s : List Bool) → stack ≡ coded s → IsShallow (length s) (step ∷ []) → result ≡ coded (after_step (bit_of values) step s) }
 {
     match step {
-        Step::Read(b) => stack % HALF * 2 + (values >> (b % 64) & 1),
+        Step::Read(b) => stack % HALF * 2 + (values >> (b % BITS) & 1),
         Step::Constant(b) => stack % HALF * 2 + b as u64,
         Step::Not => stack / 2 * 2 + (1 - stack % 2),
         Step::Apply(op) => {

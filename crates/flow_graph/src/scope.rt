@@ -5,6 +5,7 @@ ghost use Rattle.language.specs.Resolve.{place_of};
 ghost use Rattle.syntax.specs.Trees.{name_of};
 ghost use Rattle.flow_graph.specs.Located.{bit_of_place};
 ghost use Rattle.flow_graph.specs.Views.{scope_seen, IsSmall};
+ghost use Rattle.round_rewrite.specs.Limits.{most_places};
 
 use std::alloc::Allocator;
 use syntax::{Name, Proc, declares, number_of_name};
@@ -23,7 +24,7 @@ impl<'a, N: Allocator> Scope<'a, N> {
     pub(crate) fn bit(&self, x: &Name<N>) -> Option<u8>
         requires { IsSmall self.now }
         ensures bit { result ≡ bit_of_place (length (scope_seen self.now).globals) (place_of (scope_seen self.now) (name_of x.now)) }
-        ensures small { IfSome result (λ b. b < 64) }
+        ensures small { IfSome result (λ b. b < most_places) }
     {
         let text = x.text.as_str();
         let globals = self.globals.len();

@@ -6,8 +6,9 @@ ghost use Rattle.language.specs.Tree.{var};
 ghost use Rattle.syntax.specs.Trees.{expr_of, operator_of};
 ghost use Rattle.flow_graph.specs.Bits.{bit_of, coded};
 ghost use Rattle.flow_graph.specs.Located.{located, worth};
-ghost use Rattle.flow_graph.specs.Tables.{slot, Tabulates, AreBits, AreBits-prop, Widens};
+ghost use Rattle.flow_graph.specs.Tables.{slot, Tabulates, AreBits, AreBits-prop, Widens, most_rows};
 ghost use Rattle.flow_graph.specs.Views.{scope_seen, IsSmall};
+ghost use Rattle.round_rewrite.specs.Limits.{most_places};
 
 use crate::scope::Scope;
 use crate::word::Word;
@@ -45,7 +46,7 @@ impl Table {
 /// The outputs of the input in this slot.
 fn outputs_of_slot(slot: usize) -> u64
     requires { slot < 6 }
-    ensures { (j : ℕ) → j < 64 → bit_of result j ≡ bit_of j slot }
+    ensures { (j : ℕ) → j < most_rows → bit_of result j ≡ bit_of j slot }
 {
     match slot {
         0 => 0xAAAA_AAAA_AAAA_AAAA,
@@ -59,14 +60,14 @@ fn outputs_of_slot(slot: usize) -> u64
 
 /// The outputs of what is not, for those of what is.
 fn complement(outputs: u64) -> u64
-    ensures { (j : ℕ) → j < 64 → bit_of result j ≡ not (bit_of outputs j) }
+    ensures { (j : ℕ) → j < most_rows → bit_of result j ≡ not (bit_of outputs j) }
 {
     !outputs
 }
 
 /// The outputs of an operator for those of its operands.
 fn combined(op: Op, left: u64, right: u64) -> u64
-    ensures { (j : ℕ) → j < 64 → bit_of result j ≡ operate (operator_of op) (bit_of left j) (bit_of right j) }
+    ensures { (j : ℕ) → j < most_rows → bit_of result j ≡ operate (operator_of op) (bit_of left j) (bit_of right j) }
 {
     match op {
         Op::Implies => complement(left) | right,
@@ -95,7 +96,7 @@ fn slot_of(inputs: &[u8], bit: u8) -> usize
 /// The outputs of a bit, which becomes an input where it was none; `None` where there are six others.
 fn read(inputs: &mut ArrayVec<u8, MOST>, bit: u8) -> Option<u64>
     ensures widens { Widens inputs.old.items inputs.new.items }
-    ensures bits { bit < 64 → AreBits inputs.old.items → AreBits inputs.new.items }
+    ensures bits { bit < most_places → AreBits inputs.old.items → AreBits inputs.new.items }
     ensures few { length inputs.old.items ≤ 6 → length inputs.new.items ≤ 6 }
     ensures outputs { IfSome result (λ w. Tabulates inputs.new.items w (var bit)) }
 {

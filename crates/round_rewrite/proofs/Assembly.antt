@@ -9,7 +9,7 @@ use Rattle.language.specs.Rounds.{starting_stack, Unsafe}
 use Rattle.language.specs.Sequential.{numbered, numbered_routine, in_text_order}
 use Rattle.language.proofs.Lengths.{length_zeros}
 use Rattle.round_rewrite.specs.Table.{Naming, numbers, plain, guess, guesses, starts, check, checks, main, rewritten}
-use Rattle.round_rewrite.specs.Places.{places, bits_at, all_globals, rewritten_routine, main_routine, rewritten_program}
+use Rattle.round_rewrite.specs.Places.{places, all_globals, rewritten_routine, main_routine, rewritten_program, global_count}
 use Rattle.round_rewrite.specs.Scoped.{FitsScopes}
 use Rattle.round_rewrite.proofs.Laid.{Long, flat, row, bits_of, lay, Shape, bits_bit}
 use Rattle.round_rewrite.proofs.Plain.{PlainAfter, bare, bare_state, bare_routine, world_of, bare-numbered, rest-numbered}
@@ -20,6 +20,7 @@ use Rattle.round_rewrite.proofs.Compose.{Linked, FailThreads, copies, copies_lon
 use Rattle.round_rewrite.proofs.Guessing.{Bad, main_at}
 use Rattle.round_rewrite.proofs.Checking.{Fill, guesses_lead, guesses_back, checks_lead, checks_back, linked_rows, rows_linked}
 use Rattle.round_rewrite.proofs.Starting.{Ran, fails_lead, starts_back, fails_keep}
+use Rattle.round_rewrite.specs.Limits.{most_rounds}
 
 module _ (w : Naming Place Place ℕ ℕ) (last : ℕ) where
   bare-guess : (xs : List Place) (k : ℕ) (t : Code) → bare (guess w last xs k t) ≡ guess w last xs k (bare t)
@@ -51,7 +52,7 @@ flat_copies : (n k : ℕ) → flat (copies k (zeros n)) ≡ zeros (k * n)
 flat_copies n zero = ap zeros (let z : zero ≡ zero * n = omega arith in z)
 flat_copies n (suc k) = ap (λ z. zeros n ++ z) (flat_copies n k) ∙ (sym (zeros-add n (k * n)) ∙ ap zeros (let z : n + k * n ≡ suc k * n = omega arith in z))
 
-zeros_lie : (n last : ℕ) → zeros (bits_at n last + 4) ≡ lay (copies (suc last) (zeros n)) (copies last (zeros n)) (bits_of 0 false false)
+zeros_lie : (n last : ℕ) → zeros (global_count n last) ≡ lay (copies (suc last) (zeros n)) (copies last (zeros n)) (bits_of 0 false false)
 zeros_lie n last =
     zeros-add (suc last * n + last * n) 4
     ∙ (ap (λ z. z ++ zeros 4) (zeros-add (suc last * n) (last * n))
@@ -88,12 +89,12 @@ module _ (p : Program) (last : ℕ) where
   body = main (places p.globals last 0) last (all_globals p.globals) p.threads
 
   abbrev pub start : State
-  start = state (zeros (bits_at p.globals last + 4)) (frame 0 [] (numbered 1 body) ∷ [])
+  start = state (zeros (global_count p.globals last)) (frame 0 [] (numbered 1 body) ∷ [])
 
   pub start_is : bare_state start ≡ main_at (lay (copies (suc last) (zeros p.globals)) (copies last (zeros p.globals)) (bits_of 0 false false)) body
   start_is = ap₂ main_at (zeros_lie p.globals last) (bare-numbered 1 body ∙ bare-main (places p.globals last 0) last (all_globals p.globals) p.threads)
 
-  module _ (fits : FitsScopes p) (small : last < 4) where
+  module _ (fits : FitsScopes p) (small : last < most_rounds) where
     abbrev n : ℕ
     n = p.globals
 

@@ -9,6 +9,7 @@ use Rattle.round_rewrite.specs.Places.{places, is_global}
 use Rattle.round_rewrite.specs.Scoped.{PlaceInScope, PlacesInScope, SideInScope, SidesInScope}
 use Rattle.round_rewrite.proofs.Laid.{row, with_row, row_bit, row_with, with_own, with_right, length-with_row, long-with_row, bit_right, bits_of, lay, Shape}
 use Rattle.round_rewrite.proofs.Translate.{same, same_refl, same_false, at_is, expression_is, or_false}
+use Rattle.round_rewrite.specs.Limits.{most_rounds}
 
 pub row-with_same : (C : List (List Bool)) (k : ℕ) (v : List Bool) → k < length C → row (with_row C k v) k ≡ v
 row-with_same [] k v h = absurd (omega arith)
@@ -100,7 +101,7 @@ drawn_writes X l tmp own (suc d) j (t ∷ ts) e =
     let ih = drawn_writes X l (with_bit tmp j t) own d (suc j) ts e in
     (ih.0, ap (written_locals (map (λ k. local (own + k)) (numbers (suc j) d)) ts) (with_right l tmp (own + j) j t (ap (λ z. z + j) (sym e))) ∙ ih.1)
 
-module _ (n last own : ℕ) (C S : List (List Bool)) (q : ℕ) (s b : Bool) (shape : Shape n last C S) (small : last < 4) (within : q ≤ last) (l tmp : List Bool) (el : length l ≡ own) where
+module _ (n last own : ℕ) (C S : List (List Bool)) (q : ℕ) (s b : Bool) (shape : Shape n last C S) (small : last < most_rounds) (within : q ≤ last) (l tmp : List Bool) (el : length l ≡ own) where
   abbrev pub X : List Bool
   X = lay C S (bits_of q s b)
 

@@ -6,7 +6,7 @@ use Rattle.language.specs.Rest.{Label, Code, join, rest_from}
 use Rattle.language.specs.Step.{Routine, Program, Frame, frame, State, state, zeros, fresh, AtRoutine, AtRest, body_of, StepsTo, Fails}
 use Rattle.language.proofs.Lengths.{length_values, length_globals, length_locals}
 use Rattle.round_rewrite.specs.Table.{plain, temporaries, expression, side, stop_test, statement}
-use Rattle.round_rewrite.specs.Places.{places, is_global, bits_at}
+use Rattle.round_rewrite.specs.Places.{places, is_global, stop_at, bad_at}
 use Rattle.round_rewrite.specs.Scoped.{AreInScope, SideInScope, FitsScopes}
 use Rattle.round_rewrite.proofs.Laid.{row, with_row, long_row, bits_of, lay, Shape, bits_with}
 use Rattle.round_rewrite.proofs.Translate.{side_is, expressions_are}
@@ -17,6 +17,7 @@ use Rattle.round_rewrite.proofs.Leading.{Leads, Never, unstep, Later, later, lat
 use Rattle.round_rewrite.proofs.Prologue.{stop_leads, stop_back}
 use Rattle.round_rewrite.proofs.Frames.{Both, source, Good, AllGood, put_rest, callers, stack, put_routine, IsWorld, fresh_more}
 use Rattle.round_rewrite.proofs.Forward.{both, good_with, jump_good, call_good, branch_fits, put_branch, loop_fits, put_loop, inner}
+use Rattle.round_rewrite.specs.Limits.{most_rounds}
 
 two_back : (X L : List Bool) (r0 r1 : RightSide Place) (vs : List Bool) → AreValues X L (r0 ∷ r1 ∷ []) vs → (x : Bool) × (y : Bool) × (vs ≡ x ∷ y ∷ []) × IsValue X L r0 x × IsValue X L r1 y
 two_back X L r0 r1 [] a = absurd a
@@ -24,7 +25,7 @@ two_back X L r0 r1 (x ∷ []) a = absurd a.1
 two_back X L r0 r1 (x ∷ y ∷ []) a = (x, y, refl, a.0, a.1.0)
 two_back X L r0 r1 (x ∷ y ∷ z ∷ vs) a = absurd a.1.1
 
-module _ (p : Program) (last : ℕ) (fits : FitsScopes p) (small : last < 4) (w : World) (isw : IsWorld p last w) (C S : List (List Bool)) (q : ℕ) (b : Bool) (shape : Shape p.globals last C S) (within : q ≤ last) (m : Frame) (Q : State → Type 0) (single : (g : List Bool) (f f' : Frame) (fs : List Frame) → Q (state g (f ∷ f' ∷ fs)) → ⊥) where
+module _ (p : Program) (last : ℕ) (fits : FitsScopes p) (small : last < most_rounds) (w : World) (isw : IsWorld p last w) (C S : List (List Bool)) (q : ℕ) (b : Bool) (shape : Shape p.globals last C S) (within : q ≤ last) (m : Frame) (Q : State → Type 0) (single : (g : List Bool) (f f' : Frame) (fs : List Frame) → Q (state g (f ∷ f' ∷ fs)) → ⊥) where
   abbrev pub X : List Bool
   X = lay C S (bits_of q false b)
 
@@ -82,15 +83,15 @@ module _ (p : Program) (last : ℕ) (fits : FitsScopes p) (small : last < 4) (w 
   back_value : (own : ℕ) (l tmp : List Bool) → length l ≡ own → (r : RightSide Place) → SideInScope p.globals own r → (v : Bool) → IsValue X (l ++ tmp) (side (places p.globals last own) last r) v → IsValue (row C q) l r v
   back_value own l tmp el r h v is = subst (λ T. T) (side_is p.globals last own C S q false b (l ++ tmp) shape small within l tmp refl el r h v) is
 
-  fail_writes : (x y : Bool) → x ≡ true → y ≡ true → with_bit (with_bit X (bits_at p.globals last + 3) x) (bits_at p.globals last + 2) y ≡ lay C S (bits_of q true true)
+  fail_writes : (x y : Bool) → x ≡ true → y ≡ true → with_bit (with_bit X (bad_at p.globals last) x) (stop_at p.globals last) y ≡ lay C S (bits_of q true true)
   fail_writes x y ex ey =
-      ap₂ (λ u v. with_bit (with_bit X (bits_at p.globals last + 3) u) (bits_at p.globals last + 2) v) ex ey
-      ∙ (ap (λ z. with_bit z (bits_at p.globals last + 2) true) (bits_with p.globals last C S (bits_of q false b) 3 true shape)
+      ap₂ (λ u v. with_bit (with_bit X (bad_at p.globals last) u) (stop_at p.globals last) v) ex ey
+      ∙ (ap (λ z. with_bit z (stop_at p.globals last) true) (bits_with p.globals last C S (bits_of q false b) 3 true shape)
       ∙ bits_with p.globals last C S (bits_of q false true) 2 true shape)
 
   fail_code : Code → Code
   fail_code t =
-      one plain (assign (global (bits_at p.globals last + 3) ∷ global (bits_at p.globals last + 2) ∷ []) (value (const true) ∷ value (const true) ∷ []))
+      one plain (assign (global (bad_at p.globals last) ∷ global (stop_at p.globals last) ∷ []) (value (const true) ∷ value (const true) ∷ []))
       (one plain leave t)
 
   assert_back : (N c own : ℕ) (l tmp : List Bool) (k : Mark Label) (r : RightSide Place) (t : Code) (bs : List Both) (v : Bool) → Good p last (both c own l tmp (one k (assert r) t)) → AllGood p last bs → IsValue X (l ++ tmp) (side (places p.globals last own) last r) v → PlainAfter w N (state X (frame (suc c) (l ++ tmp) (cond v (one plain skip (put_rest p last own t)) (fail_code (put_rest p last own t))) ∷ callers p last bs m)) Q → Begins N c l tmp (one k (assert r) t) bs
@@ -103,11 +104,11 @@ module _ (p : Program) (last : ℕ) (fits : FitsScopes p) (small : last < 4) (w 
       (later_now w Q _ N n1 e1 r1)
   assert_back N c own l tmp k r t bs false h good is run =
       let fs : List Frame = callers p last bs m in
-      let two : List Place = global (bits_at p.globals last + 3) ∷ global (bits_at p.globals last + 2) ∷ [] in
+      let two : List Place = global (bad_at p.globals last) ∷ global (stop_at p.globals last) ∷ [] in
       let rest : Code = one plain leave (put_rest p last own t) in
       let (n1, e1, r1) = unstep w Q N X (frame (suc c) (l ++ tmp) (fail_code (put_rest p last own t))) fs (never_below bs) run in
       let (x, y, ex, ix, iy) = two_back X (l ++ tmp) (value (const true)) (value (const true)) r1.0 r1.1 in
-      let r2 : PlainAfter w n1 (state (with_bit (with_bit X (bits_at p.globals last + 3) x) (bits_at p.globals last + 2) y) (frame (suc c) (l ++ tmp) rest ∷ fs)) Q =
+      let r2 : PlainAfter w n1 (state (with_bit (with_bit X (bad_at p.globals last) x) (stop_at p.globals last) y) (frame (suc c) (l ++ tmp) rest ∷ fs)) Q =
       subst (λ vs. PlainAfter w n1 (state (written_globals two vs X) (frame (suc c) (written_locals two vs (l ++ tmp)) rest ∷ fs)) Q) ex r1.2 in
       let r3 : PlainAfter w n1 (state (lay C S (bits_of q true true)) (frame (suc c) (l ++ tmp) rest ∷ fs)) Q =
       subst (λ z. PlainAfter w n1 (state z (frame (suc c) (l ++ tmp) rest ∷ fs)) Q) (fail_writes x y ix iy) r2 in

@@ -11,6 +11,7 @@ use Rattle.round_rewrite.proofs.Laid.{row, with_row, long_row, bits_of, lay, Sha
 use Rattle.round_rewrite.proofs.Assigned.{drawn_to, length-drawn, picks, Picked, picked, any_are, drawn_writes, spread_all, sides_are, sides_back, writes, writes_locals, with-own_row}
 use Rattle.round_rewrite.proofs.Plain.{World, PlainAfter}
 use Rattle.round_rewrite.proofs.Leading.{Leads, Never, unstep}
+use Rattle.round_rewrite.specs.Limits.{most_rounds}
 
 module _ (w : World) (n last own c : ℕ) (fs : List Frame) (Q : State → Type 0) where
   draw_leads : (X l tmp : List Bool) (d : ℕ) (ts : List Bool) (t : Code) → length l ≡ own → AreValues X (l ++ tmp) (each any (numbers 0 d)) ts → Leads w (state X (frame c (l ++ drawn_to d 0 ts tmp) t ∷ fs)) Q → Leads w (state X (frame c (l ++ tmp) (drawing (places n last own) last d t) ∷ fs)) Q
@@ -44,7 +45,7 @@ module _ (w : World) (n last own c : ℕ) (fs : List Frame) (Q : State → Type 
             (subst (λ z. PlainAfter w m (state z (frame c (written_locals (map (λ k. local (own + k)) (numbers 0 (suc d))) ts (l ++ tmp)) t ∷ fs)) Q) eg k.2),
       )
 
-  module _ (C S : List (List Bool)) (q : ℕ) (b : Bool) (shape : Shape n last C S) (small : last < 4) (within : q ≤ last) (l tmp : List Bool) (el : length l ≡ own) where
+  module _ (C S : List (List Bool)) (q : ℕ) (b : Bool) (shape : Shape n last C S) (small : last < most_rounds) (within : q ≤ last) (l tmp : List Bool) (el : length l ≡ own) where
     -- the globals where the round's copy is h
     abbrev pub turned : List Bool → List Bool
     turned h = lay (with_row C q h) S (bits_of q false b)

@@ -17,6 +17,7 @@ use Rattle.round_rewrite.proofs.Leading.{Leads}
 use Rattle.round_rewrite.proofs.Blocks.{put-join, put-again}
 use Rattle.round_rewrite.proofs.Prologue.{prologue_goes, stop_leads}
 use Rattle.round_rewrite.proofs.Frames.{Fits, Roomy, Both, source, Good, AllGood, put_rest, callers, stack, put_routine, IsWorld, each_at, roomy, throughout-join, throughout-rest, IfThere, fresh_more}
+use Rattle.round_rewrite.specs.Limits.{most_rounds}
 
 abbrev pub both : ℕ → ℕ → List Bool → List Bool → Code → Both
 both c own l tmp rest = record { c = c; own = own; l = l; tmp = tmp; rest = rest }
@@ -76,7 +77,7 @@ call_good p last q r vs fits e short =
       fits = body_fits p q r (length (zeros (temporaries is_global r.body))) fits e room;
     }
 
-module _ (p : Program) (last : ℕ) (fits : FitsScopes p) (small : last < 4) (w : World) (isw : IsWorld p last w) (C S : List (List Bool)) (q : ℕ) (b : Bool) (shape : Shape p.globals last C S) (within : q ≤ last) (m : Frame) where
+module _ (p : Program) (last : ℕ) (fits : FitsScopes p) (small : last < most_rounds) (w : World) (isw : IsWorld p last w) (C S : List (List Bool)) (q : ℕ) (b : Bool) (shape : Shape p.globals last C S) (within : q ≤ last) (m : Frame) where
   abbrev pub X : List Bool
   X = lay C S (bits_of q false b)
 

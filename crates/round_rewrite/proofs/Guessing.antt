@@ -6,7 +6,7 @@ use Rattle.language.specs.Value.{Place, global, local, bit, with_bit, AreValues,
 use Rattle.language.specs.Rest.{Label, Code}
 use Rattle.language.specs.Step.{Frame, frame, State, state}
 use Rattle.round_rewrite.specs.Table.{numbers, plain, each, guess}
-use Rattle.round_rewrite.specs.Places.{places, copy_at, save_at, bits_at, all_globals}
+use Rattle.round_rewrite.specs.Places.{places, copy_at, save_at, all_globals, bad_at}
 use Rattle.round_rewrite.proofs.Laid.{Long, row, with_row, row_bit, row_with, row_middle, with_middle, with_right, bit_right, length-flat, flat, lay, Shape, length-with_row, long-with_row, long-append}
 use Rattle.round_rewrite.proofs.Assigned.{row-with_same, with-with_row}
 use Rattle.round_rewrite.proofs.Plain.{World, PlainSteps, PlainAfter}
@@ -15,7 +15,7 @@ use Rattle.round_rewrite.proofs.Leading.{Leads}
 -- the first procedure is over, and `bad` is 1
 abbrev pub Bad : ℕ → ℕ → State → Type 0
 Bad n last (state g []) = ⊥
-Bad n last (state g (frame c l done ∷ [])) = (c ≡ 0) × (bit g (bits_at n last + 3) ≡ true)
+Bad n last (state g (frame c l done ∷ [])) = (c ≡ 0) × (bit g (bad_at n last) ≡ true)
 Bad n last (state g (frame c l done ∷ f ∷ fs)) = ⊥
 Bad n last (state g (frame c l (one m s t) ∷ fs)) = ⊥
 Bad n last (state g (frame c l (choose m r a b t) ∷ fs)) = ⊥

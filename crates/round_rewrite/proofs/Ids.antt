@@ -12,6 +12,7 @@ use Rattle.syntax.specs.InGrammar.{IsId}
 use Rattle.scopes.specs.Rewritable.{has_double}
 use Rattle.round_rewrite.specs.Names.{named, copy_name, save_name, drawn_name}
 use Rattle.round_rewrite.proofs.Spelling.{double_there}
+use Rattle.round_rewrite.specs.Limits.{most_places, most_rounds}
 
 -- no reserved word has two underscores in a row
 reserved_free : (k : Kind) → unwrap_or (option_map has_double (reserved_word k)) false ≡ false
@@ -57,13 +58,13 @@ words_digits (c ∷ ds) h =
 words_decimal : (n : ℕ) → n < 2 ^ 64 → AreWordBytes (decimal n)
 words_decimal n h = words_digits (decimal n) (decimal_is_IsNumeral n h).0.1
 
-pub copy_id : (k : ℕ) (x : Name) → k < 4 → IsId x → IsId (copy_name k x)
+pub copy_id : (k : ℕ) (x : Name) → k < most_rounds → IsId x → IsId (copy_name k x)
 copy_id k x small h = two_lows x.text (decimal (suc k)) h.begins h.bytes (words_decimal (suc k) (omega arith))
 
-pub save_id : (k : ℕ) (x : Name) → k < 4 → IsId x → IsId (save_name k x)
+pub save_id : (k : ℕ) (x : Name) → k < most_rounds → IsId x → IsId (save_name k x)
 save_id k x small h = two_lows x.text (115 ∷ decimal (suc k)) h.begins h.bytes (refl, words_decimal (suc k) (omega arith))
 
-pub drawn_id : (j : ℕ) → j < 64 → IsId (drawn_name j)
+pub drawn_id : (j : ℕ) → j < most_places → IsId (drawn_name j)
 drawn_id j few = two_lows (codes "tmp") (116 ∷ decimal (suc j)) refl (refl, (refl, (refl, tt))) (refl, words_decimal (suc j) (omega arith))
 
 pub high_id : IsId (named (codes "rh__"))

@@ -12,6 +12,7 @@ use Rattle.round_rewrite.proofs.Spelling.{same_text_refl, same_text_false}
 use Rattle.round_rewrite.proofs.Numbering.{number_right}
 use Rattle.round_rewrite.proofs.Placing.{scope, wider, copy_place, save_place}
 use Rattle.round_rewrite.proofs.Resolved.{lo, hi, st}
+use Rattle.round_rewrite.specs.Limits.{most_places, most_rounds}
 
 pub same_text_other : (a b : List ℕ) → same_text a b ≡ false → same_text b a ≡ false
 same_text_other a b h = same_text_false b a (λ e. let bad : true ≡ false = sym (same_text_refl a) ∙ (ap (same_text a) (sym e) ∙ h) in cc)
@@ -30,7 +31,7 @@ not_before [] x rest h = refl
 not_before (p ∷ pre) x rest h =
     ap (λ c. cond c true (is_declared x.text pre)) (same_text_other p.text x.text (not_later p.text pre x rest h.0)) ∙ not_before pre x rest h.1
 
-module _ (t : Tree) (gs ps : List Name) (last : ℕ) (gs_free : AreFree gs) (distinct : AreDistinct gs) (few : 0 ≤ 64) (small : last < 4) (ps' : List Name) (called : (q : Name) → is_declared q.text ps ≡ true → number_of q.text ps' ≡ suc (number_of q.text ps)) where
+module _ (t : Tree) (gs ps : List Name) (last : ℕ) (gs_free : AreFree gs) (distinct : AreDistinct gs) (few : 0 ≤ most_places) (small : last < most_rounds) (ps' : List Name) (called : (q : Name) → is_declared q.text ps ≡ true → number_of q.text ps' ≡ suc (number_of q.text ps)) where
   abbrev n : ℕ
   n = length gs
 

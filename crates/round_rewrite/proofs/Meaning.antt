@@ -9,7 +9,7 @@ use Rattle.language.specs.Step.{AtRoutine}
 use Rattle.language.specs.Resolve.{number_of, is_declared, Scope, place_of, resolve_expression, resolve_side, resolve_simple, resolve_block, scope_of, routine_of, meaning_of}
 use Rattle.language.specs.Sequential.{in_text_order, sequential_of}
 use Rattle.round_rewrite.specs.Table.{Naming, numbers, temporaries, rewritten, main, globals}
-use Rattle.round_rewrite.specs.Places.{places, is_global, bits_at, rewritten_routine, main_routine, rewritten_program}
+use Rattle.round_rewrite.specs.Places.{places, is_global, rewritten_routine, main_routine, rewritten_program, bad_at, global_count}
 use Rattle.round_rewrite.specs.Names.{named, copy_name, save_name, drawn_name, names, rewritten_procedure, main_procedure, rewritten_tree}
 use Rattle.round_rewrite.specs.Scoped.{PlaceInScope, InScope, AreInScope, SideInScope, SidesInScope, PlacesInScope, SimpleInScope, Throughout, EachRoutine, EachThread, RoutineInScope, FitsScopes}
 use Rattle.language.proofs.Names.{number_less}
@@ -22,6 +22,7 @@ use Rattle.round_rewrite.proofs.Placing.{wider, bad_place, length-numbers}
 use Rattle.round_rewrite.proofs.Resolved.{by_test, temporaries_resolved, block_resolved}
 use Rattle.round_rewrite.proofs.Matching.{main_resolved, same_text_other}
 use Rattle.round_rewrite.proofs.Theorem.{keeps}
+use Rattle.round_rewrite.specs.Limits.{most_places, most_rounds}
 
 names_of : List Procedure → List Name
 names_of procs = map (λ (p : Procedure). p.name) procs
@@ -40,7 +41,7 @@ not_main t ok x h =
     let free : has_double x ≡ false = free_name x (map (λ (p : Procedure). p.name) t.procedures) (free_names t t.procedures ok.procedures) h in
     same_text_other (codes "main__") x (free_differs x (109 ∷ 97 ∷ 105 ∷ 110 ∷ []) [] free)
 
-module _ (t : Tree) (last : ℕ) (ok : IsRewritable t) (small : last < 4) where
+module _ (t : Tree) (last : ℕ) (ok : IsRewritable t) (small : last < most_rounds) where
   abbrev t' : Tree
   t' = rewritten_tree last t
 
@@ -78,14 +79,14 @@ module _ (t : Tree) (last : ℕ) (ok : IsRewritable t) (small : last < 4) where
   length-own p =
       ap length (sym (append_assoc p.formals p.locals (temps_of p))) ∙ (length-append (own_of p) (temps_of p) ∙ ap (λ z. length (own_of p) + z) (length-temps p))
 
-  few_drawn : (p : Procedure) → width t' (rewritten_procedure last p) ≤ 64 → drawn_of p ≤ 64
+  few_drawn : (p : Procedure) → width t' (rewritten_procedure last p) ≤ most_places → drawn_of p ≤ most_places
   few_drawn p h = let e : length (p.formals ++ (p.locals ++ temps_of p)) ≡ length (own_of p) + drawn_of p = length-own p in omega arith
 
-  routine_is : (p : Procedure) → ProcedureRewritable t p → width t' (rewritten_procedure last p) ≤ 64 → routine_of t' (rewritten_procedure last p) ≡ rewritten_routine (length gs) last (routine_of t p)
+  routine_is : (p : Procedure) → ProcedureRewritable t p → width t' (rewritten_procedure last p) ≤ most_places → routine_of t' (rewritten_procedure last p) ≡ rewritten_routine (length gs) last (routine_of t p)
   routine_is p h narrow =
       let own : List Name = own_of p in
       let d : ℕ = drawn_of p in
-      let few : d ≤ 64 = few_drawn p narrow in
+      let few : d ≤ most_places = few_drawn p narrow in
       let counts : temporaries (names own).is_shared p.body ≡ temporaries is_global (resolve_block (scope_of t p) p.body) =
       temporaries_resolved t gs own ps d last ok.globals h.own few small ps' called p.body in
       let bodies : resolve_block (wider gs own ps d last ok.globals h.own few small ps') (rewritten (names own) last p.body) ≡ rewritten (places (length gs) last (length own)) last (resolve_block (scope_of t p) p.body) =
@@ -94,11 +95,11 @@ module _ (t : Tree) (last : ℕ) (ok : IsRewritable t) (small : last < 4) where
       ap (λ l. resolve_block (record { globals = t'.globals; locals = l; procedures = ps' }) (rewritten (names own) last p.body)) (sym (append_assoc p.formals p.locals (temps_of p))) in
       λ i. record { places = (length-own p ∙ ap (λ z. length own + z) counts) i; body = (scoped ∙ bodies) i }
 
-  routines_are : (procs : List Procedure) → EachProcedure (ProcedureRewritable t) procs → EachProcedure (λ (p : Procedure). width t' p ≤ 64) (map (rewritten_procedure last) procs) → map (routine_of t') (map (rewritten_procedure last) procs) ≡ map (rewritten_routine (length gs) last) (map (routine_of t) procs)
+  routines_are : (procs : List Procedure) → EachProcedure (ProcedureRewritable t) procs → EachProcedure (λ (p : Procedure). width t' p ≤ most_places) (map (rewritten_procedure last) procs) → map (routine_of t') (map (rewritten_procedure last) procs) ≡ map (rewritten_routine (length gs) last) (map (routine_of t) procs)
   routines_are [] h narrow = refl
   routines_are (p ∷ procs) h narrow = ap₂ (λ a b. a ∷ b) (routine_is p h.0 narrow.0) (routines_are procs h.1 narrow.1)
 
-  globals_are : length t'.globals ≡ bits_at (length gs) last + 4
+  globals_are : length t'.globals ≡ global_count (length gs) last
   globals_are =
       let A : List Name = Rattle.round_rewrite.specs.Table.copied (names []) last copy_name gs (numbers 0 (suc last)) in
       let B : List Name = Rattle.round_rewrite.specs.Table.copied (names []) last save_name gs (numbers 1 last) in
@@ -194,14 +195,14 @@ module _ (t : Tree) (last : ℕ) (ok : IsRewritable t) (small : last < 4) where
   pub fits_scopes : FitsScopes (meaning_of t)
   fits_scopes = record { routines = routines_fit t.procedures ok.procedures; threads = threads_fit t.threads ok.threads }
 
-  bad_number : number_of (codes "bad__") t'.globals ≡ bits_at (length gs) last + 3
+  bad_number : number_of (codes "bad__") t'.globals ≡ bad_at (length gs) last
   bad_number =
-      let e : global (number_of (codes "bad__") t'.globals) ≡ global (bits_at (length gs) last + 3) = bad_place gs [] ps 0 last ok.globals tt (omega arith) small ps' in
+      let e : global (number_of (codes "bad__") t'.globals) ≡ global (bad_at (length gs) last) = bad_place gs [] ps 0 last ok.globals tt (omega arith) small ps' in
       cc
 
   pub keeps_tree : IsNarrow last t → KeepsTree last t
   keeps_tree narrow =
       let k : Keeps last (meaning_of t) = keeps (meaning_of t) last fits_scopes small in
-      let same : SomeBad (in_text_order (rewritten_program last (meaning_of t))) (bits_at (length gs) last + 3) ≡ SomeBad (sequential_of t') (number_of (codes "bad__") t'.globals) =
+      let same : SomeBad (in_text_order (rewritten_program last (meaning_of t))) (bad_at (length gs) last) ≡ SomeBad (sequential_of t') (number_of (codes "bad__") t'.globals) =
       ap₂ (λ p b. SomeBad (in_text_order p) b) (sym (meaning_is narrow)) (sym bad_number) in
       ((λ u. subst (λ T. T) same (k.0 u)), (λ b. k.1 (subst (λ T. T) (sym same) b)))

@@ -7,6 +7,7 @@ use Rattle.round_rewrite.specs.Table.{Naming, numbers, copied}
 use Rattle.scopes.specs.Rewritable.{has_double, AreFree}
 use Rattle.language.proofs.Names.{declared_first, declared_second, number_first, number_second}
 use Rattle.round_rewrite.proofs.Spelling.{same_text_true, free_differs}
+use Rattle.round_rewrite.specs.Limits.{most_rounds}
 
 pub number_right : (t : List ℕ) (xs ys : List Name) → is_declared t xs ≡ false → (number_of t (xs ++ ys) ≡ length xs + number_of t ys) × (is_declared t (xs ++ ys) ≡ is_declared t ys)
 number_right t xs ys h = (number_second t xs ys h, declared_second t xs ys h)
@@ -32,7 +33,7 @@ free_name t (x ∷ xs) h d = go (same_text t x.text) refl d
 -- names written with a round: copies, or guesses
 pub record Spelled (f : ℕ → Name → Name) : Type 0 where
   pub alike : (k : ℕ) (x y : Name) → same_text (f k x).text (f k y).text ≡ same_text x.text y.text
-  pub unlike : (k j : ℕ) (x y : Name) → k < 4 → j < 4 → (k ≡ j → ⊥) → same_text (f k x).text (f j y).text ≡ false
+  pub unlike : (k j : ℕ) (x y : Name) → k < most_rounds → j < most_rounds → (k ≡ j → ⊥) → same_text (f k x).text (f j y).text ≡ false
 
 module _ (w : Naming Name Name Name Name) (last : ℕ) (f : ℕ → Name → Name) (xs : List Name) where
   abbrev rows : ℕ → ℕ → List Name

@@ -6,11 +6,12 @@ use Rattle.language.specs.Value.{global, local}
 use Rattle.language.specs.Rest.{same_text}
 use Rattle.language.specs.Resolve.{number_of, is_declared, Scope, place_of}
 use Rattle.round_rewrite.specs.Table.{Naming, numbers, copied, globals}
-use Rattle.round_rewrite.specs.Places.{copy_at, save_at, bits_at}
+use Rattle.round_rewrite.specs.Places.{copy_at, save_at, bits_at, high_at, low_at, stop_at, bad_at}
 use Rattle.round_rewrite.specs.Names.{named, copy_name, save_name, drawn_name, names}
 use Rattle.scopes.specs.Rewritable.{has_double, AreFree}
 use Rattle.round_rewrite.proofs.Spelling.{same_text_refl, same_text_false, same_text-append, copies_differ, saves_differ, save_no_copy, low_no_copy, low_no_save, drawn_differ, no_drawn, digit_is}
 use Rattle.round_rewrite.proofs.Numbering.{number_right, number_left, not_free, free_name, Spelled, length-rows, none_in_rows, in_rows}
+use Rattle.round_rewrite.specs.Limits.{most_places, most_rounds}
 
 pub copies_spelled : Spelled copy_name
 copies_spelled = record {
@@ -29,7 +30,7 @@ no_temporary : (t : List ℕ) (j d : ℕ) → ((i : ℕ) → same_text t (drawn_
 no_temporary t j zero h = refl
 no_temporary t j (suc d) h = ap (λ c. cond c true (is_declared t (map drawn_name (numbers (suc j) d)))) (h j) ∙ no_temporary t (suc j) d h
 
-the_temporary : (e j d : ℕ) → e < d → j + d ≤ 64 → (is_declared (drawn_name (j + e)).text (map drawn_name (numbers j d)) ≡ true) × (number_of (drawn_name (j + e)).text (map drawn_name (numbers j d)) ≡ e)
+the_temporary : (e j d : ℕ) → e < d → j + d ≤ most_places → (is_declared (drawn_name (j + e)).text (map drawn_name (numbers j d)) ≡ true) × (number_of (drawn_name (j + e)).text (map drawn_name (numbers j d)) ≡ e)
 the_temporary e j zero lt all = absurd (omega arith)
 the_temporary zero j (suc d) lt all =
     let z : j + zero ≡ j = omega arith in
@@ -49,7 +50,7 @@ pub length-numbers : (j d : ℕ) → length (numbers j d) ≡ d
 length-numbers j zero = refl
 length-numbers j (suc d) = ap suc (length-numbers (suc j) d)
 
-module _ (gs own ps : List Name) (d last : ℕ) (gs_free : AreFree gs) (own_free : AreFree own) (few : d ≤ 64) (small : last < 4) where
+module _ (gs own ps : List Name) (d last : ℕ) (gs_free : AreFree gs) (own_free : AreFree own) (few : d ≤ most_places) (small : last < most_rounds) where
   w : Naming Name Name Name Name
   w = names []
 
@@ -88,7 +89,7 @@ module _ (gs own ps : List Name) (d last : ℕ) (gs_free : AreFree gs) (own_free
   as_global : (ps' : List Name) (x : Name) (i j : ℕ) → is_declared x.text (own ++ temps) ≡ false → number_of x.text (globals (names []) last gs) ≡ i → i ≡ j → place_of (wider ps') x ≡ global j
   as_global ps' x i j h e e' = ap (λ c. cond c (local (number_of x.text (own ++ temps))) (global (number_of x.text (globals (names []) last gs)))) h ∙ ap global (e ∙ e')
 
-  digit_not_t : (k : ℕ) → k < 4 → (t r : List ℕ) (x : List ℕ) → has_double x ≡ false → x ++ 95 ∷ 95 ∷ decimal (suc k) ≡ 116 ∷ 109 ∷ 112 ∷ 95 ∷ 95 ∷ 116 ∷ r → ⊥
+  digit_not_t : (k : ℕ) → k < most_rounds → (t r : List ℕ) (x : List ℕ) → has_double x ≡ false → x ++ 95 ∷ 95 ∷ decimal (suc k) ≡ 116 ∷ 109 ∷ 112 ∷ 95 ∷ 95 ∷ 116 ∷ r → ⊥
   digit_not_t k h t r x free e = no_drawn x (49 + k) [] r free (λ z. omega arith) (ap (λ y. x ++ 95 ∷ 95 ∷ y) (sym (digit_is k h)) ∙ e)
 
   pub copy_place : (ps' : List Name) (x : Name) (k : ℕ) → k ≤ last → is_declared x.text own ≡ false → is_declared x.text gs ≡ true → place_of (wider ps') (copy_name k x) ≡ copy_at (length gs) k (place_of scope x)
@@ -154,14 +155,14 @@ module _ (gs own ps : List Name) (d last : ℕ) (gs_free : AreFree gs) (own_free
       as_global ps' (named t) (length (A ++ B) + number_of t (bit_names ++ last_names)) (bits_at (length gs) last + m) (outside a [] differ)
       (ap (number_of t) (append_assoc (A ++ B) bit_names last_names) ∙ r2.0) (ap₂ (λ p q. p + q) lAB at)
 
-  pub high_place : (ps' : List Name) → place_of (wider ps') (named (codes "rh__")) ≡ global (bits_at (length gs) last + 0)
+  pub high_place : (ps' : List Name) → place_of (wider ps') (named (codes "rh__")) ≡ global (high_at (length gs) last)
   high_place ps' = low_place ps' (114 ∷ 104 ∷ []) 0 (λ i. refl) refl
 
-  pub low_bit_place : (ps' : List Name) → place_of (wider ps') (named (codes "rl__")) ≡ global (bits_at (length gs) last + 1)
+  pub low_bit_place : (ps' : List Name) → place_of (wider ps') (named (codes "rl__")) ≡ global (low_at (length gs) last)
   low_bit_place ps' = low_place ps' (114 ∷ 108 ∷ []) 1 (λ i. refl) refl
 
-  pub stop_place : (ps' : List Name) → place_of (wider ps') (named (codes "stop__")) ≡ global (bits_at (length gs) last + 2)
+  pub stop_place : (ps' : List Name) → place_of (wider ps') (named (codes "stop__")) ≡ global (stop_at (length gs) last)
   stop_place ps' = low_place ps' (115 ∷ 116 ∷ 111 ∷ 112 ∷ []) 2 (λ i. refl) refl
 
-  pub bad_place : (ps' : List Name) → place_of (wider ps') (named (codes "bad__")) ≡ global (bits_at (length gs) last + 3)
+  pub bad_place : (ps' : List Name) → place_of (wider ps') (named (codes "bad__")) ≡ global (bad_at (length gs) last)
   bad_place ps' = low_place ps' (98 ∷ 97 ∷ 100 ∷ []) 3 (λ i. refl) refl

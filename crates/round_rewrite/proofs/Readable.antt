@@ -13,12 +13,13 @@ use Rattle.scopes.proofs.Works.{each_left, each_right}
 use Rattle.round_rewrite.specs.Table.{numbers, plain, temporaries, at, expression, side, rounds, targets, sides, draws, drawing, stop_test, rise, prologue, statement, rewritten, guess, guesses, starts, check, checks, copied, globals}
 use Rattle.round_rewrite.specs.Names.{named, copy_name, save_name, drawn_name, names, rewritten_procedure, main_procedure, rewritten_tree}
 use Rattle.round_rewrite.specs.Narrow.{IsNarrow}
-use Rattle.round_rewrite.specs.Places.{bits_at}
+use Rattle.round_rewrite.specs.Places.{global_count}
 use Rattle.round_rewrite.specs.Writing.{procedure_needs, AreFew}
 use Rattle.round_rewrite.proofs.Resolved.{by_test, rest_room}
 use Rattle.round_rewrite.proofs.Widths.{narrow_procedures, few_needs}
 use Rattle.round_rewrite.proofs.Uses.{each_both, any_uses, written_each, drawn_each, sides_even, Held, at_uses, arguments_use, side_uses, targets_held, sides_use}
 use Rattle.round_rewrite.proofs.Ids.{copy_id, save_id, drawn_id, high_id, low_id, stop_id, bad_id, main_id}
+use Rattle.round_rewrite.specs.Limits.{most_places, most_rounds}
 
 -- names, expressions and right sides of the grammar are those whose variables are ids
 ids_each : (xs : List Name) → AreIds xs → Each IsId xs
@@ -82,7 +83,7 @@ some_joined (one m c t) b h = tt
 some_joined (choose m r x y t) b h = tt
 some_joined (loop m r x t) b h = tt
 
-module _ (own : List Name) (last d : ℕ) (small : last < 4) (few : d ≤ 64) where
+module _ (own : List Name) (last d : ℕ) (small : last < most_rounds) (few : d ≤ most_places) where
   held : Held own last d IsId IsId
   held = record {
     high = high_id;
@@ -193,7 +194,7 @@ module _ (own : List Name) (last d : ℕ) (small : last < 4) (few : d ≤ 64) wh
         block_in_grammar k h.4 (omega arith),
       )
 
-procedures_in_grammar : (last : ℕ) → last < 4 → (ps : List Procedure) → AreFew ps → AllByRecursion ProcedureInGrammar ps → AllByRecursion ProcedureInGrammar (map (rewritten_procedure last) ps)
+procedures_in_grammar : (last : ℕ) → last < most_rounds → (ps : List Procedure) → AreFew ps → AllByRecursion ProcedureInGrammar ps → AllByRecursion ProcedureInGrammar (map (rewritten_procedure last) ps)
 procedures_in_grammar last small [] few h = tt
 procedures_in_grammar last small (p ∷ ps) few h =
     let own : List Name = p.formals ++ p.locals in
@@ -209,8 +210,8 @@ procedures_in_grammar last small (p ∷ ps) few h =
     )
 
 -- the globals, and the first procedure
-module _ (last : ℕ) (small : last < 4) where
-  rows_ids : (write : ℕ → Name → Name) → ((k : ℕ) (x : Name) → k < 4 → IsId x → IsId (write k x)) → (xs : List Name) → Each IsId xs → (j m : ℕ) → j + m ≤ 4 → Each IsId (copied (names []) last write xs (numbers j m))
+module _ (last : ℕ) (small : last < most_rounds) where
+  rows_ids : (write : ℕ → Name → Name) → ((k : ℕ) (x : Name) → k < most_rounds → IsId x → IsId (write k x)) → (xs : List Name) → Each IsId xs → (j m : ℕ) → j + m ≤ 4 → Each IsId (copied (names []) last write xs (numbers j m))
   rows_ids write f xs h j zero le = tt
   rows_ids write f xs h j (suc m) le =
       each_both IsId (map (write j) xs) (copied (names []) last write xs (numbers (suc j) m))
@@ -226,14 +227,14 @@ module _ (last : ℕ) (small : last < 4) where
       (each_both IsId (A ++ B) bits (each_both IsId A B (rows_ids copy_name copy_id xs h 0 (suc last) (omega arith)) (rows_ids save_name save_id xs h 1 last (omega arith))) (high_id, (low_id, tt)))
       (stop_id, (bad_id, tt))
 
-  reads_ids : (k : ℕ) (xs : List Name) → k < 4 → Each IsId xs → Each IsId (variables_of_sides (map (λ y. value (var (copy_name k y))) xs))
+  reads_ids : (k : ℕ) (xs : List Name) → k < most_rounds → Each IsId xs → Each IsId (variables_of_sides (map (λ y. value (var (copy_name k y))) xs))
   reads_ids k [] lt h = tt
   reads_ids k (x ∷ xs) lt h = (copy_id k x lt h.0, reads_ids k xs lt h.1)
 
-  guess_in_grammar : (xs : List Name) (k : ℕ) (b : Block Name Name Name) → k < 4 → Each IsId xs → BlockInGrammar b → BlockInGrammar (guess (names []) last xs k b)
+  guess_in_grammar : (xs : List Name) (k : ℕ) (b : Block Name Name Name) → k < most_rounds → Each IsId xs → BlockInGrammar b → BlockInGrammar (guess (names []) last xs k b)
   guess_in_grammar [] k b lt h g = g
   guess_in_grammar (x ∷ xs) k b lt h g =
-      let written : (write : ℕ → Name → Name) → ((k : ℕ) (x : Name) → k < 4 → IsId x → IsId (write k x)) → Each IsId (map (write k) (x ∷ xs)) = λ write f. written_each IsId IsId (write k) (x ∷ xs) (λ y i. f k y lt i) h in (
+      let written : (write : ℕ → Name → Name) → ((k : ℕ) (x : Name) → k < most_rounds → IsId x → IsId (write k x)) → Each IsId (map (write k) (x ∷ xs)) = λ write f. written_each IsId IsId (write k) (x ∷ xs) (λ y i. f k y lt i) h in (
         tt,
         assign_in_grammar (map (copy_name k) (x ∷ xs)) (map (λ y. any) (x ∷ xs)) (omega arith) (length-map (x ∷ xs) (copy_name k) ∙ sym (length-map {B = RightSide Name} (x ∷ xs) (λ y. any))) (written copy_name copy_id) (any_uses IsId (x ∷ xs)),
         (
@@ -255,7 +256,7 @@ module _ (last : ℕ) (small : last < 4) where
     (tt, (s.0, tt), starts_in_grammar lines b s.1 g),
   )
 
-  check_in_grammar : (xs : List Name) (k : ℕ) (b : Block Name Name Name) → suc k < 4 → Each IsId xs → BlockInGrammar b → BlockInGrammar (check (names []) last xs k b)
+  check_in_grammar : (xs : List Name) (k : ℕ) (b : Block Name Name Name) → suc k < most_rounds → Each IsId xs → BlockInGrammar b → BlockInGrammar (check (names []) last xs k b)
   check_in_grammar [] k b lt h g = g
   check_in_grammar (x ∷ xs) k b lt h g = (tt, (save_id (suc k) x lt h.0, copy_id k x (omega arith) h.0), check_in_grammar xs k b lt h.1 g)
 
@@ -290,9 +291,9 @@ module _ (last : ℕ) (small : last < 4) where
       }
 
 -- the rewritten tree is one of the grammar
-pub rewritten_in_grammar : (t : Tree) (last : ℕ) → last < 4 → IsNarrow last t → InGrammar t → InGrammar (rewritten_tree last t)
+pub rewritten_in_grammar : (t : Tree) (last : ℕ) → last < most_rounds → IsNarrow last t → InGrammar t → InGrammar (rewritten_tree last t)
 rewritten_in_grammar t last small narrow h =
-    let n : ℕ = bits_at (length t.globals) last + 4 in
+    let n : ℕ = global_count (length t.globals) last in
     let few : AreFew t.procedures = few_needs n t.procedures (narrow_procedures t last n refl narrow) in
     record {
       globals = each_ids (globals (names []) last t.globals) (globals_ids last small t.globals (ids_each t.globals h.globals));

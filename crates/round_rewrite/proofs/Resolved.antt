@@ -6,10 +6,11 @@ use Rattle.language.specs.Value.{Place, global, local}
 use Rattle.language.specs.Rest.{join}
 use Rattle.language.specs.Resolve.{number_of, is_declared, Scope, place_of, resolve_expression, resolve_side, resolve_simple, resolve_mark, resolve_block}
 use Rattle.round_rewrite.specs.Table.{Naming, numbers, plain, literal, at, joined, read, expression, side, written, rounds, targets, sides, draws, temporaries, drawing, stop_test, prologue, statement, rewritten}
-use Rattle.round_rewrite.specs.Places.{places, is_global, copy_at, bits_at}
+use Rattle.round_rewrite.specs.Places.{places, is_global, copy_at, high_at, low_at, stop_at, bad_at}
 use Rattle.round_rewrite.specs.Names.{named, copy_name, drawn_name, names}
 use Rattle.scopes.specs.Rewritable.{AreFree, Declared, AllDeclared, ExpressionDeclared, ExpressionsDeclared, SideDeclared, SidesDeclared, SimpleDeclared, BlockDeclared}
 use Rattle.round_rewrite.proofs.Placing.{scope, wider, copy_place, kept_place, drawn_place, high_place, low_bit_place, stop_place, bad_place}
+use Rattle.round_rewrite.specs.Limits.{most_places, most_rounds}
 
 -- a test made once
 pub by_test : {A : Type 0} (c : Bool) → (c ≡ true → A) → (c ≡ false → A) → A
@@ -36,7 +37,7 @@ literal_resolved : (s : Scope) (m : ℕ) (x : Name) → resolve_expression s (li
 literal_resolved s zero x = refl
 literal_resolved s (suc m) x = refl
 
-module _ (t : Tree) (gs own ps : List Name) (d last : ℕ) (gs_free : AreFree gs) (own_free : AreFree own) (few : d ≤ 64) (small : last < 4) (ps' : List Name) (called : (q : Name) → is_declared q.text ps ≡ true → number_of q.text ps' ≡ suc (number_of q.text ps)) where
+module _ (t : Tree) (gs own ps : List Name) (d last : ℕ) (gs_free : AreFree gs) (own_free : AreFree own) (few : d ≤ most_places) (small : last < most_rounds) (ps' : List Name) (called : (q : Name) → is_declared q.text ps ≡ true → number_of q.text ps' ≡ suc (number_of q.text ps)) where
   abbrev pub s : Scope
   s = scope gs own ps d last gs_free own_free few small
 
@@ -49,16 +50,16 @@ module _ (t : Tree) (gs own ps : List Name) (d last : ℕ) (gs_free : AreFree gs
   abbrev pub P : Naming Place Place ℕ ℕ
   P = places (length gs) last (length own)
 
-  pub lo : place_of s' (named (codes "rl__")) ≡ global (bits_at (length gs) last + 1)
+  pub lo : place_of s' (named (codes "rl__")) ≡ global (low_at (length gs) last)
   lo = low_bit_place gs own ps d last gs_free own_free few small ps'
 
-  pub hi : place_of s' (named (codes "rh__")) ≡ global (bits_at (length gs) last + 0)
+  pub hi : place_of s' (named (codes "rh__")) ≡ global (high_at (length gs) last)
   hi = high_place gs own ps d last gs_free own_free few small ps'
 
-  pub st : place_of s' (named (codes "stop__")) ≡ global (bits_at (length gs) last + 2)
+  pub st : place_of s' (named (codes "stop__")) ≡ global (stop_at (length gs) last)
   st = stop_place gs own ps d last gs_free own_free few small ps'
 
-  bd : place_of s' (named (codes "bad__")) ≡ global (bits_at (length gs) last + 3)
+  bd : place_of s' (named (codes "bad__")) ≡ global (bad_at (length gs) last)
   bd = bad_place gs own ps d last gs_free own_free few small ps'
 
   -- where a variable is hidden by no formal or local

@@ -6,7 +6,7 @@ use Rattle.language.specs.Rest.{Code}
 use Rattle.language.specs.Step.{Routine, Program, Frame, frame, State, state, zeros, fresh, AtRoutine}
 use Rattle.language.specs.Rounds.{starting_stack}
 use Rattle.round_rewrite.specs.Table.{Naming, plain, temporaries, starts}
-use Rattle.round_rewrite.specs.Places.{places, is_global, bits_at}
+use Rattle.round_rewrite.specs.Places.{places, is_global, high_at, low_at, stop_at}
 use Rattle.round_rewrite.specs.Scoped.{EachThread, FitsScopes}
 use Rattle.round_rewrite.proofs.Laid.{Long, bits_of, lay, Shape, bits_with}
 use Rattle.round_rewrite.proofs.Plain.{World, PlainAfter}
@@ -18,6 +18,7 @@ use Rattle.round_rewrite.proofs.Compose.{Threads, FailThreads, run_keeps, fail_i
 use Rattle.round_rewrite.proofs.ThreadBack.{Zip, zip_shape, Ends, thread_back}
 use Rattle.round_rewrite.proofs.ThreadOn.{turns_on, fails_on}
 use Rattle.round_rewrite.proofs.Guessing.{Bad, bad_single, unstep_main, main_at}
+use Rattle.round_rewrite.specs.Limits.{most_rounds}
 
 pub turns_keep : (p : Program) (n : ℕ) (G : List (List Bool)) (s : List Frame) (H : List (List Bool)) (s' : List Frame) → Long n G → Turns p G s H s' → Long n H × (length H ≡ length G)
 turns_keep p n [] s [] s' long h = (tt, refl)
@@ -52,7 +53,7 @@ abbrev first_frame : ℕ → Option Routine → List Frame
 first_frame c None = []
 first_frame c (Some r) = frame c (zeros r.places) r.body ∷ []
 
-module _ (p : Program) (last : ℕ) (fits : FitsScopes p) (small : last < 4) (w : World) (isw : IsWorld p last w) (S : List (List Bool)) (s_long : Long p.globals S) (s_length : length S ≡ last) where
+module _ (p : Program) (last : ℕ) (fits : FitsScopes p) (small : last < most_rounds) (w : World) (isw : IsWorld p last w) (S : List (List Bool)) (s_long : Long p.globals S) (s_length : length S ≡ last) where
   abbrev naming : Naming Place Place ℕ ℕ
   naming = places p.globals last 0
 
@@ -69,15 +70,15 @@ module _ (p : Program) (last : ℕ) (fits : FitsScopes p) (small : last < 4) (w 
       ap (λ l. frame c l r.body ∷ []) f ∙ sym (ap (first_frame c) e)
 
   abbrev zero_targets : List Place
-  zero_targets = global (bits_at p.globals last + 0) ∷ global (bits_at p.globals last + 1) ∷ global (bits_at p.globals last + 2) ∷ []
+  zero_targets = global (high_at p.globals last) ∷ global (low_at p.globals last) ∷ global (stop_at p.globals last) ∷ []
 
   abbrev zero_sides : List (RightSide Place)
   zero_sides = value (const false) ∷ value (const false) ∷ value (const false) ∷ []
 
-  zero_writes : (G : List (List Bool)) → Shape p.globals last G S → (q : ℕ) (s b : Bool) → with_bit (with_bit (with_bit (lay G S (bits_of q s b)) (bits_at p.globals last + 0) false) (bits_at p.globals last + 1) false) (bits_at p.globals last + 2) false ≡ lay G S (bits_of 0 false b)
+  zero_writes : (G : List (List Bool)) → Shape p.globals last G S → (q : ℕ) (s b : Bool) → with_bit (with_bit (with_bit (lay G S (bits_of q s b)) (high_at p.globals last) false) (low_at p.globals last) false) (stop_at p.globals last) false ≡ lay G S (bits_of 0 false b)
   zero_writes G shape q s b =
-      ap (λ z. with_bit (with_bit z (bits_at p.globals last + 1) false) (bits_at p.globals last + 2) false) (bits_with p.globals last G S (bits_of q s b) 0 false shape)
-      ∙ (ap (λ z. with_bit z (bits_at p.globals last + 2) false) (bits_with p.globals last G S _ 1 false shape)
+      ap (λ z. with_bit (with_bit z (low_at p.globals last) false) (stop_at p.globals last) false) (bits_with p.globals last G S (bits_of q s b) 0 false shape)
+      ∙ (ap (λ z. with_bit z (stop_at p.globals last) false) (bits_with p.globals last G S _ 1 false shape)
       ∙ bits_with p.globals last G S _ 2 false shape)
 
   zero_back : (X L : List Bool) (vs : List Bool) → AreValues X L zero_sides vs → vs ≡ false ∷ false ∷ false ∷ []
@@ -116,7 +117,7 @@ module _ (p : Program) (last : ℕ) (fits : FitsScopes p) (small : last < 4) (w 
       let Y : List Bool = lay G S (bits_of 0 false b) in
       let t' : Code = one plain (call (suc c) []) t in
       let (M1, e1, (vs, a, h1)) = unstep_main w n last N X [] plain (assign zero_targets zero_sides) t' h in
-      let h2 : PlainAfter w M1 (main_at (with_bit (with_bit (with_bit X (bits_at n last + 0) false) (bits_at n last + 1) false) (bits_at n last + 2) false) t') (Bad n last) =
+      let h2 : PlainAfter w M1 (main_at (with_bit (with_bit (with_bit X (high_at n last) false) (low_at n last) false) (stop_at n last) false) t') (Bad n last) =
       subst (λ z. PlainAfter w M1 (state (written_globals zero_targets z X) (frame 0 (written_locals zero_targets z []) t' ∷ [])) (Bad n last)) (zero_back X [] vs a) h1 in
       let h3 : PlainAfter w M1 (main_at Y t') (Bad n last) = subst (λ z. PlainAfter w M1 (main_at z t') (Bad n last)) (zero_writes G shape q s b) h2 in
       let (M2, e2, h4) = unstep_main w n last M1 Y [] plain (call (suc c) []) t h3 in

@@ -7,7 +7,7 @@ use Rattle.language.specs.Step.{Program, frame, State, state, zeros, AfterSteps,
 use Rattle.language.specs.Rounds.{Unsafe}
 use Rattle.language.specs.Sequential.{numbered, in_text_order, Valuation, point_of, Entered}
 use Rattle.round_rewrite.specs.Table.{main}
-use Rattle.round_rewrite.specs.Places.{places, bits_at, all_globals, rewritten_program}
+use Rattle.round_rewrite.specs.Places.{places, all_globals, rewritten_program, bad_at, global_count}
 use Rattle.round_rewrite.specs.Scoped.{FitsScopes}
 use Rattle.round_rewrite.specs.Law.{SomeBad, Keeps}
 use Rattle.round_rewrite.proofs.Laid.{bits_of, lay}
@@ -17,8 +17,9 @@ use Rattle.round_rewrite.proofs.Compose.{copies}
 use Rattle.round_rewrite.proofs.Guessing.{Bad, main_at}
 use Rattle.round_rewrite.proofs.Assembly.{start_is, unsafe_leads, leads_unsafe}
 use Rattle.round_rewrite.proofs.Uncalled.{never_asked}
+use Rattle.round_rewrite.specs.Limits.{most_rounds}
 
-module _ (p : Program) (last : ℕ) (fits : FitsScopes p) (small : last < 4) where
+module _ (p : Program) (last : ℕ) (fits : FitsScopes p) (small : last < most_rounds) where
   abbrev result : Program
   result = in_text_order (rewritten_program last p)
 
@@ -26,15 +27,15 @@ module _ (p : Program) (last : ℕ) (fits : FitsScopes p) (small : last < 4) whe
   body = main (places p.globals last 0) last (all_globals p.globals) p.threads
 
   abbrev start : State
-  start = state (zeros (bits_at p.globals last + 4)) (frame 0 [] (numbered 1 body) ∷ [])
+  start = state (zeros (global_count p.globals last)) (frame 0 [] (numbered 1 body) ∷ [])
 
   abbrev zero_valuation : Valuation
-  zero_valuation = record { globals = zeros (bits_at p.globals last + 4); places = [] }
+  zero_valuation = record { globals = zeros (global_count p.globals last); places = [] }
 
   abbrev bare_start : State
   bare_start = main_at (lay (copies (suc last) (zeros p.globals)) (copies last (zeros p.globals)) (bits_of 0 false false)) body
 
-  to_pair : (n : ℕ) (u : State) → AfterSteps result n start (λ v. v ≡ u) → Bad p.globals last (bare_state u) → SomeBad result (bits_at p.globals last + 3)
+  to_pair : (n : ℕ) (u : State) → AfterSteps result n start (λ v. v ≡ u) → Bad p.globals last (bare_state u) → SomeBad result (bad_at p.globals last)
   to_pair n (state g []) run h = absurd h
   to_pair n (state g (frame c l done ∷ [])) run h =
       (zero_valuation, g, (l, (inl (refl, refl), (done, refl, (n, subst (λ k. AfterSteps result n start (λ v. v ≡ state g (frame k l done ∷ []))) h.0 run)))), h.1)
@@ -43,7 +44,7 @@ module _ (p : Program) (last : ℕ) (fits : FitsScopes p) (small : last < 4) whe
   to_pair n (state g (frame c l (choose m r a b t) ∷ fs)) run h = absurd h
   to_pair n (state g (frame c l (loop m r a t) ∷ fs)) run h = absurd h
 
-  pub unsafe_bad : Unsafe p (suc last) → SomeBad result (bits_at p.globals last + 3)
+  pub unsafe_bad : Unsafe p (suc last) → SomeBad result (bad_at p.globals last)
   unsafe_bad unsafe =
       let (n, h) = unsafe_leads p last fits small unsafe in
       let h1 : PlainAfter (world_of result) n (bare_state start) (Bad p.globals last) = subst (λ s. PlainAfter (world_of result) n s (Bad p.globals last)) (sym (start_is p last)) h in
@@ -51,7 +52,7 @@ module _ (p : Program) (last : ℕ) (fits : FitsScopes p) (small : last < 4) whe
       let (u, run, bad) = after_pick result n start (λ u. Bad p.globals last (bare_state u)) h2 in
       to_pair n u run bad
 
-  from_run : (n : ℕ) (b l : List Bool) (rest : Code) → None ≡ point_of rest → AfterSteps result n start (λ v. v ≡ state b (frame 0 l rest ∷ [])) → bit b (bits_at p.globals last + 3) ≡ true → Unsafe p (suc last)
+  from_run : (n : ℕ) (b l : List Bool) (rest : Code) → None ≡ point_of rest → AfterSteps result n start (λ v. v ≡ state b (frame 0 l rest ∷ [])) → bit b (bad_at p.globals last) ≡ true → Unsafe p (suc last)
   from_run n b l done e run bad =
       let h : AfterSteps result n start (λ u. Bad p.globals last (bare_state u)) =
       after_map result n start (λ v. v ≡ state b (frame 0 l done ∷ [])) (λ u. Bad p.globals last (bare_state u)) (λ u eu. subst (λ v. Bad p.globals last (bare_state v)) (sym eu) (refl, bad)) run in
@@ -61,16 +62,16 @@ module _ (p : Program) (last : ℕ) (fits : FitsScopes p) (small : last < 4) whe
   from_run n b l (choose m r x y t) e run bad = cc
   from_run n b l (loop m r x t) e run bad = cc
 
-  from_entry : (a : Valuation) (b l : List Bool) (rest : Code) → None ≡ point_of rest → Entered result 0 a → Runs result (state a.globals (frame 0 a.places (numbered 1 body) ∷ [])) (state b (frame 0 l rest ∷ [])) → bit b (bits_at p.globals last + 3) ≡ true → Unsafe p (suc last)
+  from_entry : (a : Valuation) (b l : List Bool) (rest : Code) → None ≡ point_of rest → Entered result 0 a → Runs result (state a.globals (frame 0 a.places (numbered 1 body) ∷ [])) (state b (frame 0 l rest ∷ [])) → bit b (bad_at p.globals last) ≡ true → Unsafe p (suc last)
   from_entry a b l rest e (inl (q, is)) run bad =
       let run' : Runs result start (state b (frame 0 l rest ∷ [])) =
       subst (λ (v : Valuation). Runs result (state v.globals (frame 0 v.places (numbered 1 body) ∷ [])) (state b (frame 0 l rest ∷ []))) is run in
       from_run run'.0 b l rest e run'.1 bad
   from_entry a b l rest e (inr (c, asks)) run bad = absurd (never_asked last p c a asks)
 
-  pub bad_unsafe : SomeBad result (bits_at p.globals last + 3) → Unsafe p (suc last)
+  pub bad_unsafe : SomeBad result (bad_at p.globals last) → Unsafe p (suc last)
   bad_unsafe (a, b, (l, (entered, (rest, e, run))), bad) = from_entry a b l rest e entered run bad
 
 -- the theorem
-pub keeps : (p : Program) (last : ℕ) → FitsScopes p → last < 4 → Keeps last p
+pub keeps : (p : Program) (last : ℕ) → FitsScopes p → last < most_rounds → Keeps last p
 keeps p last fits small = (unsafe_bad p last fits small, bad_unsafe p last fits small)

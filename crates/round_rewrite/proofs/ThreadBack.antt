@@ -13,6 +13,7 @@ use Rattle.round_rewrite.proofs.Frames.{Both, source, Good, AllGood, put_rest, c
 use Rattle.round_rewrite.proofs.Forward.{both, inner}
 use Rattle.round_rewrite.proofs.Backward.{Begins, moved, failed, step_back, unwind_back, never_below}
 use Rattle.round_rewrite.proofs.Turns.{Turns, FailTurns, idle, step_turns, step_fails, no_steps}
+use Rattle.round_rewrite.specs.Limits.{most_rounds}
 
 -- the rows before and behind the round's row, and the saved guesses, have their numbers and lengths
 pub record Zip (n last : ℕ) (pre post S : List (List Bool)) : Type 0 where
@@ -42,7 +43,7 @@ zip_next n last pre post S g h z e = record {
 pub length-next : (pre : List (List Bool)) (g : List Bool) → length (pre ++ g ∷ []) ≡ suc (length pre)
 length-next pre g = length-append pre (g ∷ []) ∙ omega arith
 
-module _ (p : Program) (last : ℕ) (fits : FitsScopes p) (small : last < 4) (w : World) (isw : IsWorld p last w) (S : List (List Bool)) (m : Frame) (Q : State → Type 0) (single : (g : List Bool) (f f' : Frame) (fs : List Frame) → Q (state g (f ∷ f' ∷ fs)) → ⊥) where
+module _ (p : Program) (last : ℕ) (fits : FitsScopes p) (small : last < most_rounds) (w : World) (isw : IsWorld p last w) (S : List (List Bool)) (m : Frame) (Q : State → Type 0) (single : (g : List Bool) (f f' : Frame) (fs : List Frame) → Q (state g (f ∷ f' ∷ fs)) → ⊥) where
   -- the run comes down to the first procedure, and the thread has made its turns
   pub record Ends (N : ℕ) (pre : List (List Bool)) (g : List Bool) (post : List (List Bool)) (b : Bool) (s : List Frame) : Type 0 where
     pub left : ℕ

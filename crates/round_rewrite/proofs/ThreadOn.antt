@@ -5,7 +5,7 @@ use Rattle.language.specs.Value.{with_bit, IsValue}
 use Rattle.language.specs.Rest.{Code}
 use Rattle.language.specs.Step.{Program, Frame, frame, State, state, StepsTo, AfterSteps, Fails}
 use Rattle.round_rewrite.specs.Table.{plain, prologue}
-use Rattle.round_rewrite.specs.Places.{places, bits_at}
+use Rattle.round_rewrite.specs.Places.{places, stop_at, bad_at}
 use Rattle.round_rewrite.specs.Scoped.{FitsScopes}
 use Rattle.round_rewrite.proofs.Laid.{row, row_middle, with_middle, bits_of, lay, Shape, bits_with}
 use Rattle.round_rewrite.proofs.Plain.{World, PlainAfter}
@@ -15,6 +15,7 @@ use Rattle.round_rewrite.proofs.Frames.{Both, source, Good, AllGood, put_rest, c
 use Rattle.round_rewrite.proofs.Forward.{both, inner, side_at, pop_leads, step_leads}
 use Rattle.round_rewrite.proofs.Turns.{Turns, FailTurns}
 use Rattle.round_rewrite.proofs.ThreadBack.{Zip, zip_shape, zip_next, length-next}
+use Rattle.round_rewrite.specs.Limits.{most_rounds}
 
 -- the parts of equal states
 pub globals_eq : (g h : List Bool) (s t : List Frame) → state g s ≡ state h t → g ≡ h
@@ -23,7 +24,7 @@ globals_eq g h s t e = cc
 pub stacks_eq : (g h : List Bool) (s t : List Frame) → state g s ≡ state h t → s ≡ t
 stacks_eq g h s t e = cc
 
-module _ (p : Program) (last : ℕ) (fits : FitsScopes p) (small : last < 4) (w : World) (isw : IsWorld p last w) (S : List (List Bool)) (m : Frame) (Q : State → Type 0) where
+module _ (p : Program) (last : ℕ) (fits : FitsScopes p) (small : last < most_rounds) (w : World) (isw : IsWorld p last w) (S : List (List Bool)) (m : Frame) (Q : State → Type 0) where
   abbrev pub At : List (List Bool) → ℕ → Bool → Bool → List Frame → Type 0
   At C q s b fs = Leads w (state (lay C S (bits_of q s b)) fs) Q
 
@@ -111,8 +112,8 @@ module _ (p : Program) (last : ℕ) (fits : FitsScopes p) (small : last < 4) (w 
         let zero_is : IsValue (row (rows g) (length pre)) l r false = subst (λ y. IsValue y l r false) (sym (row_middle pre g post)) f in
         let is : IsValue X (l ++ tmp) (Rattle.round_rewrite.specs.Table.side (places p.globals last own) last r) false =
         subst (λ T. T) (sym (side_at p last fits small w isw (rows g) S (length pre) b (shape_at g eg) within m own l tmp good.long r good.fits.0.0 false)) zero_is in
-        let writes : with_bit (with_bit X (bits_at p.globals last + 3) true) (bits_at p.globals last + 2) true ≡ lay (rows g) S (bits_of (length pre) true true) =
-        ap (λ y. with_bit y (bits_at p.globals last + 2) true) (bits_with p.globals last (rows g) S (bits_of (length pre) false b) 3 true (shape_at g eg))
+        let writes : with_bit (with_bit X (bad_at p.globals last) true) (stop_at p.globals last) true ≡ lay (rows g) S (bits_of (length pre) true true) =
+        ap (λ y. with_bit y (stop_at p.globals last) true) (bits_with p.globals last (rows g) S (bits_of (length pre) false b) 3 true (shape_at g eg))
         ∙ bits_with p.globals last (rows g) S (bits_of (length pre) false true) 2 true (shape_at g eg) in
         prologue_goes w p.globals last own (rows g) S (shape_at g eg) small (suc c) (l ++ tmp) (callers p last bs m) Q (length pre) b _ (
           suc (suc (suc u.0)),

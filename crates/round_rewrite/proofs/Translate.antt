@@ -8,6 +8,7 @@ use Rattle.round_rewrite.specs.Table.{literal, at, joined, expression, side}
 use Rattle.round_rewrite.specs.Places.{places}
 use Rattle.round_rewrite.specs.Scoped.{InScope, AreInScope, SideInScope}
 use Rattle.round_rewrite.proofs.Laid.{row, row_bit, high, low, bits_of, lay, Shape, bits_bit}
+use Rattle.round_rewrite.specs.Limits.{most_rounds}
 
 pub or_false : (x : Bool) → (x || false) ≡ x
 or_false true = refl
@@ -37,7 +38,7 @@ literal_is : (X L : List Bool) (n : ℕ) (x : Place) → value_of X L (literal n
 literal_is X L zero x = refl
 literal_is X L (suc n) x = refl
 
-closed : (k q : ℕ) → k < 4 → q < 4 → (lit (k / 2 % 2) (high q) && lit (k % 2) (low q)) ≡ same k q
+closed : (k q : ℕ) → k < most_rounds → q < 4 → (lit (k / 2 % 2) (high q) && lit (k % 2) (low q)) ≡ same k q
 closed zero zero h h' = refl
 closed zero (suc zero) h h' = refl
 closed zero (suc (suc zero)) h h' = refl
@@ -57,7 +58,7 @@ closed (suc (suc (suc zero))) (suc (suc (suc zero))) h h' = refl
 closed (suc (suc (suc (suc k)))) q h h' = absurd (omega arith)
 closed k (suc (suc (suc (suc q)))) h h' = absurd (omega arith)
 
-module _ (n last own : ℕ) (C S : List (List Bool)) (q : ℕ) (s b : Bool) (L : List Bool) (shape : Shape n last C S) (small : last < 4) (within : q ≤ last) where
+module _ (n last own : ℕ) (C S : List (List Bool)) (q : ℕ) (s b : Bool) (L : List Bool) (shape : Shape n last C S) (small : last < most_rounds) (within : q ≤ last) where
   abbrev pub globals_now : List Bool
   globals_now = lay C S (bits_of q s b)
 

@@ -10,7 +10,7 @@ use Rattle.scopes.specs.declared.fault.ScopeFault.TheVariants as fault
 use Rattle.scopes.specs.Checked.{IsChecked}
 use Rattle.scopes.specs.Faults.{IsThere}
 use Rattle.round_rewrite.specs.Table.{numbers, copied, globals}
-use Rattle.round_rewrite.specs.Places.{bits_at}
+use Rattle.round_rewrite.specs.Places.{global_count}
 use Rattle.round_rewrite.specs.Names.{named, names, copy_name, save_name, drawn_name, rewritten_procedure, rewritten_tree}
 use Rattle.scopes.specs.Rewritable.{EachProcedure}
 use Rattle.round_rewrite.specs.Narrow.{width, AllNarrow, IsNarrow}
@@ -18,13 +18,14 @@ use Rattle.round_rewrite.specs.Writing.{procedure_needs, IsOwnNarrow, AreFew}
 use Rattle.round_rewrite.proofs.Numbering.{length-rows}
 use Rattle.round_rewrite.proofs.Placing.{length-numbers}
 use Rattle.round_rewrite.proofs.Copied.{gathered}
+use Rattle.round_rewrite.specs.Limits.{most_places}
 
 four_behind : {B : Type 0} (xs : List B) (a b c d : B) → (((xs ++ a ∷ []) ++ b ∷ []) ++ c ∷ []) ++ d ∷ [] ≡ xs ++ (a ∷ b ∷ c ∷ d ∷ [])
 four_behind xs a b c d =
     ap (λ ns. (ns ++ c ∷ []) ++ d ∷ []) (append_assoc xs (a ∷ []) (b ∷ []))
     ∙ (ap (λ ns. ns ++ d ∷ []) (append_assoc xs (a ∷ b ∷ []) (c ∷ [])) ∙ append_assoc xs (a ∷ b ∷ c ∷ []) (d ∷ []))
 
-pub length-globals : (last : ℕ) (xs : List Name) → length (globals (names []) last xs) ≡ bits_at (length xs) last + 4
+pub length-globals : (last : ℕ) (xs : List Name) → length (globals (names []) last xs) ≡ global_count (length xs) last
 length-globals last xs =
     let a = length-rows (names []) last copy_name xs 0 (suc last) in
     let b = length-rows (names []) last save_name xs 1 last in
@@ -41,27 +42,27 @@ own_places last p =
     length-append p.formals (p.locals ++ temps)
     ∙ ap (λ n. length p.formals + n) (length-append p.locals temps ∙ ap (λ n. length p.locals + n) t)
 
-module _ (t : Tree) (last n : ℕ) (is : bits_at (length t.globals) last + 4 ≡ n) where
+module _ (t : Tree) (last n : ℕ) (is : global_count (length t.globals) last ≡ n) where
   wide : length (rewritten_tree last t).globals ≡ n
   wide = length-globals last t.globals ∙ is
 
-  into : (ps : List Procedure) → EachProcedure (IsOwnNarrow n) ps → EachProcedure (λ p. width (rewritten_tree last t) p ≤ 64) (map (rewritten_procedure last) ps)
+  into : (ps : List Procedure) → EachProcedure (IsOwnNarrow n) ps → EachProcedure (λ p. width (rewritten_tree last t) p ≤ most_places) (map (rewritten_procedure last) ps)
   into [] e = e
-  into (p ∷ ps) e = (subst (λ z. z ≤ 64) (sym ((λ i. wide i + own_places last p i))) e.0, into ps e.1)
+  into (p ∷ ps) e = (subst (λ z. z ≤ most_places) (sym ((λ i. wide i + own_places last p i))) e.0, into ps e.1)
 
-  out : (ps : List Procedure) → EachProcedure (λ p. width (rewritten_tree last t) p ≤ 64) (map (rewritten_procedure last) ps) → EachProcedure (IsOwnNarrow n) ps
+  out : (ps : List Procedure) → EachProcedure (λ p. width (rewritten_tree last t) p ≤ most_places) (map (rewritten_procedure last) ps) → EachProcedure (IsOwnNarrow n) ps
   out [] e = e
-  out (p ∷ ps) e = (subst (λ z. z ≤ 64) (λ i. wide i + own_places last p i) e.0, out ps e.1)
+  out (p ∷ ps) e = (subst (λ z. z ≤ most_places) (λ i. wide i + own_places last p i) e.0, out ps e.1)
 
   -- the program is narrow where the globals and each procedure's own places are at most 64
-  pub narrow : n ≤ 64 → EachProcedure (IsOwnNarrow n) t.procedures → IsNarrow last t
+  pub narrow : n ≤ most_places → EachProcedure (IsOwnNarrow n) t.procedures → IsNarrow last t
   narrow few e =
       let w = wide in
-      let main : length (rewritten_tree last t).globals + 0 ≤ 64 = omega (arith, w, few) in
+      let main : length (rewritten_tree last t).globals + 0 ≤ most_places = omega (arith, w, few) in
       (main, into t.procedures e)
 
-  pub narrow_globals : IsNarrow last t → n ≤ 64
-  narrow_globals e = let w = wide in let m : length (rewritten_tree last t).globals + 0 ≤ 64 = e.0 in omega (arith, w, m)
+  pub narrow_globals : IsNarrow last t → n ≤ most_places
+  narrow_globals e = let w = wide in let m : length (rewritten_tree last t).globals + 0 ≤ most_places = e.0 in omega (arith, w, m)
 
   pub narrow_procedures : IsNarrow last t → EachProcedure (IsOwnNarrow n) t.procedures
   narrow_procedures e = out t.procedures e.1
@@ -69,7 +70,7 @@ module _ (t : Tree) (last n : ℕ) (is : bits_at (length t.globals) last + 4 ≡
 -- a narrow program needs few temporaries
 pub few_needs : (n : ℕ) (ps : List Procedure) → EachProcedure (IsOwnNarrow n) ps → AreFew ps
 few_needs n [] e = tt
-few_needs n (p ∷ ps) e = (let h : n + (length p.formals + (length p.locals + procedure_needs p)) ≤ 64 = e.0 in let k : procedure_needs p ≤ 64 = omega (arith, h) in k, few_needs n ps e.1)
+few_needs n (p ∷ ps) e = (let h : n + (length p.formals + (length p.locals + procedure_needs p)) ≤ most_places = e.0 in let k : procedure_needs p ≤ most_places = omega (arith, h) in k, few_needs n ps e.1)
 
 -- each procedure of a list has what all have
 pub each_at : {A : Type 0} (P : Procedure → Type 0) (ss : List (Proc A)) (i : ℕ) (s : Proc A) → i < length ss → s ≡ get_or ss i s → EachProcedure P (procs_of ss) → P (proc_of s)
@@ -90,10 +91,10 @@ places_counted globals formals locals =
     (λ i. length-map globals name_of i + (a ∙ (λ j. length-map formals name_of j + length-map locals name_of j)) i)
 
 -- they are at most 64 in a narrow program
-pub places_few : {A : Type 0} (program : Program A) (i : ℕ) (p : Proc A) → i < length program.procs.items → p ≡ get_or program.procs.items i p → AllNarrow (tree_of program) → length program.globals.items + (length p.formals.items + length p.locals.items) ≤ 64
+pub places_few : {A : Type 0} (program : Program A) (i : ℕ) (p : Proc A) → i < length program.procs.items → p ≡ get_or program.procs.items i p → AllNarrow (tree_of program) → length program.globals.items + (length p.formals.items + length p.locals.items) ≤ most_places
 places_few program i p lt is narrow =
-    subst (λ n. n ≤ 64) (places_counted program.globals.items p.formals.items p.locals.items)
-    (each_at (λ q. width (tree_of program) q ≤ 64) program.procs.items i p lt is narrow)
+    subst (λ n. n ≤ most_places) (places_counted program.globals.items p.formals.items p.locals.items)
+    (each_at (λ q. width (tree_of program) q ≤ most_places) program.procs.items i p lt is narrow)
 
 few_from : (ps : List Procedure) (k : ℕ) → ((n : ℕ) → IsThere (slice_get ps k) (λ p. p.name.at ≡ n) → ⊥) → length ps ≤ k
 few_from [] k h = omega arith

@@ -24,6 +24,7 @@ use Rattle.round_rewrite.proofs.Placing.{copies_spelled, saves_spelled}
 use Rattle.round_rewrite.proofs.Resolved.{by_test, rest_room}
 use Rattle.round_rewrite.proofs.Meaning.{not_main}
 use Rattle.round_rewrite.proofs.Uses.{each_both, any_uses, written_each, drawn_each, sides_even, Held, at_uses, arguments_use, side_uses, targets_held, sides_use}
+use Rattle.round_rewrite.specs.Limits.{most_rounds}
 
 -- a name that is declared in the second of two lists is declared in both
 pub declared_right : (x : List ℕ) (xs ys : List Name) → is_declared x ys ≡ true → is_declared x (xs ++ ys) ≡ true
@@ -118,7 +119,7 @@ takes_rewritten : (last n : ℕ) (o : Option Procedure) → Takes o n → Takes 
 takes_rewritten last n None h = absurd (h.0 refl)
 takes_rewritten last n (Some r) h = ((λ e. cc), h.1)
 
-module _ (t : Tree) (last : ℕ) (ok : IsChecked t) (small : last < 4) where
+module _ (t : Tree) (last : ℕ) (ok : IsChecked t) (small : last < most_rounds) where
   abbrev t' : Tree
   t' = rewritten_tree last t
 

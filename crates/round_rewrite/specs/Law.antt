@@ -8,7 +8,7 @@ use Rattle.language.specs.Rounds.{Unsafe}
 use Rattle.language.specs.Resolve.{number_of, meaning_of}
 use Rattle.language.specs.Sequential.{Valuation, Pair, in_text_order, sequential_of}
 use Rattle.round_rewrite.specs.Names.{rewritten_tree}
-use Rattle.round_rewrite.specs.Places.{bits_at, rewritten_program}
+use Rattle.round_rewrite.specs.Places.{rewritten_program, bad_at}
 
 -- some pair of the first procedure has `bad`, where a sequential program keeps it in the global of this number
 abbrev pub SomeBad : Program → ℕ → Type 0
@@ -16,7 +16,7 @@ SomeBad p bad = (a : Valuation) × (b : List Bool) × Pair p 0 a b × (bit b bad
 
 -- the program is unsafe within last + 1 rounds exactly where some pair of the rewritten one has `bad`
 abbrev pub Keeps : ℕ → Program → Type 0
-Keeps last p = Unsafe p (suc last) ↔ SomeBad (in_text_order (rewritten_program last p)) (bits_at p.globals last + 3)
+Keeps last p = Unsafe p (suc last) ↔ SomeBad (in_text_order (rewritten_program last p)) (bad_at p.globals last)
 
 -- The tree's program is unsafe within last + 1 rounds exactly where some pair of `main__` of the rewritten
 -- tree has `bad__`.

@@ -1,3 +1,4 @@
+pub mod Limits
 pub mod Table
 pub mod Places
 pub mod Names
@@ -5,5 +6,6 @@ pub mod Scoped
 pub mod Complete
 pub mod Law
 pub mod Narrow
+pub mod Programs
 pub mod Writing
 pub mod WorkedTexts

@@ -5,6 +5,7 @@ use Rattle.std.specs.Prelude.{ℕ, ◌+◌, ◌≤◌, List, [], ◌∷◌, ◌+
 use Rattle.language.specs.Tree.{Procedure, Tree}
 use Rattle.scopes.specs.Rewritable.{EachProcedure}
 use Rattle.round_rewrite.specs.Names.{rewritten_tree}
+use Rattle.round_rewrite.specs.Limits.{most_places}
 
 -- how many places a procedure's valuations have: the globals, formals and locals
 abbrev pub width : Tree → Procedure → ℕ
@@ -12,7 +13,7 @@ width t p = length t.globals + length (p.formals ++ p.locals)
 
 -- every procedure of the tree has at most 64 places
 abbrev pub AllNarrow : Tree → Type 0
-AllNarrow t = EachProcedure (λ (p : Procedure). width t p ≤ 64) t.procedures
+AllNarrow t = EachProcedure (λ (p : Procedure). width t p ≤ most_places) t.procedures
 
 -- every procedure of the rewritten tree has at most 64 places
 abbrev pub IsNarrow : ℕ → Tree → Type 0
@@ -22,6 +23,6 @@ IsNarrow last t = AllNarrow (rewritten_tree last t)
 pub AllNarrow-prop : (t : Tree) → IsProp (AllNarrow t)
 AllNarrow-prop t = each t.procedures
   where
-    each : (ps : List Procedure) → IsProp (EachProcedure (λ (p : Procedure). width t p ≤ 64) ps)
+    each : (ps : List Procedure) → IsProp (EachProcedure (λ (p : Procedure). width t p ≤ most_places) ps)
     each [] = Unit-prop
     each (p ∷ ps) = ×_prop le_prop (each ps)

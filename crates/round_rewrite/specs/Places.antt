@@ -24,6 +24,23 @@ save_at n last (suc k) (local i) = local i
 abbrev pub bits_at : ℕ → ℕ → ℕ
 bits_at n last = suc last * n + last * n
 
+-- behind them stand the two bits of the round, stop and bad
+abbrev pub high_at : ℕ → ℕ → ℕ
+high_at n last = bits_at n last + 0
+
+abbrev pub low_at : ℕ → ℕ → ℕ
+low_at n last = bits_at n last + 1
+
+abbrev pub stop_at : ℕ → ℕ → ℕ
+stop_at n last = bits_at n last + 2
+
+abbrev pub bad_at : ℕ → ℕ → ℕ
+bad_at n last = bits_at n last + 3
+
+-- how many globals the rewritten program has
+abbrev pub global_count : ℕ → ℕ → ℕ
+global_count n last = bits_at n last + 4
+
 -- the places of the rewritten program, in a procedure with so many places: the copies of all globals for
 -- round 0, 1, .., then the guesses saved for round 1, .., then the bits, stop and bad; the temporaries
 -- come after the procedure's own places. A procedure's number goes up by 1, since the first one is new.
@@ -34,9 +51,9 @@ places n last own = record {
   save = save_at n last;
   kept = λ x. x;
   drawn = λ j. local (own + j);
-  bits = global (bits_at n last + 1) ∷ global (bits_at n last + 0) ∷ [];
-  stop = global (bits_at n last + 2);
-  bad = global (bits_at n last + 3);
+  bits = global (low_at n last) ∷ global (high_at n last) ∷ [];
+  stop = global (stop_at n last);
+  bad = global (bad_at n last);
   called = suc;
 }
 
@@ -61,7 +78,7 @@ main_routine last p = record {
 -- the rewritten program
 abbrev pub rewritten_program : ℕ → Program → Program
 rewritten_program last p = record {
-  globals = bits_at p.globals last + 4;
+  globals = global_count p.globals last;
   routines = main_routine last p ∷ map (rewritten_routine p.globals last) p.routines;
   threads = 0 ∷ [];
 }

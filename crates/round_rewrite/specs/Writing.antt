@@ -8,6 +8,7 @@ use Rattle.language.specs.Rest.{join}
 use Rattle.round_rewrite.specs.declared.writer.Writer.{Writer}
 use Rattle.round_rewrite.specs.Table.{Naming, draws, temporaries, plain, side, prologue, statement, rewritten}
 use Rattle.round_rewrite.specs.Names.{named, names}
+use Rattle.round_rewrite.specs.Limits.{most_places}
 
 -- how the procedure's names are written
 abbrev pub naming_of : {N A : Type 0} → Writer N A → Naming tree.Name tree.Name tree.Name tree.Name
@@ -72,8 +73,8 @@ procedure_needs p = temporaries (names (p.formals ++ p.locals)).is_shared p.body
 -- no procedure needs more than 64 temporaries
 abbrev pub AreFew : List tree.Procedure → Type 0
 AreFew [] = Unit {0}
-AreFew (p ∷ ps) = (procedure_needs p ≤ 64) × AreFew ps
+AreFew (p ∷ ps) = (procedure_needs p ≤ most_places) × AreFew ps
 
 -- the globals, so many, and what the procedure has of its own are at most 64 places
 abbrev pub IsOwnNarrow : ℕ → tree.Procedure → Type 0
-IsOwnNarrow globals p = globals + (length p.formals + (length p.locals + procedure_needs p)) ≤ 64
+IsOwnNarrow globals p = globals + (length p.formals + (length p.locals + procedure_needs p)) ≤ most_places

@@ -6,6 +6,7 @@ ghost use Rattle.language.specs.Tree.{const, var, negation, two};
 ghost use Rattle.syntax.specs.Trees.{name_of, operator_of, expr_of, exprs_of, rhs_of};
 ghost use Rattle.round_rewrite.specs.Table.{literal, at, joined, read, expression, side, written};
 ghost use Rattle.round_rewrite.specs.Names.{named, copy_name, drawn_name};
+ghost use Rattle.round_rewrite.specs.Limits.{most_rounds};
 
 use crate::names::{again, copy, drawn, fixed};
 use crate::writer::Writer;
@@ -32,7 +33,7 @@ pub fn copy_of<N: Allocator, A: Allocator + Copy>(
     round: u8,
     x: &Name<N>,
 ) -> Result<Expr<A>, AllocError>
-    requires { round < 4 }
+    requires { round < most_rounds }
     ensures { IfOk result (λ e. expr_of e ≡ var (copy_name round (name_of x.now))) }
 {
     Ok(Expr::Var(copy(*alloc, round, x)?))
@@ -97,7 +98,7 @@ impl<'a, N: Allocator, A: Allocator + Copy> Writer<'a, N, A> {
 
     /// The copy of a global for the round, where the round is this one.
     fn active(&self, round: u8, x: &Name<N>) -> Result<Expr<A>, AllocError>
-        requires { round < 4 }
+        requires { round < most_rounds }
         ensures { IfOk result (λ e. expr_of e ≡ two Rattle.language.specs.Tree.and (at (naming_of self.now) self.now.rounds.last round) (var (copy_name round (name_of x.now)))) }
     {
         let is_round = self.at(round)?;
@@ -174,7 +175,7 @@ impl<'a, N: Allocator, A: Allocator + Copy> Writer<'a, N, A> {
 
     /// The copy of a global for a round, where the round is another one.
     fn kept(&self, x: &Name<N>, round: u8) -> Result<Expr<A>, AllocError>
-        requires { round < 4 }
+        requires { round < most_rounds }
         ensures { IfOk result
             (λ e. expr_of e ≡ two Rattle.language.specs.Tree.and
             (negation (at (naming_of self.now) self.now.rounds.last round)) (var (copy_name round (name_of x.now)))) }
@@ -188,7 +189,7 @@ impl<'a, N: Allocator, A: Allocator + Copy> Writer<'a, N, A> {
     /// What the copy of a global for a round gets where the global gets `value`: in that round the value, in every
     /// other its own.
     pub fn written(&self, value: Expr<A>, x: &Name<N>, round: u8) -> Result<Rhs<A>, AllocError>
-        requires { round < 4 }
+        requires { round < most_rounds }
         ensures { IfOk result (λ r. rhs_of r ≡ written (naming_of self.now) self.now.rounds.last (expr_of value) (name_of x.now) round) }
     {
         let old = self.kept(x, round)?;

@@ -10,6 +10,7 @@ mod cores;
 mod expression;
 mod fault;
 mod globals;
+mod limits;
 mod lists;
 mod main_procedure;
 mod names;
@@ -36,8 +37,10 @@ ghost use Rattle.scopes.specs.Resolves.{Resolves};
 ghost use Rattle.scopes.specs.Rewritable.{IsRewritable};
 ghost use Rattle.round_rewrite.specs.Narrow.{AllNarrow, IsNarrow};
 ghost use Rattle.round_rewrite.specs.Scoped.{FitsScopes};
+ghost use Rattle.round_rewrite.specs.Limits.{most_places, most_rounds};
 
 pub use fault::RewriteFault;
+pub use limits::{MOST_PLACES, MOST_ROUNDS};
 pub use rewriting::rewrite;
 pub use rounds::Rounds;
 pub use sequential::Sequential;
@@ -46,13 +49,13 @@ pub use sequential::Sequential;
 /// whose names are declared, and widths of at most 64, some run within the rounds fails an assert exactly
 /// where `main__` of the rewritten tree can end with `bad__` being 1.
 pub fn rewriting_keeps_failures()
-    ensures { (t : Tree) (last : ℕ) → IsRewritable t → IsNarrow last t → last < 4 → KeepsTree last t }
+    ensures { (t : Tree) (last : ℕ) → IsRewritable t → IsNarrow last t → last < most_rounds → KeepsTree last t }
 {}
 
 /// The same of resolved programs: the rewriting over places keeps exactly the failing asserts, with no
 /// bound on widths.
 pub fn rewriting_keeps_failures_of_resolved_programs()
-    ensures { (p : Program) (last : ℕ) → FitsScopes p → last < 4 → Keeps last p }
+    ensures { (p : Program) (last : ℕ) → FitsScopes p → last < most_rounds → Keeps last p }
 {}
 
 /// What a tree that resolves means as a sequential program is complete: each variable has its place, each target its right
@@ -69,7 +72,7 @@ pub fn calls_of_resolving_trees_fit()
 /// In a tree whose procedures have at most 64 places each, as a sequential program, each valuation has at most 64 values.
 pub fn narrow_trees_have_narrow_valuations()
     ensures { (t : Tree) → AllNarrow t → (q : ℕ) (routine : Routine) → slice_get (sequential_of t).routines q ≡ Some routine
-        → (sequential_of t).globals + routine.places ≤ 64 }
+        → (sequential_of t).globals + routine.places ≤ most_places }
 {}
 
 /// Three programs are rewritten to exactly these texts, byte for byte: one thread that does nothing, for one round; one that sets a

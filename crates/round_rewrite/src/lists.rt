@@ -5,6 +5,7 @@ ghost use Rattle.language.specs.Tree.{any, var, value};
 ghost use Rattle.syntax.specs.Trees.{names_of, rhss_of};
 ghost use Rattle.round_rewrite.specs.Table.{each};
 ghost use Rattle.round_rewrite.specs.Names.{copy_name, save_name};
+ghost use Rattle.round_rewrite.specs.Limits.{most_rounds};
 
 use crate::expression::copy_of;
 use crate::names::{again, copy, save};
@@ -33,7 +34,7 @@ pub fn copies<N: Allocator, A: Allocator + Copy>(
     xs: &[Name<N>],
     into: Vec<Name<A>, A>,
 ) -> Result<Vec<Name<A>, A>, AllocError>
-    requires { round < 4 }
+    requires { round < most_rounds }
     ensures { IfOk result (λ v. names_of v.items ≡ names_of into.items ++ map (copy_name round) (names_of xs.now)) }
 {
     let mut list = into;
@@ -50,7 +51,7 @@ pub fn saves<N: Allocator, A: Allocator + Copy>(
     xs: &[Name<N>],
     into: Vec<Name<A>, A>,
 ) -> Result<Vec<Name<A>, A>, AllocError>
-    requires { round < 4 }
+    requires { round < most_rounds }
     ensures { IfOk result (λ v. names_of v.items ≡ names_of into.items ++ map (save_name round) (names_of xs.now)) }
 {
     let mut list = into;
@@ -80,7 +81,7 @@ pub fn reads<N: Allocator, A: Allocator + Copy>(
     round: u8,
     xs: &[Name<N>],
 ) -> Result<Vec<Rhs<A>, A>, AllocError>
-    requires { round < 4 }
+    requires { round < most_rounds }
     ensures { IfOk result (λ v. rhss_of v.items ≡ map (λ y. value (var (copy_name round y))) (names_of xs.now)) }
 {
     let mut list = Vec::new(*alloc);

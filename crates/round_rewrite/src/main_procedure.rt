@@ -6,6 +6,7 @@ ghost use Rattle.syntax.specs.Trees.{simple, name_of, names_of, threads_of, deed
 ghost use Rattle.round_rewrite.specs.Table.{numbers, guess, guesses, starts, check, checks, main};
 ghost use Rattle.round_rewrite.specs.Names.{named, names, copy_name, save_name};
 ghost use Rattle.round_rewrite.specs.Writing.{Lays, line_names};
+ghost use Rattle.round_rewrite.specs.Limits.{most_rounds};
 
 use crate::block::push;
 use crate::cores::{constant, push_name, push_side, round_names};
@@ -24,7 +25,7 @@ fn guess<N: Allocator, A: Allocator + Copy>(
     xs: &[Name<N>],
     into: Vec<Stmt<A>, A>,
 ) -> Result<Vec<Stmt<A>, A>, AllocError>
-    requires { round < 4 }
+    requires { round < most_rounds }
     ensures { IfOk result (λ v. Lays into.items v.items (λ k. guess (names []) last (names_of xs.now) round k)) }
 {
     let Some((_first, _)) = xs.split_first() else {

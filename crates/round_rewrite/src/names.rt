@@ -3,6 +3,7 @@
 ghost use Rattle.std.specs.Prelude.{◌≡◌, ◌<◌, ◌^◌, IfOk};
 ghost use Rattle.syntax.specs.Trees.{name_of};
 ghost use Rattle.round_rewrite.specs.Names.{named, copy_name, save_name, drawn_name};
+ghost use Rattle.round_rewrite.specs.Limits.{most_rounds};
 
 use std::alloc::{AllocError, Allocator};
 use syntax::Name;
@@ -29,7 +30,7 @@ pub fn copy<N: Allocator, A: Allocator>(
     round: u8,
     x: &Name<N>,
 ) -> Result<Name<A>, AllocError>
-    requires { round < 4 }
+    requires { round < most_rounds }
     ensures { IfOk result (λ n. name_of n ≡ copy_name round (name_of x.now)) }
 {
     let text = x.text.as_str();
@@ -44,7 +45,7 @@ pub fn save<N: Allocator, A: Allocator>(
     round: u8,
     x: &Name<N>,
 ) -> Result<Name<A>, AllocError>
-    requires { round < 4 }
+    requires { round < most_rounds }
     ensures { IfOk result (λ n. name_of n ≡ save_name round (name_of x.now)) }
 {
     let text = x.text.as_str();

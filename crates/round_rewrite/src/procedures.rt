@@ -5,6 +5,7 @@ ghost use Rattle.language.specs.Tree.{Procedure};
 ghost use Rattle.syntax.specs.Trees.{proc_of, procs_of, tree_of};
 ghost use Rattle.round_rewrite.specs.Names.{main_procedure, rewritten_procedure};
 ghost use Rattle.round_rewrite.specs.Writing.{procedure_needs, AreFew};
+ghost use Rattle.round_rewrite.specs.Limits.{most_places};
 
 use crate::assignment::temporaries;
 use crate::lists::all_again;
@@ -21,7 +22,7 @@ fn procedure<N: Allocator, A: Allocator + Copy>(
     rounds: Rounds,
     proc: &Proc<N>,
 ) -> Result<Proc<A>, AllocError>
-    requires { procedure_needs (proc_of proc.now) ≤ 64 }
+    requires { procedure_needs (proc_of proc.now) ≤ most_places }
     ensures { IfOk result (λ p. proc_of p ≡ rewritten_procedure rounds.last (proc_of proc.now)) }
 {
     let writer = Writer {

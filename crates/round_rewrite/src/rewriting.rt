@@ -1,12 +1,13 @@
 //! The rewriting of a program.
 
-ghost use Rattle.std.specs.Prelude.{◌≡◌, ◌⊎◌, [], ◌∷◌, IfOk, IfErr, codes};
+ghost use Rattle.std.specs.Prelude.{◌≡◌, [], ◌∷◌, IfOk, IfErr, codes};
 ghost use Rattle.syntax.specs.InGrammar.{InGrammar};
 ghost use Rattle.syntax.specs.Trees.{threads_of, tree_of};
 ghost use Rattle.round_rewrite.specs.Law.{KeepsTree};
 ghost use Rattle.round_rewrite.specs.Names.{named, rewritten_tree};
 ghost use Rattle.round_rewrite.specs.Narrow.{IsNarrow};
-ghost use Rattle.round_rewrite.specs.declared.fault.RewriteFault.TheVariants.{TooWide, Memory};
+ghost use Rattle.round_rewrite.specs.Programs.{IsFaultOf, last_round, sequential_tree};
+ghost use Rattle.scopes.specs.Programs.{checked_tree};
 
 use crate::fault::RewriteFault;
 use crate::globals::globals;
@@ -56,13 +57,13 @@ pub fn rewrite<N: Allocator, A: Allocator + Copy>(
     rounds: Rounds,
 ) -> Result<Sequential<A>, RewriteFault>
     // What is answered is the program of the table.
-    ensures rewritten { IfOk result (λ s. tree_of s.program ≡ rewritten_tree rounds.last (tree_of checked.now.program)) }
+    ensures rewritten { IfOk result (λ s. sequential_tree s ≡ rewritten_tree (last_round rounds) (checked_tree checked.now)) }
     // The source is unsafe within the rounds exactly where some pair of `main__` of that program has `bad__`.
-    ensures keeps { IfOk result (λ s. KeepsTree rounds.last (tree_of checked.now.program)) }
+    ensures keeps { IfOk result (λ s. KeepsTree (last_round rounds) (checked_tree checked.now)) }
     // It is a tree of the grammar where the source is.
-    ensures grammar { InGrammar (tree_of checked.now.program) → IfOk result (λ s. InGrammar (tree_of s.program)) }
+    ensures grammar { InGrammar (checked_tree checked.now) → IfOk result (λ s. InGrammar (sequential_tree s)) }
     // A fault is that the program is too wide, and then it is, or that memory ran out, and then it is not.
-    ensures fault { IfErr result (λ f. ((f ≡ TooWide) × (IsNarrow rounds.last (tree_of checked.now.program) → ⊥)) ⊎ ((f ≡ Memory) × IsNarrow rounds.last (tree_of checked.now.program))) }
+    ensures fault { IfErr result (IsFaultOf (last_round rounds) (checked_tree checked.now)) }
 {
     let source = checked.program();
     if !is_narrow(alloc, rounds, source) {

@@ -1,22 +1,27 @@
 //! Numbers of rounds.
 
 ghost use Rattle.std.specs.Prelude.{◌≡◌, ◌+◌, ◌<◌, ◌≤◌, IfSome, IsSome, ◌↔◌};
+ghost use Rattle.round_rewrite.specs.Limits.{most_rounds};
+
+use crate::limits::MOST_ROUNDS;
 
 /// A number of rounds, from 1 to 4.
 #[derive(Clone, Copy, Debug, PartialEq, Eq)]
 pub struct Rounds {
     /// The last round, counted from 0.
     pub(crate) last: u8,
-    ghost few: { last < 4 },
+    ghost few: { last < most_rounds },
 }
 
 impl Rounds {
+    ghost use Rattle.round_rewrite.specs.Programs.{last_round};
+
     /// So many rounds; `None` where there are none, or more than 4.
     pub fn new(rounds: u8) -> Option<Rounds>
-        ensures some { IsSome result ↔ (1 ≤ rounds) × (rounds ≤ 4) }
-        ensures last { IfSome result (λ r. r.last + 1 ≡ rounds) }
+        ensures some { IsSome result ↔ (1 ≤ rounds) × (rounds ≤ most_rounds) }
+        ensures last { IfSome result (λ r. last_round r + 1 ≡ rounds) }
     {
-        if 1 <= rounds && rounds <= 4 {
+        if 1 <= rounds && rounds <= MOST_ROUNDS {
             Some(Rounds { last: rounds - 1 })
         } else {
             None
@@ -25,7 +30,7 @@ impl Rounds {
 
     /// How many rounds.
     pub fn count(self) -> u8
-        ensures { result ≡ self.last + 1 }
+        ensures { result ≡ last_round self + 1 }
     {
         self.last + 1
     }

@@ -24,17 +24,19 @@ pub struct Sequential<A: Allocator> {
 }
 
 impl<A: Allocator> Sequential<A> {
+    ghost use Rattle.round_rewrite.specs.Programs.{sequential_program, sequential_tree};
+
     /// The program, with its one thread line, that of `main__`.
     pub fn program(&self) -> &Program<A>
-        ensures { result.now ≡ self.now.program }
+        ensures { result.now ≡ sequential_program self.now }
     {
         &self.program
     }
 
     /// How many places the valuations of a procedure have: the globals, and its formals, locals and temporaries.
     pub fn width(&self, procedure: u8) -> u8
-        requires { procedure < length self.now.program.procs.items }
-        ensures { IsThere (slice_get (tree_of self.now.program).procedures procedure) (λ p. result ≡ width (tree_of self.now.program) p) }
+        requires { procedure < length (sequential_program self.now).procs.items }
+        ensures { IsThere (slice_get (sequential_tree self.now).procedures procedure) (λ p. result ≡ width (sequential_tree self.now) p) }
     {
         let proc = &self.program.procs[procedure as usize];
         let own = proc.formals.len() + proc.locals.len();

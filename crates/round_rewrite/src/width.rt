@@ -4,15 +4,14 @@ ghost use Rattle.std.specs.Prelude.{◌≡◌, ◌+◌, ◌*◌, ◌≤◌, ◌�
 ghost use Rattle.syntax.specs.Trees.{proc_of, tree_of};
 ghost use Rattle.round_rewrite.specs.Narrow.{IsNarrow};
 ghost use Rattle.round_rewrite.specs.Writing.{IsOwnNarrow};
-ghost use Rattle.round_rewrite.specs.Places.{bits_at};
+ghost use Rattle.round_rewrite.specs.Places.{global_count};
+ghost use Rattle.round_rewrite.specs.Limits.{most_places};
 
+use crate::limits::MOST_PLACES;
 use crate::rounds::Rounds;
 use crate::writer::Writer;
 use std::alloc::Allocator;
 use syntax::{Proc, Program};
-
-/// The most places of a procedure.
-const PLACES: usize = 64;
 
 /// Whether the globals of the rewritten program and what the procedure has of its own are at most 64 places.
 fn is_own_narrow<N: Allocator, A: Allocator + Copy>(
@@ -21,7 +20,7 @@ fn is_own_narrow<N: Allocator, A: Allocator + Copy>(
     globals: usize,
     proc: &Proc<N>,
 ) -> bool
-    requires { globals ≤ 64 }
+    requires { globals ≤ most_places }
     ensures { IsTrue result ↔ IsOwnNarrow globals (proc_of proc.now) }
 {
     let formals = proc.formals.as_slice();
@@ -33,17 +32,17 @@ fn is_own_narrow<N: Allocator, A: Allocator + Copy>(
         locals,
     };
     let needs = writer.needs(&proc.body);
-    if formals.len() > PLACES {
+    if formals.len() > MOST_PLACES {
         return false;
     }
-    if locals.len() > PLACES {
+    if locals.len() > MOST_PLACES {
         return false;
     }
-    if needs > PLACES {
+    if needs > MOST_PLACES {
         return false;
     }
     let places = globals + (formals.len() + (locals.len() + needs));
-    if places > PLACES {
+    if places > MOST_PLACES {
         return false;
     }
     true
@@ -51,15 +50,19 @@ fn is_own_narrow<N: Allocator, A: Allocator + Copy>(
 
 /// How many globals the rewritten program has; `None` only where they are more than 64.
 fn global_count(rounds: Rounds, globals: usize) -> Option<usize>
-    ensures some { IfSome result (λ n. (n ≡ bits_at globals rounds.last + 4) × (n ≤ 64)) }
-    ensures none { IsNone result → bits_at globals rounds.last + 4 ≤ 64 → ⊥ }
+    ensures some { IfSome result (λ n. (n ≡ global_count globals rounds.last) × (n ≤ most_places)) }
+    ensures none { IsNone result → global_count globals rounds.last ≤ most_places → ⊥ }
 {
-    if globals > PLACES {
+    if globals > MOST_PLACES {
         return None;
     }
     let last = rounds.last as usize;
     let count = (2 * last + 1) * globals + 4;
-    if count <= PLACES { Some(count) } else { None }
+    if count <= MOST_PLACES {
+        Some(count)
+    } else {
+        None
+    }
 }
 
 /// Whether every procedure of the rewritten program has at most 64 places.

@@ -7,3 +7,4 @@ pub mod First
 pub mod Resolves
 pub mod ResolvesOnce
 pub mod Rewritable
+pub mod Programs

@@ -5,7 +5,9 @@ ghost use Rattle.syntax.specs.Trees.{tree_of};
 ghost use Rattle.scopes.specs.Checked.{IsChecked, IsFirstFault, Stands};
 ghost use Rattle.scopes.specs.declared.fault.ScopeFault.TheVariants.{Memory};
 ghost use Rattle.scopes.specs.First.{FindsFirst};
+ghost use Rattle.scopes.specs.Programs.{checked_program};
 
+use crate::checked::Checked;
 use crate::counts::first_wrong_count;
 use crate::fault::ScopeFault;
 use crate::labels::first_bad_label;
@@ -17,23 +19,6 @@ use crate::twice::first_twice;
 use crate::undeclared::first_undeclared;
 use std::alloc::{AllocError, Allocator};
 use syntax::Program;
-
-/// A program in which no fault of scopes stands.
-#[derive(Drop)]
-pub struct Checked<A: Allocator> {
-    program: Program<A>,
-    pub ghost checked: { IsChecked (tree_of program) },
-}
-
-impl<A: Allocator> Checked<A> {
-    /// The program, as it was read.
-    pub fn program(&self) -> &Program<A>
-        ensures same { result.now ≡ self.now.program }
-        ensures checked { IsChecked (tree_of result.now) }
-    {
-        &self.program
-    }
-}
 
 /// The fault that is answered of those that stand in a program.
 pub fn first_fault<A: Allocator + Copy>(
@@ -62,7 +47,7 @@ pub fn first_fault<A: Allocator + Copy>(
 /// `Memory` comes where a growth was refused. What the check needs besides the program is taken from `alloc`.
 pub fn check<A: Allocator + Copy>(alloc: A, program: Program<A>) -> Result<Checked<A>, ScopeFault>
     // What is checked is the program that came in, and no fault stands in it.
-    ensures checked { IfOk result (λ c. (c.program ≡ program) × IsChecked (tree_of program)) }
+    ensures checked { IfOk result (λ c. (checked_program c ≡ program) × IsChecked (tree_of program)) }
     // A fault that is answered stands at its place, and it is the first that does, unless memory ran out.
     ensures fault { IfErr result (λ f. (f ≡ Memory) ⊎ IsFirstFault (tree_of program) f) }
 {

@@ -1,6 +1,7 @@
 //! The check of scopes: what is checked is meaningful, and each slip is named with its place.
 #![tactic(auto)]
 
+mod checked;
 mod checking;
 mod counts;
 mod fault;
@@ -16,7 +17,8 @@ mod threads;
 mod twice;
 mod undeclared;
 
-pub use checking::{Checked, check};
+pub use checked::Checked;
+pub use checking::check;
 pub use counts::first_wrong_count;
 pub use fault::ScopeFault;
 pub use labels::first_bad_label;

@@ -1,0 +1,27 @@
+//! Checked programs.
+
+ghost use Rattle.syntax.specs.Trees.{tree_of};
+ghost use Rattle.scopes.specs.Checked.{IsChecked};
+
+use std::alloc::Allocator;
+use syntax::Program;
+
+/// A program in which no fault of scopes stands.
+#[derive(Drop)]
+pub struct Checked<A: Allocator> {
+    pub(crate) program: Program<A>,
+    pub ghost checked: { IsChecked (tree_of program) },
+}
+
+impl<A: Allocator> Checked<A> {
+    ghost use Rattle.std.specs.Prelude.{◌≡◌};
+    ghost use Rattle.scopes.specs.Programs.{checked_program};
+
+    /// The program, as it was read.
+    pub fn program(&self) -> &Program<A>
+        ensures same { result.now ≡ checked_program self.now }
+        ensures checked { IsChecked (tree_of result.now) }
+    {
+        &self.program
+    }
+}
