@@ -90,7 +90,7 @@ module _ {G A S : Type 0} (members : S → List Triple) (p : Program) (Aside : M
       → ((k : NumberedMessage) → TookMessage t'.found k → IsNumberOf (IsDue p q) k) → (n : ℕ) → HaveLimit n ts → (s : ℕ) × HasMoreEdges p s n
   too_many q t t' is table stays failed due n limits =
       let (xs, once, more, reached) = table.many failed in
-      let same : t'.limit.edges ≡ n = ap (λ l. l.edges) stays.limit ∙ limits q t is in
+      let same : t'.limit ≡ n = stays.limit ∙ limits q t is in
       let graph : IsGraph p q t'.graph.now = subst (IsGraph p q) (sym stays.graph) (has_graph q t is) in
       (q, (xs, once, omega (arith, more, same), λ x m. (edge_numbers p q x.entry x.point x.values).0 (edges_reached p are.drawn.0 q t'.graph.now graph (TookMessage t'.found) due x.entry x.point x.values (reached x m))))
 

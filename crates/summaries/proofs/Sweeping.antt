@@ -40,7 +40,7 @@ module _ {G A S : Type 0} where
   -- each has its limit still
   pub limits_stay : (n : ℕ) (ts : List (Table G A S)) (i : ℕ) (t t' : Table G A S) → slice_get ts i ≡ Some t → StaysAs t t' → HaveLimit n ts → HaveLimit n (slice_set ts i t')
   limits_stay n ts i t t' is stays have =
-      each_then (λ q u. u.limit.edges ≡ n) ts i t' have (ap (λ l. l.edges) stays.limit ∙ have i t is)
+      each_then (λ q u. u.limit ≡ n) ts i t' have (stays.limit ∙ have i t is)
 
 module _ {G A S : Type 0} (members : S → List Triple) (p : Program) where
   -- A table becomes another one of the procedure, which has not failed, has taken what it had, and only what is due.

@@ -15,13 +15,13 @@ use Rattle.flow_graph.proofs.Taking.{there_too, edges_taken}
 use Rattle.flow_graph.proofs.Pairs.{edge_numbers, pairs_left, bad_left, entries_taken}
 use Rattle.summaries.specs.declared.due.Caller as callers
 use Rattle.summaries.specs.declared.due.Caller.TheVariants.{Starter, Proc}
-use Rattle.summaries.specs.declared.summaries.Summary.{Summary}
 use Rattle.summaries.specs.declared.table.Table.{Table}
 use Rattle.summaries.specs.Under.{under}
 use Rattle.summaries.specs.Mails.{mail}
 use Rattle.summaries.specs.Dues.{caller_of, due_of}
 use Rattle.summaries.specs.Found.{pair, TookMessage}
 use Rattle.summaries.specs.Tables.{graph_of, IsQuiet}
+use Rattle.summaries.specs.Effects.{Effect}
 use Rattle.summaries.specs.Tabulated.{IsSummary, HasMoreEdges}
 use Rattle.summaries.specs.Together.{IsTaken, HaveLimit, IsReadOff, AreReadOff, AreTables, AreQuietBefore}
 use Rattle.summaries.proofs.Once.{no_longer}
@@ -152,13 +152,13 @@ module _ {G A S : Type 0} (members : S → List Triple) (p : Program) (ts : List
           λ h. bits.1 (h.0, h.1, subst (λ (o : Option (Table G A S)). Leaves t.graph.now (IsTaken o) h.0 h.1) (sym is) (((quiet_at 0 t is).leaves h.0 h.1).0 h.2), h.3),
         )
 
-    module _ (ss : List (Summary A)) (as_long : length ss ≡ length ts) (read : AreReadOff ts ss) where
+    module _ (ss : List Effect) (as_long : length ss ≡ length ts) (read : AreReadOff ts ss) where
       -- a summary and its table
-      table_of : (q : ℕ) (s : Summary A) → slice_get ss q ≡ Some s → (t : Table G A S) × (slice_get ts q ≡ Some t) × IsReadOff t s
+      table_of : (q : ℕ) (s : Effect) → slice_get ss q ≡ Some s → (t : Table G A S) × (slice_get ts q ≡ Some t) × IsReadOff t s
       table_of q s is = let (t, there) = there_too ss ts q s as_long is in (t, there, read q t s there is)
 
       -- what is read off are the summaries of the procedures
-      pub all_summaries : (q : ℕ) (s : Summary A) → slice_get ss q ≡ Some s → IsSummary p q s
+      pub all_summaries : (q : ℕ) (s : Effect) → slice_get ss q ≡ Some s → IsSummary p q s
       all_summaries q s is =
           let (t, there, off) = table_of q s is in
           record {
@@ -178,7 +178,7 @@ module _ {G A S : Type 0} (members : S → List Triple) (p : Program) (ts : List
 
       -- and some pair is bad where the program has a bad pair
       pub all_bad : (bad : ℕ)
-          → ((s : Summary A) × (slice_get ss 0 ≡ Some s) × ((a : ℕ) × (b : ℕ) × Member (pair a b) s.pairs.items × (bit_of b bad ≡ true))) ↔ SomeBad p bad
+          → ((s : Effect) × (slice_get ss 0 ≡ Some s) × ((a : ℕ) × (b : ℕ) × Member (pair a b) s.pairs × (bit_of b bad ≡ true))) ↔ SomeBad p bad
       all_bad bad = (
         λ h. let (t, there, off) = table_of 0 h.0 h.1 in
             let (a, b, m, bit) = h.2 in

@@ -32,9 +32,9 @@ answer_is old new (Some _) behind due once = record { behind = behind; due = due
 
 module _ {G A S : Type 0} (members : S → List Triple) where
   module _ {T : Type 0} (Aside : Triple → Type 0) (r : Result T TableFault) (old new : Table G A S) (edges : (x : Triple) → Member x (members new.edges) → IsReached new x)
-      (within : length (members new.edges) ≤ new.limit.edges) (stays : StaysAs old new) (fault : new.fault ≡ old.fault) where
+      (within : length (members new.edges) ≤ new.limit) (stays : StaysAs old new) (fault : new.fault ≡ old.fault) where
     -- where the answer is a fault
-    pub failed_worked : (P : TableFault → Type 0) → IsErrAnd r P → (r ≡ Err EdgeLimit → HasMore new.limit.edges (IsReached new)) → Worked members Aside r old new
+    pub failed_worked : (P : TableFault → Type 0) → IsErrAnd r P → (r ≡ Err EdgeLimit → HasMore new.limit (IsReached new)) → Worked members Aside r old new
     failed_worked P told many = record {
       holds = by _ r told;
       edges = edges;

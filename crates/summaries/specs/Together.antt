@@ -12,13 +12,13 @@ use Rattle.summaries.specs.declared.due.Caller.TheVariants.{Starter}
 use Rattle.summaries.specs.declared.due.Due.TheVariants.{Entry}
 use Rattle.summaries.specs.declared.given.Mail.{Mail}
 use Rattle.summaries.specs.declared.pair.Pair.{Pair}
-use Rattle.summaries.specs.declared.summaries.Summary.{Summary}
 use Rattle.summaries.specs.declared.table.Table.{Table}
 use Rattle.summaries.specs.Under.{under}
 use Rattle.summaries.specs.Mails.{mail}
 use Rattle.summaries.specs.Dues.{due_of}
 use Rattle.summaries.specs.Found.{TookMessage}
 use Rattle.summaries.specs.Tables.{graph_of, procedure_of, limit_of, failure, answers_of, IsTable, IsNew, IsQuiet}
+use Rattle.summaries.specs.Effects.{Effect}
 use Rattle.summaries.specs.Tabulated.{IsAscending, ArePairsAscending}
 
 -- the starter's message: procedure 0 is entered, and every value is 0
@@ -41,15 +41,15 @@ module _ {G A S : Type 0} where
 
 module _ {G A S : Type 0} where
   -- The summary has the entries that the table has taken, and the pairs that it has found, both ascending.
-  pub record IsReadOff (t : Table G A S) (s : Summary A) : Type 0 where
-    pub ascend : IsAscending s.entries.items
-    pub entries : (a : ℕ) → Member a s.entries.items ↔ ((from : Caller) × Member from (under nat_eq t.found.entries.by_key a))
-    pub pairs_ascend : ArePairsAscending s.pairs.items
-    pub pairs : (x : Pair) → Member x s.pairs.items ↔ Member x t.found.pairs.keys
+  pub record IsReadOff (t : Table G A S) (s : Effect) : Type 0 where
+    pub ascend : IsAscending s.entries
+    pub entries : (a : ℕ) → Member a s.entries ↔ ((from : Caller) × Member from (under nat_eq t.found.entries.by_key a))
+    pub pairs_ascend : ArePairsAscending s.pairs
+    pub pairs : (x : Pair) → Member x s.pairs ↔ Member x t.found.pairs.keys
 
   -- each summary is that of the table of its number
-  abbrev pub AreReadOff : List (Table G A S) → List (Summary A) → Type 0
-  AreReadOff ts ss = (q : ℕ) (t : Table G A S) (s : Summary A) → slice_get ts q ≡ Some t → slice_get ss q ≡ Some s → IsReadOff t s
+  abbrev pub AreReadOff : List (Table G A S) → List Effect → Type 0
+  AreReadOff ts ss = (q : ℕ) (t : Table G A S) (s : Effect) → slice_get ts q ≡ Some t → slice_get ss q ≡ Some s → IsReadOff t s
 
 module _ {G A S : Type 0} (members : S → List Triple) where
   -- The table is that of procedure q, works on the flow graph that was drawn from it, and has taken only messages that are due

@@ -37,7 +37,7 @@ impl<'g, G: Allocator, A: Allocator + Copy, S: PathSet<A>> Table<'g, G, A, S> {
         ensures new { IsNew S.members result }
         ensures graph { slice_get graphs.now.graphs.items procedure ≡ Some (graph_of result) }
         ensures procedure { procedure_of result ≡ procedure }
-        ensures limit { limit_of result ≡ limit.edges }
+        ensures limit { limit_of result ≡ limit }
     {
         Table {
             graph: graphs.graph(procedure),

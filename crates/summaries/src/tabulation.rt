@@ -27,7 +27,7 @@ fn tables_of<'g, G: Allocator, A: Allocator + Copy, S: PathSet<A>>(
 ) -> Result<Vec<Table<'g, G, A, S>, A>, AllocError>
     ensures new { IfOk result (λ ts. AreNew S.members ts.items) }
     ensures graphs { IfOk result (λ ts. map graph_of ts.items ≡ graphs.now.graphs.items) }
-    ensures limit { IfOk result (λ ts. HaveLimit limit.edges ts.items) }
+    ensures limit { IfOk result (λ ts. HaveLimit limit ts.items) }
 {
     let mut tables = Vec::new(alloc);
     for procedure in 0..graphs.len() as u8 {
@@ -95,8 +95,8 @@ pub fn tabulate<G: Allocator, A: Allocator + Copy, S: PathSet<A>>(
     requires { AreDrawnFrom program graphs.now.graphs.items }
     ensures summaries { IfOk result (λ s. AreSummaries program s) }
     ensures bad { IfOk result (λ s. SomePairBad s ↔ SomeBad program graphs.now.bad) }
-    ensures few { IfOk result (λ s. (q : ℕ) → ¬ HasMoreEdges program q limit.edges) }
-    ensures limit { result ≡ Err NoVerdict.EdgeLimit → (q : ℕ) × HasMoreEdges program q limit.edges }
+    ensures few { IfOk result (λ s. (q : ℕ) → ¬ HasMoreEdges program q limit) }
+    ensures limit { result ≡ Err NoVerdict.EdgeLimit → (q : ℕ) × HasMoreEdges program q limit }
 {
     let mut tables: Vec<Table<'_, G, A, S>, A> = tables_of(alloc, graphs, limit)?;
     run(&mut tables)?;

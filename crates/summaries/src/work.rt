@@ -62,7 +62,7 @@ impl<'g, G: Allocator, A: Allocator + Copy, S: PathSet<A>> Table<'g, G, A, S> {
         requires call { slice_get self.old.graph.now.flows.items edge.point ≡ Some (flow.Call call.now) }
         requires edge { Member (triple_of edge) (S.members self.old.edges) }
         requires holds { Holds S.members (λ t. t ≡ triple_of edge) self.old }
-        requires within { length (S.members self.old.edges) ≤ self.old.limit.edges }
+        requires within { length (S.members self.old.edges) ≤ self.old.limit }
         ensures worked { Worked S.members (λ t. t ≡ triple_of edge) result self.old self.new }
         ensures asked { OnOk result (HasSite self.new.found call.now.callee (entry_of call.now.globals call.now.arguments.items edge.values) (site edge.entry call.now.back edge.values)) }
         ensures taken { TookSame self.old.found self.new.found }
@@ -98,7 +98,7 @@ impl<'g, G: Allocator, A: Allocator + Copy, S: PathSet<A>> Table<'g, G, A, S> {
     pub(crate) fn work(&mut self, edge: Edge) -> Result<(), TableFault>
         requires edge { Member (triple_of edge) (S.members self.old.edges) }
         requires holds { Holds S.members (λ t. t ≡ triple_of edge) self.old }
-        requires within { length (S.members self.old.edges) ≤ self.old.limit.edges }
+        requires within { length (S.members self.old.edges) ≤ self.old.limit }
         ensures worked { Worked S.members (λ t. ⊥) result self.old self.new }
         ensures taken { TookSame self.old.found self.new.found }
         ensures less { OnOk result (IsLess S.members self.old self.new) }
@@ -122,7 +122,7 @@ impl<'g, G: Allocator, A: Allocator + Copy, S: PathSet<A>> Table<'g, G, A, S> {
     /// Lets a caller enter the procedure: its start is reached, and the caller gets the summaries that are known.
     pub(crate) fn begin(&mut self, caller: Caller, a: Word) -> Result<(), TableFault>
         requires holds { Holds S.members (λ t. ⊥) self.old }
-        requires within { length (S.members self.old.edges) ≤ self.old.limit.edges }
+        requires within { length (S.members self.old.edges) ≤ self.old.limit }
         ensures worked { Worked S.members (λ t. ⊥) result self.old self.new }
         ensures taken { OnOk result (TookAlso (Entry caller a) self.old.found self.new.found) }
         ensures only { TookOnly (Entry caller a) self.old.found self.new.found }
@@ -147,7 +147,7 @@ impl<'g, G: Allocator, A: Allocator + Copy, S: PathSet<A>> Table<'g, G, A, S> {
     /// Goes on behind each call of this kind, for globals that it left.
     pub(crate) fn end(&mut self, call: Call, b: Word) -> Result<(), TableFault>
         requires holds { Holds S.members (λ t. ⊥) self.old }
-        requires within { length (S.members self.old.edges) ≤ self.old.limit.edges }
+        requires within { length (S.members self.old.edges) ≤ self.old.limit }
         ensures worked { Worked S.members (λ t. ⊥) result self.old self.new }
         ensures taken { OnOk result (TookAlso (Summary call.callee call.entered b) self.old.found self.new.found) }
         ensures only { TookOnly (Summary call.callee call.entered b) self.old.found self.new.found }

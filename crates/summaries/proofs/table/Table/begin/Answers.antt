@@ -30,7 +30,7 @@ returns-in_err-reach-clause-worked g c =
     failed_worked g.S.PathSet.members (λ t. ⊥) _ self _ edges c.in_err-reach.ensures.within (record { graph = refl; procedure = refl; limit = refl }) refl _ c.from_residual-in_err-reach.ensures.1
     (λ is.
     let (new, full) = c.in_err-reach.ensures.limit (ap Err (sym (fault_of _ _ _ c.from_residual-in_err-reach.ensures.1 is))) in
-    has_more self.limit.edges ds _ (g.met.S.PathSet.none_twice c.reach.new.edges) edges (triple a c.start.result a)
+    has_more self.limit ds _ (g.met.S.PathSet.none_twice c.reach.new.edges) edges (triple a c.start.result a)
     (start_reached self.graph.now self.procedure f c.add.new.self f.given c.reach.new.pending a c.args.caller c.in_ok-add.ensures.added c.in_ok-add.ensures.others es ds c.requires.holds.0
     (triple a c.start.result a) (ap (λ n. triple a n a) c.start.ensures))
     new full)

@@ -38,7 +38,7 @@ returns-clause-worked g c =
       within = c.go_on_at_each.ensures.within;
       many = λ is.
           let (t, w, new, full) = c.go_on_at_each.ensures.limit is in
-          has_more self.limit.edges ds _ (g.met.S.PathSet.none_twice c.go_on_at_each.new.edges) edges t
+          has_more self.limit ds _ (g.met.S.PathSet.none_twice c.go_on_at_each.new.edges) edges t
           (ended_reached self.graph.now self.procedure f c.add.new.self c.go_on_at_each.new.pending c.args.call c.args.b c.in_ok-add.ensures.added c.in_ok-add.ensures.others es ds c.requires.holds.0 t
           (subst (λ ss. Each (λ y. IsBehind self.graph.now y c.args.b) ss t) c.of.ensures w))
           new full;
