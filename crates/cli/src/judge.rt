@@ -38,8 +38,8 @@ fn tabulated<N: Allocator, A: Allocator + Copy, S: PathSet<A>>(
     ghost program: { Program }
     requires { program ≡ sequential_of (tree_of sequential.now.program) }
     ensures bad { IfOk result (λ s. SomePairBad s ↔ SomeBad program (number_of (codes "bad__") (tree_of sequential.now.program).globals)) }
-    ensures few { IfOk result (λ _. (q : ℕ) → ¬ HasMoreEdges program q limit.edges) }
-    ensures fault { IfErr result (λ why. (why ≡ refusal.Memory) ⊎ ((why ≡ refusal.EdgeLimit) × ((q : ℕ) × HasMoreEdges program q limit.edges))) }
+    ensures few { IfOk result (λ _. (q : ℕ) → ¬ HasMoreEdges program q limit) }
+    ensures fault { IfErr result (λ why. (why ≡ refusal.Memory) ⊎ ((why ≡ refusal.EdgeLimit) × ((q : ℕ) × HasMoreEdges program q limit))) }
 {
     let graphs = graphs(&alloc, sequential)?;
     Ok(tabulate::<_, _, S>(alloc, &graphs, limit)?)

@@ -20,7 +20,7 @@ use Rattle.summaries.specs.declared.groups.Groups.{Groups}
 use Rattle.summaries.specs.Under.{under}
 use Rattle.summaries.specs.Mails.{mail}
 use Rattle.summaries.specs.Dues.{due_of}
-use Rattle.summaries.specs.Found.{call, call_eq, site, HasTaken, HasSite, IsSound}
+use Rattle.summaries.specs.Found.{call, call_eq, site, TookMessage, HasSite, IsGrounded}
 use Rattle.summaries.specs.Grows.{Grows, Gives, Each, IsBehind, triple_of}
 use Rattle.summaries.proofs.Adding.{same_call, added_or, added_keeps}
 use Rattle.summaries.proofs.Dues.{due_told}
@@ -33,26 +33,26 @@ module _ {A G : Type 0} (graph : Graph G) (q : ℕ) (f : Found A) (given : Given
   asked_to = record { entries = f.entries; summaries = f.summaries; sites = sites; exits = f.exits; pairs = f.pairs; given = given; pending = pending }
 
   -- the messages taken are the same
-  pub taken_there : (k : NumberedMessage) → HasTaken f k → HasTaken asked_to k
+  pub taken_there : (k : NumberedMessage) → TookMessage f k → TookMessage asked_to k
   taken_there = taken_as f asked_to (λ a. refl) (λ c. refl)
 
-  module _ (es ds : List Triple) (e : Edge) (s x back : ℕ) (flow : Flow G) (sound : IsSound graph q f es) (there : Member (triple_of e) es)
+  module _ (es ds : List Triple) (e : Edge) (s x back : ℕ) (flow : Flow G) (sound : IsGrounded graph q f es) (there : Member (triple_of e) es)
       (here : slice_get graph.flows.items e.point ≡ Some flow) (enters : entered_by flow e.values ≡ Some (s, x, back)) where
-    reached : Reaches graph (HasTaken asked_to) e.entry e.point e.values
-    reached = reaches_more graph (HasTaken f) (HasTaken asked_to) taken_there e.entry e.point e.values (sound.edge e.entry e.point e.values there)
+    reached : Reaches graph (TookMessage asked_to) e.entry e.point e.values
+    reached = reaches_more graph (TookMessage f) (TookMessage asked_to) taken_there e.entry e.point e.values (sound.edge e.entry e.point e.values there)
 
     -- what is behind the call is reached
-    pub behind_reached : (t : Triple) → Each (IsBehind graph (site e.entry back e.values)) (under call_eq f.summaries.by_key (call s x)) t → Reaches graph (HasTaken asked_to) t.entry t.point t.values
+    pub behind_reached : (t : Triple) → Each (IsBehind graph (site e.entry back e.values)) (under call_eq f.summaries.by_key (call s x)) t → Reaches graph (TookMessage asked_to) t.entry t.point t.values
     behind_reached t w =
-        subst (λ u. Reaches graph (HasTaken asked_to) u.entry u.point u.values) (sym w.2)
+        subst (λ u. Reaches graph (TookMessage asked_to) u.entry u.point u.values) (sym w.2)
         (returns e.entry e.point e.values s x back w.0 flow reached here enters w.1)
 
     -- so, where nothing but that is added, all edges are
     pub ask_only : ((t : Triple) → Member t ds → Each (IsBehind graph (site e.entry back e.values)) (under call_eq f.summaries.by_key (call s x)) t ⊎ Member t es) →
-        (t : Triple) → Member t ds → Reaches graph (HasTaken asked_to) t.entry t.point t.values
+        (t : Triple) → Member t ds → Reaches graph (TookMessage asked_to) t.entry t.point t.values
     ask_only only t m = elim (only t m) [
       | inl w ↦ behind_reached t w
-      | inr was ↦ reaches_more graph (HasTaken f) (HasTaken asked_to) taken_there t.entry t.point t.values (sound.edge t.entry t.point t.values was)
+      | inr was ↦ reaches_more graph (TookMessage f) (TookMessage asked_to) taken_there t.entry t.point t.values (sound.edge t.entry t.point t.values was)
     ]
 
     module _ (gave : Gives (λ m. m ≡ mail s (Entry (Proc q) x)) f.given.mails.keys given.mails.keys)
@@ -60,7 +60,7 @@ module _ {A G : Type 0} (graph : Graph G) (q : ℕ) (f : Found A) (given : Given
         (others : (k : Call) → call_eq (call s x) k ≡ false → under call_eq sites.by_key k ≡ under call_eq f.sites.by_key k)
         (grown : Grows (Each (IsBehind graph (site e.entry back e.values)) (under call_eq f.summaries.by_key (call s x))) es ds f.pending.items pending.items) where
       abbrev M : NumberedMessage → Type 0
-      M = HasTaken asked_to
+      M = TookMessage asked_to
 
       site_or : (k : Call) (y : Site) → Member y (under call_eq sites.by_key k) → Member y (under call_eq f.sites.by_key k) ⊎ ((call s x ≡ k) × (site e.entry back e.values ≡ y))
       site_or = added_or call_eq same_call (under call_eq f.sites.by_key) (under call_eq sites.by_key) (call s x) (site e.entry back e.values) added others

@@ -17,7 +17,7 @@ use Rattle.summaries.specs.declared.groups.Groups.{Groups}
 use Rattle.summaries.specs.Under.{under}
 use Rattle.summaries.specs.Mails.{mail}
 use Rattle.summaries.specs.Dues.{caller_of, due_of}
-use Rattle.summaries.specs.Found.{HasTaken, IsSound}
+use Rattle.summaries.specs.Found.{TookMessage, IsGrounded}
 use Rattle.summaries.specs.Grows.{Grows, Gives, Each, IsTold}
 use Rattle.summaries.specs.Tables.{TookAlso}
 use Rattle.summaries.proofs.Adding.{added_or, added_keeps, added_is}
@@ -33,13 +33,13 @@ module _ {A G : Type 0} (graph : Graph G) (q : ℕ) (f : Found A) (entries : Gro
   begun_to = record { entries = entries; summaries = f.summaries; sites = f.sites; exits = f.exits; pairs = f.pairs; given = given; pending = pending }
 
   abbrev M : NumberedMessage → Type 0
-  M = HasTaken begun_to
+  M = TookMessage begun_to
 
   entry_or : (x : ℕ) (c : rust.Caller) → Member c (under nat_eq entries.by_key x) → Member c (under nat_eq f.entries.by_key x) ⊎ ((a ≡ x) × (from ≡ c))
   entry_or = added_or nat_eq exact_unsigned_eq (under nat_eq f.entries.by_key) (under nat_eq entries.by_key) a from added others
 
   -- the messages taken stay
-  pub taken_begun : (k : NumberedMessage) → HasTaken f k → HasTaken begun_to k
+  pub taken_begun : (k : NumberedMessage) → TookMessage f k → TookMessage begun_to k
   taken_begun (numbered_entry c x) h = added_keeps nat_eq exact_unsigned_eq (under nat_eq f.entries.by_key) (under nat_eq entries.by_key) a from added others x (caller_of c) h
   taken_begun (numbered_summary s x y) h = h
 
@@ -63,7 +63,7 @@ module _ {A G : Type 0} (graph : Graph G) (q : ℕ) (f : Found A) (entries : Gro
   )
   begun_also (numbered_summary s x y) = (λ h. inr h, λ w. elim w [ inl is ↦ absurd (apart from s a x y (sym is)) | inr was ↦ was ])
 
-  module _ (es ds : List Triple) (sound : IsSound graph q f es) where
+  module _ (es ds : List Triple) (sound : IsGrounded graph q f es) where
     -- the start is reached
     pub start_reached : (t : Triple) → t ≡ triple a graph.start a → Reaches graph M t.entry t.point t.values
     start_reached t is = subst (λ u. Reaches graph M u.entry u.point u.values) (sym is) (starts (who from) a entered)
@@ -72,7 +72,7 @@ module _ {A G : Type 0} (graph : Graph G) (q : ℕ) (f : Found A) (entries : Gro
     pub begin_only : ((t : Triple) → Member t ds → (t ≡ triple a graph.start a) ⊎ Member t es) → (t : Triple) → Member t ds → Reaches graph M t.entry t.point t.values
     begin_only only t m = elim (only t m) [
       | inl is ↦ start_reached t is
-      | inr was ↦ reaches_more graph (HasTaken f) M taken_begun t.entry t.point t.values (sound.edge t.entry t.point t.values was)
+      | inr was ↦ reaches_more graph (TookMessage f) M taken_begun t.entry t.point t.values (sound.edge t.entry t.point t.values was)
     ]
 
     told : (s : ℕ) (k : NumberedMessage) → Each (λ b. IsTold q a b from) (under nat_eq f.exits.by_key a) (mail s (due_of k)) → Sends graph q M s k
@@ -83,7 +83,7 @@ module _ {A G : Type 0} (graph : Graph G) (q : ℕ) (f : Found A) (entries : Gro
         (subst (λ y. Sends graph q M c (numbered_summary q a y)) (sym leaves)
         (tells a v c (subst (λ d. Member d (under nat_eq entries.by_key a)) is
         (added_is nat_eq exact_unsigned_eq (under nat_eq f.entries.by_key) (under nat_eq entries.by_key) a from added others))
-        (reaches_more graph (HasTaken f) M taken_begun a 0 v reached))))
+        (reaches_more graph (TookMessage f) M taken_begun a 0 v reached))))
 
     pub begin_step : Grows (λ t. t ≡ triple a graph.start a) es ds f.pending.items pending.items
         → Gives (Each (λ b. IsTold q a b from) (under nat_eq f.exits.by_key a)) f.given.mails.keys given.mails.keys

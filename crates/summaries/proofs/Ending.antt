@@ -14,7 +14,7 @@ use Rattle.summaries.specs.declared.found.Found.{Found}
 use Rattle.summaries.specs.declared.groups.Groups.{Groups}
 use Rattle.summaries.specs.Under.{under}
 use Rattle.summaries.specs.Dues.{caller_of}
-use Rattle.summaries.specs.Found.{call, call_eq, site, HasTaken, IsSound}
+use Rattle.summaries.specs.Found.{call, call_eq, site, TookMessage, IsGrounded}
 use Rattle.summaries.specs.Grows.{Grows, Each, IsBehind}
 use Rattle.summaries.specs.Tables.{TookAlso}
 use Rattle.summaries.proofs.Adding.{same_call, added_or, added_keeps, added_is}
@@ -29,13 +29,13 @@ module _ {A G : Type 0} (graph : Graph G) (q : ℕ) (f : Found A) (summaries : G
   ended_to = record { entries = f.entries; summaries = summaries; sites = f.sites; exits = f.exits; pairs = f.pairs; given = f.given; pending = pending }
 
   abbrev M : NumberedMessage → Type 0
-  M = HasTaken ended_to
+  M = TookMessage ended_to
 
   summary_or : (j : Call) (y : ℕ) → Member y (under call_eq summaries.by_key j) → Member y (under call_eq f.summaries.by_key j) ⊎ ((k ≡ j) × (b ≡ y))
   summary_or = added_or call_eq same_call (under call_eq f.summaries.by_key) (under call_eq summaries.by_key) k b added others
 
   -- the messages taken stay
-  pub taken_ended : (m : NumberedMessage) → HasTaken f m → HasTaken ended_to m
+  pub taken_ended : (m : NumberedMessage) → TookMessage f m → TookMessage ended_to m
   taken_ended (numbered_entry c x) h = h
   taken_ended (numbered_summary s x y) h = added_keeps call_eq same_call (under call_eq f.summaries.by_key) (under call_eq summaries.by_key) k b added others (call s x) y h
 
@@ -56,19 +56,19 @@ module _ {A G : Type 0} (graph : Graph G) (q : ℕ) (f : Found A) (summaries : G
     ],
   )
 
-  module _ (es ds : List Triple) (sound : IsSound graph q f es) where
+  module _ (es ds : List Triple) (sound : IsGrounded graph q f es) where
     -- what is behind a call is reached
     pub ended_reached : (t : Triple) → Each (λ y. IsBehind graph y b) (under call_eq f.sites.by_key k) t → Reaches graph M t.entry t.point t.values
     ended_reached t (y, m, is) =
         let (n, flow, reached, here, enters) = sound.site k.callee k.entered y.asked y.next y.values m in
         subst (λ u. Reaches graph M u.entry u.point u.values) (sym is)
-        (returns y.asked n y.values k.callee k.entered y.next b flow (reaches_more graph (HasTaken f) M taken_ended y.asked n y.values reached) here enters left_so)
+        (returns y.asked n y.values k.callee k.entered y.next b flow (reaches_more graph (TookMessage f) M taken_ended y.asked n y.values reached) here enters left_so)
 
     -- so, where nothing but that is added, all edges are
     pub end_only : ((t : Triple) → Member t ds → Each (λ y. IsBehind graph y b) (under call_eq f.sites.by_key k) t ⊎ Member t es) → (t : Triple) → Member t ds → Reaches graph M t.entry t.point t.values
     end_only only t m = elim (only t m) [
       | inl w ↦ ended_reached t w
-      | inr was ↦ reaches_more graph (HasTaken f) M taken_ended t.entry t.point t.values (sound.edge t.entry t.point t.values was)
+      | inr was ↦ reaches_more graph (TookMessage f) M taken_ended t.entry t.point t.values (sound.edge t.entry t.point t.values was)
     ]
 
     pub end_step : Grows (Each (λ y. IsBehind graph y b) (under call_eq f.sites.by_key k)) es ds f.pending.items pending.items → Step graph q f ended_to es ds

@@ -14,7 +14,7 @@ use Rattle.summaries.specs.declared.found.Found.{Found}
 use Rattle.summaries.specs.Under.{under}
 use Rattle.summaries.specs.Mails.{mail}
 use Rattle.summaries.specs.Dues.{due_of}
-use Rattle.summaries.specs.Found.{pair, HasTaken, HasExit, IsSound}
+use Rattle.summaries.specs.Found.{pair, TookMessage, HasExit, IsGrounded}
 use Rattle.summaries.specs.Grows.{Gives, Each, IsTold}
 use Rattle.summaries.proofs.Adding.{added_or, added_keeps, added_is}
 use Rattle.summaries.proofs.Dues.{due_told}
@@ -28,19 +28,19 @@ module _ {A G : Type 0} (graph : Graph G) (q : ℕ) (f g : Found A) where
   left_to = record { entries = f.entries; summaries = f.summaries; sites = f.sites; exits = g.exits; pairs = g.pairs; given = g.given; pending = f.pending }
 
   -- the messages taken are the same
-  pub taken_left : (k : NumberedMessage) → HasTaken f k → HasTaken left_to k
+  pub taken_left : (k : NumberedMessage) → TookMessage f k → TookMessage left_to k
   taken_left = taken_as f left_to (λ a. refl) (λ c. refl)
 
-  module _ (es : List Triple) (a v b : ℕ) (is_left : b ≡ left graph.globals v) (sound : IsSound graph q f es) (there : Member (triple a 0 v) es)
+  module _ (es : List Triple) (a v b : ℕ) (is_left : b ≡ left graph.globals v) (sound : IsGrounded graph q f es) (there : Member (triple a 0 v) es)
       (keys : g.pairs.keys ≡ f.pairs.keys ++ pair a b ∷ [])
       (added : under nat_eq g.exits.by_key a ≡ under nat_eq f.exits.by_key a ++ b ∷ [])
       (others : (k : ℕ) → nat_eq a k ≡ false → under nat_eq g.exits.by_key k ≡ under nat_eq f.exits.by_key k)
       (gave : Gives (Each (IsTold q a b) (under nat_eq f.entries.by_key a)) f.given.mails.keys g.given.mails.keys) where
     abbrev M : NumberedMessage → Type 0
-    M = HasTaken left_to
+    M = TookMessage left_to
 
     reached : Reaches graph M a 0 v
-    reached = reaches_more graph (HasTaken f) M taken_left a 0 v (sound.edge a 0 v there)
+    reached = reaches_more graph (TookMessage f) M taken_left a 0 v (sound.edge a 0 v there)
 
     exit_or : (x y : ℕ) → Member y (under nat_eq g.exits.by_key x) → Member y (under nat_eq f.exits.by_key x) ⊎ ((a ≡ x) × (b ≡ y))
     exit_or = added_or nat_eq exact_unsigned_eq (under nat_eq f.exits.by_key) (under nat_eq g.exits.by_key) a b added others

@@ -15,6 +15,8 @@ pub mod Leaving
 pub mod Beginning
 pub mod Ending
 pub mod Tabling
+pub mod Worked
+pub mod Tabled
 pub mod Replaced
 pub mod Sweeping
 pub mod Steps

@@ -120,17 +120,17 @@ next_new {K = K} ks n m k more once = apart (take n ks) (drop m ks) (subst NoneT
     apart (x ∷ xs) ys (x_once, o) (inr m) = apart xs ys o m
 
 -- with more messages behind, those that were answered are the same
-pub sent_still : {K : Type 0} (ks js : List K) (n m : ℕ) → n ≤ length ks → m ≡ n → (more : List K) × (js ≡ ks ++ more) → take m js ≡ take n ks
-sent_still ks js n m within same (more, is) = ap (λ i. take i js) same ∙ ap (take n) is ∙ take-append-le n ks more within
+pub answers_still : {K : Type 0} (ks js : List K) (n m : ℕ) → n ≤ length ks → m ≡ n → (more : List K) × (js ≡ ks ++ more) → take m js ≡ take n ks
+answers_still ks js n m within same (more, is) = ap (λ i. take i js) same ∙ ap (take n) is ∙ take-append-le n ks more within
 
 -- of no messages none were answered
-pub sent_none : {K : Type 0} (ks : List K) (n : ℕ) → ks ≡ [] → take n ks ≡ []
-sent_none {K = K} ks n none = ap (take n) none ∙ by n
+pub answers_none : {K : Type 0} (ks : List K) (n : ℕ) → ks ≡ [] → take n ks ≡ []
+answers_none {K = K} ks n none = ap (take n) none ∙ by n
   where
     by : (i : ℕ) → take {A = K} i [] ≡ []
     by zero = refl
     by (suc i) = refl
 
 -- as few messages were answered as are counted
-pub sent_few : {K : Type 0} (ks : List K) (n limit : ℕ) → n ≤ length ks → n < limit → length (take n ks) < limit
-sent_few ks n limit within few = let same = length-take-le n ks within in omega (arith, same, few)
+pub answers_few : {K : Type 0} (ks : List K) (n limit : ℕ) → n ≤ length ks → n < limit → length (take n ks) < limit
+answers_few ks n limit within few = let same = length-take-le n ks within in omega (arith, same, few)

@@ -6,7 +6,7 @@ use Rattle.flow_graph.specs.Returns.{left}
 use Rattle.flow_graph.specs.Numbers.{NumberedMessage, Reaches, starts, flows, returns, Sends, asks, tells, Leaves}
 use Rattle.flow_graph.specs.declared.graph.Graph.{Graph}
 use Rattle.summaries.specs.declared.found.Found.{Found}
-use Rattle.summaries.specs.Found.{edge, HasTaken, HasExit, HasGiven, IsSound, IsWorked, IsComplete, IsQuiet}
+use Rattle.summaries.specs.Found.{edge, TookMessage, HasExit, HasGiven, IsGrounded, IsWorked, IsComplete, IsExact}
 
 module _ {A G : Type 0} (graph : Graph G) (q : ℕ) (f : Found A) (edges : List Triple)
     (complete : IsComplete graph q f edges (λ t. ⊥)) (none_pending : f.pending.items ≡ []) where
@@ -22,7 +22,7 @@ module _ {A G : Type 0} (graph : Graph G) (q : ℕ) (f : Found A) (edges : List 
       ]
 
   -- what is reached is an edge
-  pub is_edge : (a n v : ℕ) → Reaches graph (HasTaken f) a n v → Member (triple a n v) edges
+  pub is_edge : (a n v : ℕ) → Reaches graph (TookMessage f) a n v → Member (triple a n v) edges
   unfolding is_worked
   is_edge a _ _ (starts from _ taken) = complete.begun from a taken
   is_edge a _ _ (flows _ n v n' v' i flow r here within leads) = (is_worked a n v (is_edge a n v r)).flows flow i n' v' here within leads
@@ -30,7 +30,7 @@ module _ {A G : Type 0} (graph : Graph G) (q : ℕ) (f : Found A) (edges : List 
       complete.ended s e b a n' v ((is_worked a n v (is_edge a n v r)).calls flow s e n' here calls) taken
 
   -- what is sent is given
-  pub is_given : (s : ℕ) (k : NumberedMessage) → Sends graph q (HasTaken f) s k → HasGiven f s k
+  pub is_given : (s : ℕ) (k : NumberedMessage) → Sends graph q (TookMessage f) s k → HasGiven f s k
   unfolding is_worked
   is_given _ _ (asks a n v s e n' flow r here calls) =
       complete.asks s e a n' v ((is_worked a n v (is_edge a n v r)).calls flow s e n' here calls)
@@ -38,13 +38,13 @@ module _ {A G : Type 0} (graph : Graph G) (q : ℕ) (f : Found A) (edges : List 
       complete.tells a (left graph.globals v) c ((is_worked a 0 v (is_edge a 0 v r)).leaves refl) taken
 
   -- what is left is an exit
-  pub is_left : (a b : ℕ) → Leaves graph (HasTaken f) a b → HasExit f a b
+  pub is_left : (a b : ℕ) → Leaves graph (TookMessage f) a b → HasExit f a b
   unfolding is_worked
   is_left a b (v, reached, is) = subst (HasExit f a) (sym is) ((is_worked a 0 v (is_edge a 0 v reached)).leaves refl)
 
   -- so, where all of it is reached and sent, the table is quiet
-  pub is_quiet : IsSound graph q f edges → IsQuiet graph q f edges
-  is_quiet sound = (
+  pub is_exact : IsGrounded graph q f edges → IsExact graph q f edges
+  is_exact sound = (
     λ a n v. (is_edge a n v, sound.edge a n v),
     λ s k. (is_given s k, sound.given s k),
   )

@@ -19,50 +19,50 @@ use Rattle.summaries.specs.declared.found.Found.{Found}
 use Rattle.summaries.specs.Under.{under}
 use Rattle.summaries.specs.Mails.{mail}
 use Rattle.summaries.specs.Dues.{caller_of, due_of}
-use Rattle.summaries.specs.Found.{call, call_eq, edge, site, pair, HasTaken, HasSite, HasExit, HasGiven, IsPending, IsSound, IsWorked, IsComplete, IsEmpty}
+use Rattle.summaries.specs.Found.{call, call_eq, edge, site, pair, TookMessage, HasSite, HasExit, HasGiven, IsPending, IsGrounded, IsWorked, IsComplete, IsEmpty}
 use Rattle.summaries.specs.Grows.{triple_of}
 use Rattle.summaries.specs.Tables.{HasMore}
 
 -- A step of the table of procedure q from f, with the edges es, to g, with the edges ds: what comes to be held is reached
 -- and sent, nothing goes, and what is then to be held beside it is held.
 pub record Step {A G : Type 0} (graph : Graph G) (q : ℕ) (f g : Found A) (es ds : List Triple) : Type 0 where
-  pub taken : (k : NumberedMessage) → HasTaken f k → HasTaken g k
+  pub taken : (k : NumberedMessage) → TookMessage f k → TookMessage g k
   pub kept : (t : Triple) → Member t es → Member t ds
-  pub edge : (t : Triple) → Member t ds → Member t es ⊎ Reaches graph (HasTaken g) t.entry t.point t.values
+  pub edge : (t : Triple) → Member t ds → Member t es ⊎ Reaches graph (TookMessage g) t.entry t.point t.values
   pub new : (t : Triple) → Member t ds → Member t es ⊎ IsPending g t.entry t.point t.values
   pub stays : (e : Edge) → Member e f.pending.items → Member e g.pending.items
   pub pending : (e : Edge) → Member e g.pending.items → Member e f.pending.items ⊎ Member (triple_of e) ds
   pub sites : (s e a n v : ℕ) → HasSite f s e (site a n v) → HasSite g s e (site a n v)
   pub called : (s e a n' v : ℕ) → HasSite g s e (site a n' v) → HasSite f s e (site a n' v) ⊎ ((n : ℕ) × (flow : Flow G)
-      × Reaches graph (HasTaken g) a n v × (slice_get graph.flows.items n ≡ Some flow) × (entered_by flow v ≡ Some (s, e, n')))
+      × Reaches graph (TookMessage g) a n v × (slice_get graph.flows.items n ≡ Some flow) × (entered_by flow v ≡ Some (s, e, n')))
   pub exits : (a b : ℕ) → HasExit f a b → HasExit g a b
-  pub exit : (a b : ℕ) → HasExit g a b → HasExit f a b ⊎ Leaves graph (HasTaken g) a b
+  pub exit : (a b : ℕ) → HasExit g a b → HasExit f a b ⊎ Leaves graph (TookMessage g) a b
   pub gives : (s : ℕ) (k : NumberedMessage) → HasGiven f s k → HasGiven g s k
-  pub given : (s : ℕ) (k : NumberedMessage) → HasGiven g s k → HasGiven f s k ⊎ Sends graph q (HasTaken g) s k
-  pub begun : (from : Caller) (a : ℕ) → HasTaken g (numbered_entry from a) → HasTaken f (numbered_entry from a) ⊎ Member (triple a graph.start a) ds
-  pub ended : (s e b a n v : ℕ) → HasSite g s e (site a n v) → HasTaken g (numbered_summary s e b) →
-      HasSite f s e (site a n v) × HasTaken f (numbered_summary s e b) ⊎ Member (triple a n (resumed graph.globals v b)) ds
+  pub given : (s : ℕ) (k : NumberedMessage) → HasGiven g s k → HasGiven f s k ⊎ Sends graph q (TookMessage g) s k
+  pub begun : (from : Caller) (a : ℕ) → TookMessage g (numbered_entry from a) → TookMessage f (numbered_entry from a) ⊎ Member (triple a graph.start a) ds
+  pub ended : (s e b a n v : ℕ) → HasSite g s e (site a n v) → TookMessage g (numbered_summary s e b) →
+      HasSite f s e (site a n v) × TookMessage f (numbered_summary s e b) ⊎ Member (triple a n (resumed graph.globals v b)) ds
   pub asks : (s e a n v : ℕ) → HasSite g s e (site a n v) → HasSite f s e (site a n v) ⊎ HasGiven g s (numbered_entry (caller q) e)
-  pub tells : (a b c : ℕ) → HasExit g a b → HasTaken g (numbered_entry (caller c) a) →
-      HasExit f a b × HasTaken f (numbered_entry (caller c) a) ⊎ HasGiven g c (numbered_summary q a b)
+  pub tells : (a b c : ℕ) → HasExit g a b → TookMessage g (numbered_entry (caller c) a) →
+      HasExit f a b × TookMessage f (numbered_entry (caller c) a) ⊎ HasGiven g c (numbered_summary q a b)
   pub pairs : ((a b : ℕ) → Member (pair a b) f.pairs.keys ↔ HasExit f a b) → (a b : ℕ) → Member (pair a b) g.pairs.keys ↔ HasExit g a b
 
 module _ {A G : Type 0} (graph : Graph G) (q : ℕ) (f g : Found A) (es ds : List Triple) (step : Step graph q f g es ds) where
   -- after a step all is reached and sent
-  pub still_sound : IsSound graph q f es → IsSound graph q g ds
-  still_sound old = record {
+  pub still_grounded : IsGrounded graph q f es → IsGrounded graph q g ds
+  still_grounded old = record {
     edge = λ a n v m. elim (step.edge (triple a n v) m) [ inl was ↦ more a n v (old.edge a n v was) | inr is ↦ is ];
     site = λ s e a n' v m. elim (step.called s e a n' v m) [
       | inl was ↦ let (n, flow, reached, here, enters) = old.site s e a n' v was in (n, flow, more a n v reached, here, enters)
       | inr is ↦ is
     ];
     exit = λ a b m. elim (step.exit a b m) [ inl was ↦ let (v, reached, is) = old.exit a b was in (v, more a 0 v reached, is) | inr is ↦ is ];
-    given = λ s k m. elim (step.given s k m) [ inl was ↦ sends_more graph (HasTaken f) (HasTaken g) step.taken q s k (old.given s k was) | inr is ↦ is ];
+    given = λ s k m. elim (step.given s k m) [ inl was ↦ sends_more graph (TookMessage f) (TookMessage g) step.taken q s k (old.given s k was) | inr is ↦ is ];
     pending = λ a n v m. elim (step.pending (edge a n v) m) [ inl was ↦ step.kept (triple a n v) (old.pending a n v was) | inr is ↦ is ];
   }
     where
-      more : (a n v : ℕ) → Reaches graph (HasTaken f) a n v → Reaches graph (HasTaken g) a n v
-      more = reaches_more graph (HasTaken f) (HasTaken g) step.taken
+      more : (a n v : ℕ) → Reaches graph (TookMessage f) a n v → Reaches graph (TookMessage g) a n v
+      more = reaches_more graph (TookMessage f) (TookMessage g) step.taken
 
   -- what was worked on is
   still_worked : (a n v : ℕ) → IsWorked graph q f es a n v → IsWorked graph q g ds a n v
@@ -115,13 +115,13 @@ pub has_more : (limit : ℕ) (es : List Triple) (P : Triple → Type 0) → None
 has_more limit es P once all t is new full = (t ∷ es, (new, once), omega (arith, full), λ u m. elim m [ inl e ↦ subst P (sym e) is | inr was ↦ all u was ])
 
 -- by the same messages taken the edges of a table are reached
-pub all_reached : {A G : Type 0} (graph : Graph G) (q : ℕ) (f g : Found A) (es : List Triple) → IsSound graph q f es → ((k : NumberedMessage) → HasTaken f k → HasTaken g k) →
-    (t : Triple) → Member t es → Reaches graph (HasTaken g) t.entry t.point t.values
-all_reached graph q f g es sound taken t m = reaches_more graph (HasTaken f) (HasTaken g) taken t.entry t.point t.values (sound.edge t.entry t.point t.values m)
+pub all_reached : {A G : Type 0} (graph : Graph G) (q : ℕ) (f g : Found A) (es : List Triple) → IsGrounded graph q f es → ((k : NumberedMessage) → TookMessage f k → TookMessage g k) →
+    (t : Triple) → Member t es → Reaches graph (TookMessage g) t.entry t.point t.values
+all_reached graph q f g es sound taken t m = reaches_more graph (TookMessage f) (TookMessage g) taken t.entry t.point t.values (sound.edge t.entry t.point t.values m)
 
 -- where the entries and the summaries are the same, so are the messages taken
 pub taken_as : {A : Type 0} (f g : Found A) → ((a : ℕ) → under nat_eq g.entries.by_key a ≡ under nat_eq f.entries.by_key a) → ((c : Call) → under call_eq g.summaries.by_key c ≡ under call_eq f.summaries.by_key c) →
-    (k : NumberedMessage) → HasTaken f k → HasTaken g k
+    (k : NumberedMessage) → TookMessage f k → TookMessage g k
 taken_as f g entries summaries (numbered_entry from a) h = subst (Member (caller_of from)) (sym (entries a)) h
 taken_as f g entries summaries (numbered_summary s a b) h = subst (Member b) (sym (summaries (call s a))) h
 
@@ -164,11 +164,11 @@ module _ {A G : Type 0} (graph : Graph G) (q : ℕ) (f : Found A) (es : List Tri
   abbrev pub popped_to : Found A
   popped_to = record { entries = f.entries; summaries = f.summaries; sites = f.sites; exits = f.exits; pairs = f.pairs; given = f.given; pending = pending }
 
-  taken_there : (k : NumberedMessage) → HasTaken f k → HasTaken popped_to k
+  taken_there : (k : NumberedMessage) → TookMessage f k → TookMessage popped_to k
   taken_there = taken_as f popped_to (λ a. refl) (λ c. refl)
 
-  more : (a n v : ℕ) → Reaches graph (HasTaken f) a n v → Reaches graph (HasTaken popped_to) a n v
-  more = reaches_more graph (HasTaken f) (HasTaken popped_to) taken_there
+  more : (a n v : ℕ) → Reaches graph (TookMessage f) a n v → Reaches graph (TookMessage popped_to) a n v
+  more = reaches_more graph (TookMessage f) (TookMessage popped_to) taken_there
 
   -- what was pending is pending or is the edge
   was : (x : Edge) → Member x f.pending.items → Member x pending.items ⊎ (x ≡ e)
@@ -177,12 +177,12 @@ module _ {A G : Type 0} (graph : Graph G) (q : ℕ) (f : Found A) (es : List Tri
     | inr last ↦ elim last [ inl is ↦ inr is | inr none ↦ elim none [ ] ]
   ]
 
-  pub popped_sound : IsSound graph q f es → IsSound graph q popped_to es
-  popped_sound old = record {
+  pub popped_grounded : IsGrounded graph q f es → IsGrounded graph q popped_to es
+  popped_grounded old = record {
     edge = λ a n v m. more a n v (old.edge a n v m);
     site = λ s x a n' v m. let (n, flow, reached, here, enters) = old.site s x a n' v m in (n, flow, more a n v reached, here, enters);
     exit = λ a b m. let (v, reached, is) = old.exit a b m in (v, more a 0 v reached, is);
-    given = λ s k m. sends_more graph (HasTaken f) (HasTaken popped_to) taken_there q s k (old.given s k m);
+    given = λ s k m. sends_more graph (TookMessage f) (TookMessage popped_to) taken_there q s k (old.given s k m);
     pending = λ a n v m. old.pending a n v (subst (Member (edge a n v)) (sym popped) (member_left (edge a n v) pending.items (e ∷ []) m));
   }
 
@@ -204,7 +204,7 @@ module _ {A G : Type 0} (graph : Graph G) (q : ℕ) (f : Found A) (es : List Tri
   }
 
   -- it is an edge
-  pub popped_edge : IsSound graph q f es → Member (triple_of e) es
+  pub popped_edge : IsGrounded graph q f es → Member (triple_of e) es
   popped_edge old = old.pending e.entry e.point e.values (subst (Member e) (sym popped) (member_right e pending.items (e ∷ []) (inl refl)))
 
 -- nothing is found yet
@@ -218,12 +218,12 @@ module _ {A G : Type 0} (graph : Graph G) (q : ℕ) (f : Found A) (es : List Tri
   no_exit : (a b : ℕ) → HasExit f a b → ⊥
   no_exit a b m = subst (Member b) (empty.exits a) m
 
-  pub no_message : (k : NumberedMessage) → HasTaken f k → ⊥
+  pub no_message : (k : NumberedMessage) → TookMessage f k → ⊥
   no_message (numbered_entry from a) h = subst (Member (caller_of from)) (empty.entries a) h
   no_message (numbered_summary s a b) h = subst (Member b) (empty.summaries (call s a)) h
 
-  pub empty_sound : IsSound graph q f es
-  empty_sound = record {
+  pub empty_grounded : IsGrounded graph q f es
+  empty_grounded = record {
     edge = λ a n v m. absurd (no_edge (triple a n v) m);
     site = λ s e a n v m. absurd (no_site s e (site a n v) m);
     exit = λ a b m. absurd (no_exit a b m);

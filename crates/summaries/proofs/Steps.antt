@@ -30,10 +30,10 @@ use Rattle.summaries.specs.declared.table_fault.TableFault.TheVariants.{Memory, 
 use Rattle.summaries.specs.declared.no_verdict.NoVerdict.TheVariants as verdict
 use Rattle.summaries.specs.Mails.{mail}
 use Rattle.summaries.specs.Dues.{due_of}
-use Rattle.summaries.specs.Found.{HasTaken}
-use Rattle.summaries.specs.Tables.{sent, IsTable, IsQuiet, StaysAs, TookAlso, TookOnly, TookSame}
+use Rattle.summaries.specs.Found.{TookMessage}
+use Rattle.summaries.specs.Tables.{graph_of, answers_of, IsTable, IsQuiet, StaysAs, TookAlso, TookOnly, TookSame}
 use Rattle.summaries.specs.Tabulated.{no_verdict, HasMoreEdges}
-use Rattle.summaries.specs.Together.{opening, graph_of, IsReceived, IsTaken, HaveLimit, AreNew, AreTables, AreQuietBefore}
+use Rattle.summaries.specs.Together.{opening, IsReceived, IsTaken, HaveLimit, AreNew, AreTables, AreQuietBefore}
 use Rattle.summaries.proofs.Replaced.{get_set, set_get}
 use Rattle.summaries.proofs.Sweeping.{same_taken, same_taken_back, Becomes, replaced}
 
@@ -79,20 +79,20 @@ module _ {G A S : Type 0} (members : S → List Triple) (p : Program) (Aside : M
 
   -- what a table has taken is due, where it has taken only a message that is due beside what it had
   pub only_due : (q : ℕ) (d : Due) (t t' : Table G A S) → slice_get ts q ≡ Some t → TookOnly d t.found t'.found
-      → ((k : NumberedMessage) → due_of k ≡ d → IsNumberOf (IsDue p q) k) → (k : NumberedMessage) → HasTaken t'.found k → IsNumberOf (IsDue p q) k
+      → ((k : NumberedMessage) → due_of k ≡ d → IsNumberOf (IsDue p q) k) → (k : NumberedMessage) → TookMessage t'.found k → IsNumberOf (IsDue p q) k
   only_due q d t t' is only due k taken = elim (only k taken) [ inl e ↦ due k e | inr old ↦ are.due q t k is old ]
 
-  same_due : (q : ℕ) (t t' : Table G A S) → slice_get ts q ≡ Some t → TookSame t.found t'.found → (k : NumberedMessage) → HasTaken t'.found k → IsNumberOf (IsDue p q) k
+  same_due : (q : ℕ) (t t' : Table G A S) → slice_get ts q ≡ Some t → TookSame t.found t'.found → (k : NumberedMessage) → TookMessage t'.found k → IsNumberOf (IsDue p q) k
   same_due q t t' is same k taken = are.due q t k is (same_taken_back t.found t'.found same k taken)
 
   -- a table that has failed for its limit has more edges than that
   pub too_many : (q : ℕ) (t t' : Table G A S) → slice_get ts q ≡ Some t → IsTable members t' → StaysAs t t' → t'.fault ≡ Some EdgeLimit
-      → ((k : NumberedMessage) → HasTaken t'.found k → IsNumberOf (IsDue p q) k) → (n : ℕ) → HaveLimit n ts → (s : ℕ) × HasMoreEdges p s n
+      → ((k : NumberedMessage) → TookMessage t'.found k → IsNumberOf (IsDue p q) k) → (n : ℕ) → HaveLimit n ts → (s : ℕ) × HasMoreEdges p s n
   too_many q t t' is table stays failed due n limits =
       let (xs, once, more, reached) = table.many failed in
-      let same : t'.limit.edges ≡ n = ap (λ l. l.edges) stays.limit ∙ limits q t is in
+      let same : t'.limit ≡ n = stays.limit ∙ limits q t is in
       let graph : IsGraph p q t'.graph.now = subst (IsGraph p q) (sym stays.graph) (has_graph q t is) in
-      (q, (xs, once, omega (arith, more, same), λ x m. (edge_numbers p q x.entry x.point x.values).0 (edges_reached p are.drawn.0 q t'.graph.now graph (HasTaken t'.found) due x.entry x.point x.values (reached x m))))
+      (q, (xs, once, omega (arith, more, same), λ x m. (edge_numbers p q x.entry x.point x.values).0 (edges_reached p are.drawn.0 q t'.graph.now graph (TookMessage t'.found) due x.entry x.point x.values (reached x m))))
 
   pub same_too_many : (q : ℕ) (t t' : Table G A S) → slice_get ts q ≡ Some t → IsTable members t' → StaysAs t t' → t'.fault ≡ Some EdgeLimit → TookSame t.found t'.found
       → (n : ℕ) → HaveLimit n ts → (s : ℕ) × HasMoreEdges p s n
@@ -100,14 +100,14 @@ module _ {G A S : Type 0} (members : S → List Triple) (p : Program) (Aside : M
 
   -- what a table sends is due
   pub sends_due : (q : ℕ) (t t' : Table G A S) → slice_get ts q ≡ Some t → StaysAs t t' → TookSame t.found t'.found
-      → (s : ℕ) (k : NumberedMessage) → Sends t'.graph.now t'.procedure (HasTaken t'.found) s k → IsNumberOf (IsDue p s) k
+      → (s : ℕ) (k : NumberedMessage) → Sends t'.graph.now t'.procedure (TookMessage t'.found) s k → IsNumberOf (IsDue p s) k
   sends_due q t t' is stays same s k sends =
       let graph : IsGraph p q t'.graph.now = subst (IsGraph p q) (sym stays.graph) (has_graph q t is) in
-      due_sent p are.drawn.0 q t'.graph.now graph (HasTaken t'.found) (same_due q t t' is same) are.drawn.1 s k
-      (subst (λ n. Sends t'.graph.now n (HasTaken t'.found) s k) (stays.procedure ∙ are.number q t is) sends)
+      due_sent p are.drawn.0 q t'.graph.now graph (TookMessage t'.found) (same_due q t t' is same) are.drawn.1 s k
+      (subst (λ n. Sends t'.graph.now n (TookMessage t'.found) s k) (stays.procedure ∙ are.number q t is) sends)
 
   pub mail_due : (q : ℕ) (t t' : Table G A S) → slice_get ts q ≡ Some t → StaysAs t t' → TookSame t.found t'.found → (s : ℕ) (d : Due)
-      → ((k : NumberedMessage) → due_of k ≡ d → Sends t'.graph.now t'.procedure (HasTaken t'.found) s k) → (k : NumberedMessage) → due_of k ≡ d → IsNumberOf (IsDue p s) k
+      → ((k : NumberedMessage) → due_of k ≡ d → Sends t'.graph.now t'.procedure (TookMessage t'.found) s k) → (k : NumberedMessage) → due_of k ≡ d → IsNumberOf (IsDue p s) k
   mail_due q t t' is stays same s d sends k e = sends_due q t t' is stays same s k (sends k e)
 
   -- so its receiver is there
@@ -127,16 +127,16 @@ module _ {G A S : Type 0} (members : S → List Triple) (p : Program) (Aside : M
 -- a table answers a message, which then is left aside
 pub answered : {G A S : Type 0} (members : S → List Triple) (p : Program) (ts : List (Table G A S)) → AreTables members p (λ x. ⊥) ts
     → (q : ℕ) (t t' : Table G A S) → slice_get ts q ≡ Some t → IsTable members t' → t'.fault ≡ None → StaysAs t t' → TookSame t.found t'.found
-    → (x : Mail) → sent t'.found ≡ sent t.found ++ x ∷ [] → AreTables members p (λ y. y ≡ x) (slice_set ts q t')
+    → (x : Mail) → answers_of t' ≡ answers_of t ++ x ∷ [] → AreTables members p (λ y. y ≡ x) (slice_set ts q t')
 answered members p ts are q t t' is table whole stays same x more =
     replaced members p (λ y. ⊥) (λ y. y ≡ x) ts q t t' are is (goes_on members p (λ y. ⊥) ts are q t t' is table whole stays same)
-    (λ y m. elim (member_append y (sent t.found) (x ∷ []) (subst (Member y) more m)) [ inl old ↦ inl old | inr last ↦ elim last [ inl e ↦ inr e | inr none ↦ absurd none ] ])
+    (λ y m. elim (member_append y (answers_of t) (x ∷ []) (subst (Member y) more m)) [ inl old ↦ inl old | inr last ↦ elim last [ inl e ↦ inr e | inr none ↦ absurd none ] ])
     (λ y h. absurd h)
 
 -- a table has nothing to answer
 pub answered_none : {G A S : Type 0} (members : S → List Triple) (p : Program) (ts : List (Table G A S)) → AreTables members p (λ x. ⊥) ts
     → (q : ℕ) (t t' : Table G A S) → slice_get ts q ≡ Some t → IsTable members t' → t'.fault ≡ None → StaysAs t t' → TookSame t.found t'.found
-    → sent t'.found ≡ sent t.found → AreTables members p (λ y. ⊥) (slice_set ts q t')
+    → answers_of t' ≡ answers_of t → AreTables members p (λ y. ⊥) (slice_set ts q t')
 answered_none members p ts are q t t' is table whole stays same none =
     replaced members p (λ y. ⊥) (λ y. ⊥) ts q t t' are is (goes_on members p (λ y. ⊥) ts are q t t' is table whole stays same)
     (λ y m. inl (subst (Member y) none m)) (λ y h. inl h)
@@ -144,7 +144,7 @@ answered_none members p ts are q t t' is table whole stays same none =
 -- the receiver takes the message that is left aside
 pub delivered : {G A S : Type 0} (members : S → List Triple) (p : Program) (s : ℕ) (d : Due) (ts : List (Table G A S)) → AreTables members p (λ y. y ≡ mail s d) ts
     → (t t' : Table G A S) → slice_get ts s ≡ Some t → IsTable members t' → t'.fault ≡ None → StaysAs t t' → TookAlso d t.found t'.found → TookOnly d t.found t'.found
-    → sent t'.found ≡ sent t.found → ((k : NumberedMessage) → due_of k ≡ d → IsNumberOf (IsDue p s) k) → AreTables members p (λ y. ⊥) (slice_set ts s t')
+    → answers_of t' ≡ answers_of t → ((k : NumberedMessage) → due_of k ≡ d → IsNumberOf (IsDue p s) k) → AreTables members p (λ y. ⊥) (slice_set ts s t')
 delivered {G} {A} {S} members p s d ts are t t' is table whole stays also only none due =
     replaced members p (λ y. y ≡ mail s d) (λ y. ⊥) ts s t t' are is becomes (λ y m. inl (subst (Member y) none m))
     (λ y e. inr (subst (IsReceived (slice_set ts s t')) (sym e) taken))
@@ -188,7 +188,7 @@ module _ {G A S : Type 0} (members : S → List Triple) where
 module _ {G A S : Type 0} where
   -- how many messages the tables may answer still, where each may answer fewer than n
   abbrev pub left_of : ℕ → Table G A S → ℕ
-  left_of n t = n - length (sent t.found)
+  left_of n t = n - length (answers_of t)
 
   pub room : ℕ → List (Table G A S) → ℕ
   room n ts = sum_by (left_of n) ts
@@ -200,13 +200,13 @@ module _ {G A S : Type 0} where
       let moved = sum_by-set (left_of n) ts i t' t (slice_get_within ts i t is) in
       omega (arith, same, moved)
 
-  pub less_room : (n : ℕ) (ts : List (Table G A S)) (i : ℕ) (t t' : Table G A S) (x : Mail) → slice_get ts i ≡ Some t → sent t'.found ≡ sent t.found ++ x ∷ [] → length (sent t'.found) < n
+  pub less_room : (n : ℕ) (ts : List (Table G A S)) (i : ℕ) (t t' : Table G A S) (x : Mail) → slice_get ts i ≡ Some t → answers_of t' ≡ answers_of t ++ x ∷ [] → length (answers_of t') < n
       → room n (slice_set ts i t') < room n ts
   less_room n ts i t t' x is more few =
-      let longer : length (sent t'.found) ≡ length (sent t.found) + 1 = ap length more ∙ length-append (sent t.found) (x ∷ []) in
+      let longer : length (answers_of t') ≡ length (answers_of t) + 1 = ap length more ∙ length-append (answers_of t) (x ∷ []) in
       omega (arith, room_set n ts i t t' is, longer, few)
 
-  pub same_room : (n : ℕ) (ts : List (Table G A S)) (i : ℕ) (t t' : Table G A S) → slice_get ts i ≡ Some t → sent t'.found ≡ sent t.found → room n (slice_set ts i t') ≡ room n ts
+  pub same_room : (n : ℕ) (ts : List (Table G A S)) (i : ℕ) (t t' : Table G A S) → slice_get ts i ≡ Some t → answers_of t' ≡ answers_of t → room n (slice_set ts i t') ≡ room n ts
   same_room n ts i t t' is same =
       let kept : left_of n t' ≡ left_of n t = ap (λ l. n - length l) same in
       omega (arith, room_set n ts i t t' is, kept)
@@ -246,7 +246,7 @@ new_tables members p ts drawn new = record {
   number = new.number;
   due = λ q t k is taken. absurd ((new.fresh q t is).nothing k taken);
   opened = λ t is. inl refl;
-  sent = λ q t x is m. absurd (subst (Member x) (new.fresh q t is).answered m);
+  answers = λ q t x is m. absurd (subst (Member x) (new.fresh q t is).answered m);
 }
 
 -- where there are no tables, nothing is left aside
@@ -258,6 +258,6 @@ none_aside members p Aside [] none are = record {
   number = are.number;
   due = are.due;
   opened = λ t e. absurd (none-some t e);
-  sent = λ q t x e m. absurd (none-some t e);
+  answers = λ q t x e m. absurd (none-some t e);
 }
 none_aside members p Aside (t ∷ ts) none are = absurd (omega (arith, none))

@@ -13,51 +13,51 @@ use Rattle.summaries.specs.declared.given.Mail.{Mail}
 use Rattle.summaries.specs.declared.table.Table.{Table}
 use Rattle.summaries.specs.Mails.{mail}
 use Rattle.summaries.specs.Dues.{due_of}
-use Rattle.summaries.specs.Found.{HasTaken, HasGiven, IsSound, IsComplete}
+use Rattle.summaries.specs.Found.{TookMessage, HasGiven, IsGrounded, IsComplete}
 use Rattle.summaries.specs.Tables as tables
-use Rattle.summaries.specs.Tables.{sent, IsReached, IsTable}
-use Rattle.summaries.proofs.Quiet.{is_quiet, is_left}
-use Rattle.summaries.proofs.Stepping.{same_to, same_step, still_sound, still_complete}
+use Rattle.summaries.specs.Tables.{answers_of, IsReached, IsTable}
+use Rattle.summaries.proofs.Quiet.{is_exact, is_left}
+use Rattle.summaries.proofs.Stepping.{same_to, same_step, still_grounded, still_complete}
 
 module _ {G A S : Type 0} (members : S → List Triple) (t : Table G A S) (g : Found A) (paired : g.pairs.keys ≡ t.found.pairs.keys) (gave : g.given.mails.keys ≡ t.found.given.mails.keys)
     (pended : g.pending.items ≡ t.found.pending.items) where
   abbrev there : Found A
   there = same_to t.graph.now t.procedure t.found g (members t.edges) paired gave pended
 
-  taken : (k : NumberedMessage) → HasTaken t.found k → HasTaken there k
+  taken : (k : NumberedMessage) → TookMessage t.found k → TookMessage there k
   taken = (same_step t.graph.now t.procedure t.found g (members t.edges) paired gave pended).taken
 
   -- a table stays one where nothing that it finds changes
   pub same_table : IsTable members t → IsTable members (record { graph = t.graph; procedure = t.procedure; limit = t.limit; edges = t.edges; found = there; fault = t.fault })
   same_table old = record {
-    edges = λ x m. reaches_more t.graph.now (HasTaken t.found) (HasTaken there) taken x.entry x.point x.values (old.edges x m);
+    edges = λ x m. reaches_more t.graph.now (TookMessage t.found) (TookMessage there) taken x.entry x.point x.values (old.edges x m);
     within = old.within;
     holds = λ none.
         let step = same_step t.graph.now t.procedure t.found g (members t.edges) paired gave pended in
         let held = old.holds none in (
-          still_sound t.graph.now t.procedure t.found there (members t.edges) (members t.edges) step held.0,
+          still_grounded t.graph.now t.procedure t.found there (members t.edges) (members t.edges) step held.0,
           still_complete t.graph.now t.procedure t.found there (members t.edges) (members t.edges) step (λ x. ⊥) held.1,
         );
     many = λ is.
         let (ts, once, more, all) = old.many is in
-        (ts, once, more, λ x m. reaches_more t.graph.now (HasTaken t.found) (HasTaken there) taken x.entry x.point x.values (all x m));
+        (ts, once, more, λ x m. reaches_more t.graph.now (TookMessage t.found) (TookMessage there) taken x.entry x.point x.values (all x m));
   }
 
 -- the message that is answered next is given, so it is sent
 pub next_sent : {A : Type 0} (f : Found A) (r : Option (ℕ × Due)) (n : ℕ) (keys : List Mail) → keys ≡ f.given.mails.keys →
-    IfSome r (λ m. take n keys ≡ sent f ++ mail m.0 m.1 ∷ []) → (P : ℕ → NumberedMessage → Type 0) → ((s : ℕ) (k : NumberedMessage) → HasGiven f s k → P s k) →
+    IfSome r (λ m. take n keys ≡ take f.given.answered f.given.mails.keys ++ mail m.0 m.1 ∷ []) → (P : ℕ → NumberedMessage → Type 0) → ((s : ℕ) (k : NumberedMessage) → HasGiven f s k → P s k) →
     IfSome r (λ m. (k : NumberedMessage) → due_of k ≡ m.1 → P m.0 k)
 next_sent f None n keys same next P gives = tt
 next_sent f (Some (to, due)) n keys same next P gives = λ k is.
-    let there : Member (mail to due) (take n keys) = subst (Member (mail to due)) (sym next) (member_right (mail to due) (sent f) (mail to due ∷ []) (inl refl)) in
+    let there : Member (mail to due) (take n keys) = subst (Member (mail to due)) (sym next) (member_right (mail to due) (take f.given.answered f.given.mails.keys) (mail to due ∷ []) (inl refl)) in
     let all : Member (mail to due) keys = subst (Member (mail to due)) (take-append-drop n keys) (member_left (mail to due) (take n keys) (drop n keys) there) in
     gives to k (subst (λ d. Member (mail to d) f.given.mails.keys) (sym is) (subst (Member (mail to due)) same all))
 
 -- a table with nothing pending that has answered all it gave is quiet
-pub quiet_table : {G A S : Type 0} (members : S → List Triple) (t : Table G A S) → IsSound t.graph.now t.procedure t.found (members t.edges) → IsComplete t.graph.now t.procedure t.found (members t.edges) (λ x. ⊥) →
-    t.found.pending.items ≡ [] → sent t.found ≡ t.found.given.mails.keys → tables.IsQuiet members t
+pub quiet_table : {G A S : Type 0} (members : S → List Triple) (t : Table G A S) → IsGrounded t.graph.now t.procedure t.found (members t.edges) → IsComplete t.graph.now t.procedure t.found (members t.edges) (λ x. ⊥) →
+    t.found.pending.items ≡ [] → answers_of t ≡ t.found.given.mails.keys → tables.IsQuiet members t
 quiet_table members t sound complete none all =
-    let quiet = is_quiet t.graph.now t.procedure t.found (members t.edges) complete none sound in record {
+    let quiet = is_exact t.graph.now t.procedure t.found (members t.edges) complete none sound in record {
       edges = quiet.0;
       sends = λ s k. (λ h. subst (Member (mail s (due_of k))) (sym all) ((quiet.1 s k).0 h), λ m. (quiet.1 s k).1 (subst (Member (mail s (due_of k))) all m));
       leaves = λ a b. (

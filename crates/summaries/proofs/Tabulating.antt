@@ -15,15 +15,15 @@ use Rattle.flow_graph.proofs.Taking.{there_too, edges_taken}
 use Rattle.flow_graph.proofs.Pairs.{edge_numbers, pairs_left, bad_left, entries_taken}
 use Rattle.summaries.specs.declared.due.Caller as callers
 use Rattle.summaries.specs.declared.due.Caller.TheVariants.{Starter, Proc}
-use Rattle.summaries.specs.declared.summaries.Summary.{Summary}
 use Rattle.summaries.specs.declared.table.Table.{Table}
 use Rattle.summaries.specs.Under.{under}
 use Rattle.summaries.specs.Mails.{mail}
 use Rattle.summaries.specs.Dues.{caller_of, due_of}
-use Rattle.summaries.specs.Found.{pair, HasTaken}
-use Rattle.summaries.specs.Tables.{IsQuiet}
+use Rattle.summaries.specs.Found.{pair, TookMessage}
+use Rattle.summaries.specs.Tables.{graph_of, IsQuiet}
+use Rattle.summaries.specs.Effects.{Effect}
 use Rattle.summaries.specs.Tabulated.{IsSummary, HasMoreEdges}
-use Rattle.summaries.specs.Together.{graph_of, IsTaken, HaveLimit, IsReadOff, AreReadOff, AreTables, AreQuietBefore}
+use Rattle.summaries.specs.Together.{IsTaken, HaveLimit, IsReadOff, AreReadOff, AreTables, AreQuietBefore}
 use Rattle.summaries.proofs.Once.{no_longer}
 use Rattle.summaries.proofs.Steps.{get_map, as_many}
 
@@ -94,10 +94,10 @@ module _ {G A S : Type 0} (members : S → List Triple) (p : Program) (ts : List
     sent_taken : (q s : ℕ) (graph : Graph G) (k : NumberedMessage) → slice_get (map graph_of ts) q ≡ Some graph → Sends graph q (T q) s k → T s k
     sent_taken q s graph k here sends =
         let (t, is, same) = got_map graph_of ts q graph here in
-        let by_table : Sends t.graph.now t.procedure (HasTaken t.found) s k =
-        subst (λ n. Sends t.graph.now n (HasTaken t.found) s k) (sym (are.number q t is))
+        let by_table : Sends t.graph.now t.procedure (TookMessage t.found) s k =
+        subst (λ n. Sends t.graph.now n (TookMessage t.found) s k) (sym (are.number q t is))
         (subst (λ (o : Option (Table G A S)). Sends t.graph.now q (IsTaken o) s k) is (subst (λ (g : Graph G). Sends g q (T q) s k) same sends)) in
-        elim (are.sent q t (mail s (due_of k)) is (((quiet_at q t is).sends s k).0 by_table)) [ inl none ↦ absurd none | inr received ↦ received k refl ]
+        elim (are.answers q t (mail s (due_of k)) is (((quiet_at q t is).sends s k).0 by_table)) [ inl none ↦ absurd none | inr received ↦ received k refl ]
 
     module _ (q : ℕ) (t : Table G A S) (is : slice_get ts q ≡ Some t) where
       started : T 0 (numbered_entry starter 0)
@@ -107,7 +107,7 @@ module _ {G A S : Type 0} (members : S → List Triple) (p : Program) (ts : List
       here = get_map graph_of ts q t is
 
       -- the entries that the table has taken are those of its procedure
-      pub table_entries : (a : ℕ) → ((from : Caller) × HasTaken t.found (numbered_entry from a)) ↔ IsNumberOfEntry p q a
+      pub table_entries : (a : ℕ) → ((from : Caller) × TookMessage t.found (numbered_entry from a)) ↔ IsNumberOfEntry p q a
       table_entries a =
           subst (λ (o : Option (Table G A S)). ((from : Caller) × IsTaken o (numbered_entry from a)) ↔ IsNumberOfEntry p q a) is
           (entries_taken p (map graph_of ts) T are.drawn.0 are.drawn.2 started sent_taken is_due q a)
@@ -115,7 +115,7 @@ module _ {G A S : Type 0} (members : S → List Triple) (p : Program) (ts : List
       -- the pairs that it keeps are those of its procedure
       pub table_pairs : (a b : ℕ) → Member (pair a b) t.found.pairs.keys ↔ AreNumbersOfPair p q a b
       table_pairs a b =
-          let pairs : Leaves t.graph.now (HasTaken t.found) a b ↔ AreNumbersOfPair p q a b =
+          let pairs : Leaves t.graph.now (TookMessage t.found) a b ↔ AreNumbersOfPair p q a b =
           subst (λ (o : Option (Table G A S)). Leaves t.graph.now (IsTaken o) a b ↔ AreNumbersOfPair p q a b) is
           (pairs_left p (map graph_of ts) T are.drawn.0 are.drawn.2 started sent_taken is_due are.drawn.1 q t.graph.now here a b) in
           let left = (quiet_at q t is).leaves a b in
@@ -124,7 +124,7 @@ module _ {G A S : Type 0} (members : S → List Triple) (p : Program) (ts : List
       -- the path edges that it keeps are those of its procedure
       pub table_edges : (a n v : ℕ) → Member (triple a n v) (members t.edges) ↔ AreNumbersOfEdge p q a n v
       table_edges a n v =
-          let edges : Reaches t.graph.now (HasTaken t.found) a n v ↔ AreNumbersOfEdge p q a n v =
+          let edges : Reaches t.graph.now (TookMessage t.found) a n v ↔ AreNumbersOfEdge p q a n v =
           subst (λ (o : Option (Table G A S)). Reaches t.graph.now (IsTaken o) a n v ↔ AreNumbersOfEdge p q a n v) is
           (let taken = edges_taken p (map graph_of ts) T are.drawn.0 are.drawn.2 started sent_taken is_due q t.graph.now here a n v in
           let numbers = edge_numbers p q a n v in
@@ -152,13 +152,13 @@ module _ {G A S : Type 0} (members : S → List Triple) (p : Program) (ts : List
           λ h. bits.1 (h.0, h.1, subst (λ (o : Option (Table G A S)). Leaves t.graph.now (IsTaken o) h.0 h.1) (sym is) (((quiet_at 0 t is).leaves h.0 h.1).0 h.2), h.3),
         )
 
-    module _ (ss : List (Summary A)) (as_long : length ss ≡ length ts) (read : AreReadOff ts ss) where
+    module _ (ss : List Effect) (as_long : length ss ≡ length ts) (read : AreReadOff ts ss) where
       -- a summary and its table
-      table_of : (q : ℕ) (s : Summary A) → slice_get ss q ≡ Some s → (t : Table G A S) × (slice_get ts q ≡ Some t) × IsReadOff t s
+      table_of : (q : ℕ) (s : Effect) → slice_get ss q ≡ Some s → (t : Table G A S) × (slice_get ts q ≡ Some t) × IsReadOff t s
       table_of q s is = let (t, there) = there_too ss ts q s as_long is in (t, there, read q t s there is)
 
       -- what is read off are the summaries of the procedures
-      pub all_summaries : (q : ℕ) (s : Summary A) → slice_get ss q ≡ Some s → IsSummary p q s
+      pub all_summaries : (q : ℕ) (s : Effect) → slice_get ss q ≡ Some s → IsSummary p q s
       all_summaries q s is =
           let (t, there, off) = table_of q s is in
           record {
@@ -178,7 +178,7 @@ module _ {G A S : Type 0} (members : S → List Triple) (p : Program) (ts : List
 
       -- and some pair is bad where the program has a bad pair
       pub all_bad : (bad : ℕ)
-          → ((s : Summary A) × (slice_get ss 0 ≡ Some s) × ((a : ℕ) × (b : ℕ) × Member (pair a b) s.pairs.items × (bit_of b bad ≡ true))) ↔ SomeBad p bad
+          → ((s : Effect) × (slice_get ss 0 ≡ Some s) × ((a : ℕ) × (b : ℕ) × Member (pair a b) s.pairs × (bit_of b bad ≡ true))) ↔ SomeBad p bad
       all_bad bad = (
         λ h. let (t, there, off) = table_of 0 h.0 h.1 in
             let (a, b, m, bit) = h.2 in

@@ -45,13 +45,13 @@ pair a b = record { a = a; b = b }
 
 module _ {A : Type 0} (f : Found A) where
   -- the table has taken the message
-  abbrev pub HasTakenDue : Due → Type 0
-  HasTakenDue (Entry from a) = Member from (under nat_eq f.entries.by_key a)
-  HasTakenDue (Summary s e b) = Member b (under call_eq f.summaries.by_key (call s e))
+  abbrev pub TookDue : Due → Type 0
+  TookDue (Entry from a) = Member from (under nat_eq f.entries.by_key a)
+  TookDue (Summary s e b) = Member b (under call_eq f.summaries.by_key (call s e))
 
   -- the table has taken the message of these numbers
-  abbrev pub HasTaken : NumberedMessage → Type 0
-  HasTaken k = HasTakenDue (due_of k)
+  abbrev pub TookMessage : NumberedMessage → Type 0
+  TookMessage k = TookDue (due_of k)
 
   -- a call of s with the entry valuation e stands at this site
   abbrev pub HasSite : ℕ → ℕ → Site → Type 0
@@ -72,12 +72,12 @@ module _ {A : Type 0} (f : Found A) where
 module _ {A G : Type 0} (graph : Graph G) (q : ℕ) (f : Found A) (edges : List Triple) where
   -- Each edge is reached by the messages taken, each site at its call, and each exit; each message given is sent; what is
   -- pending is an edge.
-  pub record IsSound : Type 0 where
-    pub edge : (a n v : ℕ) → Member (triple a n v) edges → Reaches graph (HasTaken f) a n v
+  pub record IsGrounded : Type 0 where
+    pub edge : (a n v : ℕ) → Member (triple a n v) edges → Reaches graph (TookMessage f) a n v
     pub site : (s e a n' v : ℕ) → HasSite f s e (site a n' v) → (n : ℕ) × (flow : Flow G)
-        × Reaches graph (HasTaken f) a n v × (slice_get graph.flows.items n ≡ Some flow) × (entered_by flow v ≡ Some (s, e, n'))
-    pub exit : (a b : ℕ) → HasExit f a b → Leaves graph (HasTaken f) a b
-    pub given : (s : ℕ) (k : NumberedMessage) → HasGiven f s k → Sends graph q (HasTaken f) s k
+        × Reaches graph (TookMessage f) a n v × (slice_get graph.flows.items n ≡ Some flow) × (entered_by flow v ≡ Some (s, e, n'))
+    pub exit : (a b : ℕ) → HasExit f a b → Leaves graph (TookMessage f) a b
+    pub given : (s : ℕ) (k : NumberedMessage) → HasGiven f s k → Sends graph q (TookMessage f) s k
     pub pending : (a n v : ℕ) → IsPending f a n v → Member (triple a n v) edges
 
   -- The edge is worked on: where its choices lead are edges, its call stands as a site, and at the exit its globals as an
@@ -93,19 +93,19 @@ module _ {A G : Type 0} (graph : Graph G) (q : ℕ) (f : Found A) (edges : List 
   -- summary meet is the edge behind the call; each site's entry is given; where an exit and a caller's entry meet is the
   -- summary given; the pairs are the exits.
   pub record IsComplete (Aside : Triple → Type 0) : Type 0 where
-    pub begun : (from : Caller) (a : ℕ) → HasTaken f (numbered_entry from a) → Member (triple a graph.start a) edges
+    pub begun : (from : Caller) (a : ℕ) → TookMessage f (numbered_entry from a) → Member (triple a graph.start a) edges
     pub worked : (a n v : ℕ) → Member (triple a n v) edges → Aside (triple a n v) ⊎ (IsPending f a n v ⊎ IsWorked a n v)
-    pub ended : (s e b a n' v : ℕ) → HasSite f s e (site a n' v) → HasTaken f (numbered_summary s e b) →
+    pub ended : (s e b a n' v : ℕ) → HasSite f s e (site a n' v) → TookMessage f (numbered_summary s e b) →
         Member (triple a n' (resumed graph.globals v b)) edges
     pub asks : (s e a n' v : ℕ) → HasSite f s e (site a n' v) → HasGiven f s (numbered_entry (caller q) e)
-    pub tells : (a b c : ℕ) → HasExit f a b → HasTaken f (numbered_entry (caller c) a) → HasGiven f c (numbered_summary q a b)
+    pub tells : (a b c : ℕ) → HasExit f a b → TookMessage f (numbered_entry (caller c) a) → HasGiven f c (numbered_summary q a b)
     pub pairs : (a b : ℕ) → Member (pair a b) f.pairs.keys ↔ HasExit f a b
 
 -- By the messages taken the edges are what is reached, and the messages given are what is sent.
-abbrev pub IsQuiet : {A G : Type 0} → Graph G → ℕ → Found A → List Triple → Type 0
-IsQuiet graph q f edges =
-    ((a n v : ℕ) → Reaches graph (HasTaken f) a n v ↔ Member (triple a n v) edges)
-    × ((s : ℕ) (k : NumberedMessage) → Sends graph q (HasTaken f) s k ↔ HasGiven f s k)
+abbrev pub IsExact : {A G : Type 0} → Graph G → ℕ → Found A → List Triple → Type 0
+IsExact graph q f edges =
+    ((a n v : ℕ) → Reaches graph (TookMessage f) a n v ↔ Member (triple a n v) edges)
+    × ((s : ℕ) (k : NumberedMessage) → Sends graph q (TookMessage f) s k ↔ HasGiven f s k)
 
 -- nothing is found
 pub record IsEmpty {A : Type 0} (f : Found A) : Type 0 where

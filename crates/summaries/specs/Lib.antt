@@ -4,5 +4,6 @@ pub mod Dues
 pub mod Found
 pub mod Grows
 pub mod Tables
+pub mod Effects
 pub mod Tabulated
 pub mod Together

@@ -1,7 +1,8 @@
 -- What the table of one procedure promises, of which the path edges kept are listed by `members`.
-use Rattle.std.specs.Prelude.{◌≡◌, ◌≤◌, ◌<◌, ◌⊎◌, ◌↔◌, ◌+◌, ◌-◌, ◌*◌, ℕ, Option, Some, None, Result, Ok, Err, List, [], length, take}
+use Rattle.std.specs.Prelude.{◌≡◌, ◌≤◌, ◌<◌, ◌⊎◌, ◌↔◌, ◌+◌, ◌-◌, ◌*◌, ◌++◌, ◌∷◌, ℕ, Option, Some, None, Result, Ok, Err, OnOk, List, [], length, take}
 use Rattle.language.specs.Flow.{Member}
 use Rattle.path_sets.specs.Triples.{Triple, triple, NoneTwice}
+use Rattle.flow_graph.specs.declared.graph.Graph.{Graph}
 use Rattle.flow_graph.specs.Numbers.{NumberedMessage, Reaches, Sends, Leaves}
 use Rattle.summaries.specs.declared.due.Due.{Due}
 use Rattle.summaries.specs.declared.found.Found.{Found}
@@ -11,19 +12,40 @@ use Rattle.summaries.specs.declared.table_fault.TableFault.{TableFault}
 use Rattle.summaries.specs.declared.table_fault.TableFault.TheVariants.{EdgeLimit}
 use Rattle.summaries.specs.Mails.{mail}
 use Rattle.summaries.specs.Dues.{due_of}
-use Rattle.summaries.specs.Found.{pair, HasTaken, IsSound, IsComplete}
+use Rattle.summaries.specs.Found.{pair, TookMessage, IsGrounded, IsComplete}
 
--- the messages that `next` has answered, in order
-abbrev pub sent : {A : Type 0} → Found A → List Mail
-sent f = take f.given.answered f.given.mails.keys
+module _ {G A S : Type 0} where
+  -- the flow graph of the table's procedure
+  abbrev pub graph_of : Table G A S → Graph G
+  graph_of t = t.graph.now
+
+  -- the number of its procedure
+  abbrev pub procedure_of : Table G A S → ℕ
+  procedure_of t = t.procedure
+
+  -- how many path edges it may keep
+  abbrev pub limit_of : Table G A S → ℕ
+  limit_of t = t.limit
+
+  -- the path edges that it keeps
+  abbrev pub edges_of : (S → List Triple) → Table G A S → List Triple
+  edges_of members t = members t.edges
+
+  -- the messages that it has answered, in order
+  abbrev pub answers_of : Table G A S → List Mail
+  answers_of t = take t.found.given.answered t.found.given.mails.keys
+
+  -- the fault that it has failed with
+  abbrev pub failure : Table G A S → Option TableFault
+  failure t = t.fault
 
 -- The messages taken are those taken before, and this one.
 abbrev pub TookAlso : {A : Type 0} → Due → Found A → Found A → Type 0
-TookAlso d old new = (k : NumberedMessage) → HasTaken new k ↔ ((due_of k ≡ d) ⊎ HasTaken old k)
+TookAlso d old new = (k : NumberedMessage) → TookMessage new k ↔ ((due_of k ≡ d) ⊎ TookMessage old k)
 
 -- Each message taken is this one, or was taken before.
 abbrev pub TookOnly : {A : Type 0} → Due → Found A → Found A → Type 0
-TookOnly d old new = (k : NumberedMessage) → HasTaken new k → (due_of k ≡ d) ⊎ HasTaken old k
+TookOnly d old new = (k : NumberedMessage) → TookMessage new k → (due_of k ≡ d) ⊎ TookMessage old k
 
 -- The messages taken are those taken before.
 abbrev pub TookSame : {A : Type 0} → Found A → Found A → Type 0
@@ -45,7 +67,7 @@ failed_by (Err e) t = record { graph = t.graph; procedure = t.procedure; limit =
 
 -- the triple is reached by the messages that the table has taken
 abbrev pub IsReached : {G A S : Type 0} → Table G A S → Triple → Type 0
-IsReached t x = Reaches t.graph.now (HasTaken t.found) x.entry x.point x.values
+IsReached t x = Reaches t.graph.now (TookMessage t.found) x.entry x.point x.values
 
 -- The table is that of the same procedure, with the same limit.
 pub record StaysAs {G A S : Type 0} (old new : Table G A S) : Type 0 where
@@ -53,26 +75,63 @@ pub record StaysAs {G A S : Type 0} (old new : Table G A S) : Type 0 where
   pub procedure : new.procedure ≡ old.procedure
   pub limit : new.limit ≡ old.limit
 
+-- The table has answered this message: it comes behind those that were answered before, is sent by the messages taken, and is
+-- none of those answered before.
+pub record IsAnswer {G A S : Type 0} (old new : Table G A S) (to : ℕ) (d : Due) : Type 0 where
+  pub behind : answers_of new ≡ answers_of old ++ mail to d ∷ []
+  pub due : (k : NumberedMessage) → due_of k ≡ d → Sends new.graph.now new.procedure (TookMessage new.found) to k
+  pub once : Member (mail to d) (answers_of old) → ⊥
+
 module _ {G A S : Type 0} (members : S → List Triple) where
   -- All that the table holds is reached and sent, and nothing that is reached or sent is left out but by what is pending
   -- and by the edges left aside.
   abbrev pub Holds : (Triple → Type 0) → Table G A S → Type 0
-  Holds Aside t = IsSound t.graph.now t.procedure t.found (members t.edges) × IsComplete t.graph.now t.procedure t.found (members t.edges) Aside
+  Holds Aside t = IsGrounded t.graph.now t.procedure t.found (members t.edges) × IsComplete t.graph.now t.procedure t.found (members t.edges) Aside
 
   -- The edges kept are reached by the messages taken, and no more than the limit; unless the table has failed, nothing is
   -- left out but by what is pending; where it has failed for its limit, more edges than that are reached.
   pub record IsTable (t : Table G A S) : Type 0 where
     pub edges : (x : Triple) → Member x (members t.edges) → IsReached t x
-    pub within : length (members t.edges) ≤ t.limit.edges
+    pub within : length (members t.edges) ≤ t.limit
     pub holds : t.fault ≡ None → Holds (λ x. ⊥) t
-    pub many : t.fault ≡ Some EdgeLimit → HasMore t.limit.edges (IsReached t)
+    pub many : t.fault ≡ Some EdgeLimit → HasMore t.limit (IsReached t)
 
   -- The table has taken nothing and answered nothing, and has not failed.
   pub record IsNew (t : Table G A S) : Type 0 where
     pub table : IsTable t
-    pub nothing : (k : NumberedMessage) → HasTaken t.found k → ⊥
-    pub answered : sent t.found ≡ []
+    pub nothing : (k : NumberedMessage) → TookMessage t.found k → ⊥
+    pub answered : answers_of t ≡ []
     pub fault : t.fault ≡ None
+
+  -- The table has worked, and so answers. It is that of the same procedure; the edges kept are reached by the messages taken,
+  -- and no more than the limit. On Ok nothing is left out but by what is pending and by the edges left aside, and no message
+  -- was answered; where the answer is that the limit is passed, more edges than that are reached.
+  pub record Worked (Aside : Triple → Type 0) {T : Type 0} (answer : Result T TableFault) (old new : Table G A S) : Type 0 where
+    pub holds : OnOk answer (Holds Aside new)
+    pub edges : (x : Triple) → Member x (members new.edges) → IsReached new x
+    pub within : length (members new.edges) ≤ new.limit
+    pub many : answer ≡ Err EdgeLimit → HasMore new.limit (IsReached new)
+    pub answers : OnOk answer (answers_of new ≡ answers_of old)
+    pub stays : StaysAs old new
+    pub fault : new.fault ≡ old.fault
+
+  -- The table was given a message to take, and so answers. It is that of the same procedure, and has failed where the answer is
+  -- a fault. On Ok it has taken the message, and answered none; it has taken no other; once failed, it answers that from then on.
+  pub record Takes (d : Due) {T : Type 0} (answer : Result T TableFault) (old new : Table G A S) : Type 0 where
+    pub table : IsTable new
+    pub taken : OnOk answer (TookAlso d old.found new.found)
+    pub only : TookOnly d old.found new.found
+    pub answers : OnOk answer (answers_of new ≡ answers_of old)
+    pub stays : StaysAs old new
+    pub fault : new.fault ≡ fault_of answer
+    pub again : (e : TableFault) → old.fault ≡ Some e → answer ≡ Err e
+
+  -- The table is that of the same procedure, has taken the same messages, and has this fault, where there is one.
+  pub record Keeps (fault_now : Option TableFault) (old new : Table G A S) : Type 0 where
+    pub table : IsTable new
+    pub taken : TookSame old.found new.found
+    pub stays : StaysAs old new
+    pub fault : new.fault ≡ fault_now
 
   -- as many edges more came to stand pending as were found
   abbrev pub IsLess : Table G A S → Table G A S → Type 0
@@ -82,10 +141,10 @@ module _ {G A S : Type 0} (members : S → List Triple) where
 
   -- twice as many edges as there may still be, and those pending
   abbrev pub work_left : Table G A S → ℕ
-  work_left t = 2 * (t.limit.edges - length (members t.edges)) + length t.found.pending.items
+  work_left t = 2 * (t.limit - length (members t.edges)) + length t.found.pending.items
 
   -- By the messages taken the edges kept are what is reached, and the messages answered are what is sent.
   pub record IsQuiet (t : Table G A S) : Type 0 where
-    pub edges : (a n v : ℕ) → Reaches t.graph.now (HasTaken t.found) a n v ↔ Member (triple a n v) (members t.edges)
-    pub sends : (s : ℕ) (k : NumberedMessage) → Sends t.graph.now t.procedure (HasTaken t.found) s k ↔ Member (mail s (due_of k)) (sent t.found)
-    pub leaves : (a b : ℕ) → Member (pair a b) t.found.pairs.keys ↔ Leaves t.graph.now (HasTaken t.found) a b
+    pub edges : (a n v : ℕ) → Reaches t.graph.now (TookMessage t.found) a n v ↔ Member (triple a n v) (members t.edges)
+    pub sends : (s : ℕ) (k : NumberedMessage) → Sends t.graph.now t.procedure (TookMessage t.found) s k ↔ Member (mail s (due_of k)) (answers_of t)
+    pub leaves : (a b : ℕ) → Member (pair a b) t.found.pairs.keys ↔ Leaves t.graph.now (TookMessage t.found) a b

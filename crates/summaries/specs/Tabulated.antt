@@ -6,8 +6,7 @@ use Rattle.path_sets.specs.Triples.{NoneTwice, Triple}
 use Rattle.flow_graph.specs.Bits.{bit_of}
 use Rattle.flow_graph.specs.Numbers.{IsNumberOfEntry, AreNumbersOfEdge, AreNumbersOfPair}
 use Rattle.summaries.specs.declared.pair.Pair.{Pair}
-use Rattle.summaries.specs.declared.summaries.Summary.{Summary}
-use Rattle.summaries.specs.declared.summaries.Summaries.{Summaries}
+use Rattle.summaries.specs.Effects.{Effect, Effects}
 use Rattle.summaries.specs.declared.table_fault.TableFault.{TableFault}
 use Rattle.summaries.specs.declared.table_fault.TableFault.TheVariants as fault
 use Rattle.summaries.specs.declared.no_verdict.NoVerdict.{NoVerdict}
@@ -32,23 +31,23 @@ ArePairsAscending (x ∷ []) = Unit {0}
 ArePairsAscending (x ∷ y ∷ zs) = ((x.a < y.a) ⊎ (x.a ≡ y.a) × (x.b < y.b)) × ArePairsAscending (y ∷ zs)
 
 -- The entries are those with which procedure q is entered, by number and ascending, and the pairs are its pairs.
-pub record IsSummary {A : Type 0} (p : Program) (q : ℕ) (s : Summary A) : Type 0 where
-  pub ascend : IsAscending s.entries.items
-  pub entries : (a : ℕ) → Member a s.entries.items ↔ IsNumberOfEntry p q a
-  pub pairs_ascend : ArePairsAscending s.pairs.items
-  pub pairs : (a b : ℕ) → Member (pair a b) s.pairs.items ↔ AreNumbersOfPair p q a b
+pub record IsSummary (p : Program) (q : ℕ) (s : Effect) : Type 0 where
+  pub ascend : IsAscending s.entries
+  pub entries : (a : ℕ) → Member a s.entries ↔ IsNumberOfEntry p q a
+  pub pairs_ascend : ArePairsAscending s.pairs
+  pub pairs : (a b : ℕ) → Member (pair a b) s.pairs ↔ AreNumbersOfPair p q a b
 
 -- The summaries are those of the program's procedures, by number.
-abbrev pub AreSummaries : {A : Type 0} → Program → Summaries A → Type 0
-AreSummaries {A} p s =
-    (length s.procedures.items ≡ length p.routines)
-    × ((q : ℕ) (summary : Summary A) → slice_get s.procedures.items q ≡ Some summary → IsSummary p q summary)
+abbrev pub AreSummaries : Program → Effects → Type 0
+AreSummaries p s =
+    (length s.procedures ≡ length p.routines)
+    × ((q : ℕ) (summary : Effect) → slice_get s.procedures q ≡ Some summary → IsSummary p q summary)
 
 -- some pair of the first procedure has the bit `bad`
-abbrev pub SomePairBad : {A : Type 0} → Summaries A → Type 0
-SomePairBad {A} s =
-    (summary : Summary A) × (slice_get s.procedures.items 0 ≡ Some summary)
-    × ((a : ℕ) × (b : ℕ) × Member (pair a b) summary.pairs.items × (bit_of b s.bad ≡ true))
+abbrev pub SomePairBad : Effects → Type 0
+SomePairBad s =
+    (summary : Effect) × (slice_get s.procedures 0 ≡ Some summary)
+    × ((a : ℕ) × (b : ℕ) × Member (pair a b) summary.pairs × (bit_of b s.bad ≡ true))
 
 -- procedure q has more than n path edges
 abbrev pub HasMoreEdges : Program → ℕ → ℕ → Type 0

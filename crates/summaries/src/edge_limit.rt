@@ -1,6 +1,8 @@
 //! How many path edges a table may hold.
 
-ghost use Rattle.std.specs.Prelude.{◌≡◌, ◌≤◌, IfSome, IsSome, ◌↔◌};
+ghost use Rattle.std.specs.Prelude.{◌≡◌, ◌≤◌, ℕ, IfSome, IsSome, ◌↔◌};
+
+use std::marker::Model;
 
 /// The greatest limit.
 const MOST: u32 = 16_777_216;
@@ -9,15 +11,23 @@ const MOST: u32 = 16_777_216;
 #[derive(Clone, Copy, Debug, PartialEq, Eq)]
 pub struct EdgeLimit {
     edges: u32,
-    ghost some: { 1 ≤ edges },
-    ghost few: { edges ≤ 16777216 },
+}
+
+impl Model for EdgeLimit {
+    ghost Value = { ℕ };
+
+    ghost view = { λ l. l.edges };
+
+    ghost invariant = { λ l. (1 ≤ l.edges) × (l.edges ≤ 16777216) };
+
+    ghost inverse = { λ n. record { edges = n } };
 }
 
 impl EdgeLimit {
     /// So many edges; `None` where there are none, or more than 16,777,216.
     pub fn new(edges: u32) -> Option<EdgeLimit>
         ensures some { IsSome result ↔ (1 ≤ edges) × (edges ≤ 16777216) }
-        ensures edges { IfSome result (λ limit. limit.edges ≡ edges) }
+        ensures edges { IfSome result (λ limit. limit ≡ edges) }
     {
         if 1 <= edges && edges <= MOST {
             Some(EdgeLimit { edges })
@@ -28,7 +38,8 @@ impl EdgeLimit {
 
     /// How many edges.
     pub fn edges(self) -> u32
-        ensures { result ≡ self.edges }
+        ensures edges { result ≡ self }
+        ensures range { (1 ≤ result) × (result ≤ 16777216) }
     {
         self.edges
     }

@@ -33,11 +33,11 @@ pub(crate) fn go_on<G: Allocator, A: Allocator, S: PathSet<A>>(
     site: Site,
     summaries: &[Word],
 ) -> Result<(), TableFault>
-    requires { length (S.members edges.old) ≤ limit.edges }
+    requires { length (S.members edges.old) ≤ limit }
     ensures ok { OnOk result (Grows (Each (IsBehind graph.now site) summaries.now) (S.members edges.old) (S.members edges.new) pending.old.items pending.new.items) }
     ensures only { (t : Triple) → Member t (S.members edges.new) → Each (IsBehind graph.now site) summaries.now t ⊎ Member t (S.members edges.old) }
-    ensures within { length (S.members edges.new) ≤ limit.edges }
-    ensures limit { result ≡ Err TableFault.EdgeLimit → (t : Triple) × Each (IsBehind graph.now site) summaries.now t × (¬ Member t (S.members edges.new)) × (limit.edges ≤ length (S.members edges.new)) }
+    ensures within { length (S.members edges.new) ≤ limit }
+    ensures limit { result ≡ Err TableFault.EdgeLimit → (t : Triple) × Each (IsBehind graph.now site) summaries.now t × (¬ Member t (S.members edges.new)) × (limit ≤ length (S.members edges.new)) }
 {
     for globals in summaries {
         let edge = behind(graph, site, *globals);
@@ -55,11 +55,11 @@ pub(crate) fn go_on_at_each<G: Allocator, A: Allocator, S: PathSet<A>>(
     sites: &[Site],
     globals: Word,
 ) -> Result<(), TableFault>
-    requires { length (S.members edges.old) ≤ limit.edges }
+    requires { length (S.members edges.old) ≤ limit }
     ensures ok { OnOk result (Grows (Each (λ site. IsBehind graph.now site globals) sites.now) (S.members edges.old) (S.members edges.new) pending.old.items pending.new.items) }
     ensures only { (t : Triple) → Member t (S.members edges.new) → Each (λ site. IsBehind graph.now site globals) sites.now t ⊎ Member t (S.members edges.old) }
-    ensures within { length (S.members edges.new) ≤ limit.edges }
-    ensures limit { result ≡ Err TableFault.EdgeLimit → (t : Triple) × Each (λ site. IsBehind graph.now site globals) sites.now t × (¬ Member t (S.members edges.new)) × (limit.edges ≤ length (S.members edges.new)) }
+    ensures within { length (S.members edges.new) ≤ limit }
+    ensures limit { result ≡ Err TableFault.EdgeLimit → (t : Triple) × Each (λ site. IsBehind graph.now site globals) sites.now t × (¬ Member t (S.members edges.new)) × (limit ≤ length (S.members edges.new)) }
 {
     for site in sites {
         let edge = behind(graph, *site, globals);

@@ -21,11 +21,11 @@ fn reach_next<A: Allocator, S: PathSet<A>>(
     from: Edge,
     next: Option<(Point, Word)>,
 ) -> Result<(), TableFault>
-    requires { length (S.members edges.old) ≤ limit.edges }
+    requires { length (S.members edges.old) ≤ limit }
     ensures ok { OnOk result (Grows (IsAt from next) (S.members edges.old) (S.members edges.new) pending.old.items pending.new.items) }
     ensures only { (t : Triple) → Member t (S.members edges.new) → IsAt from next t ⊎ Member t (S.members edges.old) }
-    ensures within { length (S.members edges.new) ≤ limit.edges }
-    ensures limit { result ≡ Err TableFault.EdgeLimit → (t : Triple) × IsAt from next t × (¬ Member t (S.members edges.new)) × (limit.edges ≤ length (S.members edges.new)) }
+    ensures within { length (S.members edges.new) ≤ limit }
+    ensures limit { result ≡ Err TableFault.EdgeLimit → (t : Triple) × IsAt from next t × (¬ Member t (S.members edges.new)) × (limit ≤ length (S.members edges.new)) }
 {
     let Some((point, values)) = next else {
         return Ok(());
@@ -46,11 +46,11 @@ pub(crate) fn lead<G: Allocator, A: Allocator, S: PathSet<A>>(
     limit: EdgeLimit,
     from: Edge,
 ) -> Result<(), TableFault>
-    requires { length (S.members edges.old) ≤ limit.edges }
+    requires { length (S.members edges.old) ≤ limit }
     ensures ok { OnOk result (Grows (IsNext flow.now from) (S.members edges.old) (S.members edges.new) pending.old.items pending.new.items) }
     ensures only { (t : Triple) → Member t (S.members edges.new) → IsNext flow.now from t ⊎ Member t (S.members edges.old) }
-    ensures within { length (S.members edges.new) ≤ limit.edges }
-    ensures limit { result ≡ Err TableFault.EdgeLimit → (t : Triple) × IsNext flow.now from t × (¬ Member t (S.members edges.new)) × (limit.edges ≤ length (S.members edges.new)) }
+    ensures within { length (S.members edges.new) ≤ limit }
+    ensures limit { result ≡ Err TableFault.EdgeLimit → (t : Triple) × IsNext flow.now from t × (¬ Member t (S.members edges.new)) × (limit ≤ length (S.members edges.new)) }
 {
     let mut choice = 0;
     'choices: loop {

@@ -24,7 +24,9 @@ mod work;
 
 pub use due::{Caller, Due};
 pub use edge_limit::EdgeLimit;
-pub use laws::a_quiet_table_has_what_is_reached;
+pub use laws::{
+    a_quiet_table_has_what_is_reached, a_table_keeps_path_edges_and_answers_what_is_due,
+};
 pub use no_verdict::NoVerdict;
 pub use pair::Pair;
 pub use summaries::Summaries;

@@ -19,11 +19,11 @@ pub(crate) fn reach<A: Allocator, S: PathSet<A>>(
     limit: EdgeLimit,
     edge: Edge,
 ) -> Result<(), TableFault>
-    requires { length (S.members edges.old) ≤ limit.edges }
+    requires { length (S.members edges.old) ≤ limit }
     ensures ok { OnOk result (Grows (λ t. t ≡ triple_of edge) (S.members edges.old) (S.members edges.new) pending.old.items pending.new.items) }
     ensures only { (t : Triple) → Member t (S.members edges.new) → (t ≡ triple_of edge) ⊎ Member t (S.members edges.old) }
-    ensures within { length (S.members edges.new) ≤ limit.edges }
-    ensures limit { result ≡ Err TableFault.EdgeLimit → (¬ Member (triple_of edge) (S.members edges.new)) × (limit.edges ≤ length (S.members edges.new)) }
+    ensures within { length (S.members edges.new) ≤ limit }
+    ensures limit { result ≡ Err TableFault.EdgeLimit → (¬ Member (triple_of edge) (S.members edges.new)) × (limit ≤ length (S.members edges.new)) }
 {
     if edges.len() >= limit.edges() as u64 {
         return if edges.contains(edge.entry, edge.point, edge.values) {

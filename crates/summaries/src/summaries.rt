@@ -6,6 +6,7 @@ ghost use Rattle.flow_graph.specs.Bits.{bit_of};
 use crate::pair::Pair;
 use flow_graph::Word;
 use std::alloc::Allocator;
+use std::marker::Model;
 
 /// What one procedure does as a whole: with which valuations it is entered, and its pairs, both ascending.
 #[derive(Debug, Drop)]
@@ -14,11 +15,27 @@ pub(crate) struct Summary<A: Allocator> {
     pub(crate) pairs: Vec<Pair, A>,
 }
 
+impl<A: Allocator> Model for Summary<A> {
+    ghost use Rattle.summaries.specs.Effects.{Effect};
+
+    ghost Value = { Effect };
+
+    ghost view = { λ s. record { entries = s.entries.items; pairs = s.pairs.items } };
+}
+
 /// With which valuations each procedure of a program is entered, and with which globals it is then left.
 #[derive(Debug, Drop)]
 pub struct Summaries<A: Allocator> {
     pub(crate) procedures: Vec<Summary<A>, A>,
     pub(crate) bad: usize,
+}
+
+impl<A: Allocator> Model for Summaries<A> {
+    ghost use Rattle.summaries.specs.Effects.{Effects};
+
+    ghost Value = { Effects };
+
+    ghost view = { λ s. record { procedures = s.procedures.items; bad = s.bad } };
 }
 
 /// Whether a bit of a valuation is 1. A valuation has 64 bits.
@@ -29,30 +46,32 @@ fn has_bit(values: Word, bit: usize) -> bool
 }
 
 impl<A: Allocator> Summaries<A> {
-    ghost use Rattle.summaries.specs.declared.summaries.Summary.{Summary};
+    ghost use Rattle.summaries.specs.Effects.{Effect};
     ghost use Rattle.summaries.specs.Tabulated.{SomePairBad};
 
     /// How many procedures there are.
     pub fn len(&self) -> usize
-        ensures { result ≡ length self.now.procedures.items }
+        ensures { result ≡ length self.now.procedures }
     {
         self.procedures.len()
     }
 
     /// The valuations with which a procedure is entered, ascending.
     pub fn entries(&self, procedure: u8) -> &[Word]
-        requires { procedure < length self.now.procedures.items }
-        ensures { (s : Summary A) → slice_get self.now.procedures.items procedure ≡ Some s → result.now ≡ s.entries.items }
+        requires { procedure < length self.now.procedures }
+        ensures { (s : Effect) → slice_get self.now.procedures procedure ≡ Some s → result.now ≡ s.entries }
     {
-        self.procedures[procedure as usize].entries.as_slice()
+        let summary = &self.procedures[procedure as usize];
+        summary.entries.as_slice()
     }
 
     /// The valuations with which a procedure is entered, each with the globals that are then left, ascending.
     pub fn pairs(&self, procedure: u8) -> &[Pair]
-        requires { procedure < length self.now.procedures.items }
-        ensures { (s : Summary A) → slice_get self.now.procedures.items procedure ≡ Some s → result.now ≡ s.pairs.items }
+        requires { procedure < length self.now.procedures }
+        ensures { (s : Effect) → slice_get self.now.procedures procedure ≡ Some s → result.now ≡ s.pairs }
     {
-        self.procedures[procedure as usize].pairs.as_slice()
+        let summary = &self.procedures[procedure as usize];
+        summary.pairs.as_slice()
     }
 
     /// Whether some pair of the first procedure has `bad__`.

@@ -26,24 +26,18 @@ pub struct Table<'g, G: Allocator, A: Allocator, S: PathSet<A>> {
 }
 
 impl<'g, G: Allocator, A: Allocator + Copy, S: PathSet<A>> Table<'g, G, A, S> {
-    ghost use Rattle.std.specs.Prelude.{◌<◌, ◌≤◌, ◌^◌, ◌⊎◌, ◌++◌, ◌∷◌, [], ℕ, length, slice_get, OnOk, OnErr, Ok, Err, IfOk, IfSome, IfNone};
+    ghost use Rattle.std.specs.Prelude.{◌<◌, ◌^◌, [], length, slice_get, OnOk, Err, IfOk, IfSome, IfNone};
     ghost use Rattle.std.specs.Bool.{OnTrue, OnFalse};
-    ghost use Rattle.language.specs.Flow.{Member};
-    ghost use Rattle.path_sets.specs.Triples.{Triple};
-    ghost use Rattle.flow_graph.specs.Numbers.{NumberedMessage, Sends};
     ghost use Rattle.summaries.specs.declared.due.Due.TheVariants.{Entry, Summary};
-    ghost use Rattle.summaries.specs.Mails.{mail};
-    ghost use Rattle.summaries.specs.Dues.{due_of};
-    ghost use Rattle.summaries.specs.Found.{HasTaken};
-    ghost use Rattle.summaries.specs.Tables.{sent, IsTable, IsNew, IsQuiet, StaysAs, TookAlso, TookOnly, TookSame, fault_of, failed_by, work_left};
+    ghost use Rattle.summaries.specs.Tables.{graph_of, procedure_of, limit_of, answers_of, failure, IsTable, IsNew, IsQuiet, IsAnswer, Takes, Keeps, fault_of, failed_by, work_left};
 
     /// The table of a procedure, which has taken nothing yet, and takes no memory.
     pub fn new(alloc: A, graphs: &'g Graphs<G>, procedure: u8, limit: EdgeLimit) -> Self
         requires { procedure < length graphs.now.graphs.items }
         ensures new { IsNew S.members result }
-        ensures graph { slice_get graphs.now.graphs.items procedure ≡ Some result.graph.now }
-        ensures procedure { result.procedure ≡ procedure }
-        ensures limit { result.limit ≡ limit }
+        ensures graph { slice_get graphs.now.graphs.items procedure ≡ Some (graph_of result) }
+        ensures procedure { procedure_of result ≡ procedure }
+        ensures limit { limit_of result ≡ limit }
     {
         Table {
             graph: graphs.graph(procedure),
@@ -59,13 +53,7 @@ impl<'g, G: Allocator, A: Allocator + Copy, S: PathSet<A>> Table<'g, G, A, S> {
     /// the limit is found, the table has failed, and answers that from then on.
     pub fn take_entry(&mut self, caller: Caller, a: Word) -> Result<(), TableFault>
         requires { IsTable S.members self.old }
-        ensures table { IsTable S.members self.new }
-        ensures taken { OnOk result (TookAlso (Entry caller a) self.old.found self.new.found) }
-        ensures took { TookOnly (Entry caller a) self.old.found self.new.found }
-        ensures sent { OnOk result (sent self.new.found ≡ sent self.old.found) }
-        ensures stays { StaysAs self.old self.new }
-        ensures fault { self.new.fault ≡ fault_of result }
-        ensures again { (e : TableFault) → self.old.fault ≡ Some e → result ≡ Err e }
+        ensures { Takes S.members (Entry caller a) result self.old self.new }
     {
         if let Some(fault) = self.fault {
             return Err(fault);
@@ -77,13 +65,7 @@ impl<'g, G: Allocator, A: Allocator + Copy, S: PathSet<A>> Table<'g, G, A, S> {
     /// Takes a message: procedure `p`, entered with the valuation `a`, leaves the globals `b`. It fails as `take_entry` does.
     pub fn take_summary(&mut self, p: u8, a: Word, b: Word) -> Result<(), TableFault>
         requires { IsTable S.members self.old }
-        ensures table { IsTable S.members self.new }
-        ensures taken { OnOk result (TookAlso (Summary p a b) self.old.found self.new.found) }
-        ensures took { TookOnly (Summary p a b) self.old.found self.new.found }
-        ensures sent { OnOk result (sent self.new.found ≡ sent self.old.found) }
-        ensures stays { StaysAs self.old self.new }
-        ensures fault { self.new.fault ≡ fault_of result }
-        ensures again { (e : TableFault) → self.old.fault ≡ Some e → result ≡ Err e }
+        ensures { Takes S.members (Summary p a b) result self.old self.new }
     {
         if let Some(fault) = self.fault {
             return Err(fault);
@@ -102,17 +84,12 @@ impl<'g, G: Allocator, A: Allocator + Copy, S: PathSet<A>> Table<'g, G, A, S> {
     /// `None` where there is no more until another message is taken. It fails as `take_entry` does.
     pub fn next(&mut self) -> Result<Option<(u8, Due)>, TableFault>
         requires { IsTable S.members self.old }
-        ensures table { IsTable S.members self.new }
-        ensures taken { TookSame self.old.found self.new.found }
-        ensures some { IfOk result (λ r. IfSome r (λ m. sent self.new.found ≡ sent self.old.found ++ mail m.0 m.1 ∷ [])) }
-        ensures due { IfOk result (λ r. IfSome r (λ m. (k : NumberedMessage) → due_of k ≡ m.1 → Sends self.new.graph.now self.new.procedure (HasTaken self.new.found) m.0 k)) }
-        ensures once { IfOk result (λ r. IfSome r (λ m. ¬ Member (mail m.0 m.1) (sent self.old.found))) }
-        ensures few { length (sent self.new.found) < 2 ^ 64 }
-        ensures none { IfOk result (λ r. IfNone r (sent self.new.found ≡ sent self.old.found)) }
+        ensures keeps { Keeps S.members (fault_of result) self.old self.new }
+        ensures some { IfOk result (λ r. IfSome r (λ m. IsAnswer self.old self.new m.0 m.1)) }
+        ensures few { length (answers_of self.new) < 2 ^ 64 }
+        ensures none { IfOk result (λ r. IfNone r (answers_of self.new ≡ answers_of self.old)) }
         ensures quiet { IfOk result (λ r. IfNone r (IsQuiet S.members self.new)) }
-        ensures stays { StaysAs self.old self.new }
-        ensures fault { self.new.fault ≡ fault_of result }
-        ensures again { (e : TableFault) → self.old.fault ≡ Some e → result ≡ Err e }
+        ensures again { (e : TableFault) → failure self.old ≡ Some e → result ≡ Err e }
     {
         if let Some(fault) = self.fault {
             return Err(fault);
@@ -131,15 +108,10 @@ impl<'g, G: Allocator, A: Allocator + Copy, S: PathSet<A>> Table<'g, G, A, S> {
     fn answer(&mut self) -> Option<(u8, Due)>
         requires table { IsTable S.members self.old }
         requires fault { self.old.fault ≡ None }
-        ensures table { IsTable S.members self.new }
-        ensures some { IfSome result (λ m. sent self.new.found ≡ sent self.old.found ++ mail m.0 m.1 ∷ []) }
-        ensures due { IfSome result (λ m. (k : NumberedMessage) → due_of k ≡ m.1 → Sends self.new.graph.now self.new.procedure (HasTaken self.new.found) m.0 k) }
-        ensures once { IfSome result (λ m. ¬ Member (mail m.0 m.1) (sent self.old.found)) }
-        ensures none { IfNone result (sent self.new.found ≡ sent self.old.found) }
-        ensures all { IfNone result (sent self.new.found ≡ self.new.found.given.mails.keys) }
-        ensures taken { TookSame self.old.found self.new.found }
-        ensures stays { StaysAs self.old self.new }
-        ensures fault { self.new.fault ≡ None }
+        ensures keeps { Keeps S.members None self.old self.new }
+        ensures some { IfSome result (λ m. IsAnswer self.old self.new m.0 m.1) }
+        ensures none { IfNone result (answers_of self.new ≡ answers_of self.old) }
+        ensures all { IfNone result (answers_of self.new ≡ self.new.found.given.mails.keys) }
         ensures pending { self.new.found.pending ≡ self.old.found.pending }
         ensures edges { self.new.edges ≡ self.old.edges }
     {
@@ -150,11 +122,8 @@ impl<'g, G: Allocator, A: Allocator + Copy, S: PathSet<A>> Table<'g, G, A, S> {
     fn step(&mut self) -> Result<bool, TableFault>
         requires table { IsTable S.members self.old }
         requires fault { self.old.fault ≡ None }
-        ensures table { IsTable S.members self.new }
-        ensures sent { OnOk result (sent self.new.found ≡ sent self.old.found) }
-        ensures taken { TookSame self.old.found self.new.found }
-        ensures stays { StaysAs self.old self.new }
-        ensures fault { self.new.fault ≡ fault_of result }
+        ensures keeps { Keeps S.members (fault_of result) self.old self.new }
+        ensures answers { OnOk result (answers_of self.new ≡ answers_of self.old) }
         ensures less { IfOk result (λ worked. OnTrue worked (work_left S.members self.new < work_left S.members self.old)) }
         ensures none { IfOk result (λ worked. OnFalse worked (self.new.found.pending.items ≡ [])) }
         ensures given { IfOk result (λ worked. OnFalse worked (self.new.found.given ≡ self.old.found.given)) }

@@ -4,9 +4,9 @@ ghost use Rattle.std.specs.Prelude.{◌≡◌, ◌↔◌, ℕ, length, map, IfOk
 ghost use Rattle.language.specs.Step.{Program};
 ghost use Rattle.round_rewrite.specs.Law.{SomeBad};
 ghost use Rattle.flow_graph.specs.Graphs.{AreDrawnFrom};
-ghost use Rattle.summaries.specs.Tables.{sent, IsTable, StaysAs, TookAlso, TookOnly, fault_of};
+ghost use Rattle.summaries.specs.Tables.{graph_of, IsTable, Takes};
 ghost use Rattle.summaries.specs.Tabulated.{AreSummaries, SomePairBad, HasMoreEdges};
-ghost use Rattle.summaries.specs.Together.{opening, graph_of, HaveLimit, AreNew, AreTables, AreQuietBefore};
+ghost use Rattle.summaries.specs.Together.{opening, HaveLimit, AreNew, AreTables, AreQuietBefore};
 
 use crate::due::{Caller, Due};
 use crate::edge_limit::EdgeLimit;
@@ -27,7 +27,7 @@ fn tables_of<'g, G: Allocator, A: Allocator + Copy, S: PathSet<A>>(
 ) -> Result<Vec<Table<'g, G, A, S>, A>, AllocError>
     ensures new { IfOk result (λ ts. AreNew S.members ts.items) }
     ensures graphs { IfOk result (λ ts. map graph_of ts.items ≡ graphs.now.graphs.items) }
-    ensures limit { IfOk result (λ ts. HaveLimit limit.edges ts.items) }
+    ensures limit { IfOk result (λ ts. HaveLimit limit ts.items) }
 {
     let mut tables = Vec::new(alloc);
     for procedure in 0..graphs.len() as u8 {
@@ -42,12 +42,7 @@ fn deliver<G: Allocator, A: Allocator + Copy, S: PathSet<A>>(
     due: Due,
 ) -> Result<(), TableFault>
     requires { IsTable S.members table.old }
-    ensures table { IsTable S.members table.new }
-    ensures taken { OnOk result (TookAlso due table.old.found table.new.found) }
-    ensures only { TookOnly due table.old.found table.new.found }
-    ensures sent { OnOk result (sent table.new.found ≡ sent table.old.found) }
-    ensures stays { StaysAs table.old table.new }
-    ensures fault { table.new.fault ≡ fault_of result }
+    ensures { Takes S.members due result table.old table.new }
 {
     match due {
         Due::Entry { caller, a } => table.take_entry(caller, a),
@@ -100,8 +95,8 @@ pub fn tabulate<G: Allocator, A: Allocator + Copy, S: PathSet<A>>(
     requires { AreDrawnFrom program graphs.now.graphs.items }
     ensures summaries { IfOk result (λ s. AreSummaries program s) }
     ensures bad { IfOk result (λ s. SomePairBad s ↔ SomeBad program graphs.now.bad) }
-    ensures few { IfOk result (λ s. (q : ℕ) → ¬ HasMoreEdges program q limit.edges) }
-    ensures limit { result ≡ Err NoVerdict.EdgeLimit → (q : ℕ) × HasMoreEdges program q limit.edges }
+    ensures few { IfOk result (λ s. (q : ℕ) → ¬ HasMoreEdges program q limit) }
+    ensures limit { result ≡ Err NoVerdict.EdgeLimit → (q : ℕ) × HasMoreEdges program q limit }
 {
     let mut tables: Vec<Table<'_, G, A, S>, A> = tables_of(alloc, graphs, limit)?;
     run(&mut tables)?;

@@ -1,15 +1,14 @@
 //! The work of a table: on an edge, and on a message that comes.
 
-ghost use Rattle.std.specs.Prelude.{◌≡◌, ◌≤◌, ◌+◌, length, OnOk, Ok, Err, slice_get, Some};
+ghost use Rattle.std.specs.Prelude.{◌≡◌, ◌≤◌, length, OnOk, slice_get, Some};
 ghost use Rattle.language.specs.Flow.{Member};
-ghost use Rattle.path_sets.specs.Triples.{Triple};
 ghost use Rattle.flow_graph.specs.declared.flow.Flow.TheVariants as flow;
 ghost use Rattle.flow_graph.specs.Returns.{left};
 ghost use Rattle.flow_graph.specs.Calls.{entry_of};
 ghost use Rattle.summaries.specs.declared.due.Due.TheVariants.{Entry, Summary};
 ghost use Rattle.summaries.specs.Found.{HasExit, HasSite, site};
 ghost use Rattle.summaries.specs.Grows.{triple_of};
-ghost use Rattle.summaries.specs.Tables.{sent, Holds, IsReached, HasMore, TookAlso, TookOnly, TookSame, StaysAs, IsLess};
+ghost use Rattle.summaries.specs.Tables.{answers_of, Holds, Worked, TookAlso, TookOnly, TookSame, StaysAs, IsLess};
 
 use crate::due::{Caller, Due};
 use crate::edge::{Call, Edge, Site};
@@ -31,7 +30,7 @@ impl<'g, G: Allocator, A: Allocator + Copy, S: PathSet<A>> Table<'g, G, A, S> {
         requires holds { Holds S.members (λ t. t ≡ triple_of edge) self.old }
         ensures ok { OnOk result (Holds S.members (λ t. t ≡ triple_of edge) self.new) }
         ensures left { OnOk result (edge.point ≡ 0 → HasExit self.new.found edge.entry (left self.new.graph.now.globals edge.values)) }
-        ensures sent { OnOk result (sent self.new.found ≡ sent self.old.found) }
+        ensures answers { OnOk result (answers_of self.new ≡ answers_of self.old) }
         ensures taken { TookSame self.old.found self.new.found }
         ensures edges { self.new.edges ≡ self.old.edges }
         ensures pending { self.new.found.pending ≡ self.old.found.pending }
@@ -63,18 +62,12 @@ impl<'g, G: Allocator, A: Allocator + Copy, S: PathSet<A>> Table<'g, G, A, S> {
         requires call { slice_get self.old.graph.now.flows.items edge.point ≡ Some (flow.Call call.now) }
         requires edge { Member (triple_of edge) (S.members self.old.edges) }
         requires holds { Holds S.members (λ t. t ≡ triple_of edge) self.old }
-        requires within { length (S.members self.old.edges) ≤ self.old.limit.edges }
-        ensures ok { OnOk result (Holds S.members (λ t. t ≡ triple_of edge) self.new) }
+        requires within { length (S.members self.old.edges) ≤ self.old.limit }
+        ensures worked { Worked S.members (λ t. t ≡ triple_of edge) result self.old self.new }
         ensures asked { OnOk result (HasSite self.new.found call.now.callee (entry_of call.now.globals call.now.arguments.items edge.values) (site edge.entry call.now.back edge.values)) }
-        ensures only { (t : Triple) → Member t (S.members self.new.edges) → IsReached self.new t }
-        ensures within { length (S.members self.new.edges) ≤ self.new.limit.edges }
-        ensures limit { result ≡ Err TableFault.EdgeLimit → HasMore self.new.limit.edges (IsReached self.new) }
-        ensures sent { OnOk result (sent self.new.found ≡ sent self.old.found) }
         ensures taken { TookSame self.old.found self.new.found }
         ensures exits { self.new.found.exits ≡ self.old.found.exits }
         ensures less { OnOk result (IsLess S.members self.old self.new) }
-        ensures stays { StaysAs self.old self.new }
-        ensures fault { self.new.fault ≡ self.old.fault }
     {
         let key = Call {
             callee: call.callee(),
@@ -105,16 +98,10 @@ impl<'g, G: Allocator, A: Allocator + Copy, S: PathSet<A>> Table<'g, G, A, S> {
     pub(crate) fn work(&mut self, edge: Edge) -> Result<(), TableFault>
         requires edge { Member (triple_of edge) (S.members self.old.edges) }
         requires holds { Holds S.members (λ t. t ≡ triple_of edge) self.old }
-        requires within { length (S.members self.old.edges) ≤ self.old.limit.edges }
-        ensures ok { OnOk result (Holds S.members (λ t. ⊥) self.new) }
-        ensures only { (t : Triple) → Member t (S.members self.new.edges) → IsReached self.new t }
-        ensures within { length (S.members self.new.edges) ≤ self.new.limit.edges }
-        ensures limit { result ≡ Err TableFault.EdgeLimit → HasMore self.new.limit.edges (IsReached self.new) }
-        ensures sent { OnOk result (sent self.new.found ≡ sent self.old.found) }
+        requires within { length (S.members self.old.edges) ≤ self.old.limit }
+        ensures worked { Worked S.members (λ t. ⊥) result self.old self.new }
         ensures taken { TookSame self.old.found self.new.found }
         ensures less { OnOk result (IsLess S.members self.old self.new) }
-        ensures stays { StaysAs self.old self.new }
-        ensures fault { self.new.fault ≡ self.old.fault }
     {
         self.leave(edge)?;
         if edge.point >= self.graph.points() {
@@ -135,16 +122,10 @@ impl<'g, G: Allocator, A: Allocator + Copy, S: PathSet<A>> Table<'g, G, A, S> {
     /// Lets a caller enter the procedure: its start is reached, and the caller gets the summaries that are known.
     pub(crate) fn begin(&mut self, caller: Caller, a: Word) -> Result<(), TableFault>
         requires holds { Holds S.members (λ t. ⊥) self.old }
-        requires within { length (S.members self.old.edges) ≤ self.old.limit.edges }
-        ensures ok { OnOk result (Holds S.members (λ t. ⊥) self.new) }
-        ensures only { (t : Triple) → Member t (S.members self.new.edges) → IsReached self.new t }
-        ensures within { length (S.members self.new.edges) ≤ self.new.limit.edges }
-        ensures limit { result ≡ Err TableFault.EdgeLimit → HasMore self.new.limit.edges (IsReached self.new) }
-        ensures sent { OnOk result (sent self.new.found ≡ sent self.old.found) }
+        requires within { length (S.members self.old.edges) ≤ self.old.limit }
+        ensures worked { Worked S.members (λ t. ⊥) result self.old self.new }
         ensures taken { OnOk result (TookAlso (Entry caller a) self.old.found self.new.found) }
-        ensures took { TookOnly (Entry caller a) self.old.found self.new.found }
-        ensures stays { StaysAs self.old self.new }
-        ensures fault { self.new.fault ≡ self.old.fault }
+        ensures only { TookOnly (Entry caller a) self.old.found self.new.found }
     {
         self.found.entries.add(a, caller)?;
         let start = Edge {
@@ -166,16 +147,10 @@ impl<'g, G: Allocator, A: Allocator + Copy, S: PathSet<A>> Table<'g, G, A, S> {
     /// Goes on behind each call of this kind, for globals that it left.
     pub(crate) fn end(&mut self, call: Call, b: Word) -> Result<(), TableFault>
         requires holds { Holds S.members (λ t. ⊥) self.old }
-        requires within { length (S.members self.old.edges) ≤ self.old.limit.edges }
-        ensures ok { OnOk result (Holds S.members (λ t. ⊥) self.new) }
-        ensures only { (t : Triple) → Member t (S.members self.new.edges) → IsReached self.new t }
-        ensures within { length (S.members self.new.edges) ≤ self.new.limit.edges }
-        ensures limit { result ≡ Err TableFault.EdgeLimit → HasMore self.new.limit.edges (IsReached self.new) }
-        ensures sent { OnOk result (sent self.new.found ≡ sent self.old.found) }
+        requires within { length (S.members self.old.edges) ≤ self.old.limit }
+        ensures worked { Worked S.members (λ t. ⊥) result self.old self.new }
         ensures taken { OnOk result (TookAlso (Summary call.callee call.entered b) self.old.found self.new.found) }
-        ensures took { TookOnly (Summary call.callee call.entered b) self.old.found self.new.found }
-        ensures stays { StaysAs self.old self.new }
-        ensures fault { self.new.fault ≡ self.old.fault }
+        ensures only { TookOnly (Summary call.callee call.entered b) self.old.found self.new.found }
     {
         self.found.summaries.add(call, b)?;
         go_on_at_each(

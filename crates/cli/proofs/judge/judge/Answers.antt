@@ -50,7 +50,7 @@ returns-then-bad-clause-verdict g c =
       found.tree,
       found.of,
       found.checked,
-      within c.args.text.now c.args.rounds c.args.edges c.in-Some.limit.edges sequential found c.in-Some.ensures.edges c.in_ok-summaries.ensures.few,
+      within c.args.text.now c.args.rounds c.args.edges c.in-Some.limit sequential found c.in-Some.ensures.edges c.in_ok-summaries.ensures.few,
       (tells c.args.text.now c.args.rounds sequential found _ c.in_ok-summaries.ensures.bad).0 (c.bad.ensures.0 c.if-bad.true),
     )
 
@@ -61,7 +61,7 @@ returns-clause-verdict g c =
       found.tree,
       found.of,
       found.checked,
-      within c.args.text.now c.args.rounds c.args.edges c.in-Some.limit.edges sequential found c.in-Some.ensures.edges c.in_ok-summaries.ensures.few,
+      within c.args.text.now c.args.rounds c.args.edges c.in-Some.limit sequential found c.in-Some.ensures.edges c.in_ok-summaries.ensures.few,
       λ unsafe. true≢false (sym (c.bad.ensures.1 ((tells c.args.text.now c.args.rounds sequential found _ c.in_ok-summaries.ensures.bad).1 unsafe)) ∙ c.if-bad.false),
     )
 
@@ -69,5 +69,5 @@ pub returns-in_err-summaries-clause-stands : goal.returns-in_err-summaries-claus
 returns-in_err-summaries-clause-stands g c =
     let p = err_from_is_err_and c.from_residual-in_err-summaries.result c.from_residual-in_err-summaries.ensures.1 in
     rw (p.1, p.2)
-    (stands c.args.text.now c.args.rounds c.args.edges c.in-Some.limit.edges (tree_of c.in_ok-sequential.sequential.program) c.in_ok-sequential.ensures.rewriting c.in-Some.ensures.edges _
+    (stands c.args.text.now c.args.rounds c.args.edges c.in-Some.limit (tree_of c.in_ok-sequential.sequential.program) c.in_ok-sequential.ensures.rewriting c.in-Some.ensures.edges _
     c.in_err-summaries.ensures.fault)

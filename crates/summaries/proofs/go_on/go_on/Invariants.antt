@@ -5,4 +5,4 @@ use Rattle.summaries.proofs.go_on.go_on.Given as goal
 abbrev pub invariant-loop-globals : goal.invariant-loop-globals
 invariant-loop-globals g l =
     Grows (Each (IsBehind l.graph l.site) (take l.globals-index l.summaries)) (g.S.PathSet.members l.initial.edges) (g.S.PathSet.members l.edges) l.initial.pending.items l.pending.items
-    × (length (g.S.PathSet.members l.edges) ≤ l.limit.edges)
+    × (length (g.S.PathSet.members l.edges) ≤ l.limit)

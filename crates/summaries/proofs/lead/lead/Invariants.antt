@@ -6,7 +6,7 @@ use Rattle.summaries.proofs.lead.lead.Given as goal
 abbrev pub invariant-choices : goal.invariant-choices
 invariant-choices g l =
     Grows (IsNextBefore l.choice l.flow l.from) (g.S.PathSet.members l.initial.edges) (g.S.PathSet.members l.edges) l.initial.pending.items l.pending.items
-    × (length (g.S.PathSet.members l.edges) ≤ l.limit.edges)
+    × (length (g.S.PathSet.members l.edges) ≤ l.limit)
     × (l.choice ≤ last_of l.flow)
 
 abbrev pub decreases-choices : goal.decreases-choices

@@ -1,8 +1,8 @@
 -- One summary more is that of the next table.
 use Rattle.std.proofs.Common.{◌≡◌, ◌∷◌, [], Some, length, slice_get, refl, sym, ap, ◌∙◌, subst, arith, length-append}
 use Rattle.std.proofs.lemmas.Option.{slice_get_read, same_Some}
-use Rattle.summaries.specs.declared.summaries.Summary.{Summary}
 use Rattle.summaries.specs.declared.table.Table.{Table}
+use Rattle.summaries.specs.Effects.{Effect}
 use Rattle.summaries.specs.Together.{IsReadOff}
 use Rattle.summaries.proofs.Replaced.{each_pushed}
 use Rattle.summaries.proofs.reading.read.Goals as goal
@@ -15,7 +15,7 @@ loop-table-preserved g c =
     let invariant = c.loop-table.invariant in
     let table = c.table-item.result in
     let is : slice_get tables c.loop-table.table-index ≡ Some table = slice_get_read tables _ c.loop-table.table-index table refl c.loop-table-test.true c.table-item.is in
-    let new : Summary g.row.A.Denot = record { entries = c.in_ok-entries.field-0; pairs = c.in_ok-pairs.field-0 } in
+    let new : Effect = record { entries = c.in_ok-entries.field-0.items; pairs = c.in_ok-pairs.field-0.items } in
     let read : IsReadOff table new = record {
       ascend = c.in_ok-entries.ensures.ascend;
       entries = c.in_ok-entries.ensures.entries;
@@ -25,7 +25,7 @@ loop-table-preserved g c =
     record {
       count = omega (arith, invariant.count, ap length pushed, length-append before (new ∷ []));
       read = λ q t s is_t is_s.
-          each_pushed (λ n (u : Summary g.row.A.Denot). (v : Table g.row.G.Denot g.row.A.Denot g.row.S.Denot) → slice_get tables n ≡ Some v → IsReadOff v u) before new
+          each_pushed (λ n (u : Effect). (v : Table g.row.G.Denot g.row.A.Denot g.row.S.Denot) → slice_get tables n ≡ Some v → IsReadOff v u) before new
           (λ n u is_u v is_v. invariant.read n v u is_v is_u)
           (λ v is_v. subst (λ (w : Table g.row.G.Denot g.row.A.Denot g.row.S.Denot). IsReadOff w new) (same_Some table v (sym is ∙ ap (slice_get tables) (sym invariant.count) ∙ is_v)) read)
           q s (subst (λ l. slice_get l q ≡ Some s) pushed is_s) t is_t;

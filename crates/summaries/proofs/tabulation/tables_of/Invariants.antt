@@ -9,6 +9,6 @@ invariant-loop-procedure g l = record {
   count : length l.tables.items ≡ l.procedure;
   fresh : (q : ℕ) (t : Table g.row.G.Denot g.row.A.Denot g.row.S.Denot) → slice_get l.tables.items q ≡ Some t → IsNew g.S.PathSet.members t;
   numbered : (q : ℕ) (t : Table g.row.G.Denot g.row.A.Denot g.row.S.Denot) → slice_get l.tables.items q ≡ Some t → t.procedure ≡ q;
-  limits : (q : ℕ) (t : Table g.row.G.Denot g.row.A.Denot g.row.S.Denot) → slice_get l.tables.items q ≡ Some t → t.limit.edges ≡ l.fn.limit.edges;
+  limits : (q : ℕ) (t : Table g.row.G.Denot g.row.A.Denot g.row.S.Denot) → slice_get l.tables.items q ≡ Some t → t.limit ≡ l.fn.limit;
   graphs : (q : ℕ) (t : Table g.row.G.Denot g.row.A.Denot g.row.S.Denot) → slice_get l.tables.items q ≡ Some t → slice_get l.fn.graphs.graphs.items q ≡ Some t.graph.now;
 }

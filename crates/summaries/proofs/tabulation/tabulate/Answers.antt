@@ -19,7 +19,7 @@ run-requires g c κs within =
 pub returns-in_err-run-clause-limit : goal.returns-in_err-run-clause-limit
 returns-in_err-run-clause-limit g c = λ e.
     let told = fault_told _ c.from_residual-in_err-run.result verdict.EdgeLimit c.from_residual-in_err-run.ensures.1 e in
-    c.in_err-run.ensures.limit (ap Err (limit_told c.in_err-run.field-0.0 told)) c.args.limit.edges c.in_ok-tables.ensures.limit
+    c.in_err-run.ensures.limit (ap Err (limit_told c.in_err-run.field-0.0 told)) c.args.limit c.in_ok-tables.ensures.limit
 
 same_length : (g : Over) (c : In_ok-procedures g) → length c.in_ok-procedures.procedures.items ≡ length c.run.new.tables.items
 same_length g c = c.in_ok-procedures.ensures.len ∙ ap length c.deref.ensures.value
@@ -40,10 +40,10 @@ pub returns-clause-bad : goal.returns-clause-bad
 returns-clause-bad g c =
     let a = (goal.at.returns-clause-bad g c).In_ok-procedures in
     let ran = c.in_ok-run.ensures in
-    subst (λ b. SomePairBad (record { procedures = c.in_ok-procedures.procedures; bad = c.bad-bad.result }) ↔ SomeBad g.program b) c.bad-bad.ensures
+    subst (λ b. SomePairBad (record { procedures = c.in_ok-procedures.procedures.items; bad = c.bad-bad.result }) ↔ SomeBad g.program b) c.bad-bad.ensures
     (all_bad g.S.PathSet.members g.program c.run.new.tables.items ran.tables ran.quiet c.in_ok-procedures.procedures.items (same_length g a) (read_off g a) c.bad-bad.result)
 
 pub returns-clause-few : goal.returns-clause-few
 returns-clause-few g c =
     let ran = c.in_ok-run.ensures in
-    few g.S.PathSet.members g.program c.run.new.tables.items ran.tables ran.quiet c.args.limit.edges (ran.limits c.args.limit.edges c.in_ok-tables.ensures.limit)
+    few g.S.PathSet.members g.program c.run.new.tables.items ran.tables ran.quiet c.args.limit (ran.limits c.args.limit c.in_ok-tables.ensures.limit)

@@ -1,4 +1,4 @@
-use Rattle.std.proofs.Common.{ℕ, ◌≡◌, ◌⊎◌, Some, sym, subst}
+use Rattle.std.proofs.Common.{ℕ, ◌≡◌, ◌⊎◌, Some, refl, sym, subst}
 use Rattle.std.proofs.lemmas.Result.{IfOk-weaker}
 use Rattle.path_sets.specs.Triples.{Triple}
 use Rattle.flow_graph.specs.Flows.{entered_by}
@@ -12,7 +12,9 @@ use Rattle.summaries.specs.Found.{HasSite, call, call_eq, site}
 use Rattle.summaries.specs.Grows.{Grows, Gives, Each, IsBehind, triple_of}
 use Rattle.summaries.proofs.Asking.{asked_to, ask_step, ask_only, behind_reached, asked_site, taken_there}
 use Rattle.summaries.proofs.Telling.{gives_one}
-use Rattle.summaries.proofs.Stepping.{still_sound, still_complete, all_reached, has_more}
+use Rattle.summaries.proofs.Mails.{answers_still}
+use Rattle.summaries.proofs.Stepping.{still_grounded, still_complete, all_reached, has_more}
+use Rattle.summaries.proofs.Worked.{refused_worked}
 use Rattle.summaries.proofs.table.Table.ask.Given as given
 use Rattle.summaries.proofs.table.Table.ask.Goals as goal
 
@@ -35,32 +37,54 @@ known g c =
     let self = c.args.self.now in
     subst (λ bs. Grows (Each (IsBehind self.graph.now (site c.args.edge.entry c.back.result c.args.edge.values)) bs) (g.S.PathSet.members self.edges) (g.S.PathSet.members c.go_on.new.edges) self.found.pending.items c.go_on.new.pending.items) c.of.ensures
 
-pub returns-in_err-give-clause-only : goal.returns-in_err-give-clause-only
-returns-in_err-give-clause-only g c =
+pub returns-in_err-give-clause-worked : goal.returns-in_err-give-clause-worked
+returns-in_err-give-clause-worked g c =
     let self = c.args.self.now in
-    all_reached self.graph.now self.procedure self.found (asked_to self.graph.now self.procedure self.found c.give.new.self self.found.sites self.found.pending)
-    (g.S.PathSet.members self.edges) c.requires.holds.0 (taken_there self.graph.now self.procedure self.found c.give.new.self self.found.sites self.found.pending)
+    refused_worked g.S.PathSet.members (λ t. t ≡ triple_of c.args.edge) _ self _
+    (all_reached self.graph.now self.procedure self.found (asked_to self.graph.now self.procedure self.found c.give.new.self self.found.sites self.found.pending)
+    (g.S.PathSet.members self.edges) c.requires.holds.0 (taken_there self.graph.now self.procedure self.found c.give.new.self self.found.sites self.found.pending))
+    c.requires.within (record { graph = refl; procedure = refl; limit = refl }) refl c.from_residual.ensures.1
 
-pub returns-in_err-add-clause-only : goal.returns-in_err-add-clause-only
-returns-in_err-add-clause-only g c =
+pub returns-in_err-add-clause-worked : goal.returns-in_err-add-clause-worked
+returns-in_err-add-clause-worked g c =
     let self = c.args.self.now in
-    all_reached self.graph.now self.procedure self.found (asked_to self.graph.now self.procedure self.found c.give.new.self c.add.new.self self.found.pending)
-    (g.S.PathSet.members self.edges) c.requires.holds.0 (taken_there self.graph.now self.procedure self.found c.give.new.self c.add.new.self self.found.pending)
+    refused_worked g.S.PathSet.members (λ t. t ≡ triple_of c.args.edge) _ self _
+    (all_reached self.graph.now self.procedure self.found (asked_to self.graph.now self.procedure self.found c.give.new.self c.add.new.self self.found.pending)
+    (g.S.PathSet.members self.edges) c.requires.holds.0 (taken_there self.graph.now self.procedure self.found c.give.new.self c.add.new.self self.found.pending))
+    c.requires.within (record { graph = refl; procedure = refl; limit = refl }) refl c.from_residual-in_err-add.ensures.1
 
-pub returns-clause-ok : goal.returns-clause-ok
-returns-clause-ok g c =
+pub returns-clause-worked : goal.returns-clause-worked
+returns-clause-worked g c =
     let self = c.args.self.now in
+    let f = self.found in
     let e = c.args.edge in
     let es = g.S.PathSet.members self.edges in
     let ds = g.S.PathSet.members c.go_on.new.edges in
-    IfOk-weaker c.go_on.result _ _
-    (λ _ grown.
-    let step = ask_step self.graph.now self.procedure self.found c.give.new.self c.add.new.self c.go_on.new.pending es ds e c.callee.result c.entry.result c.back.result (flow.Call c.args.call.now)
-    c.requires.holds.0 c.requires.edge c.requires.call (enters g c) (gave g c) c.in_ok-add.ensures.added c.in_ok-add.ensures.others (known g c grown) in (
-      still_sound self.graph.now self.procedure self.found _ es ds step c.requires.holds.0,
-      still_complete self.graph.now self.procedure self.found _ es ds step (λ t. t ≡ triple_of e) c.requires.holds.1,
-    ))
-    c.go_on.ensures.ok
+    let edges = ask_only self.graph.now self.procedure f c.give.new.self c.add.new.self c.go_on.new.pending es ds e c.callee.result c.entry.result c.back.result (flow.Call c.args.call.now)
+    c.requires.holds.0 c.requires.edge c.requires.call (enters g c)
+    (subst (λ bs. (t : Triple) → Member t ds → Each (IsBehind self.graph.now (site e.entry c.back.result e.values)) bs t ⊎ Member t es) c.of.ensures c.go_on.ensures.only) in record {
+      holds = IfOk-weaker c.go_on.result _ _
+          (λ _ grown.
+          let step = ask_step self.graph.now self.procedure f c.give.new.self c.add.new.self c.go_on.new.pending es ds e c.callee.result c.entry.result c.back.result (flow.Call c.args.call.now)
+          c.requires.holds.0 c.requires.edge c.requires.call (enters g c) (gave g c) c.in_ok-add.ensures.added c.in_ok-add.ensures.others (known g c grown) in (
+            still_grounded self.graph.now self.procedure f _ es ds step c.requires.holds.0,
+            still_complete self.graph.now self.procedure f _ es ds step (λ t. t ≡ triple_of e) c.requires.holds.1,
+          ))
+          c.go_on.ensures.ok;
+      edges = edges;
+      within = c.go_on.ensures.within;
+      many = λ is.
+          let (t, w, new, full) = c.go_on.ensures.limit is in
+          has_more self.limit ds _ (g.met.S.PathSet.none_twice c.go_on.new.edges) edges t
+          (behind_reached self.graph.now self.procedure f c.give.new.self c.add.new.self c.go_on.new.pending es ds e c.callee.result c.entry.result c.back.result (flow.Call c.args.call.now)
+          c.requires.holds.0 c.requires.edge c.requires.call (enters g c) t (subst (λ bs. Each (IsBehind self.graph.now (site e.entry c.back.result e.values)) bs t) c.of.ensures w))
+          new full;
+      answers = IfOk-weaker c.go_on.result _ _
+          (λ _ _. answers_still f.given.mails.keys c.give.new.self.mails.keys f.given.answered c.give.new.self.answered f.given.within c.give.ensures.answered (gave g c).behind)
+          c.go_on.ensures.ok;
+      stays = record { graph = refl; procedure = refl; limit = refl };
+      fault = refl;
+    }
 
 pub returns-clause-asked : goal.returns-clause-asked
 returns-clause-asked g c =
@@ -75,19 +99,3 @@ returns-clause-asked g c =
     (asked_site self.graph.now self.procedure self.found c.give.new.self c.add.new.self c.go_on.new.pending es ds e c.callee.result c.entry.result c.back.result (flow.Call c.args.call.now)
     c.requires.holds.0 c.requires.edge c.requires.call (enters g c) (gave g c) c.in_ok-add.ensures.added c.in_ok-add.ensures.others (known g c grown)))
     c.go_on.ensures.ok
-
-pub returns-clause-only : goal.returns-clause-only
-returns-clause-only g c =
-    let self = c.args.self.now in
-    ask_only self.graph.now self.procedure self.found c.give.new.self c.add.new.self c.go_on.new.pending (g.S.PathSet.members self.edges) (g.S.PathSet.members c.go_on.new.edges) c.args.edge
-    c.callee.result c.entry.result c.back.result (flow.Call c.args.call.now) c.requires.holds.0 c.requires.edge c.requires.call (enters g c) (subst (λ bs. (t : Triple) → Member t (g.S.PathSet.members c.go_on.new.edges) → Each (IsBehind self.graph.now (site c.args.edge.entry c.back.result c.args.edge.values)) bs t ⊎ Member t (g.S.PathSet.members self.edges)) c.of.ensures c.go_on.ensures.only)
-
-pub returns-clause-limit : goal.returns-clause-limit
-returns-clause-limit g c = λ is.
-    let self = c.args.self.now in
-    let ds = g.S.PathSet.members c.go_on.new.edges in
-    let (t, w, new, full) = c.go_on.ensures.limit is in
-    has_more self.limit.edges ds _ (g.met.S.PathSet.none_twice c.go_on.new.edges) (returns-clause-only g c) t
-    (behind_reached self.graph.now self.procedure self.found c.give.new.self c.add.new.self c.go_on.new.pending (g.S.PathSet.members self.edges) ds c.args.edge
-    c.callee.result c.entry.result c.back.result (flow.Call c.args.call.now) c.requires.holds.0 c.requires.edge c.requires.call (enters g c) t (subst (λ bs. Each (IsBehind self.graph.now (site c.args.edge.entry c.back.result c.args.edge.values)) bs t) c.of.ensures w))
-    new full

@@ -4,48 +4,50 @@ use Rattle.summaries.specs.declared.found.Found.{Found}
 use Rattle.summaries.specs.Grows.{Gives, Each, IsTold}
 use Rattle.summaries.proofs.Beginning.{begun_also, begin_only, begin_step, start_reached}
 use Rattle.summaries.proofs.Growing.{grows_as, fault_of}
-use Rattle.summaries.proofs.Stepping.{still_sound, still_complete, all_reached, taken_as, has_more}
+use Rattle.summaries.proofs.Mails.{answers_still}
+use Rattle.summaries.proofs.Stepping.{still_grounded, still_complete, all_reached, taken_as, has_more}
+use Rattle.summaries.proofs.Worked.{ok_err, failed_worked, refused_worked}
 use Rattle.summaries.proofs.table.Table.begin.Goals as goal
 
-pub returns-in_err-add-clause-only : goal.returns-in_err-add-clause-only
-returns-in_err-add-clause-only g c =
+pub returns-in_err-add-clause-worked : goal.returns-in_err-add-clause-worked
+returns-in_err-add-clause-worked g c =
     let self = c.args.self.now in
     let f = self.found in
     let h : Found g.row.A.Denot = record { entries = c.add.new.self; summaries = f.summaries; sites = f.sites; exits = f.exits; pairs = f.pairs; given = f.given; pending = f.pending } in
-    all_reached self.graph.now self.procedure f h (g.S.PathSet.members self.edges) c.requires.holds.0 (taken_as f h c.in_err-add.ensures.err (λ k. refl))
+    refused_worked g.S.PathSet.members (λ t. ⊥) _ self _
+    (all_reached self.graph.now self.procedure f h (g.S.PathSet.members self.edges) c.requires.holds.0 (taken_as f h c.in_err-add.ensures.err (λ k. refl)))
+    c.requires.within (record { graph = refl; procedure = refl; limit = refl }) refl c.from_residual.ensures.1
 
-pub returns-in_err-reach-clause-only : goal.returns-in_err-reach-clause-only
-returns-in_err-reach-clause-only g c =
+pub returns-in_err-reach-clause-worked : goal.returns-in_err-reach-clause-worked
+returns-in_err-reach-clause-worked g c =
     let self = c.args.self.now in
     let f = self.found in
     let a = c.args.a in
-    begin_only self.graph.now self.procedure f c.add.new.self f.given c.reach.new.pending a c.args.caller c.in_ok-add.ensures.added c.in_ok-add.ensures.others
-    (g.S.PathSet.members self.edges) (g.S.PathSet.members c.reach.new.edges) c.requires.holds.0
-    (λ t m. elim (c.in_err-reach.ensures.only t m) [ inl is ↦ inl (is ∙ ap (λ n. triple a n a) c.start.ensures) | inr was ↦ inr was ])
-
-pub returns-in_err-reach-clause-limit : goal.returns-in_err-reach-clause-limit
-returns-in_err-reach-clause-limit g c = λ is.
-    let self = c.args.self.now in
-    let f = self.found in
-    let a = c.args.a in
+    let es = g.S.PathSet.members self.edges in
+    let ds = g.S.PathSet.members c.reach.new.edges in
+    let edges = begin_only self.graph.now self.procedure f c.add.new.self f.given c.reach.new.pending a c.args.caller c.in_ok-add.ensures.added c.in_ok-add.ensures.others es ds c.requires.holds.0
+    (λ t m. elim (c.in_err-reach.ensures.only t m) [ inl is ↦ inl (is ∙ ap (λ n. triple a n a) c.start.ensures) | inr was ↦ inr was ]) in
+    failed_worked g.S.PathSet.members (λ t. ⊥) _ self _ edges c.in_err-reach.ensures.within (record { graph = refl; procedure = refl; limit = refl }) refl _ c.from_residual-in_err-reach.ensures.1
+    (λ is.
     let (new, full) = c.in_err-reach.ensures.limit (ap Err (sym (fault_of _ _ _ c.from_residual-in_err-reach.ensures.1 is))) in
-    has_more self.limit.edges (g.S.PathSet.members c.reach.new.edges) _ (g.met.S.PathSet.none_twice c.reach.new.edges) (returns-in_err-reach-clause-only g c)
-    (triple a c.start.result a)
-    (start_reached self.graph.now self.procedure f c.add.new.self f.given c.reach.new.pending a c.args.caller c.in_ok-add.ensures.added c.in_ok-add.ensures.others
-    (g.S.PathSet.members self.edges) (g.S.PathSet.members c.reach.new.edges) c.requires.holds.0 (triple a c.start.result a) (ap (λ n. triple a n a) c.start.ensures))
-    new full
+    has_more self.limit ds _ (g.met.S.PathSet.none_twice c.reach.new.edges) edges (triple a c.start.result a)
+    (start_reached self.graph.now self.procedure f c.add.new.self f.given c.reach.new.pending a c.args.caller c.in_ok-add.ensures.added c.in_ok-add.ensures.others es ds c.requires.holds.0
+    (triple a c.start.result a) (ap (λ n. triple a n a) c.start.ensures))
+    new full)
 
-pub returns-in_err-tell_exits-clause-only : goal.returns-in_err-tell_exits-clause-only
-returns-in_err-tell_exits-clause-only g c =
+pub returns-in_err-tell_exits-clause-worked : goal.returns-in_err-tell_exits-clause-worked
+returns-in_err-tell_exits-clause-worked g c =
     let self = c.args.self.now in
     let f = self.found in
     let a = c.args.a in
-    begin_only self.graph.now self.procedure f c.add.new.self c.tell_exits.new.given c.reach.new.pending a c.args.caller c.in_ok-add.ensures.added c.in_ok-add.ensures.others
+    refused_worked g.S.PathSet.members (λ t. ⊥) _ self _
+    (begin_only self.graph.now self.procedure f c.add.new.self c.tell_exits.new.given c.reach.new.pending a c.args.caller c.in_ok-add.ensures.added c.in_ok-add.ensures.others
     (g.S.PathSet.members self.edges) (g.S.PathSet.members c.reach.new.edges) c.requires.holds.0
-    (λ t m. elim (c.in_ok-reach.ensures.only t m) [ inl is ↦ inl (is ∙ ap (λ n. triple a n a) c.start.ensures) | inr was ↦ inr was ])
+    (λ t m. elim (c.in_ok-reach.ensures.only t m) [ inl is ↦ inl (is ∙ ap (λ n. triple a n a) c.start.ensures) | inr was ↦ inr was ]))
+    c.in_ok-reach.ensures.within (record { graph = refl; procedure = refl; limit = refl }) refl c.from_residual-in_err-tell_exits.ensures.1
 
-pub returns-clause-ok : goal.returns-clause-ok
-returns-clause-ok g c =
+pub returns-clause-worked : goal.returns-clause-worked
+returns-clause-worked g c =
     let self = c.args.self.now in
     let f = self.found in
     let a = c.args.a in
@@ -54,34 +56,34 @@ returns-clause-ok g c =
     let grown = grows_as (λ t. t ≡ triple a c.start.result a) (λ t. t ≡ triple a self.graph.now.start a) es ds f.pending.items c.reach.new.pending.items
     (λ t is. is ∙ ap (λ n. triple a n a) c.start.ensures) (λ t is. is ∙ ap (λ n. triple a n a) (sym c.start.ensures)) c.in_ok-reach.ensures.ok in
     let gave = subst (λ bs. Gives (Each (λ b. IsTold self.procedure a b c.args.caller) bs) f.given.mails.keys c.tell_exits.new.given.mails.keys) c.of.ensures c.in_ok-tell_exits.ensures.ok in
-    let step = begin_step self.graph.now self.procedure f c.add.new.self c.tell_exits.new.given c.reach.new.pending a c.args.caller c.in_ok-add.ensures.added c.in_ok-add.ensures.others es ds c.requires.holds.0 grown gave in (
-      still_sound self.graph.now self.procedure f _ es ds step c.requires.holds.0,
-      still_complete self.graph.now self.procedure f _ es ds step (λ t. ⊥) c.requires.holds.1,
-    )
-
-pub returns-clause-only : goal.returns-clause-only
-returns-clause-only g c =
-    let self = c.args.self.now in
-    let f = self.found in
-    let a = c.args.a in
-    begin_only self.graph.now self.procedure f c.add.new.self c.tell_exits.new.given c.reach.new.pending a c.args.caller c.in_ok-add.ensures.added c.in_ok-add.ensures.others
-    (g.S.PathSet.members self.edges) (g.S.PathSet.members c.reach.new.edges) c.requires.holds.0
-    (λ t m. elim (c.in_ok-reach.ensures.only t m) [ inl is ↦ inl (is ∙ ap (λ n. triple a n a) c.start.ensures) | inr was ↦ inr was ])
+    let step = begin_step self.graph.now self.procedure f c.add.new.self c.tell_exits.new.given c.reach.new.pending a c.args.caller c.in_ok-add.ensures.added c.in_ok-add.ensures.others es ds c.requires.holds.0 grown gave in record {
+      holds = (
+        still_grounded self.graph.now self.procedure f _ es ds step c.requires.holds.0,
+        still_complete self.graph.now self.procedure f _ es ds step (λ t. ⊥) c.requires.holds.1,
+      );
+      edges = begin_only self.graph.now self.procedure f c.add.new.self c.tell_exits.new.given c.reach.new.pending a c.args.caller c.in_ok-add.ensures.added c.in_ok-add.ensures.others es ds c.requires.holds.0
+          (λ t m. elim (c.in_ok-reach.ensures.only t m) [ inl is ↦ inl (is ∙ ap (λ n. triple a n a) c.start.ensures) | inr was ↦ inr was ]);
+      within = c.in_ok-reach.ensures.within;
+      many = λ is. absurd (ok_err is);
+      answers = answers_still f.given.mails.keys c.tell_exits.new.given.mails.keys f.given.answered c.tell_exits.new.given.answered f.given.within c.in_ok-tell_exits.ensures.answered c.in_ok-tell_exits.ensures.ok.behind;
+      stays = record { graph = refl; procedure = refl; limit = refl };
+      fault = refl;
+    }
 
 pub returns-clause-taken : goal.returns-clause-taken
 returns-clause-taken g c =
     let self = c.args.self.now in
     begun_also self.graph.now self.procedure self.found c.add.new.self c.tell_exits.new.given c.reach.new.pending c.args.a c.args.caller c.in_ok-add.ensures.added c.in_ok-add.ensures.others
 
-pub returns-in_err-reach-clause-took : goal.returns-in_err-reach-clause-took
-returns-in_err-reach-clause-took g c = λ k.
+pub returns-in_err-reach-clause-only : goal.returns-in_err-reach-clause-only
+returns-in_err-reach-clause-only g c = λ k.
     let self = c.args.self.now in
     (begun_also self.graph.now self.procedure self.found c.add.new.self self.found.given c.reach.new.pending c.args.a c.args.caller c.in_ok-add.ensures.added c.in_ok-add.ensures.others k).0
 
-pub returns-in_err-tell_exits-clause-took : goal.returns-in_err-tell_exits-clause-took
-returns-in_err-tell_exits-clause-took g c = λ k.
+pub returns-in_err-tell_exits-clause-only : goal.returns-in_err-tell_exits-clause-only
+returns-in_err-tell_exits-clause-only g c = λ k.
     let self = c.args.self.now in
     (begun_also self.graph.now self.procedure self.found c.add.new.self c.tell_exits.new.given c.reach.new.pending c.args.a c.args.caller c.in_ok-add.ensures.added c.in_ok-add.ensures.others k).0
 
-pub returns-clause-took : goal.returns-clause-took
-returns-clause-took g c = λ k. (returns-clause-taken g c k).0
+pub returns-clause-only : goal.returns-clause-only
+returns-clause-only g c = λ k. (returns-clause-taken g c k).0

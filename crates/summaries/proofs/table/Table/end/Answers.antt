@@ -5,51 +5,47 @@ use Rattle.path_sets.specs.Triples.{Triple}
 use Rattle.summaries.specs.declared.found.Found.{Found}
 use Rattle.summaries.specs.Grows.{Grows, Each, IsBehind}
 use Rattle.summaries.proofs.Ending.{ended_also, end_only, end_step, ended_reached}
-use Rattle.summaries.proofs.Stepping.{still_sound, still_complete, all_reached, taken_as, has_more}
+use Rattle.summaries.proofs.Stepping.{still_grounded, still_complete, all_reached, taken_as, has_more}
+use Rattle.summaries.proofs.Worked.{refused_worked}
 use Rattle.summaries.proofs.table.Table.end.Goals as goal
 
-pub returns-in_err-add-clause-only : goal.returns-in_err-add-clause-only
-returns-in_err-add-clause-only g c =
+pub returns-in_err-add-clause-worked : goal.returns-in_err-add-clause-worked
+returns-in_err-add-clause-worked g c =
     let self = c.args.self.now in
     let f = self.found in
     let h : Found g.row.A.Denot = record { entries = f.entries; summaries = c.add.new.self; sites = f.sites; exits = f.exits; pairs = f.pairs; given = f.given; pending = f.pending } in
-    all_reached self.graph.now self.procedure f h (g.S.PathSet.members self.edges) c.requires.holds.0 (taken_as f h (λ a. refl) c.in_err-add.ensures.err)
+    refused_worked g.S.PathSet.members (λ t. ⊥) _ self _
+    (all_reached self.graph.now self.procedure f h (g.S.PathSet.members self.edges) c.requires.holds.0 (taken_as f h (λ a. refl) c.in_err-add.ensures.err))
+    c.requires.within (record { graph = refl; procedure = refl; limit = refl }) refl c.from_residual.ensures.1
 
-pub returns-clause-ok : goal.returns-clause-ok
-returns-clause-ok g c =
+pub returns-clause-worked : goal.returns-clause-worked
+returns-clause-worked g c =
     let self = c.args.self.now in
     let f = self.found in
     let es = g.S.PathSet.members self.edges in
     let ds = g.S.PathSet.members c.go_on_at_each.new.edges in
-    IfOk-weaker c.go_on_at_each.result _ _
-    (λ _ grown.
-    let known = subst (λ ss. Grows (Each (λ y. IsBehind self.graph.now y c.args.b) ss) es ds f.pending.items c.go_on_at_each.new.pending.items) c.of.ensures grown in
-    let step = end_step self.graph.now self.procedure f c.add.new.self c.go_on_at_each.new.pending c.args.call c.args.b c.in_ok-add.ensures.added c.in_ok-add.ensures.others es ds c.requires.holds.0 known in (
-      still_sound self.graph.now self.procedure f _ es ds step c.requires.holds.0,
-      still_complete self.graph.now self.procedure f _ es ds step (λ t. ⊥) c.requires.holds.1,
-    ))
-    c.go_on_at_each.ensures.ok
-
-pub returns-clause-only : goal.returns-clause-only
-returns-clause-only g c =
-    let self = c.args.self.now in
-    let f = self.found in
-    let es = g.S.PathSet.members self.edges in
-    let ds = g.S.PathSet.members c.go_on_at_each.new.edges in
-    end_only self.graph.now self.procedure f c.add.new.self c.go_on_at_each.new.pending c.args.call c.args.b c.in_ok-add.ensures.added c.in_ok-add.ensures.others es ds c.requires.holds.0
-    (subst (λ ss. (t : Triple) → Member t ds → Each (λ y. IsBehind self.graph.now y c.args.b) ss t ⊎ Member t es) c.of.ensures c.go_on_at_each.ensures.only)
-
-pub returns-clause-limit : goal.returns-clause-limit
-returns-clause-limit g c = λ is.
-    let self = c.args.self.now in
-    let f = self.found in
-    let es = g.S.PathSet.members self.edges in
-    let ds = g.S.PathSet.members c.go_on_at_each.new.edges in
-    let (t, w, new, full) = c.go_on_at_each.ensures.limit is in
-    has_more self.limit.edges ds _ (g.met.S.PathSet.none_twice c.go_on_at_each.new.edges) (returns-clause-only g c) t
-    (ended_reached self.graph.now self.procedure f c.add.new.self c.go_on_at_each.new.pending c.args.call c.args.b c.in_ok-add.ensures.added c.in_ok-add.ensures.others es ds c.requires.holds.0 t
-    (subst (λ ss. Each (λ y. IsBehind self.graph.now y c.args.b) ss t) c.of.ensures w))
-    new full
+    let edges = end_only self.graph.now self.procedure f c.add.new.self c.go_on_at_each.new.pending c.args.call c.args.b c.in_ok-add.ensures.added c.in_ok-add.ensures.others es ds c.requires.holds.0
+    (subst (λ ss. (t : Triple) → Member t ds → Each (λ y. IsBehind self.graph.now y c.args.b) ss t ⊎ Member t es) c.of.ensures c.go_on_at_each.ensures.only) in record {
+      holds = IfOk-weaker c.go_on_at_each.result _ _
+          (λ _ grown.
+          let known = subst (λ ss. Grows (Each (λ y. IsBehind self.graph.now y c.args.b) ss) es ds f.pending.items c.go_on_at_each.new.pending.items) c.of.ensures grown in
+          let step = end_step self.graph.now self.procedure f c.add.new.self c.go_on_at_each.new.pending c.args.call c.args.b c.in_ok-add.ensures.added c.in_ok-add.ensures.others es ds c.requires.holds.0 known in (
+            still_grounded self.graph.now self.procedure f _ es ds step c.requires.holds.0,
+            still_complete self.graph.now self.procedure f _ es ds step (λ t. ⊥) c.requires.holds.1,
+          ))
+          c.go_on_at_each.ensures.ok;
+      edges = edges;
+      within = c.go_on_at_each.ensures.within;
+      many = λ is.
+          let (t, w, new, full) = c.go_on_at_each.ensures.limit is in
+          has_more self.limit ds _ (g.met.S.PathSet.none_twice c.go_on_at_each.new.edges) edges t
+          (ended_reached self.graph.now self.procedure f c.add.new.self c.go_on_at_each.new.pending c.args.call c.args.b c.in_ok-add.ensures.added c.in_ok-add.ensures.others es ds c.requires.holds.0 t
+          (subst (λ ss. Each (λ y. IsBehind self.graph.now y c.args.b) ss t) c.of.ensures w))
+          new full;
+      answers = IfOk-weaker c.go_on_at_each.result _ _ (λ _ _. refl) c.go_on_at_each.ensures.ok;
+      stays = record { graph = refl; procedure = refl; limit = refl };
+      fault = refl;
+    }
 
 pub returns-clause-taken : goal.returns-clause-taken
 returns-clause-taken g c =
@@ -59,13 +55,13 @@ returns-clause-taken g c =
     (λ _ _. ended_also self.graph.now self.procedure f c.add.new.self c.go_on_at_each.new.pending c.args.call c.args.b c.in_ok-add.ensures.added c.in_ok-add.ensures.others)
     c.go_on_at_each.ensures.ok
 
-pub returns-in_err-add-clause-took : goal.returns-in_err-add-clause-took
-returns-in_err-add-clause-took g c = λ k m.
+pub returns-in_err-add-clause-only : goal.returns-in_err-add-clause-only
+returns-in_err-add-clause-only g c = λ k m.
     let f = c.args.self.now.found in
     let h : Found g.row.A.Denot = record { entries = f.entries; summaries = c.add.new.self; sites = f.sites; exits = f.exits; pairs = f.pairs; given = f.given; pending = f.pending } in
     inr (taken_as h f (λ a. refl) (λ j. sym (c.in_err-add.ensures.err j)) k m)
 
-pub returns-clause-took : goal.returns-clause-took
-returns-clause-took g c = λ k.
+pub returns-clause-only : goal.returns-clause-only
+returns-clause-only g c = λ k.
     let self = c.args.self.now in
     (ended_also self.graph.now self.procedure self.found c.add.new.self c.go_on_at_each.new.pending c.args.call c.args.b c.in_ok-add.ensures.added c.in_ok-add.ensures.others k).0

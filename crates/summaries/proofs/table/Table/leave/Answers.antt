@@ -8,9 +8,9 @@ use Rattle.summaries.specs.Under.{under}
 use Rattle.summaries.specs.Found.{pair, pair_eq}
 use Rattle.summaries.specs.Grows.{Gives, Each, IsTold, triple_of}
 use Rattle.summaries.proofs.Adding.{same_pair}
-use Rattle.summaries.proofs.Mails.{inserted_new, inserted_known, sent_still}
+use Rattle.summaries.proofs.Mails.{inserted_new, inserted_known, answers_still}
 use Rattle.summaries.proofs.Leaving.{leave_step}
-use Rattle.summaries.proofs.Stepping.{still_sound, still_complete, same_step}
+use Rattle.summaries.proofs.Stepping.{still_grounded, still_complete, same_step}
 use Rattle.summaries.proofs.table.Table.leave.Goals as goal
 
 pub returns-in_ok-tell_all-clause-ok : goal.returns-in_ok-tell_all-clause-ok
@@ -25,7 +25,7 @@ returns-in_ok-tell_all-clause-ok g c =
     let keys = inserted_new pair_eq (pair e.entry b) f.pairs.keys c.insert.new.self.keys c.in_ok-insert.field-0 c.in_ok-insert.ensures.added c.in_ok-insert.ensures.keys c.if-branch.true in
     let gave = subst (λ cs. Gives (Each (IsTold self.procedure e.entry b) cs) f.given.mails.keys h.given.mails.keys) c.of.ensures c.in_ok-tell_all.ensures.ok in
     let step = leave_step self.graph.now self.procedure f h es e.entry e.values b c.left.ensures.number c.requires.holds.0 there keys c.in_ok-add.ensures.added c.in_ok-add.ensures.others gave in (
-      still_sound self.graph.now self.procedure f h es es step c.requires.holds.0,
+      still_grounded self.graph.now self.procedure f h es es step c.requires.holds.0,
       still_complete self.graph.now self.procedure f h es es step (λ t. t ≡ triple_of e) c.requires.holds.1,
     )
 
@@ -38,10 +38,10 @@ returns-in_ok-tell_all-clause-left g c = λ _.
     subst (λ y. Member y (under nat_eq c.add.new.self.by_key e.entry)) c.left.ensures.number
     (subst (Member b) (sym c.in_ok-add.ensures.added) (member_right b (under nat_eq f.exits.by_key e.entry) (b ∷ []) (inl refl)))
 
-pub returns-in_ok-tell_all-clause-sent : goal.returns-in_ok-tell_all-clause-sent
-returns-in_ok-tell_all-clause-sent g c =
+pub returns-in_ok-tell_all-clause-answers : goal.returns-in_ok-tell_all-clause-answers
+returns-in_ok-tell_all-clause-answers g c =
     let f = c.args.self.now.found in
-    sent_still f.given.mails.keys c.tell_all.new.given.mails.keys f.given.answered c.tell_all.new.given.answered f.given.within c.in_ok-tell_all.ensures.answered c.in_ok-tell_all.ensures.ok.behind
+    answers_still f.given.mails.keys c.tell_all.new.given.mails.keys f.given.answered c.tell_all.new.given.answered f.given.within c.in_ok-tell_all.ensures.answered c.in_ok-tell_all.ensures.ok.behind
 
 pub returns-else-branch-clause-ok : goal.returns-else-branch-clause-ok
 returns-else-branch-clause-ok g c =
@@ -52,7 +52,7 @@ returns-else-branch-clause-ok g c =
     let h : Found g.row.A.Denot = record { entries = f.entries; summaries = f.summaries; sites = f.sites; exits = f.exits; pairs = c.insert.new.self; given = f.given; pending = f.pending } in
     let known = inserted_known pair_eq (pair e.entry c.left.result) f.pairs.keys c.insert.new.self.keys c.in_ok-insert.field-0 c.in_ok-insert.ensures.added c.in_ok-insert.ensures.keys c.if-branch.false in
     let step = same_step self.graph.now self.procedure f h es known.0 refl refl in (
-      still_sound self.graph.now self.procedure f h es es step c.requires.holds.0,
+      still_grounded self.graph.now self.procedure f h es es step c.requires.holds.0,
       still_complete self.graph.now self.procedure f h es es step (λ t. t ≡ triple_of e) c.requires.holds.1,
     )
 

@@ -1,8 +1,8 @@
 use Rattle.std.proofs.Common.{length, refl, ap, subst, arith}
 use Rattle.std.proofs.lemmas.Option.{none-some}
 use Rattle.language.specs.Flow.{Member}
-use Rattle.summaries.proofs.Mails.{sent_none}
-use Rattle.summaries.proofs.Stepping.{no_message, empty_sound, empty_complete}
+use Rattle.summaries.proofs.Mails.{answers_none}
+use Rattle.summaries.proofs.Stepping.{no_message, empty_grounded, empty_complete}
 use Rattle.summaries.proofs.table.Table.new.Goals as goal
 
 pub returns-clause-new : goal.returns-clause-new
@@ -15,10 +15,10 @@ returns-clause-new g c =
       table = record {
         edges = λ x m. absurd (subst (Member x) none m);
         within = let short = ap length none in omega (arith, short);
-        holds = λ _. (empty_sound graph c.args.procedure found es empty none, empty_complete graph c.args.procedure found es empty none);
+        holds = λ _. (empty_grounded graph c.args.procedure found es empty none, empty_complete graph c.args.procedure found es empty none);
         many = λ is. absurd (none-some _ is);
       };
       nothing = no_message graph c.args.procedure found es empty none;
-      answered = sent_none found.given.mails.keys found.given.answered empty.given;
+      answered = answers_none found.given.mails.keys found.given.answered empty.given;
       fault = refl;
     }

@@ -1,16 +1,20 @@
 use Rattle.std.proofs.Common.{◌≡◌, ◌++◌, ◌∷◌, [], refl, sym, ◌∙◌}
 use Rattle.std.proofs.lemmas.List.{append-nil}
 use Rattle.summaries.specs.declared.found.Found.{Found}
-use Rattle.summaries.proofs.Stepping.{popped_sound, popped_complete, popped_edge}
+use Rattle.summaries.proofs.Stepping.{popped_grounded, popped_complete, popped_edge}
 use Rattle.summaries.proofs.Tabling.{same_table}
 use Rattle.summaries.proofs.table.Table.step.Goals as goal
 
-pub returns-in_default-clause-table : goal.returns-in_default-clause-table
-returns-in_default-clause-table g c =
+pub returns-in_default-clause-keeps : goal.returns-in_default-clause-keeps
+returns-in_default-clause-keeps g c =
     let self = c.args.self.now in
     let f = self.found in
-    let h : Found g.row.A.Denot = record { entries = f.entries; summaries = f.summaries; sites = f.sites; exits = f.exits; pairs = f.pairs; given = f.given; pending = c.pop.new.self } in
-    same_table g.S.PathSet.members self h refl refl (sym (c.in_default.ensures.items ∙ append-nil c.pop.new.self.items)) c.requires.table
+    let h : Found g.row.A.Denot = record { entries = f.entries; summaries = f.summaries; sites = f.sites; exits = f.exits; pairs = f.pairs; given = f.given; pending = c.pop.new.self } in record {
+      table = same_table g.S.PathSet.members self h refl refl (sym (c.in_default.ensures.items ∙ append-nil c.pop.new.self.items)) c.requires.table;
+      taken = (refl, refl);
+      stays = record { graph = refl; procedure = refl; limit = refl };
+      fault = c.requires.fault;
+    }
 
 pub work-worked-requires-clause-edge : goal.work-worked-requires-clause-edge
 work-worked-requires-clause-edge g c =
@@ -25,6 +29,6 @@ work-worked-requires-clause-holds g c =
     let es = g.S.PathSet.members self.edges in
     let held = c.requires.table.holds c.requires.fault in
     let popped : self.found.pending.items ≡ c.pop.new.self.items ++ c.in-Some.edge ∷ [] = c.in-Some.ensures.items in (
-      popped_sound self.graph.now self.procedure self.found es c.pop.new.self c.in-Some.edge popped held.0,
+      popped_grounded self.graph.now self.procedure self.found es c.pop.new.self c.in-Some.edge popped held.0,
       popped_complete self.graph.now self.procedure self.found es c.pop.new.self c.in-Some.edge popped held.1,
     )

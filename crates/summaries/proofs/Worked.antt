@@ -1,0 +1,67 @@
+-- What a table's work comes to, by its answer.
+use Rattle.std.proofs.Common.{◌≡◌, ◌≤◌, ◌++◌, ◌∷◌, [], ℕ, List, Option, Some, None, Result, Ok, Err, length, ◌∙◌, subst}
+use Rattle.std.specs.Option.{IfSome}
+use Rattle.std.specs.Result.{IsErrAnd, OnOk}
+use Rattle.std.proofs.lemmas.Result.{IfOk-weaker}
+use Rattle.language.specs.Flow.{Member}
+use Rattle.path_sets.specs.Triples.{Triple}
+use Rattle.flow_graph.specs.Numbers.{NumberedMessage, Sends}
+use Rattle.summaries.specs.declared.due.Due.{Due}
+use Rattle.summaries.specs.declared.table.Table.{Table}
+use Rattle.summaries.specs.declared.table_fault.TableFault.{TableFault}
+use Rattle.summaries.specs.declared.table_fault.TableFault.TheVariants.{Memory, EdgeLimit}
+use Rattle.summaries.specs.Mails.{mail}
+use Rattle.summaries.specs.Dues.{due_of}
+use Rattle.summaries.specs.Found.{TookMessage}
+use Rattle.summaries.specs.Tables.{answers_of, HasMore, Holds, IsReached, IsAnswer, StaysAs, Worked}
+
+-- the two faults are not the same
+two_faults : EdgeLimit ≡ Memory → ⊥
+two_faults e = cc
+
+-- Ok is no fault
+pub ok_err : {T : Type 0} {x : T} {e : TableFault} → Ok x ≡ Err e → ⊥
+ok_err is = cc
+
+-- a message that is answered, by its parts
+pub answer_is : {G A S : Type 0} (old new : Table G A S) (r : Option (ℕ × Due)) → IfSome r (λ m. answers_of new ≡ answers_of old ++ mail m.0 m.1 ∷ [])
+    → IfSome r (λ m. (k : NumberedMessage) → due_of k ≡ m.1 → Sends new.graph.now new.procedure (TookMessage new.found) m.0 k)
+    → IfSome r (λ m. Member (mail m.0 m.1) (answers_of old) → ⊥) → IfSome r (λ m. IsAnswer old new m.0 m.1)
+answer_is old new None behind due once = tt
+answer_is old new (Some _) behind due once = record { behind = behind; due = due; once = once }
+
+module _ {G A S : Type 0} (members : S → List Triple) where
+  module _ {T : Type 0} (Aside : Triple → Type 0) (r : Result T TableFault) (old new : Table G A S) (edges : (x : Triple) → Member x (members new.edges) → IsReached new x)
+      (within : length (members new.edges) ≤ new.limit) (stays : StaysAs old new) (fault : new.fault ≡ old.fault) where
+    -- where the answer is a fault
+    pub failed_worked : (P : TableFault → Type 0) → IsErrAnd r P → (r ≡ Err EdgeLimit → HasMore new.limit (IsReached new)) → Worked members Aside r old new
+    failed_worked P told many = record {
+      holds = by _ r told;
+      edges = edges;
+      within = within;
+      many = many;
+      answers = by _ r told;
+      stays = stays;
+      fault = fault;
+    }
+      where
+        by : (Q : Type 0) (s : Result T TableFault) → IsErrAnd s P → OnOk s Q
+        by Q (Ok _) told = absurd told
+        by Q (Err _) told = tt
+
+    -- where memory is refused
+    pub refused_worked : IsErrAnd r (λ e. e ≡ Memory) → Worked members Aside r old new
+    refused_worked told = failed_worked (λ e. e ≡ Memory) told (λ is. absurd (two_faults (subst (λ s. IsErrAnd s (λ e. e ≡ Memory)) is told)))
+
+  -- work that goes on from other work, and leaves other edges aside
+  pub then_worked : {T : Type 0} (Aside Left : Triple → Type 0) (r : Result T TableFault) (old mid new : Table G A S) → StaysAs old mid → mid.fault ≡ old.fault
+      → answers_of mid ≡ answers_of old → OnOk r (Holds members Left new) → Worked members Aside r mid new → Worked members Left r old new
+  then_worked Aside Left r old mid new stays fault same holds worked = record {
+    holds = holds;
+    edges = worked.edges;
+    within = worked.within;
+    many = worked.many;
+    answers = IfOk-weaker r _ _ (λ _ more. more ∙ same) worked.answers;
+    stays = record { graph = worked.stays.graph ∙ stays.graph; procedure = worked.stays.procedure ∙ stays.procedure; limit = worked.stays.limit ∙ stays.limit };
+    fault = worked.fault ∙ fault;
+  }
