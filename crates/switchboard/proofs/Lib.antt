@@ -1,5 +1,6 @@
 pub mod Keeping
 pub mod Visits
+pub mod Inside
 pub mod Learning
 pub mod Settling
 pub mod Opening

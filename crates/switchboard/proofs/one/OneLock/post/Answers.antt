@@ -1,114 +1,63 @@
 -- The message is posted under a job of the state that the pass finds, or nothing changes.
-use Rattle.std.proofs.Common.{◌≡◌, ◌<◌, refl, sym, ap, ◌∙◌, subst, arith, OnOk, IfErr, None}
+use Rattle.std.proofs.Common.{◌≡◌, ◌<◌, sym, ap, arith, OnOk, IfErr, None}
 use Rattle.post_ledger.specs.declared.entry.Entry.TheVariants.{Posted}
 use Rattle.post_ledger.specs.Orders.{HasJob}
 use Rattle.switchboard.specs.Books.{with_entry, Refuses}
 use Rattle.switchboard.specs.Passes.{sight_of}
-use Rattle.switchboard.proofs.Visits.{found_here, shows, job_found, post_allowed, post_step, post_still, posted_is, PostAnswer, step_keeps, may_leave, visit_is, some_calls, pass_stays, after_shows, showing, moved}
+use Rattle.switchboard.proofs.Inside.{inside, to_lane, to_call, boxes_inside, job_inside, allowing, posting, had_calls, shown_after}
+use Rattle.switchboard.proofs.Visits.{post_still, posted_is, PostAnswer, may_leave, visit_is, pass_stays, showing, moved}
 use Rattle.switchboard.proofs.one.OneLock.post.Goals as goal
 
 pub post-answer-requires-clause-job : goal.post-answer-requires-clause-job
 post-answer-requires-clause-job g c =
     let F = g.M.Mail.fits in
-    let p = c.pass.invariant in
-    let i = c.pass.inside in
-    let a = i.lane in
-    let guard = c.in-Ok.guard in
-    let e = c.in-Ok.ensures in
-    let f = found_here F guard a c.enter.new.lane i.world.value i.boxes i.kept p e in
-    let see = sym (shows F a i.world.value i.boxes i.kept p) ∙ c.pass.view_is in
-    let number = c.number-number.ensures ∙ sym (ap (λ s. s.number) see) in
-    let has = job_found F a.number c.args.job.now p.last guard.value c.args.pass.now a i.kept f see refl c.requires.job in
-    let to : c.args.to < guard.value.boxes = omega (arith, f.before.boxes, ap (λ s. s.seen.boxes) see, c.requires.fits.0) in
-    subst (λ n. HasJob n c.args.job.now c.value.result.now.order) (sym number) (subst (λ x. HasJob a.number c.args.job.now x.order) (sym c.value.ensures.value) has)
+    let h = inside F c.pass.invariant c.in-Ok.ensures c.pass.view_is c.number-number.ensures c.value.ensures.value in
+    to_call F h (λ n x. HasJob n c.args.job.now x.order) (job_inside F h c.requires.job)
 
 pub post-answer-requires-clause-to : goal.post-answer-requires-clause-to
 post-answer-requires-clause-to g c =
     let F = g.M.Mail.fits in
-    let p = c.pass.invariant in
-    let i = c.pass.inside in
-    let a = i.lane in
-    let guard = c.in-Ok.guard in
-    let e = c.in-Ok.ensures in
-    let f = found_here F guard a c.enter.new.lane i.world.value i.boxes i.kept p e in
-    let see = sym (shows F a i.world.value i.boxes i.kept p) ∙ c.pass.view_is in
-    let number = c.number-number.ensures ∙ sym (ap (λ s. s.number) see) in
-    let has = job_found F a.number c.args.job.now p.last guard.value c.args.pass.now a i.kept f see refl c.requires.job in
-    let to : c.args.to < guard.value.boxes = omega (arith, f.before.boxes, ap (λ s. s.seen.boxes) see, c.requires.fits.0) in
-    subst (λ x. c.args.to < x.boxes) (sym c.value.ensures.value) to
+    let h = inside F c.pass.invariant c.in-Ok.ensures c.pass.view_is c.number-number.ensures c.value.ensures.value in
+    to_call F h (λ n x. c.args.to < x.boxes) (omega (arith, boxes_inside F h, c.requires.fits.0))
 
 pub leave-requires-clause-value : goal.leave-requires-clause-value
 leave-requires-clause-value g c =
     let F = g.M.Mail.fits in
-    let p = c.pass.invariant in
-    let i = c.pass.inside in
-    let a = i.lane in
-    let guard = c.in-Ok.guard in
-    let e = c.in-Ok.ensures in
-    let f = found_here F guard a c.enter.new.lane i.world.value i.boxes i.kept p e in
-    let see = sym (shows F a i.world.value i.boxes i.kept p) ∙ c.pass.view_is in
-    let number = c.number-number.ensures ∙ sym (ap (λ s. s.number) see) in
-    let has = job_found F a.number c.args.job.now p.last guard.value c.args.pass.now a i.kept f see refl c.requires.job in
-    let to : c.args.to < guard.value.boxes = omega (arith, f.before.boxes, ap (λ s. s.seen.boxes) see, c.requires.fits.0) in
     let y = c.post-answer.new.self in
     let answer = c.post-answer.result in
-    let fit = subst (λ w. F w c.args.to c.args.message) (sym (f.before.world ∙ ap (λ s. s.seen.world) see)) c.requires.fits.1 in
-    let event = Posted c.args.to a.number c.args.message c.args.job.now in
-    let may = post_allowed F a.number c.args.job.now c.args.to c.args.message guard.value to has fit in
-    let ok = subst (λ n. OnOk answer ((guard.value.aborted ≡ None) × (y ≡ with_entry (Posted c.args.to n c.args.message c.args.job.now) guard.value))) number (subst (λ x. OnOk answer ((x.aborted ≡ None) × (y ≡ with_entry (Posted c.args.to c.number-number.result c.args.message c.args.job.now) x))) c.value.ensures.value c.post-answer.ensures.ok) in
-    let err = subst (λ x. IfErr answer (λ q. Refuses c.args.message q x y)) c.value.ensures.value c.post-answer.ensures.err in
-    let keeps = step_keeps F a.number guard.value y f.sound (post_step F a.number event c.args.message answer guard.value y refl may ok err) in
-    may_leave F guard a c.enter.new.lane y e keeps
+    let h = inside F c.pass.invariant c.in-Ok.ensures c.pass.view_is c.number-number.ensures c.value.ensures.value in
+    let may = allowing F h (job_inside F h c.requires.job) c.requires.fits.0 c.requires.fits.1 in
+    let ok = to_lane F h (λ n x. OnOk answer ((x.aborted ≡ None) × (y ≡ with_entry (Posted c.args.to n c.args.message c.args.job.now) x))) c.post-answer.ensures.ok in
+    let err = to_lane F h (λ n x. IfErr answer (λ f. Refuses c.args.message f x y)) c.post-answer.ensures.err in
+    may_leave F c.in-Ok.guard c.pass.inside.lane c.enter.new.lane y c.in-Ok.ensures (posting F h answer may ok err)
 
 pub invariant_of-pass : goal.invariant_of-pass
 invariant_of-pass g c =
     let F = g.M.Mail.fits in
-    let p = c.pass.invariant in
     let i = c.pass.inside in
-    let a = i.lane in
-    let guard = c.in-Ok.guard in
-    let e = c.in-Ok.ensures in
-    let f = found_here F guard a c.enter.new.lane i.world.value i.boxes i.kept p e in
-    let see = sym (shows F a i.world.value i.boxes i.kept p) ∙ c.pass.view_is in
-    let number = c.number-number.ensures ∙ sym (ap (λ s. s.number) see) in
-    let has = job_found F a.number c.args.job.now p.last guard.value c.args.pass.now a i.kept f see refl c.requires.job in
-    let to : c.args.to < guard.value.boxes = omega (arith, f.before.boxes, ap (λ s. s.seen.boxes) see, c.requires.fits.0) in
+    let x = c.in-Ok.guard.value in
     let y = c.post-answer.new.self in
     let answer = c.post-answer.result in
-    let fit = subst (λ w. F w c.args.to c.args.message) (sym (f.before.world ∙ ap (λ s. s.seen.world) see)) c.requires.fits.1 in
-    let event = Posted c.args.to a.number c.args.message c.args.job.now in
-    let may = post_allowed F a.number c.args.job.now c.args.to c.args.message guard.value to has fit in
-    let ok = subst (λ n. OnOk answer ((guard.value.aborted ≡ None) × (y ≡ with_entry (Posted c.args.to n c.args.message c.args.job.now) guard.value))) number (subst (λ x. OnOk answer ((x.aborted ≡ None) × (y ≡ with_entry (Posted c.args.to c.number-number.result c.args.message c.args.job.now) x))) c.value.ensures.value c.post-answer.ensures.ok) in
-    let err = subst (λ x. IfErr answer (λ q. Refuses c.args.message q x y)) c.value.ensures.value c.post-answer.ensures.err in
-    let keeps = step_keeps F a.number guard.value y f.sound (post_step F a.number event c.args.message answer guard.value y refl may ok err) in
-    let calls = some_calls F c.calls.result a i.kept p.last c.args.pass.now see c.calls.ensures c.if-calls-eq0.false in
-    let v = visit_is F guard a c.enter.new.lane c.leave.new.lane y e c.leave.ensures in
-    pass_stays F a c.leave.new.lane guard.value y i.world.value i.boxes i.kept p v keeps (post_still F event c.args.message answer guard.value y ok err) calls
+    let h = inside F c.pass.invariant c.in-Ok.ensures c.pass.view_is c.number-number.ensures c.value.ensures.value in
+    let may = allowing F h (job_inside F h c.requires.job) c.requires.fits.0 c.requires.fits.1 in
+    let ok = to_lane F h (λ n x. OnOk answer ((x.aborted ≡ None) × (y ≡ with_entry (Posted c.args.to n c.args.message c.args.job.now) x))) c.post-answer.ensures.ok in
+    let err = to_lane F h (λ n x. IfErr answer (λ f. Refuses c.args.message f x y)) c.post-answer.ensures.err in
+    let v = visit_is F c.in-Ok.guard i.lane c.enter.new.lane c.leave.new.lane y c.in-Ok.ensures c.leave.ensures in
+    pass_stays F i.lane c.leave.new.lane x y i.world.value i.boxes i.kept c.pass.invariant v (posting F h answer may ok err)
+    (post_still F (Posted c.args.to i.lane.number c.args.message c.args.job.now) c.args.message answer x y ok err) (had_calls F h c.calls.ensures c.if-calls-eq0.false)
 
 pub returns : goal.returns
 returns g c =
     let F = g.M.Mail.fits in
-    let p = c.pass.invariant in
     let i = c.pass.inside in
-    let a = i.lane in
-    let guard = c.in-Ok.guard in
-    let e = c.in-Ok.ensures in
-    let f = found_here F guard a c.enter.new.lane i.world.value i.boxes i.kept p e in
-    let see = sym (shows F a i.world.value i.boxes i.kept p) ∙ c.pass.view_is in
-    let number = c.number-number.ensures ∙ sym (ap (λ s. s.number) see) in
-    let has = job_found F a.number c.args.job.now p.last guard.value c.args.pass.now a i.kept f see refl c.requires.job in
-    let to : c.args.to < guard.value.boxes = omega (arith, f.before.boxes, ap (λ s. s.seen.boxes) see, c.requires.fits.0) in
+    let b = c.leave.new.lane in
+    let x = c.in-Ok.guard.value in
     let y = c.post-answer.new.self in
     let answer = c.post-answer.result in
-    let fit = subst (λ w. F w c.args.to c.args.message) (sym (f.before.world ∙ ap (λ s. s.seen.world) see)) c.requires.fits.1 in
-    let event = Posted c.args.to a.number c.args.message c.args.job.now in
-    let may = post_allowed F a.number c.args.job.now c.args.to c.args.message guard.value to has fit in
-    let ok = subst (λ n. OnOk answer ((guard.value.aborted ≡ None) × (y ≡ with_entry (Posted c.args.to n c.args.message c.args.job.now) guard.value))) number (subst (λ x. OnOk answer ((x.aborted ≡ None) × (y ≡ with_entry (Posted c.args.to c.number-number.result c.args.message c.args.job.now) x))) c.value.ensures.value c.post-answer.ensures.ok) in
-    let err = subst (λ x. IfErr answer (λ q. Refuses c.args.message q x y)) c.value.ensures.value c.post-answer.ensures.err in
-    let keeps = step_keeps F a.number guard.value y f.sound (post_step F a.number event c.args.message answer guard.value y refl may ok err) in
-    let calls = some_calls F c.calls.result a i.kept p.last c.args.pass.now see c.calls.ensures c.if-calls-eq0.false in
-    let v = visit_is F guard a c.enter.new.lane c.leave.new.lane y e c.leave.ensures in
-    let b = c.leave.new.lane in
-    let now = after_shows F a b guard.value y i.world.value i.boxes i.kept i.kept p v keeps in
-    let posted = posted_is F c.args.job.now c.args.to c.args.message answer a b guard.value y i.world.value i.boxes i.kept p v may ok err calls in
-    moved (λ s t. PostAnswer F c.args.job.now c.args.to c.args.message s t answer) (showing F a i.kept p.last) c.args.pass.now (showing F b i.kept y) (sight_of b i.world.value i.boxes i.kept) see (sym now) posted
+    let h = inside F c.pass.invariant c.in-Ok.ensures c.pass.view_is c.number-number.ensures c.value.ensures.value in
+    let may = allowing F h (job_inside F h c.requires.job) c.requires.fits.0 c.requires.fits.1 in
+    let ok = to_lane F h (λ n x. OnOk answer ((x.aborted ≡ None) × (y ≡ with_entry (Posted c.args.to n c.args.message c.args.job.now) x))) c.post-answer.ensures.ok in
+    let err = to_lane F h (λ n x. IfErr answer (λ f. Refuses c.args.message f x y)) c.post-answer.ensures.err in
+    let v = visit_is F c.in-Ok.guard i.lane c.enter.new.lane b y c.in-Ok.ensures c.leave.ensures in
+    let posted = posted_is F c.args.job.now c.args.to c.args.message answer i.lane b x y i.world.value i.boxes i.kept c.pass.invariant v may ok err (had_calls F h c.calls.ensures c.if-calls-eq0.false) in
+    moved (λ s t. PostAnswer F c.args.job.now c.args.to c.args.message s t answer) (showing F i.lane i.kept c.pass.invariant.last) c.args.pass.now (showing F b i.kept y) (sight_of b i.world.value i.boxes i.kept) h.see (sym (shown_after F h i.kept v (posting F h answer may ok err))) posted
