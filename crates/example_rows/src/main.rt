@@ -1,0 +1,21 @@
+//! Answers for the programs of examples/ and for the transcripts of the documents. In the standard input a line `== NAME`
+//! begins a text, the lines under it are that text, and a line `$ WORDS` asks about it. Each line `$ WORDS` is printed again,
+//! with the reply and the status under it.
+//!
+//! `examples/run --write` makes the files stdin and stdout from the documents and examples/verdicts.txt.
+#![tactic(auto)]
+
+mod row;
+mod words;
+
+use std::io::{self, BufRead, BufReader};
+
+fn main(rt: HostRuntime) -> io::Result<()> {
+    let mut text = Vec::new(rt.alloc());
+    let input = BufReader::new(rt.alloc(), rt.reader())?;
+    for line in input.lines(rt.alloc()) {
+        let line = line?;
+        row::taken(&rt, line.as_str(), &mut text)?;
+    }
+    Ok(())
+}

@@ -1,0 +1,39 @@
+//! One line.
+
+use crate::words::asked;
+use cli::{Reply, answer};
+use std::alloc::{AllocError, Allocator};
+use std::io::{self, Write};
+
+/// Takes a line: one that begins a text, one that asks about it, or one of the text.
+pub fn taken<R: Print + AllocGlobal>(rt: &R, line: &str, text: &mut Vec<u8>) -> io::Result<()> {
+    if line.starts_with("== ") {
+        text.clear();
+        return Ok(());
+    }
+    if line.starts_with("$ ") {
+        return answered(rt, line, text.as_slice());
+    }
+    Ok(put(text, line)?)
+}
+
+/// Puts a line behind a text.
+fn put(text: &mut Vec<u8>, line: &str) -> Result<(), AllocError> {
+    text.extend_from_slice(line.as_bytes())?;
+    Ok(text.push(b'\n')?)
+}
+
+/// Prints a line that asks, and under it the reply and the status.
+fn answered<R: Print + AllocGlobal>(rt: &R, line: &str, text: &[u8]) -> io::Result<()> {
+    println!(rt; "{line}")?;
+    match asked(rt.alloc(), line) {
+        Ok((order, _file)) => print_reply(rt, &answer(rt, text, order)),
+        Err(_) => rt.print("no order\n"),
+    }
+}
+
+/// Prints a reply, and its status on a line of its own.
+fn print_reply<R: Print + Alloc, A: Allocator>(rt: &R, reply: &Reply<A>) -> io::Result<()> {
+    io::writer(rt).write_all(reply.bytes.as_slice())?;
+    println!(rt; "status {}", reply.status)
+}
