@@ -1,5 +1,5 @@
 -- What the table of one procedure promises, of which the path edges kept are listed by `members`.
-use Rattle.std.specs.Prelude.{◌≡◌, ◌≤◌, ◌<◌, ◌⊎◌, ◌↔◌, ◌+◌, ◌-◌, ◌*◌, ◌++◌, ◌∷◌, ℕ, Option, Some, None, Result, Ok, Err, OnOk, List, [], length, take}
+use Rattle.std.specs.Prelude.{◌≡◌, ◌≤◌, ◌<◌, ◌⊎◌, ◌↔◌, ◌+◌, ◌-◌, ◌*◌, ◌++◌, ◌∷◌, ℕ, Option, Some, None, Result, Ok, Err, OnOk, List, [], length}
 use Rattle.language.specs.Flow.{Member}
 use Rattle.path_sets.specs.Triples.{Triple, triple, NoneTwice}
 use Rattle.flow_graph.specs.Calls.{entry_of}
@@ -16,7 +16,7 @@ use Rattle.summaries.specs.declared.table_fault.TableFault.{TableFault}
 use Rattle.summaries.specs.declared.table_fault.TableFault.TheVariants.{EdgeLimit}
 use Rattle.summaries.specs.Mails.{mail}
 use Rattle.summaries.specs.Dues.{due_of}
-use Rattle.summaries.specs.Found.{pair, site, TookMessage, HasSite, HasExit, IsGrounded, IsComplete}
+use Rattle.summaries.specs.Found.{pair, site, answers_in, TookMessage, HasSite, HasExit, IsGrounded, IsComplete}
 
 module _ {G A S : Type 0} where
   -- the flow graph of the table's procedure
@@ -37,7 +37,7 @@ module _ {G A S : Type 0} where
 
   -- the messages that it has answered, in order
   abbrev pub answers_of : Table G A S → List Mail
-  answers_of t = take t.found.given.answered t.found.given.mails.keys
+  answers_of t = answers_in t.found.given
 
   -- the fault that it has failed with
   abbrev pub failure : Table G A S → Option TableFault

@@ -32,8 +32,8 @@ pub(crate) fn go_on<G: Allocator, A: Allocator, S: PathSet<A>>(
     summaries: &[Word],
 ) -> Result<(), TableFault>
     requires { length (S.members edges.old) ≤ limit }
-    ensures { Adds (Each (IsBehind graph.now site) summaries.now) result limit (S.members edges.old) (S.members edges.new)
-        pending.old.items pending.new.items }
+    ensures { Adds (Each (IsBehind graph.now site) summaries.now) result limit
+        (S.members edges.old) (S.members edges.new) pending.old.items pending.new.items }
 {
     for globals in summaries {
         let edge = behind(graph, site, *globals);
@@ -52,8 +52,8 @@ pub(crate) fn go_on_at_each<G: Allocator, A: Allocator, S: PathSet<A>>(
     globals: Word,
 ) -> Result<(), TableFault>
     requires { length (S.members edges.old) ≤ limit }
-    ensures { Adds (Each (λ site. IsBehind graph.now site globals) sites.now) result limit (S.members edges.old) (S.members edges.new)
-        pending.old.items pending.new.items }
+    ensures { Adds (Each (λ site. IsBehind graph.now site globals) sites.now) result limit
+        (S.members edges.old) (S.members edges.new) pending.old.items pending.new.items }
 {
     for site in sites {
         let edge = behind(graph, *site, globals);

@@ -5,7 +5,8 @@ ghost use Rattle.language.specs.Flow.{Member};
 ghost use Rattle.flow_graph.specs.declared.flow.Flow.TheVariants as flow;
 ghost use Rattle.summaries.specs.declared.due.Due.TheVariants.{Entry, Summary};
 ghost use Rattle.summaries.specs.Grows.{triple_of};
-ghost use Rattle.summaries.specs.Tables.{answers_of, HasLeft, HasAsked, Holds, Worked, TookAlso, TookOnly, TookSame, StaysAs, IsLess};
+ghost use Rattle.summaries.specs.Tables.{answers_of, HasLeft, HasAsked, Holds, Worked, StaysAs, IsLess};
+ghost use Rattle.summaries.specs.Tables.{TookAlso, TookOnly, TookSame};
 
 use crate::due::{Caller, Due};
 use crate::edge::{Call, Edge, Site};

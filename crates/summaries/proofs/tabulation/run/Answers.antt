@@ -90,8 +90,7 @@ answer_of g c = subst (λ o. IfSome o (λ m. IsAnswer c.index_mut-in-loop-at.res
 
 to_due : (g : Over) (c : In-Some g) → To g c
 to_due g c =
-    let next = c.in_ok-to.ensures in
-    mail_due g.S.PathSet.members g.program (λ x. ⊥) c.loop-at.tables.items c.loop-at.invariant.tables c.loop-at.at c.index_mut-in-loop-at.result.now c.next.new.self (answers_is g c) next.keeps.stays next.keeps.taken c.in-Some.to c.in-Some.due (answer_of g c).due
+    mail_due g.S.PathSet.members g.program (λ x. ⊥) c.loop-at.tables.items c.loop-at.invariant.tables c.loop-at.at c.index_mut-in-loop-at.result.now c.next.new.self (answers_is g c) c.in_ok-to.ensures.keeps c.in-Some.to c.in-Some.due (answer_of g c)
 
 to_there : (g : Over) (c : In-Some g) → c.in-Some.to < length c.loop-at.tables.items
 to_there g c = mail_receiver g.S.PathSet.members g.program (λ x. ⊥) c.loop-at.tables.items c.loop-at.invariant.tables c.in-Some.to c.in-Some.due (to_due g c)
