@@ -1,5 +1,5 @@
 -- What a table's work comes to, by its answer.
-use Rattle.std.proofs.Common.{◌≡◌, ◌≤◌, ◌++◌, ◌∷◌, [], ℕ, List, Option, Some, None, Result, Ok, Err, length, ◌∙◌, subst}
+use Rattle.std.proofs.Common.{◌≡◌, ◌≤◌, ◌++◌, ◌∷◌, [], ℕ, List, Option, Some, None, Result, Err, length, ◌∙◌}
 use Rattle.std.specs.Option.{IfSome}
 use Rattle.std.specs.Result.{IsErrAnd, OnOk}
 use Rattle.std.proofs.lemmas.Result.{IfOk-weaker}

@@ -107,6 +107,10 @@ module _ {A G : Type 0} (graph : Graph G) (q : ℕ) (f : Found A) (edges : List 
     pub tells : (a b c : ℕ) → HasExit f a b → TookMessage f (numbered_entry (caller c) a) → HasGiven f c (numbered_summary q a b)
     pub pairs : (a b : ℕ) → Member (pair a b) f.pairs.keys ↔ HasExit f a b
 
+-- no edge is still to be worked on
+abbrev pub IsWorkedOff : {A : Type 0} → Found A → Type 0
+IsWorkedOff f = f.pending.items ≡ []
+
 -- By the messages taken the edges are what is reached, and the messages given are what is sent.
 abbrev pub IsExact : {A G : Type 0} → Graph G → ℕ → Found A → List Triple → Type 0
 IsExact graph q f edges =

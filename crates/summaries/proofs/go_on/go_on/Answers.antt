@@ -1,6 +1,6 @@
 use Rattle.std.proofs.Common.{Err, inl, inr, sym, ap, ◌∙◌, subst, take, get_or, ◌≡◌, length, arith, rules}
 use Rattle.std.proofs.Math.Seq.{take-length}
-use Rattle.summaries.specs.Grows.{Grows, Each, IsBehind, triple_of}
+use Rattle.summaries.specs.Grows.{Grows, Each, IsBehind}
 use Rattle.summaries.proofs.Growing.{ok_err, each_more, fault_of}
 use Rattle.summaries.proofs.Firsts.{take_more}
 use Rattle.summaries.proofs.Eaches.{each_first, each_at}

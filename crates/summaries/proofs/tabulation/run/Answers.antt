@@ -1,15 +1,14 @@
 -- Each step keeps that messages are taken, and the tables before `at` owe none.
-use Rattle.std.proofs.Common.{◌≡◌, ◌<◌, ◌+◌, ◌^◌, ◌++◌, ◌∷◌, [], Some, length, slice_get, slice_set, refl, sym, ap, ◌∙◌, subst, arith, length-set, tests}
+use Rattle.std.proofs.Common.{◌≡◌, ◌<◌, ◌+◌, ◌^◌, Some, length, slice_get, slice_set, refl, sym, ap, ◌∙◌, subst, arith, length-set, tests}
 use Rattle.std.proofs.lemmas.Option.{slice_get_read}
 use Rattle.std.specs.Option.{IfSome, IfNone}
-use Rattle.flow_graph.specs.Numbers.{NumberedMessage, IsNumberOf, Sends}
+use Rattle.flow_graph.specs.Numbers.{NumberedMessage, IsNumberOf}
 use Rattle.language.specs.Sequential.{IsDue}
 use Rattle.summaries.specs.declared.due.Caller.TheVariants.{Starter}
 use Rattle.summaries.specs.declared.due.Due.TheVariants.{Entry}
 use Rattle.summaries.specs.declared.table_fault.TableFault.TheVariants.{EdgeLimit}
 use Rattle.summaries.specs.Mails.{mail}
 use Rattle.summaries.specs.Dues.{due_of}
-use Rattle.summaries.specs.Found.{TookMessage}
 use Rattle.summaries.specs.Tables.{answers_of, IsQuiet, IsAnswer}
 use Rattle.summaries.specs.Together.{opening, AreTables}
 use Rattle.summaries.proofs.Sweeping.{limits_stay}
