@@ -1,7 +1,7 @@
 -- How path edges and those pending grow, step by step.
 use Rattle.std.specs.Bool.{OnFalse}
-use Rattle.std.specs.Result.{IsErrAnd}
-use Rattle.std.proofs.Common.{Option, Some, ◌≤◌, eq-or-lt_of_le, ◌≡◌, Bool, true, false, true≢false, List, [], ◌∷◌, ◌++◌, ◌⊎◌, inl, inr, sym, ap, subst, ◌∙◌, ℕ, ◌+◌, Result, Err, length, if◌then◌else◌, arith, length-append}
+use Rattle.std.specs.Result.{IsErrAnd, OnOk}
+use Rattle.std.proofs.Common.{Option, Some, ◌≤◌, eq-or-lt_of_le, ◌≡◌, Bool, true, false, true≢false, List, [], ◌∷◌, ◌++◌, ◌⊎◌, inl, inr, sym, ap, subst, ◌∙◌, ℕ, ◌+◌, Result, Ok, Err, length, if◌then◌else◌, arith, length-append}
 use Rattle.summaries.proofs.Eaches.{each_left, each_last, each_or_last}
 use Rattle.std.proofs.lemmas.Option.{same_Some}
 use Rattle.language.specs.Flow.{Member}
@@ -10,6 +10,8 @@ use Rattle.path_sets.specs.Triples.{Triple, triple}
 use Rattle.summaries.specs.declared.edge.Edge.{Edge}
 use Rattle.flow_graph.specs.Flows.{last_of, next_of}
 use Rattle.flow_graph.specs.declared.flow.Flow.{Flow}
+use Rattle.summaries.specs.declared.table_fault.TableFault.{TableFault}
+use Rattle.summaries.specs.declared.table_fault.TableFault.TheVariants.{Memory, EdgeLimit}
 use Rattle.summaries.specs.Grows.{Grows, Each, IsAt, IsNextBefore, IsNext, triple_of, edge_of}
 
 -- an edge that was there adds nothing
@@ -132,3 +134,20 @@ module _ {G : Type 0} (flow : Flow G) (e : Edge) where
   -- what comes of some choice so far comes of one
   pub some_next : (k : ℕ) → k ≤ last_of flow → (t : Triple) → IsNextBefore k flow e t → IsNext flow e t
   some_next k most t (i, less, at) = (i, omega (arith, less, most), at)
+
+-- Ok is no fault
+pub ok_err : {T : Type 0} {x : T} {e : TableFault} → Ok x ≡ Err e → ⊥
+ok_err is = cc
+
+-- the two faults are not the same
+two_faults : EdgeLimit ≡ Memory → ⊥
+two_faults e = cc
+
+-- where memory is refused the limit is not passed
+pub no_limit : {T : Type 0} (r : Result T TableFault) → IsErrAnd r (λ e. e ≡ Memory) → r ≡ Err EdgeLimit → ⊥
+no_limit r told is = two_faults (subst (λ s. IsErrAnd s (λ e. e ≡ Memory)) is told)
+
+-- of an answer that is a fault nothing is said of Ok
+pub failed_ok : {T : Type 0} (Q : Type 0) (P : TableFault → Type 0) (r : Result T TableFault) → IsErrAnd r P → OnOk r Q
+failed_ok Q P (Ok _) told = absurd told
+failed_ok Q P (Err _) told = tt

@@ -16,10 +16,9 @@ use Rattle.language.proofs.Entering.{due_there}
 use Rattle.path_sets.specs.Triples.{Triple}
 use Rattle.flow_graph.specs.Flows.{code}
 use Rattle.flow_graph.specs.Graphs.{AreDrawnFrom, IsGraph}
-use Rattle.flow_graph.specs.Numbers.{NumberedMessage, numbered_entry, numbered_summary, IsNumberOf, Sends}
+use Rattle.flow_graph.specs.Numbers.{NumberedMessage, numbered_entry, numbered_summary, IsNumberOf}
 use Rattle.flow_graph.proofs.Coding.{coded_zeros}
-use Rattle.flow_graph.proofs.Taking.{there_too, edges_reached, due_sent}
-use Rattle.flow_graph.proofs.Pairs.{edge_numbers}
+use Rattle.flow_graph.proofs.Taking.{there_too}
 use Rattle.summaries.specs.declared.due.Caller.TheVariants.{Starter, Proc}
 use Rattle.summaries.specs.declared.due.Due.{Due}
 use Rattle.summaries.specs.declared.due.Due.TheVariants.{Entry, Summary}
@@ -31,9 +30,10 @@ use Rattle.summaries.specs.declared.no_verdict.NoVerdict.TheVariants as verdict
 use Rattle.summaries.specs.Mails.{mail}
 use Rattle.summaries.specs.Dues.{due_of}
 use Rattle.summaries.specs.Found.{TookMessage}
-use Rattle.summaries.specs.Tables.{graph_of, answers_of, IsTable, IsQuiet, StaysAs, TookAlso, TookOnly, TookSame}
+use Rattle.summaries.specs.Tables.{graph_of, answers_of, IsTable, IsQuiet, IsAnswer, Keeps, StaysAs, TookAlso, TookOnly, TookSame}
 use Rattle.summaries.specs.Tabulated.{no_verdict, HasMoreEdges}
-use Rattle.summaries.specs.Together.{opening, IsReceived, IsTaken, HaveLimit, AreNew, AreTables, AreQuietBefore}
+use Rattle.summaries.specs.Together.{opening, IsReceived, IsTaken, HaveLimit, IsTableOf, AreNew, AreTables, AreQuietBefore}
+use Rattle.summaries.proofs.Tabled.{over_limit, answer_due}
 use Rattle.summaries.proofs.Replaced.{get_set, set_get}
 use Rattle.summaries.proofs.Sweeping.{same_taken, same_taken_back, Becomes, replaced}
 
@@ -85,30 +85,32 @@ module _ {G A S : Type 0} (members : S → List Triple) (p : Program) (Aside : M
   same_due : (q : ℕ) (t t' : Table G A S) → slice_get ts q ≡ Some t → TookSame t.found t'.found → (k : NumberedMessage) → TookMessage t'.found k → IsNumberOf (IsDue p q) k
   same_due q t t' is same k taken = are.due q t k is (same_taken_back t.found t'.found same k taken)
 
+  -- a table that has become of one is still that of its procedure
+  still_of : (q : ℕ) (t t' : Table G A S) → slice_get ts q ≡ Some t → IsTable members t' → StaysAs t t'
+      → ((k : NumberedMessage) → TookMessage t'.found k → IsNumberOf (IsDue p q) k) → IsTableOf members p q t'
+  still_of q t t' is table stays due = record {
+    fit = are.drawn.0;
+    in_order = are.drawn.1;
+    graph = subst (IsGraph p q) (sym stays.graph) (has_graph q t is);
+    number = stays.procedure ∙ are.number q t is;
+    table = table;
+    due = due;
+  }
+
   -- a table that has failed for its limit has more edges than that
   pub too_many : (q : ℕ) (t t' : Table G A S) → slice_get ts q ≡ Some t → IsTable members t' → StaysAs t t' → t'.fault ≡ Some EdgeLimit
       → ((k : NumberedMessage) → TookMessage t'.found k → IsNumberOf (IsDue p q) k) → (n : ℕ) → HaveLimit n ts → (s : ℕ) × HasMoreEdges p s n
   too_many q t t' is table stays failed due n limits =
-      let (xs, once, more, reached) = table.many failed in
-      let same : t'.limit ≡ n = stays.limit ∙ limits q t is in
-      let graph : IsGraph p q t'.graph.now = subst (IsGraph p q) (sym stays.graph) (has_graph q t is) in
-      (q, (xs, once, omega (arith, more, same), λ x m. (edge_numbers p q x.entry x.point x.values).0 (edges_reached p are.drawn.0 q t'.graph.now graph (TookMessage t'.found) due x.entry x.point x.values (reached x m))))
+      (q, subst (HasMoreEdges p q) (stays.limit ∙ limits q t is) (over_limit members p q t' (still_of q t t' is table stays due) failed))
 
   pub same_too_many : (q : ℕ) (t t' : Table G A S) → slice_get ts q ≡ Some t → IsTable members t' → StaysAs t t' → t'.fault ≡ Some EdgeLimit → TookSame t.found t'.found
       → (n : ℕ) → HaveLimit n ts → (s : ℕ) × HasMoreEdges p s n
   same_too_many q t t' is table stays failed same = too_many q t t' is table stays failed (same_due q t t' is same)
 
-  -- what a table sends is due
-  pub sends_due : (q : ℕ) (t t' : Table G A S) → slice_get ts q ≡ Some t → StaysAs t t' → TookSame t.found t'.found
-      → (s : ℕ) (k : NumberedMessage) → Sends t'.graph.now t'.procedure (TookMessage t'.found) s k → IsNumberOf (IsDue p s) k
-  sends_due q t t' is stays same s k sends =
-      let graph : IsGraph p q t'.graph.now = subst (IsGraph p q) (sym stays.graph) (has_graph q t is) in
-      due_sent p are.drawn.0 q t'.graph.now graph (TookMessage t'.found) (same_due q t t' is same) are.drawn.1 s k
-      (subst (λ n. Sends t'.graph.now n (TookMessage t'.found) s k) (stays.procedure ∙ are.number q t is) sends)
-
-  pub mail_due : (q : ℕ) (t t' : Table G A S) → slice_get ts q ≡ Some t → StaysAs t t' → TookSame t.found t'.found → (s : ℕ) (d : Due)
-      → ((k : NumberedMessage) → due_of k ≡ d → Sends t'.graph.now t'.procedure (TookMessage t'.found) s k) → (k : NumberedMessage) → due_of k ≡ d → IsNumberOf (IsDue p s) k
-  mail_due q t t' is stays same s d sends k e = sends_due q t t' is stays same s k (sends k e)
+  -- what a table answers is due
+  pub mail_due : (q : ℕ) (t t' : Table G A S) → slice_get ts q ≡ Some t → Keeps members None t t' → (s : ℕ) (d : Due) → IsAnswer t t' s d
+      → (k : NumberedMessage) → due_of k ≡ d → IsNumberOf (IsDue p s) k
+  mail_due q t t' is keeps s d answer = answer_due members p q t' (still_of q t t' is keeps.table keeps.stays (same_due q t t' is keeps.taken)) t s d answer
 
   -- so its receiver is there
   pub mail_receiver : (s : ℕ) (d : Due) → ((k : NumberedMessage) → due_of k ≡ d → IsNumberOf (IsDue p s) k) → s < length ts

@@ -1,5 +1,5 @@
 -- What the table of a procedure keeps, answers and fails for, in the words of its program.
-use Rattle.std.proofs.Common.{◌≡◌, ℕ, List, Some, None, sym, subst, take, drop}
+use Rattle.std.proofs.Common.{◌≡◌, ℕ, List, Some, None, sym, subst, drop}
 use Rattle.std.proofs.lemmas.List.{take-append-drop}
 use Rattle.language.specs.Step.{Program}
 use Rattle.language.specs.Sequential.{IsDue}
@@ -16,7 +16,7 @@ use Rattle.summaries.specs.declared.table_fault.TableFault.TheVariants.{EdgeLimi
 use Rattle.summaries.specs.Mails.{mail}
 use Rattle.summaries.specs.Dues.{due_of}
 use Rattle.summaries.specs.Found.{TookMessage}
-use Rattle.summaries.specs.Tables.{answers_of, IsReached, IsAnswer, HasMore}
+use Rattle.summaries.specs.Tables.{answers_of, IsReached, IsAnswer}
 use Rattle.summaries.specs.Tabulated.{HasMoreEdges}
 use Rattle.summaries.specs.Together.{IsTableOf}
 

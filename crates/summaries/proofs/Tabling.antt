@@ -13,7 +13,7 @@ use Rattle.summaries.specs.declared.given.Mail.{Mail}
 use Rattle.summaries.specs.declared.table.Table.{Table}
 use Rattle.summaries.specs.Mails.{mail}
 use Rattle.summaries.specs.Dues.{due_of}
-use Rattle.summaries.specs.Found.{TookMessage, HasGiven, IsGrounded, IsComplete}
+use Rattle.summaries.specs.Found.{answers_in, TookMessage, HasGiven, IsGrounded, IsComplete}
 use Rattle.summaries.specs.Tables as tables
 use Rattle.summaries.specs.Tables.{answers_of, IsReached, IsTable}
 use Rattle.summaries.proofs.Quiet.{is_exact, is_left}
@@ -45,11 +45,11 @@ module _ {G A S : Type 0} (members : S → List Triple) (t : Table G A S) (g : F
 
 -- the message that is answered next is given, so it is sent
 pub next_sent : {A : Type 0} (f : Found A) (r : Option (ℕ × Due)) (n : ℕ) (keys : List Mail) → keys ≡ f.given.mails.keys →
-    IfSome r (λ m. take n keys ≡ take f.given.answered f.given.mails.keys ++ mail m.0 m.1 ∷ []) → (P : ℕ → NumberedMessage → Type 0) → ((s : ℕ) (k : NumberedMessage) → HasGiven f s k → P s k) →
+    IfSome r (λ m. take n keys ≡ answers_in f.given ++ mail m.0 m.1 ∷ []) → (P : ℕ → NumberedMessage → Type 0) → ((s : ℕ) (k : NumberedMessage) → HasGiven f s k → P s k) →
     IfSome r (λ m. (k : NumberedMessage) → due_of k ≡ m.1 → P m.0 k)
 next_sent f None n keys same next P gives = tt
 next_sent f (Some (to, due)) n keys same next P gives = λ k is.
-    let there : Member (mail to due) (take n keys) = subst (Member (mail to due)) (sym next) (member_right (mail to due) (take f.given.answered f.given.mails.keys) (mail to due ∷ []) (inl refl)) in
+    let there : Member (mail to due) (take n keys) = subst (Member (mail to due)) (sym next) (member_right (mail to due) (answers_in f.given) (mail to due ∷ []) (inl refl)) in
     let all : Member (mail to due) keys = subst (Member (mail to due)) (take-append-drop n keys) (member_left (mail to due) (take n keys) (drop n keys) there) in
     gives to k (subst (λ d. Member (mail to d) f.given.mails.keys) (sym is) (subst (Member (mail to due)) same all))
 

@@ -1,5 +1,5 @@
 -- What a table's work comes to, by its answer.
-use Rattle.std.proofs.Common.{◌≡◌, ◌≤◌, ◌++◌, ◌∷◌, [], ℕ, List, Option, Some, None, Result, Ok, Err, length, ◌∙◌, subst}
+use Rattle.std.proofs.Common.{◌≡◌, ◌≤◌, ◌++◌, ◌∷◌, [], ℕ, List, Option, Some, None, Result, Err, length, ◌∙◌}
 use Rattle.std.specs.Option.{IfSome}
 use Rattle.std.specs.Result.{IsErrAnd, OnOk}
 use Rattle.std.proofs.lemmas.Result.{IfOk-weaker}
@@ -13,15 +13,8 @@ use Rattle.summaries.specs.declared.table_fault.TableFault.TheVariants.{Memory, 
 use Rattle.summaries.specs.Mails.{mail}
 use Rattle.summaries.specs.Dues.{due_of}
 use Rattle.summaries.specs.Found.{TookMessage}
+use Rattle.summaries.proofs.Growing.{no_limit, failed_ok}
 use Rattle.summaries.specs.Tables.{answers_of, HasMore, Holds, IsReached, IsAnswer, StaysAs, Worked}
-
--- the two faults are not the same
-two_faults : EdgeLimit ≡ Memory → ⊥
-two_faults e = cc
-
--- Ok is no fault
-pub ok_err : {T : Type 0} {x : T} {e : TableFault} → Ok x ≡ Err e → ⊥
-ok_err is = cc
 
 -- a message that is answered, by its parts
 pub answer_is : {G A S : Type 0} (old new : Table G A S) (r : Option (ℕ × Due)) → IfSome r (λ m. answers_of new ≡ answers_of old ++ mail m.0 m.1 ∷ [])
@@ -36,22 +29,18 @@ module _ {G A S : Type 0} (members : S → List Triple) where
     -- where the answer is a fault
     pub failed_worked : (P : TableFault → Type 0) → IsErrAnd r P → (r ≡ Err EdgeLimit → HasMore new.limit (IsReached new)) → Worked members Aside r old new
     failed_worked P told many = record {
-      holds = by _ r told;
+      holds = failed_ok _ P r told;
       edges = edges;
       within = within;
       many = many;
-      answers = by _ r told;
+      answers = failed_ok _ P r told;
       stays = stays;
       fault = fault;
     }
-      where
-        by : (Q : Type 0) (s : Result T TableFault) → IsErrAnd s P → OnOk s Q
-        by Q (Ok _) told = absurd told
-        by Q (Err _) told = tt
 
     -- where memory is refused
     pub refused_worked : IsErrAnd r (λ e. e ≡ Memory) → Worked members Aside r old new
-    refused_worked told = failed_worked (λ e. e ≡ Memory) told (λ is. absurd (two_faults (subst (λ s. IsErrAnd s (λ e. e ≡ Memory)) is told)))
+    refused_worked told = failed_worked (λ e. e ≡ Memory) told (λ is. absurd (no_limit r told is))
 
   -- work that goes on from other work, and leaves other edges aside
   pub then_worked : {T : Type 0} (Aside Left : Triple → Type 0) (r : Result T TableFault) (old mid new : Table G A S) → StaysAs old mid → mid.fault ≡ old.fault

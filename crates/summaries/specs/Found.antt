@@ -1,5 +1,5 @@
 -- What a table holds is reached and sent, and nothing that is reached or sent is left out but by what is pending.
-use Rattle.std.specs.Prelude.{◌≡◌, ◌≤◌, ◌⊎◌, ◌↔◌, ◌&&◌, ℕ, Bool, List, [], Some, nat_eq, slice_get}
+use Rattle.std.specs.Prelude.{◌≡◌, ◌≤◌, ◌⊎◌, ◌↔◌, ◌&&◌, ℕ, Bool, List, [], Some, nat_eq, slice_get, take}
 use Rattle.language.specs.Sequential.{Caller, caller}
 use Rattle.language.specs.Flow.{Member}
 use Rattle.path_sets.specs.Triples.{Triple, triple}
@@ -15,6 +15,8 @@ use Rattle.summaries.specs.declared.edge.Call.{Call}
 use Rattle.summaries.specs.declared.edge.Site.{Site}
 use Rattle.summaries.specs.declared.pair.Pair.{Pair}
 use Rattle.summaries.specs.declared.found.Found.{Found}
+use Rattle.summaries.specs.declared.given.Given.{Given}
+use Rattle.summaries.specs.declared.given.Mail.{Mail}
 use Rattle.summaries.specs.Under.{under}
 use Rattle.summaries.specs.Mails.{mail}
 use Rattle.summaries.specs.Dues.{due_of}
@@ -42,6 +44,10 @@ site a n v = record { asked = a; next = n; values = v }
 -- what is left, b, where the entry valuation was a
 abbrev pub pair : ℕ → ℕ → Pair
 pair a b = record { a = a; b = b }
+
+-- the messages given that are answered, in order
+abbrev pub answers_in : {A : Type 0} → Given A → List Mail
+answers_in g = take g.answered g.mails.keys
 
 module _ {A : Type 0} (f : Found A) where
   -- the table has taken the message
@@ -100,6 +106,10 @@ module _ {A G : Type 0} (graph : Graph G) (q : ℕ) (f : Found A) (edges : List 
     pub asks : (s e a n' v : ℕ) → HasSite f s e (site a n' v) → HasGiven f s (numbered_entry (caller q) e)
     pub tells : (a b c : ℕ) → HasExit f a b → TookMessage f (numbered_entry (caller c) a) → HasGiven f c (numbered_summary q a b)
     pub pairs : (a b : ℕ) → Member (pair a b) f.pairs.keys ↔ HasExit f a b
+
+-- no edge is still to be worked on
+abbrev pub IsWorkedOff : {A : Type 0} → Found A → Type 0
+IsWorkedOff f = f.pending.items ≡ []
 
 -- By the messages taken the edges are what is reached, and the messages given are what is sent.
 abbrev pub IsExact : {A G : Type 0} → Graph G → ℕ → Found A → List Triple → Type 0

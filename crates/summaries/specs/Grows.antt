@@ -1,5 +1,5 @@
 -- Path edges that are added, and stand pending.
-use Rattle.std.specs.Prelude.{◌≡◌, ◌≤◌, ◌<◌, ℕ, Option, Some, List, ◌⊎◌, ◌++◌, length, ◌+◌}
+use Rattle.std.specs.Prelude.{◌≡◌, ◌≤◌, ◌<◌, ℕ, Option, Some, Result, Err, OnOk, List, ◌⊎◌, ◌++◌, length, ◌+◌}
 use Rattle.language.specs.Flow.{Member}
 use Rattle.path_sets.specs.Triples.{Triple, triple}
 use Rattle.flow_graph.specs.Flows.{last_of, next_of}
@@ -12,6 +12,8 @@ use Rattle.summaries.specs.declared.due.Due.TheVariants.{Summary}
 use Rattle.summaries.specs.declared.edge.Edge.{Edge}
 use Rattle.summaries.specs.declared.edge.Site.{Site}
 use Rattle.summaries.specs.declared.given.Mail.{Mail}
+use Rattle.summaries.specs.declared.table_fault.TableFault.{TableFault}
+use Rattle.summaries.specs.declared.table_fault.TableFault.TheVariants.{EdgeLimit}
 use Rattle.summaries.specs.Mails.{mail}
 
 -- the path edge as a triple
@@ -33,6 +35,19 @@ pub record Grows (W : Triple → Type 0) (old new : List Triple) (before after :
   pub edges : (x : Edge) → Member x after → Member x before ⊎ Member (triple_of x) new
   pub more : length after + length old ≡ length before + length new
   pub longer : length old ≤ length new
+
+-- W holds of each item that is new
+abbrev pub AddsOnly : {X : Type 0} → (X → Type 0) → List X → List X → Type 0
+AddsOnly {X} W old new = (x : X) → Member x new → W x ⊎ Member x old
+
+-- Triples were to be added, and so answers the adding. On Ok those of which W holds are added, and what is new stands pending;
+-- whatever the answer, no others are added, and no more than the limit; where the answer is that the limit is passed, there are
+-- as many, and one of which W holds is not among them.
+pub record Adds (W : Triple → Type 0) {T : Type 0} (answer : Result T TableFault) (most : ℕ) (old new : List Triple) (before after : List Edge) : Type 0 where
+  pub ok : OnOk answer (Grows W old new before after)
+  pub only : AddsOnly W old new
+  pub within : length new ≤ most
+  pub limit : answer ≡ Err EdgeLimit → (t : Triple) × W t × (Member t new → ⊥) × (most ≤ length new)
 
 -- A triple is where the run goes on from an edge, if it does.
 abbrev pub IsAt : Edge → Option (ℕ × ℕ) → Triple → Type 0

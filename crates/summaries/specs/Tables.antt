@@ -1,10 +1,14 @@
 -- What the table of one procedure promises, of which the path edges kept are listed by `members`.
-use Rattle.std.specs.Prelude.{◌≡◌, ◌≤◌, ◌<◌, ◌⊎◌, ◌↔◌, ◌+◌, ◌-◌, ◌*◌, ◌++◌, ◌∷◌, ℕ, Option, Some, None, Result, Ok, Err, OnOk, List, [], length, take}
+use Rattle.std.specs.Prelude.{◌≡◌, ◌≤◌, ◌<◌, ◌⊎◌, ◌↔◌, ◌+◌, ◌-◌, ◌*◌, ◌++◌, ◌∷◌, ℕ, Option, Some, None, Result, Ok, Err, OnOk, List, [], length}
 use Rattle.language.specs.Flow.{Member}
 use Rattle.path_sets.specs.Triples.{Triple, triple, NoneTwice}
+use Rattle.flow_graph.specs.Calls.{entry_of}
+use Rattle.flow_graph.specs.Returns.{left}
+use Rattle.flow_graph.specs.declared.call.Call.{Call}
 use Rattle.flow_graph.specs.declared.graph.Graph.{Graph}
 use Rattle.flow_graph.specs.Numbers.{NumberedMessage, Reaches, Sends, Leaves}
 use Rattle.summaries.specs.declared.due.Due.{Due}
+use Rattle.summaries.specs.declared.edge.Edge.{Edge}
 use Rattle.summaries.specs.declared.found.Found.{Found}
 use Rattle.summaries.specs.declared.given.Mail.{Mail}
 use Rattle.summaries.specs.declared.table.Table.{Table}
@@ -12,7 +16,7 @@ use Rattle.summaries.specs.declared.table_fault.TableFault.{TableFault}
 use Rattle.summaries.specs.declared.table_fault.TableFault.TheVariants.{EdgeLimit}
 use Rattle.summaries.specs.Mails.{mail}
 use Rattle.summaries.specs.Dues.{due_of}
-use Rattle.summaries.specs.Found.{pair, TookMessage, IsGrounded, IsComplete}
+use Rattle.summaries.specs.Found.{pair, site, answers_in, TookMessage, HasSite, HasExit, IsGrounded, IsComplete}
 
 module _ {G A S : Type 0} where
   -- the flow graph of the table's procedure
@@ -33,7 +37,7 @@ module _ {G A S : Type 0} where
 
   -- the messages that it has answered, in order
   abbrev pub answers_of : Table G A S → List Mail
-  answers_of t = take t.found.given.answered t.found.given.mails.keys
+  answers_of t = answers_in t.found.given
 
   -- the fault that it has failed with
   abbrev pub failure : Table G A S → Option TableFault
@@ -68,6 +72,14 @@ failed_by (Err e) t = record { graph = t.graph; procedure = t.procedure; limit =
 -- the triple is reached by the messages that the table has taken
 abbrev pub IsReached : {G A S : Type 0} → Table G A S → Triple → Type 0
 IsReached t x = Reaches t.graph.now (TookMessage t.found) x.entry x.point x.values
+
+-- what an edge leaves that is at the exit stands as an exit
+abbrev pub HasLeft : {G A S : Type 0} → Table G A S → Edge → Type 0
+HasLeft t e = e.point ≡ 0 → HasExit t.found e.entry (left t.graph.now.globals e.values)
+
+-- the call stands as a site at the edge
+abbrev pub HasAsked : {G A S : Type 0} → Table G A S → Edge → Call G → Type 0
+HasAsked t e call = HasSite t.found call.callee (entry_of call.globals call.arguments.items e.values) (site e.entry call.back e.values)
 
 -- The table is that of the same procedure, with the same limit.
 pub record StaysAs {G A S : Type 0} (old new : Table G A S) : Type 0 where

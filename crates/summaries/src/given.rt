@@ -1,6 +1,6 @@
 //! The messages that a table has given.
 
-ghost use Rattle.std.specs.Prelude.{◌≡◌, ◌≤◌, ◌<◌, ◌^◌, ◌∷◌, [], ◌++◌, length, take, IfOk, OnErr, IfSome, IfNone};
+ghost use Rattle.std.specs.Prelude.{◌≡◌, ◌≤◌, ◌<◌, ◌^◌, ◌∷◌, [], ◌++◌, length, IfOk, OnErr, IfSome, IfNone};
 ghost use Rattle.std.specs.Bool.{OnTrue, OnFalse};
 ghost use Rattle.language.specs.Flow.{Member};
 ghost use Rattle.path_sets.specs.Triples.{NoneTwice, NoneTwice-prop};
@@ -29,6 +29,8 @@ pub(crate) struct Given<A: Allocator> {
 }
 
 impl<A: Allocator + Copy> Given<A> {
+    ghost use Rattle.summaries.specs.Found.{answers_in};
+
     /// No message is given.
     pub(crate) fn new(alloc: A) -> Self
         ensures { result.mails.keys ≡ [] }
@@ -41,7 +43,8 @@ impl<A: Allocator + Copy> Given<A> {
 
     /// Gives a message to a procedure. Answers whether it is new. Where memory is refused, nothing changes.
     pub(crate) fn give(&mut self, to: u8, due: Due) -> Result<bool, AllocError>
-        ensures new { IfOk result (λ added. OnTrue added (self.new.mails.keys ≡ self.old.mails.keys ++ mail to due ∷ [])) }
+        ensures new { IfOk result (λ added. OnTrue added
+            (self.new.mails.keys ≡ self.old.mails.keys ++ mail to due ∷ [])) }
         ensures fresh { IfOk result (λ added. OnTrue added (¬ Member (mail to due) self.old.mails.keys)) }
         ensures known { IfOk result (λ added. OnFalse added (Member (mail to due) self.old.mails.keys)) }
         ensures same { IfOk result (λ added. OnFalse added (self.new.mails.keys ≡ self.old.mails.keys)) }
@@ -53,9 +56,9 @@ impl<A: Allocator + Copy> Given<A> {
 
     /// The first message that is not answered yet, which then is.
     pub(crate) fn next(&mut self) -> Option<(u8, Due)>
-        ensures some { IfSome result (λ m. take self.new.answered self.new.mails.keys ≡ take self.old.answered self.old.mails.keys ++ mail m.0 m.1 ∷ []) }
-        ensures new { IfSome result (λ m. ¬ Member (mail m.0 m.1) (take self.old.answered self.old.mails.keys)) }
-        ensures none { IfNone result (take self.old.answered self.old.mails.keys ≡ self.old.mails.keys) }
+        ensures some { IfSome result (λ m. answers_in self.new ≡ answers_in self.old ++ mail m.0 m.1 ∷ []) }
+        ensures new { IfSome result (λ m. ¬ Member (mail m.0 m.1) (answers_in self.old)) }
+        ensures none { IfNone result (answers_in self.old ≡ self.old.mails.keys) }
         ensures same { IfNone result (self.new.answered ≡ self.old.answered) }
         ensures given { self.new.mails.keys ≡ self.old.mails.keys }
     {

@@ -1,9 +1,7 @@
 //! Calls whose summaries are known.
 
-ghost use Rattle.std.specs.Prelude.{◌≡◌, ◌≤◌, ◌⊎◌, length, OnOk, Err};
-ghost use Rattle.language.specs.Flow.{Member};
-ghost use Rattle.path_sets.specs.Triples.{Triple};
-ghost use Rattle.summaries.specs.Grows.{Grows, Each, IsBehind, triple_of};
+ghost use Rattle.std.specs.Prelude.{◌≤◌, length};
+ghost use Rattle.summaries.specs.Grows.{Adds, Each, IsBehind, triple_of};
 
 use crate::edge::{Edge, Site};
 use crate::edge_limit::EdgeLimit;
@@ -34,10 +32,8 @@ pub(crate) fn go_on<G: Allocator, A: Allocator, S: PathSet<A>>(
     summaries: &[Word],
 ) -> Result<(), TableFault>
     requires { length (S.members edges.old) ≤ limit }
-    ensures ok { OnOk result (Grows (Each (IsBehind graph.now site) summaries.now) (S.members edges.old) (S.members edges.new) pending.old.items pending.new.items) }
-    ensures only { (t : Triple) → Member t (S.members edges.new) → Each (IsBehind graph.now site) summaries.now t ⊎ Member t (S.members edges.old) }
-    ensures within { length (S.members edges.new) ≤ limit }
-    ensures limit { result ≡ Err TableFault.EdgeLimit → (t : Triple) × Each (IsBehind graph.now site) summaries.now t × (¬ Member t (S.members edges.new)) × (limit ≤ length (S.members edges.new)) }
+    ensures { Adds (Each (IsBehind graph.now site) summaries.now) result limit
+        (S.members edges.old) (S.members edges.new) pending.old.items pending.new.items }
 {
     for globals in summaries {
         let edge = behind(graph, site, *globals);
@@ -56,10 +52,8 @@ pub(crate) fn go_on_at_each<G: Allocator, A: Allocator, S: PathSet<A>>(
     globals: Word,
 ) -> Result<(), TableFault>
     requires { length (S.members edges.old) ≤ limit }
-    ensures ok { OnOk result (Grows (Each (λ site. IsBehind graph.now site globals) sites.now) (S.members edges.old) (S.members edges.new) pending.old.items pending.new.items) }
-    ensures only { (t : Triple) → Member t (S.members edges.new) → Each (λ site. IsBehind graph.now site globals) sites.now t ⊎ Member t (S.members edges.old) }
-    ensures within { length (S.members edges.new) ≤ limit }
-    ensures limit { result ≡ Err TableFault.EdgeLimit → (t : Triple) × Each (λ site. IsBehind graph.now site globals) sites.now t × (¬ Member t (S.members edges.new)) × (limit ≤ length (S.members edges.new)) }
+    ensures { Adds (Each (λ site. IsBehind graph.now site globals) sites.now) result limit
+        (S.members edges.old) (S.members edges.new) pending.old.items pending.new.items }
 {
     for site in sites {
         let edge = behind(graph, *site, globals);

@@ -26,7 +26,8 @@ impl<K: Eq + Hash + Copy, V: Copy, A: Allocator + Copy> Groups<K, V, A> {
     /// Adds a value to those of a key. Where memory is refused, each key has the values that it had.
     pub(crate) fn add(&mut self, key: K, value: V) -> Result<(), AllocError>
         ensures added { OnOk result (under K.eq self.new.by_key key ≡ under K.eq self.old.by_key key ++ value ∷ []) }
-        ensures others { OnOk result ((k : K) → K.eq key k ≡ false → under K.eq self.new.by_key k ≡ under K.eq self.old.by_key k) }
+        ensures others { OnOk result ((k : K) → K.eq key k ≡ false
+            → under K.eq self.new.by_key k ≡ under K.eq self.old.by_key k) }
         ensures err { OnErr result ((k : K) → under K.eq self.new.by_key k ≡ under K.eq self.old.by_key k) }
     {
         match self.by_key.get_index_of(&key) {

@@ -1,6 +1,6 @@
 //! Laws on what a table holds.
 
-ghost use Rattle.std.specs.Prelude.{◌≡◌, ℕ, Some, None, List, []};
+ghost use Rattle.std.specs.Prelude.{◌≡◌, ℕ, Some, None, List};
 ghost use Rattle.language.specs.Step.{Program};
 ghost use Rattle.language.specs.Sequential.{IsDue};
 ghost use Rattle.language.specs.Flow.{Member};
@@ -13,7 +13,7 @@ ghost use Rattle.summaries.specs.declared.given.Mail.{Mail};
 ghost use Rattle.summaries.specs.declared.table.Table.{Table};
 ghost use Rattle.summaries.specs.declared.table_fault.TableFault.TheVariants.{EdgeLimit};
 ghost use Rattle.summaries.specs.Dues.{due_of};
-ghost use Rattle.summaries.specs.Found.{IsGrounded, IsComplete, IsExact};
+ghost use Rattle.summaries.specs.Found.{IsGrounded, IsComplete, IsWorkedOff, IsExact};
 ghost use Rattle.summaries.specs.Tables.{limit_of, edges_of, answers_of, failure, IsAnswer};
 ghost use Rattle.summaries.specs.Tabulated.{HasMoreEdges};
 ghost use Rattle.summaries.specs.Together.{IsTableOf};
@@ -23,8 +23,8 @@ use std::alloc::Allocator;
 
 /// Where nothing is pending, the edges are what is reached by the messages taken, and the messages given are what is sent.
 pub fn a_quiet_table_has_what_is_reached<A: Allocator, G: Allocator>()
-    ensures { (graph : Graph G) (q : ℕ) (f : Found A) (edges : List Triple) → IsGrounded graph q f edges → IsComplete graph q f edges (λ t. ⊥)
-        → f.pending.items ≡ [] → IsExact graph q f edges }
+    ensures { (graph : Graph G) (q : ℕ) (f : Found A) (edges : List Triple) → IsGrounded graph q f edges
+        → IsComplete graph q f edges (λ t. ⊥) → IsWorkedOff f → IsExact graph q f edges }
 {}
 
 /// The table of a procedure that has taken only messages which are due for it keeps only path edges of the procedure, and
@@ -32,10 +32,11 @@ pub fn a_quiet_table_has_what_is_reached<A: Allocator, G: Allocator>()
 pub fn a_table_keeps_path_edges_and_answers_what_is_due<G: Allocator, A: Allocator, S: PathSet<A>>()
     ensures edges { (p : Program) (q : ℕ) (t : Table G A S) → IsTableOf S.members p q t
         → (x : Triple) → Member x (edges_of S.members t) → AreNumbersOfEdge p q x.entry x.point x.values }
-    ensures answer { (p : Program) (q : ℕ) (old t : Table G A S) (to : ℕ) (d : Due) → IsTableOf S.members p q t → IsAnswer old t to d
-        → (k : NumberedMessage) → due_of k ≡ d → IsNumberOf (IsDue p to) k }
+    ensures answer { (p : Program) (q : ℕ) (old t : Table G A S) (to : ℕ) (d : Due) → IsTableOf S.members p q t
+        → IsAnswer old t to d → (k : NumberedMessage) → due_of k ≡ d → IsNumberOf (IsDue p to) k }
     ensures answered { (p : Program) (q : ℕ) (t : Table G A S) → IsTableOf S.members p q t → failure t ≡ None
-        → (x : Mail) → Member x (answers_of t) → (k : NumberedMessage) → due_of k ≡ x.due → IsNumberOf (IsDue p x.to) k }
+        → (x : Mail) → Member x (answers_of t) → (k : NumberedMessage) → due_of k ≡ x.due
+        → IsNumberOf (IsDue p x.to) k }
     ensures limit { (p : Program) (q : ℕ) (t : Table G A S) → IsTableOf S.members p q t → failure t ≡ Some EdgeLimit
         → HasMoreEdges p q (limit_of t) }
 {}

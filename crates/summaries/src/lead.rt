@@ -1,9 +1,7 @@
 //! Where the choices at a point lead.
 
-ghost use Rattle.std.specs.Prelude.{◌≡◌, ◌≤◌, ◌⊎◌, length, OnOk, Err};
-ghost use Rattle.language.specs.Flow.{Member};
-ghost use Rattle.path_sets.specs.Triples.{Triple};
-ghost use Rattle.summaries.specs.Grows.{Grows, IsAt, IsNext};
+ghost use Rattle.std.specs.Prelude.{◌≤◌, length};
+ghost use Rattle.summaries.specs.Grows.{Adds, IsAt, IsNext};
 
 use crate::edge::Edge;
 use crate::edge_limit::EdgeLimit;
@@ -22,10 +20,8 @@ fn reach_next<A: Allocator, S: PathSet<A>>(
     next: Option<(Point, Word)>,
 ) -> Result<(), TableFault>
     requires { length (S.members edges.old) ≤ limit }
-    ensures ok { OnOk result (Grows (IsAt from next) (S.members edges.old) (S.members edges.new) pending.old.items pending.new.items) }
-    ensures only { (t : Triple) → Member t (S.members edges.new) → IsAt from next t ⊎ Member t (S.members edges.old) }
-    ensures within { length (S.members edges.new) ≤ limit }
-    ensures limit { result ≡ Err TableFault.EdgeLimit → (t : Triple) × IsAt from next t × (¬ Member t (S.members edges.new)) × (limit ≤ length (S.members edges.new)) }
+    ensures { Adds (IsAt from next) result limit (S.members edges.old) (S.members edges.new)
+        pending.old.items pending.new.items }
 {
     let Some((point, values)) = next else {
         return Ok(());
@@ -47,10 +43,8 @@ pub(crate) fn lead<G: Allocator, A: Allocator, S: PathSet<A>>(
     from: Edge,
 ) -> Result<(), TableFault>
     requires { length (S.members edges.old) ≤ limit }
-    ensures ok { OnOk result (Grows (IsNext flow.now from) (S.members edges.old) (S.members edges.new) pending.old.items pending.new.items) }
-    ensures only { (t : Triple) → Member t (S.members edges.new) → IsNext flow.now from t ⊎ Member t (S.members edges.old) }
-    ensures within { length (S.members edges.new) ≤ limit }
-    ensures limit { result ≡ Err TableFault.EdgeLimit → (t : Triple) × IsNext flow.now from t × (¬ Member t (S.members edges.new)) × (limit ≤ length (S.members edges.new)) }
+    ensures { Adds (IsNext flow.now from) result limit (S.members edges.old) (S.members edges.new)
+        pending.old.items pending.new.items }
 {
     let mut choice = 0;
     'choices: loop {

@@ -1,9 +1,7 @@
 //! Path edges that are found.
 
-ghost use Rattle.std.specs.Prelude.{◌≡◌, ◌≤◌, ◌⊎◌, length, OnOk, Err};
-ghost use Rattle.language.specs.Flow.{Member};
-ghost use Rattle.path_sets.specs.Triples.{Triple};
-ghost use Rattle.summaries.specs.Grows.{Grows, triple_of};
+ghost use Rattle.std.specs.Prelude.{◌≡◌, ◌≤◌, length};
+ghost use Rattle.summaries.specs.Grows.{Adds, triple_of};
 
 use crate::edge::Edge;
 use crate::edge_limit::EdgeLimit;
@@ -20,10 +18,8 @@ pub(crate) fn reach<A: Allocator, S: PathSet<A>>(
     edge: Edge,
 ) -> Result<(), TableFault>
     requires { length (S.members edges.old) ≤ limit }
-    ensures ok { OnOk result (Grows (λ t. t ≡ triple_of edge) (S.members edges.old) (S.members edges.new) pending.old.items pending.new.items) }
-    ensures only { (t : Triple) → Member t (S.members edges.new) → (t ≡ triple_of edge) ⊎ Member t (S.members edges.old) }
-    ensures within { length (S.members edges.new) ≤ limit }
-    ensures limit { result ≡ Err TableFault.EdgeLimit → (¬ Member (triple_of edge) (S.members edges.new)) × (limit ≤ length (S.members edges.new)) }
+    ensures { Adds (λ t. t ≡ triple_of edge) result limit (S.members edges.old) (S.members edges.new)
+        pending.old.items pending.new.items }
 {
     if edges.len() >= limit.edges() as u64 {
         return if edges.contains(edge.entry, edge.point, edge.values) {

@@ -25,7 +25,8 @@ fn entries<A: Allocator + Copy>(
     callers: &Groups<Word, due::Caller, A>,
 ) -> Result<Vec<Word, A>, AllocError>
     ensures ascend { IfOk result (λ v. IsAscending v.items) }
-    ensures entries { IfOk result (λ v. (a : ℕ) → Member a v.items ↔ ((from : Caller) × Member from (under nat_eq callers.now.by_key a))) }
+    ensures entries { IfOk result (λ v. (a : ℕ) → Member a v.items
+        ↔ ((from : Caller) × Member from (under nat_eq callers.now.by_key a))) }
 {
     let mut entries = Vec::new(alloc);
     let keys = callers.by_key.keys();

@@ -29,7 +29,8 @@ impl<'g, G: Allocator, A: Allocator + Copy, S: PathSet<A>> Table<'g, G, A, S> {
     ghost use Rattle.std.specs.Prelude.{◌<◌, ◌^◌, [], length, slice_get, OnOk, Err, IfOk, IfSome, IfNone};
     ghost use Rattle.std.specs.Bool.{OnTrue, OnFalse};
     ghost use Rattle.summaries.specs.declared.due.Due.TheVariants.{Entry, Summary};
-    ghost use Rattle.summaries.specs.Tables.{graph_of, procedure_of, limit_of, answers_of, failure, IsTable, IsNew, IsQuiet, IsAnswer, Takes, Keeps, fault_of, failed_by, work_left};
+    ghost use Rattle.summaries.specs.Tables.{graph_of, procedure_of, limit_of, answers_of, failure, fault_of};
+    ghost use Rattle.summaries.specs.Tables.{IsTable, IsNew, IsQuiet, IsAnswer, Takes, Keeps, failed_by, work_left};
 
     /// The table of a procedure, which has taken nothing yet, and takes no memory.
     pub fn new(alloc: A, graphs: &'g Graphs<G>, procedure: u8, limit: EdgeLimit) -> Self
@@ -124,7 +125,8 @@ impl<'g, G: Allocator, A: Allocator + Copy, S: PathSet<A>> Table<'g, G, A, S> {
         requires fault { self.old.fault ≡ None }
         ensures keeps { Keeps S.members (fault_of result) self.old self.new }
         ensures answers { OnOk result (answers_of self.new ≡ answers_of self.old) }
-        ensures less { IfOk result (λ worked. OnTrue worked (work_left S.members self.new < work_left S.members self.old)) }
+        ensures less { IfOk result (λ worked. OnTrue worked
+            (work_left S.members self.new < work_left S.members self.old)) }
         ensures none { IfOk result (λ worked. OnFalse worked (self.new.found.pending.items ≡ [])) }
         ensures given { IfOk result (λ worked. OnFalse worked (self.new.found.given ≡ self.old.found.given)) }
     {

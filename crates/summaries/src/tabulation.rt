@@ -59,7 +59,8 @@ fn run<G: Allocator, A: Allocator + Copy, S: PathSet<A>>(
     ensures tables { OnOk result (AreTables S.members program (λ x. ⊥) tables.new.items) }
     ensures quiet { OnOk result (AreQuietBefore S.members (length tables.new.items) tables.new.items) }
     ensures limits { (n : ℕ) → HaveLimit n tables.old.items → OnOk result (HaveLimit n tables.new.items) }
-    ensures limit { result ≡ Err TableFault.EdgeLimit → (n : ℕ) → HaveLimit n tables.old.items → (q : ℕ) × HasMoreEdges program q n }
+    ensures limit { result ≡ Err TableFault.EdgeLimit → (n : ℕ) → HaveLimit n tables.old.items
+        → (q : ℕ) × HasMoreEdges program q n }
 {
     if tables.is_empty() {
         return Ok(());

@@ -1,9 +1,7 @@
 //! An exit whose callers are known.
 
-ghost use Rattle.std.specs.Prelude.{◌≡◌, ◌⊎◌, OnOk};
-ghost use Rattle.language.specs.Flow.{Member};
-ghost use Rattle.summaries.specs.declared.given.Mail.{Mail};
-ghost use Rattle.summaries.specs.Grows.{Gives, Each, IsTold};
+ghost use Rattle.std.specs.Prelude.{◌≡◌, OnOk};
+ghost use Rattle.summaries.specs.Grows.{AddsOnly, Gives, Each, IsTold};
 
 use crate::due::{Caller, Due};
 use crate::given::Given;
@@ -19,7 +17,7 @@ pub(crate) fn tell<A: Allocator + Copy>(
     caller: Caller,
 ) -> Result<(), AllocError>
     ensures ok { OnOk result (Gives (IsTold p a b caller) given.old.mails.keys given.new.mails.keys) }
-    ensures only { (x : Mail) → Member x given.new.mails.keys → IsTold p a b caller x ⊎ Member x given.old.mails.keys }
+    ensures only { AddsOnly (IsTold p a b caller) given.old.mails.keys given.new.mails.keys }
     ensures answered { given.new.answered ≡ given.old.answered }
 {
     if let Caller::Proc(to) = caller {
@@ -37,7 +35,7 @@ pub(crate) fn tell_all<A: Allocator + Copy>(
     callers: &[Caller],
 ) -> Result<(), AllocError>
     ensures ok { OnOk result (Gives (Each (IsTold p a b) callers.now) given.old.mails.keys given.new.mails.keys) }
-    ensures only { (x : Mail) → Member x given.new.mails.keys → Each (IsTold p a b) callers.now x ⊎ Member x given.old.mails.keys }
+    ensures only { AddsOnly (Each (IsTold p a b) callers.now) given.old.mails.keys given.new.mails.keys }
     ensures answered { given.new.answered ≡ given.old.answered }
 {
     for caller in callers {
@@ -54,8 +52,10 @@ pub(crate) fn tell_exits<A: Allocator + Copy>(
     exits: &[Word],
     caller: Caller,
 ) -> Result<(), AllocError>
-    ensures ok { OnOk result (Gives (Each (λ b. IsTold p a b caller) exits.now) given.old.mails.keys given.new.mails.keys) }
-    ensures only { (x : Mail) → Member x given.new.mails.keys → Each (λ b. IsTold p a b caller) exits.now x ⊎ Member x given.old.mails.keys }
+    ensures ok { OnOk result (Gives (Each (λ b. IsTold p a b caller) exits.now)
+        given.old.mails.keys given.new.mails.keys) }
+    ensures only { AddsOnly (Each (λ b. IsTold p a b caller) exits.now)
+        given.old.mails.keys given.new.mails.keys }
     ensures answered { given.new.answered ≡ given.old.answered }
 {
     for b in exits {

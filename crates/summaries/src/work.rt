@@ -3,12 +3,10 @@
 ghost use Rattle.std.specs.Prelude.{◌≡◌, ◌≤◌, length, OnOk, slice_get, Some};
 ghost use Rattle.language.specs.Flow.{Member};
 ghost use Rattle.flow_graph.specs.declared.flow.Flow.TheVariants as flow;
-ghost use Rattle.flow_graph.specs.Returns.{left};
-ghost use Rattle.flow_graph.specs.Calls.{entry_of};
 ghost use Rattle.summaries.specs.declared.due.Due.TheVariants.{Entry, Summary};
-ghost use Rattle.summaries.specs.Found.{HasExit, HasSite, site};
 ghost use Rattle.summaries.specs.Grows.{triple_of};
-ghost use Rattle.summaries.specs.Tables.{answers_of, Holds, Worked, TookAlso, TookOnly, TookSame, StaysAs, IsLess};
+ghost use Rattle.summaries.specs.Tables.{answers_of, HasLeft, HasAsked, Holds, Worked, StaysAs, IsLess};
+ghost use Rattle.summaries.specs.Tables.{TookAlso, TookOnly, TookSame};
 
 use crate::due::{Caller, Due};
 use crate::edge::{Call, Edge, Site};
@@ -29,7 +27,7 @@ impl<'g, G: Allocator, A: Allocator + Copy, S: PathSet<A>> Table<'g, G, A, S> {
         requires edge { Member (triple_of edge) (S.members self.old.edges) }
         requires holds { Holds S.members (λ t. t ≡ triple_of edge) self.old }
         ensures ok { OnOk result (Holds S.members (λ t. t ≡ triple_of edge) self.new) }
-        ensures left { OnOk result (edge.point ≡ 0 → HasExit self.new.found edge.entry (left self.new.graph.now.globals edge.values)) }
+        ensures left { OnOk result (HasLeft self.new edge) }
         ensures answers { OnOk result (answers_of self.new ≡ answers_of self.old) }
         ensures taken { TookSame self.old.found self.new.found }
         ensures edges { self.new.edges ≡ self.old.edges }
@@ -64,7 +62,7 @@ impl<'g, G: Allocator, A: Allocator + Copy, S: PathSet<A>> Table<'g, G, A, S> {
         requires holds { Holds S.members (λ t. t ≡ triple_of edge) self.old }
         requires within { length (S.members self.old.edges) ≤ self.old.limit }
         ensures worked { Worked S.members (λ t. t ≡ triple_of edge) result self.old self.new }
-        ensures asked { OnOk result (HasSite self.new.found call.now.callee (entry_of call.now.globals call.now.arguments.items edge.values) (site edge.entry call.now.back edge.values)) }
+        ensures asked { OnOk result (HasAsked self.new edge call.now) }
         ensures taken { TookSame self.old.found self.new.found }
         ensures exits { self.new.found.exits ≡ self.old.found.exits }
         ensures less { OnOk result (IsLess S.members self.old self.new) }

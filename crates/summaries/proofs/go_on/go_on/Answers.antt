@@ -1,33 +1,29 @@
-use Rattle.std.proofs.Common.{Err, inl, inr, sym, ap, ◌∙◌, subst, take, get_or}
-use Rattle.summaries.specs.Grows.{Grows, Each, IsBehind, triple_of}
-use Rattle.summaries.proofs.Growing.{each_more, fault_of}
+use Rattle.std.proofs.Common.{Err, inl, inr, sym, ap, ◌∙◌, subst, take, get_or, ◌≡◌, length, arith, rules}
+use Rattle.std.proofs.Math.Seq.{take-length}
+use Rattle.summaries.specs.Grows.{Grows, Each, IsBehind}
+use Rattle.summaries.proofs.Growing.{ok_err, each_more, fault_of}
 use Rattle.summaries.proofs.Firsts.{take_more}
 use Rattle.summaries.proofs.Eaches.{each_first, each_at}
 use Rattle.summaries.proofs.go_on.go_on.Goals as goal
 
-pub returns-in_err-reach-clause-limit : goal.returns-in_err-reach-clause-limit
-returns-in_err-reach-clause-limit g c = λ e.
+pub returns-in_err-reach : goal.returns-in_err-reach
+returns-in_err-reach g c =
     let xs = c.args.summaries.now in
     let i = c.loop-globals.globals-index in
-    let reached = triple_of c.behind-edge.result in
-    let limit = c.in_err-reach.ensures.limit (ap Err (sym (fault_of _ _ _ c.from_residual.ensures.1 e))) in (
-      reached,
-      each_at (IsBehind c.args.graph.now c.args.site) xs i 0 c.loop-globals-test.true reached c.behind-edge.ensures,
-      limit.0,
-      limit.1,
-    )
-
-pub returns-in_err-reach-clause-only : goal.returns-in_err-reach-clause-only
-returns-in_err-reach-clause-only g c = λ t there.
-    let xs = c.args.summaries.now in
-    let i = c.loop-globals.globals-index in
-    elim (c.in_err-reach.ensures.only t there) [
-      | inl is ↦ inl (each_at (IsBehind c.args.graph.now c.args.site) xs i 0 c.loop-globals-test.true t (is ∙ c.behind-edge.ensures))
-      | inr mid ↦ elim (c.loop-globals.invariant.0.only t mid) [
-        | inl first ↦ inl (each_first (IsBehind c.args.graph.now c.args.site) xs i t first)
-        | inr was ↦ inr was
-      ]
-    ]
+    let failed = c.in_err-reach.ensures in record {
+      ok = search rules;
+      only = λ t there. elim (failed.only t there) [
+        | inl is ↦ inl (each_at (IsBehind c.args.graph.now c.args.site) xs i 0 c.loop-globals-test.true t (is ∙ c.behind-edge.ensures))
+        | inr mid ↦ elim (c.loop-globals.invariant.0.only t mid) [
+          | inl first ↦ inl (each_first (IsBehind c.args.graph.now c.args.site) xs i t first)
+          | inr was ↦ inr was
+        ]
+      ];
+      within = failed.within;
+      limit = λ e.
+          let (t, is, new, full) = failed.limit (ap Err (sym (fault_of _ _ _ c.from_residual.ensures.1 e))) in
+          (t, each_at (IsBehind c.args.graph.now c.args.site) xs i 0 c.loop-globals-test.true t (is ∙ c.behind-edge.ensures), new, full);
+    }
 
 pub loop-globals-preserved : goal.loop-globals-preserved
 loop-globals-preserved g c =
@@ -42,9 +38,14 @@ loop-globals-preserved g c =
       c.in_ok-reach.ensures.within,
     )
 
-pub returns-clause-only : goal.returns-clause-only
-returns-clause-only g c = λ t there.
-    elim (c.loop-globals.invariant.0.only t there) [
-      | inl first ↦ inl (each_first (IsBehind c.args.graph.now c.args.site) c.args.summaries.now c.loop-globals.globals-index t first)
-      | inr was ↦ inr was
-    ]
+pub returns : goal.returns
+returns g c =
+    let xs = c.args.summaries.now in
+    let end : c.loop-globals.globals-index ≡ length xs = omega (arith, c.loop-globals-test.false, c.loop-globals.auto.globals-index-end) in
+    let grown = subst (λ l. Grows (Each (IsBehind c.args.graph.now c.args.site) l) (g.S.PathSet.members c.args.edges.now) (g.S.PathSet.members c.loop-globals.edges) c.args.pending.now.items c.loop-globals.pending.items)
+    (ap (λ n. take n xs) end ∙ take-length xs) c.loop-globals.invariant.0 in record {
+      ok = grown;
+      only = grown.only;
+      within = c.loop-globals.invariant.1;
+      limit = λ is. absurd (ok_err is);
+    }

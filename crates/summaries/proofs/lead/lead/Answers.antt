@@ -1,18 +1,25 @@
-use Rattle.std.proofs.Common.{◌≤◌, ◌+◌, inl, inr, subst, arith}
+use Rattle.std.proofs.Common.{◌≤◌, ◌+◌, Err, inl, inr, sym, ap, subst, arith, rules}
 use Rattle.flow_graph.specs.Flows.{last_of, next_of}
 use Rattle.summaries.specs.Grows.{Grows, IsAt, IsNextBefore, IsNext}
-use Rattle.summaries.proofs.Growing.{both, grows_as, next_more, next_so_far, next_all, all_next, some_next}
+use Rattle.summaries.proofs.Growing.{ok_err, fault_of, both, grows_as, next_more, next_so_far, next_all, all_next, some_next}
 use Rattle.summaries.proofs.lead.lead.Goals as goal
 
-pub returns-in_err-reach_next-clause-only : goal.returns-in_err-reach_next-clause-only
-returns-in_err-reach_next-clause-only g c = λ t m.
+pub returns-in_err-reach_next : goal.returns-in_err-reach_next
+returns-in_err-reach_next g c =
     let flow = c.args.flow.now in
     let k = c.choices.choice in
     let most = c.choices.invariant.2 in
-    elim (c.in_err-reach_next.ensures.only t m) [
-      | inl at ↦ inl (k, most, subst (λ next. IsAt c.args.from next t) c.next-next.ensures at)
-      | inr mid ↦ elim (c.choices.invariant.0.only t mid) [ inl some ↦ inl (some_next flow c.args.from k most t some) | inr was ↦ inr was ]
-    ]
+    let failed = c.in_err-reach_next.ensures in record {
+      ok = search rules;
+      only = λ t m. elim (failed.only t m) [
+        | inl at ↦ inl (k, most, subst (λ next. IsAt c.args.from next t) c.next-next.ensures at)
+        | inr mid ↦ elim (c.choices.invariant.0.only t mid) [ inl some ↦ inl (some_next flow c.args.from k most t some) | inr was ↦ inr was ]
+      ];
+      within = failed.within;
+      limit = λ e.
+          let (t, at, new, full) = failed.limit (ap Err (sym (fault_of _ _ _ c.from_residual.ensures.1 e))) in
+          (t, (k, most, subst (λ next. IsAt c.args.from next t) c.next-next.ensures at), new, full);
+    }
 
 pub choices-preserved : goal.choices-preserved
 choices-preserved g c =
@@ -26,17 +33,19 @@ choices-preserved g c =
       omega (arith, c.if-choice-last.false, c.last.ensures),
     )
 
-pub returns-then-choice-last-clause-ok : goal.returns-then-choice-last-clause-ok
-returns-then-choice-last-clause-ok g c =
+pub returns-then-choice-last : goal.returns-then-choice-last
+returns-then-choice-last g c =
     let flow = c.args.flow.now in
     let from = c.args.from in
     let k = c.choices.choice in
     let most = c.choices.invariant.2 in
     let least : last_of flow ≤ k = omega (arith, c.if-choice-last.true, c.last.ensures) in
-    grows_as (IsNextBefore (k + 1) flow from) (IsNext flow from) _ _ _ _ (next_all flow from k least most) (all_next flow from k least most)
+    let grown = grows_as (IsNextBefore (k + 1) flow from) (IsNext flow from) _ _ _ _ (next_all flow from k least most) (all_next flow from k least most)
     (both (IsNextBefore k flow from) (IsAt from (next_of flow from.values k)) (IsNextBefore (k + 1) flow from) _ _ _ _ _ _ c.choices.invariant.0
     (subst (λ next. Grows (IsAt from next) (g.S.PathSet.members c.choices.edges) (g.S.PathSet.members c.reach_next.new.edges) c.choices.pending.items c.reach_next.new.pending.items) c.next-next.ensures c.in_ok-reach_next.ensures.ok)
-    (next_more flow from k) (next_so_far flow from k))
-
-pub returns-then-choice-last-clause-only : goal.returns-then-choice-last-clause-only
-returns-then-choice-last-clause-only g c = (returns-then-choice-last-clause-ok g c).only
+    (next_more flow from k) (next_so_far flow from k)) in record {
+      ok = grown;
+      only = grown.only;
+      within = c.in_ok-reach_next.ensures.within;
+      limit = λ is. absurd (ok_err is);
+    }

@@ -1,15 +1,14 @@
 -- Each step keeps that messages are taken, and the tables before `at` owe none.
-use Rattle.std.proofs.Common.{◌≡◌, ◌<◌, ◌+◌, ◌^◌, ◌++◌, ◌∷◌, [], Some, length, slice_get, slice_set, refl, sym, ap, ◌∙◌, subst, arith, length-set, tests}
+use Rattle.std.proofs.Common.{◌≡◌, ◌<◌, ◌+◌, ◌^◌, Some, length, slice_get, slice_set, refl, sym, ap, ◌∙◌, subst, arith, length-set, tests}
 use Rattle.std.proofs.lemmas.Option.{slice_get_read}
 use Rattle.std.specs.Option.{IfSome, IfNone}
-use Rattle.flow_graph.specs.Numbers.{NumberedMessage, IsNumberOf, Sends}
+use Rattle.flow_graph.specs.Numbers.{NumberedMessage, IsNumberOf}
 use Rattle.language.specs.Sequential.{IsDue}
 use Rattle.summaries.specs.declared.due.Caller.TheVariants.{Starter}
 use Rattle.summaries.specs.declared.due.Due.TheVariants.{Entry}
 use Rattle.summaries.specs.declared.table_fault.TableFault.TheVariants.{EdgeLimit}
 use Rattle.summaries.specs.Mails.{mail}
 use Rattle.summaries.specs.Dues.{due_of}
-use Rattle.summaries.specs.Found.{TookMessage}
 use Rattle.summaries.specs.Tables.{answers_of, IsQuiet, IsAnswer}
 use Rattle.summaries.specs.Together.{opening, AreTables}
 use Rattle.summaries.proofs.Sweeping.{limits_stay}
@@ -90,8 +89,7 @@ answer_of g c = subst (λ o. IfSome o (λ m. IsAnswer c.index_mut-in-loop-at.res
 
 to_due : (g : Over) (c : In-Some g) → To g c
 to_due g c =
-    let next = c.in_ok-to.ensures in
-    mail_due g.S.PathSet.members g.program (λ x. ⊥) c.loop-at.tables.items c.loop-at.invariant.tables c.loop-at.at c.index_mut-in-loop-at.result.now c.next.new.self (answers_is g c) next.keeps.stays next.keeps.taken c.in-Some.to c.in-Some.due (answer_of g c).due
+    mail_due g.S.PathSet.members g.program (λ x. ⊥) c.loop-at.tables.items c.loop-at.invariant.tables c.loop-at.at c.index_mut-in-loop-at.result.now c.next.new.self (answers_is g c) c.in_ok-to.ensures.keeps c.in-Some.to c.in-Some.due (answer_of g c)
 
 to_there : (g : Over) (c : In-Some g) → c.in-Some.to < length c.loop-at.tables.items
 to_there g c = mail_receiver g.S.PathSet.members g.program (λ x. ⊥) c.loop-at.tables.items c.loop-at.invariant.tables c.in-Some.to c.in-Some.due (to_due g c)

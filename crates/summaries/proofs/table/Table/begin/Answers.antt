@@ -3,10 +3,10 @@ use Rattle.path_sets.specs.Triples.{triple}
 use Rattle.summaries.specs.declared.found.Found.{Found}
 use Rattle.summaries.specs.Grows.{Gives, Each, IsTold}
 use Rattle.summaries.proofs.Beginning.{begun_also, begin_only, begin_step, start_reached}
-use Rattle.summaries.proofs.Growing.{grows_as, fault_of}
+use Rattle.summaries.proofs.Growing.{ok_err, grows_as, fault_of}
 use Rattle.summaries.proofs.Mails.{answers_still}
 use Rattle.summaries.proofs.Stepping.{still_grounded, still_complete, all_reached, taken_as, has_more}
-use Rattle.summaries.proofs.Worked.{ok_err, failed_worked, refused_worked}
+use Rattle.summaries.proofs.Worked.{failed_worked, refused_worked}
 use Rattle.summaries.proofs.table.Table.begin.Goals as goal
 
 pub returns-in_err-add-clause-worked : goal.returns-in_err-add-clause-worked
@@ -29,10 +29,10 @@ returns-in_err-reach-clause-worked g c =
     (λ t m. elim (c.in_err-reach.ensures.only t m) [ inl is ↦ inl (is ∙ ap (λ n. triple a n a) c.start.ensures) | inr was ↦ inr was ]) in
     failed_worked g.S.PathSet.members (λ t. ⊥) _ self _ edges c.in_err-reach.ensures.within (record { graph = refl; procedure = refl; limit = refl }) refl _ c.from_residual-in_err-reach.ensures.1
     (λ is.
-    let (new, full) = c.in_err-reach.ensures.limit (ap Err (sym (fault_of _ _ _ c.from_residual-in_err-reach.ensures.1 is))) in
-    has_more self.limit ds _ (g.met.S.PathSet.none_twice c.reach.new.edges) edges (triple a c.start.result a)
+    let (t, is_start, new, full) = c.in_err-reach.ensures.limit (ap Err (sym (fault_of _ _ _ c.from_residual-in_err-reach.ensures.1 is))) in
+    has_more self.limit ds _ (g.met.S.PathSet.none_twice c.reach.new.edges) edges t
     (start_reached self.graph.now self.procedure f c.add.new.self f.given c.reach.new.pending a c.args.caller c.in_ok-add.ensures.added c.in_ok-add.ensures.others es ds c.requires.holds.0
-    (triple a c.start.result a) (ap (λ n. triple a n a) c.start.ensures))
+    t (is_start ∙ ap (λ n. triple a n a) c.start.ensures))
     new full)
 
 pub returns-in_err-tell_exits-clause-worked : goal.returns-in_err-tell_exits-clause-worked
