@@ -1,14 +1,17 @@
 //! From a text to a sequential program.
 
 use round_rewrite::{Rounds, Sequential, rewrite};
-use scopes::check;
-use std::alloc::Global;
+use scopes::{Checked, check};
+use std::alloc::Allocator;
 use syntax::read;
 
+/// The checked program of a text.
+fn checked<A: Allocator + Copy>(alloc: A, text: &str) -> Option<Checked<A>> {
+    check(alloc, read(alloc, text.as_bytes()).ok()?).ok()
+}
+
 /// The sequential program that a text is rewritten to for some rounds.
-pub fn rewritten(alloc: Global, text: &str, rounds: u64) -> Option<Sequential<Global>> {
+pub fn rewritten<A: Allocator + Copy>(alloc: A, text: &str, rounds: u64) -> Option<Sequential<A>> {
     let rounds = Rounds::new(u8::try_from(rounds).ok()?)?;
-    let program = read(alloc, text.as_bytes()).ok()?;
-    let checked = check(alloc, program).ok()?;
-    rewrite(&alloc, &checked, rounds).ok()
+    rewrite(&alloc, &checked(alloc, text)?, rounds).ok()
 }

@@ -1,6 +1,7 @@
 //! A table that is refused memory.
 
 ghost use Rattle.std.specs.Prelude.{◌<◌, length};
+ghost use Rattle.flow_graph.specs.Drawn.{graphs_of};
 ghost use Rattle.summaries.specs.Tables.{IsTable};
 
 use crate::fields::{first, first_word};
@@ -46,20 +47,19 @@ fn stays<G: Allocator, A: Allocator + Copy, S: PathSet<A>>(
         && table.next() == Err(TableFault::Memory)
 }
 
-/// Works a table with the allocation of this number refused: whether it was, and whether the table then stays failed. Its edges
-/// are kept in a set of the type `S`.
-fn came_of<'a, G: Allocator, S: PathSet<&'a Scarce<Global>>>(
-    scarce: &'a Scarce<Global>,
+/// Works a table, in whose room an allocation is refused: whether it was, and whether the table then stays failed. Its edges are
+/// kept in a set of the type `S`.
+fn came_of<G: Allocator, A: Allocator + Copy, S: PathSet<A>>(
+    room: A,
+    scarce: &Scarce<Global>,
     graphs: &Graphs<G>,
     procedure: u8,
     due: Due,
     limit: EdgeLimit,
 ) -> (bool, bool)
-    requires { procedure < length graphs.now.graphs.items }
+    requires { procedure < length (graphs_of graphs.now) }
 {
-    let mut table: Table<'_, G, &'a Scarce<Global>, S> = Table::new(
-        scarce, graphs, procedure, limit,
-    );
+    let mut table: Table<'_, G, A, S> = Table::new(room, graphs, procedure, limit);
     let done = worked(&mut table, due);
     let was_refused = scarce.refused();
     (was_refused, stays(&mut table, done, was_refused, due))
@@ -75,7 +75,7 @@ fn of_graphs(alloc: Global, graphs: &Graphs<Global>, procedure: u64, due: Due) -
     }
     for nth in 1..400u64 {
         let scarce = Scarce::refusing(alloc, nth);
-        match came_of::<_, OrderedEdges<_>>(&scarce, graphs, procedure, due, limit) {
+        match came_of::<_, _, OrderedEdges<_>>(&scarce, &scarce, graphs, procedure, due, limit) {
             (true, true) => {}
             (false, true) if nth > 5 => return "fails for want of memory, and stays so",
             _ => return "another answer",

@@ -115,9 +115,26 @@ fn write_owed<G: Allocator, A: Allocator + Copy, S: PathSet<A>>(
     }
 }
 
-/// Writes what the table of a procedure owes after each message; its edges are kept in a set of the type `S`.
-fn of_graphs<G: Allocator, S: PathSet<Global>>(
+/// Writes what the table owes after each message.
+fn write_turns<G: Allocator, A: Allocator + Copy, S: PathSet<A>>(
     alloc: Global,
+    out: &mut String,
+    table: &mut Table<'_, G, A, S>,
+    words: &str,
+) -> Result<(), AllocError>
+    requires { IsTable S.members table.old }
+{
+    'words: for word in words.split_whitespace() {
+        write_owed(alloc, out, table, word)?;
+        write!(out, "\n")?;
+    }
+    Ok(())
+}
+
+/// Writes what the table of a procedure owes after each message; its edges are kept in a set of the type `S`, in memory of `room`.
+fn of_graphs<G: Allocator, A: Allocator + Copy, S: PathSet<A>>(
+    alloc: Global,
+    room: A,
     out: &mut String,
     graphs: &Graphs<G>,
     procedure: u64,
@@ -129,12 +146,8 @@ fn of_graphs<G: Allocator, S: PathSet<Global>>(
     if procedure as usize >= graphs.len() {
         return Err(AllocError);
     }
-    let mut table: Table<'_, G, Global, S> = Table::new(alloc, graphs, procedure, limit);
-    'words: for word in words.split_whitespace() {
-        write_owed(alloc, out, &mut table, word)?;
-        write!(out, "\n")?;
-    }
-    Ok(())
+    let mut table: Table<'_, G, A, S> = Table::new(room, graphs, procedure, limit);
+    write_turns(alloc, out, &mut table, words)
 }
 
 /// Writes what the table of a procedure owes after each message: the procedure, the rounds and the messages, and the text.
@@ -150,7 +163,9 @@ pub fn messages(
         return write!(out, "not rewritten");
     };
     match graphs(&alloc, &sequential) {
-        Ok(graphs) => of_graphs::<_, OrderedEdges<_>>(alloc, out, &graphs, procedure, words),
+        Ok(graphs) => of_graphs::<_, _, OrderedEdges<_>>(
+            alloc, alloc, out, &graphs, procedure, words,
+        ),
         Err(_) => Err(AllocError),
     }
 }
