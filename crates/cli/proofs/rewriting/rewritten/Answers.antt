@@ -1,5 +1,5 @@
 -- A text that is rewritten is that of a checked program; where the rewriting fails, it is too wide.
-use Rattle.std.proofs.Common.{◌≡◌, ◌∙◌, ◌⊎◌, ℕ, suc, List, sym, ap, subst, arith, inl, inr}
+use Rattle.std.proofs.Common.{◌≡◌, ◌∙◌, ◌⊎◌, ℕ, suc, List, refl, sym, ap, subst, inl, inr}
 use Rattle.syntax.specs.Text.{Text}
 use Rattle.scopes.specs.Checked.{IsChecked}
 use Rattle.round_rewrite.specs.Narrow.{IsNarrow}
@@ -18,14 +18,13 @@ use Rattle.cli.proofs.rewriting.rewritten.Goals as goal
 
 pub returns-clause-rewriting : goal.returns-clause-rewriting
 returns-clause-rewriting g c =
-    let last = c.in-Some.rounds.last in
-    let counted = c.in-Some.ensures.last in
+    let last = c.args.rounds.last in
     let source = tree_of c.in_ok-program.program in
     let same : tree_of c.in_ok-checked.checked.program ≡ source = ap tree_of c.in_ok-checked.ensures.checked.0 in
     record {
       tree = source;
       last = last;
-      count = omega (arith, counted);
+      count = refl;
       of = c.in_ok-program.ensures.found;
       checked = c.in_ok-checked.ensures.checked.1;
       same = c.in_ok-rewrite.ensures.rewritten ∙ ap (rewritten_tree last) same;
@@ -43,11 +42,9 @@ stands bytes last rounds t count of checked TooWide (inr (e, narrow)) = cc
 pub returns-in_err-rewrite-clause-stands : goal.returns-in_err-rewrite-clause-stands
 returns-in_err-rewrite-clause-stands g c =
     let p = err_from_is_err_and c.from_residual-in_err-rewrite.result c.from_residual-in_err-rewrite.ensures.1 in
-    let last = c.in-Some.rounds.last in
-    let counted = c.in-Some.ensures.last in
-    let count : suc last ≡ c.args.rounds = omega (arith, counted) in
+    let last = c.args.rounds.last in
     let source = tree_of c.in_ok-checked.checked.program in
     let same : tree_of c.in_ok-program.program ≡ source = sym (ap tree_of c.in_ok-checked.ensures.checked.0) in
     let of = subst (Text c.args.text.now) same c.in_ok-program.ensures.found in
     let checked = subst IsChecked same c.in_ok-checked.ensures.checked.1 in
-    rw (p.1, p.2) (stands c.args.text.now last c.args.rounds source count of checked _ c.in_err-rewrite.ensures.fault)
+    rw (p.1, p.2) (stands c.args.text.now last (suc last) source refl of checked _ c.in_err-rewrite.ensures.fault)
