@@ -1,6 +1,6 @@
 -- Words, and what the command line of bebopk gives for them, by evaluation.
 use Rattle.std.proofs.Common.{◌≡◌, List, [], ◌∷◌, Option, Some, None, refl, codes, option_map}
-use Rattle.clap.specs.Words.{Kinds, Text, fault_of, first_of, one_of, subcommand_of}
+use Rattle.clap.specs.Words.{Text, fault_of, first_of, one_of, subcommand_of}
 use Rattle.clap.specs.declared.error.kind.ErrorKind.TheVariants as kind
 use Rattle.clap.proofs.OnLiterals.{clap_on_literals}
 use Rattle.cli.specs.Line.{bebopk}
@@ -46,3 +46,13 @@ no_rounds = refl
 help : fault_of bebopk (check (codes "--help" ∷ [])) ≡ kind.DisplayHelp ∷ []
 unfolding clap_on_literals
 help = refl
+
+-- --version
+version : fault_of bebopk (codes "bebopk" ∷ codes "--version" ∷ []) ≡ kind.DisplayVersion ∷ []
+unfolding clap_on_literals
+version = refl
+
+-- check --version
+version_of_check : fault_of bebopk (check (codes "--version" ∷ [])) ≡ kind.UnknownArgument ∷ []
+unfolding clap_on_literals
+version_of_check = refl

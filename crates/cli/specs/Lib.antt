@@ -6,3 +6,5 @@ pub mod Verdict
 pub mod Refusals
 pub mod Refused
 pub mod Replies
+pub mod Place
+pub mod Explained

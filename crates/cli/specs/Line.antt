@@ -6,6 +6,7 @@ use Rattle.clap.specs.Words.{App, IsAmong, Row, Rule, Text, fault_of, first_of, 
 use Rattle.clap.specs.declared.builder.value_parser.ValueParser.TheVariants.{Signed}
 use Rattle.clap.specs.declared.error.kind.ErrorKind.{ErrorKind}
 use Rattle.clap.specs.declared.error.kind.ErrorKind.TheVariants as kind
+use Rattle.cli.specs.Limits.{count_of}
 use Rattle.cli.specs.declared.asked.LineFault.{LineFault}
 use Rattle.cli.specs.declared.asked.LineFault.TheVariants.{Help, Memory, Refused}
 use Rattle.cli.specs.declared.asked.Order.{Order}
@@ -32,9 +33,9 @@ check = with_rule (with_rule (with_rule (new_app (codes "check")) (record rounds
 abbrev pub sequential : App
 sequential = with_rule (with_rule (new_app (codes "sequential")) (record rounds { required = true })) file
 
--- bebopk check .., or bebopk sequential ..
+-- bebopk check .., bebopk sequential .., or bebopk --version
 abbrev pub bebopk : App
-bebopk = with_subcommand (with_subcommand (on_top (λ s. record s { subcommand_required = true }) (new_app (codes "bebopk"))) check.top) sequential.top
+bebopk = with_subcommand (with_subcommand (on_top (λ s. record s { has_version = true; subcommand_required = true }) (new_app (codes "bebopk"))) check.top) sequential.top
 
 -- The value that was found for this option, given or by default, reads as the number.
 abbrev pub Reads : List Row → Text → ℕ → Type 0
@@ -42,13 +43,13 @@ Reads rows id n = (t : Text) × (one_of id rows ≡ Some t) × IsNumeral 10 (wit
 
 -- A command of this name, with what was found for its options, is the order.
 abbrev pub Gives : Text → List Row → Order → Type 0
-Gives name rows (Check k n) = (name ≡ codes "check") × Reads rows (codes "rounds") k × Reads rows (codes "edges") n
-Gives name rows (Sequential k) = (name ≡ codes "sequential") × Reads rows (codes "rounds") k
+Gives name rows (Check k n) = (name ≡ codes "check") × Reads rows (codes "rounds") (count_of k) × Reads rows (codes "edges") n
+Gives name rows (Sequential k) = (name ≡ codes "sequential") × Reads rows (codes "rounds") (count_of k)
 
 -- A command of this name with these numbers is the order.
 abbrev pub IsNamed : Text → ℕ → Option ℕ → Order → Type 0
-IsNamed name k n (Check rounds edges) = (name ≡ codes "check") × (rounds ≡ k) × (n ≡ Some edges)
-IsNamed name k n (Sequential rounds) = (name ≡ codes "sequential") × (rounds ≡ k)
+IsNamed name k n (Check rounds edges) = (name ≡ codes "check") × (count_of rounds ≡ k) × (n ≡ Some edges)
+IsNamed name k n (Sequential rounds) = (name ≡ codes "sequential") × (count_of rounds ≡ k)
 
 -- What was found for a command is this order on this file.
 abbrev pub Orders : Text × List Row → Order → Text → Type 0

@@ -1,16 +1,19 @@
 -- What a reply says of a text, by what was asked.
-use Rattle.std.specs.Prelude.{◌≡◌, ℕ, suc, List}
+use Rattle.std.specs.Prelude.{◌≡◌, ℕ, suc, List, Some}
 use Rattle.language.specs.Tree.{Tree}
 use Rattle.syntax.specs.InGrammar.{WithinLimits, IsTextOf}
 use Rattle.syntax.specs.Text.{Text}
 use Rattle.syntax.specs.Printed.{printed}
 use Rattle.scopes.specs.Checked.{IsChecked}
 use Rattle.round_rewrite.specs.Names.{rewritten_tree}
+use Rattle.cli.specs.Limits.{count_of}
 use Rattle.cli.specs.declared.asked.Order.{Order}
 use Rattle.cli.specs.declared.asked.Order.TheVariants.{Check, Sequential}
 use Rattle.cli.specs.declared.refusal.Refusal.{Refusal}
+use Rattle.cli.specs.declared.reply.Reply.{Reply}
 use Rattle.cli.specs.Verdict.{Answers, IsOver}
 use Rattle.cli.specs.Refused.{Stands, line_of, status_of}
+use Rattle.cli.specs.Written.{bytes_of}
 
 -- the text is that of a checked program, the bytes are the printed form of its rewriting for so many rounds, and within the
 -- limits of texts they are a text of that rewriting, offsets aside
@@ -25,23 +28,27 @@ pub record IsSequential (text : List ℕ) (rounds : ℕ) (bytes : List ℕ) : Ty
 
 -- the reply with a status of at most 1 is what was asked for
 abbrev pub Replies : List ℕ → Order → List ℕ → ℕ → Type 0
-Replies text (Check rounds edges) bytes status = Answers text rounds edges bytes status
-Replies text (Sequential rounds) bytes status = (status ≡ 0) × IsSequential text rounds bytes
+Replies text (Check rounds edges) bytes status = Answers text (count_of rounds) edges bytes status
+Replies text (Sequential rounds) bytes status = (status ≡ 0) × IsSequential text (count_of rounds) bytes
 
 -- how many rounds were asked for
 abbrev pub rounds_of : Order → ℕ
-rounds_of (Check rounds edges) = rounds
-rounds_of (Sequential rounds) = rounds
+rounds_of (Check rounds edges) = count_of rounds
+rounds_of (Sequential rounds) = count_of rounds
 
 -- a check was asked for, and some procedure of the text's rewriting has more path edges than its limit
 abbrev pub IsPastLimit : List ℕ → Order → Type 0
-IsPastLimit text (Check rounds edges) = IsOver text rounds edges
+IsPastLimit text (Check rounds edges) = IsOver text (count_of rounds) edges
 IsPastLimit text (Sequential rounds) = ⊥
 
--- Some refusal stands for so many rounds and this limit, and the reply is its line with its status.
-abbrev pub RefusesFor : List ℕ → ℕ → Type 0 → List ℕ → ℕ → Type 0
-RefusesFor text rounds Past bytes status = (why : Refusal) × Stands text rounds Past why × (bytes ≡ line_of why) × (status ≡ status_of why)
+-- The reply tells this refusal, and is its line with its status.
+abbrev pub Tells : {A : Type 0} → Refusal → Reply A → Type 0
+Tells why reply = (bytes_of reply ≡ line_of why) × (reply.status ≡ status_of why) × (reply.refusal ≡ Some why)
 
--- Some refusal stands for what was asked, and the reply is its line with its status.
-abbrev pub Refuses : List ℕ → Order → List ℕ → ℕ → Type 0
-Refuses text order bytes status = RefusesFor text (rounds_of order) (IsPastLimit text order) bytes status
+-- Some refusal stands for so many rounds and this limit, and the reply tells it, and is its line with its status.
+abbrev pub RefusesFor : {A : Type 0} → List ℕ → ℕ → Type 0 → Reply A → Type 0
+RefusesFor text rounds Past reply = (why : Refusal) × Stands text rounds Past why × Tells why reply
+
+-- Some refusal stands for what was asked, and the reply tells it, and is its line with its status.
+abbrev pub Refuses : {A : Type 0} → List ℕ → Order → Reply A → Type 0
+Refuses text order reply = RefusesFor text (rounds_of order) (IsPastLimit text order) reply

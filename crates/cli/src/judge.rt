@@ -4,9 +4,10 @@ ghost use Rattle.std.specs.Prelude.{◌≡◌, ◌↔◌, ◌⊎◌, ℕ, IfOk, 
 ghost use Rattle.language.specs.Resolve.{number_of};
 ghost use Rattle.language.specs.Sequential.{sequential_of};
 ghost use Rattle.language.specs.Step.{Program};
-ghost use Rattle.syntax.specs.Trees.{tree_of};
 ghost use Rattle.round_rewrite.specs.Law.{SomeBad};
+ghost use Rattle.round_rewrite.specs.Programs.{sequential_tree};
 ghost use Rattle.summaries.specs.Tabulated.{HasMoreEdges, SomePairBad};
+ghost use Rattle.cli.specs.Limits.{count_of};
 ghost use Rattle.cli.specs.Refused.{Stands};
 ghost use Rattle.cli.specs.Verdict.{IsVerdict, IsOver};
 ghost use Rattle.cli.specs.declared.refusal.Refusal.TheVariants as refusal;
@@ -15,7 +16,7 @@ use crate::refusal::Refusal;
 use crate::rewriting::rewritten;
 use flow_graph::graphs;
 use path_sets::PathSet;
-use round_rewrite::Sequential;
+use round_rewrite::{Rounds, Sequential};
 use std::alloc::Allocator;
 use summaries::{EdgeLimit, Summaries, tabulate};
 
@@ -36,8 +37,8 @@ fn tabulated<N: Allocator, A: Allocator + Copy, S: PathSet<A>>(
     limit: EdgeLimit,
 ) -> Result<Summaries<A>, Refusal>
     ghost program: { Program }
-    requires { program ≡ sequential_of (tree_of sequential.now.program) }
-    ensures bad { IfOk result (λ s. SomePairBad s ↔ SomeBad program (number_of (codes "bad__") (tree_of sequential.now.program).globals)) }
+    requires { program ≡ sequential_of (sequential_tree sequential.now) }
+    ensures bad { IfOk result (λ s. SomePairBad s ↔ SomeBad program (number_of (codes "bad__") (sequential_tree sequential.now).globals)) }
     ensures few { IfOk result (λ _. (q : ℕ) → ¬ HasMoreEdges program q limit) }
     ensures fault { IfErr result (λ why. (why ≡ refusal.Memory) ⊎ ((why ≡ refusal.EdgeLimit) × ((q : ℕ) × HasMoreEdges program q limit))) }
 {
@@ -45,22 +46,18 @@ fn tabulated<N: Allocator, A: Allocator + Copy, S: PathSet<A>>(
     Ok(tabulate::<_, _, S>(alloc, &graphs, limit)?)
 }
 
-/// The verdict on a text for so many rounds, 1 to 4, and at most so many path edges a procedure, 1 to 16,777,216; they are kept
-/// in sets of the type `S`.
+/// The verdict on a text for so many rounds, and at most so many path edges a procedure; they are kept in sets of the type `S`.
 pub(crate) fn judge<A: Allocator + Copy, S: PathSet<A>>(
     alloc: A,
     text: &[u8],
-    rounds: u8,
-    edges: u32,
+    rounds: Rounds,
+    edges: EdgeLimit,
 ) -> Result<Verdict, Refusal>
-    ensures verdict { IfOk result (λ v. IsVerdict text.now rounds edges v) }
-    ensures stands { IfErr result (Stands text.now rounds (IsOver text.now rounds edges)) }
+    ensures verdict { IfOk result (λ v. IsVerdict text.now (count_of rounds) edges v) }
+    ensures stands { IfErr result (Stands text.now (count_of rounds) (IsOver text.now (count_of rounds) edges)) }
 {
     let sequential = rewritten(alloc, text, rounds)?;
-    let Some(limit) = EdgeLimit::new(edges) else {
-        return Err(Refusal::Memory);
-    };
-    let summaries = tabulated::<_, _, S>(alloc, &sequential, limit)?;
+    let summaries = tabulated::<_, _, S>(alloc, &sequential, edges)?;
     if summaries.bad() {
         Ok(Verdict::Unsafe)
     } else {

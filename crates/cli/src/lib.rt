@@ -3,8 +3,12 @@
 
 mod answers;
 mod asked;
+mod explanation;
+mod help;
 mod judge;
 mod line;
+mod message;
+mod place;
 mod refusal;
 mod reply;
 mod rewriting;
@@ -12,5 +16,7 @@ mod sequential;
 
 pub use answers::{answer, no_memory};
 pub use asked::{LineFault, Order};
+pub use explanation::explain;
 pub use line::order;
+pub use refusal::Refusal;
 pub use reply::Reply;

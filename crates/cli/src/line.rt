@@ -2,13 +2,15 @@
 ghost use Rattle.std.specs.Prelude.{◌≡◌, false, List, map, IfErr, IfOk, IfSome, Some};
 ghost use Rattle.std.specs.String.{string_bytes};
 ghost use Rattle.clap.specs.Words.{Row, Text, app_of, kind_of, rule_of, subcommand_rows_of};
-ghost use Rattle.cli.specs.Limits.{IsWithinLimits};
 ghost use Rattle.cli.specs.Line as line;
 
 use crate::asked::{LineFault, Order};
+use crate::help::{BEBOPK, CHECK, SEQUENTIAL, VERSION};
 use clap::error::ErrorKind;
 use clap::{Arg, ArgMatches, Command, Error, value_parser};
+use round_rewrite::Rounds;
 use std::alloc::{AllocError, Global};
+use summaries::EdgeLimit;
 
 /// The argument FILE.
 fn file<'a>(alloc: Global) -> Arg<'a>
@@ -52,15 +54,19 @@ fn command<'a>(alloc: Global) -> Result<Command<'a>, AllocError>
 {
     let check = Command::new(alloc, "check")
         .about("Answers whether some run of at most K rounds fails an assert")
+        .after_help(CHECK)
         .arg(rounds(alloc).default_value("2"))?
         .arg(edges(alloc))?
         .arg(file(alloc))?;
     let sequential = Command::new(alloc, "sequential")
         .about("Prints the sequential program that K rounds are rewritten to")
+        .after_help(SEQUENTIAL)
         .arg(rounds(alloc).required(true))?
         .arg(file(alloc))?;
     Command::new(alloc, "bebopk")
         .about("Checks concurrent Boolean programs")
+        .version(VERSION)
+        .after_help(BEBOPK)
         .subcommand_required(true)
         .subcommand(check)?
         .subcommand(sequential)
@@ -82,16 +88,14 @@ fn fault_of(alloc: Global, error: &Error) -> LineFault
     }
 }
 
-/// The order of this name with these values; `None` only of those that the command line lets nobody give.
+/// The order of this name with these numbers; `None` only of those that the command line lets nobody give.
 fn order_of(name: &str, rounds: u8, edges: Option<u32>) -> Option<Order>
-    ensures limits { IfSome result IsWithinLimits }
-    ensures named { IfSome result (λ order. line.IsNamed name.now rounds edges order) }
+    ensures { IfSome result (λ order. line.IsNamed name.now rounds edges order) }
 {
-    if rounds < 1 || rounds > 4 {
-        return None;
-    }
+    let rounds = Rounds::new(rounds)?;
     match (name, edges) {
-        ("check", Some(edges)) if 1 <= edges && edges <= 16_777_216 => {
+        ("check", Some(edges)) => {
+            let edges = EdgeLimit::new(edges)?;
             Some(Order::Check { rounds, edges })
         }
         ("sequential", None) => Some(Order::Sequential { rounds }),
@@ -101,8 +105,7 @@ fn order_of(name: &str, rounds: u8, edges: Option<u32>) -> Option<Order>
 
 /// The order and the file of what was found for the words; `None` only of what the command line lets nobody give.
 fn asked<'a>(matches: &ArgMatches<'a>) -> Option<(Order, &'a str)>
-    ensures limits { IfSome result (λ o. IsWithinLimits o.0) }
-    ensures orders { IfSome result (λ o. (command : Text × List Row) × (subcommand_rows_of matches.now ≡ Some command) × line.Orders command o.0 o.1.now) }
+    ensures { IfSome result (λ o. (command : Text × List Row) × (subcommand_rows_of matches.now ≡ Some command) × line.Orders command o.0 o.1.now) }
 {
     let (name, found) = matches.subcommand()?;
     let rounds = found.get_one::<u8>("rounds")?;
@@ -114,7 +117,6 @@ fn asked<'a>(matches: &ArgMatches<'a>) -> Option<(Order, &'a str)>
 /// The order and the file that the command line gives for the words, the program's own name first, or why it gives none.
 pub fn order(alloc: Global, words: &[String]) -> Result<(Order, String), LineFault>
     ensures asks { IfOk result (λ o. line.AskFor (map string_bytes words.now) o.0 (string_bytes o.1)) }
-    ensures limits { IfOk result (λ o. IsWithinLimits o.0) }
     ensures refuses { IfErr result (λ why. line.Refuses (map string_bytes words.now) why) }
 {
     let Ok(command) = command(alloc) else {

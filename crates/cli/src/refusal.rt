@@ -8,7 +8,7 @@ use syntax::ReadFault;
 
 /// Why a text gets no verdict.
 #[derive(Debug, Drop)]
-pub(crate) enum Refusal {
+pub enum Refusal {
     /// It is not read.
     Unread(ReadFault),
     /// A fault of scopes stands in it.

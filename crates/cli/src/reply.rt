@@ -1,7 +1,8 @@
-//! Replies: what is written, and the status.
+//! Replies: what is written, the status, and why there is no verdict.
 
 ghost use Rattle.std.specs.Prelude.{◌≡◌};
 
+use crate::refusal::Refusal;
 use std::alloc::Allocator;
 use std::borrow::CowSlice;
 
@@ -10,12 +11,14 @@ use std::borrow::CowSlice;
 pub struct Reply<A: Allocator> {
     pub bytes: CowSlice<'static, u8, A>,
     pub status: u8,
+    /// Why the text got no verdict, or was not rewritten; `None` where it did.
+    pub refusal: Option<Refusal>,
 }
 
 impl<A: Allocator> Reply<A> {
     ghost use Rattle.cli.specs.Written.{bytes_of};
 
-    /// A reply whose text is fixed: it takes no memory.
+    /// A reply to a text that is not refused, whose words are fixed: it takes no memory.
     pub(crate) fn fixed(text: &'static str, status: u8) -> Self
         ensures bytes { bytes_of result ≡ text.entry.now }
         ensures status { result.status ≡ status }
@@ -23,6 +26,7 @@ impl<A: Allocator> Reply<A> {
         Reply {
             bytes: CowSlice::Borrowed(text.as_bytes()),
             status,
+            refusal: None,
         }
     }
 }

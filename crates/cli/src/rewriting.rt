@@ -1,7 +1,8 @@
 //! The sequential program of a text: what every order begins with.
 
 ghost use Rattle.std.specs.Prelude.{IfOk, IfErr};
-ghost use Rattle.syntax.specs.Trees.{tree_of};
+ghost use Rattle.round_rewrite.specs.Programs.{sequential_tree};
+ghost use Rattle.cli.specs.Limits.{count_of};
 ghost use Rattle.cli.specs.Refused.{Stands};
 ghost use Rattle.cli.specs.Rewritten.{IsRewriting};
 
@@ -11,19 +12,16 @@ use scopes::check;
 use std::alloc::Allocator;
 use syntax::read;
 
-/// The sequential program that a text is rewritten to for so many rounds, 1 to 4.
+/// The sequential program that a text is rewritten to for so many rounds.
 pub(crate) fn rewritten<A: Allocator + Copy>(
     alloc: A,
     text: &[u8],
-    rounds: u8,
+    rounds: Rounds,
 ) -> Result<Sequential<A>, Refusal>
-    ensures rewriting { IfOk result (λ s. IsRewriting text.now rounds (tree_of s.program)) }
-    ensures stands { IfErr result (Stands text.now rounds ⊥) }
+    ensures rewriting { IfOk result (λ s. IsRewriting text.now (count_of rounds) (sequential_tree s)) }
+    ensures stands { IfErr result (Stands text.now (count_of rounds) ⊥) }
 {
     let program = read(alloc, text)?;
     let checked = check(alloc, program)?;
-    let Some(rounds) = Rounds::new(rounds) else {
-        return Err(Refusal::Memory);
-    };
     Ok(rewrite(&alloc, &checked, rounds)?)
 }

@@ -2,17 +2,23 @@
 
 ghost use Rattle.std.specs.Prelude.{IfOk, IfErr};
 ghost use Rattle.std.specs.String.{string_bytes};
+ghost use Rattle.cli.specs.Limits.{count_of};
 ghost use Rattle.cli.specs.Refused.{Stands};
 ghost use Rattle.cli.specs.Replies.{IsSequential};
 
 use crate::refusal::Refusal;
 use crate::rewriting::rewritten;
+use round_rewrite::Rounds;
 use syntax::print;
 
-/// The printed form of the sequential program that a text is rewritten to for so many rounds, 1 to 4.
-pub(crate) fn sequential<R: Alloc>(rt: &R, text: &[u8], rounds: u8) -> Result<String<R::A>, Refusal>
-    ensures printed { IfOk result (λ s. IsSequential text.now rounds (string_bytes s)) }
-    ensures stands { IfErr result (Stands text.now rounds ⊥) }
+/// The printed form of the sequential program that a text is rewritten to for so many rounds.
+pub(crate) fn sequential<R: Alloc>(
+    rt: &R,
+    text: &[u8],
+    rounds: Rounds,
+) -> Result<String<R::A>, Refusal>
+    ensures printed { IfOk result (λ s. IsSequential text.now (count_of rounds) (string_bytes s)) }
+    ensures stands { IfErr result (Stands text.now (count_of rounds) ⊥) }
 {
     let alloc = rt.alloc();
     let sequential = rewritten(&alloc, text, rounds)?;

@@ -3,6 +3,7 @@ use Rattle.std.specs.Prelude.{◌≡◌, ◌≤◌, ◌⊎◌, ◌↔◌, ◌&&�
 use Rattle.language.specs.Sequential.{Caller, caller}
 use Rattle.language.specs.Flow.{Member}
 use Rattle.path_sets.specs.Triples.{Triple, triple}
+use Rattle.flow_graph.specs.Drawn.{flows_of, globals_of, start_of}
 use Rattle.flow_graph.specs.Flows.{last_of, next_of, entered_by}
 use Rattle.flow_graph.specs.Returns.{left, resumed}
 use Rattle.flow_graph.specs.Numbers.{NumberedMessage, numbered_entry, numbered_summary, Reaches, Sends, Leaves}
@@ -81,7 +82,7 @@ module _ {A G : Type 0} (graph : Graph G) (q : ℕ) (f : Found A) (edges : List 
   pub record IsGrounded : Type 0 where
     pub edge : (a n v : ℕ) → Member (triple a n v) edges → Reaches graph (TookMessage f) a n v
     pub site : (s e a n' v : ℕ) → HasSite f s e (site a n' v) → (n : ℕ) × (flow : Flow G)
-        × Reaches graph (TookMessage f) a n v × (slice_get graph.flows.items n ≡ Some flow) × (entered_by flow v ≡ Some (s, e, n'))
+        × Reaches graph (TookMessage f) a n v × (slice_get (flows_of graph) n ≡ Some flow) × (entered_by flow v ≡ Some (s, e, n'))
     pub exit : (a b : ℕ) → HasExit f a b → Leaves graph (TookMessage f) a b
     pub given : (s : ℕ) (k : NumberedMessage) → HasGiven f s k → Sends graph q (TookMessage f) s k
     pub pending : (a n v : ℕ) → IsPending f a n v → Member (triple a n v) edges
@@ -89,20 +90,20 @@ module _ {A G : Type 0} (graph : Graph G) (q : ℕ) (f : Found A) (edges : List 
   -- The edge is worked on: where its choices lead are edges, its call stands as a site, and at the exit its globals as an
   -- exit.
   pub record IsWorked (a n v : ℕ) : Type 0 where
-    pub flows : (flow : Flow G) (i n' v' : ℕ) → slice_get graph.flows.items n ≡ Some flow → i ≤ last_of flow → next_of flow v i ≡ Some (n', v') →
+    pub flows : (flow : Flow G) (i n' v' : ℕ) → slice_get (flows_of graph) n ≡ Some flow → i ≤ last_of flow → next_of flow v i ≡ Some (n', v') →
         Member (triple a n' v') edges
-    pub calls : (flow : Flow G) (s e n' : ℕ) → slice_get graph.flows.items n ≡ Some flow → entered_by flow v ≡ Some (s, e, n') →
+    pub calls : (flow : Flow G) (s e n' : ℕ) → slice_get (flows_of graph) n ≡ Some flow → entered_by flow v ≡ Some (s, e, n') →
         HasSite f s e (site a n' v)
-    pub leaves : n ≡ 0 → HasExit f a (left graph.globals v)
+    pub leaves : n ≡ 0 → HasExit f a (left (globals_of graph) v)
 
   -- The start of each entry is an edge; each edge is pending, worked on, or one of those left aside; where a site and a
   -- summary meet is the edge behind the call; each site's entry is given; where an exit and a caller's entry meet is the
   -- summary given; the pairs are the exits.
   pub record IsComplete (Aside : Triple → Type 0) : Type 0 where
-    pub begun : (from : Caller) (a : ℕ) → TookMessage f (numbered_entry from a) → Member (triple a graph.start a) edges
+    pub begun : (from : Caller) (a : ℕ) → TookMessage f (numbered_entry from a) → Member (triple a (start_of graph) a) edges
     pub worked : (a n v : ℕ) → Member (triple a n v) edges → Aside (triple a n v) ⊎ (IsPending f a n v ⊎ IsWorked a n v)
     pub ended : (s e b a n' v : ℕ) → HasSite f s e (site a n' v) → TookMessage f (numbered_summary s e b) →
-        Member (triple a n' (resumed graph.globals v b)) edges
+        Member (triple a n' (resumed (globals_of graph) v b)) edges
     pub asks : (s e a n' v : ℕ) → HasSite f s e (site a n' v) → HasGiven f s (numbered_entry (caller q) e)
     pub tells : (a b c : ℕ) → HasExit f a b → TookMessage f (numbered_entry (caller c) a) → HasGiven f c (numbered_summary q a b)
     pub pairs : (a b : ℕ) → Member (pair a b) f.pairs.keys ↔ HasExit f a b

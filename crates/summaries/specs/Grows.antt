@@ -2,6 +2,7 @@
 use Rattle.std.specs.Prelude.{◌≡◌, ◌≤◌, ◌<◌, ℕ, Option, Some, Result, Err, OnOk, List, ◌⊎◌, ◌++◌, length, ◌+◌}
 use Rattle.language.specs.Flow.{Member}
 use Rattle.path_sets.specs.Triples.{Triple, triple}
+use Rattle.flow_graph.specs.Drawn.{globals_of}
 use Rattle.flow_graph.specs.Flows.{last_of, next_of}
 use Rattle.flow_graph.specs.Returns.{resumed}
 use Rattle.flow_graph.specs.declared.flow.Flow.{Flow}
@@ -67,7 +68,7 @@ Each {X} W xs t = (x : X) × Member x xs × W x t
 
 -- A triple is the edge behind the call of a site, for the globals that it left.
 abbrev pub IsBehind : {G : Type 0} → Graph G → Site → ℕ → Triple → Type 0
-IsBehind graph site b t = t ≡ triple site.asked site.next (resumed graph.globals site.values b)
+IsBehind graph site b t = t ≡ triple site.asked site.next (resumed (globals_of graph) site.values b)
 
 -- The messages of which W holds are given after, beside those before, and no others; they come behind those before.
 pub record Gives (W : Mail → Type 0) (old new : List Mail) : Type 0 where

@@ -2,7 +2,7 @@
 use Rattle.std.specs.Prelude.{◌≡◌, ◌≤◌, ◌<◌, ◌⊎◌, ◌↔◌, ◌+◌, ◌-◌, ◌*◌, ◌++◌, ◌∷◌, ℕ, Option, Some, None, Result, Ok, Err, OnOk, List, [], length}
 use Rattle.language.specs.Flow.{Member}
 use Rattle.path_sets.specs.Triples.{Triple, triple, NoneTwice}
-use Rattle.flow_graph.specs.Calls.{entry_of}
+use Rattle.flow_graph.specs.Drawn.{back_of, callee_of, entered_from, globals_of}
 use Rattle.flow_graph.specs.Returns.{left}
 use Rattle.flow_graph.specs.declared.call.Call.{Call}
 use Rattle.flow_graph.specs.declared.graph.Graph.{Graph}
@@ -75,11 +75,11 @@ IsReached t x = Reaches t.graph.now (TookMessage t.found) x.entry x.point x.valu
 
 -- what an edge leaves that is at the exit stands as an exit
 abbrev pub HasLeft : {G A S : Type 0} → Table G A S → Edge → Type 0
-HasLeft t e = e.point ≡ 0 → HasExit t.found e.entry (left t.graph.now.globals e.values)
+HasLeft t e = e.point ≡ 0 → HasExit t.found e.entry (left (globals_of (graph_of t)) e.values)
 
 -- the call stands as a site at the edge
 abbrev pub HasAsked : {G A S : Type 0} → Table G A S → Edge → Call G → Type 0
-HasAsked t e call = HasSite t.found call.callee (entry_of call.globals call.arguments.items e.values) (site e.entry call.back e.values)
+HasAsked t e call = HasSite t.found (callee_of call) (entered_from call e.values) (site e.entry (back_of call) e.values)
 
 -- The table is that of the same procedure, with the same limit.
 pub record StaysAs {G A S : Type 0} (old new : Table G A S) : Type 0 where

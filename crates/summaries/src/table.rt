@@ -28,15 +28,16 @@ pub struct Table<'g, G: Allocator, A: Allocator, S: PathSet<A>> {
 impl<'g, G: Allocator, A: Allocator + Copy, S: PathSet<A>> Table<'g, G, A, S> {
     ghost use Rattle.std.specs.Prelude.{◌<◌, ◌^◌, [], length, slice_get, OnOk, Err, IfOk, IfSome, IfNone};
     ghost use Rattle.std.specs.Bool.{OnTrue, OnFalse};
+    ghost use Rattle.flow_graph.specs.Drawn.{graphs_of};
     ghost use Rattle.summaries.specs.declared.due.Due.TheVariants.{Entry, Summary};
     ghost use Rattle.summaries.specs.Tables.{graph_of, procedure_of, limit_of, answers_of, failure, fault_of};
     ghost use Rattle.summaries.specs.Tables.{IsTable, IsNew, IsQuiet, IsAnswer, Takes, Keeps, failed_by, work_left};
 
     /// The table of a procedure, which has taken nothing yet, and takes no memory.
     pub fn new(alloc: A, graphs: &'g Graphs<G>, procedure: u8, limit: EdgeLimit) -> Self
-        requires { procedure < length graphs.now.graphs.items }
+        requires { procedure < length (graphs_of graphs.now) }
         ensures new { IsNew S.members result }
-        ensures graph { slice_get graphs.now.graphs.items procedure ≡ Some (graph_of result) }
+        ensures graph { slice_get (graphs_of graphs.now) procedure ≡ Some (graph_of result) }
         ensures procedure { procedure_of result ≡ procedure }
         ensures limit { limit_of result ≡ limit }
     {

@@ -3,6 +3,7 @@
 ghost use Rattle.std.specs.Prelude.{◌≡◌, ◌↔◌, ℕ, length, map, IfOk, OnOk, Err};
 ghost use Rattle.language.specs.Step.{Program};
 ghost use Rattle.round_rewrite.specs.Law.{SomeBad};
+ghost use Rattle.flow_graph.specs.Drawn.{bad_of, graphs_of};
 ghost use Rattle.flow_graph.specs.Graphs.{AreDrawnFrom};
 ghost use Rattle.summaries.specs.Tables.{graph_of, IsTable, Takes};
 ghost use Rattle.summaries.specs.Tabulated.{AreSummaries, SomePairBad, HasMoreEdges};
@@ -26,7 +27,7 @@ fn tables_of<'g, G: Allocator, A: Allocator + Copy, S: PathSet<A>>(
     limit: EdgeLimit,
 ) -> Result<Vec<Table<'g, G, A, S>, A>, AllocError>
     ensures new { IfOk result (λ ts. AreNew S.members ts.items) }
-    ensures graphs { IfOk result (λ ts. map graph_of ts.items ≡ graphs.now.graphs.items) }
+    ensures graphs { IfOk result (λ ts. map graph_of ts.items ≡ graphs_of graphs.now) }
     ensures limit { IfOk result (λ ts. HaveLimit limit ts.items) }
 {
     let mut tables = Vec::new(alloc);
@@ -93,9 +94,9 @@ pub fn tabulate<G: Allocator, A: Allocator + Copy, S: PathSet<A>>(
     limit: EdgeLimit,
 ) -> Result<Summaries<A>, NoVerdict>
     ghost program: { Program }
-    requires { AreDrawnFrom program graphs.now.graphs.items }
+    requires { AreDrawnFrom program (graphs_of graphs.now) }
     ensures summaries { IfOk result (λ s. AreSummaries program s) }
-    ensures bad { IfOk result (λ s. SomePairBad s ↔ SomeBad program graphs.now.bad) }
+    ensures bad { IfOk result (λ s. SomePairBad s ↔ SomeBad program (bad_of graphs.now)) }
     ensures few { IfOk result (λ s. (q : ℕ) → ¬ HasMoreEdges program q limit) }
     ensures limit { result ≡ Err NoVerdict.EdgeLimit → (q : ℕ) × HasMoreEdges program q limit }
 {

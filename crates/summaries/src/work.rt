@@ -2,6 +2,7 @@
 
 ghost use Rattle.std.specs.Prelude.{◌≡◌, ◌≤◌, length, OnOk, slice_get, Some};
 ghost use Rattle.language.specs.Flow.{Member};
+ghost use Rattle.flow_graph.specs.Drawn.{flows_of};
 ghost use Rattle.flow_graph.specs.declared.flow.Flow.TheVariants as flow;
 ghost use Rattle.summaries.specs.declared.due.Due.TheVariants.{Entry, Summary};
 ghost use Rattle.summaries.specs.Grows.{triple_of};
@@ -57,7 +58,7 @@ impl<'g, G: Allocator, A: Allocator + Copy, S: PathSet<A>> Table<'g, G, A, S> {
 
     /// Asks for a procedure that is called from an edge, and goes on behind the call for what is known of it.
     fn ask(&mut self, edge: Edge, call: &flow_graph::Call<G>) -> Result<(), TableFault>
-        requires call { slice_get self.old.graph.now.flows.items edge.point ≡ Some (flow.Call call.now) }
+        requires call { slice_get (flows_of (graph_of self.old)) edge.point ≡ Some (flow.Call call.now) }
         requires edge { Member (triple_of edge) (S.members self.old.edges) }
         requires holds { Holds S.members (λ t. t ≡ triple_of edge) self.old }
         requires within { length (S.members self.old.edges) ≤ self.old.limit }

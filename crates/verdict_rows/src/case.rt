@@ -1,6 +1,7 @@
 //! One case.
 
 use crate::beginnings::beginnings;
+use crate::message::{print_told, print_told_without};
 use crate::refused::{ALL, in_turn};
 use crate::text::bytes_of;
 use crate::words::{asked, print_fault, print_order};
@@ -24,7 +25,13 @@ fn to_text<R: Print + AllocGlobal>(rt: &R, words: &str, text: &str) -> io::Resul
     let (how, words) = words.split_once(": ").unwrap_or(("", words));
     let text = bytes_of(rt.alloc(), text)?;
     match asked(rt.alloc(), words) {
-        Ok((order, _file)) => print_how(rt, how, text.as_slice(), order),
+        Ok((order, file)) => match how {
+            "message" => print_told(rt, file.as_str(), text.as_slice(), order),
+            "message without memory" => {
+                print_told_without(rt, file.as_str(), text.as_slice(), order)
+            }
+            _ => print_how(rt, how, text.as_slice(), order),
+        },
         Err(fault) => print_fault(rt, &fault),
     }
 }

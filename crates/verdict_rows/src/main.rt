@@ -8,12 +8,15 @@
 //! | `each beginning: WORDS \| TEXT` | the replies to its beginnings, the lengths of one reply in a row together |
 //! | `each allocation: WORDS \| TEXT` | the reply, where with allocation N refused, for each N, it is that one or `no verdict: memory` |
 //! | `200 allocations: WORDS \| TEXT` | the same for the first so many |
+//! | `message: WORDS \| TEXT` | the reply, and what standard error tells of it, where each allocation refused leaves that or an error |
+//! | `message without memory: WORDS \| TEXT` | the same, where the first allocation of the answer is refused |
 //!
 //! A line that begins with `#` is a heading, and has no answer. A text may use the shorthand of `text.rt`.
 #![tactic(auto)]
 
 mod beginnings;
 mod case;
+mod message;
 mod refused;
 mod text;
 mod words;

@@ -1,7 +1,7 @@
 //! Each allocation refused in turn.
 
 use crate::case::print_reply;
-use cli::{Order, answer};
+use cli::{Order, Reply, answer};
 use scarce::Scarce;
 use std::alloc::Global;
 use std::io;
@@ -21,6 +21,15 @@ impl<'a> Alloc for Refusing<'a> {
     }
 }
 
+/// The answer to a text where the memory is scarce.
+pub fn answer_without<'a>(
+    scarce: &'a Scarce<Global>,
+    text: &[u8],
+    order: Order,
+) -> Reply<&'a Scarce<Global>> {
+    answer(&Refusing(scarce), text, order)
+}
+
 /// What came of one allocation refused.
 #[derive(Clone, Copy, Debug, PartialEq, Eq)]
 enum Came {
@@ -35,7 +44,7 @@ enum Came {
 /// What comes where the allocation of this number is refused.
 fn came_of(alloc: Global, nth: u64, text: &[u8], order: Order, whole: &[u8]) -> Came {
     let scarce = Scarce::refusing(alloc, nth);
-    let reply = answer(&Refusing(&scarce), text, order);
+    let reply = answer_without(&scarce, text, order);
     let bytes = reply.bytes.as_slice();
     match (bytes == whole, scarce.refused()) {
         (true, false) => Came::Whole,

@@ -25,8 +25,15 @@ fn split(alloc: Global, line: &str) -> Result<Vec<String>, AllocError> {
 /// Prints the order that words give.
 pub fn print_order<R: Print + AllocGlobal>(rt: &R, line: &str) -> io::Result<()> {
     match asked(rt.alloc(), line) {
-        Ok((Order::Check { rounds, edges }, file)) => println!(rt; "check {rounds} {edges} {file}"),
-        Ok((Order::Sequential { rounds }, file)) => println!(rt; "sequential {rounds} {file}"),
+        Ok((Order::Check { rounds, edges }, file)) => println!(rt;
+            "check {} {} {file}",
+            rounds.count(),
+            edges.edges()
+        ),
+        Ok((Order::Sequential { rounds }, file)) => println!(rt;
+            "sequential {} {file}",
+            rounds.count()
+        ),
         Err(fault) => print_fault(rt, &fault),
     }
 }
@@ -34,9 +41,12 @@ pub fn print_order<R: Print + AllocGlobal>(rt: &R, line: &str) -> io::Result<()>
 /// Prints why words give no order.
 pub fn print_fault<R: Print>(rt: &R, fault: &LineFault) -> io::Result<()> {
     match fault {
-        LineFault::Help(text) if text.as_str().contains("check") => rt.print("help\n"),
+        LineFault::Help(text) if text.as_str().contains("\n\nExample: bebopk ") => rt.print(
+            "help\n",
+        ),
+        LineFault::Help(text) => rt.print(text.as_str()),
         LineFault::Refused(why) if !why.is_empty() => rt.print("refused: line\n"),
-        LineFault::Help(_) | LineFault::Refused(_) => rt.print("without a reason\n"),
+        LineFault::Refused(_) => rt.print("without a reason\n"),
         LineFault::Memory => rt.print("no verdict: memory\n"),
     }
 }

@@ -1,5 +1,5 @@
 -- Where tabulating fails, memory ran out or some procedure has more path edges than the limit.
-use Rattle.std.proofs.Common.{◌≡◌, ◌↔◌, ◌⊎◌, ℕ, List, inl, inr, sym, subst, codes, ◌∙◌, true≢false}
+use Rattle.std.proofs.Common.{◌≡◌, ◌↔◌, ◌⊎◌, ℕ, List, inl, inr, refl, sym, subst, codes, ◌∙◌, true≢false}
 use Rattle.std.proofs.lemmas.Result.{err_from_is_err_and}
 use Rattle.language.specs.Resolve.{meaning_of, number_of}
 use Rattle.language.specs.Rounds.{Unsafe}
@@ -7,10 +7,11 @@ use Rattle.language.specs.Sequential.{sequential_of}
 use Rattle.round_rewrite.specs.Law.{SomeBad}
 use Rattle.round_rewrite.specs.Names.{rewritten_tree}
 use Rattle.language.specs.Tree.{Tree}
-use Rattle.syntax.specs.Trees.{tree_of}
+use Rattle.round_rewrite.specs.Programs.{sequential_tree}
 use Rattle.summaries.specs.Tabulated.{HasMoreEdges}
 use Rattle.cli.specs.declared.refusal.Refusal.{Refusal}
 use Rattle.cli.specs.declared.refusal.Refusal.TheVariants.{EdgeLimit, Memory}
+use Rattle.cli.specs.Limits.{count_of}
 use Rattle.cli.specs.Refused.{Stands}
 use Rattle.cli.specs.Rewritten.{IsRewriting}
 use Rattle.cli.specs.Verdict.{IsOver, IsWithinLimit}
@@ -46,28 +47,28 @@ within text rounds edges limit sequential found same few = (
 pub returns-then-bad-clause-verdict : goal.returns-then-bad-clause-verdict
 returns-then-bad-clause-verdict g c =
     let found = c.in_ok-sequential.ensures.rewriting in
-    let sequential = tree_of c.in_ok-sequential.sequential.program in (
+    let sequential = sequential_tree c.in_ok-sequential.sequential in (
       found.tree,
       found.of,
       found.checked,
-      within c.args.text.now c.args.rounds c.args.edges c.in-Some.limit sequential found c.in-Some.ensures.edges c.in_ok-summaries.ensures.few,
-      (tells c.args.text.now c.args.rounds sequential found _ c.in_ok-summaries.ensures.bad).0 (c.bad.ensures.0 c.if-bad.true),
+      within c.args.text.now (count_of c.args.rounds) c.args.edges c.args.edges sequential found refl c.in_ok-summaries.ensures.few,
+      (tells c.args.text.now (count_of c.args.rounds) sequential found _ c.in_ok-summaries.ensures.bad).0 (c.bad.ensures.0 c.if-bad.true),
     )
 
 pub returns-clause-verdict : goal.returns-clause-verdict
 returns-clause-verdict g c =
     let found = c.in_ok-sequential.ensures.rewriting in
-    let sequential = tree_of c.in_ok-sequential.sequential.program in (
+    let sequential = sequential_tree c.in_ok-sequential.sequential in (
       found.tree,
       found.of,
       found.checked,
-      within c.args.text.now c.args.rounds c.args.edges c.in-Some.limit sequential found c.in-Some.ensures.edges c.in_ok-summaries.ensures.few,
-      λ unsafe. true≢false (sym (c.bad.ensures.1 ((tells c.args.text.now c.args.rounds sequential found _ c.in_ok-summaries.ensures.bad).1 unsafe)) ∙ c.if-bad.false),
+      within c.args.text.now (count_of c.args.rounds) c.args.edges c.args.edges sequential found refl c.in_ok-summaries.ensures.few,
+      λ unsafe. true≢false (sym (c.bad.ensures.1 ((tells c.args.text.now (count_of c.args.rounds) sequential found _ c.in_ok-summaries.ensures.bad).1 unsafe)) ∙ c.if-bad.false),
     )
 
 pub returns-in_err-summaries-clause-stands : goal.returns-in_err-summaries-clause-stands
 returns-in_err-summaries-clause-stands g c =
     let p = err_from_is_err_and c.from_residual-in_err-summaries.result c.from_residual-in_err-summaries.ensures.1 in
     rw (p.1, p.2)
-    (stands c.args.text.now c.args.rounds c.args.edges c.in-Some.limit (tree_of c.in_ok-sequential.sequential.program) c.in_ok-sequential.ensures.rewriting c.in-Some.ensures.edges _
+    (stands c.args.text.now (count_of c.args.rounds) c.args.edges c.args.edges (sequential_tree c.in_ok-sequential.sequential) c.in_ok-sequential.ensures.rewriting refl _
     c.in_err-summaries.ensures.fault)

@@ -1,7 +1,7 @@
 -- The program that is tabulated is the rewritten one.
 use Rattle.language.specs.Sequential.{sequential_of}
-use Rattle.syntax.specs.Trees.{tree_of}
+use Rattle.round_rewrite.specs.Programs.{sequential_tree}
 use Rattle.cli.proofs.judge.judge.Given as goal
 
 abbrev pub ghost-tabulated : goal.ghost-tabulated
-ghost-tabulated g a = sequential_of (tree_of a.sequential.now.program)
+ghost-tabulated g a = sequential_of (sequential_tree a.sequential.now)

@@ -1,5 +1,5 @@
 -- What is found for the words is the order.
-use Rattle.std.proofs.Common.{◌≡◌, ◌∙◌, ℕ, List, Option, Some, option_map, sym, ap, codes}
+use Rattle.std.proofs.Common.{◌≡◌, ◌∙◌, ℕ, List, Some, option_map, sym, ap, codes}
 use Rattle.std.specs.Str.Parse.{ParsesUnsigned, ExplainsUnsignedError, HasUnsignedDigitsIfOk}
 use Rattle.clap.specs.Words.{Row, Text, found_of, rows_of, subcommand_name_of, subcommand_rows_of}
 use Rattle.clap.proofs.WalkLemmas.{first_value-rows}
@@ -7,8 +7,8 @@ use Rattle.cli.specs.Line.{Reads}
 use Rattle.cli.proofs.Reading.{gives, met, reads}
 use Rattle.cli.proofs.line.asked.Goals as goal
 
-pub returns-clause-orders : goal.returns-clause-orders
-returns-clause-orders c =
+pub returns : goal.returns
+returns c =
     let m = c.args.matches.now in
     let name = c.in_ok-name.name.now in
     let found = found_of c.in_ok-name.found.now in
@@ -19,7 +19,7 @@ returns-clause-orders c =
       (name, rows_of found),
       met m name (rows_of found) name_is rows_is,
       (
-        gives name (rows_of found) c.in_ok-rounds.rounds _ c.in_ok-order.order c.in_ok-order.ensures.named rounds edges,
+        gives name (rows_of found) c.in_ok-rounds.rounds _ c.in_ok-order.order c.in_ok-order.ensures rounds edges,
         sym (first_value-rows found (codes "file")) ∙ sym c.get_str.ensures ∙ ap (option_map (λ s. s.now)) c.in_ok-file.was,
       ),
     )

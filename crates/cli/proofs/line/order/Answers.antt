@@ -31,7 +31,7 @@ returns-in-Ok-from_str-clause-asks c =
     let met = (c.in-Ok-try_get_matches_from.ensures.matches (ap is_simple is)).1 in
     record {
       taken = sym (ap (λ (a : App). fault_of a words) is) ∙ c.in-Ok-try_get_matches_from.ensures.kinds (ap is_simple_and_free is);
-      command = c.in-Some.ensures.orders.0;
-      met = sym (met ∙ ap (λ (a : App). subcommand_of a words) is) ∙ c.in-Some.ensures.orders.1;
-      orders = (c.in-Some.ensures.orders.2.0, c.in-Some.ensures.orders.2.1 ∙ ap Some (sym c.in-Ok-from_str.ensures.ok));
+      command = c.in-Some.ensures.0;
+      met = sym (met ∙ ap (λ (a : App). subcommand_of a words) is) ∙ c.in-Some.ensures.1;
+      orders = (c.in-Some.ensures.2.0, c.in-Some.ensures.2.1 ∙ ap Some (sym c.in-Ok-from_str.ensures.ok));
     }

@@ -1,5 +1,5 @@
 -- A text that is rewritten is that of a checked program; where the rewriting fails, it is too wide.
-use Rattle.std.proofs.Common.{◌≡◌, ◌∙◌, ◌⊎◌, ℕ, suc, List, sym, ap, subst, arith, inl, inr}
+use Rattle.std.proofs.Common.{◌≡◌, ◌∙◌, ◌⊎◌, ℕ, suc, List, refl, sym, ap, subst, inl, inr}
 use Rattle.syntax.specs.Text.{Text}
 use Rattle.scopes.specs.Checked.{IsChecked}
 use Rattle.round_rewrite.specs.Narrow.{IsNarrow}
@@ -14,18 +14,19 @@ use Rattle.syntax.specs.Trees.{tree_of}
 use Rattle.syntax.proofs.TextsInGrammar.{text_in_grammar}
 use Rattle.round_rewrite.specs.Law.{KeepsTree}
 use Rattle.round_rewrite.specs.Names.{rewritten_tree}
+use Rattle.round_rewrite.specs.Programs.{IsFaultOf, last_round}
+use Rattle.scopes.specs.Programs.{checked_tree}
 use Rattle.cli.proofs.rewriting.rewritten.Goals as goal
 
 pub returns-clause-rewriting : goal.returns-clause-rewriting
 returns-clause-rewriting g c =
-    let last = c.in-Some.rounds.last in
-    let counted = c.in-Some.ensures.last in
+    let last = last_round c.args.rounds in
     let source = tree_of c.in_ok-program.program in
-    let same : tree_of c.in_ok-checked.checked.program ≡ source = ap tree_of c.in_ok-checked.ensures.checked.0 in
+    let same : checked_tree c.in_ok-checked.checked ≡ source = ap tree_of c.in_ok-checked.ensures.checked.0 in
     record {
       tree = source;
       last = last;
-      count = omega (arith, counted);
+      count = refl;
       of = c.in_ok-program.ensures.found;
       checked = c.in_ok-checked.ensures.checked.1;
       same = c.in_ok-rewrite.ensures.rewritten ∙ ap (rewritten_tree last) same;
@@ -35,7 +36,7 @@ returns-clause-rewriting g c =
 
 -- what a fault of the rewriting says of the text
 stands : (bytes : List ℕ) (last rounds : ℕ) (t : Tree) → suc last ≡ rounds → Text bytes t → IsChecked t → (fault : RewriteFault) →
-    ((fault ≡ TooWide) × (IsNarrow last t → ⊥)) ⊎ ((fault ≡ Memory) × IsNarrow last t) → Stands bytes rounds ⊥ (refusal_of_rewriting fault)
+    IsFaultOf last t fault → Stands bytes rounds ⊥ (refusal_of_rewriting fault)
 stands bytes last rounds t count of checked Memory fault = tt
 stands bytes last rounds t count of checked TooWide (inl (e, wide)) = (t, last, count, of, checked, wide)
 stands bytes last rounds t count of checked TooWide (inr (e, narrow)) = cc
@@ -43,11 +44,9 @@ stands bytes last rounds t count of checked TooWide (inr (e, narrow)) = cc
 pub returns-in_err-rewrite-clause-stands : goal.returns-in_err-rewrite-clause-stands
 returns-in_err-rewrite-clause-stands g c =
     let p = err_from_is_err_and c.from_residual-in_err-rewrite.result c.from_residual-in_err-rewrite.ensures.1 in
-    let last = c.in-Some.rounds.last in
-    let counted = c.in-Some.ensures.last in
-    let count : suc last ≡ c.args.rounds = omega (arith, counted) in
-    let source = tree_of c.in_ok-checked.checked.program in
+    let last = last_round c.args.rounds in
+    let source = checked_tree c.in_ok-checked.checked in
     let same : tree_of c.in_ok-program.program ≡ source = sym (ap tree_of c.in_ok-checked.ensures.checked.0) in
     let of = subst (Text c.args.text.now) same c.in_ok-program.ensures.found in
     let checked = subst IsChecked same c.in_ok-checked.ensures.checked.1 in
-    rw (p.1, p.2) (stands c.args.text.now last c.args.rounds source count of checked _ c.in_err-rewrite.ensures.fault)
+    rw (p.1, p.2) (stands c.args.text.now last (suc last) source refl of checked _ c.in_err-rewrite.ensures.fault)

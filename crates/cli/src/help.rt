@@ -1,0 +1,43 @@
+//! What help tells at its end: what the replies and statuses mean, the limits, and an example; and the version.
+
+/// What `--version` tells behind the name: the version, and the line of the kit that the program is proved with.
+pub(crate) const VERSION: &str = "0.1.0\nrattle-kit-13b logic dac8208d650f15bf";
+
+/// The end of the help of `bebopk`.
+pub(crate) const BEBOPK: &str = "\
+Statuses:
+  0  safe, or the sequential program is printed; help and --version too
+  1  unsafe
+  2  the text, the file or the command line is refused
+  3  no verdict: a limit or memory gave out, or the reply could not be written
+Standard output has the reply alone; standard error says where and why a text is refused.
+
+Example: bebopk check --rounds 2 examples/driver_two_rounds.bp";
+
+/// The end of the help of `check`.
+pub(crate) const CHECK: &str = "\
+Replies and statuses:
+  safe                    0  no run of at most K rounds fails an assert
+  unsafe                  1  some run of at most K rounds does
+  refused: ..             2  the text, the file or the command line is at fault
+  no verdict: edge limit  3  some procedure has more than N path edges: try a greater N
+  no verdict: memory      3  memory gave out
+Standard error says where and why a text is refused.
+
+Limits: a text has at most 65536 bytes, 31 procedures, 8 threads and 1000 statements.
+In the sequential program for K rounds, which has 2K - 1 places for each global and 4 more,
+globals, formals, locals and temporaries of a procedure are at most 64.
+
+Example: bebopk check --rounds 2 examples/driver_two_rounds.bp";
+
+/// The end of the help of `sequential`.
+pub(crate) const SEQUENTIAL: &str = "\
+Replies and statuses:
+  the sequential program  0
+  refused: ..             2  the text, the file or the command line is at fault
+  no verdict: memory      3  memory gave out
+Standard error says where and why a text is refused.
+
+Limits: as for check (bebopk check --help).
+
+Example: bebopk sequential --rounds 2 examples/driver_two_rounds.bp";

@@ -1,0 +1,83 @@
+//! What standard error tells of a refusal.
+
+use crate::case::print_reply;
+use crate::refused::answer_without;
+use cli::{Order, Refusal, answer, explain};
+use scarce::Scarce;
+use std::alloc::Global;
+use std::io;
+
+/// More allocations than any message makes.
+const MOST: u64 = 1_000;
+
+/// Whether the message comes whole or not at all, whichever allocation is refused.
+fn is_whole_or_none(
+    alloc: Global,
+    file: &str,
+    text: &[u8],
+    order: Order,
+    refusal: &Refusal,
+    whole: &str,
+) -> bool {
+    for nth in 1..=MOST {
+        let scarce = Scarce::refusing(alloc, nth);
+        let mut message = String::new(&scarce);
+        let told = explain(&mut message, file, text, order, refusal).is_ok();
+        if !scarce.refused() {
+            return told && message.as_str() == whole;
+        }
+        if told {
+            return false;
+        }
+    }
+    false
+}
+
+/// Prints the message for a refusal.
+fn print_message<R: Print + AllocGlobal>(
+    rt: &R,
+    file: &str,
+    text: &[u8],
+    order: Order,
+    refusal: &Refusal,
+) -> io::Result<()> {
+    let mut message = String::new(rt.alloc());
+    let told = explain(&mut message, file, text, order, refusal).is_ok();
+    let whole = message.as_str();
+    if told && is_whole_or_none(rt.alloc(), file, text, order, refusal, whole) {
+        rt.print(whole)
+    } else {
+        rt.print("another message\n")
+    }
+}
+
+/// Prints the reply to a text and what standard error tells of it.
+pub fn print_told<R: Print + AllocGlobal>(
+    rt: &R,
+    file: &str,
+    text: &[u8],
+    order: Order,
+) -> io::Result<()> {
+    let reply = answer(rt, text, order);
+    print_reply(rt, &reply)?;
+    match &reply.refusal {
+        Some(refusal) => print_message(rt, file, text, order, refusal),
+        None => rt.print("nothing is told\n"),
+    }
+}
+
+/// Prints the same where the first allocation of the answer is refused.
+pub fn print_told_without<R: Print + AllocGlobal>(
+    rt: &R,
+    file: &str,
+    text: &[u8],
+    order: Order,
+) -> io::Result<()> {
+    let scarce = Scarce::refusing(rt.alloc(), 1);
+    let reply = answer_without(&scarce, text, order);
+    print_reply(rt, &reply)?;
+    match &reply.refusal {
+        Some(refusal) => print_message(rt, file, text, order, refusal),
+        None => rt.print("nothing is told\n"),
+    }
+}
