@@ -72,9 +72,15 @@ fn said<R: Print>(rt: &R, text: &str, status: u8) -> u8
 }
 
 /// Tells on standard error why a text is refused. Where that is not to be written, the reply stands all the same.
-fn tell<R: Eprint + AllocGlobal>(rt: &R, path: &str, text: &[u8], order: Order, refusal: &Refusal) {
+fn tell<R: Eprint + AllocGlobal>(
+    rt: &R,
+    path: &str,
+    text: &[u8],
+    order: &Order,
+    refusal: &Refusal,
+) {
     let mut message = String::new(rt.alloc());
-    let _ = match explain(&mut message, path, text, order, refusal) {
+    let _ = match explain(&mut message, path, text, *order, refusal) {
         Ok(()) => rt.eprint(message.as_str()),
         Err(_) => rt.eprint(NO_MEMORY),
     };
@@ -120,7 +126,7 @@ fn answered<R: Print + Eprint + AllocGlobal>(rt: &R, path: &str, text: &[u8], or
 {
     let reply = answer(rt, text, order);
     if let Some(refusal) = &reply.refusal {
-        tell(rt, path, text, order, refusal);
+        tell(rt, path, text, &order, refusal);
     }
     written(rt, &reply)
 }
