@@ -11,6 +11,7 @@ use Rattle.clap.proofs.WalkLemmas.{one_text-rows}
 use Rattle.cli.specs.Line.{Gives, IsNamed, Reads}
 use Rattle.cli.specs.declared.asked.Order.{Order}
 use Rattle.cli.specs.declared.asked.Order.TheVariants.{Check, Sequential}
+use Rattle.summaries.specs.Limits.{most_of}
 
 -- a number that is got of an option is what its text reads as
 pub reads : {E : Type 0} (gives : List ℕ → Result ℕ E → Type 0) (bits : ℕ) → ((t : List ℕ) (n : ℕ) → gives t (Ok n) → ParsesUnsigned {E = E} bits 10 t (Ok n))
@@ -39,5 +40,5 @@ met m n r e h = paired (λ b. (out-SubCommand (box_value b)).name.now) (λ b. ro
 -- an order of the name and the numbers that were found
 pub gives : (name : Text) (rows : List Row) (k : ℕ) (n : Option ℕ) (o : Order) → IsNamed name k n o → Reads rows (codes "rounds") k → ((e : ℕ) → n ≡ Some e → Reads rows (codes "edges") e)
     → Gives name rows o
-gives name rows k n (Check r e) h rounds edges = (h.0, subst (Reads rows (codes "rounds")) (sym h.1) rounds, edges e h.2)
+gives name rows k n (Check r e) h rounds edges = (h.0, subst (Reads rows (codes "rounds")) (sym h.1) rounds, edges (most_of e) h.2)
 gives name rows k n (Sequential r) h rounds edges = (h.0, subst (Reads rows (codes "rounds")) (sym h.1) rounds)

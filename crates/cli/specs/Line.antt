@@ -1,11 +1,14 @@
 -- The command line of bebopk, and what words ask for by it.
-use Rattle.std.specs.Prelude.{◌≡◌, ◌≢◌, ◌⊎◌, ⊤, ℕ, List, [], ◌∷◌, Option, Some, true, pos, codes}
+use Rattle.std.specs.Prelude.{◌≡◌, ◌≢◌, ◌⊎◌, ⊤, ℕ, List, [], ◌∷◌, Option, Some, true, false, pos, codes}
 use Rattle.std.specs.Str.Parse.{IsNumeral, digits_value, without_leading_plus}
 use Rattle.clap.specs.Simple.{on_top}
-use Rattle.clap.specs.Words.{App, IsAmong, Row, Rule, Text, fault_of, first_of, new_app, new_rule, one_of, subcommand_of, with_rule, with_subcommand}
+use Rattle.clap.specs.Words.{App, IsAmong, Row, Rule, Text, app_of, fault_of, first_of, new_app, new_rule, one_of, subcommand_of, with_rule, with_subcommand}
+use Rattle.clap.specs.declared.builder.command.Command.{Command}
+use Rattle.clap.specs.declared.builder.command.Command.TheViews.{out-Command as fields_of}
 use Rattle.clap.specs.declared.builder.value_parser.ValueParser.TheVariants.{Signed}
 use Rattle.clap.specs.declared.error.kind.ErrorKind.{ErrorKind}
 use Rattle.clap.specs.declared.error.kind.ErrorKind.TheVariants as kind
+use Rattle.summaries.specs.Limits.{most_of}
 use Rattle.cli.specs.Limits.{count_of}
 use Rattle.cli.specs.declared.asked.LineFault.{LineFault}
 use Rattle.cli.specs.declared.asked.LineFault.TheVariants.{Help, Memory, Refused}
@@ -37,18 +40,22 @@ sequential = with_rule (with_rule (new_app (codes "sequential")) (record rounds 
 abbrev pub bebopk : App
 bebopk = with_subcommand (with_subcommand (on_top (λ s. record s { has_version = true; subcommand_required = true }) (new_app (codes "bebopk"))) check.top) sequential.top
 
+-- The command is the one written down, and it shares no option with commands below it.
+abbrev pub IsBuilt : App → Command → Type 0
+IsBuilt app c = (app_of c ≡ app) × ((fields_of c).has_globals ≡ false)
+
 -- The value that was found for this option, given or by default, reads as the number.
 abbrev pub Reads : List Row → Text → ℕ → Type 0
 Reads rows id n = (t : Text) × (one_of id rows ≡ Some t) × IsNumeral 10 (without_leading_plus t) × (digits_value 10 (without_leading_plus t) ≡ n)
 
 -- A command of this name, with what was found for its options, is the order.
 abbrev pub Gives : Text → List Row → Order → Type 0
-Gives name rows (Check k n) = (name ≡ codes "check") × Reads rows (codes "rounds") (count_of k) × Reads rows (codes "edges") n
+Gives name rows (Check k n) = (name ≡ codes "check") × Reads rows (codes "rounds") (count_of k) × Reads rows (codes "edges") (most_of n)
 Gives name rows (Sequential k) = (name ≡ codes "sequential") × Reads rows (codes "rounds") (count_of k)
 
 -- A command of this name with these numbers is the order.
 abbrev pub IsNamed : Text → ℕ → Option ℕ → Order → Type 0
-IsNamed name k n (Check rounds edges) = (name ≡ codes "check") × (count_of rounds ≡ k) × (n ≡ Some edges)
+IsNamed name k n (Check rounds edges) = (name ≡ codes "check") × (count_of rounds ≡ k) × (n ≡ Some (most_of edges))
 IsNamed name k n (Sequential rounds) = (name ≡ codes "sequential") × (count_of rounds ≡ k)
 
 -- What was found for a command is this order on this file.

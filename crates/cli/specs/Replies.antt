@@ -6,6 +6,7 @@ use Rattle.syntax.specs.Text.{Text}
 use Rattle.syntax.specs.Printed.{printed}
 use Rattle.scopes.specs.Checked.{IsChecked}
 use Rattle.round_rewrite.specs.Names.{rewritten_tree}
+use Rattle.summaries.specs.Limits.{most_of}
 use Rattle.cli.specs.Limits.{count_of}
 use Rattle.cli.specs.declared.asked.Order.{Order}
 use Rattle.cli.specs.declared.asked.Order.TheVariants.{Check, Sequential}
@@ -28,7 +29,7 @@ pub record IsSequential (text : List ℕ) (rounds : ℕ) (bytes : List ℕ) : Ty
 
 -- the reply with a status of at most 1 is what was asked for
 abbrev pub Replies : List ℕ → Order → List ℕ → ℕ → Type 0
-Replies text (Check rounds edges) bytes status = Answers text (count_of rounds) edges bytes status
+Replies text (Check rounds edges) bytes status = Answers text (count_of rounds) (most_of edges) bytes status
 Replies text (Sequential rounds) bytes status = (status ≡ 0) × IsSequential text (count_of rounds) bytes
 
 -- how many rounds were asked for
@@ -38,7 +39,7 @@ rounds_of (Sequential rounds) = count_of rounds
 
 -- a check was asked for, and some procedure of the text's rewriting has more path edges than its limit
 abbrev pub IsPastLimit : List ℕ → Order → Type 0
-IsPastLimit text (Check rounds edges) = IsOver text (count_of rounds) edges
+IsPastLimit text (Check rounds edges) = IsOver text (count_of rounds) (most_of edges)
 IsPastLimit text (Sequential rounds) = ⊥
 
 -- The reply tells this refusal, and is its line with its status.

@@ -1,6 +1,7 @@
 //! From the bytes of a text to a reply.
 ghost use Rattle.std.specs.Prelude.{◌≡◌, ◌⊎◌, ◌≤◌, IfOk, Some, codes};
 ghost use Rattle.std.specs.Cow.{cow_slice_items};
+ghost use Rattle.summaries.specs.Limits.{most_of};
 ghost use Rattle.cli.specs.Limits.{count_of};
 ghost use Rattle.cli.specs.Refused.{line_at, line_of, memory_line, status_of, unchecked_line, unread_line};
 ghost use Rattle.cli.specs.Replies.{IsPastLimit, IsSequential, Refuses, RefusesFor, Replies, Tells};
@@ -126,8 +127,8 @@ fn refused<A: Allocator>(alloc: A, refusal: Refusal) -> Reply<A>
 
 /// The reply to a text that is to be checked.
 fn verdict<R: Alloc>(rt: &R, text: &[u8], rounds: Rounds, edges: EdgeLimit) -> Reply<R::A>
-    ensures { Answers text.now (count_of rounds) edges (bytes_of result) result.status
-        ⊎ RefusesFor text.now (count_of rounds) (IsOver text.now (count_of rounds) edges) result }
+    ensures { Answers text.now (count_of rounds) (most_of edges) (bytes_of result) result.status
+        ⊎ RefusesFor text.now (count_of rounds) (IsOver text.now (count_of rounds) (most_of edges)) result }
 {
     let alloc = rt.alloc();
     match judge::<_, OrderedEdges<&R::A>>(&alloc, text, rounds, edges) {

@@ -7,6 +7,7 @@ ghost use Rattle.language.specs.Step.{Program};
 ghost use Rattle.round_rewrite.specs.Law.{SomeBad};
 ghost use Rattle.round_rewrite.specs.Programs.{sequential_tree};
 ghost use Rattle.summaries.specs.Tabulated.{HasMoreEdges, SomePairBad};
+ghost use Rattle.summaries.specs.Limits.{most_of};
 ghost use Rattle.cli.specs.Limits.{count_of};
 ghost use Rattle.cli.specs.Refused.{Stands};
 ghost use Rattle.cli.specs.Verdict.{IsVerdict, IsOver};
@@ -39,8 +40,8 @@ fn tabulated<N: Allocator, A: Allocator + Copy, S: PathSet<A>>(
     ghost program: { Program }
     requires { program ≡ sequential_of (sequential_tree sequential.now) }
     ensures bad { IfOk result (λ s. SomePairBad s ↔ SomeBad program (number_of (codes "bad__") (sequential_tree sequential.now).globals)) }
-    ensures few { IfOk result (λ _. (q : ℕ) → ¬ HasMoreEdges program q limit) }
-    ensures fault { IfErr result (λ why. (why ≡ refusal.Memory) ⊎ ((why ≡ refusal.EdgeLimit) × ((q : ℕ) × HasMoreEdges program q limit))) }
+    ensures few { IfOk result (λ _. (q : ℕ) → ¬ HasMoreEdges program q (most_of limit)) }
+    ensures fault { IfErr result (λ why. (why ≡ refusal.Memory) ⊎ ((why ≡ refusal.EdgeLimit) × ((q : ℕ) × HasMoreEdges program q (most_of limit)))) }
 {
     let graphs = graphs(&alloc, sequential)?;
     Ok(tabulate::<_, _, S>(alloc, &graphs, limit)?)
@@ -53,8 +54,8 @@ pub(crate) fn judge<A: Allocator + Copy, S: PathSet<A>>(
     rounds: Rounds,
     edges: EdgeLimit,
 ) -> Result<Verdict, Refusal>
-    ensures verdict { IfOk result (λ v. IsVerdict text.now (count_of rounds) edges v) }
-    ensures stands { IfErr result (Stands text.now (count_of rounds) (IsOver text.now (count_of rounds) edges)) }
+    ensures verdict { IfOk result (λ v. IsVerdict text.now (count_of rounds) (most_of edges) v) }
+    ensures stands { IfErr result (Stands text.now (count_of rounds) (IsOver text.now (count_of rounds) (most_of edges))) }
 {
     let sequential = rewritten(alloc, text, rounds)?;
     let summaries = tabulated::<_, _, S>(alloc, &sequential, edges)?;

@@ -48,21 +48,35 @@ fn edges<'a>(alloc: Global) -> Arg<'a>
         .value_parser(value_parser!(u32).range(1..=16_777_216))
 }
 
-/// The command line of bebopk.
-fn command<'a>(alloc: Global) -> Result<Command<'a>, AllocError>
-    ensures { IfOk result (λ c. app_of c ≡ line.bebopk) }
+/// The command `check`.
+fn check<'a>(alloc: Global) -> Result<Command<'a>, AllocError>
+    ensures { IfOk result (line.IsBuilt line.check) }
 {
-    let check = Command::new(alloc, "check")
+    Command::new(alloc, "check")
         .about("Answers whether some run of at most K rounds fails an assert")
         .after_help(CHECK)
         .arg(rounds(alloc).default_value("2"))?
         .arg(edges(alloc))?
-        .arg(file(alloc))?;
-    let sequential = Command::new(alloc, "sequential")
+        .arg(file(alloc))
+}
+
+/// The command `sequential`.
+fn sequential<'a>(alloc: Global) -> Result<Command<'a>, AllocError>
+    ensures { IfOk result (line.IsBuilt line.sequential) }
+{
+    Command::new(alloc, "sequential")
         .about("Prints the sequential program that K rounds are rewritten to")
         .after_help(SEQUENTIAL)
         .arg(rounds(alloc).required(true))?
-        .arg(file(alloc))?;
+        .arg(file(alloc))
+}
+
+/// The command line of bebopk.
+fn command<'a>(alloc: Global) -> Result<Command<'a>, AllocError>
+    ensures { IfOk result (λ c. app_of c ≡ line.bebopk) }
+{
+    let check = check(alloc)?;
+    let sequential = sequential(alloc)?;
     Command::new(alloc, "bebopk")
         .about("Checks concurrent Boolean programs")
         .version(VERSION)

@@ -36,6 +36,7 @@ use Rattle.summaries.specs.Together.{opening, IsReceived, IsTaken, HaveLimit, Is
 use Rattle.summaries.proofs.Tabled.{over_limit, answer_due}
 use Rattle.summaries.proofs.Replaced.{get_set, set_get}
 use Rattle.summaries.proofs.Sweeping.{same_taken, same_taken_back, Becomes, replaced}
+use Rattle.summaries.specs.Limits.{most_of}
 
 -- the numbers of a message
 number_of_due : (d : Due) → (k : NumberedMessage) × (due_of k ≡ d)
@@ -101,7 +102,7 @@ module _ {G A S : Type 0} (members : S → List Triple) (p : Program) (Aside : M
   pub too_many : (q : ℕ) (t t' : Table G A S) → slice_get ts q ≡ Some t → IsTable members t' → StaysAs t t' → t'.fault ≡ Some EdgeLimit
       → ((k : NumberedMessage) → TookMessage t'.found k → IsNumberOf (IsDue p q) k) → (n : ℕ) → HaveLimit n ts → (s : ℕ) × HasMoreEdges p s n
   too_many q t t' is table stays failed due n limits =
-      (q, subst (HasMoreEdges p q) (stays.limit ∙ limits q t is) (over_limit members p q t' (still_of q t t' is table stays due) failed))
+      (q, subst (HasMoreEdges p q) (ap most_of stays.limit ∙ limits q t is) (over_limit members p q t' (still_of q t t' is table stays due) failed))
 
   pub same_too_many : (q : ℕ) (t t' : Table G A S) → slice_get ts q ≡ Some t → IsTable members t' → StaysAs t t' → t'.fault ≡ Some EdgeLimit → TookSame t.found t'.found
       → (n : ℕ) → HaveLimit n ts → (s : ℕ) × HasMoreEdges p s n

@@ -18,6 +18,7 @@ use Rattle.summaries.specs.Tables.{graph_of, answers_of, IsTable, StaysAs, TookS
 use Rattle.summaries.specs.Together.{opening, IsTaken, IsReceived, HaveLimit, AreTables}
 use Rattle.summaries.proofs.Replaced.{set_get, each_then}
 use Rattle.std.proofs.Common.{nat_eq}
+use Rattle.summaries.specs.Limits.{most_of}
 
 -- what is taken stays so where the same was taken
 pub same_taken : {A : Type 0} (old new : Found A) → TookSame old new → (k : NumberedMessage) → TookMessage old k → TookMessage new k
@@ -40,7 +41,7 @@ module _ {G A S : Type 0} where
   -- each has its limit still
   pub limits_stay : (n : ℕ) (ts : List (Table G A S)) (i : ℕ) (t t' : Table G A S) → slice_get ts i ≡ Some t → StaysAs t t' → HaveLimit n ts → HaveLimit n (slice_set ts i t')
   limits_stay n ts i t t' is stays have =
-      each_then (λ q u. u.limit ≡ n) ts i t' have (stays.limit ∙ have i t is)
+      each_then (λ q u. most_of u.limit ≡ n) ts i t' have (ap most_of stays.limit ∙ have i t is)
 
 module _ {G A S : Type 0} (members : S → List Triple) (p : Program) where
   -- A table becomes another one of the procedure, which has not failed, has taken what it had, and only what is due.

@@ -19,6 +19,7 @@ use Rattle.summaries.specs.Found.{TookMessage}
 use Rattle.summaries.specs.Tables.{answers_of, IsReached, IsAnswer}
 use Rattle.summaries.specs.Tabulated.{HasMoreEdges}
 use Rattle.summaries.specs.Together.{IsTableOf}
+use Rattle.summaries.specs.Limits.{most_of}
 
 module _ {G A S : Type 0} (members : S → List Triple) (p : Program) (q : ℕ) (t : Table G A S) (is : IsTableOf members p q t) where
   -- what is reached are path edges
@@ -47,5 +48,5 @@ module _ {G A S : Type 0} (members : S → List Triple) (p : Program) (q : ℕ) 
       sent_due x.to k ((is.table.holds whole).0.given x.to k (subst (λ d. Member (mail x.to d) keys) (sym e) given))
 
   -- where the table has failed for its limit there are more path edges
-  pub over_limit : t.fault ≡ Some EdgeLimit → HasMoreEdges p q t.limit
+  pub over_limit : t.fault ≡ Some EdgeLimit → HasMoreEdges p q (most_of t.limit)
   over_limit failed = let (ts, once, more, all) = is.table.many failed in (ts, once, more, λ x m. reached_edge x (all x m))

@@ -15,6 +15,7 @@ use Rattle.summaries.specs.Dues.{due_of}
 use Rattle.summaries.specs.Found.{TookMessage}
 use Rattle.summaries.proofs.Growing.{no_limit, failed_ok}
 use Rattle.summaries.specs.Tables.{answers_of, HasMore, Holds, IsReached, IsAnswer, StaysAs, Worked}
+use Rattle.summaries.specs.Limits.{most_of}
 
 -- a message that is answered, by its parts
 pub answer_is : {G A S : Type 0} (old new : Table G A S) (r : Option (ℕ × Due)) → IfSome r (λ m. answers_of new ≡ answers_of old ++ mail m.0 m.1 ∷ [])
@@ -25,9 +26,9 @@ answer_is old new (Some _) behind due once = record { behind = behind; due = due
 
 module _ {G A S : Type 0} (members : S → List Triple) where
   module _ {T : Type 0} (Aside : Triple → Type 0) (r : Result T TableFault) (old new : Table G A S) (edges : (x : Triple) → Member x (members new.edges) → IsReached new x)
-      (within : length (members new.edges) ≤ new.limit) (stays : StaysAs old new) (fault : new.fault ≡ old.fault) where
+      (within : length (members new.edges) ≤ most_of new.limit) (stays : StaysAs old new) (fault : new.fault ≡ old.fault) where
     -- where the answer is a fault
-    pub failed_worked : (P : TableFault → Type 0) → IsErrAnd r P → (r ≡ Err EdgeLimit → HasMore new.limit (IsReached new)) → Worked members Aside r old new
+    pub failed_worked : (P : TableFault → Type 0) → IsErrAnd r P → (r ≡ Err EdgeLimit → HasMore (most_of new.limit) (IsReached new)) → Worked members Aside r old new
     failed_worked P told many = record {
       holds = failed_ok _ P r told;
       edges = edges;

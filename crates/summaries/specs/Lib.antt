@@ -1,3 +1,4 @@
+pub mod Limits
 pub mod Under
 pub mod Mails
 pub mod Dues

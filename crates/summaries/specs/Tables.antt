@@ -17,6 +17,7 @@ use Rattle.summaries.specs.declared.table_fault.TableFault.TheVariants.{EdgeLimi
 use Rattle.summaries.specs.Mails.{mail}
 use Rattle.summaries.specs.Dues.{due_of}
 use Rattle.summaries.specs.Found.{pair, site, answers_in, TookMessage, HasSite, HasExit, IsGrounded, IsComplete}
+use Rattle.summaries.specs.Limits.{most_of}
 
 module _ {G A S : Type 0} where
   -- the flow graph of the table's procedure
@@ -29,7 +30,7 @@ module _ {G A S : Type 0} where
 
   -- how many path edges it may keep
   abbrev pub limit_of : Table G A S → ℕ
-  limit_of t = t.limit
+  limit_of t = most_of t.limit
 
   -- the path edges that it keeps
   abbrev pub edges_of : (S → List Triple) → Table G A S → List Triple
@@ -104,9 +105,9 @@ module _ {G A S : Type 0} (members : S → List Triple) where
   -- left out but by what is pending; where it has failed for its limit, more edges than that are reached.
   pub record IsTable (t : Table G A S) : Type 0 where
     pub edges : (x : Triple) → Member x (members t.edges) → IsReached t x
-    pub within : length (members t.edges) ≤ t.limit
+    pub within : length (members t.edges) ≤ limit_of t
     pub holds : t.fault ≡ None → Holds (λ x. ⊥) t
-    pub many : t.fault ≡ Some EdgeLimit → HasMore t.limit (IsReached t)
+    pub many : t.fault ≡ Some EdgeLimit → HasMore (limit_of t) (IsReached t)
 
   -- The table has taken nothing and answered nothing, and has not failed.
   pub record IsNew (t : Table G A S) : Type 0 where
@@ -121,8 +122,8 @@ module _ {G A S : Type 0} (members : S → List Triple) where
   pub record Worked (Aside : Triple → Type 0) {T : Type 0} (answer : Result T TableFault) (old new : Table G A S) : Type 0 where
     pub holds : OnOk answer (Holds Aside new)
     pub edges : (x : Triple) → Member x (members new.edges) → IsReached new x
-    pub within : length (members new.edges) ≤ new.limit
-    pub many : answer ≡ Err EdgeLimit → HasMore new.limit (IsReached new)
+    pub within : length (members new.edges) ≤ limit_of new
+    pub many : answer ≡ Err EdgeLimit → HasMore (limit_of new) (IsReached new)
     pub answers : OnOk answer (answers_of new ≡ answers_of old)
     pub stays : StaysAs old new
     pub fault : new.fault ≡ old.fault
@@ -153,7 +154,7 @@ module _ {G A S : Type 0} (members : S → List Triple) where
 
   -- twice as many edges as there may still be, and those pending
   abbrev pub work_left : Table G A S → ℕ
-  work_left t = 2 * (t.limit - length (members t.edges)) + length t.found.pending.items
+  work_left t = 2 * (limit_of t - length (members t.edges)) + length t.found.pending.items
 
   -- By the messages taken the edges kept are what is reached, and the messages answered are what is sent.
   pub record IsQuiet (t : Table G A S) : Type 0 where

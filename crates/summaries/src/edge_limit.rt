@@ -1,8 +1,6 @@
 //! How many path edges a table may hold.
 
-ghost use Rattle.std.specs.Prelude.{◌≡◌, ◌≤◌, ℕ, IfSome, IsSome, ◌↔◌};
-
-use std::marker::Model;
+ghost use Rattle.std.specs.Prelude.{◌≡◌, ◌≤◌, IfSome, IsSome, ◌↔◌};
 
 /// The greatest limit.
 const MOST: u32 = 16_777_216;
@@ -11,23 +9,17 @@ const MOST: u32 = 16_777_216;
 #[derive(Clone, Copy, Debug, PartialEq, Eq)]
 pub struct EdgeLimit {
     edges: u32,
-}
-
-impl Model for EdgeLimit {
-    ghost Value = { ℕ };
-
-    ghost view = { λ l. l.edges };
-
-    ghost invariant = { λ l. (1 ≤ l.edges) × (l.edges ≤ 16777216) };
-
-    ghost inverse = { λ n. record { edges = n } };
+    ghost some: { 1 ≤ edges },
+    ghost few: { edges ≤ 16777216 },
 }
 
 impl EdgeLimit {
+    ghost use Rattle.summaries.specs.Limits.{most_of};
+
     /// So many edges; `None` where there are none, or more than 16,777,216.
     pub fn new(edges: u32) -> Option<EdgeLimit>
         ensures some { IsSome result ↔ (1 ≤ edges) × (edges ≤ 16777216) }
-        ensures edges { IfSome result (λ limit. limit ≡ edges) }
+        ensures edges { IfSome result (λ limit. most_of limit ≡ edges) }
     {
         if 1 <= edges && edges <= MOST {
             Some(EdgeLimit { edges })
@@ -38,7 +30,7 @@ impl EdgeLimit {
 
     /// How many edges.
     pub fn edges(self) -> u32
-        ensures edges { result ≡ self }
+        ensures edges { result ≡ most_of self }
         ensures range { (1 ≤ result) × (result ≤ 16777216) }
     {
         self.edges

@@ -2,6 +2,7 @@
 
 ghost use Rattle.std.specs.Prelude.{◌≤◌, length};
 ghost use Rattle.summaries.specs.Grows.{Adds, Each, IsBehind, triple_of};
+ghost use Rattle.summaries.specs.Limits.{most_of};
 
 use crate::edge::{Edge, Site};
 use crate::edge_limit::EdgeLimit;
@@ -31,8 +32,8 @@ pub(crate) fn go_on<G: Allocator, A: Allocator, S: PathSet<A>>(
     site: Site,
     summaries: &[Word],
 ) -> Result<(), TableFault>
-    requires { length (S.members edges.old) ≤ limit }
-    ensures { Adds (Each (IsBehind graph.now site) summaries.now) result limit
+    requires { length (S.members edges.old) ≤ most_of limit }
+    ensures { Adds (Each (IsBehind graph.now site) summaries.now) result (most_of limit)
         (S.members edges.old) (S.members edges.new) pending.old.items pending.new.items }
 {
     for globals in summaries {
@@ -51,8 +52,8 @@ pub(crate) fn go_on_at_each<G: Allocator, A: Allocator, S: PathSet<A>>(
     sites: &[Site],
     globals: Word,
 ) -> Result<(), TableFault>
-    requires { length (S.members edges.old) ≤ limit }
-    ensures { Adds (Each (λ site. IsBehind graph.now site globals) sites.now) result limit
+    requires { length (S.members edges.old) ≤ most_of limit }
+    ensures { Adds (Each (λ site. IsBehind graph.now site globals) sites.now) result (most_of limit)
         (S.members edges.old) (S.members edges.new) pending.old.items pending.new.items }
 {
     for site in sites {

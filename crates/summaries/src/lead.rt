@@ -2,6 +2,7 @@
 
 ghost use Rattle.std.specs.Prelude.{◌≤◌, length};
 ghost use Rattle.summaries.specs.Grows.{Adds, IsAt, IsNext};
+ghost use Rattle.summaries.specs.Limits.{most_of};
 
 use crate::edge::Edge;
 use crate::edge_limit::EdgeLimit;
@@ -19,8 +20,8 @@ fn reach_next<A: Allocator, S: PathSet<A>>(
     from: Edge,
     next: Option<(Point, Word)>,
 ) -> Result<(), TableFault>
-    requires { length (S.members edges.old) ≤ limit }
-    ensures { Adds (IsAt from next) result limit (S.members edges.old) (S.members edges.new)
+    requires { length (S.members edges.old) ≤ most_of limit }
+    ensures { Adds (IsAt from next) result (most_of limit) (S.members edges.old) (S.members edges.new)
         pending.old.items pending.new.items }
 {
     let Some((point, values)) = next else {
@@ -42,8 +43,8 @@ pub(crate) fn lead<G: Allocator, A: Allocator, S: PathSet<A>>(
     limit: EdgeLimit,
     from: Edge,
 ) -> Result<(), TableFault>
-    requires { length (S.members edges.old) ≤ limit }
-    ensures { Adds (IsNext flow.now from) result limit (S.members edges.old) (S.members edges.new)
+    requires { length (S.members edges.old) ≤ most_of limit }
+    ensures { Adds (IsNext flow.now from) result (most_of limit) (S.members edges.old) (S.members edges.new)
         pending.old.items pending.new.items }
 {
     let mut choice = 0;

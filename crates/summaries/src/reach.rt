@@ -2,6 +2,7 @@
 
 ghost use Rattle.std.specs.Prelude.{◌≡◌, ◌≤◌, length};
 ghost use Rattle.summaries.specs.Grows.{Adds, triple_of};
+ghost use Rattle.summaries.specs.Limits.{most_of};
 
 use crate::edge::Edge;
 use crate::edge_limit::EdgeLimit;
@@ -17,8 +18,8 @@ pub(crate) fn reach<A: Allocator, S: PathSet<A>>(
     limit: EdgeLimit,
     edge: Edge,
 ) -> Result<(), TableFault>
-    requires { length (S.members edges.old) ≤ limit }
-    ensures { Adds (λ t. t ≡ triple_of edge) result limit (S.members edges.old) (S.members edges.new)
+    requires { length (S.members edges.old) ≤ most_of limit }
+    ensures { Adds (λ t. t ≡ triple_of edge) result (most_of limit) (S.members edges.old) (S.members edges.new)
         pending.old.items pending.new.items }
 {
     if edges.len() >= limit.edges() as u64 {

@@ -1,6 +1,7 @@
 //! The table of one procedure.
 
 ghost use Rattle.std.specs.Prelude.{◌≡◌, Some, None};
+ghost use Rattle.summaries.specs.Limits.{most_of};
 
 use crate::due::{Caller, Due};
 use crate::edge::{Call, Edge};
@@ -39,7 +40,7 @@ impl<'g, G: Allocator, A: Allocator + Copy, S: PathSet<A>> Table<'g, G, A, S> {
         ensures new { IsNew S.members result }
         ensures graph { slice_get (graphs_of graphs.now) procedure ≡ Some (graph_of result) }
         ensures procedure { procedure_of result ≡ procedure }
-        ensures limit { limit_of result ≡ limit }
+        ensures limit { limit_of result ≡ most_of limit }
     {
         Table {
             graph: graphs.graph(procedure),

@@ -8,6 +8,7 @@ ghost use Rattle.flow_graph.specs.Graphs.{AreDrawnFrom};
 ghost use Rattle.summaries.specs.Tables.{graph_of, IsTable, Takes};
 ghost use Rattle.summaries.specs.Tabulated.{AreSummaries, SomePairBad, HasMoreEdges};
 ghost use Rattle.summaries.specs.Together.{opening, HaveLimit, AreNew, AreTables, AreQuietBefore};
+ghost use Rattle.summaries.specs.Limits.{most_of};
 
 use crate::due::{Caller, Due};
 use crate::edge_limit::EdgeLimit;
@@ -28,7 +29,7 @@ fn tables_of<'g, G: Allocator, A: Allocator + Copy, S: PathSet<A>>(
 ) -> Result<Vec<Table<'g, G, A, S>, A>, AllocError>
     ensures new { IfOk result (λ ts. AreNew S.members ts.items) }
     ensures graphs { IfOk result (λ ts. map graph_of ts.items ≡ graphs_of graphs.now) }
-    ensures limit { IfOk result (λ ts. HaveLimit limit ts.items) }
+    ensures limit { IfOk result (λ ts. HaveLimit (most_of limit) ts.items) }
 {
     let mut tables = Vec::new(alloc);
     for procedure in 0..graphs.len() as u8 {
@@ -97,8 +98,8 @@ pub fn tabulate<G: Allocator, A: Allocator + Copy, S: PathSet<A>>(
     requires { AreDrawnFrom program (graphs_of graphs.now) }
     ensures summaries { IfOk result (λ s. AreSummaries program s) }
     ensures bad { IfOk result (λ s. SomePairBad s ↔ SomeBad program (bad_of graphs.now)) }
-    ensures few { IfOk result (λ s. (q : ℕ) → ¬ HasMoreEdges program q limit) }
-    ensures limit { result ≡ Err NoVerdict.EdgeLimit → (q : ℕ) × HasMoreEdges program q limit }
+    ensures few { IfOk result (λ s. (q : ℕ) → ¬ HasMoreEdges program q (most_of limit)) }
+    ensures limit { result ≡ Err NoVerdict.EdgeLimit → (q : ℕ) × HasMoreEdges program q (most_of limit) }
 {
     let mut tables: Vec<Table<'_, G, A, S>, A> = tables_of(alloc, graphs, limit)?;
     run(&mut tables)?;

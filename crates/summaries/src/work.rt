@@ -6,7 +6,7 @@ ghost use Rattle.flow_graph.specs.Drawn.{flows_of};
 ghost use Rattle.flow_graph.specs.declared.flow.Flow.TheVariants as flow;
 ghost use Rattle.summaries.specs.declared.due.Due.TheVariants.{Entry, Summary};
 ghost use Rattle.summaries.specs.Grows.{triple_of};
-ghost use Rattle.summaries.specs.Tables.{answers_of, graph_of, HasLeft, HasAsked, Holds, Worked, StaysAs, IsLess};
+ghost use Rattle.summaries.specs.Tables.{answers_of, graph_of, limit_of, HasLeft, HasAsked, Holds, Worked, StaysAs, IsLess};
 ghost use Rattle.summaries.specs.Tables.{TookAlso, TookOnly, TookSame};
 
 use crate::due::{Caller, Due};
@@ -61,7 +61,7 @@ impl<'g, G: Allocator, A: Allocator + Copy, S: PathSet<A>> Table<'g, G, A, S> {
         requires call { slice_get (flows_of (graph_of self.old)) edge.point ≡ Some (flow.Call call.now) }
         requires edge { Member (triple_of edge) (S.members self.old.edges) }
         requires holds { Holds S.members (λ t. t ≡ triple_of edge) self.old }
-        requires within { length (S.members self.old.edges) ≤ self.old.limit }
+        requires within { length (S.members self.old.edges) ≤ limit_of self.old }
         ensures worked { Worked S.members (λ t. t ≡ triple_of edge) result self.old self.new }
         ensures asked { OnOk result (HasAsked self.new edge call.now) }
         ensures taken { TookSame self.old.found self.new.found }
@@ -97,7 +97,7 @@ impl<'g, G: Allocator, A: Allocator + Copy, S: PathSet<A>> Table<'g, G, A, S> {
     pub(crate) fn work(&mut self, edge: Edge) -> Result<(), TableFault>
         requires edge { Member (triple_of edge) (S.members self.old.edges) }
         requires holds { Holds S.members (λ t. t ≡ triple_of edge) self.old }
-        requires within { length (S.members self.old.edges) ≤ self.old.limit }
+        requires within { length (S.members self.old.edges) ≤ limit_of self.old }
         ensures worked { Worked S.members (λ t. ⊥) result self.old self.new }
         ensures taken { TookSame self.old.found self.new.found }
         ensures less { OnOk result (IsLess S.members self.old self.new) }
@@ -121,7 +121,7 @@ impl<'g, G: Allocator, A: Allocator + Copy, S: PathSet<A>> Table<'g, G, A, S> {
     /// Lets a caller enter the procedure: its start is reached, and the caller gets the summaries that are known.
     pub(crate) fn begin(&mut self, caller: Caller, a: Word) -> Result<(), TableFault>
         requires holds { Holds S.members (λ t. ⊥) self.old }
-        requires within { length (S.members self.old.edges) ≤ self.old.limit }
+        requires within { length (S.members self.old.edges) ≤ limit_of self.old }
         ensures worked { Worked S.members (λ t. ⊥) result self.old self.new }
         ensures taken { OnOk result (TookAlso (Entry caller a) self.old.found self.new.found) }
         ensures only { TookOnly (Entry caller a) self.old.found self.new.found }
@@ -146,7 +146,7 @@ impl<'g, G: Allocator, A: Allocator + Copy, S: PathSet<A>> Table<'g, G, A, S> {
     /// Goes on behind each call of this kind, for globals that it left.
     pub(crate) fn end(&mut self, call: Call, b: Word) -> Result<(), TableFault>
         requires holds { Holds S.members (λ t. ⊥) self.old }
-        requires within { length (S.members self.old.edges) ≤ self.old.limit }
+        requires within { length (S.members self.old.edges) ≤ limit_of self.old }
         ensures worked { Worked S.members (λ t. ⊥) result self.old self.new }
         ensures taken { OnOk result (TookAlso (Summary call.callee call.entered b) self.old.found self.new.found) }
         ensures only { TookOnly (Summary call.callee call.entered b) self.old.found self.new.found }

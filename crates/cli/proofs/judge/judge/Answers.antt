@@ -11,6 +11,7 @@ use Rattle.round_rewrite.specs.Programs.{sequential_tree}
 use Rattle.summaries.specs.Tabulated.{HasMoreEdges}
 use Rattle.cli.specs.declared.refusal.Refusal.{Refusal}
 use Rattle.cli.specs.declared.refusal.Refusal.TheVariants.{EdgeLimit, Memory}
+use Rattle.summaries.specs.Limits.{most_of}
 use Rattle.cli.specs.Limits.{count_of}
 use Rattle.cli.specs.Refused.{Stands}
 use Rattle.cli.specs.Rewritten.{IsRewriting}
@@ -51,7 +52,7 @@ returns-then-bad-clause-verdict g c =
       found.tree,
       found.of,
       found.checked,
-      within c.args.text.now (count_of c.args.rounds) c.args.edges c.args.edges sequential found refl c.in_ok-summaries.ensures.few,
+      within c.args.text.now (count_of c.args.rounds) (most_of c.args.edges) (most_of c.args.edges) sequential found refl c.in_ok-summaries.ensures.few,
       (tells c.args.text.now (count_of c.args.rounds) sequential found _ c.in_ok-summaries.ensures.bad).0 (c.bad.ensures.0 c.if-bad.true),
     )
 
@@ -62,7 +63,7 @@ returns-clause-verdict g c =
       found.tree,
       found.of,
       found.checked,
-      within c.args.text.now (count_of c.args.rounds) c.args.edges c.args.edges sequential found refl c.in_ok-summaries.ensures.few,
+      within c.args.text.now (count_of c.args.rounds) (most_of c.args.edges) (most_of c.args.edges) sequential found refl c.in_ok-summaries.ensures.few,
       λ unsafe. true≢false (sym (c.bad.ensures.1 ((tells c.args.text.now (count_of c.args.rounds) sequential found _ c.in_ok-summaries.ensures.bad).1 unsafe)) ∙ c.if-bad.false),
     )
 
@@ -70,5 +71,5 @@ pub returns-in_err-summaries-clause-stands : goal.returns-in_err-summaries-claus
 returns-in_err-summaries-clause-stands g c =
     let p = err_from_is_err_and c.from_residual-in_err-summaries.result c.from_residual-in_err-summaries.ensures.1 in
     rw (p.1, p.2)
-    (stands c.args.text.now (count_of c.args.rounds) c.args.edges c.args.edges (sequential_tree c.in_ok-sequential.sequential) c.in_ok-sequential.ensures.rewriting refl _
+    (stands c.args.text.now (count_of c.args.rounds) (most_of c.args.edges) (most_of c.args.edges) (sequential_tree c.in_ok-sequential.sequential) c.in_ok-sequential.ensures.rewriting refl _
     c.in_err-summaries.ensures.fault)

@@ -10,6 +10,7 @@ use Rattle.summaries.proofs.Tabulating.{few, all_summaries, all_bad}
 use Rattle.summaries.proofs.tabulation.tabulate.Given.{Over}
 use Rattle.summaries.proofs.tabulation.tabulate.Goals as goal
 use Rattle.summaries.proofs.tabulation.tabulate.Goals.{In_ok-procedures}
+use Rattle.summaries.specs.Limits.{most_of}
 
 pub run-requires : goal.run-requires
 run-requires g c κs within =
@@ -19,7 +20,7 @@ run-requires g c κs within =
 pub returns-in_err-run-clause-limit : goal.returns-in_err-run-clause-limit
 returns-in_err-run-clause-limit g c = λ e.
     let told = fault_told _ c.from_residual-in_err-run.result verdict.EdgeLimit c.from_residual-in_err-run.ensures.1 e in
-    c.in_err-run.ensures.limit (ap Err (limit_told c.in_err-run.field-0.0 told)) c.args.limit c.in_ok-tables.ensures.limit
+    c.in_err-run.ensures.limit (ap Err (limit_told c.in_err-run.field-0.0 told)) (most_of c.args.limit) c.in_ok-tables.ensures.limit
 
 same_length : (g : Over) (c : In_ok-procedures g) → length c.in_ok-procedures.procedures.items ≡ length c.run.new.tables.items
 same_length g c = c.in_ok-procedures.ensures.len ∙ ap length c.deref.ensures.value
@@ -46,4 +47,4 @@ returns-clause-bad g c =
 pub returns-clause-few : goal.returns-clause-few
 returns-clause-few g c =
     let ran = c.in_ok-run.ensures in
-    few g.S.PathSet.members g.program c.run.new.tables.items ran.tables ran.quiet c.args.limit (ran.limits c.args.limit c.in_ok-tables.ensures.limit)
+    few g.S.PathSet.members g.program c.run.new.tables.items ran.tables ran.quiet (most_of c.args.limit) (ran.limits (most_of c.args.limit) c.in_ok-tables.ensures.limit)

@@ -17,6 +17,7 @@ use Rattle.summaries.proofs.Stepping.{still_grounded, still_complete, all_reache
 use Rattle.summaries.proofs.Worked.{refused_worked}
 use Rattle.summaries.proofs.table.Table.ask.Given as given
 use Rattle.summaries.proofs.table.Table.ask.Goals as goal
+use Rattle.summaries.specs.Limits.{most_of}
 
 -- the flow is a call of this procedure
 enters : (g : given.Over) (c : goal.After-go_on g) → entered_by (flow.Call c.args.call.now) c.args.edge.values ≡ Some (c.callee.result, c.entry.result, c.back.result)
@@ -75,7 +76,7 @@ returns-clause-worked g c =
       within = c.go_on.ensures.within;
       many = λ is.
           let (t, w, new, full) = c.go_on.ensures.limit is in
-          has_more self.limit ds _ (g.met.S.PathSet.none_twice c.go_on.new.edges) edges t
+          has_more (most_of self.limit) ds _ (g.met.S.PathSet.none_twice c.go_on.new.edges) edges t
           (behind_reached self.graph.now self.procedure f c.give.new.self c.add.new.self c.go_on.new.pending es ds e c.callee.result c.entry.result c.back.result (flow.Call c.args.call.now)
           c.requires.holds.0 c.requires.edge c.requires.call (enters g c) t (subst (λ bs. Each (IsBehind self.graph.now (site e.entry c.back.result e.values)) bs t) c.of.ensures w))
           new full;

@@ -8,6 +8,7 @@ use Rattle.summaries.proofs.Mails.{answers_still}
 use Rattle.summaries.proofs.Stepping.{still_grounded, still_complete, all_reached, taken_as, has_more}
 use Rattle.summaries.proofs.Worked.{failed_worked, refused_worked}
 use Rattle.summaries.proofs.table.Table.begin.Goals as goal
+use Rattle.summaries.specs.Limits.{most_of}
 
 pub returns-in_err-add-clause-worked : goal.returns-in_err-add-clause-worked
 returns-in_err-add-clause-worked g c =
@@ -30,7 +31,7 @@ returns-in_err-reach-clause-worked g c =
     failed_worked g.S.PathSet.members (λ t. ⊥) _ self _ edges c.in_err-reach.ensures.within (record { graph = refl; procedure = refl; limit = refl }) refl _ c.from_residual-in_err-reach.ensures.1
     (λ is.
     let (t, is_start, new, full) = c.in_err-reach.ensures.limit (ap Err (sym (fault_of _ _ _ c.from_residual-in_err-reach.ensures.1 is))) in
-    has_more self.limit ds _ (g.met.S.PathSet.none_twice c.reach.new.edges) edges t
+    has_more (most_of self.limit) ds _ (g.met.S.PathSet.none_twice c.reach.new.edges) edges t
     (start_reached self.graph.now self.procedure f c.add.new.self f.given c.reach.new.pending a c.args.caller c.in_ok-add.ensures.added c.in_ok-add.ensures.others es ds c.requires.holds.0
     t (is_start ∙ ap (λ n. triple a n a) c.start.ensures))
     new full)

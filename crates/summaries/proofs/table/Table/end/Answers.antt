@@ -8,6 +8,7 @@ use Rattle.summaries.proofs.Ending.{ended_also, end_only, end_step, ended_reache
 use Rattle.summaries.proofs.Stepping.{still_grounded, still_complete, all_reached, taken_as, has_more}
 use Rattle.summaries.proofs.Worked.{refused_worked}
 use Rattle.summaries.proofs.table.Table.end.Goals as goal
+use Rattle.summaries.specs.Limits.{most_of}
 
 pub returns-in_err-add-clause-worked : goal.returns-in_err-add-clause-worked
 returns-in_err-add-clause-worked g c =
@@ -38,7 +39,7 @@ returns-clause-worked g c =
       within = c.go_on_at_each.ensures.within;
       many = λ is.
           let (t, w, new, full) = c.go_on_at_each.ensures.limit is in
-          has_more self.limit ds _ (g.met.S.PathSet.none_twice c.go_on_at_each.new.edges) edges t
+          has_more (most_of self.limit) ds _ (g.met.S.PathSet.none_twice c.go_on_at_each.new.edges) edges t
           (ended_reached self.graph.now self.procedure f c.add.new.self c.go_on_at_each.new.pending c.args.call c.args.b c.in_ok-add.ensures.added c.in_ok-add.ensures.others es ds c.requires.holds.0 t
           (subst (λ ss. Each (λ y. IsBehind self.graph.now y c.args.b) ss t) c.of.ensures w))
           new full;

@@ -13,6 +13,7 @@ use Rattle.summaries.proofs.Working.{beyond_worked, called_worked, led_worked}
 use Rattle.summaries.proofs.Stepping.{still_grounded, still_complete, worked_off, both_ok, all_reached, taken_as, has_more}
 use Rattle.summaries.proofs.Worked.{refused_worked, then_worked}
 use Rattle.summaries.proofs.table.Table.work.Goals as goal
+use Rattle.summaries.specs.Limits.{most_of}
 
 pub returns-in_err-leave-clause-worked : goal.returns-in_err-leave-clause-worked
 returns-in_err-leave-clause-worked g c =
@@ -20,7 +21,7 @@ returns-in_err-leave-clause-worked g c =
     let new = c.leave.new.self in
     let left = c.in_err-leave.ensures in
     let edges = ap (λ s. length (g.S.PathSet.members s)) left.edges in
-    let limit = left.stays.limit in
+    let limit = ap most_of left.stays.limit in
     refused_worked g.S.PathSet.members (λ t. ⊥) _ old new
     (λ t m. subst (λ graph. Reaches graph (TookMessage new.found) t.entry t.point t.values) (sym left.stays.graph)
     (all_reached old.graph.now old.procedure old.found new.found (g.S.PathSet.members old.edges) c.requires.holds.0
@@ -37,7 +38,7 @@ returns-then-edge-points-clause-worked g c =
     let es = g.S.PathSet.members new.edges in
     let past : length new.graph.now.flows.items ≤ e.point = omega (arith, c.if-edge-points.true, c.points.ensures) in
     let edges = ap (λ s. length (g.S.PathSet.members s)) left.edges in
-    let limit = left.stays.limit in record {
+    let limit = ap most_of left.stays.limit in record {
       holds = (
         left.ok.0,
         worked_off new.graph.now new.procedure new.found es e.entry e.point e.values (beyond_worked new.graph.now new.procedure new.found es e left.left past) left.ok.1,
@@ -97,7 +98,7 @@ returns-in_default g c =
         within = c.lead.ensures.within;
         many = λ is.
             let (t, w, fresh, full) = c.lead.ensures.limit is in
-            has_more new.limit ds _ (g.met.S.PathSet.none_twice c.lead.new.edges) only t (next_reached new.graph.now new.procedure f c.lead.new.pending es ds e c.flow.result.now c.in_ok-leave.ensures.ok.0 there here t w) fresh full;
+            has_more (most_of new.limit) ds _ (g.met.S.PathSet.none_twice c.lead.new.edges) only t (next_reached new.graph.now new.procedure f c.lead.new.pending es ds e c.flow.result.now c.in_ok-leave.ensures.ok.0 there here t w) fresh full;
         answers = IfOk-weaker c.lead.result _ _ (λ _ _. c.in_ok-leave.ensures.answers) c.lead.ensures.ok;
         stays = let s = c.in_ok-leave.ensures.stays in record { graph = s.graph; procedure = s.procedure; limit = s.limit };
         fault = c.in_ok-leave.ensures.fault;
