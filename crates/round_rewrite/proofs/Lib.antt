@@ -1,4 +1,3 @@
-pub mod Texts
 pub mod Plain
 pub mod Blocks
 pub mod Laid

@@ -1,4 +1,3 @@
-pub mod SameKind
 pub mod Spelled
 pub mod Runs
 pub mod Fronts
