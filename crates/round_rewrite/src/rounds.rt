@@ -30,7 +30,8 @@ impl Rounds {
 
     /// How many rounds.
     pub fn count(self) -> u8
-        ensures { result ≡ last_round self + 1 }
+        ensures count { result ≡ last_round self + 1 }
+        ensures range { (1 ≤ result) × (result ≤ most_rounds) }
     {
         self.last + 1
     }

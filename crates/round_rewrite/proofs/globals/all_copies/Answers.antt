@@ -14,6 +14,6 @@ pub returns : goal.returns
 returns g c =
     let low = c.loop-round-test.false in
     let high = c.loop-round.auto.round-end in
-    let count = c.count-round-end.ensures in
+    let count = c.count-round-end.ensures.count in
     c.loop-round.invariant
     ∙ ap (λ n. names_of c.args.into.items ++ copied (names []) c.args.rounds.last copy_name (names_of c.args.xs.now) (numbers 0 n)) (let e : c.loop-round.round ≡ suc c.args.rounds.last = omega (arith, low, high, count) in e)
