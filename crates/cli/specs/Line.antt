@@ -2,7 +2,8 @@
 use Rattle.std.specs.Prelude.{◌≡◌, ◌≢◌, ◌⊎◌, ⊤, ℕ, List, [], ◌∷◌, Option, Some, true, false, pos, codes}
 use Rattle.std.specs.Str.Parse.{IsNumeral, digits_value, without_leading_plus}
 use Rattle.clap.specs.Simple.{on_top}
-use Rattle.clap.specs.Words.{App, IsAmong, Row, Rule, Text, app_of, fault_of, first_of, new_app, new_rule, one_of, subcommand_of, with_rule, with_subcommand}
+use Rattle.clap.specs.Words.{App, IsAmong, Row, Rule, Text, app_of, fault_of}
+use Rattle.clap.specs.Words.{first_of, new_app, new_rule, one_of, subcommand_of, with_rule, with_subcommand}
 use Rattle.clap.specs.declared.builder.command.Command.{Command}
 use Rattle.clap.specs.declared.builder.command.Command.TheViews.{out-Command as fields_of}
 use Rattle.clap.specs.declared.builder.value_parser.ValueParser.TheVariants.{Signed}
@@ -38,7 +39,9 @@ sequential = with_rule (with_rule (new_app (codes "sequential")) (record rounds 
 
 -- bebopk check .., bebopk sequential .., or bebopk --version
 abbrev pub bebopk : App
-bebopk = with_subcommand (with_subcommand (on_top (λ s. record s { has_version = true; subcommand_required = true }) (new_app (codes "bebopk"))) check.top) sequential.top
+bebopk = with_subcommand (with_subcommand
+    (on_top (λ s. record s { has_version = true; subcommand_required = true }) (new_app (codes "bebopk"))) check.top)
+    sequential.top
 
 -- The command is the one written down, and it shares no option with commands below it.
 abbrev pub IsBuilt : App → Command → Type 0

@@ -41,7 +41,8 @@ fn tabulated<N: Allocator, A: Allocator + Copy, S: PathSet<A>>(
     requires { program ≡ sequential_of (sequential_tree sequential.now) }
     ensures bad { IfOk result (λ s. SomePairBad s ↔ SomeBad program (number_of (codes "bad__") (sequential_tree sequential.now).globals)) }
     ensures few { IfOk result (λ _. (q : ℕ) → ¬ HasMoreEdges program q (most_of limit)) }
-    ensures fault { IfErr result (λ why. (why ≡ refusal.Memory) ⊎ ((why ≡ refusal.EdgeLimit) × ((q : ℕ) × HasMoreEdges program q (most_of limit)))) }
+    ensures fault { IfErr result (λ why. (why ≡ refusal.Memory)
+        ⊎ ((why ≡ refusal.EdgeLimit) × ((q : ℕ) × HasMoreEdges program q (most_of limit)))) }
 {
     let graphs = graphs(&alloc, sequential)?;
     Ok(tabulate::<_, _, S>(alloc, &graphs, limit)?)

@@ -119,7 +119,8 @@ fn order_of(name: &str, rounds: u8, edges: Option<u32>) -> Option<Order>
 
 /// The order and the file of what was found for the words; `None` only of what the command line lets nobody give.
 fn asked<'a>(matches: &ArgMatches<'a>) -> Option<(Order, &'a str)>
-    ensures { IfSome result (λ o. (command : Text × List Row) × (subcommand_rows_of matches.now ≡ Some command) × line.Orders command o.0 o.1.now) }
+    ensures { IfSome result (λ o. (command : Text × List Row)
+        × (subcommand_rows_of matches.now ≡ Some command) × line.Orders command o.0 o.1.now) }
 {
     let (name, found) = matches.subcommand()?;
     let rounds = found.get_one::<u8>("rounds")?;

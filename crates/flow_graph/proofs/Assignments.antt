@@ -568,5 +568,6 @@ all_written {A} s xs ys n ws e leads =
 pub one_bit : (b : ℕ) → b < most_places → 1 * 2 ^ b % 2 ^ 64 ≡ 2 ^ b
 one_bit b h = let most : 2 ^ b ≤ 2 ^ 63 = pow_mono (let z : b ≤ 63 = omega (arith, h) in z) in omega (arith, most)
 
-pub few_variables : {N : Type 0} (gs fs ls : List (syntax.Name N)) → length gs + (length fs + length ls) ≤ most_places → length (names_of gs) + length (names_of fs ++ names_of ls) ≤ 64
+pub few_variables : {N : Type 0} (gs fs ls : List (syntax.Name N)) → length gs + (length fs + length ls) ≤ most_places →
+    length (names_of gs) + length (names_of fs ++ names_of ls) ≤ 64
 few_variables gs fs ls h = omega (arith, h, length-map gs name_of, length-map fs name_of, length-map ls name_of, length-append (names_of fs) (names_of ls))

@@ -103,12 +103,15 @@ does_tests (side.Value f) (value e) s j k m ne d = record {
 }
 
 -- a flow on which no run goes on does a call that no run makes
-pub does_no_call : {A : Type 0} (f : Flow A) (p : ℕ) (es : List (Expression Place)) (k g l m : ℕ) → ((p < m → ⊥) ⊎ (g + length es ≤ most_places → ⊥)) → Does f stops g l m → Does f (calls p es k) g l m
+pub does_no_call : {A : Type 0} (f : Flow A) (p : ℕ) (es : List (Expression Place)) (k g l m : ℕ) →
+    ((p < m → ⊥) ⊎ (g + length es ≤ most_places → ⊥)) → Does f stops g l m → Does f (calls p es k) g l m
 does_no_call f p es k g l m ne d = record {
   reaches = λ v v' n wide h. absurd h;
   only = λ v i n w wide le h. absurd (true≢false (d.only v i n w wide le h).1.0);
   once = d.once;
-  enters = λ v args q n wide (is, same, to) less few. absurd (refused (subst (λ z. z < m) is less) (subst (λ z. g + z ≤ most_places) (ap length same ∙ length_values v.globals v.places es) few) ne);
+  enters = λ v args q n wide (is, same, to) less few. absurd
+      (refused (subst (λ z. z < m) is less)
+      (subst (λ z. g + z ≤ most_places) (ap length same ∙ length_values v.globals v.places es) few) ne);
   entered = λ v q e n wide h. absurd (d.entered v q e n wide h).1;
 }
   where

@@ -80,7 +80,8 @@ same_is true false h = absurd (false≢true h)
 same_is false true h = absurd (false≢true h)
 same_is false false h = refl
 
-pub rows_of_slot : (outputs s : ℕ) → all_below 64 (λ j. same (bit_of outputs j) (bit_of j s)) ≡ true → (j : ℕ) → j < most_rows → bit_of outputs j ≡ bit_of j s
+pub rows_of_slot : (outputs s : ℕ) → all_below 64 (λ j. same (bit_of outputs j) (bit_of j s)) ≡ true → (j : ℕ) →
+    j < most_rows → bit_of outputs j ≡ bit_of j s
 rows_of_slot outputs s h j less = same_is (bit_of outputs j) (bit_of j s) (below 64 (λ k. same (bit_of outputs k) (bit_of k s)) h j less)
 
 -- ---- inputs
@@ -125,7 +126,8 @@ slot_last b (x ∷ xs) = go (b == x) (slot_last b xs)
     go false r = (ap suc r.0, r.1)
 
 -- a read of the bit in this slot
-pub reads_slot : (b outputs s : ℕ) (xs : List ℕ) → slot b xs ≡ s → is_input b xs ≡ true → ((j : ℕ) → j < most_rows → bit_of outputs j ≡ bit_of j s) → Tabulates xs outputs (var b)
+pub reads_slot : (b outputs s : ℕ) (xs : List ℕ) → slot b xs ≡ s → is_input b xs ≡ true →
+    ((j : ℕ) → j < most_rows → bit_of outputs j ≡ bit_of j s) → Tabulates xs outputs (var b)
 reads_slot b outputs s xs at there right = record { reads = there; rows = λ j less. right j less ∙ ap (bit_of j) (sym at) }
 
 pub bits_pushed : (b : ℕ) (xs : List ℕ) → b < most_places → AreBits xs → AreBits (xs ++ (b ∷ []))
@@ -157,7 +159,8 @@ widened xs ys w e t = record {
 pub constant_one : (xs : List ℕ) → Tabulates xs 18446744073709551615 (const true)
 constant_one xs = record { reads = tt; rows = λ j less. ap (λ n. n == 1) (bit_at_ones 64 j less) }
 
-pub complemented : (xs : List ℕ) (w v : ℕ) (e : Expression ℕ) → ((j : ℕ) → j < most_rows → bit_of v j ≡ not (bit_of w j)) → Tabulates xs w e → Tabulates xs v (negation e)
+pub complemented : (xs : List ℕ) (w v : ℕ) (e : Expression ℕ) →
+    ((j : ℕ) → j < most_rows → bit_of v j ≡ not (bit_of w j)) → Tabulates xs w e → Tabulates xs v (negation e)
 complemented xs w v e turns t = record { reads = t.reads; rows = λ j less. turns j less ∙ ap not (t.rows j less) }
 
 pub operated : (xs ys : List ℕ) (l r w : ℕ) (o : Operator) (a b : Expression ℕ) → Widens xs ys → Tabulates xs l a → Tabulates ys r b

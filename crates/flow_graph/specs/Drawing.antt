@@ -29,4 +29,5 @@ body_of t p = numbered 1 (resolve_block (names_in t p) (proc_of p).body)
 abbrev pub Draws : {N A : Type 0} → Program N → Proc N → Graph A → Type 0
 Draws t p graph =
     (globals_of graph ≡ length (names_in t p).globals) × (start_of graph ≡ at (body_of t p))
-    × AllDo (flows_of graph) (nodes_of (body_of t p)) (length (names_in t p).globals) (length (names_in t p).locals) (length (names_in t p).procedures)
+    × AllDo (flows_of graph) (nodes_of (body_of t p)) (length (names_in t p).globals) (length (names_in t p).locals)
+    (length (names_in t p).procedures)

@@ -47,7 +47,8 @@ pub record Does {A : Type 0} (flow : Flow A) (node : Node) (g l procedures : ℕ
   pub reaches : (v v' : Valuation) (n : ℕ) → HasWidths g l v → Leads node v n v' → (i : ℕ) × (i ≤ last_of flow) × (next_of flow (code v) i ≡ Some (n, code v'))
   pub only : (v : Valuation) (i n w : ℕ) → HasWidths g l v → i ≤ last_of flow → next_of flow (code v) i ≡ Some (n, w) → (v' : Valuation) × Leads node v n v' × (w ≡ code v')
   pub once : (v : Valuation) (i j : ℕ) (x : ℕ × ℕ) → HasWidths g l v → i ≤ last_of flow → j ≤ last_of flow → next_of flow (code v) i ≡ Some x → next_of flow (code v) j ≡ Some x → i ≡ j
-  pub enters : (v : Valuation) (args : List Bool) (q n : ℕ) → HasWidths g l v → Asks node v q args n → q < procedures → g + length args ≤ most_places → entered_by flow (code v) ≡ Some (q, coded (v.globals ++ args), n)
+  pub enters : (v : Valuation) (args : List Bool) (q n : ℕ) → HasWidths g l v → Asks node v q args n → q < procedures →
+      g + length args ≤ most_places → entered_by flow (code v) ≡ Some (q, coded (v.globals ++ args), n)
   pub entered : (v : Valuation) (q e n : ℕ) → HasWidths g l v → entered_by flow (code v) ≡ Some (q, e, n) → (args : List Bool) × Asks node v q args n × (q < procedures) × (e ≡ coded (v.globals ++ args))
 
 -- each flow does what happens at its node

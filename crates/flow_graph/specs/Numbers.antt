@@ -38,7 +38,8 @@ pub data Reaches {A : Type 0} (graph : Graph A) (M : NumberedMessage → Type 0)
 pub data Sends {A : Type 0} (graph : Graph A) (q : ℕ) (M : NumberedMessage → Type 0) : ℕ → NumberedMessage → Type 0 where
   asks : (a n v s e n' : ℕ) (flow : Flow A) → Reaches graph M a n v → slice_get (flows_of graph) n ≡ Some flow →
       entered_by flow v ≡ Some (s, e, n') → Sends graph q M s (numbered_entry (caller q) e)
-  tells : (a v s : ℕ) → M (numbered_entry (caller s) a) → Reaches graph M a 0 v → Sends graph q M s (numbered_summary q a (left (globals_of graph) v))
+  tells : (a v s : ℕ) → M (numbered_entry (caller s) a) → Reaches graph M a 0 v →
+      Sends graph q M s (numbered_summary q a (left (globals_of graph) v))
 
 -- By the messages of which M holds, the graph is left with globals of the number b where it was entered with that of a.
 abbrev pub Leaves : {A : Type 0} → Graph A → (NumberedMessage → Type 0) → ℕ → ℕ → Type 0

@@ -23,16 +23,19 @@ HoldFlows {A} graph ts =
 -- with each triple at a call they hold what each summary of the call among these messages leads to
 abbrev pub HoldReturns : {A : Type 0} → Graph A → List NumberedMessage → List (ℕ × ℕ × ℕ) → Type 0
 HoldReturns {A} graph ms ts =
-    (a n v s e n' b : ℕ) (flow : Flow A) → Member (a, n, v) ts → slice_get (flows_of graph) n ≡ Some flow → entered_by flow v ≡ Some (s, e, n') →
+    (a n v s e n' b : ℕ) (flow : Flow A) → Member (a, n, v) ts → slice_get (flows_of graph) n ≡ Some flow →
+    entered_by flow v ≡ Some (s, e, n') →
     Member (numbered_summary s e b) ms → Member (a, n', resumed (globals_of graph) v b) ts
 
 -- with each triple at a call of q's the messages sent hold the entry for the procedure called
 abbrev pub HoldAsks : {A : Type 0} → Graph A → ℕ → List (ℕ × ℕ × ℕ) → List (ℕ × NumberedMessage) → Type 0
 HoldAsks {A} graph q ts sent =
-    (a n v s e n' : ℕ) (flow : Flow A) → Member (a, n, v) ts → slice_get (flows_of graph) n ≡ Some flow → entered_by flow v ≡ Some (s, e, n') →
+    (a n v s e n' : ℕ) (flow : Flow A) → Member (a, n, v) ts → slice_get (flows_of graph) n ≡ Some flow →
+    entered_by flow v ≡ Some (s, e, n') →
     Member (s, numbered_entry (caller q) e) sent
 
 -- with each triple of q's at the exit they hold the summary for each procedure that entered it so, by these messages
 abbrev pub HoldTells : {A : Type 0} → Graph A → ℕ → List NumberedMessage → List (ℕ × ℕ × ℕ) → List (ℕ × NumberedMessage) → Type 0
 HoldTells graph q ms ts sent =
-    (a v s : ℕ) → Member (numbered_entry (caller s) a) ms → Member (a, 0, v) ts → Member (s, numbered_summary q a (left (globals_of graph) v)) sent
+    (a v s : ℕ) → Member (numbered_entry (caller s) a) ms → Member (a, 0, v) ts →
+    Member (s, numbered_summary q a (left (globals_of graph) v)) sent

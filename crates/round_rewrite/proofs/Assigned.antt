@@ -101,7 +101,8 @@ drawn_writes X l tmp own (suc d) j (t ∷ ts) e =
     let ih = drawn_writes X l (with_bit tmp j t) own d (suc j) ts e in
     (ih.0, ap (written_locals (map (λ k. local (own + k)) (numbers (suc j) d)) ts) (with_right l tmp (own + j) j t (ap (λ z. z + j) (sym e))) ∙ ih.1)
 
-module _ (n last own : ℕ) (C S : List (List Bool)) (q : ℕ) (s b : Bool) (shape : Shape n last C S) (small : last < most_rounds) (within : q ≤ last) (l tmp : List Bool) (el : length l ≡ own) where
+module _ (n last own : ℕ) (C S : List (List Bool)) (q : ℕ) (s b : Bool) (shape : Shape n last C S)
+    (small : last < most_rounds) (within : q ≤ last) (l tmp : List Bool) (el : length l ≡ own) where
   abbrev pub X : List Bool
   X = lay C S (bits_of q s b)
 

@@ -25,7 +25,10 @@ two_back X L r0 r1 (x ∷ []) a = absurd a.1
 two_back X L r0 r1 (x ∷ y ∷ []) a = (x, y, refl, a.0, a.1.0)
 two_back X L r0 r1 (x ∷ y ∷ z ∷ vs) a = absurd a.1.1
 
-module _ (p : Program) (last : ℕ) (fits : FitsScopes p) (small : last < most_rounds) (w : World) (isw : IsWorld p last w) (C S : List (List Bool)) (q : ℕ) (b : Bool) (shape : Shape p.globals last C S) (within : q ≤ last) (m : Frame) (Q : State → Type 0) (single : (g : List Bool) (f f' : Frame) (fs : List Frame) → Q (state g (f ∷ f' ∷ fs)) → ⊥) where
+module _ (p : Program) (last : ℕ) (fits : FitsScopes p) (small : last < most_rounds) (w : World)
+    (isw : IsWorld p last w) (C S : List (List Bool)) (q : ℕ) (b : Bool) (shape : Shape p.globals last C S)
+    (within : q ≤ last) (m : Frame) (Q : State → Type 0)
+    (single : (g : List Bool) (f f' : Frame) (fs : List Frame) → Q (state g (f ∷ f' ∷ fs)) → ⊥) where
   abbrev pub X : List Bool
   X = lay C S (bits_of q false b)
 
@@ -83,7 +86,8 @@ module _ (p : Program) (last : ℕ) (fits : FitsScopes p) (small : last < most_r
   back_value : (own : ℕ) (l tmp : List Bool) → length l ≡ own → (r : RightSide Place) → SideInScope p.globals own r → (v : Bool) → IsValue X (l ++ tmp) (side (places p.globals last own) last r) v → IsValue (row C q) l r v
   back_value own l tmp el r h v is = subst (λ T. T) (side_is p.globals last own C S q false b (l ++ tmp) shape small within l tmp refl el r h v) is
 
-  fail_writes : (x y : Bool) → x ≡ true → y ≡ true → with_bit (with_bit X (bad_at p.globals last) x) (stop_at p.globals last) y ≡ lay C S (bits_of q true true)
+  fail_writes : (x y : Bool) → x ≡ true → y ≡ true →
+      with_bit (with_bit X (bad_at p.globals last) x) (stop_at p.globals last) y ≡ lay C S (bits_of q true true)
   fail_writes x y ex ey =
       ap₂ (λ u v. with_bit (with_bit X (bad_at p.globals last) u) (stop_at p.globals last) v) ex ey
       ∙ (ap (λ z. with_bit z (stop_at p.globals last) true) (bits_with p.globals last C S (bits_of q false b) 3 true shape)
@@ -91,7 +95,8 @@ module _ (p : Program) (last : ℕ) (fits : FitsScopes p) (small : last < most_r
 
   fail_code : Code → Code
   fail_code t =
-      one plain (assign (global (bad_at p.globals last) ∷ global (stop_at p.globals last) ∷ []) (value (const true) ∷ value (const true) ∷ []))
+      one plain (assign (global (bad_at p.globals last) ∷ global (stop_at p.globals last) ∷ [])
+      (value (const true) ∷ value (const true) ∷ []))
       (one plain leave t)
 
   assert_back : (N c own : ℕ) (l tmp : List Bool) (k : Mark Label) (r : RightSide Place) (t : Code) (bs : List Both) (v : Bool) → Good p last (both c own l tmp (one k (assert r) t)) → AllGood p last bs → IsValue X (l ++ tmp) (side (places p.globals last own) last r) v → PlainAfter w N (state X (frame (suc c) (l ++ tmp) (cond v (one plain skip (put_rest p last own t)) (fail_code (put_rest p last own t))) ∷ callers p last bs m)) Q → Begins N c l tmp (one k (assert r) t) bs
@@ -108,7 +113,8 @@ module _ (p : Program) (last : ℕ) (fits : FitsScopes p) (small : last < most_r
       let rest : Code = one plain leave (put_rest p last own t) in
       let (n1, e1, r1) = unstep w Q N X (frame (suc c) (l ++ tmp) (fail_code (put_rest p last own t))) fs (never_below bs) run in
       let (x, y, ex, ix, iy) = two_back X (l ++ tmp) (value (const true)) (value (const true)) r1.0 r1.1 in
-      let r2 : PlainAfter w n1 (state (with_bit (with_bit X (bad_at p.globals last) x) (stop_at p.globals last) y) (frame (suc c) (l ++ tmp) rest ∷ fs)) Q =
+      let r2 : PlainAfter w n1 (state (with_bit (with_bit X (bad_at p.globals last) x) (stop_at p.globals last) y)
+      (frame (suc c) (l ++ tmp) rest ∷ fs)) Q =
       subst (λ vs. PlainAfter w n1 (state (written_globals two vs X) (frame (suc c) (written_locals two vs (l ++ tmp)) rest ∷ fs)) Q) ex r1.2 in
       let r3 : PlainAfter w n1 (state (lay C S (bits_of q true true)) (frame (suc c) (l ++ tmp) rest ∷ fs)) Q =
       subst (λ z. PlainAfter w n1 (state z (frame (suc c) (l ++ tmp) rest ∷ fs)) Q) (fail_writes x y ix iy) r2 in

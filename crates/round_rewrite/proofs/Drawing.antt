@@ -45,7 +45,8 @@ module _ (w : World) (n last own c : ℕ) (fs : List Frame) (Q : State → Type 
             (subst (λ z. PlainAfter w m (state z (frame c (written_locals (map (λ k. local (own + k)) (numbers 0 (suc d))) ts (l ++ tmp)) t ∷ fs)) Q) eg k.2),
       )
 
-  module _ (C S : List (List Bool)) (q : ℕ) (b : Bool) (shape : Shape n last C S) (small : last < most_rounds) (within : q ≤ last) (l tmp : List Bool) (el : length l ≡ own) where
+  module _ (C S : List (List Bool)) (q : ℕ) (b : Bool) (shape : Shape n last C S) (small : last < most_rounds)
+      (within : q ≤ last) (l tmp : List Bool) (el : length l ≡ own) where
     -- the globals where the round's copy is h
     abbrev pub turned : List Bool → List Bool
     turned h = lay (with_row C q h) S (bits_of q false b)

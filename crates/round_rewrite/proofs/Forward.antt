@@ -77,7 +77,9 @@ call_good p last q r vs fits e short =
       fits = body_fits p q r (length (zeros (temporaries is_global r.body))) fits e room;
     }
 
-module _ (p : Program) (last : ℕ) (fits : FitsScopes p) (small : last < most_rounds) (w : World) (isw : IsWorld p last w) (C S : List (List Bool)) (q : ℕ) (b : Bool) (shape : Shape p.globals last C S) (within : q ≤ last) (m : Frame) where
+module _ (p : Program) (last : ℕ) (fits : FitsScopes p) (small : last < most_rounds) (w : World)
+    (isw : IsWorld p last w) (C S : List (List Bool)) (q : ℕ) (b : Bool) (shape : Shape p.globals last C S)
+    (within : q ≤ last) (m : Frame) where
   abbrev pub X : List Bool
   X = lay C S (bits_of q false b)
 

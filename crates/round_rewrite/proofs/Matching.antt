@@ -31,7 +31,9 @@ not_before [] x rest h = refl
 not_before (p ∷ pre) x rest h =
     ap (λ c. cond c true (is_declared x.text pre)) (same_text_other p.text x.text (not_later p.text pre x rest h.0)) ∙ not_before pre x rest h.1
 
-module _ (t : Tree) (gs ps : List Name) (last : ℕ) (gs_free : AreFree gs) (distinct : AreDistinct gs) (few : 0 ≤ most_places) (small : last < most_rounds) (ps' : List Name) (called : (q : Name) → is_declared q.text ps ≡ true → number_of q.text ps' ≡ suc (number_of q.text ps)) where
+module _ (t : Tree) (gs ps : List Name) (last : ℕ) (gs_free : AreFree gs) (distinct : AreDistinct gs)
+    (few : 0 ≤ most_places) (small : last < most_rounds) (ps' : List Name)
+    (called : (q : Name) → is_declared q.text ps ≡ true → number_of q.text ps' ≡ suc (number_of q.text ps)) where
   abbrev n : ℕ
   n = length gs
 

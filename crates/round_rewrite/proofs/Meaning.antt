@@ -82,7 +82,8 @@ module _ (t : Tree) (last : ℕ) (ok : IsRewritable t) (small : last < most_roun
   few_drawn : (p : Procedure) → width t' (rewritten_procedure last p) ≤ most_places → drawn_of p ≤ most_places
   few_drawn p h = let e : length (p.formals ++ (p.locals ++ temps_of p)) ≡ length (own_of p) + drawn_of p = length-own p in omega arith
 
-  routine_is : (p : Procedure) → ProcedureRewritable t p → width t' (rewritten_procedure last p) ≤ most_places → routine_of t' (rewritten_procedure last p) ≡ rewritten_routine (length gs) last (routine_of t p)
+  routine_is : (p : Procedure) → ProcedureRewritable t p → width t' (rewritten_procedure last p) ≤ most_places →
+      routine_of t' (rewritten_procedure last p) ≡ rewritten_routine (length gs) last (routine_of t p)
   routine_is p h narrow =
       let own : List Name = own_of p in
       let d : ℕ = drawn_of p in
@@ -95,7 +96,10 @@ module _ (t : Tree) (last : ℕ) (ok : IsRewritable t) (small : last < most_roun
       ap (λ l. resolve_block (record { globals = t'.globals; locals = l; procedures = ps' }) (rewritten (names own) last p.body)) (sym (append_assoc p.formals p.locals (temps_of p))) in
       λ i. record { places = (length-own p ∙ ap (λ z. length own + z) counts) i; body = (scoped ∙ bodies) i }
 
-  routines_are : (procs : List Procedure) → EachProcedure (ProcedureRewritable t) procs → EachProcedure (λ (p : Procedure). width t' p ≤ most_places) (map (rewritten_procedure last) procs) → map (routine_of t') (map (rewritten_procedure last) procs) ≡ map (rewritten_routine (length gs) last) (map (routine_of t) procs)
+  routines_are : (procs : List Procedure) → EachProcedure (ProcedureRewritable t) procs →
+      EachProcedure (λ (p : Procedure). width t' p ≤ most_places) (map (rewritten_procedure last) procs) →
+      map (routine_of t') (map (rewritten_procedure last) procs) ≡ map (rewritten_routine (length gs) last)
+      (map (routine_of t) procs)
   routines_are [] h narrow = refl
   routines_are (p ∷ procs) h narrow = ap₂ (λ a b. a ∷ b) (routine_is p h.0 narrow.0) (routines_are procs h.1 narrow.1)
 
@@ -197,12 +201,14 @@ module _ (t : Tree) (last : ℕ) (ok : IsRewritable t) (small : last < most_roun
 
   bad_number : number_of (codes "bad__") t'.globals ≡ bad_at (length gs) last
   bad_number =
-      let e : global (number_of (codes "bad__") t'.globals) ≡ global (bad_at (length gs) last) = bad_place gs [] ps 0 last ok.globals tt (omega arith) small ps' in
+      let e : global (number_of (codes "bad__") t'.globals) ≡ global (bad_at (length gs) last) =
+      bad_place gs [] ps 0 last ok.globals tt (omega arith) small ps' in
       cc
 
   pub keeps_tree : IsNarrow last t → KeepsTree last t
   keeps_tree narrow =
       let k : Keeps last (meaning_of t) = keeps (meaning_of t) last fits_scopes small in
-      let same : SomeBad (in_text_order (rewritten_program last (meaning_of t))) (bad_at (length gs) last) ≡ SomeBad (sequential_of t') (number_of (codes "bad__") t'.globals) =
+      let same : SomeBad (in_text_order (rewritten_program last (meaning_of t))) (bad_at (length gs) last) ≡ SomeBad
+      (sequential_of t') (number_of (codes "bad__") t'.globals) =
       ap₂ (λ p b. SomeBad (in_text_order p) b) (sym (meaning_is narrow)) (sym bad_number) in
       ((λ u. subst (λ T. T) same (k.0 u)), (λ b. k.1 (subst (λ T. T) (sym same) b)))

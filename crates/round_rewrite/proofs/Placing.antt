@@ -30,7 +30,9 @@ no_temporary : (t : List ℕ) (j d : ℕ) → ((i : ℕ) → same_text t (drawn_
 no_temporary t j zero h = refl
 no_temporary t j (suc d) h = ap (λ c. cond c true (is_declared t (map drawn_name (numbers (suc j) d)))) (h j) ∙ no_temporary t (suc j) d h
 
-the_temporary : (e j d : ℕ) → e < d → j + d ≤ most_places → (is_declared (drawn_name (j + e)).text (map drawn_name (numbers j d)) ≡ true) × (number_of (drawn_name (j + e)).text (map drawn_name (numbers j d)) ≡ e)
+the_temporary : (e j d : ℕ) → e < d → j + d ≤ most_places →
+    (is_declared (drawn_name (j + e)).text (map drawn_name (numbers j d)) ≡ true) ×
+    (number_of (drawn_name (j + e)).text (map drawn_name (numbers j d)) ≡ e)
 the_temporary e j zero lt all = absurd (omega arith)
 the_temporary zero j (suc d) lt all =
     let z : j + zero ≡ j = omega arith in
@@ -50,7 +52,8 @@ pub length-numbers : (j d : ℕ) → length (numbers j d) ≡ d
 length-numbers j zero = refl
 length-numbers j (suc d) = ap suc (length-numbers (suc j) d)
 
-module _ (gs own ps : List Name) (d last : ℕ) (gs_free : AreFree gs) (own_free : AreFree own) (few : d ≤ most_places) (small : last < most_rounds) where
+module _ (gs own ps : List Name) (d last : ℕ) (gs_free : AreFree gs) (own_free : AreFree own) (few : d ≤ most_places)
+    (small : last < most_rounds) where
   w : Naming Name Name Name Name
   w = names []
 
@@ -89,7 +92,8 @@ module _ (gs own ps : List Name) (d last : ℕ) (gs_free : AreFree gs) (own_free
   as_global : (ps' : List Name) (x : Name) (i j : ℕ) → is_declared x.text (own ++ temps) ≡ false → number_of x.text (globals (names []) last gs) ≡ i → i ≡ j → place_of (wider ps') x ≡ global j
   as_global ps' x i j h e e' = ap (λ c. cond c (local (number_of x.text (own ++ temps))) (global (number_of x.text (globals (names []) last gs)))) h ∙ ap global (e ∙ e')
 
-  digit_not_t : (k : ℕ) → k < most_rounds → (t r : List ℕ) (x : List ℕ) → has_double x ≡ false → x ++ 95 ∷ 95 ∷ decimal (suc k) ≡ 116 ∷ 109 ∷ 112 ∷ 95 ∷ 95 ∷ 116 ∷ r → ⊥
+  digit_not_t : (k : ℕ) → k < most_rounds → (t r : List ℕ) (x : List ℕ) → has_double x ≡ false →
+      x ++ 95 ∷ 95 ∷ decimal (suc k) ≡ 116 ∷ 109 ∷ 112 ∷ 95 ∷ 95 ∷ 116 ∷ r → ⊥
   digit_not_t k h t r x free e = no_drawn x (49 + k) [] r free (λ z. omega arith) (ap (λ y. x ++ 95 ∷ 95 ∷ y) (sym (digit_is k h)) ∙ e)
 
   pub copy_place : (ps' : List Name) (x : Name) (k : ℕ) → k ≤ last → is_declared x.text own ≡ false → is_declared x.text gs ≡ true → place_of (wider ps') (copy_name k x) ≡ copy_at (length gs) k (place_of scope x)

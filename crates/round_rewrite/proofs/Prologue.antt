@@ -29,7 +29,8 @@ pub not_true : (x : Bool) → true ≡ not x → x ≡ false
 not_true true e = cc
 not_true false e = refl
 
-module _ (w : World) (n last own : ℕ) (C S : List (List Bool)) (shape : Shape n last C S) (small : last < most_rounds) (c : ℕ) (L : List Bool) (fs : List Frame) (Q : State → Type 0) where
+module _ (w : World) (n last own : ℕ) (C S : List (List Bool)) (shape : Shape n last C S) (small : last < most_rounds)
+    (c : ℕ) (L : List Bool) (fs : List Frame) (Q : State → Type 0) where
   abbrev pub now : ℕ → Bool → Bool → List Bool
   now q s b = lay C S (bits_of q s b)
 
@@ -60,13 +61,16 @@ module _ (w : World) (n last own : ℕ) (C S : List (List Bool)) (shape : Shape 
   pub prologue_goes : (q : ℕ) (b : Bool) (t : Code) → Leads w (on (now q false b) t) Q → Leads w (on (now q false b) (prologue (places n last own) last plain t)) Q
   prologue_goes q b t (m, h) = (suc (suc (suc (suc (suc m)))), (false, tt, (false, tt, (false, sym (stop_is q false b), h))))
 
-  rise_writes : (q : ℕ) (b x y : Bool) → x ≡ high (suc q) → y ≡ low (suc q) → with_bit (with_bit (now q false b) (high_at n last) x) (low_at n last) y ≡ now (suc q) false b
+  rise_writes : (q : ℕ) (b x y : Bool) → x ≡ high (suc q) → y ≡ low (suc q) →
+      with_bit (with_bit (now q false b) (high_at n last) x) (low_at n last) y ≡ now (suc q) false b
   rise_writes q b x y ex ey =
       ap (λ z. with_bit z (low_at n last) y) (bits_with n last C S (bits_of q false b) 0 x shape)
       ∙ (bits_with n last C S (x ∷ low q ∷ false ∷ b ∷ []) 1 y shape
       ∙ ap₂ (λ u v. lay C S (u ∷ v ∷ false ∷ b ∷ [])) ex ey)
 
-  high_is : (q : ℕ) (b : Bool) → q < 3 → cond (bit (now q false b) (high_at n last)) (not (bit (now q false b) (low_at n last))) (bit (now q false b) (low_at n last)) ≡ high (suc q)
+  high_is : (q : ℕ) (b : Bool) → q < 3 →
+      cond (bit (now q false b) (high_at n last)) (not (bit (now q false b) (low_at n last)))
+      (bit (now q false b) (low_at n last)) ≡ high (suc q)
   high_is q b h =
       ap₂ (λ x y. cond x (not y) y) (bits_bit n last C S (bits_of q false b) 0 shape) (bits_bit n last C S (bits_of q false b) 1 shape)
       ∙ sym (high_next q h)
@@ -136,12 +140,18 @@ module _ (w : World) (n last own : ℕ) (C S : List (List Bool)) (shape : Shape 
       (stop_test (places n last own) last t)
 
   -- after the loop: stop or not
-  exits_stop : Never Q fs → (N q : ℕ) (b v : Bool) (t : Code) → PlainAfter w N (on (now q false b) (cond v (one plain (assign (global (stop_at n last) ∷ []) (value (const true) ∷ [])) (stop_test (places n last own) last t)) (one plain skip (stop_test (places n last own) last t)))) Q → Exits N q b t
+  exits_stop : Never Q fs → (N q : ℕ) (b v : Bool) (t : Code) →
+      PlainAfter w N (on (now q false b)
+      (cond v (one plain (assign (global (stop_at n last) ∷ []) (value (const true) ∷ []))
+      (stop_test (places n last own) last t)) (one plain skip (stop_test (places n last own) last t)))) Q → Exits N q b t
   exits_stop never N q b true t h =
       let (m, e, k) = unstep w Q N _ _ fs never h in
       let (x, ex, ix) = one_back (now q false b) (value (const true)) k.0 k.1 in
-      let k' : PlainAfter w m (state (written_globals (global (stop_at n last) ∷ []) (x ∷ []) (now q false b)) (frame c L (stop_test (places n last own) last t) ∷ fs)) Q =
-      subst (λ vs. PlainAfter w m (state (written_globals (global (stop_at n last) ∷ []) vs (now q false b)) (frame c (written_locals (global (stop_at n last) ∷ []) vs L) (stop_test (places n last own) last t) ∷ fs)) Q) ex k.2 in
+      let k' : PlainAfter w m (state (written_globals (global (stop_at n last) ∷ []) (x ∷ []) (now q false b))
+      (frame c L (stop_test (places n last own) last t) ∷ fs)) Q =
+      subst (λ vs. PlainAfter w m (state (written_globals (global (stop_at n last) ∷ []) vs (now q false b))
+      (frame c (written_locals (global (stop_at n last) ∷ []) vs L) (stop_test (places n last own) last t) ∷ fs)) Q)
+      ex k.2 in
       let write : with_bit (now q false b) (stop_at n last) x ≡ now q true b =
       ap (with_bit (now q false b) (stop_at n last)) ix ∙ bits_with n last C S (bits_of q false b) 2 true shape in
       stopped (later w Q (on (now q true b) done) N m e (stop_back never m q true b t (subst (λ z. PlainAfter w m (on z (stop_test (places n last own) last t)) Q) write k')))
@@ -161,15 +171,20 @@ module _ (w : World) (n last own : ℕ) (C S : List (List Bool)) (shape : Shape 
       let X : List Bool = now q false b in
       let (m, e, k) = unstep w Q N _ _ fs never h in
       let (m1, e1, k1) = unstep w Q m _ _ fs never k.1 in
-      let (x, y, ex, ix, iy) = raised_back N q b t X (value (two xor (var (global (high_at n last))) (var (global (low_at n last))))) (value (negation (var (global (low_at n last))))) (global 0) (global 0) k1.0 k1.1 in
+      let (x, y, ex, ix, iy) = raised_back N q b t X
+      (value (two xor (var (global (high_at n last))) (var (global (low_at n last)))))
+      (value (negation (var (global (low_at n last))))) (global 0) (global 0) k1.0 k1.1 in
       let free : same last q ≡ false =
       sym (at_is n last own C S q false b L shape small within last (omega arith)) ∙ not_true (value_of X L (at (places n last own) last last)) k.0 in
       let lt : q < last = elim (cases_eq q last) [
         | inl eq ↦ absurd (let bad : true ≡ false = sym (ap (same last) eq ∙ same_refl last) ∙ free in cc)
         | inr ne ↦ omega arith
       ] in
-      let k' : PlainAfter w m1 (state (with_bit (with_bit X (high_at n last) x) (low_at n last) y) (frame c L (prologue (places n last own) last plain t) ∷ fs)) Q =
-      subst (λ vs. PlainAfter w m1 (state (written_globals (global (high_at n last) ∷ global (low_at n last) ∷ []) vs X) (frame c (written_locals (global (high_at n last) ∷ global (low_at n last) ∷ []) vs L) (prologue (places n last own) last plain t) ∷ fs)) Q) ex k1.2 in
+      let k' : PlainAfter w m1 (state (with_bit (with_bit X (high_at n last) x) (low_at n last) y)
+      (frame c L (prologue (places n last own) last plain t) ∷ fs)) Q =
+      subst (λ vs. PlainAfter w m1 (state (written_globals (global (high_at n last) ∷ global (low_at n last) ∷ []) vs X)
+      (frame c (written_locals (global (high_at n last) ∷ global (low_at n last) ∷ []) vs L)
+      (prologue (places n last own) last plain t) ∷ fs)) Q) ex k1.2 in
       let write : with_bit (with_bit X (high_at n last) x) (low_at n last) y ≡ now (suc q) false b =
       rise_writes q b x y (ix ∙ high_is q b (omega arith)) (iy ∙ low_is q b (omega arith)) in
       rose lt (m1, omega arith, subst (λ z. PlainAfter w m1 (on z (prologue (places n last own) last plain t)) Q) write k')
@@ -177,7 +192,13 @@ module _ (w : World) (n last own : ℕ) (C S : List (List Bool)) (shape : Shape 
       let (m, e, k) = unstep w Q N _ _ fs never h in
       shorter N m q b t e (exits_stop never m q b k.0 t (branches m q b k.0 t k.2))
     where
-      branches : (m q : ℕ) (b v : Bool) (t : Code) → PlainAfter w m (on (now q false b) (cond v (join (one plain (assign (global (stop_at n last) ∷ []) (value (const true) ∷ [])) done) (stop_test (places n last own) last t)) (join (one plain skip done) (stop_test (places n last own) last t)))) Q → PlainAfter w m (on (now q false b) (cond v (one plain (assign (global (stop_at n last) ∷ []) (value (const true) ∷ [])) (stop_test (places n last own) last t)) (one plain skip (stop_test (places n last own) last t)))) Q
+      branches : (m q : ℕ) (b v : Bool) (t : Code) →
+          PlainAfter w m (on (now q false b)
+          (cond v (join (one plain (assign (global (stop_at n last) ∷ []) (value (const true) ∷ [])) done)
+          (stop_test (places n last own) last t)) (join (one plain skip done) (stop_test (places n last own) last t))))
+          Q → PlainAfter w m (on (now q false b)
+          (cond v (one plain (assign (global (stop_at n last) ∷ []) (value (const true) ∷ []))
+          (stop_test (places n last own) last t)) (one plain skip (stop_test (places n last own) last t)))) Q
       branches m q b v t h = h
 
   -- every run from a prologue rises, goes on or stops

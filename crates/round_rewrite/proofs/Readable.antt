@@ -194,7 +194,8 @@ module _ (own : List Name) (last d : ℕ) (small : last < most_rounds) (few : d 
         block_in_grammar k h.4 (omega arith),
       )
 
-procedures_in_grammar : (last : ℕ) → last < most_rounds → (ps : List Procedure) → AreFew ps → AllByRecursion ProcedureInGrammar ps → AllByRecursion ProcedureInGrammar (map (rewritten_procedure last) ps)
+procedures_in_grammar : (last : ℕ) → last < most_rounds → (ps : List Procedure) → AreFew ps →
+    AllByRecursion ProcedureInGrammar ps → AllByRecursion ProcedureInGrammar (map (rewritten_procedure last) ps)
 procedures_in_grammar last small [] few h = tt
 procedures_in_grammar last small (p ∷ ps) few h =
     let own : List Name = p.formals ++ p.locals in
@@ -211,7 +212,8 @@ procedures_in_grammar last small (p ∷ ps) few h =
 
 -- the globals, and the first procedure
 module _ (last : ℕ) (small : last < most_rounds) where
-  rows_ids : (write : ℕ → Name → Name) → ((k : ℕ) (x : Name) → k < most_rounds → IsId x → IsId (write k x)) → (xs : List Name) → Each IsId xs → (j m : ℕ) → j + m ≤ 4 → Each IsId (copied (names []) last write xs (numbers j m))
+  rows_ids : (write : ℕ → Name → Name) → ((k : ℕ) (x : Name) → k < most_rounds → IsId x → IsId (write k x)) →
+      (xs : List Name) → Each IsId xs → (j m : ℕ) → j + m ≤ 4 → Each IsId (copied (names []) last write xs (numbers j m))
   rows_ids write f xs h j zero le = tt
   rows_ids write f xs h j (suc m) le =
       each_both IsId (map (write j) xs) (copied (names []) last write xs (numbers (suc j) m))
@@ -227,14 +229,18 @@ module _ (last : ℕ) (small : last < most_rounds) where
       (each_both IsId (A ++ B) bits (each_both IsId A B (rows_ids copy_name copy_id xs h 0 (suc last) (omega arith)) (rows_ids save_name save_id xs h 1 last (omega arith))) (high_id, (low_id, tt)))
       (stop_id, (bad_id, tt))
 
-  reads_ids : (k : ℕ) (xs : List Name) → k < most_rounds → Each IsId xs → Each IsId (variables_of_sides (map (λ y. value (var (copy_name k y))) xs))
+  reads_ids : (k : ℕ) (xs : List Name) → k < most_rounds → Each IsId xs →
+      Each IsId (variables_of_sides (map (λ y. value (var (copy_name k y))) xs))
   reads_ids k [] lt h = tt
   reads_ids k (x ∷ xs) lt h = (copy_id k x lt h.0, reads_ids k xs lt h.1)
 
-  guess_in_grammar : (xs : List Name) (k : ℕ) (b : Block Name Name Name) → k < most_rounds → Each IsId xs → BlockInGrammar b → BlockInGrammar (guess (names []) last xs k b)
+  guess_in_grammar : (xs : List Name) (k : ℕ) (b : Block Name Name Name) → k < most_rounds → Each IsId xs →
+      BlockInGrammar b → BlockInGrammar (guess (names []) last xs k b)
   guess_in_grammar [] k b lt h g = g
   guess_in_grammar (x ∷ xs) k b lt h g =
-      let written : (write : ℕ → Name → Name) → ((k : ℕ) (x : Name) → k < most_rounds → IsId x → IsId (write k x)) → Each IsId (map (write k) (x ∷ xs)) = λ write f. written_each IsId IsId (write k) (x ∷ xs) (λ y i. f k y lt i) h in (
+      let written : (write : ℕ → Name → Name) → ((k : ℕ) (x : Name) → k < most_rounds → IsId x → IsId (write k x)) →
+      Each IsId (map (write k) (x ∷ xs)) =
+      λ write f. written_each IsId IsId (write k) (x ∷ xs) (λ y i. f k y lt i) h in (
         tt,
         assign_in_grammar (map (copy_name k) (x ∷ xs)) (map (λ y. any) (x ∷ xs)) (omega arith) (length-map (x ∷ xs) (copy_name k) ∙ sym (length-map {B = RightSide Name} (x ∷ xs) (λ y. any))) (written copy_name copy_id) (any_uses IsId (x ∷ xs)),
         (
@@ -256,7 +262,8 @@ module _ (last : ℕ) (small : last < most_rounds) where
     (tt, (s.0, tt), starts_in_grammar lines b s.1 g),
   )
 
-  check_in_grammar : (xs : List Name) (k : ℕ) (b : Block Name Name Name) → suc k < most_rounds → Each IsId xs → BlockInGrammar b → BlockInGrammar (check (names []) last xs k b)
+  check_in_grammar : (xs : List Name) (k : ℕ) (b : Block Name Name Name) → suc k < most_rounds → Each IsId xs →
+      BlockInGrammar b → BlockInGrammar (check (names []) last xs k b)
   check_in_grammar [] k b lt h g = g
   check_in_grammar (x ∷ xs) k b lt h g = (tt, (save_id (suc k) x lt h.0, copy_id k x (omega arith) h.0), check_in_grammar xs k b lt h.1 g)
 

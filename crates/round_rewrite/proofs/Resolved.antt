@@ -37,7 +37,9 @@ literal_resolved : (s : Scope) (m : ℕ) (x : Name) → resolve_expression s (li
 literal_resolved s zero x = refl
 literal_resolved s (suc m) x = refl
 
-module _ (t : Tree) (gs own ps : List Name) (d last : ℕ) (gs_free : AreFree gs) (own_free : AreFree own) (few : d ≤ most_places) (small : last < most_rounds) (ps' : List Name) (called : (q : Name) → is_declared q.text ps ≡ true → number_of q.text ps' ≡ suc (number_of q.text ps)) where
+module _ (t : Tree) (gs own ps : List Name) (d last : ℕ) (gs_free : AreFree gs) (own_free : AreFree own)
+    (few : d ≤ most_places) (small : last < most_rounds) (ps' : List Name)
+    (called : (q : Name) → is_declared q.text ps ≡ true → number_of q.text ps' ≡ suc (number_of q.text ps)) where
   abbrev pub s : Scope
   s = scope gs own ps d last gs_free own_free few small
 

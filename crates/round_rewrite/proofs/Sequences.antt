@@ -101,12 +101,14 @@ procedure_at t q r e = go t.procedures q e
     go (x ∷ ps) (suc q) e = go ps q e
 
 -- in a narrow tree the globals and the places of each procedure are at most 64
-pub narrow_places : (t : Tree) → AllNarrow t → (q : ℕ) (r : Routine) → slice_get (sequential_of t).routines q ≡ Some r → (sequential_of t).globals + r.places ≤ most_places
+pub narrow_places : (t : Tree) → AllNarrow t → (q : ℕ) (r : Routine) → slice_get (sequential_of t).routines q ≡ Some r →
+    (sequential_of t).globals + r.places ≤ most_places
 narrow_places t narrow q r e =
     let (p, is, same) = procedure_at t q r e in
     subst (λ (z : Routine). length t.globals + z.places ≤ most_places) (sym same) (go t.procedures q p narrow is)
   where
-    go : (ps : List Procedure) (q : ℕ) (p : Procedure) → EachProcedure (λ (p : Procedure). width t p ≤ most_places) ps → slice_get ps q ≡ Some p → width t p ≤ most_places
+    go : (ps : List Procedure) (q : ℕ) (p : Procedure) → EachProcedure (λ (p : Procedure). width t p ≤ most_places) ps →
+        slice_get ps q ≡ Some p → width t p ≤ most_places
     go [] q p h e = absurd (none-some p e)
     go (x ∷ ps) zero p h e = subst (λ y. width t y ≤ most_places) (same_Some x p e) h.0
     go (x ∷ ps) (suc q) p h e = go ps q p h.1 e

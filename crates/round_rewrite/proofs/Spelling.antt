@@ -68,17 +68,20 @@ copy_text x k h = ap (λ d. x ++ 95 ∷ 95 ∷ d) (digit_is k h) ∙ sym (append
 pub save_text : (x : List ℕ) (k : ℕ) → k < most_rounds → x ++ 95 ∷ 95 ∷ 115 ∷ decimal (suc k) ≡ (x ++ 95 ∷ 95 ∷ 115 ∷ []) ++ (49 + k) ∷ []
 save_text x k h = ap (λ d. x ++ 95 ∷ 95 ∷ 115 ∷ d) (digit_is k h) ∙ sym (append_assoc x (95 ∷ 95 ∷ 115 ∷ []) ((49 + k) ∷ []))
 
-pub copies_differ : (x y : List ℕ) (k j : ℕ) → k < most_rounds → j < most_rounds → (k ≡ j → ⊥) → same_text (x ++ 95 ∷ 95 ∷ decimal (suc k)) (y ++ 95 ∷ 95 ∷ decimal (suc j)) ≡ false
+pub copies_differ : (x y : List ℕ) (k j : ℕ) → k < most_rounds → j < most_rounds → (k ≡ j → ⊥) →
+    same_text (x ++ 95 ∷ 95 ∷ decimal (suc k)) (y ++ 95 ∷ 95 ∷ decimal (suc j)) ≡ false
 copies_differ x y k j hk hj ne = same_text_false _ _ (λ e.
     let last = snoc_last (x ++ 95 ∷ 95 ∷ []) (y ++ 95 ∷ 95 ∷ []) (49 + k) (49 + j) (sym (copy_text x k hk) ∙ (e ∙ copy_text y j hj)) in
     ne (let z : 49 + k ≡ 49 + j = last.0 in omega arith))
 
-pub saves_differ : (x y : List ℕ) (k j : ℕ) → k < most_rounds → j < most_rounds → (k ≡ j → ⊥) → same_text (x ++ 95 ∷ 95 ∷ 115 ∷ decimal (suc k)) (y ++ 95 ∷ 95 ∷ 115 ∷ decimal (suc j)) ≡ false
+pub saves_differ : (x y : List ℕ) (k j : ℕ) → k < most_rounds → j < most_rounds → (k ≡ j → ⊥) →
+    same_text (x ++ 95 ∷ 95 ∷ 115 ∷ decimal (suc k)) (y ++ 95 ∷ 95 ∷ 115 ∷ decimal (suc j)) ≡ false
 saves_differ x y k j hk hj ne = same_text_false _ _ (λ e.
     let last = snoc_last (x ++ 95 ∷ 95 ∷ 115 ∷ []) (y ++ 95 ∷ 95 ∷ 115 ∷ []) (49 + k) (49 + j) (sym (save_text x k hk) ∙ (e ∙ save_text y j hj)) in
     ne (let z : 49 + k ≡ 49 + j = last.0 in omega arith))
 
-pub save_no_copy : (x y : List ℕ) (k j : ℕ) → k < most_rounds → j < most_rounds → same_text (x ++ 95 ∷ 95 ∷ 115 ∷ decimal (suc k)) (y ++ 95 ∷ 95 ∷ decimal (suc j)) ≡ false
+pub save_no_copy : (x y : List ℕ) (k j : ℕ) → k < most_rounds → j < most_rounds →
+    same_text (x ++ 95 ∷ 95 ∷ 115 ∷ decimal (suc k)) (y ++ 95 ∷ 95 ∷ decimal (suc j)) ≡ false
 save_no_copy x y k j hk hj = same_text_false _ _ (λ e.
     let r = snoc_last (x ++ 95 ∷ 95 ∷ 115 ∷ []) (y ++ 95 ∷ 95 ∷ []) (49 + k) (49 + j) (sym (save_text x k hk) ∙ (e ∙ copy_text y j hj)) in
     let r2 = snoc_last (x ++ 95 ∷ 95 ∷ []) (y ++ 95 ∷ []) 115 95 (append_assoc x (95 ∷ 95 ∷ []) (115 ∷ []) ∙ (r.1 ∙ sym (append_assoc y (95 ∷ []) (95 ∷ [])))) in
@@ -96,7 +99,9 @@ low_no_save a y j hj = same_text_false _ _ (λ e.
     let z : 95 ≡ 49 + j = r.0 in omega arith)
 
 -- temporaries differ from one another
-pub drawn_differ : (i j : ℕ) → i < most_places → j < most_places → (i ≡ j → ⊥) → same_text (116 ∷ 109 ∷ 112 ∷ 95 ∷ 95 ∷ 116 ∷ decimal (suc i)) (116 ∷ 109 ∷ 112 ∷ 95 ∷ 95 ∷ 116 ∷ decimal (suc j)) ≡ false
+pub drawn_differ : (i j : ℕ) → i < most_places → j < most_places → (i ≡ j → ⊥) →
+    same_text (116 ∷ 109 ∷ 112 ∷ 95 ∷ 95 ∷ 116 ∷ decimal (suc i))
+    (116 ∷ 109 ∷ 112 ∷ 95 ∷ 95 ∷ 116 ∷ decimal (suc j)) ≡ false
 drawn_differ i j hi hj ne = same_text_false (116 ∷ 109 ∷ 112 ∷ 95 ∷ 95 ∷ 116 ∷ decimal (suc i)) (116 ∷ 109 ∷ 112 ∷ 95 ∷ 95 ∷ 116 ∷ decimal (suc j)) (λ e.
     let t : decimal (suc i) ≡ decimal (suc j) = append_cancel_left (116 ∷ 109 ∷ 112 ∷ 95 ∷ 95 ∷ 116 ∷ []) (decimal (suc i)) (decimal (suc j)) e in
     ne (let z : suc i ≡ suc j = decimal_injective (suc i) (suc j) (omega arith) (omega arith) t in omega arith))

@@ -53,7 +53,8 @@ abbrev first_frame : ℕ → Option Routine → List Frame
 first_frame c None = []
 first_frame c (Some r) = frame c (zeros r.places) r.body ∷ []
 
-module _ (p : Program) (last : ℕ) (fits : FitsScopes p) (small : last < most_rounds) (w : World) (isw : IsWorld p last w) (S : List (List Bool)) (s_long : Long p.globals S) (s_length : length S ≡ last) where
+module _ (p : Program) (last : ℕ) (fits : FitsScopes p) (small : last < most_rounds) (w : World)
+    (isw : IsWorld p last w) (S : List (List Bool)) (s_long : Long p.globals S) (s_length : length S ≡ last) where
   abbrev naming : Naming Place Place ℕ ℕ
   naming = places p.globals last 0
 
@@ -75,9 +76,12 @@ module _ (p : Program) (last : ℕ) (fits : FitsScopes p) (small : last < most_r
   abbrev zero_sides : List (RightSide Place)
   zero_sides = value (const false) ∷ value (const false) ∷ value (const false) ∷ []
 
-  zero_writes : (G : List (List Bool)) → Shape p.globals last G S → (q : ℕ) (s b : Bool) → with_bit (with_bit (with_bit (lay G S (bits_of q s b)) (high_at p.globals last) false) (low_at p.globals last) false) (stop_at p.globals last) false ≡ lay G S (bits_of 0 false b)
+  zero_writes : (G : List (List Bool)) → Shape p.globals last G S → (q : ℕ) (s b : Bool) →
+      with_bit (with_bit (with_bit (lay G S (bits_of q s b)) (high_at p.globals last) false) (low_at p.globals last)
+      false) (stop_at p.globals last) false ≡ lay G S (bits_of 0 false b)
   zero_writes G shape q s b =
-      ap (λ z. with_bit (with_bit z (low_at p.globals last) false) (stop_at p.globals last) false) (bits_with p.globals last G S (bits_of q s b) 0 false shape)
+      ap (λ z. with_bit (with_bit z (low_at p.globals last) false) (stop_at p.globals last) false)
+      (bits_with p.globals last G S (bits_of q s b) 0 false shape)
       ∙ (ap (λ z. with_bit z (stop_at p.globals last) false) (bits_with p.globals last G S _ 1 false shape)
       ∙ bits_with p.globals last G S _ 2 false shape)
 
@@ -117,7 +121,9 @@ module _ (p : Program) (last : ℕ) (fits : FitsScopes p) (small : last < most_r
       let Y : List Bool = lay G S (bits_of 0 false b) in
       let t' : Code = one plain (call (suc c) []) t in
       let (M1, e1, (vs, a, h1)) = unstep_main w n last N X [] plain (assign zero_targets zero_sides) t' h in
-      let h2 : PlainAfter w M1 (main_at (with_bit (with_bit (with_bit X (high_at n last) false) (low_at n last) false) (stop_at n last) false) t') (Bad n last) =
+      let h2 : PlainAfter w M1 (main_at
+      (with_bit (with_bit (with_bit X (high_at n last) false) (low_at n last) false) (stop_at n last) false) t')
+      (Bad n last) =
       subst (λ z. PlainAfter w M1 (state (written_globals zero_targets z X) (frame 0 (written_locals zero_targets z []) t' ∷ [])) (Bad n last)) (zero_back X [] vs a) h1 in
       let h3 : PlainAfter w M1 (main_at Y t') (Bad n last) = subst (λ z. PlainAfter w M1 (main_at z t') (Bad n last)) (zero_writes G shape q s b) h2 in
       let (M2, e2, h4) = unstep_main w n last M1 Y [] plain (call (suc c) []) t h3 in

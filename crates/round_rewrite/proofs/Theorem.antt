@@ -35,7 +35,8 @@ module _ (p : Program) (last : ℕ) (fits : FitsScopes p) (small : last < most_r
   abbrev bare_start : State
   bare_start = main_at (lay (copies (suc last) (zeros p.globals)) (copies last (zeros p.globals)) (bits_of 0 false false)) body
 
-  to_pair : (n : ℕ) (u : State) → AfterSteps result n start (λ v. v ≡ u) → Bad p.globals last (bare_state u) → SomeBad result (bad_at p.globals last)
+  to_pair : (n : ℕ) (u : State) → AfterSteps result n start (λ v. v ≡ u) → Bad p.globals last (bare_state u) →
+      SomeBad result (bad_at p.globals last)
   to_pair n (state g []) run h = absurd h
   to_pair n (state g (frame c l done ∷ [])) run h =
       (zero_valuation, g, (l, (inl (refl, refl), (done, refl, (n, subst (λ k. AfterSteps result n start (λ v. v ≡ state g (frame k l done ∷ []))) h.0 run)))), h.1)
@@ -52,7 +53,9 @@ module _ (p : Program) (last : ℕ) (fits : FitsScopes p) (small : last < most_r
       let (u, run, bad) = after_pick result n start (λ u. Bad p.globals last (bare_state u)) h2 in
       to_pair n u run bad
 
-  from_run : (n : ℕ) (b l : List Bool) (rest : Code) → None ≡ point_of rest → AfterSteps result n start (λ v. v ≡ state b (frame 0 l rest ∷ [])) → bit b (bad_at p.globals last) ≡ true → Unsafe p (suc last)
+  from_run : (n : ℕ) (b l : List Bool) (rest : Code) → None ≡ point_of rest →
+      AfterSteps result n start (λ v. v ≡ state b (frame 0 l rest ∷ [])) → bit b (bad_at p.globals last) ≡ true →
+      Unsafe p (suc last)
   from_run n b l done e run bad =
       let h : AfterSteps result n start (λ u. Bad p.globals last (bare_state u)) =
       after_map result n start (λ v. v ≡ state b (frame 0 l done ∷ [])) (λ u. Bad p.globals last (bare_state u)) (λ u eu. subst (λ v. Bad p.globals last (bare_state v)) (sym eu) (refl, bad)) run in
@@ -62,7 +65,9 @@ module _ (p : Program) (last : ℕ) (fits : FitsScopes p) (small : last < most_r
   from_run n b l (choose m r x y t) e run bad = cc
   from_run n b l (loop m r x t) e run bad = cc
 
-  from_entry : (a : Valuation) (b l : List Bool) (rest : Code) → None ≡ point_of rest → Entered result 0 a → Runs result (state a.globals (frame 0 a.places (numbered 1 body) ∷ [])) (state b (frame 0 l rest ∷ [])) → bit b (bad_at p.globals last) ≡ true → Unsafe p (suc last)
+  from_entry : (a : Valuation) (b l : List Bool) (rest : Code) → None ≡ point_of rest → Entered result 0 a →
+      Runs result (state a.globals (frame 0 a.places (numbered 1 body) ∷ [])) (state b (frame 0 l rest ∷ [])) →
+      bit b (bad_at p.globals last) ≡ true → Unsafe p (suc last)
   from_entry a b l rest e (inl (q, is)) run bad =
       let run' : Runs result start (state b (frame 0 l rest ∷ [])) =
       subst (λ (v : Valuation). Runs result (state v.globals (frame 0 v.places (numbered 1 body) ∷ [])) (state b (frame 0 l rest ∷ []))) is run in

@@ -43,7 +43,9 @@ zip_next n last pre post S g h z e = record {
 pub length-next : (pre : List (List Bool)) (g : List Bool) → length (pre ++ g ∷ []) ≡ suc (length pre)
 length-next pre g = length-append pre (g ∷ []) ∙ omega arith
 
-module _ (p : Program) (last : ℕ) (fits : FitsScopes p) (small : last < most_rounds) (w : World) (isw : IsWorld p last w) (S : List (List Bool)) (m : Frame) (Q : State → Type 0) (single : (g : List Bool) (f f' : Frame) (fs : List Frame) → Q (state g (f ∷ f' ∷ fs)) → ⊥) where
+module _ (p : Program) (last : ℕ) (fits : FitsScopes p) (small : last < most_rounds) (w : World)
+    (isw : IsWorld p last w) (S : List (List Bool)) (m : Frame) (Q : State → Type 0)
+    (single : (g : List Bool) (f f' : Frame) (fs : List Frame) → Q (state g (f ∷ f' ∷ fs)) → ⊥) where
   -- the run comes down to the first procedure, and the thread has made its turns
   pub record Ends (N : ℕ) (pre : List (List Bool)) (g : List Bool) (post : List (List Bool)) (b : Bool) (s : List Frame) : Type 0 where
     pub left : ℕ

@@ -24,7 +24,8 @@ globals_eq g h s t e = cc
 pub stacks_eq : (g h : List Bool) (s t : List Frame) → state g s ≡ state h t → s ≡ t
 stacks_eq g h s t e = cc
 
-module _ (p : Program) (last : ℕ) (fits : FitsScopes p) (small : last < most_rounds) (w : World) (isw : IsWorld p last w) (S : List (List Bool)) (m : Frame) (Q : State → Type 0) where
+module _ (p : Program) (last : ℕ) (fits : FitsScopes p) (small : last < most_rounds) (w : World)
+    (isw : IsWorld p last w) (S : List (List Bool)) (m : Frame) (Q : State → Type 0) where
   abbrev pub At : List (List Bool) → ℕ → Bool → Bool → List Frame → Type 0
   At C q s b fs = Leads w (state (lay C S (bits_of q s b)) fs) Q
 
@@ -112,8 +113,10 @@ module _ (p : Program) (last : ℕ) (fits : FitsScopes p) (small : last < most_r
         let zero_is : IsValue (row (rows g) (length pre)) l r false = subst (λ y. IsValue y l r false) (sym (row_middle pre g post)) f in
         let is : IsValue X (l ++ tmp) (Rattle.round_rewrite.specs.Table.side (places p.globals last own) last r) false =
         subst (λ T. T) (sym (side_at p last fits small w isw (rows g) S (length pre) b (shape_at g eg) within m own l tmp good.long r good.fits.0.0 false)) zero_is in
-        let writes : with_bit (with_bit X (bad_at p.globals last) true) (stop_at p.globals last) true ≡ lay (rows g) S (bits_of (length pre) true true) =
-        ap (λ y. with_bit y (stop_at p.globals last) true) (bits_with p.globals last (rows g) S (bits_of (length pre) false b) 3 true (shape_at g eg))
+        let writes : with_bit (with_bit X (bad_at p.globals last) true) (stop_at p.globals last) true ≡ lay (rows g) S
+        (bits_of (length pre) true true) =
+        ap (λ y. with_bit y (stop_at p.globals last) true)
+        (bits_with p.globals last (rows g) S (bits_of (length pre) false b) 3 true (shape_at g eg))
         ∙ bits_with p.globals last (rows g) S (bits_of (length pre) false true) 2 true (shape_at g eg) in
         prologue_goes w p.globals last own (rows g) S (shape_at g eg) small (suc c) (l ++ tmp) (callers p last bs m) Q (length pre) b _ (
           suc (suc (suc u.0)),

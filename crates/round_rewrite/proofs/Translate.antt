@@ -58,7 +58,8 @@ closed (suc (suc (suc zero))) (suc (suc (suc zero))) h h' = refl
 closed (suc (suc (suc (suc k)))) q h h' = absurd (omega arith)
 closed k (suc (suc (suc (suc q)))) h h' = absurd (omega arith)
 
-module _ (n last own : ℕ) (C S : List (List Bool)) (q : ℕ) (s b : Bool) (L : List Bool) (shape : Shape n last C S) (small : last < most_rounds) (within : q ≤ last) where
+module _ (n last own : ℕ) (C S : List (List Bool)) (q : ℕ) (s b : Bool) (L : List Bool) (shape : Shape n last C S)
+    (small : last < most_rounds) (within : q ≤ last) where
   abbrev pub globals_now : List Bool
   globals_now = lay C S (bits_of q s b)
 

@@ -46,11 +46,13 @@ module _ (t : Tree) (last n : ℕ) (is : global_count (length t.globals) last �
   wide : length (rewritten_tree last t).globals ≡ n
   wide = length-globals last t.globals ∙ is
 
-  into : (ps : List Procedure) → EachProcedure (IsOwnNarrow n) ps → EachProcedure (λ p. width (rewritten_tree last t) p ≤ most_places) (map (rewritten_procedure last) ps)
+  into : (ps : List Procedure) → EachProcedure (IsOwnNarrow n) ps →
+      EachProcedure (λ p. width (rewritten_tree last t) p ≤ most_places) (map (rewritten_procedure last) ps)
   into [] e = e
   into (p ∷ ps) e = (subst (λ z. z ≤ most_places) (sym ((λ i. wide i + own_places last p i))) e.0, into ps e.1)
 
-  out : (ps : List Procedure) → EachProcedure (λ p. width (rewritten_tree last t) p ≤ most_places) (map (rewritten_procedure last) ps) → EachProcedure (IsOwnNarrow n) ps
+  out : (ps : List Procedure) → EachProcedure (λ p. width (rewritten_tree last t) p ≤ most_places)
+      (map (rewritten_procedure last) ps) → EachProcedure (IsOwnNarrow n) ps
   out [] e = e
   out (p ∷ ps) e = (subst (λ z. z ≤ most_places) (λ i. wide i + own_places last p i) e.0, out ps e.1)
 
@@ -70,7 +72,11 @@ module _ (t : Tree) (last n : ℕ) (is : global_count (length t.globals) last �
 -- a narrow program needs few temporaries
 pub few_needs : (n : ℕ) (ps : List Procedure) → EachProcedure (IsOwnNarrow n) ps → AreFew ps
 few_needs n [] e = tt
-few_needs n (p ∷ ps) e = (let h : n + (length p.formals + (length p.locals + procedure_needs p)) ≤ most_places = e.0 in let k : procedure_needs p ≤ most_places = omega (arith, h) in k, few_needs n ps e.1)
+few_needs n (p ∷ ps) e = (
+  let h : n + (length p.formals + (length p.locals + procedure_needs p)) ≤ most_places =
+      e.0 in let k : procedure_needs p ≤ most_places = omega (arith, h) in k,
+  few_needs n ps e.1,
+)
 
 -- each procedure of a list has what all have
 pub each_at : {A : Type 0} (P : Procedure → Type 0) (ss : List (Proc A)) (i : ℕ) (s : Proc A) → i < length ss → s ≡ get_or ss i s → EachProcedure P (procs_of ss) → P (proc_of s)
@@ -91,7 +97,9 @@ places_counted globals formals locals =
     (λ i. length-map globals name_of i + (a ∙ (λ j. length-map formals name_of j + length-map locals name_of j)) i)
 
 -- they are at most 64 in a narrow program
-pub places_few : {A : Type 0} (program : Program A) (i : ℕ) (p : Proc A) → i < length program.procs.items → p ≡ get_or program.procs.items i p → AllNarrow (tree_of program) → length program.globals.items + (length p.formals.items + length p.locals.items) ≤ most_places
+pub places_few : {A : Type 0} (program : Program A) (i : ℕ) (p : Proc A) → i < length program.procs.items →
+    p ≡ get_or program.procs.items i p → AllNarrow (tree_of program) →
+    length program.globals.items + (length p.formals.items + length p.locals.items) ≤ most_places
 places_few program i p lt is narrow =
     subst (λ n. n ≤ most_places) (places_counted program.globals.items p.formals.items p.locals.items)
     (each_at (λ q. width (tree_of program) q ≤ most_places) program.procs.items i p lt is narrow)

@@ -36,13 +36,17 @@ module _ {A G : Type 0} (graph : Graph G) (q : ℕ) (f : Found A) (given : Given
   pub taken_there : (k : NumberedMessage) → TookMessage f k → TookMessage asked_to k
   taken_there = taken_as f asked_to (λ a. refl) (λ c. refl)
 
-  module _ (es ds : List Triple) (e : Edge) (s x back : ℕ) (flow : Flow G) (sound : IsGrounded graph q f es) (there : Member (triple_of e) es)
+  module _ (es ds : List Triple) (e : Edge) (s x back : ℕ) (flow : Flow G) (sound : IsGrounded graph q f es)
+      (there : Member (triple_of e) es)
       (here : slice_get graph.flows.items e.point ≡ Some flow) (enters : entered_by flow e.values ≡ Some (s, x, back)) where
     reached : Reaches graph (TookMessage asked_to) e.entry e.point e.values
-    reached = reaches_more graph (TookMessage f) (TookMessage asked_to) taken_there e.entry e.point e.values (sound.edge e.entry e.point e.values there)
+    reached = reaches_more graph (TookMessage f) (TookMessage asked_to) taken_there e.entry e.point e.values
+        (sound.edge e.entry e.point e.values there)
 
     -- what is behind the call is reached
-    pub behind_reached : (t : Triple) → Each (IsBehind graph (site e.entry back e.values)) (under call_eq f.summaries.by_key (call s x)) t → Reaches graph (TookMessage asked_to) t.entry t.point t.values
+    pub behind_reached : (t : Triple) →
+        Each (IsBehind graph (site e.entry back e.values)) (under call_eq f.summaries.by_key (call s x)) t →
+        Reaches graph (TookMessage asked_to) t.entry t.point t.values
     behind_reached t w =
         subst (λ u. Reaches graph (TookMessage asked_to) u.entry u.point u.values) (sym w.2)
         (returns e.entry e.point e.values s x back w.0 flow reached here enters w.1)
@@ -52,7 +56,8 @@ module _ {A G : Type 0} (graph : Graph G) (q : ℕ) (f : Found A) (given : Given
         (t : Triple) → Member t ds → Reaches graph (TookMessage asked_to) t.entry t.point t.values
     ask_only only t m = elim (only t m) [
       | inl w ↦ behind_reached t w
-      | inr was ↦ reaches_more graph (TookMessage f) (TookMessage asked_to) taken_there t.entry t.point t.values (sound.edge t.entry t.point t.values was)
+      | inr was ↦ reaches_more graph (TookMessage f) (TookMessage asked_to) taken_there t.entry t.point t.values
+          (sound.edge t.entry t.point t.values was)
     ]
 
     module _ (gave : Gives (λ m. m ≡ mail s (Entry (Proc q) x)) f.given.mails.keys given.mails.keys)

@@ -62,7 +62,8 @@ module _ {A G : Type 0} (graph : Graph G) (q : ℕ) (f : Found A) (summaries : G
     ended_reached t (y, m, is) =
         let (n, flow, reached, here, enters) = sound.site k.callee k.entered y.asked y.next y.values m in
         subst (λ u. Reaches graph M u.entry u.point u.values) (sym is)
-        (returns y.asked n y.values k.callee k.entered y.next b flow (reaches_more graph (TookMessage f) M taken_ended y.asked n y.values reached) here enters left_so)
+        (returns y.asked n y.values k.callee k.entered y.next b flow
+        (reaches_more graph (TookMessage f) M taken_ended y.asked n y.values reached) here enters left_so)
 
     -- so, where nothing but that is added, all edges are
     pub end_only : ((t : Triple) → Member t ds → Each (λ y. IsBehind graph y b) (under call_eq f.sites.by_key k) t ⊎ Member t es) → (t : Triple) → Member t ds → Reaches graph M t.entry t.point t.values

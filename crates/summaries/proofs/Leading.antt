@@ -28,13 +28,17 @@ module _ {A G : Type 0} (graph : Graph G) (q : ℕ) (f : Found A) (pending : Vec
     pub next_reached : (t : Triple) → IsNext flow e t → Reaches graph (TookMessage led_to) t.entry t.point t.values
     next_reached t (i, most, (n, v, next, is)) =
         subst (λ u. Reaches graph (TookMessage led_to) u.entry u.point u.values) (sym is)
-        (flows e.entry e.point e.values n v i flow (reaches_more graph (TookMessage f) (TookMessage led_to) taken_led e.entry e.point e.values (sound.edge e.entry e.point e.values there)) here most next)
+        (flows e.entry e.point e.values n v i flow
+        (reaches_more graph (TookMessage f) (TookMessage led_to) taken_led e.entry e.point e.values
+        (sound.edge e.entry e.point e.values there)) here most next)
 
     -- so, where nothing but that is added, all edges are
-    pub lead_only : ((t : Triple) → Member t ds → IsNext flow e t ⊎ Member t es) → (t : Triple) → Member t ds → Reaches graph (TookMessage led_to) t.entry t.point t.values
+    pub lead_only : ((t : Triple) → Member t ds → IsNext flow e t ⊎ Member t es) → (t : Triple) → Member t ds →
+        Reaches graph (TookMessage led_to) t.entry t.point t.values
     lead_only only t m = elim (only t m) [
       | inl w ↦ next_reached t w
-      | inr was ↦ reaches_more graph (TookMessage f) (TookMessage led_to) taken_led t.entry t.point t.values (sound.edge t.entry t.point t.values was)
+      | inr was ↦ reaches_more graph (TookMessage f) (TookMessage led_to) taken_led t.entry t.point t.values
+          (sound.edge t.entry t.point t.values was)
     ]
 
     pub lead_step : Grows (IsNext flow e) es ds f.pending.items pending.items → Step graph q f led_to es ds

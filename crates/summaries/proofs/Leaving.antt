@@ -31,7 +31,8 @@ module _ {A G : Type 0} (graph : Graph G) (q : ℕ) (f g : Found A) where
   pub taken_left : (k : NumberedMessage) → TookMessage f k → TookMessage left_to k
   taken_left = taken_as f left_to (λ a. refl) (λ c. refl)
 
-  module _ (es : List Triple) (a v b : ℕ) (is_left : b ≡ left graph.globals v) (sound : IsGrounded graph q f es) (there : Member (triple a 0 v) es)
+  module _ (es : List Triple) (a v b : ℕ) (is_left : b ≡ left graph.globals v) (sound : IsGrounded graph q f es)
+      (there : Member (triple a 0 v) es)
       (keys : g.pairs.keys ≡ f.pairs.keys ++ pair a b ∷ [])
       (added : under nat_eq g.exits.by_key a ≡ under nat_eq f.exits.by_key a ++ b ∷ [])
       (others : (k : ℕ) → nat_eq a k ≡ false → under nat_eq g.exits.by_key k ≡ under nat_eq f.exits.by_key k)

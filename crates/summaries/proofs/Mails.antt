@@ -120,7 +120,8 @@ next_new {K = K} ks n m k more once = apart (take n ks) (drop m ks) (subst NoneT
     apart (x ∷ xs) ys (x_once, o) (inr m) = apart xs ys o m
 
 -- with more messages behind, those that were answered are the same
-pub answers_still : {K : Type 0} (ks js : List K) (n m : ℕ) → n ≤ length ks → m ≡ n → (more : List K) × (js ≡ ks ++ more) → take m js ≡ take n ks
+pub answers_still : {K : Type 0} (ks js : List K) (n m : ℕ) → n ≤ length ks → m ≡ n →
+    (more : List K) × (js ≡ ks ++ more) → take m js ≡ take n ks
 answers_still ks js n m within same (more, is) = ap (λ i. take i js) same ∙ ap (take n) is ∙ take-append-le n ks more within
 
 -- of no messages none were answered

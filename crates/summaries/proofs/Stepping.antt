@@ -19,7 +19,8 @@ use Rattle.summaries.specs.declared.found.Found.{Found}
 use Rattle.summaries.specs.Under.{under}
 use Rattle.summaries.specs.Mails.{mail}
 use Rattle.summaries.specs.Dues.{caller_of, due_of}
-use Rattle.summaries.specs.Found.{call, call_eq, edge, site, pair, TookMessage, HasSite, HasExit, HasGiven, IsPending, IsGrounded, IsWorked, IsComplete, IsEmpty}
+use Rattle.summaries.specs.Found.{call, call_eq, edge, site, pair, TookMessage, HasSite}
+use Rattle.summaries.specs.Found.{HasExit, HasGiven, IsPending, IsGrounded, IsWorked, IsComplete, IsEmpty}
 use Rattle.summaries.specs.Grows.{triple_of}
 use Rattle.summaries.specs.Tables.{HasMore}
 
@@ -39,7 +40,8 @@ pub record Step {A G : Type 0} (graph : Graph G) (q : ℕ) (f g : Found A) (es d
   pub exit : (a b : ℕ) → HasExit g a b → HasExit f a b ⊎ Leaves graph (TookMessage g) a b
   pub gives : (s : ℕ) (k : NumberedMessage) → HasGiven f s k → HasGiven g s k
   pub given : (s : ℕ) (k : NumberedMessage) → HasGiven g s k → HasGiven f s k ⊎ Sends graph q (TookMessage g) s k
-  pub begun : (from : Caller) (a : ℕ) → TookMessage g (numbered_entry from a) → TookMessage f (numbered_entry from a) ⊎ Member (triple a graph.start a) ds
+  pub begun : (from : Caller) (a : ℕ) → TookMessage g (numbered_entry from a) →
+      TookMessage f (numbered_entry from a) ⊎ Member (triple a graph.start a) ds
   pub ended : (s e b a n v : ℕ) → HasSite g s e (site a n v) → TookMessage g (numbered_summary s e b) →
       HasSite f s e (site a n v) × TookMessage f (numbered_summary s e b) ⊎ Member (triple a n (resumed graph.globals v b)) ds
   pub asks : (s e a n v : ℕ) → HasSite g s e (site a n v) → HasSite f s e (site a n v) ⊎ HasGiven g s (numbered_entry (caller q) e)
@@ -57,7 +59,8 @@ module _ {A G : Type 0} (graph : Graph G) (q : ℕ) (f g : Found A) (es ds : Lis
       | inr is ↦ is
     ];
     exit = λ a b m. elim (step.exit a b m) [ inl was ↦ let (v, reached, is) = old.exit a b was in (v, more a 0 v reached, is) | inr is ↦ is ];
-    given = λ s k m. elim (step.given s k m) [ inl was ↦ sends_more graph (TookMessage f) (TookMessage g) step.taken q s k (old.given s k was) | inr is ↦ is ];
+    given = λ s k m. elim (step.given s k m)
+        [ inl was ↦ sends_more graph (TookMessage f) (TookMessage g) step.taken q s k (old.given s k was) | inr is ↦ is ];
     pending = λ a n v m. elim (step.pending (edge a n v) m) [ inl was ↦ step.kept (triple a n v) (old.pending a n v was) | inr is ↦ is ];
   }
     where
@@ -115,9 +118,12 @@ pub has_more : (limit : ℕ) (es : List Triple) (P : Triple → Type 0) → None
 has_more limit es P once all t is new full = (t ∷ es, (new, once), omega (arith, full), λ u m. elim m [ inl e ↦ subst P (sym e) is | inr was ↦ all u was ])
 
 -- by the same messages taken the edges of a table are reached
-pub all_reached : {A G : Type 0} (graph : Graph G) (q : ℕ) (f g : Found A) (es : List Triple) → IsGrounded graph q f es → ((k : NumberedMessage) → TookMessage f k → TookMessage g k) →
+pub all_reached : {A G : Type 0} (graph : Graph G) (q : ℕ) (f g : Found A) (es : List Triple) →
+    IsGrounded graph q f es → ((k : NumberedMessage) → TookMessage f k → TookMessage g k) →
     (t : Triple) → Member t es → Reaches graph (TookMessage g) t.entry t.point t.values
-all_reached graph q f g es sound taken t m = reaches_more graph (TookMessage f) (TookMessage g) taken t.entry t.point t.values (sound.edge t.entry t.point t.values m)
+all_reached graph q f g es sound taken t m =
+    reaches_more graph (TookMessage f) (TookMessage g) taken t.entry t.point t.values
+    (sound.edge t.entry t.point t.values m)
 
 -- where the entries and the summaries are the same, so are the messages taken
 pub taken_as : {A : Type 0} (f g : Found A) → ((a : ℕ) → under nat_eq g.entries.by_key a ≡ under nat_eq f.entries.by_key a) → ((c : Call) → under call_eq g.summaries.by_key c ≡ under call_eq f.summaries.by_key c) →

@@ -80,10 +80,12 @@ module _ {G A S : Type 0} (members : S → List Triple) (p : Program) (Aside : M
 
   -- what a table has taken is due, where it has taken only a message that is due beside what it had
   pub only_due : (q : ℕ) (d : Due) (t t' : Table G A S) → slice_get ts q ≡ Some t → TookOnly d t.found t'.found
-      → ((k : NumberedMessage) → due_of k ≡ d → IsNumberOf (IsDue p q) k) → (k : NumberedMessage) → TookMessage t'.found k → IsNumberOf (IsDue p q) k
+      → ((k : NumberedMessage) → due_of k ≡ d → IsNumberOf (IsDue p q) k) → (k : NumberedMessage) →
+      TookMessage t'.found k → IsNumberOf (IsDue p q) k
   only_due q d t t' is only due k taken = elim (only k taken) [ inl e ↦ due k e | inr old ↦ are.due q t k is old ]
 
-  same_due : (q : ℕ) (t t' : Table G A S) → slice_get ts q ≡ Some t → TookSame t.found t'.found → (k : NumberedMessage) → TookMessage t'.found k → IsNumberOf (IsDue p q) k
+  same_due : (q : ℕ) (t t' : Table G A S) → slice_get ts q ≡ Some t → TookSame t.found t'.found →
+      (k : NumberedMessage) → TookMessage t'.found k → IsNumberOf (IsDue p q) k
   same_due q t t' is same k taken = are.due q t k is (same_taken_back t.found t'.found same k taken)
 
   -- a table that has become of one is still that of its procedure
@@ -100,9 +102,13 @@ module _ {G A S : Type 0} (members : S → List Triple) (p : Program) (Aside : M
 
   -- a table that has failed for its limit has more edges than that
   pub too_many : (q : ℕ) (t t' : Table G A S) → slice_get ts q ≡ Some t → IsTable members t' → StaysAs t t' → t'.fault ≡ Some EdgeLimit
-      → ((k : NumberedMessage) → TookMessage t'.found k → IsNumberOf (IsDue p q) k) → (n : ℕ) → HaveLimit n ts → (s : ℕ) × HasMoreEdges p s n
-  too_many q t t' is table stays failed due n limits =
-      (q, subst (HasMoreEdges p q) (ap most_of stays.limit ∙ limits q t is) (over_limit members p q t' (still_of q t t' is table stays due) failed))
+      → ((k : NumberedMessage) → TookMessage t'.found k → IsNumberOf (IsDue p q) k) → (n : ℕ) → HaveLimit n ts →
+      (s : ℕ) × HasMoreEdges p s n
+  too_many q t t' is table stays failed due n limits = (
+    q,
+    subst (HasMoreEdges p q) (ap most_of stays.limit ∙ limits q t is)
+        (over_limit members p q t' (still_of q t t' is table stays due) failed),
+  )
 
   pub same_too_many : (q : ℕ) (t t' : Table G A S) → slice_get ts q ≡ Some t → IsTable members t' → StaysAs t t' → t'.fault ≡ Some EdgeLimit → TookSame t.found t'.found
       → (n : ℕ) → HaveLimit n ts → (s : ℕ) × HasMoreEdges p s n
@@ -111,7 +117,8 @@ module _ {G A S : Type 0} (members : S → List Triple) (p : Program) (Aside : M
   -- what a table answers is due
   pub mail_due : (q : ℕ) (t t' : Table G A S) → slice_get ts q ≡ Some t → Keeps members None t t' → (s : ℕ) (d : Due) → IsAnswer t t' s d
       → (k : NumberedMessage) → due_of k ≡ d → IsNumberOf (IsDue p s) k
-  mail_due q t t' is keeps s d answer = answer_due members p q t' (still_of q t t' is keeps.table keeps.stays (same_due q t t' is keeps.taken)) t s d answer
+  mail_due q t t' is keeps s d answer =
+      answer_due members p q t' (still_of q t t' is keeps.table keeps.stays (same_due q t t' is keeps.taken)) t s d answer
 
   -- so its receiver is there
   pub mail_receiver : (s : ℕ) (d : Due) → ((k : NumberedMessage) → due_of k ≡ d → IsNumberOf (IsDue p s) k) → s < length ts
@@ -133,7 +140,8 @@ pub answered : {G A S : Type 0} (members : S → List Triple) (p : Program) (ts 
     → (x : Mail) → answers_of t' ≡ answers_of t ++ x ∷ [] → AreTables members p (λ y. y ≡ x) (slice_set ts q t')
 answered members p ts are q t t' is table whole stays same x more =
     replaced members p (λ y. ⊥) (λ y. y ≡ x) ts q t t' are is (goes_on members p (λ y. ⊥) ts are q t t' is table whole stays same)
-    (λ y m. elim (member_append y (answers_of t) (x ∷ []) (subst (Member y) more m)) [ inl old ↦ inl old | inr last ↦ elim last [ inl e ↦ inr e | inr none ↦ absurd none ] ])
+    (λ y m. elim (member_append y (answers_of t) (x ∷ []) (subst (Member y) more m))
+    [ inl old ↦ inl old | inr last ↦ elim last [ inl e ↦ inr e | inr none ↦ absurd none ] ])
     (λ y h. absurd h)
 
 -- a table has nothing to answer
@@ -147,7 +155,8 @@ answered_none members p ts are q t t' is table whole stays same none =
 -- the receiver takes the message that is left aside
 pub delivered : {G A S : Type 0} (members : S → List Triple) (p : Program) (s : ℕ) (d : Due) (ts : List (Table G A S)) → AreTables members p (λ y. y ≡ mail s d) ts
     → (t t' : Table G A S) → slice_get ts s ≡ Some t → IsTable members t' → t'.fault ≡ None → StaysAs t t' → TookAlso d t.found t'.found → TookOnly d t.found t'.found
-    → answers_of t' ≡ answers_of t → ((k : NumberedMessage) → due_of k ≡ d → IsNumberOf (IsDue p s) k) → AreTables members p (λ y. ⊥) (slice_set ts s t')
+    → answers_of t' ≡ answers_of t → ((k : NumberedMessage) → due_of k ≡ d → IsNumberOf (IsDue p s) k) →
+    AreTables members p (λ y. ⊥) (slice_set ts s t')
 delivered {G} {A} {S} members p s d ts are t t' is table whole stays also only none due =
     replaced members p (λ y. y ≡ mail s d) (λ y. ⊥) ts s t t' are is becomes (λ y m. inl (subst (Member y) none m))
     (λ y e. inr (subst (IsReceived (slice_set ts s t')) (sym e) taken))
@@ -203,13 +212,15 @@ module _ {G A S : Type 0} where
       let moved = sum_by-set (left_of n) ts i t' t (slice_get_within ts i t is) in
       omega (arith, same, moved)
 
-  pub less_room : (n : ℕ) (ts : List (Table G A S)) (i : ℕ) (t t' : Table G A S) (x : Mail) → slice_get ts i ≡ Some t → answers_of t' ≡ answers_of t ++ x ∷ [] → length (answers_of t') < n
+  pub less_room : (n : ℕ) (ts : List (Table G A S)) (i : ℕ) (t t' : Table G A S) (x : Mail) → slice_get ts i ≡ Some t →
+      answers_of t' ≡ answers_of t ++ x ∷ [] → length (answers_of t') < n
       → room n (slice_set ts i t') < room n ts
   less_room n ts i t t' x is more few =
       let longer : length (answers_of t') ≡ length (answers_of t) + 1 = ap length more ∙ length-append (answers_of t) (x ∷ []) in
       omega (arith, room_set n ts i t t' is, longer, few)
 
-  pub same_room : (n : ℕ) (ts : List (Table G A S)) (i : ℕ) (t t' : Table G A S) → slice_get ts i ≡ Some t → answers_of t' ≡ answers_of t → room n (slice_set ts i t') ≡ room n ts
+  pub same_room : (n : ℕ) (ts : List (Table G A S)) (i : ℕ) (t t' : Table G A S) → slice_get ts i ≡ Some t →
+      answers_of t' ≡ answers_of t → room n (slice_set ts i t') ≡ room n ts
   same_room n ts i t t' is same =
       let kept : left_of n t' ≡ left_of n t = ap (λ l. n - length l) same in
       omega (arith, room_set n ts i t t' is, kept)

@@ -30,7 +30,8 @@ same_taken_back old new same k h = same_taken new old (sym same.0, sym same.1) k
 
 module _ {G A S : Type 0} where
   -- what a table has taken it has taken still, where one is replaced by one that has taken as much
-  pub taken_stays : (ts : List (Table G A S)) (i : ℕ) (t t' : Table G A S) → slice_get ts i ≡ Some t → ((k : NumberedMessage) → TookMessage t.found k → TookMessage t'.found k)
+  pub taken_stays : (ts : List (Table G A S)) (i : ℕ) (t t' : Table G A S) → slice_get ts i ≡ Some t →
+      ((k : NumberedMessage) → TookMessage t.found k → TookMessage t'.found k)
       → (q : ℕ) (k : NumberedMessage) → IsTaken (slice_get ts q) k → IsTaken (slice_get (slice_set ts i t') q) k
   taken_stays [] i t t' is keeps q k h = absurd h
   taken_stays (x ∷ xs) zero t t' is keeps zero k h = keeps k (subst (λ (z : Table G A S). TookMessage z.found k) (same_Some x t is) h)
@@ -66,7 +67,8 @@ module _ {G A S : Type 0} (members : S → List Triple) (p : Program) where
     was : (q : ℕ) (u : Table G A S) → slice_get (slice_set ts i t') q ≡ Some u → (w : Table G A S) × (slice_get ts q ≡ Some w)
     was q u e = elim (set_get ts i q t' u e) [ inl h ↦ (t, ap (slice_get ts) h.0 ∙ is) | inr h ↦ (u, h.1) ]
 
-    sends : (q : ℕ) (u : Table G A S) (x : Mail) → slice_get (slice_set ts i t') q ≡ Some u → Member x (answers_of u) → After x ⊎ IsReceived (slice_set ts i t') x
+    sends : (q : ℕ) (u : Table G A S) (x : Mail) → slice_get (slice_set ts i t') q ≡ Some u → Member x (answers_of u) →
+        After x ⊎ IsReceived (slice_set ts i t') x
     sends q u x e m =
         elim (set_get ts i q t' u e) [
           | inl h ↦ elim (answers x (subst (λ (z : Table G A S). Member x (answers_of z)) h.1 m)) [
@@ -83,7 +85,8 @@ module _ {G A S : Type 0} (members : S → List Triple) (p : Program) where
       table = each_then (λ q u. IsTable members u) ts i t' are.table becomes.table;
       whole = each_then (λ q u. u.fault ≡ None) ts i t' are.whole becomes.whole;
       number = each_then (λ q u. u.procedure ≡ q) ts i t' are.number (becomes.stays.procedure ∙ are.number i t is);
-      due = λ q u k e h. each_then (λ n (z : Table G A S). (k : NumberedMessage) → TookMessage z.found k → IsNumberOf (IsDue p n) k) ts i t' (λ n z is' k taken. are.due n z k is' taken) becomes.due q u e k h;
+      due = λ q u k e h. each_then (λ n (z : Table G A S). (k : NumberedMessage) → TookMessage z.found k →
+          IsNumberOf (IsDue p n) k) ts i t' (λ n z is' k taken. are.due n z k is' taken) becomes.due q u e k h;
       opened = λ u e. let (w, is') = was 0 u e in settled opening (are.opened w is');
       answers = sends;
     }

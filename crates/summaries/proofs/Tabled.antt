@@ -25,7 +25,8 @@ module _ {G A S : Type 0} (members : S → List Triple) (p : Program) (q : ℕ) 
   -- what is reached are path edges
   pub reached_edge : (x : Triple) → IsReached t x → AreNumbersOfEdge p q x.entry x.point x.values
   reached_edge x reached =
-      (edge_numbers p q x.entry x.point x.values).0 (edges_reached p is.fit q t.graph.now is.graph (TookMessage t.found) is.due x.entry x.point x.values reached)
+      (edge_numbers p q x.entry x.point x.values).0
+      (edges_reached p is.fit q t.graph.now is.graph (TookMessage t.found) is.due x.entry x.point x.values reached)
 
   -- so are the edges kept
   pub kept_edge : (x : Triple) → Member x (members t.edges) → AreNumbersOfEdge p q x.entry x.point x.values
@@ -34,17 +35,21 @@ module _ {G A S : Type 0} (members : S → List Triple) (p : Program) (q : ℕ) 
   -- what is sent is due
   pub sent_due : (s : ℕ) (k : NumberedMessage) → Sends t.graph.now t.procedure (TookMessage t.found) s k → IsNumberOf (IsDue p s) k
   sent_due s k sends =
-      due_sent p is.fit q t.graph.now is.graph (TookMessage t.found) is.due is.in_order s k (subst (λ n. Sends t.graph.now n (TookMessage t.found) s k) is.number sends)
+      due_sent p is.fit q t.graph.now is.graph (TookMessage t.found) is.due is.in_order s k
+      (subst (λ n. Sends t.graph.now n (TookMessage t.found) s k) is.number sends)
 
   -- so is a message that is answered
-  pub answer_due : (old : Table G A S) (to : ℕ) (d : Due) → IsAnswer old t to d → (k : NumberedMessage) → due_of k ≡ d → IsNumberOf (IsDue p to) k
+  pub answer_due : (old : Table G A S) (to : ℕ) (d : Due) → IsAnswer old t to d → (k : NumberedMessage) → due_of k ≡ d →
+      IsNumberOf (IsDue p to) k
   answer_due old to d answer k e = sent_due to k (answer.due k e)
 
   -- and so are all that were answered
-  pub answered_due : t.fault ≡ None → (x : Mail) → Member x (answers_of t) → (k : NumberedMessage) → due_of k ≡ x.due → IsNumberOf (IsDue p x.to) k
+  pub answered_due : t.fault ≡ None → (x : Mail) → Member x (answers_of t) → (k : NumberedMessage) → due_of k ≡ x.due →
+      IsNumberOf (IsDue p x.to) k
   answered_due whole x m k e =
       let keys = t.found.given.mails.keys in
-      let given : Member x keys = subst (Member x) (take-append-drop t.found.given.answered keys) (member_left x (answers_of t) (drop t.found.given.answered keys) m) in
+      let given : Member x keys = subst (Member x) (take-append-drop t.found.given.answered keys)
+      (member_left x (answers_of t) (drop t.found.given.answered keys) m) in
       sent_due x.to k ((is.table.holds whole).0.given x.to k (subst (λ d. Member (mail x.to d) keys) (sym e) given))
 
   -- where the table has failed for its limit there are more path edges

@@ -39,22 +39,32 @@ module _ {G A S : Type 0} (members : S → List Triple) (t : Table G A S) (g : F
           still_complete t.graph.now t.procedure t.found there (members t.edges) (members t.edges) step (λ x. ⊥) held.1,
         );
     many = λ is.
-        let (ts, once, more, all) = old.many is in
-        (ts, once, more, λ x m. reaches_more t.graph.now (TookMessage t.found) (TookMessage there) taken x.entry x.point x.values (all x m));
+        let (ts, once, more, all) = old.many is in (
+          ts,
+          once,
+          more,
+          λ x m. reaches_more t.graph.now (TookMessage t.found) (TookMessage there) taken x.entry x.point
+              x.values (all x m),
+        );
   }
 
 -- the message that is answered next is given, so it is sent
 pub next_sent : {A : Type 0} (f : Found A) (r : Option (ℕ × Due)) (n : ℕ) (keys : List Mail) → keys ≡ f.given.mails.keys →
-    IfSome r (λ m. take n keys ≡ answers_in f.given ++ mail m.0 m.1 ∷ []) → (P : ℕ → NumberedMessage → Type 0) → ((s : ℕ) (k : NumberedMessage) → HasGiven f s k → P s k) →
+    IfSome r (λ m. take n keys ≡ answers_in f.given ++ mail m.0 m.1 ∷ []) → (P : ℕ → NumberedMessage → Type 0) →
+    ((s : ℕ) (k : NumberedMessage) → HasGiven f s k → P s k) →
     IfSome r (λ m. (k : NumberedMessage) → due_of k ≡ m.1 → P m.0 k)
 next_sent f None n keys same next P gives = tt
 next_sent f (Some (to, due)) n keys same next P gives = λ k is.
-    let there : Member (mail to due) (take n keys) = subst (Member (mail to due)) (sym next) (member_right (mail to due) (answers_in f.given) (mail to due ∷ []) (inl refl)) in
+    let there : Member (mail to due) (take n keys) =
+    subst (Member (mail to due)) (sym next)
+    (member_right (mail to due) (answers_in f.given) (mail to due ∷ []) (inl refl)) in
     let all : Member (mail to due) keys = subst (Member (mail to due)) (take-append-drop n keys) (member_left (mail to due) (take n keys) (drop n keys) there) in
     gives to k (subst (λ d. Member (mail to d) f.given.mails.keys) (sym is) (subst (Member (mail to due)) same all))
 
 -- a table with nothing pending that has answered all it gave is quiet
-pub quiet_table : {G A S : Type 0} (members : S → List Triple) (t : Table G A S) → IsGrounded t.graph.now t.procedure t.found (members t.edges) → IsComplete t.graph.now t.procedure t.found (members t.edges) (λ x. ⊥) →
+pub quiet_table : {G A S : Type 0} (members : S → List Triple) (t : Table G A S) →
+    IsGrounded t.graph.now t.procedure t.found (members t.edges) →
+    IsComplete t.graph.now t.procedure t.found (members t.edges) (λ x. ⊥) →
     t.found.pending.items ≡ [] → answers_of t ≡ t.found.given.mails.keys → tables.IsQuiet members t
 quiet_table members t sound complete none all =
     let quiet = is_exact t.graph.now t.procedure t.found (members t.edges) complete none sound in record {

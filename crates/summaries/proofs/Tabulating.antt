@@ -97,7 +97,8 @@ module _ {G A S : Type 0} (members : S → List Triple) (p : Program) (ts : List
         let by_table : Sends t.graph.now t.procedure (TookMessage t.found) s k =
         subst (λ n. Sends t.graph.now n (TookMessage t.found) s k) (sym (are.number q t is))
         (subst (λ (o : Option (Table G A S)). Sends t.graph.now q (IsTaken o) s k) is (subst (λ (g : Graph G). Sends g q (T q) s k) same sends)) in
-        elim (are.answers q t (mail s (due_of k)) is (((quiet_at q t is).sends s k).0 by_table)) [ inl none ↦ absurd none | inr received ↦ received k refl ]
+        elim (are.answers q t (mail s (due_of k)) is (((quiet_at q t is).sends s k).0 by_table))
+        [ inl none ↦ absurd none | inr received ↦ received k refl ]
 
     module _ (q : ℕ) (t : Table G A S) (is : slice_get ts q ≡ Some t) where
       started : T 0 (numbered_entry starter 0)
@@ -178,7 +179,8 @@ module _ {G A S : Type 0} (members : S → List Triple) (p : Program) (ts : List
 
       -- and some pair is bad where the program has a bad pair
       pub all_bad : (bad : ℕ)
-          → ((s : Effect) × (slice_get ss 0 ≡ Some s) × ((a : ℕ) × (b : ℕ) × Member (pair a b) s.pairs × (bit_of b bad ≡ true))) ↔ SomeBad p bad
+          → ((s : Effect) × (slice_get ss 0 ≡ Some s) ×
+          ((a : ℕ) × (b : ℕ) × Member (pair a b) s.pairs × (bit_of b bad ≡ true))) ↔ SomeBad p bad
       all_bad bad = (
         λ h. let (t, there, off) = table_of 0 h.0 h.1 in
             let (a, b, m, bit) = h.2 in

@@ -18,17 +18,20 @@ use Rattle.summaries.specs.Tables.{answers_of, HasMore, Holds, IsReached, IsAnsw
 use Rattle.summaries.specs.Limits.{most_of}
 
 -- a message that is answered, by its parts
-pub answer_is : {G A S : Type 0} (old new : Table G A S) (r : Option (ℕ × Due)) → IfSome r (λ m. answers_of new ≡ answers_of old ++ mail m.0 m.1 ∷ [])
+pub answer_is : {G A S : Type 0} (old new : Table G A S) (r : Option (ℕ × Due)) →
+    IfSome r (λ m. answers_of new ≡ answers_of old ++ mail m.0 m.1 ∷ [])
     → IfSome r (λ m. (k : NumberedMessage) → due_of k ≡ m.1 → Sends new.graph.now new.procedure (TookMessage new.found) m.0 k)
     → IfSome r (λ m. Member (mail m.0 m.1) (answers_of old) → ⊥) → IfSome r (λ m. IsAnswer old new m.0 m.1)
 answer_is old new None behind due once = tt
 answer_is old new (Some _) behind due once = record { behind = behind; due = due; once = once }
 
 module _ {G A S : Type 0} (members : S → List Triple) where
-  module _ {T : Type 0} (Aside : Triple → Type 0) (r : Result T TableFault) (old new : Table G A S) (edges : (x : Triple) → Member x (members new.edges) → IsReached new x)
+  module _ {T : Type 0} (Aside : Triple → Type 0) (r : Result T TableFault) (old new : Table G A S)
+      (edges : (x : Triple) → Member x (members new.edges) → IsReached new x)
       (within : length (members new.edges) ≤ most_of new.limit) (stays : StaysAs old new) (fault : new.fault ≡ old.fault) where
     -- where the answer is a fault
-    pub failed_worked : (P : TableFault → Type 0) → IsErrAnd r P → (r ≡ Err EdgeLimit → HasMore (most_of new.limit) (IsReached new)) → Worked members Aside r old new
+    pub failed_worked : (P : TableFault → Type 0) → IsErrAnd r P →
+        (r ≡ Err EdgeLimit → HasMore (most_of new.limit) (IsReached new)) → Worked members Aside r old new
     failed_worked P told many = record {
       holds = failed_ok _ P r told;
       edges = edges;
@@ -44,7 +47,8 @@ module _ {G A S : Type 0} (members : S → List Triple) where
     refused_worked told = failed_worked (λ e. e ≡ Memory) told (λ is. absurd (no_limit r told is))
 
   -- work that goes on from other work, and leaves other edges aside
-  pub then_worked : {T : Type 0} (Aside Left : Triple → Type 0) (r : Result T TableFault) (old mid new : Table G A S) → StaysAs old mid → mid.fault ≡ old.fault
+  pub then_worked : {T : Type 0} (Aside Left : Triple → Type 0) (r : Result T TableFault) (old mid new : Table G A S) →
+      StaysAs old mid → mid.fault ≡ old.fault
       → answers_of mid ≡ answers_of old → OnOk r (Holds members Left new) → Worked members Aside r mid new → Worked members Left r old new
   then_worked Aside Left r old mid new stays fault same holds worked = record {
     holds = holds;
@@ -52,6 +56,11 @@ module _ {G A S : Type 0} (members : S → List Triple) where
     within = worked.within;
     many = worked.many;
     answers = IfOk-weaker r _ _ (λ _ more. more ∙ same) worked.answers;
-    stays = record { graph = worked.stays.graph ∙ stays.graph; procedure = worked.stays.procedure ∙ stays.procedure; limit = worked.stays.limit ∙ stays.limit };
+    stays = record {
+      graph = worked.stays.graph ∙ stays.graph;
+      procedure =
+          worked.stays.procedure ∙ stays.procedure;
+      limit = worked.stays.limit ∙ stays.limit;
+    };
     fault = worked.fault ∙ fault;
   }

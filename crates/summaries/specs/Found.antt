@@ -90,7 +90,8 @@ module _ {A G : Type 0} (graph : Graph G) (q : ℕ) (f : Found A) (edges : List 
   -- The edge is worked on: where its choices lead are edges, its call stands as a site, and at the exit its globals as an
   -- exit.
   pub record IsWorked (a n v : ℕ) : Type 0 where
-    pub flows : (flow : Flow G) (i n' v' : ℕ) → slice_get (flows_of graph) n ≡ Some flow → i ≤ last_of flow → next_of flow v i ≡ Some (n', v') →
+    pub flows : (flow : Flow G) (i n' v' : ℕ) → slice_get (flows_of graph) n ≡ Some flow → i ≤ last_of flow →
+        next_of flow v i ≡ Some (n', v') →
         Member (triple a n' v') edges
     pub calls : (flow : Flow G) (s e n' : ℕ) → slice_get (flows_of graph) n ≡ Some flow → entered_by flow v ≡ Some (s, e, n') →
         HasSite f s e (site a n' v)

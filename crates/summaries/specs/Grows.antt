@@ -44,7 +44,8 @@ AddsOnly {X} W old new = (x : X) → Member x new → W x ⊎ Member x old
 -- Triples were to be added, and so answers the adding. On Ok those of which W holds are added, and what is new stands pending;
 -- whatever the answer, no others are added, and no more than the limit; where the answer is that the limit is passed, there are
 -- as many, and one of which W holds is not among them.
-pub record Adds (W : Triple → Type 0) {T : Type 0} (answer : Result T TableFault) (most : ℕ) (old new : List Triple) (before after : List Edge) : Type 0 where
+pub record Adds (W : Triple → Type 0) {T : Type 0} (answer : Result T TableFault) (most : ℕ) (old new : List Triple)
+    (before after : List Edge) : Type 0 where
   pub ok : OnOk answer (Grows W old new before after)
   pub only : AddsOnly W old new
   pub within : length new ≤ most

@@ -1,5 +1,6 @@
 -- What the table of one procedure promises, of which the path edges kept are listed by `members`.
-use Rattle.std.specs.Prelude.{◌≡◌, ◌≤◌, ◌<◌, ◌⊎◌, ◌↔◌, ◌+◌, ◌-◌, ◌*◌, ◌++◌, ◌∷◌, ℕ, Option, Some, None, Result, Ok, Err, OnOk, List, [], length}
+use Rattle.std.specs.Prelude.{◌≡◌, ◌≤◌, ◌<◌, ◌⊎◌, ◌↔◌, ◌+◌, ◌-◌, ◌*◌, ◌++◌, ◌∷◌}
+use Rattle.std.specs.Prelude.{ℕ, Option, Some, None, Result, Ok, Err, OnOk, List, [], length}
 use Rattle.language.specs.Flow.{Member}
 use Rattle.path_sets.specs.Triples.{Triple, triple, NoneTwice}
 use Rattle.flow_graph.specs.Drawn.{back_of, callee_of, entered_from, globals_of}
@@ -99,7 +100,8 @@ module _ {G A S : Type 0} (members : S → List Triple) where
   -- All that the table holds is reached and sent, and nothing that is reached or sent is left out but by what is pending
   -- and by the edges left aside.
   abbrev pub Holds : (Triple → Type 0) → Table G A S → Type 0
-  Holds Aside t = IsGrounded t.graph.now t.procedure t.found (members t.edges) × IsComplete t.graph.now t.procedure t.found (members t.edges) Aside
+  Holds Aside t = IsGrounded t.graph.now t.procedure t.found (members t.edges) ×
+      IsComplete t.graph.now t.procedure t.found (members t.edges) Aside
 
   -- The edges kept are reached by the messages taken, and no more than the limit; unless the table has failed, nothing is
   -- left out but by what is pending; where it has failed for its limit, more edges than that are reached.
@@ -159,5 +161,6 @@ module _ {G A S : Type 0} (members : S → List Triple) where
   -- By the messages taken the edges kept are what is reached, and the messages answered are what is sent.
   pub record IsQuiet (t : Table G A S) : Type 0 where
     pub edges : (a n v : ℕ) → Reaches t.graph.now (TookMessage t.found) a n v ↔ Member (triple a n v) (members t.edges)
-    pub sends : (s : ℕ) (k : NumberedMessage) → Sends t.graph.now t.procedure (TookMessage t.found) s k ↔ Member (mail s (due_of k)) (answers_of t)
+    pub sends : (s : ℕ) (k : NumberedMessage) →
+        Sends t.graph.now t.procedure (TookMessage t.found) s k ↔ Member (mail s (due_of k)) (answers_of t)
     pub leaves : (a b : ℕ) → Member (pair a b) t.found.pairs.keys ↔ Leaves t.graph.now (TookMessage t.found) a b

@@ -11,25 +11,36 @@ use Rattle.switchboard.specs.declared.calls.Taken.{Taken}
 use Rattle.switchboard.specs.Sights.{State, Sight, abort_of}
 use Rattle.switchboard.specs.Books.{with_entry, Answers, Refuses}
 use Rattle.switchboard.specs.Passes.{calls_of, share, sight_of, Comes, IsPass}
-use Rattle.switchboard.proofs.Visits.{Allowed, Kept, Visit, Found, found_here, shows, showing, step_keeps, adds, aborts, take_step, post_step, job_found, job_allowed, post_allowed, visit_is, some_calls, after_shows}
+use Rattle.switchboard.proofs.Visits.{Allowed, Kept, Visit, Found, found_here, shows, showing, step_keeps, adds}
+use Rattle.switchboard.proofs.Visits.{aborts, take_step, post_step, job_found, job_allowed, post_allowed, visit_is, some_calls, after_shows}
 
 module _ {M W : Type 0} (fits : W → ℕ → M → Type 0) where
   -- The pass shows itself as s and has the number n; it is inside, finds x and is lent it as v.
-  pub record Inside (a : Standing (State M W)) (w : W) (boxes : ℕ) (kept : Bool) (p : IsPass fits a w boxes kept) (x v : State M W) (s : Sight M W) (n : ℕ) : Type 0 where
+  pub record Inside (a : Standing (State M W)) (w : W) (boxes : ℕ) (kept : Bool) (p : IsPass fits a w boxes kept)
+      (x v : State M W) (s : Sight M W) (n : ℕ) : Type 0 where
     pub found : Found fits a.number p.last x
     pub see : showing fits a kept p.last ≡ s
     pub number : n ≡ a.number
     pub lent : v ≡ x
     pub near : a.number < x.boxes
 
-  pub inside : {guard : Held (State M W)} {a m : Standing (State M W)} {w : W} {boxes : ℕ} {kept : Bool} {v : State M W} {s : Sight M W} {n : ℕ} → (p : IsPass fits a w boxes kept) → Entered (Comes fits) share guard a m
+  pub inside : {guard : Held (State M W)} {a m : Standing (State M W)} {w : W} {boxes : ℕ} {kept : Bool} {v : State M W}
+      {s : Sight M W} {n : ℕ} → (p : IsPass fits a w boxes kept) → Entered (Comes fits) share guard a m
       → sight_of a w boxes kept ≡ s → n ≡ s.number → v ≡ guard.value → Inside a w boxes kept p guard.value v s n
   inside {guard} {a} {m} {w} {boxes} {kept} p e view number lent =
       let f = found_here fits guard a m w boxes kept p e in
       let see = sym (shows fits a w boxes kept p) ∙ view in
-      record { found = f; see = see; number = number ∙ sym (ap (λ s. s.number) see); lent = lent; near = omega (arith, f.before.boxes, p.same_boxes, p.number) }
+      record {
+        found = f;
+        see = see;
+        number = number ∙ sym (ap (λ s. s.number) see);
+        lent = lent;
+        near =
+            omega (arith, f.before.boxes, p.same_boxes, p.number);
+      }
 
-  module _ {a : Standing (State M W)} {w : W} {boxes : ℕ} {kept : Bool} {p : IsPass fits a w boxes kept} {x v : State M W} {s : Sight M W} {n : ℕ} (h : Inside a w boxes kept p x v s n) where
+  module _ {a : Standing (State M W)} {w : W} {boxes : ℕ} {kept : Bool} {p : IsPass fits a w boxes kept}
+      {x v : State M W} {s : Sight M W} {n : ℕ} (h : Inside a w boxes kept p x v s n) where
     -- What is said of the number and the state that the call names holds of the lane's number and the state found, and back.
     pub to_lane : (R : ℕ → State M W → Type 0) → R n v → R a.number x
     to_lane R r = subst (λ k. R k x) h.number (subst (λ z. R n z) h.lent r)
@@ -53,26 +64,34 @@ module _ {M W : Type 0} (fits : W → ℕ → M → Type 0) where
     taking answer {y} is = step_keeps fits a.number x y h.found.sound (take_step fits a.number answer x y h.near is)
 
     -- It completes a job of its own.
-    pub completing : {job : ℕ} {y : State M W} → HasJob a.number job x.order → y ≡ with_entry (Completed a.number job) x → Kept fits a.number x y
-    completing {job} {y} has is = step_keeps fits a.number x y h.found.sound (adds (Completed a.number job) is refl (job_allowed fits a.number job x h.found.sound has))
+    pub completing : {job : ℕ} {y : State M W} → HasJob a.number job x.order →
+        y ≡ with_entry (Completed a.number job) x → Kept fits a.number x y
+    completing {job} {y} has is = step_keeps fits a.number x y h.found.sound
+        (adds (Completed a.number job) is refl (job_allowed fits a.number job x h.found.sound has))
 
     -- It aborts.
     pub aborting : (q : Abort) {y : State M W} → q.by ≡ a.number → y ≡ record x { aborted = abort_of x.aborted q } → Kept fits a.number x y
     aborting q {y} by is = step_keeps fits a.number x y h.found.sound (aborts q is by (subst (λ k. k < x.boxes) (sym by) h.near))
 
     -- It may post under a job of its own what fits, and posts it or is refused.
-    pub allowing : {to job : ℕ} {m : M} → HasJob a.number job x.order → to < s.seen.boxes → fits s.seen.world to m → Allowed fits (Posted to a.number m job) x
+    pub allowing : {to job : ℕ} {m : M} → HasJob a.number job x.order → to < s.seen.boxes → fits s.seen.world to m →
+        Allowed fits (Posted to a.number m job) x
     allowing {to} {job} {m} has near fit =
         post_allowed fits a.number job to m x (omega (arith, near, boxes_inside)) has (subst (λ z. fits z to m) (sym world_inside) fit)
 
-    pub posting : {to job : ℕ} {m : M} (answer : Result (Unit {0}) (PostFault M)) {y : State M W} → Allowed fits (Posted to a.number m job) x
-        → OnOk answer ((x.aborted ≡ None) × (y ≡ with_entry (Posted to a.number m job) x)) → IfErr answer (λ f. Refuses m f x y) → Kept fits a.number x y
-    posting {to} {job} {m} answer {y} may ok err = step_keeps fits a.number x y h.found.sound (post_step fits a.number (Posted to a.number m job) m answer x y refl may ok err)
+    pub posting : {to job : ℕ} {m : M} (answer : Result (Unit {0}) (PostFault M)) {y : State M W} →
+        Allowed fits (Posted to a.number m job) x
+        → OnOk answer ((x.aborted ≡ None) × (y ≡ with_entry (Posted to a.number m job) x)) →
+        IfErr answer (λ f. Refuses m f x y) → Kept fits a.number x y
+    posting {to} {job} {m} answer {y} may ok err =
+        step_keeps fits a.number x y h.found.sound
+        (post_step fits a.number (Posted to a.number m job) m answer x y refl may ok err)
 
     -- The pass had a call left.
     pub had_calls : {r : ℕ} → r ≡ s.calls → (r ≡ 0 → ⊥) → 0 < calls_of kept a.left
     had_calls {r} is some_of = some_calls fits r a kept p.last s h.see is some_of
 
     -- It left y and is outside: what it shows then.
-    pub shown_after : {b : Standing (State M W)} {y : State M W} (kept' : Bool) → Visit fits a b x y → Kept fits a.number x y → sight_of b w boxes kept' ≡ showing fits b kept' y
+    pub shown_after : {b : Standing (State M W)} {y : State M W} (kept' : Bool) → Visit fits a b x y →
+        Kept fits a.number x y → sight_of b w boxes kept' ≡ showing fits b kept' y
     shown_after {b} {y} kept' visit keeps = after_shows fits a b x y w boxes kept kept' p visit keeps

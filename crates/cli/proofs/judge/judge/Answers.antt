@@ -52,7 +52,8 @@ returns-then-bad-clause-verdict g c =
       found.tree,
       found.of,
       found.checked,
-      within c.args.text.now (count_of c.args.rounds) (most_of c.args.edges) (most_of c.args.edges) sequential found refl c.in_ok-summaries.ensures.few,
+      within c.args.text.now (count_of c.args.rounds) (most_of c.args.edges) (most_of c.args.edges) sequential found
+          refl c.in_ok-summaries.ensures.few,
       (tells c.args.text.now (count_of c.args.rounds) sequential found _ c.in_ok-summaries.ensures.bad).0 (c.bad.ensures.0 c.if-bad.true),
     )
 
@@ -63,13 +64,17 @@ returns-clause-verdict g c =
       found.tree,
       found.of,
       found.checked,
-      within c.args.text.now (count_of c.args.rounds) (most_of c.args.edges) (most_of c.args.edges) sequential found refl c.in_ok-summaries.ensures.few,
-      λ unsafe. true≢false (sym (c.bad.ensures.1 ((tells c.args.text.now (count_of c.args.rounds) sequential found _ c.in_ok-summaries.ensures.bad).1 unsafe)) ∙ c.if-bad.false),
+      within c.args.text.now (count_of c.args.rounds) (most_of c.args.edges) (most_of c.args.edges) sequential found
+          refl c.in_ok-summaries.ensures.few,
+      λ unsafe. true≢false (sym (c.bad.ensures.1
+          ((tells c.args.text.now (count_of c.args.rounds) sequential found _ c.in_ok-summaries.ensures.bad).1 unsafe)) ∙
+          c.if-bad.false),
     )
 
 pub returns-in_err-summaries-clause-stands : goal.returns-in_err-summaries-clause-stands
 returns-in_err-summaries-clause-stands g c =
     let p = err_from_is_err_and c.from_residual-in_err-summaries.result c.from_residual-in_err-summaries.ensures.1 in
     rw (p.1, p.2)
-    (stands c.args.text.now (count_of c.args.rounds) (most_of c.args.edges) (most_of c.args.edges) (sequential_tree c.in_ok-sequential.sequential) c.in_ok-sequential.ensures.rewriting refl _
+    (stands c.args.text.now (count_of c.args.rounds) (most_of c.args.edges) (most_of c.args.edges)
+    (sequential_tree c.in_ok-sequential.sequential) c.in_ok-sequential.ensures.rewriting refl _
     c.in_err-summaries.ensures.fault)

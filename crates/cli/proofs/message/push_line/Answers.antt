@@ -5,5 +5,6 @@ use Rattle.cli.proofs.message.push_line.Goals as goal
 pub returns : goal.returns
 returns g c =
     at_last c.push-4.result _ _ _
-    (on _ _ _ (on _ _ _ (on _ _ _ (on _ _ _ (on _ _ _ c.in_ok-push.ensures c.in_ok-push_bytes.ensures) c.in_ok-push_bytes-2.ensures) c.in_ok-push-2.ensures) c.in_ok-push-3.ensures) c.in_ok-push_blanks.ensures)
+    (on _ _ _ (on _ _ _ (on _ _ _ (on _ _ _ (on _ _ _ c.in_ok-push.ensures c.in_ok-push_bytes.ensures)
+    c.in_ok-push_bytes-2.ensures) c.in_ok-push-2.ensures) c.in_ok-push-3.ensures) c.in_ok-push_blanks.ensures)
     c.push-4.ensures

@@ -5,5 +5,6 @@ use Rattle.cli.proofs.message.unexpected.Goals as goal
 pub returns : goal.returns
 returns g c =
     at_last c.push_line.result _ _ _
-    (on _ _ _ (on _ _ _ (on _ _ _ (same _ _ c.in_ok-push_head.ensures) c.in_ok-push.ensures) c.in_ok-push_first.ensures) c.in_ok-push-2.ensures)
+    (on _ _ _ (on _ _ _ (on _ _ _ (same _ _ c.in_ok-push_head.ensures) c.in_ok-push.ensures) c.in_ok-push_first.ensures)
+    c.in_ok-push-2.ensures)
     c.push_line.ensures

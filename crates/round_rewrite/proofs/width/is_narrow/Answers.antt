@@ -45,5 +45,7 @@ returns-in_default g c =
     let last = c.args.rounds.last in
     let len : length (names_of c.args.program.now.globals.items) ≡ length c.as_slice.result.now = length-map c.args.program.now.globals.items name_of ∙ ap length (sym c.as_slice.ensures.value) in (
       λ h. absurd (false≢true h),
-      λ e. absurd (c.in_default.ensures.none refl (narrow_globals t last (global_count (length c.as_slice.result.now) last) (ap (λ m. global_count m last) len) e)),
+      λ e. absurd (c.in_default.ensures.none refl
+          (narrow_globals t last (global_count (length c.as_slice.result.now) last) (ap (λ m. global_count m last) len)
+          e)),
     )

@@ -14,8 +14,13 @@ returns-then-formals-gt-MOST_PLACES g c =
     let formals : length c.as_slice-formals.result.now ≡ length (names_of p.formals.items) = ap length c.as_slice-formals.ensures.value ∙ sym (length-map p.formals.items name_of) in
     let locals : length c.as_slice-locals.result.now ≡ length (names_of p.locals.items) = ap length c.as_slice-locals.ensures.value ∙ sym (length-map p.locals.items name_of) in
     let needs : c.needs-needs.result ≡ procedure_needs (proc_of p) = c.needs-needs.ensures ∙ (λ i. temporaries (names (names_of (c.as_slice-formals.ensures.value i) ++ names_of (c.as_slice-locals.ensures.value i))).is_shared (block_of (c.deref.ensures.value i))) in
-    let large = c.if-formals-gt-MOST_PLACES.true in
-    (λ h. absurd (false≢true h), λ h. let k : c.args.globals + (length (names_of p.formals.items) + (length (names_of p.locals.items) + procedure_needs (proc_of p))) ≤ most_places = h in absurd (omega (arith, k, formals, locals, needs, large)))
+    let large = c.if-formals-gt-MOST_PLACES.true in (
+      λ h. absurd (false≢true h),
+      λ h.
+          let k : c.args.globals + (length
+          (names_of p.formals.items) + (length (names_of p.locals.items) + procedure_needs (proc_of p))) ≤ most_places =
+          h in absurd (omega (arith, k, formals, locals, needs, large)),
+    )
 
 pub returns-then-locals-gt-MOST_PLACES : goal.returns-then-locals-gt-MOST_PLACES
 returns-then-locals-gt-MOST_PLACES g c =
@@ -23,8 +28,13 @@ returns-then-locals-gt-MOST_PLACES g c =
     let formals : length c.as_slice-formals.result.now ≡ length (names_of p.formals.items) = ap length c.as_slice-formals.ensures.value ∙ sym (length-map p.formals.items name_of) in
     let locals : length c.as_slice-locals.result.now ≡ length (names_of p.locals.items) = ap length c.as_slice-locals.ensures.value ∙ sym (length-map p.locals.items name_of) in
     let needs : c.needs-needs.result ≡ procedure_needs (proc_of p) = c.needs-needs.ensures ∙ (λ i. temporaries (names (names_of (c.as_slice-formals.ensures.value i) ++ names_of (c.as_slice-locals.ensures.value i))).is_shared (block_of (c.deref.ensures.value i))) in
-    let large = c.if-locals-gt-MOST_PLACES.true in
-    (λ h. absurd (false≢true h), λ h. let k : c.args.globals + (length (names_of p.formals.items) + (length (names_of p.locals.items) + procedure_needs (proc_of p))) ≤ most_places = h in absurd (omega (arith, k, formals, locals, needs, large)))
+    let large = c.if-locals-gt-MOST_PLACES.true in (
+      λ h. absurd (false≢true h),
+      λ h.
+          let k : c.args.globals + (length
+          (names_of p.formals.items) + (length (names_of p.locals.items) + procedure_needs (proc_of p))) ≤ most_places =
+          h in absurd (omega (arith, k, formals, locals, needs, large)),
+    )
 
 pub returns-then-needs-gt-MOST_PLACES : goal.returns-then-needs-gt-MOST_PLACES
 returns-then-needs-gt-MOST_PLACES g c =
@@ -32,8 +42,13 @@ returns-then-needs-gt-MOST_PLACES g c =
     let formals : length c.as_slice-formals.result.now ≡ length (names_of p.formals.items) = ap length c.as_slice-formals.ensures.value ∙ sym (length-map p.formals.items name_of) in
     let locals : length c.as_slice-locals.result.now ≡ length (names_of p.locals.items) = ap length c.as_slice-locals.ensures.value ∙ sym (length-map p.locals.items name_of) in
     let needs : c.needs-needs.result ≡ procedure_needs (proc_of p) = c.needs-needs.ensures ∙ (λ i. temporaries (names (names_of (c.as_slice-formals.ensures.value i) ++ names_of (c.as_slice-locals.ensures.value i))).is_shared (block_of (c.deref.ensures.value i))) in
-    let large = c.if-needs-gt-MOST_PLACES.true in
-    (λ h. absurd (false≢true h), λ h. let k : c.args.globals + (length (names_of p.formals.items) + (length (names_of p.locals.items) + procedure_needs (proc_of p))) ≤ most_places = h in absurd (omega (arith, k, formals, locals, needs, large)))
+    let large = c.if-needs-gt-MOST_PLACES.true in (
+      λ h. absurd (false≢true h),
+      λ h.
+          let k : c.args.globals + (length
+          (names_of p.formals.items) + (length (names_of p.locals.items) + procedure_needs (proc_of p))) ≤ most_places =
+          h in absurd (omega (arith, k, formals, locals, needs, large)),
+    )
 
 pub returns-then-places-gt-MOST_PLACES : goal.returns-then-places-gt-MOST_PLACES
 returns-then-places-gt-MOST_PLACES g c =
@@ -41,8 +56,13 @@ returns-then-places-gt-MOST_PLACES g c =
     let formals : length c.as_slice-formals.result.now ≡ length (names_of p.formals.items) = ap length c.as_slice-formals.ensures.value ∙ sym (length-map p.formals.items name_of) in
     let locals : length c.as_slice-locals.result.now ≡ length (names_of p.locals.items) = ap length c.as_slice-locals.ensures.value ∙ sym (length-map p.locals.items name_of) in
     let needs : c.needs-needs.result ≡ procedure_needs (proc_of p) = c.needs-needs.ensures ∙ (λ i. temporaries (names (names_of (c.as_slice-formals.ensures.value i) ++ names_of (c.as_slice-locals.ensures.value i))).is_shared (block_of (c.deref.ensures.value i))) in
-    let large = c.if-places-gt-MOST_PLACES.true in
-    (λ h. absurd (false≢true h), λ h. let k : c.args.globals + (length (names_of p.formals.items) + (length (names_of p.locals.items) + procedure_needs (proc_of p))) ≤ most_places = h in absurd (omega (arith, k, formals, locals, needs, large)))
+    let large = c.if-places-gt-MOST_PLACES.true in (
+      λ h. absurd (false≢true h),
+      λ h.
+          let k : c.args.globals + (length
+          (names_of p.formals.items) + (length (names_of p.locals.items) + procedure_needs (proc_of p))) ≤ most_places =
+          h in absurd (omega (arith, k, formals, locals, needs, large)),
+    )
 
 pub returns : goal.returns
 returns g c =
@@ -50,5 +70,9 @@ returns g c =
     let formals : length c.as_slice-formals.result.now ≡ length (names_of p.formals.items) = ap length c.as_slice-formals.ensures.value ∙ sym (length-map p.formals.items name_of) in
     let locals : length c.as_slice-locals.result.now ≡ length (names_of p.locals.items) = ap length c.as_slice-locals.ensures.value ∙ sym (length-map p.locals.items name_of) in
     let needs : c.needs-needs.result ≡ procedure_needs (proc_of p) = c.needs-needs.ensures ∙ (λ i. temporaries (names (names_of (c.as_slice-formals.ensures.value i) ++ names_of (c.as_slice-locals.ensures.value i))).is_shared (block_of (c.deref.ensures.value i))) in
-    let small = c.if-places-gt-MOST_PLACES.false in
-    (λ h. let k : c.args.globals + (length (names_of p.formals.items) + (length (names_of p.locals.items) + procedure_needs (proc_of p))) ≤ most_places = omega (arith, formals, locals, needs, small) in k, λ h. refl)
+    let small = c.if-places-gt-MOST_PLACES.false in (
+      λ h. let k : c.args.globals +
+          (length (names_of p.formals.items) + (length (names_of p.locals.items) + procedure_needs (proc_of p))) ≤
+          most_places = omega (arith, formals, locals, needs, small) in k,
+      λ h. refl,
+    )

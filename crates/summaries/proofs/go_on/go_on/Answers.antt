@@ -42,7 +42,9 @@ pub returns : goal.returns
 returns g c =
     let xs = c.args.summaries.now in
     let end : c.loop-globals.globals-index ≡ length xs = omega (arith, c.loop-globals-test.false, c.loop-globals.auto.globals-index-end) in
-    let grown = subst (λ l. Grows (Each (IsBehind c.args.graph.now c.args.site) l) (g.S.PathSet.members c.args.edges.now) (g.S.PathSet.members c.loop-globals.edges) c.args.pending.now.items c.loop-globals.pending.items)
+    let grown = subst (λ l. Grows (Each (IsBehind c.args.graph.now c.args.site) l)
+    (g.S.PathSet.members c.args.edges.now) (g.S.PathSet.members c.loop-globals.edges) c.args.pending.now.items
+    c.loop-globals.pending.items)
     (ap (λ n. take n xs) end ∙ take-length xs) c.loop-globals.invariant.0 in record {
       ok = grown;
       only = grown.only;

@@ -14,7 +14,8 @@ returns-in_err-reach g c =
     let failed = c.in_err-reach.ensures in record {
       ok = search rules;
       only = λ t there. elim (failed.only t there) [
-        | inl is ↦ inl (each_at (λ site. IsBehind c.args.graph.now site c.args.globals) xs i (site 0 0 0) c.loop-site-test.true t (is ∙ c.behind-edge.ensures))
+        | inl is ↦ inl (each_at (λ site. IsBehind c.args.graph.now site c.args.globals) xs i (site 0 0 0)
+            c.loop-site-test.true t (is ∙ c.behind-edge.ensures))
         | inr mid ↦ elim (c.loop-site.invariant.0.only t mid) [
           | inl first ↦ inl (each_first (λ site. IsBehind c.args.graph.now site c.args.globals) xs i t first)
           | inr was ↦ inr was
@@ -22,8 +23,13 @@ returns-in_err-reach g c =
       ];
       within = failed.within;
       limit = λ e.
-          let (t, is, new, full) = failed.limit (ap Err (sym (fault_of _ _ _ c.from_residual.ensures.1 e))) in
-          (t, each_at (λ site. IsBehind c.args.graph.now site c.args.globals) xs i (site 0 0 0) c.loop-site-test.true t (is ∙ c.behind-edge.ensures), new, full);
+          let (t, is, new, full) = failed.limit (ap Err (sym (fault_of _ _ _ c.from_residual.ensures.1 e))) in (
+            t,
+            each_at (λ site. IsBehind c.args.graph.now site c.args.globals) xs i (site 0 0 0) c.loop-site-test.true t
+                (is ∙ c.behind-edge.ensures),
+            new,
+            full,
+          );
     }
 
 pub loop-site-preserved : goal.loop-site-preserved
@@ -43,7 +49,9 @@ pub returns : goal.returns
 returns g c =
     let xs = c.args.sites.now in
     let end : c.loop-site.site-index ≡ length xs = omega (arith, c.loop-site-test.false, c.loop-site.auto.site-index-end) in
-    let grown = subst (λ l. Grows (Each (λ site. IsBehind c.args.graph.now site c.args.globals) l) (g.S.PathSet.members c.args.edges.now) (g.S.PathSet.members c.loop-site.edges) c.args.pending.now.items c.loop-site.pending.items)
+    let grown = subst (λ l. Grows (Each (λ site. IsBehind c.args.graph.now site c.args.globals) l)
+    (g.S.PathSet.members c.args.edges.now) (g.S.PathSet.members c.loop-site.edges) c.args.pending.now.items
+    c.loop-site.pending.items)
     (ap (λ n. take n xs) end ∙ take-length xs) c.loop-site.invariant.0 in record {
       ok = grown;
       only = grown.only;

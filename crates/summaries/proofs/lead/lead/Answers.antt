@@ -13,7 +13,8 @@ returns-in_err-reach_next g c =
       ok = search rules;
       only = λ t m. elim (failed.only t m) [
         | inl at ↦ inl (k, most, subst (λ next. IsAt c.args.from next t) c.next-next.ensures at)
-        | inr mid ↦ elim (c.choices.invariant.0.only t mid) [ inl some ↦ inl (some_next flow c.args.from k most t some) | inr was ↦ inr was ]
+        | inr mid ↦ elim (c.choices.invariant.0.only t mid)
+            [ inl some ↦ inl (some_next flow c.args.from k most t some) | inr was ↦ inr was ]
       ];
       within = failed.within;
       limit = λ e.
@@ -40,7 +41,8 @@ returns-then-choice-last g c =
     let k = c.choices.choice in
     let most = c.choices.invariant.2 in
     let least : last_of flow ≤ k = omega (arith, c.if-choice-last.true, c.last.ensures) in
-    let grown = grows_as (IsNextBefore (k + 1) flow from) (IsNext flow from) _ _ _ _ (next_all flow from k least most) (all_next flow from k least most)
+    let grown = grows_as (IsNextBefore (k + 1) flow from) (IsNext flow from) _ _ _ _ (next_all flow from k least most)
+    (all_next flow from k least most)
     (both (IsNextBefore k flow from) (IsAt from (next_of flow from.values k)) (IsNextBefore (k + 1) flow from) _ _ _ _ _ _ c.choices.invariant.0
     (subst (λ next. Grows (IsAt from next) (g.S.PathSet.members c.choices.edges) (g.S.PathSet.members c.reach_next.new.edges) c.choices.pending.items c.reach_next.new.pending.items) c.next-next.ensures c.in_ok-reach_next.ensures.ok)
     (next_more flow from k) (next_so_far flow from k)) in record {

@@ -13,8 +13,11 @@ returns-in_err-push g c = record {
 
 pub returns-in_ok-push : goal.returns-in_ok-push
 returns-in_ok-push g c =
-    let one = added c.args.edge (g.S.PathSet.members c.args.edges.now) (g.S.PathSet.members c.insert.new.self) c.args.pending.now.items c.in_ok-insert.ensures.members (longer_by _ _ c.in_ok-insert.field-0 c.if-branch.true c.in_ok-insert.ensures.len) in record {
-      ok = subst (λ after. Grows (λ t. t ≡ triple_of c.args.edge) (g.S.PathSet.members c.args.edges.now) (g.S.PathSet.members c.insert.new.self) c.args.pending.now.items after) (sym c.in_ok-push.ensures.items) one;
+    let one = added c.args.edge (g.S.PathSet.members c.args.edges.now) (g.S.PathSet.members c.insert.new.self)
+    c.args.pending.now.items c.in_ok-insert.ensures.members
+    (longer_by _ _ c.in_ok-insert.field-0 c.if-branch.true c.in_ok-insert.ensures.len) in record {
+      ok = subst (λ after. Grows (λ t. t ≡ triple_of c.args.edge) (g.S.PathSet.members c.args.edges.now)
+          (g.S.PathSet.members c.insert.new.self) c.args.pending.now.items after) (sym c.in_ok-push.ensures.items) one;
       only = λ t. (c.in_ok-insert.ensures.members t).0;
       within = search rules;
       limit = λ is. absurd (ok_err is);
@@ -22,7 +25,9 @@ returns-in_ok-push g c =
 
 pub returns-else-branch : goal.returns-else-branch
 returns-else-branch g c = record {
-  ok = known c.args.edge (g.S.PathSet.members c.args.edges.now) (g.S.PathSet.members c.insert.new.self) c.args.pending.now.items c.in_ok-insert.field-0 c.if-branch.false c.in_ok-insert.ensures.known c.in_ok-insert.ensures.members c.in_ok-insert.ensures.len;
+  ok = known c.args.edge (g.S.PathSet.members c.args.edges.now) (g.S.PathSet.members c.insert.new.self)
+      c.args.pending.now.items c.in_ok-insert.field-0 c.if-branch.false c.in_ok-insert.ensures.known
+      c.in_ok-insert.ensures.members c.in_ok-insert.ensures.len;
   only = λ t. (c.in_ok-insert.ensures.members t).0;
   within = search rules;
   limit = λ is. absurd (ok_err is);

@@ -25,7 +25,8 @@ loop-table-preserved g c =
     record {
       count = omega (arith, invariant.count, ap length pushed, length-append before (new ∷ []));
       read = λ q t s is_t is_s.
-          each_pushed (λ n (u : Effect). (v : Table g.row.G.Denot g.row.A.Denot g.row.S.Denot) → slice_get tables n ≡ Some v → IsReadOff v u) before new
+          each_pushed (λ n (u : Effect). (v : Table g.row.G.Denot g.row.A.Denot g.row.S.Denot) →
+          slice_get tables n ≡ Some v → IsReadOff v u) before new
           (λ n u is_u v is_v. invariant.read n v u is_v is_u)
           (λ v is_v. subst (λ (w : Table g.row.G.Denot g.row.A.Denot g.row.S.Denot). IsReadOff w new) (same_Some table v (sym is ∙ ap (slice_get tables) (sym invariant.count) ∙ is_v)) read)
           q s (subst (λ l. slice_get l q ≡ Some s) pushed is_s) t is_t;

@@ -49,7 +49,9 @@ loop-at-init g c = record {
   tables =
       let a = (goal.at.loop-at-init g c).After-index_mut in
       let delivers = c.in_ok-deliver.ensures in
-      delivered g.S.PathSet.members g.program 0 (Entry Starter 0) c.args.tables.now.items c.requires.1.1.1 c.index_mut.result.now c.deliver.new.table (first_is g a) delivers.table delivers.fault delivers.stays delivers.taken delivers.only delivers.answers (opened_due g a);
+      delivered g.S.PathSet.members g.program 0 (Entry Starter 0) c.args.tables.now.items c.requires.1.1.1
+      c.index_mut.result.now c.deliver.new.table (first_is g a) delivers.table delivers.fault delivers.stays
+      delivers.taken delivers.only delivers.answers (opened_due g a);
   quiet = λ q t below is. absurd (omega (arith, below));
   within = omega arith;
   limits = λ n h.
@@ -73,7 +75,9 @@ returns-in_err-to-clause-limit g c = λ e n h.
     let next = c.in_err-to.ensures in
     let told = fault_told _ c.from_residual-in_err-to.result EdgeLimit c.from_residual-in_err-to.ensures.1 e in
     let a = (goal.at.returns-in_err-to-clause-limit g c).After-index_mut-in-loop-at in
-    same_too_many g.S.PathSet.members g.program (λ x. ⊥) c.loop-at.tables.items c.loop-at.invariant.tables c.loop-at.at c.index_mut-in-loop-at.result.now c.next.new.self (at_is g a) next.keeps.table next.keeps.stays (next.keeps.fault ∙ ap Some (sym told)) next.keeps.taken n (c.loop-at.invariant.limits n h)
+    same_too_many g.S.PathSet.members g.program (λ x. ⊥) c.loop-at.tables.items c.loop-at.invariant.tables c.loop-at.at
+    c.index_mut-in-loop-at.result.now c.next.new.self (at_is g a) next.keeps.table next.keeps.stays
+    (next.keeps.fault ∙ ap Some (sym told)) next.keeps.taken n (c.loop-at.invariant.limits n h)
 
 -- ---- its receiver takes the message
 
@@ -85,11 +89,14 @@ answers_is g c = slice_get_read c.loop-at.tables.items _ c.loop-at.at c.index_mu
 
 -- the message is what the table answered
 answer_of : (g : Over) (c : In-Some g) → IsAnswer c.index_mut-in-loop-at.result.now c.next.new.self c.in-Some.to c.in-Some.due
-answer_of g c = subst (λ o. IfSome o (λ m. IsAnswer c.index_mut-in-loop-at.result.now c.next.new.self m.0 m.1)) c.in-Some.is c.in_ok-to.ensures.some
+answer_of g c = subst (λ o. IfSome o (λ m. IsAnswer c.index_mut-in-loop-at.result.now c.next.new.self m.0 m.1))
+    c.in-Some.is c.in_ok-to.ensures.some
 
 to_due : (g : Over) (c : In-Some g) → To g c
 to_due g c =
-    mail_due g.S.PathSet.members g.program (λ x. ⊥) c.loop-at.tables.items c.loop-at.invariant.tables c.loop-at.at c.index_mut-in-loop-at.result.now c.next.new.self (answers_is g c) c.in_ok-to.ensures.keeps c.in-Some.to c.in-Some.due (answer_of g c)
+    mail_due g.S.PathSet.members g.program (λ x. ⊥) c.loop-at.tables.items c.loop-at.invariant.tables c.loop-at.at
+    c.index_mut-in-loop-at.result.now c.next.new.self (answers_is g c) c.in_ok-to.ensures.keeps c.in-Some.to
+    c.in-Some.due (answer_of g c)
 
 to_there : (g : Over) (c : In-Some g) → c.in-Some.to < length c.loop-at.tables.items
 to_there g c = mail_receiver g.S.PathSet.members g.program (λ x. ⊥) c.loop-at.tables.items c.loop-at.invariant.tables c.in-Some.to c.in-Some.due (to_due g c)
@@ -98,7 +105,9 @@ to_there g c = mail_receiver g.S.PathSet.members g.program (λ x. ⊥) c.loop-at
 then_aside : (g : Over) (c : In-Some g) → AreTables g.S.PathSet.members g.program (λ x. x ≡ mail c.in-Some.to c.in-Some.due) (slice_set c.loop-at.tables.items c.loop-at.at c.next.new.self)
 then_aside g c =
     let next = c.in_ok-to.ensures in
-    answered g.S.PathSet.members g.program c.loop-at.tables.items c.loop-at.invariant.tables c.loop-at.at c.index_mut-in-loop-at.result.now c.next.new.self (answers_is g c) next.keeps.table next.keeps.fault next.keeps.stays next.keeps.taken (mail c.in-Some.to c.in-Some.due) (answer_of g c).behind
+    answered g.S.PathSet.members g.program c.loop-at.tables.items c.loop-at.invariant.tables c.loop-at.at
+    c.index_mut-in-loop-at.result.now c.next.new.self (answers_is g c) next.keeps.table next.keeps.fault
+    next.keeps.stays next.keeps.taken (mail c.in-Some.to c.in-Some.due) (answer_of g c).behind
 
 pub index_mut-requires-in-Some : goal.index_mut-requires-in-Some
 index_mut-requires-in-Some g c =
@@ -126,7 +135,8 @@ returns-in_err-deliver-in-Some-clause-limit g c = λ e n h.
     let ts = slice_set c.loop-at.tables.items c.loop-at.at c.next.new.self in
     let are = then_aside g at.In-Some in
     let is = to_is g at.After-index_mut-in-Some in
-    let limits = limits_stay n c.loop-at.tables.items c.loop-at.at c.index_mut-in-loop-at.result.now c.next.new.self (answers_is g at.In-Some) c.in_ok-to.ensures.keeps.stays (c.loop-at.invariant.limits n h) in
+    let limits = limits_stay n c.loop-at.tables.items c.loop-at.at c.index_mut-in-loop-at.result.now c.next.new.self
+    (answers_is g at.In-Some) c.in_ok-to.ensures.keeps.stays (c.loop-at.invariant.limits n h) in
     let due = only_due g.S.PathSet.members g.program (λ x. x ≡ mail c.in-Some.to c.in-Some.due) ts are c.in-Some.to c.in-Some.due c.index_mut-in-Some.result.now c.deliver-in-Some.new.table is delivers.only (to_due g at.In-Some) in
     too_many g.S.PathSet.members g.program (λ x. x ≡ mail c.in-Some.to c.in-Some.due) ts are c.in-Some.to c.index_mut-in-Some.result.now c.deliver-in-Some.new.table is delivers.table delivers.stays (delivers.fault ∙ ap Some (sym told)) due n limits
 
@@ -142,7 +152,8 @@ loop-at-smaller-in-Some g c =
     let more = (answer_of g at.In-Some).behind in
     let few = next.few in
     let less = less_room (2 ^ 64) items c.loop-at.at c.index_mut-in-loop-at.result.now c.next.new.self (mail c.in-Some.to c.in-Some.due) is more few in
-    let same = same_room (2 ^ 64) one c.in-Some.to c.index_mut-in-Some.result.now c.deliver-in-Some.new.table then c.in_ok-deliver-in-Some.ensures.answers in
+    let same = same_room (2 ^ 64) one c.in-Some.to c.index_mut-in-Some.result.now c.deliver-in-Some.new.table then
+    c.in_ok-deliver-in-Some.ensures.answers in
     let long : length two ≡ length items = length-set one c.in-Some.to c.deliver-in-Some.new.table ∙ length-set items c.loop-at.at c.next.new.self in
     subst (λ n. steps_left (room (2 ^ 64) two) n c.min-at.result < steps_left (room (2 ^ 64) items) (length items) c.loop-at.at) (sym long)
     (fewer_rooms (room (2 ^ 64) items) (room (2 ^ 64) two) (length items) c.min-at.result c.loop-at.at (subst (λ r. r < room (2 ^ 64) items) (sym same) less))
@@ -158,12 +169,15 @@ loop-at-preserved-in-Some g c =
     let delivers = c.in_ok-deliver-in-Some.ensures in
     let long : length two ≡ length items = length-set one c.in-Some.to c.deliver-in-Some.new.table ∙ length-set items c.loop-at.at c.next.new.self in
     record {
-      tables = delivered g.S.PathSet.members g.program c.in-Some.to c.in-Some.due one (then_aside g at.In-Some) c.index_mut-in-Some.result.now c.deliver-in-Some.new.table then delivers.table delivers.fault delivers.stays delivers.taken delivers.only delivers.answers (to_due g at.In-Some);
+      tables = delivered g.S.PathSet.members g.program c.in-Some.to c.in-Some.due one (then_aside g at.In-Some)
+          c.index_mut-in-Some.result.now c.deliver-in-Some.new.table then delivers.table delivers.fault delivers.stays
+          delivers.taken delivers.only delivers.answers (to_due g at.In-Some);
       quiet = still_quiet g.S.PathSet.members c.loop-at.at c.loop-at.at c.in-Some.to c.min-at.result items c.next.new.self c.deliver-in-Some.new.table c.loop-at.invariant.quiet (omega arith) (omega arith) (omega arith);
       within = omega (arith, long);
       limits = λ n h.
           limits_stay n one c.in-Some.to c.index_mut-in-Some.result.now c.deliver-in-Some.new.table then delivers.stays
-          (limits_stay n items c.loop-at.at c.index_mut-in-loop-at.result.now c.next.new.self is c.in_ok-to.ensures.keeps.stays (c.loop-at.invariant.limits n h));
+          (limits_stay n items c.loop-at.at c.index_mut-in-loop-at.result.now c.next.new.self is
+          c.in_ok-to.ensures.keeps.stays (c.loop-at.invariant.limits n h));
     }
 
 -- ---- a table owes none
@@ -176,7 +190,8 @@ loop-at-smaller g c =
     let is = none_is g (goal.at.loop-at-smaller g c).In-None in
     let items = c.loop-at.tables.items in
     let one = slice_set items c.loop-at.at c.next.new.self in
-    let none = subst (λ o. IfNone o (answers_of c.next.new.self ≡ answers_of c.index_mut-in-loop-at.result.now)) c.in-None.is c.in_ok-to.ensures.none in
+    let none = subst (λ o. IfNone o (answers_of c.next.new.self ≡ answers_of c.index_mut-in-loop-at.result.now))
+    c.in-None.is c.in_ok-to.ensures.none in
     let same = same_room (2 ^ 64) items c.loop-at.at c.index_mut-in-loop-at.result.now c.next.new.self is none in
     let long = length-set items c.loop-at.at c.next.new.self in
     let within : c.loop-at.at < length items = omega (arith, c.loop-at.tables.ok.0) in
@@ -193,10 +208,13 @@ loop-at-preserved g c =
     let quiet = subst (λ o. IfNone o (IsQuiet g.S.PathSet.members c.next.new.self)) c.in-None.is next.quiet in
     let long = length-set items c.loop-at.at c.next.new.self in
     record {
-      tables = answered_none g.S.PathSet.members g.program items c.loop-at.invariant.tables c.loop-at.at c.index_mut-in-loop-at.result.now c.next.new.self is next.keeps.table next.keeps.fault next.keeps.stays next.keeps.taken none;
+      tables = answered_none g.S.PathSet.members g.program items c.loop-at.invariant.tables c.loop-at.at
+          c.index_mut-in-loop-at.result.now c.next.new.self is next.keeps.table next.keeps.fault next.keeps.stays
+          next.keeps.taken none;
       quiet = one_more_quiet g.S.PathSet.members c.loop-at.at items c.next.new.self c.loop-at.invariant.quiet quiet;
       within = omega (arith, long, c.loop-at.tables.ok.0);
-      limits = λ n h. limits_stay n items c.loop-at.at c.index_mut-in-loop-at.result.now c.next.new.self is next.keeps.stays (c.loop-at.invariant.limits n h);
+      limits = λ n h. limits_stay n items c.loop-at.at c.index_mut-in-loop-at.result.now c.next.new.self is
+          next.keeps.stays (c.loop-at.invariant.limits n h);
     }
 
 pub returns-clause-quiet : goal.returns-clause-quiet

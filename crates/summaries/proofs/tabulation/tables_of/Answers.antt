@@ -17,7 +17,9 @@ loop-procedure-preserved g c =
       count = omega (arith, invariant.count, ap length pushed, length-append before (new ∷ []));
       fresh = λ q t is. each_pushed (λ n (u : Table g.row.G.Denot g.row.A.Denot g.row.S.Denot). IsNew g.S.PathSet.members u) before new invariant.fresh c.new.ensures.new q t (subst (λ l. slice_get l q ≡ Some t) pushed is);
       numbered = λ q t is. each_pushed (λ n (u : Table g.row.G.Denot g.row.A.Denot g.row.S.Denot). u.procedure ≡ n) before new invariant.numbered (c.new.ensures.procedure ∙ place) q t (subst (λ l. slice_get l q ≡ Some t) pushed is);
-      limits = λ q t is. each_pushed (λ n (u : Table g.row.G.Denot g.row.A.Denot g.row.S.Denot). most_of u.limit ≡ most_of c.args.limit) before new invariant.limits c.new.ensures.limit q t (subst (λ l. slice_get l q ≡ Some t) pushed is);
+      limits = λ q t is. each_pushed
+          (λ n (u : Table g.row.G.Denot g.row.A.Denot g.row.S.Denot). most_of u.limit ≡ most_of c.args.limit) before new
+          invariant.limits c.new.ensures.limit q t (subst (λ l. slice_get l q ≡ Some t) pushed is);
       graphs = λ q t is. each_pushed (λ n (u : Table g.row.G.Denot g.row.A.Denot g.row.S.Denot). slice_get c.args.graphs.now.graphs.items n ≡ Some u.graph.now) before new invariant.graphs (subst (λ n. slice_get c.args.graphs.now.graphs.items n ≡ Some new.graph.now) place c.new.ensures.graph) q t (subst (λ l. slice_get l q ≡ Some t) pushed is);
     }
 

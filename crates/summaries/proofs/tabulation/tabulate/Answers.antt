@@ -41,10 +41,12 @@ pub returns-clause-bad : goal.returns-clause-bad
 returns-clause-bad g c =
     let a = (goal.at.returns-clause-bad g c).In_ok-procedures in
     let ran = c.in_ok-run.ensures in
-    subst (λ b. SomePairBad (record { procedures = c.in_ok-procedures.procedures.items; bad = c.bad-bad.result }) ↔ SomeBad g.program b) c.bad-bad.ensures
+    subst (λ b. SomePairBad (record { procedures = c.in_ok-procedures.procedures.items; bad = c.bad-bad.result }) ↔
+    SomeBad g.program b) c.bad-bad.ensures
     (all_bad g.S.PathSet.members g.program c.run.new.tables.items ran.tables ran.quiet c.in_ok-procedures.procedures.items (same_length g a) (read_off g a) c.bad-bad.result)
 
 pub returns-clause-few : goal.returns-clause-few
 returns-clause-few g c =
     let ran = c.in_ok-run.ensures in
-    few g.S.PathSet.members g.program c.run.new.tables.items ran.tables ran.quiet (most_of c.args.limit) (ran.limits (most_of c.args.limit) c.in_ok-tables.ensures.limit)
+    few g.S.PathSet.members g.program c.run.new.tables.items ran.tables ran.quiet (most_of c.args.limit)
+    (ran.limits (most_of c.args.limit) c.in_ok-tables.ensures.limit)

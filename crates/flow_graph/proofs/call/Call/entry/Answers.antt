@@ -13,7 +13,14 @@ loop-argument-preserved g c =
     let xs = c.as_slice-argument-items.result.now in
     let i = c.loop-argument.argument-index in
     let next = drop_more xs i c.argument-item.result c.loop-argument-test.true ∙ ap (λ x. x ∷ drop (i + 1) xs) (sym c.argument-item.is) in
-    let bit : c.loop-argument.bit < most_places = omega (arith, c.loop-argument.invariant.2, c.loop-argument-test.true, c.as_slice-argument-items.ensures.len, c.args.self.now.fits) in
+    let bit : c.loop-argument.bit < most_places =
+    omega (
+      arith,
+      c.loop-argument.invariant.2,
+      c.loop-argument-test.true,
+      c.as_slice-argument-items.ensures.len,
+      c.args.self.now.fits,
+    ) in
     let (whole, below) = argument_step (λ f. says f c.args.values) (drop i xs) (drop (i + 1) xs) c.argument-item.result c.loop-argument.entry c.loop-argument.bit _ _
     c.loop-argument.invariant.0 next (byte_worth c.value.result ∙ ap worth_of c.value.ensures) c.loop-argument.invariant.1 bit in
     (whole, below, omega (arith, c.loop-argument.invariant.2))

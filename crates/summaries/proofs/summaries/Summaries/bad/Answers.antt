@@ -14,7 +14,8 @@ use Rattle.summaries.proofs.summaries.Summaries.bad.Goals.{In-Some}
 
 -- the first procedure's summary is there
 main_is : (g : Over) (c : In-Some g) → slice_get c.args.self.now.procedures 0 ≡ Some c.in-Some.main.now
-main_is g c = ap (λ (e : Effects). slice_get e.procedures 0) (sym c.self.view_is) ∙ ap (λ l. slice_get l 0) (sym c.as_slice.ensures.value) ∙ sym c.in-Some.ensures.value
+main_is g c = ap (λ (e : Effects). slice_get e.procedures 0) (sym c.self.view_is) ∙
+    ap (λ l. slice_get l 0) (sym c.as_slice.ensures.value) ∙ sym c.in-Some.ensures.value
 
 pub returns-then-has_bit : goal.returns-then-has_bit
 returns-then-has_bit g c = (λ _. (c.in-Some.main.now, main_is g (goal.at.returns-then-has_bit g c).In-Some, (x.a, x.b, member, bit)), λ _. refl)
@@ -26,7 +27,8 @@ returns-then-has_bit g c = (λ _. (c.in-Some.main.now, main_is g (goal.at.return
     member =
         subst (λ (e : Effect). Member x e.pairs) c.main.view_is
         (subst (Member x) c.deref-pair-items.ensures.value
-        (got_member c.deref-pair-items.result.now c.loop-pair.pair-index x (slice_get-get_or c.deref-pair-items.result.now c.loop-pair.pair-index (pair 0 0) c.loop-pair-test.true)))
+        (got_member c.deref-pair-items.result.now c.loop-pair.pair-index x
+        (slice_get-get_or c.deref-pair-items.result.now c.loop-pair.pair-index (pair 0 0) c.loop-pair-test.true)))
 
     bit : bit_of x.b c.args.self.now.bad ≡ true
     bit = ap (λ (e : Effects). bit_of x.b e.bad) (sym c.self.view_is) ∙ sym c.has_bit.ensures ∙ c.if-has_bit.true
@@ -38,7 +40,8 @@ loop-pair-preserved g c = λ q x below is bit.
       | inl now ↦
           let here : get_or c.deref-pair-items.result.now c.loop-pair.pair-index (pair 0 0) ≡ x = get_or_from_slice_get c.deref-pair-items.result.now c.loop-pair.pair-index x (pair 0 0) (ap (slice_get c.deref-pair-items.result.now) (sym now) ∙ is) in
           true≢false (sym bit ∙ ap (λ (y : Pair). bit_of y.b c.args.self.now.bad) (sym here)
-          ∙ ap (λ (e : Effects). bit_of (get_or c.deref-pair-items.result.now c.loop-pair.pair-index (pair 0 0)).b e.bad) (sym c.self.view_is) ∙ sym c.has_bit.ensures ∙ c.if-has_bit.false)
+          ∙ ap (λ (e : Effects). bit_of (get_or c.deref-pair-items.result.now c.loop-pair.pair-index (pair 0 0)).b
+          e.bad) (sym c.self.view_is) ∙ sym c.has_bit.ensures ∙ c.if-has_bit.false)
     ]
 
 pub returns : goal.returns
@@ -48,6 +51,8 @@ returns g c = (
       let (summary, is, found) = h in
       let (a, b, m, bit) = found in
       let same = same_Some summary c.in-Some.main.now (sym is ∙ main_is g (goal.at.returns g c).In-Some) in
-      let (q, there, below) = member_got c.deref-pair-items.result.now (pair a b) (subst (Member (pair a b)) (ap (λ (e : Effect). e.pairs) (same ∙ sym c.main.view_is) ∙ sym c.deref-pair-items.ensures.value) m) in
+      let (q, there, below) = member_got c.deref-pair-items.result.now (pair a b)
+      (subst (Member (pair a b)) (ap (λ (e : Effect). e.pairs) (same ∙ sym c.main.view_is) ∙
+      sym c.deref-pair-items.ensures.value) m) in
       absurd (c.loop-pair.invariant q (pair a b) (omega (arith, below, c.loop-pair-test.false)) there bit),
 )

@@ -15,7 +15,16 @@ pub returns-clause-keeps : goal.returns-clause-keeps
 returns-clause-keeps g c =
     let self = c.args.self.now in
     let f = self.found in
-    let h : Found g.row.A.Denot = record { entries = f.entries; summaries = f.summaries; sites = f.sites; exits = f.exits; pairs = f.pairs; given = c.next.new.self; pending = f.pending } in record {
+    let h : Found g.row.A.Denot = record {
+      entries = f.entries;
+      summaries = f.summaries;
+      sites = f.sites;
+      exits = f.exits;
+      pairs = f.pairs;
+      given =
+          c.next.new.self;
+      pending = f.pending;
+    } in record {
       table = same_table g.S.PathSet.members self h refl c.next.ensures.given refl c.requires.table;
       taken = (refl, refl);
       stays = record { graph = refl; procedure = refl; limit = refl };
@@ -28,9 +37,21 @@ returns-clause-some g c =
     let f = self.found in
     let es = g.S.PathSet.members self.edges in
     let h : Found g.row.A.Denot = record { entries = f.entries; summaries = f.summaries; sites = f.sites; exits = f.exits; pairs = f.pairs; given = c.next.new.self; pending = f.pending } in
-    let new : Table g.row.G.Denot g.row.A.Denot g.row.S.Denot = record { graph = self.graph; procedure = self.procedure; limit = self.limit; edges = self.edges; found = h; fault = self.fault } in
-    let sound = still_grounded self.graph.now self.procedure f h es es (same_step self.graph.now self.procedure f h es refl c.next.ensures.given refl) (c.requires.table.holds c.requires.fault).0 in
+    let new : Table g.row.G.Denot g.row.A.Denot g.row.S.Denot =
+    record {
+      graph = self.graph;
+      procedure = self.procedure;
+      limit = self.limit;
+      edges = self.edges;
+      found =
+          h;
+      fault = self.fault;
+    } in
+    let sound = still_grounded self.graph.now self.procedure f h es es
+    (same_step self.graph.now self.procedure f h es refl c.next.ensures.given refl)
+    (c.requires.table.holds c.requires.fault).0 in
     answer_is self new c.next.result c.next.ensures.some
-    (next_sent f c.next.result c.next.new.self.answered c.next.new.self.mails.keys c.next.ensures.given c.next.ensures.some (Sends self.graph.now self.procedure (TookMessage h))
+    (next_sent f c.next.result c.next.new.self.answered c.next.new.self.mails.keys c.next.ensures.given
+    c.next.ensures.some (Sends self.graph.now self.procedure (TookMessage h))
     (λ s k m. sound.given s k (subst (Member (mail s (due_of k))) (sym c.next.ensures.given) m)))
     c.next.ensures.new

@@ -42,16 +42,20 @@ pub returns-in_err-give-clause-worked : goal.returns-in_err-give-clause-worked
 returns-in_err-give-clause-worked g c =
     let self = c.args.self.now in
     refused_worked g.S.PathSet.members (λ t. t ≡ triple_of c.args.edge) _ self _
-    (all_reached self.graph.now self.procedure self.found (asked_to self.graph.now self.procedure self.found c.give.new.self self.found.sites self.found.pending)
-    (g.S.PathSet.members self.edges) c.requires.holds.0 (taken_there self.graph.now self.procedure self.found c.give.new.self self.found.sites self.found.pending))
+    (all_reached self.graph.now self.procedure self.found
+    (asked_to self.graph.now self.procedure self.found c.give.new.self self.found.sites self.found.pending)
+    (g.S.PathSet.members self.edges) c.requires.holds.0
+    (taken_there self.graph.now self.procedure self.found c.give.new.self self.found.sites self.found.pending))
     c.requires.within (record { graph = refl; procedure = refl; limit = refl }) refl c.from_residual.ensures.1
 
 pub returns-in_err-add-clause-worked : goal.returns-in_err-add-clause-worked
 returns-in_err-add-clause-worked g c =
     let self = c.args.self.now in
     refused_worked g.S.PathSet.members (λ t. t ≡ triple_of c.args.edge) _ self _
-    (all_reached self.graph.now self.procedure self.found (asked_to self.graph.now self.procedure self.found c.give.new.self c.add.new.self self.found.pending)
-    (g.S.PathSet.members self.edges) c.requires.holds.0 (taken_there self.graph.now self.procedure self.found c.give.new.self c.add.new.self self.found.pending))
+    (all_reached self.graph.now self.procedure self.found
+    (asked_to self.graph.now self.procedure self.found c.give.new.self c.add.new.self self.found.pending)
+    (g.S.PathSet.members self.edges) c.requires.holds.0
+    (taken_there self.graph.now self.procedure self.found c.give.new.self c.add.new.self self.found.pending))
     c.requires.within (record { graph = refl; procedure = refl; limit = refl }) refl c.from_residual-in_err-add.ensures.1
 
 pub returns-clause-worked : goal.returns-clause-worked
@@ -61,13 +65,18 @@ returns-clause-worked g c =
     let e = c.args.edge in
     let es = g.S.PathSet.members self.edges in
     let ds = g.S.PathSet.members c.go_on.new.edges in
-    let edges = ask_only self.graph.now self.procedure f c.give.new.self c.add.new.self c.go_on.new.pending es ds e c.callee.result c.entry.result c.back.result (flow.Call c.args.call.now)
+    let edges = ask_only self.graph.now self.procedure f c.give.new.self c.add.new.self c.go_on.new.pending es ds e
+    c.callee.result c.entry.result c.back.result (flow.Call c.args.call.now)
     c.requires.holds.0 c.requires.edge c.requires.call (enters g c)
-    (subst (λ bs. (t : Triple) → Member t ds → Each (IsBehind self.graph.now (site e.entry c.back.result e.values)) bs t ⊎ Member t es) c.of.ensures c.go_on.ensures.only) in record {
+    (subst (λ bs. (t : Triple) → Member t ds →
+    Each (IsBehind self.graph.now (site e.entry c.back.result e.values)) bs t ⊎ Member t es) c.of.ensures
+    c.go_on.ensures.only) in record {
       holds = IfOk-weaker c.go_on.result _ _
           (λ _ grown.
-          let step = ask_step self.graph.now self.procedure f c.give.new.self c.add.new.self c.go_on.new.pending es ds e c.callee.result c.entry.result c.back.result (flow.Call c.args.call.now)
-          c.requires.holds.0 c.requires.edge c.requires.call (enters g c) (gave g c) c.in_ok-add.ensures.added c.in_ok-add.ensures.others (known g c grown) in (
+          let step = ask_step self.graph.now self.procedure f c.give.new.self c.add.new.self c.go_on.new.pending es ds e
+          c.callee.result c.entry.result c.back.result (flow.Call c.args.call.now)
+          c.requires.holds.0 c.requires.edge c.requires.call (enters g c) (gave g c) c.in_ok-add.ensures.added
+          c.in_ok-add.ensures.others (known g c grown) in (
             still_grounded self.graph.now self.procedure f _ es ds step c.requires.holds.0,
             still_complete self.graph.now self.procedure f _ es ds step (λ t. t ≡ triple_of e) c.requires.holds.1,
           ))
@@ -77,11 +86,14 @@ returns-clause-worked g c =
       many = λ is.
           let (t, w, new, full) = c.go_on.ensures.limit is in
           has_more (most_of self.limit) ds _ (g.met.S.PathSet.none_twice c.go_on.new.edges) edges t
-          (behind_reached self.graph.now self.procedure f c.give.new.self c.add.new.self c.go_on.new.pending es ds e c.callee.result c.entry.result c.back.result (flow.Call c.args.call.now)
-          c.requires.holds.0 c.requires.edge c.requires.call (enters g c) t (subst (λ bs. Each (IsBehind self.graph.now (site e.entry c.back.result e.values)) bs t) c.of.ensures w))
+          (behind_reached self.graph.now self.procedure f c.give.new.self c.add.new.self c.go_on.new.pending es ds e
+          c.callee.result c.entry.result c.back.result (flow.Call c.args.call.now)
+          c.requires.holds.0 c.requires.edge c.requires.call (enters g c) t
+          (subst (λ bs. Each (IsBehind self.graph.now (site e.entry c.back.result e.values)) bs t) c.of.ensures w))
           new full;
       answers = IfOk-weaker c.go_on.result _ _
-          (λ _ _. answers_still f.given.mails.keys c.give.new.self.mails.keys f.given.answered c.give.new.self.answered f.given.within c.give.ensures.answered (gave g c).behind)
+          (λ _ _. answers_still f.given.mails.keys c.give.new.self.mails.keys f.given.answered c.give.new.self.answered
+          f.given.within c.give.ensures.answered (gave g c).behind)
           c.go_on.ensures.ok;
       stays = record { graph = refl; procedure = refl; limit = refl };
       fault = refl;

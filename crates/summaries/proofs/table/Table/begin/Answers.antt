@@ -16,7 +16,8 @@ returns-in_err-add-clause-worked g c =
     let f = self.found in
     let h : Found g.row.A.Denot = record { entries = c.add.new.self; summaries = f.summaries; sites = f.sites; exits = f.exits; pairs = f.pairs; given = f.given; pending = f.pending } in
     refused_worked g.S.PathSet.members (λ t. ⊥) _ self _
-    (all_reached self.graph.now self.procedure f h (g.S.PathSet.members self.edges) c.requires.holds.0 (taken_as f h c.in_err-add.ensures.err (λ k. refl)))
+    (all_reached self.graph.now self.procedure f h (g.S.PathSet.members self.edges) c.requires.holds.0
+    (taken_as f h c.in_err-add.ensures.err (λ k. refl)))
     c.requires.within (record { graph = refl; procedure = refl; limit = refl }) refl c.from_residual.ensures.1
 
 pub returns-in_err-reach-clause-worked : goal.returns-in_err-reach-clause-worked
@@ -26,13 +27,16 @@ returns-in_err-reach-clause-worked g c =
     let a = c.args.a in
     let es = g.S.PathSet.members self.edges in
     let ds = g.S.PathSet.members c.reach.new.edges in
-    let edges = begin_only self.graph.now self.procedure f c.add.new.self f.given c.reach.new.pending a c.args.caller c.in_ok-add.ensures.added c.in_ok-add.ensures.others es ds c.requires.holds.0
+    let edges = begin_only self.graph.now self.procedure f c.add.new.self f.given c.reach.new.pending a c.args.caller
+    c.in_ok-add.ensures.added c.in_ok-add.ensures.others es ds c.requires.holds.0
     (λ t m. elim (c.in_err-reach.ensures.only t m) [ inl is ↦ inl (is ∙ ap (λ n. triple a n a) c.start.ensures) | inr was ↦ inr was ]) in
-    failed_worked g.S.PathSet.members (λ t. ⊥) _ self _ edges c.in_err-reach.ensures.within (record { graph = refl; procedure = refl; limit = refl }) refl _ c.from_residual-in_err-reach.ensures.1
+    failed_worked g.S.PathSet.members (λ t. ⊥) _ self _ edges c.in_err-reach.ensures.within
+    (record { graph = refl; procedure = refl; limit = refl }) refl _ c.from_residual-in_err-reach.ensures.1
     (λ is.
     let (t, is_start, new, full) = c.in_err-reach.ensures.limit (ap Err (sym (fault_of _ _ _ c.from_residual-in_err-reach.ensures.1 is))) in
     has_more (most_of self.limit) ds _ (g.met.S.PathSet.none_twice c.reach.new.edges) edges t
-    (start_reached self.graph.now self.procedure f c.add.new.self f.given c.reach.new.pending a c.args.caller c.in_ok-add.ensures.added c.in_ok-add.ensures.others es ds c.requires.holds.0
+    (start_reached self.graph.now self.procedure f c.add.new.self f.given c.reach.new.pending a c.args.caller
+    c.in_ok-add.ensures.added c.in_ok-add.ensures.others es ds c.requires.holds.0
     t (is_start ∙ ap (λ n. triple a n a) c.start.ensures))
     new full)
 
@@ -42,7 +46,8 @@ returns-in_err-tell_exits-clause-worked g c =
     let f = self.found in
     let a = c.args.a in
     refused_worked g.S.PathSet.members (λ t. ⊥) _ self _
-    (begin_only self.graph.now self.procedure f c.add.new.self c.tell_exits.new.given c.reach.new.pending a c.args.caller c.in_ok-add.ensures.added c.in_ok-add.ensures.others
+    (begin_only self.graph.now self.procedure f c.add.new.self c.tell_exits.new.given c.reach.new.pending a
+    c.args.caller c.in_ok-add.ensures.added c.in_ok-add.ensures.others
     (g.S.PathSet.members self.edges) (g.S.PathSet.members c.reach.new.edges) c.requires.holds.0
     (λ t m. elim (c.in_ok-reach.ensures.only t m) [ inl is ↦ inl (is ∙ ap (λ n. triple a n a) c.start.ensures) | inr was ↦ inr was ]))
     c.in_ok-reach.ensures.within (record { graph = refl; procedure = refl; limit = refl }) refl c.from_residual-in_err-tell_exits.ensures.1
@@ -57,16 +62,20 @@ returns-clause-worked g c =
     let grown = grows_as (λ t. t ≡ triple a c.start.result a) (λ t. t ≡ triple a self.graph.now.start a) es ds f.pending.items c.reach.new.pending.items
     (λ t is. is ∙ ap (λ n. triple a n a) c.start.ensures) (λ t is. is ∙ ap (λ n. triple a n a) (sym c.start.ensures)) c.in_ok-reach.ensures.ok in
     let gave = subst (λ bs. Gives (Each (λ b. IsTold self.procedure a b c.args.caller) bs) f.given.mails.keys c.tell_exits.new.given.mails.keys) c.of.ensures c.in_ok-tell_exits.ensures.ok in
-    let step = begin_step self.graph.now self.procedure f c.add.new.self c.tell_exits.new.given c.reach.new.pending a c.args.caller c.in_ok-add.ensures.added c.in_ok-add.ensures.others es ds c.requires.holds.0 grown gave in record {
+    let step = begin_step self.graph.now self.procedure f c.add.new.self c.tell_exits.new.given c.reach.new.pending a
+    c.args.caller c.in_ok-add.ensures.added c.in_ok-add.ensures.others es ds c.requires.holds.0 grown gave in record {
       holds = (
         still_grounded self.graph.now self.procedure f _ es ds step c.requires.holds.0,
         still_complete self.graph.now self.procedure f _ es ds step (λ t. ⊥) c.requires.holds.1,
       );
-      edges = begin_only self.graph.now self.procedure f c.add.new.self c.tell_exits.new.given c.reach.new.pending a c.args.caller c.in_ok-add.ensures.added c.in_ok-add.ensures.others es ds c.requires.holds.0
+      edges = begin_only self.graph.now self.procedure f c.add.new.self c.tell_exits.new.given c.reach.new.pending a
+          c.args.caller c.in_ok-add.ensures.added c.in_ok-add.ensures.others es ds c.requires.holds.0
           (λ t m. elim (c.in_ok-reach.ensures.only t m) [ inl is ↦ inl (is ∙ ap (λ n. triple a n a) c.start.ensures) | inr was ↦ inr was ]);
       within = c.in_ok-reach.ensures.within;
       many = λ is. absurd (ok_err is);
-      answers = answers_still f.given.mails.keys c.tell_exits.new.given.mails.keys f.given.answered c.tell_exits.new.given.answered f.given.within c.in_ok-tell_exits.ensures.answered c.in_ok-tell_exits.ensures.ok.behind;
+      answers = answers_still f.given.mails.keys c.tell_exits.new.given.mails.keys f.given.answered
+          c.tell_exits.new.given.answered f.given.within c.in_ok-tell_exits.ensures.answered
+          c.in_ok-tell_exits.ensures.ok.behind;
       stays = record { graph = refl; procedure = refl; limit = refl };
       fault = refl;
     }

@@ -16,7 +16,8 @@ returns-in_err-add-clause-worked g c =
     let f = self.found in
     let h : Found g.row.A.Denot = record { entries = f.entries; summaries = c.add.new.self; sites = f.sites; exits = f.exits; pairs = f.pairs; given = f.given; pending = f.pending } in
     refused_worked g.S.PathSet.members (λ t. ⊥) _ self _
-    (all_reached self.graph.now self.procedure f h (g.S.PathSet.members self.edges) c.requires.holds.0 (taken_as f h (λ a. refl) c.in_err-add.ensures.err))
+    (all_reached self.graph.now self.procedure f h (g.S.PathSet.members self.edges) c.requires.holds.0
+    (taken_as f h (λ a. refl) c.in_err-add.ensures.err))
     c.requires.within (record { graph = refl; procedure = refl; limit = refl }) refl c.from_residual.ensures.1
 
 pub returns-clause-worked : goal.returns-clause-worked
@@ -25,12 +26,16 @@ returns-clause-worked g c =
     let f = self.found in
     let es = g.S.PathSet.members self.edges in
     let ds = g.S.PathSet.members c.go_on_at_each.new.edges in
-    let edges = end_only self.graph.now self.procedure f c.add.new.self c.go_on_at_each.new.pending c.args.call c.args.b c.in_ok-add.ensures.added c.in_ok-add.ensures.others es ds c.requires.holds.0
-    (subst (λ ss. (t : Triple) → Member t ds → Each (λ y. IsBehind self.graph.now y c.args.b) ss t ⊎ Member t es) c.of.ensures c.go_on_at_each.ensures.only) in record {
+    let edges = end_only self.graph.now self.procedure f c.add.new.self c.go_on_at_each.new.pending c.args.call c.args.b
+    c.in_ok-add.ensures.added c.in_ok-add.ensures.others es ds c.requires.holds.0
+    (subst (λ ss. (t : Triple) → Member t ds → Each (λ y. IsBehind self.graph.now y c.args.b) ss t ⊎ Member t es)
+    c.of.ensures c.go_on_at_each.ensures.only) in record {
       holds = IfOk-weaker c.go_on_at_each.result _ _
           (λ _ grown.
-          let known = subst (λ ss. Grows (Each (λ y. IsBehind self.graph.now y c.args.b) ss) es ds f.pending.items c.go_on_at_each.new.pending.items) c.of.ensures grown in
-          let step = end_step self.graph.now self.procedure f c.add.new.self c.go_on_at_each.new.pending c.args.call c.args.b c.in_ok-add.ensures.added c.in_ok-add.ensures.others es ds c.requires.holds.0 known in (
+          let known = subst (λ ss. Grows (Each (λ y. IsBehind self.graph.now y c.args.b) ss) es ds f.pending.items
+          c.go_on_at_each.new.pending.items) c.of.ensures grown in
+          let step = end_step self.graph.now self.procedure f c.add.new.self c.go_on_at_each.new.pending c.args.call
+          c.args.b c.in_ok-add.ensures.added c.in_ok-add.ensures.others es ds c.requires.holds.0 known in (
             still_grounded self.graph.now self.procedure f _ es ds step c.requires.holds.0,
             still_complete self.graph.now self.procedure f _ es ds step (λ t. ⊥) c.requires.holds.1,
           ))
@@ -40,7 +45,8 @@ returns-clause-worked g c =
       many = λ is.
           let (t, w, new, full) = c.go_on_at_each.ensures.limit is in
           has_more (most_of self.limit) ds _ (g.met.S.PathSet.none_twice c.go_on_at_each.new.edges) edges t
-          (ended_reached self.graph.now self.procedure f c.add.new.self c.go_on_at_each.new.pending c.args.call c.args.b c.in_ok-add.ensures.added c.in_ok-add.ensures.others es ds c.requires.holds.0 t
+          (ended_reached self.graph.now self.procedure f c.add.new.self c.go_on_at_each.new.pending c.args.call c.args.b
+          c.in_ok-add.ensures.added c.in_ok-add.ensures.others es ds c.requires.holds.0 t
           (subst (λ ss. Each (λ y. IsBehind self.graph.now y c.args.b) ss t) c.of.ensures w))
           new full;
       answers = IfOk-weaker c.go_on_at_each.result _ _ (λ _ _. refl) c.go_on_at_each.ensures.ok;

@@ -41,7 +41,8 @@ returns-in_ok-tell_all-clause-left g c = λ _.
 pub returns-in_ok-tell_all-clause-answers : goal.returns-in_ok-tell_all-clause-answers
 returns-in_ok-tell_all-clause-answers g c =
     let f = c.args.self.now.found in
-    answers_still f.given.mails.keys c.tell_all.new.given.mails.keys f.given.answered c.tell_all.new.given.answered f.given.within c.in_ok-tell_all.ensures.answered c.in_ok-tell_all.ensures.ok.behind
+    answers_still f.given.mails.keys c.tell_all.new.given.mails.keys f.given.answered c.tell_all.new.given.answered
+    f.given.within c.in_ok-tell_all.ensures.answered c.in_ok-tell_all.ensures.ok.behind
 
 pub returns-else-branch-clause-ok : goal.returns-else-branch-clause-ok
 returns-else-branch-clause-ok g c =

@@ -17,10 +17,12 @@ pub returns-in-Some-clause-few : goal.returns-in-Some-clause-few
 returns-in-Some-clause-few g c = let gv = c.args.self.now.found.given in answers_few gv.mails.keys gv.answered (2 ^ 64) gv.within gv.few
 
 pub returns-in-Some-answer-clause-few : goal.returns-in-Some-answer-clause-few
-returns-in-Some-answer-clause-few g c = let gv = c.answer.new.self.found.given in answers_few gv.mails.keys gv.answered (2 ^ 64) gv.within gv.few
+returns-in-Some-answer-clause-few g c = let gv =
+    c.answer.new.self.found.given in answers_few gv.mails.keys gv.answered (2 ^ 64) gv.within gv.few
 
 pub returns-in_err-step-clause-few : goal.returns-in_err-step-clause-few
 returns-in_err-step-clause-few g c = let gv = c.step.new.self.found.given in answers_few gv.mails.keys gv.answered (2 ^ 64) gv.within gv.few
 
 pub returns-then-not-branch-clause-few : goal.returns-then-not-branch-clause-few
-returns-then-not-branch-clause-few g c = let gv = c.step.new.self.found.given in answers_few gv.mails.keys gv.answered (2 ^ 64) gv.within gv.few
+returns-then-not-branch-clause-few g c = let gv =
+    c.step.new.self.found.given in answers_few gv.mails.keys gv.answered (2 ^ 64) gv.within gv.few

@@ -9,8 +9,18 @@ pub returns-in_default-clause-keeps : goal.returns-in_default-clause-keeps
 returns-in_default-clause-keeps g c =
     let self = c.args.self.now in
     let f = self.found in
-    let h : Found g.row.A.Denot = record { entries = f.entries; summaries = f.summaries; sites = f.sites; exits = f.exits; pairs = f.pairs; given = f.given; pending = c.pop.new.self } in record {
-      table = same_table g.S.PathSet.members self h refl refl (sym (c.in_default.ensures.items ∙ append-nil c.pop.new.self.items)) c.requires.table;
+    let h : Found g.row.A.Denot = record {
+      entries = f.entries;
+      summaries = f.summaries;
+      sites = f.sites;
+      exits = f.exits;
+      pairs = f.pairs;
+      given =
+          f.given;
+      pending = c.pop.new.self;
+    } in record {
+      table = same_table g.S.PathSet.members self h refl refl
+          (sym (c.in_default.ensures.items ∙ append-nil c.pop.new.self.items)) c.requires.table;
       taken = (refl, refl);
       stays = record { graph = refl; procedure = refl; limit = refl };
       fault = c.requires.fault;

@@ -41,7 +41,8 @@ returns-then-edge-points-clause-worked g c =
     let limit = ap most_of left.stays.limit in record {
       holds = (
         left.ok.0,
-        worked_off new.graph.now new.procedure new.found es e.entry e.point e.values (beyond_worked new.graph.now new.procedure new.found es e left.left past) left.ok.1,
+        worked_off new.graph.now new.procedure new.found es e.entry e.point e.values
+            (beyond_worked new.graph.now new.procedure new.found es e left.left past) left.ok.1,
       );
       edges = λ t m. left.ok.0.edge t.entry t.point t.values m;
       within = omega (arith, edges, limit, c.requires.within);
@@ -87,10 +88,12 @@ returns-in_default g c =
       worked = record {
         holds = IfOk-weaker c.lead.result _ _
             (λ _ grown.
-            let step = lead_step new.graph.now new.procedure f c.lead.new.pending es ds e c.flow.result.now c.in_ok-leave.ensures.ok.0 there here grown in (
+            let step = lead_step new.graph.now new.procedure f c.lead.new.pending es ds e c.flow.result.now
+            c.in_ok-leave.ensures.ok.0 there here grown in (
               still_grounded new.graph.now new.procedure f _ es ds step c.in_ok-leave.ensures.ok.0,
               worked_off new.graph.now new.procedure _ ds e.entry e.point e.values
-                  (led_worked new.graph.now new.procedure (led_to new.graph.now new.procedure f c.lead.new.pending) ds e c.in_ok-leave.ensures.left c.flow.result.now here c.in_default.not-Call grown.all)
+                  (led_worked new.graph.now new.procedure (led_to new.graph.now new.procedure f c.lead.new.pending) ds e
+                  c.in_ok-leave.ensures.left c.flow.result.now here c.in_default.not-Call grown.all)
                   (still_complete new.graph.now new.procedure f _ es ds step (λ t. t ≡ triple_of e) c.in_ok-leave.ensures.ok.1),
             ))
             c.lead.ensures.ok;
@@ -98,7 +101,9 @@ returns-in_default g c =
         within = c.lead.ensures.within;
         many = λ is.
             let (t, w, fresh, full) = c.lead.ensures.limit is in
-            has_more (most_of new.limit) ds _ (g.met.S.PathSet.none_twice c.lead.new.edges) only t (next_reached new.graph.now new.procedure f c.lead.new.pending es ds e c.flow.result.now c.in_ok-leave.ensures.ok.0 there here t w) fresh full;
+            has_more (most_of new.limit) ds _ (g.met.S.PathSet.none_twice c.lead.new.edges) only t
+            (next_reached new.graph.now new.procedure f c.lead.new.pending es ds e c.flow.result.now
+            c.in_ok-leave.ensures.ok.0 there here t w) fresh full;
         answers = IfOk-weaker c.lead.result _ _ (λ _ _. c.in_ok-leave.ensures.answers) c.lead.ensures.ok;
         stays = let s = c.in_ok-leave.ensures.stays in record { graph = s.graph; procedure = s.procedure; limit = s.limit };
         fault = c.in_ok-leave.ensures.fault;

@@ -48,5 +48,8 @@ returns g c =
     let q : Abort = record { by = i.lane.number; cause = c.args.cause } in
     let is = to_lane F h (λ n x. y ≡ record x { aborted = abort_of x.aborted (record { by = n; cause = c.args.cause }) }) c.abort.ensures in
     let v = visit_is F c.in-Ok.guard i.lane c.enter.new.lane b y c.in-Ok.ensures c.leave.ensures in
-    let made = aborted_when F q i.lane b c.in-Ok.guard.value y i.world.value i.boxes i.kept c.pass.invariant c.if-not-pass.false v (aborting F h q refl is) is in
-    moved (λ s t. MadeAbort F record { by = s.number; cause = c.args.cause } s t) (showing F i.lane i.kept c.pass.invariant.last) c.args.pass.now (showing F b false y) (sight_of b i.world.value i.boxes false) h.see (sym (shown_after F h false v (aborting F h q refl is))) made
+    let made = aborted_when F q i.lane b c.in-Ok.guard.value y i.world.value i.boxes i.kept c.pass.invariant
+    c.if-not-pass.false v (aborting F h q refl is) is in
+    moved (λ s t. MadeAbort F record { by = s.number; cause = c.args.cause } s t)
+    (showing F i.lane i.kept c.pass.invariant.last) c.args.pass.now (showing F b false y)
+    (sight_of b i.world.value i.boxes false) h.see (sym (shown_after F h false v (aborting F h q refl is))) made

@@ -31,7 +31,8 @@ invariant_of-pass g c =
     let h = inside F c.pass.invariant c.in-Ok.ensures c.pass.view_is c.number-number.ensures c.value.ensures.value in
     let is = to_lane F h (λ n x. y ≡ with_entry (Completed n c.args.job) x) c.done.ensures in
     let v = visit_is F c.in-Ok.guard i.lane c.enter.new.lane c.leave.new.lane y c.in-Ok.ensures c.leave.ensures in
-    pass_stays F i.lane c.leave.new.lane c.in-Ok.guard.value y i.world.value i.boxes i.kept c.pass.invariant v (completing F h (job_inside F h c.requires.job) is)
+    pass_stays F i.lane c.leave.new.lane c.in-Ok.guard.value y i.world.value i.boxes i.kept c.pass.invariant v
+    (completing F h (job_inside F h c.requires.job) is)
     (ap (λ s. s.aborted) is) (had_calls F h c.calls.ensures c.if-calls-eq0.false)
 
 pub returns : goal.returns
@@ -45,5 +46,9 @@ returns g c =
     let has = job_inside F h c.requires.job in
     let is = to_lane F h (λ n x. y ≡ with_entry (Completed n c.args.job) x) c.done.ensures in
     let v = visit_is F c.in-Ok.guard i.lane c.enter.new.lane b y c.in-Ok.ensures c.leave.ensures in
-    let added = added_is F i.lane b x y (Completed i.lane.number c.args.job) i.world.value i.boxes i.kept c.pass.invariant v is refl (job_allowed F i.lane.number c.args.job x h.found.sound has) (had_calls F h c.calls.ensures c.if-calls-eq0.false) in
-    moved (λ s t. Added F (Completed s.number c.args.job) s t) (showing F i.lane i.kept c.pass.invariant.last) c.args.pass.now (showing F b i.kept y) (sight_of b i.world.value i.boxes i.kept) h.see (sym (shown_after F h i.kept v (completing F h has is))) added
+    let added = added_is F i.lane b x y (Completed i.lane.number c.args.job) i.world.value i.boxes i.kept
+    c.pass.invariant v is refl (job_allowed F i.lane.number c.args.job x h.found.sound has)
+    (had_calls F h c.calls.ensures c.if-calls-eq0.false) in
+    moved (λ s t. Added F (Completed s.number c.args.job) s t) (showing F i.lane i.kept c.pass.invariant.last)
+    c.args.pass.now (showing F b i.kept y) (sight_of b i.world.value i.boxes i.kept) h.see
+    (sym (shown_after F h i.kept v (completing F h has is))) added

@@ -27,7 +27,9 @@ leave-requires-clause-value g c =
     let answer = c.post-answer.result in
     let h = inside F c.pass.invariant c.in-Ok.ensures c.pass.view_is c.number-number.ensures c.value.ensures.value in
     let may = allowing F h (job_inside F h c.requires.job) c.requires.fits.0 c.requires.fits.1 in
-    let ok = to_lane F h (λ n x. OnOk answer ((x.aborted ≡ None) × (y ≡ with_entry (Posted c.args.to n c.args.message c.args.job.now) x))) c.post-answer.ensures.ok in
+    let ok = to_lane F h (λ n x. OnOk answer
+    ((x.aborted ≡ None) × (y ≡ with_entry (Posted c.args.to n c.args.message c.args.job.now) x)))
+    c.post-answer.ensures.ok in
     let err = to_lane F h (λ n x. IfErr answer (λ f. Refuses c.args.message f x y)) c.post-answer.ensures.err in
     may_leave F c.in-Ok.guard c.pass.inside.lane c.enter.new.lane y c.in-Ok.ensures (posting F h answer may ok err)
 
@@ -40,11 +42,14 @@ invariant_of-pass g c =
     let answer = c.post-answer.result in
     let h = inside F c.pass.invariant c.in-Ok.ensures c.pass.view_is c.number-number.ensures c.value.ensures.value in
     let may = allowing F h (job_inside F h c.requires.job) c.requires.fits.0 c.requires.fits.1 in
-    let ok = to_lane F h (λ n x. OnOk answer ((x.aborted ≡ None) × (y ≡ with_entry (Posted c.args.to n c.args.message c.args.job.now) x))) c.post-answer.ensures.ok in
+    let ok = to_lane F h (λ n x. OnOk answer
+    ((x.aborted ≡ None) × (y ≡ with_entry (Posted c.args.to n c.args.message c.args.job.now) x)))
+    c.post-answer.ensures.ok in
     let err = to_lane F h (λ n x. IfErr answer (λ f. Refuses c.args.message f x y)) c.post-answer.ensures.err in
     let v = visit_is F c.in-Ok.guard i.lane c.enter.new.lane c.leave.new.lane y c.in-Ok.ensures c.leave.ensures in
     pass_stays F i.lane c.leave.new.lane x y i.world.value i.boxes i.kept c.pass.invariant v (posting F h answer may ok err)
-    (post_still F (Posted c.args.to i.lane.number c.args.message c.args.job.now) c.args.message answer x y ok err) (had_calls F h c.calls.ensures c.if-calls-eq0.false)
+    (post_still F (Posted c.args.to i.lane.number c.args.message c.args.job.now) c.args.message answer x y ok err)
+    (had_calls F h c.calls.ensures c.if-calls-eq0.false)
 
 pub returns : goal.returns
 returns g c =
@@ -56,8 +61,14 @@ returns g c =
     let answer = c.post-answer.result in
     let h = inside F c.pass.invariant c.in-Ok.ensures c.pass.view_is c.number-number.ensures c.value.ensures.value in
     let may = allowing F h (job_inside F h c.requires.job) c.requires.fits.0 c.requires.fits.1 in
-    let ok = to_lane F h (λ n x. OnOk answer ((x.aborted ≡ None) × (y ≡ with_entry (Posted c.args.to n c.args.message c.args.job.now) x))) c.post-answer.ensures.ok in
+    let ok = to_lane F h (λ n x. OnOk answer
+    ((x.aborted ≡ None) × (y ≡ with_entry (Posted c.args.to n c.args.message c.args.job.now) x)))
+    c.post-answer.ensures.ok in
     let err = to_lane F h (λ n x. IfErr answer (λ f. Refuses c.args.message f x y)) c.post-answer.ensures.err in
     let v = visit_is F c.in-Ok.guard i.lane c.enter.new.lane b y c.in-Ok.ensures c.leave.ensures in
-    let posted = posted_is F c.args.job.now c.args.to c.args.message answer i.lane b x y i.world.value i.boxes i.kept c.pass.invariant v may ok err (had_calls F h c.calls.ensures c.if-calls-eq0.false) in
-    moved (λ s t. PostAnswer F c.args.job.now c.args.to c.args.message s t answer) (showing F i.lane i.kept c.pass.invariant.last) c.args.pass.now (showing F b i.kept y) (sight_of b i.world.value i.boxes i.kept) h.see (sym (shown_after F h i.kept v (posting F h answer may ok err))) posted
+    let posted = posted_is F c.args.job.now c.args.to c.args.message answer i.lane b x y i.world.value i.boxes i.kept
+    c.pass.invariant v may ok err (had_calls F h c.calls.ensures c.if-calls-eq0.false) in
+    moved (λ s t. PostAnswer F c.args.job.now c.args.to c.args.message s t answer)
+    (showing F i.lane i.kept c.pass.invariant.last) c.args.pass.now (showing F b i.kept y)
+    (sight_of b i.world.value i.boxes i.kept) h.see (sym (shown_after F h i.kept v (posting F h answer may ok err)))
+    posted

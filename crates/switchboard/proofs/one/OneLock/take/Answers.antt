@@ -29,7 +29,8 @@ invariant_of-pass g c =
     let h = inside F c.pass.invariant c.in-Ok.ensures c.pass.view_is c.number-number.ensures c.value.ensures.value in
     let is = to_lane F h (λ n x. Answers n c.take-answer.result x y) c.take-answer.ensures in
     let v = visit_is F c.in-Ok.guard i.lane c.enter.new.lane c.leave.new.lane y c.in-Ok.ensures c.leave.ensures in
-    pass_stays F i.lane c.leave.new.lane x y i.world.value i.boxes i.kept c.pass.invariant v (taking F h c.take-answer.result is) (take_still F i.lane.number c.take-answer.result x y is)
+    pass_stays F i.lane c.leave.new.lane x y i.world.value i.boxes i.kept c.pass.invariant v
+    (taking F h c.take-answer.result is) (take_still F i.lane.number c.take-answer.result x y is)
     (had_calls F h c.calls.ensures c.if-calls-eq0.false)
 
 pub returns : goal.returns
@@ -43,5 +44,8 @@ returns g c =
     let h = inside F c.pass.invariant c.in-Ok.ensures c.pass.view_is c.number-number.ensures c.value.ensures.value in
     let is = to_lane F h (λ n x. Answers n answer x y) c.take-answer.ensures in
     let v = visit_is F c.in-Ok.guard i.lane c.enter.new.lane b y c.in-Ok.ensures c.leave.ensures in
-    let took = took_is F answer i.lane b x y i.world.value i.boxes i.kept c.pass.invariant v h.near is (had_calls F h c.calls.ensures c.if-calls-eq0.false) in
-    moved (λ s t. Took F (Ok answer) s t) (showing F i.lane i.kept c.pass.invariant.last) c.args.pass.now (showing F b i.kept y) (sight_of b i.world.value i.boxes i.kept) h.see (sym (shown_after F h i.kept v (taking F h c.take-answer.result is))) took
+    let took = took_is F answer i.lane b x y i.world.value i.boxes i.kept c.pass.invariant v h.near is
+    (had_calls F h c.calls.ensures c.if-calls-eq0.false) in
+    moved (λ s t. Took F (Ok answer) s t) (showing F i.lane i.kept c.pass.invariant.last) c.args.pass.now
+    (showing F b i.kept y) (sight_of b i.world.value i.boxes i.kept) h.see
+    (sym (shown_after F h i.kept v (taking F h c.take-answer.result is))) took
