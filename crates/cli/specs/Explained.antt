@@ -1,5 +1,6 @@
 -- What standard error tells of a refusal.
-use Rattle.std.specs.Prelude.{ℕ, List, Option, Some, None, IfSome, length, min}
+use Rattle.std.specs.Prelude.{ℕ, List, Option, Some, None, IfSome, length, min, option_map}
+use Rattle.round_rewrite.specs.declared.width.Wide.{Wide}
 use Rattle.syntax.specs.declared.fault.ReadFault.TheVariants as read
 use Rattle.scopes.specs.Checked.{offset}
 use Rattle.scopes.specs.declared.fault.ScopeFault.{ScopeFault}
@@ -18,7 +19,7 @@ abbrev pub offset_of : Refusal → Option ℕ
 offset_of (Unread (read.Syntax at)) = Some at
 offset_of (Unread fault) = None
 offset_of (Unchecked fault) = offset_in fault
-offset_of TooWide = None
+offset_of (TooWide wide) = option_map (λ (w : Wide). w.at) wide
 offset_of EdgeLimit = None
 offset_of Memory = None
 

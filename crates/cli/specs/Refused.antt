@@ -1,5 +1,5 @@
 -- Why texts are refused, and the lines that say so.
-use Rattle.std.specs.Prelude.{◌≡◌, ℕ, suc, List, ◌++◌, ◌⊎◌, codes}
+use Rattle.std.specs.Prelude.{◌≡◌, ℕ, suc, List, Option, ◌++◌, ◌⊎◌, codes}
 use Rattle.std.specs.Fmt.{decimal}
 use Rattle.language.specs.Tree.{Tree}
 use Rattle.syntax.specs.Text as text
@@ -9,7 +9,8 @@ use Rattle.syntax.specs.declared.fault.ReadFault.TheVariants as read
 use Rattle.scopes.specs.Checked.{IsChecked, IsFirstFault}
 use Rattle.scopes.specs.declared.fault.ScopeFault.{ScopeFault}
 use Rattle.scopes.specs.declared.fault.ScopeFault.TheVariants as scope
-use Rattle.round_rewrite.specs.Narrow.{IsNarrow}
+use Rattle.round_rewrite.specs.Narrow.{IsFirstWide, IsNarrow}
+use Rattle.round_rewrite.specs.declared.width.Wide.{Wide}
 use Rattle.cli.specs.declared.refusal.Refusal.{Refusal}
 use Rattle.cli.specs.declared.refusal.Refusal.TheVariants.{Unread, Unchecked, TooWide, EdgeLimit, Memory}
 
@@ -44,7 +45,7 @@ unchecked_line scope.Memory = memory_line
 abbrev pub line_of : Refusal → List ℕ
 line_of (Unread fault) = unread_line fault
 line_of (Unchecked fault) = unchecked_line fault
-line_of TooWide = codes "refused: 14 too wide\n"
+line_of (TooWide wide) = codes "refused: 14 too wide\n"
 line_of EdgeLimit = codes "no verdict: edge limit\n"
 line_of Memory = memory_line
 
@@ -54,9 +55,18 @@ status_of (Unread read.Memory) = 3
 status_of (Unread fault) = 2
 status_of (Unchecked scope.Memory) = 3
 status_of (Unchecked fault) = 2
-status_of TooWide = 2
+status_of (TooWide wide) = 2
 status_of EdgeLimit = 3
 status_of Memory = 3
+
+-- The text is that of a checked tree, whose rewriting for so many rounds, one more than the last, is too wide; and this is its
+-- first procedure that is.
+pub record IsWide (bytes : List ℕ) (rounds : ℕ) (t : Tree) (last : ℕ) (wide : Option Wide) : Type 0 where
+  pub count : suc last ≡ rounds
+  pub of : Text bytes t
+  pub checked : IsChecked t
+  pub wider : IsNarrow last t → ⊥
+  pub first : IsFirstWide last t wide
 
 -- The refusal stands: the text is not read for this fault; or it is the text of a program in which this is the first fault of
 -- scopes; or of a checked program whose rewriting for so many rounds is too wide; or the edge limit is passed, as `Past` says.
@@ -64,6 +74,6 @@ status_of Memory = 3
 abbrev pub Stands : List ℕ → ℕ → Type 0 → Refusal → Type 0
 Stands bytes rounds Past (Unread fault) = text.Stands fault bytes
 Stands bytes rounds Past (Unchecked fault) = (t : Tree) × Text bytes t × ((fault ≡ scope.Memory) ⊎ IsFirstFault t fault)
-Stands bytes rounds Past TooWide = (t : Tree) × (last : ℕ) × (suc last ≡ rounds) × Text bytes t × IsChecked t × (IsNarrow last t → ⊥)
+Stands bytes rounds Past (TooWide wide) = (t : Tree) × (last : ℕ) × IsWide bytes rounds t last wide
 Stands bytes rounds Past EdgeLimit = Past
 Stands bytes rounds Past Memory = Unit {0}

@@ -93,7 +93,7 @@ fn line<A: Allocator>(alloc: A, refusal: &Refusal) -> Result<CowSlice<'static, u
     match refusal {
         Refusal::Unread(fault) => unread(alloc, fault),
         Refusal::Unchecked(fault) => unchecked(alloc, fault),
-        Refusal::TooWide => Ok(fixed("refused: 14 too wide\n")),
+        Refusal::TooWide(_) => Ok(fixed("refused: 14 too wide\n")),
         Refusal::EdgeLimit => Ok(fixed("no verdict: edge limit\n")),
         Refusal::Memory => Ok(fixed("no verdict: memory\n")),
     }
@@ -105,7 +105,7 @@ fn status(refusal: &Refusal) -> u8
 {
     match refusal {
         Refusal::Unread(ReadFault::Memory) | Refusal::Unchecked(ScopeFault::Memory) => 3,
-        Refusal::Unread(_) | Refusal::Unchecked(_) | Refusal::TooWide => 2,
+        Refusal::Unread(_) | Refusal::Unchecked(_) | Refusal::TooWide(_) => 2,
         Refusal::EdgeLimit | Refusal::Memory => 3,
     }
 }

@@ -4,12 +4,13 @@ ghost use Rattle.std.specs.Prelude.{◌≡◌, OnOk, length, min, option_map};
 ghost use Rattle.std.specs.String.{string_bytes};
 ghost use Rattle.cli.specs.Explained.{Explains, offset_in};
 ghost use Rattle.cli.specs.Place.{Locates};
-ghost use Rattle.cli.specs.declared.refusal.Refusal.TheVariants.{Unread, Unchecked};
+ghost use Rattle.cli.specs.declared.refusal.Refusal.TheVariants.{TooWide, Unread, Unchecked};
 
 use crate::asked::Order;
-use crate::message::{at_word, not_ascii, unexpected};
+use crate::message::{at_word, not_ascii, unexpected, wide_at};
 use crate::place::place_of;
 use crate::refusal::Refusal;
+use round_rewrite::Wide;
 use scopes::ScopeFault;
 use std::alloc::{AllocError, Allocator};
 use syntax::ReadFault;
@@ -120,19 +121,29 @@ fn edge_limit<A: Allocator>(
     }
 }
 
-/// Writes for how many rounds a procedure has too many places.
+/// Writes which procedure has too many places, and how many for how many rounds.
 fn too_wide<A: Allocator>(
     message: &mut String<A>,
     path: &str,
+    text: &[u8],
     order: Order,
-) -> Result<(), AllocError> {
+    wide: Option<Wide>,
+) -> Result<(), AllocError>
+    ensures { OnOk result (Explains path.now text.now (TooWide wide) (string_bytes message.old) (string_bytes message.new)) }
+{
     let rounds = match order {
         Order::Check { rounds, .. } | Order::Sequential { rounds } => rounds.count(),
     };
-    write!(
-        message,
-        "{path}: some procedure needs more than 64 places for {rounds} rounds\n"
-    )
+    match wide {
+        Some(wide) => {
+            let place = place_of(text, wide.at);
+            wide_at(message, path, &place, wide.places, rounds)
+        }
+        None => write!(
+            message,
+            "{path}: some procedure needs more than 64 places with --rounds {rounds}\n"
+        ),
+    }
 }
 
 /// Writes what standard error tells of a refusal: for a fault with an offset a line `FILE:LINE:COLUMN: ` with what is wrong there,
@@ -151,7 +162,7 @@ pub fn explain<A: Allocator>(
     match refusal {
         Refusal::Unread(fault) => unread(message, path, text, fault),
         Refusal::Unchecked(fault) => unchecked(message, path, text, fault),
-        Refusal::TooWide => too_wide(message, path, order),
+        Refusal::TooWide(wide) => too_wide(message, path, text, order, *wide),
         Refusal::EdgeLimit => edge_limit(message, path, order),
         Refusal::Memory => no_memory(message),
     }

@@ -148,6 +148,36 @@ pub(crate) fn at_word<A: Allocator>(
     push_line(message, place)
 }
 
+/// Writes how many places the procedure needs whose name stands at a place.
+pub(crate) fn wide_at<A: Allocator>(
+    message: &mut String<A>,
+    path: &str,
+    place: &Place,
+    places: u128,
+    rounds: u8,
+) -> Result<(), AllocError>
+    ensures { OnOk result (Extends (string_bytes message.old ++ head path.now place.now.line place.now.column) (string_bytes message.new)) }
+{
+    push_head(message, path, place)?;
+    push_name(message, word(place.behind))?;
+    push_width(message, places, rounds)?;
+    push_line(message, place)
+}
+
+/// Writes how many places a procedure needs, and how many it may have.
+fn push_width<A: Allocator>(
+    message: &mut String<A>,
+    places: u128,
+    rounds: u8,
+) -> Result<(), AllocError>
+    ensures { OnOk result (Extends (string_bytes message.old) (string_bytes message.new)) }
+{
+    write!(
+        message,
+        " needs {places} places with --rounds {rounds}, and 64 is the limit\n"
+    )
+}
+
 /// Writes what stands first in the rest of a line: a word, a sign, the number of a byte that is neither, or nothing more.
 fn push_first<A: Allocator>(message: &mut String<A>, rest: &[u8]) -> Result<(), AllocError>
     ensures { OnOk result (Extends (string_bytes message.old) (string_bytes message.new)) }

@@ -1,6 +1,6 @@
 //! Why a text gets no verdict.
 
-use round_rewrite::RewriteFault;
+use round_rewrite::Wide;
 use scopes::ScopeFault;
 use std::alloc::AllocError;
 use summaries::NoVerdict;
@@ -13,8 +13,8 @@ pub enum Refusal {
     Unread(ReadFault),
     /// A fault of scopes stands in it.
     Unchecked(ScopeFault),
-    /// Some procedure of the rewritten program has more than 64 places.
-    TooWide,
+    /// Some procedure of the rewritten program has more than 64 places; here the first one of the source.
+    TooWide(Option<Wide>),
     /// Some procedure of the rewritten program has more path edges than the limit.
     EdgeLimit,
     /// A growth was refused.
@@ -51,20 +51,6 @@ impl From<AllocError> for Refusal {
 
     fn from(_e: AllocError) -> Refusal {
         Refusal::Memory
-    }
-}
-
-impl From<RewriteFault> for Refusal {
-    ghost use Rattle.std.specs.Prelude.{◌≡◌};
-    ghost use Rattle.cli.specs.Refusals.{refusal_of_rewriting};
-
-    ghost from_gives = { λ fault refusal. refusal ≡ refusal_of_rewriting fault };
-
-    fn from(fault: RewriteFault) -> Refusal {
-        match fault {
-            RewriteFault::TooWide => Refusal::TooWide,
-            RewriteFault::Memory => Refusal::Memory,
-        }
     }
 }
 

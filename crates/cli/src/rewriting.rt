@@ -7,7 +7,7 @@ ghost use Rattle.cli.specs.Refused.{Stands};
 ghost use Rattle.cli.specs.Rewritten.{IsRewriting};
 
 use crate::refusal::Refusal;
-use round_rewrite::{Rounds, Sequential, rewrite};
+use round_rewrite::{RewriteFault, Rounds, Sequential, rewrite, too_wide};
 use scopes::check;
 use std::alloc::Allocator;
 use syntax::read;
@@ -23,5 +23,9 @@ pub(crate) fn rewritten<A: Allocator + Copy>(
 {
     let program = read(alloc, text)?;
     let checked = check(alloc, program)?;
-    Ok(rewrite(&alloc, &checked, rounds)?)
+    match rewrite(&alloc, &checked, rounds) {
+        Ok(sequential) => Ok(sequential),
+        Err(RewriteFault::TooWide) => Err(Refusal::TooWide(too_wide(&alloc, &checked, rounds))),
+        Err(RewriteFault::Memory) => Err(Refusal::Memory),
+    }
 }

@@ -1,6 +1,7 @@
 -- How wide the procedures of the rewritten program are, and how many there are.
-use Rattle.std.proofs.Common.{◌≡◌, ℕ, zero, suc, ◌+◌, ◌<◌, ◌≤◌, Some, inl, refl, slice_get, List, [], ◌∷◌, ◌++◌, length, length-append, get_or, map, codes, sym, ◌∙◌, ap, subst, arith, append_assoc}
+use Rattle.std.proofs.Common.{◌≡◌, ℕ, zero, suc, ◌+◌, ◌<◌, ◌≤◌, Some, inl, refl, slice_get, take, is_some, true≢false, List, [], ◌∷◌, ◌++◌, length, length-append, get_or, map, codes, sym, ◌∙◌, ap, subst, arith, append_assoc}
 use Rattle.std.proofs.lemmas.List.{length-map}
+use Rattle.std.proofs.lemmas.Option.{same_Some}
 use Rattle.language.specs.Tree.{Name, Procedure, Tree}
 use Rattle.syntax.specs.declared.tree.Name as declared
 use Rattle.syntax.specs.declared.tree.Proc.{Proc}
@@ -13,8 +14,8 @@ use Rattle.round_rewrite.specs.Table.{numbers, copied, globals}
 use Rattle.round_rewrite.specs.Places.{global_count}
 use Rattle.round_rewrite.specs.Names.{named, names, copy_name, save_name, drawn_name, rewritten_procedure, rewritten_tree}
 use Rattle.scopes.specs.Rewritable.{EachProcedure}
-use Rattle.round_rewrite.specs.Narrow.{width, AllNarrow, IsNarrow}
-use Rattle.round_rewrite.specs.Writing.{procedure_needs, IsOwnNarrow, AreFew}
+use Rattle.round_rewrite.specs.Narrow.{width, rewritten_width, AllNarrow, AreNarrow, IsNarrow}
+use Rattle.round_rewrite.specs.Writing.{own_width, procedure_needs, IsOwnNarrow, AreFew}
 use Rattle.round_rewrite.proofs.Numbering.{length-rows}
 use Rattle.round_rewrite.proofs.Placing.{length-numbers}
 use Rattle.round_rewrite.proofs.Copied.{gathered}
@@ -46,18 +47,27 @@ module _ (t : Tree) (last n : ℕ) (is : global_count (length t.globals) last �
   wide : length (rewritten_tree last t).globals ≡ n
   wide = length-globals last t.globals ∙ is
 
-  into : (ps : List Procedure) → EachProcedure (IsOwnNarrow n) ps →
+  -- what a procedure has when it is rewritten: the globals, and its own
+  pub rewritten_places : (p : Procedure) → rewritten_width last t p ≡ n + own_width p
+  rewritten_places p = λ i. wide i + own_places last p i
+
+  into : (ps : List Procedure) → AreNarrow last t ps →
       EachProcedure (λ p. width (rewritten_tree last t) p ≤ most_places) (map (rewritten_procedure last) ps)
   into [] e = e
-  into (p ∷ ps) e = (subst (λ z. z ≤ most_places) (sym ((λ i. wide i + own_places last p i))) e.0, into ps e.1)
+  into (p ∷ ps) e = (e.0, into ps e.1)
 
+  -- procedures that are narrow when they are rewritten, one by one
   out : (ps : List Procedure) → EachProcedure (λ p. width (rewritten_tree last t) p ≤ most_places)
-      (map (rewritten_procedure last) ps) → EachProcedure (IsOwnNarrow n) ps
+      (map (rewritten_procedure last) ps) → AreNarrow last t ps
   out [] e = e
-  out (p ∷ ps) e = (subst (λ z. z ≤ most_places) (λ i. wide i + own_places last p i) e.0, out ps e.1)
+  out (p ∷ ps) e = (e.0, out ps e.1)
 
-  -- the program is narrow where the globals and each procedure's own places are at most 64
-  pub narrow : n ≤ most_places → EachProcedure (IsOwnNarrow n) t.procedures → IsNarrow last t
+  own : (ps : List Procedure) → AreNarrow last t ps → EachProcedure (IsOwnNarrow n) ps
+  own [] e = e
+  own (p ∷ ps) e = (subst (λ z. z ≤ most_places) (rewritten_places p) e.0, own ps e.1)
+
+  -- the program is narrow where the globals are at most 64 and each procedure of the source is when it is rewritten
+  pub narrow : n ≤ most_places → AreNarrow last t t.procedures → IsNarrow last t
   narrow few e =
       let w = wide in
       let main : length (rewritten_tree last t).globals + 0 ≤ most_places = omega (arith, w, few) in
@@ -66,8 +76,29 @@ module _ (t : Tree) (last n : ℕ) (is : global_count (length t.globals) last �
   pub narrow_globals : IsNarrow last t → n ≤ most_places
   narrow_globals e = let w = wide in let m : length (rewritten_tree last t).globals + 0 ≤ most_places = e.0 in omega (arith, w, m)
 
+  pub narrow_sources : IsNarrow last t → AreNarrow last t t.procedures
+  narrow_sources e = out t.procedures e.1
+
   pub narrow_procedures : IsNarrow last t → EachProcedure (IsOwnNarrow n) t.procedures
-  narrow_procedures e = out t.procedures e.1
+  narrow_procedures e = own t.procedures (narrow_sources e)
+
+  -- one narrow procedure more
+  pub narrow_more : {A : Type 0} (ss : List (Proc A)) (i : ℕ) (s : Proc A) → i < length ss → s ≡ get_or ss i s →
+      AreNarrow last t (take i (procs_of ss)) → rewritten_width last t (proc_of s) ≤ most_places →
+      AreNarrow last t (take (suc i) (procs_of ss))
+  narrow_more [] i s lt is e h = absurd (omega arith)
+  narrow_more (x ∷ ss) zero s lt is e h = (subst (λ y. rewritten_width last t (proc_of y) ≤ most_places) is h, tt)
+  narrow_more (x ∷ ss) (suc i) s lt is e h = (e.0, narrow_more ss i s (omega arith) is e.1 h)
+
+  -- a procedure that is too wide is none of those that are narrow
+  pub wide_stands : (ps : List Procedure) (i : ℕ) (p : Procedure) → slice_get ps i ≡ Some p → most_places < rewritten_width last t p →
+      AreNarrow last t ps → ⊥
+  wide_stands [] i p at large e = absurd (true≢false (ap is_some (sym at)))
+  wide_stands (q ∷ ps) zero p at large e =
+      let same : q ≡ p = same_Some q p at in
+      let small : rewritten_width last t p ≤ most_places = subst (λ r. rewritten_width last t r ≤ most_places) same e.0 in
+      omega (arith, large, small)
+  wide_stands (q ∷ ps) (suc i) p at large e = wide_stands ps i p at large e.1
 
 -- a narrow program needs few temporaries
 pub few_needs : (n : ℕ) (ps : List Procedure) → EachProcedure (IsOwnNarrow n) ps → AreFew ps

@@ -1,11 +1,12 @@
 -- How many places the procedures of a tree and of the rewritten tree have.
 use mathlib.Core.HLevel.{×_prop, Unit-prop}
 use native.Mathlib.Bridge.{le_prop}
-use Rattle.std.specs.Prelude.{ℕ, ◌+◌, ◌≤◌, List, [], ◌∷◌, ◌++◌, length}
+use Rattle.std.specs.Prelude.{◌≡◌, ℕ, ◌+◌, ◌<◌, ◌≤◌, List, [], ◌∷◌, ◌++◌, Option, Some, None, length, slice_get, take}
 use Rattle.language.specs.Tree.{Procedure, Tree}
 use Rattle.scopes.specs.Rewritable.{EachProcedure}
-use Rattle.round_rewrite.specs.Names.{rewritten_tree}
+use Rattle.round_rewrite.specs.Names.{rewritten_procedure, rewritten_tree}
 use Rattle.round_rewrite.specs.Limits.{most_places}
+use Rattle.round_rewrite.specs.declared.width.Wide.{Wide}
 
 -- how many places a procedure's valuations have: the globals, formals and locals
 abbrev pub width : Tree → Procedure → ℕ
@@ -26,3 +27,19 @@ AllNarrow-prop t = each t.procedures
     each : (ps : List Procedure) → IsProp (EachProcedure (λ (p : Procedure). width t p ≤ most_places) ps)
     each [] = Unit-prop
     each (p ∷ ps) = ×_prop le_prop (each ps)
+
+-- how many places a procedure of the source has in the rewritten tree
+abbrev pub rewritten_width : ℕ → Tree → Procedure → ℕ
+rewritten_width last t p = width (rewritten_tree last t) (rewritten_procedure last p)
+
+-- each of these procedures has at most 64 places in the rewritten tree
+abbrev pub AreNarrow : ℕ → Tree → List Procedure → Type 0
+AreNarrow last t = EachProcedure (λ (p : Procedure). rewritten_width last t p ≤ most_places)
+
+-- The first procedure of the source that has more than 64 places in the rewritten tree, with the offset of its name and its
+-- places; none where all have at most 64.
+abbrev pub IsFirstWide : ℕ → Tree → Option Wide → Type 0
+IsFirstWide last t None = AreNarrow last t t.procedures
+IsFirstWide last t (Some wide) =
+    (i : ℕ) × (p : Procedure) × (slice_get t.procedures i ≡ Some p) × (p.name.at ≡ wide.at)
+    × (wide.places ≡ rewritten_width last t p) × (most_places < wide.places) × AreNarrow last t (take i t.procedures)

@@ -75,6 +75,10 @@ abbrev pub AreFew : List tree.Procedure → Type 0
 AreFew [] = Unit {0}
 AreFew (p ∷ ps) = (procedure_needs p ≤ most_places) × AreFew ps
 
+-- how many places a procedure has of its own when it is rewritten: formals, locals and temporaries
+abbrev pub own_width : tree.Procedure → ℕ
+own_width p = length p.formals + (length p.locals + procedure_needs p)
+
 -- the globals, so many, and what the procedure has of its own are at most 64 places
 abbrev pub IsOwnNarrow : ℕ → tree.Procedure → Type 0
-IsOwnNarrow globals p = globals + (length p.formals + (length p.locals + procedure_needs p)) ≤ most_places
+IsOwnNarrow globals p = globals + own_width p ≤ most_places

@@ -44,6 +44,7 @@ pub use limits::{MOST_PLACES, MOST_ROUNDS};
 pub use rewriting::rewrite;
 pub use rounds::Rounds;
 pub use sequential::Sequential;
+pub use width::{Wide, too_wide};
 
 /// The rewriting theorem, over the names that are printed: for 1 to 4 rounds (`last` + 1 of them), a tree
 /// whose names are declared, and widths of at most 64, some run within the rounds fails an assert exactly

@@ -1,27 +1,46 @@
 //! How wide a rewritten program is, before it is made: without memory.
 
-ghost use Rattle.std.specs.Prelude.{◌≡◌, ◌+◌, ◌*◌, ◌≤◌, ◌↔◌, IsTrue, IfSome, IsNone};
+ghost use Rattle.std.specs.Prelude.{◌≡◌, ◌+◌, ◌≤◌, ◌↔◌, IsTrue, length};
+ghost use Rattle.scopes.specs.Programs.{checked_tree};
 ghost use Rattle.syntax.specs.Trees.{proc_of, tree_of};
-ghost use Rattle.round_rewrite.specs.Narrow.{IsNarrow};
-ghost use Rattle.round_rewrite.specs.Writing.{IsOwnNarrow};
+ghost use Rattle.round_rewrite.specs.Narrow.{IsFirstWide, IsNarrow};
+ghost use Rattle.round_rewrite.specs.Programs.{last_round};
+ghost use Rattle.round_rewrite.specs.Writing.{own_width};
 ghost use Rattle.round_rewrite.specs.Places.{global_count};
-ghost use Rattle.round_rewrite.specs.Limits.{most_places};
 
 use crate::limits::MOST_PLACES;
 use crate::rounds::Rounds;
 use crate::writer::Writer;
+use scopes::Checked;
 use std::alloc::Allocator;
 use syntax::{Proc, Program};
 
-/// Whether the globals of the rewritten program and what the procedure has of its own are at most 64 places.
-fn is_own_narrow<N: Allocator, A: Allocator + Copy>(
+/// A procedure that has too many places when it is rewritten.
+#[derive(Clone, Copy, Debug, PartialEq, Eq)]
+pub struct Wide {
+    /// The offset of its name in the text.
+    pub at: u32,
+    /// How many places it has: more than 64. No sum of lengths passes 2^128.
+    pub places: u128,
+}
+
+/// How many globals the rewritten program has.
+fn global_count(rounds: Rounds, globals: usize) -> u128
+    ensures count { result ≡ global_count globals rounds.last }
+    ensures few { result ≤ 129127208515966861309 }
+{
+    let last = rounds.last as u128;
+    (2 * last + 1) * (globals as u128) + 4
+}
+
+/// How many places a procedure has when it is rewritten, in a program of so many globals.
+fn places<N: Allocator, A: Allocator + Copy>(
     alloc: &A,
     rounds: Rounds,
     globals: usize,
     proc: &Proc<N>,
-) -> bool
-    requires { globals ≤ most_places }
-    ensures { IsTrue result ↔ IsOwnNarrow globals (proc_of proc.now) }
+) -> u128
+    ensures { result ≡ global_count globals rounds.last + own_width (proc_of proc.now) }
 {
     let formals = proc.formals.as_slice();
     let locals = proc.locals.as_slice();
@@ -31,55 +50,53 @@ fn is_own_narrow<N: Allocator, A: Allocator + Copy>(
         formals,
         locals,
     };
-    let needs = writer.needs(&proc.body);
-    if formals.len() > MOST_PLACES {
-        return false;
-    }
-    if locals.len() > MOST_PLACES {
-        return false;
-    }
-    if needs > MOST_PLACES {
-        return false;
-    }
-    let places = globals + (formals.len() + (locals.len() + needs));
-    if places > MOST_PLACES {
-        return false;
-    }
-    true
+    let needs = writer.needs(&proc.body) as u128;
+    let declared = formals.len() as u128 + locals.len() as u128;
+    global_count(rounds, globals) + (declared + needs)
 }
 
-/// How many globals the rewritten program has; `None` only where they are more than 64.
-fn global_count(rounds: Rounds, globals: usize) -> Option<usize>
-    ensures some { IfSome result (λ n. (n ≡ global_count globals rounds.last) × (n ≤ most_places)) }
-    ensures none { IsNone result → global_count globals rounds.last ≤ most_places → ⊥ }
+/// The first procedure, in the order of the source, that has more than 64 places when it is rewritten.
+fn first_wide<N: Allocator, A: Allocator + Copy>(
+    alloc: &A,
+    rounds: Rounds,
+    program: &Program<N>,
+) -> Option<Wide>
+    ensures { IsFirstWide rounds.last (tree_of program.now) result }
 {
-    if globals > MOST_PLACES {
-        return None;
+    let globals = program.globals.as_slice().len();
+    for proc in &program.procs {
+        let places = places(alloc, rounds, globals, proc);
+        if places > MOST_PLACES as u128 {
+            let at = proc.name.at;
+            return Some(Wide { at, places });
+        }
     }
-    let last = rounds.last as usize;
-    let count = (2 * last + 1) * globals + 4;
-    if count <= MOST_PLACES {
-        Some(count)
-    } else {
-        None
-    }
+    None
 }
 
-/// Whether every procedure of the rewritten program has at most 64 places.
-pub fn is_narrow<N: Allocator, A: Allocator + Copy>(
+/// Whether every procedure of the rewritten program, its first one too, has at most 64 places.
+pub(crate) fn is_narrow<N: Allocator, A: Allocator + Copy>(
     alloc: &A,
     rounds: Rounds,
     program: &Program<N>,
 ) -> bool
     ensures { IsTrue result ↔ IsNarrow rounds.last (tree_of program.now) }
 {
-    let Some(globals) = global_count(rounds, program.globals.as_slice().len()) else {
+    let globals = global_count(rounds, program.globals.as_slice().len());
+    if globals > MOST_PLACES as u128 {
         return false;
-    };
-    for proc in &program.procs {
-        if !is_own_narrow(alloc, rounds, globals, proc) {
-            return false;
-        }
     }
-    true
+    first_wide(alloc, rounds, program).is_none()
+}
+
+/// Which procedure of a checked program is too wide for so many rounds: the first, in the order of the source, that has more
+/// than 64 places when it is rewritten. It takes no memory. `rewrite` answers `TooWide` where there is one.
+pub fn too_wide<N: Allocator, A: Allocator + Copy>(
+    alloc: &A,
+    checked: &Checked<N>,
+    rounds: Rounds,
+) -> Option<Wide>
+    ensures { IsFirstWide (last_round rounds) (checked_tree checked.now) result }
+{
+    first_wide(alloc, rounds, checked.program())
 }
