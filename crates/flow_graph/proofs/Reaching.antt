@@ -5,7 +5,7 @@ use Rattle.language.specs.Tree.{done, one, choose, loop}
 use Rattle.language.specs.Value.{values_of}
 use Rattle.language.specs.Rest.{Code, join}
 use Rattle.language.specs.Step.{Program, fresh, AtRoutine, body_of}
-use Rattle.language.specs.Sequential.{statements, marked, numbered, point_of, Valuation, Calls, Caller, caller, Message, entry, summary}
+use Rattle.language.specs.Sequential.{statements, marked, numbered, point_of, Valuation, Calls, Caller, caller, Message, entry, summary, exit_of, resumed_with}
 use Rattle.language.specs.Flow.{rests, Member, IsRestOf, after_first}
 use Rattle.language.specs.Messages as by_messages
 use Rattle.language.specs.Messages.{Reached, Owes, IsValuationOf, IsMessageTo, ArgumentsFit}
@@ -21,7 +21,7 @@ use Rattle.flow_graph.specs.Nodes.{at}
 use Rattle.flow_graph.specs.Flows.{code, next_of, entered_by}
 use Rattle.flow_graph.specs.Returns.{left, resumed}
 use Rattle.flow_graph.specs.Graphs.{HasSteps, AtFlow, IsGraph, IsInTextOrder}
-use Rattle.flow_graph.specs.Numbers.{NumberedMessage, numbered_entry, numbered_summary, by_numbers, Reaches, starts, flows, returns, Sends, asks, tells, IsNumberOf, AreNumbersOf}
+use Rattle.flow_graph.specs.Numbers.{NumberedMessage, numbered_entry, numbered_summary, by_numbers, exit_code, Reaches, starts, flows, returns, Sends, asks, tells, IsNumberOf, AreNumbersOf}
 use Rattle.flow_graph.specs.declared.flow.Flow.{Flow}
 use Rattle.flow_graph.specs.declared.graph.Graph.{Graph}
 use Rattle.flow_graph.proofs.Coding.{coded_tells, code_tells, left_coded, resumed_coded}
@@ -73,8 +73,8 @@ message_told p q (summary s v b) (entry from w) is is' e = absurd (let z : 1 ≡
 message_told p q (summary s v b) (summary s' w b') is is' e =
     let es : s ≡ s' = ap procedure_of e in
     let ev = valuation_told p s v w is.0 (subst (λ i. IsValuationOf p i w) (sym es) is'.0) (ap entry_of e) in
-    let eb = coded_tells b b' (is.1 ∙ sym is'.1) (ap left_of e) in
-    λ i. summary (es i) (ev i) (eb i)
+    let eb = coded_tells b.globals b'.globals (is.1 ∙ sym is'.1) (ap left_of e) in
+    λ i. summary (es i) (ev i) (record { globals = eb i })
 
 -- what is entered by a call that fits has the widths of its procedure
 pub called_valuation : (p : Program) → ArgumentsFit p → (q : ℕ) (v : Valuation) (r : Code) (s : ℕ) (e : Valuation) → length v.globals ≡ p.globals
@@ -182,10 +182,10 @@ module _ {A : Type 0} (p : Program) (q : ℕ) (graph : Graph A) (is : IsGraph p 
       reaches_reached _ _ _ (by_messages.returns a v e r s b reached calls m) =
           let (flow, here, steps) = flow_at r (reached_stands p q M a v r reached) in
           let wide = reached_valuation p q M right a v r reached in
-          let back : resumed graph.globals (code v) (coded b) ≡ coded (b ++ v.places) =
-          resumed_coded graph.globals v b (wide.0 ∙ sym is.globals) ((right (summary s e b) m).1 ∙ sym is.globals) in
+          let back : resumed graph.globals (code v) (exit_code b) ≡ coded (b.globals ++ v.places) =
+          resumed_coded graph.globals v b.globals (wide.0 ∙ sym is.globals) ((right (summary s e b) m).1 ∙ sym is.globals) in
           subst (Reaches graph K (code a) (at (after_first r))) back
-          (returns (code a) (at r) (code v) s (code e) (at (after_first r)) (coded b) flow (reaches_reached a v r reached) here (steps.enters v e s wide calls) (gives (summary s e b) m))
+          (returns (code a) (at r) (code v) s (code e) (at (after_first r)) (exit_code b) flow (reaches_reached a v r reached) here (steps.enters v e s wide calls) (gives (summary s e b) m))
 
       pub sends_owed : (s : ℕ) (m : Message) → Owes p q M s m → Sends graph q K s (by_numbers m)
       sends_owed _ _ (by_messages.asks a v e r s reached calls) =
@@ -212,11 +212,12 @@ module _ {A : Type 0} (p : Program) (q : ℕ) (graph : Graph A) (is : IsGraph p 
           let whole : IsValuationOf p s e = called_valuation p fit q y r s e wide.0 (reached_stands p q M x y r reached) calls in
           let theirs = right (summary s' z b') had in
           let es : s ≡ s' = ap procedure_of same in
-          let eb : b ≡ coded b' = ap left_of same in
+          let eb : b ≡ exit_code b' = ap left_of same in
           let ez : z ≡ e = valuation_told p s z e (subst (λ i. IsValuationOf p i z) (sym es) theirs.0) whole (sym (ap entry_of same) ∙ ew) in
           let m : M (summary s e b') = subst (λ u. M (summary s u b')) ez (subst (λ i. M (summary i z b')) (sym es) had) in
-          let back : resumed graph.globals (code y) (coded b') ≡ coded (b' ++ y.places) = resumed_coded graph.globals y b' (wide.0 ∙ sym is.globals) (theirs.1 ∙ sym is.globals) in
-          (x, record { globals = b'; places = y.places }, after_first r, by_messages.returns x y e r s b' reached calls m, ea, en, (λ i. resumed graph.globals (ev i) (eb i)) ∙ back)
+          let back : resumed graph.globals (code y) (exit_code b') ≡ coded (b'.globals ++ y.places) =
+            resumed_coded graph.globals y b'.globals (wide.0 ∙ sym is.globals) (theirs.1 ∙ sym is.globals) in
+          (x, resumed_with y b', after_first r, by_messages.returns x y e r s b' reached calls m, ea, en, (λ i. resumed graph.globals (ev i) (eb i)) ∙ back)
 
       pub reached_reaches : (a n v : ℕ) → Reaches graph K a n v → AreNumbersOf (Reached p q M) a n v
       reached_reaches _ _ _ (starts from a k) = let (m, had, e) = tells_of (numbered_entry from a) k in begun from a m had e
@@ -242,7 +243,7 @@ module _ {A : Type 0} (p : Program) (q : ℕ) (graph : Graph A) (is : IsGraph p 
           let ez : z ≡ x = valuation_told p q z x (right (entry c z) had) (right (entry from x) began) (sym (ap entry_of same) ∙ ea) in
           let m : M (entry (caller s) x) = subst (λ u. M (entry (caller s) u)) ez (subst (λ u. M (entry u z)) (sym (ap caller_of same)) had) in
           let wide = reached_valuation p q M right x y r got in (
-            summary q x y.globals,
+            summary q x (exit_of y),
             by_messages.tells x y s m (subst (Reached p q M x y) exit got),
             ap₂ (numbered_summary q) ea (ap (left graph.globals) ev ∙ left_coded graph.globals y (wide.0 ∙ sym is.globals)),
           )
