@@ -61,9 +61,9 @@ status_of Memory = 3
 -- The refusal stands: the text is not read for this fault; or it is the text of a program in which this is the first fault of
 -- scopes; or of a checked program whose rewriting for so many rounds is too wide; or the edge limit is passed, as `Past` says.
 -- Want of memory may stand for every text.
-abbrev pub Stands : List ℕ → ℕ → Type 0 → Refusal → Type 0
-Stands bytes rounds Past (Unread fault) = text.Stands fault bytes
-Stands bytes rounds Past (Unchecked fault) = (t : Tree) × Text bytes t × ((fault ≡ scope.Memory) ⊎ IsFirstFault t fault)
-Stands bytes rounds Past TooWide = (t : Tree) × (last : ℕ) × (suc last ≡ rounds) × Text bytes t × IsChecked t × (IsNarrow last t → ⊥)
-Stands bytes rounds Past EdgeLimit = Past
-Stands bytes rounds Past Memory = Unit {0}
+abbrev pub RefusalStands : List ℕ → ℕ → Type 0 → Refusal → Type 0
+RefusalStands bytes rounds Past (Unread fault) = text.Stands fault bytes
+RefusalStands bytes rounds Past (Unchecked fault) = (t : Tree) × Text bytes t × ((fault ≡ scope.Memory) ⊎ IsFirstFault t fault)
+RefusalStands bytes rounds Past TooWide = (t : Tree) × (last : ℕ) × (suc last ≡ rounds) × Text bytes t × IsChecked t × (IsNarrow last t → ⊥)
+RefusalStands bytes rounds Past EdgeLimit = Past
+RefusalStands bytes rounds Past Memory = Unit {0}

@@ -13,7 +13,7 @@ use Rattle.language.proofs.Sound.{owed_due}
 use Rattle.language.proofs.Widths.{due_message, reached_valuation}
 use Rattle.round_rewrite.specs.Law.{SomeBad}
 use Rattle.flow_graph.specs.Bits.{bit_of, coded}
-use Rattle.flow_graph.specs.Nodes.{number, at}
+use Rattle.flow_graph.specs.Nodes.{number, point_at}
 use Rattle.flow_graph.specs.Flows.{code}
 use Rattle.flow_graph.specs.Returns.{left}
 use Rattle.flow_graph.specs.Graphs.{AreGraphs, IsInTextOrder}
@@ -59,10 +59,10 @@ module _ (p : Program) (fit : ArgumentsFit p) where
   )
 
   pub edge_told : IsInTextOrder p → (q : ℕ) (x y : Valuation) (r : Code) → IsValuationOf p q x → IsValuationOf p q y → IsRestOf (body_of (slice_get p.routines q)) r
-      → AreNumbersOf (EdgeTo p q) (code x) (at r) (code y) ↔ EdgeTo p q x y r
+      → AreNumbersOf (EdgeTo p q) (code x) (point_at r) (code y) ↔ EdgeTo p q x y r
   edge_told order q x y r begins wide stands = (there, λ edge. (x, y, r, edge, refl, refl, refl))
     where
-      there : AreNumbersOf (EdgeTo p q) (code x) (at r) (code y) → EdgeTo p q x y r
+      there : AreNumbersOf (EdgeTo p q) (code x) (point_at r) (code y) → EdgeTo p q x y r
       there (x', y', r', edge, ex, en, ey) =
           let ax : x' ≡ x = sym (valuation_told p q x x' begins (edge_begins q x' y' r' edge) ex) in
           let ay : y' ≡ y = sym (valuation_told p q y y' wide (edge_wide q x' y' r' edge) ey) in

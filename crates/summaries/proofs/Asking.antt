@@ -5,7 +5,7 @@ use Rattle.language.specs.Flow.{Member}
 use Rattle.path_sets.specs.Triples.{Triple, triple}
 use Rattle.flow_graph.specs.Flows.{entered_by}
 use Rattle.flow_graph.specs.Returns.{resumed}
-use Rattle.flow_graph.specs.Numbers.{NumberedMessage, Reaches, returns, Sends, asks}
+use Rattle.flow_graph.specs.Numbers.{NumberedMessage, GraphReaches, returns, Sends, asks}
 use Rattle.flow_graph.specs.declared.flow.Flow.{Flow}
 use Rattle.flow_graph.specs.declared.graph.Graph.{Graph}
 use Rattle.flow_graph.proofs.Holding.{reaches_more}
@@ -39,21 +39,21 @@ module _ {A G : Type 0} (graph : Graph G) (q : ℕ) (f : Found A) (given : Given
   module _ (es ds : List Triple) (e : Edge) (s x back : ℕ) (flow : Flow G) (sound : IsGrounded graph q f es)
       (there : Member (triple_of e) es)
       (here : slice_get graph.flows.items e.point ≡ Some flow) (enters : entered_by flow e.values ≡ Some (s, x, back)) where
-    reached : Reaches graph (TookMessage asked_to) e.entry e.point e.values
+    reached : GraphReaches graph (TookMessage asked_to) e.entry e.point e.values
     reached = reaches_more graph (TookMessage f) (TookMessage asked_to) taken_there e.entry e.point e.values
         (sound.edge e.entry e.point e.values there)
 
     -- what is behind the call is reached
     pub behind_reached : (t : Triple) →
         Each (IsBehind graph (site e.entry back e.values)) (under call_eq f.summaries.by_key (call s x)) t →
-        Reaches graph (TookMessage asked_to) t.entry t.point t.values
+        GraphReaches graph (TookMessage asked_to) t.entry t.point t.values
     behind_reached t w =
-        subst (λ u. Reaches graph (TookMessage asked_to) u.entry u.point u.values) (sym w.2)
+        subst (λ u. GraphReaches graph (TookMessage asked_to) u.entry u.point u.values) (sym w.2)
         (returns e.entry e.point e.values s x back w.0 flow reached here enters w.1)
 
     -- so, where nothing but that is added, all edges are
     pub ask_only : ((t : Triple) → Member t ds → Each (IsBehind graph (site e.entry back e.values)) (under call_eq f.summaries.by_key (call s x)) t ⊎ Member t es) →
-        (t : Triple) → Member t ds → Reaches graph (TookMessage asked_to) t.entry t.point t.values
+        (t : Triple) → Member t ds → GraphReaches graph (TookMessage asked_to) t.entry t.point t.values
     ask_only only t m = elim (only t m) [
       | inl w ↦ behind_reached t w
       | inr was ↦ reaches_more graph (TookMessage f) (TookMessage asked_to) taken_there t.entry t.point t.values
@@ -72,7 +72,7 @@ module _ {A G : Type 0} (graph : Graph G) (q : ℕ) (f : Found A) (given : Given
 
       -- what is reached at the call of a site
       abbrev AtCall : Call → Site → Type 0
-      AtCall k y = (n : ℕ) × (fl : Flow G) × Reaches graph M y.asked n y.values × (slice_get graph.flows.items n ≡ Some fl) × (entered_by fl y.values ≡ Some (k.callee, k.entered, y.next))
+      AtCall k y = (n : ℕ) × (fl : Flow G) × GraphReaches graph M y.asked n y.values × (slice_get graph.flows.items n ≡ Some fl) × (entered_by fl y.values ≡ Some (k.callee, k.entered, y.next))
 
       at_call : AtCall (call s x) (site e.entry back e.values)
       at_call = (e.point, flow, reached, here, enters)

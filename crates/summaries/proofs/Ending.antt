@@ -4,7 +4,7 @@ use Rattle.std.specs.Prelude.{Vec}
 use Rattle.language.specs.Flow.{Member}
 use Rattle.path_sets.specs.Triples.{Triple, triple}
 use Rattle.flow_graph.specs.Returns.{resumed}
-use Rattle.flow_graph.specs.Numbers.{NumberedMessage, numbered_entry, numbered_summary, Reaches, returns}
+use Rattle.flow_graph.specs.Numbers.{NumberedMessage, numbered_entry, numbered_summary, GraphReaches, returns}
 use Rattle.flow_graph.specs.declared.graph.Graph.{Graph}
 use Rattle.flow_graph.proofs.Holding.{reaches_more}
 use Rattle.summaries.specs.declared.due.Due.TheVariants.{Summary}
@@ -58,15 +58,15 @@ module _ {A G : Type 0} (graph : Graph G) (q : ℕ) (f : Found A) (summaries : G
 
   module _ (es ds : List Triple) (sound : IsGrounded graph q f es) where
     -- what is behind a call is reached
-    pub ended_reached : (t : Triple) → Each (λ y. IsBehind graph y b) (under call_eq f.sites.by_key k) t → Reaches graph M t.entry t.point t.values
+    pub ended_reached : (t : Triple) → Each (λ y. IsBehind graph y b) (under call_eq f.sites.by_key k) t → GraphReaches graph M t.entry t.point t.values
     ended_reached t (y, m, is) =
         let (n, flow, reached, here, enters) = sound.site k.callee k.entered y.asked y.next y.values m in
-        subst (λ u. Reaches graph M u.entry u.point u.values) (sym is)
+        subst (λ u. GraphReaches graph M u.entry u.point u.values) (sym is)
         (returns y.asked n y.values k.callee k.entered y.next b flow
         (reaches_more graph (TookMessage f) M taken_ended y.asked n y.values reached) here enters left_so)
 
     -- so, where nothing but that is added, all edges are
-    pub end_only : ((t : Triple) → Member t ds → Each (λ y. IsBehind graph y b) (under call_eq f.sites.by_key k) t ⊎ Member t es) → (t : Triple) → Member t ds → Reaches graph M t.entry t.point t.values
+    pub end_only : ((t : Triple) → Member t ds → Each (λ y. IsBehind graph y b) (under call_eq f.sites.by_key k) t ⊎ Member t es) → (t : Triple) → Member t ds → GraphReaches graph M t.entry t.point t.values
     end_only only t m = elim (only t m) [
       | inl w ↦ ended_reached t w
       | inr was ↦ reaches_more graph (TookMessage f) M taken_ended t.entry t.point t.values (sound.edge t.entry t.point t.values was)

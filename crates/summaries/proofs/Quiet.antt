@@ -3,7 +3,7 @@ use Rattle.std.proofs.Common.{◌≡◌, ℕ, List, [], inl, inr, subst, sym, re
 use Rattle.language.specs.Flow.{Member}
 use Rattle.path_sets.specs.Triples.{Triple, triple}
 use Rattle.flow_graph.specs.Returns.{left}
-use Rattle.flow_graph.specs.Numbers.{NumberedMessage, Reaches, starts, flows, returns, Sends, asks, tells, Leaves}
+use Rattle.flow_graph.specs.Numbers.{NumberedMessage, GraphReaches, starts, flows, returns, Sends, asks, tells, Leaves}
 use Rattle.flow_graph.specs.declared.graph.Graph.{Graph}
 use Rattle.summaries.specs.declared.found.Found.{Found}
 use Rattle.summaries.specs.Found.{edge, TookMessage, HasExit, HasGiven, IsGrounded, IsWorked, IsComplete, IsExact}
@@ -22,7 +22,7 @@ module _ {A G : Type 0} (graph : Graph G) (q : ℕ) (f : Found A) (edges : List 
       ]
 
   -- what is reached is an edge
-  pub is_edge : (a n v : ℕ) → Reaches graph (TookMessage f) a n v → Member (triple a n v) edges
+  pub is_edge : (a n v : ℕ) → GraphReaches graph (TookMessage f) a n v → Member (triple a n v) edges
   unfolding is_worked
   is_edge a _ _ (starts from _ taken) = complete.begun from a taken
   is_edge a _ _ (flows _ n v n' v' i flow r here within leads) = (is_worked a n v (is_edge a n v r)).flows flow i n' v' here within leads

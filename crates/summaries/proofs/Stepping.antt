@@ -8,7 +8,7 @@ use Rattle.language.proofs.Members.{member_left, member_right, member_append}
 use Rattle.path_sets.specs.Triples.{Triple, triple, NoneTwice}
 use Rattle.flow_graph.specs.Flows.{entered_by}
 use Rattle.flow_graph.specs.Returns.{left, resumed}
-use Rattle.flow_graph.specs.Numbers.{NumberedMessage, numbered_entry, numbered_summary, Reaches, Sends, Leaves}
+use Rattle.flow_graph.specs.Numbers.{NumberedMessage, numbered_entry, numbered_summary, GraphReaches, Sends, Leaves}
 use Rattle.flow_graph.specs.declared.flow.Flow.{Flow}
 use Rattle.flow_graph.specs.declared.graph.Graph.{Graph}
 use Rattle.flow_graph.proofs.Holding.{reaches_more, sends_more}
@@ -29,13 +29,13 @@ use Rattle.summaries.specs.Tables.{HasMore}
 pub record Step {A G : Type 0} (graph : Graph G) (q : ℕ) (f g : Found A) (es ds : List Triple) : Type 0 where
   pub taken : (k : NumberedMessage) → TookMessage f k → TookMessage g k
   pub kept : (t : Triple) → Member t es → Member t ds
-  pub edge : (t : Triple) → Member t ds → Member t es ⊎ Reaches graph (TookMessage g) t.entry t.point t.values
+  pub edge : (t : Triple) → Member t ds → Member t es ⊎ GraphReaches graph (TookMessage g) t.entry t.point t.values
   pub new : (t : Triple) → Member t ds → Member t es ⊎ IsPending g t.entry t.point t.values
   pub stays : (e : Edge) → Member e f.pending.items → Member e g.pending.items
   pub pending : (e : Edge) → Member e g.pending.items → Member e f.pending.items ⊎ Member (triple_of e) ds
   pub sites : (s e a n v : ℕ) → HasSite f s e (site a n v) → HasSite g s e (site a n v)
   pub called : (s e a n' v : ℕ) → HasSite g s e (site a n' v) → HasSite f s e (site a n' v) ⊎ ((n : ℕ) × (flow : Flow G)
-      × Reaches graph (TookMessage g) a n v × (slice_get graph.flows.items n ≡ Some flow) × (entered_by flow v ≡ Some (s, e, n')))
+      × GraphReaches graph (TookMessage g) a n v × (slice_get graph.flows.items n ≡ Some flow) × (entered_by flow v ≡ Some (s, e, n')))
   pub exits : (a b : ℕ) → HasExit f a b → HasExit g a b
   pub exit : (a b : ℕ) → HasExit g a b → HasExit f a b ⊎ Leaves graph (TookMessage g) a b
   pub gives : (s : ℕ) (k : NumberedMessage) → HasGiven f s k → HasGiven g s k
@@ -64,7 +64,7 @@ module _ {A G : Type 0} (graph : Graph G) (q : ℕ) (f g : Found A) (es ds : Lis
     pending = λ a n v m. elim (step.pending (edge a n v) m) [ inl was ↦ step.kept (triple a n v) (old.pending a n v was) | inr is ↦ is ];
   }
     where
-      more : (a n v : ℕ) → Reaches graph (TookMessage f) a n v → Reaches graph (TookMessage g) a n v
+      more : (a n v : ℕ) → GraphReaches graph (TookMessage f) a n v → GraphReaches graph (TookMessage g) a n v
       more = reaches_more graph (TookMessage f) (TookMessage g) step.taken
 
   -- what was worked on is
@@ -120,7 +120,7 @@ has_more limit es P once all t is new full = (t ∷ es, (new, once), omega (arit
 -- by the same messages taken the edges of a table are reached
 pub all_reached : {A G : Type 0} (graph : Graph G) (q : ℕ) (f g : Found A) (es : List Triple) →
     IsGrounded graph q f es → ((k : NumberedMessage) → TookMessage f k → TookMessage g k) →
-    (t : Triple) → Member t es → Reaches graph (TookMessage g) t.entry t.point t.values
+    (t : Triple) → Member t es → GraphReaches graph (TookMessage g) t.entry t.point t.values
 all_reached graph q f g es sound taken t m =
     reaches_more graph (TookMessage f) (TookMessage g) taken t.entry t.point t.values
     (sound.edge t.entry t.point t.values m)
@@ -173,7 +173,7 @@ module _ {A G : Type 0} (graph : Graph G) (q : ℕ) (f : Found A) (es : List Tri
   taken_there : (k : NumberedMessage) → TookMessage f k → TookMessage popped_to k
   taken_there = taken_as f popped_to (λ a. refl) (λ c. refl)
 
-  more : (a n v : ℕ) → Reaches graph (TookMessage f) a n v → Reaches graph (TookMessage popped_to) a n v
+  more : (a n v : ℕ) → GraphReaches graph (TookMessage f) a n v → GraphReaches graph (TookMessage popped_to) a n v
   more = reaches_more graph (TookMessage f) (TookMessage popped_to) taken_there
 
   -- what was pending is pending or is the edge

@@ -6,7 +6,7 @@ use Rattle.path_sets.specs.Triples.{Triple, triple}
 use Rattle.flow_graph.specs.Drawn.{flows_of, globals_of, start_of}
 use Rattle.flow_graph.specs.Flows.{last_of, next_of, entered_by}
 use Rattle.flow_graph.specs.Returns.{left, resumed}
-use Rattle.flow_graph.specs.Numbers.{NumberedMessage, numbered_entry, numbered_summary, Reaches, Sends, Leaves}
+use Rattle.flow_graph.specs.Numbers.{NumberedMessage, numbered_entry, numbered_summary, GraphReaches, Sends, Leaves}
 use Rattle.flow_graph.specs.declared.flow.Flow.{Flow}
 use Rattle.flow_graph.specs.declared.graph.Graph.{Graph}
 use Rattle.summaries.specs.declared.due.Due.{Due}
@@ -80,9 +80,9 @@ module _ {A G : Type 0} (graph : Graph G) (q : ℕ) (f : Found A) (edges : List 
   -- Each edge is reached by the messages taken, each site at its call, and each exit; each message given is sent; what is
   -- pending is an edge.
   pub record IsGrounded : Type 0 where
-    pub edge : (a n v : ℕ) → Member (triple a n v) edges → Reaches graph (TookMessage f) a n v
+    pub edge : (a n v : ℕ) → Member (triple a n v) edges → GraphReaches graph (TookMessage f) a n v
     pub site : (s e a n' v : ℕ) → HasSite f s e (site a n' v) → (n : ℕ) × (flow : Flow G)
-        × Reaches graph (TookMessage f) a n v × (slice_get (flows_of graph) n ≡ Some flow) × (entered_by flow v ≡ Some (s, e, n'))
+        × GraphReaches graph (TookMessage f) a n v × (slice_get (flows_of graph) n ≡ Some flow) × (entered_by flow v ≡ Some (s, e, n'))
     pub exit : (a b : ℕ) → HasExit f a b → Leaves graph (TookMessage f) a b
     pub given : (s : ℕ) (k : NumberedMessage) → HasGiven f s k → Sends graph q (TookMessage f) s k
     pub pending : (a n v : ℕ) → IsPending f a n v → Member (triple a n v) edges
@@ -116,7 +116,7 @@ IsWorkedOff f = f.pending.items ≡ []
 -- By the messages taken the edges are what is reached, and the messages given are what is sent.
 abbrev pub IsExact : {A G : Type 0} → Graph G → ℕ → Found A → List Triple → Type 0
 IsExact graph q f edges =
-    ((a n v : ℕ) → Reaches graph (TookMessage f) a n v ↔ Member (triple a n v) edges)
+    ((a n v : ℕ) → GraphReaches graph (TookMessage f) a n v ↔ Member (triple a n v) edges)
     × ((s : ℕ) (k : NumberedMessage) → Sends graph q (TookMessage f) s k ↔ HasGiven f s k)
 
 -- nothing is found

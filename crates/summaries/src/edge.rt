@@ -1,6 +1,6 @@
 //! Path edges of one procedure, and the calls on them.
 
-use flow_graph::{Point, Word};
+use language::{Point, Word};
 
 /// A path edge: the valuation on entry, the point, and the valuation there.
 #[derive(Clone, Copy, Debug, PartialEq, Eq)]

@@ -8,7 +8,8 @@ use crate::edge::{Edge, Site};
 use crate::edge_limit::EdgeLimit;
 use crate::reach::reach;
 use crate::table_fault::TableFault;
-use flow_graph::{Graph, Word};
+use flow_graph::Graph;
+use language::Word;
 use path_sets::PathSet;
 use std::alloc::Allocator;
 

@@ -18,7 +18,8 @@ use crate::reach::reach;
 use crate::table::Table;
 use crate::table_fault::TableFault;
 use crate::tell::{tell_all, tell_exits};
-use flow_graph::{EXIT, Flow, Word};
+use flow_graph::Flow;
+use language::{EXIT, Word};
 use path_sets::PathSet;
 use std::alloc::{AllocError, Allocator};
 

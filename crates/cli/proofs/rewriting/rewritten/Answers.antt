@@ -6,7 +6,7 @@ use Rattle.round_rewrite.specs.Narrow.{IsNarrow}
 use Rattle.round_rewrite.specs.declared.fault.RewriteFault.{RewriteFault}
 use Rattle.round_rewrite.specs.declared.fault.RewriteFault.TheVariants.{TooWide, Memory}
 use Rattle.cli.specs.Refusals.{refusal_of_rewriting}
-use Rattle.cli.specs.Refused.{Stands}
+use Rattle.cli.specs.Refused.{RefusalStands}
 use Rattle.std.proofs.lemmas.Result.{err_from_is_err_and}
 use Rattle.language.specs.Tree.{Tree}
 use Rattle.syntax.specs.InGrammar.{InGrammar}
@@ -36,7 +36,7 @@ returns-clause-rewriting g c =
 
 -- what a fault of the rewriting says of the text
 stands : (bytes : List ℕ) (last rounds : ℕ) (t : Tree) → suc last ≡ rounds → Text bytes t → IsChecked t → (fault : RewriteFault) →
-    IsFaultOf last t fault → Stands bytes rounds ⊥ (refusal_of_rewriting fault)
+    IsFaultOf last t fault → RefusalStands bytes rounds ⊥ (refusal_of_rewriting fault)
 stands bytes last rounds t count of checked Memory fault = tt
 stands bytes last rounds t count of checked TooWide (inl (e, wide)) = (t, last, count, of, checked, wide)
 stands bytes last rounds t count of checked TooWide (inr (e, narrow)) = cc
