@@ -105,7 +105,7 @@ module _ {A G : Type 0} (graph : Graph G) (q : ℕ) (f : Found A) (entries : Gro
         | inl was ↦ inl was
         | inr is ↦ inr (grown.all (triple x graph.start x) (ap (λ y. triple y graph.start y) (sym is.0)))
       ];
-      ended = λ s x y c n v at taken. inl (at, taken);
+      ended = λ s x y c n v back at enters taken. inl (at, taken);
       asks = λ s x c n v m. inl m;
       tells = λ x y c m h. elim (entry_or x (Proc c) h) [
         | inl was ↦ inl (m, was)

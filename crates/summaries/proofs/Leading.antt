@@ -56,7 +56,7 @@ module _ {A G : Type 0} (graph : Graph G) (q : ℕ) (f : Found A) (pending : Vec
       gives = λ s k m. m;
       given = λ s k m. inl m;
       begun = λ from a h. inl h;
-      ended = λ s x b a n v at taken. inl (at, taken);
+      ended = λ s x b a n v back at enters taken. inl (at, taken);
       asks = λ s x a n v m. inl m;
       tells = λ a b c m h. inl (m, h);
       pairs = λ old. old;

@@ -77,7 +77,7 @@ module _ {A G : Type 0} (graph : Graph G) (q : ℕ) (f g : Found A) where
       gives = λ s k m. gives_kept (Each (IsTold q a b) (under nat_eq f.entries.by_key a)) f.given.mails.keys g.given.mails.keys gave (mail s (due_of k)) m;
       given = λ s k m. elim (gave.only (mail s (due_of k)) m) [ inl w ↦ inr (told s k w) | inr was ↦ inl was ];
       begun = λ from x h. inl h;
-      ended = λ s x y c n w at taken. inl (at, taken);
+      ended = λ s x y c n w back at enters taken. inl (at, taken);
       asks = λ s x c n w m. inl m;
       tells = λ x y c m h. elim (exit_or x y m) [
         | inl was ↦ inl (was, h)

@@ -27,13 +27,13 @@ module _ {A G : Type 0} (graph : Graph G) (q : ℕ) (f : Found A) (edges : List 
   is_edge a _ _ (starts from _ taken) = complete.begun from a taken
   is_edge a _ _ (flows _ n v n' v' i flow r here within leads) = (is_worked a n v (is_edge a n v r)).flows flow i n' v' here within leads
   is_edge a _ _ (returns _ n v s e n' b flow r here calls taken) =
-      complete.ended s e b a n' v ((is_worked a n v (is_edge a n v r)).calls flow s e n' here calls) taken
+      complete.ended s e b a n v n' ((is_worked a n v (is_edge a n v r)).calls flow s e n' here calls) (flow, here, calls) taken
 
   -- what is sent is given
   pub is_given : (s : ℕ) (k : NumberedMessage) → Sends graph q (TookMessage f) s k → HasGiven f s k
   unfolding is_worked
   is_given _ _ (asks a n v s e n' flow r here calls) =
-      complete.asks s e a n' v ((is_worked a n v (is_edge a n v r)).calls flow s e n' here calls)
+      complete.asks s e a n v ((is_worked a n v (is_edge a n v r)).calls flow s e n' here calls)
   is_given _ _ (tells a v c taken r) =
       complete.tells a (left graph.globals v) c ((is_worked a 0 v (is_edge a 0 v r)).leaves refl) taken
 

@@ -3,7 +3,7 @@ use Rattle.std.specs.Prelude.{◌≡◌, ◌≤◌, ◌<◌, ◌⊎◌, ◌↔�
 use Rattle.std.specs.Prelude.{ℕ, Option, Some, None, Result, Ok, Err, OnOk, List, [], length}
 use Rattle.language.specs.Flow.{Member}
 use Rattle.path_sets.specs.Triples.{Triple, triple, NoneTwice}
-use Rattle.flow_graph.specs.Drawn.{back_of, callee_of, entered_from, globals_of}
+use Rattle.flow_graph.specs.Drawn.{callee_of, entered_from, globals_of}
 use Rattle.flow_graph.specs.Returns.{left}
 use Rattle.flow_graph.specs.declared.call.Call.{Call}
 use Rattle.flow_graph.specs.declared.graph.Graph.{Graph}
@@ -81,7 +81,7 @@ HasLeft t e = e.point ≡ 0 → HasExit t.found e.entry (left (globals_of (graph
 
 -- the call stands as a site at the edge
 abbrev pub HasAsked : {G A S : Type 0} → Table G A S → Edge → Call G → Type 0
-HasAsked t e call = HasSite t.found (callee_of call) (entered_from call e.values) (site e.entry (back_of call) e.values)
+HasAsked t e call = HasSite t.found (callee_of call) (entered_from call e.values) (site e.entry e.point e.values)
 
 -- The table is that of the same procedure, with the same limit.
 pub record StaysAs {G A S : Type 0} (old new : Table G A S) : Type 0 where

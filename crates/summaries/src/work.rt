@@ -75,7 +75,7 @@ impl<'g, G: Allocator, A: Allocator + Copy, S: PathSet<A>> Table<'g, G, A, S> {
         };
         let site = Site {
             asked: edge.entry,
-            next: call.back(),
+            point: edge.point,
             values: edge.values,
         };
         let due = Due::Entry {
