@@ -1,5 +1,5 @@
 -- What one procedure reaches by the messages that it has, and the messages that it then owes.
-use Rattle.std.specs.Prelude.{◌≡◌, ◌≤◌, ℕ, Bool, List, [], ◌∷◌, length, slice_get, slice_index_or}
+use Rattle.std.specs.Prelude.{◌≡◌, ◌≤◌, ℕ, List, [], ◌∷◌, length, slice_get, slice_index_or}
 use Rattle.language.specs.Tree.{Mark, Expression, call, done, one}
 use Rattle.language.specs.Value.{Place}
 use Rattle.language.specs.Rest.{Label, Code}

@@ -178,7 +178,7 @@ impl<'a, N: Allocator, A: Allocator + Copy> Writer<'a, N, A> {
         requires { round < most_rounds }
         ensures { IfOk result
             (λ e. expr_of e ≡ two Rattle.language.specs.Tree.and
-            (negation (at (naming_of self.now) self.now.rounds.last round)) (var (copy_name round (name_of x.now)))) }
+            (negation (in_round (naming_of self.now) self.now.rounds.last round)) (var (copy_name round (name_of x.now)))) }
     {
         let is_round = self.at(round)?;
         let other = not(self.alloc, is_round)?;
