@@ -12,7 +12,7 @@ use Rattle.language.proofs.Gathered.{edge_reached, edge_point, pair_exit}
 use Rattle.language.proofs.Sound.{owed_due}
 use Rattle.language.proofs.Widths.{due_message, reached_valuation}
 use Rattle.round_rewrite.specs.Law.{SomeBad}
-use Rattle.flow_graph.specs.Bits.{bit_of, coded}
+use Rattle.flow_graph.specs.Bits.{bit_of}
 use Rattle.flow_graph.specs.Nodes.{number, point_at}
 use Rattle.flow_graph.specs.Flows.{code}
 use Rattle.flow_graph.specs.Returns.{left}

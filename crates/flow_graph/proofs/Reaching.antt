@@ -216,7 +216,7 @@ module _ {A : Type 0} (p : Program) (q : ℕ) (graph : Graph A) (is : IsGraph p 
           let ez : z ≡ e = valuation_told p s z e (subst (λ i. IsValuationOf p i z) (sym es) theirs.0) whole (sym (ap entry_of same) ∙ ew) in
           let m : M (summary s e b') = subst (λ u. M (summary s u b')) ez (subst (λ i. M (summary i z b')) (sym es) had) in
           let back : resumed graph.globals (code y) (exit_code b') ≡ coded (b'.globals ++ y.places) =
-            resumed_coded graph.globals y b'.globals (wide.0 ∙ sym is.globals) (theirs.1 ∙ sym is.globals) in
+          resumed_coded graph.globals y b'.globals (wide.0 ∙ sym is.globals) (theirs.1 ∙ sym is.globals) in
           (x, resumed_with y b', after_first r, by_messages.returns x y e r s b' reached calls m, ea, en, (λ i. resumed graph.globals (ev i) (eb i)) ∙ back)
 
       pub reached_reaches : (a n v : ℕ) → GraphReaches graph K a n v → AreNumbersOf (Reached p q M) a n v

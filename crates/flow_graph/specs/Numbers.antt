@@ -1,5 +1,5 @@
 -- What a flow graph reaches by the messages that its procedure has, and the messages that it then sends: by numbers.
-use Rattle.std.specs.Prelude.{◌≡◌, ◌≤◌, ℕ, Bool, Option, Some, List, [], slice_get, slice_index_or}
+use Rattle.std.specs.Prelude.{◌≡◌, ◌≤◌, ℕ, Option, Some, List, [], slice_get, slice_index_or}
 use Rattle.language.specs.Rest.{Code}
 use Rattle.language.specs.Step.{Program}
 use Rattle.language.specs.Sequential.{Valuation, Edge, Exit, Pair, Entered, Caller, starter, caller, Message, entry, summary, IsDue}

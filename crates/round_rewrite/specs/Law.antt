@@ -1,6 +1,6 @@
 -- The rewriting theorem: some run within so many rounds fails exactly where some run of the rewritten
 -- program ends with `bad` being 1.
-use Rattle.std.specs.Prelude.{◌≡◌, ℕ, suc, ◌+◌, Bool, true, List, ◌↔◌, codes}
+use Rattle.std.specs.Prelude.{◌≡◌, ℕ, suc, true, ◌↔◌, codes}
 use Rattle.language.specs.Tree.{Tree}
 use Rattle.language.specs.Value.{bit}
 use Rattle.language.specs.Step.{Program}
