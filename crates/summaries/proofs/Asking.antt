@@ -1,5 +1,5 @@
 -- The step of a table at an edge that calls.
-use Rattle.std.proofs.Common.{◌≡◌, ℕ, Some, List, [], ◌∷◌, ◌++◌, ◌⊎◌, false, inl, inr, refl, sym, ap, subst, slice_get}
+use Rattle.std.proofs.Common.{◌≡◌, ℕ, Some, List, [], ◌∷◌, ◌++◌, ◌⊎◌, false, inl, inr, refl, sym, ap, ◌∙◌, subst, slice_get}
 use Rattle.std.specs.Prelude.{Vec}
 use Rattle.std.proofs.lemmas.Option.{same_Some}
 use Rattle.language.specs.Flow.{Member}
@@ -80,7 +80,7 @@ module _ {A G : Type 0} (graph : Graph G) (q : ℕ) (f : Found A) (given : Given
       AtCall k y = GraphReaches graph M y.asked y.point y.values × ((n : ℕ) × EntersAt graph y.point y.values k.callee k.entered n)
 
       at_call : AtCall (call s x) (site e.entry e.point e.values)
-      at_call = (reached, (back, flow, here, enters))
+      at_call = (reached, (back, (flow, here, enters)))
 
       pub ask_step : Step graph q f asked_to es ds
       ask_step = record {

@@ -62,7 +62,7 @@ module _ {A G : Type 0} (graph : Graph G) (q : ℕ) (f : Found A) (summaries : G
     -- what is behind a call is reached
     pub ended_reached : (t : Triple) → Each (λ y. IsBehind graph y b) (under call_eq f.sites.by_key k) t → GraphReaches graph M t.entry t.point t.values
     ended_reached t (y, m, (s, x, n, (fl, at, en), is)) =
-        let (reached, (back, flow, here, enters)) = sound.site k.callee k.entered y.asked y.point y.values m in
+        let (reached, (back, (flow, here, enters))) = sound.site k.callee k.entered y.asked y.point y.values m in
         let call : (s, x, n) ≡ (k.callee, k.entered, back) =
           same_Some (s, x, n) (k.callee, k.entered, back)
           (sym en ∙ ap (λ w. entered_by w y.values) (same_Some fl flow (sym at ∙ here)) ∙ enters) in
