@@ -78,7 +78,8 @@ module _ (body : Code) (v : Valuation) (s n : ℕ) (args : List Bool) where
   no_jump (Some r) h = h
 
   asks_shape : (r : Code) → NodeCalls (node_of body r) v s args n →
-      (m : Mark Label) × (es : List (Expression Place)) × (t : Code) × (r ≡ one m (call s es) t) × (args ≡ values_of v.globals v.places es) × (n ≡ point_at t)
+      (m : Mark Label) × (es : List (Expression Place)) × (t : Code) × (r ≡ one m (call s es) t) ×
+      (args ≡ values_of v.globals v.places es) × (n ≡ point_at t)
   asks_shape done h = absurd h
   asks_shape (one m skip t) h = absurd h
   asks_shape (one m (assign xs rs) t) h = absurd h
@@ -97,19 +98,23 @@ module _ (p : Program) (q : ℕ) (routine : Routine) (there : slice_get p.routin
 
   module _ {A : Type 0} (f : Flow A) (r : Code) (rest : IsRestOf (body_of (slice_get p.routines q)) r)
       (d : Does f (node_of (body_of (slice_get p.routines q)) r) p.globals routine.places (length p.routines)) where
-    enters : (v a : Valuation) (s : ℕ) → IsValuationOf p q v → Calls p v.globals v.places r s a → entered_by f (code v) ≡ Some (s, code a, point_at (after_first r))
+    enters : (v a : Valuation) (s : ℕ) → IsValuationOf p q v → Calls p v.globals v.places r s a →
+        entered_by f (code v) ≡ Some (s, code a, point_at (after_first r))
     enters v a s w calls =
         let (m, es, t, same, h) = call_shape p v.globals v.places r s a calls in
         let args = values_of v.globals v.places es in
         let (callee, is, made) = routine_found (slice_get p.routines s) (λ z. a ≡ record { globals = v.globals; places = fresh z.places args }) h in
         let room : length es ≤ callee.places = subst (λ o. AtRoutine o (λ z. length es ≤ z.places)) is (fit q s m es t (subst (IsRestOf (body_of (slice_get p.routines q))) same rest)) in
         let asks : NodeCalls (node_of (body_of (slice_get p.routines q)) r) v s args (point_at (after_first r)) =
-        subst (λ z. NodeCalls (node_of (body_of (slice_get p.routines q)) z) v s args (point_at (after_first z))) (sym same) (refl, refl, refl) in
+        subst (λ z. NodeCalls (node_of (body_of (slice_get p.routines q)) z) v s args (point_at (after_first z)))
+        (sym same) (refl, refl, refl) in
         let few = narrow s callee is in
-        d.enters v args s (point_at (after_first r)) (wide v w) asks (slice_get_within p.routines s callee is) (omega (arith, few, room, length_values v.globals v.places es))
+        d.enters v args s (point_at (after_first r)) (wide v w) asks (slice_get_within p.routines s callee is)
+        (omega (arith, few, room, length_values v.globals v.places es))
         ∙ ap (λ k. Some (s, k, point_at (after_first r))) (sym (ap code made ∙ coded_fresh v.globals callee.places args))
 
-    entered : (v : Valuation) (s e n : ℕ) → IsValuationOf p q v → entered_by f (code v) ≡ Some (s, e, n) → (a : Valuation) × Calls p v.globals v.places r s a × (e ≡ code a) × (n ≡ point_at (after_first r))
+    entered : (v : Valuation) (s e n : ℕ) → IsValuationOf p q v → entered_by f (code v) ≡ Some (s, e, n) →
+        (a : Valuation) × Calls p v.globals v.places r s a × (e ≡ code a) × (n ≡ point_at (after_first r))
     entered v s e n w h =
         let (args, asks, less, is) = d.entered v s e n (wide v w) h in
         let (m, es, t, same, are, to) = asks_shape (body_of (slice_get p.routines q)) v s n args r asks in
@@ -167,7 +172,8 @@ drawn_graph {N} {A} t q proc graph resolves narrow is draws = record {
 
     flow_at : (r : Code) → IsRestOf body r → AtFlow (slice_get graph.flows.items (point_at r)) (HasSteps p q r)
     flow_at r rest =
-        let placed = slice_get-map (node_of body) (done ∷ rests body done) (point_at r) ∙ ap (option_map (node_of body)) (rest_placed (resolve_block (names_in t proc) (proc_of proc).body) r rest) in
+        let placed = slice_get-map (node_of body) (done ∷ rests body done) (point_at r) ∙
+        ap (option_map (node_of body)) (rest_placed (resolve_block (names_in t proc) (proc_of proc).body) r rest) in
         let (f, at_r, does) = all_do_at graph.flows.items (nodes_of body) _ _ _ (point_at r) (node_of body r) draws.2 placed in
         subst (λ o. AtFlow o (HasSteps p q r)) (sym at_r)
         (has_steps p q (sequential_routine (tree_of t) (proc_of proc)) there (resolving_fit (tree_of t) resolves) (narrow_places (tree_of t) narrow) f r (subst (λ b. IsRestOf b r) (sym same) rest)

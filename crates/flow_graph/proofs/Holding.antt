@@ -11,7 +11,8 @@ use Rattle.language.proofs.Widths.{reached_valuation}
 use Rattle.flow_graph.specs.Flows.{code, last_of, next_of, entered_by}
 use Rattle.flow_graph.specs.Returns.{left, resumed}
 use Rattle.flow_graph.specs.Graphs.{IsGraph, IsInTextOrder}
-use Rattle.flow_graph.specs.Numbers.{NumberedMessage, numbered_entry, numbered_summary, by_numbers, GraphReaches, starts, flows, returns, Sends, asks, tells, IsNumberOf, IsNumberOfValuation}
+use Rattle.flow_graph.specs.Numbers.{NumberedMessage, numbered_entry, numbered_summary, by_numbers, GraphReaches, starts}
+use Rattle.flow_graph.specs.Numbers.{flows, returns, Sends, asks, tells, IsNumberOf, IsNumberOfValuation}
 use Rattle.flow_graph.specs.Triples.{HoldStarts, HoldFlows, HoldReturns, HoldAsks, HoldTells}
 use Rattle.flow_graph.specs.declared.flow.Flow.{Flow}
 use Rattle.flow_graph.specs.declared.graph.Graph.{Graph}
@@ -31,7 +32,8 @@ module _ {A : Type 0} (graph : Graph A) (M : NumberedMessage → Type 0) where
       comes a n v s e n' b flow (reaches_least T begins goes comes a n v reached) here enters k
 
   -- what is sent is the least that has what is asked and told from what is reached
-  pub sends_least : (q : ℕ) (T : ℕ → ℕ → ℕ → Type 0) → ((a n v : ℕ) → GraphReaches graph M a n v → T a n v) → (S : ℕ → NumberedMessage → Type 0)
+  pub sends_least : (q : ℕ) (T : ℕ → ℕ → ℕ → Type 0) → ((a n v : ℕ) → GraphReaches graph M a n v → T a n v) →
+      (S : ℕ → NumberedMessage → Type 0)
       → ((a n v s e n' : ℕ) (flow : Flow A) → T a n v → slice_get graph.flows.items n ≡ Some flow → entered_by flow v ≡ Some (s, e, n') → S s (numbered_entry (caller q) e))
       → ((a v s : ℕ) → M (numbered_entry (caller s) a) → T a 0 v → S s (numbered_summary q a (left graph.globals v)))
       → (s : ℕ) (k : NumberedMessage) → Sends graph q M s k → S s k
@@ -65,7 +67,8 @@ module _ {A : Type 0} (graph : Graph A) (ms : List NumberedMessage) (ts : List (
   held_sent q sent asked told = sends_least graph (λ k. Member k ms) q (λ a n v. Member (a, n, v) ts) held (λ s k. Member (s, k) sent) asked told
 
 -- triples of all that is reached, and of nothing else, follow
-module _ {A : Type 0} (graph : Graph A) (ms : List NumberedMessage) (ts : List (ℕ × ℕ × ℕ)) (all : (a n v : ℕ) → Member (a, n, v) ts ↔ GraphReaches graph (λ k. Member k ms) a n v) where
+module _ {A : Type 0} (graph : Graph A) (ms : List NumberedMessage) (ts : List (ℕ × ℕ × ℕ))
+    (all : (a n v : ℕ) → Member (a, n, v) ts ↔ GraphReaches graph (λ k. Member k ms) a n v) where
   pub reached_follow : HoldStarts graph ms ts × HoldFlows graph ts × HoldReturns graph ms ts
   reached_follow = (
     λ from a k. (all a graph.start a).1 (starts from a k),
@@ -95,7 +98,8 @@ module _ {A : Type 0} (p : Program) (fit : ArgumentsFit p) (q : ℕ) (graph : Gr
   tells_of k h = let (m, d, e) = wide k h in (m, (d, subst K e h), e)
 
   -- what is reached has a flow at its point, and the numbers are of valuations
-  pub reaches_wide : (a n v : ℕ) → GraphReaches graph K a n v → (n < length graph.flows.items) × IsNumberOfValuation p q a × IsNumberOfValuation p q v
+  pub reaches_wide : (a n v : ℕ) → GraphReaches graph K a n v →
+      (n < length graph.flows.items) × IsNumberOfValuation p q a × IsNumberOfValuation p q v
   reaches_wide a n v h =
       let (x, y, r, got, ea, en, ev) = reached_reaches p q graph is M K (λ m d. d.0) fit tells_of a n v h in
       let (flow, here, steps) = flow_at p q graph is r (reached_stands p q M x y r got) in

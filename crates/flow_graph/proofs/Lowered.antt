@@ -21,7 +21,8 @@ begins_led n s m (simple c) t k = refl
 begins_led n s m (branch r a b) t k = refl
 begins_led n s m (repeat r a) t k = refl
 
-pub begins : {A : Type 0} (l : List (Stmt A)) (n : ℕ) (s : Scope) (k : Code) → 0 < length l → n ≡ point_at (join (numbered n (resolve_block s (block_of l))) k)
+pub begins : {A : Type 0} (l : List (Stmt A)) (n : ℕ) (s : Scope) (k : Code) → 0 < length l →
+    n ≡ point_at (join (numbered n (resolve_block s (block_of l))) k)
 begins [] n s k h = absurd (omega (arith, h))
 begins (x ∷ l) n s k h = begins_led n s (item_of x).mark (item_of x).deed (block_of l) k
 
@@ -96,14 +97,18 @@ node_simple body n s m d c k is = ap (λ z. node_of body (join (led n s m z done
 
 pub node_branch : (body : Code) (n : ℕ) (s : Scope) (m : Mark tree.Name) (d : Deed) (r : tree.RightSide tree.Name) (a b : Names) (k : Code) → d ≡ branch r a b →
     node_of body (join (led n s m d done) k)
-    ≡ tests (resolve_side s r) (point_at (join (numbered (suc n) (resolve_block s a)) k)) (point_at (join (numbered (suc n + statements a) (resolve_block s b)) k))
+    ≡ tests (resolve_side s r) (point_at (join (numbered (suc n) (resolve_block s a)) k))
+    (point_at (join (numbered (suc n + statements a) (resolve_block s b)) k))
 node_branch body n s m d r a b k is =
     ap (λ z. node_of body (join (led n s m z done) k)) is
-    ∙ ap (λ j. tests (resolve_side s r) (point_at (join (numbered (suc n) (resolve_block s a)) k)) (point_at (join (numbered (suc n + j) (resolve_block s b)) k))) (resolved_statements s a)
+    ∙ ap (λ j. tests (resolve_side s r) (point_at (join (numbered (suc n) (resolve_block s a)) k))
+    (point_at (join (numbered (suc n + j) (resolve_block s b)) k))) (resolved_statements s a)
 
 pub node_repeat : (body : Code) (n : ℕ) (s : Scope) (m : Mark tree.Name) (d : Deed) (r : tree.RightSide tree.Name) (a : Names) (k : Code) → d ≡ repeat r a →
     node_of body (join (led n s m d done) k)
-    ≡ tests (resolve_side s r) (point_at (join (numbered (suc n) (resolve_block s a)) (loop (marked n (resolve_mark m)) (resolve_side s r) (numbered (suc n) (resolve_block s a)) k))) (point_at k)
+    ≡ tests (resolve_side s r) (point_at
+    (join (numbered (suc n) (resolve_block s a))
+    (loop (marked n (resolve_mark m)) (resolve_side s r) (numbered (suc n) (resolve_block s a)) k))) (point_at k)
 node_repeat body n s m d r a k is = ap (λ z. node_of body (join (led n s m z done) k)) is
 
 -- what happens at a statement and at those inside of it, which have these numbers

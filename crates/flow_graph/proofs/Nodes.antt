@@ -29,7 +29,8 @@ module _ (p : Program) (q : ℕ) where
   abbrev alone : Valuation → Code → State
   alone v r = state v.globals (frame q v.places r ∷ [])
 
-  jump_leads : (o : Option Code) (v v' : Valuation) (r' : Code) → AtRest o (λ rest. alone v rest ≡ alone v' r') → Leads (goes_to o) v (point_at r') v'
+  jump_leads : (o : Option Code) (v v' : Valuation) (r' : Code) → AtRest o (λ rest. alone v rest ≡ alone v' r') →
+      Leads (goes_to o) v (point_at r') v'
   jump_leads None v v' r' h = absurd h
   jump_leads (Some r) v v' r' h = ([], tt, sym (ap (λ s. point_at (rest_in s)) h), sym (ap values_in h))
 
@@ -51,7 +52,8 @@ module _ (p : Program) (q : ℕ) where
   went : (v v' : Valuation) (r : Code) (n : ℕ) → n ≡ point_at r → v' ≡ v → (r' : Code) × (alone v r ≡ alone v' r') × (n ≡ point_at r')
   went v v' r n to same = (r, ap (λ u. alone u r) (sym same), to)
 
-  jumps : (o : Option Code) (v v' : Valuation) (n : ℕ) → Leads (goes_to o) v n v' → (r' : Code) × AtRest o (λ rest. alone v rest ≡ alone v' r') × (n ≡ point_at r')
+  jumps : (o : Option Code) (v v' : Valuation) (n : ℕ) → Leads (goes_to o) v n v' →
+      (r' : Code) × AtRest o (λ rest. alone v rest ≡ alone v' r') × (n ≡ point_at r')
   jumps None v v' n (is, to, same) = absurd (true≢false is)
   jumps (Some r) v v' n (vs, are, to, same) = went v v' r n to same
 

@@ -17,7 +17,8 @@ use Rattle.flow_graph.specs.Nodes.{number, point_at}
 use Rattle.flow_graph.specs.Flows.{code}
 use Rattle.flow_graph.specs.Returns.{left}
 use Rattle.flow_graph.specs.Graphs.{AreGraphs, IsInTextOrder}
-use Rattle.flow_graph.specs.Numbers.{NumberedMessage, numbered_entry, by_numbers, exit_code, Leaves, IsNumberOf, AreNumbersOf, IsNumberOfEntry, AreNumbersOfEdge, AreNumbersOfPair, Sends}
+use Rattle.flow_graph.specs.Numbers.{NumberedMessage, numbered_entry, by_numbers, exit_code, Leaves}
+use Rattle.flow_graph.specs.Numbers.{IsNumberOf, AreNumbersOf, IsNumberOfEntry, AreNumbersOfEdge, AreNumbersOfPair, Sends}
 use Rattle.flow_graph.specs.declared.graph.Graph.{Graph}
 use Rattle.flow_graph.proofs.Coding.{left_coded}
 use Rattle.flow_graph.proofs.Reaching.{valuation_told, message_told, rest_in_order_told, entry_of, entry_is}
@@ -81,8 +82,14 @@ module _ {A : Type 0} (p : Program) (graphs : List (Graph A)) (T : ℕ → Numbe
           let (x, y, r, edge, ea, en, ev) = (edges_taken p graphs T fit are opening sent due q graph here a 0 v).0 reached in
           let exit : r ≡ done = rest_in_order_told p order q r done (edge_stands p fit q x y r edge) (inl refl) (sym en) in
           let inside : EdgeTo p q x y done = subst (EdgeTo p q x y) exit edge in
-          let wide = edge_wide p fit q x y r edge in
-          (x, exit_of y, (pair_exit p q x (exit_of y)).1 (y.places, inside), ea, eb ∙ ap (left graph.globals) ev ∙ left_coded graph.globals y (wide.0 ∙ sym (are.1 q graph here).globals))
+          let wide = edge_wide p fit q x y r edge in (
+            x,
+            exit_of y,
+            (pair_exit p q x (exit_of y)).1 (y.places, inside),
+            ea,
+            eb ∙ ap (left graph.globals) ev ∙
+                left_coded graph.globals y (wide.0 ∙ sym (are.1 q graph here).globals),
+          )
 
       back : AreNumbersOfPair p q a b → Leaves graph (T q) a b
       back (x, g, pair, ea, eb) =
@@ -98,7 +105,12 @@ module _ {A : Type 0} (p : Program) (graphs : List (Graph A)) (T : ℕ → Numbe
   pub bad_left : IsInTextOrder p → (graph : Graph A) → slice_get graphs 0 ≡ Some graph → (bad : ℕ)
       → SomeBad p bad ↔ ((a : ℕ) × (b : ℕ) × Leaves graph (T 0) a b × (bit_of b bad ≡ true))
   bad_left order graph here bad = (
-    λ h. (code h.0, exit_code h.1, (pairs_left order 0 graph here (code h.0) (exit_code h.1)).1 (h.0, h.1, h.2, refl, refl), coded_bit h.1.globals bad ∙ h.3),
+    λ h. (
+      code h.0,
+      exit_code h.1,
+      (pairs_left order 0 graph here (code h.0) (exit_code h.1)).1 (h.0, h.1, h.2, refl, refl),
+      coded_bit h.1.globals bad ∙ h.3,
+    ),
     back,
   )
     where

@@ -5,7 +5,8 @@ use Rattle.language.specs.Tree.{done, one, choose, loop}
 use Rattle.language.specs.Value.{values_of}
 use Rattle.language.specs.Rest.{Code, join}
 use Rattle.language.specs.Step.{Program, fresh, AtRoutine, body_of}
-use Rattle.language.specs.Sequential.{statements, marked, numbered, point_of, Valuation, Calls, Caller, caller, Message, entry, summary, exit_of, resumed_with}
+use Rattle.language.specs.Sequential.{statements, marked, numbered, point_of, Valuation, Calls}
+use Rattle.language.specs.Sequential.{Caller, caller, Message, entry, summary, exit_of, resumed_with}
 use Rattle.language.specs.Flow.{rests, Member, IsRestOf, after_first}
 use Rattle.language.specs.Messages as by_messages
 use Rattle.language.specs.Messages.{Reached, Owes, IsValuationOf, IsMessageTo, ArgumentsFit}
@@ -21,7 +22,8 @@ use Rattle.flow_graph.specs.Nodes.{point_at}
 use Rattle.flow_graph.specs.Flows.{code, next_of, entered_by}
 use Rattle.flow_graph.specs.Returns.{left, resumed}
 use Rattle.flow_graph.specs.Graphs.{HasSteps, AtFlow, IsGraph, IsInTextOrder}
-use Rattle.flow_graph.specs.Numbers.{NumberedMessage, numbered_entry, numbered_summary, by_numbers, exit_code, GraphReaches, starts, flows, returns, Sends, asks, tells, IsNumberOf, AreNumbersOf}
+use Rattle.flow_graph.specs.Numbers.{NumberedMessage, numbered_entry, numbered_summary, by_numbers, exit_code, GraphReaches, starts}
+use Rattle.flow_graph.specs.Numbers.{flows, returns, Sends, asks, tells, IsNumberOf, AreNumbersOf}
 use Rattle.flow_graph.specs.declared.flow.Flow.{Flow}
 use Rattle.flow_graph.specs.declared.graph.Graph.{Graph}
 use Rattle.flow_graph.proofs.Coding.{coded_tells, code_tells, left_coded, resumed_coded}
@@ -160,11 +162,13 @@ module _ {A : Type 0} (p : Program) (q : ℕ) (graph : Graph A) (is : IsGraph p 
   body = body_of (slice_get p.routines q)
 
   -- at a rest of the body there is a flow with the steps from there
-  pub flow_at : (r : Code) → IsRestOf body r → (flow : Flow A) × (slice_get graph.flows.items (point_at r) ≡ Some flow) × HasSteps p q r flow
+  pub flow_at : (r : Code) → IsRestOf body r →
+      (flow : Flow A) × (slice_get graph.flows.items (point_at r) ≡ Some flow) × HasSteps p q r flow
   flow_at r rest = at_flow (slice_get graph.flows.items (point_at r)) (HasSteps p q r) (is.steps r rest)
 
   -- the flow at the point has the steps from there
-  steps_at : (n : ℕ) (r : Code) (flow : Flow A) → IsRestOf body r → n ≡ point_at r → slice_get graph.flows.items n ≡ Some flow → HasSteps p q r flow
+  steps_at : (n : ℕ) (r : Code) (flow : Flow A) → IsRestOf body r → n ≡ point_at r →
+      slice_get graph.flows.items n ≡ Some flow → HasSteps p q r flow
   steps_at n r flow rest e here =
       let (flow', here', steps) = flow_at r rest in
       subst (HasSteps p q r) (same_Some flow' flow (sym here' ∙ ap (slice_get graph.flows.items) (sym e) ∙ here)) steps
@@ -174,7 +178,8 @@ module _ {A : Type 0} (p : Program) (q : ℕ) (graph : Graph A) (is : IsGraph p 
 
     module _ (gives : (m : Message) → M m → K (by_numbers m)) where
       pub reaches_reached : (a v : Valuation) (r : Code) → Reached p q M a v r → GraphReaches graph K (code a) (point_at r) (code v)
-      reaches_reached _ _ _ (by_messages.starts from a m) = subst (λ n. GraphReaches graph K (code a) n (code a)) is.start (starts from (code a) (gives (entry from a) m))
+      reaches_reached _ _ _ (by_messages.starts from a m) =
+          subst (λ n. GraphReaches graph K (code a) n (code a)) is.start (starts from (code a) (gives (entry from a) m))
       reaches_reached _ _ _ (by_messages.flows a v v' r r' reached step) =
           let (flow, here, steps) = flow_at r (reached_stands p q M a v r reached) in
           let (i, most, next) = steps.reaches v v' r' (reached_valuation p q M right a v r reached) step in
@@ -185,7 +190,8 @@ module _ {A : Type 0} (p : Program) (q : ℕ) (graph : Graph A) (is : IsGraph p 
           let back : resumed graph.globals (code v) (exit_code b) ≡ coded (b.globals ++ v.places) =
           resumed_coded graph.globals v b.globals (wide.0 ∙ sym is.globals) ((right (summary s e b) m).1 ∙ sym is.globals) in
           subst (GraphReaches graph K (code a) (point_at (after_first r))) back
-          (returns (code a) (point_at r) (code v) s (code e) (point_at (after_first r)) (exit_code b) flow (reaches_reached a v r reached) here (steps.enters v e s wide calls) (gives (summary s e b) m))
+          (returns (code a) (point_at r) (code v) s (code e) (point_at (after_first r)) (exit_code b) flow
+          (reaches_reached a v r reached) here (steps.enters v e s wide calls) (gives (summary s e b) m))
 
       pub sends_owed : (s : ℕ) (m : Message) → Owes p q M s m → Sends graph q K s (by_numbers m)
       sends_owed _ _ (by_messages.asks a v e r s reached calls) =
@@ -205,7 +211,8 @@ module _ {A : Type 0} (p : Program) (q : ℕ) (graph : Graph A) (is : IsGraph p 
       begun from a (summary s x b) had e = absurd (let z : 0 ≡ 1 = ap kind_of e in omega (arith, z))
 
       resumed_after : (a : ℕ) (x y e : Valuation) (r : Code) (v s w b n : ℕ) (m : Message) → Reached p q M x y r → a ≡ code x → v ≡ code y → Calls p y.globals y.places r s e → w ≡ code e
-          → n ≡ point_at (after_first r) → M m → numbered_summary s w b ≡ by_numbers m → AreNumbersOf (Reached p q M) a n (resumed graph.globals v b)
+          → n ≡ point_at (after_first r) → M m → numbered_summary s w b ≡ by_numbers m →
+          AreNumbersOf (Reached p q M) a n (resumed graph.globals v b)
       resumed_after a x y e r v s w b n (entry c z) reached ea ev calls ew en had same = absurd (let z : 1 ≡ 0 = ap kind_of same in omega (arith, z))
       resumed_after a x y e r v s w b n (summary s' z b') reached ea ev calls ew en had same =
           let wide = reached_valuation p q M right x y r reached in
@@ -216,8 +223,15 @@ module _ {A : Type 0} (p : Program) (q : ℕ) (graph : Graph A) (is : IsGraph p 
           let ez : z ≡ e = valuation_told p s z e (subst (λ i. IsValuationOf p i z) (sym es) theirs.0) whole (sym (ap entry_of same) ∙ ew) in
           let m : M (summary s e b') = subst (λ u. M (summary s u b')) ez (subst (λ i. M (summary i z b')) (sym es) had) in
           let back : resumed graph.globals (code y) (exit_code b') ≡ coded (b'.globals ++ y.places) =
-          resumed_coded graph.globals y b'.globals (wide.0 ∙ sym is.globals) (theirs.1 ∙ sym is.globals) in
-          (x, resumed_with y b', after_first r, by_messages.returns x y e r s b' reached calls m, ea, en, (λ i. resumed graph.globals (ev i) (eb i)) ∙ back)
+          resumed_coded graph.globals y b'.globals (wide.0 ∙ sym is.globals) (theirs.1 ∙ sym is.globals) in (
+            x,
+            resumed_with y b',
+            after_first r,
+            by_messages.returns x y e r s b' reached calls m,
+            ea,
+            en,
+            (λ i. resumed graph.globals (ev i) (eb i)) ∙ back,
+          )
 
       pub reached_reaches : (a n v : ℕ) → GraphReaches graph K a n v → AreNumbersOf (Reached p q M) a n v
       reached_reaches _ _ _ (starts from a k) = let (m, had, e) = tells_of (numbered_entry from a) k in begun from a m had e
@@ -233,7 +247,8 @@ module _ {A : Type 0} (p : Program) (q : ℕ) (graph : Graph A) (is : IsGraph p 
           let (m, had, same) = tells_of (numbered_summary s w b) k in
           resumed_after a x y e r v s w b n' m got ea ev calls ew en' had same
 
-      told : (order : IsInTextOrder p) (a v s : ℕ) (x y : Valuation) (r : Code) (m : Message) → Reached p q M x y r → a ≡ code x → 0 ≡ point_at r → v ≡ code y → M m → numbered_entry (caller s) a ≡ by_numbers m
+      told : (order : IsInTextOrder p) (a v s : ℕ) (x y : Valuation) (r : Code) (m : Message) → Reached p q M x y r →
+          a ≡ code x → 0 ≡ point_at r → v ≡ code y → M m → numbered_entry (caller s) a ≡ by_numbers m
           → IsNumberOf (Owes p q M s) (numbered_summary q a (left graph.globals v))
       told order a v s x y r (summary s' z b') got ea en ev had same = absurd (let z : 0 ≡ 1 = ap kind_of same in omega (arith, z))
       told order a v s x y r (entry c z) got ea en ev had same =
@@ -268,7 +283,8 @@ module _ {A : Type 0} (p : Program) (q : ℕ) (graph : Graph A) (is : IsGraph p 
           back : AreNumbersOf (Reached p q M) a n v → GraphReaches graph K a n v
           back (x, y, r, got, ea, en, ev) =
               subst (GraphReaches graph K a n) (sym ev)
-              (subst (λ i. GraphReaches graph K a i (code y)) (sym en) (subst (λ i. GraphReaches graph K i (point_at r) (code y)) (sym ea) (reaches_reached gives x y r got)))
+              (subst (λ i. GraphReaches graph K a i (code y)) (sym en)
+              (subst (λ i. GraphReaches graph K i (point_at r) (code y)) (sym ea) (reaches_reached gives x y r got)))
 
       pub sends_numbers : IsInTextOrder p → (s : ℕ) (k : NumberedMessage) → Sends graph q K s k ↔ IsNumberOf (Owes p q M s) k
       sends_numbers order s k = (

@@ -97,7 +97,8 @@ module _ {A : Type 0} (p : Program) (graphs : List (Graph A)) (T : ℕ → Numbe
     λ h. subst (T q) (sym h.2) (((gathered p Had opened closed (λ s m d. d.0) q).0 h.0).1 h.1).1,
   )
 
-  pub edges_taken : (q : ℕ) (graph : Graph A) → slice_get graphs q ≡ Some graph → (a n v : ℕ) → GraphReaches graph (T q) a n v ↔ AreNumbersOf (EdgeTo p q) a n v
+  pub edges_taken : (q : ℕ) (graph : Graph A) → slice_get graphs q ≡ Some graph → (a n v : ℕ) →
+      GraphReaches graph (T q) a n v ↔ AreNumbersOf (EdgeTo p q) a n v
   edges_taken q graph here a n v = (edges_reached p fit q graph (are.1 q graph here) (T q) (due q) a n v, back)
     where
       back : AreNumbersOf (EdgeTo p q) a n v → GraphReaches graph (T q) a n v
@@ -105,7 +106,8 @@ module _ {A : Type 0} (p : Program) (graphs : List (Graph A)) (T : ℕ → Numbe
           let got = edges_had q x y r edge in
           let by = reaches_reached p q graph (are.1 q graph here) (Had q) (T q) (λ m h. due_message p fit q m h.0) (λ m h. h.1) x y r got in
           subst (GraphReaches graph (T q) a n) (sym ev)
-          (subst (λ i. GraphReaches graph (T q) a i (code y)) (sym en) (subst (λ i. GraphReaches graph (T q) i (point_at r) (code y)) (sym ea) by))
+          (subst (λ i. GraphReaches graph (T q) a i (code y)) (sym en)
+          (subst (λ i. GraphReaches graph (T q) i (point_at r) (code y)) (sym ea) by))
 
 -- a program whose statements are marked with their numbers is
 pub ordered : (p : Program) → IsInTextOrder (in_text_order p)

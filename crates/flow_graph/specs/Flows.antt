@@ -49,7 +49,8 @@ pub record Does {A : Type 0} (flow : Flow A) (node : Node) (g l procedures : ℕ
   pub once : (v : Valuation) (i j : ℕ) (x : ℕ × ℕ) → HasWidths g l v → i ≤ last_of flow → j ≤ last_of flow → next_of flow (code v) i ≡ Some x → next_of flow (code v) j ≡ Some x → i ≡ j
   pub enters : (v : Valuation) (args : List Bool) (q n : ℕ) → HasWidths g l v → NodeCalls node v q args n → q < procedures →
       g + length args ≤ most_places → entered_by flow (code v) ≡ Some (q, coded (v.globals ++ args), n)
-  pub entered : (v : Valuation) (q e n : ℕ) → HasWidths g l v → entered_by flow (code v) ≡ Some (q, e, n) → (args : List Bool) × NodeCalls node v q args n × (q < procedures) × (e ≡ coded (v.globals ++ args))
+  pub entered : (v : Valuation) (q e n : ℕ) → HasWidths g l v → entered_by flow (code v) ≡ Some (q, e, n) →
+      (args : List Bool) × NodeCalls node v q args n × (q < procedures) × (e ≡ coded (v.globals ++ args))
 
 -- each flow does what happens at its node
 abbrev pub AllDo : {A : Type 0} → List (Flow A) → List Node → ℕ → ℕ → ℕ → Type 0

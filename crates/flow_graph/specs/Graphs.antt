@@ -15,11 +15,16 @@ use Rattle.flow_graph.specs.Drawn.{flows_of, start_of, globals_of}
 -- The flow has the steps of procedure q where r is left to run: it leads to what a step inside the call leads to, to nothing
 -- else, and to each once; and it enters what a step enters, with the point after the call, and nothing else.
 pub record HasSteps {A : Type 0} (p : Program) (q : ℕ) (r : Code) (flow : Flow A) : Type 0 where
-  pub reaches : (v v' : Valuation) (r' : Code) → IsValuationOf p q v → steps.Flow p q v r v' r' → (i : ℕ) × (i ≤ last_of flow) × (next_of flow (code v) i ≡ Some (point_at r', code v'))
-  pub only : (v : Valuation) (i n w : ℕ) → IsValuationOf p q v → i ≤ last_of flow → next_of flow (code v) i ≡ Some (n, w) → (v' : Valuation) × (r' : Code) × steps.Flow p q v r v' r' × (n ≡ point_at r') × (w ≡ code v')
+  pub reaches : (v v' : Valuation) (r' : Code) → IsValuationOf p q v → steps.Flow p q v r v' r' →
+      (i : ℕ) × (i ≤ last_of flow) × (next_of flow (code v) i ≡ Some (point_at r', code v'))
+  pub only : (v : Valuation) (i n w : ℕ) → IsValuationOf p q v → i ≤ last_of flow →
+      next_of flow (code v) i ≡ Some (n, w) →
+      (v' : Valuation) × (r' : Code) × steps.Flow p q v r v' r' × (n ≡ point_at r') × (w ≡ code v')
   pub once : (v : Valuation) (i j : ℕ) (x : ℕ × ℕ) → IsValuationOf p q v → i ≤ last_of flow → j ≤ last_of flow → next_of flow (code v) i ≡ Some x → next_of flow (code v) j ≡ Some x → i ≡ j
-  pub enters : (v a : Valuation) (s : ℕ) → IsValuationOf p q v → Calls p v.globals v.places r s a → entered_by flow (code v) ≡ Some (s, code a, point_at (after_first r))
-  pub entered : (v : Valuation) (s e n : ℕ) → IsValuationOf p q v → entered_by flow (code v) ≡ Some (s, e, n) → (a : Valuation) × Calls p v.globals v.places r s a × (e ≡ code a) × (n ≡ point_at (after_first r))
+  pub enters : (v a : Valuation) (s : ℕ) → IsValuationOf p q v → Calls p v.globals v.places r s a →
+      entered_by flow (code v) ≡ Some (s, code a, point_at (after_first r))
+  pub entered : (v : Valuation) (s e n : ℕ) → IsValuationOf p q v → entered_by flow (code v) ≡ Some (s, e, n) →
+      (a : Valuation) × Calls p v.globals v.places r s a × (e ≡ code a) × (n ≡ point_at (after_first r))
 
 -- there is a flow, and it has the property
 abbrev pub AtFlow : {A : Type 0} → Option (Flow A) → (Flow A → Type 0) → Type 0

@@ -38,7 +38,8 @@ IsCounted l n stmts = (statements (block_of l.body.now) < 18446744073709551615) 
 
 -- where a run goes on at the point behind the statement, the flow does what happens at it
 abbrev pub DoesFirst : {N A : Type 0} → Lowering N A → Flow A → Stmt N → ℕ → ℕ → Type 0
-DoesFirst l f stmt number after = (k : Code) → point_at k ≡ after → IsCounted l number (stmt ∷ []) → DoesIn l f (node_of (lowered_body l) (join (code_from l number (stmt ∷ [])) k))
+DoesFirst l f stmt number after = (k : Code) → point_at k ≡ after → IsCounted l number (stmt ∷ []) →
+    DoesIn l f (node_of (lowered_body l) (join (code_from l number (stmt ∷ [])) k))
 
 -- as many flows as there are statements have been put behind others; where a run goes on at the point behind the
 -- statements, they do what happens at their points
@@ -46,4 +47,5 @@ abbrev pub LoweredIn : {N A : Type 0} → Lowering N A → List (Flow A) → Lis
 LoweredIn l old new stmts after =
     (length new ≡ length old + statements (block_of stmts))
     × ((k : Code) → point_at k ≡ after → IsCounted l (length old) stmts
-    → Lowered old new (map (node_of (lowered_body l)) (rests (code_from l (length old) stmts) k)) (length (lowering_scope l).globals) (length (lowering_scope l).locals) (length (lowering_scope l).procedures))
+    → Lowered old new (map (node_of (lowered_body l)) (rests (code_from l (length old) stmts) k))
+    (length (lowering_scope l).globals) (length (lowering_scope l).locals) (length (lowering_scope l).procedures))

@@ -30,8 +30,10 @@ edge_point p q a v point = (
 )
 
 -- a pair has nothing left to run
-pub pair_exit : (p : Program) (q : ℕ) (a : Valuation) (b : Exit) → Pair p q a b ↔ ((l : List Bool) × EdgeTo p q a (record { globals = b.globals; places = l }) done)
+pub pair_exit : (p : Program) (q : ℕ) (a : Valuation) (b : Exit) →
+    Pair p q a b ↔ ((l : List Bool) × EdgeTo p q a (record { globals = b.globals; places = l }) done)
 pair_exit p q a b = (
   λ pair. let (l, inside) = pair_inside p q a b pair in (l, inside_edge p q a (record { globals = b.globals; places = l }) done inside),
-  λ h. inside_pair p q a (record { globals = b.globals; places = h.0 }) (edge_inside p q a (record { globals = b.globals; places = h.0 }) done h.1),
+  λ h. inside_pair p q a (record { globals = b.globals; places = h.0 })
+      (edge_inside p q a (record { globals = b.globals; places = h.0 }) done h.1),
 )

@@ -4,7 +4,8 @@ use Rattle.std.proofs.lemmas.Option.{none-some}
 use Rattle.language.specs.Tree.{done, one, choose, loop}
 use Rattle.language.specs.Rest.{Code}
 use Rattle.language.specs.Step.{Routine, Program, frame, State, state, AtRoutine, body_of, Runs}
-use Rattle.language.specs.Sequential.{Valuation, point_of, Calls, Asks, Entered, Edge, Exit, exit_of, resumed_with, Pair, Message, entry, caller, summary, IsDue}
+use Rattle.language.specs.Sequential.{Valuation, point_of, Calls, Asks, Entered, Edge, Exit}
+use Rattle.language.specs.Sequential.{exit_of, resumed_with, Pair, Message, entry, caller, summary, IsDue}
 use Rattle.language.specs.Flow.{after_first}
 use Rattle.language.specs.Messages.{Reached, starts, flows, returns, Owes, asks, tells, AreDue, EdgeTo}
 use Rattle.language.proofs.RunsOver.{runs_then, runs_step, runs_over, entering, returning}
@@ -72,7 +73,8 @@ pub inside_pair : (p : Program) (q : ℕ) (a v : Valuation) → Inside p q a v d
 inside_pair p q a v inside = (v.places, some_edge p q a v None done refl inside)
 
 -- behind a call, what a pair of the procedure called leads to
-behind : (p : Program) (q : ℕ) (a v e : Valuation) (r : Code) (s : ℕ) (b : Exit) → Inside p q a v r → Calls p v.globals v.places r s e → Pair p s e b →
+behind : (p : Program) (q : ℕ) (a v e : Valuation) (r : Code) (s : ℕ) (b : Exit) → Inside p q a v r →
+    Calls p v.globals v.places r s e → Pair p s e b →
     Inside p q a (resumed_with v b) (after_first r)
 behind p q a v e r s b (entered, run) calls pair =
     let waiting = frame q v.places (after_first r) ∷ [] in

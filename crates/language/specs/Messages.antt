@@ -4,7 +4,8 @@ use Rattle.language.specs.Tree.{Mark, Expression, call, done, one}
 use Rattle.language.specs.Value.{Place}
 use Rattle.language.specs.Rest.{Label, Code}
 use Rattle.language.specs.Step.{Program, frame, state, AtRoutine, body_of, Runs}
-use Rattle.language.specs.Sequential.{Valuation, Calls, IsZero, Entered, Exit, exit_of, resumed_with, Caller, starter, caller, Message, entry, summary, IsDue}
+use Rattle.language.specs.Sequential.{Valuation, Calls, IsZero, Entered, Exit, exit_of, resumed_with}
+use Rattle.language.specs.Sequential.{Caller, starter, caller, Message, entry, summary, IsDue}
 use Rattle.language.specs.Flow.{Member, IsRestOf, Flow, after_first}
 
 -- By the messages of which M holds, procedure q reaches from the entry valuation a the valuation v, with r left to

@@ -38,8 +38,22 @@ module _ (p : Program) (last : ℕ) (fits : FitsScopes p) (small : last < most_r
   to_pair : (n : ℕ) (u : State) → AfterSteps result n start (λ v. v ≡ u) → Bad p.globals last (bare_state u) →
       SomeBad result (bad_at p.globals last)
   to_pair n (state g []) run h = absurd h
-  to_pair n (state g (frame c l done ∷ [])) run h =
-      (zero_valuation, record { globals = g }, (l, (inl (refl, refl), (done, refl, (n, subst (λ k. AfterSteps result n start (λ v. v ≡ state g (frame k l done ∷ []))) h.0 run)))), h.1)
+  to_pair n (state g (frame c l done ∷ [])) run h = (
+    zero_valuation,
+    record { globals = g },
+    (
+      l,
+      (
+        inl (refl, refl),
+        (
+          done,
+          refl,
+          (n, subst (λ k. AfterSteps result n start (λ v. v ≡ state g (frame k l done ∷ []))) h.0 run),
+        ),
+      ),
+    ),
+    h.1,
+  )
   to_pair n (state g (frame c l done ∷ f ∷ fs)) run h = absurd h
   to_pair n (state g (frame c l (one m s t) ∷ fs)) run h = absurd h
   to_pair n (state g (frame c l (choose m r a b t) ∷ fs)) run h = absurd h

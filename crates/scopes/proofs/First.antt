@@ -102,7 +102,8 @@ some_kind t (fault.Reserved n) h = inl (inr (n, refl, h))
 some_kind t (fault.TooMany n) h = inr (n, refl, h)
 some_kind t fault.Memory h = absurd h
 
-stands : (t : Tree) (mk : ℕ → ScopeFault) (P : ℕ → Type 0) (f : ScopeFault) → ((n : ℕ) → P n → FaultStands t (mk n)) → Of mk P f → FaultStands t f
+stands : (t : Tree) (mk : ℕ → ScopeFault) (P : ℕ → Type 0) (f : ScopeFault) → ((n : ℕ) → P n → FaultStands t (mk n)) →
+    Of mk P f → FaultStands t f
 stands t mk P f to w = subst (λ g. FaultStands t g) (sym w.1) (to w.0 w.2)
 
 each_kind : (t : Tree) (f : ScopeFault) → Any t f → FaultStands t f

@@ -50,14 +50,16 @@ module _ {A G : Type 0} (graph : Graph G) (q : ℕ) (f : Found A) (given : Given
         GraphReaches graph (TookMessage asked_to) t.entry t.point t.values
     behind_reached t (b, m, (s', x', n', (fl, at, en), is)) =
         let call : (s', x', n') ≡ (s, x, back) =
-          same_Some (s', x', n') (s, x, back)
-          (sym en ∙ ap (λ w. entered_by w e.values) (same_Some fl flow (sym at ∙ here)) ∙ enters) in
+        same_Some (s', x', n') (s, x, back)
+        (sym en ∙ ap (λ w. entered_by w e.values) (same_Some fl flow (sym at ∙ here)) ∙ enters) in
         subst (λ u. GraphReaches graph (TookMessage asked_to) u.entry u.point u.values)
         (sym (is ∙ ap (λ (c : ℕ × ℕ × ℕ). triple e.entry c.2 (resumed graph.globals e.values b)) call))
         (returns e.entry e.point e.values s x back b flow reached here enters m)
 
     -- so, where nothing but that is added, all edges are
-    pub ask_only : ((t : Triple) → Member t ds → Each (IsBehind graph (site e.entry e.point e.values)) (under call_eq f.summaries.by_key (call s x)) t ⊎ Member t es) →
+    pub ask_only : ((t : Triple) → Member t ds →
+        Each (IsBehind graph (site e.entry e.point e.values)) (under call_eq f.summaries.by_key (call s x)) t ⊎
+        Member t es) →
         (t : Triple) → Member t ds → GraphReaches graph (TookMessage asked_to) t.entry t.point t.values
     ask_only only t m = elim (only t m) [
       | inl w ↦ behind_reached t w
@@ -68,12 +70,15 @@ module _ {A G : Type 0} (graph : Graph G) (q : ℕ) (f : Found A) (given : Given
     module _ (gave : Gives (λ m. m ≡ mail s (Entry (Proc q) x)) f.given.mails.keys given.mails.keys)
         (added : under call_eq sites.by_key (call s x) ≡ under call_eq f.sites.by_key (call s x) ++ site e.entry e.point e.values ∷ [])
         (others : (k : Call) → call_eq (call s x) k ≡ false → under call_eq sites.by_key k ≡ under call_eq f.sites.by_key k)
-        (grown : Grows (Each (IsBehind graph (site e.entry e.point e.values)) (under call_eq f.summaries.by_key (call s x))) es ds f.pending.items pending.items) where
+        (grown : Grows (Each (IsBehind graph (site e.entry e.point e.values))
+        (under call_eq f.summaries.by_key (call s x))) es ds f.pending.items pending.items) where
       abbrev M : NumberedMessage → Type 0
       M = TookMessage asked_to
 
-      site_or : (k : Call) (y : Site) → Member y (under call_eq sites.by_key k) → Member y (under call_eq f.sites.by_key k) ⊎ ((call s x ≡ k) × (site e.entry e.point e.values ≡ y))
-      site_or = added_or call_eq same_call (under call_eq f.sites.by_key) (under call_eq sites.by_key) (call s x) (site e.entry e.point e.values) added others
+      site_or : (k : Call) (y : Site) → Member y (under call_eq sites.by_key k) →
+          Member y (under call_eq f.sites.by_key k) ⊎ ((call s x ≡ k) × (site e.entry e.point e.values ≡ y))
+      site_or = added_or call_eq same_call (under call_eq f.sites.by_key) (under call_eq sites.by_key) (call s x)
+          (site e.entry e.point e.values) added others
 
       -- what is reached at the call of a site
       abbrev AtCall : Call → Site → Type 0
@@ -93,7 +98,9 @@ module _ {A G : Type 0} (graph : Graph G) (q : ℕ) (f : Found A) (given : Given
         new = grown.pending;
         stays = grown.stays;
         pending = grown.edges;
-        sites = λ s' x' a n v m. added_keeps call_eq same_call (under call_eq f.sites.by_key) (under call_eq sites.by_key) (call s x) (site e.entry e.point e.values) added others (call s' x') (site a n v) m;
+        sites = λ s' x' a n v m. added_keeps call_eq same_call (under call_eq f.sites.by_key)
+            (under call_eq sites.by_key) (call s x) (site e.entry e.point e.values) added others (call s' x') (site a n v)
+            m;
         called = λ s' x' a n v m. elim (site_or (call s' x') (site a n v) m) [
           | inl was ↦ inl was
           | inr is ↦ inr (subst (AtCall (call s' x')) is.1 (subst (λ k. AtCall k (site e.entry e.point e.values)) is.0 at_call))

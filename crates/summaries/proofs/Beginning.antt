@@ -69,7 +69,8 @@ module _ {A G : Type 0} (graph : Graph G) (q : ℕ) (f : Found A) (entries : Gro
     start_reached t is = subst (λ u. GraphReaches graph M u.entry u.point u.values) (sym is) (starts (who from) a entered)
 
     -- so, where nothing but that is added, all edges are
-    pub begin_only : ((t : Triple) → Member t ds → (t ≡ triple a graph.start a) ⊎ Member t es) → (t : Triple) → Member t ds → GraphReaches graph M t.entry t.point t.values
+    pub begin_only : ((t : Triple) → Member t ds → (t ≡ triple a graph.start a) ⊎ Member t es) → (t : Triple) →
+        Member t ds → GraphReaches graph M t.entry t.point t.values
     begin_only only t m = elim (only t m) [
       | inl is ↦ start_reached t is
       | inr was ↦ reaches_more graph (TookMessage f) M taken_begun t.entry t.point t.values (sound.edge t.entry t.point t.values was)

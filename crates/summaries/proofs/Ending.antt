@@ -60,19 +60,22 @@ module _ {A G : Type 0} (graph : Graph G) (q : ℕ) (f : Found A) (summaries : G
 
   module _ (es ds : List Triple) (sound : IsGrounded graph q f es) where
     -- what is behind a call is reached
-    pub ended_reached : (t : Triple) → Each (λ y. IsBehind graph y b) (under call_eq f.sites.by_key k) t → GraphReaches graph M t.entry t.point t.values
+    pub ended_reached : (t : Triple) → Each (λ y. IsBehind graph y b) (under call_eq f.sites.by_key k) t →
+        GraphReaches graph M t.entry t.point t.values
     ended_reached t (y, m, (s, x, n, (fl, at, en), is)) =
         let (reached, (back, (flow, here, enters))) = sound.site k.callee k.entered y.asked y.point y.values m in
         let call : (s, x, n) ≡ (k.callee, k.entered, back) =
-          same_Some (s, x, n) (k.callee, k.entered, back)
-          (sym en ∙ ap (λ w. entered_by w y.values) (same_Some fl flow (sym at ∙ here)) ∙ enters) in
+        same_Some (s, x, n) (k.callee, k.entered, back)
+        (sym en ∙ ap (λ w. entered_by w y.values) (same_Some fl flow (sym at ∙ here)) ∙ enters) in
         subst (λ u. GraphReaches graph M u.entry u.point u.values)
         (sym (is ∙ ap (λ (c : ℕ × ℕ × ℕ). triple y.asked c.2 (resumed graph.globals y.values b)) call))
         (returns y.asked y.point y.values k.callee k.entered back b flow
         (reaches_more graph (TookMessage f) M taken_ended y.asked y.point y.values reached) here enters left_so)
 
     -- so, where nothing but that is added, all edges are
-    pub end_only : ((t : Triple) → Member t ds → Each (λ y. IsBehind graph y b) (under call_eq f.sites.by_key k) t ⊎ Member t es) → (t : Triple) → Member t ds → GraphReaches graph M t.entry t.point t.values
+    pub end_only : ((t : Triple) → Member t ds →
+        Each (λ y. IsBehind graph y b) (under call_eq f.sites.by_key k) t ⊎ Member t es) → (t : Triple) → Member t ds →
+        GraphReaches graph M t.entry t.point t.values
     end_only only t m = elim (only t m) [
       | inl w ↦ ended_reached t w
       | inr was ↦ reaches_more graph (TookMessage f) M taken_ended t.entry t.point t.values (sound.edge t.entry t.point t.values was)

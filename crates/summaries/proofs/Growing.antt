@@ -74,7 +74,8 @@ both V W U old mid new before between after first second from to = record {
 }
 
 -- one item more
-pub each_more : {X : Type 0} (W : X → Triple → Type 0) (xs : List X) (x : X) (old mid new : List Triple) (before between after : List Edge) →
+pub each_more : {X : Type 0} (W : X → Triple → Type 0) (xs : List X) (x : X) (old mid new : List Triple)
+    (before between after : List Edge) →
     Grows (Each W xs) old mid before between → Grows (W x) mid new between after → Grows (Each W (xs ++ x ∷ [])) old new before after
 each_more W xs x old mid new before between after first second =
     both (Each W xs) (W x) (Each W (xs ++ x ∷ [])) old mid new before between after first second (each_or_last W xs x)

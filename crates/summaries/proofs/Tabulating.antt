@@ -9,7 +9,8 @@ use Rattle.language.proofs.Gathered.{pair_exit}
 use Rattle.path_sets.specs.Triples.{Triple, triple}
 use Rattle.round_rewrite.specs.Law.{SomeBad}
 use Rattle.flow_graph.specs.Bits.{bit_of}
-use Rattle.flow_graph.specs.Numbers.{NumberedMessage, numbered_entry, GraphReaches, Sends, Leaves, IsNumberOf, IsNumberOfEntry, AreNumbersOfEdge, AreNumbersOfPair}
+use Rattle.flow_graph.specs.Numbers.{NumberedMessage, numbered_entry, GraphReaches, Sends}
+use Rattle.flow_graph.specs.Numbers.{Leaves, IsNumberOf, IsNumberOfEntry, AreNumbersOfEdge, AreNumbersOfPair}
 use Rattle.flow_graph.specs.declared.graph.Graph.{Graph}
 use Rattle.flow_graph.proofs.Taking.{there_too, edges_taken}
 use Rattle.flow_graph.proofs.Pairs.{edge_numbers, pairs_left, bad_left, entries_taken}

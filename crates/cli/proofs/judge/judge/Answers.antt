@@ -20,7 +20,8 @@ use Rattle.cli.proofs.judge.judge.Goals as goal
 
 -- what a fault of the tabulation says of the text
 stands : (text : List ℕ) (rounds edges limit : ℕ) (sequential : Tree) → IsRewriting text rounds sequential → limit ≡ edges → (why : Refusal) →
-    (why ≡ Memory) ⊎ ((why ≡ EdgeLimit) × ((q : ℕ) × HasMoreEdges (sequential_of sequential) q limit)) → RefusalStands text rounds (IsOver text rounds edges) why
+    (why ≡ Memory) ⊎ ((why ≡ EdgeLimit) × ((q : ℕ) × HasMoreEdges (sequential_of sequential) q limit)) →
+    RefusalStands text rounds (IsOver text rounds edges) why
 stands text rounds edges limit sequential found within why (inl e) = subst (RefusalStands text rounds (IsOver text rounds edges)) (sym e) tt
 stands text rounds edges limit sequential found within why (inr (e, (q, more))) =
     let at : HasMoreEdges (sequential_of sequential) q edges = subst (HasMoreEdges (sequential_of sequential) q) within more in

@@ -33,7 +33,9 @@ loop-globals-preserved g c =
     (g.S.PathSet.members c.args.edges.now) (g.S.PathSet.members c.loop-globals.edges) (g.S.PathSet.members c.reach_behind.new.edges)
     c.args.pending.now.items c.loop-globals.pending.items c.reach_behind.new.pending.items
     c.loop-globals.invariant.0 c.in_ok-reach_behind.ensures.ok in (
-      subst (λ l. Grows (Each (IsBehind c.args.graph.now c.args.site) l) (g.S.PathSet.members c.args.edges.now) (g.S.PathSet.members c.reach_behind.new.edges) c.args.pending.now.items c.reach_behind.new.pending.items) (sym (take_more xs i 0 c.loop-globals-test.true)) more,
+      subst (λ l. Grows (Each (IsBehind c.args.graph.now c.args.site) l) (g.S.PathSet.members c.args.edges.now)
+          (g.S.PathSet.members c.reach_behind.new.edges) c.args.pending.now.items c.reach_behind.new.pending.items)
+          (sym (take_more xs i 0 c.loop-globals-test.true)) more,
       c.in_ok-reach_behind.ensures.within,
     )
 

@@ -39,7 +39,9 @@ loop-site-preserved g c =
     (g.S.PathSet.members c.args.edges.now) (g.S.PathSet.members c.loop-site.edges) (g.S.PathSet.members c.reach_behind.new.edges)
     c.args.pending.now.items c.loop-site.pending.items c.reach_behind.new.pending.items
     c.loop-site.invariant.0 c.in_ok-reach_behind.ensures.ok in (
-      subst (λ l. Grows (Each (λ site. IsBehind c.args.graph.now site c.args.globals) l) (g.S.PathSet.members c.args.edges.now) (g.S.PathSet.members c.reach_behind.new.edges) c.args.pending.now.items c.reach_behind.new.pending.items) (sym (take_more xs i (site 0 0 0) c.loop-site-test.true)) more,
+      subst (λ l. Grows (Each (λ site. IsBehind c.args.graph.now site c.args.globals) l)
+          (g.S.PathSet.members c.args.edges.now) (g.S.PathSet.members c.reach_behind.new.edges) c.args.pending.now.items
+          c.reach_behind.new.pending.items) (sym (take_more xs i (site 0 0 0) c.loop-site-test.true)) more,
       c.in_ok-reach_behind.ensures.within,
     )
 

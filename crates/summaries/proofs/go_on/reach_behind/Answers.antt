@@ -19,17 +19,18 @@ returns g c =
     let behind = triple site.asked c.back.result c.resumed.result in
     let here = c.flow.ensures ∙ ap Some c.in-Call.is in
     let same : behind ≡ triple site.asked call.back (resumed (globals_of graph) site.values globals) =
-      λ i. triple site.asked (c.back.ensures i) (c.resumed.ensures.number i) in
+    λ i. triple site.asked (c.back.ensures i) (c.resumed.ensures.number i) in
     let to : (t : Triple) → t ≡ behind → IsBehind graph site globals t =
-      λ t is. (call.callee, entered_from call site.values, call.back, (Call call, here, refl), is ∙ same) in
+    λ t is. (call.callee, entered_from call site.values, call.back, (Call call, here, refl), is ∙ same) in
     let from : (t : Triple) → IsBehind graph site globals t → t ≡ behind =
-      λ t (s, e, back, (flow, at, enters), is).
-      let called : (s, e, back) ≡ (call.callee, entered_from call site.values, call.back) =
-        same_Some (s, e, back) (call.callee, entered_from call site.values, call.back)
-        (sym enters ∙ ap (λ w. entered_by w site.values) (same_Some flow (Call call) (sym at ∙ here))) in
-      is ∙ ap (λ (k : ℕ × ℕ × ℕ). triple site.asked k.2 (resumed (globals_of graph) site.values globals)) called ∙ sym same in
+    λ t (s, e, back, (flow, at, enters), is).
+    let called : (s, e, back) ≡ (call.callee, entered_from call site.values, call.back) =
+    same_Some (s, e, back) (call.callee, entered_from call site.values, call.back)
+    (sym enters ∙ ap (λ w. entered_by w site.values) (same_Some flow (Call call) (sym at ∙ here))) in
+    is ∙ ap (λ (k : ℕ × ℕ × ℕ). triple site.asked k.2 (resumed (globals_of graph) site.values globals)) called ∙ sym same in
     let done = c.reach.ensures in record {
-      ok = IfOk-weaker c.reach.result _ _ (λ _ grown. grows_as (λ t. t ≡ behind) (IsBehind graph site globals) _ _ _ _ to from grown) done.ok;
+      ok = IfOk-weaker c.reach.result _ _
+          (λ _ grown. grows_as (λ t. t ≡ behind) (IsBehind graph site globals) _ _ _ _ to from grown) done.ok;
       only = λ t m. elim (done.only t m) [ inl is ↦ inl (to t is) | inr was ↦ inr was ];
       within = done.within;
       limit = λ e. let (t, is, new, full) = done.limit e in (t, to t is, new, full);

@@ -55,7 +55,8 @@ block-loop-stmt-preserved g t c =
           let first = lowered.1 (join (code_from me (length mid) more) k) (sym next) (few.0, omega (arith, lowered.0, small)) in
           c.loop-stmt.invariant.2 k new at_k few
           (subst (λ ns. Lowered old new ns (length s.globals) (length s.locals) (length s.procedures))
-          (sym (ap (λ x. map (node_of (lowered_body me)) (rests (code_from me (length old) x) k)) e ∙ nodes_split (lowered_body me) (length old) (length mid) s stmt more k lowered.0))
+          (sym (ap (λ x. map (node_of (lowered_body me)) (rests (code_from me (length old) x) k)) e ∙
+          nodes_split (lowered_body me) (length old) (length mid) s stmt more k lowered.0))
           (lowered_then old mid new _ _ _ _ _ first h)),
     )
 
@@ -68,7 +69,8 @@ block-returns g t c =
       omega (arith, c.loop-stmt.invariant.1, ap (λ l. statements (block_of l)) none),
       λ k at_k few.
           c.loop-stmt.invariant.2 k old at_k few
-          (subst (λ x. Lowered old old (map (node_of (lowered_body me)) (rests (code_from me (length old) x) k)) (length s.globals) (length s.locals) (length s.procedures)) (sym none)
+          (subst (λ x. Lowered old old (map (node_of (lowered_body me)) (rests (code_from me (length old) x) k))
+          (length s.globals) (length s.locals) (length s.procedures)) (sym none)
           (lowered_none old (length s.globals) (length s.locals) (length s.procedures))),
     )
 
@@ -104,9 +106,11 @@ statement-returns-in_ok-block-in-If g t c =
           let here = first.1 k at_k (few.0, omega (arith, few.1, next, count_a, whole, parts)) in
           let there = second.1 k at_k (few.0, omega (arith, few.1, first.0, next, count_a, count_b, whole, parts)) in
           subst (λ ns. Lowered old new ns (length s.globals) (length s.locals) (length s.procedures))
-          (sym (nodes_branch (lowered_body me) (length old) (length one) (length mid) s i.mark i.deed (rhs_of c.in-If.field-0) (block_of c.in-If.a.items) (block_of c.in-If.b.items) k (item_deed stmt ∙ core)
+          (sym (nodes_branch (lowered_body me) (length old) (length one) (length mid) s i.mark i.deed
+          (rhs_of c.in-If.field-0) (block_of c.in-If.a.items) (block_of c.in-If.b.items) k (item_deed stmt ∙ core)
           next (omega (arith, first.0, next, count_a))
-          ∙ λ t. node ∷ (map (node_of (lowered_body me)) (rests (code_from me (length one) (sym a t)) k) ++ map (node_of (lowered_body me)) (rests (code_from me (length mid) (sym b t)) k))))
+          ∙ λ t. node ∷ (map (node_of (lowered_body me)) (rests (code_from me (length one) (sym a t)) k) ++ map
+          (node_of (lowered_body me)) (rests (code_from me (length mid) (sym b t)) k))))
           (lowered_then old one new (node ∷ []) _ _ _ _ (lowered_one old one f node _ _ _ pushed does) (lowered_then one mid new _ _ _ _ _ here there)),
     ))
     c.block-in-If.ensures
@@ -139,7 +143,8 @@ statement-returns-in-While g t c =
           let does = made.2 k at_k few in
           let here = inside.1 again (sym number) (few.0, omega (arith, few.1, next, count, whole, parts)) in
           subst (λ ns. Lowered old new ns (length s.globals) (length s.locals) (length s.procedures))
-          (sym (nodes_repeat (lowered_body me) (length old) (length one) s i.mark i.deed (rhs_of c.in-While.field-0) (block_of c.in-While.a.items) k (item_deed stmt ∙ core) next
+          (sym (nodes_repeat (lowered_body me) (length old) (length one) s i.mark i.deed (rhs_of c.in-While.field-0)
+          (block_of c.in-While.a.items) k (item_deed stmt ∙ core) next
           ∙ λ t. node ∷ map (node_of (lowered_body me)) (rests (code_from me (length one) (sym a t)) again)))
           (lowered_then old one new (node ∷ []) _ _ _ _ (lowered_one old one f node _ _ _ pushed does) here),
     ))

@@ -17,8 +17,13 @@ invariant-block-loop-stmt g l =
     (statements (block_of l.rest) ≤ statements (block_of l.stmts))
     × (length l.flows.items + statements (block_of l.rest) ≡ length l.initial.flows.items + statements (block_of l.stmts))
     × ((k : Code) (new : List (Flow g.row.A.Denot)) → point_at k ≡ l.after → IsCounted l.self (length l.initial.flows.items) l.stmts →
-    Lowered l.flows.items new (map (node_of (lowered_body l.self)) (rests (code_from l.self (length l.flows.items) l.rest) k)) (length (lowering_scope l.self).globals) (length (lowering_scope l.self).locals) (length (lowering_scope l.self).procedures) →
-    Lowered l.initial.flows.items new (map (node_of (lowered_body l.self)) (rests (code_from l.self (length l.initial.flows.items) l.stmts) k)) (length (lowering_scope l.self).globals) (length (lowering_scope l.self).locals) (length (lowering_scope l.self).procedures))
+    Lowered l.flows.items new (map (node_of (lowered_body l.self))
+    (rests (code_from l.self (length l.flows.items) l.rest) k)) (length (lowering_scope l.self).globals)
+    (length (lowering_scope l.self).locals) (length (lowering_scope l.self).procedures) →
+    Lowered l.initial.flows.items new
+    (map (node_of (lowered_body l.self)) (rests (code_from l.self (length l.initial.flows.items) l.stmts) k))
+    (length (lowering_scope l.self).globals) (length (lowering_scope l.self).locals)
+    (length (lowering_scope l.self).procedures))
 
 abbrev pub decreases-block-loop-stmt : goal.decreases-block-loop-stmt
 decreases-block-loop-stmt g l = length l.rest

@@ -12,5 +12,6 @@ abbrev pub invariant-loop-e : goal.invariant-loop-e
 invariant-loop-e g l =
     (length l.arguments.items ≡ l.e-index)
     × ((gs ls : List Bool) → length gs ≡ length (lowering_scope l.self).globals →
-    map (λ f. says f (coded (gs ++ ls))) l.arguments.items ++ values_of gs ls (map (resolve_expression (lowering_scope l.self)) (exprs_of (drop l.e-index l.es)))
+    map (λ f. says f (coded (gs ++ ls))) l.arguments.items ++ values_of gs ls
+    (map (resolve_expression (lowering_scope l.self)) (exprs_of (drop l.e-index l.es)))
     ≡ values_of gs ls (map (resolve_expression (lowering_scope l.self)) (exprs_of l.es)))

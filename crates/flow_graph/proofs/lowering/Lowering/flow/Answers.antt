@@ -24,7 +24,8 @@ returns-in-Assign g c =
     IfOk-weaker c.assignment.result _ _
     (λ f d k at_k few.
     subst (DoesIn c.args.self.now f)
-    (sym (node_simple (lowered_body c.args.self.now) c.args.number s i.mark i.deed (assign (names_of xs) (rhss_of rs)) k (item_deed c.args.stmt.now ∙ ap deed_of c.in-Assign.is ∙ deed_of-Assign _ _)
+    (sym (node_simple (lowered_body c.args.self.now) c.args.number s i.mark i.deed (assign (names_of xs) (rhss_of rs)) k
+    (item_deed c.args.stmt.now ∙ ap deed_of c.in-Assign.is ∙ deed_of-Assign _ _)
     ∙ λ t. assigns (map (place_of s) (names_of (sym c.deref.ensures.value t))) (map (resolve_side s) (rhss_of (sym c.deref-in-Assign.ensures.value t))) (at_k t)))
     d)
     c.assignment.ensures
@@ -44,10 +45,13 @@ returns-in-If g c =
     let inside : c.saturating_add-inside.result ≡ suc n = omega (arith, c.saturating_add-inside.ensures, whole, few.1) in
     let size = c.size.ensures (omega (arith, whole, parts, count, few.1)) in
     let second : c.saturating_add.result ≡ suc n + statements (block_of c.in-If.a.items) = omega (arith, inside, size, count, c.saturating_add.ensures, whole, parts, few.1) in
-    let yes = c.begin-yes.ensures s k at_k ∙ λ t. point_at (join (numbered (inside t) (resolve_block s (block_of (c.deref-in-If.ensures.value t)))) k) in
-    let no = c.begin-no.ensures s k at_k ∙ λ t. point_at (join (numbered (second t) (resolve_block s (block_of (c.deref-in-If-2.ensures.value t)))) k) in
+    let yes = c.begin-yes.ensures s k at_k ∙
+    λ t. point_at (join (numbered (inside t) (resolve_block s (block_of (c.deref-in-If.ensures.value t)))) k) in
+    let no = c.begin-no.ensures s k at_k ∙
+    λ t. point_at (join (numbered (second t) (resolve_block s (block_of (c.deref-in-If-2.ensures.value t)))) k) in
     subst (DoesIn c.args.self.now f)
-    (sym (node_branch (lowered_body c.args.self.now) n s i.mark i.deed (rhs_of c.in-If.r) (block_of c.in-If.a.items) (block_of c.in-If.b.items) k (item_deed stmt ∙ core)
+    (sym (node_branch (lowered_body c.args.self.now) n s i.mark i.deed (rhs_of c.in-If.r) (block_of c.in-If.a.items)
+    (block_of c.in-If.b.items) k (item_deed stmt ∙ core)
     ∙ λ t. tests (resolve_side s (rhs_of c.in-If.r)) (sym yes t) (sym no t)))
     d)
     c.test.ensures
@@ -64,9 +68,12 @@ returns-in-While g c =
     (λ f d k at_k few.
     let inside : c.saturating_add-in-While.result ≡ suc n = omega (arith, c.saturating_add-in-While.ensures, whole, few.1) in
     let again = loop (marked n (resolve_mark i.mark)) (resolve_side s (rhs_of c.in-While.r)) (numbered (suc n) (resolve_block s (block_of c.in-While.a.items))) k in
-    let yes = c.begin.ensures s again refl ∙ λ t. point_at (join (numbered (inside t) (resolve_block s (block_of (c.deref-in-While.ensures.value t)))) again) in
+    let yes = c.begin.ensures s again refl ∙
+    λ t. point_at (join (numbered (inside t) (resolve_block s (block_of (c.deref-in-While.ensures.value t))))
+    again) in
     subst (DoesIn c.args.self.now f)
-    (sym (node_repeat (lowered_body c.args.self.now) n s i.mark i.deed (rhs_of c.in-While.r) (block_of c.in-While.a.items) k (item_deed stmt ∙ core)
+    (sym (node_repeat (lowered_body c.args.self.now) n s i.mark i.deed (rhs_of c.in-While.r)
+    (block_of c.in-While.a.items) k (item_deed stmt ∙ core)
     ∙ λ t. tests (resolve_side s (rhs_of c.in-While.r)) (sym yes t) (at_k t)))
     d)
     c.test-in-While.ensures
@@ -78,7 +85,8 @@ returns-in-Assert g c =
     IfOk-weaker c.assumption.result _ _
     (λ f d k at_k few.
     subst (DoesIn c.args.self.now f)
-    (sym (node_simple (lowered_body c.args.self.now) c.args.number s i.mark i.deed (assert (rhs_of c.in-Assert.r)) k (item_deed c.args.stmt.now ∙ ap deed_of c.in-Assert.is ∙ deed_of-Assert _)
+    (sym (node_simple (lowered_body c.args.self.now) c.args.number s i.mark i.deed (assert (rhs_of c.in-Assert.r)) k
+    (item_deed c.args.stmt.now ∙ ap deed_of c.in-Assert.is ∙ deed_of-Assert _)
     ∙ ap (assumes (resolve_side s (rhs_of c.in-Assert.r))) at_k))
     d)
     c.assumption.ensures
@@ -90,7 +98,8 @@ returns-in-Assume g c =
     IfOk-weaker c.assumption-in-Assume.result _ _
     (λ f d k at_k few.
     subst (DoesIn c.args.self.now f)
-    (sym (node_simple (lowered_body c.args.self.now) c.args.number s i.mark i.deed (assume (rhs_of c.in-Assume.r)) k (item_deed c.args.stmt.now ∙ ap deed_of c.in-Assume.is ∙ deed_of-Assume _)
+    (sym (node_simple (lowered_body c.args.self.now) c.args.number s i.mark i.deed (assume (rhs_of c.in-Assume.r)) k
+    (item_deed c.args.stmt.now ∙ ap deed_of c.in-Assume.is ∙ deed_of-Assume _)
     ∙ ap (assumes (resolve_side s (rhs_of c.in-Assume.r))) at_k))
     d)
     c.assumption-in-Assume.ensures
@@ -102,7 +111,8 @@ returns-in-Goto g c =
     IfOk-weaker c.jump.result _ _
     (λ f d k at_k few.
     subst (DoesIn c.args.self.now f)
-    (sym (node_simple (lowered_body c.args.self.now) c.args.number s i.mark i.deed (goto (name_of c.in-Goto.label)) k (item_deed c.args.stmt.now ∙ ap deed_of c.in-Goto.is ∙ deed_of-Goto _)))
+    (sym (node_simple (lowered_body c.args.self.now) c.args.number s i.mark i.deed (goto (name_of c.in-Goto.label)) k
+    (item_deed c.args.stmt.now ∙ ap deed_of c.in-Goto.is ∙ deed_of-Goto _)))
     (d few.0))
     c.jump.ensures
 
@@ -114,7 +124,9 @@ returns-in-Call g c =
     IfOk-weaker c.call.result _ _
     (λ f d k at_k few.
     subst (DoesIn c.args.self.now f)
-    (sym (node_simple (lowered_body c.args.self.now) c.args.number s i.mark i.deed (call (name_of c.in-Call.p) (exprs_of es)) k (item_deed c.args.stmt.now ∙ ap deed_of c.in-Call.is ∙ deed_of-Call _ _)
+    (sym (node_simple (lowered_body c.args.self.now) c.args.number s i.mark i.deed
+    (call (name_of c.in-Call.p) (exprs_of es)) k
+    (item_deed c.args.stmt.now ∙ ap deed_of c.in-Call.is ∙ deed_of-Call _ _)
     ∙ λ t. calls (number_of (string_bytes c.in-Call.p.text) s.procedures) (map (resolve_expression s) (exprs_of (sym c.deref-in-Call.ensures.value t))) (at_k t)))
     d)
     c.call.ensures

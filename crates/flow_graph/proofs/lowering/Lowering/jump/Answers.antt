@@ -16,7 +16,8 @@ returns-in-Some g c =
     let found = c.find.ensures (lowering_scope c.args.self.now) done (omega (arith, few)) in
     subst (DoesIn c.args.self.now f)
     (sym (goes_found (rest_from (string_bytes c.args.label.now.text) (lowered_body c.args.self.now) done) c.in-Some.to
-    (ap (λ x. option_map point_at (rest_from x (lowered_body c.args.self.now) done)) (sym c.as_str.ensures.value) ∙ sym found ∙ c.in-Some.is)))
+    (ap (λ x. option_map point_at (rest_from x (lowered_body c.args.self.now) done)) (sym c.as_str.ensures.value) ∙
+    sym found ∙ c.in-Some.is)))
     d)
     c.going.ensures
 
@@ -25,5 +26,6 @@ returns-in-None g c few =
     let found = c.find.ensures (lowering_scope c.args.self.now) done (omega (arith, few)) in
     subst (DoesIn c.args.self.now c.nowhere.result)
     (sym (goes_lost (rest_from (string_bytes c.args.label.now.text) (lowered_body c.args.self.now) done)
-    (ap (λ x. option_map point_at (rest_from x (lowered_body c.args.self.now) done)) (sym c.as_str.ensures.value) ∙ sym found ∙ c.in-None.is)))
+    (ap (λ x. option_map point_at (rest_from x (lowered_body c.args.self.now) done)) (sym c.as_str.ensures.value) ∙
+    sym found ∙ c.in-None.is)))
     (c.nowhere.ensures _ _ _)

@@ -20,7 +20,9 @@ use Rattle.summaries.proofs.table.Table.ask.Goals as goal
 use Rattle.summaries.specs.Limits.{most_of}
 
 -- the flow is a call of this procedure
-enters : (g : given.Over) (c : goal.After-go_on g) → entered_by (flow.Call c.args.call.now) c.args.edge.values ≡ Some (c.callee.result, c.entry.result, c.args.call.now.back)
+enters : (g : given.Over) (c : goal.After-go_on g) →
+    entered_by (flow.Call c.args.call.now) c.args.edge.values ≡ Some
+    (c.callee.result, c.entry.result, c.args.call.now.back)
 enters g c = λ i. Some (sym c.callee.ensures i, sym c.entry.ensures i, c.args.call.now.back)
 
 -- the entry is given
@@ -36,7 +38,9 @@ known : (g : given.Over) (c : goal.After-go_on g) →
     Grows (Each (IsBehind self.graph.now site) (under call_eq self.found.summaries.by_key (call c.callee.result c.entry.result))) (g.S.PathSet.members self.edges) (g.S.PathSet.members c.go_on.new.edges) self.found.pending.items c.go_on.new.pending.items
 known g c =
     let self = c.args.self.now in
-    subst (λ bs. Grows (Each (IsBehind self.graph.now (site c.args.edge.entry c.args.edge.point c.args.edge.values)) bs) (g.S.PathSet.members self.edges) (g.S.PathSet.members c.go_on.new.edges) self.found.pending.items c.go_on.new.pending.items) c.of.ensures
+    subst (λ bs. Grows (Each (IsBehind self.graph.now (site c.args.edge.entry c.args.edge.point c.args.edge.values)) bs)
+    (g.S.PathSet.members self.edges) (g.S.PathSet.members c.go_on.new.edges) self.found.pending.items
+    c.go_on.new.pending.items) c.of.ensures
 
 pub returns-in_err-give-clause-worked : goal.returns-in_err-give-clause-worked
 returns-in_err-give-clause-worked g c =
@@ -109,6 +113,7 @@ returns-clause-asked g c =
     IfOk-weaker c.go_on.result _ _
     (λ _ grown.
     subst (λ (t : ℕ × ℕ). HasSite found t.0 t.1 (site e.entry e.point e.values)) (λ i. (c.callee.ensures i, c.entry.ensures i))
-    (asked_site self.graph.now self.procedure self.found c.give.new.self c.add.new.self c.go_on.new.pending es ds e c.callee.result c.entry.result c.args.call.now.back (flow.Call c.args.call.now)
+    (asked_site self.graph.now self.procedure self.found c.give.new.self c.add.new.self c.go_on.new.pending es ds e
+    c.callee.result c.entry.result c.args.call.now.back (flow.Call c.args.call.now)
     c.requires.holds.0 c.requires.edge c.requires.call (enters g c) (gave g c) c.in_ok-add.ensures.added c.in_ok-add.ensures.others (known g c grown)))
     c.go_on.ensures.ok
