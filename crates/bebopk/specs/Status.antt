@@ -4,7 +4,7 @@ use Rattle.cli.specs.declared.asked.LineFault.{LineFault}
 use Rattle.cli.specs.declared.asked.LineFault.TheVariants.{Help, Refused, Memory}
 
 -- the status with which the program ends where the words give no order: 0 after help, 2 after a refusal, 3 where memory ran out
-abbrev pub status_of : LineFault → ℕ
-status_of (Help text) = 0
-status_of (Refused why) = 2
-status_of Memory = 3
+abbrev pub line_status : LineFault → ℕ
+line_status (Help text) = 0
+line_status (Refused why) = 2
+line_status Memory = 3

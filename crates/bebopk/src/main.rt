@@ -3,7 +3,7 @@
 
 ghost use Rattle.std.specs.Prelude.{◌≡◌, ◌⊎◌, ◌≤◌, ℕ, List, MatchResult};
 ghost use Rattle.cli.specs.Replies.{Replies};
-ghost use Rattle.bebopk.specs.Status.{status_of};
+ghost use Rattle.bebopk.specs.Status.{line_status};
 
 use cli::{LineFault, Order, Refusal, Reply, answer, explain, order};
 use std::alloc::{Allocator, Global};
@@ -88,7 +88,7 @@ fn tell<R: Eprint + AllocGlobal>(
 
 /// Answers words that give no order: help on the standard output, `refused: line` with the reason on standard error.
 fn refused<R: Print + Eprint>(rt: &R, fault: &LineFault) -> u8
-    ensures { (result ≡ status_of fault.now) ⊎ (result ≡ 3) }
+    ensures { (result ≡ line_status fault.now) ⊎ (result ≡ 3) }
 {
     match fault {
         LineFault::Help(text) => said(rt, text.as_str(), 0),
@@ -137,7 +137,7 @@ fn run<R: Files + Print + Eprint + AllocGlobal>(
     asked: Result<(Order, String), LineFault>,
 ) -> u8
     ensures small { result ≤ 3 }
-    ensures answers { MatchResult asked (λ order. result ≤ 1 → (text bytes : List ℕ) × Replies text order.0 bytes result) (λ fault. (result ≡ status_of fault) ⊎ (result ≡ 3)) }
+    ensures answers { MatchResult asked (λ order. result ≤ 1 → (text bytes : List ℕ) × Replies text order.0 bytes result) (λ fault. (result ≡ line_status fault) ⊎ (result ≡ 3)) }
 {
     let (order, path) = match asked {
         Ok(found) => found,

@@ -9,6 +9,7 @@ use Rattle.clap.specs.declared.builder.command.Command.TheViews.{out-Command as 
 use Rattle.clap.specs.declared.builder.value_parser.ValueParser.TheVariants.{Signed}
 use Rattle.clap.specs.declared.error.kind.ErrorKind.{ErrorKind}
 use Rattle.clap.specs.declared.error.kind.ErrorKind.TheVariants as kind
+use Rattle.round_rewrite.specs.Limits.{most_rounds}
 use Rattle.summaries.specs.Limits.{most_of}
 use Rattle.cli.specs.Limits.{count_of}
 use Rattle.cli.specs.declared.asked.LineFault.{LineFault}
@@ -21,7 +22,7 @@ abbrev pub number_up_to : ℕ → Text → Rule
 number_up_to most name = record (new_rule name) { long = Some name; value_names = 1; parser = Some (Signed (pos 1) (pos most)) }
 
 abbrev pub rounds : Rule
-rounds = number_up_to 4 (codes "rounds")
+rounds = number_up_to most_rounds (codes "rounds")
 
 abbrev pub edges : Rule
 edges = record (number_up_to 16777216 (codes "edges")) { defaults = codes "1000000" ∷ [] }

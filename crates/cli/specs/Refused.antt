@@ -71,9 +71,9 @@ pub record IsWide (bytes : List ℕ) (rounds : ℕ) (t : Tree) (last : ℕ) (wid
 -- The refusal stands: the text is not read for this fault; or it is the text of a program in which this is the first fault of
 -- scopes; or of a checked program whose rewriting for so many rounds is too wide; or the edge limit is passed, as `Past` says.
 -- Want of memory may stand for every text.
-abbrev pub Stands : List ℕ → ℕ → Type 0 → Refusal → Type 0
-Stands bytes rounds Past (Unread fault) = text.Stands fault bytes
-Stands bytes rounds Past (Unchecked fault) = (t : Tree) × Text bytes t × ((fault ≡ scope.Memory) ⊎ IsFirstFault t fault)
-Stands bytes rounds Past (TooWide wide) = (t : Tree) × (last : ℕ) × IsWide bytes rounds t last wide
-Stands bytes rounds Past EdgeLimit = Past
-Stands bytes rounds Past Memory = Unit {0}
+abbrev pub RefusalStands : List ℕ → ℕ → Type 0 → Refusal → Type 0
+RefusalStands bytes rounds Past (Unread fault) = text.Stands fault bytes
+RefusalStands bytes rounds Past (Unchecked fault) = (t : Tree) × Text bytes t × ((fault ≡ scope.Memory) ⊎ IsFirstFault t fault)
+RefusalStands bytes rounds Past (TooWide wide) = (t : Tree) × (last : ℕ) × IsWide bytes rounds t last wide
+RefusalStands bytes rounds Past EdgeLimit = Past
+RefusalStands bytes rounds Past Memory = Unit {0}

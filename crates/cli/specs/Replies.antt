@@ -13,7 +13,7 @@ use Rattle.cli.specs.declared.asked.Order.TheVariants.{Check, Sequential}
 use Rattle.cli.specs.declared.refusal.Refusal.{Refusal}
 use Rattle.cli.specs.declared.reply.Reply.{Reply}
 use Rattle.cli.specs.Verdict.{Answers, IsOver}
-use Rattle.cli.specs.Refused.{Stands, line_of, status_of}
+use Rattle.cli.specs.Refused.{RefusalStands, line_of, status_of}
 use Rattle.cli.specs.Written.{bytes_of}
 
 -- the text is that of a checked program, the bytes are the printed form of its rewriting for so many rounds, and within the
@@ -48,7 +48,7 @@ Tells why reply = (bytes_of reply ≡ line_of why) × (reply.status ≡ status_o
 
 -- Some refusal stands for so many rounds and this limit, and the reply tells it, and is its line with its status.
 abbrev pub RefusesFor : {A : Type 0} → List ℕ → ℕ → Type 0 → Reply A → Type 0
-RefusesFor text rounds Past reply = (why : Refusal) × Stands text rounds Past why × Tells why reply
+RefusesFor text rounds Past reply = (why : Refusal) × RefusalStands text rounds Past why × Tells why reply
 
 -- Some refusal stands for what was asked, and the reply tells it, and is its line with its status.
 abbrev pub Refuses : {A : Type 0} → List ℕ → Order → Reply A → Type 0

@@ -9,7 +9,7 @@ ghost use Rattle.round_rewrite.specs.Programs.{sequential_tree};
 ghost use Rattle.summaries.specs.Tabulated.{HasMoreEdges, SomePairBad};
 ghost use Rattle.summaries.specs.Limits.{most_of};
 ghost use Rattle.cli.specs.Limits.{count_of};
-ghost use Rattle.cli.specs.Refused.{Stands};
+ghost use Rattle.cli.specs.Refused.{RefusalStands};
 ghost use Rattle.cli.specs.Verdict.{IsVerdict, IsOver};
 ghost use Rattle.cli.specs.declared.refusal.Refusal.TheVariants as refusal;
 
@@ -56,7 +56,7 @@ pub(crate) fn judge<A: Allocator + Copy, S: PathSet<A>>(
     edges: EdgeLimit,
 ) -> Result<Verdict, Refusal>
     ensures verdict { IfOk result (λ v. IsVerdict text.now (count_of rounds) (most_of edges) v) }
-    ensures stands { IfErr result (Stands text.now (count_of rounds) (IsOver text.now (count_of rounds) (most_of edges))) }
+    ensures stands { IfErr result (RefusalStands text.now (count_of rounds) (IsOver text.now (count_of rounds) (most_of edges))) }
 {
     let sequential = rewritten(alloc, text, rounds)?;
     let summaries = tabulated::<_, _, S>(alloc, &sequential, edges)?;

@@ -8,7 +8,7 @@ use crate::asked::{LineFault, Order};
 use crate::help::{BEBOPK, CHECK, SEQUENTIAL, VERSION};
 use clap::error::ErrorKind;
 use clap::{Arg, ArgMatches, Command, Error, value_parser};
-use round_rewrite::Rounds;
+use round_rewrite::{MOST_ROUNDS, Rounds};
 use std::alloc::{AllocError, Global};
 use summaries::EdgeLimit;
 
@@ -32,7 +32,7 @@ fn rounds<'a>(alloc: Global) -> Arg<'a>
         .long("rounds")
         .value_name("K")
         .help("How many rounds: 1 to 4")
-        .value_parser(value_parser!(u8).range(1..=4))
+        .value_parser(value_parser!(u8).range(1..=MOST_ROUNDS as i64))
 }
 
 /// The option `--edges`.

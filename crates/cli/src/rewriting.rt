@@ -3,7 +3,7 @@
 ghost use Rattle.std.specs.Prelude.{IfOk, IfErr};
 ghost use Rattle.round_rewrite.specs.Programs.{sequential_tree};
 ghost use Rattle.cli.specs.Limits.{count_of};
-ghost use Rattle.cli.specs.Refused.{Stands};
+ghost use Rattle.cli.specs.Refused.{RefusalStands};
 ghost use Rattle.cli.specs.Rewritten.{IsRewriting};
 
 use crate::refusal::Refusal;
@@ -19,7 +19,7 @@ pub(crate) fn rewritten<A: Allocator + Copy>(
     rounds: Rounds,
 ) -> Result<Sequential<A>, Refusal>
     ensures rewriting { IfOk result (λ s. IsRewriting text.now (count_of rounds) (sequential_tree s)) }
-    ensures stands { IfErr result (Stands text.now (count_of rounds) ⊥) }
+    ensures stands { IfErr result (RefusalStands text.now (count_of rounds) ⊥) }
 {
     let program = read(alloc, text)?;
     let checked = check(alloc, program)?;

@@ -3,7 +3,7 @@
 ghost use Rattle.std.specs.Prelude.{IfOk, IfErr};
 ghost use Rattle.std.specs.String.{string_bytes};
 ghost use Rattle.cli.specs.Limits.{count_of};
-ghost use Rattle.cli.specs.Refused.{Stands};
+ghost use Rattle.cli.specs.Refused.{RefusalStands};
 ghost use Rattle.cli.specs.Replies.{IsSequential};
 
 use crate::refusal::Refusal;
@@ -18,7 +18,7 @@ pub(crate) fn sequential<R: Alloc>(
     rounds: Rounds,
 ) -> Result<String<R::A>, Refusal>
     ensures printed { IfOk result (λ s. IsSequential text.now (count_of rounds) (string_bytes s)) }
-    ensures stands { IfErr result (Stands text.now (count_of rounds) ⊥) }
+    ensures stands { IfErr result (RefusalStands text.now (count_of rounds) ⊥) }
 {
     let alloc = rt.alloc();
     let sequential = rewritten(&alloc, text, rounds)?;

@@ -23,7 +23,7 @@ use Rattle.scopes.specs.Resolves.{Resolves}
 use Rattle.round_rewrite.specs.Narrow.{AllNarrow}
 use Rattle.round_rewrite.proofs.Sequences.{sequential_routine, resolving_fit, routines_counted, routine_at, narrow_places}
 use Rattle.flow_graph.specs.Bits.{worth_of, coded}
-use Rattle.flow_graph.specs.Nodes.{Node, number, at, node_of, nodes_of, goes_to, Asks}
+use Rattle.flow_graph.specs.Nodes.{Node, number, point_at, node_of, nodes_of, goes_to, NodeCalls}
 use Rattle.flow_graph.specs.Flows.{code, entered_by, HasWidths, Does, AllDo, Lowered}
 use Rattle.flow_graph.specs.Graphs.{HasSteps, AtFlow, IsGraph}
 use Rattle.flow_graph.specs.Drawing as drawing
@@ -55,8 +55,8 @@ member_place x (y ∷ ys) (inl e) = (0, ap Some (sym e))
 member_place x (y ∷ ys) (inr h) = let (i, is) = member_place x ys h in (suc i, is)
 
 -- each rest is at its point, the exit first
-rest_placed : (b r : Code) → IsRestOf (numbered 1 b) r → slice_get (done ∷ rests (numbered 1 b) done) (at r) ≡ Some r
-rest_placed b r (inl e) = subst (λ z. slice_get (done ∷ rests (numbered 1 b) done) (at z) ≡ Some z) (sym e) refl
+rest_placed : (b r : Code) → IsRestOf (numbered 1 b) r → slice_get (done ∷ rests (numbered 1 b) done) (point_at r) ≡ Some r
+rest_placed b r (inl e) = subst (λ z. slice_get (done ∷ rests (numbered 1 b) done) (point_at z) ≡ Some z) (sym e) refl
 rest_placed b r (inr h) =
     let (i, is) = member_place r (rests (numbered 1 b) done) h in
     let point = ((rest_at_point b r i).0 is).1 in
@@ -73,12 +73,13 @@ coded_fresh g n args = ap coded (sym (append_assoc g args (zeros (n - length arg
 
 -- only a node of a call calls
 module _ (body : Code) (v : Valuation) (s n : ℕ) (args : List Bool) where
-  no_jump : (o : Option Code) → Asks (goes_to o) v s args n → ⊥
+  no_jump : (o : Option Code) → NodeCalls (goes_to o) v s args n → ⊥
   no_jump None h = h
   no_jump (Some r) h = h
 
-  asks_shape : (r : Code) → Asks (node_of body r) v s args n →
-      (m : Mark Label) × (es : List (Expression Place)) × (t : Code) × (r ≡ one m (call s es) t) × (args ≡ values_of v.globals v.places es) × (n ≡ at t)
+  asks_shape : (r : Code) → NodeCalls (node_of body r) v s args n →
+      (m : Mark Label) × (es : List (Expression Place)) × (t : Code) × (r ≡ one m (call s es) t) ×
+      (args ≡ values_of v.globals v.places es) × (n ≡ point_at t)
   asks_shape done h = absurd h
   asks_shape (one m skip t) h = absurd h
   asks_shape (one m (assign xs rs) t) h = absurd h
@@ -97,19 +98,23 @@ module _ (p : Program) (q : ℕ) (routine : Routine) (there : slice_get p.routin
 
   module _ {A : Type 0} (f : Flow A) (r : Code) (rest : IsRestOf (body_of (slice_get p.routines q)) r)
       (d : Does f (node_of (body_of (slice_get p.routines q)) r) p.globals routine.places (length p.routines)) where
-    enters : (v a : Valuation) (s : ℕ) → IsValuationOf p q v → Calls p v.globals v.places r s a → entered_by f (code v) ≡ Some (s, code a, at (after_first r))
+    enters : (v a : Valuation) (s : ℕ) → IsValuationOf p q v → Calls p v.globals v.places r s a →
+        entered_by f (code v) ≡ Some (s, code a, point_at (after_first r))
     enters v a s w calls =
         let (m, es, t, same, h) = call_shape p v.globals v.places r s a calls in
         let args = values_of v.globals v.places es in
         let (callee, is, made) = routine_found (slice_get p.routines s) (λ z. a ≡ record { globals = v.globals; places = fresh z.places args }) h in
         let room : length es ≤ callee.places = subst (λ o. AtRoutine o (λ z. length es ≤ z.places)) is (fit q s m es t (subst (IsRestOf (body_of (slice_get p.routines q))) same rest)) in
-        let asks : Asks (node_of (body_of (slice_get p.routines q)) r) v s args (at (after_first r)) =
-        subst (λ z. Asks (node_of (body_of (slice_get p.routines q)) z) v s args (at (after_first z))) (sym same) (refl, refl, refl) in
+        let asks : NodeCalls (node_of (body_of (slice_get p.routines q)) r) v s args (point_at (after_first r)) =
+        subst (λ z. NodeCalls (node_of (body_of (slice_get p.routines q)) z) v s args (point_at (after_first z)))
+        (sym same) (refl, refl, refl) in
         let few = narrow s callee is in
-        d.enters v args s (at (after_first r)) (wide v w) asks (slice_get_within p.routines s callee is) (omega (arith, few, room, length_values v.globals v.places es))
-        ∙ ap (λ k. Some (s, k, at (after_first r))) (sym (ap code made ∙ coded_fresh v.globals callee.places args))
+        d.enters v args s (point_at (after_first r)) (wide v w) asks (slice_get_within p.routines s callee is)
+        (omega (arith, few, room, length_values v.globals v.places es))
+        ∙ ap (λ k. Some (s, k, point_at (after_first r))) (sym (ap code made ∙ coded_fresh v.globals callee.places args))
 
-    entered : (v : Valuation) (s e n : ℕ) → IsValuationOf p q v → entered_by f (code v) ≡ Some (s, e, n) → (a : Valuation) × Calls p v.globals v.places r s a × (e ≡ code a) × (n ≡ at (after_first r))
+    entered : (v : Valuation) (s e n : ℕ) → IsValuationOf p q v → entered_by f (code v) ≡ Some (s, e, n) →
+        (a : Valuation) × Calls p v.globals v.places r s a × (e ≡ code a) × (n ≡ point_at (after_first r))
     entered v s e n w h =
         let (args, asks, less, is) = d.entered v s e n (wide v w) h in
         let (m, es, t, same, are, to) = asks_shape (body_of (slice_get p.routines q)) v s n args r asks in
@@ -119,12 +124,12 @@ module _ (p : Program) (q : ℕ) (routine : Routine) (there : slice_get p.routin
           a,
           subst (λ z. Calls p v.globals v.places z s a) (sym same) (refl, subst (λ o. AtRoutine o (λ z. a ≡ record { globals = v.globals; places = fresh z.places (values_of v.globals v.places es) })) (sym found) refl),
           is ∙ ap (λ bs. coded (v.globals ++ bs)) are ∙ sym (coded_fresh v.globals callee.places (values_of v.globals v.places es)),
-          to ∙ ap (λ z. at (after_first z)) (sym same),
+          to ∙ ap (λ z. point_at (after_first z)) (sym same),
         )
 
     has_steps : HasSteps p q r f
     has_steps = record {
-      reaches = λ v v' r' w flow. d.reaches v v' (at r') (wide v w) (flow_leads p q v v' r r' flow);
+      reaches = λ v v' r' w flow. d.reaches v v' (point_at r') (wide v w) (flow_leads p q v v' r r' flow);
       only = λ v i n k w le h.
           let (v', leads, is) = d.only v i n k (wide v w) le h in
           let (r', flow, to) = lead_flows p q v v' r n leads in
@@ -139,7 +144,7 @@ pub drawn_graph : {N A : Type 0} (t : tree.Program N) (q : ℕ) (proc : Proc N) 
     IsGraph (sequential_of (tree_of t)) q graph
 drawn_graph {N} {A} t q proc graph resolves narrow is draws = record {
   globals = draws.0;
-  start = draws.1 ∙ ap at (sym same);
+  start = draws.1 ∙ ap point_at (sym same);
   points =
       all_do_length graph.flows.items (nodes_of body) _ _ _ draws.2
       ∙ ap suc (length-map (rests body done) (node_of body) ∙ sym (numbers_counted body))
@@ -151,7 +156,7 @@ drawn_graph {N} {A} t q proc graph resolves narrow is draws = record {
     p = sequential_of (tree_of t)
 
     body : Code
-    body = drawing.body_of t proc
+    body = drawing.drawn_body t proc
 
     there : slice_get p.routines q ≡ Some (sequential_routine (tree_of t) (proc_of proc))
     there = routine_at (tree_of t) q (proc_of proc) (slice_get-map proc_of t.procs.items q ∙ ap (option_map proc_of) is)
@@ -165,10 +170,11 @@ drawn_graph {N} {A} t q proc graph resolves narrow is draws = record {
     procedures : length (names_in t proc).procedures ≡ length p.routines
     procedures = length-map (tree_of t).procedures _ ∙ sym (routines_counted (tree_of t))
 
-    flow_at : (r : Code) → IsRestOf body r → AtFlow (slice_get graph.flows.items (at r)) (HasSteps p q r)
+    flow_at : (r : Code) → IsRestOf body r → AtFlow (slice_get graph.flows.items (point_at r)) (HasSteps p q r)
     flow_at r rest =
-        let placed = slice_get-map (node_of body) (done ∷ rests body done) (at r) ∙ ap (option_map (node_of body)) (rest_placed (resolve_block (names_in t proc) (proc_of proc).body) r rest) in
-        let (f, at_r, does) = all_do_at graph.flows.items (nodes_of body) _ _ _ (at r) (node_of body r) draws.2 placed in
+        let placed = slice_get-map (node_of body) (done ∷ rests body done) (point_at r) ∙
+        ap (option_map (node_of body)) (rest_placed (resolve_block (names_in t proc) (proc_of proc).body) r rest) in
+        let (f, at_r, does) = all_do_at graph.flows.items (nodes_of body) _ _ _ (point_at r) (node_of body r) draws.2 placed in
         subst (λ o. AtFlow o (HasSteps p q r)) (sym at_r)
         (has_steps p q (sequential_routine (tree_of t) (proc_of proc)) there (resolving_fit (tree_of t) resolves) (narrow_places (tree_of t) narrow) f r (subst (λ b. IsRestOf b r) (sym same) rest)
         (subst (λ b. Does f (node_of b r) p.globals (length (names_in t proc).locals) (length p.routines)) (sym same)

@@ -11,7 +11,8 @@ use Rattle.language.proofs.Widths.{reached_valuation}
 use Rattle.flow_graph.specs.Flows.{code, last_of, next_of, entered_by}
 use Rattle.flow_graph.specs.Returns.{left, resumed}
 use Rattle.flow_graph.specs.Graphs.{IsGraph, IsInTextOrder}
-use Rattle.flow_graph.specs.Numbers.{NumberedMessage, numbered_entry, numbered_summary, by_numbers, Reaches, starts, flows, returns, Sends, asks, tells, IsNumberOf, IsNumberOfValuation}
+use Rattle.flow_graph.specs.Numbers.{NumberedMessage, numbered_entry, numbered_summary, by_numbers, GraphReaches, starts}
+use Rattle.flow_graph.specs.Numbers.{flows, returns, Sends, asks, tells, IsNumberOf, IsNumberOfValuation}
 use Rattle.flow_graph.specs.Triples.{HoldStarts, HoldFlows, HoldReturns, HoldAsks, HoldTells}
 use Rattle.flow_graph.specs.declared.flow.Flow.{Flow}
 use Rattle.flow_graph.specs.declared.graph.Graph.{Graph}
@@ -23,7 +24,7 @@ module _ {A : Type 0} (graph : Graph A) (M : NumberedMessage → Type 0) where
   pub reaches_least : (T : ℕ → ℕ → ℕ → Type 0) → ((from : Caller) (a : ℕ) → M (numbered_entry from a) → T a graph.start a)
       → ((a n v n' v' i : ℕ) (flow : Flow A) → T a n v → slice_get graph.flows.items n ≡ Some flow → i ≤ last_of flow → next_of flow v i ≡ Some (n', v') → T a n' v')
       → ((a n v s e n' b : ℕ) (flow : Flow A) → T a n v → slice_get graph.flows.items n ≡ Some flow → entered_by flow v ≡ Some (s, e, n') → M (numbered_summary s e b) → T a n' (resumed graph.globals v b))
-      → (a n v : ℕ) → Reaches graph M a n v → T a n v
+      → (a n v : ℕ) → GraphReaches graph M a n v → T a n v
   reaches_least T begins goes comes _ _ _ (starts from a k) = begins from a k
   reaches_least T begins goes comes _ _ _ (flows a n v n' v' i flow reached here most next) =
       goes a n v n' v' i flow (reaches_least T begins goes comes a n v reached) here most next
@@ -31,7 +32,8 @@ module _ {A : Type 0} (graph : Graph A) (M : NumberedMessage → Type 0) where
       comes a n v s e n' b flow (reaches_least T begins goes comes a n v reached) here enters k
 
   -- what is sent is the least that has what is asked and told from what is reached
-  pub sends_least : (q : ℕ) (T : ℕ → ℕ → ℕ → Type 0) → ((a n v : ℕ) → Reaches graph M a n v → T a n v) → (S : ℕ → NumberedMessage → Type 0)
+  pub sends_least : (q : ℕ) (T : ℕ → ℕ → ℕ → Type 0) → ((a n v : ℕ) → GraphReaches graph M a n v → T a n v) →
+      (S : ℕ → NumberedMessage → Type 0)
       → ((a n v s e n' : ℕ) (flow : Flow A) → T a n v → slice_get graph.flows.items n ≡ Some flow → entered_by flow v ≡ Some (s, e, n') → S s (numbered_entry (caller q) e))
       → ((a v s : ℕ) → M (numbered_entry (caller s) a) → T a 0 v → S s (numbered_summary q a (left graph.globals v)))
       → (s : ℕ) (k : NumberedMessage) → Sends graph q M s k → S s k
@@ -39,13 +41,13 @@ module _ {A : Type 0} (graph : Graph A) (M : NumberedMessage → Type 0) where
   sends_least q T least S asked told _ _ (tells a v s k reached) = told a v s k (least a 0 v reached)
 
   -- what is reached from a number has an entry with it
-  pub reaches_entry : (a n v : ℕ) → Reaches graph M a n v → (from : Caller) × M (numbered_entry from a)
+  pub reaches_entry : (a n v : ℕ) → GraphReaches graph M a n v → (from : Caller) × M (numbered_entry from a)
   reaches_entry _ _ _ (starts from a k) = (from, k)
   reaches_entry _ _ _ (flows a n v n' v' i flow reached here most next) = reaches_entry a n v reached
   reaches_entry _ _ _ (returns a n v s e n' b flow reached here enters k) = reaches_entry a n v reached
 
   module _ (N : NumberedMessage → Type 0) (more : (k : NumberedMessage) → M k → N k) where
-    pub reaches_more : (a n v : ℕ) → Reaches graph M a n v → Reaches graph N a n v
+    pub reaches_more : (a n v : ℕ) → GraphReaches graph M a n v → GraphReaches graph N a n v
     reaches_more _ _ _ (starts from a k) = starts from a (more (numbered_entry from a) k)
     reaches_more _ _ _ (flows a n v n' v' i flow reached here most next) = flows a n v n' v' i flow (reaches_more a n v reached) here most next
     reaches_more _ _ _ (returns a n v s e n' b flow reached here enters k) =
@@ -57,7 +59,7 @@ module _ {A : Type 0} (graph : Graph A) (M : NumberedMessage → Type 0) where
 
 module _ {A : Type 0} (graph : Graph A) (ms : List NumberedMessage) (ts : List (ℕ × ℕ × ℕ)) (begins : HoldStarts graph ms ts) (goes : HoldFlows graph ts)
     (comes : HoldReturns graph ms ts) where
-  pub held : (a n v : ℕ) → Reaches graph (λ k. Member k ms) a n v → Member (a, n, v) ts
+  pub held : (a n v : ℕ) → GraphReaches graph (λ k. Member k ms) a n v → Member (a, n, v) ts
   held = reaches_least graph (λ k. Member k ms) (λ a n v. Member (a, n, v) ts) begins goes comes
 
   pub held_sent : (q : ℕ) (sent : List (ℕ × NumberedMessage)) → HoldAsks graph q ts sent → HoldTells graph q ms ts sent → (s : ℕ) (k : NumberedMessage) → Sends graph q (λ j. Member j ms) s k
@@ -65,7 +67,8 @@ module _ {A : Type 0} (graph : Graph A) (ms : List NumberedMessage) (ts : List (
   held_sent q sent asked told = sends_least graph (λ k. Member k ms) q (λ a n v. Member (a, n, v) ts) held (λ s k. Member (s, k) sent) asked told
 
 -- triples of all that is reached, and of nothing else, follow
-module _ {A : Type 0} (graph : Graph A) (ms : List NumberedMessage) (ts : List (ℕ × ℕ × ℕ)) (all : (a n v : ℕ) → Member (a, n, v) ts ↔ Reaches graph (λ k. Member k ms) a n v) where
+module _ {A : Type 0} (graph : Graph A) (ms : List NumberedMessage) (ts : List (ℕ × ℕ × ℕ))
+    (all : (a n v : ℕ) → Member (a, n, v) ts ↔ GraphReaches graph (λ k. Member k ms) a n v) where
   pub reached_follow : HoldStarts graph ms ts × HoldFlows graph ts × HoldReturns graph ms ts
   reached_follow = (
     λ from a k. (all a graph.start a).1 (starts from a k),
@@ -95,7 +98,8 @@ module _ {A : Type 0} (p : Program) (fit : ArgumentsFit p) (q : ℕ) (graph : Gr
   tells_of k h = let (m, d, e) = wide k h in (m, (d, subst K e h), e)
 
   -- what is reached has a flow at its point, and the numbers are of valuations
-  pub reaches_wide : (a n v : ℕ) → Reaches graph K a n v → (n < length graph.flows.items) × IsNumberOfValuation p q a × IsNumberOfValuation p q v
+  pub reaches_wide : (a n v : ℕ) → GraphReaches graph K a n v →
+      (n < length graph.flows.items) × IsNumberOfValuation p q a × IsNumberOfValuation p q v
   reaches_wide a n v h =
       let (x, y, r, got, ea, en, ev) = reached_reaches p q graph is M K (λ m d. d.0) fit tells_of a n v h in
       let (flow, here, steps) = flow_at p q graph is r (reached_stands p q M x y r got) in

@@ -10,27 +10,28 @@ use Rattle.language.specs.Sequential.{statements, numbered, marked}
 use Rattle.language.specs.Flow.{rests}
 use Rattle.syntax.specs.declared.tree.Stmt.{Stmt}
 use Rattle.syntax.specs.Trees.{Deed, simple, branch, repeat, item_of, block_of}
-use Rattle.flow_graph.specs.Nodes.{Node, at, node_of, goes, stops, goes_to, tests}
+use Rattle.flow_graph.specs.Nodes.{Node, point_at, node_of, goes, stops, goes_to, tests}
 use Rattle.flow_graph.specs.Flows.{Does, AllDo, Lowered}
 use Rattle.flow_graph.specs.declared.flow.Flow.{Flow}
 use Rattle.flow_graph.proofs.Numbered.{Names, led, tail, resolved_statements, behind_simple, behind_branch, behind_repeat}
 
 -- a first statement begins at its number
-begins_led : (n : ℕ) (s : Scope) (m : Mark tree.Name) (d : Deed) (t : Names) (k : Code) → n ≡ at (join (led n s m d t) k)
+begins_led : (n : ℕ) (s : Scope) (m : Mark tree.Name) (d : Deed) (t : Names) (k : Code) → n ≡ point_at (join (led n s m d t) k)
 begins_led n s m (simple c) t k = refl
 begins_led n s m (branch r a b) t k = refl
 begins_led n s m (repeat r a) t k = refl
 
-pub begins : {A : Type 0} (l : List (Stmt A)) (n : ℕ) (s : Scope) (k : Code) → 0 < length l → n ≡ at (join (numbered n (resolve_block s (block_of l))) k)
+pub begins : {A : Type 0} (l : List (Stmt A)) (n : ℕ) (s : Scope) (k : Code) → 0 < length l →
+    n ≡ point_at (join (numbered n (resolve_block s (block_of l))) k)
 begins [] n s k h = absurd (omega (arith, h))
 begins (x ∷ l) n s k h = begins_led n s (item_of x).mark (item_of x).deed (block_of l) k
 
 -- a label that is found, and one that is not
-pub goes_found : (o : Option Code) (to : ℕ) → option_map at o ≡ Some to → goes_to o ≡ goes to
+pub goes_found : (o : Option Code) (to : ℕ) → option_map point_at o ≡ Some to → goes_to o ≡ goes to
 goes_found None to e = absurd (none-some _ e)
-goes_found (Some r) to e = ap goes (same_Some (at r) to e)
+goes_found (Some r) to e = ap goes (same_Some (point_at r) to e)
 
-pub goes_lost : (o : Option Code) → option_map at o ≡ None → goes_to o ≡ stops
+pub goes_lost : (o : Option Code) → option_map point_at o ≡ None → goes_to o ≡ stops
 goes_lost None e = refl
 goes_lost (Some r) e = absurd (none-some _ (sym e))
 
@@ -96,14 +97,18 @@ node_simple body n s m d c k is = ap (λ z. node_of body (join (led n s m z done
 
 pub node_branch : (body : Code) (n : ℕ) (s : Scope) (m : Mark tree.Name) (d : Deed) (r : tree.RightSide tree.Name) (a b : Names) (k : Code) → d ≡ branch r a b →
     node_of body (join (led n s m d done) k)
-    ≡ tests (resolve_side s r) (at (join (numbered (suc n) (resolve_block s a)) k)) (at (join (numbered (suc n + statements a) (resolve_block s b)) k))
+    ≡ tests (resolve_side s r) (point_at (join (numbered (suc n) (resolve_block s a)) k))
+    (point_at (join (numbered (suc n + statements a) (resolve_block s b)) k))
 node_branch body n s m d r a b k is =
     ap (λ z. node_of body (join (led n s m z done) k)) is
-    ∙ ap (λ j. tests (resolve_side s r) (at (join (numbered (suc n) (resolve_block s a)) k)) (at (join (numbered (suc n + j) (resolve_block s b)) k))) (resolved_statements s a)
+    ∙ ap (λ j. tests (resolve_side s r) (point_at (join (numbered (suc n) (resolve_block s a)) k))
+    (point_at (join (numbered (suc n + j) (resolve_block s b)) k))) (resolved_statements s a)
 
 pub node_repeat : (body : Code) (n : ℕ) (s : Scope) (m : Mark tree.Name) (d : Deed) (r : tree.RightSide tree.Name) (a : Names) (k : Code) → d ≡ repeat r a →
     node_of body (join (led n s m d done) k)
-    ≡ tests (resolve_side s r) (at (join (numbered (suc n) (resolve_block s a)) (loop (marked n (resolve_mark m)) (resolve_side s r) (numbered (suc n) (resolve_block s a)) k))) (at k)
+    ≡ tests (resolve_side s r) (point_at
+    (join (numbered (suc n) (resolve_block s a))
+    (loop (marked n (resolve_mark m)) (resolve_side s r) (numbered (suc n) (resolve_block s a)) k))) (point_at k)
 node_repeat body n s m d r a k is = ap (λ z. node_of body (join (led n s m z done) k)) is
 
 -- what happens at a statement and at those inside of it, which have these numbers

@@ -7,7 +7,7 @@ use Rattle.language.specs.Step.{Program, frame, State, state, AtRest, body_of}
 use Rattle.language.specs.Sequential.{Valuation}
 use Rattle.language.specs.Flow.{Flow}
 use Rattle.language.proofs.Callers.{no_flow_from_call, no_flow_from_exit}
-use Rattle.flow_graph.specs.Nodes.{at, node_of, goes_to, Leads}
+use Rattle.flow_graph.specs.Nodes.{point_at, node_of, goes_to, Leads}
 
 -- the values and the rest of the top frame
 abbrev values_in : State → Valuation
@@ -20,7 +20,7 @@ rest_in (state g (frame q l r ∷ fs)) = r
 
 -- a flow of q leads on with this valuation to a rest that begins at the point
 abbrev FlowsOn : Program → ℕ → Valuation → Code → ℕ → Valuation → Type 0
-FlowsOn p q v r n v' = (r' : Code) × Flow p q v r v' r' × (n ≡ at r')
+FlowsOn p q v r n v' = (r' : Code) × Flow p q v r v' r' × (n ≡ point_at r')
 
 module _ (p : Program) (q : ℕ) where
   abbrev pub body : Code
@@ -29,29 +29,31 @@ module _ (p : Program) (q : ℕ) where
   abbrev alone : Valuation → Code → State
   alone v r = state v.globals (frame q v.places r ∷ [])
 
-  jump_leads : (o : Option Code) (v v' : Valuation) (r' : Code) → AtRest o (λ rest. alone v rest ≡ alone v' r') → Leads (goes_to o) v (at r') v'
+  jump_leads : (o : Option Code) (v v' : Valuation) (r' : Code) → AtRest o (λ rest. alone v rest ≡ alone v' r') →
+      Leads (goes_to o) v (point_at r') v'
   jump_leads None v v' r' h = absurd h
-  jump_leads (Some r) v v' r' h = ([], tt, sym (ap (λ s. at (rest_in s)) h), sym (ap values_in h))
+  jump_leads (Some r) v v' r' h = ([], tt, sym (ap (λ s. point_at (rest_in s)) h), sym (ap values_in h))
 
-  pub flow_leads : (v v' : Valuation) (r r' : Code) → Flow p q v r v' r' → Leads (node_of body r) v (at r') v'
+  pub flow_leads : (v v' : Valuation) (r r' : Code) → Flow p q v r v' r' → Leads (node_of body r) v (point_at r') v'
   flow_leads v v' done r' h = absurd (no_flow_from_exit p q v v' r' h)
-  flow_leads v v' (one m skip t) r' h = ([], tt, sym (ap (λ s. at (rest_in s)) h), sym (ap values_in h))
-  flow_leads v v' (one m (assign xs rs) t) r' (vs, are, h) = (vs, are, sym (ap (λ s. at (rest_in s)) h), sym (ap values_in h))
-  flow_leads v v' (one m (assert r) t) r' (is, h) = (is, sym (ap (λ s. at (rest_in s)) h), sym (ap values_in h))
-  flow_leads v v' (one m (assume r) t) r' (is, h) = (is, sym (ap (λ s. at (rest_in s)) h), sym (ap values_in h))
+  flow_leads v v' (one m skip t) r' h = ([], tt, sym (ap (λ s. point_at (rest_in s)) h), sym (ap values_in h))
+  flow_leads v v' (one m (assign xs rs) t) r' (vs, are, h) = (vs, are, sym (ap (λ s. point_at (rest_in s)) h), sym (ap values_in h))
+  flow_leads v v' (one m (assert r) t) r' (is, h) = (is, sym (ap (λ s. point_at (rest_in s)) h), sym (ap values_in h))
+  flow_leads v v' (one m (assume r) t) r' (is, h) = (is, sym (ap (λ s. point_at (rest_in s)) h), sym (ap values_in h))
   flow_leads v v' (one m (goto x) t) r' h = jump_leads (rest_from x body done) v v' r' h
-  flow_leads v v' (one m leave t) r' h = ([], tt, sym (ap (λ s. at (rest_in s)) h), sym (ap values_in h))
+  flow_leads v v' (one m leave t) r' h = ([], tt, sym (ap (λ s. point_at (rest_in s)) h), sym (ap values_in h))
   flow_leads v v' (one m (call n es) t) r' h = absurd (no_flow_from_call p q n v v' m es t r' h)
-  flow_leads v v' (choose m r a b t) r' (true, is, h) = (true, is, sym (ap (λ s. at (rest_in s)) h), sym (ap values_in h))
-  flow_leads v v' (choose m r a b t) r' (false, is, h) = (false, is, sym (ap (λ s. at (rest_in s)) h), sym (ap values_in h))
-  flow_leads v v' (loop m r a t) r' (true, is, h) = (true, is, sym (ap (λ s. at (rest_in s)) h), sym (ap values_in h))
-  flow_leads v v' (loop m r a t) r' (false, is, h) = (false, is, sym (ap (λ s. at (rest_in s)) h), sym (ap values_in h))
+  flow_leads v v' (choose m r a b t) r' (true, is, h) = (true, is, sym (ap (λ s. point_at (rest_in s)) h), sym (ap values_in h))
+  flow_leads v v' (choose m r a b t) r' (false, is, h) = (false, is, sym (ap (λ s. point_at (rest_in s)) h), sym (ap values_in h))
+  flow_leads v v' (loop m r a t) r' (true, is, h) = (true, is, sym (ap (λ s. point_at (rest_in s)) h), sym (ap values_in h))
+  flow_leads v v' (loop m r a t) r' (false, is, h) = (false, is, sym (ap (λ s. point_at (rest_in s)) h), sym (ap values_in h))
 
   -- a node that goes on with unchanged values follows a step that does
-  went : (v v' : Valuation) (r : Code) (n : ℕ) → n ≡ at r → v' ≡ v → (r' : Code) × (alone v r ≡ alone v' r') × (n ≡ at r')
+  went : (v v' : Valuation) (r : Code) (n : ℕ) → n ≡ point_at r → v' ≡ v → (r' : Code) × (alone v r ≡ alone v' r') × (n ≡ point_at r')
   went v v' r n to same = (r, ap (λ u. alone u r) (sym same), to)
 
-  jumps : (o : Option Code) (v v' : Valuation) (n : ℕ) → Leads (goes_to o) v n v' → (r' : Code) × AtRest o (λ rest. alone v rest ≡ alone v' r') × (n ≡ at r')
+  jumps : (o : Option Code) (v v' : Valuation) (n : ℕ) → Leads (goes_to o) v n v' →
+      (r' : Code) × AtRest o (λ rest. alone v rest ≡ alone v' r') × (n ≡ point_at r')
   jumps None v v' n (is, to, same) = absurd (true≢false is)
   jumps (Some r) v v' n (vs, are, to, same) = went v v' r n to same
 

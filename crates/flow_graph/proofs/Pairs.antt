@@ -3,7 +3,7 @@ use Rattle.std.proofs.Common.{◌≡◌, ◌↔◌, ℕ, true, List, Some, slice
 use Rattle.language.specs.Tree.{done}
 use Rattle.language.specs.Rest.{Code}
 use Rattle.language.specs.Step.{Program, body_of}
-use Rattle.language.specs.Sequential.{point_of, Valuation, Caller, starter, caller, Message, entry, summary, IsDue}
+use Rattle.language.specs.Sequential.{point_of, Valuation, exit_of, Caller, starter, caller, Message, entry, summary, IsDue}
 use Rattle.language.specs.Flow.{IsRestOf}
 use Rattle.language.specs.Messages.{Reached, EdgeTo, IsValuationOf, IsMessageTo, ArgumentsFit}
 use Rattle.language.proofs.ByMessages.{reached_entry, reached_stands}
@@ -12,12 +12,13 @@ use Rattle.language.proofs.Gathered.{edge_reached, edge_point, pair_exit}
 use Rattle.language.proofs.Sound.{owed_due}
 use Rattle.language.proofs.Widths.{due_message, reached_valuation}
 use Rattle.round_rewrite.specs.Law.{SomeBad}
-use Rattle.flow_graph.specs.Bits.{bit_of, coded}
-use Rattle.flow_graph.specs.Nodes.{number, at}
+use Rattle.flow_graph.specs.Bits.{bit_of}
+use Rattle.flow_graph.specs.Nodes.{number, point_at}
 use Rattle.flow_graph.specs.Flows.{code}
 use Rattle.flow_graph.specs.Returns.{left}
 use Rattle.flow_graph.specs.Graphs.{AreGraphs, IsInTextOrder}
-use Rattle.flow_graph.specs.Numbers.{NumberedMessage, numbered_entry, by_numbers, Leaves, IsNumberOf, AreNumbersOf, IsNumberOfEntry, AreNumbersOfEdge, AreNumbersOfPair, Sends}
+use Rattle.flow_graph.specs.Numbers.{NumberedMessage, numbered_entry, by_numbers, exit_code, Leaves}
+use Rattle.flow_graph.specs.Numbers.{IsNumberOf, AreNumbersOf, IsNumberOfEntry, AreNumbersOfEdge, AreNumbersOfPair, Sends}
 use Rattle.flow_graph.specs.declared.graph.Graph.{Graph}
 use Rattle.flow_graph.proofs.Coding.{left_coded}
 use Rattle.flow_graph.proofs.Reaching.{valuation_told, message_told, rest_in_order_told, entry_of, entry_is}
@@ -59,10 +60,10 @@ module _ (p : Program) (fit : ArgumentsFit p) where
   )
 
   pub edge_told : IsInTextOrder p → (q : ℕ) (x y : Valuation) (r : Code) → IsValuationOf p q x → IsValuationOf p q y → IsRestOf (body_of (slice_get p.routines q)) r
-      → AreNumbersOf (EdgeTo p q) (code x) (at r) (code y) ↔ EdgeTo p q x y r
+      → AreNumbersOf (EdgeTo p q) (code x) (point_at r) (code y) ↔ EdgeTo p q x y r
   edge_told order q x y r begins wide stands = (there, λ edge. (x, y, r, edge, refl, refl, refl))
     where
-      there : AreNumbersOf (EdgeTo p q) (code x) (at r) (code y) → EdgeTo p q x y r
+      there : AreNumbersOf (EdgeTo p q) (code x) (point_at r) (code y) → EdgeTo p q x y r
       there (x', y', r', edge, ex, en, ey) =
           let ax : x' ≡ x = sym (valuation_told p q x x' begins (edge_begins q x' y' r' edge) ex) in
           let ay : y' ≡ y = sym (valuation_told p q y y' wide (edge_wide q x' y' r' edge) ey) in
@@ -81,13 +82,19 @@ module _ {A : Type 0} (p : Program) (graphs : List (Graph A)) (T : ℕ → Numbe
           let (x, y, r, edge, ea, en, ev) = (edges_taken p graphs T fit are opening sent due q graph here a 0 v).0 reached in
           let exit : r ≡ done = rest_in_order_told p order q r done (edge_stands p fit q x y r edge) (inl refl) (sym en) in
           let inside : EdgeTo p q x y done = subst (EdgeTo p q x y) exit edge in
-          let wide = edge_wide p fit q x y r edge in
-          (x, y.globals, (pair_exit p q x y.globals).1 (y.places, inside), ea, eb ∙ ap (left graph.globals) ev ∙ left_coded graph.globals y (wide.0 ∙ sym (are.1 q graph here).globals))
+          let wide = edge_wide p fit q x y r edge in (
+            x,
+            exit_of y,
+            (pair_exit p q x (exit_of y)).1 (y.places, inside),
+            ea,
+            eb ∙ ap (left graph.globals) ev ∙
+                left_coded graph.globals y (wide.0 ∙ sym (are.1 q graph here).globals),
+          )
 
       back : AreNumbersOfPair p q a b → Leaves graph (T q) a b
       back (x, g, pair, ea, eb) =
           let (l, edge) = (pair_exit p q x g).0 pair in
-          let y : Valuation = record { globals = g; places = l } in
+          let y : Valuation = record { globals = g.globals; places = l } in
           let wide = edge_wide p fit q x y done edge in (
             code y,
             (edges_taken p graphs T fit are opening sent due q graph here a 0 (code y)).1 (x, y, done, edge, ea, refl, refl),
@@ -98,14 +105,19 @@ module _ {A : Type 0} (p : Program) (graphs : List (Graph A)) (T : ℕ → Numbe
   pub bad_left : IsInTextOrder p → (graph : Graph A) → slice_get graphs 0 ≡ Some graph → (bad : ℕ)
       → SomeBad p bad ↔ ((a : ℕ) × (b : ℕ) × Leaves graph (T 0) a b × (bit_of b bad ≡ true))
   bad_left order graph here bad = (
-    λ h. (code h.0, coded h.1, (pairs_left order 0 graph here (code h.0) (coded h.1)).1 (h.0, h.1, h.2, refl, refl), coded_bit h.1 bad ∙ h.3),
+    λ h. (
+      code h.0,
+      exit_code h.1,
+      (pairs_left order 0 graph here (code h.0) (exit_code h.1)).1 (h.0, h.1, h.2, refl, refl),
+      coded_bit h.1.globals bad ∙ h.3,
+    ),
     back,
   )
     where
       back : (a : ℕ) × (b : ℕ) × Leaves graph (T 0) a b × (bit_of b bad ≡ true) → SomeBad p bad
       back (a, b, leaves, is) =
           let (x, g, pair, ea, eb) = (pairs_left order 0 graph here a b).0 leaves in
-          (x, g, pair, sym (coded_bit g bad) ∙ ap (λ n. bit_of n bad) (sym eb) ∙ is)
+          (x, g, pair, sym (coded_bit g.globals bad) ∙ ap (λ n. bit_of n bad) (sym eb) ∙ is)
 
   -- the entries taken are those with which procedures are entered
   pub entries_taken : (q a : ℕ) → ((from : Caller) × T q (numbered_entry from a)) ↔ IsNumberOfEntry p q a
@@ -113,7 +125,7 @@ module _ {A : Type 0} (p : Program) (graphs : List (Graph A)) (T : ℕ → Numbe
     where
       of : (from : Caller) (m : Message) → IsDue p q m → numbered_entry from a ≡ by_numbers m → IsNumberOfEntry p q a
       of from (entry c x) is e = (x, due_entered p q c x is, ap entry_of e)
-      of from (summary s x b) is e = absurd (entry_is from a s (code x) (coded b) e)
+      of from (summary s x b) is e = absurd (entry_is from a s (code x) (exit_code b) e)
 
       there : (from : Caller) × T q (numbered_entry from a) → IsNumberOfEntry p q a
       there (from, had) = let (m, is, e) = due q (numbered_entry from a) had in of from m is e

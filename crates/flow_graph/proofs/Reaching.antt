@@ -5,7 +5,8 @@ use Rattle.language.specs.Tree.{done, one, choose, loop}
 use Rattle.language.specs.Value.{values_of}
 use Rattle.language.specs.Rest.{Code, join}
 use Rattle.language.specs.Step.{Program, fresh, AtRoutine, body_of}
-use Rattle.language.specs.Sequential.{statements, marked, numbered, point_of, Valuation, Calls, Caller, caller, Message, entry, summary}
+use Rattle.language.specs.Sequential.{statements, marked, numbered, point_of, Valuation, Calls}
+use Rattle.language.specs.Sequential.{Caller, caller, Message, entry, summary, exit_of, resumed_with}
 use Rattle.language.specs.Flow.{rests, Member, IsRestOf, after_first}
 use Rattle.language.specs.Messages as by_messages
 use Rattle.language.specs.Messages.{Reached, Owes, IsValuationOf, IsMessageTo, ArgumentsFit}
@@ -17,11 +18,12 @@ use Rattle.language.proofs.RestPoints.{point_tells_rest}
 use Rattle.language.proofs.StepKinds.{routine_found}
 use Rattle.language.proofs.Widths.{reached_valuation}
 use Rattle.flow_graph.specs.Bits.{coded}
-use Rattle.flow_graph.specs.Nodes.{at}
+use Rattle.flow_graph.specs.Nodes.{point_at}
 use Rattle.flow_graph.specs.Flows.{code, next_of, entered_by}
 use Rattle.flow_graph.specs.Returns.{left, resumed}
 use Rattle.flow_graph.specs.Graphs.{HasSteps, AtFlow, IsGraph, IsInTextOrder}
-use Rattle.flow_graph.specs.Numbers.{NumberedMessage, numbered_entry, numbered_summary, by_numbers, Reaches, starts, flows, returns, Sends, asks, tells, IsNumberOf, AreNumbersOf}
+use Rattle.flow_graph.specs.Numbers.{NumberedMessage, numbered_entry, numbered_summary, by_numbers, exit_code, GraphReaches, starts}
+use Rattle.flow_graph.specs.Numbers.{flows, returns, Sends, asks, tells, IsNumberOf, AreNumbersOf}
 use Rattle.flow_graph.specs.declared.flow.Flow.{Flow}
 use Rattle.flow_graph.specs.declared.graph.Graph.{Graph}
 use Rattle.flow_graph.proofs.Coding.{coded_tells, code_tells, left_coded, resumed_coded}
@@ -73,8 +75,8 @@ message_told p q (summary s v b) (entry from w) is is' e = absurd (let z : 1 ≡
 message_told p q (summary s v b) (summary s' w b') is is' e =
     let es : s ≡ s' = ap procedure_of e in
     let ev = valuation_told p s v w is.0 (subst (λ i. IsValuationOf p i w) (sym es) is'.0) (ap entry_of e) in
-    let eb = coded_tells b b' (is.1 ∙ sym is'.1) (ap left_of e) in
-    λ i. summary (es i) (ev i) (eb i)
+    let eb = coded_tells b.globals b'.globals (is.1 ∙ sym is'.1) (ap left_of e) in
+    λ i. summary (es i) (ev i) (record { globals = eb i })
 
 -- what is entered by a call that fits has the widths of its procedure
 pub called_valuation : (p : Program) → ArgumentsFit p → (q : ℕ) (v : Valuation) (r : Code) (s : ℕ) (e : Valuation) → length v.globals ≡ p.globals
@@ -92,11 +94,11 @@ called_valuation p fit q v r s e wide rest calls =
 -- ---- points
 
 -- no rest of a block that is numbered from a number above 0 on begins at point 0
-no_rest_at_0 : (n : ℕ) (b k r : Code) → Member r (rests (numbered (suc n) b) k) → at r ≡ 0 → ⊥
+no_rest_at_0 : (n : ℕ) (b k r : Code) → Member r (rests (numbered (suc n) b) k) → point_at r ≡ 0 → ⊥
 no_rest_at_0 n done k r f e = f
-no_rest_at_0 n (one m s t) k r (inl same) e = let z : suc n ≡ 0 = sym (ap at same) ∙ e in omega (arith, z)
+no_rest_at_0 n (one m s t) k r (inl same) e = let z : suc n ≡ 0 = sym (ap point_at same) ∙ e in omega (arith, z)
 no_rest_at_0 n (one m s t) k r (inr f) e = no_rest_at_0 (suc n) t k r f e
-no_rest_at_0 n (choose m c a b t) k r (inl same) e = let z : suc n ≡ 0 = sym (ap at same) ∙ e in omega (arith, z)
+no_rest_at_0 n (choose m c a b t) k r (inl same) e = let z : suc n ≡ 0 = sym (ap point_at same) ∙ e in omega (arith, z)
 no_rest_at_0 n (choose m c a b t) k r (inr f) e =
     let i : ℕ = suc n + statements a in
     let j : ℕ = suc n + (statements a + statements b) in
@@ -111,7 +113,7 @@ no_rest_at_0 n (choose m c a b t) k r (inr f) e =
         | inr h ↦ no_rest_at_0 j t k r (subst (λ z. Member r (rests (numbered z t) k)) sj h) e
       ]
     ]
-no_rest_at_0 n (loop m c a t) k r (inl same) e = let z : suc n ≡ 0 = sym (ap at same) ∙ e in omega (arith, z)
+no_rest_at_0 n (loop m c a t) k r (inl same) e = let z : suc n ≡ 0 = sym (ap point_at same) ∙ e in omega (arith, z)
 no_rest_at_0 n (loop m c a t) k r (inr f) e =
     let i : ℕ = suc n + statements a in
     let si : suc (suc n) + statements a ≡ suc i = omega arith in
@@ -123,28 +125,28 @@ no_rest_at_0 n (loop m c a t) k r (inr f) e =
     ]
 
 -- only nothing is left at point 0
-rest_at_exit : (b r : Code) → IsRestOf (numbered 1 b) r → at r ≡ 0 → r ≡ done
+rest_at_exit : (b r : Code) → IsRestOf (numbered 1 b) r → point_at r ≡ 0 → r ≡ done
 rest_at_exit b r (inl same) e = same
 rest_at_exit b r (inr f) e = absurd (no_rest_at_0 0 b done r f e)
 
 -- a rest has a point, or is nothing
-pointed : (r : Code) → (r ≡ done) ⊎ (point_of r ≡ Some (at r))
+pointed : (r : Code) → (r ≡ done) ⊎ (point_of r ≡ Some (point_at r))
 pointed done = inl refl
 pointed (one m s t) = inr refl
 pointed (choose m c a b t) = inr refl
 pointed (loop m c a t) = inr refl
 
 -- the number of a point tells what is left to run
-pub rest_told : (b r r' : Code) → IsRestOf (numbered 1 b) r → IsRestOf (numbered 1 b) r' → at r ≡ at r' → r ≡ r'
+pub rest_told : (b r r' : Code) → IsRestOf (numbered 1 b) r → IsRestOf (numbered 1 b) r' → point_at r ≡ point_at r' → r ≡ r'
 rest_told b r r' is is' e = go (pointed r) (pointed r')
   where
-    go : (r ≡ done) ⊎ (point_of r ≡ Some (at r)) → (r' ≡ done) ⊎ (point_of r' ≡ Some (at r')) → r ≡ r'
-    go (inl h) h' = h ∙ sym (rest_at_exit b r' is' (sym e ∙ ap at h))
-    go (inr h) (inl h') = rest_at_exit b r is (e ∙ ap at h') ∙ sym h'
+    go : (r ≡ done) ⊎ (point_of r ≡ Some (point_at r)) → (r' ≡ done) ⊎ (point_of r' ≡ Some (point_at r')) → r ≡ r'
+    go (inl h) h' = h ∙ sym (rest_at_exit b r' is' (sym e ∙ ap point_at h))
+    go (inr h) (inl h') = rest_at_exit b r is (e ∙ ap point_at h') ∙ sym h'
     go (inr h) (inr h') = point_tells_rest 1 b r r' is is' (h ∙ ap Some e ∙ sym h')
 
 pub rest_in_order_told : (p : Program) → IsInTextOrder p → (q : ℕ) (r r' : Code) → IsRestOf (body_of (slice_get p.routines q)) r
-    → IsRestOf (body_of (slice_get p.routines q)) r' → at r ≡ at r' → r ≡ r'
+    → IsRestOf (body_of (slice_get p.routines q)) r' → point_at r ≡ point_at r' → r ≡ r'
 rest_in_order_told p order q r r' is is' e =
     let (b, numbering) = order q in
     rest_told b r r' (subst (λ k. IsRestOf k r) numbering is) (subst (λ k. IsRestOf k r') numbering is') e
@@ -160,11 +162,13 @@ module _ {A : Type 0} (p : Program) (q : ℕ) (graph : Graph A) (is : IsGraph p 
   body = body_of (slice_get p.routines q)
 
   -- at a rest of the body there is a flow with the steps from there
-  pub flow_at : (r : Code) → IsRestOf body r → (flow : Flow A) × (slice_get graph.flows.items (at r) ≡ Some flow) × HasSteps p q r flow
-  flow_at r rest = at_flow (slice_get graph.flows.items (at r)) (HasSteps p q r) (is.steps r rest)
+  pub flow_at : (r : Code) → IsRestOf body r →
+      (flow : Flow A) × (slice_get graph.flows.items (point_at r) ≡ Some flow) × HasSteps p q r flow
+  flow_at r rest = at_flow (slice_get graph.flows.items (point_at r)) (HasSteps p q r) (is.steps r rest)
 
   -- the flow at the point has the steps from there
-  steps_at : (n : ℕ) (r : Code) (flow : Flow A) → IsRestOf body r → n ≡ at r → slice_get graph.flows.items n ≡ Some flow → HasSteps p q r flow
+  steps_at : (n : ℕ) (r : Code) (flow : Flow A) → IsRestOf body r → n ≡ point_at r →
+      slice_get graph.flows.items n ≡ Some flow → HasSteps p q r flow
   steps_at n r flow rest e here =
       let (flow', here', steps) = flow_at r rest in
       subst (HasSteps p q r) (same_Some flow' flow (sym here' ∙ ap (slice_get graph.flows.items) (sym e) ∙ here)) steps
@@ -173,24 +177,26 @@ module _ {A : Type 0} (p : Program) (q : ℕ) (graph : Graph A) (is : IsGraph p 
     -- ---- what is reached and owed has its numbers
 
     module _ (gives : (m : Message) → M m → K (by_numbers m)) where
-      pub reaches_reached : (a v : Valuation) (r : Code) → Reached p q M a v r → Reaches graph K (code a) (at r) (code v)
-      reaches_reached _ _ _ (by_messages.starts from a m) = subst (λ n. Reaches graph K (code a) n (code a)) is.start (starts from (code a) (gives (entry from a) m))
+      pub reaches_reached : (a v : Valuation) (r : Code) → Reached p q M a v r → GraphReaches graph K (code a) (point_at r) (code v)
+      reaches_reached _ _ _ (by_messages.starts from a m) =
+          subst (λ n. GraphReaches graph K (code a) n (code a)) is.start (starts from (code a) (gives (entry from a) m))
       reaches_reached _ _ _ (by_messages.flows a v v' r r' reached step) =
           let (flow, here, steps) = flow_at r (reached_stands p q M a v r reached) in
           let (i, most, next) = steps.reaches v v' r' (reached_valuation p q M right a v r reached) step in
-          flows (code a) (at r) (code v) (at r') (code v') i flow (reaches_reached a v r reached) here most next
+          flows (code a) (point_at r) (code v) (point_at r') (code v') i flow (reaches_reached a v r reached) here most next
       reaches_reached _ _ _ (by_messages.returns a v e r s b reached calls m) =
           let (flow, here, steps) = flow_at r (reached_stands p q M a v r reached) in
           let wide = reached_valuation p q M right a v r reached in
-          let back : resumed graph.globals (code v) (coded b) ≡ coded (b ++ v.places) =
-          resumed_coded graph.globals v b (wide.0 ∙ sym is.globals) ((right (summary s e b) m).1 ∙ sym is.globals) in
-          subst (Reaches graph K (code a) (at (after_first r))) back
-          (returns (code a) (at r) (code v) s (code e) (at (after_first r)) (coded b) flow (reaches_reached a v r reached) here (steps.enters v e s wide calls) (gives (summary s e b) m))
+          let back : resumed graph.globals (code v) (exit_code b) ≡ coded (b.globals ++ v.places) =
+          resumed_coded graph.globals v b.globals (wide.0 ∙ sym is.globals) ((right (summary s e b) m).1 ∙ sym is.globals) in
+          subst (GraphReaches graph K (code a) (point_at (after_first r))) back
+          (returns (code a) (point_at r) (code v) s (code e) (point_at (after_first r)) (exit_code b) flow
+          (reaches_reached a v r reached) here (steps.enters v e s wide calls) (gives (summary s e b) m))
 
       pub sends_owed : (s : ℕ) (m : Message) → Owes p q M s m → Sends graph q K s (by_numbers m)
       sends_owed _ _ (by_messages.asks a v e r s reached calls) =
           let (flow, here, steps) = flow_at r (reached_stands p q M a v r reached) in
-          asks (code a) (at r) (code v) s (code e) (at (after_first r)) flow (reaches_reached a v r reached) here
+          asks (code a) (point_at r) (code v) s (code e) (point_at (after_first r)) flow (reaches_reached a v r reached) here
           (steps.enters v e s (reached_valuation p q M right a v r reached) calls)
       sends_owed _ _ (by_messages.tells a v s m reached) =
           let wide = reached_valuation p q M right a v done reached in
@@ -205,20 +211,29 @@ module _ {A : Type 0} (p : Program) (q : ℕ) (graph : Graph A) (is : IsGraph p 
       begun from a (summary s x b) had e = absurd (let z : 0 ≡ 1 = ap kind_of e in omega (arith, z))
 
       resumed_after : (a : ℕ) (x y e : Valuation) (r : Code) (v s w b n : ℕ) (m : Message) → Reached p q M x y r → a ≡ code x → v ≡ code y → Calls p y.globals y.places r s e → w ≡ code e
-          → n ≡ at (after_first r) → M m → numbered_summary s w b ≡ by_numbers m → AreNumbersOf (Reached p q M) a n (resumed graph.globals v b)
+          → n ≡ point_at (after_first r) → M m → numbered_summary s w b ≡ by_numbers m →
+          AreNumbersOf (Reached p q M) a n (resumed graph.globals v b)
       resumed_after a x y e r v s w b n (entry c z) reached ea ev calls ew en had same = absurd (let z : 1 ≡ 0 = ap kind_of same in omega (arith, z))
       resumed_after a x y e r v s w b n (summary s' z b') reached ea ev calls ew en had same =
           let wide = reached_valuation p q M right x y r reached in
           let whole : IsValuationOf p s e = called_valuation p fit q y r s e wide.0 (reached_stands p q M x y r reached) calls in
           let theirs = right (summary s' z b') had in
           let es : s ≡ s' = ap procedure_of same in
-          let eb : b ≡ coded b' = ap left_of same in
+          let eb : b ≡ exit_code b' = ap left_of same in
           let ez : z ≡ e = valuation_told p s z e (subst (λ i. IsValuationOf p i z) (sym es) theirs.0) whole (sym (ap entry_of same) ∙ ew) in
           let m : M (summary s e b') = subst (λ u. M (summary s u b')) ez (subst (λ i. M (summary i z b')) (sym es) had) in
-          let back : resumed graph.globals (code y) (coded b') ≡ coded (b' ++ y.places) = resumed_coded graph.globals y b' (wide.0 ∙ sym is.globals) (theirs.1 ∙ sym is.globals) in
-          (x, record { globals = b'; places = y.places }, after_first r, by_messages.returns x y e r s b' reached calls m, ea, en, (λ i. resumed graph.globals (ev i) (eb i)) ∙ back)
+          let back : resumed graph.globals (code y) (exit_code b') ≡ coded (b'.globals ++ y.places) =
+          resumed_coded graph.globals y b'.globals (wide.0 ∙ sym is.globals) (theirs.1 ∙ sym is.globals) in (
+            x,
+            resumed_with y b',
+            after_first r,
+            by_messages.returns x y e r s b' reached calls m,
+            ea,
+            en,
+            (λ i. resumed graph.globals (ev i) (eb i)) ∙ back,
+          )
 
-      pub reached_reaches : (a n v : ℕ) → Reaches graph K a n v → AreNumbersOf (Reached p q M) a n v
+      pub reached_reaches : (a n v : ℕ) → GraphReaches graph K a n v → AreNumbersOf (Reached p q M) a n v
       reached_reaches _ _ _ (starts from a k) = let (m, had, e) = tells_of (numbered_entry from a) k in begun from a m had e
       reached_reaches _ _ _ (flows a n v n' v' i flow reached here most next) =
           let (x, y, r, got, ea, en, ev) = reached_reaches a n v reached in
@@ -232,7 +247,8 @@ module _ {A : Type 0} (p : Program) (q : ℕ) (graph : Graph A) (is : IsGraph p 
           let (m, had, same) = tells_of (numbered_summary s w b) k in
           resumed_after a x y e r v s w b n' m got ea ev calls ew en' had same
 
-      told : (order : IsInTextOrder p) (a v s : ℕ) (x y : Valuation) (r : Code) (m : Message) → Reached p q M x y r → a ≡ code x → 0 ≡ at r → v ≡ code y → M m → numbered_entry (caller s) a ≡ by_numbers m
+      told : (order : IsInTextOrder p) (a v s : ℕ) (x y : Valuation) (r : Code) (m : Message) → Reached p q M x y r →
+          a ≡ code x → 0 ≡ point_at r → v ≡ code y → M m → numbered_entry (caller s) a ≡ by_numbers m
           → IsNumberOf (Owes p q M s) (numbered_summary q a (left graph.globals v))
       told order a v s x y r (summary s' z b') got ea en ev had same = absurd (let z : 0 ≡ 1 = ap kind_of same in omega (arith, z))
       told order a v s x y r (entry c z) got ea en ev had same =
@@ -242,7 +258,7 @@ module _ {A : Type 0} (p : Program) (q : ℕ) (graph : Graph A) (is : IsGraph p 
           let ez : z ≡ x = valuation_told p q z x (right (entry c z) had) (right (entry from x) began) (sym (ap entry_of same) ∙ ea) in
           let m : M (entry (caller s) x) = subst (λ u. M (entry (caller s) u)) ez (subst (λ u. M (entry u z)) (sym (ap caller_of same)) had) in
           let wide = reached_valuation p q M right x y r got in (
-            summary q x y.globals,
+            summary q x (exit_of y),
             by_messages.tells x y s m (subst (Reached p q M x y) exit got),
             ap₂ (numbered_summary q) ea (ap (left graph.globals) ev ∙ left_coded graph.globals y (wide.0 ∙ sym is.globals)),
           )
@@ -261,13 +277,14 @@ module _ {A : Type 0} (p : Program) (q : ℕ) (graph : Graph A) (is : IsGraph p 
     -- ---- both
 
     module _ (gives : (m : Message) → M m → K (by_numbers m)) (fit : ArgumentsFit p) (tells_of : (k : NumberedMessage) → K k → IsNumberOf M k) where
-      pub reaches_numbers : (a n v : ℕ) → Reaches graph K a n v ↔ AreNumbersOf (Reached p q M) a n v
+      pub reaches_numbers : (a n v : ℕ) → GraphReaches graph K a n v ↔ AreNumbersOf (Reached p q M) a n v
       reaches_numbers a n v = (reached_reaches fit tells_of a n v, back)
         where
-          back : AreNumbersOf (Reached p q M) a n v → Reaches graph K a n v
+          back : AreNumbersOf (Reached p q M) a n v → GraphReaches graph K a n v
           back (x, y, r, got, ea, en, ev) =
-              subst (Reaches graph K a n) (sym ev)
-              (subst (λ i. Reaches graph K a i (code y)) (sym en) (subst (λ i. Reaches graph K i (at r) (code y)) (sym ea) (reaches_reached gives x y r got)))
+              subst (GraphReaches graph K a n) (sym ev)
+              (subst (λ i. GraphReaches graph K a i (code y)) (sym en)
+              (subst (λ i. GraphReaches graph K i (point_at r) (code y)) (sym ea) (reaches_reached gives x y r got)))
 
       pub sends_numbers : IsInTextOrder p → (s : ℕ) (k : NumberedMessage) → Sends graph q K s k ↔ IsNumberOf (Owes p q M s) k
       sends_numbers order s k = (

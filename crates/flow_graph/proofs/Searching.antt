@@ -9,24 +9,29 @@ use Rattle.language.specs.Sequential.{statements, numbered, marked}
 use Rattle.language.proofs.Rests.{first_none}
 use Rattle.syntax.specs.declared.tree.Stmt.{Stmt}
 use Rattle.syntax.specs.Trees.{Deed, simple, branch, repeat, item_of, block_of}
-use Rattle.flow_graph.specs.Nodes.{at}
+use Rattle.flow_graph.specs.Nodes.{point_at}
 use Rattle.flow_graph.proofs.Numbered.{Names, led, tail, resolved_statements, behind_simple, behind_branch, behind_repeat}
 
 -- the point of the first statement with this label
 abbrev pub place : Label → Code → Code → Option ℕ
-place x b k = option_map at (rest_from x b k)
+place x b k = option_map point_at (rest_from x b k)
 
-pub place_of_two : (a b : Option Code) → option_map at (first_of_two a b) ≡ first_of_two (option_map at a) (option_map at b)
+pub place_of_two : (a b : Option Code) →
+    option_map point_at (first_of_two a b) ≡ first_of_two (option_map point_at a) (option_map point_at b)
 place_of_two None b = refl
 place_of_two (Some r) b = refl
 
 -- one of three, as the first of two and the third
-of_three : (a b c : Option Code) → option_map at (first_of_two a (first_of_two b c)) ≡ first_of_two (option_map at (first_of_two a (first_of_two b None))) (option_map at c)
+of_three : (a b c : Option Code) →
+    option_map point_at (first_of_two a (first_of_two b c)) ≡ first_of_two
+    (option_map point_at (first_of_two a (first_of_two b None))) (option_map point_at c)
 of_three None None c = refl
 of_three None (Some r) c = refl
 of_three (Some r) b c = refl
 
-of_two : (a c : Option Code) → option_map at (first_of_two a c) ≡ first_of_two (option_map at (first_of_two a None)) (option_map at c)
+of_two : (a c : Option Code) →
+    option_map point_at (first_of_two a c) ≡ first_of_two (option_map point_at (first_of_two a None))
+    (option_map point_at c)
 of_two None c = refl
 of_two (Some r) c = refl
 
@@ -36,8 +41,11 @@ pub place_split : (x : Label) (n : ℕ) (s : Scope) (m : Mark tree.Name) (d : De
 place_split x n s m (simple c) t k = go (tail n s m (simple c) t) (behind_simple n s m t c) (has_label x (resolve_mark m))
   where
     go : (T : Code) → numbered (suc n) (resolve_block s t) ≡ T → (h : Bool) →
-        option_map at (cond h (Some (one (marked n (resolve_mark m)) (resolve_simple s c) (join (numbered (suc n) (resolve_block s t)) k))) (rest_from x (numbered (suc n) (resolve_block s t)) k))
-        ≡ first_of_two (option_map at (cond h (Some (one (marked n (resolve_mark m)) (resolve_simple s c) (join T k))) None)) (place x T k)
+        option_map point_at (cond h (Some
+        (one (marked n (resolve_mark m)) (resolve_simple s c) (join (numbered (suc n) (resolve_block s t)) k)))
+        (rest_from x (numbered (suc n) (resolve_block s t)) k))
+        ≡ first_of_two (option_map point_at
+        (cond h (Some (one (marked n (resolve_mark m)) (resolve_simple s c) (join T k))) None)) (place x T k)
     go T e true = refl
     go T e false = ap (λ z. place x z k) e
 place_split x n s m (branch r a b) t k = go (tail n s m (branch r a b) t) (behind_branch n s m t r a b) (has_label x (resolve_mark m))
@@ -52,12 +60,16 @@ place_split x n s m (branch r a b) t k = go (tail n s m (branch r a b) t) (behin
     T' = numbered (suc n + (statements (resolve_block s a) + statements (resolve_block s b))) (resolve_block s t)
 
     go : (T : Code) → T' ≡ T → (h : Bool) →
-        option_map at (cond h (Some (choose (marked n (resolve_mark m)) (resolve_side s r) A B (join T' k))) (first_of_two (rest_from x A (join T' k)) (first_of_two (rest_from x B (join T' k)) (rest_from x T' k))))
-        ≡ first_of_two (option_map at (cond h (Some (choose (marked n (resolve_mark m)) (resolve_side s r) A B (join T k))) (first_of_two (rest_from x A (join T k)) (first_of_two (rest_from x B (join T k)) None)))) (place x T k)
+        option_map point_at (cond h (Some (choose (marked n (resolve_mark m)) (resolve_side s r) A B (join T' k)))
+        (first_of_two (rest_from x A (join T' k)) (first_of_two (rest_from x B (join T' k)) (rest_from x T' k))))
+        ≡ first_of_two (option_map point_at
+        (cond h (Some (choose (marked n (resolve_mark m)) (resolve_side s r) A B (join T k)))
+        (first_of_two (rest_from x A (join T k)) (first_of_two (rest_from x B (join T k)) None)))) (place x T k)
     go T e true = refl
     go T e false =
         of_three (rest_from x A (join T' k)) (rest_from x B (join T' k)) (rest_from x T' k)
-        ∙ ap (λ z. first_of_two (option_map at (first_of_two (rest_from x A (join z k)) (first_of_two (rest_from x B (join z k)) None))) (place x z k)) e
+        ∙ ap (λ z. first_of_two (option_map point_at
+        (first_of_two (rest_from x A (join z k)) (first_of_two (rest_from x B (join z k)) None))) (place x z k)) e
 place_split x n s m (repeat r a) t k = go (tail n s m (repeat r a) t) (behind_repeat n s m t r a) (has_label x (resolve_mark m))
   where
     A : Code
@@ -67,44 +79,57 @@ place_split x n s m (repeat r a) t k = go (tail n s m (repeat r a) t) (behind_re
     T' = numbered (suc n + statements (resolve_block s a)) (resolve_block s t)
 
     go : (T : Code) → T' ≡ T → (h : Bool) →
-        option_map at (cond h (Some (loop (marked n (resolve_mark m)) (resolve_side s r) A (join T' k))) (first_of_two (rest_from x A (loop (marked n (resolve_mark m)) (resolve_side s r) A (join T' k))) (rest_from x T' k)))
-        ≡ first_of_two (option_map at (cond h (Some (loop (marked n (resolve_mark m)) (resolve_side s r) A (join T k))) (first_of_two (rest_from x A (loop (marked n (resolve_mark m)) (resolve_side s r) A (join T k))) None))) (place x T k)
+        option_map point_at (cond h (Some (loop (marked n (resolve_mark m)) (resolve_side s r) A (join T' k)))
+        (first_of_two (rest_from x A (loop (marked n (resolve_mark m)) (resolve_side s r) A (join T' k)))
+        (rest_from x T' k)))
+        ≡ first_of_two (option_map point_at
+        (cond h (Some (loop (marked n (resolve_mark m)) (resolve_side s r) A (join T k)))
+        (first_of_two (rest_from x A (loop (marked n (resolve_mark m)) (resolve_side s r) A (join T k))) None)))
+        (place x T k)
     go T e true = refl
     go T e false =
         of_two (rest_from x A (loop (marked n (resolve_mark m)) (resolve_side s r) A (join T' k))) (rest_from x T' k)
-        ∙ ap (λ z. first_of_two (option_map at (first_of_two (rest_from x A (loop (marked n (resolve_mark m)) (resolve_side s r) A (join z k))) None)) (place x z k)) e
+        ∙ ap (λ z. first_of_two (option_map point_at
+        (first_of_two (rest_from x A (loop (marked n (resolve_mark m)) (resolve_side s r) A (join z k))) None))
+        (place x z k)) e
 
 -- a statement with the label, and one without it
 pub place_here : (x : Label) (n : ℕ) (s : Scope) (m : Mark tree.Name) (d : Deed) (k : Code) → has_label x (resolve_mark m) ≡ true →
     place x (led n s m d done) k ≡ Some n
-place_here x n s m (simple c) k e = ap (λ h. option_map at (cond h (Some (one (marked n (resolve_mark m)) (resolve_simple s c) k)) None)) e
+place_here x n s m (simple c) k e =
+    ap (λ h. option_map point_at (cond h (Some (one (marked n (resolve_mark m)) (resolve_simple s c) k)) None)) e
 place_here x n s m (branch r a b) k e =
-    ap (λ h. option_map at (cond h (Some (choose (marked n (resolve_mark m)) (resolve_side s r) (numbered (suc n) (resolve_block s a)) (numbered (suc n + statements (resolve_block s a)) (resolve_block s b)) k))
+    ap (λ h. option_map point_at (cond h
+    (Some (choose (marked n (resolve_mark m)) (resolve_side s r) (numbered (suc n) (resolve_block s a))
+    (numbered (suc n + statements (resolve_block s a)) (resolve_block s b)) k))
     (first_of_two (rest_from x (numbered (suc n) (resolve_block s a)) k) (first_of_two (rest_from x (numbered (suc n + statements (resolve_block s a)) (resolve_block s b)) k) None)))) e
 place_here x n s m (repeat r a) k e =
-    ap (λ h. option_map at (cond h (Some (loop (marked n (resolve_mark m)) (resolve_side s r) (numbered (suc n) (resolve_block s a)) k))
+    ap (λ h. option_map point_at (cond h
+    (Some (loop (marked n (resolve_mark m)) (resolve_side s r) (numbered (suc n) (resolve_block s a)) k))
     (first_of_two (rest_from x (numbered (suc n) (resolve_block s a)) (loop (marked n (resolve_mark m)) (resolve_side s r) (numbered (suc n) (resolve_block s a)) k)) None))) e
 
 pub place_not_simple : (x : Label) (n : ℕ) (s : Scope) (m : Mark tree.Name) (c : tree.Simple tree.Name tree.Name tree.Name) (k : Code) → has_label x (resolve_mark m) ≡ false →
     place x (led n s m (simple c) done) k ≡ None
-place_not_simple x n s m c k e = ap (λ h. option_map at (cond h (Some (one (marked n (resolve_mark m)) (resolve_simple s c) k)) None)) e
+place_not_simple x n s m c k e =
+    ap (λ h. option_map point_at (cond h (Some (one (marked n (resolve_mark m)) (resolve_simple s c) k)) None)) e
 
 pub place_in_branch : (x : Label) (n : ℕ) (s : Scope) (m : Mark tree.Name) (r : tree.RightSide tree.Name) (a b : Names) (k : Code) → has_label x (resolve_mark m) ≡ false →
     place x (led n s m (branch r a b) done) k ≡ first_of_two (place x (numbered (suc n) (resolve_block s a)) k) (place x (numbered (suc n + statements (resolve_block s a)) (resolve_block s b)) k)
 place_in_branch x n s m r a b k e =
     let A = numbered (suc n) (resolve_block s a) in
     let B = numbered (suc n + statements (resolve_block s a)) (resolve_block s b) in
-    ap (λ h. option_map at (cond h (Some (choose (marked n (resolve_mark m)) (resolve_side s r) A B k)) (first_of_two (rest_from x A k) (first_of_two (rest_from x B k) None)))) e
+    ap (λ h. option_map point_at (cond h (Some (choose (marked n (resolve_mark m)) (resolve_side s r) A B k))
+    (first_of_two (rest_from x A k) (first_of_two (rest_from x B k) None)))) e
     ∙ place_of_two (rest_from x A k) (first_of_two (rest_from x B k) None)
-    ∙ ap (λ z. first_of_two (place x A k) (option_map at z)) (first_none (rest_from x B k))
+    ∙ ap (λ z. first_of_two (place x A k) (option_map point_at z)) (first_none (rest_from x B k))
 
 pub place_in_loop : (x : Label) (n : ℕ) (s : Scope) (m : Mark tree.Name) (r : tree.RightSide tree.Name) (a : Names) (k : Code) → has_label x (resolve_mark m) ≡ false →
     place x (led n s m (repeat r a) done) k ≡ place x (numbered (suc n) (resolve_block s a)) (loop (marked n (resolve_mark m)) (resolve_side s r) (numbered (suc n) (resolve_block s a)) k)
 place_in_loop x n s m r a k e =
     let A = numbered (suc n) (resolve_block s a) in
     let again = loop (marked n (resolve_mark m)) (resolve_side s r) A k in
-    ap (λ h. option_map at (cond h (Some again) (first_of_two (rest_from x A again) None))) e
-    ∙ ap (option_map at) (first_none (rest_from x A again))
+    ap (λ h. option_map point_at (cond h (Some again) (first_of_two (rest_from x A again) None))) e
+    ∙ ap (option_map point_at) (first_none (rest_from x A again))
 
 -- the same, where what the statement does is known by an equation
 pub in_branch_first : (x : Label) (n found : ℕ) (s : Scope) (m : Mark tree.Name) (d : Deed) (r : tree.RightSide tree.Name) (a b : Names) (k : Code) → d ≡ branch r a b →

@@ -14,10 +14,10 @@ use Rattle.language.proofs.Sound.{owed_due}
 use Rattle.language.proofs.StepKinds.{routine_found}
 use Rattle.language.proofs.Widths.{due_message}
 use Rattle.language.specs.Step as step
-use Rattle.flow_graph.specs.Nodes.{at}
+use Rattle.flow_graph.specs.Nodes.{point_at}
 use Rattle.flow_graph.specs.Flows.{code}
 use Rattle.flow_graph.specs.Graphs.{IsGraph, AreGraphs, IsInTextOrder}
-use Rattle.flow_graph.specs.Numbers.{NumberedMessage, numbered_entry, by_numbers, Reaches, Sends, IsNumberOf, AreNumbersOf}
+use Rattle.flow_graph.specs.Numbers.{NumberedMessage, numbered_entry, by_numbers, GraphReaches, Sends, IsNumberOf, AreNumbersOf}
 use Rattle.flow_graph.specs.declared.graph.Graph.{Graph}
 use Rattle.flow_graph.proofs.Coding.{coded_zeros}
 use Rattle.flow_graph.proofs.Reaching.{reaches_reached, reached_reaches, sends_owed, owed_sends}
@@ -43,7 +43,7 @@ module _ {A : Type 0} (p : Program) (fit : ArgumentsFit p) (q : ℕ) (graph : Gr
   tells_of : (k : NumberedMessage) → K k → IsNumberOf M k
   tells_of k h = let (m, d, e) = due k h in (m, (d, subst K e h), e)
 
-  pub edges_reached : (a n v : ℕ) → Reaches graph K a n v → AreNumbersOf (EdgeTo p q) a n v
+  pub edges_reached : (a n v : ℕ) → GraphReaches graph K a n v → AreNumbersOf (EdgeTo p q) a n v
   edges_reached a n v h =
       let (x, y, r, got, ea, en, ev) = reached_reaches p q graph is M K right fit tells_of a n v h in
       (x, y, r, reached_edge p q M (λ m d. d.0) x y r got, ea, en, ev)
@@ -97,15 +97,17 @@ module _ {A : Type 0} (p : Program) (graphs : List (Graph A)) (T : ℕ → Numbe
     λ h. subst (T q) (sym h.2) (((gathered p Had opened closed (λ s m d. d.0) q).0 h.0).1 h.1).1,
   )
 
-  pub edges_taken : (q : ℕ) (graph : Graph A) → slice_get graphs q ≡ Some graph → (a n v : ℕ) → Reaches graph (T q) a n v ↔ AreNumbersOf (EdgeTo p q) a n v
+  pub edges_taken : (q : ℕ) (graph : Graph A) → slice_get graphs q ≡ Some graph → (a n v : ℕ) →
+      GraphReaches graph (T q) a n v ↔ AreNumbersOf (EdgeTo p q) a n v
   edges_taken q graph here a n v = (edges_reached p fit q graph (are.1 q graph here) (T q) (due q) a n v, back)
     where
-      back : AreNumbersOf (EdgeTo p q) a n v → Reaches graph (T q) a n v
+      back : AreNumbersOf (EdgeTo p q) a n v → GraphReaches graph (T q) a n v
       back (x, y, r, edge, ea, en, ev) =
           let got = edges_had q x y r edge in
           let by = reaches_reached p q graph (are.1 q graph here) (Had q) (T q) (λ m h. due_message p fit q m h.0) (λ m h. h.1) x y r got in
-          subst (Reaches graph (T q) a n) (sym ev)
-          (subst (λ i. Reaches graph (T q) a i (code y)) (sym en) (subst (λ i. Reaches graph (T q) i (at r) (code y)) (sym ea) by))
+          subst (GraphReaches graph (T q) a n) (sym ev)
+          (subst (λ i. GraphReaches graph (T q) a i (code y)) (sym en)
+          (subst (λ i. GraphReaches graph (T q) i (point_at r) (code y)) (sym ea) by))
 
 -- a program whose statements are marked with their numbers is
 pub ordered : (p : Program) → IsInTextOrder (in_text_order p)

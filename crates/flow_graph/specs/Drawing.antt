@@ -6,7 +6,7 @@ use Rattle.language.specs.Resolve.{Scope, scope_of, resolve_block}
 use Rattle.syntax.specs.Trees.{tree_of, proc_of}
 use Rattle.syntax.specs.declared.tree.Program.{Program}
 use Rattle.syntax.specs.declared.tree.Proc.{Proc}
-use Rattle.flow_graph.specs.Nodes.{at, nodes_of}
+use Rattle.flow_graph.specs.Nodes.{point_at, nodes_of}
 use Rattle.flow_graph.specs.Flows.{AllDo}
 use Rattle.flow_graph.specs.declared.graph.Graph.{Graph}
 use Rattle.round_rewrite.specs.Limits.{most_places}
@@ -21,13 +21,13 @@ abbrev pub names_in : {N : Type 0} → Program N → Proc N → Scope
 names_in t p = scope_of (tree_of t) (proc_of p)
 
 -- the procedure's body as code
-abbrev pub body_of : {N : Type 0} → Program N → Proc N → Code
-body_of t p = numbered 1 (resolve_block (names_in t p) (proc_of p).body)
+abbrev pub drawn_body : {N : Type 0} → Program N → Proc N → Code
+drawn_body t p = numbered 1 (resolve_block (names_in t p) (proc_of p).body)
 
 -- The graph of the procedure: it begins where the body does, and its flows do what happens at the points of the body, the
 -- exit first.
 abbrev pub Draws : {N A : Type 0} → Program N → Proc N → Graph A → Type 0
 Draws t p graph =
-    (globals_of graph ≡ length (names_in t p).globals) × (start_of graph ≡ at (body_of t p))
-    × AllDo (flows_of graph) (nodes_of (body_of t p)) (length (names_in t p).globals) (length (names_in t p).locals)
+    (globals_of graph ≡ length (names_in t p).globals) × (start_of graph ≡ point_at (drawn_body t p))
+    × AllDo (flows_of graph) (nodes_of (drawn_body t p)) (length (names_in t p).globals) (length (names_in t p).locals)
     (length (names_in t p).procedures)

@@ -5,7 +5,7 @@ use Rattle.flow_graph.specs.Bits.{coded}
 use Rattle.flow_graph.specs.Formulas.{side_value}
 use Rattle.flow_graph.specs.Assignments.{assigned}
 use Rattle.flow_graph.specs.Calls.{entry_of}
-use Rattle.flow_graph.specs.Nodes.{Node, Leads, Asks}
+use Rattle.flow_graph.specs.Nodes.{Node, Leads, NodeCalls}
 use Rattle.flow_graph.specs.declared.side.Side.TheVariants as side
 use Rattle.flow_graph.specs.declared.flow.Flow.{Flow}
 use Rattle.flow_graph.specs.declared.flow.Flow.TheVariants.{Assign, Test, Assume, Call, Return}
@@ -47,9 +47,10 @@ pub record Does {A : Type 0} (flow : Flow A) (node : Node) (g l procedures : ℕ
   pub reaches : (v v' : Valuation) (n : ℕ) → HasWidths g l v → Leads node v n v' → (i : ℕ) × (i ≤ last_of flow) × (next_of flow (code v) i ≡ Some (n, code v'))
   pub only : (v : Valuation) (i n w : ℕ) → HasWidths g l v → i ≤ last_of flow → next_of flow (code v) i ≡ Some (n, w) → (v' : Valuation) × Leads node v n v' × (w ≡ code v')
   pub once : (v : Valuation) (i j : ℕ) (x : ℕ × ℕ) → HasWidths g l v → i ≤ last_of flow → j ≤ last_of flow → next_of flow (code v) i ≡ Some x → next_of flow (code v) j ≡ Some x → i ≡ j
-  pub enters : (v : Valuation) (args : List Bool) (q n : ℕ) → HasWidths g l v → Asks node v q args n → q < procedures →
+  pub enters : (v : Valuation) (args : List Bool) (q n : ℕ) → HasWidths g l v → NodeCalls node v q args n → q < procedures →
       g + length args ≤ most_places → entered_by flow (code v) ≡ Some (q, coded (v.globals ++ args), n)
-  pub entered : (v : Valuation) (q e n : ℕ) → HasWidths g l v → entered_by flow (code v) ≡ Some (q, e, n) → (args : List Bool) × Asks node v q args n × (q < procedures) × (e ≡ coded (v.globals ++ args))
+  pub entered : (v : Valuation) (q e n : ℕ) → HasWidths g l v → entered_by flow (code v) ≡ Some (q, e, n) →
+      (args : List Bool) × NodeCalls node v q args n × (q < procedures) × (e ≡ coded (v.globals ++ args))
 
 -- each flow does what happens at its node
 abbrev pub AllDo : {A : Type 0} → List (Flow A) → List Node → ℕ → ℕ → ℕ → Type 0

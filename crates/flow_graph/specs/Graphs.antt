@@ -6,7 +6,7 @@ use Rattle.language.specs.Sequential.{numbered, statements, Valuation, Calls}
 use Rattle.language.specs.Flow as steps
 use Rattle.language.specs.Flow.{IsRestOf, after_first}
 use Rattle.language.specs.Messages.{IsValuationOf, ArgumentsFit}
-use Rattle.flow_graph.specs.Nodes.{at}
+use Rattle.flow_graph.specs.Nodes.{point_at}
 use Rattle.flow_graph.specs.Flows.{code, last_of, next_of, entered_by}
 use Rattle.flow_graph.specs.declared.flow.Flow.{Flow}
 use Rattle.flow_graph.specs.declared.graph.Graph.{Graph}
@@ -15,11 +15,16 @@ use Rattle.flow_graph.specs.Drawn.{flows_of, start_of, globals_of}
 -- The flow has the steps of procedure q where r is left to run: it leads to what a step inside the call leads to, to nothing
 -- else, and to each once; and it enters what a step enters, with the point after the call, and nothing else.
 pub record HasSteps {A : Type 0} (p : Program) (q : ℕ) (r : Code) (flow : Flow A) : Type 0 where
-  pub reaches : (v v' : Valuation) (r' : Code) → IsValuationOf p q v → steps.Flow p q v r v' r' → (i : ℕ) × (i ≤ last_of flow) × (next_of flow (code v) i ≡ Some (at r', code v'))
-  pub only : (v : Valuation) (i n w : ℕ) → IsValuationOf p q v → i ≤ last_of flow → next_of flow (code v) i ≡ Some (n, w) → (v' : Valuation) × (r' : Code) × steps.Flow p q v r v' r' × (n ≡ at r') × (w ≡ code v')
+  pub reaches : (v v' : Valuation) (r' : Code) → IsValuationOf p q v → steps.Flow p q v r v' r' →
+      (i : ℕ) × (i ≤ last_of flow) × (next_of flow (code v) i ≡ Some (point_at r', code v'))
+  pub only : (v : Valuation) (i n w : ℕ) → IsValuationOf p q v → i ≤ last_of flow →
+      next_of flow (code v) i ≡ Some (n, w) →
+      (v' : Valuation) × (r' : Code) × steps.Flow p q v r v' r' × (n ≡ point_at r') × (w ≡ code v')
   pub once : (v : Valuation) (i j : ℕ) (x : ℕ × ℕ) → IsValuationOf p q v → i ≤ last_of flow → j ≤ last_of flow → next_of flow (code v) i ≡ Some x → next_of flow (code v) j ≡ Some x → i ≡ j
-  pub enters : (v a : Valuation) (s : ℕ) → IsValuationOf p q v → Calls p v.globals v.places r s a → entered_by flow (code v) ≡ Some (s, code a, at (after_first r))
-  pub entered : (v : Valuation) (s e n : ℕ) → IsValuationOf p q v → entered_by flow (code v) ≡ Some (s, e, n) → (a : Valuation) × Calls p v.globals v.places r s a × (e ≡ code a) × (n ≡ at (after_first r))
+  pub enters : (v a : Valuation) (s : ℕ) → IsValuationOf p q v → Calls p v.globals v.places r s a →
+      entered_by flow (code v) ≡ Some (s, code a, point_at (after_first r))
+  pub entered : (v : Valuation) (s e n : ℕ) → IsValuationOf p q v → entered_by flow (code v) ≡ Some (s, e, n) →
+      (a : Valuation) × Calls p v.globals v.places r s a × (e ≡ code a) × (n ≡ point_at (after_first r))
 
 -- there is a flow, and it has the property
 abbrev pub AtFlow : {A : Type 0} → Option (Flow A) → (Flow A → Type 0) → Type 0
@@ -30,9 +35,9 @@ AtFlow (Some flow) P = P flow
 -- point of each rest of the body the steps from there.
 pub record IsGraph {A : Type 0} (p : Program) (q : ℕ) (graph : Graph A) : Type 0 where
   pub globals : globals_of graph ≡ p.globals
-  pub start : start_of graph ≡ at (body_of (slice_get p.routines q))
+  pub start : start_of graph ≡ point_at (body_of (slice_get p.routines q))
   pub points : length (flows_of graph) ≡ suc (statements (body_of (slice_get p.routines q)))
-  pub steps : (r : Code) → IsRestOf (body_of (slice_get p.routines q)) r → AtFlow (slice_get (flows_of graph) (at r)) (HasSteps p q r)
+  pub steps : (r : Code) → IsRestOf (body_of (slice_get p.routines q)) r → AtFlow (slice_get (flows_of graph) (point_at r)) (HasSteps p q r)
 
 -- the graphs are those of the program's procedures, by number
 abbrev pub AreGraphs : {A : Type 0} → Program → List (Graph A) → Type 0

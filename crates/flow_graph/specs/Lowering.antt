@@ -6,19 +6,19 @@ use Rattle.language.specs.Sequential.{statements, numbered}
 use Rattle.language.specs.Flow.{rests}
 use Rattle.syntax.specs.Trees.{block_of}
 use Rattle.syntax.specs.declared.tree.Stmt.{Stmt}
-use Rattle.flow_graph.specs.Nodes.{Node, at, node_of}
+use Rattle.flow_graph.specs.Nodes.{Node, point_at, node_of}
 use Rattle.flow_graph.specs.Flows.{Does, Lowered}
 use Rattle.flow_graph.specs.Views.{scope_seen, IsSmall}
 use Rattle.flow_graph.specs.declared.flow.Flow.{Flow}
 use Rattle.flow_graph.specs.declared.lowering.Lowering.{Lowering}
 
 -- the names in scope
-abbrev pub scope_of : {N A : Type 0} → Lowering N A → Scope
-scope_of l = scope_seen l.scope
+abbrev pub lowering_scope : {N A : Type 0} → Lowering N A → Scope
+lowering_scope l = scope_seen l.scope
 
 -- the procedure's body, its statements marked with their numbers in text order, from 1
-abbrev pub body_of : {N A : Type 0} → Lowering N A → Code
-body_of l = numbered 1 (resolve_block (scope_of l) (block_of l.body.now))
+abbrev pub lowered_body : {N A : Type 0} → Lowering N A → Code
+lowered_body l = numbered 1 (resolve_block (lowering_scope l) (block_of l.body.now))
 
 -- at most 64 variables, and at most 32 procedures
 abbrev pub IsLowerable : {N A : Type 0} → Lowering N A → Type 0
@@ -26,11 +26,11 @@ IsLowerable l = IsSmall l.scope × (length l.scope.procedures.now ≤ 32)
 
 -- the flow does what happens at the node, for the procedure's valuations
 abbrev pub DoesIn : {N A : Type 0} → Lowering N A → Flow A → Node → Type 0
-DoesIn l f node = Does f node (length (scope_of l).globals) (length (scope_of l).locals) (length (scope_of l).procedures)
+DoesIn l f node = Does f node (length (lowering_scope l).globals) (length (lowering_scope l).locals) (length (lowering_scope l).procedures)
 
 -- statements as code, the first of them marked with the number
 abbrev pub code_from : {N A : Type 0} → Lowering N A → ℕ → List (Stmt N) → Code
-code_from l n stmts = numbered n (resolve_block (scope_of l) (block_of stmts))
+code_from l n stmts = numbered n (resolve_block (lowering_scope l) (block_of stmts))
 
 -- all points of the procedure, and those of these statements, the first of them this number, are numbers of 64 bits
 abbrev pub IsCounted : {N A : Type 0} → Lowering N A → ℕ → List (Stmt N) → Type 0
@@ -38,12 +38,14 @@ IsCounted l n stmts = (statements (block_of l.body.now) < 18446744073709551615) 
 
 -- where a run goes on at the point behind the statement, the flow does what happens at it
 abbrev pub DoesFirst : {N A : Type 0} → Lowering N A → Flow A → Stmt N → ℕ → ℕ → Type 0
-DoesFirst l f stmt number after = (k : Code) → at k ≡ after → IsCounted l number (stmt ∷ []) → DoesIn l f (node_of (body_of l) (join (code_from l number (stmt ∷ [])) k))
+DoesFirst l f stmt number after = (k : Code) → point_at k ≡ after → IsCounted l number (stmt ∷ []) →
+    DoesIn l f (node_of (lowered_body l) (join (code_from l number (stmt ∷ [])) k))
 
 -- as many flows as there are statements have been put behind others; where a run goes on at the point behind the
 -- statements, they do what happens at their points
 abbrev pub LoweredIn : {N A : Type 0} → Lowering N A → List (Flow A) → List (Flow A) → List (Stmt N) → ℕ → Type 0
 LoweredIn l old new stmts after =
     (length new ≡ length old + statements (block_of stmts))
-    × ((k : Code) → at k ≡ after → IsCounted l (length old) stmts
-    → Lowered old new (map (node_of (body_of l)) (rests (code_from l (length old) stmts) k)) (length (scope_of l).globals) (length (scope_of l).locals) (length (scope_of l).procedures))
+    × ((k : Code) → point_at k ≡ after → IsCounted l (length old) stmts
+    → Lowered old new (map (node_of (lowered_body l)) (rests (code_from l (length old) stmts) k))
+    (length (lowering_scope l).globals) (length (lowering_scope l).locals) (length (lowering_scope l).procedures))

@@ -12,8 +12,8 @@ number None = 0
 number (Some n) = n
 
 -- the number of the point at which a rest begins
-abbrev pub at : Code → ℕ
-at r = number (point_of r)
+abbrev pub point_at : Code → ℕ
+point_at r = number (point_of r)
 
 -- What happens at a point: values are written, a test leads to one of two points, an assumption lets only 1 pass on, a
 -- procedure is called and left to at a point, or the procedure is left.
@@ -35,20 +35,20 @@ stops = assumes (value (const false)) 0
 -- the run goes on with what is left from a label on; where there is none, no run goes on
 abbrev pub goes_to : Option Code → Node
 goes_to None = stops
-goes_to (Some r) = goes (at r)
+goes_to (Some r) = goes (point_at r)
 
 -- what happens at the first point of a rest of this body
 abbrev pub node_of : Code → Code → Node
 node_of body done = returns
-node_of body (one m skip t) = goes (at t)
-node_of body (one m (assign xs rs) t) = assigns xs rs (at t)
-node_of body (one m (assert r) t) = assumes r (at t)
-node_of body (one m (assume r) t) = assumes r (at t)
+node_of body (one m skip t) = goes (point_at t)
+node_of body (one m (assign xs rs) t) = assigns xs rs (point_at t)
+node_of body (one m (assert r) t) = assumes r (point_at t)
+node_of body (one m (assume r) t) = assumes r (point_at t)
 node_of body (one m (goto x) t) = goes_to (rest_from x body done)
 node_of body (one m leave t) = goes 0
-node_of body (one m (call n es) t) = calls n es (at t)
-node_of body (choose m r a b t) = tests r (at (join a t)) (at (join b t))
-node_of body (loop m r a t) = tests r (at (join a (loop m r a t))) (at t)
+node_of body (one m (call n es) t) = calls n es (point_at t)
+node_of body (choose m r a b t) = tests r (point_at (join a t)) (point_at (join b t))
+node_of body (loop m r a t) = tests r (point_at (join a (loop m r a t))) (point_at t)
 
 -- what happens at the points of a body, the exit first
 abbrev pub nodes_of : Code → List Node
@@ -65,6 +65,6 @@ Leads (calls p es k) v n v' = ⊥
 Leads returns v n v' = ⊥
 
 -- the node calls a procedure with these arguments, and the run goes on at the point when it returns
-abbrev pub Asks : Node → Valuation → ℕ → List Bool → ℕ → Type 0
-Asks (calls p es k) v q args n = (q ≡ p) × (args ≡ values_of v.globals v.places es) × (n ≡ k)
-Asks _ v q args n = ⊥
+abbrev pub NodeCalls : Node → Valuation → ℕ → List Bool → ℕ → Type 0
+NodeCalls (calls p es k) v q args n = (q ≡ p) × (args ≡ values_of v.globals v.places es) × (n ≡ k)
+NodeCalls _ v q args n = ⊥

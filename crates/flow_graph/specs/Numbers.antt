@@ -1,12 +1,12 @@
 -- What a flow graph reaches by the messages that its procedure has, and the messages that it then sends: by numbers.
-use Rattle.std.specs.Prelude.{◌≡◌, ◌≤◌, ℕ, Bool, Option, Some, List, [], slice_get, slice_index_or}
+use Rattle.std.specs.Prelude.{◌≡◌, ◌≤◌, ℕ, Option, Some, List, [], slice_get, slice_index_or}
 use Rattle.language.specs.Rest.{Code}
 use Rattle.language.specs.Step.{Program}
-use Rattle.language.specs.Sequential.{Valuation, Edge, Pair, Entered, Caller, starter, caller, Message, entry, summary, IsDue}
+use Rattle.language.specs.Sequential.{Valuation, Edge, Exit, Pair, Entered, Caller, starter, caller, Message, entry, summary, IsDue}
 use Rattle.language.specs.Flow.{Member}
 use Rattle.language.specs.Messages.{IsValuationOf}
 use Rattle.flow_graph.specs.Bits.{coded}
-use Rattle.flow_graph.specs.Nodes.{number, at}
+use Rattle.flow_graph.specs.Nodes.{number, point_at}
 use Rattle.flow_graph.specs.Flows.{code, last_of, next_of, entered_by}
 use Rattle.flow_graph.specs.Returns.{left, resumed}
 use Rattle.flow_graph.specs.declared.flow.Flow.{Flow}
@@ -14,36 +14,40 @@ use Rattle.flow_graph.specs.declared.graph.Graph.{Graph}
 use Rattle.flow_graph.specs.Drawn.{flows_of, start_of, globals_of}
 
 -- A message by numbers: an entry has who enters and the number of the entry valuation; a summary has the procedure called
--- and the numbers of its entry valuation and of the globals that it left.
+-- and the numbers of its entry valuation and of what it left.
 pub data NumberedMessage : Type 0 where
   numbered_entry : Caller → ℕ → NumberedMessage
   numbered_summary : ℕ → ℕ → ℕ → NumberedMessage
 
+-- what is left as a number: the globals from bit 0
+abbrev pub exit_code : Exit → ℕ
+exit_code e = coded e.globals
+
 -- the message by numbers
 abbrev pub by_numbers : Message → NumberedMessage
 by_numbers (entry from a) = numbered_entry from (code a)
-by_numbers (summary s a b) = numbered_summary s (code a) (coded b)
+by_numbers (summary s a b) = numbered_summary s (code a) (exit_code b)
 
 -- By the messages of which M holds, the graph reaches from the number of an entry a point with the number of a valuation:
 -- its start from each entry, what a flow leads to for one of its choices, and, behind a call, what a summary of it leads to.
-pub data Reaches {A : Type 0} (graph : Graph A) (M : NumberedMessage → Type 0) : ℕ → ℕ → ℕ → Type 0 where
-  starts : (from : Caller) (a : ℕ) → M (numbered_entry from a) → Reaches graph M a (start_of graph) a
-  flows : (a n v n' v' i : ℕ) (flow : Flow A) → Reaches graph M a n v → slice_get (flows_of graph) n ≡ Some flow → i ≤ last_of flow →
-      next_of flow v i ≡ Some (n', v') → Reaches graph M a n' v'
-  returns : (a n v s e n' b : ℕ) (flow : Flow A) → Reaches graph M a n v → slice_get (flows_of graph) n ≡ Some flow →
-      entered_by flow v ≡ Some (s, e, n') → M (numbered_summary s e b) → Reaches graph M a n' (resumed (globals_of graph) v b)
+pub data GraphReaches {A : Type 0} (graph : Graph A) (M : NumberedMessage → Type 0) : ℕ → ℕ → ℕ → Type 0 where
+  starts : (from : Caller) (a : ℕ) → M (numbered_entry from a) → GraphReaches graph M a (start_of graph) a
+  flows : (a n v n' v' i : ℕ) (flow : Flow A) → GraphReaches graph M a n v → slice_get (flows_of graph) n ≡ Some flow → i ≤ last_of flow →
+      next_of flow v i ≡ Some (n', v') → GraphReaches graph M a n' v'
+  returns : (a n v s e n' b : ℕ) (flow : Flow A) → GraphReaches graph M a n v → slice_get (flows_of graph) n ≡ Some flow →
+      entered_by flow v ≡ Some (s, e, n') → M (numbered_summary s e b) → GraphReaches graph M a n' (resumed (globals_of graph) v b)
 
 -- By the messages of which M holds, the graph of procedure q sends a procedure: the entry of each call of it that is reached,
 -- and for each of its entries the summary of each valuation that is reached at the exit.
 pub data Sends {A : Type 0} (graph : Graph A) (q : ℕ) (M : NumberedMessage → Type 0) : ℕ → NumberedMessage → Type 0 where
-  asks : (a n v s e n' : ℕ) (flow : Flow A) → Reaches graph M a n v → slice_get (flows_of graph) n ≡ Some flow →
+  asks : (a n v s e n' : ℕ) (flow : Flow A) → GraphReaches graph M a n v → slice_get (flows_of graph) n ≡ Some flow →
       entered_by flow v ≡ Some (s, e, n') → Sends graph q M s (numbered_entry (caller q) e)
-  tells : (a v s : ℕ) → M (numbered_entry (caller s) a) → Reaches graph M a 0 v →
+  tells : (a v s : ℕ) → M (numbered_entry (caller s) a) → GraphReaches graph M a 0 v →
       Sends graph q M s (numbered_summary q a (left (globals_of graph) v))
 
--- By the messages of which M holds, the graph is left with globals of the number b where it was entered with that of a.
+-- By the messages of which M holds, what the graph leaves has the number b where it was entered with that of a.
 abbrev pub Leaves : {A : Type 0} → Graph A → (NumberedMessage → Type 0) → ℕ → ℕ → Type 0
-Leaves graph M a b = (v : ℕ) × Reaches graph M a 0 v × (b ≡ left (globals_of graph) v)
+Leaves graph M a b = (v : ℕ) × GraphReaches graph M a 0 v × (b ≡ left (globals_of graph) v)
 
 -- the message is, by numbers, one of which P holds
 abbrev pub IsNumberOf : (Message → Type 0) → NumberedMessage → Type 0
@@ -51,7 +55,7 @@ IsNumberOf P k = (m : Message) × P m × (k ≡ by_numbers m)
 
 -- a and v are the numbers of valuations, and n of the point of a rest, of which P holds
 abbrev pub AreNumbersOf : (Valuation → Valuation → Code → Type 0) → ℕ → ℕ → ℕ → Type 0
-AreNumbersOf P a n v = (x : Valuation) × (y : Valuation) × (r : Code) × P x y r × (a ≡ code x) × (n ≡ at r) × (v ≡ code y)
+AreNumbersOf P a n v = (x : Valuation) × (y : Valuation) × (r : Code) × P x y r × (a ≡ code x) × (n ≡ point_at r) × (v ≡ code y)
 
 -- n is the number of a valuation of q
 abbrev pub IsNumberOfValuation : Program → ℕ → ℕ → Type 0
@@ -68,7 +72,7 @@ AreNumbersOfEdge p q a n v =
 
 -- a and b are the numbers of a pair of q
 abbrev pub AreNumbersOfPair : Program → ℕ → ℕ → ℕ → Type 0
-AreNumbersOfPair p q a b = (x : Valuation) × (g : List Bool) × Pair p q x g × (a ≡ code x) × (b ≡ coded g)
+AreNumbersOfPair p q a b = (x : Valuation) × (e : Exit) × Pair p q x e × (a ≡ code x) × (b ≡ exit_code e)
 
 -- The message is one that q took, where lists hold what each procedure took, by its number.
 abbrev pub HasTaken : List (List NumberedMessage) → ℕ → NumberedMessage → Type 0

@@ -10,7 +10,7 @@ ghost use Rattle.round_rewrite.specs.Limits.{most_places};
 use crate::put::put;
 use crate::scope::Scope;
 use crate::side::Side;
-use crate::word::Word;
+use language::Word;
 use std::alloc::{AllocError, Allocator};
 use syntax::{Name, Rhs};
 

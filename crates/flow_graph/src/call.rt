@@ -5,8 +5,8 @@ ghost use Rattle.flow_graph.specs.Calls.{entry_of};
 ghost use Rattle.round_rewrite.specs.Limits.{most_places};
 
 use crate::formula::Formula;
-use crate::point::Point;
-use crate::word::{BITS, Word};
+use crate::word::BITS;
+use language::{Point, Word};
 use std::alloc::Allocator;
 
 /// The lowest bits of a number.

@@ -5,9 +5,8 @@ ghost use Rattle.flow_graph.specs.Flows.{last_of, next_of};
 
 use crate::assignment::Assignment;
 use crate::call::Call;
-use crate::point::Point;
 use crate::side::Side;
-use crate::word::Word;
+use language::{Point, Word};
 use std::alloc::Allocator;
 
 /// What leads on from a point, inside the call or out of it.

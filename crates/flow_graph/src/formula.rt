@@ -8,7 +8,7 @@ ghost use Rattle.flow_graph.specs.Views.{scope_seen, IsSmall};
 use crate::postfix::Postfix;
 use crate::scope::Scope;
 use crate::table::Table;
-use crate::word::Word;
+use language::Word;
 use std::alloc::{AllocError, Allocator};
 use syntax::Expr;
 

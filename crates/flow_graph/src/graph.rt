@@ -8,8 +8,7 @@ ghost use Rattle.flow_graph.specs.Returns.{left, resumed};
 
 use crate::call::low_bits;
 use crate::flow::Flow;
-use crate::point::Point;
-use crate::word::Word;
+use language::{Point, Word};
 use std::alloc::Allocator;
 
 /// The flow graph of a procedure: a point before each statement and the exit, and what leads on from each. A valuation is a

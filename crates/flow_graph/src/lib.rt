@@ -10,7 +10,6 @@ mod graph;
 mod labels;
 mod lowering;
 mod numbers;
-mod point;
 mod postfix;
 mod put;
 mod scope;
@@ -37,9 +36,7 @@ pub use numbers::{
     triples_that_follow_hold_what_is_reached, what_a_graph_reaches_has_an_entry,
     what_a_graph_reaches_has_its_widths, what_a_graph_sends_has_its_widths,
 };
-pub use point::{EXIT, Point};
 pub use takes::{
     a_bad_pair_is_left_by_its_graph, the_entries_taken_are_those_entered,
     what_graphs_leave_are_the_pairs, what_graphs_send_and_take_is_what_is_due,
 };
-pub use word::Word;

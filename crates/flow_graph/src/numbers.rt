@@ -6,10 +6,10 @@ ghost use Rattle.language.specs.Step.{Routine, Program, body_of};
 ghost use Rattle.language.specs.Sequential.{in_text_order, Valuation, Caller, Message, IsDue};
 ghost use Rattle.language.specs.Flow.{Member, IsRestOf};
 ghost use Rattle.language.specs.Messages.{Reached, Owes, EdgeTo, IsValuationOf, IsMessageTo, ArgumentsFit};
-ghost use Rattle.flow_graph.specs.Nodes.{at};
+ghost use Rattle.flow_graph.specs.Nodes.{point_at};
 ghost use Rattle.flow_graph.specs.Flows.{code};
 ghost use Rattle.flow_graph.specs.Graphs.{IsGraph, IsInTextOrder};
-ghost use Rattle.flow_graph.specs.Numbers.{NumberedMessage, numbered_entry, by_numbers, Reaches, Sends, IsNumberOf, AreNumbersOf, IsNumberOfValuation, AreNumbersOfEdge};
+ghost use Rattle.flow_graph.specs.Numbers.{NumberedMessage, numbered_entry, by_numbers, GraphReaches, Sends, IsNumberOf, AreNumbersOf, IsNumberOfValuation, AreNumbersOfEdge};
 ghost use Rattle.flow_graph.specs.Triples.{HoldStarts, HoldFlows, HoldReturns, HoldAsks, HoldTells};
 ghost use Rattle.flow_graph.specs.declared.graph.Graph.{Graph};
 ghost use Rattle.flow_graph.specs.Drawn.{flows_of};
@@ -20,7 +20,7 @@ use std::alloc::Allocator;
 pub fn a_graph_reaches_what_its_procedure_reaches<A: Allocator>()
     ensures { (p : Program) (q : ℕ) (graph : Graph A) (ms : List Message) → ArgumentsFit p → IsGraph p q graph
         → ((m : Message) → Member m ms → IsMessageTo p q m) → (a n v : ℕ)
-        → Reaches graph (λ k. Member k (map by_numbers ms)) a n v ↔ AreNumbersOf (Reached p q (λ m. Member m ms)) a n v }
+        → GraphReaches graph (λ k. Member k (map by_numbers ms)) a n v ↔ AreNumbersOf (Reached p q (λ m. Member m ms)) a n v }
 {}
 
 /// By the same messages, a graph sends by numbers what its procedure owes.
@@ -34,7 +34,7 @@ pub fn a_graph_sends_what_its_procedure_owes<A: Allocator>()
 pub fn by_due_messages_a_graph_reaches_path_edges<A: Allocator>()
     ensures { (p : Program) (q : ℕ) (graph : Graph A) (ks : List NumberedMessage) → ArgumentsFit p → IsGraph p q graph
         → ((k : NumberedMessage) → Member k ks → IsNumberOf (IsDue p q) k) → (a n v : ℕ)
-        → Reaches graph (λ k. Member k ks) a n v → AreNumbersOf (EdgeTo p q) a n v }
+        → GraphReaches graph (λ k. Member k ks) a n v → AreNumbersOf (EdgeTo p q) a n v }
 {}
 
 /// By messages that are due, a graph sends only messages that are due.
@@ -48,7 +48,7 @@ pub fn by_due_messages_a_graph_sends_due_messages<A: Allocator>()
 /// valuations.
 pub fn what_a_graph_reaches_has_its_widths<A: Allocator>()
     ensures { (p : Program) (q : ℕ) (graph : Graph A) (ks : List NumberedMessage) → ArgumentsFit p → IsGraph p q graph
-        → ((k : NumberedMessage) → Member k ks → IsNumberOf (IsMessageTo p q) k) → (a n v : ℕ) → Reaches graph (λ k. Member k ks) a n v
+        → ((k : NumberedMessage) → Member k ks → IsNumberOf (IsMessageTo p q) k) → (a n v : ℕ) → GraphReaches graph (λ k. Member k ks) a n v
         → (n < length (flows_of graph)) × IsNumberOfValuation p q a × IsNumberOfValuation p q v }
 {}
 
@@ -62,26 +62,26 @@ pub fn what_a_graph_sends_has_its_widths<A: Allocator>()
 /// By more messages, a graph reaches what it reached, and sends what it sent.
 pub fn more_messages_lead_a_graph_further<A: Allocator>()
     ensures { (q : ℕ) (graph : Graph A) (ks js : List NumberedMessage) → ((k : NumberedMessage) → Member k ks → Member k js)
-        → ((a n v : ℕ) → Reaches graph (λ k. Member k ks) a n v → Reaches graph (λ k. Member k js) a n v)
+        → ((a n v : ℕ) → GraphReaches graph (λ k. Member k ks) a n v → GraphReaches graph (λ k. Member k js) a n v)
         × ((s : ℕ) (k : NumberedMessage) → Sends graph q (λ i. Member i ks) s k → Sends graph q (λ i. Member i js) s k) }
 {}
 
 /// What a graph reaches from the number of an entry has an entry with this number.
 pub fn what_a_graph_reaches_has_an_entry<A: Allocator>()
-    ensures { (graph : Graph A) (ks : List NumberedMessage) (a n v : ℕ) → Reaches graph (λ k. Member k ks) a n v
+    ensures { (graph : Graph A) (ks : List NumberedMessage) (a n v : ℕ) → GraphReaches graph (λ k. Member k ks) a n v
         → (from : Caller) × Member (numbered_entry from a) ks }
 {}
 
 /// Triples that hold the starts, and follow the flows and the returns, hold all that a graph reaches.
 pub fn triples_that_follow_hold_what_is_reached<A: Allocator>()
     ensures { (graph : Graph A) (ks : List NumberedMessage) (ts : List (ℕ × ℕ × ℕ)) → HoldStarts graph ks ts → HoldFlows graph ts
-        → HoldReturns graph ks ts → (a n v : ℕ) → Reaches graph (λ k. Member k ks) a n v → Member (a, n, v) ts }
+        → HoldReturns graph ks ts → (a n v : ℕ) → GraphReaches graph (λ k. Member k ks) a n v → Member (a, n, v) ts }
 {}
 
 /// Triples of all that a graph reaches, and of nothing else, hold the starts and follow the flows and the returns.
 pub fn triples_of_all_that_is_reached_follow<A: Allocator>()
     ensures { (graph : Graph A) (ks : List NumberedMessage) (ts : List (ℕ × ℕ × ℕ))
-        → ((a n v : ℕ) → Member (a, n, v) ts ↔ Reaches graph (λ k. Member k ks) a n v)
+        → ((a n v : ℕ) → Member (a, n, v) ts ↔ GraphReaches graph (λ k. Member k ks) a n v)
         → HoldStarts graph ks ts × HoldFlows graph ts × HoldReturns graph ks ts }
 {}
 
@@ -95,7 +95,7 @@ pub fn messages_that_follow_hold_what_is_sent<A: Allocator>()
 /// Beside triples of all that a graph reaches, the messages that it sends, and no others, hold what they ask and tell.
 pub fn messages_of_all_that_is_sent_follow<A: Allocator>()
     ensures { (q : ℕ) (graph : Graph A) (ks : List NumberedMessage) (ts : List (ℕ × ℕ × ℕ)) (sent : List (ℕ × NumberedMessage))
-        → ((a n v : ℕ) → Member (a, n, v) ts ↔ Reaches graph (λ k. Member k ks) a n v)
+        → ((a n v : ℕ) → Member (a, n, v) ts ↔ GraphReaches graph (λ k. Member k ks) a n v)
         → ((s : ℕ) (k : NumberedMessage) → Member (s, k) sent ↔ Sends graph q (λ j. Member j ks) s k)
         → HoldAsks graph q ts sent × HoldTells graph q ks ts sent }
 {}
@@ -120,13 +120,13 @@ pub fn its_numbers_tell_that_a_message_is_due()
 pub fn its_numbers_tell_a_path_edge()
     ensures { (p : Program) (q : ℕ) (x y : Valuation) (r : Code) → ArgumentsFit p → IsInTextOrder p → IsValuationOf p q x
         → IsValuationOf p q y → IsRestOf (body_of (slice_get p.routines q)) r
-        → AreNumbersOf (EdgeTo p q) (code x) (at r) (code y) ↔ EdgeTo p q x y r }
+        → AreNumbersOf (EdgeTo p q) (code x) (point_at r) (code y) ↔ EdgeTo p q x y r }
 {}
 
 /// In a program that is marked in text order, the number of a point tells what is left to run.
 pub fn the_number_of_a_point_tells_its_rest()
     ensures { (p : Program) (q : ℕ) (r s : Code) → IsInTextOrder p → IsRestOf (body_of (slice_get p.routines q)) r
-        → IsRestOf (body_of (slice_get p.routines q)) s → at r ≡ at s → r ≡ s }
+        → IsRestOf (body_of (slice_get p.routines q)) s → point_at r ≡ point_at s → r ≡ s }
 {}
 
 /// Marked in text order, the bodies of a program are marked from 1 on.

@@ -8,7 +8,8 @@ ghost use Rattle.flow_graph.specs.Postfix.{IsShallow, IsShallow-prop, after_step
 ghost use Rattle.flow_graph.specs.Views.{scope_seen, IsSmall};
 
 use crate::scope::Scope;
-use crate::word::{BITS, Word};
+use crate::word::BITS;
+use language::Word;
 use std::alloc::{AllocError, Allocator};
 use syntax::{Expr, Op};
 

@@ -7,7 +7,7 @@ ghost use Rattle.flow_graph.specs.Views.{scope_seen, IsSmall};
 
 use crate::formula::Formula;
 use crate::scope::Scope;
-use crate::word::Word;
+use language::Word;
 use std::alloc::{AllocError, Allocator};
 use syntax::Rhs;
 

@@ -11,8 +11,8 @@ ghost use Rattle.flow_graph.specs.Views.{scope_seen, IsSmall};
 ghost use Rattle.round_rewrite.specs.Limits.{most_places};
 
 use crate::scope::Scope;
-use crate::word::Word;
 use arrayvec::ArrayVec;
+use language::Word;
 use std::alloc::Allocator;
 use syntax::{Expr, Op};
 

@@ -7,7 +7,7 @@ ghost use Rattle.language.specs.Messages.{EdgeTo, ArgumentsFit};
 ghost use Rattle.round_rewrite.specs.Law.{SomeBad};
 ghost use Rattle.flow_graph.specs.Bits.{bit_of};
 ghost use Rattle.flow_graph.specs.Graphs.{AreGraphs, IsInTextOrder};
-ghost use Rattle.flow_graph.specs.Numbers.{NumberedMessage, numbered_entry, Reaches, Leaves, IsNumberOf, AreNumbersOf, IsNumberOfEntry, AreNumbersOfPair, HasTaken, TakesOpening, TakesSent, TakesDue};
+ghost use Rattle.flow_graph.specs.Numbers.{NumberedMessage, numbered_entry, GraphReaches, Leaves, IsNumberOf, AreNumbersOf, IsNumberOfEntry, AreNumbersOfPair, HasTaken, TakesOpening, TakesSent, TakesDue};
 ghost use Rattle.flow_graph.specs.declared.graph.Graph.{Graph};
 
 use std::alloc::Allocator;
@@ -19,7 +19,7 @@ pub fn what_graphs_send_and_take_is_what_is_due<A: Allocator>()
         → TakesOpening takes → TakesSent graphs takes → TakesDue p takes → (q : ℕ)
         → ((k : NumberedMessage) → HasTaken takes q k ↔ IsNumberOf (IsDue p q) k)
         × ((graph : Graph A) → slice_get graphs q ≡ Some graph → (a n v : ℕ)
-        → Reaches graph (HasTaken takes q) a n v ↔ AreNumbersOf (EdgeTo p q) a n v) }
+        → GraphReaches graph (HasTaken takes q) a n v ↔ AreNumbersOf (EdgeTo p q) a n v) }
 {}
 
 /// The entries then taken have the numbers of the valuations with which procedures are entered.

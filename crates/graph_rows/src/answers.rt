@@ -1,6 +1,7 @@
 //! Answers to questions on flow graphs. A question is a word and numbers: valuations in binary digits behind `0b`, others in decimal.
 
-use flow_graph::{Call, Flow, Graph, Graphs, Point};
+use flow_graph::{Call, Flow, Graph, Graphs};
+use language::Point;
 use std::alloc::Allocator;
 use std::fmt::Write;
 

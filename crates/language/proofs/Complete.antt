@@ -3,7 +3,8 @@ use Rattle.std.proofs.Common.{◌≡◌, ◌⊎◌, ℕ, zero, suc, List, [], �
 use Rattle.language.specs.Tree.{done}
 use Rattle.language.specs.Rest.{Code}
 use Rattle.language.specs.Step.{Routine, Program, Frame, frame, State, state, zeros, AtRoutine, body_of, Step, AfterSteps}
-use Rattle.language.specs.Sequential.{Valuation, Reaches, Calls, Asks, Entered, Caller, starter, caller, Message, entry, summary, IsDue}
+use Rattle.language.specs.Sequential.{Valuation, Reaches, Calls, Asks, Entered, exit_of}
+use Rattle.language.specs.Sequential.{Caller, starter, caller, Message, entry, summary, IsDue}
 use Rattle.language.specs.Rounds.{starting_stack}
 use Rattle.language.specs.Flow.{FlowsTo, ReturnsTo, EntersTo, after_first}
 use Rattle.language.specs.Messages.{Reached, starts, flows, returns, asks, tells, HasOpening, HasOwed}
@@ -41,8 +42,12 @@ back p M closed k z q a v reached [] wait = tt
 back p M closed k z q a v reached (frame c l t ∷ fs) (b, g, r, same, before, calls, below) =
     let u : Valuation = record { globals = g; places = l } in
     let entered = called p M closed c b u a r q before calls in
-    let told = closed q c (summary q a v.globals) (tells a v c entered reached) in
-    (b, subst (Reaching p M c b (record { globals = v.globals; places = l })) (sym same) (returns b u a r q v.globals before calls told), below)
+    let told = closed q c (summary q a (exit_of v)) (tells a v c entered reached) in (
+      b,
+      subst (Reaching p M c b (record { globals = v.globals; places = l })) (sym same)
+          (returns b u a r q (exit_of v) before calls told),
+      below,
+    )
 
 held_step : (p : Program) (M : ℕ → Message → Type 0) → HasOwed p M → (k : ℕ) (z : Valuation) (s t : State) → Held p M k z s → Step p s t → Held p M k z t
 held_step p M closed k z (state g []) t held step = absurd step
@@ -120,6 +125,6 @@ due_had p M opened closed q (entry starter a) (e, begins) = subst (λ z. M z (en
 due_had p M opened closed q (entry (caller c) a) asking = asked_had p M opened closed c q a asking
 due_had p M opened closed q (summary s a b) (asking, pair) =
     let (l, inside) = pair_inside p s a b pair in
-    let v : Valuation = record { globals = b; places = l } in
+    let v : Valuation = record { globals = b.globals; places = l } in
     let entered = asked_had p M opened closed q s a asking in
     closed s q (summary s a b) (tells a v q entered (inside_reached p M opened closed s a v done inside))

@@ -3,7 +3,7 @@ use Rattle.std.proofs.Common.{◌≡◌, ◌↔◌, ℕ, List, Bool, Option}
 use Rattle.language.specs.Tree.{done}
 use Rattle.language.specs.Rest.{Code}
 use Rattle.language.specs.Step.{Program}
-use Rattle.language.specs.Sequential.{Valuation, point_of, Edge, Pair, Message, IsDue}
+use Rattle.language.specs.Sequential.{Valuation, point_of, Edge, Exit, Pair, Message, IsDue}
 use Rattle.language.specs.Messages.{Reached, AreDue, HasOpening, HasOwed, EdgeTo}
 use Rattle.language.proofs.Sound.{inside_edge, edge_inside, some_edge, edge_some, pair_inside, inside_pair, reached_inside}
 use Rattle.language.proofs.Complete.{inside_reached, due_had}
@@ -30,8 +30,10 @@ edge_point p q a v point = (
 )
 
 -- a pair has nothing left to run
-pub pair_exit : (p : Program) (q : ℕ) (a : Valuation) (b : List Bool) → Pair p q a b ↔ ((l : List Bool) × EdgeTo p q a (record { globals = b; places = l }) done)
+pub pair_exit : (p : Program) (q : ℕ) (a : Valuation) (b : Exit) →
+    Pair p q a b ↔ ((l : List Bool) × EdgeTo p q a (record { globals = b.globals; places = l }) done)
 pair_exit p q a b = (
-  λ pair. let (l, inside) = pair_inside p q a b pair in (l, inside_edge p q a (record { globals = b; places = l }) done inside),
-  λ h. inside_pair p q a (record { globals = b; places = h.0 }) (edge_inside p q a (record { globals = b; places = h.0 }) done h.1),
+  λ pair. let (l, inside) = pair_inside p q a b pair in (l, inside_edge p q a (record { globals = b.globals; places = l }) done inside),
+  λ h. inside_pair p q a (record { globals = b.globals; places = h.0 })
+      (edge_inside p q a (record { globals = b.globals; places = h.0 }) done h.1),
 )

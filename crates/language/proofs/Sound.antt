@@ -4,7 +4,8 @@ use Rattle.std.proofs.lemmas.Option.{none-some}
 use Rattle.language.specs.Tree.{done, one, choose, loop}
 use Rattle.language.specs.Rest.{Code}
 use Rattle.language.specs.Step.{Routine, Program, frame, State, state, AtRoutine, body_of, Runs}
-use Rattle.language.specs.Sequential.{Valuation, point_of, Calls, Asks, Entered, Edge, Pair, Message, entry, caller, summary, IsDue}
+use Rattle.language.specs.Sequential.{Valuation, point_of, Calls, Asks, Entered, Edge, Exit}
+use Rattle.language.specs.Sequential.{exit_of, resumed_with, Pair, Message, entry, caller, summary, IsDue}
 use Rattle.language.specs.Flow.{after_first}
 use Rattle.language.specs.Messages.{Reached, starts, flows, returns, Owes, asks, tells, AreDue, EdgeTo}
 use Rattle.language.proofs.RunsOver.{runs_then, runs_step, runs_over, entering, returning}
@@ -62,24 +63,25 @@ exit_alone (choose m c a b t) e = absurd (none-some m.at e)
 exit_alone (loop m c a t) e = absurd (none-some m.at e)
 
 -- a pair is a path edge with nothing left to run
-pub pair_inside : (p : Program) (q : ℕ) (a : Valuation) (b : List Bool) → Pair p q a b →
-    (l : List Bool) × Inside p q a (record { globals = b; places = l }) done
+pub pair_inside : (p : Program) (q : ℕ) (a : Valuation) (b : Exit) → Pair p q a b →
+    (l : List Bool) × Inside p q a (record { globals = b.globals; places = l }) done
 pair_inside p q a b (l, edge) =
-    let (r, at, inside) = edge_some p q a (record { globals = b; places = l }) None edge in
-    (l, subst (Inside p q a (record { globals = b; places = l })) (exit_alone r at) inside)
+    let (r, at, inside) = edge_some p q a (record { globals = b.globals; places = l }) None edge in
+    (l, subst (Inside p q a (record { globals = b.globals; places = l })) (exit_alone r at) inside)
 
-pub inside_pair : (p : Program) (q : ℕ) (a v : Valuation) → Inside p q a v done → Pair p q a v.globals
+pub inside_pair : (p : Program) (q : ℕ) (a v : Valuation) → Inside p q a v done → Pair p q a (exit_of v)
 inside_pair p q a v inside = (v.places, some_edge p q a v None done refl inside)
 
 -- behind a call, what a pair of the procedure called leads to
-behind : (p : Program) (q : ℕ) (a v e : Valuation) (r : Code) (s : ℕ) (b : List Bool) → Inside p q a v r → Calls p v.globals v.places r s e → Pair p s e b →
-    Inside p q a (record { globals = b; places = v.places }) (after_first r)
+behind : (p : Program) (q : ℕ) (a v e : Valuation) (r : Code) (s : ℕ) (b : Exit) → Inside p q a v r →
+    Calls p v.globals v.places r s e → Pair p s e b →
+    Inside p q a (resumed_with v b) (after_first r)
 behind p q a v e r s b (entered, run) calls pair =
     let waiting = frame q v.places (after_first r) ∷ [] in
     let (l, (asked, inner)) = pair_inside p s e b pair in
     let called = runs_step p _ _ _ run (entering p q v r [] s e calls) in
-    let ended = runs_then p _ _ _ called (runs_over p waiting (alone p s e) (state b (frame s l done ∷ [])) inner) in
-    (entered, runs_step p _ _ _ ended (returning p s (record { globals = b; places = l }) waiting))
+    let ended = runs_then p _ _ _ called (runs_over p waiting (alone p s e) (state b.globals (frame s l done ∷ [])) inner) in
+    (entered, runs_step p _ _ _ ended (returning p s (record { globals = b.globals; places = l }) waiting))
 
 pub reached_inside : (p : Program) (q : ℕ) (M : Message → Type 0) → AreDue p q M → (a v : Valuation) (r : Code) → Reached p q M a v r → Inside p q a v r
 reached_inside p q M due _ _ _ (starts from a is) = (due_entered p q from a (due (entry from a) is), no_steps p (alone p q a))

@@ -106,7 +106,7 @@ due_message p fit q (entry from a) due = entered_valuation p fit q a (due_entere
 due_message p fit q (summary s a b) (asking, pair) =
     let (l, (entered, (n, run))) = pair_inside p s a b pair in
     let whole = asked_valuation p fit q s a asking in
-    (whole, sym (steps_breadth p n (alone p s a) (state b (frame s l done ∷ [])) run) ∙ whole.0)
+    (whole, sym (steps_breadth p n (alone p s a) (state b.globals (frame s l done ∷ [])) run) ∙ whole.0)
 
 same_valuation : (p : Program) (q : ℕ) (v w : Valuation) → SameWidths v w → IsValuationOf p q v → IsValuationOf p q w
 same_valuation p q v w (globals, places) (g, l) =

@@ -1,10 +1,11 @@
 -- What one procedure reaches by the messages that it has, and the messages that it then owes.
-use Rattle.std.specs.Prelude.{◌≡◌, ◌≤◌, ℕ, Bool, List, [], ◌∷◌, length, slice_get, slice_index_or}
+use Rattle.std.specs.Prelude.{◌≡◌, ◌≤◌, ℕ, List, [], ◌∷◌, length, slice_get, slice_index_or}
 use Rattle.language.specs.Tree.{Mark, Expression, call, done, one}
 use Rattle.language.specs.Value.{Place}
 use Rattle.language.specs.Rest.{Label, Code}
 use Rattle.language.specs.Step.{Program, frame, state, AtRoutine, body_of, Runs}
-use Rattle.language.specs.Sequential.{Valuation, Calls, IsZero, Entered, Caller, starter, caller, Message, entry, summary, IsDue}
+use Rattle.language.specs.Sequential.{Valuation, Calls, IsZero, Entered, Exit, exit_of, resumed_with}
+use Rattle.language.specs.Sequential.{Caller, starter, caller, Message, entry, summary, IsDue}
 use Rattle.language.specs.Flow.{Member, IsRestOf, Flow, after_first}
 
 -- By the messages of which M holds, procedure q reaches from the entry valuation a the valuation v, with r left to
@@ -12,15 +13,15 @@ use Rattle.language.specs.Flow.{Member, IsRestOf, Flow, after_first}
 pub data Reached (p : Program) (q : ℕ) (M : Message → Type 0) : Valuation → Valuation → Code → Type 0 where
   starts : (from : Caller) (a : Valuation) → M (entry from a) → Reached p q M a a (body_of (slice_get p.routines q))
   flows : (a v v' : Valuation) (r r' : Code) → Reached p q M a v r → Flow p q v r v' r' → Reached p q M a v' r'
-  returns : (a v e : Valuation) (r : Code) (s : ℕ) (b : List Bool) → Reached p q M a v r → Calls p v.globals v.places r s e →
-      M (summary s e b) → Reached p q M a (record { globals = b; places = v.places }) (after_first r)
+  returns : (a v e : Valuation) (r : Code) (s : ℕ) (b : Exit) → Reached p q M a v r → Calls p v.globals v.places r s e →
+      M (summary s e b) → Reached p q M a (resumed_with v b) (after_first r)
 
 -- By the messages of which M holds, procedure q owes a procedure: the entry of each call of it that is reached, and
 -- for each of its entries the summary of each exit that is reached.
 pub data Owes (p : Program) (q : ℕ) (M : Message → Type 0) : ℕ → Message → Type 0 where
   asks : (a v e : Valuation) (r : Code) (s : ℕ) → Reached p q M a v r → Calls p v.globals v.places r s e →
       Owes p q M s (entry (caller q) e)
-  tells : (a v : Valuation) (s : ℕ) → M (entry (caller s) a) → Reached p q M a v done → Owes p q M s (summary q a v.globals)
+  tells : (a v : Valuation) (s : ℕ) → M (entry (caller s) a) → Reached p q M a v done → Owes p q M s (summary q a (exit_of v))
 
 -- each message of which M holds is due for q
 abbrev pub AreDue : Program → ℕ → (Message → Type 0) → Type 0
@@ -49,7 +50,7 @@ IsValuationOf p q v = (length v.globals ≡ p.globals) × AtRoutine (slice_get p
 -- called, and a value for each global.
 abbrev pub IsMessageTo : Program → ℕ → Message → Type 0
 IsMessageTo p q (entry from a) = IsValuationOf p q a
-IsMessageTo p q (summary s a b) = IsValuationOf p s a × (length b ≡ p.globals)
+IsMessageTo p q (summary s a b) = IsValuationOf p s a × (length b.globals ≡ p.globals)
 
 -- each call in a body is of a procedure that is there, with a place for each argument
 abbrev pub ArgumentsFit : Program → Type 0

@@ -98,9 +98,21 @@ Edge p q a point v =
     (rest : Code) × (point ≡ point_of rest)
     × Runs p (state a.globals (frame q a.places r.body ∷ [])) (state v.globals (frame q v.places rest ∷ [])))
 
--- A summary edge, or pair: a path edge to the exit, with the globals b there.
-abbrev pub Pair : Program → ℕ → Valuation → List Bool → Type 0
-Pair p q a b = (l : List Bool) × Edge p q a None (record { globals = b; places = l })
+-- what a procedure leaves at its exit: the globals
+pub record Exit : Type 0 where
+  pub globals : List Bool
+
+-- what is left where the exit is reached with this valuation
+abbrev pub exit_of : Valuation → Exit
+exit_of v = record { globals = v.globals }
+
+-- the valuation with which a caller goes on behind a call that has left this: its places are its own
+abbrev pub resumed_with : Valuation → Exit → Valuation
+resumed_with v e = record { globals = e.globals; places = v.places }
+
+-- A summary edge, or pair: a path edge to the exit, where e is left.
+abbrev pub Pair : Program → ℕ → Valuation → Exit → Type 0
+Pair p q a e = (l : List Bool) × Edge p q a None (record { globals = e.globals; places = l })
 
 -- who sends an entry: the starter, or the procedure that calls
 pub data Caller : Type 0 where
@@ -110,7 +122,7 @@ pub data Caller : Type 0 where
 -- a message: an entry valuation with who enters, or a pair of a procedure
 pub data Message : Type 0 where
   entry : Caller → Valuation → Message
-  summary : ℕ → Valuation → List Bool → Message
+  summary : ℕ → Valuation → Exit → Message
 
 -- The message is due for procedure q: the starter's entry of procedure 0, an entry of q that some procedure
 -- asks for, or a pair of a procedure that q enters so.

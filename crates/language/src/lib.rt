@@ -7,6 +7,7 @@ mod messages;
 mod numbering;
 mod steps;
 mod verdicts;
+mod word;
 
 pub use flows::{
     a_call_has_no_flow, a_flow_stays_in_its_body, a_point_tells_its_rest,
@@ -42,3 +43,4 @@ pub use verdicts::{
     a_spinning_thread_keeps_no_failure_away, a_writer_before_the_reader_needs_one_round,
     more_rounds_reach_more, no_threads_never_fail, the_value_passed_last_lasts,
 };
+pub use word::{EXIT, Point, Word};

@@ -3,7 +3,7 @@ ghost use Rattle.std.specs.Prelude.{◌≡◌, ◌↔◌, ℕ, List, Bool, Optio
 ghost use Rattle.language.specs.Tree.{done};
 ghost use Rattle.language.specs.Rest.{Code};
 ghost use Rattle.language.specs.Step.{Routine, Program, body_of};
-ghost use Rattle.language.specs.Sequential.{point_of, Valuation, Edge, Pair, Caller, Message, entry, IsDue};
+ghost use Rattle.language.specs.Sequential.{point_of, Valuation, Edge, Exit, Pair, Caller, Message, entry, IsDue};
 ghost use Rattle.language.specs.Flow.{Member, IsRestOf};
 ghost use Rattle.language.specs.Messages.{Reached, Owes, AreDue, HasOpening, HasOwed, EdgeTo, IsValuationOf, IsMessageTo, ArgumentsFit, IsTakenBy};
 
@@ -43,8 +43,8 @@ pub fn a_path_edge_has_a_rest_at_its_point()
 
 /// A pair is a path edge with nothing left to run.
 pub fn a_pair_has_nothing_left_to_run()
-    ensures { (p : Program) (q : ℕ) (a : Valuation) (b : List Bool)
-        → Pair p q a b ↔ ((l : List Bool) × EdgeTo p q a (record { globals = b; places = l }) done) }
+    ensures { (p : Program) (q : ℕ) (a : Valuation) (b : Exit)
+        → Pair p q a b ↔ ((l : List Bool) × EdgeTo p q a (record { globals = b.globals; places = l }) done) }
 {}
 
 /// What is reached from a valuation has an entry with that valuation.

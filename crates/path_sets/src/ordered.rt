@@ -9,12 +9,13 @@ ghost use Rattle.path_sets.specs.Inserts.{Settles};
 use crate::ends::Ends;
 use crate::path_set::PathSet;
 use indexmap::IndexMap;
+use language::{Point, Word};
 use std::alloc::{AllocError, Allocator};
 use std::collections::BTreeSet;
 use std::hash::{BuildHasherDefault, FoldHasher};
 
 /// The edges of each point that has any, the points in the order in which they are first reached.
-type Points<A> = IndexMap<usize, BTreeSet<Ends, A>, BuildHasherDefault<FoldHasher>, A>;
+type Points<A> = IndexMap<Point, BTreeSet<Ends, A>, BuildHasherDefault<FoldHasher>, A>;
 
 /// Path edges in one ordered set for each point that is reached, of all entries together: where each entry reaches a
 /// point with one valuation, a set for each of them would hold one edge.
@@ -29,7 +30,7 @@ pub struct OrderedEdges<A: Allocator> {
 /// Puts an edge into the set of a point that has none yet.
 fn start<A: Allocator + Copy>(
     points: &mut Points<A>,
-    point: usize,
+    point: Point,
     ends: Ends,
 ) -> Result<bool, AllocError>
     requires { get_by (nat_eq point) points.old ≡ None }
@@ -45,7 +46,7 @@ fn start<A: Allocator + Copy>(
 /// Puts an edge into the set of its point. Answers whether it is new.
 fn put<A: Allocator + Copy>(
     points: &mut Points<A>,
-    point: usize,
+    point: Point,
     ends: Ends,
 ) -> Result<bool, AllocError>
     ensures ok { IfOk result (Settles (edge_at point ends) (edges points.old.entries) (edges points.new.entries)) }
@@ -67,7 +68,7 @@ impl<A: Allocator + Copy> PathSet<A> for OrderedEdges<A> {
         }
     }
 
-    fn insert(&mut self, entry: u64, point: usize, values: u64) -> Result<bool, AllocError> {
+    fn insert(&mut self, entry: Word, point: Point, values: Word) -> Result<bool, AllocError> {
         let added = put(&mut self.points, point, Ends { entry, values })?;
         if added {
             self.count += 1;
@@ -75,7 +76,7 @@ impl<A: Allocator + Copy> PathSet<A> for OrderedEdges<A> {
         Ok(added)
     }
 
-    fn contains(&self, entry: u64, point: usize, values: u64) -> bool {
+    fn contains(&self, entry: Word, point: Point, values: Word) -> bool {
         match self.points.get_index_of(&point) {
             Some(at) => self.points[at].contains(&Ends { entry, values }),
             None => false,

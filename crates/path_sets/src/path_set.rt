@@ -5,10 +5,10 @@ ghost use Rattle.std.specs.Bool.{OnTrue, OnFalse};
 ghost use Rattle.language.specs.Flow.{Member};
 ghost use Rattle.path_sets.specs.Triples.{Triple, triple, NoneTwice};
 
+use language::{Point, Word};
 use std::alloc::{AllocError, Allocator};
 
-/// A set of triples: an entry valuation, a point and the valuation there. A valuation is a number whose bits are the
-/// values of the places; point 0 is the exit, and any other a statement's number.
+/// A set of triples: an entry valuation, a point and the valuation there.
 pub trait PathSet<A: Allocator>: Sized + Drop {
     ghost members: { Self → List Triple };
 
@@ -18,7 +18,7 @@ pub trait PathSet<A: Allocator>: Sized + Drop {
 
     /// Puts a triple into the set. Answers whether it is new: `false` where it is a member already. Where memory is
     /// refused, the set stays as it was.
-    fn insert(&mut self, entry: u64, point: usize, values: u64) -> Result<bool, AllocError>
+    fn insert(&mut self, entry: Word, point: Point, values: Word) -> Result<bool, AllocError>
         requires { length (members self.old) < 2 ^ 63 }
         ensures members { OnOk result ((t : Triple) → Member t (members self.new) ↔ ((t ≡ triple entry point values) ⊎ Member t (members self.old))) }
         ensures new { IfOk result (λ added. OnTrue added (¬ Member (triple entry point values) (members self.old))) }
@@ -27,7 +27,7 @@ pub trait PathSet<A: Allocator>: Sized + Drop {
         ensures err { OnErr result (members self.new ≡ members self.old) };
 
     /// Whether the triple is a member.
-    fn contains(&self, entry: u64, point: usize, values: u64) -> bool
+    fn contains(&self, entry: Word, point: Point, values: Word) -> bool
         ensures { IsTrue result ↔ Member (triple entry point values) (members self.now) };
 
     /// How many members there are.

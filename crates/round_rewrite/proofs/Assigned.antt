@@ -4,7 +4,7 @@ use Rattle.std.proofs.lemmas.Bool.{cases_eq}
 use Rattle.std.proofs.lemmas.List.{get_or-set_same, get_or-set_other, length-set, set-append_left}
 use Rattle.language.specs.Tree.{Expression, var, RightSide, any, value}
 use Rattle.language.specs.Value.{Place, global, local, bit, with_bit, look_up, value_of, IsValue, AreValues, written_globals, written_locals}
-use Rattle.round_rewrite.specs.Table.{numbers, at, expression, written, targets, sides, draws, each}
+use Rattle.round_rewrite.specs.Table.{numbers, in_round, expression, written, targets, sides, draws, each}
 use Rattle.round_rewrite.specs.Places.{places, is_global}
 use Rattle.round_rewrite.specs.Scoped.{PlaceInScope, PlacesInScope, SideInScope, SidesInScope}
 use Rattle.round_rewrite.proofs.Laid.{row, with_row, row_bit, row_with, with_own, with_right, length-with_row, long-with_row, bit_right, bits_of, lay, Shape}
@@ -113,7 +113,8 @@ module _ (n last own : ℕ) (C S : List (List Bool)) (q : ℕ) (s b : Bool) (sha
   written_is : (d : Expression Place) (v : Bool) (i k : ℕ) → i < n → k ≤ last → value_of X (l ++ tmp) d ≡ v → (u : Bool) → IsValue X (l ++ tmp) (written (places n last own) last d (global i) k) u ≡ (u ≡ spread i v k)
   unfolding spread
   written_is d v i k hi hk ed u =
-      let e : value_of (lay C S (bits_of q s b)) (l ++ tmp) (at (places n last own) last k) ≡ same k q = at_is n last own C S q s b (l ++ tmp) shape small within k hk in
+      let e : value_of (lay C S (bits_of q s b)) (l ++ tmp) (in_round (places n last own) last k) ≡ same k q =
+      at_is n last own C S q s b (l ++ tmp) shape small within k hk in
       let c : bit (lay C S (bits_of q s b)) (k * n + i) ≡ bit (row C k) i = row_bit n C _ k i shape.copies (let z : length C ≡ suc last = shape.rounds in omega arith) hi in
       λ z. u ≡ ((e z && ed z) || (not (e z) && c z))
 

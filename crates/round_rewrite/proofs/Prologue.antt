@@ -1,11 +1,12 @@
 -- What the prologue, the test of stop, and frames that leave do, both ways.
-use Rattle.std.proofs.Common.{◌≡◌, ℕ, zero, suc, ◌+◌, ◌<◌, ◌≤◌, Bool, true, false, not, cond, List, [], ◌∷◌, refl, sym, ◌∙◌, ap, subst, ap₂, arith, inl, inr}
+use Rattle.std.proofs.Common.{◌≡◌, ℕ, zero, suc, ◌<◌, ◌≤◌, Bool, true, false, not, cond}
+use Rattle.std.proofs.Common.{List, [], ◌∷◌, refl, sym, ◌∙◌, ap, subst, ap₂, arith, inl, inr}
 use Rattle.std.proofs.lemmas.Bool.{cases_eq}
 use Rattle.language.specs.Tree.{const, var, negation, two, xor, RightSide, any, value, skip, assign, leave, done, one, choose}
 use Rattle.language.specs.Value.{Place, global, bit, with_bit, value_of, IsValue, AreValues, written_globals, written_locals}
 use Rattle.language.specs.Rest.{Code, join}
 use Rattle.language.specs.Step.{Frame, frame, State, state}
-use Rattle.round_rewrite.specs.Table.{plain, at, stop_test, rise, prologue}
+use Rattle.round_rewrite.specs.Table.{plain, in_round, stop_test, rise, prologue}
 use Rattle.round_rewrite.specs.Places.{places, high_at, low_at, stop_at}
 use Rattle.round_rewrite.proofs.Laid.{high, low, bits_of, lay, Shape, bits_bit, bits_with}
 use Rattle.round_rewrite.proofs.Translate.{same, same_refl, same_false, at_is}
@@ -81,7 +82,7 @@ module _ (w : World) (n last own : ℕ) (C S : List (List Bool)) (shape : Shape 
   pub prologue_rises : (q : ℕ) (b : Bool) (t : Code) → q < last → Leads w (on (now (suc q) false b) (prologue (places n last own) last plain t)) Q → Leads w (on (now q false b) (prologue (places n last own) last plain t)) Q
   prologue_rises q b t lt (m, h) =
       let X : List Bool = now q false b in
-      let free : true ≡ not (value_of X L (at (places n last own) last last)) =
+      let free : true ≡ not (value_of X L (in_round (places n last own) last last)) =
       sym (ap not (at_is n last own C S q false b L shape small (omega arith) last (omega arith) ∙ same_false last q (omega arith))) in (
         suc (suc (suc m)),
         (
@@ -175,7 +176,8 @@ module _ (w : World) (n last own : ℕ) (C S : List (List Bool)) (shape : Shape 
       (value (two xor (var (global (high_at n last))) (var (global (low_at n last)))))
       (value (negation (var (global (low_at n last))))) (global 0) (global 0) k1.0 k1.1 in
       let free : same last q ≡ false =
-      sym (at_is n last own C S q false b L shape small within last (omega arith)) ∙ not_true (value_of X L (at (places n last own) last last)) k.0 in
+      sym (at_is n last own C S q false b L shape small within last (omega arith)) ∙
+      not_true (value_of X L (in_round (places n last own) last last)) k.0 in
       let lt : q < last = elim (cases_eq q last) [
         | inl eq ↦ absurd (let bad : true ≡ false = sym (ap (same last) eq ∙ same_refl last) ∙ free in cc)
         | inr ne ↦ omega arith

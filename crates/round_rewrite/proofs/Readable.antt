@@ -10,7 +10,8 @@ use Rattle.syntax.specs.InGrammar.{IsId, AreIds, ExpressionInGrammar, SideInGram
 use Rattle.scopes.specs.Resolves.{Each}
 use Rattle.scopes.specs.Statements.{variables_of, variables_of_side, variables_of_sides, variables_of_all}
 use Rattle.scopes.proofs.Works.{each_left, each_right}
-use Rattle.round_rewrite.specs.Table.{numbers, plain, temporaries, at, expression, side, rounds, targets, sides, draws, drawing, stop_test, rise, prologue, statement, rewritten, guess, guesses, starts, check, checks, copied, globals}
+use Rattle.round_rewrite.specs.Table.{numbers, plain, temporaries, in_round, expression, side, rounds, targets, sides, draws, drawing}
+use Rattle.round_rewrite.specs.Table.{stop_test, rise, prologue, statement, rewritten, guess, guesses, starts, check, checks, copied, globals}
 use Rattle.round_rewrite.specs.Names.{named, copy_name, save_name, drawn_name, names, rewritten_procedure, main_procedure, rewritten_tree}
 use Rattle.round_rewrite.specs.Narrow.{IsNarrow}
 use Rattle.round_rewrite.specs.Places.{global_count}
@@ -107,7 +108,7 @@ module _ (own : List Name) (last d : ℕ) (small : last < most_rounds) (few : d 
   rise_in_grammar : BlockInGrammar (rise (names own) last)
   rise_in_grammar = (
     tt,
-    ids_used (at (names own) last last) (at_uses own last d IsId IsId held last),
+    ids_used (in_round (names own) last last) (at_uses own last d IsId IsId held last),
     (tt, assign_in_grammar (named (codes "rh__") ∷ named (codes "rl__") ∷ []) (value (two xor (var (named (codes "rh__"))) (var (named (codes "rl__")))) ∷ value (negation (var (named (codes "rl__")))) ∷ []) (omega arith) refl (high_id, (low_id, tt)) (high_id, (low_id, (low_id, tt))), tt),
   )
 

@@ -5,7 +5,8 @@ use Rattle.language.specs.Tree.{Name, Expression, const, var, negation, two, or,
 use Rattle.language.specs.Value.{Place, global, local}
 use Rattle.language.specs.Rest.{join}
 use Rattle.language.specs.Resolve.{number_of, is_declared, Scope, place_of, resolve_expression, resolve_side, resolve_simple, resolve_mark, resolve_block}
-use Rattle.round_rewrite.specs.Table.{Naming, numbers, plain, literal, at, joined, read, expression, side, written, rounds, targets, sides, draws, temporaries, drawing, stop_test, prologue, statement, rewritten}
+use Rattle.round_rewrite.specs.Table.{Naming, numbers, plain, literal, in_round, joined, read, expression, side, written}
+use Rattle.round_rewrite.specs.Table.{rounds, targets, sides, draws, temporaries, drawing, stop_test, prologue, statement, rewritten}
 use Rattle.round_rewrite.specs.Places.{places, is_global, copy_at, high_at, low_at, stop_at, bad_at}
 use Rattle.round_rewrite.specs.Names.{named, copy_name, drawn_name, names}
 use Rattle.scopes.specs.Rewritable.{AreFree, Declared, AllDeclared, ExpressionDeclared, ExpressionsDeclared, SideDeclared, SidesDeclared, SimpleDeclared, BlockDeclared}
@@ -74,7 +75,7 @@ module _ (t : Tree) (gs own ps : List Name) (d last : ℕ) (gs_free : AreFree gs
   copied_place : (x : Name) → Declared s x → is_declared x.text own ≡ false → (k : ℕ) → k ≤ last → place_of s' (copy_name k x) ≡ copy_at (length gs) k (place_of s x)
   copied_place x h hidden k le = copy_place gs own ps d last gs_free own_free few small ps' x k le hidden (h hidden)
 
-  pub at_resolved : (k : ℕ) → resolve_expression s' (at N last k) ≡ at P last k
+  pub at_resolved : (k : ℕ) → resolve_expression s' (in_round N last k) ≡ in_round P last k
   at_resolved k =
       λ i. two and ((literal_resolved s' (k / 2 % 2) (named (codes "rh__")) ∙ ap (literal (k / 2 % 2)) hi) i)
       ((literal_resolved s' (k % 2) (named (codes "rl__")) ∙ ap (literal (k % 2)) lo) i)

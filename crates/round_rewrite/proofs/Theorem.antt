@@ -1,5 +1,5 @@
 -- The rewriting theorem over places.
-use Rattle.std.proofs.Common.{◌≡◌, ℕ, suc, ◌+◌, ◌<◌, Bool, true, false, List, [], ◌∷◌, None, refl, sym, subst, inl, inr}
+use Rattle.std.proofs.Common.{◌≡◌, ℕ, suc, ◌<◌, Bool, true, false, List, [], ◌∷◌, None, refl, sym, subst, inl, inr}
 use Rattle.language.specs.Tree.{done, one, choose, loop}
 use Rattle.language.specs.Value.{bit}
 use Rattle.language.specs.Rest.{Code}
@@ -38,8 +38,22 @@ module _ (p : Program) (last : ℕ) (fits : FitsScopes p) (small : last < most_r
   to_pair : (n : ℕ) (u : State) → AfterSteps result n start (λ v. v ≡ u) → Bad p.globals last (bare_state u) →
       SomeBad result (bad_at p.globals last)
   to_pair n (state g []) run h = absurd h
-  to_pair n (state g (frame c l done ∷ [])) run h =
-      (zero_valuation, g, (l, (inl (refl, refl), (done, refl, (n, subst (λ k. AfterSteps result n start (λ v. v ≡ state g (frame k l done ∷ []))) h.0 run)))), h.1)
+  to_pair n (state g (frame c l done ∷ [])) run h = (
+    zero_valuation,
+    record { globals = g },
+    (
+      l,
+      (
+        inl (refl, refl),
+        (
+          done,
+          refl,
+          (n, subst (λ k. AfterSteps result n start (λ v. v ≡ state g (frame k l done ∷ []))) h.0 run),
+        ),
+      ),
+    ),
+    h.1,
+  )
   to_pair n (state g (frame c l done ∷ f ∷ fs)) run h = absurd h
   to_pair n (state g (frame c l (one m s t) ∷ fs)) run h = absurd h
   to_pair n (state g (frame c l (choose m r a b t) ∷ fs)) run h = absurd h
@@ -75,7 +89,7 @@ module _ (p : Program) (last : ℕ) (fits : FitsScopes p) (small : last < most_r
   from_entry a b l rest e (inr (c, asks)) run bad = absurd (never_asked last p c a asks)
 
   pub bad_unsafe : SomeBad result (bad_at p.globals last) → Unsafe p (suc last)
-  bad_unsafe (a, b, (l, (entered, (rest, e, run))), bad) = from_entry a b l rest e entered run bad
+  bad_unsafe (a, b, (l, (entered, (rest, e, run))), bad) = from_entry a b.globals l rest e entered run bad
 
 -- the theorem
 pub keeps : (p : Program) (last : ℕ) → FitsScopes p → last < most_rounds → Keeps last p

@@ -4,7 +4,7 @@ use Rattle.std.proofs.lemmas.Bool.{cases_eq}
 use Rattle.std.proofs.lemmas.List.{get_or_append_left}
 use Rattle.language.specs.Tree.{Expression, const, var, negation, two, RightSide, any, value}
 use Rattle.language.specs.Value.{Place, global, local, bit, operate, look_up, value_of, values_of, IsValue}
-use Rattle.round_rewrite.specs.Table.{literal, at, joined, expression, side}
+use Rattle.round_rewrite.specs.Table.{literal, in_round, joined, expression, side}
 use Rattle.round_rewrite.specs.Places.{places}
 use Rattle.round_rewrite.specs.Scoped.{InScope, AreInScope, SideInScope}
 use Rattle.round_rewrite.proofs.Laid.{row, row_bit, high, low, bits_of, lay, Shape, bits_bit}
@@ -64,7 +64,7 @@ module _ (n last own : ℕ) (C S : List (List Bool)) (q : ℕ) (s b : Bool) (L :
   globals_now = lay C S (bits_of q s b)
 
   -- `at` k is the test that the round is k
-  pub at_is : (k : ℕ) → k ≤ last → value_of globals_now L (at (places n last own) last k) ≡ same k q
+  pub at_is : (k : ℕ) → k ≤ last → value_of globals_now L (in_round (places n last own) last k) ≡ same k q
   at_is k h =
       ap₂ (λ x y. x && y) (literal_is globals_now L (k / 2 % 2) _) (literal_is globals_now L (k % 2) _)
       ∙ (ap₂ (λ x y. lit (k / 2 % 2) x && lit (k % 2) y) (bits_bit n last C S (bits_of q s b) 0 shape) (bits_bit n last C S (bits_of q s b) 1 shape)

@@ -6,7 +6,8 @@ use Rattle.language.specs.Resolve.{is_declared}
 use Rattle.scopes.specs.Resolves.{Each}
 use Rattle.scopes.specs.Statements.{variables_of, variables_of_side, variables_of_sides, variables_of_all}
 use Rattle.scopes.proofs.Works.{each_left, each_right}
-use Rattle.round_rewrite.specs.Table.{Naming, numbers, literal, at, joined, read, expression, side, written, rounds, targets, sides, draws}
+use Rattle.round_rewrite.specs.Table.{Naming, numbers, literal, in_round, joined, read}
+use Rattle.round_rewrite.specs.Table.{expression, side, written, rounds, targets, sides, draws}
 use Rattle.round_rewrite.specs.Names.{named, copy_name, drawn_name, names}
 use Rattle.round_rewrite.proofs.Resolved.{by_test}
 
@@ -82,18 +83,21 @@ module _ (own : List Name) (last d : ℕ) (D S : Name → Type 0) (held : Held o
   literal_uses zero w h = (h, tt)
   literal_uses (suc n) w h = (h, tt)
 
-  pub at_uses : (k : ℕ) → Each D (variables_of (at (names own) last k))
+  pub at_uses : (k : ℕ) → Each D (variables_of (in_round (names own) last k))
   at_uses k =
       each_both D (variables_of (literal (k / 2 % 2) (named (codes "rh__")))) (variables_of (literal (k % 2) (named (codes "rl__"))))
       (literal_uses (k / 2 % 2) (named (codes "rh__")) held.high) (literal_uses (k % 2) (named (codes "rl__")) held.low)
 
-  copy_uses : (x : Name) → S x → is_declared x.text own ≡ false → (k : ℕ) → k ≤ last → Each D (variables_of (at (names own) last k) ++ (copy_name k x ∷ []))
-  copy_uses x h hidden k le = each_both D (variables_of (at (names own) last k)) (copy_name k x ∷ []) (at_uses k) (held.copied x h hidden k le, tt)
+  copy_uses : (x : Name) → S x → is_declared x.text own ≡ false → (k : ℕ) → k ≤ last →
+      Each D (variables_of (in_round (names own) last k) ++ (copy_name k x ∷ []))
+  copy_uses x h hidden k le = each_both D (variables_of (in_round (names own) last k)) (copy_name k x ∷ []) (at_uses k)
+      (held.copied x h hidden k le, tt)
 
   joined_uses : (x : Name) → S x → is_declared x.text own ≡ false → (k : ℕ) → k ≤ last → Each D (variables_of (joined (names own) last k x))
   joined_uses x h hidden zero le = copy_uses x h hidden 0 le
   joined_uses x h hidden (suc k) le =
-      each_both D (variables_of (joined (names own) last k x)) (variables_of (at (names own) last (suc k)) ++ (copy_name (suc k) x ∷ []))
+      each_both D (variables_of (joined (names own) last k x))
+      (variables_of (in_round (names own) last (suc k)) ++ (copy_name (suc k) x ∷ []))
       (joined_uses x h hidden k (omega arith)) (copy_uses x h hidden (suc k) le)
 
   read_uses : (x : Name) → S x → Each D (variables_of (read (names own) last x))
@@ -121,8 +125,9 @@ module _ (own : List Name) (last d : ℕ) (D S : Name → Type 0) (held : Held o
 
   written_uses : (e : Expression Name) → Each D (variables_of e) → (x : Name) → S x → is_declared x.text own ≡ false → (k : ℕ) → k ≤ last → Each D (variables_of_side (written (names own) last e x k))
   written_uses e g x h hidden k le =
-      each_both D (variables_of (at (names own) last k) ++ variables_of e) (variables_of (at (names own) last k) ++ (copy_name k x ∷ []))
-      (each_both D (variables_of (at (names own) last k)) (variables_of e) (at_uses k) g) (copy_uses x h hidden k le)
+      each_both D (variables_of (in_round (names own) last k) ++ variables_of e)
+      (variables_of (in_round (names own) last k) ++ (copy_name k x ∷ []))
+      (each_both D (variables_of (in_round (names own) last k)) (variables_of e) (at_uses k) g) (copy_uses x h hidden k le)
 
   row_uses : (e : Expression Name) → Each D (variables_of e) → (x : Name) → S x → is_declared x.text own ≡ false → (j m : ℕ) → j + m ≤ suc last → Each D (variables_of_sides (map (written (names own) last e x) (numbers j m)))
   row_uses e g x h hidden j zero le = tt

@@ -15,7 +15,8 @@ use Rattle.scopes.proofs.Works.{each_left, each_right, in_either, named_declared
 use Rattle.scopes.proofs.Resolving.{labels_append, working_resolves}
 use Rattle.scopes.proofs.Rewriting.{checked_rewritable}
 use Rattle.round_rewrite.specs.Table as table
-use Rattle.round_rewrite.specs.Table.{numbers, temporaries, at, expression, side, targets, sides, draws, drawing, stop_test, prologue, statement, rewritten, guess, guesses, starts, check, checks, main, copied, globals}
+use Rattle.round_rewrite.specs.Table.{numbers, temporaries, in_round, expression, side, targets, sides, draws, drawing, stop_test}
+use Rattle.round_rewrite.specs.Table.{prologue, statement, rewritten, guess, guesses, starts, check, checks, main, copied, globals}
 use Rattle.round_rewrite.specs.Names as renamed
 use Rattle.round_rewrite.specs.Names.{copy_name, save_name, drawn_name, names, rewritten_procedure, main_procedure, rewritten_tree}
 use Rattle.round_rewrite.proofs.Spelling.{same_text_refl}

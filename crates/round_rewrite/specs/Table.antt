@@ -69,13 +69,13 @@ temporaries is_shared (loop m r a t) = max (temporaries is_shared a) (temporarie
 
 module _ {V W P Q : Type 0} (w : Naming V W P Q) (last : ℕ) where
   -- the round is k
-  abbrev pub at : ℕ → Expression W
-  at k = has_value k w.bits
+  abbrev pub in_round : ℕ → Expression W
+  in_round k = has_value k w.bits
 
   -- the copy of x for the round, where the round is at most k
   abbrev pub joined : ℕ → V → Expression W
-  joined zero x = two and (at 0) (var (w.copy 0 x))
-  joined (suc k) x = two or (joined k x) (two and (at (suc k)) (var (w.copy (suc k) x)))
+  joined zero x = two and (in_round 0) (var (w.copy 0 x))
+  joined (suc k) x = two or (joined k x) (two and (in_round (suc k)) (var (w.copy (suc k) x)))
 
   -- a read of a variable: of a global the copy for the round, of a local itself
   abbrev pub read : V → Expression W
@@ -95,7 +95,7 @@ module _ {V W P Q : Type 0} (w : Naming V W P Q) (last : ℕ) where
 
   -- what the copies of x get where x gets d: in the round d, in every other its own value
   abbrev pub written : Expression W → V → ℕ → RightSide W
-  written d x k = value (two or (two and (at k) d) (two and (negation (at k)) (var (w.copy k x))))
+  written d x k = value (two or (two and (in_round k) d) (two and (negation (in_round k)) (var (w.copy k x))))
 
   -- the rounds
   abbrev pub rounds : List ℕ
@@ -132,7 +132,7 @@ module _ {V W P Q : Type 0} (w : Naming V W P Q) (last : ℕ) where
     -- the body of the prologue's loop: on to the next round, where there is one
     abbrev pub rise : Block W Q L
     rise =
-        one plain (assume (value (negation (at last))))
+        one plain (assume (value (negation (in_round last))))
         (one plain (assign (reverse w.bits) (reverse (raised w.bits))) done)
 
     -- the prologue: rise by any number of rounds, stop or not, and leave where `stop` is 1

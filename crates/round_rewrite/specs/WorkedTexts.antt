@@ -1,7 +1,7 @@
 -- Three programs and what they are rewritten to, byte for byte: texts that were worked out by hand.
-use Rattle.std.specs.Prelude.{ℕ, Bool, false, true, List, [], ◌∷◌, ◌++◌, Option, Some, None, codes}
-use Rattle.language.specs.Tree.{Name, Expression, implies, xor, equal, const, var, negation, two, any, value, skip, assign}
-use Rattle.language.specs.Tree.{assert, assume, goto, leave, call, Mark, Block, done, one, choose, loop, Procedure, Tree}
+use Rattle.std.specs.Prelude.{ℕ, false, List, [], ◌∷◌, ◌++◌, Some, None, codes}
+use Rattle.language.specs.Tree.{Name, implies, xor, equal, const, var, negation, two, any, value, skip, assign}
+use Rattle.language.specs.Tree.{assert, assume, goto, leave, call, Mark, done, one, choose, loop, Tree}
 use Rattle.round_rewrite.specs.Names.{named}
 
 -- a text by its lines, each ended by a line feed

@@ -3,7 +3,7 @@
 ghost use Rattle.std.specs.Prelude.{◌≡◌, true, [], ◌∷◌, ◌++◌, IfOk, reverse, codes};
 ghost use Rattle.language.specs.Tree.{const, any, var, negation, two, xor, value, assign, assume};
 ghost use Rattle.syntax.specs.Trees.{simple, repeat, names_of, expr_of, rhs_of, rhss_of, deed_of};
-ghost use Rattle.round_rewrite.specs.Table.{at, rise, raised};
+ghost use Rattle.round_rewrite.specs.Table.{in_round, rise, raised};
 ghost use Rattle.round_rewrite.specs.Names.{named};
 ghost use Rattle.round_rewrite.specs.Writing.{stop_testing, stopping, failing};
 
@@ -145,7 +145,7 @@ impl<'a, N: Allocator, A: Allocator + Copy> Writer<'a, N, A> {
     /// That there is a next round.
     fn not_last(&self) -> Result<Core<A>, AllocError>
         ensures { IfOk result
-            (λ c. deed_of c ≡ simple (assume (value (negation (at (naming_of self.now) self.now.rounds.last self.now.rounds.last))))) }
+            (λ c. deed_of c ≡ simple (assume (value (negation (in_round (naming_of self.now) self.now.rounds.last self.now.rounds.last))))) }
     {
         let is_last = self.at(self.rounds.last)?;
         let other = not(self.alloc, is_last)?;

@@ -4,7 +4,7 @@ ghost use Rattle.std.specs.Prelude.{◌≡◌, ◌<◌, ◌^◌, IfOk, map};
 ghost use Rattle.language.specs.Resolve.{is_declared};
 ghost use Rattle.language.specs.Tree.{const, var, negation, two};
 ghost use Rattle.syntax.specs.Trees.{name_of, operator_of, expr_of, exprs_of, rhs_of};
-ghost use Rattle.round_rewrite.specs.Table.{literal, at, joined, read, expression, side, written};
+ghost use Rattle.round_rewrite.specs.Table.{literal, in_round, joined, read, expression, side, written};
 ghost use Rattle.round_rewrite.specs.Names.{named, copy_name, drawn_name};
 ghost use Rattle.round_rewrite.specs.Limits.{most_rounds};
 
@@ -89,7 +89,7 @@ impl<'a, N: Allocator, A: Allocator + Copy> Writer<'a, N, A> {
 
     /// That the round is `round`.
     pub fn at(&self, round: u8) -> Result<Expr<A>, AllocError>
-        ensures { IfOk result (λ e. expr_of e ≡ at (naming_of self.now) self.now.rounds.last round) }
+        ensures { IfOk result (λ e. expr_of e ≡ in_round (naming_of self.now) self.now.rounds.last round) }
     {
         let high = literal(self.alloc, round / 2 % 2, "rh__")?;
         let low = literal(self.alloc, round % 2, "rl__")?;
@@ -99,7 +99,7 @@ impl<'a, N: Allocator, A: Allocator + Copy> Writer<'a, N, A> {
     /// The copy of a global for the round, where the round is this one.
     fn active(&self, round: u8, x: &Name<N>) -> Result<Expr<A>, AllocError>
         requires { round < most_rounds }
-        ensures { IfOk result (λ e. expr_of e ≡ two Rattle.language.specs.Tree.and (at (naming_of self.now) self.now.rounds.last round) (var (copy_name round (name_of x.now)))) }
+        ensures { IfOk result (λ e. expr_of e ≡ two Rattle.language.specs.Tree.and (in_round (naming_of self.now) self.now.rounds.last round) (var (copy_name round (name_of x.now)))) }
     {
         let is_round = self.at(round)?;
         operation(
@@ -178,7 +178,7 @@ impl<'a, N: Allocator, A: Allocator + Copy> Writer<'a, N, A> {
         requires { round < most_rounds }
         ensures { IfOk result
             (λ e. expr_of e ≡ two Rattle.language.specs.Tree.and
-            (negation (at (naming_of self.now) self.now.rounds.last round)) (var (copy_name round (name_of x.now)))) }
+            (negation (in_round (naming_of self.now) self.now.rounds.last round)) (var (copy_name round (name_of x.now)))) }
     {
         let is_round = self.at(round)?;
         let other = not(self.alloc, is_round)?;

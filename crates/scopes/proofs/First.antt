@@ -6,7 +6,7 @@ use Rattle.scopes.specs.declared.fault.ScopeFault.{ScopeFault}
 use Rattle.scopes.specs.declared.fault.ScopeFault.TheVariants as fault
 use Rattle.scopes.specs.Find.{Finds}
 use Rattle.scopes.specs.Faults.{Undeclared, DeclaredTwice, WrongCount, BadThread, BadLabel, Reserved, TooMany}
-use Rattle.scopes.specs.Checked.{Stands, number, offset, ComesFirst}
+use Rattle.scopes.specs.Checked.{FaultStands, number, offset, ComesFirst}
 use Rattle.scopes.specs.First.{IsFirst, FindsFirst, sooner_of}
 
 -- the fault is of one kind, and stands where P does
@@ -92,7 +92,7 @@ Any t f =
     (((((Of fault.Undeclared (Undeclared t) f ⊎ Of fault.DeclaredTwice (DeclaredTwice t) f) ⊎ Of fault.WrongCount (WrongCount t) f) ⊎ Of fault.BadThread (BadThread t) f)
     ⊎ Of fault.BadLabel (BadLabel t) f) ⊎ Of fault.Reserved (Reserved t) f) ⊎ Of fault.TooMany (TooMany t) f
 
-some_kind : (t : Tree) (f : ScopeFault) → Stands t f → Any t f
+some_kind : (t : Tree) (f : ScopeFault) → FaultStands t f → Any t f
 some_kind t (fault.Undeclared n) h = inl (inl (inl (inl (inl (inl (n, refl, h))))))
 some_kind t (fault.DeclaredTwice n) h = inl (inl (inl (inl (inl (inr (n, refl, h))))))
 some_kind t (fault.WrongCount n) h = inl (inl (inl (inl (inr (n, refl, h)))))
@@ -102,10 +102,11 @@ some_kind t (fault.Reserved n) h = inl (inr (n, refl, h))
 some_kind t (fault.TooMany n) h = inr (n, refl, h)
 some_kind t fault.Memory h = absurd h
 
-stands : (t : Tree) (mk : ℕ → ScopeFault) (P : ℕ → Type 0) (f : ScopeFault) → ((n : ℕ) → P n → Stands t (mk n)) → Of mk P f → Stands t f
-stands t mk P f to w = subst (λ g. Stands t g) (sym w.1) (to w.0 w.2)
+stands : (t : Tree) (mk : ℕ → ScopeFault) (P : ℕ → Type 0) (f : ScopeFault) → ((n : ℕ) → P n → FaultStands t (mk n)) →
+    Of mk P f → FaultStands t f
+stands t mk P f to w = subst (λ g. FaultStands t g) (sym w.1) (to w.0 w.2)
 
-each_kind : (t : Tree) (f : ScopeFault) → Any t f → Stands t f
+each_kind : (t : Tree) (f : ScopeFault) → Any t f → FaultStands t f
 each_kind t f (inr w) = stands t fault.TooMany (TooMany t) f (λ n h. h) w
 each_kind t f (inl (inr w)) = stands t fault.Reserved (Reserved t) f (λ n h. h) w
 each_kind t f (inl (inl (inr w))) = stands t fault.BadLabel (BadLabel t) f (λ n h. h) w
@@ -118,7 +119,7 @@ same_first : {S T : ScopeFault → Type 0} (a : Option ScopeFault) → ((f : Sco
 same_first None to back p = λ f h. p f (back f h)
 same_first (Some f) to back p = (to f p.0, λ g h. p.1 g (back g h))
 
-pub first_of_all : (t : Tree) (k : ℕ) (a : Option ScopeFault) → FoundUpTo (Any t) k a → FindsFirst (Stands t) a
+pub first_of_all : (t : Tree) (k : ℕ) (a : Option ScopeFault) → FoundUpTo (Any t) k a → FindsFirst (FaultStands t) a
 first_of_all t k a h = record { first = same_first a (each_kind t) (some_kind t) h.first }
 
 pub takes_former : (f g : ScopeFault) → offset f ≤ offset g → Some f ≡ sooner_of (Some f) (Some g)

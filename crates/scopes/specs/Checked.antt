@@ -6,15 +6,15 @@ use Rattle.scopes.specs.declared.fault.ScopeFault.TheVariants as fault
 use Rattle.scopes.specs.Faults.{Undeclared, DeclaredTwice, WrongCount, BadThread, BadLabel, Reserved, TooMany}
 
 -- the fault stands in the tree at its place; want of memory is no fault of a tree
-abbrev pub Stands : Tree → ScopeFault → Type 0
-Stands t (fault.Undeclared n) = Undeclared t n
-Stands t (fault.DeclaredTwice n) = DeclaredTwice t n
-Stands t (fault.WrongCount n) = WrongCount t n
-Stands t (fault.BadThread n) = BadThread t n
-Stands t (fault.BadLabel n) = BadLabel t n
-Stands t (fault.Reserved n) = Reserved t n
-Stands t (fault.TooMany n) = TooMany t n
-Stands t fault.Memory = ⊥
+abbrev pub FaultStands : Tree → ScopeFault → Type 0
+FaultStands t (fault.Undeclared n) = Undeclared t n
+FaultStands t (fault.DeclaredTwice n) = DeclaredTwice t n
+FaultStands t (fault.WrongCount n) = WrongCount t n
+FaultStands t (fault.BadThread n) = BadThread t n
+FaultStands t (fault.BadLabel n) = BadLabel t n
+FaultStands t (fault.Reserved n) = Reserved t n
+FaultStands t (fault.TooMany n) = TooMany t n
+FaultStands t fault.Memory = ⊥
 
 -- the number of a fault
 abbrev pub number : ScopeFault → ℕ
@@ -44,8 +44,8 @@ ComesFirst f g = (offset f < offset g) ⊎ ((offset f ≡ offset g) × (number f
 
 -- the fault stands, and it comes before every other that does
 abbrev pub IsFirstFault : Tree → ScopeFault → Type 0
-IsFirstFault t f = Stands t f × ((g : ScopeFault) → Stands t g → ComesFirst f g)
+IsFirstFault t f = FaultStands t f × ((g : ScopeFault) → FaultStands t g → ComesFirst f g)
 
 -- no fault of scopes stands in the tree
 abbrev pub IsChecked : Tree → Type 0
-IsChecked t = (f : ScopeFault) → Stands t f → ⊥
+IsChecked t = (f : ScopeFault) → FaultStands t f → ⊥

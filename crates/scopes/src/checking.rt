@@ -2,7 +2,7 @@
 
 ghost use Rattle.std.specs.Prelude.{◌≡◌, ◌⊎◌, IfOk, IfErr};
 ghost use Rattle.syntax.specs.Trees.{tree_of};
-ghost use Rattle.scopes.specs.Checked.{IsChecked, IsFirstFault, Stands};
+ghost use Rattle.scopes.specs.Checked.{IsChecked, IsFirstFault, FaultStands};
 ghost use Rattle.scopes.specs.declared.fault.ScopeFault.TheVariants.{Memory};
 ghost use Rattle.scopes.specs.First.{FindsFirst};
 ghost use Rattle.scopes.specs.Programs.{checked_program};
@@ -25,7 +25,7 @@ pub fn first_fault<A: Allocator + Copy>(
     alloc: &A,
     program: &Program<A>,
 ) -> Result<Option<ScopeFault>, AllocError>
-    ensures { IfOk result (λ r. FindsFirst (Stands (tree_of program.now)) r) }
+    ensures { IfOk result (λ r. FindsFirst (FaultStands (tree_of program.now)) r) }
 {
     let undeclared = first_undeclared(alloc, program)?.map(ScopeFault::Undeclared);
     let twice = first_twice(alloc, program)?.map(ScopeFault::DeclaredTwice);

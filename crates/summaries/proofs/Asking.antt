@@ -1,11 +1,12 @@
 -- The step of a table at an edge that calls.
-use Rattle.std.proofs.Common.{◌≡◌, ℕ, Some, List, [], ◌∷◌, ◌++◌, ◌⊎◌, false, inl, inr, refl, sym, ap, subst, slice_get}
+use Rattle.std.proofs.Common.{◌≡◌, ℕ, Some, List, [], ◌∷◌, ◌++◌, ◌⊎◌, false, inl, inr, refl, sym, ap, ◌∙◌, subst, slice_get}
 use Rattle.std.specs.Prelude.{Vec}
+use Rattle.std.proofs.lemmas.Option.{same_Some}
 use Rattle.language.specs.Flow.{Member}
 use Rattle.path_sets.specs.Triples.{Triple, triple}
 use Rattle.flow_graph.specs.Flows.{entered_by}
 use Rattle.flow_graph.specs.Returns.{resumed}
-use Rattle.flow_graph.specs.Numbers.{NumberedMessage, Reaches, returns, Sends, asks}
+use Rattle.flow_graph.specs.Numbers.{NumberedMessage, GraphReaches, returns, Sends, asks}
 use Rattle.flow_graph.specs.declared.flow.Flow.{Flow}
 use Rattle.flow_graph.specs.declared.graph.Graph.{Graph}
 use Rattle.flow_graph.proofs.Holding.{reaches_more}
@@ -21,7 +22,7 @@ use Rattle.summaries.specs.Under.{under}
 use Rattle.summaries.specs.Mails.{mail}
 use Rattle.summaries.specs.Dues.{due_of}
 use Rattle.summaries.specs.Found.{call, call_eq, site, TookMessage, HasSite, IsGrounded}
-use Rattle.summaries.specs.Grows.{Grows, Gives, Each, IsBehind, triple_of}
+use Rattle.summaries.specs.Grows.{EntersAt, Grows, Gives, Each, IsBehind, triple_of}
 use Rattle.summaries.proofs.Adding.{same_call, added_or, added_keeps}
 use Rattle.summaries.proofs.Dues.{due_told}
 use Rattle.summaries.proofs.Stepping.{Step, taken_as}
@@ -39,21 +40,27 @@ module _ {A G : Type 0} (graph : Graph G) (q : ℕ) (f : Found A) (given : Given
   module _ (es ds : List Triple) (e : Edge) (s x back : ℕ) (flow : Flow G) (sound : IsGrounded graph q f es)
       (there : Member (triple_of e) es)
       (here : slice_get graph.flows.items e.point ≡ Some flow) (enters : entered_by flow e.values ≡ Some (s, x, back)) where
-    reached : Reaches graph (TookMessage asked_to) e.entry e.point e.values
+    reached : GraphReaches graph (TookMessage asked_to) e.entry e.point e.values
     reached = reaches_more graph (TookMessage f) (TookMessage asked_to) taken_there e.entry e.point e.values
         (sound.edge e.entry e.point e.values there)
 
     -- what is behind the call is reached
     pub behind_reached : (t : Triple) →
-        Each (IsBehind graph (site e.entry back e.values)) (under call_eq f.summaries.by_key (call s x)) t →
-        Reaches graph (TookMessage asked_to) t.entry t.point t.values
-    behind_reached t w =
-        subst (λ u. Reaches graph (TookMessage asked_to) u.entry u.point u.values) (sym w.2)
-        (returns e.entry e.point e.values s x back w.0 flow reached here enters w.1)
+        Each (IsBehind graph (site e.entry e.point e.values)) (under call_eq f.summaries.by_key (call s x)) t →
+        GraphReaches graph (TookMessage asked_to) t.entry t.point t.values
+    behind_reached t (b, m, (s', x', n', (fl, at, en), is)) =
+        let call : (s', x', n') ≡ (s, x, back) =
+        same_Some (s', x', n') (s, x, back)
+        (sym en ∙ ap (λ w. entered_by w e.values) (same_Some fl flow (sym at ∙ here)) ∙ enters) in
+        subst (λ u. GraphReaches graph (TookMessage asked_to) u.entry u.point u.values)
+        (sym (is ∙ ap (λ (c : ℕ × ℕ × ℕ). triple e.entry c.2 (resumed graph.globals e.values b)) call))
+        (returns e.entry e.point e.values s x back b flow reached here enters m)
 
     -- so, where nothing but that is added, all edges are
-    pub ask_only : ((t : Triple) → Member t ds → Each (IsBehind graph (site e.entry back e.values)) (under call_eq f.summaries.by_key (call s x)) t ⊎ Member t es) →
-        (t : Triple) → Member t ds → Reaches graph (TookMessage asked_to) t.entry t.point t.values
+    pub ask_only : ((t : Triple) → Member t ds →
+        Each (IsBehind graph (site e.entry e.point e.values)) (under call_eq f.summaries.by_key (call s x)) t ⊎
+        Member t es) →
+        (t : Triple) → Member t ds → GraphReaches graph (TookMessage asked_to) t.entry t.point t.values
     ask_only only t m = elim (only t m) [
       | inl w ↦ behind_reached t w
       | inr was ↦ reaches_more graph (TookMessage f) (TookMessage asked_to) taken_there t.entry t.point t.values
@@ -61,21 +68,24 @@ module _ {A G : Type 0} (graph : Graph G) (q : ℕ) (f : Found A) (given : Given
     ]
 
     module _ (gave : Gives (λ m. m ≡ mail s (Entry (Proc q) x)) f.given.mails.keys given.mails.keys)
-        (added : under call_eq sites.by_key (call s x) ≡ under call_eq f.sites.by_key (call s x) ++ site e.entry back e.values ∷ [])
+        (added : under call_eq sites.by_key (call s x) ≡ under call_eq f.sites.by_key (call s x) ++ site e.entry e.point e.values ∷ [])
         (others : (k : Call) → call_eq (call s x) k ≡ false → under call_eq sites.by_key k ≡ under call_eq f.sites.by_key k)
-        (grown : Grows (Each (IsBehind graph (site e.entry back e.values)) (under call_eq f.summaries.by_key (call s x))) es ds f.pending.items pending.items) where
+        (grown : Grows (Each (IsBehind graph (site e.entry e.point e.values))
+        (under call_eq f.summaries.by_key (call s x))) es ds f.pending.items pending.items) where
       abbrev M : NumberedMessage → Type 0
       M = TookMessage asked_to
 
-      site_or : (k : Call) (y : Site) → Member y (under call_eq sites.by_key k) → Member y (under call_eq f.sites.by_key k) ⊎ ((call s x ≡ k) × (site e.entry back e.values ≡ y))
-      site_or = added_or call_eq same_call (under call_eq f.sites.by_key) (under call_eq sites.by_key) (call s x) (site e.entry back e.values) added others
+      site_or : (k : Call) (y : Site) → Member y (under call_eq sites.by_key k) →
+          Member y (under call_eq f.sites.by_key k) ⊎ ((call s x ≡ k) × (site e.entry e.point e.values ≡ y))
+      site_or = added_or call_eq same_call (under call_eq f.sites.by_key) (under call_eq sites.by_key) (call s x)
+          (site e.entry e.point e.values) added others
 
       -- what is reached at the call of a site
       abbrev AtCall : Call → Site → Type 0
-      AtCall k y = (n : ℕ) × (fl : Flow G) × Reaches graph M y.asked n y.values × (slice_get graph.flows.items n ≡ Some fl) × (entered_by fl y.values ≡ Some (k.callee, k.entered, y.next))
+      AtCall k y = GraphReaches graph M y.asked y.point y.values × ((n : ℕ) × EntersAt graph y.point y.values k.callee k.entered n)
 
-      at_call : AtCall (call s x) (site e.entry back e.values)
-      at_call = (e.point, flow, reached, here, enters)
+      at_call : AtCall (call s x) (site e.entry e.point e.values)
+      at_call = (reached, (back, (flow, here, enters)))
 
       pub ask_step : Step graph q f asked_to es ds
       ask_step = record {
@@ -88,10 +98,12 @@ module _ {A G : Type 0} (graph : Graph G) (q : ℕ) (f : Found A) (given : Given
         new = grown.pending;
         stays = grown.stays;
         pending = grown.edges;
-        sites = λ s' x' a n v m. added_keeps call_eq same_call (under call_eq f.sites.by_key) (under call_eq sites.by_key) (call s x) (site e.entry back e.values) added others (call s' x') (site a n v) m;
+        sites = λ s' x' a n v m. added_keeps call_eq same_call (under call_eq f.sites.by_key)
+            (under call_eq sites.by_key) (call s x) (site e.entry e.point e.values) added others (call s' x') (site a n v)
+            m;
         called = λ s' x' a n v m. elim (site_or (call s' x') (site a n v) m) [
           | inl was ↦ inl was
-          | inr is ↦ inr (subst (AtCall (call s' x')) is.1 (subst (λ k. AtCall k (site e.entry back e.values)) is.0 at_call))
+          | inr is ↦ inr (subst (AtCall (call s' x')) is.1 (subst (λ k. AtCall k (site e.entry e.point e.values)) is.0 at_call))
         ];
         exits = λ a b m. m;
         exit = λ a b m. inl m;
@@ -102,12 +114,12 @@ module _ {A G : Type 0} (graph : Graph G) (q : ℕ) (f : Found A) (given : Given
           | inr was ↦ inl was
         ];
         begun = λ from a h. inl h;
-        ended = λ s' x' b a n v at taken. elim (site_or (call s' x') (site a n v) at) [
+        ended = λ s' x' b a n v n' at enters' taken. elim (site_or (call s' x') (site a n v) at) [
           | inl was ↦ inl (was, taken)
-          | inr is ↦ inr (grown.all (triple a n (resumed graph.globals v b)) (
+          | inr is ↦ inr (grown.all (triple a n' (resumed graph.globals v b)) (
             b,
             subst (λ k. Member b (under call_eq f.summaries.by_key k)) (sym is.0) taken,
-            ap (λ y. triple y.asked y.next (resumed graph.globals y.values b)) (sym is.1),
+            subst (λ (y : Site). IsBehind graph y b (triple a n' (resumed graph.globals v b))) (sym is.1) (s', x', n', enters', refl),
           ))
         ];
         asks = λ s' x' a n v m. elim (site_or (call s' x') (site a n v) m) [
@@ -118,9 +130,9 @@ module _ {A G : Type 0} (graph : Graph G) (q : ℕ) (f : Found A) (given : Given
         pairs = λ old. old;
       }
 
-      pub asked_site : HasSite asked_to s x (site e.entry back e.values)
-      asked_site = subst (Member (site e.entry back e.values)) (sym added) (last (under call_eq f.sites.by_key (call s x)))
+      pub asked_site : HasSite asked_to s x (site e.entry e.point e.values)
+      asked_site = subst (Member (site e.entry e.point e.values)) (sym added) (last (under call_eq f.sites.by_key (call s x)))
         where
-          last : (ys : List Site) → Member (site e.entry back e.values) (ys ++ site e.entry back e.values ∷ [])
+          last : (ys : List Site) → Member (site e.entry e.point e.values) (ys ++ site e.entry e.point e.values ∷ [])
           last [] = inl refl
           last (y ∷ ys) = inr (last ys)

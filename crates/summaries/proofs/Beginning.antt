@@ -4,7 +4,7 @@ use Rattle.std.specs.Prelude.{Vec}
 use Rattle.std.proofs.lemmas.Map.Views.{exact_unsigned_eq}
 use Rattle.language.specs.Flow.{Member}
 use Rattle.path_sets.specs.Triples.{Triple, triple}
-use Rattle.flow_graph.specs.Numbers.{NumberedMessage, numbered_entry, numbered_summary, Reaches, starts, Sends, tells}
+use Rattle.flow_graph.specs.Numbers.{NumberedMessage, numbered_entry, numbered_summary, GraphReaches, starts, Sends, tells}
 use Rattle.flow_graph.specs.declared.graph.Graph.{Graph}
 use Rattle.flow_graph.proofs.Holding.{reaches_more}
 use Rattle.summaries.specs.declared.due.Caller as rust
@@ -65,11 +65,12 @@ module _ {A G : Type 0} (graph : Graph G) (q : ℕ) (f : Found A) (entries : Gro
 
   module _ (es ds : List Triple) (sound : IsGrounded graph q f es) where
     -- the start is reached
-    pub start_reached : (t : Triple) → t ≡ triple a graph.start a → Reaches graph M t.entry t.point t.values
-    start_reached t is = subst (λ u. Reaches graph M u.entry u.point u.values) (sym is) (starts (who from) a entered)
+    pub start_reached : (t : Triple) → t ≡ triple a graph.start a → GraphReaches graph M t.entry t.point t.values
+    start_reached t is = subst (λ u. GraphReaches graph M u.entry u.point u.values) (sym is) (starts (who from) a entered)
 
     -- so, where nothing but that is added, all edges are
-    pub begin_only : ((t : Triple) → Member t ds → (t ≡ triple a graph.start a) ⊎ Member t es) → (t : Triple) → Member t ds → Reaches graph M t.entry t.point t.values
+    pub begin_only : ((t : Triple) → Member t ds → (t ≡ triple a graph.start a) ⊎ Member t es) → (t : Triple) →
+        Member t ds → GraphReaches graph M t.entry t.point t.values
     begin_only only t m = elim (only t m) [
       | inl is ↦ start_reached t is
       | inr was ↦ reaches_more graph (TookMessage f) M taken_begun t.entry t.point t.values (sound.edge t.entry t.point t.values was)
@@ -105,7 +106,7 @@ module _ {A G : Type 0} (graph : Graph G) (q : ℕ) (f : Found A) (entries : Gro
         | inl was ↦ inl was
         | inr is ↦ inr (grown.all (triple x graph.start x) (ap (λ y. triple y graph.start y) (sym is.0)))
       ];
-      ended = λ s x y c n v at taken. inl (at, taken);
+      ended = λ s x y c n v back at enters taken. inl (at, taken);
       asks = λ s x c n v m. inl m;
       tells = λ x y c m h. elim (entry_or x (Proc c) h) [
         | inl was ↦ inl (m, was)

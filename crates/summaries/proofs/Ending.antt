@@ -1,10 +1,12 @@
 -- The step of a table that takes a summary.
-use Rattle.std.proofs.Common.{◌≡◌, ◌⊎◌, ℕ, List, [], ◌∷◌, ◌++◌, false, inl, inr, sym, ap, subst}
+use Rattle.std.proofs.Common.{◌≡◌, ◌⊎◌, ℕ, List, [], ◌∷◌, ◌++◌, false, inl, inr, sym, ap, ◌∙◌, subst}
 use Rattle.std.specs.Prelude.{Vec}
+use Rattle.std.proofs.lemmas.Option.{same_Some}
 use Rattle.language.specs.Flow.{Member}
 use Rattle.path_sets.specs.Triples.{Triple, triple}
+use Rattle.flow_graph.specs.Flows.{entered_by}
 use Rattle.flow_graph.specs.Returns.{resumed}
-use Rattle.flow_graph.specs.Numbers.{NumberedMessage, numbered_entry, numbered_summary, Reaches, returns}
+use Rattle.flow_graph.specs.Numbers.{NumberedMessage, numbered_entry, numbered_summary, GraphReaches, returns}
 use Rattle.flow_graph.specs.declared.graph.Graph.{Graph}
 use Rattle.flow_graph.proofs.Holding.{reaches_more}
 use Rattle.summaries.specs.declared.due.Due.TheVariants.{Summary}
@@ -58,15 +60,22 @@ module _ {A G : Type 0} (graph : Graph G) (q : ℕ) (f : Found A) (summaries : G
 
   module _ (es ds : List Triple) (sound : IsGrounded graph q f es) where
     -- what is behind a call is reached
-    pub ended_reached : (t : Triple) → Each (λ y. IsBehind graph y b) (under call_eq f.sites.by_key k) t → Reaches graph M t.entry t.point t.values
-    ended_reached t (y, m, is) =
-        let (n, flow, reached, here, enters) = sound.site k.callee k.entered y.asked y.next y.values m in
-        subst (λ u. Reaches graph M u.entry u.point u.values) (sym is)
-        (returns y.asked n y.values k.callee k.entered y.next b flow
-        (reaches_more graph (TookMessage f) M taken_ended y.asked n y.values reached) here enters left_so)
+    pub ended_reached : (t : Triple) → Each (λ y. IsBehind graph y b) (under call_eq f.sites.by_key k) t →
+        GraphReaches graph M t.entry t.point t.values
+    ended_reached t (y, m, (s, x, n, (fl, at, en), is)) =
+        let (reached, (back, (flow, here, enters))) = sound.site k.callee k.entered y.asked y.point y.values m in
+        let call : (s, x, n) ≡ (k.callee, k.entered, back) =
+        same_Some (s, x, n) (k.callee, k.entered, back)
+        (sym en ∙ ap (λ w. entered_by w y.values) (same_Some fl flow (sym at ∙ here)) ∙ enters) in
+        subst (λ u. GraphReaches graph M u.entry u.point u.values)
+        (sym (is ∙ ap (λ (c : ℕ × ℕ × ℕ). triple y.asked c.2 (resumed graph.globals y.values b)) call))
+        (returns y.asked y.point y.values k.callee k.entered back b flow
+        (reaches_more graph (TookMessage f) M taken_ended y.asked y.point y.values reached) here enters left_so)
 
     -- so, where nothing but that is added, all edges are
-    pub end_only : ((t : Triple) → Member t ds → Each (λ y. IsBehind graph y b) (under call_eq f.sites.by_key k) t ⊎ Member t es) → (t : Triple) → Member t ds → Reaches graph M t.entry t.point t.values
+    pub end_only : ((t : Triple) → Member t ds →
+        Each (λ y. IsBehind graph y b) (under call_eq f.sites.by_key k) t ⊎ Member t es) → (t : Triple) → Member t ds →
+        GraphReaches graph M t.entry t.point t.values
     end_only only t m = elim (only t m) [
       | inl w ↦ ended_reached t w
       | inr was ↦ reaches_more graph (TookMessage f) M taken_ended t.entry t.point t.values (sound.edge t.entry t.point t.values was)
@@ -87,12 +96,12 @@ module _ {A G : Type 0} (graph : Graph G) (q : ℕ) (f : Found A) (summaries : G
       gives = λ s m h. h;
       given = λ s m h. inl h;
       begun = λ c x h. inl h;
-      ended = λ s x y c n v at taken. elim (summary_or (call s x) y taken) [
+      ended = λ s x y c n v back at enters taken. elim (summary_or (call s x) y taken) [
         | inl was ↦ inl (at, was)
-        | inr is ↦ inr (grown.all (triple c n (resumed graph.globals v y)) (
+        | inr is ↦ inr (grown.all (triple c back (resumed graph.globals v y)) (
           site c n v,
           subst (λ j. Member (site c n v) (under call_eq f.sites.by_key j)) (sym is.0) at,
-          ap (λ z. triple c n (resumed graph.globals v z)) (sym is.1),
+          (s, x, back, enters, ap (λ z. triple c back (resumed graph.globals v z)) (sym is.1)),
         ))
       ];
       asks = λ s x c n v m. inl m;

@@ -3,7 +3,7 @@ use Rattle.std.proofs.Common.{◌≡◌, ◌⊎◌, ℕ, Some, List, inl, inr, r
 use Rattle.std.specs.Prelude.{Vec}
 use Rattle.language.specs.Flow.{Member}
 use Rattle.path_sets.specs.Triples.{Triple}
-use Rattle.flow_graph.specs.Numbers.{NumberedMessage, Reaches, flows}
+use Rattle.flow_graph.specs.Numbers.{NumberedMessage, GraphReaches, flows}
 use Rattle.flow_graph.specs.declared.flow.Flow.{Flow}
 use Rattle.flow_graph.specs.declared.graph.Graph.{Graph}
 use Rattle.flow_graph.proofs.Holding.{reaches_more}
@@ -25,16 +25,16 @@ module _ {A G : Type 0} (graph : Graph G) (q : ℕ) (f : Found A) (pending : Vec
   module _ (es ds : List Triple) (e : Edge) (flow : Flow G) (sound : IsGrounded graph q f es) (there : Member (triple_of e) es)
       (here : slice_get graph.flows.items e.point ≡ Some flow) where
     -- where a choice leads is reached
-    pub next_reached : (t : Triple) → IsNext flow e t → Reaches graph (TookMessage led_to) t.entry t.point t.values
+    pub next_reached : (t : Triple) → IsNext flow e t → GraphReaches graph (TookMessage led_to) t.entry t.point t.values
     next_reached t (i, most, (n, v, next, is)) =
-        subst (λ u. Reaches graph (TookMessage led_to) u.entry u.point u.values) (sym is)
+        subst (λ u. GraphReaches graph (TookMessage led_to) u.entry u.point u.values) (sym is)
         (flows e.entry e.point e.values n v i flow
         (reaches_more graph (TookMessage f) (TookMessage led_to) taken_led e.entry e.point e.values
         (sound.edge e.entry e.point e.values there)) here most next)
 
     -- so, where nothing but that is added, all edges are
     pub lead_only : ((t : Triple) → Member t ds → IsNext flow e t ⊎ Member t es) → (t : Triple) → Member t ds →
-        Reaches graph (TookMessage led_to) t.entry t.point t.values
+        GraphReaches graph (TookMessage led_to) t.entry t.point t.values
     lead_only only t m = elim (only t m) [
       | inl w ↦ next_reached t w
       | inr was ↦ reaches_more graph (TookMessage f) (TookMessage led_to) taken_led t.entry t.point t.values
@@ -56,7 +56,7 @@ module _ {A G : Type 0} (graph : Graph G) (q : ℕ) (f : Found A) (pending : Vec
       gives = λ s k m. m;
       given = λ s k m. inl m;
       begun = λ from a h. inl h;
-      ended = λ s x b a n v at taken. inl (at, taken);
+      ended = λ s x b a n v back at enters taken. inl (at, taken);
       asks = λ s x a n v m. inl m;
       tells = λ a b c m h. inl (m, h);
       pairs = λ old. old;

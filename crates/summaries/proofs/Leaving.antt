@@ -5,7 +5,7 @@ use Rattle.language.specs.Flow.{Member}
 use Rattle.language.proofs.Members.{member_left, member_right, member_append}
 use Rattle.path_sets.specs.Triples.{Triple, triple}
 use Rattle.flow_graph.specs.Returns.{left}
-use Rattle.flow_graph.specs.Numbers.{NumberedMessage, numbered_summary, Reaches, Sends, tells, Leaves}
+use Rattle.flow_graph.specs.Numbers.{NumberedMessage, numbered_summary, GraphReaches, Sends, tells, Leaves}
 use Rattle.flow_graph.specs.declared.graph.Graph.{Graph}
 use Rattle.flow_graph.proofs.Holding.{reaches_more}
 use Rattle.summaries.specs.declared.due.Caller.TheVariants.{Proc}
@@ -40,7 +40,7 @@ module _ {A G : Type 0} (graph : Graph G) (q : ℕ) (f g : Found A) where
     abbrev M : NumberedMessage → Type 0
     M = TookMessage left_to
 
-    reached : Reaches graph M a 0 v
+    reached : GraphReaches graph M a 0 v
     reached = reaches_more graph (TookMessage f) M taken_left a 0 v (sound.edge a 0 v there)
 
     exit_or : (x y : ℕ) → Member y (under nat_eq g.exits.by_key x) → Member y (under nat_eq f.exits.by_key x) ⊎ ((a ≡ x) × (b ≡ y))
@@ -77,7 +77,7 @@ module _ {A G : Type 0} (graph : Graph G) (q : ℕ) (f g : Found A) where
       gives = λ s k m. gives_kept (Each (IsTold q a b) (under nat_eq f.entries.by_key a)) f.given.mails.keys g.given.mails.keys gave (mail s (due_of k)) m;
       given = λ s k m. elim (gave.only (mail s (due_of k)) m) [ inl w ↦ inr (told s k w) | inr was ↦ inl was ];
       begun = λ from x h. inl h;
-      ended = λ s x y c n w at taken. inl (at, taken);
+      ended = λ s x y c n w back at enters taken. inl (at, taken);
       asks = λ s x c n w m. inl m;
       tells = λ x y c m h. elim (exit_or x y m) [
         | inl was ↦ inl (was, h)

@@ -3,7 +3,7 @@ use Rattle.std.proofs.Common.{◌≡◌, ℕ, List, [], inl, inr, subst, sym, re
 use Rattle.language.specs.Flow.{Member}
 use Rattle.path_sets.specs.Triples.{Triple, triple}
 use Rattle.flow_graph.specs.Returns.{left}
-use Rattle.flow_graph.specs.Numbers.{NumberedMessage, Reaches, starts, flows, returns, Sends, asks, tells, Leaves}
+use Rattle.flow_graph.specs.Numbers.{NumberedMessage, GraphReaches, starts, flows, returns, Sends, asks, tells, Leaves}
 use Rattle.flow_graph.specs.declared.graph.Graph.{Graph}
 use Rattle.summaries.specs.declared.found.Found.{Found}
 use Rattle.summaries.specs.Found.{edge, TookMessage, HasExit, HasGiven, IsGrounded, IsWorked, IsComplete, IsExact}
@@ -22,18 +22,18 @@ module _ {A G : Type 0} (graph : Graph G) (q : ℕ) (f : Found A) (edges : List 
       ]
 
   -- what is reached is an edge
-  pub is_edge : (a n v : ℕ) → Reaches graph (TookMessage f) a n v → Member (triple a n v) edges
+  pub is_edge : (a n v : ℕ) → GraphReaches graph (TookMessage f) a n v → Member (triple a n v) edges
   unfolding is_worked
   is_edge a _ _ (starts from _ taken) = complete.begun from a taken
   is_edge a _ _ (flows _ n v n' v' i flow r here within leads) = (is_worked a n v (is_edge a n v r)).flows flow i n' v' here within leads
   is_edge a _ _ (returns _ n v s e n' b flow r here calls taken) =
-      complete.ended s e b a n' v ((is_worked a n v (is_edge a n v r)).calls flow s e n' here calls) taken
+      complete.ended s e b a n v n' ((is_worked a n v (is_edge a n v r)).calls flow s e n' here calls) (flow, here, calls) taken
 
   -- what is sent is given
   pub is_given : (s : ℕ) (k : NumberedMessage) → Sends graph q (TookMessage f) s k → HasGiven f s k
   unfolding is_worked
   is_given _ _ (asks a n v s e n' flow r here calls) =
-      complete.asks s e a n' v ((is_worked a n v (is_edge a n v r)).calls flow s e n' here calls)
+      complete.asks s e a n v ((is_worked a n v (is_edge a n v r)).calls flow s e n' here calls)
   is_given _ _ (tells a v c taken r) =
       complete.tells a (left graph.globals v) c ((is_worked a 0 v (is_edge a 0 v r)).leaves refl) taken
 

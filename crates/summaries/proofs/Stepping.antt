@@ -1,15 +1,14 @@
 -- What a table holds while it takes a step: nothing more than is reached and sent, and nothing left out.
-use Rattle.std.proofs.Common.{◌≡◌, ◌≤◌, ◌⊎◌, ◌↔◌, ℕ, Some, List, [], ◌∷◌, ◌++◌, length, inl, inr, refl, sym, ap, subst, slice_get, nat_eq, arith, Result, Ok, Err}
+use Rattle.std.proofs.Common.{◌≡◌, ◌≤◌, ◌⊎◌, ◌↔◌, ℕ, List, [], ◌∷◌, ◌++◌, length}
+use Rattle.std.proofs.Common.{inl, inr, refl, sym, ap, subst, nat_eq, arith, Result, Ok, Err}
 use Rattle.std.specs.Result.{OnOk}
 use Rattle.std.specs.Prelude.{Vec}
 use Rattle.language.specs.Sequential.{Caller, caller}
 use Rattle.language.specs.Flow.{Member}
 use Rattle.language.proofs.Members.{member_left, member_right, member_append}
 use Rattle.path_sets.specs.Triples.{Triple, triple, NoneTwice}
-use Rattle.flow_graph.specs.Flows.{entered_by}
 use Rattle.flow_graph.specs.Returns.{left, resumed}
-use Rattle.flow_graph.specs.Numbers.{NumberedMessage, numbered_entry, numbered_summary, Reaches, Sends, Leaves}
-use Rattle.flow_graph.specs.declared.flow.Flow.{Flow}
+use Rattle.flow_graph.specs.Numbers.{NumberedMessage, numbered_entry, numbered_summary, GraphReaches, Sends, Leaves}
 use Rattle.flow_graph.specs.declared.graph.Graph.{Graph}
 use Rattle.flow_graph.proofs.Holding.{reaches_more, sends_more}
 use Rattle.summaries.specs.declared.edge.Call.{Call}
@@ -21,7 +20,7 @@ use Rattle.summaries.specs.Mails.{mail}
 use Rattle.summaries.specs.Dues.{caller_of, due_of}
 use Rattle.summaries.specs.Found.{call, call_eq, edge, site, pair, TookMessage, HasSite}
 use Rattle.summaries.specs.Found.{HasExit, HasGiven, IsPending, IsGrounded, IsWorked, IsComplete, IsEmpty}
-use Rattle.summaries.specs.Grows.{triple_of}
+use Rattle.summaries.specs.Grows.{EntersAt, triple_of}
 use Rattle.summaries.specs.Tables.{HasMore}
 
 -- A step of the table of procedure q from f, with the edges es, to g, with the edges ds: what comes to be held is reached
@@ -29,21 +28,21 @@ use Rattle.summaries.specs.Tables.{HasMore}
 pub record Step {A G : Type 0} (graph : Graph G) (q : ℕ) (f g : Found A) (es ds : List Triple) : Type 0 where
   pub taken : (k : NumberedMessage) → TookMessage f k → TookMessage g k
   pub kept : (t : Triple) → Member t es → Member t ds
-  pub edge : (t : Triple) → Member t ds → Member t es ⊎ Reaches graph (TookMessage g) t.entry t.point t.values
+  pub edge : (t : Triple) → Member t ds → Member t es ⊎ GraphReaches graph (TookMessage g) t.entry t.point t.values
   pub new : (t : Triple) → Member t ds → Member t es ⊎ IsPending g t.entry t.point t.values
   pub stays : (e : Edge) → Member e f.pending.items → Member e g.pending.items
   pub pending : (e : Edge) → Member e g.pending.items → Member e f.pending.items ⊎ Member (triple_of e) ds
   pub sites : (s e a n v : ℕ) → HasSite f s e (site a n v) → HasSite g s e (site a n v)
-  pub called : (s e a n' v : ℕ) → HasSite g s e (site a n' v) → HasSite f s e (site a n' v) ⊎ ((n : ℕ) × (flow : Flow G)
-      × Reaches graph (TookMessage g) a n v × (slice_get graph.flows.items n ≡ Some flow) × (entered_by flow v ≡ Some (s, e, n')))
+  pub called : (s e a n v : ℕ) → HasSite g s e (site a n v) →
+      HasSite f s e (site a n v) ⊎ (GraphReaches graph (TookMessage g) a n v × ((back : ℕ) × EntersAt graph n v s e back))
   pub exits : (a b : ℕ) → HasExit f a b → HasExit g a b
   pub exit : (a b : ℕ) → HasExit g a b → HasExit f a b ⊎ Leaves graph (TookMessage g) a b
   pub gives : (s : ℕ) (k : NumberedMessage) → HasGiven f s k → HasGiven g s k
   pub given : (s : ℕ) (k : NumberedMessage) → HasGiven g s k → HasGiven f s k ⊎ Sends graph q (TookMessage g) s k
   pub begun : (from : Caller) (a : ℕ) → TookMessage g (numbered_entry from a) →
       TookMessage f (numbered_entry from a) ⊎ Member (triple a graph.start a) ds
-  pub ended : (s e b a n v : ℕ) → HasSite g s e (site a n v) → TookMessage g (numbered_summary s e b) →
-      HasSite f s e (site a n v) × TookMessage f (numbered_summary s e b) ⊎ Member (triple a n (resumed graph.globals v b)) ds
+  pub ended : (s e b a n v back : ℕ) → HasSite g s e (site a n v) → EntersAt graph n v s e back → TookMessage g (numbered_summary s e b) →
+      HasSite f s e (site a n v) × TookMessage f (numbered_summary s e b) ⊎ Member (triple a back (resumed graph.globals v b)) ds
   pub asks : (s e a n v : ℕ) → HasSite g s e (site a n v) → HasSite f s e (site a n v) ⊎ HasGiven g s (numbered_entry (caller q) e)
   pub tells : (a b c : ℕ) → HasExit g a b → TookMessage g (numbered_entry (caller c) a) →
       HasExit f a b × TookMessage f (numbered_entry (caller c) a) ⊎ HasGiven g c (numbered_summary q a b)
@@ -54,8 +53,8 @@ module _ {A G : Type 0} (graph : Graph G) (q : ℕ) (f g : Found A) (es ds : Lis
   pub still_grounded : IsGrounded graph q f es → IsGrounded graph q g ds
   still_grounded old = record {
     edge = λ a n v m. elim (step.edge (triple a n v) m) [ inl was ↦ more a n v (old.edge a n v was) | inr is ↦ is ];
-    site = λ s e a n' v m. elim (step.called s e a n' v m) [
-      | inl was ↦ let (n, flow, reached, here, enters) = old.site s e a n' v was in (n, flow, more a n v reached, here, enters)
+    site = λ s e a n v m. elim (step.called s e a n v m) [
+      | inl was ↦ let (reached, at) = old.site s e a n v was in (more a n v reached, at)
       | inr is ↦ is
     ];
     exit = λ a b m. elim (step.exit a b m) [ inl was ↦ let (v, reached, is) = old.exit a b was in (v, more a 0 v reached, is) | inr is ↦ is ];
@@ -64,14 +63,14 @@ module _ {A G : Type 0} (graph : Graph G) (q : ℕ) (f g : Found A) (es ds : Lis
     pending = λ a n v m. elim (step.pending (edge a n v) m) [ inl was ↦ step.kept (triple a n v) (old.pending a n v was) | inr is ↦ is ];
   }
     where
-      more : (a n v : ℕ) → Reaches graph (TookMessage f) a n v → Reaches graph (TookMessage g) a n v
+      more : (a n v : ℕ) → GraphReaches graph (TookMessage f) a n v → GraphReaches graph (TookMessage g) a n v
       more = reaches_more graph (TookMessage f) (TookMessage g) step.taken
 
   -- what was worked on is
   still_worked : (a n v : ℕ) → IsWorked graph q f es a n v → IsWorked graph q g ds a n v
   still_worked a n v old = record {
     flows = λ flow i n' v' here most next. step.kept (triple a n' v') (old.flows flow i n' v' here most next);
-    calls = λ flow s e n' here enters. step.sites s e a n' v (old.calls flow s e n' here enters);
+    calls = λ flow s e n' here enters. step.sites s e a n v (old.calls flow s e n' here enters);
     leaves = λ is. step.exits a (left graph.globals v) (old.leaves is);
   }
 
@@ -86,8 +85,8 @@ module _ {A G : Type 0} (graph : Graph G) (q : ℕ) (f g : Found A) (es ds : Lis
       ]
       | inr is ↦ inr (inl is)
     ];
-    ended = λ s e b a n v at taken. elim (step.ended s e b a n v at taken) [
-      | inl was ↦ step.kept (triple a n (resumed graph.globals v b)) (old.ended s e b a n v was.0 was.1)
+    ended = λ s e b a n v back at enters taken. elim (step.ended s e b a n v back at enters taken) [
+      | inl was ↦ step.kept (triple a back (resumed graph.globals v b)) (old.ended s e b a n v back was.0 enters was.1)
       | inr is ↦ is
     ];
     asks = λ s e a n v m. elim (step.asks s e a n v m) [ inl was ↦ step.gives s (numbered_entry (caller q) e) (old.asks s e a n v was) | inr is ↦ is ];
@@ -120,7 +119,7 @@ has_more limit es P once all t is new full = (t ∷ es, (new, once), omega (arit
 -- by the same messages taken the edges of a table are reached
 pub all_reached : {A G : Type 0} (graph : Graph G) (q : ℕ) (f g : Found A) (es : List Triple) →
     IsGrounded graph q f es → ((k : NumberedMessage) → TookMessage f k → TookMessage g k) →
-    (t : Triple) → Member t es → Reaches graph (TookMessage g) t.entry t.point t.values
+    (t : Triple) → Member t es → GraphReaches graph (TookMessage g) t.entry t.point t.values
 all_reached graph q f g es sound taken t m =
     reaches_more graph (TookMessage f) (TookMessage g) taken t.entry t.point t.values
     (sound.edge t.entry t.point t.values m)
@@ -159,7 +158,7 @@ module _ {A G : Type 0} (graph : Graph G) (q : ℕ) (f g : Found A) (es : List T
     gives = λ s k m. subst (Member (mail s (due_of k))) (sym gave) m;
     given = λ s k m. inl (subst (Member (mail s (due_of k))) gave m);
     begun = λ from a h. inl h;
-    ended = λ s x b a n v at taken. inl (at, taken);
+    ended = λ s x b a n v back at enters taken. inl (at, taken);
     asks = λ s x a n v m. inl m;
     tells = λ a b c m h. inl (m, h);
     pairs = λ old a b. (λ m. (old a b).0 (subst (Member (pair a b)) paired m), λ m. subst (Member (pair a b)) (sym paired) ((old a b).1 m));
@@ -173,7 +172,7 @@ module _ {A G : Type 0} (graph : Graph G) (q : ℕ) (f : Found A) (es : List Tri
   taken_there : (k : NumberedMessage) → TookMessage f k → TookMessage popped_to k
   taken_there = taken_as f popped_to (λ a. refl) (λ c. refl)
 
-  more : (a n v : ℕ) → Reaches graph (TookMessage f) a n v → Reaches graph (TookMessage popped_to) a n v
+  more : (a n v : ℕ) → GraphReaches graph (TookMessage f) a n v → GraphReaches graph (TookMessage popped_to) a n v
   more = reaches_more graph (TookMessage f) (TookMessage popped_to) taken_there
 
   -- what was pending is pending or is the edge
@@ -186,7 +185,7 @@ module _ {A G : Type 0} (graph : Graph G) (q : ℕ) (f : Found A) (es : List Tri
   pub popped_grounded : IsGrounded graph q f es → IsGrounded graph q popped_to es
   popped_grounded old = record {
     edge = λ a n v m. more a n v (old.edge a n v m);
-    site = λ s x a n' v m. let (n, flow, reached, here, enters) = old.site s x a n' v m in (n, flow, more a n v reached, here, enters);
+    site = λ s x a n v m. let (reached, at) = old.site s x a n v m in (more a n v reached, at);
     exit = λ a b m. let (v, reached, is) = old.exit a b m in (v, more a 0 v reached, is);
     given = λ s k m. sends_more graph (TookMessage f) (TookMessage popped_to) taken_there q s k (old.given s k m);
     pending = λ a n v m. old.pending a n v (subst (Member (edge a n v)) (sym popped) (member_left (edge a n v) pending.items (e ∷ []) m));
@@ -203,7 +202,7 @@ module _ {A G : Type 0} (graph : Graph G) (q : ℕ) (f : Found A) (es : List Tri
         | inr worked ↦ inr (inr (record { flows = worked.flows; calls = worked.calls; leaves = worked.leaves }))
       ]
     ];
-    ended = λ s x b a n v at taken. old.ended s x b a n v at taken;
+    ended = old.ended;
     asks = old.asks;
     tells = λ a b c m h. old.tells a b c m h;
     pairs = old.pairs;
@@ -241,7 +240,7 @@ module _ {A G : Type 0} (graph : Graph G) (q : ℕ) (f : Found A) (es : List Tri
   empty_complete = record {
     begun = λ from a h. absurd (no_message (numbered_entry from a) h);
     worked = λ a n v m. absurd (no_edge (triple a n v) m);
-    ended = λ s e b a n v at taken. absurd (no_site s e (site a n v) at);
+    ended = λ s e b a n v back at enters taken. absurd (no_site s e (site a n v) at);
     asks = λ s e a n v m. absurd (no_site s e (site a n v) m);
     tells = λ a b c m h. absurd (no_exit a b m);
     pairs = λ a b. (λ m. absurd (subst (Member (pair a b)) empty.pairs m), λ m. absurd (no_exit a b m));

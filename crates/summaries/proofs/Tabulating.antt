@@ -9,7 +9,8 @@ use Rattle.language.proofs.Gathered.{pair_exit}
 use Rattle.path_sets.specs.Triples.{Triple, triple}
 use Rattle.round_rewrite.specs.Law.{SomeBad}
 use Rattle.flow_graph.specs.Bits.{bit_of}
-use Rattle.flow_graph.specs.Numbers.{NumberedMessage, numbered_entry, Reaches, Sends, Leaves, IsNumberOf, IsNumberOfEntry, AreNumbersOfEdge, AreNumbersOfPair}
+use Rattle.flow_graph.specs.Numbers.{NumberedMessage, numbered_entry, GraphReaches, Sends}
+use Rattle.flow_graph.specs.Numbers.{Leaves, IsNumberOf, IsNumberOfEntry, AreNumbersOfEdge, AreNumbersOfPair}
 use Rattle.flow_graph.specs.declared.graph.Graph.{Graph}
 use Rattle.flow_graph.proofs.Taking.{there_too, edges_taken}
 use Rattle.flow_graph.proofs.Pairs.{edge_numbers, pairs_left, bad_left, entries_taken}
@@ -125,8 +126,8 @@ module _ {G A S : Type 0} (members : S → List Triple) (p : Program) (ts : List
       -- the path edges that it keeps are those of its procedure
       pub table_edges : (a n v : ℕ) → Member (triple a n v) (members t.edges) ↔ AreNumbersOfEdge p q a n v
       table_edges a n v =
-          let edges : Reaches t.graph.now (TookMessage t.found) a n v ↔ AreNumbersOfEdge p q a n v =
-          subst (λ (o : Option (Table G A S)). Reaches t.graph.now (IsTaken o) a n v ↔ AreNumbersOfEdge p q a n v) is
+          let edges : GraphReaches t.graph.now (TookMessage t.found) a n v ↔ AreNumbersOfEdge p q a n v =
+          subst (λ (o : Option (Table G A S)). GraphReaches t.graph.now (IsTaken o) a n v ↔ AreNumbersOfEdge p q a n v) is
           (let taken = edges_taken p (map graph_of ts) T are.drawn.0 are.drawn.2 started sent_taken is_due q t.graph.now here a n v in
           let numbers = edge_numbers p q a n v in
           (λ r. numbers.0 (taken.0 r), λ h. taken.1 (numbers.1 h))) in

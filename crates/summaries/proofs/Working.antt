@@ -28,11 +28,13 @@ module _ {A G : Type 0} (graph : Graph G) (q : ℕ) (f : Found A) (es : List Tri
       none flow here = let within = slice_get_within graph.flows.items e.point flow here in omega (arith, within, past)
 
   -- where the site of its call is there
-  pub called_worked : (call : rust.Call G) → slice_get graph.flows.items e.point ≡ Some (Call call) → HasSite f call.callee (entry_of call.globals call.arguments.items e.values) (site e.entry call.back e.values) →
+  pub called_worked : (call : rust.Call G) → slice_get graph.flows.items e.point ≡ Some (Call call) →
+      HasSite f call.callee (entry_of call.globals call.arguments.items e.values) (site e.entry e.point e.values) →
       IsWorked graph q f es e.entry e.point e.values
   called_worked call here asked = record {
     flows = λ flow i n v at most next. absurd (none-some (n, v) (subst (λ w. next_of w e.values i ≡ Some (n, v)) (is flow at) next));
-    calls = λ flow s x n at enters. subst (λ (t : ℕ × ℕ × ℕ). HasSite f t.0 t.1 (site e.entry t.2 e.values)) (same_Some _ _ (subst (λ w. entered_by w e.values ≡ Some (s, x, n)) (is flow at) enters)) asked;
+    calls = λ flow s x n at enters. subst (λ (t : ℕ × ℕ × ℕ). HasSite f t.0 t.1 (site e.entry e.point e.values))
+        (same_Some _ _ (subst (λ w. entered_by w e.values ≡ Some (s, x, n)) (is flow at) enters)) asked;
     leaves = leaves;
   }
     where

@@ -6,7 +6,7 @@ use Rattle.path_sets.specs.Triples.{Triple, triple}
 use Rattle.flow_graph.specs.Drawn.{flows_of, globals_of, start_of}
 use Rattle.flow_graph.specs.Flows.{last_of, next_of, entered_by}
 use Rattle.flow_graph.specs.Returns.{left, resumed}
-use Rattle.flow_graph.specs.Numbers.{NumberedMessage, numbered_entry, numbered_summary, Reaches, Sends, Leaves}
+use Rattle.flow_graph.specs.Numbers.{NumberedMessage, numbered_entry, numbered_summary, GraphReaches, Sends, Leaves}
 use Rattle.flow_graph.specs.declared.flow.Flow.{Flow}
 use Rattle.flow_graph.specs.declared.graph.Graph.{Graph}
 use Rattle.summaries.specs.declared.due.Due.{Due}
@@ -21,6 +21,7 @@ use Rattle.summaries.specs.declared.given.Mail.{Mail}
 use Rattle.summaries.specs.Under.{under}
 use Rattle.summaries.specs.Mails.{mail}
 use Rattle.summaries.specs.Dues.{due_of}
+use Rattle.summaries.specs.Grows.{EntersAt}
 
 -- whether two calls are the same
 abbrev pub call_eq : Call → Call → Bool
@@ -38,9 +39,9 @@ edge a n v = record { entry = a; point = n; values = v }
 abbrev pub call : ℕ → ℕ → Call
 call s e = record { callee = s; entered = e }
 
--- where a call stands that was asked for by the entry a, with v at it and n behind it
+-- where a call stands that was asked for by the entry a, at the point n with v
 abbrev pub site : ℕ → ℕ → ℕ → Site
-site a n v = record { asked = a; next = n; values = v }
+site a n v = record { asked = a; point = n; values = v }
 
 -- what is left, b, where the entry valuation was a
 abbrev pub pair : ℕ → ℕ → Pair
@@ -80,9 +81,9 @@ module _ {A G : Type 0} (graph : Graph G) (q : ℕ) (f : Found A) (edges : List 
   -- Each edge is reached by the messages taken, each site at its call, and each exit; each message given is sent; what is
   -- pending is an edge.
   pub record IsGrounded : Type 0 where
-    pub edge : (a n v : ℕ) → Member (triple a n v) edges → Reaches graph (TookMessage f) a n v
-    pub site : (s e a n' v : ℕ) → HasSite f s e (site a n' v) → (n : ℕ) × (flow : Flow G)
-        × Reaches graph (TookMessage f) a n v × (slice_get (flows_of graph) n ≡ Some flow) × (entered_by flow v ≡ Some (s, e, n'))
+    pub edge : (a n v : ℕ) → Member (triple a n v) edges → GraphReaches graph (TookMessage f) a n v
+    pub site : (s e a n v : ℕ) → HasSite f s e (site a n v) →
+        GraphReaches graph (TookMessage f) a n v × ((back : ℕ) × EntersAt graph n v s e back)
     pub exit : (a b : ℕ) → HasExit f a b → Leaves graph (TookMessage f) a b
     pub given : (s : ℕ) (k : NumberedMessage) → HasGiven f s k → Sends graph q (TookMessage f) s k
     pub pending : (a n v : ℕ) → IsPending f a n v → Member (triple a n v) edges
@@ -94,7 +95,7 @@ module _ {A G : Type 0} (graph : Graph G) (q : ℕ) (f : Found A) (edges : List 
         next_of flow v i ≡ Some (n', v') →
         Member (triple a n' v') edges
     pub calls : (flow : Flow G) (s e n' : ℕ) → slice_get (flows_of graph) n ≡ Some flow → entered_by flow v ≡ Some (s, e, n') →
-        HasSite f s e (site a n' v)
+        HasSite f s e (site a n v)
     pub leaves : n ≡ 0 → HasExit f a (left (globals_of graph) v)
 
   -- The start of each entry is an edge; each edge is pending, worked on, or one of those left aside; where a site and a
@@ -103,9 +104,9 @@ module _ {A G : Type 0} (graph : Graph G) (q : ℕ) (f : Found A) (edges : List 
   pub record IsComplete (Aside : Triple → Type 0) : Type 0 where
     pub begun : (from : Caller) (a : ℕ) → TookMessage f (numbered_entry from a) → Member (triple a (start_of graph) a) edges
     pub worked : (a n v : ℕ) → Member (triple a n v) edges → Aside (triple a n v) ⊎ (IsPending f a n v ⊎ IsWorked a n v)
-    pub ended : (s e b a n' v : ℕ) → HasSite f s e (site a n' v) → TookMessage f (numbered_summary s e b) →
-        Member (triple a n' (resumed (globals_of graph) v b)) edges
-    pub asks : (s e a n' v : ℕ) → HasSite f s e (site a n' v) → HasGiven f s (numbered_entry (caller q) e)
+    pub ended : (s e b a n v back : ℕ) → HasSite f s e (site a n v) → EntersAt graph n v s e back →
+        TookMessage f (numbered_summary s e b) → Member (triple a back (resumed (globals_of graph) v b)) edges
+    pub asks : (s e a n v : ℕ) → HasSite f s e (site a n v) → HasGiven f s (numbered_entry (caller q) e)
     pub tells : (a b c : ℕ) → HasExit f a b → TookMessage f (numbered_entry (caller c) a) → HasGiven f c (numbered_summary q a b)
     pub pairs : (a b : ℕ) → Member (pair a b) f.pairs.keys ↔ HasExit f a b
 
@@ -116,7 +117,7 @@ IsWorkedOff f = f.pending.items ≡ []
 -- By the messages taken the edges are what is reached, and the messages given are what is sent.
 abbrev pub IsExact : {A G : Type 0} → Graph G → ℕ → Found A → List Triple → Type 0
 IsExact graph q f edges =
-    ((a n v : ℕ) → Reaches graph (TookMessage f) a n v ↔ Member (triple a n v) edges)
+    ((a n v : ℕ) → GraphReaches graph (TookMessage f) a n v ↔ Member (triple a n v) edges)
     × ((s : ℕ) (k : NumberedMessage) → Sends graph q (TookMessage f) s k ↔ HasGiven f s k)
 
 -- nothing is found

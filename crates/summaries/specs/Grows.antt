@@ -1,9 +1,9 @@
 -- Path edges that are added, and stand pending.
-use Rattle.std.specs.Prelude.{◌≡◌, ◌≤◌, ◌<◌, ℕ, Option, Some, Result, Err, OnOk, List, ◌⊎◌, ◌++◌, length, ◌+◌}
+use Rattle.std.specs.Prelude.{◌≡◌, ◌≤◌, ◌<◌, ℕ, Option, Some, Result, Err, OnOk, List, ◌⊎◌, ◌++◌, length, ◌+◌, slice_get}
 use Rattle.language.specs.Flow.{Member}
 use Rattle.path_sets.specs.Triples.{Triple, triple}
-use Rattle.flow_graph.specs.Drawn.{globals_of}
-use Rattle.flow_graph.specs.Flows.{last_of, next_of}
+use Rattle.flow_graph.specs.Drawn.{flows_of, globals_of}
+use Rattle.flow_graph.specs.Flows.{last_of, next_of, entered_by}
 use Rattle.flow_graph.specs.Returns.{resumed}
 use Rattle.flow_graph.specs.declared.flow.Flow.{Flow}
 use Rattle.flow_graph.specs.declared.graph.Graph.{Graph}
@@ -67,9 +67,16 @@ IsNext flow e t = (i : ℕ) × (i ≤ last_of flow) × IsAt e (next_of flow e.va
 abbrev pub Each : {X T : Type 0} → (X → T → Type 0) → List X → T → Type 0
 Each {X} W xs t = (x : X) × Member x xs × W x t
 
--- A triple is the edge behind the call of a site, for the globals that it left.
+-- A call at the point n enters s with e from the valuation v, and the run goes on at the point back when it returns.
+abbrev pub EntersAt : {G : Type 0} → Graph G → ℕ → ℕ → ℕ → ℕ → ℕ → Type 0
+EntersAt {G} graph n v s e back =
+    (flow : Flow G) × (slice_get (flows_of graph) n ≡ Some flow) × (entered_by flow v ≡ Some (s, e, back))
+
+-- A triple is the edge behind the call of a site, where it has left b.
 abbrev pub IsBehind : {G : Type 0} → Graph G → Site → ℕ → Triple → Type 0
-IsBehind graph site b t = t ≡ triple site.asked site.next (resumed (globals_of graph) site.values b)
+IsBehind graph site b t =
+    (s : ℕ) × (e : ℕ) × (back : ℕ) × EntersAt graph site.point site.values s e back
+    × (t ≡ triple site.asked back (resumed (globals_of graph) site.values b))
 
 -- The messages of which W holds are given after, beside those before, and no others; they come behind those before.
 pub record Gives (W : Mail → Type 0) (old new : List Mail) : Type 0 where

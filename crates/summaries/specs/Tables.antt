@@ -3,11 +3,11 @@ use Rattle.std.specs.Prelude.{◌≡◌, ◌≤◌, ◌<◌, ◌⊎◌, ◌↔�
 use Rattle.std.specs.Prelude.{ℕ, Option, Some, None, Result, Ok, Err, OnOk, List, [], length}
 use Rattle.language.specs.Flow.{Member}
 use Rattle.path_sets.specs.Triples.{Triple, triple, NoneTwice}
-use Rattle.flow_graph.specs.Drawn.{back_of, callee_of, entered_from, globals_of}
+use Rattle.flow_graph.specs.Drawn.{callee_of, entered_from, globals_of}
 use Rattle.flow_graph.specs.Returns.{left}
 use Rattle.flow_graph.specs.declared.call.Call.{Call}
 use Rattle.flow_graph.specs.declared.graph.Graph.{Graph}
-use Rattle.flow_graph.specs.Numbers.{NumberedMessage, Reaches, Sends, Leaves}
+use Rattle.flow_graph.specs.Numbers.{NumberedMessage, GraphReaches, Sends, Leaves}
 use Rattle.summaries.specs.declared.due.Due.{Due}
 use Rattle.summaries.specs.declared.edge.Edge.{Edge}
 use Rattle.summaries.specs.declared.found.Found.{Found}
@@ -73,7 +73,7 @@ failed_by (Err e) t = record { graph = t.graph; procedure = t.procedure; limit =
 
 -- the triple is reached by the messages that the table has taken
 abbrev pub IsReached : {G A S : Type 0} → Table G A S → Triple → Type 0
-IsReached t x = Reaches t.graph.now (TookMessage t.found) x.entry x.point x.values
+IsReached t x = GraphReaches t.graph.now (TookMessage t.found) x.entry x.point x.values
 
 -- what an edge leaves that is at the exit stands as an exit
 abbrev pub HasLeft : {G A S : Type 0} → Table G A S → Edge → Type 0
@@ -81,7 +81,7 @@ HasLeft t e = e.point ≡ 0 → HasExit t.found e.entry (left (globals_of (graph
 
 -- the call stands as a site at the edge
 abbrev pub HasAsked : {G A S : Type 0} → Table G A S → Edge → Call G → Type 0
-HasAsked t e call = HasSite t.found (callee_of call) (entered_from call e.values) (site e.entry (back_of call) e.values)
+HasAsked t e call = HasSite t.found (callee_of call) (entered_from call e.values) (site e.entry e.point e.values)
 
 -- The table is that of the same procedure, with the same limit.
 pub record StaysAs {G A S : Type 0} (old new : Table G A S) : Type 0 where
@@ -160,7 +160,7 @@ module _ {G A S : Type 0} (members : S → List Triple) where
 
   -- By the messages taken the edges kept are what is reached, and the messages answered are what is sent.
   pub record IsQuiet (t : Table G A S) : Type 0 where
-    pub edges : (a n v : ℕ) → Reaches t.graph.now (TookMessage t.found) a n v ↔ Member (triple a n v) (members t.edges)
+    pub edges : (a n v : ℕ) → GraphReaches t.graph.now (TookMessage t.found) a n v ↔ Member (triple a n v) (members t.edges)
     pub sends : (s : ℕ) (k : NumberedMessage) →
         Sends t.graph.now t.procedure (TookMessage t.found) s k ↔ Member (mail s (due_of k)) (answers_of t)
     pub leaves : (a b : ℕ) → Member (pair a b) t.found.pairs.keys ↔ Leaves t.graph.now (TookMessage t.found) a b

@@ -1,6 +1,6 @@
 //! What one procedure's table tells another.
 
-use flow_graph::Word;
+use language::Word;
 
 /// Who enters a procedure.
 #[derive(Clone, Copy, Debug, PartialEq, Eq, Hash)]

@@ -1,6 +1,6 @@
 //! Path edges of one procedure, and the calls on them.
 
-use flow_graph::{Point, Word};
+use language::{Point, Word};
 
 /// A path edge: the valuation on entry, the point, and the valuation there.
 #[derive(Clone, Copy, Debug, PartialEq, Eq)]
@@ -17,10 +17,10 @@ pub(crate) struct Call {
     pub(crate) entered: Word,
 }
 
-/// Where a call stands: the entry of the procedure that calls, the point behind the call, and the valuation at the call.
+/// Where a call stands: the entry of the procedure that calls, the point of the call, and the valuation there.
 #[derive(Clone, Copy, Debug, PartialEq, Eq)]
 pub(crate) struct Site {
     pub(crate) asked: Word,
-    pub(crate) next: Point,
+    pub(crate) point: Point,
     pub(crate) values: Word,
 }

@@ -5,8 +5,8 @@ use crate::edge::{Call, Edge, Site};
 use crate::given::Given;
 use crate::groups::Groups;
 use crate::pair::Pair;
-use flow_graph::Word;
 use indexmap::IndexSet;
+use language::Word;
 use std::alloc::Allocator;
 use std::hash::{BuildHasherDefault, FoldHasher};
 

@@ -8,7 +8,8 @@ use crate::edge::Edge;
 use crate::edge_limit::EdgeLimit;
 use crate::reach::reach;
 use crate::table_fault::TableFault;
-use flow_graph::{Flow, Point, Word};
+use flow_graph::Flow;
+use language::{Point, Word};
 use path_sets::PathSet;
 use std::alloc::Allocator;
 

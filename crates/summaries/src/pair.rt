@@ -1,6 +1,6 @@
 //! Pairs of a procedure.
 
-use flow_graph::Word;
+use language::Word;
 
 /// What one call of a procedure does as a whole (a summary edge after Ball and Rajamani 2000): entered with the valuation `a`,
 /// it leaves the globals `b`.

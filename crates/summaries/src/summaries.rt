@@ -4,7 +4,7 @@ ghost use Rattle.std.specs.Prelude.{◌≡◌, ◌<◌, ◌↔◌, length, slice
 ghost use Rattle.flow_graph.specs.Bits.{bit_of};
 
 use crate::pair::Pair;
-use flow_graph::Word;
+use language::Word;
 use std::alloc::Allocator;
 use std::marker::Model;
 

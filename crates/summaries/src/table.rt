@@ -11,7 +11,8 @@ use crate::go_on::go_on_at_each;
 use crate::reach::reach;
 use crate::table_fault::TableFault;
 use crate::tell::tell_exits;
-use flow_graph::{Graph, Graphs, Word};
+use flow_graph::{Graph, Graphs};
+use language::Word;
 use path_sets::PathSet;
 use std::alloc::Allocator;
 

@@ -5,7 +5,7 @@ ghost use Rattle.summaries.specs.Grows.{AddsOnly, Gives, Each, IsTold};
 
 use crate::due::{Caller, Due};
 use crate::given::Given;
-use flow_graph::Word;
+use language::Word;
 use std::alloc::{AllocError, Allocator};
 
 /// Gives the summary of procedure `p` to a caller; the starter gets none.

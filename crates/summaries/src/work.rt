@@ -18,7 +18,8 @@ use crate::reach::reach;
 use crate::table::Table;
 use crate::table_fault::TableFault;
 use crate::tell::{tell_all, tell_exits};
-use flow_graph::{EXIT, Flow, Word};
+use flow_graph::Flow;
+use language::{EXIT, Word};
 use path_sets::PathSet;
 use std::alloc::{AllocError, Allocator};
 
@@ -74,7 +75,7 @@ impl<'g, G: Allocator, A: Allocator + Copy, S: PathSet<A>> Table<'g, G, A, S> {
         };
         let site = Site {
             asked: edge.entry,
-            next: call.back(),
+            point: edge.point,
             values: edge.values,
         };
         let due = Due::Entry {

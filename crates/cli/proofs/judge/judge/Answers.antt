@@ -13,18 +13,19 @@ use Rattle.cli.specs.declared.refusal.Refusal.{Refusal}
 use Rattle.cli.specs.declared.refusal.Refusal.TheVariants.{EdgeLimit, Memory}
 use Rattle.summaries.specs.Limits.{most_of}
 use Rattle.cli.specs.Limits.{count_of}
-use Rattle.cli.specs.Refused.{Stands}
+use Rattle.cli.specs.Refused.{RefusalStands}
 use Rattle.cli.specs.Rewritten.{IsRewriting}
 use Rattle.cli.specs.Verdict.{IsOver, IsWithinLimit}
 use Rattle.cli.proofs.judge.judge.Goals as goal
 
 -- what a fault of the tabulation says of the text
 stands : (text : List ℕ) (rounds edges limit : ℕ) (sequential : Tree) → IsRewriting text rounds sequential → limit ≡ edges → (why : Refusal) →
-    (why ≡ Memory) ⊎ ((why ≡ EdgeLimit) × ((q : ℕ) × HasMoreEdges (sequential_of sequential) q limit)) → Stands text rounds (IsOver text rounds edges) why
-stands text rounds edges limit sequential found within why (inl e) = subst (Stands text rounds (IsOver text rounds edges)) (sym e) tt
+    (why ≡ Memory) ⊎ ((why ≡ EdgeLimit) × ((q : ℕ) × HasMoreEdges (sequential_of sequential) q limit)) →
+    RefusalStands text rounds (IsOver text rounds edges) why
+stands text rounds edges limit sequential found within why (inl e) = subst (RefusalStands text rounds (IsOver text rounds edges)) (sym e) tt
 stands text rounds edges limit sequential found within why (inr (e, (q, more))) =
     let at : HasMoreEdges (sequential_of sequential) q edges = subst (HasMoreEdges (sequential_of sequential) q) within more in
-    subst (Stands text rounds (IsOver text rounds edges)) (sym e)
+    subst (RefusalStands text rounds (IsOver text rounds edges)) (sym e)
     (found.tree, found.of, found.checked, (found.last, found.count, (q, subst (λ t. HasMoreEdges (sequential_of t) q edges) found.same at)))
 
 -- where the pairs of the rewriting tell whether some pair is bad, they tell whether the text's program is unsafe

@@ -3,10 +3,7 @@ use Rattle.std.proofs.Common.{◌≡◌, ◌∙◌, ◌⊎◌, ℕ, suc, List, r
 use Rattle.syntax.specs.Text.{Text}
 use Rattle.scopes.specs.Checked.{IsChecked}
 use Rattle.round_rewrite.specs.Narrow.{IsNarrow}
-use Rattle.round_rewrite.specs.declared.fault.RewriteFault.{RewriteFault}
 use Rattle.round_rewrite.specs.declared.fault.RewriteFault.TheVariants.{TooWide, Memory}
-use Rattle.cli.specs.Refused.{Stands}
-use Rattle.std.proofs.lemmas.Result.{err_from_is_err_and}
 use Rattle.language.specs.Tree.{Tree}
 use Rattle.syntax.specs.InGrammar.{InGrammar}
 use Rattle.syntax.specs.Trees.{tree_of}

@@ -6,7 +6,7 @@ use Rattle.language.specs.Resolve.{resolve_block}
 use Rattle.language.specs.Sequential.{numbered}
 use Rattle.language.proofs.Rests.{join_done}
 use Rattle.syntax.specs.Trees.{name_of, block_of}
-use Rattle.flow_graph.specs.Nodes.{at}
+use Rattle.flow_graph.specs.Nodes.{point_at}
 use Rattle.flow_graph.specs.Drawing.{names_in}
 use Rattle.flow_graph.specs.declared.flow.Flow.TheVariants as flow
 use Rattle.flow_graph.proofs.Graphing.{drawn_flows}
@@ -24,7 +24,9 @@ returns g c =
     let small = c.block.new.flows.small in
     let one = ap length start in (
       c.len.ensures ∙ t.globals.ok.0 ∙ sym (length-map t.globals.items name_of),
-      c.begin.ensures s done refl ∙ ap at (join_done (numbered 1 (resolve_block s (block_of c.as_slice-body.result.now)))) ∙ ap (λ l. at (numbered 1 (resolve_block s (block_of l)))) body,
+      c.begin.ensures s done refl ∙ ap point_at
+          (join_done (numbered 1 (resolve_block s (block_of c.as_slice-body.result.now)))) ∙
+          ap (λ l. point_at (numbered 1 (resolve_block s (block_of l)))) body,
       drawn_flows _ _ _ _ _ _ _ _ _ _ old c.block.new.flows.items c.as_slice.ensures.value c.as_slice-2.ensures.value c.as_slice-3.ensures.value c.as_slice-4.ensures.value body start
           (lowered.1 done refl (omega (arith, lowered.0, small, one), omega (arith, lowered.0, small, one))),
     )

@@ -1,4 +1,4 @@
-use Rattle.std.proofs.Common.{refl, length, ◌+◌}
+use Rattle.std.proofs.Common.{refl, length}
 use Rattle.syntax.specs.Trees.{tree_of}
 use Rattle.round_rewrite.specs.Places.{global_count}
 use Rattle.round_rewrite.proofs.Widths.{narrow_procedures, few_needs}

@@ -6,14 +6,14 @@ use Rattle.summaries.proofs.Firsts.{take_more}
 use Rattle.summaries.proofs.Eaches.{each_first, each_at}
 use Rattle.summaries.proofs.go_on.go_on.Goals as goal
 
-pub returns-in_err-reach : goal.returns-in_err-reach
-returns-in_err-reach g c =
+pub returns-in_err-reach_behind : goal.returns-in_err-reach_behind
+returns-in_err-reach_behind g c =
     let xs = c.args.summaries.now in
     let i = c.loop-globals.globals-index in
-    let failed = c.in_err-reach.ensures in record {
+    let failed = c.in_err-reach_behind.ensures in record {
       ok = search rules;
       only = λ t there. elim (failed.only t there) [
-        | inl is ↦ inl (each_at (IsBehind c.args.graph.now c.args.site) xs i 0 c.loop-globals-test.true t (is ∙ c.behind-edge.ensures))
+        | inl is ↦ inl (each_at (IsBehind c.args.graph.now c.args.site) xs i 0 c.loop-globals-test.true t is)
         | inr mid ↦ elim (c.loop-globals.invariant.0.only t mid) [
           | inl first ↦ inl (each_first (IsBehind c.args.graph.now c.args.site) xs i t first)
           | inr was ↦ inr was
@@ -22,20 +22,21 @@ returns-in_err-reach g c =
       within = failed.within;
       limit = λ e.
           let (t, is, new, full) = failed.limit (ap Err (sym (fault_of _ _ _ c.from_residual.ensures.1 e))) in
-          (t, each_at (IsBehind c.args.graph.now c.args.site) xs i 0 c.loop-globals-test.true t (is ∙ c.behind-edge.ensures), new, full);
+          (t, each_at (IsBehind c.args.graph.now c.args.site) xs i 0 c.loop-globals-test.true t is, new, full);
     }
 
 pub loop-globals-preserved : goal.loop-globals-preserved
 loop-globals-preserved g c =
     let xs = c.args.summaries.now in
     let i = c.loop-globals.globals-index in
-    let more = each_more (IsBehind c.args.graph.now c.args.site) (take i xs) (get_or xs i 0) c.behind-edge.result
-    (g.S.PathSet.members c.args.edges.now) (g.S.PathSet.members c.loop-globals.edges) (g.S.PathSet.members c.reach.new.edges)
-    c.args.pending.now.items c.loop-globals.pending.items c.reach.new.pending.items
-    (λ t w. w ∙ sym c.behind-edge.ensures) c.behind-edge.ensures
-    c.loop-globals.invariant.0 c.in_ok-reach.ensures.ok in (
-      subst (λ l. Grows (Each (IsBehind c.args.graph.now c.args.site) l) (g.S.PathSet.members c.args.edges.now) (g.S.PathSet.members c.reach.new.edges) c.args.pending.now.items c.reach.new.pending.items) (sym (take_more xs i 0 c.loop-globals-test.true)) more,
-      c.in_ok-reach.ensures.within,
+    let more = each_more (IsBehind c.args.graph.now c.args.site) (take i xs) (get_or xs i 0)
+    (g.S.PathSet.members c.args.edges.now) (g.S.PathSet.members c.loop-globals.edges) (g.S.PathSet.members c.reach_behind.new.edges)
+    c.args.pending.now.items c.loop-globals.pending.items c.reach_behind.new.pending.items
+    c.loop-globals.invariant.0 c.in_ok-reach_behind.ensures.ok in (
+      subst (λ l. Grows (Each (IsBehind c.args.graph.now c.args.site) l) (g.S.PathSet.members c.args.edges.now)
+          (g.S.PathSet.members c.reach_behind.new.edges) c.args.pending.now.items c.reach_behind.new.pending.items)
+          (sym (take_more xs i 0 c.loop-globals-test.true)) more,
+      c.in_ok-reach_behind.ensures.within,
     )
 
 pub returns : goal.returns

@@ -7,15 +7,15 @@ use Rattle.summaries.proofs.Firsts.{take_more}
 use Rattle.summaries.proofs.Eaches.{each_first, each_at}
 use Rattle.summaries.proofs.go_on.go_on_at_each.Goals as goal
 
-pub returns-in_err-reach : goal.returns-in_err-reach
-returns-in_err-reach g c =
+pub returns-in_err-reach_behind : goal.returns-in_err-reach_behind
+returns-in_err-reach_behind g c =
     let xs = c.args.sites.now in
     let i = c.loop-site.site-index in
-    let failed = c.in_err-reach.ensures in record {
+    let failed = c.in_err-reach_behind.ensures in record {
       ok = search rules;
       only = λ t there. elim (failed.only t there) [
         | inl is ↦ inl (each_at (λ site. IsBehind c.args.graph.now site c.args.globals) xs i (site 0 0 0)
-            c.loop-site-test.true t (is ∙ c.behind-edge.ensures))
+            c.loop-site-test.true t is)
         | inr mid ↦ elim (c.loop-site.invariant.0.only t mid) [
           | inl first ↦ inl (each_first (λ site. IsBehind c.args.graph.now site c.args.globals) xs i t first)
           | inr was ↦ inr was
@@ -25,8 +25,7 @@ returns-in_err-reach g c =
       limit = λ e.
           let (t, is, new, full) = failed.limit (ap Err (sym (fault_of _ _ _ c.from_residual.ensures.1 e))) in (
             t,
-            each_at (λ site. IsBehind c.args.graph.now site c.args.globals) xs i (site 0 0 0) c.loop-site-test.true t
-                (is ∙ c.behind-edge.ensures),
+            each_at (λ site. IsBehind c.args.graph.now site c.args.globals) xs i (site 0 0 0) c.loop-site-test.true t is,
             new,
             full,
           );
@@ -36,13 +35,14 @@ pub loop-site-preserved : goal.loop-site-preserved
 loop-site-preserved g c =
     let xs = c.args.sites.now in
     let i = c.loop-site.site-index in
-    let more = each_more (λ site. IsBehind c.args.graph.now site c.args.globals) (take i xs) (get_or xs i (site 0 0 0)) c.behind-edge.result
-    (g.S.PathSet.members c.args.edges.now) (g.S.PathSet.members c.loop-site.edges) (g.S.PathSet.members c.reach.new.edges)
-    c.args.pending.now.items c.loop-site.pending.items c.reach.new.pending.items
-    (λ t w. w ∙ sym c.behind-edge.ensures) c.behind-edge.ensures
-    c.loop-site.invariant.0 c.in_ok-reach.ensures.ok in (
-      subst (λ l. Grows (Each (λ site. IsBehind c.args.graph.now site c.args.globals) l) (g.S.PathSet.members c.args.edges.now) (g.S.PathSet.members c.reach.new.edges) c.args.pending.now.items c.reach.new.pending.items) (sym (take_more xs i (site 0 0 0) c.loop-site-test.true)) more,
-      c.in_ok-reach.ensures.within,
+    let more = each_more (λ site. IsBehind c.args.graph.now site c.args.globals) (take i xs) (get_or xs i (site 0 0 0))
+    (g.S.PathSet.members c.args.edges.now) (g.S.PathSet.members c.loop-site.edges) (g.S.PathSet.members c.reach_behind.new.edges)
+    c.args.pending.now.items c.loop-site.pending.items c.reach_behind.new.pending.items
+    c.loop-site.invariant.0 c.in_ok-reach_behind.ensures.ok in (
+      subst (λ l. Grows (Each (λ site. IsBehind c.args.graph.now site c.args.globals) l)
+          (g.S.PathSet.members c.args.edges.now) (g.S.PathSet.members c.reach_behind.new.edges) c.args.pending.now.items
+          c.reach_behind.new.pending.items) (sym (take_more xs i (site 0 0 0) c.loop-site-test.true)) more,
+      c.in_ok-reach_behind.ensures.within,
     )
 
 pub returns : goal.returns

@@ -11,9 +11,9 @@ use Rattle.syntax.specs.Trees.{item_of, deed_of, block_of, rhs_of}
 use Rattle.syntax.proofs.Held.{held, first_counts}
 use Rattle.syntax.proofs.Folds.{item_deed, deed_of-If, deed_of-While}
 use Rattle.syntax.proofs.Plain.{is_simple}
-use Rattle.flow_graph.specs.Nodes.{at, node_of}
+use Rattle.flow_graph.specs.Nodes.{point_at, node_of}
 use Rattle.flow_graph.specs.Flows.{Lowered}
-use Rattle.flow_graph.specs.Lowering.{scope_of, body_of, code_from}
+use Rattle.flow_graph.specs.Lowering.{lowering_scope, lowered_body, code_from}
 use Rattle.flow_graph.proofs.Counted.{alone_counts, split_counts}
 use Rattle.flow_graph.proofs.Lowered.{nodes_split, nodes_simple, nodes_branch, nodes_repeat, lowered_then, lowered_none, lowered_one}
 use Rattle.flow_graph.proofs.lowering.Lowering.+lowering.Goals as goal
@@ -36,7 +36,7 @@ block-loop-stmt-smaller g t c = omega (arith, ap length c.in-Some.ensures.cases.
 pub block-loop-stmt-preserved : goal.block-loop-stmt-preserved
 block-loop-stmt-preserved g t c =
     let me = c.args.self.now in
-    let s = scope_of me in
+    let s = lowering_scope me in
     let stmt = c.in-Some.stmt.now in
     let more = c.in-Some.more.now in
     let old = c.loop-stmt.flows.items in
@@ -51,11 +51,12 @@ block-loop-stmt-preserved g t c =
       λ k new at_k few h.
           let one = c.size_of.ensures (omega (arith, lowered.0, small)) in
           let behind : c.saturating_add-behind.result ≡ length mid = omega (arith, c.saturating_add-behind.ensures, c.len.ensures, c.loop-stmt.flows.ok.0, one, lowered.0, small) in
-          let next = c.begin.ensures s k at_k ∙ ap (λ j. at (join (numbered j (resolve_block s (block_of more))) k)) behind in
+          let next = c.begin.ensures s k at_k ∙ ap (λ j. point_at (join (numbered j (resolve_block s (block_of more))) k)) behind in
           let first = lowered.1 (join (code_from me (length mid) more) k) (sym next) (few.0, omega (arith, lowered.0, small)) in
           c.loop-stmt.invariant.2 k new at_k few
           (subst (λ ns. Lowered old new ns (length s.globals) (length s.locals) (length s.procedures))
-          (sym (ap (λ x. map (node_of (body_of me)) (rests (code_from me (length old) x) k)) e ∙ nodes_split (body_of me) (length old) (length mid) s stmt more k lowered.0))
+          (sym (ap (λ x. map (node_of (lowered_body me)) (rests (code_from me (length old) x) k)) e ∙
+          nodes_split (lowered_body me) (length old) (length mid) s stmt more k lowered.0))
           (lowered_then old mid new _ _ _ _ _ first h)),
     )
 
@@ -63,19 +64,20 @@ pub block-returns : goal.block-returns
 block-returns g t c =
     let me = c.args.self.now in
     let old = c.loop-stmt.flows.items in
-    let s = scope_of me in
+    let s = lowering_scope me in
     let none = nil_from_length c.loop-stmt.rest.now c.in_default.ensures.cases in (
       omega (arith, c.loop-stmt.invariant.1, ap (λ l. statements (block_of l)) none),
       λ k at_k few.
           c.loop-stmt.invariant.2 k old at_k few
-          (subst (λ x. Lowered old old (map (node_of (body_of me)) (rests (code_from me (length old) x) k)) (length s.globals) (length s.locals) (length s.procedures)) (sym none)
+          (subst (λ x. Lowered old old (map (node_of (lowered_body me)) (rests (code_from me (length old) x) k))
+          (length s.globals) (length s.locals) (length s.procedures)) (sym none)
           (lowered_none old (length s.globals) (length s.locals) (length s.procedures))),
     )
 
 pub statement-returns-in_ok-block-in-If : goal.statement-returns-in_ok-block-in-If
 statement-returns-in_ok-block-in-If g t c =
     let me = c.args.self.now in
-    let s = scope_of me in
+    let s = lowering_scope me in
     let stmt = c.args.stmt.now in
     let i = item_of stmt in
     let old = c.args.flows.now.items in
@@ -99,14 +101,16 @@ statement-returns-in_ok-block-in-If g t c =
     (λ u second. (
       omega (arith, next, first.0, second.0, count_a, count_b, whole, parts),
       λ k at_k few.
-          let node = node_of (body_of me) (join (code_from me (length old) (stmt ∷ [])) k) in
+          let node = node_of (lowered_body me) (join (code_from me (length old) (stmt ∷ [])) k) in
           let does = made.2 k at_k few in
           let here = first.1 k at_k (few.0, omega (arith, few.1, next, count_a, whole, parts)) in
           let there = second.1 k at_k (few.0, omega (arith, few.1, first.0, next, count_a, count_b, whole, parts)) in
           subst (λ ns. Lowered old new ns (length s.globals) (length s.locals) (length s.procedures))
-          (sym (nodes_branch (body_of me) (length old) (length one) (length mid) s i.mark i.deed (rhs_of c.in-If.field-0) (block_of c.in-If.a.items) (block_of c.in-If.b.items) k (item_deed stmt ∙ core)
+          (sym (nodes_branch (lowered_body me) (length old) (length one) (length mid) s i.mark i.deed
+          (rhs_of c.in-If.field-0) (block_of c.in-If.a.items) (block_of c.in-If.b.items) k (item_deed stmt ∙ core)
           next (omega (arith, first.0, next, count_a))
-          ∙ λ t. node ∷ (map (node_of (body_of me)) (rests (code_from me (length one) (sym a t)) k) ++ map (node_of (body_of me)) (rests (code_from me (length mid) (sym b t)) k))))
+          ∙ λ t. node ∷ (map (node_of (lowered_body me)) (rests (code_from me (length one) (sym a t)) k) ++ map
+          (node_of (lowered_body me)) (rests (code_from me (length mid) (sym b t)) k))))
           (lowered_then old one new (node ∷ []) _ _ _ _ (lowered_one old one f node _ _ _ pushed does) (lowered_then one mid new _ _ _ _ _ here there)),
     ))
     c.block-in-If.ensures
@@ -114,7 +118,7 @@ statement-returns-in_ok-block-in-If g t c =
 pub statement-returns-in-While : goal.statement-returns-in-While
 statement-returns-in-While g t c =
     let me = c.args.self.now in
-    let s = scope_of me in
+    let s = lowering_scope me in
     let stmt = c.args.stmt.now in
     let i = item_of stmt in
     let old = c.args.flows.now.items in
@@ -134,13 +138,14 @@ statement-returns-in-While g t c =
     (λ u inside. (
       omega (arith, next, inside.0, count, whole, parts),
       λ k at_k few.
-          let node = node_of (body_of me) (join (code_from me (length old) (stmt ∷ [])) k) in
+          let node = node_of (lowered_body me) (join (code_from me (length old) (stmt ∷ [])) k) in
           let again = loop (marked (length old) (resolve_mark i.mark)) (resolve_side s (rhs_of c.in-While.field-0)) (numbered (suc (length old)) (resolve_block s (block_of c.in-While.a.items))) k in
           let does = made.2 k at_k few in
           let here = inside.1 again (sym number) (few.0, omega (arith, few.1, next, count, whole, parts)) in
           subst (λ ns. Lowered old new ns (length s.globals) (length s.locals) (length s.procedures))
-          (sym (nodes_repeat (body_of me) (length old) (length one) s i.mark i.deed (rhs_of c.in-While.field-0) (block_of c.in-While.a.items) k (item_deed stmt ∙ core) next
-          ∙ λ t. node ∷ map (node_of (body_of me)) (rests (code_from me (length one) (sym a t)) again)))
+          (sym (nodes_repeat (lowered_body me) (length old) (length one) s i.mark i.deed (rhs_of c.in-While.field-0)
+          (block_of c.in-While.a.items) k (item_deed stmt ∙ core) next
+          ∙ λ t. node ∷ map (node_of (lowered_body me)) (rests (code_from me (length one) (sym a t)) again)))
           (lowered_then old one new (node ∷ []) _ _ _ _ (lowered_one old one f node _ _ _ pushed does) here),
     ))
     c.block-in-While.ensures
@@ -148,7 +153,7 @@ statement-returns-in-While g t c =
 pub statement-returns-in_default : goal.statement-returns-in_default
 statement-returns-in_default g t c =
     let me = c.args.self.now in
-    let s = scope_of me in
+    let s = lowering_scope me in
     let stmt = c.args.stmt.now in
     let i = item_of stmt in
     let old = c.args.flows.now.items in
@@ -160,8 +165,8 @@ statement-returns-in_default g t c =
     let whole = alone_counts stmt in (
       omega (arith, ap length made.1, length-append old (f ∷ []), parts, whole),
       λ k at_k few.
-          let node = node_of (body_of me) (join (code_from me (length old) (stmt ∷ [])) k) in
+          let node = node_of (lowered_body me) (join (code_from me (length old) (stmt ∷ [])) k) in
           subst (λ ns. Lowered old new ns (length s.globals) (length s.locals) (length s.procedures))
-          (sym (nodes_simple (body_of me) (length old) s i.mark i.deed deed.0 k (item_deed stmt ∙ deed.1)))
+          (sym (nodes_simple (lowered_body me) (length old) s i.mark i.deed deed.0 k (item_deed stmt ∙ deed.1)))
           (lowered_one old new f node _ _ _ made.1 (made.2 k at_k few)),
     )

@@ -7,18 +7,23 @@ use Rattle.language.specs.Flow.{rests}
 use Rattle.syntax.specs.Trees.{deed_of, block_of}
 use Rattle.syntax.proofs.Held.{held}
 use Rattle.flow_graph.specs.declared.flow.Flow.{Flow}
-use Rattle.flow_graph.specs.Nodes.{at, node_of}
+use Rattle.flow_graph.specs.Nodes.{point_at, node_of}
 use Rattle.flow_graph.specs.Flows.{Lowered}
-use Rattle.flow_graph.specs.Lowering.{scope_of, body_of, code_from, IsCounted}
+use Rattle.flow_graph.specs.Lowering.{lowering_scope, lowered_body, code_from, IsCounted}
 use Rattle.flow_graph.proofs.lowering.Lowering.+lowering.Given as goal
 
 abbrev pub invariant-block-loop-stmt : goal.invariant-block-loop-stmt
 invariant-block-loop-stmt g l =
     (statements (block_of l.rest) ≤ statements (block_of l.stmts))
     × (length l.flows.items + statements (block_of l.rest) ≡ length l.initial.flows.items + statements (block_of l.stmts))
-    × ((k : Code) (new : List (Flow g.row.A.Denot)) → at k ≡ l.after → IsCounted l.self (length l.initial.flows.items) l.stmts →
-    Lowered l.flows.items new (map (node_of (body_of l.self)) (rests (code_from l.self (length l.flows.items) l.rest) k)) (length (scope_of l.self).globals) (length (scope_of l.self).locals) (length (scope_of l.self).procedures) →
-    Lowered l.initial.flows.items new (map (node_of (body_of l.self)) (rests (code_from l.self (length l.initial.flows.items) l.stmts) k)) (length (scope_of l.self).globals) (length (scope_of l.self).locals) (length (scope_of l.self).procedures))
+    × ((k : Code) (new : List (Flow g.row.A.Denot)) → point_at k ≡ l.after → IsCounted l.self (length l.initial.flows.items) l.stmts →
+    Lowered l.flows.items new (map (node_of (lowered_body l.self))
+    (rests (code_from l.self (length l.flows.items) l.rest) k)) (length (lowering_scope l.self).globals)
+    (length (lowering_scope l.self).locals) (length (lowering_scope l.self).procedures) →
+    Lowered l.initial.flows.items new
+    (map (node_of (lowered_body l.self)) (rests (code_from l.self (length l.initial.flows.items) l.stmts) k))
+    (length (lowering_scope l.self).globals) (length (lowering_scope l.self).locals)
+    (length (lowering_scope l.self).procedures))
 
 abbrev pub decreases-block-loop-stmt : goal.decreases-block-loop-stmt
 decreases-block-loop-stmt g l = length l.rest

@@ -1,9 +1,9 @@
 use Rattle.syntax.specs.Trees.{names_of, rhss_of}
-use Rattle.flow_graph.specs.Lowering.{scope_of}
+use Rattle.flow_graph.specs.Lowering.{lowering_scope}
 use Rattle.flow_graph.proofs.Doing.{does_assigns}
 use Rattle.flow_graph.proofs.lowering.Lowering.assignment.Goals as goal
 
 pub returns : goal.returns
 returns g c =
-    let s = scope_of c.args.self.now in
+    let s = lowering_scope c.args.self.now in
     does_assigns c.in_ok-assignment.field-0 s (names_of c.args.xs.now) (rhss_of c.args.rs.now) c.args.to _ c.in_ok-assignment.ensures

@@ -6,13 +6,13 @@ use Rattle.language.specs.Resolve.{number_of, resolve_expression}
 use Rattle.syntax.specs.Trees.{name_of, expr_of, exprs_of, proc_of, procs_of}
 use Rattle.flow_graph.specs.Bits.{coded}
 use Rattle.flow_graph.specs.Formulas.{says}
-use Rattle.flow_graph.specs.Lowering.{scope_of}
+use Rattle.flow_graph.specs.Lowering.{lowering_scope}
 use Rattle.flow_graph.proofs.Doing.{does_no_call, does_calls, more_said}
 use Rattle.flow_graph.proofs.lowering.Lowering.call.Goals as goal
 
 pub returns-then-callee-self : goal.returns-then-callee-self
 returns-then-callee-self g c =
-    let s = scope_of c.args.self.now in
+    let s = lowering_scope c.args.self.now in
     let procs = c.args.self.now.scope.procedures.now in
     let e = ap (λ t. number_of t s.procedures) c.as_str.ensures.value in
     let count : length s.procedures ≡ length procs = length-map (procs_of procs) _ ∙ length-map procs proc_of in
@@ -20,7 +20,7 @@ returns-then-callee-self g c =
 
 pub returns-then-es-self : goal.returns-then-es-self
 returns-then-es-self g c =
-    let s = scope_of c.args.self.now in
+    let s = lowering_scope c.args.self.now in
     let es = c.args.es.now in
     let count : length (map (resolve_expression s) (exprs_of es)) ≡ length es = length-map (exprs_of es) (resolve_expression s) ∙ length-map es expr_of in
     let globals : length s.globals ≡ length c.args.self.now.scope.globals.now = length-map c.args.self.now.scope.globals.now name_of in
@@ -28,7 +28,7 @@ returns-then-es-self g c =
 
 pub loop-e-preserved : goal.loop-e-preserved
 loop-e-preserved g c =
-    let s = scope_of c.args.self.now in
+    let s = lowering_scope c.args.self.now in
     let es = c.args.es.now in
     let i = c.loop-e.e-index in
     let old = c.loop-e.arguments.items in
@@ -44,7 +44,7 @@ loop-e-preserved g c =
 
 pub returns : goal.returns
 returns g c =
-    let s = scope_of c.args.self.now in
+    let s = lowering_scope c.args.self.now in
     let procs = c.args.self.now.scope.procedures.now in
     let es = c.args.es.now in
     let e = ap (λ t. number_of t s.procedures) c.as_str.ensures.value in

@@ -4,8 +4,8 @@ use Rattle.std.specs.String.{string_bytes}
 use Rattle.std.proofs.lemmas.Result.{IfOk-weaker}
 use Rattle.language.specs.Tree.{done}
 use Rattle.language.specs.Rest.{rest_from}
-use Rattle.flow_graph.specs.Nodes.{at, goes}
-use Rattle.flow_graph.specs.Lowering.{body_of, scope_of, DoesIn}
+use Rattle.flow_graph.specs.Nodes.{point_at, goes}
+use Rattle.flow_graph.specs.Lowering.{lowered_body, lowering_scope, DoesIn}
 use Rattle.flow_graph.proofs.Lowered.{goes_found, goes_lost}
 use Rattle.flow_graph.proofs.lowering.Lowering.jump.Goals as goal
 
@@ -13,17 +13,19 @@ pub returns-in-Some : goal.returns-in-Some
 returns-in-Some g c =
     IfOk-weaker c.going.result (λ f. DoesIn c.args.self.now f (goes c.in-Some.to)) _
     (λ f d few.
-    let found = c.find.ensures (scope_of c.args.self.now) done (omega (arith, few)) in
+    let found = c.find.ensures (lowering_scope c.args.self.now) done (omega (arith, few)) in
     subst (DoesIn c.args.self.now f)
-    (sym (goes_found (rest_from (string_bytes c.args.label.now.text) (body_of c.args.self.now) done) c.in-Some.to
-    (ap (λ x. option_map at (rest_from x (body_of c.args.self.now) done)) (sym c.as_str.ensures.value) ∙ sym found ∙ c.in-Some.is)))
+    (sym (goes_found (rest_from (string_bytes c.args.label.now.text) (lowered_body c.args.self.now) done) c.in-Some.to
+    (ap (λ x. option_map point_at (rest_from x (lowered_body c.args.self.now) done)) (sym c.as_str.ensures.value) ∙
+    sym found ∙ c.in-Some.is)))
     d)
     c.going.ensures
 
 pub returns-in-None : goal.returns-in-None
 returns-in-None g c few =
-    let found = c.find.ensures (scope_of c.args.self.now) done (omega (arith, few)) in
+    let found = c.find.ensures (lowering_scope c.args.self.now) done (omega (arith, few)) in
     subst (DoesIn c.args.self.now c.nowhere.result)
-    (sym (goes_lost (rest_from (string_bytes c.args.label.now.text) (body_of c.args.self.now) done)
-    (ap (λ x. option_map at (rest_from x (body_of c.args.self.now) done)) (sym c.as_str.ensures.value) ∙ sym found ∙ c.in-None.is)))
+    (sym (goes_lost (rest_from (string_bytes c.args.label.now.text) (lowered_body c.args.self.now) done)
+    (ap (λ x. option_map point_at (rest_from x (lowered_body c.args.self.now) done)) (sym c.as_str.ensures.value) ∙
+    sym found ∙ c.in-None.is)))
     (c.nowhere.ensures _ _ _)

@@ -20,8 +20,10 @@ use Rattle.summaries.proofs.table.Table.ask.Goals as goal
 use Rattle.summaries.specs.Limits.{most_of}
 
 -- the flow is a call of this procedure
-enters : (g : given.Over) (c : goal.After-go_on g) → entered_by (flow.Call c.args.call.now) c.args.edge.values ≡ Some (c.callee.result, c.entry.result, c.back.result)
-enters g c = λ i. Some (sym c.callee.ensures i, sym c.entry.ensures i, sym c.back.ensures i)
+enters : (g : given.Over) (c : goal.After-go_on g) →
+    entered_by (flow.Call c.args.call.now) c.args.edge.values ≡ Some
+    (c.callee.result, c.entry.result, c.args.call.now.back)
+enters g c = λ i. Some (sym c.callee.ensures i, sym c.entry.ensures i, c.args.call.now.back)
 
 -- the entry is given
 gave : (g : given.Over) (c : goal.After-go_on g) →
@@ -31,12 +33,14 @@ gave g c = gives_one _ _ _ c.in_ok-give.field-0 c.in_ok-give.ensures.new c.in_ok
 -- the summaries of the call are those that are found by it
 known : (g : given.Over) (c : goal.After-go_on g) →
     let self = c.args.self.now in
-    let site = site c.args.edge.entry c.back.result c.args.edge.values in
+    let site = site c.args.edge.entry c.args.edge.point c.args.edge.values in
     Grows (Each (IsBehind self.graph.now site) c.of.result.now) (g.S.PathSet.members self.edges) (g.S.PathSet.members c.go_on.new.edges) self.found.pending.items c.go_on.new.pending.items →
     Grows (Each (IsBehind self.graph.now site) (under call_eq self.found.summaries.by_key (call c.callee.result c.entry.result))) (g.S.PathSet.members self.edges) (g.S.PathSet.members c.go_on.new.edges) self.found.pending.items c.go_on.new.pending.items
 known g c =
     let self = c.args.self.now in
-    subst (λ bs. Grows (Each (IsBehind self.graph.now (site c.args.edge.entry c.back.result c.args.edge.values)) bs) (g.S.PathSet.members self.edges) (g.S.PathSet.members c.go_on.new.edges) self.found.pending.items c.go_on.new.pending.items) c.of.ensures
+    subst (λ bs. Grows (Each (IsBehind self.graph.now (site c.args.edge.entry c.args.edge.point c.args.edge.values)) bs)
+    (g.S.PathSet.members self.edges) (g.S.PathSet.members c.go_on.new.edges) self.found.pending.items
+    c.go_on.new.pending.items) c.of.ensures
 
 pub returns-in_err-give-clause-worked : goal.returns-in_err-give-clause-worked
 returns-in_err-give-clause-worked g c =
@@ -66,15 +70,15 @@ returns-clause-worked g c =
     let es = g.S.PathSet.members self.edges in
     let ds = g.S.PathSet.members c.go_on.new.edges in
     let edges = ask_only self.graph.now self.procedure f c.give.new.self c.add.new.self c.go_on.new.pending es ds e
-    c.callee.result c.entry.result c.back.result (flow.Call c.args.call.now)
+    c.callee.result c.entry.result c.args.call.now.back (flow.Call c.args.call.now)
     c.requires.holds.0 c.requires.edge c.requires.call (enters g c)
     (subst (λ bs. (t : Triple) → Member t ds →
-    Each (IsBehind self.graph.now (site e.entry c.back.result e.values)) bs t ⊎ Member t es) c.of.ensures
+    Each (IsBehind self.graph.now (site e.entry e.point e.values)) bs t ⊎ Member t es) c.of.ensures
     c.go_on.ensures.only) in record {
       holds = IfOk-weaker c.go_on.result _ _
           (λ _ grown.
           let step = ask_step self.graph.now self.procedure f c.give.new.self c.add.new.self c.go_on.new.pending es ds e
-          c.callee.result c.entry.result c.back.result (flow.Call c.args.call.now)
+          c.callee.result c.entry.result c.args.call.now.back (flow.Call c.args.call.now)
           c.requires.holds.0 c.requires.edge c.requires.call (enters g c) (gave g c) c.in_ok-add.ensures.added
           c.in_ok-add.ensures.others (known g c grown) in (
             still_grounded self.graph.now self.procedure f _ es ds step c.requires.holds.0,
@@ -87,9 +91,9 @@ returns-clause-worked g c =
           let (t, w, new, full) = c.go_on.ensures.limit is in
           has_more (most_of self.limit) ds _ (g.met.S.PathSet.none_twice c.go_on.new.edges) edges t
           (behind_reached self.graph.now self.procedure f c.give.new.self c.add.new.self c.go_on.new.pending es ds e
-          c.callee.result c.entry.result c.back.result (flow.Call c.args.call.now)
+          c.callee.result c.entry.result c.args.call.now.back (flow.Call c.args.call.now)
           c.requires.holds.0 c.requires.edge c.requires.call (enters g c) t
-          (subst (λ bs. Each (IsBehind self.graph.now (site e.entry c.back.result e.values)) bs t) c.of.ensures w))
+          (subst (λ bs. Each (IsBehind self.graph.now (site e.entry e.point e.values)) bs t) c.of.ensures w))
           new full;
       answers = IfOk-weaker c.go_on.result _ _
           (λ _ _. answers_still f.given.mails.keys c.give.new.self.mails.keys f.given.answered c.give.new.self.answered
@@ -108,7 +112,8 @@ returns-clause-asked g c =
     let ds = g.S.PathSet.members c.go_on.new.edges in
     IfOk-weaker c.go_on.result _ _
     (λ _ grown.
-    subst (λ (t : ℕ × ℕ × ℕ). HasSite found t.0 t.1 (site e.entry t.2 e.values)) (λ i. (c.callee.ensures i, c.entry.ensures i, c.back.ensures i))
-    (asked_site self.graph.now self.procedure self.found c.give.new.self c.add.new.self c.go_on.new.pending es ds e c.callee.result c.entry.result c.back.result (flow.Call c.args.call.now)
+    subst (λ (t : ℕ × ℕ). HasSite found t.0 t.1 (site e.entry e.point e.values)) (λ i. (c.callee.ensures i, c.entry.ensures i))
+    (asked_site self.graph.now self.procedure self.found c.give.new.self c.add.new.self c.go_on.new.pending es ds e
+    c.callee.result c.entry.result c.args.call.now.back (flow.Call c.args.call.now)
     c.requires.holds.0 c.requires.edge c.requires.call (enters g c) (gave g c) c.in_ok-add.ensures.added c.in_ok-add.ensures.others (known g c grown)))
     c.go_on.ensures.ok

@@ -1,7 +1,7 @@
 use Rattle.std.proofs.Common.{◌≡◌, ◌≤◌, length, nat_eq, Some, slice_get, sym, ap, ◌∙◌, subst, arith}
 use Rattle.std.proofs.lemmas.Result.{IfOk-weaker}
 use Rattle.language.specs.Flow.{Member}
-use Rattle.flow_graph.specs.Numbers.{Reaches}
+use Rattle.flow_graph.specs.Numbers.{GraphReaches}
 use Rattle.flow_graph.specs.Returns.{left}
 use Rattle.flow_graph.specs.declared.flow.Flow.TheVariants.{Call}
 use Rattle.summaries.specs.Under.{under}
@@ -23,7 +23,7 @@ returns-in_err-leave-clause-worked g c =
     let edges = ap (λ s. length (g.S.PathSet.members s)) left.edges in
     let limit = ap most_of left.stays.limit in
     refused_worked g.S.PathSet.members (λ t. ⊥) _ old new
-    (λ t m. subst (λ graph. Reaches graph (TookMessage new.found) t.entry t.point t.values) (sym left.stays.graph)
+    (λ t m. subst (λ graph. GraphReaches graph (TookMessage new.found) t.entry t.point t.values) (sym left.stays.graph)
     (all_reached old.graph.now old.procedure old.found new.found (g.S.PathSet.members old.edges) c.requires.holds.0
     (taken_as old.found new.found (λ a. ap (λ e. under nat_eq e.by_key a) left.taken.0) (λ k. ap (λ e. under call_eq e.by_key k) left.taken.1))
     t (subst (λ s. Member t (g.S.PathSet.members s)) left.edges m)))
