@@ -1,5 +1,5 @@
 -- The edges of all masks, and those of one mask among them.
-use Rattle.std.proofs.Common.{◌≡◌, ℕ, ◌<◌, Bool, true, false, cond, List, [], ◌∷◌, ◌++◌, None, Some, map, get_or, slice_get, position, inl, inr, refl, sym, ap, ◌∙◌, subst, true≢false, suc, zero, is_some}
+use Rattle.std.proofs.Common.{◌≡◌, ℕ, ◌<◌, Bool, true, false, cond, List, [], ◌∷◌, ◌++◌, None, Some, get_or, slice_get, position, inl, inr, refl, sym, ap, ◌∙◌, subst, true≢false, suc, zero, is_some}
 use Rattle.std.specs.Map.{keys_of, values_of, lookup}
 use Rattle.std.specs.List.{IsDistinct, AllByRecursion}
 use Rattle.std.proofs.lemmas.Map.Keys.{IsDistinct-head, IsDistinct-tail}
@@ -9,7 +9,7 @@ use Rattle.indexmap.specs.IndexMap.{set_value_at}
 use Rattle.language.specs.Flow.{Member}
 use Rattle.language.proofs.Members.{member_left, member_right, member_append, member_map}
 use Rattle.path_sets.specs.declared.place.Place.{Place}
-use Rattle.path_sets.specs.Edges.{edge_at, edges, place_eq}
+use Rattle.path_sets.specs.Edges.{edge_at, edges_in, edges, place_eq}
 use Rattle.path_sets.specs.Inserts.{Inserts}
 use Rattle.path_sets.specs.Masks.{bits_below}
 use Rattle.path_sets.proofs.Inserted.{behind, before, mapped}
@@ -44,17 +44,17 @@ pub in_group : (gs : Groups) (i : ℕ) (p : Place) (m b : ℕ) → slice_get gs 
     Member (edge_at p b) (edges gs)
 in_group [] i p m b at h = absurd (true≢false (ap is_some (sym at)))
 in_group (g ∷ gs) zero p m b at h =
-    subst (λ (h : Place × ℕ). Member (edge_at p b) (map (edge_at h.0) (bits_below h.1 64) ++ edges gs)) (sym (same_Some g (p, m) at))
-    (member_left (edge_at p b) (map (edge_at p) (bits_below m 64)) (edges gs) (member_map (edge_at p) (bits_below m 64) b h))
+    subst (λ (h : Place × ℕ). Member (edge_at p b) (edges_in h.0 h.1 ++ edges gs)) (sym (same_Some g (p, m) at))
+    (member_left (edge_at p b) (edges_in p m) (edges gs) (member_map (edge_at p) (bits_below m 64) b h))
 in_group (g ∷ gs) (suc i) p m b at h =
-    member_right (edge_at p b) (map (edge_at g.0) (bits_below g.1 64)) (edges gs) (in_group gs i p m b at h)
+    member_right (edge_at p b) (edges_in g.0 g.1) (edges gs) (in_group gs i p m b at h)
 
 -- a place with no mask has no edges
 pub no_edge : (gs : Groups) (p : Place) (b : ℕ) → b < 64 → AllByRecursion (λ k. place_eq p k ≡ false) (keys_of gs) →
     Member (edge_at p b) (edges gs) → ⊥
 no_edge [] p b small all h = elim h [ ]
 no_edge (g ∷ gs) p b small (apart, all) h =
-    elim (member_append (edge_at p b) (map (edge_at g.0) (bits_below g.1 64)) (edges gs) h) [
+    elim (member_append (edge_at p b) (edges_in g.0 g.1) (edges gs) h) [
       | inl here' ↦ true≢false (sym (eq_place p g.0 (own_edge p g.0 b g.1 small here').0) ∙ apart)
       | inr later ↦ no_edge gs p b small all later
     ]
@@ -65,17 +65,17 @@ pub only_in_group : (gs : Groups) (i : ℕ) (p : Place) (m b : ℕ) → b < 64 �
 only_in_group [] i p m b small d at h = absurd (true≢false (ap is_some (sym at)))
 only_in_group (g ∷ gs) zero p m b small d at h =
     let same : g ≡ (p, m) = same_Some g (p, m) at in
-    let h' : Member (edge_at p b) (map (edge_at p) (bits_below m 64) ++ edges gs) =
-    subst (λ (h : Place × ℕ). Member (edge_at p b) (map (edge_at h.0) (bits_below h.1 64) ++ edges gs)) same h in
+    let h' : Member (edge_at p b) (edges_in p m ++ edges gs) =
+    subst (λ (h : Place × ℕ). Member (edge_at p b) (edges_in h.0 h.1 ++ edges gs)) same h in
     let apart : AllByRecursion (λ k. place_eq p k ≡ false) (keys_of gs) =
     subst (λ (h : Place × ℕ). AllByRecursion (λ k. place_eq h.0 k ≡ false) (keys_of gs)) same
     (IsDistinct-head place_eq g.0 (keys_of gs) d) in
-    elim (member_append (edge_at p b) (map (edge_at p) (bits_below m 64)) (edges gs) h') [
+    elim (member_append (edge_at p b) (edges_in p m) (edges gs) h') [
       | inl own ↦ (own_edge p p b m small own).1
       | inr later ↦ absurd (no_edge gs p b small apart later)
     ]
 only_in_group (g ∷ gs) (suc i) p m b small d at h =
-    elim (member_append (edge_at p b) (map (edge_at g.0) (bits_below g.1 64)) (edges gs) h) [
+    elim (member_append (edge_at p b) (edges_in g.0 g.1) (edges gs) h) [
       | inl first ↦ absurd (true≢false (sym (eq_place g.0 p (sym (own_edge p g.0 b g.1 small first).0))
           ∙ of_each (λ k. place_eq g.0 k ≡ false) gs i p m at (IsDistinct-head place_eq g.0 (keys_of gs) d)))
       | inr later ↦ only_in_group gs i p m b small (IsDistinct-tail place_eq g.0 (keys_of gs) d) at later
@@ -86,23 +86,25 @@ pub put_in_group : (gs : Groups) (i : ℕ) (p : Place) (m w b : ℕ) → slice_g
     Inserts b (bits_below m 64) (bits_below w 64) → Inserts (edge_at p b) (edges gs) (edges (set_value_at gs i w))
 put_in_group [] i p m w b at more = absurd (true≢false (ap is_some (sym at)))
 put_in_group (g ∷ gs) zero p m w b at more =
-    subst (λ (h : Place × ℕ). Inserts (edge_at p b) (map (edge_at h.0) (bits_below h.1 64) ++ edges gs)
-    (map (edge_at h.0) (bits_below w 64) ++ edges gs)) (sym (same_Some g (p, m) at))
-    (before (edge_at p b) (map (edge_at p) (bits_below m 64)) (map (edge_at p) (bits_below w 64)) (edges gs)
+    subst (λ (h : Place × ℕ). Inserts (edge_at p b) (edges_in h.0 h.1 ++ edges gs)
+    (edges_in h.0 w ++ edges gs)) (sym (same_Some g (p, m) at))
+    (before (edge_at p b) (edges_in p m) (edges_in p w) (edges gs)
     (mapped (edge_at p) b (bits_below m 64) (bits_below w 64) more))
 put_in_group (g ∷ gs) (suc i) p m w b at more =
-    behind (edge_at p b) (map (edge_at g.0) (bits_below g.1 64)) (edges gs) (edges (set_value_at gs i w))
+    behind (edge_at p b) (edges_in g.0 g.1) (edges gs) (edges (set_value_at gs i w))
     (put_in_group gs i p m w b at more)
 
 -- the same mask has the same edges
-pub same_group : (gs : Groups) (i m w : ℕ) → slice_get (values_of gs) i ≡ Some m → w ≡ m → edges (set_value_at gs i w) ≡ edges gs
+pub same_group : (gs : Groups) (i m w : ℕ) → slice_get (values_of gs) i ≡ Some m → w ≡ m →
+    edges (set_value_at gs i w) ≡ edges gs
 same_group [] i m w at same = refl
 same_group (g ∷ gs) zero m w at same =
-    ap (λ k. map (edge_at g.0) (bits_below k 64) ++ edges gs) (same ∙ sym (same_Some g.1 m at))
-same_group (g ∷ gs) (suc i) m w at same = ap (λ es. map (edge_at g.0) (bits_below g.1 64) ++ es) (same_group gs i m w at same)
+    ap (λ k. edges_in g.0 k ++ edges gs) (same ∙ sym (same_Some g.1 m at))
+same_group (g ∷ gs) (suc i) m w at same = ap (λ es. edges_in g.0 g.1 ++ es) (same_group gs i m w at same)
 
 -- a place that is not found is none of those kept
-pub absent : (gs : Groups) (p : Place) → lookup (place_eq p) gs ≡ None → AllByRecursion (λ k. place_eq p k ≡ false) (keys_of gs)
+pub absent : (gs : Groups) (p : Place) → lookup (place_eq p) gs ≡ None →
+    AllByRecursion (λ k. place_eq p k ≡ false) (keys_of gs)
 absent [] p h = tt
 absent (g ∷ gs) p h = by (place_eq p g.0) refl h (absent gs p)
   where
@@ -116,6 +118,6 @@ absent (g ∷ gs) p h = by (place_eq p g.0) refl h (absent gs p)
 pub put_last : (gs : Groups) (p : Place) (w b : ℕ) → Inserts b [] (bits_below w 64) →
     Inserts (edge_at p b) (edges gs) (edges (gs ++ (p, w) ∷ []))
 put_last [] p w b one =
-    before (edge_at p b) [] (map (edge_at p) (bits_below w 64)) [] (mapped (edge_at p) b [] (bits_below w 64) one)
+    before (edge_at p b) [] (edges_in p w) [] (mapped (edge_at p) b [] (bits_below w 64) one)
 put_last (g ∷ gs) p w b one =
-    behind (edge_at p b) (map (edge_at g.0) (bits_below g.1 64)) (edges gs) (edges (gs ++ (p, w) ∷ [])) (put_last gs p w b one)
+    behind (edge_at p b) (edges_in g.0 g.1) (edges gs) (edges (gs ++ (p, w) ∷ [])) (put_last gs p w b one)

@@ -46,8 +46,8 @@ same_bits a b (suc n) h =
     λ j. cond (top j) (n ∷ rest j) (rest j)
 
 -- where a bit that was 0 becomes 1, and no other changes, it is put into the list
-pub put_bit : (m w b n : ℕ) → b < n → bit_of m b ≡ false → bit_of w b ≡ true → ((i : ℕ) → i ≢ b → bit_of w i ≡ bit_of m i) →
-    Inserts b (bits_below m n) (bits_below w n)
+pub put_bit : (m w b n : ℕ) → b < n → bit_of m b ≡ false → bit_of w b ≡ true →
+    ((i : ℕ) → i ≢ b → bit_of w i ≡ bit_of m i) → Inserts b (bits_below m n) (bits_below w n)
 put_bit m w b zero lt clear set others = absurd (omega (arith, lt))
 put_bit m w b (suc n) lt clear set others = go (nat_lt b n) refl (λ less. put_bit m w b n less clear set others)
   where
@@ -97,7 +97,8 @@ max_none x = omega arith
 -- a bit that is put in is 1, and the others are as they were
 put_in_is : (m b : ℕ) → bit_of m b ≡ false → bit_of (bit_or m (2 ^ b)) b ≡ true
 put_in_is m b clear =
-    ap (λ x. x == 1) (bit_at_or m (2 ^ b) b ∙ ap₂ max (clear_bit (bit_at m b) (bit_at-lt m b) clear) (bit_at-pow_same b))
+    ap (λ x. x == 1)
+    (bit_at_or m (2 ^ b) b ∙ ap₂ max (clear_bit (bit_at m b) (bit_at-lt m b) clear) (bit_at-pow_same b))
 
 others_are : (m b i : ℕ) → i ≢ b → bit_of (bit_or m (2 ^ b)) i ≡ bit_of m i
 others_are m b i ne =
@@ -112,5 +113,6 @@ marked m w b clear is =
 pub first_bit : (w b : ℕ) → b < 64 → w ≡ 2 ^ b → Inserts b [] (bits_below w 64)
 first_bit w b small is =
     subst (λ xs. Inserts b xs (bits_below w 64)) (no_bits 64)
-    (put_bit 0 w b 64 small (ap (λ x. x == 1) (bit_at-zero b)) (ap (λ k. bit_of k b) is ∙ ap (λ x. x == 1) (bit_at-pow_same b))
+    (put_bit 0 w b 64 small (ap (λ x. x == 1) (bit_at-zero b))
+    (ap (λ k. bit_of k b) is ∙ ap (λ x. x == 1) (bit_at-pow_same b))
     (λ i ne. ap (λ k. bit_of k i) is ∙ ap (λ x. x == 1) (bit_at-pow_other b i ne ∙ sym (bit_at-zero i))))

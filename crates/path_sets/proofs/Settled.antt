@@ -28,7 +28,8 @@ pub started : {S : Type 0} (old : IndexMap Place ℕ S) (new : Groups) (p : Plac
     lookup (place_eq p) old.entries ≡ None → new ≡ insert_entry place_eq old.entries p w →
     Settles (edge_at p b) (edges old.entries) (edges new) true
 started old new p w b small is none made = (
-  subst (λ (es : Groups). Inserts (edge_at p b) (edges old.entries) (edges es)) (sym (made ∙ insert_entry-new place_eq old p w none))
+  subst (λ (es : Groups). Inserts (edge_at p b) (edges old.entries) (edges es))
+      (sym (made ∙ insert_entry-new place_eq old p w none))
       (put_last old.entries p w b (first_bit w b small is)),
   no_edge old.entries p b small (absent old.entries p none),
 )

@@ -12,7 +12,11 @@ place_eq x y = nat_eq x.entry y.entry && (nat_eq x.values y.values && nat_eq x.b
 abbrev pub edge_at : Place → ℕ → Triple
 edge_at p bit = triple p.entry (64 * p.block + bit) p.values
 
+-- the path edges of a place's mask
+abbrev pub edges_in : Place → ℕ → List Triple
+edges_in p mask = map (edge_at p) (bits_below mask 64)
+
 -- the path edges of all masks
 abbrev pub edges : List (Place × ℕ) → List Triple
 edges [] = []
-edges (g ∷ gs) = map (edge_at g.0) (bits_below g.1 64) ++ edges gs
+edges (g ∷ gs) = edges_in g.0 g.1 ++ edges gs

@@ -11,6 +11,9 @@ returns-clause-here g c = by c.get_index_of.result c.get_index_of.ensures.index
     ks : List Place
     ks = keys c.args.masks.now
 
-    by : (r : Option ℕ) → r ≡ position (place_eq c.args.place.now) ks → IfSome r (λ at. slice_get ks at ≡ Some c.args.place.now)
+    p : Place
+    p = c.args.place.now
+
+    by : (r : Option ℕ) → r ≡ position (place_eq p) ks → IfSome r (λ at. slice_get ks at ≡ Some p)
     by None h = tt
-    by (Some i) h = found_at ks i c.args.place.now h
+    by (Some i) h = found_at ks i p h

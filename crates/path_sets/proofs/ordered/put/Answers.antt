@@ -9,9 +9,12 @@ use Rattle.path_sets.proofs.ordered.put.Goals as goal
 pub returns-in-Some-clause-ok : goal.returns-in-Some-clause-ok
 returns-in-Some-clause-ok g c =
     let gs = c.args.masks.now.entries in
+    let i = c.in-Some.at in
+    let p = c.args.place in
+    let m = c.index_mut.result.now in
     let value = c.index_mut.ensures.value in
-    settled gs c.in-Some.at c.args.place c.index_mut.result.now c.mark.new.mask c.args.bit c.requires.bit c.requires.unique
-    (pair_at gs c.in-Some.at c.args.place c.index_mut.result.now c.in-Some.ensures.here value) value c.mark.result c.mark.ensures
+    settled gs i p m c.mark.new.mask c.args.bit c.requires.bit c.requires.unique
+    (pair_at gs i p m c.in-Some.ensures.here value) value c.mark.result c.mark.ensures
 
 pub returns-in-Some-clause-unique : goal.returns-in-Some-clause-unique
 returns-in-Some-clause-unique g c =

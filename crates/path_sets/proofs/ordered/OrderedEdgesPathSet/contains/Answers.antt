@@ -25,6 +25,7 @@ returns-in-None g c =
     let gs = c.args.self.now.masks.entries in
     let p = c.place_of-bit.result.0 in (
       λ h. absurd (true≢false (sym h)),
-      λ there. absurd (no_edge gs p c.place_of-bit.result.1 c.place_of-bit.ensures.bit (absent gs p (c.in-None.ensures.none refl))
+      λ there. absurd (no_edge gs p c.place_of-bit.result.1 c.place_of-bit.ensures.bit
+          (absent gs p (c.in-None.ensures.none refl))
           (subst (λ t. Member t (edges gs)) (sym c.place_of-bit.ensures.edge) there)),
     )

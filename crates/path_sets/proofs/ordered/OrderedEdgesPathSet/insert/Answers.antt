@@ -21,7 +21,10 @@ returns-then-added-clause-members g c =
     let put_in = was_put_in _ _ _ c.in_ok-added.added c.if-added.true c.in_ok-added.ensures.ok in
     let new = edges c.put.new.masks.entries in
     λ t. (
-      λ m. elim (is_new_or_old _ t _ _ put_in.0 m) [ inl e ↦ inl (e ∙ c.place_of-bit.ensures.edge) | inr was ↦ inr was ],
+      λ m. elim (is_new_or_old _ t _ _ put_in.0 m) [
+        | inl e ↦ inl (e ∙ c.place_of-bit.ensures.edge)
+        | inr was ↦ inr was
+      ],
       λ h. elim h [
         | inl e ↦ subst (λ x. Member x new) (sym (e ∙ sym c.place_of-bit.ensures.edge)) (is_in _ _ _ put_in.0)
         | inr m ↦ stays_in _ t _ _ put_in.0 m
