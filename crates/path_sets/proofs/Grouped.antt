@@ -1,116 +1,123 @@
--- The edges of all points, and the set of one point among them.
-use Rattle.std.proofs.Common.{◌≡◌, ℕ, Bool, true, false, cond, eqb, List, [], ◌∷◌, ◌++◌, None, Some, map, get_or, slice_get, position, inl, inr, refl, sym, ap, ◌∙◌, subst, true≢false, suc, zero, eq-eqb, is_some}
+-- The edges of all masks, and those of one mask among them.
+use Rattle.std.proofs.Common.{◌≡◌, ℕ, ◌<◌, Bool, true, false, cond, List, [], ◌∷◌, ◌++◌, None, Some, get_or, slice_get, position, inl, inr, refl, sym, ap, ◌∙◌, subst, true≢false, suc, zero, is_some}
 use Rattle.std.specs.Map.{keys_of, values_of, lookup}
 use Rattle.std.specs.List.{IsDistinct, AllByRecursion}
-use Rattle.std.specs.BTreeSet.{BTreeSet}
 use Rattle.std.proofs.lemmas.Map.Keys.{IsDistinct-head, IsDistinct-tail}
 use Rattle.std.proofs.lemmas.Option.{slice_get-get_or, same_Some}
 use Rattle.std.proofs.lemmas.List.Quantifiers.{position-Some}
-use Rattle.std.proofs.lemmas.Map.Views.{exact_unsigned_eq}
 use Rattle.indexmap.specs.IndexMap.{set_value_at}
 use Rattle.language.specs.Flow.{Member}
-use Rattle.language.proofs.Members.{member_left, member_right, member_append, member_map, map_member}
-use Rattle.path_sets.specs.declared.ends.Ends.{Ends}
-use Rattle.path_sets.specs.Triples.{Triple}
-use Rattle.path_sets.specs.Edges.{edge_at, edges}
-use Rattle.path_sets.specs.Inserts.{Inserts, here}
+use Rattle.language.proofs.Members.{member_left, member_right, member_append, member_map}
+use Rattle.path_sets.specs.declared.place.Place.{Place}
+use Rattle.path_sets.specs.Edges.{edge_at, edges_in, edges, place_eq}
+use Rattle.path_sets.specs.Inserts.{Inserts}
+use Rattle.path_sets.specs.Masks.{bits_below}
 use Rattle.path_sets.proofs.Inserted.{behind, before, mapped}
+use Rattle.path_sets.proofs.Places.{same_place, eq_place, own_edge}
 
--- the points, each with its set
+-- the places, each with its mask
 abbrev pub Groups : Type 0
-Groups = List (ℕ × BTreeSet Ends)
+Groups = List (Place × ℕ)
 
 -- a key and a value at one place make the pair at that place
-pub pair_at : {K V : Type 0} (es : List (K × V)) (i : ℕ) (k : K) (v : V) → slice_get (keys_of es) i ≡ Some k → slice_get (values_of es) i ≡ Some v → slice_get es i ≡ Some (k, v)
+pub pair_at : {K V : Type 0} (es : List (K × V)) (i : ℕ) (k : K) (v : V) → slice_get (keys_of es) i ≡ Some k →
+    slice_get (values_of es) i ≡ Some v → slice_get es i ≡ Some (k, v)
 pair_at [] i k v key value = absurd (true≢false (ap is_some (sym key)))
 pair_at (e ∷ es) zero k v key value = ap Some (λ j. (same_Some e.0 k key j, same_Some e.1 v value j))
 pair_at (e ∷ es) (suc i) k v key value = pair_at es i k v key value
 
--- the point that is looked up stands at the place that is found
-pub found_at : (ks : List ℕ) (i p : ℕ) → Some i ≡ position (eqb p) ks → slice_get ks i ≡ Some p
+-- the place that is looked up stands at the index that is found
+pub found_at : (ks : List Place) (i : ℕ) (p : Place) → Some i ≡ position (place_eq p) ks → slice_get ks i ≡ Some p
 found_at ks i p h =
-    let r = position-Some (eqb p) ks i p (sym h) in
-    slice_get-get_or ks i p r.0 ∙ ap Some (sym (exact_unsigned_eq p (get_or ks i p) r.1))
+    let r = position-Some (place_eq p) ks i p (sym h) in
+    slice_get-get_or ks i p r.0 ∙ ap Some (sym (same_place p (get_or ks i p) r.1))
 
--- what holds of each point holds of the one at a place
-of_each : (P : ℕ → Type 0) (gs : Groups) (i p : ℕ) (s : BTreeSet Ends) → slice_get gs i ≡ Some (p, s) → AllByRecursion P (keys_of gs) → P p
-of_each P [] i p s at all = absurd (true≢false (ap is_some (sym at)))
-of_each P (g ∷ gs) zero p s at all = subst P (ap (λ h. h.0) (same_Some g (p, s) at)) all.0
-of_each P (g ∷ gs) (suc i) p s at all = of_each P gs i p s at all.1
+-- what holds of each place holds of the one at an index
+of_each : (P : Place → Type 0) (gs : Groups) (i : ℕ) (p : Place) (m : ℕ) → slice_get gs i ≡ Some (p, m) →
+    AllByRecursion P (keys_of gs) → P p
+of_each P [] i p m at all = absurd (true≢false (ap is_some (sym at)))
+of_each P (g ∷ gs) zero p m at all = subst P (ap (λ h. h.0) (same_Some g (p, m) at)) all.0
+of_each P (g ∷ gs) (suc i) p m at all = of_each P gs i p m at all.1
 
--- an edge of a point's set is an edge
-pub in_group : (gs : Groups) (i p : ℕ) (s : BTreeSet Ends) (e : Ends) → slice_get gs i ≡ Some (p, s) → Member e s.keys → Member (edge_at p e) (edges gs)
-in_group [] i p s e at m = absurd (true≢false (ap is_some (sym at)))
-in_group (g ∷ gs) zero p s e at m =
-    subst (λ (h : ℕ × BTreeSet Ends). Member (edge_at p e) (map (edge_at h.0) h.1.keys ++ edges gs)) (sym (same_Some g (p, s) at))
-    (member_left (edge_at p e) (map (edge_at p) s.keys) (edges gs) (member_map (edge_at p) s.keys e m))
-in_group (g ∷ gs) (suc i) p s e at m =
-    member_right (edge_at p e) (map (edge_at g.0) g.1.keys) (edges gs) (in_group gs i p s e at m)
+-- an edge of a mask is an edge
+pub in_group : (gs : Groups) (i : ℕ) (p : Place) (m b : ℕ) → slice_get gs i ≡ Some (p, m) → Member b (bits_below m 64) →
+    Member (edge_at p b) (edges gs)
+in_group [] i p m b at h = absurd (true≢false (ap is_some (sym at)))
+in_group (g ∷ gs) zero p m b at h =
+    subst (λ (h : Place × ℕ). Member (edge_at p b) (edges_in h.0 h.1 ++ edges gs)) (sym (same_Some g (p, m) at))
+    (member_left (edge_at p b) (edges_in p m) (edges gs) (member_map (edge_at p) (bits_below m 64) b h))
+in_group (g ∷ gs) (suc i) p m b at h =
+    member_right (edge_at p b) (edges_in g.0 g.1) (edges gs) (in_group gs i p m b at h)
 
--- the edges of a set are those of its point
-point_of : (p q : ℕ) (e : Ends) (es : List Ends) → Member (edge_at p e) (map (edge_at q) es) → p ≡ q
-point_of p q e es m = ap (λ (t : Triple). t.point) (map_member (edge_at q) es (edge_at p e) m).2
-
--- a point with no set has no edges
-pub no_edge : (gs : Groups) (p : ℕ) (e : Ends) → AllByRecursion (λ k. eqb p k ≡ false) (keys_of gs) → Member (edge_at p e) (edges gs) → ⊥
-no_edge [] p e all m = elim m [ ]
-no_edge (g ∷ gs) p e (apart, all) m =
-    elim (member_append (edge_at p e) (map (edge_at g.0) g.1.keys) (edges gs) m) [
-      | inl here' ↦ true≢false (sym (eq-eqb p g.0 (point_of p g.0 e g.1.keys here')) ∙ apart)
-      | inr later ↦ no_edge gs p e all later
+-- a place with no mask has no edges
+pub no_edge : (gs : Groups) (p : Place) (b : ℕ) → b < 64 → AllByRecursion (λ k. place_eq p k ≡ false) (keys_of gs) →
+    Member (edge_at p b) (edges gs) → ⊥
+no_edge [] p b small all h = elim h [ ]
+no_edge (g ∷ gs) p b small (apart, all) h =
+    elim (member_append (edge_at p b) (edges_in g.0 g.1) (edges gs) h) [
+      | inl here' ↦ true≢false (sym (eq_place p g.0 (own_edge p g.0 b g.1 small here').0) ∙ apart)
+      | inr later ↦ no_edge gs p b small all later
     ]
 
--- the ends of an edge of a point are in the point's set
-own_ends : (p : ℕ) (e : Ends) (es : List Ends) → Member (edge_at p e) (map (edge_at p) es) → Member e es
-own_ends p e es m =
-    let r = map_member (edge_at p) es (edge_at p e) m in
-    let same : e ≡ r.0 = (λ j. record { entry = (r.2 j).entry; values = (r.2 j).values }) in
-    subst (λ x. Member x es) (sym same) r.1
-
--- an edge is in its point's set, where no point comes twice
-pub only_in_group : (gs : Groups) (i p : ℕ) (s : BTreeSet Ends) (e : Ends) → IsDistinct eqb (keys_of gs) → slice_get gs i ≡ Some (p, s) → Member (edge_at p e) (edges gs) → Member e s.keys
-only_in_group [] i p s e d at m = absurd (true≢false (ap is_some (sym at)))
-only_in_group (g ∷ gs) zero p s e d at m =
-    let same : g ≡ (p, s) = same_Some g (p, s) at in
-    let m' : Member (edge_at p e) (map (edge_at p) s.keys ++ edges gs) = subst (λ (h : ℕ × BTreeSet Ends). Member (edge_at p e) (map (edge_at h.0) h.1.keys ++ edges gs)) same m in
-    let apart : AllByRecursion (λ k. eqb p k ≡ false) (keys_of gs) = subst (λ (h : ℕ × BTreeSet Ends). AllByRecursion (λ k. eqb h.0 k ≡ false) (keys_of gs)) same (IsDistinct-head eqb g.0 (keys_of gs) d) in
-    elim (member_append (edge_at p e) (map (edge_at p) s.keys) (edges gs) m') [
-      | inl own ↦ own_ends p e s.keys own
-      | inr later ↦ absurd (no_edge gs p e apart later)
+-- an edge is in its place's mask, where no place comes twice
+pub only_in_group : (gs : Groups) (i : ℕ) (p : Place) (m b : ℕ) → b < 64 → IsDistinct place_eq (keys_of gs) →
+    slice_get gs i ≡ Some (p, m) → Member (edge_at p b) (edges gs) → Member b (bits_below m 64)
+only_in_group [] i p m b small d at h = absurd (true≢false (ap is_some (sym at)))
+only_in_group (g ∷ gs) zero p m b small d at h =
+    let same : g ≡ (p, m) = same_Some g (p, m) at in
+    let h' : Member (edge_at p b) (edges_in p m ++ edges gs) =
+    subst (λ (h : Place × ℕ). Member (edge_at p b) (edges_in h.0 h.1 ++ edges gs)) same h in
+    let apart : AllByRecursion (λ k. place_eq p k ≡ false) (keys_of gs) =
+    subst (λ (h : Place × ℕ). AllByRecursion (λ k. place_eq h.0 k ≡ false) (keys_of gs)) same
+    (IsDistinct-head place_eq g.0 (keys_of gs) d) in
+    elim (member_append (edge_at p b) (edges_in p m) (edges gs) h') [
+      | inl own ↦ (own_edge p p b m small own).1
+      | inr later ↦ absurd (no_edge gs p b small apart later)
     ]
-only_in_group (g ∷ gs) (suc i) p s e d at m =
-    elim (member_append (edge_at p e) (map (edge_at g.0) g.1.keys) (edges gs) m) [
-      | inl first ↦ absurd (true≢false (sym (eq-eqb g.0 p (sym (point_of p g.0 e g.1.keys first))) ∙ of_each (λ k. eqb g.0 k ≡ false) gs i p s at (IsDistinct-head eqb g.0 (keys_of gs) d)))
-      | inr later ↦ only_in_group gs i p s e (IsDistinct-tail eqb g.0 (keys_of gs) d) at later
+only_in_group (g ∷ gs) (suc i) p m b small d at h =
+    elim (member_append (edge_at p b) (edges_in g.0 g.1) (edges gs) h) [
+      | inl first ↦ absurd (true≢false (sym (eq_place g.0 p (sym (own_edge p g.0 b g.1 small first).0))
+          ∙ of_each (λ k. place_eq g.0 k ≡ false) gs i p m at (IsDistinct-head place_eq g.0 (keys_of gs) d)))
+      | inr later ↦ only_in_group gs i p m b small (IsDistinct-tail place_eq g.0 (keys_of gs) d) at later
     ]
 
--- one more in a point's set is one more edge
-pub put_in_group : (gs : Groups) (i p : ℕ) (s t : BTreeSet Ends) (e : Ends) → slice_get gs i ≡ Some (p, s) → Inserts e s.keys t.keys → Inserts (edge_at p e) (edges gs) (edges (set_value_at gs i t))
-put_in_group [] i p s t e at more = absurd (true≢false (ap is_some (sym at)))
-put_in_group (g ∷ gs) zero p s t e at more =
-    subst (λ (h : ℕ × BTreeSet Ends). Inserts (edge_at p e) (map (edge_at h.0) h.1.keys ++ edges gs) (map (edge_at h.0) t.keys ++ edges gs)) (sym (same_Some g (p, s) at))
-    (before (edge_at p e) (map (edge_at p) s.keys) (map (edge_at p) t.keys) (edges gs) (mapped (edge_at p) e s.keys t.keys more))
-put_in_group (g ∷ gs) (suc i) p s t e at more =
-    behind (edge_at p e) (map (edge_at g.0) g.1.keys) (edges gs) (edges (set_value_at gs i t)) (put_in_group gs i p s t e at more)
+-- one more bit of a mask is one more edge
+pub put_in_group : (gs : Groups) (i : ℕ) (p : Place) (m w b : ℕ) → slice_get gs i ≡ Some (p, m) →
+    Inserts b (bits_below m 64) (bits_below w 64) → Inserts (edge_at p b) (edges gs) (edges (set_value_at gs i w))
+put_in_group [] i p m w b at more = absurd (true≢false (ap is_some (sym at)))
+put_in_group (g ∷ gs) zero p m w b at more =
+    subst (λ (h : Place × ℕ). Inserts (edge_at p b) (edges_in h.0 h.1 ++ edges gs)
+    (edges_in h.0 w ++ edges gs)) (sym (same_Some g (p, m) at))
+    (before (edge_at p b) (edges_in p m) (edges_in p w) (edges gs)
+    (mapped (edge_at p) b (bits_below m 64) (bits_below w 64) more))
+put_in_group (g ∷ gs) (suc i) p m w b at more =
+    behind (edge_at p b) (edges_in g.0 g.1) (edges gs) (edges (set_value_at gs i w))
+    (put_in_group gs i p m w b at more)
 
--- the same keys in a point's set are the same edges
-pub same_group : (gs : Groups) (i : ℕ) (s t : BTreeSet Ends) → slice_get (values_of gs) i ≡ Some s → t.keys ≡ s.keys → edges (set_value_at gs i t) ≡ edges gs
-same_group [] i s t at same = refl
-same_group (g ∷ gs) zero s t at same =
-    ap (λ ks. map (edge_at g.0) ks ++ edges gs) (same ∙ sym (ap (λ (h : BTreeSet Ends). h.keys) (same_Some g.1 s at)))
-same_group (g ∷ gs) (suc i) s t at same = ap (λ es. map (edge_at g.0) g.1.keys ++ es) (same_group gs i s t at same)
+-- the same mask has the same edges
+pub same_group : (gs : Groups) (i m w : ℕ) → slice_get (values_of gs) i ≡ Some m → w ≡ m →
+    edges (set_value_at gs i w) ≡ edges gs
+same_group [] i m w at same = refl
+same_group (g ∷ gs) zero m w at same =
+    ap (λ k. edges_in g.0 k ++ edges gs) (same ∙ sym (same_Some g.1 m at))
+same_group (g ∷ gs) (suc i) m w at same = ap (λ es. edges_in g.0 g.1 ++ es) (same_group gs i m w at same)
 
--- a point that is not found is none of those kept
-pub absent : (gs : Groups) (p : ℕ) → lookup (eqb p) gs ≡ None → AllByRecursion (λ k. eqb p k ≡ false) (keys_of gs)
+-- a place that is not found is none of those kept
+pub absent : (gs : Groups) (p : Place) → lookup (place_eq p) gs ≡ None →
+    AllByRecursion (λ k. place_eq p k ≡ false) (keys_of gs)
 absent [] p h = tt
-absent (g ∷ gs) p h = by (eqb p g.0) refl h (absent gs p)
+absent (g ∷ gs) p h = by (place_eq p g.0) refl h (absent gs p)
   where
-    by : (b : Bool) → eqb p g.0 ≡ b → cond b (Some g.1) (lookup (eqb p) gs) ≡ None → (lookup (eqb p) gs ≡ None → AllByRecursion (λ k. eqb p k ≡ false) (keys_of gs)) → AllByRecursion (λ k. eqb p k ≡ false) (keys_of (g ∷ gs))
+    by : (b : Bool) → place_eq p g.0 ≡ b → cond b (Some g.1) (lookup (place_eq p) gs) ≡ None →
+        (lookup (place_eq p) gs ≡ None → AllByRecursion (λ k. place_eq p k ≡ false) (keys_of gs)) →
+        AllByRecursion (λ k. place_eq p k ≡ false) (keys_of (g ∷ gs))
     by true e h rest = absurd (true≢false (ap is_some h))
     by false e h rest = (e, rest h)
 
--- the first edge of a point comes last
-pub put_last : (gs : Groups) (p : ℕ) (s : BTreeSet Ends) (e : Ends) → s.keys ≡ e ∷ [] → Inserts (edge_at p e) (edges gs) (edges (gs ++ (p, s) ∷ []))
-put_last [] p s e one = subst (λ ks. Inserts (edge_at p e) [] (map (edge_at p) ks ++ [])) (sym one) (here [])
-put_last (g ∷ gs) p s e one =
-    behind (edge_at p e) (map (edge_at g.0) g.1.keys) (edges gs) (edges (gs ++ (p, s) ∷ [])) (put_last gs p s e one)
+-- the first edge of a place comes last
+pub put_last : (gs : Groups) (p : Place) (w b : ℕ) → Inserts b [] (bits_below w 64) →
+    Inserts (edge_at p b) (edges gs) (edges (gs ++ (p, w) ∷ []))
+put_last [] p w b one =
+    before (edge_at p b) [] (edges_in p w) [] (mapped (edge_at p) b [] (bits_below w 64) one)
+put_last (g ∷ gs) p w b one =
+    behind (edge_at p b) (edges_in g.0 g.1) (edges gs) (edges (gs ++ (p, w) ∷ [])) (put_last gs p w b one)

@@ -29,7 +29,8 @@ one_longer x xs ys (here us) = omega arith
 one_longer x xs ys (there y us vs i) = let e = one_longer x us vs i in omega (arith, e)
 
 -- nothing stands twice where x is new
-pub still_none_twice : {A : Type 0} (x : A) (xs ys : List A) → Inserts x xs ys → (Member x xs → ⊥) → NoneTwice xs → NoneTwice ys
+pub still_none_twice : {A : Type 0} (x : A) (xs ys : List A) → Inserts x xs ys →
+    (Member x xs → ⊥) → NoneTwice xs → NoneTwice ys
 still_none_twice x xs ys (here _) new n = (new, n)
 still_none_twice x xs ys (there y us vs i) new (y_once, n) = (
   λ m. elim (is_new_or_old x y us vs i m) [ inl e ↦ new (inl (sym e)) | inr old ↦ y_once old ],

@@ -1,4 +1,5 @@
 pub mod Inserted
-pub mod Keys
+pub mod Masks
+pub mod Places
 pub mod Grouped
 pub mod Settled

@@ -1,33 +1,38 @@
--- What an insert into a point's set does to the edges of all points.
-use Rattle.std.proofs.Common.{◌≡◌, ℕ, Bool, true, false, not, List, Some, slice_get, refl, sym, ◌∙◌, subst, true≢false, nat_eq}
-use Rattle.std.specs.Bool.{OnFalse}
-use Rattle.std.specs.List.{IsDistinct, list_any}
-use Rattle.std.specs.Map.{keys_of, values_of}
-use Rattle.std.specs.BTreeMap.{is_at}
-use Rattle.std.specs.BTreeSet.{BTreeSet, insert_key}
-use Rattle.indexmap.specs.IndexMap.{set_value_at}
+-- What a point that is put into a mask does to the edges of all masks.
+use Rattle.std.proofs.Common.{◌≡◌, ℕ, ◌<◌, ◌^◌, Bool, true, false, List, None, Some, slice_get, sym, ◌∙◌, subst, true≢false}
+use Rattle.std.specs.List.{IsDistinct}
+use Rattle.std.specs.Map.{keys_of, values_of, lookup}
+use Rattle.indexmap.specs.IndexMap.{IndexMap, set_value_at, insert_entry}
+use Rattle.indexmap.proofs.CallerLemmas.{insert_entry-new}
 use Rattle.language.specs.Flow.{Member}
-use Rattle.path_sets.specs.declared.ends.Ends.{Ends}
-use Rattle.path_sets.specs.Edges.{edge_at, edges}
+use Rattle.path_sets.specs.declared.place.Place.{Place}
+use Rattle.path_sets.specs.Edges.{edge_at, edges, place_eq}
 use Rattle.path_sets.specs.Inserts.{Inserts, Settles}
-use Rattle.path_sets.proofs.Keys.{ends_cmp, ends_eq, same_ends, ends_themselves, found_is_in, is_found, put_in}
-use Rattle.path_sets.proofs.Grouped.{Groups, in_group, only_in_group, put_in_group, same_group}
+use Rattle.path_sets.specs.Masks.{Marks}
+use Rattle.path_sets.proofs.Masks.{bits_known, bits_hold, put_bit, first_bit}
+use Rattle.path_sets.proofs.Grouped.{Groups, in_group, only_in_group, put_in_group, same_group, absent, no_edge, put_last}
 
-module _ (gs : Groups) (i p : ℕ) (s t : BTreeSet Ends) (e : Ends)
-    (distinct : IsDistinct nat_eq (keys_of gs)) (at : slice_get gs i ≡ Some (p, s)) where
-  -- the set of a point settles what is an edge
-  pub settled : (added : Bool) → added ≡ not (list_any (is_at (ends_cmp e)) s.keys) → t.keys ≡ insert_key ends_cmp s.keys e → OnFalse added (t.keys ≡ s.keys)
-      → slice_get (values_of gs) i ≡ Some s → Settles (edge_at p e) (edges gs) (edges (set_value_at gs i t)) added
-  settled added is keys same value = by (list_any (is_at (ends_cmp e)) s.keys) refl added is same
-    where
-      by : (found : Bool) → list_any (is_at (ends_cmp e)) s.keys ≡ found → (added : Bool) → added ≡ not found → OnFalse added (t.keys ≡ s.keys) → Settles (edge_at p e) (edges gs) (edges (set_value_at gs i t)) added
-      by true f true is same = absurd (true≢false is)
-      by true f false is same = (same_group gs i s t value same, in_group gs i p s e at (found_is_in ends_eq same_ends e s.keys f))
-      by false f true is same = (
-        put_in_group gs i p s t e at (subst (Inserts e s.keys) (sym keys) (put_in ends_cmp e s.keys f)),
-        λ m. true≢false (sym (is_found ends_eq ends_themselves e s.keys (only_in_group gs i p s e distinct at m)) ∙ f),
-      )
-      by false f false is same = absurd (true≢false (sym is))
+-- the mask of a place settles what is an edge
+pub settled : (gs : Groups) (i : ℕ) (p : Place) (m w b : ℕ) → b < 64 → IsDistinct place_eq (keys_of gs) →
+    slice_get gs i ≡ Some (p, m) → slice_get (values_of gs) i ≡ Some m → (added : Bool) → Marks b m w added →
+    Settles (edge_at p b) (edges gs) (edges (set_value_at gs i w)) added
+settled gs i p m w b small distinct at value true (clear, set, others) = (
+  put_in_group gs i p m w b at (put_bit m w b 64 small clear set others),
+  λ h. true≢false (sym (bits_known m b 64 (only_in_group gs i p m b small distinct at h)).1 ∙ clear),
+)
+settled gs i p m w b small distinct at value false (set, same) =
+    (same_group gs i m w value same, in_group gs i p m b at (bits_hold m b 64 small set))
+
+-- the first point of a place that had none is a new edge
+pub started : {S : Type 0} (old : IndexMap Place ℕ S) (new : Groups) (p : Place) (w b : ℕ) → b < 64 → w ≡ 2 ^ b →
+    lookup (place_eq p) old.entries ≡ None → new ≡ insert_entry place_eq old.entries p w →
+    Settles (edge_at p b) (edges old.entries) (edges new) true
+started old new p w b small is none made = (
+  subst (λ (es : Groups). Inserts (edge_at p b) (edges old.entries) (edges es))
+      (sym (made ∙ insert_entry-new place_eq old p w none))
+      (put_last old.entries p w b (first_bit w b small is)),
+  no_edge old.entries p b small (absent old.entries p none),
+)
 
 module _ {A : Type 0} (x : A) (old new : List A) where
   -- where the answer is that x was put in, it was no member

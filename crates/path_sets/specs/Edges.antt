@@ -1,14 +1,22 @@
--- The path edges that ordered sets keep.
-use Rattle.std.specs.Prelude.{ℕ, List, [], ◌∷◌, ◌++◌, map}
-use Rattle.std.specs.BTreeSet.{BTreeSet}
-use Rattle.path_sets.specs.declared.ends.Ends.{Ends}
+-- The path edges that masks keep.
+use Rattle.std.specs.Prelude.{ℕ, ◌+◌, ◌*◌, Bool, ◌&&◌, nat_eq, List, [], ◌∷◌, ◌++◌, map}
+use Rattle.path_sets.specs.declared.place.Place.{Place}
+use Rattle.path_sets.specs.Masks.{bits_below}
 use Rattle.path_sets.specs.Triples.{Triple, triple}
 
--- the path edge with these valuations at a point
-abbrev pub edge_at : ℕ → Ends → Triple
-edge_at p e = triple e.entry p e.values
+-- whether two places are the same
+abbrev pub place_eq : Place → Place → Bool
+place_eq x y = nat_eq x.entry y.entry && (nat_eq x.values y.values && nat_eq x.block y.block)
 
--- the path edges of all points
-abbrev pub edges : List (ℕ × BTreeSet Ends) → List Triple
+-- the path edge at a bit of a place's mask: a block has 64 points
+abbrev pub edge_at : Place → ℕ → Triple
+edge_at p bit = triple p.entry (64 * p.block + bit) p.values
+
+-- the path edges of a place's mask
+abbrev pub edges_in : Place → ℕ → List Triple
+edges_in p mask = map (edge_at p) (bits_below mask 64)
+
+-- the path edges of all masks
+abbrev pub edges : List (Place × ℕ) → List Triple
 edges [] = []
-edges (g ∷ gs) = map (edge_at g.0) g.1.keys ++ edges gs
+edges (g ∷ gs) = edges_in g.0 g.1 ++ edges gs

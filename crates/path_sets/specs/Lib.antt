@@ -1,3 +1,4 @@
 pub mod Triples
 pub mod Inserts
+pub mod Masks
 pub mod Edges

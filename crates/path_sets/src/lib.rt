@@ -5,9 +5,10 @@
 //! once, where `insert` answers that it was new.
 #![tactic(auto)]
 
-mod ends;
+mod mask;
 mod ordered;
 mod path_set;
+mod place;
 
 pub use ordered::OrderedEdges;
 pub use path_set::PathSet;

@@ -1,75 +1,106 @@
-//! A set of path edges that keeps, for each point, its edges in order.
+//! A set of path edges that keeps a mask of points for each valuation of each entry.
 
-ghost use Rattle.std.specs.Prelude.{◌≡◌, length, nat_eq, None, IfOk, OnErr};
-ghost use Rattle.indexmap.specs.IndexMap.{get_by};
+ghost use Rattle.std.specs.Prelude.{◌≡◌, ◌<◌, length, None, Some, slice_get, IfOk, IfSome, IsNone, OnErr};
+ghost use Rattle.std.specs.Map.{lookup};
+ghost use Rattle.std.proofs.lemmas.Map.Keys.{IsDistinct-prop};
+ghost use Rattle.indexmap.specs.IndexMap.{IsUnique, index_map_len, keys};
 ghost use Rattle.path_sets.specs.Triples.{NoneTwice, NoneTwice-prop};
-ghost use Rattle.path_sets.specs.Edges.{edges, edge_at};
+ghost use Rattle.path_sets.specs.Edges.{edges, edge_at, place_eq};
 ghost use Rattle.path_sets.specs.Inserts.{Settles};
 
-use crate::ends::Ends;
+use crate::mask::{has, mark, one};
 use crate::path_set::PathSet;
+use crate::place::{Place, place_of};
 use indexmap::IndexMap;
 use language::{Point, Word};
 use std::alloc::{AllocError, Allocator};
-use std::collections::BTreeSet;
 use std::hash::{BuildHasherDefault, FoldHasher};
 
-/// The edges of each point that has any, the points in the order in which they are first reached.
-type Points<A> = IndexMap<Point, BTreeSet<Ends, A>, BuildHasherDefault<FoldHasher>, A>;
+/// The masks of the places that have any points, in the order in which the places are first met.
+type Masks<A> = IndexMap<Place, u64, BuildHasherDefault<FoldHasher>, A>;
 
-/// Path edges in one ordered set for each point that is reached, of all entries together: where each entry reaches a
-/// point with one valuation, a set for each of them would hold one edge.
+/// Path edges in one mask of 64 points for each valuation of each entry, in first-seen order: a valuation mostly goes
+/// unchanged through many points.
 #[derive(Drop)]
 pub struct OrderedEdges<A: Allocator> {
-    points: Points<A>,
+    masks: Masks<A>,
+    /// The index of the place that was used last, which is mostly that of the next edge.
+    last: usize,
     count: u64,
-    ghost counted: { count ≡ length (edges points.entries) },
-    ghost once: { NoneTwice (edges points.entries) } by { NoneTwice-prop (edges points.entries) },
+    ghost unique: { IsUnique place_eq masks } by { IsDistinct-prop place_eq (keys masks) },
+    ghost counted: { count ≡ length (edges masks.entries) },
+    ghost once: { NoneTwice (edges masks.entries) } by { NoneTwice-prop (edges masks.entries) },
 }
 
-/// Puts an edge into the set of a point that has none yet.
-fn start<A: Allocator + Copy>(
-    points: &mut Points<A>,
-    point: Point,
-    ends: Ends,
-) -> Result<bool, AllocError>
-    requires { get_by (nat_eq point) points.old ≡ None }
-    ensures ok { IfOk result (Settles (edge_at point ends) (edges points.old.entries) (edges points.new.entries)) }
-    ensures err { OnErr result (edges points.new.entries ≡ edges points.old.entries) }
+/// The index of a place, if it has a mask; the one used last is tried first.
+fn find<A: Allocator + Copy>(masks: &Masks<A>, last: usize, place: &Place) -> Option<usize>
+    ensures here { IfSome result (λ at. slice_get (keys masks.now) at ≡ Some place.now) }
+    ensures within { IfSome result (λ at. at < index_map_len masks.now) }
+    ensures none { IsNone result → lookup (place_eq place.now) masks.now.entries ≡ None }
 {
-    let mut first = BTreeSet::new(*points.allocator());
-    first.insert(ends)?;
-    points.insert(point, first)?;
+    if let Some((used, _)) = masks.get_index(last) {
+        if used == place {
+            return Some(last);
+        }
+    }
+    masks.get_index_of(place)
+}
+
+/// Begins the mask of a place that has none.
+fn start<A: Allocator + Copy>(
+    masks: &mut Masks<A>,
+    place: Place,
+    bit: usize,
+) -> Result<bool, AllocError>
+    requires bit { bit < 64 }
+    requires none { lookup (place_eq place) masks.old.entries ≡ None }
+    ensures ok { IfOk result (Settles (edge_at place bit) (edges masks.old.entries) (edges masks.new.entries)) }
+    ensures err { OnErr result (edges masks.new.entries ≡ edges masks.old.entries) }
+    ensures unique { IsUnique place_eq masks.new }
+{
+    masks.insert(place, one(bit))?;
     Ok(true)
 }
 
-/// Puts an edge into the set of its point. Answers whether it is new.
+/// Puts a point into the mask of its place. Answers whether it is new.
 fn put<A: Allocator + Copy>(
-    points: &mut Points<A>,
-    point: Point,
-    ends: Ends,
+    masks: &mut Masks<A>,
+    last: &mut usize,
+    place: Place,
+    bit: usize,
 ) -> Result<bool, AllocError>
-    ensures ok { IfOk result (Settles (edge_at point ends) (edges points.old.entries) (edges points.new.entries)) }
-    ensures err { OnErr result (edges points.new.entries ≡ edges points.old.entries) }
+    requires bit { bit < 64 }
+    requires unique { IsUnique place_eq masks.old }
+    ensures ok { IfOk result (Settles (edge_at place bit) (edges masks.old.entries) (edges masks.new.entries)) }
+    ensures err { OnErr result (edges masks.new.entries ≡ edges masks.old.entries) }
+    ensures unique { IsUnique place_eq masks.new }
 {
-    match points.get_index_of(&point) {
-        Some(at) => Ok(points[at].insert(ends)?),
-        None => start(points, point, ends),
+    match find(masks, *last, &place) {
+        Some(at) => {
+            *last = at;
+            Ok(mark(&mut masks[at], bit))
+        }
+        None => {
+            *last = masks.len();
+            start(masks, place, bit)
+        }
     }
 }
 
 impl<A: Allocator + Copy> PathSet<A> for OrderedEdges<A> {
-    ghost members = { λ s. edges s.points.entries };
+    ghost members = { λ s. edges s.masks.entries };
 
     fn empty(alloc: A) -> Self {
         OrderedEdges {
-            points: IndexMap::new(alloc),
+            masks: IndexMap::new(alloc),
+            last: 0,
             count: 0,
         }
     }
 
     fn insert(&mut self, entry: Word, point: Point, values: Word) -> Result<bool, AllocError> {
-        let added = put(&mut self.points, point, Ends { entry, values })?;
+        let (place, bit) = place_of(entry, point, values);
+        let added = put(&mut self.masks, &mut self.last, place, bit)?;
         if added {
             self.count += 1;
         }
@@ -77,8 +108,9 @@ impl<A: Allocator + Copy> PathSet<A> for OrderedEdges<A> {
     }
 
     fn contains(&self, entry: Word, point: Point, values: Word) -> bool {
-        match self.points.get_index_of(&point) {
-            Some(at) => self.points[at].contains(&Ends { entry, values }),
+        let (place, bit) = place_of(entry, point, values);
+        match find(&self.masks, self.last, &place) {
+            Some(at) => has(self.masks[at], bit),
             None => false,
         }
     }

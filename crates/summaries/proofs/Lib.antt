@@ -1,5 +1,6 @@
 pub mod Quiet
 pub mod Indexed
+pub mod Keys
 pub mod Mails
 pub mod Firsts
 pub mod Eaches

@@ -8,7 +8,7 @@ use Rattle.std.proofs.lemmas.Map.Views.{exact_unsigned_eq}
 use Rattle.language.specs.Flow.{Member}
 use Rattle.language.proofs.Members.{member_left, member_right, member_append}
 use Rattle.path_sets.specs.Triples.{NoneTwice}
-use Rattle.path_sets.proofs.Keys.{found_is_in, is_found}
+use Rattle.summaries.proofs.Keys.{found_is_in, is_found}
 use Rattle.indexmap.specs.IndexSet.{insert_key}
 use Rattle.summaries.specs.declared.due.Caller.{Caller}
 use Rattle.summaries.specs.declared.due.Caller.TheVariants.{Starter, Proc}

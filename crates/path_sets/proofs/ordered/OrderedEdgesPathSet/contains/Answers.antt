@@ -1,26 +1,31 @@
-use Rattle.std.proofs.Common.{◌≡◌, false, refl, sym, ◌∙◌, true≢false, Option, None, Some, is_some}
-use Rattle.path_sets.specs.declared.ends.Ends.{Ends}
-use Rattle.path_sets.proofs.Keys.{ends_eq, same_ends, ends_themselves, found_is_in, is_found}
-use Rattle.path_sets.proofs.Grouped.{pair_at, found_at, in_group, only_in_group, absent, no_edge}
+use Rattle.std.proofs.Common.{refl, sym, ◌∙◌, true≢false, subst}
+use Rattle.language.specs.Flow.{Member}
+use Rattle.path_sets.specs.Edges.{edges}
+use Rattle.path_sets.proofs.Masks.{bits_known, bits_hold}
+use Rattle.path_sets.proofs.Grouped.{pair_at, in_group, only_in_group, absent, no_edge}
 use Rattle.path_sets.proofs.ordered.OrderedEdgesPathSet.contains.Goals as goal
 
 pub returns-in-Some : goal.returns-in-Some
 returns-in-Some g c =
-    let gs = c.args.self.now.points.entries in
-    let e : Ends = record { entry = c.args.entry; values = c.args.values } in
-    let s = c.index.result.now in
-    let at = pair_at gs c.in-Some.at c.args.point s (found_at _ _ c.args.point c.in-Some.ensures.index) c.index.ensures in (
-      λ h. in_group gs c.in-Some.at c.args.point s e at (found_is_in ends_eq same_ends e s.keys (sym c.contains.ensures ∙ h)),
-      λ m. c.contains.ensures ∙ is_found ends_eq ends_themselves e s.keys (only_in_group gs c.in-Some.at c.args.point s e c.in-Some.ensures.unique at m),
+    let s = c.args.self.now in
+    let gs = s.masks.entries in
+    let p = c.place_of-bit.result.0 in
+    let b = c.place_of-bit.result.1 in
+    let small = c.place_of-bit.ensures.bit in
+    let m = c.index.result.now in
+    let at = pair_at gs c.in-Some.at p m c.in-Some.ensures.here c.index.ensures in (
+      λ h. subst (λ t. Member t (edges gs)) c.place_of-bit.ensures.edge
+          (in_group gs c.in-Some.at p m b at (bits_hold m b 64 small (sym c.has.ensures ∙ h))),
+      λ there. c.has.ensures ∙ (bits_known m b 64 (only_in_group gs c.in-Some.at p m b small s.unique at
+          (subst (λ t. Member t (edges gs)) (sym c.place_of-bit.ensures.edge) there))).1,
     )
-
-is_none : {A : Type 0} (o : Option A) → false ≡ is_some o → o ≡ None
-is_none None h = refl
-is_none (Some x) h = absurd (true≢false (sym h))
 
 pub returns-in-None : goal.returns-in-None
 returns-in-None g c =
-    let gs = c.args.self.now.points.entries in (
+    let gs = c.args.self.now.masks.entries in
+    let p = c.place_of-bit.result.0 in (
       λ h. absurd (true≢false (sym h)),
-      λ m. absurd (no_edge gs c.args.point (record { entry = c.args.entry; values = c.args.values }) (absent gs c.args.point (is_none _ c.in-None.ensures.found)) m),
+      λ there. absurd (no_edge gs p c.place_of-bit.result.1 c.place_of-bit.ensures.bit
+          (absent gs p (c.in-None.ensures.none refl))
+          (subst (λ t. Member t (edges gs)) (sym c.place_of-bit.ensures.edge) there)),
     )

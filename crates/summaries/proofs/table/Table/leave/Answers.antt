@@ -2,7 +2,7 @@ use Rattle.std.proofs.Common.{◌≡◌, ◌∷◌, [], nat_eq, inl, refl, sym, 
 use Rattle.language.specs.Flow.{Member}
 use Rattle.language.proofs.Members.{member_right}
 use Rattle.path_sets.specs.Triples.{triple}
-use Rattle.path_sets.proofs.Keys.{found_is_in}
+use Rattle.summaries.proofs.Keys.{found_is_in}
 use Rattle.summaries.specs.declared.found.Found.{Found}
 use Rattle.summaries.specs.Under.{under}
 use Rattle.summaries.specs.Found.{pair, pair_eq}

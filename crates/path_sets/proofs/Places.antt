@@ -1,0 +1,45 @@
+-- Places that compare as equal, and the edges of a place.
+use Rattle.std.proofs.Common.{◌≡◌, ℕ, ◌+◌, ◌*◌, ◌<◌, Bool, true, false, ◌&&◌, nat_eq, refl, sym, ap, ap₂, subst, true≢false, eq-eqb, arith}
+use Rattle.std.proofs.lemmas.Map.Views.{exact_unsigned_eq}
+use Rattle.language.specs.Flow.{Member}
+use Rattle.language.proofs.Members.{map_member}
+use Rattle.path_sets.specs.declared.place.Place.{Place}
+use Rattle.path_sets.specs.Edges.{edge_at, edges_in, place_eq}
+use Rattle.path_sets.specs.Masks.{bits_below}
+use Rattle.path_sets.specs.Triples.{Triple}
+use Rattle.path_sets.proofs.Masks.{bits_known}
+
+-- a conjunction's parts
+both : (a b : Bool) → (a && b) ≡ true → (a ≡ true) × (b ≡ true)
+both true b h = (refl, h)
+both false b h = absurd (true≢false (sym h))
+
+-- places that compare as equal are the same
+pub same_place : (x y : Place) → place_eq x y ≡ true → x ≡ y
+same_place x y h =
+    let (entry, rest) = both (nat_eq x.entry y.entry) (nat_eq x.values y.values && nat_eq x.block y.block) h in
+    let (values, block) = both (nat_eq x.values y.values) (nat_eq x.block y.block) rest in
+    let e : x.entry ≡ y.entry = exact_unsigned_eq x.entry y.entry entry in
+    let v : x.values ≡ y.values = exact_unsigned_eq x.values y.values values in
+    let b : x.block ≡ y.block = exact_unsigned_eq x.block y.block block in
+    λ j. record { entry = e j; values = v j; block = b j }
+
+-- the same place compares as equal
+pub eq_place : (x y : Place) → x ≡ y → place_eq x y ≡ true
+eq_place x y is =
+    ap₂ ◌&&◌ (eq-eqb x.entry y.entry (ap (λ (p : Place). p.entry) is))
+    (ap₂ ◌&&◌ (eq-eqb x.values y.values (ap (λ (p : Place). p.values) is))
+    (eq-eqb x.block y.block (ap (λ (p : Place). p.block) is)))
+
+-- an edge among those of a mask is of its place, and its bit is 1
+pub own_edge : (p q : Place) (b m : ℕ) → b < 64 → Member (edge_at p b) (edges_in q m) →
+    (p ≡ q) × Member b (bits_below m 64)
+own_edge p q b m small h =
+    let (c, there, same) = map_member (edge_at q) (bits_below m 64) (edge_at p b) h in
+    let small' : c < 64 = (bits_known m c 64 there).0 in
+    let point : 64 * p.block + b ≡ 64 * q.block + c = ap (λ (t : Triple). t.point) same in
+    let block : p.block ≡ q.block = omega (arith, point, small, small') in
+    let bit : c ≡ b = omega (arith, point, small, small') in (
+      λ j. record { entry = (same j).entry; values = (same j).values; block = block j },
+      subst (λ x. Member x (bits_below m 64)) bit there,
+    )

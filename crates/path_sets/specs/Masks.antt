@@ -1,0 +1,19 @@
+-- Sets of 64 points as masks: bit i of the number is 1 where point i of a block is in the set.
+use Rattle.std.specs.Prelude.{◌≡◌, ◌≢◌, ℕ, zero, suc, Bool, true, false, cond, List, [], ◌∷◌, ◌==◌}
+use Rattle.std.specs.Int.{bit_at}
+
+-- whether bit i of the mask is 1
+abbrev pub bit_of : ℕ → ℕ → Bool
+bit_of mask i = bit_at mask i == 1
+
+-- the bits below this one that are 1, the highest first
+abbrev pub bits_below : ℕ → ℕ → List ℕ
+bits_below mask zero = []
+bits_below mask (suc n) = cond (bit_of mask n) (n ∷ bits_below mask n) (bits_below mask n)
+
+-- The bit was 0, and is 1, and the others are as they were; or it was 1, and the mask is as it was. The answer says
+-- which.
+abbrev pub Marks : ℕ → ℕ → ℕ → Bool → Type 0
+Marks bit old new true =
+    (bit_of old bit ≡ false) × (bit_of new bit ≡ true) × ((i : ℕ) → i ≢ bit → bit_of new i ≡ bit_of old i)
+Marks bit old new false = (bit_of old bit ≡ true) × (new ≡ old)
