@@ -16,7 +16,9 @@ use syntax::{Core, Stmt};
 /// this number; `None` where none has the label.
 #[cycle(finding)]
 pub(crate) fn find<N: Allocator>(label: &str, stmts: &[Stmt<N>], first: Point) -> Option<Point>
-    ensures { (s : Scope) (k : Code) → first + statements (block_of stmts.now) ≤ 18446744073709551615 → result ≡ option_map point_at (rest_from label.now (numbered first (resolve_block s (block_of stmts.now))) k) }
+    ensures { (s : Scope) (k : Code) → first + statements (block_of stmts.now) ≤ 18446744073709551615 →
+        result ≡ option_map point_at (rest_from label.now
+        (numbered first (resolve_block s (block_of stmts.now))) k) }
 {
     let mut at = first;
     for stmt in stmts {
@@ -31,7 +33,9 @@ pub(crate) fn find<N: Allocator>(label: &str, stmts: &[Stmt<N>], first: Point) -
 /// The same for one statement, which has this number, and those inside of it.
 #[cycle(finding)]
 fn find_at<N: Allocator>(label: &str, stmt: &Stmt<N>, number: Point) -> Option<Point>
-    ensures { (s : Scope) (k : Code) → number + statements (block_of (stmt.now ∷ [])) ≤ 18446744073709551615 → result ≡ option_map point_at (rest_from label.now (numbered number (resolve_block s (block_of (stmt.now ∷ [])))) k) }
+    ensures { (s : Scope) (k : Code) → number + statements (block_of (stmt.now ∷ [])) ≤ 18446744073709551615 →
+        result ≡ option_map point_at (rest_from label.now
+        (numbered number (resolve_block s (block_of (stmt.now ∷ [])))) k) }
 {
     if stmt.is_labelled(label) {
         return Some(number);

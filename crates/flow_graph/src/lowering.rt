@@ -30,7 +30,8 @@ use syntax::{Core, Expr, Name, Rhs, Stmt, number_of_procedure};
 
 /// The point at which statements begin, the first of which has this number, where the run goes on at `after` behind them.
 pub(crate) fn begin<N: Allocator>(stmts: &[Stmt<N>], first: Point, after: Point) -> Point
-    ensures { (s : Rattle.language.specs.Resolve.Scope) (k : Code) → point_at k ≡ after → result ≡ point_at (join (numbered first (resolve_block s (block_of stmts.now))) k) }
+    ensures { (s : Rattle.language.specs.Resolve.Scope) (k : Code) → point_at k ≡ after →
+        result ≡ point_at (join (numbered first (resolve_block s (block_of stmts.now))) k) }
 {
     if stmts.is_empty() { after } else { first }
 }
@@ -66,7 +67,8 @@ impl<'a, N: Allocator, A: Allocator + Clone> Lowering<'a, N, A> {
     /// On to the statement with a label.
     fn jump(&self, label: &Name<N>) -> Result<Flow<A>, AllocError>
         requires { IsLowerable self.now }
-        ensures { IfOk result (λ f. statements (block_of self.now.body.now) < 18446744073709551615 → DoesIn self.now f (goes_to (rest_from (name_of label.now).text (lowered_body self.now) done))) }
+        ensures { IfOk result (λ f. statements (block_of self.now.body.now) < 18446744073709551615 →
+            DoesIn self.now f (goes_to (rest_from (name_of label.now).text (lowered_body self.now) done))) }
     {
         match find(label.text.as_str(), self.body, 1) {
             Some(to) => self.going(to),
@@ -96,7 +98,9 @@ impl<'a, N: Allocator, A: Allocator + Clone> Lowering<'a, N, A> {
     /// An assignment.
     fn assignment(&self, xs: &[Name<N>], rs: &[Rhs<N>], to: Point) -> Result<Flow<A>, AllocError>
         requires { IsLowerable self.now }
-        ensures { IfOk result (λ f. DoesIn self.now f (assigns (map (place_of (lowering_scope self.now)) (names_of xs.now)) (map (resolve_side (lowering_scope self.now)) (rhss_of rs.now)) to)) }
+        ensures { IfOk result (λ f. DoesIn self.now f
+            (assigns (map (place_of (lowering_scope self.now)) (names_of xs.now))
+            (map (resolve_side (lowering_scope self.now)) (rhss_of rs.now)) to)) }
     {
         Ok(Flow::Assign(self.scope.assignment(self.alloc, xs, rs)?, to))
     }
@@ -104,7 +108,9 @@ impl<'a, N: Allocator, A: Allocator + Clone> Lowering<'a, N, A> {
     /// A call. No run goes on where there is no such procedure, or where its valuation would have more than 64 places.
     fn call(&self, p: &Name<N>, es: &[Expr<N>], back: Point) -> Result<Flow<A>, AllocError>
         requires { IsLowerable self.now }
-        ensures { IfOk result (λ f. DoesIn self.now f (calls (number_of (name_of p.now).text (lowering_scope self.now).procedures) (map (resolve_expression (lowering_scope self.now)) (exprs_of es.now)) back)) }
+        ensures { IfOk result (λ f. DoesIn self.now f
+            (calls (number_of (name_of p.now).text (lowering_scope self.now).procedures)
+            (map (resolve_expression (lowering_scope self.now)) (exprs_of es.now)) back)) }
     {
         let callee = number_of_procedure(self.scope.procedures, p.text.as_str());
         if callee >= self.scope.procedures.len() {

@@ -9,7 +9,8 @@ ghost use Rattle.language.specs.Messages.{Reached, Owes, EdgeTo, IsValuationOf, 
 ghost use Rattle.flow_graph.specs.Nodes.{point_at};
 ghost use Rattle.flow_graph.specs.Flows.{code};
 ghost use Rattle.flow_graph.specs.Graphs.{IsGraph, IsInTextOrder};
-ghost use Rattle.flow_graph.specs.Numbers.{NumberedMessage, numbered_entry, by_numbers, GraphReaches, Sends, IsNumberOf, AreNumbersOf, IsNumberOfValuation, AreNumbersOfEdge};
+ghost use Rattle.flow_graph.specs.Numbers.{NumberedMessage, numbered_entry, by_numbers, GraphReaches, Sends};
+ghost use Rattle.flow_graph.specs.Numbers.{IsNumberOf, AreNumbersOf, IsNumberOfValuation, AreNumbersOfEdge};
 ghost use Rattle.flow_graph.specs.Triples.{HoldStarts, HoldFlows, HoldReturns, HoldAsks, HoldTells};
 ghost use Rattle.flow_graph.specs.declared.graph.Graph.{Graph};
 ghost use Rattle.flow_graph.specs.Drawn.{flows_of};

@@ -7,7 +7,8 @@ ghost use Rattle.language.specs.Messages.{EdgeTo, ArgumentsFit};
 ghost use Rattle.round_rewrite.specs.Law.{SomeBad};
 ghost use Rattle.flow_graph.specs.Bits.{bit_of};
 ghost use Rattle.flow_graph.specs.Graphs.{AreGraphs, IsInTextOrder};
-ghost use Rattle.flow_graph.specs.Numbers.{NumberedMessage, numbered_entry, GraphReaches, Leaves, IsNumberOf, AreNumbersOf, IsNumberOfEntry, AreNumbersOfPair, HasTaken, TakesOpening, TakesSent, TakesDue};
+ghost use Rattle.flow_graph.specs.Numbers.{NumberedMessage, numbered_entry, GraphReaches, Leaves, IsNumberOf, AreNumbersOf};
+ghost use Rattle.flow_graph.specs.Numbers.{IsNumberOfEntry, AreNumbersOfPair, HasTaken, TakesOpening, TakesSent, TakesDue};
 ghost use Rattle.flow_graph.specs.declared.graph.Graph.{Graph};
 
 use std::alloc::Allocator;

@@ -1,5 +1,6 @@
 -- The edges of all masks, and those of one mask among them.
-use Rattle.std.proofs.Common.{◌≡◌, ℕ, ◌<◌, Bool, true, false, cond, List, [], ◌∷◌, ◌++◌, None, Some, get_or, slice_get, position, inl, inr, refl, sym, ap, ◌∙◌, subst, true≢false, suc, zero, is_some}
+use Rattle.std.proofs.Common.{◌≡◌, ℕ, ◌<◌, Bool, true, false, cond, List, [], ◌∷◌, ◌++◌, None, Some, get_or}
+use Rattle.std.proofs.Common.{slice_get, position, inl, inr, refl, sym, ap, ◌∙◌, subst, true≢false, suc, zero, is_some}
 use Rattle.std.specs.Map.{keys_of, values_of, lookup}
 use Rattle.std.specs.List.{IsDistinct, AllByRecursion}
 use Rattle.std.proofs.lemmas.Map.Keys.{IsDistinct-head, IsDistinct-tail}

@@ -11,7 +11,8 @@ use Rattle.scopes.specs.Resolves.{Each}
 use Rattle.scopes.specs.Statements.{variables_of, variables_of_side, variables_of_sides, variables_of_all}
 use Rattle.scopes.proofs.Works.{each_left, each_right}
 use Rattle.round_rewrite.specs.Table.{numbers, plain, temporaries, in_round, expression, side, rounds, targets, sides, draws, drawing}
-use Rattle.round_rewrite.specs.Table.{stop_test, rise, prologue, statement, rewritten, guess, guesses, starts, check, checks, copied, globals}
+use Rattle.round_rewrite.specs.Table.{stop_test, rise, prologue, statement, rewritten, guess}
+use Rattle.round_rewrite.specs.Table.{guesses, starts, check, checks, copied, globals}
 use Rattle.round_rewrite.specs.Names.{named, copy_name, save_name, drawn_name, names, rewritten_procedure, main_procedure, rewritten_tree}
 use Rattle.round_rewrite.specs.Narrow.{IsNarrow}
 use Rattle.round_rewrite.specs.Places.{global_count}

@@ -145,7 +145,8 @@ impl<'a, N: Allocator, A: Allocator + Copy> Writer<'a, N, A> {
     /// That there is a next round.
     fn not_last(&self) -> Result<Core<A>, AllocError>
         ensures { IfOk result
-            (λ c. deed_of c ≡ simple (assume (value (negation (in_round (naming_of self.now) self.now.rounds.last self.now.rounds.last))))) }
+            (λ c. deed_of c ≡ simple (assume (value (negation
+            (in_round (naming_of self.now) self.now.rounds.last self.now.rounds.last))))) }
     {
         let is_last = self.at(self.rounds.last)?;
         let other = not(self.alloc, is_last)?;

@@ -99,7 +99,8 @@ impl<'a, N: Allocator, A: Allocator + Copy> Writer<'a, N, A> {
     /// The copy of a global for the round, where the round is this one.
     fn active(&self, round: u8, x: &Name<N>) -> Result<Expr<A>, AllocError>
         requires { round < most_rounds }
-        ensures { IfOk result (λ e. expr_of e ≡ two Rattle.language.specs.Tree.and (in_round (naming_of self.now) self.now.rounds.last round) (var (copy_name round (name_of x.now)))) }
+        ensures { IfOk result (λ e. expr_of e ≡ two Rattle.language.specs.Tree.and
+            (in_round (naming_of self.now) self.now.rounds.last round) (var (copy_name round (name_of x.now)))) }
     {
         let is_round = self.at(round)?;
         operation(
