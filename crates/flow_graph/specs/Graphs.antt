@@ -37,7 +37,8 @@ pub record IsGraph {A : Type 0} (p : Program) (q : ℕ) (graph : Graph A) : Type
   pub globals : globals_of graph ≡ p.globals
   pub start : start_of graph ≡ point_at (body_of (slice_get p.routines q))
   pub points : length (flows_of graph) ≡ suc (statements (body_of (slice_get p.routines q)))
-  pub steps : (r : Code) → IsRestOf (body_of (slice_get p.routines q)) r → AtFlow (slice_get (flows_of graph) (point_at r)) (HasSteps p q r)
+  pub steps : (r : Code) → IsRestOf (body_of (slice_get p.routines q)) r →
+      AtFlow (slice_get (flows_of graph) (point_at r)) (HasSteps p q r)
 
 -- the graphs are those of the program's procedures, by number
 abbrev pub AreGraphs : {A : Type 0} → Program → List (Graph A) → Type 0

@@ -32,7 +32,8 @@ by_numbers (summary s a b) = numbered_summary s (code a) (exit_code b)
 -- its start from each entry, what a flow leads to for one of its choices, and, behind a call, what a summary of it leads to.
 pub data GraphReaches {A : Type 0} (graph : Graph A) (M : NumberedMessage → Type 0) : ℕ → ℕ → ℕ → Type 0 where
   starts : (from : Caller) (a : ℕ) → M (numbered_entry from a) → GraphReaches graph M a (start_of graph) a
-  flows : (a n v n' v' i : ℕ) (flow : Flow A) → GraphReaches graph M a n v → slice_get (flows_of graph) n ≡ Some flow → i ≤ last_of flow →
+  flows : (a n v n' v' i : ℕ) (flow : Flow A) → GraphReaches graph M a n v →
+      slice_get (flows_of graph) n ≡ Some flow → i ≤ last_of flow →
       next_of flow v i ≡ Some (n', v') → GraphReaches graph M a n' v'
   returns : (a n v s e n' b : ℕ) (flow : Flow A) → GraphReaches graph M a n v → slice_get (flows_of graph) n ≡ Some flow →
       entered_by flow v ≡ Some (s, e, n') → M (numbered_summary s e b) → GraphReaches graph M a n' (resumed (globals_of graph) v b)

@@ -49,7 +49,8 @@ pub fn by_due_messages_a_graph_sends_due_messages<A: Allocator>()
 /// valuations.
 pub fn what_a_graph_reaches_has_its_widths<A: Allocator>()
     ensures { (p : Program) (q : ℕ) (graph : Graph A) (ks : List NumberedMessage) → ArgumentsFit p → IsGraph p q graph
-        → ((k : NumberedMessage) → Member k ks → IsNumberOf (IsMessageTo p q) k) → (a n v : ℕ) → GraphReaches graph (λ k. Member k ks) a n v
+        → ((k : NumberedMessage) → Member k ks → IsNumberOf (IsMessageTo p q) k) → (a n v : ℕ) →
+        GraphReaches graph (λ k. Member k ks) a n v
         → (n < length (flows_of graph)) × IsNumberOfValuation p q a × IsNumberOfValuation p q v }
 {}
 

@@ -1,5 +1,6 @@
 -- The bits of a mask, and one more of them.
-use Rattle.std.proofs.Common.{bit_or, ◌≡◌, ◌≢◌, ℕ, zero, suc, ◌<◌, ◌*◌, ◌^◌, ◌%◌, ◌≤◌, nat_lt, Bool, true, false}
+use Rattle.std.proofs.Common.{bit_or, ◌≡◌, ◌≢◌, ℕ, zero, suc, ◌<◌, ◌*◌, ◌^◌, ◌%◌, ◌≤◌}
+use Rattle.std.proofs.Common.{nat_lt, Bool, true, false}
 use Rattle.std.proofs.Common.{cond, max, ◌==◌, [], ◌∷◌, inl, inr, refl, sym, ap, ap₂, ◌∙◌, subst, true≢false, arith}
 use Rattle.std.specs.Int.{bit_at}
 use Rattle.std.proofs.lemmas.Bool.{ltb-true, ltb-false}

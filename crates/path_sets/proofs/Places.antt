@@ -1,5 +1,6 @@
 -- Places that compare as equal, and the edges of a place.
-use Rattle.std.proofs.Common.{◌≡◌, ℕ, ◌+◌, ◌*◌, ◌<◌, Bool, true, false, ◌&&◌, nat_eq, refl, sym, ap, ap₂, subst, true≢false, eq-eqb, arith}
+use Rattle.std.proofs.Common.{◌≡◌, ℕ, ◌+◌, ◌*◌, ◌<◌, Bool, true, false, ◌&&◌, nat_eq, refl, sym}
+use Rattle.std.proofs.Common.{ap, ap₂, subst, true≢false, eq-eqb, arith}
 use Rattle.std.proofs.lemmas.Map.Views.{exact_unsigned_eq}
 use Rattle.language.specs.Flow.{Member}
 use Rattle.language.proofs.Members.{map_member}

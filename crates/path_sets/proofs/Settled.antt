@@ -1,5 +1,6 @@
 -- What a point that is put into a mask does to the edges of all masks.
-use Rattle.std.proofs.Common.{◌≡◌, ℕ, ◌<◌, ◌^◌, Bool, true, false, List, None, Some, slice_get, sym, ◌∙◌, subst, true≢false}
+use Rattle.std.proofs.Common.{◌≡◌, ℕ, ◌<◌, ◌^◌, Bool, true, false, List, None, Some, slice_get, sym}
+use Rattle.std.proofs.Common.{◌∙◌, subst, true≢false}
 use Rattle.std.specs.List.{IsDistinct}
 use Rattle.std.specs.Map.{keys_of, values_of, lookup}
 use Rattle.indexmap.specs.IndexMap.{IndexMap, set_value_at, insert_entry}

@@ -1,5 +1,7 @@
 -- How wide the procedures of the rewritten program are, and how many there are.
-use Rattle.std.proofs.Common.{◌≡◌, ℕ, zero, suc, ◌+◌, ◌<◌, ◌≤◌, Some, inl, refl, slice_get, take, is_some, true≢false, List, [], ◌∷◌, ◌++◌, length, length-append, get_or, map, codes, sym, ◌∙◌, ap, subst, arith, append_assoc}
+use Rattle.std.proofs.Common.{◌≡◌, ℕ, zero, suc, ◌+◌, ◌<◌, ◌≤◌, Some, inl, refl, slice_get, take}
+use Rattle.std.proofs.Common.{is_some, true≢false, List, [], ◌∷◌, ◌++◌, length, length-append, get_or, map}
+use Rattle.std.proofs.Common.{codes, sym, ◌∙◌, ap, subst, arith, append_assoc}
 use Rattle.std.proofs.lemmas.List.{length-map}
 use Rattle.std.proofs.lemmas.Option.{same_Some}
 use Rattle.language.specs.Tree.{Name, Procedure, Tree}
@@ -91,7 +93,8 @@ module _ (t : Tree) (last n : ℕ) (is : global_count (length t.globals) last �
   narrow_more (x ∷ ss) (suc i) s lt is e h = (e.0, narrow_more ss i s (omega arith) is e.1 h)
 
   -- a procedure that is too wide is none of those that are narrow
-  pub wide_stands : (ps : List Procedure) (i : ℕ) (p : Procedure) → slice_get ps i ≡ Some p → most_places < rewritten_width last t p →
+  pub wide_stands : (ps : List Procedure) (i : ℕ) (p : Procedure) → slice_get ps i ≡ Some p →
+      most_places < rewritten_width last t p →
       AreNarrow last t ps → ⊥
   wide_stands [] i p at large e = absurd (true≢false (ap is_some (sym at)))
   wide_stands (q ∷ ps) zero p at large e =

@@ -1,7 +1,8 @@
 -- How many places the procedures of a tree and of the rewritten tree have.
 use mathlib.Core.HLevel.{×_prop, Unit-prop}
 use native.Mathlib.Bridge.{le_prop}
-use Rattle.std.specs.Prelude.{◌≡◌, ℕ, ◌+◌, ◌<◌, ◌≤◌, List, [], ◌∷◌, ◌++◌, Option, Some, None, length, slice_get, take}
+use Rattle.std.specs.Prelude.{◌≡◌, ℕ, ◌+◌, ◌<◌, ◌≤◌, List, [], ◌∷◌, ◌++◌, Option, Some}
+use Rattle.std.specs.Prelude.{None, length, slice_get, take}
 use Rattle.language.specs.Tree.{Procedure, Tree}
 use Rattle.scopes.specs.Rewritable.{EachProcedure}
 use Rattle.round_rewrite.specs.Names.{rewritten_procedure, rewritten_tree}

@@ -1,8 +1,9 @@
 -- How path edges and those pending grow, step by step.
 use Rattle.std.specs.Bool.{OnFalse}
 use Rattle.std.specs.Result.{IsErrAnd, OnOk}
-use Rattle.std.proofs.Common.{Option, Some, ◌≤◌, eq-or-lt_of_le, ◌≡◌, Bool, true, false, true≢false, List, [], ◌∷◌, ◌++◌, ◌⊎◌}
-use Rattle.std.proofs.Common.{inl, inr, refl, sym, ap, subst, ◌∙◌, ℕ, ◌+◌, Result, Ok, Err, length, if◌then◌else◌, arith, length-append}
+use Rattle.std.proofs.Common.{Option, Some, ◌≤◌, eq-or-lt_of_le, ◌≡◌, Bool, true, false, true≢false, List}
+use Rattle.std.proofs.Common.{[], ◌∷◌, ◌++◌, ◌⊎◌, inl, inr, refl, sym, ap, subst, ◌∙◌, ℕ, ◌+◌, Result, Ok}
+use Rattle.std.proofs.Common.{Err, length, if◌then◌else◌, arith, length-append}
 use Rattle.summaries.proofs.Eaches.{each_left, each_last, each_or_last}
 use Rattle.std.proofs.lemmas.Option.{same_Some}
 use Rattle.language.specs.Flow.{Member}
@@ -80,19 +81,6 @@ pub each_more : {X : Type 0} (W : X → Triple → Type 0) (xs : List X) (x : X)
 each_more W xs x old mid new before between after first second =
     both (Each W xs) (W x) (Each W (xs ++ x ∷ [])) old mid new before between after first second (each_or_last W xs x)
     (λ t w. elim w [ inl n ↦ each_left W xs (x ∷ []) t n | inr l ↦ each_last W xs x t l ])
-
--- nothing is added where there is nothing to add
-pub grows_none : (W : Triple → Type 0) (es : List Triple) (before : List Edge) → ((t : Triple) → W t → ⊥) → Grows W es es before before
-grows_none W es before none = record {
-  all = λ t w. absurd (none t w);
-  kept = λ t m. m;
-  only = λ t m. inr m;
-  stays = λ x m. m;
-  pending = λ t m. inl m;
-  edges = λ x m. inl m;
-  more = refl;
-  longer = omega arith;
-}
 
 -- what holds of an error holds of the one that is answered
 pub fault_of : {F : Type 0} (P : F → Type 0) (r : Result (Unit {0}) F) (fault : F) → IsErrAnd r P → r ≡ Err fault → P fault

@@ -10,7 +10,8 @@ module _ {K : Type 0} (eq : K → K → Bool) where
   found_is_in same k [] h = absurd (true≢false (sym h))
   found_is_in same k (x ∷ xs) h = by (eq k x) refl h (found_is_in same k xs)
     where
-      by : (b : Bool) → eq k x ≡ b → (b || list_any (eq k) xs) ≡ true → (list_any (eq k) xs ≡ true → Member k xs) → Member k (x ∷ xs)
+      by : (b : Bool) → eq k x ≡ b → (b || list_any (eq k) xs) ≡ true →
+          (list_any (eq k) xs ≡ true → Member k xs) → Member k (x ∷ xs)
       by true e h rest = inl (same k x e)
       by false e h rest = inr (rest h)
 

@@ -41,7 +41,8 @@ pub record Step {A G : Type 0} (graph : Graph G) (q : ℕ) (f g : Found A) (es d
   pub given : (s : ℕ) (k : NumberedMessage) → HasGiven g s k → HasGiven f s k ⊎ Sends graph q (TookMessage g) s k
   pub begun : (from : Caller) (a : ℕ) → TookMessage g (numbered_entry from a) →
       TookMessage f (numbered_entry from a) ⊎ Member (triple a graph.start a) ds
-  pub ended : (s e b a n v back : ℕ) → HasSite g s e (site a n v) → EntersAt graph n v s e back → TookMessage g (numbered_summary s e b) →
+  pub ended : (s e b a n v back : ℕ) → HasSite g s e (site a n v) → EntersAt graph n v s e back →
+      TookMessage g (numbered_summary s e b) →
       HasSite f s e (site a n v) × TookMessage f (numbered_summary s e b) ⊎ Member (triple a back (resumed graph.globals v b)) ds
   pub asks : (s e a n v : ℕ) → HasSite g s e (site a n v) → HasSite f s e (site a n v) ⊎ HasGiven g s (numbered_entry (caller q) e)
   pub tells : (a b c : ℕ) → HasExit g a b → TookMessage g (numbered_entry (caller c) a) →

@@ -1,5 +1,6 @@
 -- Path edges that are added, and stand pending.
-use Rattle.std.specs.Prelude.{◌≡◌, ◌≤◌, ◌<◌, ℕ, Option, Some, Result, Err, OnOk, List, ◌⊎◌, ◌++◌, length, ◌+◌, slice_get}
+use Rattle.std.specs.Prelude.{◌≡◌, ◌≤◌, ◌<◌, ℕ, Option, Some, Result, Err, OnOk, List, ◌⊎◌}
+use Rattle.std.specs.Prelude.{◌++◌, length, ◌+◌, slice_get}
 use Rattle.language.specs.Flow.{Member}
 use Rattle.path_sets.specs.Triples.{Triple, triple}
 use Rattle.flow_graph.specs.Drawn.{flows_of, globals_of}

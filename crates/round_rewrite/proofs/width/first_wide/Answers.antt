@@ -40,7 +40,8 @@ returns-then-places g c =
     let large : most_places + 1 ≤ c.places-places.result = omega (arith, c.if-places.true) in (
       i,
       proc_of s,
-      ap (λ items. slice_get (procs_of items) i) (sym c.deref-proc-items.ensures.value) ∙ proc_there ss i s c.loop-proc-test.true c.proc-item.is,
+      ap (λ items. slice_get (procs_of items) i) (sym c.deref-proc-items.ensures.value) ∙
+          proc_there ss i s c.loop-proc-test.true c.proc-item.is,
       refl,
       counted g (goal.at.returns-then-places g c).After-places-places,
       omega (arith, large),
@@ -57,4 +58,5 @@ returns g c =
     let count : length (procs_of ss) ≡ length ss = length-map ss proc_of in
     let all : take c.loop-proc.proc-index (procs_of ss) ≡ procs_of ss =
     take_all c.loop-proc.proc-index (procs_of ss) (omega (arith, count, end)) in
-    subst (λ items. AreNarrow last t (procs_of items)) c.deref-proc-items.ensures.value (subst (AreNarrow last t) all c.loop-proc.invariant)
+    subst (λ items. AreNarrow last t (procs_of items)) c.deref-proc-items.ensures.value
+    (subst (AreNarrow last t) all c.loop-proc.invariant)

@@ -16,7 +16,8 @@ abbrev pub invariant-block-loop-stmt : goal.invariant-block-loop-stmt
 invariant-block-loop-stmt g l =
     (statements (block_of l.rest) ≤ statements (block_of l.stmts))
     × (length l.flows.items + statements (block_of l.rest) ≡ length l.initial.flows.items + statements (block_of l.stmts))
-    × ((k : Code) (new : List (Flow g.row.A.Denot)) → point_at k ≡ l.after → IsCounted l.self (length l.initial.flows.items) l.stmts →
+    × ((k : Code) (new : List (Flow g.row.A.Denot)) → point_at k ≡ l.after →
+    IsCounted l.self (length l.initial.flows.items) l.stmts →
     Lowered l.flows.items new (map (node_of (lowered_body l.self))
     (rests (code_from l.self (length l.flows.items) l.rest) k)) (length (lowering_scope l.self).globals)
     (length (lowering_scope l.self).locals) (length (lowering_scope l.self).procedures) →
