@@ -1,6 +1,9 @@
 -- What holds for some item of a list.
-use Rattle.std.proofs.Common.{ℕ, ◌+◌, ◌<◌, List, [], ◌∷◌, ◌++◌, ◌⊎◌, inl, inr, refl, subst, length, take, drop, get_or}
+use Rattle.std.proofs.Common.{ℕ, ◌+◌, ◌<◌, ◌≢◌, Bool, true, false, List, [], ◌∷◌, ◌++◌, ◌⊎◌}
+use Rattle.std.proofs.Common.{inl, inr, refl, subst, length, take, drop, get_or}
+use Rattle.std.specs.Bool.{OnTrue}
 use Rattle.std.proofs.lemmas.List.{take-append-drop}
+use Rattle.language.specs.Flow.{Member}
 use Rattle.language.proofs.Members.{member_left, member_right, member_append}
 use Rattle.summaries.specs.Grows.{Each}
 use Rattle.summaries.proofs.Firsts.{whole}
@@ -32,3 +35,9 @@ module _ {X T : Type 0} (W : X → T → Type 0) where
     each_at d within t w =
         subst (λ l. Each W l t) (whole xs i d within)
         (each_left (take i xs ++ get_or xs i d ∷ []) (drop (i + 1) xs) t (each_last (take i xs) (get_or xs i d) t w))
+
+-- what holds where there is some item holds where the list is not empty
+pub where_some : {X P : Type 0} (xs : List X) (b : Bool) → OnTrue b (xs ≢ []) → ((x : X) → Member x xs → P) → OnTrue b P
+where_some xs false some p = tt
+where_some [] true some p = absurd (some refl)
+where_some (x ∷ xs) true some p = p x (inl refl)

@@ -1,9 +1,10 @@
 //! The messages that a table has given.
 
-ghost use Rattle.std.specs.Prelude.{◌≡◌, ◌≤◌, ◌<◌, ◌^◌, ◌∷◌, [], ◌++◌, length, IfOk, OnErr, IfSome, IfNone};
+ghost use Rattle.std.specs.Prelude.{◌≡◌, ◌≤◌, ◌<◌, ◌^◌, ◌∷◌, [], ◌++◌, length, IfOk, OnOk, OnErr, IfSome, IfNone};
 ghost use Rattle.std.specs.Bool.{OnTrue, OnFalse};
 ghost use Rattle.language.specs.Flow.{Member};
 ghost use Rattle.path_sets.specs.Triples.{NoneTwice, NoneTwice-prop};
+ghost use Rattle.summaries.specs.Grows.{Gives};
 ghost use Rattle.summaries.specs.Mails.{mail};
 
 use crate::due::Due;
@@ -52,6 +53,19 @@ impl<A: Allocator + Copy> Given<A> {
         ensures answered { self.new.answered ≡ self.old.answered }
     {
         Ok(self.mails.insert(Mail { to, due })?)
+    }
+
+    /// Gives a message to a procedure, unless it is known to be given. Where memory is refused, nothing changes.
+    pub(crate) fn give_unless(&mut self, known: bool, to: u8, due: Due) -> Result<(), AllocError>
+        requires { OnTrue known (Member (mail to due) self.old.mails.keys) }
+        ensures ok { OnOk result (Gives (λ m. m ≡ mail to due) self.old.mails.keys self.new.mails.keys) }
+        ensures err { OnErr result (self.new.mails.keys ≡ self.old.mails.keys) }
+        ensures answered { self.new.answered ≡ self.old.answered }
+    {
+        if !known {
+            self.give(to, due)?;
+        }
+        Ok(())
     }
 
     /// The first message that is not answered yet, which then is.

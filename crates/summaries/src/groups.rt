@@ -1,6 +1,7 @@
 //! Values that are found by a key.
 
-ghost use Rattle.std.specs.Prelude.{◌≡◌, [], ◌∷◌, ◌++◌, false, OnOk, OnErr};
+ghost use Rattle.std.specs.Prelude.{◌≡◌, ◌≢◌, [], ◌∷◌, ◌++◌, false, OnOk, OnErr, IfOk};
+ghost use Rattle.std.specs.Bool.{OnTrue, OnFalse};
 ghost use Rattle.summaries.specs.Under.{under};
 
 use indexmap::IndexMap;
@@ -23,20 +24,27 @@ impl<K: Eq + Hash + Copy, V: Copy, A: Allocator + Copy> Groups<K, V, A> {
         }
     }
 
-    /// Adds a value to those of a key. Where memory is refused, each key has the values that it had.
-    pub(crate) fn add(&mut self, key: K, value: V) -> Result<(), AllocError>
+    /// Adds a value to those of a key. Answers whether the key had any. Where memory is refused, each key has the values that
+    /// it had.
+    pub(crate) fn add(&mut self, key: K, value: V) -> Result<bool, AllocError>
+        ensures had { IfOk result (λ had. OnTrue had (under K.eq self.old.by_key key ≢ [])) }
+        ensures none { IfOk result (λ had. OnFalse had (under K.eq self.old.by_key key ≡ [])) }
         ensures added { OnOk result (under K.eq self.new.by_key key ≡ under K.eq self.old.by_key key ++ value ∷ []) }
         ensures others { OnOk result ((k : K) → K.eq key k ≡ false
             → under K.eq self.new.by_key k ≡ under K.eq self.old.by_key k) }
         ensures err { OnErr result ((k : K) → under K.eq self.new.by_key k ≡ under K.eq self.old.by_key k) }
     {
         match self.by_key.get_index_of(&key) {
-            Some(at) => Ok(self.by_key[at].push(value)?),
+            Some(at) => {
+                let had = !self.by_key[at].is_empty();
+                self.by_key[at].push(value)?;
+                Ok(had)
+            }
             None => {
                 let mut first = Vec::new(*self.by_key.allocator());
                 first.push(value)?;
                 self.by_key.insert(key, first)?;
-                Ok(())
+                Ok(false)
             }
         }
     }

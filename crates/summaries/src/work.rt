@@ -82,8 +82,8 @@ impl<'g, G: Allocator, A: Allocator + Copy, S: PathSet<A>> Table<'g, G, A, S> {
             caller: Caller::Proc(self.procedure),
             a: key.entered,
         };
-        self.found.given.give(key.callee, due)?;
-        self.found.sites.add(key, site)?;
+        let known = self.found.sites.add(key, site)?;
+        self.found.given.give_unless(known, key.callee, due)?;
         go_on(
             self.graph,
             &mut self.edges,

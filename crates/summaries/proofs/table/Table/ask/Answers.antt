@@ -11,7 +11,7 @@ use Rattle.summaries.specs.Mails.{mail}
 use Rattle.summaries.specs.Found.{HasSite, call, call_eq, site}
 use Rattle.summaries.specs.Grows.{Grows, Gives, Each, IsBehind, triple_of}
 use Rattle.summaries.proofs.Asking.{asked_to, ask_step, ask_only, behind_reached, asked_site, taken_there}
-use Rattle.summaries.proofs.Telling.{gives_one}
+use Rattle.summaries.proofs.Eaches.{where_some}
 use Rattle.summaries.proofs.Mails.{answers_still}
 use Rattle.summaries.proofs.Stepping.{still_grounded, still_complete, all_reached, has_more}
 use Rattle.summaries.proofs.Worked.{refused_worked}
@@ -25,11 +25,6 @@ enters : (g : given.Over) (c : goal.After-go_on g) →
     (c.callee.result, c.entry.result, c.args.call.now.back)
 enters g c = λ i. Some (sym c.callee.ensures i, sym c.entry.ensures i, c.args.call.now.back)
 
--- the entry is given
-gave : (g : given.Over) (c : goal.After-go_on g) →
-    Gives (λ m. m ≡ mail c.callee.result (Entry (Proc c.args.self.now.procedure) c.entry.result)) c.args.self.now.found.given.mails.keys c.give.new.self.mails.keys
-gave g c = gives_one _ _ _ c.in_ok-give.field-0 c.in_ok-give.ensures.new c.in_ok-give.ensures.known c.in_ok-give.ensures.same
-
 -- the summaries of the call are those that are found by it
 known : (g : given.Over) (c : goal.After-go_on g) →
     let self = c.args.self.now in
@@ -42,25 +37,33 @@ known g c =
     (g.S.PathSet.members self.edges) (g.S.PathSet.members c.go_on.new.edges) self.found.pending.items
     c.go_on.new.pending.items) c.of.ensures
 
-pub returns-in_err-give-clause-worked : goal.returns-in_err-give-clause-worked
-returns-in_err-give-clause-worked g c =
+-- where the call stands somewhere, its entry is given already
+pub give_unless-requires : goal.give_unless-requires
+give_unless-requires g c =
+    let self = c.args.self.now in
+    let ys = under call_eq self.found.sites.by_key (call c.callee.result c.entry.result) in
+    where_some ys c.in_ok-known.known c.in_ok-known.ensures.had
+    (λ y m. c.requires.holds.1.asks c.callee.result c.entry.result y.asked y.point y.values m)
+
+pub returns-in_err-known-clause-worked : goal.returns-in_err-known-clause-worked
+returns-in_err-known-clause-worked g c =
     let self = c.args.self.now in
     refused_worked g.S.PathSet.members (λ t. t ≡ triple_of c.args.edge) _ self _
     (all_reached self.graph.now self.procedure self.found
-    (asked_to self.graph.now self.procedure self.found c.give.new.self self.found.sites self.found.pending)
+    (asked_to self.graph.now self.procedure self.found self.found.given c.add.new.self self.found.pending)
     (g.S.PathSet.members self.edges) c.requires.holds.0
-    (taken_there self.graph.now self.procedure self.found c.give.new.self self.found.sites self.found.pending))
+    (taken_there self.graph.now self.procedure self.found self.found.given c.add.new.self self.found.pending))
     c.requires.within (record { graph = refl; procedure = refl; limit = refl }) refl c.from_residual.ensures.1
 
-pub returns-in_err-add-clause-worked : goal.returns-in_err-add-clause-worked
-returns-in_err-add-clause-worked g c =
+pub returns-in_err-give_unless-clause-worked : goal.returns-in_err-give_unless-clause-worked
+returns-in_err-give_unless-clause-worked g c =
     let self = c.args.self.now in
     refused_worked g.S.PathSet.members (λ t. t ≡ triple_of c.args.edge) _ self _
     (all_reached self.graph.now self.procedure self.found
-    (asked_to self.graph.now self.procedure self.found c.give.new.self c.add.new.self self.found.pending)
+    (asked_to self.graph.now self.procedure self.found c.give_unless.new.self c.add.new.self self.found.pending)
     (g.S.PathSet.members self.edges) c.requires.holds.0
-    (taken_there self.graph.now self.procedure self.found c.give.new.self c.add.new.self self.found.pending))
-    c.requires.within (record { graph = refl; procedure = refl; limit = refl }) refl c.from_residual-in_err-add.ensures.1
+    (taken_there self.graph.now self.procedure self.found c.give_unless.new.self c.add.new.self self.found.pending))
+    c.requires.within (record { graph = refl; procedure = refl; limit = refl }) refl c.from_residual-in_err-give_unless.ensures.1
 
 pub returns-clause-worked : goal.returns-clause-worked
 returns-clause-worked g c =
@@ -69,7 +72,7 @@ returns-clause-worked g c =
     let e = c.args.edge in
     let es = g.S.PathSet.members self.edges in
     let ds = g.S.PathSet.members c.go_on.new.edges in
-    let edges = ask_only self.graph.now self.procedure f c.give.new.self c.add.new.self c.go_on.new.pending es ds e
+    let edges = ask_only self.graph.now self.procedure f c.give_unless.new.self c.add.new.self c.go_on.new.pending es ds e
     c.callee.result c.entry.result c.args.call.now.back (flow.Call c.args.call.now)
     c.requires.holds.0 c.requires.edge c.requires.call (enters g c)
     (subst (λ bs. (t : Triple) → Member t ds →
@@ -77,10 +80,10 @@ returns-clause-worked g c =
     c.go_on.ensures.only) in record {
       holds = IfOk-weaker c.go_on.result _ _
           (λ _ grown.
-          let step = ask_step self.graph.now self.procedure f c.give.new.self c.add.new.self c.go_on.new.pending es ds e
+          let step = ask_step self.graph.now self.procedure f c.give_unless.new.self c.add.new.self c.go_on.new.pending es ds e
           c.callee.result c.entry.result c.args.call.now.back (flow.Call c.args.call.now)
-          c.requires.holds.0 c.requires.edge c.requires.call (enters g c) (gave g c) c.in_ok-add.ensures.added
-          c.in_ok-add.ensures.others (known g c grown) in (
+          c.requires.holds.0 c.requires.edge c.requires.call (enters g c) c.in_ok-give_unless.ensures.ok c.in_ok-known.ensures.added
+          c.in_ok-known.ensures.others (known g c grown) in (
             still_grounded self.graph.now self.procedure f _ es ds step c.requires.holds.0,
             still_complete self.graph.now self.procedure f _ es ds step (λ t. t ≡ triple_of e) c.requires.holds.1,
           ))
@@ -90,14 +93,14 @@ returns-clause-worked g c =
       many = λ is.
           let (t, w, new, full) = c.go_on.ensures.limit is in
           has_more (most_of self.limit) ds _ (g.met.S.PathSet.none_twice c.go_on.new.edges) edges t
-          (behind_reached self.graph.now self.procedure f c.give.new.self c.add.new.self c.go_on.new.pending es ds e
+          (behind_reached self.graph.now self.procedure f c.give_unless.new.self c.add.new.self c.go_on.new.pending es ds e
           c.callee.result c.entry.result c.args.call.now.back (flow.Call c.args.call.now)
           c.requires.holds.0 c.requires.edge c.requires.call (enters g c) t
           (subst (λ bs. Each (IsBehind self.graph.now (site e.entry e.point e.values)) bs t) c.of.ensures w))
           new full;
       answers = IfOk-weaker c.go_on.result _ _
-          (λ _ _. answers_still f.given.mails.keys c.give.new.self.mails.keys f.given.answered c.give.new.self.answered
-          f.given.within c.give.ensures.answered (gave g c).behind)
+          (λ _ _. answers_still f.given.mails.keys c.give_unless.new.self.mails.keys f.given.answered c.give_unless.new.self.answered
+          f.given.within c.give_unless.ensures.answered c.in_ok-give_unless.ensures.ok.behind)
           c.go_on.ensures.ok;
       stays = record { graph = refl; procedure = refl; limit = refl };
       fault = refl;
@@ -107,13 +110,13 @@ pub returns-clause-asked : goal.returns-clause-asked
 returns-clause-asked g c =
     let self = c.args.self.now in
     let e = c.args.edge in
-    let found = asked_to self.graph.now self.procedure self.found c.give.new.self c.add.new.self c.go_on.new.pending in
+    let found = asked_to self.graph.now self.procedure self.found c.give_unless.new.self c.add.new.self c.go_on.new.pending in
     let es = g.S.PathSet.members self.edges in
     let ds = g.S.PathSet.members c.go_on.new.edges in
     IfOk-weaker c.go_on.result _ _
     (λ _ grown.
     subst (λ (t : ℕ × ℕ). HasSite found t.0 t.1 (site e.entry e.point e.values)) (λ i. (c.callee.ensures i, c.entry.ensures i))
-    (asked_site self.graph.now self.procedure self.found c.give.new.self c.add.new.self c.go_on.new.pending es ds e
+    (asked_site self.graph.now self.procedure self.found c.give_unless.new.self c.add.new.self c.go_on.new.pending es ds e
     c.callee.result c.entry.result c.args.call.now.back (flow.Call c.args.call.now)
-    c.requires.holds.0 c.requires.edge c.requires.call (enters g c) (gave g c) c.in_ok-add.ensures.added c.in_ok-add.ensures.others (known g c grown)))
+    c.requires.holds.0 c.requires.edge c.requires.call (enters g c) c.in_ok-give_unless.ensures.ok c.in_ok-known.ensures.added c.in_ok-known.ensures.others (known g c grown)))
     c.go_on.ensures.ok
