@@ -22,7 +22,7 @@ use Rattle.summaries.specs.Grows.{Grows, Gives, Each, IsTold}
 use Rattle.summaries.specs.Tables.{TookAlso}
 use Rattle.summaries.proofs.Adding.{added_or, added_keeps, added_is}
 use Rattle.summaries.proofs.Dues.{who, who_is, due_told, same_entry, apart}
-use Rattle.summaries.proofs.Stepping.{Step}
+use Rattle.summaries.proofs.Stepping.{Step, grown_to, grown_reached, grown_step}
 use Rattle.summaries.proofs.Telling.{gives_kept}
 
 module _ {A G : Type 0} (graph : Graph G) (q : ℕ) (f : Found A) (entries : Groups ℕ rust.Caller A) (given : Given A) (pending : Vec Edge A) (a : ℕ) (from : rust.Caller)
@@ -30,7 +30,7 @@ module _ {A G : Type 0} (graph : Graph G) (q : ℕ) (f : Found A) (entries : Gro
     (others : (k : ℕ) → nat_eq a k ≡ false → under nat_eq entries.by_key k ≡ under nat_eq f.entries.by_key k) where
   -- what is found, with other entries, messages given and edges pending
   abbrev pub begun_to : Found A
-  begun_to = record { entries = entries; summaries = f.summaries; sites = f.sites; exits = f.exits; pairs = f.pairs; given = given; pending = pending }
+  begun_to = grown_to graph q f entries f.summaries given pending
 
   abbrev M : NumberedMessage → Type 0
   M = TookMessage begun_to
@@ -71,10 +71,8 @@ module _ {A G : Type 0} (graph : Graph G) (q : ℕ) (f : Found A) (entries : Gro
     -- so, where nothing but that is added, all edges are
     pub begin_only : ((t : Triple) → Member t ds → (t ≡ triple a graph.start a) ⊎ Member t es) → (t : Triple) →
         Member t ds → GraphReaches graph M t.entry t.point t.values
-    begin_only only t m = elim (only t m) [
-      | inl is ↦ start_reached t is
-      | inr was ↦ reaches_more graph (TookMessage f) M taken_begun t.entry t.point t.values (sound.edge t.entry t.point t.values was)
-    ]
+    begin_only =
+        grown_reached graph q f entries f.summaries given pending es ds (λ t. t ≡ triple a graph.start a) taken_begun start_reached sound
 
     told : (s : ℕ) (k : NumberedMessage) → Each (λ b. IsTold q a b from) (under nat_eq f.exits.by_key a) (mail s (due_of k)) → Sends graph q M s k
     told s k (b, m, (c, is, same)) =
@@ -89,28 +87,20 @@ module _ {A G : Type 0} (graph : Graph G) (q : ℕ) (f : Found A) (entries : Gro
     pub begin_step : Grows (λ t. t ≡ triple a graph.start a) es ds f.pending.items pending.items
         → Gives (Each (λ b. IsTold q a b from) (under nat_eq f.exits.by_key a)) f.given.mails.keys given.mails.keys
         → Step graph q f begun_to es ds
-    begin_step grown gave = record {
-      taken = taken_begun;
-      kept = grown.kept;
-      edge = λ t m. elim (grown.only t m) [ inl is ↦ inr (start_reached t is) | inr was ↦ inl was ];
-      new = grown.pending;
-      stays = grown.stays;
-      pending = grown.edges;
-      sites = λ s x c n v m. m;
-      called = λ s x c n v m. inl m;
-      exits = λ x y m. m;
-      exit = λ x y m. inl m;
-      gives = λ s k m. gives_kept (Each (λ b. IsTold q a b from) (under nat_eq f.exits.by_key a)) f.given.mails.keys given.mails.keys gave (mail s (due_of k)) m;
-      given = λ s k m. elim (gave.only (mail s (due_of k)) m) [ inl w ↦ inr (told s k w) | inr was ↦ inl was ];
-      begun = λ c x h. elim (entry_or x (caller_of c) h) [
-        | inl was ↦ inl was
-        | inr is ↦ inr (grown.all (triple x graph.start x) (ap (λ y. triple y graph.start y) (sym is.0)))
-      ];
-      ended = λ s x y c n v back at enters taken. inl (at, taken);
-      asks = λ s x c n v m. inl m;
-      tells = λ x y c m h. elim (entry_or x (Proc c) h) [
-        | inl was ↦ inl (m, was)
-        | inr is ↦ inr (gave.all (mail c (Summary q x y)) (y, subst (λ z. Member y (under nat_eq f.exits.by_key z)) (sym is.0) m, (c, is.1, ap (λ z. mail c (Summary q z y)) (sym is.0))))
-      ];
-      pairs = λ old. old;
-    }
+    begin_step grown gave =
+        grown_step graph q f entries f.summaries given pending es ds (λ t. t ≡ triple a graph.start a) taken_begun start_reached grown
+        (λ s k m. gives_kept (Each (λ b. IsTold q a b from) (under nat_eq f.exits.by_key a)) f.given.mails.keys given.mails.keys gave (mail s (due_of k)) m)
+        (λ s k m. elim (gave.only (mail s (due_of k)) m) [ inl w ↦ inr (told s k w) | inr was ↦ inl was ])
+        (λ c x h. elim (entry_or x (caller_of c) h) [
+          | inl was ↦ inl was
+          | inr is ↦ inr (grown.all (triple x graph.start x) (ap (λ y. triple y graph.start y) (sym is.0)))
+        ])
+        (λ s x y c n v back at enters h. inl h)
+        (λ x y c m h. elim (entry_or x (Proc c) h) [
+          | inl was ↦ inl was
+          | inr is ↦ inr (gave.all (mail c (Summary q x y)) (
+            y,
+            subst (λ z. Member y (under nat_eq f.exits.by_key z)) (sym is.0) m,
+            (c, is.1, ap (λ z. mail c (Summary q z y)) (sym is.0)),
+          ))
+        ])

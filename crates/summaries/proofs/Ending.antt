@@ -21,14 +21,14 @@ use Rattle.summaries.specs.Grows.{Grows, Each, IsBehind}
 use Rattle.summaries.specs.Tables.{TookAlso}
 use Rattle.summaries.proofs.Adding.{same_call, added_or, added_keeps, added_is}
 use Rattle.summaries.proofs.Dues.{same_summary, apart}
-use Rattle.summaries.proofs.Stepping.{Step}
+use Rattle.summaries.proofs.Stepping.{Step, grown_to, grown_reached, grown_step}
 
 module _ {A G : Type 0} (graph : Graph G) (q : ℕ) (f : Found A) (summaries : Groups Call ℕ A) (pending : Vec Edge A) (k : Call) (b : ℕ)
     (added : under call_eq summaries.by_key k ≡ under call_eq f.summaries.by_key k ++ b ∷ [])
     (others : (j : Call) → call_eq k j ≡ false → under call_eq summaries.by_key j ≡ under call_eq f.summaries.by_key j) where
   -- what is found, with other summaries and edges pending
   abbrev pub ended_to : Found A
-  ended_to = record { entries = f.entries; summaries = summaries; sites = f.sites; exits = f.exits; pairs = f.pairs; given = f.given; pending = pending }
+  ended_to = grown_to graph q f f.entries summaries f.given pending
 
   abbrev M : NumberedMessage → Type 0
   M = TookMessage ended_to
@@ -76,35 +76,22 @@ module _ {A G : Type 0} (graph : Graph G) (q : ℕ) (f : Found A) (summaries : G
     pub end_only : ((t : Triple) → Member t ds →
         Each (λ y. IsBehind graph y b) (under call_eq f.sites.by_key k) t ⊎ Member t es) → (t : Triple) → Member t ds →
         GraphReaches graph M t.entry t.point t.values
-    end_only only t m = elim (only t m) [
-      | inl w ↦ ended_reached t w
-      | inr was ↦ reaches_more graph (TookMessage f) M taken_ended t.entry t.point t.values (sound.edge t.entry t.point t.values was)
-    ]
+    end_only =
+        grown_reached graph q f f.entries summaries f.given pending es ds
+        (Each (λ y. IsBehind graph y b) (under call_eq f.sites.by_key k)) taken_ended ended_reached sound
 
-    pub end_step : Grows (Each (λ y. IsBehind graph y b) (under call_eq f.sites.by_key k)) es ds f.pending.items pending.items → Step graph q f ended_to es ds
-    end_step grown = record {
-      taken = taken_ended;
-      kept = grown.kept;
-      edge = λ t m. elim (grown.only t m) [ inl w ↦ inr (ended_reached t w) | inr was ↦ inl was ];
-      new = grown.pending;
-      stays = grown.stays;
-      pending = grown.edges;
-      sites = λ s x c n v m. m;
-      called = λ s x c n v m. inl m;
-      exits = λ x y m. m;
-      exit = λ x y m. inl m;
-      gives = λ s m h. h;
-      given = λ s m h. inl h;
-      begun = λ c x h. inl h;
-      ended = λ s x y c n v back at enters taken. elim (summary_or (call s x) y taken) [
-        | inl was ↦ inl (at, was)
-        | inr is ↦ inr (grown.all (triple c back (resumed graph.globals v y)) (
-          site c n v,
-          subst (λ j. Member (site c n v) (under call_eq f.sites.by_key j)) (sym is.0) at,
-          (s, x, back, enters, ap (λ z. triple c back (resumed graph.globals v z)) (sym is.1)),
-        ))
-      ];
-      asks = λ s x c n v m. inl m;
-      tells = λ x y c m h. inl (m, h);
-      pairs = λ old. old;
-    }
+    pub end_step : Grows (Each (λ y. IsBehind graph y b) (under call_eq f.sites.by_key k)) es ds f.pending.items pending.items →
+        Step graph q f ended_to es ds
+    end_step grown =
+        grown_step graph q f f.entries summaries f.given pending es ds
+        (Each (λ y. IsBehind graph y b) (under call_eq f.sites.by_key k)) taken_ended ended_reached grown
+        (λ s m h. h) (λ s m h. inl h) (λ c x h. inl h)
+        (λ s x y c n v back at enters taken. elim (summary_or (call s x) y taken) [
+          | inl was ↦ inl was
+          | inr is ↦ inr (grown.all (triple c back (resumed graph.globals v y)) (
+            site c n v,
+            subst (λ j. Member (site c n v) (under call_eq f.sites.by_key j)) (sym is.0) at,
+            (s, x, back, enters, ap (λ z. triple c back (resumed graph.globals v z)) (sym is.1)),
+          ))
+        ])
+        (λ x y c m h. inl h)

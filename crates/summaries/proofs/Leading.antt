@@ -11,12 +11,12 @@ use Rattle.summaries.specs.declared.edge.Edge.{Edge}
 use Rattle.summaries.specs.declared.found.Found.{Found}
 use Rattle.summaries.specs.Found.{TookMessage, IsGrounded}
 use Rattle.summaries.specs.Grows.{Grows, IsNext, triple_of}
-use Rattle.summaries.proofs.Stepping.{Step, taken_as}
+use Rattle.summaries.proofs.Stepping.{Step, taken_as, grown_to, grown_reached, grown_step}
 
 module _ {A G : Type 0} (graph : Graph G) (q : ℕ) (f : Found A) (pending : Vec Edge A) where
   -- what is found, with other edges pending
   abbrev pub led_to : Found A
-  led_to = record { entries = f.entries; summaries = f.summaries; sites = f.sites; exits = f.exits; pairs = f.pairs; given = f.given; pending = pending }
+  led_to = grown_to graph q f f.entries f.summaries f.given pending
 
   -- the messages taken are the same
   pub taken_led : (k : NumberedMessage) → TookMessage f k → TookMessage led_to k
@@ -35,29 +35,9 @@ module _ {A G : Type 0} (graph : Graph G) (q : ℕ) (f : Found A) (pending : Vec
     -- so, where nothing but that is added, all edges are
     pub lead_only : ((t : Triple) → Member t ds → IsNext flow e t ⊎ Member t es) → (t : Triple) → Member t ds →
         GraphReaches graph (TookMessage led_to) t.entry t.point t.values
-    lead_only only t m = elim (only t m) [
-      | inl w ↦ next_reached t w
-      | inr was ↦ reaches_more graph (TookMessage f) (TookMessage led_to) taken_led t.entry t.point t.values
-          (sound.edge t.entry t.point t.values was)
-    ]
+    lead_only = grown_reached graph q f f.entries f.summaries f.given pending es ds (IsNext flow e) taken_led next_reached sound
 
     pub lead_step : Grows (IsNext flow e) es ds f.pending.items pending.items → Step graph q f led_to es ds
-    lead_step grown = record {
-      taken = taken_led;
-      kept = grown.kept;
-      edge = λ t m. elim (grown.only t m) [ inl w ↦ inr (next_reached t w) | inr was ↦ inl was ];
-      new = grown.pending;
-      stays = grown.stays;
-      pending = grown.edges;
-      sites = λ s x a n v m. m;
-      called = λ s x a n v m. inl m;
-      exits = λ a b m. m;
-      exit = λ a b m. inl m;
-      gives = λ s k m. m;
-      given = λ s k m. inl m;
-      begun = λ from a h. inl h;
-      ended = λ s x b a n v back at enters taken. inl (at, taken);
-      asks = λ s x a n v m. inl m;
-      tells = λ a b c m h. inl (m, h);
-      pairs = λ old. old;
-    }
+    lead_step grown =
+        grown_step graph q f f.entries f.summaries f.given pending es ds (IsNext flow e) taken_led next_reached grown
+        (λ s k m. m) (λ s k m. inl m) (λ from a h. inl h) (λ s x b a n v back at enters h. inl h) (λ a b c m h. inl h)

@@ -15,12 +15,15 @@ use Rattle.summaries.specs.declared.edge.Call.{Call}
 use Rattle.summaries.specs.declared.edge.Edge.{Edge}
 use Rattle.summaries.specs.declared.edge.Site.{Site}
 use Rattle.summaries.specs.declared.found.Found.{Found}
+use Rattle.summaries.specs.declared.given.Given.{Given}
+use Rattle.summaries.specs.declared.groups.Groups.{Groups}
+use Rattle.summaries.specs.declared.due.Caller as rust
 use Rattle.summaries.specs.Under.{under}
 use Rattle.summaries.specs.Mails.{mail}
 use Rattle.summaries.specs.Dues.{caller_of, due_of}
 use Rattle.summaries.specs.Found.{call, call_eq, edge, site, pair, TookMessage, HasSite}
 use Rattle.summaries.specs.Found.{HasExit, HasGiven, IsPending, IsGrounded, IsWorked, IsComplete, IsEmpty}
-use Rattle.summaries.specs.Grows.{EntersAt, triple_of}
+use Rattle.summaries.specs.Grows.{EntersAt, Grows, triple_of}
 use Rattle.summaries.specs.Tables.{HasMore}
 
 -- A step of the table of procedure q from f, with the edges es, to g, with the edges ds: what comes to be held is reached
@@ -98,6 +101,12 @@ module _ {A G : Type 0} (graph : Graph G) (q : ℕ) (f g : Found A) (es ds : Lis
     pairs = step.pairs old.pairs;
   }
 
+module _ {A G : Type 0} (graph : Graph G) (q : ℕ) (f g : Found A) (es ds : List Triple) (step : Step graph q f g es ds)
+    (Aside : Triple → Type 0) where
+  -- after a step all still holds
+  pub still_holds : IsGrounded graph q f es × IsComplete graph q f es Aside → IsGrounded graph q g ds × IsComplete graph q g ds Aside
+  still_holds old = (still_grounded graph q f g es ds step old.0, still_complete graph q f g es ds step Aside old.1)
+
 module _ {A G : Type 0} (graph : Graph G) (q : ℕ) (f : Found A) (es : List Triple) where
   -- an edge that was left aside and is worked on need not be
   pub worked_off : (a n v : ℕ) → IsWorked graph q f es a n v → IsComplete graph q f es (λ t. t ≡ triple a n v) → IsComplete graph q f es (λ t. ⊥)
@@ -130,6 +139,63 @@ pub taken_as : {A : Type 0} (f g : Found A) → ((a : ℕ) → under nat_eq g.en
     (k : NumberedMessage) → TookMessage f k → TookMessage g k
 taken_as f g entries summaries (numbered_entry from a) h = subst (Member (caller_of from)) (sym (entries a)) h
 taken_as f g entries summaries (numbered_summary s a b) h = subst (Member b) (sym (summaries (call s a))) h
+
+-- g has other entries, summaries, messages given and edges pending than f
+module _ {A G : Type 0} (graph : Graph G) (q : ℕ) (f : Found A) (entries : Groups ℕ rust.Caller A) (summaries : Groups Call ℕ A)
+    (given : Given A) (pending : Vec Edge A) where
+  -- what is found, with these
+  abbrev pub grown_to : Found A
+  grown_to = record {
+    entries = entries;
+    summaries = summaries;
+    sites = f.sites;
+    exits = f.exits;
+    pairs = f.pairs;
+    given = given;
+    pending = pending;
+  }
+
+  module _ (es ds : List Triple) (W : Triple → Type 0) (taken : (k : NumberedMessage) → TookMessage f k → TookMessage grown_to k)
+      (reached : (t : Triple) → W t → GraphReaches graph (TookMessage grown_to) t.entry t.point t.values) where
+    -- where nothing but what is reached is added, all edges are
+    pub grown_reached : IsGrounded graph q f es → ((t : Triple) → Member t ds → W t ⊎ Member t es) →
+        (t : Triple) → Member t ds → GraphReaches graph (TookMessage grown_to) t.entry t.point t.values
+    grown_reached sound only t m = elim (only t m) [
+      | inl w ↦ reached t w
+      | inr was ↦ all_reached graph q f grown_to es sound taken t was
+    ]
+
+    -- the edges grow by what is reached, and the sites and exits are the same
+    pub grown_step : Grows W es ds f.pending.items pending.items
+        → ((s : ℕ) (k : NumberedMessage) → HasGiven f s k → HasGiven grown_to s k)
+        → ((s : ℕ) (k : NumberedMessage) → HasGiven grown_to s k → HasGiven f s k ⊎ Sends graph q (TookMessage grown_to) s k)
+        → ((from : Caller) (a : ℕ) → TookMessage grown_to (numbered_entry from a) →
+        TookMessage f (numbered_entry from a) ⊎ Member (triple a graph.start a) ds)
+        → ((s e b a n v back : ℕ) → HasSite f s e (site a n v) → EntersAt graph n v s e back →
+        TookMessage grown_to (numbered_summary s e b) →
+        TookMessage f (numbered_summary s e b) ⊎ Member (triple a back (resumed graph.globals v b)) ds)
+        → ((a b c : ℕ) → HasExit f a b → TookMessage grown_to (numbered_entry (caller c) a) →
+        TookMessage f (numbered_entry (caller c) a) ⊎ HasGiven grown_to c (numbered_summary q a b))
+        → Step graph q f grown_to es ds
+    grown_step grown gives given begun ended tells = record {
+      taken = taken;
+      kept = grown.kept;
+      edge = λ t m. elim (grown.only t m) [ inl w ↦ inr (reached t w) | inr was ↦ inl was ];
+      new = grown.pending;
+      stays = grown.stays;
+      pending = grown.edges;
+      sites = λ s e a n v m. m;
+      called = λ s e a n v m. inl m;
+      exits = λ a b m. m;
+      exit = λ a b m. inl m;
+      gives = gives;
+      given = given;
+      begun = begun;
+      ended = λ s e b a n v back at enters took. elim (ended s e b a n v back at enters took) [ inl was ↦ inl (at, was) | inr is ↦ inr is ];
+      asks = λ s e a n v m. inl m;
+      tells = λ a b c m took. elim (tells a b c m took) [ inl was ↦ inl (m, was) | inr is ↦ inr is ];
+      pairs = λ old. old;
+    }
 
 -- what follows of two facts where the answer is Ok
 pub both_ok : {T E P Q R : Type 0} (r : Result T E) → (P → Q → R) → OnOk r P → OnOk r Q → OnOk r R

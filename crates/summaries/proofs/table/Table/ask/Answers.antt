@@ -13,7 +13,7 @@ use Rattle.summaries.specs.Grows.{Grows, Gives, Each, IsBehind, triple_of}
 use Rattle.summaries.proofs.Asking.{asked_to, ask_step, ask_only, behind_reached, asked_site, taken_there}
 use Rattle.summaries.proofs.Eaches.{where_some}
 use Rattle.summaries.proofs.Mails.{answers_still}
-use Rattle.summaries.proofs.Stepping.{still_grounded, still_complete, all_reached, has_more}
+use Rattle.summaries.proofs.Stepping.{still_holds, all_reached, has_more}
 use Rattle.summaries.proofs.Worked.{refused_worked}
 use Rattle.summaries.proofs.table.Table.ask.Given as given
 use Rattle.summaries.proofs.table.Table.ask.Goals as goal
@@ -83,10 +83,8 @@ returns-clause-worked g c =
           let step = ask_step self.graph.now self.procedure f c.give_unless.new.self c.add.new.self c.go_on.new.pending es ds e
           c.callee.result c.entry.result c.args.call.now.back (flow.Call c.args.call.now)
           c.requires.holds.0 c.requires.edge c.requires.call (enters g c) c.in_ok-give_unless.ensures.ok c.in_ok-known.ensures.added
-          c.in_ok-known.ensures.others (known g c grown) in (
-            still_grounded self.graph.now self.procedure f _ es ds step c.requires.holds.0,
-            still_complete self.graph.now self.procedure f _ es ds step (λ t. t ≡ triple_of e) c.requires.holds.1,
-          ))
+          c.in_ok-known.ensures.others (known g c grown) in
+          still_holds self.graph.now self.procedure f _ es ds step (λ t. t ≡ triple_of e) c.requires.holds)
           c.go_on.ensures.ok;
       edges = edges;
       within = c.go_on.ensures.within;

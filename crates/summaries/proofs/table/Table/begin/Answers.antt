@@ -5,7 +5,7 @@ use Rattle.summaries.specs.Grows.{Gives, Each, IsTold}
 use Rattle.summaries.proofs.Beginning.{begun_also, begin_only, begin_step, start_reached}
 use Rattle.summaries.proofs.Growing.{ok_err, grows_as, fault_of}
 use Rattle.summaries.proofs.Mails.{answers_still}
-use Rattle.summaries.proofs.Stepping.{still_grounded, still_complete, all_reached, taken_as, has_more}
+use Rattle.summaries.proofs.Stepping.{still_holds, all_reached, taken_as, has_more}
 use Rattle.summaries.proofs.Worked.{failed_worked, refused_worked}
 use Rattle.summaries.proofs.table.Table.begin.Goals as goal
 use Rattle.summaries.specs.Limits.{most_of}
@@ -64,10 +64,8 @@ returns-clause-worked g c =
     let gave = subst (λ bs. Gives (Each (λ b. IsTold self.procedure a b c.args.caller) bs) f.given.mails.keys c.tell_exits.new.given.mails.keys) c.of.ensures c.in_ok-tell_exits.ensures.ok in
     let step = begin_step self.graph.now self.procedure f c.add.new.self c.tell_exits.new.given c.reach.new.pending a
     c.args.caller c.in_ok-add.ensures.added c.in_ok-add.ensures.others es ds c.requires.holds.0 grown gave in record {
-      holds = (
-        still_grounded self.graph.now self.procedure f _ es ds step c.requires.holds.0,
-        still_complete self.graph.now self.procedure f _ es ds step (λ t. ⊥) c.requires.holds.1,
-      );
+      holds =
+          still_holds self.graph.now self.procedure f _ es ds step (λ t. ⊥) c.requires.holds;
       edges = begin_only self.graph.now self.procedure f c.add.new.self c.tell_exits.new.given c.reach.new.pending a
           c.args.caller c.in_ok-add.ensures.added c.in_ok-add.ensures.others es ds c.requires.holds.0
           (λ t m. elim (c.in_ok-reach.ensures.only t m) [ inl is ↦ inl (is ∙ ap (λ n. triple a n a) c.start.ensures) | inr was ↦ inr was ]);

@@ -5,7 +5,7 @@ use Rattle.path_sets.specs.Triples.{Triple}
 use Rattle.summaries.specs.declared.found.Found.{Found}
 use Rattle.summaries.specs.Grows.{Grows, Each, IsBehind}
 use Rattle.summaries.proofs.Ending.{ended_also, end_only, end_step, ended_reached}
-use Rattle.summaries.proofs.Stepping.{still_grounded, still_complete, all_reached, taken_as, has_more}
+use Rattle.summaries.proofs.Stepping.{still_holds, all_reached, taken_as, has_more}
 use Rattle.summaries.proofs.Worked.{refused_worked}
 use Rattle.summaries.proofs.table.Table.end.Goals as goal
 use Rattle.summaries.specs.Limits.{most_of}
@@ -35,10 +35,8 @@ returns-clause-worked g c =
           let known = subst (λ ss. Grows (Each (λ y. IsBehind self.graph.now y c.args.b) ss) es ds f.pending.items
           c.go_on_at_each.new.pending.items) c.of.ensures grown in
           let step = end_step self.graph.now self.procedure f c.add.new.self c.go_on_at_each.new.pending c.args.call
-          c.args.b c.in_ok-add.ensures.added c.in_ok-add.ensures.others es ds c.requires.holds.0 known in (
-            still_grounded self.graph.now self.procedure f _ es ds step c.requires.holds.0,
-            still_complete self.graph.now self.procedure f _ es ds step (λ t. ⊥) c.requires.holds.1,
-          ))
+          c.args.b c.in_ok-add.ensures.added c.in_ok-add.ensures.others es ds c.requires.holds.0 known in
+          still_holds self.graph.now self.procedure f _ es ds step (λ t. ⊥) c.requires.holds)
           c.go_on_at_each.ensures.ok;
       edges = edges;
       within = c.go_on_at_each.ensures.within;

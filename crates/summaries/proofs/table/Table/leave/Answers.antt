@@ -10,7 +10,7 @@ use Rattle.summaries.specs.Grows.{Gives, Each, IsTold, triple_of}
 use Rattle.summaries.proofs.Adding.{same_pair}
 use Rattle.summaries.proofs.Mails.{inserted_new, inserted_known, answers_still}
 use Rattle.summaries.proofs.Leaving.{leave_step}
-use Rattle.summaries.proofs.Stepping.{still_grounded, still_complete, same_step}
+use Rattle.summaries.proofs.Stepping.{still_holds, same_step}
 use Rattle.summaries.proofs.table.Table.leave.Goals as goal
 
 pub returns-in_ok-tell_all-clause-ok : goal.returns-in_ok-tell_all-clause-ok
@@ -24,10 +24,8 @@ returns-in_ok-tell_all-clause-ok g c =
     let there = subst (λ n. Member (triple e.entry n e.values) es) c.if-edge-ne-EXIT.false c.requires.edge in
     let keys = inserted_new pair_eq (pair e.entry b) f.pairs.keys c.insert.new.self.keys c.in_ok-insert.field-0 c.in_ok-insert.ensures.added c.in_ok-insert.ensures.keys c.if-branch.true in
     let gave = subst (λ cs. Gives (Each (IsTold self.procedure e.entry b) cs) f.given.mails.keys h.given.mails.keys) c.of.ensures c.in_ok-tell_all.ensures.ok in
-    let step = leave_step self.graph.now self.procedure f h es e.entry e.values b c.left.ensures.number c.requires.holds.0 there keys c.in_ok-add.ensures.added c.in_ok-add.ensures.others gave in (
-      still_grounded self.graph.now self.procedure f h es es step c.requires.holds.0,
-      still_complete self.graph.now self.procedure f h es es step (λ t. t ≡ triple_of e) c.requires.holds.1,
-    )
+    let step = leave_step self.graph.now self.procedure f h es e.entry e.values b c.left.ensures.number c.requires.holds.0 there keys c.in_ok-add.ensures.added c.in_ok-add.ensures.others gave in
+    still_holds self.graph.now self.procedure f h es es step (λ t. t ≡ triple_of e) c.requires.holds
 
 pub returns-in_ok-tell_all-clause-left : goal.returns-in_ok-tell_all-clause-left
 returns-in_ok-tell_all-clause-left g c = λ _.
@@ -52,10 +50,8 @@ returns-else-branch-clause-ok g c =
     let es = g.S.PathSet.members self.edges in
     let h : Found g.row.A.Denot = record { entries = f.entries; summaries = f.summaries; sites = f.sites; exits = f.exits; pairs = c.insert.new.self; given = f.given; pending = f.pending } in
     let known = inserted_known pair_eq (pair e.entry c.left.result) f.pairs.keys c.insert.new.self.keys c.in_ok-insert.field-0 c.in_ok-insert.ensures.added c.in_ok-insert.ensures.keys c.if-branch.false in
-    let step = same_step self.graph.now self.procedure f h es known.0 refl refl in (
-      still_grounded self.graph.now self.procedure f h es es step c.requires.holds.0,
-      still_complete self.graph.now self.procedure f h es es step (λ t. t ≡ triple_of e) c.requires.holds.1,
-    )
+    let step = same_step self.graph.now self.procedure f h es known.0 refl refl in
+    still_holds self.graph.now self.procedure f h es es step (λ t. t ≡ triple_of e) c.requires.holds
 
 pub returns-else-branch-clause-left : goal.returns-else-branch-clause-left
 returns-else-branch-clause-left g c = λ _.
