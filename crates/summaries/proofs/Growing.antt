@@ -2,7 +2,7 @@
 use Rattle.std.specs.Bool.{OnFalse}
 use Rattle.std.specs.Result.{IsErrAnd, OnOk}
 use Rattle.std.proofs.Common.{Option, Some, ◌≤◌, eq-or-lt_of_le, ◌≡◌, Bool, true, false, true≢false, List}
-use Rattle.std.proofs.Common.{[], ◌∷◌, ◌++◌, ◌⊎◌, inl, inr, refl, sym, ap, subst, ◌∙◌, ℕ, ◌+◌, Result, Ok}
+use Rattle.std.proofs.Common.{[], ◌∷◌, ◌++◌, ◌⊎◌, inl, inr, sym, ap, subst, ◌∙◌, ℕ, ◌+◌, Result, Ok}
 use Rattle.std.proofs.Common.{Err, length, if◌then◌else◌, arith, length-append}
 use Rattle.summaries.proofs.Eaches.{each_left, each_last, each_or_last}
 use Rattle.std.proofs.lemmas.Option.{same_Some}

@@ -1,5 +1,5 @@
 -- The step of a table at an edge whose choices lead on.
-use Rattle.std.proofs.Common.{◌≡◌, ◌⊎◌, ℕ, Some, List, inl, inr, refl, sym, subst, slice_get}
+use Rattle.std.proofs.Common.{◌≡◌, ◌⊎◌, ℕ, Some, List, inl, refl, sym, subst, slice_get}
 use Rattle.std.specs.Prelude.{Vec}
 use Rattle.language.specs.Flow.{Member}
 use Rattle.path_sets.specs.Triples.{Triple}

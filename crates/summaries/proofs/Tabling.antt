@@ -15,9 +15,9 @@ use Rattle.summaries.specs.Mails.{mail}
 use Rattle.summaries.specs.Dues.{due_of}
 use Rattle.summaries.specs.Found.{answers_in, TookMessage, HasGiven, IsGrounded, IsComplete}
 use Rattle.summaries.specs.Tables as tables
-use Rattle.summaries.specs.Tables.{answers_of, IsReached, IsTable}
+use Rattle.summaries.specs.Tables.{answers_of, IsReached, IsTable, Keeps}
 use Rattle.summaries.proofs.Quiet.{is_exact, is_left}
-use Rattle.summaries.proofs.Stepping.{same_to, same_step, still_grounded, still_complete}
+use Rattle.summaries.proofs.Stepping.{same_to, same_step, still_holds}
 
 module _ {G A S : Type 0} (members : S → List Triple) (t : Table G A S) (g : Found A) (paired : g.pairs.keys ≡ t.found.pairs.keys) (gave : g.given.mails.keys ≡ t.found.given.mails.keys)
     (pended : g.pending.items ≡ t.found.pending.items) where
@@ -34,10 +34,7 @@ module _ {G A S : Type 0} (members : S → List Triple) (t : Table G A S) (g : F
     within = old.within;
     holds = λ none.
         let step = same_step t.graph.now t.procedure t.found g (members t.edges) paired gave pended in
-        let held = old.holds none in (
-          still_grounded t.graph.now t.procedure t.found there (members t.edges) (members t.edges) step held.0,
-          still_complete t.graph.now t.procedure t.found there (members t.edges) (members t.edges) step (λ x. ⊥) held.1,
-        );
+        still_holds t.graph.now t.procedure t.found there (members t.edges) (members t.edges) step (λ x. ⊥) (old.holds none);
     many = λ is.
         let (ts, once, more, all) = old.many is in (
           ts,
@@ -46,6 +43,18 @@ module _ {G A S : Type 0} (members : S → List Triple) (t : Table G A S) (g : F
           λ x m. reaches_more t.graph.now (TookMessage t.found) (TookMessage there) taken x.entry x.point
               x.values (all x m),
         );
+  }
+
+module _ {G A S : Type 0} (members : S → List Triple) (t : Table G A S) (g : Found A) (paired : g.pairs.keys ≡ t.found.pairs.keys) (gave : g.given.mails.keys ≡ t.found.given.mails.keys)
+    (pended : g.pending.items ≡ t.found.pending.items) where
+  -- and keeps what it has taken
+  pub same_keeps : IsTable members t → t.fault ≡ None →
+      Keeps members None t (record { graph = t.graph; procedure = t.procedure; limit = t.limit; edges = t.edges; found = there members t g paired gave pended; fault = t.fault })
+  same_keeps old none = record {
+    table = same_table members t g paired gave pended old;
+    taken = (refl, refl);
+    stays = record { graph = refl; procedure = refl; limit = refl };
+    fault = none;
   }
 
 -- the message that is answered next is given, so it is sent

@@ -4,16 +4,19 @@ use Rattle.std.specs.Option.{IfSome}
 use Rattle.std.specs.Result.{IsErrAnd, OnOk}
 use Rattle.std.proofs.lemmas.Result.{IfOk-weaker}
 use Rattle.language.specs.Flow.{Member}
-use Rattle.path_sets.specs.Triples.{Triple}
+use Rattle.path_sets.specs.Triples.{Triple, NoneTwice}
 use Rattle.flow_graph.specs.Numbers.{NumberedMessage, Sends}
 use Rattle.summaries.specs.declared.due.Due.{Due}
+use Rattle.summaries.specs.declared.edge.Edge.{Edge}
 use Rattle.summaries.specs.declared.table.Table.{Table}
 use Rattle.summaries.specs.declared.table_fault.TableFault.{TableFault}
 use Rattle.summaries.specs.declared.table_fault.TableFault.TheVariants.{Memory, EdgeLimit}
+use Rattle.summaries.specs.Grows.{Adds}
 use Rattle.summaries.specs.Mails.{mail}
 use Rattle.summaries.specs.Dues.{due_of}
 use Rattle.summaries.specs.Found.{TookMessage}
 use Rattle.summaries.proofs.Growing.{no_limit, failed_ok}
+use Rattle.summaries.proofs.Stepping.{has_more}
 use Rattle.summaries.specs.Tables.{answers_of, HasMore, Holds, IsReached, IsAnswer, StaysAs, Worked}
 use Rattle.summaries.specs.Limits.{most_of}
 
@@ -45,6 +48,22 @@ module _ {G A S : Type 0} (members : S → List Triple) where
     -- where memory is refused
     pub refused_worked : IsErrAnd r (λ e. e ≡ Memory) → Worked members Aside r old new
     refused_worked told = failed_worked (λ e. e ≡ Memory) told (λ is. absurd (no_limit r told is))
+
+  -- where edges were to be added, and nothing else has changed but what is found
+  pub added_worked : (W Aside : Triple → Type 0) {T : Type 0} (r : Result T TableFault) (old new : Table G A S) (es : List Triple)
+      (before after : List Edge) → Adds W r (most_of new.limit) es (members new.edges) before after → NoneTwice (members new.edges) →
+      ((x : Triple) → Member x (members new.edges) → IsReached new x) → ((x : Triple) → W x → IsReached new x) →
+      OnOk r (Holds members Aside new) → OnOk r (answers_of new ≡ answers_of old) → StaysAs old new → new.fault ≡ old.fault →
+      Worked members Aside r old new
+  added_worked W Aside r old new es before after adds once edges reached holds answers stays fault = record {
+    holds = holds;
+    edges = edges;
+    within = adds.within;
+    many = λ is. let (t, w, fresh, full) = adds.limit is in has_more (most_of new.limit) (members new.edges) _ once edges t (reached t w) fresh full;
+    answers = answers;
+    stays = stays;
+    fault = fault;
+  }
 
   -- work that goes on from other work, and leaves other edges aside
   pub then_worked : {T : Type 0} (Aside Left : Triple → Type 0) (r : Result T TableFault) (old mid new : Table G A S) →

@@ -1,13 +1,12 @@
 use Rattle.std.proofs.Common.{refl, sym, subst}
-use Rattle.summaries.specs.declared.found.Found.{Found}
 use Rattle.summaries.specs.declared.table.Table.{Table}
 use Rattle.flow_graph.specs.Numbers.{Sends}
 use Rattle.language.specs.Flow.{Member}
 use Rattle.summaries.specs.Mails.{mail}
 use Rattle.summaries.specs.Dues.{due_of}
 use Rattle.summaries.specs.Found.{TookMessage}
-use Rattle.summaries.proofs.Stepping.{same_step, still_grounded}
-use Rattle.summaries.proofs.Tabling.{same_table, next_sent}
+use Rattle.summaries.proofs.Stepping.{grown_to, same_step, still_grounded}
+use Rattle.summaries.proofs.Tabling.{same_keeps, next_sent}
 use Rattle.summaries.proofs.Worked.{answer_is}
 use Rattle.summaries.proofs.table.Table.answer.Goals as goal
 
@@ -15,28 +14,15 @@ pub returns-clause-keeps : goal.returns-clause-keeps
 returns-clause-keeps g c =
     let self = c.args.self.now in
     let f = self.found in
-    let h : Found g.row.A.Denot = record {
-      entries = f.entries;
-      summaries = f.summaries;
-      sites = f.sites;
-      exits = f.exits;
-      pairs = f.pairs;
-      given =
-          c.next.new.self;
-      pending = f.pending;
-    } in record {
-      table = same_table g.S.PathSet.members self h refl c.next.ensures.given refl c.requires.table;
-      taken = (refl, refl);
-      stays = record { graph = refl; procedure = refl; limit = refl };
-      fault = c.requires.fault;
-    }
+    let h = grown_to self.graph.now self.procedure f f.entries f.summaries c.next.new.self f.pending in
+    same_keeps g.S.PathSet.members self h refl c.next.ensures.given refl c.requires.table c.requires.fault
 
 pub returns-clause-some : goal.returns-clause-some
 returns-clause-some g c =
     let self = c.args.self.now in
     let f = self.found in
     let es = g.S.PathSet.members self.edges in
-    let h : Found g.row.A.Denot = record { entries = f.entries; summaries = f.summaries; sites = f.sites; exits = f.exits; pairs = f.pairs; given = c.next.new.self; pending = f.pending } in
+    let h = grown_to self.graph.now self.procedure f f.entries f.summaries c.next.new.self f.pending in
     let new : Table g.row.G.Denot g.row.A.Denot g.row.S.Denot =
     record {
       graph = self.graph;

@@ -3,21 +3,17 @@ use Rattle.std.proofs.lemmas.Result.{IfOk-weaker}
 use Rattle.path_sets.specs.Triples.{Triple}
 use Rattle.flow_graph.specs.Flows.{entered_by}
 use Rattle.flow_graph.specs.declared.flow.Flow.TheVariants as flow
-use Rattle.summaries.specs.declared.due.Caller.TheVariants.{Proc}
-use Rattle.summaries.specs.declared.due.Due.TheVariants.{Entry}
 use Rattle.language.specs.Flow.{Member}
 use Rattle.summaries.specs.Under.{under}
-use Rattle.summaries.specs.Mails.{mail}
 use Rattle.summaries.specs.Found.{HasSite, call, call_eq, site}
-use Rattle.summaries.specs.Grows.{Grows, Gives, Each, IsBehind, triple_of}
+use Rattle.summaries.specs.Grows.{Grows, Each, IsBehind, triple_of}
 use Rattle.summaries.proofs.Asking.{asked_to, ask_step, ask_only, behind_reached, asked_site, taken_there}
 use Rattle.summaries.proofs.Eaches.{where_some}
 use Rattle.summaries.proofs.Mails.{answers_still}
-use Rattle.summaries.proofs.Stepping.{still_holds, all_reached, has_more}
-use Rattle.summaries.proofs.Worked.{refused_worked}
+use Rattle.summaries.proofs.Stepping.{still_holds, all_reached}
+use Rattle.summaries.proofs.Worked.{refused_worked, added_worked}
 use Rattle.summaries.proofs.table.Table.ask.Given as given
 use Rattle.summaries.proofs.table.Table.ask.Goals as goal
-use Rattle.summaries.specs.Limits.{most_of}
 
 -- the flow is a call of this procedure
 enters : (g : given.Over) (c : goal.After-go_on g) →
@@ -77,32 +73,26 @@ returns-clause-worked g c =
     c.requires.holds.0 c.requires.edge c.requires.call (enters g c)
     (subst (λ bs. (t : Triple) → Member t ds →
     Each (IsBehind self.graph.now (site e.entry e.point e.values)) bs t ⊎ Member t es) c.of.ensures
-    c.go_on.ensures.only) in record {
-      holds = IfOk-weaker c.go_on.result _ _
-          (λ _ grown.
-          let step = ask_step self.graph.now self.procedure f c.give_unless.new.self c.add.new.self c.go_on.new.pending es ds e
-          c.callee.result c.entry.result c.args.call.now.back (flow.Call c.args.call.now)
-          c.requires.holds.0 c.requires.edge c.requires.call (enters g c) c.in_ok-give_unless.ensures.ok c.in_ok-known.ensures.added
-          c.in_ok-known.ensures.others (known g c grown) in
-          still_holds self.graph.now self.procedure f _ es ds step (λ t. t ≡ triple_of e) c.requires.holds)
-          c.go_on.ensures.ok;
-      edges = edges;
-      within = c.go_on.ensures.within;
-      many = λ is.
-          let (t, w, new, full) = c.go_on.ensures.limit is in
-          has_more (most_of self.limit) ds _ (g.met.S.PathSet.none_twice c.go_on.new.edges) edges t
-          (behind_reached self.graph.now self.procedure f c.give_unless.new.self c.add.new.self c.go_on.new.pending es ds e
-          c.callee.result c.entry.result c.args.call.now.back (flow.Call c.args.call.now)
-          c.requires.holds.0 c.requires.edge c.requires.call (enters g c) t
-          (subst (λ bs. Each (IsBehind self.graph.now (site e.entry e.point e.values)) bs t) c.of.ensures w))
-          new full;
-      answers = IfOk-weaker c.go_on.result _ _
-          (λ _ _. answers_still f.given.mails.keys c.give_unless.new.self.mails.keys f.given.answered c.give_unless.new.self.answered
-          f.given.within c.give_unless.ensures.answered c.in_ok-give_unless.ensures.ok.behind)
-          c.go_on.ensures.ok;
-      stays = record { graph = refl; procedure = refl; limit = refl };
-      fault = refl;
-    }
+    c.go_on.ensures.only) in
+    added_worked g.S.PathSet.members _ (λ t. t ≡ triple_of e) c.go_on.result self _ es _ _ c.go_on.ensures
+    (g.met.S.PathSet.none_twice c.go_on.new.edges) edges
+    (λ t w. behind_reached self.graph.now self.procedure f c.give_unless.new.self c.add.new.self c.go_on.new.pending es ds e
+    c.callee.result c.entry.result c.args.call.now.back (flow.Call c.args.call.now)
+    c.requires.holds.0 c.requires.edge c.requires.call (enters g c) t
+    (subst (λ bs. Each (IsBehind self.graph.now (site e.entry e.point e.values)) bs t) c.of.ensures w))
+    (IfOk-weaker c.go_on.result _ _
+    (λ _ grown.
+    let step = ask_step self.graph.now self.procedure f c.give_unless.new.self c.add.new.self c.go_on.new.pending es ds e
+    c.callee.result c.entry.result c.args.call.now.back (flow.Call c.args.call.now)
+    c.requires.holds.0 c.requires.edge c.requires.call (enters g c) c.in_ok-give_unless.ensures.ok c.in_ok-known.ensures.added
+    c.in_ok-known.ensures.others (known g c grown) in
+    still_holds self.graph.now self.procedure f _ es ds step (λ t. t ≡ triple_of e) c.requires.holds)
+    c.go_on.ensures.ok)
+    (IfOk-weaker c.go_on.result _ _
+    (λ _ _. answers_still f.given.mails.keys c.give_unless.new.self.mails.keys f.given.answered c.give_unless.new.self.answered
+    f.given.within c.give_unless.ensures.answered c.in_ok-give_unless.ensures.ok.behind)
+    c.go_on.ensures.ok)
+    (record { graph = refl; procedure = refl; limit = refl }) refl
 
 pub returns-clause-asked : goal.returns-clause-asked
 returns-clause-asked g c =

@@ -1,11 +1,10 @@
 use Rattle.std.proofs.Common.{◌≡◌, Err, inl, inr, refl, sym, ap, ◌∙◌, subst}
 use Rattle.path_sets.specs.Triples.{triple}
-use Rattle.summaries.specs.declared.found.Found.{Found}
 use Rattle.summaries.specs.Grows.{Gives, Each, IsTold}
 use Rattle.summaries.proofs.Beginning.{begun_also, begin_only, begin_step, start_reached}
 use Rattle.summaries.proofs.Growing.{ok_err, grows_as, fault_of}
 use Rattle.summaries.proofs.Mails.{answers_still}
-use Rattle.summaries.proofs.Stepping.{still_holds, all_reached, taken_as, has_more}
+use Rattle.summaries.proofs.Stepping.{grown_to, still_holds, all_reached, taken_as, has_more}
 use Rattle.summaries.proofs.Worked.{failed_worked, refused_worked}
 use Rattle.summaries.proofs.table.Table.begin.Goals as goal
 use Rattle.summaries.specs.Limits.{most_of}
@@ -14,7 +13,7 @@ pub returns-in_err-add-clause-worked : goal.returns-in_err-add-clause-worked
 returns-in_err-add-clause-worked g c =
     let self = c.args.self.now in
     let f = self.found in
-    let h : Found g.row.A.Denot = record { entries = c.add.new.self; summaries = f.summaries; sites = f.sites; exits = f.exits; pairs = f.pairs; given = f.given; pending = f.pending } in
+    let h = grown_to self.graph.now self.procedure f c.add.new.self f.summaries f.given f.pending in
     refused_worked g.S.PathSet.members (λ t. ⊥) _ self _
     (all_reached self.graph.now self.procedure f h (g.S.PathSet.members self.edges) c.requires.holds.0
     (taken_as f h c.in_err-add.ensures.err (λ k. refl)))

@@ -2,19 +2,17 @@ use Rattle.std.proofs.Common.{◌⊎◌, inr, refl, sym, subst}
 use Rattle.std.proofs.lemmas.Result.{IfOk-weaker}
 use Rattle.language.specs.Flow.{Member}
 use Rattle.path_sets.specs.Triples.{Triple}
-use Rattle.summaries.specs.declared.found.Found.{Found}
 use Rattle.summaries.specs.Grows.{Grows, Each, IsBehind}
 use Rattle.summaries.proofs.Ending.{ended_also, end_only, end_step, ended_reached}
-use Rattle.summaries.proofs.Stepping.{still_holds, all_reached, taken_as, has_more}
-use Rattle.summaries.proofs.Worked.{refused_worked}
+use Rattle.summaries.proofs.Stepping.{grown_to, still_holds, all_reached, taken_as}
+use Rattle.summaries.proofs.Worked.{refused_worked, added_worked}
 use Rattle.summaries.proofs.table.Table.end.Goals as goal
-use Rattle.summaries.specs.Limits.{most_of}
 
 pub returns-in_err-add-clause-worked : goal.returns-in_err-add-clause-worked
 returns-in_err-add-clause-worked g c =
     let self = c.args.self.now in
     let f = self.found in
-    let h : Found g.row.A.Denot = record { entries = f.entries; summaries = c.add.new.self; sites = f.sites; exits = f.exits; pairs = f.pairs; given = f.given; pending = f.pending } in
+    let h = grown_to c.args.self.now.graph.now c.args.self.now.procedure f f.entries c.add.new.self f.given f.pending in
     refused_worked g.S.PathSet.members (λ t. ⊥) _ self _
     (all_reached self.graph.now self.procedure f h (g.S.PathSet.members self.edges) c.requires.holds.0
     (taken_as f h (λ a. refl) c.in_err-add.ensures.err))
@@ -29,28 +27,22 @@ returns-clause-worked g c =
     let edges = end_only self.graph.now self.procedure f c.add.new.self c.go_on_at_each.new.pending c.args.call c.args.b
     c.in_ok-add.ensures.added c.in_ok-add.ensures.others es ds c.requires.holds.0
     (subst (λ ss. (t : Triple) → Member t ds → Each (λ y. IsBehind self.graph.now y c.args.b) ss t ⊎ Member t es)
-    c.of.ensures c.go_on_at_each.ensures.only) in record {
-      holds = IfOk-weaker c.go_on_at_each.result _ _
-          (λ _ grown.
-          let known = subst (λ ss. Grows (Each (λ y. IsBehind self.graph.now y c.args.b) ss) es ds f.pending.items
-          c.go_on_at_each.new.pending.items) c.of.ensures grown in
-          let step = end_step self.graph.now self.procedure f c.add.new.self c.go_on_at_each.new.pending c.args.call
-          c.args.b c.in_ok-add.ensures.added c.in_ok-add.ensures.others es ds c.requires.holds.0 known in
-          still_holds self.graph.now self.procedure f _ es ds step (λ t. ⊥) c.requires.holds)
-          c.go_on_at_each.ensures.ok;
-      edges = edges;
-      within = c.go_on_at_each.ensures.within;
-      many = λ is.
-          let (t, w, new, full) = c.go_on_at_each.ensures.limit is in
-          has_more (most_of self.limit) ds _ (g.met.S.PathSet.none_twice c.go_on_at_each.new.edges) edges t
-          (ended_reached self.graph.now self.procedure f c.add.new.self c.go_on_at_each.new.pending c.args.call c.args.b
-          c.in_ok-add.ensures.added c.in_ok-add.ensures.others es ds c.requires.holds.0 t
-          (subst (λ ss. Each (λ y. IsBehind self.graph.now y c.args.b) ss t) c.of.ensures w))
-          new full;
-      answers = IfOk-weaker c.go_on_at_each.result _ _ (λ _ _. refl) c.go_on_at_each.ensures.ok;
-      stays = record { graph = refl; procedure = refl; limit = refl };
-      fault = refl;
-    }
+    c.of.ensures c.go_on_at_each.ensures.only) in
+    added_worked g.S.PathSet.members _ (λ t. ⊥) c.go_on_at_each.result self _ es _ _ c.go_on_at_each.ensures
+    (g.met.S.PathSet.none_twice c.go_on_at_each.new.edges) edges
+    (λ t w. ended_reached self.graph.now self.procedure f c.add.new.self c.go_on_at_each.new.pending c.args.call c.args.b
+    c.in_ok-add.ensures.added c.in_ok-add.ensures.others es ds c.requires.holds.0 t
+    (subst (λ ss. Each (λ y. IsBehind self.graph.now y c.args.b) ss t) c.of.ensures w))
+    (IfOk-weaker c.go_on_at_each.result _ _
+    (λ _ grown.
+    let known = subst (λ ss. Grows (Each (λ y. IsBehind self.graph.now y c.args.b) ss) es ds f.pending.items
+    c.go_on_at_each.new.pending.items) c.of.ensures grown in
+    let step = end_step self.graph.now self.procedure f c.add.new.self c.go_on_at_each.new.pending c.args.call
+    c.args.b c.in_ok-add.ensures.added c.in_ok-add.ensures.others es ds c.requires.holds.0 known in
+    still_holds self.graph.now self.procedure f _ es ds step (λ t. ⊥) c.requires.holds)
+    c.go_on_at_each.ensures.ok)
+    (IfOk-weaker c.go_on_at_each.result _ _ (λ _ _. refl) c.go_on_at_each.ensures.ok)
+    (record { graph = refl; procedure = refl; limit = refl }) refl
 
 pub returns-clause-taken : goal.returns-clause-taken
 returns-clause-taken g c =
@@ -63,7 +55,7 @@ returns-clause-taken g c =
 pub returns-in_err-add-clause-only : goal.returns-in_err-add-clause-only
 returns-in_err-add-clause-only g c = λ k m.
     let f = c.args.self.now.found in
-    let h : Found g.row.A.Denot = record { entries = f.entries; summaries = c.add.new.self; sites = f.sites; exits = f.exits; pairs = f.pairs; given = f.given; pending = f.pending } in
+    let h = grown_to c.args.self.now.graph.now c.args.self.now.procedure f f.entries c.add.new.self f.given f.pending in
     inr (taken_as h f (λ a. refl) (λ j. sym (c.in_err-add.ensures.err j)) k m)
 
 pub returns-clause-only : goal.returns-clause-only

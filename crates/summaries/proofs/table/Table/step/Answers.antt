@@ -1,30 +1,16 @@
 use Rattle.std.proofs.Common.{◌≡◌, ◌++◌, ◌∷◌, [], refl, sym, ◌∙◌}
 use Rattle.std.proofs.lemmas.List.{append-nil}
-use Rattle.summaries.specs.declared.found.Found.{Found}
-use Rattle.summaries.proofs.Stepping.{popped_grounded, popped_complete, popped_edge}
-use Rattle.summaries.proofs.Tabling.{same_table}
+use Rattle.summaries.proofs.Stepping.{grown_to, popped_grounded, popped_complete, popped_edge}
+use Rattle.summaries.proofs.Tabling.{same_keeps}
 use Rattle.summaries.proofs.table.Table.step.Goals as goal
 
 pub returns-in_default-clause-keeps : goal.returns-in_default-clause-keeps
 returns-in_default-clause-keeps g c =
     let self = c.args.self.now in
     let f = self.found in
-    let h : Found g.row.A.Denot = record {
-      entries = f.entries;
-      summaries = f.summaries;
-      sites = f.sites;
-      exits = f.exits;
-      pairs = f.pairs;
-      given =
-          f.given;
-      pending = c.pop.new.self;
-    } in record {
-      table = same_table g.S.PathSet.members self h refl refl
-          (sym (c.in_default.ensures.items ∙ append-nil c.pop.new.self.items)) c.requires.table;
-      taken = (refl, refl);
-      stays = record { graph = refl; procedure = refl; limit = refl };
-      fault = c.requires.fault;
-    }
+    let h = grown_to self.graph.now self.procedure f f.entries f.summaries f.given c.pop.new.self in
+    same_keeps g.S.PathSet.members self h refl refl (sym (c.in_default.ensures.items ∙ append-nil c.pop.new.self.items))
+    c.requires.table c.requires.fault
 
 pub work-worked-requires-clause-edge : goal.work-worked-requires-clause-edge
 work-worked-requires-clause-edge g c =

@@ -6,12 +6,12 @@ use Rattle.flow_graph.specs.Returns.{left}
 use Rattle.flow_graph.specs.declared.flow.Flow.TheVariants.{Call}
 use Rattle.summaries.specs.Under.{under}
 use Rattle.summaries.specs.Found.{call_eq, TookMessage, HasExit}
-use Rattle.summaries.specs.Grows.{triple_of}
+use Rattle.summaries.specs.Grows.{triple_of, IsNext}
 use Rattle.summaries.proofs.Growing.{ok_err}
 use Rattle.summaries.proofs.Leading.{led_to, lead_only, lead_step, next_reached}
 use Rattle.summaries.proofs.Working.{beyond_worked, called_worked, led_worked}
-use Rattle.summaries.proofs.Stepping.{still_grounded, still_complete, worked_off, both_ok, all_reached, taken_as, has_more}
-use Rattle.summaries.proofs.Worked.{refused_worked, then_worked}
+use Rattle.summaries.proofs.Stepping.{still_holds, worked_off, both_ok, all_reached, taken_as}
+use Rattle.summaries.proofs.Worked.{refused_worked, then_worked, added_worked}
 use Rattle.summaries.proofs.table.Table.work.Goals as goal
 use Rattle.summaries.specs.Limits.{most_of}
 
@@ -85,29 +85,25 @@ returns-in_default g c =
     let there = subst (λ s. Member (triple_of e) (g.S.PathSet.members s)) (sym c.in_ok-leave.ensures.edges) c.requires.edge in
     let here = c.flow.ensures in
     let only = lead_only new.graph.now new.procedure f c.lead.new.pending es ds e c.flow.result.now c.in_ok-leave.ensures.ok.0 there here c.lead.ensures.only in record {
-      worked = record {
-        holds = IfOk-weaker c.lead.result _ _
-            (λ _ grown.
-            let step = lead_step new.graph.now new.procedure f c.lead.new.pending es ds e c.flow.result.now
-            c.in_ok-leave.ensures.ok.0 there here grown in (
-              still_grounded new.graph.now new.procedure f _ es ds step c.in_ok-leave.ensures.ok.0,
-              worked_off new.graph.now new.procedure _ ds e.entry e.point e.values
-                  (led_worked new.graph.now new.procedure (led_to new.graph.now new.procedure f c.lead.new.pending) ds e
-                  c.in_ok-leave.ensures.left c.flow.result.now here c.in_default.not-Call grown.all)
-                  (still_complete new.graph.now new.procedure f _ es ds step (λ t. t ≡ triple_of e) c.in_ok-leave.ensures.ok.1),
-            ))
-            c.lead.ensures.ok;
-        edges = only;
-        within = c.lead.ensures.within;
-        many = λ is.
-            let (t, w, fresh, full) = c.lead.ensures.limit is in
-            has_more (most_of new.limit) ds _ (g.met.S.PathSet.none_twice c.lead.new.edges) only t
-            (next_reached new.graph.now new.procedure f c.lead.new.pending es ds e c.flow.result.now
-            c.in_ok-leave.ensures.ok.0 there here t w) fresh full;
-        answers = IfOk-weaker c.lead.result _ _ (λ _ _. c.in_ok-leave.ensures.answers) c.lead.ensures.ok;
-        stays = let s = c.in_ok-leave.ensures.stays in record { graph = s.graph; procedure = s.procedure; limit = s.limit };
-        fault = c.in_ok-leave.ensures.fault;
-      };
+      worked =
+          added_worked g.S.PathSet.members (IsNext c.flow.result.now e) (λ t. ⊥) c.lead.result c.args.self.now _ es _ _ c.lead.ensures
+          (g.met.S.PathSet.none_twice c.lead.new.edges) only
+          (next_reached new.graph.now new.procedure f c.lead.new.pending es ds e c.flow.result.now c.in_ok-leave.ensures.ok.0 there here)
+          (IfOk-weaker c.lead.result _ _
+          (λ _ grown.
+          let step = lead_step new.graph.now new.procedure f c.lead.new.pending es ds e c.flow.result.now
+          c.in_ok-leave.ensures.ok.0 there here grown in
+          let held = still_holds new.graph.now new.procedure f _ es ds step (λ t. t ≡ triple_of e) c.in_ok-leave.ensures.ok in (
+            held.0,
+            worked_off new.graph.now new.procedure _ ds e.entry e.point e.values
+                (led_worked new.graph.now new.procedure (led_to new.graph.now new.procedure f c.lead.new.pending) ds e
+                c.in_ok-leave.ensures.left c.flow.result.now here c.in_default.not-Call grown.all)
+                held.1,
+          ))
+          c.lead.ensures.ok)
+          (IfOk-weaker c.lead.result _ _ (λ _ _. c.in_ok-leave.ensures.answers) c.lead.ensures.ok)
+          (let s = c.in_ok-leave.ensures.stays in record { graph = s.graph; procedure = s.procedure; limit = s.limit })
+          c.in_ok-leave.ensures.fault;
       taken = c.in_ok-leave.ensures.taken;
       less = IfOk-weaker c.lead.result _ _
           (λ _ grown.
