@@ -36,6 +36,12 @@ module _ {X T : Type 0} (W : X → T → Type 0) where
         subst (λ l. Each W l t) (whole xs i d within)
         (each_left (take i xs ++ get_or xs i d ∷ []) (drop (i + 1) xs) t (each_last (take i xs) (get_or xs i d) t w))
 
+  -- for the item at a place, or before it, or otherwise, so for all or otherwise
+  pub each_until : (xs : List X) (i : ℕ) (d : X) → i < length xs → (t : T) {Mid Old : Type 0} → W (get_or xs i d) t ⊎ Mid →
+      (Mid → Each W (take i xs) t ⊎ Old) → Each W xs t ⊎ Old
+  each_until xs i d within t (inl w) before = inl (each_at xs i d within t w)
+  each_until xs i d within t (inr mid) before = elim (before mid) [ inl first ↦ inl (each_first xs i t first) | inr was ↦ inr was ]
+
 -- what holds where there is some item holds where the list is not empty
 pub where_some : {X P : Type 0} (xs : List X) (b : Bool) → OnTrue b (xs ≢ []) → ((x : X) → Member x xs → P) → OnTrue b P
 where_some xs false some p = tt

@@ -1,10 +1,10 @@
-use Rattle.std.proofs.Common.{Err, inl, inr, sym, ap, ◌∙◌, subst, take, get_or, ◌≡◌, length, arith, rules}
+use Rattle.std.proofs.Common.{Err, sym, ap, ◌∙◌, subst, take, get_or, ◌≡◌, length, arith, rules}
 use Rattle.std.proofs.Math.Seq.{take-length}
 use Rattle.summaries.specs.Found.{site}
 use Rattle.summaries.specs.Grows.{Grows, Each, IsBehind}
 use Rattle.summaries.proofs.Growing.{ok_err, each_more, fault_of}
 use Rattle.summaries.proofs.Firsts.{take_more}
-use Rattle.summaries.proofs.Eaches.{each_first, each_at}
+use Rattle.summaries.proofs.Eaches.{each_at, each_until}
 use Rattle.summaries.proofs.go_on.go_on_at_each.Goals as goal
 
 pub returns-in_err-reach_behind : goal.returns-in_err-reach_behind
@@ -13,14 +13,8 @@ returns-in_err-reach_behind g c =
     let i = c.loop-site.site-index in
     let failed = c.in_err-reach_behind.ensures in record {
       ok = search rules;
-      only = λ t there. elim (failed.only t there) [
-        | inl is ↦ inl (each_at (λ site. IsBehind c.args.graph.now site c.args.globals) xs i (site 0 0 0)
-            c.loop-site-test.true t is)
-        | inr mid ↦ elim (c.loop-site.invariant.0.only t mid) [
-          | inl first ↦ inl (each_first (λ site. IsBehind c.args.graph.now site c.args.globals) xs i t first)
-          | inr was ↦ inr was
-        ]
-      ];
+      only = λ t there. each_until (λ site. IsBehind c.args.graph.now site c.args.globals) xs i (site 0 0 0) c.loop-site-test.true t
+          (failed.only t there) (c.loop-site.invariant.0.only t);
       within = failed.within;
       limit = λ e.
           let (t, is, new, full) = failed.limit (ap Err (sym (fault_of _ _ _ c.from_residual.ensures.1 e))) in (

@@ -2,7 +2,7 @@ use Rattle.std.proofs.Common.{◌∙◌, inl, inr, sym, subst, take}
 use Rattle.summaries.specs.declared.due.Caller.TheVariants.{Starter}
 use Rattle.summaries.specs.Grows.{Gives, Each, IsTold}
 use Rattle.summaries.proofs.Firsts.{take_more}
-use Rattle.summaries.proofs.Eaches.{each_first, each_at}
+use Rattle.summaries.proofs.Eaches.{each_first, each_until}
 use Rattle.summaries.proofs.Telling.{gives_more}
 use Rattle.summaries.proofs.tell.tell_all.Goals as goal
 
@@ -19,13 +19,8 @@ pub returns-in_err-tell-clause-only : goal.returns-in_err-tell-clause-only
 returns-in_err-tell-clause-only g c = λ x there.
     let xs = c.args.callers.now in
     let i = c.loop-caller.caller-index in
-    elim (c.in_err-tell.ensures.only x there) [
-      | inl own ↦ inl (each_at (IsTold c.args.p c.args.a c.args.b) xs i Starter c.loop-caller-test.true x own)
-      | inr mid ↦ elim (c.loop-caller.invariant.0.only x mid) [
-        | inl first ↦ inl (each_first (IsTold c.args.p c.args.a c.args.b) xs i x first)
-        | inr was ↦ inr was
-      ]
-    ]
+    each_until (IsTold c.args.p c.args.a c.args.b) xs i Starter c.loop-caller-test.true x (c.in_err-tell.ensures.only x there)
+    (c.loop-caller.invariant.0.only x)
 
 pub returns-clause-only : goal.returns-clause-only
 returns-clause-only g c = λ x there.

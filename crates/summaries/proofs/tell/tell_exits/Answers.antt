@@ -2,7 +2,7 @@ use Rattle.std.proofs.Common.{◌≡◌, inl, inr, sym, ap, ◌∙◌, subst, ta
 use Rattle.std.proofs.Math.Seq.{take-length}
 use Rattle.summaries.specs.Grows.{Gives, Each, IsTold}
 use Rattle.summaries.proofs.Firsts.{take_more}
-use Rattle.summaries.proofs.Eaches.{each_first, each_at}
+use Rattle.summaries.proofs.Eaches.{each_first, each_until}
 use Rattle.summaries.proofs.Telling.{gives_more}
 use Rattle.summaries.proofs.tell.tell_exits.Goals as goal
 
@@ -19,13 +19,8 @@ pub returns-in_err-tell-clause-only : goal.returns-in_err-tell-clause-only
 returns-in_err-tell-clause-only g c = λ x there.
     let xs = c.args.exits.now in
     let i = c.loop-b.b-index in
-    elim (c.in_err-tell.ensures.only x there) [
-      | inl own ↦ inl (each_at (λ b. IsTold c.args.p c.args.a b c.args.caller) xs i 0 c.loop-b-test.true x own)
-      | inr mid ↦ elim (c.loop-b.invariant.0.only x mid) [
-        | inl first ↦ inl (each_first (λ b. IsTold c.args.p c.args.a b c.args.caller) xs i x first)
-        | inr was ↦ inr was
-      ]
-    ]
+    each_until (λ b. IsTold c.args.p c.args.a b c.args.caller) xs i 0 c.loop-b-test.true x (c.in_err-tell.ensures.only x there)
+    (c.loop-b.invariant.0.only x)
 
 pub returns-clause-only : goal.returns-clause-only
 returns-clause-only g c = λ x there.
