@@ -1,8 +1,8 @@
 -- What a call of the board knows once its pass is inside, and what it does there, call by call.
-use Rattle.std.proofs.Common.{◌≡◌, ℕ, ◌<◌, Bool, Some, None, refl, sym, ap, ◌∙◌, subst, arith, IfErr, OnOk}
+use Rattle.std.proofs.Common.{◌≡◌, ℕ, ◌<◌, Bool, None, refl, sym, ap, ◌∙◌, subst, arith, IfErr, OnOk}
 use Rattle.std.specs.Prelude.{Result}
 use Rattle.ticket_lock.specs.Lanes.{Standing, Held}
-use Rattle.ticket_lock.specs.Promises.{Entered, Left}
+use Rattle.ticket_lock.specs.Promises.{Entered}
 use Rattle.post_ledger.specs.declared.entry.Entry.TheVariants.{Posted, Completed}
 use Rattle.post_ledger.specs.Orders.{HasJob}
 use Rattle.switchboard.specs.declared.calls.Abort.{Abort}
@@ -12,7 +12,7 @@ use Rattle.switchboard.specs.Sights.{State, Sight, abort_of}
 use Rattle.switchboard.specs.Books.{with_entry, Answers, Refuses}
 use Rattle.switchboard.specs.Passes.{calls_of, share, sight_of, Comes, IsPass}
 use Rattle.switchboard.proofs.Visits.{Allowed, Kept, Visit, Found, found_here, shows, showing, step_keeps, adds}
-use Rattle.switchboard.proofs.Visits.{aborts, take_step, post_step, job_found, job_allowed, post_allowed, visit_is, some_calls, after_shows}
+use Rattle.switchboard.proofs.Visits.{aborts, take_step, post_step, job_found, job_allowed, post_allowed, some_calls, after_shows, moved}
 
 module _ {M W : Type 0} (fits : W → ℕ → M → Type 0) where
   -- The pass shows itself as s and has the number n; it is inside, finds x and is lent it as v.
@@ -79,13 +79,27 @@ module _ {M W : Type 0} (fits : W → ℕ → M → Type 0) where
     allowing {to} {job} {m} has near fit =
         post_allowed fits a.number job to m x (omega (arith, near, boxes_inside)) has (subst (λ z. fits z to m) (sym world_inside) fit)
 
-    pub posting : {to job : ℕ} {m : M} (answer : Result (Unit {0}) (PostFault M)) {y : State M W} →
-        Allowed fits (Posted to a.number m job) x
-        → OnOk answer ((x.aborted ≡ None) × (y ≡ with_entry (Posted to a.number m job) x)) →
-        IfErr answer (λ f. Refuses m f x y) → Kept fits a.number x y
-    posting {to} {job} {m} answer {y} may ok err =
-        step_keeps fits a.number x y h.found.sound
-        (post_step fits a.number (Posted to a.number m job) m answer x y refl may ok err)
+    -- It posts the message to a mailbox under the job, and leaves y; or it is refused.
+    pub record Posting (to job : ℕ) (m : M) (answer : Result (Unit {0}) (PostFault M)) (y : State M W) : Type 0 where
+      pub may : Allowed fits (Posted to a.number m job) x
+      pub ok : OnOk answer ((x.aborted ≡ None) × (y ≡ with_entry (Posted to a.number m job) x))
+      pub err : IfErr answer (λ f. Refuses m f x y)
+      pub keeps : Kept fits a.number x y
+
+    pub posting : (to job : ℕ) (m : M) (answer : Result (Unit {0}) (PostFault M)) (y : State M W) →
+        HasJob s.number job s.seen.order → (to < s.seen.boxes) × fits s.seen.world to m
+        → OnOk answer ((v.aborted ≡ None) × (y ≡ with_entry (Posted to n m job) v)) →
+        IfErr answer (λ f. Refuses m f v y) → Posting to job m answer y
+    posting to job m answer y has may_be ok err =
+        let may = allowing (job_inside has) may_be.0 may_be.1 in
+        let ok_here = to_lane (λ k z. OnOk answer ((z.aborted ≡ None) × (y ≡ with_entry (Posted to k m job) z))) ok in
+        let err_here = to_lane (λ k z. IfErr answer (λ f. Refuses m f z y)) err in record {
+          may = may;
+          ok = ok_here;
+          err = err_here;
+          keeps = step_keeps fits a.number x y h.found.sound
+              (post_step fits a.number (Posted to a.number m job) m answer x y refl may ok_here err_here);
+        }
 
     -- The pass had a call left.
     pub had_calls : {r : ℕ} → r ≡ s.calls → (r ≡ 0 → ⊥) → 0 < calls_of kept a.left
@@ -95,3 +109,11 @@ module _ {M W : Type 0} (fits : W → ℕ → M → Type 0) where
     pub shown_after : {b : Standing (State M W)} {y : State M W} (kept' : Bool) → Visit fits a b x y →
         Kept fits a.number x y → sight_of b w boxes kept' ≡ showing fits b kept' y
     shown_after {b} {y} kept' visit keeps = after_shows fits a b x y w boxes kept kept' p visit keeps
+
+    -- So what holds of what it showed and shows then holds of its sights.
+    pub seen_after : {b : Standing (State M W)} {y : State M W} (kept' : Bool) (R : Sight M W → Sight M W → Type 0) →
+        Visit fits a b x y → Kept fits a.number x y → R (showing fits a kept p.last) (showing fits b kept' y) →
+        R s (sight_of b w boxes kept')
+    seen_after {b} {y} kept' R visit keeps =
+        moved R (showing fits a kept p.last) s (showing fits b kept' y) (sight_of b w boxes kept') h.see
+        (sym (shown_after kept' visit keeps))

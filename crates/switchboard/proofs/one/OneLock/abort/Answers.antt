@@ -1,10 +1,9 @@
 -- The abort is the pass's own, where there was none before.
-use Rattle.std.proofs.Common.{◌≡◌, false, refl, sym, ap, ◌∙◌}
+use Rattle.std.proofs.Common.{◌≡◌, false, refl, sym, ◌∙◌}
 use Rattle.switchboard.specs.declared.calls.Abort.{Abort}
 use Rattle.switchboard.specs.Sights.{abort_of}
-use Rattle.switchboard.specs.Passes.{sight_of}
 use Rattle.switchboard.specs.Promises.{MadeAbort}
-use Rattle.switchboard.proofs.Inside.{inside, to_lane, aborting, shown_after}
+use Rattle.switchboard.proofs.Inside.{inside, seen_after, to_lane, aborting}
 use Rattle.switchboard.proofs.Visits.{shows, may_leave, visit_is, abort_pass, aborted_when, again_when, showing, moved}
 use Rattle.switchboard.proofs.one.OneLock.abort.Goals as goal
 
@@ -50,6 +49,4 @@ returns g c =
     let v = visit_is F c.in-Ok.guard i.lane c.enter.new.lane b y c.in-Ok.ensures c.leave.ensures in
     let made = aborted_when F q i.lane b c.in-Ok.guard.value y i.world.value i.boxes i.kept c.pass.invariant
     c.if-not-pass.false v (aborting F h q refl is) is in
-    moved (λ s t. MadeAbort F record { by = s.number; cause = c.args.cause } s t)
-    (showing F i.lane i.kept c.pass.invariant.last) c.args.pass.now (showing F b false y)
-    (sight_of b i.world.value i.boxes false) h.see (sym (shown_after F h false v (aborting F h q refl is))) made
+    seen_after F h false (λ s t. MadeAbort F record { by = s.number; cause = c.args.cause } s t) v (aborting F h q refl is) made

@@ -1,12 +1,11 @@
 -- The pass's job is one of the state that it finds.
-use Rattle.std.proofs.Common.{◌≡◌, refl, sym, ap}
+use Rattle.std.proofs.Common.{◌≡◌, refl, ap}
 use Rattle.post_ledger.specs.declared.entry.Entry.TheVariants.{Completed}
 use Rattle.post_ledger.specs.Orders.{HasJob}
 use Rattle.switchboard.specs.Books.{with_entry}
-use Rattle.switchboard.specs.Passes.{sight_of}
 use Rattle.switchboard.specs.Promises.{Added}
-use Rattle.switchboard.proofs.Inside.{inside, to_lane, to_call, job_inside, completing, had_calls, shown_after}
-use Rattle.switchboard.proofs.Visits.{job_allowed, may_leave, visit_is, pass_stays, added_is, showing, moved}
+use Rattle.switchboard.proofs.Inside.{inside, seen_after, to_lane, to_call, job_inside, completing, had_calls}
+use Rattle.switchboard.proofs.Visits.{job_allowed, may_leave, visit_is, pass_stays, added_is}
 use Rattle.switchboard.proofs.one.OneLock.done.Goals as goal
 
 pub done-requires : goal.done-requires
@@ -49,6 +48,4 @@ returns g c =
     let added = added_is F i.lane b x y (Completed i.lane.number c.args.job) i.world.value i.boxes i.kept
     c.pass.invariant v is refl (job_allowed F i.lane.number c.args.job x h.found.sound has)
     (had_calls F h c.calls.ensures c.if-calls-eq0.false) in
-    moved (λ s t. Added F (Completed s.number c.args.job) s t) (showing F i.lane i.kept c.pass.invariant.last)
-    c.args.pass.now (showing F b i.kept y) (sight_of b i.world.value i.boxes i.kept) h.see
-    (sym (shown_after F h i.kept v (completing F h has is))) added
+    seen_after F h i.kept (λ s t. Added F (Completed s.number c.args.job) s t) v (completing F h has is) added

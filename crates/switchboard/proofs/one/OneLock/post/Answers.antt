@@ -1,11 +1,9 @@
 -- The message is posted under a job of the state that the pass finds, or nothing changes.
-use Rattle.std.proofs.Common.{◌≡◌, ◌<◌, sym, ap, arith, OnOk, IfErr, None}
+use Rattle.std.proofs.Common.{◌<◌, arith}
 use Rattle.post_ledger.specs.declared.entry.Entry.TheVariants.{Posted}
 use Rattle.post_ledger.specs.Orders.{HasJob}
-use Rattle.switchboard.specs.Books.{with_entry, Refuses}
-use Rattle.switchboard.specs.Passes.{sight_of}
-use Rattle.switchboard.proofs.Inside.{inside, to_lane, to_call, boxes_inside, job_inside, allowing, posting, had_calls, shown_after}
-use Rattle.switchboard.proofs.Visits.{post_still, posted_is, PostAnswer, may_leave, visit_is, pass_stays, showing, moved}
+use Rattle.switchboard.proofs.Inside.{inside, seen_after, to_call, boxes_inside, job_inside, posting, had_calls}
+use Rattle.switchboard.proofs.Visits.{post_still, posted_is, PostAnswer, may_leave, visit_is, pass_stays}
 use Rattle.switchboard.proofs.one.OneLock.post.Goals as goal
 
 pub post-answer-requires-clause-job : goal.post-answer-requires-clause-job
@@ -26,12 +24,9 @@ leave-requires-clause-value g c =
     let y = c.post-answer.new.self in
     let answer = c.post-answer.result in
     let h = inside F c.pass.invariant c.in-Ok.ensures c.pass.view_is c.number-number.ensures c.value.ensures.value in
-    let may = allowing F h (job_inside F h c.requires.job) c.requires.fits.0 c.requires.fits.1 in
-    let ok = to_lane F h (λ n x. OnOk answer
-    ((x.aborted ≡ None) × (y ≡ with_entry (Posted c.args.to n c.args.message c.args.job.now) x)))
-    c.post-answer.ensures.ok in
-    let err = to_lane F h (λ n x. IfErr answer (λ f. Refuses c.args.message f x y)) c.post-answer.ensures.err in
-    may_leave F c.in-Ok.guard c.pass.inside.lane c.enter.new.lane y c.in-Ok.ensures (posting F h answer may ok err)
+    let p = posting F h c.args.to c.args.job.now c.args.message c.post-answer.result y c.requires.job c.requires.fits
+    c.post-answer.ensures.ok c.post-answer.ensures.err in
+    may_leave F c.in-Ok.guard c.pass.inside.lane c.enter.new.lane y c.in-Ok.ensures p.keeps
 
 pub invariant_of-pass : goal.invariant_of-pass
 invariant_of-pass g c =
@@ -41,14 +36,11 @@ invariant_of-pass g c =
     let y = c.post-answer.new.self in
     let answer = c.post-answer.result in
     let h = inside F c.pass.invariant c.in-Ok.ensures c.pass.view_is c.number-number.ensures c.value.ensures.value in
-    let may = allowing F h (job_inside F h c.requires.job) c.requires.fits.0 c.requires.fits.1 in
-    let ok = to_lane F h (λ n x. OnOk answer
-    ((x.aborted ≡ None) × (y ≡ with_entry (Posted c.args.to n c.args.message c.args.job.now) x)))
-    c.post-answer.ensures.ok in
-    let err = to_lane F h (λ n x. IfErr answer (λ f. Refuses c.args.message f x y)) c.post-answer.ensures.err in
+    let p = posting F h c.args.to c.args.job.now c.args.message c.post-answer.result y c.requires.job c.requires.fits
+    c.post-answer.ensures.ok c.post-answer.ensures.err in
     let v = visit_is F c.in-Ok.guard i.lane c.enter.new.lane c.leave.new.lane y c.in-Ok.ensures c.leave.ensures in
-    pass_stays F i.lane c.leave.new.lane x y i.world.value i.boxes i.kept c.pass.invariant v (posting F h answer may ok err)
-    (post_still F (Posted c.args.to i.lane.number c.args.message c.args.job.now) c.args.message answer x y ok err)
+    pass_stays F i.lane c.leave.new.lane x y i.world.value i.boxes i.kept c.pass.invariant v p.keeps
+    (post_still F (Posted c.args.to i.lane.number c.args.message c.args.job.now) c.args.message answer x y p.ok p.err)
     (had_calls F h c.calls.ensures c.if-calls-eq0.false)
 
 pub returns : goal.returns
@@ -60,15 +52,9 @@ returns g c =
     let y = c.post-answer.new.self in
     let answer = c.post-answer.result in
     let h = inside F c.pass.invariant c.in-Ok.ensures c.pass.view_is c.number-number.ensures c.value.ensures.value in
-    let may = allowing F h (job_inside F h c.requires.job) c.requires.fits.0 c.requires.fits.1 in
-    let ok = to_lane F h (λ n x. OnOk answer
-    ((x.aborted ≡ None) × (y ≡ with_entry (Posted c.args.to n c.args.message c.args.job.now) x)))
-    c.post-answer.ensures.ok in
-    let err = to_lane F h (λ n x. IfErr answer (λ f. Refuses c.args.message f x y)) c.post-answer.ensures.err in
+    let p = posting F h c.args.to c.args.job.now c.args.message c.post-answer.result y c.requires.job c.requires.fits
+    c.post-answer.ensures.ok c.post-answer.ensures.err in
     let v = visit_is F c.in-Ok.guard i.lane c.enter.new.lane b y c.in-Ok.ensures c.leave.ensures in
     let posted = posted_is F c.args.job.now c.args.to c.args.message answer i.lane b x y i.world.value i.boxes i.kept
-    c.pass.invariant v may ok err (had_calls F h c.calls.ensures c.if-calls-eq0.false) in
-    moved (λ s t. PostAnswer F c.args.job.now c.args.to c.args.message s t answer)
-    (showing F i.lane i.kept c.pass.invariant.last) c.args.pass.now (showing F b i.kept y)
-    (sight_of b i.world.value i.boxes i.kept) h.see (sym (shown_after F h i.kept v (posting F h answer may ok err)))
-    posted
+    c.pass.invariant v p.may p.ok p.err (had_calls F h c.calls.ensures c.if-calls-eq0.false) in
+    seen_after F h i.kept (λ s t. PostAnswer F c.args.job.now c.args.to c.args.message s t answer) v p.keeps posted

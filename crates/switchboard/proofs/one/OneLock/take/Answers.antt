@@ -1,10 +1,9 @@
 -- The pass answers what the state that it finds has for it.
-use Rattle.std.proofs.Common.{◌<◌, sym, ap, Ok}
+use Rattle.std.proofs.Common.{◌<◌, Ok}
 use Rattle.switchboard.specs.Books.{Answers}
-use Rattle.switchboard.specs.Passes.{sight_of}
 use Rattle.switchboard.specs.Promises.{Took}
-use Rattle.switchboard.proofs.Inside.{inside, to_lane, to_call, taking, had_calls, shown_after}
-use Rattle.switchboard.proofs.Visits.{take_still, took_is, may_leave, visit_is, pass_stays, showing, moved}
+use Rattle.switchboard.proofs.Inside.{inside, seen_after, to_lane, to_call, taking, had_calls}
+use Rattle.switchboard.proofs.Visits.{take_still, took_is, may_leave, visit_is, pass_stays}
 use Rattle.switchboard.proofs.one.OneLock.take.Goals as goal
 
 pub take-answer-requires : goal.take-answer-requires
@@ -46,6 +45,4 @@ returns g c =
     let v = visit_is F c.in-Ok.guard i.lane c.enter.new.lane b y c.in-Ok.ensures c.leave.ensures in
     let took = took_is F answer i.lane b x y i.world.value i.boxes i.kept c.pass.invariant v h.near is
     (had_calls F h c.calls.ensures c.if-calls-eq0.false) in
-    moved (λ s t. Took F (Ok answer) s t) (showing F i.lane i.kept c.pass.invariant.last) c.args.pass.now
-    (showing F b i.kept y) (sight_of b i.world.value i.boxes i.kept) h.see
-    (sym (shown_after F h i.kept v (taking F h c.take-answer.result is))) took
+    seen_after F h i.kept (Took F (Ok answer)) v (taking F h answer is) took
