@@ -137,7 +137,8 @@ fn run<R: Files + Print + Eprint + AllocGlobal>(
     asked: Result<(Order, String), LineFault>,
 ) -> u8
     ensures small { result ≤ 3 }
-    ensures answers { MatchResult asked (λ order. result ≤ 1 → (text bytes : List ℕ) × Replies text order.0 bytes result)
+    ensures answers { MatchResult asked (λ order. result ≤ 1
+        → (text bytes : List ℕ) × Replies text order.0 bytes result)
         (λ fault. (result ≡ line_status fault) ⊎ (result ≡ 3)) }
 {
     let (order, path) = match asked {

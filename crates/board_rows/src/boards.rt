@@ -112,7 +112,8 @@ pub(crate) fn done<R: Wait + Abort, A: Allocator>(
     requires board { pass.old.board ≡ board.now.lock.id }
     requires job { HasJob pass.old.number job pass.old.seen.order }
     ensures pass { IsSame pass.old pass.new }
-    ensures keeps { (j : ℕ) → j ≢ job → HasJob pass.old.number j pass.old.seen.order → HasJob pass.new.number j pass.new.seen.order }
+    ensures keeps { (j : ℕ) → j ≢ job → HasJob pass.old.number j pass.old.seen.order
+        → HasJob pass.new.number j pass.new.seen.order }
 {
     match Board::done(board, rt, pass, job) {
         Ok(()) => {}
@@ -174,8 +175,10 @@ pub(crate) fn gather<R: Abort, A: Allocator>(
     pass: Line<A>,
 )
     requires passes { AreFirst board.now.lock.id board.now.lock.lanes passes.old.items }
-    requires pass { (pass.board ≡ board.now.lock.id) × (pass.number ≡ vec_len passes.old) × (pass.seen.boxes ≡ board.now.lock.lanes) }
-    ensures { AreFirst board.now.lock.id board.now.lock.lanes passes.new.items × (vec_len passes.new ≡ vec_len passes.old + 1) }
+    requires pass { (pass.board ≡ board.now.lock.id) × (pass.number ≡ vec_len passes.old)
+        × (pass.seen.boxes ≡ board.now.lock.lanes) }
+    ensures { AreFirst board.now.lock.id board.now.lock.lanes passes.new.items
+        × (vec_len passes.new ≡ vec_len passes.old + 1) }
 {
     match passes.push(pass) {
         Ok(()) => {}
@@ -194,7 +197,8 @@ pub(crate) fn settle<A: Allocator>(
 
 // A board with the opening post 10 in mailbox 0, and its pass.
 fn alone<R: Abort, A: Allocator + Clone>(rt: &R, alloc: A) -> (Lines<A>, Line<A>)
-    ensures { (result.1.board ≡ result.0.lock.id) × (result.1.number ≡ 0) × (result.0.lock.lanes ≡ 1) × (result.1.seen.boxes ≡ 1) }
+    ensures { (result.1.board ≡ result.0.lock.id) × (result.1.number ≡ 0) × (result.0.lock.lanes ≡ 1)
+        × (result.1.seen.boxes ≡ 1) }
 {
     let Ok((board, mut passes)) = <Lines<A> as Board<Letter, A>>::open(alloc, &(), 1, 0, Letter(10))
     else {

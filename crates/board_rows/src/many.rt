@@ -107,8 +107,10 @@ fn two_work<R: Threads + Wait + Abort + Sync>(
 ) -> ((Line<Global>, bool), (Line<Global>, bool))
     requires first { (first.0.board ≡ board.now.lock.id) × (first.0.seen.boxes ≡ 4) × (first.1 < 4) }
     requires second { (second.0.board ≡ board.now.lock.id) × (second.0.seen.boxes ≡ 4) × (second.1 < 4) }
-    ensures first { (result.0.0.board ≡ board.now.lock.id) × (result.0.0.number ≡ first.0.number) × (result.0.0.seen.boxes ≡ 4) }
-    ensures second { (result.1.0.board ≡ board.now.lock.id) × (result.1.0.number ≡ second.0.number) × (result.1.0.seen.boxes ≡ 4) }
+    ensures first { (result.0.0.board ≡ board.now.lock.id) × (result.0.0.number ≡ first.0.number)
+        × (result.0.0.seen.boxes ≡ 4) }
+    ensures second { (result.1.0.board ≡ board.now.lock.id) × (result.1.0.number ≡ second.0.number)
+        × (result.1.0.seen.boxes ≡ 4) }
 {
     let (one, one_sender) = first;
     let (two, two_sender) = second;

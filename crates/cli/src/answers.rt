@@ -162,7 +162,8 @@ fn rewriting<R: Alloc>(rt: &R, text: &[u8], rounds: Rounds) -> Reply<R::A>
 pub fn answer<R: Alloc>(rt: &R, text: &[u8], order: Order) -> Reply<R::A>
     ensures answers { result.status ≤ 1 → Replies text.now order (bytes_of result) result.status }
     ensures refuses { 2 ≤ result.status → Refuses text.now order result }
-    ensures limit { result.status ≡ 3 → bytes_of result ≡ codes "no verdict: edge limit\n" → IsPastLimit text.now order }
+    ensures limit { result.status ≡ 3 → bytes_of result ≡ codes "no verdict: edge limit\n"
+        → IsPastLimit text.now order }
     ensures status { result.status ≤ 3 }
 {
     match order {

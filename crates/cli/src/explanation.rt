@@ -27,7 +27,8 @@ fn syntax<A: Allocator>(
     text: &[u8],
     at: u32,
 ) -> Result<(), AllocError>
-    ensures { OnOk result (Locates path.now text.now (min (length text.now) at) (string_bytes message.old) (string_bytes message.new)) }
+    ensures { OnOk result (Locates path.now text.now (min (length text.now) at) (string_bytes message.old)
+        (string_bytes message.new)) }
 {
     let place = place_of(text, at);
     unexpected(message, path, &place)
@@ -40,7 +41,8 @@ fn unread<A: Allocator>(
     text: &[u8],
     fault: &ReadFault,
 ) -> Result<(), AllocError>
-    ensures { OnOk result (Explains path.now text.now (Unread fault.now) (string_bytes message.old) (string_bytes message.new)) }
+    ensures { OnOk result (Explains path.now text.now (Unread fault.now) (string_bytes message.old)
+        (string_bytes message.new)) }
 {
     match fault {
         ReadFault::TooLong => write!(message, "{path}: the text has more than 65536 bytes\n"),
@@ -92,7 +94,8 @@ fn unchecked<A: Allocator>(
     text: &[u8],
     fault: &ScopeFault,
 ) -> Result<(), AllocError>
-    ensures { OnOk result (Explains path.now text.now (Unchecked fault.now) (string_bytes message.old) (string_bytes message.new)) }
+    ensures { OnOk result (Explains path.now text.now (Unchecked fault.now) (string_bytes message.old)
+        (string_bytes message.new)) }
 {
     match told(fault) {
         Some((at, what)) => {
@@ -129,7 +132,8 @@ fn too_wide<A: Allocator>(
     order: Order,
     wide: Option<Wide>,
 ) -> Result<(), AllocError>
-    ensures { OnOk result (Explains path.now text.now (TooWide wide) (string_bytes message.old) (string_bytes message.new)) }
+    ensures { OnOk result (Explains path.now text.now (TooWide wide) (string_bytes message.old)
+        (string_bytes message.new)) }
 {
     let rounds = match order {
         Order::Check { rounds, .. } | Order::Sequential { rounds } => rounds.count(),
@@ -157,7 +161,8 @@ pub fn explain<A: Allocator>(
     order: Order,
     refusal: &Refusal,
 ) -> Result<(), AllocError>
-    ensures { OnOk result (Explains path.now text.now refusal.now (string_bytes message.old) (string_bytes message.new)) }
+    ensures { OnOk result (Explains path.now text.now refusal.now (string_bytes message.old)
+        (string_bytes message.new)) }
 {
     match refusal {
         Refusal::Unread(fault) => unread(message, path, text, fault),

@@ -39,7 +39,8 @@ fn tabulated<N: Allocator, A: Allocator + Copy, S: PathSet<A>>(
 ) -> Result<Summaries<A>, Refusal>
     ghost program: { Program }
     requires { program ≡ sequential_of (sequential_tree sequential.now) }
-    ensures bad { IfOk result (λ s. SomePairBad s ↔ SomeBad program (number_of (codes "bad__") (sequential_tree sequential.now).globals)) }
+    ensures bad { IfOk result (λ s. SomePairBad s ↔ SomeBad program
+        (number_of (codes "bad__") (sequential_tree sequential.now).globals)) }
     ensures few { IfOk result (λ _. (q : ℕ) → ¬ HasMoreEdges program q (most_of limit)) }
     ensures fault { IfErr result (λ why. (why ≡ refusal.Memory)
         ⊎ ((why ≡ refusal.EdgeLimit) × ((q : ℕ) × HasMoreEdges program q (most_of limit)))) }
@@ -56,7 +57,8 @@ pub(crate) fn judge<A: Allocator + Copy, S: PathSet<A>>(
     edges: EdgeLimit,
 ) -> Result<Verdict, Refusal>
     ensures verdict { IfOk result (λ v. IsVerdict text.now (count_of rounds) (most_of edges) v) }
-    ensures stands { IfErr result (RefusalStands text.now (count_of rounds) (IsOver text.now (count_of rounds) (most_of edges))) }
+    ensures stands { IfErr result (RefusalStands text.now (count_of rounds)
+        (IsOver text.now (count_of rounds) (most_of edges))) }
 {
     let sequential = rewritten(alloc, text, rounds)?;
     let summaries = tabulated::<_, _, S>(alloc, &sequential, edges)?;

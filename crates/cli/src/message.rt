@@ -126,7 +126,8 @@ fn push_head<A: Allocator>(
     path: &str,
     place: &Place,
 ) -> Result<(), AllocError>
-    ensures { OnOk result (string_bytes message.new ≡ string_bytes message.old ++ head path.now place.now.line place.now.column) }
+    ensures { OnOk result (string_bytes message.new
+        ≡ string_bytes message.old ++ head path.now place.now.line place.now.column) }
 {
     let line = place.line;
     let column = place.column;
@@ -140,7 +141,8 @@ pub(crate) fn at_word<A: Allocator>(
     place: &Place,
     what: &str,
 ) -> Result<(), AllocError>
-    ensures { OnOk result (Extends (string_bytes message.old ++ head path.now place.now.line place.now.column) (string_bytes message.new)) }
+    ensures { OnOk result (Extends (string_bytes message.old ++ head path.now place.now.line place.now.column)
+        (string_bytes message.new)) }
 {
     push_head(message, path, place)?;
     push_name(message, word(place.behind))?;
@@ -156,7 +158,8 @@ pub(crate) fn wide_at<A: Allocator>(
     places: u128,
     rounds: u8,
 ) -> Result<(), AllocError>
-    ensures { OnOk result (Extends (string_bytes message.old ++ head path.now place.now.line place.now.column) (string_bytes message.new)) }
+    ensures { OnOk result (Extends (string_bytes message.old ++ head path.now place.now.line place.now.column)
+        (string_bytes message.new)) }
 {
     push_head(message, path, place)?;
     push_name(message, word(place.behind))?;
@@ -206,7 +209,8 @@ pub(crate) fn unexpected<A: Allocator>(
     path: &str,
     place: &Place,
 ) -> Result<(), AllocError>
-    ensures { OnOk result (Extends (string_bytes message.old ++ head path.now place.now.line place.now.column) (string_bytes message.new)) }
+    ensures { OnOk result (Extends (string_bytes message.old ++ head path.now place.now.line place.now.column)
+        (string_bytes message.new)) }
 {
     push_head(message, path, place)?;
     push(message, "unexpected ")?;

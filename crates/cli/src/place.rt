@@ -58,7 +58,8 @@ fn end_of(text: &[u8], at: usize) -> usize
 
 /// Where an offset stands; one past the text stands at its end.
 pub(crate) fn place_of<'a>(text: &'a [u8], at: u32) -> Place<'a>
-    ensures { IsPlace text.now (min (length text.now) at) result.line result.column result.before.now result.behind.now }
+    ensures { IsPlace text.now (min (length text.now) at) result.line result.column
+        result.before.now result.behind.now }
 {
     let at = text.len().min(at as usize);
     let start = start_of(text, at);

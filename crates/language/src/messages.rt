@@ -5,7 +5,8 @@ ghost use Rattle.language.specs.Rest.{Code};
 ghost use Rattle.language.specs.Step.{Routine, Program, body_of};
 ghost use Rattle.language.specs.Sequential.{point_of, Valuation, Edge, Exit, Pair, Caller, Message, entry, IsDue};
 ghost use Rattle.language.specs.Flow.{Member, IsRestOf};
-ghost use Rattle.language.specs.Messages.{Reached, Owes, AreDue, HasOpening, HasOwed, EdgeTo, IsValuationOf, IsMessageTo, ArgumentsFit, IsTakenBy};
+ghost use Rattle.language.specs.Messages.{Reached, Owes, AreDue, HasOpening, HasOwed, EdgeTo, IsValuationOf};
+ghost use Rattle.language.specs.Messages.{IsMessageTo, ArgumentsFit, IsTakenBy};
 
 /// By messages that are due, only path edges are reached.
 pub fn by_due_messages_only_path_edges_are_reached()
@@ -49,7 +50,8 @@ pub fn a_pair_has_nothing_left_to_run()
 
 /// What is reached from a valuation has an entry with that valuation.
 pub fn what_is_reached_has_an_entry()
-    ensures { (p : Program) (q : ℕ) (ms : List Message) (a v : Valuation) (r : Code) → Reached p q (λ m. Member m ms) a v r
+    ensures { (p : Program) (q : ℕ) (ms : List Message) (a v : Valuation) (r : Code)
+        → Reached p q (λ m. Member m ms) a v r
         → (from : Caller) × Member (entry from a) ms }
 {}
 
@@ -62,13 +64,15 @@ pub fn more_messages_reach_and_owe_more()
 
 /// What is left to run where something is reached can be left to run of the procedure's body.
 pub fn what_is_reached_stands_in_its_body()
-    ensures { (p : Program) (q : ℕ) (ms : List Message) (a v : Valuation) (r : Code) → Reached p q (λ m. Member m ms) a v r
+    ensures { (p : Program) (q : ℕ) (ms : List Message) (a v : Valuation) (r : Code)
+        → Reached p q (λ m. Member m ms) a v r
         → IsRestOf (body_of (slice_get p.routines q)) r }
 {}
 
 /// Where a message is due, there is a procedure.
 pub fn a_message_is_due_where_a_procedure_is()
-    ensures { (p : Program) (q : ℕ) (m : Message) → IsDue p q m → (routine : Routine) × (slice_get p.routines q ≡ Some routine) }
+    ensures { (p : Program) (q : ℕ) (m : Message) → IsDue p q m
+        → (routine : Routine) × (slice_get p.routines q ≡ Some routine) }
 {}
 
 /// Where each call has a place for each argument, the messages due have the widths of their procedures.
@@ -78,6 +82,7 @@ pub fn due_messages_have_their_widths()
 
 /// By messages of the right widths, what is reached has the widths of the procedure.
 pub fn what_is_reached_has_its_widths()
-    ensures { (p : Program) (q : ℕ) (ms : List Message) (a v : Valuation) (r : Code) → ((m : Message) → Member m ms → IsMessageTo p q m)
+    ensures { (p : Program) (q : ℕ) (ms : List Message) (a v : Valuation) (r : Code)
+        → ((m : Message) → Member m ms → IsMessageTo p q m)
         → Reached p q (λ m. Member m ms) a v r → IsValuationOf p q a × IsValuationOf p q v }
 {}

@@ -11,5 +11,6 @@ pub fn statements_are_numbered_in_text_order()
 
 /// In a program that is marked in text order, each body is marked from 1 on.
 pub fn each_body_is_numbered_from_1()
-    ensures { (p : Program) (q : ℕ) → body_of (slice_get (in_text_order p).routines q) ≡ numbered 1 (body_of (slice_get p.routines q)) }
+    ensures { (p : Program) (q : ℕ) → body_of (slice_get (in_text_order p).routines q)
+        ≡ numbered 1 (body_of (slice_get p.routines q)) }
 {}

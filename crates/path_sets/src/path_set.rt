@@ -1,6 +1,7 @@
 //! What every set of path edges offers.
 
-ghost use Rattle.std.specs.Prelude.{◌≡◌, ℕ, ◌+◌, ◌<◌, ◌^◌, ◌↔◌, ◌⊎◌, List, [], length, IsTrue, IfOk, OnOk, OnErr, if◌then◌else◌};
+ghost use Rattle.std.specs.Prelude.{◌≡◌, ℕ, ◌+◌, ◌<◌, ◌^◌, ◌↔◌, ◌⊎◌, List, [], length, IsTrue, IfOk, OnOk, OnErr};
+ghost use Rattle.std.specs.Prelude.{if◌then◌else◌};
 ghost use Rattle.std.specs.Bool.{OnTrue, OnFalse};
 ghost use Rattle.language.specs.Flow.{Member};
 ghost use Rattle.path_sets.specs.Triples.{Triple, triple, NoneTwice};
@@ -20,10 +21,12 @@ pub trait PathSet<A: Allocator>: Sized + Drop {
     /// refused, the set stays as it was.
     fn insert(&mut self, entry: Word, point: Point, values: Word) -> Result<bool, AllocError>
         requires { length (members self.old) < 2 ^ 63 }
-        ensures members { OnOk result ((t : Triple) → Member t (members self.new) ↔ ((t ≡ triple entry point values) ⊎ Member t (members self.old))) }
+        ensures members { OnOk result ((t : Triple) → Member t (members self.new)
+            ↔ ((t ≡ triple entry point values) ⊎ Member t (members self.old))) }
         ensures new { IfOk result (λ added. OnTrue added (¬ Member (triple entry point values) (members self.old))) }
         ensures known { IfOk result (λ added. OnFalse added (Member (triple entry point values) (members self.old))) }
-        ensures len { IfOk result (λ added. length (members self.new) ≡ length (members self.old) + (if added then 1 else 0)) }
+        ensures len { IfOk result (λ added. length (members self.new)
+            ≡ length (members self.old) + (if added then 1 else 0)) }
         ensures err { OnErr result (members self.new ≡ members self.old) };
 
     /// Whether the triple is a member.

@@ -20,28 +20,33 @@ pub fn takes_are_the_first_posts<M>()
 pub fn what_was_sent_was_taken<M>()
     ensures all { (h : List (Event M)) → IsLegal h → IsCompleted h → takes h ≡ posts h }
     ensures each { (h : List (Event M)) (s : ℕ) → IsLegal h → IsCompleted h → taken s h ≡ sent s h }
-    ensures done { (h : List (Event M)) (t : ℕ) → IsLegal h → IsCompleted h → t < length (takes h) → Contains (dones h) t }
+    ensures done { (h : List (Event M)) (t : ℕ) → IsLegal h → IsCompleted h → t < length (takes h)
+        → Contains (dones h) t }
     ensures once { (h : List (Event M)) → IsLegal h → IsDistinct nat_eq (dones h) }
 {}
 
 /// The same of a board: in each mailbox of a lawful order that is closed, what was taken of each sender is what it sent.
 pub fn what_was_sent_on_a_board_was_taken<M>()
-    ensures { (boxes : ℕ) (order : List (Entry M)) (q s : ℕ) → IsLawful boxes order → IsClosed order → taken s (part q order) ≡ sent s (part q order) }
+    ensures { (boxes : ℕ) (order : List (Entry M)) (q s : ℕ) → IsLawful boxes order → IsClosed order
+        → taken s (part q order) ≡ sent s (part q order) }
 {}
 
 /// Nobody has a job at the close.
 pub fn nobody_has_a_job_at_the_close<M>()
-    ensures { (boxes : ℕ) (order : List (Entry M)) (p t : ℕ) → IsLawful boxes order → IsClosed order → HasJob p t order → ⊥ }
+    ensures { (boxes : ℕ) (order : List (Entry M)) (p t : ℕ) → IsLawful boxes order → IsClosed order → HasJob p t order
+        → ⊥ }
 {}
 
 /// The close by counting: a lawful order is closed exactly where it has as many Dones as Posts.
 pub fn closed_by_counting<M>()
-    ensures { (boxes : ℕ) (order : List (Entry M)) → IsLawful boxes order → (posted order ≡ completed order) ↔ IsClosed order }
+    ensures { (boxes : ℕ) (order : List (Entry M)) → IsLawful boxes order → (posted order ≡ completed order)
+        ↔ IsClosed order }
 {}
 
 /// Nothing follows the close: a lawful order that begins with a closed one is that one.
 pub fn nothing_follows_the_close<M>()
-    ensures { (boxes : ℕ) (order rest : List (Entry M)) → IsLawful boxes order → IsClosed order → IsLawful boxes (order ++ rest) → rest ≡ [] }
+    ensures { (boxes : ℕ) (order rest : List (Entry M)) → IsLawful boxes order → IsClosed order
+        → IsLawful boxes (order ++ rest) → rest ≡ [] }
 {}
 
 /// A run of two mailboxes: its order is lawful and closed, and has the two mailboxes' histories and the two passes' own

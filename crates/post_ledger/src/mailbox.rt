@@ -1,5 +1,6 @@
 //! The mailbox.
-ghost use Rattle.std.specs.Prelude.{◌≡◌, ◌<◌, ◌≤◌, ◌++◌, ◌∷◌, ◌↔◌, [], length, slice_get, take, Contains, OnOk, IfErr, IfSome, IfNone, IsNone};
+ghost use Rattle.std.specs.Prelude.{◌≡◌, ◌<◌, ◌≤◌, ◌++◌, ◌∷◌, ◌↔◌, [], length, slice_get, take, Contains, OnOk, IfErr};
+ghost use Rattle.std.specs.Prelude.{IfSome, IfNone, IsNone};
 ghost use Rattle.post_ledger.specs.History.{posts, takes, dones, IsLegal, TakesOldest};
 
 use crate::event::Event;
@@ -101,7 +102,9 @@ impl<M: Copy, A: Allocator> Mailbox<M, A> {
     pub fn take_from(&mut self) -> Option<(u64, u8, M)>
         ensures none { IsNone result ↔ (length (posts self.old) ≡ length (takes self.old)) }
         ensures unchanged { IfNone result (self.new ≡ self.old) }
-        ensures some { IfSome result (λ t. (t.0 ≡ length (takes self.old)) × (slice_get (posts self.old) (length (takes self.old)) ≡ Some (t.1, t.2)) × (self.new ≡ self.old ++ Event.Take t.1 t.2 ∷ [])) }
+        ensures some { IfSome result (λ t. (t.0 ≡ length (takes self.old))
+            × (slice_get (posts self.old) (length (takes self.old)) ≡ Some (t.1, t.2))
+            × (self.new ≡ self.old ++ Event.Take t.1 t.2 ∷ [])) }
     {
         if self.untaken == 0 {
             return None;

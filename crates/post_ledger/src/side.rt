@@ -14,7 +14,8 @@ pub enum Side {
 
 /// The message of the event, if it is one of this sender at this side.
 fn message_of<M: Copy>(event: Event<M>, sender: u8, side: Side) -> Option<M>
-    ensures { MatchOption result (on_side side sender (event ∷ []) ≡ []) (λ m. on_side side sender (event ∷ []) ≡ m ∷ []) }
+    ensures { MatchOption result (on_side side sender (event ∷ []) ≡ [])
+        (λ m. on_side side sender (event ∷ []) ≡ m ∷ []) }
 {
     match side {
         Side::Posts => match event {

@@ -6,7 +6,8 @@ ghost use Rattle.flow_graph.specs.Drawn.{flows_of};
 ghost use Rattle.flow_graph.specs.declared.flow.Flow.TheVariants as flow;
 ghost use Rattle.summaries.specs.declared.due.Due.TheVariants.{Entry, Summary};
 ghost use Rattle.summaries.specs.Grows.{triple_of};
-ghost use Rattle.summaries.specs.Tables.{answers_of, graph_of, limit_of, HasLeft, HasAsked, Holds, Worked, StaysAs, IsLess};
+ghost use Rattle.summaries.specs.Tables.{answers_of, graph_of, limit_of, HasLeft, HasAsked};
+ghost use Rattle.summaries.specs.Tables.{Holds, Worked, StaysAs, IsLess};
 ghost use Rattle.summaries.specs.Tables.{TookAlso, TookOnly, TookSame};
 
 use crate::due::{Caller, Due};

@@ -45,6 +45,10 @@ module _ {M W : Type 0} where
     pub order : StartsWith t.order s.order
     pub aborted : (a : Abort) → s.aborted ≡ Some a → t.aborted ≡ Some a
 
+  -- what a pass tells of what it has seen
+  abbrev pub told_by : Sight M W → Account M
+  told_by s = record { board = s.board; order = s.seen.order; aborted = s.seen.aborted }
+
   -- a pass that has seen the opening post alone
   abbrev pub fresh_sight : TableId → ℕ → State M W → ℕ → Sight M W
   fresh_sight id budget s number = record { board = id; number = number; calls = budget - 1; made = false; seen = s }

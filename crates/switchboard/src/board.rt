@@ -3,8 +3,9 @@ ghost use Rattle.std.specs.Prelude.{◌≡◌, ℕ, ◌+◌, ◌^◌, ◌<◌, �
 ghost use Rattle.std.specs.Option.{ForSome};
 ghost use Rattle.atomic_table.specs.Seated.{TableId};
 ghost use Rattle.post_ledger.specs.Orders.{HasJob};
-ghost use Rattle.switchboard.specs.Sights.{Sight, Account, opened, fresh_sights};
-ghost use Rattle.switchboard.specs.Promises.{WasSpent, WasPosted, WasRefused, Took, WasDone, MadeAbort, Learned, AreAll, Settles};
+ghost use Rattle.switchboard.specs.Sights.{Sight, Account, opened, fresh_sights, told_by};
+ghost use Rattle.switchboard.specs.Promises.{WasSpent, WasPosted, WasRefused, Took, WasDone, MadeAbort, Learned};
+ghost use Rattle.switchboard.specs.Promises.{AreAll, Settles};
 
 use crate::calls::{Cause, Job, PostFault, Taken};
 use crate::mail::Mail;
@@ -42,7 +43,8 @@ pub trait Board<M: Mail, A: Allocator>: Sized {
         A: Clone,
         requires boxes { (to < boxes) × (boxes ≤ 64) }
         requires fits { M.fits world.now to first }
-        ensures { IfOk result (λ r. (mailboxes r.0 ≡ boxes) × (map sight r.1.items ≡ fresh_sights (identity r.0) (2 ^ 56) (opened world.now boxes to first) 0 boxes)) };
+        ensures { IfOk result (λ r. (mailboxes r.0 ≡ boxes)
+            × (map sight r.1.items ≡ fresh_sights (identity r.0) (2 ^ 56) (opened world.now boxes to first) 0 boxes)) };
 
     /// The same, where each pass has fewer calls: one fewer than `budget`, from 2 to 2^56.
     fn open_with_budget(
@@ -58,7 +60,8 @@ pub trait Board<M: Mail, A: Allocator>: Sized {
         requires boxes { (to < boxes) × (boxes ≤ 64) }
         requires budget { (2 ≤ budget) × (budget ≤ 2 ^ 56) }
         requires fits { M.fits world.now to first }
-        ensures { IfOk result (λ r. (mailboxes r.0 ≡ boxes) × (map sight r.1.items ≡ fresh_sights (identity r.0) budget (opened world.now boxes to first) 0 boxes)) };
+        ensures { IfOk result (λ r. (mailboxes r.0 ≡ boxes)
+            × (map sight r.1.items ≡ fresh_sights (identity r.0) budget (opened world.now boxes to first) 0 boxes)) };
 
     /// Posts a message that fits the mailbox, under a job of the pass. A post that is refused hands its message back.
     fn post<R: Wait>(
@@ -72,7 +75,8 @@ pub trait Board<M: Mail, A: Allocator>: Sized {
         requires board { (sight pass.old).board ≡ identity self.now }
         requires job { HasJob (sight pass.old).number job.now (sight pass.old).seen.order }
         requires fits { (to < (sight pass.old).seen.boxes) × M.fits (sight pass.old).seen.world to message }
-        ensures { MatchResult result (λ _. WasPosted M.fits job.now to message (sight pass.old) (sight pass.new)) (λ f. WasRefused M.fits message f (sight pass.old) (sight pass.new)) };
+        ensures { MatchResult result (λ _. WasPosted M.fits job.now to message (sight pass.old) (sight pass.new))
+            (λ f. WasRefused M.fits message f (sight pass.old) (sight pass.new)) };
 
     /// Takes the oldest message of the pass's mailbox, with a job; or says that the board is closed, or aborted, or the mailbox empty.
     fn take<R: Wait>(&self, rt: &R, pass: &mut Self::Pass) -> Result<Taken<M>, Spent>
@@ -83,19 +87,21 @@ pub trait Board<M: Mail, A: Allocator>: Sized {
     fn done<R: Wait>(&self, rt: &R, pass: &mut Self::Pass, job: Job) -> Result<(), (Job, Spent)>
         requires board { (sight pass.old).board ≡ identity self.now }
         requires job { HasJob (sight pass.old).number job (sight pass.old).seen.order }
-        ensures { MatchResult result (λ _. WasDone M.fits job (sight pass.old) (sight pass.new)) (λ e. (e.0 ≡ job) × WasSpent (sight pass.old) (sight pass.new)) };
+        ensures { MatchResult result (λ _. WasDone M.fits job (sight pass.old) (sight pass.new))
+            (λ e. (e.0 ≡ job) × WasSpent (sight pass.old) (sight pass.new)) };
 
     /// Aborts the board, and spends the job without completing its message.
     fn abort<R: Wait>(&self, rt: &R, pass: &mut Self::Pass, job: Option<Job>, cause: Cause)
         requires board { (sight pass.old).board ≡ identity self.now }
         requires job { ForSome job (λ j. HasJob (sight pass.old).number j (sight pass.old).seen.order) }
-        ensures { MadeAbort M.fits (record { by = (sight pass.old).number; cause = cause }) (sight pass.old) (sight pass.new) };
+        ensures { MadeAbort M.fits (record { by = (sight pass.old).number; cause = cause })
+            (sight pass.old) (sight pass.new) };
 
     /// What the pass has seen, for another pass.
     fn tell(&self, pass: &mut Self::Pass) -> Self::Told
         requires { (sight pass.old).board ≡ identity self.now }
         ensures same { sight pass.new ≡ sight pass.old }
-        ensures told { account result ≡ record { board = (sight pass.old).board; order = (sight pass.old).seen.order; aborted = (sight pass.old).seen.aborted } };
+        ensures told { account result ≡ told_by (sight pass.old) };
 
     /// The pass has then seen what it had seen and what it was told.
     fn learn(&self, pass: &mut Self::Pass, told: Self::Told)
@@ -106,5 +112,6 @@ pub trait Board<M: Mail, A: Allocator>: Sized {
     fn into_ledger(self, passes: &mut Vec<Self::Pass, A>) -> Ledger<M, A>
         requires { AreAll (identity self) (mailboxes self) (map sight passes.old.items) }
         ensures empty { passes.new.items ≡ [] }
-        ensures settles { Settles M.fits (mailboxes self) (map sight passes.old.items) result.histories.items result.closed };
+        ensures settles { Settles M.fits (mailboxes self) (map sight passes.old.items)
+            result.histories.items result.closed };
 }

@@ -1,5 +1,6 @@
 //! The book of a board: all its mailboxes, and the order of their events. It knows of no thread.
-ghost use Rattle.std.specs.Prelude.{◌≡◌, ℕ, ◌<◌, ◌≤◌, ◌++◌, ◌∷◌, [], ◌↔◌, List, Some, IsTrue, IsSome, length, slice_get, vec_len, vec_capacity, OnOk, IfOk, IfErr};
+ghost use Rattle.std.specs.Prelude.{◌≡◌, ℕ, ◌<◌, ◌≤◌, ◌++◌, ◌∷◌, [], ◌↔◌, List, Some, IsTrue, IsSome, length};
+ghost use Rattle.std.specs.Prelude.{slice_get, vec_len, vec_capacity, OnOk, IfOk, IfErr};
 ghost use Rattle.post_ledger.specs.declared.entry.Entry.TheVariants.{Posted, Completed};
 ghost use Rattle.post_ledger.specs.declared.event.Event.{Event};
 ghost use Rattle.post_ledger.specs.Orders.{HasJob, IsClosed};
@@ -32,7 +33,12 @@ impl<M, W, A: Allocator> Model for Book<M, W, A> {
 
     ghost Value = { State M W };
 
-    ghost view = { λ b. record { world = b.world.value; boxes = length b.mailboxes.items; order = b.order.items; aborted = b.aborted } };
+    ghost view = { λ b. record {
+      world = b.world.value;
+      boxes = length b.mailboxes.items;
+      order = b.order.items;
+      aborted = b.aborted;
+    } };
 
     ghost invariant = { λ b. Kept b.mailboxes.items b.order.items (vec_capacity b.order) b.posted b.completed };
 }
@@ -42,7 +48,8 @@ fn empty_mailboxes<M: Copy, A: Allocator + Clone>(
     alloc: &A,
     boxes: u8,
 ) -> Result<Vec<Mailbox<M, A>, A>, AllocError>
-    ensures { IfOk result (λ v. (length v.items ≡ boxes) × ((q : ℕ) (h : List (Event M)) → slice_get v.items q ≡ Some h → h ≡ [])) }
+    ensures { IfOk result (λ v. (length v.items ≡ boxes)
+        × ((q : ℕ) (h : List (Event M)) → slice_get v.items q ≡ Some h → h ≡ [])) }
 {
     let mut mailboxes = Vec::with_capacity(alloc.clone()?, usize::from(boxes))?;
     for number in 0..boxes {
@@ -109,7 +116,8 @@ impl<M: Copy, W, A: Allocator> Book<M, W, A> {
     pub fn post(&mut self, by: u8, job: &Job, to: u8, message: M) -> Result<(), PostFault<M>>
         requires job { HasJob by job.now self.old.order }
         requires to { to < self.old.boxes }
-        ensures ok { OnOk result ((self.old.aborted ≡ None) × (self.new ≡ with_entry (Posted to by message job.now) self.old)) }
+        ensures ok { OnOk result ((self.old.aborted ≡ None)
+            × (self.new ≡ with_entry (Posted to by message job.now) self.old)) }
         ensures err { IfErr result (λ f. Refuses message f self.old self.new) }
     {
         if self.aborted.is_some() {
@@ -168,7 +176,8 @@ impl<M: Copy, W, A: Allocator> Book<M, W, A> {
 
     /// Aborts the board, unless it was aborted before.
     pub fn abort(&mut self, by: u8, cause: Cause)
-        ensures { self.new ≡ record self.old { aborted = abort_of self.old.aborted (record { by = by; cause = cause }) } }
+        ensures { self.new
+            ≡ record self.old { aborted = abort_of self.old.aborted (record { by = by; cause = cause }) } }
     {
         if self.aborted.is_none() {
             self.aborted = Some(Abort { by, cause });

@@ -1,8 +1,9 @@
 //! The board behind one lock.
 ghost use Rattle.std.specs.Prelude.{◌≡◌, ◌<◌, ◌≤◌, ◌^◌, map, MatchResult, IfOk, []};
 ghost use Rattle.post_ledger.specs.Orders.{HasJob};
-ghost use Rattle.switchboard.specs.Sights.{opened, fresh_sights};
-ghost use Rattle.switchboard.specs.Promises.{WasSpent, WasPosted, WasRefused, Took, WasDone, MadeAbort, Learned, AreAll, Settles};
+ghost use Rattle.switchboard.specs.Sights.{opened, fresh_sights, told_by};
+ghost use Rattle.switchboard.specs.Promises.{WasSpent, WasPosted, WasRefused, Took, WasDone, MadeAbort, Learned};
+ghost use Rattle.switchboard.specs.Promises.{AreAll, Settles};
 
 use crate::board::Board;
 use crate::book::Book;
@@ -58,7 +59,8 @@ impl<M: Mail, A: Allocator> OneLock<M, A> {
         requires boxes { (to < boxes) × (boxes ≤ 64) }
         requires budget { (2 ≤ budget) × (budget ≤ 2 ^ 56) }
         requires fits { M.fits world.now to first }
-        ensures { IfOk result (λ r. (r.0.lock.lanes ≡ boxes) × (r.1.items ≡ fresh_sights r.0.lock.id budget (opened world.now boxes to first) 0 boxes)) }
+        ensures { IfOk result (λ r. (r.0.lock.lanes ≡ boxes)
+            × (r.1.items ≡ fresh_sights r.0.lock.id budget (opened world.now boxes to first) 0 boxes)) }
     {
         let book = Book::open(alloc.clone()?, world, boxes, to, first)?;
         let mut passes = Vec::with_capacity(alloc.clone()?, usize::from(boxes))?;
@@ -88,7 +90,8 @@ impl<M: Mail, A: Allocator> OneLock<M, A> {
         requires board { pass.old.board ≡ self.now.lock.id }
         requires job { HasJob pass.old.number job.now pass.old.seen.order }
         requires fits { (to < pass.old.seen.boxes) × M.fits pass.old.seen.world to message }
-        ensures { MatchResult result (λ _. WasPosted M.fits job.now to message pass.old pass.new) (λ f. WasRefused M.fits message f pass.old pass.new) }
+        ensures { MatchResult result (λ _. WasPosted M.fits job.now to message pass.old pass.new)
+            (λ f. WasRefused M.fits message f pass.old pass.new) }
     {
         if pass.calls() == 0 {
             return Err(PostFault::Spent(message));
@@ -121,7 +124,8 @@ impl<M: Mail, A: Allocator> OneLock<M, A> {
     fn done<R: Wait>(&self, rt: &R, pass: &mut OnePass<M, A>, job: Job) -> Result<(), (Job, Spent)>
         requires board { pass.old.board ≡ self.now.lock.id }
         requires job { HasJob pass.old.number job pass.old.seen.order }
-        ensures { MatchResult result (λ _. WasDone M.fits job pass.old pass.new) (λ e. (e.0 ≡ job) × WasSpent pass.old pass.new) }
+        ensures { MatchResult result (λ _. WasDone M.fits job pass.old pass.new)
+            (λ e. (e.0 ≡ job) × WasSpent pass.old pass.new) }
     {
         if pass.calls() == 0 {
             return Err((job, Spent));
@@ -157,7 +161,7 @@ impl<M: Mail, A: Allocator> OneLock<M, A> {
     fn tell(&self, pass: &mut OnePass<M, A>) -> OneTold<M, A>
         requires { pass.old.board ≡ self.now.lock.id }
         ensures same { pass.new ≡ pass.old }
-        ensures told { result ≡ record { board = pass.old.board; order = pass.old.seen.order; aborted = pass.old.seen.aborted } }
+        ensures told { result ≡ told_by pass.old }
     {
         OneTold {
             note: self.lock.tell(&mut pass.lane),
@@ -265,7 +269,8 @@ impl<M: Mail, A: Allocator> Board<M, A> for OneLock<M, A> {
     fn into_ledger(self, passes: &mut Vec<OnePass<M, A>, A>) -> Ledger<M, A>
         requires { AreAll self.lock.id self.lock.lanes (map (λ p. p) passes.old.items) }
         ensures empty { passes.new.items ≡ [] }
-        ensures settles { Settles M.fits self.lock.lanes (map (λ p. p) passes.old.items) result.histories.items result.closed }
+        ensures settles { Settles M.fits self.lock.lanes (map (λ p. p) passes.old.items)
+            result.histories.items result.closed }
     {
         OneLock::into_ledger(self, passes)
     }

@@ -17,6 +17,10 @@ IsSameSeat old new = (new.table_id ≡ old.table_id) × (new.id ≡ old.id)
 abbrev pub IsRoom : ℕ → ℕ → TableId → Type 0
 IsRoom word slot id = (word + 1 < id.words) × (word + 1 < 2 ^ 64) × (slot < id.slots)
 
+-- the seat is one of the table, which has room for the word and the slot, and the rule lets a lock stand there
+abbrev pub StandsAt : {K : Type 0} → (K → ℕ → ℕ → Type 0) → TableId → TableId → K → ℕ → ℕ → Type 0
+StandsAt is_place seat table key word slot = (seat ≡ table) × IsRoom word slot table × is_place key word slot
+
 module _ {T : Type 0} where
   -- the hand has drawn a ticket that is above all that it drew and has, and not below the number of values left that it has seen
   abbrev pub Draws : ℕ → Hand T → Hand T → Type 0

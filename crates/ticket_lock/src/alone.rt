@@ -28,7 +28,8 @@ impl<T: LaneLaw> LockRule<T, View<T>, Opening<T>> for Alone {
 
     ghost tells = { Tells T.before T.part };
 
-    ghost opens = { λ key word slot is_start. lone_opens T.before T.part T.reflexive T.transitive key.value.value key.lanes key word slot is_start };
+    ghost opens = { λ key word slot is_start.
+        lone_opens T.before T.part T.reflexive T.transitive key.value.value key.lanes key word slot is_start };
 }
 
 pub(crate) type Board<T, A> = Table<Option<T>, View<T>, Opening<T>, Alone, A>;

@@ -36,7 +36,8 @@ impl<T: LaneLaw, A: Allocator> TicketLock<T, A> {
         requires finite { IsFinite (I.remaining lanes) }
         requires idle { HoldsAlong I.next_gives lanes (All (IsIdle self.id)) }
         requires all { (xs : List (Lane T)) → Drains I.next_gives lanes xs → length xs ≡ self.lanes }
-        ensures { (xs : List (Lane T)) × Drains I.next_gives lanes xs × Closes self.opening xs result × KeepsOwn T.part xs result × ComesLast T.before xs result }
+        ensures { (xs : List (Lane T)) × Drains I.next_gives lanes xs × Closes self.opening xs result
+            × KeepsOwn T.part xs result × ComesLast T.before xs result }
     {
         let board = self.into_board();
         let (_, mut seat) = board.shared.load_new_seat::<Arrives>(0);

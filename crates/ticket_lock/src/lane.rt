@@ -37,7 +37,8 @@ impl<T> Lane<T> {
     ghost use Rattle.ticket_lock.specs.Lanes.{standing, IsLane};
 
     pub(crate) fn into_seat(self) -> Place<T>
-        ensures { IsLane result.table_id self.number self.left result.me × (standing result.table_id self.number self.left result.me.0 ≡ self) }
+        ensures { IsLane result.table_id self.number self.left result.me
+            × (standing result.table_id self.number self.left result.me.0 ≡ self) }
     {
         let Lane {
             seat,
@@ -105,7 +106,8 @@ impl<T> Guard<T> {
 
     /// The value, to be read or changed in place.
     pub fn value(&mut self) -> &mut T
-        ensures* writes_back { sem 𝓛 (Lends (the_row T.row) T.row self.entry result (λ w. record self.old { value = w })) }
+        ensures* writes_back { sem 𝓛 (Lends (the_row T.row) T.row self.entry result
+            (λ w. record self.old { value = w })) }
         ensures value { result.now ≡ self.old.value }
     {
         &mut self.value

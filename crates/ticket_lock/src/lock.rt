@@ -37,14 +37,19 @@ impl<T: LaneLaw, A: Allocator> Model for TicketLock<T, A> {
 
     ghost Value = { Lock T };
 
-    ghost view = { λ l. record { id = l.board.shared.table_id; opening = l.board.shared.key.value.value; lanes = l.board.shared.key.lanes } };
+    ghost view = { λ l. record {
+      id = l.board.shared.table_id;
+      opening = l.board.shared.key.value.value;
+      lanes = l.board.shared.key.lanes;
+    } };
 
     ghost invariant = { λ l. IsSized l.board.shared.table_id };
 }
 
 impl<T: LaneLaw, A: Allocator> TicketLock<T, A> {
     pub(crate) fn into_board(self) -> Board<T, A>
-        ensures { IsSized result.shared.table_id × (result.shared.table_id ≡ self.id) × (result.shared.key.value.value ≡ self.opening) × (result.shared.key.lanes ≡ self.lanes) }
+        ensures { IsSized result.shared.table_id × (result.shared.table_id ≡ self.id)
+            × (result.shared.key.value.value ≡ self.opening) × (result.shared.key.lanes ≡ self.lanes) }
     {
         let TicketLock { board } = self;
         board
@@ -69,7 +74,8 @@ impl<T: LaneLaw, A: Allocator> TicketLock<T, A> {
     pub fn look(&self, lane: &mut Lane<T>, ticket: Ticket) -> Result<Guard<T>, Ticket>
         requires lock { lane.old.lock ≡ self.now.id }
         requires held { 0 < times ticket lane.old.tickets }
-        ensures { MatchResult result (λ g. Served T.before T.part ticket g lane.old lane.new) (λ t. CameBack ticket t lane.old lane.new) }
+        ensures { MatchResult result (λ g. Served T.before T.part ticket g lane.old lane.new)
+            (λ t. CameBack ticket t lane.old lane.new) }
     {
         let Ticket { number } = ticket;
         let found = look_at(&self.board.shared, &mut lane.seat, 0, 0, number);
@@ -118,7 +124,8 @@ impl<T: LaneLaw, A: Allocator> TicketLock<T, A> {
     /// lock.
     pub fn enter<R: Wait>(&self, rt: &R, lane: &mut Lane<T>) -> Result<Guard<T>, Spent>
         requires { lane.old.lock ≡ self.now.id }
-        ensures { MatchResult result (λ g. Entered T.before T.part g lane.old lane.new) (λ _. WasSpent lane.old lane.new) }
+        ensures { MatchResult result (λ g. Entered T.before T.part g lane.old lane.new)
+            (λ _. WasSpent lane.old lane.new) }
     {
         let mut ticket = self.draw(lane)?;
         let mut looks = 0u32;

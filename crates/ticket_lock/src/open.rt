@@ -48,7 +48,9 @@ fn lay<T: LaneLaw, A: Allocator + Clone>(
     lanes: u8,
 ) -> Result<(Board<T, A>, Place<T>), T>
     requires { (0 < lanes) × (lanes ≤ 64) }
-    ensures ok { IfOk result (λ r. (r.0.shared.key.value.value ≡ value) × (r.0.shared.key.lanes ≡ lanes) × IsSized r.0.shared.table_id × (r.1.table_id ≡ r.0.shared.table_id) × (r.1.me ≡ (new_view (value ∷ []) (lanes_from 0 lanes value), []))) }
+    ensures ok { IfOk result (λ r. (r.0.shared.key.value.value ≡ value) × (r.0.shared.key.lanes ≡ lanes)
+        × IsSized r.0.shared.table_id × (r.1.table_id ≡ r.0.shared.table_id)
+        × (r.1.me ≡ (new_view (value ∷ []) (lanes_from 0 lanes value), []))) }
     ensures err { IfErr result (λ x. x ≡ value) }
 {
     let Ok(heap) = alloc.clone() else {
@@ -97,7 +99,8 @@ impl<T: LaneLaw, A: Allocator> TicketLock<T, A> {
     where
         A: Clone,
         requires { (0 < lanes) × (lanes ≤ 64) }
-        ensures ok { IfOk result (λ r. (r.0.opening ≡ value) × (r.0.lanes ≡ lanes) × (r.1.items ≡ fresh_lanes r.0.id (2 ^ 56) value 0 lanes)) }
+        ensures ok { IfOk result (λ r. (r.0.opening ≡ value) × (r.0.lanes ≡ lanes)
+            × (r.1.items ≡ fresh_lanes r.0.id (2 ^ 56) value 0 lanes)) }
         ensures err { IfErr result (λ x. x ≡ value) }
     {
         TicketLock::with_budget(alloc, value, lanes, MOST_TICKETS)
@@ -114,7 +117,8 @@ impl<T: LaneLaw, A: Allocator> TicketLock<T, A> {
         A: Clone,
         requires lanes { (0 < lanes) × (lanes ≤ 64) }
         requires budget { (2 ≤ budget) × (budget ≤ 2 ^ 56) }
-        ensures ok { IfOk result (λ r. (r.0.opening ≡ value) × (r.0.lanes ≡ lanes) × (r.1.items ≡ fresh_lanes r.0.id budget value 0 lanes)) }
+        ensures ok { IfOk result (λ r. (r.0.opening ≡ value) × (r.0.lanes ≡ lanes)
+            × (r.1.items ≡ fresh_lanes r.0.id budget value 0 lanes)) }
         ensures err { IfErr result (λ x. x ≡ value) }
     {
         let Ok(heap) = alloc.clone() else {

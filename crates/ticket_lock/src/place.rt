@@ -4,7 +4,7 @@ ghost use Rattle.atomic_table.specs.Table.{rest};
 ghost use Rattle.ticket_lock.specs.Count.{times};
 ghost use Rattle.ticket_lock.specs.History.{EndsIn};
 ghost use Rattle.ticket_lock.specs.Turns.{draws, waits, enters, passes};
-ghost use Rattle.ticket_lock.specs.Calls.{IsSameSeat, IsRoom, Drew, Looked, Left};
+ghost use Rattle.ticket_lock.specs.Calls.{IsSameSeat, IsRoom, StandsAt, Drew, Looked, Left};
 
 use crate::plays::{Draws, Looks, Passes};
 use crate::rule::{At, LockRule};
@@ -17,7 +17,8 @@ fn draw_step<J: At, T, V, K, P: LockRule<T, V, K>>(
     word: usize,
     slot: usize,
 ) -> u64
-    requires table { (seat.old.table_id ≡ shared.now.table_id) × IsRoom word J.slot shared.now.table_id × P.is_place shared.now.key word J.slot × (J.slot ≡ slot) }
+    requires table { (seat.old.table_id ≡ shared.now.table_id) × IsRoom word J.slot shared.now.table_id
+        × P.is_place shared.now.key word J.slot × (J.slot ≡ slot) }
     requires room { length (P.see J.slot seat.old.me.0).drawn < (P.see J.slot seat.old.me.0).parts * 2 ^ 56 }
     requires asks { P.asks J.slot draws seat.old.me.0 }
     ensures { IsSameSeat seat.old seat.new × Drew (P.see J.slot) (P.tells J.slot) seat.old.me result seat.new.me }
@@ -32,7 +33,7 @@ pub fn draw_at<T, V, K, P: LockRule<T, V, K>>(
     word: usize,
     slot: usize,
 ) -> u64
-    requires table { (seat.old.table_id ≡ shared.now.table_id) × IsRoom word slot shared.now.table_id × P.is_place shared.now.key word slot }
+    requires table { StandsAt P.is_place seat.old.table_id shared.now.table_id shared.now.key word slot }
     requires room { length (P.see slot seat.old.me.0).drawn < (P.see slot seat.old.me.0).parts * 2 ^ 56 }
     requires asks { P.asks slot draws seat.old.me.0 }
     ensures { IsSameSeat seat.old seat.new × Drew (P.see slot) (P.tells slot) seat.old.me result seat.new.me }
@@ -47,11 +48,13 @@ fn look_step<J: At, T, V, K, P: LockRule<T, V, K>>(
     slot: usize,
     ticket: u64,
 ) -> Option<T>
-    requires table { (seat.old.table_id ≡ shared.now.table_id) × IsRoom word J.slot shared.now.table_id × P.is_place shared.now.key word J.slot × (J.slot ≡ slot) × (J.ticket ≡ ticket) }
+    requires table { (seat.old.table_id ≡ shared.now.table_id) × IsRoom word J.slot shared.now.table_id
+        × P.is_place shared.now.key word J.slot × (J.slot ≡ slot) × (J.ticket ≡ ticket) }
     requires held { 0 < times J.ticket (P.see J.slot seat.old.me.0).tickets }
     requires waits { P.asks J.slot waits seat.old.me.0 }
     requires enters { (x : T) → P.asks J.slot (enters x) seat.old.me.0 }
-    ensures { IsSameSeat seat.old seat.new × Looked (P.see J.slot) (P.tells J.slot) J.slot J.ticket seat.old.me result seat.new.me }
+    ensures { IsSameSeat seat.old seat.new
+        × Looked (P.see J.slot) (P.tells J.slot) J.slot J.ticket seat.old.me result seat.new.me }
 {
     if shared.load::<Looks<J, K, P>>(seat, word) != ticket {
         return None;
@@ -68,11 +71,12 @@ pub fn look_at<T, V, K, P: LockRule<T, V, K>>(
     slot: usize,
     ticket: u64,
 ) -> Option<T>
-    requires table { (seat.old.table_id ≡ shared.now.table_id) × IsRoom word slot shared.now.table_id × P.is_place shared.now.key word slot }
+    requires table { StandsAt P.is_place seat.old.table_id shared.now.table_id shared.now.key word slot }
     requires held { 0 < times ticket (P.see slot seat.old.me.0).tickets }
     requires waits { P.asks slot waits seat.old.me.0 }
     requires enters { (x : T) → P.asks slot (enters x) seat.old.me.0 }
-    ensures { IsSameSeat seat.old seat.new × Looked (P.see slot) (P.tells slot) slot ticket seat.old.me result seat.new.me }
+    ensures { IsSameSeat seat.old seat.new
+        × Looked (P.see slot) (P.tells slot) slot ticket seat.old.me result seat.new.me }
 {
     look_step::<Brand, T, V, K, P>(shared, seat, word, slot, ticket)
 }
@@ -84,10 +88,12 @@ fn leave_step<J: At, T, V, K, P: LockRule<T, V, K>>(
     slot: usize,
     value: T,
 )
-    requires table { (seat.old.table_id ≡ shared.now.table_id) × IsRoom word J.slot shared.now.table_id × P.is_place shared.now.key word J.slot × (J.slot ≡ slot) }
+    requires table { (seat.old.table_id ≡ shared.now.table_id) × IsRoom word J.slot shared.now.table_id
+        × P.is_place shared.now.key word J.slot × (J.slot ≡ slot) }
     requires out { seat.old.me.1 ≡ (J.slot, None) ∷ rest seat.old.me.1 }
     requires inside { (t : ℕ) × ((P.see J.slot seat.old.me.0).inside ≡ t ∷ []) }
-    requires asks { (x : T) → EndsIn (P.see J.slot seat.old.me.0).seen x → P.asks J.slot (passes x value) seat.old.me.0 }
+    requires asks { (x : T) → EndsIn (P.see J.slot seat.old.me.0).seen x
+        → P.asks J.slot (passes x value) seat.old.me.0 }
     ensures { IsSameSeat seat.old seat.new × Left (P.see J.slot) (P.tells J.slot) value seat.old.me seat.new.me }
 {
     let found = shared.exchange(seat, slot, Some(value));
@@ -104,7 +110,7 @@ pub fn leave_at<T, V, K, P: LockRule<T, V, K>>(
     slot: usize,
     value: T,
 )
-    requires table { (seat.old.table_id ≡ shared.now.table_id) × IsRoom word slot shared.now.table_id × P.is_place shared.now.key word slot }
+    requires table { StandsAt P.is_place seat.old.table_id shared.now.table_id shared.now.key word slot }
     requires out { seat.old.me.1 ≡ (slot, None) ∷ rest seat.old.me.1 }
     requires inside { (t : ℕ) × ((P.see slot seat.old.me.0).inside ≡ t ∷ []) }
     requires asks { (x : T) → EndsIn (P.see slot seat.old.me.0).seen x → P.asks slot (passes x value) seat.old.me.0 }

@@ -33,5 +33,6 @@ pub trait LockRule<T, V, K>: TableRule<Option<T>, V, K> {
     // What a step tells its caller, beside what the lock tells.
     ghost tells: { ℕ → Kind T → V → V → Type 0 };
 
-    ghost opens: { (key : K) (word slot : ℕ) → is_place key word slot → Opens (Self.holds key) (see slot) (asks slot) (tells slot) word slot };
+    ghost opens: { (key : K) (word slot : ℕ) → is_place key word slot
+        → Opens (Self.holds key) (see slot) (asks slot) (tells slot) word slot };
 }
