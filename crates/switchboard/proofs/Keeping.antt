@@ -37,6 +37,11 @@ module _ {X : Type 0} where
   pub item_at : (xs : List X) (i : ℕ) (x : X) → i < length xs → x ≡ get_or xs i x → slice_get xs i ≡ Some x
   item_at xs i x short is = slice_get-get_or xs i x short ∙ ap Some (sym is)
 
+  -- and so is the mailbox of a pass, of which there are as many
+  pub box_at : (xs : List X) (i : ℕ) (x : X) {p boxes : ℕ} → i ≡ p → length xs ≡ boxes → p < boxes → x ≡ get_or xs i x →
+      slice_get xs i ≡ Some x
+  box_at xs i x same many short is = item_at xs i x (omega (arith, same, many, short)) is
+
   set_again : (xs : List X) (i : ℕ) (x : X) → slice_get xs i ≡ Some x → set xs i x ≡ xs
   set_again [] i x e = refl
   set_again (y ∷ ys) zero x e = ap (λ z. z ∷ ys) (sym (same_Some y x e))

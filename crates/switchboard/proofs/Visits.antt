@@ -8,6 +8,7 @@ use Rattle.ticket_lock.specs.Lanes.{Standing, Held}
 use Rattle.ticket_lock.specs.History.{EndsIn}
 use Rattle.ticket_lock.specs.Promises.{Entered, MayLeave, Left}
 use Rattle.ticket_lock.specs.Facts.{rises_last, EndsIn-same, StartsWith-refl}
+use Rattle.post_ledger.specs.declared.event.Event.{Event}
 use Rattle.post_ledger.specs.declared.event.Event.TheVariants as event
 use Rattle.post_ledger.specs.declared.entry.Entry.{Entry}
 use Rattle.post_ledger.specs.declared.entry.Entry.TheVariants as entry
@@ -39,52 +40,51 @@ latest_is f d l x ends = ap (latest f d) ends.1 ∙ at_end f d ends.0 x
     at_end f d (y ∷ []) x = refl
     at_end f d (y ∷ z ∷ r) x = at_end f d (z ∷ r) x
 
+-- what no Post tells of a history
+module _ {M X : Type 0} (f : List (Event M) → X) (posts : (s : ℕ) (m : M) (h : List (Event M)) → f (event.Post s m ∷ h) ≡ f h)
+    (next : (e : Event M) (h k : List (Event M)) → f h ≡ f k → f (e ∷ h) ≡ f (e ∷ k)) where
+  no_post : (p to s : ℕ) (m : M) (t : ℕ) (es : List (Entry M)) → f (part p (entry.Posted to s m t ∷ es)) ≡ f (part p es)
+  no_post p to s m t es = elim (cases_eq to p) [
+    | inl here ↦ ap f (part_here p (entry.Posted to s m t) es here) ∙ posts s m (part p es)
+    | inr else ↦ ap f (part_else p (entry.Posted to s m t) es else)
+  ]
+
+  -- an event of the maker's own mailbox
+  own_event : (p : ℕ) (e : Entry M) (es : List (Entry M)) → mailbox_of e ≡ maker_of e → f (part p es) ≡ f (part p (own p es)) →
+      f (part p (e ∷ es)) ≡ f (part p (own p (e ∷ es)))
+  own_event p e es one was = elim (cases_eq (maker_of e) p) [
+    | inl mine ↦ ap f (part_here p e es (one ∙ mine)) ∙ (next (event_of e) (part p es) (part p (own p es)) was
+        ∙ sym (ap (λ l. f (part p l)) (own_here p e es mine) ∙ ap f (part_here p e (own p es) (one ∙ mine))))
+    | inr other ↦ ap f (part_else p e es (λ is. other (sym one ∙ is))) ∙ (was ∙ sym (ap (λ l. f (part p l)) (own_else p e es other)))
+  ]
+
+  -- stands in the own list of the mailbox's pass
+  kept_own : (p : ℕ) (order : List (Entry M)) → f (part p order) ≡ f (part p (own p order))
+  kept_own p [] = refl
+  kept_own p (entry.Posted to s m t ∷ es) = no_post p to s m t es ∙ (kept_own p es ∙ elim (cases_eq s p) [
+    | inl mine ↦ sym (ap (λ l. f (part p l)) (own_here p (entry.Posted to s m t) es mine) ∙ no_post p to s m t (own p es))
+    | inr other ↦ sym (ap (λ l. f (part p l)) (own_else p (entry.Posted to s m t) es other))
+  ])
+  kept_own p (entry.Taken of s m ∷ es) = own_event p (entry.Taken of s m) es refl (kept_own p es)
+  kept_own p (entry.Completed of t ∷ es) = own_event p (entry.Completed of t) es refl (kept_own p es)
+
 module _ {M : Type 0} where
   -- the Takes and the Dones of a mailbox stand in its pass's own list
   pub takes_own : (p : ℕ) (order : List (Entry M)) → takes (part p order) ≡ takes (part p (own p order))
-  takes_own p [] = refl
-  takes_own p (entry.Posted to s m t ∷ es) = takes_post p to s m t es (takes_own p es)
+  takes_own = kept_own takes (λ s m h. refl) next
     where
-      takes_post : (p to s : ℕ) (m : M) (t : ℕ) (es : List (Entry M)) → takes (part p es) ≡ takes (part p (own p es)) → takes (part p (entry.Posted to s m t ∷ es)) ≡ takes (part p (own p (entry.Posted to s m t ∷ es)))
-      takes_post p to s m t es e = no_take p to s m t es ∙ (e ∙ elim (cases_eq s p) [
-        | inl mine ↦ sym (ap (λ l. takes (part p l)) (own_here p (entry.Posted to s m t) es mine) ∙ no_take p to s m t (own p es))
-        | inr other ↦ sym (ap (λ l. takes (part p l)) (own_else p (entry.Posted to s m t) es other))
-      ])
-        where
-          no_take : (p to s : ℕ) (m : M) (t : ℕ) (es : List (Entry M)) → takes (part p (entry.Posted to s m t ∷ es)) ≡ takes (part p es)
-          no_take p to s m t es = elim (cases_eq to p) [
-            | inl here ↦ ap takes (part_here p (entry.Posted to s m t) es here)
-            | inr else ↦ ap takes (part_else p (entry.Posted to s m t) es else)
-          ]
-  takes_own p (entry.Taken of s m ∷ es) = elim (cases_eq of p) [
-    | inl mine ↦ ap takes (part_here p (entry.Taken of s m) es mine) ∙ (ap (λ l. (s, m) ∷ l) (takes_own p es) ∙ sym (ap (λ l. takes (part p l)) (own_here p (entry.Taken of s m) es mine) ∙ ap takes (part_here p (entry.Taken of s m) (own p es) mine)))
-    | inr other ↦ ap takes (part_else p (entry.Taken of s m) es other) ∙ (takes_own p es ∙ sym (ap (λ l. takes (part p l)) (own_else p (entry.Taken of s m) es other)))
-  ]
-  takes_own p (entry.Completed of t ∷ es) = elim (cases_eq of p) [
-    | inl mine ↦ ap takes (part_here p (entry.Completed of t) es mine) ∙ (takes_own p es ∙ sym (ap (λ l. takes (part p l)) (own_here p (entry.Completed of t) es mine) ∙ ap takes (part_here p (entry.Completed of t) (own p es) mine)))
-    | inr other ↦ ap takes (part_else p (entry.Completed of t) es other) ∙ (takes_own p es ∙ sym (ap (λ l. takes (part p l)) (own_else p (entry.Completed of t) es other)))
-  ]
+      next : (e : Event M) (h k : List (Event M)) → takes h ≡ takes k → takes (e ∷ h) ≡ takes (e ∷ k)
+      next (event.Post s m) h k same = same
+      next (event.Take s m) h k same = ap (λ l. (s, m) ∷ l) same
+      next (event.Done t) h k same = same
 
   pub dones_own : (p : ℕ) (order : List (Entry M)) → dones (part p order) ≡ dones (part p (own p order))
-  dones_own p [] = refl
-  dones_own p (entry.Posted to s m t ∷ es) = no_done p to s m t es ∙ (dones_own p es ∙ elim (cases_eq s p) [
-    | inl mine ↦ sym (ap (λ l. dones (part p l)) (own_here p (entry.Posted to s m t) es mine) ∙ no_done p to s m t (own p es))
-    | inr other ↦ sym (ap (λ l. dones (part p l)) (own_else p (entry.Posted to s m t) es other))
-  ])
+  dones_own = kept_own dones (λ s m h. refl) next
     where
-      no_done : (p to s : ℕ) (m : M) (t : ℕ) (es : List (Entry M)) → dones (part p (entry.Posted to s m t ∷ es)) ≡ dones (part p es)
-      no_done p to s m t es = elim (cases_eq to p) [
-        | inl here ↦ ap dones (part_here p (entry.Posted to s m t) es here)
-        | inr else ↦ ap dones (part_else p (entry.Posted to s m t) es else)
-      ]
-  dones_own p (entry.Taken of s m ∷ es) = elim (cases_eq of p) [
-    | inl mine ↦ ap dones (part_here p (entry.Taken of s m) es mine) ∙ (dones_own p es ∙ sym (ap (λ l. dones (part p l)) (own_here p (entry.Taken of s m) es mine) ∙ ap dones (part_here p (entry.Taken of s m) (own p es) mine)))
-    | inr other ↦ ap dones (part_else p (entry.Taken of s m) es other) ∙ (dones_own p es ∙ sym (ap (λ l. dones (part p l)) (own_else p (entry.Taken of s m) es other)))
-  ]
-  dones_own p (entry.Completed of t ∷ es) = elim (cases_eq of p) [
-    | inl mine ↦ ap dones (part_here p (entry.Completed of t) es mine) ∙ (ap (λ l. t ∷ l) (dones_own p es) ∙ sym (ap (λ l. dones (part p l)) (own_here p (entry.Completed of t) es mine) ∙ ap dones (part_here p (entry.Completed of t) (own p es) mine)))
-    | inr other ↦ ap dones (part_else p (entry.Completed of t) es other) ∙ (dones_own p es ∙ sym (ap (λ l. dones (part p l)) (own_else p (entry.Completed of t) es other)))
-  ]
+      next : (e : Event M) (h k : List (Event M)) → dones h ≡ dones k → dones (e ∷ h) ≡ dones (e ∷ k)
+      next (event.Post s m) h k same = same
+      next (event.Take s m) h k same = same
+      next (event.Done t) h k same = ap (λ l. t ∷ l) same
 
   -- a job stays one where the own list stays
   pub job_stays : (p job : ℕ) (a b : List (Entry M)) → own p a ≡ own p b → HasJob p job a → HasJob p job b

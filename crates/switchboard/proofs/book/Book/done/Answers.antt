@@ -1,9 +1,9 @@
 -- The Take of the job stands and is not completed, so there is room for its Done.
-use Rattle.std.proofs.Common.{◌<◌, ◌+◌, length, ap, arith}
+use Rattle.std.proofs.Common.{refl, ◌<◌, ◌+◌, length, ap, arith}
 use Rattle.std.specs.Vec.{vec_capacity}
 use Rattle.post_ledger.specs.declared.entry.Entry.TheVariants.{Completed}
 use Rattle.post_ledger.proofs.Orders.{job_inside}
-use Rattle.switchboard.proofs.Keeping.{item_at, kept_entry, room_done, few_done, job_inside_is, job_in_history}
+use Rattle.switchboard.proofs.Keeping.{box_at, kept_entry, room_done, few_done, job_inside_is, job_in_history}
 use Rattle.switchboard.proofs.book.Book.done.Goals as goal
 
 pub index_mut-mailbox-requires : goal.index_mut-mailbox-requires
@@ -17,8 +17,9 @@ pub done-requires-clause-taken : goal.done-requires-clause-taken
 done-requires-clause-taken g c =
     let i = c.self.inside in
     let has = job_inside_is c.args.by c.args.job c.job.inside.take i.order.items c.args.self.now.order c.job.view_is (ap (λ s. s.order) c.self.view_is) c.requires in
-    let near : c.from.result < length i.mailboxes.items = omega (arith, c.from.ensures, job_inside (length i.mailboxes.items) i.order.items c.args.by c.job.inside.take c.self.invariant.lawful has) in
-    let at = item_at i.mailboxes.items c.from.result c.index_mut-mailbox.result.now near c.index_mut-mailbox.ensures.value in
+    let at = box_at i.mailboxes.items c.from.result c.index_mut-mailbox.result.now c.from.ensures refl
+    (job_inside (length i.mailboxes.items) i.order.items c.args.by c.job.inside.take c.self.invariant.lawful has)
+    c.index_mut-mailbox.ensures.value in
     let there = job_in_history c.args.by c.job.inside.take c.from.result i.order.items c.index_mut-mailbox.result.now c.from.ensures (c.self.invariant.parts c.from.result c.index_mut-mailbox.result.now at) has in
     there.0
 
@@ -26,8 +27,9 @@ pub done-requires-clause-open : goal.done-requires-clause-open
 done-requires-clause-open g c =
     let i = c.self.inside in
     let has = job_inside_is c.args.by c.args.job c.job.inside.take i.order.items c.args.self.now.order c.job.view_is (ap (λ s. s.order) c.self.view_is) c.requires in
-    let near : c.from.result < length i.mailboxes.items = omega (arith, c.from.ensures, job_inside (length i.mailboxes.items) i.order.items c.args.by c.job.inside.take c.self.invariant.lawful has) in
-    let at = item_at i.mailboxes.items c.from.result c.index_mut-mailbox.result.now near c.index_mut-mailbox.ensures.value in
+    let at = box_at i.mailboxes.items c.from.result c.index_mut-mailbox.result.now c.from.ensures refl
+    (job_inside (length i.mailboxes.items) i.order.items c.args.by c.job.inside.take c.self.invariant.lawful has)
+    c.index_mut-mailbox.ensures.value in
     let there = job_in_history c.args.by c.job.inside.take c.from.result i.order.items c.index_mut-mailbox.result.now c.from.ensures (c.self.invariant.parts c.from.result c.index_mut-mailbox.result.now at) has in
     there.1
 
@@ -47,7 +49,8 @@ pub invariant_of-self : goal.invariant_of-self
 invariant_of-self g c =
     let i = c.self.inside in
     let has = job_inside_is c.args.by c.args.job c.job.inside.take i.order.items c.args.self.now.order c.job.view_is (ap (λ s. s.order) c.self.view_is) c.requires in
-    let near : c.from.result < length i.mailboxes.items = omega (arith, c.from.ensures, job_inside (length i.mailboxes.items) i.order.items c.args.by c.job.inside.take c.self.invariant.lawful has) in
-    let at = item_at i.mailboxes.items c.from.result c.index_mut-mailbox.result.now near c.index_mut-mailbox.ensures.value in
+    let at = box_at i.mailboxes.items c.from.result c.index_mut-mailbox.result.now c.from.ensures refl
+    (job_inside (length i.mailboxes.items) i.order.items c.args.by c.job.inside.take c.self.invariant.lawful has)
+    c.index_mut-mailbox.ensures.value in
     kept_entry i.mailboxes.items i.order.items c.push_reserved.new.self.items (vec_capacity i.order) (vec_capacity c.push_reserved.new.self) i.posted i.completed i.posted (i.completed + 1) (Completed c.args.by c.job.inside.take) c.from.result c.index_mut-mailbox.result.now c.done.new.self
     c.from.ensures c.self.invariant at has tt (omega arith) (omega arith) (omega (arith, c.self.invariant.room, c.push_reserved.ensures.capacity)) c.done.ensures c.push_reserved.ensures.items

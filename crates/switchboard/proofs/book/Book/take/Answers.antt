@@ -1,5 +1,5 @@
 -- The oldest Post is taken, where the order is not closed.
-use Rattle.std.proofs.Common.{◌≡◌, ◌<◌, length, set, ap, ◌∙◌, subst, arith, refl, length-set}
+use Rattle.std.proofs.Common.{◌≡◌, length, set, ap, ◌∙◌, subst, arith, refl, length-set}
 use Rattle.std.specs.Vec.{vec_capacity}
 use Rattle.std.specs.Prelude.{IsSome}
 use Rattle.std.proofs.Common.{Some, None, slice_get}
@@ -7,7 +7,7 @@ use Rattle.post_ledger.specs.declared.entry.Entry.TheVariants.{Taken}
 use Rattle.post_ledger.specs.History.{posts, takes}
 use Rattle.post_ledger.specs.Orders.{part, IsClosed}
 use Rattle.std.proofs.lemmas.Option.{slice_get_within}
-use Rattle.switchboard.proofs.Keeping.{item_at, kept_entry, kept_closed, kept_counts, room_take, none_of, some_of, same_again, state_push, answers_message}
+use Rattle.switchboard.proofs.Keeping.{box_at, kept_entry, kept_closed, kept_counts, room_take, none_of, some_of, same_again, state_push, answers_message}
 use Rattle.switchboard.proofs.book.Book.take.Goals as goal
 
 pub returns-then-self : goal.returns-then-self
@@ -24,19 +24,17 @@ returns-then-is_some g c =
 pub note_take-requires : goal.note_take-requires
 note_take-requires g c =
     let i = c.self.inside in
-    let boxes : length i.mailboxes.items ≡ c.args.self.now.boxes = ap (λ s. s.boxes) c.self.view_is in
-    let near : c.from.result < length i.mailboxes.items = omega (arith, c.from.ensures, boxes, c.requires) in
-    let at = item_at i.mailboxes.items c.from.result c.index_mut-mailbox.result.now near c.index_mut-mailbox.ensures.value in
+    let at = box_at i.mailboxes.items c.from.result c.index_mut-mailbox.result.now c.from.ensures (ap (λ s. s.boxes) c.self.view_is)
+    c.requires c.index_mut-mailbox.ensures.value in
     let is = c.self.invariant.parts c.from.result c.index_mut-mailbox.result.now at ∙ ap (λ k. part k i.order.items) c.from.ensures in
     let oldest = subst (λ h. slice_get (posts h) (length (takes h)) ≡ Some (c.in-Some.found.1, c.in-Some.found.2)) is c.in-Some.ensures.some.1 in
-    omega (arith, room_take i.mailboxes.items i.order.items (vec_capacity i.order) i.posted i.completed c.args.by c.self.invariant (omega arith) (slice_get_within (posts (part c.args.by i.order.items)) (length (takes (part c.args.by i.order.items))) (c.in-Some.found.1, c.in-Some.found.2) oldest))
+    omega (arith, room_take i.mailboxes.items i.order.items (vec_capacity i.order) i.posted i.completed c.args.by c.self.invariant (omega (arith, c.requires, ap (λ s. s.boxes) c.self.view_is)) (slice_get_within (posts (part c.args.by i.order.items)) (length (takes (part c.args.by i.order.items))) (c.in-Some.found.1, c.in-Some.found.2) oldest))
 
 pub invariant_of-self-in-Some : goal.invariant_of-self-in-Some
 invariant_of-self-in-Some g c =
     let i = c.self.inside in
-    let boxes : length i.mailboxes.items ≡ c.args.self.now.boxes = ap (λ s. s.boxes) c.self.view_is in
-    let near : c.from.result < length i.mailboxes.items = omega (arith, c.from.ensures, boxes, c.requires) in
-    let at = item_at i.mailboxes.items c.from.result c.index_mut-mailbox.result.now near c.index_mut-mailbox.ensures.value in
+    let at = box_at i.mailboxes.items c.from.result c.index_mut-mailbox.result.now c.from.ensures (ap (λ s. s.boxes) c.self.view_is)
+    c.requires c.index_mut-mailbox.ensures.value in
     let is = c.self.invariant.parts c.from.result c.index_mut-mailbox.result.now at ∙ ap (λ k. part k i.order.items) c.from.ensures in
     let oldest = subst (λ h. slice_get (posts h) (length (takes h)) ≡ Some (c.in-Some.found.1, c.in-Some.found.2)) is c.in-Some.ensures.some.1 in
     kept_entry i.mailboxes.items i.order.items c.note_take.new.order.items (vec_capacity i.order) (vec_capacity c.note_take.new.order) i.posted i.completed i.posted i.completed (Taken c.args.by c.in-Some.found.1 c.in-Some.found.2) c.from.result c.index_mut-mailbox.result.now c.take_from.new.self
@@ -45,9 +43,8 @@ invariant_of-self-in-Some g c =
 pub returns-in-None : goal.returns-in-None
 returns-in-None g c =
     let i = c.self.inside in
-    let boxes : length i.mailboxes.items ≡ c.args.self.now.boxes = ap (λ s. s.boxes) c.self.view_is in
-    let near : c.from.result < length i.mailboxes.items = omega (arith, c.from.ensures, boxes, c.requires) in
-    let at = item_at i.mailboxes.items c.from.result c.index_mut-mailbox.result.now near c.index_mut-mailbox.ensures.value in
+    let at = box_at i.mailboxes.items c.from.result c.index_mut-mailbox.result.now c.from.ensures (ap (λ s. s.boxes) c.self.view_is)
+    c.requires c.index_mut-mailbox.ensures.value in
     let is = c.self.invariant.parts c.from.result c.index_mut-mailbox.result.now at ∙ ap (λ k. part k i.order.items) c.from.ensures in
     let still = same_again i.mailboxes.items c.from.result c.index_mut-mailbox.result.now c.take_from.new.self at c.in-None.ensures.unchanged in (
       (λ k. record { world = i.world.value; boxes = length (still k); order = i.order.items; aborted = i.aborted }) ∙ c.self.view_is,
@@ -59,9 +56,8 @@ returns-in-None g c =
 pub returns-in-Some : goal.returns-in-Some
 returns-in-Some g c =
     let i = c.self.inside in
-    let boxes : length i.mailboxes.items ≡ c.args.self.now.boxes = ap (λ s. s.boxes) c.self.view_is in
-    let near : c.from.result < length i.mailboxes.items = omega (arith, c.from.ensures, boxes, c.requires) in
-    let at = item_at i.mailboxes.items c.from.result c.index_mut-mailbox.result.now near c.index_mut-mailbox.ensures.value in
+    let at = box_at i.mailboxes.items c.from.result c.index_mut-mailbox.result.now c.from.ensures (ap (λ s. s.boxes) c.self.view_is)
+    c.requires c.index_mut-mailbox.ensures.value in
     let is = c.self.invariant.parts c.from.result c.index_mut-mailbox.result.now at ∙ ap (λ k. part k i.order.items) c.from.ensures in
     let e = c.in-Some.ensures.some in
     let same_order = ap (λ s. s.order) c.self.view_is in
