@@ -4,11 +4,11 @@ use Rattle.language.specs.Tree.{Name, Expression, RightSide, any, value}
 use Rattle.tokens.specs.declared.vocabulary.Kind.{Kind}
 use Rattle.tokens.specs.declared.vocabulary.Kind.TheVariants as kind
 use Rattle.tokens.specs.Token.{Tok, same_kind}
-use Rattle.syntax.specs.Parser.{give, ◌>>=◌, begins, take}
+use Rattle.syntax.specs.Parser.{Strict, give, ◌>>=◌, begins, take}
 use Rattle.syntax.specs.Grammar.{Takes, takes, name_at, Reads, reads_zero, reads_one, reads_name, reads_not, reads_paren, reads_two, IsName, is_name, InParens, Listed, Perhaps, IsExpression, IsRight, is_any, is_value}
 use Rattle.syntax.specs.Exact.{binds, name, names, expression, right, rights, formals, arguments, condition}
 use Rattle.syntax.proofs.KindTests.{same_kind-true, same_kind-is}
-use Rattle.syntax.proofs.Fixes.{carried, between, bind_is, Strict, Strict-Shrinks, Shrinks-give, Strict-take, Strict-bind}
+use Rattle.syntax.proofs.Fixes.{carried, between, bind_is, Strict-Shrinks, Shrinks-give, Strict-take, Strict-bind}
 use Rattle.syntax.proofs.Expressions.{Stops, stops_end, stops_at, take_is, take_finds, reading_finds, reading_complete, reading_strict}
 use Rattle.syntax.proofs.Exactly.{Exactly, Anything, chosen, begins_takes, NoComma, exactly_list, exactly_parens, exactly_perhaps, Strict-list, strict_parens, shrinks_perhaps}
 
@@ -106,19 +106,15 @@ semicolon_stops us rest (takes e) = stops_at (ap (binds 0) e)
 
 -- lists of names and right sides, formals, arguments, tests
 pub exactly_names : Exactly (Listed IsName) (NoComma Anything) names
-unfolding names
 exactly_names = exactly_list strict_name exactly_name (λ us e. tt)
 
 pub strict_names : Strict names
-unfolding names
 strict_names = Strict-list strict_name
 
 pub exactly_rights : Exactly (Listed IsRight) (NoComma (Stops 0)) rights
-unfolding rights
 exactly_rights = exactly_list strict_right exactly_right comma_stops
 
 pub strict_rights : Strict rights
-unfolding rights
 strict_rights = Strict-list strict_right
 
 name_begins : (ts : List Tok) (x : Name) (us : List Tok) → IsName ts x us → begins kind.Close ts ≡ false

@@ -3,6 +3,7 @@
 
 mod expression;
 mod fault;
+mod item;
 mod laws;
 mod lists;
 mod names;

@@ -3,7 +3,6 @@
 ghost use Rattle.std.specs.Prelude.{◌≡◌, ◌<◌, ◌++◌, ◌∷◌, [], length, IfOk, IsOkUnless};
 ghost use Rattle.syntax.specs.Gives.{Gives};
 ghost use Rattle.syntax.specs.Parser.{begins, take};
-ghost use Rattle.syntax.specs.Exact.{name};
 ghost use Rattle.syntax.specs.Grammar.{name_at};
 ghost use Rattle.syntax.specs.Trees.{name_of};
 ghost use Rattle.tokens.specs.Token.{tok_of, toks_of};
@@ -87,14 +86,5 @@ impl<'a, A: Allocator + Clone> Reader<'a, A> {
     {
         let text = String::from_str(self.alloc.clone()?, token.text)?;
         Ok(Name { text, at: token.at })
-    }
-
-    /// Reads a name.
-    pub fn id<'t>(&self, tokens: &'t [Token<'t>]) -> Result<(Name<A>, &'t [Token<'t>]), ReadFault>
-        ensures gives { Gives (λ p. (name_of p.0, toks_of p.1.now)) result (name (toks_of tokens.now)) }
-        ensures shorter { IfOk result (λ p. length p.1.now < length tokens.now) }
-    {
-        let (token, rest) = self.take(Kind::Id, tokens)?;
-        Ok((self.name(&token)?, rest))
     }
 }

@@ -8,6 +8,7 @@ ghost use Rattle.syntax.specs.Trees.{name_of, simple, deed_of, item_of, block_of
 ghost use Rattle.tokens.specs.Token.{tok_of, toks_of};
 
 use crate::fault::ReadFault;
+use crate::item::Item;
 use crate::reader::{Reader, begins, put};
 use crate::tree::{Core, Name, Stmt};
 use std::alloc::Allocator;
@@ -63,9 +64,9 @@ impl<'a, A: Allocator + Clone> Reader<'a, A> {
         ensures gives { Gives (λ p. (deed_of p.0, toks_of p.1.now)) result (assignment (toks_of tokens.now)) }
         ensures shorter { IfOk result (λ p. length p.1.now < length tokens.now) }
     {
-        let (targets, signed) = self.names(tokens)?;
+        let (targets, signed) = self.list(tokens)?;
         let (_, others) = self.take(Kind::Assign, signed)?;
-        let (sides, ended) = self.rights(others)?;
+        let (sides, ended) = self.list(others)?;
         let (_, rest) = self.take(Kind::Semicolon, ended)?;
         Ok((Core::Assign(targets, sides), rest))
     }
@@ -76,7 +77,7 @@ impl<'a, A: Allocator + Clone> Reader<'a, A> {
         ensures gives { Gives (λ p. (deed_of p.0, toks_of p.1.now)) result (calling (toks_of tokens.now)) }
         ensures shorter { IfOk result (λ p. length p.1.now < length tokens.now) }
     {
-        let (name, others) = self.id(tokens)?;
+        let (name, others) = Name::read(self, tokens)?;
         let (arguments, ended) = self.arguments(others)?;
         let (_, rest) = self.take(Kind::Semicolon, ended)?;
         Ok((Core::Call(name, arguments), rest))
@@ -87,7 +88,7 @@ impl<'a, A: Allocator + Clone> Reader<'a, A> {
         ensures gives { Gives (λ p. (deed_of p.0, toks_of p.1.now)) result (jumping (toks_of tokens.now)) }
         ensures shorter { IfOk result (λ p. length p.1.now < length tokens.now) }
     {
-        let (label, ended) = self.id(tokens)?;
+        let (label, ended) = Name::read(self, tokens)?;
         let (_, rest) = self.take(Kind::Semicolon, ended)?;
         Ok((Core::Goto(label), rest))
     }
