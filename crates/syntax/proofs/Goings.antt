@@ -1,14 +1,14 @@
 -- The steps of the loop that reads statements.
 use Rattle.std.specs.Prelude.{option_and_then}
 use Rattle.std.proofs.Common.{◌≡◌, true, false, List, [], ◌∷◌, ◌++◌, Option, Some, None, refl, sym, ◌∙◌, ap}
-use Rattle.language.specs.Tree.{Name, RightSide, Block, done, skip, leave}
+use Rattle.language.specs.Tree.{Name, RightSide, Block, done}
 use Rattle.tokens.specs.declared.vocabulary.Kind.{Kind}
 use Rattle.tokens.specs.declared.vocabulary.Kind.TheVariants as kind
 use Rattle.tokens.specs.declared.vocabulary.Token.{Token}
-use Rattle.tokens.specs.Token.{Tok, same_kind, toks_of}
+use Rattle.tokens.specs.Token.{Tok, toks_of}
 use Rattle.syntax.specs.Parser.{Parser, give, ◌>>=◌, take}
-use Rattle.syntax.specs.Trees.{Deed, simple, branch, repeat, Item, before, all_before}
-use Rattle.syntax.specs.Exact.{item_step, rest_step, starts_here, section, section_behind, item, going_on, put_before, condition, ended, jumping, asserting, assuming, deed, if_deed, while_deed}
+use Rattle.syntax.specs.Trees.{Deed, branch, repeat, Item, before, all_before}
+use Rattle.syntax.specs.Exact.{item_step, rest_step, starts_here, section, section_behind, item, going_on, put_before, condition, deed_by, deed, if_deed, while_deed}
 use Rattle.syntax.proofs.Fixes.{bind_is}
 use Rattle.syntax.proofs.Sections.{section_is}
 
@@ -123,31 +123,7 @@ module _ (ts : List Tok) {r : RightSide Name} {t1 : List Tok} (e1 : condition ts
     pub while_whole : {t3 : List Tok} {z : Tok} → take kind.Od t2 ≡ Some (z, t3) → while_deed ts ≡ Some (repeat r a, t3)
     while_whole {t3} {z} e = while_body ∙ bind_is (take kind.Od) (λ _. give (repeat r a)) t2 z t3 e
 
--- statements by their first word
-pub deed_skip : (ts us : List Token) (t : Token) → ts ≡ t ∷ us → t.kind ≡ kind.Skip → deed (toks_of ts) ≡ ended (simple skip) (toks_of us)
-unfolding deed same_kind
-deed_skip ts us t e is = rw (e, is) refl
-
-pub deed_return : (ts us : List Token) (t : Token) → ts ≡ t ∷ us → t.kind ≡ kind.Return → deed (toks_of ts) ≡ ended (simple leave) (toks_of us)
-unfolding deed same_kind
-deed_return ts us t e is = rw (e, is) refl
-
-pub deed_goto : (ts us : List Token) (t : Token) → ts ≡ t ∷ us → t.kind ≡ kind.Goto → deed (toks_of ts) ≡ jumping (toks_of us)
-unfolding deed if_deed while_deed same_kind
-deed_goto ts us t e is = rw (e, is) refl
-
-pub deed_assert : (ts us : List Token) (t : Token) → ts ≡ t ∷ us → t.kind ≡ kind.Assert → deed (toks_of ts) ≡ asserting (toks_of us)
-unfolding deed if_deed while_deed same_kind
-deed_assert ts us t e is = rw (e, is) refl
-
-pub deed_assume : (ts us : List Token) (t : Token) → ts ≡ t ∷ us → t.kind ≡ kind.Assume → deed (toks_of ts) ≡ assuming (toks_of us)
-unfolding deed if_deed while_deed same_kind
-deed_assume ts us t e is = rw (e, is) refl
-
-pub deed_if : (ts us : List Token) (t : Token) → ts ≡ t ∷ us → t.kind ≡ kind.If → deed (toks_of ts) ≡ if_deed (toks_of us)
-unfolding deed if_deed while_deed same_kind
-deed_if ts us t e is = rw (e, is) refl
-
-pub deed_while : (ts us : List Token) (t : Token) → ts ≡ t ∷ us → t.kind ≡ kind.While → deed (toks_of ts) ≡ while_deed (toks_of us)
-unfolding deed if_deed while_deed same_kind
-deed_while ts us t e is = rw (e, is) refl
+-- what a statement does is read as its first word says
+pub deed_begins : (k : Kind) (ts us : List Token) (t : Token) → ts ≡ t ∷ us → t.kind ≡ k → deed (toks_of ts) ≡ deed_by section (record { kind = k; at = t.at; text = t.text.now }) (toks_of us)
+unfolding deed
+deed_begins k ts us t e is = rw (e, is) refl

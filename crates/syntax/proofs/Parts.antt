@@ -6,7 +6,7 @@ use Rattle.tokens.specs.declared.vocabulary.Kind.TheVariants as kind
 use Rattle.tokens.specs.Token.{Tok, same_kind}
 use Rattle.syntax.specs.Parser.{Strict, give, ◌>>=◌, begins, take}
 use Rattle.syntax.specs.Grammar.{Takes, takes, name_at, Reads, reads_zero, reads_one, reads_name, reads_not, reads_paren, reads_two, IsName, is_name, InParens, Listed, Perhaps, IsExpression, IsRight, is_any, is_value}
-use Rattle.syntax.specs.Exact.{binds, name, names, expression, right, rights, formals, arguments, condition}
+use Rattle.syntax.specs.Exact.{binds, name, names, expression, right, rights, formals, arguments, enclosed, condition}
 use Rattle.syntax.proofs.KindTests.{same_kind-true, same_kind-is}
 use Rattle.syntax.proofs.Fixes.{carried, between, bind_is, Strict-Shrinks, Shrinks-give, Strict-take, Strict-bind}
 use Rattle.syntax.proofs.Expressions.{Stops, stops_end, stops_at, take_is, take_finds, reading_finds, reading_complete, reading_strict}
@@ -122,11 +122,11 @@ unfolding same_kind
 name_begins ts x us (is_name e) = rw e refl
 
 pub exactly_formals : Exactly (InParens (Perhaps IsName)) Anything formals
-unfolding formals
+unfolding enclosed
 exactly_formals = exactly_parens (exactly_perhaps strict_name exactly_name (λ us e. tt) (λ us rest t. tt) name_begins) (λ us rest t. begins_takes t)
 
 pub exactly_arguments : Exactly (InParens (Perhaps IsExpression)) Anything arguments
-unfolding arguments same_kind
+unfolding enclosed same_kind
 exactly_arguments = exactly_parens (exactly_perhaps strict_expression exactly_expression comma_stops close_stops (λ ts x us r. begins_no kind.Close refl r)) (λ us rest t. begins_takes t)
 
 pub exactly_test : Exactly (InParens IsRight) Anything condition
@@ -134,11 +134,11 @@ unfolding condition
 exactly_test = exactly_parens exactly_right close_stops
 
 pub strict_formals : Strict formals
-unfolding formals
+unfolding enclosed
 strict_formals = strict_parens (shrinks_perhaps strict_name)
 
 pub strict_arguments : Strict arguments
-unfolding arguments
+unfolding enclosed
 strict_arguments = strict_parens (shrinks_perhaps strict_expression)
 
 pub strict_test : Strict condition

@@ -70,6 +70,10 @@ parens p = take kind.Open >>= λ _. p >>= λ x. take kind.Close >>= λ _. give x
 abbrev pub perhaps : {X : Type 0} → Parser X → Parser (List X)
 perhaps p ts = cond (begins kind.Close ts) (Some ([], ts)) (list p ts)
 
+-- a list in parentheses, which may be empty
+unfoldable pub enclosed : {X : Type 0} → Parser X → Parser (List X)
+enclosed p = parens (perhaps p)
+
 -- an expression
 abbrev pub expression : Parser (Expression Name)
 expression = reading (from 0)
@@ -85,11 +89,11 @@ names = list name
 abbrev pub rights : Parser (List (RightSide Name))
 rights = list right
 
-unfoldable pub formals : Parser (List Name)
-formals = parens (perhaps name)
+abbrev pub formals : Parser (List Name)
+formals = enclosed name
 
-unfoldable pub arguments : Parser (List (Expression Name))
-arguments = parens (perhaps expression)
+abbrev pub arguments : Parser (List (Expression Name))
+arguments = enclosed expression
 
 unfoldable pub condition : Parser (RightSide Name)
 condition = parens right
@@ -101,13 +105,17 @@ marked (t ∷ ts) = cond (same_kind t.kind kind.Id && begins kind.Colon ts)
     ((take kind.Colon >>= λ _. give (record { label = Some (name_at t); at = t.at })) ts)
     (Some (record { label = None; at = t.at }, t ∷ ts))
 
+-- a semicolon, behind what a statement does
+abbrev pub ended : Deed → Parser Deed
+ended d = take kind.Semicolon >>= λ _. give d
+
 -- an assignment
 unfoldable pub assignment : Parser Deed
-assignment = names >>= λ xs. take kind.Assign >>= λ _. rights >>= λ rs. take kind.Semicolon >>= λ _. give (simple (assign xs rs))
+assignment = names >>= λ xs. take kind.Assign >>= λ _. rights >>= λ rs. ended (simple (assign xs rs))
 
 -- a call
 unfoldable pub calling : Parser Deed
-calling = name >>= λ p. arguments >>= λ es. take kind.Semicolon >>= λ _. give (simple (call p es))
+calling = name >>= λ p. arguments >>= λ es. ended (simple (call p es))
 
 -- an assignment or a call, by the token after the name
 unfoldable pub named : Tok → List Tok → Option (Deed × List Tok)
@@ -121,21 +129,17 @@ branching block = condition >>= λ r. take kind.Then >>= λ _. block >>= λ a. t
 abbrev pub repeating : Parser (Block Name Name Name) → Parser Deed
 repeating block = condition >>= λ r. take kind.Do >>= λ _. block >>= λ a. take kind.Od >>= λ _. give (repeat r a)
 
--- a semicolon, behind what a statement does
-abbrev pub ended : Deed → Parser Deed
-ended d = take kind.Semicolon >>= λ _. give d
-
 -- a `goto`, behind that word
 abbrev pub jumping : Parser Deed
-jumping = name >>= λ l. take kind.Semicolon >>= λ _. give (simple (goto l))
+jumping = name >>= λ l. ended (simple (goto l))
 
 -- an `assert`, behind that word
 abbrev pub asserting : Parser Deed
-asserting = condition >>= λ r. take kind.Semicolon >>= λ _. give (simple (assert r))
+asserting = condition >>= λ r. ended (simple (assert r))
 
 -- an `assume`, behind that word
 abbrev pub assuming : Parser Deed
-assuming = condition >>= λ r. take kind.Semicolon >>= λ _. give (simple (assume r))
+assuming = condition >>= λ r. ended (simple (assume r))
 
 -- what a statement does that begins with this token
 abbrev pub deed_by : Parser (Block Name Name Name) → Tok → Parser Deed

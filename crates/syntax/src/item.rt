@@ -1,13 +1,12 @@
 //! What stands one after the other, and the loops that read it.
 
-ghost use Rattle.std.specs.Prelude.{◌≡◌, ◌<◌, length, map, Bool, List, IfOk};
+ghost use Rattle.std.specs.Prelude.{◌≡◌, map, Bool, List};
 ghost use Rattle.syntax.specs.Exact.{list, repeated};
-ghost use Rattle.syntax.specs.Gives.{Gives};
+ghost use Rattle.syntax.specs.Gives.{Reads, Shorter};
 ghost use Rattle.syntax.specs.Parser.{Parser, Strict};
 ghost use Rattle.tokens.specs.Token.{Tok, toks_of};
 
-use crate::fault::ReadFault;
-use crate::reader::{Reader, begins, put};
+use crate::reader::{Read, Reader, begins, put};
 use std::alloc::Allocator;
 use tokens::{Kind, Token};
 
@@ -23,12 +22,9 @@ pub trait Item<A: Allocator + Clone>: Sized + Drop {
     ghost grammar: { Parser Tree };
 
     /// Reads an item.
-    fn read<'t>(
-        reader: &Reader<'_, A>,
-        tokens: &'t [Token<'t>],
-    ) -> Result<(Self, &'t [Token<'t>]), ReadFault>
-        ensures gives { Gives (λ p. (tree p.0, toks_of p.1.now)) result (grammar (toks_of tokens.now)) }
-        ensures shorter { IfOk result (λ p. length p.1.now < length tokens.now) };
+    fn read<'t>(reader: &Reader<'_, A>, tokens: &'t [Token<'t>]) -> Read<'t, Self>
+        ensures gives { Reads tree result grammar tokens.now }
+        ensures shorter { Shorter result tokens.now };
 }
 
 /// An item with no comma before the next.
@@ -43,13 +39,10 @@ pub trait Repeated<A: Allocator + Clone>: Item<A> {
 
 impl<'a, A: Allocator + Clone> Reader<'a, A> {
     /// Reads items with commas between them. Most lists have one element, so they begin with room for one.
-    pub fn list<'t, T: Item<A>>(
-        &self,
-        tokens: &'t [Token<'t>],
-    ) -> Result<(Vec<T, A>, &'t [Token<'t>]), ReadFault>
+    pub fn list<'t, T: Item<A>>(&self, tokens: &'t [Token<'t>]) -> Read<'t, Vec<T, A>>
         requires { Strict T.grammar }
-        ensures gives { Gives (λ p. (map T.tree p.0.items, toks_of p.1.now)) result (list T.grammar (toks_of tokens.now)) }
-        ensures shorter { IfOk result (λ p. length p.1.now < length tokens.now) }
+        ensures gives { Reads (λ v. map T.tree v.items) result (list T.grammar) tokens.now }
+        ensures shorter { Shorter result tokens.now }
     {
         let (first, mut rest) = T::read(self, tokens)?;
         let mut list = self.one(1, first)?;
@@ -63,13 +56,10 @@ impl<'a, A: Allocator + Clone> Reader<'a, A> {
     }
 
     /// Reads items, at least one, as long as another comes.
-    pub fn repeated<'t, T: Repeated<A>>(
-        &self,
-        tokens: &'t [Token<'t>],
-    ) -> Result<(Vec<T, A>, &'t [Token<'t>]), ReadFault>
+    pub fn repeated<'t, T: Repeated<A>>(&self, tokens: &'t [Token<'t>]) -> Read<'t, Vec<T, A>>
         requires { Strict T.grammar }
-        ensures gives { Gives (λ p. (map T.tree p.0.items, toks_of p.1.now)) result (repeated T.another T.grammar (toks_of tokens.now)) }
-        ensures shorter { IfOk result (λ p. length p.1.now < length tokens.now) }
+        ensures gives { Reads (λ v. map T.tree v.items) result (repeated T.another T.grammar) tokens.now }
+        ensures shorter { Shorter result tokens.now }
     {
         let (first, mut rest) = T::read(self, tokens)?;
         let mut list = self.one(4, first)?;

@@ -1,14 +1,14 @@
 //! What lists have: names, right sides and expressions; and what stands in parentheses.
 
-ghost use Rattle.std.specs.Prelude.{◌≡◌, ◌<◌, length, IfOk};
-ghost use Rattle.syntax.specs.Gives.{Gives};
-ghost use Rattle.syntax.specs.Exact.{formals, arguments, condition};
-ghost use Rattle.syntax.specs.Trees.{names_of, rhs_of, exprs_of};
+ghost use Rattle.std.specs.Prelude.{map};
+ghost use Rattle.syntax.specs.Gives.{Reads, Shorter};
+ghost use Rattle.syntax.specs.Exact.{enclosed, condition};
+ghost use Rattle.syntax.specs.Parser.{Strict};
+ghost use Rattle.syntax.specs.Trees.{rhs_of};
 ghost use Rattle.tokens.specs.Token.{toks_of};
 
-use crate::fault::ReadFault;
 use crate::item::Item;
-use crate::reader::{Reader, begins};
+use crate::reader::{Read, Reader, begins};
 use crate::tree::{Expr, Name, Rhs};
 use std::alloc::Allocator;
 use tokens::{Kind, Token};
@@ -24,10 +24,7 @@ impl<A: Allocator + Clone> Item<A> for Name<A> {
 
     ghost grammar = { name };
 
-    fn read<'t>(
-        reader: &Reader<'_, A>,
-        tokens: &'t [Token<'t>],
-    ) -> Result<(Name<A>, &'t [Token<'t>]), ReadFault> {
+    fn read<'t>(reader: &Reader<'_, A>, tokens: &'t [Token<'t>]) -> Read<'t, Name<A>> {
         let (token, rest) = reader.take(Kind::Id, tokens)?;
         Ok((reader.name(&token)?, rest))
     }
@@ -45,10 +42,7 @@ impl<A: Allocator + Clone> Item<A> for Rhs<A> {
     ghost grammar = { right };
 
     /// Reads `?` or an expression.
-    fn read<'t>(
-        reader: &Reader<'_, A>,
-        tokens: &'t [Token<'t>],
-    ) -> Result<(Rhs<A>, &'t [Token<'t>]), ReadFault> {
+    fn read<'t>(reader: &Reader<'_, A>, tokens: &'t [Token<'t>]) -> Read<'t, Rhs<A>> {
         if begins(Kind::Any, tokens) {
             let (_, rest) = reader.take(Kind::Any, tokens)?;
             return Ok((Rhs::Any, rest));
@@ -69,42 +63,18 @@ impl<A: Allocator + Clone> Item<A> for Expr<A> {
 
     ghost grammar = { expression };
 
-    fn read<'t>(
-        reader: &Reader<'_, A>,
-        tokens: &'t [Token<'t>],
-    ) -> Result<(Expr<A>, &'t [Token<'t>]), ReadFault> {
+    fn read<'t>(reader: &Reader<'_, A>, tokens: &'t [Token<'t>]) -> Read<'t, Expr<A>> {
         reader.expression(0, tokens)
     }
 }
 
 impl<'a, A: Allocator + Clone> Reader<'a, A> {
-    /// Reads formals in parentheses, of which there may be none.
-    #[tactic(auto, unfolding(crate::specs::Exact::formals))]
-    pub fn formals<'t>(
-        &self,
-        tokens: &'t [Token<'t>],
-    ) -> Result<(Vec<Name<A>, A>, &'t [Token<'t>]), ReadFault>
-        ensures gives { Gives (λ p. (names_of p.0.items, toks_of p.1.now)) result (formals (toks_of tokens.now)) }
-        ensures shorter { IfOk result (λ p. length p.1.now < length tokens.now) }
-    {
-        let (_, inside) = self.take(Kind::Open, tokens)?;
-        if begins(Kind::Close, inside) {
-            let (_, rest) = self.take(Kind::Close, inside)?;
-            return Ok((Vec::new(self.alloc.clone()?), rest));
-        }
-        let (list, others) = self.list(inside)?;
-        let (_, rest) = self.take(Kind::Close, others)?;
-        Ok((list, rest))
-    }
-
-    /// Reads arguments in parentheses, of which there may be none.
-    #[tactic(auto, unfolding(crate::specs::Exact::arguments))]
-    pub fn arguments<'t>(
-        &self,
-        tokens: &'t [Token<'t>],
-    ) -> Result<(Vec<Expr<A>, A>, &'t [Token<'t>]), ReadFault>
-        ensures gives { Gives (λ p. (exprs_of p.0.items, toks_of p.1.now)) result (arguments (toks_of tokens.now)) }
-        ensures shorter { IfOk result (λ p. length p.1.now < length tokens.now) }
+    /// Reads items in parentheses, with commas between them, of which there may be none.
+    #[tactic(auto, unfolding(crate::specs::Exact::enclosed))]
+    pub fn enclosed<'t, T: Item<A>>(&self, tokens: &'t [Token<'t>]) -> Read<'t, Vec<T, A>>
+        requires { Strict T.grammar }
+        ensures gives { Reads (λ v. map T.tree v.items) result (enclosed T.grammar) tokens.now }
+        ensures shorter { Shorter result tokens.now }
     {
         let (_, inside) = self.take(Kind::Open, tokens)?;
         if begins(Kind::Close, inside) {
@@ -118,9 +88,9 @@ impl<'a, A: Allocator + Clone> Reader<'a, A> {
 
     /// Reads a right side in parentheses.
     #[tactic(auto, unfolding(crate::specs::Exact::condition))]
-    pub fn test<'t>(&self, tokens: &'t [Token<'t>]) -> Result<(Rhs<A>, &'t [Token<'t>]), ReadFault>
-        ensures gives { Gives (λ p. (rhs_of p.0, toks_of p.1.now)) result (condition (toks_of tokens.now)) }
-        ensures shorter { IfOk result (λ p. length p.1.now < length tokens.now) }
+    pub fn test<'t>(&self, tokens: &'t [Token<'t>]) -> Read<'t, Rhs<A>>
+        ensures gives { Reads rhs_of result condition tokens.now }
+        ensures shorter { Shorter result tokens.now }
     {
         let (_, inside) = self.take(Kind::Open, tokens)?;
         let (value, others) = Rhs::read(self, inside)?;

@@ -1,14 +1,14 @@
 //! Reading declarations, procedures, thread lines and whole programs.
 
-ghost use Rattle.std.specs.Prelude.{◌≡◌, ◌<◌, ◌≤◌, [], length, IfOk, IsOkUnless};
-ghost use Rattle.syntax.specs.Gives.{Gives};
+ghost use Rattle.std.specs.Prelude.{◌≡◌, ◌≤◌, [], length, IfOk, IsOkUnless};
+ghost use Rattle.syntax.specs.Gives.{Gives, Reads, Shorter};
 ghost use Rattle.syntax.specs.Exact.{declaration, all_declarations, insides, program};
 ghost use Rattle.syntax.specs.Trees.{names_of, block_of, tree_of};
 ghost use Rattle.tokens.specs.Token.{toks_of};
 
 use crate::fault::ReadFault;
 use crate::item::{Item, Repeated};
-use crate::reader::{Reader, begins};
+use crate::reader::{Read, Reader, begins};
 use crate::tree::{Name, Proc, Program, Stmt, Thread};
 use std::alloc::Allocator;
 use tokens::{Kind, Token};
@@ -16,12 +16,9 @@ use tokens::{Kind, Token};
 impl<'a, A: Allocator + Clone> Reader<'a, A> {
     /// Reads a declaration.
     #[tactic(auto, unfolding(crate::specs::Exact::declaration))]
-    fn declaration<'t>(
-        &self,
-        tokens: &'t [Token<'t>],
-    ) -> Result<(Vec<Name<A>, A>, &'t [Token<'t>]), ReadFault>
-        ensures gives { Gives (λ p. (names_of p.0.items, toks_of p.1.now)) result (declaration (toks_of tokens.now)) }
-        ensures shorter { IfOk result (λ p. length p.1.now < length tokens.now) }
+    fn declaration<'t>(&self, tokens: &'t [Token<'t>]) -> Read<'t, Vec<Name<A>, A>>
+        ensures gives { Reads (λ v. names_of v.items) result declaration tokens.now }
+        ensures shorter { Shorter result tokens.now }
     {
         let (_, inside) = self.take(Kind::Decl, tokens)?;
         let (list, ended) = self.list(inside)?;
@@ -30,10 +27,7 @@ impl<'a, A: Allocator + Clone> Reader<'a, A> {
     }
 
     // No names yet, and all tokens.
-    fn no_names<'t>(
-        &self,
-        tokens: &'t [Token<'t>],
-    ) -> Result<(Vec<Name<A>, A>, &'t [Token<'t>]), ReadFault>
+    fn no_names<'t>(&self, tokens: &'t [Token<'t>]) -> Read<'t, Vec<Name<A>, A>>
         ensures ok { IfOk result (λ p. (p.0.items ≡ []) × (p.1.now ≡ tokens.now)) }
         ensures err { IsOkUnless result ReadFault.Memory }
     {
@@ -42,11 +36,8 @@ impl<'a, A: Allocator + Clone> Reader<'a, A> {
 
     /// Reads declarations, as long as there are any, into one list.
     #[tactic(auto, using(crate::proofs::Loops::declarations_go_on, crate::proofs::Loops::declarations_refused, crate::proofs::Loops::declarations_end, crate::proofs::Loops::prepend_nothing))]
-    fn declarations<'t>(
-        &self,
-        tokens: &'t [Token<'t>],
-    ) -> Result<(Vec<Name<A>, A>, &'t [Token<'t>]), ReadFault>
-        ensures gives { Gives (λ p. (names_of p.0.items, toks_of p.1.now)) result (all_declarations (toks_of tokens.now)) }
+    fn declarations<'t>(&self, tokens: &'t [Token<'t>]) -> Read<'t, Vec<Name<A>, A>>
+        ensures gives { Reads (λ v. names_of v.items) result all_declarations tokens.now }
         ensures no_longer { IfOk result (λ p. length p.1.now ≤ length tokens.now) }
     {
         let (mut list, mut rest) = self.no_names(tokens)?;
@@ -60,18 +51,15 @@ impl<'a, A: Allocator + Clone> Reader<'a, A> {
 
     /// Reads `begin`, the locals, the statements and `end`.
     #[tactic(auto, unfolding(crate::specs::Exact::insides))]
-    fn insides<'t>(
-        &self,
-        tokens: &'t [Token<'t>],
-    ) -> Result<(Vec<Name<A>, A>, Vec<Stmt<A>, A>, &'t [Token<'t>]), ReadFault>
-        ensures gives { Gives (λ p. ((names_of p.0.items, block_of p.1.items), toks_of p.2.now)) result (insides (toks_of tokens.now)) }
-        ensures shorter { IfOk result (λ p. length p.2.now < length tokens.now) }
+    fn insides<'t>(&self, tokens: &'t [Token<'t>]) -> Read<'t, (Vec<Name<A>, A>, Vec<Stmt<A>, A>)>
+        ensures gives { Reads (λ b. (names_of b.0.items, block_of b.1.items)) result insides tokens.now }
+        ensures shorter { Shorter result tokens.now }
     {
         let (_, inside) = self.take(Kind::Begin, tokens)?;
         let (locals, others) = self.declarations(inside)?;
         let (body, ended) = self.statements(others)?;
         let (_, rest) = self.take(Kind::End, ended)?;
-        Ok((locals, body, rest))
+        Ok(((locals, body), rest))
     }
 
     /// Reads a whole program.
@@ -102,13 +90,10 @@ impl<A: Allocator + Clone> Item<A> for Proc<A> {
     ghost grammar = { procedure };
 
     #[tactic(auto, unfolding(crate::specs::Exact::procedure))]
-    fn read<'t>(
-        reader: &Reader<'_, A>,
-        tokens: &'t [Token<'t>],
-    ) -> Result<(Proc<A>, &'t [Token<'t>]), ReadFault> {
+    fn read<'t>(reader: &Reader<'_, A>, tokens: &'t [Token<'t>]) -> Read<'t, Proc<A>> {
         let (name, opened) = Name::read(reader, tokens)?;
-        let (formals, begun) = reader.formals(opened)?;
-        let (locals, body, rest) = reader.insides(begun)?;
+        let (formals, begun) = reader.enclosed(opened)?;
+        let ((locals, body), rest) = reader.insides(begun)?;
         Ok((
             Proc {
                 name,
@@ -145,10 +130,7 @@ impl<A: Allocator + Clone> Item<A> for Thread<A> {
     ghost grammar = { thread_line };
 
     #[tactic(auto, unfolding(crate::specs::Exact::thread_line))]
-    fn read<'t>(
-        reader: &Reader<'_, A>,
-        tokens: &'t [Token<'t>],
-    ) -> Result<(Thread<A>, &'t [Token<'t>]), ReadFault> {
+    fn read<'t>(reader: &Reader<'_, A>, tokens: &'t [Token<'t>]) -> Read<'t, Thread<A>> {
         let (word, others) = reader.take(Kind::Thread, tokens)?;
         let (name, ended) = Name::read(reader, others)?;
         let (_, rest) = reader.take(Kind::Semicolon, ended)?;

@@ -1,7 +1,7 @@
 //! What each reader of tokens needs, and the readers of single tokens.
 
-ghost use Rattle.std.specs.Prelude.{◌≡◌, ◌<◌, ◌++◌, ◌∷◌, [], length, IfOk, IsOkUnless};
-ghost use Rattle.syntax.specs.Gives.{Gives};
+ghost use Rattle.std.specs.Prelude.{◌≡◌, ◌++◌, ◌∷◌, [], IfOk, IsOkUnless};
+ghost use Rattle.syntax.specs.Gives.{Reads, Shorter};
 ghost use Rattle.syntax.specs.Parser.{begins, take};
 ghost use Rattle.syntax.specs.Grammar.{name_at};
 ghost use Rattle.syntax.specs.Trees.{name_of};
@@ -11,6 +11,9 @@ use crate::fault::ReadFault;
 use crate::tree::Name;
 use std::alloc::Allocator;
 use tokens::{Kind, Token};
+
+/// What was read, and the tokens after it.
+pub type Read<'t, T> = Result<(T, &'t [Token<'t>]), ReadFault>;
 
 /// What all readers share: where trees are allocated, and the length of the text.
 #[derive(Drop)]
@@ -61,13 +64,9 @@ impl<'a, A: Allocator + Clone> Reader<'a, A> {
     }
 
     /// Reads a token of this kind.
-    pub fn take<'t>(
-        &self,
-        kind: Kind,
-        tokens: &'t [Token<'t>],
-    ) -> Result<(Token<'t>, &'t [Token<'t>]), ReadFault>
-        ensures gives { Gives (λ p. (tok_of p.0, toks_of p.1.now)) result (take kind (toks_of tokens.now)) }
-        ensures shorter { IfOk result (λ p. length p.1.now < length tokens.now) }
+    pub fn take<'t>(&self, kind: Kind, tokens: &'t [Token<'t>]) -> Read<'t, Token<'t>>
+        ensures gives { Reads tok_of result (take kind) tokens.now }
+        ensures shorter { Shorter result tokens.now }
     {
         let Some((first, rest)) = tokens.split_first() else {
             return Err(ReadFault::Syntax(self.end));
