@@ -14,6 +14,7 @@ mod printing;
 mod program;
 mod reader;
 mod reading;
+mod show;
 mod statement;
 mod tree;
 
