@@ -161,7 +161,7 @@ impl<'a, A: Allocator + Clone> Reader<'a, A> {
 
     /// Reads what a statement does.
     #[cycle(statements)]
-    #[tactic(auto, unfolding(crate::specs::Exact::deed, crate::specs::Exact::if_deed, crate::specs::Exact::while_deed, crate::specs::Exact::named, tokens::specs::Token::same_kind))]
+    #[tactic(auto, unfolding(crate::specs::Exact::deed, crate::specs::Exact::named, tokens::specs::Token::same_kind))]
     fn core<'t>(&self, tokens: &'t [Token<'t>]) -> Read<'t, Core<A>>
         ensures gives { Reads deed_of result deed tokens.now }
         ensures shorter { Shorter result tokens.now }
