@@ -403,3 +403,6 @@ reading_strict l = record { by = λ ts a rest e. by_list l ts a rest (sym (readi
     by_list l (t ∷ ts) a rest e =
         let j : length rest ≤ length ts = (Shrinks-bind (operand_shrinks reading reading_shrinks t) (λ a. reading_shrinks (after l a))).by ts a rest e in
         omega arith
+
+-- what the loop over operators does
+pub ruleset reading_steps = (starts, no_start, stops_here, stops_at_end, goes_on, no_right)

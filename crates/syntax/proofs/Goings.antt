@@ -51,6 +51,9 @@ pub sections_end : (is : List Item) (ts : List Tok) → starts_here ts ≡ false
 unfolding going_on
 sections_end is ts e = rw e refl
 
+-- what the loop over statements does
+pub ruleset section_steps = (sections_start, sections_no_start, sections_go_on, sections_refused, sections_end)
+
 -- a keyword and the statements behind it, before what comes of them
 behind : {Y : Type 0} (k : Kind) (f : Block Name Name Name → Parser Y) (ts : List Tok) → (take k >>= λ _. (section >>= f)) ts ≡ (section_behind k >>= f) ts
 unfolding section_behind

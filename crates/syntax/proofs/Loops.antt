@@ -96,3 +96,6 @@ declarations_end xs ts e =
 pub prepend_nothing : {X : Type 0} (r : Option (List X × List Tok)) → r ≡ prepend [] r
 prepend_nothing None = refl
 prepend_nothing (Some q) = refl
+
+-- what the loop over declarations does
+pub ruleset declaration_steps = (declarations_go_on, declarations_refused, declarations_end, prepend_nothing)

@@ -59,7 +59,7 @@ fn operator_of_kind(least: u8, kind: Kind) -> Option<Op>
 impl<'a, A: Allocator + Clone> Reader<'a, A> {
     /// Reads an expression whose operators outside of parentheses bind at this level or above.
     #[cycle(expressions)]
-    #[tactic(auto, using(crate::proofs::Expressions::starts, crate::proofs::Expressions::no_start, crate::proofs::Expressions::stops_here, crate::proofs::Expressions::stops_at_end, crate::proofs::Expressions::goes_on, crate::proofs::Expressions::no_right))]
+    #[tactic(auto, using(crate::proofs::Expressions::reading_steps))]
     pub fn expression<'t>(&self, least: u8, tokens: &'t [Token<'t>]) -> Read<'t, Expr<A>>
         ensures gives { Reads expr_of result (reading (from least)) tokens.now }
         ensures shorter { Shorter result tokens.now }

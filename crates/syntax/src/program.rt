@@ -35,7 +35,7 @@ impl<'a, A: Allocator + Clone> Reader<'a, A> {
     }
 
     /// Reads declarations, as long as there are any, into one list.
-    #[tactic(auto, using(crate::proofs::Loops::declarations_go_on, crate::proofs::Loops::declarations_refused, crate::proofs::Loops::declarations_end, crate::proofs::Loops::prepend_nothing))]
+    #[tactic(auto, using(crate::proofs::Loops::declaration_steps))]
     fn declarations<'t>(&self, tokens: &'t [Token<'t>]) -> Read<'t, Vec<Name<A>, A>>
         ensures gives { Reads (λ v. names_of v.items) result all_declarations tokens.now }
         ensures no_longer { IfOk result (λ p. length p.1.now ≤ length tokens.now) }

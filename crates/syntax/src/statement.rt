@@ -132,7 +132,7 @@ impl<'a, A: Allocator + Clone> Reader<'a, A> {
 
     /// Reads statements, at least one, as long as another comes.
     #[cycle(statements)]
-    #[tactic(auto, using(crate::proofs::Goings::sections_start, crate::proofs::Goings::sections_no_start, crate::proofs::Goings::sections_go_on, crate::proofs::Goings::sections_refused, crate::proofs::Goings::sections_end))]
+    #[tactic(auto, using(crate::proofs::Goings::section_steps))]
     pub fn statements<'t>(&self, tokens: &'t [Token<'t>]) -> Read<'t, Vec<Stmt<A>, A>>
         ensures gives { Reads (λ v. block_of v.items) result section tokens.now }
         ensures shorter { Shorter result tokens.now }
