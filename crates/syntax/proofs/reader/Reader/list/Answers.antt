@@ -1,5 +1,4 @@
 use Rattle.std.proofs.Common.{rules, ◌∙◌, sym}
-use Rattle.std.proofs.lemmas.Result.{err_from_is_err_and}
 use Rattle.tokens.specs.declared.vocabulary.Kind.TheVariants as kind
 use Rattle.tokens.specs.Token.{tok_of, toks_of}
 use Rattle.syntax.specs.Parser.{begins, take, ◌>>=◌}
@@ -7,7 +6,7 @@ use Rattle.syntax.specs.Exact.{list}
 use Rattle.syntax.proofs.Fixes.{Strict-Shrinks, bind_is}
 use Rattle.syntax.proofs.Exactly.{Strict-behind}
 use Rattle.syntax.proofs.Loops.{first_read, first_refused, next_read, others_refused, others_end}
-use Rattle.syntax.proofs.Exits.{fails_on}
+use Rattle.syntax.proofs.Exits.{refused}
 use Rattle.syntax.proofs.reader.Reader.list.Goals as goal
 
 pub loop-rest-init : goal.loop-rest-init
@@ -29,17 +28,15 @@ loop-rest-preserved g c = record {
 pub returns-in_err-first-clause-gives : goal.returns-in_err-first-clause-gives
 unfolding list
 returns-in_err-first-clause-gives g c =
-    let p = err_from_is_err_and c.from_residual.result c.from_residual.ensures.1 in
-    rw (p.1, p.2) (fails_on _ (g.T.Item.grammar (toks_of c.args.tokens.now)) (list g.T.Item.grammar (toks_of c.args.tokens.now))
-    (first_refused (begins kind.Comma) g.T.Item.grammar (take kind.Comma >>= λ _. g.T.Item.grammar) (toks_of c.args.tokens.now)) c.in_err-first.ensures.gives)
+    refused _ c.from_residual.result _ (g.T.Item.grammar (toks_of c.args.tokens.now)) _ c.from_residual.ensures.1
+    (first_refused (begins kind.Comma) g.T.Item.grammar (take kind.Comma >>= λ _. g.T.Item.grammar) (toks_of c.args.tokens.now)) c.in_err-first.ensures.gives
 
 pub returns-in_err-next-clause-gives : goal.returns-in_err-next-clause-gives
 returns-in_err-next-clause-gives g c =
-    let p = err_from_is_err_and c.from_residual-in_err-next.result c.from_residual-in_err-next.ensures.1 in
     let read = bind_is (take kind.Comma) (λ _. g.T.Item.grammar) (toks_of c.loop-rest.rest.now) (tok_of c.in_ok-others.field-0-0) (toks_of c.in_ok-others.others.now) c.in_ok-others.ensures.gives in
-    rw (p.1, p.2) (fails_on _ (g.T.Item.grammar (toks_of c.in_ok-others.others.now)) (list g.T.Item.grammar (toks_of c.args.tokens.now))
-    (λ refused. others_refused (begins kind.Comma) (take kind.Comma >>= λ _. g.T.Item.grammar) (Strict-behind kind.Comma (Strict-Shrinks c.requires)) c.loop-rest.invariant.whole (sym c.begins.ensures ∙ c.loop-rest-test.true) (read ∙ refused))
-    c.in_err-next.ensures.gives)
+    refused _ c.from_residual-in_err-next.result _ (g.T.Item.grammar (toks_of c.in_ok-others.others.now)) _ c.from_residual-in_err-next.ensures.1
+    (λ none. others_refused (begins kind.Comma) (take kind.Comma >>= λ _. g.T.Item.grammar) (Strict-behind kind.Comma (Strict-Shrinks c.requires)) c.loop-rest.invariant.whole (sym c.begins.ensures ∙ c.loop-rest-test.true) (read ∙ none))
+    c.in_err-next.ensures.gives
 
 pub returns-clause-gives : goal.returns-clause-gives
 returns-clause-gives g c =

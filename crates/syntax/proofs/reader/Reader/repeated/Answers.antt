@@ -1,9 +1,8 @@
 use Rattle.std.proofs.Common.{rules, ◌∙◌, sym}
-use Rattle.std.proofs.lemmas.Result.{err_from_is_err_and}
 use Rattle.tokens.specs.Token.{toks_of}
 use Rattle.syntax.specs.Exact.{repeated}
 use Rattle.syntax.proofs.Loops.{first_read, first_refused, next_read, others_refused, others_end}
-use Rattle.syntax.proofs.Exits.{fails_on}
+use Rattle.syntax.proofs.Exits.{refused}
 use Rattle.syntax.proofs.reader.Reader.repeated.Goals as goal
 
 pub loop-rest-init : goal.loop-rest-init
@@ -23,16 +22,14 @@ loop-rest-preserved g c = record {
 pub returns-in_err-first-clause-gives : goal.returns-in_err-first-clause-gives
 unfolding repeated
 returns-in_err-first-clause-gives g c =
-    let p = err_from_is_err_and c.from_residual.result c.from_residual.ensures.1 in
-    rw (p.1, p.2) (fails_on _ (g.T.Item.grammar (toks_of c.args.tokens.now)) (repeated g.T.Repeated.another g.T.Item.grammar (toks_of c.args.tokens.now))
-    (first_refused g.T.Repeated.another g.T.Item.grammar g.T.Item.grammar (toks_of c.args.tokens.now)) c.in_err-first.ensures.gives)
+    refused _ c.from_residual.result _ (g.T.Item.grammar (toks_of c.args.tokens.now)) _ c.from_residual.ensures.1
+    (first_refused g.T.Repeated.another g.T.Item.grammar g.T.Item.grammar (toks_of c.args.tokens.now)) c.in_err-first.ensures.gives
 
 pub returns-in_err-next-clause-gives : goal.returns-in_err-next-clause-gives
 returns-in_err-next-clause-gives g c =
-    let p = err_from_is_err_and c.from_residual-in_err-next.result c.from_residual-in_err-next.ensures.1 in
-    rw (p.1, p.2) (fails_on _ (g.T.Item.grammar (toks_of c.loop-rest.rest.now)) (repeated g.T.Repeated.another g.T.Item.grammar (toks_of c.args.tokens.now))
-    (λ refused. others_refused g.T.Repeated.another g.T.Item.grammar c.requires c.loop-rest.invariant.whole (sym c.comes.ensures ∙ c.loop-rest-test.true) refused)
-    c.in_err-next.ensures.gives)
+    refused _ c.from_residual-in_err-next.result _ (g.T.Item.grammar (toks_of c.loop-rest.rest.now)) _ c.from_residual-in_err-next.ensures.1
+    (λ none. others_refused g.T.Repeated.another g.T.Item.grammar c.requires c.loop-rest.invariant.whole (sym c.comes.ensures ∙ c.loop-rest-test.true) none)
+    c.in_err-next.ensures.gives
 
 pub returns-clause-gives : goal.returns-clause-gives
 returns-clause-gives g c =
