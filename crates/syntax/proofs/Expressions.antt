@@ -182,19 +182,13 @@ bound_right and (suc m) h = omega arith
 bound_right equal (suc m) h = omega arith
 bound_right differs (suc m) h = omega arith
 
-bound_bound_right : (o : Operator) (m : ℕ) → m ≤ level o → bound m ≤ bound (right_level o)
-bound_bound_right implies zero h = omega arith
-bound_bound_right implies (suc m) h = absurd (omega arith)
-bound_bound_right o zero h = omega arith
-bound_bound_right or (suc m) h = omega arith
-bound_bound_right xor (suc m) h = omega arith
-bound_bound_right and (suc m) h = omega arith
-bound_bound_right equal (suc m) h = omega arith
-bound_bound_right differs (suc m) h = omega arith
-
 bound_above : (l : ℕ) → l ≤ bound l
 bound_above zero = omega arith
 bound_above (suc l) = omega arith
+
+bound_bound_right : (o : Operator) (m : ℕ) → m ≤ level o → bound m ≤ bound (right_level o)
+bound_bound_right o m h =
+    let below : bound m ≤ right_level o = bound_right o m h in let above : right_level o ≤ bound (right_level o) = bound_above (right_level o) in omega arith
 
 close_stops : {l : ℕ} {us rest : List Tok} → Takes kind.Close us rest → Stops l us
 close_stops {l} (takes {t} {rest} e) = stops_at (ap (binds l) e)
