@@ -69,6 +69,17 @@ behind_none k f ts e = behind k f ts ∙ rw e refl
 behind_some : {Y : Type 0} (k : Kind) (f : Block Name Name Name → Parser Y) (ts : List Tok) (a : Block Name Name Name) (us : List Tok) → section_behind k ts ≡ Some (a, us) → (take k >>= λ _. (section >>= f)) ts ≡ f a us
 behind_some k f ts a us e = behind k f ts ∙ bind_is (section_behind k) f ts a us e
 
+-- a test, and the statements behind it
+abbrev headed : Kind → (RightSide Name → Block Name Name Name → Parser Deed) → Parser Deed
+headed k f = condition >>= λ r. take k >>= λ _. (section >>= f r)
+
+module _ (k : Kind) (f : RightSide Name → Block Name Name Name → Parser Deed) (ts : List Tok) {r : RightSide Name} {t1 : List Tok} (e1 : condition ts ≡ Some (r, t1)) where
+  headed_none : section_behind k t1 ≡ None → headed k f ts ≡ None
+  headed_none e = bind_is condition (λ r. take k >>= λ _. (section >>= f r)) ts r t1 e1 ∙ behind_none k (f r) t1 e
+
+  headed_some : {t2 : List Tok} {a : Block Name Name Name} → section_behind k t1 ≡ Some (a, t2) → headed k f ts ≡ f r a t2
+  headed_some {t2} {a} e = bind_is condition (λ r. take k >>= λ _. (section >>= f r)) ts r t1 e1 ∙ behind_some k (f r) t1 a t2 e
+
 -- the steps of an `if`
 abbrev after_no : RightSide Name → Block Name Name Name → Block Name Name Name → Parser Deed
 after_no r a b = take kind.Fi >>= λ _. give (branch r a b)
@@ -76,20 +87,15 @@ after_no r a b = take kind.Fi >>= λ _. give (branch r a b)
 abbrev after_yes : RightSide Name → Block Name Name Name → Parser Deed
 after_yes r a = take kind.Else >>= λ _. (section >>= λ b. after_no r a b)
 
-abbrev after_test : RightSide Name → Parser Deed
-after_test r = take kind.Then >>= λ _. (section >>= λ a. after_yes r a)
-
 module _ (ts : List Tok) {r : RightSide Name} {t1 : List Tok} (e1 : condition ts ≡ Some (r, t1)) where
-  if_test : if_deed ts ≡ after_test r t1
-  unfolding if_deed
-  if_test = bind_is condition after_test ts r t1 e1
-
   pub if_no_yes : section_behind kind.Then t1 ≡ None → if_deed ts ≡ None
-  if_no_yes e = if_test ∙ behind_none kind.Then (after_yes r) t1 e
+  unfolding if_deed
+  if_no_yes = headed_none kind.Then after_yes ts e1
 
   module _ {t2 : List Tok} {a : Block Name Name Name} (e2 : section_behind kind.Then t1 ≡ Some (a, t2)) where
     if_yes : if_deed ts ≡ after_yes r a t2
-    if_yes = if_test ∙ behind_some kind.Then (after_yes r) t1 a t2 e2
+    unfolding if_deed
+    if_yes = headed_some kind.Then after_yes ts e1 e2
 
     pub if_no_no : section_behind kind.Else t2 ≡ None → if_deed ts ≡ None
     if_no_no e = if_yes ∙ behind_none kind.Else (after_no r a) t2 e
@@ -109,16 +115,14 @@ abbrev after_body : RightSide Name → Block Name Name Name → Parser Deed
 after_body r a = take kind.Od >>= λ _. give (repeat r a)
 
 module _ (ts : List Tok) {r : RightSide Name} {t1 : List Tok} (e1 : condition ts ≡ Some (r, t1)) where
-  while_test : while_deed ts ≡ (take kind.Do >>= λ _. (section >>= after_body r)) t1
-  unfolding while_deed
-  while_test = bind_is condition (λ r. take kind.Do >>= λ _. (section >>= after_body r)) ts r t1 e1
-
   pub while_no_body : section_behind kind.Do t1 ≡ None → while_deed ts ≡ None
-  while_no_body e = while_test ∙ behind_none kind.Do (after_body r) t1 e
+  unfolding while_deed
+  while_no_body = headed_none kind.Do after_body ts e1
 
   module _ {t2 : List Tok} {a : Block Name Name Name} (e2 : section_behind kind.Do t1 ≡ Some (a, t2)) where
     while_body : while_deed ts ≡ after_body r a t2
-    while_body = while_test ∙ behind_some kind.Do (after_body r) t1 a t2 e2
+    unfolding while_deed
+    while_body = headed_some kind.Do after_body ts e1 e2
 
     pub while_no_end : take kind.Od t2 ≡ None → while_deed ts ≡ None
     while_no_end e = while_body ∙ rw e refl
