@@ -1,5 +1,5 @@
 -- Texts of what statements do, as they grow.
-use Rattle.std.proofs.Common.{◌≡◌, ℕ, ◌+◌, cond, List, [], ◌∷◌, ◌++◌, refl, sym, ◌∙◌, ap, append_assoc, suc, add-one, codes}
+use Rattle.std.proofs.Common.{◌≡◌, ℕ, ◌+◌, cond, List, ◌++◌, refl, sym, ◌∙◌, ap, append_assoc, suc, add-one, codes}
 use Rattle.std.specs.Prelude.{Result, IfOk, is_ok}
 use Rattle.std.specs.declared.vec.Vec.{Vec}
 use Rattle.language.specs.Tree as tree

@@ -1,8 +1,8 @@
-use Rattle.std.proofs.Common.{rules, arith, List, [], ◌∷◌, ◌++◌, ◌∙◌, ap, sym, Some}
+use Rattle.std.proofs.Common.{rules, arith, List, [], ◌∙◌, ap, sym, Some}
 use Rattle.tokens.specs.declared.vocabulary.Kind.TheVariants as kind
 use Rattle.tokens.specs.Token.{toks_of, same_kind}
 use Rattle.syntax.specs.Parser.{take}
-use Rattle.syntax.specs.Exact.{item, section, section_behind, going_on, put_before, if_deed, while_deed}
+use Rattle.syntax.specs.Exact.{item, section_behind, going_on, put_before, if_deed, while_deed}
 use Rattle.syntax.specs.Trees.{Deed, Item, item_of, items_of}
 use Rattle.syntax.proofs.Exits.{refused}
 use Rattle.syntax.proofs.Folds.{deed_of-Skip, deed_of-Return, deed_of-If, deed_of-While}
