@@ -129,15 +129,22 @@ module _ {X : Type 0} (test : List Tok → Bool) (p : Parser X) (strict : Strict
       next (one_more {ts = us} {us = vs} {x = y} h t) s = joins us (starts us y vs h)
 
 -- once, and then again and again
-pub repeated_finds : {X : Type 0} (test : List Tok → Bool) {P : List Tok → X → List Tok → Type 0} {S : List Tok → Type 0} {p : Parser X} → Strict p → Exactly P S p → (ts : List Tok) (xs : List X) (rest : List Tok) → repeated test p ts ≡ Some (xs, rest) → Several P ts xs rest × (test rest ≡ false)
+pub repeated_finds : {X : Type 0} (test : List Tok → Bool) {P : List Tok → X → List Tok → Type 0}
+    {S : List Tok → Type 0} {p : Parser X} → Strict p → Exactly P S p
+    → (ts : List Tok) (xs : List X) (rest : List Tok) → repeated test p ts ≡ Some (xs, rest)
+    → Several P ts xs rest × (test rest ≡ false)
 unfolding repeated
 repeated_finds test {P = P} {p = p} s is ts xs rest e =
     let b = between p (λ x. many test p >>= λ xs. give (x ∷ xs)) ts xs rest e in
     let c = between (many test p) (λ xs. give (b.x ∷ xs)) b.us xs rest b.second in
     let m = many_finds test p s P is.finds b.us c.x c.us c.first in
-    carried (λ xs rest. Several P ts xs rest × (test rest ≡ false)) c.second (several (is.finds ts b.x b.us b.first) m.0, m.1)
+    carried (λ xs rest. Several P ts xs rest × (test rest ≡ false)) c.second
+    (several (is.finds ts b.x b.us b.first) m.0, m.1)
 
-pub repeated_reads : {X : Type 0} (test : List Tok → Bool) {P : List Tok → X → List Tok → Type 0} {p : Parser X} → Strict p → Exactly P Anything p → ((ts : List Tok) (x : X) (us : List Tok) → P ts x us → test ts ≡ true) → (ts : List Tok) (xs : List X) (rest : List Tok) → Several P ts xs rest → test rest ≡ false → repeated test p ts ≡ Some (xs, rest)
+pub repeated_reads : {X : Type 0} (test : List Tok → Bool) {P : List Tok → X → List Tok → Type 0} {p : Parser X}
+    → Strict p → Exactly P Anything p → ((ts : List Tok) (x : X) (us : List Tok) → P ts x us → test ts ≡ true)
+    → (ts : List Tok) (xs : List X) (rest : List Tok) → Several P ts xs rest → test rest ≡ false
+    → repeated test p ts ≡ Some (xs, rest)
 unfolding repeated
 repeated_reads test {p = p} s is starts ts xs rest (several {us = us} {x = x} {xs = ys} h m) e =
     bind_is p (λ x. many test p >>= λ xs. give (x ∷ xs)) ts x us (is.reads ts x us h tt)

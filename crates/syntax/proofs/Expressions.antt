@@ -188,7 +188,9 @@ bound_above (suc l) = omega arith
 
 bound_bound_right : (o : Operator) (m : ℕ) → m ≤ level o → bound m ≤ bound (right_level o)
 bound_bound_right o m h =
-    let below : bound m ≤ right_level o = bound_right o m h in let above : right_level o ≤ bound (right_level o) = bound_above (right_level o) in omega arith
+    let below : bound m ≤ right_level o = bound_right o m h in
+    let above : right_level o ≤ bound (right_level o) = bound_above (right_level o) in
+    omega arith
 
 close_stops : {l : ℕ} {us rest : List Tok} → Takes kind.Close us rest → Stops l us
 close_stops {l} (takes {t} {rest} e) = stops_at (ap (binds l) e)

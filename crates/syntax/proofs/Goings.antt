@@ -73,12 +73,15 @@ behind_some k f ts a us e = behind k f ts ∙ bind_is (section_behind k) f ts a 
 abbrev headed : Kind → (RightSide Name → Block Name Name Name → Parser Deed) → Parser Deed
 headed k f = condition >>= λ r. take k >>= λ _. (section >>= f r)
 
-module _ (k : Kind) (f : RightSide Name → Block Name Name Name → Parser Deed) (ts : List Tok) {r : RightSide Name} {t1 : List Tok} (e1 : condition ts ≡ Some (r, t1)) where
+module _ (k : Kind) (f : RightSide Name → Block Name Name Name → Parser Deed) (ts : List Tok) {r : RightSide Name}
+    {t1 : List Tok} (e1 : condition ts ≡ Some (r, t1)) where
   headed_none : section_behind k t1 ≡ None → headed k f ts ≡ None
   headed_none e = bind_is condition (λ r. take k >>= λ _. (section >>= f r)) ts r t1 e1 ∙ behind_none k (f r) t1 e
 
-  headed_some : {t2 : List Tok} {a : Block Name Name Name} → section_behind k t1 ≡ Some (a, t2) → headed k f ts ≡ f r a t2
-  headed_some {t2} {a} e = bind_is condition (λ r. take k >>= λ _. (section >>= f r)) ts r t1 e1 ∙ behind_some k (f r) t1 a t2 e
+  headed_some : {t2 : List Tok} {a : Block Name Name Name} → section_behind k t1 ≡ Some (a, t2) → headed k f ts
+      ≡ f r a t2
+  headed_some {t2} {a} e = bind_is condition (λ r. take k >>= λ _. (section >>= f r)) ts r t1 e1
+      ∙ behind_some k (f r) t1 a t2 e
 
 -- the steps of an `if`
 abbrev after_no : RightSide Name → Block Name Name Name → Block Name Name Name → Parser Deed
@@ -131,6 +134,7 @@ module _ (ts : List Tok) {r : RightSide Name} {t1 : List Tok} (e1 : condition ts
     while_whole {t3} {z} e = while_body ∙ bind_is (take kind.Od) (λ _. give (repeat r a)) t2 z t3 e
 
 -- what a statement does is read as its first word says
-pub deed_begins : (k : Kind) (ts us : List Token) (t : Token) → ts ≡ t ∷ us → t.kind ≡ k → deed (toks_of ts) ≡ deed_by section (record { kind = k; at = t.at; text = t.text.now }) (toks_of us)
+pub deed_begins : (k : Kind) (ts us : List Token) (t : Token) → ts ≡ t ∷ us → t.kind ≡ k → deed (toks_of ts)
+    ≡ deed_by section (record { kind = k; at = t.at; text = t.text.now }) (toks_of us)
 unfolding deed
 deed_begins k ts us t e is = rw (e, is) refl

@@ -36,36 +36,47 @@ abbrev pub and_more : {X : Type 0} → (List Tok → Bool) → Parser X → Pars
 and_more test p q = p >>= λ x. many test q >>= λ xs. give (x ∷ xs)
 
 -- What is read so far, with what is read from here on, is the whole.
-pub record SoFar {X Y : Type 0} (f : X → Y) (more : Parser (List Y)) (whole : Option (List Y × List Tok)) (xs : List X) (ts : List Tok) : Type 0 where
+pub record SoFar {X Y : Type 0} (f : X → Y) (more : Parser (List Y)) (whole : Option (List Y × List Tok))
+    (xs : List X) (ts : List Tok) : Type 0 where
   pub is : whole ≡ prepend (map f xs) (more ts)
 
-pub first_read : {X Y : Type 0} (f : X → Y) (test : List Tok → Bool) (p q : Parser Y) (ts : List Tok) {x : X} {us : List Tok} {xs : List X} → p ts ≡ Some (f x, us) → xs ≡ x ∷ [] → SoFar f (many test q) (and_more test p q ts) xs us
+pub first_read : {X Y : Type 0} (f : X → Y) (test : List Tok → Bool) (p q : Parser Y) (ts : List Tok) {x : X}
+    {us : List Tok} {xs : List X} → p ts ≡ Some (f x, us) → xs ≡ x ∷ []
+    → SoFar f (many test q) (and_more test p q ts) xs us
 first_read {Y = Y} f test p q ts {x} {us} {xs} e same = record {
   is =
       bind_is p (λ y. many test q >>= λ ys. give (y ∷ ys)) ts (f x) us e ∙ prepend_first (f x) (many test q us)
       ∙ ap (λ (ys : List Y). prepend ys (many test q us)) (pushed f [] xs x same);
 }
 
-pub first_refused : {Y : Type 0} (test : List Tok → Bool) (p q : Parser Y) (ts : List Tok) → p ts ≡ None → and_more test p q ts ≡ None
+pub first_refused : {Y : Type 0} (test : List Tok → Bool) (p q : Parser Y) (ts : List Tok) → p ts ≡ None
+    → and_more test p q ts ≡ None
 first_refused test p q ts e = rw e refl
 
 module _ {Y : Type 0} (test : List Tok → Bool) (q : Parser Y) (s : Strict q) where
   others_at : (ts : List Tok) → test ts ≡ true → many test q ts ≡ and_more test q q ts
   others_at ts h = many_is test q s ts ∙ rw h refl
 
-  pub others_refused : {X : Type 0} {f : X → Y} {whole : Option (List Y × List Tok)} {xs : List X} {ts : List Tok} → SoFar f (many test q) whole xs ts → test ts ≡ true → q ts ≡ None → whole ≡ None
+  pub others_refused : {X : Type 0} {f : X → Y} {whole : Option (List Y × List Tok)} {xs : List X} {ts : List Tok}
+      → SoFar f (many test q) whole xs ts → test ts ≡ true → q ts ≡ None → whole ≡ None
   others_refused {f = f} {xs = xs} {ts = ts} so h e =
       let n : many test q ts ≡ None = others_at ts h ∙ rw e refl in so.is ∙ ap (prepend (map f xs)) n
 
-  pub others_end : {X : Type 0} {f : X → Y} {whole : Option (List Y × List Tok)} {xs : List X} {ts : List Tok} → SoFar f (many test q) whole xs ts → test ts ≡ false → whole ≡ Some (map f xs, ts)
+  pub others_end : {X : Type 0} {f : X → Y} {whole : Option (List Y × List Tok)} {xs : List X} {ts : List Tok}
+      → SoFar f (many test q) whole xs ts → test ts ≡ false → whole ≡ Some (map f xs, ts)
   others_end {f = f} {xs = xs} {ts = ts} so e =
-      so.is ∙ ap (prepend (map f xs)) (many_ends test q s ts e) ∙ ap (λ (zs : List Y). Some (zs, ts)) (append-nil (map f xs))
+      so.is ∙ ap (prepend (map f xs)) (many_ends test q s ts e)
+      ∙ ap (λ (zs : List Y). Some (zs, ts)) (append-nil (map f xs))
 
-  pub next_read : {X : Type 0} {f : X → Y} {whole : Option (List Y × List Tok)} {xs zs : List X} {x : X} {ts us : List Tok} → SoFar f (many test q) whole xs ts → test ts ≡ true → q ts ≡ Some (f x, us) → zs ≡ xs ++ (x ∷ []) → SoFar f (many test q) whole zs us
+  pub next_read : {X : Type 0} {f : X → Y} {whole : Option (List Y × List Tok)} {xs zs : List X} {x : X}
+      {ts us : List Tok} → SoFar f (many test q) whole xs ts → test ts ≡ true → q ts ≡ Some (f x, us)
+      → zs ≡ xs ++ (x ∷ []) → SoFar f (many test q) whole zs us
   next_read {f = f} {xs = xs} {zs = zs} {x = x} {ts = ts} {us = us} so h e same = record {
     is =
         so.is
-        ∙ ap (prepend (map f xs)) (others_at ts h ∙ bind_is q (λ y. many test q >>= λ ys. give (y ∷ ys)) ts (f x) us e) ∙ prepend_more (map f xs) (f x) (many test q) us
+        ∙ ap (prepend (map f xs)) (others_at ts h
+        ∙ bind_is q (λ y. many test q >>= λ ys. give (y ∷ ys)) ts (f x) us e)
+        ∙ prepend_more (map f xs) (f x) (many test q) us
         ∙ ap (λ (ys : List Y). prepend ys (many test q us)) (pushed f xs zs x same);
   }
 

@@ -45,7 +45,8 @@ semicolon_free : (more : List Part) → IsApart kind.Semicolon more
 semicolon_free = free kind.Semicolon (λ j. refl)
 
 -- What stands apart from a name stands apart from a constant.
-free_as_name : (k : Kind) → ((j : Kind) → joins k j ≡ joins kind.Id j) → (more : List Part) → IsApart kind.Id more → IsApart k more
+free_as_name : (k : Kind) → ((j : Kind) → joins k j ≡ joins kind.Id j) → (more : List Part) → IsApart kind.Id more
+    → IsApart k more
 free_as_name k h [] apart = tt
 free_as_name k h (shown j w ∷ more) apart = h j ∙ apart
 free_as_name k h (space ∷ more) apart = tt
@@ -94,8 +95,10 @@ operation_fits o a b left right more tail =
     (left (space ∷ fixed (kind_of o) ∷ space ∷ (operand_parts b ++ more)) (spaced (fixed (kind_of o) ∷ space ∷ (operand_parts b ++ more)) (operator_spelled o, tt, right more tail)))
 
 operand_fits : (e : Expression Name) → ExpressionInGrammar e → Fits (operand_parts e)
-operand_fits (const false) ok more tail = (inl (reserved refl), free_as_name kind.Zero (λ j. refl) more tail.free, tail.apart)
-operand_fits (const true) ok more tail = (inl (reserved refl), free_as_name kind.One (λ j. refl) more tail.free, tail.apart)
+operand_fits (const false) ok more tail =
+    (inl (reserved refl), free_as_name kind.Zero (λ j. refl) more tail.free, tail.apart)
+operand_fits (const true) ok more tail =
+    (inl (reserved refl), free_as_name kind.One (λ j. refl) more tail.free, tail.apart)
 operand_fits (var x) ok more tail = name_fits x ok more tail
 operand_fits (negation e) ok more tail = (inr refl, not_free e more, operand_fits e ok more tail)
 operand_fits (two o a b) ok more tail = parens_fit (operation o (operand_parts a) (operand_parts b)) (operation_fits o a b (operand_fits a ok.0) (operand_fits b ok.1)) more tail.apart

@@ -212,18 +212,22 @@ program_finds ts p rest e =
     carried (λ p rest. IsProgram ts p) d.second
     (is_program (declarations_found ts b.x b.us b.first) (procedures_found b.us c.x c.us c.first) (lines_found c.us d.x d.us d.first).0)
 
-pub program_is : (ts : List Tok) {us vs ws : List Tok} {gs : List Name} {ps : List Procedure} {ls : List ThreadLine} → all_declarations ts ≡ Some (gs, us) → procedures us ≡ Some (ps, vs) → thread_lines vs ≡ Some (ls, ws) → program ts ≡ Some (record { globals = gs; procedures = ps; threads = ls }, [])
+pub program_is : (ts : List Tok) {us vs ws : List Tok} {gs : List Name} {ps : List Procedure} {ls : List ThreadLine}
+    → all_declarations ts ≡ Some (gs, us) → procedures us ≡ Some (ps, vs) → thread_lines vs ≡ Some (ls, ws)
+    → program ts ≡ Some (record { globals = gs; procedures = ps; threads = ls }, [])
 unfolding program
 program_is ts {us} {vs} {ws} {gs} {ps} {ls} d m t =
     bind_is all_declarations after_globals ts gs us d
     ∙ bind_is procedures (after_procedures gs) us ps vs m
     ∙ bind_is thread_lines (λ ls. give (record { globals = gs; procedures = ps; threads = ls })) vs ls ws t
-    ∙ ap (λ (rest : List Tok). Some (record { globals = gs; procedures = ps; threads = ls }, rest)) (lines_found vs ls ws t).1
+    ∙ ap (λ (rest : List Tok). Some (record { globals = gs; procedures = ps; threads = ls }, rest))
+    (lines_found vs ls ws t).1
 
 pub program_reads : (ts : List Tok) (p : Tree) → IsProgram ts p → program ts ≡ Some (p, [])
 unfolding same_kind
 program_reads ts p (is_program {us = us} {vs = vs} {globals = gs} {procedures = ps} {threads = ls} d m t) =
-    program_is ts (declarations_read ts gs us d (by_procedure m)) (procedures_read us ps vs m (by_line t)) (lines_read vs ls t)
+    program_is ts (declarations_read ts gs us d (by_procedure m)) (procedures_read us ps vs m (by_line t))
+    (lines_read vs ls t)
   where
     by_name : {ts us : List Tok} {n : Name} → IsName ts n us → begins kind.Decl ts ≡ false
     by_name (is_name e) = rw e refl

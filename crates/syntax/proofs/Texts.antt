@@ -42,10 +42,22 @@ module _ (A : Type 0) (bytes : List ℕ) (tokens : List Tok) (within : length by
     fault : IfErr r (λ e. Stands e bytes);
   }
 
-  pub text_read : (r : Result (Program A) ReadFault) → Gives {X = Program A} {Y = Tree × List Tok} (λ p. (tree_of p, [])) r (program tokens) → Right r
+  pub text_read : (r : Result (Program A) ReadFault)
+      → Gives {X = Program A} {Y = Tree × List Tok} (λ p. (tree_of p, [])) r (program tokens) → Right r
   text_read (Ok p) gives = record {
-    found = record { within = within; ascii = ascii; tokens = tokens; cut = cut; shallow = shallow; program = program_finds tokens (tree_of p) [] gives };
+    found = record {
+      within = within;
+      ascii = ascii;
+      tokens = tokens;
+      cut = cut;
+      shallow = shallow;
+      program = program_finds tokens (tree_of p) [] gives;
+    };
     only = λ tree text. sym (both (sym (reads tree text) ∙ gives)).0;
     fault = tt;
   }
-  text_read (Err e) gives = record { found = tt; only = λ tree text. only_memory e tree text gives; fault = stands e gives }
+  text_read (Err e) gives = record {
+    found = tt;
+    only = λ tree text. only_memory e tree text gives;
+    fault = stands e gives;
+  }

@@ -85,7 +85,8 @@ fn print_assignment<N: Allocator, A: Allocator>(
     targets: &[Name<N>],
     sides: &[Rhs<N>],
 ) -> Result<(), AllocError>
-    ensures { Prints result out.old out.new (deed_parts 0 (simple (assign (names_of targets.now) (rhss_of sides.now)))) }
+    ensures { Prints result out.old out.new
+        (deed_parts 0 (simple (assign (names_of targets.now) (rhss_of sides.now)))) }
 {
     print_list(out, targets)?;
     out.push_str(" := ")?;

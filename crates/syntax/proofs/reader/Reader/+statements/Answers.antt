@@ -12,18 +12,23 @@ use Rattle.syntax.proofs.reader.Reader.+statements.Goals as goal
 
 pub branch-returns-in_err-yes-clause-gives : goal.branch-returns-in_err-yes-clause-gives
 branch-returns-in_err-yes-clause-gives g t c =
-    refused _ c.from_residual-in_err-yes.result _ (section_behind kind.Then (toks_of c.in_ok-side.opened.now)) _ c.from_residual-in_err-yes.ensures.1
+    refused _ c.from_residual-in_err-yes.result _ (section_behind kind.Then (toks_of c.in_ok-side.opened.now)) _
+    c.from_residual-in_err-yes.ensures.1
     (if_no_yes (toks_of c.args.tokens.now) c.in_ok-side.ensures.gives) c.in_err-yes.ensures.gives
 
 pub branch-returns-in_err-no-clause-gives : goal.branch-returns-in_err-no-clause-gives
 branch-returns-in_err-no-clause-gives g t c =
-    refused _ c.from_residual-in_err-no.result _ (section_behind kind.Else (toks_of c.in_ok-yes.between.now)) _ c.from_residual-in_err-no.ensures.1
-    (if_no_no (toks_of c.args.tokens.now) c.in_ok-side.ensures.gives c.in_ok-yes.ensures.gives) c.in_err-no.ensures.gives
+    refused _ c.from_residual-in_err-no.result _ (section_behind kind.Else (toks_of c.in_ok-yes.between.now)) _
+    c.from_residual-in_err-no.ensures.1
+    (if_no_no (toks_of c.args.tokens.now) c.in_ok-side.ensures.gives c.in_ok-yes.ensures.gives)
+    c.in_err-no.ensures.gives
 
 pub branch-returns-in_err-rest-clause-gives : goal.branch-returns-in_err-rest-clause-gives
 branch-returns-in_err-rest-clause-gives g t c =
-    refused _ c.from_residual-in_err-rest.result _ (take kind.Fi (toks_of c.in_ok-no.ended.now)) _ c.from_residual-in_err-rest.ensures.1
-    (if_no_end (toks_of c.args.tokens.now) c.in_ok-side.ensures.gives c.in_ok-yes.ensures.gives c.in_ok-no.ensures.gives) c.in_err-rest.ensures.gives
+    refused _ c.from_residual-in_err-rest.result _ (take kind.Fi (toks_of c.in_ok-no.ended.now)) _
+    c.from_residual-in_err-rest.ensures.1
+    (if_no_end (toks_of c.args.tokens.now) c.in_ok-side.ensures.gives c.in_ok-yes.ensures.gives
+    c.in_ok-no.ensures.gives) c.in_err-rest.ensures.gives
 
 pub branch-returns-clause-gives : goal.branch-returns-clause-gives
 branch-returns-clause-gives g t c =
@@ -37,47 +42,57 @@ branch-returns-clause-shorter g t c =
 pub core-returns-in-Skip-clause-gives : goal.core-returns-in-Skip-clause-gives
 unfolding same_kind if_deed while_deed
 core-returns-in-Skip-clause-gives g t c =
-    rw (deed_begins kind.Skip c.args.tokens.now c.in-Some.others.now c.in-Some.first.now c.in-Some.ensures.cases.0 c.in-Skip.is) (rw (deed_of-Skip g.row.A.Denot) at c.ended.ensures.gives)
+    rw (deed_begins kind.Skip c.args.tokens.now c.in-Some.others.now c.in-Some.first.now c.in-Some.ensures.cases.0
+    c.in-Skip.is) (rw (deed_of-Skip g.row.A.Denot) at c.ended.ensures.gives)
 
 pub core-returns-in-Return-clause-gives : goal.core-returns-in-Return-clause-gives
 unfolding same_kind if_deed while_deed
 core-returns-in-Return-clause-gives g t c =
-    rw (deed_begins kind.Return c.args.tokens.now c.in-Some.others.now c.in-Some.first.now c.in-Some.ensures.cases.0 c.in-Return.is) (rw (deed_of-Return g.row.A.Denot) at c.ended-in-Return.ensures.gives)
+    rw (deed_begins kind.Return c.args.tokens.now c.in-Some.others.now c.in-Some.first.now c.in-Some.ensures.cases.0
+    c.in-Return.is) (rw (deed_of-Return g.row.A.Denot) at c.ended-in-Return.ensures.gives)
 
 pub core-returns-in-Goto-clause-gives : goal.core-returns-in-Goto-clause-gives
 unfolding same_kind if_deed while_deed
 core-returns-in-Goto-clause-gives g t c =
-    rw (deed_begins kind.Goto c.args.tokens.now c.in-Some.others.now c.in-Some.first.now c.in-Some.ensures.cases.0 c.in-Goto.is) c.jumping.ensures.gives
+    rw (deed_begins kind.Goto c.args.tokens.now c.in-Some.others.now c.in-Some.first.now c.in-Some.ensures.cases.0
+    c.in-Goto.is) c.jumping.ensures.gives
 
 pub core-returns-in-Assert-clause-gives : goal.core-returns-in-Assert-clause-gives
 unfolding same_kind if_deed while_deed
 core-returns-in-Assert-clause-gives g t c =
-    rw (deed_begins kind.Assert c.args.tokens.now c.in-Some.others.now c.in-Some.first.now c.in-Some.ensures.cases.0 c.in-Assert.is) c.asserting.ensures.gives
+    rw (deed_begins kind.Assert c.args.tokens.now c.in-Some.others.now c.in-Some.first.now c.in-Some.ensures.cases.0
+    c.in-Assert.is) c.asserting.ensures.gives
 
 pub core-returns-in-Assume-clause-gives : goal.core-returns-in-Assume-clause-gives
 unfolding same_kind if_deed while_deed
 core-returns-in-Assume-clause-gives g t c =
-    rw (deed_begins kind.Assume c.args.tokens.now c.in-Some.others.now c.in-Some.first.now c.in-Some.ensures.cases.0 c.in-Assume.is) c.assuming.ensures.gives
+    rw (deed_begins kind.Assume c.args.tokens.now c.in-Some.others.now c.in-Some.first.now c.in-Some.ensures.cases.0
+    c.in-Assume.is) c.assuming.ensures.gives
 
 pub core-returns-in-If-clause-gives : goal.core-returns-in-If-clause-gives
 unfolding same_kind if_deed while_deed
 core-returns-in-If-clause-gives g t c =
-    rw (deed_begins kind.If c.args.tokens.now c.in-Some.others.now c.in-Some.first.now c.in-Some.ensures.cases.0 c.in-If.is) c.branch-self.ensures.gives
+    rw (deed_begins kind.If c.args.tokens.now c.in-Some.others.now c.in-Some.first.now c.in-Some.ensures.cases.0
+    c.in-If.is) c.branch-self.ensures.gives
 
 pub core-returns-in-While-clause-gives : goal.core-returns-in-While-clause-gives
 unfolding same_kind if_deed while_deed
 core-returns-in-While-clause-gives g t c =
-    rw (deed_begins kind.While c.args.tokens.now c.in-Some.others.now c.in-Some.first.now c.in-Some.ensures.cases.0 c.in-While.is) c.repeat.ensures.gives
+    rw (deed_begins kind.While c.args.tokens.now c.in-Some.others.now c.in-Some.first.now c.in-Some.ensures.cases.0
+    c.in-While.is) c.repeat.ensures.gives
 
 pub repeat-returns-in_err-body-clause-gives : goal.repeat-returns-in_err-body-clause-gives
 repeat-returns-in_err-body-clause-gives g t c =
-    refused _ c.from_residual-in_err-body.result _ (section_behind kind.Do (toks_of c.in_ok-side.opened.now)) _ c.from_residual-in_err-body.ensures.1
+    refused _ c.from_residual-in_err-body.result _ (section_behind kind.Do (toks_of c.in_ok-side.opened.now)) _
+    c.from_residual-in_err-body.ensures.1
     (while_no_body (toks_of c.args.tokens.now) c.in_ok-side.ensures.gives) c.in_err-body.ensures.gives
 
 pub repeat-returns-in_err-rest-clause-gives : goal.repeat-returns-in_err-rest-clause-gives
 repeat-returns-in_err-rest-clause-gives g t c =
-    refused _ c.from_residual-in_err-rest.result _ (take kind.Od (toks_of c.in_ok-body.ended.now)) _ c.from_residual-in_err-rest.ensures.1
-    (while_no_end (toks_of c.args.tokens.now) c.in_ok-side.ensures.gives c.in_ok-body.ensures.gives) c.in_err-rest.ensures.gives
+    refused _ c.from_residual-in_err-rest.result _ (take kind.Od (toks_of c.in_ok-body.ended.now)) _
+    c.from_residual-in_err-rest.ensures.1
+    (while_no_end (toks_of c.args.tokens.now) c.in_ok-side.ensures.gives c.in_ok-body.ensures.gives)
+    c.in_err-rest.ensures.gives
 
 pub repeat-returns-clause-gives : goal.repeat-returns-clause-gives
 repeat-returns-clause-gives g t c =
@@ -108,5 +123,7 @@ statements-returns-in_err-first-clause-gives g t c =
 
 pub statements-returns-in_err-next-clause-gives : goal.statements-returns-in_err-next-clause-gives
 statements-returns-in_err-next-clause-gives g t c =
-    refused _ c.from_residual-in_err-next.result _ (item (toks_of c.loop-rest.rest.now)) _ c.from_residual-in_err-next.ensures.1
-    (λ none. c.loop-rest.invariant.whole ∙ sections_refused (items_of c.loop-rest.list.items) (toks_of c.loop-rest.rest.now) (sym c.begins_statement.ensures ∙ c.loop-rest-test.true) none) c.in_err-next.ensures.gives
+    refused _ c.from_residual-in_err-next.result _ (item (toks_of c.loop-rest.rest.now)) _
+    c.from_residual-in_err-next.ensures.1
+    (λ none. c.loop-rest.invariant.whole ∙ sections_refused (items_of c.loop-rest.list.items) (toks_of
+    c.loop-rest.rest.now) (sym c.begins_statement.ensures ∙ c.loop-rest-test.true) none) c.in_err-next.ensures.gives

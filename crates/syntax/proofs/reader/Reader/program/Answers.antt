@@ -9,4 +9,7 @@ pub repeated-requires-2 : goal.repeated-requires-2
 repeated-requires-2 g c = strict_thread_line
 
 pub returns : goal.returns
-returns g c = record { gives = program_is (toks_of c.args.tokens.now) c.in_ok-globals.ensures.gives c.in_ok-procs.ensures.gives c.in_ok-threads.ensures.gives }
+returns g c = record {
+  gives = program_is (toks_of c.args.tokens.now) c.in_ok-globals.ensures.gives
+      c.in_ok-procs.ensures.gives c.in_ok-threads.ensures.gives;
+}
