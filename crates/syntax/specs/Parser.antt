@@ -1,5 +1,6 @@
 -- Functions from token lists to what stands at their front.
-use Rattle.std.specs.Prelude.{◌≡◌, ◌<◌, ℕ, zero, suc, Bool, false, List, [], ◌∷◌, length, cond, Option, Some, None, option_and_then}
+use Rattle.std.specs.Prelude.{◌≡◌, ◌<◌, ℕ, zero, suc, Bool, false, List, [], ◌∷◌, length, cond, Option, Some}
+use Rattle.std.specs.Prelude.{None, option_and_then}
 use Rattle.tokens.specs.declared.vocabulary.Kind.{Kind}
 use Rattle.tokens.specs.Token.{Tok, same_kind}
 
