@@ -3,11 +3,14 @@ use Rattle.std.proofs.Common.{◌≡◌, ℕ, suc, ◌<◌, ◌≤◌, Bool, tru
 use Rattle.tokens.specs.declared.vocabulary.Kind.{Kind}
 use Rattle.tokens.specs.declared.vocabulary.Kind.TheVariants as kind
 use Rattle.tokens.specs.Token.{Tok, same_kind}
-use Rattle.syntax.specs.Parser.{Parser, give, ◌>>=◌, begins, take, fix, many_step, many}
-use Rattle.syntax.specs.Grammar.{Takes, takes, Behind, behind, InParens, in_parens, Many, no_more, one_more, Listed, listed, Perhaps, nothing, something}
-use Rattle.syntax.specs.Exact.{more, list, parens, perhaps}
+use Rattle.syntax.specs.Parser.{Parser, Strict, give, ◌>>=◌, begins, take, fix, many_step, many}
+use Rattle.syntax.specs.Grammar.{Takes, takes, Behind, behind, InParens, in_parens, Many, no_more, one_more}
+use Rattle.syntax.specs.Grammar.{Listed, listed, Several, several, Perhaps, nothing, something}
+use Rattle.syntax.specs.Exact.{more, list, repeated, parens, perhaps}
 use Rattle.syntax.proofs.KindTests.{same_kind-true, same_kind-is}
-use Rattle.syntax.proofs.Fixes.{both, carried, between, bind_is, Shrinks, Strict, Agree, Strict-Shrinks, Shrinks-give, Strict-take, Shrinks-bind, Strict-bind, Agree-same, Agree-bind, Agree-Strict-bind, IsStep, fix_shrinks, fix_is, Finds, fix_finds}
+use Rattle.syntax.proofs.Fixes.{both, carried, between, bind_is, Shrinks, Agree, Strict-Shrinks, Shrinks-give}
+use Rattle.syntax.proofs.Fixes.{Strict-take, Shrinks-bind, Strict-bind, Agree-same, Agree-bind}
+use Rattle.syntax.proofs.Fixes.{Agree-Strict-bind, IsStep, fix_shrinks, fix_is, Finds, fix_finds}
 use Rattle.syntax.proofs.Expressions.{take_is, take_finds}
 
 -- p reads what P says, wherever what follows is as S says, and nothing else.
@@ -128,6 +131,28 @@ module _ {X : Type 0} (test : List Tok → Bool) (p : Parser X) (strict : Strict
       next no_more s = s
       next (one_more {ts = us} {us = vs} {x = y} h t) s = joins us (starts us y vs h)
 
+-- once, and then again and again
+pub repeated_finds : {X : Type 0} (test : List Tok → Bool) {P : List Tok → X → List Tok → Type 0}
+    {S : List Tok → Type 0} {p : Parser X} → Strict p → Exactly P S p
+    → (ts : List Tok) (xs : List X) (rest : List Tok) → repeated test p ts ≡ Some (xs, rest)
+    → Several P ts xs rest × (test rest ≡ false)
+unfolding repeated
+repeated_finds test {P = P} {p = p} s is ts xs rest e =
+    let b = between p (λ x. many test p >>= λ xs. give (x ∷ xs)) ts xs rest e in
+    let c = between (many test p) (λ xs. give (b.x ∷ xs)) b.us xs rest b.second in
+    let m = many_finds test p s P is.finds b.us c.x c.us c.first in
+    carried (λ xs rest. Several P ts xs rest × (test rest ≡ false)) c.second
+    (several (is.finds ts b.x b.us b.first) m.0, m.1)
+
+pub repeated_reads : {X : Type 0} (test : List Tok → Bool) {P : List Tok → X → List Tok → Type 0} {p : Parser X}
+    → Strict p → Exactly P Anything p → ((ts : List Tok) (x : X) (us : List Tok) → P ts x us → test ts ≡ true)
+    → (ts : List Tok) (xs : List X) (rest : List Tok) → Several P ts xs rest → test rest ≡ false
+    → repeated test p ts ≡ Some (xs, rest)
+unfolding repeated
+repeated_reads test {p = p} s is starts ts xs rest (several {us = us} {x = x} {xs = ys} h m) e =
+    bind_is p (λ x. many test p >>= λ xs. give (x ∷ xs)) ts x us (is.reads ts x us h tt)
+    ∙ bind_is (many test p) (λ xs. give (x ∷ xs)) us ys rest (many_reads test p s is starts (λ us h. tt) m tt e)
+
 -- behind commas
 behind_begins : {X : Type 0} {P : List Tok → X → List Tok → Type 0} (k : Kind) (ts : List Tok) (x : X) (us : List Tok) → Behind k P ts x us → begins k ts ≡ true
 behind_begins k ts x us (behind t h) = begins_takes t
@@ -145,6 +170,7 @@ pub more_shrinks : {X : Type 0} {p : Parser X} → Strict p → Shrinks (more p)
 more_shrinks {p = p} s = many_shrinks (begins kind.Comma) (take kind.Comma >>= λ _. p) (Strict-behind kind.Comma (Strict-Shrinks s))
 
 pub Strict-list : {X : Type 0} {p : Parser X} → Strict p → Strict (list p)
+unfolding list
 Strict-list s = Strict-bind s (λ x. Shrinks-bind (more_shrinks s) (λ xs. Shrinks-give (x ∷ xs)))
 
 -- a list is read, where no comma follows
@@ -152,6 +178,7 @@ abbrev pub NoComma : (List Tok → Type 0) → List Tok → Type 0
 NoComma S ts = S ts × (begins kind.Comma ts ≡ false)
 
 pub exactly_list : {X : Type 0} {P : List Tok → X → List Tok → Type 0} {S : List Tok → Type 0} {p : Parser X} → Strict p → Exactly P S p → ((us : List Tok) → begins kind.Comma us ≡ true → S us) → Exactly (Listed P) (NoComma S) (list p)
+unfolding list
 exactly_list {X} {P} {S} {p} s is joins = record {
   finds = λ ts xs rest e.
       let b = between p (λ x. more p >>= λ xs. give (x ∷ xs)) ts xs rest e in

@@ -7,11 +7,14 @@ use Rattle.tokens.specs.declared.vocabulary.Kind.{Kind}
 use Rattle.tokens.specs.declared.vocabulary.Kind.TheVariants as kind
 use Rattle.tokens.specs.declared.vocabulary.Token.{Token}
 use Rattle.tokens.specs.Token.{Tok, same_kind, tok_of, toks_of}
-use Rattle.syntax.specs.Parser.{Parser, give, refuse, ◌>>=◌, take}
+use Rattle.syntax.specs.Parser.{Parser, Strict, give, refuse, ◌>>=◌, take}
 use Rattle.syntax.specs.Grammar.{Takes, takes, name_at, operator_at, level, left_level, right_level, Reads, reads_zero, reads_one, reads_name, reads_not, reads_paren, reads_two}
 use Rattle.syntax.specs.Exact.{Goal, from, after, binds, operand_step, go_on, expression_step, reading, operand}
 use Rattle.syntax.proofs.KindTests.{same_kind-true, same_kind-is}
-use Rattle.syntax.proofs.Fixes.{both, between, bind_is, Shrinks, Strict, Agree, Strict-Shrinks, Shrinks-give, Shrinks-refuse, Strict-take, Shrinks-bind, Agree-same, Agree-bind, Shrinks-cond, Agree-cond, IsStep, fix_shrinks, fix_is, Finds, fix_finds, carried}
+use Rattle.syntax.proofs.Fixes.{both, between, bind_is, Shrinks, Agree, Strict-Shrinks, Shrinks-give}
+use Rattle.syntax.proofs.Fixes.{Shrinks-refuse, Strict-take, Shrinks-bind, Agree-same, Agree-bind}
+use Rattle.syntax.proofs.Fixes.{Shrinks-cond, Agree-cond, IsStep, fix_shrinks, fix_is, Finds, fix_finds}
+use Rattle.syntax.proofs.Fixes.{carried}
 
 operand_shrinks : (f : Goal → Parser (Expression Name)) → ((i : Goal) → Shrinks (f i)) → (t : Tok) → Shrinks (operand_step f t)
 operand_shrinks f s t = search (s, Shrinks-cond, Shrinks-bind, Shrinks-give, Shrinks-refuse, Strict-Shrinks, Strict-take) depth 12
@@ -182,19 +185,15 @@ bound_right and (suc m) h = omega arith
 bound_right equal (suc m) h = omega arith
 bound_right differs (suc m) h = omega arith
 
-bound_bound_right : (o : Operator) (m : ℕ) → m ≤ level o → bound m ≤ bound (right_level o)
-bound_bound_right implies zero h = omega arith
-bound_bound_right implies (suc m) h = absurd (omega arith)
-bound_bound_right o zero h = omega arith
-bound_bound_right or (suc m) h = omega arith
-bound_bound_right xor (suc m) h = omega arith
-bound_bound_right and (suc m) h = omega arith
-bound_bound_right equal (suc m) h = omega arith
-bound_bound_right differs (suc m) h = omega arith
-
 bound_above : (l : ℕ) → l ≤ bound l
 bound_above zero = omega arith
 bound_above (suc l) = omega arith
+
+bound_bound_right : (o : Operator) (m : ℕ) → m ≤ level o → bound m ≤ bound (right_level o)
+bound_bound_right o m h =
+    let below : bound m ≤ right_level o = bound_right o m h in
+    let above : right_level o ≤ bound (right_level o) = bound_above (right_level o) in
+    omega arith
 
 close_stops : {l : ℕ} {us rest : List Tok} → Takes kind.Close us rest → Stops l us
 close_stops {l} (takes {t} {rest} e) = stops_at (ap (binds l) e)
@@ -403,3 +402,6 @@ reading_strict l = record { by = λ ts a rest e. by_list l ts a rest (sym (readi
     by_list l (t ∷ ts) a rest e =
         let j : length rest ≤ length ts = (Shrinks-bind (operand_shrinks reading reading_shrinks t) (λ a. reading_shrinks (after l a))).by ts a rest e in
         omega arith
+
+-- what the loop over operators does
+pub ruleset reading_steps = (starts, no_start, stops_here, stops_at_end, goes_on, no_right)

@@ -3,7 +3,7 @@ use Rattle.std.specs.Prelude.{option_and_then}
 use Rattle.std.proofs.Common.{◌≡◌, ℕ, zero, suc, ◌<◌, ◌≤◌, Bool, true, false, cond, List, [], ◌∷◌, length, Option, Some, None, refl, ap, arith}
 use Rattle.tokens.specs.declared.vocabulary.Kind.{Kind}
 use Rattle.tokens.specs.Token.{Tok, same_kind}
-use Rattle.syntax.specs.Parser.{Parser, give, refuse, ◌>>=◌, take, run, fix}
+use Rattle.syntax.specs.Parser.{Parser, Strict, give, refuse, ◌>>=◌, take, run, fix}
 
 -- the parts of what was read
 pub both : {X : Type 0} {x y : X} {ts us : List Tok} → ◌≡◌ {A = Option (X × List Tok)} (Some (x, ts)) (Some (y, us)) → (x ≡ y) × (ts ≡ us)
@@ -36,10 +36,6 @@ bind_is p f ts x us e = rw e refl
 -- what is left is no longer than what was given
 pub record Shrinks {X : Type 0} (p : Parser X) : Type 0 where
   pub by : (ts : List Tok) (x : X) (rest : List Tok) → p ts ≡ Some (x, rest) → length rest ≤ length ts
-
--- what is left is shorter than what was given
-pub record Strict {X : Type 0} (p : Parser X) : Type 0 where
-  pub by : (ts : List Tok) (x : X) (rest : List Tok) → p ts ≡ Some (x, rest) → length rest < length ts
 
 -- two parsers are one on lists shorter than n
 pub record Agree {X : Type 0} (n : ℕ) (p q : Parser X) : Type 0 where

@@ -1,14 +1,15 @@
 -- The steps of the loop that reads statements.
 use Rattle.std.specs.Prelude.{option_and_then}
 use Rattle.std.proofs.Common.{◌≡◌, true, false, List, [], ◌∷◌, ◌++◌, Option, Some, None, refl, sym, ◌∙◌, ap}
-use Rattle.language.specs.Tree.{Name, RightSide, Block, done, skip, leave}
+use Rattle.language.specs.Tree.{Name, RightSide, Block, done}
 use Rattle.tokens.specs.declared.vocabulary.Kind.{Kind}
 use Rattle.tokens.specs.declared.vocabulary.Kind.TheVariants as kind
 use Rattle.tokens.specs.declared.vocabulary.Token.{Token}
-use Rattle.tokens.specs.Token.{Tok, same_kind, toks_of}
+use Rattle.tokens.specs.Token.{Tok, toks_of}
 use Rattle.syntax.specs.Parser.{Parser, give, ◌>>=◌, take}
-use Rattle.syntax.specs.Trees.{Deed, simple, branch, repeat, Item, before, all_before}
-use Rattle.syntax.specs.Exact.{item_step, rest_step, starts_here, section, section_behind, item, going_on, put_before, condition, ended, jumping, asserting, assuming, deed, if_deed, while_deed}
+use Rattle.syntax.specs.Trees.{Deed, branch, repeat, Item, before, all_before}
+use Rattle.syntax.specs.Exact.{item_step, rest_step, starts_here, section, section_behind, item, going_on}
+use Rattle.syntax.specs.Exact.{put_before, condition, deed_by, deed, if_deed, while_deed}
 use Rattle.syntax.proofs.Fixes.{bind_is}
 use Rattle.syntax.proofs.Sections.{section_is}
 
@@ -51,6 +52,9 @@ pub sections_end : (is : List Item) (ts : List Tok) → starts_here ts ≡ false
 unfolding going_on
 sections_end is ts e = rw e refl
 
+-- what the loop over statements does
+pub ruleset section_steps = (sections_start, sections_no_start, sections_go_on, sections_refused, sections_end)
+
 -- a keyword and the statements behind it, before what comes of them
 behind : {Y : Type 0} (k : Kind) (f : Block Name Name Name → Parser Y) (ts : List Tok) → (take k >>= λ _. (section >>= f)) ts ≡ (section_behind k >>= f) ts
 unfolding section_behind
@@ -66,6 +70,20 @@ behind_none k f ts e = behind k f ts ∙ rw e refl
 behind_some : {Y : Type 0} (k : Kind) (f : Block Name Name Name → Parser Y) (ts : List Tok) (a : Block Name Name Name) (us : List Tok) → section_behind k ts ≡ Some (a, us) → (take k >>= λ _. (section >>= f)) ts ≡ f a us
 behind_some k f ts a us e = behind k f ts ∙ bind_is (section_behind k) f ts a us e
 
+-- a test, and the statements behind it
+abbrev headed : Kind → (RightSide Name → Block Name Name Name → Parser Deed) → Parser Deed
+headed k f = condition >>= λ r. take k >>= λ _. (section >>= f r)
+
+module _ (k : Kind) (f : RightSide Name → Block Name Name Name → Parser Deed) (ts : List Tok) {r : RightSide Name}
+    {t1 : List Tok} (e1 : condition ts ≡ Some (r, t1)) where
+  headed_none : section_behind k t1 ≡ None → headed k f ts ≡ None
+  headed_none e = bind_is condition (λ r. take k >>= λ _. (section >>= f r)) ts r t1 e1 ∙ behind_none k (f r) t1 e
+
+  headed_some : {t2 : List Tok} {a : Block Name Name Name} → section_behind k t1 ≡ Some (a, t2) → headed k f ts
+      ≡ f r a t2
+  headed_some {t2} {a} e = bind_is condition (λ r. take k >>= λ _. (section >>= f r)) ts r t1 e1
+      ∙ behind_some k (f r) t1 a t2 e
+
 -- the steps of an `if`
 abbrev after_no : RightSide Name → Block Name Name Name → Block Name Name Name → Parser Deed
 after_no r a b = take kind.Fi >>= λ _. give (branch r a b)
@@ -73,20 +91,15 @@ after_no r a b = take kind.Fi >>= λ _. give (branch r a b)
 abbrev after_yes : RightSide Name → Block Name Name Name → Parser Deed
 after_yes r a = take kind.Else >>= λ _. (section >>= λ b. after_no r a b)
 
-abbrev after_test : RightSide Name → Parser Deed
-after_test r = take kind.Then >>= λ _. (section >>= λ a. after_yes r a)
-
 module _ (ts : List Tok) {r : RightSide Name} {t1 : List Tok} (e1 : condition ts ≡ Some (r, t1)) where
-  if_test : if_deed ts ≡ after_test r t1
-  unfolding if_deed
-  if_test = bind_is condition after_test ts r t1 e1
-
   pub if_no_yes : section_behind kind.Then t1 ≡ None → if_deed ts ≡ None
-  if_no_yes e = if_test ∙ behind_none kind.Then (after_yes r) t1 e
+  unfolding if_deed
+  if_no_yes = headed_none kind.Then after_yes ts e1
 
   module _ {t2 : List Tok} {a : Block Name Name Name} (e2 : section_behind kind.Then t1 ≡ Some (a, t2)) where
     if_yes : if_deed ts ≡ after_yes r a t2
-    if_yes = if_test ∙ behind_some kind.Then (after_yes r) t1 a t2 e2
+    unfolding if_deed
+    if_yes = headed_some kind.Then after_yes ts e1 e2
 
     pub if_no_no : section_behind kind.Else t2 ≡ None → if_deed ts ≡ None
     if_no_no e = if_yes ∙ behind_none kind.Else (after_no r a) t2 e
@@ -106,16 +119,14 @@ abbrev after_body : RightSide Name → Block Name Name Name → Parser Deed
 after_body r a = take kind.Od >>= λ _. give (repeat r a)
 
 module _ (ts : List Tok) {r : RightSide Name} {t1 : List Tok} (e1 : condition ts ≡ Some (r, t1)) where
-  while_test : while_deed ts ≡ (take kind.Do >>= λ _. (section >>= after_body r)) t1
-  unfolding while_deed
-  while_test = bind_is condition (λ r. take kind.Do >>= λ _. (section >>= after_body r)) ts r t1 e1
-
   pub while_no_body : section_behind kind.Do t1 ≡ None → while_deed ts ≡ None
-  while_no_body e = while_test ∙ behind_none kind.Do (after_body r) t1 e
+  unfolding while_deed
+  while_no_body = headed_none kind.Do after_body ts e1
 
   module _ {t2 : List Tok} {a : Block Name Name Name} (e2 : section_behind kind.Do t1 ≡ Some (a, t2)) where
     while_body : while_deed ts ≡ after_body r a t2
-    while_body = while_test ∙ behind_some kind.Do (after_body r) t1 a t2 e2
+    unfolding while_deed
+    while_body = headed_some kind.Do after_body ts e1 e2
 
     pub while_no_end : take kind.Od t2 ≡ None → while_deed ts ≡ None
     while_no_end e = while_body ∙ rw e refl
@@ -123,31 +134,8 @@ module _ (ts : List Tok) {r : RightSide Name} {t1 : List Tok} (e1 : condition ts
     pub while_whole : {t3 : List Tok} {z : Tok} → take kind.Od t2 ≡ Some (z, t3) → while_deed ts ≡ Some (repeat r a, t3)
     while_whole {t3} {z} e = while_body ∙ bind_is (take kind.Od) (λ _. give (repeat r a)) t2 z t3 e
 
--- statements by their first word
-pub deed_skip : (ts us : List Token) (t : Token) → ts ≡ t ∷ us → t.kind ≡ kind.Skip → deed (toks_of ts) ≡ ended (simple skip) (toks_of us)
-unfolding deed same_kind
-deed_skip ts us t e is = rw (e, is) refl
-
-pub deed_return : (ts us : List Token) (t : Token) → ts ≡ t ∷ us → t.kind ≡ kind.Return → deed (toks_of ts) ≡ ended (simple leave) (toks_of us)
-unfolding deed same_kind
-deed_return ts us t e is = rw (e, is) refl
-
-pub deed_goto : (ts us : List Token) (t : Token) → ts ≡ t ∷ us → t.kind ≡ kind.Goto → deed (toks_of ts) ≡ jumping (toks_of us)
-unfolding deed if_deed while_deed same_kind
-deed_goto ts us t e is = rw (e, is) refl
-
-pub deed_assert : (ts us : List Token) (t : Token) → ts ≡ t ∷ us → t.kind ≡ kind.Assert → deed (toks_of ts) ≡ asserting (toks_of us)
-unfolding deed if_deed while_deed same_kind
-deed_assert ts us t e is = rw (e, is) refl
-
-pub deed_assume : (ts us : List Token) (t : Token) → ts ≡ t ∷ us → t.kind ≡ kind.Assume → deed (toks_of ts) ≡ assuming (toks_of us)
-unfolding deed if_deed while_deed same_kind
-deed_assume ts us t e is = rw (e, is) refl
-
-pub deed_if : (ts us : List Token) (t : Token) → ts ≡ t ∷ us → t.kind ≡ kind.If → deed (toks_of ts) ≡ if_deed (toks_of us)
-unfolding deed if_deed while_deed same_kind
-deed_if ts us t e is = rw (e, is) refl
-
-pub deed_while : (ts us : List Token) (t : Token) → ts ≡ t ∷ us → t.kind ≡ kind.While → deed (toks_of ts) ≡ while_deed (toks_of us)
-unfolding deed if_deed while_deed same_kind
-deed_while ts us t e is = rw (e, is) refl
+-- what a statement does is read as its first word says
+pub deed_begins : (k : Kind) (ts us : List Token) (t : Token) → ts ≡ t ∷ us → t.kind ≡ k → deed (toks_of ts)
+    ≡ deed_by section (record { kind = k; at = t.at; text = t.text.now }) (toks_of us)
+unfolding deed
+deed_begins k ts us t e is = rw (e, is) refl

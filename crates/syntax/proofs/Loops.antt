@@ -2,17 +2,15 @@
 use Rattle.std.proofs.Common.{◌≡◌, Bool, true, false, List, [], ◌∷◌, ◌++◌, Option, Some, None, refl, sym, ◌∙◌, ap, append_assoc, append-nil}
 use Rattle.std.proofs.lemmas.List.{map-append}
 use Rattle.std.specs.Prelude.{option_and_then, map}
-use Rattle.language.specs.Tree.{Name, Expression, RightSide, Procedure, ThreadLine}
+use Rattle.language.specs.Tree.{Name}
 use Rattle.tokens.specs.declared.vocabulary.Kind.TheVariants as kind
 use Rattle.tokens.specs.Token.{Tok}
-use Rattle.syntax.specs.Parser.{Parser, give, ◌>>=◌, begins, take, many}
-use Rattle.syntax.specs.Exact.{name, more, list, expression, right, names, rights, expressions, more_names, more_rights, more_expressions, prepend, declaration, all_declarations, procedure, procedures, more_procedures, any_left, thread_line, thread_lines, more_lines}
+use Rattle.syntax.specs.Parser.{Parser, Strict, give, ◌>>=◌, begins, many}
+use Rattle.syntax.specs.Exact.{prepend, declaration, all_declarations}
 use Rattle.syntax.specs.Grammar.{joined}
-use Rattle.syntax.proofs.Fixes.{bind_is, Strict, Strict-Shrinks}
-use Rattle.syntax.proofs.Exactly.{many_is, many_ends, Strict-behind, begins_takes}
-use Rattle.syntax.proofs.Expressions.{take_finds}
-use Rattle.syntax.proofs.Parts.{strict_name, strict_right, strict_expression}
-use Rattle.syntax.proofs.Programs.{strict_declaration, strict_procedure, strict_thread_line}
+use Rattle.syntax.proofs.Fixes.{bind_is}
+use Rattle.syntax.proofs.Exactly.{many_is, many_ends}
+use Rattle.syntax.proofs.Programs.{strict_declaration}
 
 -- what an append leaves, seen by a view
 pub appended : {X Y : Type 0} (f : X → Y) (xs ys zs : List X) → zs ≡ xs ++ ys → map f xs ++ map f ys ≡ map f zs
@@ -33,108 +31,54 @@ prepend_first : {X : Type 0} (x : X) (r : Option (List X × List Tok)) → optio
 prepend_first x None = refl
 prepend_first x (Some q) = refl
 
-module _ {X : Type 0} (p : Parser X) (s : Strict p) where
-  list_start : (ts : List Tok) (x : X) (us : List Tok) → p ts ≡ Some (x, us) → list p ts ≡ prepend (x ∷ []) (more p us)
-  list_start ts x us e = bind_is p (λ x. more p >>= λ xs. give (x ∷ xs)) ts x us e ∙ prepend_first x (more p us)
+-- p, and then q while a test holds
+abbrev pub and_more : {X : Type 0} → (List Tok → Bool) → Parser X → Parser X → Parser (List X)
+and_more test p q = p >>= λ x. many test q >>= λ xs. give (x ∷ xs)
 
-  list_no_start : (ts : List Tok) → p ts ≡ None → list p ts ≡ None
-  list_no_start ts e = rw e refl
+-- What is read so far, with what is read from here on, is the whole.
+pub record SoFar {X Y : Type 0} (f : X → Y) (more : Parser (List Y)) (whole : Option (List Y × List Tok))
+    (xs : List X) (ts : List Tok) : Type 0 where
+  pub is : whole ≡ prepend (map f xs) (more ts)
 
-  more_at : (ts : List Tok) (t : Tok) (us : List Tok) → take kind.Comma ts ≡ Some (t, us) → more p ts ≡ (p >>= λ x. more p >>= λ xs. give (x ∷ xs)) us
-  more_at ts t us e =
-      let h = begins_takes (take_finds kind.Comma ts t us e).0 in
-      many_is (begins kind.Comma) (take kind.Comma >>= λ _. p) (Strict-behind kind.Comma (Strict-Shrinks s)) ts ∙ rw (h, e) refl
+pub first_read : {X Y : Type 0} (f : X → Y) (test : List Tok → Bool) (p q : Parser Y) (ts : List Tok) {x : X}
+    {us : List Tok} {xs : List X} → p ts ≡ Some (f x, us) → xs ≡ x ∷ []
+    → SoFar f (many test q) (and_more test p q ts) xs us
+first_read {Y = Y} f test p q ts {x} {us} {xs} e same = record {
+  is =
+      bind_is p (λ y. many test q >>= λ ys. give (y ∷ ys)) ts (f x) us e ∙ prepend_first (f x) (many test q us)
+      ∙ ap (λ (ys : List Y). prepend ys (many test q us)) (pushed f [] xs x same);
+}
 
-  more_go_on : (xs : List X) (ts : List Tok) (t : Tok) (us : List Tok) (x : X) (vs : List Tok) → take kind.Comma ts ≡ Some (t, us) → p us ≡ Some (x, vs) → prepend xs (more p ts) ≡ prepend (xs ++ (x ∷ [])) (more p vs)
-  more_go_on xs ts t us x vs e f =
-      ap (prepend xs) (more_at ts t us e ∙ bind_is p (λ x. more p >>= λ xs. give (x ∷ xs)) us x vs f) ∙ prepend_more xs x (more p) vs
+pub first_refused : {Y : Type 0} (test : List Tok → Bool) (p q : Parser Y) (ts : List Tok) → p ts ≡ None
+    → and_more test p q ts ≡ None
+first_refused test p q ts e = rw e refl
 
-  more_refused : (xs : List X) (ts : List Tok) (t : Tok) (us : List Tok) → take kind.Comma ts ≡ Some (t, us) → p us ≡ None → prepend xs (more p ts) ≡ None
-  more_refused xs ts t us e f = let h : more p ts ≡ None = more_at ts t us e ∙ rw f refl in ap (prepend xs) h
+module _ {Y : Type 0} (test : List Tok → Bool) (q : Parser Y) (s : Strict q) where
+  others_at : (ts : List Tok) → test ts ≡ true → many test q ts ≡ and_more test q q ts
+  others_at ts h = many_is test q s ts ∙ rw h refl
 
-  more_end : (xs : List X) (ts : List Tok) → begins kind.Comma ts ≡ false → prepend xs (more p ts) ≡ Some (xs, ts)
-  more_end xs ts e = ap (prepend xs) (many_ends (begins kind.Comma) (take kind.Comma >>= λ _. p) (Strict-behind kind.Comma (Strict-Shrinks s)) ts e) ∙ ap (λ (zs : List X). Some (zs, ts)) (append-nil xs)
+  pub others_refused : {X : Type 0} {f : X → Y} {whole : Option (List Y × List Tok)} {xs : List X} {ts : List Tok}
+      → SoFar f (many test q) whole xs ts → test ts ≡ true → q ts ≡ None → whole ≡ None
+  others_refused {f = f} {xs = xs} {ts = ts} so h e =
+      let n : many test q ts ≡ None = others_at ts h ∙ rw e refl in so.is ∙ ap (prepend (map f xs)) n
 
--- names
-pub names_start : (ts : List Tok) (x : Name) (us : List Tok) → name ts ≡ Some (x, us) → names ts ≡ prepend (x ∷ []) (more_names us)
-unfolding names more_names
-names_start = list_start name strict_name
+  pub others_end : {X : Type 0} {f : X → Y} {whole : Option (List Y × List Tok)} {xs : List X} {ts : List Tok}
+      → SoFar f (many test q) whole xs ts → test ts ≡ false → whole ≡ Some (map f xs, ts)
+  others_end {f = f} {xs = xs} {ts = ts} so e =
+      so.is ∙ ap (prepend (map f xs)) (many_ends test q s ts e)
+      ∙ ap (λ (zs : List Y). Some (zs, ts)) (append-nil (map f xs))
 
-pub names_no_start : (ts : List Tok) → name ts ≡ None → names ts ≡ None
-unfolding names
-names_no_start = list_no_start name strict_name
-
-pub names_go_on : (xs : List Name) (ts : List Tok) (t : Tok) (us : List Tok) (x : Name) (vs : List Tok) → take kind.Comma ts ≡ Some (t, us) → name us ≡ Some (x, vs) → prepend xs (more_names ts) ≡ prepend (xs ++ (x ∷ [])) (more_names vs)
-unfolding more_names
-names_go_on = more_go_on name strict_name
-
-pub names_refused : (xs : List Name) (ts : List Tok) (t : Tok) (us : List Tok) → take kind.Comma ts ≡ Some (t, us) → name us ≡ None → prepend xs (more_names ts) ≡ None
-unfolding more_names
-names_refused = more_refused name strict_name
-
-pub names_end : (xs : List Name) (ts : List Tok) → begins kind.Comma ts ≡ false → prepend xs (more_names ts) ≡ Some (xs, ts)
-unfolding more_names
-names_end = more_end name strict_name
-
--- right sides
-pub rights_start : (ts : List Tok) (x : RightSide Name) (us : List Tok) → right ts ≡ Some (x, us) → rights ts ≡ prepend (x ∷ []) (more_rights us)
-unfolding rights more_rights
-rights_start = list_start right strict_right
-
-pub rights_no_start : (ts : List Tok) → right ts ≡ None → rights ts ≡ None
-unfolding rights
-rights_no_start = list_no_start right strict_right
-
-pub rights_go_on : (xs : List (RightSide Name)) (ts : List Tok) (t : Tok) (us : List Tok) (x : RightSide Name) (vs : List Tok) → take kind.Comma ts ≡ Some (t, us) → right us ≡ Some (x, vs) → prepend xs (more_rights ts) ≡ prepend (xs ++ (x ∷ [])) (more_rights vs)
-unfolding more_rights
-rights_go_on = more_go_on right strict_right
-
-pub rights_refused : (xs : List (RightSide Name)) (ts : List Tok) (t : Tok) (us : List Tok) → take kind.Comma ts ≡ Some (t, us) → right us ≡ None → prepend xs (more_rights ts) ≡ None
-unfolding more_rights
-rights_refused = more_refused right strict_right
-
-pub rights_end : (xs : List (RightSide Name)) (ts : List Tok) → begins kind.Comma ts ≡ false → prepend xs (more_rights ts) ≡ Some (xs, ts)
-unfolding more_rights
-rights_end = more_end right strict_right
-
--- expressions
-pub expressions_start : (ts : List Tok) (x : Expression Name) (us : List Tok) → expression ts ≡ Some (x, us) → expressions ts ≡ prepend (x ∷ []) (more_expressions us)
-unfolding expressions more_expressions
-expressions_start = list_start expression strict_expression
-
-pub expressions_no_start : (ts : List Tok) → expression ts ≡ None → expressions ts ≡ None
-unfolding expressions
-expressions_no_start = list_no_start expression strict_expression
-
-pub expressions_go_on : (xs : List (Expression Name)) (ts : List Tok) (t : Tok) (us : List Tok) (x : Expression Name) (vs : List Tok) → take kind.Comma ts ≡ Some (t, us) → expression us ≡ Some (x, vs) → prepend xs (more_expressions ts) ≡ prepend (xs ++ (x ∷ [])) (more_expressions vs)
-unfolding more_expressions
-expressions_go_on = more_go_on expression strict_expression
-
-pub expressions_refused : (xs : List (Expression Name)) (ts : List Tok) (t : Tok) (us : List Tok) → take kind.Comma ts ≡ Some (t, us) → expression us ≡ None → prepend xs (more_expressions ts) ≡ None
-unfolding more_expressions
-expressions_refused = more_refused expression strict_expression
-
-pub expressions_end : (xs : List (Expression Name)) (ts : List Tok) → begins kind.Comma ts ≡ false → prepend xs (more_expressions ts) ≡ Some (xs, ts)
-unfolding more_expressions
-expressions_end = more_end expression strict_expression
-
--- lists with a first, and others while a test holds
-module _ {X : Type 0} (test : List Tok → Bool) (p : Parser X) (s : Strict p) where
-  some_start : (ts : List Tok) (x : X) (us : List Tok) → p ts ≡ Some (x, us) → (p >>= λ x. many test p >>= λ xs. give (x ∷ xs)) ts ≡ prepend (x ∷ []) (many test p us)
-  some_start ts x us e = bind_is p (λ x. many test p >>= λ xs. give (x ∷ xs)) ts x us e ∙ prepend_first x (many test p us)
-
-  others_at : (ts : List Tok) → test ts ≡ true → many test p ts ≡ (p >>= λ x. many test p >>= λ xs. give (x ∷ xs)) ts
-  others_at ts h = many_is test p s ts ∙ rw h refl
-
-  others_go_on : (xs : List X) (ts : List Tok) (x : X) (us : List Tok) → test ts ≡ true → p ts ≡ Some (x, us) → prepend xs (many test p ts) ≡ prepend (xs ++ (x ∷ [])) (many test p us)
-  others_go_on xs ts x us h e =
-      ap (prepend xs) (others_at ts h ∙ bind_is p (λ x. many test p >>= λ xs. give (x ∷ xs)) ts x us e) ∙ prepend_more xs x (many test p) us
-
-  others_refused : (xs : List X) (ts : List Tok) → test ts ≡ true → p ts ≡ None → prepend xs (many test p ts) ≡ None
-  others_refused xs ts h e = let f : many test p ts ≡ None = others_at ts h ∙ rw e refl in ap (prepend xs) f
-
-  others_end : (xs : List X) (ts : List Tok) → test ts ≡ false → prepend xs (many test p ts) ≡ Some (xs, ts)
-  others_end xs ts e = ap (prepend xs) (many_ends test p s ts e) ∙ ap (λ (zs : List X). Some (zs, ts)) (append-nil xs)
+  pub next_read : {X : Type 0} {f : X → Y} {whole : Option (List Y × List Tok)} {xs zs : List X} {x : X}
+      {ts us : List Tok} → SoFar f (many test q) whole xs ts → test ts ≡ true → q ts ≡ Some (f x, us)
+      → zs ≡ xs ++ (x ∷ []) → SoFar f (many test q) whole zs us
+  next_read {f = f} {xs = xs} {zs = zs} {x = x} {ts = ts} {us = us} so h e same = record {
+    is =
+        so.is
+        ∙ ap (prepend (map f xs)) (others_at ts h
+        ∙ bind_is q (λ y. many test q >>= λ ys. give (y ∷ ys)) ts (f x) us e)
+        ∙ prepend_more (map f xs) (f x) (many test q) us
+        ∙ ap (λ (ys : List Y). prepend ys (many test q us)) (pushed f xs zs x same);
+  }
 
 -- declarations, one list after the other
 pub declarations_go_on : (xs : List Name) (ts : List Tok) (ns : List Name) (us : List Tok) → begins kind.Decl ts ≡ true → declaration ts ≡ Some (ns, us) → prepend xs (all_declarations ts) ≡ prepend (xs ++ ns) (all_declarations us)
@@ -164,45 +108,5 @@ pub prepend_nothing : {X : Type 0} (r : Option (List X × List Tok)) → r ≡ p
 prepend_nothing None = refl
 prepend_nothing (Some q) = refl
 
--- procedures
-pub procedures_start : (ts : List Tok) (x : Procedure) (us : List Tok) → procedure ts ≡ Some (x, us) → procedures ts ≡ prepend (x ∷ []) (more_procedures us)
-unfolding procedures more_procedures
-procedures_start = some_start (begins kind.Id) procedure strict_procedure
-
-pub procedures_no_start : (ts : List Tok) → procedure ts ≡ None → procedures ts ≡ None
-unfolding procedures
-procedures_no_start ts e = rw e refl
-
-pub procedures_go_on : (xs : List Procedure) (ts : List Tok) (x : Procedure) (us : List Tok) → begins kind.Id ts ≡ true → procedure ts ≡ Some (x, us) → prepend xs (more_procedures ts) ≡ prepend (xs ++ (x ∷ [])) (more_procedures us)
-unfolding more_procedures
-procedures_go_on = others_go_on (begins kind.Id) procedure strict_procedure
-
-pub procedures_refused : (xs : List Procedure) (ts : List Tok) → begins kind.Id ts ≡ true → procedure ts ≡ None → prepend xs (more_procedures ts) ≡ None
-unfolding more_procedures
-procedures_refused = others_refused (begins kind.Id) procedure strict_procedure
-
-pub procedures_end : (xs : List Procedure) (ts : List Tok) → begins kind.Id ts ≡ false → prepend xs (more_procedures ts) ≡ Some (xs, ts)
-unfolding more_procedures
-procedures_end = others_end (begins kind.Id) procedure strict_procedure
-
--- thread lines
-pub lines_start : (ts : List Tok) (x : ThreadLine) (us : List Tok) → thread_line ts ≡ Some (x, us) → thread_lines ts ≡ prepend (x ∷ []) (more_lines us)
-unfolding thread_lines more_lines
-lines_start = some_start any_left thread_line strict_thread_line
-
-pub lines_no_start : (ts : List Tok) → thread_line ts ≡ None → thread_lines ts ≡ None
-unfolding thread_lines
-lines_no_start ts e = rw e refl
-
-pub lines_go_on : (xs : List ThreadLine) (ts : List Tok) (x : ThreadLine) (us : List Tok) → any_left ts ≡ true → thread_line ts ≡ Some (x, us) → prepend xs (more_lines ts) ≡ prepend (xs ++ (x ∷ [])) (more_lines us)
-unfolding more_lines
-lines_go_on = others_go_on any_left thread_line strict_thread_line
-
-pub lines_refused : (xs : List ThreadLine) (ts : List Tok) → any_left ts ≡ true → thread_line ts ≡ None → prepend xs (more_lines ts) ≡ None
-unfolding more_lines
-lines_refused = others_refused any_left thread_line strict_thread_line
-
-pub lines_end : (xs : List ThreadLine) (ts : List Tok) → any_left ts ≡ false → prepend xs (more_lines ts) ≡ Some (xs, [])
-unfolding more_lines
-lines_end xs [] e = others_end any_left thread_line strict_thread_line xs [] e
-lines_end xs (t ∷ ts) e = cc
+-- what the loop over declarations does
+pub ruleset declaration_steps = (declarations_go_on, declarations_refused, declarations_end, prepend_nothing)

@@ -4,11 +4,11 @@ use Rattle.language.specs.Tree.{Name, Expression, RightSide, any, value}
 use Rattle.tokens.specs.declared.vocabulary.Kind.{Kind}
 use Rattle.tokens.specs.declared.vocabulary.Kind.TheVariants as kind
 use Rattle.tokens.specs.Token.{Tok, same_kind}
-use Rattle.syntax.specs.Parser.{give, ◌>>=◌, begins, take}
+use Rattle.syntax.specs.Parser.{Strict, give, ◌>>=◌, begins, take}
 use Rattle.syntax.specs.Grammar.{Takes, takes, name_at, Reads, reads_zero, reads_one, reads_name, reads_not, reads_paren, reads_two, IsName, is_name, InParens, Listed, Perhaps, IsExpression, IsRight, is_any, is_value}
-use Rattle.syntax.specs.Exact.{binds, name, names, expression, right, rights, formals, arguments, condition}
+use Rattle.syntax.specs.Exact.{binds, name, names, expression, right, rights, formals, arguments, enclosed, condition}
 use Rattle.syntax.proofs.KindTests.{same_kind-true, same_kind-is}
-use Rattle.syntax.proofs.Fixes.{carried, between, bind_is, Strict, Strict-Shrinks, Shrinks-give, Strict-take, Strict-bind}
+use Rattle.syntax.proofs.Fixes.{carried, between, bind_is, Strict-Shrinks, Shrinks-give, Strict-take, Strict-bind}
 use Rattle.syntax.proofs.Expressions.{Stops, stops_end, stops_at, take_is, take_finds, reading_finds, reading_complete, reading_strict}
 use Rattle.syntax.proofs.Exactly.{Exactly, Anything, chosen, begins_takes, NoComma, exactly_list, exactly_parens, exactly_perhaps, Strict-list, strict_parens, shrinks_perhaps}
 
@@ -106,19 +106,15 @@ semicolon_stops us rest (takes e) = stops_at (ap (binds 0) e)
 
 -- lists of names and right sides, formals, arguments, tests
 pub exactly_names : Exactly (Listed IsName) (NoComma Anything) names
-unfolding names
 exactly_names = exactly_list strict_name exactly_name (λ us e. tt)
 
 pub strict_names : Strict names
-unfolding names
 strict_names = Strict-list strict_name
 
 pub exactly_rights : Exactly (Listed IsRight) (NoComma (Stops 0)) rights
-unfolding rights
 exactly_rights = exactly_list strict_right exactly_right comma_stops
 
 pub strict_rights : Strict rights
-unfolding rights
 strict_rights = Strict-list strict_right
 
 name_begins : (ts : List Tok) (x : Name) (us : List Tok) → IsName ts x us → begins kind.Close ts ≡ false
@@ -126,11 +122,11 @@ unfolding same_kind
 name_begins ts x us (is_name e) = rw e refl
 
 pub exactly_formals : Exactly (InParens (Perhaps IsName)) Anything formals
-unfolding formals
+unfolding enclosed
 exactly_formals = exactly_parens (exactly_perhaps strict_name exactly_name (λ us e. tt) (λ us rest t. tt) name_begins) (λ us rest t. begins_takes t)
 
 pub exactly_arguments : Exactly (InParens (Perhaps IsExpression)) Anything arguments
-unfolding arguments same_kind
+unfolding enclosed same_kind
 exactly_arguments = exactly_parens (exactly_perhaps strict_expression exactly_expression comma_stops close_stops (λ ts x us r. begins_no kind.Close refl r)) (λ us rest t. begins_takes t)
 
 pub exactly_test : Exactly (InParens IsRight) Anything condition
@@ -138,11 +134,11 @@ unfolding condition
 exactly_test = exactly_parens exactly_right close_stops
 
 pub strict_formals : Strict formals
-unfolding formals
+unfolding enclosed
 strict_formals = strict_parens (shrinks_perhaps strict_name)
 
 pub strict_arguments : Strict arguments
-unfolding arguments
+unfolding enclosed
 strict_arguments = strict_parens (shrinks_perhaps strict_expression)
 
 pub strict_test : Strict condition

@@ -1,5 +1,5 @@
 -- Texts of what statements do, as they grow.
-use Rattle.std.proofs.Common.{◌≡◌, ℕ, ◌+◌, cond, List, [], ◌∷◌, ◌++◌, refl, sym, ◌∙◌, ap, append_assoc, suc, add-one}
+use Rattle.std.proofs.Common.{◌≡◌, ℕ, ◌+◌, cond, List, ◌++◌, refl, sym, ◌∙◌, ap, append_assoc, suc, add-one, codes}
 use Rattle.std.specs.Prelude.{Result, IfOk, is_ok}
 use Rattle.std.specs.declared.vec.Vec.{Vec}
 use Rattle.language.specs.Tree as tree
@@ -20,67 +20,48 @@ use Rattle.syntax.proofs.Appended.{four_behind, five_behind}
 use Rattle.syntax.proofs.Prints.{pushed_last, put_last}
 
 assign_text : (level : ℕ) (xs : List tree.Name) (rs : List (RightSide tree.Name))
-    → text_of (deed_parts level (simple (assign xs rs))) ≡ text_of (separated name_parts xs) ++ ((32 ∷ 58 ∷ 61 ∷ 32 ∷ []) ++ (text_of (separated side_parts rs) ++ (59 ∷ 10 ∷ [])))
+    → text_of (deed_parts level (simple (assign xs rs))) ≡ text_of (separated name_parts xs)
+    ++ (codes " := " ++ (text_of (separated side_parts rs) ++ codes ";\n"))
 assign_text level xs rs = simp (text_of-append, append_assoc)
 
 call_text : (level : ℕ) (p : tree.Name) (es : List (Expression tree.Name))
-    → text_of (deed_parts level (simple (call p es))) ≡ text_of (name_parts p) ++ ((40 ∷ []) ++ (text_of (separated expression_parts es) ++ (41 ∷ 59 ∷ 10 ∷ [])))
+    → text_of (deed_parts level (simple (call p es))) ≡ text_of (name_parts p)
+    ++ (codes "(" ++ (text_of (separated expression_parts es) ++ codes ");\n"))
 call_text level p es = simp (text_of-append, append_assoc)
 
--- "assert(" and "assume("
-abbrev pub assert_open : List ℕ
-assert_open = 97 ∷ 115 ∷ 115 ∷ 101 ∷ 114 ∷ 116 ∷ 40 ∷ []
-
-abbrev pub assume_open : List ℕ
-assume_open = 97 ∷ 115 ∷ 115 ∷ 117 ∷ 109 ∷ 101 ∷ 40 ∷ []
-
-assert_text : (level : ℕ) (r : RightSide tree.Name) → text_of (deed_parts level (simple (assert r))) ≡ assert_open ++ (text_of (side_parts r) ++ (41 ∷ 59 ∷ 10 ∷ []))
+assert_text : (level : ℕ) (r : RightSide tree.Name) → text_of (deed_parts level (simple (assert r)))
+    ≡ codes "assert(" ++ (text_of (side_parts r) ++ codes ");\n")
 assert_text level r = simp (text_of-append, append_assoc)
 
-assume_text : (level : ℕ) (r : RightSide tree.Name) → text_of (deed_parts level (simple (assume r))) ≡ assume_open ++ (text_of (side_parts r) ++ (41 ∷ 59 ∷ 10 ∷ []))
+assume_text : (level : ℕ) (r : RightSide tree.Name) → text_of (deed_parts level (simple (assume r)))
+    ≡ codes "assume(" ++ (text_of (side_parts r) ++ codes ");\n")
 assume_text level r = simp (text_of-append, append_assoc)
 
--- "if (", ") then", "else" and "fi", each of the last three with a line feed
-abbrev pub if_open : List ℕ
-if_open = 105 ∷ 102 ∷ 32 ∷ 40 ∷ []
-
-abbrev pub then_line : List ℕ
-then_line = 41 ∷ 32 ∷ 116 ∷ 104 ∷ 101 ∷ 110 ∷ 10 ∷ []
-
-abbrev pub else_line : List ℕ
-else_line = 101 ∷ 108 ∷ 115 ∷ 101 ∷ 10 ∷ []
-
-abbrev pub fi_line : List ℕ
-fi_line = 102 ∷ 105 ∷ 10 ∷ []
-
 if_text : (level : ℕ) (r : RightSide tree.Name) (a b : Block tree.Name tree.Name tree.Name)
-    → text_of (deed_parts level (branch r a b)) ≡ (if_open ++ (text_of (side_parts r) ++ then_line)) ++ (text_of (block_parts (suc level) a) ++ ((text_of (margin level) ++ else_line) ++ (text_of (block_parts (suc level) b) ++ (text_of (margin level) ++ fi_line))))
+    → text_of (deed_parts level (branch r a b)) ≡ (codes "if (" ++ (text_of (side_parts r) ++ codes ") then\n"))
+    ++ (text_of (block_parts (suc level) a) ++ ((text_of (margin level) ++ codes "else\n")
+    ++ (text_of (block_parts (suc level) b) ++ (text_of (margin level) ++ codes "fi\n"))))
 if_text level r a b = simp (text_of-append, append_assoc)
 
--- "while (", ") do" and "od", each of the last two with a line feed
-abbrev pub while_open : List ℕ
-while_open = 119 ∷ 104 ∷ 105 ∷ 108 ∷ 101 ∷ 32 ∷ 40 ∷ []
-
-abbrev pub do_line : List ℕ
-do_line = 41 ∷ 32 ∷ 100 ∷ 111 ∷ 10 ∷ []
-
-abbrev pub od_line : List ℕ
-od_line = 111 ∷ 100 ∷ 10 ∷ []
-
 while_text : (level : ℕ) (r : RightSide tree.Name) (a : Block tree.Name tree.Name tree.Name)
-    → text_of (deed_parts level (repeat r a)) ≡ (while_open ++ (text_of (side_parts r) ++ do_line)) ++ (text_of (block_parts (suc level) a) ++ (text_of (margin level) ++ od_line))
+    → text_of (deed_parts level (repeat r a)) ≡ (codes "while (" ++ (text_of (side_parts r) ++ codes ") do\n"))
+    ++ (text_of (block_parts (suc level) a) ++ (text_of (margin level) ++ codes "od\n"))
 while_text level r a = simp (text_of-append, append_assoc)
 
 module _ {A X E : Type 0} (r : Result X E) (old new s1 s2 s3 : List ℕ) where
   pub assignment_pushed : (names : List (Name A)) (sides : List (Rhs A))
-      → s1 ≡ old ++ text_of (separated name_parts (names_of names)) → s2 ≡ s1 ++ (32 ∷ 58 ∷ 61 ∷ 32 ∷ []) → s3 ≡ s2 ++ text_of (separated side_parts (rhss_of sides))
-      → new ≡ cond (is_ok r) (s3 ++ (59 ∷ 10 ∷ [])) s3 → IfOk r (λ _. new ≡ old ++ text_of (deed_parts 0 (simple (assign (names_of names) (rhss_of sides)))))
+      → s1 ≡ old ++ text_of (separated name_parts (names_of names)) → s2 ≡ s1 ++ codes " := " → s3 ≡ s2
+      ++ text_of (separated side_parts (rhss_of sides))
+      → new ≡ cond (is_ok r) (s3 ++ codes ";\n") s3 → IfOk r (λ _. new ≡ old
+      ++ text_of (deed_parts 0 (simple (assign (names_of names) (rhss_of sides)))))
   assignment_pushed names sides h1 h2 h3 last =
       pushed_last r new s3 _ _ last (rw (h3, h2, h1) (four_behind old _ _ _ _ ∙ ap (λ (t : List ℕ). old ++ t) (sym (assign_text 0 (names_of names) (rhss_of sides)))))
 
   pub call_pushed : (p : Name A) (exprs : List (Expr A))
-      → s1 ≡ old ++ text_of (name_parts (name_of p)) → s2 ≡ s1 ++ (40 ∷ []) → s3 ≡ s2 ++ text_of (separated expression_parts (exprs_of exprs))
-      → new ≡ cond (is_ok r) (s3 ++ (41 ∷ 59 ∷ 10 ∷ [])) s3 → IfOk r (λ _. new ≡ old ++ text_of (deed_parts 0 (simple (call (name_of p) (exprs_of exprs)))))
+      → s1 ≡ old ++ text_of (name_parts (name_of p)) → s2 ≡ s1 ++ codes "(" → s3 ≡ s2
+      ++ text_of (separated expression_parts (exprs_of exprs))
+      → new ≡ cond (is_ok r) (s3 ++ codes ");\n") s3 → IfOk r (λ _. new ≡ old
+      ++ text_of (deed_parts 0 (simple (call (name_of p) (exprs_of exprs)))))
   call_pushed p exprs h1 h2 h3 last =
       pushed_last r new s3 _ _ last (rw (h3, h2, h1) (four_behind old _ _ _ _ ∙ ap (λ (t : List ℕ). old ++ t) (sym (call_text 0 (name_of p) (exprs_of exprs)))))
 
@@ -89,17 +70,23 @@ module _ {A X E : Type 0} (level inner : ℕ) (r : Result X E) (old new : List �
   deeper = below ∙ add-one level
 
   pub branch_pushed : (ys : List (Stmt A)) (s1 s2 s3 s4 : List ℕ)
-      → s1 ≡ old ++ (if_open ++ (text_of (side_parts (rhs_of side)) ++ then_line)) → s2 ≡ s1 ++ text_of (block_parts inner (block_of xs))
-      → s3 ≡ s2 ++ (text_of (margin level) ++ else_line) → s4 ≡ s3 ++ text_of (block_parts inner (block_of ys))
-      → IfOk r (λ _. new ≡ s4 ++ (text_of (margin level) ++ fi_line)) → IfOk r (λ _. new ≡ old ++ text_of (deed_parts level (branch (rhs_of side) (block_of xs) (block_of ys))))
+      → s1 ≡ old ++ (codes "if (" ++ (text_of (side_parts (rhs_of side)) ++ codes ") then\n")) → s2 ≡ s1
+      ++ text_of (block_parts inner (block_of xs))
+      → s3 ≡ s2 ++ (text_of (margin level) ++ codes "else\n") → s4 ≡ s3 ++ text_of (block_parts inner (block_of ys))
+      → IfOk r (λ _. new ≡ s4 ++ (text_of (margin level) ++ codes "fi\n"))
+      → IfOk r (λ _. new ≡ old ++ text_of (deed_parts level (branch (rhs_of side) (block_of xs) (block_of ys))))
   branch_pushed ys s1 s2 s3 s4 h1 h2 h3 h4 last =
       put_last r new s4 _ _ last (rw (h4, h3, h2, h1, deeper) (five_behind old _ _ _ _ _ ∙ ap (λ (t : List ℕ). old ++ t) (sym (if_text level (rhs_of side) (block_of xs) (block_of ys)))))
 
   pub loop_pushed : (s1 s2 : List ℕ)
-      → s1 ≡ old ++ (while_open ++ (text_of (side_parts (rhs_of side)) ++ do_line)) → s2 ≡ s1 ++ text_of (block_parts inner (block_of xs))
-      → IfOk r (λ _. new ≡ s2 ++ (text_of (margin level) ++ od_line)) → IfOk r (λ _. new ≡ old ++ text_of (deed_parts level (repeat (rhs_of side) (block_of xs))))
+      → s1 ≡ old ++ (codes "while (" ++ (text_of (side_parts (rhs_of side)) ++ codes ") do\n")) → s2 ≡ s1
+      ++ text_of (block_parts inner (block_of xs))
+      → IfOk r (λ _. new ≡ s2 ++ (text_of (margin level) ++ codes "od\n"))
+      → IfOk r (λ _. new ≡ old ++ text_of (deed_parts level (repeat (rhs_of side) (block_of xs))))
   loop_pushed s1 s2 h1 h2 last =
-      put_last r new s2 _ _ last (rw (h2, h1, deeper) (append_assoc (old ++ (while_open ++ (text_of (side_parts (rhs_of side)) ++ do_line))) _ _ ∙ append_assoc old _ _ ∙ ap (λ (t : List ℕ). old ++ t) (sym (while_text level (rhs_of side) (block_of xs)))))
+      put_last r new s2 _ _ last (rw (h2, h1, deeper) (append_assoc
+      (old ++ (codes "while (" ++ (text_of (side_parts (rhs_of side)) ++ codes ") do\n"))) _ _
+      ∙ append_assoc old _ _ ∙ ap (λ (t : List ℕ). old ++ t) (sym (while_text level (rhs_of side) (block_of xs)))))
 
 module _ {A X E : Type 0} (level : ℕ) (r : Result X E) (k : Core A) (old new : List ℕ) where
   -- the text that a deed adds
@@ -119,10 +106,12 @@ module _ {A X E : Type 0} (level : ℕ) (r : Result X E) (k : Core A) (old new :
   called p es exprs is e last =
       put_last r new old _ _ last (rw e (deed_text (simple (call (name_of p) (exprs_of es.items))) _ (ap deed_of is ∙ deed_of-Call p es) refl))
 
-  pub asserted : (side : Rhs A) → k ≡ core.Assert side → IfOk r (λ _. new ≡ old ++ (assert_open ++ (text_of (side_parts (rhs_of side)) ++ (41 ∷ 59 ∷ 10 ∷ [])))) → Adds
+  pub asserted : (side : Rhs A) → k ≡ core.Assert side
+      → IfOk r (λ _. new ≡ old ++ (codes "assert(" ++ (text_of (side_parts (rhs_of side)) ++ codes ");\n"))) → Adds
   asserted side is last = put_last r new old _ _ last (deed_text (simple (assert (rhs_of side))) _ (ap deed_of is ∙ deed_of-Assert side) (assert_text level (rhs_of side)))
 
-  pub assumed : (side : Rhs A) → k ≡ core.Assume side → IfOk r (λ _. new ≡ old ++ (assume_open ++ (text_of (side_parts (rhs_of side)) ++ (41 ∷ 59 ∷ 10 ∷ [])))) → Adds
+  pub assumed : (side : Rhs A) → k ≡ core.Assume side
+      → IfOk r (λ _. new ≡ old ++ (codes "assume(" ++ (text_of (side_parts (rhs_of side)) ++ codes ");\n"))) → Adds
   assumed side is last = put_last r new old _ _ last (deed_text (simple (assume (rhs_of side))) _ (ap deed_of is ∙ deed_of-Assume side) (assume_text level (rhs_of side)))
 
   pub branched : (side : Rhs A) (a b : Vec (Stmt A) A) (xs ys : List (Stmt A)) → k ≡ core.If side a b → xs ≡ a.items → ys ≡ b.items

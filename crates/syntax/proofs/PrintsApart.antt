@@ -2,9 +2,10 @@
 use Rattle.std.proofs.Common.{◌≡◌, ℕ, zero, suc, true, false, List, [], ◌∷◌, ◌++◌, map, refl, sym, ◌∙◌, ap, append_assoc, append-nil, inl, inr, Option, None, Some}
 use Rattle.std.specs.List.{AllByRecursion}
 use Rattle.language.specs.Tree.{Name, Operator, implies, or, xor, and, equal, differs, Expression, const, var, negation, two, RightSide, any, value, Simple, skip, assign, assert, assume, goto, leave, call, Block, done, one, choose, loop, Procedure, ThreadLine, Tree}
+use Rattle.tokens.specs.declared.vocabulary.Kind.{Kind}
 use Rattle.tokens.specs.declared.vocabulary.Kind.TheVariants as kind
 use Rattle.tokens.specs.Spelling.{reserved, name}
-use Rattle.tokens.specs.Parts.{Part, shown, space, line, spelling, fixed, IsSpelled, IsApart, AreApart}
+use Rattle.tokens.specs.Parts.{Part, shown, space, line, spelling, fixed, joins, IsSpelled, IsApart, AreApart}
 use Rattle.syntax.specs.Grammar.{joined}
 use Rattle.syntax.specs.InGrammar.{IsId, AreIds, ExpressionInGrammar, SideInGrammar, SimpleInGrammar, LabelInGrammar, BlockInGrammar, ProcedureInGrammar, ThreadInGrammar, InGrammar}
 use Rattle.syntax.specs.Printed as printed
@@ -25,41 +26,31 @@ put : (ps qs : List Part) → ps ≡ qs → AreApart qs → AreApart ps
 put ps qs e h = rw e h
 
 -- Signs that do not grow join nothing.
+free : (k : Kind) → ((j : Kind) → joins k j ≡ false) → (more : List Part) → IsApart k more
+free k h [] = tt
+free k h (shown j w ∷ more) = h j
+free k h (space ∷ more) = tt
+free k h (line ∷ more) = tt
+
 open_free : (more : List Part) → IsApart kind.Open more
-open_free [] = tt
-open_free (shown k w ∷ more) = refl
-open_free (space ∷ more) = tt
-open_free (line ∷ more) = tt
+open_free = free kind.Open (λ j. refl)
 
 close_free : (more : List Part) → IsApart kind.Close more
-close_free [] = tt
-close_free (shown k w ∷ more) = refl
-close_free (space ∷ more) = tt
-close_free (line ∷ more) = tt
+close_free = free kind.Close (λ j. refl)
 
 any_free : (more : List Part) → IsApart kind.Any more
-any_free [] = tt
-any_free (shown k w ∷ more) = refl
-any_free (space ∷ more) = tt
-any_free (line ∷ more) = tt
+any_free = free kind.Any (λ j. refl)
 
 semicolon_free : (more : List Part) → IsApart kind.Semicolon more
-semicolon_free [] = tt
-semicolon_free (shown k w ∷ more) = refl
-semicolon_free (space ∷ more) = tt
-semicolon_free (line ∷ more) = tt
+semicolon_free = free kind.Semicolon (λ j. refl)
 
-zero_free : (more : List Part) → IsApart kind.Id more → IsApart kind.Zero more
-zero_free [] free = tt
-zero_free (shown k w ∷ more) free = free
-zero_free (space ∷ more) free = tt
-zero_free (line ∷ more) free = tt
-
-one_free : (more : List Part) → IsApart kind.Id more → IsApart kind.One more
-one_free [] free = tt
-one_free (shown k w ∷ more) free = free
-one_free (space ∷ more) free = tt
-one_free (line ∷ more) free = tt
+-- What stands apart from a name stands apart from a constant.
+free_as_name : (k : Kind) → ((j : Kind) → joins k j ≡ joins kind.Id j) → (more : List Part) → IsApart kind.Id more
+    → IsApart k more
+free_as_name k h [] apart = tt
+free_as_name k h (shown j w ∷ more) apart = h j ∙ apart
+free_as_name k h (space ∷ more) apart = tt
+free_as_name k h (line ∷ more) apart = tt
 
 -- Behind ! stands an operand, which begins with no =.
 not_free : (e : Expression Name) (more : List Part) → IsApart kind.Not (operand_parts e ++ more)
@@ -104,8 +95,10 @@ operation_fits o a b left right more tail =
     (left (space ∷ fixed (kind_of o) ∷ space ∷ (operand_parts b ++ more)) (spaced (fixed (kind_of o) ∷ space ∷ (operand_parts b ++ more)) (operator_spelled o, tt, right more tail)))
 
 operand_fits : (e : Expression Name) → ExpressionInGrammar e → Fits (operand_parts e)
-operand_fits (const false) ok more tail = (inl (reserved refl), zero_free more tail.free, tail.apart)
-operand_fits (const true) ok more tail = (inl (reserved refl), one_free more tail.free, tail.apart)
+operand_fits (const false) ok more tail =
+    (inl (reserved refl), free_as_name kind.Zero (λ j. refl) more tail.free, tail.apart)
+operand_fits (const true) ok more tail =
+    (inl (reserved refl), free_as_name kind.One (λ j. refl) more tail.free, tail.apart)
 operand_fits (var x) ok more tail = name_fits x ok more tail
 operand_fits (negation e) ok more tail = (inr refl, not_free e more, operand_fits e ok more tail)
 operand_fits (two o a b) ok more tail = parens_fit (operation o (operand_parts a) (operand_parts b)) (operation_fits o a b (operand_fits a ok.0) (operand_fits b ok.1)) more tail.apart

@@ -75,17 +75,22 @@ module _ {X : Type 0} (P : List Tok → X → List Tok → Type 0) (Ok : X → T
         reads = one_more first.reads others.reads;
       })
 
+  -- of a list that is not empty
+  at_least_one : {ts rest : List Tok} {ys zs : List X} {z : X} → map bare ys ≡ z ∷ zs → Many P ts ys rest
+      → Several P ts ys rest
+  at_least_one e no_more = cc
+  at_least_one e (one_more h t) = several h t
+
   several_show : (xs : List X) → 0 < length xs → AllByRecursion Ok xs → Shows (Several P) (map bare) (joined (map show xs)) xs
   several_show [] some all at more = absurd (omega arith)
   several_show (x ∷ xs) some all at more =
-      let first = shows x all.0 at (joined (map show xs) ++ more) in
-      let others = many_show xs all.1 first.next more in
-      put at _ (show x ++ (joined (map show xs) ++ more)) (append_assoc (show x) (joined (map show xs)) more) (record {
-        found = first.found ∷ others.found;
-        next = others.next;
-        same = let e = first.same in let f = others.same in cc;
-        reads = several first.reads others.reads;
-      })
+      let all_read = many_show (x ∷ xs) all at more in
+      record {
+        found = all_read.found;
+        next = all_read.next;
+        same = all_read.same;
+        reads = at_least_one all_read.same all_read.reads;
+      }
 
 -- The tokens of a printed tree of the grammar are a program with this tree, offsets aside.
 pub program_shows : (t : Tree) → InGrammar t → (found : Tree) × IsProgram (tokens_of 0 (program_parts t)) found × (unplaced_tree found ≡ unplaced_tree t)

@@ -1,16 +1,20 @@
 -- Declarations, procedures, thread lines and programs, read just as the grammar says.
-use Rattle.std.proofs.Common.{◌≡◌, true, false, List, [], ◌∷◌, Some, refl, ◌∙◌}
+use Rattle.std.proofs.Common.{◌≡◌, true, false, List, [], ◌∷◌, Some, refl, ◌∙◌, ap}
 use Rattle.language.specs.Tree.{Name, Block, Procedure, ThreadLine, Tree}
 use Rattle.tokens.specs.declared.vocabulary.Kind.{Kind}
 use Rattle.tokens.specs.declared.vocabulary.Kind.TheVariants as kind
 use Rattle.tokens.specs.Token.{Tok, same_kind}
-use Rattle.syntax.specs.Parser.{Parser, give, ◌>>=◌, begins, take, many}
+use Rattle.syntax.specs.Parser.{Parser, Strict, give, ◌>>=◌, begins, take, many}
 use Rattle.syntax.specs.Grammar.{Takes, takes, IsName, is_name, InParens, Several, several, Perhaps, IsSome, Statements, joined, IsDeclaration, is_declaration, Declarations, declarations, IsProcedure, is_procedure, IsThread, is_thread, IsProgram, is_program}
-use Rattle.syntax.specs.Exact.{name, names, formals, starts, starts_here, section, declaration, all_declarations, insides, procedure, more_procedures, procedures, thread_line, any_left, more_lines, thread_lines, program}
+use Rattle.syntax.specs.Exact.{name, names, formals, starts, starts_here, section, declaration}
+use Rattle.syntax.specs.Exact.{all_declarations, insides, procedure, procedures, thread_line, any_left}
+use Rattle.syntax.specs.Exact.{thread_lines, program}
 use Rattle.syntax.proofs.KindTests.{same_kind-is}
-use Rattle.syntax.proofs.Fixes.{carried, between, bind_is, Shrinks, Strict, Strict-Shrinks, Shrinks-give, Strict-take, Shrinks-bind, Strict-bind}
+use Rattle.syntax.proofs.Fixes.{carried, between, bind_is, Shrinks, Strict-Shrinks, Shrinks-give, Strict-take}
+use Rattle.syntax.proofs.Fixes.{Shrinks-bind, Strict-bind}
 use Rattle.syntax.proofs.Expressions.{take_is, take_finds}
-use Rattle.syntax.proofs.Exactly.{Exactly, Anything, begins_takes, begins_other, many_finds, many_reads, many_shrinks}
+use Rattle.syntax.proofs.Exactly.{Exactly, Anything, begins_takes, begins_other, many_finds, many_reads}
+use Rattle.syntax.proofs.Exactly.{many_shrinks, repeated_finds, repeated_reads}
 use Rattle.syntax.proofs.Parts.{strict_name, exactly_name, strict_names, exactly_names, strict_formals, exactly_formals}
 use Rattle.syntax.proofs.Sections.{section_shrinks}
 use Rattle.syntax.proofs.Sound.{section_finds}
@@ -141,23 +145,11 @@ name_begins (is_name e) = same_kind-is e
 procedure_begins : (ts : List Tok) (p : Procedure) (us : List Tok) → IsProcedure ts p us → begins kind.Id ts ≡ true
 procedure_begins ts p us (is_procedure h f g d s m e) = name_begins h
 
-pub more_procedures_shrinks : Shrinks more_procedures
-unfolding more_procedures
-more_procedures_shrinks = many_shrinks (begins kind.Id) procedure strict_procedure
-
 pub procedures_found : (ts : List Tok) (ps : List Procedure) (rest : List Tok) → procedures ts ≡ Some (ps, rest) → Several IsProcedure ts ps rest
-unfolding procedures more_procedures
-procedures_found ts ps rest e =
-    let b = between procedure (λ p. more_procedures >>= λ ps. give (p ∷ ps)) ts ps rest e in
-    let c = between more_procedures (λ ps. give (b.x ∷ ps)) b.us ps rest b.second in
-    carried (λ ps rest. Several IsProcedure ts ps rest) c.second
-    (several (exactly_procedure.finds ts b.x b.us b.first) (many_finds (begins kind.Id) procedure strict_procedure IsProcedure exactly_procedure.finds b.us c.x c.us c.first).0)
+procedures_found ts ps rest e = (repeated_finds (begins kind.Id) strict_procedure exactly_procedure ts ps rest e).0
 
 pub procedures_read : (ts : List Tok) (ps : List Procedure) (rest : List Tok) → Several IsProcedure ts ps rest → begins kind.Id rest ≡ false → procedures ts ≡ Some (ps, rest)
-unfolding procedures more_procedures
-procedures_read ts ps rest (several {us = us} {x = p} {xs = qs} h m) e =
-    bind_is procedure (λ p. more_procedures >>= λ ps. give (p ∷ ps)) ts p us (exactly_procedure.reads ts p us h tt)
-    ∙ bind_is more_procedures (λ ps. give (p ∷ ps)) us qs rest (many_reads (begins kind.Id) procedure strict_procedure exactly_procedure procedure_begins (λ us h. tt) m tt e)
+procedures_read = repeated_reads (begins kind.Id) strict_procedure exactly_procedure procedure_begins
 
 -- thread lines
 pub strict_thread_line : Strict thread_line
@@ -200,20 +192,13 @@ none_left [] e = refl
 none_left (t ∷ ts) e = cc
 
 pub lines_found : (ts : List Tok) (ls : List ThreadLine) (rest : List Tok) → thread_lines ts ≡ Some (ls, rest) → Several IsThread ts ls [] × (rest ≡ [])
-unfolding thread_lines more_lines
 lines_found ts ls rest e =
-    let b = between thread_line (λ l. more_lines >>= λ ls. give (l ∷ ls)) ts ls rest e in
-    let c = between more_lines (λ ls. give (b.x ∷ ls)) b.us ls rest b.second in
-    let m = many_finds any_left thread_line strict_thread_line IsThread exactly_thread_line.finds b.us c.x c.us c.first in
-    let n = none_left c.us m.1 in
-    let h : Several IsThread ts (b.x ∷ c.x) c.us = several (exactly_thread_line.finds ts b.x b.us b.first) m.0 in
-    carried (λ ls rest. Several IsThread ts ls [] × (rest ≡ [])) c.second (rw n at h, n)
+    let m = repeated_finds any_left strict_thread_line exactly_thread_line ts ls rest e in
+    let n = none_left rest m.1 in
+    (rw n at m.0, n)
 
 pub lines_read : (ts : List Tok) (ls : List ThreadLine) → Several IsThread ts ls [] → thread_lines ts ≡ Some (ls, [])
-unfolding thread_lines more_lines
-lines_read ts ls (several {us = us} {x = l} {xs = ms} h m) =
-    bind_is thread_line (λ l. more_lines >>= λ ls. give (l ∷ ls)) ts l us (exactly_thread_line.reads ts l us h tt)
-    ∙ bind_is more_lines (λ ls. give (l ∷ ls)) us ms [] (many_reads any_left thread_line strict_thread_line exactly_thread_line line_begins (λ us h. tt) m tt refl)
+lines_read ts ls h = repeated_reads any_left strict_thread_line exactly_thread_line line_begins ts ls [] h refl
 
 -- programs
 abbrev after_procedures : List Name → List Procedure → Parser Tree
@@ -231,12 +216,22 @@ program_finds ts p rest e =
     carried (λ p rest. IsProgram ts p) d.second
     (is_program (declarations_found ts b.x b.us b.first) (procedures_found b.us c.x c.us c.first) (lines_found c.us d.x d.us d.first).0)
 
+pub program_is : (ts : List Tok) {us vs ws : List Tok} {gs : List Name} {ps : List Procedure} {ls : List ThreadLine}
+    → all_declarations ts ≡ Some (gs, us) → procedures us ≡ Some (ps, vs) → thread_lines vs ≡ Some (ls, ws)
+    → program ts ≡ Some (record { globals = gs; procedures = ps; threads = ls }, [])
+unfolding program
+program_is ts {us} {vs} {ws} {gs} {ps} {ls} d m t =
+    bind_is all_declarations after_globals ts gs us d
+    ∙ bind_is procedures (after_procedures gs) us ps vs m
+    ∙ bind_is thread_lines (λ ls. give (record { globals = gs; procedures = ps; threads = ls })) vs ls ws t
+    ∙ ap (λ (rest : List Tok). Some (record { globals = gs; procedures = ps; threads = ls }, rest))
+    (lines_found vs ls ws t).1
+
 pub program_reads : (ts : List Tok) (p : Tree) → IsProgram ts p → program ts ≡ Some (p, [])
-unfolding program same_kind
+unfolding same_kind
 program_reads ts p (is_program {us = us} {vs = vs} {globals = gs} {procedures = ps} {threads = ls} d m t) =
-    bind_is all_declarations after_globals ts gs us (declarations_read ts gs us d (by_procedure m))
-    ∙ bind_is procedures (after_procedures gs) us ps vs (procedures_read us ps vs m (by_line t))
-    ∙ bind_is thread_lines (λ ls. give (record { globals = gs; procedures = ps; threads = ls })) vs ls [] (lines_read vs ls t)
+    program_is ts (declarations_read ts gs us d (by_procedure m)) (procedures_read us ps vs m (by_line t))
+    (lines_read vs ls t)
   where
     by_name : {ts us : List Tok} {n : Name} → IsName ts n us → begins kind.Decl ts ≡ false
     by_name (is_name e) = rw e refl

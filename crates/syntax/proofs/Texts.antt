@@ -17,10 +17,6 @@ use Rattle.syntax.proofs.Fixes.{both}
 use Rattle.syntax.proofs.Programs.{program_finds, program_reads}
 
 module _ (A : Type 0) (bytes : List ℕ) (tokens : List Tok) (within : length bytes ≤ 65536) (ascii : IsAscii bytes) (cut : Cuts 0 bytes tokens) (only : (others : List Tok) → Cuts 0 bytes others → others ≡ tokens) (shallow : TooDeep tokens → ⊥) where
-  pub text_found : (r : Result (Program A) ReadFault) → Gives {X = Program A} {Y = Tree × List Tok} (λ p. (tree_of p, [])) r (program tokens) → IfOk r (λ p. Text bytes (tree_of p))
-  text_found (Ok p) gives = record { within = within; ascii = ascii; tokens = tokens; cut = cut; shallow = shallow; program = program_finds tokens (tree_of p) [] gives }
-  text_found (Err e) gives = tt
-
   reads : (tree : Tree) → Text bytes tree → program tokens ≡ Some (tree, [])
   reads tree text = program_reads tokens tree (rw (only text.tokens text.cut) at text.program)
 
@@ -31,10 +27,6 @@ module _ (A : Type 0) (bytes : List ℕ) (tokens : List Tok) (within : length by
   only_memory fault.NotAscii tree text f = absurd f
   only_memory fault.TooDeep tree text f = absurd f
 
-  pub text_only : (r : Result (Program A) ReadFault) → Gives {X = Program A} {Y = Tree × List Tok} (λ p. (tree_of p, [])) r (program tokens) → (tree : Tree) → Text bytes tree → MatchResult r (λ p. tree_of p ≡ tree) (λ e. e ≡ fault.Memory)
-  text_only (Ok p) gives tree text = sym (both (sym (reads tree text) ∙ gives)).0
-  text_only (Err e) gives tree text = only_memory e tree text gives
-
   stands : (e : ReadFault) → Fails {Y = Tree × List Tok} e (program tokens) → Stands e bytes
   stands (fault.Syntax at) f = (within, ascii, inr (tokens, cut, shallow, λ tree is. let h = program_reads tokens tree is in cc))
   stands fault.Memory f = tt
@@ -42,6 +34,30 @@ module _ (A : Type 0) (bytes : List ℕ) (tokens : List Tok) (within : length by
   stands fault.NotAscii f = absurd f
   stands fault.TooDeep f = absurd f
 
-  pub text_fault : (r : Result (Program A) ReadFault) → Gives {X = Program A} {Y = Tree × List Tok} (λ p. (tree_of p, [])) r (program tokens) → IfErr r (λ e. Stands e bytes)
-  text_fault (Ok p) gives = tt
-  text_fault (Err e) gives = stands e gives
+  -- what is read is a text with that tree, each text is read, and a fault stands
+  abbrev pub Right : Result (Program A) ReadFault → Type 0
+  Right r = record {
+    found : IfOk r (λ p. Text bytes (tree_of p));
+    only : (tree : Tree) → Text bytes tree → MatchResult r (λ p. tree_of p ≡ tree) (λ e. e ≡ fault.Memory);
+    fault : IfErr r (λ e. Stands e bytes);
+  }
+
+  pub text_read : (r : Result (Program A) ReadFault)
+      → Gives {X = Program A} {Y = Tree × List Tok} (λ p. (tree_of p, [])) r (program tokens) → Right r
+  text_read (Ok p) gives = record {
+    found = record {
+      within = within;
+      ascii = ascii;
+      tokens = tokens;
+      cut = cut;
+      shallow = shallow;
+      program = program_finds tokens (tree_of p) [] gives;
+    };
+    only = λ tree text. sym (both (sym (reads tree text) ∙ gives)).0;
+    fault = tt;
+  }
+  text_read (Err e) gives = record {
+    found = tt;
+    only = λ tree text. only_memory e tree text gives;
+    fault = stands e gives;
+  }

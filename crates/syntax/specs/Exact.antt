@@ -55,8 +55,12 @@ abbrev pub more : {X : Type 0} → Parser X → Parser (List X)
 more p = many (begins kind.Comma) (take kind.Comma >>= λ _. p)
 
 -- p once or more often, with a comma before each but the first
-abbrev pub list : {X : Type 0} → Parser X → Parser (List X)
+unfoldable pub list : {X : Type 0} → Parser X → Parser (List X)
 list p = p >>= λ x. more p >>= λ xs. give (x ∷ xs)
+
+-- p once, and again while the test holds
+unfoldable pub repeated : {X : Type 0} → (List Tok → Bool) → Parser X → Parser (List X)
+repeated test p = p >>= λ x. many test p >>= λ xs. give (x ∷ xs)
 
 -- p in parentheses
 abbrev pub parens : {X : Type 0} → Parser X → Parser X
@@ -66,6 +70,10 @@ parens p = take kind.Open >>= λ _. p >>= λ x. take kind.Close >>= λ _. give x
 abbrev pub perhaps : {X : Type 0} → Parser X → Parser (List X)
 perhaps p ts = cond (begins kind.Close ts) (Some ([], ts)) (list p ts)
 
+-- a list in parentheses, which may be empty
+unfoldable pub enclosed : {X : Type 0} → Parser X → Parser (List X)
+enclosed p = parens (perhaps p)
+
 -- an expression
 abbrev pub expression : Parser (Expression Name)
 expression = reading (from 0)
@@ -74,18 +82,18 @@ expression = reading (from 0)
 abbrev pub right : Parser (RightSide Name)
 right ts = cond (begins kind.Any ts) ((take kind.Any >>= λ _. give any) ts) ((expression >>= λ e. give (value e)) ts)
 
--- the names, right sides and expressions of lists, and those in lists that may be empty
-unfoldable pub names : Parser (List Name)
+-- names and right sides, and names and expressions in parentheses, of which there may be none
+abbrev pub names : Parser (List Name)
 names = list name
 
-unfoldable pub rights : Parser (List (RightSide Name))
+abbrev pub rights : Parser (List (RightSide Name))
 rights = list right
 
-unfoldable pub formals : Parser (List Name)
-formals = parens (perhaps name)
+abbrev pub formals : Parser (List Name)
+formals = enclosed name
 
-unfoldable pub arguments : Parser (List (Expression Name))
-arguments = parens (perhaps expression)
+abbrev pub arguments : Parser (List (Expression Name))
+arguments = enclosed expression
 
 unfoldable pub condition : Parser (RightSide Name)
 condition = parens right
@@ -97,13 +105,17 @@ marked (t ∷ ts) = cond (same_kind t.kind kind.Id && begins kind.Colon ts)
     ((take kind.Colon >>= λ _. give (record { label = Some (name_at t); at = t.at })) ts)
     (Some (record { label = None; at = t.at }, t ∷ ts))
 
+-- a semicolon, behind what a statement does
+abbrev pub ended : Deed → Parser Deed
+ended d = take kind.Semicolon >>= λ _. give d
+
 -- an assignment
 unfoldable pub assignment : Parser Deed
-assignment = names >>= λ xs. take kind.Assign >>= λ _. rights >>= λ rs. take kind.Semicolon >>= λ _. give (simple (assign xs rs))
+assignment = names >>= λ xs. take kind.Assign >>= λ _. rights >>= λ rs. ended (simple (assign xs rs))
 
 -- a call
 unfoldable pub calling : Parser Deed
-calling = name >>= λ p. arguments >>= λ es. take kind.Semicolon >>= λ _. give (simple (call p es))
+calling = name >>= λ p. arguments >>= λ es. ended (simple (call p es))
 
 -- an assignment or a call, by the token after the name
 unfoldable pub named : Tok → List Tok → Option (Deed × List Tok)
@@ -117,21 +129,17 @@ branching block = condition >>= λ r. take kind.Then >>= λ _. block >>= λ a. t
 abbrev pub repeating : Parser (Block Name Name Name) → Parser Deed
 repeating block = condition >>= λ r. take kind.Do >>= λ _. block >>= λ a. take kind.Od >>= λ _. give (repeat r a)
 
--- a semicolon, behind what a statement does
-abbrev pub ended : Deed → Parser Deed
-ended d = take kind.Semicolon >>= λ _. give d
-
 -- a `goto`, behind that word
 abbrev pub jumping : Parser Deed
-jumping = name >>= λ l. take kind.Semicolon >>= λ _. give (simple (goto l))
+jumping = name >>= λ l. ended (simple (goto l))
 
 -- an `assert`, behind that word
 abbrev pub asserting : Parser Deed
-asserting = condition >>= λ r. take kind.Semicolon >>= λ _. give (simple (assert r))
+asserting = condition >>= λ r. ended (simple (assert r))
 
 -- an `assume`, behind that word
 abbrev pub assuming : Parser Deed
-assuming = condition >>= λ r. take kind.Semicolon >>= λ _. give (simple (assume r))
+assuming = condition >>= λ r. ended (simple (assume r))
 
 -- what a statement does that begins with this token
 abbrev pub deed_by : Parser (Block Name Name Name) → Tok → Parser Deed
@@ -211,11 +219,8 @@ unfoldable pub procedure : Parser Procedure
 procedure = name >>= λ n. formals >>= λ fs. insides >>= λ p. give (record { name = n; formals = fs; locals = p.0; body = p.1 })
 
 -- procedures, as long as a name comes
-unfoldable pub more_procedures : Parser (List Procedure)
-more_procedures = many (begins kind.Id) procedure
-
-unfoldable pub procedures : Parser (List Procedure)
-procedures = procedure >>= λ p. more_procedures >>= λ ps. give (p ∷ ps)
+abbrev pub procedures : Parser (List Procedure)
+procedures = repeated (begins kind.Id) procedure
 
 -- a thread line
 unfoldable pub thread_line : Parser ThreadLine
@@ -227,11 +232,8 @@ any_left [] = false
 any_left (t ∷ ts) = true
 
 -- thread lines, to the end
-unfoldable pub more_lines : Parser (List ThreadLine)
-more_lines = many any_left thread_line
-
-unfoldable pub thread_lines : Parser (List ThreadLine)
-thread_lines = thread_line >>= λ l. more_lines >>= λ ls. give (l ∷ ls)
+abbrev pub thread_lines : Parser (List ThreadLine)
+thread_lines = repeated any_left thread_line
 
 -- a program, and the tokens after it, which are none
 unfoldable pub program : Parser Tree
@@ -246,17 +248,3 @@ prepend xs (Some p) = Some (xs ++ p.0, p.1)
 abbrev pub put_before : List Item → Option (Block Name Name Name × List Tok) → Option (Block Name Name Name × List Tok)
 put_before is None = None
 put_before is (Some p) = Some (all_before is p.0, p.1)
-
--- the names, right sides and expressions that follow in a list
-unfoldable pub more_names : Parser (List Name)
-more_names = more name
-
-unfoldable pub more_rights : Parser (List (RightSide Name))
-more_rights = more right
-
-unfoldable pub more_expressions : Parser (List (Expression Name))
-more_expressions = more expression
-
--- the expressions of a list
-unfoldable pub expressions : Parser (List (Expression Name))
-expressions = list expression

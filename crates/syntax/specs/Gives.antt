@@ -1,5 +1,9 @@
 -- What a reader answers, and what the grammar's function gives.
-use Rattle.std.specs.Prelude.{◌≡◌, Option, None, Some, Result, Ok, Err}
+use Rattle.std.specs.Prelude.{◌≡◌, ◌<◌, List, length, Option, None, Some, Result, Ok, Err, IfOk}
+use denote.Ref.{Bor}
+use Rattle.tokens.specs.declared.vocabulary.Token.{Token}
+use Rattle.tokens.specs.Token.{toks_of}
+use Rattle.syntax.specs.Parser.{Parser}
 use Rattle.syntax.specs.declared.fault.ReadFault.{ReadFault}
 use Rattle.syntax.specs.declared.fault.ReadFault.TheVariants as fault
 
@@ -15,3 +19,11 @@ Fails fault.TooDeep given = ⊥
 abbrev pub Gives : {X Y : Type 0} → (X → Y) → Result X ReadFault → Option Y → Type 0
 Gives view (Ok x) given = given ≡ Some (view x)
 Gives view (Err e) given = Fails e given
+
+-- What is read of the tokens, seen by view, is what the grammar's function reads, and the same tokens are left.
+abbrev pub Reads : {X Y : Type 0} → (X → Y) → Result (X × Bor (List Token)) ReadFault → Parser Y → List Token → Type 0
+Reads view result parser tokens = Gives (λ p. (view p.0, toks_of p.1.now)) result (parser (toks_of tokens))
+
+-- Some token is read.
+abbrev pub Shorter : {X : Type 0} → Result (X × Bor (List Token)) ReadFault → List Token → Type 0
+Shorter result tokens = IfOk result (λ p. length p.1.now < length tokens)

@@ -1,5 +1,5 @@
 -- The grammar, as relations between token lists, trees and the tokens after them.
-use Rattle.std.specs.Prelude.{◌≡◌, ℕ, ◌≤◌, true, false, List, [], ◌∷◌, ◌++◌, Option, Some, None}
+use Rattle.std.specs.Prelude.{◌≡◌, ℕ, suc, ◌≤◌, true, false, List, [], ◌∷◌, ◌++◌, Option, Some, None}
 use Rattle.language.specs.Tree.{Name, Procedure, ThreadLine, Tree, Operator, implies, or, xor, and, equal, differs, Expression, const, var, negation, two, RightSide, any, value, Simple, skip, assign, assert, assume, goto, leave, call, Mark, Block, done, one, choose, loop}
 use Rattle.tokens.specs.declared.vocabulary.Kind.{Kind}
 use Rattle.tokens.specs.declared.vocabulary.Kind.TheVariants as kind
@@ -35,20 +35,12 @@ level differs = 4
 -- Left of => stands what binds more strongly; left of each other operator also what binds as it does.
 abbrev pub left_level : Operator → ℕ
 left_level implies = 1
-left_level or = 1
-left_level xor = 2
-left_level and = 3
-left_level equal = 4
-left_level differs = 4
+left_level o = level o
 
 -- Right of => stands also another =>; right of each other operator what binds more strongly.
 abbrev pub right_level : Operator → ℕ
 right_level implies = 0
-right_level or = 2
-right_level xor = 3
-right_level and = 4
-right_level equal = 5
-right_level differs = 5
+right_level o = suc (level o)
 
 -- The tokens begin with an expression that binds at this level or above, without parentheses around it:
 -- a constant, a name, ! and an operand, an expression in parentheses, or two operands and the operator

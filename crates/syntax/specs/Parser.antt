@@ -1,5 +1,6 @@
 -- Functions from token lists to what stands at their front.
-use Rattle.std.specs.Prelude.{ℕ, zero, suc, Bool, false, List, [], ◌∷◌, length, cond, Option, Some, None, option_and_then}
+use Rattle.std.specs.Prelude.{◌≡◌, ◌<◌, ℕ, zero, suc, Bool, false, List, [], ◌∷◌, length, cond, Option, Some}
+use Rattle.std.specs.Prelude.{None, option_and_then}
 use Rattle.tokens.specs.declared.vocabulary.Kind.{Kind}
 use Rattle.tokens.specs.Token.{Tok, same_kind}
 
@@ -45,3 +46,7 @@ many_step test p rec u ts = cond (test ts) ((p >>= λ x. rec u >>= λ xs. give (
 
 unfoldable pub many : {X : Type 0} → (List Tok → Bool) → Parser X → Parser (List X)
 many test p = fix (many_step test p) tt
+
+-- what is left is shorter than what was given
+pub record Strict {X : Type 0} (p : Parser X) : Type 0 where
+  pub by : (ts : List Tok) (x : X) (rest : List Tok) → p ts ≡ Some (x, rest) → length rest < length ts

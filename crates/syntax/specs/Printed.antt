@@ -1,10 +1,16 @@
 -- The printed form of a tree: the tokens and blanks that make its text.
-use Rattle.std.specs.Prelude.{ℕ, zero, suc, cond, List, [], ◌∷◌, ◌++◌, map, Option, Some, None}
+use Rattle.std.specs.Prelude.{◌≡◌, ℕ, zero, suc, cond, List, [], ◌∷◌, ◌++◌, map, Option, Some, None, Result, IfOk}
+use Rattle.std.specs.String.{string_bytes}
+use Rattle.std.specs.declared.string.String.{String}
 use Rattle.language.specs.Tree.{Name, Operator, implies, or, xor, and, equal, differs, Expression, const, var, negation, two, RightSide, any, value, Simple, skip, assign, assert, assume, goto, leave, call, Block, done, one, choose, loop, Procedure, ThreadLine, Tree}
 use Rattle.tokens.specs.declared.vocabulary.Kind.{Kind}
 use Rattle.tokens.specs.declared.vocabulary.Kind.TheVariants as kind
 use Rattle.tokens.specs.Parts.{Part, shown, space, line, fixed, text_of}
 use Rattle.syntax.specs.Grammar.{joined}
+
+-- The text goes on with these parts, unless memory runs out.
+abbrev pub Prints : {A X E : Type 0} → Result X E → String A → String A → List Part → Type 0
+Prints result old new parts = IfOk result (λ _. string_bytes new ≡ string_bytes old ++ text_of parts)
 
 -- A name is printed as it is.
 abbrev pub name_parts : Name → List Part

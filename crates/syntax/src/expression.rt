@@ -1,14 +1,14 @@
 //! Reading expressions by precedence.
 
-ghost use Rattle.std.specs.Prelude.{◌≡◌, ◌<◌, length, IfOk, option_map};
-ghost use Rattle.syntax.specs.Gives.{Gives};
+ghost use Rattle.std.specs.Prelude.{◌≡◌, option_map};
+ghost use Rattle.syntax.specs.Gives.{Reads, Shorter};
 ghost use Rattle.syntax.specs.Grammar.{level, right_level};
 ghost use Rattle.syntax.specs.Exact.{binds, operand, reading, from};
 ghost use Rattle.syntax.specs.Trees.{operator_of, expr_of};
 ghost use Rattle.tokens.specs.Token.{toks_of};
 
 use crate::fault::ReadFault;
-use crate::reader::Reader;
+use crate::reader::{Read, Reader};
 use crate::tree::{Expr, Op};
 use std::alloc::Allocator;
 use tokens::{Kind, Token};
@@ -59,14 +59,10 @@ fn operator_of_kind(least: u8, kind: Kind) -> Option<Op>
 impl<'a, A: Allocator + Clone> Reader<'a, A> {
     /// Reads an expression whose operators outside of parentheses bind at this level or above.
     #[cycle(expressions)]
-    #[tactic(auto, using(crate::proofs::Expressions::starts, crate::proofs::Expressions::no_start, crate::proofs::Expressions::stops_here, crate::proofs::Expressions::stops_at_end, crate::proofs::Expressions::goes_on, crate::proofs::Expressions::no_right))]
-    pub fn expression<'t>(
-        &self,
-        least: u8,
-        tokens: &'t [Token<'t>],
-    ) -> Result<(Expr<A>, &'t [Token<'t>]), ReadFault>
-        ensures gives { Gives (λ p. (expr_of p.0, toks_of p.1.now)) result (reading (from least) (toks_of tokens.now)) }
-        ensures shorter { IfOk result (λ p. length p.1.now < length tokens.now) }
+    #[tactic(auto, using(crate::proofs::Expressions::reading_steps))]
+    pub fn expression<'t>(&self, least: u8, tokens: &'t [Token<'t>]) -> Read<'t, Expr<A>>
+        ensures gives { Reads expr_of result (reading (from least)) tokens.now }
+        ensures shorter { Shorter result tokens.now }
     {
         let (mut tree, mut rest) = self.operand(tokens)?;
         while let Some((first, others)) = rest.split_first() {
@@ -84,9 +80,9 @@ impl<'a, A: Allocator + Clone> Reader<'a, A> {
     /// Reads a constant, a name, `!` and an operand, or an expression in parentheses.
     #[cycle(expressions)]
     #[tactic(auto, unfolding(crate::specs::Exact::operand, tokens::specs::Token::same_kind))]
-    fn operand<'t>(&self, tokens: &'t [Token<'t>]) -> Result<(Expr<A>, &'t [Token<'t>]), ReadFault>
-        ensures gives { Gives (λ p. (expr_of p.0, toks_of p.1.now)) result (operand (toks_of tokens.now)) }
-        ensures shorter { IfOk result (λ p. length p.1.now < length tokens.now) }
+    fn operand<'t>(&self, tokens: &'t [Token<'t>]) -> Read<'t, Expr<A>>
+        ensures gives { Reads expr_of result operand tokens.now }
+        ensures shorter { Shorter result tokens.now }
     {
         let Some((first, rest)) = tokens.split_first() else {
             return Err(ReadFault::Syntax(self.end));

@@ -9,6 +9,8 @@ ghost use Rattle.syntax.specs.declared.fault.ReadFault.{ReadFault};
 /// faults 1 to 4 stands.
 pub fn texts_have_one_tree()
     ensures one_tree { (bytes : List ℕ) (tree other : Tree) → Text bytes tree → Text bytes other → tree ≡ other }
-    ensures no_fault { (bytes : List ℕ) (tree : Tree) (fault : ReadFault) → Text bytes tree → Stands fault bytes → number fault ≡ 5 }
-    ensures one_fault { (bytes : List ℕ) (fault other : ReadFault) → Stands fault bytes → Stands other bytes → number fault < 5 → number other < 5 → number fault ≡ number other }
+    ensures no_fault { (bytes : List ℕ) (tree : Tree) (fault : ReadFault)
+        → Text bytes tree → Stands fault bytes → number fault ≡ 5 }
+    ensures one_fault { (bytes : List ℕ) (fault other : ReadFault)
+        → Stands fault bytes → Stands other bytes → number fault < 5 → number other < 5 → number fault ≡ number other }
 {}

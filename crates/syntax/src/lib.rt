@@ -3,6 +3,7 @@
 
 mod expression;
 mod fault;
+mod item;
 mod laws;
 mod lists;
 mod names;
@@ -13,6 +14,7 @@ mod printing;
 mod program;
 mod reader;
 mod reading;
+mod show;
 mod statement;
 mod tree;
 

@@ -4,13 +4,12 @@ ghost use Rattle.std.specs.Prelude.{◌≡◌, ◌+◌, ◌++◌, IfOk, option_m
 ghost use Rattle.std.specs.String.{string_bytes};
 ghost use Rattle.tokens.specs.Parts.{text_of};
 ghost use Rattle.language.specs.Tree.{assign, goto, call};
-ghost use Rattle.syntax.specs.Trees.{name_of, names_of, exprs_of, rhs_of, rhss_of, simple, branch, repeat, deed_of, block_of};
-ghost use Rattle.syntax.specs.Printed.{side_parts, label_parts, margin, block_parts};
+ghost use Rattle.syntax.specs.Trees.{name_of, names_of, exprs_of, rhs_of, rhss_of};
+ghost use Rattle.syntax.specs.Trees.{simple, branch, repeat, deed_of, block_of};
+ghost use Rattle.syntax.specs.Printed.{Prints, side_parts, label_parts, margin, block_parts};
 ghost use Rattle.syntax.specs.PrintedDeed.{deed_parts};
 
-use crate::print_expressions::{
-    print_expressions, print_name, print_names, print_side, print_sides,
-};
+use crate::show::{Show, print_list};
 use crate::tree::{Core, Expr, Name, Rhs, Stmt};
 use std::alloc::{AllocError, Allocator};
 
@@ -23,7 +22,7 @@ fn below(level: usize) -> Result<usize, AllocError>
 
 /// Prints two spaces for each level.
 pub fn print_margin<A: Allocator>(out: &mut String<A>, level: usize) -> Result<(), AllocError>
-    ensures { IfOk result (λ _. string_bytes out.new ≡ string_bytes out.old ++ text_of (margin level)) }
+    ensures { Prints result out.old out.new (margin level) }
 {
     for _ in 0..level {
         out.push_str("  ")?;
@@ -44,12 +43,12 @@ fn print_label<N: Allocator, A: Allocator>(
     out: &mut String<A>,
     label: &Option<Name<N>>,
 ) -> Result<(), AllocError>
-    ensures { IfOk result (λ _. string_bytes out.new ≡ string_bytes out.old ++ text_of (label_parts (option_map name_of label.now))) }
+    ensures { Prints result out.old out.new (label_parts (option_map name_of label.now)) }
 {
     let Some(name) = label else {
         return Ok(());
     };
-    print_name(out, name)?;
+    name.print(out)?;
     out.push_str(": ")
 }
 
@@ -60,10 +59,11 @@ fn print_test<N: Allocator, A: Allocator>(
     side: &Rhs<N>,
     behind: &str,
 ) -> Result<(), AllocError>
-    ensures { IfOk result (λ _. string_bytes out.new ≡ string_bytes out.old ++ (before.now ++ (text_of (side_parts (rhs_of side.now)) ++ behind.now))) }
+    ensures { IfOk result (λ _. string_bytes out.new
+        ≡ string_bytes out.old ++ (before.now ++ (text_of (side_parts (rhs_of side.now)) ++ behind.now))) }
 {
     out.push_str(before)?;
-    print_side(out, side)?;
+    side.print(out)?;
     out.push_str(behind)
 }
 
@@ -72,10 +72,10 @@ fn print_jump<N: Allocator, A: Allocator>(
     out: &mut String<A>,
     label: &Name<N>,
 ) -> Result<(), AllocError>
-    ensures { IfOk result (λ _. string_bytes out.new ≡ string_bytes out.old ++ text_of (deed_parts 0 (simple (goto (name_of label.now))))) }
+    ensures { Prints result out.old out.new (deed_parts 0 (simple (goto (name_of label.now)))) }
 {
     out.push_str("goto ")?;
-    print_name(out, label)?;
+    label.print(out)?;
     out.push_str(";\n")
 }
 
@@ -85,11 +85,12 @@ fn print_assignment<N: Allocator, A: Allocator>(
     targets: &[Name<N>],
     sides: &[Rhs<N>],
 ) -> Result<(), AllocError>
-    ensures { IfOk result (λ _. string_bytes out.new ≡ string_bytes out.old ++ text_of (deed_parts 0 (simple (assign (names_of targets.now) (rhss_of sides.now))))) }
+    ensures { Prints result out.old out.new
+        (deed_parts 0 (simple (assign (names_of targets.now) (rhss_of sides.now)))) }
 {
-    print_names(out, targets)?;
+    print_list(out, targets)?;
     out.push_str(" := ")?;
-    print_sides(out, sides)?;
+    print_list(out, sides)?;
     out.push_str(";\n")
 }
 
@@ -99,11 +100,11 @@ fn print_call<N: Allocator, A: Allocator>(
     name: &Name<N>,
     arguments: &[Expr<N>],
 ) -> Result<(), AllocError>
-    ensures { IfOk result (λ _. string_bytes out.new ≡ string_bytes out.old ++ text_of (deed_parts 0 (simple (call (name_of name.now) (exprs_of arguments.now))))) }
+    ensures { Prints result out.old out.new (deed_parts 0 (simple (call (name_of name.now) (exprs_of arguments.now)))) }
 {
-    print_name(out, name)?;
+    name.print(out)?;
     out.push_str("(")?;
-    print_expressions(out, arguments)?;
+    print_list(out, arguments)?;
     out.push_str(");\n")
 }
 
@@ -114,7 +115,7 @@ pub fn print_block<N: Allocator, A: Allocator>(
     level: usize,
     stmts: &[Stmt<N>],
 ) -> Result<(), AllocError>
-    ensures { IfOk result (λ _. string_bytes out.new ≡ string_bytes out.old ++ text_of (block_parts level (block_of stmts.now))) }
+    ensures { Prints result out.old out.new (block_parts level (block_of stmts.now)) }
 {
     for stmt in stmts {
         print_margin(out, level)?;
@@ -131,7 +132,7 @@ fn print_core<N: Allocator, A: Allocator>(
     level: usize,
     core: &Core<N>,
 ) -> Result<(), AllocError>
-    ensures { IfOk result (λ _. string_bytes out.new ≡ string_bytes out.old ++ text_of (deed_parts level (deed_of core.now))) }
+    ensures { Prints result out.old out.new (deed_parts level (deed_of core.now)) }
 {
     match core {
         Core::Skip => out.push_str("skip;\n"),
@@ -155,7 +156,8 @@ fn print_branch<N: Allocator, A: Allocator>(
     then: &[Stmt<N>],
     otherwise: &[Stmt<N>],
 ) -> Result<(), AllocError>
-    ensures { IfOk result (λ _. string_bytes out.new ≡ string_bytes out.old ++ text_of (deed_parts level (branch (rhs_of side.now) (block_of then.now) (block_of otherwise.now)))) }
+    ensures { Prints result out.old out.new
+        (deed_parts level (branch (rhs_of side.now) (block_of then.now) (block_of otherwise.now))) }
 {
     let inner = below(level)?;
     print_test(out, "if (", side, ") then\n")?;
@@ -173,7 +175,7 @@ fn print_loop<N: Allocator, A: Allocator>(
     side: &Rhs<N>,
     body: &[Stmt<N>],
 ) -> Result<(), AllocError>
-    ensures { IfOk result (λ _. string_bytes out.new ≡ string_bytes out.old ++ text_of (deed_parts level (repeat (rhs_of side.now) (block_of body.now)))) }
+    ensures { Prints result out.old out.new (deed_parts level (repeat (rhs_of side.now) (block_of body.now))) }
 {
     let inner = below(level)?;
     print_test(out, "while (", side, ") do\n")?;

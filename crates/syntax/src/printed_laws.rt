@@ -1,6 +1,6 @@
 //! Laws of printed texts.
 
-ghost use Rattle.std.specs.Prelude.{◌≡◌, ℕ, List, codes};
+ghost use Rattle.std.specs.Prelude.{◌≡◌, ◌++◌, ℕ, List, codes};
 ghost use Rattle.language.specs.Tree.{Tree};
 ghost use Rattle.syntax.specs.InGrammar.{InGrammar, WithinLimits, IsTextOf};
 ghost use Rattle.syntax.specs.Printed.{printed};
@@ -12,10 +12,13 @@ ghost use Rattle.syntax.specs.Text.{Text};
 pub fn printed_texts_are_read_back()
     ensures in_grammar { (bytes : List ℕ) (tree : Tree) → Text bytes tree → InGrammar tree }
     ensures reads_back { (tree : Tree) → InGrammar tree → WithinLimits (printed tree) → IsTextOf (printed tree) tree }
-    ensures again { (bytes : List ℕ) (tree : Tree) → Text bytes tree → WithinLimits (printed tree) → IsTextOf (printed tree) tree }
+    ensures again { (bytes : List ℕ) (tree : Tree)
+        → Text bytes tree → WithinLimits (printed tree) → IsTextOf (printed tree) tree }
 {}
 
 /// A law: how a small program with a loop, a label and a jump is printed.
 pub fn a_loop_is_printed_over_lines()
-    ensures { printed jumping ≡ codes "decl x, y;\np(v)\nbegin\n  decl l;\n  L: while (?) do\n    x, l := v = !l, ?;\n  od\n  goto L;\nend\nthread p;\n" }
+    ensures { printed jumping
+        ≡ codes "decl x, y;\np(v)\nbegin\n  decl l;\n  L: while (?) do\n    x, l := v = !l, ?;\n"
+        ++ codes "  od\n  goto L;\nend\nthread p;\n" }
 {}

@@ -1,9 +1,8 @@
 //! What each reader of tokens needs, and the readers of single tokens.
 
-ghost use Rattle.std.specs.Prelude.{◌≡◌, ◌<◌, ◌++◌, ◌∷◌, [], length, IfOk, IsOkUnless};
-ghost use Rattle.syntax.specs.Gives.{Gives};
+ghost use Rattle.std.specs.Prelude.{◌≡◌, ◌++◌, ◌∷◌, [], IfOk, IsOkUnless};
+ghost use Rattle.syntax.specs.Gives.{Reads, Shorter};
 ghost use Rattle.syntax.specs.Parser.{begins, take};
-ghost use Rattle.syntax.specs.Exact.{name};
 ghost use Rattle.syntax.specs.Grammar.{name_at};
 ghost use Rattle.syntax.specs.Trees.{name_of};
 ghost use Rattle.tokens.specs.Token.{tok_of, toks_of};
@@ -12,6 +11,9 @@ use crate::fault::ReadFault;
 use crate::tree::Name;
 use std::alloc::Allocator;
 use tokens::{Kind, Token};
+
+/// What was read, and the tokens after it.
+pub type Read<'t, T> = Result<(T, &'t [Token<'t>]), ReadFault>;
 
 /// What all readers share: where trees are allocated, and the length of the text.
 #[derive(Drop)]
@@ -62,13 +64,9 @@ impl<'a, A: Allocator + Clone> Reader<'a, A> {
     }
 
     /// Reads a token of this kind.
-    pub fn take<'t>(
-        &self,
-        kind: Kind,
-        tokens: &'t [Token<'t>],
-    ) -> Result<(Token<'t>, &'t [Token<'t>]), ReadFault>
-        ensures gives { Gives (λ p. (tok_of p.0, toks_of p.1.now)) result (take kind (toks_of tokens.now)) }
-        ensures shorter { IfOk result (λ p. length p.1.now < length tokens.now) }
+    pub fn take<'t>(&self, kind: Kind, tokens: &'t [Token<'t>]) -> Read<'t, Token<'t>>
+        ensures gives { Reads tok_of result (take kind) tokens.now }
+        ensures shorter { Shorter result tokens.now }
     {
         let Some((first, rest)) = tokens.split_first() else {
             return Err(ReadFault::Syntax(self.end));
@@ -87,14 +85,5 @@ impl<'a, A: Allocator + Clone> Reader<'a, A> {
     {
         let text = String::from_str(self.alloc.clone()?, token.text)?;
         Ok(Name { text, at: token.at })
-    }
-
-    /// Reads a name.
-    pub fn id<'t>(&self, tokens: &'t [Token<'t>]) -> Result<(Name<A>, &'t [Token<'t>]), ReadFault>
-        ensures gives { Gives (λ p. (name_of p.0, toks_of p.1.now)) result (name (toks_of tokens.now)) }
-        ensures shorter { IfOk result (λ p. length p.1.now < length tokens.now) }
-    {
-        let (token, rest) = self.take(Kind::Id, tokens)?;
-        Ok((self.name(&token)?, rest))
     }
 }

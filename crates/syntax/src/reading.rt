@@ -22,7 +22,8 @@ pub fn read<A: Allocator + Clone>(alloc: A, bytes: &[u8]) -> Result<Program<A>, 
     // What is read is a text with that tree.
     ensures found { IfOk result (λ program. Text bytes.now (tree_of program)) }
     // Each text is read, with its one tree, unless memory runs out.
-    ensures only { (tree : Tree) → Text bytes.now tree → MatchResult result (λ program. tree_of program ≡ tree) (λ fault. fault ≡ Memory) }
+    ensures only { (tree : Tree) → Text bytes.now tree
+        → MatchResult result (λ program. tree_of program ≡ tree) (λ fault. fault ≡ Memory) }
     // A fault that is answered stands.
     ensures fault { IfErr result (λ fault. Stands fault bytes.now) }
 {

@@ -36,7 +36,8 @@ pub fn cut<'a, A: Allocator>(alloc: A, text: &'a str) -> Result<Vec<Token<'a>, A
     requires ascii { IsAscii text.now }
     requires within { length text.now ≤ 65536 }
     ensures cuts { IfOk result (λ tokens. Cuts 0 text.now (toks_of tokens.items)) }
-    ensures only { IfOk result (λ tokens. (others : List Tok) → Cuts 0 text.now others → others ≡ toks_of tokens.items) }
+    ensures only { IfOk result
+        (λ tokens. (others : List Tok) → Cuts 0 text.now others → others ≡ toks_of tokens.items) }
     ensures place { IfErr result (λ fault. NamesPlace fault text.now) }
     ensures uncut { IfErr result (λ fault. IsUncut fault text.now) }
 {
@@ -63,7 +64,10 @@ pub fn cut<'a, A: Allocator>(alloc: A, text: &'a str) -> Result<Vec<Token<'a>, A
 
 /// A law: no bytes are cut in two ways, none are both cut and bad, and none are bad in two places.
 pub fn cutting_is_unique()
-    ensures tokens { (at : ℕ) (bytes : List ℕ) (tokens others : List Tok) → Cuts at bytes tokens → Cuts at bytes others → tokens ≡ others }
-    ensures uncut { (at place : ℕ) (bytes : List ℕ) (tokens : List Tok) → BadAt at bytes place → Cuts at bytes tokens → ⊥ }
-    ensures place { (at place other : ℕ) (bytes : List ℕ) → BadAt at bytes place → BadAt at bytes other → place ≡ other }
+    ensures tokens { (at : ℕ) (bytes : List ℕ) (tokens others : List Tok)
+        → Cuts at bytes tokens → Cuts at bytes others → tokens ≡ others }
+    ensures uncut { (at place : ℕ) (bytes : List ℕ) (tokens : List Tok)
+        → BadAt at bytes place → Cuts at bytes tokens → ⊥ }
+    ensures place { (at place other : ℕ) (bytes : List ℕ)
+        → BadAt at bytes place → BadAt at bytes other → place ≡ other }
 {}

@@ -92,7 +92,8 @@ pub fn sign_at_front(bytes: &[u8]) -> Option<(Kind, usize)>
     ensures within { IfSome result (λ found. found.1 ≤ length bytes.now) }
     ensures some { IfSome result (λ found. sign found.0 ≡ Some (take found.1 bytes.now)) }
     ensures longest { IfSome result (λ found. IsLongestSign (take found.1 bytes.now) bytes.now) }
-    ensures none { IfNone result ((k : Kind) (spelled rest : List ℕ) → sign k ≡ Some spelled → bytes.now ≢ spelled ++ rest) }
+    ensures none { IfNone result
+        ((k : Kind) (spelled rest : List ℕ) → sign k ≡ Some spelled → bytes.now ≢ spelled ++ rest) }
 {
     let first = bytes[0];
     if bytes.len() >= 2 {

@@ -4,5 +4,7 @@ use Rattle.syntax.proofs.print_statements.print_call.Goals as goal
 
 pub returns : goal.returns
 returns g c =
-    call_pushed c.push_str-2.result (string_bytes c.args.out.now) (string_bytes c.push_str-2.new.self) (string_bytes c.print_name.new.out) (string_bytes c.push_str.new.self) (string_bytes c.print_expressions.new.out) c.args.name.now c.args.arguments.now
-    c.in_ok-print_name.ensures c.in_ok-push_str.ensures.bytes c.in_ok-print_expressions.ensures c.push_str-2.ensures.bytes
+    call_pushed c.push_str-2.result (string_bytes c.args.out.now) (string_bytes c.push_str-2.new.self)
+    (string_bytes c.print.new.out) (string_bytes c.push_str.new.self) (string_bytes c.print_list.new.out)
+    c.args.name.now c.args.arguments.now
+    c.in_ok-print.ensures c.in_ok-push_str.ensures.bytes c.in_ok-print_list.ensures c.push_str-2.ensures.bytes

@@ -8,8 +8,14 @@ use Rattle.syntax.proofs.printing.print.Goals as goal
 
 pub returns : goal.returns
 returns g c =
-    let form : string_bytes c.print_threads.new.out ≡ printed (tree_of c.args.program.now) =
+    let form : string_bytes c.print_all-2.new.out ≡ printed (tree_of c.args.program.now) =
     program_printed c.args.program.now c.deref.result.now c.deref-2.result.now c.deref-3.result.now
-    (string_bytes c.new-out.result) (string_bytes c.print_declaration.new.out) (string_bytes c.print_procedures.new.out) (string_bytes c.print_threads.new.out) c.new-out.ensures.bytes
-    c.deref.ensures.value c.deref-2.ensures.value c.deref-3.ensures.value c.in_ok-print_declaration.ensures c.in_ok-print_procedures.ensures c.in_ok-print_threads.ensures in
-    record { form = form; back = λ ok. bytes_read_back (string_bytes c.print_threads.new.out) (tree_of c.args.program.now) form ok }
+    (string_bytes c.new-out.result) (string_bytes c.print_declaration.new.out) (string_bytes c.print_all.new.out)
+    (string_bytes c.print_all-2.new.out) c.new-out.ensures.bytes
+    c.deref.ensures.value c.deref-2.ensures.value c.deref-3.ensures.value c.in_ok-print_declaration.ensures
+    c.in_ok-print_all.ensures c.in_ok-print_all-2.ensures in
+    record {
+      form = form;
+      back = λ ok. bytes_read_back (string_bytes c.print_all-2.new.out)
+          (tree_of c.args.program.now) form ok;
+    }

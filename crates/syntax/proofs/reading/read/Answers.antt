@@ -3,32 +3,15 @@ use Rattle.std.specs.Prelude.{IsTrue}
 use Rattle.tokens.specs.Token.{Tok, toks_of}
 use Rattle.tokens.specs.Cuts.{Cuts}
 use Rattle.tokens.specs.Depth.{TooDeep}
-use Rattle.syntax.proofs.Texts.{text_found, text_only, text_fault}
+use Rattle.syntax.proofs.Texts.{text_read}
 use Rattle.syntax.proofs.reading.read.Goals as goal
 
-pub returns-clause-found : goal.returns-clause-found
-returns-clause-found g c =
+pub returns : goal.returns
+returns g c =
     let same = c.in-Some.ensures.same in
     let cut : Cuts 0 c.args.bytes.now (toks_of c.in_ok-tokens.tokens.items) = rw same at c.in_ok-tokens.ensures.cuts in
     let only : (others : List Tok) → Cuts 0 c.args.bytes.now others → others ≡ toks_of c.in_ok-tokens.tokens.items = λ others h. c.in_ok-tokens.ensures.only others (rw same h) in
     let shallow : TooDeep (toks_of c.in_ok-tokens.tokens.items) → ⊥ = λ deep. let is : IsTrue c.is_too_deep.result = c.is_too_deep.ensures.1 (rw c.deref.ensures.value deep) in let no = c.if-is_too_deep.false in cc in
-    text_found g.row.A.Denot c.args.bytes.now (toks_of c.in_ok-tokens.tokens.items) c.if-bytes-gt-LIMIT.false c.in-Some.ensures.ascii cut only shallow
-    c.program.result (rw c.deref-2.ensures.value at c.program.ensures.gives)
-
-pub returns-clause-only : goal.returns-clause-only
-returns-clause-only g c =
-    let same = c.in-Some.ensures.same in
-    let cut : Cuts 0 c.args.bytes.now (toks_of c.in_ok-tokens.tokens.items) = rw same at c.in_ok-tokens.ensures.cuts in
-    let only : (others : List Tok) → Cuts 0 c.args.bytes.now others → others ≡ toks_of c.in_ok-tokens.tokens.items = λ others h. c.in_ok-tokens.ensures.only others (rw same h) in
-    let shallow : TooDeep (toks_of c.in_ok-tokens.tokens.items) → ⊥ = λ deep. let is : IsTrue c.is_too_deep.result = c.is_too_deep.ensures.1 (rw c.deref.ensures.value deep) in let no = c.if-is_too_deep.false in cc in
-    text_only g.row.A.Denot c.args.bytes.now (toks_of c.in_ok-tokens.tokens.items) c.if-bytes-gt-LIMIT.false c.in-Some.ensures.ascii cut only shallow
-    c.program.result (rw c.deref-2.ensures.value at c.program.ensures.gives)
-
-pub returns-clause-fault : goal.returns-clause-fault
-returns-clause-fault g c =
-    let same = c.in-Some.ensures.same in
-    let cut : Cuts 0 c.args.bytes.now (toks_of c.in_ok-tokens.tokens.items) = rw same at c.in_ok-tokens.ensures.cuts in
-    let only : (others : List Tok) → Cuts 0 c.args.bytes.now others → others ≡ toks_of c.in_ok-tokens.tokens.items = λ others h. c.in_ok-tokens.ensures.only others (rw same h) in
-    let shallow : TooDeep (toks_of c.in_ok-tokens.tokens.items) → ⊥ = λ deep. let is : IsTrue c.is_too_deep.result = c.is_too_deep.ensures.1 (rw c.deref.ensures.value deep) in let no = c.if-is_too_deep.false in cc in
-    text_fault g.row.A.Denot c.args.bytes.now (toks_of c.in_ok-tokens.tokens.items) c.if-bytes-gt-LIMIT.false c.in-Some.ensures.ascii cut only shallow
+    text_read g.row.A.Denot c.args.bytes.now (toks_of c.in_ok-tokens.tokens.items) c.if-bytes-gt-LIMIT.false
+    c.in-Some.ensures.ascii cut only shallow
     c.program.result (rw c.deref-2.ensures.value at c.program.ensures.gives)

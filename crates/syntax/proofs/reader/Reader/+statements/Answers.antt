@@ -1,33 +1,36 @@
-use Rattle.std.proofs.Common.{rules, arith, List, [], ◌∷◌, ◌++◌, ◌∙◌, ap, sym, Some}
-use Rattle.std.proofs.lemmas.Result.{err_from_is_err_and}
+use Rattle.std.proofs.Common.{rules, arith, List, [], ◌∙◌, ap, sym, Some}
 use Rattle.tokens.specs.declared.vocabulary.Kind.TheVariants as kind
-use Rattle.tokens.specs.Token.{toks_of}
+use Rattle.tokens.specs.Token.{toks_of, same_kind}
 use Rattle.syntax.specs.Parser.{take}
-use Rattle.syntax.specs.Exact.{item, section, section_behind, going_on, put_before, if_deed, while_deed}
+use Rattle.syntax.specs.Exact.{item, section_behind, going_on, put_before, if_deed, while_deed}
 use Rattle.syntax.specs.Trees.{Deed, Item, item_of, items_of}
-use Rattle.syntax.proofs.Exits.{fails_on}
-use Rattle.syntax.proofs.Folds.{deed_of-If, deed_of-While}
-use Rattle.syntax.proofs.Goings.{sections_start, sections_no_start, sections_go_on, sections_refused, if_no_yes, if_no_no, if_no_end, if_whole, while_no_body, while_no_end, while_whole, deed_skip, deed_return, deed_goto, deed_assert, deed_assume, deed_if, deed_while}
+use Rattle.syntax.proofs.Exits.{refused}
+use Rattle.syntax.proofs.Folds.{deed_of-Skip, deed_of-Return, deed_of-If, deed_of-While}
+use Rattle.syntax.proofs.Goings.{sections_start, sections_no_start, sections_go_on, sections_refused}
+use Rattle.syntax.proofs.Goings.{if_no_yes, if_no_no, if_no_end, if_whole, while_no_body, while_no_end}
+use Rattle.syntax.proofs.Goings.{while_whole, deed_begins}
 use Rattle.syntax.proofs.Loops.{pushed}
 use Rattle.syntax.proofs.reader.Reader.+statements.Goals as goal
 
 pub branch-returns-in_err-yes-clause-gives : goal.branch-returns-in_err-yes-clause-gives
 branch-returns-in_err-yes-clause-gives g t c =
-    let p = err_from_is_err_and c.from_residual-in_err-yes.result c.from_residual-in_err-yes.ensures.1 in
-    rw (p.1, p.2) (fails_on _ (section_behind kind.Then (toks_of c.in_ok-side.opened.now)) (if_deed (toks_of c.args.tokens.now))
-    (if_no_yes (toks_of c.args.tokens.now) c.in_ok-side.ensures.gives) c.in_err-yes.ensures.gives)
+    refused _ c.from_residual-in_err-yes.result _ (section_behind kind.Then (toks_of c.in_ok-side.opened.now)) _
+    c.from_residual-in_err-yes.ensures.1
+    (if_no_yes (toks_of c.args.tokens.now) c.in_ok-side.ensures.gives) c.in_err-yes.ensures.gives
 
 pub branch-returns-in_err-no-clause-gives : goal.branch-returns-in_err-no-clause-gives
 branch-returns-in_err-no-clause-gives g t c =
-    let p = err_from_is_err_and c.from_residual-in_err-no.result c.from_residual-in_err-no.ensures.1 in
-    rw (p.1, p.2) (fails_on _ (section_behind kind.Else (toks_of c.in_ok-yes.between.now)) (if_deed (toks_of c.args.tokens.now))
-    (if_no_no (toks_of c.args.tokens.now) c.in_ok-side.ensures.gives c.in_ok-yes.ensures.gives) c.in_err-no.ensures.gives)
+    refused _ c.from_residual-in_err-no.result _ (section_behind kind.Else (toks_of c.in_ok-yes.between.now)) _
+    c.from_residual-in_err-no.ensures.1
+    (if_no_no (toks_of c.args.tokens.now) c.in_ok-side.ensures.gives c.in_ok-yes.ensures.gives)
+    c.in_err-no.ensures.gives
 
 pub branch-returns-in_err-rest-clause-gives : goal.branch-returns-in_err-rest-clause-gives
 branch-returns-in_err-rest-clause-gives g t c =
-    let p = err_from_is_err_and c.from_residual-in_err-rest.result c.from_residual-in_err-rest.ensures.1 in
-    rw (p.1, p.2) (fails_on _ (take kind.Fi (toks_of c.in_ok-no.ended.now)) (if_deed (toks_of c.args.tokens.now))
-    (if_no_end (toks_of c.args.tokens.now) c.in_ok-side.ensures.gives c.in_ok-yes.ensures.gives c.in_ok-no.ensures.gives) c.in_err-rest.ensures.gives)
+    refused _ c.from_residual-in_err-rest.result _ (take kind.Fi (toks_of c.in_ok-no.ended.now)) _
+    c.from_residual-in_err-rest.ensures.1
+    (if_no_end (toks_of c.args.tokens.now) c.in_ok-side.ensures.gives c.in_ok-yes.ensures.gives
+    c.in_ok-no.ensures.gives) c.in_err-rest.ensures.gives
 
 pub branch-returns-clause-gives : goal.branch-returns-clause-gives
 branch-returns-clause-gives g t c =
@@ -39,44 +42,59 @@ branch-returns-clause-shorter g t c =
     omega (arith, c.in_ok-side.ensures.shorter, c.in_ok-yes.ensures.shorter, c.in_ok-no.ensures.shorter, c.in_ok-rest.ensures.shorter)
 
 pub core-returns-in-Skip-clause-gives : goal.core-returns-in-Skip-clause-gives
+unfolding same_kind if_deed while_deed
 core-returns-in-Skip-clause-gives g t c =
-    rw (deed_skip c.args.tokens.now c.in-Some.others.now c.in-Some.first.now c.in-Some.ensures.cases.0 c.in-Skip.is) c.skipping.ensures.gives
+    rw (deed_begins kind.Skip c.args.tokens.now c.in-Some.others.now c.in-Some.first.now c.in-Some.ensures.cases.0
+    c.in-Skip.is) (rw (deed_of-Skip g.row.A.Denot) at c.ended.ensures.gives)
 
 pub core-returns-in-Return-clause-gives : goal.core-returns-in-Return-clause-gives
+unfolding same_kind if_deed while_deed
 core-returns-in-Return-clause-gives g t c =
-    rw (deed_return c.args.tokens.now c.in-Some.others.now c.in-Some.first.now c.in-Some.ensures.cases.0 c.in-Return.is) c.leaving.ensures.gives
+    rw (deed_begins kind.Return c.args.tokens.now c.in-Some.others.now c.in-Some.first.now c.in-Some.ensures.cases.0
+    c.in-Return.is) (rw (deed_of-Return g.row.A.Denot) at c.ended-in-Return.ensures.gives)
 
 pub core-returns-in-Goto-clause-gives : goal.core-returns-in-Goto-clause-gives
+unfolding same_kind if_deed while_deed
 core-returns-in-Goto-clause-gives g t c =
-    rw (deed_goto c.args.tokens.now c.in-Some.others.now c.in-Some.first.now c.in-Some.ensures.cases.0 c.in-Goto.is) c.jumping.ensures.gives
+    rw (deed_begins kind.Goto c.args.tokens.now c.in-Some.others.now c.in-Some.first.now c.in-Some.ensures.cases.0
+    c.in-Goto.is) c.jumping.ensures.gives
 
 pub core-returns-in-Assert-clause-gives : goal.core-returns-in-Assert-clause-gives
+unfolding same_kind if_deed while_deed
 core-returns-in-Assert-clause-gives g t c =
-    rw (deed_assert c.args.tokens.now c.in-Some.others.now c.in-Some.first.now c.in-Some.ensures.cases.0 c.in-Assert.is) c.asserting.ensures.gives
+    rw (deed_begins kind.Assert c.args.tokens.now c.in-Some.others.now c.in-Some.first.now c.in-Some.ensures.cases.0
+    c.in-Assert.is) c.asserting.ensures.gives
 
 pub core-returns-in-Assume-clause-gives : goal.core-returns-in-Assume-clause-gives
+unfolding same_kind if_deed while_deed
 core-returns-in-Assume-clause-gives g t c =
-    rw (deed_assume c.args.tokens.now c.in-Some.others.now c.in-Some.first.now c.in-Some.ensures.cases.0 c.in-Assume.is) c.assuming.ensures.gives
+    rw (deed_begins kind.Assume c.args.tokens.now c.in-Some.others.now c.in-Some.first.now c.in-Some.ensures.cases.0
+    c.in-Assume.is) c.assuming.ensures.gives
 
 pub core-returns-in-If-clause-gives : goal.core-returns-in-If-clause-gives
+unfolding same_kind if_deed while_deed
 core-returns-in-If-clause-gives g t c =
-    rw (deed_if c.args.tokens.now c.in-Some.others.now c.in-Some.first.now c.in-Some.ensures.cases.0 c.in-If.is) c.branch-self.ensures.gives
+    rw (deed_begins kind.If c.args.tokens.now c.in-Some.others.now c.in-Some.first.now c.in-Some.ensures.cases.0
+    c.in-If.is) c.branch-self.ensures.gives
 
 pub core-returns-in-While-clause-gives : goal.core-returns-in-While-clause-gives
+unfolding same_kind if_deed while_deed
 core-returns-in-While-clause-gives g t c =
-    rw (deed_while c.args.tokens.now c.in-Some.others.now c.in-Some.first.now c.in-Some.ensures.cases.0 c.in-While.is) c.repeat.ensures.gives
+    rw (deed_begins kind.While c.args.tokens.now c.in-Some.others.now c.in-Some.first.now c.in-Some.ensures.cases.0
+    c.in-While.is) c.repeat.ensures.gives
 
 pub repeat-returns-in_err-body-clause-gives : goal.repeat-returns-in_err-body-clause-gives
 repeat-returns-in_err-body-clause-gives g t c =
-    let p = err_from_is_err_and c.from_residual-in_err-body.result c.from_residual-in_err-body.ensures.1 in
-    rw (p.1, p.2) (fails_on _ (section_behind kind.Do (toks_of c.in_ok-side.opened.now)) (while_deed (toks_of c.args.tokens.now))
-    (while_no_body (toks_of c.args.tokens.now) c.in_ok-side.ensures.gives) c.in_err-body.ensures.gives)
+    refused _ c.from_residual-in_err-body.result _ (section_behind kind.Do (toks_of c.in_ok-side.opened.now)) _
+    c.from_residual-in_err-body.ensures.1
+    (while_no_body (toks_of c.args.tokens.now) c.in_ok-side.ensures.gives) c.in_err-body.ensures.gives
 
 pub repeat-returns-in_err-rest-clause-gives : goal.repeat-returns-in_err-rest-clause-gives
 repeat-returns-in_err-rest-clause-gives g t c =
-    let p = err_from_is_err_and c.from_residual-in_err-rest.result c.from_residual-in_err-rest.ensures.1 in
-    rw (p.1, p.2) (fails_on _ (take kind.Od (toks_of c.in_ok-body.ended.now)) (while_deed (toks_of c.args.tokens.now))
-    (while_no_end (toks_of c.args.tokens.now) c.in_ok-side.ensures.gives c.in_ok-body.ensures.gives) c.in_err-rest.ensures.gives)
+    refused _ c.from_residual-in_err-rest.result _ (take kind.Od (toks_of c.in_ok-body.ended.now)) _
+    c.from_residual-in_err-rest.ensures.1
+    (while_no_end (toks_of c.args.tokens.now) c.in_ok-side.ensures.gives c.in_ok-body.ensures.gives)
+    c.in_err-rest.ensures.gives
 
 pub repeat-returns-clause-gives : goal.repeat-returns-clause-gives
 repeat-returns-clause-gives g t c =
@@ -102,12 +120,12 @@ statements-loop-rest-preserved g t c = record {
 
 pub statements-returns-in_err-first-clause-gives : goal.statements-returns-in_err-first-clause-gives
 statements-returns-in_err-first-clause-gives g t c =
-    let p = err_from_is_err_and c.from_residual.result c.from_residual.ensures.1 in
-    rw (p.1, p.2) (fails_on _ (item (toks_of c.args.tokens.now)) (section (toks_of c.args.tokens.now))
-    (sections_no_start (toks_of c.args.tokens.now)) c.in_err-first.ensures.gives)
+    refused _ c.from_residual.result _ (item (toks_of c.args.tokens.now)) _ c.from_residual.ensures.1
+    (sections_no_start (toks_of c.args.tokens.now)) c.in_err-first.ensures.gives
 
 pub statements-returns-in_err-next-clause-gives : goal.statements-returns-in_err-next-clause-gives
 statements-returns-in_err-next-clause-gives g t c =
-    let p = err_from_is_err_and c.from_residual-in_err-next.result c.from_residual-in_err-next.ensures.1 in
-    rw (p.1, p.2) (fails_on _ (item (toks_of c.loop-rest.rest.now)) (section (toks_of c.args.tokens.now))
-    (λ refused. c.loop-rest.invariant.whole ∙ sections_refused (items_of c.loop-rest.list.items) (toks_of c.loop-rest.rest.now) (sym c.begins_statement.ensures ∙ c.loop-rest-test.true) refused) c.in_err-next.ensures.gives)
+    refused _ c.from_residual-in_err-next.result _ (item (toks_of c.loop-rest.rest.now)) _
+    c.from_residual-in_err-next.ensures.1
+    (λ none. c.loop-rest.invariant.whole ∙ sections_refused (items_of c.loop-rest.list.items) (toks_of
+    c.loop-rest.rest.now) (sym c.begins_statement.ensures ∙ c.loop-rest-test.true) none) c.in_err-next.ensures.gives

@@ -1,0 +1,15 @@
+use Rattle.std.proofs.Common.{◌<◌, length}
+use Rattle.syntax.specs.Exact.{list, more}
+use Rattle.tokens.specs.Token.{toks_of}
+use Rattle.syntax.proofs.Loops.{SoFar}
+use Rattle.syntax.proofs.reader.Reader.list.Given as goal
+
+abbrev pub invariant-loop-rest : goal.invariant-loop-rest
+invariant-loop-rest g l = record {
+  whole : SoFar g.T.Item.tree (more g.T.Item.grammar) (list g.T.Item.grammar (toks_of l.tokens)) l.list.items
+      (toks_of l.rest);
+  shorter : length l.rest < length l.tokens;
+}
+
+abbrev pub decreases-loop-rest : goal.decreases-loop-rest
+decreases-loop-rest g l = length l.rest

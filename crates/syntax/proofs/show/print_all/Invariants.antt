@@ -1,0 +1,11 @@
+use Rattle.std.proofs.Common.{◌≡◌, ◌++◌, map, drop}
+use Rattle.std.specs.String.{string_bytes}
+use Rattle.tokens.specs.Parts.{text_of}
+use Rattle.syntax.specs.Grammar.{joined}
+use Rattle.syntax.proofs.show.print_all.Given as goal
+
+-- the text so far, with what is left, is the whole
+abbrev pub invariant-loop-item : goal.invariant-loop-item
+invariant-loop-item g l =
+    string_bytes l.out ++ text_of (joined (map g.T.Show.parts (map g.T.Show.tree (drop l.item-index l.items))))
+    ≡ string_bytes l.initial.out ++ text_of (joined (map g.T.Show.parts (map g.T.Show.tree l.items)))

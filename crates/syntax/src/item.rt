@@ -1,0 +1,73 @@
+//! What stands one after the other, and the loops that read it.
+
+ghost use Rattle.std.specs.Prelude.{◌≡◌, map, Bool, List};
+ghost use Rattle.syntax.specs.Exact.{list, repeated};
+ghost use Rattle.syntax.specs.Gives.{Reads, Shorter};
+ghost use Rattle.syntax.specs.Parser.{Parser, Strict};
+ghost use Rattle.tokens.specs.Token.{Tok, toks_of};
+
+use crate::reader::{Read, Reader, begins, put};
+use std::alloc::Allocator;
+use tokens::{Kind, Token};
+
+/// What stands one after the other, as the names of a declaration do.
+pub trait Item<A: Allocator + Clone>: Sized + Drop {
+    // The trees that items stand for.
+    ghost Tree: { Type 0 };
+
+    // The tree that an item stands for.
+    ghost tree: { Self → Tree };
+
+    // What the grammar reads as an item.
+    ghost grammar: { Parser Tree };
+
+    /// Reads an item.
+    fn read<'t>(reader: &Reader<'_, A>, tokens: &'t [Token<'t>]) -> Read<'t, Self>
+        ensures gives { Reads tree result grammar tokens.now }
+        ensures shorter { Shorter result tokens.now };
+}
+
+/// An item with no comma before the next.
+pub trait Repeated<A: Allocator + Clone>: Item<A> {
+    // Whether another comes.
+    ghost another: { List Tok → Bool };
+
+    /// Whether another comes.
+    fn comes(tokens: &[Token<'_>]) -> bool
+        ensures { result ≡ another (toks_of tokens.now) };
+}
+
+impl<'a, A: Allocator + Clone> Reader<'a, A> {
+    /// Reads items with commas between them. Most lists have one element, so they begin with room for one.
+    pub fn list<'t, T: Item<A>>(&self, tokens: &'t [Token<'t>]) -> Read<'t, Vec<T, A>>
+        requires { Strict T.grammar }
+        ensures gives { Reads (λ v. map T.tree v.items) result (list T.grammar) tokens.now }
+        ensures shorter { Shorter result tokens.now }
+    {
+        let (first, mut rest) = T::read(self, tokens)?;
+        let mut list = self.one(1, first)?;
+        while begins(Kind::Comma, rest) {
+            let (_, others) = self.take(Kind::Comma, rest)?;
+            let (next, after) = T::read(self, others)?;
+            put(&mut list, next)?;
+            rest = after;
+        }
+        Ok((list, rest))
+    }
+
+    /// Reads items, at least one, as long as another comes.
+    pub fn repeated<'t, T: Repeated<A>>(&self, tokens: &'t [Token<'t>]) -> Read<'t, Vec<T, A>>
+        requires { Strict T.grammar }
+        ensures gives { Reads (λ v. map T.tree v.items) result (repeated T.another T.grammar) tokens.now }
+        ensures shorter { Shorter result tokens.now }
+    {
+        let (first, mut rest) = T::read(self, tokens)?;
+        let mut list = self.one(4, first)?;
+        while T::comes(rest) {
+            let (next, after) = T::read(self, rest)?;
+            put(&mut list, next)?;
+            rest = after;
+        }
+        Ok((list, rest))
+    }
+}

@@ -1,0 +1,49 @@
+//! What is printed one after the other, and the loops that print it.
+
+ghost use Rattle.std.specs.Prelude.{List, map};
+ghost use Rattle.tokens.specs.Parts.{Part};
+ghost use Rattle.syntax.specs.Grammar.{joined};
+ghost use Rattle.syntax.specs.Printed.{Prints, separated};
+
+use std::alloc::{AllocError, Allocator};
+
+/// What is printed one after the other, as the names of a declaration are.
+pub trait Show {
+    // The trees that values stand for.
+    ghost Tree: { Type 0 };
+
+    // The tree that a value stands for.
+    ghost tree: { Self → Tree };
+
+    // The printed form of a tree.
+    ghost parts: { Tree → List Part };
+
+    /// Prints the value.
+    fn print<A: Allocator>(&self, out: &mut String<A>) -> Result<(), AllocError>
+        ensures { Prints result out.old out.new (parts (tree self.now)) };
+}
+
+/// Prints values, separated by commas.
+pub fn print_list<T: Show, A: Allocator>(out: &mut String<A>, items: &[T]) -> Result<(), AllocError>
+    ensures { Prints result out.old out.new (separated T.parts (map T.tree items.now)) }
+{
+    let Some((first, others)) = items.split_first() else {
+        return Ok(());
+    };
+    first.print(out)?;
+    for item in others {
+        out.push_str(", ")?;
+        item.print(out)?;
+    }
+    Ok(())
+}
+
+/// Prints values, one after the other.
+pub fn print_all<T: Show, A: Allocator>(out: &mut String<A>, items: &[T]) -> Result<(), AllocError>
+    ensures { Prints result out.old out.new (joined (map T.parts (map T.tree items.now))) }
+{
+    for item in items {
+        item.print(out)?;
+    }
+    Ok(())
+}
