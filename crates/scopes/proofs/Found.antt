@@ -1,7 +1,6 @@
 -- Putting searches for the least offset together.
-use Rattle.std.proofs.Common.{◌≡◌, ◌≢◌, ℕ, ◌+◌, ◌<◌, ◌≤◌, nat_le, rules, Bool, true, false, cond, List, [], ◌∷◌, ◌++◌, length, map, drop, get_or, Option, Some, None, ◌⊎◌, inl, inr, refl, sym, ◌∙◌, ap, subst, arith}
+use Rattle.std.proofs.Common.{◌≡◌, ◌≢◌, ℕ, ◌<◌, ◌≤◌, nat_le, rules, Bool, true, false, cond, List, [], ◌∷◌, ◌++◌, Option, Some, None, ◌⊎◌, inl, inr, refl, sym, subst, arith}
 use Rattle.std.specs.Prelude.{Result, Ok, Err, IfOk}
-use Rattle.std.proofs.lemmas.List.{drop_more, drop_all}
 use Rattle.std.proofs.lemmas.Bool.Decides.{leb_tells}
 use Rattle.std.specs.Str.{bytes_eq}
 use Rattle.language.specs.Rest.{same_text}
@@ -48,19 +47,19 @@ three l m n false true r a b c = rw (a, b) refl
 three l m n false false true a b c = absurd (grind (arith, leb_tells l m, leb_tells m n, leb_tells l n))
 three l m n false false false a b c = rw (b, c) refl
 
-either_way : (a b c : Option ℕ) → earlier_of a (earlier_of b c) ≡ earlier_of (earlier_of a b) c
+pub either_way : (a b c : Option ℕ) → earlier_of a (earlier_of b c) ≡ earlier_of (earlier_of a b) c
 unfolding earlier_of
 either_way None b c = refl
 either_way (Some l) None c = refl
 either_way (Some l) (Some m) None = past l m (nat_le l m)
 either_way (Some l) (Some m) (Some n) = three l m n (nat_le l m) (nat_le m n) (nat_le l n) refl refl refl
 
-none_after : (a : Option ℕ) → earlier_of a None ≡ a
+pub none_after : (a : Option ℕ) → earlier_of a None ≡ a
 unfolding earlier_of
 none_after None = refl
 none_after (Some m) = refl
 
-none_before : (a : Option ℕ) → earlier_of None a ≡ a
+pub none_before : (a : Option ℕ) → earlier_of None a ≡ a
 unfolding earlier_of
 none_before a = refl
 
@@ -70,29 +69,11 @@ begin {P} = record { goes = λ r h. subst (λ (o : Option ℕ). Finds P o) (sym 
 pub step : {W S R : ℕ → Type 0} (a b : Option ℕ) → Kept W (λ n. S n ⊎ R n) a → Finds S b → Kept W R (earlier_of a b)
 step {W} a b k h = record { goes = λ r g. subst (λ (o : Option ℕ). Finds W o) (either_way a b r) (k.goes (earlier_of b r) (both b r h g)) }
 
--- what has nothing in it may be passed over
-pub pass : {W S R : ℕ → Type 0} (a : Option ℕ) → Kept W (λ n. S n ⊎ R n) a → ((n : ℕ) → S n → ⊥) → Kept W R a
-pass {W} {S} {R} a k h = subst (λ (o : Option ℕ). Kept W R o) (none_after a) (step a None k (nowhere h))
-
 pub weaker : {W R S : ℕ → Type 0} (a : Option ℕ) → ((k : ℕ) → S k → R k) → ((k : ℕ) → R k → S k) → Kept W R a → Kept W S a
 weaker a to back k = record { goes = λ r h. k.goes r (same r to back h) }
 
 pub finish : {W R : ℕ → Type 0} (a : Option ℕ) → Kept W R a → ((n : ℕ) → R n → ⊥) → Finds W a
 finish {W} a k h = subst (λ (o : Option ℕ). Finds W o) (none_after a) (k.goes None (nowhere h))
-
--- a loop over a list: one element more, and the end
-pub next_any : {W : ℕ → Type 0} {X : Type 0} {Y : Type 0} (P : Y → ℕ → Type 0) (f : X → Y) (xs : List X) (i : ℕ) (x : X) (a b r : Option ℕ)
-    → i < length xs → x ≡ get_or xs i x → r ≡ earlier_of a b
-    → Kept W (λ n. AnyOf (λ y. P y n) (map f (drop i xs))) a → Finds (P (f x)) b
-    → Kept W (λ n. AnyOf (λ y. P y n) (map f (drop (i + 1) xs))) r
-next_any {W} {X} P f xs i x a b r lt is e k h =
-    subst (λ (o : Option ℕ). Kept W (λ n. AnyOf (λ y. P y n) (map f (drop (i + 1) xs))) o) (sym e)
-    (step a b (subst (λ (l : List X). Kept W (λ n. AnyOf (λ y. P y n) (map f l)) a) (drop_more xs i x lt ∙ ap (λ (y : X). y ∷ drop (i + 1) xs) (sym is)) k) h)
-
-pub end_any : {W : ℕ → Type 0} {X : Type 0} {Y : Type 0} (P : Y → ℕ → Type 0) (f : X → Y) (xs : List X) (i : ℕ) (a : Option ℕ)
-    → length xs ≤ i → Kept W (λ n. AnyOf (λ y. P y n) (map f (drop i xs))) a → Finds W a
-end_any {W} {X} P f xs i a le k =
-    finish a (subst (λ (l : List X). Kept W (λ n. AnyOf (λ y. P y n) (map f l)) a) (drop_all i xs le) k) (λ n h. h)
 
 -- a name's offset is the answer, where a fact holds that does not speak of offsets
 pub here : {Q : Type 0} (m : ℕ) → Q → Finds (λ n. (m ≡ n) × Q) (Some m)
@@ -126,27 +107,12 @@ in_both P xs ys a b h k =
 pub same_bytes : (xs ys : List ℕ) → bytes_eq xs ys ≡ same_text xs ys
 same_bytes xs ys = refl
 
--- a loop over a list, each member of which has a list of its own: one member more, and the end
-pub next_flat : {W : ℕ → Type 0} {X : Type 0} {Y : Type 0} {Z : Type 0} (P : Z → ℕ → Type 0) (all : List Y → List Z) (g : Y → List Z) (f : X → Y) (xs : List X) (i : ℕ) (x : X) (a b r : Option ℕ)
-    → ((y : Y) (ys : List Y) → all (y ∷ ys) ≡ g y ++ all ys)
-    → i < length xs → x ≡ get_or xs i x → r ≡ earlier_of a b
-    → Kept W (λ n. AnyOf (λ z. P z n) (all (map f (drop i xs)))) a → Finds (λ n. AnyOf (λ z. P z n) (g (f x))) b
-    → Kept W (λ n. AnyOf (λ z. P z n) (all (map f (drop (i + 1) xs)))) r
-next_flat {W} {X} {Y} {Z} P all g f xs i x a b r law lt is e k h =
-    let there : all (map f (drop i xs)) ≡ g (f x) ++ all (map f (drop (i + 1) xs)) =
-    ap (λ (l : List X). all (map f l)) (drop_more xs i x lt ∙ ap (λ (y : X). y ∷ drop (i + 1) xs) (sym is)) ∙ law (f x) (map f (drop (i + 1) xs)) in
-    subst (λ (o : Option ℕ). Kept W (λ n. AnyOf (λ z. P z n) (all (map f (drop (i + 1) xs)))) o) (sym e)
-    (step a b
-    (weaker a (λ n q. elim q [ inl l ↦ any_left (λ z. P z n) _ _ l | inr l ↦ any_right (λ z. P z n) (g (f x)) _ l ]) (λ n. any_append (λ z. P z n) (g (f x)) _)
-    (subst (λ (l : List Z). Kept W (λ n. AnyOf (λ z. P z n) l) a) there k)) h)
-
-pub end_flat : {W : ℕ → Type 0} {X : Type 0} {Y : Type 0} {Z : Type 0} (P : Z → ℕ → Type 0) (all : List Y → List Z) (f : X → Y) (xs : List X) (i : ℕ) (a : Option ℕ)
-    → all [] ≡ [] → length xs ≤ i → Kept W (λ n. AnyOf (λ z. P z n) (all (map f (drop i xs)))) a → Finds W a
-end_flat {W} {X} {Y} {Z} P all f xs i a law le k =
-    finish a (subst (λ (l : List Z). Kept W (λ n. AnyOf (λ z. P z n) l) a) (ap (λ (l : List X). all (map f l)) (drop_all i xs le) ∙ law) k) (λ n h. h)
-
 pub both_of : {P Q : ℕ → Type 0} (a b r : Option ℕ) → r ≡ earlier_of a b → Finds P a → Finds Q b → Finds (λ k. P k ⊎ Q k) r
 both_of {P} {Q} a b r e p q = subst (λ (o : Option ℕ). Finds (λ k. P k ⊎ Q k) o) (sym e) (both a b p q)
+
+pub in_three : {P Q R : ℕ → Type 0} (a b c later r : Option ℕ) → r ≡ earlier_of a later → later ≡ earlier_of b c
+    → Finds P a → Finds Q b → Finds R c → Finds (λ k. P k ⊎ (Q k ⊎ R k)) r
+in_three a b c later r e f p q w = both_of a later r e p (both_of b c later f q w)
 
 -- a search in a thing is one in what equals it
 pub moved : {X : Type 0} (P : X → ℕ → Type 0) (x y : X) (r : Option ℕ) → y ≡ x → Finds (λ n. P x n) r → Finds (λ n. P y n) r

@@ -7,6 +7,7 @@ ghost use Rattle.scopes.specs.Find.{Finds, earlier_of};
 ghost use Rattle.scopes.specs.Statements.{lent};
 ghost use Rattle.scopes.specs.Faults.{IsReserved, HasTwoUnderscores};
 
+use crate::search::earliest;
 use std::alloc::{AllocError, Allocator};
 use syntax::Name;
 
@@ -71,9 +72,5 @@ pub fn reserved_at<A: Allocator>(x: &Name<A>) -> Option<u32>
 pub fn reserved<A: Allocator>(names: &[&Name<A>]) -> Option<u32>
     ensures { Finds (IsReserved (lent names.now)) result }
 {
-    let mut found = None;
-    for name in names {
-        found = earlier(found, reserved_at(name));
-    }
-    found
+    earliest(names, |name| reserved_at(name))
 }

@@ -2,11 +2,12 @@
 
 ghost use Rattle.std.specs.Prelude.{◌≡◌, IfOk};
 ghost use Rattle.syntax.specs.Trees.{proc_of, procs_of, tree_of};
-ghost use Rattle.scopes.specs.Find.{AnyOf, Finds};
+ghost use Rattle.scopes.specs.Find.{Finds};
 ghost use Rattle.scopes.specs.Faults.{ReservedIn, Reserved};
 
 use crate::labels::labels;
 use crate::names::{earlier, lend, reserved};
+use crate::search::try_earliest;
 use crate::statements::flatten;
 use crate::twice::proc_names;
 use std::alloc::{AllocError, Allocator};
@@ -28,20 +29,6 @@ pub fn reserved_in<A: Allocator + Copy>(
     Ok(earlier(first, second))
 }
 
-/// The same for several procedures.
-pub fn reserved_among<A: Allocator + Copy>(
-    alloc: &A,
-    procs: &[Proc<A>],
-) -> Result<Option<u32>, AllocError>
-    ensures { IfOk result (λ r. Finds (λ n. AnyOf (ReservedIn n) (procs_of procs.now)) r) }
-{
-    let mut found = None;
-    for proc in procs {
-        found = earlier(found, reserved_in(alloc, proc)?);
-    }
-    Ok(found)
-}
-
 /// The least offset of a declared variable, procedure or label with two underscores in a row; nothing where none has.
 /// An error is a refused growth.
 pub fn first_reserved<A: Allocator + Copy>(
@@ -54,7 +41,7 @@ pub fn first_reserved<A: Allocator + Copy>(
     let first = reserved(&globals);
     let called = proc_names(&program.procs, Vec::new(*alloc))?;
     let second = reserved(&called);
-    let third = reserved_among(alloc, &program.procs)?;
+    let third = try_earliest(&program.procs, |proc| reserved_in(alloc, proc))?;
     let later = earlier(second, third);
     Ok(earlier(first, later))
 }

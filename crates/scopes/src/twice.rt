@@ -2,12 +2,13 @@
 
 ghost use Rattle.std.specs.Prelude.{◌≡◌, ◌++◌, IfOk};
 ghost use Rattle.syntax.specs.Trees.{proc_of, procs_of, tree_of};
-ghost use Rattle.scopes.specs.Find.{AnyOf, Finds};
-ghost use Rattle.scopes.specs.Statements.{lent, lent_statements, statement_of};
+ghost use Rattle.scopes.specs.Find.{Finds};
+ghost use Rattle.scopes.specs.Statements.{lent, statement_of};
 ghost use Rattle.scopes.specs.Faults.{Repeated, names, targets_of, IsTwiceIn, DeclaredTwice};
 
 use crate::known::repeated;
 use crate::names::{earlier, lend};
+use crate::search::try_earliest;
 use crate::statements::flatten;
 use std::alloc::{AllocError, Allocator};
 use syntax::{Core, Name, Proc, Program, Stmt};
@@ -49,20 +50,6 @@ pub fn target_again<A: Allocator + Copy>(
     }
 }
 
-/// The same for several statements.
-pub fn targets_again<A: Allocator + Copy>(
-    alloc: &A,
-    stmts: &[&Stmt<A>],
-) -> Result<Option<u32>, AllocError>
-    ensures { IfOk result (λ r. Finds (λ n. AnyOf (λ s. Repeated (targets_of s.head) n) (lent_statements stmts.now)) r) }
-{
-    let mut found = None;
-    for stmt in stmts {
-        found = earlier(found, target_again(alloc, stmt)?);
-    }
-    Ok(found)
-}
-
 /// The least offset of a name that comes again in a procedure.
 pub fn twice_in<A: Allocator + Copy>(alloc: &A, proc: &Proc<A>) -> Result<Option<u32>, AllocError>
     ensures { IfOk result (λ r. Finds (λ n. IsTwiceIn (proc_of proc.now) n) r) }
@@ -71,22 +58,8 @@ pub fn twice_in<A: Allocator + Copy>(alloc: &A, proc: &Proc<A>) -> Result<Option
     let own = lend(&proc.locals, formals)?;
     let first = repeated(*alloc, &own)?;
     let stmts = flatten(&proc.body, Vec::new(*alloc))?;
-    let second = targets_again(alloc, &stmts)?;
+    let second = try_earliest(&stmts, |stmt| target_again(alloc, stmt))?;
     Ok(earlier(first, second))
-}
-
-/// The same for several procedures.
-pub fn twice_among<A: Allocator + Copy>(
-    alloc: &A,
-    procs: &[Proc<A>],
-) -> Result<Option<u32>, AllocError>
-    ensures { IfOk result (λ r. Finds (λ n. AnyOf (λ p. IsTwiceIn p n) (procs_of procs.now)) r) }
-{
-    let mut found = None;
-    for proc in procs {
-        found = earlier(found, twice_in(alloc, proc)?);
-    }
-    Ok(found)
 }
 
 /// The least offset of a name that comes again among the globals, the procedures, the formals and locals of one
@@ -101,7 +74,7 @@ pub fn first_twice<A: Allocator + Copy>(
     let first = repeated(*alloc, &globals)?;
     let called = proc_names(&program.procs, Vec::new(*alloc))?;
     let second = repeated(*alloc, &called)?;
-    let third = twice_among(alloc, &program.procs)?;
+    let third = try_earliest(&program.procs, |proc| twice_in(alloc, proc))?;
     let later = earlier(second, third);
     Ok(earlier(first, later))
 }
