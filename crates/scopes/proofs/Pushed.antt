@@ -11,6 +11,11 @@ use Rattle.scopes.specs.Faults.{named}
 use Rattle.scopes.proofs.Heads.{label_is}
 use denote.Ref.{Bor}
 
+-- what is put behind nothing is all there is
+pub behind_none : {X Y Z : Type 0} (f : X → Y) (g : List Z → List Y) {got : List Y} {first : List X} {d x : List Z}
+    → got ≡ map f first ++ g d → first ≡ [] → d ≡ x → got ≡ g x
+behind_none f g {got} {first} {d} {x} e none same = e ∙ ap (λ l. map f l ++ g d) none ∙ ap g same
+
 pub one_pushed : {X Y Z : Type 0} (f : X → Z) (h : Y → Z) (old : List X) (x : X) (l : List Y) (i : ℕ) (y : Y) (w : List Z) → i < length l → y ≡ get_or l i y → f x ≡ h y
     → map f old ++ map h (drop i l) ≡ w → map f (old ++ x ∷ []) ++ map h (drop (i + 1) l) ≡ w
 one_pushed f h old x l i y w lt is e so =

@@ -7,7 +7,7 @@ ghost use Rattle.scopes.specs.Statements.{statement_of};
 ghost use Rattle.scopes.specs.Faults.{first_at, Miscounts, MiscountsIn, WrongCount};
 
 use crate::search::{earliest, try_earliest};
-use crate::statements::flatten;
+use crate::statements::statements;
 use crate::undeclared::find;
 use std::alloc::{AllocError, Allocator};
 use syntax::{Core, Name, Proc, Program, Stmt};
@@ -60,7 +60,7 @@ pub fn miscounted_in<A: Allocator + Copy>(
 ) -> Result<Option<u32>, AllocError>
     ensures { IfOk result (λ r. Finds (MiscountsIn (procs_of procs.now) (proc_of proc.now)) r) }
 {
-    let stmts = flatten(&proc.body, Vec::new(*alloc))?;
+    let stmts = statements(alloc, proc)?;
     Ok(earliest(&stmts, |stmt| miscounted(procs, stmt)))
 }
 

@@ -9,18 +9,18 @@ ghost use Rattle.scopes.specs.Faults.{GoesNowhere, MislabelledIn, BadLabel};
 use crate::known::{Known, repeated};
 use crate::names::earlier;
 use crate::search::{earliest, try_earliest};
-use crate::statements::flatten;
+use crate::statements::statements;
 use std::alloc::{AllocError, Allocator};
 use syntax::{Core, Name, Proc, Program, Stmt};
 
-/// Puts references to the labels that statements define, in order, behind those that are there.
-pub fn labels<'a, A: Allocator>(
+/// References to the labels that statements define, in order.
+pub fn labels<'a, A: Allocator + Copy>(
+    alloc: &A,
     stmts: &[&'a Stmt<A>],
-    into: Vec<&'a Name<A>, A>,
 ) -> Result<Vec<&'a Name<A>, A>, AllocError>
-    ensures { IfOk result (λ v. lent v.items ≡ lent into.entry.items ++ labels_of (lent_statements stmts.now)) }
+    ensures { IfOk result (λ v. lent v.items ≡ labels_of (lent_statements stmts.now)) }
 {
-    let mut list = into;
+    let mut list = Vec::new(*alloc);
     for stmt in stmts {
         if let Some(label) = &stmt.label {
             list.push(label)?;
@@ -53,8 +53,8 @@ pub fn mislabelled<A: Allocator + Copy>(
 ) -> Result<Option<u32>, AllocError>
     ensures { IfOk result (λ r. Finds (λ n. MislabelledIn n (proc_of proc.now)) r) }
 {
-    let stmts = flatten(&proc.body, Vec::new(*alloc))?;
-    let labels = labels(&stmts, Vec::new(*alloc))?;
+    let stmts = statements(alloc, proc)?;
+    let labels = labels(alloc, &stmts)?;
     let second = repeated(*alloc, &labels)?;
     let known = Known::new(*alloc, labels)?;
     let first = earliest(&stmts, |stmt| lost(&known, stmt));

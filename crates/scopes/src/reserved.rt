@@ -6,9 +6,9 @@ ghost use Rattle.scopes.specs.Find.{Finds};
 ghost use Rattle.scopes.specs.Faults.{ReservedIn, Reserved};
 
 use crate::labels::labels;
-use crate::names::{earlier, lend, reserved};
+use crate::names::{earlier, lend, own_names, reserved};
 use crate::search::try_earliest;
-use crate::statements::flatten;
+use crate::statements::statements;
 use crate::twice::proc_names;
 use std::alloc::{AllocError, Allocator};
 use syntax::{Proc, Program};
@@ -20,11 +20,10 @@ pub fn reserved_in<A: Allocator + Copy>(
 ) -> Result<Option<u32>, AllocError>
     ensures { IfOk result (λ r. Finds (λ n. ReservedIn n (proc_of proc.now)) r) }
 {
-    let formals = lend(&proc.formals, Vec::new(*alloc))?;
-    let own = lend(&proc.locals, formals)?;
+    let own = own_names(alloc, proc)?;
     let first = reserved(&own);
-    let stmts = flatten(&proc.body, Vec::new(*alloc))?;
-    let labels = labels(&stmts, Vec::new(*alloc))?;
+    let stmts = statements(alloc, proc)?;
+    let labels = labels(alloc, &stmts)?;
     let second = reserved(&labels);
     Ok(earlier(first, second))
 }
@@ -39,7 +38,7 @@ pub fn first_reserved<A: Allocator + Copy>(
 {
     let globals = lend(&program.globals, Vec::new(*alloc))?;
     let first = reserved(&globals);
-    let called = proc_names(&program.procs, Vec::new(*alloc))?;
+    let called = proc_names(alloc, &program.procs)?;
     let second = reserved(&called);
     let third = try_earliest(&program.procs, |proc| reserved_in(alloc, proc))?;
     let later = earlier(second, third);

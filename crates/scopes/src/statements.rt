@@ -1,11 +1,21 @@
 //! The statements of a block as one list.
 
 ghost use Rattle.std.specs.Prelude.{◌≡◌, ◌++◌, ◌∷◌, IfOk};
-ghost use Rattle.syntax.specs.Trees.{block_of, deed_of};
+ghost use Rattle.syntax.specs.Trees.{block_of, deed_of, proc_of};
 ghost use Rattle.scopes.specs.Statements.{lent_statements, statement_of, statements_of, inside};
 
 use std::alloc::{AllocError, Allocator};
-use syntax::{Core, Stmt};
+use syntax::{Core, Proc, Stmt};
+
+/// References to the statements of a procedure, in the order of the text.
+pub fn statements<'a, A: Allocator + Copy>(
+    alloc: &A,
+    proc: &'a Proc<A>,
+) -> Result<Vec<&'a Stmt<A>, A>, AllocError>
+    ensures { IfOk result (λ v. lent_statements v.items ≡ statements_of (proc_of proc.now).body) }
+{
+    flatten(&proc.body, Vec::new(*alloc))
+}
 
 /// Puts references to the statements of a block, in the order of the text, behind those that are there.
 #[cycle(flattening)]

@@ -7,9 +7,9 @@ ghost use Rattle.scopes.specs.Statements.{lent, statement_of, used_by, variables
 ghost use Rattle.scopes.specs.Faults.{named, AnyUnknown, CallsUnknown, IsUndeclaredIn, UndeclaredInProcedure, Undeclared};
 
 use crate::known::Known;
-use crate::names::{earlier, is_same, lend};
+use crate::names::{earlier, is_same, lend, own_names};
 use crate::search::{earliest, try_earliest};
-use crate::statements::flatten;
+use crate::statements::statements;
 use std::alloc::{AllocError, Allocator};
 use syntax::{Core, Expr, Name, Proc, Program, Rhs, Stmt};
 
@@ -113,11 +113,10 @@ pub fn of_proc<A: Allocator + Copy>(
 ) -> Result<Option<u32>, AllocError>
     ensures { IfOk result (λ r. Finds (UndeclaredInProcedure (tree_of program.now) (proc_of proc.now)) r) }
 {
-    let formals = lend(&proc.formals, Vec::new(*alloc))?;
-    let own = lend(&proc.locals, formals)?;
+    let own = own_names(alloc, proc)?;
     let all = lend(&program.globals, own)?;
     let known = Known::new(*alloc, all)?;
-    let stmts = flatten(&proc.body, Vec::new(*alloc))?;
+    let stmts = statements(alloc, proc)?;
     let procs = program.procs.as_slice();
     Ok(earliest(&stmts, |stmt| of_statement(&known, procs, stmt)))
 }

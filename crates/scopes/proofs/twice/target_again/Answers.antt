@@ -1,10 +1,11 @@
-use Rattle.std.proofs.Common.{◌++◌, ◌∙◌, ap, sym}
+use Rattle.std.proofs.Common.{◌∙◌, ap, sym}
 use Rattle.syntax.specs.Trees.{names_of, deed_of}
 use Rattle.scopes.specs.Find.{Finds}
 use Rattle.scopes.specs.Statements.{lent, statement_of}
 use Rattle.syntax.proofs.Folds.{deed_of-Skip, deed_of-Return, deed_of-Goto, deed_of-Assign, deed_of-If, deed_of-While, deed_of-Assert, deed_of-Assume, deed_of-Call}
 use Rattle.scopes.proofs.Heads.{head_is}
 use Rattle.scopes.proofs.Found.{moved, nowhere, on_ok}
+use Rattle.scopes.proofs.Pushed.{behind_none}
 use Rattle.scopes.specs.Faults.{Repeated, targets_of}
 use Rattle.scopes.proofs.twice.target_again.Goals as goal
 
@@ -37,5 +38,5 @@ returns-in_ok-list-in-Assign g c =
     on_ok (λ o. Finds (Repeated (lent c.deref-in-Assign.result.now)) o) (λ o. Finds (λ n. Repeated (targets_of (statement_of c.args.stmt.now).head) n) o) c.repeated.result
     (λ o h. moved (λ d n. Repeated (targets_of d) n) _ _ o (head_is c.args.stmt.now _ (ap deed_of c.in-Assign.is ∙ deed_of-Assign _ _))
     (moved (λ l n. Repeated l n) (lent c.in_ok-list-in-Assign.list.items) (names_of c.in-Assign.targets.items) o
-    (sym (c.in_ok-list-in-Assign.ensures ∙ ap (λ l. lent l ++ names_of c.deref.result.now) c.new.ensures.items ∙ ap names_of c.deref.ensures.value))
+    (sym (behind_none _ names_of c.in_ok-list-in-Assign.ensures c.new.ensures.items c.deref.ensures.value))
     (rw c.deref-in-Assign.ensures.value at h))) c.repeated.ensures
