@@ -19,7 +19,8 @@ next_member {X} {R} xs i x a b r lt is e k p =
     let there : drop i xs ≡ x ∷ drop (i + 1) xs = drop_more xs i x lt ∙ ap (λ (y : X). y ∷ drop (i + 1) xs) (sym is) in
     record {
       goes = λ rest h. subst (λ o. Earliest R xs o) (either_way a b rest ∙ ap (λ o. earlier_of o rest) (sym e))
-          (k.goes (earlier_of b rest) (subst (λ l. Earliest R l (earlier_of b rest)) (sym there) (b, rest, p, h, refl)));
+          (k.goes (earlier_of b rest)
+          (subst (λ l. Earliest R l (earlier_of b rest)) (sym there) (b, rest, p, h, refl)));
     }
 
 pub end_list : {X : Type 0} {R : X → Option ℕ → Type 0} (xs : List X) (i : ℕ) (a : Option ℕ)
@@ -36,24 +37,30 @@ in_any P f [] r each h = subst (λ o. Finds (λ n. ⊥) o) (sym h) (nowhere (λ 
 in_any P f (x ∷ xs) r each (a, b, p, q, e) = both_of a b r e (each x a p) (in_any P f xs b each q)
 
 -- what holds at a reference to a member holds of the member
-shown : {F X T Y : Type 0} (g : Shared F (Bor X × Unit {0}) T) (s : F) (P : Y → ℕ → Type 0) (f : X → Y) (mk : Option ℕ → T)
+shown : {F X T Y : Type 0} (g : Shared F (Bor X × Unit {0}) T) (s : F) (P : Y → ℕ → Type 0) (f : X → Y)
+    (mk : Option ℕ → T)
     → ((y : Bor X) (a : Option ℕ) → g.post s (y, tt) (mk a) → Finds (λ n. P (f y.now) n) a)
     → (x : X) (a : Option ℕ) → FnReturnsAt g s x (mk a) → Finds (λ n. P (f x) n) a
 shown g s P f mk each x a h = moved (λ y n. P (f y) n) h.shown.now x a (sym h.shows) (each h.shown a h.says.met)
 
 -- a search of a list by a closure
-pub found_in : {F X Y : Type 0} (g : Shared F (Bor X × Unit {0}) (Option ℕ)) (s : F) (P : Y → ℕ → Type 0) (f : X → Y) (xs : List X) (r : Option ℕ)
+pub found_in : {F X Y : Type 0} (g : Shared F (Bor X × Unit {0}) (Option ℕ)) (s : F) (P : Y → ℕ → Type 0) (f : X → Y)
+    (xs : List X) (r : Option ℕ)
     → ((y : Bor X) (a : Option ℕ) → g.post s (y, tt) a → Finds (λ n. P (f y.now) n) a) → Earliest (FnReturnsAt g s) xs r
     → Finds (λ n. AnyOf (λ y. P y n) (map f xs)) r
 found_in g s P f xs r each h = in_any P f xs r (shown g s P f (λ a. a) each) h
 
-pub found_at_ok : {F X Y E : Type 0} (g : Shared F (Bor X × Unit {0}) (Result (Option ℕ) E)) (s : F) (P : Y → ℕ → Type 0) (f : X → Y) (xs : List X) (r : Option ℕ)
-    → ((y : Bor X) (a : Option ℕ) → g.post s (y, tt) (Ok a) → Finds (λ n. P (f y.now) n) a) → Earliest (λ x a. FnReturnsAt g s x (Ok a)) xs r
+pub found_at_ok : {F X Y E : Type 0} (g : Shared F (Bor X × Unit {0}) (Result (Option ℕ) E)) (s : F)
+    (P : Y → ℕ → Type 0) (f : X → Y) (xs : List X) (r : Option ℕ)
+    → ((y : Bor X) (a : Option ℕ) → g.post s (y, tt) (Ok a) → Finds (λ n. P (f y.now) n) a) → Earliest
+    (λ x a. FnReturnsAt g s x (Ok a)) xs r
     → Finds (λ n. AnyOf (λ y. P y n) (map f xs)) r
 found_at_ok g s P f xs r each h = in_any P f xs r (shown g s P f Ok each) h
 
-pub found_in_ok : {F X Y E : Type 0} (g : Shared F (Bor X × Unit {0}) (Result (Option ℕ) E)) (s : F) (P : Y → ℕ → Type 0) (f : X → Y) (xs : List X) (r : Result (Option ℕ) E)
-    → ((y : Bor X) (a : Option ℕ) → g.post s (y, tt) (Ok a) → Finds (λ n. P (f y.now) n) a) → IfOk r (Earliest (λ x a. FnReturnsAt g s x (Ok a)) xs)
+pub found_in_ok : {F X Y E : Type 0} (g : Shared F (Bor X × Unit {0}) (Result (Option ℕ) E)) (s : F)
+    (P : Y → ℕ → Type 0) (f : X → Y) (xs : List X) (r : Result (Option ℕ) E)
+    → ((y : Bor X) (a : Option ℕ) → g.post s (y, tt) (Ok a) → Finds (λ n. P (f y.now) n) a) → IfOk r
+    (Earliest (λ x a. FnReturnsAt g s x (Ok a)) xs)
     → IfOk r (λ o. Finds (λ n. AnyOf (λ y. P y n) (map f xs)) o)
 found_in_ok g s P f xs r each h = IfOk-weaker r _ _ (λ o. found_at_ok g s P f xs o each) h
 

@@ -6,23 +6,39 @@ use Rattle.std.specs.Str.{bytes_eq}
 use Rattle.language.specs.Rest.{same_text}
 use Rattle.scopes.specs.Find.{AnyOf, Finds, earlier_of, Kept}
 
-lesser : {P Q : ℕ → Type 0} (m n : ℕ) (b : Bool) → nat_le m n ≡ b → Finds P (Some m) → Finds Q (Some n) → Finds (λ k. P k ⊎ Q k) (cond b (Some m) (Some n))
+lesser : {P Q : ℕ → Type 0} (m n : ℕ) (b : Bool) → nat_le m n ≡ b → Finds P (Some m) → Finds Q (Some n) → Finds
+    (λ k. P k ⊎ Q k) (cond b (Some m) (Some n))
 lesser m n true e p q =
     let le : m ≤ n = search rules in
-    record { least = (inl p.least.0, λ k h. elim h [ inl x ↦ p.least.1 k x | inr y ↦ let l : n ≤ k = q.least.1 k y in omega arith ]) }
+    record {
+      least = (
+        inl p.least.0,
+        λ k h. elim h
+            [ inl x ↦ p.least.1 k x | inr y ↦ let l : n ≤ k = q.least.1 k y in omega arith ],
+      );
+    }
 lesser m n false e p q =
     let le : n < m = search rules in
-    record { least = (inr q.least.0, λ k h. elim h [ inl x ↦ (let l : m ≤ k = p.least.1 k x in omega arith) | inr y ↦ q.least.1 k y ]) }
+    record {
+      least = (
+        inr q.least.0,
+        λ k h. elim h
+            [ inl x ↦ (let l : m ≤ k = p.least.1 k x in omega arith) | inr y ↦ q.least.1 k y ],
+      );
+    }
 
 pub both : {P Q : ℕ → Type 0} (a b : Option ℕ) → Finds P a → Finds Q b → Finds (λ k. P k ⊎ Q k) (earlier_of a b)
 unfolding earlier_of
 both None None p q = record { least = λ k h. elim h [ inl x ↦ p.least k x | inr y ↦ q.least k y ] }
-both None (Some n) p q = record { least = (inr q.least.0, λ k h. elim h [ inl x ↦ absurd (p.least k x) | inr y ↦ q.least.1 k y ]) }
-both (Some m) None p q = record { least = (inl p.least.0, λ k h. elim h [ inl x ↦ p.least.1 k x | inr y ↦ absurd (q.least k y) ]) }
+both None (Some n) p q = record
+    { least = (inr q.least.0, λ k h. elim h [ inl x ↦ absurd (p.least k x) | inr y ↦ q.least.1 k y ]) }
+both (Some m) None p q = record
+    { least = (inl p.least.0, λ k h. elim h [ inl x ↦ p.least.1 k x | inr y ↦ absurd (q.least k y) ]) }
 both (Some m) (Some n) p q = lesser m n (nat_le m n) refl p q
 
 -- equivalent properties have one least number
-pub same : {P Q : ℕ → Type 0} (a : Option ℕ) → ((k : ℕ) → P k → Q k) → ((k : ℕ) → Q k → P k) → Finds P a → Finds Q a
+pub same : {P Q : ℕ → Type 0} (a : Option ℕ) → ((k : ℕ) → P k → Q k) → ((k : ℕ) → Q k → P k) → Finds P a
+    → Finds Q a
 same None to back p = record { least = λ k h. p.least k (back k h) }
 same (Some m) to back p = record { least = (to m p.least.0, λ k h. p.least.1 k (back k h)) }
 
@@ -38,7 +54,8 @@ unfolding earlier_of
 past l m true = refl
 past l m false = refl
 
-three : (l m n : ℕ) (p q r : Bool) → nat_le l m ≡ p → nat_le m n ≡ q → nat_le l n ≡ r → earlier_of (Some l) (cond q (Some m) (Some n)) ≡ earlier_of (cond p (Some l) (Some m)) (Some n)
+three : (l m n : ℕ) (p q r : Bool) → nat_le l m ≡ p → nat_le m n ≡ q → nat_le l n ≡ r → earlier_of (Some l)
+    (cond q (Some m) (Some n)) ≡ earlier_of (cond p (Some l) (Some m)) (Some n)
 unfolding earlier_of
 three l m n true true true a b c = rw (a, c) refl
 three l m n true true false a b c = absurd (grind (arith, leb_tells l m, leb_tells m n, leb_tells l n))
@@ -67,9 +84,13 @@ pub begin : {P : ℕ → Type 0} → Kept P P None
 begin {P} = record { goes = λ r h. subst (λ (o : Option ℕ). Finds P o) (sym (none_before r)) h }
 
 pub step : {W S R : ℕ → Type 0} (a b : Option ℕ) → Kept W (λ n. S n ⊎ R n) a → Finds S b → Kept W R (earlier_of a b)
-step {W} a b k h = record { goes = λ r g. subst (λ (o : Option ℕ). Finds W o) (either_way a b r) (k.goes (earlier_of b r) (both b r h g)) }
+step {W} a b k h = record {
+  goes = λ r g. subst (λ (o : Option ℕ). Finds W o) (either_way a b r)
+      (k.goes (earlier_of b r) (both b r h g));
+}
 
-pub weaker : {W R S : ℕ → Type 0} (a : Option ℕ) → ((k : ℕ) → S k → R k) → ((k : ℕ) → R k → S k) → Kept W R a → Kept W S a
+pub weaker : {W R S : ℕ → Type 0} (a : Option ℕ) → ((k : ℕ) → S k → R k) → ((k : ℕ) → R k → S k) → Kept W R a
+    → Kept W S a
 weaker a to back k = record { goes = λ r h. k.goes r (same r to back h) }
 
 pub finish : {W R : ℕ → Type 0} (a : Option ℕ) → Kept W R a → ((n : ℕ) → R n → ⊥) → Finds W a
@@ -97,7 +118,9 @@ any_right P [] ys h = h
 any_right P (x ∷ xs) ys h = inr (any_right P xs ys h)
 
 -- what is found in two lists is found in one after the other
-pub in_both : {X : Type 0} (P : X → ℕ → Type 0) (xs ys : List X) (a b : Option ℕ) → Finds (λ n. AnyOf (λ x. P x n) xs) a → Finds (λ n. AnyOf (λ x. P x n) ys) b → Finds (λ n. AnyOf (λ x. P x n) (xs ++ ys)) (earlier_of a b)
+pub in_both : {X : Type 0} (P : X → ℕ → Type 0) (xs ys : List X) (a b : Option ℕ) → Finds
+    (λ n. AnyOf (λ x. P x n) xs) a → Finds (λ n. AnyOf (λ x. P x n) ys) b → Finds (λ n. AnyOf (λ x. P x n) (xs ++ ys))
+    (earlier_of a b)
 in_both P xs ys a b h k =
     same (earlier_of a b)
     (λ n. λ q. elim q [ inl l ↦ any_left (λ x. P x n) xs ys l | inr l ↦ any_right (λ x. P x n) xs ys l ])
@@ -107,7 +130,8 @@ in_both P xs ys a b h k =
 pub same_bytes : (xs ys : List ℕ) → bytes_eq xs ys ≡ same_text xs ys
 same_bytes xs ys = refl
 
-pub both_of : {P Q : ℕ → Type 0} (a b r : Option ℕ) → r ≡ earlier_of a b → Finds P a → Finds Q b → Finds (λ k. P k ⊎ Q k) r
+pub both_of : {P Q : ℕ → Type 0} (a b r : Option ℕ) → r ≡ earlier_of a b → Finds P a → Finds Q b → Finds
+    (λ k. P k ⊎ Q k) r
 both_of {P} {Q} a b r e p q = subst (λ (o : Option ℕ). Finds (λ k. P k ⊎ Q k) o) (sym e) (both a b p q)
 
 pub in_three : {P Q R : ℕ → Type 0} (a b c later r : Option ℕ) → r ≡ earlier_of a later → later ≡ earlier_of b c
@@ -115,19 +139,26 @@ pub in_three : {P Q R : ℕ → Type 0} (a b c later r : Option ℕ) → r ≡ e
 in_three a b c later r e f p q w = both_of a later r e p (both_of b c later f q w)
 
 -- a search in a thing is one in what equals it
-pub moved : {X : Type 0} (P : X → ℕ → Type 0) (x y : X) (r : Option ℕ) → y ≡ x → Finds (λ n. P x n) r → Finds (λ n. P y n) r
+pub moved : {X : Type 0} (P : X → ℕ → Type 0) (x y : X) (r : Option ℕ) → y ≡ x → Finds (λ n. P x n) r → Finds
+    (λ n. P y n) r
 moved {X} P x y r e h = subst (λ (z : X). Finds (λ n. P z n) r) (sym e) h
 
-pub in_both_of : {X : Type 0} (P : X → ℕ → Type 0) (xs ys zs : List X) (a b r : Option ℕ) → r ≡ earlier_of a b → zs ≡ xs ++ ys → Finds (λ n. AnyOf (λ x. P x n) xs) a → Finds (λ n. AnyOf (λ x. P x n) ys) b → Finds (λ n. AnyOf (λ x. P x n) zs) r
+pub in_both_of : {X : Type 0} (P : X → ℕ → Type 0) (xs ys zs : List X) (a b r : Option ℕ) → r ≡ earlier_of a b
+    → zs ≡ xs ++ ys → Finds (λ n. AnyOf (λ x. P x n) xs) a → Finds (λ n. AnyOf (λ x. P x n) ys) b → Finds
+    (λ n. AnyOf (λ x. P x n) zs) r
 in_both_of {X} P xs ys zs a b r e f h k =
-    subst (λ (o : Option ℕ). Finds (λ n. AnyOf (λ x. P x n) zs) o) (sym e) (moved (λ (l : List X) n. AnyOf (λ x. P x n) l) (xs ++ ys) zs (earlier_of a b) f (in_both P xs ys a b h k))
+    subst (λ (o : Option ℕ). Finds (λ n. AnyOf (λ x. P x n) zs) o) (sym e)
+    (moved (λ (l : List X) n. AnyOf (λ x. P x n) l) (xs ++ ys) zs (earlier_of a b) f (in_both P xs ys a b h k))
 
 -- two numbers of one thing and another are compared by what they equal
-pub compared : (a b m x n y : ℕ) (r : Option ℕ) → b ≡ a → x ≡ m → y ≡ n → Finds (λ k. (a ≡ k) × (m ≢ n)) r → Finds (λ k. (b ≡ k) × (x ≢ y)) r
+pub compared : (a b m x n y : ℕ) (r : Option ℕ) → b ≡ a → x ≡ m → y ≡ n → Finds (λ k. (a ≡ k) × (m ≢ n)) r
+    → Finds (λ k. (b ≡ k) × (x ≢ y)) r
 compared a b m x n y r e f g h =
-    moved (λ b k. (b ≡ k) × (x ≢ y)) a b r e (moved (λ x k. (a ≡ k) × (x ≢ y)) m x r f (moved (λ y k. (a ≡ k) × (m ≢ y)) n y r g h))
+    moved (λ b k. (b ≡ k) × (x ≢ y)) a b r e
+    (moved (λ x k. (a ≡ k) × (x ≢ y)) m x r f (moved (λ y k. (a ≡ k) × (m ≢ y)) n y r g h))
 
 -- what follows of an answer, where there is one
-pub on_ok : {E : Type 0} (P Q : Option ℕ → Type 0) (r : Result (Option ℕ) E) → ((o : Option ℕ) → P o → Q o) → IfOk r P → IfOk r Q
+pub on_ok : {E : Type 0} (P Q : Option ℕ → Type 0) (r : Result (Option ℕ) E) → ((o : Option ℕ) → P o → Q o) → IfOk r P
+    → IfOk r Q
 on_ok P Q (Ok o) f h = f o h
 on_ok P Q (Err e) f h = tt

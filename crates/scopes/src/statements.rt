@@ -23,7 +23,8 @@ pub fn flatten<'a, A: Allocator>(
     stmts: &'a [Stmt<A>],
     into: Vec<&'a Stmt<A>, A>,
 ) -> Result<Vec<&'a Stmt<A>, A>, AllocError>
-    ensures { IfOk result (λ v. lent_statements v.items ≡ lent_statements into.entry.items ++ statements_of (block_of stmts.now)) }
+    ensures { IfOk result (λ v. lent_statements v.items
+        ≡ lent_statements into.entry.items ++ statements_of (block_of stmts.now)) }
 {
     let mut list = into;
     for stmt in stmts {
@@ -38,7 +39,8 @@ fn flatten_one<'a, A: Allocator>(
     stmt: &'a Stmt<A>,
     into: Vec<&'a Stmt<A>, A>,
 ) -> Result<Vec<&'a Stmt<A>, A>, AllocError>
-    ensures { IfOk result (λ v. lent_statements v.items ≡ lent_statements into.entry.items ++ (statement_of stmt.now ∷ inside (deed_of stmt.now.core))) }
+    ensures { IfOk result (λ v. lent_statements v.items
+        ≡ lent_statements into.entry.items ++ (statement_of stmt.now ∷ inside (deed_of stmt.now.core))) }
 {
     let mut list = into;
     list.push(stmt)?;

@@ -4,7 +4,8 @@ ghost use Rattle.std.specs.Prelude.{◌≡◌, None, option_map, IfOk};
 ghost use Rattle.syntax.specs.Trees.{name_of, expr_of, rhs_of, proc_of, procs_of, tree_of};
 ghost use Rattle.scopes.specs.Find.{Finds};
 ghost use Rattle.scopes.specs.Statements.{lent, statement_of, used_by, variables_of, variables_of_side};
-ghost use Rattle.scopes.specs.Faults.{named, AnyUnknown, CallsUnknown, IsUndeclaredIn, UndeclaredInProcedure, Undeclared};
+ghost use Rattle.scopes.specs.Faults.{named, AnyUnknown, CallsUnknown, IsUndeclaredIn};
+ghost use Rattle.scopes.specs.Faults.{UndeclaredInProcedure, Undeclared};
 
 use crate::known::Known;
 use crate::names::{earlier, is_same, lend, own_names};

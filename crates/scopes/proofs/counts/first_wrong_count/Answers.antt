@@ -8,7 +8,9 @@ use Rattle.scopes.proofs.counts.first_wrong_count.Goals as goal
 
 pub returns : goal.returns
 returns g c =
-    subst (λ ps. IfOk c.try_earliest.result (λ r. Finds (λ n. AnyOf (λ p. MiscountsIn (procs_of ps) p n) (procs_of ps)) r))
+    subst (λ ps. IfOk c.try_earliest.result
+    (λ r. Finds (λ n. AnyOf (λ p. MiscountsIn (procs_of ps) p n) (procs_of ps)) r))
     c.as_slice-procs.ensures.value
-    (found_in_ok _ _ (λ p n. MiscountsIn (procs_of c.as_slice-procs.result.now) p n) proc_of c.as_slice-procs.result.now _
+    (found_in_ok _ _ (λ p n. MiscountsIn (procs_of c.as_slice-procs.result.now) p n) proc_of
+    c.as_slice-procs.result.now _
     (λ y a k. search rules) c.try_earliest.ensures)

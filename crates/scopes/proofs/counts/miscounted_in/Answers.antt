@@ -11,5 +11,6 @@ pub returns : goal.returns
 returns g c =
     moved (λ (l : List Statement) n. AnyOf (Miscounts (procs_of c.args.procs.now) n) l)
     (lent_statements c.in_ok-stmts.stmts.items) _ c.earliest.result (sym c.in_ok-stmts.ensures)
-    (found_in _ _ (λ s n. Miscounts (procs_of c.args.procs.now) n s) (λ r. statement_of r.now) c.in_ok-stmts.stmts.items _
+    (found_in _ _ (λ s n. Miscounts (procs_of c.args.procs.now) n s)
+    (λ r. statement_of r.now) c.in_ok-stmts.stmts.items _
     (λ y a k. search as_found) (rw c.deref.ensures.value at c.earliest.ensures))

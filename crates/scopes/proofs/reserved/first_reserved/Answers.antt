@@ -8,12 +8,14 @@ use Rattle.scopes.proofs.reserved.first_reserved.Goals as goal
 
 pub returns : goal.returns
 returns g c =
-    in_three c.reserved-first.result c.reserved-second.result c.in_ok-third.third c.earlier-later.result c.earlier.result
+    in_three c.reserved-first.result c.reserved-second.result c.in_ok-third.third c.earlier-later.result
+    c.earlier.result
     c.earlier.ensures c.earlier-later.ensures
     (moved (λ l n. IsReserved l n) _ _ _
     (sym (behind_none _ names_of c.in_ok-globals.ensures c.new.ensures.items c.deref.ensures.value))
     (rw c.deref-2.ensures.value at c.reserved-first.ensures))
-    (moved (λ l n. IsReserved l n) _ _ _ (sym (c.in_ok-called.ensures ∙ ap (λ l. names (procs_of l)) c.deref-3.ensures.value))
+    (moved (λ l n. IsReserved l n) _ _ _
+    (sym (c.in_ok-called.ensures ∙ ap (λ l. names (procs_of l)) c.deref-3.ensures.value))
     (rw c.deref-4.ensures.value at c.reserved-second.ensures))
     (found_at_ok _ _ (λ p n. ReservedIn n p) proc_of c.args.program.now.procs.items _ (λ y a k. search rules)
     (rw c.deref-5.ensures.value at c.in_ok-third.ensures))

@@ -13,7 +13,8 @@ returns g c =
     (moved (λ l n. Repeated l n) _ _ _
     (sym (behind_none _ names_of c.in_ok-globals.ensures c.new.ensures.items c.deref.ensures.value))
     (rw c.deref-2.ensures.value at c.in_ok-first.ensures))
-    (moved (λ l n. Repeated l n) _ _ _ (sym (c.in_ok-called.ensures ∙ ap (λ l. names (procs_of l)) c.deref-3.ensures.value))
+    (moved (λ l n. Repeated l n) _ _ _
+    (sym (c.in_ok-called.ensures ∙ ap (λ l. names (procs_of l)) c.deref-3.ensures.value))
     (rw c.deref-4.ensures.value at c.in_ok-second.ensures))
     (found_at_ok _ _ (λ p n. IsTwiceIn p n) proc_of c.args.program.now.procs.items _ (λ y a k. search rules)
     (rw c.deref-5.ensures.value at c.in_ok-third.ensures))

@@ -10,7 +10,8 @@ use Rattle.scopes.proofs.twice.twice_in.Goals as goal
 pub returns : goal.returns
 returns g c =
     both_of c.in_ok-first.first c.in_ok-second.second c.earlier.result c.earlier.ensures
-    (moved (λ (l : List Name) n. Repeated l n) (lent c.in_ok-own.own.items) _ c.in_ok-first.first (sym c.in_ok-own.ensures)
+    (moved (λ (l : List Name) n. Repeated l n) (lent c.in_ok-own.own.items) _ c.in_ok-first.first
+    (sym c.in_ok-own.ensures)
     (rw c.deref.ensures.value at c.in_ok-first.ensures))
     (moved (λ (l : List Statement) n. AnyOf (λ s. Repeated (targets_of s.head) n) l)
     (lent_statements c.in_ok-stmts.stmts.items) _ c.in_ok-second.second (sym c.in_ok-stmts.ensures)

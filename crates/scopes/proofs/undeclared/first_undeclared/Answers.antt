@@ -6,5 +6,6 @@ use Rattle.scopes.proofs.undeclared.first_undeclared.Goals as goal
 
 pub returns : goal.returns
 returns g c =
-    found_in_ok _ _ (λ p n. UndeclaredInProcedure (tree_of c.args.program.now) p n) proc_of c.args.program.now.procs.items
+    found_in_ok _ _ (λ p n. UndeclaredInProcedure (tree_of c.args.program.now) p n) proc_of
+    c.args.program.now.procs.items
     c.try_earliest.result (λ y a k. search rules) (rw c.deref.ensures.value at c.try_earliest.ensures)

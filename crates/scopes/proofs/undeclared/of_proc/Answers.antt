@@ -11,7 +11,8 @@ use Rattle.scopes.proofs.undeclared.of_proc.Goals as goal
 pub returns : goal.returns
 returns g c =
     let all = c.in_ok-all.ensures ∙ ap (λ l. l ++ names_of c.deref.result.now) c.in_ok-own.ensures
-    ∙ ap (λ l. ((proc_of c.args.proc.now).formals ++ (proc_of c.args.proc.now).locals) ++ names_of l) c.deref.ensures.value in
+    ∙ ap (λ l. ((proc_of c.args.proc.now).formals ++ (proc_of c.args.proc.now).locals) ++ names_of l)
+    c.deref.ensures.value in
     moved (λ (ks : List Name) n. AnyOf (λ s. IsUndeclaredIn ks (procs_of c.args.program.now.procs.items) s n)
     (statements_of (proc_of c.args.proc.now).body)) (lent c.in_ok-known.known.names.items) _ c.earliest.result
     (sym (c.in_ok-known.ensures ∙ all))
@@ -20,6 +21,7 @@ returns g c =
     (sym c.in_ok-stmts.ensures)
     (subst (λ ps. Finds (λ n. AnyOf (λ s. IsUndeclaredIn (lent c.in_ok-known.known.names.items) (procs_of ps) s n)
     (lent_statements c.in_ok-stmts.stmts.items)) c.earliest.result) c.as_slice-procs.ensures.value
-    (found_in _ _ (λ s n. IsUndeclaredIn (lent c.in_ok-known.known.names.items) (procs_of c.as_slice-procs.result.now) s n)
+    (found_in _ _ (λ s n. IsUndeclaredIn (lent c.in_ok-known.known.names.items)
+    (procs_of c.as_slice-procs.result.now) s n)
     (λ r. statement_of r.now) c.in_ok-stmts.stmts.items _ (λ y a k. search as_found)
     (rw c.deref-2.ensures.value at c.earliest.ensures))))
