@@ -11,7 +11,7 @@ use Rattle.scopes.proofs.Found.{either_way, none_after, none_before, both_of, mo
 
 -- a loop over a list: its begin, one member more, and the end
 pub begin_list : {X : Type 0} {R : X → Option ℕ → Type 0} {xs : List X} → EarliestTo R xs 0 None
-begin_list {X} {R} {xs} = record { goes = λ r h. subst (λ o. Earliest R xs o) (sym (none_before r)) h }
+begin_list {X} {R} {xs} = record { goes = λ r h. subst (λ o. Earliest R xs o) (sym (none_before (λ n. n) r)) h }
 
 pub next_member : {X : Type 0} {R : X → Option ℕ → Type 0} (xs : List X) (i : ℕ) (x : X) (a b r : Option ℕ)
     → i < length xs → x ≡ get_or xs i x → r ≡ earlier_of a b → EarliestTo R xs i a → R x b → EarliestTo R xs (i + 1) r
@@ -26,7 +26,7 @@ next_member {X} {R} xs i x a b r lt is e k p =
 pub end_list : {X : Type 0} {R : X → Option ℕ → Type 0} (xs : List X) (i : ℕ) (a : Option ℕ)
     → length xs ≤ i → EarliestTo R xs i a → Earliest R xs a
 end_list {X} {R} xs i a le k =
-    subst (λ o. Earliest R xs o) (none_after a)
+    subst (λ o. Earliest R xs o) (none_after (λ n. n) a)
     (k.goes None (subst (λ l. Earliest R l None) (sym (drop_all i xs le)) refl))
 
 -- where each answer is the least offset in a member, the earliest is the least in any

@@ -4,7 +4,7 @@ use Rattle.std.specs.Prelude.{Result, Ok, Err, IfOk}
 use Rattle.std.proofs.lemmas.Bool.Decides.{leb_tells}
 use Rattle.std.specs.Str.{bytes_eq}
 use Rattle.language.specs.Rest.{same_text}
-use Rattle.scopes.specs.Find.{AnyOf, Finds, earlier_of, Kept}
+use Rattle.scopes.specs.Find.{AnyOf, Finds, lesser_by, earlier_of, Kept}
 
 lesser : {P Q : ℕ → Type 0} (m n : ℕ) (b : Bool) → nat_le m n ≡ b → Finds P (Some m) → Finds Q (Some n) → Finds
     (λ k. P k ⊎ Q k) (cond b (Some m) (Some n))
@@ -28,7 +28,7 @@ lesser m n false e p q =
     }
 
 pub both : {P Q : ℕ → Type 0} (a b : Option ℕ) → Finds P a → Finds Q b → Finds (λ k. P k ⊎ Q k) (earlier_of a b)
-unfolding earlier_of
+unfolding lesser_by
 both None None p q = record { least = λ k h. elim h [ inl x ↦ p.least k x | inr y ↦ q.least k y ] }
 both None (Some n) p q = record
     { least = (inr q.least.0, λ k h. elim h [ inl x ↦ absurd (p.least k x) | inr y ↦ q.least.1 k y ]) }
@@ -50,13 +50,13 @@ pub only : {P : ℕ → Type 0} (m : ℕ) → P m → ((k : ℕ) → P k → m �
 only m p h = record { least = (p, λ k q. let e : m ≡ k = h k q in omega arith) }
 
 past : (l m : ℕ) (t : Bool) → cond t (Some l) (Some m) ≡ earlier_of (cond t (Some l) (Some m)) None
-unfolding earlier_of
+unfolding lesser_by
 past l m true = refl
 past l m false = refl
 
 three : (l m n : ℕ) (p q r : Bool) → nat_le l m ≡ p → nat_le m n ≡ q → nat_le l n ≡ r → earlier_of (Some l)
     (cond q (Some m) (Some n)) ≡ earlier_of (cond p (Some l) (Some m)) (Some n)
-unfolding earlier_of
+unfolding lesser_by
 three l m n true true true a b c = rw (a, c) refl
 three l m n true true false a b c = absurd (grind (arith, leb_tells l m, leb_tells m n, leb_tells l n))
 three l m n true false r a b c = refl
@@ -65,23 +65,40 @@ three l m n false false true a b c = absurd (grind (arith, leb_tells l m, leb_te
 three l m n false false false a b c = rw (b, c) refl
 
 pub either_way : (a b c : Option ℕ) → earlier_of a (earlier_of b c) ≡ earlier_of (earlier_of a b) c
-unfolding earlier_of
+unfolding lesser_by
 either_way None b c = refl
 either_way (Some l) None c = refl
 either_way (Some l) (Some m) None = past l m (nat_le l m)
 either_way (Some l) (Some m) (Some n) = three l m n (nat_le l m) (nat_le m n) (nat_le l n) refl refl refl
 
-pub none_after : (a : Option ℕ) → earlier_of a None ≡ a
-unfolding earlier_of
-none_after None = refl
-none_after (Some m) = refl
+-- which of two is taken, by whether they are there and by their keys
+pub none_after : {X : Type 0} (key : X → ℕ) (a : Option X) → lesser_by key a None ≡ a
+unfolding lesser_by
+none_after key None = refl
+none_after key (Some x) = refl
 
-pub none_before : (a : Option ℕ) → earlier_of None a ≡ a
-unfolding earlier_of
-none_before a = refl
+pub none_before : {X : Type 0} (key : X → ℕ) (a : Option X) → lesser_by key None a ≡ a
+unfolding lesser_by
+none_before key a = refl
+
+pub takes_former : {X : Type 0} (key : X → ℕ) (x y : X) → key x ≤ key y → lesser_by key (Some x) (Some y) ≡ Some x
+unfolding lesser_by
+takes_former {X} key x y le = go (nat_le (key x) (key y)) refl
+  where
+    go : (b : Bool) → nat_le (key x) (key y) ≡ b → cond b (Some x) (Some y) ≡ Some x
+    go true e = refl
+    go false e = absurd (let lt : key y < key x = search rules in omega arith)
+
+pub takes_latter : {X : Type 0} (key : X → ℕ) (x y : X) → key y < key x → lesser_by key (Some x) (Some y) ≡ Some y
+unfolding lesser_by
+takes_latter {X} key x y lt = go (nat_le (key x) (key y)) refl
+  where
+    go : (b : Bool) → nat_le (key x) (key y) ≡ b → cond b (Some x) (Some y) ≡ Some y
+    go true e = absurd (let le : key x ≤ key y = search rules in omega arith)
+    go false e = refl
 
 pub begin : {P : ℕ → Type 0} → Kept P P None
-begin {P} = record { goes = λ r h. subst (λ (o : Option ℕ). Finds P o) (sym (none_before r)) h }
+begin {P} = record { goes = λ r h. subst (λ (o : Option ℕ). Finds P o) (sym (none_before (λ n. n) r)) h }
 
 pub step : {W S R : ℕ → Type 0} (a b : Option ℕ) → Kept W (λ n. S n ⊎ R n) a → Finds S b → Kept W R (earlier_of a b)
 step {W} a b k h = record {
@@ -94,7 +111,7 @@ pub weaker : {W R S : ℕ → Type 0} (a : Option ℕ) → ((k : ℕ) → S k �
 weaker a to back k = record { goes = λ r h. k.goes r (same r to back h) }
 
 pub finish : {W R : ℕ → Type 0} (a : Option ℕ) → Kept W R a → ((n : ℕ) → R n → ⊥) → Finds W a
-finish {W} a k h = subst (λ (o : Option ℕ). Finds W o) (none_after a) (k.goes None (nowhere h))
+finish {W} a k h = subst (λ (o : Option ℕ). Finds W o) (none_after (λ n. n) a) (k.goes None (nowhere h))
 
 -- a name's offset is the answer, where a fact holds that does not speak of offsets
 pub here : {Q : Type 0} (m : ℕ) → Q → Finds (λ n. (m ≡ n) × Q) (Some m)

@@ -15,11 +15,15 @@ IsLeast P (Some n) = P n × ((m : ℕ) → P m → n ≤ m)
 pub record Finds (P : ℕ → Type 0) (answer : Option ℕ) : Type 0 where
   pub least : IsLeast P answer
 
+-- of two things that may be there, the one with the lesser key, and at one key the former
+unfoldable pub lesser_by : {X : Type 0} → (X → ℕ) → Option X → Option X → Option X
+lesser_by key None b = b
+lesser_by key (Some x) None = Some x
+lesser_by key (Some x) (Some y) = cond (nat_le (key x) (key y)) (Some x) (Some y)
+
 -- the lesser of two numbers that may be there
-unfoldable pub earlier_of : Option ℕ → Option ℕ → Option ℕ
-earlier_of None b = b
-earlier_of (Some m) None = Some m
-earlier_of (Some m) (Some n) = cond (nat_le m n) (Some m) (Some n)
+abbrev pub earlier_of : Option ℕ → Option ℕ → Option ℕ
+earlier_of a b = lesser_by (λ n. n) a b
 
 -- the answer is the least of those that R has of the members, one of each
 abbrev pub Earliest : {X : Type 0} → (X → Option ℕ → Type 0) → List X → Option ℕ → Type 0
