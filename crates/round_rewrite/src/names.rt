@@ -25,7 +25,7 @@ pub fn again<N: Allocator, A: Allocator>(alloc: A, x: &Name<N>) -> Result<Name<A
 }
 
 /// The name of a global with a mark and a round's number behind it; the round is counted from 0, the number from 1.
-fn numbered<N: Allocator, A: Allocator>(
+pub fn numbered<N: Allocator, A: Allocator>(
     alloc: A,
     x: &Name<N>,
     mark: &str,
