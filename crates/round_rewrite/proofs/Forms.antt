@@ -1,6 +1,8 @@
 -- Statements rewritten, one after the other.
 use Rattle.std.proofs.Common.{◌≡◌, ℕ, zero, suc, ◌+◌, ◌<◌, ◌≤◌, List, [], ◌∷◌, length, get_or, drop, map, Option, option_map, refl, sym, ◌∙◌, ap}
 use Rattle.std.proofs.lemmas.List.{drop_more, drop_all}
+use Rattle.std.proofs.lemmas.Result.{IfOk-weaker}
+use Rattle.std.specs.Prelude.{Result, IfOk}
 use Rattle.language.specs.Tree as tree
 use Rattle.language.specs.Tree.{any, assign, Block, done, one, choose, loop}
 use Rattle.language.specs.Rest.{join}
@@ -46,6 +48,12 @@ module _ (w : Naming tree.Name tree.Name tree.Name tree.Name) (last : ℕ) where
   -- what one statement is rewritten to
   pub by_core : {M N : Type 0} (a b : List (Stmt M)) (core : Core N) (d : Deed) → deed_of core ≡ d → Lays a b (λ k. bare_form w last d k) → Lays a b (λ k. bare_form w last (deed_of core) k)
   by_core a b core d e l k = l k ∙ ap (λ x. all_before (items_of a) (bare_form w last x k)) (sym e)
+
+  -- the same of a list that came where memory did not run out
+  pub core_is : {M N V E : Type 0} (r : Result V E) (items : V → List (Stmt M)) (a : List (Stmt M)) (core : Core N)
+      (d : Deed) → d ≡ deed_of core → IfOk r (λ v. Lays a (items v) (λ k. bare_form w last d k))
+      → IfOk r (λ v. Lays a (items v) (λ k. bare_form w last (deed_of core) k))
+  core_is r items a core d e h = IfOk-weaker r _ _ (λ v l. by_core a (items v) core d (sym e) l) h
 
   -- one more statement is rewritten
   pub one_more : {M N : Type 0} (ss : List (Stmt N)) (i : ℕ) (s : Stmt N) → i < length ss → s ≡ get_or ss i s → (old mid new : List (Stmt M)) (label : Option tree.Name) → label ≡ option_map name_of s.label → Lays old mid (λ k. prologue w last (record { label = label; at = s.at }) k) → Lays mid new (λ k. bare_form w last (deed_of s.core) k) → (whole : Statements → Statements) → ((rest : Statements) → all_before (items_of old) (forms w last (items_of (drop i ss)) rest) ≡ whole rest) → (rest : Statements) → all_before (items_of new) (forms w last (items_of (drop (i + 1) ss)) rest) ≡ whole rest

@@ -52,21 +52,36 @@ side_ids_used : (r : RightSide Name) → Each IsId (variables_of_side r) → Sid
 side_ids_used any h = tt
 side_ids_used (value e) h = ids_used e h
 
+-- the same for lists of them: own are the names of one, all those of a list
+list_uses_ids : {X : Type 0} (P : X → Type 0) (own : X → List Name) (all : List X → List Name)
+    → all [] ≡ [] → ((x : X) (xs : List X) → all (x ∷ xs) ≡ own x ++ all xs)
+    → ((x : X) → P x → Each IsId (own x)) → (xs : List X) → AllByRecursion P xs → Each IsId (all xs)
+list_uses_ids P own all none more single [] h = subst (Each IsId) (sym none) tt
+list_uses_ids P own all none more single (x ∷ xs) h =
+    subst (Each IsId) (sym (more x xs))
+    (each_both IsId (own x) (all xs) (single x h.0) (list_uses_ids P own all none more single xs h.1))
+
+list_ids_used : {X : Type 0} (P : X → Type 0) (own : X → List Name) (all : List X → List Name)
+    → ((x : X) (xs : List X) → all (x ∷ xs) ≡ own x ++ all xs)
+    → ((x : X) → Each IsId (own x) → P x) → (xs : List X) → Each IsId (all xs) → AllByRecursion P xs
+list_ids_used P own all more single [] h = tt
+list_ids_used P own all more single (x ∷ xs) h =
+    let both = subst (Each IsId) (more x xs) h in (
+      single x (each_left IsId (own x) (all xs) both),
+      list_ids_used P own all more single xs (each_right IsId (own x) (all xs) both),
+    )
+
 sides_use_ids : (rs : List (RightSide Name)) → AllByRecursion SideInGrammar rs → Each IsId (variables_of_sides rs)
-sides_use_ids [] h = tt
-sides_use_ids (r ∷ rs) h = each_both IsId (variables_of_side r) (variables_of_sides rs) (side_uses_ids r h.0) (sides_use_ids rs h.1)
+sides_use_ids = list_uses_ids SideInGrammar variables_of_side variables_of_sides refl (λ r rs. refl) side_uses_ids
 
 sides_ids_used : (rs : List (RightSide Name)) → Each IsId (variables_of_sides rs) → AllByRecursion SideInGrammar rs
-sides_ids_used [] h = tt
-sides_ids_used (r ∷ rs) h = (side_ids_used r (each_left IsId (variables_of_side r) (variables_of_sides rs) h), sides_ids_used rs (each_right IsId (variables_of_side r) (variables_of_sides rs) h))
+sides_ids_used = list_ids_used SideInGrammar variables_of_side variables_of_sides (λ r rs. refl) side_ids_used
 
 arguments_use_ids : (es : List (Expression Name)) → AllByRecursion ExpressionInGrammar es → Each IsId (variables_of_all es)
-arguments_use_ids [] h = tt
-arguments_use_ids (e ∷ es) h = each_both IsId (variables_of e) (variables_of_all es) (uses_ids e h.0) (arguments_use_ids es h.1)
+arguments_use_ids = list_uses_ids ExpressionInGrammar variables_of variables_of_all refl (λ e es. refl) uses_ids
 
 arguments_ids_used : (es : List (Expression Name)) → Each IsId (variables_of_all es) → AllByRecursion ExpressionInGrammar es
-arguments_ids_used [] h = tt
-arguments_ids_used (e ∷ es) h = (ids_used e (each_left IsId (variables_of e) (variables_of_all es) h), arguments_ids_used es (each_right IsId (variables_of e) (variables_of_all es) h))
+arguments_ids_used = list_ids_used ExpressionInGrammar variables_of variables_of_all (λ e es. refl) ids_used
 
 -- an assignment of the grammar, by its variables
 assign_in_grammar : (xs : List Name) (rs : List (RightSide Name)) → 0 < length xs → length xs ≡ length rs → Each IsId xs → Each IsId (variables_of_sides rs) → SimpleInGrammar (assign xs rs)

@@ -64,8 +64,13 @@ module _ (p : Program) (last : ℕ) (fits : FitsScopes p) (small : last < most_r
   abbrev Rec : ℕ → Type 0
   Rec f = (N : ℕ) → N < f → (pre : List (List Bool)) (g : List Bool) (post : List (List Bool)) → Zip p.globals last pre post S → length g ≡ p.globals → (b : Bool) (bs : List Both) → AllGood p last bs → PlainAfter w N (state (lay (pre ++ g ∷ post) S (bits_of (length pre) false b)) (stack p last bs m)) Q → Ends N pre g post b (map source bs)
 
-  after_step : (N M : ℕ) → M ≤ N → (pre : List (List Bool)) (g h : List Bool) (post : List (List Bool)) (b : Bool) (s t : List Frame) → StepsTo p (state g s) (λ u. u ≡ state h t) → Ends M pre h post b t → Ends N pre g post b s
-  after_step N M le pre g h post b s t step e = record {
+  -- what ends the run ends it from before, where the turns from there are known
+  kept : (N M : ℕ) → M ≤ N → (pre : List (List Bool)) (g h : List Bool) (post : List (List Bool)) (b : Bool)
+      (s t : List Frame) (e : Ends M pre h post b t)
+      → ((e.bad ≡ b) × ((s' : List Frame) × Turns p (g ∷ post) s (e.g' ∷ e.post') s'))
+      ⊎ ((e.bad ≡ true) × FailTurns p (g ∷ post) s (e.g' ∷ e.post'))
+      → Ends N pre g post b s
+  kept N M le pre g h post b s t e turns = record {
     left = e.left;
     fewer = (let k : e.left ≤ M = e.fewer in omega arith);
     g' = e.g';
@@ -77,11 +82,18 @@ module _ (p : Program) (last : ℕ) (fits : FitsScopes p) (small : last < most_r
     stop = e.stop;
     bad = e.bad;
     run = e.run;
-    turns = elim e.turns [
-      | inl (eb, (s', ts)) ↦ inl (eb, (s', step_turns p g h post s t e.g' e.post' s' step ts))
-      | inr (eb, ts) ↦ inr (eb, step_fails p g h post s t e.g' e.post' step ts)
-    ];
+    turns = turns;
   }
+
+  after_step : (N M : ℕ) → M ≤ N → (pre : List (List Bool))
+      (g h : List Bool) (post : List (List Bool)) (b : Bool) (s t : List Frame)
+      → StepsTo p (state g s) (λ u. u ≡ state h t) → Ends M pre h post b t → Ends N pre g post b s
+  after_step N M le pre g h post b s t step e =
+      kept N M le pre g h post b s t e
+      (elim e.turns [
+        | inl (eb, (s', ts)) ↦ inl (eb, (s', step_turns p g h post s t e.g' e.post' s' step ts))
+        | inr (eb, ts) ↦ inr (eb, step_fails p g h post s t e.g' e.post' step ts)
+      ])
 
   after_row : (N M : ℕ) → M ≤ N → (pre : List (List Bool)) (g h : List Bool) (post : List (List Bool)) (b : Bool) (s : List Frame) → length g ≡ p.globals → Ends M (pre ++ g ∷ []) h post b s → Ends N pre g (h ∷ post) b s
   after_row N M le pre g h post b s eg e = record {
@@ -162,20 +174,7 @@ module _ (p : Program) (last : ℕ) (fits : FitsScopes p) (small : last < most_r
       (step_back p last fits small w isw (pre ++ g ∷ post) S (length pre) b (zip_shape p.globals last pre post S g z eg) within m Q single M c own l tmp rest bs h good run))
     where
       weaker : Ends M pre g post b (frame c l rest ∷ map source bs) → Ends N pre g post b (frame c l rest ∷ map source bs)
-      weaker e = record {
-        left = e.left;
-        fewer = (let k : e.left ≤ M = e.fewer in omega arith);
-        g' = e.g';
-        post' = e.post';
-        long = e.long;
-        post_long = e.post_long;
-        same = e.same;
-        round = e.round;
-        stop = e.stop;
-        bad = e.bad;
-        run = e.run;
-        turns = e.turns;
-      }
+      weaker e = let le : M ≤ N = omega arith in kept N M le pre g g post b _ _ e e.turns
   exited f rec N le pre g post z eg b c own l tmp rest bs h good within is (stopped (M, lt, run)) =
       let (M', lt', run') = unwind_back p last fits small w isw (pre ++ g ∷ post) S (length pre) b (zip_shape p.globals last pre post S g z eg) within m Q single (suc c) (l ++ tmp) bs (length pre) b M run in
       ended N pre g post (length pre) true b (frame c l rest ∷ map source bs) M' (omega arith) z eg run'

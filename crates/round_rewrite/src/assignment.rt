@@ -70,7 +70,8 @@ impl<'a, N: Allocator, A: Allocator + Copy> Writer<'a, N, A> {
     /// Puts the copies of a global for each round behind targets.
     #[tactic(auto, using(crate::proofs::Pushed::pushed))]
     fn copies(&self, x: &Name<N>, into: Vec<Name<A>, A>) -> Result<Vec<Name<A>, A>, AllocError>
-        ensures { IfOk result (λ v. names_of v.items ≡ names_of into.items ++ map (λ k. copy_name k (name_of x.now)) (numbers 0 (suc self.now.rounds.last))) }
+        ensures { IfOk result (λ v. names_of v.items ≡ names_of into.items ++ map (λ k. copy_name k (name_of x.now))
+            (numbers 0 (suc self.now.rounds.last))) }
     {
         let mut list = into;
         for round in 0..self.rounds.count() {
@@ -86,7 +87,9 @@ impl<'a, N: Allocator, A: Allocator + Copy> Writer<'a, N, A> {
         rs: &[Rhs<N>],
         into: Vec<Name<A>, A>,
     ) -> Result<Vec<Name<A>, A>, AllocError>
-        ensures { IfOk result (λ v. names_of v.items ≡ names_of into.items ++ targets (naming_of self.now) self.now.rounds.last (names_of xs.now) (rhss_of rs.now)) }
+        ensures { IfOk result (λ v. names_of v.items
+            ≡ names_of into.items ++ targets (naming_of self.now) self.now.rounds.last (names_of xs.now)
+            (rhss_of rs.now)) }
     {
         let Some((x, more)) = xs.split_first() else {
             return Ok(into);
@@ -115,7 +118,9 @@ impl<'a, N: Allocator, A: Allocator + Copy> Writer<'a, N, A> {
         into: Vec<Rhs<A>, A>,
     ) -> Result<Vec<Rhs<A>, A>, AllocError>
         requires { number < 2 ^ 63 }
-        ensures { IfOk result (λ v. rhss_of v.items ≡ rhss_of into.items ++ map (written (naming_of self.now) self.now.rounds.last (var (drawn_name number)) (name_of x.now)) (numbers 0 (suc self.now.rounds.last))) }
+        ensures { IfOk result (λ v. rhss_of v.items
+            ≡ rhss_of into.items ++ map (written (naming_of self.now) self.now.rounds.last (var (drawn_name number))
+            (name_of x.now)) (numbers 0 (suc self.now.rounds.last))) }
     {
         let mut list = into;
         for round in 0..self.rounds.count() {
@@ -133,7 +138,10 @@ impl<'a, N: Allocator, A: Allocator + Copy> Writer<'a, N, A> {
         x: &Name<N>,
         into: Vec<Rhs<A>, A>,
     ) -> Result<Vec<Rhs<A>, A>, AllocError>
-        ensures { IfOk result (λ v. rhss_of v.items ≡ rhss_of into.items ++ map (written (naming_of self.now) self.now.rounds.last (expression (naming_of self.now) self.now.rounds.last (expr_of e.now)) (name_of x.now)) (numbers 0 (suc self.now.rounds.last))) }
+        ensures { IfOk result (λ v. rhss_of v.items
+            ≡ rhss_of into.items ++ map (written (naming_of self.now) self.now.rounds.last
+            (expression (naming_of self.now) self.now.rounds.last (expr_of e.now)) (name_of x.now))
+            (numbers 0 (suc self.now.rounds.last))) }
     {
         let mut list = into;
         for round in 0..self.rounds.count() {
@@ -152,7 +160,9 @@ impl<'a, N: Allocator, A: Allocator + Copy> Writer<'a, N, A> {
         into: Vec<Rhs<A>, A>,
     ) -> Result<Vec<Rhs<A>, A>, AllocError>
         requires { number + length xs.now < 2 ^ 63 }
-        ensures { IfOk result (λ v. rhss_of v.items ≡ rhss_of into.items ++ sides (naming_of self.now) self.now.rounds.last number (names_of xs.now) (rhss_of rs.now)) }
+        ensures { IfOk result (λ v. rhss_of v.items
+            ≡ rhss_of into.items ++ sides (naming_of self.now) self.now.rounds.last number (names_of xs.now)
+            (rhss_of rs.now)) }
     {
         let Some((x, more)) = xs.split_first() else {
             return Ok(into);

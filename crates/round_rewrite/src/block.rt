@@ -17,7 +17,8 @@ pub fn push_marked<A: Allocator>(
     core: Core<A>,
     into: Vec<Stmt<A>, A>,
 ) -> Result<Vec<Stmt<A>, A>, AllocError>
-    ensures { IfOk result (λ v. Lays into.items v.items (λ k. marked_before (record { label = option_map name_of label; at = at }) (deed_of core) k)) }
+    ensures { IfOk result (λ v. Lays into.items v.items
+        (λ k. marked_before (record { label = option_map name_of label; at = at }) (deed_of core) k)) }
 {
     let mut list = into;
     list.push(Stmt { label, at, core })?;

@@ -61,7 +61,8 @@ fn set_both<A: Allocator + Copy>(
     first: &str,
     second: &str,
 ) -> Result<Core<A>, AllocError>
-    ensures { IfOk result (λ c. deed_of c ≡ simple (assign (named first.now ∷ named second.now ∷ []) (value (const true) ∷ value (const true) ∷ []))) }
+    ensures { IfOk result (λ c. deed_of c
+        ≡ simple (assign (named first.now ∷ named second.now ∷ []) (value (const true) ∷ value (const true) ∷ []))) }
 {
     let target = push_name(alloc, first, Vec::new(*alloc))?;
     let targets = push_name(alloc, second, target)?;
@@ -132,7 +133,8 @@ impl<'a, N: Allocator, A: Allocator + Copy> Writer<'a, N, A> {
 
     /// That the round's number grows by 1.
     fn next_round(&self) -> Result<Core<A>, AllocError>
-        ensures { IfOk result (λ c. deed_of c ≡ simple (assign (reverse (naming_of self.now).bits) (reverse (raised (naming_of self.now).bits)))) }
+        ensures { IfOk result (λ c. deed_of c
+            ≡ simple (assign (reverse (naming_of self.now).bits) (reverse (raised (naming_of self.now).bits)))) }
     {
         let targets = round_names(self.alloc)?;
         let high = Rhs::Value(next_high(self.alloc)?);

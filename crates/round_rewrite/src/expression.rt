@@ -113,7 +113,8 @@ impl<'a, N: Allocator, A: Allocator + Copy> Writer<'a, N, A> {
 
     /// A read of a global: its copy for the round.
     fn joined(&self, x: &Name<N>) -> Result<Expr<A>, AllocError>
-        ensures { IfOk result (λ e. expr_of e ≡ joined (naming_of self.now) self.now.rounds.last self.now.rounds.last (name_of x.now)) }
+        ensures { IfOk result (λ e. expr_of e ≡ joined (naming_of self.now) self.now.rounds.last self.now.rounds.last
+            (name_of x.now)) }
     {
         let mut join = self.active(0, x)?;
         for round in 0..self.rounds.last {
@@ -165,7 +166,8 @@ impl<'a, N: Allocator, A: Allocator + Copy> Writer<'a, N, A> {
 
     /// Arguments, with each read of a global put so.
     pub fn arguments(&self, es: &[Expr<N>]) -> Result<Vec<Expr<A>, A>, AllocError>
-        ensures { IfOk result (λ v. exprs_of v.items ≡ map (expression (naming_of self.now) self.now.rounds.last) (exprs_of es.now)) }
+        ensures { IfOk result (λ v. exprs_of v.items ≡ map (expression (naming_of self.now) self.now.rounds.last)
+            (exprs_of es.now)) }
     {
         let mut list = Vec::new(*self.alloc);
         for e in es {
@@ -179,7 +181,8 @@ impl<'a, N: Allocator, A: Allocator + Copy> Writer<'a, N, A> {
         requires { round < most_rounds }
         ensures { IfOk result
             (λ e. expr_of e ≡ two Rattle.language.specs.Tree.and
-            (negation (in_round (naming_of self.now) self.now.rounds.last round)) (var (copy_name round (name_of x.now)))) }
+            (negation (in_round (naming_of self.now) self.now.rounds.last round))
+            (var (copy_name round (name_of x.now)))) }
     {
         let is_round = self.at(round)?;
         let other = not(self.alloc, is_round)?;
@@ -191,7 +194,8 @@ impl<'a, N: Allocator, A: Allocator + Copy> Writer<'a, N, A> {
     /// other its own.
     pub fn written(&self, value: Expr<A>, x: &Name<N>, round: u8) -> Result<Rhs<A>, AllocError>
         requires { round < most_rounds }
-        ensures { IfOk result (λ r. rhs_of r ≡ written (naming_of self.now) self.now.rounds.last (expr_of value) (name_of x.now) round) }
+        ensures { IfOk result (λ r. rhs_of r ≡ written (naming_of self.now) self.now.rounds.last (expr_of value)
+            (name_of x.now) round) }
     {
         let old = self.kept(x, round)?;
         let is_round = self.at(round)?;

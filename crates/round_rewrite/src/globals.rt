@@ -18,7 +18,8 @@ fn all_copies<N: Allocator, A: Allocator + Copy>(
     xs: &[Name<N>],
     into: Vec<Name<A>, A>,
 ) -> Result<Vec<Name<A>, A>, AllocError>
-    ensures { IfOk result (λ v. names_of v.items ≡ names_of into.items ++ copied (names []) rounds.last copy_name (names_of xs.now) (numbers 0 (suc rounds.last))) }
+    ensures { IfOk result (λ v. names_of v.items ≡ names_of into.items
+        ++ copied (names []) rounds.last copy_name (names_of xs.now) (numbers 0 (suc rounds.last))) }
 {
     let mut list = into;
     for round in 0..rounds.count() {
@@ -34,7 +35,8 @@ fn all_saves<N: Allocator, A: Allocator + Copy>(
     xs: &[Name<N>],
     into: Vec<Name<A>, A>,
 ) -> Result<Vec<Name<A>, A>, AllocError>
-    ensures { IfOk result (λ v. names_of v.items ≡ names_of into.items ++ copied (names []) rounds.last save_name (names_of xs.now) (numbers 1 rounds.last)) }
+    ensures { IfOk result (λ v. names_of v.items ≡ names_of into.items
+        ++ copied (names []) rounds.last save_name (names_of xs.now) (numbers 1 rounds.last)) }
 {
     let mut list = into;
     for before in 0..rounds.last {

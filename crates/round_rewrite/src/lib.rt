@@ -72,7 +72,8 @@ pub fn calls_of_resolving_trees_fit()
 
 /// In a tree whose procedures have at most 64 places each, as a sequential program, each valuation has at most 64 values.
 pub fn narrow_trees_have_narrow_valuations()
-    ensures { (t : Tree) → AllNarrow t → (q : ℕ) (routine : Routine) → slice_get (sequential_of t).routines q ≡ Some routine
+    ensures { (t : Tree) → AllNarrow t → (q : ℕ) (routine : Routine)
+        → slice_get (sequential_of t).routines q ≡ Some routine
         → (sequential_of t).globals + routine.places ≤ most_places }
 {}
 

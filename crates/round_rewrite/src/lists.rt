@@ -1,14 +1,14 @@
 //! Lists of names and right sides, one for each name.
 
-ghost use Rattle.std.specs.Prelude.{◌≡◌, ◌++◌, ◌<◌, IfOk, map};
+ghost use Rattle.std.specs.Prelude.{◌≡◌, ◌++◌, ◌<◌, suc, decimal, IfOk, map};
 ghost use Rattle.language.specs.Tree.{any, var, value};
 ghost use Rattle.syntax.specs.Trees.{names_of, rhss_of};
 ghost use Rattle.round_rewrite.specs.Table.{each};
-ghost use Rattle.round_rewrite.specs.Names.{copy_name, save_name};
+ghost use Rattle.round_rewrite.specs.Names.{named, copy_name, save_name};
 ghost use Rattle.round_rewrite.specs.Limits.{most_rounds};
 
 use crate::expression::copy_of;
-use crate::names::{again, copy, save};
+use crate::names::{again, numbered};
 use std::alloc::{AllocError, Allocator};
 use syntax::{Name, Rhs};
 
@@ -27,6 +27,25 @@ pub fn all_again<N: Allocator, A: Allocator + Copy>(
     Ok(list)
 }
 
+/// Puts the names with a mark and a round's number behind names.
+fn numbered_all<N: Allocator, A: Allocator + Copy>(
+    alloc: &A,
+    mark: &str,
+    round: u8,
+    xs: &[Name<N>],
+    into: Vec<Name<A>, A>,
+) -> Result<Vec<Name<A>, A>, AllocError>
+    requires { round < most_rounds }
+    ensures { IfOk result (λ v. names_of v.items
+        ≡ names_of into.items ++ map (λ x. named (x.text ++ (mark.now ++ decimal (suc round)))) (names_of xs.now)) }
+{
+    let mut list = into;
+    for x in xs {
+        list.push(numbered(*alloc, x, mark, round)?)?;
+    }
+    Ok(list)
+}
+
 /// Puts the copies of globals for a round behind names.
 pub fn copies<N: Allocator, A: Allocator + Copy>(
     alloc: &A,
@@ -37,11 +56,7 @@ pub fn copies<N: Allocator, A: Allocator + Copy>(
     requires { round < most_rounds }
     ensures { IfOk result (λ v. names_of v.items ≡ names_of into.items ++ map (copy_name round) (names_of xs.now)) }
 {
-    let mut list = into;
-    for x in xs {
-        list.push(copy(*alloc, round, x)?)?;
-    }
-    Ok(list)
+    numbered_all(alloc, "__", round, xs, into)
 }
 
 /// Puts the guesses of globals that are saved for a round behind names.
@@ -54,11 +69,7 @@ pub fn saves<N: Allocator, A: Allocator + Copy>(
     requires { round < most_rounds }
     ensures { IfOk result (λ v. names_of v.items ≡ names_of into.items ++ map (save_name round) (names_of xs.now)) }
 {
-    let mut list = into;
-    for x in xs {
-        list.push(save(*alloc, round, x)?)?;
-    }
-    Ok(list)
+    numbered_all(alloc, "__s", round, xs, into)
 }
 
 /// A `?` for each name.

@@ -47,7 +47,8 @@ fn guesses<N: Allocator, A: Allocator + Copy>(
     xs: &[Name<N>],
     into: Vec<Stmt<A>, A>,
 ) -> Result<Vec<Stmt<A>, A>, AllocError>
-    ensures { IfOk result (λ v. Lays into.items v.items (λ k. guesses (names []) rounds.last (names_of xs.now) (numbers 1 rounds.last) k)) }
+    ensures { IfOk result (λ v. Lays into.items v.items
+        (λ k. guesses (names []) rounds.last (names_of xs.now) (numbers 1 rounds.last) k)) }
 {
     let mut list = into;
     for before in 0..rounds.last {
@@ -58,7 +59,9 @@ fn guesses<N: Allocator, A: Allocator + Copy>(
 
 /// That the round and `stop__` get 0.
 fn reset<A: Allocator + Copy>(alloc: &A) -> Result<Core<A>, AllocError>
-    ensures { IfOk result (λ c. deed_of c ≡ simple (assign (named (codes "rh__") ∷ named (codes "rl__") ∷ named (codes "stop__") ∷ []) (value (const false) ∷ value (const false) ∷ value (const false) ∷ []))) }
+    ensures { IfOk result (λ c. deed_of c
+        ≡ simple (assign (named (codes "rh__") ∷ named (codes "rl__") ∷ named (codes "stop__") ∷ [])
+        (value (const false) ∷ value (const false) ∷ value (const false) ∷ []))) }
 {
     let names = round_names(alloc)?;
     let targets = push_name(alloc, "stop__", names)?;
@@ -75,7 +78,8 @@ fn starts<N: Allocator, A: Allocator + Copy>(
     threads: &[Thread<N>],
     into: Vec<Stmt<A>, A>,
 ) -> Result<Vec<Stmt<A>, A>, AllocError>
-    ensures { IfOk result (λ v. Lays into.items v.items (λ k. starts (names []) last (line_names (threads_of threads.now)) k)) }
+    ensures { IfOk result (λ v. Lays into.items v.items
+        (λ k. starts (names []) last (line_names (threads_of threads.now)) k)) }
 {
     let mut list = into;
     for thread in threads {
@@ -93,7 +97,9 @@ fn agrees<N: Allocator, A: Allocator + Copy>(
     x: &Name<N>,
 ) -> Result<Core<A>, AllocError>
     requires { round < 3 }
-    ensures { IfOk result (λ c. deed_of c ≡ simple (assume (value (two equal (var (save_name (suc round) (name_of x.now))) (var (copy_name round (name_of x.now))))))) }
+    ensures { IfOk result (λ c. deed_of c
+        ≡ simple (assume (value (two equal (var (save_name (suc round) (name_of x.now)))
+        (var (copy_name round (name_of x.now))))))) }
 {
     let saved = save(*alloc, round + 1, x)?;
     let kept = read_of(saved);
@@ -128,7 +134,8 @@ fn checks<N: Allocator, A: Allocator + Copy>(
     xs: &[Name<N>],
     into: Vec<Stmt<A>, A>,
 ) -> Result<Vec<Stmt<A>, A>, AllocError>
-    ensures { IfOk result (λ v. Lays into.items v.items (λ k. checks (names []) rounds.last (names_of xs.now) (numbers 0 rounds.last) k)) }
+    ensures { IfOk result (λ v. Lays into.items v.items
+        (λ k. checks (names []) rounds.last (names_of xs.now) (numbers 0 rounds.last) k)) }
 {
     let mut list = into;
     for round in 0..rounds.last {
@@ -144,7 +151,8 @@ pub fn main_body<N: Allocator, A: Allocator + Copy>(
     xs: &[Name<N>],
     threads: &[Thread<N>],
 ) -> Result<Vec<Stmt<A>, A>, AllocError>
-    ensures { IfOk result (λ v. block_of v.items ≡ main (names []) rounds.last (names_of xs.now) (line_names (threads_of threads.now))) }
+    ensures { IfOk result (λ v. block_of v.items
+        ≡ main (names []) rounds.last (names_of xs.now) (line_names (threads_of threads.now))) }
 {
     let guessed = guesses(alloc, rounds, xs, Vec::new(*alloc))?;
     let started = starts(alloc, rounds.last, threads, guessed)?;

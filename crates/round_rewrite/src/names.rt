@@ -1,6 +1,6 @@
 //! The names of a rewritten program.
 
-ghost use Rattle.std.specs.Prelude.{◌≡◌, ◌<◌, ◌^◌, IfOk};
+ghost use Rattle.std.specs.Prelude.{◌≡◌, ◌<◌, ◌++◌, ◌^◌, suc, decimal, IfOk};
 ghost use Rattle.syntax.specs.Trees.{name_of};
 ghost use Rattle.round_rewrite.specs.Names.{named, copy_name, save_name, drawn_name};
 ghost use Rattle.round_rewrite.specs.Limits.{most_rounds};
@@ -24,6 +24,22 @@ pub fn again<N: Allocator, A: Allocator>(alloc: A, x: &Name<N>) -> Result<Name<A
     Ok(Name { text, at: x.at })
 }
 
+/// The name of a global with a mark and a round's number behind it; the round is counted from 0, the number from 1.
+pub fn numbered<N: Allocator, A: Allocator>(
+    alloc: A,
+    x: &Name<N>,
+    mark: &str,
+    round: u8,
+) -> Result<Name<A>, AllocError>
+    requires { round < most_rounds }
+    ensures { IfOk result (λ n. name_of n ≡ named ((name_of x.now).text ++ (mark.now ++ decimal (suc round)))) }
+{
+    let text = x.text.as_str();
+    let number = round + 1;
+    let text = format!(in alloc; "{text}{mark}{number}")?;
+    Ok(Name { text, at: 0 })
+}
+
 /// The copy of a global for a round, counted from 0.
 pub fn copy<N: Allocator, A: Allocator>(
     alloc: A,
@@ -33,10 +49,7 @@ pub fn copy<N: Allocator, A: Allocator>(
     requires { round < most_rounds }
     ensures { IfOk result (λ n. name_of n ≡ copy_name round (name_of x.now)) }
 {
-    let text = x.text.as_str();
-    let number = round + 1;
-    let text = format!(in alloc; "{text}__{number}")?;
-    Ok(Name { text, at: 0 })
+    numbered(alloc, x, "__", round)
 }
 
 /// The guess of a global that is saved for a round, counted from 0.
@@ -48,10 +61,7 @@ pub fn save<N: Allocator, A: Allocator>(
     requires { round < most_rounds }
     ensures { IfOk result (λ n. name_of n ≡ save_name round (name_of x.now)) }
 {
-    let text = x.text.as_str();
-    let number = round + 1;
-    let text = format!(in alloc; "{text}__s{number}")?;
-    Ok(Name { text, at: 0 })
+    numbered(alloc, x, "__s", round)
 }
 
 /// A temporary, counted from 0.

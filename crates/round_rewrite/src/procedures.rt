@@ -71,7 +71,8 @@ pub fn procedures<N: Allocator, A: Allocator + Copy>(
     program: &Program<N>,
 ) -> Result<Vec<Proc<A>, A>, AllocError>
     requires { AreFew (procs_of program.now.procs.items) }
-    ensures { IfOk result (λ v. procs_of v.items ≡ main_procedure rounds.last (tree_of program.now) ∷ map (rewritten_procedure rounds.last) (procs_of program.now.procs.items)) }
+    ensures { IfOk result (λ v. procs_of v.items ≡ main_procedure rounds.last (tree_of program.now)
+        ∷ map (rewritten_procedure rounds.last) (procs_of program.now.procs.items)) }
 {
     let mut list = Vec::new(*alloc);
     list.push(first(alloc, rounds, program)?)?;

@@ -57,7 +57,8 @@ pub fn rewrite<N: Allocator, A: Allocator + Copy>(
     rounds: Rounds,
 ) -> Result<Sequential<A>, RewriteFault>
     // What is answered is the program of the table.
-    ensures rewritten { IfOk result (λ s. sequential_tree s ≡ rewritten_tree (last_round rounds) (checked_tree checked.now)) }
+    ensures rewritten { IfOk result
+        (λ s. sequential_tree s ≡ rewritten_tree (last_round rounds) (checked_tree checked.now)) }
     // The source is unsafe within the rounds exactly where some pair of `main__` of that program has `bad__`.
     ensures keeps { IfOk result (λ s. KeepsTree (last_round rounds) (checked_tree checked.now)) }
     // It is a tree of the grammar where the source is.

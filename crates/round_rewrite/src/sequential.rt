@@ -36,7 +36,8 @@ impl<A: Allocator> Sequential<A> {
     /// How many places the valuations of a procedure have: the globals, and its formals, locals and temporaries.
     pub fn width(&self, procedure: u8) -> u8
         requires { procedure < length (sequential_program self.now).procs.items }
-        ensures { IsThere (slice_get (sequential_tree self.now).procedures procedure) (λ p. result ≡ width (sequential_tree self.now) p) }
+        ensures { IsThere (slice_get (sequential_tree self.now).procedures procedure)
+            (λ p. result ≡ width (sequential_tree self.now) p) }
     {
         let proc = &self.program.procs[procedure as usize];
         let own = proc.formals.len() + proc.locals.len();

@@ -24,7 +24,9 @@ impl<'a, N: Allocator, A: Allocator + Copy> Writer<'a, N, A> {
         at: u32,
         into: Vec<Stmt<A>, A>,
     ) -> Result<Vec<Stmt<A>, A>, AllocError>
-        ensures { IfOk result (λ v. Lays into.items v.items (λ k. prologue (naming_of self.now) self.now.rounds.last (record { label = option_map name_of label; at = at }) k)) }
+        ensures { IfOk result (λ v. Lays into.items v.items
+            (λ k. prologue (naming_of self.now) self.now.rounds.last
+            (record { label = option_map name_of label; at = at }) k)) }
     {
         let risen = push_marked(label, at, self.rising()?, into)?;
         let chosen = push(stop_choice(self.alloc)?, risen)?;
@@ -35,7 +37,8 @@ impl<'a, N: Allocator, A: Allocator + Copy> Writer<'a, N, A> {
     /// Puts the draw of so many temporaries, if any, behind others.
     fn drawing(&self, number: usize, into: Vec<Stmt<A>, A>) -> Result<Vec<Stmt<A>, A>, AllocError>
         requires { number < 2 ^ 63 }
-        ensures { IfOk result (λ v. Lays into.items v.items (λ k. drawing (naming_of self.now) self.now.rounds.last number k)) }
+        ensures { IfOk result (λ v. Lays into.items v.items
+            (λ k. drawing (naming_of self.now) self.now.rounds.last number k)) }
     {
         if number == 0 {
             return Ok(into);
@@ -53,7 +56,8 @@ impl<'a, N: Allocator, A: Allocator + Copy> Writer<'a, N, A> {
         rs: &[Rhs<N>],
         into: Vec<Stmt<A>, A>,
     ) -> Result<Vec<Stmt<A>, A>, AllocError>
-        ensures { IfOk result (λ v. Lays into.items v.items (λ k. statement (naming_of self.now) self.now.rounds.last (assign (names_of xs.now) (rhss_of rs.now)) k)) }
+        ensures { IfOk result (λ v. Lays into.items v.items
+            (λ k. statement (naming_of self.now) self.now.rounds.last (assign (names_of xs.now) (rhss_of rs.now)) k)) }
     {
         let drawn = self.drawing(self.draws(xs, rs), into)?;
         let targets = self.targets(xs, rs, Vec::new(*self.alloc))?;
@@ -69,7 +73,8 @@ impl<'a, N: Allocator, A: Allocator + Copy> Writer<'a, N, A> {
         es: &[Expr<N>],
         into: Vec<Stmt<A>, A>,
     ) -> Result<Vec<Stmt<A>, A>, AllocError>
-        ensures { IfOk result (λ v. Lays into.items v.items (λ k. statement (naming_of self.now) self.now.rounds.last (call (name_of p.now) (exprs_of es.now)) k)) }
+        ensures { IfOk result (λ v. Lays into.items v.items
+            (λ k. statement (naming_of self.now) self.now.rounds.last (call (name_of p.now) (exprs_of es.now)) k)) }
     {
         let name = again(*self.alloc, p)?;
         let arguments = self.arguments(es)?;
@@ -95,7 +100,8 @@ impl<'a, N: Allocator, A: Allocator + Copy> Writer<'a, N, A> {
         stmts: &[Stmt<N>],
         into: Vec<Stmt<A>, A>,
     ) -> Result<Vec<Stmt<A>, A>, AllocError>
-        ensures { IfOk result (λ v. Lays into.items v.items (λ k. forms (naming_of self.now) self.now.rounds.last (items_of stmts.now) k)) }
+        ensures { IfOk result (λ v. Lays into.items v.items
+            (λ k. forms (naming_of self.now) self.now.rounds.last (items_of stmts.now) k)) }
     {
         let mut list = into;
         for stmt in stmts {
@@ -146,7 +152,8 @@ impl<'a, N: Allocator, A: Allocator + Copy> Writer<'a, N, A> {
         into: Vec<Stmt<A>, A>,
     ) -> Result<Vec<Stmt<A>, A>, AllocError>
         ensures { IfOk result (λ v. Lays into.items v.items
-            (λ k. bare_form (naming_of self.now) self.now.rounds.last (branch (rhs_of r.now) (block_of a.now) (block_of b.now)) k)) }
+            (λ k. bare_form (naming_of self.now) self.now.rounds.last
+            (branch (rhs_of r.now) (block_of a.now) (block_of b.now)) k)) }
     {
         let test = self.side(r)?;
         let yes = self.block(a, Vec::new(*self.alloc))?;
@@ -176,7 +183,8 @@ impl<'a, N: Allocator, A: Allocator + Copy> Writer<'a, N, A> {
     /// Puts what one statement is rewritten to, without its prologue, behind others.
     #[cycle(rewriting)]
     fn core(&self, core: &Core<N>, into: Vec<Stmt<A>, A>) -> Result<Vec<Stmt<A>, A>, AllocError>
-        ensures { IfOk result (λ v. Lays into.items v.items (λ k. bare_form (naming_of self.now) self.now.rounds.last (deed_of core.now) k)) }
+        ensures { IfOk result (λ v. Lays into.items v.items
+            (λ k. bare_form (naming_of self.now) self.now.rounds.last (deed_of core.now) k)) }
     {
         match core {
             Core::Skip => push(Core::Skip, into),

@@ -1,29 +1,44 @@
 -- Putting searches for the least offset together.
-use Rattle.std.proofs.Common.{◌≡◌, ◌≢◌, ℕ, ◌+◌, ◌<◌, ◌≤◌, nat_le, rules, Bool, true, false, cond, List, [], ◌∷◌, ◌++◌, length, map, drop, get_or, Option, Some, None, ◌⊎◌, inl, inr, refl, sym, ◌∙◌, ap, subst, arith}
+use Rattle.std.proofs.Common.{◌≡◌, ◌≢◌, ℕ, ◌<◌, ◌≤◌, nat_le, rules, Bool, true, false, cond, List, [], ◌∷◌, ◌++◌, Option, Some, None, ◌⊎◌, inl, inr, refl, sym, subst, arith}
 use Rattle.std.specs.Prelude.{Result, Ok, Err, IfOk}
-use Rattle.std.proofs.lemmas.List.{drop_more, drop_all}
 use Rattle.std.proofs.lemmas.Bool.Decides.{leb_tells}
 use Rattle.std.specs.Str.{bytes_eq}
 use Rattle.language.specs.Rest.{same_text}
-use Rattle.scopes.specs.Find.{AnyOf, Finds, earlier_of, Kept}
+use Rattle.scopes.specs.Find.{AnyOf, Finds, lesser_by, earlier_of, Kept}
 
-lesser : {P Q : ℕ → Type 0} (m n : ℕ) (b : Bool) → nat_le m n ≡ b → Finds P (Some m) → Finds Q (Some n) → Finds (λ k. P k ⊎ Q k) (cond b (Some m) (Some n))
+lesser : {P Q : ℕ → Type 0} (m n : ℕ) (b : Bool) → nat_le m n ≡ b → Finds P (Some m) → Finds Q (Some n) → Finds
+    (λ k. P k ⊎ Q k) (cond b (Some m) (Some n))
 lesser m n true e p q =
     let le : m ≤ n = search rules in
-    record { least = (inl p.least.0, λ k h. elim h [ inl x ↦ p.least.1 k x | inr y ↦ let l : n ≤ k = q.least.1 k y in omega arith ]) }
+    record {
+      least = (
+        inl p.least.0,
+        λ k h. elim h
+            [ inl x ↦ p.least.1 k x | inr y ↦ let l : n ≤ k = q.least.1 k y in omega arith ],
+      );
+    }
 lesser m n false e p q =
     let le : n < m = search rules in
-    record { least = (inr q.least.0, λ k h. elim h [ inl x ↦ (let l : m ≤ k = p.least.1 k x in omega arith) | inr y ↦ q.least.1 k y ]) }
+    record {
+      least = (
+        inr q.least.0,
+        λ k h. elim h
+            [ inl x ↦ (let l : m ≤ k = p.least.1 k x in omega arith) | inr y ↦ q.least.1 k y ],
+      );
+    }
 
 pub both : {P Q : ℕ → Type 0} (a b : Option ℕ) → Finds P a → Finds Q b → Finds (λ k. P k ⊎ Q k) (earlier_of a b)
-unfolding earlier_of
+unfolding lesser_by
 both None None p q = record { least = λ k h. elim h [ inl x ↦ p.least k x | inr y ↦ q.least k y ] }
-both None (Some n) p q = record { least = (inr q.least.0, λ k h. elim h [ inl x ↦ absurd (p.least k x) | inr y ↦ q.least.1 k y ]) }
-both (Some m) None p q = record { least = (inl p.least.0, λ k h. elim h [ inl x ↦ p.least.1 k x | inr y ↦ absurd (q.least k y) ]) }
+both None (Some n) p q = record
+    { least = (inr q.least.0, λ k h. elim h [ inl x ↦ absurd (p.least k x) | inr y ↦ q.least.1 k y ]) }
+both (Some m) None p q = record
+    { least = (inl p.least.0, λ k h. elim h [ inl x ↦ p.least.1 k x | inr y ↦ absurd (q.least k y) ]) }
 both (Some m) (Some n) p q = lesser m n (nat_le m n) refl p q
 
 -- equivalent properties have one least number
-pub same : {P Q : ℕ → Type 0} (a : Option ℕ) → ((k : ℕ) → P k → Q k) → ((k : ℕ) → Q k → P k) → Finds P a → Finds Q a
+pub same : {P Q : ℕ → Type 0} (a : Option ℕ) → ((k : ℕ) → P k → Q k) → ((k : ℕ) → Q k → P k) → Finds P a
+    → Finds Q a
 same None to back p = record { least = λ k h. p.least k (back k h) }
 same (Some m) to back p = record { least = (to m p.least.0, λ k h. p.least.1 k (back k h)) }
 
@@ -35,12 +50,13 @@ pub only : {P : ℕ → Type 0} (m : ℕ) → P m → ((k : ℕ) → P k → m �
 only m p h = record { least = (p, λ k q. let e : m ≡ k = h k q in omega arith) }
 
 past : (l m : ℕ) (t : Bool) → cond t (Some l) (Some m) ≡ earlier_of (cond t (Some l) (Some m)) None
-unfolding earlier_of
+unfolding lesser_by
 past l m true = refl
 past l m false = refl
 
-three : (l m n : ℕ) (p q r : Bool) → nat_le l m ≡ p → nat_le m n ≡ q → nat_le l n ≡ r → earlier_of (Some l) (cond q (Some m) (Some n)) ≡ earlier_of (cond p (Some l) (Some m)) (Some n)
-unfolding earlier_of
+three : (l m n : ℕ) (p q r : Bool) → nat_le l m ≡ p → nat_le m n ≡ q → nat_le l n ≡ r → earlier_of (Some l)
+    (cond q (Some m) (Some n)) ≡ earlier_of (cond p (Some l) (Some m)) (Some n)
+unfolding lesser_by
 three l m n true true true a b c = rw (a, c) refl
 three l m n true true false a b c = absurd (grind (arith, leb_tells l m, leb_tells m n, leb_tells l n))
 three l m n true false r a b c = refl
@@ -48,51 +64,54 @@ three l m n false true r a b c = rw (a, b) refl
 three l m n false false true a b c = absurd (grind (arith, leb_tells l m, leb_tells m n, leb_tells l n))
 three l m n false false false a b c = rw (b, c) refl
 
-either_way : (a b c : Option ℕ) → earlier_of a (earlier_of b c) ≡ earlier_of (earlier_of a b) c
-unfolding earlier_of
+pub either_way : (a b c : Option ℕ) → earlier_of a (earlier_of b c) ≡ earlier_of (earlier_of a b) c
+unfolding lesser_by
 either_way None b c = refl
 either_way (Some l) None c = refl
 either_way (Some l) (Some m) None = past l m (nat_le l m)
 either_way (Some l) (Some m) (Some n) = three l m n (nat_le l m) (nat_le m n) (nat_le l n) refl refl refl
 
-none_after : (a : Option ℕ) → earlier_of a None ≡ a
-unfolding earlier_of
-none_after None = refl
-none_after (Some m) = refl
+-- which of two is taken, by whether they are there and by their keys
+pub none_after : {X : Type 0} (key : X → ℕ) (a : Option X) → lesser_by key a None ≡ a
+unfolding lesser_by
+none_after key None = refl
+none_after key (Some x) = refl
 
-none_before : (a : Option ℕ) → earlier_of None a ≡ a
-unfolding earlier_of
-none_before a = refl
+pub none_before : {X : Type 0} (key : X → ℕ) (a : Option X) → lesser_by key None a ≡ a
+unfolding lesser_by
+none_before key a = refl
+
+pub takes_former : {X : Type 0} (key : X → ℕ) (x y : X) → key x ≤ key y → lesser_by key (Some x) (Some y) ≡ Some x
+unfolding lesser_by
+takes_former {X} key x y le = go (nat_le (key x) (key y)) refl
+  where
+    go : (b : Bool) → nat_le (key x) (key y) ≡ b → cond b (Some x) (Some y) ≡ Some x
+    go true e = refl
+    go false e = absurd (let lt : key y < key x = search rules in omega arith)
+
+pub takes_latter : {X : Type 0} (key : X → ℕ) (x y : X) → key y < key x → lesser_by key (Some x) (Some y) ≡ Some y
+unfolding lesser_by
+takes_latter {X} key x y lt = go (nat_le (key x) (key y)) refl
+  where
+    go : (b : Bool) → nat_le (key x) (key y) ≡ b → cond b (Some x) (Some y) ≡ Some y
+    go true e = absurd (let le : key x ≤ key y = search rules in omega arith)
+    go false e = refl
 
 pub begin : {P : ℕ → Type 0} → Kept P P None
-begin {P} = record { goes = λ r h. subst (λ (o : Option ℕ). Finds P o) (sym (none_before r)) h }
+begin {P} = record { goes = λ r h. subst (λ (o : Option ℕ). Finds P o) (sym (none_before (λ n. n) r)) h }
 
 pub step : {W S R : ℕ → Type 0} (a b : Option ℕ) → Kept W (λ n. S n ⊎ R n) a → Finds S b → Kept W R (earlier_of a b)
-step {W} a b k h = record { goes = λ r g. subst (λ (o : Option ℕ). Finds W o) (either_way a b r) (k.goes (earlier_of b r) (both b r h g)) }
+step {W} a b k h = record {
+  goes = λ r g. subst (λ (o : Option ℕ). Finds W o) (either_way a b r)
+      (k.goes (earlier_of b r) (both b r h g));
+}
 
--- what has nothing in it may be passed over
-pub pass : {W S R : ℕ → Type 0} (a : Option ℕ) → Kept W (λ n. S n ⊎ R n) a → ((n : ℕ) → S n → ⊥) → Kept W R a
-pass {W} {S} {R} a k h = subst (λ (o : Option ℕ). Kept W R o) (none_after a) (step a None k (nowhere h))
-
-pub weaker : {W R S : ℕ → Type 0} (a : Option ℕ) → ((k : ℕ) → S k → R k) → ((k : ℕ) → R k → S k) → Kept W R a → Kept W S a
+pub weaker : {W R S : ℕ → Type 0} (a : Option ℕ) → ((k : ℕ) → S k → R k) → ((k : ℕ) → R k → S k) → Kept W R a
+    → Kept W S a
 weaker a to back k = record { goes = λ r h. k.goes r (same r to back h) }
 
 pub finish : {W R : ℕ → Type 0} (a : Option ℕ) → Kept W R a → ((n : ℕ) → R n → ⊥) → Finds W a
-finish {W} a k h = subst (λ (o : Option ℕ). Finds W o) (none_after a) (k.goes None (nowhere h))
-
--- a loop over a list: one element more, and the end
-pub next_any : {W : ℕ → Type 0} {X : Type 0} {Y : Type 0} (P : Y → ℕ → Type 0) (f : X → Y) (xs : List X) (i : ℕ) (x : X) (a b r : Option ℕ)
-    → i < length xs → x ≡ get_or xs i x → r ≡ earlier_of a b
-    → Kept W (λ n. AnyOf (λ y. P y n) (map f (drop i xs))) a → Finds (P (f x)) b
-    → Kept W (λ n. AnyOf (λ y. P y n) (map f (drop (i + 1) xs))) r
-next_any {W} {X} P f xs i x a b r lt is e k h =
-    subst (λ (o : Option ℕ). Kept W (λ n. AnyOf (λ y. P y n) (map f (drop (i + 1) xs))) o) (sym e)
-    (step a b (subst (λ (l : List X). Kept W (λ n. AnyOf (λ y. P y n) (map f l)) a) (drop_more xs i x lt ∙ ap (λ (y : X). y ∷ drop (i + 1) xs) (sym is)) k) h)
-
-pub end_any : {W : ℕ → Type 0} {X : Type 0} {Y : Type 0} (P : Y → ℕ → Type 0) (f : X → Y) (xs : List X) (i : ℕ) (a : Option ℕ)
-    → length xs ≤ i → Kept W (λ n. AnyOf (λ y. P y n) (map f (drop i xs))) a → Finds W a
-end_any {W} {X} P f xs i a le k =
-    finish a (subst (λ (l : List X). Kept W (λ n. AnyOf (λ y. P y n) (map f l)) a) (drop_all i xs le) k) (λ n h. h)
+finish {W} a k h = subst (λ (o : Option ℕ). Finds W o) (none_after (λ n. n) a) (k.goes None (nowhere h))
 
 -- a name's offset is the answer, where a fact holds that does not speak of offsets
 pub here : {Q : Type 0} (m : ℕ) → Q → Finds (λ n. (m ≡ n) × Q) (Some m)
@@ -116,7 +135,9 @@ any_right P [] ys h = h
 any_right P (x ∷ xs) ys h = inr (any_right P xs ys h)
 
 -- what is found in two lists is found in one after the other
-pub in_both : {X : Type 0} (P : X → ℕ → Type 0) (xs ys : List X) (a b : Option ℕ) → Finds (λ n. AnyOf (λ x. P x n) xs) a → Finds (λ n. AnyOf (λ x. P x n) ys) b → Finds (λ n. AnyOf (λ x. P x n) (xs ++ ys)) (earlier_of a b)
+pub in_both : {X : Type 0} (P : X → ℕ → Type 0) (xs ys : List X) (a b : Option ℕ) → Finds
+    (λ n. AnyOf (λ x. P x n) xs) a → Finds (λ n. AnyOf (λ x. P x n) ys) b → Finds (λ n. AnyOf (λ x. P x n) (xs ++ ys))
+    (earlier_of a b)
 in_both P xs ys a b h k =
     same (earlier_of a b)
     (λ n. λ q. elim q [ inl l ↦ any_left (λ x. P x n) xs ys l | inr l ↦ any_right (λ x. P x n) xs ys l ])
@@ -126,42 +147,35 @@ in_both P xs ys a b h k =
 pub same_bytes : (xs ys : List ℕ) → bytes_eq xs ys ≡ same_text xs ys
 same_bytes xs ys = refl
 
--- a loop over a list, each member of which has a list of its own: one member more, and the end
-pub next_flat : {W : ℕ → Type 0} {X : Type 0} {Y : Type 0} {Z : Type 0} (P : Z → ℕ → Type 0) (all : List Y → List Z) (g : Y → List Z) (f : X → Y) (xs : List X) (i : ℕ) (x : X) (a b r : Option ℕ)
-    → ((y : Y) (ys : List Y) → all (y ∷ ys) ≡ g y ++ all ys)
-    → i < length xs → x ≡ get_or xs i x → r ≡ earlier_of a b
-    → Kept W (λ n. AnyOf (λ z. P z n) (all (map f (drop i xs)))) a → Finds (λ n. AnyOf (λ z. P z n) (g (f x))) b
-    → Kept W (λ n. AnyOf (λ z. P z n) (all (map f (drop (i + 1) xs)))) r
-next_flat {W} {X} {Y} {Z} P all g f xs i x a b r law lt is e k h =
-    let there : all (map f (drop i xs)) ≡ g (f x) ++ all (map f (drop (i + 1) xs)) =
-    ap (λ (l : List X). all (map f l)) (drop_more xs i x lt ∙ ap (λ (y : X). y ∷ drop (i + 1) xs) (sym is)) ∙ law (f x) (map f (drop (i + 1) xs)) in
-    subst (λ (o : Option ℕ). Kept W (λ n. AnyOf (λ z. P z n) (all (map f (drop (i + 1) xs)))) o) (sym e)
-    (step a b
-    (weaker a (λ n q. elim q [ inl l ↦ any_left (λ z. P z n) _ _ l | inr l ↦ any_right (λ z. P z n) (g (f x)) _ l ]) (λ n. any_append (λ z. P z n) (g (f x)) _)
-    (subst (λ (l : List Z). Kept W (λ n. AnyOf (λ z. P z n) l) a) there k)) h)
-
-pub end_flat : {W : ℕ → Type 0} {X : Type 0} {Y : Type 0} {Z : Type 0} (P : Z → ℕ → Type 0) (all : List Y → List Z) (f : X → Y) (xs : List X) (i : ℕ) (a : Option ℕ)
-    → all [] ≡ [] → length xs ≤ i → Kept W (λ n. AnyOf (λ z. P z n) (all (map f (drop i xs)))) a → Finds W a
-end_flat {W} {X} {Y} {Z} P all f xs i a law le k =
-    finish a (subst (λ (l : List Z). Kept W (λ n. AnyOf (λ z. P z n) l) a) (ap (λ (l : List X). all (map f l)) (drop_all i xs le) ∙ law) k) (λ n h. h)
-
-pub both_of : {P Q : ℕ → Type 0} (a b r : Option ℕ) → r ≡ earlier_of a b → Finds P a → Finds Q b → Finds (λ k. P k ⊎ Q k) r
+pub both_of : {P Q : ℕ → Type 0} (a b r : Option ℕ) → r ≡ earlier_of a b → Finds P a → Finds Q b → Finds
+    (λ k. P k ⊎ Q k) r
 both_of {P} {Q} a b r e p q = subst (λ (o : Option ℕ). Finds (λ k. P k ⊎ Q k) o) (sym e) (both a b p q)
 
+pub in_three : {P Q R : ℕ → Type 0} (a b c later r : Option ℕ) → r ≡ earlier_of a later → later ≡ earlier_of b c
+    → Finds P a → Finds Q b → Finds R c → Finds (λ k. P k ⊎ (Q k ⊎ R k)) r
+in_three a b c later r e f p q w = both_of a later r e p (both_of b c later f q w)
+
 -- a search in a thing is one in what equals it
-pub moved : {X : Type 0} (P : X → ℕ → Type 0) (x y : X) (r : Option ℕ) → y ≡ x → Finds (λ n. P x n) r → Finds (λ n. P y n) r
+pub moved : {X : Type 0} (P : X → ℕ → Type 0) (x y : X) (r : Option ℕ) → y ≡ x → Finds (λ n. P x n) r → Finds
+    (λ n. P y n) r
 moved {X} P x y r e h = subst (λ (z : X). Finds (λ n. P z n) r) (sym e) h
 
-pub in_both_of : {X : Type 0} (P : X → ℕ → Type 0) (xs ys zs : List X) (a b r : Option ℕ) → r ≡ earlier_of a b → zs ≡ xs ++ ys → Finds (λ n. AnyOf (λ x. P x n) xs) a → Finds (λ n. AnyOf (λ x. P x n) ys) b → Finds (λ n. AnyOf (λ x. P x n) zs) r
+pub in_both_of : {X : Type 0} (P : X → ℕ → Type 0) (xs ys zs : List X) (a b r : Option ℕ) → r ≡ earlier_of a b
+    → zs ≡ xs ++ ys → Finds (λ n. AnyOf (λ x. P x n) xs) a → Finds (λ n. AnyOf (λ x. P x n) ys) b → Finds
+    (λ n. AnyOf (λ x. P x n) zs) r
 in_both_of {X} P xs ys zs a b r e f h k =
-    subst (λ (o : Option ℕ). Finds (λ n. AnyOf (λ x. P x n) zs) o) (sym e) (moved (λ (l : List X) n. AnyOf (λ x. P x n) l) (xs ++ ys) zs (earlier_of a b) f (in_both P xs ys a b h k))
+    subst (λ (o : Option ℕ). Finds (λ n. AnyOf (λ x. P x n) zs) o) (sym e)
+    (moved (λ (l : List X) n. AnyOf (λ x. P x n) l) (xs ++ ys) zs (earlier_of a b) f (in_both P xs ys a b h k))
 
 -- two numbers of one thing and another are compared by what they equal
-pub compared : (a b m x n y : ℕ) (r : Option ℕ) → b ≡ a → x ≡ m → y ≡ n → Finds (λ k. (a ≡ k) × (m ≢ n)) r → Finds (λ k. (b ≡ k) × (x ≢ y)) r
+pub compared : (a b m x n y : ℕ) (r : Option ℕ) → b ≡ a → x ≡ m → y ≡ n → Finds (λ k. (a ≡ k) × (m ≢ n)) r
+    → Finds (λ k. (b ≡ k) × (x ≢ y)) r
 compared a b m x n y r e f g h =
-    moved (λ b k. (b ≡ k) × (x ≢ y)) a b r e (moved (λ x k. (a ≡ k) × (x ≢ y)) m x r f (moved (λ y k. (a ≡ k) × (m ≢ y)) n y r g h))
+    moved (λ b k. (b ≡ k) × (x ≢ y)) a b r e
+    (moved (λ x k. (a ≡ k) × (x ≢ y)) m x r f (moved (λ y k. (a ≡ k) × (m ≢ y)) n y r g h))
 
 -- what follows of an answer, where there is one
-pub on_ok : {E : Type 0} (P Q : Option ℕ → Type 0) (r : Result (Option ℕ) E) → ((o : Option ℕ) → P o → Q o) → IfOk r P → IfOk r Q
+pub on_ok : {E : Type 0} (P Q : Option ℕ → Type 0) (r : Result (Option ℕ) E) → ((o : Option ℕ) → P o → Q o) → IfOk r P
+    → IfOk r Q
 on_ok P Q (Ok o) f h = f o h
 on_ok P Q (Err e) f h = tt

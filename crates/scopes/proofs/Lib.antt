@@ -1,4 +1,5 @@
 pub mod Found
+pub mod Earliest
 pub mod Heads
 pub mod Flat
 pub mod Seen

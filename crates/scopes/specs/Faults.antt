@@ -20,6 +20,10 @@ IsThere (Some p) P = P p
 abbrev pub IsUnknown : List Name → ℕ → Name → Type 0
 IsUnknown names n x = (x.at ≡ n) × (is_declared x.text names ≡ false)
 
+-- some of the names stands at n, and none of the first list declares it
+abbrev pub AnyUnknown : List Name → List Name → ℕ → Type 0
+AnyUnknown names xs n = AnyOf (λ x. IsUnknown names n x) xs
+
 -- the names of variables that a statement of the procedure can use: its formals, its locals, the globals
 abbrev pub known : Tree → Procedure → List Name
 known t p = (p.formals ++ p.locals) ++ t.globals
@@ -31,12 +35,15 @@ CallsUnknown ps n _ = ⊥
 
 -- a statement has at n a variable that is none of these, or calls a procedure that has no declaration
 abbrev pub IsUndeclaredIn : List Name → List Procedure → Statement → ℕ → Type 0
-IsUndeclaredIn variables ps s n = AnyOf (λ x. IsUnknown variables n x) (used_by s.head) ⊎ CallsUnknown ps n s.head
+IsUndeclaredIn variables ps s n = AnyUnknown variables (used_by s.head) n ⊎ CallsUnknown ps n s.head
+
+-- a statement of the procedure has at n a variable or a called procedure that has no declaration
+abbrev pub UndeclaredInProcedure : Tree → Procedure → ℕ → Type 0
+UndeclaredInProcedure t p n = AnyOf (λ s. IsUndeclaredIn (known t p) t.procedures s n) (statements_of p.body)
 
 -- a variable or a called procedure at n has no declaration
 abbrev pub Undeclared : Tree → ℕ → Type 0
-Undeclared t n =
-    AnyOf (λ (p : Procedure). AnyOf (λ s. IsUndeclaredIn (known t p) t.procedures s n) (statements_of p.body)) t.procedures
+Undeclared t n = AnyOf (λ p. UndeclaredInProcedure t p n) t.procedures
 
 -- a name at n has the text of one that comes before it in the list
 abbrev pub Repeated : List Name → ℕ → Type 0
@@ -79,10 +86,13 @@ Miscounts ps n s = counted s.mark.at s.head
     counted m (plain (call q es)) = (q.at ≡ n) × IsThere (named q.text ps) (λ p. length p.formals ≢ length es)
     counted m _ = ⊥
 
+-- a statement of the procedure does
+abbrev pub MiscountsIn : List Procedure → Procedure → ℕ → Type 0
+MiscountsIn ps p n = AnyOf (Miscounts ps n) (statements_of p.body)
+
 -- an assignment at n has more or fewer targets than right sides, or a call more or fewer arguments than formals
 abbrev pub WrongCount : Tree → ℕ → Type 0
-WrongCount t n =
-    AnyOf (λ (p : Procedure). AnyOf (Miscounts t.procedures n) (statements_of p.body)) t.procedures
+WrongCount t n = AnyOf (λ p. MiscountsIn t.procedures p n) t.procedures
 
 -- the procedure has no formals
 abbrev pub no_formals : Procedure → Bool
@@ -92,10 +102,13 @@ no_formals p = length p.formals == 0
 abbrev pub CanStart : Option Procedure → Type 0
 CanStart p = IsThere p (λ q. no_formals q ≡ true)
 
--- a thread line names at n no procedure, or one with formals
+-- the thread line names at n no procedure, or one with formals
+abbrev pub StartsNowhere : List Procedure → ThreadLine → ℕ → Type 0
+StartsNowhere ps line n = (line.name.at ≡ n) × (CanStart (named line.name.text ps) → ⊥)
+
+-- some thread line does
 abbrev pub BadThread : Tree → ℕ → Type 0
-BadThread t n =
-    AnyOf (λ (line : ThreadLine). (line.name.at ≡ n) × (CanStart (named line.name.text t.procedures) → ⊥)) t.threads
+BadThread t n = AnyOf (λ line. StartsNowhere t.procedures line n) t.threads
 
 -- a goto that stands at n names none of these labels
 abbrev pub GoesNowhere : List Name → ℕ → Head → Type 0

@@ -1,6 +1,7 @@
 -- Which of several faults is answered.
-use Rattle.std.specs.Prelude.{nat_le, Option, Some, None, cond}
+use Rattle.std.specs.Prelude.{Option, Some, None}
 use Rattle.scopes.specs.declared.fault.ScopeFault.{ScopeFault}
+use Rattle.scopes.specs.Find.{lesser_by}
 use Rattle.scopes.specs.Checked.{offset, ComesFirst}
 
 -- nothing, where no fault has the property; else one that has it, before all that do
@@ -13,7 +14,5 @@ pub record FindsFirst (S : ScopeFault → Type 0) (answer : Option ScopeFault) :
   pub first : IsFirst S answer
 
 -- of two faults that may be there, the one with the lesser offset, and at one offset the former
-unfoldable pub sooner_of : Option ScopeFault → Option ScopeFault → Option ScopeFault
-sooner_of None b = b
-sooner_of (Some f) None = Some f
-sooner_of (Some f) (Some g) = cond (nat_le (offset f) (offset g)) (Some f) (Some g)
+abbrev pub sooner_of : Option ScopeFault → Option ScopeFault → Option ScopeFault
+sooner_of a b = lesser_by offset a b

@@ -2,12 +2,12 @@
 
 ghost use Rattle.std.specs.Prelude.{◌≡◌, ◌≢◌, IfOk, length};
 ghost use Rattle.syntax.specs.Trees.{names_of, proc_of, procs_of, tree_of};
-ghost use Rattle.scopes.specs.Find.{AnyOf, Finds};
-ghost use Rattle.scopes.specs.Statements.{lent_statements, statement_of, statements_of};
-ghost use Rattle.scopes.specs.Faults.{first_at, Miscounts, WrongCount};
+ghost use Rattle.scopes.specs.Find.{Finds};
+ghost use Rattle.scopes.specs.Statements.{statement_of};
+ghost use Rattle.scopes.specs.Faults.{first_at, Miscounts, MiscountsIn, WrongCount};
 
-use crate::names::earlier;
-use crate::statements::flatten;
+use crate::search::{earliest, try_earliest};
+use crate::statements::statements;
 use crate::undeclared::find;
 use std::alloc::{AllocError, Allocator};
 use syntax::{Core, Name, Proc, Program, Stmt};
@@ -52,27 +52,16 @@ pub fn miscounted<A: Allocator>(procs: &[Proc<A>], stmt: &Stmt<A>) -> Option<u32
     }
 }
 
-/// The same for several statements.
-pub fn miscounted_among<A: Allocator>(procs: &[Proc<A>], stmts: &[&Stmt<A>]) -> Option<u32>
-    ensures { Finds (λ n. AnyOf (Miscounts (procs_of procs.now) n) (lent_statements stmts.now)) result }
-{
-    let mut found = None;
-    for stmt in stmts {
-        found = earlier(found, miscounted(procs, stmt));
-    }
-    found
-}
-
 /// The same for a procedure.
 pub fn miscounted_in<A: Allocator + Copy>(
     alloc: &A,
     procs: &[Proc<A>],
     proc: &Proc<A>,
 ) -> Result<Option<u32>, AllocError>
-    ensures { IfOk result (λ r. Finds (λ n. AnyOf (Miscounts (procs_of procs.now) n) (statements_of (proc_of proc.now).body)) r) }
+    ensures { IfOk result (λ r. Finds (MiscountsIn (procs_of procs.now) (proc_of proc.now)) r) }
 {
-    let stmts = flatten(&proc.body, Vec::new(*alloc))?;
-    Ok(miscounted_among(procs, &stmts))
+    let stmts = statements(alloc, proc)?;
+    Ok(earliest(&stmts, |stmt| miscounted(procs, stmt)))
 }
 
 /// The least offset of an assignment's first target, or of a called name, whose two sides differ in number; nothing
@@ -83,9 +72,6 @@ pub fn first_wrong_count<A: Allocator + Copy>(
 ) -> Result<Option<u32>, AllocError>
     ensures { IfOk result (λ r. Finds (λ n. WrongCount (tree_of program.now) n) r) }
 {
-    let mut found = None;
-    for proc in &program.procs {
-        found = earlier(found, miscounted_in(alloc, &program.procs, proc)?);
-    }
-    Ok(found)
+    let procs = program.procs.as_slice();
+    try_earliest(procs, |proc| miscounted_in(alloc, procs, proc))
 }

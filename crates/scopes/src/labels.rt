@@ -2,24 +2,25 @@
 
 ghost use Rattle.std.specs.Prelude.{◌≡◌, ◌++◌, ◌⊎◌, IfOk};
 ghost use Rattle.syntax.specs.Trees.{proc_of, tree_of};
-ghost use Rattle.scopes.specs.Find.{AnyOf, Finds};
+ghost use Rattle.scopes.specs.Find.{Finds};
 ghost use Rattle.scopes.specs.Statements.{lent, lent_statements, statement_of, labels_of};
 ghost use Rattle.scopes.specs.Faults.{GoesNowhere, MislabelledIn, BadLabel};
 
 use crate::known::{Known, repeated};
 use crate::names::earlier;
-use crate::statements::flatten;
+use crate::search::{earliest, try_earliest};
+use crate::statements::statements;
 use std::alloc::{AllocError, Allocator};
 use syntax::{Core, Name, Proc, Program, Stmt};
 
-/// Puts references to the labels that statements define, in order, behind those that are there.
-pub fn labels<'a, A: Allocator>(
+/// References to the labels that statements define, in order.
+pub fn labels<'a, A: Allocator + Copy>(
+    alloc: &A,
     stmts: &[&'a Stmt<A>],
-    into: Vec<&'a Name<A>, A>,
 ) -> Result<Vec<&'a Name<A>, A>, AllocError>
-    ensures { IfOk result (λ v. lent v.items ≡ lent into.entry.items ++ labels_of (lent_statements stmts.now)) }
+    ensures { IfOk result (λ v. lent v.items ≡ labels_of (lent_statements stmts.now)) }
 {
-    let mut list = into;
+    let mut list = Vec::new(*alloc);
     for stmt in stmts {
         if let Some(label) = &stmt.label {
             list.push(label)?;
@@ -45,17 +46,6 @@ pub fn lost<A: Allocator + Copy>(labels: &Known<A>, stmt: &Stmt<A>) -> Option<u3
     }
 }
 
-/// The same for several statements.
-pub fn lost_among<A: Allocator + Copy>(labels: &Known<A>, stmts: &[&Stmt<A>]) -> Option<u32>
-    ensures { Finds (λ n. AnyOf (λ s. GoesNowhere (lent labels.now.names.items) n s.head) (lent_statements stmts.now)) result }
-{
-    let mut found = None;
-    for stmt in stmts {
-        found = earlier(found, lost(labels, stmt));
-    }
-    found
-}
-
 /// The least offset of a label of a procedure that is defined twice, or of the name of a `goto` that is none.
 pub fn mislabelled<A: Allocator + Copy>(
     alloc: &A,
@@ -63,11 +53,11 @@ pub fn mislabelled<A: Allocator + Copy>(
 ) -> Result<Option<u32>, AllocError>
     ensures { IfOk result (λ r. Finds (λ n. MislabelledIn n (proc_of proc.now)) r) }
 {
-    let stmts = flatten(&proc.body, Vec::new(*alloc))?;
-    let labels = labels(&stmts, Vec::new(*alloc))?;
+    let stmts = statements(alloc, proc)?;
+    let labels = labels(alloc, &stmts)?;
     let second = repeated(*alloc, &labels)?;
     let known = Known::new(*alloc, labels)?;
-    let first = lost_among(&known, &stmts);
+    let first = earliest(&stmts, |stmt| lost(&known, stmt));
     Ok(earlier(first, second))
 }
 
@@ -79,9 +69,5 @@ pub fn first_bad_label<A: Allocator + Copy>(
 ) -> Result<Option<u32>, AllocError>
     ensures { IfOk result (λ r. Finds (λ n. BadLabel (tree_of program.now) n) r) }
 {
-    let mut found = None;
-    for proc in &program.procs {
-        found = earlier(found, mislabelled(alloc, proc)?);
-    }
-    Ok(found)
+    try_earliest(&program.procs, |proc| mislabelled(alloc, proc))
 }

@@ -11,6 +11,7 @@ mod laws;
 mod limits;
 mod names;
 mod reserved;
+mod search;
 mod sooner;
 mod statements;
 mod threads;

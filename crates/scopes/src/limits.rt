@@ -51,13 +51,13 @@ pub fn statement_too_many<A: Allocator>(stmts: &[&Stmt<A>]) -> Option<u32>
 }
 
 /// References to the statements of procedures, in order.
-pub fn all_statements<'a, A: Allocator>(
+pub fn all_statements<'a, A: Allocator + Copy>(
+    alloc: &A,
     procs: &'a [Proc<A>],
-    into: Vec<&'a Stmt<A>, A>,
 ) -> Result<Vec<&'a Stmt<A>, A>, AllocError>
-    ensures { IfOk result (λ v. lent_statements v.items ≡ lent_statements into.entry.items ++ statements_of_all (procs_of procs.now)) }
+    ensures { IfOk result (λ v. lent_statements v.items ≡ statements_of_all (procs_of procs.now)) }
 {
-    let mut list = into;
+    let mut list = Vec::new(*alloc);
     for proc in procs {
         list = flatten(&proc.body, list)?;
     }
@@ -72,7 +72,7 @@ pub fn first_too_many<A: Allocator + Copy>(
 ) -> Result<Option<u32>, AllocError>
     ensures { IfOk result (λ r. Finds (λ n. TooMany (tree_of program.now) n) r) }
 {
-    let stmts = all_statements(&program.procs, Vec::new(*alloc))?;
+    let stmts = all_statements(alloc, &program.procs)?;
     let first = procedure_too_many(&program.procs);
     let second = thread_too_many(&program.threads);
     let third = statement_too_many(&stmts);

@@ -2,15 +2,17 @@
 
 ghost use Rattle.std.specs.Prelude.{◌≡◌, ◌++◌, IfOk, IsTrue, ◌↔◌};
 ghost use Rattle.language.specs.Rest.{same_text};
-ghost use Rattle.syntax.specs.Trees.{name_of, names_of};
+ghost use Rattle.syntax.specs.Trees.{name_of, names_of, proc_of};
 ghost use Rattle.scopes.specs.Find.{Finds, earlier_of};
 ghost use Rattle.scopes.specs.Statements.{lent};
 ghost use Rattle.scopes.specs.Faults.{IsReserved, HasTwoUnderscores};
 
+use crate::search::earliest;
 use std::alloc::{AllocError, Allocator};
-use syntax::Name;
+use syntax::{Name, Proc};
 
 /// The lesser of two offsets that may be there.
+#[tactic(auto, using(crate::proofs::Found::none_before, crate::proofs::Found::none_after, crate::proofs::Found::takes_former, crate::proofs::Found::takes_latter))]
 pub fn earlier(a: Option<u32>, b: Option<u32>) -> Option<u32>
     ensures { result ≡ earlier_of a b }
 {
@@ -32,6 +34,17 @@ pub fn lend<'a, A: Allocator>(
         into.push(name)?;
     }
     Ok(into)
+}
+
+/// References to the formals and locals of a procedure, in order.
+pub fn own_names<'a, A: Allocator + Copy>(
+    alloc: &A,
+    proc: &'a Proc<A>,
+) -> Result<Vec<&'a Name<A>, A>, AllocError>
+    ensures { IfOk result (λ v. lent v.items ≡ (proc_of proc.now).formals ++ (proc_of proc.now).locals) }
+{
+    let formals = lend(&proc.formals, Vec::new(*alloc))?;
+    lend(&proc.locals, formals)
 }
 
 /// Whether two names are written the same.
@@ -71,9 +84,5 @@ pub fn reserved_at<A: Allocator>(x: &Name<A>) -> Option<u32>
 pub fn reserved<A: Allocator>(names: &[&Name<A>]) -> Option<u32>
     ensures { Finds (IsReserved (lent names.now)) result }
 {
-    let mut found = None;
-    for name in names {
-        found = earlier(found, reserved_at(name));
-    }
-    found
+    earliest(names, |name| reserved_at(name))
 }

@@ -2,12 +2,13 @@
 
 ghost use Rattle.std.specs.Prelude.{◌≡◌, IfOk};
 ghost use Rattle.syntax.specs.Trees.{proc_of, procs_of, tree_of};
-ghost use Rattle.scopes.specs.Find.{AnyOf, Finds};
+ghost use Rattle.scopes.specs.Find.{Finds};
 ghost use Rattle.scopes.specs.Faults.{ReservedIn, Reserved};
 
 use crate::labels::labels;
-use crate::names::{earlier, lend, reserved};
-use crate::statements::flatten;
+use crate::names::{earlier, lend, own_names, reserved};
+use crate::search::try_earliest;
+use crate::statements::statements;
 use crate::twice::proc_names;
 use std::alloc::{AllocError, Allocator};
 use syntax::{Proc, Program};
@@ -19,27 +20,12 @@ pub fn reserved_in<A: Allocator + Copy>(
 ) -> Result<Option<u32>, AllocError>
     ensures { IfOk result (λ r. Finds (λ n. ReservedIn n (proc_of proc.now)) r) }
 {
-    let formals = lend(&proc.formals, Vec::new(*alloc))?;
-    let own = lend(&proc.locals, formals)?;
+    let own = own_names(alloc, proc)?;
     let first = reserved(&own);
-    let stmts = flatten(&proc.body, Vec::new(*alloc))?;
-    let labels = labels(&stmts, Vec::new(*alloc))?;
+    let stmts = statements(alloc, proc)?;
+    let labels = labels(alloc, &stmts)?;
     let second = reserved(&labels);
     Ok(earlier(first, second))
-}
-
-/// The same for several procedures.
-pub fn reserved_among<A: Allocator + Copy>(
-    alloc: &A,
-    procs: &[Proc<A>],
-) -> Result<Option<u32>, AllocError>
-    ensures { IfOk result (λ r. Finds (λ n. AnyOf (ReservedIn n) (procs_of procs.now)) r) }
-{
-    let mut found = None;
-    for proc in procs {
-        found = earlier(found, reserved_in(alloc, proc)?);
-    }
-    Ok(found)
 }
 
 /// The least offset of a declared variable, procedure or label with two underscores in a row; nothing where none has.
@@ -52,9 +38,9 @@ pub fn first_reserved<A: Allocator + Copy>(
 {
     let globals = lend(&program.globals, Vec::new(*alloc))?;
     let first = reserved(&globals);
-    let called = proc_names(&program.procs, Vec::new(*alloc))?;
+    let called = proc_names(alloc, &program.procs)?;
     let second = reserved(&called);
-    let third = reserved_among(alloc, &program.procs)?;
+    let third = try_earliest(&program.procs, |proc| reserved_in(alloc, proc))?;
     let later = earlier(second, third);
     Ok(earlier(first, later))
 }

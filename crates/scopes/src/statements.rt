@@ -1,11 +1,21 @@
 //! The statements of a block as one list.
 
 ghost use Rattle.std.specs.Prelude.{◌≡◌, ◌++◌, ◌∷◌, IfOk};
-ghost use Rattle.syntax.specs.Trees.{block_of, deed_of};
+ghost use Rattle.syntax.specs.Trees.{block_of, deed_of, proc_of};
 ghost use Rattle.scopes.specs.Statements.{lent_statements, statement_of, statements_of, inside};
 
 use std::alloc::{AllocError, Allocator};
-use syntax::{Core, Stmt};
+use syntax::{Core, Proc, Stmt};
+
+/// References to the statements of a procedure, in the order of the text.
+pub fn statements<'a, A: Allocator + Copy>(
+    alloc: &A,
+    proc: &'a Proc<A>,
+) -> Result<Vec<&'a Stmt<A>, A>, AllocError>
+    ensures { IfOk result (λ v. lent_statements v.items ≡ statements_of (proc_of proc.now).body) }
+{
+    flatten(&proc.body, Vec::new(*alloc))
+}
 
 /// Puts references to the statements of a block, in the order of the text, behind those that are there.
 #[cycle(flattening)]
@@ -13,7 +23,8 @@ pub fn flatten<'a, A: Allocator>(
     stmts: &'a [Stmt<A>],
     into: Vec<&'a Stmt<A>, A>,
 ) -> Result<Vec<&'a Stmt<A>, A>, AllocError>
-    ensures { IfOk result (λ v. lent_statements v.items ≡ lent_statements into.entry.items ++ statements_of (block_of stmts.now)) }
+    ensures { IfOk result (λ v. lent_statements v.items
+        ≡ lent_statements into.entry.items ++ statements_of (block_of stmts.now)) }
 {
     let mut list = into;
     for stmt in stmts {
@@ -28,7 +39,8 @@ fn flatten_one<'a, A: Allocator>(
     stmt: &'a Stmt<A>,
     into: Vec<&'a Stmt<A>, A>,
 ) -> Result<Vec<&'a Stmt<A>, A>, AllocError>
-    ensures { IfOk result (λ v. lent_statements v.items ≡ lent_statements into.entry.items ++ (statement_of stmt.now ∷ inside (deed_of stmt.now.core))) }
+    ensures { IfOk result (λ v. lent_statements v.items
+        ≡ lent_statements into.entry.items ++ (statement_of stmt.now ∷ inside (deed_of stmt.now.core))) }
 {
     let mut list = into;
     list.push(stmt)?;

@@ -1,11 +1,11 @@
 //! Thread lines that name no procedure, or one with formals.
 
 ghost use Rattle.std.specs.Prelude.{◌≡◌};
-ghost use Rattle.syntax.specs.Trees.{name_of, proc_of, procs_of, tree_of};
+ghost use Rattle.syntax.specs.Trees.{proc_of, procs_of, thread_of, tree_of};
 ghost use Rattle.scopes.specs.Find.{Finds};
-ghost use Rattle.scopes.specs.Faults.{named, no_formals, CanStart, BadThread};
+ghost use Rattle.scopes.specs.Faults.{no_formals, StartsNowhere, BadThread};
 
-use crate::names::earlier;
+use crate::search::earliest;
 use crate::undeclared::find;
 use std::alloc::Allocator;
 use syntax::{Proc, Program, Thread};
@@ -19,7 +19,7 @@ pub fn takes_nothing<A: Allocator>(proc: &Proc<A>) -> bool
 
 /// The offset of the name in a thread line, where no thread can start in what it names.
 pub fn cannot_start<A: Allocator>(procs: &[Proc<A>], line: &Thread<A>) -> Option<u32>
-    ensures { Finds (λ n. (line.now.name.at ≡ n) × (CanStart (named (name_of line.now.name).text (procs_of procs.now)) → ⊥)) result }
+    ensures { Finds (StartsNowhere (procs_of procs.now) (thread_of line.now)) result }
 {
     match find(procs, &line.name) {
         None => Some(line.name.at),
@@ -38,9 +38,6 @@ pub fn cannot_start<A: Allocator>(procs: &[Proc<A>], line: &Thread<A>) -> Option
 pub fn first_bad_thread<A: Allocator>(program: &Program<A>) -> Option<u32>
     ensures { Finds (λ n. BadThread (tree_of program.now) n) result }
 {
-    let mut found = None;
-    for line in &program.threads {
-        found = earlier(found, cannot_start(&program.procs, line));
-    }
-    found
+    let procs = program.procs.as_slice();
+    earliest(&program.threads, |line| cannot_start(procs, line))
 }

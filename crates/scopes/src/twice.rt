@@ -2,24 +2,25 @@
 
 ghost use Rattle.std.specs.Prelude.{◌≡◌, ◌++◌, IfOk};
 ghost use Rattle.syntax.specs.Trees.{proc_of, procs_of, tree_of};
-ghost use Rattle.scopes.specs.Find.{AnyOf, Finds};
-ghost use Rattle.scopes.specs.Statements.{lent, lent_statements, statement_of};
+ghost use Rattle.scopes.specs.Find.{Finds};
+ghost use Rattle.scopes.specs.Statements.{lent, statement_of};
 ghost use Rattle.scopes.specs.Faults.{Repeated, names, targets_of, IsTwiceIn, DeclaredTwice};
 
 use crate::known::repeated;
-use crate::names::{earlier, lend};
-use crate::statements::flatten;
+use crate::names::{earlier, lend, own_names};
+use crate::search::try_earliest;
+use crate::statements::statements;
 use std::alloc::{AllocError, Allocator};
 use syntax::{Core, Name, Proc, Program, Stmt};
 
 /// References to the names of procedures, in order.
-pub fn proc_names<'a, A: Allocator>(
+pub fn proc_names<'a, A: Allocator + Copy>(
+    alloc: &A,
     procs: &'a [Proc<A>],
-    into: Vec<&'a Name<A>, A>,
 ) -> Result<Vec<&'a Name<A>, A>, AllocError>
-    ensures { IfOk result (λ v. lent v.items ≡ lent into.entry.items ++ names (procs_of procs.now)) }
+    ensures { IfOk result (λ v. lent v.items ≡ names (procs_of procs.now)) }
 {
-    let mut list = into;
+    let mut list = Vec::new(*alloc);
     for proc in procs {
         list.push(&proc.name)?;
     }
@@ -49,44 +50,15 @@ pub fn target_again<A: Allocator + Copy>(
     }
 }
 
-/// The same for several statements.
-pub fn targets_again<A: Allocator + Copy>(
-    alloc: &A,
-    stmts: &[&Stmt<A>],
-) -> Result<Option<u32>, AllocError>
-    ensures { IfOk result (λ r. Finds (λ n. AnyOf (λ s. Repeated (targets_of s.head) n) (lent_statements stmts.now)) r) }
-{
-    let mut found = None;
-    for stmt in stmts {
-        found = earlier(found, target_again(alloc, stmt)?);
-    }
-    Ok(found)
-}
-
 /// The least offset of a name that comes again in a procedure.
 pub fn twice_in<A: Allocator + Copy>(alloc: &A, proc: &Proc<A>) -> Result<Option<u32>, AllocError>
     ensures { IfOk result (λ r. Finds (λ n. IsTwiceIn (proc_of proc.now) n) r) }
 {
-    let formals = lend(&proc.formals, Vec::new(*alloc))?;
-    let own = lend(&proc.locals, formals)?;
+    let own = own_names(alloc, proc)?;
     let first = repeated(*alloc, &own)?;
-    let stmts = flatten(&proc.body, Vec::new(*alloc))?;
-    let second = targets_again(alloc, &stmts)?;
+    let stmts = statements(alloc, proc)?;
+    let second = try_earliest(&stmts, |stmt| target_again(alloc, stmt))?;
     Ok(earlier(first, second))
-}
-
-/// The same for several procedures.
-pub fn twice_among<A: Allocator + Copy>(
-    alloc: &A,
-    procs: &[Proc<A>],
-) -> Result<Option<u32>, AllocError>
-    ensures { IfOk result (λ r. Finds (λ n. AnyOf (λ p. IsTwiceIn p n) (procs_of procs.now)) r) }
-{
-    let mut found = None;
-    for proc in procs {
-        found = earlier(found, twice_in(alloc, proc)?);
-    }
-    Ok(found)
 }
 
 /// The least offset of a name that comes again among the globals, the procedures, the formals and locals of one
@@ -99,9 +71,9 @@ pub fn first_twice<A: Allocator + Copy>(
 {
     let globals = lend(&program.globals, Vec::new(*alloc))?;
     let first = repeated(*alloc, &globals)?;
-    let called = proc_names(&program.procs, Vec::new(*alloc))?;
+    let called = proc_names(alloc, &program.procs)?;
     let second = repeated(*alloc, &called)?;
-    let third = twice_among(alloc, &program.procs)?;
+    let third = try_earliest(&program.procs, |proc| twice_in(alloc, proc))?;
     let later = earlier(second, third);
     Ok(earlier(first, later))
 }

@@ -1,4 +1,4 @@
-use Rattle.std.proofs.Common.{◌≡◌, ◌+◌, ◌∙◌, ap, sym, arith, ◌++◌, length}
+use Rattle.std.proofs.Common.{◌≡◌, ◌∙◌, ap, sym, arith, ◌++◌, length}
 use Rattle.std.proofs.lemmas.List.{length-map}
 use Rattle.syntax.specs.Trees.{name_of, names_of, proc_of, block_of}
 use Rattle.round_rewrite.specs.Writing.{procedure_needs}

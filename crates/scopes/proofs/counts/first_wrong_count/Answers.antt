@@ -1,19 +1,16 @@
-use Rattle.language.specs.Tree.{Procedure}
+use Rattle.std.proofs.Common.{subst, rules}
+use Rattle.std.specs.Prelude.{IfOk}
 use Rattle.syntax.specs.Trees.{proc_of, procs_of}
-use Rattle.scopes.specs.Find.{AnyOf}
-use Rattle.scopes.specs.Statements.{statements_of}
-use Rattle.scopes.specs.Faults.{Miscounts}
-use Rattle.scopes.proofs.Found.{begin, next_any, end_any}
+use Rattle.scopes.specs.Find.{AnyOf, Finds}
+use Rattle.scopes.specs.Faults.{MiscountsIn}
+use Rattle.scopes.proofs.Earliest.{found_in_ok}
 use Rattle.scopes.proofs.counts.first_wrong_count.Goals as goal
-
-pub loop-proc-init : goal.loop-proc-init
-loop-proc-init g c = begin
-
-pub loop-proc-preserved : goal.loop-proc-preserved
-loop-proc-preserved g c =
-    next_any (λ (p : Procedure) n. AnyOf (Miscounts (procs_of c.args.program.now.procs.items) n) (statements_of p.body)) proc_of c.args.program.now.procs.items c.loop-proc.proc-index c.proc-item.result c.loop-proc.found c.in_ok-miscounted_in.field-0 c.earlier-found.result
-    (rw c.deref-proc-items.ensures.value at c.loop-proc-test.true) (rw c.deref-proc-items.ensures.value at c.proc-item.is) c.earlier-found.ensures c.loop-proc.invariant (rw c.deref.ensures.value at c.in_ok-miscounted_in.ensures)
 
 pub returns : goal.returns
 returns g c =
-    end_any (λ (p : Procedure) n. AnyOf (Miscounts (procs_of c.args.program.now.procs.items) n) (statements_of p.body)) proc_of c.args.program.now.procs.items c.loop-proc.proc-index c.loop-proc.found (rw c.deref-proc-items.ensures.value at c.loop-proc-test.false) c.loop-proc.invariant
+    subst (λ ps. IfOk c.try_earliest.result
+    (λ r. Finds (λ n. AnyOf (λ p. MiscountsIn (procs_of ps) p n) (procs_of ps)) r))
+    c.as_slice-procs.ensures.value
+    (found_in_ok _ _ (λ p n. MiscountsIn (procs_of c.as_slice-procs.result.now) p n) proc_of
+    c.as_slice-procs.result.now _
+    (λ y a k. search rules) c.try_earliest.ensures)

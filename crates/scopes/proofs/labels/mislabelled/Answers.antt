@@ -1,22 +1,28 @@
-use Rattle.std.proofs.Common.{◌≡◌, ◌++◌, List, sym, ◌∙◌, ap}
+use Rattle.std.proofs.Common.{◌≡◌, List, sym, ◌∙◌, ap}
 use Rattle.language.specs.Tree.{Name}
-use Rattle.syntax.specs.Trees.{block_of}
+use Rattle.syntax.specs.Trees.{proc_of}
 use Rattle.scopes.specs.Find.{AnyOf}
-use Rattle.scopes.specs.Statements.{Statement, lent, lent_statements, statements_of, labels_of}
+use Rattle.scopes.specs.Statements.{Statement, lent, lent_statements, statement_of, statements_of, labels_of}
 use Rattle.scopes.specs.Faults.{GoesNowhere, Repeated}
 use Rattle.scopes.proofs.Found.{moved, both_of}
+use Rattle.scopes.proofs.Earliest.{as_found, found_in}
 use Rattle.scopes.proofs.labels.mislabelled.Goals as goal
 
 pub returns : goal.returns
 returns g c =
-    let stmts : lent_statements c.in_ok-stmts.stmts.items ≡ statements_of (block_of c.args.proc.now.body.items) =
-    c.in_ok-stmts.ensures ∙ ap (λ l. lent_statements l ++ statements_of (block_of c.deref.result.now)) c.new.ensures.items ∙ ap (λ l. statements_of (block_of l)) c.deref.ensures.value in
-    let labels : lent c.in_ok-labels.labels.items ≡ labels_of (statements_of (block_of c.args.proc.now.body.items)) =
-    c.in_ok-labels.ensures ∙ ap (λ l. lent l ++ labels_of (lent_statements c.deref-2.result.now)) c.new-2.ensures.items ∙ ap (λ l. labels_of (lent_statements l)) c.deref-2.ensures.value ∙ ap labels_of stmts in
-    let known : lent c.in_ok-known.known.names.items ≡ labels_of (statements_of (block_of c.args.proc.now.body.items)) = c.in_ok-known.ensures ∙ labels in
-    both_of c.lost_among-first.result c.in_ok-second.second c.earlier.result c.earlier.ensures
-    (moved (λ (l : List Name) n. AnyOf (λ (s : Statement). GoesNowhere l n s.head) (statements_of (block_of c.args.proc.now.body.items))) (lent c.in_ok-known.known.names.items) _ c.lost_among-first.result (sym known)
-    (moved (λ (l : List Statement) n. AnyOf (λ (s : Statement). GoesNowhere (lent c.in_ok-known.known.names.items) n s.head) l) (lent_statements c.in_ok-stmts.stmts.items) _ c.lost_among-first.result (sym stmts)
-    (rw c.deref-4.ensures.value at c.lost_among-first.ensures)))
+    let stmts : lent_statements c.in_ok-stmts.stmts.items ≡ statements_of
+    (proc_of c.args.proc.now).body = c.in_ok-stmts.ensures in
+    let labels : lent c.in_ok-labels.labels.items ≡ labels_of (statements_of (proc_of c.args.proc.now).body) =
+    c.in_ok-labels.ensures ∙ ap (λ l. labels_of (lent_statements l)) c.deref.ensures.value ∙ ap labels_of stmts in
+    both_of c.earliest-first.result c.in_ok-second.second c.earlier.result c.earlier.ensures
+    (moved (λ (l : List Name) n. AnyOf (λ (s : Statement). GoesNowhere l n s.head)
+    (statements_of (proc_of c.args.proc.now).body))
+    (lent c.in_ok-known.known.names.items) _ c.earliest-first.result (sym (c.in_ok-known.ensures ∙ labels))
+    (moved (λ (l : List Statement) n. AnyOf
+    (λ (s : Statement). GoesNowhere (lent c.in_ok-known.known.names.items) n s.head) l)
+    (lent_statements c.in_ok-stmts.stmts.items) _ c.earliest-first.result (sym stmts)
+    (found_in _ _ (λ (s : Statement) n. GoesNowhere (lent c.in_ok-known.known.names.items) n s.head)
+    (λ r. statement_of r.now)
+    c.in_ok-stmts.stmts.items _ (λ y a k. search as_found) (rw c.deref-3.ensures.value at c.earliest-first.ensures))))
     (moved (λ (l : List Name) n. Repeated l n) (lent c.in_ok-labels.labels.items) _ c.in_ok-second.second (sym labels)
-    (rw c.deref-3.ensures.value at c.in_ok-second.ensures))
+    (rw c.deref-2.ensures.value at c.in_ok-second.ensures))

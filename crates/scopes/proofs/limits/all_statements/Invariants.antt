@@ -5,4 +5,5 @@ use Rattle.scopes.proofs.limits.all_statements.Given as goal
 
 abbrev pub invariant-loop-proc : goal.invariant-loop-proc
 invariant-loop-proc g l =
-    lent_statements l.list.items ++ statements_of_all (procs_of (drop l.proc-index l.procs)) ≡ lent_statements l.initial.list.items ++ statements_of_all (procs_of l.procs)
+    lent_statements l.list.items ++ statements_of_all (procs_of (drop l.proc-index l.procs)) ≡ statements_of_all
+    (procs_of l.procs)

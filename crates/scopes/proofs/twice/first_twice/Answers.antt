@@ -1,19 +1,20 @@
-use Rattle.std.proofs.Common.{◌++◌, List, sym, ◌∙◌, ap}
-use Rattle.language.specs.Tree.{Name}
-use Rattle.syntax.specs.Trees.{names_of, procs_of}
-use Rattle.scopes.specs.Statements.{lent}
-use Rattle.scopes.specs.Faults.{Repeated, names}
-use Rattle.scopes.proofs.Found.{moved, both_of}
+use Rattle.std.proofs.Common.{rules, sym, ◌∙◌, ap}
+use Rattle.syntax.specs.Trees.{names_of, proc_of, procs_of}
+use Rattle.scopes.specs.Faults.{Repeated, IsTwiceIn, names}
+use Rattle.scopes.proofs.Earliest.{found_at_ok}
+use Rattle.scopes.proofs.Found.{moved, in_three}
+use Rattle.scopes.proofs.Pushed.{behind_none}
 use Rattle.scopes.proofs.twice.first_twice.Goals as goal
 
 pub returns : goal.returns
 returns g c =
-    both_of c.in_ok-first.first c.earlier-later.result c.earlier.result c.earlier.ensures
-    (moved (λ (l : List Name) n. Repeated l n) (lent c.in_ok-globals.globals.items) _ c.in_ok-first.first
-    (sym (c.in_ok-globals.ensures ∙ ap (λ l. lent l ++ names_of c.deref.result.now) c.new.ensures.items ∙ ap names_of c.deref.ensures.value))
+    in_three c.in_ok-first.first c.in_ok-second.second c.in_ok-third.third c.earlier-later.result c.earlier.result
+    c.earlier.ensures c.earlier-later.ensures
+    (moved (λ l n. Repeated l n) _ _ _
+    (sym (behind_none _ names_of c.in_ok-globals.ensures c.new.ensures.items c.deref.ensures.value))
     (rw c.deref-2.ensures.value at c.in_ok-first.ensures))
-    (both_of c.in_ok-second.second c.in_ok-third.third c.earlier-later.result c.earlier-later.ensures
-    (moved (λ (l : List Name) n. Repeated l n) (lent c.in_ok-called.called.items) _ c.in_ok-second.second
-    (sym (c.in_ok-called.ensures ∙ ap (λ l. lent l ++ names (procs_of c.deref-3.result.now)) c.new-2.ensures.items ∙ ap (λ l. names (procs_of l)) c.deref-3.ensures.value))
+    (moved (λ l n. Repeated l n) _ _ _
+    (sym (c.in_ok-called.ensures ∙ ap (λ l. names (procs_of l)) c.deref-3.ensures.value))
     (rw c.deref-4.ensures.value at c.in_ok-second.ensures))
+    (found_at_ok _ _ (λ p n. IsTwiceIn p n) proc_of c.args.program.now.procs.items _ (λ y a k. search rules)
     (rw c.deref-5.ensures.value at c.in_ok-third.ensures))

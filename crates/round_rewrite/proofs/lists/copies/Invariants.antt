@@ -1,8 +1,0 @@
--- The names so far, and what the others come to.
-use Rattle.std.proofs.Common.{◌≡◌, ◌++◌, map, drop}
-use Rattle.syntax.specs.Trees.{names_of}
-use Rattle.round_rewrite.specs.Names.{copy_name}
-use Rattle.round_rewrite.proofs.lists.copies.Given as goal
-
-abbrev pub invariant-loop-x : goal.invariant-loop-x
-invariant-loop-x g l = names_of l.list.items ++ map (copy_name l.round) (names_of (drop l.x-index l.xs)) ≡ names_of l.fn.into.items ++ map (copy_name l.round) (names_of l.xs)

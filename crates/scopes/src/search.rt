@@ -1,0 +1,34 @@
+//! Searches over a list: one item after the other is searched, and the least offset of all is the answer.
+
+ghost use Rattle.std.specs.Prelude.{IfOk, Ok};
+ghost use Rattle.std.specs.Fn.{FnReturnsAt};
+ghost use Rattle.scopes.specs.Find.{Earliest};
+
+use crate::names::earlier;
+
+/// The least of the offsets that `search` answers at the items; nothing where it answers none.
+pub fn earliest<T, F: Fn(&T) -> Option<u32>>(items: &[T], search: F) -> Option<u32>
+    requires { F.IsAlwaysCallable search }
+    ensures { Earliest (FnReturnsAt F.Fn search) items.now result }
+{
+    let mut found = None;
+    for item in items {
+        found = earlier(found, search(item));
+    }
+    found
+}
+
+/// The same, where a search may fail: its error is answered.
+pub fn try_earliest<T, E: Drop, F: Fn(&T) -> Result<Option<u32>, E>>(
+    items: &[T],
+    search: F,
+) -> Result<Option<u32>, E>
+    requires { F.IsAlwaysCallable search }
+    ensures { IfOk result (Earliest (λ x r. FnReturnsAt F.Fn search x (Ok r)) items.now) }
+{
+    let mut found = None;
+    for item in items {
+        found = earlier(found, search(item)?);
+    }
+    Ok(found)
+}
