@@ -11,7 +11,7 @@ use Rattle.language.specs.Flow.{rests}
 use Rattle.syntax.specs.declared.tree.Stmt.{Stmt}
 use Rattle.syntax.specs.Trees.{Deed, simple, branch, repeat, item_of, block_of}
 use Rattle.flow_graph.specs.Nodes.{Node, point_at, node_of, goes, stops, goes_to, tests}
-use Rattle.flow_graph.specs.Flows.{Does, AllDo, Lowered}
+use Rattle.flow_graph.specs.Flows.{Widths, Does, AllDo, Lowered}
 use Rattle.flow_graph.specs.declared.flow.Flow.{Flow}
 use Rattle.flow_graph.proofs.Numbered.{Names, led, tail, resolved_statements, behind_simple, behind_branch, behind_repeat}
 
@@ -74,21 +74,24 @@ nodes_split body n j s x l k e =
     ∙ ap (λ i. map (node_of body) (rests (numbered n (resolve_block s (block_of (x ∷ [])))) (join (numbered i (resolve_block s (block_of l))) k)) ++ map (node_of body) (rests (numbered i (resolve_block s (block_of l))) k)) (sym e)
 
 -- flows behind flows
-all_do : {A : Type 0} (fs gs : List (Flow A)) (ns ms : List Node) (g l m : ℕ) → AllDo fs ns g l m → AllDo gs ms g l m → AllDo (fs ++ gs) (ns ++ ms) g l m
-all_do [] gs [] ms g l m a b = b
-all_do [] gs (n ∷ ns) ms g l m a b = absurd a
-all_do (f ∷ fs) gs [] ms g l m a b = absurd a
-all_do (f ∷ fs) gs (n ∷ ns) ms g l m a b = (a.0, all_do fs gs ns ms g l m a.1 b)
+all_do : {A : Type 0} (fs gs : List (Flow A)) (ns ms : List Node) (w : Widths) → AllDo fs ns w → AllDo gs ms w →
+    AllDo (fs ++ gs) (ns ++ ms) w
+all_do [] gs [] ms w a b = b
+all_do [] gs (n ∷ ns) ms w a b = absurd a
+all_do (f ∷ fs) gs [] ms w a b = absurd a
+all_do (f ∷ fs) gs (n ∷ ns) ms w a b = (a.0, all_do fs gs ns ms w a.1 b)
 
-pub lowered_then : {A : Type 0} (old mid new : List (Flow A)) (ns ms : List Node) (g l m : ℕ) → Lowered old mid ns g l m → Lowered mid new ms g l m → Lowered old new (ns ++ ms) g l m
-lowered_then old mid new ns ms g l m (fs, e, a) (gs, f, b) =
-    (fs ++ gs, f ∙ ap (λ x. x ++ gs) e ∙ append_assoc old fs gs, all_do fs gs ns ms g l m a b)
+pub lowered_then : {A : Type 0} (old mid new : List (Flow A)) (ns ms : List Node) (w : Widths) → Lowered old mid ns w →
+    Lowered mid new ms w → Lowered old new (ns ++ ms) w
+lowered_then old mid new ns ms w (fs, e, a) (gs, f, b) =
+    (fs ++ gs, f ∙ ap (λ x. x ++ gs) e ∙ append_assoc old fs gs, all_do fs gs ns ms w a b)
 
-pub lowered_none : {A : Type 0} (fs : List (Flow A)) (g l m : ℕ) → Lowered fs fs [] g l m
-lowered_none fs g l m = ([], sym (append-nil fs), tt)
+pub lowered_none : {A : Type 0} (fs : List (Flow A)) (w : Widths) → Lowered fs fs [] w
+lowered_none fs w = ([], sym (append-nil fs), tt)
 
-pub lowered_one : {A : Type 0} (old new : List (Flow A)) (f : Flow A) (n : Node) (g l m : ℕ) → new ≡ old ++ (f ∷ []) → Does f n g l m → Lowered old new (n ∷ []) g l m
-lowered_one old new f n g l m e d = (f ∷ [], e, (d, tt))
+pub lowered_one : {A : Type 0} (old new : List (Flow A)) (f : Flow A) (n : Node) (w : Widths) → new ≡ old ++ (f ∷ []) →
+    Does f n w → Lowered old new (n ∷ []) w
+lowered_one old new f n w e d = (f ∷ [], e, (d, tt))
 
 -- what happens at a statement, by what it does
 pub node_simple : (body : Code) (n : ℕ) (s : Scope) (m : Mark tree.Name) (d : Deed) (c : tree.Simple tree.Name tree.Name tree.Name) (k : Code) → d ≡ simple c →

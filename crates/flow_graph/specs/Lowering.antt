@@ -7,7 +7,7 @@ use Rattle.language.specs.Flow.{rests}
 use Rattle.syntax.specs.Trees.{block_of}
 use Rattle.syntax.specs.declared.tree.Stmt.{Stmt}
 use Rattle.flow_graph.specs.Nodes.{Node, point_at, node_of}
-use Rattle.flow_graph.specs.Flows.{Does, Lowered}
+use Rattle.flow_graph.specs.Flows.{widths_of, Does, Lowered}
 use Rattle.flow_graph.specs.Views.{scope_seen, IsSmall}
 use Rattle.flow_graph.specs.declared.flow.Flow.{Flow}
 use Rattle.flow_graph.specs.declared.lowering.Lowering.{Lowering}
@@ -26,7 +26,7 @@ IsLowerable l = IsSmall l.scope × (length l.scope.procedures.now ≤ 32)
 
 -- the flow does what happens at the node, for the procedure's valuations
 abbrev pub DoesIn : {N A : Type 0} → Lowering N A → Flow A → Node → Type 0
-DoesIn l f node = Does f node (length (lowering_scope l).globals) (length (lowering_scope l).locals) (length (lowering_scope l).procedures)
+DoesIn l f node = Does f node (widths_of (lowering_scope l))
 
 -- statements as code, the first of them marked with the number
 abbrev pub code_from : {N A : Type 0} → Lowering N A → ℕ → List (Stmt N) → Code
@@ -34,7 +34,9 @@ code_from l n stmts = numbered n (resolve_block (lowering_scope l) (block_of stm
 
 -- all points of the procedure, and those of these statements, the first of them this number, are numbers of 64 bits
 abbrev pub IsCounted : {N A : Type 0} → Lowering N A → ℕ → List (Stmt N) → Type 0
-IsCounted l n stmts = (statements (block_of l.body.now) < 18446744073709551615) × (n + statements (block_of stmts) ≤ 18446744073709551615)
+IsCounted l n stmts =
+    (statements (block_of l.body.now) < 18446744073709551615)
+    × (n + statements (block_of stmts) ≤ 18446744073709551615)
 
 -- where a run goes on at the point behind the statement, the flow does what happens at it
 abbrev pub DoesFirst : {N A : Type 0} → Lowering N A → Flow A → Stmt N → ℕ → ℕ → Type 0
@@ -48,4 +50,4 @@ LoweredIn l old new stmts after =
     (length new ≡ length old + statements (block_of stmts))
     × ((k : Code) → point_at k ≡ after → IsCounted l (length old) stmts
     → Lowered old new (map (node_of (lowered_body l)) (rests (code_from l (length old) stmts) k))
-    (length (lowering_scope l).globals) (length (lowering_scope l).locals) (length (lowering_scope l).procedures))
+    (widths_of (lowering_scope l)))

@@ -13,8 +13,8 @@ use Rattle.flow_graph.specs.declared.flow.Flow.{Flow}
 use Rattle.flow_graph.specs.declared.graph.Graph.{Graph}
 use Rattle.flow_graph.specs.Drawn.{flows_of, start_of, globals_of}
 
--- A message by numbers: an entry has who enters and the number of the entry valuation; a summary has the procedure called
--- and the numbers of its entry valuation and of what it left.
+-- A message by numbers: an entry has who enters and the number of the entry valuation; a summary has the procedure
+-- called and the numbers of its entry valuation and of what it left.
 pub data NumberedMessage : Type 0 where
   numbered_entry : Caller → ℕ → NumberedMessage
   numbered_summary : ℕ → ℕ → ℕ → NumberedMessage
@@ -28,8 +28,9 @@ abbrev pub by_numbers : Message → NumberedMessage
 by_numbers (entry from a) = numbered_entry from (code a)
 by_numbers (summary s a b) = numbered_summary s (code a) (exit_code b)
 
--- By the messages of which M holds, the graph reaches from the number of an entry a point with the number of a valuation:
--- its start from each entry, what a flow leads to for one of its choices, and, behind a call, what a summary of it leads to.
+-- By the messages of which M holds, the graph reaches from the number of an entry a point with the number of a
+-- valuation: its start from each entry, what a flow leads to for one of its choices, and, behind a call, what a summary
+-- of it leads to.
 pub data GraphReaches {A : Type 0} (graph : Graph A) (M : NumberedMessage → Type 0) : ℕ → ℕ → ℕ → Type 0 where
   starts : (from : Caller) (a : ℕ) → M (numbered_entry from a) → GraphReaches graph M a (start_of graph) a
   flows : (a n v n' v' i : ℕ) (flow : Flow A) → GraphReaches graph M a n v →
@@ -38,8 +39,8 @@ pub data GraphReaches {A : Type 0} (graph : Graph A) (M : NumberedMessage → Ty
   returns : (a n v s e n' b : ℕ) (flow : Flow A) → GraphReaches graph M a n v → slice_get (flows_of graph) n ≡ Some flow →
       entered_by flow v ≡ Some (s, e, n') → M (numbered_summary s e b) → GraphReaches graph M a n' (resumed (globals_of graph) v b)
 
--- By the messages of which M holds, the graph of procedure q sends a procedure: the entry of each call of it that is reached,
--- and for each of its entries the summary of each valuation that is reached at the exit.
+-- By the messages of which M holds, the graph of procedure q sends a procedure: the entry of each call of it that is
+-- reached, and for each of its entries the summary of each valuation that is reached at the exit.
 pub data Sends {A : Type 0} (graph : Graph A) (q : ℕ) (M : NumberedMessage → Type 0) : ℕ → NumberedMessage → Type 0 where
   asks : (a n v s e n' : ℕ) (flow : Flow A) → GraphReaches graph M a n v → slice_get (flows_of graph) n ≡ Some flow →
       entered_by flow v ≡ Some (s, e, n') → Sends graph q M s (numbered_entry (caller q) e)

@@ -67,8 +67,8 @@ need (var i) = 1
 need (negation e) = need e
 need (two o a b) = cond (need a == need b) (min (need a + 1) 4294967295) (max (need a) (need b))
 
--- The steps evaluate the expression: they put its worth on the stack, within the expression's need; and they are so many
--- that a need above 64 would take more of them than memory has.
+-- The steps evaluate the expression: they put its worth on the stack, within the expression's need; and they are so
+-- many that a need above 64 would take more of them than memory has.
 pub record Evaluates (e : Expression ℕ) (steps : List Step) : Type 0 where
   pub puts : (f : ℕ → Bool) (rest : List Step) (stack : List Bool) → after_steps f (steps ++ rest) stack ≡ after_steps f rest (worth f e ∷ stack)
   pub shallow : (depth : ℕ) (rest : List Step) → depth + need e ≤ 64 → IsShallow (suc depth) rest → IsShallow depth (steps ++ rest)

@@ -11,8 +11,9 @@ use crate::flow::Flow;
 use language::{Point, Word};
 use std::alloc::Allocator;
 
-/// The flow graph of a procedure: a point before each statement and the exit, and what leads on from each. A valuation is a
-/// number of 64 bits: the globals from bit 0 in the order of their declaration, then the formals, locals and temporaries.
+/// The flow graph of a procedure: a point before each statement and the exit, and what leads on from each. A valuation
+/// is a number of 64 bits: the globals from bit 0 in the order of their declaration, then the formals, locals and
+/// temporaries.
 #[derive(Debug, Drop)]
 pub struct Graph<A: Allocator> {
     pub(crate) flows: Vec<Flow<A>, A>,

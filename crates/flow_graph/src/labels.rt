@@ -12,8 +12,8 @@ use language::Point;
 use std::alloc::Allocator;
 use syntax::{Core, Stmt};
 
-/// The point of the first statement with this label, those inside of others included, where the first of the statements has
-/// this number; `None` where none has the label.
+/// The point of the first statement with this label, those inside of others included, where the first of the statements
+/// has this number; `None` where none has the label.
 #[cycle(finding)]
 pub(crate) fn find<N: Allocator>(label: &str, stmts: &[Stmt<N>], first: Point) -> Option<Point>
     ensures { (s : Scope) (k : Code) → first + statements (block_of stmts.now) ≤ 18446744073709551615 →

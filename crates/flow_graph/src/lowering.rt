@@ -8,7 +8,7 @@ ghost use Rattle.language.specs.Sequential.{statements, numbered};
 ghost use Rattle.language.specs.Flow.{rests};
 ghost use Rattle.syntax.specs.Trees.{name_of, names_of, rhs_of, rhss_of, exprs_of, block_of};
 ghost use Rattle.flow_graph.specs.Nodes.{point_at, node_of, goes, stops, goes_to, tests, assumes, assigns, calls};
-ghost use Rattle.flow_graph.specs.Flows.{Does};
+ghost use Rattle.flow_graph.specs.Flows.{Widths, Does};
 ghost use Rattle.flow_graph.specs.declared.flow.Flow.{Flow};
 ghost use Rattle.flow_graph.specs.Lowering.{IsLowerable, lowering_scope, lowered_body, DoesIn, LoweredIn, DoesFirst};
 
@@ -28,7 +28,8 @@ use round_rewrite::MOST_PLACES;
 use std::alloc::{AllocError, Allocator};
 use syntax::{Core, Expr, Name, Rhs, Stmt, number_of_procedure};
 
-/// The point at which statements begin, the first of which has this number, where the run goes on at `after` behind them.
+/// The point at which statements begin, the first of which has this number, where the run goes on at `after` behind
+/// them.
 pub(crate) fn begin<N: Allocator>(stmts: &[Stmt<N>], first: Point, after: Point) -> Point
     ensures { (s : Rattle.language.specs.Resolve.Scope) (k : Code) → point_at k ≡ after →
         result ≡ point_at (join (numbered first (resolve_block s (block_of stmts.now))) k) }
@@ -38,7 +39,7 @@ pub(crate) fn begin<N: Allocator>(stmts: &[Stmt<N>], first: Point, after: Point)
 
 /// A flow on which no run goes on.
 fn nowhere<A: Allocator>() -> Flow<A>
-    ensures { (g l m : ℕ) → Does result stops g l m }
+    ensures { (widths : Widths) → Does result stops widths }
 {
     let always_0 = Table {
         inputs: ArrayVec::new(),
@@ -47,7 +48,8 @@ fn nowhere<A: Allocator>() -> Flow<A>
     Flow::Assume(Side::Value(Formula::Table(always_0)), EXIT)
 }
 
-/// What the statements of one procedure are lowered with: where it allocates, the names in scope, and the procedure's body.
+/// What the statements of one procedure are lowered with: where it allocates, the names in scope, and the procedure's
+/// body.
 #[derive(Drop)]
 pub(crate) struct Lowering<'a, N: Allocator, A: Allocator + Clone> {
     pub(crate) alloc: &'a A,

@@ -118,7 +118,8 @@ pub fn its_numbers_tell_that_a_message_is_due()
         → IsNumberOf (IsDue p q) (by_numbers m) ↔ IsDue p q m }
 {}
 
-/// There is a path edge between valuations of a procedure exactly where their numbers, and its point's, are those of one.
+/// There is a path edge between valuations of a procedure exactly where their numbers, and its point's, are those of
+/// one.
 pub fn its_numbers_tell_a_path_edge()
     ensures { (p : Program) (q : ℕ) (x y : Valuation) (r : Code) → ArgumentsFit p → IsInTextOrder p → IsValuationOf p q x
         → IsValuationOf p q y → IsRestOf (body_of (slice_get p.routines q)) r

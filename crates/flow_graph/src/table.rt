@@ -111,7 +111,8 @@ fn read(inputs: &mut ArrayVec<u8, MOST>, bit: u8) -> Option<u64>
 }
 
 impl<'a, N: Allocator> Scope<'a, N> {
-    /// The outputs of an expression, whose bits become inputs where they were none; `None` where more than six would be.
+    /// The outputs of an expression, whose bits become inputs where they were none; `None` where more than six would
+    /// be.
     fn outputs(&self, e: &Expr<N>, inputs: &mut ArrayVec<u8, MOST>) -> Option<u64>
         requires small { IsSmall self.now }
         requires bits { AreBits inputs.old.items }

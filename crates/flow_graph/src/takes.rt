@@ -13,8 +13,8 @@ ghost use Rattle.flow_graph.specs.declared.graph.Graph.{Graph};
 
 use std::alloc::Allocator;
 
-/// Where the opening message and each message sent are taken, and none that is not due, those due are taken, and the path
-/// edges are reached and nothing else.
+/// Where the opening message and each message sent are taken, and none that is not due, those due are taken, and the
+/// path edges are reached and nothing else.
 pub fn what_graphs_send_and_take_is_what_is_due<A: Allocator>()
     ensures { (p : Program) (graphs : List (Graph A)) (takes : List (List NumberedMessage)) → ArgumentsFit p → AreGraphs p graphs
         → TakesOpening takes → TakesSent graphs takes → TakesDue p takes → (q : ℕ)

@@ -12,7 +12,7 @@ use Rattle.syntax.proofs.Held.{held, first_counts}
 use Rattle.syntax.proofs.Folds.{item_deed, deed_of-If, deed_of-While}
 use Rattle.syntax.proofs.Plain.{is_simple}
 use Rattle.flow_graph.specs.Nodes.{point_at, node_of}
-use Rattle.flow_graph.specs.Flows.{Lowered}
+use Rattle.flow_graph.specs.Flows.{widths_of, Lowered}
 use Rattle.flow_graph.specs.Lowering.{lowering_scope, lowered_body, code_from}
 use Rattle.flow_graph.proofs.Counted.{alone_counts, split_counts}
 use Rattle.flow_graph.proofs.Lowered.{nodes_split, nodes_simple, nodes_branch, nodes_repeat, lowered_then, lowered_none, lowered_one}
@@ -54,10 +54,10 @@ block-loop-stmt-preserved g t c =
           let next = c.begin.ensures s k at_k ∙ ap (λ j. point_at (join (numbered j (resolve_block s (block_of more))) k)) behind in
           let first = lowered.1 (join (code_from me (length mid) more) k) (sym next) (few.0, omega (arith, lowered.0, small)) in
           c.loop-stmt.invariant.2 k new at_k few
-          (subst (λ ns. Lowered old new ns (length s.globals) (length s.locals) (length s.procedures))
+          (subst (λ ns. Lowered old new ns (widths_of s))
           (sym (ap (λ x. map (node_of (lowered_body me)) (rests (code_from me (length old) x) k)) e ∙
           nodes_split (lowered_body me) (length old) (length mid) s stmt more k lowered.0))
-          (lowered_then old mid new _ _ _ _ _ first h)),
+          (lowered_then old mid new _ _ _ first h)),
     )
 
 pub block-returns : goal.block-returns
@@ -70,8 +70,7 @@ block-returns g t c =
       λ k at_k few.
           c.loop-stmt.invariant.2 k old at_k few
           (subst (λ x. Lowered old old (map (node_of (lowered_body me)) (rests (code_from me (length old) x) k))
-          (length s.globals) (length s.locals) (length s.procedures)) (sym none)
-          (lowered_none old (length s.globals) (length s.locals) (length s.procedures))),
+          (widths_of s)) (sym none) (lowered_none old (widths_of s))),
     )
 
 pub statement-returns-in_ok-block-in-If : goal.statement-returns-in_ok-block-in-If
@@ -105,13 +104,14 @@ statement-returns-in_ok-block-in-If g t c =
           let does = made.2 k at_k few in
           let here = first.1 k at_k (few.0, omega (arith, few.1, next, count_a, whole, parts)) in
           let there = second.1 k at_k (few.0, omega (arith, few.1, first.0, next, count_a, count_b, whole, parts)) in
-          subst (λ ns. Lowered old new ns (length s.globals) (length s.locals) (length s.procedures))
+          subst (λ ns. Lowered old new ns (widths_of s))
           (sym (nodes_branch (lowered_body me) (length old) (length one) (length mid) s i.mark i.deed
           (rhs_of c.in-If.field-0) (block_of c.in-If.a.items) (block_of c.in-If.b.items) k (item_deed stmt ∙ core)
           next (omega (arith, first.0, next, count_a))
           ∙ λ t. node ∷ (map (node_of (lowered_body me)) (rests (code_from me (length one) (sym a t)) k) ++ map
           (node_of (lowered_body me)) (rests (code_from me (length mid) (sym b t)) k))))
-          (lowered_then old one new (node ∷ []) _ _ _ _ (lowered_one old one f node _ _ _ pushed does) (lowered_then one mid new _ _ _ _ _ here there)),
+          (lowered_then old one new (node ∷ []) _ _ (lowered_one old one f node _ pushed does)
+          (lowered_then one mid new _ _ _ here there)),
     ))
     c.block-in-If.ensures
 
@@ -142,11 +142,11 @@ statement-returns-in-While g t c =
           let again = loop (marked (length old) (resolve_mark i.mark)) (resolve_side s (rhs_of c.in-While.field-0)) (numbered (suc (length old)) (resolve_block s (block_of c.in-While.a.items))) k in
           let does = made.2 k at_k few in
           let here = inside.1 again (sym number) (few.0, omega (arith, few.1, next, count, whole, parts)) in
-          subst (λ ns. Lowered old new ns (length s.globals) (length s.locals) (length s.procedures))
+          subst (λ ns. Lowered old new ns (widths_of s))
           (sym (nodes_repeat (lowered_body me) (length old) (length one) s i.mark i.deed (rhs_of c.in-While.field-0)
           (block_of c.in-While.a.items) k (item_deed stmt ∙ core) next
           ∙ λ t. node ∷ map (node_of (lowered_body me)) (rests (code_from me (length one) (sym a t)) again)))
-          (lowered_then old one new (node ∷ []) _ _ _ _ (lowered_one old one f node _ _ _ pushed does) here),
+          (lowered_then old one new (node ∷ []) _ _ (lowered_one old one f node _ pushed does) here),
     ))
     c.block-in-While.ensures
 
@@ -166,7 +166,7 @@ statement-returns-in_default g t c =
       omega (arith, ap length made.1, length-append old (f ∷ []), parts, whole),
       λ k at_k few.
           let node = node_of (lowered_body me) (join (code_from me (length old) (stmt ∷ [])) k) in
-          subst (λ ns. Lowered old new ns (length s.globals) (length s.locals) (length s.procedures))
+          subst (λ ns. Lowered old new ns (widths_of s))
           (sym (nodes_simple (lowered_body me) (length old) s i.mark i.deed deed.0 k (item_deed stmt ∙ deed.1)))
-          (lowered_one old new f node _ _ _ made.1 (made.2 k at_k few)),
+          (lowered_one old new f node _ made.1 (made.2 k at_k few)),
     )
