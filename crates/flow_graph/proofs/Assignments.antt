@@ -15,10 +15,10 @@ use Rattle.language.proofs.Names.{number_less, place_declared, place_other}
 use Rattle.syntax.specs.Trees.{name_of, names_of, rhs_of, rhss_of}
 use Rattle.syntax.specs.declared.tree.Name as syntax
 use Rattle.syntax.specs.declared.tree.Rhs.{Rhs}
-use Rattle.flow_graph.specs.Assignments.{masked, choice_left, written, any_of, anys, bit_of_name, is_among, lasting, Assigns}
+use Rattle.flow_graph.specs.Assignments.{masked, choice_left, written, any_of, anys, is_among, lasting, Assigns}
 use Rattle.flow_graph.specs.Bits.{bit_of, worth_of, coded}
 use Rattle.flow_graph.specs.Formulas.{SaysSide, side_value}
-use Rattle.flow_graph.specs.Located.{bit_of_place}
+use Rattle.flow_graph.specs.Located.{bit_of_place, bit_of_name}
 use Rattle.flow_graph.specs.declared.assignment.Assignment.{Assignment}
 use Rattle.flow_graph.specs.declared.assignment.Write.{Write}
 use Rattle.flow_graph.specs.declared.side.Side.{Side}

@@ -5,7 +5,7 @@ use Rattle.language.specs.Tree.{Name, RightSide}
 use Rattle.language.specs.Value.{AreValues, written_globals, written_locals}
 use Rattle.language.specs.Resolve.{Scope, place_of, resolve_side}
 use Rattle.flow_graph.specs.Bits.{coded}
-use Rattle.flow_graph.specs.Located.{bit_of_place}
+use Rattle.flow_graph.specs.Located.{bit_of_name}
 use Rattle.flow_graph.specs.Formulas.{side_value}
 use Rattle.flow_graph.specs.declared.side.Side.{Side}
 use Rattle.flow_graph.specs.declared.side.Side.TheVariants as side
@@ -41,10 +41,6 @@ abbrev pub anys : {A : Type 0} → List (Write A) → ℕ
 anys [] = 0
 anys (w ∷ ws) = any_of w.side + anys ws
 
--- the bit of a variable, where it is declared
-abbrev pub bit_of_name : Scope → Name → Option ℕ
-bit_of_name s x = bit_of_place (length s.globals) (place_of s x)
-
 -- the bit is this one
 abbrev pub is_bit : ℕ → Option ℕ → Bool
 is_bit b None = false
@@ -59,6 +55,10 @@ is_among b (t ∷ ts) = cond (is_bit b t) true (is_among b ts)
 abbrev pub lasting : Option ℕ → List (Option ℕ) → Option ℕ
 lasting None ts = None
 lasting (Some b) ts = cond (is_among b ts) None (Some b)
+
+-- the bit of a target, where none of the later targets has it
+abbrev pub lasting_bit : Scope → Name → List Name → Option ℕ
+lasting_bit s x later = lasting (bit_of_name s x) (map (bit_of_name s) later)
 
 -- the valuation after these values are written to the targets, one after the other
 abbrev pub after_values : Scope → List Name → List Bool → List Bool → List Bool → ℕ

@@ -5,6 +5,7 @@ pub mod Postfix
 pub mod Tables
 pub mod Formulas
 pub mod Nodes
+pub mod Points
 pub mod Assignments
 pub mod Calls
 pub mod Flows

@@ -1,12 +1,17 @@
 -- What the statements of a procedure are lowered to.
-use Rattle.std.specs.Prelude.{◌≡◌, ◌≤◌, ◌<◌, ◌+◌, ℕ, List, [], ◌∷◌, map, length}
-use Rattle.language.specs.Resolve.{Scope, resolve_block}
-use Rattle.language.specs.Rest.{Code, join}
+use Rattle.std.specs.Prelude.{◌≡◌, ◌≤◌, ◌<◌, ◌+◌, ℕ, List, [], ◌∷◌, ◌++◌, map, length}
+use Rattle.language.specs.Tree.{Expression, RightSide, done}
+use Rattle.language.specs.Value.{Place}
+use Rattle.language.specs.Resolve.{Scope, number_of, place_of, resolve_expression, resolve_side, resolve_block}
+use Rattle.language.specs.Rest.{Code, join, rest_from}
 use Rattle.language.specs.Sequential.{statements, numbered}
 use Rattle.language.specs.Flow.{rests}
-use Rattle.syntax.specs.Trees.{block_of}
+use Rattle.syntax.specs.Trees.{name_of, names_of, rhs_of, rhss_of, exprs_of, block_of}
+use Rattle.syntax.specs.declared.tree.Name.{Name}
+use Rattle.syntax.specs.declared.tree.Expr.{Expr}
+use Rattle.syntax.specs.declared.tree.Rhs.{Rhs}
 use Rattle.syntax.specs.declared.tree.Stmt.{Stmt}
-use Rattle.flow_graph.specs.Nodes.{Node, point_at, node_of}
+use Rattle.flow_graph.specs.Nodes.{Node, point_at, node_of, goes_to}
 use Rattle.flow_graph.specs.Flows.{widths_of, Does, Lowered}
 use Rattle.flow_graph.specs.Views.{scope_seen, IsSmall}
 use Rattle.flow_graph.specs.declared.flow.Flow.{Flow}
@@ -24,9 +29,34 @@ lowered_body l = numbered 1 (resolve_block (lowering_scope l) (block_of l.body.n
 abbrev pub IsLowerable : {N A : Type 0} → Lowering N A → Type 0
 IsLowerable l = IsSmall l.scope × (length l.scope.procedures.now ≤ 32)
 
+-- a right side by places
+abbrev pub side_in : {N A : Type 0} → Lowering N A → Rhs N → RightSide Place
+side_in l r = resolve_side (lowering_scope l) (rhs_of r)
+
+-- right sides by places
+abbrev pub sides_in : {N A : Type 0} → Lowering N A → List (Rhs N) → List (RightSide Place)
+sides_in l rs = map (resolve_side (lowering_scope l)) (rhss_of rs)
+
+-- the places of targets
+abbrev pub places_in : {N A : Type 0} → Lowering N A → List (Name N) → List Place
+places_in l xs = map (place_of (lowering_scope l)) (names_of xs)
+
+-- arguments by places
+abbrev pub arguments_in : {N A : Type 0} → Lowering N A → List (Expr N) → List (Expression Place)
+arguments_in l es = map (resolve_expression (lowering_scope l)) (exprs_of es)
+
+-- the number of the procedure with this name
+abbrev pub callee_in : {N A : Type 0} → Lowering N A → Name N → ℕ
+callee_in l p = number_of (name_of p).text (lowering_scope l).procedures
+
 -- the flow does what happens at the node, for the procedure's valuations
 abbrev pub DoesIn : {N A : Type 0} → Lowering N A → Flow A → Node → Type 0
 DoesIn l f node = Does f node (widths_of (lowering_scope l))
+
+-- where all points of the procedure are numbers of 64 bits, the flow goes on at the statement with the label
+abbrev pub DoesJump : {N A : Type 0} → Lowering N A → Flow A → Name N → Type 0
+DoesJump l f label = statements (block_of l.body.now) < 18446744073709551615 →
+    DoesIn l f (goes_to (rest_from (name_of label).text (lowered_body l) done))
 
 -- statements as code, the first of them marked with the number
 abbrev pub code_from : {N A : Type 0} → Lowering N A → ℕ → List (Stmt N) → Code
@@ -42,6 +72,11 @@ IsCounted l n stmts =
 abbrev pub DoesFirst : {N A : Type 0} → Lowering N A → Flow A → Stmt N → ℕ → ℕ → Type 0
 DoesFirst l f stmt number after = (k : Code) → point_at k ≡ after → IsCounted l number (stmt ∷ []) →
     DoesIn l f (node_of (lowered_body l) (join (code_from l number (stmt ∷ [])) k))
+
+-- a flow has been put behind others that does what happens at the statement
+abbrev pub LoweredFirst : {N A : Type 0} → Lowering N A → List (Flow A) → List (Flow A) → Stmt N → ℕ → Type 0
+LoweredFirst {N} {A} l old new stmt after =
+    (f : Flow A) × (new ≡ old ++ f ∷ []) × DoesFirst l f stmt (length old) after
 
 -- as many flows as there are statements have been put behind others; where a run goes on at the point behind the
 -- statements, they do what happens at their points

@@ -1,16 +1,11 @@
 //! From statements to flows.
 
-ghost use Rattle.std.specs.Prelude.{ℕ, ◌≡◌, ◌≤◌, ◌<◌, ◌+◌, ◌++◌, ◌∷◌, [], IfOk, length, map};
-ghost use Rattle.language.specs.Tree.{done};
-ghost use Rattle.language.specs.Resolve.{number_of, place_of, resolve_expression, resolve_side, resolve_block};
-ghost use Rattle.language.specs.Rest.{Code, join, rest_from};
-ghost use Rattle.language.specs.Sequential.{statements, numbered};
-ghost use Rattle.language.specs.Flow.{rests};
-ghost use Rattle.syntax.specs.Trees.{name_of, names_of, rhs_of, rhss_of, exprs_of, block_of};
-ghost use Rattle.flow_graph.specs.Nodes.{point_at, node_of, goes, stops, goes_to, tests, assumes, assigns, calls};
+ghost use Rattle.std.specs.Prelude.{◌∷◌, [], IfOk};
+ghost use Rattle.flow_graph.specs.Nodes.{goes, stops, tests, assumes, assigns, calls};
+ghost use Rattle.flow_graph.specs.Points.{BeginAt};
 ghost use Rattle.flow_graph.specs.Flows.{Widths, Does};
-ghost use Rattle.flow_graph.specs.declared.flow.Flow.{Flow};
-ghost use Rattle.flow_graph.specs.Lowering.{IsLowerable, lowering_scope, lowered_body, DoesIn, LoweredIn, DoesFirst};
+ghost use Rattle.flow_graph.specs.Lowering.{IsLowerable, side_in, sides_in, places_in, arguments_in, callee_in, DoesIn};
+ghost use Rattle.flow_graph.specs.Lowering.{DoesJump, DoesFirst, LoweredFirst, LoweredIn};
 
 use crate::assignment::Assignment;
 use crate::call::Call;
@@ -31,8 +26,7 @@ use syntax::{Core, Expr, Name, Rhs, Stmt, number_of_procedure};
 /// The point at which statements begin, the first of which has this number, where the run goes on at `after` behind
 /// them.
 pub(crate) fn begin<N: Allocator>(stmts: &[Stmt<N>], first: Point, after: Point) -> Point
-    ensures { (s : Rattle.language.specs.Resolve.Scope) (k : Code) → point_at k ≡ after →
-        result ≡ point_at (join (numbered first (resolve_block s (block_of stmts.now))) k) }
+    ensures { BeginAt stmts.now first after result }
 {
     if stmts.is_empty() { after } else { first }
 }
@@ -69,8 +63,7 @@ impl<'a, N: Allocator, A: Allocator + Clone> Lowering<'a, N, A> {
     /// On to the statement with a label.
     fn jump(&self, label: &Name<N>) -> Result<Flow<A>, AllocError>
         requires { IsLowerable self.now }
-        ensures { IfOk result (λ f. statements (block_of self.now.body.now) < 18446744073709551615 →
-            DoesIn self.now f (goes_to (rest_from (name_of label.now).text (lowered_body self.now) done))) }
+        ensures { IfOk result (λ f. DoesJump self.now f label.now) }
     {
         match find(label.text.as_str(), self.body, 1) {
             Some(to) => self.going(to),
@@ -81,7 +74,7 @@ impl<'a, N: Allocator, A: Allocator + Clone> Lowering<'a, N, A> {
     /// One of two ways on, by a right side.
     fn test(&self, r: &Rhs<N>, yes: Point, no: Point) -> Result<Flow<A>, AllocError>
         requires { IsLowerable self.now }
-        ensures { IfOk result (λ f. DoesIn self.now f (tests (resolve_side (lowering_scope self.now) (rhs_of r.now)) yes no)) }
+        ensures { IfOk result (λ f. DoesIn self.now f (tests (side_in self.now r.now) yes no)) }
     {
         if yes == no {
             return self.going(yes);
@@ -92,7 +85,7 @@ impl<'a, N: Allocator, A: Allocator + Clone> Lowering<'a, N, A> {
     /// On where 1 is a value of a right side.
     fn assumption(&self, r: &Rhs<N>, to: Point) -> Result<Flow<A>, AllocError>
         requires { IsLowerable self.now }
-        ensures { IfOk result (λ f. DoesIn self.now f (assumes (resolve_side (lowering_scope self.now) (rhs_of r.now)) to)) }
+        ensures { IfOk result (λ f. DoesIn self.now f (assumes (side_in self.now r.now) to)) }
     {
         Ok(Flow::Assume(self.scope.side(self.alloc.clone()?, r)?, to))
     }
@@ -100,9 +93,7 @@ impl<'a, N: Allocator, A: Allocator + Clone> Lowering<'a, N, A> {
     /// An assignment.
     fn assignment(&self, xs: &[Name<N>], rs: &[Rhs<N>], to: Point) -> Result<Flow<A>, AllocError>
         requires { IsLowerable self.now }
-        ensures { IfOk result (λ f. DoesIn self.now f
-            (assigns (map (place_of (lowering_scope self.now)) (names_of xs.now))
-            (map (resolve_side (lowering_scope self.now)) (rhss_of rs.now)) to)) }
+        ensures { IfOk result (λ f. DoesIn self.now f (assigns (places_in self.now xs.now) (sides_in self.now rs.now) to)) }
     {
         Ok(Flow::Assign(self.scope.assignment(self.alloc, xs, rs)?, to))
     }
@@ -110,9 +101,7 @@ impl<'a, N: Allocator, A: Allocator + Clone> Lowering<'a, N, A> {
     /// A call. No run goes on where there is no such procedure, or where its valuation would have more than 64 places.
     fn call(&self, p: &Name<N>, es: &[Expr<N>], back: Point) -> Result<Flow<A>, AllocError>
         requires { IsLowerable self.now }
-        ensures { IfOk result (λ f. DoesIn self.now f
-            (calls (number_of (name_of p.now).text (lowering_scope self.now).procedures)
-            (map (resolve_expression (lowering_scope self.now)) (exprs_of es.now)) back)) }
+        ensures { IfOk result (λ f. DoesIn self.now f (calls (callee_in self.now p.now) (arguments_in self.now es.now) back)) }
     {
         let callee = number_of_procedure(self.scope.procedures, p.text.as_str());
         if callee >= self.scope.procedures.len() {
@@ -164,7 +153,7 @@ impl<'a, N: Allocator, A: Allocator + Clone> Lowering<'a, N, A> {
         flows: &mut Vec<Flow<A>, A>,
     ) -> Result<(), AllocError>
         requires { IsLowerable self.now }
-        ensures { IfOk result (λ _. (f : Flow A) × (flows.new.items ≡ flows.old.items ++ f ∷ []) × DoesFirst self.now f stmt.now (length flows.old.items) after) }
+        ensures { IfOk result (λ _. LoweredFirst self.now flows.old.items flows.new.items stmt.now after) }
     {
         put(self.flow(stmt, flows.len(), after), flows)
     }
