@@ -6,13 +6,14 @@ use Rattle.std.proofs.Math.Nat.{mul_comm}
 use Rattle.std.proofs.lemmas.Option.{none-some, same_Some}
 use Rattle.std.proofs.lemmas.Bool.{true≢false}
 use Rattle.language.specs.Tree.{Name, Expression, RightSide, any, value}
-use Rattle.language.specs.Value.{Place, value_of, values_of, IsValue, written_globals, written_locals}
+use Rattle.language.specs.Value.{Place, value_of, values_of, IsValue}
 use Rattle.language.specs.Resolve.{Scope, place_of, resolve_side}
 use Rattle.language.specs.Sequential.{Valuation}
 use Rattle.language.proofs.Lengths.{length_values}
 use Rattle.flow_graph.specs.Bits.{bit_of, worth_of, coded}
 use Rattle.flow_graph.specs.Formulas.{says, SaysSide}
-use Rattle.flow_graph.specs.Assignments.{assigned, Assigns}
+use Rattle.flow_graph.specs.Assignments.{assigned}
+use Rattle.flow_graph.specs.Assigning.{Assigns, after_values}
 use Rattle.flow_graph.specs.Nodes.{goes, stops, tests, assigns, calls, returns}
 use Rattle.flow_graph.specs.Flows.{code, Widths, widths_of, HasWidths, Does}
 use Rattle.flow_graph.proofs.Rows.{first_bit}
@@ -65,21 +66,17 @@ does_assigns {A} a s xs rs to d = record {
   leads = λ v n w wide. (
     λ h.
         let (i, (le, is)) = h in
-        let (vs, are, next) = d.only v.globals v.places i wide.0 wide.1 le in
-        let gs = written_globals (map (place_of s) xs) vs v.globals in
-        let ls = written_locals (map (place_of s) xs) vs v.places in (
-          record { globals = gs; places = ls },
-          (vs, are, sym (same_first to (assigned a (code v) i) n w is), refl),
-          sym (same_second to (assigned a (code v) i) n w is) ∙ next,
-        ),
+        let next = assigned a (code v) i in
+        let (vs, are, at) = (d.leads v w wide).0 (i, (le, same_second to next n w is)) in
+        (after_values s xs vs v, (vs, are, sym (same_first to next n w is), refl), at),
     λ h.
         let (v', (vs, are, is, same), at) = h in
-        let (i, le, next) = d.reaches v.globals v.places vs wide.0 wide.1 are in
-        (i, (le, λ t. Some (sym is t, (next ∙ ap code (sym same) ∙ sym at) t))),
+        let (i, (le, next)) = (d.leads v w wide).1 (vs, are, at ∙ ap code same) in
+        (i, (le, λ t. Some (sym is t, next t))),
   );
   once = λ v i j n w wide one other.
-      d.once v.globals v.places i j wide.0 wide.1 one.0 other.0
-      (same_second to (assigned a (code v) i) to (assigned a (code v) j) (one.1 ∙ sym other.1));
+      d.once v i j w wide (one.0, same_second to (assigned a (code v) i) n w one.1)
+      (other.0, same_second to (assigned a (code v) j) n w other.1);
   enters = λ v s e n wide. (λ h. absurd (none-some _ h), λ h. absurd h.1);
 }
 

@@ -9,6 +9,7 @@ pub mod Points
 pub mod Assignments
 pub mod Calls
 pub mod Flows
+pub mod Assigning
 pub mod Lowering
 pub mod Returns
 pub mod Drawn

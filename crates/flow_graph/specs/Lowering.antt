@@ -1,6 +1,6 @@
 -- What the statements of a procedure are lowered to.
 use Rattle.std.specs.Prelude.{◌≡◌, ◌≤◌, ◌<◌, ◌+◌, ℕ, List, [], ◌∷◌, ◌++◌, map, length}
-use Rattle.language.specs.Tree.{Expression, RightSide, done}
+use Rattle.language.specs.Tree.{RightSide, done}
 use Rattle.language.specs.Value.{Place}
 use Rattle.language.specs.Resolve.{Scope, number_of, place_of, resolve_expression, resolve_side, resolve_block}
 use Rattle.language.specs.Rest.{Code, join, rest_from}
@@ -11,7 +11,7 @@ use Rattle.syntax.specs.declared.tree.Name.{Name}
 use Rattle.syntax.specs.declared.tree.Expr.{Expr}
 use Rattle.syntax.specs.declared.tree.Rhs.{Rhs}
 use Rattle.syntax.specs.declared.tree.Stmt.{Stmt}
-use Rattle.flow_graph.specs.Nodes.{Node, point_at, node_of, goes_to}
+use Rattle.flow_graph.specs.Nodes.{Node, assigns, calls, point_at, node_of, goes_to}
 use Rattle.flow_graph.specs.Flows.{widths_of, Does, Lowered}
 use Rattle.flow_graph.specs.Views.{scope_seen, IsSmall}
 use Rattle.flow_graph.specs.declared.flow.Flow.{Flow}
@@ -33,21 +33,17 @@ IsLowerable l = IsSmall l.scope × (length l.scope.procedures.now ≤ 32)
 abbrev pub side_in : {N A : Type 0} → Lowering N A → Rhs N → RightSide Place
 side_in l r = resolve_side (lowering_scope l) (rhs_of r)
 
--- right sides by places
-abbrev pub sides_in : {N A : Type 0} → Lowering N A → List (Rhs N) → List (RightSide Place)
-sides_in l rs = map (resolve_side (lowering_scope l)) (rhss_of rs)
+-- the node of an assignment: the right sides are written to the places of the targets, and the run goes on at the point
+abbrev pub assignment_in : {N A : Type 0} → Lowering N A → List (Name N) → List (Rhs N) → ℕ → Node
+assignment_in l xs rs to =
+    let s = lowering_scope l in
+    assigns (map (place_of s) (names_of xs)) (map (resolve_side s) (rhss_of rs)) to
 
--- the places of targets
-abbrev pub places_in : {N A : Type 0} → Lowering N A → List (Name N) → List Place
-places_in l xs = map (place_of (lowering_scope l)) (names_of xs)
-
--- arguments by places
-abbrev pub arguments_in : {N A : Type 0} → Lowering N A → List (Expr N) → List (Expression Place)
-arguments_in l es = map (resolve_expression (lowering_scope l)) (exprs_of es)
-
--- the number of the procedure with this name
-abbrev pub callee_in : {N A : Type 0} → Lowering N A → Name N → ℕ
-callee_in l p = number_of (name_of p).text (lowering_scope l).procedures
+-- the node of a call: the procedure with the name is called with the arguments, and the run goes on at the point
+abbrev pub call_in : {N A : Type 0} → Lowering N A → Name N → List (Expr N) → ℕ → Node
+call_in l p es back =
+    let s = lowering_scope l in
+    calls (number_of (name_of p).text s.procedures) (map (resolve_expression s) (exprs_of es)) back
 
 -- the flow does what happens at the node, for the procedure's valuations
 abbrev pub DoesIn : {N A : Type 0} → Lowering N A → Flow A → Node → Type 0

@@ -11,14 +11,15 @@ use Rattle.flow_graph.specs.Nodes.{point_at}
 abbrev pub IsSize : {N : Type 0} → List (Stmt N) → ℕ → Type 0
 IsSize stmts size = statements (block_of stmts) ≤ 18446744073709551615 → size ≡ statements (block_of stmts)
 
--- where a run goes on at the point `after` behind these statements, the first of which has this number, they begin at `to`
+-- where a run goes on at the point `after` behind these statements, the first of which has this number, they begin at
+-- `to`
 abbrev pub BeginAt : {N : Type 0} → List (Stmt N) → ℕ → ℕ → ℕ → Type 0
 BeginAt stmts first after to =
     (s : Scope) (k : Code) → point_at k ≡ after →
     to ≡ point_at (join (numbered first (resolve_block s (block_of stmts))) k)
 
--- The point of the first statement with this label was found, or that there is none, among statements whose numbers are of
--- 64 bits, and those inside of them.
+-- The point of the first statement with this label was found, or that there is none, among statements whose numbers are
+-- of 64 bits, and those inside of them.
 abbrev pub IsFound : {N : Type 0} → Label → List (Stmt N) → ℕ → Option ℕ → Type 0
 IsFound x stmts first found =
     (s : Scope) (k : Code) → first + statements (block_of stmts) ≤ 18446744073709551615 →

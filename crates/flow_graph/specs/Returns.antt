@@ -17,8 +17,8 @@ abbrev pub AreGlobalsOf : ℕ → ℕ → ℕ → Type 0
 AreGlobalsOf globals values after =
     (v : Valuation) → length v.globals ≡ globals → values ≡ code v → after ≡ coded v.globals
 
--- Where `values` is the number of a valuation with so many globals, and `after` that of so many globals, the last is the
--- number of the valuation with these globals in place of its own.
+-- Where `values` is the number of a valuation with so many globals, and `after` that of so many globals, the last is
+-- the number of the valuation with these globals in place of its own.
 abbrev pub IsResumed : ℕ → ℕ → ℕ → ℕ → Type 0
 IsResumed globals values after next =
     (v : Valuation) (b : List Bool) → length v.globals ≡ globals → length b ≡ globals → values ≡ code v →

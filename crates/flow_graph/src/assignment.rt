@@ -2,7 +2,8 @@
 
 ghost use Rattle.std.specs.Prelude.{◌≡◌, ◌+◌, ◌≤◌, ◌<◌, ◌^◌, [], IfOk, IfSome};
 ghost use Rattle.syntax.specs.Trees.{name_of, names_of, rhs_of, rhss_of};
-ghost use Rattle.flow_graph.specs.Assignments.{masked, choice_left, anys, assigned, Assigns, lasting_bit};
+ghost use Rattle.flow_graph.specs.Assignments.{masked, choice_left, anys, assigned, lasting_bit};
+ghost use Rattle.flow_graph.specs.Assigning.{Assigns};
 ghost use Rattle.flow_graph.specs.Formulas.{SaysSide};
 ghost use Rattle.flow_graph.specs.Views.{scope_seen, IsSmall};
 ghost use Rattle.round_rewrite.specs.Limits.{most_places};

@@ -1,11 +1,11 @@
 //! From statements to flows.
 
 ghost use Rattle.std.specs.Prelude.{◌∷◌, [], IfOk};
-ghost use Rattle.flow_graph.specs.Nodes.{goes, stops, tests, assumes, assigns, calls};
+ghost use Rattle.flow_graph.specs.Nodes.{goes, stops, tests, assumes};
 ghost use Rattle.flow_graph.specs.Points.{BeginAt};
 ghost use Rattle.flow_graph.specs.Flows.{Widths, Does};
-ghost use Rattle.flow_graph.specs.Lowering.{IsLowerable, side_in, sides_in, places_in, arguments_in, callee_in, DoesIn};
-ghost use Rattle.flow_graph.specs.Lowering.{DoesJump, DoesFirst, LoweredFirst, LoweredIn};
+ghost use Rattle.flow_graph.specs.Lowering.{IsLowerable, side_in, assignment_in, call_in};
+ghost use Rattle.flow_graph.specs.Lowering.{DoesIn, DoesJump, DoesFirst, LoweredFirst, LoweredIn};
 
 use crate::assignment::Assignment;
 use crate::call::Call;
@@ -93,7 +93,7 @@ impl<'a, N: Allocator, A: Allocator + Clone> Lowering<'a, N, A> {
     /// An assignment.
     fn assignment(&self, xs: &[Name<N>], rs: &[Rhs<N>], to: Point) -> Result<Flow<A>, AllocError>
         requires { IsLowerable self.now }
-        ensures { IfOk result (λ f. DoesIn self.now f (assigns (places_in self.now xs.now) (sides_in self.now rs.now) to)) }
+        ensures { IfOk result (λ f. DoesIn self.now f (assignment_in self.now xs.now rs.now to)) }
     {
         Ok(Flow::Assign(self.scope.assignment(self.alloc, xs, rs)?, to))
     }
@@ -101,7 +101,7 @@ impl<'a, N: Allocator, A: Allocator + Clone> Lowering<'a, N, A> {
     /// A call. No run goes on where there is no such procedure, or where its valuation would have more than 64 places.
     fn call(&self, p: &Name<N>, es: &[Expr<N>], back: Point) -> Result<Flow<A>, AllocError>
         requires { IsLowerable self.now }
-        ensures { IfOk result (λ f. DoesIn self.now f (calls (callee_in self.now p.now) (arguments_in self.now es.now) back)) }
+        ensures { IfOk result (λ f. DoesIn self.now f (call_in self.now p.now es.now back)) }
     {
         let callee = number_of_procedure(self.scope.procedures, p.text.as_str());
         if callee >= self.scope.procedures.len() {

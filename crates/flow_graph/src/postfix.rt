@@ -2,7 +2,8 @@
 
 ghost use Rattle.std.specs.Prelude.{◌≡◌, [], IfOk};
 ghost use Rattle.flow_graph.specs.Bits.{bit_of};
-ghost use Rattle.flow_graph.specs.Postfix.{IsShallow, IsShallow-prop, IsStepped, after_steps, top, need, Puts, AreCodeOf};
+ghost use Rattle.flow_graph.specs.Postfix.{IsShallow, IsShallow-prop, IsStepped, after_steps, top};
+ghost use Rattle.flow_graph.specs.Postfix.{need, Puts, AreCodeOf};
 ghost use Rattle.flow_graph.specs.Views.{over_bits, IsSmall};
 
 use crate::scope::Scope;

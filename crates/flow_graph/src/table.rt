@@ -5,7 +5,8 @@ ghost use Rattle.language.specs.Value.{operate};
 ghost use Rattle.language.specs.Tree.{var};
 ghost use Rattle.syntax.specs.Trees.{operator_of};
 ghost use Rattle.flow_graph.specs.Bits.{bit_of};
-ghost use Rattle.flow_graph.specs.Tables.{slot, Tabulates, table_says, IsTableOf, AreBits, AreBits-prop, Widens, most_rows};
+ghost use Rattle.flow_graph.specs.Tables.{most_rows, slot, Tabulates, table_says, IsTableOf};
+ghost use Rattle.flow_graph.specs.Tables.{AreBits, AreBits-prop, Widens};
 ghost use Rattle.flow_graph.specs.Views.{over_bits, IsSmall};
 ghost use Rattle.round_rewrite.specs.Limits.{most_places};
 
