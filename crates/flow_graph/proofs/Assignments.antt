@@ -503,8 +503,14 @@ module _ {A : Type 0} (a : Assignment A) (s : Scope) (xs : List Name) (rs : List
 pub anys_step : {A : Type 0} (ws : List (Write A)) (i : ℕ) (w : Write A) → i < length ws → w ≡ get_or ws i w → anys (drop i ws) ≡ any_of w.side + anys (drop (i + 1) ws)
 anys_step ws i w h e = ap anys (drop_more ws i w h) ∙ ap (λ x. any_of x.side + anys (drop (i + 1) ws)) (sym e)
 
-pub room : (n last : ℕ) → last + 1 ≡ 2 ^ n → n < 64 → last * 2 + 1 < 2 ^ 64
-room n last e h = let most : 2 ^ n ≤ 2 ^ 63 = pow_mono (let z : n ≤ 63 = omega (arith, h) in z) in omega (arith, e, most)
+-- where some write is still a `?`, the choices so far can be doubled
+pub one_more_fits : {A : Type 0} (ws : List (Write A)) (i last : ℕ) (w : Write A) →
+    (n : ℕ) × (last + 1 ≡ 2 ^ n) × (n + anys (drop i ws) ≡ anys ws) → i < length ws → w ≡ get_or ws i w →
+    any_of w.side ≡ 1 → anys ws ≤ most_places → last * 2 + 1 < 2 ^ 64
+one_more_fits ws i last w (n, count, all) inside is one few =
+    let step = anys_step ws i w inside is in
+    let most : 2 ^ n ≤ 2 ^ 63 = pow_mono (let z : n ≤ 63 = omega (arith, step, one, all, few) in z) in
+    omega (arith, count, most)
 
 -- the later targets that have a right side
 later_paired : {X Y Z R : Type 0} (f : Z → Option ℕ) (g : X → Z) (h : Y → R) (xs : List X) (ys : List Y) (n : ℕ) → n ≡ min (length xs) (length ys)

@@ -13,7 +13,8 @@ use Rattle.syntax.specs.Trees.{Deed, simple, branch, repeat, item_of, block_of}
 use Rattle.flow_graph.specs.Nodes.{Node, point_at, node_of, goes, stops, goes_to, tests}
 use Rattle.flow_graph.specs.Flows.{Widths, Does, AllDo, Lowered}
 use Rattle.flow_graph.specs.declared.flow.Flow.{Flow}
-use Rattle.flow_graph.proofs.Numbered.{Names, led, tail, resolved_statements, behind_simple, behind_branch, behind_repeat}
+use Rattle.flow_graph.proofs.Numbered.{Names, led, tail, inner, inner_second, behind_two}
+use Rattle.flow_graph.proofs.Numbered.{resolved_statements, behind_simple, behind_branch, behind_repeat}
 
 -- a first statement begins at its number
 begins_led : (n : ℕ) (s : Scope) (m : Mark tree.Name) (d : Deed) (t : Names) (k : Code) → n ≡ point_at (join (led n s m d t) k)
@@ -39,31 +40,20 @@ goes_lost (Some r) e = absurd (none-some _ (sym e))
 rests_led : (n : ℕ) (s : Scope) (m : Mark tree.Name) (d : Deed) (t : Names) (k : Code) → rests (led n s m d t) k ≡ rests (led n s m d done) (join (tail n s m d t) k) ++ rests (tail n s m d t) k
 rests_led n s m (simple c) t k = ap (λ T. rests (one (marked n (resolve_mark m)) (resolve_simple s c) done) (join T k) ++ rests T k) (behind_simple n s m t c)
 rests_led n s m (branch r a b) t k =
+    let A = inner n s a in
+    let B = inner_second n s a b in
+    let T' = behind_two n s a b t in
     ap (λ l. choose (marked n (resolve_mark m)) (resolve_side s r) A B (join T' k) ∷ l)
     (ap (λ l. rests A (join T' k) ++ (l ++ rests T' k)) (sym (append-nil (rests B (join T' k))))
     ∙ sym (append_assoc (rests A (join T' k)) (rests B (join T' k) ++ []) (rests T' k)))
-    ∙ ap (λ T. rests (choose (marked n (resolve_mark m)) (resolve_side s r) A B done) (join T k) ++ rests T k) (behind_branch n s m t r a b)
-  where
-    A : Code
-    A = numbered (suc n) (resolve_block s a)
-
-    B : Code
-    B = numbered (suc n + statements (resolve_block s a)) (resolve_block s b)
-
-    T' : Code
-    T' = numbered (suc n + (statements (resolve_block s a) + statements (resolve_block s b))) (resolve_block s t)
+    ∙ ap (λ T. rests (choose (marked n (resolve_mark m)) (resolve_side s r) A B done) (join T k) ++ rests T k)
+    (behind_branch n s m t r a b)
 rests_led n s m (repeat r a) t k =
+    let A = inner n s a in
+    let T' = inner_second n s a t in
+    let again : Code → Code = λ z. loop (marked n (resolve_mark m)) (resolve_side s r) A z in
     ap (λ l. again (join T' k) ∷ (l ++ rests T' k)) (sym (append-nil (rests A (again (join T' k)))))
     ∙ ap (λ T. rests (again done) (join T k) ++ rests T k) (behind_repeat n s m t r a)
-  where
-    A : Code
-    A = numbered (suc n) (resolve_block s a)
-
-    again : Code → Code
-    again k = loop (marked n (resolve_mark m)) (resolve_side s r) A k
-
-    T' : Code
-    T' = numbered (suc n + statements (resolve_block s a)) (resolve_block s t)
 
 pub nodes_split : {A : Type 0} (body : Code) (n j : ℕ) (s : Scope) (x : Stmt A) (l : List (Stmt A)) (k : Code) → j ≡ n + statements (block_of (x ∷ [])) →
     map (node_of body) (rests (numbered n (resolve_block s (block_of (x ∷ l)))) k)
