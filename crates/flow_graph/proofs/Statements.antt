@@ -1,6 +1,7 @@
 -- Statements of a procedure lowered, by what each does.
 use Rattle.std.proofs.Common.{◌≡◌, ℕ, suc, ◌+◌, List, [], ◌∷◌, length, refl, sym, ◌∙◌, ap, subst, arith}
-use Rattle.std.proofs.Common.{length-append}
+use Rattle.std.proofs.Common.{◌++◌, length-append}
+use Rattle.std.specs.Prelude.{Result, Ok, IfOk}
 use Rattle.language.specs.Tree as tree
 use Rattle.language.specs.Tree.{one, loop}
 use Rattle.language.specs.Resolve.{resolve_mark, resolve_simple, resolve_side, resolve_block}
@@ -29,6 +30,14 @@ moved xs ys i j after to same at begin =
     subst (λ z. BeginAt z j after to) same (subst (λ m. BeginAt xs m after to) at begin)
 
 module _ {N A : Type 0} (l : Lowering N A) (stmt : Stmt N) (after : ℕ) where
+  -- the flow of the statement is put behind others, of which there are as many as its number says
+  pub put_first : {E : Type 0} (n : ℕ) (old new : List (Flow A)) (made : Result (Flow A) E) →
+      IfOk made (λ f. DoesFirst l f stmt n after) → (f : Flow A) × (made ≡ Ok f) × (new ≡ old ++ f ∷ []) →
+      n ≡ length old → LoweredFirst l old new stmt after
+  put_first n old new made does (f, is, pushed) at =
+      let here = subst (λ r. IfOk r (λ x. DoesFirst l x stmt n after)) is does in
+      (f, pushed, subst (λ m. DoesFirst l f stmt m after) at here)
+
   -- a statement with none inside of it, whose node depends on the point behind it
   pub does_simple : (n : ℕ) (c : tree.Simple tree.Name tree.Name tree.Name) (node : ℕ → Node) →
       deed_of stmt.core ≡ simple c →

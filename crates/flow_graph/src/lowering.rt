@@ -5,7 +5,7 @@ ghost use Rattle.flow_graph.specs.Nodes.{goes, stops, tests, assumes};
 ghost use Rattle.flow_graph.specs.Points.{BeginAt};
 ghost use Rattle.flow_graph.specs.Flows.{Widths, Does};
 ghost use Rattle.flow_graph.specs.Lowering.{IsLowerable, side_in, assignment_in, call_in};
-ghost use Rattle.flow_graph.specs.Lowering.{DoesIn, DoesJump, DoesFirst, LoweredFirst, LoweredIn};
+ghost use Rattle.flow_graph.specs.Lowering.{DoesIn, DoesJump, DoesFirst, LoweredIn};
 
 use crate::assignment::Assignment;
 use crate::call::Call;
@@ -145,19 +145,6 @@ impl<'a, N: Allocator, A: Allocator + Clone> Lowering<'a, N, A> {
         }
     }
 
-    /// Puts what a statement leads to behind others.
-    fn first(
-        &self,
-        stmt: &Stmt<N>,
-        after: Point,
-        flows: &mut Vec<Flow<A>, A>,
-    ) -> Result<(), AllocError>
-        requires { IsLowerable self.now }
-        ensures { IfOk result (λ _. LoweredFirst self.now flows.old.items flows.new.items stmt.now after) }
-    {
-        put(self.flow(stmt, flows.len(), after), flows)
-    }
-
     /// Puts the flows of statements behind others, where the run goes on at `after` behind them.
     #[cycle(lowering)]
     pub(crate) fn block(
@@ -190,7 +177,7 @@ impl<'a, N: Allocator, A: Allocator + Clone> Lowering<'a, N, A> {
         ensures { IfOk result (λ _. LoweredIn self.now flows.old.items flows.new.items (stmt.now ∷ []) after) }
     {
         let number = flows.len();
-        self.first(stmt, after, flows)?;
+        put(self.flow(stmt, number, after), flows)?;
         match &stmt.core {
             Core::If(_, a, b) => {
                 self.block(a, after, flows)?;

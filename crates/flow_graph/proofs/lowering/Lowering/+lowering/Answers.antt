@@ -15,7 +15,7 @@ use Rattle.flow_graph.specs.Flows.{widths_of, Lowered}
 use Rattle.flow_graph.specs.Lowering.{lowering_scope, lowered_body, code_from, LoweredIn}
 use Rattle.flow_graph.proofs.Counted.{split_counts}
 use Rattle.flow_graph.proofs.Lowered.{nodes_split, lowered_then, lowered_none}
-use Rattle.flow_graph.proofs.Statements.{lowered_simple, lowered_branch, lowered_repeat}
+use Rattle.flow_graph.proofs.Statements.{put_first, lowered_simple, lowered_branch, lowered_repeat}
 use Rattle.flow_graph.proofs.lowering.Lowering.+lowering.Goals as goal
 
 pub block-loop-stmt-init : goal.block-loop-stmt-init
@@ -78,13 +78,14 @@ statement-returns-in_ok-block-in-If g t c =
     let me = c.args.self.now in
     let after = c.args.after in
     let mid = c.block.new.flows.items in
+    let number = c.len-number.ensures ∙ c.args.flows.now.ok.0 in
     let core = ap deed_of c.in-If.is ∙ deed_of-If c.in-If.field-0 c.in-If.a c.in-If.b in
-    let old = c.first.new.flows.items in
+    let old = c.put.new.list.items in
     let left = subst (λ x. LoweredIn me old mid x after) c.deref.ensures.value c.in_ok-block-in-If.ensures in
     IfOk-weaker c.block-in-If.result _ _
     (λ u right.
     lowered_branch me c.args.stmt.now after (rhs_of c.in-If.field-0) c.in-If.a.items c.in-If.b.items _ _ _ _ core
-    c.in_ok-first.ensures left
+    (put_first me c.args.stmt.now after _ _ _ c.flow.result c.flow.ensures c.in_ok-put.ensures number) left
     (subst (λ x. LoweredIn me mid c.block-in-If.new.flows.items x after) c.deref-in-If.ensures.value right))
     c.block-in-If.ensures
 
@@ -96,13 +97,16 @@ statement-returns-in-While g t c =
     IfOk-weaker c.block-in-While.result _ _
     (λ u inside.
     lowered_repeat me c.args.stmt.now c.args.after (rhs_of c.in-While.field-0) c.in-While.a.items _ _ _ core
-    c.in_ok-first.ensures
-    (subst (LoweredIn me c.first.new.flows.items c.block-in-While.new.flows.items c.in-While.a.items) number
-    (subst (λ x. LoweredIn me c.first.new.flows.items c.block-in-While.new.flows.items x c.len-number.result)
+    (put_first me c.args.stmt.now c.args.after _ _ _ c.flow.result c.flow.ensures c.in_ok-put.ensures number)
+    (subst (LoweredIn me c.put.new.list.items c.block-in-While.new.flows.items c.in-While.a.items) number
+    (subst (λ x. LoweredIn me c.put.new.list.items c.block-in-While.new.flows.items x c.len-number.result)
     c.deref-in-While.ensures.value inside)))
     c.block-in-While.ensures
 
 pub statement-returns-in_default : goal.statement-returns-in_default
 statement-returns-in_default g t c =
     let (deed, is) = is_simple c.args.stmt.now.core c.in_default.not-If c.in_default.not-While in
-    lowered_simple c.args.self.now c.args.stmt.now c.args.after deed _ _ is c.in_ok-first.ensures
+    let number = c.len-number.ensures ∙ c.args.flows.now.ok.0 in
+    let me = c.args.self.now in
+    lowered_simple me c.args.stmt.now c.args.after deed _ _ is
+    (put_first me c.args.stmt.now c.args.after _ _ _ c.flow.result c.flow.ensures c.in_ok-put.ensures number)
