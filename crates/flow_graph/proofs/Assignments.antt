@@ -15,10 +15,12 @@ use Rattle.language.proofs.Names.{number_less, place_declared, place_other}
 use Rattle.syntax.specs.Trees.{name_of, names_of, rhs_of, rhss_of}
 use Rattle.syntax.specs.declared.tree.Name as syntax
 use Rattle.syntax.specs.declared.tree.Rhs.{Rhs}
-use Rattle.flow_graph.specs.Assignments.{masked, choice_left, written, any_of, anys, bit_of_name, is_among, lasting, Assigns}
+use Rattle.flow_graph.specs.Assignments.{masked, choice_left, written, any_of, anys, is_among, lasting}
+use Rattle.flow_graph.specs.Assigning.{Assigns}
+use Rattle.flow_graph.specs.Flows.{code}
 use Rattle.flow_graph.specs.Bits.{bit_of, worth_of, coded}
 use Rattle.flow_graph.specs.Formulas.{SaysSide, side_value}
-use Rattle.flow_graph.specs.Located.{bit_of_place}
+use Rattle.flow_graph.specs.Located.{bit_of_place, bit_of_name}
 use Rattle.flow_graph.specs.declared.assignment.Assignment.{Assignment}
 use Rattle.flow_graph.specs.declared.assignment.Write.{Write}
 use Rattle.flow_graph.specs.declared.side.Side.{Side}
@@ -477,12 +479,23 @@ module _ {A : Type 0} (a : Assignment A) (s : Scope) (xs : List Name) (rs : List
 
   pub assigns : Compiled s a.writes.items (kept targets rs) → a.last + 1 ≡ 2 ^ anys a.writes.items → Assigns a s xs rs
   assigns compiled count =
-      let most : a.last + 1 ≡ 2 ^ anys_in (kept targets rs) = count ∙ ap (λ n. 2 ^ n) (anys_same s a.writes.items (kept targets rs) compiled) in record {
-        reaches = λ gs ls vs g l values. let c = chosen s gs ls targets rs vs values in (c.0, omega (arith, c.1, most), ended gs ls vs c.0 compiled g l c.2);
-        only = λ gs ls i g l least. let c = given s gs ls targets rs i (omega (arith, least, most)) in (c.0, c.1, ended gs ls c.0 i compiled g l c.2);
-        once = λ gs ls i j g l h k same.
-            apart s gs ls targets rs i j (coded (gs ++ ls)) (coded (gs ++ ls)) (omega (arith, h, most)) (omega (arith, k, most))
-            (sym (run_same s gs ls a.writes.items (kept targets rs) i (coded (gs ++ ls)) g compiled) ∙ same ∙ run_same s gs ls a.writes.items (kept targets rs) j (coded (gs ++ ls)) g compiled);
+      let same_count = ap (λ n. 2 ^ n) (anys_same s a.writes.items (kept targets rs) compiled) in
+      let most : a.last + 1 ≡ 2 ^ anys_in (kept targets rs) = count ∙ same_count in record {
+        leads = λ v w wide. (
+          λ h.
+              let (i, (le, is)) = h in
+              let (vs, are, fits) = given s v.globals v.places targets rs i (omega (arith, le, most)) in
+              (vs, are, sym is ∙ ended v.globals v.places vs i compiled wide.0 wide.1 fits),
+          λ h.
+              let (vs, are, at) = h in
+              let (i, less, fits) = chosen s v.globals v.places targets rs vs are in
+              (i, (omega (arith, less, most), ended v.globals v.places vs i compiled wide.0 wide.1 fits ∙ sym at)),
+        );
+        once = λ v i j w wide one other.
+            let k = code v in
+            let ran = λ (n : ℕ). run_same s v.globals v.places a.writes.items (kept targets rs) n k wide.0 compiled in
+            apart s v.globals v.places targets rs i j k k (omega (arith, one.0, most)) (omega (arith, other.0, most))
+            (sym (ran i) ∙ one.1 ∙ sym other.1 ∙ ran j);
       }
 
 -- ---- compiling
@@ -490,8 +503,14 @@ module _ {A : Type 0} (a : Assignment A) (s : Scope) (xs : List Name) (rs : List
 pub anys_step : {A : Type 0} (ws : List (Write A)) (i : ℕ) (w : Write A) → i < length ws → w ≡ get_or ws i w → anys (drop i ws) ≡ any_of w.side + anys (drop (i + 1) ws)
 anys_step ws i w h e = ap anys (drop_more ws i w h) ∙ ap (λ x. any_of x.side + anys (drop (i + 1) ws)) (sym e)
 
-pub room : (n last : ℕ) → last + 1 ≡ 2 ^ n → n < 64 → last * 2 + 1 < 2 ^ 64
-room n last e h = let most : 2 ^ n ≤ 2 ^ 63 = pow_mono (let z : n ≤ 63 = omega (arith, h) in z) in omega (arith, e, most)
+-- where some write is still a `?`, the choices so far can be doubled
+pub one_more_fits : {A : Type 0} (ws : List (Write A)) (i last : ℕ) (w : Write A) →
+    (n : ℕ) × (last + 1 ≡ 2 ^ n) × (n + anys (drop i ws) ≡ anys ws) → i < length ws → w ≡ get_or ws i w →
+    any_of w.side ≡ 1 → anys ws ≤ most_places → last * 2 + 1 < 2 ^ 64
+one_more_fits ws i last w (n, count, all) inside is one few =
+    let step = anys_step ws i w inside is in
+    let most : 2 ^ n ≤ 2 ^ 63 = pow_mono (let z : n ≤ 63 = omega (arith, step, one, all, few) in z) in
+    omega (arith, count, most)
 
 -- the later targets that have a right side
 later_paired : {X Y Z R : Type 0} (f : Z → Option ℕ) (g : X → Z) (h : Y → R) (xs : List X) (ys : List Y) (n : ℕ) → n ≡ min (length xs) (length ys)

@@ -49,50 +49,64 @@ behind old left right new x y last e f h =
 length_joined : (x y : List Step) (last : Step) → length (x ++ (y ++ (last ∷ []))) ≡ length x + (length y + 1)
 length_joined x y last = length-append x (y ++ (last ∷ [])) ∙ ap (λ n. length x + n) (length-append y (last ∷ []))
 
+-- After two operands, the second on top, the step leaves the worth of the whole, and the whole needs what they need.
+record Joins (first second whole : Expression ℕ) (last : Step) : Type 0 where
+  pub gives : (f : ℕ → Bool) (rest : List Step) (stack : List Bool) →
+      after_steps f (last ∷ rest) (worth f second ∷ worth f first ∷ stack) ≡ after_steps f rest (worth f whole ∷ stack)
+  pub takes : (depth : ℕ) (rest : List Step) → IsShallow (suc depth) rest → IsShallow (suc (suc depth)) (last ∷ rest)
+  pub fits : need whole ≤ 64 → (need first ≤ need whole) × (need second + 1 ≤ need whole)
+  pub long : 2 ^ need whole ≤ 2 ^ need first + 2 ^ need second
+
+both_put : (first second whole : Expression ℕ) (last : Step) (old left right new : List Step) →
+    Joins first second whole last → Puts old left first → Puts left right second → new ≡ right ++ (last ∷ []) →
+    Puts old new whole
+both_put first second whole last old left right new joins (x, is_x, p) (y, is_y, q) e = (
+  x ++ (y ++ (last ∷ [])),
+  behind old left right new x y last is_x is_y e,
+  record {
+    puts = λ f rest stack.
+        ap (λ l. after_steps f l stack) (joined x y rest last)
+        ∙ p.puts f (y ++ (last ∷ rest)) stack
+        ∙ q.puts f (last ∷ rest) (worth f first ∷ stack)
+        ∙ joins.gives f rest stack;
+    shallow = λ depth rest fits deep.
+        let room = joins.fits (omega (arith, fits)) in
+        subst (IsShallow depth) (sym (joined x y rest last))
+        (p.shallow depth (y ++ (last ∷ rest)) (omega (arith, room, fits))
+        (q.shallow (suc depth) (last ∷ rest) (omega (arith, room, fits)) (joins.takes depth rest deep)));
+    long = omega (arith, joins.long, p.long, q.long, length_joined x y last);
+  },
+)
+
+-- an operator takes two values and leaves one
+taken : (depth : ℕ) (rest : List Step) → IsShallow (suc depth) rest →
+    (2 ≤ suc (suc depth)) × IsShallow (suc (suc depth) - 1) rest
+taken depth rest deep =
+    (omega arith, subst (λ d. IsShallow d rest) (let same : suc depth ≡ suc (suc depth) - 1 = omega arith in same) deep)
+
 module _ (a b : Expression ℕ) (op : Op) (old left right new : List Step) where
+  abbrev needed : Together (need a) (need b) (need (two (operator_of op) a b))
+  needed = together (need a) (need b)
+
   -- the left operand first
-  pub applied : need b ≤ need a → Puts old left a → Puts left right b → new ≡ right ++ (Apply op ∷ []) → Puts old new (two (operator_of op) a b)
-  applied le p q e =
-      let x = p.0 in
-      let y = q.0 in
-      let t = together (need a) (need b) in (
-        x ++ (y ++ (Apply op ∷ [])),
-        behind old left right new x y (Apply op) p.1 q.1 e,
-        record {
-          puts = λ f rest stack.
-              ap (λ l. after_steps f l stack) (joined x y rest (Apply op))
-              ∙ p.2.puts f (y ++ (Apply op ∷ rest)) stack
-              ∙ q.2.puts f (Apply op ∷ rest) (worth f a ∷ stack);
-          shallow = λ depth rest fits deep.
-              subst (IsShallow depth) (sym (joined x y rest (Apply op)))
-              (p.2.shallow depth (y ++ (Apply op ∷ rest)) (let n = (t.first (omega (arith, fits)) le).0 in omega (arith, n, fits))
-              (q.2.shallow (suc depth) (Apply op ∷ rest) (let n = (t.first (omega (arith, fits)) le).1 in omega (arith, n, fits))
-              (omega arith, subst (λ d. IsShallow d rest) (let same : suc depth ≡ suc (suc depth) - 1 = omega arith in same) deep)));
-          long = omega (arith, t.long, p.2.long, q.2.long, length_joined x y (Apply op));
-        },
-      )
+  pub applied : need b ≤ need a → Puts old left a → Puts left right b → new ≡ right ++ (Apply op ∷ []) →
+      Puts old new (two (operator_of op) a b)
+  applied le = both_put a b _ (Apply op) old left right new record {
+    gives = λ f rest stack. refl;
+    takes = taken;
+    fits = λ fits. needed.first fits le;
+    long = needed.long;
+  }
 
   -- the right operand first
-  pub swapped : need a < need b → Puts old left b → Puts left right a → new ≡ right ++ (ApplySwapped op ∷ []) → Puts old new (two (operator_of op) a b)
-  swapped less p q e =
-      let x = p.0 in
-      let y = q.0 in
-      let t = together (need a) (need b) in (
-        x ++ (y ++ (ApplySwapped op ∷ [])),
-        behind old left right new x y (ApplySwapped op) p.1 q.1 e,
-        record {
-          puts = λ f rest stack.
-              ap (λ l. after_steps f l stack) (joined x y rest (ApplySwapped op))
-              ∙ p.2.puts f (y ++ (ApplySwapped op ∷ rest)) stack
-              ∙ q.2.puts f (ApplySwapped op ∷ rest) (worth f b ∷ stack);
-          shallow = λ depth rest fits deep.
-              subst (IsShallow depth) (sym (joined x y rest (ApplySwapped op)))
-              (p.2.shallow depth (y ++ (ApplySwapped op ∷ rest)) (let n = (t.second (omega (arith, fits)) less).0 in omega (arith, n, fits))
-              (q.2.shallow (suc depth) (ApplySwapped op ∷ rest) (let n = (t.second (omega (arith, fits)) less).1 in omega (arith, n, fits))
-              (omega arith, subst (λ d. IsShallow d rest) (let same : suc depth ≡ suc (suc depth) - 1 = omega arith in same) deep)));
-          long = omega (arith, t.long, p.2.long, q.2.long, length_joined x y (ApplySwapped op));
-        },
-      )
+  pub swapped : need a < need b → Puts old left b → Puts left right a → new ≡ right ++ (ApplySwapped op ∷ []) →
+      Puts old new (two (operator_of op) a b)
+  swapped less = both_put b a _ (ApplySwapped op) old left right new record {
+    gives = λ f rest stack. refl;
+    takes = taken;
+    fits = λ fits. needed.second fits less;
+    long = omega (arith, needed.long);
+  }
 
 -- The steps of an expression alone are shallow: a need above 64 would take more than 2^64 of them.
 pub shallow_alone : (e : Expression ℕ) (old new : List Step) → Puts old new e → old ≡ [] → length new < 2 ^ 64 → IsShallow 0 new

@@ -1,18 +1,21 @@
 -- Flows that do what happens at nodes.
-use Rattle.std.proofs.Common.{◌≡◌, ◌≤◌, ◌<◌, ℕ, zero, suc, ◌+◌, Bool, true, false, cond, Option, Some, List, [], ◌∷◌, ◌++◌, length, map, refl, sym, ◌∙◌, ap, subst, arith, ◌*◌, ◌^◌, ◌⊎◌, inl, inr}
+use Rattle.std.proofs.Common.{◌≡◌, ◌≤◌, ◌<◌, ℕ, zero, suc, ◌+◌, Bool, true, false, cond, Option, Some, List, [], ◌∷◌}
+use Rattle.std.proofs.Common.{◌++◌, length, map, refl, sym, ◌∙◌, ap, subst, arith, ◌*◌, ◌^◌, ◌⊎◌, inl, inr}
+use Rattle.std.proofs.lemmas.List.{length-map}
 use Rattle.std.proofs.Math.Nat.{mul_comm}
 use Rattle.std.proofs.lemmas.Option.{none-some, same_Some}
 use Rattle.std.proofs.lemmas.Bool.{true≢false}
 use Rattle.language.specs.Tree.{Name, Expression, RightSide, any, value}
-use Rattle.language.specs.Value.{Place, value_of, values_of, IsValue, written_globals, written_locals}
+use Rattle.language.specs.Value.{Place, value_of, values_of, IsValue}
 use Rattle.language.specs.Resolve.{Scope, place_of, resolve_side}
 use Rattle.language.specs.Sequential.{Valuation}
 use Rattle.language.proofs.Lengths.{length_values}
 use Rattle.flow_graph.specs.Bits.{bit_of, worth_of, coded}
 use Rattle.flow_graph.specs.Formulas.{says, SaysSide}
-use Rattle.flow_graph.specs.Assignments.{assigned, Assigns}
+use Rattle.flow_graph.specs.Assignments.{assigned}
+use Rattle.flow_graph.specs.Assigning.{Assigns, after_values}
 use Rattle.flow_graph.specs.Nodes.{goes, stops, tests, assigns, calls, returns}
-use Rattle.flow_graph.specs.Flows.{code, HasWidths, Does}
+use Rattle.flow_graph.specs.Flows.{code, Widths, widths_of, HasWidths, Does}
 use Rattle.flow_graph.proofs.Rows.{first_bit}
 use Rattle.flow_graph.specs.declared.side.Side.{Side}
 use Rattle.flow_graph.specs.declared.side.Side.TheVariants as side
@@ -34,36 +37,47 @@ same_second : (a b c d : ℕ) → ◌≡◌ {A = Option (ℕ × ℕ)} (Some (a, 
 same_second a b c d e = ap (λ (z : ℕ × ℕ). z.1) (same_Some (a, b) (c, d) e)
 
 -- a flow on without a write does a test whose two points are one
-pub does_same : {A : Type 0} (f : Flow A) (r : RightSide Place) (j k g l m : ℕ) → j ≡ k → Does f (goes j) g l m → Does f (tests r j k) g l m
-does_same {A} f r j k g l m e d = record {
-  reaches = λ v v' n wide (b, is, to, same). d.reaches v v' n wide ([], tt, to ∙ at_j b, same);
-  only = λ v i n w wide le h. let (v', (vs, are, to, same), is) = d.only v i n w wide le h in (v', has r v to same, is);
+pub does_same : {A : Type 0} (f : Flow A) (r : RightSide Place) (j k : ℕ) (w : Widths) → j ≡ k → Does f (goes j) w →
+    Does f (tests r j k) w
+does_same {A} f r j k w e d = record {
+  leads = λ v n m wide. (
+    λ h. let (v', (vs, are, to, same), is) = (d.leads v n m wide).0 h in (v', has r v to same, is),
+    λ h. let (v', (b, is, to, same), at) = h in (d.leads v n m wide).1 (v', ([], tt, to ∙ at_j b, same), at),
+  );
   once = d.once;
-  enters = λ v args q n wide asks less few. absurd asks;
-  entered = λ v q e n wide h. absurd (d.entered v q e n wide h).1;
+  enters = λ v s e n wide. (λ h. absurd ((d.enters v s e n wide).0 h).1, λ h. absurd h.1);
 }
   where
     at_j : (b : Bool) → cond b j k ≡ j
     at_j true = refl
     at_j false = sym e
 
-    has : (r : RightSide Place) (v : Valuation) {n : ℕ} {v' : Valuation} → n ≡ j → v' ≡ v → (b : Bool) × IsValue v.globals v.places r b × (n ≡ cond b j k) × (v' ≡ v)
+    has : (r : RightSide Place) (v : Valuation) {n : ℕ} {v' : Valuation} → n ≡ j → v' ≡ v →
+        (b : Bool) × IsValue v.globals v.places r b × (n ≡ cond b j k) × (v' ≡ v)
     has any v to same = (true, tt, to, same)
-    has (value x) v to same = (value_of v.globals v.places x, refl, to ∙ sym (at_j (value_of v.globals v.places x)), same)
+    has (value x) v to same =
+        let b = value_of v.globals v.places x in
+        (b, refl, to ∙ sym (at_j b), same)
 
-pub does_assigns : {A : Type 0} (a : Assignment A) (s : Scope) (xs : List Name) (rs : List (RightSide Name)) (to m : ℕ) → Assigns a s xs rs →
-    Does (Assign a to) (assigns (map (place_of s) xs) (map (resolve_side s) rs) to) (length s.globals) (length s.locals) m
-does_assigns {A} a s xs rs to m d = record {
-  reaches = λ v v' n wide (vs, are, is, same). let (i, le, next) = d.reaches v.globals v.places vs wide.0 wide.1 are in (i, le, λ t. Some (sym is t, (next ∙ ap code (sym same)) t));
-  only = λ v i n w wide le h.
-      let (vs, are, next) = d.only v.globals v.places i wide.0 wide.1 le in (
-        record { globals = written_globals (map (place_of s) xs) vs v.globals; places = written_locals (map (place_of s) xs) vs v.places },
-        (vs, are, sym (same_first to (assigned a (code v) i) n w h), refl),
-        sym (same_second to (assigned a (code v) i) n w h) ∙ next,
-      );
-  once = λ v i j x wide le lj hi hj. d.once v.globals v.places i j wide.0 wide.1 le lj (same_second to (assigned a (code v) i) to (assigned a (code v) j) (hi ∙ sym hj));
-  enters = λ v args q n wide asks less few. absurd asks;
-  entered = λ v q e n wide h. absurd (none-some _ h);
+pub does_assigns : {A : Type 0} (a : Assignment A) (s : Scope) (xs : List Name) (rs : List (RightSide Name)) (to : ℕ) →
+    Assigns a s xs rs →
+    Does (Assign a to) (assigns (map (place_of s) xs) (map (resolve_side s) rs) to) (widths_of s)
+does_assigns {A} a s xs rs to d = record {
+  leads = λ v n w wide. (
+    λ h.
+        let (i, (le, is)) = h in
+        let next = assigned a (code v) i in
+        let (vs, are, at) = (d.leads v w wide).0 (i, (le, same_second to next n w is)) in
+        (after_values s xs vs v, (vs, are, sym (same_first to next n w is), refl), at),
+    λ h.
+        let (v', (vs, are, is, same), at) = h in
+        let (i, (le, next)) = (d.leads v w wide).1 (vs, are, at ∙ ap code same) in
+        (i, (le, λ t. Some (sym is t, next t))),
+  );
+  once = λ v i j n w wide one other.
+      d.once v i j w wide (one.0, same_second to (assigned a (code v) i) n w one.1)
+      (other.0, same_second to (assigned a (code v) j) n w other.1);
+  enters = λ v s e n wide. (λ h. absurd (none-some _ h), λ h. absurd h.1);
 }
 
 -- the choice of a value
@@ -83,39 +97,62 @@ one_choice (suc zero) (suc zero) a b ne le lj e = refl
 one_choice (suc (suc i)) j a b ne le lj e = absurd (omega (arith, le))
 one_choice i (suc (suc j)) a b ne le lj e = absurd (omega (arith, lj))
 
-pub does_tests : {A : Type 0} (sd : Side A) (r : RightSide Name) (s : Scope) (j k m : ℕ) → (j ≡ k → ⊥) → SaysSide sd s r →
-    Does (Test sd j k) (tests (resolve_side s r) j k) (length s.globals) (length s.locals) m
-does_tests side.Any any s j k m ne d = record {
-  reaches = λ v v' n wide (b, is, to, same). (chosen b, chosen_small b, λ t. Some ((ap (λ x. cond x j k) (first_bit b 0) ∙ sym to) t, ap code (sym same) t));
-  only = λ v i n w wide le h. (v, (bit_of i 0, tt, sym (same_first (cond (bit_of i 0) j k) (code v) n w h), refl), sym (same_second (cond (bit_of i 0) j k) (code v) n w h));
-  once = λ v i i' x wide le lj hi hj. one_choice i i' j k ne le lj (same_first (cond (bit_of i 0) j k) (code v) (cond (bit_of i' 0) j k) (code v) (hi ∙ sym hj));
-  enters = λ v args q n wide asks less few. absurd asks;
-  entered = λ v q e n wide h. absurd (none-some _ h);
+pub does_tests : {A : Type 0} (sd : Side A) (r : RightSide Name) (s : Scope) (j k : ℕ) → (j ≡ k → ⊥) → SaysSide sd s r →
+    Does (Test sd j k) (tests (resolve_side s r) j k) (widths_of s)
+does_tests side.Any any s j k ne d = record {
+  leads = λ v n w wide. (
+    λ h.
+        let (i, (le, is)) = h in
+        let to = cond (bit_of i 0) j k in
+        (v, (bit_of i 0, tt, sym (same_first to (code v) n w is), refl), sym (same_second to (code v) n w is)),
+    λ h.
+        let (v', (b, is, to, same), at) = h in
+        let here = ap (λ x. cond x j k) (first_bit b 0) ∙ sym to in
+        (chosen b, (chosen_small b, λ t. Some (here t, (ap code (sym same) ∙ sym at) t))),
+  );
+  once = λ v i i' n w wide one other.
+      one_choice i i' j k ne one.0 other.0
+      (same_first (cond (bit_of i 0) j k) (code v) (cond (bit_of i' 0) j k) (code v) (one.1 ∙ sym other.1));
+  enters = λ v s e n wide. (λ h. absurd (none-some _ h), λ h. absurd h.1);
 }
-does_tests side.Any (value e) s j k m ne d = absurd d
-does_tests (side.Value f) any s j k m ne d = absurd d
-does_tests (side.Value f) (value e) s j k m ne d = record {
-  reaches = λ v v' n wide (b, is, to, same). (0, omega arith, λ t. Some ((ap (λ x. cond x j k) (d v.globals v.places wide.0 ∙ sym is) ∙ sym to) t, ap code (sym same) t));
-  only = λ v i n w wide le h. (v, (says f (code v), d v.globals v.places wide.0, sym (same_first (cond (says f (code v)) j k) (code v) n w h), refl), sym (same_second (cond (says f (code v)) j k) (code v) n w h));
-  once = λ v i i' x wide le lj hi hj. omega (arith, le, lj);
-  enters = λ v args q n wide asks less few. absurd asks;
-  entered = λ v q e' n wide h. absurd (none-some _ h);
+does_tests side.Any (value e) s j k ne d = absurd d
+does_tests (side.Value f) any s j k ne d = absurd d
+does_tests (side.Value f) (value e) s j k ne d = record {
+  leads = λ v n w wide. (
+    λ h.
+        let (i, (le, is)) = h in
+        let b = says f (code v) in
+        let to = cond b j k in (
+          v,
+          (b, d v.globals v.places wide.0, sym (same_first to (code v) n w is), refl),
+          sym (same_second to (code v) n w is),
+        ),
+    λ h.
+        let (v', (b, is, to, same), at) = h in
+        let here = ap (λ x. cond x j k) (d v.globals v.places wide.0 ∙ sym is) ∙ sym to in
+        (0, (omega arith, λ t. Some (here t, (ap code (sym same) ∙ sym at) t))),
+  );
+  once = λ v i i' n w wide one other. omega (arith, one.0, other.0);
+  enters = λ v s e n wide. (λ h. absurd (none-some _ h), λ h. absurd h.1);
 }
 
 -- a flow on which no run goes on does a call that no run makes
-pub does_no_call : {A : Type 0} (f : Flow A) (p : ℕ) (es : List (Expression Place)) (k g l m : ℕ) →
-    ((p < m → ⊥) ⊎ (g + length es ≤ most_places → ⊥)) → Does f stops g l m → Does f (calls p es k) g l m
-does_no_call f p es k g l m ne d = record {
-  reaches = λ v v' n wide h. absurd h;
-  only = λ v i n w wide le h. absurd (true≢false (d.only v i n w wide le h).1.0);
+pub does_no_call : {A : Type 0} (f : Flow A) (p : ℕ) (es : List (Expression Place)) (k : ℕ) (w : Widths) →
+    ((p < w.procedures → ⊥) ⊎ (w.globals + length es ≤ most_places → ⊥)) → Does f stops w → Does f (calls p es k) w
+does_no_call f p es k w ne d = record {
+  leads = λ v n m wide. (λ h. absurd (true≢false ((d.leads v n m wide).0 h).1.0), λ h. absurd h.1);
   once = d.once;
-  enters = λ v args q n wide (is, same, to) less few. absurd
-      (refused (subst (λ z. z < m) is less)
-      (subst (λ z. g + z ≤ most_places) (ap length same ∙ length_values v.globals v.places es) few) ne);
-  entered = λ v q e n wide h. absurd (d.entered v q e n wide h).1;
+  enters = λ v q e n wide. (
+    λ h. absurd ((d.enters v q e n wide).0 h).1,
+    λ h.
+        let (args, (is, same, to), less, few, at) = h in
+        let count = ap length same ∙ length_values v.globals v.places es in
+        absurd (refused (subst (λ z. z < w.procedures) is less) (omega (arith, few, count, wide.0)) ne),
+  );
 }
   where
-    refused : p < m → g + length es ≤ most_places → ((p < m → ⊥) ⊎ (g + length es ≤ most_places → ⊥)) → ⊥
+    refused : p < w.procedures → w.globals + length es ≤ most_places →
+        ((p < w.procedures → ⊥) ⊎ (w.globals + length es ≤ most_places → ⊥)) → ⊥
     refused a b (inl h) = h a
     refused a b (inr h) = h b
 
@@ -133,33 +170,48 @@ entry_code fs s es v all e =
     mul_comm (2 ^ length s.globals) (coded (map (λ f. says f (code v)) fs)) ∙ λ t. said t * 2 ^ sym e t in
     omega (arith, low, whole, above)
 
-pub does_calls : {A : Type 0} (c : Call A) (p : ℕ) (es : List (Expression Place)) (s : Scope) (m : ℕ) → c.callee ≡ p → c.globals ≡ length s.globals → p < m → AllSay c.arguments.items s es →
-    Does (flow.Call c) (calls p es c.back) (length s.globals) (length s.locals) m
-does_calls {A} c p es s m to_p globals there all = record {
-  reaches = λ v v' n wide h. absurd h;
-  only = λ v i n w wide le h. absurd (none-some _ h);
-  once = λ v i j x wide le lj hi hj. absurd (none-some _ hi);
-  enters = λ v args q n wide (is, same, back) less few. λ t. Some ((to_p ∙ sym is) t, (entry v wide ∙ ap (λ bs. coded (v.globals ++ bs)) (sym same)) t, sym back t);
-  entered = λ v q e n wide h.
-      let part : ◌≡◌ {A = ℕ × ℕ × ℕ} (c.callee, entry_of c.globals c.arguments.items (code v), c.back) (q, e, n) = same_Some _ _ h in (
-        values_of v.globals v.places es,
-        (sym (ap (λ (z : ℕ × ℕ × ℕ). z.0) part) ∙ to_p, refl, sym (ap (λ (z : ℕ × ℕ × ℕ). z.2) part)),
-        subst (λ z. z < m) (sym to_p ∙ ap (λ (z : ℕ × ℕ × ℕ). z.0) part) there,
-        sym (ap (λ (z : ℕ × ℕ × ℕ). z.1) part) ∙ entry v wide,
-      );
+pub does_calls : {A : Type 0} (c : Call A) (p : ℕ) (es : List (Expression Place)) (s : Scope) → c.callee ≡ p →
+    c.globals ≡ length s.globals → p < length s.procedures → AllSay c.arguments.items s es →
+    Does (flow.Call c) (calls p es c.back) (widths_of s)
+does_calls {A} c p es s to_p globals there all = record {
+  leads = λ v n w wide. (λ h. absurd (none-some _ h.1.1), λ h. absurd h.1);
+  once = λ v i j n w wide one other. absurd (none-some _ one.1);
+  enters = λ v q e n wide. (
+    λ h.
+        let entry_number = entry_of c.globals c.arguments.items (code v) in
+        let part : ◌≡◌ {A = ℕ × ℕ × ℕ} (c.callee, entry_number, c.back) (q, e, n) = same_Some _ _ h in
+        let to : p ≡ q = sym to_p ∙ ap (λ (z : ℕ × ℕ × ℕ). z.0) part in (
+          values_of v.globals v.places es,
+          (sym to, refl, sym (ap (λ (z : ℕ × ℕ × ℕ). z.2) part)),
+          subst (λ z. z < length s.procedures) to there,
+          room v wide,
+          sym (ap (λ (z : ℕ × ℕ × ℕ). z.1) part) ∙ entry v wide,
+        ),
+    λ h.
+        let (args, (is, same, back), less, few, at) = h in
+        let enters = entry v wide ∙ ap (λ bs. coded (v.globals ++ bs)) (sym same) ∙ sym at in
+        λ t. Some ((to_p ∙ sym is) t, enters t, sym back t),
+  );
 }
   where
-    entry : (v : Valuation) → HasWidths (length s.globals) (length s.locals) v → entry_of c.globals c.arguments.items (code v) ≡ coded (v.globals ++ values_of v.globals v.places es)
-    entry v wide = ap (λ n. entry_of n c.arguments.items (code v)) globals ∙ entry_code c.arguments.items s es v all wide.0
+    entry : (v : Valuation) → HasWidths (widths_of s) v →
+        entry_of c.globals c.arguments.items (code v) ≡ coded (v.globals ++ values_of v.globals v.places es)
+    entry v wide =
+        ap (λ n. entry_of n c.arguments.items (code v)) globals ∙ entry_code c.arguments.items s es v all wide.0
+
+    room : (v : Valuation) → HasWidths (widths_of s) v →
+        length v.globals + length (values_of v.globals v.places es) ≤ most_places
+    room v wide =
+        let said = ap length (all v.globals v.places wide.0) in
+        let count = length-map c.arguments.items (λ f. says f (code v)) in
+        omega (arith, c.fits, globals, wide.0, said, count)
 
 -- at the exit nothing happens inside the call
-pub does_return : {A : Type 0} (g l m : ℕ) → Does {A = A} flow.Return returns g l m
-does_return g l m = record {
-  reaches = λ v v' n wide h. absurd h;
-  only = λ v i n w wide le h. absurd (none-some _ h);
-  once = λ v i j x wide le lj hi hj. absurd (none-some _ hi);
-  enters = λ v args q n wide asks less few. absurd asks;
-  entered = λ v q e n wide h. absurd (none-some _ h);
+pub does_return : {A : Type 0} (w : Widths) → Does {A = A} flow.Return returns w
+does_return w = record {
+  leads = λ v n k wide. (λ h. absurd (none-some _ h.1.1), λ h. absurd h.1);
+  once = λ v i j n k wide one other. absurd (none-some _ one.1);
+  enters = λ v s e n wide. (λ h. absurd (none-some _ h), λ h. absurd h.1);
 }
 
 -- one formula more says one value more

@@ -1,5 +1,6 @@
 -- A graph whose flows do what happens at the points of a procedure's body has the procedure's steps.
-use Rattle.std.proofs.Common.{◌≡◌, ◌≤◌, ◌+◌, ◌-◌, ℕ, zero, suc, Bool, Option, Some, None, option_map, List, [], ◌∷◌, ◌++◌, length, map, slice_get, inl, inr, refl, sym, ◌∙◌, ap, subst, arith, ◌*◌, ◌⊎◌, get_or, length-append}
+use Rattle.std.proofs.Common.{◌≡◌, ◌↔◌, ◌≤◌, ◌+◌, ◌-◌, ℕ, zero, suc, Bool, Option, Some, None, option_map, List, [], ◌∷◌, ◌++◌, length}
+use Rattle.std.proofs.Common.{map, slice_get, inl, inr, refl, sym, ◌∙◌, ap, subst, arith, ◌*◌, ◌⊎◌, get_or, length-append}
 use Rattle.std.proofs.lemmas.List.{length-map, append_assoc}
 use Rattle.std.proofs.lemmas.Option.{none-some, same_Some, slice_get-map, slice_get-get_or, slice_get_within}
 use Rattle.language.specs.Tree.{Mark, Expression, skip, assign, assert, assume, goto, leave, call, done, one, choose, loop, Procedure}
@@ -23,9 +24,9 @@ use Rattle.scopes.specs.Resolves.{Resolves}
 use Rattle.round_rewrite.specs.Narrow.{AllNarrow}
 use Rattle.round_rewrite.proofs.Sequences.{sequential_routine, resolving_fit, routines_counted, routine_at, narrow_places}
 use Rattle.flow_graph.specs.Bits.{worth_of, coded}
-use Rattle.flow_graph.specs.Nodes.{Node, number, point_at, node_of, nodes_of, goes_to, NodeCalls}
-use Rattle.flow_graph.specs.Flows.{code, entered_by, HasWidths, Does, AllDo, Lowered}
-use Rattle.flow_graph.specs.Graphs.{HasSteps, AtFlow, IsGraph}
+use Rattle.flow_graph.specs.Nodes.{Node, number, point_at, node_of, nodes_of, goes_to, Leads, NodeCalls}
+use Rattle.flow_graph.specs.Flows.{code, Widths, widths_of, HasWidths, NodeEnters, Does, AllDo, Lowered}
+use Rattle.flow_graph.specs.Graphs.{StepEnters, HasSteps, AtFlow, IsGraph}
 use Rattle.flow_graph.specs.Drawing as drawing
 use Rattle.flow_graph.specs.Drawing.{Draws, HasRoom, names_in}
 use Rattle.flow_graph.specs.declared.flow.Flow.{Flow}
@@ -36,17 +37,18 @@ use Rattle.flow_graph.proofs.Doing.{does_return}
 use Rattle.round_rewrite.specs.Limits.{most_places}
 
 -- the flow at a place does what happens at the node there
-all_do_at : {A : Type 0} (fs : List (Flow A)) (ns : List Node) (g l m i : ℕ) (n : Node) → AllDo fs ns g l m → slice_get ns i ≡ Some n → (f : Flow A) × (slice_get fs i ≡ Some f) × Does f n g l m
-all_do_at fs [] g l m i n a e = absurd (none-some _ e)
-all_do_at [] (x ∷ ns) g l m i n a e = absurd a
-all_do_at (f ∷ fs) (x ∷ ns) g l m zero n a e = (f, refl, subst (λ z. Does f z g l m) (same_Some x n e) a.0)
-all_do_at (f ∷ fs) (x ∷ ns) g l m (suc i) n a e = all_do_at fs ns g l m i n a.1 e
+all_do_at : {A : Type 0} (fs : List (Flow A)) (ns : List Node) (w : Widths) (i : ℕ) (n : Node) → AllDo fs ns w →
+    slice_get ns i ≡ Some n → (f : Flow A) × (slice_get fs i ≡ Some f) × Does f n w
+all_do_at fs [] w i n a e = absurd (none-some _ e)
+all_do_at [] (x ∷ ns) w i n a e = absurd a
+all_do_at (f ∷ fs) (x ∷ ns) w zero n a e = (f, refl, subst (λ z. Does f z w) (same_Some x n e) a.0)
+all_do_at (f ∷ fs) (x ∷ ns) w (suc i) n a e = all_do_at fs ns w i n a.1 e
 
-all_do_length : {A : Type 0} (fs : List (Flow A)) (ns : List Node) (g l m : ℕ) → AllDo fs ns g l m → length fs ≡ length ns
-all_do_length [] [] g l m a = refl
-all_do_length [] (n ∷ ns) g l m a = absurd a
-all_do_length (f ∷ fs) [] g l m a = absurd a
-all_do_length (f ∷ fs) (n ∷ ns) g l m a = ap suc (all_do_length fs ns g l m a.1)
+all_do_length : {A : Type 0} (fs : List (Flow A)) (ns : List Node) (w : Widths) → AllDo fs ns w → length fs ≡ length ns
+all_do_length [] [] w a = refl
+all_do_length [] (n ∷ ns) w a = absurd a
+all_do_length (f ∷ fs) [] w a = absurd a
+all_do_length (f ∷ fs) (n ∷ ns) w a = ap suc (all_do_length fs ns w a.1)
 
 -- a member has a place
 member_place : {A : Type 0} (x : A) (xs : List A) → Member x xs → (i : ℕ) × (slice_get xs i ≡ Some x)
@@ -91,53 +93,74 @@ module _ (body : Code) (v : Valuation) (s n : ℕ) (args : List Bool) where
   asks_shape (choose m c a b t) h = absurd h
   asks_shape (loop m c a t) h = absurd h
 
+-- the widths of a procedure of the program
+abbrev widths_in : Program → Routine → Widths
+widths_in p routine = record { globals = p.globals; places = routine.places; procedures = length p.routines }
+
 module _ (p : Program) (q : ℕ) (routine : Routine) (there : slice_get p.routines q ≡ Some routine) (fit : ArgumentsFit p)
     (narrow : (s : ℕ) (r : Routine) → slice_get p.routines s ≡ Some r → p.globals + r.places ≤ most_places) where
-  wide : (v : Valuation) → IsValuationOf p q v → HasWidths p.globals routine.places v
+  abbrev body : Code
+  body = body_of (slice_get p.routines q)
+
+  wide : (v : Valuation) → IsValuationOf p q v → HasWidths (widths_in p routine) v
   wide v w = (w.0, subst (λ o. AtRoutine o (λ r. length v.places ≡ r.places)) there w.1)
 
-  module _ {A : Type 0} (f : Flow A) (r : Code) (rest : IsRestOf (body_of (slice_get p.routines q)) r)
-      (d : Does f (node_of (body_of (slice_get p.routines q)) r) p.globals routine.places (length p.routines)) where
-    enters : (v a : Valuation) (s : ℕ) → IsValuationOf p q v → Calls p v.globals v.places r s a →
-        entered_by f (code v) ≡ Some (s, code a, point_at (after_first r))
-    enters v a s w calls =
-        let (m, es, t, same, h) = call_shape p v.globals v.places r s a calls in
-        let args = values_of v.globals v.places es in
-        let (callee, is, made) = routine_found (slice_get p.routines s) (λ z. a ≡ record { globals = v.globals; places = fresh z.places args }) h in
-        let room : length es ≤ callee.places = subst (λ o. AtRoutine o (λ z. length es ≤ z.places)) is (fit q s m es t (subst (IsRestOf (body_of (slice_get p.routines q))) same rest)) in
-        let asks : NodeCalls (node_of (body_of (slice_get p.routines q)) r) v s args (point_at (after_first r)) =
-        subst (λ z. NodeCalls (node_of (body_of (slice_get p.routines q)) z) v s args (point_at (after_first z)))
-        (sym same) (refl, refl, refl) in
-        let few = narrow s callee is in
-        d.enters v args s (point_at (after_first r)) (wide v w) asks (slice_get_within p.routines s callee is)
-        (omega (arith, few, room, length_values v.globals v.places es))
-        ∙ ap (λ k. Some (s, k, point_at (after_first r))) (sym (ap code made ∙ coded_fresh v.globals callee.places args))
+  -- what a node calls is what a step enters
+  node_enters : (r : Code) → IsRestOf body r → (v : Valuation) (s e n : ℕ) → IsValuationOf p q v →
+      NodeEnters (node_of body r) (length p.routines) v s e n ↔ StepEnters p r v s e n
+  node_enters r rest v s e n w = (there_too, back)
+    where
+      there_too : NodeEnters (node_of body r) (length p.routines) v s e n → StepEnters p r v s e n
+      there_too (args, asks, less, few, is) =
+          let (m, es, t, same, are, to) = asks_shape body v s n args r asks in
+          let callee = get_or p.routines s routine in
+          let found : slice_get p.routines s ≡ Some callee = slice_get-get_or p.routines s routine less in
+          let values = values_of v.globals v.places es in
+          let a : Valuation = record { globals = v.globals; places = fresh callee.places values } in
+          let Is : Routine → Type 0 = λ z. a ≡ record { globals = v.globals; places = fresh z.places values } in (
+            a,
+            subst (λ z. Calls p v.globals v.places z s a) (sym same)
+                (refl, subst (λ o. AtRoutine o Is) (sym found) refl),
+            is ∙ ap (λ bs. coded (v.globals ++ bs)) are ∙ sym (coded_fresh v.globals callee.places values),
+            to ∙ ap (λ z. point_at (after_first z)) (sym same),
+          )
 
-    entered : (v : Valuation) (s e n : ℕ) → IsValuationOf p q v → entered_by f (code v) ≡ Some (s, e, n) →
-        (a : Valuation) × Calls p v.globals v.places r s a × (e ≡ code a) × (n ≡ point_at (after_first r))
-    entered v s e n w h =
-        let (args, asks, less, is) = d.entered v s e n (wide v w) h in
-        let (m, es, t, same, are, to) = asks_shape (body_of (slice_get p.routines q)) v s n args r asks in
-        let callee = get_or p.routines s routine in
-        let found : slice_get p.routines s ≡ Some callee = slice_get-get_or p.routines s routine less in
-        let a : Valuation = record { globals = v.globals; places = fresh callee.places (values_of v.globals v.places es) } in (
-          a,
-          subst (λ z. Calls p v.globals v.places z s a) (sym same) (refl, subst (λ o. AtRoutine o (λ z. a ≡ record { globals = v.globals; places = fresh z.places (values_of v.globals v.places es) })) (sym found) refl),
-          is ∙ ap (λ bs. coded (v.globals ++ bs)) are ∙ sym (coded_fresh v.globals callee.places (values_of v.globals v.places es)),
-          to ∙ ap (λ z. point_at (after_first z)) (sym same),
-        )
+      back : StepEnters p r v s e n → NodeEnters (node_of body r) (length p.routines) v s e n
+      back (a, calls, is, to) =
+          let (m, es, t, same, h) = call_shape p v.globals v.places r s a calls in
+          let args = values_of v.globals v.places es in
+          let Is : Routine → Type 0 = λ z. a ≡ record { globals = v.globals; places = fresh z.places args } in
+          let (callee, found, made) = routine_found (slice_get p.routines s) Is h in
+          let at_call = fit q s m es t (subst (IsRestOf body) same rest) in
+          let room : length es ≤ callee.places = subst (λ o. AtRoutine o (λ z. length es ≤ z.places)) found at_call in
+          let few = narrow s callee found in
+          let at = ap (λ z. point_at (after_first z)) same in (
+            args,
+            subst (λ z. NodeCalls (node_of body z) v s args n) (sym same) (refl, refl, to ∙ at),
+            slice_get_within p.routines s callee found,
+            omega (arith, few, room, length_values v.globals v.places es, w.0),
+            is ∙ ap code made ∙ coded_fresh v.globals callee.places args,
+          )
 
-    has_steps : HasSteps p q r f
-    has_steps = record {
-      reaches = λ v v' r' w flow. d.reaches v v' (point_at r') (wide v w) (flow_leads p q v v' r r' flow);
-      only = λ v i n k w le h.
-          let (v', leads, is) = d.only v i n k (wide v w) le h in
+  has_steps : {A : Type 0} (f : Flow A) (r : Code) → IsRestOf body r → Does f (node_of body r) (widths_in p routine) →
+      HasSteps p q r f
+  has_steps f r rest d = record {
+    leads = λ v n k w. (
+      λ h.
+          let (v', leads, is) = (d.leads v n k (wide v w)).0 h in
           let (r', flow, to) = lead_flows p q v v' r n leads in
-          (v', r', flow, to, is);
-      once = λ v i j x w le lj hi hj. d.once v i j x (wide v w) le lj hi hj;
-      enters = enters;
-      entered = entered;
-    }
+          (v', r', flow, to, is),
+      λ h.
+          let (v', r', flow, to, is) = h in
+          (d.leads v n k (wide v w)).1
+          (v', subst (λ z. Leads (node_of body r) v z v') (sym to) (flow_leads p q v v' r r' flow), is),
+    );
+    once = λ v i j n k w. d.once v i j n k (wide v w);
+    enters = λ v s e n w. (
+      λ h. (node_enters r rest v s e n w).0 ((d.enters v s e n (wide v w)).0 h),
+      λ h. (d.enters v s e n (wide v w)).1 ((node_enters r rest v s e n w).1 h),
+    );
+  }
 
 -- a drawn graph is that of the procedure of its number
 pub drawn_graph : {N A : Type 0} (t : tree.Program N) (q : ℕ) (proc : Proc N) (graph : Graph A) → Resolves (tree_of t) → AllNarrow (tree_of t) → slice_get t.procs.items q ≡ Some proc → Draws t proc graph →
@@ -146,7 +169,7 @@ drawn_graph {N} {A} t q proc graph resolves narrow is draws = record {
   globals = draws.0;
   start = draws.1 ∙ ap point_at (sym same);
   points =
-      all_do_length graph.flows.items (nodes_of body) _ _ _ draws.2
+      all_do_length graph.flows.items (nodes_of body) _ draws.2
       ∙ ap suc (length-map (rests body done) (node_of body) ∙ sym (numbers_counted body))
       ∙ ap (λ b. suc (statements b)) (sym same);
   steps = λ r rest. flow_at r (subst (λ b. IsRestOf b r) same rest);
@@ -174,11 +197,15 @@ drawn_graph {N} {A} t q proc graph resolves narrow is draws = record {
     flow_at r rest =
         let placed = slice_get-map (node_of body) (done ∷ rests body done) (point_at r) ∙
         ap (option_map (node_of body)) (rest_placed (resolve_block (names_in t proc) (proc_of proc).body) r rest) in
-        let (f, at_r, does) = all_do_at graph.flows.items (nodes_of body) _ _ _ (point_at r) (node_of body r) draws.2 placed in
+        let flows = graph.flows.items in
+        let (f, at_r, does) = all_do_at flows (nodes_of body) _ (point_at r) (node_of body r) draws.2 placed in
+        let places = length (names_in t proc).locals in
+        let widths : ℕ → Widths = λ m. record { globals = p.globals; places = places; procedures = m } in
         subst (λ o. AtFlow o (HasSteps p q r)) (sym at_r)
-        (has_steps p q (sequential_routine (tree_of t) (proc_of proc)) there (resolving_fit (tree_of t) resolves) (narrow_places (tree_of t) narrow) f r (subst (λ b. IsRestOf b r) (sym same) rest)
-        (subst (λ b. Does f (node_of b r) p.globals (length (names_in t proc).locals) (length p.routines)) (sym same)
-        (subst (λ m. Does f (node_of body r) p.globals (length (names_in t proc).locals) m) procedures does)))
+        (has_steps p q (sequential_routine (tree_of t) (proc_of proc)) there (resolving_fit (tree_of t) resolves)
+        (narrow_places (tree_of t) narrow) f r (subst (λ b. IsRestOf b r) (sym same) rest)
+        (subst (λ b. Does f (node_of b r) (widths (length p.routines))) (sym same)
+        (subst (λ m. Does f (node_of body r) (widths m)) procedures does)))
 
 -- the names in a scope and a body, by what declares them
 abbrev pub scope_in : {N : Type 0} → List (Name N) → List (Name N) → List (Name N) → List (Proc N) → Scope
@@ -189,12 +216,18 @@ code_in gs fs ls ps b = numbered 1 (resolve_block (scope_in gs fs ls ps) (block_
 
 abbrev DrawnIn : {N A : Type 0} → List (Name N) → List (Name N) → List (Name N) → List (Proc N) → List (Stmt N) → List (Flow A) → Type 0
 DrawnIn gs fs ls ps b flows =
-    AllDo flows (nodes_of (code_in gs fs ls ps b)) (length (scope_in gs fs ls ps).globals) (length (scope_in gs fs ls ps).locals) (length (scope_in gs fs ls ps).procedures)
+    AllDo flows (nodes_of (code_in gs fs ls ps b)) (widths_of (scope_in gs fs ls ps))
+
+-- what happens at the points of the body, numbered from n on
+abbrev nodes_in : {N : Type 0} → List (Name N) → List (Name N) → List (Name N) → List (Proc N) → List (Stmt N) → ℕ →
+    List Node
+nodes_in gs fs ls ps b n =
+    map (node_of (code_in gs fs ls ps b)) (rests (numbered n (resolve_block (scope_in gs fs ls ps) (block_of b))) done)
 
 -- behind the exit's flow, those of the body
-pub drawn_flows : {N A : Type 0} (gs gs' fs fs' ls ls' : List (Name N)) (ps ps' : List (Proc N)) (b b' : List (Stmt N)) (old new : List (Flow A)) →
-    gs ≡ gs' → fs ≡ fs' → ls ≡ ls' → ps ≡ ps' → b ≡ b' → old ≡ flow.Return ∷ [] →
-    Lowered old new (map (node_of (code_in gs fs ls ps b)) (rests (numbered (length old) (resolve_block (scope_in gs fs ls ps) (block_of b))) done)) (length (scope_in gs fs ls ps).globals) (length (scope_in gs fs ls ps).locals) (length (scope_in gs fs ls ps).procedures) →
+pub drawn_flows : {N A : Type 0} (gs gs' fs fs' ls ls' : List (Name N)) (ps ps' : List (Proc N)) (b b' : List (Stmt N))
+    (old new : List (Flow A)) → gs ≡ gs' → fs ≡ fs' → ls ≡ ls' → ps ≡ ps' → b ≡ b' → old ≡ flow.Return ∷ [] →
+    Lowered old new (nodes_in gs fs ls ps b (length old)) (widths_of (scope_in gs fs ls ps)) →
     DrawnIn gs' fs' ls' ps' b' new
 drawn_flows {N} {A} gs gs' fs fs' ls ls' ps ps' b b' old new eg ef el ep eb start (behind, is, all) =
     subst (λ z. DrawnIn z fs' ls' ps' b' new) eg
@@ -203,9 +236,8 @@ drawn_flows {N} {A} gs gs' fs fs' ls ls' ps ps' b b' old new eg ef el ep eb star
     (subst (λ z. DrawnIn gs fs ls z b' new) ep
     (subst (λ z. DrawnIn gs fs ls ps z new) eb
     (subst (λ z. DrawnIn gs fs ls ps b z) (sym (is ∙ ap (λ o. o ++ behind) start)) (
-      does_return _ _ _,
-      subst (λ n. AllDo behind (map (node_of (code_in gs fs ls ps b)) (rests (numbered n (resolve_block (scope_in gs fs ls ps) (block_of b))) done)) (length (scope_in gs fs ls ps).globals) (length (scope_in gs fs ls ps).locals) (length (scope_in gs fs ls ps).procedures))
-          (ap length start) all,
+      does_return _,
+      subst (λ n. AllDo behind (nodes_in gs fs ls ps b n) (widths_of (scope_in gs fs ls ps))) (ap length start) all,
     ))))))
 
 -- each graph is drawn of the procedure of its number

@@ -11,6 +11,7 @@ pub mod Searching
 pub mod Assignments
 pub mod Doing
 pub mod Lowered
+pub mod Statements
 pub mod Graphing
 pub mod Coding
 pub mod Reaching

@@ -11,9 +11,10 @@ use Rattle.language.specs.Flow.{rests}
 use Rattle.syntax.specs.declared.tree.Stmt.{Stmt}
 use Rattle.syntax.specs.Trees.{Deed, simple, branch, repeat, item_of, block_of}
 use Rattle.flow_graph.specs.Nodes.{Node, point_at, node_of, goes, stops, goes_to, tests}
-use Rattle.flow_graph.specs.Flows.{Does, AllDo, Lowered}
+use Rattle.flow_graph.specs.Flows.{Widths, Does, AllDo, Lowered}
 use Rattle.flow_graph.specs.declared.flow.Flow.{Flow}
-use Rattle.flow_graph.proofs.Numbered.{Names, led, tail, resolved_statements, behind_simple, behind_branch, behind_repeat}
+use Rattle.flow_graph.proofs.Numbered.{Names, led, tail, inner, inner_second, behind_two}
+use Rattle.flow_graph.proofs.Numbered.{resolved_statements, behind_simple, behind_branch, behind_repeat}
 
 -- a first statement begins at its number
 begins_led : (n : ℕ) (s : Scope) (m : Mark tree.Name) (d : Deed) (t : Names) (k : Code) → n ≡ point_at (join (led n s m d t) k)
@@ -39,31 +40,20 @@ goes_lost (Some r) e = absurd (none-some _ (sym e))
 rests_led : (n : ℕ) (s : Scope) (m : Mark tree.Name) (d : Deed) (t : Names) (k : Code) → rests (led n s m d t) k ≡ rests (led n s m d done) (join (tail n s m d t) k) ++ rests (tail n s m d t) k
 rests_led n s m (simple c) t k = ap (λ T. rests (one (marked n (resolve_mark m)) (resolve_simple s c) done) (join T k) ++ rests T k) (behind_simple n s m t c)
 rests_led n s m (branch r a b) t k =
+    let A = inner n s a in
+    let B = inner_second n s a b in
+    let T' = behind_two n s a b t in
     ap (λ l. choose (marked n (resolve_mark m)) (resolve_side s r) A B (join T' k) ∷ l)
     (ap (λ l. rests A (join T' k) ++ (l ++ rests T' k)) (sym (append-nil (rests B (join T' k))))
     ∙ sym (append_assoc (rests A (join T' k)) (rests B (join T' k) ++ []) (rests T' k)))
-    ∙ ap (λ T. rests (choose (marked n (resolve_mark m)) (resolve_side s r) A B done) (join T k) ++ rests T k) (behind_branch n s m t r a b)
-  where
-    A : Code
-    A = numbered (suc n) (resolve_block s a)
-
-    B : Code
-    B = numbered (suc n + statements (resolve_block s a)) (resolve_block s b)
-
-    T' : Code
-    T' = numbered (suc n + (statements (resolve_block s a) + statements (resolve_block s b))) (resolve_block s t)
+    ∙ ap (λ T. rests (choose (marked n (resolve_mark m)) (resolve_side s r) A B done) (join T k) ++ rests T k)
+    (behind_branch n s m t r a b)
 rests_led n s m (repeat r a) t k =
+    let A = inner n s a in
+    let T' = inner_second n s a t in
+    let again : Code → Code = λ z. loop (marked n (resolve_mark m)) (resolve_side s r) A z in
     ap (λ l. again (join T' k) ∷ (l ++ rests T' k)) (sym (append-nil (rests A (again (join T' k)))))
     ∙ ap (λ T. rests (again done) (join T k) ++ rests T k) (behind_repeat n s m t r a)
-  where
-    A : Code
-    A = numbered (suc n) (resolve_block s a)
-
-    again : Code → Code
-    again k = loop (marked n (resolve_mark m)) (resolve_side s r) A k
-
-    T' : Code
-    T' = numbered (suc n + statements (resolve_block s a)) (resolve_block s t)
 
 pub nodes_split : {A : Type 0} (body : Code) (n j : ℕ) (s : Scope) (x : Stmt A) (l : List (Stmt A)) (k : Code) → j ≡ n + statements (block_of (x ∷ [])) →
     map (node_of body) (rests (numbered n (resolve_block s (block_of (x ∷ l)))) k)
@@ -74,21 +64,24 @@ nodes_split body n j s x l k e =
     ∙ ap (λ i. map (node_of body) (rests (numbered n (resolve_block s (block_of (x ∷ [])))) (join (numbered i (resolve_block s (block_of l))) k)) ++ map (node_of body) (rests (numbered i (resolve_block s (block_of l))) k)) (sym e)
 
 -- flows behind flows
-all_do : {A : Type 0} (fs gs : List (Flow A)) (ns ms : List Node) (g l m : ℕ) → AllDo fs ns g l m → AllDo gs ms g l m → AllDo (fs ++ gs) (ns ++ ms) g l m
-all_do [] gs [] ms g l m a b = b
-all_do [] gs (n ∷ ns) ms g l m a b = absurd a
-all_do (f ∷ fs) gs [] ms g l m a b = absurd a
-all_do (f ∷ fs) gs (n ∷ ns) ms g l m a b = (a.0, all_do fs gs ns ms g l m a.1 b)
+all_do : {A : Type 0} (fs gs : List (Flow A)) (ns ms : List Node) (w : Widths) → AllDo fs ns w → AllDo gs ms w →
+    AllDo (fs ++ gs) (ns ++ ms) w
+all_do [] gs [] ms w a b = b
+all_do [] gs (n ∷ ns) ms w a b = absurd a
+all_do (f ∷ fs) gs [] ms w a b = absurd a
+all_do (f ∷ fs) gs (n ∷ ns) ms w a b = (a.0, all_do fs gs ns ms w a.1 b)
 
-pub lowered_then : {A : Type 0} (old mid new : List (Flow A)) (ns ms : List Node) (g l m : ℕ) → Lowered old mid ns g l m → Lowered mid new ms g l m → Lowered old new (ns ++ ms) g l m
-lowered_then old mid new ns ms g l m (fs, e, a) (gs, f, b) =
-    (fs ++ gs, f ∙ ap (λ x. x ++ gs) e ∙ append_assoc old fs gs, all_do fs gs ns ms g l m a b)
+pub lowered_then : {A : Type 0} (old mid new : List (Flow A)) (ns ms : List Node) (w : Widths) → Lowered old mid ns w →
+    Lowered mid new ms w → Lowered old new (ns ++ ms) w
+lowered_then old mid new ns ms w (fs, e, a) (gs, f, b) =
+    (fs ++ gs, f ∙ ap (λ x. x ++ gs) e ∙ append_assoc old fs gs, all_do fs gs ns ms w a b)
 
-pub lowered_none : {A : Type 0} (fs : List (Flow A)) (g l m : ℕ) → Lowered fs fs [] g l m
-lowered_none fs g l m = ([], sym (append-nil fs), tt)
+pub lowered_none : {A : Type 0} (fs : List (Flow A)) (w : Widths) → Lowered fs fs [] w
+lowered_none fs w = ([], sym (append-nil fs), tt)
 
-pub lowered_one : {A : Type 0} (old new : List (Flow A)) (f : Flow A) (n : Node) (g l m : ℕ) → new ≡ old ++ (f ∷ []) → Does f n g l m → Lowered old new (n ∷ []) g l m
-lowered_one old new f n g l m e d = (f ∷ [], e, (d, tt))
+pub lowered_one : {A : Type 0} (old new : List (Flow A)) (f : Flow A) (n : Node) (w : Widths) → new ≡ old ++ (f ∷ []) →
+    Does f n w → Lowered old new (n ∷ []) w
+lowered_one old new f n w e d = (f ∷ [], e, (d, tt))
 
 -- what happens at a statement, by what it does
 pub node_simple : (body : Code) (n : ℕ) (s : Scope) (m : Mark tree.Name) (d : Deed) (c : tree.Simple tree.Name tree.Name tree.Name) (k : Code) → d ≡ simple c →

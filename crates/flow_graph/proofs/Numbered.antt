@@ -26,20 +26,32 @@ led n s m d t = numbered n (resolve_block s (marked_before m d t))
 abbrev pub tail : ℕ → Scope → Mark tree.Name → Deed → Names → Code
 tail n s m d t = numbered (n + statements (marked_before m d done)) (resolve_block s t)
 
+-- the first block inside of the statement that has number n, and a second one behind it
+abbrev pub inner : ℕ → Scope → Names → Code
+inner n s a = numbered (suc n) (resolve_block s a)
+
+abbrev pub inner_second : ℕ → Scope → Names → Names → Code
+inner_second n s a b = numbered (suc n + statements (resolve_block s a)) (resolve_block s b)
+
+-- what is behind a statement with two blocks
+abbrev pub behind_two : ℕ → Scope → Names → Names → Names → Code
+behind_two n s a b t =
+    numbered (suc n + (statements (resolve_block s a) + statements (resolve_block s b))) (resolve_block s t)
+
 -- their number, as numbering counts it
 pub behind_simple : (n : ℕ) (s : Scope) (m : Mark tree.Name) (t : Names) (c : tree.Simple tree.Name tree.Name tree.Name) →
     numbered (suc n) (resolve_block s t) ≡ tail n s m (simple c) t
 behind_simple n s m t c = ap (λ k. numbered k (resolve_block s t)) (let e : suc n ≡ n + 1 = omega arith in e)
 
 pub behind_branch : (n : ℕ) (s : Scope) (m : Mark tree.Name) (t : Names) (r : tree.RightSide tree.Name) (a b : Names) →
-    numbered (suc n + (statements (resolve_block s a) + statements (resolve_block s b))) (resolve_block s t) ≡ tail n s m (branch r a b) t
+    behind_two n s a b t ≡ tail n s m (branch r a b) t
 behind_branch n s m t r a b =
     ap (λ k. numbered k (resolve_block s t))
     (let x = resolved_statements s a in let y = resolved_statements s b in
     let e : suc n + (statements (resolve_block s a) + statements (resolve_block s b)) ≡ n + suc (statements a + (statements b + 0)) = omega (arith, x, y) in e)
 
 pub behind_repeat : (n : ℕ) (s : Scope) (m : Mark tree.Name) (t : Names) (r : tree.RightSide tree.Name) (a : Names) →
-    numbered (suc n + statements (resolve_block s a)) (resolve_block s t) ≡ tail n s m (repeat r a) t
+    inner_second n s a t ≡ tail n s m (repeat r a) t
 behind_repeat n s m t r a =
     ap (λ k. numbered k (resolve_block s t))
     (let x = resolved_statements s a in let e : suc n + statements (resolve_block s a) ≡ n + suc (statements a + 0) = omega (arith, x) in e)

@@ -182,7 +182,8 @@ module _ {A : Type 0} (p : Program) (q : ℕ) (graph : Graph A) (is : IsGraph p 
           subst (λ n. GraphReaches graph K (code a) n (code a)) is.start (starts from (code a) (gives (entry from a) m))
       reaches_reached _ _ _ (by_messages.flows a v v' r r' reached step) =
           let (flow, here, steps) = flow_at r (reached_stands p q M a v r reached) in
-          let (i, most, next) = steps.reaches v v' r' (reached_valuation p q M right a v r reached) step in
+          let wide = reached_valuation p q M right a v r reached in
+          let (i, (most, next)) = (steps.leads v (point_at r') (code v') wide).1 (v', r', step, refl, refl) in
           flows (code a) (point_at r) (code v) (point_at r') (code v') i flow (reaches_reached a v r reached) here most next
       reaches_reached _ _ _ (by_messages.returns a v e r s b reached calls m) =
           let (flow, here, steps) = flow_at r (reached_stands p q M a v r reached) in
@@ -191,13 +192,16 @@ module _ {A : Type 0} (p : Program) (q : ℕ) (graph : Graph A) (is : IsGraph p 
           resumed_coded graph.globals v b.globals (wide.0 ∙ sym is.globals) ((right (summary s e b) m).1 ∙ sym is.globals) in
           subst (GraphReaches graph K (code a) (point_at (after_first r))) back
           (returns (code a) (point_at r) (code v) s (code e) (point_at (after_first r)) (exit_code b) flow
-          (reaches_reached a v r reached) here (steps.enters v e s wide calls) (gives (summary s e b) m))
+          (reaches_reached a v r reached) here
+          ((steps.enters v s (code e) (point_at (after_first r)) wide).1 (e, calls, refl, refl))
+          (gives (summary s e b) m))
 
       pub sends_owed : (s : ℕ) (m : Message) → Owes p q M s m → Sends graph q K s (by_numbers m)
       sends_owed _ _ (by_messages.asks a v e r s reached calls) =
           let (flow, here, steps) = flow_at r (reached_stands p q M a v r reached) in
+          let wide = reached_valuation p q M right a v r reached in
           asks (code a) (point_at r) (code v) s (code e) (point_at (after_first r)) flow (reaches_reached a v r reached) here
-          (steps.enters v e s (reached_valuation p q M right a v r reached) calls)
+          ((steps.enters v s (code e) (point_at (after_first r)) wide).1 (e, calls, refl, refl))
       sends_owed _ _ (by_messages.tells a v s m reached) =
           let wide = reached_valuation p q M right a v done reached in
           subst (λ n. Sends graph q K s (numbered_summary q (code a) n)) (left_coded graph.globals v (wide.0 ∙ sym is.globals))
@@ -238,12 +242,15 @@ module _ {A : Type 0} (p : Program) (q : ℕ) (graph : Graph A) (is : IsGraph p 
       reached_reaches _ _ _ (flows a n v n' v' i flow reached here most next) =
           let (x, y, r, got, ea, en, ev) = reached_reaches a n v reached in
           let steps : HasSteps p q r flow = steps_at n r flow (reached_stands p q M x y r got) en here in
-          let (y', r', step, en', ev') = steps.only y i n' v' (reached_valuation p q M right x y r got) most (ap (λ z. next_of flow z i) (sym ev) ∙ next) in
+          let wide = reached_valuation p q M right x y r got in
+          let led = ap (λ z. next_of flow z i) (sym ev) ∙ next in
+          let (y', r', step, en', ev') = (steps.leads y n' v' wide).0 (i, (most, led)) in
           (x, y', r', by_messages.flows x y y' r r' got step, ea, en', ev')
       reached_reaches _ _ _ (returns a n v s w n' b flow reached here enters k) =
           let (x, y, r, got, ea, en, ev) = reached_reaches a n v reached in
           let steps : HasSteps p q r flow = steps_at n r flow (reached_stands p q M x y r got) en here in
-          let (e, calls, ew, en') = steps.entered y s w n' (reached_valuation p q M right x y r got) (ap (entered_by flow) (sym ev) ∙ enters) in
+          let wide = reached_valuation p q M right x y r got in
+          let (e, calls, ew, en') = (steps.enters y s w n' wide).0 (ap (entered_by flow) (sym ev) ∙ enters) in
           let (m, had, same) = tells_of (numbered_summary s w b) k in
           resumed_after a x y e r v s w b n' m got ea ev calls ew en' had same
 
@@ -267,7 +274,8 @@ module _ {A : Type 0} (p : Program) (q : ℕ) (graph : Graph A) (is : IsGraph p 
       owed_sends order _ _ (asks a n v s w n' flow reached here enters) =
           let (x, y, r, got, ea, en, ev) = reached_reaches a n v reached in
           let steps : HasSteps p q r flow = steps_at n r flow (reached_stands p q M x y r got) en here in
-          let (e, calls, ew, en') = steps.entered y s w n' (reached_valuation p q M right x y r got) (ap (entered_by flow) (sym ev) ∙ enters) in
+          let wide = reached_valuation p q M right x y r got in
+          let (e, calls, ew, en') = (steps.enters y s w n' wide).0 (ap (entered_by flow) (sym ev) ∙ enters) in
           (entry (caller q) e, by_messages.asks x y e r s got calls, ap (numbered_entry (caller q)) ew)
       owed_sends order _ _ (tells a v s k reached) =
           let (x, y, r, got, ea, en, ev) = reached_reaches a 0 v reached in

@@ -1,5 +1,6 @@
 -- Where a label stands, by the first statement and those after it.
-use Rattle.std.proofs.Common.{◌≡◌, ℕ, suc, ◌+◌, ◌<◌, ◌≤◌, Bool, true, false, cond, Option, Some, None, option_map, List, [], ◌∷◌, drop, get_or, length, refl, sym, ◌∙◌, ap}
+use Rattle.std.proofs.Common.{◌≡◌, ℕ, suc, ◌+◌, ◌<◌, ◌≤◌, Bool, true, false, cond, Option, Some, None, option_map}
+use Rattle.std.proofs.Common.{List, [], ◌∷◌, drop, get_or, length, refl, sym, ◌∙◌, ap, subst, arith}
 use Rattle.std.proofs.lemmas.List.{drop_more, drop_all}
 use Rattle.language.specs.Tree as tree
 use Rattle.language.specs.Tree.{Mark, done, one, choose, loop}
@@ -8,9 +9,14 @@ use Rattle.language.specs.Rest.{Label, Code, join, has_label, first_of_two, rest
 use Rattle.language.specs.Sequential.{statements, numbered, marked}
 use Rattle.language.proofs.Rests.{first_none}
 use Rattle.syntax.specs.declared.tree.Stmt.{Stmt}
-use Rattle.syntax.specs.Trees.{Deed, simple, branch, repeat, item_of, block_of}
+use Rattle.syntax.specs.Trees.{Deed, simple, branch, repeat, item_of, deed_of, block_of}
+use Rattle.syntax.proofs.Held.{held}
+use Rattle.syntax.proofs.Folds.{item_deed}
 use Rattle.flow_graph.specs.Nodes.{point_at}
-use Rattle.flow_graph.proofs.Numbered.{Names, led, tail, resolved_statements, behind_simple, behind_branch, behind_repeat}
+use Rattle.flow_graph.specs.Points.{IsFound}
+use Rattle.flow_graph.proofs.Counted.{alone_counts}
+use Rattle.flow_graph.proofs.Numbered.{Names, led, tail, inner, inner_second, behind_two}
+use Rattle.flow_graph.proofs.Numbered.{resolved_statements, behind_simple, behind_branch, behind_repeat}
 
 -- the point of the first statement with this label
 abbrev pub place : Label → Code → Code → Option ℕ
@@ -51,13 +57,13 @@ place_split x n s m (simple c) t k = go (tail n s m (simple c) t) (behind_simple
 place_split x n s m (branch r a b) t k = go (tail n s m (branch r a b) t) (behind_branch n s m t r a b) (has_label x (resolve_mark m))
   where
     A : Code
-    A = numbered (suc n) (resolve_block s a)
+    A = inner n s a
 
     B : Code
-    B = numbered (suc n + statements (resolve_block s a)) (resolve_block s b)
+    B = inner_second n s a b
 
     T' : Code
-    T' = numbered (suc n + (statements (resolve_block s a) + statements (resolve_block s b))) (resolve_block s t)
+    T' = behind_two n s a b t
 
     go : (T : Code) → T' ≡ T → (h : Bool) →
         option_map point_at (cond h (Some (choose (marked n (resolve_mark m)) (resolve_side s r) A B (join T' k)))
@@ -73,10 +79,10 @@ place_split x n s m (branch r a b) t k = go (tail n s m (branch r a b) t) (behin
 place_split x n s m (repeat r a) t k = go (tail n s m (repeat r a) t) (behind_repeat n s m t r a) (has_label x (resolve_mark m))
   where
     A : Code
-    A = numbered (suc n) (resolve_block s a)
+    A = inner n s a
 
     T' : Code
-    T' = numbered (suc n + statements (resolve_block s a)) (resolve_block s t)
+    T' = inner_second n s a t
 
     go : (T : Code) → T' ≡ T → (h : Bool) →
         option_map point_at (cond h (Some (loop (marked n (resolve_mark m)) (resolve_side s r) A (join T' k)))
@@ -132,13 +138,17 @@ place_in_loop x n s m r a k e =
     ∙ ap (option_map point_at) (first_none (rest_from x A again))
 
 -- the same, where what the statement does is known by an equation
-pub in_branch_first : (x : Label) (n found : ℕ) (s : Scope) (m : Mark tree.Name) (d : Deed) (r : tree.RightSide tree.Name) (a b : Names) (k : Code) → d ≡ branch r a b →
+in_branch_first : (x : Label) (n found : ℕ) (s : Scope) (m : Mark tree.Name) (d : Deed)
+    (r : tree.RightSide tree.Name) (a b : Names) (k : Code) →
+    d ≡ branch r a b →
     has_label x (resolve_mark m) ≡ false → place x (numbered (suc n) (resolve_block s a)) k ≡ Some found → place x (led n s m d done) k ≡ Some found
 in_branch_first x n found s m d r a b k is e h =
     ap (λ z. place x (led n s m z done) k) is ∙ place_in_branch x n s m r a b k e
     ∙ ap (λ o. first_of_two o (place x (numbered (suc n + statements (resolve_block s a)) (resolve_block s b)) k)) h
 
-pub in_branch_second : (x : Label) (n j : ℕ) (s : Scope) (m : Mark tree.Name) (d : Deed) (r : tree.RightSide tree.Name) (a b : Names) (k : Code) → d ≡ branch r a b →
+in_branch_second : (x : Label) (n j : ℕ) (s : Scope) (m : Mark tree.Name) (d : Deed)
+    (r : tree.RightSide tree.Name) (a b : Names) (k : Code) →
+    d ≡ branch r a b →
     has_label x (resolve_mark m) ≡ false → place x (numbered (suc n) (resolve_block s a)) k ≡ None → j ≡ suc n + statements a →
     place x (led n s m d done) k ≡ place x (numbered j (resolve_block s b)) k
 in_branch_second x n j s m d r a b k is e h at_j =
@@ -146,7 +156,9 @@ in_branch_second x n j s m d r a b k is e h at_j =
     ∙ ap (λ o. first_of_two o (place x (numbered (suc n + statements (resolve_block s a)) (resolve_block s b)) k)) h
     ∙ ap (λ i. place x (numbered i (resolve_block s b)) k) (ap (λ z. suc n + z) (resolved_statements s a) ∙ sym at_j)
 
-pub in_loop : (x : Label) (n : ℕ) (s : Scope) (m : Mark tree.Name) (d : Deed) (r : tree.RightSide tree.Name) (a : Names) (k : Code) → d ≡ repeat r a → has_label x (resolve_mark m) ≡ false →
+in_loop : (x : Label) (n : ℕ) (s : Scope) (m : Mark tree.Name) (d : Deed)
+    (r : tree.RightSide tree.Name) (a : Names) (k : Code) →
+    d ≡ repeat r a → has_label x (resolve_mark m) ≡ false →
     place x (led n s m d done) k ≡ place x (numbered (suc n) (resolve_block s a)) (loop (marked n (resolve_mark m)) (resolve_side s r) (numbered (suc n) (resolve_block s a)) k)
 in_loop x n s m d r a k is e = ap (λ z. place x (led n s m z done) k) is ∙ place_in_loop x n s m r a k e
 
@@ -166,3 +178,51 @@ place_next {A} x n j s l i stmt k lt is e =
 
 pub place_nowhere : {A : Type 0} (x : Label) (n : ℕ) (s : Scope) (l : List (Stmt A)) (i : ℕ) (k : Code) → length l ≤ i → place x (numbered n (resolve_block s (block_of (drop i l)))) k ≡ None
 place_nowhere x n s l i k le = ap (λ z. place x (numbered n (resolve_block s (block_of z))) k) (drop_all i l le)
+
+-- what was found among statements, by another name of theirs and of the answer
+pub same_found : {A : Type 0} (x : Label) (xs ys : List (Stmt A)) (n : ℕ) (o p : Option ℕ) → xs ≡ ys → o ≡ p →
+    IsFound x xs n o → IsFound x ys n p
+same_found x xs ys n o p same is h = subst (λ z. IsFound x z n p) same (subst (IsFound x xs n) is h)
+
+module _ {A : Type 0} (x : Label) (stmt : Stmt A) (n at : ℕ)
+    (without : has_label x (resolve_mark (item_of stmt).mark) ≡ false) where
+  -- the first statement inside has the next number, where that is one of 64 bits
+  abbrev pub Inside : Type 0
+  Inside = n + statements (block_of (stmt ∷ [])) ≤ 18446744073709551615 → at ≡ suc n
+
+  -- the label is found in the first branch, or not there and in the second as it is, or in a loop's body
+  pub found_first : (r : tree.RightSide tree.Name) (a b : List (Stmt A)) (found : ℕ) →
+      deed_of stmt.core ≡ branch r (block_of a) (block_of b) → Inside → IsFound x a at (Some found) →
+      IsFound x (stmt ∷ []) n (Some found)
+  found_first r a b found is inside first s k most =
+      let i = item_of stmt in
+      let next = inside most in
+      let size = alone_counts stmt ∙ ap (λ d. suc (held d)) is in
+      let there = first s k (omega (arith, next, size, most)) in
+      sym (in_branch_first x n found s i.mark i.deed r (block_of a) (block_of b) k (item_deed stmt ∙ is) without
+      (ap (λ j. place x (numbered j (resolve_block s (block_of a))) k) (sym next) ∙ sym there))
+
+  pub found_second : (r : tree.RightSide tree.Name) (a b : List (Stmt A)) (j : ℕ) (found : Option ℕ) →
+      deed_of stmt.core ≡ branch r (block_of a) (block_of b) → Inside →
+      (n + statements (block_of (stmt ∷ [])) ≤ 18446744073709551615 → j ≡ suc n + statements (block_of a)) →
+      IsFound x a at None → IsFound x b j found → IsFound x (stmt ∷ []) n found
+  found_second r a b j found is inside behind first second s k most =
+      let i = item_of stmt in
+      let next = inside most in
+      let at_j = behind most in
+      let size = alone_counts stmt ∙ ap (λ d. suc (held d)) is in
+      let none = first s k (omega (arith, next, size, most)) in
+      let there = second s k (omega (arith, at_j, size, most)) in
+      there ∙ sym (in_branch_second x n j s i.mark i.deed r (block_of a) (block_of b) k (item_deed stmt ∙ is) without
+      (ap (λ z. place x (numbered z (resolve_block s (block_of a))) k) (sym next) ∙ sym none) at_j)
+
+  pub found_inside : (r : tree.RightSide tree.Name) (a : List (Stmt A)) (found : Option ℕ) →
+      deed_of stmt.core ≡ repeat r (block_of a) → Inside → IsFound x a at found → IsFound x (stmt ∷ []) n found
+  found_inside r a found is inside body s k most =
+      let i = item_of stmt in
+      let next = inside most in
+      let size = alone_counts stmt ∙ ap (λ d. suc (held d)) is in
+      let again = loop (marked n (resolve_mark i.mark)) (resolve_side s r) (inner n s (block_of a)) k in
+      let there = body s again (omega (arith, next, size, most)) in
+      there ∙ ap (λ z. place x (numbered z (resolve_block s (block_of a))) again) next
+      ∙ sym (in_loop x n s i.mark i.deed r (block_of a) k (item_deed stmt ∙ is) without)

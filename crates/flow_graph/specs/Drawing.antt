@@ -7,14 +7,16 @@ use Rattle.syntax.specs.Trees.{tree_of, proc_of}
 use Rattle.syntax.specs.declared.tree.Program.{Program}
 use Rattle.syntax.specs.declared.tree.Proc.{Proc}
 use Rattle.flow_graph.specs.Nodes.{point_at, nodes_of}
-use Rattle.flow_graph.specs.Flows.{AllDo}
+use Rattle.flow_graph.specs.Flows.{widths_of, AllDo}
 use Rattle.flow_graph.specs.declared.graph.Graph.{Graph}
 use Rattle.round_rewrite.specs.Limits.{most_places}
 use Rattle.flow_graph.specs.Drawn.{flows_of, start_of, globals_of}
 
 -- no more variables than places are in the procedure's scope, and at most 32 procedures
 abbrev pub HasRoom : {N : Type 0} → Program N → Proc N → Type 0
-HasRoom t p = (length t.globals.items + (length p.formals.items + length p.locals.items) ≤ most_places) × (length t.procs.items ≤ 32)
+HasRoom t p =
+    (length t.globals.items + (length p.formals.items + length p.locals.items) ≤ most_places)
+    × (length t.procs.items ≤ 32)
 
 -- the names in the procedure's scope
 abbrev pub names_in : {N : Type 0} → Program N → Proc N → Scope
@@ -24,10 +26,9 @@ names_in t p = scope_of (tree_of t) (proc_of p)
 abbrev pub drawn_body : {N : Type 0} → Program N → Proc N → Code
 drawn_body t p = numbered 1 (resolve_block (names_in t p) (proc_of p).body)
 
--- The graph of the procedure: it begins where the body does, and its flows do what happens at the points of the body, the
--- exit first.
+-- The graph of the procedure: it begins where the body does, and its flows do what happens at the points of the body,
+-- the exit first.
 abbrev pub Draws : {N A : Type 0} → Program N → Proc N → Graph A → Type 0
 Draws t p graph =
     (globals_of graph ≡ length (names_in t p).globals) × (start_of graph ≡ point_at (drawn_body t p))
-    × AllDo (flows_of graph) (nodes_of (drawn_body t p)) (length (names_in t p).globals) (length (names_in t p).locals)
-    (length (names_in t p).procedures)
+    × AllDo (flows_of graph) (nodes_of (drawn_body t p)) (widths_of (names_in t p))

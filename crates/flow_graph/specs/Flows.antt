@@ -1,5 +1,6 @@
 -- What flows lead to, by numbers, and what nodes they do.
-use Rattle.std.specs.Prelude.{◌≡◌, ◌≤◌, ◌<◌, ℕ, ◌+◌, Bool, cond, Option, Some, None, List, [], ◌∷◌, ◌++◌, length}
+use Rattle.std.specs.Prelude.{◌≡◌, ◌↔◌, ◌≤◌, ◌<◌, ℕ, ◌+◌, Bool, cond, Option, Some, None, List, [], ◌∷◌, ◌++◌, length}
+use Rattle.language.specs.Resolve.{Scope}
 use Rattle.language.specs.Sequential.{Valuation}
 use Rattle.flow_graph.specs.Bits.{coded}
 use Rattle.flow_graph.specs.Formulas.{side_value}
@@ -37,28 +38,56 @@ abbrev pub entered_by : {A : Type 0} → Flow A → ℕ → Option (ℕ × ℕ �
 entered_by (Call c) values = Some (c.callee, entry_of c.globals c.arguments.items values, c.back)
 entered_by _ values = None
 
--- so many globals and so many places
-abbrev pub HasWidths : ℕ → ℕ → Valuation → Type 0
-HasWidths g l v = (length v.globals ≡ g) × (length v.places ≡ l)
+-- by choice i the flow leads from the valuation v to point n and the valuation of number w
+abbrev pub LeadsBy : {A : Type 0} → Flow A → ℕ → Valuation → ℕ → ℕ → Type 0
+LeadsBy flow i v n w = (i ≤ last_of flow) × (next_of flow (code v) i ≡ Some (n, w))
 
--- The flow does what happens at the node, for valuations of these widths: it leads to all that the node leads to, to nothing
--- else, to each once; and it enters a procedure, of so many, where the node calls one and the entry has at most 64 places.
-pub record Does {A : Type 0} (flow : Flow A) (node : Node) (g l procedures : ℕ) : Type 0 where
-  pub reaches : (v v' : Valuation) (n : ℕ) → HasWidths g l v → Leads node v n v' → (i : ℕ) × (i ≤ last_of flow) × (next_of flow (code v) i ≡ Some (n, code v'))
-  pub only : (v : Valuation) (i n w : ℕ) → HasWidths g l v → i ≤ last_of flow → next_of flow (code v) i ≡ Some (n, w) → (v' : Valuation) × Leads node v n v' × (w ≡ code v')
-  pub once : (v : Valuation) (i j : ℕ) (x : ℕ × ℕ) → HasWidths g l v → i ≤ last_of flow → j ≤ last_of flow → next_of flow (code v) i ≡ Some x → next_of flow (code v) j ≡ Some x → i ≡ j
-  pub enters : (v : Valuation) (args : List Bool) (q n : ℕ) → HasWidths g l v → NodeCalls node v q args n → q < procedures →
-      g + length args ≤ most_places → entered_by flow (code v) ≡ Some (q, coded (v.globals ++ args), n)
-  pub entered : (v : Valuation) (q e n : ℕ) → HasWidths g l v → entered_by flow (code v) ≡ Some (q, e, n) →
-      (args : List Bool) × NodeCalls node v q args n × (q < procedures) × (e ≡ coded (v.globals ++ args))
+-- Behaviour of a flow, for the valuations of which W holds: it leads exactly where L says, to a point and the number of
+-- a valuation, by one choice each; and it enters exactly what E says, a procedure, the number of a valuation, and the
+-- point after the return.
+pub record Behaves {A : Type 0} (flow : Flow A) (W : Valuation → Type 0) (L : Valuation → ℕ → ℕ → Type 0)
+    (E : Valuation → ℕ → ℕ → ℕ → Type 0) : Type 0 where
+  pub leads : (v : Valuation) (n w : ℕ) → W v → ((i : ℕ) × LeadsBy flow i v n w) ↔ L v n w
+  pub once : (v : Valuation) (i j n w : ℕ) → W v → LeadsBy flow i v n w → LeadsBy flow j v n w → i ≡ j
+  pub enters : (v : Valuation) (s e n : ℕ) → W v → (entered_by flow (code v) ≡ Some (s, e, n)) ↔ E v s e n
+
+-- How many globals and places the valuations of a procedure have, and how many procedures there are.
+pub record Widths : Type 0 where
+  pub globals : ℕ
+  pub places : ℕ
+  pub procedures : ℕ
+
+-- those of a scope
+abbrev pub widths_of : Scope → Widths
+widths_of s = record { globals = length s.globals; places = length s.locals; procedures = length s.procedures }
+
+-- so many globals and so many places
+abbrev pub HasWidths : Widths → Valuation → Type 0
+HasWidths w v = (length v.globals ≡ w.globals) × (length v.places ≡ w.places)
+
+-- the node leads to point n and the valuation of number k
+abbrev pub LeadsTo : Node → Valuation → ℕ → ℕ → Type 0
+LeadsTo node v n k = (v' : Valuation) × Leads node v n v' × (k ≡ code v')
+
+-- The node calls procedure q, one of so many, with the globals and the arguments, which are e as a number and no more
+-- than there are places; the point after the call is n.
+abbrev pub NodeEnters : Node → ℕ → Valuation → ℕ → ℕ → ℕ → Type 0
+NodeEnters node procedures v q e n =
+    (args : List Bool) × NodeCalls node v q args n × (q < procedures)
+    × (length v.globals + length args ≤ most_places) × (e ≡ coded (v.globals ++ args))
+
+-- The flow does what happens at the node, for valuations of these widths: it leads where the node leads, and enters
+-- what the node calls.
+abbrev pub Does : {A : Type 0} → Flow A → Node → Widths → Type 0
+Does flow node w = Behaves flow (HasWidths w) (LeadsTo node) (NodeEnters node w.procedures)
 
 -- each flow does what happens at its node
-abbrev pub AllDo : {A : Type 0} → List (Flow A) → List Node → ℕ → ℕ → ℕ → Type 0
-AllDo [] [] g l m = Unit {0}
-AllDo [] (n ∷ ns) g l m = ⊥
-AllDo (f ∷ fs) [] g l m = ⊥
-AllDo (f ∷ fs) (n ∷ ns) g l m = Does f n g l m × AllDo fs ns g l m
+abbrev pub AllDo : {A : Type 0} → List (Flow A) → List Node → Widths → Type 0
+AllDo [] [] w = Unit {0}
+AllDo [] (n ∷ ns) w = ⊥
+AllDo (f ∷ fs) [] w = ⊥
+AllDo (f ∷ fs) (n ∷ ns) w = Does f n w × AllDo fs ns w
 
 -- flows that do these nodes have been put behind others
-abbrev pub Lowered : {A : Type 0} → List (Flow A) → List (Flow A) → List Node → ℕ → ℕ → ℕ → Type 0
-Lowered {A} old new nodes g l m = (flows : List (Flow A)) × (new ≡ old ++ flows) × AllDo flows nodes g l m
+abbrev pub Lowered : {A : Type 0} → List (Flow A) → List (Flow A) → List Node → Widths → Type 0
+Lowered {A} old new nodes w = (flows : List (Flow A)) × (new ≡ old ++ flows) × AllDo flows nodes w

@@ -1,10 +1,11 @@
 -- What compiled expressions and right sides say.
-use Rattle.std.specs.Prelude.{◌≡◌, ℕ, Bool, List, [], ◌++◌, map, length}
+use Rattle.std.specs.Prelude.{◌≡◌, ℕ, Bool, List, [], ◌++◌, length}
 use Rattle.language.specs.Tree.{Name, Expression, RightSide, any, value}
 use Rattle.language.specs.Value.{value_of}
 use Rattle.language.specs.Resolve.{Scope, resolve_expression}
 use Rattle.flow_graph.specs.Bits.{bit_of, coded}
 use Rattle.flow_graph.specs.Postfix.{after_steps, top}
+use Rattle.flow_graph.specs.Tables.{table_says}
 use Rattle.flow_graph.specs.declared.formula.Formula.{Formula}
 use Rattle.flow_graph.specs.declared.formula.Formula.TheVariants.{Table, Code}
 use Rattle.flow_graph.specs.declared.side.Side.{Side}
@@ -12,12 +13,14 @@ use Rattle.flow_graph.specs.declared.side.Side.TheVariants as side
 
 -- what the formula answers for these values: the table's output in their row, or what its steps leave on the stack
 abbrev pub says : {A : Type 0} → Formula A → ℕ → Bool
-says (Table t) values = bit_of t.outputs (coded (map (bit_of values) t.inputs.items))
+says (Table t) values = table_says t.inputs.items t.outputs values
 says (Code p) values = top (after_steps (bit_of values) p.steps.items [])
 
 -- For every valuation of as many globals as the scope has, the formula answers the value of the expression.
 abbrev pub Says : {A : Type 0} → Formula A → Scope → Expression Name → Type 0
-Says f s e = (globals places : List Bool) → length globals ≡ length s.globals → says f (coded (globals ++ places)) ≡ value_of globals places (resolve_expression s e)
+Says f s e =
+    (globals places : List Bool) → length globals ≡ length s.globals →
+    says f (coded (globals ++ places)) ≡ value_of globals places (resolve_expression s e)
 
 -- the compiled right side says what the right side says: `?`, or an expression
 abbrev pub SaysSide : {A : Type 0} → Side A → Scope → RightSide Name → Type 0

@@ -1,5 +1,5 @@
 -- Flow graphs of a program's procedures.
-use Rattle.std.specs.Prelude.{◌≡◌, ◌≤◌, ℕ, suc, Option, Some, None, List, length, slice_get}
+use Rattle.std.specs.Prelude.{◌≡◌, ℕ, suc, Option, Some, None, List, length, slice_get}
 use Rattle.language.specs.Rest.{Code}
 use Rattle.language.specs.Step.{Program, body_of}
 use Rattle.language.specs.Sequential.{numbered, statements, Valuation, Calls}
@@ -7,32 +7,33 @@ use Rattle.language.specs.Flow as steps
 use Rattle.language.specs.Flow.{IsRestOf, after_first}
 use Rattle.language.specs.Messages.{IsValuationOf, ArgumentsFit}
 use Rattle.flow_graph.specs.Nodes.{point_at}
-use Rattle.flow_graph.specs.Flows.{code, last_of, next_of, entered_by}
+use Rattle.flow_graph.specs.Flows.{code, Behaves}
 use Rattle.flow_graph.specs.declared.flow.Flow.{Flow}
 use Rattle.flow_graph.specs.declared.graph.Graph.{Graph}
 use Rattle.flow_graph.specs.Drawn.{flows_of, start_of, globals_of}
 
--- The flow has the steps of procedure q where r is left to run: it leads to what a step inside the call leads to, to nothing
--- else, and to each once; and it enters what a step enters, with the point after the call, and nothing else.
-pub record HasSteps {A : Type 0} (p : Program) (q : ℕ) (r : Code) (flow : Flow A) : Type 0 where
-  pub reaches : (v v' : Valuation) (r' : Code) → IsValuationOf p q v → steps.Flow p q v r v' r' →
-      (i : ℕ) × (i ≤ last_of flow) × (next_of flow (code v) i ≡ Some (point_at r', code v'))
-  pub only : (v : Valuation) (i n w : ℕ) → IsValuationOf p q v → i ≤ last_of flow →
-      next_of flow (code v) i ≡ Some (n, w) →
-      (v' : Valuation) × (r' : Code) × steps.Flow p q v r v' r' × (n ≡ point_at r') × (w ≡ code v')
-  pub once : (v : Valuation) (i j : ℕ) (x : ℕ × ℕ) → IsValuationOf p q v → i ≤ last_of flow → j ≤ last_of flow → next_of flow (code v) i ≡ Some x → next_of flow (code v) j ≡ Some x → i ≡ j
-  pub enters : (v a : Valuation) (s : ℕ) → IsValuationOf p q v → Calls p v.globals v.places r s a →
-      entered_by flow (code v) ≡ Some (s, code a, point_at (after_first r))
-  pub entered : (v : Valuation) (s e n : ℕ) → IsValuationOf p q v → entered_by flow (code v) ≡ Some (s, e, n) →
-      (a : Valuation) × Calls p v.globals v.places r s a × (e ≡ code a) × (n ≡ point_at (after_first r))
+-- a step inside the call, with r left to run, leads to point n and the valuation of number w
+abbrev pub StepsTo : Program → ℕ → Code → Valuation → ℕ → ℕ → Type 0
+StepsTo p q r v n w =
+    (v' : Valuation) × (r' : Code) × steps.Flow p q v r v' r' × (n ≡ point_at r') × (w ≡ code v')
+
+-- a step, with r left to run, enters procedure s with the valuation of number e, and n is the point after the call
+abbrev pub StepEnters : Program → Code → Valuation → ℕ → ℕ → ℕ → Type 0
+StepEnters p r v s e n =
+    (a : Valuation) × Calls p v.globals v.places r s a × (e ≡ code a) × (n ≡ point_at (after_first r))
+
+-- The flow has the steps of procedure q where r is left to run: it leads where a step inside the call leads, and enters
+-- what a step enters.
+abbrev pub HasSteps : {A : Type 0} → Program → ℕ → Code → Flow A → Type 0
+HasSteps p q r flow = Behaves flow (IsValuationOf p q) (StepsTo p q r) (StepEnters p r)
 
 -- there is a flow, and it has the property
 abbrev pub AtFlow : {A : Type 0} → Option (Flow A) → (Flow A → Type 0) → Type 0
 AtFlow None P = ⊥
 AtFlow (Some flow) P = P flow
 
--- The graph is that of procedure q: it starts at the first statement, has a point for each statement and the exit, and at the
--- point of each rest of the body the steps from there.
+-- The graph is that of procedure q: it starts at the first statement, has a point for each statement and the exit, and
+-- at the point of each rest of the body the steps from there.
 pub record IsGraph {A : Type 0} (p : Program) (q : ℕ) (graph : Graph A) : Type 0 where
   pub globals : globals_of graph ≡ p.globals
   pub start : start_of graph ≡ point_at (body_of (slice_get p.routines q))
@@ -42,7 +43,9 @@ pub record IsGraph {A : Type 0} (p : Program) (q : ℕ) (graph : Graph A) : Type
 
 -- the graphs are those of the program's procedures, by number
 abbrev pub AreGraphs : {A : Type 0} → Program → List (Graph A) → Type 0
-AreGraphs {A} p graphs = (length graphs ≡ length p.routines) × ((q : ℕ) (graph : Graph A) → slice_get graphs q ≡ Some graph → IsGraph p q graph)
+AreGraphs {A} p graphs =
+    (length graphs ≡ length p.routines)
+    × ((q : ℕ) (graph : Graph A) → slice_get graphs q ≡ Some graph → IsGraph p q graph)
 
 -- the statements of each procedure are marked with their numbers in text order, from 1
 abbrev pub IsInTextOrder : Program → Type 0

@@ -5,9 +5,11 @@ pub mod Postfix
 pub mod Tables
 pub mod Formulas
 pub mod Nodes
+pub mod Points
 pub mod Assignments
 pub mod Calls
 pub mod Flows
+pub mod Assigning
 pub mod Lowering
 pub mod Returns
 pub mod Drawn

@@ -9,6 +9,10 @@ abbrev pub bit_of_place : ℕ → Place → Option ℕ
 bit_of_place globals (global i) = cond (nat_lt i globals) (Some i) None
 bit_of_place globals (local i) = Some (globals + i)
 
+-- the bit of a variable, where it is declared
+abbrev pub bit_of_name : Scope → Name → Option ℕ
+bit_of_name s x = bit_of_place (length s.globals) (place_of s x)
+
 -- a read of a bit; what is declared nowhere reads as 0
 abbrev pub read_of : Option ℕ → Expression ℕ
 read_of None = const false
@@ -17,7 +21,7 @@ read_of (Some b) = var b
 -- the expression over bits
 abbrev pub located : Scope → Expression Name → Expression ℕ
 located s (const b) = const b
-located s (var x) = read_of (bit_of_place (length s.globals) (place_of s x))
+located s (var x) = read_of (bit_of_name s x)
 located s (negation e) = negation (located s e)
 located s (two o a b) = two o (located s a) (located s b)
 

@@ -1,13 +1,18 @@
 -- What the statements of a procedure are lowered to.
-use Rattle.std.specs.Prelude.{◌≡◌, ◌≤◌, ◌<◌, ◌+◌, ℕ, List, [], ◌∷◌, map, length}
-use Rattle.language.specs.Resolve.{Scope, resolve_block}
-use Rattle.language.specs.Rest.{Code, join}
+use Rattle.std.specs.Prelude.{◌≡◌, ◌≤◌, ◌<◌, ◌+◌, ℕ, List, [], ◌∷◌, ◌++◌, map, length}
+use Rattle.language.specs.Tree.{RightSide, done}
+use Rattle.language.specs.Value.{Place}
+use Rattle.language.specs.Resolve.{Scope, number_of, place_of, resolve_expression, resolve_side, resolve_block}
+use Rattle.language.specs.Rest.{Code, join, rest_from}
 use Rattle.language.specs.Sequential.{statements, numbered}
 use Rattle.language.specs.Flow.{rests}
-use Rattle.syntax.specs.Trees.{block_of}
+use Rattle.syntax.specs.Trees.{name_of, names_of, rhs_of, rhss_of, exprs_of, block_of}
+use Rattle.syntax.specs.declared.tree.Name.{Name}
+use Rattle.syntax.specs.declared.tree.Expr.{Expr}
+use Rattle.syntax.specs.declared.tree.Rhs.{Rhs}
 use Rattle.syntax.specs.declared.tree.Stmt.{Stmt}
-use Rattle.flow_graph.specs.Nodes.{Node, point_at, node_of}
-use Rattle.flow_graph.specs.Flows.{Does, Lowered}
+use Rattle.flow_graph.specs.Nodes.{Node, assigns, calls, point_at, node_of, goes_to}
+use Rattle.flow_graph.specs.Flows.{widths_of, Does, Lowered}
 use Rattle.flow_graph.specs.Views.{scope_seen, IsSmall}
 use Rattle.flow_graph.specs.declared.flow.Flow.{Flow}
 use Rattle.flow_graph.specs.declared.lowering.Lowering.{Lowering}
@@ -24,9 +29,30 @@ lowered_body l = numbered 1 (resolve_block (lowering_scope l) (block_of l.body.n
 abbrev pub IsLowerable : {N A : Type 0} → Lowering N A → Type 0
 IsLowerable l = IsSmall l.scope × (length l.scope.procedures.now ≤ 32)
 
+-- a right side by places
+abbrev pub side_in : {N A : Type 0} → Lowering N A → Rhs N → RightSide Place
+side_in l r = resolve_side (lowering_scope l) (rhs_of r)
+
+-- the node of an assignment: the right sides are written to the places of the targets, and the run goes on at the point
+abbrev pub assignment_in : {N A : Type 0} → Lowering N A → List (Name N) → List (Rhs N) → ℕ → Node
+assignment_in l xs rs to =
+    let s = lowering_scope l in
+    assigns (map (place_of s) (names_of xs)) (map (resolve_side s) (rhss_of rs)) to
+
+-- the node of a call: the procedure with the name is called with the arguments, and the run goes on at the point
+abbrev pub call_in : {N A : Type 0} → Lowering N A → Name N → List (Expr N) → ℕ → Node
+call_in l p es back =
+    let s = lowering_scope l in
+    calls (number_of (name_of p).text s.procedures) (map (resolve_expression s) (exprs_of es)) back
+
 -- the flow does what happens at the node, for the procedure's valuations
 abbrev pub DoesIn : {N A : Type 0} → Lowering N A → Flow A → Node → Type 0
-DoesIn l f node = Does f node (length (lowering_scope l).globals) (length (lowering_scope l).locals) (length (lowering_scope l).procedures)
+DoesIn l f node = Does f node (widths_of (lowering_scope l))
+
+-- where all points of the procedure are numbers of 64 bits, the flow goes on at the statement with the label
+abbrev pub DoesJump : {N A : Type 0} → Lowering N A → Flow A → Name N → Type 0
+DoesJump l f label = statements (block_of l.body.now) < 18446744073709551615 →
+    DoesIn l f (goes_to (rest_from (name_of label).text (lowered_body l) done))
 
 -- statements as code, the first of them marked with the number
 abbrev pub code_from : {N A : Type 0} → Lowering N A → ℕ → List (Stmt N) → Code
@@ -34,12 +60,19 @@ code_from l n stmts = numbered n (resolve_block (lowering_scope l) (block_of stm
 
 -- all points of the procedure, and those of these statements, the first of them this number, are numbers of 64 bits
 abbrev pub IsCounted : {N A : Type 0} → Lowering N A → ℕ → List (Stmt N) → Type 0
-IsCounted l n stmts = (statements (block_of l.body.now) < 18446744073709551615) × (n + statements (block_of stmts) ≤ 18446744073709551615)
+IsCounted l n stmts =
+    (statements (block_of l.body.now) < 18446744073709551615)
+    × (n + statements (block_of stmts) ≤ 18446744073709551615)
 
 -- where a run goes on at the point behind the statement, the flow does what happens at it
 abbrev pub DoesFirst : {N A : Type 0} → Lowering N A → Flow A → Stmt N → ℕ → ℕ → Type 0
 DoesFirst l f stmt number after = (k : Code) → point_at k ≡ after → IsCounted l number (stmt ∷ []) →
     DoesIn l f (node_of (lowered_body l) (join (code_from l number (stmt ∷ [])) k))
+
+-- a flow has been put behind others that does what happens at the statement
+abbrev pub LoweredFirst : {N A : Type 0} → Lowering N A → List (Flow A) → List (Flow A) → Stmt N → ℕ → Type 0
+LoweredFirst {N} {A} l old new stmt after =
+    (f : Flow A) × (new ≡ old ++ f ∷ []) × DoesFirst l f stmt (length old) after
 
 -- as many flows as there are statements have been put behind others; where a run goes on at the point behind the
 -- statements, they do what happens at their points
@@ -48,4 +81,4 @@ LoweredIn l old new stmts after =
     (length new ≡ length old + statements (block_of stmts))
     × ((k : Code) → point_at k ≡ after → IsCounted l (length old) stmts
     → Lowered old new (map (node_of (lowered_body l)) (rests (code_from l (length old) stmts) k))
-    (length (lowering_scope l).globals) (length (lowering_scope l).locals) (length (lowering_scope l).procedures))
+    (widths_of (lowering_scope l)))

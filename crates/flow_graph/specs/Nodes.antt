@@ -1,6 +1,7 @@
 -- What happens at the points of a procedure.
 use Rattle.std.specs.Prelude.{◌≡◌, ℕ, Bool, true, false, cond, Option, Some, None, List, [], ◌∷◌, map}
-use Rattle.language.specs.Tree.{Expression, const, RightSide, value, skip, assign, assert, assume, goto, leave, call, done, one, choose, loop}
+use Rattle.language.specs.Tree.{Expression, const, RightSide, value}
+use Rattle.language.specs.Tree.{skip, assign, assert, assume, goto, leave, call, done, one, choose, loop}
 use Rattle.language.specs.Value.{Place, values_of, IsValue, AreValues, written_globals, written_locals}
 use Rattle.language.specs.Rest.{Code, join, rest_from}
 use Rattle.language.specs.Sequential.{Valuation, point_of}

@@ -1,10 +1,12 @@
 -- Postfix code: expressions as steps over a stack of values.
 use mathlib.Core.HLevel.{×_prop, Unit-prop}
 use native.Mathlib.Bridge.{le_prop}
-use Rattle.std.specs.Prelude.{◌≡◌, ◌<◌, ◌≤◌, ℕ, suc, ◌+◌, ◌-◌, ◌*◌, ◌^◌, min, max, Bool, false, not, cond, ◌==◌, List, [], ◌∷◌, ◌++◌, length}
+use Rattle.std.specs.Prelude.{◌≡◌, ◌<◌, ◌≤◌, ℕ, suc, ◌+◌, ◌-◌, ◌*◌, ◌^◌, min, max, Bool, false, not}
+use Rattle.std.specs.Prelude.{cond, ◌==◌, List, [], ◌∷◌, ◌++◌, length}
 use Rattle.language.specs.Tree.{Expression, const, var, negation, two}
 use Rattle.language.specs.Value.{operate}
 use Rattle.syntax.specs.Trees.{operator_of}
+use Rattle.flow_graph.specs.Bits.{bit_of, coded}
 use Rattle.flow_graph.specs.Located.{worth}
 use Rattle.flow_graph.specs.declared.postfix.Step.{Step}
 use Rattle.flow_graph.specs.declared.postfix.Step.TheVariants.{Read, Constant, Not, Apply, ApplySwapped}
@@ -53,11 +55,18 @@ few_prop i n = le_prop
 -- this has one proof at most, so a type may carry it
 pub IsShallow-prop : (depth : ℕ) (steps : List Step) → IsProp (IsShallow depth steps)
 IsShallow-prop depth [] = Unit-prop
-IsShallow-prop depth (Read b ∷ ss) = ×_prop (less_prop depth 64) (×_prop (less_prop b most_places) (IsShallow-prop (suc depth) ss))
+IsShallow-prop depth (Read b ∷ ss) =
+    ×_prop (less_prop depth 64) (×_prop (less_prop b most_places) (IsShallow-prop (suc depth) ss))
 IsShallow-prop depth (Constant b ∷ ss) = ×_prop (less_prop depth 64) (IsShallow-prop (suc depth) ss)
 IsShallow-prop depth (Not ∷ ss) = ×_prop (few_prop 1 depth) (IsShallow-prop depth ss)
 IsShallow-prop depth (Apply o ∷ ss) = ×_prop (few_prop 2 depth) (IsShallow-prop (depth - 1) ss)
 IsShallow-prop depth (ApplySwapped o ∷ ss) = ×_prop (few_prop 2 depth) (IsShallow-prop (depth - 1) ss)
+
+-- For each stack that has the number old, which is deep enough for the step and not full, new is the number of the
+-- stack after the step.
+abbrev pub IsStepped : Step → ℕ → ℕ → ℕ → Type 0
+IsStepped step values old new =
+    (s : List Bool) → old ≡ coded s → IsShallow (length s) (step ∷ []) → new ≡ coded (after_step (bit_of values) step s)
 
 -- how many values a stack holds at most while an expression is evaluated, the operand that needs more first
 -- (Ershov's number; more than 2^32 - 1 are not told apart)
@@ -67,12 +76,18 @@ need (var i) = 1
 need (negation e) = need e
 need (two o a b) = cond (need a == need b) (min (need a + 1) 4294967295) (max (need a) (need b))
 
--- The steps evaluate the expression: they put its worth on the stack, within the expression's need; and they are so many
--- that a need above 64 would take more of them than memory has.
+-- The steps evaluate the expression: they put its worth on the stack, within the expression's need; and they are so
+-- many that a need above 64 would take more of them than memory has.
 pub record Evaluates (e : Expression ℕ) (steps : List Step) : Type 0 where
-  pub puts : (f : ℕ → Bool) (rest : List Step) (stack : List Bool) → after_steps f (steps ++ rest) stack ≡ after_steps f rest (worth f e ∷ stack)
-  pub shallow : (depth : ℕ) (rest : List Step) → depth + need e ≤ 64 → IsShallow (suc depth) rest → IsShallow depth (steps ++ rest)
+  pub puts : (f : ℕ → Bool) (rest : List Step) (stack : List Bool) →
+      after_steps f (steps ++ rest) stack ≡ after_steps f rest (worth f e ∷ stack)
+  pub shallow : (depth : ℕ) (rest : List Step) → depth + need e ≤ 64 → IsShallow (suc depth) rest →
+      IsShallow depth (steps ++ rest)
   pub long : 2 ^ need e ≤ 2 * length steps
+
+-- from an empty stack, the steps end with the worth of the expression on top, whatever values the bits have
+abbrev pub AreCodeOf : List Step → Expression ℕ → Type 0
+AreCodeOf steps e = (f : ℕ → Bool) → top (after_steps f steps []) ≡ worth f e
 
 -- such steps have been put behind others
 abbrev pub Puts : List Step → List Step → Expression ℕ → Type 0

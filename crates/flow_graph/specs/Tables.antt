@@ -1,8 +1,8 @@
 -- Truth tables: the worth of an expression of a few bits for each of their values.
 use mathlib.Core.HLevel.{×_prop, Unit-prop}
-use Rattle.std.specs.Prelude.{◌≡◌, ◌<◌, ℕ, suc, Bool, true, false, cond, ◌==◌, List, [], ◌∷◌, ◌++◌}
+use Rattle.std.specs.Prelude.{◌≡◌, ◌<◌, ℕ, suc, Bool, true, false, cond, ◌==◌, List, [], ◌∷◌, ◌++◌, map}
 use Rattle.language.specs.Tree.{Expression, const, var, negation, two}
-use Rattle.flow_graph.specs.Bits.{bit_of}
+use Rattle.flow_graph.specs.Bits.{bit_of, coded}
 use Rattle.flow_graph.specs.Located.{worth}
 use Rattle.flow_graph.specs.Postfix.{less_prop}
 use Rattle.round_rewrite.specs.Limits.{most_places}
@@ -32,6 +32,14 @@ most_rows = 64
 pub record Tabulates (inputs : List ℕ) (outputs : ℕ) (e : Expression ℕ) : Type 0 where
   pub reads : Reads inputs e
   pub rows : (j : ℕ) → j < most_rows → bit_of outputs j ≡ worth (λ b. bit_of j (slot b inputs)) e
+
+-- the output in the row of these values
+abbrev pub table_says : List ℕ → ℕ → ℕ → Bool
+table_says inputs outputs values = bit_of outputs (coded (map (bit_of values) inputs))
+
+-- for all values, the output in their row is what the expression is worth
+abbrev pub IsTableOf : List ℕ → ℕ → Expression ℕ → Type 0
+IsTableOf inputs outputs e = (values : ℕ) → table_says inputs outputs values ≡ worth (bit_of values) e
 
 -- each input is a place
 abbrev pub AreBits : List ℕ → Type 0

@@ -1,8 +1,9 @@
 //! Simultaneous assignments, compiled once, to be made often.
 
-ghost use Rattle.std.specs.Prelude.{◌≡◌, ◌+◌, ◌≤◌, ◌<◌, ◌^◌, [], length, map, IfOk, IfSome};
+ghost use Rattle.std.specs.Prelude.{◌≡◌, ◌+◌, ◌≤◌, ◌<◌, ◌^◌, [], IfOk, IfSome};
 ghost use Rattle.syntax.specs.Trees.{name_of, names_of, rhs_of, rhss_of};
-ghost use Rattle.flow_graph.specs.Assignments.{masked, choice_left, anys, assigned, Assigns, bit_of_name, lasting};
+ghost use Rattle.flow_graph.specs.Assignments.{masked, choice_left, anys, assigned, lasting_bit};
+ghost use Rattle.flow_graph.specs.Assigning.{Assigns};
 ghost use Rattle.flow_graph.specs.Formulas.{SaysSide};
 ghost use Rattle.flow_graph.specs.Views.{scope_seen, IsSmall};
 ghost use Rattle.round_rewrite.specs.Limits.{most_places};
@@ -101,7 +102,7 @@ impl<'a, N: Allocator> Scope<'a, N> {
     /// The bit of a target: `None` where it is declared nowhere, or a later target writes it again.
     fn lasting(&self, target: &Name<N>, later: &[Name<N>]) -> Option<u8>
         requires { IsSmall self.now }
-        ensures bit { result ≡ lasting (bit_of_name (scope_seen self.now) (name_of target.now)) (map (bit_of_name (scope_seen self.now)) (names_of later.now)) }
+        ensures bit { result ≡ lasting_bit (scope_seen self.now) (name_of target.now) (names_of later.now) }
         ensures small { IfSome result (λ b. b < most_places) }
     {
         let bit = self.bit(target)?;

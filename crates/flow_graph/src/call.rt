@@ -47,8 +47,8 @@ impl<A: Allocator> Call<A> {
         self.back
     }
 
-    /// The valuation with which the procedure is entered from the caller's: the globals as they are, the arguments, and 0 in
-    /// every other place.
+    /// The valuation with which the procedure is entered from the caller's: the globals as they are, the arguments, and
+    /// 0 in every other place.
     pub fn entry(&self, values: Word) -> Word
         ensures { result ≡ entered_from self.now values }
     {

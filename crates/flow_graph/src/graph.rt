@@ -1,18 +1,16 @@
 //! Flow graphs.
 
-ghost use Rattle.std.specs.Prelude.{◌≡◌, ◌≤◌, ◌<◌, ◌++◌, Bool, List, length, slice_get, Some};
-ghost use Rattle.language.specs.Sequential.{Valuation};
-ghost use Rattle.flow_graph.specs.Bits.{coded};
-ghost use Rattle.flow_graph.specs.Flows.{code};
-ghost use Rattle.flow_graph.specs.Returns.{left, resumed};
+ghost use Rattle.std.specs.Prelude.{◌≡◌, ◌≤◌, ◌<◌, length, slice_get, Some};
+ghost use Rattle.flow_graph.specs.Returns.{left, resumed, AreGlobalsOf, IsResumed};
 
 use crate::call::low_bits;
 use crate::flow::Flow;
 use language::{Point, Word};
 use std::alloc::Allocator;
 
-/// The flow graph of a procedure: a point before each statement and the exit, and what leads on from each. A valuation is a
-/// number of 64 bits: the globals from bit 0 in the order of their declaration, then the formals, locals and temporaries.
+/// The flow graph of a procedure: a point before each statement and the exit, and what leads on from each. A valuation
+/// is a number of 64 bits: the globals from bit 0 in the order of their declaration, then the formals, locals and
+/// temporaries.
 #[derive(Debug, Drop)]
 pub struct Graph<A: Allocator> {
     pub(crate) flows: Vec<Flow<A>, A>,
@@ -48,7 +46,7 @@ impl<A: Allocator> Graph<A> {
     /// The globals of a valuation: what a call leaves that ends with it.
     pub fn left(&self, values: Word) -> Word
         ensures number { result ≡ left (globals_of self.now) values }
-        ensures globals { (v : Valuation) → length v.globals ≡ globals_of self.now → values ≡ code v → result ≡ coded v.globals }
+        ensures globals { AreGlobalsOf (globals_of self.now) values result }
     {
         low_bits(values, self.globals)
     }
@@ -56,8 +54,7 @@ impl<A: Allocator> Graph<A> {
     /// The valuation of a caller after a call that left these globals: the places are the caller's.
     pub fn resumed(&self, values: Word, globals: Word) -> Word
         ensures number { result ≡ resumed (globals_of self.now) values globals }
-        ensures valuation { (v : Valuation) (b : List Bool) → length v.globals ≡ globals_of self.now → length b ≡ globals_of self.now
-            → values ≡ code v → globals ≡ coded b → result ≡ coded (b ++ v.places) }
+        ensures valuation { IsResumed (globals_of self.now) values globals result }
     {
         low_bits(globals, self.globals) + (values - low_bits(values, self.globals))
     }

@@ -1,24 +1,18 @@
 //! The points of labels.
 
-ghost use Rattle.std.specs.Prelude.{◌≡◌, ◌≤◌, ◌+◌, ◌∷◌, [], option_map};
-ghost use Rattle.language.specs.Resolve.{Scope, resolve_block};
-ghost use Rattle.language.specs.Rest.{Code, rest_from};
-ghost use Rattle.language.specs.Sequential.{statements, numbered};
-ghost use Rattle.syntax.specs.Trees.{block_of};
-ghost use Rattle.flow_graph.specs.Nodes.{point_at};
+ghost use Rattle.std.specs.Prelude.{◌∷◌, []};
+ghost use Rattle.flow_graph.specs.Points.{IsFound};
 
 use crate::sizes::{size, size_of};
 use language::Point;
 use std::alloc::Allocator;
 use syntax::{Core, Stmt};
 
-/// The point of the first statement with this label, those inside of others included, where the first of the statements has
-/// this number; `None` where none has the label.
+/// The point of the first statement with this label, those inside of others included, where the first of the statements
+/// has this number; `None` where none has the label.
 #[cycle(finding)]
 pub(crate) fn find<N: Allocator>(label: &str, stmts: &[Stmt<N>], first: Point) -> Option<Point>
-    ensures { (s : Scope) (k : Code) → first + statements (block_of stmts.now) ≤ 18446744073709551615 →
-        result ≡ option_map point_at (rest_from label.now
-        (numbered first (resolve_block s (block_of stmts.now))) k) }
+    ensures { IsFound label.now stmts.now first result }
 {
     let mut at = first;
     for stmt in stmts {
@@ -33,9 +27,7 @@ pub(crate) fn find<N: Allocator>(label: &str, stmts: &[Stmt<N>], first: Point) -
 /// The same for one statement, which has this number, and those inside of it.
 #[cycle(finding)]
 fn find_at<N: Allocator>(label: &str, stmt: &Stmt<N>, number: Point) -> Option<Point>
-    ensures { (s : Scope) (k : Code) → number + statements (block_of (stmt.now ∷ [])) ≤ 18446744073709551615 →
-        result ≡ option_map point_at (rest_from label.now
-        (numbered number (resolve_block s (block_of (stmt.now ∷ [])))) k) }
+    ensures { IsFound label.now (stmt.now ∷ []) number result }
 {
     if stmt.is_labelled(label) {
         return Some(number);

@@ -1,16 +1,11 @@
 //! From statements to flows.
 
-ghost use Rattle.std.specs.Prelude.{ℕ, ◌≡◌, ◌≤◌, ◌<◌, ◌+◌, ◌++◌, ◌∷◌, [], IfOk, length, map};
-ghost use Rattle.language.specs.Tree.{done};
-ghost use Rattle.language.specs.Resolve.{number_of, place_of, resolve_expression, resolve_side, resolve_block};
-ghost use Rattle.language.specs.Rest.{Code, join, rest_from};
-ghost use Rattle.language.specs.Sequential.{statements, numbered};
-ghost use Rattle.language.specs.Flow.{rests};
-ghost use Rattle.syntax.specs.Trees.{name_of, names_of, rhs_of, rhss_of, exprs_of, block_of};
-ghost use Rattle.flow_graph.specs.Nodes.{point_at, node_of, goes, stops, goes_to, tests, assumes, assigns, calls};
-ghost use Rattle.flow_graph.specs.Flows.{Does};
-ghost use Rattle.flow_graph.specs.declared.flow.Flow.{Flow};
-ghost use Rattle.flow_graph.specs.Lowering.{IsLowerable, lowering_scope, lowered_body, DoesIn, LoweredIn, DoesFirst};
+ghost use Rattle.std.specs.Prelude.{◌∷◌, [], IfOk};
+ghost use Rattle.flow_graph.specs.Nodes.{goes, stops, tests, assumes};
+ghost use Rattle.flow_graph.specs.Points.{BeginAt};
+ghost use Rattle.flow_graph.specs.Flows.{Widths, Does};
+ghost use Rattle.flow_graph.specs.Lowering.{IsLowerable, side_in, assignment_in, call_in};
+ghost use Rattle.flow_graph.specs.Lowering.{DoesIn, DoesJump, DoesFirst, LoweredIn};
 
 use crate::assignment::Assignment;
 use crate::call::Call;
@@ -28,17 +23,17 @@ use round_rewrite::MOST_PLACES;
 use std::alloc::{AllocError, Allocator};
 use syntax::{Core, Expr, Name, Rhs, Stmt, number_of_procedure};
 
-/// The point at which statements begin, the first of which has this number, where the run goes on at `after` behind them.
+/// The point at which statements begin, the first of which has this number, where the run goes on at `after` behind
+/// them.
 pub(crate) fn begin<N: Allocator>(stmts: &[Stmt<N>], first: Point, after: Point) -> Point
-    ensures { (s : Rattle.language.specs.Resolve.Scope) (k : Code) → point_at k ≡ after →
-        result ≡ point_at (join (numbered first (resolve_block s (block_of stmts.now))) k) }
+    ensures { BeginAt stmts.now first after result }
 {
     if stmts.is_empty() { after } else { first }
 }
 
 /// A flow on which no run goes on.
 fn nowhere<A: Allocator>() -> Flow<A>
-    ensures { (g l m : ℕ) → Does result stops g l m }
+    ensures { (widths : Widths) → Does result stops widths }
 {
     let always_0 = Table {
         inputs: ArrayVec::new(),
@@ -47,7 +42,8 @@ fn nowhere<A: Allocator>() -> Flow<A>
     Flow::Assume(Side::Value(Formula::Table(always_0)), EXIT)
 }
 
-/// What the statements of one procedure are lowered with: where it allocates, the names in scope, and the procedure's body.
+/// What the statements of one procedure are lowered with: where it allocates, the names in scope, and the procedure's
+/// body.
 #[derive(Drop)]
 pub(crate) struct Lowering<'a, N: Allocator, A: Allocator + Clone> {
     pub(crate) alloc: &'a A,
@@ -67,8 +63,7 @@ impl<'a, N: Allocator, A: Allocator + Clone> Lowering<'a, N, A> {
     /// On to the statement with a label.
     fn jump(&self, label: &Name<N>) -> Result<Flow<A>, AllocError>
         requires { IsLowerable self.now }
-        ensures { IfOk result (λ f. statements (block_of self.now.body.now) < 18446744073709551615 →
-            DoesIn self.now f (goes_to (rest_from (name_of label.now).text (lowered_body self.now) done))) }
+        ensures { IfOk result (λ f. DoesJump self.now f label.now) }
     {
         match find(label.text.as_str(), self.body, 1) {
             Some(to) => self.going(to),
@@ -79,7 +74,7 @@ impl<'a, N: Allocator, A: Allocator + Clone> Lowering<'a, N, A> {
     /// One of two ways on, by a right side.
     fn test(&self, r: &Rhs<N>, yes: Point, no: Point) -> Result<Flow<A>, AllocError>
         requires { IsLowerable self.now }
-        ensures { IfOk result (λ f. DoesIn self.now f (tests (resolve_side (lowering_scope self.now) (rhs_of r.now)) yes no)) }
+        ensures { IfOk result (λ f. DoesIn self.now f (tests (side_in self.now r.now) yes no)) }
     {
         if yes == no {
             return self.going(yes);
@@ -90,7 +85,7 @@ impl<'a, N: Allocator, A: Allocator + Clone> Lowering<'a, N, A> {
     /// On where 1 is a value of a right side.
     fn assumption(&self, r: &Rhs<N>, to: Point) -> Result<Flow<A>, AllocError>
         requires { IsLowerable self.now }
-        ensures { IfOk result (λ f. DoesIn self.now f (assumes (resolve_side (lowering_scope self.now) (rhs_of r.now)) to)) }
+        ensures { IfOk result (λ f. DoesIn self.now f (assumes (side_in self.now r.now) to)) }
     {
         Ok(Flow::Assume(self.scope.side(self.alloc.clone()?, r)?, to))
     }
@@ -98,9 +93,7 @@ impl<'a, N: Allocator, A: Allocator + Clone> Lowering<'a, N, A> {
     /// An assignment.
     fn assignment(&self, xs: &[Name<N>], rs: &[Rhs<N>], to: Point) -> Result<Flow<A>, AllocError>
         requires { IsLowerable self.now }
-        ensures { IfOk result (λ f. DoesIn self.now f
-            (assigns (map (place_of (lowering_scope self.now)) (names_of xs.now))
-            (map (resolve_side (lowering_scope self.now)) (rhss_of rs.now)) to)) }
+        ensures { IfOk result (λ f. DoesIn self.now f (assignment_in self.now xs.now rs.now to)) }
     {
         Ok(Flow::Assign(self.scope.assignment(self.alloc, xs, rs)?, to))
     }
@@ -108,9 +101,7 @@ impl<'a, N: Allocator, A: Allocator + Clone> Lowering<'a, N, A> {
     /// A call. No run goes on where there is no such procedure, or where its valuation would have more than 64 places.
     fn call(&self, p: &Name<N>, es: &[Expr<N>], back: Point) -> Result<Flow<A>, AllocError>
         requires { IsLowerable self.now }
-        ensures { IfOk result (λ f. DoesIn self.now f
-            (calls (number_of (name_of p.now).text (lowering_scope self.now).procedures)
-            (map (resolve_expression (lowering_scope self.now)) (exprs_of es.now)) back)) }
+        ensures { IfOk result (λ f. DoesIn self.now f (call_in self.now p.now es.now back)) }
     {
         let callee = number_of_procedure(self.scope.procedures, p.text.as_str());
         if callee >= self.scope.procedures.len() {
@@ -154,19 +145,6 @@ impl<'a, N: Allocator, A: Allocator + Clone> Lowering<'a, N, A> {
         }
     }
 
-    /// Puts what a statement leads to behind others.
-    fn first(
-        &self,
-        stmt: &Stmt<N>,
-        after: Point,
-        flows: &mut Vec<Flow<A>, A>,
-    ) -> Result<(), AllocError>
-        requires { IsLowerable self.now }
-        ensures { IfOk result (λ _. (f : Flow A) × (flows.new.items ≡ flows.old.items ++ f ∷ []) × DoesFirst self.now f stmt.now (length flows.old.items) after) }
-    {
-        put(self.flow(stmt, flows.len(), after), flows)
-    }
-
     /// Puts the flows of statements behind others, where the run goes on at `after` behind them.
     #[cycle(lowering)]
     pub(crate) fn block(
@@ -199,7 +177,7 @@ impl<'a, N: Allocator, A: Allocator + Clone> Lowering<'a, N, A> {
         ensures { IfOk result (λ _. LoweredIn self.now flows.old.items flows.new.items (stmt.now ∷ []) after) }
     {
         let number = flows.len();
-        self.first(stmt, after, flows)?;
+        put(self.flow(stmt, number, after), flows)?;
         match &stmt.core {
             Core::If(_, a, b) => {
                 self.block(a, after, flows)?;

@@ -9,9 +9,10 @@ ghost use Rattle.language.specs.Messages.{Reached, Owes, EdgeTo, IsValuationOf, 
 ghost use Rattle.flow_graph.specs.Nodes.{point_at};
 ghost use Rattle.flow_graph.specs.Flows.{code};
 ghost use Rattle.flow_graph.specs.Graphs.{IsGraph, IsInTextOrder};
-ghost use Rattle.flow_graph.specs.Numbers.{NumberedMessage, numbered_entry, by_numbers, GraphReaches, Sends};
-ghost use Rattle.flow_graph.specs.Numbers.{IsNumberOf, AreNumbersOf, IsNumberOfValuation, AreNumbersOfEdge};
-ghost use Rattle.flow_graph.specs.Triples.{HoldStarts, HoldFlows, HoldReturns, HoldAsks, HoldTells};
+ghost use Rattle.flow_graph.specs.Numbers.{Among, Each, NumberedMessage, numbered_entry, by_numbers, IsNumberOf};
+ghost use Rattle.flow_graph.specs.Numbers.{GraphReaches, Sends, AreNumbersOf, IsNumberOfValuation, AreNumbersOfEdge};
+ghost use Rattle.flow_graph.specs.Triples.{HoldStarts, HoldFlows, HoldReturns, AreReached};
+ghost use Rattle.flow_graph.specs.Triples.{HoldAsks, HoldTells, AreSent};
 ghost use Rattle.flow_graph.specs.declared.graph.Graph.{Graph};
 ghost use Rattle.flow_graph.specs.Drawn.{flows_of};
 
@@ -20,96 +21,97 @@ use std::alloc::Allocator;
 /// By the same messages, a graph reaches by numbers what its procedure reaches.
 pub fn a_graph_reaches_what_its_procedure_reaches<A: Allocator>()
     ensures { (p : Program) (q : ℕ) (graph : Graph A) (ms : List Message) → ArgumentsFit p → IsGraph p q graph
-        → ((m : Message) → Member m ms → IsMessageTo p q m) → (a n v : ℕ)
-        → GraphReaches graph (λ k. Member k (map by_numbers ms)) a n v ↔ AreNumbersOf (Reached p q (λ m. Member m ms)) a n v }
+        → Each (IsMessageTo p q) ms → (a n v : ℕ)
+        → GraphReaches graph (Among (map by_numbers ms)) a n v ↔ AreNumbersOf (Reached p q (Among ms)) a n v }
 {}
 
 /// By the same messages, a graph sends by numbers what its procedure owes.
 pub fn a_graph_sends_what_its_procedure_owes<A: Allocator>()
-    ensures { (p : Program) (q : ℕ) (graph : Graph A) (ms : List Message) → ArgumentsFit p → IsInTextOrder p → IsGraph p q graph
-        → ((m : Message) → Member m ms → IsMessageTo p q m) → (s : ℕ) (k : NumberedMessage)
-        → Sends graph q (λ j. Member j (map by_numbers ms)) s k ↔ IsNumberOf (Owes p q (λ m. Member m ms) s) k }
+    ensures { (p : Program) (q : ℕ) (graph : Graph A) (ms : List Message) → ArgumentsFit p → IsInTextOrder p
+        → IsGraph p q graph → Each (IsMessageTo p q) ms → (s : ℕ) (k : NumberedMessage)
+        → Sends graph q (Among (map by_numbers ms)) s k ↔ IsNumberOf (Owes p q (Among ms) s) k }
 {}
 
 /// By messages that are due, a graph reaches only path edges.
 pub fn by_due_messages_a_graph_reaches_path_edges<A: Allocator>()
     ensures { (p : Program) (q : ℕ) (graph : Graph A) (ks : List NumberedMessage) → ArgumentsFit p → IsGraph p q graph
-        → ((k : NumberedMessage) → Member k ks → IsNumberOf (IsDue p q) k) → (a n v : ℕ)
-        → GraphReaches graph (λ k. Member k ks) a n v → AreNumbersOf (EdgeTo p q) a n v }
+        → Each (IsNumberOf (IsDue p q)) ks → (a n v : ℕ)
+        → GraphReaches graph (Among ks) a n v → AreNumbersOf (EdgeTo p q) a n v }
 {}
 
 /// By messages that are due, a graph sends only messages that are due.
 pub fn by_due_messages_a_graph_sends_due_messages<A: Allocator>()
-    ensures { (p : Program) (q : ℕ) (graph : Graph A) (ks : List NumberedMessage) → ArgumentsFit p → IsInTextOrder p → IsGraph p q graph
-        → ((k : NumberedMessage) → Member k ks → IsNumberOf (IsDue p q) k) → (s : ℕ) (k : NumberedMessage)
-        → Sends graph q (λ j. Member j ks) s k → IsNumberOf (IsDue p s) k }
+    ensures { (p : Program) (q : ℕ) (graph : Graph A) (ks : List NumberedMessage) → ArgumentsFit p → IsInTextOrder p
+        → IsGraph p q graph → Each (IsNumberOf (IsDue p q)) ks → (s : ℕ) (k : NumberedMessage)
+        → Sends graph q (Among ks) s k → IsNumberOf (IsDue p s) k }
 {}
 
 /// By messages of the widths of its procedure, a graph reaches only points that it has, with numbers of the procedure's
 /// valuations.
 pub fn what_a_graph_reaches_has_its_widths<A: Allocator>()
     ensures { (p : Program) (q : ℕ) (graph : Graph A) (ks : List NumberedMessage) → ArgumentsFit p → IsGraph p q graph
-        → ((k : NumberedMessage) → Member k ks → IsNumberOf (IsMessageTo p q) k) → (a n v : ℕ) →
-        GraphReaches graph (λ k. Member k ks) a n v
+        → Each (IsNumberOf (IsMessageTo p q)) ks → (a n v : ℕ) → GraphReaches graph (Among ks) a n v
         → (n < length (flows_of graph)) × IsNumberOfValuation p q a × IsNumberOfValuation p q v }
 {}
 
 /// By messages of the widths of its procedure, a graph sends only messages of the widths of who they are for.
 pub fn what_a_graph_sends_has_its_widths<A: Allocator>()
-    ensures { (p : Program) (q : ℕ) (graph : Graph A) (ks : List NumberedMessage) → ArgumentsFit p → IsInTextOrder p → IsGraph p q graph
-        → ((k : NumberedMessage) → Member k ks → IsNumberOf (IsMessageTo p q) k) → (s : ℕ) (k : NumberedMessage)
-        → Sends graph q (λ j. Member j ks) s k → IsNumberOf (IsMessageTo p s) k }
+    ensures { (p : Program) (q : ℕ) (graph : Graph A) (ks : List NumberedMessage) → ArgumentsFit p → IsInTextOrder p
+        → IsGraph p q graph → Each (IsNumberOf (IsMessageTo p q)) ks → (s : ℕ) (k : NumberedMessage)
+        → Sends graph q (Among ks) s k → IsNumberOf (IsMessageTo p s) k }
 {}
 
 /// By more messages, a graph reaches what it reached, and sends what it sent.
 pub fn more_messages_lead_a_graph_further<A: Allocator>()
-    ensures { (q : ℕ) (graph : Graph A) (ks js : List NumberedMessage) → ((k : NumberedMessage) → Member k ks → Member k js)
-        → ((a n v : ℕ) → GraphReaches graph (λ k. Member k ks) a n v → GraphReaches graph (λ k. Member k js) a n v)
-        × ((s : ℕ) (k : NumberedMessage) → Sends graph q (λ i. Member i ks) s k → Sends graph q (λ i. Member i js) s k) }
+    ensures { (q : ℕ) (graph : Graph A) (ks js : List NumberedMessage) → Each (Among js) ks
+        → ((a n v : ℕ) → GraphReaches graph (Among ks) a n v → GraphReaches graph (Among js) a n v)
+        × ((s : ℕ) (k : NumberedMessage) → Sends graph q (Among ks) s k → Sends graph q (Among js) s k) }
 {}
 
 /// What a graph reaches from the number of an entry has an entry with this number.
 pub fn what_a_graph_reaches_has_an_entry<A: Allocator>()
-    ensures { (graph : Graph A) (ks : List NumberedMessage) (a n v : ℕ) → GraphReaches graph (λ k. Member k ks) a n v
+    ensures { (graph : Graph A) (ks : List NumberedMessage) (a n v : ℕ) → GraphReaches graph (Among ks) a n v
         → (from : Caller) × Member (numbered_entry from a) ks }
 {}
 
 /// Triples that hold the starts, and follow the flows and the returns, hold all that a graph reaches.
 pub fn triples_that_follow_hold_what_is_reached<A: Allocator>()
-    ensures { (graph : Graph A) (ks : List NumberedMessage) (ts : List (ℕ × ℕ × ℕ)) → HoldStarts graph ks ts → HoldFlows graph ts
-        → HoldReturns graph ks ts → (a n v : ℕ) → GraphReaches graph (λ k. Member k ks) a n v → Member (a, n, v) ts }
+    ensures { (graph : Graph A) (ks : List NumberedMessage) (ts : List (ℕ × ℕ × ℕ)) → HoldStarts graph ks ts
+        → HoldFlows graph ts → HoldReturns graph ks ts → (a n v : ℕ)
+        → GraphReaches graph (Among ks) a n v → Member (a, n, v) ts }
 {}
 
 /// Triples of all that a graph reaches, and of nothing else, hold the starts and follow the flows and the returns.
 pub fn triples_of_all_that_is_reached_follow<A: Allocator>()
-    ensures { (graph : Graph A) (ks : List NumberedMessage) (ts : List (ℕ × ℕ × ℕ))
-        → ((a n v : ℕ) → Member (a, n, v) ts ↔ GraphReaches graph (λ k. Member k ks) a n v)
+    ensures { (graph : Graph A) (ks : List NumberedMessage) (ts : List (ℕ × ℕ × ℕ)) → AreReached graph ks ts
         → HoldStarts graph ks ts × HoldFlows graph ts × HoldReturns graph ks ts }
 {}
 
 /// Messages that, besides, hold what such triples ask and tell, hold all that a graph sends.
 pub fn messages_that_follow_hold_what_is_sent<A: Allocator>()
-    ensures { (q : ℕ) (graph : Graph A) (ks : List NumberedMessage) (ts : List (ℕ × ℕ × ℕ)) (sent : List (ℕ × NumberedMessage))
-        → HoldStarts graph ks ts → HoldFlows graph ts → HoldReturns graph ks ts → HoldAsks graph q ts sent
-        → HoldTells graph q ks ts sent → (s : ℕ) (k : NumberedMessage) → Sends graph q (λ j. Member j ks) s k → Member (s, k) sent }
+    ensures { (q : ℕ) (graph : Graph A) (ks : List NumberedMessage) (ts : List (ℕ × ℕ × ℕ))
+        (sent : List (ℕ × NumberedMessage)) → HoldStarts graph ks ts → HoldFlows graph ts → HoldReturns graph ks ts
+        → HoldAsks graph q ts sent → HoldTells graph q ks ts sent → (s : ℕ) (k : NumberedMessage)
+        → Sends graph q (Among ks) s k → Member (s, k) sent }
 {}
 
 /// Beside triples of all that a graph reaches, the messages that it sends, and no others, hold what they ask and tell.
 pub fn messages_of_all_that_is_sent_follow<A: Allocator>()
-    ensures { (q : ℕ) (graph : Graph A) (ks : List NumberedMessage) (ts : List (ℕ × ℕ × ℕ)) (sent : List (ℕ × NumberedMessage))
-        → ((a n v : ℕ) → Member (a, n, v) ts ↔ GraphReaches graph (λ k. Member k ks) a n v)
-        → ((s : ℕ) (k : NumberedMessage) → Member (s, k) sent ↔ Sends graph q (λ j. Member j ks) s k)
+    ensures { (q : ℕ) (graph : Graph A) (ks : List NumberedMessage) (ts : List (ℕ × ℕ × ℕ))
+        (sent : List (ℕ × NumberedMessage)) → AreReached graph ks ts → AreSent graph q ks sent
         → HoldAsks graph q ts sent × HoldTells graph q ks ts sent }
 {}
 
 /// A number tells its valuation, of a procedure's.
 pub fn a_number_tells_its_valuation()
-    ensures { (p : Program) (q : ℕ) (v w : Valuation) → IsValuationOf p q v → IsValuationOf p q w → code v ≡ code w → v ≡ w }
+    ensures { (p : Program) (q : ℕ) (v w : Valuation) → IsValuationOf p q v → IsValuationOf p q w
+        → code v ≡ code w → v ≡ w }
 {}
 
 /// Numbers tell their message, of those of the widths of a procedure's.
 pub fn numbers_tell_their_message()
-    ensures { (p : Program) (q : ℕ) (m n : Message) → IsMessageTo p q m → IsMessageTo p q n → by_numbers m ≡ by_numbers n → m ≡ n }
+    ensures { (p : Program) (q : ℕ) (m n : Message) → IsMessageTo p q m → IsMessageTo p q n
+        → by_numbers m ≡ by_numbers n → m ≡ n }
 {}
 
 /// A message of the right widths is due exactly where its numbers are those of one that is.
@@ -118,10 +120,11 @@ pub fn its_numbers_tell_that_a_message_is_due()
         → IsNumberOf (IsDue p q) (by_numbers m) ↔ IsDue p q m }
 {}
 
-/// There is a path edge between valuations of a procedure exactly where their numbers, and its point's, are those of one.
+/// There is a path edge between valuations of a procedure exactly where their numbers, and its point's, are those of
+/// one.
 pub fn its_numbers_tell_a_path_edge()
-    ensures { (p : Program) (q : ℕ) (x y : Valuation) (r : Code) → ArgumentsFit p → IsInTextOrder p → IsValuationOf p q x
-        → IsValuationOf p q y → IsRestOf (body_of (slice_get p.routines q)) r
+    ensures { (p : Program) (q : ℕ) (x y : Valuation) (r : Code) → ArgumentsFit p → IsInTextOrder p
+        → IsValuationOf p q x → IsValuationOf p q y → IsRestOf (body_of (slice_get p.routines q)) r
         → AreNumbersOf (EdgeTo p q) (code x) (point_at r) (code y) ↔ EdgeTo p q x y r }
 {}
 
@@ -138,8 +141,8 @@ pub fn marked_programs_are_in_text_order()
 
 /// The number of a procedure's valuation has as many bits as there are globals and places.
 pub fn the_number_of_a_valuation_has_its_width()
-    ensures { (p : Program) (q : ℕ) (routine : Routine) (n : ℕ) → slice_get p.routines q ≡ Some routine → IsNumberOfValuation p q n
-        → n < 2 ^ (p.globals + routine.places) }
+    ensures { (p : Program) (q : ℕ) (routine : Routine) (n : ℕ) → slice_get p.routines q ≡ Some routine
+        → IsNumberOfValuation p q n → n < 2 ^ (p.globals + routine.places) }
 {}
 
 /// The numbers of a path edge are those of its valuations and its point.

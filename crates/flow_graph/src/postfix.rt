@@ -1,11 +1,10 @@
 //! Postfix code for expressions.
 
-ghost use Rattle.std.specs.Prelude.{◌≡◌, ℕ, Bool, List, [], ◌∷◌, length, IfOk};
-ghost use Rattle.syntax.specs.Trees.{expr_of};
-ghost use Rattle.flow_graph.specs.Bits.{bit_of, coded};
-ghost use Rattle.flow_graph.specs.Located.{located, worth};
-ghost use Rattle.flow_graph.specs.Postfix.{IsShallow, IsShallow-prop, after_step, after_steps, top, need, Puts};
-ghost use Rattle.flow_graph.specs.Views.{scope_seen, IsSmall};
+ghost use Rattle.std.specs.Prelude.{◌≡◌, [], IfOk};
+ghost use Rattle.flow_graph.specs.Bits.{bit_of};
+ghost use Rattle.flow_graph.specs.Postfix.{IsShallow, IsShallow-prop, IsStepped, after_steps, top};
+ghost use Rattle.flow_graph.specs.Postfix.{need, Puts, AreCodeOf};
+ghost use Rattle.flow_graph.specs.Views.{over_bits, IsSmall};
 
 use crate::scope::Scope;
 use crate::word::BITS;
@@ -33,7 +32,7 @@ const HALF: u64 = 9_223_372_036_854_775_808;
 
 /// The stack after a step; the stack is a number whose lowest bit is the top.
 fn stepped(step: Step, values: Word, stack: u64) -> u64
-    ensures { (s : List Bool) → stack ≡ coded s → IsShallow (length s) (step ∷ []) → result ≡ coded (after_step (bit_of values) step s) }
+    ensures { IsStepped step values stack result }
 {
     match step {
         Step::Read(b) => stack % HALF * 2 + (values >> (b % BITS) & 1),
@@ -73,7 +72,7 @@ impl<A: Allocator> Postfix<A> {
 impl<'a, N: Allocator> Scope<'a, N> {
     /// How many values a stack holds at most while an expression is evaluated, the operand that needs more first.
     fn need(&self, e: &Expr<N>) -> u32
-        ensures { result ≡ need (located (scope_seen self.now) (expr_of e.now)) }
+        ensures { result ≡ need (over_bits self.now e.now) }
     {
         match e {
             Expr::Const(_) => 1,
@@ -94,7 +93,7 @@ impl<'a, N: Allocator> Scope<'a, N> {
     /// Puts the steps of an expression behind others.
     fn put<A: Allocator>(&self, e: &Expr<N>, steps: &mut Vec<Step, A>) -> Result<(), AllocError>
         requires { IsSmall self.now }
-        ensures { IfOk result (λ _. Puts steps.old.items steps.new.items (located (scope_seen self.now) (expr_of e.now))) }
+        ensures { IfOk result (λ _. Puts steps.old.items steps.new.items (over_bits self.now e.now)) }
     {
         match e {
             Expr::Const(b) => steps.push(Step::Constant(*b))?,
@@ -128,7 +127,7 @@ impl<'a, N: Allocator> Scope<'a, N> {
         e: &Expr<N>,
     ) -> Result<Postfix<A>, AllocError>
         requires { IsSmall self.now }
-        ensures { IfOk result (λ p. (f : ℕ → Bool) → top (after_steps f p.steps.items []) ≡ worth f (located (scope_seen self.now) (expr_of e.now))) }
+        ensures { IfOk result (λ p. AreCodeOf p.steps.items (over_bits self.now e.now)) }
     {
         let mut steps = Vec::new(alloc);
         self.put(e, &mut steps)?;

@@ -1,9 +1,8 @@
 //! Where the variables of a procedure stand in a valuation.
 
-ghost use Rattle.std.specs.Prelude.{◌≡◌, ◌<◌, length, IfSome};
-ghost use Rattle.language.specs.Resolve.{place_of};
+ghost use Rattle.std.specs.Prelude.{◌≡◌, ◌<◌, IfSome};
 ghost use Rattle.syntax.specs.Trees.{name_of};
-ghost use Rattle.flow_graph.specs.Located.{bit_of_place};
+ghost use Rattle.flow_graph.specs.Located.{bit_of_name};
 ghost use Rattle.flow_graph.specs.Views.{scope_seen, IsSmall};
 ghost use Rattle.round_rewrite.specs.Limits.{most_places};
 
@@ -23,7 +22,7 @@ impl<'a, N: Allocator> Scope<'a, N> {
     /// The bit of a variable: `None` where it is declared nowhere.
     pub(crate) fn bit(&self, x: &Name<N>) -> Option<u8>
         requires { IsSmall self.now }
-        ensures bit { result ≡ bit_of_place (length (scope_seen self.now).globals) (place_of (scope_seen self.now) (name_of x.now)) }
+        ensures bit { result ≡ bit_of_name (scope_seen self.now) (name_of x.now) }
         ensures small { IfSome result (λ b. b < most_places) }
     {
         let text = x.text.as_str();

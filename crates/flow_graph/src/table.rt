@@ -1,13 +1,13 @@
 //! Truth tables for expressions of at most six bits.
 
-ghost use Rattle.std.specs.Prelude.{◌≡◌, ◌<◌, ◌≤◌, ℕ, length, map, not, IfSome};
+ghost use Rattle.std.specs.Prelude.{◌≡◌, ◌<◌, ◌≤◌, ℕ, length, not, IfSome};
 ghost use Rattle.language.specs.Value.{operate};
 ghost use Rattle.language.specs.Tree.{var};
-ghost use Rattle.syntax.specs.Trees.{expr_of, operator_of};
-ghost use Rattle.flow_graph.specs.Bits.{bit_of, coded};
-ghost use Rattle.flow_graph.specs.Located.{located, worth};
-ghost use Rattle.flow_graph.specs.Tables.{slot, Tabulates, AreBits, AreBits-prop, Widens, most_rows};
-ghost use Rattle.flow_graph.specs.Views.{scope_seen, IsSmall};
+ghost use Rattle.syntax.specs.Trees.{operator_of};
+ghost use Rattle.flow_graph.specs.Bits.{bit_of};
+ghost use Rattle.flow_graph.specs.Tables.{most_rows, slot, Tabulates, table_says, IsTableOf};
+ghost use Rattle.flow_graph.specs.Tables.{AreBits, AreBits-prop, Widens};
+ghost use Rattle.flow_graph.specs.Views.{over_bits, IsSmall};
 ghost use Rattle.round_rewrite.specs.Limits.{most_places};
 
 use crate::scope::Scope;
@@ -31,7 +31,7 @@ pub struct Table {
 impl Table {
     /// What the expression is worth for these values.
     pub(crate) fn value(&self, values: Word) -> bool
-        ensures { result ≡ bit_of self.now.outputs (coded (map (bit_of values) self.now.inputs.items)) }
+        ensures { result ≡ table_says self.now.inputs.items self.now.outputs values }
     {
         let mut row: u64 = 0;
         let mut place: u64 = 1;
@@ -111,7 +111,8 @@ fn read(inputs: &mut ArrayVec<u8, MOST>, bit: u8) -> Option<u64>
 }
 
 impl<'a, N: Allocator> Scope<'a, N> {
-    /// The outputs of an expression, whose bits become inputs where they were none; `None` where more than six would be.
+    /// The outputs of an expression, whose bits become inputs where they were none; `None` where more than six would
+    /// be.
     fn outputs(&self, e: &Expr<N>, inputs: &mut ArrayVec<u8, MOST>) -> Option<u64>
         requires small { IsSmall self.now }
         requires bits { AreBits inputs.old.items }
@@ -119,7 +120,7 @@ impl<'a, N: Allocator> Scope<'a, N> {
         ensures widens { Widens inputs.old.items inputs.new.items }
         ensures bits { AreBits inputs.new.items }
         ensures few { length inputs.new.items ≤ 6 }
-        ensures outputs { IfSome result (λ w. Tabulates inputs.new.items w (located (scope_seen self.now) (expr_of e.now))) }
+        ensures outputs { IfSome result (λ w. Tabulates inputs.new.items w (over_bits self.now e.now)) }
     {
         match e {
             Expr::Const(b) => Some(if *b { u64::MAX } else { 0 }),
@@ -142,7 +143,7 @@ impl<'a, N: Allocator> Scope<'a, N> {
     /// An expression as a truth table; `None` where it has more than six bits.
     pub(crate) fn table(&self, e: &Expr<N>) -> Option<Table>
         requires { IsSmall self.now }
-        ensures { IfSome result (λ t. (v : ℕ) → bit_of t.outputs (coded (map (bit_of v) t.inputs.items)) ≡ worth (bit_of v) (located (scope_seen self.now) (expr_of e.now))) }
+        ensures { IfSome result (λ t. IsTableOf t.inputs.items t.outputs (over_bits self.now e.now)) }
     {
         let mut inputs = ArrayVec::new();
         let outputs = self.outputs(e, &mut inputs)?;

@@ -1,22 +1,20 @@
 -- One `?` more doubles the choices, of which there are 2^64 at most.
 use Rattle.std.proofs.Common.{suc, ap, arith, pow-suc}
 use Rattle.flow_graph.specs.Assignments.{any_of}
-use Rattle.flow_graph.proofs.Assignments.{anys_step, room}
+use Rattle.flow_graph.proofs.Assignments.{anys_step, one_more_fits}
 use Rattle.flow_graph.proofs.assignment.last_choice.Goals as goal
 use Rattle.flow_graph.proofs.assignment.last_choice.Goals.{in-Any, in-Value}
 
 pub overflow_mul-last : goal.overflow_mul-last
 overflow_mul-last g c =
-    let step = anys_step c.args.writes.now c.loop-write.write-index c.write-item.result c.loop-write-test.true c.write-item.is in
-    let one = ap any_of c.in-Any.is in
-    let fits = room c.loop-write.invariant.0 c.loop-write.last c.loop-write.invariant.1 (omega (arith, c.loop-write.invariant.2, step, one, c.requires)) in
+    let fits = one_more_fits c.args.writes.now _ _ _ c.loop-write.invariant c.loop-write-test.true c.write-item.is
+    (ap any_of c.in-Any.is) c.requires in
     omega (arith, fits)
 
 pub overflow_add-last : goal.overflow_add-last
 overflow_add-last g c =
-    let step = anys_step c.args.writes.now c.loop-write.write-index c.write-item.result c.loop-write-test.true c.write-item.is in
-    let one = ap any_of c.in-Any.is in
-    let fits = room c.loop-write.invariant.0 c.loop-write.last c.loop-write.invariant.1 (omega (arith, c.loop-write.invariant.2, step, one, c.requires)) in
+    let fits = one_more_fits c.args.writes.now _ _ _ c.loop-write.invariant c.loop-write-test.true c.write-item.is
+    (ap any_of c.in-Any.is) c.requires in
     omega (arith, fits)
 
 pub loop-write-preserved : goal.loop-write-preserved

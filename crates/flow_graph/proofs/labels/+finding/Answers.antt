@@ -1,14 +1,14 @@
 -- The label stands at a statement, inside of it, or behind it.
 use Rattle.std.proofs.Common.{◌≡◌, ◌<◌, ◌+◌, ◌*◌, suc, [], ◌∷◌, drop, refl, ◌∙◌, ap, sym, arith}
-use Rattle.language.specs.Resolve.{resolve_mark, resolve_side, resolve_block}
+use Rattle.language.specs.Resolve.{resolve_block}
 use Rattle.language.specs.Rest.{join, first_of_two}
-use Rattle.language.specs.Sequential.{statements, numbered, marked}
-use Rattle.language.specs.Tree.{loop}
-use Rattle.syntax.specs.Trees.{item_of, deed_of, block_of, rhs_of}
+use Rattle.language.specs.Sequential.{statements, numbered}
+use Rattle.syntax.specs.Trees.{deed_of, block_of, rhs_of}
 use Rattle.syntax.proofs.Held.{held, smaller}
-use Rattle.syntax.proofs.Folds.{item_deed, deed_of-If, deed_of-While}
+use Rattle.syntax.proofs.Folds.{deed_of-If, deed_of-While}
 use Rattle.flow_graph.proofs.Counted.{alone_counts, next_counts}
-use Rattle.flow_graph.proofs.Searching.{place, place_next, place_nowhere, in_branch_first, in_branch_second, in_loop}
+use Rattle.flow_graph.proofs.Searching.{place, place_next, place_nowhere}
+use Rattle.flow_graph.proofs.Searching.{same_found, found_first, found_second, found_inside}
 use Rattle.flow_graph.proofs.labels.+finding.Goals as goal
 
 pub find-find_at-requires : goal.find-find_at-requires
@@ -53,71 +53,38 @@ find-returns g t c s k most =
     sym ((c.loop-stmt.invariant s k most).1 ∙ place_nowhere c.args.label.now c.loop-stmt.at s c.args.stmts.now c.loop-stmt.stmt-index k c.loop-stmt-test.false)
 
 pub find_at-returns-in-Some : goal.find_at-returns-in-Some
-find_at-returns-in-Some g t c s k most =
+find_at-returns-in-Some g t c =
+    let core = ap deed_of c.in-If.is ∙ deed_of-If c.in-If.field-0 c.in-If.a c.in-If.b in
     let x = c.args.label.now in
-    let stmt = c.args.stmt.now in
-    let n = c.args.number in
-    let is = item_deed stmt ∙ ap deed_of c.in-If.is ∙ deed_of-If c.in-If.field-0 c.in-If.a c.in-If.b in
-    let whole = alone_counts stmt in
-    let parts = ap held (ap deed_of c.in-If.is ∙ deed_of-If c.in-If.field-0 c.in-If.a c.in-If.b) in
-    let a = c.deref.ensures.value in
-    let count = ap (λ l. statements (block_of l)) a in
-    let inside : c.saturating_add-inside.result ≡ suc n = omega (arith, c.saturating_add-inside.ensures, whole, most) in
-    let there = c.find.ensures s k (omega (arith, inside, whole, parts, count, most)) in
-    sym (
-    in_branch_first x n c.in-Some.found s (item_of stmt).mark (item_of stmt).deed (rhs_of c.in-If.field-0) (block_of c.in-If.a.items) (block_of c.in-If.b.items) k is
-    (sym c.is_labelled.ensures ∙ c.if-is_labelled.false)
-    (ap (λ l. place x (numbered (suc n) (resolve_block s (block_of l))) k) (sym a)
-    ∙ ap (λ j. place x (numbered j (resolve_block s (block_of c.deref.result.now))) k) (sym inside)
-    ∙ sym there ∙ c.in-Some.is)
-    )
+    let at = c.saturating_add-inside.result in
+    found_first x c.args.stmt.now c.args.number at (sym c.is_labelled.ensures ∙ c.if-is_labelled.false)
+    (rhs_of c.in-If.field-0) c.in-If.a.items c.in-If.b.items c.in-Some.found core
+    (λ most. omega (arith, c.saturating_add-inside.ensures, alone_counts c.args.stmt.now, most))
+    (same_found x _ _ at _ _ c.deref.ensures.value c.in-Some.is c.find.ensures)
 
 pub find_at-returns-in-None : goal.find_at-returns-in-None
-find_at-returns-in-None g t c s k most =
+find_at-returns-in-None g t c =
     let x = c.args.label.now in
-    let stmt = c.args.stmt.now in
-    let n = c.args.number in
-    let is = item_deed stmt ∙ ap deed_of c.in-If.is ∙ deed_of-If c.in-If.field-0 c.in-If.a c.in-If.b in
-    let whole = alone_counts stmt in
-    let parts = ap held (ap deed_of c.in-If.is ∙ deed_of-If c.in-If.field-0 c.in-If.a c.in-If.b) in
-    let a = c.deref.ensures.value in
-    let b = c.deref-in-None.ensures.value in
-    let a2 = c.deref-in-None-2.ensures.value in
-    let count = ap (λ l. statements (block_of l)) a in
-    let count_b = ap (λ l. statements (block_of l)) b in
-    let count_a2 = ap (λ l. statements (block_of l)) a2 in
-    let inside : c.saturating_add-inside.result ≡ suc n = omega (arith, c.saturating_add-inside.ensures, whole, most) in
-    let size = c.size.ensures (omega (arith, whole, parts, count_a2, most)) in
-    let j : c.saturating_add.result ≡ suc n + statements (block_of c.in-If.a.items) = omega (arith, inside, size, count_a2, c.saturating_add.ensures, whole, parts, most) in
-    let first = c.find.ensures s k (omega (arith, inside, whole, parts, count, most)) in
-    let second = c.find-in-None.ensures s k (omega (arith, j, whole, parts, count_b, most)) in
-    sym (
-    in_branch_second x n c.saturating_add.result s (item_of stmt).mark (item_of stmt).deed (rhs_of c.in-If.field-0) (block_of c.in-If.a.items) (block_of c.in-If.b.items) k is
-    (sym c.is_labelled.ensures ∙ c.if-is_labelled.false)
-    (ap (λ l. place x (numbered (suc n) (resolve_block s (block_of l))) k) (sym a)
-    ∙ ap (λ i. place x (numbered i (resolve_block s (block_of c.deref.result.now))) k) (sym inside)
-    ∙ sym first ∙ c.in-None.is)
-    j
-    ∙ ap (λ l. place x (numbered c.saturating_add.result (resolve_block s (block_of l))) k) (sym b)
-    ∙ sym second
-    )
+    let at = c.saturating_add-inside.result in
+    let j = c.saturating_add.result in
+    let core = ap deed_of c.in-If.is ∙ deed_of-If c.in-If.field-0 c.in-If.a c.in-If.b in
+    let whole = alone_counts c.args.stmt.now ∙ ap (λ d. suc (held d)) core in
+    let count = ap (λ l. statements (block_of l)) c.deref-in-None-2.ensures.value in
+    found_second x c.args.stmt.now c.args.number at (sym c.is_labelled.ensures ∙ c.if-is_labelled.false)
+    (rhs_of c.in-If.field-0) c.in-If.a.items c.in-If.b.items j c.find-in-None.result core
+    (λ most. omega (arith, c.saturating_add-inside.ensures, whole, most))
+    (λ most.
+    let size = c.size.ensures (omega (arith, whole, count, most)) in
+    omega (arith, c.saturating_add-inside.ensures, size, count, c.saturating_add.ensures, whole, most))
+    (same_found x _ _ at _ _ c.deref.ensures.value c.in-None.is c.find.ensures)
+    (same_found x _ _ j _ _ c.deref-in-None.ensures.value refl c.find-in-None.ensures)
 
 pub find_at-returns-in-While : goal.find_at-returns-in-While
-find_at-returns-in-While g t c s k most =
+find_at-returns-in-While g t c =
     let x = c.args.label.now in
-    let stmt = c.args.stmt.now in
-    let n = c.args.number in
-    let is = item_deed stmt ∙ ap deed_of c.in-While.is ∙ deed_of-While c.in-While.field-0 c.in-While.a in
-    let whole = alone_counts stmt in
-    let parts = ap held (ap deed_of c.in-While.is ∙ deed_of-While c.in-While.field-0 c.in-While.a) in
-    let a = c.deref-in-While.ensures.value in
-    let count = ap (λ l. statements (block_of l)) a in
-    let inside : c.saturating_add-inside.result ≡ suc n = omega (arith, c.saturating_add-inside.ensures, whole, most) in
-    let again = loop (marked n (resolve_mark (item_of stmt).mark)) (resolve_side s (rhs_of c.in-While.field-0)) (numbered (suc n) (resolve_block s (block_of c.in-While.a.items))) k in
-    let there = c.find-in-While.ensures s again (omega (arith, inside, whole, parts, count, most)) in
-    sym (
-    in_loop x n s (item_of stmt).mark (item_of stmt).deed (rhs_of c.in-While.field-0) (block_of c.in-While.a.items) k is (sym c.is_labelled.ensures ∙ c.if-is_labelled.false)
-    ∙ ap (λ l. place x (numbered (suc n) (resolve_block s (block_of l))) again) (sym a)
-    ∙ ap (λ j. place x (numbered j (resolve_block s (block_of c.deref-in-While.result.now))) again) (sym inside)
-    ∙ sym there
-    )
+    let at = c.saturating_add-inside.result in
+    found_inside x c.args.stmt.now c.args.number at (sym c.is_labelled.ensures ∙ c.if-is_labelled.false)
+    (rhs_of c.in-While.field-0) c.in-While.a.items c.find-in-While.result
+    (ap deed_of c.in-While.is ∙ deed_of-While c.in-While.field-0 c.in-While.a)
+    (λ most. omega (arith, c.saturating_add-inside.ensures, alone_counts c.args.stmt.now, most))
+    (same_found x _ _ at _ _ c.deref-in-While.ensures.value refl c.find-in-While.ensures)

@@ -8,7 +8,7 @@ use Rattle.syntax.specs.Trees.{deed_of, block_of}
 use Rattle.syntax.proofs.Held.{held}
 use Rattle.flow_graph.specs.declared.flow.Flow.{Flow}
 use Rattle.flow_graph.specs.Nodes.{point_at, node_of}
-use Rattle.flow_graph.specs.Flows.{Lowered}
+use Rattle.flow_graph.specs.Flows.{widths_of, Lowered}
 use Rattle.flow_graph.specs.Lowering.{lowering_scope, lowered_body, code_from, IsCounted}
 use Rattle.flow_graph.proofs.lowering.Lowering.+lowering.Given as goal
 
@@ -19,12 +19,10 @@ invariant-block-loop-stmt g l =
     × ((k : Code) (new : List (Flow g.row.A.Denot)) → point_at k ≡ l.after →
     IsCounted l.self (length l.initial.flows.items) l.stmts →
     Lowered l.flows.items new (map (node_of (lowered_body l.self))
-    (rests (code_from l.self (length l.flows.items) l.rest) k)) (length (lowering_scope l.self).globals)
-    (length (lowering_scope l.self).locals) (length (lowering_scope l.self).procedures) →
+    (rests (code_from l.self (length l.flows.items) l.rest) k)) (widths_of (lowering_scope l.self)) →
     Lowered l.initial.flows.items new
     (map (node_of (lowered_body l.self)) (rests (code_from l.self (length l.initial.flows.items) l.stmts) k))
-    (length (lowering_scope l.self).globals) (length (lowering_scope l.self).locals)
-    (length (lowering_scope l.self).procedures))
+    (widths_of (lowering_scope l.self)))
 
 abbrev pub decreases-block-loop-stmt : goal.decreases-block-loop-stmt
 decreases-block-loop-stmt g l = length l.rest

@@ -6,4 +6,5 @@ use Rattle.flow_graph.proofs.lowering.Lowering.assignment.Goals as goal
 pub returns : goal.returns
 returns g c =
     let s = lowering_scope c.args.self.now in
-    does_assigns c.in_ok-assignment.field-0 s (names_of c.args.xs.now) (rhss_of c.args.rs.now) c.args.to _ c.in_ok-assignment.ensures
+    let assigns = c.in_ok-assignment in
+    does_assigns assigns.field-0 s (names_of c.args.xs.now) (rhss_of c.args.rs.now) c.args.to assigns.ensures

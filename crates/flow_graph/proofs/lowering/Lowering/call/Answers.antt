@@ -16,7 +16,9 @@ returns-then-callee-self g c =
     let procs = c.args.self.now.scope.procedures.now in
     let e = ap (λ t. number_of t s.procedures) c.as_str.ensures.value in
     let count : length s.procedures ≡ length procs = length-map (procs_of procs) _ ∙ length-map procs proc_of in
-    does_no_call c.nowhere.result _ _ c.args.back _ _ _ (inl (λ less. omega (arith, less, e, count, c.number_of_procedure-callee.ensures, c.if-callee-self.true))) (c.nowhere.ensures _ _ _)
+    let callee = c.number_of_procedure-callee.ensures in
+    does_no_call c.nowhere.result _ _ c.args.back _
+    (inl (λ less. omega (arith, less, e, count, callee, c.if-callee-self.true))) (c.nowhere.ensures _)
 
 pub returns-then-es-self : goal.returns-then-es-self
 returns-then-es-self g c =
@@ -24,7 +26,8 @@ returns-then-es-self g c =
     let es = c.args.es.now in
     let count : length (map (resolve_expression s) (exprs_of es)) ≡ length es = length-map (exprs_of es) (resolve_expression s) ∙ length-map es expr_of in
     let globals : length s.globals ≡ length c.args.self.now.scope.globals.now = length-map c.args.self.now.scope.globals.now name_of in
-    does_no_call c.nowhere-then-es-self.result _ _ c.args.back _ _ _ (inr (λ few. omega (arith, few, count, globals, c.if-es-self.true))) (c.nowhere-then-es-self.ensures _ _ _)
+    does_no_call c.nowhere-then-es-self.result _ _ c.args.back _
+    (inr (λ few. omega (arith, few, count, globals, c.if-es-self.true))) (c.nowhere-then-es-self.ensures _)
 
 pub loop-e-preserved : goal.loop-e-preserved
 loop-e-preserved g c =
@@ -51,7 +54,8 @@ returns g c =
     let count : length s.procedures ≡ length procs = length-map (procs_of procs) _ ∙ length-map procs proc_of in
     let globals : length s.globals ≡ length c.args.self.now.scope.globals.now = length-map c.args.self.now.scope.globals.now name_of in
     let callee = c.number_of_procedure-callee.ensures ∙ e in
-    does_calls _ _ (map (resolve_expression s) (exprs_of es)) s _ callee (sym globals) (omega (arith, callee, count, c.if-callee-self.false))
+    does_calls _ _ (map (resolve_expression s) (exprs_of es)) s callee (sym globals)
+    (omega (arith, callee, count, c.if-callee-self.false))
     (λ gs ls wide.
     sym (append-nil (map (λ f. says f (coded (gs ++ ls))) c.loop-e.arguments.items))
     ∙ ap (λ l. map (λ f. says f (coded (gs ++ ls))) c.loop-e.arguments.items ++ values_of gs ls (map (resolve_expression s) (exprs_of l))) (sym (drop_all c.loop-e.e-index es c.loop-e-test.false))

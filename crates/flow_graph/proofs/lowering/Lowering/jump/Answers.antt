@@ -28,4 +28,4 @@ returns-in-None g c few =
     (sym (goes_lost (rest_from (string_bytes c.args.label.now.text) (lowered_body c.args.self.now) done)
     (ap (λ x. option_map point_at (rest_from x (lowered_body c.args.self.now) done)) (sym c.as_str.ensures.value) ∙
     sym found ∙ c.in-None.is)))
-    (c.nowhere.ensures _ _ _)
+    (c.nowhere.ensures _)

@@ -2,7 +2,8 @@
 use Rattle.std.proofs.Common.{◌≡◌, ◌+◌, ◌^◌, length, map, ap, sym, ◌∙◌, subst, arith}
 use Rattle.std.specs.Prelude.{IfOk}
 use Rattle.syntax.specs.Trees.{names_of, rhs_of, rhss_of}
-use Rattle.flow_graph.specs.Assignments.{anys, bit_of_name}
+use Rattle.flow_graph.specs.Assignments.{anys}
+use Rattle.flow_graph.specs.Located.{bit_of_name}
 use Rattle.flow_graph.specs.Formulas.{SaysSide}
 use Rattle.flow_graph.specs.Views.{scope_seen}
 use Rattle.flow_graph.proofs.Assignments.{kept_from, all_written, anys_same, anys_few, assigns, few_variables, names_below, one_written, passed_over}

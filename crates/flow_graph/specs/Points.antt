@@ -1,0 +1,26 @@
+-- The numbers of statements: how many there are, where they begin, and where a label stands.
+use Rattle.std.specs.Prelude.{◌≡◌, ◌≤◌, ℕ, ◌+◌, Option, List, option_map}
+use Rattle.language.specs.Resolve.{Scope, resolve_block}
+use Rattle.language.specs.Rest.{Label, Code, join, rest_from}
+use Rattle.language.specs.Sequential.{statements, numbered}
+use Rattle.syntax.specs.Trees.{block_of}
+use Rattle.syntax.specs.declared.tree.Stmt.{Stmt}
+use Rattle.flow_graph.specs.Nodes.{point_at}
+
+-- size is how many statements there are, those inside of others included, where so many is a number of 64 bits
+abbrev pub IsSize : {N : Type 0} → List (Stmt N) → ℕ → Type 0
+IsSize stmts size = statements (block_of stmts) ≤ 18446744073709551615 → size ≡ statements (block_of stmts)
+
+-- where a run goes on at the point `after` behind these statements, the first of which has this number, they begin at
+-- `to`
+abbrev pub BeginAt : {N : Type 0} → List (Stmt N) → ℕ → ℕ → ℕ → Type 0
+BeginAt stmts first after to =
+    (s : Scope) (k : Code) → point_at k ≡ after →
+    to ≡ point_at (join (numbered first (resolve_block s (block_of stmts))) k)
+
+-- The point of the first statement with this label was found, or that there is none, among statements whose numbers are
+-- of 64 bits, and those inside of them.
+abbrev pub IsFound : {N : Type 0} → Label → List (Stmt N) → ℕ → Option ℕ → Type 0
+IsFound x stmts first found =
+    (s : Scope) (k : Code) → first + statements (block_of stmts) ≤ 18446744073709551615 →
+    found ≡ option_map point_at (rest_from x (numbered first (resolve_block s (block_of stmts))) k)
