@@ -1,5 +1,5 @@
 -- What a pass knows after it was told what another had seen.
-use Rattle.std.proofs.Common.{◌≡◌, ◌⊎◌, inl, inr, ℕ, ◌<◌, Bool, not, List, [], Some, None, length, refl, sym, ap, ◌∙◌, subst, arith}
+use Rattle.std.proofs.Common.{◌≡◌, ◌⊎◌, inl, inr, ℕ, ◌<◌, Bool, not, List, [], ◌∷◌, Some, None, length, length-append, refl, sym, ap, ◌∙◌, subst, arith}
 use Rattle.std.specs.Prelude.{Option}
 use Rattle.std.proofs.Common.{lt_of_not-le}
 use Rattle.std.proofs.lemmas.Bool.{not-true}
@@ -41,6 +41,12 @@ module _ {M W : Type 0} where
       pub before : Before last y
       pub sound : IsSound fits y
       pub part : share n y ≡ share n last
+
+    -- what is seen ends in some state
+    pub ends_after : {a : Standing (State M W)} {w : W} {boxes : ℕ} {kept : Bool} (p : IsPass fits a w boxes kept) (seen : List (State M W)) →
+        StartsWith seen a.seen → (y : State M W) × EndsIn seen y
+    ends_after {a} p seen mine =
+        EndsIn-some seen (omega (arith, StartsWith-length seen a.seen mine, ap length p.ends.1, length-append p.ends.0 (p.last ∷ [])))
 
     pub news_is : (note : Told (State M W)) (a b : Standing (State M W)) (w : W) (boxes : ℕ) (kept : Bool) (p : IsPass fits a w boxes kept) → lock.Learned (Comes fits) share note a b → (y : State M W) → EndsIn b.seen y → News a.number p.last y
     news_is note a b w boxes kept p l y ends =

@@ -30,6 +30,13 @@ fresh_at id budget x first (suc count) (y ∷ xs) rest lane e =
     tail : {X : Type 0} {a b : X} {xs ys : List X} → a ∷ xs ≡ b ∷ ys → xs ≡ ys
     tail e = cc
 
+-- and so is the one that the iterator gives
+pub fresh_next : {T : Type 0} (id : TableId) (budget : ℕ) (x : T) (count : ℕ) (xs : List (Standing T)) {all rest : List (Standing T)} {lane : Standing T} →
+    all ≡ lane ∷ rest → xs ++ all ≡ fresh_lanes id budget x 0 count →
+    (xs ++ lane ∷ rest ≡ fresh_lanes id budget x 0 count) × ((lane ≡ fresh_lane id budget x (0 + length xs)) × (length xs < count))
+fresh_next id budget x count xs {rest = rest} {lane = lane} gives are =
+    let seen = ap (λ l. xs ++ l) (sym gives) ∙ are in (seen, fresh_at id budget x 0 count xs rest lane seen)
+
 pub fresh_count : {T : Type 0} (id : TableId) (budget : ℕ) (x : T) (first count : ℕ) → length (fresh_lanes id budget x first count) ≡ count
 fresh_count id budget x first zero = refl
 fresh_count id budget x first (suc count) = ap suc (fresh_count id budget x (suc first) count)

@@ -3,7 +3,7 @@ use Rattle.std.proofs.Common.{refl, ◌<◌, ◌+◌, length, ap, arith}
 use Rattle.std.specs.Vec.{vec_capacity}
 use Rattle.post_ledger.specs.declared.entry.Entry.TheVariants.{Completed}
 use Rattle.post_ledger.proofs.Orders.{job_inside}
-use Rattle.switchboard.proofs.Keeping.{box_at, kept_entry, room_done, few_done, job_inside_is, job_in_history}
+use Rattle.switchboard.proofs.Keeping.{box_at, kept_entry, room_done, few_done, job_inside_is, job_in_box}
 use Rattle.switchboard.proofs.book.Book.done.Goals as goal
 
 pub index_mut-mailbox-requires : goal.index_mut-mailbox-requires
@@ -20,8 +20,8 @@ done-requires-clause-taken g c =
     let at = box_at i.mailboxes.items c.from.result c.index_mut-mailbox.result.now c.from.ensures refl
     (job_inside (length i.mailboxes.items) i.order.items c.args.by c.job.inside.take c.self.invariant.lawful has)
     c.index_mut-mailbox.ensures.value in
-    let there = job_in_history c.args.by c.job.inside.take c.from.result i.order.items c.index_mut-mailbox.result.now c.from.ensures (c.self.invariant.parts c.from.result c.index_mut-mailbox.result.now at) has in
-    there.0
+    (job_in_box i.mailboxes.items i.order.items (vec_capacity i.order) i.posted i.completed c.args.by c.job.inside.take c.from.result
+    c.index_mut-mailbox.result.now c.self.invariant c.from.ensures at has).0
 
 pub done-requires-clause-open : goal.done-requires-clause-open
 done-requires-clause-open g c =
@@ -30,8 +30,8 @@ done-requires-clause-open g c =
     let at = box_at i.mailboxes.items c.from.result c.index_mut-mailbox.result.now c.from.ensures refl
     (job_inside (length i.mailboxes.items) i.order.items c.args.by c.job.inside.take c.self.invariant.lawful has)
     c.index_mut-mailbox.ensures.value in
-    let there = job_in_history c.args.by c.job.inside.take c.from.result i.order.items c.index_mut-mailbox.result.now c.from.ensures (c.self.invariant.parts c.from.result c.index_mut-mailbox.result.now at) has in
-    there.1
+    (job_in_box i.mailboxes.items i.order.items (vec_capacity i.order) i.posted i.completed c.args.by c.job.inside.take c.from.result
+    c.index_mut-mailbox.result.now c.self.invariant c.from.ensures at has).1
 
 pub push_reserved-requires : goal.push_reserved-requires
 push_reserved-requires g c =

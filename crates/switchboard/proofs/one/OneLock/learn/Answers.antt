@@ -1,10 +1,9 @@
 -- What the pass has seen last then is what one of the two had.
-use Rattle.std.proofs.Common.{◌∷◌, [], length, length-append, sym, ap, ◌∙◌, subst, arith}
-use Rattle.ticket_lock.specs.Facts.{EndsIn-some, StartsWith-length}
+use Rattle.std.proofs.Common.{sym, ◌∙◌, subst}
 use Rattle.switchboard.specs.Passes.{sight_of}
 use Rattle.switchboard.specs.Promises.{Learned}
 use Rattle.switchboard.proofs.Visits.{shows, shows_now, showing, moved}
-use Rattle.switchboard.proofs.Learning.{news_is, pass_learned, learned_is}
+use Rattle.switchboard.proofs.Learning.{ends_after, news_is, pass_learned, learned_is}
 use Rattle.switchboard.proofs.one.OneLock.learn.Goals as goal
 
 pub invariant_of-pass : goal.invariant_of-pass
@@ -12,11 +11,8 @@ invariant_of-pass g c =
     let F = g.M.Mail.fits in
     let p = c.pass.invariant in
     let i = c.pass.inside in
-    let a = i.lane in
-    let b = c.learn.new.lane in
-    let l = c.learn.ensures in
-    let y = EndsIn-some b.seen (omega (arith, StartsWith-length b.seen a.seen l.mine, ap length p.ends.1, length-append p.ends.0 (p.last ∷ []))) in
-    pass_learned F c.told.inside.note a b i.world.value i.boxes i.kept p l y.0 y.1
+    let y = ends_after F p c.learn.new.lane.seen c.learn.ensures.mine in
+    pass_learned F c.told.inside.note i.lane c.learn.new.lane i.world.value i.boxes i.kept p c.learn.ensures y.0 y.1
 
 pub returns : goal.returns
 returns g c =
@@ -26,7 +22,7 @@ returns g c =
     let a = i.lane in
     let b = c.learn.new.lane in
     let l = c.learn.ensures in
-    let y = EndsIn-some b.seen (omega (arith, StartsWith-length b.seen a.seen l.mine, ap length p.ends.1, length-append p.ends.0 (p.last ∷ []))) in
+    let y = ends_after F p c.learn.new.lane.seen c.learn.ensures.mine in
     let n = news_is F c.told.inside.note a b i.world.value i.boxes i.kept p l y.0 y.1 in
     let see = sym (shows F a i.world.value i.boxes i.kept p) ∙ c.pass.view_is in
     let now = shows_now F b i.world.value i.boxes i.kept y.0 y.1 (n.before.world ∙ p.same_world) (n.before.boxes ∙ p.same_boxes) in
