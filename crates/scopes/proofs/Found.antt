@@ -97,6 +97,9 @@ takes_latter {X} key x y lt = go (nat_le (key x) (key y)) refl
     go true e = absurd (let le : key x ≤ key y = search rules in omega arith)
     go false e = refl
 
+-- of two that may be there, the one that is taken
+pub ruleset lesser_steps = (none_before, none_after, takes_former, takes_latter)
+
 pub begin : {P : ℕ → Type 0} → Kept P P None
 begin {P} = record { goes = λ r h. subst (λ (o : Option ℕ). Finds P o) (sym (none_before (λ n. n) r)) h }
 

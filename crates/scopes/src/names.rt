@@ -12,7 +12,7 @@ use std::alloc::{AllocError, Allocator};
 use syntax::{Name, Proc};
 
 /// The lesser of two offsets that may be there.
-#[tactic(auto, using(crate::proofs::Found::none_before, crate::proofs::Found::none_after, crate::proofs::Found::takes_former, crate::proofs::Found::takes_latter))]
+#[tactic(auto, using(crate::proofs::Found::lesser_steps))]
 pub fn earlier(a: Option<u32>, b: Option<u32>) -> Option<u32>
     ensures { result ≡ earlier_of a b }
 {

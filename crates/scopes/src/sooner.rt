@@ -6,7 +6,7 @@ ghost use Rattle.scopes.specs.First.{sooner_of};
 use crate::fault::ScopeFault;
 
 /// The fault with the lesser offset of two that may be there; at one offset the former.
-#[tactic(auto, using(crate::proofs::Found::none_before, crate::proofs::Found::none_after, crate::proofs::Found::takes_former, crate::proofs::Found::takes_latter))]
+#[tactic(auto, using(crate::proofs::Found::lesser_steps))]
 pub fn sooner(a: Option<ScopeFault>, b: Option<ScopeFault>) -> Option<ScopeFault>
     ensures { result ≡ sooner_of a b }
 {
