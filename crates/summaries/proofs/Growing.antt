@@ -4,6 +4,9 @@ use Rattle.std.specs.Result.{IsErrAnd, OnOk}
 use Rattle.std.proofs.Common.{Option, Some, ◌≤◌, eq-or-lt_of_le, ◌≡◌, Bool, true, false, true≢false, List}
 use Rattle.std.proofs.Common.{[], ◌∷◌, ◌++◌, ◌⊎◌, inl, inr, sym, ap, subst, ◌∙◌, ℕ, ◌+◌, Result, Ok}
 use Rattle.std.proofs.Common.{Err, length, if◌then◌else◌, arith, length-append}
+use Rattle.std.proofs.Common.{◌<◌, take, get_or}
+use Rattle.std.proofs.Math.Seq.{take-length}
+use Rattle.summaries.proofs.Firsts.{take_more}
 use Rattle.summaries.proofs.Eaches.{each_left, each_last, each_or_last}
 use Rattle.std.proofs.lemmas.Option.{same_Some}
 use Rattle.language.specs.Flow.{Member}
@@ -14,7 +17,7 @@ use Rattle.flow_graph.specs.Flows.{last_of, next_of}
 use Rattle.flow_graph.specs.declared.flow.Flow.{Flow}
 use Rattle.summaries.specs.declared.table_fault.TableFault.{TableFault}
 use Rattle.summaries.specs.declared.table_fault.TableFault.TheVariants.{Memory, EdgeLimit}
-use Rattle.summaries.specs.Grows.{Grows, Each, IsAt, IsNextBefore, IsNext, triple_of, edge_of}
+use Rattle.summaries.specs.Grows.{Grows, Adds, Each, IsAt, IsNextBefore, IsNext, triple_of, edge_of}
 
 -- an edge that was there adds nothing
 pub known : (e : Edge) (old new : List Triple) (before : List Edge) (answer : Bool) → answer ≡ false → OnFalse answer (Member (triple_of e) old) →
@@ -152,3 +155,23 @@ no_limit r told is = two_faults (subst (λ s. IsErrAnd s (λ e. e ≡ Memory)) i
 pub failed_ok : {T : Type 0} (Q : Type 0) (P : TableFault → Type 0) (r : Result T TableFault) → IsErrAnd r P → OnOk r Q
 failed_ok Q P (Ok _) told = absurd told
 failed_ok Q P (Err _) told = tt
+
+-- the items of a list, one after the other
+module _ {X : Type 0} (W : X → Triple → Type 0) (xs : List X) (i : ℕ) (old now : List Triple) (before at : List Edge)
+    (first : Grows (Each W (take i xs)) old now before at) where
+  -- with the next one
+  pub each_next : (d : X) → i < length xs → (new : List Triple) (after : List Edge) → Grows (W (get_or xs i d)) now new at after →
+      Grows (Each W (take (i + 1) xs)) old new before after
+  each_next d within new after next =
+      subst (λ l. Grows (Each W l) old new before after) (sym (take_more xs i d within))
+      (each_more W (take i xs) (get_or xs i d) old now new before at after first next)
+
+  -- all of them
+  pub each_done : {u : Unit {0}} (most : ℕ) → i ≡ length xs → length now ≤ most → Adds (Each W xs) (Ok u) most old now before at
+  each_done {u} most end within =
+      let all = subst (λ l. Grows (Each W l) old now before at) (ap (λ n. take n xs) end ∙ take-length xs) first in record {
+        ok = all;
+        only = all.only;
+        within = within;
+        limit = λ is. absurd (ok_err is);
+      }
