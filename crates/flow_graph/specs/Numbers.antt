@@ -26,8 +26,8 @@ abbrev pub Among : {X : Type 0} → List X → X → Type 0
 Among xs x = Member x xs
 
 -- P holds of each of these
-abbrev pub Each : {X : Type 0} → (X → Type 0) → List X → Type 0
-Each {X} P xs = (x : X) → Member x xs → P x
+abbrev pub AllAre : {X : Type 0} → (X → Type 0) → List X → Type 0
+AllAre {X} P xs = (x : X) → Member x xs → P x
 
 -- what is left as a number: the globals from bit 0
 abbrev pub exit_code : Exit → ℕ

@@ -9,7 +9,7 @@ ghost use Rattle.language.specs.Messages.{Reached, Owes, EdgeTo, IsValuationOf, 
 ghost use Rattle.flow_graph.specs.Nodes.{point_at};
 ghost use Rattle.flow_graph.specs.Flows.{code};
 ghost use Rattle.flow_graph.specs.Graphs.{IsGraph, IsInTextOrder};
-ghost use Rattle.flow_graph.specs.Numbers.{Among, Each, NumberedMessage, numbered_entry, by_numbers, IsNumberOf};
+ghost use Rattle.flow_graph.specs.Numbers.{Among, AllAre, NumberedMessage, numbered_entry, by_numbers, IsNumberOf};
 ghost use Rattle.flow_graph.specs.Numbers.{GraphReaches, Sends, AreNumbersOf, IsNumberOfValuation, AreNumbersOfEdge};
 ghost use Rattle.flow_graph.specs.Triples.{HoldStarts, HoldFlows, HoldReturns, AreReached};
 ghost use Rattle.flow_graph.specs.Triples.{HoldAsks, HoldTells, AreSent};
@@ -21,28 +21,28 @@ use std::alloc::Allocator;
 /// By the same messages, a graph reaches by numbers what its procedure reaches.
 pub fn a_graph_reaches_what_its_procedure_reaches<A: Allocator>()
     ensures { (p : Program) (q : ℕ) (graph : Graph A) (ms : List Message) → ArgumentsFit p → IsGraph p q graph
-        → Each (IsMessageTo p q) ms → (a n v : ℕ)
+        → AllAre (IsMessageTo p q) ms → (a n v : ℕ)
         → GraphReaches graph (Among (map by_numbers ms)) a n v ↔ AreNumbersOf (Reached p q (Among ms)) a n v }
 {}
 
 /// By the same messages, a graph sends by numbers what its procedure owes.
 pub fn a_graph_sends_what_its_procedure_owes<A: Allocator>()
     ensures { (p : Program) (q : ℕ) (graph : Graph A) (ms : List Message) → ArgumentsFit p → IsInTextOrder p
-        → IsGraph p q graph → Each (IsMessageTo p q) ms → (s : ℕ) (k : NumberedMessage)
+        → IsGraph p q graph → AllAre (IsMessageTo p q) ms → (s : ℕ) (k : NumberedMessage)
         → Sends graph q (Among (map by_numbers ms)) s k ↔ IsNumberOf (Owes p q (Among ms) s) k }
 {}
 
 /// By messages that are due, a graph reaches only path edges.
 pub fn by_due_messages_a_graph_reaches_path_edges<A: Allocator>()
     ensures { (p : Program) (q : ℕ) (graph : Graph A) (ks : List NumberedMessage) → ArgumentsFit p → IsGraph p q graph
-        → Each (IsNumberOf (IsDue p q)) ks → (a n v : ℕ)
+        → AllAre (IsNumberOf (IsDue p q)) ks → (a n v : ℕ)
         → GraphReaches graph (Among ks) a n v → AreNumbersOf (EdgeTo p q) a n v }
 {}
 
 /// By messages that are due, a graph sends only messages that are due.
 pub fn by_due_messages_a_graph_sends_due_messages<A: Allocator>()
     ensures { (p : Program) (q : ℕ) (graph : Graph A) (ks : List NumberedMessage) → ArgumentsFit p → IsInTextOrder p
-        → IsGraph p q graph → Each (IsNumberOf (IsDue p q)) ks → (s : ℕ) (k : NumberedMessage)
+        → IsGraph p q graph → AllAre (IsNumberOf (IsDue p q)) ks → (s : ℕ) (k : NumberedMessage)
         → Sends graph q (Among ks) s k → IsNumberOf (IsDue p s) k }
 {}
 
@@ -50,20 +50,20 @@ pub fn by_due_messages_a_graph_sends_due_messages<A: Allocator>()
 /// valuations.
 pub fn what_a_graph_reaches_has_its_widths<A: Allocator>()
     ensures { (p : Program) (q : ℕ) (graph : Graph A) (ks : List NumberedMessage) → ArgumentsFit p → IsGraph p q graph
-        → Each (IsNumberOf (IsMessageTo p q)) ks → (a n v : ℕ) → GraphReaches graph (Among ks) a n v
+        → AllAre (IsNumberOf (IsMessageTo p q)) ks → (a n v : ℕ) → GraphReaches graph (Among ks) a n v
         → (n < length (flows_of graph)) × IsNumberOfValuation p q a × IsNumberOfValuation p q v }
 {}
 
 /// By messages of the widths of its procedure, a graph sends only messages of the widths of who they are for.
 pub fn what_a_graph_sends_has_its_widths<A: Allocator>()
     ensures { (p : Program) (q : ℕ) (graph : Graph A) (ks : List NumberedMessage) → ArgumentsFit p → IsInTextOrder p
-        → IsGraph p q graph → Each (IsNumberOf (IsMessageTo p q)) ks → (s : ℕ) (k : NumberedMessage)
+        → IsGraph p q graph → AllAre (IsNumberOf (IsMessageTo p q)) ks → (s : ℕ) (k : NumberedMessage)
         → Sends graph q (Among ks) s k → IsNumberOf (IsMessageTo p s) k }
 {}
 
 /// By more messages, a graph reaches what it reached, and sends what it sent.
 pub fn more_messages_lead_a_graph_further<A: Allocator>()
-    ensures { (q : ℕ) (graph : Graph A) (ks js : List NumberedMessage) → Each (Among js) ks
+    ensures { (q : ℕ) (graph : Graph A) (ks js : List NumberedMessage) → AllAre (Among js) ks
         → ((a n v : ℕ) → GraphReaches graph (Among ks) a n v → GraphReaches graph (Among js) a n v)
         × ((s : ℕ) (k : NumberedMessage) → Sends graph q (Among ks) s k → Sends graph q (Among js) s k) }
 {}

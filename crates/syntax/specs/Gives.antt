@@ -21,8 +21,8 @@ Gives view (Ok x) given = given ≡ Some (view x)
 Gives view (Err e) given = Fails e given
 
 -- What is read of the tokens, seen by view, is what the grammar's function reads, and the same tokens are left.
-abbrev pub Reads : {X Y : Type 0} → (X → Y) → Result (X × Bor (List Token)) ReadFault → Parser Y → List Token → Type 0
-Reads view result parser tokens = Gives (λ p. (view p.0, toks_of p.1.now)) result (parser (toks_of tokens))
+abbrev pub Parses : {X Y : Type 0} → (X → Y) → Result (X × Bor (List Token)) ReadFault → Parser Y → List Token → Type 0
+Parses view result parser tokens = Gives (λ p. (view p.0, toks_of p.1.now)) result (parser (toks_of tokens))
 
 -- Some token is read.
 abbrev pub Shorter : {X : Type 0} → Result (X × Bor (List Token)) ReadFault → List Token → Type 0

@@ -1,7 +1,7 @@
 //! Reading expressions by precedence.
 
 ghost use Rattle.std.specs.Prelude.{◌≡◌, option_map};
-ghost use Rattle.syntax.specs.Gives.{Reads, Shorter};
+ghost use Rattle.syntax.specs.Gives.{Parses, Shorter};
 ghost use Rattle.syntax.specs.Grammar.{level, right_level};
 ghost use Rattle.syntax.specs.Exact.{binds, operand, reading, from};
 ghost use Rattle.syntax.specs.Trees.{operator_of, expr_of};
@@ -61,7 +61,7 @@ impl<'a, A: Allocator + Clone> Reader<'a, A> {
     #[cycle(expressions)]
     #[tactic(auto, using(crate::proofs::Expressions::reading_steps))]
     pub fn expression<'t>(&self, least: u8, tokens: &'t [Token<'t>]) -> Read<'t, Expr<A>>
-        ensures gives { Reads expr_of result (reading (from least)) tokens.now }
+        ensures gives { Parses expr_of result (reading (from least)) tokens.now }
         ensures shorter { Shorter result tokens.now }
     {
         let (mut tree, mut rest) = self.operand(tokens)?;
@@ -81,7 +81,7 @@ impl<'a, A: Allocator + Clone> Reader<'a, A> {
     #[cycle(expressions)]
     #[tactic(auto, unfolding(crate::specs::Exact::operand, tokens::specs::Token::same_kind))]
     fn operand<'t>(&self, tokens: &'t [Token<'t>]) -> Read<'t, Expr<A>>
-        ensures gives { Reads expr_of result operand tokens.now }
+        ensures gives { Parses expr_of result operand tokens.now }
         ensures shorter { Shorter result tokens.now }
     {
         let Some((first, rest)) = tokens.split_first() else {

@@ -2,7 +2,7 @@
 
 ghost use Rattle.std.specs.Prelude.{◌≡◌, map, Bool, List};
 ghost use Rattle.syntax.specs.Exact.{list, repeated};
-ghost use Rattle.syntax.specs.Gives.{Reads, Shorter};
+ghost use Rattle.syntax.specs.Gives.{Parses, Shorter};
 ghost use Rattle.syntax.specs.Parser.{Parser, Strict};
 ghost use Rattle.tokens.specs.Token.{Tok, toks_of};
 
@@ -23,7 +23,7 @@ pub trait Item<A: Allocator + Clone>: Sized + Drop {
 
     /// Reads an item.
     fn read<'t>(reader: &Reader<'_, A>, tokens: &'t [Token<'t>]) -> Read<'t, Self>
-        ensures gives { Reads tree result grammar tokens.now }
+        ensures gives { Parses tree result grammar tokens.now }
         ensures shorter { Shorter result tokens.now };
 }
 
@@ -41,7 +41,7 @@ impl<'a, A: Allocator + Clone> Reader<'a, A> {
     /// Reads items with commas between them. Most lists have one element, so they begin with room for one.
     pub fn list<'t, T: Item<A>>(&self, tokens: &'t [Token<'t>]) -> Read<'t, Vec<T, A>>
         requires { Strict T.grammar }
-        ensures gives { Reads (λ v. map T.tree v.items) result (list T.grammar) tokens.now }
+        ensures gives { Parses (λ v. map T.tree v.items) result (list T.grammar) tokens.now }
         ensures shorter { Shorter result tokens.now }
     {
         let (first, mut rest) = T::read(self, tokens)?;
@@ -58,7 +58,7 @@ impl<'a, A: Allocator + Clone> Reader<'a, A> {
     /// Reads items, at least one, as long as another comes.
     pub fn repeated<'t, T: Repeated<A>>(&self, tokens: &'t [Token<'t>]) -> Read<'t, Vec<T, A>>
         requires { Strict T.grammar }
-        ensures gives { Reads (λ v. map T.tree v.items) result (repeated T.another T.grammar) tokens.now }
+        ensures gives { Parses (λ v. map T.tree v.items) result (repeated T.another T.grammar) tokens.now }
         ensures shorter { Shorter result tokens.now }
     {
         let (first, mut rest) = T::read(self, tokens)?;

@@ -1,7 +1,7 @@
 //! What lists have: names, right sides and expressions; and what stands in parentheses.
 
 ghost use Rattle.std.specs.Prelude.{map};
-ghost use Rattle.syntax.specs.Gives.{Reads, Shorter};
+ghost use Rattle.syntax.specs.Gives.{Parses, Shorter};
 ghost use Rattle.syntax.specs.Exact.{enclosed, condition};
 ghost use Rattle.syntax.specs.Parser.{Strict};
 ghost use Rattle.syntax.specs.Trees.{rhs_of};
@@ -73,7 +73,7 @@ impl<'a, A: Allocator + Clone> Reader<'a, A> {
     #[tactic(auto, unfolding(crate::specs::Exact::enclosed))]
     pub fn enclosed<'t, T: Item<A>>(&self, tokens: &'t [Token<'t>]) -> Read<'t, Vec<T, A>>
         requires { Strict T.grammar }
-        ensures gives { Reads (λ v. map T.tree v.items) result (enclosed T.grammar) tokens.now }
+        ensures gives { Parses (λ v. map T.tree v.items) result (enclosed T.grammar) tokens.now }
         ensures shorter { Shorter result tokens.now }
     {
         let (_, inside) = self.take(Kind::Open, tokens)?;
@@ -89,7 +89,7 @@ impl<'a, A: Allocator + Clone> Reader<'a, A> {
     /// Reads a right side in parentheses.
     #[tactic(auto, unfolding(crate::specs::Exact::condition))]
     pub fn test<'t>(&self, tokens: &'t [Token<'t>]) -> Read<'t, Rhs<A>>
-        ensures gives { Reads rhs_of result condition tokens.now }
+        ensures gives { Parses rhs_of result condition tokens.now }
         ensures shorter { Shorter result tokens.now }
     {
         let (_, inside) = self.take(Kind::Open, tokens)?;

@@ -1,7 +1,7 @@
 //! Reading declarations, procedures, thread lines and whole programs.
 
 ghost use Rattle.std.specs.Prelude.{◌≡◌, ◌≤◌, [], length, IfOk, IsOkUnless};
-ghost use Rattle.syntax.specs.Gives.{Gives, Reads, Shorter};
+ghost use Rattle.syntax.specs.Gives.{Gives, Parses, Shorter};
 ghost use Rattle.syntax.specs.Exact.{declaration, all_declarations, insides, program};
 ghost use Rattle.syntax.specs.Trees.{names_of, block_of, tree_of};
 ghost use Rattle.tokens.specs.Token.{toks_of};
@@ -17,7 +17,7 @@ impl<'a, A: Allocator + Clone> Reader<'a, A> {
     /// Reads a declaration.
     #[tactic(auto, unfolding(crate::specs::Exact::declaration))]
     fn declaration<'t>(&self, tokens: &'t [Token<'t>]) -> Read<'t, Vec<Name<A>, A>>
-        ensures gives { Reads (λ v. names_of v.items) result declaration tokens.now }
+        ensures gives { Parses (λ v. names_of v.items) result declaration tokens.now }
         ensures shorter { Shorter result tokens.now }
     {
         let (_, inside) = self.take(Kind::Decl, tokens)?;
@@ -37,7 +37,7 @@ impl<'a, A: Allocator + Clone> Reader<'a, A> {
     /// Reads declarations, as long as there are any, into one list.
     #[tactic(auto, using(crate::proofs::Loops::declaration_steps))]
     fn declarations<'t>(&self, tokens: &'t [Token<'t>]) -> Read<'t, Vec<Name<A>, A>>
-        ensures gives { Reads (λ v. names_of v.items) result all_declarations tokens.now }
+        ensures gives { Parses (λ v. names_of v.items) result all_declarations tokens.now }
         ensures no_longer { IfOk result (λ p. length p.1.now ≤ length tokens.now) }
     {
         let (mut list, mut rest) = self.no_names(tokens)?;
@@ -52,7 +52,7 @@ impl<'a, A: Allocator + Clone> Reader<'a, A> {
     /// Reads `begin`, the locals, the statements and `end`.
     #[tactic(auto, unfolding(crate::specs::Exact::insides))]
     fn insides<'t>(&self, tokens: &'t [Token<'t>]) -> Read<'t, (Vec<Name<A>, A>, Vec<Stmt<A>, A>)>
-        ensures gives { Reads (λ b. (names_of b.0.items, block_of b.1.items)) result insides tokens.now }
+        ensures gives { Parses (λ b. (names_of b.0.items, block_of b.1.items)) result insides tokens.now }
         ensures shorter { Shorter result tokens.now }
     {
         let (_, inside) = self.take(Kind::Begin, tokens)?;

@@ -1,7 +1,7 @@
 //! What each reader of tokens needs, and the readers of single tokens.
 
 ghost use Rattle.std.specs.Prelude.{◌≡◌, ◌++◌, ◌∷◌, [], IfOk, IsOkUnless};
-ghost use Rattle.syntax.specs.Gives.{Reads, Shorter};
+ghost use Rattle.syntax.specs.Gives.{Parses, Shorter};
 ghost use Rattle.syntax.specs.Parser.{begins, take};
 ghost use Rattle.syntax.specs.Grammar.{name_at};
 ghost use Rattle.syntax.specs.Trees.{name_of};
@@ -65,7 +65,7 @@ impl<'a, A: Allocator + Clone> Reader<'a, A> {
 
     /// Reads a token of this kind.
     pub fn take<'t>(&self, kind: Kind, tokens: &'t [Token<'t>]) -> Read<'t, Token<'t>>
-        ensures gives { Reads tok_of result (take kind) tokens.now }
+        ensures gives { Parses tok_of result (take kind) tokens.now }
         ensures shorter { Shorter result tokens.now }
     {
         let Some((first, rest)) = tokens.split_first() else {

@@ -1,7 +1,7 @@
 //! Reading statements.
 
 ghost use Rattle.std.specs.Prelude.{◌≡◌, ◌≤◌, length, IfOk, option_map};
-ghost use Rattle.syntax.specs.Gives.{Reads, Shorter};
+ghost use Rattle.syntax.specs.Gives.{Parses, Shorter};
 ghost use Rattle.syntax.specs.Exact.{
   marked,
   assignment,
@@ -53,7 +53,7 @@ impl<'a, A: Allocator + Clone> Reader<'a, A> {
     /// Reads a label, where there is one, and answers the place of the statement.
     #[tactic(auto, unfolding(crate::specs::Exact::marked))]
     fn mark<'t>(&self, tokens: &'t [Token<'t>]) -> Read<'t, (Option<Name<A>>, u32)>
-        ensures gives { Reads (λ m. record { label = option_map name_of m.0; at = m.1 }) result marked tokens.now }
+        ensures gives { Parses (λ m. record { label = option_map name_of m.0; at = m.1 }) result marked tokens.now }
         ensures no_longer { IfOk result (λ p. length p.1.now ≤ length tokens.now) }
     {
         let Some((first, rest)) = tokens.split_first() else {
@@ -68,7 +68,7 @@ impl<'a, A: Allocator + Clone> Reader<'a, A> {
 
     /// Reads a semicolon, behind what a statement does.
     fn ended<'t>(&self, core: Core<A>, tokens: &'t [Token<'t>]) -> Read<'t, Core<A>>
-        ensures gives { Reads deed_of result (ended (deed_of core)) tokens.now }
+        ensures gives { Parses deed_of result (ended (deed_of core)) tokens.now }
         ensures shorter { Shorter result tokens.now }
     {
         let (_, rest) = self.take(Kind::Semicolon, tokens)?;
@@ -78,7 +78,7 @@ impl<'a, A: Allocator + Clone> Reader<'a, A> {
     /// Reads an assignment.
     #[tactic(auto, unfolding(crate::specs::Exact::assignment))]
     fn assignment<'t>(&self, tokens: &'t [Token<'t>]) -> Read<'t, Core<A>>
-        ensures gives { Reads deed_of result assignment tokens.now }
+        ensures gives { Parses deed_of result assignment tokens.now }
         ensures shorter { Shorter result tokens.now }
     {
         let (targets, signed) = self.list(tokens)?;
@@ -91,7 +91,7 @@ impl<'a, A: Allocator + Clone> Reader<'a, A> {
     /// Reads a call.
     #[tactic(auto, unfolding(crate::specs::Exact::calling))]
     fn calling<'t>(&self, tokens: &'t [Token<'t>]) -> Read<'t, Core<A>>
-        ensures gives { Reads deed_of result calling tokens.now }
+        ensures gives { Parses deed_of result calling tokens.now }
         ensures shorter { Shorter result tokens.now }
     {
         let (name, others) = Name::read(self, tokens)?;
@@ -102,7 +102,7 @@ impl<'a, A: Allocator + Clone> Reader<'a, A> {
 
     /// Reads a `goto`, behind that word.
     fn jumping<'t>(&self, tokens: &'t [Token<'t>]) -> Read<'t, Core<A>>
-        ensures gives { Reads deed_of result jumping tokens.now }
+        ensures gives { Parses deed_of result jumping tokens.now }
         ensures shorter { Shorter result tokens.now }
     {
         let (label, ended) = Name::read(self, tokens)?;
@@ -112,7 +112,7 @@ impl<'a, A: Allocator + Clone> Reader<'a, A> {
 
     /// Reads an `assert`, behind that word.
     fn asserting<'t>(&self, tokens: &'t [Token<'t>]) -> Read<'t, Core<A>>
-        ensures gives { Reads deed_of result asserting tokens.now }
+        ensures gives { Parses deed_of result asserting tokens.now }
         ensures shorter { Shorter result tokens.now }
     {
         let (side, ended) = self.test(tokens)?;
@@ -122,7 +122,7 @@ impl<'a, A: Allocator + Clone> Reader<'a, A> {
 
     /// Reads an `assume`, behind that word.
     fn assuming<'t>(&self, tokens: &'t [Token<'t>]) -> Read<'t, Core<A>>
-        ensures gives { Reads deed_of result assuming tokens.now }
+        ensures gives { Parses deed_of result assuming tokens.now }
         ensures shorter { Shorter result tokens.now }
     {
         let (side, ended) = self.test(tokens)?;
@@ -134,7 +134,7 @@ impl<'a, A: Allocator + Clone> Reader<'a, A> {
     #[cycle(statements)]
     #[tactic(auto, using(crate::proofs::Goings::section_steps))]
     pub fn statements<'t>(&self, tokens: &'t [Token<'t>]) -> Read<'t, Vec<Stmt<A>, A>>
-        ensures gives { Reads (λ v. block_of v.items) result section tokens.now }
+        ensures gives { Parses (λ v. block_of v.items) result section tokens.now }
         ensures shorter { Shorter result tokens.now }
     {
         let (first, mut rest) = self.statement(tokens)?;
@@ -151,7 +151,7 @@ impl<'a, A: Allocator + Clone> Reader<'a, A> {
     #[cycle(statements)]
     #[tactic(auto, unfolding(crate::specs::Exact::item, crate::specs::Exact::deed))]
     fn statement<'t>(&self, tokens: &'t [Token<'t>]) -> Read<'t, Stmt<A>>
-        ensures gives { Reads item_of result item tokens.now }
+        ensures gives { Parses item_of result item tokens.now }
         ensures shorter { Shorter result tokens.now }
     {
         let ((label, at), others) = self.mark(tokens)?;
@@ -163,7 +163,7 @@ impl<'a, A: Allocator + Clone> Reader<'a, A> {
     #[cycle(statements)]
     #[tactic(auto, unfolding(crate::specs::Exact::deed, crate::specs::Exact::named, tokens::specs::Token::same_kind))]
     fn core<'t>(&self, tokens: &'t [Token<'t>]) -> Read<'t, Core<A>>
-        ensures gives { Reads deed_of result deed tokens.now }
+        ensures gives { Parses deed_of result deed tokens.now }
         ensures shorter { Shorter result tokens.now }
     {
         let Some((first, others)) = tokens.split_first() else {
@@ -187,7 +187,7 @@ impl<'a, A: Allocator + Clone> Reader<'a, A> {
     #[cycle(statements)]
     #[tactic(auto, unfolding(crate::specs::Exact::section_behind))]
     fn block<'t>(&self, word: Kind, tokens: &'t [Token<'t>]) -> Read<'t, Vec<Stmt<A>, A>>
-        ensures gives { Reads (λ v. block_of v.items) result (section_behind word) tokens.now }
+        ensures gives { Parses (λ v. block_of v.items) result (section_behind word) tokens.now }
         ensures shorter { Shorter result tokens.now }
     {
         let (_, inside) = self.take(word, tokens)?;
@@ -198,7 +198,7 @@ impl<'a, A: Allocator + Clone> Reader<'a, A> {
     #[cycle(statements)]
     #[tactic(auto, unfolding(crate::specs::Exact::if_deed))]
     fn branch<'t>(&self, tokens: &'t [Token<'t>]) -> Read<'t, Core<A>>
-        ensures gives { Reads deed_of result if_deed tokens.now }
+        ensures gives { Parses deed_of result if_deed tokens.now }
         ensures shorter { Shorter result tokens.now }
     {
         let (side, opened) = self.test(tokens)?;
@@ -212,7 +212,7 @@ impl<'a, A: Allocator + Clone> Reader<'a, A> {
     #[cycle(statements)]
     #[tactic(auto, unfolding(crate::specs::Exact::while_deed))]
     fn repeat<'t>(&self, tokens: &'t [Token<'t>]) -> Read<'t, Core<A>>
-        ensures gives { Reads deed_of result while_deed tokens.now }
+        ensures gives { Parses deed_of result while_deed tokens.now }
         ensures shorter { Shorter result tokens.now }
     {
         let (side, opened) = self.test(tokens)?;
