@@ -6,6 +6,7 @@ use Rattle.clap.specs.Words.{App, IsAmong, Row, Rule, Text, app_of, fault_of}
 use Rattle.clap.specs.Words.{first_of, new_app, new_rule, one_of, subcommand_of, with_rule, with_subcommand}
 use Rattle.clap.specs.declared.builder.command.Command.{Command}
 use Rattle.clap.specs.declared.builder.command.Command.TheViews.{out-Command as fields_of}
+use Rattle.clap.specs.declared.builder.value_parser.ValueParser.{ValueParser}
 use Rattle.clap.specs.declared.builder.value_parser.ValueParser.TheVariants.{Signed}
 use Rattle.clap.specs.declared.error.kind.ErrorKind.{ErrorKind}
 use Rattle.clap.specs.declared.error.kind.ErrorKind.TheVariants as kind
@@ -17,9 +18,13 @@ use Rattle.cli.specs.declared.asked.LineFault.TheVariants.{Help, Memory, Refused
 use Rattle.cli.specs.declared.asked.Order.{Order}
 use Rattle.cli.specs.declared.asked.Order.TheVariants.{Check, Sequential}
 
+-- an option with one value, which this parser reads
+abbrev pub option_by : ValueParser → Text → Rule
+option_by parser name = record (new_rule name) { long = Some name; value_names = 1; parser = Some parser }
+
 -- an option that takes a number from 1 to the greatest one
 abbrev pub number_up_to : ℕ → Text → Rule
-number_up_to most name = record (new_rule name) { long = Some name; value_names = 1; parser = Some (Signed (pos 1) (pos most)) }
+number_up_to most = option_by (Signed (pos 1) (pos most))
 
 abbrev pub rounds : Rule
 rounds = number_up_to most_rounds (codes "rounds")

@@ -1,14 +1,12 @@
 //! What standard error tells of a refusal.
 
-ghost use Rattle.std.specs.Prelude.{◌≡◌, OnOk, length, min, option_map};
+ghost use Rattle.std.specs.Prelude.{◌≡◌, OnOk, option_map};
 ghost use Rattle.std.specs.String.{string_bytes};
 ghost use Rattle.cli.specs.Explained.{Explains, offset_in};
-ghost use Rattle.cli.specs.Place.{Locates};
-ghost use Rattle.cli.specs.declared.refusal.Refusal.TheVariants.{TooWide, Unread, Unchecked};
+ghost use Rattle.cli.specs.declared.refusal.Refusal.TheVariants.{TooWide, Unread};
 
 use crate::asked::Order;
-use crate::message::{at_word, not_ascii, unexpected, wide_at};
-use crate::place::place_of;
+use crate::message::{Wrong, at_offset, not_ascii};
 use crate::refusal::Refusal;
 use round_rewrite::Wide;
 use scopes::ScopeFault;
@@ -18,20 +16,6 @@ use syntax::ReadFault;
 /// Writes that memory gave out.
 fn no_memory<A: Allocator>(message: &mut String<A>) -> Result<(), AllocError> {
     message.push_str("bebopk: out of memory\n")
-}
-
-/// Writes that the text does not go on at an offset as a program does.
-fn syntax<A: Allocator>(
-    message: &mut String<A>,
-    path: &str,
-    text: &[u8],
-    at: u32,
-) -> Result<(), AllocError>
-    ensures { OnOk result (Locates path.now text.now (min (length text.now) at) (string_bytes message.old)
-        (string_bytes message.new)) }
-{
-    let place = place_of(text, at);
-    unexpected(message, path, &place)
 }
 
 /// Writes why a text is not read.
@@ -47,7 +31,7 @@ fn unread<A: Allocator>(
     match fault {
         ReadFault::TooLong => write!(message, "{path}: the text has more than 65536 bytes\n"),
         ReadFault::NotAscii => not_ascii(message, path, text),
-        ReadFault::Syntax(at) => syntax(message, path, text, *at),
+        ReadFault::Syntax(at) => at_offset(message, path, text, *at, Wrong::Unexpected),
         ReadFault::TooDeep => write!(
             message,
             "{path}: more than 64 of `(`, `begin`, `if` and `while` are open at once, or more than 64 operators stand in one run\n"
@@ -87,25 +71,6 @@ fn told(fault: &ScopeFault) -> Option<(u32, &'static str)>
     }
 }
 
-/// Writes which fault of scopes stands in a text.
-fn unchecked<A: Allocator>(
-    message: &mut String<A>,
-    path: &str,
-    text: &[u8],
-    fault: &ScopeFault,
-) -> Result<(), AllocError>
-    ensures { OnOk result (Explains path.now text.now (Unchecked fault.now) (string_bytes message.old)
-        (string_bytes message.new)) }
-{
-    match told(fault) {
-        Some((at, what)) => {
-            let place = place_of(text, at);
-            at_word(message, path, &place, what)
-        }
-        None => no_memory(message),
-    }
-}
-
 /// Writes which limit of path edges was passed; nothing of an order that has none.
 fn edge_limit<A: Allocator>(
     message: &mut String<A>,
@@ -139,10 +104,13 @@ fn too_wide<A: Allocator>(
         Order::Check { rounds, .. } | Order::Sequential { rounds } => rounds.count(),
     };
     match wide {
-        Some(wide) => {
-            let place = place_of(text, wide.at);
-            wide_at(message, path, &place, wide.places, rounds)
-        }
+        Some(wide) => at_offset(
+            message,
+            path,
+            text,
+            wide.at,
+            Wrong::Wide(wide.places, rounds),
+        ),
         None => write!(
             message,
             "{path}: some procedure needs more than 64 places with --rounds {rounds}\n"
@@ -166,7 +134,10 @@ pub fn explain<A: Allocator>(
 {
     match refusal {
         Refusal::Unread(fault) => unread(message, path, text, fault),
-        Refusal::Unchecked(fault) => unchecked(message, path, text, fault),
+        Refusal::Unchecked(fault) => match told(fault) {
+            Some((at, what)) => at_offset(message, path, text, at, Wrong::Word(what)),
+            None => no_memory(message),
+        },
         Refusal::TooWide(wide) => too_wide(message, path, text, order, *wide),
         Refusal::EdgeLimit => edge_limit(message, path, order),
         Refusal::Memory => no_memory(message),

@@ -19,7 +19,7 @@ use flow_graph::graphs;
 use path_sets::PathSet;
 use round_rewrite::{Rounds, Sequential};
 use std::alloc::Allocator;
-use summaries::{EdgeLimit, Summaries, tabulate};
+use summaries::{EdgeLimit, NoVerdict, Summaries, tabulate};
 
 /// What a text comes to.
 #[derive(Clone, Copy, Debug, PartialEq, Eq)]
@@ -45,8 +45,14 @@ fn tabulated<N: Allocator, A: Allocator + Copy, S: PathSet<A>>(
     ensures fault { IfErr result (λ why. (why ≡ refusal.Memory)
         ⊎ ((why ≡ refusal.EdgeLimit) × ((q : ℕ) × HasMoreEdges program q (most_of limit)))) }
 {
-    let graphs = graphs(&alloc, sequential)?;
-    Ok(tabulate::<_, _, S>(alloc, &graphs, limit)?)
+    let Ok(graphs) = graphs(&alloc, sequential) else {
+        return Err(Refusal::Memory);
+    };
+    match tabulate::<_, _, S>(alloc, &graphs, limit) {
+        Ok(summaries) => Ok(summaries),
+        Err(NoVerdict::EdgeLimit) => Err(Refusal::EdgeLimit),
+        Err(NoVerdict::Memory) => Err(Refusal::Memory),
+    }
 }
 
 /// The verdict on a text for so many rounds, and at most so many path edges a procedure; they are kept in sets of the type `S`.

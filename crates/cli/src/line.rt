@@ -6,6 +6,7 @@ ghost use Rattle.cli.specs.Line as line;
 
 use crate::asked::{LineFault, Order};
 use crate::help::{BEBOPK, CHECK, SEQUENTIAL, VERSION};
+use clap::builder::ValueParser;
 use clap::error::ErrorKind;
 use clap::{Arg, ArgMatches, Command, Error, value_parser};
 use round_rewrite::{MOST_ROUNDS, Rounds};
@@ -23,16 +24,31 @@ fn file<'a>(alloc: Global) -> Arg<'a>
         .required(true)
 }
 
+/// An option with one value, which this parser reads.
+fn option<'a>(
+    alloc: Global,
+    name: &'a str,
+    value: &'a str,
+    help: &'a str,
+    parser: ValueParser<'a>,
+) -> Arg<'a>
+    ensures rule { rule_of result ≡ line.option_by parser.entry name.entry.now }
+    ensures local { result.global ≡ false }
+{
+    Arg::new(alloc, name)
+        .long(name)
+        .value_name(value)
+        .help(help)
+        .value_parser(parser)
+}
+
 /// The option `--rounds`.
 fn rounds<'a>(alloc: Global) -> Arg<'a>
     ensures rule { rule_of result ≡ line.rounds }
     ensures local { result.global ≡ false }
 {
-    Arg::new(alloc, "rounds")
-        .long("rounds")
-        .value_name("K")
-        .help("How many rounds: 1 to 4")
-        .value_parser(value_parser!(u8).range(1..=MOST_ROUNDS as i64))
+    let parser = value_parser!(u8).range(1..=MOST_ROUNDS as i64);
+    option(alloc, "rounds", "K", "How many rounds: 1 to 4", parser)
 }
 
 /// The option `--edges`.
@@ -40,12 +56,9 @@ fn edges<'a>(alloc: Global) -> Arg<'a>
     ensures rule { rule_of result ≡ line.edges }
     ensures local { result.global ≡ false }
 {
-    Arg::new(alloc, "edges")
-        .long("edges")
-        .value_name("N")
-        .help("How many path edges a procedure may have: 1 to 16777216")
-        .default_value("1000000")
-        .value_parser(value_parser!(u32).range(1..=16_777_216))
+    let help = "How many path edges a procedure may have: 1 to 16777216";
+    let parser = value_parser!(u32).range(1..=16_777_216);
+    option(alloc, "edges", "N", help, parser).default_value("1000000")
 }
 
 /// The command `check`.

@@ -1,6 +1,6 @@
 //! A message about a place of a text: where it is, what is wrong with which name, and the source line.
 
-ghost use Rattle.std.specs.Prelude.{◌≡◌, ◌++◌, ◌-◌, OnOk, drop, length, take};
+ghost use Rattle.std.specs.Prelude.{◌≡◌, ◌++◌, ◌-◌, OnOk, drop, length, min, take};
 ghost use Rattle.std.specs.String.{string_bytes};
 ghost use Rattle.cli.specs.Place.{Extends, Locates, head};
 
@@ -14,6 +14,19 @@ const BEHIND: usize = 40;
 
 /// How much of a name is shown.
 const NAME: usize = 40;
+
+/// What is wrong at a place.
+#[derive(Clone, Copy)]
+pub(crate) enum Wrong<'a> {
+    /// The word there: what is told behind it.
+    Word(&'a str),
+    /// The procedure whose name stands there: how many places it needs with how many rounds.
+    Wide(u128, u8),
+    /// The text does not go on there as a program does.
+    Unexpected,
+    /// The byte there is not ASCII.
+    NotAscii,
+}
 
 /// The first bytes, at most so many.
 fn first(bytes: &[u8], most: usize) -> &[u8]
@@ -134,39 +147,6 @@ fn push_head<A: Allocator>(
     write!(message, "{path}:{line}:{column}: ")
 }
 
-/// Writes what is wrong with the word at a place, which is told behind the word.
-pub(crate) fn at_word<A: Allocator>(
-    message: &mut String<A>,
-    path: &str,
-    place: &Place,
-    what: &str,
-) -> Result<(), AllocError>
-    ensures { OnOk result (Extends (string_bytes message.old ++ head path.now place.now.line place.now.column)
-        (string_bytes message.new)) }
-{
-    push_head(message, path, place)?;
-    push_name(message, word(place.behind))?;
-    push(message, what)?;
-    push_line(message, place)
-}
-
-/// Writes how many places the procedure needs whose name stands at a place.
-pub(crate) fn wide_at<A: Allocator>(
-    message: &mut String<A>,
-    path: &str,
-    place: &Place,
-    places: u128,
-    rounds: u8,
-) -> Result<(), AllocError>
-    ensures { OnOk result (Extends (string_bytes message.old ++ head path.now place.now.line place.now.column)
-        (string_bytes message.new)) }
-{
-    push_head(message, path, place)?;
-    push_name(message, word(place.behind))?;
-    push_width(message, places, rounds)?;
-    push_line(message, place)
-}
-
 /// Writes how many places a procedure needs, and how many it may have.
 fn push_width<A: Allocator>(
     message: &mut String<A>,
@@ -203,20 +183,50 @@ fn push_number<A: Allocator>(message: &mut String<A>, byte: u8) -> Result<(), Al
     write!(message, "byte {byte}")
 }
 
-/// Writes that the text does not go on at a place as a program does.
-pub(crate) fn unexpected<A: Allocator>(
+/// Writes what is wrong where the rest of a line begins.
+fn push_wrong<A: Allocator>(
+    message: &mut String<A>,
+    rest: &[u8],
+    wrong: Wrong<'_>,
+) -> Result<(), AllocError>
+    ensures { OnOk result (Extends (string_bytes message.old) (string_bytes message.new)) }
+{
+    match wrong {
+        Wrong::Word(what) => {
+            push_name(message, word(rest))?;
+            push(message, what)
+        }
+        Wrong::Wide(places, rounds) => {
+            push_name(message, word(rest))?;
+            push_width(message, places, rounds)
+        }
+        Wrong::Unexpected => {
+            push(message, "unexpected ")?;
+            push_first(message, rest)?;
+            push(message, "\n")
+        }
+        Wrong::NotAscii => {
+            push_first(message, rest)?;
+            push(message, " is not ASCII\n")
+        }
+    }
+}
+
+/// Writes where an offset of a text stands, what is wrong there, and its line.
+pub(crate) fn at_offset<A: Allocator>(
     message: &mut String<A>,
     path: &str,
-    place: &Place,
+    text: &[u8],
+    at: u32,
+    wrong: Wrong<'_>,
 ) -> Result<(), AllocError>
-    ensures { OnOk result (Extends (string_bytes message.old ++ head path.now place.now.line place.now.column)
+    ensures { OnOk result (Locates path.now text.now (min (length text.now) at) (string_bytes message.old)
         (string_bytes message.new)) }
 {
-    push_head(message, path, place)?;
-    push(message, "unexpected ")?;
-    push_first(message, place.behind)?;
-    push(message, "\n")?;
-    push_line(message, place)
+    let place = place_of(text, at);
+    push_head(message, path, &place)?;
+    push_wrong(message, place.behind, wrong)?;
+    push_line(message, &place)
 }
 
 /// Writes that a byte of the text is not ASCII, and where the first one is.
@@ -229,9 +239,5 @@ pub(crate) fn not_ascii<A: Allocator>(
     let Some(at) = first.and_then(|at| u32::try_from(at).ok()) else {
         return write!(message, "{path}: a byte is not ASCII\n");
     };
-    let place = place_of(text, at);
-    push_head(message, path, &place)?;
-    push_first(message, place.behind)?;
-    push(message, " is not ASCII\n")?;
-    push_line(message, &place)
+    at_offset(message, path, text, at, Wrong::NotAscii)
 }

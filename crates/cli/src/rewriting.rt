@@ -21,8 +21,14 @@ pub(crate) fn rewritten<A: Allocator + Copy>(
     ensures rewriting { IfOk result (λ s. IsRewriting text.now (count_of rounds) (sequential_tree s)) }
     ensures stands { IfErr result (RefusalStands text.now (count_of rounds) ⊥) }
 {
-    let program = read(alloc, text)?;
-    let checked = check(alloc, program)?;
+    let program = match read(alloc, text) {
+        Ok(program) => program,
+        Err(fault) => return Err(Refusal::Unread(fault)),
+    };
+    let checked = match check(alloc, program) {
+        Ok(checked) => checked,
+        Err(fault) => return Err(Refusal::Unchecked(fault)),
+    };
     match rewrite(&alloc, &checked, rounds) {
         Ok(sequential) => Ok(sequential),
         Err(RewriteFault::TooWide) => Err(Refusal::TooWide(too_wide(&alloc, &checked, rounds))),

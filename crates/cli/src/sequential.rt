@@ -22,5 +22,8 @@ pub(crate) fn sequential<R: Alloc>(
 {
     let alloc = rt.alloc();
     let sequential = rewritten(&alloc, text, rounds)?;
-    Ok(print(rt.alloc(), sequential.program())?)
+    let Ok(printed) = print(rt.alloc(), sequential.program()) else {
+        return Err(Refusal::Memory);
+    };
+    Ok(printed)
 }

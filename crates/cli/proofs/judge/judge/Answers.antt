@@ -7,6 +7,8 @@ use Rattle.language.specs.Sequential.{sequential_of}
 use Rattle.round_rewrite.specs.Law.{SomeBad}
 use Rattle.round_rewrite.specs.Names.{rewritten_tree}
 use Rattle.language.specs.Tree.{Tree}
+use Rattle.syntax.specs.Text.{Text}
+use Rattle.scopes.specs.Checked.{IsChecked}
 use Rattle.round_rewrite.specs.Programs.{sequential_tree}
 use Rattle.summaries.specs.Tabulated.{HasMoreEdges}
 use Rattle.cli.specs.declared.refusal.Refusal.{Refusal}
@@ -46,31 +48,25 @@ within text rounds edges limit sequential found same few = (
   λ q more. few q (subst (HasMoreEdges (sequential_of sequential) q) (sym same) (subst (λ t. HasMoreEdges (sequential_of t) q edges) (sym found.same) more)),
 )
 
+-- what both verdicts say, and what one of them does
+judged : (text : List ℕ) (rounds edges : ℕ) (sequential : Tree) (found : IsRewriting text rounds sequential) →
+    ((q : ℕ) → HasMoreEdges (sequential_of sequential) q edges → ⊥) → (V : Tree → Type 0) → V found.tree →
+    (t : Tree) × Text text t × IsChecked t × IsWithinLimit rounds edges t × V t
+judged text rounds edges sequential found few V tells =
+    (found.tree, found.of, found.checked, within text rounds edges edges sequential found refl few, tells)
+
 pub returns-then-bad-clause-verdict : goal.returns-then-bad-clause-verdict
 returns-then-bad-clause-verdict g c =
     let found = c.in_ok-sequential.ensures.rewriting in
-    let sequential = sequential_tree c.in_ok-sequential.sequential in (
-      found.tree,
-      found.of,
-      found.checked,
-      within c.args.text.now (count_of c.args.rounds) (most_of c.args.edges) (most_of c.args.edges) sequential found
-          refl c.in_ok-summaries.ensures.few,
-      (tells c.args.text.now (count_of c.args.rounds) sequential found _ c.in_ok-summaries.ensures.bad).0 (c.bad.ensures.0 c.if-bad.true),
-    )
+    let told = tells _ _ _ found _ c.in_ok-summaries.ensures.bad in
+    judged _ _ _ _ found c.in_ok-summaries.ensures.few _ (told.0 (c.bad.ensures.0 c.if-bad.true))
 
 pub returns-clause-verdict : goal.returns-clause-verdict
 returns-clause-verdict g c =
     let found = c.in_ok-sequential.ensures.rewriting in
-    let sequential = sequential_tree c.in_ok-sequential.sequential in (
-      found.tree,
-      found.of,
-      found.checked,
-      within c.args.text.now (count_of c.args.rounds) (most_of c.args.edges) (most_of c.args.edges) sequential found
-          refl c.in_ok-summaries.ensures.few,
-      λ unsafe. true≢false (sym (c.bad.ensures.1
-          ((tells c.args.text.now (count_of c.args.rounds) sequential found _ c.in_ok-summaries.ensures.bad).1 unsafe)) ∙
-          c.if-bad.false),
-    )
+    let told = tells _ _ _ found _ c.in_ok-summaries.ensures.bad in
+    judged _ _ _ _ found c.in_ok-summaries.ensures.few _
+    (λ unsafe. true≢false (sym (c.bad.ensures.1 (told.1 unsafe)) ∙ c.if-bad.false))
 
 pub returns-in_err-summaries-clause-stands : goal.returns-in_err-summaries-clause-stands
 returns-in_err-summaries-clause-stands g c =

@@ -8,8 +8,11 @@ use Rattle.cli.proofs.judge.tabulated.Goals as goal
 
 pub tabulate-requires : goal.tabulate-requires
 tabulate-requires g c κs within =
-    let drawn = subst (λ (p : Program). AreDrawnFrom p c.in_ok-graphs.graphs.graphs.items) (sym c.requires.1.1.1) c.in_ok-graphs.ensures.graphs in
+    let drawn = subst (λ (p : Program). AreDrawnFrom p c.in-Ok.graphs.graphs.items) (sym c.requires.1.1.1)
+    c.in-Ok.ensures.graphs in
     (within.0, (within.1.0, (within.1.1, drawn)))
 
-pub returns-clause-bad : goal.returns-clause-bad
-returns-clause-bad g c = subst (λ n. SomePairBad c.in_ok-tabulate.field-0 ↔ SomeBad g.program n) c.in_ok-graphs.ensures.bad c.in_ok-tabulate.ensures.bad
+pub returns-in-Ok-tabulate-clause-bad : goal.returns-in-Ok-tabulate-clause-bad
+returns-in-Ok-tabulate-clause-bad g c =
+    subst (λ n. SomePairBad c.in-Ok-tabulate.summaries ↔ SomeBad g.program n) c.in-Ok.ensures.bad
+    c.in-Ok-tabulate.ensures.bad

@@ -1,9 +1,9 @@
 -- A text that is rewritten is that of a checked program; where the rewriting fails, it is too wide.
-use Rattle.std.proofs.Common.{◌≡◌, ◌∙◌, ◌⊎◌, ℕ, suc, List, refl, sym, ap, subst, inl, inr}
+use Rattle.std.proofs.Common.{◌≡◌, ◌∙◌, ℕ, refl, sym, ap, subst, inl, inr}
 use Rattle.syntax.specs.Text.{Text}
 use Rattle.scopes.specs.Checked.{IsChecked}
 use Rattle.round_rewrite.specs.Narrow.{IsNarrow}
-use Rattle.round_rewrite.specs.declared.fault.RewriteFault.TheVariants.{TooWide, Memory}
+use Rattle.round_rewrite.specs.declared.fault.RewriteFault.TheVariants.{TooWide}
 use Rattle.language.specs.Tree.{Tree}
 use Rattle.syntax.specs.InGrammar.{InGrammar}
 use Rattle.syntax.specs.Trees.{tree_of}
@@ -14,20 +14,21 @@ use Rattle.round_rewrite.specs.Programs.{IsFaultOf, last_round}
 use Rattle.scopes.specs.Programs.{checked_tree}
 use Rattle.cli.proofs.rewriting.rewritten.Goals as goal
 
-pub returns-in-Ok-clause-rewriting : goal.returns-in-Ok-clause-rewriting
-returns-in-Ok-clause-rewriting g c =
+pub returns-in-Ok-rewrite-clause-rewriting : goal.returns-in-Ok-rewrite-clause-rewriting
+returns-in-Ok-rewrite-clause-rewriting g c =
     let last = last_round c.args.rounds in
-    let source = tree_of c.in_ok-program.program in
-    let same : checked_tree c.in_ok-checked.checked ≡ source = ap tree_of c.in_ok-checked.ensures.checked.0 in
+    let source = tree_of c.in-Ok.program in
+    let same : checked_tree c.in-Ok-check.checked ≡ source = ap tree_of c.in-Ok-check.ensures.checked.0 in
     record {
       tree = source;
       last = last;
       count = refl;
-      of = c.in_ok-program.ensures.found;
-      checked = c.in_ok-checked.ensures.checked.1;
-      same = c.in-Ok.ensures.rewritten ∙ ap (rewritten_tree last) same;
-      grammar = c.in-Ok.ensures.grammar (subst InGrammar (sym same) (text_in_grammar c.args.text.now source c.in_ok-program.ensures.found));
-      keeps = subst (KeepsTree last) same c.in-Ok.ensures.keeps;
+      of = c.in-Ok.ensures.found;
+      checked = c.in-Ok-check.ensures.checked.1;
+      same = c.in-Ok-rewrite.ensures.rewritten ∙ ap (rewritten_tree last) same;
+      grammar = c.in-Ok-rewrite.ensures.grammar
+          (subst InGrammar (sym same) (text_in_grammar c.args.text.now source c.in-Ok.ensures.found));
+      keeps = subst (KeepsTree last) same c.in-Ok-rewrite.ensures.keeps;
     }
 
 -- where the rewriting is refused as too wide, it is
@@ -38,14 +39,14 @@ is_wide last t (inr (e, narrow)) = cc
 pub returns-in-Err-TooWide-clause-stands : goal.returns-in-Err-TooWide-clause-stands
 returns-in-Err-TooWide-clause-stands g c =
     let last = last_round c.args.rounds in
-    let source = checked_tree c.in_ok-checked.checked in
-    let same : tree_of c.in_ok-program.program ≡ source = sym (ap tree_of c.in_ok-checked.ensures.checked.0) in (
+    let source = checked_tree c.in-Ok-check.checked in
+    let same : tree_of c.in-Ok.program ≡ source = sym (ap tree_of c.in-Ok-check.ensures.checked.0) in (
       source,
       last,
       record {
         count = refl;
-        of = subst (Text c.args.text.now) same c.in_ok-program.ensures.found;
-        checked = subst IsChecked same c.in_ok-checked.ensures.checked.1;
+        of = subst (Text c.args.text.now) same c.in-Ok.ensures.found;
+        checked = subst IsChecked same c.in-Ok-check.ensures.checked.1;
         wider = is_wide last source (subst (IsFaultOf last source) c.in-Err-TooWide.field-0-is c.in-Err-TooWide.ensures.fault);
         first = c.too_wide.ensures;
       },

@@ -18,6 +18,7 @@ returns-clause-printed g c =
       count = found.count;
       of = found.of;
       checked = found.checked;
-      same = c.in_ok-print.ensures.form ∙ ap printed rewritten;
-      back = λ within. subst (λ (t : Tree). IsTextOf (string_bytes c.in_ok-print.field-0) t) rewritten (c.in_ok-print.ensures.back (subst InGrammar (sym lent) found.grammar) within);
+      same = c.in-Ok.ensures.form ∙ ap printed rewritten;
+      back = λ within. subst (λ (t : Tree). IsTextOf (string_bytes c.in-Ok.printed) t) rewritten
+          (c.in-Ok.ensures.back (subst InGrammar (sym lent) found.grammar) within);
     }
