@@ -143,22 +143,18 @@ fn kind<A: Allocator>(flow: &Flow<A>) -> &'static str {
     }
 }
 
-/// The answer of a point's flow to a question with these numbers.
+/// The answer of a point's flow to a question: a word and numbers.
 fn of_flow<A: Allocator, B: Allocator>(
     flow: &Flow<A>,
-    word: &str,
-    numbers: &[u64],
+    question: (&str, &[u64]),
     out: &mut String<B>,
 ) -> Option<()> {
-    match word {
-        "kind" => out.push_str(kind(flow)).ok(),
-        "steps" => {
-            let (choice, valuations) = numbers.split_first()?;
-            steps(flow, *choice, valuations, out)
-        }
-        "nexts" => nexts(flow, *numbers.first()?, out),
-        "call" => match flow {
-            Flow::Call(call) => calls(call, numbers, out),
+    match question {
+        ("kind", _) => out.push_str(kind(flow)).ok(),
+        ("steps", [choice, valuations @ ..]) => steps(flow, *choice, valuations, out),
+        ("nexts", [values, ..]) => nexts(flow, *values, out),
+        ("call", valuations) => match flow {
+            Flow::Call(call) => calls(call, valuations, out),
             _ => None,
         },
         _ => None,
@@ -178,32 +174,30 @@ fn leaves<A: Allocator, B: Allocator>(
     Some(())
 }
 
-/// The answer of a procedure's graph to a question with these numbers.
+/// The answer of a procedure's graph to a question: a word and numbers.
 fn of_graph<A: Allocator, B: Allocator + Copy>(
     alloc: B,
     graph: &Graph<A>,
-    word: &str,
-    numbers: &[u64],
+    question: (&str, &[u64]),
     out: &mut String<B>,
 ) -> Option<()> {
-    match word {
-        "size" => {
+    match question {
+        ("size", _) => {
             let start = graph.start();
             let points = graph.points();
             write!(out, " {start} {points}").ok()
         }
-        "reached" => reaches(alloc, graph, *numbers.first()?, out),
-        "left" => leaves(graph, numbers, out),
-        "resumed" => {
-            let (values, rest) = numbers.split_first()?;
-            let resumed = graph.resumed(*values, *rest.first()?);
+        ("reached", [entry, ..]) => reaches(alloc, graph, *entry, out),
+        ("left", valuations) => leaves(graph, valuations, out),
+        ("resumed", [values, globals, ..]) => {
+            let resumed = graph.resumed(*values, *globals);
             write!(out, " {resumed:b}").ok()
         }
-        _ => {
-            let (point, rest) = numbers.split_first()?;
+        (word, [point, rest @ ..]) => {
             let flow = flow_of(graph, usize::try_from(*point).ok()?)?;
-            of_flow(flow, word, rest, out)
+            of_flow(flow, (word, rest), out)
         }
+        _ => None,
     }
 }
 
@@ -224,7 +218,7 @@ pub(crate) fn answer<A: Allocator, B: Allocator + Copy>(
         let count = graphs.len();
         write!(out, " {count}").ok()?;
     } else {
-        of_graph(alloc, graph_of(graphs, *procedure)?, word, rest, &mut out)?;
+        of_graph(alloc, graph_of(graphs, *procedure)?, (word, rest), &mut out)?;
     }
     Some(out)
 }

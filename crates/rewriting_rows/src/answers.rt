@@ -6,6 +6,15 @@ use scopes::{Checked, check};
 use std::alloc::{AllocError, Allocator, Global};
 use syntax::{Program, print, read};
 
+/// A text to rewrite for a number of rounds. What the answer needs is taken from `alloc`, and its words from `host`.
+#[derive(Drop)]
+struct Case<'a, A: Allocator + Copy> {
+    host: Global,
+    alloc: A,
+    count: u8,
+    text: &'a str,
+}
+
 /// A text, read and checked.
 fn checked<A: Allocator + Copy>(alloc: A, text: &str) -> Result<Checked<A>, TextFault> {
     let program = read(alloc, text.as_bytes())?;
@@ -38,18 +47,13 @@ fn printed_again<A: Allocator + Copy>(alloc: A, text: &str) -> Result<String<A>,
 }
 
 /// A text rewritten, as it is printed, where it is printed the same once it is read again.
-fn rewriting<A: Allocator + Copy>(
-    host: Global,
-    alloc: A,
-    count: u8,
-    text: &str,
-) -> Result<String, TextFault> {
-    let once = printed(alloc, count, text)?;
-    let again = printed_again(alloc, once.as_str())?;
+fn rewriting<A: Allocator + Copy>(case: &Case<'_, A>) -> Result<String, TextFault> {
+    let once = printed(case.alloc, case.count, case.text)?;
+    let again = printed_again(case.alloc, once.as_str())?;
     if again.as_str() == once.as_str() {
-        Ok(String::from_str(host, once.as_str())?)
+        Ok(String::from_str(case.host, once.as_str())?)
     } else {
-        Ok(String::from_str(host, "printed otherwise once it is read")?)
+        Ok(String::from_str(case.host, "printed otherwise once it is read")?)
     }
 }
 
@@ -64,29 +68,19 @@ fn has_line(text: &str, line: &str) -> bool {
 }
 
 /// Whether a line stands in what is printed: `LINE :: TEXT`.
-fn holds<A: Allocator + Copy>(
-    host: Global,
-    alloc: A,
-    count: u8,
-    rest: &str,
-) -> Result<String, TextFault> {
-    let Some((line, text)) = rest.split_once(" :: ") else {
+fn holds<A: Allocator + Copy>(case: &Case<'_, A>) -> Result<String, TextFault> {
+    let Some((line, text)) = case.text.split_once(" :: ") else {
         return Err(TextFault::Case);
     };
-    let printed = printed(alloc, count, text)?;
+    let printed = printed(case.alloc, case.count, text)?;
     let holds = has_line(printed.as_str(), line);
-    Ok(format!(in host; "{holds}")?)
+    Ok(format!(in case.host; "{holds}")?)
 }
 
 /// Whether a text is narrow enough.
-fn fits<A: Allocator + Copy>(
-    host: Global,
-    alloc: A,
-    count: u8,
-    text: &str,
-) -> Result<String, TextFault> {
-    let _sequential = sequential(alloc, count, text)?;
-    Ok(String::from_str(host, "rewritten")?)
+fn fits<A: Allocator + Copy>(case: &Case<'_, A>) -> Result<String, TextFault> {
+    let _sequential = sequential(case.alloc, case.count, case.text)?;
+    Ok(String::from_str(case.host, "rewritten")?)
 }
 
 /// The widths of a sequential program's procedures in order, each with a comma behind it.
@@ -105,14 +99,9 @@ fn all_widths<A: Allocator>(
 }
 
 /// The widths of a text, rewritten.
-fn widths<A: Allocator + Copy>(
-    host: Global,
-    alloc: A,
-    count: u8,
-    text: &str,
-) -> Result<String, TextFault> {
-    let sequential = sequential(alloc, count, text)?;
-    Ok(all_widths(host, &sequential)?)
+fn widths<A: Allocator + Copy>(case: &Case<'_, A>) -> Result<String, TextFault> {
+    let sequential = sequential(case.alloc, case.count, case.text)?;
+    Ok(all_widths(case.host, &sequential)?)
 }
 
 /// Whether there is such a number of rounds.
@@ -150,34 +139,23 @@ fn parts<A: Allocator + Copy>(host: Global, alloc: A, text: &str) -> Result<Stri
     Ok(all_parts(host, checked.program())?)
 }
 
-/// What is answered to a case with a number of rounds: `WORD COUNT TEXT`.
-fn counted<A: Allocator + Copy>(
-    host: Global,
-    alloc: A,
-    word: &str,
-    count: u8,
-    text: &str,
-) -> Result<String, TextFault> {
+/// What is answered to a case with a number of rounds.
+fn counted<A: Allocator + Copy>(case: &Case<'_, A>, word: &str) -> Result<String, TextFault> {
     match word {
-        "rewrite" => rewriting(host, alloc, count, text),
-        "holds" => holds(host, alloc, count, text),
-        "fits" => fits(host, alloc, count, text),
-        "widths" => widths(host, alloc, count, text),
-        "rounds" => rounds(host, count),
+        "rewrite" => rewriting(case),
+        "holds" => holds(case),
+        "fits" => fits(case),
+        "widths" => widths(case),
+        "rounds" => rounds(case.host, case.count),
         _ => Err(TextFault::Case),
     }
 }
 
-/// What is answered to a case that may have a number of rounds.
-fn numbered<A: Allocator + Copy>(
-    host: Global,
-    alloc: A,
-    word: &str,
-    rest: &str,
-) -> Result<String, TextFault> {
+/// A number of rounds and the text behind it: `COUNT TEXT`.
+fn numbered(rest: &str) -> Result<(u8, &str), TextFault> {
     let (number, text) = rest.split_once(' ').unwrap_or((rest, ""));
     match number.parse::<u8>() {
-        Ok(count) => counted(host, alloc, word, count, text),
+        Ok(count) => Ok((count, text)),
         Err(_) => Err(TextFault::Case),
     }
 }
@@ -192,7 +170,16 @@ fn answer<A: Allocator + Copy>(
     match word {
         "check" => verdict(host, alloc, rest),
         "parts" => parts(host, alloc, rest),
-        _ => numbered(host, alloc, word, rest),
+        _ => {
+            let (count, text) = numbered(rest)?;
+            let case = Case {
+                host,
+                alloc,
+                count,
+                text,
+            };
+            counted(&case, word)
+        }
     }
 }
 

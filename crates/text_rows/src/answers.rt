@@ -63,15 +63,26 @@ fn faults_are_equal<A: Allocator + Copy>(alloc: A, bytes: &[u8]) -> bool {
     }
 }
 
-// The tree of a text, or the words of its fault.
-fn show_read<A: Allocator + Copy>(
+// What is shown of a program: its tree, the statements of its procedures, or what is printed for it.
+#[derive(Drop)]
+enum View {
+    Tree,
+    Bodies,
+    Printed,
+}
+
+// What is shown of the program of a text, or the words of the text's fault.
+fn show_text<A: Allocator + Copy>(
     alloc: A,
     out: &mut String<A>,
+    view: View,
     bytes: &[u8],
 ) -> Result<(), AllocError> {
-    match read(alloc, bytes) {
-        Ok(program) => show_program(out, &program),
-        Err(fault) => write!(out, "{fault}"),
+    match (read(alloc, bytes), view) {
+        (Ok(program), View::Tree) => show_program(out, &program),
+        (Ok(program), View::Bodies) => show_bodies(out, &program.procs),
+        (Ok(program), View::Printed) => out.push_str(print(alloc, &program)?.as_str()),
+        (Err(fault), _) => write!(out, "{fault}"),
     }
 }
 
@@ -82,22 +93,7 @@ fn show_asserted<A: Allocator + Copy>(
     expression: &str,
 ) -> Result<(), AllocError> {
     let text = format!(in alloc; "t() begin assert({expression}); end thread t;")?;
-    match read(alloc, text.as_bytes()) {
-        Ok(program) => show_bodies(out, &program.procs),
-        Err(fault) => write!(out, "{fault}"),
-    }
-}
-
-// What is printed for a text, or the words of its fault.
-fn reprint<A: Allocator + Copy>(
-    alloc: A,
-    out: &mut String<A>,
-    bytes: &[u8],
-) -> Result<(), AllocError> {
-    match read(alloc, bytes) {
-        Ok(program) => out.push_str(print(alloc, &program)?.as_str()),
-        Err(fault) => write!(out, "{fault}"),
-    }
+    show_text(alloc, out, View::Bodies, text.as_bytes())
 }
 
 // The number of the fault, and 0 for a text that is read.
@@ -135,7 +131,7 @@ fn show_refused<A: Allocator + Copy>(
     bytes: &[u8],
 ) -> Result<(), AllocError> {
     let mut wanted = String::new(alloc);
-    reprint(alloc, &mut wanted, bytes)?;
+    show_text(alloc, &mut wanted, View::Printed, bytes)?;
     if is_printed_or_refused(alloc, bytes, wanted.as_str()) {
         out.push_str(wanted.as_str())
     } else {
@@ -153,9 +149,9 @@ fn put_answer<A: Allocator + Copy>(
     let text = unescaped(alloc, spelled)?;
     let bytes = text.as_slice();
     match command {
-        "read" => show_read(alloc, out, bytes),
+        "read" => show_text(alloc, out, View::Tree, bytes),
         "assert" => show_asserted(alloc, out, spelled),
-        "print" => reprint(alloc, out, bytes),
+        "print" => show_text(alloc, out, View::Printed, bytes),
         "refused" => show_refused(alloc, out, bytes),
         "fronts" => show_fronts(alloc, out, bytes),
         "fault" => {

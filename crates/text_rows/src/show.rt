@@ -18,14 +18,15 @@ pub fn show_tokens<A: Allocator>(
     Ok(())
 }
 
-// A name, with its offset.
+// A name with its offset, behind a text.
 fn show_name<N: Allocator, A: Allocator>(
     out: &mut String<A>,
+    before: &str,
     name: &Name<N>,
 ) -> Result<(), AllocError> {
     let text = name.text.as_str();
     let at = name.at;
-    write!(out, "{text}@{at}")
+    write!(out, "{before}{text}@{at}")
 }
 
 fn show_names<N: Allocator, A: Allocator>(
@@ -33,8 +34,7 @@ fn show_names<N: Allocator, A: Allocator>(
     names: &[Name<N>],
 ) -> Result<(), AllocError> {
     for name in names {
-        out.push_str(" ")?;
-        show_name(out, name)?;
+        show_name(out, " ", name)?;
     }
     Ok(())
 }
@@ -103,8 +103,7 @@ fn show_call<N: Allocator, A: Allocator>(
     name: &Name<N>,
     arguments: &[Expr<N>],
 ) -> Result<(), AllocError> {
-    out.push_str("call ")?;
-    show_name(out, name)?;
+    show_name(out, "call ", name)?;
     for argument in arguments {
         out.push_str(" ")?;
         show_expr(out, argument)?;
@@ -124,14 +123,6 @@ fn show_test<N: Allocator, A: Allocator>(
     out.push_str(behind)
 }
 
-fn show_goto<N: Allocator, A: Allocator>(
-    out: &mut String<A>,
-    label: &Name<N>,
-) -> Result<(), AllocError> {
-    out.push_str("goto ")?;
-    show_name(out, label)
-}
-
 // The label of a statement, where it has one, and its offset.
 fn show_place<N: Allocator, A: Allocator>(
     out: &mut String<A>,
@@ -140,7 +131,7 @@ fn show_place<N: Allocator, A: Allocator>(
 ) -> Result<(), AllocError> {
     out.push_str("; ")?;
     if let Some(label) = label {
-        show_name(out, label)?;
+        show_name(out, "", label)?;
         out.push_str(": ")?;
     }
     write!(out, "{at} ")
@@ -181,7 +172,7 @@ fn show_core<N: Allocator, A: Allocator>(
         }
         Core::Assert(side) => show_test(out, "assert", side, ""),
         Core::Assume(side) => show_test(out, "assume", side, ""),
-        Core::Goto(label) => show_goto(out, label),
+        Core::Goto(label) => show_name(out, "goto ", label),
         Core::Return => out.push_str("return"),
         Core::Call(name, arguments) => show_call(out, name, arguments),
     }
@@ -193,8 +184,7 @@ fn show_procs<N: Allocator, A: Allocator>(
     procs: &[Proc<N>],
 ) -> Result<(), AllocError> {
     for proc in procs {
-        out.push_str("\nproc ")?;
-        show_name(out, &proc.name)?;
+        show_name(out, "\nproc ", &proc.name)?;
         out.push_str(" (")?;
         show_names(out, &proc.formals)?;
         out.push_str(" ) decl")?;
@@ -211,8 +201,8 @@ fn show_threads<N: Allocator, A: Allocator>(
 ) -> Result<(), AllocError> {
     for thread in threads {
         let at = thread.at;
-        write!(out, "\nthread {at} ")?;
-        show_name(out, &thread.name)?;
+        write!(out, "\nthread {at}")?;
+        show_name(out, " ", &thread.name)?;
     }
     Ok(())
 }
