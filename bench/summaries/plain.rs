@@ -89,11 +89,21 @@ impl<'t> Reader<'t> {
                 }
             } else {
                 let two = text.get(at..at + 2).unwrap_or("");
-                at += if matches!(two, ":=" | "=>" | "!=") { 2 } else { 1 };
+                at += if matches!(two, ":=" | "=>" | "!=") {
+                    2
+                } else {
+                    1
+                };
             }
             words.push(&text[start..at]);
         }
-        Reader { words, at: 0, globals: Vec::new(), locals: Vec::new(), points: 0 }
+        Reader {
+            words,
+            at: 0,
+            globals: Vec::new(),
+            locals: Vec::new(),
+            points: 0,
+        }
     }
 
     fn peek(&self) -> &'t str {
@@ -124,8 +134,14 @@ impl<'t> Reader<'t> {
     }
 
     fn bit(&self, name: &str) -> u8 {
-        let local = self.locals.iter().position(|n| n == name).map(|n| n + self.globals.len());
-        local.or_else(|| self.globals.iter().position(|n| n == name)).expect(name) as u8
+        let local = self
+            .locals
+            .iter()
+            .position(|n| n == name)
+            .map(|n| n + self.globals.len());
+        local
+            .or_else(|| self.globals.iter().position(|n| n == name))
+            .expect(name) as u8
     }
 
     /// Operators of a level and above: `=>` 0, `|` 1, `^` 2, `&` 3, `=` and `!=` 4.
@@ -162,7 +178,11 @@ impl<'t> Reader<'t> {
     }
 
     fn rhs(&mut self) -> Option<Expr> {
-        if self.takes("?") { None } else { Some(self.expr(0)) }
+        if self.takes("?") {
+            None
+        } else {
+            Some(self.expr(0))
+        }
     }
 
     fn test(&mut self) -> Option<Expr> {
@@ -201,7 +221,11 @@ impl<'t> Reader<'t> {
                 self.want("else");
                 let no = self.stmts();
                 self.want("fi");
-                return Stmt { point, label, core: Core::If(test, yes, no) };
+                return Stmt {
+                    point,
+                    label,
+                    core: Core::If(test, yes, no),
+                };
             }
             "while" => {
                 self.at += 1;
@@ -209,7 +233,11 @@ impl<'t> Reader<'t> {
                 self.want("do");
                 let body = self.stmts();
                 self.want("od");
-                return Stmt { point, label, core: Core::While(test, body) };
+                return Stmt {
+                    point,
+                    label,
+                    core: Core::While(test, body),
+                };
             }
             "assume" => {
                 self.at += 1;
@@ -292,7 +320,10 @@ fn value(e: &Expr, values: u64) -> bool {
 }
 
 fn spread(row: usize, bits: &[u8]) -> u64 {
-    bits.iter().enumerate().map(|(n, b)| (row as u64 >> n & 1) << b).sum()
+    bits.iter()
+        .enumerate()
+        .map(|(n, b)| (row as u64 >> n & 1) << b)
+        .sum()
 }
 
 fn gathered(values: u64, bits: &[u8]) -> usize {
@@ -331,12 +362,27 @@ impl Eval {
 enum Flow {
     To(usize),
     /// One row for all targets: `mask` is what is written but for the `?`, `any` the bits of those.
-    Row { bits: Vec<u8>, rows: Vec<u64>, mask: u64, any: Vec<u64>, next: usize },
-    Each { writes: Vec<(u64, Eval)>, mask: u64, any: Vec<u64>, next: usize },
+    Row {
+        bits: Vec<u8>,
+        rows: Vec<u64>,
+        mask: u64,
+        any: Vec<u64>,
+        next: usize,
+    },
+    Each {
+        writes: Vec<(u64, Eval)>,
+        mask: u64,
+        any: Vec<u64>,
+        next: usize,
+    },
     Any(usize, usize),
     Test(Eval, usize, usize),
     Assume(Eval, usize),
-    Call { callee: usize, arguments: Vec<Eval>, next: usize },
+    Call {
+        callee: usize,
+        arguments: Vec<Eval>,
+        next: usize,
+    },
 }
 
 struct Graph {
@@ -396,11 +442,14 @@ impl Lower<'_> {
                     Some(e) => Flow::Test(Eval::new(e), body, next),
                 }
             }
-            Core::Call(name, arguments) => {
-                Flow::Call { callee: self.procedures[name], arguments: arguments.iter().map(Eval::new).collect(), next }
-            }
+            Core::Call(name, arguments) => Flow::Call {
+                callee: self.procedures[name],
+                arguments: arguments.iter().map(Eval::new).collect(),
+                next,
+            },
             Core::Assign(targets, sides) => {
-                let (mut bits, mut writes, mut any, mut mask) = (Vec::new(), Vec::new(), Vec::new(), 0);
+                let (mut bits, mut writes, mut any, mut mask) =
+                    (Vec::new(), Vec::new(), Vec::new(), 0);
                 for (t, side) in targets.iter().zip(sides) {
                     match side {
                         None => any.push(1 << t),
@@ -413,11 +462,28 @@ impl Lower<'_> {
                 }
                 if bits.len() > 10 {
                     let writes = writes.into_iter().map(|(m, e)| (m, Eval::new(e))).collect();
-                    return Flow::Each { writes, mask, any, next };
+                    return Flow::Each {
+                        writes,
+                        mask,
+                        any,
+                        next,
+                    };
                 }
-                let row = |n| writes.iter().filter(|(_, e)| value(e, spread(n, &bits))).map(|(m, _)| m).sum();
+                let row = |n| {
+                    writes
+                        .iter()
+                        .filter(|(_, e)| value(e, spread(n, &bits)))
+                        .map(|(m, _)| m)
+                        .sum()
+                };
                 let rows = (0..1 << bits.len()).map(row).collect();
-                Flow::Row { bits, rows, mask, any, next }
+                Flow::Row {
+                    bits,
+                    rows,
+                    mask,
+                    any,
+                    next,
+                }
             }
         }
     }
@@ -442,20 +508,30 @@ struct Edges {
 
 impl Edges {
     fn new() -> Self {
-        Edges { slots: vec![Slot::default(); 64], used: 0, last: 0, len: 0 }
+        Edges {
+            slots: vec![Slot::default(); 64],
+            used: 0,
+            last: 0,
+            len: 0,
+        }
     }
 
     fn find(&self, key: u64, values: u64) -> usize {
         let most = self.slots.len() - 1;
         let mut at = mixed(key, values) as usize & most;
-        while self.slots[at].mask != 0 && (self.slots[at].key, self.slots[at].values) != (key, values) {
+        while self.slots[at].mask != 0
+            && (self.slots[at].key, self.slots[at].values) != (key, values)
+        {
             at = (at + 1) & most;
         }
         at
     }
 
     fn insert(&mut self, entry: u32, point: usize, values: u64) -> bool {
-        let (key, bit) = (u64::from(entry) << 16 | (point / 64) as u64, 1 << (point % 64));
+        let (key, bit) = (
+            u64::from(entry) << 16 | (point / 64) as u64,
+            1 << (point % 64),
+        );
         let last = &self.slots[self.last];
         if last.mask == 0 || (last.key, last.values) != (key, values) {
             self.last = self.find(key, values);
@@ -469,7 +545,11 @@ impl Edges {
             slot.mask |= bit;
             return true;
         }
-        *slot = Slot { key, values, mask: bit };
+        *slot = Slot {
+            key,
+            values,
+            mask: bit,
+        };
         self.used += 1;
         if self.used * 4 > self.slots.len() * 3 {
             let old = std::mem::take(&mut self.slots);
@@ -520,19 +600,37 @@ enum Mail {
 
 impl Table {
     fn reach(&mut self, edge: Edge) {
-        if self.edges.insert(edge.entry, edge.point as usize, edge.values) {
+        if self
+            .edges
+            .insert(edge.entry, edge.point as usize, edge.values)
+        {
             self.pending.push(edge);
         }
     }
 
-    fn take(&mut self, q: usize, graph: &Graph, globals: u64, mail: Mail, out: &mut Vec<(usize, Mail)>) {
+    fn take(
+        &mut self,
+        q: usize,
+        graph: &Graph,
+        globals: u64,
+        mail: Mail,
+        out: &mut Vec<(usize, Mail)>,
+    ) {
         match mail {
             Mail::Entry(from, a) => {
                 let next = self.entries.len() as u32;
                 let number = *self.numbers.entry(a).or_insert(next);
                 if number == next {
-                    self.entries.push(Entry { values: a, callers: 0, exits: Vec::new() });
-                    self.reach(Edge { entry: number, point: graph.start as u32, values: a });
+                    self.entries.push(Entry {
+                        values: a,
+                        callers: 0,
+                        exits: Vec::new(),
+                    });
+                    self.reach(Edge {
+                        entry: number,
+                        point: graph.start as u32,
+                        values: a,
+                    });
                 }
                 let entry = &mut self.entries[number as usize];
                 if entry.callers >> from & 1 == 0 {
@@ -555,47 +653,108 @@ impl Table {
 
     fn back(&mut self, graph: &Graph, globals: u64, site: Edge, b: u64) {
         if let Flow::Call { next, .. } = &graph.flows[site.point as usize] {
-            self.reach(Edge { entry: site.entry, point: *next as u32, values: site.values & !globals | b });
+            self.reach(Edge {
+                entry: site.entry,
+                point: *next as u32,
+                values: site.values & !globals | b,
+            });
         }
     }
 
     fn spread(&mut self, edge: Edge, next: usize, values: u64, any: &[u64]) {
         for choice in 0..1u64 << any.len() {
-            let more: u64 = any.iter().enumerate().filter(|(n, _)| choice >> n & 1 == 1).map(|(_, m)| m).sum();
-            self.reach(Edge { point: next as u32, values: values | more, ..edge });
+            let more: u64 = any
+                .iter()
+                .enumerate()
+                .filter(|(n, _)| choice >> n & 1 == 1)
+                .map(|(_, m)| m)
+                .sum();
+            self.reach(Edge {
+                point: next as u32,
+                values: values | more,
+                ..edge
+            });
         }
     }
 
-    fn work(&mut self, q: usize, graph: &Graph, globals: u64, first: u32, edge: Edge, out: &mut Vec<(usize, Mail)>) {
+    fn work(
+        &mut self,
+        q: usize,
+        graph: &Graph,
+        globals: u64,
+        first: u32,
+        edge: Edge,
+        out: &mut Vec<(usize, Mail)>,
+    ) {
         if edge.point == 0 {
             let b = edge.values & globals;
             if self.exits.insert((edge.entry, b), ()).is_none() {
                 let entry = &mut self.entries[edge.entry as usize];
                 entry.exits.push(b);
-                out.extend((0..63).filter(|c| entry.callers >> c & 1 == 1).map(|c| (c, Mail::Summary(q, entry.values, b))));
+                out.extend(
+                    (0..63)
+                        .filter(|c| entry.callers >> c & 1 == 1)
+                        .map(|c| (c, Mail::Summary(q, entry.values, b))),
+                );
             }
             return;
         }
         let v = edge.values;
         match &graph.flows[edge.point as usize] {
-            Flow::To(n) => self.reach(Edge { point: *n as u32, ..edge }),
+            Flow::To(n) => self.reach(Edge {
+                point: *n as u32,
+                ..edge
+            }),
             Flow::Any(a, b) => {
-                self.reach(Edge { point: *a as u32, ..edge });
-                self.reach(Edge { point: *b as u32, ..edge });
+                self.reach(Edge {
+                    point: *a as u32,
+                    ..edge
+                });
+                self.reach(Edge {
+                    point: *b as u32,
+                    ..edge
+                });
             }
-            Flow::Test(e, yes, no) => self.reach(Edge { point: if e.value(v) { *yes } else { *no } as u32, ..edge }),
+            Flow::Test(e, yes, no) => self.reach(Edge {
+                point: if e.value(v) { *yes } else { *no } as u32,
+                ..edge
+            }),
             Flow::Assume(e, n) => {
                 if e.value(v) {
-                    self.reach(Edge { point: *n as u32, ..edge });
+                    self.reach(Edge {
+                        point: *n as u32,
+                        ..edge
+                    });
                 }
             }
-            Flow::Row { bits, rows, mask, any, next } => self.spread(edge, *next, v & !mask | rows[gathered(v, bits)], any),
-            Flow::Each { writes, mask, any, next } => {
-                let new: u64 = writes.iter().filter(|(_, e)| e.value(v)).map(|(m, _)| m).sum();
+            Flow::Row {
+                bits,
+                rows,
+                mask,
+                any,
+                next,
+            } => self.spread(edge, *next, v & !mask | rows[gathered(v, bits)], any),
+            Flow::Each {
+                writes,
+                mask,
+                any,
+                next,
+            } => {
+                let new: u64 = writes
+                    .iter()
+                    .filter(|(_, e)| e.value(v))
+                    .map(|(m, _)| m)
+                    .sum();
                 self.spread(edge, *next, v & !mask | new, any);
             }
-            Flow::Call { callee, arguments, .. } => {
-                let formals: u64 = arguments.iter().enumerate().map(|(n, e)| u64::from(e.value(v)) << n).sum();
+            Flow::Call {
+                callee, arguments, ..
+            } => {
+                let formals: u64 = arguments
+                    .iter()
+                    .enumerate()
+                    .map(|(n, e)| u64::from(e.value(v)) << n)
+                    .sum();
                 let a = v & globals | formals << first;
                 let next = self.keys.len() as u32;
                 let key = *self.calls.entry((*callee as u8, a)).or_insert(next) as usize;
@@ -615,7 +774,10 @@ impl Table {
 
 fn held() -> u64 {
     let report = std::fs::read_to_string("/proc/self/status").unwrap();
-    let line = report.lines().find_map(|l| l.strip_prefix("VmHWM:")).unwrap();
+    let line = report
+        .lines()
+        .find_map(|l| l.strip_prefix("VmHWM:"))
+        .unwrap();
     line.trim().trim_end_matches(" kB").parse().unwrap()
 }
 
@@ -631,7 +793,11 @@ fn main() {
     while reader.peek() != "thread" {
         names.insert(reader.next().to_string(), bodies.len());
         reader.want("(");
-        reader.locals = if reader.peek() == ")" { Vec::new() } else { reader.names() };
+        reader.locals = if reader.peek() == ")" {
+            Vec::new()
+        } else {
+            reader.names()
+        };
         reader.want(")");
         reader.want("begin");
         while reader.takes("decl") {
@@ -649,10 +815,17 @@ fn main() {
         .iter()
         .map(|(body, points)| {
             let flows = (0..=*points).map(|_| Flow::To(0)).collect();
-            let mut lower = Lower { labels: HashMap::new(), procedures: &names, flows };
+            let mut lower = Lower {
+                labels: HashMap::new(),
+                procedures: &names,
+                flows,
+            };
             lower.label(body);
             let start = lower.block(body, 0);
-            Graph { flows: lower.flows, start }
+            Graph {
+                flows: lower.flows,
+                start,
+            }
         })
         .collect();
     let before = held();
@@ -674,7 +847,9 @@ fn main() {
         while let Some((to, mail)) = mails.pop() {
             tables[to].take(to, &graphs[to], globals, mail, &mut mails);
         }
-        let Some(q) = tables.iter().position(|t| !t.pending.is_empty()) else { break };
+        let Some(q) = tables.iter().position(|t| !t.pending.is_empty()) else {
+            break;
+        };
         while let Some(edge) = tables[q].pending.pop() {
             tables[q].work(q, &graphs[q], globals, first, edge, &mut mails);
         }

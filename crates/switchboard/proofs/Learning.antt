@@ -1,5 +1,6 @@
 -- What a pass knows after it was told what another had seen.
-use Rattle.std.proofs.Common.{◌≡◌, ◌⊎◌, inl, inr, ℕ, ◌<◌, Bool, not, List, [], ◌∷◌, Some, None, length, length-append, refl, sym, ap, ◌∙◌, subst, arith}
+use Rattle.std.proofs.Common.{◌≡◌, ◌⊎◌, inl, inr, ℕ, ◌<◌, Bool, not, List, [], ◌∷◌, Some, None}
+use Rattle.std.proofs.Common.{length, length-append, refl, sym, ap, ◌∙◌, subst, arith}
 use Rattle.std.specs.Prelude.{Option}
 use Rattle.std.proofs.Common.{lt_of_not-le}
 use Rattle.std.proofs.lemmas.Bool.{not-true}
@@ -43,7 +44,8 @@ module _ {M W : Type 0} where
       pub part : share n y ≡ share n last
 
     -- what is seen ends in some state
-    pub ends_after : {a : Standing (State M W)} {w : W} {boxes : ℕ} {kept : Bool} (p : IsPass fits a w boxes kept) (seen : List (State M W)) →
+    pub ends_after : {a : Standing (State M W)} {w : W} {boxes : ℕ} {kept : Bool} (p : IsPass fits a w boxes kept)
+        (seen : List (State M W)) →
         StartsWith seen a.seen → (y : State M W) × EndsIn seen y
     ends_after {a} p seen mine =
         EndsIn-some seen (omega (arith, StartsWith-length seen a.seen mine, ap length p.ends.1, length-append p.ends.0 (p.last ∷ [])))

@@ -31,7 +31,8 @@ fresh_at id budget x first (suc count) (y ∷ xs) rest lane e =
     tail e = cc
 
 -- and so is the one that the iterator gives
-pub fresh_next : {T : Type 0} (id : TableId) (budget : ℕ) (x : T) (count : ℕ) (xs : List (Standing T)) {all rest : List (Standing T)} {lane : Standing T} →
+pub fresh_next : {T : Type 0} (id : TableId) (budget : ℕ) (x : T) (count : ℕ) (xs : List (Standing T))
+    {all rest : List (Standing T)} {lane : Standing T} →
     all ≡ lane ∷ rest → xs ++ all ≡ fresh_lanes id budget x 0 count →
     (xs ++ lane ∷ rest ≡ fresh_lanes id budget x 0 count) × ((lane ≡ fresh_lane id budget x (0 + length xs)) × (length xs < count))
 fresh_next id budget x count xs {rest = rest} {lane = lane} gives are =

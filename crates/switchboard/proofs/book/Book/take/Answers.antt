@@ -7,7 +7,8 @@ use Rattle.post_ledger.specs.declared.entry.Entry.TheVariants.{Taken}
 use Rattle.post_ledger.specs.History.{posts, takes}
 use Rattle.post_ledger.specs.Orders.{part, IsClosed}
 use Rattle.std.proofs.lemmas.Option.{slice_get_within}
-use Rattle.switchboard.proofs.Keeping.{box_at, kept_entry, kept_closed, kept_counts, room_take, none_of, some_of, same_again, state_push, answers_message}
+use Rattle.switchboard.proofs.Keeping.{box_at, kept_entry, kept_closed, kept_counts, room_take, none_of, some_of}
+use Rattle.switchboard.proofs.Keeping.{same_again, state_push, answers_message}
 use Rattle.switchboard.proofs.book.Book.take.Goals as goal
 
 pub returns-then-self : goal.returns-then-self
@@ -28,7 +29,10 @@ note_take-requires g c =
     c.requires c.index_mut-mailbox.ensures.value in
     let is = c.self.invariant.parts c.from.result c.index_mut-mailbox.result.now at ∙ ap (λ k. part k i.order.items) c.from.ensures in
     let oldest = subst (λ h. slice_get (posts h) (length (takes h)) ≡ Some (c.in-Some.found.1, c.in-Some.found.2)) is c.in-Some.ensures.some.1 in
-    omega (arith, room_take i.mailboxes.items i.order.items (vec_capacity i.order) i.posted i.completed c.args.by c.self.invariant (omega (arith, c.requires, ap (λ s. s.boxes) c.self.view_is)) (slice_get_within (posts (part c.args.by i.order.items)) (length (takes (part c.args.by i.order.items))) (c.in-Some.found.1, c.in-Some.found.2) oldest))
+    let history = part c.args.by i.order.items in
+    let within = slice_get_within (posts history) (length (takes history)) (c.in-Some.found.1, c.in-Some.found.2) oldest in
+    omega (arith, room_take i.mailboxes.items i.order.items (vec_capacity i.order) i.posted i.completed c.args.by
+    c.self.invariant (omega (arith, c.requires, ap (λ s. s.boxes) c.self.view_is)) within)
 
 pub invariant_of-self-in-Some : goal.invariant_of-self-in-Some
 invariant_of-self-in-Some g c =

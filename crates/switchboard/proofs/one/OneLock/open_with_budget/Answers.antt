@@ -10,25 +10,32 @@ use Rattle.switchboard.proofs.one.OneLock.open_with_budget.Goals as goal
 pub invariant_of-push_reserved : goal.invariant_of-push_reserved
 invariant_of-push_reserved g c =
     let lock = c.in-Ok.lock in
-    let r = fresh_next lock.id c.args.budget lock.opening c.args.boxes c.loop-lane.yielded c.in-Some.ensures.steps.0 c.loop-lane.invariant.0 in
+    let r = fresh_next lock.id c.args.budget lock.opening c.args.boxes c.loop-lane.yielded
+    c.in-Some.ensures.steps.0 c.loop-lane.invariant.0 in
     let s = c.in-Ok.ensures.ok.0 ∙ c.in_ok-book.ensures in
     subst (λ w. IsPass g.M.Mail.fits c.in-Some.lane w c.args.boxes true) (sym c.of.ensures)
-    (pass_fresh g.M.Mail.fits lock.id c.args.budget c.args.world.now c.args.boxes c.args.to (0 + length c.loop-lane.yielded) c.args.first c.in-Some.lane lock.opening s r.1.0 (omega (arith, r.1.1)) c.requires.boxes.1 (omega (arith, c.requires.budget.0)) c.requires.boxes.0 c.requires.fits)
+    (pass_fresh g.M.Mail.fits lock.id c.args.budget c.args.world.now c.args.boxes c.args.to (0 + length c.loop-lane.yielded)
+    c.args.first c.in-Some.lane lock.opening s r.1.0 (omega (arith, r.1.1)) c.requires.boxes.1
+    (omega (arith, c.requires.budget.0)) c.requires.boxes.0 c.requires.fits)
 
 pub push_reserved-requires : goal.push_reserved-requires
 push_reserved-requires g c =
     let lock = c.in-Ok.lock in
-    let r = fresh_next lock.id c.args.budget lock.opening c.args.boxes c.loop-lane.yielded c.in-Some.ensures.steps.0 c.loop-lane.invariant.0 in
+    let r = fresh_next lock.id c.args.budget lock.opening c.args.boxes c.loop-lane.yielded
+    c.in-Some.ensures.steps.0 c.loop-lane.invariant.0 in
     let s = c.in-Ok.ensures.ok.0 ∙ c.in_ok-book.ensures in
-    omega (arith, r.1.1, ap length c.loop-lane.invariant.1, sights_count lock.id c.args.budget lock.opening 0 (length c.loop-lane.yielded), c.loop-lane.invariant.2, c.loop-lane.passes.ok)
+    let count = sights_count lock.id c.args.budget lock.opening 0 (length c.loop-lane.yielded) in
+    omega (arith, r.1.1, ap length c.loop-lane.invariant.1, count, c.loop-lane.invariant.2, c.loop-lane.passes.ok)
 
 pub loop-lane-preserved : goal.loop-lane-preserved
 loop-lane-preserved g c =
     let lock = c.in-Ok.lock in
-    let r = fresh_next lock.id c.args.budget lock.opening c.args.boxes c.loop-lane.yielded c.in-Some.ensures.steps.0 c.loop-lane.invariant.0 in
+    let r = fresh_next lock.id c.args.budget lock.opening c.args.boxes c.loop-lane.yielded
+    c.in-Some.ensures.steps.0 c.loop-lane.invariant.0 in
     let s = c.in-Ok.ensures.ok.0 ∙ c.in_ok-book.ensures in
     let n = length c.loop-lane.yielded in
-    let shown = sight_fresh lock.id c.args.budget c.args.world.now c.of.result.value c.args.boxes c.args.to (0 + n) c.args.first c.in-Some.lane lock.opening s c.of.ensures r.1.0 in
+    let shown = sight_fresh lock.id c.args.budget c.args.world.now c.of.result.value c.args.boxes c.args.to (0 + n)
+    c.args.first c.in-Some.lane lock.opening s c.of.ensures r.1.0 in
     let long : length (c.loop-lane.yielded ++ c.in-Some.lane ∷ []) ≡ suc n = omega (arith, length_push c.loop-lane.yielded c.in-Some.lane) in (
       append_assoc c.loop-lane.yielded (c.in-Some.lane ∷ []) (into_iter_items c.next.new.self) ∙ r.0,
       c.push_reserved.ensures.items ∙ ((λ i. c.loop-lane.invariant.1 i ++ shown i ∷ []) ∙ (sym (sights_push lock.id c.args.budget lock.opening 0 n) ∙ ap (fresh_sights lock.id c.args.budget lock.opening 0) (sym long))),
