@@ -1,18 +1,22 @@
 -- What a call of the board knows once its pass is inside, and what it does there, call by call.
-use Rattle.std.proofs.Common.{◌≡◌, ℕ, ◌<◌, Bool, None, refl, sym, ap, ◌∙◌, subst, arith, IfErr, OnOk}
+use Rattle.std.proofs.Common.{◌≡◌, ℕ, ◌<◌, Bool, true, false, None, Ok, refl, sym, ap, ◌∙◌, subst, arith, IfErr, OnOk}
 use Rattle.std.specs.Prelude.{Result}
 use Rattle.ticket_lock.specs.Lanes.{Standing, Held}
 use Rattle.ticket_lock.specs.Promises.{Entered}
 use Rattle.post_ledger.specs.declared.entry.Entry.TheVariants.{Posted, Completed}
 use Rattle.post_ledger.specs.Orders.{HasJob}
 use Rattle.switchboard.specs.declared.calls.Abort.{Abort}
+use Rattle.switchboard.specs.declared.calls.Cause.{Cause}
 use Rattle.switchboard.specs.declared.calls.PostFault.{PostFault}
 use Rattle.switchboard.specs.declared.calls.Taken.{Taken}
 use Rattle.switchboard.specs.Sights.{State, Sight, abort_of}
 use Rattle.switchboard.specs.Books.{with_entry, Answers, Refuses}
 use Rattle.switchboard.specs.Passes.{calls_of, share, sight_of, Comes, IsPass}
+use Rattle.switchboard.specs.Promises.{Took, Added, MadeAbort}
 use Rattle.switchboard.proofs.Visits.{Allowed, Kept, Visit, Found, found_here, shows, showing, step_keeps, adds}
-use Rattle.switchboard.proofs.Visits.{aborts, take_step, post_step, job_found, job_allowed, post_allowed, some_calls, after_shows, moved}
+use Rattle.switchboard.proofs.Visits.{aborts, take_step, post_step, job_found, job_allowed, post_allowed, some_calls}
+use Rattle.switchboard.proofs.Visits.{after_shows, moved, pass_stays, take_still, took_is, added_is, post_still, posted_is}
+use Rattle.switchboard.proofs.Visits.{PostAnswer, abort_pass, aborted_when}
 
 module _ {M W : Type 0} (fits : W → ℕ → M → Type 0) where
   -- The pass shows itself as s and has the number n; it is inside, finds x and is lent it as v.
@@ -117,3 +121,66 @@ module _ {M W : Type 0} (fits : W → ℕ → M → Type 0) where
     seen_after {b} {y} kept' R visit keeps =
         moved R (showing fits a kept p.last) s (showing fits b kept' y) (sight_of b w boxes kept') h.see
         (sym (shown_after kept' visit keeps))
+
+    -- It was inside once, and left y.
+    module _ {b : Standing (State M W)} {y : State M W} (visit : Visit fits a b x y) where
+      -- So, where a call was left, it is a pass still, and shows that it took,
+      pub takes_on : (answer : Taken M) → Answers n answer v y → {r : ℕ} → r ≡ s.calls → (r ≡ 0 → ⊥) → IsPass fits b w boxes kept
+      takes_on answer answers is some_of =
+          let here = to_lane (λ k z. Answers k answer z y) answers in
+          pass_stays fits a b x y w boxes kept p visit (taking answer here) (take_still fits a.number answer x y here)
+          (had_calls is some_of)
+
+      pub shows_taken : (answer : Taken M) → Answers n answer v y → {r : ℕ} → r ≡ s.calls → (r ≡ 0 → ⊥) →
+          Took fits (Ok answer) s (sight_of b w boxes kept)
+      shows_taken answer answers is some_of =
+          let here = to_lane (λ k z. Answers k answer z y) answers in
+          seen_after kept (Took fits (Ok answer)) visit (taking answer here)
+          (took_is fits answer a b x y w boxes kept p visit h.near here (had_calls is some_of))
+
+      -- or that it completed a job of its own,
+      pub completes_on : {job r : ℕ} → HasJob s.number job s.seen.order → y ≡ with_entry (Completed n job) v → r ≡ s.calls →
+          (r ≡ 0 → ⊥) → IsPass fits b w boxes kept
+      completes_on {job} has done is some_of =
+          let here = to_lane (λ k z. y ≡ with_entry (Completed k job) z) done in
+          pass_stays fits a b x y w boxes kept p visit (completing (job_inside has) here) (ap (λ z. z.aborted) here)
+          (had_calls is some_of)
+
+      pub shows_completed : {job r : ℕ} → HasJob s.number job s.seen.order → y ≡ with_entry (Completed n job) v → r ≡ s.calls →
+          (r ≡ 0 → ⊥) → Added fits (Completed s.number job) s (sight_of b w boxes kept)
+      shows_completed {job} has done is some_of =
+          let here = to_lane (λ k z. y ≡ with_entry (Completed k job) z) done in
+          let own = job_inside has in
+          seen_after kept (λ q t. Added fits (Completed q.number job) q t) visit (completing own here)
+          (added_is fits a b x y (Completed a.number job) w boxes kept p visit here refl
+          (job_allowed fits a.number job x h.found.sound own) (had_calls is some_of))
+
+      -- or that it posted, or was refused.
+      pub posts_on : {to job : ℕ} {m : M} {answer : Result (Unit {0}) (PostFault M)} {r : ℕ} → Posting to job m answer y →
+          r ≡ s.calls → (r ≡ 0 → ⊥) → IsPass fits b w boxes kept
+      posts_on {to} {job} {m} {answer} posts is some_of =
+          pass_stays fits a b x y w boxes kept p visit posts.keeps
+          (post_still fits (Posted to a.number m job) m answer x y posts.ok posts.err) (had_calls is some_of)
+
+      pub shows_posted : {to job : ℕ} {m : M} {answer : Result (Unit {0}) (PostFault M)} {r : ℕ} → Posting to job m answer y →
+          r ≡ s.calls → (r ≡ 0 → ⊥) → PostAnswer fits job to m s (sight_of b w boxes kept) answer
+      shows_posted {to} {job} {m} {answer} posts is some_of =
+          seen_after kept (λ q t. PostAnswer fits job to m q t answer) visit posts.keeps
+          (posted_is fits job to m answer a b x y w boxes kept p visit posts.may posts.ok posts.err (had_calls is some_of))
+
+      -- Where it aborted, it has made its abort.
+      module _ (cause : Cause) (made : y ≡ record v { aborted = abort_of v.aborted (record { by = n; cause = cause }) }) where
+        abbrev own_abort : Abort
+        own_abort = record { by = a.number; cause = cause }
+
+        aborted_here : y ≡ record x { aborted = abort_of x.aborted own_abort }
+        aborted_here = to_lane (λ k z. y ≡ record z { aborted = abort_of z.aborted (record { by = k; cause = cause }) }) made
+
+        pub aborts_on : IsPass fits b w boxes false
+        aborts_on = abort_pass fits own_abort a b x y w boxes kept p visit (aborting own_abort refl aborted_here) aborted_here
+
+        pub shows_aborted : kept ≡ true → MadeAbort fits (record { by = s.number; cause = cause }) s (sight_of b w boxes false)
+        shows_aborted first =
+            let keeps = aborting own_abort refl aborted_here in
+            seen_after false (λ q t. MadeAbort fits (record { by = q.number; cause = cause }) q t) visit keeps
+            (aborted_when fits own_abort a b x y w boxes kept p first visit keeps aborted_here)

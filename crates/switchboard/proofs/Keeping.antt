@@ -140,7 +140,7 @@ module _ {M : Type 0} where
 
   -- and so in the mailbox of the job's pass
   pub job_in_box : (hs : List (List (Event M))) (order : List (Entry M)) (cap ps ds by take q : ℕ) (h : List (Event M)) →
-    Kept hs order cap ps ds →
+      Kept hs order cap ps ds →
       q ≡ by → slice_get hs q ≡ Some h → HasJob by take order → (take < length (takes h)) × (Contains (dones h) take → ⊥)
   job_in_box hs order cap ps ds by take q h kept same at has = job_in_history by take q order h same (kept.parts q h at) has
 

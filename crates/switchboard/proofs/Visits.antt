@@ -56,7 +56,7 @@ module _ {M X : Type 0} (f : List (Event M) → X) (posts : (s : ℕ) (m : M) (h
     | inl mine ↦ ap f (part_here p e es (one ∙ mine)) ∙ (next (event_of e) (part p es) (part p (own p es)) was
         ∙ sym (ap (λ l. f (part p l)) (own_here p e es mine) ∙ ap f (part_here p e (own p es) (one ∙ mine))))
     | inr other ↦ ap f (part_else p e es (λ is. other (sym one ∙ is))) ∙
-      (was ∙ sym (ap (λ l. f (part p l)) (own_else p e es other)))
+        (was ∙ sym (ap (λ l. f (part p l)) (own_else p e es other)))
   ]
 
   -- stands in the own list of the mailbox's pass

@@ -31,8 +31,11 @@ note_take-requires g c =
     let oldest = subst (λ h. slice_get (posts h) (length (takes h)) ≡ Some (c.in-Some.found.1, c.in-Some.found.2)) is c.in-Some.ensures.some.1 in
     let history = part c.args.by i.order.items in
     let within = slice_get_within (posts history) (length (takes history)) (c.in-Some.found.1, c.in-Some.found.2) oldest in
-    omega (arith, room_take i.mailboxes.items i.order.items (vec_capacity i.order) i.posted i.completed c.args.by
-    c.self.invariant (omega (arith, c.requires, ap (λ s. s.boxes) c.self.view_is)) within)
+    omega (
+      arith,
+      room_take i.mailboxes.items i.order.items (vec_capacity i.order) i.posted i.completed c.args.by
+          c.self.invariant (omega (arith, c.requires, ap (λ s. s.boxes) c.self.view_is)) within,
+    )
 
 pub invariant_of-self-in-Some : goal.invariant_of-self-in-Some
 invariant_of-self-in-Some g c =

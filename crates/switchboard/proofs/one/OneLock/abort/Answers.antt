@@ -1,10 +1,10 @@
 -- The abort is the pass's own, where there was none before.
-use Rattle.std.proofs.Common.{◌≡◌, false, refl, sym, ◌∙◌}
+use Rattle.std.proofs.Common.{◌≡◌, refl, sym, ◌∙◌}
 use Rattle.switchboard.specs.declared.calls.Abort.{Abort}
 use Rattle.switchboard.specs.Sights.{abort_of}
 use Rattle.switchboard.specs.Promises.{MadeAbort}
-use Rattle.switchboard.proofs.Inside.{inside, seen_after, to_lane, aborting}
-use Rattle.switchboard.proofs.Visits.{shows, may_leave, visit_is, abort_pass, aborted_when, again_when, showing, moved}
+use Rattle.switchboard.proofs.Inside.{inside, to_lane, aborting, aborts_on, shows_aborted}
+use Rattle.switchboard.proofs.Visits.{shows, may_leave, visit_is, again_when, showing, moved}
 use Rattle.switchboard.proofs.one.OneLock.abort.Goals as goal
 
 pub returns-then-not-pass : goal.returns-then-not-pass
@@ -29,24 +29,13 @@ leave-requires-clause-value g c =
 pub invariant_of-pass : goal.invariant_of-pass
 invariant_of-pass g c =
     let F = g.M.Mail.fits in
-    let i = c.pass.inside in
-    let y = c.abort.new.self in
     let h = inside F c.pass.invariant c.in-Ok.ensures c.pass.view_is c.number-number.ensures c.value.ensures.value in
-    let q : Abort = record { by = i.lane.number; cause = c.args.cause } in
-    let is = to_lane F h (λ n x. y ≡ record x { aborted = abort_of x.aborted (record { by = n; cause = c.args.cause }) }) c.abort.ensures in
-    let v = visit_is F c.in-Ok.guard i.lane c.enter.new.lane c.leave.new.lane y c.in-Ok.ensures c.leave.ensures in
-    abort_pass F q i.lane c.leave.new.lane c.in-Ok.guard.value y i.world.value i.boxes i.kept c.pass.invariant v (aborting F h q refl is) is
+    let v = visit_is F c.in-Ok.guard c.pass.inside.lane c.enter.new.lane c.leave.new.lane c.abort.new.self c.in-Ok.ensures c.leave.ensures in
+    aborts_on F h v c.args.cause c.abort.ensures
 
 pub returns : goal.returns
 returns g c =
     let F = g.M.Mail.fits in
-    let i = c.pass.inside in
-    let b = c.leave.new.lane in
-    let y = c.abort.new.self in
     let h = inside F c.pass.invariant c.in-Ok.ensures c.pass.view_is c.number-number.ensures c.value.ensures.value in
-    let q : Abort = record { by = i.lane.number; cause = c.args.cause } in
-    let is = to_lane F h (λ n x. y ≡ record x { aborted = abort_of x.aborted (record { by = n; cause = c.args.cause }) }) c.abort.ensures in
-    let v = visit_is F c.in-Ok.guard i.lane c.enter.new.lane b y c.in-Ok.ensures c.leave.ensures in
-    let made = aborted_when F q i.lane b c.in-Ok.guard.value y i.world.value i.boxes i.kept c.pass.invariant
-    c.if-not-pass.false v (aborting F h q refl is) is in
-    seen_after F h false (λ s t. MadeAbort F record { by = s.number; cause = c.args.cause } s t) v (aborting F h q refl is) made
+    let v = visit_is F c.in-Ok.guard c.pass.inside.lane c.enter.new.lane c.leave.new.lane c.abort.new.self c.in-Ok.ensures c.leave.ensures in
+    shows_aborted F h v c.args.cause c.abort.ensures c.if-not-pass.false

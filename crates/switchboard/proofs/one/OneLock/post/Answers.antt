@@ -1,9 +1,8 @@
 -- The message is posted under a job of the state that the pass finds, or nothing changes.
 use Rattle.std.proofs.Common.{◌<◌, arith}
-use Rattle.post_ledger.specs.declared.entry.Entry.TheVariants.{Posted}
 use Rattle.post_ledger.specs.Orders.{HasJob}
-use Rattle.switchboard.proofs.Inside.{inside, seen_after, to_call, boxes_inside, job_inside, posting, had_calls}
-use Rattle.switchboard.proofs.Visits.{post_still, posted_is, PostAnswer, may_leave, visit_is, pass_stays}
+use Rattle.switchboard.proofs.Inside.{inside, to_call, boxes_inside, job_inside, posting, posts_on, shows_posted}
+use Rattle.switchboard.proofs.Visits.{may_leave, visit_is}
 use Rattle.switchboard.proofs.one.OneLock.post.Goals as goal
 
 pub post-answer-requires-clause-job : goal.post-answer-requires-clause-job
@@ -31,30 +30,15 @@ leave-requires-clause-value g c =
 pub invariant_of-pass : goal.invariant_of-pass
 invariant_of-pass g c =
     let F = g.M.Mail.fits in
-    let i = c.pass.inside in
-    let x = c.in-Ok.guard.value in
-    let y = c.post-answer.new.self in
-    let answer = c.post-answer.result in
     let h = inside F c.pass.invariant c.in-Ok.ensures c.pass.view_is c.number-number.ensures c.value.ensures.value in
-    let p = posting F h c.args.to c.args.job.now c.args.message c.post-answer.result y c.requires.job c.requires.fits
-    c.post-answer.ensures.ok c.post-answer.ensures.err in
-    let v = visit_is F c.in-Ok.guard i.lane c.enter.new.lane c.leave.new.lane y c.in-Ok.ensures c.leave.ensures in
-    pass_stays F i.lane c.leave.new.lane x y i.world.value i.boxes i.kept c.pass.invariant v p.keeps
-    (post_still F (Posted c.args.to i.lane.number c.args.message c.args.job.now) c.args.message answer x y p.ok p.err)
-    (had_calls F h c.calls.ensures c.if-calls-eq0.false)
+    let v = visit_is F c.in-Ok.guard c.pass.inside.lane c.enter.new.lane c.leave.new.lane c.post-answer.new.self c.in-Ok.ensures c.leave.ensures in
+    posts_on F h v (posting F h c.args.to c.args.job.now c.args.message c.post-answer.result c.post-answer.new.self c.requires.job
+    c.requires.fits c.post-answer.ensures.ok c.post-answer.ensures.err) c.calls.ensures c.if-calls-eq0.false
 
 pub returns : goal.returns
 returns g c =
     let F = g.M.Mail.fits in
-    let i = c.pass.inside in
-    let b = c.leave.new.lane in
-    let x = c.in-Ok.guard.value in
-    let y = c.post-answer.new.self in
-    let answer = c.post-answer.result in
     let h = inside F c.pass.invariant c.in-Ok.ensures c.pass.view_is c.number-number.ensures c.value.ensures.value in
-    let p = posting F h c.args.to c.args.job.now c.args.message c.post-answer.result y c.requires.job c.requires.fits
-    c.post-answer.ensures.ok c.post-answer.ensures.err in
-    let v = visit_is F c.in-Ok.guard i.lane c.enter.new.lane b y c.in-Ok.ensures c.leave.ensures in
-    let posted = posted_is F c.args.job.now c.args.to c.args.message answer i.lane b x y i.world.value i.boxes i.kept
-    c.pass.invariant v p.may p.ok p.err (had_calls F h c.calls.ensures c.if-calls-eq0.false) in
-    seen_after F h i.kept (λ s t. PostAnswer F c.args.job.now c.args.to c.args.message s t answer) v p.keeps posted
+    let v = visit_is F c.in-Ok.guard c.pass.inside.lane c.enter.new.lane c.leave.new.lane c.post-answer.new.self c.in-Ok.ensures c.leave.ensures in
+    shows_posted F h v (posting F h c.args.to c.args.job.now c.args.message c.post-answer.result c.post-answer.new.self c.requires.job
+    c.requires.fits c.post-answer.ensures.ok c.post-answer.ensures.err) c.calls.ensures c.if-calls-eq0.false
