@@ -1,5 +1,6 @@
 -- What flows lead to, by numbers, and what nodes they do.
-use Rattle.std.specs.Prelude.{◌≡◌, ◌↔◌, ◌≤◌, ◌<◌, ℕ, ◌+◌, Bool, cond, Option, Some, None, List, [], ◌∷◌, ◌++◌, length}
+use Rattle.std.specs.Prelude.{◌≡◌, ◌↔◌, ◌≤◌, ◌<◌, ℕ, ◌+◌, Bool, cond, Option, Some, None}
+use Rattle.std.specs.Prelude.{List, [], ◌∷◌, ◌++◌, length}
 use Rattle.language.specs.Resolve.{Scope}
 use Rattle.language.specs.Sequential.{Valuation}
 use Rattle.flow_graph.specs.Bits.{coded}

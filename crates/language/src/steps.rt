@@ -1,5 +1,6 @@
 //! Laws that pin each kind of step: what a step of the top frame leads to, by its first statement.
-ghost use Rattle.std.specs.Prelude.{◌≡◌, ◌↔◌, ◌⊎◌, ℕ, List, Bool, true, false, [], ◌∷◌, ◌++◌, ◌-◌, Option, Some};
+ghost use Rattle.std.specs.Prelude.{◌≡◌, ◌↔◌, ◌⊎◌, ℕ, List, Bool, true, false, [], ◌∷◌};
+ghost use Rattle.std.specs.Prelude.{◌++◌, ◌-◌, Option, Some};
 ghost use Rattle.std.specs.Prelude.{length, slice_get};
 ghost use Rattle.language.specs.Tree.{RightSide, Expression, Mark, any, assign, assume, call, choose, done, goto};
 ghost use Rattle.language.specs.Tree.{leave, loop, one, skip};

@@ -89,7 +89,8 @@ module _ {A G : Type 0} (graph : Graph G) (q : ℕ) (f : Found A) (entries : Gro
         → Step graph q f begun_to es ds
     begin_step grown gave =
         grown_step graph q f entries f.summaries given pending es ds (λ t. t ≡ triple a graph.start a) taken_begun start_reached grown
-        (λ s k m. gives_kept (Each (λ b. IsTold q a b from) (under nat_eq f.exits.by_key a)) f.given.mails.keys given.mails.keys gave (mail s (due_of k)) m)
+        (λ s k m. gives_kept (Each (λ b. IsTold q a b from) (under nat_eq f.exits.by_key a)) f.given.mails.keys
+        given.mails.keys gave (mail s (due_of k)) m)
         (λ s k m. elim (gave.only (mail s (due_of k)) m) [ inl w ↦ inr (told s k w) | inr was ↦ inl was ])
         (λ c x h. elim (entry_or x (caller_of c) h) [
           | inl was ↦ inl was

@@ -191,7 +191,8 @@ module _ {A G : Type 0} (graph : Graph G) (q : ℕ) (f : Found A) (entries : Gro
       gives = gives;
       given = given;
       begun = begun;
-      ended = λ s e b a n v back at enters took. elim (ended s e b a n v back at enters took) [ inl was ↦ inl (at, was) | inr is ↦ inr is ];
+      ended = λ s e b a n v back at enters took.
+          elim (ended s e b a n v back at enters took) [ inl was ↦ inl (at, was) | inr is ↦ inr is ];
       asks = λ s e a n v m. inl m;
       tells = λ a b c m took. elim (tells a b c m took) [ inl was ↦ inl (m, was) | inr is ↦ inr is ];
       pairs = λ old. old;

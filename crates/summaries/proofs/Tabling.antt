@@ -19,7 +19,8 @@ use Rattle.summaries.specs.Tables.{answers_of, IsReached, IsTable, Keeps}
 use Rattle.summaries.proofs.Quiet.{is_exact, is_left}
 use Rattle.summaries.proofs.Stepping.{same_to, same_step, still_holds}
 
-module _ {G A S : Type 0} (members : S → List Triple) (t : Table G A S) (g : Found A) (paired : g.pairs.keys ≡ t.found.pairs.keys) (gave : g.given.mails.keys ≡ t.found.given.mails.keys)
+module _ {G A S : Type 0} (members : S → List Triple) (t : Table G A S) (g : Found A)
+    (paired : g.pairs.keys ≡ t.found.pairs.keys) (gave : g.given.mails.keys ≡ t.found.given.mails.keys)
     (pended : g.pending.items ≡ t.found.pending.items) where
   abbrev there : Found A
   there = same_to t.graph.now t.procedure t.found g (members t.edges) paired gave pended
@@ -45,11 +46,19 @@ module _ {G A S : Type 0} (members : S → List Triple) (t : Table G A S) (g : F
         );
   }
 
-module _ {G A S : Type 0} (members : S → List Triple) (t : Table G A S) (g : Found A) (paired : g.pairs.keys ≡ t.found.pairs.keys) (gave : g.given.mails.keys ≡ t.found.given.mails.keys)
+module _ {G A S : Type 0} (members : S → List Triple) (t : Table G A S) (g : Found A)
+    (paired : g.pairs.keys ≡ t.found.pairs.keys) (gave : g.given.mails.keys ≡ t.found.given.mails.keys)
     (pended : g.pending.items ≡ t.found.pending.items) where
   -- and keeps what it has taken
   pub same_keeps : IsTable members t → t.fault ≡ None →
-      Keeps members None t (record { graph = t.graph; procedure = t.procedure; limit = t.limit; edges = t.edges; found = there members t g paired gave pended; fault = t.fault })
+      Keeps members None t (record {
+        graph = t.graph;
+        procedure = t.procedure;
+        limit = t.limit;
+        edges = t.edges;
+        found = there members t g paired gave pended;
+        fault = t.fault;
+      })
   same_keeps old none = record {
     table = same_table members t g paired gave pended old;
     taken = (refl, refl);

@@ -59,7 +59,9 @@ module _ {G A S : Type 0} (members : S → List Triple) where
     holds = holds;
     edges = edges;
     within = adds.within;
-    many = λ is. let (t, w, fresh, full) = adds.limit is in has_more (most_of new.limit) (members new.edges) _ once edges t (reached t w) fresh full;
+    many = λ is.
+        let (t, w, fresh, full) = adds.limit is in
+        has_more (most_of new.limit) (members new.edges) _ once edges t (reached t w) fresh full;
     answers = answers;
     stays = stays;
     fault = fault;

@@ -125,7 +125,8 @@ module _ {M W : Type 0} (fits : W → ℕ → M → Type 0) where
     -- It was inside once, and left y.
     module _ {b : Standing (State M W)} {y : State M W} (visit : Visit fits a b x y) where
       -- So, where a call was left, it is a pass still, and shows that it took,
-      pub takes_on : (answer : Taken M) → Answers n answer v y → {r : ℕ} → r ≡ s.calls → (r ≡ 0 → ⊥) → IsPass fits b w boxes kept
+      pub takes_on : (answer : Taken M) → Answers n answer v y → {r : ℕ} → r ≡ s.calls → (r ≡ 0 → ⊥) →
+          IsPass fits b w boxes kept
       takes_on answer answers is some_of =
           let here = to_lane (λ k z. Answers k answer z y) answers in
           pass_stays fits a b x y w boxes kept p visit (taking answer here) (take_still fits a.number answer x y here)
@@ -146,8 +147,8 @@ module _ {M W : Type 0} (fits : W → ℕ → M → Type 0) where
           pass_stays fits a b x y w boxes kept p visit (completing (job_inside has) here) (ap (λ z. z.aborted) here)
           (had_calls is some_of)
 
-      pub shows_completed : {job r : ℕ} → HasJob s.number job s.seen.order → y ≡ with_entry (Completed n job) v → r ≡ s.calls →
-          (r ≡ 0 → ⊥) → Added fits (Completed s.number job) s (sight_of b w boxes kept)
+      pub shows_completed : {job r : ℕ} → HasJob s.number job s.seen.order → y ≡ with_entry (Completed n job) v →
+          r ≡ s.calls → (r ≡ 0 → ⊥) → Added fits (Completed s.number job) s (sight_of b w boxes kept)
       shows_completed {job} has done is some_of =
           let here = to_lane (λ k z. y ≡ with_entry (Completed k job) z) done in
           let own = job_inside has in

@@ -32,5 +32,6 @@ loop-site-preserved g c = (
 
 pub returns : goal.returns
 returns g c =
-    each_done (λ site. IsBehind c.args.graph.now site c.args.globals) c.args.sites.now c.loop-site.site-index _ _ _ _ c.loop-site.invariant.0 _
+    each_done (λ site. IsBehind c.args.graph.now site c.args.globals) c.args.sites.now c.loop-site.site-index
+    _ _ _ _ c.loop-site.invariant.0 _
     (omega (arith, c.loop-site-test.false, c.loop-site.auto.site-index-end)) c.loop-site.invariant.1

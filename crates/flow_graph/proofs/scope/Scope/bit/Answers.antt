@@ -24,7 +24,8 @@ returns-then-declares-clause-small g c =
 
 pub returns-then-declares-clause-bit : goal.returns-then-declares-clause-bit
 returns-then-declares-clause-bit g c =
-    formal_bit c.args.self.now c.args.x.now _ _ c.as_str-text.ensures.value (sym c.declares.ensures ∙ c.if-declares.true) c.number_of_name.ensures
+    formal_bit c.args.self.now c.args.x.now _ _ c.as_str-text.ensures.value (sym c.declares.ensures ∙ c.if-declares.true)
+    c.number_of_name.ensures
 
 -- a local's number is small enough
 pub overflow_add-at-then-declares-2-2 : goal.overflow_add-at-then-declares-2-2

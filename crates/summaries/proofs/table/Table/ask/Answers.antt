@@ -25,8 +25,11 @@ enters g c = λ i. Some (sym c.callee.ensures i, sym c.entry.ensures i, c.args.c
 known : (g : given.Over) (c : goal.After-go_on g) →
     let self = c.args.self.now in
     let site = site c.args.edge.entry c.args.edge.point c.args.edge.values in
-    Grows (Each (IsBehind self.graph.now site) c.of.result.now) (g.S.PathSet.members self.edges) (g.S.PathSet.members c.go_on.new.edges) self.found.pending.items c.go_on.new.pending.items →
-    Grows (Each (IsBehind self.graph.now site) (under call_eq self.found.summaries.by_key (call c.callee.result c.entry.result))) (g.S.PathSet.members self.edges) (g.S.PathSet.members c.go_on.new.edges) self.found.pending.items c.go_on.new.pending.items
+    let es = g.S.PathSet.members self.edges in
+    let ds = g.S.PathSet.members c.go_on.new.edges in
+    let known = under call_eq self.found.summaries.by_key (call c.callee.result c.entry.result) in
+    Grows (Each (IsBehind self.graph.now site) c.of.result.now) es ds self.found.pending.items c.go_on.new.pending.items →
+    Grows (Each (IsBehind self.graph.now site) known) es ds self.found.pending.items c.go_on.new.pending.items
 known g c =
     let self = c.args.self.now in
     subst (λ bs. Grows (Each (IsBehind self.graph.now (site c.args.edge.entry c.args.edge.point c.args.edge.values)) bs)
@@ -84,7 +87,8 @@ returns-clause-worked g c =
     (λ _ grown.
     let step = ask_step self.graph.now self.procedure f c.give_unless.new.self c.add.new.self c.go_on.new.pending es ds e
     c.callee.result c.entry.result c.args.call.now.back (flow.Call c.args.call.now)
-    c.requires.holds.0 c.requires.edge c.requires.call (enters g c) c.in_ok-give_unless.ensures.ok c.in_ok-known.ensures.added
+    c.requires.holds.0 c.requires.edge c.requires.call (enters g c) c.in_ok-give_unless.ensures.ok
+    c.in_ok-known.ensures.added
     c.in_ok-known.ensures.others (known g c grown) in
     still_holds self.graph.now self.procedure f _ es ds step (λ t. t ≡ triple_of e) c.requires.holds)
     c.go_on.ensures.ok)
@@ -106,5 +110,6 @@ returns-clause-asked g c =
     subst (λ (t : ℕ × ℕ). HasSite found t.0 t.1 (site e.entry e.point e.values)) (λ i. (c.callee.ensures i, c.entry.ensures i))
     (asked_site self.graph.now self.procedure self.found c.give_unless.new.self c.add.new.self c.go_on.new.pending es ds e
     c.callee.result c.entry.result c.args.call.now.back (flow.Call c.args.call.now)
-    c.requires.holds.0 c.requires.edge c.requires.call (enters g c) c.in_ok-give_unless.ensures.ok c.in_ok-known.ensures.added c.in_ok-known.ensures.others (known g c grown)))
+    c.requires.holds.0 c.requires.edge c.requires.call (enters g c) c.in_ok-give_unless.ensures.ok
+    c.in_ok-known.ensures.added c.in_ok-known.ensures.others (known g c grown)))
     c.go_on.ensures.ok

@@ -20,11 +20,22 @@ returns-in_ok-tell_all-clause-ok g c =
     let e = c.args.edge in
     let b = c.left.result in
     let es = g.S.PathSet.members self.edges in
-    let h : Found g.row.A.Denot = record { entries = f.entries; summaries = f.summaries; sites = f.sites; exits = c.add.new.self; pairs = c.insert.new.self; given = c.tell_all.new.given; pending = f.pending } in
+    let h : Found g.row.A.Denot = record {
+      entries = f.entries;
+      summaries = f.summaries;
+      sites = f.sites;
+      exits = c.add.new.self;
+      pairs = c.insert.new.self;
+      given = c.tell_all.new.given;
+      pending = f.pending;
+    } in
     let there = subst (λ n. Member (triple e.entry n e.values) es) c.if-edge-ne-EXIT.false c.requires.edge in
-    let keys = inserted_new pair_eq (pair e.entry b) f.pairs.keys c.insert.new.self.keys c.in_ok-insert.field-0 c.in_ok-insert.ensures.added c.in_ok-insert.ensures.keys c.if-branch.true in
-    let gave = subst (λ cs. Gives (Each (IsTold self.procedure e.entry b) cs) f.given.mails.keys h.given.mails.keys) c.of.ensures c.in_ok-tell_all.ensures.ok in
-    let step = leave_step self.graph.now self.procedure f h es e.entry e.values b c.left.ensures.number c.requires.holds.0 there keys c.in_ok-add.ensures.added c.in_ok-add.ensures.others gave in
+    let keys = inserted_new pair_eq (pair e.entry b) f.pairs.keys c.insert.new.self.keys
+    c.in_ok-insert.field-0 c.in_ok-insert.ensures.added c.in_ok-insert.ensures.keys c.if-branch.true in
+    let gave = subst (λ cs. Gives (Each (IsTold self.procedure e.entry b) cs) f.given.mails.keys h.given.mails.keys)
+    c.of.ensures c.in_ok-tell_all.ensures.ok in
+    let step = leave_step self.graph.now self.procedure f h es e.entry e.values b c.left.ensures.number
+    c.requires.holds.0 there keys c.in_ok-add.ensures.added c.in_ok-add.ensures.others gave in
     still_holds self.graph.now self.procedure f h es es step (λ t. t ≡ triple_of e) c.requires.holds
 
 pub returns-in_ok-tell_all-clause-left : goal.returns-in_ok-tell_all-clause-left
@@ -48,8 +59,17 @@ returns-else-branch-clause-ok g c =
     let f = self.found in
     let e = c.args.edge in
     let es = g.S.PathSet.members self.edges in
-    let h : Found g.row.A.Denot = record { entries = f.entries; summaries = f.summaries; sites = f.sites; exits = f.exits; pairs = c.insert.new.self; given = f.given; pending = f.pending } in
-    let known = inserted_known pair_eq (pair e.entry c.left.result) f.pairs.keys c.insert.new.self.keys c.in_ok-insert.field-0 c.in_ok-insert.ensures.added c.in_ok-insert.ensures.keys c.if-branch.false in
+    let h : Found g.row.A.Denot = record {
+      entries = f.entries;
+      summaries = f.summaries;
+      sites = f.sites;
+      exits = f.exits;
+      pairs = c.insert.new.self;
+      given = f.given;
+      pending = f.pending;
+    } in
+    let known = inserted_known pair_eq (pair e.entry c.left.result) f.pairs.keys c.insert.new.self.keys
+    c.in_ok-insert.field-0 c.in_ok-insert.ensures.added c.in_ok-insert.ensures.keys c.if-branch.false in
     let step = same_step self.graph.now self.procedure f h es known.0 refl refl in
     still_holds self.graph.now self.procedure f h es es step (λ t. t ≡ triple_of e) c.requires.holds
 
@@ -58,6 +78,7 @@ returns-else-branch-clause-left g c = λ _.
     let self = c.args.self.now in
     let f = self.found in
     let e = c.args.edge in
-    let known = inserted_known pair_eq (pair e.entry c.left.result) f.pairs.keys c.insert.new.self.keys c.in_ok-insert.field-0 c.in_ok-insert.ensures.added c.in_ok-insert.ensures.keys c.if-branch.false in
+    let known = inserted_known pair_eq (pair e.entry c.left.result) f.pairs.keys c.insert.new.self.keys
+    c.in_ok-insert.field-0 c.in_ok-insert.ensures.added c.in_ok-insert.ensures.keys c.if-branch.false in
     subst (λ b. Member b (under nat_eq f.exits.by_key e.entry)) c.left.ensures.number
     ((c.requires.holds.1.pairs e.entry c.left.result).0 (found_is_in pair_eq same_pair (pair e.entry c.left.result) f.pairs.keys known.1))

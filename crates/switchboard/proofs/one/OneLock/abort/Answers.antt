@@ -30,12 +30,14 @@ pub invariant_of-pass : goal.invariant_of-pass
 invariant_of-pass g c =
     let F = g.M.Mail.fits in
     let h = inside F c.pass.invariant c.in-Ok.ensures c.pass.view_is c.number-number.ensures c.value.ensures.value in
-    let v = visit_is F c.in-Ok.guard c.pass.inside.lane c.enter.new.lane c.leave.new.lane c.abort.new.self c.in-Ok.ensures c.leave.ensures in
+    let v = visit_is F c.in-Ok.guard c.pass.inside.lane c.enter.new.lane c.leave.new.lane c.abort.new.self
+    c.in-Ok.ensures c.leave.ensures in
     aborts_on F h v c.args.cause c.abort.ensures
 
 pub returns : goal.returns
 returns g c =
     let F = g.M.Mail.fits in
     let h = inside F c.pass.invariant c.in-Ok.ensures c.pass.view_is c.number-number.ensures c.value.ensures.value in
-    let v = visit_is F c.in-Ok.guard c.pass.inside.lane c.enter.new.lane c.leave.new.lane c.abort.new.self c.in-Ok.ensures c.leave.ensures in
+    let v = visit_is F c.in-Ok.guard c.pass.inside.lane c.enter.new.lane c.leave.new.lane c.abort.new.self
+    c.in-Ok.ensures c.leave.ensures in
     shows_aborted F h v c.args.cause c.abort.ensures c.if-not-pass.false

@@ -31,7 +31,8 @@ pub invariant_of-pass : goal.invariant_of-pass
 invariant_of-pass g c =
     let F = g.M.Mail.fits in
     let h = inside F c.pass.invariant c.in-Ok.ensures c.pass.view_is c.number-number.ensures c.value.ensures.value in
-    let v = visit_is F c.in-Ok.guard c.pass.inside.lane c.enter.new.lane c.leave.new.lane c.post-answer.new.self c.in-Ok.ensures c.leave.ensures in
+    let v = visit_is F c.in-Ok.guard c.pass.inside.lane c.enter.new.lane c.leave.new.lane c.post-answer.new.self
+    c.in-Ok.ensures c.leave.ensures in
     posts_on F h v (posting F h c.args.to c.args.job.now c.args.message c.post-answer.result c.post-answer.new.self c.requires.job
     c.requires.fits c.post-answer.ensures.ok c.post-answer.ensures.err) c.calls.ensures c.if-calls-eq0.false
 
@@ -39,6 +40,7 @@ pub returns : goal.returns
 returns g c =
     let F = g.M.Mail.fits in
     let h = inside F c.pass.invariant c.in-Ok.ensures c.pass.view_is c.number-number.ensures c.value.ensures.value in
-    let v = visit_is F c.in-Ok.guard c.pass.inside.lane c.enter.new.lane c.leave.new.lane c.post-answer.new.self c.in-Ok.ensures c.leave.ensures in
+    let v = visit_is F c.in-Ok.guard c.pass.inside.lane c.enter.new.lane c.leave.new.lane c.post-answer.new.self
+    c.in-Ok.ensures c.leave.ensures in
     shows_posted F h v (posting F h c.args.to c.args.job.now c.args.message c.post-answer.result c.post-answer.new.self c.requires.job
     c.requires.fits c.post-answer.ensures.ok c.post-answer.ensures.err) c.calls.ensures c.if-calls-eq0.false
