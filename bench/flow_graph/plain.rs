@@ -5,15 +5,15 @@ use std::time::Instant;
 
 struct Table {
     inputs: Vec<u8>,
-    outputs: u64,
+    outputs: Vec<u64>,
 }
 
 impl Table {
     fn new(inputs: &[u8], expression: impl Fn(&[bool]) -> bool) -> Formula {
-        let mut outputs = 0;
-        for row in 0..64u64 {
+        let mut outputs = vec![0; (1usize << inputs.len()).div_ceil(64)];
+        for row in 0..1usize << inputs.len() {
             let bits: Vec<bool> = (0..inputs.len()).map(|slot| row >> slot & 1 == 1).collect();
-            outputs |= (expression(&bits) as u64) << row;
+            outputs[row / 64] |= (expression(&bits) as u64) << (row % 64);
         }
         Formula::Table(Table { inputs: inputs.to_vec(), outputs })
     }
@@ -23,7 +23,7 @@ impl Table {
         for (slot, input) in self.inputs.iter().enumerate() {
             row |= (values >> input & 1) << slot;
         }
-        self.outputs >> row & 1 == 1
+        self.outputs[row as usize / 64] >> (row % 64) & 1 == 1
     }
 }
 
@@ -146,12 +146,14 @@ fn main() {
         11,
         21,
     );
+    let even = |b: &[bool]| b.iter().filter(|b| **b).count() % 2 == 0;
+    let seven = Flow::Test(Side::Value(Table::new(&[4, 5, 6, 7, 8, 9, 10], even)), 11, 21);
     let mut parity = vec![Step::Read(4)];
-    for bit in 5..=10 {
+    for bit in 5..=14 {
         parity.extend([Step::Read(bit), Step::Xor]);
     }
     parity.push(Step::Not);
-    let seven = Flow::Test(Side::Value(Formula::Code(parity)), 11, 21);
+    let eleven = Flow::Test(Side::Value(Formula::Code(parity)), 11, 12);
     let others = [Flow::Assume(Side::Any, 0), Flow::Return];
     black_box(&others);
     for (name, flow) in [
@@ -159,6 +161,7 @@ fn main() {
         ("four targets", &four),
         ("test", &test),
         ("seven bits", &seven),
+        ("eleven bits", &eleven),
     ] {
         let start = Instant::now();
         let sum = sum(black_box(flow), steps);

@@ -15,17 +15,15 @@ use ticket_lock::Spent;
 #[derive(Clone, Copy, Debug, PartialEq, Eq)]
 pub(crate) struct Letter(pub(crate) u32);
 
-impl Mail for Letter {
+impl Mail<()> for Letter {
     ghost use Rattle.std.specs.Prelude.{ℕ};
-
-    type World = ();
 
     ghost fits = { λ world mailbox message. Unit {0} };
 }
 
-pub(crate) type Lines<A> = OneLock<Letter, A>;
+pub(crate) type Lines<A> = OneLock<Letter, (), A>;
 
-pub(crate) type Line<A> = OnePass<Letter, A>;
+pub(crate) type Line<A> = OnePass<Letter, (), A>;
 
 // Takes a message, which has to be there.
 pub(crate) fn message<R: Wait + Abort, A: Allocator>(
@@ -200,7 +198,7 @@ fn alone<R: Abort, A: Allocator + Clone>(rt: &R, alloc: A) -> (Lines<A>, Line<A>
     ensures { (result.1.board ≡ result.0.lock.id) × (result.1.number ≡ 0) × (result.0.lock.lanes ≡ 1)
         × (result.1.seen.boxes ≡ 1) }
 {
-    let Ok((board, mut passes)) = <Lines<A> as Board<Letter, A>>::open(alloc, &(), 1, 0, Letter(10))
+    let Ok((board, mut passes)) = <Lines<A> as Board<Letter, (), A>>::open(alloc, &(), 1, 0, Letter(10))
     else {
         panic!(rt; "no memory")
     };
@@ -221,7 +219,7 @@ fn two<R: Abort, A: Allocator + Clone>(
     ensures zero { (result.1.board ≡ result.0.lock.id) × (result.1.number ≡ 0) × (result.1.seen.boxes ≡ 2) }
     ensures one { (result.2.board ≡ result.0.lock.id) × (result.2.number ≡ 1) × (result.2.seen.boxes ≡ 2) }
 {
-    let opened = <Lines<A> as Board<Letter, A>>::open_with_budget(
+    let opened = <Lines<A> as Board<Letter, (), A>>::open_with_budget(
         alloc,
         &(),
         2,

@@ -138,7 +138,7 @@ fn four<R: Abort>(
     ensures c { (result.3.board ≡ result.0.lock.id) × (result.3.number ≡ 2) × (result.3.seen.boxes ≡ 4) }
     ensures d { (result.4.board ≡ result.0.lock.id) × (result.4.number ≡ 3) × (result.4.seen.boxes ≡ 4) }
 {
-    let opened = <Lines<Global> as Board<Letter, Global>>::open(alloc, &(), 4, 0, Letter(0));
+    let opened = <Lines<Global> as Board<Letter, (), Global>>::open(alloc, &(), 4, 0, Letter(0));
     let Ok((board, mut passes)) = opened else {
         panic!(rt; "no memory")
     };

@@ -94,7 +94,7 @@ fn serves<R: Wait + Abort, B: Allocator, A: Allocator>(
 // Whether the allocation of this number was refused to a board of one mailbox.
 fn was_refused<R: Wait + Abort, A: Allocator>(rt: &R, host: A, nth: u64) -> bool {
     let scarce = Scarce::refusing(host, nth);
-    let opened = <Lines<&Scarce<A>> as Board<Letter, &Scarce<A>>>::open(
+    let opened = <Lines<&Scarce<A>> as Board<Letter, (), &Scarce<A>>>::open(
         &scarce,
         &(),
         1,

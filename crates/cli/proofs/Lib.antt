@@ -2,3 +2,4 @@ pub mod Rows
 pub mod Reading
 pub mod Extending
 pub mod Locating
+pub mod Giving

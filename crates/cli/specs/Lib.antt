@@ -5,5 +5,7 @@ pub mod Rewritten
 pub mod Verdict
 pub mod Refused
 pub mod Replies
+pub mod Served
+pub mod Ran
 pub mod Place
 pub mod Explained

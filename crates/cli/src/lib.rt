@@ -1,4 +1,4 @@
-//! The command line of bebopk: from words and bytes to a reply.
+//! The program bebopk, but for its streams: from words and bytes to a reply, and from a reader to a writer.
 #![tactic(auto)]
 
 mod answers;
@@ -12,7 +12,11 @@ mod place;
 mod refusal;
 mod reply;
 mod rewriting;
+mod running;
 mod sequential;
+mod serving;
+mod sink;
+mod source;
 
 pub use answers::{answer, no_memory};
 pub use asked::{LineFault, Order};
@@ -20,3 +24,5 @@ pub use explanation::explain;
 pub use line::order;
 pub use refusal::Refusal;
 pub use reply::Reply;
+pub use running::{decline, run};
+pub use serving::{serve, serve_telling};

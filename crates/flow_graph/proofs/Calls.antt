@@ -25,6 +25,14 @@ argument_step f xs rest x entry bit worth whole h e is small within =
     let rest_same : 2 ^ (bit + 1) * coded (map f rest) ≡ 2 ^ bit * 2 * coded (map f rest) = ap (λ n. n * coded (map f rest)) twice in
     (omega (arith, exact, all, rest_same), omega (arith, exact, below, twice))
 
+-- an entry of fewer than 64 places has room for one argument more
+pub entry_fits : (b : Bool) (entry bit worth : ℕ) → worth ≡ worth_of b → entry < 2 ^ bit → bit < most_places →
+    entry + worth * 2 ^ bit % 18446744073709551616 < 18446744073709551616
+entry_fits b entry bit worth is small within =
+    let most : 2 ^ (bit + 1) ≤ 2 ^ 64 = pow_mono (let le : bit + 1 ≤ 64 = omega (arith, within) in le) in
+    let below = below_next b entry (2 ^ bit) worth small is in
+    omega (arith, below, doubled bit, most)
+
 -- the lowest bits of one number and the others of another are no more than 64
 pub room_below : (g v b low old : ℕ) → v < 18446744073709551616 → b < 18446744073709551616 → low ≡ b % 2 ^ g → old ≡ v % 2 ^ g → low + (v - old) < 18446744073709551616
 room_below g v b low old fits fits' is is' = go (nat_lt g 65) refl

@@ -13,7 +13,7 @@ use Rattle.language.specs.Sequential.{Valuation}
 use Rattle.language.proofs.Lengths.{length_values}
 use Rattle.flow_graph.specs.Bits.{bit_of, worth_of, coded}
 use Rattle.flow_graph.specs.Formulas.{says, SaysSide}
-use Rattle.flow_graph.specs.Assignments.{assigned}
+use Rattle.flow_graph.specs.Assignments.{assigned, written}
 use Rattle.flow_graph.specs.Assigning.{Assigns, after_values}
 use Rattle.flow_graph.specs.Nodes.{goes, stops, tests, assigns, calls, returns}
 use Rattle.flow_graph.specs.Flows.{code, Widths, widths_of, HasWidths, Does}
@@ -59,6 +59,26 @@ does_same {A} f r j k w e d = record {
     has (value x) v to same =
         let b = value_of v.globals v.places x in
         (b, refl, to ∙ sym (at_j b), same)
+
+-- an assignment that writes nothing goes on
+pub does_goes : {A : Type 0} (a : Assignment A) (to : ℕ) (w : Widths) → a.writes.items ≡ [] → a.last ≡ 0 →
+    Does (Assign a to) (goes to) w
+does_goes {A} a to w none last = record {
+  leads = λ v n m wide. (
+    λ h.
+        let (i, (le, is)) = h in
+        let next = assigned a (code v) i in
+        (v, ([], tt, sym (same_first to next n m is), refl), sym (same_second to next n m is) ∙ stays (code v) i),
+    λ h.
+        let (v', (vs, are, is, same), at) = h in
+        (0, (omega arith, λ t. Some (sym is t, (stays (code v) 0 ∙ ap code (sym same) ∙ sym at) t))),
+  );
+  once = λ v i j n m wide one other. omega (arith, one.0, other.0, last);
+  enters = λ v s e n wide. (λ h. absurd (none-some _ h), λ h. absurd h.1);
+}
+  where
+    stays : (values i : ℕ) → assigned a values i ≡ values
+    stays values i = ap (λ ws. written ws values i values) none
 
 pub does_assigns : {A : Type 0} (a : Assignment A) (s : Scope) (xs : List Name) (rs : List (RightSide Name)) (to : ℕ) →
     Assigns a s xs rs →

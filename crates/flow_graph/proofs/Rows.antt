@@ -1,18 +1,22 @@
 -- Outputs of truth tables, bit by bit.
-use Rattle.std.proofs.Common.{◌≡◌, ◌<◌, ◌≤◌, ℕ, zero, suc, ◌+◌, ◌-◌, ◌*◌, ◌/◌, ◌%◌, ◌^◌, min, max, ◌==◌, cond, not, ◌&&◌, ◌||◌, Bool, true, false, List, [], ◌∷◌, ◌++◌, length, map, w64, refl, sym, ◌∙◌, ap, subst, arith}
+use Rattle.std.proofs.Common.{◌≡◌, ◌<◌, ◌≤◌, ℕ, zero, suc, ◌+◌, ◌-◌, ◌*◌, ◌/◌, ◌%◌, ◌^◌, min, max}
+use Rattle.std.proofs.Common.{◌==◌, cond, not, ◌&&◌, ◌||◌, Bool, true, false, List, [], ◌∷◌, ◌++◌, length, get_or}
+use Rattle.std.proofs.Common.{map, take, set, w64, refl, sym, ◌∙◌, ap, subst, arith}
 use Rattle.std.specs.Int.{bit_at}
 use Rattle.std.specs.Int.RustNames.{bit_and, bit_or, bit_xor}
 use Rattle.std.proofs.lemmas.Bool.{eqb-true, eqb-false, false≢true}
-use Rattle.std.proofs.lemmas.Nat.Bits.{bit_at_lowest, bit_at-suc, bit_at_ones, bit_at-lt, bit_at_and, bit_at_or, bit_at_xor, bit_at_not}
-use Rattle.language.specs.Tree.{Operator, Expression, const, var, negation, two}
+use Rattle.std.proofs.lemmas.Nat.Bits.{bit_at_lowest, bit_at-suc, bit_at-lt, bit_at_and, bit_at_or, bit_at_xor}
+use Rattle.std.proofs.lemmas.Nat.Bits.{bit_at_not}
+use Rattle.language.specs.Tree.{Operator, xor, Expression, const, var, negation, two}
 use Rattle.language.specs.Value.{operate}
 use Rattle.std.proofs.Math.Nat.{mul_assoc, mul-add}
 use Rattle.std.proofs.Math.Pow.{pow_mono}
-use Rattle.std.proofs.lemmas.List.{length-map}
+use Rattle.std.proofs.lemmas.List.{length-map, get_or-take, get_or-set_same, get_or-set_other}
 use Rattle.flow_graph.proofs.Stacks.{worth_small, coded_small}
 use Rattle.flow_graph.specs.Bits.{bit_of, worth_of, coded}
 use Rattle.flow_graph.specs.Located.{worth}
-use Rattle.flow_graph.specs.Tables.{slot, is_input, Reads, Tabulates, AreBits, Widens, most_rows}
+use Rattle.flow_graph.specs.Tables.{slot, is_input, output, Reads, Tabulates, AreBits, Widens, most_inputs, most_rows}
+use Rattle.flow_graph.specs.Tables.{word_rows}
 use Rattle.round_rewrite.specs.Limits.{most_places}
 
 -- ---- operators on words
@@ -41,7 +45,7 @@ bits_xor a b j =
     ap (λ n. n == 1) (bit_at_xor a b j)
     ∙ two_bits (λ x y. ((x + y) % 2 == 1) ≡ cond (x == 1) (not (y == 1)) (y == 1)) refl refl refl refl (bit_at a j) (bit_at b j) (bit_at-lt a j) (bit_at-lt b j)
 
-pub bits_not : (a j : ℕ) → a < 2 ^ 64 → j < most_rows → bit_of (18446744073709551615 - a) j ≡ not (bit_of a j)
+pub bits_not : (a j : ℕ) → a < 2 ^ 64 → j < word_rows → bit_of (18446744073709551615 - a) j ≡ not (bit_of a j)
 bits_not a j h k =
     ap (λ n. n == 1) (bit_at_not w64 a j h k)
     ∙ two_bits (λ x y. (1 - x == 1) ≡ not (x == 1)) refl refl refl refl (bit_at a j) 0 (bit_at-lt a j) (omega arith)
@@ -49,6 +53,34 @@ bits_not a j h k =
 pub turned : (a b : Bool) → cond (not a) (not b) b ≡ cond a b (not b)
 turned true b = refl
 turned false b = refl
+
+-- the words below n are the operator on those of the operands, in each of their rows
+abbrev pub AreCombined : Operator → List ℕ → List ℕ → List ℕ → ℕ → Type 0
+AreCombined o left right words n =
+    (k : ℕ) → k < n → (j : ℕ) → j < word_rows → bit_of (get_or words k 0) j ≡ operate o (bit_of (get_or left k 0) j)
+        (bit_of (get_or right k 0) j)
+
+pub combined_next : (o : Operator) (left right words : List ℕ) (n w : ℕ) → n < length words
+    → AreCombined o left right words n →
+    ((j : ℕ) → j < word_rows → bit_of w j ≡ operate o (bit_of (get_or left n 0) j) (bit_of (get_or right n 0) j))
+        → AreCombined o left right (set words n w) (n + 1)
+combined_next o left right words n w inside so_far here k less j row = go (k == n) refl
+  where
+    go : (b : Bool) → (k == n) ≡ b → bit_of (get_or (set words n w) k 0) j ≡ operate o (bit_of (get_or left k 0) j)
+        (bit_of (get_or right k 0) j)
+    go true e =
+        let same = eqb-true k n e in
+        ap (λ i. bit_of (get_or (set words n w) i 0) j) same ∙ ap (λ v. bit_of v j)
+            (get_or-set_same words n w 0 inside) ∙ here j row
+        ∙ ap (λ i. operate o (bit_of (get_or left i 0) j) (bit_of (get_or right i 0) j)) (sym same)
+    go false e =
+        let apart = eqb-false k n e in
+        ap (λ v. bit_of v j) (get_or-set_other words n k w 0 apart) ∙ so_far k (omega (arith, less, apart)) j row
+
+pub combined_rows : (o : Operator) (left right words : List ℕ) → AreCombined o left right words 16 → (j : ℕ)
+    → j < most_rows →
+    output words j ≡ operate o (output left j) (output right j)
+combined_rows o left right words all j less = all (j / word_rows) (omega (arith, less)) (j % word_rows) (omega arith)
 
 -- ---- the outputs of one input
 
@@ -80,9 +112,11 @@ same_is true false h = absurd (false≢true h)
 same_is false true h = absurd (false≢true h)
 same_is false false h = refl
 
-pub rows_of_slot : (outputs s : ℕ) → all_below 64 (λ j. same (bit_of outputs j) (bit_of j s)) ≡ true → (j : ℕ) →
-    j < most_rows → bit_of outputs j ≡ bit_of j s
-rows_of_slot outputs s h j less = same_is (bit_of outputs j) (bit_of j s) (below 64 (λ k. same (bit_of outputs k) (bit_of k s)) h j less)
+pub rows_of_slot : (words : List ℕ) (s : ℕ) → all_below most_rows (λ j. same (output words j) (bit_of j s)) ≡ true
+    → (j : ℕ) →
+    j < most_rows → output words j ≡ bit_of j s
+rows_of_slot words s h j less = same_is (output words j) (bit_of j s)
+    (below most_rows (λ k. same (output words k) (bit_of k s)) h j less)
 
 -- ---- inputs
 
@@ -126,9 +160,10 @@ slot_last b (x ∷ xs) = go (b == x) (slot_last b xs)
     go false r = (ap suc r.0, r.1)
 
 -- a read of the bit in this slot
-pub reads_slot : (b outputs s : ℕ) (xs : List ℕ) → slot b xs ≡ s → is_input b xs ≡ true →
-    ((j : ℕ) → j < most_rows → bit_of outputs j ≡ bit_of j s) → Tabulates xs outputs (var b)
-reads_slot b outputs s xs at there right = record { reads = there; rows = λ j less. right j less ∙ ap (bit_of j) (sym at) }
+pub reads_slot : (b s : ℕ) (words : List ℕ) (xs : List ℕ) → slot b xs ≡ s → is_input b xs ≡ true →
+    ((j : ℕ) → j < most_rows → output words j ≡ bit_of j s) → Tabulates xs words (var b)
+reads_slot b s words xs at there right = record { reads = there; rows = λ j less. right j less ∙ ap (bit_of j)
+    (sym at) }
 
 pub bits_pushed : (b : ℕ) (xs : List ℕ) → b < most_places → AreBits xs → AreBits (xs ++ (b ∷ []))
 bits_pushed b [] h k = (h, tt)
@@ -150,25 +185,37 @@ reads_widened xs ys (var i) r = (slot_kept i xs ys r).1
 reads_widened xs ys (negation e) r = reads_widened xs ys e r
 reads_widened xs ys (two o a b) r = (reads_widened xs ys a r.0, reads_widened xs ys b r.1)
 
-widened : (xs ys : List ℕ) (w : ℕ) (e : Expression ℕ) → Tabulates xs w e → Tabulates (xs ++ ys) w e
+widened : (xs ys w : List ℕ) (e : Expression ℕ) → Tabulates xs w e → Tabulates (xs ++ ys) w e
 widened xs ys w e t = record {
   reads = reads_widened xs ys e t.reads;
   rows = λ j less. t.rows j less ∙ worth_same (λ b. bit_of j (slot b xs)) (λ b. bit_of j (slot b (xs ++ ys))) xs e t.reads (λ b h. ap (bit_of j) (sym (slot_kept b xs ys h).0));
 }
 
-pub constant_one : (xs : List ℕ) → Tabulates xs 18446744073709551615 (const true)
-constant_one xs = record { reads = tt; rows = λ j less. ap (λ n. n == 1) (bit_at_ones 64 j less) }
+-- the outputs of a constant: the same in each row
+pub constant : (xs words : List ℕ) (c : Bool) → all_below most_rows (λ j. same (output words j) c) ≡ true
+    → Tabulates xs words (const c)
+constant xs words c h = record { reads = tt; rows = λ j less. same_is (output words j) c
+    (below most_rows (λ k. same (output words k) c) h j less) }
 
-pub complemented : (xs : List ℕ) (w v : ℕ) (e : Expression ℕ) →
-    ((j : ℕ) → j < most_rows → bit_of v j ≡ not (bit_of w j)) → Tabulates xs w e → Tabulates xs v (negation e)
-complemented xs w v e turns t = record { reads = t.reads; rows = λ j less. turns j less ∙ ap not (t.rows j less) }
+-- what is not differs from 1
+pub complemented : (xs w ones v : List ℕ) (e : Expression ℕ) → Tabulates xs ones (const true) →
+    ((j : ℕ) → j < most_rows → output v j ≡ operate xor (output w j) (output ones j)) → Tabulates xs w e
+        → Tabulates xs v (negation e)
+complemented xs w ones v e one turns t = record { reads = t.reads; rows = λ j less. turns j less
+    ∙ ap (operate xor (output w j)) (one.rows j less) ∙ turn (output w j) ∙ ap not (t.rows j less) }
+  where
+    turn : (b : Bool) → operate xor b true ≡ not b
+    turn true = refl
+    turn false = refl
 
-pub operated : (xs ys : List ℕ) (l r w : ℕ) (o : Operator) (a b : Expression ℕ) → Widens xs ys → Tabulates xs l a → Tabulates ys r b
-    → ((j : ℕ) → j < most_rows → bit_of w j ≡ operate o (bit_of l j) (bit_of r j)) → Tabulates ys w (two o a b)
+pub operated : (xs ys l r w : List ℕ) (o : Operator) (a b : Expression ℕ) → Widens xs ys → Tabulates xs l a
+    → Tabulates ys r b
+    → ((j : ℕ) → j < most_rows → output w j ≡ operate o (output l j) (output r j)) → Tabulates ys w (two o a b)
 operated xs ys l r w o a b more s t right =
     let left : Tabulates ys l a = subst (λ zs. Tabulates zs l a) (sym more.1) (widened xs more.0 l a s) in record {
       reads = (left.reads, t.reads);
-      rows = λ j less. right j less ∙ ap (λ x. operate o x (bit_of r j)) (left.rows j less) ∙ ap (λ x. operate o (worth (λ c. bit_of j (slot c ys)) a) x) (t.rows j less);
+      rows = λ j less. right j less ∙ ap (λ x. operate o x (output r j)) (left.rows j less)
+          ∙ ap (λ x. operate o (worth (λ c. bit_of j (slot c ys)) a) x) (t.rows j less);
     }
 
 -- ---- rows
@@ -193,11 +240,21 @@ row_bit f (x ∷ xs) b h = go (b == x) refl h (row_bit f xs b)
     go true e k rest = first_bit (f x) (coded (map f xs)) ∙ ap f (sym (eqb-true b x e))
     go false e k rest = later_bit (f x) (coded (map f xs)) (slot b xs) ∙ rest k
 
--- the table's bit in the row of a valuation is what the expression is worth there
-pub looked_up : (f : ℕ → Bool) (xs : List ℕ) (w : ℕ) (e : Expression ℕ) → length xs ≤ 6 → Tabulates xs w e → bit_of w (coded (map f xs)) ≡ worth f e
-looked_up f xs w e few t =
-    let most : 2 ^ length (map f xs) ≤ 2 ^ 6 = pow_mono (let z : length (map f xs) ≤ 6 = omega (arith, few, length-map xs f) in z) in
-    t.rows (coded (map f xs)) (omega (arith, most, coded_small (map f xs)))
+-- the first words hold the outputs of the rows that they have
+output_taken : (n j : ℕ) (words : List ℕ) → j < word_rows * n → output (take n words) j ≡ output words j
+output_taken n j words h = ap (λ w. bit_of w (j % word_rows)) (get_or-take n words (j / word_rows) 0 (omega (arith, h)))
+
+-- the output in the row of a valuation is what the expression is worth there
+pub looked_up : (f : ℕ → Bool) (xs words : List ℕ) (n : ℕ) (e : Expression ℕ) → length xs ≤ most_inputs
+    → 2 ^ length xs ≤ word_rows * n → Tabulates xs words e →
+    output (take n words) (coded (map f xs)) ≡ worth f e
+looked_up f xs words n e few enough t =
+    let many : length (map f xs) ≡ length xs = length-map xs f in
+    let most : 2 ^ length xs ≤ 2 ^ 10 = pow_mono few in
+    let small : coded (map f xs) < 2 ^ length xs = subst (λ k. coded (map f xs) < 2 ^ k) many
+        (coded_small (map f xs)) in
+    output_taken n (coded (map f xs)) words (omega (arith, small, enough))
+    ∙ t.rows (coded (map f xs)) (omega (arith, most, small))
     ∙ worth_same (λ b. bit_of (coded (map f xs)) (slot b xs)) f xs e t.reads (λ b h. row_bit f xs b h)
 
 -- one value more of a row: its place counts what it is worth

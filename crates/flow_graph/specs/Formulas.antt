@@ -1,19 +1,36 @@
 -- What compiled expressions and right sides say.
-use Rattle.std.specs.Prelude.{◌≡◌, ℕ, Bool, List, [], ◌++◌, length}
+use Rattle.std.specs.Prelude.{◌≡◌, ℕ, Bool, List, [], ◌∷◌, ◌++◌, length}
 use Rattle.language.specs.Tree.{Name, Expression, RightSide, any, value}
 use Rattle.language.specs.Value.{value_of}
 use Rattle.language.specs.Resolve.{Scope, resolve_expression}
 use Rattle.flow_graph.specs.Bits.{bit_of, coded}
+use Rattle.flow_graph.specs.Located.{worth}
 use Rattle.flow_graph.specs.Postfix.{after_steps, top}
 use Rattle.flow_graph.specs.Tables.{table_says}
 use Rattle.flow_graph.specs.declared.formula.Formula.{Formula}
-use Rattle.flow_graph.specs.declared.formula.Formula.TheVariants.{Table, Code}
+use Rattle.flow_graph.specs.declared.formula.Formula.TheVariants.{Code, Table as Tabled}
+use Rattle.flow_graph.specs.declared.outputs.Outputs.{Outputs}
+use Rattle.flow_graph.specs.declared.outputs.Outputs.TheVariants.{One, More}
+use Rattle.flow_graph.specs.declared.table.Table.{Table}
 use Rattle.flow_graph.specs.declared.side.Side.{Side}
 use Rattle.flow_graph.specs.declared.side.Side.TheVariants as side
 
+-- the words of the outputs of a table
+abbrev pub words_of : {A : Type 0} → Outputs A → List ℕ
+words_of (One word) = word ∷ []
+words_of (More words) = words.items
+
+-- the output of a table in the row of these values
+abbrev pub table_worth : {A : Type 0} → Table A → ℕ → Bool
+table_worth t values = table_says t.inputs.items (words_of t.outputs) values
+
+-- for all values, the output in their row is what the expression is worth
+abbrev pub IsTableOf : {A : Type 0} → Table A → Expression ℕ → Type 0
+IsTableOf t e = (values : ℕ) → table_worth t values ≡ worth (bit_of values) e
+
 -- what the formula answers for these values: the table's output in their row, or what its steps leave on the stack
 abbrev pub says : {A : Type 0} → Formula A → ℕ → Bool
-says (Table t) values = table_says t.inputs.items t.outputs values
+says (Tabled t) values = table_worth t values
 says (Code p) values = top (after_steps (bit_of values) p.steps.items [])
 
 -- For every valuation of as many globals as the scope has, the formula answers the value of the expression.

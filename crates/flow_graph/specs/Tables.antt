@@ -1,6 +1,7 @@
 -- Truth tables: the worth of an expression of a few bits for each of their values.
 use mathlib.Core.HLevel.{×_prop, Unit-prop}
-use Rattle.std.specs.Prelude.{◌≡◌, ◌<◌, ℕ, suc, Bool, true, false, cond, ◌==◌, List, [], ◌∷◌, ◌++◌, map}
+use Rattle.std.specs.Prelude.{◌≡◌, ◌<◌, ◌/◌, ◌%◌, ℕ, suc, get_or, Bool, true, false, cond, ◌==◌, List, []}
+use Rattle.std.specs.Prelude.{◌∷◌, ◌++◌, map}
 use Rattle.language.specs.Tree.{Expression, const, var, negation, two}
 use Rattle.flow_graph.specs.Bits.{bit_of, coded}
 use Rattle.flow_graph.specs.Located.{worth}
@@ -24,22 +25,30 @@ Reads inputs (var i) = is_input i inputs ≡ true
 Reads inputs (negation e) = Reads inputs e
 Reads inputs (two o a b) = Reads inputs a × Reads inputs b
 
--- how many rows a table has: one for each value of six inputs
-abbrev pub most_rows : ℕ
-most_rows = 64
+-- how many inputs a table has at most
+abbrev pub most_inputs : ℕ
+most_inputs = 10
 
--- Bit j of the outputs is what the expression is worth where each input has the value of its bit of j.
-pub record Tabulates (inputs : List ℕ) (outputs : ℕ) (e : Expression ℕ) : Type 0 where
+-- how many rows a table has at most: one for each value of ten inputs
+abbrev pub most_rows : ℕ
+most_rows = 1024
+
+-- how many rows a word has the outputs of
+abbrev pub word_rows : ℕ
+word_rows = 64
+
+-- the output in a row, of which each word has 64; behind the words it is 0
+abbrev pub output : List ℕ → ℕ → Bool
+output words row = bit_of (get_or words (row / word_rows) 0) (row % word_rows)
+
+-- Output j is what the expression is worth where each input has the value of its bit of j.
+pub record Tabulates (inputs : List ℕ) (words : List ℕ) (e : Expression ℕ) : Type 0 where
   pub reads : Reads inputs e
-  pub rows : (j : ℕ) → j < most_rows → bit_of outputs j ≡ worth (λ b. bit_of j (slot b inputs)) e
+  pub rows : (j : ℕ) → j < most_rows → output words j ≡ worth (λ b. bit_of j (slot b inputs)) e
 
 -- the output in the row of these values
-abbrev pub table_says : List ℕ → ℕ → ℕ → Bool
-table_says inputs outputs values = bit_of outputs (coded (map (bit_of values) inputs))
-
--- for all values, the output in their row is what the expression is worth
-abbrev pub IsTableOf : List ℕ → ℕ → Expression ℕ → Type 0
-IsTableOf inputs outputs e = (values : ℕ) → table_says inputs outputs values ≡ worth (bit_of values) e
+abbrev pub table_says : List ℕ → List ℕ → ℕ → Bool
+table_says inputs words values = output words (coded (map (bit_of values) inputs))
 
 -- each input is a place
 abbrev pub AreBits : List ℕ → Type 0

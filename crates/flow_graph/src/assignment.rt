@@ -124,7 +124,7 @@ impl<'a, N: Allocator> Scope<'a, N> {
         requires { IsSmall self.now × (bit < most_places) }
         ensures { IfOk result (λ w. (w.mask ≡ 2 ^ bit) × SaysSide w.side (scope_seen self.now) (rhs_of side.now)) }
     {
-        let side = self.side(alloc.clone()?, side)?;
+        let side = self.side(alloc, side)?;
         let mask = 1 << bit;
         Ok(Write { mask, side })
     }

@@ -12,10 +12,10 @@ use language::Word;
 use std::alloc::{AllocError, Allocator};
 use syntax::Expr;
 
-/// An expression over the bits of a valuation: a truth table where it has at most six of them, else postfix code.
+/// An expression over the bits of a valuation: a truth table where it has at most ten of them, else postfix code.
 #[derive(Debug, Drop)]
 pub enum Formula<A: Allocator> {
-    Table(Table),
+    Table(Table<A>),
     Code(Postfix<A>),
 }
 
@@ -34,17 +34,17 @@ impl<A: Allocator> Formula<A> {
 
 impl<'a, N: Allocator> Scope<'a, N> {
     /// Compiles an expression.
-    pub(crate) fn formula<A: Allocator>(
+    pub(crate) fn formula<A: Allocator + Clone>(
         &self,
-        alloc: A,
+        alloc: &A,
         e: &Expr<N>,
     ) -> Result<Formula<A>, AllocError>
         requires { IsSmall self.now }
         ensures { IfOk result (λ f. Says f (scope_seen self.now) (expr_of e.now)) }
     {
-        match self.table(e) {
+        match self.table(alloc, e)? {
             Some(table) => Ok(Formula::Table(table)),
-            None => Ok(Formula::Code(self.postfix(alloc, e)?)),
+            None => Ok(Formula::Code(self.postfix(alloc.clone()?, e)?)),
         }
     }
 }

@@ -10,6 +10,7 @@ mod graph;
 mod labels;
 mod lowering;
 mod numbers;
+mod outputs;
 mod postfix;
 mod put;
 mod scope;

@@ -12,6 +12,7 @@ use crate::call::Call;
 use crate::flow::Flow;
 use crate::formula::Formula;
 use crate::labels::find;
+use crate::outputs::Outputs;
 use crate::put::put;
 use crate::scope::Scope;
 use crate::side::Side;
@@ -37,7 +38,7 @@ fn nowhere<A: Allocator>() -> Flow<A>
 {
     let always_0 = Table {
         inputs: ArrayVec::new(),
-        outputs: 0,
+        outputs: Outputs::One(0),
     };
     Flow::Assume(Side::Value(Formula::Table(always_0)), EXIT)
 }
@@ -79,7 +80,7 @@ impl<'a, N: Allocator, A: Allocator + Clone> Lowering<'a, N, A> {
         if yes == no {
             return self.going(yes);
         }
-        Ok(Flow::Test(self.scope.side(self.alloc.clone()?, r)?, yes, no))
+        Ok(Flow::Test(self.scope.side(self.alloc, r)?, yes, no))
     }
 
     /// On where 1 is a value of a right side.
@@ -87,7 +88,7 @@ impl<'a, N: Allocator, A: Allocator + Clone> Lowering<'a, N, A> {
         requires { IsLowerable self.now }
         ensures { IfOk result (λ f. DoesIn self.now f (assumes (side_in self.now r.now) to)) }
     {
-        Ok(Flow::Assume(self.scope.side(self.alloc.clone()?, r)?, to))
+        Ok(Flow::Assume(self.scope.side(self.alloc, r)?, to))
     }
 
     /// An assignment.
@@ -112,7 +113,7 @@ impl<'a, N: Allocator, A: Allocator + Clone> Lowering<'a, N, A> {
         }
         let mut arguments = Vec::new(self.alloc.clone()?);
         for e in es {
-            arguments.push(self.scope.formula(self.alloc.clone()?, e)?)?;
+            arguments.push(self.scope.formula(self.alloc, e)?)?;
         }
         Ok(Flow::Call(Call {
             callee: callee as u8,

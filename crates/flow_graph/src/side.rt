@@ -34,7 +34,11 @@ impl<A: Allocator> Side<A> {
 
 impl<'a, N: Allocator> Scope<'a, N> {
     /// Compiles a right side.
-    pub(crate) fn side<A: Allocator>(&self, alloc: A, r: &Rhs<N>) -> Result<Side<A>, AllocError>
+    pub(crate) fn side<A: Allocator + Clone>(
+        &self,
+        alloc: &A,
+        r: &Rhs<N>,
+    ) -> Result<Side<A>, AllocError>
         requires { IsSmall self.now }
         ensures { IfOk result (λ side. SaysSide side (scope_seen self.now) (rhs_of r.now)) }
     {

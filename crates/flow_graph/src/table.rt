@@ -1,37 +1,38 @@
-//! Truth tables for expressions of at most six bits.
+//! Truth tables for expressions of at most ten bits.
 
-ghost use Rattle.std.specs.Prelude.{◌≡◌, ◌<◌, ◌≤◌, ℕ, length, not, IfSome};
-ghost use Rattle.language.specs.Value.{operate};
+ghost use Rattle.std.specs.Prelude.{◌≡◌, ◌<◌, ◌≤◌, ℕ, length, IfOk, IfSome};
 ghost use Rattle.language.specs.Tree.{var};
-ghost use Rattle.syntax.specs.Trees.{operator_of};
-ghost use Rattle.flow_graph.specs.Bits.{bit_of};
-ghost use Rattle.flow_graph.specs.Tables.{most_rows, slot, Tabulates, table_says, IsTableOf};
+ghost use Rattle.flow_graph.specs.Tables.{most_inputs, slot, Tabulates};
 ghost use Rattle.flow_graph.specs.Tables.{AreBits, AreBits-prop, Widens};
 ghost use Rattle.flow_graph.specs.Views.{over_bits, IsSmall};
 ghost use Rattle.round_rewrite.specs.Limits.{most_places};
 
+use crate::outputs::{
+    ALL, Outputs, WORD_ROWS, WORDS, combined, first_words, outputs_of_slot, words_for,
+};
 use crate::scope::Scope;
 use arrayvec::ArrayVec;
 use language::Word;
-use std::alloc::Allocator;
+use std::alloc::{AllocError, Allocator};
 use syntax::{Expr, Op};
 
 /// The most bits that a table is made of.
-const MOST: usize = 6;
+const MOST: usize = 10;
 
-/// An expression as a truth table: where each input has the value of its bit of j, the expression is worth bit j of the
-/// outputs.
+/// An expression as a truth table: where each input has the value of its bit of j, the expression is worth output j.
 #[derive(Debug, Drop)]
-pub struct Table {
+pub struct Table<A: Allocator> {
     pub(crate) inputs: ArrayVec<u8, MOST>,
-    pub(crate) outputs: u64,
+    pub(crate) outputs: Outputs<A>,
     pub(crate) ghost bits: { AreBits inputs.items } by { AreBits-prop inputs.items },
 }
 
-impl Table {
+impl<A: Allocator> Table<A> {
+    ghost use Rattle.flow_graph.specs.Formulas.{table_worth};
+
     /// What the expression is worth for these values.
     pub(crate) fn value(&self, values: Word) -> bool
-        ensures { result ≡ table_says self.now.inputs.items self.now.outputs values }
+        ensures { result ≡ table_worth self.now values }
     {
         let mut row: u64 = 0;
         let mut place: u64 = 1;
@@ -39,43 +40,7 @@ impl Table {
             row += (values >> *input & 1) * place;
             place *= 2;
         }
-        self.outputs >> row & 1 == 1
-    }
-}
-
-/// The outputs of the input in this slot.
-fn outputs_of_slot(slot: usize) -> u64
-    requires { slot < 6 }
-    ensures { (j : ℕ) → j < most_rows → bit_of result j ≡ bit_of j slot }
-{
-    match slot {
-        0 => 0xAAAA_AAAA_AAAA_AAAA,
-        1 => 0xCCCC_CCCC_CCCC_CCCC,
-        2 => 0xF0F0_F0F0_F0F0_F0F0,
-        3 => 0xFF00_FF00_FF00_FF00,
-        4 => 0xFFFF_0000_FFFF_0000,
-        _ => 0xFFFF_FFFF_0000_0000,
-    }
-}
-
-/// The outputs of what is not, for those of what is.
-fn complement(outputs: u64) -> u64
-    ensures { (j : ℕ) → j < most_rows → bit_of result j ≡ not (bit_of outputs j) }
-{
-    !outputs
-}
-
-/// The outputs of an operator for those of its operands.
-fn combined(op: Op, left: u64, right: u64) -> u64
-    ensures { (j : ℕ) → j < most_rows → bit_of result j ≡ operate (operator_of op) (bit_of left j) (bit_of right j) }
-{
-    match op {
-        Op::Implies => complement(left) | right,
-        Op::Or => left | right,
-        Op::Xor => left ^ right,
-        Op::And => left & right,
-        Op::Equal => complement(left) ^ right,
-        Op::Differs => left ^ right,
+        self.outputs.word(row / WORD_ROWS) >> (row % WORD_ROWS) & 1 == 1
     }
 }
 
@@ -93,11 +58,11 @@ fn slot_of(inputs: &[u8], bit: u8) -> usize
     at
 }
 
-/// The outputs of a bit, which becomes an input where it was none; `None` where there are six others.
-fn read(inputs: &mut ArrayVec<u8, MOST>, bit: u8) -> Option<u64>
+/// The outputs of a bit, which becomes an input where it was none; `None` where there are ten others.
+fn read(inputs: &mut ArrayVec<u8, MOST>, bit: u8) -> Option<[u64; WORDS]>
     ensures widens { Widens inputs.old.items inputs.new.items }
     ensures bits { bit < most_places → AreBits inputs.old.items → AreBits inputs.new.items }
-    ensures few { length inputs.old.items ≤ 6 → length inputs.new.items ≤ 6 }
+    ensures few { length inputs.old.items ≤ most_inputs → length inputs.new.items ≤ most_inputs }
     ensures outputs { IfSome result (λ w. Tabulates inputs.new.items w (var bit)) }
 {
     let slot = slot_of(inputs.as_slice(), bit);
@@ -111,42 +76,51 @@ fn read(inputs: &mut ArrayVec<u8, MOST>, bit: u8) -> Option<u64>
 }
 
 impl<'a, N: Allocator> Scope<'a, N> {
-    /// The outputs of an expression, whose bits become inputs where they were none; `None` where more than six would
+    ghost use Rattle.flow_graph.specs.Formulas.{IsTableOf};
+
+    /// The outputs of an expression, whose bits become inputs where they were none; `None` where more than ten would
     /// be.
-    fn outputs(&self, e: &Expr<N>, inputs: &mut ArrayVec<u8, MOST>) -> Option<u64>
+    fn outputs(&self, e: &Expr<N>, inputs: &mut ArrayVec<u8, MOST>) -> Option<[u64; WORDS]>
         requires small { IsSmall self.now }
         requires bits { AreBits inputs.old.items }
-        requires few { length inputs.old.items ≤ 6 }
+        requires few { length inputs.old.items ≤ most_inputs }
         ensures widens { Widens inputs.old.items inputs.new.items }
         ensures bits { AreBits inputs.new.items }
-        ensures few { length inputs.new.items ≤ 6 }
+        ensures few { length inputs.new.items ≤ most_inputs }
         ensures outputs { IfSome result (λ w. Tabulates inputs.new.items w (over_bits self.now e.now)) }
     {
         match e {
-            Expr::Const(b) => Some(if *b { u64::MAX } else { 0 }),
+            Expr::Const(b) => Some(if *b { [ALL; WORDS] } else { [0; WORDS] }),
             Expr::Var(x) => match self.bit(x) {
                 Some(bit) => read(inputs, bit),
-                None => Some(0),
+                None => Some([0; WORDS]),
             },
             Expr::Not(a) => {
                 let of = self.outputs(a, inputs)?;
-                Some(complement(of))
+                Some(combined(Op::Xor, &of, &[ALL; WORDS]))
             }
             Expr::Two(op, a, b) => {
                 let left = self.outputs(a, inputs)?;
                 let right = self.outputs(b, inputs)?;
-                Some(combined(*op, left, right))
+                Some(combined(*op, &left, &right))
             }
         }
     }
 
-    /// An expression as a truth table; `None` where it has more than six bits.
-    pub(crate) fn table(&self, e: &Expr<N>) -> Option<Table>
+    /// An expression as a truth table; `None` where it has more than ten bits.
+    pub(crate) fn table<A: Allocator + Clone>(
+        &self,
+        alloc: &A,
+        e: &Expr<N>,
+    ) -> Result<Option<Table<A>>, AllocError>
         requires { IsSmall self.now }
-        ensures { IfSome result (λ t. IsTableOf t.inputs.items t.outputs (over_bits self.now e.now)) }
+        ensures { IfOk result (λ made. IfSome made (λ t. IsTableOf t (over_bits self.now e.now))) }
     {
         let mut inputs = ArrayVec::new();
-        let outputs = self.outputs(e, &mut inputs)?;
-        Some(Table { inputs, outputs })
+        let Some(all) = self.outputs(e, &mut inputs) else {
+            return Ok(None);
+        };
+        let outputs = first_words(alloc, &all, words_for(inputs.len()))?;
+        Ok(Some(Table { inputs, outputs }))
     }
 }

@@ -3,10 +3,11 @@ use Rattle.std.proofs.Common.{◌≡◌, ◌⊎◌, Bool, true, false, List, [],
 use Rattle.std.proofs.lemmas.Map.Views.{exact_unsigned_eq}
 use Rattle.language.specs.Flow.{Member}
 use Rattle.language.proofs.Members.{member_left, member_right, member_append}
+use Rattle.path_sets.specs.Triples.{NoneTwice}
 use Rattle.summaries.specs.declared.edge.Call.{Call}
 use Rattle.summaries.specs.declared.pair.Pair.{Pair}
 use Rattle.summaries.specs.Found.{call, call_eq, pair, pair_eq}
-use Rattle.summaries.proofs.Mails.{both}
+use Rattle.summaries.proofs.Mails.{both, none_twice_with}
 
 -- calls that compare as equal are the same
 pub same_call : (x y : Call) → call_eq x y ≡ true → x ≡ y
@@ -48,3 +49,13 @@ module _ {K V : Type 0} (eq : K → K → Bool) (same : (x y : K) → eq x y ≡
   -- the new one is there
   pub added_is : Member value (after key)
   added_is = subst (Member value) (sym added) (member_right value (before key) (value ∷ []) (inl refl))
+
+  -- nothing stands twice, where the new one was not there
+  pub added_once : (Member value (before key) → ⊥) → ((k : K) → NoneTwice (before k)) → (k : K) → NoneTwice (after k)
+  added_once new once k = by (eq key k) refl
+    where
+      by : (b : Bool) → eq key k ≡ b → NoneTwice (after k)
+      by true e =
+          subst (λ j. NoneTwice (after j)) (same key k e)
+          (subst NoneTwice (sym added) (none_twice_with value (before key) new (once key)))
+      by false e = subst NoneTwice (sym (others k e)) (once k)

@@ -5,7 +5,7 @@ use Rattle.std.specs.List.Sorted.{IsPermutation, IsSortedBy, IsSorted}
 use Rattle.std.specs.Ordering.{is_lt, nat_cmp, ordering_then}
 use Rattle.std.specs.declared.cmp.Ordering.TheVariants.{Less, Equal, Greater}
 use Rattle.std.specs.Map.{keys_of, lookup}
-use Rattle.std.specs.Prelude.{Vec}
+use Rattle.summaries.specs.declared.values.Values.{Values}
 use Rattle.std.proofs.lemmas.List.Sorted.{Contains-permutation, IsPermutation-sym}
 use Rattle.std.proofs.lemmas.Map.Keys.{IsDistinct-head, IsDistinct-tail, IsDistinct-cons, IsDistinct-IsPermutation, ge_from_not_lt}
 use Rattle.std.proofs.lemmas.Cmp.{tied_itself, nat_cmp_total}
@@ -128,7 +128,8 @@ has_any xs = not (length xs == 0)
 
 module _ {V A : Type 0} where
   -- a key that has values is among the keys
-  key_there : (a : ℕ) (v : V) (es : List (ℕ × Vec V A)) → Member v (items_of (lookup (nat_eq a) es)) → Member a (keys_of es)
+  key_there : (a : ℕ) (v : V) (es : List (ℕ × Values V A)) → Member v (items_of (lookup (nat_eq a) es))
+      → Member a (keys_of es)
   key_there a v [] m = absurd m
   key_there a v (e ∷ es) m = by (nat_eq a e.0) refl m (key_there a v es)
     where
@@ -137,7 +138,9 @@ module _ {V A : Type 0} where
       by false f n rest = inr (rest n)
 
   -- the keys that have values
-  pub keys_with_values : (a : ℕ) (es : List (ℕ × Vec V A)) → (Member a (keys_of es) × (has_any (items_of (lookup (nat_eq a) es)) ≡ true)) ↔ ((v : V) × Member v (items_of (lookup (nat_eq a) es)))
+  pub keys_with_values : (a : ℕ) (es : List (ℕ × Values V A))
+      → (Member a (keys_of es) × (has_any (items_of (lookup (nat_eq a) es)) ≡ true)) ↔
+      ((v : V) × Member v (items_of (lookup (nat_eq a) es)))
   keys_with_values a es = (
     λ h. some (items_of (lookup (nat_eq a) es)) h.1,
     λ h. (key_there a h.0 es h.1, any h.0 (items_of (lookup (nat_eq a) es)) h.1),

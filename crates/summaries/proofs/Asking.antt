@@ -7,7 +7,7 @@ use Rattle.language.specs.Flow.{Member}
 use Rattle.path_sets.specs.Triples.{Triple, triple}
 use Rattle.flow_graph.specs.Flows.{entered_by}
 use Rattle.flow_graph.specs.Returns.{resumed}
-use Rattle.flow_graph.specs.Numbers.{NumberedMessage, GraphReaches, returns, Sends, asks}
+use Rattle.flow_graph.specs.Numbers.{NumberedMessage, GraphReaches, returns}
 use Rattle.flow_graph.specs.declared.flow.Flow.{Flow}
 use Rattle.flow_graph.specs.declared.graph.Graph.{Graph}
 use Rattle.flow_graph.proofs.Holding.{reaches_more}
@@ -22,9 +22,9 @@ use Rattle.summaries.specs.declared.groups.Groups.{Groups}
 use Rattle.summaries.specs.Under.{under}
 use Rattle.summaries.specs.Mails.{mail}
 use Rattle.summaries.specs.Dues.{due_of}
-use Rattle.summaries.specs.Found.{call, call_eq, site, TookMessage, HasSite, IsGrounded}
+use Rattle.summaries.specs.Found.{call, call_eq, site, TookMessage, HasSite, IsOwed, IsGrounded}
 use Rattle.summaries.specs.Grows.{EntersAt, Grows, Gives, Each, IsBehind, triple_of}
-use Rattle.summaries.proofs.Adding.{same_call, added_or, added_keeps}
+use Rattle.summaries.proofs.Adding.{same_call, added_or, added_keeps, added_is}
 use Rattle.summaries.proofs.Dues.{due_told}
 use Rattle.summaries.proofs.Stepping.{Step, taken_as}
 use Rattle.summaries.proofs.Telling.{gives_kept}
@@ -68,13 +68,17 @@ module _ {A G : Type 0} (graph : Graph G) (q : ℕ) (f : Found A) (given : Given
           (sound.edge t.entry t.point t.values was)
     ]
 
-    module _ (gave : Gives (λ m. m ≡ mail s (Entry (Proc q) x)) f.given.mails.keys given.mails.keys)
+    module _ (gave : Gives (λ m. m ≡ mail s (Entry (Proc q) x)) f.given.mails.items given.mails.items)
         (added : under call_eq sites.by_key (call s x) ≡ under call_eq f.sites.by_key (call s x) ++ site e.entry e.point e.values ∷ [])
         (others : (k : Call) → call_eq (call s x) k ≡ false → under call_eq sites.by_key k ≡ under call_eq f.sites.by_key k)
         (grown : Grows (Each (IsBehind graph (site e.entry e.point e.values))
         (under call_eq f.summaries.by_key (call s x))) es ds f.pending.items pending.items) where
       abbrev M : NumberedMessage → Type 0
       M = TookMessage asked_to
+
+      pub asked_site : HasSite asked_to s x (site e.entry e.point e.values)
+      asked_site = added_is call_eq same_call (under call_eq f.sites.by_key) (under call_eq sites.by_key) (call s x)
+          (site e.entry e.point e.values) added others
 
       site_or : (k : Call) (y : Site) → Member y (under call_eq sites.by_key k) →
           Member y (under call_eq f.sites.by_key k) ⊎ ((call s x ≡ k) × (site e.entry e.point e.values ≡ y))
@@ -108,10 +112,12 @@ module _ {A G : Type 0} (graph : Graph G) (q : ℕ) (f : Found A) (given : Given
         ];
         exits = λ a b m. m;
         exit = λ a b m. inl m;
-        gives = λ s' k m. gives_kept (λ m. m ≡ mail s (Entry (Proc q) x)) f.given.mails.keys given.mails.keys gave (mail s' (due_of k)) m;
+        gives = λ s' k m. gives_kept (λ m. m ≡ mail s (Entry (Proc q) x)) f.given.mails.items given.mails.items gave
+            (mail s' (due_of k)) m;
         given = λ s' k m. elim (gave.only (mail s' (due_of k)) m) [
-          | inl is ↦ inr (subst (λ to. Sends graph q M to k) (sym (ap (λ m. m.to) is))
-              (subst (Sends graph q M s) (sym (due_told k (Entry (Proc q) x) (ap (λ m. m.due) is))) (asks e.entry e.point e.values s x back flow reached here enters)))
+          | inl is ↦ inr (subst (λ to. IsOwed asked_to q to k) (sym (ap (λ m. m.to) is))
+              (subst (IsOwed asked_to q s) (sym (due_told k (Entry (Proc q) x) (ap (λ m. m.due) is)))
+              (refl, (site e.entry e.point e.values, asked_site))))
           | inr was ↦ inl was
         ];
         begun = λ from a h. inl h;
@@ -129,11 +135,6 @@ module _ {A G : Type 0} (graph : Graph G) (q : ℕ) (f : Found A) (given : Given
         ];
         tells = λ a b c m h. inl (m, h);
         pairs = λ old. old;
+        callers_once = λ old. old;
+        exits_once = λ old. old;
       }
-
-      pub asked_site : HasSite asked_to s x (site e.entry e.point e.values)
-      asked_site = subst (Member (site e.entry e.point e.values)) (sym added) (last (under call_eq f.sites.by_key (call s x)))
-        where
-          last : (ys : List Site) → Member (site e.entry e.point e.values) (ys ++ site e.entry e.point e.values ∷ [])
-          last [] = inl refl
-          last (y ∷ ys) = inr (last ys)

@@ -1,26 +1,26 @@
 -- The step of a table that takes an entry.
-use Rattle.std.proofs.Common.{◌≡◌, ◌⊎◌, ℕ, List, [], ◌∷◌, ◌++◌, false, nat_eq, inl, inr, sym, ap, subst}
+use Rattle.std.proofs.Common.{◌≡◌, ◌⊎◌, ℕ, List, [], ◌∷◌, ◌++◌, false, nat_eq, inl, inr, refl, sym, ap, subst}
 use Rattle.std.specs.Prelude.{Vec}
 use Rattle.std.proofs.lemmas.Map.Views.{exact_unsigned_eq}
 use Rattle.language.specs.Flow.{Member}
 use Rattle.path_sets.specs.Triples.{Triple, triple}
-use Rattle.flow_graph.specs.Numbers.{NumberedMessage, numbered_entry, numbered_summary, GraphReaches, starts, Sends, tells}
+use Rattle.flow_graph.specs.Numbers.{NumberedMessage, numbered_entry, numbered_summary, GraphReaches, starts}
 use Rattle.flow_graph.specs.declared.graph.Graph.{Graph}
-use Rattle.flow_graph.proofs.Holding.{reaches_more}
 use Rattle.summaries.specs.declared.due.Caller as rust
 use Rattle.summaries.specs.declared.due.Caller.TheVariants.{Proc}
 use Rattle.summaries.specs.declared.due.Due.TheVariants.{Entry, Summary}
 use Rattle.summaries.specs.declared.edge.Edge.{Edge}
 use Rattle.summaries.specs.declared.found.Found.{Found}
 use Rattle.summaries.specs.declared.given.Given.{Given}
+use Rattle.summaries.specs.declared.given.Mail.{Mail}
 use Rattle.summaries.specs.declared.groups.Groups.{Groups}
 use Rattle.summaries.specs.Under.{under}
 use Rattle.summaries.specs.Mails.{mail}
 use Rattle.summaries.specs.Dues.{caller_of, due_of}
-use Rattle.summaries.specs.Found.{TookMessage, IsGrounded}
+use Rattle.summaries.specs.Found.{TookMessage, IsOwed, IsGrounded}
 use Rattle.summaries.specs.Grows.{Grows, Gives, Each, IsTold}
 use Rattle.summaries.specs.Tables.{TookAlso}
-use Rattle.summaries.proofs.Adding.{added_or, added_keeps, added_is}
+use Rattle.summaries.proofs.Adding.{added_or, added_keeps, added_is, added_once}
 use Rattle.summaries.proofs.Dues.{who, who_is, due_told, same_entry, apart}
 use Rattle.summaries.proofs.Stepping.{Step, grown_to, grown_reached, grown_step}
 use Rattle.summaries.proofs.Telling.{gives_kept}
@@ -74,23 +74,27 @@ module _ {A G : Type 0} (graph : Graph G) (q : ℕ) (f : Found A) (entries : Gro
     begin_only =
         grown_reached graph q f entries f.summaries given pending es ds (λ t. t ≡ triple a graph.start a) taken_begun start_reached sound
 
-    told : (s : ℕ) (k : NumberedMessage) → Each (λ b. IsTold q a b from) (under nat_eq f.exits.by_key a) (mail s (due_of k)) → Sends graph q M s k
+    told : (s : ℕ) (k : NumberedMessage) → Each (λ b. IsTold q a b from) (under nat_eq f.exits.by_key a)
+        (mail s (due_of k)) →
+        IsOwed begun_to q s k
     told s k (b, m, (c, is, same)) =
-        let (v, reached, leaves) = sound.exit a b m in
-        subst (λ to. Sends graph q M to k) (sym (ap (λ x. x.to) same))
-        (subst (Sends graph q M c) (sym (due_told k (Summary q a b) (ap (λ x. x.due) same)))
-        (subst (λ y. Sends graph q M c (numbered_summary q a y)) (sym leaves)
-        (tells a v c (subst (λ d. Member d (under nat_eq entries.by_key a)) is
-        (added_is nat_eq exact_unsigned_eq (under nat_eq f.entries.by_key) (under nat_eq entries.by_key) a from added others))
-        (reaches_more graph (TookMessage f) M taken_begun a 0 v reached))))
+        subst (λ to. IsOwed begun_to q to k) (sym (ap (λ x. x.to) same))
+        (subst (IsOwed begun_to q c) (sym (due_told k (Summary q a b) (ap (λ x. x.due) same))) (
+          refl,
+          m,
+          subst (λ d. Member d (under nat_eq entries.by_key a)) is
+              (added_is nat_eq exact_unsigned_eq (under nat_eq f.entries.by_key)
+                  (under nat_eq entries.by_key) a from added others),
+        ))
 
-    pub begin_step : Grows (λ t. t ≡ triple a graph.start a) es ds f.pending.items pending.items
-        → Gives (Each (λ b. IsTold q a b from) (under nat_eq f.exits.by_key a)) f.given.mails.keys given.mails.keys
+    pub begin_step : (Member from (under nat_eq f.entries.by_key a) → ⊥)
+        → Grows (λ t. t ≡ triple a graph.start a) es ds f.pending.items pending.items
+        → Gives (Each (λ b. IsTold q a b from) (under nat_eq f.exits.by_key a)) f.given.mails.items given.mails.items
         → Step graph q f begun_to es ds
-    begin_step grown gave =
+    begin_step new grown gave =
         grown_step graph q f entries f.summaries given pending es ds (λ t. t ≡ triple a graph.start a) taken_begun start_reached grown
-        (λ s k m. gives_kept (Each (λ b. IsTold q a b from) (under nat_eq f.exits.by_key a)) f.given.mails.keys
-        given.mails.keys gave (mail s (due_of k)) m)
+        (λ s k m. gives_kept (Each (λ b. IsTold q a b from) (under nat_eq f.exits.by_key a)) f.given.mails.items
+        given.mails.items gave (mail s (due_of k)) m)
         (λ s k m. elim (gave.only (mail s (due_of k)) m) [ inl w ↦ inr (told s k w) | inr was ↦ inl was ])
         (λ c x h. elim (entry_or x (caller_of c) h) [
           | inl was ↦ inl was
@@ -105,3 +109,14 @@ module _ {A G : Type 0} (graph : Graph G) (q : ℕ) (f : Found A) (entries : Gro
             (c, is.1, ap (λ z. mail c (Summary q z y)) (sym is.0)),
           ))
         ])
+        (added_once nat_eq exact_unsigned_eq (under nat_eq f.entries.by_key) (under nat_eq entries.by_key) a from
+        added others new)
+
+-- a caller that is new is told nothing yet
+pub none_told : {A G : Type 0} (graph : Graph G) (q : ℕ) (f : Found A) (es : List Triple) → IsGrounded graph q f es →
+    (a : ℕ) (from : rust.Caller) (exits : List ℕ) → (Member from (under nat_eq f.entries.by_key a) → ⊥) →
+    (x : Mail) → Each (λ b. IsTold q a b from) exits x → Member x f.given.mails.items → ⊥
+none_told graph q f es sound a from exits new x (b, m, (c, is, same)) given =
+    let (own, left, taken) =
+    sound.given c (numbered_summary q a b) (subst (λ y. Member y f.given.mails.items) same given) in
+    new (subst (λ d. Member d (under nat_eq f.entries.by_key a)) (sym is) taken)

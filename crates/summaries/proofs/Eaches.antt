@@ -1,7 +1,7 @@
 -- What holds for some item of a list.
-use Rattle.std.proofs.Common.{ℕ, ◌+◌, ◌<◌, ◌≢◌, Bool, true, false, List, [], ◌∷◌, ◌++◌, ◌⊎◌}
+use Rattle.std.proofs.Common.{ℕ, ◌+◌, ◌<◌, ◌≡◌, ◌≢◌, Bool, true, false, List, [], ◌∷◌, ◌++◌, ◌⊎◌}
 use Rattle.std.proofs.Common.{inl, inr, refl, subst, length, take, drop, get_or}
-use Rattle.std.specs.Bool.{OnTrue}
+use Rattle.std.specs.Bool.{OnTrue, OnFalse}
 use Rattle.std.proofs.lemmas.List.{take-append-drop}
 use Rattle.language.specs.Flow.{Member}
 use Rattle.language.proofs.Members.{member_left, member_right, member_append}
@@ -41,6 +41,12 @@ module _ {X T : Type 0} (W : X → T → Type 0) where
       (Mid → Each W (take i xs) t ⊎ Old) → Each W xs t ⊎ Old
   each_until xs i d within t (inl w) before = inl (each_at xs i d within t w)
   each_until xs i d within t (inr mid) before = elim (before mid) [ inl first ↦ inl (each_first xs i t first) | inr was ↦ inr was ]
+
+-- what holds where there is no item holds where the list is empty
+pub where_none : {X P : Type 0} (xs : List X) (b : Bool) → OnFalse b (xs ≡ []) →
+    (((x : X) → Member x xs → ⊥) → P) → OnFalse b P
+where_none xs true none p = tt
+where_none xs false none p = p (λ x m. subst (Member x) none m)
 
 -- what holds where there is some item holds where the list is not empty
 pub where_some : {X P : Type 0} (xs : List X) (b : Bool) → OnTrue b (xs ≢ []) → ((x : X) → Member x xs → P) → OnTrue b P

@@ -40,4 +40,5 @@ module _ {A G : Type 0} (graph : Graph G) (q : ℕ) (f : Found A) (pending : Vec
     pub lead_step : Grows (IsNext flow e) es ds f.pending.items pending.items → Step graph q f led_to es ds
     lead_step grown =
         grown_step graph q f f.entries f.summaries f.given pending es ds (IsNext flow e) taken_led next_reached grown
-        (λ s k m. m) (λ s k m. inl m) (λ from a h. inl h) (λ s x b a n v back at enters h. inl h) (λ a b c m h. inl h)
+        (λ s k m. m) (λ s k m. inl m) (λ from a h. inl h) (λ s x b a n v back at enters h. inl h)
+        (λ a b c m h. inl h) (λ old. old)

@@ -5,18 +5,20 @@ use Rattle.language.specs.Flow.{Member}
 use Rattle.language.proofs.Members.{member_left, member_right, member_append}
 use Rattle.path_sets.specs.Triples.{Triple, triple}
 use Rattle.flow_graph.specs.Returns.{left}
-use Rattle.flow_graph.specs.Numbers.{NumberedMessage, numbered_summary, GraphReaches, Sends, tells, Leaves}
+use Rattle.flow_graph.specs.Numbers.{NumberedMessage, numbered_summary, GraphReaches, Leaves}
 use Rattle.flow_graph.specs.declared.graph.Graph.{Graph}
 use Rattle.flow_graph.proofs.Holding.{reaches_more}
+use Rattle.summaries.specs.declared.due.Caller.{Caller}
 use Rattle.summaries.specs.declared.due.Caller.TheVariants.{Proc}
+use Rattle.summaries.specs.declared.given.Mail.{Mail}
 use Rattle.summaries.specs.declared.due.Due.TheVariants.{Summary}
 use Rattle.summaries.specs.declared.found.Found.{Found}
 use Rattle.summaries.specs.Under.{under}
 use Rattle.summaries.specs.Mails.{mail}
 use Rattle.summaries.specs.Dues.{due_of}
-use Rattle.summaries.specs.Found.{pair, TookMessage, HasExit, IsGrounded}
+use Rattle.summaries.specs.Found.{pair, TookMessage, HasExit, IsOwed, IsGrounded, IsComplete}
 use Rattle.summaries.specs.Grows.{Gives, Each, IsTold}
-use Rattle.summaries.proofs.Adding.{added_or, added_keeps, added_is}
+use Rattle.summaries.proofs.Adding.{added_or, added_keeps, added_is, added_once}
 use Rattle.summaries.proofs.Dues.{due_told}
 use Rattle.summaries.proofs.Stepping.{Step, taken_as}
 use Rattle.summaries.proofs.Telling.{gives_kept}
@@ -36,7 +38,9 @@ module _ {A G : Type 0} (graph : Graph G) (q : ℕ) (f g : Found A) where
       (keys : g.pairs.keys ≡ f.pairs.keys ++ pair a b ∷ [])
       (added : under nat_eq g.exits.by_key a ≡ under nat_eq f.exits.by_key a ++ b ∷ [])
       (others : (k : ℕ) → nat_eq a k ≡ false → under nat_eq g.exits.by_key k ≡ under nat_eq f.exits.by_key k)
-      (gave : Gives (Each (IsTold q a b) (under nat_eq f.entries.by_key a)) f.given.mails.keys g.given.mails.keys) where
+      (new : HasExit f a b → ⊥)
+      (gave : Gives
+          (Each (IsTold q a b) (under nat_eq f.entries.by_key a)) f.given.mails.items g.given.mails.items) where
     abbrev M : NumberedMessage → Type 0
     M = TookMessage left_to
 
@@ -52,12 +56,12 @@ module _ {A G : Type 0} (graph : Graph G) (q : ℕ) (f g : Found A) where
     pub left_exit : HasExit left_to a b
     left_exit = added_is nat_eq exact_unsigned_eq (under nat_eq f.exits.by_key) (under nat_eq g.exits.by_key) a b added others
 
-    told : (s : ℕ) (k : NumberedMessage) → Each (IsTold q a b) (under nat_eq f.entries.by_key a) (mail s (due_of k)) → Sends graph q M s k
+    told : (s : ℕ) (k : NumberedMessage) → Each (IsTold q a b) (under nat_eq f.entries.by_key a) (mail s (due_of k)) →
+        IsOwed left_to q s k
     told s k (from, m, (c, is, same)) =
-        subst (λ to. Sends graph q M to k) (sym (ap (λ x. x.to) same))
-        (subst (Sends graph q M c) (sym (due_told k (Summary q a b) (ap (λ x. x.due) same)))
-        (subst (λ y. Sends graph q M c (numbered_summary q a y)) (sym is_left)
-        (tells a v c (subst (λ y. Member y (under nat_eq f.entries.by_key a)) is m) reached)))
+        subst (λ to. IsOwed left_to q to k) (sym (ap (λ x. x.to) same))
+        (subst (IsOwed left_to q c) (sym (due_told k (Summary q a b) (ap (λ x. x.due) same)))
+        (refl, left_exit, subst (λ y. Member y (under nat_eq f.entries.by_key a)) is m))
 
     pub leave_step : Step graph q f left_to es es
     leave_step = record {
@@ -74,7 +78,9 @@ module _ {A G : Type 0} (graph : Graph G) (q : ℕ) (f g : Found A) where
         | inl was ↦ inl was
         | inr is ↦ inr (subst (λ z. Leaves graph M z y) is.0 (subst (Leaves graph M a) is.1 (v, reached, is_left)))
       ];
-      gives = λ s k m. gives_kept (Each (IsTold q a b) (under nat_eq f.entries.by_key a)) f.given.mails.keys g.given.mails.keys gave (mail s (due_of k)) m;
+      gives = λ s k m. gives_kept
+          (Each (IsTold q a b) (under nat_eq f.entries.by_key a)) f.given.mails.items g.given.mails.items gave
+          (mail s (due_of k)) m;
       given = λ s k m. elim (gave.only (mail s (due_of k)) m) [ inl w ↦ inr (told s k w) | inr was ↦ inl was ];
       begun = λ from x h. inl h;
       ended = λ s x y c n w back at enters taken. inl (at, taken);
@@ -87,6 +93,9 @@ module _ {A G : Type 0} (graph : Graph G) (q : ℕ) (f g : Found A) where
           (c, refl, λ i. mail c (Summary q (sym is.0 i) (sym is.1 i))),
         ))
       ];
+      callers_once = λ old. old;
+      exits_once = added_once nat_eq exact_unsigned_eq (under nat_eq f.exits.by_key) (under nat_eq g.exits.by_key) a b
+          added others new;
       pairs = λ old x y. (
         λ m. elim (member_append (pair x y) f.pairs.keys (pair a b ∷ []) (subst (Member (pair x y)) keys m)) [
           | inl was ↦ exit_keeps x y ((old x y).0 was)
@@ -101,3 +110,13 @@ module _ {A G : Type 0} (graph : Graph G) (q : ℕ) (f g : Found A) where
         ]),
       );
     }
+
+-- of a pair that is new nobody is told yet
+pub none_told : {A G : Type 0} (graph : Graph G) (q : ℕ) (f : Found A) (es : List Triple) (Aside : Triple → Type 0) →
+    IsGrounded graph q f es → IsComplete graph q f es Aside → (a b : ℕ) (callers : List Caller) →
+    (Member (pair a b) f.pairs.keys → ⊥) →
+    (x : Mail) → Each (IsTold q a b) callers x → Member x f.given.mails.items → ⊥
+none_told graph q f es Aside sound complete a b callers new x (from, m, (c, is, same)) given =
+    let (own, left, taken) =
+    sound.given c (numbered_summary q a b) (subst (λ y. Member y f.given.mails.items) same given) in
+    new ((complete.pairs a b).1 left)

@@ -5,8 +5,8 @@ pub mod Mails
 pub mod Firsts
 pub mod Eaches
 pub mod Growing
-pub mod Telling
 pub mod Dues
+pub mod Telling
 pub mod Adding
 pub mod Stepping
 pub mod Asking

@@ -3,10 +3,24 @@ use Rattle.std.proofs.Common.{◌≡◌, ℕ, List, [], inl, inr, subst, sym, re
 use Rattle.language.specs.Flow.{Member}
 use Rattle.path_sets.specs.Triples.{Triple, triple}
 use Rattle.flow_graph.specs.Returns.{left}
-use Rattle.flow_graph.specs.Numbers.{NumberedMessage, GraphReaches, starts, flows, returns, Sends, asks, tells, Leaves}
+use Rattle.flow_graph.specs.Numbers.{NumberedMessage, numbered_entry, numbered_summary, GraphReaches}
+use Rattle.flow_graph.specs.Numbers.{starts, flows, returns, Sends, asks, tells, Leaves}
 use Rattle.flow_graph.specs.declared.graph.Graph.{Graph}
 use Rattle.summaries.specs.declared.found.Found.{Found}
-use Rattle.summaries.specs.Found.{edge, TookMessage, HasExit, HasGiven, IsGrounded, IsWorked, IsComplete, IsExact}
+use Rattle.summaries.specs.Found.{edge, TookMessage, HasExit, HasGiven, IsOwed}
+use Rattle.summaries.specs.Found.{IsGrounded, IsWorked, IsComplete, IsExact}
+
+-- a message that is owed is sent
+pub owed_sent : {A G : Type 0} (graph : Graph G) (q : ℕ) (f : Found A) (edges : List Triple) →
+    IsGrounded graph q f edges → (s : ℕ) (k : NumberedMessage) → IsOwed f q s k → Sends graph q (TookMessage f) s k
+owed_sent graph q f edges sound s (numbered_entry from e) (is, (x, at)) =
+    let (reached, (back, (flow, here, enters))) = sound.site s e x.asked x.point x.values at in
+    subst (λ c. Sends graph q (TookMessage f) s (numbered_entry c e)) (sym is)
+    (asks x.asked x.point x.values s e back flow reached here enters)
+owed_sent graph q f edges sound s (numbered_summary p a b) (is, has, taken) =
+    let (v, reached, leaves) = sound.exit a b has in
+    subst (λ n. Sends graph q (TookMessage f) s (numbered_summary n a b)) (sym is)
+    (subst (λ y. Sends graph q (TookMessage f) s (numbered_summary q a y)) (sym leaves) (tells a v s taken reached))
 
 module _ {A G : Type 0} (graph : Graph G) (q : ℕ) (f : Found A) (edges : List Triple)
     (complete : IsComplete graph q f edges (λ t. ⊥)) (none_pending : f.pending.items ≡ []) where
@@ -46,5 +60,5 @@ module _ {A G : Type 0} (graph : Graph G) (q : ℕ) (f : Found A) (edges : List 
   pub is_exact : IsGrounded graph q f edges → IsExact graph q f edges
   is_exact sound = (
     λ a n v. (is_edge a n v, sound.edge a n v),
-    λ s k. (is_given s k, sound.given s k),
+    λ s k. (is_given s k, λ m. owed_sent graph q f edges sound s k (sound.given s k m)),
   )

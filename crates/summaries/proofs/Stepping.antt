@@ -8,9 +8,9 @@ use Rattle.language.specs.Flow.{Member}
 use Rattle.language.proofs.Members.{member_left, member_right, member_append}
 use Rattle.path_sets.specs.Triples.{Triple, triple, NoneTwice}
 use Rattle.flow_graph.specs.Returns.{left, resumed}
-use Rattle.flow_graph.specs.Numbers.{NumberedMessage, numbered_entry, numbered_summary, GraphReaches, Sends, Leaves}
+use Rattle.flow_graph.specs.Numbers.{NumberedMessage, numbered_entry, numbered_summary, GraphReaches, Leaves}
 use Rattle.flow_graph.specs.declared.graph.Graph.{Graph}
-use Rattle.flow_graph.proofs.Holding.{reaches_more, sends_more}
+use Rattle.flow_graph.proofs.Holding.{reaches_more}
 use Rattle.summaries.specs.declared.edge.Call.{Call}
 use Rattle.summaries.specs.declared.edge.Edge.{Edge}
 use Rattle.summaries.specs.declared.edge.Site.{Site}
@@ -22,7 +22,7 @@ use Rattle.summaries.specs.Under.{under}
 use Rattle.summaries.specs.Mails.{mail}
 use Rattle.summaries.specs.Dues.{caller_of, due_of}
 use Rattle.summaries.specs.Found.{call, call_eq, edge, site, pair, TookMessage, HasSite}
-use Rattle.summaries.specs.Found.{HasExit, HasGiven, IsPending, IsGrounded, IsWorked, IsComplete, IsEmpty}
+use Rattle.summaries.specs.Found.{HasExit, HasGiven, IsOwed, IsPending, IsGrounded, IsWorked, IsComplete, IsEmpty}
 use Rattle.summaries.specs.Grows.{EntersAt, Grows, triple_of}
 use Rattle.summaries.specs.Tables.{HasMore}
 
@@ -41,7 +41,7 @@ pub record Step {A G : Type 0} (graph : Graph G) (q : ℕ) (f g : Found A) (es d
   pub exits : (a b : ℕ) → HasExit f a b → HasExit g a b
   pub exit : (a b : ℕ) → HasExit g a b → HasExit f a b ⊎ Leaves graph (TookMessage g) a b
   pub gives : (s : ℕ) (k : NumberedMessage) → HasGiven f s k → HasGiven g s k
-  pub given : (s : ℕ) (k : NumberedMessage) → HasGiven g s k → HasGiven f s k ⊎ Sends graph q (TookMessage g) s k
+  pub given : (s : ℕ) (k : NumberedMessage) → HasGiven g s k → HasGiven f s k ⊎ IsOwed g q s k
   pub begun : (from : Caller) (a : ℕ) → TookMessage g (numbered_entry from a) →
       TookMessage f (numbered_entry from a) ⊎ Member (triple a graph.start a) ds
   pub ended : (s e b a n v back : ℕ) → HasSite g s e (site a n v) → EntersAt graph n v s e back →
@@ -51,6 +51,10 @@ pub record Step {A G : Type 0} (graph : Graph G) (q : ℕ) (f g : Found A) (es d
   pub tells : (a b c : ℕ) → HasExit g a b → TookMessage g (numbered_entry (caller c) a) →
       HasExit f a b × TookMessage f (numbered_entry (caller c) a) ⊎ HasGiven g c (numbered_summary q a b)
   pub pairs : ((a b : ℕ) → Member (pair a b) f.pairs.keys ↔ HasExit f a b) → (a b : ℕ) → Member (pair a b) g.pairs.keys ↔ HasExit g a b
+  pub callers_once : ((a : ℕ) → NoneTwice (under nat_eq f.entries.by_key a)) → (a : ℕ) →
+      NoneTwice (under nat_eq g.entries.by_key a)
+  pub exits_once : ((a : ℕ) → NoneTwice (under nat_eq f.exits.by_key a)) → (a : ℕ) →
+      NoneTwice (under nat_eq g.exits.by_key a)
 
 module _ {A G : Type 0} (graph : Graph G) (q : ℕ) (f g : Found A) (es ds : List Triple) (step : Step graph q f g es ds) where
   -- after a step all is reached and sent
@@ -62,11 +66,17 @@ module _ {A G : Type 0} (graph : Graph G) (q : ℕ) (f g : Found A) (es ds : Lis
       | inr is ↦ is
     ];
     exit = λ a b m. elim (step.exit a b m) [ inl was ↦ let (v, reached, is) = old.exit a b was in (v, more a 0 v reached, is) | inr is ↦ is ];
-    given = λ s k m. elim (step.given s k m)
-        [ inl was ↦ sends_more graph (TookMessage f) (TookMessage g) step.taken q s k (old.given s k was) | inr is ↦ is ];
+    given = λ s k m. elim (step.given s k m) [ inl was ↦ owed s k (old.given s k was) | inr is ↦ is ];
     pending = λ a n v m. elim (step.pending (edge a n v) m) [ inl was ↦ step.kept (triple a n v) (old.pending a n v was) | inr is ↦ is ];
+    callers_once = step.callers_once old.callers_once;
+    exits_once = step.exits_once old.exits_once;
   }
     where
+      owed : (s : ℕ) (k : NumberedMessage) → IsOwed f q s k → IsOwed g q s k
+      owed s (numbered_entry from e) (is, (x, at)) = (is, (x, step.sites s e x.asked x.point x.values at))
+      owed s (numbered_summary p a b) (is, left, taken) =
+          (is, step.exits a b left, step.taken (numbered_entry (caller s) a) taken)
+
       more : (a n v : ℕ) → GraphReaches graph (TookMessage f) a n v → GraphReaches graph (TookMessage g) a n v
       more = reaches_more graph (TookMessage f) (TookMessage g) step.taken
 
@@ -168,7 +178,7 @@ module _ {A G : Type 0} (graph : Graph G) (q : ℕ) (f : Found A) (entries : Gro
     -- the edges grow by what is reached, and the sites and exits are the same
     pub grown_step : Grows W es ds f.pending.items pending.items
         → ((s : ℕ) (k : NumberedMessage) → HasGiven f s k → HasGiven grown_to s k)
-        → ((s : ℕ) (k : NumberedMessage) → HasGiven grown_to s k → HasGiven f s k ⊎ Sends graph q (TookMessage grown_to) s k)
+        → ((s : ℕ) (k : NumberedMessage) → HasGiven grown_to s k → HasGiven f s k ⊎ IsOwed grown_to q s k)
         → ((from : Caller) (a : ℕ) → TookMessage grown_to (numbered_entry from a) →
         TookMessage f (numbered_entry from a) ⊎ Member (triple a graph.start a) ds)
         → ((s e b a n v back : ℕ) → HasSite f s e (site a n v) → EntersAt graph n v s e back →
@@ -176,8 +186,10 @@ module _ {A G : Type 0} (graph : Graph G) (q : ℕ) (f : Found A) (entries : Gro
         TookMessage f (numbered_summary s e b) ⊎ Member (triple a back (resumed graph.globals v b)) ds)
         → ((a b c : ℕ) → HasExit f a b → TookMessage grown_to (numbered_entry (caller c) a) →
         TookMessage f (numbered_entry (caller c) a) ⊎ HasGiven grown_to c (numbered_summary q a b))
+        → (((a : ℕ) → NoneTwice (under nat_eq f.entries.by_key a)) → (a : ℕ) →
+        NoneTwice (under nat_eq entries.by_key a))
         → Step graph q f grown_to es ds
-    grown_step grown gives given begun ended tells = record {
+    grown_step grown gives given begun ended tells callers_once = record {
       taken = taken;
       kept = grown.kept;
       edge = λ t m. elim (grown.only t m) [ inl w ↦ inr (reached t w) | inr was ↦ inl was ];
@@ -196,6 +208,8 @@ module _ {A G : Type 0} (graph : Graph G) (q : ℕ) (f : Found A) (entries : Gro
       asks = λ s e a n v m. inl m;
       tells = λ a b c m took. elim (tells a b c m took) [ inl was ↦ inl (m, was) | inr is ↦ inr is ];
       pairs = λ old. old;
+      callers_once = callers_once;
+      exits_once = λ old. old;
     }
 
 -- what follows of two facts where the answer is Ok
@@ -204,7 +218,8 @@ both_ok (Ok _) f p q = f p q
 both_ok (Err _) f p q = tt
 
 -- g has pairs, messages given and edges pending as f has
-module _ {A G : Type 0} (graph : Graph G) (q : ℕ) (f g : Found A) (es : List Triple) (paired : g.pairs.keys ≡ f.pairs.keys) (gave : g.given.mails.keys ≡ f.given.mails.keys)
+module _ {A G : Type 0} (graph : Graph G) (q : ℕ) (f g : Found A) (es : List Triple)
+    (paired : g.pairs.keys ≡ f.pairs.keys) (gave : g.given.mails.items ≡ f.given.mails.items)
     (pended : g.pending.items ≡ f.pending.items) where
   -- what is found, with these
   abbrev pub same_to : Found A
@@ -230,6 +245,8 @@ module _ {A G : Type 0} (graph : Graph G) (q : ℕ) (f g : Found A) (es : List T
     asks = λ s x a n v m. inl m;
     tells = λ a b c m h. inl (m, h);
     pairs = λ old a b. (λ m. (old a b).0 (subst (Member (pair a b)) paired m), λ m. subst (Member (pair a b)) (sym paired) ((old a b).1 m));
+    callers_once = λ old. old;
+    exits_once = λ old. old;
   }
 
 module _ {A G : Type 0} (graph : Graph G) (q : ℕ) (f : Found A) (es : List Triple) (pending : Vec Edge A) (e : Edge) (popped : f.pending.items ≡ pending.items ++ e ∷ []) where
@@ -255,9 +272,15 @@ module _ {A G : Type 0} (graph : Graph G) (q : ℕ) (f : Found A) (es : List Tri
     edge = λ a n v m. more a n v (old.edge a n v m);
     site = λ s x a n v m. let (reached, at) = old.site s x a n v m in (more a n v reached, at);
     exit = λ a b m. let (v, reached, is) = old.exit a b m in (v, more a 0 v reached, is);
-    given = λ s k m. sends_more graph (TookMessage f) (TookMessage popped_to) taken_there q s k (old.given s k m);
+    given = λ s k m. owed s k (old.given s k m);
     pending = λ a n v m. old.pending a n v (subst (Member (edge a n v)) (sym popped) (member_left (edge a n v) pending.items (e ∷ []) m));
+    callers_once = old.callers_once;
+    exits_once = old.exits_once;
   }
+    where
+      owed : (s : ℕ) (k : NumberedMessage) → IsOwed f q s k → IsOwed popped_to q s k
+      owed s (numbered_entry from e) h = h
+      owed s (numbered_summary p a b) h = h
 
   -- the edge may be left aside
   pub popped_complete : IsComplete graph q f es (λ t. ⊥) → IsComplete graph q popped_to es (λ t. t ≡ triple_of e)
@@ -302,6 +325,8 @@ module _ {A G : Type 0} (graph : Graph G) (q : ℕ) (f : Found A) (es : List Tri
     exit = λ a b m. absurd (no_exit a b m);
     given = λ s k m. absurd (subst (Member (mail s (due_of k))) empty.given m);
     pending = λ a n v m. absurd (subst (Member (edge a n v)) empty.pending m);
+    callers_once = λ a. subst NoneTwice (sym (empty.entries a)) tt;
+    exits_once = λ a. subst NoneTwice (sym (empty.exits a)) tt;
   }
 
   pub empty_complete : IsComplete graph q f es (λ t. ⊥)

@@ -8,7 +8,11 @@ use Rattle.std.proofs.lemmas.List.{length-map}
 use Rattle.std.proofs.lemmas.Nat.{mul-add-lt}
 use Rattle.std.proofs.Math.Nat.{mul_comm}
 use Rattle.std.proofs.lemmas.List.Sums.{sum_by-set}
-use Rattle.language.specs.Step.{Program, AtRoutine, zeros}
+use Rattle.language.specs.Step.{Program, Routine, AtRoutine, zeros}
+use Rattle.post_ledger.proofs.Orders.{element_at}
+use Rattle.flow_graph.specs.declared.graph.Graphs.{Graphs}
+use Rattle.flow_graph.specs.Drawn.{graphs_of}
+use Rattle.summaries.specs.Fitting.{FitsIn}
 use Rattle.language.specs.Sequential.{starter, caller, Valuation, entry, IsZero, IsDue}
 use Rattle.language.specs.Flow.{Member}
 use Rattle.language.proofs.Members.{member_append}
@@ -39,7 +43,7 @@ use Rattle.summaries.proofs.Sweeping.{same_taken, same_taken_back, Becomes, repl
 use Rattle.summaries.specs.Limits.{most_of}
 
 -- the numbers of a message
-number_of_due : (d : Due) → (k : NumberedMessage) × (due_of k ≡ d)
+pub number_of_due : (d : Due) → (k : NumberedMessage) × (due_of k ≡ d)
 number_of_due (Entry Starter a) = (numbered_entry starter a, refl)
 number_of_due (Entry (Proc q) a) = (numbered_entry (caller q) a, refl)
 number_of_due (Summary s a b) = (numbered_summary s a b, refl)
@@ -49,6 +53,22 @@ is_opening : (k : NumberedMessage) → due_of k ≡ Entry Starter 0 → k ≡ nu
 is_opening (numbered_entry starter a) e = let same : a ≡ 0 = cc in ap (numbered_entry starter) same
 is_opening (numbered_entry (caller q) a) e = let no : ⊥ = cc in absurd no
 is_opening (numbered_summary s a b) e = let no : ⊥ = cc in absurd no
+
+-- the starter's message is due for the first procedure
+starter_due : (p : Program) (routine : Routine) → slice_get p.routines 0 ≡ Some routine → (k : NumberedMessage)
+    → due_of k ≡ Entry Starter 0 → IsNumberOf (IsDue p 0) k
+starter_due p routine there k e =
+    let x : Valuation = record { globals = zeros p.globals; places = zeros routine.places } in
+    let zero_is : code x ≡ 0 = coded_zeros p.globals routine.places in
+    let begins : IsZero p x =
+        subst (λ o. AtRoutine o (λ r. x ≡ record { globals = zeros p.globals; places = zeros r.places }))
+        (sym there) refl in
+    (entry starter x, (refl, begins), is_opening k e ∙ ap (numbered_entry starter) (sym zero_is))
+
+pub opening_fits : {G : Type 0} (graphs : Graphs G) → 0 < length (graphs_of graphs) → FitsIn graphs 0 (Entry Starter 0)
+opening_fits graphs some_of p drawn k e =
+    let (graph, there) = element_at (graphs_of graphs) 0 some_of in
+    let (routine, is) = there_too (graphs_of graphs) p.routines 0 graph drawn.2.0 there in starter_due p routine is k e
 
 -- the image of what is there is there
 pub get_map : {X Y : Type 0} (f : X → Y) (xs : List X) (q : ℕ) (x : X) → slice_get xs q ≡ Some x → slice_get (map f xs) q ≡ Some (f x)
@@ -71,12 +91,8 @@ module _ {G A S : Type 0} (members : S → List Triple) (p : Program) (Aside : M
 
   -- the opening is due
   pub opening_due : (t : Table G A S) → slice_get ts 0 ≡ Some t → (k : NumberedMessage) → due_of k ≡ Entry Starter 0 → IsNumberOf (IsDue p 0) k
-  opening_due t is k e =
-      let (routine, there) = there_too ts p.routines 0 t as_many is in
-      let x : Valuation = record { globals = zeros p.globals; places = zeros routine.places } in
-      let zero_is : code x ≡ 0 = coded_zeros p.globals routine.places in
-      let begins : IsZero p x = subst (λ o. AtRoutine o (λ r. x ≡ record { globals = zeros p.globals; places = zeros r.places })) (sym there) refl in
-      (entry starter x, (refl, begins), is_opening k e ∙ ap (numbered_entry starter) (sym zero_is))
+  opening_due t is k e = let (routine, there) = there_too ts p.routines 0 t as_many is in
+      starter_due p routine there k e
 
   -- what a table has taken is due, where it has taken only a message that is due beside what it had
   pub only_due : (q : ℕ) (d : Due) (t t' : Table G A S) → slice_get ts q ≡ Some t → TookOnly d t.found t'.found

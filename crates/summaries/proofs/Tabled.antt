@@ -20,6 +20,7 @@ use Rattle.summaries.specs.Tables.{answers_of, IsReached, IsAnswer}
 use Rattle.summaries.specs.Tabulated.{HasMoreEdges}
 use Rattle.summaries.specs.Together.{IsTableOf}
 use Rattle.summaries.specs.Limits.{most_of}
+use Rattle.summaries.proofs.Quiet.{owed_sent}
 
 module _ {G A S : Type 0} (members : S → List Triple) (p : Program) (q : ℕ) (t : Table G A S) (is : IsTableOf members p q t) where
   -- what is reached are path edges
@@ -47,10 +48,12 @@ module _ {G A S : Type 0} (members : S → List Triple) (p : Program) (q : ℕ) 
   pub answered_due : t.fault ≡ None → (x : Mail) → Member x (answers_of t) → (k : NumberedMessage) → due_of k ≡ x.due →
       IsNumberOf (IsDue p x.to) k
   answered_due whole x m k e =
-      let keys = t.found.given.mails.keys in
+      let keys = t.found.given.mails.items in
       let given : Member x keys = subst (Member x) (take-append-drop t.found.given.answered keys)
       (member_left x (answers_of t) (drop t.found.given.answered keys) m) in
-      sent_due x.to k ((is.table.holds whole).0.given x.to k (subst (λ d. Member (mail x.to d) keys) (sym e) given))
+      let sound = (is.table.holds whole).0 in
+      sent_due x.to k (owed_sent t.graph.now t.procedure t.found (members t.edges) sound x.to k
+      (sound.given x.to k (subst (λ d. Member (mail x.to d) keys) (sym e) given)))
 
   -- where the table has failed for its limit there are more path edges
   pub over_limit : t.fault ≡ Some EdgeLimit → HasMoreEdges p q (most_of t.limit)

@@ -20,7 +20,7 @@ use Rattle.summaries.proofs.Quiet.{is_exact, is_left}
 use Rattle.summaries.proofs.Stepping.{same_to, same_step, still_holds}
 
 module _ {G A S : Type 0} (members : S → List Triple) (t : Table G A S) (g : Found A)
-    (paired : g.pairs.keys ≡ t.found.pairs.keys) (gave : g.given.mails.keys ≡ t.found.given.mails.keys)
+    (paired : g.pairs.keys ≡ t.found.pairs.keys) (gave : g.given.mails.items ≡ t.found.given.mails.items)
     (pended : g.pending.items ≡ t.found.pending.items) where
   abbrev there : Found A
   there = same_to t.graph.now t.procedure t.found g (members t.edges) paired gave pended
@@ -47,7 +47,7 @@ module _ {G A S : Type 0} (members : S → List Triple) (t : Table G A S) (g : F
   }
 
 module _ {G A S : Type 0} (members : S → List Triple) (t : Table G A S) (g : Found A)
-    (paired : g.pairs.keys ≡ t.found.pairs.keys) (gave : g.given.mails.keys ≡ t.found.given.mails.keys)
+    (paired : g.pairs.keys ≡ t.found.pairs.keys) (gave : g.given.mails.items ≡ t.found.given.mails.items)
     (pended : g.pending.items ≡ t.found.pending.items) where
   -- and keeps what it has taken
   pub same_keeps : IsTable members t → t.fault ≡ None →
@@ -67,7 +67,8 @@ module _ {G A S : Type 0} (members : S → List Triple) (t : Table G A S) (g : F
   }
 
 -- the message that is answered next is given, so it is sent
-pub next_sent : {A : Type 0} (f : Found A) (r : Option (ℕ × Due)) (n : ℕ) (keys : List Mail) → keys ≡ f.given.mails.keys →
+pub next_sent : {A : Type 0} (f : Found A) (r : Option (ℕ × Due)) (n : ℕ) (keys : List Mail)
+    → keys ≡ f.given.mails.items →
     IfSome r (λ m. take n keys ≡ answers_in f.given ++ mail m.0 m.1 ∷ []) → (P : ℕ → NumberedMessage → Type 0) →
     ((s : ℕ) (k : NumberedMessage) → HasGiven f s k → P s k) →
     IfSome r (λ m. (k : NumberedMessage) → due_of k ≡ m.1 → P m.0 k)
@@ -77,13 +78,13 @@ next_sent f (Some (to, due)) n keys same next P gives = λ k is.
     subst (Member (mail to due)) (sym next)
     (member_right (mail to due) (answers_in f.given) (mail to due ∷ []) (inl refl)) in
     let all : Member (mail to due) keys = subst (Member (mail to due)) (take-append-drop n keys) (member_left (mail to due) (take n keys) (drop n keys) there) in
-    gives to k (subst (λ d. Member (mail to d) f.given.mails.keys) (sym is) (subst (Member (mail to due)) same all))
+    gives to k (subst (λ d. Member (mail to d) f.given.mails.items) (sym is) (subst (Member (mail to due)) same all))
 
 -- a table with nothing pending that has answered all it gave is quiet
 pub quiet_table : {G A S : Type 0} (members : S → List Triple) (t : Table G A S) →
     IsGrounded t.graph.now t.procedure t.found (members t.edges) →
     IsComplete t.graph.now t.procedure t.found (members t.edges) (λ x. ⊥) →
-    t.found.pending.items ≡ [] → answers_of t ≡ t.found.given.mails.keys → tables.IsQuiet members t
+    t.found.pending.items ≡ [] → answers_of t ≡ t.found.given.mails.items → tables.IsQuiet members t
 quiet_table members t sound complete none all =
     let quiet = is_exact t.graph.now t.procedure t.found (members t.edges) complete none sound in record {
       edges = quiet.0;

@@ -2,7 +2,7 @@
 use Rattle.std.specs.Prelude.{◌≡◌, ◌≤◌, ◌⊎◌, ◌↔◌, ◌&&◌, ℕ, Bool, List, [], Some, nat_eq, slice_get, take}
 use Rattle.language.specs.Sequential.{Caller, caller}
 use Rattle.language.specs.Flow.{Member}
-use Rattle.path_sets.specs.Triples.{Triple, triple}
+use Rattle.path_sets.specs.Triples.{Triple, triple, NoneTwice}
 use Rattle.flow_graph.specs.Drawn.{flows_of, globals_of, start_of}
 use Rattle.flow_graph.specs.Flows.{last_of, next_of, entered_by}
 use Rattle.flow_graph.specs.Returns.{left, resumed}
@@ -49,7 +49,7 @@ pair a b = record { a = a; b = b }
 
 -- the messages given that are answered, in order
 abbrev pub answers_in : {A : Type 0} → Given A → List Mail
-answers_in g = take g.answered g.mails.keys
+answers_in g = take g.answered g.mails.items
 
 module _ {A : Type 0} (f : Found A) where
   -- the table has taken the message
@@ -71,22 +71,30 @@ module _ {A : Type 0} (f : Found A) where
 
   -- the message of these numbers was given to a procedure
   abbrev pub HasGiven : ℕ → NumberedMessage → Type 0
-  HasGiven s k = Member (mail s (due_of k)) f.given.mails.keys
+  HasGiven s k = Member (mail s (due_of k)) f.given.mails.items
+
+  -- The message of these numbers is owed to a procedure by the one of number q: an entry, for a site of that call, or a
+  -- summary, for an exit of q and the caller's entry.
+  abbrev pub IsOwed : ℕ → ℕ → NumberedMessage → Type 0
+  IsOwed q s (numbered_entry from e) = (from ≡ caller q) × ((x : Site) × HasSite s e x)
+  IsOwed q s (numbered_summary p a b) = (p ≡ q) × HasExit a b × TookMessage (numbered_entry (caller s) a)
 
   -- the edge is still to be worked on
   abbrev pub IsPending : ℕ → ℕ → ℕ → Type 0
   IsPending a n v = Member (edge a n v) f.pending.items
 
 module _ {A G : Type 0} (graph : Graph G) (q : ℕ) (f : Found A) (edges : List Triple) where
-  -- Each edge is reached by the messages taken, each site at its call, and each exit; each message given is sent; what is
-  -- pending is an edge.
+  -- Each edge is reached by the messages taken, each site at its call, and each exit; each message given is owed; what
+  -- is pending is an edge; no caller enters twice with a valuation, and nothing is left twice for one.
   pub record IsGrounded : Type 0 where
     pub edge : (a n v : ℕ) → Member (triple a n v) edges → GraphReaches graph (TookMessage f) a n v
     pub site : (s e a n v : ℕ) → HasSite f s e (site a n v) →
         GraphReaches graph (TookMessage f) a n v × ((back : ℕ) × EntersAt graph n v s e back)
     pub exit : (a b : ℕ) → HasExit f a b → Leaves graph (TookMessage f) a b
-    pub given : (s : ℕ) (k : NumberedMessage) → HasGiven f s k → Sends graph q (TookMessage f) s k
+    pub given : (s : ℕ) (k : NumberedMessage) → HasGiven f s k → IsOwed f q s k
     pub pending : (a n v : ℕ) → IsPending f a n v → Member (triple a n v) edges
+    pub callers_once : (a : ℕ) → NoneTwice (under nat_eq f.entries.by_key a)
+    pub exits_once : (a : ℕ) → NoneTwice (under nat_eq f.exits.by_key a)
 
   -- The edge is worked on: where its choices lead are edges, its call stands as a site, and at the exit its globals as an
   -- exit.
@@ -127,5 +135,5 @@ pub record IsEmpty {A : Type 0} (f : Found A) : Type 0 where
   pub sites : (c : Call) → under call_eq f.sites.by_key c ≡ []
   pub exits : (a : ℕ) → under nat_eq f.exits.by_key a ≡ []
   pub pairs : f.pairs.keys ≡ []
-  pub given : f.given.mails.keys ≡ []
+  pub given : f.given.mails.items ≡ []
   pub pending : f.pending.items ≡ []

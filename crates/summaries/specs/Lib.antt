@@ -2,6 +2,7 @@ pub mod Limits
 pub mod Under
 pub mod Mails
 pub mod Dues
+pub mod Fitting
 pub mod Found
 pub mod Grows
 pub mod Tables

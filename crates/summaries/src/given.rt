@@ -1,6 +1,6 @@
 //! The messages that a table has given.
 
-ghost use Rattle.std.specs.Prelude.{◌≡◌, ◌≤◌, ◌<◌, ◌^◌, ◌∷◌, [], ◌++◌, length, IfOk};
+ghost use Rattle.std.specs.Prelude.{◌≡◌, ◌≤◌, ◌<◌, ◌^◌, ◌∷◌, [], ◌++◌, length};
 ghost use Rattle.std.specs.Prelude.{OnOk, OnErr, IfSome, IfNone};
 ghost use Rattle.std.specs.Bool.{OnTrue, OnFalse};
 ghost use Rattle.language.specs.Flow.{Member};
@@ -9,12 +9,10 @@ ghost use Rattle.summaries.specs.Grows.{Gives};
 ghost use Rattle.summaries.specs.Mails.{mail};
 
 use crate::due::Due;
-use indexmap::IndexSet;
 use std::alloc::{AllocError, Allocator};
-use std::hash::{BuildHasherDefault, FoldHasher};
 
 /// A message and the procedure that it goes to.
-#[derive(Clone, Copy, Debug, PartialEq, Eq, Hash)]
+#[derive(Clone, Copy, Debug)]
 pub(crate) struct Mail {
     pub(crate) to: u8,
     pub(crate) due: Due,
@@ -23,11 +21,11 @@ pub(crate) struct Mail {
 /// The messages given, each once, in order; the first of them are answered.
 #[derive(Drop)]
 pub(crate) struct Given<A: Allocator> {
-    pub(crate) mails: IndexSet<Mail, BuildHasherDefault<FoldHasher>, A>,
+    pub(crate) mails: Vec<Mail, A>,
     pub(crate) answered: usize,
-    ghost within: { answered ≤ length mails.keys },
+    ghost within: { answered ≤ length mails.items },
     ghost few: { answered < 2 ^ 64 },
-    ghost once: { NoneTwice mails.keys } by { NoneTwice-prop mails.keys },
+    ghost once: { NoneTwice mails.items } by { NoneTwice-prop mails.items },
 }
 
 impl<A: Allocator + Copy> Given<A> {
@@ -35,32 +33,31 @@ impl<A: Allocator + Copy> Given<A> {
 
     /// No message is given.
     pub(crate) fn new(alloc: A) -> Self
-        ensures { result.mails.keys ≡ [] }
+        ensures { result.mails.items ≡ [] }
     {
         Given {
-            mails: IndexSet::new(alloc),
+            mails: Vec::new(alloc),
             answered: 0,
         }
     }
 
-    /// Gives a message to a procedure. Answers whether it is new. Where memory is refused, nothing changes.
-    pub(crate) fn give(&mut self, to: u8, due: Due) -> Result<bool, AllocError>
-        ensures new { IfOk result (λ added. OnTrue added
-            (self.new.mails.keys ≡ self.old.mails.keys ++ mail to due ∷ [])) }
-        ensures fresh { IfOk result (λ added. OnTrue added (¬ Member (mail to due) self.old.mails.keys)) }
-        ensures known { IfOk result (λ added. OnFalse added (Member (mail to due) self.old.mails.keys)) }
-        ensures same { IfOk result (λ added. OnFalse added (self.new.mails.keys ≡ self.old.mails.keys)) }
-        ensures err { OnErr result (self.new.mails.keys ≡ self.old.mails.keys) }
+    /// Gives a message to a procedure, which it was not given before. Where memory is refused, nothing changes.
+    pub(crate) fn give(&mut self, to: u8, due: Due) -> Result<(), AllocError>
+        requires { ¬ Member (mail to due) self.old.mails.items }
+        ensures ok { OnOk result (self.new.mails.items ≡ self.old.mails.items ++ mail to due ∷ []) }
+        ensures err { OnErr result (self.new.mails.items ≡ self.old.mails.items) }
         ensures answered { self.new.answered ≡ self.old.answered }
     {
-        Ok(self.mails.insert(Mail { to, due })?)
+        self.mails.push(Mail { to, due })?;
+        Ok(())
     }
 
-    /// Gives a message to a procedure, unless it is known to be given. Where memory is refused, nothing changes.
+    /// Gives a message to a procedure, unless it was given before. Where memory is refused, nothing changes.
     pub(crate) fn give_unless(&mut self, known: bool, to: u8, due: Due) -> Result<(), AllocError>
-        requires { OnTrue known (Member (mail to due) self.old.mails.keys) }
-        ensures ok { OnOk result (Gives (λ m. m ≡ mail to due) self.old.mails.keys self.new.mails.keys) }
-        ensures err { OnErr result (self.new.mails.keys ≡ self.old.mails.keys) }
+        requires known { OnTrue known (Member (mail to due) self.old.mails.items) }
+        requires new { OnFalse known (¬ Member (mail to due) self.old.mails.items) }
+        ensures ok { OnOk result (Gives (λ m. m ≡ mail to due) self.old.mails.items self.new.mails.items) }
+        ensures err { OnErr result (self.new.mails.items ≡ self.old.mails.items) }
         ensures answered { self.new.answered ≡ self.old.answered }
     {
         if !known {
@@ -73,9 +70,9 @@ impl<A: Allocator + Copy> Given<A> {
     pub(crate) fn next(&mut self) -> Option<(u8, Due)>
         ensures some { IfSome result (λ m. answers_in self.new ≡ answers_in self.old ++ mail m.0 m.1 ∷ []) }
         ensures new { IfSome result (λ m. ¬ Member (mail m.0 m.1) (answers_in self.old)) }
-        ensures none { IfNone result (answers_in self.old ≡ self.old.mails.keys) }
+        ensures none { IfNone result (answers_in self.old ≡ self.old.mails.items) }
         ensures same { IfNone result (self.new.answered ≡ self.old.answered) }
-        ensures given { self.new.mails.keys ≡ self.old.mails.keys }
+        ensures given { self.new.mails.items ≡ self.old.mails.items }
     {
         let mails = self.mails.as_slice();
         if self.answered >= mails.len() {

@@ -2,8 +2,10 @@
 
 ghost use Rattle.std.specs.Prelude.{◌≡◌, ◌≢◌, [], ◌∷◌, ◌++◌, false, OnOk, OnErr, IfOk};
 ghost use Rattle.std.specs.Bool.{OnTrue, OnFalse};
+ghost use Rattle.std.specs.Mem.{FitsInMemory};
 ghost use Rattle.summaries.specs.Under.{under};
 
+use crate::values::Values;
 use indexmap::IndexMap;
 use std::alloc::{AllocError, Allocator};
 use std::hash::{BuildHasherDefault, FoldHasher, Hash};
@@ -11,7 +13,7 @@ use std::hash::{BuildHasherDefault, FoldHasher, Hash};
 /// For each key the values that were added to it, in the order of adding.
 #[derive(Drop)]
 pub(crate) struct Groups<K: Eq + Hash + Drop, V: Drop, A: Allocator> {
-    pub(crate) by_key: IndexMap<K, Vec<V, A>, BuildHasherDefault<FoldHasher>, A>,
+    pub(crate) by_key: IndexMap<K, Values<V, A>, BuildHasherDefault<FoldHasher>, A>,
 }
 
 impl<K: Eq + Hash + Copy, V: Copy, A: Allocator + Copy> Groups<K, V, A> {
@@ -27,6 +29,7 @@ impl<K: Eq + Hash + Copy, V: Copy, A: Allocator + Copy> Groups<K, V, A> {
     /// Adds a value to those of a key. Answers whether the key had any. Where memory is refused, each key has the values that
     /// it had.
     pub(crate) fn add(&mut self, key: K, value: V) -> Result<bool, AllocError>
+        requires { FitsInMemory V.row }
         ensures had { IfOk result (λ had. OnTrue had (under K.eq self.old.by_key key ≢ [])) }
         ensures none { IfOk result (λ had. OnFalse had (under K.eq self.old.by_key key ≡ [])) }
         ensures added { OnOk result (under K.eq self.new.by_key key ≡ under K.eq self.old.by_key key ++ value ∷ []) }
@@ -36,14 +39,13 @@ impl<K: Eq + Hash + Copy, V: Copy, A: Allocator + Copy> Groups<K, V, A> {
     {
         match self.by_key.get_index_of(&key) {
             Some(at) => {
-                let had = !self.by_key[at].is_empty();
-                self.by_key[at].push(value)?;
+                let alloc = *self.by_key.allocator();
+                let had = !self.by_key[at].as_slice().is_empty();
+                self.by_key[at].add(alloc, value)?;
                 Ok(had)
             }
             None => {
-                let mut first = Vec::new(*self.by_key.allocator());
-                first.push(value)?;
-                self.by_key.insert(key, first)?;
+                self.by_key.insert(key, Values::one(value))?;
                 Ok(false)
             }
         }
@@ -51,6 +53,7 @@ impl<K: Eq + Hash + Copy, V: Copy, A: Allocator + Copy> Groups<K, V, A> {
 
     /// The values of a key.
     pub(crate) fn of(&self, key: K) -> &[V]
+        requires { FitsInMemory V.row }
         ensures { result.now ≡ under K.eq self.now.by_key key }
     {
         match self.by_key.get(&key) {

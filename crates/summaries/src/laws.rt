@@ -1,6 +1,6 @@
 //! Laws on what a table holds.
 
-ghost use Rattle.std.specs.Prelude.{◌≡◌, ℕ, Some, None, List};
+ghost use Rattle.std.specs.Prelude.{◌≡◌, ◌<◌, ℕ, Some, None, List, length};
 ghost use Rattle.language.specs.Step.{Program};
 ghost use Rattle.language.specs.Sequential.{IsDue};
 ghost use Rattle.language.specs.Flow.{Member};
@@ -8,7 +8,12 @@ ghost use Rattle.path_sets.specs.Triples.{Triple};
 ghost use Rattle.flow_graph.specs.Numbers.{NumberedMessage, IsNumberOf, AreNumbersOfEdge};
 ghost use Rattle.flow_graph.specs.declared.graph.Graph.{Graph};
 ghost use Rattle.summaries.specs.declared.found.Found.{Found};
+ghost use Rattle.flow_graph.specs.declared.graph.Graphs.{Graphs};
+ghost use Rattle.flow_graph.specs.Drawn.{graphs_of};
+ghost use Rattle.summaries.specs.declared.due.Caller.TheVariants.{Starter};
 ghost use Rattle.summaries.specs.declared.due.Due.{Due};
+ghost use Rattle.summaries.specs.declared.due.Due.TheVariants.{Entry};
+ghost use Rattle.summaries.specs.Fitting.{FitsIn};
 ghost use Rattle.summaries.specs.declared.given.Mail.{Mail};
 ghost use Rattle.summaries.specs.declared.table.Table.{Table};
 ghost use Rattle.summaries.specs.declared.table_fault.TableFault.TheVariants.{EdgeLimit};
@@ -39,4 +44,9 @@ pub fn a_table_keeps_path_edges_and_answers_what_is_due<G: Allocator, A: Allocat
         → IsNumberOf (IsDue p x.to) k }
     ensures limit { (p : Program) (q : ℕ) (t : Table G A S) → IsTableOf S.members p q t → failure t ≡ Some EdgeLimit
         → HasMoreEdges p q (limit_of t) }
+{}
+
+/// The starter's message, by which procedure 0 is entered with every value 0, fits the mailbox of procedure 0.
+pub fn the_opening_fits_the_first_mailbox<G: Allocator>()
+    ensures { (graphs : Graphs G) → 0 < length (graphs_of graphs) → FitsIn graphs 0 (Entry Starter 0) }
 {}

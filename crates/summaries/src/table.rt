@@ -39,6 +39,7 @@ impl<'g, G: Allocator, A: Allocator + Copy, S: PathSet<A>> Table<'g, G, A, S> {
     pub fn new(alloc: A, graphs: &'g Graphs<G>, procedure: u8, limit: EdgeLimit) -> Self
         requires { procedure < length (graphs_of graphs.now) }
         ensures new { IsNew S.members result }
+        ensures quiet { IsQuiet S.members result }
         ensures graph { slice_get (graphs_of graphs.now) procedure ≡ Some (graph_of result) }
         ensures procedure { procedure_of result ≡ procedure }
         ensures limit { limit_of result ≡ most_of limit }
@@ -115,7 +116,7 @@ impl<'g, G: Allocator, A: Allocator + Copy, S: PathSet<A>> Table<'g, G, A, S> {
         ensures keeps { Keeps S.members None self.old self.new }
         ensures some { IfSome result (λ m. IsAnswer self.old self.new m.0 m.1) }
         ensures none { IfNone result (answers_of self.new ≡ answers_of self.old) }
-        ensures all { IfNone result (answers_of self.new ≡ self.new.found.given.mails.keys) }
+        ensures all { IfNone result (answers_of self.new ≡ self.new.found.given.mails.items) }
         ensures pending { self.new.found.pending ≡ self.old.found.pending }
         ensures edges { self.new.edges ≡ self.old.edges }
     {

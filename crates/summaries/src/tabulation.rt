@@ -38,8 +38,8 @@ fn tables_of<'g, G: Allocator, A: Allocator + Copy, S: PathSet<A>>(
     Ok(tables)
 }
 
-/// The receiver's table takes a message.
-fn deliver<G: Allocator, A: Allocator + Copy, S: PathSet<A>>(
+/// The receiver's table takes a message, as `take_entry` and `take_summary` do.
+pub fn deliver<G: Allocator, A: Allocator + Copy, S: PathSet<A>>(
     table: &mut Table<'_, G, A, S>,
     due: Due,
 ) -> Result<(), TableFault>

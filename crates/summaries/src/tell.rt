@@ -1,6 +1,9 @@
 //! An exit whose callers are known.
 
 ghost use Rattle.std.specs.Prelude.{◌≡◌, OnOk};
+ghost use Rattle.language.specs.Flow.{Member};
+ghost use Rattle.path_sets.specs.Triples.{NoneTwice};
+ghost use Rattle.summaries.specs.declared.given.Mail.{Mail};
 ghost use Rattle.summaries.specs.Grows.{AddsOnly, Gives, Each, IsTold};
 
 use crate::due::{Caller, Due};
@@ -8,7 +11,7 @@ use crate::given::Given;
 use language::Word;
 use std::alloc::{AllocError, Allocator};
 
-/// Gives the summary of procedure `p` to a caller; the starter gets none.
+/// Gives the summary of procedure `p` to a caller, who has not got it; the starter gets none.
 pub(crate) fn tell<A: Allocator + Copy>(
     given: &mut Given<A>,
     p: u8,
@@ -16,8 +19,9 @@ pub(crate) fn tell<A: Allocator + Copy>(
     b: Word,
     caller: Caller,
 ) -> Result<(), AllocError>
-    ensures ok { OnOk result (Gives (IsTold p a b caller) given.old.mails.keys given.new.mails.keys) }
-    ensures only { AddsOnly (IsTold p a b caller) given.old.mails.keys given.new.mails.keys }
+    requires { (x : Mail) → IsTold p a b caller x → ¬ Member x given.old.mails.items }
+    ensures ok { OnOk result (Gives (IsTold p a b caller) given.old.mails.items given.new.mails.items) }
+    ensures only { AddsOnly (IsTold p a b caller) given.old.mails.items given.new.mails.items }
     ensures answered { given.new.answered ≡ given.old.answered }
 {
     if let Caller::Proc(to) = caller {
@@ -26,7 +30,8 @@ pub(crate) fn tell<A: Allocator + Copy>(
     Ok(())
 }
 
-/// Gives the summary of procedure `p` to each of its callers but the starter. At an error some have it.
+/// Gives the summary of procedure `p` to each of its callers but the starter, none of whom has it. At an error some
+/// have it.
 pub(crate) fn tell_all<A: Allocator + Copy>(
     given: &mut Given<A>,
     p: u8,
@@ -34,8 +39,10 @@ pub(crate) fn tell_all<A: Allocator + Copy>(
     b: Word,
     callers: &[Caller],
 ) -> Result<(), AllocError>
-    ensures ok { OnOk result (Gives (Each (IsTold p a b) callers.now) given.old.mails.keys given.new.mails.keys) }
-    ensures only { AddsOnly (Each (IsTold p a b) callers.now) given.old.mails.keys given.new.mails.keys }
+    requires once { NoneTwice callers.now }
+    requires new { (x : Mail) → Each (IsTold p a b) callers.now x → ¬ Member x given.old.mails.items }
+    ensures ok { OnOk result (Gives (Each (IsTold p a b) callers.now) given.old.mails.items given.new.mails.items) }
+    ensures only { AddsOnly (Each (IsTold p a b) callers.now) given.old.mails.items given.new.mails.items }
     ensures answered { given.new.answered ≡ given.old.answered }
 {
     for caller in callers {
@@ -44,7 +51,8 @@ pub(crate) fn tell_all<A: Allocator + Copy>(
     Ok(())
 }
 
-/// Gives a caller the summaries of procedure `p` for these globals that it left; the starter gets none. At an error it has some.
+/// Gives a caller the summaries of procedure `p` for these globals that it left, of which it has none; the starter gets
+/// none. At an error it has some.
 pub(crate) fn tell_exits<A: Allocator + Copy>(
     given: &mut Given<A>,
     p: u8,
@@ -52,10 +60,12 @@ pub(crate) fn tell_exits<A: Allocator + Copy>(
     exits: &[Word],
     caller: Caller,
 ) -> Result<(), AllocError>
+    requires once { NoneTwice exits.now }
+    requires new { (x : Mail) → Each (λ b. IsTold p a b caller) exits.now x → ¬ Member x given.old.mails.items }
     ensures ok { OnOk result (Gives (Each (λ b. IsTold p a b caller) exits.now)
-        given.old.mails.keys given.new.mails.keys) }
+        given.old.mails.items given.new.mails.items) }
     ensures only { AddsOnly (Each (λ b. IsTold p a b caller) exits.now)
-        given.old.mails.keys given.new.mails.keys }
+        given.old.mails.items given.new.mails.items }
     ensures answered { given.new.answered ≡ given.old.answered }
 {
     for b in exits {

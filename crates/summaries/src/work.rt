@@ -120,7 +120,7 @@ impl<'g, G: Allocator, A: Allocator + Copy, S: PathSet<A>> Table<'g, G, A, S> {
         }
     }
 
-    /// Lets a caller enter the procedure: its start is reached, and the caller gets the summaries that are known.
+    /// Lets a caller enter the procedure, unless it has: its start is reached, and the caller gets the summaries known.
     pub(crate) fn begin(&mut self, caller: Caller, a: Word) -> Result<(), TableFault>
         requires holds { Holds S.members (λ t. ⊥) self.old }
         requires within { length (S.members self.old.edges) ≤ limit_of self.old }
@@ -128,6 +128,9 @@ impl<'g, G: Allocator, A: Allocator + Copy, S: PathSet<A>> Table<'g, G, A, S> {
         ensures taken { OnOk result (TookAlso (Entry caller a) self.old.found self.new.found) }
         ensures only { TookOnly (Entry caller a) self.old.found self.new.found }
     {
+        if self.found.entries.of(a).contains(&caller) {
+            return Ok(());
+        }
         self.found.entries.add(a, caller)?;
         let start = Edge {
             entry: a,

@@ -184,4 +184,4 @@ module _ {M W : Type 0} (fits : W → ℕ → M → Type 0) where
         shows_aborted first =
             let keeps = aborting own_abort refl aborted_here in
             seen_after false (λ q t. MadeAbort fits (record { by = q.number; cause = cause }) q t) visit keeps
-            (aborted_when fits own_abort a b x y w boxes kept p first visit keeps aborted_here)
+            (aborted_when fits own_abort a b x y w boxes kept p first refl visit keeps aborted_here)

@@ -21,13 +21,18 @@ use Rattle.std.proofs.Common.{Ok, Err, MatchResult}
 use Rattle.std.specs.Prelude.{Result}
 use Rattle.switchboard.specs.declared.calls.PostFault.{PostFault}
 use Rattle.switchboard.specs.declared.calls.PostFault.TheVariants as fault
-use Rattle.switchboard.specs.Promises.{AreFirst, MadeNone, Added, TookMessage, WasPosted, WasRefused, WasDone}
+use Rattle.switchboard.specs.declared.calls.Abort.{Abort}
+use Rattle.switchboard.specs.declared.calls.Taken as answers
+use Rattle.switchboard.specs.declared.calls.Taken.TheVariants as answer
+use Rattle.ticket_lock.specs.declared.lane.Spent.{Spent}
+use Rattle.switchboard.specs.Promises.{AreFirst, MadeNone, Added, Took, TookMessage, WasPosted, WasRefused, WasDone}
+use Rattle.switchboard.specs.Promises.{MadeAbort}
 use Rattle.switchboard.proofs.Visits.{job_stays, takes_own, dones_own}
 use Rattle.switchboard.proofs.Settling.{get_front}
 
 module _ {M : Type 0} where
   -- a beginning of a legal history is legal
-  legal_front : (h : List (Event M)) (e : Event M) → IsLegal (h ++ e ∷ []) → IsLegal h
+  pub legal_front : (h : List (Event M)) (e : Event M) → IsLegal (h ++ e ∷ []) → IsLegal h
   legal_front h e legal i x at =
       let short : _ = slice_get_within h i x at in
       subst (λ before. MayFollow before x) (take-append-le i h (e ∷ []) (omega arith)) (legal i x (get_front h (e ∷ []) i x at))
@@ -116,6 +121,21 @@ module _ {M W : Type 0} (fits : W → ℕ → M → Type 0) where
   post_same s t job to m (Err (fault.Spent back)) p = (ap (λ (z : Sight M W). z.board) p.1.1, ap (λ (z : Sight M W). z.number) p.1.1, ap (λ (z : Sight M W). z.seen.boxes) p.1.1)
   post_same s t job to m (Err (fault.Memory back)) p = (p.1.0.goes.board, p.1.0.goes.number, p.1.0.goes.before.boxes)
   post_same s t job to m (Err (fault.Aborted back)) p = (p.1.0.goes.board, p.1.0.goes.number, p.1.0.goes.before.boxes)
+
+  -- a take, whatever it answers, leaves the jobs
+  pub takes_keep : (s t : Sight M W) (r : Result (answers.Taken M) Spent) (j : ℕ) → Took fits r s t
+      → HasJob s.number j s.seen.order → HasJob t.number j t.seen.order
+  takes_keep s t (Err e) j k has = subst (λ (z : Sight M W). HasJob z.number j z.seen.order) (sym k.1) has
+  takes_keep s t (Ok answer.Closed) j k has = kept_none s t j k.0.0 has
+  takes_keep s t (Ok answer.Aborted) j k has = kept_none s t j k.0.0 has
+  takes_keep s t (Ok answer.Empty) j k has = kept_none s t j k.0.0 has
+  takes_keep s t (Ok (answer.Message job m)) j k has = take_keeps s t job j m k has
+
+  -- and so does an abort
+  pub abort_keeps : (s t : Sight M W) (a : Abort) (j : ℕ) → MadeAbort fits a s t → HasJob s.number j s.seen.order
+      → HasJob t.number j t.seen.order
+  abort_keeps s t a j m has = subst (λ n. HasJob n j t.seen.order) (sym m.goes.number)
+      (job_stays s.number j s.seen.order t.seen.order (sym m.own) has)
 
 module _ {M W : Type 0} where
   -- the pass of the next number behind those of the lower numbers

@@ -1,5 +1,5 @@
 -- What a pass knows after it was told what another had seen.
-use Rattle.std.proofs.Common.{◌≡◌, ◌⊎◌, inl, inr, ℕ, ◌<◌, Bool, not, List, [], ◌∷◌, Some, None}
+use Rattle.std.proofs.Common.{◌≡◌, ◌⊎◌, inl, inr, ℕ, ◌<◌, Bool, List, [], ◌∷◌, Some, None}
 use Rattle.std.proofs.Common.{length, length-append, refl, sym, ap, ◌∙◌, subst, arith}
 use Rattle.std.specs.Prelude.{Option}
 use Rattle.std.proofs.Common.{lt_of_not-le}
@@ -16,8 +16,8 @@ use Rattle.post_ledger.proofs.Orders.{own-append}
 use Rattle.switchboard.specs.declared.calls.Abort.{Abort}
 use Rattle.switchboard.specs.Sights.{State, Before, IsSound}
 use Rattle.switchboard.specs.Promises.{Learned}
-use Rattle.switchboard.specs.Passes.{is_by, calls_of, share, account_of, Comes, IsPass}
-use Rattle.switchboard.proofs.Visits.{latest_is, showing, some_later}
+use Rattle.switchboard.specs.Passes.{is_by, is_complete, calls_of, share, account_of, Comes, IsPass, IsTold}
+use Rattle.switchboard.proofs.Visits.{latest_is, showing, some_later, complete_is, complete_stays}
 
 -- whether the abort is the pass's own, if it stays from first to last, is the same in between
 by_between : (n : ℕ) (o p q : Option Abort) → ((a : Abort) → o ≡ Some a → p ≡ Some a) → ((a : Abort) → p ≡ Some a → q ≡ Some a) → is_by n q ≡ is_by n o → is_by n p ≡ is_by n o
@@ -91,27 +91,50 @@ module _ {M W : Type 0} where
           | no d ↦ (let lt = lt_of_not-le d in inr (subst (λ s. EndsIn s y) (seen ∙ longer_second a.seen note.seen lt) ends))
         ]
 
-    pub learned_is : (note : Told (State M W)) (a b : Standing (State M W)) (w : W) (boxes : ℕ) (kept : Bool) (p : IsPass fits a w boxes kept) → lock.Learned (Comes fits) share note a b → 0 < length note.seen → (y : State M W) → EndsIn b.seen y → Learned fits (account_of note) (showing fits a kept p.last) (showing fits b kept y)
+    pub learned_is : (note : Told (State M W)) (a b : Standing (State M W)) (w : W) (boxes : ℕ) (kept : Bool)
+        (p : IsPass fits a w boxes kept) → lock.Learned (Comes fits) share note a b → IsTold fits note
+        → (y : State M W) → EndsIn b.seen y → Learned fits (account_of note) (showing fits a kept p.last)
+        (showing fits b kept y)
     learned_is note a b w boxes kept p l told y ends =
         let n = news_is note a b w boxes kept p l y ends in
-        let z = EndsIn-some note.seen told in
-        let theirs = rises_last (Comes fits) b.seen note.seen z.0 y l.rises l.theirs z.1 ends in
-        let order = latest_is (λ (s : State M W). s.order) [] note.seen z.0 z.1 in
-        let aborted = latest_is (λ (s : State M W). s.aborted) None note.seen z.0 z.1 in
+        let z = told.last in
+        let theirs = rises_last (Comes fits) b.seen note.seen z y l.rises l.theirs told.ends ends in
+        let order = latest_is (λ (s : State M W). s.order) [] note.seen z told.ends in
+        let aborted = latest_is (λ (s : State M W). s.aborted) None note.seen z told.ends in
+        let knew = ap is_complete order in
+        let one = one_of note a b l p.last y p.ends ends in
+        let from : EndsIn note.seen y → z ≡ y = EndsIn-same note.seen z y told.ends in
         let board = ap (λ (q : Standing (State M W)). q.lock) l.lane in
         let number = ap (λ (q : Standing (State M W)). q.number) l.lane in
         let left = ap (λ (q : Standing (State M W)). q.left) l.lane in
         record {
           none = record {
-            goes = record { board = board; number = number; before = n.before; sound = n.sound; knows = λ made. some_later fits p.last y n.before (p.knows (not-true kept made)) };
+            goes = record {
+              board = board;
+              number = number;
+              before = n.before;
+              sound = n.sound;
+              made = λ made. some_later fits p.last y n.before (p.knows (not-true kept made));
+              knows = λ done. complete_stays fits p.last y p.sound n.before n.sound done;
+              close = complete_is fits y n.sound;
+            };
             made = refl;
             own = ap (λ (q : List (Entry M) × Bool). q.0) n.part;
           };
           calls = ap (λ k. calls_of kept k) left;
           theirs = subst (λ o. StartsWith y.order o) (sym order) theirs.0.order;
+          longer = elim one [
+            | inl same ↦ inl (ap (λ (s : State M W). s.order) same)
+            | inr told_last ↦ inr (ap (λ (s : State M W). s.order) (sym (from told_last)) ∙ sym order)
+          ];
           abort = λ q is. theirs.0.aborted q (sym aborted ∙ is);
-          one = elim (one_of note a b l p.last y p.ends ends) [
-            | inl same ↦ inl (λ i. record { board = board i; number = number i; calls = calls_of kept (left i); made = not kept; seen = same i })
-            | inr from ↦ (let same : z.0 ≡ y = EndsIn-same note.seen z.0 y z.1 from in inr (ap (λ (s : State M W). s.order) (sym same) ∙ sym order, ap (λ (s : State M W). s.aborted) (sym same) ∙ sym aborted))
+          either = elim one [
+            | inl same ↦ inl (ap (λ (s : State M W). s.aborted) same)
+            | inr told_last ↦ inr (ap (λ (s : State M W). s.aborted) (sym (from told_last)) ∙ sym aborted)
+          ];
+          close = λ done. complete_stays fits z y told.sound theirs.0 n.sound (sym knew ∙ done);
+          known = λ done. elim one [
+            | inl same ↦ inl (ap (λ (s : State M W). is_complete s.order) (sym same) ∙ done)
+            | inr told_last ↦ inr (knew ∙ (ap (λ (s : State M W). is_complete s.order) (from told_last) ∙ done))
           ];
         }

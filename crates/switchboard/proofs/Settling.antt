@@ -13,13 +13,13 @@ use Rattle.ticket_lock.specs.Promises.{IsIdle, KeepsOwn, ComesLast}
 use Rattle.post_ledger.specs.declared.event.Event.{Event}
 use Rattle.post_ledger.specs.declared.entry.Entry.{Entry}
 use Rattle.post_ledger.specs.Orders.{own, IsLawful, IsClosed}
-use Rattle.post_ledger.proofs.Orders.{nothing_follows, element_at}
+use Rattle.post_ledger.proofs.Orders.{element_at}
 use Rattle.switchboard.specs.Sights.{State, Sight, Before, IsSound}
 use Rattle.switchboard.specs.Books.{AreParts}
 use Rattle.switchboard.specs.Promises.{AreAll, Settles}
-use Rattle.switchboard.specs.Passes.{is_by, share, Comes, IsPass}
+use Rattle.switchboard.specs.Passes.{is_by, is_complete, share, Comes, IsPass}
 use Rattle.switchboard.specs.Unwraps.{IsLaneOf, Unwraps}
-use Rattle.switchboard.proofs.Visits.{showing, shows}
+use Rattle.switchboard.proofs.Visits.{showing, shows, complete_is, same_order}
 
 pub get_front : {X : Type 0} (xs ys : List X) (j : ℕ) (x : X) → slice_get xs j ≡ Some x → slice_get (xs ++ ys) j ≡ Some x
 get_front [] ys j x e = cc
@@ -88,6 +88,7 @@ module _ {M W : Type 0} (fits : W → ℕ → M → Type 0) where
     pub before : Before p.seen v
     pub sound : IsSound fits p.seen
     pub final : IsSound fits v
+    pub known : p.knows ≡ is_complete p.seen.order
     pub own_list : own p.number v.order ≡ own p.number p.seen.order
     pub mine : is_by p.number v.aborted ≡ true → p.made ≡ true
 
@@ -96,6 +97,7 @@ module _ {M W : Type 0} (fits : W → ℕ → M → Type 0) where
     before = comes.0;
     sound = l.sound;
     final = comes.1 l.sound;
+    known = refl;
     own_list = ap (λ (q : List (Entry M) × Bool). q.0) (part ∙ sym l.own_part);
     mine = λ by. was kept (λ k. l.not_by k) (sym (ap (λ (q : List (Entry M) × Bool). q.1) part) ∙ by);
   }
@@ -131,10 +133,9 @@ module _ {M W : Type 0} (fits : W → ℕ → M → Type 0) where
         close = close;
         known = λ j p at done.
             let q = ends j p at in
-            let short = subst (λ n. IsLawful n p.seen.order) (all.1 j p at).2 q.sound.lawful in
-            let none = nothing_follows boxes p.seen.order q.before.order.0 short done (subst (λ l. IsLawful boxes l) q.before.order.1 law) in
-            let same : v.order ≡ p.seen.order = q.before.order.1 ∙ (ap (λ l. p.seen.order ++ l) none ∙ append-nil p.seen.order) in
-            close.1 (subst (λ l. IsClosed l) (sym same) done);
+            let closed_then = complete_is fits p.seen q.sound (sym (q.known) ∙ done) in
+            close.1 (subst (λ l. IsClosed l)
+                (sym (same_order fits p.seen v q.sound closed_then q.before q.final)) closed_then);
         aborts = λ j p a at is.
             let now = (ends j p at).before.aborted a is in
             let near : a.by < boxes = subst (λ n. a.by < n) count (e.final.by a now) in

@@ -1,8 +1,10 @@
 -- What a pass knows after it was inside once.
-use Rattle.std.proofs.Common.{◌≡◌, ◌≢◌, inl, inr, ℕ, zero, suc, ◌+◌, ◌-◌, ◌<◌, Bool, true, false, not, List, [], ◌∷◌, ◌++◌, Some, None, Ok, Err, length, slice_get, Contains, refl, sym, ap, ◌∙◌, subst, arith, IfErr, OnOk, MatchResult, ne_eqb}
+use Rattle.std.proofs.Common.{◌≡◌, ◌≢◌, ◌⊎◌, inl, inr, ℕ, zero, suc, ◌+◌, ◌-◌, ◌<◌, Bool, true, false, not}
+use Rattle.std.proofs.Common.{List, [], ◌∷◌, ◌++◌, Some, None, Ok, Err, length, slice_get, Contains, refl, sym, ap, ◌∙◌}
+use Rattle.std.proofs.Common.{subst, arith, IfErr, OnOk, MatchResult, eq-eqb, ne_eqb}
 use Rattle.std.specs.Prelude.{Option, Result, IsSome}
 use Rattle.std.proofs.lemmas.List.{append-nil}
-use Rattle.std.proofs.lemmas.Bool.{cases_eq, not-true}
+use Rattle.std.proofs.lemmas.Bool.{cases_eq, eqb-true, not-true}
 use Rattle.std.proofs.lemmas.Option.{same_Some}
 use Rattle.ticket_lock.specs.Lanes.{Standing, Held}
 use Rattle.ticket_lock.specs.History.{EndsIn}
@@ -13,8 +15,10 @@ use Rattle.post_ledger.specs.declared.event.Event.TheVariants as event
 use Rattle.post_ledger.specs.declared.entry.Entry.{Entry}
 use Rattle.post_ledger.specs.declared.entry.Entry.TheVariants as entry
 use Rattle.post_ledger.specs.History.{posts, takes, dones, MayFollow}
-use Rattle.post_ledger.specs.Orders.{mailbox_of, event_of, maker_of, part, own, HasJob}
+use Rattle.post_ledger.specs.Orders.{mailbox_of, event_of, maker_of, part, own, posted, completed, HasJob, IsLawful}
+use Rattle.post_ledger.specs.Orders.{IsClosed}
 use Rattle.post_ledger.proofs.Histories.{at_push_cases}
+use Rattle.post_ledger.proofs.Orders.{counted_closed, nothing_follows}
 use Rattle.post_ledger.proofs.Orders.{UnderJob, lawful_push, part-append, part_here, part_else, own-append, own_here, own_else, job_inside}
 use Rattle.switchboard.specs.declared.calls.Abort.{Abort}
 use Rattle.switchboard.specs.declared.calls.PostFault.{PostFault}
@@ -24,7 +28,7 @@ use Rattle.switchboard.specs.declared.calls.Taken.TheVariants as answer
 use Rattle.switchboard.specs.Sights.{State, Sight, Before, IsSound, abort_of}
 use Rattle.switchboard.specs.Books.{with_entry, Takes, Answers, Refuses}
 use Rattle.switchboard.specs.Promises.{GoesOn, Looked, Added, WasPosted, WasRefused, Took, MadeAbort}
-use Rattle.switchboard.specs.Passes.{is_by, latest, calls_of, share, sight_of, Comes, IsPass}
+use Rattle.switchboard.specs.Passes.{is_by, is_complete, latest, calls_of, share, sight_of, Comes, IsPass}
 use Rattle.switchboard.specs.Laws.{before_refl, before_trans}
 
 -- a relation at other ends
@@ -196,7 +200,8 @@ module _ {M W : Type 0} (fits : W → ℕ → M → Type 0) where
 
   -- a sight, by the state that it shows
   abbrev pub showing : Standing (State M W) → Bool → State M W → Sight M W
-  showing lane kept s = record { board = lane.lock; number = lane.number; calls = calls_of kept lane.left; made = not kept; seen = s }
+  showing lane kept s = record { board = lane.lock; number = lane.number; calls = calls_of kept lane.left; made =
+      not kept; knows = is_complete s.order; seen = s }
 
   pub shows_now : (lane : Standing (State M W)) (w : W) (boxes : ℕ) (kept : Bool) (s : State M W) → EndsIn lane.seen s → s.world ≡ w → s.boxes ≡ boxes → sight_of lane w boxes kept ≡ showing lane kept s
   shows_now lane w boxes kept s ends same_world same_boxes =
@@ -204,7 +209,9 @@ module _ {M W : Type 0} (fits : W → ℕ → M → Type 0) where
       let aborted = latest_is (λ (s : State M W). s.aborted) None lane.seen s ends in
       let world = sym same_world in
       let number = sym same_boxes in
-      λ i. record { board = lane.lock; number = lane.number; calls = calls_of kept lane.left; made = not kept; seen = record { world = world i; boxes = number i; order = order i; aborted = aborted i } }
+      λ i. record { board = lane.lock; number = lane.number; calls = calls_of kept lane.left; made = not kept; knows =
+          is_complete (order i); seen = record { world = world i; boxes = number i; order = order i; aborted =
+          aborted i } }
 
   pub shows : (lane : Standing (State M W)) (w : W) (boxes : ℕ) (kept : Bool) (p : IsPass fits lane w boxes kept) → sight_of lane w boxes kept ≡ showing lane kept p.last
   shows lane w boxes kept p = shows_now lane w boxes kept p.last p.ends p.same_world p.same_boxes
@@ -216,6 +223,33 @@ module _ {M W : Type 0} (fits : W → ℕ → M → Type 0) where
   ticket_stays : (kept : Bool) (a b : ℕ) → 0 < calls_of kept a → b ≡ a - 1 → kept ≡ true → 0 < b
   ticket_stays true a b some_of less is = omega arith
   ticket_stays false a b some_of less is = cc
+
+  -- a sound state is closed exactly where its order is complete
+  pub complete_is : (s : State M W) → IsSound fits s → is_complete s.order ≡ true → IsClosed s.order
+  complete_is s sound is = (counted_closed s.boxes s.order sound.lawful).0
+      (eqb-true (posted s.order) (completed s.order) is)
+
+  pub closed_is : (s : State M W) → IsSound fits s → IsClosed s.order → is_complete s.order ≡ true
+  closed_is s sound closed = eq-eqb (posted s.order) (completed s.order)
+      ((counted_closed s.boxes s.order sound.lawful).1 closed)
+
+  pub open_is : (s : State M W) → IsSound fits s → (IsClosed s.order → ⊥) → is_complete s.order ≡ false
+  open_is s sound open_order = ne_eqb (posted s.order) (completed s.order)
+      (λ same. open_order ((counted_closed s.boxes s.order sound.lawful).0 same))
+
+  -- a sound state that goes on from a sound one with a closed order has that order
+  pub same_order : (s t : State M W) → IsSound fits s → IsClosed s.order → Before s t → IsSound fits t
+      → t.order ≡ s.order
+  same_order s t sound closed b later =
+      let rest = b.order.0 in
+      let law : IsLawful s.boxes (s.order ++ rest) = subst (λ l. IsLawful s.boxes l) b.order.1
+          (subst (λ n. IsLawful n t.order) b.boxes later.lawful) in
+      b.order.1 ∙ (ap (λ l. s.order ++ l) (nothing_follows s.boxes s.order rest sound.lawful closed law)
+          ∙ append-nil s.order)
+
+  pub complete_stays : (s t : State M W) → IsSound fits s → Before s t → IsSound fits t → is_complete s.order ≡ true
+      → is_complete t.order ≡ true
+  complete_stays s t sound b later is = ap is_complete (same_order s t sound (complete_is s sound is) b later) ∙ is
 
   pub some_later : (s t : State M W) → Before s t → IsSome s.aborted → IsSome t.aborted
   some_later s t b known = later s.aborted t.aborted b.aborted known
@@ -269,7 +303,15 @@ module _ {M W : Type 0} (fits : W → ℕ → M → Type 0) where
   goes_on : (a b : Standing (State M W)) (x y : State M W) (w : W) (boxes : ℕ) (kept kept' : Bool) (p : IsPass fits a w boxes kept) → Visit a b x y → Kept a.number x y → (kept' ≡ false → IsSome y.aborted) → GoesOn fits (showing a kept p.last) (showing b kept' y)
   goes_on a b x y w boxes kept kept' p v k known =
       let f = found_of a b x y w boxes kept p v in
-      record { board = v.lock; number = v.number; before = before_trans p.last x y f.before k.before; sound = k.sound; knows = λ made. known (not-true kept' made) }
+      record {
+        board = v.lock;
+        number = v.number;
+        before = before_trans p.last x y f.before k.before;
+        sound = k.sound;
+        made = λ made. known (not-true kept' made);
+        knows = λ done. complete_stays p.last y p.sound (before_trans p.last x y f.before k.before) k.sound done;
+        close = complete_is y k.sound;
+      }
 
   -- a call at which the pass made no event
   pub looked_is : (a b : Standing (State M W)) (x : State M W) (w : W) (boxes : ℕ) (kept : Bool) (p : IsPass fits a w boxes kept) → Visit a b x x → 0 < calls_of kept a.left → Looked fits (showing a kept p.last) (showing b kept x)
@@ -348,9 +390,16 @@ module _ {M W : Type 0} (fits : W → ℕ → M → Type 0) where
         fit = subst (λ z. fits z a.number m) f.before.world (posted_fits x.world a.number (length (takes (part a.number x.order))) t.sender m x.order f.sound.fitting t.oldest);
         alive = ap (λ (s : State M W). s.aborted) t.after ∙ t.alive;
       }
-  took_is answer.Empty a b x y w boxes kept p v near t some_of = subst (λ z. Visit a b x z → Took fits (Ok answer.Empty) (showing a kept p.last) (showing b kept z)) (sym t.0) (λ u. (looked_is a b x w boxes kept p u some_of, t.1, t.2, t.3)) v
-  took_is answer.Closed a b x y w boxes kept p v near t some_of = subst (λ z. Visit a b x z → Took fits (Ok answer.Closed) (showing a kept p.last) (showing b kept z)) (sym t.0) (λ u. (looked_is a b x w boxes kept p u some_of, t.1)) v
-  took_is answer.Aborted a b x y w boxes kept p v near t some_of = subst (λ z. Visit a b x z → Took fits (Ok answer.Aborted) (showing a kept p.last) (showing b kept z)) (sym t.0) (λ u. (looked_is a b x w boxes kept p u some_of, t.1, t.2)) v
+  took_is answer.Empty a b x y w boxes kept p v near t some_of =
+      subst (λ z. Visit a b x z → Took fits (Ok answer.Empty) (showing a kept p.last) (showing b kept z)) (sym t.0)
+      (λ u. (looked_is a b x w boxes kept p u some_of, open_is x (found_of a b x x w boxes kept p u).sound t.1, t.2,
+      t.3)) v
+  took_is answer.Closed a b x y w boxes kept p v near t some_of =
+      subst (λ z. Visit a b x z → Took fits (Ok answer.Closed) (showing a kept p.last) (showing b kept z)) (sym t.0)
+      (λ u. (looked_is a b x w boxes kept p u some_of, closed_is x (found_of a b x x w boxes kept p u).sound t.1)) v
+  took_is answer.Aborted a b x y w boxes kept p v near t some_of =
+      subst (λ z. Visit a b x z → Took fits (Ok answer.Aborted) (showing a kept p.last) (showing b kept z)) (sym t.0)
+      (λ u. (looked_is a b x w boxes kept p u some_of, open_is x (found_of a b x x w boxes kept p u).sound t.1, t.2)) v
 
   -- a post that was made or refused
   pub post_step : (n : ℕ) (e : Entry M) (m : M) (r : Result (Unit {0}) (PostFault M)) (x y : State M W) → maker_of e ≡ n → Allowed e x → OnOk r ((x.aborted ≡ None) × (y ≡ with_entry e x)) → IfErr r (λ f. Refuses m f x y) → Step n x y
@@ -379,25 +428,44 @@ module _ {M W : Type 0} (fits : W → ℕ → M → Type 0) where
   some_abort None a = refl
   some_abort (Some b) a = refl
 
+  -- the abort that stands after one of a pass that had made none is this one, or another pass's
+  first_of : (o : Option Abort) (a : Abort) (n : ℕ) → a.by ≡ n → is_by n o ≡ false → (b : Abort)
+      × (abort_of o a ≡ Some b) × ((b ≡ a) ⊎ (b.by ≢ n))
+  first_of None a n by mine = (a, refl, inl refl)
+  first_of (Some b) a n by mine =
+      (b, refl, inr (λ same. (let no_way : true ≡ false = sym (eq-eqb b.by n same) ∙ mine in cc)))
+
   -- an abort
   pub abort_pass : (q : Abort) (a b : Standing (State M W)) (x y : State M W) (w : W) (boxes : ℕ) (kept : Bool) (p : IsPass fits a w boxes kept) → Visit a b x y → Kept a.number x y → y ≡ record x { aborted = abort_of x.aborted q } → IsPass fits b w boxes false
   abort_pass q a b x y w boxes kept p v k is = pass_on a b x y w boxes kept false p v k (λ e. cc) (λ e. cc) (λ e. subst (λ (s : State M W). IsSome s.aborted) (sym is) (some_abort x.aborted q))
 
-  pub aborted_is : (q : Abort) (a b : Standing (State M W)) (x y : State M W) (w : W) (boxes : ℕ) (p : IsPass fits a w boxes true) → Visit a b x y → Kept a.number x y → y ≡ record x { aborted = abort_of x.aborted q } → MadeAbort fits q (showing a true p.last) (showing b false y)
-  aborted_is q a b x y w boxes p v k is =
+  pub aborted_is : (q : Abort) (a b : Standing (State M W)) (x y : State M W) (w : W) (boxes : ℕ)
+      (p : IsPass fits a w boxes true) → q.by ≡ a.number → Visit a b x y → Kept a.number x y
+      → y ≡ record x { aborted = abort_of x.aborted q } → MadeAbort fits q (showing a true p.last) (showing b false y)
+  aborted_is q a b x y w boxes p by v k is =
       let f = found_of a b x y w boxes true p v in
       record {
         goes = goes_on a b x y w boxes true false p v k (λ e. subst (λ (s : State M W). IsSome s.aborted) (sym is) (some_abort x.aborted q));
         made = refl;
         calls = v.left;
         own = ap (λ (s : State M W). own a.number s.order) is ∙ ap (λ (z : List (Entry M) × Bool). z.0) f.part;
-        first = λ e. (x.aborted, ap (λ (s : State M W). s.aborted) is);
+        first = λ e.
+            let mine = ap (λ (z : List (Entry M) × Bool). z.1) (f.part ∙ p.own_part) ∙ p.not_by refl in
+            let o = first_of x.aborted q a.number by mine in (o.0, ap (λ (s : State M W). s.aborted) is ∙ o.1, o.2);
         again = λ e. cc;
       }
 
   pub aborted_again : (q : Abort) (a : Standing (State M W)) (w : W) (boxes : ℕ) (p : IsPass fits a w boxes false) → MadeAbort fits q (showing a false p.last) (showing a false p.last)
   aborted_again q a w boxes p = record {
-    goes = record { board = refl; number = refl; before = before_refl p.last; sound = p.sound; knows = λ e. p.knows refl };
+    goes = record {
+      board = refl;
+      number = refl;
+      before = before_refl p.last;
+      sound = p.sound;
+      made = λ e. p.knows refl;
+      knows = λ e. e;
+      close = complete_is p.last p.sound;
+    };
     made = refl;
     calls = refl;
     own = refl;
@@ -430,9 +498,11 @@ module _ {M W : Type 0} (fits : W → ℕ → M → Type 0) where
   pub post_allowed : (n job to : ℕ) (m : M) (x : State M W) → to < x.boxes → HasJob n job x.order → fits x.world to m → Allowed (entry.Posted to n m job) x
   post_allowed n job to m x near has fit = record { near = near; follows = tt; under = has; fit = fit }
 
-  pub aborted_when : (q : Abort) (a b : Standing (State M W)) (x y : State M W) (w : W) (boxes : ℕ) (kept : Bool) (p : IsPass fits a w boxes kept) → kept ≡ true → Visit a b x y → Kept a.number x y → y ≡ record x { aborted = abort_of x.aborted q } → MadeAbort fits q (showing a kept p.last) (showing b false y)
-  aborted_when q a b x y w boxes true p e v k is = aborted_is q a b x y w boxes p v k is
-  aborted_when q a b x y w boxes false p e v k is = cc
+  pub aborted_when : (q : Abort) (a b : Standing (State M W)) (x y : State M W) (w : W) (boxes : ℕ) (kept : Bool)
+      (p : IsPass fits a w boxes kept) → kept ≡ true → q.by ≡ a.number → Visit a b x y → Kept a.number x y
+      → y ≡ record x { aborted = abort_of x.aborted q } → MadeAbort fits q (showing a kept p.last) (showing b false y)
+  aborted_when q a b x y w boxes true p e by v k is = aborted_is q a b x y w boxes p by v k is
+  aborted_when q a b x y w boxes false p e by v k is = cc
 
   pub again_when : (q : Abort) (a : Standing (State M W)) (w : W) (boxes : ℕ) (kept : Bool) (p : IsPass fits a w boxes kept) → kept ≡ false → MadeAbort fits q (showing a kept p.last) (showing a kept p.last)
   again_when q a w boxes true p e = cc

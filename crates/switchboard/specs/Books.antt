@@ -9,7 +9,7 @@ use Rattle.switchboard.specs.declared.calls.PostFault.{PostFault}
 use Rattle.switchboard.specs.declared.calls.PostFault.TheVariants as fault
 use Rattle.switchboard.specs.declared.calls.Taken.{Taken}
 use Rattle.switchboard.specs.declared.calls.Taken.TheVariants as answer
-use Rattle.switchboard.specs.Sights.{State}
+use Rattle.switchboard.specs.Sights.{State, AllTaken}
 
 -- What a book keeps: its order is lawful, each history is the order's part for its mailbox, its numbers are those of the Posts and the
 -- Dones, and there is room for the Take and the Done that each Post still owes.
@@ -37,7 +37,7 @@ module _ {M W : Type 0} where
   -- closed, where the order is; aborted, where it is not and the board is; else the oldest message, or that every one is taken
   abbrev pub Answers : ℕ → Taken M → State M W → State M W → Type 0
   Answers by (answer.Message job m) s t = Takes by job m s t
-  Answers by answer.Empty s t = (t ≡ s) × (IsClosed s.order → ⊥) × (s.aborted ≡ None) × (length (posts (part by s.order)) ≡ length (takes (part by s.order)))
+  Answers by answer.Empty s t = (t ≡ s) × (IsClosed s.order → ⊥) × (s.aborted ≡ None) × AllTaken by s.order
   Answers by answer.Closed s t = (t ≡ s) × IsClosed s.order
   Answers by answer.Aborted s t = (t ≡ s) × (IsClosed s.order → ⊥) × IsSome s.aborted
 

@@ -3,7 +3,7 @@ use Rattle.std.specs.Prelude.{◌≡◌, ℕ, ◌-◌, ◌<◌, ◌≤◌, ◌==
 use Rattle.ticket_lock.specs.Lanes.{Standing, Told}
 use Rattle.ticket_lock.specs.History.{EndsIn}
 use Rattle.post_ledger.specs.declared.entry.Entry.{Entry}
-use Rattle.post_ledger.specs.Orders.{own}
+use Rattle.post_ledger.specs.Orders.{own, posted, completed}
 use Rattle.switchboard.specs.declared.calls.Abort.{Abort}
 use Rattle.switchboard.specs.Sights.{State, Sight, Account, Before, IsSound}
 
@@ -22,24 +22,34 @@ latest f d (x ∷ y ∷ ys) = latest f d (y ∷ ys)
 abbrev pub calls_of : Bool → ℕ → ℕ
 calls_of kept left = if kept then left - 1 else left
 
+-- the order has as many Dones as Posts: where it is lawful, it is closed
+abbrev pub is_complete : {M : Type 0} → List (Entry M) → Bool
+is_complete order = posted order == completed order
+
 module _ {M W : Type 0} where
   -- a pass's own part of a state: its own list, and whether the abort is its own
   abbrev pub share : ℕ → State M W → List (Entry M) × Bool
   share p s = (own p s.order, is_by p s.aborted)
 
-  -- how contracts see a pass
+  -- how contracts see a pass, which knows the close where the order that it has seen is complete
   abbrev pub sight_of : Standing (State M W) → W → ℕ → Bool → Sight M W
   sight_of lane w boxes kept = record {
     board = lane.lock;
     number = lane.number;
     calls = calls_of kept lane.left;
     made = not kept;
+    knows = is_complete (latest (λ s. s.order) [] lane.seen);
     seen = record { world = w; boxes = boxes; order = latest (λ s. s.order) [] lane.seen; aborted = latest (λ s. s.aborted) None lane.seen };
   }
 
   -- how contracts see what a pass told
   abbrev pub account_of : Told (State M W) → Account M
-  account_of note = record { board = note.lock; order = latest (λ s. s.order) [] note.seen; aborted = latest (λ s. s.aborted) None note.seen }
+  account_of note = record {
+    board = note.lock;
+    knows = is_complete (latest (λ s. s.order) [] note.seen);
+    order = latest (λ s. s.order) [] note.seen;
+    aborted = latest (λ s. s.aborted) None note.seen;
+  }
 
   module _ (fits : W → ℕ → M → Type 0) where
     -- one state comes before another under the lock: the second goes on from the first, and is sound where the first is
@@ -64,3 +74,9 @@ module _ {M W : Type 0} where
       pub ticket : kept ≡ true → 0 < lane.left
       pub not_by : kept ≡ true → is_by lane.number left.aborted ≡ false
       pub knows : kept ≡ false → IsSome last.aborted
+
+    -- what the lane had seen last, which is sound, was told
+    pub record IsTold (note : Told (State M W)) : Type 0 where
+      pub last : State M W
+      pub ends : EndsIn note.seen last
+      pub sound : IsSound fits last

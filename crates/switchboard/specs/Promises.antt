@@ -1,19 +1,21 @@
 -- What the calls of a board promise.
-use Rattle.std.specs.Prelude.{◌≡◌, ◌⊎◌, ◌↔◌, ℕ, ◌+◌, Bool, true, false, IsTrue, IsSome, List, [], ◌∷◌, ◌++◌, Option, Some, None, Result, Ok, Err, length, slice_get}
+use Rattle.std.specs.Prelude.{◌≡◌, ◌≢◌, ◌⊎◌, ◌↔◌, ℕ, ◌+◌, Bool, true, false, IsTrue, IsSome, List, []}
+use Rattle.std.specs.Prelude.{◌∷◌, ◌++◌}
+use Rattle.std.specs.Prelude.{Some, None, Result, Ok, Err, length, slice_get}
 use Rattle.atomic_table.specs.Seated.{TableId}
 use Rattle.ticket_lock.specs.declared.lane.Spent.{Spent}
 use Rattle.ticket_lock.specs.History.{StartsWith}
 use Rattle.post_ledger.specs.declared.event.Event.{Event}
 use Rattle.post_ledger.specs.declared.entry.Entry.{Entry}
 use Rattle.post_ledger.specs.declared.entry.Entry.TheVariants.{Posted, Taken, Completed}
-use Rattle.post_ledger.specs.History.{posts, takes, TakesOldest}
+use Rattle.post_ledger.specs.History.{takes, TakesOldest}
 use Rattle.post_ledger.specs.Orders.{part, own, IsLawful, IsClosed}
 use Rattle.switchboard.specs.declared.calls.Abort.{Abort}
 use Rattle.switchboard.specs.declared.calls.PostFault.{PostFault}
 use Rattle.switchboard.specs.declared.calls.PostFault.TheVariants as fault
 use Rattle.switchboard.specs.declared.calls.Taken as answers
 use Rattle.switchboard.specs.declared.calls.Taken.TheVariants as answer
-use Rattle.switchboard.specs.Sights.{Sight, Account, Before, abort_of, IsSound}
+use Rattle.switchboard.specs.Sights.{Sight, Account, Before, AllTaken, IsSound}
 
 module _ {M W : Type 0} where
   -- the pass has used up its calls, and nothing changed
@@ -51,14 +53,17 @@ IsStopped (fault.Aborted m) = Unit {0}
 IsStopped (fault.Memory m) = ⊥
 
 module _ {M W : Type 0} (fits : W → ℕ → M → Type 0) where
-  -- What each call keeps: the pass stays the same one, its order begins with all that it had seen, which is sound, and who made an abort
-  -- knows of one.
+  -- What each call keeps: the pass stays the same one, its order begins with all that it had seen, which is sound,
+  -- who made an
+  -- abort knows of one, who knows the close knows it from then on, and its order is closed.
   pub record GoesOn (s t : Sight M W) : Type 0 where
     pub board : t.board ≡ s.board
     pub number : t.number ≡ s.number
     pub before : Before s.seen t.seen
     pub sound : IsSound fits t.seen
-    pub knows : t.made ≡ true → IsSome t.seen.aborted
+    pub made : t.made ≡ true → IsSome t.seen.aborted
+    pub knows : s.knows ≡ true → t.knows ≡ true
+    pub close : t.knows ≡ true → IsClosed t.seen.order
 
   -- the call made no event: the own list stays
   pub record MadeNone (s t : Sight M W) : Type 0 where
@@ -99,34 +104,43 @@ module _ {M W : Type 0} (fits : W → ℕ → M → Type 0) where
     pub fit : fits s.seen.world s.number m
     pub alive : t.seen.aborted ≡ None
 
-  -- what a take answers: closed, where the order is; aborted, where it is not and the board is; else the oldest message, or that every one is taken
+  -- what a take answers: closed, where the pass knows the close; aborted, where it does not and the board is; else
+  -- the oldest message, or
+  -- that every one is taken
   abbrev pub Took : Result (answers.Taken M) Spent → Sight M W → Sight M W → Type 0
   Took (Err e) s t = WasSpent s t
   Took (Ok (answer.Message job m)) s t = TookMessage job m s t
-  Took (Ok answer.Empty) s t = Looked s t × (IsClosed t.seen.order → ⊥) × (t.seen.aborted ≡ None) × (length (posts (part s.number t.seen.order)) ≡ length (takes (part s.number t.seen.order)))
-  Took (Ok answer.Closed) s t = Looked s t × IsClosed t.seen.order
-  Took (Ok answer.Aborted) s t = Looked s t × (IsClosed t.seen.order → ⊥) × IsSome t.seen.aborted
+  Took (Ok answer.Empty) s t = Looked s t × (t.knows ≡ false) × (t.seen.aborted ≡ None) × AllTaken s.number t.seen.order
+  Took (Ok answer.Closed) s t = Looked s t × (t.knows ≡ true)
+  Took (Ok answer.Aborted) s t = Looked s t × (t.knows ≡ false) × IsSome t.seen.aborted
 
   -- the take of the job is completed
   abbrev pub WasDone : ℕ → Sight M W → Sight M W → Type 0
   WasDone job s t = Added (Completed s.number job) s t
 
-  -- the board is aborted by this pass, unless it was before; no call is used up, and the pass made no event. A second abort of the pass changes nothing
+  -- The board is aborted: by this pass for this cause, unless another pass aborted it before; no call is used up, and
+  -- the pass made no
+  -- event. A second abort of the pass changes nothing.
   pub record MadeAbort (a : Abort) (s t : Sight M W) : Type 0 where
     pub goes : GoesOn s t
     pub made : t.made ≡ true
     pub calls : t.calls ≡ s.calls
     pub own : own s.number t.seen.order ≡ own s.number s.seen.order
-    pub first : s.made ≡ false → (before : Option Abort) × (t.seen.aborted ≡ abort_of before a)
+    pub first : s.made ≡ false → (b : Abort) × (t.seen.aborted ≡ Some b) × ((b ≡ a) ⊎ (b.by ≢ s.number))
     pub again : s.made ≡ true → t ≡ s
 
-  -- the pass has seen what it had seen and what it was told, and no more
+  -- the pass has seen what it had seen and what it was told, and no more: the longer order, an abort that either
+  -- knew, and the close
+  -- where either knew it
   pub record Learned (told : Account M) (s t : Sight M W) : Type 0 where
     pub none : MadeNone s t
     pub calls : t.calls ≡ s.calls
     pub theirs : StartsWith t.seen.order told.order
+    pub longer : (t.seen.order ≡ s.seen.order) ⊎ (t.seen.order ≡ told.order)
     pub abort : (a : Abort) → told.aborted ≡ Some a → t.seen.aborted ≡ Some a
-    pub one : (t ≡ s) ⊎ ((t.seen.order ≡ told.order) × (t.seen.aborted ≡ told.aborted))
+    pub either : (t.seen.aborted ≡ s.seen.aborted) ⊎ (t.seen.aborted ≡ told.aborted)
+    pub close : told.knows ≡ true → t.knows ≡ true
+    pub known : t.knows ≡ true → (s.knows ≡ true) ⊎ (told.knows ≡ true)
 
   -- What is left of a board: one lawful order, which begins with each pass's order and has each pass's own list; its parts are the histories; it is closed where
   -- all its histories are, and where some pass knows the close; and the abort that some pass knows of was made by a pass.
@@ -139,5 +153,5 @@ module _ {M W : Type 0} (fits : W → ℕ → M → Type 0) where
     pub count : length histories ≡ boxes
     pub parts : (q : ℕ) (h : List (Event M)) → slice_get histories q ≡ Some h → h ≡ part q order
     pub close : IsTrue closed ↔ IsClosed order
-    pub known : (j : ℕ) (p : Sight M W) → slice_get passes j ≡ Some p → IsClosed p.seen.order → closed ≡ true
+    pub known : (j : ℕ) (p : Sight M W) → slice_get passes j ≡ Some p → p.knows ≡ true → closed ≡ true
     pub aborts : (j : ℕ) (p : Sight M W) (a : Abort) → slice_get passes j ≡ Some p → p.seen.aborted ≡ Some a → (q : Sight M W) × (slice_get passes a.by ≡ Some q) × (q.made ≡ true)

@@ -1,10 +1,12 @@
 -- What a board keeps, and what a pass has seen of it.
-use Rattle.std.specs.Prelude.{◌≡◌, ℕ, zero, suc, ◌-◌, ◌<◌, Bool, false, List, [], ◌∷◌, Option, Some, None, slice_get}
+use Rattle.std.specs.Prelude.{◌≡◌, ℕ, zero, suc, ◌-◌, ◌<◌, Bool, false, List, [], ◌∷◌, Option, Some, None, length}
+use Rattle.std.specs.Prelude.{slice_get}
 use Rattle.atomic_table.specs.Seated.{TableId}
 use Rattle.ticket_lock.specs.History.{StartsWith}
 use Rattle.post_ledger.specs.declared.entry.Entry.{Entry}
 use Rattle.post_ledger.specs.declared.entry.Entry.TheVariants.{Posted}
-use Rattle.post_ledger.specs.Orders.{IsLawful}
+use Rattle.post_ledger.specs.History.{posts, takes}
+use Rattle.post_ledger.specs.Orders.{part, IsLawful}
 use Rattle.switchboard.specs.declared.calls.Abort.{Abort}
 
 -- the world of its messages, the number of its mailboxes, the order of its events, and its first abort, if there was one
@@ -14,17 +16,20 @@ pub record State (M W : Type 0) : Type 0 where
   pub order : List (Entry M)
   pub aborted : Option Abort
 
--- a pass: its board and its number, how many calls it has left, whether it made an abort, and the state of the board as it has seen it
+-- a pass: its board and its number, how many calls it has left, whether it made an abort, whether it knows the close,
+-- and the state of the board as it has seen it
 pub record Sight (M W : Type 0) : Type 0 where
   pub board : TableId
   pub number : ℕ
   pub calls : ℕ
   pub made : Bool
+  pub knows : Bool
   pub seen : State M W
 
--- what a pass told: its board, and the order and the abort that it had seen
+-- what a pass told: its board, whether it knew the close, and the order and the abort that it had seen
 pub record Account (M : Type 0) : Type 0 where
   pub board : TableId
+  pub knows : Bool
   pub order : List (Entry M)
   pub aborted : Option Abort
 
@@ -32,6 +37,10 @@ pub record Account (M : Type 0) : Type 0 where
 abbrev pub abort_of : Option Abort → Abort → Option Abort
 abort_of None a = Some a
 abort_of (Some b) a = Some b
+
+-- every message that was posted to the mailbox is taken
+abbrev pub AllTaken : {M : Type 0} → ℕ → List (Entry M) → Type 0
+AllTaken q order = length (posts (part q order)) ≡ length (takes (part q order))
 
 module _ {M W : Type 0} where
   -- a board on which nothing but the opening post was made
@@ -47,11 +56,12 @@ module _ {M W : Type 0} where
 
   -- what a pass tells of what it has seen
   abbrev pub told_by : Sight M W → Account M
-  told_by s = record { board = s.board; order = s.seen.order; aborted = s.seen.aborted }
+  told_by s = record { board = s.board; knows = s.knows; order = s.seen.order; aborted = s.seen.aborted }
 
   -- a pass that has seen the opening post alone
   abbrev pub fresh_sight : TableId → ℕ → State M W → ℕ → Sight M W
-  fresh_sight id budget s number = record { board = id; number = number; calls = budget - 1; made = false; seen = s }
+  fresh_sight id budget s number = record { board = id; number = number; calls = budget - 1; made = false; knows =
+      false; seen = s }
 
   -- so many passes, numbered from `first` on
   abbrev pub fresh_sights : TableId → ℕ → State M W → ℕ → ℕ → List (Sight M W)

@@ -16,7 +16,7 @@ use ticket_lock::Spent;
 
 /// Mailboxes with a pass each, numbered alike: pass i alone takes from mailbox i, and is the sender of what it posts. Every call stands at one
 /// order of the board's events, of which its pass has seen a beginning.
-pub trait Board<M: Mail, A: Allocator>: Sized {
+pub trait Board<M: Mail<W>, W, A: Allocator>: Sized {
     /// What one thread at a time works with.
     type Pass;
 
@@ -27,14 +27,14 @@ pub trait Board<M: Mail, A: Allocator>: Sized {
 
     ghost mailboxes: { Self → ℕ };
 
-    ghost sight: { Self.Pass → Sight M M.World };
+    ghost sight: { Self.Pass → Sight M W };
 
     ghost account: { Self.Told → Account M };
 
     /// A board of 1 to 64 mailboxes, with the opening post in one of them, and its passes in the order of their numbers.
     fn open(
         alloc: A,
-        world: &M::World,
+        world: &W,
         boxes: u8,
         to: u8,
         first: M,
@@ -49,7 +49,7 @@ pub trait Board<M: Mail, A: Allocator>: Sized {
     /// The same, where each pass has fewer calls: one fewer than `budget`, from 2 to 2^56.
     fn open_with_budget(
         alloc: A,
-        world: &M::World,
+        world: &W,
         boxes: u8,
         to: u8,
         first: M,

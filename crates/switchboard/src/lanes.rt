@@ -8,22 +8,22 @@ use ticket_lock::Lane;
 
 /// The lanes of passes, in their order.
 #[derive(Drop)]
-pub(crate) struct Lanes<M: Mail, A: Allocator> {
-    pub(crate) passes: IntoIter<OnePass<M, A>, A>,
+pub(crate) struct Lanes<M: Mail<W>, W, A: Allocator> {
+    pub(crate) passes: IntoIter<OnePass<M, W, A>, A>,
 }
 
-impl<M: Mail, A: Allocator> Iterator for Lanes<M, A> {
+impl<M: Mail<W>, W, A: Allocator> Iterator for Lanes<M, W, A> {
     ghost use Rattle.std.specs.Iterator.{at_most};
     ghost use Rattle.std.specs.Vec.Iter.{into_iter_len};
     ghost use Rattle.switchboard.specs.Unwraps.{Unwraps};
 
-    type Item = Lane<Book<M, M::World, A>>;
+    type Item = Lane<Book<M, W, A>>;
 
     ghost next_gives = { λ s r t. Unwraps M.fits s.passes r t.passes };
 
     ghost remaining = { λ s. at_most (into_iter_len s.passes) };
 
-    fn next(&mut self) -> Option<Lane<Book<M, M::World, A>>> {
+    fn next(&mut self) -> Option<Lane<Book<M, W, A>>> {
         let pass = self.passes.next()?;
         let OnePass {
             lane,

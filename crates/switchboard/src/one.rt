@@ -20,13 +20,13 @@ use ticket_lock::{MOST_TICKETS, Spent, TicketLock};
 
 /// All mailboxes, the counts and the abort behind one ticket lock.
 #[derive(Drop)]
-pub struct OneLock<M: Mail, A: Allocator> {
-    lock: TicketLock<Book<M, M::World, A>, A>,
+pub struct OneLock<M: Mail<W>, W, A: Allocator> {
+    lock: TicketLock<Book<M, W, A>, A>,
     /// For the empty list that is left in the place of the passes.
     heap: A,
 }
 
-impl<M: Mail, A: Allocator> OnePass<M, A> {
+impl<M: Mail<W>, W, A: Allocator> OnePass<M, W, A> {
     // How many calls it has left.
     fn calls(&self) -> u64
         ensures { result ≡ self.now.calls }
@@ -45,15 +45,15 @@ impl<M: Mail, A: Allocator> OnePass<M, A> {
     }
 }
 
-impl<M: Mail, A: Allocator> OneLock<M, A> {
+impl<M: Mail<W>, W, A: Allocator> OneLock<M, W, A> {
     fn open_with_budget(
         alloc: A,
-        world: &M::World,
+        world: &W,
         boxes: u8,
         to: u8,
         first: M,
         budget: u64,
-    ) -> Result<(Self, Vec<OnePass<M, A>, A>), AllocError>
+    ) -> Result<(Self, Vec<OnePass<M, W, A>, A>), AllocError>
     where
         A: Clone,
         requires boxes { (to < boxes) × (boxes ≤ 64) }
@@ -82,7 +82,7 @@ impl<M: Mail, A: Allocator> OneLock<M, A> {
     fn post<R: Wait>(
         &self,
         rt: &R,
-        pass: &mut OnePass<M, A>,
+        pass: &mut OnePass<M, W, A>,
         job: &Job,
         to: u8,
         message: M,
@@ -105,7 +105,7 @@ impl<M: Mail, A: Allocator> OneLock<M, A> {
         answer
     }
 
-    fn take<R: Wait>(&self, rt: &R, pass: &mut OnePass<M, A>) -> Result<Taken<M>, Spent>
+    fn take<R: Wait>(&self, rt: &R, pass: &mut OnePass<M, W, A>) -> Result<Taken<M>, Spent>
         requires { pass.old.board ≡ self.now.lock.id }
         ensures { Took M.fits result pass.old pass.new }
     {
@@ -121,7 +121,12 @@ impl<M: Mail, A: Allocator> OneLock<M, A> {
         Ok(answer)
     }
 
-    fn done<R: Wait>(&self, rt: &R, pass: &mut OnePass<M, A>, job: Job) -> Result<(), (Job, Spent)>
+    fn done<R: Wait>(
+        &self,
+        rt: &R,
+        pass: &mut OnePass<M, W, A>,
+        job: Job,
+    ) -> Result<(), (Job, Spent)>
         requires board { pass.old.board ≡ self.now.lock.id }
         requires job { HasJob pass.old.number job pass.old.seen.order }
         ensures { MatchResult result (λ _. WasDone M.fits job pass.old pass.new)
@@ -139,7 +144,7 @@ impl<M: Mail, A: Allocator> OneLock<M, A> {
         Ok(())
     }
 
-    fn abort<R: Wait>(&self, rt: &R, pass: &mut OnePass<M, A>, job: Option<Job>, cause: Cause)
+    fn abort<R: Wait>(&self, rt: &R, pass: &mut OnePass<M, W, A>, job: Option<Job>, cause: Cause)
         requires { pass.old.board ≡ self.now.lock.id }
         ensures { MadeAbort M.fits (record { by = pass.old.number; cause = cause }) pass.old pass.new }
     {
@@ -158,7 +163,7 @@ impl<M: Mail, A: Allocator> OneLock<M, A> {
         self.lock.leave(&mut pass.lane, guard);
     }
 
-    fn tell(&self, pass: &mut OnePass<M, A>) -> OneTold<M, A>
+    fn tell(&self, pass: &mut OnePass<M, W, A>) -> OneTold<M, W, A>
         requires { pass.old.board ≡ self.now.lock.id }
         ensures same { pass.new ≡ pass.old }
         ensures told { result ≡ told_by pass.old }
@@ -168,7 +173,7 @@ impl<M: Mail, A: Allocator> OneLock<M, A> {
         }
     }
 
-    fn learn(&self, pass: &mut OnePass<M, A>, told: OneTold<M, A>)
+    fn learn(&self, pass: &mut OnePass<M, W, A>, told: OneTold<M, W, A>)
         requires { (pass.old.board ≡ self.now.lock.id) × (told.board ≡ self.now.lock.id) }
         ensures { Learned M.fits told pass.old pass.new }
     {
@@ -176,7 +181,7 @@ impl<M: Mail, A: Allocator> OneLock<M, A> {
         self.lock.learn(&mut pass.lane, note);
     }
 
-    fn into_ledger(self, passes: &mut Vec<OnePass<M, A>, A>) -> Ledger<M, A>
+    fn into_ledger(self, passes: &mut Vec<OnePass<M, W, A>, A>) -> Ledger<M, A>
         requires { AreAll self.lock.id self.lock.lanes passes.old.items }
         ensures empty { passes.new.items ≡ [] }
         ensures settles { Settles M.fits self.lock.lanes passes.old.items result.histories.items result.closed }
@@ -190,10 +195,10 @@ impl<M: Mail, A: Allocator> OneLock<M, A> {
     }
 }
 
-impl<M: Mail, A: Allocator> Board<M, A> for OneLock<M, A> {
-    type Pass = OnePass<M, A>;
+impl<M: Mail<W>, W, A: Allocator> Board<M, W, A> for OneLock<M, W, A> {
+    type Pass = OnePass<M, W, A>;
 
-    type Told = OneTold<M, A>;
+    type Told = OneTold<M, W, A>;
 
     ghost identity = { λ b. b.lock.id };
 
@@ -205,11 +210,11 @@ impl<M: Mail, A: Allocator> Board<M, A> for OneLock<M, A> {
 
     fn open(
         alloc: A,
-        world: &M::World,
+        world: &W,
         boxes: u8,
         to: u8,
         first: M,
-    ) -> Result<(Self, Vec<OnePass<M, A>, A>), AllocError>
+    ) -> Result<(Self, Vec<OnePass<M, W, A>, A>), AllocError>
     where
         A: Clone,
     {
@@ -218,12 +223,12 @@ impl<M: Mail, A: Allocator> Board<M, A> for OneLock<M, A> {
 
     fn open_with_budget(
         alloc: A,
-        world: &M::World,
+        world: &W,
         boxes: u8,
         to: u8,
         first: M,
         budget: u64,
-    ) -> Result<(Self, Vec<OnePass<M, A>, A>), AllocError>
+    ) -> Result<(Self, Vec<OnePass<M, W, A>, A>), AllocError>
     where
         A: Clone,
     {
@@ -233,7 +238,7 @@ impl<M: Mail, A: Allocator> Board<M, A> for OneLock<M, A> {
     fn post<R: Wait>(
         &self,
         rt: &R,
-        pass: &mut OnePass<M, A>,
+        pass: &mut OnePass<M, W, A>,
         job: &Job,
         to: u8,
         message: M,
@@ -241,32 +246,32 @@ impl<M: Mail, A: Allocator> Board<M, A> for OneLock<M, A> {
         OneLock::post(self, rt, pass, job, to, message)
     }
 
-    fn take<R: Wait>(&self, rt: &R, pass: &mut OnePass<M, A>) -> Result<Taken<M>, Spent> {
+    fn take<R: Wait>(&self, rt: &R, pass: &mut OnePass<M, W, A>) -> Result<Taken<M>, Spent> {
         OneLock::take(self, rt, pass)
     }
 
     fn done<R: Wait>(
         &self,
         rt: &R,
-        pass: &mut OnePass<M, A>,
+        pass: &mut OnePass<M, W, A>,
         job: Job,
     ) -> Result<(), (Job, Spent)> {
         OneLock::done(self, rt, pass, job)
     }
 
-    fn abort<R: Wait>(&self, rt: &R, pass: &mut OnePass<M, A>, job: Option<Job>, cause: Cause) {
+    fn abort<R: Wait>(&self, rt: &R, pass: &mut OnePass<M, W, A>, job: Option<Job>, cause: Cause) {
         OneLock::abort(self, rt, pass, job, cause)
     }
 
-    fn tell(&self, pass: &mut OnePass<M, A>) -> OneTold<M, A> {
+    fn tell(&self, pass: &mut OnePass<M, W, A>) -> OneTold<M, W, A> {
         OneLock::tell(self, pass)
     }
 
-    fn learn(&self, pass: &mut OnePass<M, A>, told: OneTold<M, A>) {
+    fn learn(&self, pass: &mut OnePass<M, W, A>, told: OneTold<M, W, A>) {
         OneLock::learn(self, pass, told)
     }
 
-    fn into_ledger(self, passes: &mut Vec<OnePass<M, A>, A>) -> Ledger<M, A>
+    fn into_ledger(self, passes: &mut Vec<OnePass<M, W, A>, A>) -> Ledger<M, A>
         requires { AreAll self.lock.id self.lock.lanes (map (λ p. p) passes.old.items) }
         ensures empty { passes.new.items ≡ [] }
         ensures settles { Settles M.fits self.lock.lanes (map (λ p. p) passes.old.items)

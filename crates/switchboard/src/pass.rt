@@ -9,7 +9,7 @@ use std::marker::Model;
 use ticket_lock::{Lane, LaneLaw, Note};
 
 // A state comes before those that go on from it. A pass's own part is what it made itself.
-impl<W, M: Mail<World = W>, A: Allocator> LaneLaw for Book<M, W, A> {
+impl<W, M: Mail<W>, A: Allocator> LaneLaw for Book<M, W, A> {
     ghost use Rattle.switchboard.specs.Passes.{share, Comes};
     ghost use Rattle.switchboard.specs.Laws.{comes_refl, comes_trans};
 
@@ -26,19 +26,19 @@ impl<W, M: Mail<World = W>, A: Allocator> LaneLaw for Book<M, W, A> {
 
 /// A pass of a board behind one lock. Contracts see it as a `Sight`.
 #[derive(Drop)]
-pub struct OnePass<M: Mail, A: Allocator> {
-    pub(crate) lane: Lane<Book<M, M::World, A>>,
-    pub(crate) world: Shown<M::World>,
+pub struct OnePass<M: Mail<W>, W, A: Allocator> {
+    pub(crate) lane: Lane<Book<M, W, A>>,
+    pub(crate) world: Shown<W>,
     pub(crate) boxes: u8,
     /// Whether the ticket of the first abort is still kept.
     pub(crate) kept: bool,
 }
 
-impl<M: Mail, A: Allocator> Model for OnePass<M, A> {
+impl<M: Mail<W>, W, A: Allocator> Model for OnePass<M, W, A> {
     ghost use Rattle.switchboard.specs.Sights.{Sight};
     ghost use Rattle.switchboard.specs.Passes.{sight_of, IsPass};
 
-    ghost Value = { Sight M M.World };
+    ghost Value = { Sight M W };
 
     ghost view = { λ p. sight_of p.lane p.world.value p.boxes p.kept };
 
@@ -47,18 +47,17 @@ impl<M: Mail, A: Allocator> Model for OnePass<M, A> {
 
 /// What a pass had seen. Contracts see it as an `Account`.
 #[derive(Drop)]
-pub struct OneTold<M: Mail, A: Allocator> {
-    pub(crate) note: Note<Book<M, M::World, A>>,
+pub struct OneTold<M: Mail<W>, W, A: Allocator> {
+    pub(crate) note: Note<Book<M, W, A>>,
 }
 
-impl<M: Mail, A: Allocator> Model for OneTold<M, A> {
-    ghost use Rattle.std.specs.Prelude.{◌<◌, length};
+impl<M: Mail<W>, W, A: Allocator> Model for OneTold<M, W, A> {
     ghost use Rattle.switchboard.specs.Sights.{Account};
-    ghost use Rattle.switchboard.specs.Passes.{account_of};
+    ghost use Rattle.switchboard.specs.Passes.{account_of, IsTold};
 
     ghost Value = { Account M };
 
     ghost view = { λ t. account_of t.note };
 
-    ghost invariant = { λ t. 0 < length t.note.seen };
+    ghost invariant = { λ t. IsTold M.fits t.note };
 }

@@ -8,7 +8,7 @@ use Rattle.flow_graph.proofs.table.read.Goals as goal
 pub returns-then-slot-len-clause-outputs : goal.returns-then-slot-len-clause-outputs
 returns-then-slot-len-clause-outputs c =
     let at : slot c.args.bit c.args.inputs.now.items ≡ c.slot_of-slot.result = sym (c.slot_of-slot.ensures ∙ ap (slot c.args.bit) c.as_slice.ensures.value) in
-    reads_slot c.args.bit c.outputs_of_slot.result c.slot_of-slot.result c.args.inputs.now.items at
+    reads_slot c.args.bit c.slot_of-slot.result c.outputs_of_slot.result c.args.inputs.now.items at
     (slot_inside c.args.bit c.args.inputs.now.items (omega (arith, at, c.if-slot-len.true, c.len.ensures.value)))
     c.outputs_of_slot.ensures
 
@@ -25,5 +25,5 @@ returns-in-Ok-clause-outputs c =
     let xs = c.args.inputs.now.items in
     let last = slot_last c.args.bit xs in
     subst (λ l. Tabulates l c.outputs_of_slot-in-Ok.result (var c.args.bit)) (sym c.in-Ok.ensures.ok)
-    (reads_slot c.args.bit c.outputs_of_slot-in-Ok.result c.slot_of-slot.result (xs ++ (c.args.bit ∷ []))
+    (reads_slot c.args.bit c.slot_of-slot.result c.outputs_of_slot-in-Ok.result (xs ++ (c.args.bit ∷ []))
     (last.0 ∙ sym (c.slot_of-slot.ensures ∙ ap (slot c.args.bit) c.as_slice.ensures.value)) last.1 c.outputs_of_slot-in-Ok.ensures)

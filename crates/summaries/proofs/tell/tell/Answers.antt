@@ -1,4 +1,4 @@
-use Rattle.std.proofs.Common.{◌≡◌, ℕ, sym, ap, ◌∙◌}
+use Rattle.std.proofs.Common.{◌≡◌, ℕ, refl, sym, ap, ◌∙◌}
 use Rattle.summaries.specs.declared.due.Caller.{Caller}
 use Rattle.summaries.specs.declared.due.Caller.TheVariants.{Proc}
 use Rattle.summaries.specs.declared.due.Due.TheVariants.{Summary}
@@ -19,11 +19,16 @@ number c to e = ap the e
 pub returns-in_ok-give-clause-ok : goal.returns-in_ok-give-clause-ok
 returns-in_ok-give-clause-ok g c =
     let told = mail c.in-Proc.to (Summary c.args.p c.args.a c.args.b) in
-    let one = gives_one told c.args.given.now.mails.keys c.give.new.self.mails.keys c.in_ok-give.field-0 c.in_ok-give.ensures.new c.in_ok-give.ensures.known c.in_ok-give.ensures.same in
-    gives_as (λ x. x ≡ told) (IsTold c.args.p c.args.a c.args.b c.args.caller) c.args.given.now.mails.keys c.give.new.self.mails.keys
+    let one = gives_one told c.args.given.now.mails.items c.give.new.self.mails.items c.in_ok-give.ensures.ok in
+    gives_as (λ x. x ≡ told)
+        (IsTold c.args.p c.args.a c.args.b c.args.caller) c.args.given.now.mails.items c.give.new.self.mails.items
     (λ x e. (c.in-Proc.to, c.in-Proc.is, e))
     (λ x w. w.2 ∙ ap (λ to. mail to (Summary c.args.p c.args.a c.args.b)) (number w.0 c.in-Proc.to (sym w.1 ∙ c.in-Proc.is)))
     one
 
 pub returns-in_ok-give-clause-only : goal.returns-in_ok-give-clause-only
 returns-in_ok-give-clause-only g c = (returns-in_ok-give-clause-ok g c).only
+
+pub give-requires : goal.give-requires
+give-requires g c =
+    c.requires (mail c.in-Proc.to (Summary c.args.p c.args.a c.args.b)) (c.in-Proc.to, c.in-Proc.is, refl)

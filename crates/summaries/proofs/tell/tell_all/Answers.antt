@@ -3,15 +3,25 @@ use Rattle.summaries.specs.declared.due.Caller.TheVariants.{Starter}
 use Rattle.summaries.specs.Grows.{Gives, Each, IsTold}
 use Rattle.summaries.proofs.Firsts.{take_more}
 use Rattle.summaries.proofs.Eaches.{each_first, each_until}
-use Rattle.summaries.proofs.Telling.{gives_more}
+use Rattle.summaries.proofs.Telling.{gives_more, still_new, one_caller}
 use Rattle.summaries.proofs.tell.tell_all.Goals as goal
+
+pub tell-requires : goal.tell-requires
+tell-requires g c =
+    still_new (IsTold c.args.p c.args.a c.args.b) (one_caller c.args.p c.args.a c.args.b) c.args.callers.now
+    c.loop-caller.caller-index Starter c.loop-caller-test.true c.requires.once c.args.given.now.mails.items
+    c.loop-caller.given.mails.items c.requires.new c.loop-caller.invariant.0
 
 pub loop-caller-preserved : goal.loop-caller-preserved
 loop-caller-preserved g c =
     let xs = c.args.callers.now in
     let i = c.loop-caller.caller-index in
-    let more = gives_more (IsTold c.args.p c.args.a c.args.b) (take i xs) _ c.args.given.now.mails.keys c.loop-caller.given.mails.keys c.tell.new.given.mails.keys c.loop-caller.invariant.0 c.in_ok-tell.ensures.ok in (
-      subst (λ l. Gives (Each (IsTold c.args.p c.args.a c.args.b) l) c.args.given.now.mails.keys c.tell.new.given.mails.keys) (sym (take_more xs i Starter c.loop-caller-test.true)) more,
+    let more = gives_more (IsTold c.args.p c.args.a c.args.b)
+        (take i xs) _ c.args.given.now.mails.items c.loop-caller.given.mails.items c.tell.new.given.mails.items
+            c.loop-caller.invariant.0 c.in_ok-tell.ensures.ok in (
+      subst (λ l. Gives
+          (Each (IsTold c.args.p c.args.a c.args.b) l) c.args.given.now.mails.items c.tell.new.given.mails.items)
+          (sym (take_more xs i Starter c.loop-caller-test.true)) more,
       c.in_ok-tell.ensures.answered ∙ c.loop-caller.invariant.1,
     )
 

@@ -3,15 +3,25 @@ use Rattle.std.proofs.Math.Seq.{take-length}
 use Rattle.summaries.specs.Grows.{Gives, Each, IsTold}
 use Rattle.summaries.proofs.Firsts.{take_more}
 use Rattle.summaries.proofs.Eaches.{each_first, each_until}
-use Rattle.summaries.proofs.Telling.{gives_more}
+use Rattle.summaries.proofs.Telling.{gives_more, still_new, one_left}
 use Rattle.summaries.proofs.tell.tell_exits.Goals as goal
+
+pub tell-requires : goal.tell-requires
+tell-requires g c =
+    still_new (λ b. IsTold c.args.p c.args.a b c.args.caller) (one_left c.args.p c.args.a c.args.caller)
+    c.args.exits.now c.loop-b.b-index 0 c.loop-b-test.true c.requires.once c.args.given.now.mails.items
+    c.loop-b.given.mails.items c.requires.new c.loop-b.invariant.0
 
 pub loop-b-preserved : goal.loop-b-preserved
 loop-b-preserved g c =
     let xs = c.args.exits.now in
     let i = c.loop-b.b-index in
-    let more = gives_more (λ b. IsTold c.args.p c.args.a b c.args.caller) (take i xs) _ c.args.given.now.mails.keys c.loop-b.given.mails.keys c.tell.new.given.mails.keys c.loop-b.invariant.0 c.in_ok-tell.ensures.ok in (
-      subst (λ l. Gives (Each (λ b. IsTold c.args.p c.args.a b c.args.caller) l) c.args.given.now.mails.keys c.tell.new.given.mails.keys) (sym (take_more xs i 0 c.loop-b-test.true)) more,
+    let more = gives_more (λ b. IsTold c.args.p c.args.a b c.args.caller)
+        (take i xs) _ c.args.given.now.mails.items c.loop-b.given.mails.items c.tell.new.given.mails.items
+            c.loop-b.invariant.0 c.in_ok-tell.ensures.ok in (
+      subst (λ l. Gives
+          (Each (λ b. IsTold c.args.p c.args.a b c.args.caller) l) c.args.given.now.mails.items
+              c.tell.new.given.mails.items) (sym (take_more xs i 0 c.loop-b-test.true)) more,
       c.in_ok-tell.ensures.answered ∙ c.loop-b.invariant.1,
     )
 
@@ -33,4 +43,6 @@ pub returns-clause-ok : goal.returns-clause-ok
 returns-clause-ok g c =
     let xs = c.args.exits.now in
     let end : c.loop-b.b-index ≡ length xs = omega (arith, c.loop-b-test.false, c.loop-b.auto.b-index-end) in
-    subst (λ l. Gives (Each (λ b. IsTold c.args.p c.args.a b c.args.caller) l) c.args.given.now.mails.keys c.loop-b.given.mails.keys) (ap (λ n. take n xs) end ∙ take-length xs) c.loop-b.invariant.0
+    subst (λ l. Gives
+        (Each (λ b. IsTold c.args.p c.args.a b c.args.caller) l) c.args.given.now.mails.items
+            c.loop-b.given.mails.items) (ap (λ n. take n xs) end ∙ take-length xs) c.loop-b.invariant.0

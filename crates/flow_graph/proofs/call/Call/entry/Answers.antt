@@ -4,9 +4,23 @@ use Rattle.std.proofs.Common.{◌∷◌, ◌+◌, ◌∙◌, ◌<◌, ap, sym, d
 use Rattle.std.proofs.lemmas.List.{drop_more}
 use Rattle.flow_graph.specs.Bits.{worth_of}
 use Rattle.flow_graph.specs.Formulas.{says}
-use Rattle.flow_graph.proofs.Calls.{argument_step}
+use Rattle.flow_graph.proofs.Calls.{argument_step, entry_fits}
 use Rattle.flow_graph.proofs.Stacks.{byte_worth}
 use Rattle.flow_graph.proofs.call.Call.entry.Goals as goal
+
+pub overflow_add-entry : goal.overflow_add-entry
+overflow_add-entry g c =
+    let bit : c.loop-argument.bit < most_places =
+    omega (
+      arith,
+      c.loop-argument.invariant.2,
+      c.loop-argument-test.true,
+      c.as_slice-argument-items.ensures.len,
+      c.args.self.now.fits,
+    ) in
+    let fits = entry_fits _ c.loop-argument.entry c.loop-argument.bit _
+        (byte_worth c.value.result) c.loop-argument.invariant.1 bit in
+    omega (arith, fits)
 
 pub loop-argument-preserved : goal.loop-argument-preserved
 loop-argument-preserved g c =

@@ -1,12 +1,17 @@
-use Rattle.std.proofs.Common.{◌∙◌, ◌++◌}
+use Rattle.std.proofs.Common.{◌∙◌, ◌++◌, IfSome, subst}
 use Rattle.syntax.specs.Trees.{expr_of}
 use Rattle.flow_graph.specs.Bits.{bit_of, coded}
-use Rattle.flow_graph.specs.Views.{scope_seen}
+use Rattle.flow_graph.specs.Formulas.{IsTableOf}
+use Rattle.flow_graph.specs.Views.{scope_seen, over_bits}
 use Rattle.flow_graph.proofs.Worths.{worth_is_value}
 use Rattle.flow_graph.proofs.scope.Scope.formula.Goals as goal
 
 pub returns-in-Some : goal.returns-in-Some
-returns-in-Some g c gs ls e = c.in-Some.ensures (coded (gs ++ ls)) ∙ worth_is_value (scope_seen c.args.self.now) gs ls (expr_of c.args.e.now) e
+returns-in-Some g c gs ls e =
+    let table =
+        subst (λ made. IfSome made
+        (λ t. IsTableOf t (over_bits c.args.self.now c.args.e.now))) c.in-Some.is c.in_ok-table.ensures in
+    table (coded (gs ++ ls)) ∙ worth_is_value (scope_seen c.args.self.now) gs ls (expr_of c.args.e.now) e
 
 pub returns-in_ok-postfix-in-None : goal.returns-in_ok-postfix-in-None
 returns-in_ok-postfix-in-None g c gs ls e =

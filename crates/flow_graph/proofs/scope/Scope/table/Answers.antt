@@ -1,6 +1,14 @@
+-- The words that are kept are those of the rows that the inputs have.
+use Rattle.std.proofs.Common.{◌^◌, ◌*◌, ◌≤◌, ◌∙◌, map, length, ap}
+use Rattle.flow_graph.specs.Bits.{bit_of, coded}
+use Rattle.flow_graph.specs.Tables.{word_rows, output}
 use Rattle.flow_graph.proofs.Rows.{looked_up}
-use Rattle.flow_graph.specs.Bits.{bit_of}
 use Rattle.flow_graph.proofs.scope.Scope.table.Goals as goal
 
 pub returns : goal.returns
-returns g c v = looked_up (bit_of v) c.outputs.new.inputs.items c.in_ok-outputs.outputs _ c.outputs.ensures.few c.in_ok-outputs.ensures.outputs
+returns g c v =
+    let xs = c.outputs.new.inputs.items in
+    let enough : 2 ^ length xs ≤ word_rows * c.words_for.result =
+        rw (← c.len.ensures.value) c.words_for.ensures.enough in
+    ap (λ ws. output ws (coded (map (bit_of v) xs))) c.in_ok-outputs.ensures
+    ∙ looked_up (bit_of v) xs c.in-Some.all c.words_for.result _ c.outputs.ensures.few enough c.in-Some.ensures.outputs

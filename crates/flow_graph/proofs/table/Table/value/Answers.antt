@@ -1,6 +1,5 @@
--- Each input counts for its place, and the row is below 64.
-use Rattle.std.proofs.Common.{add-one, ap, ◌≡◌, ◌≤◌, ◌∙◌, ◌+◌, ◌/◌, ◌^◌, subst, drop, get_or, arith, pow-suc}
-use Rattle.std.proofs.Math.Pow.{pow_mono}
+-- Each input counts for its place, and there are ten inputs at most.
+use Rattle.std.proofs.Common.{add-one, ap, ◌≡◌, ◌∙◌, ◌+◌, ◌/◌, ◌^◌, subst, drop, get_or, arith, pow-suc}
 use Rattle.std.proofs.lemmas.Nat.Bits.{shr_and_one}
 use Rattle.std.specs.Int.RustNames.{bit_and}
 use Rattle.std.proofs.lemmas.List.{drop_more}
@@ -11,7 +10,7 @@ use Rattle.flow_graph.proofs.Rows.{row_step, below_next}
 use Rattle.flow_graph.proofs.table.Table.value.Goals as goal
 
 pub loop-input-preserved : goal.loop-input-preserved
-loop-input-preserved c =
+loop-input-preserved g c =
     let xs = c.as_slice-input-items.result.now in
     let next = drop_more xs c.loop-input.input-index 0 c.loop-input-test.true in
     let bits = subst AreBits next c.loop-input.invariant.3 in
@@ -22,8 +21,3 @@ loop-input-preserved c =
       omega (arith, c.loop-input.invariant.2, pow-suc 2 c.loop-input.input-index, ap (λ n. 2 ^ n) (add-one c.loop-input.input-index)),
       bits.1,
     )
-
-pub overflow_shr-result : goal.overflow_shr-result
-overflow_shr-result c =
-    let most : 2 ^ c.loop-input.input-index ≤ 2 ^ 6 = pow_mono {j = 6} (let few : c.loop-input.input-index ≤ 6 = omega (arith, c.loop-input.auto.input-index-end, c.as_slice-input-items.ensures.fits) in few) in
-    omega (arith, most, c.loop-input.invariant.1, c.loop-input.invariant.2)

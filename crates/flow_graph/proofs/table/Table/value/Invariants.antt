@@ -5,6 +5,6 @@ use Rattle.flow_graph.specs.Tables.{AreBits}
 use Rattle.flow_graph.proofs.table.Table.value.Given as goal
 
 abbrev pub invariant-loop-input : goal.invariant-loop-input
-invariant-loop-input l =
+invariant-loop-input g l =
     (l.row + l.place * coded (map (bit_of l.values) (drop l.input-index l.input-items)) ≡ coded (map (bit_of l.values) l.input-items))
     × (l.row < l.place) × (l.place ≡ 2 ^ l.input-index) × AreBits (drop l.input-index l.input-items)

@@ -5,6 +5,7 @@ use Rattle.language.specs.Flow.{Member}
 use Rattle.summaries.specs.Mails.{mail}
 use Rattle.summaries.specs.Dues.{due_of}
 use Rattle.summaries.specs.Found.{TookMessage}
+use Rattle.summaries.proofs.Quiet.{owed_sent}
 use Rattle.summaries.proofs.Stepping.{grown_to, same_step, still_grounded}
 use Rattle.summaries.proofs.Tabling.{same_keeps, next_sent}
 use Rattle.summaries.proofs.Worked.{answer_is}
@@ -37,7 +38,8 @@ returns-clause-some g c =
     (same_step self.graph.now self.procedure f h es refl c.next.ensures.given refl)
     (c.requires.table.holds c.requires.fault).0 in
     answer_is self new c.next.result c.next.ensures.some
-    (next_sent f c.next.result c.next.new.self.answered c.next.new.self.mails.keys c.next.ensures.given
+    (next_sent f c.next.result c.next.new.self.answered c.next.new.self.mails.items c.next.ensures.given
     c.next.ensures.some (Sends self.graph.now self.procedure (TookMessage h))
-    (λ s k m. sound.given s k (subst (Member (mail s (due_of k))) (sym c.next.ensures.given) m)))
+    (λ s k m. owed_sent self.graph.now self.procedure h es sound s k
+    (sound.given s k (subst (Member (mail s (due_of k))) (sym c.next.ensures.given) m))))
     c.next.ensures.new

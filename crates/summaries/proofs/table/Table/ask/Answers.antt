@@ -4,11 +4,13 @@ use Rattle.path_sets.specs.Triples.{Triple}
 use Rattle.flow_graph.specs.Flows.{entered_by}
 use Rattle.flow_graph.specs.declared.flow.Flow.TheVariants as flow
 use Rattle.language.specs.Flow.{Member}
+use Rattle.language.specs.Sequential.{caller}
+use Rattle.flow_graph.specs.Numbers.{numbered_entry}
 use Rattle.summaries.specs.Under.{under}
 use Rattle.summaries.specs.Found.{HasSite, call, call_eq, site}
 use Rattle.summaries.specs.Grows.{Grows, Each, IsBehind, triple_of}
 use Rattle.summaries.proofs.Asking.{asked_to, ask_step, ask_only, behind_reached, asked_site, taken_there}
-use Rattle.summaries.proofs.Eaches.{where_some}
+use Rattle.summaries.proofs.Eaches.{where_some, where_none}
 use Rattle.summaries.proofs.Mails.{answers_still}
 use Rattle.summaries.proofs.Stepping.{still_holds, all_reached}
 use Rattle.summaries.proofs.Worked.{refused_worked, added_worked}
@@ -37,12 +39,22 @@ known g c =
     c.go_on.new.pending.items) c.of.ensures
 
 -- where the call stands somewhere, its entry is given already
-pub give_unless-requires : goal.give_unless-requires
-give_unless-requires g c =
+pub give_unless-requires-clause-known : goal.give_unless-requires-clause-known
+give_unless-requires-clause-known g c =
     let self = c.args.self.now in
     let ys = under call_eq self.found.sites.by_key (call c.callee.result c.entry.result) in
     where_some ys c.in_ok-known.known c.in_ok-known.ensures.had
     (λ y m. c.requires.holds.1.asks c.callee.result c.entry.result y.asked y.point y.values m)
+
+-- where it stands nowhere, its entry is not given
+pub give_unless-requires-clause-new : goal.give_unless-requires-clause-new
+give_unless-requires-clause-new g c =
+    let self = c.args.self.now in
+    let ys = under call_eq self.found.sites.by_key (call c.callee.result c.entry.result) in
+    where_none ys c.in_ok-known.known c.in_ok-known.ensures.none
+    (λ none m.
+    let owed = c.requires.holds.0.given c.callee.result (numbered_entry (caller self.procedure) c.entry.result) m in
+    none owed.1.0 owed.1.1)
 
 pub returns-in_err-known-clause-worked : goal.returns-in_err-known-clause-worked
 returns-in_err-known-clause-worked g c =
@@ -93,7 +105,8 @@ returns-clause-worked g c =
     still_holds self.graph.now self.procedure f _ es ds step (λ t. t ≡ triple_of e) c.requires.holds)
     c.go_on.ensures.ok)
     (IfOk-weaker c.go_on.result _ _
-    (λ _ _. answers_still f.given.mails.keys c.give_unless.new.self.mails.keys f.given.answered c.give_unless.new.self.answered
+    (λ _ _. answers_still f.given.mails.items c.give_unless.new.self.mails.items f.given.answered
+        c.give_unless.new.self.answered
     f.given.within c.give_unless.ensures.answered c.in_ok-give_unless.ensures.ok.behind)
     c.go_on.ensures.ok)
     (record { graph = refl; procedure = refl; limit = refl }) refl

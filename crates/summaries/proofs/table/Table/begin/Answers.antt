@@ -1,13 +1,57 @@
-use Rattle.std.proofs.Common.{◌≡◌, Err, inl, inr, refl, sym, ap, ◌∙◌, subst}
-use Rattle.path_sets.specs.Triples.{triple}
+use Rattle.std.proofs.Common.{◌≡◌, nat_eq, Err, inl, inr, refl, sym, ap, ◌∙◌, subst}
+use Rattle.language.specs.Flow.{Member}
+use Rattle.path_sets.specs.Triples.{triple, NoneTwice}
+use Rattle.summaries.specs.Found.{TookDue}
+use Rattle.summaries.specs.Under.{under}
 use Rattle.summaries.specs.Grows.{Gives, Each, IsTold}
-use Rattle.summaries.proofs.Beginning.{begun_also, begin_only, begin_step, start_reached}
+use Rattle.summaries.proofs.Beginning.{begun_also, begin_only, begin_step, start_reached, none_told}
 use Rattle.summaries.proofs.Growing.{ok_err, grows_as, fault_of}
-use Rattle.summaries.proofs.Mails.{answers_still}
+use Rattle.summaries.proofs.Mails.{caller_known, caller_new, answers_still}
 use Rattle.summaries.proofs.Stepping.{grown_to, still_holds, all_reached, taken_as, has_more}
 use Rattle.summaries.proofs.Worked.{failed_worked, refused_worked}
+use Rattle.summaries.proofs.table.Table.begin.Given.{Over}
 use Rattle.summaries.proofs.table.Table.begin.Goals as goal
+use Rattle.summaries.proofs.table.Table.begin.Goals.{After-add}
 use Rattle.summaries.specs.Limits.{most_of}
+
+pub returns-then-contains-clause-worked : goal.returns-then-contains-clause-worked
+returns-then-contains-clause-worked g c = record {
+  holds = c.requires.holds;
+  edges = λ t m. c.requires.holds.0.edge t.entry t.point t.values m;
+  within = c.requires.within;
+  many = λ is. absurd (ok_err is);
+  answers = refl;
+  stays = record { graph = refl; procedure = refl; limit = refl };
+  fault = refl;
+}
+
+-- the caller has entered
+pub returns-then-contains-clause-taken : goal.returns-then-contains-clause-taken
+returns-then-contains-clause-taken g c = λ k. (
+  λ h. inr h,
+  λ w. elim w [
+    | inl is ↦ subst (TookDue c.args.self.now.found) (sym is)
+        (caller_known c.args.caller c.of.result.now (under nat_eq c.args.self.now.found.entries.by_key c.args.a)
+        c.of.ensures c.contains.result c.contains.ensures.value c.if-contains.true)
+    | inr was ↦ was
+  ],
+)
+
+-- the caller has not entered yet
+is_new : (g : Over) (c : After-add g) →
+    Member c.args.caller (under nat_eq c.args.self.now.found.entries.by_key c.args.a) → ⊥
+is_new g c =
+    caller_new c.args.caller c.of.result.now (under nat_eq c.args.self.now.found.entries.by_key c.args.a)
+    c.of.ensures c.contains.result c.contains.ensures.value c.if-contains.false
+
+pub tell_exits-requires : goal.tell_exits-requires
+tell_exits-requires g c =
+    let self = c.args.self.now in
+    record {
+      once = subst NoneTwice (sym c.of-2.ensures) (c.requires.holds.0.exits_once c.args.a);
+      new = none_told self.graph.now self.procedure self.found (g.S.PathSet.members self.edges)
+          c.requires.holds.0 c.args.a c.args.caller _ (is_new g (goal.at.tell_exits-requires g c).After-add);
+    }
 
 pub returns-in_err-add-clause-worked : goal.returns-in_err-add-clause-worked
 returns-in_err-add-clause-worked g c =
@@ -60,9 +104,13 @@ returns-clause-worked g c =
     let ds = g.S.PathSet.members c.reach.new.edges in
     let grown = grows_as (λ t. t ≡ triple a c.start.result a) (λ t. t ≡ triple a self.graph.now.start a) es ds f.pending.items c.reach.new.pending.items
     (λ t is. is ∙ ap (λ n. triple a n a) c.start.ensures) (λ t is. is ∙ ap (λ n. triple a n a) (sym c.start.ensures)) c.in_ok-reach.ensures.ok in
-    let gave = subst (λ bs. Gives (Each (λ b. IsTold self.procedure a b c.args.caller) bs) f.given.mails.keys c.tell_exits.new.given.mails.keys) c.of.ensures c.in_ok-tell_exits.ensures.ok in
+    let gave = subst
+        (λ bs. Gives
+        (Each (λ b. IsTold self.procedure a b c.args.caller) bs) f.given.mails.items
+            c.tell_exits.new.given.mails.items) c.of-2.ensures c.in_ok-tell_exits.ensures.ok in
     let step = begin_step self.graph.now self.procedure f c.add.new.self c.tell_exits.new.given c.reach.new.pending a
-    c.args.caller c.in_ok-add.ensures.added c.in_ok-add.ensures.others es ds c.requires.holds.0 grown gave in record {
+    c.args.caller c.in_ok-add.ensures.added c.in_ok-add.ensures.others es ds c.requires.holds.0
+    (is_new g (goal.at.returns-clause-worked g c).After-add) grown gave in record {
       holds =
           still_holds self.graph.now self.procedure f _ es ds step (λ t. ⊥) c.requires.holds;
       edges = begin_only self.graph.now self.procedure f c.add.new.self c.tell_exits.new.given c.reach.new.pending a
@@ -70,7 +118,7 @@ returns-clause-worked g c =
           (λ t m. elim (c.in_ok-reach.ensures.only t m) [ inl is ↦ inl (is ∙ ap (λ n. triple a n a) c.start.ensures) | inr was ↦ inr was ]);
       within = c.in_ok-reach.ensures.within;
       many = λ is. absurd (ok_err is);
-      answers = answers_still f.given.mails.keys c.tell_exits.new.given.mails.keys f.given.answered
+      answers = answers_still f.given.mails.items c.tell_exits.new.given.mails.items f.given.answered
           c.tell_exits.new.given.answered f.given.within c.in_ok-tell_exits.ensures.answered
           c.in_ok-tell_exits.ensures.ok.behind;
       stays = record { graph = refl; procedure = refl; limit = refl };

@@ -1,8 +1,9 @@
-use Rattle.std.proofs.Common.{length, refl, ap, subst, arith}
+use Rattle.std.proofs.Common.{length, refl, sym, ap, ◌∙◌, subst, arith}
 use Rattle.std.proofs.lemmas.Option.{none-some}
 use Rattle.language.specs.Flow.{Member}
 use Rattle.summaries.proofs.Mails.{answers_none}
 use Rattle.summaries.proofs.Stepping.{no_message, empty_grounded, empty_complete}
+use Rattle.summaries.proofs.Tabling.{quiet_table}
 use Rattle.summaries.proofs.table.Table.new.Goals as goal
 
 pub returns-clause-new : goal.returns-clause-new
@@ -19,6 +20,17 @@ returns-clause-new g c =
         many = λ is. absurd (none-some _ is);
       };
       nothing = no_message graph c.args.procedure found es empty none;
-      answered = answers_none found.given.mails.keys found.given.answered empty.given;
+      answered = answers_none found.given.mails.items found.given.answered empty.given;
       fault = refl;
     }
+
+pub returns-clause-quiet : goal.returns-clause-quiet
+returns-clause-quiet g c =
+    let graph = c.graph.result.now in
+    let found = c.new.result in
+    let es = g.S.PathSet.members c.empty.result in
+    let none = c.empty.ensures in
+    let empty = c.new.ensures in
+    quiet_table g.S.PathSet.members _ (empty_grounded graph c.args.procedure found es empty none)
+    (empty_complete graph c.args.procedure found es empty none) empty.pending
+    (answers_none found.given.mails.items found.given.answered empty.given ∙ sym empty.given)

@@ -11,18 +11,21 @@ returns-then-not-branch-clause-quiet g c =
     let held = step.keeps.table.holds step.keeps.fault in
     let none = subst (λ b. OnFalse b (t.found.pending.items ≡ [])) c.if-not-branch.true step.none in
     let given = subst (λ b. OnFalse b (t.found.given ≡ c.answer.new.self.found.given)) c.if-not-branch.true step.given in
-    quiet_table g.S.PathSet.members t held.0 held.1 none (subst (λ gv. take gv.answered gv.mails.keys ≡ gv.mails.keys) (sym given) c.in_default-answer.ensures.all)
+    quiet_table g.S.PathSet.members t held.0 held.1 none
+        (subst (λ gv. take gv.answered gv.mails.items ≡ gv.mails.items) (sym given) c.in_default-answer.ensures.all)
 
 pub returns-in-Some-clause-few : goal.returns-in-Some-clause-few
-returns-in-Some-clause-few g c = let gv = c.args.self.now.found.given in answers_few gv.mails.keys gv.answered (2 ^ 64) gv.within gv.few
+returns-in-Some-clause-few g c = let gv = c.args.self.now.found.given in answers_few gv.mails.items gv.answered
+    (2 ^ 64) gv.within gv.few
 
 pub returns-in-Some-answer-clause-few : goal.returns-in-Some-answer-clause-few
 returns-in-Some-answer-clause-few g c = let gv =
-    c.answer.new.self.found.given in answers_few gv.mails.keys gv.answered (2 ^ 64) gv.within gv.few
+    c.answer.new.self.found.given in answers_few gv.mails.items gv.answered (2 ^ 64) gv.within gv.few
 
 pub returns-in_err-step-clause-few : goal.returns-in_err-step-clause-few
-returns-in_err-step-clause-few g c = let gv = c.step.new.self.found.given in answers_few gv.mails.keys gv.answered (2 ^ 64) gv.within gv.few
+returns-in_err-step-clause-few g c = let gv = c.step.new.self.found.given in answers_few gv.mails.items gv.answered
+    (2 ^ 64) gv.within gv.few
 
 pub returns-then-not-branch-clause-few : goal.returns-then-not-branch-clause-few
 returns-then-not-branch-clause-few g c = let gv =
-    c.step.new.self.found.given in answers_few gv.mails.keys gv.answered (2 ^ 64) gv.within gv.few
+    c.step.new.self.found.given in answers_few gv.mails.items gv.answered (2 ^ 64) gv.within gv.few

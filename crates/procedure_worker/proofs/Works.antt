@@ -1,0 +1,623 @@
+-- What a worker knows after each call of its board and of its table.
+use Rattle.std.proofs.Common.{◌≡◌, ◌≢◌, ◌⊎◌, inl, inr, ℕ, ◌<◌, ◌∷◌, ◌++◌, [], List, Some, None, Ok, Err}
+use Rattle.std.proofs.Common.{length, slice_get}
+use Rattle.std.proofs.Common.{refl, sym, ap, ◌∙◌, subst, arith, true, false, MatchOption}
+use Rattle.std.specs.Prelude.{Option, Result, IsSome}
+use Rattle.std.specs.Option.{ForSome}
+use Rattle.atomic_table.specs.Seated.{TableId}
+use Rattle.std.proofs.lemmas.Option.{slice_get_within}
+use Rattle.std.proofs.lemmas.List.{map-append}
+use Rattle.post_ledger.specs.declared.entry.Entry.{Entry}
+use Rattle.post_ledger.specs.declared.entry.Entry.TheVariants.{Posted, Taken, Completed}
+use Rattle.post_ledger.specs.Orders.{own, HasJob}
+use Rattle.language.specs.Flow.{Member}
+use Rattle.language.specs.Step.{Program}
+use Rattle.language.proofs.Members.{member_left, member_right, member_append}
+use Rattle.language.proofs.Entering.{due_there}
+use Rattle.path_sets.specs.Triples.{Triple}
+use Rattle.flow_graph.specs.declared.graph.Graphs.{Graphs}
+use Rattle.flow_graph.specs.Drawn.{graphs_of}
+use Rattle.flow_graph.specs.Graphs.{IsGraph, AreDrawnFrom}
+use Rattle.summaries.specs.declared.due.Due.{Due}
+use Rattle.summaries.specs.declared.table.Table.{Table}
+use Rattle.summaries.specs.declared.table_fault.TableFault.{TableFault}
+use Rattle.summaries.specs.declared.table_fault.TableFault.TheVariants as fault
+use Rattle.summaries.specs.Limits.{most_of}
+use Rattle.summaries.specs.Mails.{mail}
+use Rattle.summaries.specs.Dues.{due_of}
+use Rattle.summaries.specs.Fitting.{IsDueFor, FitsIn}
+use Rattle.summaries.specs.Found.{TookMessage}
+use Rattle.summaries.specs.Tables.{graph_of, procedure_of, limit_of, answers_of, failure, IsNew, IsQuiet, IsAnswer}
+use Rattle.summaries.specs.Tables.{Takes, Keeps}
+use Rattle.summaries.specs.Tabulated.{HasMoreEdges}
+use Rattle.summaries.specs.Together.{IsTableOf}
+use Rattle.summaries.proofs.Tabled.{over_limit, answer_due}
+use Rattle.summaries.proofs.Steps.{number_of_due}
+use Rattle.summaries.proofs.Sweeping.{same_taken, same_taken_back}
+use Rattle.switchboard.specs.declared.calls.Abort.{Abort}
+use Rattle.switchboard.specs.declared.calls.Cause.{Cause}
+use Rattle.switchboard.specs.declared.calls.Cause.TheVariants as cause
+use Rattle.switchboard.specs.Sights.{Sight, opened, fresh_sight}
+use Rattle.switchboard.proofs.Opening.{sound_open}
+use Rattle.post_ledger.proofs.Orders.{own_else}
+use Rattle.summaries.specs.declared.edge_limit.EdgeLimit.{EdgeLimit}
+use Rattle.procedure_worker.specs.Works.{begun}
+use Rattle.switchboard.specs.Promises.{GoesOn, MadeNone, Added, WasSpent, WasPosted, WasDone, MadeAbort}
+use Rattle.switchboard.specs.Promises as promises
+use Rattle.switchboard.proofs.Jobs.{kept_none, kept_added, job_new, no_done_post}
+use Rattle.procedure_worker.specs.declared.outcome.End.{End}
+use Rattle.procedure_worker.specs.declared.outcome.End.TheVariants as end
+use Rattle.procedure_worker.specs.declared.worker.Stop.{Stop}
+use Rattle.procedure_worker.specs.declared.worker.Stop.TheVariants as stop
+use Rattle.procedure_worker.specs.declared.worker.Worker.{Worker}
+use Rattle.procedure_worker.specs.Own.{taken_in, posted_in}
+use Rattle.procedure_worker.specs.Works.{Start, IsPassOf, IsFresh, HasStood, HasFailed, Stands, HasSent}
+use Rattle.procedure_worker.specs.Works.{EndsSo, IsReady, IsTaking, IsDealing, IsSending, IsStopped, HasStopped}
+use Rattle.procedure_worker.specs.Works.{Failed, Completes, StopsSo, StoppedFor, mails_of, cause_for}
+use Rattle.procedure_worker.proofs.Lists.{taken_post, taken_take, taken_done, posted_post, posted_take, posted_done}
+
+-- what a worker began with, by what its pass and its table show
+abbrev pub own_start : {G A S : Type 0} → Sight Due (Graphs G) → Worker G A S → TableId → Start G
+own_start s w board = record { graphs = s.seen.world; number = w.number; limit = limit_of w.table; board = board }
+
+module _ {G : Type 0} (b : Start G) where
+  pass_on : (s t : Sight Due (Graphs G)) → IsPassOf b s → GoesOn FitsIn s t → IsPassOf b t
+  pass_on s t p g = record {
+    drawn = p.drawn;
+    board = g.board ∙ p.board;
+    number = g.number ∙ p.number;
+    sound = g.sound;
+    world = g.before.world ∙ p.world;
+    boxes = g.before.boxes ∙ p.boxes;
+  }
+
+  -- the pass's jobs by the number of the procedure
+  pub job_to_pass : (s : Sight Due (Graphs G)) (job : ℕ) → IsPassOf b s → HasJob b.number job s.seen.order
+      → HasJob s.number job s.seen.order
+  job_to_pass s job p has = subst (λ n. HasJob n job s.seen.order) (sym p.number) has
+
+  job_of_pass : (s : Sight Due (Graphs G)) (job : ℕ) → IsPassOf b s → HasJob s.number job s.seen.order
+      → HasJob b.number job s.seen.order
+  job_of_pass s job p has = subst (λ n. HasJob n job s.seen.order) p.number has
+
+  own_none : (s t : Sight Due (Graphs G)) → IsPassOf b s → MadeNone FitsIn s t
+      → own b.number t.seen.order ≡ own b.number s.seen.order
+  own_none s t p m = subst (λ n. own n t.seen.order ≡ own n s.seen.order) p.number m.own
+
+  own_added : (e : Entry Due) (s t : Sight Due (Graphs G)) → IsPassOf b s → Added FitsIn e s t →
+      own b.number t.seen.order ≡ own b.number s.seen.order ++ e ∷ []
+  own_added e s t p a = subst (λ n. own n t.seen.order ≡ own n s.seen.order ++ e ∷ []) p.number a.own
+
+  stood_on : (c : Cause) (s t : Sight Due (Graphs G)) → t.calls ≡ s.calls → HasStood b c s → HasStood b c t
+  stood_on cause.Memory s t same stood = stood
+  stood_on cause.EdgeLimit s t same stood = stood
+  stood_on cause.NoWorker s t same stood = stood
+  stood_on cause.Spent s t same stood = same ∙ stood
+
+  has_failed : (c : Cause) (s t : Sight Due (Graphs G)) → IsPassOf b s → s.made ≡ false → HasStood b c s →
+      MadeAbort FitsIn (record { by = s.number; cause = c }) s t → HasFailed b c t
+  has_failed c s t p made stood m =
+      let f = m.first made in record {
+        made = m.made;
+        abort = f.0;
+        kept = f.1;
+        first = subst (λ n. (f.0 ≡ record { by = n; cause = c }) ⊎ (f.0.by ≢ n)) p.number f.2;
+        stood = stood_on c s t m.calls stood;
+      }
+
+  -- a message that is due has its mailbox
+  receiver_there : (s : Sight Due (Graphs G)) (to : ℕ) (d : Due) (k : IsPassOf b s) → IsDueFor k.drawn.0 to d
+      → to < s.seen.boxes
+  receiver_there s to d k due =
+      let program = k.drawn.0 in
+      let (i, is) = number_of_due d in
+      let (m, is_due, e) = due i is in
+      let (routine, there) = due_there program to m is_due in
+      let below : to < length program.routines = slice_get_within program.routines to routine there in
+      omega (arith, below, k.boxes, k.drawn.1.2.0)
+
+  -- The job goes on where no event was made.
+  job_none : (job : ℕ) (s t : Sight Due (Graphs G)) → IsPassOf b s → MadeNone FitsIn s t
+      → HasJob b.number job s.seen.order →
+      HasJob b.number job t.seen.order
+  job_none job s t p m has =
+      job_of_pass t job (pass_on s t p m.goes) (kept_none FitsIn s t job m (job_to_pass s job p has))
+
+  -- a message that fits the procedure is due for it in each program of the graphs
+  fit_due : (d : Due) (s : Sight Due (Graphs G)) → IsPassOf b s → FitsIn s.seen.world b.number d
+      → FitsIn b.graphs b.number d
+  fit_due d s p fit = subst (λ world. FitsIn world b.number d) p.world fit
+
+  module _ {A S : Type 0} (members : S → List Triple) where
+    stands_same : (s t : Sight Due (Graphs G)) (x : Table G A S) (took : List Due) (sent : List (ℕ × Due))
+        → Stands b members s x took sent →
+        GoesOn FitsIn s t → own b.number t.seen.order ≡ own b.number s.seen.order → Stands b members t x took sent
+    stands_same s t x took sent k g same = record {
+      pass = pass_on s t k.pass g;
+      table = k.table;
+      limit = k.limit;
+      only = k.only;
+      takes = ap taken_in same ∙ k.takes;
+      posts = ap posted_in same ∙ k.posts;
+    }
+
+    -- no event was made
+    pub stands_none : (s t : Sight Due (Graphs G)) (x : Table G A S) (took : List Due) (sent : List (ℕ × Due))
+        → Stands b members s x took sent →
+        MadeNone FitsIn s t → Stands b members t x took sent
+    stands_none s t x took sent k m = stands_same s t x took sent k m.goes (own_none s t k.pass m)
+
+    -- a message was completed
+    stands_done : (job : ℕ) (s t : Sight Due (Graphs G)) (x : Table G A S) (took : List Due) (sent : List (ℕ × Due)) →
+        Stands b members s x took sent → WasDone FitsIn job s t → Stands b members t x took sent
+    stands_done job s t x took sent k a =
+        let longer = own_added (Completed s.number job) s t k.pass a in record {
+          pass = pass_on s t k.pass a.goes;
+          table = k.table;
+          limit = k.limit;
+          only = k.only;
+          takes = taken_done (own b.number s.seen.order) (own b.number t.seen.order) s.number job longer ∙ k.takes;
+          posts = posted_done (own b.number s.seen.order) (own b.number t.seen.order) s.number job longer ∙ k.posts;
+        }
+
+    -- an abort was made
+    stands_abort : (c : Cause) (s t : Sight Due (Graphs G)) (x : Table G A S) (took : List Due)
+        (sent : List (ℕ × Due)) →
+        Stands b members s x took sent → MadeAbort FitsIn (record { by = s.number; cause = c }) s t
+        → Stands b members t x took sent
+    stands_abort c s t x took sent k m =
+        stands_same s t x took sent k m.goes (subst (λ n. own n t.seen.order ≡ own n s.seen.order) k.pass.number m.own)
+
+    -- a message was posted
+    stands_post : (job to : ℕ) (d : Due) (s t : Sight Due (Graphs G)) (x : Table G A S) (took : List Due)
+        (sent : List (ℕ × Due)) →
+        Stands b members s x took sent → WasPosted FitsIn job to d s t → Stands b members t x took
+        (sent ++ (to, d) ∷ [])
+    stands_post job to d s t x took sent k p =
+        let longer = own_added (Posted to s.number d job) s t k.pass p.0 in
+        let mine = own b.number s.seen.order in
+        let now = own b.number t.seen.order in record {
+          pass = pass_on s t k.pass p.0.goes;
+          table = k.table;
+          limit = k.limit;
+          only = k.only;
+          takes = taken_post mine now to s.number d job longer ∙ k.takes;
+          posts = posted_post mine now to s.number d job longer ∙ ap (λ l. l ++ (to, d) ∷ []) k.posts;
+        }
+
+    -- a message was taken
+    stands_take : (job : ℕ) (d : Due) (s t : Sight Due (Graphs G)) (x : Table G A S) (took : List Due)
+        (sent : List (ℕ × Due)) →
+        Stands b members s x took sent → promises.TookMessage FitsIn job d s t → Stands b members t x
+        (took ++ d ∷ []) sent
+    stands_take job d s t x took sent k m =
+        let longer = own_added (Taken s.number m.sender d) s t k.pass m.added in
+        let mine = own b.number s.seen.order in
+        let now = own b.number t.seen.order in record {
+          pass = pass_on s t k.pass m.added.goes;
+          table = k.table;
+          limit = k.limit;
+          only = λ i h. member_left (due_of i) took (d ∷ []) (k.only i h);
+          takes = taken_take mine now s.number m.sender d longer ∙ ap (λ l. l ++ d ∷ []) k.takes;
+          posts = posted_take mine now s.number m.sender d longer ∙ k.posts;
+        }
+
+    -- The worker aborted the board.
+    pub failed_ends : (c : Cause) (e : End) (s t : Sight Due (Graphs G)) (x : Table G A S) (took : List Due)
+        (sent : List (ℕ × Due)) →
+        Stands b members s x took sent → s.made ≡ false → HasStood b c s → Failed FitsIn c e s t
+        → EndsSo b members e t x took sent
+    failed_ends c e s t x took sent k made stood f =
+        subst (λ z. EndsSo b members z t x took sent) (sym f.0)
+        (stands_abort c s t x took sent k f.1, has_failed c s t k.pass made stood f.1)
+
+    -- The message is completed, and all that is implied was posted: the worker is ready, or was without a call.
+    pub complete_ends : (job : ℕ) (r : Option End) (s t : Sight Due (Graphs G)) (w : Worker G A S)
+        → IsDealing b members job s w →
+        IsQuiet members w.table → Completes FitsIn job r s t →
+        MatchOption r (IsReady b members t w) (λ e. HasStopped b members e t w)
+    complete_ends job None s t w d quiet done =
+        let g = d.sent.0 in record {
+          number = d.number;
+          served = (
+            (
+              record {
+                stands = stands_done job s t w.table w.takes.items w.posts.items g.stands done;
+                made =
+                    done.made ∙ g.made;
+                whole = g.whole;
+                all = g.all;
+              },
+              d.sent.1,
+            ),
+            quiet,
+          );
+        }
+    complete_ends job (Some e) s t w d quiet failed =
+        let g = d.sent.0 in
+        failed_ends cause.Spent e s t w.table w.takes.items w.posts.items g.stands g.made failed.0 failed.1
+
+    -- The worker stops, for its reason.
+    pub stopped_ends : (job : ℕ) (why : Stop) (e : End) (s t : Sight Due (Graphs G)) (w : Worker G A S)
+        → IsStopped b members job why s w →
+        StopsSo FitsIn job why e s t → HasStopped b members e t w
+    stopped_ends job stop.Aborted e s t w k so = elim so [
+      | inl done ↦ subst (λ z. EndsSo b members z t w.table w.takes.items w.posts.items) (sym done.0) (
+        stands_done job s t w.table w.takes.items w.posts.items k.stands done.1,
+        done.1.made ∙ k.made,
+        abort_stays done.1.goes,
+      )
+      | inr failed ↦ failed_ends cause.Spent e s t w.table w.takes.items w.posts.items k.stands k.made failed.0 failed.1
+    ]
+      where
+        known : (o : Option Abort) → IsSome o → (a : Abort) × (o ≡ Some a)
+        known None h = cc
+        known (Some a) h = (a, refl)
+
+        abort_stays : GoesOn FitsIn s t → IsSome t.seen.aborted
+        abort_stays g = let z = known s.seen.aborted k.reason in ap Rattle.std.specs.Prelude.is_some
+            (g.before.aborted z.0 z.1)
+    stopped_ends job (stop.Failed c) e s t w k so =
+        failed_ends c e s t w.table w.takes.items w.posts.items k.stands k.made k.reason so
+
+    -- A table that has kept what it took is that of the procedure still.
+    table_keeps : (f : Option TableFault) (p : Program) (q : ℕ) (x y : Table G A S) → IsTableOf members p q x
+        → Keeps members f x y →
+        IsTableOf members p q y
+    table_keeps f p q x y is k = record {
+      fit = is.fit;
+      in_order = is.in_order;
+      graph = subst (IsGraph p q) (sym k.stays.graph) is.graph;
+      number = k.stays.procedure ∙ is.number;
+      table = k.table;
+      due = λ i h. is.due i (same_taken_back x.found y.found k.taken i h);
+    }
+
+    stands_keeps : (f : Option TableFault) (s : Sight Due (Graphs G)) (x y : Table G A S) (took : List Due)
+        (sent : List (ℕ × Due)) →
+        Stands b members s x took sent → Keeps members f x y → Stands b members s y took sent
+    stands_keeps f s x y took sent k keeps = record {
+      pass = k.pass;
+      table = λ p drawn. table_keeps f p b.number x y (k.table p drawn) keeps;
+      limit = ap most_of keeps.stays.limit ∙ k.limit;
+      only = λ i h. k.only i (same_taken_back x.found y.found keeps.taken i h);
+      takes = k.takes;
+      posts = k.posts;
+    }
+
+    -- A fault of the table has stood.
+    fault_stood : (f : TableFault) (s t : Sight Due (Graphs G)) (x : Table G A S) (took : List Due)
+        (sent : List (ℕ × Due))
+        → Stands b members s x took sent → failure x ≡ Some f → HasStood b (cause_for f) t
+    fault_stood fault.Memory s t x took sent k failed = tt
+    fault_stood fault.EdgeLimit s t x took sent k failed = λ p drawn.
+        subst (HasMoreEdges p b.number) k.limit (over_limit members p b.number x (k.table p drawn) failed)
+
+    -- The table has answered a message, which is due and is posted next.
+    pub answered_sending : (job to : ℕ) (d : Due) (s : Sight Due (Graphs G)) (w : Worker G A S) (y : Table G A S) →
+        IsDealing b members job s w → Keeps members None w.table y → IsAnswer w.table y to d →
+        IsSending b members job to d s (record w { table = y })
+    answered_sending job to d s w y deals keeps answer =
+        let g = deals.sent.0 in
+        let stands = stands_keeps None s w.table y w.takes.items w.posts.items g.stands keeps in
+        let pass = g.stands.pass in
+        let p = pass.drawn.0 in
+        let due : IsDueFor p to d = answer_due members p b.number y (stands.table p pass.drawn.1) w.table to d answer in
+        record {
+          number = deals.number;
+          goes = record {
+            stands = stands;
+            made = g.made;
+            whole = keeps.fault;
+            all = λ i h. same_taken w.table.found y.found keeps.taken i (g.all i h);
+          };
+          but = ap (λ l. l ++ mail to d ∷ []) deals.sent.1 ∙ sym answer.behind;
+          near = receiver_there s to d pass due;
+          fits = subst (λ world. FitsIn world to d) (sym g.stands.pass.world)
+              (λ p drawn. answer_due members p b.number y (stands.table p drawn) w.table to d answer);
+          has = deals.has;
+        }
+
+    -- The table has answered all that it owes.
+    pub answered_all : (job : ℕ) (s : Sight Due (Graphs G)) (w : Worker G A S) (y : Table G A S)
+        → IsDealing b members job s w →
+        Keeps members None w.table y → answers_of y ≡ answers_of w.table → IsDealing b members job s
+        (record w { table = y })
+    answered_all job s w y deals keeps none =
+        let g = deals.sent.0 in record {
+          number = deals.number;
+          sent = (
+            record {
+              stands = stands_keeps None s w.table y w.takes.items w.posts.items g.stands keeps;
+              made = g.made;
+              whole = keeps.fault;
+              all = λ i h. same_taken w.table.found y.found keeps.taken i (g.all i h);
+            },
+            deals.sent.1 ∙ sym none,
+          );
+          has = deals.has;
+        }
+
+    -- The table has failed.
+    pub answered_fault : (job : ℕ) (f : TableFault) (s : Sight Due (Graphs G)) (w : Worker G A S) (y : Table G A S) →
+        IsDealing b members job s w → Keeps members (Some f) w.table y →
+        IsStopped b members job (stop.Failed (cause_for f)) s (record w { table = y })
+    answered_fault job f s w y deals keeps =
+        let g = deals.sent.0 in
+        let stands = stands_keeps (Some f) s w.table y w.takes.items w.posts.items g.stands keeps in record {
+          number = deals.number;
+          stands = stands;
+          made = g.made;
+          has = deals.has;
+          reason = fault_stood f s s y w.takes.items w.posts.items stands keeps.fault;
+        }
+
+    -- The message is posted.
+    pub sent_dealing : (job to : ℕ) (d : Due) (s t : Sight Due (Graphs G)) (v w : Worker G A S)
+        → IsSending b members job to d s v →
+        WasPosted FitsIn job to d s t → w.number ≡ v.number → w.table ≡ v.table → w.takes ≡ v.takes
+        → w.posts.items ≡ v.posts.items ++ (to, d) ∷ [] →
+        IsDealing b members job t w
+    sent_dealing job to d s t v w k p number table takes posts =
+        let g = k.goes in
+        let still = stands_post job to d s t v.table v.takes.items v.posts.items g.stands p in
+        let whole : HasSent b members t v.table v.takes.items (v.posts.items ++ (to, d) ∷ []) = (
+          record { stands = still; made = p.0.made ∙ g.made; whole = g.whole; all = g.all },
+          map-append (λ (x : ℕ × Due). mail x.0 x.1) v.posts.items ((to, d) ∷ []) ∙ k.but,
+        ) in record {
+          number = number ∙ k.number;
+          sent = subst (λ l. HasSent b members t w.table w.takes.items l) (sym posts)
+              (subst (λ l. HasSent b members t w.table l.items (v.posts.items ++ (to, d) ∷ [])) (sym takes)
+              (subst (λ x. HasSent b members t x v.takes.items (v.posts.items ++ (to, d) ∷ [])) (sym table) whole));
+          has = job_of_pass t job still.pass (kept_added FitsIn s t job (Posted to s.number d job) p.0
+              (no_done_post s.number to s.number d job)
+              (job_to_pass s job g.stands.pass k.has));
+        }
+
+    -- What stands holds of a worker with the same lists and the same table.
+    stands_like : (t : Sight Due (Graphs G)) (v w : Worker G A S)
+        → Stands b members t v.table v.takes.items v.posts.items → w.table ≡ v.table →
+        w.takes.items ≡ v.takes.items → w.posts.items ≡ v.posts.items
+        → Stands b members t w.table w.takes.items w.posts.items
+    stands_like t v w stands table takes posts =
+        subst (λ l. Stands b members t w.table w.takes.items l) (sym posts)
+        (subst (λ l. Stands b members t w.table l v.posts.items) (sym takes)
+        (subst (λ x. Stands b members t x v.takes.items v.posts.items) (sym table) stands))
+
+    -- The worker was without memory before the post.
+    pub sending_starved : (job to : ℕ) (d : Due) (s : Sight Due (Graphs G)) (v w : Worker G A S)
+        → IsSending b members job to d s v →
+        w.number ≡ v.number → w.table ≡ v.table → w.takes ≡ v.takes → w.posts.items ≡ v.posts.items →
+        IsStopped b members job (stop.Failed cause.Memory) s w
+    sending_starved job to d s v w k number table takes posts = record {
+      number = number ∙ k.number;
+      stands = stands_like s v w k.goes.stands table (ap (λ l. l.items) takes) posts;
+      made = k.goes.made;
+      has = k.has;
+      reason = tt;
+    }
+
+    -- The post was refused.
+    pub sending_refused : (job to : ℕ) (d : Due) (why : Stop) (s t : Sight Due (Graphs G)) (v w : Worker G A S)
+        → IsSending b members job to d s v →
+        MadeNone FitsIn s t → StoppedFor b why t → w.number ≡ v.number → w.table ≡ v.table → w.takes ≡ v.takes
+        → w.posts.items ≡ v.posts.items →
+        IsStopped b members job why t w
+    sending_refused job to d why s t v w k m reason number table takes posts =
+        let g = k.goes in record {
+          number = number ∙ k.number;
+          stands = stands_like t v w (stands_none s t v.table v.takes.items v.posts.items g.stands m) table
+              (ap (λ l. l.items) takes) posts;
+          made = m.made ∙ g.made;
+          has = job_none job s t g.stands.pass m k.has;
+          reason = reason;
+        }
+
+    -- No call was left for the post.
+    pub sending_spent : (job to : ℕ) (d : Due) (s t : Sight Due (Graphs G)) (v w : Worker G A S)
+        → IsSending b members job to d s v →
+        WasSpent s t → w.number ≡ v.number → w.table ≡ v.table → w.takes ≡ v.takes → w.posts.items ≡ v.posts.items →
+        IsStopped b members job (stop.Failed cause.Spent) t w
+    sending_spent job to d s t v w k spent number table takes posts =
+        subst (λ z. IsStopped b members job (stop.Failed cause.Spent) z w) (sym spent.1) record {
+          number = number ∙ k.number;
+          stands = stands_like s v w k.goes.stands table (ap (λ l. l.items) takes) posts;
+          made = k.goes.made;
+          has = k.has;
+          reason = spent.0;
+        }
+
+    -- The pass took a message, which the table is to take.
+    pub took_taking : (job : ℕ) (d : Due) (s t : Sight Due (Graphs G)) (v w : Worker G A S) → IsReady b members s v
+        → promises.TookMessage FitsIn job d s t →
+        w.number ≡ v.number → w.table ≡ v.table → w.takes.items ≡ v.takes.items ++ d ∷ [] → w.posts ≡ v.posts →
+        IsTaking b members job d t w
+    took_taking job d s t v w ready m number table takes posts =
+        let g = ready.served.0.0 in
+        let still = stands_take job d s t v.table v.takes.items v.posts.items g.stands m in
+        let here = subst (λ l. Stands b members t w.table w.takes.items l) (sym (ap (λ l. l.items) posts))
+        (subst (λ l. Stands b members t w.table l v.posts.items) (sym takes)
+        (subst (λ x. Stands b members t x (v.takes.items ++ d ∷ []) v.posts.items) (sym table) still)) in record {
+          number = number ∙ ready.number;
+          stands = here;
+          made = m.added.made ∙ g.made;
+          whole = ap failure table ∙ g.whole;
+          before = v.takes.items;
+          last = takes;
+          all = λ i h. subst (λ x. TookMessage x.found i) (sym table) (g.all i h);
+          sent = ap (λ l. mails_of l.items) posts ∙ (ready.served.0.1 ∙ sym (ap answers_of table));
+          fits = subst (λ world. FitsIn world b.number d) (sym m.added.goes.before.world)
+              (subst (λ n. FitsIn s.seen.world n d) g.stands.pass.number m.fit);
+          has = job_of_pass t job still.pass (job_new FitsIn s t job d m);
+        }
+
+    -- The table was given the message, and so answers.
+    given_stands : (d : Due) {T : Type 0} (answer : Result T TableFault) (job : ℕ) (s : Sight Due (Graphs G))
+        (w : Worker G A S) (y : Table G A S) →
+        IsTaking b members job d s w → Takes members d answer w.table y
+        → Stands b members s y w.takes.items w.posts.items
+    given_stands d answer job s w y k given = record {
+      pass = k.stands.pass;
+      table = λ p drawn.
+          let is = k.stands.table p drawn in record {
+            fit = is.fit;
+            in_order = is.in_order;
+            graph = subst (IsGraph p b.number) (sym given.stays.graph) is.graph;
+            number = given.stays.procedure ∙ is.number;
+            table = given.table;
+            due = λ i h. elim
+                (given.only i h) [ inl this ↦ fit_due d s k.stands.pass k.fits p drawn i this | inr old ↦ is.due i
+                    old ];
+          };
+      limit = ap most_of given.stays.limit ∙ k.stands.limit;
+      only = λ i h. elim (given.only i h) [
+        | inl this ↦ subst (Member (due_of i)) (sym k.last) (member_right (due_of i) k.before (d ∷ []) (inl this))
+        | inr old ↦ k.stands.only i old
+      ];
+      takes = k.stands.takes;
+      posts = k.stands.posts;
+    }
+
+    -- The table took the message.
+    pub given_dealing : (d : Due) {T : Type 0} (x : T) (job : ℕ) (s : Sight Due (Graphs G)) (w : Worker G A S)
+        (y : Table G A S) →
+        IsTaking b members job d s w → Takes members d (Ok x) w.table y → IsDealing b members job s
+        (record w { table = y })
+    given_dealing d x job s w y k given = record {
+      number = k.number;
+      sent = (
+        record {
+          stands = given_stands d (Ok x) job s w y k given;
+          made = k.made;
+          whole = given.fault;
+          all = λ i h. (given.taken i).1
+              (elim (member_append (due_of i) k.before (d ∷ []) (subst (Member (due_of i)) k.last h)) [
+                | inl old ↦ inr (k.all i old)
+                | inr last ↦ elim last [ inl this ↦ inl this | inr none ↦ absurd none ]
+              ]);
+        },
+        k.sent ∙ sym given.answers,
+      );
+      has = k.has;
+    }
+
+    -- The table failed at the message.
+    pub given_fault : (d : Due) {T : Type 0} (f : TableFault) (job : ℕ) (e : End) (s t : Sight Due (Graphs G))
+        (w : Worker G A S) (y : Table G A S) →
+        IsTaking b members job d s w → Takes members d {T = T} (Err f) w.table y → Failed FitsIn (cause_for f) e s t →
+        HasStopped b members e t (record w { table = y })
+    given_fault d {T} f job e s t w y k given failed =
+        let stands = given_stands d {T = T} (Err f) job s w y k given in
+        failed_ends (cause_for f) e s t y w.takes.items w.posts.items stands k.made
+        (fault_stood f s s y w.takes.items w.posts.items stands given.fault) failed
+
+    -- The pass found no message.
+    pub looked_ready : (s t : Sight Due (Graphs G)) (v w : Worker G A S) → IsReady b members s v → MadeNone FitsIn s t
+        → w.number ≡ v.number →
+        w.table ≡ v.table → w.takes.items ≡ v.takes.items → w.posts ≡ v.posts → IsReady b members t w
+    looked_ready s t v w ready m number table takes posts =
+        let g = ready.served.0.0 in record {
+          number = number ∙ ready.number;
+          served = (
+            (
+              record {
+                stands = stands_like t v w
+                    (stands_none s t v.table v.takes.items v.posts.items g.stands m) table takes
+                    (ap (λ l. l.items) posts);
+                made = m.made ∙ g.made;
+                whole = ap failure table ∙ g.whole;
+                all = λ i h. subst (λ x. TookMessage x.found i) (sym table)
+                    (g.all i (subst (Member (due_of i)) takes h));
+              },
+              ap (λ l. mails_of l.items) posts ∙ (ready.served.0.1 ∙ sym (ap answers_of table)),
+            ),
+            subst (IsQuiet members) (sym table) ready.served.1,
+          );
+        }
+
+    -- The pass knows the close.
+    pub looked_closed : (s t : Sight Due (Graphs G)) (v w : Worker G A S) → IsReady b members s v
+        → MadeNone FitsIn s t → t.knows ≡ true →
+        w.number ≡ v.number → w.table ≡ v.table → w.takes.items ≡ v.takes.items → w.posts ≡ v.posts
+        → HasStopped b members end.Closed t w
+    looked_closed s t v w ready m known number table takes posts =
+        ((looked_ready s t v w ready m number table takes posts).served, known, m.goes.close known)
+
+    -- The board was aborted.
+    pub looked_aborted : (s t : Sight Due (Graphs G)) (v w : Worker G A S) → IsReady b members s v
+        → MadeNone FitsIn s t → IsSome t.seen.aborted →
+        w.number ≡ v.number → w.table ≡ v.table → w.takes.items ≡ v.takes.items → w.posts ≡ v.posts
+        → HasStopped b members end.Aborted t w
+    looked_aborted s t v w ready m aborted number table takes posts =
+        let g = (looked_ready s t v w ready m number table takes posts).served.0.0 in (g.stands, g.made, aborted)
+
+    -- The worker fails between two messages.
+    pub ready_fails : (c : Cause) (e : End) (s t : Sight Due (Graphs G)) (v w : Worker G A S) → IsReady b members s v
+        → HasStood b c s →
+        Failed FitsIn c e s t → w.table ≡ v.table → w.takes.items ≡ v.takes.items → w.posts ≡ v.posts
+        → HasStopped b members e t w
+    ready_fails c e s t v w ready stood failed table takes posts =
+        let g = ready.served.0.0 in
+        failed_ends c e s t w.table w.takes.items w.posts.items (stands_like s v w g.stands table takes
+        (ap (λ l. l.items) posts)) g.made stood failed
+
+    -- A new worker is ready.
+    pub fresh_ready : (s : Sight Due (Graphs G)) (w : Worker G A S) → (p : Program) × AreDrawnFrom p
+        (graphs_of b.graphs) →
+        IsFresh b s → w.number ≡ b.number → IsNew members w.table → IsQuiet members w.table →
+        slice_get (graphs_of b.graphs) b.number ≡ Some (graph_of w.table) → procedure_of w.table ≡ b.number →
+        limit_of w.table ≡ b.limit → w.takes.items ≡ [] → w.posts.items ≡ [] → IsReady b members s w
+    fresh_ready s w drawn fresh number new quiet graph procedure limit takes posts = record {
+      number = number;
+      served = (
+        (
+          record {
+            stands = record {
+              pass = record { drawn = drawn; board = fresh.board; number = fresh.number; sound = fresh.sound; world =
+                  fresh.world; boxes = fresh.boxes };
+              table = λ p are. record {
+                fit = are.0;
+                in_order = are.1;
+                graph = are.2.1 b.number (graph_of w.table) graph;
+                number = procedure;
+                table = new.table;
+                due = λ i h. absurd (new.nothing i h);
+              };
+              limit = limit;
+              only = λ i h. absurd (new.nothing i h);
+              takes = ap taken_in fresh.none ∙ sym takes;
+              posts = ap posted_in fresh.none ∙ sym posts;
+            };
+            made = fresh.made;
+            whole = new.fault;
+            all = λ i h. absurd (subst (Member (due_of i)) takes h);
+          },
+          ap mails_of posts ∙ sym new.answered,
+        ),
+        quiet,
+      );
+    }
+
+    -- A worker that is ready tells what it began with.
+    pub own_is : (s : Sight Due (Graphs G)) (w : Worker G A S) → IsReady b members s w → own_start s w b.board ≡ b
+    own_is s w ready =
+        let k = ready.served.0.0.stands in
+        let world = k.pass.world in
+        let number = ready.number in
+        let limit = k.limit in
+        λ i. record { graphs = world i; number = number i; limit = limit i; board = b.board }
+
+-- a pass that has seen the opening alone
+pub new_fresh : {G : Type 0} (graphs : Graphs G) (board : TableId) (budget boxes to number : ℕ) (limit : EdgeLimit)
+    (m : Due)
+    → boxes ≡ length (graphs_of graphs) → number < boxes → to < boxes → FitsIn graphs to m
+    → IsFresh (begun graphs number limit board) (fresh_sight board budget (opened graphs boxes to m) number)
+new_fresh graphs board budget boxes to number limit m count near short fit = record {
+  board = refl;
+  number = refl;
+  sound = sound_open FitsIn graphs boxes to m short fit;
+  world = refl;
+  boxes = count;
+  made = refl;
+  none = own_else number (Posted to boxes m 0) [] (λ same. omega (arith, same, near));
+}

@@ -1,0 +1,11 @@
+-- All that the table answered is posted, before each answer.
+use Rattle.procedure_worker.specs.Works.{IsDealing}
+use Rattle.procedure_worker.proofs.worker.Worker.deal.Given as goal
+
+abbrev pub ghost-answer : goal.ghost-answer
+ghost-answer g a = g.start
+
+abbrev pub invariant-loop : goal.invariant-loop
+invariant-loop g l =
+    IsDealing g.start g.S.PathSet.members l.job (g.B.Board.sight l.pass) l.self
+    × (goal.iterator-loop g).can_next l.iterator' × (goal.iterator-loop g).is_finite l.iterator'

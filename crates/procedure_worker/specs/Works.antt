@@ -1,0 +1,203 @@
+-- What a worker knows while it works, and what it gives back.
+use Rattle.std.specs.Prelude.{◌≡◌, ◌≢◌, ◌⊎◌, ◌<◌, ◌++◌, ◌∷◌, ℕ, true, false, IsSome, List, [], Option}
+use Rattle.std.specs.Prelude.{Some, None, length, map}
+use Rattle.atomic_table.specs.Seated.{TableId}
+use Rattle.post_ledger.specs.Orders.{own, HasJob, IsClosed}
+use Rattle.language.specs.Step.{Program}
+use Rattle.language.specs.Flow.{Member}
+use Rattle.path_sets.specs.Triples.{Triple}
+use Rattle.flow_graph.specs.declared.graph.Graphs.{Graphs}
+use Rattle.flow_graph.specs.Drawn.{graphs_of}
+use Rattle.flow_graph.specs.Graphs.{AreDrawnFrom}
+use Rattle.flow_graph.specs.Numbers.{NumberedMessage}
+use Rattle.summaries.specs.declared.due.Due.{Due}
+use Rattle.summaries.specs.declared.given.Mail.{Mail}
+use Rattle.summaries.specs.declared.table.Table.{Table}
+use Rattle.summaries.specs.declared.table_fault.TableFault.{TableFault}
+use Rattle.summaries.specs.declared.table_fault.TableFault.TheVariants as fault
+use Rattle.summaries.specs.declared.edge_limit.EdgeLimit.{EdgeLimit}
+use Rattle.summaries.specs.Limits.{most_of}
+use Rattle.summaries.specs.Mails.{mail}
+use Rattle.summaries.specs.Dues.{due_of}
+use Rattle.summaries.specs.Fitting.{FitsIn}
+use Rattle.summaries.specs.Found.{TookMessage}
+use Rattle.summaries.specs.Tables.{limit_of, answers_of, failure, IsQuiet}
+use Rattle.summaries.specs.Tabulated.{HasMoreEdges}
+use Rattle.summaries.specs.Together.{IsTableOf}
+use Rattle.switchboard.specs.declared.calls.Abort.{Abort}
+use Rattle.switchboard.specs.declared.calls.Cause.{Cause}
+use Rattle.switchboard.specs.declared.calls.Cause.TheVariants as cause
+use Rattle.switchboard.specs.Sights.{Sight, IsSound}
+use Rattle.switchboard.specs.Promises.{WasDone, MadeAbort}
+use Rattle.procedure_worker.specs.declared.outcome.End.{End}
+use Rattle.procedure_worker.specs.declared.outcome.End.TheVariants as end
+use Rattle.procedure_worker.specs.declared.outcome.Outcome.{Outcome}
+use Rattle.procedure_worker.specs.declared.worker.Stop.{Stop}
+use Rattle.procedure_worker.specs.declared.worker.Stop.TheVariants as stop
+use Rattle.procedure_worker.specs.declared.worker.Worker.{Worker}
+use Rattle.procedure_worker.specs.Own.{taken_in, posted_in}
+
+-- What a worker begins with: the flow graphs, the number of its procedure, how many path edges its table may keep, and
+-- the board.
+pub record Start (G : Type 0) : Type 0 where
+  pub graphs : Graphs G
+  pub number : ℕ
+  pub limit : ℕ
+  pub board : TableId
+
+-- what a worker begins with, by the values that it is given
+abbrev pub begun : {G : Type 0} → Graphs G → ℕ → EdgeLimit → TableId → Start G
+begun graphs number limit board = record { graphs = graphs; number = number; limit = most_of limit; board = board }
+
+-- what was posted, as the table answers it
+abbrev pub mails_of : List (ℕ × Due) → List Mail
+mails_of posts = map (λ (p : ℕ × Due). mail p.0 p.1) posts
+
+-- why a worker fails, where its table has
+abbrev pub cause_for : TableFault → Cause
+cause_for fault.Memory = cause.Memory
+cause_for fault.EdgeLimit = cause.EdgeLimit
+
+module _ {M W : Type 0} (fits : W → ℕ → M → Type 0) where
+  -- the pass has made an abort for this cause, and ends so
+  abbrev pub Failed : Cause → End → Sight M W → Sight M W → Type 0
+  Failed c e s t = (e ≡ end.Failed c) × MadeAbort fits (record { by = s.number; cause = c }) s t
+
+  -- the message is completed; or no call was left, and the worker ends
+  abbrev pub Completes : ℕ → Option End → Sight M W → Sight M W → Type 0
+  Completes job None s t = WasDone fits job s t
+  Completes job (Some e) s t = (s.calls ≡ 0) × Failed cause.Spent e s t
+
+  -- the worker ends for this reason: the message is completed where the board was aborted, unless no call was left
+  abbrev pub StopsSo : ℕ → Stop → End → Sight M W → Sight M W → Type 0
+  StopsSo job stop.Aborted e s t = ((e ≡ end.Aborted) × WasDone fits job s t) ⊎
+      ((s.calls ≡ 0) × Failed cause.Spent e s t)
+  StopsSo job (stop.Failed c) e s t = Failed c e s t
+
+module _ {G : Type 0} (b : Start G) where
+  -- The pass is that of the procedure, on the board of the graphs, which are some program's, and has seen a sound
+  -- order.
+  pub record IsPassOf (s : Sight Due (Graphs G)) : Type 0 where
+    pub drawn : (p : Program) × AreDrawnFrom p (graphs_of b.graphs)
+    pub board : s.board ≡ b.board
+    pub number : s.number ≡ b.number
+    pub sound : IsSound FitsIn s.seen
+    pub world : s.seen.world ≡ b.graphs
+    pub boxes : s.seen.boxes ≡ length (graphs_of b.graphs)
+
+  -- The pass is that of the procedure as its board gave it: it has made no event and no abort.
+  pub record IsFresh (s : Sight Due (Graphs G)) : Type 0 where
+    pub board : s.board ≡ b.board
+    pub number : s.number ≡ b.number
+    pub sound : IsSound FitsIn s.seen
+    pub world : s.seen.world ≡ b.graphs
+    pub boxes : s.seen.boxes ≡ length (graphs_of b.graphs)
+    pub made : s.made ≡ false
+    pub none : own b.number s.seen.order ≡ []
+
+  -- the cause really stands: for the limit, the procedure has more path edges; for calls, the pass has none left
+  abbrev pub HasStood : Cause → Sight Due (Graphs G) → Type 0
+  HasStood cause.Memory s = Unit {0}
+  HasStood cause.EdgeLimit s = (p : Program) → AreDrawnFrom p (graphs_of b.graphs) → HasMoreEdges p b.number b.limit
+  HasStood cause.NoWorker s = ⊥
+  HasStood cause.Spent s = s.calls ≡ 0
+
+  -- the reason to stop stands: the board was aborted, or the cause
+  abbrev pub StoppedFor : Stop → Sight Due (Graphs G) → Type 0
+  StoppedFor stop.Aborted s = IsSome s.seen.aborted
+  StoppedFor (stop.Failed c) s = HasStood c s
+
+  -- The pass has made an abort for this cause, which has stood; the abort that the board keeps is this one, or
+  -- another pass's.
+  pub record HasFailed (c : Cause) (s : Sight Due (Graphs G)) : Type 0 where
+    pub made : s.made ≡ true
+    pub abort : Abort
+    pub kept : s.seen.aborted ≡ Some abort
+    pub first : (abort ≡ record { by = b.number; cause = c }) ⊎ (abort.by ≢ b.number)
+    pub stood : HasStood c s
+
+  module _ {A S : Type 0} (members : S → List Triple) where
+    -- The table is that of the procedure, in each program that the graphs are drawn from, and has taken only what its
+    -- pass took;
+    -- what the pass took and posted is listed.
+    pub record Stands (s : Sight Due (Graphs G)) (t : Table G A S) (took : List Due)
+        (sent : List (ℕ × Due)) : Type 0 where
+      pub pass : IsPassOf s
+      pub table : (p : Program) → AreDrawnFrom p (graphs_of b.graphs) → IsTableOf members p b.number t
+      pub limit : limit_of t ≡ b.limit
+      pub only : (k : NumberedMessage) → TookMessage t.found k → Member (due_of k) took
+      pub takes : taken_in (own b.number s.seen.order) ≡ took
+      pub posts : posted_in (own b.number s.seen.order) ≡ sent
+
+    -- It has made no abort, and its table has not failed and has taken all that the pass took.
+    pub record Goes (s : Sight Due (Graphs G)) (t : Table G A S) (took : List Due)
+        (sent : List (ℕ × Due)) : Type 0 where
+      pub stands : Stands s t took sent
+      pub made : s.made ≡ false
+      pub whole : failure t ≡ None
+      pub all : (k : NumberedMessage) → Member (due_of k) took → TookMessage t.found k
+
+    -- All that the table answered is posted.
+    abbrev pub HasSent : Sight Due (Graphs G) → Table G A S → List Due → List (ℕ × Due) → Type 0
+    HasSent s t took sent = Goes s t took sent × (mails_of sent ≡ answers_of t)
+
+    -- All that the messages taken imply is posted.
+    abbrev pub HasServed : Sight Due (Graphs G) → Table G A S → List Due → List (ℕ × Due) → Type 0
+    HasServed s t took sent = HasSent s t took sent × IsQuiet members t
+
+    -- How a worker ends: at the close, which its pass knows, with all posted that the messages taken imply; at
+    -- another pass's
+    -- abort; or at an abort of its own.
+    abbrev pub EndsSo : End → Sight Due (Graphs G) → Table G A S → List Due → List (ℕ × Due) → Type 0
+    EndsSo end.Closed s t took sent = HasServed s t took sent × (s.knows ≡ true) × IsClosed s.seen.order
+    EndsSo end.Aborted s t took sent = Stands s t took sent × (s.made ≡ false) × IsSome s.seen.aborted
+    EndsSo (end.Failed c) s t took sent = Stands s t took sent × HasFailed c s
+
+    -- the outcome has a table, and the worker ended so with it
+    abbrev pub HasEnded : Sight Due (Graphs G) → Outcome G A S → Type 0
+    HasEnded s o = (t : Table G A S) × (o.table ≡ Some t) × EndsSo o.end s t o.takes.items o.posts.items
+
+    -- The worker between two takes.
+    pub record IsReady (s : Sight Due (Graphs G)) (w : Worker G A S) : Type 0 where
+      pub number : w.number ≡ b.number
+      pub served : HasServed s w.table w.takes.items w.posts.items
+
+    -- The worker has taken a message, which its table is to take next.
+    pub record IsTaking (job : ℕ) (d : Due) (s : Sight Due (Graphs G)) (w : Worker G A S) : Type 0 where
+      pub number : w.number ≡ b.number
+      pub stands : Stands s w.table w.takes.items w.posts.items
+      pub made : s.made ≡ false
+      pub whole : failure w.table ≡ None
+      pub before : List Due
+      pub last : w.takes.items ≡ before ++ d ∷ []
+      pub all : (k : NumberedMessage) → Member (due_of k) before → TookMessage w.table.found k
+      pub sent : mails_of w.posts.items ≡ answers_of w.table
+      pub fits : FitsIn s.seen.world b.number d
+      pub has : HasJob b.number job s.seen.order
+
+    -- The worker has a job, and has posted all that its table answered.
+    pub record IsDealing (job : ℕ) (s : Sight Due (Graphs G)) (w : Worker G A S) : Type 0 where
+      pub number : w.number ≡ b.number
+      pub sent : HasSent s w.table w.takes.items w.posts.items
+      pub has : HasJob b.number job s.seen.order
+
+    -- The worker has a job, and all that its table answered is posted but this message, which is due there.
+    pub record IsSending (job to : ℕ) (d : Due) (s : Sight Due (Graphs G)) (w : Worker G A S) : Type 0 where
+      pub number : w.number ≡ b.number
+      pub goes : Goes s w.table w.takes.items w.posts.items
+      pub but : mails_of w.posts.items ++ mail to d ∷ [] ≡ answers_of w.table
+      pub near : to < s.seen.boxes
+      pub fits : FitsIn s.seen.world to d
+      pub has : HasJob b.number job s.seen.order
+
+    -- The worker has a job, and stops for this reason.
+    pub record IsStopped (job : ℕ) (why : Stop) (s : Sight Due (Graphs G)) (w : Worker G A S) : Type 0 where
+      pub number : w.number ≡ b.number
+      pub stands : Stands s w.table w.takes.items w.posts.items
+      pub made : s.made ≡ false
+      pub has : HasJob b.number job s.seen.order
+      pub reason : StoppedFor why s
+
+    -- The worker has ended.
+    abbrev pub HasStopped : End → Sight Due (Graphs G) → Worker G A S → Type 0
+    HasStopped e s w = EndsSo e s w.table w.takes.items w.posts.items

@@ -1,0 +1,14 @@
+//! The worker of one procedure: a thread of its own, which takes the messages of its mailbox, works on its table, and posts what
+//! the table answers, until all is done or something fails.
+#![tactic(auto)]
+
+mod gate;
+mod laws;
+mod outcome;
+mod worker;
+mod working;
+
+pub use gate::{Gate, Open};
+pub use laws::a_new_pass_is_fresh;
+pub use outcome::{End, Outcome};
+pub use working::work;

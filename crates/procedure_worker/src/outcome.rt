@@ -1,0 +1,27 @@
+//! What a worker gives back.
+use path_sets::PathSet;
+use std::alloc::Allocator;
+use summaries::{Due, Table};
+use switchboard::Cause;
+
+/// How a worker ended.
+#[derive(Clone, Copy, Debug, PartialEq, Eq)]
+pub enum End {
+    /// All messages of the board are taken and completed.
+    Closed,
+    /// The board was aborted by another pass.
+    Aborted,
+    /// The worker aborted the board, for this cause.
+    Failed(Cause),
+}
+
+/// What a worker gives back: its table, how it ended, and the messages that its pass took and posted, each in order; a message
+/// posted stands with the number of its mailbox.
+#[derive(Drop)]
+pub struct Outcome<'g, G: Allocator, A: Allocator, S: PathSet<A>> {
+    /// None where the worker had no thread.
+    pub table: Option<Table<'g, G, A, S>>,
+    pub end: End,
+    pub takes: Vec<Due, A>,
+    pub posts: Vec<(u8, Due), A>,
+}

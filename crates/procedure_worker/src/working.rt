@@ -1,0 +1,71 @@
+//! The whole work of one worker.
+ghost use Rattle.std.specs.Prelude.{◌<◌, length};
+ghost use Rattle.language.specs.Step.{Program};
+ghost use Rattle.flow_graph.specs.Drawn.{graphs_of};
+ghost use Rattle.flow_graph.specs.Graphs.{AreDrawnFrom};
+ghost use Rattle.procedure_worker.specs.Works.{begun, IsFresh, HasEnded};
+
+use crate::gate::Gate;
+use crate::outcome::Outcome;
+use crate::worker::Worker;
+use flow_graph::Graphs;
+use path_sets::PathSet;
+use std::alloc::Allocator;
+use std::sync::Wait;
+use summaries::{Due, EdgeLimit, Table};
+use switchboard::Board;
+
+/// Works for a procedure: takes one message of its mailbox, posts all that its table then owes, completes it, and begins again,
+/// until the board is closed, or aborted by another pass, or by this one for a cause of its own. Between two takes that find the
+/// mailbox empty it lets other threads run. The pass must be that of the procedure, as the board gave it, and the board one of
+/// these graphs. Lists and table are in memory of `alloc`; their places are reserved before each call of the board.
+pub fn work<'g, R, G, H, A, B, S, K>(
+    rt: &R,
+    alloc: A,
+    board: &B,
+    pass: B::Pass,
+    graphs: &'g Graphs<G>,
+    procedure: u8,
+    limit: EdgeLimit,
+    gate: &K,
+) -> (B::Pass, Outcome<'g, G, A, S>)
+where
+    R: Wait,
+    G: Allocator,
+    H: Allocator,
+    A: Allocator + Copy,
+    B: Board<Due, Graphs<G>, H>,
+    S: PathSet<A>,
+    K: Gate,
+    requires drawn { (p : Program) × AreDrawnFrom p (graphs_of graphs.now) }
+    requires near { procedure < length (graphs_of graphs.now) }
+    requires fresh { IsFresh (begun graphs.now procedure limit (B.identity board.now)) (B.sight pass) }
+    ensures { HasEnded (begun graphs.now procedure limit (B.identity board.now)) S.members
+        (B.sight result.0) result.1 }
+{
+    let mut pass = pass;
+    let mut worker: Worker<'g, G, A, S> = Worker {
+        number: procedure,
+        table: Table::new(alloc, graphs, procedure, limit),
+        takes: Vec::new(alloc),
+        posts: Vec::new(alloc),
+    };
+    for _ in rt.forever() {
+        if let Some(end) = worker.turn(rt, board, &mut pass, gate) {
+            let Worker {
+                number: _,
+                table,
+                takes,
+                posts,
+            } = worker;
+            let outcome = Outcome {
+                table: Some(table),
+                end,
+                takes,
+                posts,
+            };
+            return (pass, outcome);
+        }
+    }
+    unreachable!()
+}

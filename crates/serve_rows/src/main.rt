@@ -1,0 +1,40 @@
+//! Rows of the program's edge: each line of the standard input is a case, and is printed again with what comes of it.
+//!
+//! | Line | What is printed under it |
+//! |---|---|
+//! | `program: WORDS` | what `run` does for the words: the status, and what the standard output and the standard error took |
+//! | `broken COUNT: WORDS \| FILES` | how many lines of each kind `serve` writes for so many broken texts, made from these files in turn |
+//! | `HOW: WORDS \| TEXT` | the status that `serve` gives, and what the writer took |
+//!
+//! | `HOW` | How `serve` reads and writes |
+//! |---|---|
+//! | `whole` | from memory and to memory |
+//! | `padded to COUNT` | the same, the text followed by blanks to so many bytes |
+//! | `one byte a call` | a byte a call, and every other call is interrupted |
+//! | `reader fails after COUNT` | the reader fails once it gave so many bytes |
+//! | `writer fails after COUNT` | the writer fails once it took so many bytes |
+//! | `each allocation` | with each allocation refused in turn, which leaves the reply or leads to `no verdict: memory` |
+//!
+//! A line that begins with `#` is a heading, and has no answer. `long.bp` is a file of 65,537 bytes, which the program writes first.
+#![tactic(auto)]
+
+mod breaking;
+mod broken;
+mod case;
+mod kinds;
+mod memory;
+mod refused;
+mod streams;
+
+use std::io::{self, BufRead, BufReader};
+
+fn main(rt: HostRuntime) -> io::Result<()> {
+    case::write_long(&rt)?;
+    let input = BufReader::new(rt.alloc(), rt.reader())?;
+    for line in input.lines(rt.alloc()) {
+        let line = line?;
+        println!(rt; "{line}")?;
+        case::answered(&rt, line.as_str())?;
+    }
+    Ok(())
+}
