@@ -7,4 +7,4 @@ use Rattle.cli.specs.declared.asked.LineFault.{LineFault}
 abbrev pub Ends : Option (List ℕ) → Option (List ℕ) → ℕ → Type 0
 Ends taken written result =
     ((words : List (List ℕ)) × Runs words taken written result) ⊎
-        ((fault : LineFault) × Declines fault taken written result)
+    ((fault : LineFault) × Declines fault taken written result)

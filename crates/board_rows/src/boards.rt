@@ -198,8 +198,13 @@ fn alone<R: Abort, A: Allocator + Clone>(rt: &R, alloc: A) -> (Lines<A>, Line<A>
     ensures { (result.1.board ≡ result.0.lock.id) × (result.1.number ≡ 0) × (result.0.lock.lanes ≡ 1)
         × (result.1.seen.boxes ≡ 1) }
 {
-    let Ok((board, mut passes)) = <Lines<A> as Board<Letter, (), A>>::open(alloc, &(), 1, 0, Letter(10))
-    else {
+    let Ok((board, mut passes)) = <Lines<A> as Board<Letter, (), A>>::open(
+        alloc,
+        &(),
+        1,
+        0,
+        Letter(10),
+    ) else {
         panic!(rt; "no memory")
     };
     let Some(pass) = passes.pop() else {

@@ -40,7 +40,7 @@ Runs words taken written result =
 abbrev pub AnswersWords : List Text → Option (List ℕ) → Option (List ℕ) → ℕ → Type 0
 AnswersWords words taken written result =
     ((fault : LineFault) × line.Refuses words fault × (declined_status fault ≡ 0) × (result ≡ 0)
-        × Appends taken written (declined_bytes fault))
+    × Appends taken written (declined_bytes fault))
     ⊎ ((order : Order) × (path : Text) × line.AskFor words order path × (text : List ℕ) × (bytes : List ℕ)
-        × Replies text order bytes result
+    × Replies text order bytes result
     × Appends taken written bytes)

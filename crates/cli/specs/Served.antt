@@ -41,7 +41,7 @@ abbrev pub IsReply : List ℕ → Order → List ℕ → ℕ → Type 0
 IsReply text order bytes status =
     ((status ≤ 1) × Replies text order bytes status)
     ⊎ ((why : Refusal) × RefusalStands text (rounds_of order) (IsPastLimit text order) why × (bytes ≡ line_of why)
-        × (status ≡ status_of why))
+    × (status ≡ status_of why))
 
 -- These bytes with this status say that the file can't be read, or that memory gave out over it.
 abbrev pub IsUnread : List ℕ → ℕ → Type 0

@@ -58,12 +58,12 @@ turned false b = refl
 abbrev pub AreCombined : Operator → List ℕ → List ℕ → List ℕ → ℕ → Type 0
 AreCombined o left right words n =
     (k : ℕ) → k < n → (j : ℕ) → j < word_rows → bit_of (get_or words k 0) j ≡ operate o (bit_of (get_or left k 0) j)
-        (bit_of (get_or right k 0) j)
+    (bit_of (get_or right k 0) j)
 
 pub combined_next : (o : Operator) (left right words : List ℕ) (n w : ℕ) → n < length words
     → AreCombined o left right words n →
     ((j : ℕ) → j < word_rows → bit_of w j ≡ operate o (bit_of (get_or left n 0) j) (bit_of (get_or right n 0) j))
-        → AreCombined o left right (set words n w) (n + 1)
+    → AreCombined o left right (set words n w) (n + 1)
 combined_next o left right words n w inside so_far here k less j row = go (k == n) refl
   where
     go : (b : Bool) → (k == n) ≡ b → bit_of (get_or (set words n w) k 0) j ≡ operate o (bit_of (get_or left k 0) j)
@@ -71,7 +71,7 @@ combined_next o left right words n w inside so_far here k less j row = go (k == 
     go true e =
         let same = eqb-true k n e in
         ap (λ i. bit_of (get_or (set words n w) i 0) j) same ∙ ap (λ v. bit_of v j)
-            (get_or-set_same words n w 0 inside) ∙ here j row
+        (get_or-set_same words n w 0 inside) ∙ here j row
         ∙ ap (λ i. operate o (bit_of (get_or left i 0) j) (bit_of (get_or right i 0) j)) (sym same)
     go false e =
         let apart = eqb-false k n e in
@@ -162,8 +162,11 @@ slot_last b (x ∷ xs) = go (b == x) (slot_last b xs)
 -- a read of the bit in this slot
 pub reads_slot : (b s : ℕ) (words : List ℕ) (xs : List ℕ) → slot b xs ≡ s → is_input b xs ≡ true →
     ((j : ℕ) → j < most_rows → output words j ≡ bit_of j s) → Tabulates xs words (var b)
-reads_slot b s words xs at there right = record { reads = there; rows = λ j less. right j less ∙ ap (bit_of j)
-    (sym at) }
+reads_slot b s words xs at there right = record {
+  reads = there;
+  rows = λ j less. right j less ∙ ap (bit_of j)
+      (sym at);
+}
 
 pub bits_pushed : (b : ℕ) (xs : List ℕ) → b < most_places → AreBits xs → AreBits (xs ++ (b ∷ []))
 bits_pushed b [] h k = (h, tt)
@@ -194,15 +197,21 @@ widened xs ys w e t = record {
 -- the outputs of a constant: the same in each row
 pub constant : (xs words : List ℕ) (c : Bool) → all_below most_rows (λ j. same (output words j) c) ≡ true
     → Tabulates xs words (const c)
-constant xs words c h = record { reads = tt; rows = λ j less. same_is (output words j) c
-    (below most_rows (λ k. same (output words k) c) h j less) }
+constant xs words c h = record {
+  reads = tt;
+  rows = λ j less. same_is (output words j) c
+      (below most_rows (λ k. same (output words k) c) h j less);
+}
 
 -- what is not differs from 1
 pub complemented : (xs w ones v : List ℕ) (e : Expression ℕ) → Tabulates xs ones (const true) →
     ((j : ℕ) → j < most_rows → output v j ≡ operate xor (output w j) (output ones j)) → Tabulates xs w e
-        → Tabulates xs v (negation e)
-complemented xs w ones v e one turns t = record { reads = t.reads; rows = λ j less. turns j less
-    ∙ ap (operate xor (output w j)) (one.rows j less) ∙ turn (output w j) ∙ ap not (t.rows j less) }
+    → Tabulates xs v (negation e)
+complemented xs w ones v e one turns t = record {
+  reads = t.reads;
+  rows = λ j less. turns j less
+      ∙ ap (operate xor (output w j)) (one.rows j less) ∙ turn (output w j) ∙ ap not (t.rows j less);
+}
   where
     turn : (b : Bool) → operate xor b true ≡ not b
     turn true = refl
@@ -252,7 +261,7 @@ looked_up f xs words n e few enough t =
     let many : length (map f xs) ≡ length xs = length-map xs f in
     let most : 2 ^ length xs ≤ 2 ^ 10 = pow_mono few in
     let small : coded (map f xs) < 2 ^ length xs = subst (λ k. coded (map f xs) < 2 ^ k) many
-        (coded_small (map f xs)) in
+    (coded_small (map f xs)) in
     output_taken n (coded (map f xs)) words (omega (arith, small, enough))
     ∙ t.rows (coded (map f xs)) (omega (arith, most, small))
     ∙ worth_same (λ b. bit_of (coded (map f xs)) (slot b xs)) f xs e t.reads (λ b h. row_bit f xs b h)

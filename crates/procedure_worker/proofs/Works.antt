@@ -466,8 +466,11 @@ module _ {G : Type 0} (b : Start G) where
             number = given.stays.procedure ∙ is.number;
             table = given.table;
             due = λ i h. elim
-                (given.only i h) [ inl this ↦ fit_due d s k.stands.pass k.fits p drawn i this | inr old ↦ is.due i
-                    old ];
+                (given.only i h) [
+                  | inl this ↦ fit_due d s k.stands.pass k.fits p drawn i this
+                  | inr old ↦ is.due i
+                      old
+                ];
           };
       limit = ap most_of given.stays.limit ∙ k.stands.limit;
       only = λ i h. elim (given.only i h) [
@@ -573,8 +576,15 @@ module _ {G : Type 0} (b : Start G) where
         (
           record {
             stands = record {
-              pass = record { drawn = drawn; board = fresh.board; number = fresh.number; sound = fresh.sound; world =
-                  fresh.world; boxes = fresh.boxes };
+              pass = record {
+                drawn = drawn;
+                board = fresh.board;
+                number = fresh.number;
+                sound = fresh.sound;
+                world =
+                    fresh.world;
+                boxes = fresh.boxes;
+              };
               table = λ p are. record {
                 fit = are.0;
                 in_order = are.1;

@@ -84,7 +84,7 @@ module _ {A G : Type 0} (graph : Graph G) (q : ℕ) (f : Found A) (entries : Gro
           m,
           subst (λ d. Member d (under nat_eq entries.by_key a)) is
               (added_is nat_eq exact_unsigned_eq (under nat_eq f.entries.by_key)
-                  (under nat_eq entries.by_key) a from added others),
+              (under nat_eq entries.by_key) a from added others),
         ))
 
     pub begin_step : (Member from (under nat_eq f.entries.by_key a) → ⊥)

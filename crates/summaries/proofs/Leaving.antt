@@ -40,7 +40,7 @@ module _ {A G : Type 0} (graph : Graph G) (q : ℕ) (f g : Found A) where
       (others : (k : ℕ) → nat_eq a k ≡ false → under nat_eq g.exits.by_key k ≡ under nat_eq f.exits.by_key k)
       (new : HasExit f a b → ⊥)
       (gave : Gives
-          (Each (IsTold q a b) (under nat_eq f.entries.by_key a)) f.given.mails.items g.given.mails.items) where
+      (Each (IsTold q a b) (under nat_eq f.entries.by_key a)) f.given.mails.items g.given.mails.items) where
     abbrev M : NumberedMessage → Type 0
     M = TookMessage left_to
 

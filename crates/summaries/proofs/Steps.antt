@@ -61,8 +61,8 @@ starter_due p routine there k e =
     let x : Valuation = record { globals = zeros p.globals; places = zeros routine.places } in
     let zero_is : code x ≡ 0 = coded_zeros p.globals routine.places in
     let begins : IsZero p x =
-        subst (λ o. AtRoutine o (λ r. x ≡ record { globals = zeros p.globals; places = zeros r.places }))
-        (sym there) refl in
+    subst (λ o. AtRoutine o (λ r. x ≡ record { globals = zeros p.globals; places = zeros r.places }))
+    (sym there) refl in
     (entry starter x, (refl, begins), is_opening k e ∙ ap (numbered_entry starter) (sym zero_is))
 
 pub opening_fits : {G : Type 0} (graphs : Graphs G) → 0 < length (graphs_of graphs) → FitsIn graphs 0 (Entry Starter 0)

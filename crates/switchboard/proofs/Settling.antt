@@ -135,7 +135,7 @@ module _ {M W : Type 0} (fits : W → ℕ → M → Type 0) where
             let q = ends j p at in
             let closed_then = complete_is fits p.seen q.sound (sym (q.known) ∙ done) in
             close.1 (subst (λ l. IsClosed l)
-                (sym (same_order fits p.seen v q.sound closed_then q.before q.final)) closed_then);
+            (sym (same_order fits p.seen v q.sound closed_then q.before q.final)) closed_then);
         aborts = λ j p a at is.
             let now = (ends j p at).before.aborted a is in
             let near : a.by < boxes = subst (λ n. a.by < n) count (e.final.by a now) in

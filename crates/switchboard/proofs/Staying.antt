@@ -50,15 +50,15 @@ module _ {M W : Type 0} (fits : W → ℕ → M → Type 0) where
       let a = p.0 in
       let e : Entry M = Posted to s.number m job in
       let whole : part to t.seen.order ≡ part to a.front ++ event.Post s.number m ∷ [] = ap (part to) a.last
-          ∙ (part-append to a.front (e ∷ []) ∙ ap (λ l. part to a.front ++ l) (part_here to e [] refl)) in
+      ∙ (part-append to a.front (e ∷ []) ∙ ap (λ l. part to a.front ++ l) (part_here to e [] refl)) in
       let sizes = sizes_of (part to a.front) (legal_front (part to a.front) (event.Post s.number m)
-          (subst IsLegal whole (a.goes.sound.lawful.legal to))) in
+      (subst IsLegal whole (a.goes.sound.lawful.legal to))) in
       let more = ap (λ h. length (posts h)) whole
-          ∙ (ap length (posts-append (part to a.front) (event.Post s.number m ∷ [])) ∙ length-append
-          (posts (part to a.front)) ((s.number, m) ∷ [])) in
+      ∙ (ap length (posts-append (part to a.front) (event.Post s.number m ∷ [])) ∙ length-append
+      (posts (part to a.front)) ((s.number, m) ∷ [])) in
       let same = ap (λ h. length (takes h)) whole
-          ∙ (ap length (takes-append (part to a.front) (event.Post s.number m ∷ [])) ∙ length-append
-          (takes (part to a.front)) []) in
+      ∙ (ap length (takes-append (part to a.front) (event.Post s.number m ∷ [])) ∙ length-append
+      (takes (part to a.front)) []) in
       omega (arith, more, same, (closed to).0, sizes.fewer)
 
   -- nor is one that a message was taken from last, since its job is left

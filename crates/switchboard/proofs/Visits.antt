@@ -200,8 +200,15 @@ module _ {M W : Type 0} (fits : W → ℕ → M → Type 0) where
 
   -- a sight, by the state that it shows
   abbrev pub showing : Standing (State M W) → Bool → State M W → Sight M W
-  showing lane kept s = record { board = lane.lock; number = lane.number; calls = calls_of kept lane.left; made =
-      not kept; knows = is_complete s.order; seen = s }
+  showing lane kept s = record {
+    board = lane.lock;
+    number = lane.number;
+    calls = calls_of kept lane.left;
+    made =
+        not kept;
+    knows = is_complete s.order;
+    seen = s;
+  }
 
   pub shows_now : (lane : Standing (State M W)) (w : W) (boxes : ℕ) (kept : Bool) (s : State M W) → EndsIn lane.seen s → s.world ≡ w → s.boxes ≡ boxes → sight_of lane w boxes kept ≡ showing lane kept s
   shows_now lane w boxes kept s ends same_world same_boxes =
@@ -209,9 +216,21 @@ module _ {M W : Type 0} (fits : W → ℕ → M → Type 0) where
       let aborted = latest_is (λ (s : State M W). s.aborted) None lane.seen s ends in
       let world = sym same_world in
       let number = sym same_boxes in
-      λ i. record { board = lane.lock; number = lane.number; calls = calls_of kept lane.left; made = not kept; knows =
-          is_complete (order i); seen = record { world = world i; boxes = number i; order = order i; aborted =
-          aborted i } }
+      λ i. record {
+        board = lane.lock;
+        number = lane.number;
+        calls = calls_of kept lane.left;
+        made = not kept;
+        knows =
+            is_complete (order i);
+        seen = record {
+          world = world i;
+          boxes = number i;
+          order = order i;
+          aborted =
+              aborted i;
+        };
+      }
 
   pub shows : (lane : Standing (State M W)) (w : W) (boxes : ℕ) (kept : Bool) (p : IsPass fits lane w boxes kept) → sight_of lane w boxes kept ≡ showing lane kept p.last
   shows lane w boxes kept p = shows_now lane w boxes kept p.last p.ends p.same_world p.same_boxes
@@ -243,9 +262,9 @@ module _ {M W : Type 0} (fits : W → ℕ → M → Type 0) where
   same_order s t sound closed b later =
       let rest = b.order.0 in
       let law : IsLawful s.boxes (s.order ++ rest) = subst (λ l. IsLawful s.boxes l) b.order.1
-          (subst (λ n. IsLawful n t.order) b.boxes later.lawful) in
+      (subst (λ n. IsLawful n t.order) b.boxes later.lawful) in
       b.order.1 ∙ (ap (λ l. s.order ++ l) (nothing_follows s.boxes s.order rest sound.lawful closed law)
-          ∙ append-nil s.order)
+      ∙ append-nil s.order)
 
   pub complete_stays : (s t : State M W) → IsSound fits s → Before s t → IsSound fits t → is_complete s.order ≡ true
       → is_complete t.order ≡ true
@@ -392,8 +411,12 @@ module _ {M W : Type 0} (fits : W → ℕ → M → Type 0) where
       }
   took_is answer.Empty a b x y w boxes kept p v near t some_of =
       subst (λ z. Visit a b x z → Took fits (Ok answer.Empty) (showing a kept p.last) (showing b kept z)) (sym t.0)
-      (λ u. (looked_is a b x w boxes kept p u some_of, open_is x (found_of a b x x w boxes kept p u).sound t.1, t.2,
-      t.3)) v
+      (λ u. (
+        looked_is a b x w boxes kept p u some_of,
+        open_is x (found_of a b x x w boxes kept p u).sound t.1,
+        t.2,
+        t.3,
+      )) v
   took_is answer.Closed a b x y w boxes kept p v near t some_of =
       subst (λ z. Visit a b x z → Took fits (Ok answer.Closed) (showing a kept p.last) (showing b kept z)) (sym t.0)
       (λ u. (looked_is a b x w boxes kept p u some_of, closed_is x (found_of a b x x w boxes kept p u).sound t.1)) v

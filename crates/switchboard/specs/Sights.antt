@@ -60,8 +60,15 @@ module _ {M W : Type 0} where
 
   -- a pass that has seen the opening post alone
   abbrev pub fresh_sight : TableId → ℕ → State M W → ℕ → Sight M W
-  fresh_sight id budget s number = record { board = id; number = number; calls = budget - 1; made = false; knows =
-      false; seen = s }
+  fresh_sight id budget s number = record {
+    board = id;
+    number = number;
+    calls = budget - 1;
+    made = false;
+    knows =
+        false;
+    seen = s;
+  }
 
   -- so many passes, numbered from `first` on
   abbrev pub fresh_sights : TableId → ℕ → State M W → ℕ → ℕ → List (Sight M W)

@@ -11,11 +11,28 @@ returns-in-Ok-open-clause-runs g c =
 pub returns-clause-runs : goal.returns-clause-runs
 returns-clause-runs g c =
     let (bytes, status, unread, writes) = c.unread.ensures.told in
-    inr (c.in-Ok.found.0, _, c.in-Ok.ensures.asks, record { bytes = bytes; status = status; due =
-        inr (([], tt, search rules), unread); writes = writes })
+    inr (
+      c.in-Ok.found.0,
+      _,
+      c.in-Ok.ensures.asks,
+      record {
+        bytes = bytes;
+        status = status;
+        due =
+            inr (([], tt, search rules), unread);
+        writes = writes;
+      },
+    )
 
 pub returns-in-Ok-open-clause-answers : goal.returns-in-Ok-open-clause-answers
 returns-in-Ok-open-clause-answers g c small =
     let told = c.serve_telling.ensures.answers small in
-    inr (c.in-Ok.found.0, string_bytes c.in-Ok.found.1, c.in-Ok.ensures.asks, told.text, told.bytes, told.reply,
-        told.wrote)
+    inr (
+      c.in-Ok.found.0,
+      string_bytes c.in-Ok.found.1,
+      c.in-Ok.ensures.asks,
+      told.text,
+      told.bytes,
+      told.reply,
+      told.wrote,
+    )

@@ -14,7 +14,7 @@ took_more : (a b c : Option (List ℕ)) (all : List ℕ) (at n m : ℕ) → m �
 took_more a b c all at n m is before more =
     let rest = ap (λ l. take at all ++ take n l) (take_rest all at) in
     subst (Appends a c) (rest ∙ sym (take-add at n all) ∙ ap (λ i. take i all) (sym is))
-        (Appends-trans a b c _ _ before more)
+    (Appends-trans a b c _ _ before more)
 
 -- where a write takes nothing
 took_same : (a b c : Option (List ℕ)) (all : List ℕ) (at m : ℕ) → m ≡ at → Appends a b (take at all) → Keeps b c

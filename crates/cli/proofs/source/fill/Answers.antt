@@ -21,7 +21,7 @@ slice_range-put_mid a k n xs ys within fits =
     let same : (a + n) - a ≡ n = omega arith in
     let after = post_of a k xs in
     ap (take ((a + n) - a)) (drop_at (take a xs) (ys ++ after) a (length-take-le a xs within))
-        ∙ ap (λ m. take m (ys ++ after)) same ∙ take-append-le n ys after fits
+    ∙ ap (λ m. take m (ys ++ after)) same ∙ take-append-le n ys after fits
 
 -- what was given before, and what a read gives behind it
 gave_more : (a b c : Option (List ℕ)) (room part : List ℕ) (at k n m : ℕ) → m ≡ at + n → at ≤ length room
@@ -40,7 +40,7 @@ gave_same : (a b c : Option (List ℕ)) (room part : List ℕ) (at k m : ℕ) �
 gave_same a b c room part at k m is within before kept =
     let new = put_mid at k room part in
     subst (Consumes a c) (sym (take-put_mid_below at k room part at (le_refl at) within) ∙ ap (λ i. take i new)
-        (sym is)) (Consumes-kept a b c _ before kept)
+    (sym is)) (Consumes-kept a b c _ before kept)
 
 pub loop-turn-preserved : goal.loop-turn-preserved
 loop-turn-preserved g c =

@@ -14,8 +14,13 @@ use Rattle.flow_graph.proofs.drawing.graph.Goals as goal
 
 pub block-requires : goal.block-requires
 block-requires g c = (
-  omega (arith, c.requires.0, ap length c.as_slice.ensures.value, ap length c.as_slice-2.ensures.value,
-      ap length c.as_slice-3.ensures.value),
+  omega (
+    arith,
+    c.requires.0,
+    ap length c.as_slice.ensures.value,
+    ap length c.as_slice-2.ensures.value,
+    ap length c.as_slice-3.ensures.value,
+  ),
   omega (arith, c.requires.1, ap length c.as_slice-4.ensures.value),
 )
 

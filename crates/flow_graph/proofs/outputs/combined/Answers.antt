@@ -19,4 +19,4 @@ returns c j less =
     let all : c.loop-at.at ≡ 16 = omega (arith, c.loop-at-test.false, c.loop-at.auto.at-end) in
     combined_rows (operator_of c.args.op) c.args.left.now c.args.right.now c.loop-at.outputs
     (subst (AreCombined
-        (operator_of c.args.op) c.args.left.now c.args.right.now c.loop-at.outputs) all c.loop-at.invariant.1) j less
+    (operator_of c.args.op) c.args.left.now c.args.right.now c.loop-at.outputs) all c.loop-at.invariant.1) j less

@@ -25,12 +25,12 @@ returns-in-Differs c j less = bits_xor c.args.left c.args.right j
 pub returns-in-Implies : goal.returns-in-Implies
 returns-in-Implies c j less =
     bits_or _ c.args.right j ∙ ap (λ b. b || bit_of c.args.right j)
-        (bits_not c.args.left j (let fits = c.ranges.left.fits in omega (arith, fits)) less)
+    (bits_not c.args.left j (let fits = c.ranges.left.fits in omega (arith, fits)) less)
     ∙ ap (λ o. operate (operator_of o) (bit_of c.args.left j) (bit_of c.args.right j)) (sym c.in-Implies.is)
 
 pub returns-in-Equal : goal.returns-in-Equal
 returns-in-Equal c j less =
     bits_xor _ c.args.right j ∙ ap (λ b. cond b (not (bit_of c.args.right j)) (bit_of c.args.right j))
-        (bits_not c.args.left j (let fits = c.ranges.left.fits in omega (arith, fits)) less)
+    (bits_not c.args.left j (let fits = c.ranges.left.fits in omega (arith, fits)) less)
     ∙ turned (bit_of c.args.left j) (bit_of c.args.right j)
     ∙ ap (λ o. operate (operator_of o) (bit_of c.args.left j) (bit_of c.args.right j)) (sym c.in-Equal.is)

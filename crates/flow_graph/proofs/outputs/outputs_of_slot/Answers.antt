@@ -30,22 +30,22 @@ pub returns-in-6 : goal.returns-in-6
 returns-in-6 c j less =
     rows_of_slot
     (0 ∷ ones ∷ 0 ∷ ones ∷ 0 ∷ ones ∷ 0 ∷ ones ∷ 0 ∷ ones ∷ 0 ∷ ones ∷ 0 ∷ ones ∷ 0 ∷ ones ∷ []) 6 refl j
-        less ∙ ap (bit_of j) (sym c.in-6.is)
+    less ∙ ap (bit_of j) (sym c.in-6.is)
 
 pub returns-in-7 : goal.returns-in-7
 returns-in-7 c j less =
     rows_of_slot
     (0 ∷ 0 ∷ ones ∷ ones ∷ 0 ∷ 0 ∷ ones ∷ ones ∷ 0 ∷ 0 ∷ ones ∷ ones ∷ 0 ∷ 0 ∷ ones ∷ ones ∷ []) 7 refl j
-        less ∙ ap (bit_of j) (sym c.in-7.is)
+    less ∙ ap (bit_of j) (sym c.in-7.is)
 
 pub returns-in-8 : goal.returns-in-8
 returns-in-8 c j less =
     rows_of_slot
     (0 ∷ 0 ∷ 0 ∷ 0 ∷ ones ∷ ones ∷ ones ∷ ones ∷ 0 ∷ 0 ∷ 0 ∷ 0 ∷ ones ∷ ones ∷ ones ∷ ones ∷ []) 8 refl j
-        less ∙ ap (bit_of j) (sym c.in-8.is)
+    less ∙ ap (bit_of j) (sym c.in-8.is)
 
 pub returns-in_default : goal.returns-in_default
 returns-in_default c j less =
     rows_of_slot
     (0 ∷ 0 ∷ 0 ∷ 0 ∷ 0 ∷ 0 ∷ 0 ∷ 0 ∷ ones ∷ ones ∷ ones ∷ ones ∷ ones ∷ ones ∷ ones ∷ ones ∷ []) 9 refl j
-        less ∙ ap (bit_of j) (let nine : 9 ≡ c.args.slot = omega (arith, c.requires, c.in_default) in nine)
+    less ∙ ap (bit_of j) (let nine : 9 ≡ c.args.slot = omega (arith, c.requires, c.in_default) in nine)

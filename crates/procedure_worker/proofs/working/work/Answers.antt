@@ -37,8 +37,11 @@ turn-requires g c = λ κs out.
                     out.1.1.1.1.1.1.1.0,
                     (
                       out.1.1.1.1.1.1.1.1,
-                      (refl, subst (λ z. IsReady z g.S.PathSet.members s w)
-                          (sym (own_is b g.S.PathSet.members s w ready)) ready),
+                      (
+                        refl,
+                        subst (λ z. IsReady z g.S.PathSet.members s w)
+                            (sym (own_is b g.S.PathSet.members s w ready)) ready,
+                      ),
                     ),
                   ),
                 ),

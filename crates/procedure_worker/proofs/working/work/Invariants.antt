@@ -9,5 +9,5 @@ ghost-turn g a = own_start (g.B.Board.sight a.pass.now) a.self.now (g.B.Board.id
 abbrev pub invariant-loop : goal.invariant-loop
 invariant-loop g l =
     IsReady (begun l.graphs l.procedure l.fn.limit (g.B.Board.identity l.board)) g.S.PathSet.members
-        (g.B.Board.sight l.pass) l.worker
+    (g.B.Board.sight l.pass) l.worker
     × (goal.iterator-loop g).can_next l.iterator' × (goal.iterator-loop g).is_finite l.iterator'

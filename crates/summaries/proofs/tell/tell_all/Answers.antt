@@ -17,8 +17,8 @@ loop-caller-preserved g c =
     let xs = c.args.callers.now in
     let i = c.loop-caller.caller-index in
     let more = gives_more (IsTold c.args.p c.args.a c.args.b)
-        (take i xs) _ c.args.given.now.mails.items c.loop-caller.given.mails.items c.tell.new.given.mails.items
-            c.loop-caller.invariant.0 c.in_ok-tell.ensures.ok in (
+    (take i xs) _ c.args.given.now.mails.items c.loop-caller.given.mails.items c.tell.new.given.mails.items
+    c.loop-caller.invariant.0 c.in_ok-tell.ensures.ok in (
       subst (λ l. Gives
           (Each (IsTold c.args.p c.args.a c.args.b) l) c.args.given.now.mails.items c.tell.new.given.mails.items)
           (sym (take_more xs i Starter c.loop-caller-test.true)) more,

@@ -17,11 +17,11 @@ loop-b-preserved g c =
     let xs = c.args.exits.now in
     let i = c.loop-b.b-index in
     let more = gives_more (λ b. IsTold c.args.p c.args.a b c.args.caller)
-        (take i xs) _ c.args.given.now.mails.items c.loop-b.given.mails.items c.tell.new.given.mails.items
-            c.loop-b.invariant.0 c.in_ok-tell.ensures.ok in (
+    (take i xs) _ c.args.given.now.mails.items c.loop-b.given.mails.items c.tell.new.given.mails.items
+    c.loop-b.invariant.0 c.in_ok-tell.ensures.ok in (
       subst (λ l. Gives
           (Each (λ b. IsTold c.args.p c.args.a b c.args.caller) l) c.args.given.now.mails.items
-              c.tell.new.given.mails.items) (sym (take_more xs i 0 c.loop-b-test.true)) more,
+          c.tell.new.given.mails.items) (sym (take_more xs i 0 c.loop-b-test.true)) more,
       c.in_ok-tell.ensures.answered ∙ c.loop-b.invariant.1,
     )
 
@@ -44,5 +44,5 @@ returns-clause-ok g c =
     let xs = c.args.exits.now in
     let end : c.loop-b.b-index ≡ length xs = omega (arith, c.loop-b-test.false, c.loop-b.auto.b-index-end) in
     subst (λ l. Gives
-        (Each (λ b. IsTold c.args.p c.args.a b c.args.caller) l) c.args.given.now.mails.items
-            c.loop-b.given.mails.items) (ap (λ n. take n xs) end ∙ take-length xs) c.loop-b.invariant.0
+    (Each (λ b. IsTold c.args.p c.args.a b c.args.caller) l) c.args.given.now.mails.items
+    c.loop-b.given.mails.items) (ap (λ n. take n xs) end ∙ take-length xs) c.loop-b.invariant.0

@@ -19,7 +19,7 @@ overflow_add-entry g c =
       c.args.self.now.fits,
     ) in
     let fits = entry_fits _ c.loop-argument.entry c.loop-argument.bit _
-        (byte_worth c.value.result) c.loop-argument.invariant.1 bit in
+    (byte_worth c.value.result) c.loop-argument.invariant.1 bit in
     omega (arith, fits)
 
 pub loop-argument-preserved : goal.loop-argument-preserved

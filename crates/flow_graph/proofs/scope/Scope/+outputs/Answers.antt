@@ -29,7 +29,7 @@ returns-in_ok-of-in-Not-clause-outputs g t c =
     let xs = c.outputs.new.inputs.items in
     subst (λ e. Tabulates xs c.combined.result (located s e)) (sym (ap expr_of c.in-Not.is ∙ expr_of-Not c.in-Not.a))
     (complemented xs c.in_ok-of-in-Not.of (replicate 16 18446744073709551615) c.combined.result
-        (located s (expr_of c.in-Not.a.value))
+    (located s (expr_of c.in-Not.a.value))
     (constant xs (replicate 16 18446744073709551615) true refl) c.combined.ensures
     (subst (λ e. Tabulates xs c.in_ok-of-in-Not.of (located s (expr_of e))) c.deref.ensures c.in_ok-of-in-Not.ensures.outputs))
 
@@ -39,9 +39,9 @@ returns-in_ok-right-in-Two-clause-outputs g t c =
     let xs = c.outputs-in-Two.new.inputs.items in
     let ys = c.outputs-in-Two-2.new.inputs.items in
     subst (λ e. Tabulates ys c.combined-in-Two.result (located s e))
-        (sym (ap expr_of c.in-Two.is ∙ expr_of-Two c.in-Two.op c.in-Two.a c.in-Two.b))
+    (sym (ap expr_of c.in-Two.is ∙ expr_of-Two c.in-Two.op c.in-Two.a c.in-Two.b))
     (operated xs ys c.in_ok-left-in-Two.left c.in_ok-right-in-Two.right c.combined-in-Two.result
-        (operator_of c.in-Two.op)
+    (operator_of c.in-Two.op)
     (located s (expr_of c.in-Two.a.value)) (located s (expr_of c.in-Two.b.value)) c.outputs-in-Two-2.ensures.widens
     (subst (λ e. Tabulates xs c.in_ok-left-in-Two.left (located s (expr_of e))) c.deref-in-Two.ensures c.in_ok-left-in-Two.ensures.outputs)
     (subst (λ e. Tabulates ys c.in_ok-right-in-Two.right (located s (expr_of e))) c.deref-in-Two-2.ensures c.in_ok-right-in-Two.ensures.outputs)

@@ -9,8 +9,8 @@ use Rattle.flow_graph.proofs.scope.Scope.formula.Goals as goal
 pub returns-in-Some : goal.returns-in-Some
 returns-in-Some g c gs ls e =
     let table =
-        subst (λ made. IfSome made
-        (λ t. IsTableOf t (over_bits c.args.self.now c.args.e.now))) c.in-Some.is c.in_ok-table.ensures in
+    subst (λ made. IfSome made
+    (λ t. IsTableOf t (over_bits c.args.self.now c.args.e.now))) c.in-Some.is c.in_ok-table.ensures in
     table (coded (gs ++ ls)) ∙ worth_is_value (scope_seen c.args.self.now) gs ls (expr_of c.args.e.now) e
 
 pub returns-in_ok-postfix-in-None : goal.returns-in_ok-postfix-in-None

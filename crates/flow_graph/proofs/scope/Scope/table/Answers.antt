@@ -9,6 +9,6 @@ pub returns : goal.returns
 returns g c v =
     let xs = c.outputs.new.inputs.items in
     let enough : 2 ^ length xs ≤ word_rows * c.words_for.result =
-        rw (← c.len.ensures.value) c.words_for.ensures.enough in
+    rw (← c.len.ensures.value) c.words_for.ensures.enough in
     ap (λ ws. output ws (coded (map (bit_of v) xs))) c.in_ok-outputs.ensures
     ∙ looked_up (bit_of v) xs c.in-Some.all c.words_for.result _ c.outputs.ensures.few enough c.in-Some.ensures.outputs

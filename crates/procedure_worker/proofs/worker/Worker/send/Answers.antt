@@ -20,7 +20,7 @@ returns-in-Err-Memory g c =
     let h = subst (λ f. WasRefused FitsIn c.args.due f s t) c.in-Err-Memory.field-0-is c.in-Err-Memory.ensures in
     sending_refused g.start g.S.PathSet.members c.args.job.now c.args.to c.args.due
     (stop.Failed cause.Memory) s t c.args.self.now _ c.requires.1.1.1.1.1.1.1.1.1.1 h.1.0 tt refl refl refl
-        c.reserve.ensures.items
+    c.reserve.ensures.items
 
 pub returns-in-Err-Aborted : goal.returns-in-Err-Aborted
 returns-in-Err-Aborted g c =

@@ -106,7 +106,7 @@ returns-clause-worked g c =
     c.go_on.ensures.ok)
     (IfOk-weaker c.go_on.result _ _
     (λ _ _. answers_still f.given.mails.items c.give_unless.new.self.mails.items f.given.answered
-        c.give_unless.new.self.answered
+    c.give_unless.new.self.answered
     f.given.within c.give_unless.ensures.answered c.in_ok-give_unless.ensures.ok.behind)
     c.go_on.ensures.ok)
     (record { graph = refl; procedure = refl; limit = refl }) refl

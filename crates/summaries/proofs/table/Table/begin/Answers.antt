@@ -105,9 +105,9 @@ returns-clause-worked g c =
     let grown = grows_as (λ t. t ≡ triple a c.start.result a) (λ t. t ≡ triple a self.graph.now.start a) es ds f.pending.items c.reach.new.pending.items
     (λ t is. is ∙ ap (λ n. triple a n a) c.start.ensures) (λ t is. is ∙ ap (λ n. triple a n a) (sym c.start.ensures)) c.in_ok-reach.ensures.ok in
     let gave = subst
-        (λ bs. Gives
-        (Each (λ b. IsTold self.procedure a b c.args.caller) bs) f.given.mails.items
-            c.tell_exits.new.given.mails.items) c.of-2.ensures c.in_ok-tell_exits.ensures.ok in
+    (λ bs. Gives
+    (Each (λ b. IsTold self.procedure a b c.args.caller) bs) f.given.mails.items
+    c.tell_exits.new.given.mails.items) c.of-2.ensures c.in_ok-tell_exits.ensures.ok in
     let step = begin_step self.graph.now self.procedure f c.add.new.self c.tell_exits.new.given c.reach.new.pending a
     c.args.caller c.in_ok-add.ensures.added c.in_ok-add.ensures.others es ds c.requires.holds.0
     (is_new g (goal.at.returns-clause-worked g c).After-add) grown gave in record {

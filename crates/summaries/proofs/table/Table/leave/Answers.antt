@@ -21,7 +21,7 @@ is_new : (g : Over) (c : In_ok-insert g) → c.in_ok-insert.field-0 ≡ true →
     Member (pair c.args.edge.entry c.left.result) c.args.self.now.found.pairs.keys → ⊥
 is_new g c =
     inserted_apart pair_eq
-        (pair c.args.edge.entry c.left.result) c.args.self.now.found.pairs.keys c.insert.new.self.keys
+    (pair c.args.edge.entry c.left.result) c.args.self.now.found.pairs.keys c.insert.new.self.keys
     c.in_ok-insert.field-0 c.in_ok-insert.ensures.added c.in_ok-insert.ensures.keys laws-law.refl
 
 pub tell_all-requires : goal.tell_all-requires

@@ -12,7 +12,7 @@ returns-then-not-branch-clause-quiet g c =
     let none = subst (λ b. OnFalse b (t.found.pending.items ≡ [])) c.if-not-branch.true step.none in
     let given = subst (λ b. OnFalse b (t.found.given ≡ c.answer.new.self.found.given)) c.if-not-branch.true step.given in
     quiet_table g.S.PathSet.members t held.0 held.1 none
-        (subst (λ gv. take gv.answered gv.mails.items ≡ gv.mails.items) (sym given) c.in_default-answer.ensures.all)
+    (subst (λ gv. take gv.answered gv.mails.items ≡ gv.mails.items) (sym given) c.in_default-answer.ensures.all)
 
 pub returns-in-Some-clause-few : goal.returns-in-Some-clause-few
 returns-in-Some-clause-few g c = let gv = c.args.self.now.found.given in answers_few gv.mails.items gv.answered
