@@ -51,7 +51,8 @@ fn tabulated<N: Allocator, A: Allocator + Copy, S: PathSet<A>>(
     match tabulate::<_, _, S>(alloc, &graphs, limit) {
         Ok(summaries) => Ok(summaries),
         Err(NoVerdict::EdgeLimit) => Err(Refusal::EdgeLimit),
-        Err(NoVerdict::Memory) => Err(Refusal::Memory),
+        // Want of memory: no other cause comes from one thread.
+        Err(_) => Err(Refusal::Memory),
     }
 }
 

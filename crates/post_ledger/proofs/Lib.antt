@@ -1,4 +1,4 @@
+pub mod Closing
 pub mod Histories
 pub mod Keeping
 pub mod Orders
-mod Closing

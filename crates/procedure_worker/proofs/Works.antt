@@ -5,6 +5,7 @@ use Rattle.std.proofs.Common.{refl, sym, ap, ◌∙◌, subst, arith, true, fals
 use Rattle.std.specs.Prelude.{Option, Result, IsSome}
 use Rattle.std.specs.Option.{ForSome}
 use Rattle.atomic_table.specs.Seated.{TableId}
+use Rattle.ticket_lock.specs.Facts.{StartsWith-trans}
 use Rattle.std.proofs.lemmas.Option.{slice_get_within}
 use Rattle.std.proofs.lemmas.List.{map-append}
 use Rattle.post_ledger.specs.declared.entry.Entry.{Entry}
@@ -30,9 +31,9 @@ use Rattle.summaries.specs.Found.{TookMessage}
 use Rattle.summaries.specs.Tables.{graph_of, procedure_of, limit_of, answers_of, failure, IsNew, IsQuiet, IsAnswer}
 use Rattle.summaries.specs.Tables.{Takes, Keeps}
 use Rattle.summaries.specs.Tabulated.{HasMoreEdges}
-use Rattle.summaries.specs.Together.{IsTableOf}
+use Rattle.summaries.specs.Together.{opening, IsTableOf}
 use Rattle.summaries.proofs.Tabled.{over_limit, answer_due}
-use Rattle.summaries.proofs.Steps.{number_of_due}
+use Rattle.summaries.proofs.Steps.{number_of_due, opening_fits}
 use Rattle.summaries.proofs.Sweeping.{same_taken, same_taken_back}
 use Rattle.switchboard.specs.declared.calls.Abort.{Abort}
 use Rattle.switchboard.specs.declared.calls.Cause.{Cause}
@@ -67,6 +68,8 @@ module _ {G : Type 0} (b : Start G) where
     board = g.board ∙ p.board;
     number = g.number ∙ p.number;
     sound = g.sound;
+    opened = StartsWith-trans t.seen.order s.seen.order (Posted 0 (length (graphs_of b.graphs)) opening.due 0 ∷
+        []) g.before.order p.opened;
     world = g.before.world ∙ p.world;
     boxes = g.before.boxes ∙ p.boxes;
   }
@@ -581,6 +584,7 @@ module _ {G : Type 0} (b : Start G) where
                 board = fresh.board;
                 number = fresh.number;
                 sound = fresh.sound;
+                opened = fresh.opened;
                 world =
                     fresh.world;
                 boxes = fresh.boxes;
@@ -618,16 +622,17 @@ module _ {G : Type 0} (b : Start G) where
         λ i. record { graphs = world i; number = number i; limit = limit i; board = b.board }
 
 -- a pass that has seen the opening alone
-pub new_fresh : {G : Type 0} (graphs : Graphs G) (board : TableId) (budget boxes to number : ℕ) (limit : EdgeLimit)
-    (m : Due)
-    → boxes ≡ length (graphs_of graphs) → number < boxes → to < boxes → FitsIn graphs to m
-    → IsFresh (begun graphs number limit board) (fresh_sight board budget (opened graphs boxes to m) number)
-new_fresh graphs board budget boxes to number limit m count near short fit = record {
-  board = refl;
-  number = refl;
-  sound = sound_open FitsIn graphs boxes to m short fit;
-  world = refl;
-  boxes = count;
-  made = refl;
-  none = own_else number (Posted to boxes m 0) [] (λ same. omega (arith, same, near));
-}
+pub new_fresh : {G : Type 0} (graphs : Graphs G) (board : TableId) (budget boxes number : ℕ) (limit : EdgeLimit)
+    → boxes ≡ length (graphs_of graphs) → number < boxes
+    → IsFresh (begun graphs number limit board) (fresh_sight board budget (opened graphs boxes 0 opening.due) number)
+new_fresh graphs board budget boxes number limit count near =
+    let some : 0 < boxes = omega (arith, near) in record {
+      board = refl;
+      number = refl;
+      sound = sound_open FitsIn graphs boxes 0 opening.due some (opening_fits graphs (subst (λ n. 0 < n) count some));
+      opened = ([], ap (λ n. Posted 0 n opening.due 0 ∷ []) count);
+      world = refl;
+      boxes = count;
+      made = refl;
+      none = own_else number (Posted 0 boxes opening.due 0) [] (λ same. omega (arith, same, near));
+    }

@@ -3,6 +3,9 @@ use Rattle.std.specs.Prelude.{◌≡◌, ◌≢◌, ◌⊎◌, ◌<◌, ◌++◌
 use Rattle.std.specs.Prelude.{Some, None, length, map}
 use Rattle.atomic_table.specs.Seated.{TableId}
 use Rattle.post_ledger.specs.Orders.{own, HasJob, IsClosed}
+use Rattle.post_ledger.specs.declared.entry.Entry.{Entry}
+use Rattle.post_ledger.specs.declared.entry.Entry.TheVariants.{Posted}
+use Rattle.ticket_lock.specs.History.{StartsWith}
 use Rattle.language.specs.Step.{Program}
 use Rattle.language.specs.Flow.{Member}
 use Rattle.path_sets.specs.Triples.{Triple}
@@ -23,7 +26,7 @@ use Rattle.summaries.specs.Fitting.{FitsIn}
 use Rattle.summaries.specs.Found.{TookMessage}
 use Rattle.summaries.specs.Tables.{limit_of, answers_of, failure, IsQuiet}
 use Rattle.summaries.specs.Tabulated.{HasMoreEdges}
-use Rattle.summaries.specs.Together.{IsTableOf}
+use Rattle.summaries.specs.Together.{opening, IsTableOf}
 use Rattle.switchboard.specs.declared.calls.Abort.{Abort}
 use Rattle.switchboard.specs.declared.calls.Cause.{Cause}
 use Rattle.switchboard.specs.declared.calls.Cause.TheVariants as cause
@@ -74,22 +77,28 @@ module _ {M W : Type 0} (fits : W → ℕ → M → Type 0) where
       ((s.calls ≡ 0) × Failed cause.Spent e s t)
   StopsSo job (stop.Failed c) e s t = Failed c e s t
 
+-- The order of a board begins with the starter's message, by which procedure 0 is entered with every value 0.
+abbrev pub IsOpened : ℕ → List (Entry Due) → Type 0
+IsOpened boxes order = StartsWith order (Posted 0 boxes opening.due 0 ∷ [])
+
 module _ {G : Type 0} (b : Start G) where
   -- The pass is that of the procedure, on the board of the graphs, which are some program's, and has seen a sound
-  -- order.
+  -- order, which the starter's message opened.
   pub record IsPassOf (s : Sight Due (Graphs G)) : Type 0 where
     pub drawn : (p : Program) × AreDrawnFrom p (graphs_of b.graphs)
     pub board : s.board ≡ b.board
     pub number : s.number ≡ b.number
     pub sound : IsSound FitsIn s.seen
+    pub opened : IsOpened (length (graphs_of b.graphs)) s.seen.order
     pub world : s.seen.world ≡ b.graphs
     pub boxes : s.seen.boxes ≡ length (graphs_of b.graphs)
 
-  -- The pass is that of the procedure as its board gave it: it has made no event and no abort.
+  -- The pass is that of the procedure as its board gave it, opened by the starter's message: it has made no event and no abort.
   pub record IsFresh (s : Sight Due (Graphs G)) : Type 0 where
     pub board : s.board ≡ b.board
     pub number : s.number ≡ b.number
     pub sound : IsSound FitsIn s.seen
+    pub opened : IsOpened (length (graphs_of b.graphs)) s.seen.order
     pub world : s.seen.world ≡ b.graphs
     pub boxes : s.seen.boxes ≡ length (graphs_of b.graphs)
     pub made : s.made ≡ false

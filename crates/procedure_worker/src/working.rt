@@ -18,7 +18,8 @@ use switchboard::Board;
 /// Works for a procedure: takes one message of its mailbox, posts all that its table then owes, completes it, and begins again,
 /// until the board is closed, or aborted by another pass, or by this one for a cause of its own. Between two takes that find the
 /// mailbox empty it lets other threads run. The pass must be that of the procedure, as the board gave it, and the board one of
-/// these graphs. Lists and table are in memory of `alloc`; their places are reserved before each call of the board.
+/// these graphs that the starter's message opened. Lists and table are in memory of `alloc`; their places are reserved before
+/// each call of the board.
 pub fn work<'g, R, G, H, A, B, S, K>(
     rt: &R,
     alloc: A,

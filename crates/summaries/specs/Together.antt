@@ -1,5 +1,5 @@
 -- The tables of all procedures together, while a program is tabulated.
-use Rattle.std.specs.Prelude.{◌≡◌, ◌<◌, ◌⊎◌, ◌↔◌, ℕ, nat_eq, Option, Some, None, List, map, slice_get}
+use Rattle.std.specs.Prelude.{◌≡◌, ◌<◌, ◌⊎◌, ◌↔◌, ℕ, nat_eq, Option, Some, None, List, length, map, slice_get}
 use Rattle.language.specs.Step.{Program}
 use Rattle.language.specs.Sequential.{IsDue}
 use Rattle.language.specs.Flow.{Member}
@@ -81,3 +81,7 @@ module _ {G A S : Type 0} (members : S → List Triple) where
   -- no table before this one owes a message
   abbrev pub AreQuietBefore : ℕ → List (Table G A S) → Type 0
   AreQuietBefore n ts = (q : ℕ) (t : Table G A S) → q < n → slice_get ts q ≡ Some t → IsQuiet members t
+
+  -- The tables are those of the program's procedures, have taken all that any of them answered, and owe nothing.
+  abbrev pub AreFull : Program → List (Table G A S) → Type 0
+  AreFull p ts = AreTables p (λ x. ⊥) ts × AreQuietBefore (length ts) ts

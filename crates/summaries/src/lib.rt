@@ -35,4 +35,4 @@ pub use pair::Pair;
 pub use summaries::Summaries;
 pub use table::Table;
 pub use table_fault::TableFault;
-pub use tabulation::{deliver, tabulate};
+pub use tabulation::{collect, deliver, tabulate};

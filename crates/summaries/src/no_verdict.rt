@@ -9,10 +9,16 @@ use std::alloc::{AllocError, AllocFailed};
 /// Why an analysis has no verdict.
 #[derive(Clone, Copy, Debug, PartialEq, Eq)]
 pub enum NoVerdict {
+    /// Some procedure of the rewritten program has more than 64 places: number 14.
+    TooWide,
     /// Memory is refused: number 19.
     Memory,
     /// Some procedure has more path edges than the limit: number 20.
     EdgeLimit,
+    /// A thread is refused: number 21.
+    NoWorker,
+    /// A worker has used up its calls: number 22.
+    Spent,
 }
 
 impl From<AllocError> for NoVerdict {

@@ -1,15 +1,12 @@
--- The tables are those of the program, and quiet in the end.
-use Rattle.std.proofs.Common.{◌≡◌, ◌↔◌, Err, length, sym, ap, ◌∙◌, subst}
-use Rattle.round_rewrite.specs.Law.{SomeBad}
+-- The tables are those of the program, and full in the end.
+use Rattle.std.proofs.Common.{◌≡◌, Err, sym, ap, subst}
 use Rattle.flow_graph.specs.Graphs.{AreDrawnFrom}
 use Rattle.summaries.specs.declared.no_verdict.NoVerdict.TheVariants as verdict
-use Rattle.summaries.specs.Tabulated.{SomePairBad}
-use Rattle.summaries.specs.Together.{AreReadOff}
-use Rattle.summaries.proofs.Steps.{as_many, fault_told, limit_told, new_tables}
-use Rattle.summaries.proofs.Tabulating.{few, all_summaries, all_bad}
+use Rattle.summaries.proofs.Steps.{fault_told, limit_told, new_tables}
+use Rattle.summaries.specs.Together.{HaveLimit, AreFull}
 use Rattle.summaries.proofs.tabulation.tabulate.Given.{Over}
 use Rattle.summaries.proofs.tabulation.tabulate.Goals as goal
-use Rattle.summaries.proofs.tabulation.tabulate.Goals.{In_ok-procedures}
+use Rattle.summaries.proofs.tabulation.tabulate.Goals.{In_ok-collect}
 use Rattle.summaries.specs.Limits.{most_of}
 
 pub run-requires : goal.run-requires
@@ -22,31 +19,23 @@ returns-in_err-run-clause-limit g c = λ e.
     let told = fault_told _ c.from_residual-in_err-run.result verdict.EdgeLimit c.from_residual-in_err-run.ensures.1 e in
     c.in_err-run.ensures.limit (ap Err (limit_told c.in_err-run.field-0.0 told)) (most_of c.args.limit) c.in_ok-tables.ensures.limit
 
-same_length : (g : Over) (c : In_ok-procedures g) → length c.in_ok-procedures.procedures.items ≡ length c.run.new.tables.items
-same_length g c = c.in_ok-procedures.ensures.len ∙ ap length c.deref.ensures.value
-
-read_off : (g : Over) (c : In_ok-procedures g) → AreReadOff c.run.new.tables.items c.in_ok-procedures.procedures.items
-read_off g c = subst (λ l. AreReadOff l c.in_ok-procedures.procedures.items) c.deref.ensures.value c.in_ok-procedures.ensures.read
+-- no table owes anything in the end
+tables_full : (g : Over) (c : In_ok-collect g) → AreFull g.S.PathSet.members g.program c.deref.result.now
+tables_full g c =
+    let ran = c.in_ok-run.ensures in
+    subst (AreFull g.S.PathSet.members g.program) (sym c.deref.ensures.value) (ran.tables, ran.quiet)
 
 pub returns-clause-summaries : goal.returns-clause-summaries
-returns-clause-summaries g c =
-    let a = (goal.at.returns-clause-summaries g c).In_ok-procedures in
-    let ran = c.in_ok-run.ensures in
-    let ts = c.run.new.tables.items in (
-      same_length g a ∙ as_many g.S.PathSet.members g.program _ ts ran.tables,
-      all_summaries g.S.PathSet.members g.program ts ran.tables ran.quiet c.in_ok-procedures.procedures.items (same_length g a) (read_off g a),
-    )
+returns-clause-summaries g c = c.in_ok-collect.ensures.summaries g.program
+    (tables_full g ((goal.at.returns-clause-summaries g c).In_ok-collect))
 
 pub returns-clause-bad : goal.returns-clause-bad
-returns-clause-bad g c =
-    let a = (goal.at.returns-clause-bad g c).In_ok-procedures in
-    let ran = c.in_ok-run.ensures in
-    subst (λ b. SomePairBad (record { procedures = c.in_ok-procedures.procedures.items; bad = c.bad-bad.result }) ↔
-    SomeBad g.program b) c.bad-bad.ensures
-    (all_bad g.S.PathSet.members g.program c.run.new.tables.items ran.tables ran.quiet c.in_ok-procedures.procedures.items (same_length g a) (read_off g a) c.bad-bad.result)
+returns-clause-bad g c = c.in_ok-collect.ensures.bad g.program
+    (tables_full g ((goal.at.returns-clause-bad g c).In_ok-collect))
 
 pub returns-clause-few : goal.returns-clause-few
 returns-clause-few g c =
-    let ran = c.in_ok-run.ensures in
-    few g.S.PathSet.members g.program c.run.new.tables.items ran.tables ran.quiet (most_of c.args.limit)
-    (ran.limits (most_of c.args.limit) c.in_ok-tables.ensures.limit)
+    c.in_ok-collect.ensures.few g.program (most_of c.args.limit)
+    (tables_full g ((goal.at.returns-clause-few g c).In_ok-collect))
+    (subst (HaveLimit (most_of c.args.limit)) (sym c.deref.ensures.value)
+    (c.in_ok-run.ensures.limits (most_of c.args.limit) c.in_ok-tables.ensures.limit))

@@ -1,0 +1,5 @@
+pub mod Lists
+pub mod Full
+pub mod Causes
+pub mod Crews
+pub mod Reporting

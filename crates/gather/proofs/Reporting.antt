@@ -1,0 +1,80 @@
+-- From an opened board to a crew, and from lanes that have ended to the passes of their board.
+use Rattle.std.proofs.Common.{◌≡◌, inl, inr, ℕ, zero, suc, ◌+◌, ◌<◌, List, Some, slice_get, length}
+use Rattle.std.proofs.Common.{sym, ap, ◌∙◌, subst, arith}
+use Rattle.std.proofs.lemmas.Option.{none-some, same_Some, slice_get_within}
+use Rattle.atomic_table.specs.Seated.{TableId}
+use Rattle.post_ledger.proofs.Orders.{element_at}
+use Rattle.language.specs.Step.{Program}
+use Rattle.path_sets.specs.Triples.{Triple}
+use Rattle.flow_graph.specs.declared.graph.Graphs.{Graphs}
+use Rattle.flow_graph.specs.Drawn.{graphs_of}
+use Rattle.flow_graph.specs.Graphs.{AreDrawnFrom}
+use Rattle.summaries.specs.declared.due.Due.{Due}
+use Rattle.summaries.specs.declared.edge_limit.EdgeLimit.{EdgeLimit}
+use Rattle.summaries.specs.declared.table.Table.{Table}
+use Rattle.summaries.specs.Together.{opening}
+use Rattle.switchboard.specs.Sights.{Sight, State, opened, fresh_sight, fresh_sights}
+use Rattle.switchboard.specs.Promises.{AreAll}
+use Rattle.switchboard.proofs.Opening.{sights_count}
+use Rattle.procedure_worker.specs.declared.outcome.End.{End}
+use Rattle.procedure_worker.specs.declared.outcome.End.TheVariants.{Closed, Aborted, Failed}
+use Rattle.procedure_worker.specs.declared.outcome.Outcome.{Outcome}
+use Rattle.procedure_worker.specs.Works.{Start, begun, IsPassOf, IsFresh, EndsSo}
+use Rattle.procedure_worker.proofs.Works.{new_fresh}
+use Rattle.gather.specs.Ends.{LaneEnds, HaveEnded, IsCrew}
+
+-- a pass of a new board
+at_fresh : {M W : Type 0} (id : TableId) (budget : ℕ) (s : State M W) (first count j : ℕ) (p : Sight M W)
+    → slice_get (fresh_sights id budget s first count) j ≡ Some p → (j < count) × (p ≡ fresh_sight id budget s (first + j))
+at_fresh id budget s first zero j p e = absurd (none-some p e)
+at_fresh id budget s first (suc count) zero p e =
+    (omega arith, sym (same_Some (fresh_sight id budget s first) p e) ∙ ap (fresh_sight id budget s) (omega arith))
+at_fresh id budget s first (suc count) (suc j) p e =
+    let (near, is) = at_fresh id budget s (suc first) count j p e in
+    (omega (arith, near), is ∙ ap (fresh_sight id budget s) (omega arith))
+
+-- the passes of a board of flow graphs that was just opened are a crew
+pub new_crew : {G : Type 0} (graphs : Graphs G) (limit : EdgeLimit) (id : TableId) (budget n : ℕ)
+    → ((p : Program) × AreDrawnFrom p (graphs_of graphs)) → n ≡ length (graphs_of graphs)
+    → (passes : List (Sight Due (Graphs G))) → passes ≡ fresh_sights id budget (opened graphs n 0 opening.due) 0 n
+    → IsCrew graphs limit id passes
+new_crew graphs limit id budget n drawn count passes are = record {
+  drawn = drawn;
+  all = ap length are ∙ (sights_count id budget (opened graphs n 0 opening.due) 0 n ∙ count);
+  fresh = λ q s at.
+      let (near, is) = at_fresh id budget (opened graphs n 0 opening.due) 0 n q s (subst (λ l. slice_get l q ≡ Some s) are at) in
+      subst (IsFresh (begun graphs q limit id)) (sym is)
+      (subst (λ k. IsFresh (begun graphs q limit id) (fresh_sight id budget (opened graphs n 0 opening.due) k)) (omega arith)
+      (new_fresh graphs id budget n q limit count near));
+}
+
+module _ {G A S : Type 0} (members : S → List Triple) where
+  -- a lane that has ended has the pass of its number
+  pass_ended : (b : Start G) (e : End) (s : Sight Due (Graphs G)) (t : Table G A S) (took : List Due) (sent : List (ℕ × Due))
+      → EndsSo b members e s t took sent → IsPassOf b s
+  pass_ended b Closed s t took sent so = so.0.0.0.stands.pass
+  pass_ended b Aborted s t took sent so = so.0.pass
+  pass_ended b (Failed c) s t took sent so = so.0.pass
+
+  lane_pass : (b : Start G) (s : Sight Due (Graphs G)) (o : Outcome G A S) → LaneEnds members b s o → IsPassOf b s
+  lane_pass b s o (inl e) = pass_ended b o.end s e.0 o.takes.items o.posts.items e.2
+  lane_pass b s o (inr idle) = idle.pass
+
+  module _ (graphs : Graphs G) (limit : EdgeLimit) (board : TableId) (passes : List (Sight Due (Graphs G)))
+      (outcomes : List (Outcome G A S)) (ended : HaveEnded members graphs limit board passes outcomes) where
+    lane_at : (q : ℕ) (s : Sight Due (Graphs G)) → slice_get passes q ≡ Some s
+        → (o : Outcome G A S) × (slice_get outcomes q ≡ Some o) × LaneEnds members (begun graphs q limit board) s o
+    lane_at q s is =
+        let near : q < length (graphs_of graphs) = subst (λ n. q < n) ended.each_pass (slice_get_within passes q s is) in
+        let (o, there) = element_at outcomes q (subst (λ n. q < n) (sym ended.each_outcome) near) in
+        (o, there, ended.ends q s o is there)
+
+    -- the passes are all of the board's
+    pub all_passes : (n : ℕ) → n ≡ length (graphs_of graphs) → AreAll board n passes
+    all_passes n count = (
+      ended.each_pass ∙ sym count,
+      λ q s is.
+          let (o, there, ends) = lane_at q s is in
+          let pass = lane_pass (begun graphs q limit board) s o ends in
+          (pass.board, pass.number, pass.boxes ∙ sym count),
+    )

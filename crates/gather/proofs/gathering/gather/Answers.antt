@@ -1,0 +1,50 @@
+-- Where no end names a cause the tables are full; else the least cause is answered.
+use Rattle.std.proofs.Common.{sym, ◌∙◌, subst}
+use Rattle.summaries.specs.Limits.{most_of}
+use Rattle.summaries.specs.Together.{HaveLimit, AreFull}
+use Rattle.gather.specs.Gathered.{ends_of, NoneFailed}
+use Rattle.gather.proofs.Causes.{by_memory}
+use Rattle.gather.proofs.Full.{all_closed, shut, full, limits}
+use Rattle.gather.proofs.gathering.gather.Given.{Over}
+use Rattle.gather.proofs.gathering.gather.Goals as goal
+use Rattle.gather.proofs.gathering.gather.Goals.{In_default}
+
+none_failed : (g : Over) (c : In_default g) → NoneFailed (ends_of c.args.outcomes.items)
+none_failed g c = subst (λ l. NoneFailed (ends_of l)) c.deref.ensures.value c.in_default.ensures
+
+pub returns-in_err-tables : goal.returns-in_err-tables
+returns-in_err-tables g c = λ histories closed of.
+    let none = none_failed g (goal.at.returns-in_err-tables g c).In_default in
+    by_memory _ (ends_of c.args.outcomes.items) _ c.from_residual.result c.from_residual.ensures.1 (λ why is. is)
+    (all_closed g.S.PathSet.members c.args.graphs.now of.limit of.board of.passes c.args.outcomes.items
+    histories closed of.ended of.settled none)
+
+pub returns-in_err-collect : goal.returns-in_err-collect
+returns-in_err-collect g c = λ histories closed of.
+    let none = none_failed g (goal.at.returns-in_err-collect g c).In_default in
+    by_memory _ (ends_of c.args.outcomes.items) _ c.from_residual-in_err-collect.result
+    c.from_residual-in_err-collect.ensures.1 (λ why is. is)
+    (all_closed g.S.PathSet.members c.args.graphs.now of.limit of.board of.passes c.args.outcomes.items
+    histories closed of.ended of.settled none)
+
+pub returns : goal.returns
+returns g c = λ histories closed of.
+    let members = g.S.PathSet.members in
+    let graphs = c.args.graphs.now in
+    let outcomes = c.args.outcomes.items in
+    let none = none_failed g (goal.at.returns g c).In_default in
+    let at = sym (c.deref-2.ensures.value ∙ c.in_ok-tables.ensures) in
+    let collected = c.in_ok-collect.ensures in
+    let whole = full members graphs of.limit of.board of.passes outcomes histories closed of.ended of.settled none in (
+      record {
+        shut = shut members graphs of.limit of.board of.passes outcomes histories closed of.ended of.settled none;
+        ended = all_closed members graphs of.limit of.board of.passes outcomes histories closed of.ended of.settled none;
+        summaries = λ p drawn. collected.summaries p (subst (AreFull members p) at (whole p drawn));
+        bad = λ p drawn. collected.bad p (subst (AreFull members p) at (whole p drawn));
+        few = λ p drawn.
+            collected.few p (most_of of.limit) (subst (AreFull members p) at (whole p drawn))
+            (subst (HaveLimit (most_of of.limit)) at
+            (limits members graphs of.limit of.board of.passes outcomes histories closed of.ended of.settled none));
+      },
+      tt,
+    )

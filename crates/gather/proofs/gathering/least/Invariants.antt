@@ -1,0 +1,7 @@
+-- the least cause of the ends so far
+use Rattle.std.proofs.Common.{take}
+use Rattle.gather.specs.Gathered.{ends_of, IsLeastOf}
+use Rattle.gather.proofs.gathering.least.Given as goal
+
+abbrev pub invariant-loop-outcome : goal.invariant-loop-outcome
+invariant-loop-outcome g l = IsLeastOf (ends_of (take l.outcome-index l.outcomes)) l.least

@@ -1,0 +1,64 @@
+-- How the lanes of a board end.
+use Rattle.std.specs.Prelude.{◌≡◌, ◌⊎◌, ℕ, Bool, true, List, [], None, Some, length, slice_get}
+use Rattle.atomic_table.specs.Seated.{TableId}
+use Rattle.post_ledger.specs.declared.event.Event.{Event}
+use Rattle.post_ledger.specs.Orders.{own}
+use Rattle.language.specs.Step.{Program}
+use Rattle.path_sets.specs.Triples.{Triple}
+use Rattle.flow_graph.specs.declared.graph.Graphs.{Graphs}
+use Rattle.flow_graph.specs.Drawn.{graphs_of}
+use Rattle.flow_graph.specs.Graphs.{AreDrawnFrom}
+use Rattle.summaries.specs.declared.due.Due.{Due}
+use Rattle.summaries.specs.declared.edge_limit.EdgeLimit.{EdgeLimit}
+use Rattle.summaries.specs.Fitting.{FitsIn}
+use Rattle.switchboard.specs.declared.calls.Cause.TheVariants.{NoWorker}
+use Rattle.switchboard.specs.Sights.{Sight}
+use Rattle.switchboard.specs.Promises.{Settles}
+use Rattle.procedure_worker.specs.declared.outcome.End.TheVariants.{Failed}
+use Rattle.procedure_worker.specs.declared.outcome.Outcome.{Outcome}
+use Rattle.procedure_worker.specs.Works.{Start, begun, IsPassOf, IsFresh, HasEnded}
+
+-- The lane had no thread: its pass aborted the board for that, and made no event.
+pub record HadNoThread {G A S : Type 0} (b : Start G) (s : Sight Due (Graphs G)) (o : Outcome G A S) : Type 0 where
+  pub pass : IsPassOf b s
+  pub made : s.made ≡ true
+  pub none : own b.number s.seen.order ≡ []
+  pub table : o.table ≡ None
+  pub named : o.end ≡ Failed NoWorker
+  pub takes : o.takes.items ≡ []
+  pub posts : o.posts.items ≡ []
+
+module _ {G A S : Type 0} (members : S → List Triple) where
+  -- the lane's worker has ended, or it had no thread
+  abbrev pub LaneEnds : Start G → Sight Due (Graphs G) → Outcome G A S → Type 0
+  LaneEnds b s o = HasEnded b members s o ⊎ HadNoThread b s o
+
+  -- each lane of which there is a pass and an outcome has ended
+  abbrev pub AllEnd : Graphs G → EdgeLimit → TableId → List (Sight Due (Graphs G)) → List (Outcome G A S) → Type 0
+  AllEnd graphs limit board passes outcomes =
+      (q : ℕ) (s : Sight Due (Graphs G)) (o : Outcome G A S) → slice_get passes q ≡ Some s
+      → slice_get outcomes q ≡ Some o → LaneEnds (begun graphs q limit board) s o
+
+  -- The lanes of all procedures have ended, by number, each with at most so many path edges, on one board.
+  pub record HaveEnded (graphs : Graphs G) (limit : EdgeLimit) (board : TableId) (passes : List (Sight Due (Graphs G)))
+      (outcomes : List (Outcome G A S)) : Type 0 where
+    pub each_pass : length passes ≡ length (graphs_of graphs)
+    pub each_outcome : length outcomes ≡ length (graphs_of graphs)
+    pub ends : AllEnd graphs limit board passes outcomes
+
+  -- The outcomes are those of the lanes of one board, which has left these histories.
+  pub record AreOfBoard (graphs : Graphs G) (histories : List (List (Event Due))) (closed : Bool)
+      (outcomes : List (Outcome G A S)) : Type 0 where
+    pub limit : EdgeLimit
+    pub board : TableId
+    pub passes : List (Sight Due (Graphs G))
+    pub ended : HaveEnded graphs limit board passes outcomes
+    pub settled : Settles FitsIn (length (graphs_of graphs)) passes histories closed
+
+-- The graphs are some program's, and the passes are those of all its procedures, by number, as a board gave them that the
+-- starter's message opened.
+pub record IsCrew {G : Type 0} (graphs : Graphs G) (limit : EdgeLimit) (board : TableId)
+    (passes : List (Sight Due (Graphs G))) : Type 0 where
+  pub drawn : (p : Program) × AreDrawnFrom p (graphs_of graphs)
+  pub all : length passes ≡ length (graphs_of graphs)
+  pub fresh : (q : ℕ) (s : Sight Due (Graphs G)) → slice_get passes q ≡ Some s → IsFresh (begun graphs q limit board) s

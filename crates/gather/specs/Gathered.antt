@@ -1,0 +1,110 @@
+-- What is gathered of outcomes.
+use Rattle.std.specs.Prelude.{◌≡◌, ◌≤◌, ◌⊎◌, ◌↔◌, ℕ, Bool, true, List, [], ◌∷◌}
+use Rattle.std.specs.Prelude.{Option, Some, None, map, Result, IfOk, IfErr}
+use Rattle.atomic_table.specs.Seated.{TableId}
+use Rattle.post_ledger.specs.declared.event.Event.{Event}
+use Rattle.language.specs.Step.{Program}
+use Rattle.language.specs.Flow.{Member}
+use Rattle.path_sets.specs.Triples.{Triple}
+use Rattle.round_rewrite.specs.Law.{SomeBad}
+use Rattle.flow_graph.specs.declared.graph.Graphs.{Graphs}
+use Rattle.flow_graph.specs.Drawn.{bad_of, graphs_of}
+use Rattle.flow_graph.specs.Graphs.{AreDrawnFrom}
+use Rattle.summaries.specs.declared.due.Due.{Due}
+use Rattle.summaries.specs.declared.edge_limit.EdgeLimit.{EdgeLimit}
+use Rattle.summaries.specs.Limits.{most_of}
+use Rattle.summaries.specs.Effects.{Effects}
+use Rattle.summaries.specs.Tabulated.{AreSummaries, SomePairBad, HasMoreEdges}
+use Rattle.switchboard.specs.Sights.{Sight}
+use Rattle.gather.specs.Ends.{HaveEnded, AreOfBoard}
+use Rattle.summaries.specs.declared.no_verdict.NoVerdict.{NoVerdict}
+use Rattle.summaries.specs.declared.no_verdict.NoVerdict.TheVariants as verdict
+use Rattle.summaries.specs.declared.table.Table.{Table}
+use Rattle.switchboard.specs.declared.calls.Cause.{Cause}
+use Rattle.switchboard.specs.declared.calls.Cause.TheVariants as cause
+use Rattle.procedure_worker.specs.declared.outcome.End.{End}
+use Rattle.procedure_worker.specs.declared.outcome.End.TheVariants.{Closed, Failed}
+use Rattle.procedure_worker.specs.declared.outcome.Outcome.{Outcome}
+
+-- the number of a reason why there is no verdict
+abbrev pub number_of : NoVerdict → ℕ
+number_of verdict.TooWide = 14
+number_of verdict.Memory = 19
+number_of verdict.EdgeLimit = 20
+number_of verdict.NoWorker = 21
+number_of verdict.Spent = 22
+
+-- why there is no verdict, where a worker has failed
+abbrev pub verdict_of : Cause → NoVerdict
+verdict_of cause.Memory = verdict.Memory
+verdict_of cause.EdgeLimit = verdict.EdgeLimit
+verdict_of cause.NoWorker = verdict.NoWorker
+verdict_of cause.Spent = verdict.Spent
+
+module _ {G A S : Type 0} where
+  -- how the workers have ended
+  abbrev pub ends_of : List (Outcome G A S) → List End
+  ends_of outcomes = map (λ o. o.end) outcomes
+
+  -- the tables, with this one in front, if there is one
+  abbrev pub beside : Option (Table G A S) → List (Table G A S) → List (Table G A S)
+  beside None ts = ts
+  beside (Some t) ts = t ∷ ts
+
+  -- the tables that the outcomes have, in their order
+  abbrev pub tables_in : List (Outcome G A S) → List (Table G A S)
+  tables_in [] = []
+  tables_in (o ∷ os) = beside o.table (tables_in os)
+
+-- Some end names this reason, and none names one of a lesser number.
+pub record IsLeast (ends : List End) (why : NoVerdict) : Type 0 where
+  pub cause : Cause
+  pub named : Member (Failed cause) ends
+  pub is : why ≡ verdict_of cause
+  pub least : (c : Cause) → Member (Failed c) ends → number_of why ≤ number_of (verdict_of c)
+
+-- no end names a cause
+abbrev pub NoneFailed : List End → Type 0
+NoneFailed ends = (c : Cause) → Member (Failed c) ends → ⊥
+
+-- every worker has ended at the close
+abbrev pub AllClosed : List End → Type 0
+AllClosed ends = (e : End) → Member e ends → e ≡ Closed
+
+-- the reason is the least that an end names, if one names any
+abbrev pub IsLeastOf : List End → Option NoVerdict → Type 0
+IsLeastOf ends None = NoneFailed ends
+IsLeastOf ends (Some why) = IsLeast ends why
+
+-- The reason is one of the two, and its number is at most those of both.
+pub record IsLesser (one : Option NoVerdict) (other why : NoVerdict) : Type 0 where
+  pub either : (one ≡ Some why) ⊎ (why ≡ other)
+  pub below : number_of why ≤ number_of other
+  pub least : (w : NoVerdict) → one ≡ Some w → number_of why ≤ number_of w
+
+-- The summaries are those of the programs that the graphs are drawn from, where no procedure has more path edges than the limit,
+-- the board is closed, and every worker has ended at the close.
+pub record IsGathered {G : Type 0} (graphs : Graphs G) (most : ℕ) (closed : Bool) (ends : List End) (s : Effects) : Type 0 where
+  pub shut : closed ≡ true
+  pub ended : AllClosed ends
+  pub summaries : (p : Program) → AreDrawnFrom p (graphs_of graphs) → AreSummaries p s
+  pub bad : (p : Program) → AreDrawnFrom p (graphs_of graphs) → SomePairBad s ↔ SomeBad p (bad_of graphs)
+  pub few : (p : Program) → AreDrawnFrom p (graphs_of graphs) → (q : ℕ) → HasMoreEdges p q most → ⊥
+
+-- why nothing is gathered: the least cause that an end names, or want of memory where every worker ended at the close
+abbrev pub IsCause : List End → NoVerdict → Type 0
+IsCause ends why = IsLeast ends why ⊎ ((why ≡ verdict.Memory) × AllClosed ends)
+
+module _ {G A S : Type 0} (members : S → List Triple) where
+  -- The outcomes are gathered, whichever board they are of.
+  abbrev pub Gathers : Graphs G → List (Outcome G A S) → Result Effects NoVerdict → Type 0
+  Gathers graphs outcomes r =
+      (histories : List (List (Event Due))) (closed : Bool) (of : AreOfBoard members graphs histories closed outcomes)
+      → IfOk r (IsGathered graphs (most_of of.limit) closed (ends_of outcomes)) × IfErr r (IsCause (ends_of outcomes))
+
+-- The lanes with these passes have ended, and their outcomes are gathered.
+pub record HasGathered {G : Type 0} (A : Type 0) {S : Type 0} (members : S → List Triple) (graphs : Graphs G)
+    (limit : EdgeLimit) (board : TableId) (passes : List (Sight Due (Graphs G))) (r : Result Effects NoVerdict) : Type 0 where
+  pub outcomes : List (Outcome G A S)
+  pub ended : HaveEnded members graphs limit board passes outcomes
+  pub gathers : Gathers members graphs outcomes r

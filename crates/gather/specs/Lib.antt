@@ -1,0 +1,4 @@
+pub mod Ends
+pub mod Lanes
+pub mod Gathered
+pub mod Through

@@ -1,0 +1,19 @@
+-- What the histories of a board say where all of its messages are dealt with.
+use Rattle.std.specs.Prelude.{◌≡◌, ℕ, List, [], ◌++◌, Some, length, slice_get}
+use Rattle.post_ledger.specs.declared.event.Event.{Event}
+use Rattle.post_ledger.specs.declared.entry.Entry.{Entry}
+use Rattle.post_ledger.specs.History.{posts, takes}
+use Rattle.post_ledger.specs.Sides.{sent, taken}
+use Rattle.post_ledger.specs.Orders.{part, IsLawful, IsClosed}
+
+-- The histories are the parts of one lawful order. In each mailbox the messages posted were taken, each once and in the order of
+-- posting, and so were each sender's; and nothing was posted, or happened at all, after the close.
+pub record AreThrough {M : Type 0} (boxes : ℕ) (histories : List (List (Event M))) : Type 0 where
+  pub order : List (Entry M)
+  pub lawful : IsLawful boxes order
+  pub all : length histories ≡ boxes
+  pub parts : (q : ℕ) (h : List (Event M)) → slice_get histories q ≡ Some h → h ≡ part q order
+  pub each_taken : (q : ℕ) (h : List (Event M)) → slice_get histories q ≡ Some h → takes h ≡ posts h
+  pub in_order : (q s : ℕ) (h : List (Event M)) → slice_get histories q ≡ Some h → taken s h ≡ sent s h
+  pub close : IsClosed order
+  pub last : (front rest : List (Entry M)) → order ≡ front ++ rest → IsLawful boxes front → IsClosed front → rest ≡ []
