@@ -1,8 +1,13 @@
 //! From a text to a checked program, and to the summaries that one thread tabulates.
 
+ghost use Rattle.std.specs.Prelude.{◌≡◌};
+ghost use Rattle.language.specs.Sequential.{sequential_of};
+ghost use Rattle.language.specs.Step.{Program};
+ghost use Rattle.syntax.specs.Trees.{tree_of};
+
 use flow_graph::graphs;
 use path_sets::OrderedEdges;
-use round_rewrite::{Rounds, rewrite};
+use round_rewrite::{Rounds, Sequential, rewrite};
 use scopes::{Checked, check};
 use std::alloc::{Allocator, Global};
 use summaries::{EdgeLimit, NoVerdict, Summaries, tabulate};
@@ -31,11 +36,23 @@ fn checked<A: Allocator + Copy>(alloc: A, text: &str) -> Option<Checked<A>> {
     check(alloc, read(alloc, text.as_bytes()).ok()?).ok()
 }
 
+/// What one thread tabulates of a sequential program.
+fn by_graphs(
+    alloc: Global,
+    sequential: &Sequential<Global>,
+    limit: EdgeLimit,
+) -> Result<Summaries<Global>, NoVerdict>
+    ghost program: { Program }
+    requires { program ≡ sequential_of (tree_of sequential.now.program) }
+{
+    let graphs = graphs(&alloc, sequential)?;
+    tabulate::<_, _, OrderedEdges<Global>>(alloc, &graphs, limit)
+}
+
 /// What one thread tabulates.
 pub fn on_one_thread(alloc: Global, asked: &Asked) -> Result<Summaries<Global>, NoVerdict> {
-    let Ok(sequential) = rewrite(&alloc, &asked.program, asked.rounds) else {
-        return Err(NoVerdict::Memory);
-    };
-    let graphs = graphs(&alloc, &sequential)?;
-    tabulate::<_, _, OrderedEdges<Global>>(alloc, &graphs, asked.limit)
+    match rewrite(&alloc, &asked.program, asked.rounds) {
+        Ok(sequential) => by_graphs(alloc, &sequential, asked.limit),
+        Err(_) => Err(NoVerdict::Memory),
+    }
 }
