@@ -60,11 +60,7 @@ impl<A: Allocator> Flow<A> {
                 (Some((to, values)), choice < 1)
             }
             Flow::Test(Side::Value(formula), yes, no) => {
-                let to = if formula.value(values) {
-                    *yes
-                } else {
-                    *no
-                };
+                let to = if formula.value(values) { *yes } else { *no };
                 (Some((to, values)), false)
             }
             Flow::Assume(side, to) => {
