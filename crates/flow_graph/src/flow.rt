@@ -1,6 +1,6 @@
 //! What leads on from a point.
 
-ghost use Rattle.std.specs.Prelude.{◌≡◌};
+ghost use Rattle.std.specs.Prelude.{◌≡◌, ◌<◌, ◌^◌, ◌↔◌, IsTrue};
 ghost use Rattle.flow_graph.specs.Flows.{last_of, next_of};
 
 use crate::assignment::Assignment;
@@ -40,25 +40,38 @@ impl<A: Allocator> Flow<A> {
     pub fn next(&self, values: Word, choice: u64) -> Option<(Point, Word)>
         ensures { result ≡ next_of self.now values choice }
     {
+        self.choose(values, choice).0
+    }
+
+    /// Where the run goes on for a choice, as `next` tells, and whether there is a choice behind it, as `last` tells. So
+    /// who walks over all choices looks at the flow once for each.
+    pub fn choose(&self, values: Word, choice: u64) -> (Option<(Point, Word)>, bool)
+        ensures next { result.0 ≡ next_of self.now values choice }
+        ensures more { IsTrue result.1 ↔ (choice < last_of self.now) }
+        ensures few { last_of self.now < 2 ^ 64 }
+    {
         match self {
-            Flow::Assign(assignment, to) => Some((*to, assignment.next(values, choice))),
-            Flow::Test(side, yes, no) => {
-                let to = if side.value(values, choice) {
-                    *yes
-                } else {
-                    *no
-                };
-                Some((to, values))
+            Flow::Assign(assignment, to) => {
+                let next = assignment.next(values, choice);
+                (Some((*to, next)), choice < assignment.last())
+            }
+            Flow::Test(Side::Any, yes, no) => {
+                let to = if choice % 2 == 1 { *yes } else { *no };
+                (Some((to, values)), choice < 1)
+            }
+            Flow::Test(Side::Value(formula), yes, no) => {
+                let to = if formula.value(values) { *yes } else { *no };
+                (Some((to, values)), false)
             }
             Flow::Assume(side, to) => {
                 if side.value(values, 1) {
-                    Some((*to, values))
+                    (Some((*to, values)), false)
                 } else {
-                    None
+                    (None, false)
                 }
             }
-            Flow::Call(_) => None,
-            Flow::Return => None,
+            Flow::Call(_) => (None, false),
+            Flow::Return => (None, false),
         }
     }
 }

@@ -34,11 +34,12 @@ impl<A: Allocator> Table<A> {
     pub(crate) fn value(&self, values: Word) -> bool
         ensures { result ≡ table_worth self.now values }
     {
+        let inputs = self.inputs.as_slice();
+        let mut at = inputs.len();
         let mut row: u64 = 0;
-        let mut place: u64 = 1;
-        for input in self.inputs.as_slice() {
-            row += (values >> *input & 1) * place;
-            place *= 2;
+        while at > 0 {
+            at -= 1;
+            row = 2 * row + (values >> inputs[at] & 1);
         }
         self.outputs.word(row / WORD_ROWS) >> (row % WORD_ROWS) & 1 == 1
     }

@@ -50,9 +50,9 @@ pub(crate) fn lead<G: Allocator, A: Allocator, S: PathSet<A>>(
 {
     let mut choice = 0;
     'choices: loop {
-        let next = flow.next(from.values, choice);
+        let (next, more) = flow.choose(from.values, choice);
         reach_next(edges, pending, limit, from, next)?;
-        if choice >= flow.last() {
+        if !more {
             return Ok(());
         }
         choice += 1;

@@ -1,8 +1,19 @@
-use Rattle.std.proofs.Common.{◌≤◌, ◌+◌, Err, inl, inr, sym, ap, subst, arith, rules}
+use Rattle.std.proofs.Common.{◌≡◌, ◌≤◌, ◌<◌, ◌+◌, ◌↔◌, ◌∙◌, ℕ, Bool, true, false, nat_lt, Err, inl, inr, refl, sym, ap, subst}
+use Rattle.std.proofs.Common.{true≢false, arith, rules}
+use Rattle.std.specs.Bool.{IsTrue}
+use Rattle.std.proofs.lemmas.Bool.{ltb-true, ltb-false}
 use Rattle.flow_graph.specs.Flows.{last_of, next_of}
 use Rattle.summaries.specs.Grows.{Grows, IsAt, IsNextBefore, IsNext}
 use Rattle.summaries.proofs.Growing.{ok_err, fault_of, both, grows_as, next_more, next_so_far, next_all, all_next, some_next}
 use Rattle.summaries.proofs.lead.lead.Goals as goal
+
+-- a choice with none behind it is the last
+is_last : (k last : ℕ) (more : Bool) → (IsTrue more ↔ (k < last)) → more ≡ false → last ≤ k
+is_last k last more tells none = go (nat_lt k last) refl
+  where
+    go : (b : Bool) → nat_lt k last ≡ b → last ≤ k
+    go true e = absurd (true≢false (sym (tells.1 (ltb-true k last e)) ∙ none))
+    go false e = ltb-false k last e
 
 pub returns-in_err-reach_next : goal.returns-in_err-reach_next
 returns-in_err-reach_next g c =
@@ -12,14 +23,14 @@ returns-in_err-reach_next g c =
     let failed = c.in_err-reach_next.ensures in record {
       ok = search rules;
       only = λ t m. elim (failed.only t m) [
-        | inl at ↦ inl (k, most, subst (λ next. IsAt c.args.from next t) c.next-next.ensures at)
+        | inl at ↦ inl (k, most, subst (λ next. IsAt c.args.from next t) c.choose-next.ensures.next at)
         | inr mid ↦ elim (c.choices.invariant.0.only t mid)
             [ inl some ↦ inl (some_next flow c.args.from k most t some) | inr was ↦ inr was ]
       ];
       within = failed.within;
       limit = λ e.
           let (t, at, new, full) = failed.limit (ap Err (sym (fault_of _ _ _ c.from_residual.ensures.1 e))) in
-          (t, (k, most, subst (λ next. IsAt c.args.from next t) c.next-next.ensures at), new, full);
+          (t, (k, most, subst (λ next. IsAt c.args.from next t) c.choose-next.ensures.next at), new, full);
     }
 
 pub choices-preserved : goal.choices-preserved
@@ -28,26 +39,29 @@ choices-preserved g c =
     let from = c.args.from in
     let k = c.choices.choice in (
       both (IsNextBefore k flow from) (IsAt from (next_of flow from.values k)) (IsNextBefore (k + 1) flow from) _ _ _ _ _ _ c.choices.invariant.0
-          (subst (λ next. Grows (IsAt from next) (g.S.PathSet.members c.choices.edges) (g.S.PathSet.members c.reach_next.new.edges) c.choices.pending.items c.reach_next.new.pending.items) c.next-next.ensures c.in_ok-reach_next.ensures.ok)
+          (subst (λ next. Grows (IsAt from next) (g.S.PathSet.members c.choices.edges) (g.S.PathSet.members c.reach_next.new.edges) c.choices.pending.items c.reach_next.new.pending.items) c.choose-next.ensures.next c.in_ok-reach_next.ensures.ok)
           (next_more flow from k) (next_so_far flow from k),
       c.in_ok-reach_next.ensures.within,
-      omega (arith, c.if-choice-last.false, c.last.ensures),
+      omega (arith, c.choose-next.ensures.more.0 c.if-not-more.false),
     )
 
-pub returns-then-choice-last : goal.returns-then-choice-last
-returns-then-choice-last g c =
+pub returns-then-not-more : goal.returns-then-not-more
+returns-then-not-more g c =
     let flow = c.args.flow.now in
     let from = c.args.from in
     let k = c.choices.choice in
     let most = c.choices.invariant.2 in
-    let least : last_of flow ≤ k = omega (arith, c.if-choice-last.true, c.last.ensures) in
+    let least = is_last k (last_of flow) c.choose-next.result.1 c.choose-next.ensures.more c.if-not-more.true in
     let grown = grows_as (IsNextBefore (k + 1) flow from) (IsNext flow from) _ _ _ _ (next_all flow from k least most)
     (all_next flow from k least most)
     (both (IsNextBefore k flow from) (IsAt from (next_of flow from.values k)) (IsNextBefore (k + 1) flow from) _ _ _ _ _ _ c.choices.invariant.0
-    (subst (λ next. Grows (IsAt from next) (g.S.PathSet.members c.choices.edges) (g.S.PathSet.members c.reach_next.new.edges) c.choices.pending.items c.reach_next.new.pending.items) c.next-next.ensures c.in_ok-reach_next.ensures.ok)
+    (subst (λ next. Grows (IsAt from next) (g.S.PathSet.members c.choices.edges) (g.S.PathSet.members c.reach_next.new.edges) c.choices.pending.items c.reach_next.new.pending.items) c.choose-next.ensures.next c.in_ok-reach_next.ensures.ok)
     (next_more flow from k) (next_so_far flow from k)) in record {
       ok = grown;
       only = grown.only;
       within = c.in_ok-reach_next.ensures.within;
       limit = λ is. absurd (ok_err is);
     }
+
+pub overflow_add-choice : goal.overflow_add-choice
+overflow_add-choice g c = let below = c.choose-next.ensures.more.0 c.if-not-more.false in omega (arith, below, c.choose-next.ensures.few)

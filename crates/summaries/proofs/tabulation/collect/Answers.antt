@@ -1,5 +1,5 @@
 -- What is read off full tables is what the program's procedures do.
-use Rattle.std.proofs.Common.{◌≡◌, ◌↔◌, ◌∙◌, length, subst}
+use Rattle.std.proofs.Common.{◌↔◌, ◌∙◌, subst}
 use Rattle.round_rewrite.specs.Law.{SomeBad}
 use Rattle.summaries.specs.Tabulated.{SomePairBad}
 use Rattle.summaries.proofs.Steps.{as_many}

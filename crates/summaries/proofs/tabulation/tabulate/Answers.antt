@@ -1,5 +1,5 @@
 -- The tables are those of the program, and full in the end.
-use Rattle.std.proofs.Common.{◌≡◌, Err, sym, ap, subst}
+use Rattle.std.proofs.Common.{Err, sym, ap, subst}
 use Rattle.flow_graph.specs.Graphs.{AreDrawnFrom}
 use Rattle.summaries.specs.declared.no_verdict.NoVerdict.TheVariants as verdict
 use Rattle.summaries.proofs.Steps.{fault_told, limit_told, new_tables}
