@@ -6,7 +6,7 @@ ghost use Rattle.language.specs.Step.{Program};
 ghost use Rattle.syntax.specs.Trees.{tree_of};
 
 use flow_graph::graphs;
-use path_sets::OrderedEdges;
+use path_sets::PathSet;
 use round_rewrite::{Rounds, Sequential, rewrite};
 use scopes::{Checked, check};
 use std::alloc::{Allocator, Global};
@@ -36,23 +36,26 @@ fn checked<A: Allocator + Copy>(alloc: A, text: &str) -> Option<Checked<A>> {
     check(alloc, read(alloc, text.as_bytes()).ok()?).ok()
 }
 
-/// What one thread tabulates of a sequential program.
-fn by_graphs(
-    alloc: Global,
-    sequential: &Sequential<Global>,
+/// What one thread tabulates of a sequential program, with its path edges kept in sets of the type `S`.
+fn by_graphs<A: Allocator + Copy, S: PathSet<A>>(
+    alloc: A,
+    sequential: &Sequential<A>,
     limit: EdgeLimit,
-) -> Result<Summaries<Global>, NoVerdict>
+) -> Result<Summaries<A>, NoVerdict>
     ghost program: { Program }
     requires { program ≡ sequential_of (tree_of sequential.now.program) }
 {
     let graphs = graphs(&alloc, sequential)?;
-    tabulate::<_, _, OrderedEdges<Global>>(alloc, &graphs, limit)
+    tabulate::<_, _, S>(alloc, &graphs, limit)
 }
 
 /// What one thread tabulates.
-pub fn on_one_thread(alloc: Global, asked: &Asked) -> Result<Summaries<Global>, NoVerdict> {
+pub fn on_one_thread<A: Allocator + Copy, S: PathSet<A>>(
+    alloc: A,
+    asked: &Asked,
+) -> Result<Summaries<A>, NoVerdict> {
     match rewrite(&alloc, &asked.program, asked.rounds) {
-        Ok(sequential) => by_graphs(alloc, &sequential, asked.limit),
+        Ok(sequential) => by_graphs::<_, S>(alloc, &sequential, asked.limit),
         Err(_) => Err(NoVerdict::Memory),
     }
 }

@@ -2,6 +2,7 @@
 
 use crate::program::{Asked, on_one_thread};
 use gather::{Answer, Report, check_rounds};
+use path_sets::OrderedEdges;
 use post_ledger::Event;
 use procedure_worker::{Gate, Open};
 use std::alloc::{AllocError, Allocator, Global};
@@ -82,7 +83,10 @@ pub fn write<R: Wait + Threads + Sync, K: Gate + Sync>(
 ) -> Result<(), AllocError> {
     let report = check_rounds(rt, alloc, &asked.program, asked.rounds, asked.limit, gate);
     write_report(out, &report)?;
-    let same = match (&report, &on_one_thread(alloc, asked)) {
+    let same = match (
+        &report,
+        &on_one_thread::<_, OrderedEdges<Global>>(alloc, asked),
+    ) {
         (Ok(report), Ok(summaries)) => is_same(&report.summaries, summaries),
         (Err(one), Err(other)) => one == other,
         _ => false,
