@@ -6,3 +6,14 @@ pub mod Settling
 pub mod Opening
 pub mod Jobs
 pub mod Staying
+pub mod BoxWords
+pub mod BoxVisits
+pub mod BoxPuts
+pub mod BoxCalls
+pub mod BoxTakes
+pub mod BoxDones
+pub mod BoxPosts
+pub mod BoxSeats
+pub mod BoxLearns
+pub mod BoxOpening
+pub mod BoxEnding

@@ -1,6 +1,6 @@
 -- What a pass knows after it was inside once.
 use Rattle.std.proofs.Common.{◌≡◌, ◌≢◌, ◌⊎◌, inl, inr, ℕ, zero, suc, ◌+◌, ◌-◌, ◌<◌, Bool, true, false, not}
-use Rattle.std.proofs.Common.{List, [], ◌∷◌, ◌++◌, Some, None, Ok, Err, length, slice_get, Contains, refl, sym, ap, ◌∙◌}
+use Rattle.std.proofs.Common.{List, [], ◌∷◌, ◌++◌, Some, None, Ok, Err, length, slice_get, refl, sym, ap, ◌∙◌}
 use Rattle.std.proofs.Common.{subst, arith, IfErr, OnOk, MatchResult, eq-eqb, ne_eqb}
 use Rattle.std.specs.Prelude.{Option, Result, IsSome}
 use Rattle.std.proofs.lemmas.List.{append-nil}
@@ -10,16 +10,14 @@ use Rattle.ticket_lock.specs.Lanes.{Standing, Held}
 use Rattle.ticket_lock.specs.History.{EndsIn}
 use Rattle.ticket_lock.specs.Promises.{Entered, MayLeave, Left}
 use Rattle.ticket_lock.specs.Facts.{rises_last, EndsIn-same, StartsWith-refl}
-use Rattle.post_ledger.specs.declared.event.Event.{Event}
 use Rattle.post_ledger.specs.declared.event.Event.TheVariants as event
 use Rattle.post_ledger.specs.declared.entry.Entry.{Entry}
 use Rattle.post_ledger.specs.declared.entry.Entry.TheVariants as entry
-use Rattle.post_ledger.specs.History.{posts, takes, dones, MayFollow}
-use Rattle.post_ledger.specs.Orders.{mailbox_of, event_of, maker_of, part, own, posted, completed, HasJob, IsLawful}
+use Rattle.post_ledger.specs.History.{posts, takes}
+use Rattle.post_ledger.specs.Orders.{maker_of, part, own, posted, completed, HasJob, IsLawful}
 use Rattle.post_ledger.specs.Orders.{IsClosed}
-use Rattle.post_ledger.proofs.Histories.{at_push_cases}
 use Rattle.post_ledger.proofs.Orders.{counted_closed, nothing_follows}
-use Rattle.post_ledger.proofs.Orders.{UnderJob, lawful_push, part-append, part_here, part_else, own-append, own_here, own_else, job_inside}
+use Rattle.post_ledger.proofs.Orders.{part-append, part_here, part_else, own-append, own_here, own_else, job_inside}
 use Rattle.switchboard.specs.declared.calls.Abort.{Abort}
 use Rattle.switchboard.specs.declared.calls.PostFault.{PostFault}
 use Rattle.switchboard.specs.declared.calls.PostFault.TheVariants as fault
@@ -30,6 +28,7 @@ use Rattle.switchboard.specs.Books.{with_entry, Takes, Answers, Refuses}
 use Rattle.switchboard.specs.Promises.{GoesOn, Looked, Added, WasPosted, WasRefused, Took, MadeAbort}
 use Rattle.switchboard.specs.Passes.{is_by, is_complete, latest, calls_of, share, sight_of, Comes, IsPass}
 use Rattle.switchboard.specs.Laws.{before_refl, before_trans}
+use Rattle.switchboard.specs.Entries.{Allowed, sound_push, job_stays}
 
 -- a relation at other ends
 pub moved : {X : Type 0} (R : X → X → Type 0) (s s' t t' : X) → s ≡ s' → t ≡ t' → R s t → R s' t'
@@ -44,77 +43,11 @@ latest_is f d l x ends = ap (latest f d) ends.1 ∙ at_end f d ends.0 x
     at_end f d (y ∷ []) x = refl
     at_end f d (y ∷ z ∷ r) x = at_end f d (z ∷ r) x
 
--- what no Post tells of a history
-module _ {M X : Type 0} (f : List (Event M) → X) (posts : (s : ℕ) (m : M) (h : List (Event M)) → f (event.Post s m ∷ h) ≡ f h)
-    (next : (e : Event M) (h k : List (Event M)) → f h ≡ f k → f (e ∷ h) ≡ f (e ∷ k)) where
-  no_post : (p to s : ℕ) (m : M) (t : ℕ) (es : List (Entry M)) → f (part p (entry.Posted to s m t ∷ es)) ≡ f (part p es)
-  no_post p to s m t es = elim (cases_eq to p) [
-    | inl here ↦ ap f (part_here p (entry.Posted to s m t) es here) ∙ posts s m (part p es)
-    | inr else ↦ ap f (part_else p (entry.Posted to s m t) es else)
-  ]
-
-  -- an event of the maker's own mailbox
-  own_event : (p : ℕ) (e : Entry M) (es : List (Entry M)) → mailbox_of e ≡ maker_of e → f (part p es) ≡ f (part p (own p es)) →
-      f (part p (e ∷ es)) ≡ f (part p (own p (e ∷ es)))
-  own_event p e es one was = elim (cases_eq (maker_of e) p) [
-    | inl mine ↦ ap f (part_here p e es (one ∙ mine)) ∙ (next (event_of e) (part p es) (part p (own p es)) was
-        ∙ sym (ap (λ l. f (part p l)) (own_here p e es mine) ∙ ap f (part_here p e (own p es) (one ∙ mine))))
-    | inr other ↦ ap f (part_else p e es (λ is. other (sym one ∙ is))) ∙
-        (was ∙ sym (ap (λ l. f (part p l)) (own_else p e es other)))
-  ]
-
-  -- stands in the own list of the mailbox's pass
-  kept_own : (p : ℕ) (order : List (Entry M)) → f (part p order) ≡ f (part p (own p order))
-  kept_own p [] = refl
-  kept_own p (entry.Posted to s m t ∷ es) = no_post p to s m t es ∙ (kept_own p es ∙ elim (cases_eq s p) [
-    | inl mine ↦ sym (ap (λ l. f (part p l)) (own_here p (entry.Posted to s m t) es mine) ∙ no_post p to s m t (own p es))
-    | inr other ↦ sym (ap (λ l. f (part p l)) (own_else p (entry.Posted to s m t) es other))
-  ])
-  kept_own p (entry.Taken of s m ∷ es) = own_event p (entry.Taken of s m) es refl (kept_own p es)
-  kept_own p (entry.Completed of t ∷ es) = own_event p (entry.Completed of t) es refl (kept_own p es)
-
-module _ {M : Type 0} where
-  -- the Takes and the Dones of a mailbox stand in its pass's own list
-  pub takes_own : (p : ℕ) (order : List (Entry M)) → takes (part p order) ≡ takes (part p (own p order))
-  takes_own = kept_own takes (λ s m h. refl) next
-    where
-      next : (e : Event M) (h k : List (Event M)) → takes h ≡ takes k → takes (e ∷ h) ≡ takes (e ∷ k)
-      next (event.Post s m) h k same = same
-      next (event.Take s m) h k same = ap (λ l. (s, m) ∷ l) same
-      next (event.Done t) h k same = same
-
-  pub dones_own : (p : ℕ) (order : List (Entry M)) → dones (part p order) ≡ dones (part p (own p order))
-  dones_own = kept_own dones (λ s m h. refl) next
-    where
-      next : (e : Event M) (h k : List (Event M)) → dones h ≡ dones k → dones (e ∷ h) ≡ dones (e ∷ k)
-      next (event.Post s m) h k same = same
-      next (event.Take s m) h k same = same
-      next (event.Done t) h k same = ap (λ l. t ∷ l) same
-
-  -- a job stays one where the own list stays
-  pub job_stays : (p job : ℕ) (a b : List (Entry M)) → own p a ≡ own p b → HasJob p job a → HasJob p job b
-  job_stays p job a b same has = (
-    subst (λ l. job < length l) (takes_own p a ∙ (ap (λ l. takes (part p l)) same ∙ sym (takes_own p b))) has.0,
-    subst (λ l. Contains l job → ⊥) (dones_own p a ∙ (ap (λ l. dones (part p l)) same ∙ sym (dones_own p b))) has.1,
-  )
-
 module _ {M W : Type 0} (fits : W → ℕ → M → Type 0) where
-  abbrev Fit : W → Entry M → Type 0
-  Fit w (entry.Posted to s m t) = fits w to m
-  Fit w (entry.Taken of s m) = Unit {0}
-  Fit w (entry.Completed of t) = Unit {0}
-
-  -- what an entry needs that it may come after a state
-  pub record Allowed (e : Entry M) (x : State M W) : Type 0 where
-    pub near : mailbox_of e < x.boxes
-    pub follows : MayFollow (part (mailbox_of e) x.order) (event_of e)
-    pub under : UnderJob x.order e
-    pub fit : Fit x.world e
-
   -- what a pass does to the state while it is inside: nothing, one event of its own, or an abort of its own
   pub data Step (n : ℕ) (x y : State M W) : Type 0 where
     stays : y ≡ x → Step n x y
-    adds : (e : Entry M) → y ≡ with_entry e x → maker_of e ≡ n → Allowed e x → Step n x y
+    adds : (e : Entry M) → y ≡ with_entry e x → maker_of e ≡ n → Allowed fits e x → Step n x y
     aborts : (a : Abort) → y ≡ record x { aborted = abort_of x.aborted a } → a.by ≡ n → a.by < x.boxes → Step n x y
 
   -- a state goes on from the one before, stays sound, and has the parts of the other passes as they were
@@ -122,16 +55,6 @@ module _ {M W : Type 0} (fits : W → ℕ → M → Type 0) where
     pub before : Before x y
     pub sound : IsSound fits y
     pub apart : (k : ℕ) → k ≢ n → share k y ≡ share k x
-
-  sound_push : (e : Entry M) (x : State M W) → IsSound fits x → Allowed e x → IsSound fits (with_entry e x)
-  sound_push e x s may = record {
-    lawful = lawful_push x.boxes x.order e s.lawful may.near may.follows may.under;
-    fitting = λ i to sender m t at. elim (at_push_cases x.order e (entry.Posted to sender m t) i at) [
-      | inl old ↦ s.fitting i to sender m t old
-      | inr last ↦ subst (Fit x.world) last.1 may.fit
-    ];
-    by = s.by;
-  }
 
   first_abort : (o : Option Abort) (a b : Abort) → o ≡ Some b → abort_of o a ≡ Some b
   first_abort None a b is = cc
@@ -149,7 +72,7 @@ module _ {M W : Type 0} (fits : W → ℕ → M → Type 0) where
   step_keeps n x y s (stays is) = subst (Kept n x) (sym is) record { before = before_refl x; sound = s; apart = λ k ne. refl }
   step_keeps n x y s (adds e is maker may) = subst (Kept n x) (sym is) record {
     before = record { world = refl; boxes = refl; order = (e ∷ [], refl); aborted = λ a h. h };
-    sound = sound_push e x s may;
+    sound = sound_push fits e x s may;
     apart = λ k ne. (let rest : own k (x.order ++ e ∷ []) ≡ own k x.order = own-append k x.order (e ∷ []) ∙ (ap (λ l. own k x.order ++ l) (own_else k e [] (λ h. ne (sym h ∙ maker))) ∙ append-nil (own k x.order)) in (λ i. (rest i, is_by k x.aborted)));
   }
   step_keeps n x y s (aborts a is maker near) = subst (Kept n x) (sym is) record {
@@ -342,7 +265,7 @@ module _ {M W : Type 0} (fits : W → ℕ → M → Type 0) where
       )
 
   -- a call at which it made one
-  pub added_is : (a b : Standing (State M W)) (x y : State M W) (e : Entry M) (w : W) (boxes : ℕ) (kept : Bool) (p : IsPass fits a w boxes kept) → Visit a b x y → y ≡ with_entry e x → maker_of e ≡ a.number → Allowed e x → 0 < calls_of kept a.left → Added fits e (showing a kept p.last) (showing b kept y)
+  pub added_is : (a b : Standing (State M W)) (x y : State M W) (e : Entry M) (w : W) (boxes : ℕ) (kept : Bool) (p : IsPass fits a w boxes kept) → Visit a b x y → y ≡ with_entry e x → maker_of e ≡ a.number → Allowed fits e x → 0 < calls_of kept a.left → Added fits e (showing a kept p.last) (showing b kept y)
   added_is a b x y e w boxes kept p v is maker may some_of =
       let f = found_of a b x y w boxes kept p v in
       let k = step_keeps a.number x y f.sound (adds e is maker may) in
@@ -359,7 +282,7 @@ module _ {M W : Type 0} (fits : W → ℕ → M → Type 0) where
       }
 
   -- a message that is not yet taken was posted, and fits
-  posted_fits : (w : W) (q k s : ℕ) (m : M) (order : List (Entry M)) → ((i to sender : ℕ) (n : M) (t : ℕ) → slice_get order i ≡ Some (entry.Posted to sender n t) → fits w to n) → slice_get (posts (part q order)) k ≡ Some (s, m) → fits w q m
+  pub posted_fits : (w : W) (q k s : ℕ) (m : M) (order : List (Entry M)) → ((i to sender : ℕ) (n : M) (t : ℕ) → slice_get order i ≡ Some (entry.Posted to sender n t) → fits w to n) → slice_get (posts (part q order)) k ≡ Some (s, m) → fits w q m
   posted_fits w q k s m [] all at = cc
   posted_fits w q k s m (entry.Posted to s' m' t ∷ es) all at = elim (cases_eq to q) [
     | inl here ↦ first k (ap (λ l. slice_get (posts l) k) (sym (part_here q (entry.Posted to s' m' t) es here)) ∙ at) here (λ j. posted_fits w q j s m es (λ i. all (suc i)))
@@ -379,7 +302,7 @@ module _ {M W : Type 0} (fits : W → ℕ → M → Type 0) where
   ]
 
   -- of a mailbox of the board
-  take_allowed : (n job : ℕ) (m : M) (x y : State M W) → n < x.boxes → (t : Takes n job m x y) → Allowed (entry.Taken n t.sender m) x
+  take_allowed : (n job : ℕ) (m : M) (x y : State M W) → n < x.boxes → (t : Takes n job m x y) → Allowed fits (entry.Taken n t.sender m) x
   take_allowed n job m x y near t = record { near = near; follows = t.oldest; under = tt; fit = tt }
 
   pub take_step : (n : ℕ) (r : Taken M) (x y : State M W) → n < x.boxes → Answers n r x y → Step n x y
@@ -425,7 +348,7 @@ module _ {M W : Type 0} (fits : W → ℕ → M → Type 0) where
       (λ u. (looked_is a b x w boxes kept p u some_of, open_is x (found_of a b x x w boxes kept p u).sound t.1, t.2)) v
 
   -- a post that was made or refused
-  pub post_step : (n : ℕ) (e : Entry M) (m : M) (r : Result (Unit {0}) (PostFault M)) (x y : State M W) → maker_of e ≡ n → Allowed e x → OnOk r ((x.aborted ≡ None) × (y ≡ with_entry e x)) → IfErr r (λ f. Refuses m f x y) → Step n x y
+  pub post_step : (n : ℕ) (e : Entry M) (m : M) (r : Result (Unit {0}) (PostFault M)) (x y : State M W) → maker_of e ≡ n → Allowed fits e x → OnOk r ((x.aborted ≡ None) × (y ≡ with_entry e x)) → IfErr r (λ f. Refuses m f x y) → Step n x y
   post_step n e m (Ok u) x y maker may ok err = adds e ok.1 maker may
   post_step n e m (Err (fault.Spent back)) x y maker may ok err = absurd err
   post_step n e m (Err (fault.Memory back)) x y maker may ok err = stays err.1
@@ -440,7 +363,7 @@ module _ {M W : Type 0} (fits : W → ℕ → M → Type 0) where
   abbrev pub PostAnswer : ℕ → ℕ → M → Sight M W → Sight M W → Result (Unit {0}) (PostFault M) → Type 0
   PostAnswer job to m s t r = MatchResult r (λ _. WasPosted fits job to m s t) (λ f. WasRefused fits m f s t)
 
-  pub posted_is : (job to : ℕ) (m : M) (r : Result (Unit {0}) (PostFault M)) (a b : Standing (State M W)) (x y : State M W) (w : W) (boxes : ℕ) (kept : Bool) (p : IsPass fits a w boxes kept) → Visit a b x y → Allowed (entry.Posted to a.number m job) x
+  pub posted_is : (job to : ℕ) (m : M) (r : Result (Unit {0}) (PostFault M)) (a b : Standing (State M W)) (x y : State M W) (w : W) (boxes : ℕ) (kept : Bool) (p : IsPass fits a w boxes kept) → Visit a b x y → Allowed fits (entry.Posted to a.number m job) x
       → OnOk r ((x.aborted ≡ None) × (y ≡ with_entry (entry.Posted to a.number m job) x)) → IfErr r (λ f. Refuses m f x y) → 0 < calls_of kept a.left → PostAnswer job to m (showing a kept p.last) (showing b kept y) r
   posted_is job to m (Ok u) a b x y w boxes kept p v may ok err some_of = (added_is a b x y (entry.Posted to a.number m job) w boxes kept p v ok.1 refl may some_of, ap (λ (s : State M W). s.aborted) ok.1 ∙ ok.0)
   posted_is job to m (Err (fault.Spent back)) a b x y w boxes kept p v may ok err some_of = absurd err
@@ -502,7 +425,7 @@ module _ {M W : Type 0} (fits : W → ℕ → M → Type 0) where
       let f = found_of a b x y w boxes kept p v in
       shows_now b w boxes kept' y v.ends (k.before.world ∙ (f.before.world ∙ p.same_world)) (k.before.boxes ∙ (f.before.boxes ∙ p.same_boxes))
 
-  pub job_allowed : (n job : ℕ) (x : State M W) → IsSound fits x → HasJob n job x.order → Allowed (entry.Completed n job) x
+  pub job_allowed : (n job : ℕ) (x : State M W) → IsSound fits x → HasJob n job x.order → Allowed fits (entry.Completed n job) x
   job_allowed n job x s has = record { near = job_inside x.boxes x.order n job s.lawful has; follows = has; under = tt; fit = tt }
 
   -- the pass's job is one of the state found
@@ -518,7 +441,7 @@ module _ {M W : Type 0} (fits : W → ℕ → M → Type 0) where
       positive zero none = absurd (none refl)
       positive (suc n) none = omega arith
 
-  pub post_allowed : (n job to : ℕ) (m : M) (x : State M W) → to < x.boxes → HasJob n job x.order → fits x.world to m → Allowed (entry.Posted to n m job) x
+  pub post_allowed : (n job to : ℕ) (m : M) (x : State M W) → to < x.boxes → HasJob n job x.order → fits x.world to m → Allowed fits (entry.Posted to n m job) x
   post_allowed n job to m x near has fit = record { near = near; follows = tt; under = has; fit = fit }
 
   pub aborted_when : (q : Abort) (a b : Standing (State M W)) (x y : State M W) (w : W) (boxes : ℕ) (kept : Bool)

@@ -4,3 +4,11 @@ pub mod Promises
 pub mod Passes
 pub mod Laws
 pub mod Unwraps
+pub mod Entries
+pub mod Knowing
+pub mod PerBox
+pub mod PerBoxFacts
+pub mod PerBoxOpens
+pub mod BoxPasses
+pub mod BoxAnswers
+pub mod BoxEnds

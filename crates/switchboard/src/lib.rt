@@ -1,14 +1,23 @@
-//! Mailboxes behind one lock: each call stands in legal histories of all mailboxes.
+//! Mailboxes behind one lock, or behind a lock for each: each call stands in legal histories of all mailboxes.
 #![tactic(auto)]
 
 mod board;
 mod book;
+mod boxes;
 mod calls;
+mod knowing;
 mod lanes;
 mod laws;
 mod mail;
 mod one;
+mod outstanding;
 mod pass;
+mod per_board;
+mod per_box;
+mod per_close;
+mod per_open;
+mod per_pass;
+mod visiting;
 mod world;
 
 pub use board::Board;
@@ -21,3 +30,5 @@ pub use laws::{
 pub use mail::Mail;
 pub use one::OneLock;
 pub use pass::{OnePass, OneTold};
+pub use per_box::LockPerBox;
+pub use per_pass::{BoxPass, BoxTold};

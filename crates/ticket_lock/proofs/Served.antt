@@ -12,8 +12,8 @@ use Rattle.std.specs.Prelude.{Option}
 use Rattle.std.proofs.lemmas.List.{append-nil}
 use Rattle.ticket_lock.specs.History.{StartsWith, longer}
 use Rattle.ticket_lock.specs.Turns.{enters}
-use Rattle.ticket_lock.specs.Calls.{Enters}
-use Rattle.ticket_lock.specs.Lone.{Tells, TookIn, merged, new_view}
+use Rattle.ticket_lock.specs.Calls.{Enters, Came}
+use Rattle.ticket_lock.specs.Lone.{hand_of, Tells, TookIn, merged, new_view}
 use Rattle.ticket_lock.specs.Lanes.{Standing, Held, Told, standing}
 use Rattle.ticket_lock.specs.Promises.{Drew, Served, Entered, Learned}
 use Rattle.ticket_lock.specs.Facts.{times-snoc, times-one}
@@ -79,6 +79,33 @@ module _ {T : Type 0} where
 
     pub served_to : (x : T) (n ticket : ℕ) (a a' b : Standing T) → n ≡ ticket → a ≡ a' → Served before part n record { value = x; number = n } a b → Served before part ticket record { value = x; number = n } a' b
     served_to x n ticket a a' b e d s = subst (λ z. Served before part ticket record { value = x; number = n } z b) d (subst (λ (k : ℕ). Served before part k record { value = x; number = n } a b) e s)
+
+module _ {T Part : Type 0} (before : T → T → Type 0) (part : ℕ → T → Part) where
+  -- a lane that drew and entered
+  pub came_is : (id id' : TableId) (number left ticket : ℕ) (a : Standing T) (v w : Me (Option T) (View T)) (x : T) → standing id number left v.0 ≡ a → id' ≡ id → (left ≡ 0 → ⊥) → ((o : T) × (v.0.own ≡ (number, o) ∷ []))
+      → Came (hand_of 0) (Tells before part 0) 0 v ticket x w → Entered before part record { value = x; number = ticket } a (standing id' number (left - 1) w.0)
+  came_is id id' number left ticket a v w x is same some_of one came =
+      let d : Me (Option T) (View T) = came.0 in
+      let drew = came.1 in
+      let e = drew.1.0 in
+      let drawn : Drew ticket (standing id number left v.0) (standing id number (left - 1) d.0) = record {
+        had = omega (arith, some_of);
+        fresh = λ k le. let f = drew.1.2 k le in (f.0, omega (arith, f.1));
+        served = drew.1.1;
+        lane = λ i. record {
+          lock = id;
+          number = number;
+          left = left - 1;
+          seen = (e i).seen;
+          tickets = (e i).tickets;
+          inside = (e i).inside;
+          drawn = (e i).drawn;
+          own = map (λ p. p.1) (drew.2.1 i);
+        };
+      } in
+      let served = served_is before part id id' number (left - 1) ticket d.0 w.0 x same (one.0, drew.2.1 ∙ one.1) came.2.1 came.2.2 in
+      subst (λ z. Entered before part record { value = x; number = ticket } z (standing id' number (left - 1) w.0)) is
+      (entered_is before part ticket record { value = x; number = ticket } (standing id number left v.0) (standing id number (left - 1) d.0) (standing id' number (left - 1) w.0) drawn served)
 
 pub alone : {T : Type 0} (x y : T) → (let l : List T = x ∷ [] in let m : List T = y ∷ [] in l ≡ m) → x ≡ y
 alone x y e = cc

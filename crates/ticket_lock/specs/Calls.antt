@@ -55,6 +55,14 @@ module _ {T V : Type 0} (see : V → Hand T) (tells : Kind T → V → V → Typ
   abbrev pub Passed : ℕ → Me (Option T) V → Me (Option T) V → Type 0
   Passed slot m m' = (x : T) × (y : T) × (m.1 ≡ (slot, Some y) ∷ rest m.1) × (m'.1 ≡ rest m.1) × EndsIn (see m.0).seen x × (see m'.0 ≡ with_leave y (see m.0)) × tells (passes x y) m.0 m'.0
 
+  -- a draw, and then a look in turn: the seat is inside with this ticket, and has the value out
+  abbrev pub Came : ℕ → Me (Option T) V → ℕ → T → Me (Option T) V → Type 0
+  Came slot m ticket x m' = (d : Me (Option T) V) × Drew m ticket d × Entered slot ticket x None d m'
+
   -- the value y was left after x, and the seat is outside
   abbrev pub Left : T → Me (Option T) V → Me (Option T) V → Type 0
   Left y m m' = (m'.1 ≡ rest m.1) × (see m'.0 ≡ with_leave y (see m.0)) × ((x : T) × EndsIn (see m.0).seen x × tells (passes x y) m.0 m'.0)
+
+-- the lock asks nothing of who draws, looks or enters, and a look too early changes no view
+abbrev pub IsFree : {T V : Type 0} → (Kind T → V → Type 0) → (Kind T → V → V → Type 0) → Type 0
+IsFree {T} {V} asks tells = ((v : V) → asks draws v × asks waits v × ((x : T) → asks (enters x) v)) × ((v w : V) → tells waits v w → w ≡ v)

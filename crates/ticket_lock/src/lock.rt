@@ -7,24 +7,10 @@ ghost use Rattle.ticket_lock.specs.Promises.{Drew, WasSpent, CameBack, Served, E
 use crate::alone::{Board, Merges, TakesIn, Tells};
 use crate::lane::{Guard, Lane, Note, Spent, Ticket};
 use crate::law::LaneLaw;
-use crate::place::{draw_at, leave_at, look_at};
-use crossbeam_utils::Backoff;
+use crate::place::{draw_at, enter_at, leave_at, look_at};
 use std::alloc::Allocator;
 use std::marker::Model;
 use std::sync::Wait;
-use std::thread;
-
-// How often a ticket is looked at before its thread yields, since the one that it waits for may have no processor.
-const LOOKS: u32 = 16;
-
-// The pause between two looks, which does not grow with them: a ticket that oversleeps its turn holds up all behind it, who would
-// oversleep the more.
-fn pause() {
-    let backoff = Backoff::new();
-    backoff.spin();
-    backoff.spin();
-    backoff.spin();
-}
 
 /// A value that one lane at a time may change, in the order of the tickets drawn. Contracts see it as a `Lock`.
 #[derive(Drop)]
@@ -127,20 +113,11 @@ impl<T: LaneLaw, A: Allocator> TicketLock<T, A> {
         ensures { MatchResult result (λ g. Entered T.before T.part g lane.old lane.new)
             (λ _. WasSpent lane.old lane.new) }
     {
-        let mut ticket = self.draw(lane)?;
-        let mut looks = 0u32;
-        for _ in rt.forever() {
-            match self.look(lane, ticket) {
-                Ok(guard) => return Ok(guard),
-                Err(back) => ticket = back,
-            }
-            if looks < LOOKS {
-                looks += 1;
-                pause();
-            } else {
-                thread::yield_now();
-            }
+        if lane.left == 0 {
+            return Err(Spent);
         }
-        unreachable!()
+        let (number, value) = enter_at(rt, &self.board.shared, &mut lane.seat, 0, 0);
+        lane.left -= 1;
+        Ok(Guard { number, value })
     }
 }

@@ -1,15 +1,30 @@
-//! The three calls of a lock that stands at a place of a table, under any rule that lets it stand there.
+//! The calls of a lock that stands at a place of a table, under any rule that lets it stand there.
 ghost use Rattle.std.specs.Prelude.{◌≡◌, ℕ, ◌*◌, ◌^◌, ◌<◌, [], ◌∷◌, length, None};
 ghost use Rattle.atomic_table.specs.Table.{rest};
 ghost use Rattle.ticket_lock.specs.Count.{times};
 ghost use Rattle.ticket_lock.specs.History.{EndsIn};
 ghost use Rattle.ticket_lock.specs.Turns.{draws, waits, enters, passes};
-ghost use Rattle.ticket_lock.specs.Calls.{IsSameSeat, IsRoom, StandsAt, Drew, Looked, Left};
+ghost use Rattle.ticket_lock.specs.Calls.{IsSameSeat, IsRoom, StandsAt, IsFree, Drew, Looked, Came, Left};
 
 use crate::plays::{Draws, Looks, Passes};
 use crate::rule::{At, LockRule};
 use atomic_table::{Seat, Shared};
+use crossbeam_utils::Backoff;
 use std::marker::Brand;
+use std::sync::Wait;
+use std::thread;
+
+// How often a ticket is looked at before its thread yields, since the one that it waits for may have no processor.
+const LOOKS: u32 = 16;
+
+// The pause between two looks, which does not grow with them: a ticket that oversleeps its turn holds up all behind it, who would
+// oversleep the more.
+fn pause() {
+    let backoff = Backoff::new();
+    backoff.spin();
+    backoff.spin();
+    backoff.spin();
+}
 
 fn draw_step<J: At, T, V, K, P: LockRule<T, V, K>>(
     shared: &Shared<Option<T>, V, K, P>,
@@ -79,6 +94,38 @@ pub fn look_at<T, V, K, P: LockRule<T, V, K>>(
         × Looked (P.see slot) (P.tells slot) slot ticket seat.old.me result seat.new.me }
 {
     look_step::<Brand, T, V, K, P>(shared, seat, word, slot, ticket)
+}
+
+/// Draws the next ticket of the lock at this place, and looks until it is served, with a pause between two looks, and after some looks yields between
+/// two: the ticket's number and the value. The seat must have some of its share of the right to draw left, and the rule must let each seat draw, look
+/// and enter.
+pub fn enter_at<R: Wait, T, V, K, P: LockRule<T, V, K>>(
+    rt: &R,
+    shared: &Shared<Option<T>, V, K, P>,
+    seat: &mut Seat<Option<T>, V>,
+    word: usize,
+    slot: usize,
+) -> (u64, T)
+    requires table { StandsAt P.is_place seat.old.table_id shared.now.table_id shared.now.key word slot }
+    requires room { length (P.see slot seat.old.me.0).drawn < (P.see slot seat.old.me.0).parts * 2 ^ 56 }
+    requires free { IsFree (P.asks slot) (P.tells slot) }
+    ensures { IsSameSeat seat.old seat.new
+        × Came (P.see slot) (P.tells slot) slot seat.old.me result.0 result.1 seat.new.me }
+{
+    let ticket = draw_at(shared, seat, word, slot);
+    let mut looks = 0u32;
+    for _ in rt.forever() {
+        if let Some(value) = look_at(shared, seat, word, slot, ticket) {
+            return (ticket, value);
+        }
+        if looks < LOOKS {
+            looks += 1;
+            pause();
+        } else {
+            thread::yield_now();
+        }
+    }
+    unreachable!()
 }
 
 fn leave_step<J: At, T, V, K, P: LockRule<T, V, K>>(

@@ -1,8 +1,10 @@
-use Rattle.ticket_lock.proofs.Served.{drew_holds, entered_is}
+use Rattle.ticket_lock.proofs.Served.{came_is}
 use Rattle.ticket_lock.proofs.lock.TicketLock.enter.Goals as goal
 
-pub look-requires-clause-held : goal.look-requires-clause-held
-look-requires-clause-held g c = drew_holds c.loop.ticket c.args.lane.now c.loop.lane c.loop.invariant.0
-
-pub returns-in-Ok : goal.returns-in-Ok
-returns-in-Ok g c = entered_is g.T.LaneLaw.before g.T.LaneLaw.part c.loop.ticket c.in-Ok.guard c.args.lane.now c.loop.lane c.look.new.lane c.loop.invariant.0 c.in-Ok.ensures
+pub returns : goal.returns
+returns g c =
+    let L = g.T.LaneLaw in
+    let lane = c.lane.inside in
+    let seat = c.enter_at-number.new.seat in
+    let did = c.enter_at-number.ensures in
+    came_is L.before L.part lane.seat.table_id seat.table_id lane.number lane.left c.enter_at-number.result.0 c.args.lane.now lane.seat.me seat.me c.enter_at-number.result.1 c.lane.view_is did.0.0 c.if-lane-eq0.false c.lane.invariant.one did.1

@@ -1,0 +1,227 @@
+-- What a call of the board with a lock for each mailbox promises, from what its steps told.
+use Rattle.std.proofs.Common.{◌≡◌, ◌≢◌, ℕ, ◌+◌, ◌-◌, ◌<◌, ◌≤◌, Bool, true, List, [], ◌∷◌, ◌++◌}
+use Rattle.std.proofs.Common.{length, set, get_or, Some, refl, sym, ap, ◌∙◌, subst, arith, Option, get_or-set_other}
+use Rattle.std.specs.Prelude.{IsSome}
+use mathlib.Core.Option.{some}
+use mathlib.Core.Logic.{dite}
+use native.Mathlib.Decide.{ℕ_discrete}
+use lib.ListN.{get_elem?}
+use Rattle.atomic_table.specs.Table as table
+use Rattle.atomic_table.specs.Seated.{TableId}
+use Rattle.ticket_lock.specs.declared.hand.Hand.{Hand}
+use Rattle.ticket_lock.specs.History.{StartsWith, EndsIn}
+use Rattle.ticket_lock.specs.Turns.{passes, with_leave}
+use Rattle.ticket_lock.specs.Calls as lock
+use Rattle.ticket_lock.specs.Facts.{StartsWith-refl, StartsWith-trans, StartsWith-length, EndsIn-same}
+use Rattle.post_ledger.specs.declared.event.Event.{Event}
+use Rattle.post_ledger.specs.declared.entry.Entry.{Entry}
+use Rattle.post_ledger.specs.Orders.{own, maker_of, IsClosed}
+use Rattle.post_ledger.proofs.Orders.{own-append, own_here}
+use Rattle.switchboard.specs.declared.calls.Abort.{Abort}
+use Rattle.switchboard.specs.declared.knowing.Ground.{Ground}
+use Rattle.switchboard.specs.declared.knowing.Seen.{Seen}
+use Rattle.switchboard.specs.declared.knowing.Own.{Own}
+use Rattle.switchboard.specs.Sights.{Sight, IsSound}
+use Rattle.switchboard.specs.Promises.{GoesOn, Looked, Added}
+use Rattle.switchboard.specs.Knowing.{bare, entry_of, owes_after, with_event, state_of, unseen, hand_at, with_hand}
+use Rattle.switchboard.specs.PerBox.{View, News, HasOwn, IsInside, Recorded, Tells}
+use Rattle.switchboard.specs.BoxPasses.{IsIdle, state_seen, box_sight, IsSeen, IsBoxPass}
+use Rattle.switchboard.proofs.Visits.{some_later}
+
+module _ {M W : Type 0} (fits : W → ℕ → M → Type 0) where
+  abbrev Me : Type 0 → Type 0 → Type 0
+  Me X Y = table.Me (Option (List (Event X))) (View X Y)
+
+  -- what a pass sees goes on from what it had seen
+  pub record Later (w : W) (boxes : ℕ) (a x : Seen M) : Type 0 where
+    pub begins : StartsWith x.order a.order
+    pub aborted : (c : Abort) → a.aborted ≡ Some c → x.aborted ≡ Some c
+    pub knows : a.knows ≡ true → x.knows ≡ true
+    pub sound : IsSound fits (state_seen w boxes x)
+    pub close : x.knows ≡ true → IsClosed x.order
+
+  pub later_start : (w : W) (boxes : ℕ) (made : Bool) (x : Seen M) → IsSeen fits w boxes made x → Later w boxes x x
+  later_start w boxes made x s = record { begins = StartsWith-refl x.order; aborted = λ c e. e; knows = λ e. e; sound = s.sound; close = s.close }
+
+  -- and so after one more step
+  pub later_next : (w : W) (boxes : ℕ) (base : Ground M W) (a : Seen M) (v : View M W) (y : Seen M) → get_elem? v.boards 0 ≡ some base → base.world.value ≡ w → base.boxes ≡ boxes → Later w boxes a v.seen → News fits v y → Later w boxes a y
+  later_next w boxes base a v y is world count l n =
+      let opens = l.sound.lawful.opens in
+      let some_of : 0 < length y.order = omega (arith, ap length opens.3, StartsWith-length y.order v.seen.order n.begins) in
+      record {
+        begins = StartsWith-trans y.order v.seen.order a.order n.begins l.begins;
+        aborted = λ c e. n.aborted c (l.aborted c e);
+        knows = λ e. n.knows (l.knows e);
+        sound = subst (λ z. IsSound fits z) (λ i. record { world = world i; boxes = count i; order = y.order; aborted = y.aborted }) (n.sound some_of base is);
+        close = n.close;
+      }
+
+  pub seen_on : (w : W) (boxes : ℕ) (made : Bool) (a x : Seen M) → IsSeen fits w boxes made a → Later w boxes a x → IsSeen fits w boxes made x
+  seen_on w boxes made a x s l = record {
+    sound = l.sound;
+    close = l.close;
+    known = λ e. some_later fits (state_seen w boxes a) (state_seen w boxes x) record { world = refl; boxes = refl; order = l.begins; aborted = l.aborted } (s.known e);
+  }
+
+  -- a pass was inside the lock of a mailbox, found x, and left y
+  pub record Visit (q : ℕ) (x y : List (Event M)) (b in_it v out : Me M W) : Type 0 where
+    pub inside : IsInside fits q x b in_it
+    pub hands : v.0.hands ≡ in_it.0.hands
+    pub slots : v.1 ≡ in_it.1
+    pub left : lock.Left (hand_at q) (Tells fits q) y v out
+
+  module _ (q : ℕ) (x y : List (Event M)) (b in_it v out : Me M W) (visit : Visit q x y b in_it v out) where
+    same_hand : hand_at q v.0 ≡ hand_at q in_it.0
+    same_hand = ap (λ l. get_or l q (bare 0)) visit.hands
+
+    pub visit_tells : Tells fits q (passes x y) v.0 out.0
+    visit_tells =
+        let t = visit.left.2 in
+        let ends : EndsIn (hand_at q in_it.0).seen t.0 = subst (λ (h : Hand (List (Event M))). EndsIn h.seen t.0) same_hand t.1 in
+        subst (λ z. Tells fits q (passes z y) v.0 out.0) (EndsIn-same (hand_at q in_it.0).seen t.0 x ends visit.inside.found) t.2
+
+    pub visit_out : out.1 ≡ b.1
+    visit_out = visit.left.0 ∙ (ap table.rest visit.slots ∙ ap table.rest visit.inside.out)
+
+    -- it has one ticket fewer to draw in that lock, and is ready again
+    pub visit_hands : (left boxes : ℕ) → (left ≡ 0 → ⊥) → ((k : ℕ) → k < boxes → IsIdle left (hand_at k b.0)) → out.0.hands ≡ set v.0.hands q (hand_at q out.0) → (k : ℕ) → k < boxes → IsIdle (left - 1) (hand_at k out.0)
+    visit_hands left boxes some_of idle hands k near = dite (ℕ_discrete k q)
+        (λ (e : k ≡ q). subst (λ i. IsIdle (left - 1) (hand_at i out.0)) (sym e) (
+        let was = idle q (subst (λ i. i < boxes) e near) in
+        let h : hand_at q out.0 ≡ with_leave y (hand_at q v.0) = visit.left.1 in
+        record {
+          tickets = ap (λ (z : Hand (List (Event M))). z.tickets) h ∙ (ap (λ (z : Hand (List (Event M))). z.tickets) same_hand ∙ visit.inside.tickets);
+          inside = ap (λ (z : Hand (List (Event M))). z.inside) h;
+          parts = ap (λ (z : Hand (List (Event M))). z.parts) h ∙ (ap (λ (z : Hand (List (Event M))). z.parts) same_hand ∙ (visit.inside.parts ∙ was.parts));
+          drawn = omega (arith, ap (λ (z : Hand (List (Event M))). length z.drawn) h, ap (λ (z : Hand (List (Event M))). length z.drawn) same_hand, visit.inside.drawn, was.drawn, some_of);
+        }))
+        (λ (ne : k ≢ q).
+        let was = idle k near in
+        let there : hand_at k out.0 ≡ hand_at k b.0 =
+        ap (λ l. get_or l k (bare 0)) hands ∙ (get_or-set_other v.0.hands q k (hand_at q out.0) (bare 0) ne ∙ (ap (λ l. get_or l k (bare 0)) visit.hands
+        ∙ (ap (λ (z : View M W). get_or z.hands k (bare 0)) visit.inside.after ∙ get_or-set_other b.0.hands q k (hand_at q in_it.0) (bare 0) ne))) in
+        subst (λ h. IsIdle (left - 1) h) (sym there) record { tickets = was.tickets; inside = was.inside; parts = was.parts; drawn = omega (arith, was.drawn) })
+
+  module _ (id : TableId) (number left : ℕ) (made : Bool) (w : W) (boxes : ℕ) (m : Me M W) (p : IsBoxPass fits id number left made w boxes m) where
+    abbrev pub own_part : Own M
+    own_part = record { number = number; events = own number m.0.seen.order; made = made }
+
+    abbrev sight : Sight M W
+    sight = box_sight id number left made w boxes m.0.seen
+
+    pub first_later : Later w boxes m.0.seen m.0.seen
+    first_later = later_start w boxes made m.0.seen p.seen
+
+    -- a later sight, after one more step of a seat of the pass
+    pub step_later : (v : View M W) (y : Seen M) → v.boards ≡ m.0.boards → Later w boxes m.0.seen v.seen → News fits v y → Later w boxes m.0.seen y
+    step_later v y same l n = later_next w boxes p.base m.0.seen v y (ap (λ l. get_elem? l 0) same ∙ p.is_base) p.world p.mailboxes l n
+
+    -- the pass made none but its own events
+    pub own_same : (v : View M W) (order : List (Entry M)) → v.lanes ≡ m.0.lanes → HasOwn fits v order → own number order ≡ own number m.0.seen.order
+    own_same v order same has = has 0 own_part (ap (λ l. get_elem? l 0) (same ∙ p.lanes))
+
+    pub goes : (id' : TableId) (left' : ℕ) (made' : Bool) (x : Seen M) → id' ≡ id → Later w boxes m.0.seen x → (made' ≡ true → IsSome x.aborted) → GoesOn fits sight (box_sight id' number left' made' w boxes x)
+    goes id' left' made' x same l known = record {
+      board = same;
+      number = refl;
+      before = record { world = refl; boxes = refl; order = l.begins; aborted = l.aborted };
+      sound = l.sound;
+      made = known;
+      knows = l.knows;
+      close = l.close;
+    }
+
+    pub looked_is : (id' : TableId) (x : Seen M) → id' ≡ id → (left ≡ 0 → ⊥) → Later w boxes m.0.seen x → own number x.order ≡ own number m.0.seen.order → Looked fits sight (box_sight id' number (left - 1) made w boxes x)
+    looked_is id' x same some_of l list = (record { goes = goes id' (left - 1) made x same l (seen_on w boxes made m.0.seen x p.seen l).known; made = refl; own = list }, omega (arith, some_of))
+
+    pub pass_on : (id' : TableId) (left' : ℕ) (made' : Bool) (u : Me M W) → id' ≡ id → u.0.boards ≡ m.0.boards → u.0.lanes ≡ record { number = number; events = own number u.0.seen.order; made = made' } ∷ [] → u.1 ≡ [] → u.0.told ≡ unseen → u.0.owes ≡ 0
+        → left' ≤ u.0.budget → ((q : ℕ) → q < boxes → IsIdle left' (hand_at q u.0)) → IsSeen fits w boxes made' u.0.seen → IsBoxPass fits id' number left' made' w boxes u
+    pass_on id' left' made' u same board lanes out told owes budget hands seen = record {
+      base = p.base;
+      is_base = ap (λ l. get_elem? l 0) board ∙ p.is_base;
+      world = p.world;
+      mailboxes = p.mailboxes;
+      sized = subst (λ i. Rattle.switchboard.specs.PerBox.IsSized i boxes) (sym same) p.sized;
+      near = p.near;
+      lanes = lanes;
+      outside = out;
+      told = told;
+      owes = owes;
+      budget = budget;
+      hands = hands;
+      seen = seen;
+    }
+
+    -- the lanes, where the own list stays
+    pub same_lanes : (u : View M W) → u.lanes ≡ m.0.lanes → own number u.seen.order ≡ own number m.0.seen.order → u.lanes ≡ record { number = number; events = own number u.seen.order; made = made } ∷ []
+    same_lanes u same list = same ∙ (p.lanes ∙ ap (λ l. record { number = number; events = l; made = made } ∷ []) (sym list))
+
+    -- a pass that looked, and did no more
+    pub look_on : (id' : TableId) (u : Me M W) → id' ≡ id → (left ≡ 0 → ⊥) → u ≡ (Rattle.switchboard.specs.Knowing.with_seen u.0.seen m.0, m.1) → News fits m.0 u.0.seen → HasOwn fits m.0 u.0.seen.order
+        → IsBoxPass fits id' number (left - 1) made w boxes u × Looked fits sight (box_sight id' number (left - 1) made w boxes u.0.seen)
+    look_on id' u same some_of is news has =
+        let l = step_later m.0 u.0.seen refl first_later news in
+        let list = own_same m.0 u.0.seen.order refl has in
+        let l' = l in (
+          pass_on id' (left - 1) made u same (ap (λ (z : Me M W). z.0.boards) is) (same_lanes u.0 (ap (λ (z : Me M W). z.0.lanes) is) list) (ap (λ (z : Me M W). z.1) is ∙ p.outside)
+              (ap (λ (z : Me M W). z.0.told) is ∙ p.told) (ap (λ (z : Me M W). z.0.owes) is ∙ p.owes) (omega (arith, ap (λ (z : Me M W). z.0.budget) is, p.budget))
+              (λ q near. let was = p.hands q near in subst (λ h. IsIdle (left - 1) h) (sym (ap (λ (z : Me M W). hand_at q z.0) is)) record { tickets = was.tickets; inside = was.inside; parts = was.parts; drawn = omega (arith, was.drawn) })
+              (seen_on w boxes made m.0.seen u.0.seen p.seen l),
+          looked_is id' u.0.seen same some_of l list,
+        )
+
+    module _ (q : ℕ) (x y : List (Event M)) (b in_it v out : Me M W) (visit : Visit q x y b in_it v out) (idle : (k : ℕ) → k < boxes → IsIdle left (hand_at k b.0)) (b_out : b.1 ≡ m.1) (some_of : left ≡ 0 → ⊥)
+        (board : v.0.boards ≡ m.0.boards) (lanes : v.0.lanes ≡ m.0.lanes) (told : v.0.told ≡ m.0.told) (budget : left ≤ v.0.budget + 1) (later : Later w boxes m.0.seen v.0.seen) where
+      -- it left the mailbox as it was
+      pub stays_on : (id' : TableId) → id' ≡ id → y ≡ x → v.0.owes ≡ 0 → own number v.0.seen.order ≡ own number m.0.seen.order
+          → IsBoxPass fits id' number (left - 1) made w boxes out × Looked fits sight (box_sight id' number (left - 1) made w boxes out.0.seen) × (out.0.seen ≡ v.0.seen)
+      stays_on id' same unchanged owes list =
+          let is : out.0 ≡ with_hand q (hand_at q out.0) v.0 = (visit_tells q x y b in_it v out visit).0 unchanged in
+          let seen : out.0.seen ≡ v.0.seen = ap (λ (z : View M W). z.seen) is in
+          let l : Later w boxes m.0.seen out.0.seen = subst (λ z. Later w boxes m.0.seen z) (sym seen) later in
+          let list' : own number out.0.seen.order ≡ own number m.0.seen.order = ap (λ (z : Seen M). own number z.order) seen ∙ list in (
+            pass_on id' (left - 1) made out same (ap (λ (z : View M W). z.boards) is ∙ board) (same_lanes out.0 (ap (λ (z : View M W). z.lanes) is ∙ lanes) list') (visit_out q x y b in_it v out visit ∙ (b_out ∙ p.outside))
+                (ap (λ (z : View M W). z.told) is ∙ (told ∙ p.told)) (ap (λ (z : View M W). z.owes) is ∙ owes) (omega (arith, ap (λ (z : View M W). z.budget) is))
+                (visit_hands q x y b in_it v out visit left boxes some_of idle (ap (λ (z : View M W). z.hands) is)) (seen_on w boxes made m.0.seen out.0.seen p.seen l),
+            looked_is id' out.0.seen same some_of l list',
+            seen,
+          )
+
+      -- it recorded an event of its own
+      module _ (e : Event M) (grown : y ≡ x ++ e ∷ []) (maker : maker_of (entry_of q v.0.under e) ≡ number) where
+        pub recorded_is : Recorded fits q own_part e x v.0 out.0
+        recorded_is = (visit_tells q x y b in_it v out visit).1 own_part e (lanes ∙ p.lanes) grown
+
+        abbrev entry : Entry M
+        entry = entry_of q v.0.under e
+
+        pub grown_order : out.0.seen.order ≡ recorded_is.front ++ entry ∷ []
+        grown_order = ap (λ (z : View M W). z.seen.order) recorded_is.after
+
+        pub grown_own : own number out.0.seen.order ≡ own number m.0.seen.order ++ entry ∷ []
+        grown_own = ap (own number) grown_order ∙ (own-append number recorded_is.front (entry ∷ []) ∙ (λ i. recorded_is.own i ++ own_here number entry [] maker i))
+
+        pub later_out : Later w boxes m.0.seen out.0.seen
+        later_out = step_later v.0 out.0.seen board later recorded_is.news
+
+        abbrev pub added_is : (id' : TableId) → id' ≡ id → Added fits entry sight (box_sight id' number (left - 1) made w boxes out.0.seen)
+        added_is id' same = record {
+          goes = goes id' (left - 1) made out.0.seen same later_out (seen_on w boxes made m.0.seen out.0.seen p.seen later_out).known;
+          made = refl;
+          calls = omega (arith, some_of);
+          front = recorded_is.front;
+          last = grown_order;
+          found = StartsWith-trans recorded_is.front v.0.seen.order m.0.seen.order recorded_is.begins later.begins;
+          own = grown_own;
+        }
+
+        pub record_on : (id' : TableId) (u : Me M W) → id' ≡ id → u.0.boards ≡ out.0.boards → u.0.hands ≡ out.0.hands → u.0.lanes ≡ out.0.lanes → u.0.seen ≡ out.0.seen → u.0.told ≡ out.0.told → u.0.budget ≡ out.0.budget → u.0.owes ≡ 0 → u.1 ≡ out.1
+            → IsBoxPass fits id' number (left - 1) made w boxes u
+        record_on id' u same board' hands lanes' seen told' budget' owes slots =
+            let is = recorded_is.after in
+            let l : Later w boxes m.0.seen u.0.seen = subst (λ z. Later w boxes m.0.seen z) (sym seen) later_out in
+            pass_on id' (left - 1) made u same (board' ∙ (ap (λ (z : View M W). z.boards) is ∙ board))
+            (lanes' ∙ (ap (λ (z : View M W). z.lanes) is ∙ ap (λ l. record { number = number; events = l; made = made } ∷ []) (sym (ap (λ (z : Seen M). own number z.order) seen ∙ grown_own))))
+            (slots ∙ (visit_out q x y b in_it v out visit ∙ (b_out ∙ p.outside))) (told' ∙ (ap (λ (z : View M W). z.told) is ∙ (told ∙ p.told))) owes (omega (arith, budget', ap (λ (z : View M W). z.budget) is))
+            (λ k near. subst (λ h. IsIdle (left - 1) h) (sym (ap (λ l. get_or l k (bare 0)) hands)) (visit_hands q x y b in_it v out visit left boxes some_of idle (ap (λ (z : View M W). z.hands) is) k near))
+            (seen_on w boxes made m.0.seen u.0.seen p.seen l)

@@ -1,0 +1,113 @@
+-- What a completion and an abort of the board with a lock for each mailbox promise.
+use Rattle.std.proofs.Common.{◌≡◌, inr, ℕ, ◌+◌, ◌-◌, ◌<◌, ◌≤◌, Bool, true, false, List, [], ◌∷◌, ◌++◌, map, length, Contains}
+use Rattle.std.proofs.Common.{refl, sym, ap, ◌∙◌, subst, arith, Option}
+use Rattle.std.specs.Prelude.{IsSome, is_some}
+use Rattle.atomic_table.specs.Table as table
+use Rattle.atomic_table.specs.Seated.{TableId}
+use Rattle.ticket_lock.specs.History.{EndsIn}
+use Rattle.ticket_lock.specs.Turns.{passes}
+use Rattle.ticket_lock.specs.Calls as lock
+use Rattle.ticket_lock.specs.Facts.{EndsIn-same}
+use Rattle.post_ledger.specs.declared.event.Event.{Event}
+use Rattle.post_ledger.specs.declared.event.Event.TheVariants.{Done}
+use Rattle.post_ledger.specs.declared.entry.Entry.TheVariants.{Completed}
+use Rattle.post_ledger.specs.History.{takes, dones}
+use Rattle.post_ledger.specs.Orders.{own, HasJob}
+use Rattle.switchboard.specs.declared.calls.Cause.{Cause}
+use Rattle.switchboard.specs.declared.knowing.Seen.{Seen}
+use Rattle.switchboard.specs.Sights.{Sight}
+use Rattle.switchboard.specs.Promises.{WasDone, Added, MadeAbort}
+use Rattle.switchboard.specs.Entries.{job_stays}
+use Rattle.switchboard.specs.Knowing.{hand_at, counted_down, made_abort}
+use Rattle.switchboard.specs.PerBox.{View, Asks, Tells, IsInside, Raised}
+use Rattle.switchboard.specs.BoxPasses.{IsIdle, box_sight, IsBoxPass}
+use Rattle.switchboard.proofs.BoxCalls.{Later, Visit, own_part, first_later, step_later, own_same, goes, pass_on, recorded_is, added_is, record_on}
+
+module _ {M W : Type 0} (fits : W → ℕ → M → Type 0) (id : TableId) (number left : ℕ) (made : Bool) (w : W) (boxes : ℕ) (m : table.Me (Option (List (Event M))) (View M W)) (p : IsBoxPass fits id number left made w boxes m) where
+  abbrev before : Sight M W
+  before = box_sight id number left made w boxes m.0.seen
+
+  module _ (x : List (Event M)) (v : table.Me (Option (List (Event M))) (View M W)) (inside : IsInside fits number x m v) (job take : ℕ) (same_job : take ≡ job) (s : Sight M W) (see : before ≡ s) (has : HasJob s.number job s.seen.order) where
+    list : own number v.0.seen.order ≡ own number m.0.seen.order
+    list = own_same fits id number left made w boxes m p m.0 v.0.seen.order refl inside.own
+
+    -- the mailbox that is out has the Take, and no Done of it
+    pub may_complete : (take < length (takes x)) × (Contains (dones x) take → ⊥)
+    may_complete =
+        let was : HasJob number job m.0.seen.order = subst (λ (z : Sight M W). HasJob z.number job z.seen.order) (sym see) has in
+        let now : HasJob number take v.0.seen.order = subst (λ k. HasJob number k v.0.seen.order) (sym same_job) (job_stays number job m.0.seen.order v.0.seen.order (sym list) was) in
+        subst (λ h. (take < length (takes h)) × (Contains (dones h) take → ⊥)) inside.part now
+
+    module _ (y : List (Event M)) (grown : y ≡ x ++ Done take ∷ []) where
+      lanes : v.0.lanes ≡ m.0.lanes
+      lanes = ap (λ (z : View M W). z.lanes) inside.after
+
+      pub done_asks : (z : List (Event M)) → EndsIn (hand_at number v.0).seen z → Asks fits number (passes z y) v.0
+      done_asks z ends = subst (λ k. Asks fits number (passes k y) v.0) (EndsIn-same (hand_at number v.0).seen x z inside.found ends)
+          (inr (own_part fits id number left made w boxes m p, Done take, lanes ∙ p.lanes, list, grown, (refl, may_complete)))
+
+      module _ (out : table.Me (Option (List (Event M))) (View M W)) (gone : lock.Left (hand_at number) (Tells fits number) y v out) (some_of : left ≡ 0 → ⊥) where
+        visit : Visit fits number x y m v v out
+        visit = record { inside = inside; hands = refl; slots = refl; left = gone }
+
+        later : Later fits w boxes m.0.seen v.0.seen
+        later = step_later fits id number left made w boxes m p m.0 v.0.seen refl (first_later fits id number left made w boxes m p) inside.news
+
+        board : v.0.boards ≡ m.0.boards
+        board = ap (λ (z : View M W). z.boards) inside.after
+
+        told : v.0.told ≡ m.0.told
+        told = ap (λ (z : View M W). z.told) inside.after
+
+        budget : left ≤ v.0.budget + 1
+        budget = omega (arith, ap (λ (z : View M W). z.budget) inside.after, p.budget)
+
+        -- it has its Done in the count
+        pub done_owes : out.0.owes ≡ 1
+        done_owes = ap (λ (z : View M W). z.owes) (recorded_is fits id number left made w boxes m p number x y m v v out visit p.hands refl some_of board lanes told budget later (Done take) grown refl).after
+            ∙ omega (arith, ap (λ (z : View M W). z.owes) inside.after, p.owes)
+
+        module _ (u : table.Me (Option (List (Event M))) (View M W)) (counted : u ≡ (counted_down out.0, out.1)) (id' : TableId) (same : id' ≡ id) where
+          abbrev after : table.Me (Option (List (Event M))) (View M W)
+          after = (counted_down out.0, out.1)
+
+          pub done_on : IsBoxPass fits id' number (left - 1) made w boxes u
+          done_on = subst (λ z. IsBoxPass fits id' number (left - 1) made w boxes z) (sym counted)
+              (record_on fits id number left made w boxes m p number x y m v v out visit p.hands refl some_of board lanes told budget later (Done take) grown refl id' after same refl refl refl refl refl refl (omega (arith, done_owes)) refl)
+
+          pub was_done : WasDone fits job s (box_sight id' number (left - 1) made w boxes u.0.seen)
+          was_done =
+              let a = added_is fits id number left made w boxes m p number x y m v v out visit p.hands refl some_of board lanes told budget later (Done take) grown refl id' same in
+              let b : Added fits (Completed number job) before (box_sight id' number (left - 1) made w boxes out.0.seen) = subst (λ k. Added fits (Completed number k) before (box_sight id' number (left - 1) made w boxes out.0.seen)) same_job a in
+              let c : Added fits (Completed number job) before (box_sight id' number (left - 1) made w boxes u.0.seen) = subst (λ (z : Seen M). Added fits (Completed number job) before (box_sight id' number (left - 1) made w boxes z)) (sym (ap (λ (z : table.Me (Option (List (Event M))) (View M W)). z.0.seen) counted)) b in
+              subst (λ (z : Sight M W). Added fits (Completed z.number job) z (box_sight id' number (left - 1) made w boxes u.0.seen)) see c
+
+  module _ (cause : Cause) (u : table.Me (Option (List (Event M))) (View M W)) (raised : Raised fits record { by = number; cause = cause } m u) (not_made : made ≡ false) (id' : TableId) (same : id' ≡ id) where
+    is : (u.0 ≡ record m.0 { lanes = map made_abort m.0.lanes; seen = u.0.seen })
+    is = ap (λ (z : table.Me (Option (List (Event M))) (View M W)). z.0) raised.after
+
+    later_raised : Later fits w boxes m.0.seen u.0.seen
+    later_raised = step_later fits id number left made w boxes m p m.0 u.0.seen refl (first_later fits id number left made w boxes m p) raised.news
+
+    list_raised : own number u.0.seen.order ≡ own number m.0.seen.order
+    list_raised = own_same fits id number left made w boxes m p m.0 u.0.seen.order refl raised.own
+
+    knows_it : IsSome u.0.seen.aborted
+    knows_it = ap is_some raised.which.1
+
+    pub abort_on : IsBoxPass fits id' number left true w boxes u
+    abort_on = pass_on fits id number left made w boxes m p id' left true u same (ap (λ (z : View M W). z.boards) is)
+        (ap (λ (z : View M W). z.lanes) is ∙ (ap (map made_abort) p.lanes ∙ ap (λ l. record { number = number; events = l; made = true } ∷ []) (sym list_raised)))
+        (ap (λ (z : table.Me (Option (List (Event M))) (View M W)). z.1) raised.after ∙ p.outside) (ap (λ (z : View M W). z.told) is ∙ p.told) (ap (λ (z : View M W). z.owes) is ∙ p.owes)
+        (omega (arith, ap (λ (z : View M W). z.budget) is, p.budget)) (λ q near. subst (λ (z : View M W). IsIdle left (hand_at q z)) (sym is) (p.hands q near))
+        record { sound = later_raised.sound; close = later_raised.close; known = λ _. knows_it }
+
+    pub was_aborted : (s : Sight M W) → before ≡ s → MadeAbort fits record { by = s.number; cause = cause } s (box_sight id' number left true w boxes u.0.seen)
+    was_aborted s see = subst (λ (z : Sight M W). MadeAbort fits record { by = z.number; cause = cause } z (box_sight id' number left true w boxes u.0.seen)) see record {
+      goes = goes fits id number left made w boxes m p id' left true u.0.seen same later_raised (λ _. knows_it);
+      made = refl;
+      calls = refl;
+      own = list_raised;
+      first = λ _. raised.which;
+      again = λ e. absurd (let no_way : true ≡ false = sym e ∙ not_made in cc);
+    }

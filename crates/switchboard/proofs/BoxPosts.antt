@@ -1,0 +1,148 @@
+-- What a post of the board with a lock for each mailbox promises.
+use Rattle.std.proofs.Common.{◌≡◌, inl, inr, ℕ, ◌+◌, ◌-◌, ◌≤◌, Bool, List, [], ◌∷◌, ◌++◌, MatchResult}
+use Rattle.std.proofs.Common.{None, Ok, Err, refl, sym, ap, ◌∙◌, subst, arith, Option}
+use Rattle.std.specs.Prelude.{IsSome, Result}
+use lib.ListN.{get_elem?}
+use Rattle.atomic_table.specs.Table as table
+use Rattle.atomic_table.specs.Seated.{TableId}
+use Rattle.ticket_lock.specs.History.{EndsIn}
+use Rattle.ticket_lock.specs.Turns.{passes}
+use Rattle.ticket_lock.specs.Calls as lock
+use Rattle.ticket_lock.specs.Facts.{EndsIn-same}
+use Rattle.post_ledger.specs.declared.event.Event.{Event}
+use Rattle.post_ledger.specs.declared.event.Event.TheVariants.{Post}
+use Rattle.post_ledger.specs.declared.entry.Entry.TheVariants.{Posted}
+use Rattle.post_ledger.specs.Orders.{own, HasJob}
+use Rattle.switchboard.specs.declared.calls.PostFault.{PostFault}
+use Rattle.switchboard.specs.declared.calls.PostFault.TheVariants as fault
+use Rattle.switchboard.specs.declared.knowing.Seen.{Seen}
+use Rattle.switchboard.specs.declared.knowing.Own.{Own}
+use Rattle.switchboard.specs.Sights.{Sight}
+use Rattle.switchboard.specs.Promises.{Looked, Added, WasPosted, WasRefused}
+use Rattle.switchboard.specs.Entries.{job_stays}
+use Rattle.switchboard.specs.Knowing.{hand_at, with_seen, counted_up}
+use Rattle.switchboard.specs.PerBox.{View, Asks, Tells, IsInside}
+use Rattle.switchboard.specs.BoxPasses.{box_sight, IsBoxPass}
+use Rattle.switchboard.specs.BoxAnswers.{SawMore, PutIn}
+use Rattle.switchboard.proofs.BoxCalls.{Later, Visit, own_part, first_later, step_later, own_same, stays_on, recorded_is, added_is, record_on}
+
+-- what a post does while the mailbox is out moves no hand
+pub put_hands : {M W : Type 0} (fits : W → ℕ → M → Type 0) (number job : ℕ) (message : M) (r : Result (Unit {0}) (PostFault M)) (x y : List (Event M)) (v w : table.Me (Option (List (Event M))) (View M W)) → PutIn fits number job message r x y v w → w.0.hands ≡ v.0.hands
+put_hands {M} {W} fits number job message (Ok o) x y v w t = ap (λ (z : table.Me (Option (List (Event M))) (View M W)). z.0.hands) t.2
+put_hands fits number job message (Err (fault.Spent back)) x y v w t = absurd t
+put_hands {M} {W} fits number job message (Err (fault.Memory back)) x y v w t = ap (λ (z : table.Me (Option (List (Event M))) (View M W)). z.0.hands) t.2
+put_hands {M} {W} fits number job message (Err (fault.Aborted back)) x y v w t = ap (λ (z : table.Me (Option (List (Event M))) (View M W)). z.0.hands) t.2
+
+module _ {M W : Type 0} (fits : W → ℕ → M → Type 0) (id : TableId) (number left : ℕ) (made : Bool) (w : W) (boxes : ℕ) (m : table.Me (Option (List (Event M))) (View M W)) (p : IsBoxPass fits id number left made w boxes m) where
+  abbrev before : Sight M W
+  before = box_sight id number left made w boxes m.0.seen
+
+  module _ (to : ℕ) (x : List (Event M)) (in_it : table.Me (Option (List (Event M))) (View M W)) (inside : IsInside fits to x m in_it) (job : ℕ) (s : Sight M W) (see : before ≡ s) (has : HasJob s.number job s.seen.order) where
+    -- the pass has its job still
+    pub job_inside : (o : Own M) × (in_it.0.lanes ≡ o ∷ []) × (own o.number in_it.0.seen.order ≡ o.events) × HasJob o.number job in_it.0.seen.order
+    job_inside =
+        let list = own_same fits id number left made w boxes m p m.0 in_it.0.seen.order refl inside.own in
+        let was : HasJob number job m.0.seen.order = subst (λ (z : Sight M W). HasJob z.number job z.seen.order) (sym see) has in
+        (own_part fits id number left made w boxes m p, ap (λ (z : View M W). z.lanes) inside.after ∙ p.lanes, list, job_stays number job m.0.seen.order in_it.0.seen.order (sym list) was)
+
+    module _ (message : M) (fit : fits s.seen.world to message) (some_of : left ≡ 0 → ⊥) where
+      first : Later fits w boxes m.0.seen in_it.0.seen
+      first = step_later fits id number left made w boxes m p m.0 in_it.0.seen refl (first_later fits id number left made w boxes m p) inside.news
+
+      module _ (v : table.Me (Option (List (Event M))) (View M W)) (more : SawMore fits in_it.0 v.0) where
+        later : Later fits w boxes m.0.seen v.0.seen
+        later = step_later fits id number left made w boxes m p in_it.0 v.0.seen (ap (λ (z : View M W). z.boards) inside.after) first more.0
+
+        list : own number v.0.seen.order ≡ own number m.0.seen.order
+        list = own_same fits id number left made w boxes m p in_it.0 v.0.seen.order (ap (λ (z : View M W). z.lanes) inside.after) more.1
+
+        -- the message was put in
+        module _ (y : List (Event M)) (is : v ≡ (counted_up job (with_seen v.0.seen in_it.0), in_it.1)) (grown : y ≡ x ++ Post number message ∷ []) where
+          lanes : v.0.lanes ≡ m.0.lanes
+          lanes = ap (λ (z : table.Me (Option (List (Event M))) (View M W)). z.0.lanes) is ∙ ap (λ (z : View M W). z.lanes) inside.after
+
+          under : v.0.under ≡ job
+          under = ap (λ (z : table.Me (Option (List (Event M))) (View M W)). z.0.under) is
+
+          board : v.0.boards ≡ m.0.boards
+          board = ap (λ (z : table.Me (Option (List (Event M))) (View M W)). z.0.boards) is ∙ ap (λ (z : View M W). z.boards) inside.after
+
+          owes : v.0.owes ≡ 1
+          owes = omega (arith, ap (λ (z : table.Me (Option (List (Event M))) (View M W)). z.0.owes) is, ap (λ (z : View M W). z.owes) inside.after, p.owes)
+
+          has_now : HasJob number v.0.under v.0.seen.order
+          has_now =
+              let was : HasJob number job m.0.seen.order = subst (λ (z : Sight M W). HasJob z.number job z.seen.order) (sym see) has in
+              subst (λ k. HasJob number k v.0.seen.order) (sym under) (job_stays number job m.0.seen.order v.0.seen.order (sym list) was)
+
+          pub made_asks : Asks fits to (passes x y) v.0
+          made_asks =
+              let world : s.seen.world ≡ p.base.world.value = sym (ap (λ (z : Sight M W). z.seen.world) see) ∙ sym p.world in
+              inr (own_part fits id number left made w boxes m p, Post number message, lanes ∙ p.lanes, list, grown, (refl, has_now, (p.base, ap (λ l. get_elem? l 0) board ∙ p.is_base, subst (λ z. fits z to message) world fit), omega (arith, owes)))
+
+          module _ (out : table.Me (Option (List (Event M))) (View M W)) (gone : lock.Left (hand_at to) (Tells fits to) y v out) (id' : TableId) (same : id' ≡ id) where
+            visit : Visit fits to x y m in_it v out
+            visit = record { inside = inside; hands = ap (λ (z : table.Me (Option (List (Event M))) (View M W)). z.0.hands) is; slots = ap (λ (z : table.Me (Option (List (Event M))) (View M W)). z.1) is; left = gone }
+
+            told : v.0.told ≡ m.0.told
+            told = ap (λ (z : table.Me (Option (List (Event M))) (View M W)). z.0.told) is ∙ ap (λ (z : View M W). z.told) inside.after
+
+            budget : left ≤ v.0.budget + 1
+            budget = omega (arith, ap (λ (z : table.Me (Option (List (Event M))) (View M W)). z.0.budget) is, ap (λ (z : View M W). z.budget) inside.after, p.budget, some_of)
+
+            pub made_on : IsBoxPass fits id' number (left - 1) made w boxes out
+            made_on = record_on fits id number left made w boxes m p to x y m in_it v out visit p.hands refl some_of board lanes told budget later (Post number message) grown refl id' out same refl refl refl refl refl refl
+                (ap (λ (z : View M W). z.owes) (recorded_is fits id number left made w boxes m p to x y m in_it v out visit p.hands refl some_of board lanes told budget later (Post number message) grown refl).after ∙ omega (arith, owes)) refl
+
+            pub made_posted : v.0.seen.aborted ≡ None → WasPosted fits job to message before (box_sight id' number (left - 1) made w boxes out.0.seen)
+            made_posted alive = (
+              subst (λ k. Added fits (Posted to number message k) before (box_sight id' number (left - 1) made w boxes out.0.seen)) under
+                  (added_is fits id number left made w boxes m p to x y m in_it v out visit p.hands refl some_of board lanes told budget later (Post number message) grown refl id' same),
+              ap (λ (z : View M W). z.seen.aborted) (recorded_is fits id number left made w boxes m p to x y m in_it v out visit p.hands refl some_of board lanes told budget later (Post number message) grown refl).after ∙ alive,
+            )
+
+        -- the message came back
+        module _ (y : List (Event M)) (is : v ≡ (with_seen v.0.seen in_it.0, in_it.1)) (unchanged : y ≡ x) (out : table.Me (Option (List (Event M))) (View M W)) (gone : lock.Left (hand_at to) (Tells fits to) y v out) (id' : TableId) (same : id' ≡ id) where
+          pub refused_on : IsBoxPass fits id' number (left - 1) made w boxes out × Looked fits before (box_sight id' number (left - 1) made w boxes out.0.seen) × (out.0.seen ≡ v.0.seen)
+          refused_on =
+              stays_on fits id number left made w boxes m p to x y m in_it v out
+              record { inside = inside; hands = ap (λ (z : table.Me (Option (List (Event M))) (View M W)). z.0.hands) is; slots = ap (λ (z : table.Me (Option (List (Event M))) (View M W)). z.1) is; left = gone } p.hands refl some_of
+              (ap (λ (z : table.Me (Option (List (Event M))) (View M W)). z.0.boards) is ∙ ap (λ (z : View M W). z.boards) inside.after)
+              (ap (λ (z : table.Me (Option (List (Event M))) (View M W)). z.0.lanes) is ∙ ap (λ (z : View M W). z.lanes) inside.after)
+              (ap (λ (z : table.Me (Option (List (Event M))) (View M W)). z.0.told) is ∙ ap (λ (z : View M W). z.told) inside.after)
+              (omega (arith, ap (λ (z : table.Me (Option (List (Event M))) (View M W)). z.0.budget) is, ap (λ (z : View M W). z.budget) inside.after, p.budget))
+              later id' same unchanged (ap (λ (z : table.Me (Option (List (Event M))) (View M W)). z.0.owes) is ∙ (ap (λ (z : View M W). z.owes) inside.after ∙ p.owes)) list
+
+      -- the mailbox is left with the message, or as it was
+      pub post_asks : (r : Result (Unit {0}) (PostFault M)) (y : List (Event M)) (v : table.Me (Option (List (Event M))) (View M W)) → PutIn fits number job message r x y in_it v → (hand_at to v.0).seen ≡ (hand_at to in_it.0).seen
+          → (z : List (Event M)) → EndsIn (hand_at to v.0).seen z → Asks fits to (passes z y) v.0
+      post_asks r y v put hand z ends = subst (λ k. Asks fits to (passes k y) v.0) (EndsIn-same (hand_at to in_it.0).seen x z inside.found (subst (λ l. EndsIn l z) hand ends)) (asks r put)
+        where
+          asks : (q : Result (Unit {0}) (PostFault M)) → PutIn fits number job message q x y in_it v → Asks fits to (passes x y) v.0
+          asks (Ok o) t = made_asks v t.0 y t.2 t.3
+          asks (Err (fault.Spent back)) t = absurd t
+          asks (Err (fault.Memory back)) t = inl t.3
+          asks (Err (fault.Aborted back)) t = inl t.3
+
+      module _ (r : Result (Unit {0}) (PostFault M)) (y : List (Event M)) (v : table.Me (Option (List (Event M))) (View M W)) (put : PutIn fits number job message r x y in_it v) (out : table.Me (Option (List (Event M))) (View M W))
+          (gone : lock.Left (hand_at to) (Tells fits to) y v out) (id' : TableId) (same : id' ≡ id) where
+        pub post_on : IsBoxPass fits id' number (left - 1) made w boxes out
+        post_on = on r put
+          where
+            on : (q : Result (Unit {0}) (PostFault M)) → PutIn fits number job message q x y in_it v → IsBoxPass fits id' number (left - 1) made w boxes out
+            on (Ok o) t = made_on v t.0 y t.2 t.3 out gone id' same
+            on (Err (fault.Spent back)) t = absurd t
+            on (Err (fault.Memory back)) t = (refused_on v t.0 y t.2 t.3 out gone id' same).0
+            on (Err (fault.Aborted back)) t = (refused_on v t.0 y t.2 t.3 out gone id' same).0
+
+        abbrev Says : Sight M W → Sight M W → Result (Unit {0}) (PostFault M) → Type 0
+        Says a b q = MatchResult q (λ _. WasPosted fits job to message a b) (λ f. WasRefused fits message f a b)
+
+        pub was_posted : Says s (box_sight id' number (left - 1) made w boxes out.0.seen) r
+        was_posted = subst (λ z. Says z (box_sight id' number (left - 1) made w boxes out.0.seen) r) see (says r put)
+          where
+            says : (q : Result (Unit {0}) (PostFault M)) → PutIn fits number job message q x y in_it v → Says before (box_sight id' number (left - 1) made w boxes out.0.seen) q
+            says (Ok o) t = made_posted v t.0 y t.2 t.3 out gone id' same t.1
+            says (Err (fault.Spent back)) t = absurd t
+            says (Err (fault.Memory back)) t = let f = refused_on v t.0 y t.2 t.3 out gone id' same in (t.4, f.1, ap (λ (z : Seen M). z.aborted) f.2 ∙ t.1)
+            says (Err (fault.Aborted back)) t = let f = refused_on v t.0 y t.2 t.3 out gone id' same in (t.4, f.1, subst (λ (z : Seen M). IsSome z.aborted) (sym f.2) t.1)

@@ -1,0 +1,62 @@
+-- What the passes of a board with a lock for each mailbox have together at its end.
+use Rattle.std.specs.Prelude.{◌≡◌, ◌↔◌, ℕ, ◌+◌, ◌<◌, ◌≤◌, Bool, true, IsTrue, List, [], Option, Some, length, slice_get}
+use mathlib.Core.Option.{some}
+use lib.ListN.{get_elem?}
+use Rattle.atomic_table.specs.Table.{Me}
+use Rattle.atomic_table.specs.Seated.{TableId}
+use Rattle.ticket_lock.specs.Count.{times}
+use Rattle.ticket_lock.specs.History.{StartsWith}
+use Rattle.post_ledger.specs.declared.event.Event.{Event}
+use Rattle.post_ledger.specs.declared.entry.Entry.{Entry}
+use Rattle.post_ledger.specs.Orders.{part, own, IsClosed}
+use Rattle.switchboard.specs.declared.calls.Abort.{Abort}
+use Rattle.switchboard.specs.declared.knowing.Ground.{Ground}
+use Rattle.switchboard.specs.declared.knowing.Own.{Own}
+use Rattle.switchboard.specs.Sights.{Sight, IsSound}
+use Rattle.switchboard.specs.Knowing.{unseen, state_of, hand_at, numbers}
+use Rattle.switchboard.specs.PerBox.{View, Saw}
+use Rattle.switchboard.specs.BoxPasses.{box_sight, IsBoxPass}
+
+module _ {M W : Type 0} where
+  -- a pass's own part, as its sight shows it
+  abbrev pub own_of : Sight M W → Own M
+  own_of s = record { number = s.number; events = own s.number s.seen.order; made = s.made }
+
+  -- the seat has taken in what this pass had
+  pub record HasTaken (s : Sight M W) (v : View M W) : Type 0 where
+    pub begins : StartsWith v.seen.order s.seen.order
+    pub aborted : (a : Abort) → s.seen.aborted ≡ Some a → v.seen.aborted ≡ Some a
+    pub knows : s.knows ≡ true → v.seen.knows ≡ true
+    pub lane : (i : ℕ) × (get_elem? v.lanes i ≡ some (own_of s))
+    pub world : (i : ℕ) × (g : Ground M W) × (get_elem? v.boards i ≡ some g) × (g.world.value ≡ s.seen.world)
+
+  -- the seat has taken in the passes from number `from` on, and is outside all locks
+  pub record Gathered (boxes : ℕ) (all : List (Sight M W)) (from : ℕ) (me : Me (Option (List (Event M))) (View M W)) : Type 0 where
+    pub out : me.1 ≡ []
+    pub told : me.0.told ≡ unseen
+    pub owes : me.0.owes ≡ 0
+    pub quiet : (q : ℕ) → q < boxes → ((hand_at q me.0).tickets ≡ []) × ((hand_at q me.0).inside ≡ [])
+    pub count : length me.0.lanes + from ≡ length all
+    pub each : (j : ℕ) (s : Sight M W) → from ≤ j → slice_get all j ≡ Some s → HasTaken s me.0
+
+  module _ (fits : W → ℕ → M → Type 0) where
+    -- the seat is that of the pass
+    abbrev pub HasSeat : Sight M W → TableId → Me (Option (List (Event M))) (View M W) → Type 0
+    HasSeat s id me = IsBoxPass fits id s.number s.calls s.made s.seen.world s.seen.boxes me × (box_sight id s.number s.calls s.made s.seen.world s.seen.boxes me.0.seen ≡ s)
+
+    -- What is left of a board whose passes a seat has all: the longest order, whose parts are the histories; it is closed where no post is outstanding;
+    -- and the maker of the first abort has made it.
+    pub record Ends (g : Ground M W) (v : View M W) (histories : List (List (Event M))) (closed : Bool) : Type 0 where
+      pub order : List (Entry M)
+      pub first : Option Abort
+      pub low : ℕ
+      pub sound : IsSound fits (state_of g (record { order = order; aborted = first; knows = true }))
+      pub saw : Saw fits g order first low v.seen
+      pub owns : (k : ℕ) (o : Own M) → get_elem? v.lanes k ≡ some o → own o.number order ≡ o.events
+      pub boards : (i : ℕ) (k : Ground M W) → get_elem? v.boards i ≡ some k → k ≡ g
+      pub once : (n : ℕ) → times n (numbers v) ≤ 1
+      pub maker : (a : Abort) → first ≡ Some a → (k : ℕ) × (o : Own M) × (get_elem? v.lanes k ≡ some o) × (o.number ≡ a.by) × (o.made ≡ true)
+      pub count : length histories ≡ g.boxes
+      pub parts : (q : ℕ) (h : List (Event M)) → slice_get histories q ≡ Some h → h ≡ part q order
+      pub close : IsTrue closed ↔ IsClosed order
+      pub known : v.seen.knows ≡ true → closed ≡ true

@@ -1,0 +1,70 @@
+-- What a pass of the board with a lock for each mailbox has of its seat.
+use Rattle.std.specs.Prelude.{◌≡◌, ℕ, ◌+◌, ◌^◌, ◌<◌, ◌≤◌, Bool, true, List, [], ◌∷◌, Option, IsSome, length}
+use mathlib.Core.Option.{some}
+use lib.ListN.{get_elem?}
+use Rattle.atomic_table.specs.Table.{Me}
+use Rattle.atomic_table.specs.Seated.{TableId}
+use Rattle.ticket_lock.specs.declared.hand.Hand.{Hand}
+use Rattle.post_ledger.specs.declared.event.Event.{Event}
+use Rattle.post_ledger.specs.Orders.{own, IsClosed}
+use Rattle.switchboard.specs.declared.knowing.Ground.{Ground}
+use Rattle.switchboard.specs.declared.knowing.Seen.{Seen}
+use Rattle.switchboard.specs.Sights.{State, Sight, Account, IsSound}
+use Rattle.switchboard.specs.Knowing.{unseen, only_seen, hand_at}
+use Rattle.switchboard.specs.PerBox.{View, IsSized}
+
+-- the hand has nothing but its share, and has tickets for so many calls
+pub record IsIdle {T : Type 0} (left : ℕ) (h : Hand T) : Type 0 where
+  pub tickets : h.tickets ≡ []
+  pub inside : h.inside ≡ []
+  pub parts : h.parts ≡ 1
+  pub drawn : length h.drawn + left ≤ 2 ^ 56
+
+module _ {M : Type 0} where
+  -- how contracts see what a pass told
+  abbrev pub box_account : TableId → Seen M → Account M
+  box_account id x = record { board = id; knows = x.knows; order = x.order; aborted = x.aborted }
+
+module _ {M W : Type 0} where
+  -- what was seen, as a state of the board
+  abbrev pub state_seen : W → ℕ → Seen M → State M W
+  state_seen w boxes x = record { world = w; boxes = boxes; order = x.order; aborted = x.aborted }
+
+  -- how contracts see a pass
+  abbrev pub box_sight : TableId → ℕ → ℕ → Bool → W → ℕ → Seen M → Sight M W
+  box_sight id number left made w boxes x = record {
+    board = id;
+    number = number;
+    calls = left;
+    made = made;
+    knows = x.knows;
+    seen = state_seen w boxes x;
+  }
+
+  module _ (fits : W → ℕ → M → Type 0) where
+    -- what a pass has seen: it is sound; who knows the close has seen a closed order; and who made an abort knows of one
+    pub record IsSeen (w : W) (boxes : ℕ) (made : Bool) (x : Seen M) : Type 0 where
+      pub sound : IsSound fits (state_seen w boxes x)
+      pub close : x.knows ≡ true → IsClosed x.order
+      pub known : made ≡ true → IsSome x.aborted
+
+    -- The seat is this pass's alone, at a board of this world with so many mailboxes. It holds no mailbox, waits for none, and has none in the count; it
+    -- made just its own events of the order that it has seen; it has tickets, and Posts to count up, for its calls.
+    pub record IsBoxPass (id : TableId) (number left : ℕ) (made : Bool) (w : W) (boxes : ℕ) (me : Me (Option (List (Event M))) (View M W)) : Type 0 where
+      pub base : Ground M W
+      pub is_base : get_elem? me.0.boards 0 ≡ some base
+      pub world : base.world.value ≡ w
+      pub mailboxes : base.boxes ≡ boxes
+      pub sized : IsSized id boxes
+      pub near : number < boxes
+      pub lanes : me.0.lanes ≡ record { number = number; events = own number me.0.seen.order; made = made } ∷ []
+      pub outside : me.1 ≡ []
+      pub told : me.0.told ≡ unseen
+      pub owes : me.0.owes ≡ 0
+      pub budget : left ≤ me.0.budget
+      pub hands : (q : ℕ) → q < boxes → IsIdle left (hand_at q me.0)
+      pub seen : IsSeen w boxes made me.0.seen
+
+  -- a seat that has nothing, and saw this
+  pub record IsBoxTold (id : TableId) (me : Me (Option (List (Event M))) (View M W)) : Type 0 where
+    pub blank : me ≡ (only_seen me.0.seen, [])
