@@ -1,7 +1,7 @@
 -- What a point that is put into a mask does to the edges of all masks.
-use Rattle.std.proofs.Common.{◌≡◌, ℕ, suc, ◌+◌, ◌<◌, ◌^◌, Bool, true, false, cond, not, List, [], ◌∷◌}
-use Rattle.std.proofs.Common.{None, Some, slice_get, is_some, refl, sym, ap, ◌∙◌, subst, true≢false, arith}
-use Rattle.std.specs.List.{IsDistinct, position_or_len}
+use Rattle.std.proofs.Common.{◌≡◌, ℕ, ◌<◌, ◌^◌, Bool, true, false, List, None, Some, slice_get, sym}
+use Rattle.std.proofs.Common.{◌∙◌, subst, true≢false}
+use Rattle.std.specs.List.{IsDistinct}
 use Rattle.std.specs.Map.{keys_of, values_of, lookup}
 use Rattle.indexmap.specs.IndexMap.{IndexMap, set_value_at, insert_entry}
 use Rattle.indexmap.proofs.CallerLemmas.{insert_entry-new}
@@ -11,8 +11,7 @@ use Rattle.path_sets.specs.Edges.{edge_at, edges, place_eq}
 use Rattle.path_sets.specs.Inserts.{Inserts, Settles}
 use Rattle.path_sets.specs.Masks.{Marks}
 use Rattle.path_sets.proofs.Masks.{bits_known, bits_hold, put_bit, first_bit}
-use Rattle.path_sets.proofs.Places.{same_place}
-use Rattle.path_sets.proofs.Grouped.{Groups, pair_at, in_group, only_in_group, put_in_group, same_group, absent, no_edge, put_last}
+use Rattle.path_sets.proofs.Grouped.{Groups, in_group, only_in_group, put_in_group, same_group, absent, no_edge, put_last}
 
 -- the mask of a place settles what is an edge
 pub settled : (gs : Groups) (i : ℕ) (p : Place) (m w b : ℕ) → b < 64 → IsDistinct place_eq (keys_of gs) →
@@ -35,45 +34,6 @@ started old new p w b small is none made = (
       (put_last old.entries p w b (first_bit w b small is)),
   no_edge old.entries p b small (absent old.entries p none),
 )
-
--- The place p has the mask m and stands at the index i. Where another mask is inserted there, and a third written behind it, that is
--- as if the third were written alone.
-abbrev pub IsRewritten : Groups → Place → ℕ → ℕ → ℕ → Type 0
-IsRewritten gs p m i v =
-    (slice_get (keys_of gs) i ≡ Some p) × (slice_get (values_of gs) i ≡ Some m)
-    × ((w : ℕ) → set_value_at (insert_entry place_eq gs p v) i w ≡ set_value_at gs i w)
-
--- a place that has a mask is inserted where it stands
-pub rewritten : (gs : Groups) (p : Place) (m v : ℕ) → lookup (place_eq p) gs ≡ Some m →
-    IsRewritten gs p m (position_or_len (place_eq p) (keys_of gs)) v
-rewritten [] p m v is = absurd (true≢false (ap is_some (sym is)))
-rewritten (g ∷ gs) p m v is = by (place_eq p g.0) refl is (rewritten gs p m v)
-  where
-    At : Bool → ℕ → Type 0
-    At b i =
-        (slice_get (keys_of (g ∷ gs)) i ≡ Some p) × (slice_get (values_of (g ∷ gs)) i ≡ Some m)
-        × ((w : ℕ) → set_value_at (cond b ((g.0, v) ∷ gs) (g ∷ insert_entry place_eq gs p v)) i w
-        ≡ set_value_at (g ∷ gs) i w)
-
-    by : (b : Bool) → place_eq p g.0 ≡ b → cond b (Some g.1) (lookup (place_eq p) gs) ≡ Some m →
-        (lookup (place_eq p) gs ≡ Some m → IsRewritten gs p m (position_or_len (place_eq p) (keys_of gs)) v) →
-        At b (cond (not b) (1 + position_or_len (place_eq p) (keys_of gs)) 0)
-    by true e is rest = (ap Some (sym (same_place p g.0 e)), is, λ w. refl)
-    by false e is rest =
-        let r = rest is in
-        let next : suc (position_or_len (place_eq p) (keys_of gs)) ≡ 1 + position_or_len (place_eq p) (keys_of gs) = omega arith in
-        subst (At false) next (r.0, r.1, λ w. ap (λ es. g ∷ es) (r.2 w))
-
--- a point that is put into the mask that a place had, over one that was inserted, settles what is an edge
-pub put_back : (gs new : Groups) (i : ℕ) (p : Place) (m v w b : ℕ) → b < 64 → IsDistinct place_eq (keys_of gs) →
-    lookup (place_eq p) gs ≡ Some m → i ≡ position_or_len (place_eq p) (keys_of gs) →
-    new ≡ insert_entry place_eq gs p v → (added : Bool) → Marks b m w added →
-    Settles (edge_at p b) (edges gs) (edges (set_value_at new i w)) added
-put_back gs new i p m v w b small distinct is at made added marks =
-    let r = subst (λ n. IsRewritten gs p m n v) (sym at) (rewritten gs p m v is) in
-    let same : set_value_at new i w ≡ set_value_at gs i w = ap (λ es. set_value_at es i w) made ∙ r.2 w in
-    subst (λ (es : Groups). Settles (edge_at p b) (edges gs) (edges es) added) (sym same)
-    (settled gs i p m w b small distinct (pair_at gs i p m r.0 r.1) r.1 added marks)
 
 module _ {A : Type 0} (x : A) (old new : List A) where
   -- where the answer is that x was put in, it was no member

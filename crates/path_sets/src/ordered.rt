@@ -4,7 +4,6 @@ ghost use Rattle.std.specs.Prelude.{◌≡◌, ◌<◌, length, None, Some, slic
 ghost use Rattle.std.specs.Map.{lookup};
 ghost use Rattle.std.proofs.lemmas.Map.Keys.{IsDistinct-prop};
 ghost use Rattle.indexmap.specs.IndexMap.{IsUnique, index_map_len, keys};
-ghost use Rattle.std.specs.Bool.{OnTrue};
 ghost use Rattle.path_sets.specs.Triples.{NoneTwice, NoneTwice-prop};
 ghost use Rattle.path_sets.specs.Edges.{edges, edge_at, place_eq};
 ghost use Rattle.path_sets.specs.Inserts.{Settles};
@@ -33,31 +32,37 @@ pub struct OrderedEdges<A: Allocator> {
     ghost once: { NoneTwice (edges masks.entries) } by { NoneTwice-prop (edges masks.entries) },
 }
 
-/// Whether a place stands at an index.
-fn stands_at<A: Allocator + Copy>(masks: &Masks<A>, at: usize, place: &Place) -> bool
-    ensures here { OnTrue result (slice_get (keys masks.now) at ≡ Some place.now) }
-    ensures within { OnTrue result (at < index_map_len masks.now) }
-{
-    match masks.get_index(at) {
-        Some((used, _)) => used == place,
-        None => false,
-    }
-}
-
 /// The index of a place, if it has a mask; the one used last is tried first.
 fn find<A: Allocator + Copy>(masks: &Masks<A>, last: usize, place: &Place) -> Option<usize>
     ensures here { IfSome result (λ at. slice_get (keys masks.now) at ≡ Some place.now) }
     ensures within { IfSome result (λ at. at < index_map_len masks.now) }
     ensures none { IsNone result → lookup (place_eq place.now) masks.now.entries ≡ None }
 {
-    if stands_at(masks, last, place) {
-        return Some(last);
+    if let Some((used, _)) = masks.get_index(last) {
+        if used == place {
+            return Some(last);
+        }
     }
     masks.get_index_of(place)
 }
 
-/// Puts a point into the mask of its place. Answers whether it is new. The index used last is tried first; else one look-up
-/// finds the place or begins its mask.
+/// Begins the mask of a place that has none.
+fn start<A: Allocator + Copy>(
+    masks: &mut Masks<A>,
+    place: Place,
+    bit: usize,
+) -> Result<bool, AllocError>
+    requires bit { bit < 64 }
+    requires none { lookup (place_eq place) masks.old.entries ≡ None }
+    ensures ok { IfOk result (Settles (edge_at place bit) (edges masks.old.entries) (edges masks.new.entries)) }
+    ensures err { OnErr result (edges masks.new.entries ≡ edges masks.old.entries) }
+    ensures unique { IsUnique place_eq masks.new }
+{
+    masks.insert(place, one(bit))?;
+    Ok(true)
+}
+
+/// Puts a point into the mask of its place. Answers whether it is new.
 fn put<A: Allocator + Copy>(
     masks: &mut Masks<A>,
     last: &mut usize,
@@ -70,17 +75,16 @@ fn put<A: Allocator + Copy>(
     ensures err { OnErr result (edges masks.new.entries ≡ edges masks.old.entries) }
     ensures unique { IsUnique place_eq masks.new }
 {
-    if stands_at(masks, *last, &place) {
-        return Ok(mark(&mut masks[*last], bit));
+    match find(masks, *last, &place) {
+        Some(at) => {
+            *last = at;
+            Ok(mark(&mut masks[at], bit))
+        }
+        None => {
+            *last = masks.len();
+            start(masks, place, bit)
+        }
     }
-    let (at, before) = masks.insert_full(place, one(bit))?;
-    *last = at;
-    let Some(mut mask) = before else {
-        return Ok(true);
-    };
-    let added = mark(&mut mask, bit);
-    masks[at] = mask;
-    Ok(added)
 }
 
 impl<A: Allocator + Copy> PathSet<A> for OrderedEdges<A> {
