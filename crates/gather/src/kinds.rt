@@ -3,7 +3,7 @@ use flow_graph::Graphs;
 use path_sets::{OrderedEdges, PathSet};
 use std::alloc::Allocator;
 use summaries::Due;
-use switchboard::{Board, OneLock};
+use switchboard::{Board, LockPerBox, OneLock};
 
 /// A board of flow graphs, with all of it in memory of one allocator.
 pub trait WorkBoard: Board<Due, Graphs<Self::Heap>, Self::Heap> {
@@ -11,6 +11,10 @@ pub trait WorkBoard: Board<Due, Graphs<Self::Heap>, Self::Heap> {
 }
 
 impl<A: Allocator + Copy> WorkBoard for OneLock<Due, Graphs<A>, A> {
+    type Heap = A;
+}
+
+impl<A: Allocator + Copy> WorkBoard for LockPerBox<Due, Graphs<A>, A> {
     type Heap = A;
 }
 

@@ -23,7 +23,7 @@ use std::alloc::Allocator;
 use std::sync::Wait;
 use std::thread::Threads;
 use summaries::{Caller, Due, EdgeLimit, NoVerdict, Summaries};
-use switchboard::OneLock;
+use switchboard::LockPerBox;
 
 /// Whether some run within the rounds fails an assert.
 #[derive(Clone, Copy, Debug, PartialEq, Eq)]
@@ -131,7 +131,7 @@ where
     })
 }
 
-/// The same over a board behind one lock and ordered sets of path edges, all in memory of one allocator.
+/// The same over a board with a lock for each mailbox and ordered sets of path edges, all in memory of one allocator.
 pub fn check_rounds<R, A, K, N>(
     rt: &R,
     alloc: A,
@@ -148,7 +148,7 @@ where
     ensures report { IfOk result (IsReport (checked_tree program.now) (last_round rounds) (most_of limit)) }
     ensures none { IfErr result (IsNoReport (checked_tree program.now) (last_round rounds) (most_of limit)) }
 {
-    check_rounds_with::<R, OneLock<Due, Graphs<A>, A>, OrderedEdges<A>, K, N>(
+    check_rounds_with::<R, LockPerBox<Due, Graphs<A>, A>, OrderedEdges<A>, K, N>(
         rt, alloc, alloc, program, rounds, limit, gate,
     )
 }

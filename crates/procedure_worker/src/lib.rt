@@ -5,6 +5,7 @@
 mod gate;
 mod laws;
 mod outcome;
+mod pause;
 mod worker;
 mod working;
 

@@ -10,11 +10,11 @@ ghost use Rattle.procedure_worker.specs.Works.{Failed, Completes, StopsSo, cause
 
 use crate::gate::Gate;
 use crate::outcome::End;
+use crate::pause::pause;
 use flow_graph::Graphs;
 use path_sets::PathSet;
 use std::alloc::Allocator;
 use std::sync::Wait;
-use std::thread;
 use summaries::{Due, Table, TableFault, deliver};
 use switchboard::{Board, Cause, Job, PostFault, Taken};
 use ticket_lock::Spent;
@@ -36,6 +36,8 @@ pub(crate) struct Worker<'g, G: Allocator, A: Allocator, S: PathSet<A>> {
     pub(crate) takes: Vec<Due, A>,
     /// What its pass posted, in order, each with the number of its mailbox.
     pub(crate) posts: Vec<(u8, Due), A>,
+    /// How many takes in a row found its mailbox empty.
+    pub(crate) empty: u32,
 }
 
 /// Why a worker fails, where its table has.
@@ -207,8 +209,8 @@ impl<'g, G: Allocator, A: Allocator + Copy, S: PathSet<A>> Worker<'g, G, A, S> {
         }
     }
 
-    /// Takes a message, if there is one, and works on it; where there is none, lets other threads run. Answers how the worker
-    /// ended, if it did.
+    /// Takes a message, if there is one, and works on it; where there is none, waits for a moment. Answers how the worker ended,
+    /// if it did.
     pub(crate) fn turn<R: Wait, H: Allocator, B: Board<Due, Graphs<G>, H>, K: Gate>(
         &mut self,
         rt: &R,
@@ -227,12 +229,14 @@ impl<'g, G: Allocator, A: Allocator + Copy, S: PathSet<A>> Worker<'g, G, A, S> {
         }
         match board.take(rt, pass) {
             Ok(Taken::Message(job, due)) => {
+                self.empty = 0;
                 self.takes.push_reserved(due);
                 gate.taken(self.number, self.takes.len() as u64);
                 self.serve(rt, board, pass, job, due, gate)
             }
             Ok(Taken::Empty) => {
-                thread::yield_now();
+                pause(rt, self.empty);
+                self.empty = self.empty.saturating_add(1);
                 None
             }
             Ok(Taken::Closed) => Some(End::Closed),

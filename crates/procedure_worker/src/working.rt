@@ -17,7 +17,7 @@ use switchboard::Board;
 
 /// Works for a procedure: takes one message of its mailbox, posts all that its table then owes, completes it, and begins again,
 /// until the board is closed, or aborted by another pass, or by this one for a cause of its own. Between two takes that find the
-/// mailbox empty it lets other threads run. The pass must be that of the procedure, as the board gave it, and the board one of
+/// mailbox empty it lets other threads run, and sleeps where that goes on. The pass must be that of the procedure, as the board gave it, and the board one of
 /// these graphs that the starter's message opened. Lists and table are in memory of `alloc`; their places are reserved before
 /// each call of the board.
 pub fn work<'g, R, G, H, A, B, S, K>(
@@ -50,6 +50,7 @@ where
         table: Table::new(alloc, graphs, procedure, limit),
         takes: Vec::new(alloc),
         posts: Vec::new(alloc),
+        empty: 0,
     };
     for _ in rt.forever() {
         if let Some(end) = worker.turn(rt, board, &mut pass, gate) {
@@ -58,6 +59,7 @@ where
                 table,
                 takes,
                 posts,
+                empty: _,
             } = worker;
             let outcome = Outcome {
                 table: Some(table),

@@ -1,7 +1,7 @@
 //! One case.
 
 use crate::gates::{Late, Meeting, Noting};
-use crate::program::{Asked, read_case};
+use crate::program::{Asked, Kind, read_case};
 use crate::{report, scarcity};
 use procedure_worker::{Gate, Open};
 use std::alloc::{AllocError, Global};
@@ -29,11 +29,15 @@ fn answer<R: Wait + Threads + Sync>(
     line: &str,
 ) -> Result<(), AllocError> {
     let (how, rest) = line.split_once(": ").unwrap_or(("", line));
+    let (board, how) = match how.strip_prefix("one lock, ") {
+        Some(how) => (Kind::OneLock, how),
+        None => (Kind::LockPerBox, how),
+    };
     let Some((head, text)) = rest.split_once(" | ") else {
         return Ok(());
     };
     let (what, numbers) = head.split_once(' ').unwrap_or((head, ""));
-    let Some(asked) = read_case(alloc, numbers, text) else {
+    let Some(asked) = read_case(alloc, board, numbers, text) else {
         return write!(out, "no such case");
     };
     match how {

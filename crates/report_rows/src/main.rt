@@ -10,7 +10,8 @@
 //! | `refusing T: answer K N \| TEXT` | what comes of it with one allocation refused, the first, then the second, up to T |
 //! | `answer K N \| TEXT` | the answer alone |
 //!
-//! Entries and pairs are also compared with those of one thread. A line that begins with `#` is a heading.
+//! The board has a lock for each mailbox, or, where a case begins with `one lock, `, one for all. Entries and pairs are
+//! also compared with those of one thread. A line that begins with `#` is a heading.
 #![tactic(auto)]
 
 mod case;

@@ -13,21 +13,30 @@ use std::alloc::{Allocator, Global};
 use summaries::{EdgeLimit, NoVerdict, Summaries, tabulate};
 use syntax::read;
 
-/// What is asked: a program, for how many rounds, and with how many path edges a procedure at most.
+/// What is asked: a program, for how many rounds, with how many path edges a procedure at most, and over which board.
 #[derive(Drop)]
 pub struct Asked {
     pub program: Checked<Global>,
     pub rounds: Rounds,
     pub limit: EdgeLimit,
+    pub board: Kind,
+}
+
+/// What board the workers have.
+#[derive(Clone, Copy, PartialEq, Eq)]
+pub enum Kind {
+    LockPerBox,
+    OneLock,
 }
 
 /// What two numbers and a text ask; nothing where the text is no program, or a number is past its limit.
-pub fn read_case(alloc: Global, numbers: &str, text: &str) -> Option<Asked> {
+pub fn read_case(alloc: Global, board: Kind, numbers: &str, text: &str) -> Option<Asked> {
     let (rounds, edges) = numbers.split_once(' ')?;
     Some(Asked {
         program: checked(alloc, text)?,
         rounds: Rounds::new(rounds.parse::<u8>().ok()?)?,
         limit: EdgeLimit::new(edges.parse::<u32>().ok()?)?,
+        board,
     })
 }
 

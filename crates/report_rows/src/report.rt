@@ -1,7 +1,8 @@
 //! What workers come to, as text.
 
-use crate::program::{Asked, on_one_thread};
-use gather::{Answer, Report, check_rounds};
+use crate::program::{Asked, Kind, on_one_thread};
+use flow_graph::Graphs;
+use gather::{Answer, Report, check_rounds, check_rounds_with};
 use path_sets::OrderedEdges;
 use post_ledger::Event;
 use procedure_worker::{Gate, Open};
@@ -9,6 +10,25 @@ use std::alloc::{AllocError, Allocator, Global};
 use std::sync::Wait;
 use std::thread::Threads;
 use summaries::{Due, NoVerdict, Summaries};
+use switchboard::OneLock;
+
+/// The report of the workers over the board that is asked for.
+fn report_of<R, K, A>(rt: &R, alloc: A, asked: &Asked, gate: &K) -> Result<Report<A, A>, NoVerdict>
+where
+    R: Wait + Threads + Sync,
+    K: Gate + Sync,
+    A: Allocator + Copy + Send + Sync,
+{
+    let (program, rounds, limit) = (&asked.program, asked.rounds, asked.limit);
+    match asked.board {
+        Kind::LockPerBox => check_rounds(rt, alloc, program, rounds, limit, gate),
+        Kind::OneLock => {
+            check_rounds_with::<R, OneLock<Due, Graphs<A>, A>, OrderedEdges<A>, K, Global>(
+                rt, alloc, alloc, program, rounds, limit, gate,
+            )
+        }
+    }
+}
 
 /// How many Takes a history has.
 fn takes(history: &[Event<Due>]) -> usize {
@@ -81,7 +101,7 @@ pub fn write<R: Wait + Threads + Sync, K: Gate + Sync>(
     asked: &Asked,
     gate: &K,
 ) -> Result<(), AllocError> {
-    let report = check_rounds(rt, alloc, &asked.program, asked.rounds, asked.limit, gate);
+    let report = report_of(rt, alloc, asked, gate);
     write_report(out, &report)?;
     let same = match (
         &report,
@@ -116,6 +136,6 @@ pub fn answer<R: Wait + Threads + Sync, A: Allocator + Copy + Send + Sync>(
     alloc: A,
     asked: &Asked,
 ) -> Result<Answer, NoVerdict> {
-    let report = check_rounds(rt, alloc, &asked.program, asked.rounds, asked.limit, &Open)?;
+    let report = report_of(rt, alloc, asked, &Open)?;
     Ok(report.answer)
 }

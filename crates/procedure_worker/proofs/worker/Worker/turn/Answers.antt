@@ -29,7 +29,7 @@ serve-requires g c = λ κs out. (
                     took_taking g.start g.S.PathSet.members c.in-Ok-Message.job c.in-Ok-Message.due
                         (g.B.Board.sight c.args.pass.now)
                         (g.B.Board.sight c.take.new.pass) c.args.self.now
-                        (record c.args.self.now { takes = c.push_reserved.new.self })
+                        (record c.args.self.now { takes = c.push_reserved.new.self; empty = 0 })
                         c.requires.1.1.1.1.1.1.1.1.1.1
                         (subst (λ r. Took FitsIn (Ok r) (g.B.Board.sight c.args.pass.now)
                         (g.B.Board.sight c.take.new.pass)) c.in-Ok-Message.field-0-is
