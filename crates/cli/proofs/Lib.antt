@@ -3,3 +3,4 @@ pub mod Reading
 pub mod Extending
 pub mod Locating
 pub mod Giving
+pub mod Refusing

@@ -1,11 +1,11 @@
 //! From the bytes of a text to a reply.
-ghost use Rattle.std.specs.Prelude.{◌≡◌, ◌⊎◌, ◌≤◌, IfOk, Some, codes};
+ghost use Rattle.std.specs.Prelude.{◌≡◌, ◌⊎◌, ◌≤◌, IfErr, IfOk, None, Some, codes};
 ghost use Rattle.std.specs.Cow.{cow_slice_items};
 ghost use Rattle.summaries.specs.Limits.{most_of};
 ghost use Rattle.cli.specs.Limits.{count_of};
-ghost use Rattle.cli.specs.Refused.{line_at, line_of, memory_line, status_of, unchecked_line, unread_line};
-ghost use Rattle.cli.specs.Replies.{IsPastLimit, IsSequential, Refuses, RefusesFor, Replies, Tells};
-ghost use Rattle.cli.specs.Verdict.{Answers, IsOver};
+ghost use Rattle.cli.specs.Refused.{NamesOffset, line_at, line_of, memory_line, status_of, unchecked_line, unread_line};
+ghost use Rattle.cli.specs.Replies.{IsPastLimit, IsSequential, Refuses, RefusesFor, Replies, TellsOrLacks};
+ghost use Rattle.cli.specs.Verdict.{Answers};
 ghost use Rattle.cli.specs.Written.{Says, bytes_of};
 ghost use Rattle.cli.specs.declared.refusal.Refusal.TheVariants as why;
 
@@ -54,9 +54,10 @@ fn located<A: Allocator>(
     Ok(CowSlice::Owned(line.into_bytes()))
 }
 
-/// The line of a text that is not read.
+/// The line of a text that is not read. Only a line with an offset takes memory.
 fn unread<A: Allocator>(alloc: A, fault: &ReadFault) -> Result<CowSlice<'static, u8, A>, AllocError>
-    ensures { IfOk result (λ line. cow_slice_items line ≡ unread_line fault.now) }
+    ensures line { IfOk result (λ line. cow_slice_items line ≡ unread_line fault.now) }
+    ensures memory { IfErr result (λ _. NamesOffset (why.Unread fault.now)) }
 {
     match fault {
         ReadFault::TooLong => Ok(fixed("refused: 1 too long\n")),
@@ -67,12 +68,13 @@ fn unread<A: Allocator>(alloc: A, fault: &ReadFault) -> Result<CowSlice<'static,
     }
 }
 
-/// The line of a text in which a fault of scopes stands.
+/// The line of a text in which a fault of scopes stands. It takes memory, but where memory gave out.
 fn unchecked<A: Allocator>(
     alloc: A,
     fault: &ScopeFault,
 ) -> Result<CowSlice<'static, u8, A>, AllocError>
-    ensures { IfOk result (λ line. cow_slice_items line ≡ unchecked_line fault.now) }
+    ensures line { IfOk result (λ line. cow_slice_items line ≡ unchecked_line fault.now) }
+    ensures memory { IfErr result (λ _. NamesOffset (why.Unchecked fault.now)) }
 {
     match fault {
         ScopeFault::Undeclared(at) => located(alloc, "6 undeclared", *at),
@@ -86,9 +88,10 @@ fn unchecked<A: Allocator>(
     }
 }
 
-/// The line that says why a text gets no verdict.
+/// The line that says why a text gets no verdict. Only a line with an offset takes memory.
 fn line<A: Allocator>(alloc: A, refusal: &Refusal) -> Result<CowSlice<'static, u8, A>, AllocError>
-    ensures { IfOk result (λ line. cow_slice_items line ≡ line_of refusal.now) }
+    ensures line { IfOk result (λ line. cow_slice_items line ≡ line_of refusal.now) }
+    ensures memory { IfErr result (λ _. NamesOffset refusal.now) }
 {
     match refusal {
         Refusal::Unread(fault) => unread(alloc, fault),
@@ -110,9 +113,10 @@ fn status(refusal: &Refusal) -> u8
     }
 }
 
-/// The reply to a text that gets no verdict.
+/// The reply to a text that gets no verdict: the one for want of memory only where memory gave out over a line with an
+/// offset.
 fn refused<A: Allocator>(alloc: A, refusal: Refusal) -> Reply<A>
-    ensures { Tells refusal result ⊎ Tells why.Memory result }
+    ensures { TellsOrLacks refusal result }
 {
     let status = status(&refusal);
     match line(alloc, &refusal) {
@@ -128,7 +132,7 @@ fn refused<A: Allocator>(alloc: A, refusal: Refusal) -> Reply<A>
 /// The reply to a text that is to be checked.
 fn verdict<R: Alloc>(rt: &R, text: &[u8], rounds: Rounds, edges: EdgeLimit) -> Reply<R::A>
     ensures { Answers text.now (count_of rounds) (most_of edges) (bytes_of result) result.status
-        ⊎ RefusesFor text.now (count_of rounds) (IsOver text.now (count_of rounds) (most_of edges)) result }
+        ⊎ RefusesFor text.now (count_of rounds) (Some (most_of edges)) result }
 {
     let alloc = rt.alloc();
     match judge::<_, OrderedEdges<&R::A>>(&alloc, text, rounds, edges) {
@@ -141,7 +145,7 @@ fn verdict<R: Alloc>(rt: &R, text: &[u8], rounds: Rounds, edges: EdgeLimit) -> R
 /// The reply to a text that is to be rewritten.
 fn rewriting<R: Alloc>(rt: &R, text: &[u8], rounds: Rounds) -> Reply<R::A>
     ensures { (result.status ≡ 0) × IsSequential text.now (count_of rounds) (bytes_of result)
-        ⊎ RefusesFor text.now (count_of rounds) ⊥ result }
+        ⊎ RefusesFor text.now (count_of rounds) None result }
 {
     match sequential(rt, text, rounds) {
         Ok(printed) => Reply {

@@ -1,6 +1,6 @@
 //! The verdict on a text: its program is rewritten for the rounds, its flow graphs are drawn and tabulated.
 
-ghost use Rattle.std.specs.Prelude.{◌≡◌, ◌↔◌, ◌⊎◌, ℕ, IfOk, IfErr, codes};
+ghost use Rattle.std.specs.Prelude.{◌≡◌, ◌↔◌, ◌⊎◌, ℕ, IfOk, IfErr, Some, codes};
 ghost use Rattle.language.specs.Resolve.{number_of};
 ghost use Rattle.language.specs.Sequential.{sequential_of};
 ghost use Rattle.language.specs.Step.{Program};
@@ -10,7 +10,7 @@ ghost use Rattle.summaries.specs.Tabulated.{HasMoreEdges, SomePairBad};
 ghost use Rattle.summaries.specs.Limits.{most_of};
 ghost use Rattle.cli.specs.Limits.{count_of};
 ghost use Rattle.cli.specs.Refused.{RefusalStands};
-ghost use Rattle.cli.specs.Verdict.{IsVerdict, IsOver};
+ghost use Rattle.cli.specs.Verdict.{IsVerdict};
 ghost use Rattle.cli.specs.declared.refusal.Refusal.TheVariants as refusal;
 
 use crate::refusal::Refusal;
@@ -64,8 +64,7 @@ pub(crate) fn judge<A: Allocator + Copy, S: PathSet<A>>(
     edges: EdgeLimit,
 ) -> Result<Verdict, Refusal>
     ensures verdict { IfOk result (λ v. IsVerdict text.now (count_of rounds) (most_of edges) v) }
-    ensures stands { IfErr result (RefusalStands text.now (count_of rounds)
-        (IsOver text.now (count_of rounds) (most_of edges))) }
+    ensures stands { IfErr result (RefusalStands text.now (count_of rounds) (Some (most_of edges))) }
 {
     let sequential = rewritten(alloc, text, rounds)?;
     let summaries = tabulated::<_, _, S>(alloc, &sequential, edges)?;

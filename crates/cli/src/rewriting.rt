@@ -1,6 +1,6 @@
 //! The sequential program of a text: what every order begins with.
 
-ghost use Rattle.std.specs.Prelude.{IfOk, IfErr};
+ghost use Rattle.std.specs.Prelude.{IfOk, IfErr, None};
 ghost use Rattle.round_rewrite.specs.Programs.{sequential_tree};
 ghost use Rattle.cli.specs.Limits.{count_of};
 ghost use Rattle.cli.specs.Refused.{RefusalStands};
@@ -19,7 +19,7 @@ pub(crate) fn rewritten<A: Allocator + Copy>(
     rounds: Rounds,
 ) -> Result<Sequential<A>, Refusal>
     ensures rewriting { IfOk result (λ s. IsRewriting text.now (count_of rounds) (sequential_tree s)) }
-    ensures stands { IfErr result (RefusalStands text.now (count_of rounds) ⊥) }
+    ensures stands { IfErr result (RefusalStands text.now (count_of rounds) None) }
 {
     let program = match read(alloc, text) {
         Ok(program) => program,

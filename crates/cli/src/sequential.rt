@@ -1,6 +1,6 @@
 //! The rewritten program of a text, printed.
 
-ghost use Rattle.std.specs.Prelude.{IfOk, IfErr};
+ghost use Rattle.std.specs.Prelude.{IfOk, IfErr, None};
 ghost use Rattle.std.specs.String.{string_bytes};
 ghost use Rattle.cli.specs.Limits.{count_of};
 ghost use Rattle.cli.specs.Refused.{RefusalStands};
@@ -18,7 +18,7 @@ pub(crate) fn sequential<R: Alloc>(
     rounds: Rounds,
 ) -> Result<String<R::A>, Refusal>
     ensures printed { IfOk result (λ s. IsSequential text.now (count_of rounds) (string_bytes s)) }
-    ensures stands { IfErr result (RefusalStands text.now (count_of rounds) ⊥) }
+    ensures stands { IfErr result (RefusalStands text.now (count_of rounds) None) }
 {
     let alloc = rt.alloc();
     let sequential = rewritten(&alloc, text, rounds)?;

@@ -1,5 +1,5 @@
 -- Where tabulating fails, memory ran out or some procedure has more path edges than the limit.
-use Rattle.std.proofs.Common.{◌≡◌, ◌↔◌, ◌⊎◌, ℕ, List, inl, inr, refl, sym, subst, codes, ◌∙◌, true≢false}
+use Rattle.std.proofs.Common.{◌≡◌, ◌↔◌, ◌⊎◌, ℕ, List, Some, inl, inr, refl, sym, subst, codes, ◌∙◌, true≢false}
 use Rattle.std.proofs.lemmas.Result.{err_from_is_err_and}
 use Rattle.language.specs.Resolve.{meaning_of, number_of}
 use Rattle.language.specs.Rounds.{Unsafe}
@@ -17,17 +17,18 @@ use Rattle.summaries.specs.Limits.{most_of}
 use Rattle.cli.specs.Limits.{count_of}
 use Rattle.cli.specs.Refused.{RefusalStands}
 use Rattle.cli.specs.Rewritten.{IsRewriting}
-use Rattle.cli.specs.Verdict.{IsOver, IsWithinLimit}
+use Rattle.cli.specs.Verdict.{IsWithinLimit}
+use Rattle.cli.proofs.Refusing.{has_rewriting}
 use Rattle.cli.proofs.judge.judge.Goals as goal
 
 -- what a fault of the tabulation says of the text
 stands : (text : List ℕ) (rounds edges limit : ℕ) (sequential : Tree) → IsRewriting text rounds sequential → limit ≡ edges → (why : Refusal) →
     (why ≡ Memory) ⊎ ((why ≡ EdgeLimit) × ((q : ℕ) × HasMoreEdges (sequential_of sequential) q limit)) →
-    RefusalStands text rounds (IsOver text rounds edges) why
-stands text rounds edges limit sequential found within why (inl e) = subst (RefusalStands text rounds (IsOver text rounds edges)) (sym e) tt
+    RefusalStands text rounds (Some edges) why
+stands text rounds edges limit sequential found within why (inl e) = subst (RefusalStands text rounds (Some edges)) (sym e) (inl (has_rewriting text rounds sequential found))
 stands text rounds edges limit sequential found within why (inr (e, (q, more))) =
     let at : HasMoreEdges (sequential_of sequential) q edges = subst (HasMoreEdges (sequential_of sequential) q) within more in
-    subst (RefusalStands text rounds (IsOver text rounds edges)) (sym e)
+    subst (RefusalStands text rounds (Some edges)) (sym e)
     (found.tree, found.of, found.checked, (found.last, found.count, (q, subst (λ t. HasMoreEdges (sequential_of t) q edges) found.same at)))
 
 -- where the pairs of the rewriting tell whether some pair is bad, they tell whether the text's program is unsafe
