@@ -1,104 +1,120 @@
--- The lanes that were begun, and those that have ended, one after the other.
-use Rattle.std.proofs.Common.{◌≡◌, inl, inr, ℕ, zero, suc, ◌<◌, ◌≤◌, List, [], ◌∷◌}
-use Rattle.std.proofs.Common.{◌++◌, Some, None, slice_get, length, take}
-use Rattle.std.proofs.Common.{refl, sym, ap, ◌∙◌, subst, arith, append_assoc, length-append}
-use Rattle.std.specs.Prelude.{Option}
-use Rattle.std.proofs.lemmas.Option.{slice_get_within}
-use Rattle.std.proofs.lemmas.List.{append-nil}
+-- From an opened board to a crew and its lanes, and from lanes that have ended to the passes of their board.
+use Rattle.std.proofs.Common.{◌≡◌, inl, inr, ℕ, zero, suc, ◌+◌, ◌<◌, List, [], ◌∷◌, ◌++◌, Some, map, slice_get, length}
+use Rattle.std.proofs.Common.{sym, ap, ◌∙◌, subst, arith}
+use Rattle.std.proofs.lemmas.Option.{none-some, same_Some, slice_get_within}
+use Rattle.std.proofs.lemmas.List.{length-map}
 use Rattle.atomic_table.specs.Seated.{TableId}
-use Rattle.post_ledger.proofs.Histories.{at_push_cases, at_seam}
+use Rattle.post_ledger.proofs.Histories.{at_push_cases}
+use Rattle.post_ledger.proofs.Orders.{element_at}
+use Rattle.language.specs.Step.{Program}
 use Rattle.path_sets.specs.Triples.{Triple}
 use Rattle.flow_graph.specs.declared.graph.Graphs.{Graphs}
+use Rattle.flow_graph.specs.Drawn.{graphs_of}
+use Rattle.flow_graph.specs.Graphs.{AreDrawnFrom}
 use Rattle.summaries.specs.declared.due.Due.{Due}
 use Rattle.summaries.specs.declared.edge_limit.EdgeLimit.{EdgeLimit}
 use Rattle.summaries.specs.declared.table.Table.{Table}
-use Rattle.switchboard.specs.Sights.{Sight}
+use Rattle.summaries.specs.Together.{opening}
+use Rattle.switchboard.specs.Sights.{Sight, State, opened, fresh_sight, fresh_sights}
+use Rattle.switchboard.specs.Promises.{AreAll}
+use Rattle.switchboard.proofs.Opening.{sights_count}
+use Rattle.procedure_worker.specs.declared.outcome.End.{End}
+use Rattle.procedure_worker.specs.declared.outcome.End.TheVariants.{Closed, Aborted, Failed}
 use Rattle.procedure_worker.specs.declared.outcome.Outcome.{Outcome}
-use Rattle.procedure_worker.specs.Works.{begun}
-use Rattle.gather.specs.declared.lane.Works.{Works}
+use Rattle.procedure_worker.specs.Works.{Start, begun, IsPassOf, IsFresh, EndsSo}
+use Rattle.procedure_worker.proofs.Works.{new_fresh}
 use Rattle.gather.specs.declared.lane.Lane.{Lane}
-use Rattle.gather.specs.Ends.{LaneEnds, AllEnd}
-use Rattle.gather.specs.Lanes.{IsLane, AreOwn}
-use Rattle.gather.specs.Gathered.{beside, tables_in}
+use Rattle.gather.specs.Ends.{LaneEnds, HaveEnded, IsCrew}
+use Rattle.gather.specs.Jobs.{AreGiven}
+use Rattle.gather.specs.Lanes.{start_of, MayWork, HasCome, AreOwn, AreLanes}
+use Rattle.gather.proofs.Full.{got_map}
 
-module _ {X : Type 0} where
-  -- one item more of a list has come
-  pub come : (ys rest left all : List X) (x : X) → ys ++ rest ≡ all → rest ≡ x ∷ left → (ys ++ x ∷ []) ++ left ≡ all
-  come ys rest left all x is next = append_assoc ys (x ∷ []) left ∙ (ap (λ l. ys ++ l) (sym next) ∙ is)
+-- a pass of a new board
+at_fresh : {M W : Type 0} (id : TableId) (budget : ℕ) (s : State M W) (first count j : ℕ) (p : Sight M W)
+    → slice_get (fresh_sights id budget s first count) j ≡ Some p → (j < count) × (p ≡ fresh_sight id budget s (first + j))
+at_fresh id budget s first zero j p e = absurd (none-some p e)
+at_fresh id budget s first (suc count) zero p e =
+    (omega arith, sym (same_Some (fresh_sight id budget s first) p e) ∙ ap (fresh_sight id budget s) (omega arith))
+at_fresh id budget s first (suc count) (suc j) p e =
+    let (near, is) = at_fresh id budget s (suc first) count j p e in
+    (omega (arith, near), is ∙ ap (fresh_sight id budget s) (omega arith))
 
-  -- it is the one behind those that came before
-  pub came_at : (ys rest left all : List X) (x : X) (n : ℕ) → ys ++ rest ≡ all → rest ≡ x ∷ left → n ≡ length ys
-      → slice_get all n ≡ Some x
-  came_at ys rest left all x n is next same =
-      subst (λ l. slice_get l n ≡ Some x) (ap (λ l. ys ++ l) (sym next) ∙ is) (at_seam ys x left n (sym same))
+-- the passes of a board of flow graphs that was just opened are a crew
+pub new_crew : {G : Type 0} (graphs : Graphs G) (limit : EdgeLimit) (id : TableId) (budget n : ℕ)
+    → ((p : Program) × AreDrawnFrom p (graphs_of graphs)) → n ≡ length (graphs_of graphs)
+    → (passes : List (Sight Due (Graphs G))) → passes ≡ fresh_sights id budget (opened graphs n 0 opening.due) 0 n
+    → IsCrew graphs limit id passes
+new_crew graphs limit id budget n drawn count passes are = record {
+  drawn = drawn;
+  all = ap length are ∙ (sights_count id budget (opened graphs n 0 opening.due) 0 n ∙ count);
+  fresh = λ q s at.
+      let (near, is) = at_fresh id budget (opened graphs n 0 opening.due) 0 n q s (subst (λ l. slice_get l q ≡ Some s) are at) in
+      subst (IsFresh (begun graphs q limit id)) (sym is)
+      (subst (λ k. IsFresh (begun graphs q limit id) (fresh_sight id budget (opened graphs n 0 opening.due) k)) (omega arith)
+      (new_fresh graphs id budget n q limit count near));
+}
 
-  pub came_near : (ys rest left all : List X) (x : X) (n : ℕ) → ys ++ rest ≡ all → rest ≡ x ∷ left → n ≡ length ys
-      → n < length all
-  came_near ys rest left all x n is next same =
-      let whole : length (ys ++ x ∷ left) ≡ length all = ap length (ap (λ l. ys ++ l) (sym next) ∙ is) in
-      omega (arith, same, whole, length-append ys (x ∷ left))
+module _ {G A S : Type 0} (members : S → List Triple) where
+  -- a lane that has ended has the pass of its number
+  pass_ended : (b : Start G) (e : End) (s : Sight Due (Graphs G)) (t : Table G A S) (took : List Due) (sent : List (ℕ × Due))
+      → EndsSo b members e s t took sent → IsPassOf b s
+  pass_ended b Closed s t took sent so = so.0.0.0.stands.pass
+  pass_ended b Aborted s t took sent so = so.0.pass
+  pass_ended b (Failed c) s t took sent so = so.0.pass
 
-  -- all have come
-  pub come_all : (ys rest all : List X) → ys ++ rest ≡ all → length rest ≡ 0 → length ys ≡ length all
-  come_all ys rest all is none = omega (arith, ap length is, length-append ys rest, none)
+  lane_pass : (b : Start G) (s : Sight Due (Graphs G)) (o : Outcome G A S) → LaneEnds members b s o → IsPassOf b s
+  lane_pass b s o (inl e) = pass_ended b o.end s e.0 o.takes.items o.posts.items e.2
+  lane_pass b s o (inr idle) = idle.pass
 
-  pub come_same : (ys rest all : List X) → ys ++ rest ≡ all → length rest ≡ 0 → ys ≡ all
-  come_same ys [] all is none = sym (append-nil ys) ∙ is
-  come_same ys (x ∷ rest) all is none = absurd (omega (arith, none))
+  module _ (graphs : Graphs G) (limit : EdgeLimit) (board : TableId) (passes : List (Sight Due (Graphs G)))
+      (outcomes : List (Outcome G A S)) (ended : HaveEnded members graphs limit board passes outcomes) where
+    lane_at : (q : ℕ) (s : Sight Due (Graphs G)) → slice_get passes q ≡ Some s
+        → (o : Outcome G A S) × (slice_get outcomes q ≡ Some o) × LaneEnds members (begun graphs q limit board) s o
+    lane_at q s is =
+        let near : q < length (graphs_of graphs) = subst (λ n. q < n) ended.each_pass (slice_get_within passes q s is) in
+        let (o, there) = element_at outcomes q (subst (λ n. q < n) (sym ended.each_outcome) near) in
+        (o, there, ended.ends q s o is there)
 
-  pub take_whole : (xs : List X) (n : ℕ) → length xs ≤ n → take n xs ≡ xs
-  take_whole [] zero h = refl
-  take_whole [] (suc n) h = refl
-  take_whole (x ∷ xs) zero h = absurd (omega (arith, h))
-  take_whole (x ∷ xs) (suc n) h = ap (λ l. x ∷ l) (take_whole xs n (omega (arith, h)))
+    -- the passes are all of the board's
+    pub all_passes : (n : ℕ) → n ≡ length (graphs_of graphs) → AreAll board n passes
+    all_passes n count = (
+      ended.each_pass ∙ sym count,
+      λ q s is.
+          let (o, there, ends) = lane_at q s is in
+          let pass = lane_pass (begun graphs q limit board) s o ends in
+          (pass.board, pass.number, pass.boxes ∙ sym count),
+    )
 
-module _ {G A S : Type 0} where
-  beside-append : (o : Option (Table G A S)) (a b : List (Table G A S)) → beside o (a ++ b) ≡ beside o a ++ b
-  beside-append None a b = refl
-  beside-append (Some t) a b = refl
-
-  tables-append : (a b : List (Outcome G A S)) → tables_in (a ++ b) ≡ tables_in a ++ tables_in b
-  tables-append [] b = refl
-  tables-append (o ∷ a) b = ap (beside o.table) (tables-append a b) ∙ beside-append o.table (tables_in a) (tables_in b)
-
-  -- the tables, with those of one outcome more
-  pub tables_push : (os : List (Outcome G A S)) (o : Outcome G A S) (z : Option (Table G A S)) (ts : List (Table G A S))
-      → ts ≡ tables_in os → o.table ≡ z → ts ++ beside z [] ≡ tables_in (os ++ o ∷ [])
-  tables_push os o z ts is table =
-      (λ i. is i ++ beside (sym table i) []) ∙ sym (tables-append os (o ∷ []))
-
-  module _ (members : S → List Triple) (graphs : Graphs G) (limit : EdgeLimit) (board : TableId) where
-    -- one lane more has ended
-    pub ended_push : (passes : List (Sight Due (Graphs G))) (outcomes : List (Outcome G A S)) (s : Sight Due (Graphs G))
-        (o : Outcome G A S) (n : ℕ) → length passes ≡ n → length outcomes ≡ n
-        → LaneEnds members (begun graphs n limit board) s o → AllEnd members graphs limit board passes outcomes
-        → AllEnd members graphs limit board (passes ++ s ∷ []) (outcomes ++ o ∷ [])
-    ended_push passes outcomes s o n as_many as_many_too new each q t u at there =
-        elim (at_push_cases passes s t q at) [
-          | inl before ↦ elim (at_push_cases outcomes o u q there) [
-            | inl before_too ↦ each q t u before before_too
-            | inr last ↦ absurd (omega (arith, slice_get_within passes q t before, last.0, as_many, as_many_too))
-          ]
-          | inr last ↦ elim (at_push_cases outcomes o u q there) [
-            | inl before_too ↦ absurd (omega (arith, slice_get_within outcomes q u before_too, last.0, as_many, as_many_too))
-            | inr last_too ↦
-                let number : n ≡ q = sym as_many ∙ sym last.0 in
-                subst (λ z. LaneEnds members (begun graphs q limit board) t z) last_too.1
-                (subst (λ z. LaneEnds members (begun graphs q limit board) z o) last.1
-                (subst (λ m. LaneEnds members (begun graphs m limit board) s o) number new))
-          ]
-        ]
-
-    module _ {B P : Type 0} (identity : B → TableId) (sight : P → Sight Due (Graphs G)) where
-      -- one lane more was begun
-      pub begun_push : (lanes : List (Lane (P × Outcome G A S) (Works (Graphs G) B S)))
-          (lane : Lane (P × Outcome G A S) (Works (Graphs G) B S)) (n : ℕ) → length lanes ≡ n
-          → IsLane identity members sight graphs limit board n lane
-          → AreOwn identity members sight graphs limit board lanes
-          → AreOwn identity members sight graphs limit board (lanes ++ lane ∷ [])
-      begun_push lanes lane n as_many new own q l at = elim (at_push_cases lanes lane l q at) [
-        | inl before ↦ own q l before
+module _ {R G A S B K P : Type 0} (identity : B → TableId) (sight : P → Sight Due (Graphs G)) (graphs : Graphs G)
+    (limit : EdgeLimit) (board : TableId) where
+  -- one lane more
+  pub own_push : (old new : List (Lane R P G A B S K)) (l : Lane R P G A B S K) (n : ℕ) → new ≡ old ++ l ∷ []
+      → length old ≡ n → start_of identity sight l ≡ begun graphs n limit board → MayWork identity sight l
+      → AreOwn identity sight graphs limit board old → AreOwn identity sight graphs limit board new
+  own_push old new l n is many starts may own q x at =
+      elim (at_push_cases old l x q (subst (λ z. slice_get z q ≡ Some x) is at)) [
+        | inl before ↦ own q x before
         | inr last ↦
-            subst (λ z. IsLane identity members sight graphs limit board q z) last.1
-            (subst (λ m. IsLane identity members sight graphs limit board m lane) (sym as_many ∙ sym last.0) new)
+            subst (λ z. (start_of identity sight z ≡ begun graphs q limit board) × MayWork identity sight z) last.1
+            (subst (λ k. start_of identity sight l ≡ begun graphs k limit board) (sym many ∙ sym last.0) starts, may)
       ]
+
+  -- where each lane has come back, all have ended
+  pub all_ended : (members : S → List Triple) (lanes : List (Lane R P G A B S K)) (backs : List (P × Outcome G A S))
+      → AreLanes identity sight graphs limit board lanes → AreGiven (HasCome identity sight members) lanes backs
+      → HaveEnded members graphs limit board (map (λ (b : P × Outcome G A S). sight b.0) backs)
+      (map (λ (b : P × Outcome G A S). b.1) backs)
+  all_ended members lanes backs are given = record {
+    each_pass = length-map backs (λ (b : P × Outcome G A S). sight b.0) ∙ (given.all ∙ are.all);
+    each_outcome = length-map backs (λ (b : P × Outcome G A S). b.1) ∙ (given.all ∙ are.all);
+    ends = λ q s o at there.
+        let (b, here, pass) = got_map (λ (b : P × Outcome G A S). sight b.0) backs q s at in
+        let (b', here', outcome) = got_map (λ (b : P × Outcome G A S). b.1) backs q o there in
+        let (l, lane) = element_at lanes q (subst (λ n. q < n) given.all (slice_get_within backs q b here)) in
+        let come = given.each q l b lane here in
+        let one : b' ≡ b = same_Some b' b (sym here' ∙ here) in
+        let same : b.1 ≡ o = ap (λ (x : P × Outcome G A S). x.1) (sym one) ∙ outcome in
+        subst (λ z. LaneEnds members z s o) (are.own q l lane).0
+        (subst (λ z. LaneEnds members (start_of identity sight l) z o) pass
+        (subst (LaneEnds members (start_of identity sight l) (sight b.0)) same come));
+  }

@@ -72,7 +72,7 @@ some_abort (Some a) h = (a, refl)
 
 module _ {G A S : Type 0} where
   -- each outcome has a table
-  abbrev HaveTables : List (Outcome G A S) → Type 0
+  abbrev pub HaveTables : List (Outcome G A S) → Type 0
   HaveTables os = (q : ℕ) (o : Outcome G A S) → slice_get os q ≡ Some o → (t : Table G A S) × (o.table ≡ Some t)
 
   as_long : (os : List (Outcome G A S)) → HaveTables os → length (tables_in os) ≡ length os
@@ -82,7 +82,7 @@ module _ {G A S : Type 0} where
       ap (λ z. length (beside z (tables_in os))) is ∙ ap suc (as_long os (λ q. has (suc q)))
 
   -- the tables are those of the outcomes, in their order
-  table_at : (os : List (Outcome G A S)) → HaveTables os → (q : ℕ) (o : Outcome G A S) (t : Table G A S)
+  pub table_at : (os : List (Outcome G A S)) → HaveTables os → (q : ℕ) (o : Outcome G A S) (t : Table G A S)
       → slice_get os q ≡ Some o → o.table ≡ Some t → slice_get (tables_in os) q ≡ Some t
   table_at [] has q o t there is = absurd (none-some o there)
   table_at (x ∷ os) has zero o t there is =
@@ -107,7 +107,7 @@ module _ {G A S : Type 0} where
       pass_at : (q : ℕ) → q < length (graphs_of graphs) → (s : Sight Due (Graphs G)) × (slice_get passes q ≡ Some s)
       pass_at q near = element_at passes q (subst (λ n. q < n) (sym ended.each_pass) near)
 
-      outcome_at : (q : ℕ) → q < length (graphs_of graphs) → (o : Outcome G A S) × (slice_get outcomes q ≡ Some o)
+      pub outcome_at : (q : ℕ) → q < length (graphs_of graphs) → (o : Outcome G A S) × (slice_get outcomes q ≡ Some o)
       outcome_at q near = element_at outcomes q (subst (λ n. q < n) (sym ended.each_outcome) near)
 
       near_outcome : (q : ℕ) (o : Outcome G A S) → slice_get outcomes q ≡ Some o → q < length (graphs_of graphs)
@@ -144,7 +144,7 @@ module _ {G A S : Type 0} where
         end_closed q s is (Failed c) there t took sent so = absurd (none c there)
 
         -- What a worker has served by the close.
-        record Served (q : ℕ) (o : Outcome G A S) : Type 0 where
+        pub record Served (q : ℕ) (o : Outcome G A S) : Type 0 where
           pub pass : Sight Due (Graphs G)
           pub at : slice_get passes q ≡ Some pass
           pub table : Table G A S
@@ -153,7 +153,7 @@ module _ {G A S : Type 0} where
           pub served : HasServed (begun graphs q limit board) members pass table o.takes.items o.posts.items
           pub knows : pass.knows ≡ true
 
-        served : (q : ℕ) (o : Outcome G A S) → slice_get outcomes q ≡ Some o → Served q o
+        pub served : (q : ℕ) (o : Outcome G A S) → slice_get outcomes q ≡ Some o → Served q o
         served q o there =
             let (s, at) = pass_at q (near_outcome q o there) in
             elim (ended.ends q s o at there) [
@@ -170,7 +170,7 @@ module _ {G A S : Type 0} where
             let (o, at, same) = got_map (λ (x : Outcome G A S). x.end) outcomes q e is in
             sym same ∙ (served q o at).shut
 
-        some_procedure : 0 < length (graphs_of graphs)
+        pub some_procedure : 0 < length (graphs_of graphs)
         some_procedure =
             let (to, m, rest, is) = settled.lawful.opens in
             let inside = settled.lawful.inside 0 (Posted to (length (graphs_of graphs)) m 0) (ap (λ l. slice_get l 0) is) in
@@ -186,10 +186,10 @@ module _ {G A S : Type 0} where
         pub order_closed : IsClosed settled.order
         order_closed = settled.close.0 shut
 
-        has_tables : HaveTables outcomes
+        pub has_tables : HaveTables outcomes
         has_tables q o there = let s = served q o there in (s.table, s.is)
 
-        abbrev ts : List (Table G A S)
+        abbrev pub ts : List (Table G A S)
         ts = tables_in outcomes
 
         pub tables_all : length ts ≡ length (graphs_of graphs)

@@ -1,5 +1,9 @@
+pub mod Coming
 pub mod Lists
+pub mod Tables
+pub mod Posts
 pub mod Full
+pub mod Found
 pub mod Causes
 pub mod Crews
 pub mod Reporting

@@ -105,7 +105,7 @@ module _ {M : Type 0} where
   first_take q es x (Completed of t) same more h = inr (more h)
 
   -- for each Take of a mailbox its pass made an entry
-  take_there : (q : ℕ) (es : List (Entry M)) (x : ℕ × M) → Member x (takes (part q es)) → Member (Taken q x.0 x.1) es
+  pub take_there : (q : ℕ) (es : List (Entry M)) (x : ℕ × M) → Member x (takes (part q es)) → Member (Taken q x.0 x.1) es
   take_there q [] x h = absurd h
   take_there q (e ∷ es) x h = elim (cases_eq (mailbox_of e) q) [
     | inl same ↦ first_take q es x e same (take_there q es x) (subst (λ l. Member x (takes l)) (part_here q e es same) h)

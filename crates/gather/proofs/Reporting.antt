@@ -1,80 +1,155 @@
--- From an opened board to a crew, and from lanes that have ended to the passes of their board.
-use Rattle.std.proofs.Common.{◌≡◌, inl, inr, ℕ, zero, suc, ◌+◌, ◌<◌, List, Some, slice_get, length}
-use Rattle.std.proofs.Common.{sym, ap, ◌∙◌, subst, arith}
-use Rattle.std.proofs.lemmas.Option.{none-some, same_Some, slice_get_within}
+-- From outcomes to what a report says.
+use Rattle.std.proofs.Common.{◌≡◌, ◌≢◌, ◌<◌, inl, inr, ℕ, List, [], ◌∷◌, suc, Some, map, slice_get, length, codes}
+use Rattle.std.proofs.Common.{refl, sym, ap, ◌∙◌, subst}
+use Rattle.std.specs.Prelude.{Bool, ◌↔◌}
+use Rattle.std.proofs.lemmas.Option.{slice_get_within}
 use Rattle.atomic_table.specs.Seated.{TableId}
+use Rattle.post_ledger.specs.declared.event.Event.{Event}
 use Rattle.post_ledger.proofs.Orders.{element_at}
+use Rattle.language.specs.Tree.{Tree}
+use Rattle.language.specs.Resolve.{meaning_of, number_of}
+use Rattle.language.specs.Rounds.{Unsafe}
 use Rattle.language.specs.Step.{Program}
+use Rattle.language.specs.Flow.{Member}
 use Rattle.path_sets.specs.Triples.{Triple}
+use Rattle.round_rewrite.specs.Law.{SomeBad, KeepsTree}
+use Rattle.round_rewrite.specs.Names.{rewritten_tree}
+use Rattle.round_rewrite.specs.Narrow.{IsNarrow}
 use Rattle.flow_graph.specs.declared.graph.Graphs.{Graphs}
 use Rattle.flow_graph.specs.Drawn.{graphs_of}
 use Rattle.flow_graph.specs.Graphs.{AreDrawnFrom}
 use Rattle.summaries.specs.declared.due.Due.{Due}
 use Rattle.summaries.specs.declared.edge_limit.EdgeLimit.{EdgeLimit}
+use Rattle.summaries.specs.declared.no_verdict.NoVerdict.{NoVerdict}
+use Rattle.summaries.specs.declared.no_verdict.NoVerdict.TheVariants as verdict
 use Rattle.summaries.specs.declared.table.Table.{Table}
-use Rattle.summaries.specs.Together.{opening}
-use Rattle.switchboard.specs.Sights.{Sight, State, opened, fresh_sight, fresh_sights}
-use Rattle.switchboard.specs.Promises.{AreAll}
-use Rattle.switchboard.proofs.Opening.{sights_count}
+use Rattle.summaries.specs.Effects.{Effects}
+use Rattle.summaries.specs.Fitting.{FitsIn}
+use Rattle.summaries.specs.Limits.{most_of}
+use Rattle.summaries.specs.Tabulated.{HasMoreEdges}
+use Rattle.switchboard.specs.declared.calls.Cause.{Cause}
+use Rattle.switchboard.specs.declared.calls.Cause.TheVariants as cause
+use Rattle.switchboard.specs.Sights.{Sight}
+use Rattle.switchboard.specs.Promises.{Settles}
 use Rattle.procedure_worker.specs.declared.outcome.End.{End}
-use Rattle.procedure_worker.specs.declared.outcome.End.TheVariants.{Closed, Aborted, Failed}
+use Rattle.procedure_worker.specs.declared.outcome.End.TheVariants.{Closed, Failed}
 use Rattle.procedure_worker.specs.declared.outcome.Outcome.{Outcome}
-use Rattle.procedure_worker.specs.Works.{Start, begun, IsPassOf, IsFresh, EndsSo}
-use Rattle.procedure_worker.proofs.Works.{new_fresh}
-use Rattle.gather.specs.Ends.{LaneEnds, HaveEnded, IsCrew}
+use Rattle.procedure_worker.specs.Works.{begun, EndsSo}
+use Rattle.gather.specs.Ends.{LaneEnds, HaveEnded, AreOfBoard}
+use Rattle.gather.specs.Gathered.{verdict_of, ends_of, NoneFailed, AllClosed, IsLeast, IsCause, IsGathered}
+use Rattle.gather.specs.Reports.{posted_to, rewriting_of, AreDueOnce, IsFound, IsNoReport}
+use Rattle.gather.specs.Through.{AreThrough}
+use Rattle.gather.proofs.Lists.{place_of}
+use Rattle.gather.proofs.Full.{got_map, through}
+use Rattle.gather.proofs.Found.{due_once}
 
--- a pass of a new board
-at_fresh : {M W : Type 0} (id : TableId) (budget : ℕ) (s : State M W) (first count j : ℕ) (p : Sight M W)
-    → slice_get (fresh_sights id budget s first count) j ≡ Some p → (j < count) × (p ≡ fresh_sight id budget s (first + j))
-at_fresh id budget s first zero j p e = absurd (none-some p e)
-at_fresh id budget s first (suc count) zero p e =
-    (omega arith, sym (same_Some (fresh_sight id budget s first) p e) ∙ ap (fresh_sight id budget s) (omega arith))
-at_fresh id budget s first (suc count) (suc j) p e =
-    let (near, is) = at_fresh id budget s (suc first) count j p e in
-    (omega (arith, near), is ∙ ap (fresh_sight id budget s) (omega arith))
+-- where every end is at the close, none names a cause
+none_failed : (ends : List End) → AllClosed ends → NoneFailed ends
+none_failed ends all c there = let same : Failed c ≡ Closed = all (Failed c) there in cc
 
--- the passes of a board of flow graphs that was just opened are a crew
-pub new_crew : {G : Type 0} (graphs : Graphs G) (limit : EdgeLimit) (id : TableId) (budget n : ℕ)
-    → ((p : Program) × AreDrawnFrom p (graphs_of graphs)) → n ≡ length (graphs_of graphs)
-    → (passes : List (Sight Due (Graphs G))) → passes ≡ fresh_sights id budget (opened graphs n 0 opening.due) 0 n
-    → IsCrew graphs limit id passes
-new_crew graphs limit id budget n drawn count passes are = record {
-  drawn = drawn;
-  all = ap length are ∙ (sights_count id budget (opened graphs n 0 opening.due) 0 n ∙ count);
-  fresh = λ q s at.
-      let (near, is) = at_fresh id budget (opened graphs n 0 opening.due) 0 n q s (subst (λ l. slice_get l q ≡ Some s) are at) in
-      subst (IsFresh (begun graphs q limit id)) (sym is)
-      (subst (λ k. IsFresh (begun graphs q limit id) (fresh_sight id budget (opened graphs n 0 opening.due) k)) (omega arith)
-      (new_fresh graphs id budget n q limit count near));
-}
+-- the limit is named only where an end names it
+by_limit : (ends : List End) (c : Cause) → Member (Failed c) ends → verdict.EdgeLimit ≡ verdict_of c
+    → Member (Failed cause.EdgeLimit) ends
+by_limit ends cause.Memory named is = let no : ⊥ = cc in absurd no
+by_limit ends cause.EdgeLimit named is = named
+by_limit ends cause.NoWorker named is = let no : ⊥ = cc in absurd no
+by_limit ends cause.Spent named is = let no : ⊥ = cc in absurd no
 
-module _ {G A S : Type 0} (members : S → List Triple) where
-  -- a lane that has ended has the pass of its number
-  pass_ended : (b : Start G) (e : End) (s : Sight Due (Graphs G)) (t : Table G A S) (took : List Due) (sent : List (ℕ × Due))
-      → EndsSo b members e s t took sent → IsPassOf b s
-  pass_ended b Closed s t took sent so = so.0.0.0.stands.pass
-  pass_ended b Aborted s t took sent so = so.0.pass
-  pass_ended b (Failed c) s t took sent so = so.0.pass
+limit_named : (ends : List End) (why : NoVerdict) → IsCause ends why → why ≡ verdict.EdgeLimit
+    → Member (Failed cause.EdgeLimit) ends
+limit_named ends why (inl least) is = by_limit ends least.cause least.named (sym is ∙ least.is)
+limit_named ends why (inr (memory, all)) is = let no : ⊥ = cc in absurd no
 
-  lane_pass : (b : Start G) (s : Sight Due (Graphs G)) (o : Outcome G A S) → LaneEnds members b s o → IsPassOf b s
-  lane_pass b s o (inl e) = pass_ended b o.end s e.0 o.takes.items o.posts.items e.2
-  lane_pass b s o (inr idle) = idle.pass
+-- no end says that a program is too wide
+pub not_wide : (ends : List End) (why : NoVerdict) → IsCause ends why → why ≢ verdict.TooWide
+not_wide ends why (inl least) is = apart least.cause (sym is ∙ least.is)
+  where
+    apart : (c : Cause) → verdict.TooWide ≡ verdict_of c → ⊥
+    apart cause.Memory same = cc
+    apart cause.EdgeLimit same = cc
+    apart cause.NoWorker same = cc
+    apart cause.Spent same = cc
+not_wide ends why (inr (memory, all)) is = cc
 
-  module _ (graphs : Graphs G) (limit : EdgeLimit) (board : TableId) (passes : List (Sight Due (Graphs G)))
-      (outcomes : List (Outcome G A S)) (ended : HaveEnded members graphs limit board passes outcomes) where
-    lane_at : (q : ℕ) (s : Sight Due (Graphs G)) → slice_get passes q ≡ Some s
-        → (o : Outcome G A S) × (slice_get outcomes q ≡ Some o) × LaneEnds members (begun graphs q limit board) s o
-    lane_at q s is =
-        let near : q < length (graphs_of graphs) = subst (λ n. q < n) ended.each_pass (slice_get_within passes q s is) in
-        let (o, there) = element_at outcomes q (subst (λ n. q < n) (sym ended.each_outcome) near) in
-        (o, there, ended.ends q s o is there)
+-- some pair of the rewriting has `bad__` exactly where some run fails
+pub keeps_answer : (last : ℕ) (source tree : Tree) → tree ≡ rewritten_tree last source → KeepsTree last source → (bad : ℕ)
+    → bad ≡ number_of (codes "bad__") tree.globals → (P : Type 0) → P ↔ SomeBad (rewriting_of last source) bad
+    → P ↔ Unsafe (meaning_of source) (suc last)
+keeps_answer last source tree same keeps bad is P some =
+    let at : bad ≡ number_of (codes "bad__") (rewritten_tree last source).globals =
+    is ∙ ap (λ (t : Tree). number_of (codes "bad__") t.globals) same in
+    let found : P ↔ SomeBad (rewriting_of last source) (number_of (codes "bad__") (rewritten_tree last source).globals) =
+    subst (λ n. P ↔ SomeBad (rewriting_of last source) n) at some in
+    (λ p. keeps.1 (found.0 p), λ unsafe. found.1 (keeps.0 unsafe))
 
-    -- the passes are all of the board's
-    pub all_passes : (n : ℕ) → n ≡ length (graphs_of graphs) → AreAll board n passes
-    all_passes n count = (
-      ended.each_pass ∙ sym count,
-      λ q s is.
-          let (o, there, ends) = lane_at q s is in
-          let pass = lane_pass (begun graphs q limit board) s o ends in
-          (pass.board, pass.number, pass.boxes ∙ sym count),
-    )
+-- why the workers found nothing is why there is no report
+pub no_report : (source : Tree) (last most : ℕ) (why : NoVerdict) → IsNarrow last source → why ≢ verdict.TooWide
+    → (why ≡ verdict.EdgeLimit → (q : ℕ) × HasMoreEdges (rewriting_of last source) q most)
+    → IsNoReport source last most why
+no_report source last most verdict.TooWide narrow other more = absurd (other refl)
+no_report source last most verdict.EdgeLimit narrow other more = (narrow, more refl)
+no_report source last most verdict.Memory narrow other more = narrow
+no_report source last most verdict.NoWorker narrow other more = narrow
+no_report source last most verdict.Spent narrow other more = narrow
+
+-- the images of images
+map_twice : {X Y Z : Type 0} (f : Y → Z) (h : X → Y) (xs : List X) → map f (map h xs) ≡ map (λ x. f (h x)) xs
+map_twice f h [] = refl
+map_twice f h (x ∷ xs) = ap (λ l. f (h x) ∷ l) (map_twice f h xs)
+
+module _ {G A S : Type 0} (members : S → List Triple) (graphs : Graphs G) (limit : EdgeLimit) (board : TableId) where
+  -- what has ended, parted into passes and outcomes
+  pub parted : {P : Type 0} (sight : P → Sight Due (Graphs G)) (backs : List (P × Outcome G A S)) (passes : List P)
+      (outcomes : List (Outcome G A S)) → passes ≡ map (λ b. b.0) backs → outcomes ≡ map (λ b. b.1) backs
+      → HaveEnded members graphs limit board (map (λ b. sight b.0) backs) (map (λ b. b.1) backs)
+      → HaveEnded members graphs limit board (map sight passes) outcomes
+  parted sight backs passes outcomes firsts seconds ended =
+      subst (HaveEnded members graphs limit board (map sight passes)) (sym seconds)
+      (subst (λ l. HaveEnded members graphs limit board l (map (λ b. b.1) backs))
+      (sym (ap (map sight) firsts ∙ map_twice sight (λ b. b.0) backs)) ended)
+
+  module _ (passes : List (Sight Due (Graphs G))) (outcomes : List (Outcome G A S))
+      (ended : HaveEnded members graphs limit board passes outcomes) where
+    passed_by : (p : Program) → AreDrawnFrom p (graphs_of graphs) → (q : ℕ) (s : Sight Due (Graphs G)) (e : End)
+        (t : Table G A S) (took : List Due) (sent : List (ℕ × Due)) → e ≡ Failed cause.EdgeLimit
+        → EndsSo (begun graphs q limit board) members e s t took sent → HasMoreEdges p q (most_of limit)
+    passed_by p drawn q s e t took sent is so =
+        (subst (λ z. EndsSo (begun graphs q limit board) members z s t took sent) is so).1.stood p drawn
+
+    -- where an end names the limit, some procedure has more path edges
+    pub limit_passed : (why : NoVerdict) → IsCause (ends_of outcomes) why → why ≡ verdict.EdgeLimit → (p : Program)
+        → AreDrawnFrom p (graphs_of graphs) → (q : ℕ) × HasMoreEdges p q (most_of limit)
+    limit_passed why named is p drawn =
+        let (q, at) = place_of (ends_of outcomes) (Failed cause.EdgeLimit) (limit_named (ends_of outcomes) why named is) in
+        let (o, there, same) = got_map (λ (x : Outcome G A S). x.end) outcomes q (Failed cause.EdgeLimit) at in
+        let near = subst (λ n. q < n) (ended.each_outcome ∙ sym ended.each_pass) (slice_get_within outcomes q o there) in
+        let (s, here) = element_at passes q near in (
+          q,
+          elim (ended.ends q s o here there) [
+            | inl e ↦ passed_by p drawn q s o.end e.0 o.takes.items o.posts.items same e.2
+            | inr idle ↦ (let no : Failed cause.EdgeLimit ≡ Failed cause.NoWorker = sym same ∙ idle.named in let bad : ⊥ = cc in absurd bad)
+          ],
+        )
+
+    module _ (boxes : ℕ) (count : boxes ≡ length (graphs_of graphs)) (histories : List (List (Event Due))) (closed : Bool)
+        (left : Settles FitsIn boxes passes histories closed) where
+      abbrev settled : Settles FitsIn (length (graphs_of graphs)) passes histories closed
+      settled = subst (λ n. Settles FitsIn n passes histories closed) count left
+
+      -- the outcomes are those of the board
+      abbrev pub of_board : AreOfBoard members graphs histories closed outcomes
+      of_board = record { limit = limit; board = board; passes = passes; ended = ended; settled = settled }
+
+      -- what was gathered is what the workers have found
+      pub found : (s : Effects) → IsGathered graphs (most_of limit) closed (ends_of outcomes) s → (p : Program)
+          → AreDrawnFrom p (graphs_of graphs) → IsFound p (most_of limit) histories s
+      found s gathered p drawn = record {
+        through = subst (λ n. AreThrough n histories) drawn.2.0
+            (through FitsIn (length (graphs_of graphs)) passes histories closed settled gathered.shut);
+        due = λ q h at. subst (λ l. AreDueOnce p q (posted_to l)) (sym (settled.parts q h at))
+            (due_once members graphs limit board passes outcomes histories closed ended settled
+            (none_failed (ends_of outcomes) gathered.ended) p drawn q
+            (subst (λ n. q < n) settled.count (slice_get_within histories q h at)));
+        summaries = gathered.summaries p drawn;
+        few = gathered.few p drawn;
+      }

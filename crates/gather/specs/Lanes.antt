@@ -1,42 +1,40 @@
--- What a lane gives back that was begun.
-use Rattle.std.specs.Prelude.{◌≡◌, ℕ, List, Some, length, slice_get}
+-- The lanes of a board, before their workers begin.
+use Rattle.std.specs.Prelude.{◌≡◌, ◌<◌, ℕ, List, Some, length, slice_get}
 use Rattle.atomic_table.specs.Seated.{TableId}
+use Rattle.language.specs.Step.{Program}
 use Rattle.path_sets.specs.Triples.{Triple}
 use Rattle.flow_graph.specs.declared.graph.Graphs.{Graphs}
 use Rattle.flow_graph.specs.Drawn.{graphs_of}
+use Rattle.flow_graph.specs.Graphs.{AreDrawnFrom}
 use Rattle.summaries.specs.declared.due.Due.{Due}
 use Rattle.summaries.specs.declared.edge_limit.EdgeLimit.{EdgeLimit}
 use Rattle.switchboard.specs.Sights.{Sight}
 use Rattle.procedure_worker.specs.declared.outcome.Outcome.{Outcome}
-use Rattle.procedure_worker.specs.Works.{begun}
-use Rattle.gather.specs.declared.lane.Works.{Works}
+use Rattle.procedure_worker.specs.Works.{Start, begun, IsFresh}
 use Rattle.gather.specs.declared.lane.Lane.{Lane}
-use Rattle.gather.specs.declared.lane.Lane.TheVariants.{Started, Refused}
 use Rattle.gather.specs.Ends.{LaneEnds}
 
--- Q holds of what the lane gives back: of what its thread promises, or of what is there already.
-abbrev pub GivesBack : {T P : Type 0} → (P → T → Type 0) → (T → Type 0) → Lane T P → Type 0
-GivesBack {T} kept_by Q (Started handle) = (r : T) → kept_by handle.promise r → Q r
-GivesBack kept_by Q (Refused back) = Q back
+module _ {R G A S B K P : Type 0} (identity : B → TableId) (sight : P → Sight Due (Graphs G)) where
+  -- what the lane's worker begins with
+  abbrev pub start_of : Lane R P G A B S K → Start G
+  start_of l = begun l.graphs.now l.number l.limit (identity l.board.now)
 
-module _ {G A S B P : Type 0} (identity : B → TableId) (members : S → List Triple)
-    (sight : P → Sight Due (Graphs G)) where
-  -- the pass and the outcome are those of a lane that ended, which began with this
-  abbrev pub Keeps : Works (Graphs G) B S → P × Outcome G A S → Type 0
-  Keeps w r = LaneEnds members (begun w.graphs.value w.number w.limit (identity w.board.value)) (sight r.0) r.1
+  -- The lane's worker may begin: the graphs are some program's, and the pass is fresh.
+  pub record MayWork (l : Lane R P G A B S K) : Type 0 where
+    pub drawn : (p : Program) × AreDrawnFrom p (graphs_of l.graphs.now)
+    pub near : l.number < length (graphs_of l.graphs.now)
+    pub fresh : IsFresh (start_of l) (sight l.pass)
 
-  -- the lane is that of this number
-  abbrev pub IsLane : Graphs G → EdgeLimit → TableId → ℕ → Lane (P × Outcome G A S) (Works (Graphs G) B S) → Type 0
-  IsLane graphs limit board q = GivesBack Keeps (λ r. LaneEnds members (begun graphs q limit board) (sight r.0) r.1)
+  -- what came back is the pass and the outcome of the lane, which has ended
+  abbrev pub HasCome : (S → List Triple) → Lane R P G A B S K → P × Outcome G A S → Type 0
+  HasCome members l r = LaneEnds members (start_of l) (sight r.0) r.1
 
-  -- each lane is that of its number
-  abbrev pub AreOwn : Graphs G → EdgeLimit → TableId → List (Lane (P × Outcome G A S) (Works (Graphs G) B S)) → Type 0
+  -- each lane is that of the procedure of its number, and its worker may begin
+  abbrev pub AreOwn : Graphs G → EdgeLimit → TableId → List (Lane R P G A B S K) → Type 0
   AreOwn graphs limit board lanes =
-      (q : ℕ) (lane : Lane (P × Outcome G A S) (Works (Graphs G) B S)) → slice_get lanes q ≡ Some lane
-      → IsLane graphs limit board q lane
+      (q : ℕ) (l : Lane R P G A B S K) → slice_get lanes q ≡ Some l → (start_of l ≡ begun graphs q limit board) × MayWork l
 
-  -- The lanes are those of all procedures, by number.
-  pub record AreLanes (graphs : Graphs G) (limit : EdgeLimit) (board : TableId)
-      (lanes : List (Lane (P × Outcome G A S) (Works (Graphs G) B S))) : Type 0 where
+  -- The lanes are those of all procedures, by number, and their workers may begin.
+  pub record AreLanes (graphs : Graphs G) (limit : EdgeLimit) (board : TableId) (lanes : List (Lane R P G A B S K)) : Type 0 where
     pub all : length lanes ≡ length (graphs_of graphs)
     pub own : AreOwn graphs limit board lanes

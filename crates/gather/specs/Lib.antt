@@ -1,4 +1,6 @@
 pub mod Ends
+pub mod Jobs
 pub mod Lanes
 pub mod Gathered
 pub mod Through
+pub mod Reports

@@ -1,15 +1,13 @@
-//! The workers of all procedures of a program, a thread for each, and what they found, gathered.
+//! The workers of all procedures of a program, a thread for each, and what they found, gathered into a report.
 #![tactic(auto)]
 
 mod crew;
 mod gathering;
+mod jobs;
 mod kinds;
 mod lane;
-mod laws;
+mod report;
 
-pub use crew::{Back, Crew, work_all};
 pub use gathering::gather;
 pub use kinds::{WorkBoard, WorkSet};
-pub use laws::{
-    a_closed_board_is_through, lanes_that_ended_have_all_passes, new_passes_are_a_crew,
-};
+pub use report::{Answer, Report, check_rounds, check_rounds_with};

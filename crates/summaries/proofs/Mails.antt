@@ -74,6 +74,16 @@ none_twice_with k (x ∷ xs) new (x_once, once) = (
   none_twice_with k xs (λ m. new (inr m)) once,
 )
 
+-- what stands among the first stands in the list
+member_first : {K : Type 0} (x : K) (n : ℕ) (ks : List K) → Member x (take n ks) → Member x ks
+member_first x n ks m = subst (Member x) (take-append-drop n ks) (member_left x (take n ks) (drop n ks) m)
+
+-- so nothing stands twice among the first of a list in which nothing does
+pub none_twice_first : {K : Type 0} (n : ℕ) (ks : List K) → NoneTwice ks → NoneTwice (take n ks)
+none_twice_first zero ks once = tt
+none_twice_first (suc n) [] once = tt
+none_twice_first (suc n) (x ∷ ks) once = (λ m. once.0 (member_first x n ks m), none_twice_first n ks once.1)
+
 -- nothing stands twice where one is added, if it can be
 pub once_after : {K T E : Type 0} (k : K) (ks after : List K) (r : Result T E) →
     after ≡ (if is_ok r then ks ++ k ∷ [] else ks) → (Member k ks → ⊥) → NoneTwice ks → NoneTwice after

@@ -5,7 +5,7 @@ use Rattle.language.specs.Step.{Program}
 use Rattle.language.specs.Sequential.{IsDue}
 use Rattle.language.specs.Flow.{Member}
 use Rattle.language.proofs.Members.{member_left}
-use Rattle.path_sets.specs.Triples.{Triple}
+use Rattle.path_sets.specs.Triples.{Triple, NoneTwice}
 use Rattle.flow_graph.specs.Numbers.{NumberedMessage, Sends, IsNumberOf, AreNumbersOfEdge}
 use Rattle.flow_graph.proofs.Taking.{edges_reached, due_sent}
 use Rattle.flow_graph.proofs.Pairs.{edge_numbers}
@@ -20,7 +20,12 @@ use Rattle.summaries.specs.Tables.{answers_of, IsReached, IsAnswer}
 use Rattle.summaries.specs.Tabulated.{HasMoreEdges}
 use Rattle.summaries.specs.Together.{IsTableOf}
 use Rattle.summaries.specs.Limits.{most_of}
+use Rattle.summaries.proofs.Mails.{none_twice_first}
 use Rattle.summaries.proofs.Quiet.{owed_sent}
+
+-- no message is answered twice
+pub answers_once : {G A S : Type 0} (t : Table G A S) → NoneTwice (answers_of t)
+answers_once t = none_twice_first t.found.given.answered t.found.given.mails.items t.found.given.once
 
 module _ {G A S : Type 0} (members : S → List Triple) (p : Program) (q : ℕ) (t : Table G A S) (is : IsTableOf members p q t) where
   -- what is reached are path edges

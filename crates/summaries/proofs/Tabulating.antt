@@ -12,7 +12,7 @@ use Rattle.flow_graph.specs.Bits.{bit_of}
 use Rattle.flow_graph.specs.Numbers.{NumberedMessage, numbered_entry, GraphReaches, Sends}
 use Rattle.flow_graph.specs.Numbers.{Leaves, IsNumberOf, IsNumberOfEntry, AreNumbersOfEdge, AreNumbersOfPair}
 use Rattle.flow_graph.specs.declared.graph.Graph.{Graph}
-use Rattle.flow_graph.proofs.Taking.{there_too, edges_taken}
+use Rattle.flow_graph.proofs.Taking.{there_too, taken_due, edges_taken}
 use Rattle.flow_graph.proofs.Pairs.{edge_numbers, pairs_left, bad_left, entries_taken}
 use Rattle.summaries.specs.declared.due.Caller as callers
 use Rattle.summaries.specs.declared.due.Caller.TheVariants.{Starter, Proc}
@@ -107,6 +107,12 @@ module _ {G A S : Type 0} (members : S → List Triple) (p : Program) (ts : List
 
       here : slice_get (map graph_of ts) q ≡ Some t.graph.now
       here = get_map graph_of ts q t is
+
+      -- the messages that the table has taken are those that are due for its procedure
+      pub table_due : (k : NumberedMessage) → TookMessage t.found k ↔ IsNumberOf (IsDue p q) k
+      table_due k =
+          subst (λ (o : Option (Table G A S)). IsTaken o k ↔ IsNumberOf (IsDue p q) k) is
+          (taken_due p (map graph_of ts) T are.drawn.0 are.drawn.2 started sent_taken is_due q k)
 
       -- the entries that the table has taken are those of its procedure
       pub table_entries : (a : ℕ) → ((from : Caller) × TookMessage t.found (numbered_entry from a)) ↔ IsNumberOfEntry p q a

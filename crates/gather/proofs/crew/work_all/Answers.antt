@@ -1,19 +1,12 @@
--- There is room for what comes back, and it is gathered.
-use Rattle.std.proofs.Common.{arith}
-use Rattle.std.proofs.lemmas.List.{length-map}
+-- Where all lanes have come back they have ended.
+use Rattle.std.proofs.lemmas.Result.{IfOk-weaker}
+use Rattle.gather.proofs.Crews.{all_ended}
 use Rattle.gather.proofs.crew.work_all.Goals as goal
 
-pub end_all-requires-clause-room : goal.end_all-requires-clause-room
-end_all-requires-clause-room g c =
-    let all = c.in_ok-lanes.ensures.all in
-    let passes = length-map c.args.crew.passes.items g.B-Board.sight in (
-      omega (arith, all, c.requires.all, passes, c.in_ok-back.ensures.capacity, c.len.ensures, c.args.crew.passes.ok.0),
-      omega (arith, all, c.requires.all, passes, c.in_ok-outcomes.ensures.capacity, c.len-2.ensures, c.args.crew.passes.ok.0),
-    )
-
 pub returns : goal.returns
-returns g c = record {
-  outcomes = c.end_all.new.outcomes.items;
-  ended = c.end_all.ensures c.args.crew.graphs.now c.args.crew.limit (g.B-Board.identity c.args.crew.board.now) c.in_ok-lanes.ensures;
-  gathers = c.gather.ensures;
-}
+returns g c = IfOk-weaker c.run_all.result _ _ (λ backs given.
+    all_ended g.B-Board.identity g.B-Board.sight c.args.graphs.now c.args.limit (g.B-Board.identity c.args.board.now)
+    g.S.PathSet.members c.in_ok-lanes.lanes.items backs.items c.in_ok-lanes.ensures given) c.run_all.ensures
+
+pub run_all-requires-clause-runs : goal.run_all-requires-clause-runs
+run_all-requires-clause-runs g c κs within = λ i j at. (c.in_ok-lanes.ensures.own i j at).1

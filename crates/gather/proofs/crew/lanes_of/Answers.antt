@@ -1,4 +1,4 @@
--- One lane more is begun.
+-- One lane more.
 use Rattle.std.proofs.Common.{◌≡◌, ◌<◌, ◌∷◌, [], Some, length, slice_get, refl, sym, ap, ◌∙◌}
 use Rattle.std.proofs.Common.{subst, arith, length-append, rules}
 use Rattle.std.proofs.lemmas.Option.{none-some}
@@ -7,10 +7,11 @@ use Rattle.std.specs.Vec.Iter.{into_iter_items}
 use Rattle.flow_graph.specs.Drawn.{graphs_of}
 use Rattle.summaries.proofs.Steps.{get_map}
 use Rattle.gather.specs.Lanes.{AreOwn}
-use Rattle.gather.proofs.Crews.{come, came_at, came_near, come_all, begun_push}
-use Rattle.gather.proofs.crew.begin_all.Given.{Over}
-use Rattle.gather.proofs.crew.begin_all.Goals as goal
-use Rattle.gather.proofs.crew.begin_all.Goals.{After-len-number}
+use Rattle.gather.proofs.Coming.{come, came_at, came_near, come_all}
+use Rattle.gather.proofs.Crews.{own_push}
+use Rattle.gather.proofs.crew.lanes_of.Given.{Over}
+use Rattle.gather.proofs.crew.lanes_of.Goals as goal
+use Rattle.gather.proofs.crew.lanes_of.Goals.{After-len-number}
 
 -- the number of the lane is how many came before it
 number_is : (g : Over) (c : After-len-number g) → c.len-number.result ≡ length c.loop-pass.yielded
@@ -34,18 +35,6 @@ loop-pass-init g c = (
 pub overflow_cast-number : goal.overflow_cast-number
 overflow_cast-number g c = omega (arith, near g c, c.args.graphs.now.few)
 
-pub begin-requires-clause-near : goal.begin-requires-clause-near
-begin-requires-clause-near g c κs within = near g (goal.at.begin-requires-clause-near g c).After-len-number
-
-pub begin-requires-clause-fresh : goal.begin-requires-clause-fresh
-begin-requires-clause-fresh g c κs within =
-    let a = (goal.at.begin-requires-clause-fresh g c).After-len-number in
-    c.requires.fresh c.len-number.result (g.B-Board.sight c.in-Some.pass)
-    (get_map g.B-Board.sight c.args.passes.items c.len-number.result c.in-Some.pass
-    (came_at c.loop-pass.yielded (into_iter_items c.loop-pass.pass-iterator) (into_iter_items c.next.new.self)
-    c.args.passes.items c.in-Some.pass
-    c.len-number.result c.loop-pass.invariant.0 c.in-Some.ensures.steps.0 (number_is g a)))
-
 pub push_reserved-requires : goal.push_reserved-requires
 push_reserved-requires g c =
     let below = came_near c.loop-pass.yielded (into_iter_items c.loop-pass.pass-iterator) (into_iter_items
@@ -57,21 +46,21 @@ pub loop-pass-preserved : goal.loop-pass-preserved
 loop-pass-preserved g c =
     let a = (goal.at.loop-pass-preserved g c).After-len-number in
     let i = c.loop-pass.invariant in
-    let id = g.B-Board.identity c.args.board.now in (
-      come c.loop-pass.yielded (into_iter_items c.loop-pass.pass-iterator) (into_iter_items c.next.new.self)
-          c.args.passes.items c.in-Some.pass i.0
-          c.in-Some.ensures.steps.0,
-      omega (
-        arith,
-        ap length c.push_reserved.ensures.items,
-        length-append c.loop-pass.lanes.items (c.begin.result ∷ []),
-        i.1,
-        length-append c.loop-pass.yielded (c.in-Some.pass ∷ []),
-      ),
-      subst (AreOwn g.B-Board.identity g.S.PathSet.members g.B-Board.sight c.args.graphs.now c.args.limit id)
-          (sym c.push_reserved.ensures.items)
-          (begun_push g.S.PathSet.members c.args.graphs.now c.args.limit id g.B-Board.identity g.B-Board.sight c.loop-pass.lanes.items
-          c.begin.result c.len-number.result (i.1 ∙ sym (number_is g a)) c.begin.ensures i.2),
+    let id = g.B-Board.identity c.args.board.now in
+    let rest = into_iter_items c.loop-pass.pass-iterator in
+    let left = into_iter_items c.next.new.self in (
+      come c.loop-pass.yielded rest left c.args.passes.items c.in-Some.pass i.0 c.in-Some.ensures.steps.0,
+      omega (arith, c.push_reserved.ensures.len, i.1, length-append c.loop-pass.yielded (c.in-Some.pass ∷ [])),
+      own_push g.B-Board.identity g.B-Board.sight c.args.graphs.now c.args.limit id c.loop-pass.lanes.items
+          c.push_reserved.new.self.items _ c.len-number.result c.push_reserved.ensures.items (i.1 ∙ sym (number_is g a)) refl
+          (record {
+            drawn = c.requires.drawn;
+            near = near g a;
+            fresh = c.requires.fresh c.len-number.result (g.B-Board.sight c.in-Some.pass)
+                (get_map g.B-Board.sight c.args.passes.items c.len-number.result c.in-Some.pass
+                (came_at c.loop-pass.yielded rest left c.args.passes.items c.in-Some.pass c.len-number.result i.0
+                c.in-Some.ensures.steps.0 (number_is g a)));
+          }) i.2,
       omega (arith, i.3, c.push_reserved.ensures.capacity),
     )
 
@@ -84,6 +73,3 @@ returns g c =
       all = omega (arith, all, i.1, c.requires.all, length-map c.args.passes.items g.B-Board.sight);
       own = i.2;
     }
-
-pub begin-requires-clause-drawn : goal.begin-requires-clause-drawn
-begin-requires-clause-drawn g c κs within = c.requires.drawn

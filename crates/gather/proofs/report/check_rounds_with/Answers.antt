@@ -1,0 +1,51 @@
+-- The report is on the rewriting, which keeps the failing asserts.
+use Rattle.std.proofs.Common.{◌≡◌, Err, sym, ◌∙◌, subst, true≢false}
+use Rattle.std.proofs.lemmas.Result.{err_from_is_err_and}
+use Rattle.language.specs.Sequential.{sequential_of}
+use Rattle.language.specs.Tree.{Tree}
+use Rattle.flow_graph.specs.Drawn.{bad_of}
+use Rattle.flow_graph.specs.Graphs.{AreDrawnFrom}
+use Rattle.round_rewrite.specs.Narrow.{AllNarrow}
+use Rattle.round_rewrite.specs.Programs.{last_round, sequential_tree}
+use Rattle.scopes.specs.Programs.{checked_tree}
+use Rattle.summaries.specs.Limits.{most_of}
+use Rattle.summaries.specs.Tabulated.{SomePairBad}
+use Rattle.gather.specs.Reports.{rewriting_of}
+use Rattle.gather.proofs.Reporting.{keeps_answer, no_report}
+use Rattle.gather.proofs.report.check_rounds_with.Goals as goal
+use Rattle.gather.proofs.report.check_rounds_with.Goals.{then-bad, else-bad}
+
+pub returns-in_err-ledger-clause-none : goal.returns-in_err-ledger-clause-none
+returns-in_err-ledger-clause-none g c =
+    let e = err_from_is_err_and c.from_residual-in_err-ledger.result c.from_residual-in_err-ledger.ensures.1 in
+    let same = c.in-Ok.ensures.rewritten in
+    let drawn = subst (λ (t : Tree). AreDrawnFrom (sequential_of t) c.in_ok-graphs.graphs.graphs.items) same
+    c.in_ok-graphs.ensures.graphs in
+    let last = last_round c.args.rounds in
+    let source = checked_tree c.args.program.now in
+    rw (e.1, e.2) (no_report source last (most_of c.args.limit) c.in_err-ledger.field-0.0
+    (subst AllNarrow same c.in-Ok.sequential.narrow) c.in_err-ledger.ensures.cause
+    (λ is. c.in_err-ledger.ensures.limit (rewriting_of last source) drawn (λ i. Err (is i))))
+
+pub returns-clause-report : goal.returns-clause-report
+returns-clause-report g c =
+    let same = c.in-Ok.ensures.rewritten in
+    let drawn = subst (λ (t : Tree). AreDrawnFrom (sequential_of t) c.in_ok-graphs.graphs.graphs.items) same
+    c.in_ok-graphs.ensures.graphs in
+    let last = last_round c.args.rounds in
+    let source = checked_tree c.args.program.now in
+    let p = rewriting_of last source in
+    let told = keeps_answer last source (sequential_tree c.in-Ok.sequential) same c.in-Ok.ensures.keeps
+    (bad_of c.in_ok-graphs.graphs) c.in_ok-graphs.ensures.bad (SomePairBad c.in_ok-ledger.summaries)
+    (c.in_ok-ledger.ensures.bad p drawn) in
+    record {
+      found = c.in_ok-ledger.ensures.found p drawn;
+      answer = elim c.if-bad.branch [
+        | then-bad w ↦ (λ is. told.0 (c.bad.ensures.0 w.if-bad.true), λ unsafe. w.answer-is)
+        | else-bad w ↦ (
+          λ is. let no : ⊥ = (let at = w.answer-is in cc) in absurd no,
+          λ unsafe. absurd (true≢false (sym (c.bad.ensures.1 (told.1 unsafe)) ∙ w.if-bad.false)),
+        )
+      ];
+      narrow = subst AllNarrow same c.in-Ok.sequential.narrow;
+    }

@@ -1,0 +1,154 @@
+//! A report on a program: what the workers of its rewriting did and found.
+ghost use Rattle.std.specs.Prelude.{◌≡◌, ◌≢◌, ◌≤◌, ◌↔◌, ℕ, length, IfOk, IfErr, Err};
+ghost use Rattle.language.specs.Step.{Program};
+ghost use Rattle.round_rewrite.specs.Law.{SomeBad};
+ghost use Rattle.round_rewrite.specs.Programs.{last_round};
+ghost use Rattle.scopes.specs.Programs.{checked_tree};
+ghost use Rattle.flow_graph.specs.Drawn.{bad_of, graphs_of};
+ghost use Rattle.flow_graph.specs.Graphs.{AreDrawnFrom};
+ghost use Rattle.summaries.specs.Limits.{most_of};
+ghost use Rattle.summaries.specs.Tabulated.{HasMoreEdges, SomePairBad};
+ghost use Rattle.gather.specs.Reports.{IsFound, IsReport, IsNoReport};
+
+use crate::crew::{part, work_all};
+use crate::gathering::gather;
+use crate::kinds::{WorkBoard, WorkSet};
+use flow_graph::{Graphs, graphs};
+use path_sets::OrderedEdges;
+use post_ledger::Ledger;
+use procedure_worker::Gate;
+use round_rewrite::{RewriteFault, Rounds, rewrite};
+use scopes::Checked;
+use std::alloc::Allocator;
+use std::sync::Wait;
+use std::thread::Threads;
+use summaries::{Caller, Due, EdgeLimit, NoVerdict, Summaries};
+use switchboard::OneLock;
+
+/// Whether some run within the rounds fails an assert.
+#[derive(Clone, Copy, Debug, PartialEq, Eq)]
+pub enum Answer {
+    /// None does.
+    Safe,
+    /// Some run does.
+    Unsafe,
+}
+
+/// What the workers of a rewritten program did and found, and what follows for the program as it was written.
+#[derive(Drop)]
+pub struct Report<H: Allocator, A: Allocator> {
+    pub answer: Answer,
+    /// What was posted, taken and completed, for each mailbox.
+    pub ledger: Ledger<Due, H>,
+    /// The entries and pairs of each procedure.
+    pub summaries: Summaries<A>,
+}
+
+/// What the workers of all procedures do and find, a thread for each: the ledger of their board, and the summaries.
+fn analyse<R, B, S, K>(
+    rt: &R,
+    heap: B::Heap,
+    alloc: S::Heap,
+    graphs: &Graphs<B::Heap>,
+    limit: EdgeLimit,
+    gate: &K,
+) -> Result<(Ledger<Due, B::Heap>, Summaries<S::Heap>), NoVerdict>
+where
+    R: Wait + Threads + Sync,
+    B: WorkBoard + Sync + Drop,
+    B::Pass: Send + Drop,
+    B::Heap: Send + Sync,
+    S: WorkSet + Send,
+    S::Heap: Send + Sync,
+    K: Gate + Sync,
+    requires drawn { (p : Program) × AreDrawnFrom p (graphs_of graphs.now) }
+    requires some { 1 ≤ length (graphs_of graphs.now) }
+    ensures found { (p : Program) → AreDrawnFrom p (graphs_of graphs.now)
+        → IfOk result (λ r. IsFound p (most_of limit) r.0.histories.items r.1) }
+    ensures bad { (p : Program) → AreDrawnFrom p (graphs_of graphs.now)
+        → IfOk result (λ r. SomePairBad r.1 ↔ SomeBad p (bad_of graphs.now)) }
+    ensures limit { (p : Program) → AreDrawnFrom p (graphs_of graphs.now) → result ≡ Err NoVerdict.EdgeLimit
+        → (q : ℕ) × HasMoreEdges p q (most_of limit) }
+    ensures cause { IfErr result (λ why. why ≢ NoVerdict.TooWide) }
+{
+    let opening = Due::Entry {
+        caller: Caller::Starter,
+        a: 0,
+    };
+    let (board, passes) = B::open(heap, graphs, graphs.len() as u8, 0, opening)?;
+    let mut back = Vec::with_capacity(heap, passes.len())?;
+    let mut outcomes = Vec::with_capacity(alloc, passes.len())?;
+    let ended = work_all::<R, B, S, K>(rt, alloc, &board, passes, graphs, limit, gate)?;
+    part(ended, &mut back, &mut outcomes);
+    let ledger = board.into_ledger(&mut back);
+    let summaries = gather(alloc, graphs, outcomes)?;
+    Ok((ledger, summaries))
+}
+
+/// The report on a checked program for so many rounds, where no procedure of its rewriting has more path edges than the limit.
+/// It is rewritten into a sequential program, whose procedures have a worker each, in a thread of its own, over a board of the
+/// type `B`; the path edges are kept in sets of the type `S`. The board and its histories are in memory of `heap`, tables and
+/// summaries in that of `alloc`. The gate is told of each take and post. `TooWide` is answered exactly where some procedure of
+/// the rewriting has more than 64 places, `EdgeLimit` only where some procedure has more path edges than the limit. Of several
+/// causes the one of the least number is answered.
+pub fn check_rounds_with<R, B, S, K, N>(
+    rt: &R,
+    heap: B::Heap,
+    alloc: S::Heap,
+    program: &Checked<N>,
+    rounds: Rounds,
+    limit: EdgeLimit,
+    gate: &K,
+) -> Result<Report<B::Heap, S::Heap>, NoVerdict>
+where
+    R: Wait + Threads + Sync,
+    B: WorkBoard + Sync + Drop,
+    B::Pass: Send + Drop,
+    B::Heap: Send + Sync,
+    S: WorkSet + Send,
+    S::Heap: Send + Sync,
+    K: Gate + Sync,
+    N: Allocator,
+    ensures report { IfOk result (IsReport (checked_tree program.now) (last_round rounds) (most_of limit)) }
+    ensures none { IfErr result (IsNoReport (checked_tree program.now) (last_round rounds) (most_of limit)) }
+{
+    let sequential = match rewrite(&heap, program, rounds) {
+        Ok(sequential) => sequential,
+        Err(RewriteFault::TooWide) => return Err(NoVerdict::TooWide),
+        Err(RewriteFault::Memory) => return Err(NoVerdict::Memory),
+    };
+    let graphs = graphs(&heap, &sequential)?;
+    let (ledger, summaries) = analyse::<R, B, S, K>(rt, heap, alloc, &graphs, limit, gate)?;
+    let answer = if summaries.bad() {
+        Answer::Unsafe
+    } else {
+        Answer::Safe
+    };
+    Ok(Report {
+        answer,
+        ledger,
+        summaries,
+    })
+}
+
+/// The same over a board behind one lock and ordered sets of path edges, all in memory of one allocator.
+pub fn check_rounds<R, A, K, N>(
+    rt: &R,
+    alloc: A,
+    program: &Checked<N>,
+    rounds: Rounds,
+    limit: EdgeLimit,
+    gate: &K,
+) -> Result<Report<A, A>, NoVerdict>
+where
+    R: Wait + Threads + Sync,
+    A: Allocator + Copy + Send + Sync,
+    K: Gate + Sync,
+    N: Allocator,
+    ensures report { IfOk result (IsReport (checked_tree program.now) (last_round rounds) (most_of limit)) }
+    ensures none { IfErr result (IsNoReport (checked_tree program.now) (last_round rounds) (most_of limit)) }
+{
+    check_rounds_with::<R, OneLock<Due, Graphs<A>, A>, OrderedEdges<A>, K, N>(
+        rt, alloc, alloc, program, rounds, limit, gate,
+    )
+}

@@ -1,0 +1,137 @@
+//! One case.
+
+use crate::gates::{Late, Meeting, Noting};
+use crate::program::{Asked, read_case};
+use crate::{report, scarcity};
+use procedure_worker::{Gate, Open};
+use std::alloc::{AllocError, Global};
+use std::io;
+use std::sync::Wait;
+use std::thread::Threads;
+
+/// Prints a line, and what comes of it; of a heading nothing does.
+pub fn print<R: Print + AllocGlobal + Wait + Threads + Sync>(rt: &R, line: &str) -> io::Result<()> {
+    println!(rt; "{line}")?;
+    let mut out = String::new(rt.alloc());
+    let answered = answer(rt, rt.alloc(), &mut out, line);
+    match out.as_str() {
+        _ if answered.is_err() => println!(rt; "no memory"),
+        "" => Ok(()),
+        text => println!(rt; "{text}"),
+    }
+}
+
+/// Writes what comes of a line.
+fn answer<R: Wait + Threads + Sync>(
+    rt: &R,
+    alloc: Global,
+    out: &mut String,
+    line: &str,
+) -> Result<(), AllocError> {
+    let (how, rest) = line.split_once(": ").unwrap_or(("", line));
+    let Some((head, text)) = rest.split_once(" | ") else {
+        return Ok(());
+    };
+    let (what, numbers) = head.split_once(' ').unwrap_or((head, ""));
+    let Some(asked) = read_case(alloc, numbers, text) else {
+        return write!(out, "no such case");
+    };
+    match how {
+        "" if what == "answer" => report::write_answer(rt, alloc, out, &asked),
+        "" => report::write(rt, alloc, out, &asked, &Open),
+        "late" => late(rt, alloc, out, &asked),
+        "meeting" => meeting(rt, alloc, out, &asked),
+        "begun" => begun(rt, alloc, out, &asked),
+        _ => numbered(rt, alloc, out, &asked, how),
+    }
+}
+
+/// Writes what comes of one more run, where it is something else than what came of those before.
+fn again<R: Wait + Threads + Sync, K: Gate + Sync>(
+    rt: &R,
+    alloc: Global,
+    out: &mut String,
+    asked: &Asked,
+    gate: &K,
+) -> Result<(), AllocError> {
+    let mut one = String::new(alloc);
+    report::write(rt, alloc, &mut one, asked, gate)?;
+    if out.is_empty() {
+        out.push_str(one.as_str())?;
+    } else if out.as_str() != one.as_str() {
+        write!(out, "\nand then {}", one.as_str())?;
+    }
+    Ok(())
+}
+
+/// Writes what comes of so many runs, or of as many with one allocation refused in each.
+fn numbered<R: Wait + Threads + Sync>(
+    rt: &R,
+    alloc: Global,
+    out: &mut String,
+    asked: &Asked,
+    how: &str,
+) -> Result<(), AllocError> {
+    let (word, number) = how.split_once(' ').unwrap_or((how, ""));
+    let number = number.parse::<u64>().unwrap_or(0);
+    if word == "refusing" {
+        return scarcity::write(rt, alloc, out, asked, number);
+    }
+    for _ in 0..number {
+        again(rt, alloc, out, asked, &Open)?;
+    }
+    Ok(())
+}
+
+/// Writes what comes of it with each lane in turn kept back.
+fn late<R: Wait + Threads + Sync>(
+    rt: &R,
+    alloc: Global,
+    out: &mut String,
+    asked: &Asked,
+) -> Result<(), AllocError> {
+    for lane in 0..=asked.program.program().procs.len().min(31) {
+        again(rt, alloc, out, asked, &Late { lane: lane as u8 })?;
+    }
+    Ok(())
+}
+
+/// Writes what comes of it where two calls wait for each other.
+fn meeting<R: Wait + Threads + Sync>(
+    rt: &R,
+    alloc: Global,
+    out: &mut String,
+    asked: &Asked,
+) -> Result<(), AllocError> {
+    let gate = Meeting::new();
+    report::write(rt, alloc, out, asked, &gate)?;
+    write!(
+        out,
+        "\n{}",
+        if gate.was_held() {
+            "both met"
+        } else {
+            "they did not meet"
+        }
+    )
+}
+
+/// Writes what comes of it, and whether the workers have begun.
+fn begun<R: Wait + Threads + Sync>(
+    rt: &R,
+    alloc: Global,
+    out: &mut String,
+    asked: &Asked,
+) -> Result<(), AllocError> {
+    let gate = Noting::new();
+    report::write(rt, alloc, out, asked, &gate)?;
+    write!(
+        out,
+        "\n{}",
+        if gate.has_all() {
+            "all came"
+        } else {
+            "not all came"
+        }
+    )
+}

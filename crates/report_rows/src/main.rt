@@ -1,0 +1,30 @@
+//! Rows of workers: each line of the standard input is a case, and is printed again with what comes of it.
+//!
+//! | Line | What is printed under it |
+//! |---|---|
+//! | `report K N \| TEXT` | the answer for K rounds and at most N path edges, and for each procedure how many entries, pairs and takes it has; or why there is no report |
+//! | `times T: report K N \| TEXT` | the same, where T runs come to the same |
+//! | `late: report K N \| TEXT` | the same, where it comes so with each lane in turn kept back at each of its takes and posts |
+//! | `meeting: report K N \| TEXT` | the same, where the first post of lane 1 and the first take of lane 2 wait for each other |
+//! | `begun: report K N \| TEXT` | the same, and whether lane 0 has taken and posted and lane 1 has taken |
+//! | `refusing T: answer K N \| TEXT` | what comes of it with one allocation refused, the first, then the second, up to T |
+//! | `answer K N \| TEXT` | the answer alone |
+//!
+//! Entries and pairs are also compared with those of one thread. A line that begins with `#` is a heading.
+#![tactic(auto)]
+
+mod case;
+mod gates;
+mod program;
+mod report;
+mod scarcity;
+
+use std::io::{self, BufRead, BufReader};
+
+fn main(rt: HostRuntime) -> io::Result<()> {
+    let input = BufReader::new(rt.alloc(), rt.reader())?;
+    for line in input.lines(rt.alloc()) {
+        case::print(&rt, line?.as_str())?;
+    }
+    Ok(())
+}

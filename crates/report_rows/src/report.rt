@@ -1,0 +1,117 @@
+//! What workers come to, as text.
+
+use crate::program::{Asked, on_one_thread};
+use gather::{Answer, Report, check_rounds};
+use post_ledger::Event;
+use procedure_worker::{Gate, Open};
+use std::alloc::{AllocError, Allocator, Global};
+use std::sync::Wait;
+use std::thread::Threads;
+use summaries::{Due, NoVerdict, Summaries};
+
+/// How many Takes a history has.
+fn takes(history: &[Event<Due>]) -> usize {
+    let mut takes = 0;
+    for event in history {
+        if matches!(event, Event::Take { .. }) && takes < 65_536 {
+            takes += 1;
+        }
+    }
+    takes
+}
+
+/// Writes how many entries, pairs and takes each procedure has.
+fn write_counts<A: Allocator>(out: &mut String, report: &Report<A, A>) -> Result<(), AllocError> {
+    for procedure in 0..=31u8 {
+        let number = usize::from(procedure);
+        if number < report.summaries.len() && number < report.ledger.histories.len() {
+            let entries = report.summaries.entries(procedure).len();
+            let pairs = report.summaries.pairs(procedure).len();
+            let takes = takes(report.ledger.histories[number].history());
+            write!(
+                out,
+                "\n{procedure}: entries {entries} pairs {pairs} taken {takes}"
+            )?;
+        }
+    }
+    Ok(())
+}
+
+/// Whether two procedures have the same entries and pairs.
+fn is_same(one: &Summaries<Global>, other: &Summaries<Global>) -> bool {
+    let same = |procedure: u8| {
+        let number = usize::from(procedure);
+        if number < one.len() && number < other.len() {
+            one.entries(procedure) == other.entries(procedure)
+                && one.pairs(procedure) == other.pairs(procedure)
+        } else {
+            number >= one.len() && number >= other.len()
+        }
+    };
+    (0..=31u8).all(same)
+}
+
+/// Writes a report, or why there is none.
+fn write_report<A: Allocator>(
+    out: &mut String,
+    report: &Result<Report<A, A>, NoVerdict>,
+) -> Result<(), AllocError> {
+    match report {
+        Err(why) => write!(out, "{why:?}"),
+        Ok(report) => {
+            let answer = match report.answer {
+                Answer::Safe => "safe",
+                Answer::Unsafe => "unsafe",
+            };
+            write!(out, "{answer}")?;
+            if !report.ledger.closed {
+                write!(out, ", not closed")?;
+            }
+            write_counts(out, report)
+        }
+    }
+}
+
+/// Writes what the workers come to, with this gate, and whether one thread comes to the same.
+pub fn write<R: Wait + Threads + Sync, K: Gate + Sync>(
+    rt: &R,
+    alloc: Global,
+    out: &mut String,
+    asked: &Asked,
+    gate: &K,
+) -> Result<(), AllocError> {
+    let report = check_rounds(rt, alloc, &asked.program, asked.rounds, asked.limit, gate);
+    write_report(out, &report)?;
+    let same = match (&report, &on_one_thread(alloc, asked)) {
+        (Ok(report), Ok(summaries)) => is_same(&report.summaries, summaries),
+        (Err(one), Err(other)) => one == other,
+        _ => false,
+    };
+    if !same {
+        write!(out, "\nnot as on one thread")?;
+    }
+    Ok(())
+}
+
+/// Writes the answer alone, or why there is none.
+pub fn write_answer<R: Wait + Threads + Sync>(
+    rt: &R,
+    alloc: Global,
+    out: &mut String,
+    asked: &Asked,
+) -> Result<(), AllocError> {
+    match answer(rt, alloc, asked) {
+        Ok(answer) => write!(out, "{answer:?}"),
+        Err(why) => write!(out, "{why:?}"),
+    }
+}
+
+/// The answer alone, or why there is none.
+pub fn answer<R: Wait + Threads + Sync, A: Allocator + Copy + Send + Sync>(
+    rt: &R,
+    alloc: A,
+    asked: &Asked,
+) -> Result<Answer, NoVerdict> {
+    let report = check_rounds(rt, alloc, &asked.program, asked.rounds, asked.limit, &Open)?;
+    Ok(report.answer)
+}

@@ -1,0 +1,52 @@
+//! What workers come to where memory is refused.
+
+use crate::program::Asked;
+use crate::report::answer;
+use gather::Answer;
+use scarce::Scarce;
+use std::alloc::{AllocError, Global};
+use std::sync::Wait;
+use std::thread::Threads;
+use summaries::NoVerdict;
+
+/// What comes of a run with one allocation refused.
+#[derive(Clone, Copy, PartialEq, Eq)]
+enum Came {
+    /// Want of memory, or of a thread.
+    Wanting,
+    /// The answer of a run in which nothing was refused.
+    Whole(Answer),
+    Otherwise,
+}
+
+/// One run, whose allocation of a number is refused.
+fn run<R: Wait + Threads + Sync>(rt: &R, alloc: Global, asked: &Asked, nth: u64) -> Came {
+    let scarce = Scarce::refusing(alloc, nth);
+    let came = answer(rt, &scarce, asked);
+    match (scarce.refused(), came) {
+        (true, Err(NoVerdict::Memory | NoVerdict::NoWorker)) => Came::Wanting,
+        (false, Ok(answer)) => Came::Whole(answer),
+        _ => Came::Otherwise,
+    }
+}
+
+/// Writes what comes of it where each allocation is refused in turn, until a run meets no refusal, or so many
+/// were tried.
+pub fn write<R: Wait + Threads + Sync>(
+    rt: &R,
+    alloc: Global,
+    out: &mut String,
+    asked: &Asked,
+    most: u64,
+) -> Result<(), AllocError> {
+    for nth in 1..most {
+        match run(rt, alloc, asked, nth) {
+            Came::Wanting => {}
+            Came::Whole(answer) if nth > 20 => {
+                return write!(out, "want of memory or of a thread, and then {answer:?}");
+            }
+            _ => return write!(out, "another answer where allocation {nth} is refused"),
+        }
+    }
+    write!(out, "want of memory or of a thread")
+}
