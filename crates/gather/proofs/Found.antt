@@ -1,8 +1,9 @@
 -- What the workers of a closed board have posted is what is due, each message once.
-use Rattle.std.proofs.Common.{◌≡◌, ◌≢◌, ◌⊎◌, inl, inr, ℕ, zero, suc, ◌<◌, ◌≤◌, List, [], ◌∷◌, ◌++◌, Some, slice_get, length, take, drop}
+use Rattle.std.proofs.Common.{◌≡◌, inl, inr, ℕ, zero, suc, ◌<◌, ◌≤◌, List, [], ◌∷◌, ◌++◌, Some}
+use Rattle.std.proofs.Common.{slice_get, length, take, drop}
 use Rattle.std.proofs.Common.{refl, sym, ap, ◌∙◌, subst, arith}
-use Rattle.std.specs.Prelude.{Bool, ◌↔◌}
-use Rattle.std.proofs.lemmas.Option.{none-some, same_Some}
+use Rattle.std.specs.Prelude.{Bool}
+use Rattle.std.proofs.lemmas.Option.{same_Some}
 use Rattle.std.proofs.lemmas.Bool.{cases_eq, cases_lt}
 use Rattle.std.proofs.lemmas.List.{take-append-drop}
 use Rattle.atomic_table.specs.Seated.{TableId}
@@ -40,7 +41,6 @@ use Rattle.switchboard.specs.Sights.{Sight}
 use Rattle.switchboard.specs.Promises.{Settles}
 use Rattle.procedure_worker.specs.declared.outcome.Outcome.{Outcome}
 use Rattle.procedure_worker.specs.Own.{taken_in, posted_in}
-use Rattle.procedure_worker.specs.Works.{mails_of}
 use Rattle.gather.specs.Ends.{HaveEnded}
 use Rattle.gather.specs.Gathered.{ends_of, NoneFailed}
 use Rattle.gather.specs.Reports.{posted_to, AreDueOnce}
@@ -112,8 +112,12 @@ module _ {G A S : Type 0} (members : S → List Triple) (graphs : Graphs G) (lim
       first : (to : ℕ) (m : Due) (rest : List (Entry Due)) → own s rest ≡ []
           → NoneTwice (posted_in (own s (Posted to boxes m 0 ∷ rest)))
       first to m rest nothing = elim (cases_eq boxes s) [
-        | inl same ↦ subst (λ l. NoneTwice (posted_in l)) (sym (own_here s (Posted to boxes m 0) rest same ∙ ap (λ l. Posted to boxes m 0 ∷ l) nothing)) (λ never. never, tt)
-        | inr other ↦ subst (λ l. NoneTwice (posted_in l)) (sym (own_else s (Posted to boxes m 0) rest other ∙ nothing)) tt
+        | inl same ↦
+            subst (λ l. NoneTwice (posted_in l))
+            (sym (own_here s (Posted to boxes m 0) rest same ∙ ap (λ l. Posted to boxes m 0 ∷ l) nothing))
+            (λ never. never, tt)
+        | inr other ↦
+            subst (λ l. NoneTwice (posted_in l)) (sym (own_else s (Posted to boxes m 0) rest other ∙ nothing)) tt
       ]
 
   -- nobody posted a message twice to one mailbox
@@ -161,8 +165,11 @@ module _ {G A S : Type 0} (members : S → List Triple) (graphs : Graphs G) (lim
       subst (Member (mail q m)) sent.1 (member_map (λ (x : ℕ × Due). mail x.0 x.1) o.posts.items (q, m) listed) in
       let (k, same) = number_of_due m in
       let sends = (v.served.1.sends q k).1 (subst (λ d. Member (mail q d) (answers_of v.table)) (sym same) answered) in
-      let number : procedure_of v.table ≡ s = (v.served.0.0.stands.table v.served.0.0.stands.pass.drawn.0 v.served.0.0.stands.pass.drawn.1).number in
-      sym number ∙ (sends_own v.table.graph.now v.table.procedure (TookMessage v.table.found) boxes q k sends ∙ ap (sender_of boxes) same)
+      let stands = sent.0.stands in
+      let number : procedure_of v.table ≡ s = (stands.table stands.pass.drawn.0 stands.pass.drawn.1).number in
+      sym number
+      ∙ (sends_own v.table.graph.now v.table.procedure (TookMessage v.table.found) boxes q k sends
+      ∙ ap (sender_of boxes) same)
 
   module _ (p : Program) (drawn : AreDrawnFrom p (graphs_of graphs)) (q : ℕ) (near : q < boxes) where
     -- a message that was posted is due
@@ -183,7 +190,8 @@ module _ {G A S : Type 0} (members : S → List Triple) (graphs : Graphs G) (lim
         let v = serving q o here in
         let whole = full members graphs limit board passes outcomes histories closed ended settled none p drawn in
         let all = ts members graphs limit board passes outcomes histories closed ended settled none in
-        let at = table_at outcomes (has_tables members graphs limit board passes outcomes histories closed ended settled none) q o v.table here v.is in
+        let tables = has_tables members graphs limit board passes outcomes histories closed ended settled none in
+        let at = table_at outcomes tables q o v.table here v.is in
         let took = (table_due members p all whole.0 whole.1 q v.table at k).1 due in
         let stands = v.served.0.0.stands in
         let mine : Member (due_of k) (taken_in (own q settled.order)) =

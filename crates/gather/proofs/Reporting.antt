@@ -1,5 +1,5 @@
 -- From outcomes to what a report says.
-use Rattle.std.proofs.Common.{◌≡◌, ◌≢◌, ◌<◌, inl, inr, ℕ, List, [], ◌∷◌, suc, Some, map, slice_get, length, codes}
+use Rattle.std.proofs.Common.{◌≡◌, ◌≢◌, ◌<◌, inl, inr, ℕ, List, [], ◌∷◌, suc, map, length, codes}
 use Rattle.std.proofs.Common.{refl, sym, ap, ◌∙◌, subst}
 use Rattle.std.specs.Prelude.{Bool, ◌↔◌}
 use Rattle.std.proofs.lemmas.Option.{slice_get_within}
@@ -35,8 +35,8 @@ use Rattle.procedure_worker.specs.declared.outcome.End.{End}
 use Rattle.procedure_worker.specs.declared.outcome.End.TheVariants.{Closed, Failed}
 use Rattle.procedure_worker.specs.declared.outcome.Outcome.{Outcome}
 use Rattle.procedure_worker.specs.Works.{begun, EndsSo}
-use Rattle.gather.specs.Ends.{LaneEnds, HaveEnded, AreOfBoard}
-use Rattle.gather.specs.Gathered.{verdict_of, ends_of, NoneFailed, AllClosed, IsLeast, IsCause, IsGathered}
+use Rattle.gather.specs.Ends.{HaveEnded, AreOfBoard}
+use Rattle.gather.specs.Gathered.{verdict_of, ends_of, NoneFailed, AllClosed, IsCause, IsGathered}
 use Rattle.gather.specs.Reports.{posted_to, rewriting_of, AreDueOnce, IsFound, IsNoReport}
 use Rattle.gather.specs.Through.{AreThrough}
 use Rattle.gather.proofs.Lists.{place_of}
@@ -97,6 +97,9 @@ map_twice : {X Y Z : Type 0} (f : Y → Z) (h : X → Y) (xs : List X) → map f
 map_twice f h [] = refl
 map_twice f h (x ∷ xs) = ap (λ l. f (h x) ∷ l) (map_twice f h xs)
 
+other_cause : Failed cause.EdgeLimit ≡ Failed cause.NoWorker → ⊥
+other_cause same = cc
+
 module _ {G A S : Type 0} (members : S → List Triple) (graphs : Graphs G) (limit : EdgeLimit) (board : TableId) where
   -- what has ended, parted into passes and outcomes
   pub parted : {P : Type 0} (sight : P → Sight Due (Graphs G)) (backs : List (P × Outcome G A S)) (passes : List P)
@@ -127,7 +130,7 @@ module _ {G A S : Type 0} (members : S → List Triple) (graphs : Graphs G) (lim
           q,
           elim (ended.ends q s o here there) [
             | inl e ↦ passed_by p drawn q s o.end e.0 o.takes.items o.posts.items same e.2
-            | inr idle ↦ (let no : Failed cause.EdgeLimit ≡ Failed cause.NoWorker = sym same ∙ idle.named in let bad : ⊥ = cc in absurd bad)
+            | inr idle ↦ absurd (other_cause (sym same ∙ idle.named))
           ],
         )
 

@@ -32,9 +32,11 @@ module _ {R G A S B K P : Type 0} (identity : B → TableId) (sight : P → Sigh
   -- each lane is that of the procedure of its number, and its worker may begin
   abbrev pub AreOwn : Graphs G → EdgeLimit → TableId → List (Lane R P G A B S K) → Type 0
   AreOwn graphs limit board lanes =
-      (q : ℕ) (l : Lane R P G A B S K) → slice_get lanes q ≡ Some l → (start_of l ≡ begun graphs q limit board) × MayWork l
+      (q : ℕ) (l : Lane R P G A B S K) → slice_get lanes q ≡ Some l
+      → (start_of l ≡ begun graphs q limit board) × MayWork l
 
   -- The lanes are those of all procedures, by number, and their workers may begin.
-  pub record AreLanes (graphs : Graphs G) (limit : EdgeLimit) (board : TableId) (lanes : List (Lane R P G A B S K)) : Type 0 where
+  pub record AreLanes (graphs : Graphs G) (limit : EdgeLimit) (board : TableId)
+      (lanes : List (Lane R P G A B S K)) : Type 0 where
     pub all : length lanes ≡ length (graphs_of graphs)
     pub own : AreOwn graphs limit board lanes

@@ -1,6 +1,5 @@
 -- What a report says of a program.
-use Rattle.std.specs.Prelude.{◌≡◌, ◌↔◌, ◌⊎◌, ℕ, suc, List, map, length, slice_get}
-use Rattle.std.specs.Prelude.{Some}
+use Rattle.std.specs.Prelude.{◌≡◌, ◌↔◌, ℕ, suc, List, Some, map, length, slice_get}
 use Rattle.language.specs.Tree.{Tree}
 use Rattle.language.specs.Step.{Program}
 use Rattle.language.specs.Flow.{Member}
@@ -19,7 +18,6 @@ use Rattle.summaries.specs.declared.no_verdict.NoVerdict.TheVariants as verdict
 use Rattle.summaries.specs.Dues.{due_of}
 use Rattle.summaries.specs.Effects.{Effects}
 use Rattle.summaries.specs.Tabulated.{AreSummaries, HasMoreEdges}
-use Rattle.gather.specs.declared.report.Answer.{Answer}
 use Rattle.gather.specs.declared.report.Answer.TheVariants as answer
 use Rattle.gather.specs.declared.report.Report.{Report}
 use Rattle.gather.specs.Through.{AreThrough}
@@ -33,9 +31,10 @@ pub record AreDueOnce (p : Program) (q : ℕ) (ds : List Due) : Type 0 where
   pub once : NoneTwice ds
   pub all : (k : NumberedMessage) → Member (due_of k) ds ↔ IsNumberOf (IsDue p q) k
 
--- What the workers of a sequential program have done and found. In each mailbox each message posted was taken once, each
--- sender's in the order of posting, and nothing was posted after the close; the messages posted are those due there, each once;
--- the summaries are exactly the entries and pairs of each procedure; and no procedure has more path edges than `most`.
+-- What the workers of a sequential program have done and found. In each mailbox each message posted was taken once,
+-- each sender's in the order of posting, and nothing was posted after the close; the messages posted are those due
+-- there, each once; the summaries are exactly the entries and pairs of each procedure; and no procedure has more path
+-- edges than `most`.
 pub record IsFound (p : Program) (most : ℕ) (histories : List (List (Event Due))) (s : Effects) : Type 0 where
   pub through : AreThrough (length p.routines) histories
   pub due : (q : ℕ) (h : List (Event Due)) → slice_get histories q ≡ Some h → AreDueOnce p q (posted_to h)
@@ -46,15 +45,15 @@ pub record IsFound (p : Program) (most : ℕ) (histories : List (List (Event Due
 abbrev pub rewriting_of : ℕ → Tree → Program
 rewriting_of last source = sequential_of (rewritten_tree last source)
 
--- The report on a source for as many rounds as one more than `last`: its workers have found what there is in its rewriting, and
--- the answer is `Unsafe` exactly where some run of at most so many rounds fails an assert.
+-- The report on a source for as many rounds as one more than `last`: its workers have found what there is in its
+-- rewriting, and the answer is `Unsafe` exactly where some run of at most so many rounds fails an assert.
 pub record IsReport {H A : Type 0} (source : Tree) (last most : ℕ) (r : Report H A) : Type 0 where
   pub found : IsFound (rewriting_of last source) most r.ledger.histories.items r.summaries
   pub answer : (r.answer ≡ answer.Unsafe) ↔ Unsafe (meaning_of source) (suc last)
   pub narrow : IsNarrow last source
 
--- Why there is no report: the rewriting is too wide, and only then; some procedure of it has more path edges than `most`; memory
--- or a thread was refused, or a worker has used up its calls.
+-- Why there is no report: the rewriting is too wide, and only then; some procedure of it has more path edges than
+-- `most`; memory or a thread was refused, or a worker has used up its calls.
 abbrev pub IsNoReport : Tree → ℕ → ℕ → NoVerdict → Type 0
 IsNoReport source last most verdict.TooWide = IsNarrow last source → ⊥
 IsNoReport source last most verdict.EdgeLimit =

@@ -48,8 +48,8 @@ where
 }
 
 /// Has a worker for each procedure, each in a thread of its own, until all have ended, and gives back each pass with its
-/// outcome, in the order of the mailboxes. Where a thread is refused, the pass of its lane aborts the board for that, and no
-/// later one is started. An error is want of memory, before any thread was started.
+/// outcome, in the order of the mailboxes. Where a thread is refused, the pass of its lane aborts the board for that, and
+/// no later one is started. An error is want of memory, before any thread was started.
 pub(crate) fn work_all<'c, 'g, R, B, S, K>(
     rt: &'c R,
     alloc: S::Heap,

@@ -85,12 +85,12 @@ where
     Ok((ledger, summaries))
 }
 
-/// The report on a checked program for so many rounds, where no procedure of its rewriting has more path edges than the limit.
-/// It is rewritten into a sequential program, whose procedures have a worker each, in a thread of its own, over a board of the
-/// type `B`; the path edges are kept in sets of the type `S`. The board and its histories are in memory of `heap`, tables and
-/// summaries in that of `alloc`. The gate is told of each take and post. `TooWide` is answered exactly where some procedure of
-/// the rewriting has more than 64 places, `EdgeLimit` only where some procedure has more path edges than the limit. Of several
-/// causes the one of the least number is answered.
+/// The report on a checked program for so many rounds, where no procedure of its rewriting has more path edges than the
+/// limit. It is rewritten into a sequential program, whose procedures have a worker each, in a thread of its own, over a
+/// board of the type `B`; the path edges are kept in sets of the type `S`. The board and its histories are in memory of
+/// `heap`, tables and summaries in that of `alloc`. The gate is told of each take and post. `TooWide` is answered exactly
+/// where some procedure of the rewriting has more than 64 places, `EdgeLimit` only where some procedure has more path edges
+/// than the limit. Of several causes the one of the least number is answered.
 pub fn check_rounds_with<R, B, S, K, N>(
     rt: &R,
     heap: B::Heap,

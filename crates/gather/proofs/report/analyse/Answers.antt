@@ -1,5 +1,5 @@
 -- From a board that is opened to what its workers have found.
-use Rattle.std.proofs.Common.{◌≡◌, ◌^◌, Err, refl, sym, ap, ◌∙◌, subst, arith, map, length}
+use Rattle.std.proofs.Common.{◌^◌, ◌∙◌, arith, map}
 use Rattle.std.proofs.lemmas.List.{length-map}
 use Rattle.std.proofs.lemmas.Result.{err_from_is_err_and}
 use Rattle.summaries.proofs.Steps.{opening_fits}

@@ -1,5 +1,5 @@
 -- The report is on the rewriting, which keeps the failing asserts.
-use Rattle.std.proofs.Common.{◌≡◌, Err, sym, ◌∙◌, subst, true≢false}
+use Rattle.std.proofs.Common.{Err, sym, ◌∙◌, subst, true≢false}
 use Rattle.std.proofs.lemmas.Result.{err_from_is_err_and}
 use Rattle.language.specs.Sequential.{sequential_of}
 use Rattle.language.specs.Tree.{Tree}
