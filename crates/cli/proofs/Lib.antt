@@ -4,3 +4,5 @@ pub mod Extending
 pub mod Locating
 pub mod Giving
 pub mod Refusing
+pub mod Counting
+pub mod Answering

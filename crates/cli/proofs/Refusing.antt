@@ -1,5 +1,5 @@
 -- Which refusal a reply tells, by the one that stands.
-use Rattle.std.proofs.Common.{◌≡◌, ◌∙◌, ◌⊎◌, ◌≤◌, ℕ, List, Option, inl, inr}
+use Rattle.std.proofs.Common.{◌≡◌, ◌∙◌, ◌⊎◌, ◌≤◌, ℕ, Bool, List, Option, inl, inr}
 use Rattle.std.proofs.Common.{ap, refl, sym, arith, codes, get_or}
 use Rattle.language.specs.Tree.{Tree}
 use Rattle.syntax.specs.Text.{Text}
@@ -13,7 +13,8 @@ use Rattle.cli.specs.Rewritten.{IsRewriting}
 use Rattle.cli.specs.Verdict.{Answers}
 use Rattle.cli.specs.Written.{bytes_of}
 use Rattle.cli.specs.declared.refusal.Refusal.{Refusal}
-use Rattle.cli.specs.declared.refusal.Refusal.TheVariants.{EdgeLimit, Memory, TooWide, Unchecked, Unread}
+use Rattle.cli.specs.declared.refusal.Refusal.TheVariants.{EdgeLimit, Memory, NoWorker, Spent, TooWide}
+use Rattle.cli.specs.declared.refusal.Refusal.TheVariants.{Unchecked, Unread}
 use Rattle.cli.specs.declared.reply.Reply.{Reply}
 
 -- a text that is rewritten has a rewriting that is not too wide
@@ -43,6 +44,8 @@ has_place text rounds limit (Unchecked fault) names stands = fault_place text fa
 has_place text rounds limit (TooWide wide) names stands = absurd names
 has_place text rounds limit EdgeLimit names stands = absurd names
 has_place text rounds limit Memory names stands = absurd names
+has_place text rounds limit NoWorker names stands = absurd names
+has_place text rounds limit Spent names stands = absurd names
 
 -- what is told where a refusal stands is a refusal that stands
 pub refuses : {A : Type 0} (text : List ℕ) (rounds : ℕ) (limit : Option ℕ) (why : Refusal) (reply : Reply A)
@@ -52,10 +55,12 @@ refuses text rounds limit why reply stands (inr lacks) =
     (Memory, inr (has_place text rounds limit why lacks.0 stands), lacks.1)
 
 -- an answer has a status of at most 1
-pub answers_few : (text : List ℕ) (rounds edges : ℕ) (bytes : List ℕ) (status : ℕ)
-    → Answers text rounds edges bytes status → status ≤ 1
-answers_few text rounds edges bytes status (t, of, checked, within, inl (b, e, bad)) = omega (arith, e)
-answers_few text rounds edges bytes status (t, of, checked, within, inr (b, e, good)) = omega (arith, e)
+pub answers_few : (text : List ℕ) (rounds edges : ℕ) (stats : Bool) (bytes : List ℕ) (status : ℕ)
+    → Answers text rounds edges stats bytes status → status ≤ 1
+answers_few text rounds edges stats bytes status (t, of, checked, within, (lines, follows, inl (b, e, bad))) =
+    omega (arith, e)
+answers_few text rounds edges stats bytes status (t, of, checked, within, (lines, follows, inr (b, e, good))) =
+    omega (arith, e)
 
 -- and so has what is rewritten
 pub rewriting_few : (text : List ℕ) (rounds : ℕ) (bytes : List ℕ) (status : ℕ)
@@ -64,7 +69,8 @@ rewriting_few text rounds bytes status (e, is) = omega (arith, e)
 
 -- a reply with a greater status tells why
 pub tells_many : {A : Type 0} (text : List ℕ) (rounds : ℕ) (limit : Option ℕ) (reply : Reply A) (V : Type 0)
-    → (V → reply.status ≤ 1) → V ⊎ RefusesFor text rounds limit reply → 2 ≤ reply.status → RefusesFor text rounds limit reply
+    → (V → reply.status ≤ 1) → V ⊎ RefusesFor text rounds limit reply → 2 ≤ reply.status
+    → RefusesFor text rounds limit reply
 tells_many text rounds limit reply V few (inl v) many = let least = few v in absurd (omega (arith, least, many))
 tells_many text rounds limit reply V few (inr why) many = why
 
@@ -98,6 +104,8 @@ past_by text rounds limit (Unchecked scope.Memory) stands e = absurd (other _ 10
 past_by text rounds limit (TooWide wide) stands e = absurd (refused _ refl e)
 past_by text rounds limit EdgeLimit stands e = stands
 past_by text rounds limit Memory stands e = absurd (other _ 109 refl (λ same. omega (arith, same)) e)
+past_by text rounds limit NoWorker stands e = absurd (other _ 110 refl (λ same. omega (arith, same)) e)
+past_by text rounds limit Spent stands e = absurd (other _ 115 refl (λ same. omega (arith, same)) e)
 
 pub is_past : {A : Type 0} (text : List ℕ) (rounds : ℕ) (limit : Option ℕ) (reply : Reply A)
     → RefusesFor text rounds limit reply → bytes_of reply ≡ edge_line → IsPast text rounds limit

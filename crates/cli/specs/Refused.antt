@@ -14,6 +14,7 @@ use Rattle.round_rewrite.specs.declared.width.Wide.{Wide}
 use Rattle.cli.specs.Verdict.{IsOver}
 use Rattle.cli.specs.declared.refusal.Refusal.{Refusal}
 use Rattle.cli.specs.declared.refusal.Refusal.TheVariants.{Unread, Unchecked, TooWide, EdgeLimit, Memory}
+use Rattle.cli.specs.declared.refusal.Refusal.TheVariants.{NoWorker, Spent}
 
 -- the line for want of memory
 abbrev pub memory_line : List ℕ
@@ -49,6 +50,8 @@ line_of (Unchecked fault) = unchecked_line fault
 line_of (TooWide wide) = codes "refused: 14 too wide\n"
 line_of EdgeLimit = codes "no verdict: edge limit\n"
 line_of Memory = memory_line
+line_of NoWorker = codes "no verdict: no worker\n"
+line_of Spent = codes "no verdict: spent\n"
 
 -- The line names an offset, and is written when it is needed, which takes memory. Every other line is fixed, and takes
 -- none.
@@ -60,8 +63,10 @@ NamesOffset (Unchecked fault) = ⊤
 NamesOffset (TooWide wide) = ⊥
 NamesOffset EdgeLimit = ⊥
 NamesOffset Memory = ⊥
+NamesOffset NoWorker = ⊥
+NamesOffset Spent = ⊥
 
--- 2 where the text is refused, 3 where memory or the edge limit gave out
+-- 2 where the text is refused, 3 where memory, the edge limit, threads or calls gave out
 abbrev pub status_of : Refusal → ℕ
 status_of (Unread read.Memory) = 3
 status_of (Unread fault) = 2
@@ -70,6 +75,8 @@ status_of (Unchecked fault) = 2
 status_of (TooWide wide) = 2
 status_of EdgeLimit = 3
 status_of Memory = 3
+status_of NoWorker = 3
+status_of Spent = 3
 
 -- The text is that of a checked tree, whose rewriting for so many rounds, one more than the last, is too wide; and this is its
 -- first procedure that is.
@@ -95,11 +102,16 @@ abbrev pub IsPast : List ℕ → ℕ → Option ℕ → Type 0
 IsPast bytes rounds None = ⊥
 IsPast bytes rounds (Some edges) = IsOver bytes rounds edges
 
+-- A check has workers: where there is a limit, for a text with a rewriting that is not too wide.
+abbrev pub HasWorkers : List ℕ → ℕ → Option ℕ → Type 0
+HasWorkers bytes rounds None = ⊥
+HasWorkers bytes rounds (Some edges) = HasRewriting bytes rounds
+
 -- The refusal stands: the text is not read for this fault; or it is the text of a program in which this is the first
 -- fault of scopes; or of a checked program whose rewriting for so many rounds is too wide, or has a procedure with more
 -- path edges than the limit. While a text is read, memory may give out at any point, and so it may while scopes are
 -- checked. Later it gives out only where the program is rewritten and what follows, or over the line of a refusal that
--- names an offset.
+-- names an offset. The workers of a check may get no thread, or use up their calls.
 abbrev pub RefusalStands : List ℕ → ℕ → Option ℕ → Refusal → Type 0
 RefusalStands bytes rounds limit (Unread fault) = text.Stands fault bytes
 RefusalStands bytes rounds limit (Unchecked fault) =
@@ -107,3 +119,5 @@ RefusalStands bytes rounds limit (Unchecked fault) =
 RefusalStands bytes rounds limit (TooWide wide) = (t : Tree) × (last : ℕ) × IsWide bytes rounds t last wide
 RefusalStands bytes rounds limit EdgeLimit = IsPast bytes rounds limit
 RefusalStands bytes rounds limit Memory = HasRewriting bytes rounds ⊎ HasPlace bytes
+RefusalStands bytes rounds limit NoWorker = HasWorkers bytes rounds limit
+RefusalStands bytes rounds limit Spent = HasWorkers bytes rounds limit

@@ -30,17 +30,17 @@ pub record IsSequential (text : List ℕ) (rounds : ℕ) (bytes : List ℕ) : Ty
 
 -- the reply with a status of at most 1 is what was asked for
 abbrev pub Replies : List ℕ → Order → List ℕ → ℕ → Type 0
-Replies text (Check rounds edges) bytes status = Answers text (count_of rounds) (most_of edges) bytes status
+Replies text (Check rounds edges stats) bytes status = Answers text (count_of rounds) (most_of edges) stats bytes status
 Replies text (Sequential rounds) bytes status = (status ≡ 0) × IsSequential text (count_of rounds) bytes
 
 -- how many rounds were asked for
 abbrev pub rounds_of : Order → ℕ
-rounds_of (Check rounds edges) = count_of rounds
+rounds_of (Check rounds edges stats) = count_of rounds
 rounds_of (Sequential rounds) = count_of rounds
 
 -- how many path edges a procedure may have, which only a check limits
 abbrev pub limit_of : Order → Option ℕ
-limit_of (Check rounds edges) = Some (most_of edges)
+limit_of (Check rounds edges stats) = Some (most_of edges)
 limit_of (Sequential rounds) = None
 
 -- a check was asked for, and some procedure of the text's rewriting has more path edges than its limit
