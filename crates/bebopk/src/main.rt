@@ -9,6 +9,8 @@ use std::env;
 use std::io::{self, ErrorKind, Write};
 use std::process::ExitCode;
 use std::rt::{Env, Files};
+use std::sync::Wait;
+use std::thread::Threads;
 
 /// Why the words are not read: one is no UTF-8, or memory gave out.
 fn unread(alloc: Global, error: &io::Error) -> LineFault {
@@ -30,7 +32,7 @@ fn words<R: Env + AllocGlobal>(rt: &R) -> Result<Vec<String>, LineFault> {
 }
 
 /// Does what the words of the command line ask for, and gives the status to end with.
-fn ended<R: Env + Files + AllocGlobal, W: Write, L: Write>(
+fn ended<R: Env + Files + AllocGlobal + Wait + Threads + Sync, W: Write, L: Write>(
     rt: &R,
     writer: &mut W,
     log: &mut L,

@@ -1,14 +1,15 @@
 -- What is read of the matches of a command.
-use Rattle.std.proofs.Common.{◌≡◌, ◌∙◌, ℕ, List, Option, None, Some, Result, Ok, option_map, refl, sym, ap₂, subst, codes}
+use Rattle.std.proofs.Common.{◌≡◌, ◌∙◌, ℕ, Bool, true, false, List, Option, None, Some, Result, Ok, option_map, refl, sym, ap, ap₂, subst, codes}
 use Rattle.std.specs.Box.{box_value}
-use Rattle.std.specs.Str.Parse.{ParsesUnsigned}
+use Rattle.std.specs.Bool.{MatchBool}
+use Rattle.std.specs.Str.Parse.{ParsesBool, ParsesUnsigned, false_text, true_text}
 use Rattle.std.proofs.lemmas.Option.{none-some, same_Some}
 use Rattle.clap.specs.Words.{ReadsOne, Row, Text, found_of, one_text, rows_of, subcommand_name_of, subcommand_rows_of}
 use Rattle.clap.specs.declared.parser.matches.ArgMatches.{ArgMatches}
 use Rattle.clap.specs.declared.parser.matches.ArgMatches.TheViews.{out-ArgMatches, out-SubCommand}
 use Rattle.clap.specs.declared.parser.matches.Found.{Found}
 use Rattle.clap.proofs.WalkLemmas.{one_text-rows}
-use Rattle.cli.specs.Line.{Gives, IsNamed, Reads}
+use Rattle.cli.specs.Line.{Gives, IsGiven, IsNamed, Reads, flag_text}
 use Rattle.cli.specs.declared.asked.Order.{Order}
 use Rattle.cli.specs.declared.asked.Order.TheVariants.{Check, Sequential}
 use Rattle.summaries.specs.Limits.{most_of}
@@ -37,8 +38,23 @@ paired name rows (Some b) n r e h = ap₂ (λ x y. Some (x, y)) (same_Some (name
 pub met : (m : ArgMatches) (n : Text) (r : List Row) → subcommand_name_of m ≡ Some n → option_map (λ (p : Text × List Row). p.1) (subcommand_rows_of m) ≡ Some r → subcommand_rows_of m ≡ Some (n, r)
 met m n r e h = paired (λ b. (out-SubCommand (box_value b)).name.now) (λ b. rows_of (found_of (out-SubCommand (box_value b)).matches)) (out-ArgMatches m).subcommand n r e h
 
--- an order of the name and the numbers that were found
-pub gives : (name : Text) (rows : List Row) (k : ℕ) (n : Option ℕ) (o : Order) → IsNamed name k n o → Reads rows (codes "rounds") k → ((e : ℕ) → n ≡ Some e → Reads rows (codes "edges") e)
-    → Gives name rows o
-gives name rows k n (Check r e) h rounds edges = (h.0, subst (Reads rows (codes "rounds")) (sym h.1) rounds, edges (most_of e) h.2)
-gives name rows k n (Sequential r) h rounds edges = (h.0, subst (Reads rows (codes "rounds")) (sym h.1) rounds)
+-- the text of the value that is got of an option without one
+same_flag : (t : Text) (b : Bool) → MatchBool b (t ≡ true_text) (t ≡ false_text) → t ≡ flag_text b
+same_flag t true e = e
+same_flag t false e = e
+
+-- an option without a value that is got is given, or is not
+pub is_given : (E : Type 0) (f : Found) (id : Text) (r : Option Bool) (b : Bool) → r ≡ Some b → (one_text f id ≡ None → r ≡ None)
+    → ((t : List ℕ) → one_text f id ≡ Some t → ReadsOne {E = E} ParsesBool t r) → IsGiven (rows_of f) id b
+is_given E f id r b some none value = go (one_text f id) refl
+  where
+    go : (o : Option Text) → one_text f id ≡ o → IsGiven (rows_of f) id b
+    go None e = absurd (none-some b (sym (none e) ∙ some))
+    go (Some t) e = sym (one_text-rows f id) ∙ e ∙ ap Some (same_flag t b (subst (ReadsOne {E = E} ParsesBool t) some (value t e)))
+
+-- an order of the name, the numbers and the option without a value that were found
+pub gives : (name : Text) (rows : List Row) (k : ℕ) (n : Option ℕ) (s : Option Bool) (o : Order) → IsNamed name k n s o → Reads rows (codes "rounds") k → ((e : ℕ) → n ≡ Some e → Reads rows (codes "edges") e)
+    → ((b : Bool) → s ≡ Some b → IsGiven rows (codes "stats") b) → Gives name rows o
+gives name rows k n s (Check r e b) h rounds edges stats =
+    (h.0, subst (Reads rows (codes "rounds")) (sym h.1) rounds, edges (most_of e) h.2, stats b h.3)
+gives name rows k n s (Sequential r) h rounds edges stats = (h.0, subst (Reads rows (codes "rounds")) (sym h.1) rounds)

@@ -7,7 +7,7 @@ use Rattle.scopes.specs.declared.fault.ScopeFault.{ScopeFault}
 use Rattle.scopes.specs.declared.fault.ScopeFault.TheVariants as scope
 use Rattle.cli.specs.Place.{Locates}
 use Rattle.cli.specs.declared.refusal.Refusal.{Refusal}
-use Rattle.cli.specs.declared.refusal.Refusal.TheVariants.{Unread, Unchecked, TooWide, EdgeLimit, Memory}
+use Rattle.cli.specs.declared.refusal.Refusal.TheVariants.{Unread, Unchecked, TooWide, EdgeLimit, Memory, NoWorker, Spent}
 
 -- the offset of a fault of scopes, which want of memory lacks
 abbrev pub offset_in : ScopeFault → Option ℕ
@@ -22,6 +22,8 @@ offset_of (Unchecked fault) = offset_in fault
 offset_of (TooWide wide) = option_map (λ (w : Wide). w.at) wide
 offset_of EdgeLimit = None
 offset_of Memory = None
+offset_of NoWorker = None
+offset_of Spent = None
 
 -- Where the refusal names an offset, the message goes on from the old one with the file, and the line and column of the offset,
 -- or of the text's end where it is past that.

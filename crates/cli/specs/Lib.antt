@@ -1,4 +1,6 @@
 pub mod Limits
+pub mod Counts
+pub mod Counted
 pub mod Line
 pub mod Written
 pub mod Rewritten

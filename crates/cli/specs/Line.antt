@@ -1,9 +1,10 @@
 -- The command line of bebopk, and what words ask for by it.
-use Rattle.std.specs.Prelude.{◌≡◌, ◌≢◌, ◌⊎◌, ⊤, ℕ, List, [], ◌∷◌, Option, Some, true, false, pos, codes}
+use Rattle.std.specs.Prelude.{◌≡◌, ◌≢◌, ◌⊎◌, ⊤, ℕ, Bool, List, [], ◌∷◌, Option, Some, true, false, pos, codes}
 use Rattle.std.specs.Str.Parse.{IsNumeral, digits_value, without_leading_plus}
 use Rattle.clap.specs.Simple.{on_top}
 use Rattle.clap.specs.Words.{App, IsAmong, Row, Rule, Text, app_of, fault_of}
 use Rattle.clap.specs.Words.{first_of, new_app, new_rule, one_of, subcommand_of, with_rule, with_subcommand}
+use Rattle.clap.specs.declared.builder.action.ArgAction.TheVariants.{SetTrue}
 use Rattle.clap.specs.declared.builder.command.Command.{Command}
 use Rattle.clap.specs.declared.builder.command.Command.TheViews.{out-Command as fields_of}
 use Rattle.clap.specs.declared.builder.value_parser.ValueParser.{ValueParser}
@@ -32,12 +33,18 @@ rounds = number_up_to most_rounds (codes "rounds")
 abbrev pub edges : Rule
 edges = record (number_up_to 16777216 (codes "edges")) { defaults = codes "1000000" ∷ [] }
 
+-- an option without a value
+abbrev pub stats : Rule
+stats = record (new_rule (codes "stats")) { long = Some (codes "stats"); action = Some SetTrue }
+
 abbrev pub file : Rule
 file = record (new_rule (codes "file")) { value_names = 1; required = true }
 
--- check [--rounds K] [--edges N] FILE
+-- check [--rounds K] [--edges N] [--stats] FILE
 abbrev pub check : App
-check = with_rule (with_rule (with_rule (new_app (codes "check")) (record rounds { defaults = codes "2" ∷ [] })) edges) file
+check =
+    with_rule (with_rule (with_rule (with_rule (new_app (codes "check")) (record rounds { defaults = codes "2" ∷ [] }))
+    edges) stats) file
 
 -- sequential --rounds K FILE
 abbrev pub sequential : App
@@ -57,15 +64,27 @@ IsBuilt app c = (app_of c ≡ app) × ((fields_of c).has_globals ≡ false)
 abbrev pub Reads : List Row → Text → ℕ → Type 0
 Reads rows id n = (t : Text) × (one_of id rows ≡ Some t) × IsNumeral 10 (without_leading_plus t) × (digits_value 10 (without_leading_plus t) ≡ n)
 
+-- what is found for an option without a value: that it was given, or that it was not
+abbrev pub flag_text : Bool → Text
+flag_text true = codes "true"
+flag_text false = codes "false"
+
+-- The option without a value was given, or it was not.
+abbrev pub IsGiven : List Row → Text → Bool → Type 0
+IsGiven rows id given = one_of id rows ≡ Some (flag_text given)
+
 -- A command of this name, with what was found for its options, is the order.
 abbrev pub Gives : Text → List Row → Order → Type 0
-Gives name rows (Check k n) = (name ≡ codes "check") × Reads rows (codes "rounds") (count_of k) × Reads rows (codes "edges") (most_of n)
+Gives name rows (Check k n s) =
+    (name ≡ codes "check") × Reads rows (codes "rounds") (count_of k) × Reads rows (codes "edges") (most_of n)
+    × IsGiven rows (codes "stats") s
 Gives name rows (Sequential k) = (name ≡ codes "sequential") × Reads rows (codes "rounds") (count_of k)
 
--- A command of this name with these numbers is the order.
-abbrev pub IsNamed : Text → ℕ → Option ℕ → Order → Type 0
-IsNamed name k n (Check rounds edges) = (name ≡ codes "check") × (count_of rounds ≡ k) × (n ≡ Some (most_of edges))
-IsNamed name k n (Sequential rounds) = (name ≡ codes "sequential") × (count_of rounds ≡ k)
+-- A command of this name with these numbers, and this option without a value, is the order.
+abbrev pub IsNamed : Text → ℕ → Option ℕ → Option Bool → Order → Type 0
+IsNamed name k n s (Check rounds edges stats) =
+    (name ≡ codes "check") × (count_of rounds ≡ k) × (n ≡ Some (most_of edges)) × (s ≡ Some stats)
+IsNamed name k n s (Sequential rounds) = (name ≡ codes "sequential") × (count_of rounds ≡ k)
 
 -- What was found for a command is this order on this file.
 abbrev pub Orders : Text × List Row → Order → Text → Type 0

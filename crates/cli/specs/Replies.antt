@@ -1,5 +1,5 @@
 -- What a reply says of a text, by what was asked.
-use Rattle.std.specs.Prelude.{◌≡◌, ℕ, suc, List, Some}
+use Rattle.std.specs.Prelude.{◌≡◌, ◌⊎◌, ℕ, suc, List, Option, Some, None}
 use Rattle.language.specs.Tree.{Tree}
 use Rattle.syntax.specs.InGrammar.{WithinLimits, IsTextOf}
 use Rattle.syntax.specs.Text.{Text}
@@ -11,9 +11,10 @@ use Rattle.cli.specs.Limits.{count_of}
 use Rattle.cli.specs.declared.asked.Order.{Order}
 use Rattle.cli.specs.declared.asked.Order.TheVariants.{Check, Sequential}
 use Rattle.cli.specs.declared.refusal.Refusal.{Refusal}
+use Rattle.cli.specs.declared.refusal.Refusal.TheVariants.{Memory}
 use Rattle.cli.specs.declared.reply.Reply.{Reply}
-use Rattle.cli.specs.Verdict.{Answers, IsOver}
-use Rattle.cli.specs.Refused.{RefusalStands, line_of, status_of}
+use Rattle.cli.specs.Verdict.{Answers}
+use Rattle.cli.specs.Refused.{IsPast, NamesOffset, RefusalStands, line_of, status_of}
 use Rattle.cli.specs.Written.{bytes_of}
 
 -- the text is that of a checked program, the bytes are the printed form of its rewriting for so many rounds, and within the
@@ -29,27 +30,35 @@ pub record IsSequential (text : List ℕ) (rounds : ℕ) (bytes : List ℕ) : Ty
 
 -- the reply with a status of at most 1 is what was asked for
 abbrev pub Replies : List ℕ → Order → List ℕ → ℕ → Type 0
-Replies text (Check rounds edges) bytes status = Answers text (count_of rounds) (most_of edges) bytes status
+Replies text (Check rounds edges stats) bytes status = Answers text (count_of rounds) (most_of edges) stats bytes status
 Replies text (Sequential rounds) bytes status = (status ≡ 0) × IsSequential text (count_of rounds) bytes
 
 -- how many rounds were asked for
 abbrev pub rounds_of : Order → ℕ
-rounds_of (Check rounds edges) = count_of rounds
+rounds_of (Check rounds edges stats) = count_of rounds
 rounds_of (Sequential rounds) = count_of rounds
+
+-- how many path edges a procedure may have, which only a check limits
+abbrev pub limit_of : Order → Option ℕ
+limit_of (Check rounds edges stats) = Some (most_of edges)
+limit_of (Sequential rounds) = None
 
 -- a check was asked for, and some procedure of the text's rewriting has more path edges than its limit
 abbrev pub IsPastLimit : List ℕ → Order → Type 0
-IsPastLimit text (Check rounds edges) = IsOver text (count_of rounds) (most_of edges)
-IsPastLimit text (Sequential rounds) = ⊥
+IsPastLimit text order = IsPast text (rounds_of order) (limit_of order)
 
 -- The reply tells this refusal, and is its line with its status.
 abbrev pub Tells : {A : Type 0} → Refusal → Reply A → Type 0
 Tells why reply = (bytes_of reply ≡ line_of why) × (reply.status ≡ status_of why) × (reply.refusal ≡ Some why)
 
+-- The reply tells this refusal; or its line names an offset, and the reply tells that memory gave out over that.
+abbrev pub TellsOrLacks : {A : Type 0} → Refusal → Reply A → Type 0
+TellsOrLacks why reply = Tells why reply ⊎ (NamesOffset why × Tells Memory reply)
+
 -- Some refusal stands for so many rounds and this limit, and the reply tells it, and is its line with its status.
-abbrev pub RefusesFor : {A : Type 0} → List ℕ → ℕ → Type 0 → Reply A → Type 0
-RefusesFor text rounds Past reply = (why : Refusal) × RefusalStands text rounds Past why × Tells why reply
+abbrev pub RefusesFor : {A : Type 0} → List ℕ → ℕ → Option ℕ → Reply A → Type 0
+RefusesFor text rounds limit reply = (why : Refusal) × RefusalStands text rounds limit why × Tells why reply
 
 -- Some refusal stands for what was asked, and the reply tells it, and is its line with its status.
 abbrev pub Refuses : {A : Type 0} → List ℕ → Order → Reply A → Type 0
-Refuses text order reply = RefusesFor text (rounds_of order) (IsPastLimit text order) reply
+Refuses text order reply = RefusesFor text (rounds_of order) (limit_of order) reply

@@ -6,15 +6,17 @@ use Rattle.syntax.specs.Text.{Text}
 use Rattle.scopes.specs.Checked.{IsChecked}
 use Rattle.round_rewrite.specs.Law.{KeepsTree}
 use Rattle.round_rewrite.specs.Names.{rewritten_tree}
+use Rattle.round_rewrite.specs.Narrow.{IsNarrow}
 
 -- The text is that of a checked program, and `sequential` is the tree of the grammar that the program is rewritten to for so
--- many rounds, which keeps exactly the failing asserts.
+-- many rounds, which is not too wide and keeps exactly the failing asserts.
 pub record IsRewriting (text : List ℕ) (rounds : ℕ) (sequential : Tree) : Type 0 where
   pub tree : Tree
   pub last : ℕ
   pub count : suc last ≡ rounds
   pub of : Text text tree
   pub checked : IsChecked tree
+  pub narrow : IsNarrow last tree
   pub same : sequential ≡ rewritten_tree last tree
   pub grammar : InGrammar sequential
   pub keeps : KeepsTree last tree

@@ -2,7 +2,7 @@
 use Rattle.std.specs.Prelude.{◌≡◌, ◌⊎◌, ◌<◌, ◌≤◌, ℕ, List, Option, codes, length, take}
 use Rattle.std.specs.Io.KnownBytes.{Appends, Consumes, IsAtEnd}
 use Rattle.cli.specs.Refused.{RefusalStands, line_of, memory_line, status_of}
-use Rattle.cli.specs.Replies.{IsPastLimit, Replies, rounds_of}
+use Rattle.cli.specs.Replies.{Replies, limit_of, rounds_of}
 use Rattle.cli.specs.declared.asked.Order.{Order}
 use Rattle.cli.specs.declared.refusal.Refusal.{Refusal}
 
@@ -40,7 +40,7 @@ file_line = codes "refused: file\n"
 abbrev pub IsReply : List ℕ → Order → List ℕ → ℕ → Type 0
 IsReply text order bytes status =
     ((status ≤ 1) × Replies text order bytes status)
-    ⊎ ((why : Refusal) × RefusalStands text (rounds_of order) (IsPastLimit text order) why × (bytes ≡ line_of why)
+    ⊎ ((why : Refusal) × RefusalStands text (rounds_of order) (limit_of order) why × (bytes ≡ line_of why)
     × (status ≡ status_of why))
 
 -- These bytes with this status say that the file can't be read, or that memory gave out over it.

@@ -1,5 +1,5 @@
 -- What a verdict says of a text.
-use Rattle.std.specs.Prelude.{◌≡◌, ℕ, suc, List, ◌⊎◌, codes}
+use Rattle.std.specs.Prelude.{◌≡◌, ℕ, suc, Bool, true, false, List, [], ◌++◌, ◌⊎◌, codes}
 use Rattle.language.specs.Tree.{Tree}
 use Rattle.language.specs.Resolve.{meaning_of}
 use Rattle.language.specs.Rounds.{Unsafe}
@@ -8,8 +8,7 @@ use Rattle.syntax.specs.Text.{Text}
 use Rattle.scopes.specs.Checked.{IsChecked}
 use Rattle.round_rewrite.specs.Names.{rewritten_tree}
 use Rattle.summaries.specs.Tabulated.{HasMoreEdges}
-use Rattle.cli.specs.declared.judge.Verdict.{Verdict}
-use Rattle.cli.specs.declared.judge.Verdict.TheVariants as verdict
+use Rattle.cli.specs.Counts.{TellCounts}
 
 -- Each procedure of the program's rewriting for so many rounds has at most `edges` path edges.
 abbrev pub IsWithinLimit : ℕ → ℕ → Tree → Type 0
@@ -23,16 +22,24 @@ IsOverLimit rounds edges t = (last : ℕ) × (suc last ≡ rounds) × ((q : ℕ)
 abbrev pub IsOver : List ℕ → ℕ → ℕ → Type 0
 IsOver text rounds edges = (t : Tree) × Text text t × IsChecked t × IsOverLimit rounds edges t
 
--- The text is that of a checked program within the limit of path edges, of which some run of at most so many rounds fails an
--- assert, or none does.
-abbrev pub IsVerdict : List ℕ → ℕ → ℕ → Verdict → Type 0
-IsVerdict text rounds edges verdict.Safe = (t : Tree) × Text text t × IsChecked t × IsWithinLimit rounds edges t × ¬ Unsafe (meaning_of t) rounds
-IsVerdict text rounds edges verdict.Unsafe = (t : Tree) × Text text t × IsChecked t × IsWithinLimit rounds edges t × Unsafe (meaning_of t) rounds
+-- the text is that of this tree, in which no fault of scopes stands
+abbrev pub IsProgramOf : List ℕ → Tree → Type 0
+IsProgramOf text t = Text text t × IsChecked t
 
--- The text is that of a checked program within the limit of path edges, and the reply is `unsafe` with status 1 where some run
--- of at most so many rounds fails an assert, `safe` with status 0 where none does.
-abbrev pub Answers : List ℕ → ℕ → ℕ → List ℕ → ℕ → Type 0
-Answers text rounds edges bytes status =
-    (t : Tree) × Text text t × IsChecked t × IsWithinLimit rounds edges t
-    × (((bytes ≡ codes "unsafe\n") × (status ≡ 1) × Unsafe (meaning_of t) rounds)
-    ⊎ ((bytes ≡ codes "safe\n") × (status ≡ 0) × ¬ Unsafe (meaning_of t) rounds))
+-- what comes behind a verdict: nothing, or, where it is asked for, what is counted of each procedure
+abbrev pub Follows : Bool → ℕ → Tree → List ℕ → Type 0
+Follows false rounds t lines = lines ≡ []
+Follows true rounds t lines = TellCounts rounds t lines
+
+-- The reply is `unsafe` with status 1 where some run of at most so many rounds fails an assert, `safe` with status 0
+-- where none does, and behind it comes what is asked for.
+abbrev pub AnswersOn : Tree → ℕ → Bool → List ℕ → ℕ → Type 0
+AnswersOn t rounds stats bytes status =
+    (lines : List ℕ) × Follows stats rounds t lines
+    × (((bytes ≡ codes "unsafe\n" ++ lines) × (status ≡ 1) × Unsafe (meaning_of t) rounds)
+    ⊎ ((bytes ≡ codes "safe\n" ++ lines) × (status ≡ 0) × ¬ Unsafe (meaning_of t) rounds))
+
+-- The text is that of a checked program within the limit of path edges, and the reply is the answer on it.
+abbrev pub Answers : List ℕ → ℕ → ℕ → Bool → List ℕ → ℕ → Type 0
+Answers text rounds edges stats bytes status =
+    (t : Tree) × Text text t × IsChecked t × IsWithinLimit rounds edges t × AnswersOn t rounds stats bytes status

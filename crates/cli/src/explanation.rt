@@ -141,5 +141,13 @@ pub fn explain<A: Allocator>(
         Refusal::TooWide(wide) => too_wide(message, path, text, order, *wide),
         Refusal::EdgeLimit => edge_limit(message, path, order),
         Refusal::Memory => no_memory(message),
+        Refusal::NoWorker => write!(
+            message,
+            "{path}: the system refused a thread for a procedure\n"
+        ),
+        Refusal::Spent => write!(
+            message,
+            "{path}: the worker of a procedure has used up its calls\n"
+        ),
     }
 }

@@ -9,7 +9,7 @@ Statuses:
   0  safe, or the sequential program is printed; help and --version too
   1  unsafe
   2  the text, the file or the command line is refused
-  3  no verdict: a limit or memory gave out, or the reply could not be written
+  3  no verdict: a limit, memory or threads gave out, or the reply could not be written
 Standard output has the reply alone; standard error says where and why a text is refused.
 
 Example: bebopk check --rounds 2 examples/driver_two_rounds.bp";
@@ -22,7 +22,14 @@ Replies and statuses:
   refused: ..             2  the text, the file or the command line is at fault
   no verdict: edge limit  3  some procedure has more than N path edges: try a greater N
   no verdict: memory      3  memory gave out
+  no verdict: no worker   3  the system refused a thread: each procedure has one
+  no verdict: spent       3  a worker used up its 2^56 calls
 Standard error says where and why a text is refused.
+
+With --stats a verdict is followed by a line for each procedure of the sequential program:
+  NAME entries E pairs P taken T
+E valuations enter it, it has P pairs of an entry and what is left then, and T messages
+are due for it. main__ is the first; the others are those of the text in order.
 
 Limits: a text has at most 65536 bytes, 31 procedures, 8 threads and 1000 statements.
 In the sequential program for K rounds, which has 2K - 1 places for each global and 4 more,

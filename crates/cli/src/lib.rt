@@ -3,6 +3,8 @@
 
 mod answers;
 mod asked;
+mod checking;
+mod counts;
 mod explanation;
 mod help;
 mod judge;
@@ -18,7 +20,7 @@ mod serving;
 mod sink;
 mod source;
 
-pub use answers::{answer, no_memory};
+pub use answers::{answer, answer_with, no_memory};
 pub use asked::{LineFault, Order};
 pub use explanation::explain;
 pub use line::order;

@@ -8,7 +8,7 @@ use crate::asked::{LineFault, Order};
 use crate::help::{BEBOPK, CHECK, SEQUENTIAL, VERSION};
 use clap::builder::ValueParser;
 use clap::error::ErrorKind;
-use clap::{Arg, ArgMatches, Command, Error, value_parser};
+use clap::{Arg, ArgAction, ArgMatches, Command, Error, value_parser};
 use round_rewrite::{MOST_ROUNDS, Rounds};
 use std::alloc::{AllocError, Global};
 use summaries::EdgeLimit;
@@ -61,6 +61,17 @@ fn edges<'a>(alloc: Global) -> Arg<'a>
     option(alloc, "edges", "N", help, parser).default_value("1000000")
 }
 
+/// The option `--stats`.
+fn stats<'a>(alloc: Global) -> Arg<'a>
+    ensures rule { rule_of result ≡ line.stats }
+    ensures local { result.global ≡ false }
+{
+    Arg::new(alloc, "stats")
+        .long("stats")
+        .action(ArgAction::SetTrue)
+        .help("Also counts what was found of each procedure")
+}
+
 /// The command `check`.
 fn check<'a>(alloc: Global) -> Result<Command<'a>, AllocError>
     ensures { IfOk result (line.IsBuilt line.check) }
@@ -70,6 +81,7 @@ fn check<'a>(alloc: Global) -> Result<Command<'a>, AllocError>
         .after_help(CHECK)
         .arg(rounds(alloc).default_value("2"))?
         .arg(edges(alloc))?
+        .arg(stats(alloc))?
         .arg(file(alloc))
 }
 
@@ -115,17 +127,22 @@ fn fault_of(alloc: Global, error: &Error) -> LineFault
     }
 }
 
-/// The order of this name with these numbers; `None` only of those that the command line lets nobody give.
-fn order_of(name: &str, rounds: u8, edges: Option<u32>) -> Option<Order>
-    ensures { IfSome result (λ order. line.IsNamed name.now rounds edges order) }
+/// The order of this name with these numbers, and with `--stats` or without; `None` only of those that the command line lets
+/// nobody give.
+fn order_of(name: &str, rounds: u8, edges: Option<u32>, stats: Option<bool>) -> Option<Order>
+    ensures { IfSome result (λ order. line.IsNamed name.now rounds edges stats order) }
 {
     let rounds = Rounds::new(rounds)?;
-    match (name, edges) {
-        ("check", Some(edges)) => {
+    match (name, edges, stats) {
+        ("check", Some(edges), Some(stats)) => {
             let edges = EdgeLimit::new(edges)?;
-            Some(Order::Check { rounds, edges })
+            Some(Order::Check {
+                rounds,
+                edges,
+                stats,
+            })
         }
-        ("sequential", None) => Some(Order::Sequential { rounds }),
+        ("sequential", None, None) => Some(Order::Sequential { rounds }),
         _ => None,
     }
 }
@@ -138,7 +155,9 @@ fn asked<'a>(matches: &ArgMatches<'a>) -> Option<(Order, &'a str)>
     let (name, found) = matches.subcommand()?;
     let rounds = found.get_one::<u8>("rounds")?;
     let file = found.get_str("file")?;
-    let order = order_of(name, rounds, found.get_one::<u32>("edges"))?;
+    let edges = found.get_one::<u32>("edges");
+    let stats = found.get_one::<bool>("stats");
+    let order = order_of(name, rounds, edges, stats)?;
     Some((order, file))
 }
 

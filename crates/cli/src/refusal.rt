@@ -17,4 +17,8 @@ pub enum Refusal {
     EdgeLimit,
     /// A growth was refused.
     Memory,
+    /// A worker's thread was refused.
+    NoWorker,
+    /// A worker has used up its calls.
+    Spent,
 }

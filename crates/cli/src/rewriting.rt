@@ -1,16 +1,15 @@
 //! The sequential program of a text: what every order begins with.
 
-ghost use Rattle.std.specs.Prelude.{IfOk, IfErr};
+ghost use Rattle.std.specs.Prelude.{IfOk, IfErr, None};
 ghost use Rattle.round_rewrite.specs.Programs.{sequential_tree};
 ghost use Rattle.cli.specs.Limits.{count_of};
 ghost use Rattle.cli.specs.Refused.{RefusalStands};
 ghost use Rattle.cli.specs.Rewritten.{IsRewriting};
 
+use crate::checking::checked;
 use crate::refusal::Refusal;
 use round_rewrite::{RewriteFault, Rounds, Sequential, rewrite, too_wide};
-use scopes::check;
 use std::alloc::Allocator;
-use syntax::read;
 
 /// The sequential program that a text is rewritten to for so many rounds.
 pub(crate) fn rewritten<A: Allocator + Copy>(
@@ -19,16 +18,9 @@ pub(crate) fn rewritten<A: Allocator + Copy>(
     rounds: Rounds,
 ) -> Result<Sequential<A>, Refusal>
     ensures rewriting { IfOk result (λ s. IsRewriting text.now (count_of rounds) (sequential_tree s)) }
-    ensures stands { IfErr result (RefusalStands text.now (count_of rounds) ⊥) }
+    ensures stands { IfErr result (RefusalStands text.now (count_of rounds) None) }
 {
-    let program = match read(alloc, text) {
-        Ok(program) => program,
-        Err(fault) => return Err(Refusal::Unread(fault)),
-    };
-    let checked = match check(alloc, program) {
-        Ok(checked) => checked,
-        Err(fault) => return Err(Refusal::Unchecked(fault)),
-    };
+    let checked = checked(alloc, text)?;
     match rewrite(&alloc, &checked, rounds) {
         Ok(sequential) => Ok(sequential),
         Err(RewriteFault::TooWide) => Err(Refusal::TooWide(too_wide(&alloc, &checked, rounds))),

@@ -11,6 +11,8 @@ use crate::sink::{put, say};
 use std::fs;
 use std::io::Write;
 use std::rt::Files;
+use std::sync::Wait;
+use std::thread::Threads;
 
 /// Answers words that give no order, and gives the status: help on `writer` with 0; `refused: line` with 2, and the reason on
 /// `log`; for want of memory 3. Where a write fails, the status is 3.
@@ -29,7 +31,7 @@ pub fn decline<W: Write, L: Write>(fault: &LineFault, writer: &mut W, log: &mut 
 
 /// The program: does what the words of the command line ask for, the program's own name first. The reply to the file that they
 /// name goes to `writer`, and why there is no verdict to `log`; the status is that of `serve` or of `decline`.
-pub fn run<X: Files + AllocGlobal, W: Write, L: Write>(
+pub fn run<X: Files + AllocGlobal + Wait + Threads + Sync, W: Write, L: Write>(
     rt: &X,
     words: &[String],
     writer: &mut W,

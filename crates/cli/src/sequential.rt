@@ -1,6 +1,6 @@
 //! The rewritten program of a text, printed.
 
-ghost use Rattle.std.specs.Prelude.{IfOk, IfErr};
+ghost use Rattle.std.specs.Prelude.{IfOk, IfErr, None};
 ghost use Rattle.std.specs.String.{string_bytes};
 ghost use Rattle.cli.specs.Limits.{count_of};
 ghost use Rattle.cli.specs.Refused.{RefusalStands};
@@ -9,20 +9,20 @@ ghost use Rattle.cli.specs.Replies.{IsSequential};
 use crate::refusal::Refusal;
 use crate::rewriting::rewritten;
 use round_rewrite::Rounds;
+use std::alloc::Allocator;
 use syntax::print;
 
 /// The printed form of the sequential program that a text is rewritten to for so many rounds.
-pub(crate) fn sequential<R: Alloc>(
-    rt: &R,
+pub(crate) fn sequential<A: Allocator + Copy>(
+    alloc: A,
     text: &[u8],
     rounds: Rounds,
-) -> Result<String<R::A>, Refusal>
+) -> Result<String<A>, Refusal>
     ensures printed { IfOk result (λ s. IsSequential text.now (count_of rounds) (string_bytes s)) }
-    ensures stands { IfErr result (RefusalStands text.now (count_of rounds) ⊥) }
+    ensures stands { IfErr result (RefusalStands text.now (count_of rounds) None) }
 {
-    let alloc = rt.alloc();
-    let sequential = rewritten(&alloc, text, rounds)?;
-    let Ok(printed) = print(rt.alloc(), sequential.program()) else {
+    let sequential = rewritten(alloc, text, rounds)?;
+    let Ok(printed) = print(alloc, sequential.program()) else {
         return Err(Refusal::Memory);
     };
     Ok(printed)

@@ -12,6 +12,8 @@ use crate::refusal::Refusal;
 use crate::sink::{put, say};
 use crate::source::text_of;
 use std::io::{self, ErrorKind, Read, Write};
+use std::sync::Wait;
+use std::thread::Threads;
 
 /// What is told where memory gave out.
 const NO_MEMORY: &str = "bebopk: out of memory\n";
@@ -63,7 +65,7 @@ pub(crate) fn unread<W: Write, L: Write>(
 
 /// `serve`, with the name of what is read, and with a stream to which is told why there is no verdict, as a compiler does:
 /// what `explain` says of a refused text, and the system's reason where reading fails. Writes to it that fail change nothing.
-pub fn serve_telling<X: Alloc, R: Read, W: Write, L: Write>(
+pub fn serve_telling<X: Alloc + Wait + Threads + Sync, R: Read, W: Write, L: Write>(
     rt: &X,
     path: &str,
     reader: &mut R,
@@ -71,6 +73,8 @@ pub fn serve_telling<X: Alloc, R: Read, W: Write, L: Write>(
     writer: &mut W,
     log: &mut L,
 ) -> u8
+where
+    X::A: Copy + Send + Sync,
     ensures serves { Serves order (R.remaining reader.old) (R.remaining reader.new)
         (W.contents writer.old) (W.contents writer.new) result }
     ensures answers { result ≤ 1 → Answered order (R.remaining reader.old) (R.remaining reader.new)
@@ -94,12 +98,14 @@ pub fn serve_telling<X: Alloc, R: Read, W: Write, L: Write>(
 /// it writes the reply for want of memory and gives 3; after a failed read it writes the line `refused: file` and gives 2; after
 /// a failed write it gives 3. A read or a write that a signal interrupts is made again. Where it gives 0 or 1, it read all that
 /// the reader had, and wrote just the bytes that `answer` promises for that, once.
-pub fn serve<X: Alloc, R: Read, W: Write>(
+pub fn serve<X: Alloc + Wait + Threads + Sync, R: Read, W: Write>(
     rt: &X,
     reader: &mut R,
     writer: &mut W,
     order: Order,
 ) -> u8
+where
+    X::A: Copy + Send + Sync,
     ensures serves { Serves order (R.remaining reader.old) (R.remaining reader.new)
         (W.contents writer.old) (W.contents writer.new) result }
     ensures answers { result ≤ 1 → Answered order (R.remaining reader.old) (R.remaining reader.new)

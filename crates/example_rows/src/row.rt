@@ -4,9 +4,15 @@ use crate::words::asked;
 use cli::{Reply, answer};
 use std::alloc::{AllocError, Allocator};
 use std::io::{self, Write};
+use std::sync::Wait;
+use std::thread::Threads;
 
 /// Takes a line: one that begins a text, one that asks about it, or one of the text.
-pub fn taken<R: Print + AllocGlobal>(rt: &R, line: &str, text: &mut Vec<u8>) -> io::Result<()> {
+pub fn taken<R: Print + AllocGlobal + Wait + Threads + Sync>(
+    rt: &R,
+    line: &str,
+    text: &mut Vec<u8>,
+) -> io::Result<()> {
     if line.starts_with("== ") {
         text.clear();
         return Ok(());
@@ -24,7 +30,11 @@ fn put(text: &mut Vec<u8>, line: &str) -> Result<(), AllocError> {
 }
 
 /// Prints a line that asks, and under it the reply and the status.
-fn answered<R: Print + AllocGlobal>(rt: &R, line: &str, text: &[u8]) -> io::Result<()> {
+fn answered<R: Print + AllocGlobal + Wait + Threads + Sync>(
+    rt: &R,
+    line: &str,
+    text: &[u8],
+) -> io::Result<()> {
     println!(rt; "{line}")?;
     match asked(rt.alloc(), line) {
         Ok((order, _file)) => print_reply(rt, &answer(rt, text, order)),

@@ -5,16 +5,22 @@ use crate::kinds::{KINDS, kind_of};
 use crate::memory::served;
 use cli::Order;
 use std::rt::Files;
+use std::sync::Wait;
+use std::thread::Threads;
 use std::{fs, io, str};
 
 /// Which kind of line is written for a text.
-fn kind_for<R: AllocGlobal>(rt: &R, text: &[u8], order: Order) -> &'static str {
+fn kind_for<R: AllocGlobal + Wait + Threads + Sync>(
+    rt: &R,
+    text: &[u8],
+    order: Order,
+) -> &'static str {
     let (status, written) = served(rt, rt.alloc(), text, order);
     kind_of(str::from_utf8(written.as_slice()).unwrap_or(""), status)
 }
 
 /// The kinds of what is written for so many broken texts, made from these files in turn.
-fn kinds_of<R: Files + AllocGlobal>(
+fn kinds_of<R: Files + AllocGlobal + Wait + Threads + Sync>(
     rt: &R,
     files: &str,
     count: usize,
@@ -37,7 +43,7 @@ fn kinds_of<R: Files + AllocGlobal>(
 }
 
 /// Prints how many lines of each kind are written for broken texts.
-pub fn count<R: Files + Print + AllocGlobal>(
+pub fn count<R: Files + Print + AllocGlobal + Wait + Threads + Sync>(
     rt: &R,
     files: &str,
     count: usize,

@@ -9,6 +9,8 @@ use std::alloc::{AllocError, Global};
 use std::fs;
 use std::io::{self, Write};
 use std::rt::Files;
+use std::sync::Wait;
+use std::thread::Threads;
 
 /// One byte more than a text may have.
 const LONG: usize = 65_537;
@@ -28,7 +30,10 @@ fn padded(alloc: Global, text: &str, length: usize) -> Result<Vec<u8>, AllocErro
 }
 
 /// Prints what comes of a case.
-pub fn answered<R: Files + Print + AllocGlobal>(rt: &R, line: &str) -> io::Result<()> {
+pub fn answered<R: Files + Print + AllocGlobal + Wait + Threads + Sync>(
+    rt: &R,
+    line: &str,
+) -> io::Result<()> {
     if line.starts_with('#') {
         return Ok(());
     }
@@ -59,7 +64,10 @@ fn split(alloc: Global, line: &str) -> Result<Vec<String>, AllocError> {
 }
 
 /// Prints what the program does for words.
-fn print_run<R: Files + Print + AllocGlobal>(rt: &R, words: &[String]) -> io::Result<()> {
+fn print_run<R: Files + Print + AllocGlobal + Wait + Threads + Sync>(
+    rt: &R,
+    words: &[String],
+) -> io::Result<()> {
     let mut written = Vec::new(rt.alloc());
     let mut log = Vec::new(rt.alloc());
     let status = run(rt, words, &mut written, &mut log);
@@ -68,7 +76,7 @@ fn print_run<R: Files + Print + AllocGlobal>(rt: &R, words: &[String]) -> io::Re
 }
 
 /// Prints what comes of a text, asked in one of the ways of the table in `main.rt`.
-fn to_text<R: Files + Print + AllocGlobal>(
+fn to_text<R: Files + Print + AllocGlobal + Wait + Threads + Sync>(
     rt: &R,
     how: &str,
     text: &str,
@@ -97,13 +105,17 @@ fn to_text<R: Files + Print + AllocGlobal>(
 }
 
 /// Prints what `serve` does from memory to memory.
-fn print_served<R: Print + AllocGlobal>(rt: &R, text: &[u8], order: Order) -> io::Result<()> {
+fn print_served<R: Print + AllocGlobal + Wait + Threads + Sync>(
+    rt: &R,
+    text: &[u8],
+    order: Order,
+) -> io::Result<()> {
     let (status, written) = served(rt, rt.alloc(), text, order);
     print_reply(rt, status, written.as_slice())
 }
 
 /// Prints what `serve` does with a reader and a writer of these manners.
-fn print_streamed<R: Print + AllocGlobal>(
+fn print_streamed<R: Print + AllocGlobal + Wait + Threads + Sync>(
     rt: &R,
     text: &str,
     order: Order,

@@ -5,12 +5,19 @@ use crate::memory::served;
 use cli::Order;
 use scarce::Scarce;
 use std::io;
+use std::sync::Wait;
+use std::thread::Threads;
 
 /// More allocations than any case makes.
 const MOST: u64 = 100_000;
 
 /// Whether each refused allocation leaves the reply or leads to the one for want of memory, and some number meets none.
-fn is_kept<R: AllocGlobal>(rt: &R, text: &[u8], order: Order, whole: &(u8, Vec<u8>)) -> bool {
+fn is_kept<R: AllocGlobal + Wait + Threads + Sync>(
+    rt: &R,
+    text: &[u8],
+    order: Order,
+    whole: &(u8, Vec<u8>),
+) -> bool {
     for nth in 1..=MOST {
         let scarce = Scarce::refusing(rt.alloc(), nth);
         let reply = served(&(rt, &scarce), rt.alloc(), text, order);
@@ -26,7 +33,11 @@ fn is_kept<R: AllocGlobal>(rt: &R, text: &[u8], order: Order, whole: &(u8, Vec<u
 }
 
 /// Prints the reply without refusal.
-pub fn in_turn<R: Print + AllocGlobal>(rt: &R, text: &[u8], order: Order) -> io::Result<()> {
+pub fn in_turn<R: Print + AllocGlobal + Wait + Threads + Sync>(
+    rt: &R,
+    text: &[u8],
+    order: Order,
+) -> io::Result<()> {
     let reply = served(rt, rt.alloc(), text, order);
     if is_kept(rt, text, order, &reply) {
         print_reply(rt, reply.0, reply.1.as_slice())

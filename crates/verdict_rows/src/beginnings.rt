@@ -3,6 +3,8 @@
 use cli::{Order, Reply, answer};
 use std::alloc::Global;
 use std::io;
+use std::sync::Wait;
+use std::thread::Threads;
 
 /// What a reply says, its offset left out.
 #[derive(Clone, Copy, Debug, PartialEq, Eq)]
@@ -25,7 +27,11 @@ fn kind_of(reply: &Reply<Global>) -> Kind {
 }
 
 /// Prints for how many beginnings in turn, from the empty one on, the answer says the same.
-pub fn beginnings<R: Print + AllocGlobal>(rt: &R, text: &[u8], order: Order) -> io::Result<()> {
+pub fn beginnings<R: Print + AllocGlobal + Wait + Threads + Sync>(
+    rt: &R,
+    text: &[u8],
+    order: Order,
+) -> io::Result<()> {
     let mut kind = Kind::Other;
     for length in 0..text.len() {
         let found = kind_of(&answer(rt, &text[..length], order));

@@ -3,14 +3,20 @@
 use crate::beginnings::beginnings;
 use crate::message::{print_told, print_told_without};
 use crate::refused::{ALL, in_turn};
+use crate::schedules::schedules;
 use crate::text::bytes_of;
 use crate::words::{asked, print_fault, print_order};
 use cli::{Order, Reply, answer};
 use std::alloc::Allocator;
 use std::io::{self, Write};
+use std::sync::Wait;
+use std::thread::Threads;
 
 /// Prints the answer to a case.
-pub fn answered<R: Print + AllocGlobal>(rt: &R, line: &str) -> io::Result<()> {
+pub fn answered<R: Print + AllocGlobal + Wait + Threads + Sync>(
+    rt: &R,
+    line: &str,
+) -> io::Result<()> {
     if line.is_empty() || line.starts_with('#') {
         return Ok(());
     }
@@ -21,7 +27,11 @@ pub fn answered<R: Print + AllocGlobal>(rt: &R, line: &str) -> io::Result<()> {
 }
 
 /// Prints the answer to words, with how they are to be asked in front, and a text.
-fn to_text<R: Print + AllocGlobal>(rt: &R, words: &str, text: &str) -> io::Result<()> {
+fn to_text<R: Print + AllocGlobal + Wait + Threads + Sync>(
+    rt: &R,
+    words: &str,
+    text: &str,
+) -> io::Result<()> {
     let (how, words) = words.split_once(": ").unwrap_or(("", words));
     let text = bytes_of(rt.alloc(), text)?;
     match asked(rt.alloc(), words) {
@@ -37,7 +47,7 @@ fn to_text<R: Print + AllocGlobal>(rt: &R, words: &str, text: &str) -> io::Resul
 }
 
 /// Prints the answer to an order, asked in one of the ways of the table in `main.rt`.
-fn print_how<R: Print + AllocGlobal>(
+fn print_how<R: Print + AllocGlobal + Wait + Threads + Sync>(
     rt: &R,
     how: &str,
     text: &[u8],
@@ -46,6 +56,7 @@ fn print_how<R: Print + AllocGlobal>(
     match how.split_once(" allocation") {
         Some((count, _)) => in_turn(rt, count.parse::<u64>().unwrap_or(ALL), text, order),
         None if how == "each beginning" => beginnings(rt, text, order),
+        None if how == "each schedule" => schedules(rt, text, order),
         None if how == "status" => println!(rt; "{}", answer(rt, text, order).status),
         None => print_reply(rt, &answer(rt, text, order)),
     }

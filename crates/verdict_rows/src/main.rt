@@ -7,6 +7,7 @@
 //! | `status: WORDS \| TEXT` | the status alone |
 //! | `each beginning: WORDS \| TEXT` | the replies to its beginnings, the lengths of one reply in a row together |
 //! | `each allocation: WORDS \| TEXT` | the reply, where with allocation N refused, for each N, it is that one or `no verdict: memory` |
+//! | `each schedule: WORDS \| TEXT` | the reply, where it is the same 100 times, and with each of the first eight workers in turn kept back |
 //! | `200 allocations: WORDS \| TEXT` | the same for the first so many |
 //! | `message: WORDS \| TEXT` | the reply, and what standard error tells of it, where each allocation refused leaves that or an error |
 //! | `message without memory: WORDS \| TEXT` | the same, where the first allocation of the answer is refused |
@@ -18,6 +19,7 @@ mod beginnings;
 mod case;
 mod message;
 mod refused;
+mod schedules;
 mod text;
 mod words;
 

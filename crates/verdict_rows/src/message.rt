@@ -6,6 +6,8 @@ use cli::{Order, Refusal, answer, explain};
 use scarce::Scarce;
 use std::alloc::Global;
 use std::io;
+use std::sync::Wait;
+use std::thread::Threads;
 
 /// More allocations than any message makes.
 const MOST: u64 = 1_000;
@@ -52,7 +54,7 @@ fn print_message<R: Print + AllocGlobal>(
 }
 
 /// Prints the reply to a text and what standard error tells of it.
-pub fn print_told<R: Print + AllocGlobal>(
+pub fn print_told<R: Print + AllocGlobal + Wait + Threads + Sync>(
     rt: &R,
     file: &str,
     text: &[u8],
@@ -67,14 +69,14 @@ pub fn print_told<R: Print + AllocGlobal>(
 }
 
 /// Prints the same where the first allocation of the answer is refused.
-pub fn print_told_without<R: Print + AllocGlobal>(
+pub fn print_told_without<R: Print + AllocGlobal + Wait + Threads + Sync>(
     rt: &R,
     file: &str,
     text: &[u8],
     order: Order,
 ) -> io::Result<()> {
     let scarce = Scarce::refusing(rt.alloc(), 1);
-    let reply = answer_without(&scarce, text, order);
+    let reply = answer_without(rt, &scarce, text, order);
     print_reply(rt, &reply)?;
     match &reply.refusal {
         Some(refusal) => print_message(rt, file, text, order, refusal),

@@ -5,29 +5,39 @@ use cli::{Order, Reply, answer};
 use scarce::Scarce;
 use std::alloc::Global;
 use std::io;
+use std::sync::Wait;
+use std::thread::Threads;
 
 /// More allocations than any case makes.
 pub const ALL: u64 = 100_000;
 
-/// A runtime that has nothing but a scarce allocator.
+/// A runtime that has threads, and a scarce allocator in place of its own.
 #[derive(Drop)]
-struct Refusing<'a>(&'a Scarce<Global>);
+struct Refusing<'a, R> {
+    rt: &'a R,
+    scarce: &'a Scarce<Global>,
+}
 
-impl<'a> Alloc for Refusing<'a> {
+impl<'a, R> Alloc for Refusing<'a, R> {
     type A = &'a Scarce<Global>;
 
     fn alloc(&self) -> &'a Scarce<Global> {
-        self.0
+        self.scarce
     }
 }
 
+impl<R: Wait> Wait for Refusing<'_, R> {}
+
+impl<R: Threads> Threads for Refusing<'_, R> {}
+
 /// The answer to a text where the memory is scarce.
-pub fn answer_without<'a>(
+pub fn answer_without<'a, R: Wait + Threads + Sync>(
+    rt: &'a R,
     scarce: &'a Scarce<Global>,
     text: &[u8],
     order: Order,
 ) -> Reply<&'a Scarce<Global>> {
-    answer(&Refusing(scarce), text, order)
+    answer(&Refusing { rt, scarce }, text, order)
 }
 
 /// What came of one allocation refused.
@@ -42,9 +52,15 @@ enum Came {
 }
 
 /// What comes where the allocation of this number is refused.
-fn came_of(alloc: Global, nth: u64, text: &[u8], order: Order, whole: &[u8]) -> Came {
-    let scarce = Scarce::refusing(alloc, nth);
-    let reply = answer_without(&scarce, text, order);
+fn came_of<R: AllocGlobal + Wait + Threads + Sync>(
+    rt: &R,
+    nth: u64,
+    text: &[u8],
+    order: Order,
+    whole: &[u8],
+) -> Came {
+    let scarce = Scarce::refusing(rt.alloc(), nth);
+    let reply = answer_without(rt, &scarce, text, order);
     let bytes = reply.bytes.as_slice();
     match (bytes == whole, scarce.refused()) {
         (true, false) => Came::Whole,
@@ -55,7 +71,7 @@ fn came_of(alloc: Global, nth: u64, text: &[u8], order: Order, whole: &[u8]) -> 
 }
 
 /// Prints the reply without refusal, where each allocation up to `most` that is refused leaves it or leads to `no verdict: memory`.
-pub fn in_turn<R: Print + AllocGlobal>(
+pub fn in_turn<R: Print + AllocGlobal + Wait + Threads + Sync>(
     rt: &R,
     most: u64,
     text: &[u8],
@@ -64,7 +80,7 @@ pub fn in_turn<R: Print + AllocGlobal>(
     let reply = answer(rt, text, order);
     let mut came = Came::Either;
     for nth in 1..=most {
-        came = came_of(rt.alloc(), nth, text, order, reply.bytes.as_slice());
+        came = came_of(rt, nth, text, order, reply.bytes.as_slice());
         if came != Came::Either {
             break;
         }

@@ -25,10 +25,20 @@ fn split(alloc: Global, line: &str) -> Result<Vec<String>, AllocError> {
 /// Prints the order that words give.
 pub fn print_order<R: Print + AllocGlobal>(rt: &R, line: &str) -> io::Result<()> {
     match asked(rt.alloc(), line) {
-        Ok((Order::Check { rounds, edges }, file)) => println!(rt;
-            "check {} {} {file}",
+        Ok(
+            (
+                Order::Check {
+                    rounds,
+                    edges,
+                    stats,
+                },
+                file,
+            ),
+        ) => println!(rt;
+            "check {} {}{} {file}",
             rounds.count(),
-            edges.edges()
+            edges.edges(),
+            if stats { " with counts" } else { "" }
         ),
         Ok((Order::Sequential { rounds }, file)) => println!(rt;
             "sequential {} {file}",

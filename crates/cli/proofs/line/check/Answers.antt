@@ -15,11 +15,14 @@ returns c =
     let here = ap (λ (x : Arg). x.global) c.default_value.ensures ∙ c.rounds.ensures.local in
     let plain = ap app_of_fields c.after_help.ensures ∙ ap app_of_fields c.about.ensures ∙ c.new.ensures.app in
     let local = ap (λ f. f.has_globals) c.after_help.ensures ∙ ap (λ f. f.has_globals) c.about.ensures ∙ c.new.ensures.local in
-    IfOk-weaker c.arg-3.result _ _ (λ r adds. (
+    let with_edges = c.in_ok-arg-2.ensures.shape c.edges.ensures.local ∙
+    ap₂ with_rule (c.in_ok-arg.ensures.shape here ∙ ap₂ with_rule plain two) c.edges.ensures.rule in
+    let edges_local = c.in_ok-arg-2.ensures.globals ∙
+    ap₂ ◌||◌ (c.in_ok-arg.ensures.globals ∙ ap₂ ◌||◌ local here) c.edges.ensures.local in
+    IfOk-weaker c.arg-4.result _ _ (λ r adds. (
       adds.shape c.file.ensures.local ∙
-          ap₂ with_rule (c.in_ok-arg-2.ensures.shape c.edges.ensures.local ∙
-          ap₂ with_rule (c.in_ok-arg.ensures.shape here ∙ ap₂ with_rule plain two) c.edges.ensures.rule)
-          c.file.ensures.rule,
-      adds.globals ∙ ap₂ ◌||◌ (c.in_ok-arg-2.ensures.globals ∙
-          ap₂ ◌||◌ (c.in_ok-arg.ensures.globals ∙ ap₂ ◌||◌ local here) c.edges.ensures.local) c.file.ensures.local,
-    )) c.arg-3.ensures
+          ap₂ with_rule (c.in_ok-arg-3.ensures.shape c.stats.ensures.local ∙
+          ap₂ with_rule with_edges c.stats.ensures.rule) c.file.ensures.rule,
+      adds.globals ∙
+          ap₂ ◌||◌ (c.in_ok-arg-3.ensures.globals ∙ ap₂ ◌||◌ edges_local c.stats.ensures.local) c.file.ensures.local,
+    )) c.arg-4.ensures

@@ -1,53 +1,67 @@
 -- A text that is rewritten is that of a checked program; where the rewriting fails, it is too wide.
-use Rattle.std.proofs.Common.{◌≡◌, ◌∙◌, ℕ, refl, sym, ap, subst, inl, inr}
-use Rattle.syntax.specs.Text.{Text}
-use Rattle.scopes.specs.Checked.{IsChecked}
-use Rattle.round_rewrite.specs.Narrow.{IsNarrow}
-use Rattle.round_rewrite.specs.declared.fault.RewriteFault.TheVariants.{TooWide}
+use Rattle.std.proofs.Common.{◌≡◌, ℕ, None, refl, subst, inl, inr}
+use Rattle.std.proofs.lemmas.Result.{err_from_is_err_and}
+use Rattle.round_rewrite.specs.Narrow.{AllNarrow, IsNarrow}
+use Rattle.round_rewrite.specs.declared.fault.RewriteFault.TheVariants.{Memory, TooWide}
 use Rattle.language.specs.Tree.{Tree}
-use Rattle.syntax.specs.InGrammar.{InGrammar}
-use Rattle.syntax.specs.Trees.{tree_of}
 use Rattle.syntax.proofs.TextsInGrammar.{text_in_grammar}
-use Rattle.round_rewrite.specs.Law.{KeepsTree}
-use Rattle.round_rewrite.specs.Names.{rewritten_tree}
 use Rattle.round_rewrite.specs.Programs.{IsFaultOf, last_round}
 use Rattle.scopes.specs.Programs.{checked_tree}
+use Rattle.cli.specs.Limits.{count_of}
 use Rattle.cli.proofs.rewriting.rewritten.Goals as goal
 
-pub returns-in-Ok-rewrite-clause-rewriting : goal.returns-in-Ok-rewrite-clause-rewriting
-returns-in-Ok-rewrite-clause-rewriting g c =
-    let last = last_round c.args.rounds in
-    let source = tree_of c.in-Ok.program in
-    let same : checked_tree c.in-Ok-check.checked ≡ source = ap tree_of c.in-Ok-check.ensures.checked.0 in
+pub returns-in_err-checked-clause-stands : goal.returns-in_err-checked-clause-stands
+returns-in_err-checked-clause-stands g c =
+    let p = err_from_is_err_and c.from_residual.result c.from_residual.ensures.1 in
+    rw (p.1, p.2) (c.in_err-checked.ensures.stands (count_of c.args.rounds) None)
+
+pub returns-in-Ok-clause-rewriting : goal.returns-in-Ok-clause-rewriting
+returns-in-Ok-clause-rewriting g c =
+    let source = checked_tree c.in_ok-checked.checked in
+    let of = c.in_ok-checked.ensures.program in
     record {
       tree = source;
-      last = last;
+      last = last_round c.args.rounds;
       count = refl;
-      of = c.in-Ok.ensures.found;
-      checked = c.in-Ok-check.ensures.checked.1;
-      same = c.in-Ok-rewrite.ensures.rewritten ∙ ap (rewritten_tree last) same;
-      grammar = c.in-Ok-rewrite.ensures.grammar
-          (subst InGrammar (sym same) (text_in_grammar c.args.text.now source c.in-Ok.ensures.found));
-      keeps = subst (KeepsTree last) same c.in-Ok-rewrite.ensures.keeps;
+      of = of.0;
+      checked = of.1;
+      narrow = subst AllNarrow c.in-Ok.ensures.rewritten c.in-Ok.sequential.narrow;
+      same = c.in-Ok.ensures.rewritten;
+      grammar = c.in-Ok.ensures.grammar (text_in_grammar c.args.text.now source of.0);
+      keeps = c.in-Ok.ensures.keeps;
     }
 
 -- where the rewriting is refused as too wide, it is
-is_wide : (last : ℕ) (t : Tree) → IsFaultOf last t TooWide → IsNarrow last t → ⊥
+pub is_wide : (last : ℕ) (t : Tree) → IsFaultOf last t TooWide → IsNarrow last t → ⊥
 is_wide last t (inl (e, wide)) = wide
 is_wide last t (inr (e, narrow)) = cc
+
+-- where memory gives out over the rewriting, it is not too wide
+is_narrow : (last : ℕ) (t : Tree) → IsFaultOf last t Memory → IsNarrow last t
+is_narrow last t (inl (e, wide)) = cc
+is_narrow last t (inr (e, narrow)) = narrow
 
 pub returns-in-Err-TooWide-clause-stands : goal.returns-in-Err-TooWide-clause-stands
 returns-in-Err-TooWide-clause-stands g c =
     let last = last_round c.args.rounds in
-    let source = checked_tree c.in-Ok-check.checked in
-    let same : tree_of c.in-Ok.program ≡ source = sym (ap tree_of c.in-Ok-check.ensures.checked.0) in (
+    let source = checked_tree c.in_ok-checked.checked in
+    let of = c.in_ok-checked.ensures.program in
+    let fault = subst (IsFaultOf last source) c.in-Err-TooWide.field-0-is c.in-Err-TooWide.ensures.fault in (
       source,
       last,
       record {
         count = refl;
-        of = subst (Text c.args.text.now) same c.in-Ok.ensures.found;
-        checked = subst IsChecked same c.in-Ok-check.ensures.checked.1;
-        wider = is_wide last source (subst (IsFaultOf last source) c.in-Err-TooWide.field-0-is c.in-Err-TooWide.ensures.fault);
+        of = of.0;
+        checked = of.1;
+        wider = is_wide last source fault;
         first = c.too_wide.ensures;
       },
     )
+
+pub returns-clause-stands : goal.returns-clause-stands
+returns-clause-stands g c =
+    let last = last_round c.args.rounds in
+    let source = checked_tree c.in_ok-checked.checked in
+    let of = c.in_ok-checked.ensures.program in
+    let fault = subst (IsFaultOf last source) c.in-Err-Memory.field-0-is c.in-Err-Memory.ensures.fault in
+    inl (source, last, refl, of.0, of.1, is_narrow last source fault)

@@ -1,0 +1,115 @@
+-- What a report says of the program that it is on, and what is told of it.
+use Rattle.std.proofs.Common.{◌≡◌, ◌∙◌, ◌↔◌, ◌++◌, ◌≤◌, ℕ, suc, Bool, true, false, List, [], ◌∷◌, ◌+◌, Some}
+use Rattle.std.proofs.Common.{cond, count_by, inl, inr, refl, sym, ap, subst, arith, length, map, slice_get}
+use Rattle.std.proofs.lemmas.List.{length-map}
+use Rattle.std.proofs.lemmas.List.Recursion.{is_count_by}
+use Rattle.language.specs.Tree.{Procedure, Tree}
+use Rattle.language.specs.Resolve.{meaning_of}
+use Rattle.language.specs.Rounds as rounds
+use Rattle.language.specs.Step.{Program}
+use Rattle.scopes.specs.Checked.{IsChecked}
+use Rattle.syntax.specs.Text.{Text}
+use Rattle.round_rewrite.proofs.Widths.{few_procedures}
+use Rattle.post_ledger.specs.declared.event.Event.{Event}
+use Rattle.post_ledger.specs.History.{posts, takes}
+use Rattle.language.specs.Flow.{Member}
+use Rattle.language.specs.Sequential.{caller, starter}
+use Rattle.flow_graph.specs.Numbers.{NumberedMessage, numbered_entry, numbered_summary}
+use Rattle.post_ledger.specs.declared.event.Event.TheVariants.{Done, Post, Take}
+use Rattle.summaries.specs.declared.due.Caller.TheVariants.{Proc, Starter}
+use Rattle.summaries.specs.declared.due.Due.{Due}
+use Rattle.summaries.specs.declared.due.Due.TheVariants.{Entry, Summary}
+use Rattle.summaries.specs.Dues.{due_of}
+use Rattle.summaries.specs.Fitting.{IsDueFor}
+use Rattle.cli.specs.Counts.{AreSoMany, names_of}
+use Rattle.cli.specs.Counted.{HasEach, answer_line, answer_status, is_take, lines_behind}
+use Rattle.cli.specs.Refused.{HasRewriting}
+use Rattle.gather.specs.Reports.{AreDueOnce, IsReport, posted_to}
+use Rattle.cli.specs.Verdict.{Answers, AnswersOn, Follows, IsProgramOf}
+use Rattle.gather.specs.declared.report.Answer.{Answer}
+use Rattle.gather.specs.declared.report.Answer.TheVariants.{Safe, Unsafe}
+use Rattle.gather.specs.declared.report.Report.{Report}
+use Rattle.cli.proofs.Counting.{as_many_names, tell_counts}
+
+-- as many takes as messages taken
+one_more : (e : Event Due) (es : List (Event Due))
+    → length (takes (e ∷ es)) ≡ cond (is_take e) (1 + length (takes es)) (length (takes es))
+one_more (Post s m) es = refl
+one_more (Take s m) es = omega arith
+one_more (Done t) es = refl
+
+takes_counted : (h : List (Event Due)) → length (takes h) ≡ count_by is_take h
+takes_counted = is_count_by (λ h. length (takes h)) is_take refl one_more
+
+-- the message by numbers
+abbrev by_number : Due → NumberedMessage
+by_number (Entry Starter a) = numbered_entry starter a
+by_number (Entry (Proc q) a) = numbered_entry (caller q) a
+by_number (Summary p a b) = numbered_summary p a b
+
+same_message : (d : Due) → due_of (by_number d) ≡ d
+same_message (Entry Starter a) = refl
+same_message (Entry (Proc q) a) = refl
+same_message (Summary p a b) = refl
+
+-- the messages posted are those due
+due_members : (p : Program) (q : ℕ) (ds : List Due) → AreDueOnce p q ds → (d : Due) → Member d ds ↔ IsDueFor p q d
+due_members p q ds due d = (
+  λ m k is. (due.all k).0 (subst (λ x. Member x ds) (sym is) m),
+  λ h. subst (λ x. Member x ds) (same_message d) ((due.all (by_number d)).1 (h (by_number d) (same_message d))),
+)
+
+-- as many messages were taken as are due
+due_many : (p : Program) (q : ℕ) (h : List (Event Due)) → AreDueOnce p q (posted_to h) → takes h ≡ posts h
+    → AreSoMany (IsDueFor p q) (count_by is_take h)
+due_many p q h due taken = record {
+  all = posted_to h;
+  once = due.once;
+  members = due_members p q (posted_to h) due;
+  many = length-map (posts h) (λ (x : ℕ × Due). x.1) ∙ ap length (sym taken) ∙ takes_counted h;
+}
+
+-- a report on a checked program tells of each of its procedures
+pub has_each : {H A : Type 0} (last most : ℕ) (t : Tree) (r : Report H A) → IsChecked t → IsReport t last most r
+    → HasEach (names_of t) r
+has_each last most t r checked h = record {
+  summaries = h.found.summaries.0 ∙ as_many_names last t;
+  mailboxes = h.found.through.all ∙ as_many_names last t;
+  few =
+      let few = few_procedures t checked in
+      let same = length-map t.procedures (λ (p : Procedure). p.name.text) in
+      omega (arith, few, same);
+}
+
+-- the lines behind the answer are what is asked for
+lines_follow : {H A : Type 0} (last most : ℕ) (t : Tree) (r : Report H A) → IsReport t last most r → (stats : Bool)
+    → Follows stats (suc last) t (lines_behind stats (names_of t) r)
+lines_follow last most t r h false = refl
+lines_follow last most t r h true =
+    tell_counts t last r.summaries r.ledger.histories.items h.found.summaries h.found.through.all
+    (λ q history at. due_many _ q history (h.found.due q history at) (h.found.through.each_taken q history at))
+
+-- what is told of an answer is what it says
+answered : (t : Tree) (last : ℕ) (stats : Bool) (a : Answer)
+    → ((a ≡ Unsafe) ↔ rounds.Unsafe (meaning_of t) (suc last)) → (lines : List ℕ) → Follows stats (suc last) t lines
+    → (bytes : List ℕ) (status : ℕ) → bytes ≡ answer_line a ++ lines → status ≡ answer_status a
+    → AnswersOn t (suc last) stats bytes status
+answered t last stats Safe iff lines follows bytes status e s =
+    (lines, follows, inr (e, s, λ u. let bad = iff.1 u in cc))
+answered t last stats Unsafe iff lines follows bytes status e s = (lines, follows, inl (e, s, iff.0 refl))
+
+-- so the reply to a text with a report is the answer on its program
+pub answers : {H A : Type 0} (text : List ℕ) (last most : ℕ) (t : Tree) (r : Report H A) (stats : Bool)
+    → IsProgramOf text t → IsReport t last most r
+    → (bytes : List ℕ) (status : ℕ) → bytes ≡ answer_line r.answer ++ lines_behind stats (names_of t) r
+    → status ≡ answer_status r.answer
+    → Answers text (suc last) most stats bytes status
+answers text last most t r stats of h bytes status e s =
+    let follows = lines_follow last most t r h stats in
+    (t, of.0, of.1, (last, refl, h.found.few), answered t last stats r.answer h.answer _ follows bytes status e s)
+
+-- where there is a report, the text has a rewriting that is not too wide
+pub reported_rewriting : {H A : Type 0} (text : List ℕ) (last most : ℕ) (t : Tree) (r : Report H A)
+    → IsProgramOf text t → IsReport t last most r
+    → HasRewriting text (suc last)
+reported_rewriting text last most t r of h = (t, last, refl, of.0, of.1, h.narrow)

@@ -1,0 +1,44 @@
+-- Each turn writes one line more, and the last turn is over the last procedure.
+use Rattle.std.proofs.Common.{◌≡◌, ◌∙◌, ◌<◌, ◌≤◌, Some, ap, arith, count_by, length, refl, slice_get, sym}
+use Rattle.std.proofs.lemmas.Option.{slice_get_read}
+use Rattle.std.specs.String.{string_bytes}
+use Rattle.syntax.specs.Trees.{tree_of}
+use Rattle.cli.specs.Counts.{names_of}
+use Rattle.cli.specs.Counted.{is_take}
+use Rattle.cli.proofs.Counting.{all_written, line_pushed, there}
+use Rattle.cli.proofs.counts.push_counts.Goals as goal
+
+pub loop-number-preserved : goal.loop-number-preserved
+loop-number-preserved g c =
+    let names = names_of (tree_of c.args.program.now) in
+    let ss = c.args.summaries.now.procedures in
+    let hs = c.args.mailboxes.now in
+    let k = c.loop-number.number in
+    let below = c.loop-number-test.true in
+    let len = c.len-number-end.ensures in
+    let all = c.requires.all in
+    let boxes = c.requires.boxes in
+    let lt : k < length ss = omega (arith, below, len) in
+    let lt_h : k < length hs = omega (arith, lt, all, boxes) in
+    let (s, at) = there ss k lt in
+    let history = c.index-mailboxes-number.result in
+    let kept = slice_get_read hs (length hs) k history refl lt_h c.index-mailboxes-number.is in
+    let taken = c.taken_in-taken.ensures ∙ ap (count_by is_take) c.history.ensures.all in
+    line_pushed names ss hs k (string_bytes c.args.lines.now) (string_bytes c.loop-number.lines)
+    (string_bytes c.push_line.new.lines) c.name_of-name.result.now s history c.entries-entries.result.now
+    c.pairs-pairs.result.now c.taken_in-taken.result c.name_of-name.ensures at kept (c.entries-entries.ensures s at)
+    (c.pairs-pairs.ensures s at) taken c.loop-number.invariant c.in_ok-push_line.ensures
+
+pub returns : goal.returns
+returns g c =
+    let past = c.loop-number-test.false in
+    let len = c.len-number-end.ensures in
+    let all = c.requires.all in
+    let boxes = c.requires.boxes in
+    let names = names_of (tree_of c.args.program.now) in
+    let ss = c.args.summaries.now.procedures in
+    let hs = c.args.mailboxes.now in
+    let past_names : length names ≤ c.loop-number.number = omega (arith, past, len, all) in
+    let past_ss : length ss ≤ c.loop-number.number = omega (arith, past, len) in
+    all_written names ss hs c.loop-number.number (string_bytes c.args.lines.now) (string_bytes c.loop-number.lines)
+    past_names past_ss (boxes ∙ sym all) c.loop-number.invariant

@@ -1,0 +1,49 @@
+-- What is told of a report: its answer, and the lengths of its lists.
+use Rattle.std.specs.Prelude.{◌≡◌, ◌≤◌, ℕ, Bool, true, false, List, [], ◌∷◌, codes, count_by, length}
+use Rattle.post_ledger.specs.declared.event.Event.{Event}
+use Rattle.post_ledger.specs.declared.event.Event.TheVariants.{Post, Take, Done}
+use Rattle.summaries.specs.declared.due.Due.{Due}
+use Rattle.summaries.specs.Effects.{Effect}
+use Rattle.cli.specs.Counts.{Counts, counts_lines}
+use Rattle.gather.specs.declared.report.Answer.{Answer}
+use Rattle.gather.specs.declared.report.Answer.TheVariants.{Safe, Unsafe}
+use Rattle.gather.specs.declared.report.Report.{Report}
+
+-- whether the event is that a message was taken
+abbrev pub is_take : Event Due → Bool
+is_take (Post s m) = false
+is_take (Take s m) = true
+is_take (Done t) = false
+
+-- what is counted of a procedure by what it does as a whole and the history of its mailbox
+abbrev pub counted : Effect → List (Event Due) → Counts
+counted s history = record { entries = length s.entries; pairs = length s.pairs; taken = count_by is_take history }
+
+-- what is counted of each procedure, by number
+abbrev pub counted_each : List Effect → List (List (Event Due)) → List Counts
+counted_each [] histories = []
+counted_each (s ∷ ss) [] = []
+counted_each (s ∷ ss) (history ∷ histories) = counted s history ∷ counted_each ss histories
+
+-- the line of an answer
+abbrev pub answer_line : Answer → List ℕ
+answer_line Safe = codes "safe\n"
+answer_line Unsafe = codes "unsafe\n"
+
+-- the status of an answer
+abbrev pub answer_status : Answer → ℕ
+answer_status Safe = 0
+answer_status Unsafe = 1
+
+module _ {H A : Type 0} where
+  -- what comes behind the answer of a report, of procedures with these names: nothing, or, where it is asked for,
+  -- their lines
+  abbrev pub lines_behind : Bool → List (List ℕ) → Report H A → List ℕ
+  lines_behind false names r = []
+  lines_behind true names r = counts_lines names (counted_each r.summaries.procedures r.ledger.histories.items)
+
+  -- The report has a summary and a mailbox for each of these procedures, of which there are at most 32.
+  pub record HasEach (names : List (List ℕ)) (r : Report H A) : Type 0 where
+    pub summaries : length r.summaries.procedures ≡ length names
+    pub mailboxes : length r.ledger.histories.items ≡ length names
+    pub few : length names ≤ 32

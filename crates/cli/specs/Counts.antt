@@ -1,0 +1,61 @@
+-- What is counted of the procedures of a program's rewriting, and the lines that tell it.
+use Rattle.std.specs.Prelude.{◌≡◌, ◌↔◌, ℕ, suc, List, [], ◌∷◌, ◌++◌, Some, codes, length, map, slice_get}
+use Rattle.std.specs.Fmt.{decimal}
+use Rattle.language.specs.Tree.{Procedure, Tree}
+use Rattle.language.specs.Step.{Program}
+use Rattle.language.specs.Flow.{Member}
+use Rattle.language.specs.Sequential.{sequential_of}
+use Rattle.path_sets.specs.Triples.{NoneTwice}
+use Rattle.round_rewrite.specs.Names.{rewritten_tree}
+use Rattle.flow_graph.specs.Numbers.{AreNumbersOfPair, IsNumberOfEntry}
+use Rattle.summaries.specs.Fitting.{IsDueFor}
+use Rattle.summaries.specs.declared.pair.Pair.{Pair}
+
+-- There are so many of which P holds: a list of them, in which none stands twice, has this length.
+pub record AreSoMany {A : Type 0} (P : A → Type 0) (n : ℕ) : Type 0 where
+  pub all : List A
+  pub once : NoneTwice all
+  pub members : (x : A) → Member x all ↔ P x
+  pub many : length all ≡ n
+
+-- what is counted of a procedure: its entry valuations, its pairs, and the messages taken from its mailbox
+pub record Counts : Type 0 where
+  pub entries : ℕ
+  pub pairs : ℕ
+  pub taken : ℕ
+
+-- the numbers are those of a pair of procedure q
+abbrev pub IsPairOf : Program → ℕ → Pair → Type 0
+IsPairOf p q x = AreNumbersOfPair p q x.a x.b
+
+-- Procedure q is entered with so many valuations, it has so many pairs, and so many messages are due for it.
+pub record AreCountsOf (p : Program) (q : ℕ) (c : Counts) : Type 0 where
+  pub entries : AreSoMany (IsNumberOfEntry p q) c.entries
+  pub pairs : AreSoMany (IsPairOf p q) c.pairs
+  pub taken : AreSoMany (IsDueFor p q) c.taken
+
+-- the line of a procedure of this name, with so many entries, pairs and messages
+abbrev pub counts_line : List ℕ → ℕ → ℕ → ℕ → List ℕ
+counts_line name entries pairs taken =
+    name ++ (codes " entries " ++ (decimal entries ++ (codes " pairs " ++ (decimal pairs
+    ++ (codes " taken " ++ (decimal taken ++ codes "\n"))))))
+
+-- the lines of procedures, by their names and what is counted of each
+abbrev pub counts_lines : List (List ℕ) → List Counts → List ℕ
+counts_lines [] cs = []
+counts_lines (name ∷ names) [] = []
+counts_lines (name ∷ names) (c ∷ cs) = counts_line name c.entries c.pairs c.taken ++ counts_lines names cs
+
+-- the names of the rewriting's procedures, by number: `main__`, and then those of the source
+abbrev pub names_of : Tree → List (List ℕ)
+names_of t = codes "main__" ∷ map (λ (p : Procedure). p.name.text) t.procedures
+
+-- The lines tell, for each procedure of the program's rewriting for so many rounds, in the order of their numbers, its
+-- name and what is counted of it.
+pub record TellCounts (rounds : ℕ) (t : Tree) (lines : List ℕ) : Type 0 where
+  pub last : ℕ
+  pub count : suc last ≡ rounds
+  pub counts : List Counts
+  pub each : length counts ≡ length (names_of t)
+  pub are : (q : ℕ) (c : Counts) → slice_get counts q ≡ Some c → AreCountsOf (sequential_of (rewritten_tree last t)) q c
+  pub same : lines ≡ counts_lines (names_of t) counts

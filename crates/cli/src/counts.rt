@@ -1,0 +1,76 @@
+//! What is counted of the procedures of a program's rewriting, line by line.
+
+ghost use Rattle.std.specs.Prelude.{◌≡◌, ◌≤◌, ◌<◌, ◌++◌, OnOk, Some, count_by, length, slice_get};
+ghost use Rattle.std.specs.String.{string_bytes};
+ghost use Rattle.syntax.specs.Trees.{tree_of};
+ghost use Rattle.cli.specs.Counts.{counts_line, counts_lines, names_of};
+ghost use Rattle.cli.specs.Counted.{counted_each, is_take};
+
+use post_ledger::{Event, Mailbox};
+use std::alloc::{AllocError, Allocator};
+use summaries::{Due, Summaries};
+use syntax::Program;
+
+/// How many messages were taken from a mailbox, by its history.
+fn taken_in(history: &[Event<Due>]) -> usize
+    ensures { result ≡ count_by is_take history.now }
+{
+    history
+        .iter()
+        .filter(|event| matches!(event, Event::Take { .. }))
+        .count()
+}
+
+/// The name of a procedure of the rewriting.
+fn name_of<N: Allocator>(program: &Program<N>, number: u8) -> &str
+    requires { number < length (names_of (tree_of program.now)) }
+    ensures { slice_get (names_of (tree_of program.now)) number ≡ Some result.now }
+{
+    if number == 0 {
+        "main__"
+    } else {
+        program.procs[number as usize - 1].name.text.as_str()
+    }
+}
+
+/// Writes the line of a procedure.
+fn push_line<A: Allocator>(
+    lines: &mut String<A>,
+    name: &str,
+    entries: usize,
+    pairs: usize,
+    taken: usize,
+) -> Result<(), AllocError>
+    ensures { OnOk result (string_bytes lines.new ≡ string_bytes lines.old
+        ++ counts_line name.now entries pairs taken) }
+{
+    write!(
+        lines,
+        "{name} entries {entries} pairs {pairs} taken {taken}\n"
+    )
+}
+
+/// Writes a line for each procedure of a program's rewriting, in the order of their numbers: its name, how many entry
+/// valuations and pairs the summaries have of it, and how many messages were taken from its mailbox. At an error memory gave
+/// out, and a part may be written.
+pub(crate) fn push_counts<A: Allocator, N: Allocator, S: Allocator, H: Allocator>(
+    lines: &mut String<A>,
+    program: &Program<N>,
+    summaries: &Summaries<S>,
+    mailboxes: &[Mailbox<Due, H>],
+) -> Result<(), AllocError>
+    requires all { length summaries.now.procedures ≡ length (names_of (tree_of program.now)) }
+    requires boxes { length mailboxes.now ≡ length (names_of (tree_of program.now)) }
+    requires few { length (names_of (tree_of program.now)) ≤ 32 }
+    ensures { OnOk result (string_bytes lines.new ≡ string_bytes lines.old
+        ++ counts_lines (names_of (tree_of program.now)) (counted_each summaries.now.procedures mailboxes.now)) }
+{
+    for number in 0..summaries.len() as u8 {
+        let name = name_of(program, number);
+        let entries = summaries.entries(number).len();
+        let pairs = summaries.pairs(number).len();
+        let taken = taken_in(mailboxes[number as usize].history());
+        push_line(lines, name, entries, pairs, taken)?;
+    }
+    Ok(())
+}
