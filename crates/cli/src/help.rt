@@ -1,7 +1,7 @@
 //! What help tells at its end: what the replies and statuses mean, the limits, and an example; and the version.
 
 /// What `--version` tells behind the name: the version, and the line of the kit that the program is proved with.
-pub(crate) const VERSION: &str = "0.1.0\nrattle-kit-13b logic dac8208d650f15bf";
+pub(crate) const VERSION: &str = "0.1.0\nrattle-kit-13f logic dac8208d650f15bf";
 
 /// The end of the help of `bebopk`.
 pub(crate) const BEBOPK: &str = "\
