@@ -1,14 +1,14 @@
 //! Helpers of the rows of boards, and the rows, whose answers are worked out by hand.
-ghost use Rattle.std.specs.Prelude.{◌≡◌, ◌≢◌, ◌+◌, ◌<◌, ◌≤◌, ℕ, vec_len};
+ghost use Rattle.std.specs.Prelude.{◌≡◌, ◌≢◌, ◌+◌, ◌<◌, ◌≤◌, ℕ, map, vec_len};
 ghost use Rattle.post_ledger.specs.Orders.{HasJob};
 ghost use Rattle.switchboard.specs.Promises.{AreFirst};
 ghost use Rattle.board_rows.specs.Passes.{IsSame, KeepsJobs};
 
 use post_ledger::{Event, Ledger, Mailbox};
-use std::alloc::{AllocFailed, Allocator};
+use std::alloc::{Allocator, Global};
 use std::process::Abort;
 use std::sync::Wait;
-use switchboard::{Board, Cause, Job, Mail, OneLock, OnePass, PostFault, Taken};
+use switchboard::{Board, Cause, Job, LockPerBox, Mail, OneLock, OnePass, PostFault, Taken};
 use ticket_lock::Spent;
 
 /// A message of the rows, which fits every mailbox.
@@ -25,17 +25,30 @@ pub(crate) type Lines<A> = OneLock<Letter, (), A>;
 
 pub(crate) type Line<A> = OnePass<Letter, (), A>;
 
+/// A board of letters.
+pub(crate) trait Letters: Board<Letter, (), Self::Heap> {
+    type Heap: Allocator;
+}
+
+impl<A: Allocator> Letters for OneLock<Letter, (), A> {
+    type Heap = A;
+}
+
+impl<A: Allocator> Letters for LockPerBox<Letter, (), A> {
+    type Heap = A;
+}
+
 // Takes a message, which has to be there.
-pub(crate) fn message<R: Wait + Abort, A: Allocator>(
+pub(crate) fn message<R: Wait + Abort, B: Letters>(
     rt: &R,
-    board: &Lines<A>,
-    pass: &mut Line<A>,
+    board: &B,
+    pass: &mut B::Pass,
 ) -> (Job, u32)
-    requires { pass.old.board ≡ board.now.lock.id }
-    ensures pass { IsSame pass.old pass.new }
-    ensures job { HasJob pass.new.number result.0 pass.new.seen.order }
-    ensures fresh { (j : ℕ) → HasJob pass.old.number j pass.old.seen.order → j ≢ result.0 }
-    ensures keeps { KeepsJobs pass.old pass.new }
+    requires { (B.sight pass.old).board ≡ B.identity board.now }
+    ensures pass { IsSame (B.sight pass.old) (B.sight pass.new) }
+    ensures job { HasJob (B.sight pass.new).number result.0 (B.sight pass.new).seen.order }
+    ensures fresh { (j : ℕ) → HasJob (B.sight pass.old).number j (B.sight pass.old).seen.order → j ≢ result.0 }
+    ensures keeps { KeepsJobs (B.sight pass.old) (B.sight pass.new) }
 {
     match Board::take(board, rt, pass) {
         Ok(Taken::Message(job, letter)) => (job, letter.0),
@@ -46,17 +59,17 @@ pub(crate) fn message<R: Wait + Abort, A: Allocator>(
 }
 
 // Takes a message, which has to be this one.
-pub(crate) fn takes<R: Wait + Abort, A: Allocator>(
+pub(crate) fn takes<R: Wait + Abort, B: Letters>(
     rt: &R,
-    board: &Lines<A>,
-    pass: &mut Line<A>,
+    board: &B,
+    pass: &mut B::Pass,
     wanted: u32,
 ) -> Job
-    requires { pass.old.board ≡ board.now.lock.id }
-    ensures pass { IsSame pass.old pass.new }
-    ensures job { HasJob pass.new.number result pass.new.seen.order }
-    ensures fresh { (j : ℕ) → HasJob pass.old.number j pass.old.seen.order → j ≢ result }
-    ensures keeps { KeepsJobs pass.old pass.new }
+    requires { (B.sight pass.old).board ≡ B.identity board.now }
+    ensures pass { IsSame (B.sight pass.old) (B.sight pass.new) }
+    ensures job { HasJob (B.sight pass.new).number result (B.sight pass.new).seen.order }
+    ensures fresh { (j : ℕ) → HasJob (B.sight pass.old).number j (B.sight pass.old).seen.order → j ≢ result }
+    ensures keeps { KeepsJobs (B.sight pass.old) (B.sight pass.new) }
 {
     let (job, found) = message(rt, board, pass);
     assert_eq!(rt; found, wanted);
@@ -72,10 +85,10 @@ pub(crate) enum Answer {
     Spent,
 }
 
-fn found<R: Wait + Abort, A: Allocator>(rt: &R, board: &Lines<A>, pass: &mut Line<A>) -> Answer
-    requires { pass.old.board ≡ board.now.lock.id }
-    ensures pass { IsSame pass.old pass.new }
-    ensures keeps { KeepsJobs pass.old pass.new }
+fn found<R: Wait + Abort, B: Letters>(rt: &R, board: &B, pass: &mut B::Pass) -> Answer
+    requires { (B.sight pass.old).board ≡ B.identity board.now }
+    ensures pass { IsSame (B.sight pass.old) (B.sight pass.new) }
+    ensures keeps { KeepsJobs (B.sight pass.old) (B.sight pass.new) }
 {
     match Board::take(board, rt, pass) {
         Ok(Taken::Message(_job, _)) => panic!(rt; "a message"),
@@ -87,31 +100,26 @@ fn found<R: Wait + Abort, A: Allocator>(rt: &R, board: &Lines<A>, pass: &mut Lin
 }
 
 // Takes no message: this has to be the answer.
-pub(crate) fn finds<R: Wait + Abort, A: Allocator>(
+pub(crate) fn finds<R: Wait + Abort, B: Letters>(
     rt: &R,
-    board: &Lines<A>,
-    pass: &mut Line<A>,
+    board: &B,
+    pass: &mut B::Pass,
     wanted: Answer,
 )
-    requires { pass.old.board ≡ board.now.lock.id }
-    ensures pass { IsSame pass.old pass.new }
-    ensures keeps { KeepsJobs pass.old pass.new }
+    requires { (B.sight pass.old).board ≡ B.identity board.now }
+    ensures pass { IsSame (B.sight pass.old) (B.sight pass.new) }
+    ensures keeps { KeepsJobs (B.sight pass.old) (B.sight pass.new) }
 {
     assert_eq!(rt; found(rt, board, pass), wanted);
 }
 
 // Completes the message of a job, which must not be refused.
-pub(crate) fn done<R: Wait + Abort, A: Allocator>(
-    rt: &R,
-    board: &Lines<A>,
-    pass: &mut Line<A>,
-    job: Job,
-)
-    requires board { pass.old.board ≡ board.now.lock.id }
-    requires job { HasJob pass.old.number job pass.old.seen.order }
-    ensures pass { IsSame pass.old pass.new }
-    ensures keeps { (j : ℕ) → j ≢ job → HasJob pass.old.number j pass.old.seen.order
-        → HasJob pass.new.number j pass.new.seen.order }
+pub(crate) fn done<R: Wait + Abort, B: Letters>(rt: &R, board: &B, pass: &mut B::Pass, job: Job)
+    requires board { (B.sight pass.old).board ≡ B.identity board.now }
+    requires job { HasJob (B.sight pass.old).number job (B.sight pass.old).seen.order }
+    ensures pass { IsSame (B.sight pass.old) (B.sight pass.new) }
+    ensures keeps { (j : ℕ) → j ≢ job → HasJob (B.sight pass.old).number j (B.sight pass.old).seen.order
+        → HasJob (B.sight pass.new).number j (B.sight pass.new).seen.order }
 {
     match Board::done(board, rt, pass, job) {
         Ok(()) => {}
@@ -119,63 +127,65 @@ pub(crate) fn done<R: Wait + Abort, A: Allocator>(
     }
 }
 
-pub(crate) fn post<R: Wait, A: Allocator>(
+pub(crate) fn post<R: Wait, B: Letters>(
     rt: &R,
-    board: &Lines<A>,
-    pass: &mut Line<A>,
+    board: &B,
+    pass: &mut B::Pass,
     job: &Job,
     to: u8,
     message: u32,
 ) -> Result<(), PostFault<Letter>>
-    requires board { pass.old.board ≡ board.now.lock.id }
-    requires job { HasJob pass.old.number job.now pass.old.seen.order }
-    requires to { to < pass.old.seen.boxes }
-    ensures pass { IsSame pass.old pass.new }
-    ensures keeps { KeepsJobs pass.old pass.new }
+    requires board { (B.sight pass.old).board ≡ B.identity board.now }
+    requires job { HasJob (B.sight pass.old).number job.now (B.sight pass.old).seen.order }
+    requires to { to < (B.sight pass.old).seen.boxes }
+    ensures pass { IsSame (B.sight pass.old) (B.sight pass.new) }
+    ensures keeps { KeepsJobs (B.sight pass.old) (B.sight pass.new) }
 {
     Board::post(board, rt, pass, job, to, Letter(message))
 }
 
 // Posts to mailbox 1: this has to be the answer.
-fn posts<R: Wait + Abort, A: Allocator>(
+fn posts<R: Wait + Abort, B: Letters>(
     rt: &R,
-    board: &Lines<A>,
-    pass: &mut Line<A>,
+    board: &B,
+    pass: &mut B::Pass,
     job: &Job,
     message: u32,
     wanted: Result<(), PostFault<Letter>>,
 )
-    requires board { pass.old.board ≡ board.now.lock.id }
-    requires job { HasJob pass.old.number job.now pass.old.seen.order }
-    requires boxes { 1 < pass.old.seen.boxes }
-    ensures pass { IsSame pass.old pass.new }
-    ensures keeps { KeepsJobs pass.old pass.new }
+    requires board { (B.sight pass.old).board ≡ B.identity board.now }
+    requires job { HasJob (B.sight pass.old).number job.now (B.sight pass.old).seen.order }
+    requires boxes { 1 < (B.sight pass.old).seen.boxes }
+    ensures pass { IsSame (B.sight pass.old) (B.sight pass.new) }
+    ensures keeps { KeepsJobs (B.sight pass.old) (B.sight pass.new) }
 {
     assert_eq!(rt; post(rt, board, pass, job, 1, message), wanted);
 }
 
 // What the first pass had seen, for the second.
-fn tells<A: Allocator>(board: &Lines<A>, first: &mut Line<A>, second: &mut Line<A>)
-    requires first { first.old.board ≡ board.now.lock.id }
-    requires second { second.old.board ≡ board.now.lock.id }
-    ensures first { first.new ≡ first.old }
-    ensures second { IsSame second.old second.new }
+fn tells<B: Letters>(board: &B, first: &mut B::Pass, second: &mut B::Pass)
+    requires first { (B.sight first.old).board ≡ B.identity board.now }
+    requires second { (B.sight second.old).board ≡ B.identity board.now }
+    ensures first { B.sight first.new ≡ B.sight first.old }
+    ensures second { IsSame (B.sight second.old) (B.sight second.new) }
 {
     let told = Board::tell(board, first);
     Board::learn(board, second, told);
 }
 
 // Puts a pass behind those of the lower numbers.
-pub(crate) fn gather<R: Abort, A: Allocator>(
+pub(crate) fn gather<R: Abort, B: Letters>(
     rt: &R,
-    board: &Lines<A>,
-    passes: &mut Vec<Line<A>, A>,
-    pass: Line<A>,
+    board: &B,
+    passes: &mut Vec<B::Pass, B::Heap>,
+    pass: B::Pass,
 )
-    requires passes { AreFirst board.now.lock.id board.now.lock.lanes passes.old.items }
-    requires pass { (pass.board ≡ board.now.lock.id) × (pass.number ≡ vec_len passes.old)
-        × (pass.seen.boxes ≡ board.now.lock.lanes) }
-    ensures { AreFirst board.now.lock.id board.now.lock.lanes passes.new.items
+where
+    B::Pass: Drop,
+    requires passes { AreFirst (B.identity board.now) (B.mailboxes board.now) (map B.sight passes.old.items) }
+    requires pass { ((B.sight pass).board ≡ B.identity board.now) × ((B.sight pass).number ≡ vec_len passes.old)
+        × ((B.sight pass).seen.boxes ≡ B.mailboxes board.now) }
+    ensures { AreFirst (B.identity board.now) (B.mailboxes board.now) (map B.sight passes.new.items)
         × (vec_len passes.new ≡ vec_len passes.old + 1) }
 {
     match passes.push(pass) {
@@ -184,27 +194,27 @@ pub(crate) fn gather<R: Abort, A: Allocator>(
     }
 }
 
-pub(crate) fn settle<A: Allocator>(
-    board: Lines<A>,
-    mut passes: Vec<Line<A>, A>,
-) -> Ledger<Letter, A>
-    requires { AreFirst board.lock.id board.lock.lanes passes.items × (vec_len passes ≡ board.lock.lanes) }
+pub(crate) fn settle<B: Letters>(
+    board: B,
+    mut passes: Vec<B::Pass, B::Heap>,
+) -> Ledger<Letter, B::Heap>
+    requires { AreFirst (B.identity board) (B.mailboxes board) (map B.sight passes.items)
+        × (vec_len passes ≡ B.mailboxes board) }
 {
-    Board::into_ledger(board, &mut passes)
+    let ledger = Board::into_ledger(board, &mut passes);
+    passes.destroy_empty();
+    ledger
 }
 
 // A board with the opening post 10 in mailbox 0, and its pass.
-fn alone<R: Abort, A: Allocator + Clone>(rt: &R, alloc: A) -> (Lines<A>, Line<A>)
-    ensures { (result.1.board ≡ result.0.lock.id) × (result.1.number ≡ 0) × (result.0.lock.lanes ≡ 1)
-        × (result.1.seen.boxes ≡ 1) }
+fn alone<R: Abort, B: Letters>(rt: &R, alloc: B::Heap) -> (B, B::Pass)
+where
+    B::Heap: Clone,
+    B::Pass: Drop,
+    ensures { ((B.sight result.1).board ≡ B.identity result.0) × ((B.sight result.1).number ≡ 0)
+        × (B.mailboxes result.0 ≡ 1) × ((B.sight result.1).seen.boxes ≡ 1) }
 {
-    let Ok((board, mut passes)) = <Lines<A> as Board<Letter, (), A>>::open(
-        alloc,
-        &(),
-        1,
-        0,
-        Letter(10),
-    ) else {
+    let Ok((board, mut passes)) = B::open(alloc, &(), 1, 0, Letter(10)) else {
         panic!(rt; "no memory")
     };
     let Some(pass) = passes.pop() else {
@@ -214,25 +224,22 @@ fn alone<R: Abort, A: Allocator + Clone>(rt: &R, alloc: A) -> (Lines<A>, Line<A>
 }
 
 // A board of two mailboxes, with the opening post 10 in mailbox 0, and its passes.
-fn two<R: Abort, A: Allocator + Clone>(
+pub(crate) fn two<R: Abort, B: Letters>(
     rt: &R,
-    alloc: A,
+    alloc: B::Heap,
     budget: u64,
-) -> (Lines<A>, Line<A>, Line<A>)
+) -> (B, B::Pass, B::Pass)
+where
+    B::Heap: Clone,
+    B::Pass: Drop,
     requires { (2 ≤ budget) × (budget ≤ 1000) }
-    ensures board { result.0.lock.lanes ≡ 2 }
-    ensures zero { (result.1.board ≡ result.0.lock.id) × (result.1.number ≡ 0) × (result.1.seen.boxes ≡ 2) }
-    ensures one { (result.2.board ≡ result.0.lock.id) × (result.2.number ≡ 1) × (result.2.seen.boxes ≡ 2) }
+    ensures board { B.mailboxes result.0 ≡ 2 }
+    ensures zero { ((B.sight result.1).board ≡ B.identity result.0) × ((B.sight result.1).number ≡ 0)
+        × ((B.sight result.1).seen.boxes ≡ 2) }
+    ensures one { ((B.sight result.2).board ≡ B.identity result.0) × ((B.sight result.2).number ≡ 1)
+        × ((B.sight result.2).seen.boxes ≡ 2) }
 {
-    let opened = <Lines<A> as Board<Letter, (), A>>::open_with_budget(
-        alloc,
-        &(),
-        2,
-        0,
-        Letter(10),
-        budget,
-    );
-    let Ok((board, mut passes)) = opened else {
+    let Ok((board, mut passes)) = B::open_with_budget(alloc, &(), 2, 0, Letter(10), budget) else {
         panic!(rt; "no memory")
     };
     let Some(one) = passes.pop() else {
@@ -262,10 +269,10 @@ fn counts<A: Allocator>(histories: &[Mailbox<Letter, A>]) -> (u64, u64, u64) {
 }
 
 // Takes 10, and posts 11 and 12 under its job.
-fn posts_two<R: Wait + Abort, A: Allocator>(rt: &R, board: &Lines<A>, zero: &mut Line<A>) -> Job
-    requires { (zero.old.board ≡ board.now.lock.id) × (1 < zero.old.seen.boxes) }
-    ensures pass { IsSame zero.old zero.new }
-    ensures job { HasJob zero.new.number result zero.new.seen.order }
+fn posts_two<R: Wait + Abort, B: Letters>(rt: &R, board: &B, zero: &mut B::Pass) -> Job
+    requires { ((B.sight zero.old).board ≡ B.identity board.now) × (1 < (B.sight zero.old).seen.boxes) }
+    ensures pass { IsSame (B.sight zero.old) (B.sight zero.new) }
+    ensures job { HasJob (B.sight zero.new).number result (B.sight zero.new).seen.order }
 {
     let job = takes(rt, board, zero, 10);
     posts(rt, board, zero, &job, 11, Ok(()));
@@ -274,9 +281,9 @@ fn posts_two<R: Wait + Abort, A: Allocator>(rt: &R, board: &Lines<A>, zero: &mut
 }
 
 // Takes 11 and 12 and completes them; there is no more.
-fn serves_two<R: Wait + Abort, A: Allocator>(rt: &R, board: &Lines<A>, one: &mut Line<A>)
-    requires { one.old.board ≡ board.now.lock.id }
-    ensures { IsSame one.old one.new }
+fn serves_two<R: Wait + Abort, B: Letters>(rt: &R, board: &B, one: &mut B::Pass)
+    requires { (B.sight one.old).board ≡ B.identity board.now }
+    ensures { IsSame (B.sight one.old) (B.sight one.new) }
 {
     let second = takes(rt, board, one, 11);
     let third = takes(rt, board, one, 12);
@@ -287,16 +294,20 @@ fn serves_two<R: Wait + Abort, A: Allocator>(rt: &R, board: &Lines<A>, one: &mut
 }
 
 // The ledger of a board whose passes are these two.
-fn settle_two<R: Abort, A: Allocator>(
+fn settle_two<R: Abort, B: Letters>(
     rt: &R,
-    alloc: A,
-    board: Lines<A>,
-    zero: Line<A>,
-    one: Line<A>,
-) -> Ledger<Letter, A>
-    requires board { board.lock.lanes ≡ 2 }
-    requires zero { (zero.board ≡ board.lock.id) × (zero.number ≡ 0) × (zero.seen.boxes ≡ 2) }
-    requires one { (one.board ≡ board.lock.id) × (one.number ≡ 1) × (one.seen.boxes ≡ 2) }
+    alloc: B::Heap,
+    board: B,
+    zero: B::Pass,
+    one: B::Pass,
+) -> Ledger<Letter, B::Heap>
+where
+    B::Pass: Drop,
+    requires board { B.mailboxes board ≡ 2 }
+    requires zero { ((B.sight zero).board ≡ B.identity board) × ((B.sight zero).number ≡ 0)
+        × ((B.sight zero).seen.boxes ≡ 2) }
+    requires one { ((B.sight one).board ≡ B.identity board) × ((B.sight one).number ≡ 1)
+        × ((B.sight one).seen.boxes ≡ 2) }
 {
     let mut passes = Vec::new(alloc);
     gather(rt, &board, &mut passes, zero);
@@ -304,59 +315,71 @@ fn settle_two<R: Abort, A: Allocator>(
     settle(board, passes)
 }
 
-#[test]
-fn two_mailboxes_close_after_the_last_done(rt: HostRuntime) {
-    let (board, mut zero, mut one) = two(&rt, rt.alloc(), 1000);
-    let job = posts_two(&rt, &board, &mut zero);
+// Three messages over two mailboxes; the board closes after the last done.
+fn closes_after_the_last_done<R: Wait + Abort, B: Letters>(rt: &R, alloc: B::Heap, more: B::Heap)
+where
+    B::Heap: Clone,
+    B::Pass: Drop,
+{
+    let (board, mut zero, mut one) = two::<R, B>(rt, alloc, 1000);
+    let job = posts_two(rt, &board, &mut zero);
     tells(&board, &mut zero, &mut one);
-    serves_two(&rt, &board, &mut one);
-    done(&rt, &board, &mut zero, job);
-    finds(&rt, &board, &mut zero, Answer::Closed);
-    finds(&rt, &board, &mut one, Answer::Closed);
-    let ledger = settle_two(&rt, rt.alloc(), board, zero, one);
+    serves_two(rt, &board, &mut one);
+    done(rt, &board, &mut zero, job);
+    finds(rt, &board, &mut zero, Answer::Closed);
+    finds(rt, &board, &mut one, Answer::Closed);
+    let ledger = settle_two(rt, more, board, zero, one);
     assert!(rt; ledger.closed);
     assert_eq!(rt; counts(ledger.histories.as_slice()), (3, 3, 3));
 }
 
-#[test]
-fn a_board_of_budget_two(rt: HostRuntime) {
-    let (board, mut zero, mut one) = two(&rt, rt.alloc(), 2);
-    let (job, _first) = message(&rt, &board, &mut zero);
+// Each pass has one call, and its abort is always made.
+fn has_one_call<R: Wait + Abort, B: Letters + Drop>(rt: &R, alloc: B::Heap)
+where
+    B::Heap: Clone,
+    B::Pass: Drop,
+{
+    let (board, mut zero, mut one) = two::<R, B>(rt, alloc, 2);
+    let (job, _first) = message(rt, &board, &mut zero);
     posts(
-        &rt,
+        rt,
         &board,
         &mut zero,
         &job,
         11,
         Err(PostFault::Spent(Letter(11))),
     );
-    Board::abort(&board, &rt, &mut zero, Some(job), Cause::Spent);
-    finds(&rt, &board, &mut one, Answer::Aborted);
-    finds(&rt, &board, &mut zero, Answer::Spent);
+    Board::abort(&board, rt, &mut zero, Some(job), Cause::Spent);
+    finds(rt, &board, &mut one, Answer::Aborted);
+    finds(rt, &board, &mut zero, Answer::Spent);
 }
 
-#[test]
-fn an_abort_stops_posts_and_not_dones(rt: HostRuntime) {
-    let (board, mut zero, mut one) = two(&rt, rt.alloc(), 1000);
-    let (job, _first) = message(&rt, &board, &mut zero);
-    Board::abort(&board, &rt, &mut one, None, Cause::NoWorker);
+// An abort stops posts and not dones.
+fn stops_posts<R: Wait + Abort, B: Letters + Drop>(rt: &R, alloc: B::Heap)
+where
+    B::Heap: Clone,
+    B::Pass: Drop,
+{
+    let (board, mut zero, mut one) = two::<R, B>(rt, alloc, 1000);
+    let (job, _first) = message(rt, &board, &mut zero);
+    Board::abort(&board, rt, &mut one, None, Cause::NoWorker);
     posts(
-        &rt,
+        rt,
         &board,
         &mut zero,
         &job,
         11,
         Err(PostFault::Aborted(Letter(11))),
     );
-    done(&rt, &board, &mut zero, job);
-    finds(&rt, &board, &mut zero, Answer::Closed);
-    finds(&rt, &board, &mut one, Answer::Closed);
+    done(rt, &board, &mut zero, job);
+    finds(rt, &board, &mut zero, Answer::Closed);
+    finds(rt, &board, &mut one, Answer::Closed);
 }
 
 // Takes 10 and completes it: before that the mailbox is empty, and then closed.
-fn serves_one<R: Wait + Abort, A: Allocator>(rt: &R, board: &Lines<A>, pass: &mut Line<A>)
-    requires { pass.old.board ≡ board.now.lock.id }
-    ensures { IsSame pass.old pass.new }
+fn serves_one<R: Wait + Abort, B: Letters>(rt: &R, board: &B, pass: &mut B::Pass)
+    requires { (B.sight pass.old).board ≡ B.identity board.now }
+    ensures { IsSame (B.sight pass.old) (B.sight pass.new) }
 {
     let job = takes(rt, board, pass, 10);
     finds(rt, board, pass, Answer::Empty);
@@ -364,12 +387,16 @@ fn serves_one<R: Wait + Abort, A: Allocator>(rt: &R, board: &Lines<A>, pass: &mu
     finds(rt, board, pass, Answer::Closed);
 }
 
-#[test]
-fn a_mailbox_closes_after_its_last_done(rt: HostRuntime) {
-    let (board, mut pass) = alone(&rt, rt.alloc());
-    serves_one(&rt, &board, &mut pass);
-    let mut passes = Vec::new(rt.alloc());
-    gather(&rt, &board, &mut passes, pass);
+// One message in one mailbox, with its history.
+fn closes_alone<R: Wait + Abort, B: Letters>(rt: &R, alloc: B::Heap, more: B::Heap)
+where
+    B::Heap: Clone,
+    B::Pass: Drop,
+{
+    let (board, mut pass) = alone::<R, B>(rt, alloc);
+    serves_one(rt, &board, &mut pass);
+    let mut passes = Vec::new(more);
+    gather(rt, &board, &mut passes, pass);
     let ledger = settle(board, passes);
     assert!(rt; ledger.closed);
     let history = [
@@ -386,4 +413,20 @@ fn a_mailbox_closes_after_its_last_done(rt: HostRuntime) {
     for mailbox in &ledger.histories {
         assert_eq!(rt; mailbox.history(), history.as_slice());
     }
+}
+
+#[test]
+fn behind_one_lock(rt: HostRuntime) {
+    closes_after_the_last_done::<_, OneLock<Letter, (), Global>>(&rt, rt.alloc(), rt.alloc());
+    has_one_call::<_, OneLock<Letter, (), Global>>(&rt, rt.alloc());
+    stops_posts::<_, OneLock<Letter, (), Global>>(&rt, rt.alloc());
+    closes_alone::<_, OneLock<Letter, (), Global>>(&rt, rt.alloc(), rt.alloc());
+}
+
+#[test]
+fn behind_a_lock_for_each(rt: HostRuntime) {
+    closes_after_the_last_done::<_, LockPerBox<Letter, (), Global>>(&rt, rt.alloc(), rt.alloc());
+    has_one_call::<_, LockPerBox<Letter, (), Global>>(&rt, rt.alloc());
+    stops_posts::<_, LockPerBox<Letter, (), Global>>(&rt, rt.alloc());
+    closes_alone::<_, LockPerBox<Letter, (), Global>>(&rt, rt.alloc(), rt.alloc());
 }

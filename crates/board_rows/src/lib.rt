@@ -4,6 +4,8 @@
 #[cfg(test)]
 mod boards;
 #[cfg(test)]
+mod held;
+#[cfg(test)]
 mod locks;
 #[cfg(test)]
 mod mailboxes;

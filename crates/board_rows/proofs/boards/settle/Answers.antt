@@ -1,9 +1,7 @@
--- The sights of the passes are what contracts see them as.
-use Rattle.std.proofs.Common.{sym, subst, arith}
-use Rattle.switchboard.specs.Promises.{AreAll}
-use Rattle.switchboard.proofs.Opening.{map_same}
+-- As many sights as passes.
+use Rattle.std.proofs.Common.{◌≡◌, map, length, arith}
+use Rattle.std.proofs.lemmas.List.{length-map}
 use Rattle.board_rows.proofs.boards.settle.Goals as goal
 
-pub into_ledger-requires : goal.into_ledger-requires
-into_ledger-requires g c =
-    subst (AreAll c.args.board.lock.id c.args.board.lock.lanes) (sym (map_same c.args.passes.items)) (omega (arith, c.requires.1, c.args.passes.ok.0), c.requires.0)
+pub into_ledger-ledger-requires : goal.into_ledger-ledger-requires
+into_ledger-ledger-requires g c = (omega (arith, c.requires.1, c.args.passes.ok.0, length-map c.args.passes.items g.B.Board.sight), c.requires.0)
