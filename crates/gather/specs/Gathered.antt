@@ -1,7 +1,6 @@
 -- What is gathered of outcomes.
 use Rattle.std.specs.Prelude.{◌≡◌, ◌≤◌, ◌⊎◌, ◌↔◌, ℕ, Bool, true, List, [], ◌∷◌}
 use Rattle.std.specs.Prelude.{Option, Some, None, map, Result, IfOk, IfErr}
-use Rattle.atomic_table.specs.Seated.{TableId}
 use Rattle.post_ledger.specs.declared.event.Event.{Event}
 use Rattle.language.specs.Step.{Program}
 use Rattle.language.specs.Flow.{Member}
@@ -11,12 +10,10 @@ use Rattle.flow_graph.specs.declared.graph.Graphs.{Graphs}
 use Rattle.flow_graph.specs.Drawn.{bad_of, graphs_of}
 use Rattle.flow_graph.specs.Graphs.{AreDrawnFrom}
 use Rattle.summaries.specs.declared.due.Due.{Due}
-use Rattle.summaries.specs.declared.edge_limit.EdgeLimit.{EdgeLimit}
 use Rattle.summaries.specs.Limits.{most_of}
 use Rattle.summaries.specs.Effects.{Effects}
 use Rattle.summaries.specs.Tabulated.{AreSummaries, SomePairBad, HasMoreEdges}
-use Rattle.switchboard.specs.Sights.{Sight}
-use Rattle.gather.specs.Ends.{HaveEnded, AreOfBoard}
+use Rattle.gather.specs.Ends.{AreOfBoard}
 use Rattle.summaries.specs.declared.no_verdict.NoVerdict.{NoVerdict}
 use Rattle.summaries.specs.declared.no_verdict.NoVerdict.TheVariants as verdict
 use Rattle.summaries.specs.declared.table.Table.{Table}
@@ -101,10 +98,3 @@ module _ {G A S : Type 0} (members : S → List Triple) where
   Gathers graphs outcomes r =
       (histories : List (List (Event Due))) (closed : Bool) (of : AreOfBoard members graphs histories closed outcomes)
       → IfOk r (IsGathered graphs (most_of of.limit) closed (ends_of outcomes)) × IfErr r (IsCause (ends_of outcomes))
-
--- The lanes with these passes have ended, and their outcomes are gathered.
-pub record HasGathered {G : Type 0} (A : Type 0) {S : Type 0} (members : S → List Triple) (graphs : Graphs G)
-    (limit : EdgeLimit) (board : TableId) (passes : List (Sight Due (Graphs G))) (r : Result Effects NoVerdict) : Type 0 where
-  pub outcomes : List (Outcome G A S)
-  pub ended : HaveEnded members graphs limit board passes outcomes
-  pub gathers : Gathers members graphs outcomes r
