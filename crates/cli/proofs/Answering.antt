@@ -1,6 +1,6 @@
 -- What a report says of the program that it is on, and what is told of it.
-use Rattle.std.proofs.Common.{◌≡◌, ◌∙◌, ◌↔◌, ◌++◌, ◌≤◌, ℕ, suc, Bool, true, false, List, [], ◌∷◌, ◌+◌, Some}
-use Rattle.std.proofs.Common.{cond, count_by, inl, inr, refl, sym, ap, subst, arith, length, map, slice_get}
+use Rattle.std.proofs.Common.{◌≡◌, ◌∙◌, ◌↔◌, ◌++◌, ℕ, suc, Bool, true, false, List, ◌∷◌, ◌+◌}
+use Rattle.std.proofs.Common.{cond, count_by, inl, inr, refl, sym, ap, subst, arith, length}
 use Rattle.std.proofs.lemmas.List.{length-map}
 use Rattle.std.proofs.lemmas.List.Recursion.{is_count_by}
 use Rattle.language.specs.Tree.{Procedure, Tree}
@@ -8,7 +8,6 @@ use Rattle.language.specs.Resolve.{meaning_of}
 use Rattle.language.specs.Rounds as rounds
 use Rattle.language.specs.Step.{Program}
 use Rattle.scopes.specs.Checked.{IsChecked}
-use Rattle.syntax.specs.Text.{Text}
 use Rattle.round_rewrite.proofs.Widths.{few_procedures}
 use Rattle.post_ledger.specs.declared.event.Event.{Event}
 use Rattle.post_ledger.specs.History.{posts, takes}

@@ -1,5 +1,5 @@
 -- What is counted of procedures is how many entries, pairs and messages they have.
-use Rattle.std.proofs.Common.{◌≡◌, ◌∙◌, ◌⊎◌, ◌↔◌, ◌<◌, ◌++◌, ℕ, zero, suc, List, [], ◌∷◌, Some, None, inl, inr}
+use Rattle.std.proofs.Common.{◌≡◌, ◌∙◌, ◌⊎◌, ◌<◌, ◌++◌, ℕ, zero, suc, List, [], ◌∷◌, Some, inl, inr}
 use Rattle.std.proofs.Common.{refl, sym, ap, ap₂, subst}
 use Rattle.std.proofs.Common.{◌+◌, ◌≤◌, add-one, append_assoc, append-nil, arith, count_by, get_or, length, map}
 use Rattle.std.proofs.Common.{option_map, slice_get, take}
@@ -15,14 +15,13 @@ use Rattle.round_rewrite.specs.Names.{rewritten_procedure, rewritten_tree}
 use Rattle.language.specs.Step.{Program}
 use Rattle.language.specs.Flow.{Member}
 use Rattle.path_sets.specs.Triples.{NoneTwice}
-use Rattle.flow_graph.specs.Numbers.{IsNumberOfEntry}
 use Rattle.post_ledger.specs.declared.event.Event.{Event}
 use Rattle.summaries.specs.declared.due.Due.{Due}
 use Rattle.summaries.specs.declared.pair.Pair.{Pair}
 use Rattle.summaries.specs.Effects.{Effect, Effects}
 use Rattle.summaries.specs.Fitting.{IsDueFor}
 use Rattle.summaries.specs.Tabulated.{ArePairsAscending, AreSummaries, IsAscending, IsSummary}
-use Rattle.cli.specs.Counts.{AreCountsOf, AreSoMany, Counts, IsPairOf, TellCounts, counts_line, counts_lines, names_of}
+use Rattle.cli.specs.Counts.{AreCountsOf, AreSoMany, Counts, TellCounts, counts_line, counts_lines, names_of}
 use Rattle.cli.specs.Counted.{counted, counted_each, is_take}
 
 -- of ascending numbers, the first is less than each other

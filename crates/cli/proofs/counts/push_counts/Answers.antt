@@ -1,5 +1,5 @@
 -- Each turn writes one line more, and the last turn is over the last procedure.
-use Rattle.std.proofs.Common.{◌≡◌, ◌∙◌, ◌<◌, ◌≤◌, Some, ap, arith, count_by, length, refl, slice_get, sym}
+use Rattle.std.proofs.Common.{◌∙◌, ◌<◌, ◌≤◌, ap, arith, count_by, length, refl, sym}
 use Rattle.std.proofs.lemmas.Option.{slice_get_read}
 use Rattle.std.specs.String.{string_bytes}
 use Rattle.syntax.specs.Trees.{tree_of}

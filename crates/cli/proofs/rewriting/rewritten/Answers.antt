@@ -1,5 +1,5 @@
 -- A text that is rewritten is that of a checked program; where the rewriting fails, it is too wide.
-use Rattle.std.proofs.Common.{◌≡◌, ℕ, None, refl, subst, inl, inr}
+use Rattle.std.proofs.Common.{ℕ, None, refl, subst, inl, inr}
 use Rattle.std.proofs.lemmas.Result.{err_from_is_err_and}
 use Rattle.round_rewrite.specs.Narrow.{AllNarrow, IsNarrow}
 use Rattle.round_rewrite.specs.declared.fault.RewriteFault.TheVariants.{Memory, TooWide}
