@@ -29,7 +29,7 @@ module _ (A : Type 0) (bytes : List ℕ) (tokens : List Tok) (within : length by
 
   stands : (e : ReadFault) → Fails {Y = Tree × List Tok} e (program tokens) → Stands e bytes
   stands (fault.Syntax at) f = (within, ascii, inr (tokens, cut, shallow, λ tree is. let h = program_reads tokens tree is in cc))
-  stands fault.Memory f = tt
+  stands fault.Memory f = (within, ascii)
   stands fault.TooLong f = absurd f
   stands fault.NotAscii f = absurd f
   stands fault.TooDeep f = absurd f

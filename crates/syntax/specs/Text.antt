@@ -29,13 +29,13 @@ NoProgram bytes = (tokens : List Tok) × Cuts 0 bytes tokens × (TooDeep tokens 
 
 -- The fault stands, and none that is tested before it: too many bytes; a byte that is not ASCII; a place
 -- up to which the bytes are cut into tokens and where no token begins; tokens that are too deep; tokens that are no
--- program. Want of memory may come at any point.
+-- program. Want of memory may come wherever the bytes are not too many and ASCII: those two tests take none.
 abbrev pub Stands : ReadFault → List ℕ → Type 0
 Stands fault.TooLong bytes = 65536 < length bytes
 Stands fault.NotAscii bytes = (length bytes ≤ 65536) × (IsAscii bytes → ⊥)
 Stands (fault.Syntax at) bytes = (length bytes ≤ 65536) × IsAscii bytes × (BadAt 0 bytes at ⊎ NoProgram bytes)
 Stands fault.TooDeep bytes = (length bytes ≤ 65536) × IsAscii bytes × DeepTokens bytes
-Stands fault.Memory bytes = Unit {0}
+Stands fault.Memory bytes = (length bytes ≤ 65536) × IsAscii bytes
 
 -- The faults are tested in the order of these numbers, but that the tokens are tested for being a program last.
 abbrev pub number : ReadFault → ℕ

@@ -17,7 +17,7 @@ const LIMIT: usize = 65536;
 
 /// Reads a text: its tree, with the offset of each name and statement. The faults are tested in the order of their
 /// numbers, but `Syntax`, which comes before `TooDeep` where the text is no list of tokens, and after it where the
-/// tokens are no program; `Memory` may come at any point.
+/// tokens are no program; `Memory` may come at any point behind `TooLong` and `NotAscii`, whose tests take none.
 pub fn read<A: Allocator + Clone>(alloc: A, bytes: &[u8]) -> Result<Program<A>, ReadFault>
     // What is read is a text with that tree.
     ensures found { IfOk result (λ program. Text bytes.now (tree_of program)) }
