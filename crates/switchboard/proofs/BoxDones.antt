@@ -19,15 +19,15 @@ use Rattle.switchboard.specs.Sights.{Sight}
 use Rattle.switchboard.specs.Promises.{WasDone, Added, MadeAbort}
 use Rattle.switchboard.specs.Entries.{job_stays}
 use Rattle.switchboard.specs.Knowing.{hand_at, counted_down, made_abort}
-use Rattle.switchboard.specs.PerBox.{View, Asks, Tells, IsInside, Raised}
+use Rattle.switchboard.specs.PerBox.{View, Asks, Tells, IsInside, Raised, Seat}
 use Rattle.switchboard.specs.BoxPasses.{IsIdle, box_sight, IsBoxPass}
 use Rattle.switchboard.proofs.BoxCalls.{Later, Visit, own_part, first_later, step_later, own_same, goes, pass_on, recorded_is, added_is, record_on}
 
-module _ {M W : Type 0} (fits : W → ℕ → M → Type 0) (id : TableId) (number left : ℕ) (made : Bool) (w : W) (boxes : ℕ) (m : table.Me (Option (List (Event M))) (View M W)) (p : IsBoxPass fits id number left made w boxes m) where
+module _ {M W : Type 0} (fits : W → ℕ → M → Type 0) (id : TableId) (number left : ℕ) (made : Bool) (w : W) (boxes : ℕ) (m : Seat M W) (p : IsBoxPass fits id number left made w boxes m) where
   abbrev before : Sight M W
   before = box_sight id number left made w boxes m.0.seen
 
-  module _ (x : List (Event M)) (v : table.Me (Option (List (Event M))) (View M W)) (inside : IsInside fits number x m v) (job take : ℕ) (same_job : take ≡ job) (s : Sight M W) (see : before ≡ s) (has : HasJob s.number job s.seen.order) where
+  module _ (x : List (Event M)) (v : Seat M W) (inside : IsInside fits number x m v) (job take : ℕ) (same_job : take ≡ job) (s : Sight M W) (see : before ≡ s) (has : HasJob s.number job s.seen.order) where
     list : own number v.0.seen.order ≡ own number m.0.seen.order
     list = own_same fits id number left made w boxes m p m.0 v.0.seen.order refl inside.own
 
@@ -46,7 +46,7 @@ module _ {M W : Type 0} (fits : W → ℕ → M → Type 0) (id : TableId) (numb
       done_asks z ends = subst (λ k. Asks fits number (passes k y) v.0) (EndsIn-same (hand_at number v.0).seen x z inside.found ends)
           (inr (own_part fits id number left made w boxes m p, Done take, lanes ∙ p.lanes, list, grown, (refl, may_complete)))
 
-      module _ (out : table.Me (Option (List (Event M))) (View M W)) (gone : lock.Left (hand_at number) (Tells fits number) y v out) (some_of : left ≡ 0 → ⊥) where
+      module _ (out : Seat M W) (gone : lock.Left (hand_at number) (Tells fits number) y v out) (some_of : left ≡ 0 → ⊥) where
         visit : Visit fits number x y m v v out
         visit = record { inside = inside; hands = refl; slots = refl; left = gone }
 
@@ -67,8 +67,8 @@ module _ {M W : Type 0} (fits : W → ℕ → M → Type 0) (id : TableId) (numb
         done_owes = ap (λ (z : View M W). z.owes) (recorded_is fits id number left made w boxes m p number x y m v v out visit p.hands refl some_of board lanes told budget later (Done take) grown refl).after
             ∙ omega (arith, ap (λ (z : View M W). z.owes) inside.after, p.owes)
 
-        module _ (u : table.Me (Option (List (Event M))) (View M W)) (counted : u ≡ (counted_down out.0, out.1)) (id' : TableId) (same : id' ≡ id) where
-          abbrev after : table.Me (Option (List (Event M))) (View M W)
+        module _ (u : Seat M W) (counted : u ≡ (counted_down out.0, out.1)) (id' : TableId) (same : id' ≡ id) where
+          abbrev after : Seat M W
           after = (counted_down out.0, out.1)
 
           pub done_on : IsBoxPass fits id' number (left - 1) made w boxes u
@@ -79,12 +79,12 @@ module _ {M W : Type 0} (fits : W → ℕ → M → Type 0) (id : TableId) (numb
           was_done =
               let a = added_is fits id number left made w boxes m p number x y m v v out visit p.hands refl some_of board lanes told budget later (Done take) grown refl id' same in
               let b : Added fits (Completed number job) before (box_sight id' number (left - 1) made w boxes out.0.seen) = subst (λ k. Added fits (Completed number k) before (box_sight id' number (left - 1) made w boxes out.0.seen)) same_job a in
-              let c : Added fits (Completed number job) before (box_sight id' number (left - 1) made w boxes u.0.seen) = subst (λ (z : Seen M). Added fits (Completed number job) before (box_sight id' number (left - 1) made w boxes z)) (sym (ap (λ (z : table.Me (Option (List (Event M))) (View M W)). z.0.seen) counted)) b in
+              let c : Added fits (Completed number job) before (box_sight id' number (left - 1) made w boxes u.0.seen) = subst (λ (z : Seen M). Added fits (Completed number job) before (box_sight id' number (left - 1) made w boxes z)) (sym (ap (λ (z : Seat M W). z.0.seen) counted)) b in
               subst (λ (z : Sight M W). Added fits (Completed z.number job) z (box_sight id' number (left - 1) made w boxes u.0.seen)) see c
 
-  module _ (cause : Cause) (u : table.Me (Option (List (Event M))) (View M W)) (raised : Raised fits record { by = number; cause = cause } m u) (not_made : made ≡ false) (id' : TableId) (same : id' ≡ id) where
+  module _ (cause : Cause) (u : Seat M W) (raised : Raised fits record { by = number; cause = cause } m u) (not_made : made ≡ false) (id' : TableId) (same : id' ≡ id) where
     is : (u.0 ≡ record m.0 { lanes = map made_abort m.0.lanes; seen = u.0.seen })
-    is = ap (λ (z : table.Me (Option (List (Event M))) (View M W)). z.0) raised.after
+    is = ap (λ (z : Seat M W). z.0) raised.after
 
     later_raised : Later fits w boxes m.0.seen u.0.seen
     later_raised = step_later fits id number left made w boxes m p m.0 u.0.seen refl (first_later fits id number left made w boxes m p) raised.news
@@ -98,7 +98,7 @@ module _ {M W : Type 0} (fits : W → ℕ → M → Type 0) (id : TableId) (numb
     pub abort_on : IsBoxPass fits id' number left true w boxes u
     abort_on = pass_on fits id number left made w boxes m p id' left true u same (ap (λ (z : View M W). z.boards) is)
         (ap (λ (z : View M W). z.lanes) is ∙ (ap (map made_abort) p.lanes ∙ ap (λ l. record { number = number; events = l; made = true } ∷ []) (sym list_raised)))
-        (ap (λ (z : table.Me (Option (List (Event M))) (View M W)). z.1) raised.after ∙ p.outside) (ap (λ (z : View M W). z.told) is ∙ p.told) (ap (λ (z : View M W). z.owes) is ∙ p.owes)
+        (ap (λ (z : Seat M W). z.1) raised.after ∙ p.outside) (ap (λ (z : View M W). z.told) is ∙ p.told) (ap (λ (z : View M W). z.owes) is ∙ p.owes)
         (omega (arith, ap (λ (z : View M W). z.budget) is, p.budget)) (λ q near. subst (λ (z : View M W). IsIdle left (hand_at q z)) (sym is) (p.hands q near))
         record { sound = later_raised.sound; close = later_raised.close; known = λ _. knows_it }
 

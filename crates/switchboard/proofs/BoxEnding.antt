@@ -24,7 +24,7 @@ use Rattle.switchboard.specs.declared.knowing.Own.{Own}
 use Rattle.switchboard.specs.Sights.{Sight, IsSound}
 use Rattle.switchboard.specs.Promises.{AreAll, Settles}
 use Rattle.switchboard.specs.Knowing.{bare, merged_hands, made_by, state_of, hand_at, numbers, makes, merged, taken_in}
-use Rattle.switchboard.specs.PerBox.{View, flag, Saw, Rule, TookIn}
+use Rattle.switchboard.specs.PerBox.{View, flag, Saw, Rule, TookIn, Seat, owed}
 use Rattle.switchboard.specs.PerBoxFacts.{number_in, closed_at_zero}
 use Rattle.switchboard.specs.BoxEnds.{own_of, HasTaken, Gathered, HasSeat, Ends}
 use Rattle.switchboard.proofs.BoxSeats.{merged_is}
@@ -40,7 +40,7 @@ knew_first false b e = e
 
 module _ {M W : Type 0} (fits : W → ℕ → M → Type 0) where
   -- a pass's own seat has what the pass had
-  pub taken_self : (s : Sight M W) (id : TableId) (me : table.Me (Option (List (Event M))) (View M W)) → HasSeat fits s id me → HasTaken s me.0
+  pub taken_self : (s : Sight M W) (id : TableId) (me : Seat M W) → HasSeat fits s id me → HasTaken s me.0
   taken_self s id me has =
       let p = has.0 in
       subst (λ z. HasTaken z me.0) has.1 record {
@@ -59,7 +59,7 @@ module _ {M W : Type 0} (fits : W → ℕ → M → Type 0) where
     more = are ∙ append_assoc front (s ∷ []) rest
 
     -- the first seat
-    pub gathered_first : (id : TableId) (me : table.Me (Option (List (Event M))) (View M W)) → HasSeat fits s id me → s.seen.boxes ≡ boxes → rest ≡ [] → Gathered boxes all (length front) me
+    pub gathered_first : (id : TableId) (me : Seat M W) → HasSeat fits s id me → s.seen.boxes ≡ boxes → rest ≡ [] → Gathered boxes all (length front) me
     gathered_first id me has count none =
         let p = has.0 in
         let long : length all ≡ length front + 1 = ap length more ∙ (length-append front (s ∷ rest) ∙ ap (λ (l : List (Sight M W)). length front + length (s ∷ l)) none) in
@@ -76,19 +76,19 @@ module _ {M W : Type 0} (fits : W → ℕ → M → Type 0) where
         }
 
     -- one more seat taken in
-    pub gathered_more : (id : TableId) (me own_me me' : table.Me (Option (List (Event M))) (View M W)) → Gathered boxes all (length (front ++ s ∷ [])) me → HasSeat fits s id own_me → s.seen.boxes ≡ boxes → TookIn fits (merged me.0 own_me.0, me.1) me'
+    pub gathered_more : (id : TableId) (me own_me me' : Seat M W) → Gathered boxes all (length (front ++ s ∷ [])) me → HasSeat fits s id own_me → s.seen.boxes ≡ boxes → TookIn fits (merged me.0 own_me.0, me.1) me'
         → Gathered boxes all (length front) me'
     gathered_more id me own_me me' g has count took =
         let p = has.0 in
         let v : View M W = me.0 in
         let w : View M W = own_me.0 in
-        let is : me'.0 ≡ taken_in (merged v w) = ap (λ (z : table.Me (Option (List (Event M))) (View M W)). z.0) took.after in
+        let is : me'.0 ≡ taken_in (merged v w) = ap (λ (z : Seat M W). z.0) took.after in
         let lanes : me'.0.lanes ≡ v.lanes ++ w.lanes = ap (λ (z : View M W). z.lanes) is in
         let boards : me'.0.boards ≡ v.boards ++ w.boards = ap (λ (z : View M W). z.boards) is in
         let theirs = taken_self s id own_me has in
         let long : length (front ++ s ∷ []) ≡ length front + 1 = length-append front (s ∷ []) in
         record {
-          out = ap (λ (z : table.Me (Option (List (Event M))) (View M W)). z.1) took.after ∙ g.out;
+          out = ap (λ (z : Seat M W). z.1) took.after ∙ g.out;
           told = ap (λ (z : View M W). z.told) is;
           owes = omega (arith, ap (λ (z : View M W). z.owes) is, g.owes, p.owes);
           quiet = λ q near.
@@ -184,7 +184,7 @@ module _ {M W : Type 0} (fits : W → ℕ → M → Type 0) (g : Ground M W) whe
       let is_at = final.1.1 in
       let k = r.each id v is_at in
       let none : (j : ℕ) (u : View M W) → j ≢ id → get_elem? s.views j ≡ some u → length u.lanes ≡ 0 = λ j u ne at. (let two = total_two (λ (z : View M W). length z.lanes) s.views id j v u (λ e. ne (sym e)) is_at at in omega (arith, r.whole)) in
-      let no_more : total (λ (z : View M W). z.owes) s.views ≡ 0 = total_only (λ (z : View M W). z.owes) s.views id v is_at (λ j u ne at. (r.each j u at).idle (none j u ne at)) ∙ owes in
+      let no_more : owed s.views ≡ 0 = total_only (λ (z : View M W). z.owes) s.views id v is_at (λ j u ne at. (r.each j u at).idle (none j u ne at)) ∙ owes in
       let counts = counted_closed g.boxes r.order r.sound.lawful in
       record {
         order = r.order;
@@ -199,7 +199,7 @@ module _ {M W : Type 0} (fits : W → ℕ → M → Type 0) (g : Ground M W) whe
         word = first_word_is words n word ∙ (ap (λ l. get_or l 0 0) (sym final.2) ∙ r.word);
         small = omega (arith, r.few);
         close = (
-          (λ z. closed_at_zero g.boxes r.order r.low (total (λ (u : View M W). u.owes) s.views) r.sound.lawful r.count z),
+          (λ z. closed_at_zero g.boxes r.order r.low (owed s.views) r.sound.lawful r.count z),
           λ closed. omega (arith, counts.1 closed, r.count, no_more),
         );
         at = λ q near.
@@ -249,7 +249,7 @@ module _ {M W : Type 0} (fits : W → ℕ → M → Type 0) (g : Ground M W) whe
       zero_low z = eq-eqb (n % 2 ^ 63) 0 (ap (λ k. k % 2 ^ 63) (r.word ∙ (ap (λ k. k + flag r.first) z ∙ omega arith)) ∙ flag_whole r.first)
 
   -- what is left of the board is what it promises
-  pub settles_is : (id : TableId) (all : List (Sight M W)) (me : table.Me (Option (List (Event M))) (View M W)) (histories : List (List (Event M))) (closed : Bool) → AreAll id g.boxes all → Gathered g.boxes all 0 me → Ends fits g me.0 histories closed
+  pub settles_is : (id : TableId) (all : List (Sight M W)) (me : Seat M W) (histories : List (List (Event M))) (closed : Bool) → AreAll id g.boxes all → Gathered g.boxes all 0 me → Ends fits g me.0 histories closed
       → Settles fits g.boxes all histories closed
   settles_is id all me histories closed every gathered e =
       let has : (j : ℕ) (s : Sight M W) → slice_get all j ≡ Some s → HasTaken s me.0 = λ j s at. gathered.each j s (omega arith) at in

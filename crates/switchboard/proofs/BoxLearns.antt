@@ -15,7 +15,7 @@ use Rattle.switchboard.specs.declared.knowing.Seen.{Seen}
 use Rattle.switchboard.specs.Sights.{Sight, Account}
 use Rattle.switchboard.specs.Promises.{Learned}
 use Rattle.switchboard.specs.Knowing.{bare, merged_hands, either_abort, both_seen, only_seen, merged, taken_in}
-use Rattle.switchboard.specs.PerBox.{View, TookIn}
+use Rattle.switchboard.specs.PerBox.{View, TookIn, Seat}
 use Rattle.switchboard.specs.BoxPasses.{IsIdle, box_sight, box_account, IsBoxPass, IsBoxTold}
 use Rattle.switchboard.proofs.BoxCalls.{Later, own_part, first_later, step_later, seen_on, goes, pass_on, same_lanes}
 
@@ -35,8 +35,8 @@ told_knew : (a b : Bool) → b ≡ true → a || b ≡ true
 told_knew true b e = refl
 told_knew false b e = e
 
-module _ {M W : Type 0} (fits : W → ℕ → M → Type 0) (id : TableId) (number left : ℕ) (made : Bool) (w : W) (boxes : ℕ) (m : table.Me (Option (List (Event M))) (View M W)) (p : IsBoxPass fits id number left made w boxes m) where
-  module _ (told : table.Me (Option (List (Event M))) (View M W)) (told_id : TableId) (t : IsBoxTold told_id told) (u : table.Me (Option (List (Event M))) (View M W)) (took : TookIn fits (merged m.0 told.0, m.1) u) (id' : TableId) (same : id' ≡ id) where
+module _ {M W : Type 0} (fits : W → ℕ → M → Type 0) (id : TableId) (number left : ℕ) (made : Bool) (w : W) (boxes : ℕ) (m : Seat M W) (p : IsBoxPass fits id number left made w boxes m) where
+  module _ (told : Seat M W) (told_id : TableId) (t : IsBoxTold told_id told) (u : Seat M W) (took : TookIn fits (merged m.0 told.0, m.1) u) (id' : TableId) (same : id' ≡ id) where
     abbrev x : Seen M
     x = told.0.seen
 
@@ -44,7 +44,7 @@ module _ {M W : Type 0} (fits : W → ℕ → M → Type 0) (id : TableId) (numb
     n = merged m.0 told.0
 
     blank : told.0 ≡ only_seen x
-    blank = ap (λ (z : table.Me (Option (List (Event M))) (View M W)). z.0) t.blank
+    blank = ap (λ (z : Seat M W). z.0) t.blank
 
     hands : n.hands ≡ m.0.hands
     hands = ap (λ (z : View M W). merged_hands m.0.hands z.hands) blank ∙ merged_none m.0.hands
@@ -56,7 +56,7 @@ module _ {M W : Type 0} (fits : W → ℕ → M → Type 0) (id : TableId) (numb
     boards = ap (λ (z : View M W). m.0.boards ++ z.boards) blank ∙ append-nil m.0.boards
 
     is : u.0 ≡ taken_in n
-    is = ap (λ (z : table.Me (Option (List (Event M))) (View M W)). z.0) took.after
+    is = ap (λ (z : Seat M W). z.0) took.after
 
     later : Later fits w boxes m.0.seen u.0.seen
     later = step_later fits id number left made w boxes m p n u.0.seen boards (first_later fits id number left made w boxes m p) took.news
@@ -66,7 +66,7 @@ module _ {M W : Type 0} (fits : W → ℕ → M → Type 0) (id : TableId) (numb
 
     pub learn_on : IsBoxPass fits id' number left made w boxes u
     learn_on = pass_on fits id number left made w boxes m p id' left made u same (ap (λ (z : View M W). z.boards) is ∙ boards) (same_lanes fits id number left made w boxes m p u.0 (ap (λ (z : View M W). z.lanes) is ∙ lanes) list)
-        (ap (λ (z : table.Me (Option (List (Event M))) (View M W)). z.1) took.after ∙ p.outside) (ap (λ (z : View M W). z.told) is) (omega (arith, ap (λ (z : View M W). z.owes) is, ap (λ (z : View M W). z.owes) blank, p.owes))
+        (ap (λ (z : Seat M W). z.1) took.after ∙ p.outside) (ap (λ (z : View M W). z.told) is) (omega (arith, ap (λ (z : View M W). z.owes) is, ap (λ (z : View M W). z.owes) blank, p.owes))
         (omega (arith, ap (λ (z : View M W). z.budget) is, p.budget)) (λ q near. subst (λ h. IsIdle left h) (sym (ap (λ (z : View M W). get_or z.hands q (bare 0)) is ∙ ap (λ l. get_or l q (bare 0)) hands)) (p.hands q near))
         (seen_on fits w boxes made m.0.seen u.0.seen p.seen later)
 

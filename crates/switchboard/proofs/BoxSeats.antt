@@ -18,7 +18,7 @@ use Rattle.switchboard.specs.declared.knowing.Ground.{Ground}
 use Rattle.switchboard.specs.declared.knowing.Seen.{Seen}
 use Rattle.switchboard.specs.declared.knowing.Own.{Own}
 use Rattle.switchboard.specs.Knowing.{bare, merged_hands, unseen, made_by, hand_at, numbers, makes, only_seen, merged}
-use Rattle.switchboard.specs.PerBox.{View, word_of, Saw, Knows, Rule}
+use Rattle.switchboard.specs.PerBox.{View, word_of, Saw, Knows, Rule, Boxes}
 
 module _ {T : Type 0} where
   -- two hands have what one had
@@ -97,7 +97,7 @@ module _ {M W : Type 0} (fits : W → ℕ → M → Type 0) (g : Ground M W) whe
     idle = λ e. refl;
   }
 
-  module _ (s : table.State (Option (List (Event M))) (View M W)) (r : Rule fits g s) (id : ℕ) (v : View M W) (is_at : get_elem? s.views id ≡ some v) where
+  module _ (s : Boxes M W) (r : Rule fits g s) (id : ℕ) (v : View M W) (is_at : get_elem? s.views id ≡ some v) where
     -- a seat cut in two
     pub splits : (a b : View M W) → ((q : ℕ) → q < g.boxes → Divides (hand_at q v) (hand_at q a) (hand_at q b)) → Knows fits g r.order r.first r.low a → Knows fits g r.order r.first r.low b
         → ((n : ℕ) → times n (numbers a) + times n (numbers b) ≡ times n (numbers v)) → length a.lanes + length b.lanes ≡ length v.lanes → ((n : ℕ) → makes n a + makes n b ≡ makes n v)

@@ -20,7 +20,7 @@ use Rattle.switchboard.specs.declared.knowing.Seen.{Seen}
 use Rattle.switchboard.specs.Sights.{Sight}
 use Rattle.switchboard.specs.Promises.{Took}
 use Rattle.switchboard.specs.Knowing.{hand_at}
-use Rattle.switchboard.specs.PerBox.{View, flag, Asks, Tells, IsInside, Looked}
+use Rattle.switchboard.specs.PerBox.{View, flag, Asks, Tells, IsInside, Looked, Seat}
 use Rattle.switchboard.specs.BoxPasses.{IsIdle, box_sight, IsBoxPass}
 use Rattle.switchboard.specs.BoxAnswers.{TookOut}
 use Rattle.switchboard.proofs.Visits.{posted_fits}
@@ -36,8 +36,8 @@ low_some : (low n : ℕ) (a : Option Abort) → n ≡ low + flag a → (n % 2 ^ 
 low_some low n None is some_of zero = some_of (omega arith)
 low_some low n (Some a) is some_of zero = some_of (omega arith)
 
-module _ {M W : Type 0} (fits : W → ℕ → M → Type 0) (id : TableId) (number left : ℕ) (made : Bool) (w : W) (boxes : ℕ) (m : table.Me (Option (List (Event M))) (View M W)) (p : IsBoxPass fits id number left made w boxes m) (some_of : left ≡ 0 → ⊥)
-    (n : ℕ) (u : table.Me (Option (List (Event M))) (View M W)) (looked : Looked fits m n u) where
+module _ {M W : Type 0} (fits : W → ℕ → M → Type 0) (id : TableId) (number left : ℕ) (made : Bool) (w : W) (boxes : ℕ) (m : Seat M W) (p : IsBoxPass fits id number left made w boxes m) (some_of : left ≡ 0 → ⊥)
+    (n : ℕ) (u : Seat M W) (looked : Looked fits m n u) where
   abbrev before : Sight M W
   before = box_sight id number left made w boxes m.0.seen
 
@@ -60,20 +60,20 @@ module _ {M W : Type 0} (fits : W → ℕ → M → Type 0) (id : TableId) (numb
     flagged looked.low u.0.seen.aborted looked.small (omega (arith, looked.found)),
   )
 
-  module _ (more : n % 2 ^ 63 ≡ 0 → ⊥) (clear : n < 2 ^ 63) (x : List (Event M)) (v : table.Me (Option (List (Event M))) (View M W)) (inside : IsInside fits number x u v) where
+  module _ (more : n % 2 ^ 63 ≡ 0 → ⊥) (clear : n < 2 ^ 63) (x : List (Event M)) (v : Seat M W) (inside : IsInside fits number x u v) where
     same_lanes : v.0.lanes ≡ m.0.lanes
-    same_lanes = ap (λ (z : View M W). z.lanes) inside.after ∙ ap (λ (z : table.Me (Option (List (Event M))) (View M W)). z.0.lanes) looked.after
+    same_lanes = ap (λ (z : View M W). z.lanes) inside.after ∙ ap (λ (z : Seat M W). z.0.lanes) looked.after
 
     later : Later fits w boxes m.0.seen v.0.seen
     later =
         let first = step_later fits id number left made w boxes m p m.0 u.0.seen refl (first_later fits id number left made w boxes m p) looked.news in
-        step_later fits id number left made w boxes m p u.0 v.0.seen (ap (λ (z : table.Me (Option (List (Event M))) (View M W)). z.0.boards) looked.after) first inside.news
+        step_later fits id number left made w boxes m p u.0 v.0.seen (ap (λ (z : Seat M W). z.0.boards) looked.after) first inside.news
 
     list : own number v.0.seen.order ≡ own number m.0.seen.order
-    list = own_same fits id number left made w boxes m p u.0 v.0.seen.order (ap (λ (z : table.Me (Option (List (Event M))) (View M W)). z.0.lanes) looked.after) inside.own
+    list = own_same fits id number left made w boxes m p u.0 v.0.seen.order (ap (λ (z : Seat M W). z.0.lanes) looked.after) inside.own
 
     owes : v.0.owes ≡ 0
-    owes = ap (λ (z : View M W). z.owes) inside.after ∙ (ap (λ (z : table.Me (Option (List (Event M))) (View M W)). z.0.owes) looked.after ∙ p.owes)
+    owes = ap (λ (z : View M W). z.owes) inside.after ∙ (ap (λ (z : Seat M W). z.0.owes) looked.after ∙ p.owes)
 
     alive : v.0.seen.aborted ≡ None
     alive = inside.aborted ∙ not_flagged looked.low u.0.seen.aborted (omega (arith, looked.found))
@@ -88,24 +88,24 @@ module _ {M W : Type 0} (fits : W → ℕ → M → Type 0) (id : TableId) (numb
           asks answer.Closed t = absurd t
           asks answer.Aborted t = absurd t
 
-      module _ (out : table.Me (Option (List (Event M))) (View M W)) (gone : lock.Left (hand_at number) (Tells fits number) y v out) where
+      module _ (out : Seat M W) (gone : lock.Left (hand_at number) (Tells fits number) y v out) where
         visit : Visit fits number x y u v v out
         visit = record { inside = inside; hands = refl; slots = refl; left = gone }
 
         idle : (k : ℕ) → k < boxes → IsIdle left (hand_at k u.0)
-        idle k near = subst (λ (z : table.Me (Option (List (Event M))) (View M W)). IsIdle left (hand_at k z.0)) (sym looked.after) (p.hands k near)
+        idle k near = subst (λ (z : Seat M W). IsIdle left (hand_at k z.0)) (sym looked.after) (p.hands k near)
 
         board : v.0.boards ≡ m.0.boards
-        board = ap (λ (z : View M W). z.boards) inside.after ∙ ap (λ (z : table.Me (Option (List (Event M))) (View M W)). z.0.boards) looked.after
+        board = ap (λ (z : View M W). z.boards) inside.after ∙ ap (λ (z : Seat M W). z.0.boards) looked.after
 
         told : v.0.told ≡ m.0.told
-        told = ap (λ (z : View M W). z.told) inside.after ∙ ap (λ (z : table.Me (Option (List (Event M))) (View M W)). z.0.told) looked.after
+        told = ap (λ (z : View M W). z.told) inside.after ∙ ap (λ (z : Seat M W). z.0.told) looked.after
 
         budget : left ≤ v.0.budget + 1
-        budget = omega (arith, ap (λ (z : View M W). z.budget) inside.after, ap (λ (z : table.Me (Option (List (Event M))) (View M W)). z.0.budget) looked.after, p.budget)
+        budget = omega (arith, ap (λ (z : View M W). z.budget) inside.after, ap (λ (z : Seat M W). z.0.budget) looked.after, p.budget)
 
         slots : u.1 ≡ m.1
-        slots = ap (λ (z : table.Me (Option (List (Event M))) (View M W)). z.1) looked.after
+        slots = ap (λ (z : Seat M W). z.1) looked.after
 
         pub takes_on : (id' : TableId) → id' ≡ id → IsBoxPass fits id' number (left - 1) made w boxes out
         takes_on id' same = on r took

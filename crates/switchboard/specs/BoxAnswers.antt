@@ -10,7 +10,7 @@ use Rattle.switchboard.specs.declared.calls.PostFault.TheVariants as fault
 use Rattle.switchboard.specs.declared.calls.Taken.{Taken}
 use Rattle.switchboard.specs.declared.calls.Taken.TheVariants as answer
 use Rattle.switchboard.specs.Knowing.{with_seen, counted_up}
-use Rattle.switchboard.specs.PerBox.{View, News, HasOwn}
+use Rattle.switchboard.specs.PerBox.{View, News, HasOwn, Seat}
 
 module _ {M : Type 0} where
   -- the oldest message that was not taken is taken out of the mailbox, or every one is
@@ -26,7 +26,7 @@ module _ {M W : Type 0} (fits : W → ℕ → M → Type 0) where
   SawMore v w = News fits v w.seen × HasOwn fits v w.seen.order
 
   -- the message is put in, on a board that is not aborted, and is counted up; or it comes back, and the mailbox stays
-  abbrev pub PutIn : ℕ → ℕ → M → Result (Unit {0}) (PostFault M) → List (Event M) → List (Event M) → Me (Option (List (Event M))) (View M W) → Me (Option (List (Event M))) (View M W) → Type 0
+  abbrev pub PutIn : ℕ → ℕ → M → Result (Unit {0}) (PostFault M) → List (Event M) → List (Event M) → Seat M W → Seat M W → Type 0
   PutIn number job m (Ok u) x y v w = SawMore v.0 w.0 × (w.0.seen.aborted ≡ None) × (w ≡ (counted_up job (with_seen w.0.seen v.0), v.1)) × (y ≡ x ++ Post number m ∷ [])
   PutIn number job m (Err (fault.Spent back)) x y v w = ⊥
   PutIn number job m (Err (fault.Memory back)) x y v w = SawMore v.0 w.0 × (w.0.seen.aborted ≡ None) × (w ≡ (with_seen w.0.seen v.0, v.1)) × (y ≡ x) × (back ≡ m)

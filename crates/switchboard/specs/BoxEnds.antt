@@ -14,7 +14,7 @@ use Rattle.switchboard.specs.declared.knowing.Ground.{Ground}
 use Rattle.switchboard.specs.declared.knowing.Own.{Own}
 use Rattle.switchboard.specs.Sights.{Sight, IsSound}
 use Rattle.switchboard.specs.Knowing.{unseen, state_of, hand_at, numbers}
-use Rattle.switchboard.specs.PerBox.{View, Saw}
+use Rattle.switchboard.specs.PerBox.{View, Saw, Seat}
 use Rattle.switchboard.specs.BoxPasses.{box_sight, IsBoxPass}
 
 module _ {M W : Type 0} where
@@ -31,7 +31,7 @@ module _ {M W : Type 0} where
     pub world : (i : ℕ) × (g : Ground M W) × (get_elem? v.boards i ≡ some g) × (g.world.value ≡ s.seen.world)
 
   -- the seat has taken in the passes from number `from` on, and is outside all locks
-  pub record Gathered (boxes : ℕ) (all : List (Sight M W)) (from : ℕ) (me : Me (Option (List (Event M))) (View M W)) : Type 0 where
+  pub record Gathered (boxes : ℕ) (all : List (Sight M W)) (from : ℕ) (me : Seat M W) : Type 0 where
     pub out : me.1 ≡ []
     pub told : me.0.told ≡ unseen
     pub owes : me.0.owes ≡ 0
@@ -41,7 +41,7 @@ module _ {M W : Type 0} where
 
   module _ (fits : W → ℕ → M → Type 0) where
     -- the seat is that of the pass
-    abbrev pub HasSeat : Sight M W → TableId → Me (Option (List (Event M))) (View M W) → Type 0
+    abbrev pub HasSeat : Sight M W → TableId → Seat M W → Type 0
     HasSeat s id me = IsBoxPass fits id s.number s.calls s.made s.seen.world s.seen.boxes me × (box_sight id s.number s.calls s.made s.seen.world s.seen.boxes me.0.seen ≡ s)
 
     -- What is left of a board whose passes a seat has all: the longest order, whose parts are the histories; it is closed where no post is outstanding;

@@ -11,7 +11,7 @@ use Rattle.switchboard.specs.declared.knowing.Ground.{Ground}
 use Rattle.switchboard.specs.declared.knowing.Seen.{Seen}
 use Rattle.switchboard.specs.Sights.{State, Sight, Account, IsSound}
 use Rattle.switchboard.specs.Knowing.{unseen, only_seen, hand_at}
-use Rattle.switchboard.specs.PerBox.{View, IsSized}
+use Rattle.switchboard.specs.PerBox.{View, IsSized, Seat}
 
 -- the hand has nothing but its share, and has tickets for so many calls
 pub record IsIdle {T : Type 0} (left : ℕ) (h : Hand T) : Type 0 where
@@ -50,7 +50,7 @@ module _ {M W : Type 0} where
 
     -- The seat is this pass's alone, at a board of this world with so many mailboxes. It holds no mailbox, waits for none, and has none in the count; it
     -- made just its own events of the order that it has seen; it has tickets, and Posts to count up, for its calls.
-    pub record IsBoxPass (id : TableId) (number left : ℕ) (made : Bool) (w : W) (boxes : ℕ) (me : Me (Option (List (Event M))) (View M W)) : Type 0 where
+    pub record IsBoxPass (id : TableId) (number left : ℕ) (made : Bool) (w : W) (boxes : ℕ) (me : Seat M W) : Type 0 where
       pub base : Ground M W
       pub is_base : get_elem? me.0.boards 0 ≡ some base
       pub world : base.world.value ≡ w
@@ -66,5 +66,5 @@ module _ {M W : Type 0} where
       pub seen : IsSeen w boxes made me.0.seen
 
   -- a seat that has nothing, and saw this
-  pub record IsBoxTold (id : TableId) (me : Me (Option (List (Event M))) (View M W)) : Type 0 where
+  pub record IsBoxTold (id : TableId) (me : Seat M W) : Type 0 where
     pub blank : me ≡ (only_seen me.0.seen, [])

@@ -38,9 +38,30 @@ flag (Some a) = 2 ^ 63
 abbrev pub View : Type 0 → Type 0 → Type 0
 View M W = Knowing M W (List (Event M))
 
+-- a seat of the board's table: what it knows, and the slots that it has emptied
+abbrev pub Seat : Type 0 → Type 0 → Type 0
+Seat M W = table.Me (Option (List (Event M))) (View M W)
+
+-- what lies in the slots of the table: a mailbox, or nothing while one is out
+abbrev pub Homes : Type 0 → Type 0
+Homes M = List (maybe.Option (Option (List (Event M))))
+
+-- the table
+abbrev pub Boxes : Type 0 → Type 0 → Type 0
+Boxes M W = table.State (Option (List (Event M))) (View M W)
+
+module _ {M W : Type 0} where
+  -- what the seats have in the count together
+  abbrev pub owed : List (View M W) → ℕ
+  owed = total (λ v. v.owes)
+
+  -- how many Posts they may count up together
+  abbrev pub postable : List (View M W) → ℕ
+  postable = total (λ v. v.budget)
+
 module _ {M : Type 0} where
   -- the lock of a mailbox keeps the lock's rule, and the last value left in it is the order's part for the mailbox
-  abbrev pub Stands : ℕ → List (Entry M) → List ℕ → List (maybe.Option (Option (List (Event M)))) → List (Hand (List (Event M))) → Type 0
+  abbrev pub Stands : ℕ → List (Entry M) → List ℕ → Homes M → List (Hand (List (Event M))) → Type 0
   Stands q order words homes hands = (log : List (List (Event M))) × Kept (word_of q) q log words homes hands × EndsIn log (part q order)
 
 -- the table of a board with so many mailboxes
@@ -81,7 +102,7 @@ module _ {M W : Type 0} where
 
     -- The rule: the longest order is sound, and begins with what each seat has seen; each lock stands at its part for the mailbox; the low bits of word 0 are the Posts without a Done, and what the
     -- seats have in the count beside them; each pass is in one seat, and all are; the maker of the first abort has made it.
-    pub record Rule (g : Ground M W) (s : table.State (Option (List (Event M))) (View M W)) : Type 0 where
+    pub record Rule (g : Ground M W) (s : Boxes M W) : Type 0 where
       pub order : List (Entry M)
       pub first : Option Abort
       pub low : ℕ
@@ -89,8 +110,8 @@ module _ {M W : Type 0} where
       pub locks : (q : ℕ) → q < g.boxes → Stands q order s.words s.homes (map (hand_at q) s.views)
       pub some_word : 0 < length s.words
       pub word : slice_index s.words 0 ≡ low + flag first
-      pub count : low + completed order ≡ posted order + total (λ (v : View M W). v.owes) s.views
-      pub few : low + total (λ (v : View M W). v.budget) s.views < 2 ^ 63
+      pub count : low + completed order ≡ posted order + owed s.views
+      pub few : low + postable s.views < 2 ^ 63
       pub each : (j : ℕ) (v : View M W) → get_elem? s.views j ≡ some v → Knows g order first low v
       pub once : (n : ℕ) → total (λ (v : View M W). times n (numbers v)) s.views ≤ 1
       pub whole : total (λ (v : View M W). length v.lanes) s.views ≡ g.boxes
@@ -145,7 +166,7 @@ module _ {M W : Type 0} where
         × ((o : Own M) (e : Event M) → v.lanes ≡ o ∷ [] → y ≡ x ++ e ∷ [] → Recorded q o e x v w)
 
     -- the seat is inside the lock of a mailbox, whose history x is out, and is the part of the order that the seat has seen then
-    pub record IsInside (q : ℕ) (x : List (Event M)) (m m' : table.Me (Option (List (Event M))) (View M W)) : Type 0 where
+    pub record IsInside (q : ℕ) (x : List (Event M)) (m m' : Seat M W) : Type 0 where
       pub out : m'.1 ≡ (q, None) ∷ m.1
       pub after : m'.0 ≡ with_seen m'.0.seen (with_hand q (hand_at q m'.0) m.0)
       pub inside : (t : ℕ) × ((hand_at q m'.0).inside ≡ t ∷ [])
@@ -160,7 +181,7 @@ module _ {M W : Type 0} where
       pub part : part q m'.0.seen.order ≡ x
 
     -- a look at word 0 tells the order as it is, the abort if there was one, and the close where no post is outstanding
-    pub record Looked (m : table.Me (Option (List (Event M))) (View M W)) (n : ℕ) (m' : table.Me (Option (List (Event M))) (View M W)) : Type 0 where
+    pub record Looked (m : Seat M W) (n : ℕ) (m' : Seat M W) : Type 0 where
       pub after : m' ≡ (with_seen m'.0.seen m.0, m.1)
       pub news : News m.0 m'.0.seen
       pub own : HasOwn m.0 m'.0.seen.order
@@ -170,7 +191,7 @@ module _ {M W : Type 0} where
       pub knows : m'.0.seen.knows ≡ (low == 0)
 
     -- bit 63 is set: the first abort is this one, or that of another pass
-    pub record Raised (a : Abort) (m m' : table.Me (Option (List (Event M))) (View M W)) : Type 0 where
+    pub record Raised (a : Abort) (m m' : Seat M W) : Type 0 where
       pub after : m' ≡ (record m.0 { lanes = map made_abort m.0.lanes; seen = m'.0.seen }, m.1)
       pub news : News m.0 m'.0.seen
       pub own : HasOwn m.0 m'.0.seen.order
@@ -178,7 +199,7 @@ module _ {M W : Type 0} where
       pub which : (b : Abort) × (m'.0.seen.aborted ≡ Some b) × ((b ≡ a) ⊎ (b.by ≢ a.by))
 
     -- the seat has taken in what it was told
-    pub record TookIn (m m' : table.Me (Option (List (Event M))) (View M W)) : Type 0 where
+    pub record TookIn (m m' : Seat M W) : Type 0 where
       pub after : m' ≡ (taken_in m.0, m.1)
       pub news : News m.0 m'.0.seen
       pub theirs : StartsWith m'.0.seen.order m.0.told.order

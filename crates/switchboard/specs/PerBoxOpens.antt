@@ -25,7 +25,7 @@ use Rattle.switchboard.specs.declared.knowing.Own.{Own}
 use Rattle.switchboard.specs.Sights.{IsSound}
 use Rattle.switchboard.specs.Entries.{Allowed, sound_push, job_stays}
 use Rattle.switchboard.specs.Knowing.{entry_of, owes_after, with_event, made_by, state_of, hand_at, with_hand, with_seen, numbers, makes}
-use Rattle.switchboard.specs.PerBox.{View, word_of, IsBox, Saw, Knows, Rule, MayRecord, Asks, Recorded, Tells}
+use Rattle.switchboard.specs.PerBox.{View, word_of, IsBox, Saw, Knows, Rule, MayRecord, Asks, Recorded, Tells, Boxes, Homes, owed}
 use Rattle.switchboard.specs.PerBoxFacts.{hand_here, hand_else, has_hand, closed_at_zero, Grows, grows_same, saw_grows, saw_all, news_is, made_still, rebuilt, locks_after}
 
 module _ {M : Type 0} where
@@ -73,7 +73,7 @@ module _ {M W : Type 0} (fits : W → ℕ → M → Type 0) (g : Ground M W) whe
   counted q n low more (Take s m) x v order may count = omega (arith, posted-append order (entry_of q v.under (Take s m) ∷ []), completed-append order (entry_of q v.under (Take s m) ∷ []))
   counted q n low more (Done t) x v order may count = omega (arith, posted-append order (entry_of q v.under (Done t) ∷ []), completed-append order (entry_of q v.under (Done t) ∷ []))
 
-  module _ (s : table.State (Option (List (Event M))) (View M W)) (r : Rule fits g s) (id : ℕ) (v : View M W) (is_at : get_elem? s.views id ≡ some v) where
+  module _ (s : Boxes M W) (r : Rule fits g s) (id : ℕ) (v : View M W) (is_at : get_elem? s.views id ≡ some v) where
     -- what the seat is to record may come behind the order
     may_come : (q : ℕ) (o : Own M) (e : Event M) (x : List (Event M)) → q < g.boxes → part q r.order ≡ x → own o.number v.seen.order ≡ own o.number r.order → MayRecord fits q o.number e x v
         → Allowed fits (entry_of q v.under e) (state_of g record { order = r.order; aborted = r.first; knows = false })
@@ -102,11 +102,11 @@ module _ {M W : Type 0} (fits : W → ℕ → M → Type 0) (g : Ground M W) whe
         }
 
     -- the rule after a step of a lock
-    turned : (order : List (Entry M)) (q i n : ℕ) (homes : List (maybe.Option (Option (List (Event M))))) (log : List (List (Event M))) (h : Hand (List (Event M))) (w : View M W) → (i ≡ word_of q) ⊎ (i ≡ word_of q + 1)
+    turned : (order : List (Entry M)) (q i n : ℕ) (homes : Homes M) (log : List (List (Event M))) (h : Hand (List (Event M))) (w : View M W) → (i ≡ word_of q) ⊎ (i ≡ word_of q + 1)
         → ((k : ℕ) → k ≢ q → get_elem? homes k ≡ get_elem? s.homes k) → hand_at q w ≡ h → ((k : ℕ) → k ≢ q → hand_at k w ≡ hand_at k v)
         → Kept (word_of q) q log (set s.words i n) homes (set (map (hand_at q) s.views) id h) → EndsIn log (part q order) → ((k : ℕ) → k ≢ q → part k order ≡ part k r.order) → Grows r.order order r.first r.first r.low r.low
         → ((k : ℕ) → times k (numbers v) ≡ 0 → own k order ≡ own k r.order) → IsSound fits (state_of g record { order = order; aborted = r.first; knows = false })
-        → r.low + completed order + v.owes ≡ posted order + total (λ (u : View M W). u.owes) s.views + w.owes → w.budget ≡ v.budget → Knows fits g order r.first r.low w → numbers w ≡ numbers v → ((k : ℕ) → makes k w ≡ makes k v)
+        → r.low + completed order + v.owes ≡ posted order + owed s.views + w.owes → w.budget ≡ v.budget → Knows fits g order r.first r.low w → numbers w ≡ numbers v → ((k : ℕ) → makes k w ≡ makes k v)
         → Rule fits g record { words = set s.words i n; homes = homes; views = set s.views id w }
     turned order q i n homes log h w where_i same_homes is_h others kept ends parts on apart sound count budget mine same made =
         rebuilt fits g s r id v is_at order r.first r.low (set s.words i n) homes w on apart sound
@@ -115,7 +115,7 @@ module _ {M W : Type 0} (fits : W → ℕ → M → Type 0) (g : Ground M W) whe
         (made_still fits g s r id v is_at w made)
 
     -- a hand that has a ticket or is inside has a share
-    has_share : (q i n : ℕ) (homes : List (maybe.Option (Option (List (Event M))))) (log : List (List (Event M))) (h : Hand (List (Event M))) → Kept (word_of q) q log (set s.words i n) homes (set (map (hand_at q) s.views) id h)
+    has_share : (q i n : ℕ) (homes : Homes M) (log : List (List (Event M))) (h : Hand (List (Event M))) → Kept (word_of q) q log (set s.words i n) homes (set (map (hand_at q) s.views) id h)
         → h.parts ≡ (hand_at q v).parts → ((h.tickets ≡ []) × (h.inside ≡ []) → ⊥) → q < length v.hands
     has_share q i n homes log h kept same busy =
         let at = set_here (map (hand_at q) s.views) id h (at_inside (map (hand_at q) s.views) id (hand_at q v) (at-map (hand_at q) s.views id v is_at)) in
@@ -159,7 +159,7 @@ module _ {M W : Type 0} (fits : W → ℕ → M → Type 0) (g : Ground M W) whe
                 (λ k _. refl) r.sound (omega (arith, r.count)) refl (knows_hand q h y short parts saw) refl (λ k. refl),
             (
               sym (ap (λ z. with_seen y (with_hand q z v)) is_h),
-              news_is fits g s r id v is_at r.order r.first r.low (total (λ (u : View M W). u.owes) s.views) y r.sound.lawful r.count saw mine.saw.begins (λ a e. e) (λ e. e),
+              news_is fits g s r id v is_at r.order r.first r.low (owed s.views) y r.sound.lawful r.count saw mine.saw.begins (λ a e. e) (λ e. e),
               mine.owns,
               refl,
               refl,
@@ -194,9 +194,9 @@ module _ {M W : Type 0} (fits : W → ℕ → M → Type 0) (g : Ground M W) whe
                 let maker = maker_is q o.number e x v may in
                 let come = may_come q o e x near part_is (a.3 ∙ sym list) may in
                 let sound : IsSound fits (state_of g record { order = order; aborted = r.first; knows = false }) = sound_push fits more (state_of g record { order = r.order; aborted = r.first; knows = false }) r.sound come in
-                let not_closed : r.low ≡ 0 → ⊥ = λ z. none_more (nothing_follows g.boxes r.order (more ∷ []) r.sound.lawful (closed_at_zero g.boxes r.order r.low (total (λ (u : View M W). u.owes) s.views) r.sound.lawful r.count z) sound.lawful) in
+                let not_closed : r.low ≡ 0 → ⊥ = λ z. none_more (nothing_follows g.boxes r.order (more ∷ []) r.sound.lawful (closed_at_zero g.boxes r.order r.low (owed s.views) r.sound.lawful r.count z) sound.lawful) in
                 let on : Grows r.order order r.first r.first r.low r.low = record { begins = (more ∷ [], refl); aborted = λ b z. z; still = λ z. absurd (not_closed z) } in
-                let count = counted q o.number r.low (total (λ (u : View M W). u.owes) s.views) e x v r.order may r.count in
+                let count = counted q o.number r.low (owed s.views) e x v r.order may r.count in
                 let z : Seen M = record v.seen { order = order } in
                 let saw : Saw fits g order r.first r.low z = saw_all fits g order r.first r.low z sound refl mine.saw.aborted (λ k. (mine.saw.close k).0) in
                 let w : View M W = record v { hands = set v.hands q h; lanes = with_event more o ∷ []; seen = z; owes = owes_after e v.owes } in
@@ -214,7 +214,7 @@ module _ {M W : Type 0} (fits : W → ℕ → M → Type 0) (g : Ground M W) whe
                   parts = λ k nearby. (knows_hand q h v.seen short parts mine.saw).parts k nearby ∙ ap length lanes;
                   idle = λ none. absurd (omega arith);
                 } (sym named) (λ k. sym (ap (total (made_by k)) lanes)) in
-                let news = news_is fits g s r id v is_at order r.first r.low (total (λ (u : View M W). u.owes) (set s.views id w)) z sound.lawful (Rattle.switchboard.specs.PerBoxFacts.count_after fits g s r id v is_at order r.low w count) saw
+                let news = news_is fits g s r id v is_at order r.first r.low (owed (set s.views id w)) z sound.lawful (Rattle.switchboard.specs.PerBoxFacts.count_after fits g s r id v is_at order r.low w count) saw
                 (Rattle.ticket_lock.specs.Facts.StartsWith-trans order r.order v.seen.order on.begins mine.saw.begins) (λ b k. k) (λ k. k) in
                 let done : Recorded fits q o e x v w = record {
                   front = r.order;
