@@ -8,6 +8,10 @@ module _ {M W : Type 0} where
   abbrev pub IsSame : Sight M W → Sight M W → Type 0
   IsSame s t = (t.board ≡ s.board) × (t.number ≡ s.number) × (t.seen.boxes ≡ s.seen.boxes)
 
+  -- the pass of this number, of a board with so many mailboxes
+  abbrev pub IsPass : ℕ → ℕ → Sight M W → Type 0
+  IsPass n boxes s = (s.number ≡ n) × (s.seen.boxes ≡ boxes)
+
   -- the pass has the jobs that it had
   abbrev pub KeepsJobs : Sight M W → Sight M W → Type 0
   KeepsJobs s t = (j : ℕ) → HasJob s.number j s.seen.order → HasJob t.number j t.seen.order

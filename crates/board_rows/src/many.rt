@@ -1,16 +1,16 @@
 //! Many messages, of four threads at work on one board.
 ghost use Rattle.std.specs.Prelude.{◌≡◌, ◌<◌};
 ghost use Rattle.post_ledger.specs.Orders.{HasJob};
-ghost use Rattle.board_rows.specs.Passes.{IsSame, KeepsJobs};
+ghost use Rattle.board_rows.specs.Passes.{IsSame, IsPass, KeepsJobs};
 
-use crate::boards::{Letter, Line, Lines, done, gather, message, post, settle};
+use crate::boards::{Letter, Letters, done, gather, message, post, settle};
 use post_ledger::{Event, Ledger, Mailbox, Side, by_sender};
 use std::alloc::{AllocError, Allocator, Global};
 use std::process::Abort;
 use std::sync::Wait;
 use std::thread;
 use std::thread::{Threads, join};
-use switchboard::{Board, Job, Taken};
+use switchboard::{Board, Job, LockPerBox, OneLock, Taken};
 
 // How many messages each thread posts.
 const MESSAGES: u32 = 10_000;
@@ -27,10 +27,10 @@ enum Look {
 }
 
 // Takes a message and completes it, if there is one.
-fn serve<R: Wait + Abort>(rt: &R, board: &Lines<Global>, pass: &mut Line<Global>) -> Look
-    requires { pass.old.board ≡ board.now.lock.id }
-    ensures pass { IsSame pass.old pass.new }
-    ensures keeps { KeepsJobs pass.old pass.new }
+fn serve<R: Wait + Abort, B: Letters>(rt: &R, board: &B, pass: &mut B::Pass) -> Look
+    requires { (B.sight pass.old).board ≡ B.identity board.now }
+    ensures pass { IsSame (B.sight pass.old) (B.sight pass.new) }
+    ensures keeps { KeepsJobs (B.sight pass.old) (B.sight pass.new) }
 {
     match Board::take(board, rt, pass) {
         Ok(Taken::Message(job, _)) => {
@@ -44,18 +44,12 @@ fn serve<R: Wait + Abort>(rt: &R, board: &Lines<Global>, pass: &mut Line<Global>
 }
 
 // Posts its messages to the four mailboxes in turn, and takes one between two posts.
-fn posts<R: Wait + Abort>(
-    rt: &R,
-    board: &Lines<Global>,
-    pass: &mut Line<Global>,
-    job: &Job,
-    sender: u32,
-)
-    requires board { (pass.old.board ≡ board.now.lock.id) × (pass.old.seen.boxes ≡ 4) }
-    requires job { HasJob pass.old.number job.now pass.old.seen.order }
+fn posts<R: Wait + Abort, B: Letters>(rt: &R, board: &B, pass: &mut B::Pass, job: &Job, sender: u32)
+    requires board { ((B.sight pass.old).board ≡ B.identity board.now) × ((B.sight pass.old).seen.boxes ≡ 4) }
+    requires job { HasJob (B.sight pass.old).number job.now (B.sight pass.old).seen.order }
     requires sender { sender < 4 }
-    ensures pass { IsSame pass.old pass.new }
-    ensures job { HasJob pass.new.number job.now pass.new.seen.order }
+    ensures pass { IsSame (B.sight pass.old) (B.sight pass.new) }
+    ensures job { HasJob (B.sight pass.new).number job.now (B.sight pass.new).seen.order }
 {
     for n in 0..MESSAGES {
         let to = ((sender + n) % 4) as u8;
@@ -67,9 +61,9 @@ fn posts<R: Wait + Abort>(
 }
 
 // Looks for messages until the board is closed. It says whether it found the close.
-fn drain<R: Wait + Abort>(rt: &R, board: &Lines<Global>, pass: &mut Line<Global>) -> bool
-    requires { pass.old.board ≡ board.now.lock.id }
-    ensures { IsSame pass.old pass.new }
+fn drain<R: Wait + Abort, B: Letters>(rt: &R, board: &B, pass: &mut B::Pass) -> bool
+    requires { (B.sight pass.old).board ≡ B.identity board.now }
+    ensures { IsSame (B.sight pass.old) (B.sight pass.new) }
 {
     for _look in 0..LOOKS {
         match serve(rt, board, pass) {
@@ -82,14 +76,14 @@ fn drain<R: Wait + Abort>(rt: &R, board: &Lines<Global>, pass: &mut Line<Global>
 }
 
 // What one thread does: all its posts are under the job of the first message of its mailbox.
-fn work<R: Wait + Abort>(
+fn work<R: Wait + Abort, B: Letters>(
     rt: &R,
-    board: &Lines<Global>,
-    mut pass: Line<Global>,
+    board: &B,
+    mut pass: B::Pass,
     sender: u32,
-) -> (Line<Global>, bool)
-    requires { (pass.board ≡ board.now.lock.id) × (pass.seen.boxes ≡ 4) × (sender < 4) }
-    ensures { (result.0.board ≡ pass.board) × (result.0.number ≡ pass.number) × (result.0.seen.boxes ≡ 4) }
+) -> (B::Pass, bool)
+    requires { ((B.sight pass).board ≡ B.identity board.now) × ((B.sight pass).seen.boxes ≡ 4) × (sender < 4) }
+    ensures { IsSame (B.sight pass) (B.sight result.0) }
 {
     let (job, _first) = message(rt, board, &mut pass);
     posts(rt, board, &mut pass, &job, sender);
@@ -98,48 +92,44 @@ fn work<R: Wait + Abort>(
     (pass, closed)
 }
 
-// The work of two threads.
-fn two_work<R: Threads + Wait + Abort + Sync>(
+// The work of two threads, and whether both found the close.
+fn two_work<R: Threads + Wait + Abort + Sync, B: Letters + Sync>(
     rt: &R,
-    board: &Lines<Global>,
-    first: (Line<Global>, u32),
-    second: (Line<Global>, u32),
-) -> ((Line<Global>, bool), (Line<Global>, bool))
-    requires first { (first.0.board ≡ board.now.lock.id) × (first.0.seen.boxes ≡ 4) × (first.1 < 4) }
-    requires second { (second.0.board ≡ board.now.lock.id) × (second.0.seen.boxes ≡ 4) × (second.1 < 4) }
-    ensures first { (result.0.0.board ≡ board.now.lock.id) × (result.0.0.number ≡ first.0.number)
-        × (result.0.0.seen.boxes ≡ 4) }
-    ensures second { (result.1.0.board ≡ board.now.lock.id) × (result.1.0.number ≡ second.0.number)
-        × (result.1.0.seen.boxes ≡ 4) }
+    board: &B,
+    one: B::Pass,
+    two: B::Pass,
+    sender: u32,
+) -> (B::Pass, B::Pass, bool)
+where
+    B::Heap: Send + Sync,
+    B::Pass: Drop + Send,
+    requires one { ((B.sight one).board ≡ B.identity board.now) × ((B.sight one).seen.boxes ≡ 4) }
+    requires two { ((B.sight two).board ≡ B.identity board.now) × ((B.sight two).seen.boxes ≡ 4) }
+    requires sender { sender < 3 }
+    ensures one { IsSame (B.sight one) (B.sight result.0) }
+    ensures two { IsSame (B.sight two) (B.sight result.1) }
 {
-    let (one, one_sender) = first;
-    let (two, two_sender) = second;
-    join(
+    let next = sender + 1;
+    let ((one, one_closed), (two, two_closed)) = join(
         rt,
-        move || work(rt, board, one, one_sender),
-        move || work(rt, board, two, two_sender),
-    )
+        move || work(rt, board, one, sender),
+        move || work(rt, board, two, next),
+    );
+    (one, two, one_closed && two_closed)
 }
 
 // A board of four mailboxes, with the opening post 0 in mailbox 0, and its passes.
-fn four<R: Abort>(
-    rt: &R,
-    alloc: Global,
-) -> (
-    Lines<Global>,
-    Line<Global>,
-    Line<Global>,
-    Line<Global>,
-    Line<Global>,
-)
-    ensures board { result.0.lock.lanes ≡ 4 }
-    ensures a { (result.1.board ≡ result.0.lock.id) × (result.1.number ≡ 0) × (result.1.seen.boxes ≡ 4) }
-    ensures b { (result.2.board ≡ result.0.lock.id) × (result.2.number ≡ 1) × (result.2.seen.boxes ≡ 4) }
-    ensures c { (result.3.board ≡ result.0.lock.id) × (result.3.number ≡ 2) × (result.3.seen.boxes ≡ 4) }
-    ensures d { (result.4.board ≡ result.0.lock.id) × (result.4.number ≡ 3) × (result.4.seen.boxes ≡ 4) }
+fn four<R: Abort, B: Letters>(rt: &R, alloc: B::Heap) -> (B, B::Pass, B::Pass, B::Pass, B::Pass)
+where
+    B::Heap: Clone,
+    B::Pass: Drop,
+    ensures board { B.mailboxes result.0 ≡ 4 }
+    ensures a { ((B.sight result.1).board ≡ B.identity result.0) × IsPass 0 4 (B.sight result.1) }
+    ensures b { ((B.sight result.2).board ≡ B.identity result.0) × IsPass 1 4 (B.sight result.2) }
+    ensures c { ((B.sight result.3).board ≡ B.identity result.0) × IsPass 2 4 (B.sight result.3) }
+    ensures d { ((B.sight result.4).board ≡ B.identity result.0) × IsPass 3 4 (B.sight result.4) }
 {
-    let opened = <Lines<Global> as Board<Letter, (), Global>>::open(alloc, &(), 4, 0, Letter(0));
-    let Ok((board, mut passes)) = opened else {
+    let Ok((board, mut passes)) = B::open(alloc, &(), 4, 0, Letter(0)) else {
         panic!(rt; "no memory")
     };
     let Some(d) = passes.pop() else {
@@ -158,9 +148,9 @@ fn four<R: Abort>(
 }
 
 // The opening message is taken, and one message posted to each mailbox, to begin the work of each pass.
-fn begins<R: Wait + Abort>(rt: &R, board: &Lines<Global>, a: &mut Line<Global>)
-    requires { (a.old.board ≡ board.now.lock.id) × (a.old.seen.boxes ≡ 4) }
-    ensures { IsSame a.old a.new }
+fn begins<R: Wait + Abort, B: Letters>(rt: &R, board: &B, a: &mut B::Pass)
+    requires { ((B.sight a.old).board ≡ B.identity board.now) × ((B.sight a.old).seen.boxes ≡ 4) }
+    ensures { IsSame (B.sight a.old) (B.sight a.new) }
 {
     let (job, _opening) = message(rt, board, a);
     for to in 0..4u8 {
@@ -194,10 +184,10 @@ fn taken_in_order<A: Allocator + Clone>(
 }
 
 // The senders' messages, so many of each, came to each mailbox in order.
-fn came_in_order<R: Abort, A: Allocator + Clone>(
+fn came_in_order<R: Abort, A: Allocator + Clone, H: Allocator>(
     rt: &R,
     alloc: &A,
-    histories: &[Mailbox<Letter, A>],
+    histories: &[Mailbox<Letter, H>],
     wanted: &[(u8, usize)],
 ) {
     for mailbox in histories {
@@ -209,18 +199,20 @@ fn came_in_order<R: Abort, A: Allocator + Clone>(
 }
 
 // The ledger of a board whose passes are these four.
-fn settle_four<R: Abort>(
+fn settle_four<R: Abort, B: Letters>(
     rt: &R,
-    alloc: Global,
-    board: Lines<Global>,
-    first: (Line<Global>, Line<Global>),
-    second: (Line<Global>, Line<Global>),
-) -> Ledger<Letter, Global>
-    requires board { board.lock.lanes ≡ 4 }
-    requires a { (first.0.board ≡ board.lock.id) × (first.0.number ≡ 0) × (first.0.seen.boxes ≡ 4) }
-    requires b { (first.1.board ≡ board.lock.id) × (first.1.number ≡ 1) × (first.1.seen.boxes ≡ 4) }
-    requires c { (second.0.board ≡ board.lock.id) × (second.0.number ≡ 2) × (second.0.seen.boxes ≡ 4) }
-    requires d { (second.1.board ≡ board.lock.id) × (second.1.number ≡ 3) × (second.1.seen.boxes ≡ 4) }
+    alloc: B::Heap,
+    board: B,
+    first: (B::Pass, B::Pass),
+    second: (B::Pass, B::Pass),
+) -> Ledger<Letter, B::Heap>
+where
+    B::Pass: Drop,
+    requires board { B.mailboxes board ≡ 4 }
+    requires a { ((B.sight first.0).board ≡ B.identity board) × IsPass 0 4 (B.sight first.0) }
+    requires b { ((B.sight first.1).board ≡ B.identity board) × IsPass 1 4 (B.sight first.1) }
+    requires c { ((B.sight second.0).board ≡ B.identity board) × IsPass 2 4 (B.sight second.0) }
+    requires d { ((B.sight second.1).board ≡ B.identity board) × IsPass 3 4 (B.sight second.1) }
 {
     let (a, b) = first;
     let (c, d) = second;
@@ -232,20 +224,67 @@ fn settle_four<R: Abort>(
     settle(board, passes)
 }
 
-#[test]
-fn four_threads_close_a_board(rt: HostRuntime) {
-    let (board, mut a, b, c, d) = four(&rt, rt.alloc());
-    begins(&rt, &board, &mut a);
-    let (((a, a_closed), (b, b_closed)), ((c, c_closed), (d, d_closed))) = join(
-        &rt,
-        || two_work(&rt, &board, (a, 0), (b, 1)),
-        || two_work(&rt, &board, (c, 2), (d, 3)),
+// Four threads at work on one board, up to its end.
+fn worked<R: Threads + Wait + Abort + Sync, B: Letters + Sync>(
+    rt: &R,
+    alloc: B::Heap,
+    more: B::Heap,
+) -> Ledger<Letter, B::Heap>
+where
+    B::Heap: Clone + Send + Sync,
+    B::Pass: Drop + Send,
+{
+    let (board, mut a, b, c, d) = four::<R, B>(rt, alloc);
+    begins(rt, &board, &mut a);
+    let shared = &board;
+    let ((a, b, first), (c, d, second)) = join(
+        rt,
+        move || -> (B::Pass, B::Pass, bool)
+            requires a { ((B.sight a).board ≡ B.identity shared.now) × ((B.sight a).seen.boxes ≡ 4) }
+            requires b { ((B.sight b).board ≡ B.identity shared.now) × ((B.sight b).seen.boxes ≡ 4) }
+            ensures a { IsSame (B.sight a) (B.sight result.0) }
+            ensures b { IsSame (B.sight b) (B.sight result.1) }
+        { two_work(rt, shared, a, b, 0) },
+        move || -> (B::Pass, B::Pass, bool)
+            requires c { ((B.sight c).board ≡ B.identity shared.now) × ((B.sight c).seen.boxes ≡ 4) }
+            requires d { ((B.sight d).board ≡ B.identity shared.now) × ((B.sight d).seen.boxes ≡ 4) }
+            ensures c { IsSame (B.sight c) (B.sight result.0) }
+            ensures d { IsSame (B.sight d) (B.sight result.1) }
+        { two_work(rt, shared, c, d, 2) },
     );
-    assert!(rt; a_closed && b_closed && c_closed && d_closed);
-    let ledger = settle_four(&rt, rt.alloc(), board, (a, b), (c, d));
+    assert!(rt; first && second);
+    settle_four(rt, more, board, (a, b), (c, d))
+}
+
+fn four_threads_close<R: Threads + Wait + Abort + Sync, B: Letters + Sync>(
+    rt: &R,
+    alloc: B::Heap,
+    more: B::Heap,
+    lists: Global,
+)
+where
+    B::Heap: Clone + Send + Sync,
+    B::Pass: Drop + Send,
+{
+    let ledger = worked::<R, B>(rt, alloc, more);
     assert!(rt; ledger.closed);
     assert_eq!(rt; ledger.histories.len(), 4);
     // The first pass began the work of each by one message more.
     let wanted = [(0, 2_501), (1, 2_500), (2, 2_500), (3, 2_500)];
-    came_in_order(&rt, &rt.alloc(), ledger.histories.as_slice(), &wanted);
+    came_in_order(rt, &lists, ledger.histories.as_slice(), wanted.as_slice());
+}
+
+#[test]
+fn four_threads_behind_one_lock(rt: HostRuntime) {
+    four_threads_close::<_, OneLock<Letter, (), Global>>(&rt, rt.alloc(), rt.alloc(), rt.alloc());
+}
+
+#[test]
+fn four_threads_behind_a_lock_for_each(rt: HostRuntime) {
+    four_threads_close::<_, LockPerBox<Letter, (), Global>>(
+        &rt,
+        rt.alloc(),
+        rt.alloc(),
+        rt.alloc(),
+    );
 }

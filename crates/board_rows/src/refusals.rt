@@ -3,25 +3,25 @@ ghost use Rattle.std.specs.Prelude.{◌≡◌, ◌<◌};
 ghost use Rattle.post_ledger.specs.Orders.{HasJob};
 ghost use Rattle.board_rows.specs.Passes.{IsSame, KeepsJobs};
 
-use crate::boards::{Answer, Letter, Line, Lines, done, finds, message, post};
+use crate::boards::{Answer, Letter, Letters, done, finds, message, post};
 use scarce::Scarce;
 use std::alloc::Allocator;
 use std::process::Abort;
 use std::sync::Wait;
-use switchboard::{Board, Job, PostFault};
+use switchboard::{Job, LockPerBox, OneLock, PostFault};
 
 // Posts a message to mailbox 0. Where it is refused memory it comes back, and its second post is Ok. It says whether it was refused.
-fn post_twice<R: Wait + Abort, A: Allocator>(
+fn post_twice<R: Wait + Abort, B: Letters>(
     rt: &R,
-    board: &Lines<A>,
-    pass: &mut Line<A>,
+    board: &B,
+    pass: &mut B::Pass,
     job: &Job,
     message: u32,
 ) -> bool
-    requires board { (pass.old.board ≡ board.now.lock.id) × (0 < pass.old.seen.boxes) }
-    requires job { HasJob pass.old.number job.now pass.old.seen.order }
-    ensures pass { IsSame pass.old pass.new }
-    ensures job { HasJob pass.new.number job.now pass.new.seen.order }
+    requires board { ((B.sight pass.old).board ≡ B.identity board.now) × (0 < (B.sight pass.old).seen.boxes) }
+    requires job { HasJob (B.sight pass.old).number job.now (B.sight pass.old).seen.order }
+    ensures pass { IsSame (B.sight pass.old) (B.sight pass.new) }
+    ensures job { HasJob (B.sight pass.new).number job.now (B.sight pass.new).seen.order }
 {
     let back = match post(rt, board, pass, job, 0, message) {
         Ok(()) => return false,
@@ -35,16 +35,11 @@ fn post_twice<R: Wait + Abort, A: Allocator>(
 }
 
 // Posts 20 messages to mailbox 0. It says how many were refused.
-fn posts<R: Wait + Abort, A: Allocator>(
-    rt: &R,
-    board: &Lines<A>,
-    pass: &mut Line<A>,
-    job: &Job,
-) -> u32
-    requires board { (pass.old.board ≡ board.now.lock.id) × (0 < pass.old.seen.boxes) }
-    requires job { HasJob pass.old.number job.now pass.old.seen.order }
-    ensures pass { IsSame pass.old pass.new }
-    ensures job { HasJob pass.new.number job.now pass.new.seen.order }
+fn posts<R: Wait + Abort, B: Letters>(rt: &R, board: &B, pass: &mut B::Pass, job: &Job) -> u32
+    requires board { ((B.sight pass.old).board ≡ B.identity board.now) × (0 < (B.sight pass.old).seen.boxes) }
+    requires job { HasJob (B.sight pass.old).number job.now (B.sight pass.old).seen.order }
+    ensures pass { IsSame (B.sight pass.old) (B.sight pass.new) }
+    ensures job { HasJob (B.sight pass.new).number job.now (B.sight pass.new).seen.order }
 {
     let mut refused = 0u32;
     for n in 0..20u32 {
@@ -56,10 +51,10 @@ fn posts<R: Wait + Abort, A: Allocator>(
 }
 
 // Takes the 20 messages, each once and in order.
-fn takes<R: Wait + Abort, A: Allocator>(rt: &R, board: &Lines<A>, pass: &mut Line<A>)
-    requires { pass.old.board ≡ board.now.lock.id }
-    ensures pass { IsSame pass.old pass.new }
-    ensures keeps { KeepsJobs pass.old pass.new }
+fn takes<R: Wait + Abort, B: Letters>(rt: &R, board: &B, pass: &mut B::Pass)
+    requires { (B.sight pass.old).board ≡ B.identity board.now }
+    ensures pass { IsSame (B.sight pass.old) (B.sight pass.new) }
+    ensures keeps { KeepsJobs (B.sight pass.old) (B.sight pass.new) }
 {
     for n in 0..20u32 {
         let (job, message) = message(rt, board, pass);
@@ -72,13 +67,13 @@ fn takes<R: Wait + Abort, A: Allocator>(rt: &R, board: &Lines<A>, pass: &mut Lin
 
 // Posts 20 messages and takes them, and the board is closed then. One post is refused where an allocation is refused to the posts;
 // takes and completions ask for none.
-fn serves<R: Wait + Abort, B: Allocator, A: Allocator>(
+fn serves<R: Wait + Abort, A: Allocator, B: Letters>(
     rt: &R,
-    scarce: &Scarce<B>,
-    board: &Lines<A>,
-    pass: &mut Line<A>,
+    scarce: &Scarce<A>,
+    board: &B,
+    pass: &mut B::Pass,
 )
-    requires { (pass.old.board ≡ board.now.lock.id) × (0 < pass.old.seen.boxes) }
+    requires { ((B.sight pass.old).board ≡ B.identity board.now) × (0 < (B.sight pass.old).seen.boxes) }
 {
     let (job, _first) = message(rt, board, pass);
     let before = scarce.refused();
@@ -91,31 +86,54 @@ fn serves<R: Wait + Abort, B: Allocator, A: Allocator>(
     assert_eq!(rt; scarce.asked(), asked);
 }
 
-// Whether the allocation of this number was refused to a board of one mailbox.
-fn was_refused<R: Wait + Abort, A: Allocator>(rt: &R, host: A, nth: u64) -> bool {
-    let scarce = Scarce::refusing(host, nth);
-    let opened = <Lines<&Scarce<A>> as Board<Letter, (), &Scarce<A>>>::open(
-        &scarce,
-        &(),
-        1,
-        0,
-        Letter(100),
-    );
-    let Ok((board, mut passes)) = opened else {
+// A board of one mailbox, each of whose allocations is that of `heap`, serves 20 messages, unless it finds no memory for itself.
+fn tries<R: Wait + Abort, A: Allocator, B: Letters + Drop>(
+    rt: &R,
+    scarce: &Scarce<A>,
+    heap: B::Heap,
+)
+where
+    B::Heap: Clone,
+    B::Pass: Drop,
+{
+    let Ok((board, mut passes)) = B::open(heap, &(), 1, 0, Letter(100)) else {
         assert!(rt; scarce.refused(), "no memory for the board");
-        return true;
+        return;
     };
     let Some(mut pass) = passes.pop() else {
         panic!(rt; "no pass")
     };
-    serves(rt, &scarce, &board, &mut pass);
+    serves(rt, scarce, &board, &mut pass);
+}
+
+// Whether the allocation of this number was refused to a board behind one lock.
+fn one_lock<R: Wait + Abort, A: Allocator>(rt: &R, host: A, nth: u64) -> bool {
+    let scarce = Scarce::refusing(host, nth);
+    tries::<R, A, OneLock<Letter, (), &Scarce<A>>>(rt, &scarce, &scarce);
+    scarce.refused()
+}
+
+// The same, of a board with a lock for each mailbox.
+fn a_lock_for_each<R: Wait + Abort, A: Allocator>(rt: &R, host: A, nth: u64) -> bool {
+    let scarce = Scarce::refusing(host, nth);
+    tries::<R, A, LockPerBox<Letter, (), &Scarce<A>>>(rt, &scarce, &scarce);
     scarce.refused()
 }
 
 #[test]
-fn each_allocation_is_refused_in_turn(rt: HostRuntime) {
+fn each_allocation_behind_one_lock(rt: HostRuntime) {
     for nth in 1..100u64 {
-        if !was_refused(&rt, rt.alloc(), nth) {
+        if !one_lock(&rt, rt.alloc(), nth) {
+            return;
+        }
+    }
+    panic!(&rt; "refused without end")
+}
+
+#[test]
+fn each_allocation_behind_a_lock_for_each(rt: HostRuntime) {
+    for nth in 1..100u64 {
+        if !a_lock_for_each(&rt, rt.alloc(), nth) {
             return;
         }
     }

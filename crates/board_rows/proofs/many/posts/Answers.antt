@@ -4,9 +4,9 @@ use Rattle.board_rows.proofs.many.posts.Goals as goal
 
 pub loop-n-preserved : goal.loop-n-preserved
 loop-n-preserved g c =
-    let i = c.loop-n.invariant in (
-      c.serve-look.ensures.pass.0 ∙ c.post.ensures.pass.0 ∙ i.0,
-      c.serve-look.ensures.pass.1 ∙ c.post.ensures.pass.1 ∙ i.1,
-      c.serve-look.ensures.pass.2 ∙ c.post.ensures.pass.2 ∙ i.2,
-      c.serve-look.ensures.keeps c.args.job.now (c.post.ensures.keeps c.args.job.now i.3),
+    let i = c.loop-n.invariant in
+    let p = c.post.ensures in
+    let s = c.serve-look.ensures in (
+      (s.pass.0 ∙ p.pass.0 ∙ i.0.0, s.pass.1 ∙ p.pass.1 ∙ i.0.1, s.pass.2 ∙ p.pass.2 ∙ i.0.2),
+      s.keeps c.args.job.now (p.keeps c.args.job.now i.1),
     )

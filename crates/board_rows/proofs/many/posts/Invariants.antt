@@ -1,9 +1,9 @@
 -- The pass is the same, and keeps the job.
-use Rattle.std.proofs.Common.{◌≡◌}
 use Rattle.post_ledger.specs.Orders.{HasJob}
+use Rattle.board_rows.specs.Passes.{IsSame}
 use Rattle.board_rows.proofs.many.posts.Given as goal
 
 abbrev pub invariant-loop-n : goal.invariant-loop-n
 invariant-loop-n g l =
-    (l.pass.board ≡ l.fn.pass.board) × (l.pass.number ≡ l.fn.pass.number) × (l.pass.seen.boxes ≡ l.fn.pass.seen.boxes)
-    × HasJob l.pass.number l.job l.pass.seen.order
+    let sight = g.B.Board.sight in
+    IsSame (sight l.fn.pass) (sight l.pass) × HasJob (sight l.pass).number l.job (sight l.pass).seen.order

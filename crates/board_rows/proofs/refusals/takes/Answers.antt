@@ -5,9 +5,8 @@ use Rattle.board_rows.proofs.refusals.takes.Goals as goal
 pub loop-n-preserved : goal.loop-n-preserved
 loop-n-preserved g c =
     let i = c.loop-n.invariant in
-    let m = c.message-job.ensures in (
-      c.done.ensures.pass.0 ∙ m.pass.0 ∙ i.0,
-      c.done.ensures.pass.1 ∙ m.pass.1 ∙ i.1,
-      c.done.ensures.pass.2 ∙ m.pass.2 ∙ i.2,
-      λ j has. c.done.ensures.keeps j (m.fresh j (i.3 j has)) (m.keeps j (i.3 j has)),
+    let m = c.message-job.ensures in
+    let d = c.done.ensures in (
+      (d.pass.0 ∙ m.pass.0 ∙ i.0.0, d.pass.1 ∙ m.pass.1 ∙ i.0.1, d.pass.2 ∙ m.pass.2 ∙ i.0.2),
+      λ j has. d.keeps j (m.fresh j (i.1 j has)) (m.keeps j (i.1 j has)),
     )
