@@ -76,7 +76,7 @@ where
 }
 
 /// Parts pairs into two lists that have room for them.
-pub(crate) fn part<P: Drop, O: Drop, H: Allocator, A: Allocator>(
+fn part<P: Drop, O: Drop, H: Allocator, A: Allocator>(
     pairs: Vec<(P, O), A>,
     firsts: &mut Vec<P, H>,
     seconds: &mut Vec<O, A>,
@@ -90,4 +90,18 @@ pub(crate) fn part<P: Drop, O: Drop, H: Allocator, A: Allocator>(
         firsts.push_reserved(first);
         seconds.push_reserved(second);
     }
+}
+
+/// Parts pairs into two lists. It is generic in what they hold, so that no caller has the drops of a list that is still empty.
+pub(crate) fn parted<P: Drop, O: Drop, H: Allocator, A: Allocator>(
+    heap: H,
+    alloc: A,
+    pairs: Vec<(P, O), A>,
+) -> Result<(Vec<P, H>, Vec<O, A>), AllocError>
+    ensures { IfOk result (λ r. (r.0.items ≡ map (λ b. b.0) pairs.items) × (r.1.items ≡ map (λ b. b.1) pairs.items)) }
+{
+    let mut firsts = Vec::with_capacity(heap, pairs.len())?;
+    let mut seconds = Vec::with_capacity(alloc, pairs.len())?;
+    part(pairs, &mut firsts, &mut seconds);
+    Ok((firsts, seconds))
 }

@@ -10,7 +10,7 @@ ghost use Rattle.summaries.specs.Limits.{most_of};
 ghost use Rattle.summaries.specs.Tabulated.{HasMoreEdges, SomePairBad};
 ghost use Rattle.gather.specs.Reports.{IsFound, IsReport, IsNoReport};
 
-use crate::crew::{part, work_all};
+use crate::crew::{parted, work_all};
 use crate::gathering::gather;
 use crate::kinds::{WorkBoard, WorkSet};
 use flow_graph::{Graphs, graphs};
@@ -76,10 +76,8 @@ where
         a: 0,
     };
     let (board, passes) = B::open(heap, graphs, graphs.len() as u8, 0, opening)?;
-    let mut back = Vec::with_capacity(heap, passes.len())?;
-    let mut outcomes = Vec::with_capacity(alloc, passes.len())?;
     let ended = work_all::<R, B, S, K>(rt, alloc, &board, passes, graphs, limit, gate)?;
-    part(ended, &mut back, &mut outcomes);
+    let (mut back, outcomes) = parted(heap, alloc, ended)?;
     let ledger = board.into_ledger(&mut back);
     let summaries = gather(alloc, graphs, outcomes)?;
     Ok((ledger, summaries))

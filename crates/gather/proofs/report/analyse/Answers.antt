@@ -9,7 +9,7 @@ use Rattle.gather.specs.Ends.{HaveEnded}
 use Rattle.gather.specs.Gathered.{ends_of}
 use Rattle.gather.proofs.report.analyse.Given.{Over}
 use Rattle.gather.proofs.report.analyse.Goals as goal
-use Rattle.gather.proofs.report.analyse.Goals.{After-back-3-1}
+use Rattle.gather.proofs.report.analyse.Goals.{After-back-2-1}
 
 pub open-requires-clause-fits : goal.open-requires-clause-fits
 open-requires-clause-fits g c = opening_fits c.args.graphs.now c.requires.some
@@ -19,83 +19,63 @@ work_all-requires-after_bounds g c κs within =
     new_crew c.args.graphs.now c.args.limit (g.B-Board.identity c.in_ok-board.board) (2 ^ 56) c.len.result c.requires.drawn
     c.len.ensures (map g.B-Board.sight c.in_ok-board.passes.items) c.in_ok-board.ensures.1
 
-pub part-requires-clause-room : goal.part-requires-clause-room
-part-requires-clause-room g c =
-    let crew = new_crew c.args.graphs.now c.args.limit (g.B-Board.identity c.in_ok-board.board) (2 ^ 56) c.len.result
-    c.requires.drawn c.len.ensures (map g.B-Board.sight c.in_ok-board.passes.items) c.in_ok-board.ensures.1 in
-    let passes = length-map c.in_ok-board.passes.items g.B-Board.sight in
-    let backs = length-map c.in_ok-ended.ended.items (λ b. b.1) in
-    let all = c.in_ok-ended.ensures.each_outcome in (
-      omega (arith, crew.all, passes, backs, all, c.in_ok-back.ensures.capacity, c.len-2.ensures, c.in_ok-board.passes.ok.0),
-      omega (
-        arith,
-        crew.all,
-        passes,
-        backs,
-        all,
-        c.in_ok-outcomes.ensures.capacity,
-        c.len-3.ensures,
-        c.in_ok-board.passes.ok.0,
-      ),
-    )
-
 -- the lanes, parted into passes and outcomes, have ended
-ended : (g : Over) (c : After-back-3-1 g) → HaveEnded g.S.PathSet.members c.args.graphs.now c.args.limit
-    (g.B-Board.identity c.in_ok-board.board) (map g.B-Board.sight c.part.new.firsts.items) c.part.new.seconds.items
+ended : (g : Over) (c : After-back-2-1 g) → HaveEnded g.S.PathSet.members c.args.graphs.now c.args.limit
+    (g.B-Board.identity c.in_ok-board.board) (map g.B-Board.sight c.in_ok-back.back.items) c.in_ok-back.outcomes.items
 ended g c = parted g.S.PathSet.members c.args.graphs.now c.args.limit (g.B-Board.identity c.in_ok-board.board)
-    g.B-Board.sight c.in_ok-ended.ended.items c.part.new.firsts.items c.part.new.seconds.items c.part.ensures.firsts
-    c.part.ensures.seconds c.in_ok-ended.ensures
+    g.B-Board.sight c.in_ok-ended.ended.items c.in_ok-back.back.items c.in_ok-back.outcomes.items c.in_ok-back.ensures.0
+    c.in_ok-back.ensures.1 c.in_ok-ended.ensures
 
 pub into_ledger-ledger-requires : goal.into_ledger-ledger-requires
 into_ledger-ledger-requires g c =
     all_passes g.S.PathSet.members c.args.graphs.now c.args.limit (g.B-Board.identity c.in_ok-board.board)
-    (map g.B-Board.sight c.part.new.firsts.items) c.part.new.seconds.items (ended g c)
+    (map g.B-Board.sight c.in_ok-back.back.items) c.in_ok-back.outcomes.items (ended g c)
     (g.B-Board.mailboxes c.in_ok-board.board) (c.in_ok-board.ensures.0 ∙ c.len.ensures)
 
 pub returns-in_err-summaries-clause-limit : goal.returns-in_err-summaries-clause-limit
 returns-in_err-summaries-clause-limit g c = λ p drawn is.
-    let a = (goal.at.returns-in_err-summaries-clause-limit g c).After-back-3-1 in
+    let a = (goal.at.returns-in_err-summaries-clause-limit g c).After-back-2-1 in
     let e = err_from_is_err_and c.from_residual-in_err-summaries.result c.from_residual-in_err-summaries.ensures.1 in
     let of = of_board g.S.PathSet.members c.args.graphs.now c.args.limit (g.B-Board.identity c.in_ok-board.board)
-    (map g.B-Board.sight c.part.new.firsts.items) c.part.new.seconds.items (ended g a)
+    (map g.B-Board.sight c.in_ok-back.back.items) c.in_ok-back.outcomes.items (ended g a)
     (g.B-Board.mailboxes c.in_ok-board.board) (c.in_ok-board.ensures.0 ∙ c.len.ensures)
     c.into_ledger-ledger.result.histories.items c.into_ledger-ledger.result.closed c.into_ledger-ledger.ensures.settles in
     limit_passed g.S.PathSet.members c.args.graphs.now c.args.limit (g.B-Board.identity c.in_ok-board.board)
-    (map g.B-Board.sight c.part.new.firsts.items) c.part.new.seconds.items (ended g a) c.in_err-summaries.field-0.0
+    (map g.B-Board.sight c.in_ok-back.back.items) c.in_ok-back.outcomes.items (ended g a) c.in_err-summaries.field-0.0
     (c.in_err-summaries.ensures c.into_ledger-ledger.result.histories.items c.into_ledger-ledger.result.closed of).1
     (let at = e.1 in let same = e.2 in cc) p drawn
 
 pub returns-in_err-summaries-clause-cause : goal.returns-in_err-summaries-clause-cause
 returns-in_err-summaries-clause-cause g c =
-    let a = (goal.at.returns-in_err-summaries-clause-cause g c).After-back-3-1 in
+    let a = (goal.at.returns-in_err-summaries-clause-cause g c).After-back-2-1 in
     let e = err_from_is_err_and c.from_residual-in_err-summaries.result c.from_residual-in_err-summaries.ensures.1 in
     let of = of_board g.S.PathSet.members c.args.graphs.now c.args.limit (g.B-Board.identity c.in_ok-board.board)
-    (map g.B-Board.sight c.part.new.firsts.items) c.part.new.seconds.items (ended g a)
+    (map g.B-Board.sight c.in_ok-back.back.items) c.in_ok-back.outcomes.items (ended g a)
     (g.B-Board.mailboxes c.in_ok-board.board) (c.in_ok-board.ensures.0 ∙ c.len.ensures)
     c.into_ledger-ledger.result.histories.items c.into_ledger-ledger.result.closed c.into_ledger-ledger.ensures.settles in
-    rw (e.1, e.2) (not_wide (ends_of c.part.new.seconds.items) c.in_err-summaries.field-0.0
+    rw (e.1, e.2) (not_wide (ends_of c.in_ok-back.outcomes.items) c.in_err-summaries.field-0.0
     (c.in_err-summaries.ensures c.into_ledger-ledger.result.histories.items c.into_ledger-ledger.result.closed of).1)
 
 pub returns-clause-found : goal.returns-clause-found
 returns-clause-found g c = λ p drawn.
-    let a = (goal.at.returns-clause-found g c).After-back-3-1 in
+    let a = (goal.at.returns-clause-found g c).After-back-2-1 in
     let histories = c.into_ledger-ledger.result.histories.items in
     let closed = c.into_ledger-ledger.result.closed in
     let count = c.in_ok-board.ensures.0 ∙ c.len.ensures in
     let left = c.into_ledger-ledger.ensures.settles in
     let id = g.B-Board.identity c.in_ok-board.board in
-    let passes = map g.B-Board.sight c.part.new.firsts.items in
+    let passes = map g.B-Board.sight c.in_ok-back.back.items in
     let boxes = g.B-Board.mailboxes c.in_ok-board.board in
-    let of = of_board g.S.PathSet.members c.args.graphs.now c.args.limit id passes c.part.new.seconds.items (ended g a)
+    let of = of_board g.S.PathSet.members c.args.graphs.now c.args.limit id passes c.in_ok-back.outcomes.items (ended g a)
     boxes count histories closed left in
-    found g.S.PathSet.members c.args.graphs.now c.args.limit id passes c.part.new.seconds.items (ended g a) boxes count
+    found g.S.PathSet.members c.args.graphs.now c.args.limit id passes c.in_ok-back.outcomes.items (ended g a) boxes count
     histories closed left c.in_ok-summaries.summaries (c.in_ok-summaries.ensures histories closed of).0 p drawn
 
 pub returns-clause-bad : goal.returns-clause-bad
 returns-clause-bad g c = λ p drawn.
-    let a = (goal.at.returns-clause-bad g c).After-back-3-1 in
+    let a = (goal.at.returns-clause-bad g c).After-back-2-1 in
     let of = of_board g.S.PathSet.members c.args.graphs.now c.args.limit (g.B-Board.identity c.in_ok-board.board)
-    (map g.B-Board.sight c.part.new.firsts.items) c.part.new.seconds.items (ended g a)
+    (map g.B-Board.sight c.in_ok-back.back.items) c.in_ok-back.outcomes.items (ended g a)
     (g.B-Board.mailboxes c.in_ok-board.board) (c.in_ok-board.ensures.0 ∙ c.len.ensures)
     c.into_ledger-ledger.result.histories.items c.into_ledger-ledger.result.closed c.into_ledger-ledger.ensures.settles in
     (c.in_ok-summaries.ensures c.into_ledger-ledger.result.histories.items c.into_ledger-ledger.result.closed of).0.bad p drawn
