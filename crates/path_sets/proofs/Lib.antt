@@ -3,3 +3,14 @@ pub mod Masks
 pub mod Places
 pub mod Grouped
 pub mod Settled
+pub mod Walks
+pub mod Grown
+pub mod Lists
+pub mod Unions
+pub mod Noted
+pub mod Rooted
+pub mod Batches
+pub mod Taken
+pub mod Filtered
+pub mod Universe
+pub mod Gathering

@@ -11,7 +11,7 @@ use Rattle.path_sets.specs.Triples.{Triple}
 use Rattle.path_sets.proofs.Masks.{bits_known}
 
 -- a conjunction's parts
-both : (a b : Bool) → (a && b) ≡ true → (a ≡ true) × (b ≡ true)
+pub both : (a b : Bool) → (a && b) ≡ true → (a ≡ true) × (b ≡ true)
 both true b h = (refl, h)
 both false b h = absurd (true≢false (sym h))
 

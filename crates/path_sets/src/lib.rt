@@ -5,10 +5,21 @@
 //! once, where `insert` answers that it was new.
 #![tactic(auto)]
 
+mod batch;
+mod diagram;
+mod gathered;
 mod mask;
+mod merged;
+mod node;
+mod nodes;
+mod notes;
 mod ordered;
 mod path_set;
 mod place;
+mod rows;
+mod spread;
+mod union;
 
+pub use diagram::DiagramEdges;
 pub use ordered::OrderedEdges;
 pub use path_set::PathSet;

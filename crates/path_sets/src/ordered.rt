@@ -1,6 +1,7 @@
 //! A set of path edges that keeps a mask of points for each valuation of each entry.
 
-ghost use Rattle.std.specs.Prelude.{◌≡◌, ◌<◌, length, None, Some, slice_get, IfOk, IfSome, IsNone, OnErr};
+ghost use Rattle.std.specs.Prelude.{◌≡◌, ◌<◌, ◌^◌, false, [], length, None, Some, slice_get};
+ghost use Rattle.std.specs.Prelude.{IfOk, IfSome, IsNone, OnErr};
 ghost use Rattle.std.specs.Map.{lookup};
 ghost use Rattle.std.proofs.lemmas.Map.Keys.{IsDistinct-prop};
 ghost use Rattle.indexmap.specs.IndexMap.{IsUnique, index_map_len, keys};
@@ -17,13 +18,13 @@ use std::alloc::{AllocError, Allocator};
 use std::hash::{BuildHasherDefault, FoldHasher};
 
 /// The masks of the places that have any points, in the order in which the places are first met.
-type Masks<A> = IndexMap<Place, u64, BuildHasherDefault<FoldHasher>, A>;
+pub(crate) type Masks<A> = IndexMap<Place, u64, BuildHasherDefault<FoldHasher>, A>;
 
 /// Path edges in one mask of 64 points for each valuation of each entry, in first-seen order: a valuation mostly goes
 /// unchanged through many points.
 #[derive(Drop)]
 pub struct OrderedEdges<A: Allocator> {
-    masks: Masks<A>,
+    pub(crate) masks: Masks<A>,
     /// The index of the place that was used last, which is mostly that of the next edge.
     last: usize,
     count: u64,
@@ -84,6 +85,28 @@ fn put<A: Allocator + Copy>(
             *last = masks.len();
             start(masks, place, bit)
         }
+    }
+}
+
+/// How many places and how many path edges are many.
+const MANY: usize = 4_096;
+
+const MANY_EDGES: u64 = 262_144;
+
+impl<A: Allocator + Copy> OrderedEdges<A> {
+    /// Whether it has many places, or many path edges.
+    pub(crate) fn is_full(&self) -> bool
+        ensures { result ≡ false → length (edges self.now.masks.entries) < 2 ^ 63 }
+    {
+        self.masks.len() >= MANY || self.count >= MANY_EDGES
+    }
+
+    /// Takes all path edges out, and keeps the memory.
+    pub(crate) fn clear(&mut self)
+        ensures { edges self.new.masks.entries ≡ [] }
+    {
+        self.masks.clear();
+        self.count = 0;
     }
 }
 

@@ -5,6 +5,8 @@
 //! |---|---|
 //! | `limit N` | whether a limit may be N |
 //! | `set STEPS` | what each step on an empty set answers: `+5.2.7` inserts a triple, `?5.2.7` asks for it, `#` counts |
+//! | `many N WIDTH POINTS` | whether both kinds of sets answer alike to N triples in no order, with valuations of so many bits at so many points |
+//! | `each allocation: many N` | whether a set of diagrams takes N triples all the same where each allocation is refused in turn |
 //! | `each allocation: set` | whether a set keeps its triples where each allocation is refused in turn |
 //! | `summaries K N \| TEXT` | the entries and pairs of each procedure for K rounds and at most N path edges, and whether one is bad |
 //! | `each allocation: summaries K N \| TEXT` | the same, where each allocation that is refused leads to want of memory |
@@ -17,6 +19,7 @@
 mod case;
 mod fields;
 mod graphed;
+mod many;
 mod refused_table;
 mod sets;
 mod tables;

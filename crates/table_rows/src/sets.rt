@@ -1,7 +1,7 @@
 //! Sets of path edges.
 
 use crate::fields::first;
-use path_sets::{OrderedEdges, PathSet};
+use path_sets::{DiagramEdges, OrderedEdges, PathSet};
 use scarce::Scarce;
 use std::alloc::{AllocError, Allocator, Global};
 
@@ -13,23 +13,29 @@ fn triple_of(text: &str) -> (u64, usize, u64) {
 }
 
 /// Inserts, where the set is small enough.
-fn insert<A: Allocator, S: PathSet<A>>(
+pub fn insert<A: Allocator, S: PathSet<A>>(
     set: &mut S,
     edge: (u64, usize, u64),
 ) -> Result<bool, AllocError> {
-    if set.len() > 1000 {
+    if set.len() > 1_000_000 {
         return Err(AllocError);
     }
     set.insert(edge.0, edge.1, edge.2)
 }
 
-fn contains<A: Allocator, S: PathSet<A>>(set: &S, edge: (u64, usize, u64)) -> bool {
+pub fn contains<A: Allocator, S: PathSet<A>>(set: &S, edge: (u64, usize, u64)) -> bool {
     set.contains(edge.0, edge.1, edge.2)
 }
 
-/// Writes what each step on an empty set answers.
+/// Writes what each step on an empty ordered set answers, and on one of diagrams where that answers otherwise.
 pub fn steps(alloc: Global, out: &mut String, words: &str) -> Result<(), AllocError> {
-    steps_of::<_, OrderedEdges<_>>(alloc, out, words)
+    let mut other = String::new(alloc);
+    steps_of::<_, OrderedEdges<_>>(alloc, out, words)?;
+    steps_of::<_, DiagramEdges<_>>(alloc, &mut other, words)?;
+    if out.as_str() == other.as_str() {
+        return Ok(());
+    }
+    write!(out, "diagrams: {}", other.as_str())
 }
 
 /// Writes what each step on an empty set of the type `S` answers.
@@ -131,15 +137,22 @@ fn came_of<'a, S: PathSet<&'a Scarce<Global>>>(scarce: &'a Scarce<Global>) -> Ca
     }
 }
 
-/// Whether a set keeps its edges, whichever of its allocations is refused.
+/// What is said of a set that keeps its edges, whichever of its allocations is refused.
+fn said(came: Came, nth: u64) -> Option<&'static str> {
+    match came {
+        Came::Kept => None,
+        Came::Whole if nth > 20 => Some("kept"),
+        Came::Whole => Some("few allocations"),
+        Came::Lost => Some("lost"),
+    }
+}
+
+/// Whether an ordered set keeps its edges, whichever of its allocations is refused.
 pub fn keeps_each(alloc: Global) -> &'static str {
     for nth in 1..1000u64 {
         let scarce = Scarce::refusing(alloc, nth);
-        match came_of::<OrderedEdges<_>>(&scarce) {
-            Came::Kept => {}
-            Came::Whole if nth > 20 => return "kept",
-            Came::Whole => return "few allocations",
-            Came::Lost => return "lost",
+        if let Some(text) = said(came_of::<OrderedEdges<_>>(&scarce), nth) {
+            return text;
         }
     }
     "too many allocations"

@@ -1,0 +1,114 @@
+-- More nodes, and the sets that there were.
+use Rattle.std.proofs.Common.{◌≡◌, ℕ, zero, suc, ◌+◌, ◌-◌, ◌<◌, Bool, true, false, cond, ◌&&◌, nat_lt, nat_eq, List, [], ◌∷◌, ◌++◌}
+use Rattle.std.proofs.Common.{Option, Some, None, length, slice_get, refl, sym, ap}
+use Rattle.std.proofs.Common.{◌∙◌, subst, arith, true≢false, is_some, ◌⊎◌, inl, inr, length-append}
+use Rattle.std.specs.Option.{option_map_or}
+use Rattle.std.proofs.lemmas.Bool.{ltb-false}
+use Rattle.std.proofs.lemmas.Option.{slice_get_within, same_Some}
+use Rattle.std.proofs.lemmas.Map.Views.{exact_unsigned_eq}
+use Rattle.path_sets.specs.declared.node.Node.{Node}
+use Rattle.path_sets.specs.Masks.{bit_of}
+use Rattle.path_sets.specs.Diagrams.{child, node_at, walk, accepts, GoDown, IsGrown, IsNumber, Keeps, node_eq}
+use Rattle.path_sets.proofs.Walks.{splits, child_below}
+
+-- a list's items stay where they are when more come behind
+pub get_before : {A : Type 0} (xs ys : List A) (i : ℕ) → i < length xs → slice_get (xs ++ ys) i ≡ slice_get xs i
+get_before [] ys i h = absurd (omega (arith, h))
+get_before (x ∷ xs) ys zero h = refl
+get_before (x ∷ xs) ys (suc i) h = get_before xs ys i (omega (arith, h))
+
+-- the one behind them comes next
+pub get_next : {A : Type 0} (xs : List A) (y : A) → slice_get (xs ++ y ∷ []) (length xs) ≡ Some y
+get_next [] y = refl
+get_next (x ∷ xs) y = get_next xs y
+
+-- and has no other behind it
+pub got_from : {A : Type 0} (xs : List A) (y z : A) (i : ℕ) → slice_get (xs ++ y ∷ []) i ≡ Some z
+    → ((i < length xs) × (slice_get xs i ≡ Some z)) ⊎ ((i ≡ length xs) × (z ≡ y))
+got_from [] y z zero h = inr (refl, sym (same_Some y z h))
+got_from [] y z (suc i) h = absurd (true≢false (sym (ap is_some h)))
+got_from (x ∷ xs) y z zero h = inl (omega arith, h)
+got_from (x ∷ xs) y z (suc i) h = elim (got_from xs y z i h) [
+  | inl (less, was) ↦ inl (omega (arith, less), was)
+  | inr (at, is) ↦ inr (omega (arith, at), is)
+]
+
+-- a number's node is the same with more behind
+same_node_at : (ns ms : List Node) (n : ℕ) → IsNumber ns n → node_at (ns ++ ms) n ≡ node_at ns n
+same_node_at ns ms n inside = by (nat_lt n 2) refl
+  where
+    by : (b : Bool) → nat_lt n 2 ≡ b → cond b None (slice_get (ns ++ ms) (n - 2)) ≡ cond b None (slice_get ns (n - 2))
+    by true e = refl
+    by false e = let least = ltb-false n 2 e in get_before ns ms (n - 2) (omega (arith, least, inside))
+
+-- a walk goes the same way with more behind
+same_walk : (ns ms : List Node) → GoDown ns → (f n v : ℕ) → IsNumber ns n → walk (ns ++ ms) f n v ≡ walk ns f n v
+unfolding walk
+same_walk ns ms down zero n v inside = refl
+same_walk ns ms down (suc f) n v inside =
+    ap (λ o. option_map_or (λ x. walk (ns ++ ms) f (child x v) v) o (nat_eq n 1)) (same_node_at ns ms n inside)
+    ∙ by (node_at ns n) refl (λ x less. same_walk ns ms down f (child x v) v (omega (arith, less, inside)))
+  where
+    by : (o : Option Node) → node_at ns n ≡ o → ((x : Node) → child x v < n → walk (ns ++ ms) f (child x v) v ≡ walk ns f (child x v) v)
+        → option_map_or (λ x. walk (ns ++ ms) f (child x v) v) o (nat_eq n 1) ≡ option_map_or (λ x. walk ns f (child x v) v) o (nat_eq n 1)
+    by None e rest = refl
+    by (Some x) e rest = rest x (child_below ns n v x down e)
+
+pub keeps_more : (ns ms : List Node) → GoDown ns → Keeps ns (ns ++ ms)
+unfolding accepts
+keeps_more ns ms down = record {
+  longer = grind (arith, length-append {A = Node});
+  same = λ n v inside. same_walk ns ms down n n v inside;
+}
+
+pub keeps_self : (ns : List Node) → Keeps ns ns
+keeps_self ns = record { longer = omega arith; same = λ n v inside. refl }
+
+pub keeps_on : (ns ms os : List Node) → Keeps ns ms → Keeps ms os → Keeps ns os
+keeps_on ns ms os a b =
+    let la = a.longer in
+    let lb = b.longer in record {
+      longer = omega (arith, la, lb);
+      same = λ n v inside. b.same n v (omega (arith, inside, la)) ∙ a.same n v inside;
+    }
+
+-- nodes that compare as equal are the same
+both : (a b : Bool) → (a && b) ≡ true → (a ≡ true) × (b ≡ true)
+both true b h = (refl, h)
+both false b h = absurd (true≢false (sym h))
+
+pub same_node : (x y : Node) → node_eq x y ≡ true → x ≡ y
+same_node x y h =
+    let (level, rest) = both (nat_eq x.level y.level) (nat_eq x.low y.low && nat_eq x.high y.high) h in
+    let (low, high) = both (nat_eq x.low y.low) (nat_eq x.high y.high) rest in
+    let e : x.level ≡ y.level = exact_unsigned_eq x.level y.level level in
+    let l : x.low ≡ y.low = exact_unsigned_eq x.low y.low low in
+    let r : x.high ≡ y.high = exact_unsigned_eq x.high y.high high in
+    λ j. record { level = e j; low = l j; high = r j }
+
+module _ (ns : List Node) (down : GoDown ns) (x : Node) (small : x.level < 64) (low : IsNumber ns x.low) (high : IsNumber ns x.high) where
+  -- children of the nodes that there are come before the new one
+  down_more : GoDown (ns ++ x ∷ [])
+  down_more i y h = elim (got_from ns x y i h) [
+    | inl (less, was) ↦ down i y was
+    | inr (at, is) ↦ subst (λ (z : Node). (z.level < 64) × (z.low < i + 2) × (z.high < i + 2)) (sym is)
+        (small, omega (arith, at, low), omega (arith, at, high))
+  ]
+
+  pub still_down : (new : List Node) → IsGrown x ns new → GoDown new
+  still_down new (inl same) = subst GoDown (sym same) down
+  still_down new (inr more) = subst GoDown (sym more) down_more
+
+  pub keeps_grown : (new : List Node) → IsGrown x ns new → Keeps ns new
+  keeps_grown new (inl same) = subst (Keeps ns) (sym same) (keeps_self ns)
+  keeps_grown new (inr more) = subst (Keeps ns) (sym more) (keeps_more ns (x ∷ []) down)
+
+  -- the number of the node
+  pub joined : (new : List Node) → IsGrown x ns new → (i v : ℕ) → slice_get new i ≡ Some x
+      → accepts new (i + 2) v ≡ cond (bit_of v x.level) (accepts ns x.high v) (accepts ns x.low v)
+  joined new grown i v at =
+      let k = keeps_grown new grown in
+      let same : i + 2 - 2 ≡ i = omega arith in
+      let within = slice_get_within new i x at in
+      splits new (still_down new grown) (i + 2) v x (omega arith) (omega (arith, within)) (ap (slice_get new) same ∙ at) x.level refl
+      ∙ λ j. cond (bit_of v x.level) (k.same x.high v high j) (k.same x.low v low j)

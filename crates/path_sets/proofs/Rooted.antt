@@ -1,0 +1,87 @@
+-- The number of a point after one is given.
+use Rattle.std.proofs.Common.{◌≡◌, ℕ, zero, suc, [], ◌∷◌, ◌<◌, Bool, true, false}
+use Rattle.std.proofs.Common.{cond, ◌&&◌, nat_eq, List, Some, length, get_or, slice_get, position, slice_set}
+use Rattle.std.proofs.Common.{refl, sym, ap, ap₂, ◌∙◌, true≢false, eq-eqb}
+use Rattle.std.specs.Option.{option_map_or}
+use Rattle.std.specs.Map.{lookup}
+use Rattle.std.specs.Cmp.{IsEquivalence}
+use Rattle.std.proofs.lemmas.Map.Views.{exact_unsigned_eq}
+use Rattle.path_sets.specs.declared.rows.Row.{Row}
+use Rattle.path_sets.specs.Diagrams.{row_eq, root_of, Roots}
+use Rattle.std.proofs.lemmas.List.{get_or-set_same, get_or-set_other}
+use Rattle.std.proofs.lemmas.List.Quantifiers.{position-Some}
+use Rattle.std.proofs.lemmas.Option.{slice_get-get_or}
+use Rattle.path_sets.proofs.Places.{both}
+
+-- a test that tells values apart is an equivalence
+module _ {K : Type 0} (eq : K → K → Bool) (self : (x : K) → eq x x ≡ true) (same : (x y : K) → eq x y ≡ true → x ≡ y) where
+  pub equivalence : IsEquivalence eq
+  equivalence = record {
+    refl = self;
+    symm = λ x y. turned x y (eq x y) (eq y x) refl refl;
+    congr = λ x y z h. ap (λ k. eq k z) (same x y h);
+  }
+    where
+      turned : (x y : K) (a b : Bool) → eq x y ≡ a → eq y x ≡ b → eq x y ≡ eq y x
+      turned x y true b h h' = h ∙ sym (ap (λ k. eq k x) (sym (same x y h)) ∙ self x)
+      turned x y false true h h' = absurd (true≢false (sym (ap (λ k. eq k y) (sym (same y x h')) ∙ self y) ∙ h))
+      turned x y false false h h' = h ∙ sym h'
+
+  -- the key that is looked up stands at the index that is found
+  pub found : (ks : List K) (i : ℕ) (k : K) → Some i ≡ position (eq k) ks → slice_get ks i ≡ Some k
+  found ks i k h =
+      let r = position-Some (eq k) ks i k (sym h) in
+      slice_get-get_or ks i k r.0 ∙ ap Some (sym (same k (get_or ks i k) r.1))
+
+pub row_self : (x : Row) → row_eq x x ≡ true
+row_self x = ap₂ ◌&&◌ (eq-eqb x.entry x.entry refl) (eq-eqb x.block x.block refl)
+
+pub same_row : (x y : Row) → row_eq x y ≡ true → x ≡ y
+same_row x y h =
+    let (entry, block) = both (nat_eq x.entry y.entry) (nat_eq x.block y.block) h in
+    let e : x.entry ≡ y.entry = exact_unsigned_eq x.entry y.entry entry in
+    let b : x.block ≡ y.block = exact_unsigned_eq x.block y.block block in
+    λ j. record { entry = e j; block = b j }
+
+pub row_laws : IsEquivalence row_eq
+row_laws = equivalence row_eq row_self same_row
+
+module _ (old new : List (Row × List ℕ)) (own : Row) (bit number : ℕ) (xs : List ℕ)
+    (updates : (q : Row) → lookup (row_eq q) new ≡ cond (row_eq own q) (Some (slice_set xs bit number)) (lookup (row_eq q) old))
+    (room : bit < length xs) (was : (j : ℕ) → option_map_or (λ ys. get_or ys j 0) (lookup (row_eq own) old) 0 ≡ get_or xs j 0) where
+  here' : root_of new own.entry own.block bit ≡ number
+  here' =
+      ap (λ o. option_map_or (λ ys. get_or ys bit 0) o 0) (updates own
+      ∙ ap (λ b. cond b (Some (slice_set xs bit number)) (lookup (row_eq own) old)) (row_self own))
+      ∙ get_or-set_same xs bit number 0 room
+
+  others' : (e b i : ℕ) → ((e ≡ own.entry) × (b ≡ own.block) × (i ≡ bit) → ⊥) → root_of new e b i ≡ root_of old e b i
+  others' e b i ne = by (row_eq own other) refl
+    where
+      other : Row
+      other = record { entry = e; block = b }
+
+      by : (t : Bool) → row_eq own other ≡ t → root_of new e b i ≡ root_of old e b i
+      by true h =
+          let same : own ≡ other = same_row own other h in
+          ap (λ o. option_map_or (λ ys. get_or ys i 0) o 0)
+          (updates other ∙ ap (λ t. cond t (Some (slice_set xs bit number)) (lookup (row_eq other) old)) h)
+          ∙ get_or-set_other xs bit i number 0 (λ at. ne (sym (ap (λ (r : Row). r.entry) same), sym (ap (λ (r : Row). r.block) same), at))
+          ∙ sym (was i)
+          ∙ ap (λ r. option_map_or (λ ys. get_or ys i 0) (lookup (row_eq r) old) 0) same
+      by false h =
+          ap (λ o. option_map_or (λ ys. get_or ys i 0) o 0)
+          (updates other ∙ ap (λ t. cond t (Some (slice_set xs bit number)) (lookup (row_eq other) old)) h)
+
+  pub roots : Roots old own.entry own.block bit number new
+  roots = record { here = here'; others = others' }
+
+-- zeros, as many as that
+abbrev pub zeros : ℕ → List ℕ
+zeros zero = []
+zeros (suc n) = 0 ∷ zeros n
+
+pub zero_at : (n j : ℕ) → get_or (zeros n) j 0 ≡ 0
+zero_at zero j = refl
+zero_at (suc n) zero = refl
+zero_at (suc n) (suc j) = zero_at n j

@@ -1,0 +1,81 @@
+-- Sets that take path edges, one time after another.
+use Rattle.std.proofs.Common.{◌≡◌, ℕ, ◌%◌, ◌==◌, List, get_or, inl, inr, sym, ap, ◌∙◌, true≢false, ◌/◌, ◌⊎◌, subst}
+use Rattle.std.proofs.lemmas.Nat.Bits.{bit_at-zero}
+use Rattle.path_sets.specs.declared.node.Node.{Node}
+use Rattle.path_sets.specs.declared.rows.Row.{Row}
+use Rattle.path_sets.specs.Masks.{bit_of}
+use Rattle.path_sets.specs.Triples.{Triple}
+use Rattle.path_sets.specs.Diagrams.{HaveNumbers, InBatch, Keeps, Listed, Roots, Takes, Unites, accepts, merged_has, root_of}
+use Rattle.path_sets.proofs.Batches.{is_or_not}
+
+-- nothing is taken
+pub takes_none : (given : Triple → Type 0) (ns : List Node) (rs : List (Row × List ℕ)) → Takes given ns ns rs rs
+takes_none given ns rs = record { kept = λ t h. h; sound = λ t h. inl h }
+
+-- more is taken
+pub takes_on : (given : Triple → Type 0) (ns ms os : List Node) (rs ss ts : List (Row × List ℕ)) → Takes given ns ms rs ss
+    → Takes given ms os ss ts
+    → Takes given ns os rs ts
+takes_on given ns ms os rs ss ts a b = record {
+  kept = λ t h. b.kept t (a.kept t h);
+  sound = λ t h. elim (b.sound t h) [ inl was ↦ a.sound t was | inr new ↦ inr new ];
+}
+
+-- of fewer
+pub takes_of : (few more : Triple → Type 0) (ns ms : List Node) (rs ss : List (Row × List ℕ)) → ((t : Triple) → few t → more t)
+    → Takes few ns ms rs ss → Takes more ns ms rs ss
+takes_of few more ns ms rs ss wider a = record {
+  kept = a.kept;
+  sound = λ t h. elim (a.sound t h) [ inl was ↦ inl was | inr new ↦ inr (wider t new) ];
+}
+
+-- a batch has nothing at a point without valuations
+pub nothing_at : (row : Row) (columns points : List ℕ) (bit : ℕ) (t : Triple) → get_or points bit 0 ≡ 0 → t.point % 64 ≡ bit
+    → InBatch row columns points t → ⊥
+nothing_at row columns points bit t none at (entry, block, (i, set, same)) =
+    true≢false (sym set ∙ ap (λ k. bit_of (get_or points k 0) i) at ∙ ap (λ w. bit_of w i) none ∙ ap (λ x. x == 1) (bit_at-zero i))
+
+is_at : (row : Row) (bit : ℕ) (t : Triple)
+    → ((t.entry ≡ row.entry) × (t.point / 64 ≡ row.block) × (t.point % 64 ≡ bit)) ⊎
+    ((t.entry ≡ row.entry) × (t.point / 64 ≡ row.block) × (t.point % 64 ≡ bit) → ⊥)
+is_at row bit t = elim (is_or_not t.entry row.entry) [
+  | inr ne ↦ inr (λ h. ne h.0)
+  | inl entry ↦ elim (is_or_not (t.point / 64) row.block) [
+    | inr ne ↦ inr (λ h. ne h.1)
+    | inl block ↦ elim (is_or_not (t.point % 64) bit) [ inr ne ↦ inr (λ h. ne h.2) | inl at ↦ inl (entry, block, at) ]
+  ]
+]
+
+-- a point's set takes those of a batch at that point, and the other sets stay
+module _ (row : Row) (columns points : List ℕ) (bit mask root : ℕ) (is : mask ≡ get_or points bit 0) (ns ms : List Node)
+    (rs ss : List (Row × List ℕ)) (number : ℕ)
+    (keeps : Keeps ns ms) (numbers : HaveNumbers ns rs) (was_root : root ≡ root_of rs row.entry row.block bit)
+    (unites : Unites columns mask 0 ns root ms number) (roots : Roots rs row.entry row.block bit number ss) where
+  here : (t : Triple) → (t.entry ≡ row.entry) × (t.point / 64 ≡ row.block) × (t.point % 64 ≡ bit)
+      → (merged_has ms ss t ≡ accepts ms number t.values) × (merged_has ns rs t ≡ accepts ns root t.values)
+  here t (entry, block, at) = (
+    (λ j. accepts ms (root_of ss (entry j) (block j) (at j)) t.values) ∙ ap (λ n. accepts ms n t.values) roots.here,
+    (λ j. accepts ns (root_of rs (entry j) (block j) (at j)) t.values) ∙ ap (λ n. accepts ns n t.values) (sym was_root),
+  )
+
+  there : (t : Triple) → ((t.entry ≡ row.entry) × (t.point / 64 ≡ row.block) × (t.point % 64 ≡ bit) → ⊥)
+      → merged_has ms ss t ≡ merged_has ns rs t
+  there t ne =
+      ap (λ n. accepts ms n t.values) (roots.others t.entry (t.point / 64) (t.point % 64) ne)
+      ∙ keeps.same (root_of rs t.entry (t.point / 64) (t.point % 64)) t.values (numbers t.entry (t.point / 64) (t.point % 64))
+
+  pub takes_at : Takes (InBatch row columns points) ns ms rs ss
+  takes_at = record {
+    kept = λ t h. elim (is_at row bit t) [
+      | inl at ↦ let e = here t at in e.0 ∙ (unites t.values).1 (inl (sym e.1 ∙ h))
+      | inr ne ↦ there t ne ∙ h
+    ];
+    sound = λ t h. elim (is_at row bit t) [
+      | inl at ↦ let e = here t at in elim ((unites t.values).0 (sym e.0 ∙ h)) [
+        | inl was ↦ inl (e.1 ∙ was)
+        | inr listed ↦
+            inr (at.0, at.1, subst (λ m. Listed columns m 0 t.values) (is ∙ ap (λ k. get_or points k 0) (sym at.2)) listed)
+      ]
+      | inr ne ↦ inl (sym (there t ne) ∙ h)
+    ];
+  }

@@ -1,0 +1,41 @@
+use Rattle.std.proofs.Common.{arith}
+use Rattle.std.proofs.lemmas.Option.{slice_get_within}
+use Rattle.path_sets.specs.declared.node.Node.{Node}
+use Rattle.path_sets.proofs.Grown.{still_down, keeps_grown, joined}
+use Rattle.path_sets.proofs.nodes.Nodes.make.Goals as goal
+
+pub invariant_of-self : goal.invariant_of-self
+invariant_of-self g c =
+    let s = c.args.self.now in
+    let x : Node = record { level = c.args.level; low = c.args.low; high = c.args.high } in
+    record {
+      down = still_down s.kept.keys s.down x c.requires.level c.requires.inside.0 c.requires.inside.1 c.index_of.new.kept.keys
+          c.index_of.ensures.grown;
+    }
+
+pub returns-clause-keeps : goal.returns-clause-keeps
+returns-clause-keeps g c =
+    let s = c.args.self.now in
+    let x : Node = record { level = c.args.level; low = c.args.low; high = c.args.high } in
+    keeps_grown s.kept.keys s.down x c.requires.level c.requires.inside.0 c.requires.inside.1 c.index_of.new.kept.keys
+    c.index_of.ensures.grown
+
+pub returns-in_err-at-clause-keeps : goal.returns-in_err-at-clause-keeps
+returns-in_err-at-clause-keeps g c =
+    let s = c.args.self.now in
+    let x : Node = record { level = c.args.level; low = c.args.low; high = c.args.high } in
+    keeps_grown s.kept.keys s.down x c.requires.level c.requires.inside.0 c.requires.inside.1 c.index_of.new.kept.keys
+    c.index_of.ensures.grown
+
+pub returns-clause-inside : goal.returns-clause-inside
+returns-clause-inside g c =
+    let within = slice_get_within c.index_of.new.kept.keys c.in_ok-at.at
+    (record { level = c.args.level; low = c.args.low; high = c.args.high }) c.in_ok-at.ensures.at in
+    omega (arith, within)
+
+pub returns-clause-joined : goal.returns-clause-joined
+returns-clause-joined g c =
+    let s = c.args.self.now in
+    let x : Node = record { level = c.args.level; low = c.args.low; high = c.args.high } in
+    λ v. joined s.kept.keys s.down x c.requires.level c.requires.inside.0 c.requires.inside.1 c.index_of.new.kept.keys
+    c.index_of.ensures.grown c.in_ok-at.at v c.in_ok-at.ensures.at

@@ -1,0 +1,74 @@
+use Rattle.std.proofs.Common.{arith}
+use Rattle.path_sets.specs.declared.notes.Line.{Line}
+use Rattle.path_sets.proofs.Unions.{unites_none, unites_all, unites_last, unites_both}
+use Rattle.path_sets.proofs.Grown.{keeps_on}
+use Rattle.path_sets.proofs.Noted.{all_on, found_line, one_more_line, unites_wide, line_unites}
+use Rattle.path_sets.proofs.union.+union.Goals as goal
+use Rattle.path_sets.proofs.union.+union.Goals.{then-mask-eq0-via-then-mask-eq0, then-mask-eq0-via-else-mask-eq0+then-number-eq-ALL}
+
+pub returns-then-mask-eq0-clause-unites : goal.returns-then-mask-eq0-clause-unites
+returns-then-mask-eq0-clause-unites g t c =
+    let ns = c.args.nodes.now.kept.keys in
+    elim c.then-mask-eq0.branch [
+      | then-mask-eq0-via-then-mask-eq0 w ↦ unites_none c.args.columns.now c.args.mask c.args.level ns c.args.number w.if-mask-eq0.true
+      | then-mask-eq0-via-else-mask-eq0+then-number-eq-ALL w ↦
+          unites_all c.args.columns.now c.args.mask c.args.level ns c.args.number w.if-number-eq-ALL.true
+    ]
+
+pub returns-then-level-eq64-clause-unites : goal.returns-then-level-eq64-clause-unites
+returns-then-level-eq64-clause-unites g t c =
+    unites_last c.args.columns.now c.args.mask c.args.level c.args.nodes.now.kept.keys c.args.number c.if-level-eq64.true
+    c.if-mask-eq0.false (omega arith)
+
+pub returns-then-line-mask-clause-unites : goal.returns-then-line-mask-clause-unites
+returns-then-line-mask-clause-unites g t c =
+    let ns = c.args.nodes.now.kept.keys in
+    let line = c.line_at-line.result in
+    let at = c.line_at-line.ensures in
+    unites_wide c.args.columns.now c.args.all c.args.mask c.narrowed-mask.result c.args.level ns ns c.args.number line.result
+    c.requires.covers
+    c.if-mask-eq0.false (omega arith) c.narrowed-mask.ensures
+    (line_unites c.args.columns.now ns line c.args.number c.args.level c.narrowed-mask.result c.if-line-number.true c.if-line-level.true
+    c.if-line-mask.true
+    (c.requires.lines at.0 line at.1))
+
+pub returns-clause-lines : goal.returns-clause-lines
+returns-clause-lines g t c =
+    let columns = c.args.columns.now in
+    let n0 = c.args.nodes.now.kept.keys in
+    let n1 = c.union.new.nodes.kept.keys in
+    let n2 = c.union-2.new.nodes.kept.keys in
+    let n3 = c.make.new.self.kept.keys in
+    let line : Line = record {
+      number = c.args.number;
+      level = c.args.level;
+      mask = c.narrowed-mask.result;
+      result = c.in_ok-result.result;
+    } in
+    let keeps = keeps_on n0 n1 n3 c.in_ok-low.ensures.keeps (keeps_on n1 n2 n3 c.in_ok-high.ensures.keeps c.in_ok-result.ensures.keeps) in
+    let unites =
+    unites_both columns c.narrowed-mask.result c.args.level (omega arith) n0 n1 n2 n3
+    c.args.number c.children-low.result.0 c.children-low.result.1 c.in_ok-low.low c.in_ok-high.high c.in_ok-result.result
+    c.children-low.ensures.split c.children-low.ensures.inside.1
+    c.in_ok-low.ensures.keeps c.in_ok-low.ensures.unites c.in_ok-low.ensures.inside c.in_ok-high.ensures.keeps c.in_ok-high.ensures.unites
+    c.in_ok-result.ensures.joined in
+    one_more_line columns n3 c.union-2.new.lines c.note.new.lines line
+    (all_on columns n2 n3 c.union-2.new.lines c.in_ok-result.ensures.keeps c.in_ok-high.ensures.lines)
+    (found_line columns n0 n3 c.args.number c.args.level c.narrowed-mask.result c.in_ok-result.result c.requires.inside
+    c.in_ok-result.ensures.inside keeps unites)
+    c.note.ensures
+
+pub returns-clause-unites : goal.returns-clause-unites
+returns-clause-unites g t c =
+    let n0 = c.args.nodes.now.kept.keys in
+    let n1 = c.union.new.nodes.kept.keys in
+    let n2 = c.union-2.new.nodes.kept.keys in
+    let n3 = c.make.new.self.kept.keys in
+    unites_wide c.args.columns.now c.args.all c.args.mask c.narrowed-mask.result c.args.level n0 n3 c.args.number c.in_ok-result.result
+    c.requires.covers
+    c.if-mask-eq0.false (omega arith) c.narrowed-mask.ensures
+    (unites_both c.args.columns.now c.narrowed-mask.result c.args.level (omega arith) n0 n1 n2 n3
+    c.args.number c.children-low.result.0 c.children-low.result.1 c.in_ok-low.low c.in_ok-high.high c.in_ok-result.result
+    c.children-low.ensures.split c.children-low.ensures.inside.1
+    c.in_ok-low.ensures.keeps c.in_ok-low.ensures.unites c.in_ok-low.ensures.inside c.in_ok-high.ensures.keeps c.in_ok-high.ensures.unites
+    c.in_ok-result.ensures.joined)

@@ -1,0 +1,5 @@
+use Rattle.std.proofs.Common.{◌-◌}
+use Rattle.path_sets.proofs.union.+union.Given as goal
+
+abbrev pub decreases-union : goal.decreases-union
+decreases-union g l = 64 - l.level

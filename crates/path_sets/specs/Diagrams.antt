@@ -1,0 +1,121 @@
+-- Decision diagrams: the sets of valuations that numbered nodes stand for (Bryant 1986).
+use Rattle.std.specs.Prelude.{◌≡◌, ◌+◌, ◌-◌, ◌/◌, ◌%◌, ◌<◌, ◌≤◌, ℕ, zero, suc, Bool, true, false, cond}
+use Rattle.std.specs.Prelude.{◌&&◌, nat_eq, nat_lt, List, [], ◌∷◌, ◌++◌, ◌⊎◌, Option, Some, None, ◌↔◌, length, slice_get, get_or}
+use Rattle.std.specs.Option.{option_map_or}
+use Rattle.std.specs.Map.{lookup}
+use Rattle.path_sets.specs.declared.node.Node.{Node}
+use Rattle.path_sets.specs.declared.notes.Line.{Line}
+use Rattle.path_sets.specs.declared.rows.Row.{Row}
+use Rattle.path_sets.specs.Masks.{bit_of}
+use Rattle.path_sets.specs.Triples.{Triple}
+
+-- the number that a valuation goes on to from a node, by its bit
+abbrev pub child : Node → ℕ → ℕ
+child x v = cond (bit_of v x.level) x.high x.low
+
+-- the node of a number: 0 and 1 are the empty set and that of all valuations, and have none
+abbrev pub node_at : List Node → ℕ → Option Node
+node_at nodes n = cond (nat_lt n 2) None (slice_get nodes (n - 2))
+
+-- whether a walk by the bits of a valuation comes from a number to 1, in at most so many steps
+unfoldable pub walk : List Node → ℕ → ℕ → ℕ → Bool
+walk nodes zero n v = nat_eq n 1
+walk nodes (suc most) n v = option_map_or (λ x. walk nodes most (child x v) v) (node_at nodes n) (nat_eq n 1)
+
+-- whether a valuation is in the set of a number
+unfoldable pub accepts : List Node → ℕ → ℕ → Bool
+accepts nodes n v = walk nodes n n v
+
+-- each node tests one of 64 bits, and its children have smaller numbers, so each walk ends
+abbrev pub GoDown : List Node → Type 0
+GoDown nodes = (i : ℕ) (x : Node) → slice_get nodes i ≡ Some x → (x.level < 64) × (x.low < i + 2) × (x.high < i + 2)
+
+-- a number that stands for a set
+abbrev pub IsNumber : List Node → ℕ → Type 0
+IsNumber nodes n = n < length nodes + 2
+
+-- more nodes, and the sets of the numbers that there were are the same
+pub record Keeps (old new : List Node) : Type 0 where
+  pub longer : length old ≤ length new
+  pub same : (n v : ℕ) → IsNumber old n → accepts new n v ≡ accepts old n v
+
+-- whether two nodes are the same
+abbrev pub node_eq : Node → Node → Bool
+node_eq x y = nat_eq x.level y.level && (nat_eq x.low y.low && nat_eq x.high y.high)
+
+-- the node stands at the end of the nodes that there were, or they are the same
+abbrev pub IsGrown : Node → List Node → List Node → Type 0
+IsGrown x old new = (new ≡ old) ⊎ (new ≡ old ++ x ∷ [])
+
+-- A batch of up to 64 valuations, held by columns: bit i of column l is bit l of valuation i. Of those in the mask, one has the
+-- bits of v from this level on.
+abbrev pub Listed : List ℕ → ℕ → ℕ → ℕ → Type 0
+Listed columns mask level v =
+    (i : ℕ) × (bit_of mask i ≡ true) × ((l : ℕ) → level ≤ l → l < 64 → bit_of (get_or columns l 0) i ≡ bit_of v l)
+
+-- The set of the new number is that of the old one with those listed.
+abbrev pub Unites : List ℕ → ℕ → ℕ → List Node → ℕ → List Node → ℕ → Type 0
+Unites columns mask level old n new r =
+    (v : ℕ) → (accepts new r v ≡ true) ↔ ((accepts old n v ≡ true) ⊎ Listed columns mask level v)
+
+-- whether two rows are the same
+abbrev pub row_eq : Row → Row → Bool
+row_eq x y = nat_eq x.entry y.entry && nat_eq x.block y.block
+
+-- the number of the set of valuations at a point, by its block of 64 points and its bit there: without a row, none
+abbrev pub root_of : List (Row × List ℕ) → ℕ → ℕ → ℕ → ℕ
+root_of rows entry block bit =
+    option_map_or (λ xs. get_or xs bit 0) (lookup (row_eq (record { entry = entry; block = block })) rows) 0
+
+-- a point has this number, and the others have those that they had
+pub record Roots (old : List (Row × List ℕ)) (entry block bit number : ℕ) (new : List (Row × List ℕ)) : Type 0 where
+  pub here : root_of new entry block bit ≡ number
+  pub others : (e b i : ℕ) → ((e ≡ entry) × (b ≡ block) × (i ≡ bit) → ⊥) → root_of new e b i ≡ root_of old e b i
+
+-- no word has one of the bits from this one on
+abbrev pub HasRoom : ℕ → List ℕ → Type 0
+HasRoom count words = (l i : ℕ) → count ≤ i → bit_of (get_or words l 0) i ≡ false
+
+-- Bit `at` of each word l is bit l of the number that was spread; the other bits are as they were.
+pub record Spreads (number at : ℕ) (old new : List ℕ) : Type 0 where
+  pub put : (l : ℕ) → l < 64 → bit_of (get_or new l 0) at ≡ bit_of number l
+  pub others : (l i : ℕ) → (i ≡ at → ⊥) → bit_of (get_or new l 0) i ≡ bit_of (get_or old l 0) i
+  pub past : (l : ℕ) → 64 ≤ l → get_or new l 0 ≡ get_or old l 0
+
+-- The path edges of a batch, which has one row: bit i of word p of the points says that valuation i is at point p of its block.
+abbrev pub InBatch : Row → List ℕ → List ℕ → Triple → Type 0
+InBatch row columns points t =
+    (t.entry ≡ row.entry) × (t.point / 64 ≡ row.block) × Listed columns (get_or points (t.point % 64) 0) 0 t.values
+
+-- a path edge of a row's block with this valuation, at a point of the mask
+abbrev pub AtPlace : Row → ℕ → ℕ → Triple → Type 0
+AtPlace row values mask t =
+    (t.entry ≡ row.entry) × (t.point / 64 ≡ row.block) × (t.values ≡ values) × (bit_of mask (t.point % 64) ≡ true)
+
+-- whether a path edge is in the sets: its valuation is in that of its point
+abbrev pub merged_has : List Node → List (Row × List ℕ) → Triple → Bool
+merged_has nodes rows t = accepts nodes (root_of rows t.entry (t.point / 64) (t.point % 64)) t.values
+
+-- the points of each row have numbers
+abbrev pub HaveNumbers : List Node → List (Row × List ℕ) → Type 0
+HaveNumbers nodes rows = (e b i : ℕ) → IsNumber nodes (root_of rows e b i)
+
+-- The sets have what they had, and of what they were to be given nothing else.
+pub record Takes (given : Triple → Type 0) (nodes nodes' : List Node) (rows rows' : List (Row × List ℕ)) : Type 0 where
+  pub kept : (t : Triple) → merged_has nodes rows t ≡ true → merged_has nodes' rows' t ≡ true
+  pub sound : (t : Triple) → merged_has nodes' rows' t ≡ true → (merged_has nodes rows t ≡ true) ⊎ given t
+
+-- What a line of notes says of a batch: the set of its number with the valuations that its mask lists from its level on is that of
+-- its result.
+pub record IsTrueLine (columns : List ℕ) (nodes : List Node) (line : Line) : Type 0 where
+  pub inside : IsNumber nodes line.number
+  pub reached : IsNumber nodes line.result
+  pub unites : Unites columns line.mask line.level nodes line.number nodes line.result
+
+-- each line is true
+abbrev pub AreTrue : List ℕ → List Node → List Line → Type 0
+AreTrue columns nodes lines = (i : ℕ) (line : Line) → slice_get lines i ≡ Some line → IsTrueLine columns nodes line
+
+-- each level at which a valuation of the batch has a 1 is a bit of the number
+abbrev pub Covers : ℕ → List ℕ → Type 0
+Covers all columns = (l i : ℕ) → bit_of (get_or columns l 0) i ≡ true → bit_of all l ≡ true

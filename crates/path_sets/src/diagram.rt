@@ -1,0 +1,79 @@
+//! A set of path edges that keeps a decision diagram for each entry and point.
+
+ghost use Rattle.std.specs.Prelude.{◌≡◌, ◌<◌, ◌^◌, length, OnOk};
+ghost use Rattle.path_sets.specs.Triples.{NoneTwice, NoneTwice-prop};
+ghost use Rattle.path_sets.specs.Edges.{edges};
+ghost use Rattle.path_sets.specs.Members.{all_edges};
+
+use crate::gathered::put_all;
+use crate::merged::Merged;
+use crate::ordered::OrderedEdges;
+use crate::path_set::PathSet;
+use crate::place::place_of;
+use crate::rows::Row;
+use language::{Point, Word};
+use std::alloc::{AllocError, Allocator};
+
+/// Path edges as decision diagrams over the bits of a valuation, bit 0 tested first, one for each entry and point, whose
+/// nodes are shared (Bryant 1986). New path edges are gathered and put into the diagrams many at a time.
+#[derive(Drop)]
+pub struct DiagramEdges<A: Allocator> {
+    gathered: OrderedEdges<A>,
+    merged: Merged<A>,
+    count: u64,
+    ghost counted: { count ≡ length (all_edges merged.nodes.kept.keys merged.rows.entries gathered.masks.entries) },
+    ghost once: { NoneTwice (all_edges merged.nodes.kept.keys merged.rows.entries gathered.masks.entries) } by { NoneTwice-prop (all_edges merged.nodes.kept.keys merged.rows.entries gathered.masks.entries) },
+}
+
+impl<A: Allocator + Copy> DiagramEdges<A> {
+    /// Puts what is gathered into the diagrams, where it is much. Where memory is refused, all stays gathered.
+    fn make_room(&mut self) -> Result<(), AllocError>
+        ensures same { all_edges self.new.merged.nodes.kept.keys self.new.merged.rows.entries self.new.gathered.masks.entries
+            ≡ all_edges self.old.merged.nodes.kept.keys self.old.merged.rows.entries self.old.gathered.masks.entries }
+        ensures room { OnOk result (length (edges self.new.gathered.masks.entries) < 2 ^ 63) }
+    {
+        if !self.gathered.is_full() {
+            return Ok(());
+        }
+        put_all(&mut self.merged, &self.gathered.masks)?;
+        self.gathered.clear();
+        Ok(())
+    }
+}
+
+impl<A: Allocator + Copy> PathSet<A> for DiagramEdges<A> {
+    ghost members = { λ s. all_edges s.merged.nodes.kept.keys s.merged.rows.entries s.gathered.masks.entries };
+
+    fn empty(alloc: A) -> Self {
+        DiagramEdges {
+            gathered: OrderedEdges::empty(alloc),
+            merged: Merged::new(alloc),
+            count: 0,
+        }
+    }
+
+    fn insert(&mut self, entry: Word, point: Point, values: Word) -> Result<bool, AllocError> {
+        if self.contains(entry, point, values) {
+            return Ok(false);
+        }
+        self.make_room()?;
+        self.gathered.insert(entry, point, values)?;
+        self.count += 1;
+        Ok(true)
+    }
+
+    fn contains(&self, entry: Word, point: Point, values: Word) -> bool {
+        let (place, bit) = place_of(entry, point, values);
+        let row = Row {
+            entry,
+            block: place.block,
+        };
+        self.gathered.contains(entry, point, values) || self.merged.has(&row, bit, values)
+    }
+
+    fn len(&self) -> u64 {
+        self.count
+    }
+
+    ghost none_twice = { λ s. s.once };
+}

@@ -1,0 +1,94 @@
+//! Sets of valuations as decision diagrams, one for each entry and point.
+
+ghost use Rattle.std.specs.Prelude.{◌≡◌, ℕ, ◌+◌, ◌*◌, ◌<◌, ◌/◌, ◌%◌, ◌⊎◌, true, false, OnOk};
+ghost use Rattle.std.proofs.lemmas.Map.Keys.{IsDistinct-prop};
+ghost use Rattle.indexmap.specs.IndexMap.{IsUnique, keys};
+ghost use Rattle.path_sets.specs.Triples.{Triple, triple};
+ghost use Rattle.path_sets.specs.Diagrams.{AreTrue, HaveNumbers, InBatch, Takes, merged_has, root_of, row_eq};
+
+use crate::batch::Batch;
+use crate::nodes::Nodes;
+use crate::notes::{Line, no_lines};
+use crate::rows::{Row, Rows, root, set_root};
+use crate::union::union;
+use indexmap::IndexMap;
+use language::Word;
+use std::alloc::{AllocError, Allocator};
+
+/// For each entry and point the number of its set.
+#[derive(Drop)]
+pub(crate) struct Merged<A: Allocator> {
+    pub(crate) nodes: Nodes<A>,
+    pub(crate) rows: Rows<A>,
+    ghost unique: { IsUnique row_eq rows } by { IsDistinct-prop row_eq (keys rows) },
+    ghost numbers: { HaveNumbers nodes.kept.keys rows.entries },
+}
+
+impl<A: Allocator + Copy> Merged<A> {
+    /// Empty sets, which take no memory yet.
+    pub(crate) fn new(alloc: A) -> Self
+        ensures { (t : Triple) → merged_has result.nodes.kept.keys result.rows.entries t ≡ false }
+    {
+        Merged {
+            nodes: Nodes::new(alloc),
+            rows: IndexMap::new(alloc),
+        }
+    }
+
+    /// Whether a valuation is in the set at a point, which is a bit of a row.
+    pub(crate) fn has(&self, row: &Row, bit: usize, values: Word) -> bool
+        requires { bit < 64 }
+        ensures { result ≡ merged_has self.now.nodes.kept.keys self.now.rows.entries
+            (triple row.now.entry (64 * row.now.block + bit) values) }
+    {
+        self.nodes.has(root(&self.rows, row, bit), values)
+    }
+
+    /// Puts the valuations of a batch at one point of its row into the set there.
+    fn put_at(
+        &mut self,
+        lines: &mut [Line; 256],
+        batch: &Batch,
+        bit: usize,
+    ) -> Result<(), AllocError>
+        requires bit { bit < 64 }
+        requires lines { AreTrue batch.now.columns self.old.nodes.kept.keys lines.old }
+        ensures lines { AreTrue batch.now.columns self.new.nodes.kept.keys lines.new }
+        ensures takes { Takes (InBatch batch.now.row batch.now.columns batch.now.points)
+            self.old.nodes.kept.keys self.new.nodes.kept.keys self.old.rows.entries self.new.rows.entries }
+        ensures all { OnOk result ((t : Triple) → t.point % 64 ≡ bit
+            → InBatch batch.now.row batch.now.columns batch.now.points t
+            → merged_has self.new.nodes.kept.keys self.new.rows.entries t ≡ true) }
+    {
+        let mask = batch.points[bit];
+        if mask == 0 {
+            return Ok(());
+        }
+        let number = root(&self.rows, &batch.row, bit);
+        let number = union(
+            &mut self.nodes,
+            lines,
+            &batch.columns,
+            batch.all,
+            number,
+            0,
+            mask,
+        )?;
+        set_root(&mut self.rows, batch.row, bit, number)?;
+        Ok(())
+    }
+
+    /// Puts the path edges of a batch into the sets. Where memory is refused, some of them may be in.
+    pub(crate) fn put(&mut self, batch: &Batch) -> Result<(), AllocError>
+        ensures takes { Takes (InBatch batch.now.row batch.now.columns batch.now.points)
+            self.old.nodes.kept.keys self.new.nodes.kept.keys self.old.rows.entries self.new.rows.entries }
+        ensures all { OnOk result ((t : Triple) → InBatch batch.now.row batch.now.columns batch.now.points t
+            → merged_has self.new.nodes.kept.keys self.new.rows.entries t ≡ true) }
+    {
+        let mut lines = no_lines();
+        for bit in 0..64 {
+            self.put_at(&mut lines, batch, bit)?;
+        }
+        Ok(())
+    }
+}

@@ -1,0 +1,96 @@
+//! Numbered nodes, each of which stands once.
+
+ghost use Rattle.std.specs.Prelude.{◌≡◌, ℕ, ◌+◌, ◌<◌, ◌^◌, Bool, cond, IfOk, Some, slice_get, length, ◌≤◌};
+ghost use Rattle.path_sets.specs.Masks.{bit_of};
+ghost use Rattle.path_sets.specs.Diagrams.{accepts, GoDown, IsGrown, IsNumber, Keeps};
+
+use crate::node::{Node, child};
+use indexmap::IndexSet;
+use language::Word;
+use std::alloc::{AllocError, Allocator};
+use std::hash::{BuildHasherDefault, FoldHasher};
+
+/// The number of the empty set.
+pub(crate) const NONE: u32 = 0;
+/// The number of the set of all valuations.
+pub(crate) const ALL: u32 = 1;
+/// How many nodes there may be: their numbers, from 2 on, are below 2^32.
+const MOST: usize = 4_294_967_293;
+
+/// Numbered nodes, in the order of their numbers.
+type Kept<A> = IndexSet<Node, BuildHasherDefault<FoldHasher>, A>;
+
+/// The nodes of decision diagrams: number n is the node at n - 2, whose children have smaller numbers.
+#[derive(Drop)]
+pub(crate) struct Nodes<A: Allocator> {
+    pub(crate) kept: Kept<A>,
+    ghost down: { GoDown kept.keys },
+}
+
+/// The index of a node, which is put at the end where it has none.
+fn index_of<A: Allocator + Copy>(kept: &mut Kept<A>, node: Node) -> Result<usize, AllocError>
+    ensures at { IfOk result (λ i. slice_get kept.new.keys i ≡ Some node) }
+    ensures grown { IsGrown node kept.old.keys kept.new.keys }
+    ensures within { IfOk result (λ i. i ≤ length kept.old.keys) }
+{
+    let (at, _) = kept.insert_full(node)?;
+    Ok(at)
+}
+
+impl<A: Allocator + Copy> Nodes<A> {
+    /// No nodes, which take no memory yet.
+    pub(crate) fn new(alloc: A) -> Self {
+        Nodes {
+            kept: IndexSet::new(alloc),
+        }
+    }
+
+    /// Whether a valuation is in the set of a number.
+    pub(crate) fn has(&self, number: u32, values: Word) -> bool
+        requires { IsNumber self.now.kept.keys number }
+        ensures { result ≡ accepts self.now.kept.keys number values }
+    {
+        let mut at = number;
+        while at > ALL {
+            at = child(self.kept[(at - 2) as usize], values);
+        }
+        at == ALL
+    }
+
+    /// The numbers that valuations go on to from a number by their bit of a level: its node's children where it has a
+    /// node of that level, else the number itself.
+    pub(crate) fn children(&self, number: u32, level: u8) -> (u32, u32)
+        requires { IsNumber self.now.kept.keys number }
+        ensures inside { (IsNumber self.now.kept.keys result.0) × (IsNumber self.now.kept.keys result.1) }
+        ensures split { (v : ℕ) → accepts self.now.kept.keys number v
+            ≡ cond (bit_of v level) (accepts self.now.kept.keys result.1 v) (accepts self.now.kept.keys result.0 v) }
+    {
+        if number > ALL {
+            let node = self.kept[(number - 2) as usize];
+            if node.level == level {
+                return (node.low, node.high);
+            }
+        }
+        (number, number)
+    }
+
+    /// The number of the set that has, of the valuations with a 0 at the level, those of one number, and of those with
+    /// a 1 those of another.
+    pub(crate) fn make(&mut self, level: u8, low: u32, high: u32) -> Result<u32, AllocError>
+        requires level { level < 64 }
+        requires inside { (IsNumber self.old.kept.keys low) × (IsNumber self.old.kept.keys high) }
+        ensures keeps { Keeps self.old.kept.keys self.new.kept.keys }
+        ensures inside { IfOk result (λ n. IsNumber self.new.kept.keys n) }
+        ensures joined { IfOk result (λ n. (v : ℕ) → accepts self.new.kept.keys n v
+            ≡ cond (bit_of v level) (accepts self.old.kept.keys high v) (accepts self.old.kept.keys low v)) }
+    {
+        if low == high {
+            return Ok(low);
+        }
+        if self.kept.len() >= MOST {
+            return Err(AllocError);
+        }
+        let at = index_of(&mut self.kept, Node { level, low, high })?;
+        Ok(at as u32 + 2)
+    }
+}

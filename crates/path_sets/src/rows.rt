@@ -1,0 +1,77 @@
+//! The numbers of the sets of valuations at points.
+
+ghost use Rattle.std.specs.Prelude.{◌≡◌, ◌<◌, ℕ, OnOk, OnErr, None, Some, IfSome, IsNone, length, slice_get, slice_set};
+ghost use Rattle.std.specs.Map.{lookup};
+ghost use Rattle.indexmap.specs.IndexMap.{IsUnique, index_map_len, keys, values};
+ghost use Rattle.path_sets.specs.Diagrams.{root_of, row_eq, Roots};
+
+use indexmap::IndexMap;
+use language::Word;
+use std::alloc::{AllocError, Allocator};
+use std::hash::{BuildHasherDefault, FoldHasher};
+
+/// A valuation on entry, and the number of a block of 64 points.
+#[derive(Clone, Copy, Debug, PartialEq, Eq, Hash)]
+pub(crate) struct Row {
+    pub(crate) entry: Word,
+    pub(crate) block: usize,
+}
+
+/// For each row the numbers of its points, in the order in which the rows are first met.
+pub(crate) type Rows<A> = IndexMap<Row, [u32; 64], BuildHasherDefault<FoldHasher>, A>;
+
+/// The number of the set at a point, which is a bit of a row.
+pub(crate) fn root<A: Allocator + Copy>(rows: &Rows<A>, row: &Row, bit: usize) -> u32
+    requires { bit < 64 }
+    ensures { result ≡ root_of rows.now.entries row.now.entry row.now.block bit }
+{
+    match rows.get(row) {
+        Some(numbers) => numbers[bit],
+        None => 0,
+    }
+}
+
+/// The index of a row, where it has numbers.
+fn find<A: Allocator + Copy>(rows: &Rows<A>, row: &Row) -> Option<usize>
+    ensures here { IfSome result (λ at. slice_get (keys rows.now) at ≡ Some row.now) }
+    ensures value { IfSome result (λ at. slice_get (values rows.now) at ≡ lookup (row_eq row.now) rows.now.entries) }
+    ensures within { IfSome result (λ at. at < index_map_len rows.now) }
+    ensures none { IsNone result → lookup (row_eq row.now) rows.now.entries ≡ None }
+{
+    rows.get_index_of(row)
+}
+
+/// Writes one number of a row.
+fn put(numbers: &mut [u32; 64], bit: usize, number: u32)
+    requires { bit < 64 }
+    ensures written { numbers.new ≡ slice_set numbers.old bit number }
+    ensures len { length numbers.old ≡ 64 }
+{
+    numbers[bit] = number;
+}
+
+/// Gives a point a number. Where memory is refused, each point keeps its own.
+pub(crate) fn set_root<A: Allocator + Copy>(
+    rows: &mut Rows<A>,
+    row: Row,
+    bit: usize,
+    number: u32,
+) -> Result<(), AllocError>
+    requires bit { bit < 64 }
+    requires unique { IsUnique row_eq rows.old }
+    ensures ok { OnOk result (Roots rows.old.entries row.entry row.block bit number rows.new.entries) }
+    ensures err { OnErr result ((e b i : ℕ) → root_of rows.new.entries e b i ≡ root_of rows.old.entries e b i) }
+    ensures unique { IsUnique row_eq rows.new }
+{
+    match find(rows, &row) {
+        Some(at) => {
+            put(&mut rows[at], bit, number);
+        }
+        None => {
+            let mut numbers = [0; 64];
+            put(&mut numbers, bit, number);
+            rows.insert(row, numbers)?;
+        }
+    }
+    Ok(())
+}

@@ -1,0 +1,120 @@
+//! Many path edges in both kinds of sets: so many that those of diagrams put what they gather into them.
+
+use crate::fields::first_word;
+use crate::sets::{contains, insert};
+use path_sets::{DiagramEdges, OrderedEdges, PathSet};
+use scarce::Scarce;
+use std::alloc::{AllocError, Allocator, Global};
+
+/// Which path edges: how many, of how many bits, at how many points.
+#[derive(Clone, Copy, Debug)]
+struct Shape {
+    count: u64,
+    width: u32,
+    points: u64,
+}
+
+/// The path edge of a number, in no order, of one of eight entries.
+fn scattered(shape: Shape, number: u64) -> (u64, usize, u64) {
+    let mixed = number.wrapping_mul(0x9e37_79b9_7f4a_7c15);
+    let values = mixed ^ mixed >> 29;
+    let kept = match shape.width {
+        64 => values,
+        width => values & (1u64 << (width % 64)).wrapping_sub(1),
+    };
+    let point = (mixed >> 40).checked_rem(shape.points).unwrap_or(0);
+    (mixed >> 61, point as usize, kept)
+}
+
+/// Inserts, again where memory is refused.
+fn insert_again<A: Allocator, S: PathSet<A>>(
+    set: &mut S,
+    edge: (u64, usize, u64),
+) -> Result<bool, AllocError> {
+    match insert(set, edge) {
+        Ok(added) => Ok(added),
+        Err(_) => insert(set, edge),
+    }
+}
+
+/// Whether two sets answer alike to each edge that is inserted.
+fn insert_alike<A: Allocator, B: Allocator, S: PathSet<A>, T: PathSet<B>>(
+    one: &mut S,
+    other: &mut T,
+    shape: Shape,
+) -> Result<bool, AllocError> {
+    for number in 0..shape.count {
+        let edge = scattered(shape, number);
+        if insert_again(one, edge)? != insert(other, edge)? {
+            return Ok(false);
+        }
+    }
+    Ok(one.len() == other.len())
+}
+
+/// Whether two sets have the same of these edges and of as many others.
+fn have_alike<A: Allocator, B: Allocator, S: PathSet<A>, T: PathSet<B>>(
+    one: &S,
+    other: &T,
+    shape: Shape,
+) -> bool {
+    for number in 0..shape.count.saturating_mul(2) {
+        let edge = scattered(shape, number);
+        if contains(one, edge) != contains(other, edge) {
+            return false;
+        }
+    }
+    true
+}
+
+/// Whether two empty sets are alike after these edges.
+fn fill_alike<A: Allocator, B: Allocator, S: PathSet<A>, T: PathSet<B>>(
+    one: &mut S,
+    other: &mut T,
+    shape: Shape,
+) -> Result<bool, AllocError> {
+    Ok(insert_alike(one, other, shape)? && have_alike(one, other, shape))
+}
+
+/// Whether a set of diagrams and an ordered set are alike after these edges.
+fn are_alike<A: Allocator + Copy>(
+    alloc: A,
+    ample: Global,
+    shape: Shape,
+) -> Result<bool, AllocError> {
+    let mut one: DiagramEdges<A> = PathSet::empty(alloc);
+    let mut other: OrderedEdges<Global> = PathSet::empty(ample);
+    fill_alike(&mut one, &mut other, shape)
+}
+
+/// Writes whether both kinds of sets answer alike.
+pub fn agree(alloc: Global, out: &mut String, numbers: &str) -> Result<(), AllocError> {
+    let (count, rest) = first_word(numbers);
+    let (width, rest) = first_word(rest);
+    let shape = Shape {
+        count,
+        width: (width % 65) as u32,
+        points: first_word(rest).0,
+    };
+    let alike = are_alike(alloc, alloc, shape)?;
+    write!(out, "{}", if alike { "agree" } else { "differ" })
+}
+
+/// Whether a set of diagrams takes so many edges all the same, whichever of its allocations is refused.
+pub fn takes_each(alloc: Global, count: u64) -> &'static str {
+    let shape = Shape {
+        count,
+        width: 10,
+        points: 150,
+    };
+    for nth in 1..1000u64 {
+        let scarce = Scarce::refusing(alloc, nth);
+        match are_alike(&scarce, alloc, shape) {
+            Ok(true) if scarce.refused() => {}
+            Ok(true) if nth > 20 => return "taken",
+            Ok(true) => return "few allocations",
+            _ => return "lost",
+        }
+    }
+    "too many allocations"
+}
