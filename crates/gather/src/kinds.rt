@@ -1,6 +1,6 @@
 //! The boards and the sets that workers may work with.
 use flow_graph::Graphs;
-use path_sets::{OrderedEdges, PathSet};
+use path_sets::{DiagramEdges, OrderedEdges, PathSet};
 use std::alloc::Allocator;
 use summaries::Due;
 use switchboard::{Board, LockPerBox, OneLock};
@@ -24,5 +24,9 @@ pub trait WorkSet: PathSet<Self::Heap> {
 }
 
 impl<A: Allocator + Copy> WorkSet for OrderedEdges<A> {
+    type Heap = A;
+}
+
+impl<A: Allocator + Copy> WorkSet for DiagramEdges<A> {
     type Heap = A;
 }

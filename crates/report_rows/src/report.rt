@@ -3,7 +3,7 @@
 use crate::program::{Asked, Kind, on_one_thread};
 use flow_graph::Graphs;
 use gather::{Answer, Report, check_rounds, check_rounds_with};
-use path_sets::OrderedEdges;
+use path_sets::{DiagramEdges, OrderedEdges};
 use post_ledger::Event;
 use procedure_worker::{Gate, Open};
 use std::alloc::{AllocError, Allocator, Global};
@@ -12,7 +12,8 @@ use std::thread::Threads;
 use summaries::{Due, NoVerdict, Summaries};
 use switchboard::OneLock;
 
-/// The report of the workers over the board that is asked for.
+/// The report of the workers over the board that is asked for: the one lock has sets of diagrams beside it, the other board
+/// the sets of `check_rounds`.
 fn report_of<R, K, A>(rt: &R, alloc: A, asked: &Asked, gate: &K) -> Result<Report<A, A>, NoVerdict>
 where
     R: Wait + Threads + Sync,
@@ -23,7 +24,7 @@ where
     match asked.board {
         Kind::LockPerBox => check_rounds(rt, alloc, program, rounds, limit, gate),
         Kind::OneLock => {
-            check_rounds_with::<R, OneLock<Due, Graphs<A>, A>, OrderedEdges<A>, K, Global>(
+            check_rounds_with::<R, OneLock<Due, Graphs<A>, A>, DiagramEdges<A>, K, Global>(
                 rt, alloc, alloc, program, rounds, limit, gate,
             )
         }
