@@ -99,7 +99,8 @@ module _ {M W : Type 0} (fits : W → ℕ → M → Type 0) where
         ∙ (ap (λ (z : View M W). get_or z.hands k (bare 0)) visit.inside.after ∙ get_or-set_other b.0.hands q k (hand_at q in_it.0) (bare 0) ne))) in
         subst (λ h. IsIdle (left - 1) h) (sym there) record { tickets = was.tickets; inside = was.inside; parts = was.parts; drawn = omega (arith, was.drawn) })
 
-  module _ (id : TableId) (number left : ℕ) (made : Bool) (w : W) (boxes : ℕ) (m : Seat M W) (p : IsBoxPass fits id number left made w boxes m) where
+  module _ (id : TableId) (number left : ℕ) (made : Bool) (w : W) (boxes : ℕ) (m : Seat M W)
+      (p : IsBoxPass fits id number left made w boxes m) where
     abbrev pub own_part : Own M
     own_part = record { number = number; events = own number m.0.seen.order; made = made }
 
@@ -131,7 +132,9 @@ module _ {M W : Type 0} (fits : W → ℕ → M → Type 0) where
     pub looked_is : (id' : TableId) (x : Seen M) → id' ≡ id → (left ≡ 0 → ⊥) → Later w boxes m.0.seen x → own number x.order ≡ own number m.0.seen.order → Looked fits sight (box_sight id' number (left - 1) made w boxes x)
     looked_is id' x same some_of l list = (record { goes = goes id' (left - 1) made x same l (seen_on w boxes made m.0.seen x p.seen l).known; made = refl; own = list }, omega (arith, some_of))
 
-    pub pass_on : (id' : TableId) (left' : ℕ) (made' : Bool) (u : Seat M W) → id' ≡ id → u.0.boards ≡ m.0.boards → u.0.lanes ≡ record { number = number; events = own number u.0.seen.order; made = made' } ∷ [] → u.1 ≡ [] → u.0.told ≡ unseen → u.0.owes ≡ 0
+    pub pass_on : (id' : TableId) (left' : ℕ) (made' : Bool) (u : Seat M W) → id' ≡ id → u.0.boards ≡ m.0.boards
+        → u.0.lanes ≡ record { number = number; events = own number u.0.seen.order; made = made' } ∷ [] → u.1 ≡ [] → u.0.told ≡ unseen
+        → u.0.owes ≡ 0
         → left' ≤ u.0.budget → ((q : ℕ) → q < boxes → IsIdle left' (hand_at q u.0)) → IsSeen fits w boxes made' u.0.seen → IsBoxPass fits id' number left' made' w boxes u
     pass_on id' left' made' u same board lanes out told owes budget hands seen = record {
       base = p.base;
@@ -154,20 +157,25 @@ module _ {M W : Type 0} (fits : W → ℕ → M → Type 0) where
     same_lanes u same list = same ∙ (p.lanes ∙ ap (λ l. record { number = number; events = l; made = made } ∷ []) (sym list))
 
     -- a pass that looked, and did no more
-    pub look_on : (id' : TableId) (u : Seat M W) → id' ≡ id → (left ≡ 0 → ⊥) → u ≡ (Rattle.switchboard.specs.Knowing.with_seen u.0.seen m.0, m.1) → News fits m.0 u.0.seen → HasOwn fits m.0 u.0.seen.order
+    pub look_on : (id' : TableId) (u : Seat M W) → id' ≡ id → (left ≡ 0 → ⊥)
+        → u ≡ (Rattle.switchboard.specs.Knowing.with_seen u.0.seen m.0, m.1) → News fits m.0 u.0.seen → HasOwn fits m.0 u.0.seen.order
         → IsBoxPass fits id' number (left - 1) made w boxes u × Looked fits sight (box_sight id' number (left - 1) made w boxes u.0.seen)
     look_on id' u same some_of is news has =
         let l = step_later m.0 u.0.seen refl first_later news in
         let list = own_same m.0 u.0.seen.order refl has in
         let l' = l in (
-          pass_on id' (left - 1) made u same (ap (λ (z : Seat M W). z.0.boards) is) (same_lanes u.0 (ap (λ (z : Seat M W). z.0.lanes) is) list) (ap (λ (z : Seat M W). z.1) is ∙ p.outside)
-              (ap (λ (z : Seat M W). z.0.told) is ∙ p.told) (ap (λ (z : Seat M W). z.0.owes) is ∙ p.owes) (omega (arith, ap (λ (z : Seat M W). z.0.budget) is, p.budget))
-              (λ q near. let was = p.hands q near in subst (λ h. IsIdle (left - 1) h) (sym (ap (λ (z : Seat M W). hand_at q z.0) is)) record { tickets = was.tickets; inside = was.inside; parts = was.parts; drawn = omega (arith, was.drawn) })
+          pass_on id' (left - 1) made u same (ap (λ (z : Seat M W). z.0.boards) is)
+              (same_lanes u.0 (ap (λ (z : Seat M W). z.0.lanes) is) list) (ap (λ (z : Seat M W). z.1) is ∙ p.outside)
+              (ap (λ (z : Seat M W). z.0.told) is ∙ p.told) (ap (λ (z : Seat M W). z.0.owes) is ∙ p.owes)
+              (omega (arith, ap (λ (z : Seat M W). z.0.budget) is, p.budget))
+              (λ q near. let was = p.hands q near in subst (λ h. IsIdle (left - 1) h) (sym (ap (λ (z : Seat M W). hand_at q z.0) is))
+              record { tickets = was.tickets; inside = was.inside; parts = was.parts; drawn = omega (arith, was.drawn) })
               (seen_on w boxes made m.0.seen u.0.seen p.seen l),
           looked_is id' u.0.seen same some_of l list,
         )
 
-    module _ (q : ℕ) (x y : List (Event M)) (b in_it v out : Seat M W) (visit : Visit q x y b in_it v out) (idle : (k : ℕ) → k < boxes → IsIdle left (hand_at k b.0)) (b_out : b.1 ≡ m.1) (some_of : left ≡ 0 → ⊥)
+    module _ (q : ℕ) (x y : List (Event M)) (b in_it v out : Seat M W) (visit : Visit q x y b in_it v out)
+        (idle : (k : ℕ) → k < boxes → IsIdle left (hand_at k b.0)) (b_out : b.1 ≡ m.1) (some_of : left ≡ 0 → ⊥)
         (board : v.0.boards ≡ m.0.boards) (lanes : v.0.lanes ≡ m.0.lanes) (told : v.0.told ≡ m.0.told) (budget : left ≤ v.0.budget + 1) (later : Later w boxes m.0.seen v.0.seen) where
       -- it left the mailbox as it was
       pub stays_on : (id' : TableId) → id' ≡ id → y ≡ x → v.0.owes ≡ 0 → own number v.0.seen.order ≡ own number m.0.seen.order
@@ -212,7 +220,9 @@ module _ {M W : Type 0} (fits : W → ℕ → M → Type 0) where
           own = grown_own;
         }
 
-        pub record_on : (id' : TableId) (u : Seat M W) → id' ≡ id → u.0.boards ≡ out.0.boards → u.0.hands ≡ out.0.hands → u.0.lanes ≡ out.0.lanes → u.0.seen ≡ out.0.seen → u.0.told ≡ out.0.told → u.0.budget ≡ out.0.budget → u.0.owes ≡ 0 → u.1 ≡ out.1
+        pub record_on : (id' : TableId) (u : Seat M W) → id' ≡ id → u.0.boards ≡ out.0.boards → u.0.hands ≡ out.0.hands
+            → u.0.lanes ≡ out.0.lanes → u.0.seen ≡ out.0.seen → u.0.told ≡ out.0.told → u.0.budget ≡ out.0.budget → u.0.owes ≡ 0
+            → u.1 ≡ out.1
             → IsBoxPass fits id' number (left - 1) made w boxes u
         record_on id' u same board' hands lanes' seen told' budget' owes slots =
             let is = recorded_is.after in

@@ -23,11 +23,13 @@ use Rattle.switchboard.specs.PerBox.{View, Asks, Tells, IsInside, Raised, Seat}
 use Rattle.switchboard.specs.BoxPasses.{IsIdle, box_sight, IsBoxPass}
 use Rattle.switchboard.proofs.BoxCalls.{Later, Visit, own_part, first_later, step_later, own_same, goes, pass_on, recorded_is, added_is, record_on}
 
-module _ {M W : Type 0} (fits : W → ℕ → M → Type 0) (id : TableId) (number left : ℕ) (made : Bool) (w : W) (boxes : ℕ) (m : Seat M W) (p : IsBoxPass fits id number left made w boxes m) where
+module _ {M W : Type 0} (fits : W → ℕ → M → Type 0) (id : TableId) (number left : ℕ) (made : Bool) (w : W) (boxes : ℕ) (m : Seat M W)
+    (p : IsBoxPass fits id number left made w boxes m) where
   abbrev before : Sight M W
   before = box_sight id number left made w boxes m.0.seen
 
-  module _ (x : List (Event M)) (v : Seat M W) (inside : IsInside fits number x m v) (job take : ℕ) (same_job : take ≡ job) (s : Sight M W) (see : before ≡ s) (has : HasJob s.number job s.seen.order) where
+  module _ (x : List (Event M)) (v : Seat M W) (inside : IsInside fits number x m v) (job take : ℕ) (same_job : take ≡ job)
+      (s : Sight M W) (see : before ≡ s) (has : HasJob s.number job s.seen.order) where
     list : own number v.0.seen.order ≡ own number m.0.seen.order
     list = own_same fits id number left made w boxes m p m.0 v.0.seen.order refl inside.own
 
@@ -79,10 +81,13 @@ module _ {M W : Type 0} (fits : W → ℕ → M → Type 0) (id : TableId) (numb
           was_done =
               let a = added_is fits id number left made w boxes m p number x y m v v out visit p.hands refl some_of board lanes told budget later (Done take) grown refl id' same in
               let b : Added fits (Completed number job) before (box_sight id' number (left - 1) made w boxes out.0.seen) = subst (λ k. Added fits (Completed number k) before (box_sight id' number (left - 1) made w boxes out.0.seen)) same_job a in
-              let c : Added fits (Completed number job) before (box_sight id' number (left - 1) made w boxes u.0.seen) = subst (λ (z : Seen M). Added fits (Completed number job) before (box_sight id' number (left - 1) made w boxes z)) (sym (ap (λ (z : Seat M W). z.0.seen) counted)) b in
+              let c : Added fits (Completed number job) before (box_sight id' number (left - 1) made w boxes u.0.seen) = subst
+              (λ (z : Seen M). Added fits (Completed number job) before (box_sight id' number (left - 1) made w boxes z))
+              (sym (ap (λ (z : Seat M W). z.0.seen) counted)) b in
               subst (λ (z : Sight M W). Added fits (Completed z.number job) z (box_sight id' number (left - 1) made w boxes u.0.seen)) see c
 
-  module _ (cause : Cause) (u : Seat M W) (raised : Raised fits record { by = number; cause = cause } m u) (not_made : made ≡ false) (id' : TableId) (same : id' ≡ id) where
+  module _ (cause : Cause) (u : Seat M W) (raised : Raised fits record { by = number; cause = cause } m u) (not_made : made ≡ false)
+      (id' : TableId) (same : id' ≡ id) where
     is : (u.0 ≡ record m.0 { lanes = map made_abort m.0.lanes; seen = u.0.seen })
     is = ap (λ (z : Seat M W). z.0) raised.after
 
@@ -98,7 +103,8 @@ module _ {M W : Type 0} (fits : W → ℕ → M → Type 0) (id : TableId) (numb
     pub abort_on : IsBoxPass fits id' number left true w boxes u
     abort_on = pass_on fits id number left made w boxes m p id' left true u same (ap (λ (z : View M W). z.boards) is)
         (ap (λ (z : View M W). z.lanes) is ∙ (ap (map made_abort) p.lanes ∙ ap (λ l. record { number = number; events = l; made = true } ∷ []) (sym list_raised)))
-        (ap (λ (z : Seat M W). z.1) raised.after ∙ p.outside) (ap (λ (z : View M W). z.told) is ∙ p.told) (ap (λ (z : View M W). z.owes) is ∙ p.owes)
+        (ap (λ (z : Seat M W). z.1) raised.after ∙ p.outside) (ap (λ (z : View M W). z.told) is ∙ p.told)
+        (ap (λ (z : View M W). z.owes) is ∙ p.owes)
         (omega (arith, ap (λ (z : View M W). z.budget) is, p.budget)) (λ q near. subst (λ (z : View M W). IsIdle left (hand_at q z)) (sym is) (p.hands q near))
         record { sound = later_raised.sound; close = later_raised.close; known = λ _. knows_it }
 

@@ -59,7 +59,8 @@ module _ {M W : Type 0} (fits : W → ℕ → M → Type 0) where
     more = are ∙ append_assoc front (s ∷ []) rest
 
     -- the first seat
-    pub gathered_first : (id : TableId) (me : Seat M W) → HasSeat fits s id me → s.seen.boxes ≡ boxes → rest ≡ [] → Gathered boxes all (length front) me
+    pub gathered_first : (id : TableId) (me : Seat M W) → HasSeat fits s id me → s.seen.boxes ≡ boxes → rest ≡ []
+        → Gathered boxes all (length front) me
     gathered_first id me has count none =
         let p = has.0 in
         let long : length all ≡ length front + 1 = ap length more ∙ (length-append front (s ∷ rest) ∙ ap (λ (l : List (Sight M W)). length front + length (s ∷ l)) none) in
@@ -76,7 +77,8 @@ module _ {M W : Type 0} (fits : W → ℕ → M → Type 0) where
         }
 
     -- one more seat taken in
-    pub gathered_more : (id : TableId) (me own_me me' : Seat M W) → Gathered boxes all (length (front ++ s ∷ [])) me → HasSeat fits s id own_me → s.seen.boxes ≡ boxes → TookIn fits (merged me.0 own_me.0, me.1) me'
+    pub gathered_more : (id : TableId) (me own_me me' : Seat M W) → Gathered boxes all (length (front ++ s ∷ [])) me
+        → HasSeat fits s id own_me → s.seen.boxes ≡ boxes → TookIn fits (merged me.0 own_me.0, me.1) me'
         → Gathered boxes all (length front) me'
     gathered_more id me own_me me' g has count took =
         let p = has.0 in
@@ -184,7 +186,8 @@ module _ {M W : Type 0} (fits : W → ℕ → M → Type 0) (g : Ground M W) whe
       let is_at = final.1.1 in
       let k = r.each id v is_at in
       let none : (j : ℕ) (u : View M W) → j ≢ id → get_elem? s.views j ≡ some u → length u.lanes ≡ 0 = λ j u ne at. (let two = total_two (λ (z : View M W). length z.lanes) s.views id j v u (λ e. ne (sym e)) is_at at in omega (arith, r.whole)) in
-      let no_more : owed s.views ≡ 0 = total_only (λ (z : View M W). z.owes) s.views id v is_at (λ j u ne at. (r.each j u at).idle (none j u ne at)) ∙ owes in
+      let no_more : owed s.views ≡ 0 = total_only (λ (z : View M W). z.owes) s.views id v is_at
+      (λ j u ne at. (r.each j u at).idle (none j u ne at)) ∙ owes in
       let counts = counted_closed g.boxes r.order r.sound.lawful in
       record {
         order = r.order;
@@ -249,7 +252,8 @@ module _ {M W : Type 0} (fits : W → ℕ → M → Type 0) (g : Ground M W) whe
       zero_low z = eq-eqb (n % 2 ^ 63) 0 (ap (λ k. k % 2 ^ 63) (r.word ∙ (ap (λ k. k + flag r.first) z ∙ omega arith)) ∙ flag_whole r.first)
 
   -- what is left of the board is what it promises
-  pub settles_is : (id : TableId) (all : List (Sight M W)) (me : Seat M W) (histories : List (List (Event M))) (closed : Bool) → AreAll id g.boxes all → Gathered g.boxes all 0 me → Ends fits g me.0 histories closed
+  pub settles_is : (id : TableId) (all : List (Sight M W)) (me : Seat M W) (histories : List (List (Event M))) (closed : Bool)
+      → AreAll id g.boxes all → Gathered g.boxes all 0 me → Ends fits g me.0 histories closed
       → Settles fits g.boxes all histories closed
   settles_is id all me histories closed every gathered e =
       let has : (j : ℕ) (s : Sight M W) → slice_get all j ≡ Some s → HasTaken s me.0 = λ j s at. gathered.each j s (omega arith) at in

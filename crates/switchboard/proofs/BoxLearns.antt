@@ -35,8 +35,10 @@ told_knew : (a b : Bool) → b ≡ true → a || b ≡ true
 told_knew true b e = refl
 told_knew false b e = e
 
-module _ {M W : Type 0} (fits : W → ℕ → M → Type 0) (id : TableId) (number left : ℕ) (made : Bool) (w : W) (boxes : ℕ) (m : Seat M W) (p : IsBoxPass fits id number left made w boxes m) where
-  module _ (told : Seat M W) (told_id : TableId) (t : IsBoxTold told_id told) (u : Seat M W) (took : TookIn fits (merged m.0 told.0, m.1) u) (id' : TableId) (same : id' ≡ id) where
+module _ {M W : Type 0} (fits : W → ℕ → M → Type 0) (id : TableId) (number left : ℕ) (made : Bool) (w : W) (boxes : ℕ) (m : Seat M W)
+    (p : IsBoxPass fits id number left made w boxes m) where
+  module _ (told : Seat M W) (told_id : TableId) (t : IsBoxTold told_id told) (u : Seat M W)
+      (took : TookIn fits (merged m.0 told.0, m.1) u) (id' : TableId) (same : id' ≡ id) where
     abbrev x : Seen M
     x = told.0.seen
 
@@ -66,7 +68,8 @@ module _ {M W : Type 0} (fits : W → ℕ → M → Type 0) (id : TableId) (numb
 
     pub learn_on : IsBoxPass fits id' number left made w boxes u
     learn_on = pass_on fits id number left made w boxes m p id' left made u same (ap (λ (z : View M W). z.boards) is ∙ boards) (same_lanes fits id number left made w boxes m p u.0 (ap (λ (z : View M W). z.lanes) is ∙ lanes) list)
-        (ap (λ (z : Seat M W). z.1) took.after ∙ p.outside) (ap (λ (z : View M W). z.told) is) (omega (arith, ap (λ (z : View M W). z.owes) is, ap (λ (z : View M W). z.owes) blank, p.owes))
+        (ap (λ (z : Seat M W). z.1) took.after ∙ p.outside) (ap (λ (z : View M W). z.told) is)
+        (omega (arith, ap (λ (z : View M W). z.owes) is, ap (λ (z : View M W). z.owes) blank, p.owes))
         (omega (arith, ap (λ (z : View M W). z.budget) is, p.budget)) (λ q near. subst (λ h. IsIdle left h) (sym (ap (λ (z : View M W). get_or z.hands q (bare 0)) is ∙ ap (λ l. get_or l q (bare 0)) hands)) (p.hands q near))
         (seen_on fits w boxes made m.0.seen u.0.seen p.seen later)
 

@@ -180,7 +180,8 @@ module _ {M W : Type 0} (fits : W → ℕ → M → Type 0) (g : Ground M W) (ne
       first_only first count (suc j) o order e all = absurd (some-ne-none o (sym e))
 
   -- the pass that was dealt
-  pub dealt_pass : (id : TableId) (number count calls : ℕ) (m : Seat M W) → m ≡ (just_one (first_view g number (suc count)), []) → IsSized id g.boxes → number < g.boxes → calls ≤ 2 ^ 56
+  pub dealt_pass : (id : TableId) (number count calls : ℕ) (m : Seat M W) → m ≡ (just_one (first_view g number (suc count)), [])
+      → IsSized id g.boxes → number < g.boxes → calls ≤ 2 ^ 56
       → IsBoxPass fits id number calls false g.world.value g.boxes m
   dealt_pass id number count calls m is sized short enough = subst (λ z. IsBoxPass fits id number calls false g.world.value g.boxes z) (sym is) record {
     base = g;
@@ -202,14 +203,17 @@ module _ {M W : Type 0} (fits : W → ℕ → M → Type 0) (g : Ground M W) (ne
   deals_from first zero id v is some_of = absurd (omega arith)
   deals_from first (suc count) id v is some_of = deals_one first count id v is
 
-  pub dealt_from : (id : TableId) (number left calls : ℕ) (m own_me : Seat M W) → m ≡ (first_view g number left, []) → own_me ≡ (just_one m.0, []) → 0 < left → IsSized id g.boxes → number < g.boxes → calls ≤ 2 ^ 56
+  pub dealt_from : (id : TableId) (number left calls : ℕ) (m own_me : Seat M W) → m ≡ (first_view g number left, [])
+      → own_me ≡ (just_one m.0, []) → 0 < left → IsSized id g.boxes → number < g.boxes → calls ≤ 2 ^ 56
       → IsBoxPass fits id number calls false g.world.value g.boxes own_me
   dealt_from id number zero calls m own_me is own_is some_of sized short enough = absurd (omega arith)
   dealt_from id number (suc count) calls m own_me is own_is some_of sized short enough =
       dealt_pass id number count calls own_me (own_is ∙ ap (λ (z : Seat M W). (just_one z.0, [])) is) sized short enough
 
   -- one more pass dealt
-  pub dealt_next : (id own_id : TableId) (calls n left : ℕ) (w v : W) (boxes : ℕ) (m m' own_me : Seat M W) (items items' : List (Sight M W)) → n + left ≡ boxes → n < boxes → own_id ≡ id → v ≡ w → m ≡ (first_view g n left, []) → m' ≡ (less_one m.0, m.1)
+  pub dealt_next : (id own_id : TableId) (calls n left : ℕ) (w v : W) (boxes : ℕ) (m m' own_me : Seat M W)
+      (items items' : List (Sight M W)) → n + left ≡ boxes → n < boxes → own_id ≡ id → v ≡ w → m ≡ (first_view g n left, [])
+      → m' ≡ (less_one m.0, m.1)
       → own_me ≡ (just_one m.0, []) → items ≡ fresh_sights id (calls + 1) (opened w boxes g.to g.first) 0 n → items' ≡ items ++ box_sight own_id n calls false v boxes own_me.0.seen ∷ [] → g.boxes ≡ boxes
       → (k : ℕ) × (n + 1 + k ≡ boxes) × (m' ≡ (first_view g (n + 1) k, [])) × (items' ≡ fresh_sights id (calls + 1) (opened w boxes g.to g.first) 0 (n + 1))
   dealt_next id own_id calls n zero w v boxes m m' own_me items items' sum lt same same_w is is' own_is are now many = absurd (omega arith)

@@ -27,17 +27,20 @@ use Rattle.switchboard.specs.BoxAnswers.{SawMore, PutIn}
 use Rattle.switchboard.proofs.BoxCalls.{Later, Visit, own_part, first_later, step_later, own_same, stays_on, recorded_is, added_is, record_on}
 
 -- what a post does while the mailbox is out moves no hand
-pub put_hands : {M W : Type 0} (fits : W → ℕ → M → Type 0) (number job : ℕ) (message : M) (r : Result (Unit {0}) (PostFault M)) (x y : List (Event M)) (v w : Seat M W) → PutIn fits number job message r x y v w → w.0.hands ≡ v.0.hands
+pub put_hands : {M W : Type 0} (fits : W → ℕ → M → Type 0) (number job : ℕ) (message : M) (r : Result (Unit {0}) (PostFault M))
+    (x y : List (Event M)) (v w : Seat M W) → PutIn fits number job message r x y v w → w.0.hands ≡ v.0.hands
 put_hands {M} {W} fits number job message (Ok o) x y v w t = ap (λ (z : Seat M W). z.0.hands) t.2
 put_hands fits number job message (Err (fault.Spent back)) x y v w t = absurd t
 put_hands {M} {W} fits number job message (Err (fault.Memory back)) x y v w t = ap (λ (z : Seat M W). z.0.hands) t.2
 put_hands {M} {W} fits number job message (Err (fault.Aborted back)) x y v w t = ap (λ (z : Seat M W). z.0.hands) t.2
 
-module _ {M W : Type 0} (fits : W → ℕ → M → Type 0) (id : TableId) (number left : ℕ) (made : Bool) (w : W) (boxes : ℕ) (m : Seat M W) (p : IsBoxPass fits id number left made w boxes m) where
+module _ {M W : Type 0} (fits : W → ℕ → M → Type 0) (id : TableId) (number left : ℕ) (made : Bool) (w : W) (boxes : ℕ) (m : Seat M W)
+    (p : IsBoxPass fits id number left made w boxes m) where
   abbrev before : Sight M W
   before = box_sight id number left made w boxes m.0.seen
 
-  module _ (to : ℕ) (x : List (Event M)) (in_it : Seat M W) (inside : IsInside fits to x m in_it) (job : ℕ) (s : Sight M W) (see : before ≡ s) (has : HasJob s.number job s.seen.order) where
+  module _ (to : ℕ) (x : List (Event M)) (in_it : Seat M W) (inside : IsInside fits to x m in_it) (job : ℕ) (s : Sight M W)
+      (see : before ≡ s) (has : HasJob s.number job s.seen.order) where
     -- the pass has its job still
     pub job_inside : (o : Own M) × (in_it.0.lanes ≡ o ∷ []) × (own o.number in_it.0.seen.order ≡ o.events) × HasJob o.number job in_it.0.seen.order
     job_inside =
@@ -82,7 +85,12 @@ module _ {M W : Type 0} (fits : W → ℕ → M → Type 0) (id : TableId) (numb
 
           module _ (out : Seat M W) (gone : lock.Left (hand_at to) (Tells fits to) y v out) (id' : TableId) (same : id' ≡ id) where
             visit : Visit fits to x y m in_it v out
-            visit = record { inside = inside; hands = ap (λ (z : Seat M W). z.0.hands) is; slots = ap (λ (z : Seat M W). z.1) is; left = gone }
+            visit = record {
+              inside = inside;
+              hands = ap (λ (z : Seat M W). z.0.hands) is;
+              slots = ap (λ (z : Seat M W). z.1) is;
+              left = gone;
+            }
 
             told : v.0.told ≡ m.0.told
             told = ap (λ (z : Seat M W). z.0.told) is ∙ ap (λ (z : View M W). z.told) inside.after
@@ -102,11 +110,17 @@ module _ {M W : Type 0} (fits : W → ℕ → M → Type 0) (id : TableId) (numb
             )
 
         -- the message came back
-        module _ (y : List (Event M)) (is : v ≡ (with_seen v.0.seen in_it.0, in_it.1)) (unchanged : y ≡ x) (out : Seat M W) (gone : lock.Left (hand_at to) (Tells fits to) y v out) (id' : TableId) (same : id' ≡ id) where
+        module _ (y : List (Event M)) (is : v ≡ (with_seen v.0.seen in_it.0, in_it.1)) (unchanged : y ≡ x) (out : Seat M W)
+            (gone : lock.Left (hand_at to) (Tells fits to) y v out) (id' : TableId) (same : id' ≡ id) where
           pub refused_on : IsBoxPass fits id' number (left - 1) made w boxes out × Looked fits before (box_sight id' number (left - 1) made w boxes out.0.seen) × (out.0.seen ≡ v.0.seen)
           refused_on =
               stays_on fits id number left made w boxes m p to x y m in_it v out
-              record { inside = inside; hands = ap (λ (z : Seat M W). z.0.hands) is; slots = ap (λ (z : Seat M W). z.1) is; left = gone } p.hands refl some_of
+              record {
+                inside = inside;
+                hands = ap (λ (z : Seat M W). z.0.hands) is;
+                slots = ap (λ (z : Seat M W). z.1) is;
+                left = gone;
+              } p.hands refl some_of
               (ap (λ (z : Seat M W). z.0.boards) is ∙ ap (λ (z : View M W). z.boards) inside.after)
               (ap (λ (z : Seat M W). z.0.lanes) is ∙ ap (λ (z : View M W). z.lanes) inside.after)
               (ap (λ (z : Seat M W). z.0.told) is ∙ ap (λ (z : View M W). z.told) inside.after)
@@ -114,7 +128,8 @@ module _ {M W : Type 0} (fits : W → ℕ → M → Type 0) (id : TableId) (numb
               later id' same unchanged (ap (λ (z : Seat M W). z.0.owes) is ∙ (ap (λ (z : View M W). z.owes) inside.after ∙ p.owes)) list
 
       -- the mailbox is left with the message, or as it was
-      pub post_asks : (r : Result (Unit {0}) (PostFault M)) (y : List (Event M)) (v : Seat M W) → PutIn fits number job message r x y in_it v → (hand_at to v.0).seen ≡ (hand_at to in_it.0).seen
+      pub post_asks : (r : Result (Unit {0}) (PostFault M)) (y : List (Event M)) (v : Seat M W)
+          → PutIn fits number job message r x y in_it v → (hand_at to v.0).seen ≡ (hand_at to in_it.0).seen
           → (z : List (Event M)) → EndsIn (hand_at to v.0).seen z → Asks fits to (passes z y) v.0
       post_asks r y v put hand z ends = subst (λ k. Asks fits to (passes k y) v.0) (EndsIn-same (hand_at to in_it.0).seen x z inside.found (subst (λ l. EndsIn l z) hand ends)) (asks r put)
         where
@@ -124,7 +139,8 @@ module _ {M W : Type 0} (fits : W → ℕ → M → Type 0) (id : TableId) (numb
           asks (Err (fault.Memory back)) t = inl t.3
           asks (Err (fault.Aborted back)) t = inl t.3
 
-      module _ (r : Result (Unit {0}) (PostFault M)) (y : List (Event M)) (v : Seat M W) (put : PutIn fits number job message r x y in_it v) (out : Seat M W)
+      module _ (r : Result (Unit {0}) (PostFault M)) (y : List (Event M)) (v : Seat M W)
+          (put : PutIn fits number job message r x y in_it v) (out : Seat M W)
           (gone : lock.Left (hand_at to) (Tells fits to) y v out) (id' : TableId) (same : id' ≡ id) where
         pub post_on : IsBoxPass fits id' number (left - 1) made w boxes out
         post_on = on r put

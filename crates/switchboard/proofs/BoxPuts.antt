@@ -25,5 +25,9 @@ module _ {M W : Type 0} (fits : W → ℕ → M → Type 0) (m w : Seat M W) (n 
       → (o : Own M) × (w.0.lanes ≡ o ∷ []) × (own o.number w.0.seen.order ≡ o.events) × HasJob o.number job w.0.seen.order
   job_seen job has =
       let o = has.0 in
-      let list = looked.own 0 o (ap (λ l. get_elem? l 0) has.1) in
-      (o, ap (λ (z : Seat M W). z.0.lanes) looked.after ∙ has.1, list, job_stays o.number job m.0.seen.order w.0.seen.order (has.2 ∙ sym list) has.3)
+      let list = looked.own 0 o (ap (λ l. get_elem? l 0) has.1) in (
+        o,
+        ap (λ (z : Seat M W). z.0.lanes) looked.after ∙ has.1,
+        list,
+        job_stays o.number job m.0.seen.order w.0.seen.order (has.2 ∙ sym list) has.3,
+      )

@@ -36,7 +36,8 @@ low_some : (low n : ℕ) (a : Option Abort) → n ≡ low + flag a → (n % 2 ^ 
 low_some low n None is some_of zero = some_of (omega arith)
 low_some low n (Some a) is some_of zero = some_of (omega arith)
 
-module _ {M W : Type 0} (fits : W → ℕ → M → Type 0) (id : TableId) (number left : ℕ) (made : Bool) (w : W) (boxes : ℕ) (m : Seat M W) (p : IsBoxPass fits id number left made w boxes m) (some_of : left ≡ 0 → ⊥)
+module _ {M W : Type 0} (fits : W → ℕ → M → Type 0) (id : TableId) (number left : ℕ) (made : Bool) (w : W) (boxes : ℕ) (m : Seat M W)
+    (p : IsBoxPass fits id number left made w boxes m) (some_of : left ≡ 0 → ⊥)
     (n : ℕ) (u : Seat M W) (looked : Looked fits m n u) where
   abbrev before : Sight M W
   before = box_sight id number left made w boxes m.0.seen

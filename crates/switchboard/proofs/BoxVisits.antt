@@ -20,7 +20,8 @@ module _ {M W : Type 0} (fits : W → ℕ → M → Type 0) where
   hand_news q h v x n = record { begins = n.begins; aborted = n.aborted; knows = n.knows; sound = n.sound; close = n.close }
 
   -- a seat that was ready, drew and entered
-  pub inside_is : (q ticket : ℕ) (x : List (Event M)) (m w : Seat M W) → IsReady (hand_at q m.0) → lock.Came (hand_at q) (Tells fits q) q m ticket x w → IsInside fits q x m w
+  pub inside_is : (q ticket : ℕ) (x : List (Event M)) (m w : Seat M W) → IsReady (hand_at q m.0)
+      → lock.Came (hand_at q) (Tells fits q) q m ticket x w → IsInside fits q x m w
   inside_is q ticket x m w ready came =
       let d = came.0 in
       let drew = came.1 in

@@ -45,7 +45,8 @@ or_flag low (Some b) a small =
 
 module _ {M W : Type 0} (fits : W → ℕ → M → Type 0) (g : Ground M W) where
   -- a pass with a job counts up
-  pub counts_up : (slots id : ℕ) (m : Seat M W) (job : ℕ) (o : Own M) → m.0.lanes ≡ o ∷ [] → own o.number m.0.seen.order ≡ o.events → HasJob o.number job m.0.seen.order → 0 < m.0.budget
+  pub counts_up : (slots id : ℕ) (m : Seat M W) (job : ℕ) (o : Own M) → m.0.lanes ≡ o ∷ [] → own o.number m.0.seen.order ≡ o.events
+      → HasJob o.number job m.0.seen.order → 0 < m.0.budget
       → table.Allows (Rule fits g) slots id m 0 (λ n. (n + 1) % 2 ^ 64) (λ n w. w ≡ (counted_up job m.0, m.1))
   counts_up slots id m job o lanes list has some_of s r len is_at small =
       let v : View M W = m.0 in
@@ -53,7 +54,8 @@ module _ {M W : Type 0} (fits : W → ℕ → M → Type 0) (g : Ground M W) whe
       let k = r.each id v is_at in
       let mine : own o.number v.seen.order ≡ own o.number r.order = list ∙ sym (k.owns 0 o (ap (λ l. get_elem? l 0) lanes)) in
       let has_still = job_stays o.number job v.seen.order r.order mine has in
-      let open_still : r.low ≡ 0 → ⊥ = λ e. no_job g.boxes r.order o.number job r.sound.lawful (closed_at_zero g.boxes r.order r.low (owed s.views) r.sound.lawful r.count e) has_still in
+      let open_still : r.low ≡ 0 → ⊥ = λ e. no_job g.boxes r.order o.number job r.sound.lawful
+      (closed_at_zero g.boxes r.order r.low (owed s.views) r.sound.lawful r.count e) has_still in
       let on : Grows r.order r.order r.first r.first r.low (r.low + 1) = record { begins = StartsWith-refl r.order; aborted = λ a e. e; still = λ e. absurd (open_still e) } in
       let n : ℕ = (get_or s.words 0 0 + 1) % 2 ^ 64 in
       let budget = total_at (λ (u : View M W). u.budget) s.views id v is_at in
@@ -70,7 +72,8 @@ module _ {M W : Type 0} (fits : W → ℕ → M → Type 0) (g : Ground M W) whe
       (w, table.keeps, tt, holds, refl)
 
   -- a pass whose Done is recorded counts down
-  pub counts_down : (slots id : ℕ) (m : Seat M W) → 0 < m.0.owes → table.Allows (Rule fits g) slots id m 0 (λ n. (n + (2 ^ 64 - 1)) % 2 ^ 64) (λ n w. w ≡ (counted_down m.0, m.1))
+  pub counts_down : (slots id : ℕ) (m : Seat M W) → 0 < m.0.owes
+      → table.Allows (Rule fits g) slots id m 0 (λ n. (n + (2 ^ 64 - 1)) % 2 ^ 64) (λ n w. w ≡ (counted_down m.0, m.1))
   counts_down slots id m some_of s r len is_at small =
       let v : View M W = m.0 in
       let w : View M W = counted_down v in
@@ -116,7 +119,8 @@ module _ {M W : Type 0} (fits : W → ℕ → M → Type 0) (g : Ground M W) whe
         holds,
         record {
           after = refl;
-          news = news_is fits g s r id v is_at r.order r.first r.low (owed s.views) x r.sound.lawful r.count saw k.saw.begins k.saw.aborted (λ e. eq-eqb r.low 0 (k.saw.close e).0);
+          news = news_is fits g s r id v is_at r.order r.first r.low (owed s.views) x r.sound.lawful r.count saw k.saw.begins
+              k.saw.aborted (λ e. eq-eqb r.low 0 (k.saw.close e).0);
           own = k.owns;
           low = r.low;
           small = omega (arith, r.few);
@@ -183,7 +187,8 @@ module _ {M W : Type 0} (fits : W → ℕ → M → Type 0) (g : Ground M W) whe
         holds,
         record {
           after = refl;
-          news = news_is fits g s r id v is_at r.order r.first r.low (owed s.views) x r.sound.lawful r.count saw l.1 (λ a e. mine v.seen.aborted v.told.aborted a e) (λ e. knew v.seen.knows v.told.knows e);
+          news = news_is fits g s r id v is_at r.order r.first r.low (owed s.views) x r.sound.lawful r.count saw l.1
+              (λ a e. mine v.seen.aborted v.told.aborted a e) (λ e. knew v.seen.knows v.told.knows e);
           theirs = l.2;
           aborted = λ a e. theirs v.seen.aborted v.told.aborted r.first a k.saw.aborted (k.told.aborted a e) e;
           own = λ i o at list. between o.number v.seen.order x.order r.order l.1 l.0 (k.owns i o at ∙ sym list) ∙ list;
@@ -203,7 +208,8 @@ module _ {M W : Type 0} (fits : W → ℕ → M → Type 0) (g : Ground M W) whe
       theirs (Some b) q first a f is e = sym (f b refl) ∙ is
 
   -- a pass that has made no abort raises bit 63
-  pub raises : (slots id : ℕ) (m : Seat M W) (a : Abort) (o : Own M) → m.0.lanes ≡ o ∷ [] → o.number ≡ a.by → o.made ≡ false → a.by < g.boxes → table.Allows (Rule fits g) slots id m 0 (λ n. bit_or n (2 ^ 63)) (λ n. Raised fits a m)
+  pub raises : (slots id : ℕ) (m : Seat M W) (a : Abort) (o : Own M) → m.0.lanes ≡ o ∷ [] → o.number ≡ a.by → o.made ≡ false
+      → a.by < g.boxes → table.Allows (Rule fits g) slots id m 0 (λ n. bit_or n (2 ^ 63)) (λ n. Raised fits a m)
   raises slots id m a o lanes by none near s r len is_at small =
       let v : View M W = m.0 in
       let first : Option Abort = abort_of r.first a in
@@ -236,7 +242,8 @@ module _ {M W : Type 0} (fits : W → ℕ → M → Type 0) (g : Ground M W) whe
         holds,
         record {
           after = refl;
-          news = news_is fits g s r id v is_at r.order first r.low (owed s.views) x r.sound.lawful r.count saw k.saw.begins (λ b is. stays r.first b (k.saw.aborted b is)) (λ is. is);
+          news = news_is fits g s r id v is_at r.order first r.low (owed s.views) x r.sound.lawful r.count saw k.saw.begins
+              (λ b is. stays r.first b (k.saw.aborted b is)) (λ is. is);
           own = k.owns;
           knows = refl;
           which = which r.first (λ c is same. let t = r.maker c is in

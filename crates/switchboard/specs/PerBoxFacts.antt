@@ -57,7 +57,8 @@ module _ {M : Type 0} where
   length-numbers (x ∷ xs) = ap suc (length-numbers xs)
 
   -- a lock whose words, slot and hands stay, and whose mailbox gets no event, stands
-  pub stays_there : (q : ℕ) (order order' : List (Entry M)) (words words' : List ℕ) (homes homes' : Homes M) (hands hands' : List (Hand (List (Event M)))) → Stands q order words homes hands
+  pub stays_there : (q : ℕ) (order order' : List (Entry M)) (words words' : List ℕ) (homes homes' : Homes M)
+      (hands hands' : List (Hand (List (Event M)))) → Stands q order words homes hands
       → part q order' ≡ part q order → length words' ≡ length words → get_or words' (word_of q) 0 ≡ get_or words (word_of q) 0 → get_or words' (word_of q + 1) 0 ≡ get_or words (word_of q + 1) 0
       → get_elem? homes' q ≡ get_elem? homes q → hands' ≡ hands → Stands q order' words' homes' hands'
   stays_there q order order' words words' homes homes' hands hands' s same_part same_length first second same_home same_hands =
@@ -148,15 +149,18 @@ module _ {M W : Type 0} where
       made_still w same a is = omega (arith, total_set (makes a.by) s.views id v w is_at, same a.by, r.maker a is)
 
       -- the count after one seat has another view
-      pub count_after : (order' : List (Entry M)) (low' : ℕ) (w : View M W) → low' + completed order' + v.owes ≡ posted order' + owed s.views + w.owes
+      pub count_after : (order' : List (Entry M)) (low' : ℕ) (w : View M W)
+          → low' + completed order' + v.owes ≡ posted order' + owed s.views + w.owes
           → low' + completed order' ≡ posted order' + owed (set s.views id w)
       count_after order' low' w count = omega (arith, total_set (λ (u : View M W). u.owes) s.views id v w is_at)
 
       -- the rule after one seat has another view
-      pub rebuilt : (order' : List (Entry M)) (first' : Option Abort) (low' : ℕ) (words : List ℕ) (homes : Homes M) (w : View M W) → Grows r.order order' r.first first' r.low low'
+      pub rebuilt : (order' : List (Entry M)) (first' : Option Abort) (low' : ℕ) (words : List ℕ) (homes : Homes M) (w : View M W)
+          → Grows r.order order' r.first first' r.low low'
           → ((n : ℕ) → times n (numbers v) ≡ 0 → own n order' ≡ own n r.order) → IsSound fits (state_of g record { order = order'; aborted = first'; knows = false })
           → ((q : ℕ) → q < g.boxes → Stands q order' words homes (set (map (hand_at q) s.views) id (hand_at q w))) → 0 < length words → get_or words 0 0 ≡ low' + flag first'
-          → low' + completed order' + v.owes ≡ posted order' + owed s.views + w.owes → low' + w.budget ≤ r.low + v.budget → Knows fits g order' first' low' w → numbers w ≡ numbers v
+          → low' + completed order' + v.owes ≡ posted order' + owed s.views + w.owes → low' + w.budget ≤ r.low + v.budget
+          → Knows fits g order' first' low' w → numbers w ≡ numbers v
           → ((a : Abort) → first' ≡ Some a → 0 < total (makes a.by) (set s.views id w)) → Rule fits g record { words = words; homes = homes; views = set s.views id w }
       rebuilt order' first' low' words homes w on apart sound locks some_word word count few mine same maker = record {
         order = order';
@@ -185,7 +189,8 @@ module _ {M W : Type 0} where
       }
 
       -- the other locks stand where one takes a step
-      pub locks_after : (order' : List (Entry M)) (slot i n : ℕ) (homes : Homes M) (log : List (List (Event M))) (w : View M W) (h : Hand (List (Event M))) → (i ≡ word_of slot) ⊎ (i ≡ word_of slot + 1)
+      pub locks_after : (order' : List (Entry M)) (slot i n : ℕ) (homes : Homes M) (log : List (List (Event M))) (w : View M W)
+          (h : Hand (List (Event M))) → (i ≡ word_of slot) ⊎ (i ≡ word_of slot + 1)
           → ((k : ℕ) → k ≢ slot → get_elem? homes k ≡ get_elem? s.homes k) → hand_at slot w ≡ h → ((q : ℕ) → q ≢ slot → hand_at q w ≡ hand_at q v)
           → Kept (word_of slot) slot log (set s.words i n) homes (set (map (hand_at slot) s.views) id h) → EndsIn log (part slot order') → ((q : ℕ) → q ≢ slot → part q order' ≡ part q r.order)
           → (q : ℕ) → q < g.boxes → Stands q order' (set s.words i n) homes (set (map (hand_at q) s.views) id (hand_at q w))

@@ -102,11 +102,13 @@ module _ {M W : Type 0} (fits : W → ℕ → M → Type 0) (g : Ground M W) whe
         }
 
     -- the rule after a step of a lock
-    turned : (order : List (Entry M)) (q i n : ℕ) (homes : Homes M) (log : List (List (Event M))) (h : Hand (List (Event M))) (w : View M W) → (i ≡ word_of q) ⊎ (i ≡ word_of q + 1)
+    turned : (order : List (Entry M)) (q i n : ℕ) (homes : Homes M) (log : List (List (Event M))) (h : Hand (List (Event M)))
+        (w : View M W) → (i ≡ word_of q) ⊎ (i ≡ word_of q + 1)
         → ((k : ℕ) → k ≢ q → get_elem? homes k ≡ get_elem? s.homes k) → hand_at q w ≡ h → ((k : ℕ) → k ≢ q → hand_at k w ≡ hand_at k v)
         → Kept (word_of q) q log (set s.words i n) homes (set (map (hand_at q) s.views) id h) → EndsIn log (part q order) → ((k : ℕ) → k ≢ q → part k order ≡ part k r.order) → Grows r.order order r.first r.first r.low r.low
         → ((k : ℕ) → times k (numbers v) ≡ 0 → own k order ≡ own k r.order) → IsSound fits (state_of g record { order = order; aborted = r.first; knows = false })
-        → r.low + completed order + v.owes ≡ posted order + owed s.views + w.owes → w.budget ≡ v.budget → Knows fits g order r.first r.low w → numbers w ≡ numbers v → ((k : ℕ) → makes k w ≡ makes k v)
+        → r.low + completed order + v.owes ≡ posted order + owed s.views + w.owes → w.budget ≡ v.budget
+        → Knows fits g order r.first r.low w → numbers w ≡ numbers v → ((k : ℕ) → makes k w ≡ makes k v)
         → Rule fits g record { words = set s.words i n; homes = homes; views = set s.views id w }
     turned order q i n homes log h w where_i same_homes is_h others kept ends parts on apart sound count budget mine same made =
         rebuilt fits g s r id v is_at order r.first r.low (set s.words i n) homes w on apart sound
@@ -115,7 +117,8 @@ module _ {M W : Type 0} (fits : W → ℕ → M → Type 0) (g : Ground M W) whe
         (made_still fits g s r id v is_at w made)
 
     -- a hand that has a ticket or is inside has a share
-    has_share : (q i n : ℕ) (homes : Homes M) (log : List (List (Event M))) (h : Hand (List (Event M))) → Kept (word_of q) q log (set s.words i n) homes (set (map (hand_at q) s.views) id h)
+    has_share : (q i n : ℕ) (homes : Homes M) (log : List (List (Event M))) (h : Hand (List (Event M)))
+        → Kept (word_of q) q log (set s.words i n) homes (set (map (hand_at q) s.views) id h)
         → h.parts ≡ (hand_at q v).parts → ((h.tickets ≡ []) × (h.inside ≡ []) → ⊥) → q < length v.hands
     has_share q i n homes log h kept same busy =
         let at = set_here (map (hand_at q) s.views) id h (at_inside (map (hand_at q) s.views) id (hand_at q v) (at-map (hand_at q) s.views id v is_at)) in
@@ -159,7 +162,8 @@ module _ {M W : Type 0} (fits : W → ℕ → M → Type 0) (g : Ground M W) whe
                 (λ k _. refl) r.sound (omega (arith, r.count)) refl (knows_hand q h y short parts saw) refl (λ k. refl),
             (
               sym (ap (λ z. with_seen y (with_hand q z v)) is_h),
-              news_is fits g s r id v is_at r.order r.first r.low (owed s.views) y r.sound.lawful r.count saw mine.saw.begins (λ a e. e) (λ e. e),
+              news_is fits g s r id v is_at r.order r.first r.low (owed s.views) y r.sound.lawful r.count saw mine.saw.begins (λ a e. e)
+                  (λ e. e),
               mine.owns,
               refl,
               refl,
@@ -194,7 +198,9 @@ module _ {M W : Type 0} (fits : W → ℕ → M → Type 0) (g : Ground M W) whe
                 let maker = maker_is q o.number e x v may in
                 let come = may_come q o e x near part_is (a.3 ∙ sym list) may in
                 let sound : IsSound fits (state_of g record { order = order; aborted = r.first; knows = false }) = sound_push fits more (state_of g record { order = r.order; aborted = r.first; knows = false }) r.sound come in
-                let not_closed : r.low ≡ 0 → ⊥ = λ z. none_more (nothing_follows g.boxes r.order (more ∷ []) r.sound.lawful (closed_at_zero g.boxes r.order r.low (owed s.views) r.sound.lawful r.count z) sound.lawful) in
+                let not_closed : r.low ≡ 0 → ⊥ = λ z. none_more
+                (nothing_follows g.boxes r.order (more ∷ []) r.sound.lawful
+                (closed_at_zero g.boxes r.order r.low (owed s.views) r.sound.lawful r.count z) sound.lawful) in
                 let on : Grows r.order order r.first r.first r.low r.low = record { begins = (more ∷ [], refl); aborted = λ b z. z; still = λ z. absurd (not_closed z) } in
                 let count = counted q o.number r.low (owed s.views) e x v r.order may r.count in
                 let z : Seen M = record v.seen { order = order } in
@@ -214,7 +220,8 @@ module _ {M W : Type 0} (fits : W → ℕ → M → Type 0) (g : Ground M W) whe
                   parts = λ k nearby. (knows_hand q h v.seen short parts mine.saw).parts k nearby ∙ ap length lanes;
                   idle = λ none. absurd (omega arith);
                 } (sym named) (λ k. sym (ap (total (made_by k)) lanes)) in
-                let news = news_is fits g s r id v is_at order r.first r.low (owed (set s.views id w)) z sound.lawful (Rattle.switchboard.specs.PerBoxFacts.count_after fits g s r id v is_at order r.low w count) saw
+                let news = news_is fits g s r id v is_at order r.first r.low (owed (set s.views id w)) z sound.lawful
+                (Rattle.switchboard.specs.PerBoxFacts.count_after fits g s r id v is_at order r.low w count) saw
                 (Rattle.ticket_lock.specs.Facts.StartsWith-trans order r.order v.seen.order on.begins mine.saw.begins) (λ b k. k) (λ k. k) in
                 let done : Recorded fits q o e x v w = record {
                   front = r.order;
