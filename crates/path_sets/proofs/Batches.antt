@@ -1,5 +1,6 @@
 -- One more valuation in a batch.
-use Rattle.std.proofs.Common.{bit_or, nat_lt, ◌≡◌, ℕ, zero, suc, ◌+◌, ◌<◌, ◌≤◌, ◌^◌, ◌%◌, Bool, true, false, ◌==◌, nat_eq, List, get_or}
+use Rattle.std.proofs.Common.{bit_or, nat_lt, ◌≡◌, ℕ, zero, suc, ◌+◌, ◌<◌, ◌≤◌}
+use Rattle.std.proofs.Common.{◌^◌, ◌%◌, Bool, true, false, ◌==◌, nat_eq, List, get_or}
 use Rattle.std.proofs.Common.{◌⊎◌, ◌↔◌, inl, inr, refl, sym, ap, ◌∙◌, arith, true≢false, eq-eqb}
 use Rattle.std.specs.Int.{bit_at}
 use Rattle.std.proofs.lemmas.Nat.Bits.{bit_at-lt, bit_at-zero, bit_at_or, same_from_bits_below}
@@ -33,7 +34,8 @@ is_or_not i k = by (nat_eq i k) refl
     by false e = inr (λ same. true≢false (sym (eq-eqb i k same) ∙ e))
 
 -- where one more bit is used, there is still room behind it
-pub still_room : (count number : ℕ) (old new : List ℕ) → HasRoom count old → Spreads number count old new → HasRoom (count + 1) new
+pub still_room : (count number : ℕ) (old new : List ℕ) → HasRoom count old → Spreads number count old new
+    → HasRoom (count + 1) new
 still_room count number old new room s l i least = s.others l i (λ same. omega (arith, least, same)) ∙ room l i (omega (arith, least))
 
 -- zeros have room for all
@@ -54,9 +56,11 @@ module _ (row : Row) (count values mask : ℕ) (columns columns' points points' 
   within = omega arith
 
   from_new : (i : ℕ) → i ≡ count → bit_of (get_or points' bit 0) i ≡ true
-      → ((l : ℕ) → 0 ≤ l → l < 64 → bit_of (get_or columns' l 0) i ≡ bit_of t.values l) → (t.values ≡ values) × (bit_of mask bit ≡ true)
+      → ((l : ℕ) → 0 ≤ l → l < 64 → bit_of (get_or columns' l 0) i ≡ bit_of t.values l)
+      → (t.values ≡ values) × (bit_of mask bit ≡ true)
   from_new i at set same = (
-    same_word t.values values fits' fits (λ l less. sym (same l (omega arith) less) ∙ ap (bit_of (get_or columns' l 0)) at ∙ cs.put l less),
+    same_word t.values values fits' fits (λ l less. sym (same l (omega arith) less)
+        ∙ ap (bit_of (get_or columns' l 0)) at ∙ cs.put l less),
     sym (ps.put bit within) ∙ ap (bit_of (get_or points' bit 0)) (sym at) ∙ set,
   )
 

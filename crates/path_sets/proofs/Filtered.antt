@@ -1,5 +1,6 @@
 -- Lists of which some items are kept.
-use Rattle.std.proofs.Common.{◌≡◌, ℕ, zero, suc, ◌+◌, ◌<◌, Bool, true, false, List, [], ◌∷◌, ◌++◌, map, filter, length, inl, inr}
+use Rattle.std.proofs.Common.{◌≡◌, ℕ, zero, suc, ◌+◌, ◌<◌, Bool, true, false}
+use Rattle.std.proofs.Common.{List, [], ◌∷◌, ◌++◌, map, filter, length, inl, inr}
 use Rattle.std.proofs.Common.{if◌then◌else◌, refl, sym, ap, ◌∙◌, subst, arith, true≢false}
 use Rattle.language.specs.Flow.{Member}
 use Rattle.language.proofs.Members.{member_left, member_right, member_append, map_member}
@@ -68,7 +69,8 @@ module _ {A : Type 0} where
       by false e = e
 
   -- lists with nothing in common, one behind the other
-  pub append_none_twice : (xs ys : List A) → NoneTwice xs → NoneTwice ys → ((t : A) → Member t xs → Member t ys → ⊥) → NoneTwice (xs ++ ys)
+  pub append_none_twice : (xs ys : List A) → NoneTwice xs → NoneTwice ys → ((t : A) → Member t xs → Member t ys → ⊥)
+      → NoneTwice (xs ++ ys)
   append_none_twice [] ys hx hy apart = hy
   append_none_twice (x ∷ xs) ys (once, hx) hy apart = (
     λ m. elim (member_append x xs ys m) [ inl own ↦ once own | inr other ↦ apart x (inl refl) other ],
@@ -103,7 +105,8 @@ module _ {A B : Type 0} (f : A → List B) where
       (λ b m later. let r = of_each xs b later in once (subst (λ k. Member k xs) (sym (apart x r.0 b m r.2)) r.1))
 
 -- images of different items are different
-pub map_none_twice : {A B : Type 0} (f : A → B) (xs : List A) → ((x y : A) → f x ≡ f y → x ≡ y) → NoneTwice xs → NoneTwice (map f xs)
+pub map_none_twice : {A B : Type 0} (f : A → B) (xs : List A) → ((x y : A) → f x ≡ f y → x ≡ y) → NoneTwice xs
+    → NoneTwice (map f xs)
 map_none_twice f [] apart h = tt
 map_none_twice f (x ∷ xs) apart (once, h) = (
   λ m. let r = map_member f xs (f x) m in once (subst (λ k. Member k xs) (sym (apart x r.0 r.2)) r.1),

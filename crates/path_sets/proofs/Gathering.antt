@@ -22,7 +22,8 @@ abbrev pub row_of : Place → Row
 row_of p = record { entry = p.entry; block = p.block }
 
 -- a path edge at a place's mask is among the edges
-pub placed : (gs : Groups) (i : ℕ) (p : Place) (m : ℕ) (t : Triple) → slice_get gs i ≡ Some (p, m) → AtPlace (row_of p) p.values m t
+pub placed : (gs : Groups) (i : ℕ) (p : Place) (m : ℕ) (t : Triple) → slice_get gs i ≡ Some (p, m)
+    → AtPlace (row_of p) p.values m t
     → Member t (edges gs)
 placed gs i p m t at (entry, block, values, set) =
     let small : t.point % 64 < 64 = omega arith in
@@ -62,7 +63,8 @@ module _ (masks : Groups) (ns0 ns1 ns2 : List Node) (rs0 rs1 rs2 : List (Row × 
     (all : (i : ℕ) (q : Place) (k : ℕ) (t : Triple) → i < at → slice_get masks i ≡ Some (q, k) → AtPlace (row_of q) q.values k t
     → t.values < 2 ^ 64
     → (merged_has ns1 rs1 t ≡ true) ⊎ B0 t)
-    (room : Takes B0 ns1 ns2 rs1 rs2) (few : (t : Triple) → B1 t → B0 t) (stay : (t : Triple) → B0 t → (merged_has ns2 rs2 t ≡ true) ⊎ B1 t)
+    (room : Takes B0 ns1 ns2 rs1 rs2) (few : (t : Triple) → B1 t → B0 t)
+    (stay : (t : Triple) → B0 t → (merged_has ns2 rs2 t ≡ true) ⊎ B1 t)
     (added : (t : Triple) → t.values < 2 ^ 64 → B2 t ↔ (B1 t ⊎ AtPlace (row_of p) p.values m t)) where
   pub taken_on : Takes (λ t. t.values < 2 ^ 64 → Member t (edges masks)) ns0 ns2 rs0 rs2
   taken_on = takes_on (λ t. t.values < 2 ^ 64 → Member t (edges masks)) ns0 ns1 ns2 rs0 rs1 rs2 taken
@@ -71,7 +73,8 @@ module _ (masks : Groups) (ns0 ns1 ns2 : List Node) (rs0 rs1 rs2 : List (Row × 
   pub some_on : (t : Triple) → B2 t → t.values < 2 ^ 64 → Member t (edges masks)
   some_on t b fits = elim ((added t fits).0 b) [ inl was ↦ some t (few t was) fits | inr new ↦ placed masks at p m t here new ]
 
-  pub all_on : (i : ℕ) (q : Place) (k : ℕ) (t : Triple) → i < at + 1 → slice_get masks i ≡ Some (q, k) → AtPlace (row_of q) q.values k t
+  pub all_on : (i : ℕ) (q : Place) (k : ℕ) (t : Triple) → i < at + 1 → slice_get masks i ≡ Some (q, k)
+      → AtPlace (row_of q) q.values k t
       → t.values < 2 ^ 64
       → (merged_has ns2 rs2 t ≡ true) ⊎ B2 t
   all_on i q k t less is place fits = elim (is_or_not i at) [

@@ -1,5 +1,6 @@
 -- More nodes, and the sets that there were.
-use Rattle.std.proofs.Common.{◌≡◌, ℕ, zero, suc, ◌+◌, ◌-◌, ◌<◌, Bool, true, false, cond, ◌&&◌, nat_lt, nat_eq, List, [], ◌∷◌, ◌++◌}
+use Rattle.std.proofs.Common.{◌≡◌, ℕ, zero, suc, ◌+◌, ◌-◌, ◌<◌, Bool, true}
+use Rattle.std.proofs.Common.{false, cond, ◌&&◌, nat_lt, nat_eq, List, [], ◌∷◌, ◌++◌}
 use Rattle.std.proofs.Common.{Option, Some, None, length, slice_get, refl, sym, ap}
 use Rattle.std.proofs.Common.{◌∙◌, subst, arith, true≢false, is_some, ◌⊎◌, inl, inr, length-append}
 use Rattle.std.specs.Option.{option_map_or}
@@ -49,8 +50,10 @@ same_walk ns ms down (suc f) n v inside =
     ap (λ o. option_map_or (λ x. walk (ns ++ ms) f (child x v) v) o (nat_eq n 1)) (same_node_at ns ms n inside)
     ∙ by (node_at ns n) refl (λ x less. same_walk ns ms down f (child x v) v (omega (arith, less, inside)))
   where
-    by : (o : Option Node) → node_at ns n ≡ o → ((x : Node) → child x v < n → walk (ns ++ ms) f (child x v) v ≡ walk ns f (child x v) v)
-        → option_map_or (λ x. walk (ns ++ ms) f (child x v) v) o (nat_eq n 1) ≡ option_map_or (λ x. walk ns f (child x v) v) o (nat_eq n 1)
+    by : (o : Option Node) → node_at ns n ≡ o → ((x : Node) → child x v < n
+        → walk (ns ++ ms) f (child x v) v ≡ walk ns f (child x v) v)
+        → option_map_or (λ x. walk (ns ++ ms) f (child x v) v) o (nat_eq n 1) ≡ option_map_or
+        (λ x. walk ns f (child x v) v) o (nat_eq n 1)
     by None e rest = refl
     by (Some x) e rest = rest x (child_below ns n v x down e)
 

@@ -59,7 +59,8 @@ module _ (columns : List ℕ) (mask level v : ℕ) (small : level < 64) where
   column = get_or columns level 0
 
   -- what agrees from the next level on agrees from this one on where the bits of this level are the same
-  from_here : (i : ℕ) → bit_of column i ≡ bit_of v level → ((l : ℕ) → level + 1 ≤ l → l < 64 → bit_of (get_or columns l 0) i ≡ bit_of v l)
+  from_here : (i : ℕ) → bit_of column i ≡ bit_of v level → ((l : ℕ) → level + 1 ≤ l → l < 64
+      → bit_of (get_or columns l 0) i ≡ bit_of v l)
       → (l : ℕ) → level ≤ l → l < 64 → bit_of (get_or columns l 0) i ≡ bit_of v l
   from_here i here later l least most = by (nat_lt level l) refl
     where

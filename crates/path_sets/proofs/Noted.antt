@@ -1,5 +1,6 @@
 -- Lines of notes, and what they say after more nodes.
-use Rattle.std.proofs.Common.{◌≡◌, ℕ, ◌<◌, ◌≤◌, ◌^◌, Bool, true, false, ◌==◌, List, Some, slice_get, get_or, ◌⊎◌, inl, inr}
+use Rattle.std.proofs.Common.{◌≡◌, ℕ, ◌<◌, ◌≤◌, ◌^◌, Bool, true, false}
+use Rattle.std.proofs.Common.{◌==◌, List, Some, slice_get, get_or, ◌⊎◌, inl, inr}
 use Rattle.std.proofs.Common.{refl, sym, ap, ◌∙◌, subst, arith, true≢false, w64}
 use Rattle.std.proofs.lemmas.Nat.Bits.{bit_at_above, bit_at-trailing_zeros}
 use Rattle.path_sets.specs.declared.node.Node.{Node}
@@ -8,7 +9,8 @@ use Rattle.path_sets.specs.Masks.{bit_of}
 use Rattle.path_sets.specs.Diagrams.{AreTrue, Covers, IsNumber, IsTrueLine, Keeps, Listed, Unites}
 
 -- a line stays true with more nodes
-pub true_on : (columns : List ℕ) (ns ms : List Node) (line : Line) → Keeps ns ms → IsTrueLine columns ns line → IsTrueLine columns ms line
+pub true_on : (columns : List ℕ) (ns ms : List Node) (line : Line) → Keeps ns ms → IsTrueLine columns ns line
+    → IsTrueLine columns ms line
 true_on columns ns ms line keeps is =
     let longer = keeps.longer in
     let inside = is.inside in
@@ -27,7 +29,8 @@ true_on columns ns ms line keeps is =
       );
     }
 
-pub all_on : (columns : List ℕ) (ns ms : List Node) (lines : List Line) → Keeps ns ms → AreTrue columns ns lines → AreTrue columns ms lines
+pub all_on : (columns : List ℕ) (ns ms : List Node) (lines : List Line) → Keeps ns ms → AreTrue columns ns lines
+    → AreTrue columns ms lines
 all_on columns ns ms lines keeps all i line at = true_on columns ns ms line keeps (all i line at)
 
 -- what was found is a true line
@@ -73,9 +76,11 @@ module _ (columns : List ℕ) (all mask level : ℕ) (covers : Covers all column
       (_, ap (λ x. x == 1) found.1, λ l least less. no_bit l _ least ∙ sym (no_bit l i least) ∙ same l least less)
 
 -- and what is found for that one is found for all
-pub unites_wide : (columns : List ℕ) (all mask narrow level : ℕ) (ns ms : List Node) (n r : ℕ) → Covers all columns → (mask ≡ 0 → ⊥)
+pub unites_wide : (columns : List ℕ) (all mask narrow level : ℕ) (ns ms : List Node) (n r : ℕ) → Covers all columns
+    → (mask ≡ 0 → ⊥)
     → mask < 2 ^ 64
-    → (narrow ≡ mask) ⊎ ((all < 2 ^ level) × (narrow ≡ 1)) → Unites columns narrow level ns n ms r → Unites columns mask level ns n ms r
+    → (narrow ≡ mask) ⊎ ((all < 2 ^ level) × (narrow ≡ 1)) → Unites columns narrow level ns n ms r
+    → Unites columns mask level ns n ms r
 unites_wide columns all mask narrow level ns ms n r covers some_of fits (inl same) is = subst (λ m. Unites columns m level ns n ms r)
     same is
 unites_wide columns all mask narrow level ns ms n r covers some_of fits (inr (short, one)) is =
@@ -90,7 +95,8 @@ unites_wide columns all mask narrow level ns ms n r covers some_of fits (inr (sh
     )
 
 -- a line that is asked for says what is asked
-pub line_unites : (columns : List ℕ) (ns : List Node) (line : Line) (number level mask : ℕ) → line.number ≡ number → line.level ≡ level
+pub line_unites : (columns : List ℕ) (ns : List Node) (line : Line) (number level mask : ℕ) → line.number ≡ number
+    → line.level ≡ level
     → line.mask ≡ mask
     → IsTrueLine columns ns line → Unites columns mask level ns number ns line.result
 line_unites columns ns line number level mask en el em is =

@@ -66,7 +66,11 @@ module _ (old new : List (Row × List ℕ)) (own : Row) (bit number : ℕ) (xs :
           let same : own ≡ other = same_row own other h in
           ap (λ o. option_map_or (λ ys. get_or ys i 0) o 0)
           (updates other ∙ ap (λ t. cond t (Some (slice_set xs bit number)) (lookup (row_eq other) old)) h)
-          ∙ get_or-set_other xs bit i number 0 (λ at. ne (sym (ap (λ (r : Row). r.entry) same), sym (ap (λ (r : Row). r.block) same), at))
+          ∙ get_or-set_other xs bit i number 0 (λ at. ne (
+            sym (ap (λ (r : Row). r.entry) same),
+            sym (ap (λ (r : Row). r.block) same),
+            at,
+          ))
           ∙ sym (was i)
           ∙ ap (λ r. option_map_or (λ ys. get_or ys i 0) (lookup (row_eq r) old) 0) same
       by false h =

@@ -1,5 +1,6 @@
 -- Sets that take path edges, one time after another.
-use Rattle.std.proofs.Common.{◌≡◌, ℕ, ◌%◌, ◌==◌, List, get_or, inl, inr, sym, ap, ◌∙◌, true≢false, ◌/◌, ◌⊎◌, subst}
+use Rattle.std.proofs.Common.{◌≡◌, ℕ, ◌%◌, ◌==◌, List, get_or, inl}
+use Rattle.std.proofs.Common.{inr, sym, ap, ◌∙◌, true≢false, ◌/◌, ◌⊎◌, subst}
 use Rattle.std.proofs.lemmas.Nat.Bits.{bit_at-zero}
 use Rattle.path_sets.specs.declared.node.Node.{Node}
 use Rattle.path_sets.specs.declared.rows.Row.{Row}
@@ -33,7 +34,8 @@ takes_of few more ns ms rs ss wider a = record {
 pub nothing_at : (row : Row) (columns points : List ℕ) (bit : ℕ) (t : Triple) → get_or points bit 0 ≡ 0 → t.point % 64 ≡ bit
     → InBatch row columns points t → ⊥
 nothing_at row columns points bit t none at (entry, block, (i, set, same)) =
-    true≢false (sym set ∙ ap (λ k. bit_of (get_or points k 0) i) at ∙ ap (λ w. bit_of w i) none ∙ ap (λ x. x == 1) (bit_at-zero i))
+    true≢false (sym set ∙ ap (λ k. bit_of (get_or points k 0) i) at ∙ ap (λ w. bit_of w i) none
+    ∙ ap (λ x. x == 1) (bit_at-zero i))
 
 is_at : (row : Row) (bit : ℕ) (t : Triple)
     → ((t.entry ≡ row.entry) × (t.point / 64 ≡ row.block) × (t.point % 64 ≡ bit)) ⊎

@@ -1,5 +1,6 @@
 -- Members of sets that are decision diagrams.
-use Rattle.std.proofs.Common.{◌≡◌, ℕ, ◌+◌, ◌<◌, ◌^◌, Bool, true, false, ◌&&◌, ◌||◌, nat_eq, List, [], ◌∷◌, map, length, ◌⊎◌, ◌↔◌, inl, inr}
+use Rattle.std.proofs.Common.{◌≡◌, ℕ, ◌+◌, ◌<◌, ◌^◌, Bool, true, false, ◌&&◌, ◌||◌}
+use Rattle.std.proofs.Common.{nat_eq, List, [], ◌∷◌, map, length, ◌⊎◌, ◌↔◌, inl, inr}
 use Rattle.std.proofs.Common.{refl, sym, ap, ap₂, ◌∙◌, subst, true≢false, eq-eqb}
 use Rattle.std.specs.List.{list_any}
 use Rattle.std.proofs.lemmas.Map.Views.{exact_unsigned_eq}
@@ -78,7 +79,8 @@ pub any_member : (t : Triple) (ts : List Triple) → list_any (triple_eq t) ts �
 any_member t [] h = absurd (true≢false (sym h))
 any_member t (x ∷ xs) h = by (triple_eq t x) refl h (any_member t xs)
   where
-    by : (b : Bool) → triple_eq t x ≡ b → (b || list_any (triple_eq t) xs) ≡ true → (list_any (triple_eq t) xs ≡ true → Member t xs)
+    by : (b : Bool) → triple_eq t x ≡ b → (b || list_any (triple_eq t) xs) ≡ true
+        → (list_any (triple_eq t) xs ≡ true → Member t xs)
         → Member t (x ∷ xs)
     by true e h rest = inl (same_triple t x e)
     by false e h rest = inr (rest h)
@@ -210,7 +212,8 @@ module _ (ns : List Node) (rs : List (Row × List ℕ)) (masks masks' : List (Pl
       (λ had. is_had ns rs masks' t ((has_more t).1 (inr (has_is ns rs masks t had)))))
 
 -- sets with nothing have no members
-pub no_members : (ns : List Node) (rs : List (Row × List ℕ)) (masks : List (Place × ℕ)) → ((t : Triple) → merged_has ns rs t ≡ false)
+pub no_members : (ns : List Node) (rs : List (Row × List ℕ)) (masks : List (Place × ℕ))
+    → ((t : Triple) → merged_has ns rs t ≡ false)
     → edges masks ≡ []
     → all_edges ns rs masks ≡ []
 no_members ns rs masks none empty = by (all_edges ns rs masks) refl

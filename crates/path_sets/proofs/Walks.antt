@@ -1,5 +1,6 @@
 -- Walks through decision diagrams.
-use Rattle.std.proofs.Common.{◌≡◌, ℕ, zero, suc, ◌+◌, ◌-◌, ◌<◌, ◌≤◌, Bool, true, false, cond, nat_lt, nat_eq, List}
+use Rattle.std.proofs.Common.{◌≡◌, ℕ, zero, suc, ◌+◌, ◌-◌, ◌<◌}
+use Rattle.std.proofs.Common.{◌≤◌, Bool, true, false, cond, nat_lt, nat_eq, List}
 use Rattle.std.proofs.Common.{Option, Some, None, slice_get, refl, sym, ap, ◌∙◌, subst, arith, true≢false, is_some}
 use Rattle.std.specs.Option.{option_map_or}
 use Rattle.std.proofs.lemmas.Bool.{ltb-true, ltb-false}
@@ -46,7 +47,8 @@ enough ns down (suc f) (suc g) n v a b = by (node_at ns n) refl (λ x h. enough 
     by (Some x) e rest = let less = child_below ns n v x down e in rest x e (omega (arith, less, a)) (omega (arith, less, b))
 
 -- a node's set is that of the child for the valuation's bit
-pub goes_on : (ns : List Node) → GoDown ns → (n v : ℕ) (x : Node) → node_at ns n ≡ Some x → accepts ns n v ≡ accepts ns (child x v) v
+pub goes_on : (ns : List Node) → GoDown ns → (n v : ℕ) (x : Node) → node_at ns n ≡ Some x
+    → accepts ns n v ≡ accepts ns (child x v) v
 unfolding accepts walk
 goes_on ns down zero v x h = absurd (let k = has_node ns zero x h in omega (arith, k.0))
 goes_on ns down (suc n) v x h =
@@ -62,7 +64,8 @@ at_leaf ns (suc (suc n)) v h = absurd (omega (arith, h))
 
 -- the node two places before a number is its node
 pub node_of : (ns : List Node) (n : ℕ) (x : Node) → 1 < n → slice_get ns (n - 2) ≡ Some x → node_at ns n ≡ Some x
-node_of ns n x big h = let same : n - 2 + 2 ≡ n = omega (arith, big) in subst (λ k. node_at ns k ≡ Some x) same (number_of ns (n - 2) x h)
+node_of ns n x big h = let same : n - 2 + 2 ≡ n = omega (arith, big) in subst (λ k. node_at ns k ≡ Some x) same
+    (number_of ns (n - 2) x h)
 
 module _ (ns : List Node) (down : GoDown ns) (n v : ℕ) (x : Node) (big : 1 < n) (inside : IsNumber ns n)
     (h : slice_get ns (n - 2) ≡ Some x) where
@@ -74,7 +77,8 @@ module _ (ns : List Node) (down : GoDown ns) (n v : ℕ) (x : Node) (big : 1 < n
 
   -- its set is split between its children by the bit of its level
   pub splits : (level : ℕ) → x.level ≡ level → accepts ns n v ≡ cond (bit_of v level) (accepts ns x.high v) (accepts ns x.low v)
-  splits level same = sym child_same ∙ by (bit_of v x.level) ∙ ap (λ l. cond (bit_of v l) (accepts ns x.high v) (accepts ns x.low v)) same
+  splits level same = sym child_same ∙ by (bit_of v x.level)
+      ∙ ap (λ l. cond (bit_of v l) (accepts ns x.high v) (accepts ns x.low v)) same
     where
       by : (b : Bool) → accepts ns (cond b x.high x.low) v ≡ cond b (accepts ns x.high v) (accepts ns x.low v)
       by true = refl
