@@ -1,15 +1,14 @@
 -- More nodes, and the sets that there were.
 use Rattle.std.proofs.Common.{◌≡◌, ℕ, zero, suc, ◌+◌, ◌-◌, ◌<◌, Bool, true}
-use Rattle.std.proofs.Common.{false, cond, ◌&&◌, nat_lt, nat_eq, List, [], ◌∷◌, ◌++◌}
+use Rattle.std.proofs.Common.{false, cond, nat_lt, nat_eq, List, [], ◌∷◌, ◌++◌}
 use Rattle.std.proofs.Common.{Option, Some, None, length, slice_get, refl, sym, ap}
 use Rattle.std.proofs.Common.{◌∙◌, subst, arith, true≢false, is_some, ◌⊎◌, inl, inr, length-append}
 use Rattle.std.specs.Option.{option_map_or}
 use Rattle.std.proofs.lemmas.Bool.{ltb-false}
 use Rattle.std.proofs.lemmas.Option.{slice_get_within, same_Some}
-use Rattle.std.proofs.lemmas.Map.Views.{exact_unsigned_eq}
 use Rattle.path_sets.specs.declared.node.Node.{Node}
 use Rattle.path_sets.specs.Masks.{bit_of}
-use Rattle.path_sets.specs.Diagrams.{child, node_at, walk, accepts, GoDown, IsGrown, IsNumber, Keeps, node_eq}
+use Rattle.path_sets.specs.Diagrams.{child, node_at, walk, accepts, GoDown, IsGrown, IsNumber, Keeps}
 use Rattle.path_sets.proofs.Walks.{splits, child_below}
 
 -- a list's items stay where they are when more come behind
@@ -74,20 +73,6 @@ keeps_on ns ms os a b =
       longer = omega (arith, la, lb);
       same = λ n v inside. b.same n v (omega (arith, inside, la)) ∙ a.same n v inside;
     }
-
--- nodes that compare as equal are the same
-both : (a b : Bool) → (a && b) ≡ true → (a ≡ true) × (b ≡ true)
-both true b h = (refl, h)
-both false b h = absurd (true≢false (sym h))
-
-pub same_node : (x y : Node) → node_eq x y ≡ true → x ≡ y
-same_node x y h =
-    let (level, rest) = both (nat_eq x.level y.level) (nat_eq x.low y.low && nat_eq x.high y.high) h in
-    let (low, high) = both (nat_eq x.low y.low) (nat_eq x.high y.high) rest in
-    let e : x.level ≡ y.level = exact_unsigned_eq x.level y.level level in
-    let l : x.low ≡ y.low = exact_unsigned_eq x.low y.low low in
-    let r : x.high ≡ y.high = exact_unsigned_eq x.high y.high high in
-    λ j. record { level = e j; low = l j; high = r j }
 
 module _ (ns : List Node) (down : GoDown ns) (x : Node) (small : x.level < 64) (low : IsNumber ns x.low) (high : IsNumber ns x.high) where
   -- children of the nodes that there are come before the new one

@@ -1,17 +1,11 @@
 -- Sets that take path edges, one time after another.
-use Rattle.std.proofs.Common.{◌≡◌, ℕ, ◌%◌, ◌==◌, List, get_or, inl}
-use Rattle.std.proofs.Common.{inr, sym, ap, ◌∙◌, true≢false, ◌/◌, ◌⊎◌, subst}
-use Rattle.std.proofs.lemmas.Nat.Bits.{bit_at-zero}
+use Rattle.std.proofs.Common.{◌≡◌, ℕ, ◌%◌, List, get_or, inl}
+use Rattle.std.proofs.Common.{inr, sym, ap, ◌∙◌, ◌/◌, ◌⊎◌, subst}
 use Rattle.path_sets.specs.declared.node.Node.{Node}
 use Rattle.path_sets.specs.declared.rows.Row.{Row}
-use Rattle.path_sets.specs.Masks.{bit_of}
 use Rattle.path_sets.specs.Triples.{Triple}
 use Rattle.path_sets.specs.Diagrams.{HaveNumbers, InBatch, Keeps, Listed, Roots, Takes, Unites, accepts, merged_has, root_of}
 use Rattle.path_sets.proofs.Batches.{is_or_not}
-
--- nothing is taken
-pub takes_none : (given : Triple → Type 0) (ns : List Node) (rs : List (Row × List ℕ)) → Takes given ns ns rs rs
-takes_none given ns rs = record { kept = λ t h. h; sound = λ t h. inl h }
 
 -- more is taken
 pub takes_on : (given : Triple → Type 0) (ns ms os : List Node) (rs ss ts : List (Row × List ℕ)) → Takes given ns ms rs ss
@@ -29,13 +23,6 @@ takes_of few more ns ms rs ss wider a = record {
   kept = a.kept;
   sound = λ t h. elim (a.sound t h) [ inl was ↦ inl was | inr new ↦ inr (wider t new) ];
 }
-
--- a batch has nothing at a point without valuations
-pub nothing_at : (row : Row) (columns points : List ℕ) (bit : ℕ) (t : Triple) → get_or points bit 0 ≡ 0 → t.point % 64 ≡ bit
-    → InBatch row columns points t → ⊥
-nothing_at row columns points bit t none at (entry, block, (i, set, same)) =
-    true≢false (sym set ∙ ap (λ k. bit_of (get_or points k 0) i) at ∙ ap (λ w. bit_of w i) none
-    ∙ ap (λ x. x == 1) (bit_at-zero i))
 
 is_at : (row : Row) (bit : ℕ) (t : Triple)
     → ((t.entry ≡ row.entry) × (t.point / 64 ≡ row.block) × (t.point % 64 ≡ bit)) ⊎

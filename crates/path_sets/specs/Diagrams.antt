@@ -40,10 +40,6 @@ pub record Keeps (old new : List Node) : Type 0 where
   pub longer : length old ≤ length new
   pub same : (n v : ℕ) → IsNumber old n → accepts new n v ≡ accepts old n v
 
--- whether two nodes are the same
-abbrev pub node_eq : Node → Node → Bool
-node_eq x y = nat_eq x.level y.level && (nat_eq x.low y.low && nat_eq x.high y.high)
-
 -- the node stands at the end of the nodes that there were, or they are the same
 abbrev pub IsGrown : Node → List Node → List Node → Type 0
 IsGrown x old new = (new ≡ old) ⊎ (new ≡ old ++ x ∷ [])
