@@ -1,5 +1,5 @@
 -- More nodes, and the sets that there were.
-use Rattle.std.proofs.Common.{◌≡◌, ℕ, zero, suc, ◌+◌, ◌-◌, ◌<◌, Bool, true}
+use Rattle.std.proofs.Common.{◌≡◌, ◌≢◌, ℕ, zero, suc, ◌+◌, ◌-◌, ◌<◌, Bool, true}
 use Rattle.std.proofs.Common.{false, cond, nat_lt, nat_eq, List, [], ◌∷◌, ◌++◌}
 use Rattle.std.proofs.Common.{Option, Some, None, length, slice_get, refl, sym, ap}
 use Rattle.std.proofs.Common.{◌∙◌, subst, arith, true≢false, is_some, ◌⊎◌, inl, inr, length-append}
@@ -8,8 +8,9 @@ use Rattle.std.proofs.lemmas.Bool.{ltb-false}
 use Rattle.std.proofs.lemmas.Option.{slice_get_within, same_Some}
 use Rattle.path_sets.specs.declared.node.Node.{Node}
 use Rattle.path_sets.specs.Masks.{bit_of}
-use Rattle.path_sets.specs.Diagrams.{child, node_at, walk, accepts, GoDown, IsGrown, IsNumber, Keeps}
-use Rattle.path_sets.proofs.Walks.{splits, child_below}
+use Rattle.path_sets.specs.Diagrams.{child, node_at, walk, accepts, AreOrdered, AreReduced, GoDown, IsGrown, IsNumber, Keeps}
+use Rattle.path_sets.specs.Diagrams.{level_of, StandOnce}
+use Rattle.path_sets.proofs.Walks.{splits, child_below, number_of}
 
 -- a list's items stay where they are when more come behind
 pub get_before : {A : Type 0} (xs ys : List A) (i : ℕ) → i < length xs → slice_get (xs ++ ys) i ≡ slice_get xs i
@@ -61,10 +62,11 @@ unfolding accepts
 keeps_more ns ms down = record {
   longer = grind (arith, length-append {A = Node});
   same = λ n v inside. same_walk ns ms down n n v inside;
+  levels = λ n inside. ap (λ o. option_map_or (λ (x : Node). x.level) o 64) (same_node_at ns ms n inside);
 }
 
 pub keeps_self : (ns : List Node) → Keeps ns ns
-keeps_self ns = record { longer = omega arith; same = λ n v inside. refl }
+keeps_self ns = record { longer = omega arith; same = λ n v inside. refl; levels = λ n inside. refl }
 
 pub keeps_on : (ns ms os : List Node) → Keeps ns ms → Keeps ms os → Keeps ns os
 keeps_on ns ms os a b =
@@ -72,6 +74,7 @@ keeps_on ns ms os a b =
     let lb = b.longer in record {
       longer = omega (arith, la, lb);
       same = λ n v inside. b.same n v (omega (arith, inside, la)) ∙ a.same n v inside;
+      levels = λ n inside. b.levels n (omega (arith, inside, la)) ∙ a.levels n inside;
     }
 
 module _ (ns : List Node) (down : GoDown ns) (x : Node) (small : x.level < 64) (low : IsNumber ns x.low) (high : IsNumber ns x.high) where
@@ -85,11 +88,61 @@ module _ (ns : List Node) (down : GoDown ns) (x : Node) (small : x.level < 64) (
 
   pub still_down : (new : List Node) → IsGrown x ns new → GoDown new
   still_down new (inl same) = subst GoDown (sym same) down
-  still_down new (inr more) = subst GoDown (sym more) down_more
+  still_down new (inr more) = subst GoDown (sym more.0) down_more
 
   pub keeps_grown : (new : List Node) → IsGrown x ns new → Keeps ns new
   keeps_grown new (inl same) = subst (Keeps ns) (sym same) (keeps_self ns)
-  keeps_grown new (inr more) = subst (Keeps ns) (sym more) (keeps_more ns (x ∷ []) down)
+  keeps_grown new (inr more) = subst (Keeps ns) (sym more.0) (keeps_more ns (x ∷ []) down)
+
+  -- the new node's children test later levels
+  pub still_ordered : (x.level < level_of ns x.low) × (x.level < level_of ns x.high) → AreOrdered ns
+      → (new : List Node) → IsGrown x ns new → AreOrdered new
+  still_ordered own ordered new (inl same) = subst AreOrdered (sym same) ordered
+  still_ordered own ordered new (inr more) = subst AreOrdered (sym more.0) all
+    where
+      k : Keeps ns (ns ++ x ∷ [])
+      k = keeps_more ns (x ∷ []) down
+
+      all : AreOrdered (ns ++ x ∷ [])
+      all i y h = elim (got_from ns x y i h) [
+        | inl (less, was) ↦
+            let d = down i y was in
+            let o = ordered i y was in
+            let l = k.levels y.low (omega (arith, d, less)) in
+            let m = k.levels y.high (omega (arith, d, less)) in
+            (omega (arith, o, l), omega (arith, o, m))
+        | inr (at, is) ↦
+            let l = k.levels x.low low in
+            let m = k.levels x.high high in
+            subst (λ (z : Node). (z.level < level_of (ns ++ x ∷ []) z.low) × (z.level < level_of (ns ++ x ∷ []) z.high)) (sym is)
+            (omega (arith, own, l), omega (arith, own, m))
+      ]
+
+  -- and differ
+  pub still_reduced : x.low ≢ x.high → AreReduced ns → (new : List Node) → IsGrown x ns new → AreReduced new
+  still_reduced own reduced new (inl same) = subst AreReduced (sym same) reduced
+  still_reduced own reduced new (inr more) = subst AreReduced (sym more.0) (λ i y h. elim (got_from ns x y i h) [
+    | inl (less, was) ↦ reduced i y was
+    | inr (at, is) ↦ subst (λ (z : Node). z.low ≢ z.high) (sym is) own
+  ])
+
+  -- and it stands nowhere else
+  pub still_once : StandOnce ns → (new : List Node) → IsGrown x ns new → StandOnce new
+  still_once once new (inl same) = subst StandOnce (sym same) once
+  still_once once new (inr more) = subst StandOnce (sym more.0) (λ i j y h k. elim (got_from ns x y i h) [
+    | inl (less, was) ↦ elim (got_from ns x y j k) [
+      | inl (less', was') ↦ once i j y was was'
+      | inr (at', is') ↦ absurd (more.1 i (was ∙ ap Some is'))
+    ]
+    | inr (at, is) ↦ elim (got_from ns x y j k) [
+      | inl (less', was') ↦ absurd (more.1 j (was' ∙ ap Some is))
+      | inr (at', is') ↦ at ∙ sym at'
+    ]
+  ])
+
+  -- the number of a node tests its level
+  pub level_at : (new : List Node) (i : ℕ) → slice_get new i ≡ Some x → level_of new (i + 2) ≡ x.level
+  level_at new i at = ap (λ o. option_map_or (λ (y : Node). y.level) o 64) (number_of new i x at)
 
   -- the number of the node
   pub joined : (new : List Node) → IsGrown x ns new → (i v : ℕ) → slice_get new i ≡ Some x

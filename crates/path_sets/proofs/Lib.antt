@@ -5,6 +5,7 @@ pub mod Grouped
 pub mod Settled
 pub mod Walks
 pub mod Grown
+pub mod Stored
 pub mod Lists
 pub mod Unions
 pub mod Noted

@@ -6,7 +6,7 @@ use Rattle.std.proofs.lemmas.Nat.Bits.{bit_at_above, bit_at-trailing_zeros}
 use Rattle.path_sets.specs.declared.node.Node.{Node}
 use Rattle.path_sets.specs.declared.notes.Line.{Line}
 use Rattle.path_sets.specs.Masks.{bit_of}
-use Rattle.path_sets.specs.Diagrams.{AreTrue, Covers, IsNumber, IsTrueLine, Keeps, Listed, Unites}
+use Rattle.path_sets.specs.Diagrams.{AreTrue, Covers, IsNumber, IsTrueLine, Keeps, level_of, Listed, Unites}
 
 -- a line stays true with more nodes
 pub true_on : (columns : List ℕ) (ns ms : List Node) (line : Line) → Keeps ns ms → IsTrueLine columns ns line
@@ -17,6 +17,7 @@ true_on columns ns ms line keeps is =
     let reached = is.reached in record {
       inside = omega (arith, longer, inside);
       reached = omega (arith, longer, reached);
+      deep = let deep = is.deep in let same = keeps.levels line.result reached in omega (arith, deep, same);
       unites = λ v. (
         λ h. elim ((is.unites v).0 (sym (keeps.same line.result v is.reached) ∙ h)) [
           | inl was ↦ inl (keeps.same line.number v is.inside ∙ was)
@@ -35,13 +36,15 @@ all_on columns ns ms lines keeps all i line at = true_on columns ns ms line keep
 
 -- what was found is a true line
 pub found_line : (columns : List ℕ) (ns ms : List Node) (number level mask result : ℕ) → IsNumber ns number → IsNumber ms result
+    → level ≤ level_of ms result
     → Keeps ns ms
     → Unites columns mask level ns number ms result → IsTrueLine columns ms
     (record { number = number; level = level; mask = mask; result = result })
-found_line columns ns ms number level mask result inside reached keeps is =
+found_line columns ns ms number level mask result inside reached deep keeps is =
     let longer = keeps.longer in record {
       inside = omega (arith, longer, inside);
       reached = reached;
+      deep = deep;
       unites = λ v. (
         λ h. elim ((is v).0 h) [ inl was ↦ inl (keeps.same number v inside ∙ was) | inr listed ↦ inr listed ],
         λ h. (is v).1 (elim h [ inl was ↦ inl (sym (keeps.same number v inside) ∙ was) | inr listed ↦ inr listed ]),

@@ -1,5 +1,5 @@
 -- Decision diagrams: the sets of valuations that numbered nodes stand for (Bryant 1986).
-use Rattle.std.specs.Prelude.{◌≡◌, ◌+◌, ◌-◌, ◌/◌, ◌%◌, ◌<◌, ◌≤◌, ℕ, zero, suc, Bool, true, false, cond}
+use Rattle.std.specs.Prelude.{◌≡◌, ◌≢◌, ◌+◌, ◌-◌, ◌/◌, ◌%◌, ◌<◌, ◌≤◌, ℕ, zero, suc, Bool, true, false, cond}
 use Rattle.std.specs.Prelude.{◌&&◌, nat_eq, nat_lt, List, [], ◌∷◌, ◌++◌}
 use Rattle.std.specs.Prelude.{◌⊎◌, Option, Some, None, ◌↔◌, length, slice_get, get_or}
 use Rattle.std.specs.Option.{option_map_or}
@@ -31,18 +31,36 @@ accepts nodes n v = walk nodes n n v
 abbrev pub GoDown : List Node → Type 0
 GoDown nodes = (i : ℕ) (x : Node) → slice_get nodes i ≡ Some x → (x.level < 64) × (x.low < i + 2) × (x.high < i + 2)
 
+-- the level that a number's node tests; behind the last for 0 and 1, which have none
+abbrev pub level_of : List Node → ℕ → ℕ
+level_of nodes n = option_map_or (λ x. x.level) (node_at nodes n) 64
+
+-- a node's children test later levels, so that on each way the levels ascend
+abbrev pub AreOrdered : List Node → Type 0
+AreOrdered nodes =
+    (i : ℕ) (x : Node) → slice_get nodes i ≡ Some x → (x.level < level_of nodes x.low) × (x.level < level_of nodes x.high)
+
+-- a node's two children differ
+abbrev pub AreReduced : List Node → Type 0
+AreReduced nodes = (i : ℕ) (x : Node) → slice_get nodes i ≡ Some x → x.low ≢ x.high
+
+-- no node stands twice
+abbrev pub StandOnce : List Node → Type 0
+StandOnce nodes = (i j : ℕ) (x : Node) → slice_get nodes i ≡ Some x → slice_get nodes j ≡ Some x → i ≡ j
+
 -- a number that stands for a set
 abbrev pub IsNumber : List Node → ℕ → Type 0
 IsNumber nodes n = n < length nodes + 2
 
--- more nodes, and the sets of the numbers that there were are the same
+-- more nodes, and the sets and the levels of the numbers that there were are the same
 pub record Keeps (old new : List Node) : Type 0 where
   pub longer : length old ≤ length new
   pub same : (n v : ℕ) → IsNumber old n → accepts new n v ≡ accepts old n v
+  pub levels : (n : ℕ) → IsNumber old n → level_of new n ≡ level_of old n
 
--- the node stands at the end of the nodes that there were, or they are the same
+-- the node, which is new, stands at the end of the nodes that there were, or they are the same
 abbrev pub IsGrown : Node → List Node → List Node → Type 0
-IsGrown x old new = (new ≡ old) ⊎ (new ≡ old ++ x ∷ [])
+IsGrown x old new = (new ≡ old) ⊎ ((new ≡ old ++ x ∷ []) × ((i : ℕ) → slice_get old i ≢ Some x))
 
 -- A batch of up to 64 valuations, held by columns: bit i of column l is bit l of valuation i. Of those in the mask, one has the
 -- bits of v from this level on.
@@ -107,6 +125,7 @@ pub record Takes (given : Triple → Type 0) (nodes nodes' : List Node) (rows ro
 pub record IsTrueLine (columns : List ℕ) (nodes : List Node) (line : Line) : Type 0 where
   pub inside : IsNumber nodes line.number
   pub reached : IsNumber nodes line.result
+  pub deep : line.level ≤ level_of nodes line.result
   pub unites : Unites columns line.mask line.level nodes line.number nodes line.result
 
 -- each line is true

@@ -2,7 +2,7 @@
 
 ghost use Rattle.std.specs.Prelude.{◌≡◌, ℕ, ◌+◌, ◌<◌, ◌^◌, Bool, cond, IfOk, Some, slice_get, length, ◌≤◌};
 ghost use Rattle.path_sets.specs.Masks.{bit_of};
-ghost use Rattle.path_sets.specs.Diagrams.{accepts, GoDown, IsGrown, IsNumber, Keeps};
+ghost use Rattle.path_sets.specs.Diagrams.{accepts, AreOrdered, AreReduced, GoDown, IsGrown, IsNumber, Keeps, level_of, StandOnce};
 
 use crate::node::{Node, child};
 use indexmap::IndexSet;
@@ -20,11 +20,15 @@ const MOST: usize = 4_294_967_293;
 /// Numbered nodes, in the order of their numbers.
 type Kept<A> = IndexSet<Node, BuildHasherDefault<FoldHasher>, A>;
 
-/// The nodes of decision diagrams: number n is the node at n - 2, whose children have smaller numbers.
+/// The nodes of reduced ordered decision diagrams: number n is the node at n - 2, whose children have smaller numbers and
+/// later levels and differ. No node stands twice, so that equal sets have equal numbers.
 #[derive(Drop)]
 pub(crate) struct Nodes<A: Allocator> {
     pub(crate) kept: Kept<A>,
     ghost down: { GoDown kept.keys },
+    ghost ordered: { AreOrdered kept.keys },
+    ghost reduced: { AreReduced kept.keys },
+    ghost once: { StandOnce kept.keys },
 }
 
 /// The index of a node, which is put at the end where it has none.
@@ -60,8 +64,11 @@ impl<A: Allocator + Copy> Nodes<A> {
     /// The numbers that valuations go on to from a number by their bit of a level: its node's children where it has a
     /// node of that level, else the number itself.
     pub(crate) fn children(&self, number: u32, level: u8) -> (u32, u32)
-        requires { IsNumber self.now.kept.keys number }
+        requires level { level < 64 }
+        requires inside { IsNumber self.now.kept.keys number }
+        requires deep { level ≤ level_of self.now.kept.keys number }
         ensures inside { (IsNumber self.now.kept.keys result.0) × (IsNumber self.now.kept.keys result.1) }
+        ensures deep { (level < level_of self.now.kept.keys result.0) × (level < level_of self.now.kept.keys result.1) }
         ensures split { (v : ℕ) → accepts self.now.kept.keys number v
             ≡ cond (bit_of v level) (accepts self.now.kept.keys result.1 v) (accepts self.now.kept.keys result.0 v) }
     {
@@ -79,8 +86,10 @@ impl<A: Allocator + Copy> Nodes<A> {
     pub(crate) fn make(&mut self, level: u8, low: u32, high: u32) -> Result<u32, AllocError>
         requires level { level < 64 }
         requires inside { (IsNumber self.old.kept.keys low) × (IsNumber self.old.kept.keys high) }
+        requires deep { (level < level_of self.old.kept.keys low) × (level < level_of self.old.kept.keys high) }
         ensures keeps { Keeps self.old.kept.keys self.new.kept.keys }
         ensures inside { IfOk result (λ n. IsNumber self.new.kept.keys n) }
+        ensures deep { IfOk result (λ n. level ≤ level_of self.new.kept.keys n) }
         ensures joined { IfOk result (λ n. (v : ℕ) → accepts self.new.kept.keys n v
             ≡ cond (bit_of v level) (accepts self.old.kept.keys high v) (accepts self.old.kept.keys low v)) }
     {

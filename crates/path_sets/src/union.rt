@@ -1,7 +1,7 @@
 //! Valuations put into the set of a number, many at a time.
 
 ghost use Rattle.std.specs.Prelude.{◌≡◌, ℕ, ◌<◌, ◌≤◌, ◌^◌, ◌⊎◌, IfOk};
-ghost use Rattle.path_sets.specs.Diagrams.{AreTrue, Covers, IsNumber, Keeps, Unites};
+ghost use Rattle.path_sets.specs.Diagrams.{AreTrue, Covers, IsNumber, Keeps, level_of, Unites};
 
 use crate::nodes::{ALL, Nodes};
 use crate::notes::{Line, line_at, note};
@@ -29,11 +29,13 @@ pub(crate) fn union<A: Allocator + Copy>(
 ) -> Result<u32, AllocError>
     requires level { level ≤ 64 }
     requires inside { IsNumber nodes.old.kept.keys number }
+    requires deep { level ≤ level_of nodes.old.kept.keys number }
     requires covers { Covers all columns.now }
     requires lines { AreTrue columns.now nodes.old.kept.keys lines.old }
     ensures keeps { Keeps nodes.old.kept.keys nodes.new.kept.keys }
     ensures lines { AreTrue columns.now nodes.new.kept.keys lines.new }
     ensures inside { IfOk result (λ r. IsNumber nodes.new.kept.keys r) }
+    ensures deep { IfOk result (λ r. level ≤ level_of nodes.new.kept.keys r) }
     ensures unites { IfOk result (λ r. Unites columns.now mask level nodes.old.kept.keys number nodes.new.kept.keys r) }
 {
     if mask == 0 || number == ALL {

@@ -55,7 +55,7 @@ returns-clause-lines g t c =
     one_more_line columns n3 c.union-2.new.lines c.note.new.lines line
     (all_on columns n2 n3 c.union-2.new.lines c.in_ok-result.ensures.keeps c.in_ok-high.ensures.lines)
     (found_line columns n0 n3 c.args.number c.args.level c.narrowed-mask.result c.in_ok-result.result c.requires.inside
-    c.in_ok-result.ensures.inside keeps unites)
+    c.in_ok-result.ensures.inside c.in_ok-result.ensures.deep keeps unites)
     c.note.ensures
 
 pub returns-clause-unites : goal.returns-clause-unites
@@ -72,3 +72,29 @@ returns-clause-unites g t c =
     c.children-low.ensures.split c.children-low.ensures.inside.1
     c.in_ok-low.ensures.keeps c.in_ok-low.ensures.unites c.in_ok-low.ensures.inside c.in_ok-high.ensures.keeps c.in_ok-high.ensures.unites
     c.in_ok-result.ensures.joined)
+
+pub returns-then-line-mask-clause-inside : goal.returns-then-line-mask-clause-inside
+returns-then-line-mask-clause-inside g t c =
+    let at = c.line_at-line.ensures in
+    (c.requires.lines at.0 c.line_at-line.result at.1).reached
+
+pub returns-in_err-result-clause-keeps : goal.returns-in_err-result-clause-keeps
+returns-in_err-result-clause-keeps g t c =
+    let n1 = c.union.new.nodes.kept.keys in
+    let n2 = c.union-2.new.nodes.kept.keys in
+    let n3 = c.make.new.self.kept.keys in
+    keeps_on c.args.nodes.now.kept.keys n1 n3 c.in_ok-low.ensures.keeps
+    (keeps_on n1 n2 n3 c.in_ok-high.ensures.keeps c.in_err-result.ensures.keeps)
+
+pub returns-in_err-result-clause-lines : goal.returns-in_err-result-clause-lines
+returns-in_err-result-clause-lines g t c =
+    all_on c.args.columns.now c.union-2.new.nodes.kept.keys c.make.new.self.kept.keys c.union-2.new.lines c.in_err-result.ensures.keeps
+    c.in_ok-high.ensures.lines
+
+pub returns-clause-keeps : goal.returns-clause-keeps
+returns-clause-keeps g t c =
+    let n1 = c.union.new.nodes.kept.keys in
+    let n2 = c.union-2.new.nodes.kept.keys in
+    let n3 = c.make.new.self.kept.keys in
+    keeps_on c.args.nodes.now.kept.keys n1 n3 c.in_ok-low.ensures.keeps
+    (keeps_on n1 n2 n3 c.in_ok-high.ensures.keeps c.in_ok-result.ensures.keeps)

@@ -1,7 +1,7 @@
 use Rattle.std.proofs.Common.{arith}
 use Rattle.std.proofs.lemmas.Option.{slice_get_within}
 use Rattle.path_sets.specs.declared.node.Node.{Node}
-use Rattle.path_sets.proofs.Grown.{still_down, keeps_grown, joined}
+use Rattle.path_sets.proofs.Grown.{still_down, still_ordered, still_reduced, still_once, level_at, keeps_grown, joined}
 use Rattle.path_sets.proofs.nodes.Nodes.make.Goals as goal
 
 pub invariant_of-self : goal.invariant_of-self
@@ -10,6 +10,12 @@ invariant_of-self g c =
     let x : Node = record { level = c.args.level; low = c.args.low; high = c.args.high } in
     record {
       down = still_down s.kept.keys s.down x c.requires.level c.requires.inside.0 c.requires.inside.1 c.index_of.new.kept.keys
+          c.index_of.ensures.grown;
+      ordered = still_ordered s.kept.keys s.down x c.requires.level c.requires.inside.0 c.requires.inside.1 c.requires.deep s.ordered
+          c.index_of.new.kept.keys c.index_of.ensures.grown;
+      reduced = still_reduced s.kept.keys s.down x c.requires.level c.requires.inside.0 c.requires.inside.1 c.if-low-high.false
+          s.reduced c.index_of.new.kept.keys c.index_of.ensures.grown;
+      once = still_once s.kept.keys s.down x c.requires.level c.requires.inside.0 c.requires.inside.1 s.once c.index_of.new.kept.keys
           c.index_of.ensures.grown;
     }
 
@@ -32,6 +38,14 @@ returns-clause-inside g c =
     let within = slice_get_within c.index_of.new.kept.keys c.in_ok-at.at
     (record { level = c.args.level; low = c.args.low; high = c.args.high }) c.in_ok-at.ensures.at in
     omega (arith, within)
+
+pub returns-clause-deep : goal.returns-clause-deep
+returns-clause-deep g c =
+    let s = c.args.self.now in
+    let x : Node = record { level = c.args.level; low = c.args.low; high = c.args.high } in
+    let same = level_at s.kept.keys s.down x c.requires.level c.requires.inside.0 c.requires.inside.1 c.index_of.new.kept.keys
+    c.in_ok-at.at c.in_ok-at.ensures.at in
+    omega (arith, same)
 
 pub returns-clause-joined : goal.returns-clause-joined
 returns-clause-joined g c =
