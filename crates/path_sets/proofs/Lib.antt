@@ -6,6 +6,8 @@ pub mod Settled
 pub mod Walks
 pub mod Grown
 pub mod Stored
+pub mod Shifted
+pub mod Canonical
 pub mod Lists
 pub mod Unions
 pub mod Noted
@@ -14,4 +16,8 @@ pub mod Batches
 pub mod Taken
 pub mod Filtered
 pub mod Universe
+pub mod Led
+pub mod Marked
+pub mod Counted
+pub mod Alike
 pub mod Gathering

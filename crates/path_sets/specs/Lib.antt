@@ -4,3 +4,4 @@ pub mod Masks
 pub mod Edges
 pub mod Diagrams
 pub mod Members
+pub mod Suffixes

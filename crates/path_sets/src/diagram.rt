@@ -1,7 +1,9 @@
 //! A set of path edges that keeps a decision diagram for each entry and point.
 
-ghost use Rattle.std.specs.Prelude.{◌≡◌, ◌<◌, ◌^◌, length, OnOk};
-ghost use Rattle.path_sets.specs.Triples.{NoneTwice, NoneTwice-prop};
+ghost use Rattle.std.specs.Prelude.{◌≡◌, ◌<◌, ◌^◌, length, IfOk, OnOk};
+ghost use Rattle.language.specs.Flow.{Member};
+ghost use Rattle.path_sets.specs.Suffixes.{HasNodes};
+ghost use Rattle.path_sets.specs.Triples.{NoneTwice, NoneTwice-prop, triple};
 ghost use Rattle.path_sets.specs.Edges.{edges};
 ghost use Rattle.path_sets.specs.Members.{all_edges};
 
@@ -38,6 +40,23 @@ impl<A: Allocator + Copy> DiagramEdges<A> {
         put_all(&mut self.merged, &self.gathered.masks)?;
         self.gathered.clear();
         Ok(())
+    }
+
+    /// How many inner nodes the diagram of an entry and a point has, which tests bit 0 first: one for each level and each
+    /// set of suffixes that some prefix of its members has there and that depends on the bit of the level. It takes memory
+    /// in proportion to all diagrams; where memory is refused, the set stays as it is.
+    pub fn nodes(&self, entry: Word, point: Point) -> Result<u64, AllocError>
+        ensures { IfOk result (HasNodes 64 (λ v. Member (triple entry point v)
+            (all_edges self.now.merged.nodes.kept.keys self.now.merged.rows.entries self.now.gathered.masks.entries))) }
+    {
+        let (place, bit) = place_of(entry, point, 0);
+        let row = Row {
+            entry,
+            block: place.block,
+        };
+        let mut merged = self.merged.alone(row, bit)?;
+        put_all(&mut merged, &self.gathered.masks)?;
+        merged.count(&row, bit)
     }
 }
 

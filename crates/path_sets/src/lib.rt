@@ -8,6 +8,7 @@
 mod batch;
 mod diagram;
 mod gathered;
+mod inner;
 mod mask;
 mod merged;
 mod node;

@@ -1,12 +1,14 @@
 //! Sets of valuations as decision diagrams, one for each entry and point.
 
-ghost use Rattle.std.specs.Prelude.{◌≡◌, ℕ, ◌+◌, ◌*◌, ◌<◌, ◌/◌, ◌%◌, ◌⊎◌, true, false, OnOk};
+ghost use Rattle.std.specs.Prelude.{◌≡◌, ℕ, ◌+◌, ◌*◌, ◌<◌, ◌/◌, ◌%◌, ◌^◌, ◌⊎◌, true, false, IfOk, OnOk};
+ghost use Rattle.path_sets.specs.Suffixes.{HasNodes};
 ghost use Rattle.std.proofs.lemmas.Map.Keys.{IsDistinct-prop};
 ghost use Rattle.indexmap.specs.IndexMap.{IsUnique, keys};
 ghost use Rattle.path_sets.specs.Triples.{Triple, triple};
 ghost use Rattle.path_sets.specs.Diagrams.{AreTrue, HaveNumbers, InBatch, Takes, merged_has, root_of, row_eq};
 
 use crate::batch::Batch;
+use crate::inner::inner_nodes;
 use crate::nodes::Nodes;
 use crate::notes::{Line, no_lines};
 use crate::rows::{Row, Rows, root, set_root};
@@ -33,6 +35,19 @@ impl<A: Allocator + Copy> Merged<A> {
             nodes: Nodes::new(alloc),
             rows: IndexMap::new(alloc),
         }
+    }
+
+    /// The set at one point, which is a bit of a row, alone.
+    pub(crate) fn alone(&self, row: Row, bit: usize) -> Result<Self, AllocError>
+        requires { bit < 64 }
+        ensures { IfOk result (λ m. (v : ℕ) → merged_has m.nodes.kept.keys m.rows.entries
+            (triple row.entry (64 * row.block + bit) v)
+            ≡ merged_has self.now.nodes.kept.keys self.now.rows.entries (triple row.entry (64 * row.block + bit) v)) }
+    {
+        let nodes = self.nodes.copy()?;
+        let mut rows = IndexMap::new(*self.rows.allocator());
+        set_root(&mut rows, row, bit, root(&self.rows, &row, bit))?;
+        Ok(Merged { nodes, rows })
     }
 
     /// Whether a valuation is in the set at a point, which is a bit of a row.
@@ -90,5 +105,14 @@ impl<A: Allocator + Copy> Merged<A> {
             self.put_at(&mut lines, batch, bit)?;
         }
         Ok(())
+    }
+
+    /// How many inner nodes the diagram of the set at a point has, which is a bit of a row.
+    pub(crate) fn count(&self, row: &Row, bit: usize) -> Result<u64, AllocError>
+        requires { bit < 64 }
+        ensures { IfOk result (HasNodes 64 (λ v. (v < 2 ^ 64) × (merged_has self.now.nodes.kept.keys self.now.rows.entries
+            (triple row.now.entry (64 * row.now.block + bit) v) ≡ true))) }
+    {
+        inner_nodes(&self.nodes, root(&self.rows, row, bit))
     }
 }

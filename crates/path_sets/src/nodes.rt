@@ -102,4 +102,13 @@ impl<A: Allocator + Copy> Nodes<A> {
         let at = index_of(&mut self.kept, Node { level, low, high })?;
         Ok(at as u32 + 2)
     }
+
+    /// The same nodes under the same numbers.
+    pub(crate) fn copy(&self) -> Result<Self, AllocError>
+        ensures { IfOk result (λ c. c.kept.keys ≡ self.now.kept.keys) }
+    {
+        Ok(Nodes {
+            kept: self.kept.clone()?,
+        })
+    }
 }
