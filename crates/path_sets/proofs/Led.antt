@@ -16,20 +16,20 @@ longer p zero m short small = omega (arith, short)
 longer p (suc zero) m short small = omega (arith, short)
 longer p (suc (suc b)) m short small = absurd (omega (arith, small))
 
--- a prefix with a suffix is a word just where the suffix fits behind it
-pub fits_from : (l p u : ℕ) → l ≤ 64 → p < 2 ^ l → u < 2 ^ (64 - l) → p + u * 2 ^ l < 2 ^ 64
-fits_from l p u short small fits =
-    let whole : l + (64 - l) ≡ 64 = omega (arith, short) in
-    let room : 2 ^ l * 2 ^ (64 - l) ≡ 2 ^ 64 = sym (pow-add 2 l (64 - l)) ∙ ap (λ k. 2 ^ k) whole in
-    let less = mul-add-lt u (2 ^ l) p (2 ^ (64 - l)) fits small in
+-- a prefix with a suffix has no bit from an end on just where the suffix fits behind the prefix
+pub fits_from : (e l p u : ℕ) → l ≤ e → p < 2 ^ l → u < 2 ^ (e - l) → p + u * 2 ^ l < 2 ^ e
+fits_from e l p u short small fits =
+    let whole : l + (e - l) ≡ e = omega (arith, short) in
+    let room : 2 ^ l * 2 ^ (e - l) ≡ 2 ^ e = sym (pow-add 2 l (e - l)) ∙ ap (λ k. 2 ^ k) whole in
+    let less = mul-add-lt u (2 ^ l) p (2 ^ (e - l)) fits small in
     omega (arith, less, room)
 
-pub fits_to : (l p u : ℕ) → l ≤ 64 → p < 2 ^ l → p + u * 2 ^ l < 2 ^ 64 → u < 2 ^ (64 - l)
-fits_to l p u short small fits =
-    let whole : 64 ≡ 64 - l + l = omega (arith, short) in
+pub fits_to : (e l p u : ℕ) → l ≤ e → p < 2 ^ l → p + u * 2 ^ l < 2 ^ e → u < 2 ^ (e - l)
+fits_to e l p u short small fits =
+    let whole : e ≡ e - l + l = omega (arith, short) in
     let turned : p + u * 2 ^ l ≡ u * 2 ^ l + p = omega arith in
-    let less = shr_below (u * 2 ^ l + p) (64 - l) l (subst (λ k. u * 2 ^ l + p < 2 ^ k) whole (subst (λ k. k < 2 ^ 64) turned fits)) in
-    subst (λ k. k < 2 ^ (64 - l)) (shr_high u l p small) less
+    let less = shr_below (u * 2 ^ l + p) (e - l) l (subst (λ k. u * 2 ^ l + p < 2 ^ k) whole (subst (λ k. k < 2 ^ e) turned fits)) in
+    subst (λ k. k < 2 ^ (e - l)) (shr_high u l p small) less
 
 module _ (ns : List Node) (root : ℕ) where
   -- the suffixes of a prefix of a level are the set of a number, which tests no bit in front of that level
@@ -147,7 +147,7 @@ module _ (ns : List Node) (root : ℕ) where
 
     carried : (l p q n u : ℕ) → l ≤ 64 → Leads l p n → Leads l q n → Word (p + u * 2 ^ l) → Word (q + u * 2 ^ l)
     carried l p q n u most a b (fits, in_set) = (
-      fits_from l q u most b.short (fits_to l p u most a.short fits),
+      fits_from 64 l q u most b.short (fits_to 64 l p u most a.short fits),
       b.same u ∙ sym (a.same u) ∙ in_set,
     )
 
@@ -170,7 +170,7 @@ module _ (ns : List Node) (root : ℕ) where
             within ns down ordered n v (u * 2 ^ l) a.inside (λ i least less. sym (bits_within v l 64 i (omega (arith, deep, least)) less))
             ∙ sym (a.same u)
             ∙ same_test (accepts ns root (p + u * 2 ^ l)) (accepts ns root (q + u * 2 ^ l))
-            (λ h. ((same u).0 (fits_from l p u most a.short small, h)).1)
-            (λ h. ((same u).1 (fits_from l q u most b.short small, h)).1)
+            (λ h. ((same u).0 (fits_from 64 l p u most a.short small, h)).1)
+            (λ h. ((same u).1 (fits_from 64 l q u most b.short small, h)).1)
             ∙ b.same u
             ∙ within ns down ordered m (u * 2 ^ l) v b.inside (λ i least less. bits_within v l 64 i (omega (arith, deep', least)) less)

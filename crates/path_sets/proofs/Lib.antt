@@ -20,4 +20,6 @@ pub mod Led
 pub mod Marked
 pub mod Counted
 pub mod Alike
+pub mod Unique
+pub mod Chains
 pub mod Gathering

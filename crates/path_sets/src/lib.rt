@@ -9,6 +9,7 @@ mod batch;
 mod diagram;
 mod gathered;
 mod inner;
+mod laws;
 mod mask;
 mod merged;
 mod node;
@@ -22,5 +23,8 @@ mod spread;
 mod union;
 
 pub use diagram::DiagramEdges;
+pub use laws::{
+    equal_sets_have_one_number, members_have_one_count, the_least_valuations_make_a_chain,
+};
 pub use ordered::OrderedEdges;
 pub use path_set::PathSet;

@@ -23,8 +23,8 @@ returns g c =
     c.in_ok-merged.ensures in
     let S : ℕ → Type 0 = λ v. (v < 2 ^ 64) × (merged_has o.nodes.kept.keys o.rows.entries (triple e p v) ≡ true) in
     let T : ℕ → Type 0 = λ v. Member (triple e p v) (all_edges ns rs masks) in
-    of_ok (HasNodes 64 S) (HasNodes 64 T) c.count.result
-    (λ n. alike_nodes 64 n S T (members_there ns m.nodes.kept.keys o.nodes.kept.keys rs m.rows.entries o.rows.entries masks e p (omega arith)
-    (omega arith) alone c.in_ok-put_all.ensures.takes c.in_ok-put_all.ensures.all))
-    (subst (λ q. IfOk c.count.result (HasNodes 64 (λ v. (v < 2 ^ 64) × (merged_has o.nodes.kept.keys o.rows.entries (triple e q v) ≡ true))))
-    point c.count.ensures)
+    let there = members_there ns m.nodes.kept.keys o.nodes.kept.keys rs m.rows.entries o.rows.entries masks e p (omega arith)
+    (omega arith) alone c.in_ok-put_all.ensures.takes c.in_ok-put_all.ensures.all in
+    let Counts : ℕ → Type 0 = λ q. IfOk c.count.result (HasNodes 64 (λ v. (v < 2 ^ 64)
+    × (merged_has o.nodes.kept.keys o.rows.entries (triple e q v) ≡ true))) in
+    of_ok (HasNodes 64 S) (HasNodes 64 T) c.count.result (λ n. alike_nodes 64 n S T there) (subst Counts point c.count.ensures)
