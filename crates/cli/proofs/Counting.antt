@@ -4,8 +4,8 @@ use Rattle.std.proofs.Common.{refl, sym, ap, ap₂, subst}
 use Rattle.std.proofs.Common.{◌+◌, ◌≤◌, add-one, append_assoc, append-nil, arith, count_by, get_or, length, map}
 use Rattle.std.proofs.Common.{option_map, slice_get, take}
 use Rattle.std.specs.String.{string_bytes}
-use Rattle.syntax.specs.Trees.{proc_of}
-use Rattle.syntax.specs.declared.tree.Proc.{Proc}
+use Rattle.trees.specs.Trees.{proc_of}
+use Rattle.trees.specs.declared.tree.Proc.{Proc}
 use Rattle.std.proofs.lemmas.List.{length-map, take_all}
 use Rattle.std.proofs.lemmas.Option.{same_Some, slice_get-map, slice_get_read}
 use Rattle.language.specs.Tree.{Procedure, Tree}

@@ -2,14 +2,14 @@
 
 ghost use Rattle.std.specs.Prelude.{◌≡◌, ◌≤◌, ◌<◌, ◌++◌, OnOk, Some, count_by, length, slice_get};
 ghost use Rattle.std.specs.String.{string_bytes};
-ghost use Rattle.syntax.specs.Trees.{tree_of};
+ghost use Rattle.trees.specs.Trees.{tree_of};
 ghost use Rattle.cli.specs.Counts.{counts_line, counts_lines, names_of};
 ghost use Rattle.cli.specs.Counted.{counted_each, is_take};
 
 use post_ledger::{Event, Mailbox};
 use std::alloc::{AllocError, Allocator};
 use summaries::{Due, Summaries};
-use syntax::Program;
+use trees::Program;
 
 /// How many messages were taken from a mailbox, by its history.
 fn taken_in(history: &[Event<Due>]) -> usize

@@ -1,14 +1,15 @@
 //! The sequential program of a text: what every order begins with.
 
 ghost use Rattle.std.specs.Prelude.{IfOk, IfErr, None};
-ghost use Rattle.round_rewrite.specs.Programs.{sequential_tree};
+ghost use Rattle.resolved.specs.Programs.{sequential_tree};
 ghost use Rattle.cli.specs.Limits.{count_of};
 ghost use Rattle.cli.specs.Refused.{RefusalStands};
 ghost use Rattle.cli.specs.Rewritten.{IsRewriting};
 
 use crate::checking::checked;
 use crate::refusal::Refusal;
-use round_rewrite::{RewriteFault, Rounds, Sequential, rewrite, too_wide};
+use resolved::Sequential;
+use round_rewrite::{RewriteFault, Rounds, rewrite, too_wide};
 use std::alloc::Allocator;
 
 /// The sequential program that a text is rewritten to for so many rounds.

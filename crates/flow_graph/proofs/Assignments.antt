@@ -12,9 +12,9 @@ use Rattle.language.specs.Tree.{Name, RightSide, any, value}
 use Rattle.language.specs.Value.{Place, global, local, bit, with_bit, value_of, AreValues, written_globals, written_locals}
 use Rattle.language.specs.Resolve.{Scope, is_declared, number_of, place_of, resolve_expression, resolve_side}
 use Rattle.language.proofs.Names.{number_less, place_declared, place_other}
-use Rattle.syntax.specs.Trees.{name_of, names_of, rhs_of, rhss_of}
-use Rattle.syntax.specs.declared.tree.Name as syntax
-use Rattle.syntax.specs.declared.tree.Rhs.{Rhs}
+use Rattle.trees.specs.Trees.{name_of, names_of, rhs_of, rhss_of}
+use Rattle.trees.specs.declared.tree.Name as syntax
+use Rattle.trees.specs.declared.tree.Rhs.{Rhs}
 use Rattle.flow_graph.specs.Assignments.{masked, choice_left, written, any_of, anys, is_among, lasting}
 use Rattle.flow_graph.specs.Assigning.{Assigns}
 use Rattle.flow_graph.specs.Flows.{code}
@@ -28,7 +28,7 @@ use Rattle.flow_graph.specs.declared.side.Side.TheVariants as side
 use Rattle.flow_graph.proofs.Rows.{bits_or, bits_xor, first_bit}
 use Rattle.flow_graph.proofs.Stacks.{worth_small, bit_worth}
 use Rattle.flow_graph.proofs.Worths.{coded_bit}
-use Rattle.round_rewrite.specs.Limits.{most_places}
+use Rattle.resolved.specs.Limits.{most_places}
 
 -- ---- one bit
 

@@ -6,7 +6,7 @@ use Rattle.std.proofs.lemmas.Bool.{ltb-true, ltb-false}
 use Rattle.std.proofs.Math.Pow.{pow_mono}
 use Rattle.flow_graph.specs.Bits.{worth_of, coded}
 use Rattle.flow_graph.proofs.Rows.{row_step, below_next}
-use Rattle.round_rewrite.specs.Limits.{most_places}
+use Rattle.resolved.specs.Limits.{most_places}
 
 -- the place of the next bit counts twice that of this one
 doubled : (bit : ℕ) → 2 ^ (bit + 1) ≡ 2 ^ bit * 2

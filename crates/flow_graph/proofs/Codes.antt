@@ -3,8 +3,8 @@ use Rattle.std.proofs.Common.{◌≡◌, ◌<◌, ◌≤◌, ℕ, suc, ◌+◌, 
 use Rattle.std.proofs.Math.Pow.{pow_mono}
 use Rattle.std.proofs.lemmas.Bool.{eqb-true, eqb-false, ltb-true, ltb-false}
 use Rattle.language.specs.Tree.{Expression, two}
-use Rattle.syntax.specs.Trees.{operator_of}
-use Rattle.syntax.specs.declared.tree.Op.{Op}
+use Rattle.trees.specs.Trees.{operator_of}
+use Rattle.trees.specs.declared.tree.Op.{Op}
 use Rattle.flow_graph.specs.Located.{worth}
 use Rattle.flow_graph.specs.Postfix.{after_steps, top, IsShallow, need, Puts}
 use Rattle.flow_graph.specs.declared.postfix.Step.{Step}

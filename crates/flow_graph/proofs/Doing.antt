@@ -28,7 +28,7 @@ use Rattle.flow_graph.specs.declared.call.Call.{Call}
 use Rattle.flow_graph.specs.declared.formula.Formula.{Formula}
 use Rattle.flow_graph.specs.Calls.{entry_of}
 use Rattle.flow_graph.proofs.Coding.{coded_append, left_coded}
-use Rattle.round_rewrite.specs.Limits.{most_places}
+use Rattle.resolved.specs.Limits.{most_places}
 
 -- the two parts of a pair that is there
 same_first : (a b c d : ℕ) → ◌≡◌ {A = Option (ℕ × ℕ)} (Some (a, b)) (Some (c, d)) → a ≡ c

@@ -16,14 +16,14 @@ use Rattle.language.proofs.Entering.{call_shape}
 use Rattle.language.proofs.RestPoints.{rest_at_point, rests_count}
 use Rattle.language.proofs.Lengths.{length_values}
 use Rattle.language.proofs.StepKinds.{routine_found}
-use Rattle.syntax.specs.declared.tree.Program as tree
-use Rattle.syntax.specs.declared.tree.Proc.{Proc}
-use Rattle.syntax.specs.declared.tree.Name.{Name}
-use Rattle.syntax.specs.declared.tree.Stmt.{Stmt}
-use Rattle.syntax.specs.Trees.{tree_of, proc_of, procs_of, name_of, names_of, block_of}
-use Rattle.scopes.specs.Resolves.{Resolves}
-use Rattle.round_rewrite.specs.Narrow.{AllNarrow}
-use Rattle.round_rewrite.proofs.Sequences.{sequential_routine, resolving_fit, routines_counted, routine_at, narrow_places}
+use Rattle.trees.specs.declared.tree.Program as tree
+use Rattle.trees.specs.declared.tree.Proc.{Proc}
+use Rattle.trees.specs.declared.tree.Name.{Name}
+use Rattle.trees.specs.declared.tree.Stmt.{Stmt}
+use Rattle.trees.specs.Trees.{tree_of, proc_of, procs_of, name_of, names_of, block_of}
+use Rattle.resolved.specs.Resolves.{Resolves}
+use Rattle.resolved.specs.Narrow.{AllNarrow}
+use Rattle.resolved.proofs.Sequences.{sequential_routine, resolving_fit, routines_counted, routine_at, narrow_places}
 use Rattle.flow_graph.specs.Bits.{worth_of, coded}
 use Rattle.flow_graph.specs.Nodes.{Node, number, point_at, node_of, nodes_of, goes_to, Leads, NodeCalls}
 use Rattle.flow_graph.specs.Flows.{code, Widths, widths_of, HasWidths, NodeEnters, Does, AllDo, Lowered}
@@ -35,7 +35,7 @@ use Rattle.flow_graph.specs.declared.graph.Graph.{Graph}
 use Rattle.flow_graph.proofs.Nodes.{flow_leads, lead_flows}
 use Rattle.flow_graph.specs.declared.flow.Flow.TheVariants as flow
 use Rattle.flow_graph.proofs.Doing.{does_return}
-use Rattle.round_rewrite.specs.Limits.{most_places}
+use Rattle.resolved.specs.Limits.{most_places}
 
 -- the flow at a place does what happens at the node there
 all_do_at : {A : Type 0} (fs : List (Flow A)) (ns : List Node) (w : Widths) (i : ℕ) (n : Node) → AllDo fs ns w →

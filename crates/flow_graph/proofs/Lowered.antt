@@ -8,8 +8,8 @@ use Rattle.language.specs.Resolve.{Scope, resolve_mark, resolve_simple, resolve_
 use Rattle.language.specs.Rest.{Code, join}
 use Rattle.language.specs.Sequential.{statements, numbered, marked}
 use Rattle.language.specs.Flow.{rests}
-use Rattle.syntax.specs.declared.tree.Stmt.{Stmt}
-use Rattle.syntax.specs.Trees.{Deed, simple, branch, repeat, item_of, block_of}
+use Rattle.trees.specs.declared.tree.Stmt.{Stmt}
+use Rattle.trees.specs.Trees.{Deed, simple, branch, repeat, item_of, block_of}
 use Rattle.flow_graph.specs.Nodes.{Node, point_at, node_of, goes, stops, goes_to, tests}
 use Rattle.flow_graph.specs.Flows.{Widths, Does, AllDo, Lowered}
 use Rattle.flow_graph.specs.declared.flow.Flow.{Flow}

@@ -5,7 +5,7 @@ use Rattle.language.specs.Tree.{Mark, Block, done, one, choose, loop}
 use Rattle.language.specs.Resolve.{Scope, resolve_block}
 use Rattle.language.specs.Rest.{Code}
 use Rattle.language.specs.Sequential.{statements, numbered}
-use Rattle.syntax.specs.Trees.{Deed, simple, branch, repeat, marked_before}
+use Rattle.trees.specs.Trees.{Deed, simple, branch, repeat, marked_before}
 
 abbrev pub Names : Type 0
 Names = Block tree.Name tree.Name tree.Name

@@ -3,7 +3,7 @@ use Rattle.std.proofs.Common.{◌≡◌, ◌↔◌, ℕ, true, List, Some, slice
 use Rattle.language.specs.Tree.{done}
 use Rattle.language.specs.Rest.{Code}
 use Rattle.language.specs.Step.{Program, body_of}
-use Rattle.language.specs.Sequential.{point_of, Valuation, exit_of, Caller, starter, caller, Message, entry, summary, IsDue}
+use Rattle.language.specs.Sequential.{point_of, Valuation, exit_of, Caller, starter, caller, Message, entry, summary, IsDue, SomeBad}
 use Rattle.language.specs.Flow.{IsRestOf}
 use Rattle.language.specs.Messages.{Reached, EdgeTo, IsValuationOf, IsMessageTo, ArgumentsFit}
 use Rattle.language.proofs.ByMessages.{reached_entry, reached_stands}
@@ -11,7 +11,6 @@ use Rattle.language.proofs.Entering.{due_entered}
 use Rattle.language.proofs.Gathered.{edge_reached, edge_point, pair_exit}
 use Rattle.language.proofs.Sound.{owed_due}
 use Rattle.language.proofs.Widths.{due_message, reached_valuation}
-use Rattle.round_rewrite.specs.Law.{SomeBad}
 use Rattle.flow_graph.specs.Bits.{bit_of}
 use Rattle.flow_graph.specs.Nodes.{number, point_at}
 use Rattle.flow_graph.specs.Flows.{code}

@@ -7,14 +7,13 @@ use Rattle.std.proofs.lemmas.List.{length-map}
 use Rattle.language.specs.Tree.{Name}
 use Rattle.language.specs.Resolve as resolve
 use Rattle.language.specs.Resolve.{number_of, is_declared, place_of}
-use Rattle.language.proofs.Names.{declared_first, declared_second, number_first, number_second, number_less}
-use Rattle.language.proofs.Names.{place_declared, place_other}
-use Rattle.syntax.specs.Trees.{name_of, names_of}
-use Rattle.syntax.specs.declared.tree.Name as declared
+use Rattle.language.proofs.Names.{declared_first, declared_second, number_first, number_second, number_less, place_declared, place_other}
+use Rattle.trees.specs.Trees.{name_of, names_of}
+use Rattle.trees.specs.declared.tree.Name as declared
 use Rattle.flow_graph.specs.Located.{bit_of_place, bit_of_name}
 use Rattle.flow_graph.specs.Views.{scope_seen, IsSmall}
 use Rattle.flow_graph.specs.declared.scope.Scope.{Scope}
-use Rattle.round_rewrite.specs.Limits.{most_places}
+use Rattle.resolved.specs.Limits.{most_places}
 
 module _ (gs fs ls ps : List Name) (x : Name) where
   abbrev scope : resolve.Scope

@@ -17,7 +17,7 @@ use Rattle.flow_graph.specs.Bits.{bit_of, worth_of, coded}
 use Rattle.flow_graph.specs.Located.{worth}
 use Rattle.flow_graph.specs.Tables.{slot, is_input, output, Reads, Tabulates, AreBits, Widens, most_inputs, most_rows}
 use Rattle.flow_graph.specs.Tables.{word_rows}
-use Rattle.round_rewrite.specs.Limits.{most_places}
+use Rattle.resolved.specs.Limits.{most_places}
 
 -- ---- operators on words
 

@@ -8,10 +8,10 @@ use Rattle.language.specs.Resolve.{Scope, resolve_mark, resolve_simple, resolve_
 use Rattle.language.specs.Rest.{Label, Code, join, has_label, first_of_two, rest_from}
 use Rattle.language.specs.Sequential.{statements, numbered, marked}
 use Rattle.language.proofs.Rests.{first_none}
-use Rattle.syntax.specs.declared.tree.Stmt.{Stmt}
-use Rattle.syntax.specs.Trees.{Deed, simple, branch, repeat, item_of, deed_of, block_of}
-use Rattle.syntax.proofs.Held.{held}
-use Rattle.syntax.proofs.Folds.{item_deed}
+use Rattle.trees.specs.declared.tree.Stmt.{Stmt}
+use Rattle.trees.specs.Trees.{Deed, simple, branch, repeat, item_of, deed_of, block_of}
+use Rattle.trees.proofs.Held.{held}
+use Rattle.trees.proofs.Folds.{item_deed}
 use Rattle.flow_graph.specs.Nodes.{point_at}
 use Rattle.flow_graph.specs.Points.{IsFound}
 use Rattle.flow_graph.proofs.Counted.{alone_counts}

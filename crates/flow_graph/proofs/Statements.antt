@@ -7,11 +7,11 @@ use Rattle.language.specs.Tree.{one, loop}
 use Rattle.language.specs.Resolve.{resolve_mark, resolve_simple, resolve_side, resolve_block}
 use Rattle.language.specs.Rest.{Code}
 use Rattle.language.specs.Sequential.{statements, numbered, marked}
-use Rattle.syntax.specs.declared.tree.Stmt.{Stmt}
-use Rattle.syntax.specs.Trees.{simple, branch, repeat, item_of, deed_of, rhs_of, block_of}
-use Rattle.syntax.specs.declared.tree.Rhs.{Rhs}
-use Rattle.syntax.proofs.Held.{held}
-use Rattle.syntax.proofs.Folds.{item_deed}
+use Rattle.trees.specs.declared.tree.Stmt.{Stmt}
+use Rattle.trees.specs.Trees.{simple, branch, repeat, item_of, deed_of, rhs_of, block_of}
+use Rattle.trees.specs.declared.tree.Rhs.{Rhs}
+use Rattle.trees.proofs.Held.{held}
+use Rattle.trees.proofs.Folds.{item_deed}
 use Rattle.flow_graph.specs.Nodes.{Node, point_at, node_of, tests}
 use Rattle.flow_graph.specs.Points.{BeginAt}
 use Rattle.flow_graph.specs.Flows.{widths_of, Lowered}

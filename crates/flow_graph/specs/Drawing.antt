@@ -3,13 +3,13 @@ use Rattle.std.specs.Prelude.{◌≡◌, ◌≤◌, ◌+◌, length}
 use Rattle.language.specs.Rest.{Code}
 use Rattle.language.specs.Sequential.{numbered}
 use Rattle.language.specs.Resolve.{Scope, scope_of, resolve_block}
-use Rattle.syntax.specs.Trees.{tree_of, proc_of}
-use Rattle.syntax.specs.declared.tree.Program.{Program}
-use Rattle.syntax.specs.declared.tree.Proc.{Proc}
+use Rattle.trees.specs.Trees.{tree_of, proc_of}
+use Rattle.trees.specs.declared.tree.Program.{Program}
+use Rattle.trees.specs.declared.tree.Proc.{Proc}
 use Rattle.flow_graph.specs.Nodes.{point_at, nodes_of}
 use Rattle.flow_graph.specs.Flows.{widths_of, AllDo}
 use Rattle.flow_graph.specs.declared.graph.Graph.{Graph}
-use Rattle.round_rewrite.specs.Limits.{most_places}
+use Rattle.resolved.specs.Limits.{most_places}
 use Rattle.flow_graph.specs.Drawn.{flows_of, start_of, globals_of}
 
 -- no more variables than places are in the procedure's scope, and at most 32 procedures

@@ -11,7 +11,7 @@ use Rattle.flow_graph.specs.Nodes.{Node, Leads, NodeCalls}
 use Rattle.flow_graph.specs.declared.side.Side.TheVariants as side
 use Rattle.flow_graph.specs.declared.flow.Flow.{Flow}
 use Rattle.flow_graph.specs.declared.flow.Flow.TheVariants.{Assign, Test, Assume, Call, Return}
-use Rattle.round_rewrite.specs.Limits.{most_places}
+use Rattle.resolved.specs.Limits.{most_places}
 
 -- a valuation as a number: the globals from bit 0, then the places
 abbrev pub code : Valuation → ℕ

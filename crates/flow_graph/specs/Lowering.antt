@@ -6,11 +6,11 @@ use Rattle.language.specs.Resolve.{Scope, number_of, place_of, resolve_expressio
 use Rattle.language.specs.Rest.{Code, join, rest_from}
 use Rattle.language.specs.Sequential.{statements, numbered}
 use Rattle.language.specs.Flow.{rests}
-use Rattle.syntax.specs.Trees.{name_of, names_of, rhs_of, rhss_of, exprs_of, block_of}
-use Rattle.syntax.specs.declared.tree.Name.{Name}
-use Rattle.syntax.specs.declared.tree.Expr.{Expr}
-use Rattle.syntax.specs.declared.tree.Rhs.{Rhs}
-use Rattle.syntax.specs.declared.tree.Stmt.{Stmt}
+use Rattle.trees.specs.Trees.{name_of, names_of, rhs_of, rhss_of, exprs_of, block_of}
+use Rattle.trees.specs.declared.tree.Name.{Name}
+use Rattle.trees.specs.declared.tree.Expr.{Expr}
+use Rattle.trees.specs.declared.tree.Rhs.{Rhs}
+use Rattle.trees.specs.declared.tree.Stmt.{Stmt}
 use Rattle.flow_graph.specs.Nodes.{Node, assigns, calls, point_at, node_of, goes_to}
 use Rattle.flow_graph.specs.Flows.{widths_of, Does, Lowered}
 use Rattle.flow_graph.specs.Views.{scope_seen, IsSmall}

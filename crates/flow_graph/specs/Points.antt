@@ -3,8 +3,8 @@ use Rattle.std.specs.Prelude.{◌≡◌, ◌≤◌, ℕ, ◌+◌, Option, List, 
 use Rattle.language.specs.Resolve.{Scope, resolve_block}
 use Rattle.language.specs.Rest.{Label, Code, join, rest_from}
 use Rattle.language.specs.Sequential.{statements, numbered}
-use Rattle.syntax.specs.Trees.{block_of}
-use Rattle.syntax.specs.declared.tree.Stmt.{Stmt}
+use Rattle.trees.specs.Trees.{block_of}
+use Rattle.trees.specs.declared.tree.Stmt.{Stmt}
 use Rattle.flow_graph.specs.Nodes.{point_at}
 
 -- size is how many statements there are, those inside of others included, where so many is a number of 64 bits

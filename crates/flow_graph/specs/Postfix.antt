@@ -5,12 +5,12 @@ use Rattle.std.specs.Prelude.{◌≡◌, ◌<◌, ◌≤◌, ℕ, suc, ◌+◌, 
 use Rattle.std.specs.Prelude.{cond, ◌==◌, List, [], ◌∷◌, ◌++◌, length}
 use Rattle.language.specs.Tree.{Expression, const, var, negation, two}
 use Rattle.language.specs.Value.{operate}
-use Rattle.syntax.specs.Trees.{operator_of}
+use Rattle.trees.specs.Trees.{operator_of}
 use Rattle.flow_graph.specs.Bits.{bit_of, coded}
 use Rattle.flow_graph.specs.Located.{worth}
 use Rattle.flow_graph.specs.declared.postfix.Step.{Step}
 use Rattle.flow_graph.specs.declared.postfix.Step.TheVariants.{Read, Constant, Not, Apply, ApplySwapped}
-use Rattle.round_rewrite.specs.Limits.{most_places}
+use Rattle.resolved.specs.Limits.{most_places}
 
 -- what a step makes of the stack, its top first: a bit or a constant is put on it, `Not` turns the top, and an operator
 -- takes two values, the right one from the top, or the left one where the operands came in the other order

@@ -6,7 +6,7 @@ use Rattle.language.specs.Tree.{Expression, const, var, negation, two}
 use Rattle.flow_graph.specs.Bits.{bit_of, coded}
 use Rattle.flow_graph.specs.Located.{worth}
 use Rattle.flow_graph.specs.Postfix.{less_prop}
-use Rattle.round_rewrite.specs.Limits.{most_places}
+use Rattle.resolved.specs.Limits.{most_places}
 
 -- how many inputs come before the first that is this bit
 abbrev pub slot : ℕ → List ℕ → ℕ

@@ -2,11 +2,11 @@
 use Rattle.std.specs.Prelude.{◌≤◌, ℕ, ◌+◌, ◌++◌, length, map}
 use Rattle.language.specs.Tree.{Expression, Procedure}
 use Rattle.language.specs.Resolve as resolve
-use Rattle.syntax.specs.Trees.{names_of, procs_of, expr_of}
-use Rattle.syntax.specs.declared.tree.Expr.{Expr}
+use Rattle.trees.specs.Trees.{names_of, procs_of, expr_of}
+use Rattle.trees.specs.declared.tree.Expr.{Expr}
 use Rattle.flow_graph.specs.Located.{located}
 use Rattle.flow_graph.specs.declared.scope.Scope.{Scope}
-use Rattle.round_rewrite.specs.Limits.{most_places}
+use Rattle.resolved.specs.Limits.{most_places}
 
 -- the scope
 abbrev pub scope_seen : {N : Type 0} → Scope N → resolve.Scope

@@ -1,19 +1,19 @@
 //! Simultaneous assignments, compiled once, to be made often.
 
 ghost use Rattle.std.specs.Prelude.{◌≡◌, ◌+◌, ◌≤◌, ◌<◌, ◌^◌, [], IfOk, IfSome};
-ghost use Rattle.syntax.specs.Trees.{name_of, names_of, rhs_of, rhss_of};
+ghost use Rattle.trees.specs.Trees.{name_of, names_of, rhs_of, rhss_of};
 ghost use Rattle.flow_graph.specs.Assignments.{masked, choice_left, anys, assigned, lasting_bit};
 ghost use Rattle.flow_graph.specs.Assigning.{Assigns};
 ghost use Rattle.flow_graph.specs.Formulas.{SaysSide};
 ghost use Rattle.flow_graph.specs.Views.{scope_seen, IsSmall};
-ghost use Rattle.round_rewrite.specs.Limits.{most_places};
+ghost use Rattle.resolved.specs.Limits.{most_places};
 
 use crate::put::put;
 use crate::scope::Scope;
 use crate::side::Side;
 use language::Word;
 use std::alloc::{AllocError, Allocator};
-use syntax::{Name, Rhs};
+use trees::{Name, Rhs};
 
 /// A bit that an assignment writes, and what it gets.
 #[derive(Debug, Drop)]

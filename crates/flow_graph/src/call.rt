@@ -2,7 +2,7 @@
 
 ghost use Rattle.std.specs.Prelude.{◌≡◌, ◌≤◌, ◌^◌, ◌%◌, ◌+◌, length};
 ghost use Rattle.flow_graph.specs.Calls.{entry_of};
-ghost use Rattle.round_rewrite.specs.Limits.{most_places};
+ghost use Rattle.resolved.specs.Limits.{most_places};
 
 use crate::formula::Formula;
 use crate::word::BITS;

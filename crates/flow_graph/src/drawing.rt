@@ -3,7 +3,7 @@
 ghost use Rattle.std.specs.Prelude.{◌≡◌, ◌≤◌, ◌+◌, length, IfOk, codes};
 ghost use Rattle.language.specs.Resolve.{number_of};
 ghost use Rattle.language.specs.Sequential.{sequential_of};
-ghost use Rattle.round_rewrite.specs.Programs.{sequential_tree};
+ghost use Rattle.resolved.specs.Programs.{sequential_tree};
 ghost use Rattle.flow_graph.specs.Drawing.{Draws, HasRoom};
 ghost use Rattle.flow_graph.specs.Drawn.{bad_of, graphs_of};
 ghost use Rattle.flow_graph.specs.Graphs.{AreDrawnFrom};
@@ -13,9 +13,9 @@ use crate::graph::{Graph, Graphs};
 use crate::lowering::{Lowering, begin};
 use crate::scope::Scope;
 use language::EXIT;
-use round_rewrite::Sequential;
+use resolved::Sequential;
 use std::alloc::{AllocError, Allocator};
-use syntax::{Proc, Program, number_of_name};
+use trees::{Proc, Program, number_of_name};
 
 /// The flow graph of one procedure of a program.
 fn graph<N: Allocator, A: Allocator + Clone>(

@@ -1,7 +1,7 @@
 //! Expressions compiled once, to be evaluated often.
 
 ghost use Rattle.std.specs.Prelude.{◌≡◌, IfOk};
-ghost use Rattle.syntax.specs.Trees.{expr_of};
+ghost use Rattle.trees.specs.Trees.{expr_of};
 ghost use Rattle.flow_graph.specs.Formulas.{says, Says};
 ghost use Rattle.flow_graph.specs.Views.{scope_seen, IsSmall};
 
@@ -10,7 +10,7 @@ use crate::scope::Scope;
 use crate::table::Table;
 use language::Word;
 use std::alloc::{AllocError, Allocator};
-use syntax::Expr;
+use trees::Expr;
 
 /// An expression over the bits of a valuation: a truth table where it has at most ten of them, else postfix code.
 #[derive(Debug, Drop)]

@@ -6,7 +6,7 @@ ghost use Rattle.flow_graph.specs.Points.{IsFound};
 use crate::sizes::{size, size_of};
 use language::Point;
 use std::alloc::Allocator;
-use syntax::{Core, Stmt};
+use trees::{Core, Stmt};
 
 /// The point of the first statement with this label, those inside of others included, where the first of the statements
 /// has this number; `None` where none has the label.

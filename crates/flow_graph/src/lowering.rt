@@ -20,9 +20,9 @@ use crate::sizes::{size, size_of};
 use crate::table::Table;
 use arrayvec::ArrayVec;
 use language::{EXIT, Point};
-use round_rewrite::MOST_PLACES;
+use resolved::MOST_PLACES;
 use std::alloc::{AllocError, Allocator};
-use syntax::{Core, Expr, Name, Rhs, Stmt, number_of_procedure};
+use trees::{Core, Expr, Name, Rhs, Stmt, number_of_procedure};
 
 /// The point at which statements begin, the first of which has this number, where the run goes on at `after` behind
 /// them.

@@ -2,13 +2,13 @@
 
 ghost use Rattle.std.specs.Prelude.{◌≡◌, ◌<◌, ◌≤◌, ◌^◌, ◌*◌, ℕ, get_or, take, IfOk};
 ghost use Rattle.language.specs.Value.{operate};
-ghost use Rattle.syntax.specs.Trees.{operator_of};
+ghost use Rattle.trees.specs.Trees.{operator_of};
 ghost use Rattle.flow_graph.specs.Bits.{bit_of};
 ghost use Rattle.flow_graph.specs.Tables.{most_inputs, most_rows, word_rows, output};
 ghost use Rattle.flow_graph.specs.Formulas.{words_of};
 
 use std::alloc::{AllocError, Allocator};
-use syntax::Op;
+use trees::Op;
 
 /// How many rows a word has the outputs of: those of six inputs.
 pub(crate) const WORD_ROWS: u64 = 64;

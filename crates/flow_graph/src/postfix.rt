@@ -10,7 +10,7 @@ use crate::scope::Scope;
 use crate::word::BITS;
 use language::Word;
 use std::alloc::{AllocError, Allocator};
-use syntax::{Expr, Op};
+use trees::{Expr, Op};
 
 /// One step of postfix code, over a stack of values.
 #[derive(Clone, Copy, Debug)]

@@ -1,13 +1,13 @@
 //! Where the variables of a procedure stand in a valuation.
 
 ghost use Rattle.std.specs.Prelude.{◌≡◌, ◌<◌, IfSome};
-ghost use Rattle.syntax.specs.Trees.{name_of};
+ghost use Rattle.trees.specs.Trees.{name_of};
 ghost use Rattle.flow_graph.specs.Located.{bit_of_name};
 ghost use Rattle.flow_graph.specs.Views.{scope_seen, IsSmall};
-ghost use Rattle.round_rewrite.specs.Limits.{most_places};
+ghost use Rattle.resolved.specs.Limits.{most_places};
 
 use std::alloc::Allocator;
-use syntax::{Name, Proc, declares, number_of_name};
+use trees::{Name, Proc, declares, number_of_name};
 
 /// The names in whose scope the statements of a procedure stand: at most 64 variables, and the procedures.
 #[derive(Clone, Copy)]

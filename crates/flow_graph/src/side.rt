@@ -1,7 +1,7 @@
 //! Right sides, compiled.
 
 ghost use Rattle.std.specs.Prelude.{◌≡◌, IfOk};
-ghost use Rattle.syntax.specs.Trees.{rhs_of};
+ghost use Rattle.trees.specs.Trees.{rhs_of};
 ghost use Rattle.flow_graph.specs.Formulas.{side_value, SaysSide};
 ghost use Rattle.flow_graph.specs.Views.{scope_seen, IsSmall};
 
@@ -9,7 +9,7 @@ use crate::formula::Formula;
 use crate::scope::Scope;
 use language::Word;
 use std::alloc::{AllocError, Allocator};
-use syntax::Rhs;
+use trees::Rhs;
 
 /// A right side, compiled.
 #[derive(Debug, Drop)]

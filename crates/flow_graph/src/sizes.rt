@@ -4,7 +4,7 @@ ghost use Rattle.std.specs.Prelude.{◌∷◌, []};
 ghost use Rattle.flow_graph.specs.Points.{IsSize};
 
 use std::alloc::Allocator;
-use syntax::{Core, Stmt};
+use trees::{Core, Stmt};
 
 /// How many statements there are, those inside of others included.
 #[cycle(sizes)]

@@ -5,7 +5,7 @@ ghost use Rattle.language.specs.Tree.{var};
 ghost use Rattle.flow_graph.specs.Tables.{most_inputs, slot, Tabulates};
 ghost use Rattle.flow_graph.specs.Tables.{AreBits, AreBits-prop, Widens};
 ghost use Rattle.flow_graph.specs.Views.{over_bits, IsSmall};
-ghost use Rattle.round_rewrite.specs.Limits.{most_places};
+ghost use Rattle.resolved.specs.Limits.{most_places};
 
 use crate::outputs::{
     ALL, Outputs, WORD_ROWS, WORDS, combined, first_words, outputs_of_slot, words_for,
@@ -14,7 +14,7 @@ use crate::scope::Scope;
 use arrayvec::ArrayVec;
 use language::Word;
 use std::alloc::{AllocError, Allocator};
-use syntax::{Expr, Op};
+use trees::{Expr, Op};
 
 /// The most bits that a table is made of.
 const MOST: usize = 10;

@@ -2,9 +2,8 @@
 
 ghost use Rattle.std.specs.Prelude.{◌≡◌, ◌↔◌, ℕ, true, List, Some, slice_get};
 ghost use Rattle.language.specs.Step.{Program};
-ghost use Rattle.language.specs.Sequential.{Caller, IsDue};
+ghost use Rattle.language.specs.Sequential.{Caller, IsDue, SomeBad};
 ghost use Rattle.language.specs.Messages.{EdgeTo};
-ghost use Rattle.round_rewrite.specs.Law.{SomeBad};
 ghost use Rattle.flow_graph.specs.Bits.{bit_of};
 ghost use Rattle.flow_graph.specs.Graphs.{IsInTextOrder};
 ghost use Rattle.flow_graph.specs.Numbers.{NumberedMessage, numbered_entry, GraphReaches, Leaves, HasTaken, Gathers};

@@ -1,6 +1,6 @@
 //! How wide a word is.
 
-use round_rewrite::MOST_PLACES;
+use resolved::MOST_PLACES;
 
 /// How many bits a word has: one for each place.
 pub(crate) const BITS: u8 = MOST_PLACES as u8;

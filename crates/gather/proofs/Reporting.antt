@@ -12,7 +12,8 @@ use Rattle.language.specs.Rounds.{Unsafe}
 use Rattle.language.specs.Step.{Program}
 use Rattle.language.specs.Flow.{Member}
 use Rattle.path_sets.specs.Triples.{Triple}
-use Rattle.round_rewrite.specs.Law.{SomeBad, KeepsTree}
+use Rattle.language.specs.Sequential.{SomeBad}
+use Rattle.round_rewrite.specs.Law.{KeepsTree}
 use Rattle.round_rewrite.specs.Names.{rewritten_tree}
 use Rattle.round_rewrite.specs.Narrow.{IsNarrow}
 use Rattle.flow_graph.specs.declared.graph.Graphs.{Graphs}

@@ -5,7 +5,7 @@ use Rattle.post_ledger.specs.declared.event.Event.{Event}
 use Rattle.language.specs.Step.{Program}
 use Rattle.language.specs.Flow.{Member}
 use Rattle.path_sets.specs.Triples.{Triple}
-use Rattle.round_rewrite.specs.Law.{SomeBad}
+use Rattle.language.specs.Sequential.{SomeBad}
 use Rattle.flow_graph.specs.declared.graph.Graphs.{Graphs}
 use Rattle.flow_graph.specs.Drawn.{bad_of, graphs_of}
 use Rattle.flow_graph.specs.Graphs.{AreDrawnFrom}

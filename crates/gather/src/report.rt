@@ -1,7 +1,7 @@
 //! A report on a program: what the workers of its rewriting did and found.
 ghost use Rattle.std.specs.Prelude.{◌≡◌, ◌≢◌, ◌≤◌, ◌↔◌, ℕ, length, IfOk, IfErr, Err};
 ghost use Rattle.language.specs.Step.{Program};
-ghost use Rattle.round_rewrite.specs.Law.{SomeBad};
+ghost use Rattle.language.specs.Sequential.{SomeBad};
 ghost use Rattle.round_rewrite.specs.Programs.{last_round};
 ghost use Rattle.scopes.specs.Programs.{checked_tree};
 ghost use Rattle.flow_graph.specs.Drawn.{bad_of, graphs_of};

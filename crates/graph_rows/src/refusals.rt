@@ -2,7 +2,7 @@
 
 use crate::answers::answer;
 use flow_graph::graphs;
-use round_rewrite::Sequential;
+use resolved::Sequential;
 use scarce::Scarce;
 use std::alloc::Allocator;
 

@@ -1,9 +1,9 @@
 -- A sequential program: one thread, whose first procedure is the one that it starts in. Its statements are
 -- marked with their numbers in text order, from 1, an `if` or `while` before what it holds.
 -- (Path edges and summary edges after Ball and Rajamani 2000.)
-use Rattle.std.specs.Prelude.{◌≡◌, ℕ, zero, suc, ◌+◌, Bool, List, [], ◌∷◌, ◌++◌, Option, Some, None, map, ◌⊎◌, slice_get}
+use Rattle.std.specs.Prelude.{◌≡◌, ℕ, zero, suc, ◌+◌, Bool, true, List, [], ◌∷◌, ◌++◌, Option, Some, None, map, ◌⊎◌, slice_get}
 use Rattle.language.specs.Tree.{call, Mark, Block, done, one, choose, loop, Tree}
-use Rattle.language.specs.Value.{values_of}
+use Rattle.language.specs.Value.{bit, values_of}
 use Rattle.language.specs.Rest.{Code}
 use Rattle.language.specs.Step.{Routine, Program, Frame, frame, State, state, zeros, fresh, AtRoutine, Runs}
 use Rattle.language.specs.Rounds.{starting_stack}
@@ -113,6 +113,10 @@ resumed_with v e = record { globals = e.globals; places = v.places }
 -- A summary edge, or pair: a path edge to the exit, where e is left.
 abbrev pub Pair : Program → ℕ → Valuation → Exit → Type 0
 Pair p q a e = (l : List Bool) × Edge p q a None (record { globals = e.globals; places = l })
+
+-- some pair of the first procedure has `bad`, where a sequential program keeps it in the global of this number
+abbrev pub SomeBad : Program → ℕ → Type 0
+SomeBad p bad = (a : Valuation) × (b : Exit) × Pair p 0 a b × (bit b.globals bad ≡ true)
 
 -- who sends an entry: the starter, or the procedure that calls
 pub data Caller : Type 0 where

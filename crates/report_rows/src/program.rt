@@ -3,11 +3,12 @@
 ghost use Rattle.std.specs.Prelude.{◌≡◌};
 ghost use Rattle.language.specs.Sequential.{sequential_of};
 ghost use Rattle.language.specs.Step.{Program};
-ghost use Rattle.syntax.specs.Trees.{tree_of};
+ghost use Rattle.trees.specs.Trees.{tree_of};
 
 use flow_graph::graphs;
 use path_sets::PathSet;
-use round_rewrite::{Rounds, Sequential, rewrite};
+use round_rewrite::{Rounds, rewrite};
+use resolved::Sequential;
 use scopes::{Checked, check};
 use std::alloc::{Allocator, Global};
 use summaries::{EdgeLimit, NoVerdict, Summaries, tabulate};

@@ -1,10 +1,12 @@
 //! What is answered to a case: a word, and a text with what the word asks for before it.
 
 use crate::fault::TextFault;
-use round_rewrite::{Rounds, Sequential, rewrite};
+use round_rewrite::{Rounds, rewrite};
+use resolved::Sequential;
 use scopes::{Checked, check};
 use std::alloc::{AllocError, Allocator, Global};
-use syntax::{Program, print, read};
+use trees::Program;
+use syntax::{print, read};
 
 /// A text to rewrite for a number of rounds. What the answer needs is taken from `alloc`, and its words from `host`.
 #[derive(Drop)]

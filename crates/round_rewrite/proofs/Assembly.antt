@@ -10,7 +10,7 @@ use Rattle.language.specs.Sequential.{numbered, numbered_routine, in_text_order}
 use Rattle.language.proofs.Lengths.{length_zeros}
 use Rattle.round_rewrite.specs.Table.{Naming, numbers, plain, guess, guesses, starts, check, checks, main, rewritten}
 use Rattle.round_rewrite.specs.Places.{places, all_globals, rewritten_routine, main_routine, rewritten_program, global_count}
-use Rattle.round_rewrite.specs.Scoped.{FitsScopes}
+use Rattle.resolved.specs.Scoped.{FitsScopes}
 use Rattle.round_rewrite.proofs.Laid.{Long, flat, row, bits_of, lay, Shape, bits_bit}
 use Rattle.round_rewrite.proofs.Plain.{PlainAfter, bare, bare_state, bare_routine, world_of, bare-numbered, rest-numbered}
 use Rattle.round_rewrite.proofs.Leading.{Leads}

@@ -6,7 +6,7 @@ use Rattle.language.specs.Tree.{Expression, var, RightSide, any, value}
 use Rattle.language.specs.Value.{Place, global, local, bit, with_bit, look_up, value_of, IsValue, AreValues, written_globals, written_locals}
 use Rattle.round_rewrite.specs.Table.{numbers, in_round, expression, written, targets, sides, draws, each}
 use Rattle.round_rewrite.specs.Places.{places, is_global}
-use Rattle.round_rewrite.specs.Scoped.{PlaceInScope, PlacesInScope, SideInScope, SidesInScope}
+use Rattle.resolved.specs.Scoped.{PlaceInScope, PlacesInScope, SideInScope, SidesInScope}
 use Rattle.round_rewrite.proofs.Laid.{row, with_row, row_bit, row_with, with_own, with_right, length-with_row, long-with_row, bit_right, bits_of, lay, Shape}
 use Rattle.round_rewrite.proofs.Translate.{same, same_refl, same_false, at_is, expression_is, or_false}
 use Rattle.round_rewrite.specs.Limits.{most_rounds}
@@ -200,7 +200,7 @@ module _ (n last own : ℕ) (C S : List (List Bool)) (q : ℕ) (s b : Bool) (sha
   drawn_is : (j : ℕ) → look_up X (l ++ tmp) (local (own + j)) ≡ bit tmp j
   drawn_is j = bit_right l tmp (own + j) j (ap (λ z. z + j) (sym el))
 
-  expr_is : (e : Expression Place) → Rattle.round_rewrite.specs.Scoped.InScope n own e → value_of X (l ++ tmp) (expression (places n last own) last e) ≡ value_of (row C q) l e
+  expr_is : (e : Expression Place) → Rattle.resolved.specs.Scoped.InScope n own e → value_of X (l ++ tmp) (expression (places n last own) last e) ≡ value_of (row C q) l e
   expr_is e h = expression_is n last own C S q s b (l ++ tmp) shape small within l tmp refl el e h
 
   pub sides_are : (j : ℕ) (xs : List Place) (rs : List (RightSide Place)) (vs : List Bool) → AreValues (row C q) l rs vs → Picked j xs rs vs tmp → PlacesInScope n own xs → SidesInScope n own rs → AreValues X (l ++ tmp) (sides (places n last own) last j xs rs) (spread_all xs rs vs)

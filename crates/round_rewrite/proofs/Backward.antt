@@ -7,7 +7,7 @@ use Rattle.language.specs.Step.{Routine, Program, Frame, frame, State, state, ze
 use Rattle.language.proofs.Lengths.{length_values, length_globals, length_locals}
 use Rattle.round_rewrite.specs.Table.{plain, temporaries, expression, side, stop_test, statement}
 use Rattle.round_rewrite.specs.Places.{places, is_global, stop_at, bad_at}
-use Rattle.round_rewrite.specs.Scoped.{AreInScope, SideInScope, FitsScopes}
+use Rattle.resolved.specs.Scoped.{AreInScope, SideInScope, FitsScopes}
 use Rattle.round_rewrite.proofs.Laid.{row, with_row, long_row, bits_of, lay, Shape, bits_with}
 use Rattle.round_rewrite.proofs.Translate.{side_is, expressions_are}
 use Rattle.round_rewrite.proofs.Assigned.{with-own_row}

@@ -6,7 +6,7 @@ use Rattle.language.specs.Rest.{Code}
 use Rattle.language.specs.Step.{Frame, frame, State, state}
 use Rattle.round_rewrite.specs.Table.{numbers, plain, targets, sides, draws, each, drawing, statement}
 use Rattle.round_rewrite.specs.Places.{places, is_global}
-use Rattle.round_rewrite.specs.Scoped.{PlacesInScope, SidesInScope}
+use Rattle.resolved.specs.Scoped.{PlacesInScope, SidesInScope}
 use Rattle.round_rewrite.proofs.Laid.{row, with_row, long_row, bits_of, lay, Shape}
 use Rattle.round_rewrite.proofs.Assigned.{drawn_to, length-drawn, picks, Picked, picked, any_are, drawn_writes, spread_all, sides_are, sides_back, writes, writes_locals, with-own_row}
 use Rattle.round_rewrite.proofs.Plain.{World, PlainAfter}

@@ -6,10 +6,10 @@ use Rattle.std.specs.Prelude.{Result, IfOk}
 use Rattle.language.specs.Tree as tree
 use Rattle.language.specs.Tree.{any, assign, Block, done, one, choose, loop}
 use Rattle.language.specs.Rest.{join}
-use Rattle.syntax.specs.declared.tree.Stmt.{Stmt}
-use Rattle.syntax.specs.declared.tree.Core.{Core}
-use Rattle.syntax.specs.declared.tree.Core.TheFolds.{fold_out-Stmt}
-use Rattle.syntax.specs.Trees.{Deed, simple, branch, repeat, Item, name_of, core_step, stmt_step, items_of, deed_of, marked_before, all_before, block_of}
+use Rattle.trees.specs.declared.tree.Stmt.{Stmt}
+use Rattle.trees.specs.declared.tree.Core.{Core}
+use Rattle.trees.specs.declared.tree.Core.TheFolds.{fold_out-Stmt}
+use Rattle.trees.specs.Trees.{Deed, simple, branch, repeat, Item, name_of, core_step, stmt_step, items_of, deed_of, marked_before, all_before, block_of}
 use Rattle.round_rewrite.specs.Table.{Naming, numbers, each, plain, side, drawing, prologue, statement, rewritten}
 use Rattle.round_rewrite.specs.Writing.{Statements, Lays, bare_form, form, forms}
 use Rattle.language.proofs.Rests.{join_done}

@@ -7,7 +7,7 @@ use Rattle.language.specs.Step.{Routine, Program, Frame, frame, State, state, ze
 use Rattle.language.proofs.Lengths.{length_zeros, length_fresh, length_values, length_globals, length_locals}
 use Rattle.round_rewrite.specs.Table.{Naming, plain, temporaries, expression, side, prologue, statement}
 use Rattle.round_rewrite.specs.Places.{places, is_global}
-use Rattle.round_rewrite.specs.Scoped.{AreInScope, SideInScope, RoutineInScope, FitsScopes}
+use Rattle.resolved.specs.Scoped.{AreInScope, SideInScope, RoutineInScope, FitsScopes}
 use Rattle.round_rewrite.proofs.Laid.{row, with_row, long_row, bits_of, lay, Shape}
 use Rattle.round_rewrite.proofs.Translate.{side_is, expressions_are}
 use Rattle.round_rewrite.proofs.Assigned.{with-own_row}
@@ -16,7 +16,8 @@ use Rattle.round_rewrite.proofs.Plain.{World, PlainAfter}
 use Rattle.round_rewrite.proofs.Leading.{Leads}
 use Rattle.round_rewrite.proofs.Blocks.{put-join, put-again}
 use Rattle.round_rewrite.proofs.Prologue.{prologue_goes, stop_leads}
-use Rattle.round_rewrite.proofs.Frames.{Fits, Roomy, Both, source, Good, AllGood, put_rest, callers, stack, put_routine, IsWorld, each_at, roomy, throughout-join, throughout-rest, IfThere, fresh_more}
+use Rattle.round_rewrite.proofs.Frames.{Fits, Roomy, Both, source, Good, AllGood, put_rest, callers, stack, put_routine, IsWorld, roomy, throughout-join, throughout-rest, IfThere, fresh_more}
+use Rattle.resolved.proofs.Each.{each_at}
 use Rattle.round_rewrite.specs.Limits.{most_rounds}
 
 abbrev pub both : ℕ → ℕ → List Bool → List Bool → Code → Both

@@ -1,12 +1,12 @@
 -- A stack of the source and the temporaries together give the rewritten stack.
-use Rattle.std.proofs.Common.{◌≡◌, ℕ, zero, suc, ◌+◌, ◌-◌, ◌*◌, ◌<◌, ◌≤◌, max, Bool, true, false, cond, List, [], ◌∷◌, ◌++◌, length, map, Option, Some, None, option_map, slice_get, sym, ◌∙◌, ap, subst, ap₂, arith, ◌⊎◌, inl, inr, append_assoc}
+use Rattle.std.proofs.Common.{◌≡◌, ℕ, zero, suc, ◌+◌, ◌-◌, ◌*◌, ◌<◌, ◌≤◌, max, Bool, true, false, cond, List, [], ◌∷◌, ◌++◌, length, map, Option, Some, None, option_map, slice_get, sym, ◌∙◌, ap, ap₂, arith, ◌⊎◌, inl, inr, append_assoc}
 use Rattle.language.specs.Tree.{Simple, skip, assign, assert, assume, goto, leave, call, Mark, done, one, choose, loop, RightSide}
 use Rattle.language.specs.Value.{Place}
 use Rattle.language.specs.Rest.{Label, Code, join, rest_from, first_of_two, has_label}
 use Rattle.language.specs.Step.{Routine, Program, Frame, frame, zeros, fresh}
 use Rattle.round_rewrite.specs.Table.{draws, temporaries, stop_test}
 use Rattle.round_rewrite.specs.Places.{places, is_global}
-use Rattle.round_rewrite.specs.Scoped.{SimpleInScope, SideInScope, Throughout, EachRoutine}
+use Rattle.resolved.specs.Scoped.{SimpleInScope, SideInScope, Throughout}
 use Rattle.round_rewrite.proofs.Plain.{World}
 use Rattle.round_rewrite.proofs.Blocks.{put}
 
@@ -122,11 +122,6 @@ module _ (p : Program) (last : ℕ) where
   pub record IsWorld (w : World) : Type 0 where
     pub enters_is : (c : ℕ) → w.enters (suc c) ≡ option_map put_routine (slice_get p.routines c)
     pub jumps_is : (c : ℕ) (r : Routine) (x : Label) → slice_get p.routines c ≡ Some r → w.jumps (suc c) x ≡ option_map (put_rest r.places) (rest_from x r.body done)
-
-pub each_at : (P : Routine → Type 0) (rs : List Routine) (c : ℕ) (r : Routine) → EachRoutine P rs → slice_get rs c ≡ Some r → P r
-each_at P [] c r h e = cc
-each_at P (x ∷ rs) zero r h e = let same : x ≡ r = cc in subst P same h.0
-each_at P (x ∷ rs) (suc c) r h e = each_at P rs c r h.1 e
 
 pub zeros-add : (a b : ℕ) → zeros (a + b) ≡ zeros a ++ zeros b
 zeros-add zero b = ap zeros (Rattle.std.proofs.Common.zero-add b)

@@ -12,7 +12,8 @@ use Rattle.syntax.specs.InGrammar.{IsId}
 use Rattle.scopes.specs.Rewritable.{has_double}
 use Rattle.round_rewrite.specs.Names.{named, copy_name, save_name, drawn_name}
 use Rattle.round_rewrite.proofs.Spelling.{double_there}
-use Rattle.round_rewrite.specs.Limits.{most_places, most_rounds}
+use Rattle.resolved.specs.Limits.{most_places}
+use Rattle.round_rewrite.specs.Limits.{most_rounds}
 
 -- no reserved word has two underscores in a row
 reserved_free : (k : Kind) → unwrap_or (option_map has_double (reserved_word k)) false ≡ false

@@ -3,9 +3,9 @@ use Rattle.std.proofs.Common.{◌≡◌, List, [], ◌∷◌, ◌++◌, refl, �
 use Rattle.std.proofs.lemmas.List.{map-append}
 use Rattle.language.specs.Tree as tree
 use Rattle.language.specs.Tree.{Mark}
-use Rattle.syntax.specs.declared.tree.Stmt.{Stmt}
-use Rattle.syntax.specs.declared.tree.Core.TheFolds.{fold_out-Stmt}
-use Rattle.syntax.specs.Trees.{Deed, Item, name_of, core_step, stmt_step, item_of, items_of, deed_of, before, marked_before, all_before}
+use Rattle.trees.specs.declared.tree.Stmt.{Stmt}
+use Rattle.trees.specs.declared.tree.Core.TheFolds.{fold_out-Stmt}
+use Rattle.trees.specs.Trees.{Deed, Item, name_of, core_step, stmt_step, item_of, items_of, deed_of, before, marked_before, all_before}
 use Rattle.round_rewrite.specs.Writing.{Statements, Lays}
 
 all_before_last : (is : List Item) (i : Item) (k : Statements) → all_before (is ++ i ∷ []) k ≡ all_before is (before i k)

@@ -37,5 +37,3 @@ pub mod Uses
 pub mod Working
 pub mod Ids
 pub mod Readable
-pub mod Completing
-pub mod Sequences

@@ -3,8 +3,8 @@ use Rattle.std.proofs.Common.{◌≡◌, ℕ, ◌+◌, ◌<◌, ◌≤◌, List,
 use Rattle.std.proofs.lemmas.List.{drop_more, drop_all}
 use Rattle.language.specs.Tree as tree
 use Rattle.language.specs.Tree.{any, var, value, assign, one}
-use Rattle.syntax.specs.declared.tree.Stmt.{Stmt}
-use Rattle.syntax.specs.Trees.{items_of, all_before}
+use Rattle.trees.specs.declared.tree.Stmt.{Stmt}
+use Rattle.trees.specs.Trees.{items_of, all_before}
 use Rattle.round_rewrite.specs.Table.{Naming, numbers, each, plain, guess, guesses, check, checks}
 use Rattle.round_rewrite.specs.Writing.{Statements, Lays}
 use Rattle.round_rewrite.proofs.Pushed.{numbers_next}

@@ -12,7 +12,8 @@ use Rattle.round_rewrite.proofs.Spelling.{same_text_refl, same_text_false}
 use Rattle.round_rewrite.proofs.Numbering.{number_right}
 use Rattle.round_rewrite.proofs.Placing.{scope, wider, copy_place, save_place}
 use Rattle.round_rewrite.proofs.Resolved.{lo, hi, st}
-use Rattle.round_rewrite.specs.Limits.{most_places, most_rounds}
+use Rattle.resolved.specs.Limits.{most_places}
+use Rattle.round_rewrite.specs.Limits.{most_rounds}
 
 pub same_text_other : (a b : List ℕ) → same_text a b ≡ false → same_text b a ≡ false
 same_text_other a b h = same_text_false b a (λ e. let bad : true ≡ false = sym (same_text_refl a) ∙ (ap (same_text a) (sym e) ∙ h) in cc)

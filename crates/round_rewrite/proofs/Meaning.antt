@@ -7,22 +7,24 @@ use Rattle.language.specs.Value.{global, local}
 use Rattle.language.specs.Rest.{same_text}
 use Rattle.language.specs.Step.{AtRoutine}
 use Rattle.language.specs.Resolve.{number_of, is_declared, Scope, place_of, resolve_expression, resolve_side, resolve_simple, resolve_block, scope_of, routine_of, meaning_of}
-use Rattle.language.specs.Sequential.{in_text_order, sequential_of}
+use Rattle.language.specs.Sequential.{in_text_order, sequential_of, SomeBad}
 use Rattle.round_rewrite.specs.Table.{Naming, numbers, temporaries, rewritten, main, globals}
 use Rattle.round_rewrite.specs.Places.{places, is_global, rewritten_routine, main_routine, rewritten_program, bad_at, global_count}
 use Rattle.round_rewrite.specs.Names.{named, copy_name, save_name, drawn_name, names, rewritten_procedure, main_procedure, rewritten_tree}
-use Rattle.round_rewrite.specs.Scoped.{PlaceInScope, InScope, AreInScope, SideInScope, SidesInScope, PlacesInScope, SimpleInScope, Throughout, EachRoutine, EachThread, RoutineInScope, FitsScopes}
+use Rattle.resolved.specs.Scoped.{PlaceInScope, InScope, AreInScope, SideInScope, SidesInScope, PlacesInScope, SimpleInScope, Throughout, EachRoutine, EachThread, RoutineInScope, FitsScopes}
 use Rattle.language.proofs.Names.{number_less}
-use Rattle.scopes.specs.Rewritable.{has_double, AreFree, Declared, AllDeclared, ExpressionDeclared, ExpressionsDeclared, SideDeclared, SidesDeclared, HasRoom, SimpleDeclared, BlockDeclared, ProcedureRewritable, EachProcedure, EachLine, IsRewritable}
-use Rattle.round_rewrite.specs.Narrow.{width, IsNarrow}
-use Rattle.round_rewrite.specs.Law.{SomeBad, Keeps, KeepsTree}
+use Rattle.scopes.specs.Rewritable.{has_double, AreFree, Declared, AllDeclared, ExpressionDeclared, ExpressionsDeclared, SideDeclared, SidesDeclared, HasRoom, SimpleDeclared, BlockDeclared, ProcedureRewritable, EachLine, IsRewritable}
+use Rattle.resolved.specs.Narrow.{EachProcedure, width}
+use Rattle.round_rewrite.specs.Narrow.{IsNarrow}
+use Rattle.round_rewrite.specs.Law.{Keeps, KeepsTree}
 use Rattle.round_rewrite.proofs.Spelling.{free_differs}
 use Rattle.round_rewrite.proofs.Numbering.{free_name, length-rows}
 use Rattle.round_rewrite.proofs.Placing.{wider, bad_place, length-numbers}
 use Rattle.round_rewrite.proofs.Resolved.{by_test, temporaries_resolved, block_resolved}
 use Rattle.round_rewrite.proofs.Matching.{main_resolved, same_text_other}
 use Rattle.round_rewrite.proofs.Theorem.{keeps}
-use Rattle.round_rewrite.specs.Limits.{most_places, most_rounds}
+use Rattle.resolved.specs.Limits.{most_places}
+use Rattle.round_rewrite.specs.Limits.{most_rounds}
 
 names_of : List Procedure → List Name
 names_of procs = map (λ (p : Procedure). p.name) procs

@@ -3,11 +3,11 @@ use Rattle.std.proofs.Common.{◌≡◌, ℕ, ◌+◌, ◌<◌, ◌≤◌, Bool,
 use Rattle.std.proofs.lemmas.List.{drop_more, drop_all}
 use Rattle.language.specs.Tree as tree
 use Rattle.language.specs.Tree.{skip, assign, assert, assume, goto, leave, call, Mark}
-use Rattle.syntax.specs.declared.tree.Stmt.{Stmt}
-use Rattle.syntax.specs.Trees.{Deed, simple, branch, repeat, item_of, deed_of, block_of, marked_before}
+use Rattle.trees.specs.declared.tree.Stmt.{Stmt}
+use Rattle.trees.specs.Trees.{Deed, simple, branch, repeat, item_of, deed_of, block_of, marked_before}
 use Rattle.round_rewrite.specs.Table.{temporaries}
 use Rattle.round_rewrite.specs.Writing.{Statements, deed_needs}
-use Rattle.syntax.proofs.Folds.{item_deed}
+use Rattle.trees.proofs.Folds.{item_deed}
 
 max_zero : (n : ℕ) → n ≡ max 0 n
 max_zero n = omega arith

@@ -11,7 +11,8 @@ use Rattle.round_rewrite.specs.Names.{named, copy_name, save_name, drawn_name, n
 use Rattle.scopes.specs.Rewritable.{has_double, AreFree}
 use Rattle.round_rewrite.proofs.Spelling.{same_text_refl, same_text_false, same_text-append, copies_differ, saves_differ, save_no_copy, low_no_copy, low_no_save, drawn_differ, no_drawn, digit_is}
 use Rattle.round_rewrite.proofs.Numbering.{number_right, number_left, not_free, free_name, Spelled, length-rows, none_in_rows, in_rows}
-use Rattle.round_rewrite.specs.Limits.{most_places, most_rounds}
+use Rattle.resolved.specs.Limits.{most_places}
+use Rattle.round_rewrite.specs.Limits.{most_rounds}
 
 pub copies_spelled : Spelled copy_name
 copies_spelled = record {

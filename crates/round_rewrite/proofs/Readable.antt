@@ -7,12 +7,10 @@ use Rattle.language.specs.Rest.{join}
 use Rattle.language.specs.Resolve.{is_declared}
 use Rattle.syntax.specs.Grammar.{IsSome}
 use Rattle.syntax.specs.InGrammar.{IsId, AreIds, ExpressionInGrammar, SideInGrammar, SimpleInGrammar, LabelInGrammar, BlockInGrammar, ProcedureInGrammar, ThreadInGrammar, InGrammar}
-use Rattle.scopes.specs.Resolves.{Each}
-use Rattle.scopes.specs.Statements.{variables_of, variables_of_side, variables_of_sides, variables_of_all}
-use Rattle.scopes.proofs.Works.{each_left, each_right}
-use Rattle.round_rewrite.specs.Table.{numbers, plain, temporaries, in_round, expression, side, rounds, targets, sides, draws, drawing}
-use Rattle.round_rewrite.specs.Table.{stop_test, rise, prologue, statement, rewritten, guess}
-use Rattle.round_rewrite.specs.Table.{guesses, starts, check, checks, copied, globals}
+use Rattle.resolved.specs.Resolves.{Each}
+use Rattle.resolved.specs.Statements.{variables_of, variables_of_side, variables_of_sides, variables_of_all}
+use Rattle.resolved.proofs.Each.{each_left, each_right}
+use Rattle.round_rewrite.specs.Table.{numbers, plain, temporaries, in_round, expression, side, rounds, targets, sides, draws, drawing, stop_test, rise, prologue, statement, rewritten, guess, guesses, starts, check, checks, copied, globals}
 use Rattle.round_rewrite.specs.Names.{named, copy_name, save_name, drawn_name, names, rewritten_procedure, main_procedure, rewritten_tree}
 use Rattle.round_rewrite.specs.Narrow.{IsNarrow}
 use Rattle.round_rewrite.specs.Places.{global_count}
@@ -21,7 +19,8 @@ use Rattle.round_rewrite.proofs.Resolved.{by_test, rest_room}
 use Rattle.round_rewrite.proofs.Widths.{narrow_procedures, few_needs}
 use Rattle.round_rewrite.proofs.Uses.{each_both, any_uses, written_each, drawn_each, sides_even, Held, at_uses, arguments_use, side_uses, targets_held, sides_use}
 use Rattle.round_rewrite.proofs.Ids.{copy_id, save_id, drawn_id, high_id, low_id, stop_id, bad_id, main_id}
-use Rattle.round_rewrite.specs.Limits.{most_places, most_rounds}
+use Rattle.resolved.specs.Limits.{most_places}
+use Rattle.round_rewrite.specs.Limits.{most_rounds}
 
 -- names, expressions and right sides of the grammar are those whose variables are ids
 ids_each : (xs : List Name) → AreIds xs → Each IsId xs

@@ -5,13 +5,13 @@ use Rattle.language.specs.Tree.{Name, Expression, const, var, negation, two, or,
 use Rattle.language.specs.Value.{Place, global, local}
 use Rattle.language.specs.Rest.{join}
 use Rattle.language.specs.Resolve.{number_of, is_declared, Scope, place_of, resolve_expression, resolve_side, resolve_simple, resolve_mark, resolve_block}
-use Rattle.round_rewrite.specs.Table.{Naming, numbers, plain, literal, in_round, joined, read, expression, side, written}
-use Rattle.round_rewrite.specs.Table.{rounds, targets, sides, draws, temporaries, drawing, stop_test, prologue, statement, rewritten}
+use Rattle.round_rewrite.specs.Table.{Naming, numbers, plain, literal, in_round, joined, read, expression, side, written, rounds, targets, sides, draws, temporaries, drawing, stop_test, prologue, statement, rewritten}
 use Rattle.round_rewrite.specs.Places.{places, is_global, copy_at, high_at, low_at, stop_at, bad_at}
 use Rattle.round_rewrite.specs.Names.{named, copy_name, drawn_name, names}
 use Rattle.scopes.specs.Rewritable.{AreFree, Declared, AllDeclared, ExpressionDeclared, ExpressionsDeclared, SideDeclared, SidesDeclared, SimpleDeclared, BlockDeclared}
 use Rattle.round_rewrite.proofs.Placing.{scope, wider, copy_place, kept_place, drawn_place, high_place, low_bit_place, stop_place, bad_place}
-use Rattle.round_rewrite.specs.Limits.{most_places, most_rounds}
+use Rattle.resolved.specs.Limits.{most_places}
+use Rattle.round_rewrite.specs.Limits.{most_rounds}
 
 -- a test made once
 pub by_test : {A : Type 0} (c : Bool) → (c ≡ true → A) → (c ≡ false → A) → A

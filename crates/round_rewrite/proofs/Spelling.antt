@@ -7,7 +7,8 @@ use Rattle.std.specs.Prelude.{decimal}
 use Rattle.std.specs.Fmt.{digits}
 use Rattle.language.specs.Rest.{same_text}
 use Rattle.scopes.specs.Rewritable.{begins_low, has_double}
-use Rattle.round_rewrite.specs.Limits.{most_places, most_rounds}
+use Rattle.resolved.specs.Limits.{most_places}
+use Rattle.round_rewrite.specs.Limits.{most_rounds}
 
 pub same_text_true : (a b : List ℕ) → same_text a b ≡ true → a ≡ b
 same_text_true a b h = (bytes_eq-Decides a b).0 h

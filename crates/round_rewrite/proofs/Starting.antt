@@ -7,7 +7,7 @@ use Rattle.language.specs.Step.{Routine, Program, Frame, frame, State, state, ze
 use Rattle.language.specs.Rounds.{starting_stack}
 use Rattle.round_rewrite.specs.Table.{Naming, plain, temporaries, starts}
 use Rattle.round_rewrite.specs.Places.{places, is_global, high_at, low_at, stop_at}
-use Rattle.round_rewrite.specs.Scoped.{EachThread, FitsScopes}
+use Rattle.resolved.specs.Scoped.{EachThread, FitsScopes}
 use Rattle.round_rewrite.proofs.Laid.{Long, bits_of, lay, Shape, bits_with}
 use Rattle.round_rewrite.proofs.Plain.{World, PlainAfter}
 use Rattle.round_rewrite.proofs.Leading.{Leads}

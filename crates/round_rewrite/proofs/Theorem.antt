@@ -5,11 +5,11 @@ use Rattle.language.specs.Value.{bit}
 use Rattle.language.specs.Rest.{Code}
 use Rattle.language.specs.Step.{Program, frame, State, state, zeros, AfterSteps, Runs}
 use Rattle.language.specs.Rounds.{Unsafe}
-use Rattle.language.specs.Sequential.{numbered, in_text_order, Valuation, point_of, Entered}
+use Rattle.language.specs.Sequential.{numbered, in_text_order, Valuation, point_of, Entered, SomeBad}
 use Rattle.round_rewrite.specs.Table.{main}
 use Rattle.round_rewrite.specs.Places.{places, all_globals, rewritten_program, bad_at, global_count}
-use Rattle.round_rewrite.specs.Scoped.{FitsScopes}
-use Rattle.round_rewrite.specs.Law.{SomeBad, Keeps}
+use Rattle.resolved.specs.Scoped.{FitsScopes}
+use Rattle.round_rewrite.specs.Law.{Keeps}
 use Rattle.round_rewrite.proofs.Laid.{bits_of, lay}
 use Rattle.round_rewrite.proofs.Plain.{PlainAfter, bare_state, world_of, plain_after}
 use Rattle.round_rewrite.proofs.Turns.{after_map, after_pick}

@@ -5,7 +5,7 @@ use Rattle.language.specs.Rest.{Code}
 use Rattle.language.specs.Step.{Program, Frame, frame, State, state, StepsTo, Fails}
 use Rattle.round_rewrite.specs.Table.{plain, prologue}
 use Rattle.round_rewrite.specs.Places.{places}
-use Rattle.round_rewrite.specs.Scoped.{FitsScopes}
+use Rattle.resolved.specs.Scoped.{FitsScopes}
 use Rattle.round_rewrite.proofs.Laid.{row_middle, with_middle, Long, long-append, bits_of, lay, Shape}
 use Rattle.round_rewrite.proofs.Plain.{World, PlainAfter}
 use Rattle.round_rewrite.proofs.Prologue.{Exits, rose, went, stopped, exits}

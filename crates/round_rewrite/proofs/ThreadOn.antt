@@ -6,7 +6,7 @@ use Rattle.language.specs.Rest.{Code}
 use Rattle.language.specs.Step.{Program, Frame, frame, State, state, StepsTo, AfterSteps, Fails}
 use Rattle.round_rewrite.specs.Table.{plain, prologue}
 use Rattle.round_rewrite.specs.Places.{places, stop_at, bad_at}
-use Rattle.round_rewrite.specs.Scoped.{FitsScopes}
+use Rattle.resolved.specs.Scoped.{FitsScopes}
 use Rattle.round_rewrite.proofs.Laid.{row, row_middle, with_middle, bits_of, lay, Shape, bits_with}
 use Rattle.round_rewrite.proofs.Plain.{World, PlainAfter}
 use Rattle.round_rewrite.proofs.Leading.{Leads}

@@ -6,7 +6,7 @@ use Rattle.language.specs.Tree.{Expression, const, var, negation, two, RightSide
 use Rattle.language.specs.Value.{Place, global, local, bit, operate, look_up, value_of, values_of, IsValue}
 use Rattle.round_rewrite.specs.Table.{literal, in_round, joined, expression, side}
 use Rattle.round_rewrite.specs.Places.{places}
-use Rattle.round_rewrite.specs.Scoped.{InScope, AreInScope, SideInScope}
+use Rattle.resolved.specs.Scoped.{InScope, AreInScope, SideInScope}
 use Rattle.round_rewrite.proofs.Laid.{row, row_bit, high, low, bits_of, lay, Shape, bits_bit}
 use Rattle.round_rewrite.specs.Limits.{most_rounds}
 

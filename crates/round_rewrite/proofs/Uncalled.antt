@@ -7,7 +7,7 @@ use Rattle.language.specs.Step.{Routine, Program, Frame, frame, State, state, fr
 use Rattle.language.specs.Sequential.{statements, numbered, numbered_routine, in_text_order, Valuation, Calls, Asks}
 use Rattle.round_rewrite.specs.Table.{Naming, numbers, plain, side, draws, drawing, statement, prologue, rewritten, guess, guesses, starts, check, checks, main}
 use Rattle.round_rewrite.specs.Places.{places, all_globals, rewritten_routine, main_routine, rewritten_program}
-use Rattle.round_rewrite.specs.Scoped.{Throughout}
+use Rattle.resolved.specs.Scoped.{Throughout}
 use Rattle.round_rewrite.proofs.Frames.{throughout-join, throughout-rest, IfThere}
 
 -- the statement does not call the first procedure

@@ -3,11 +3,10 @@ use Rattle.std.proofs.Common.{◌≡◌, ℕ, zero, suc, ◌+◌, ◌/◌, ◌%�
 use Rattle.std.proofs.lemmas.List.{length-map}
 use Rattle.language.specs.Tree.{Name, Expression, const, var, negation, two, RightSide, any, value}
 use Rattle.language.specs.Resolve.{is_declared}
-use Rattle.scopes.specs.Resolves.{Each}
-use Rattle.scopes.specs.Statements.{variables_of, variables_of_side, variables_of_sides, variables_of_all}
-use Rattle.scopes.proofs.Works.{each_left, each_right}
-use Rattle.round_rewrite.specs.Table.{Naming, numbers, literal, in_round, joined, read}
-use Rattle.round_rewrite.specs.Table.{expression, side, written, rounds, targets, sides, draws}
+use Rattle.resolved.specs.Resolves.{Each}
+use Rattle.resolved.specs.Statements.{variables_of, variables_of_side, variables_of_sides, variables_of_all}
+use Rattle.resolved.proofs.Each.{each_left, each_right}
+use Rattle.round_rewrite.specs.Table.{Naming, numbers, literal, in_round, joined, read, expression, side, written, rounds, targets, sides, draws}
 use Rattle.round_rewrite.specs.Names.{named, copy_name, drawn_name, names}
 use Rattle.round_rewrite.proofs.Resolved.{by_test}
 

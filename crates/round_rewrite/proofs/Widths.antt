@@ -5,23 +5,22 @@ use Rattle.std.proofs.Common.{codes, sym, ◌∙◌, ap, subst, arith, append_as
 use Rattle.std.proofs.lemmas.List.{length-map}
 use Rattle.std.proofs.lemmas.Option.{same_Some}
 use Rattle.language.specs.Tree.{Name, Procedure, Tree}
-use Rattle.syntax.specs.declared.tree.Name as declared
-use Rattle.syntax.specs.declared.tree.Proc.{Proc}
-use Rattle.syntax.specs.declared.tree.Program.{Program}
-use Rattle.syntax.specs.Trees.{name_of, names_of, proc_of, procs_of, tree_of}
+use Rattle.trees.specs.declared.tree.Name as declared
+use Rattle.trees.specs.declared.tree.Proc.{Proc}
+use Rattle.trees.specs.Trees.{proc_of, procs_of}
 use Rattle.scopes.specs.declared.fault.ScopeFault.TheVariants as fault
 use Rattle.scopes.specs.Checked.{IsChecked}
-use Rattle.scopes.specs.Faults.{IsThere}
+use Rattle.resolved.specs.There.{IsThere}
 use Rattle.round_rewrite.specs.Table.{numbers, copied, globals}
 use Rattle.round_rewrite.specs.Places.{global_count}
 use Rattle.round_rewrite.specs.Names.{named, names, copy_name, save_name, drawn_name, rewritten_procedure, rewritten_tree}
-use Rattle.scopes.specs.Rewritable.{EachProcedure}
-use Rattle.round_rewrite.specs.Narrow.{width, rewritten_width, AllNarrow, AreNarrow, IsNarrow}
+use Rattle.resolved.specs.Narrow.{EachProcedure, width}
+use Rattle.round_rewrite.specs.Narrow.{rewritten_width, AreNarrow, IsNarrow}
 use Rattle.round_rewrite.specs.Writing.{own_width, procedure_needs, IsOwnNarrow, AreFew}
 use Rattle.round_rewrite.proofs.Numbering.{length-rows}
 use Rattle.round_rewrite.proofs.Placing.{length-numbers}
 use Rattle.round_rewrite.proofs.Copied.{gathered}
-use Rattle.round_rewrite.specs.Limits.{most_places}
+use Rattle.resolved.specs.Limits.{most_places}
 
 four_behind : {B : Type 0} (xs : List B) (a b c d : B) → (((xs ++ a ∷ []) ++ b ∷ []) ++ c ∷ []) ++ d ∷ [] ≡ xs ++ (a ∷ b ∷ c ∷ d ∷ [])
 four_behind xs a b c d =
@@ -111,32 +110,6 @@ few_needs n (p ∷ ps) e = (
       e.0 in let k : procedure_needs p ≤ most_places = omega (arith, h) in k,
   few_needs n ps e.1,
 )
-
--- each procedure of a list has what all have
-pub each_at : {A : Type 0} (P : Procedure → Type 0) (ss : List (Proc A)) (i : ℕ) (s : Proc A) → i < length ss → s ≡ get_or ss i s → EachProcedure P (procs_of ss) → P (proc_of s)
-each_at P [] i s lt is e = absurd (omega arith)
-each_at P (x ∷ ss) zero s lt is e = subst (λ y. P (proc_of y)) (sym is) e.0
-each_at P (x ∷ ss) (suc i) s lt is e = each_at P ss i s (omega arith) is e.1
-
--- the procedure at an index, as a tree
-pub proc_there : {A : Type 0} (ss : List (Proc A)) (i : ℕ) (s : Proc A) → i < length ss → s ≡ get_or ss i s → slice_get (procs_of ss) i ≡ Some (proc_of s)
-proc_there [] i s lt is = absurd (omega arith)
-proc_there (x ∷ ss) zero s lt is = ap (λ y. Some (proc_of y)) (sym is)
-proc_there (x ∷ ss) (suc i) s lt is = proc_there ss i s (omega arith) is
-
--- the places of a procedure of a program, counted
-pub places_counted : {A : Type 0} (globals formals locals : List (declared.Name A)) → length (names_of globals) + length (names_of formals ++ names_of locals) ≡ length globals + (length formals + length locals)
-places_counted globals formals locals =
-    let a : length (names_of formals ++ names_of locals) ≡ length (names_of formals) + length (names_of locals) = length-append (names_of formals) (names_of locals) in
-    (λ i. length-map globals name_of i + (a ∙ (λ j. length-map formals name_of j + length-map locals name_of j)) i)
-
--- they are at most 64 in a narrow program
-pub places_few : {A : Type 0} (program : Program A) (i : ℕ) (p : Proc A) → i < length program.procs.items →
-    p ≡ get_or program.procs.items i p → AllNarrow (tree_of program) →
-    length program.globals.items + (length p.formals.items + length p.locals.items) ≤ most_places
-places_few program i p lt is narrow =
-    subst (λ n. n ≤ most_places) (places_counted program.globals.items p.formals.items p.locals.items)
-    (each_at (λ q. width (tree_of program) q ≤ most_places) program.procs.items i p lt is narrow)
 
 few_from : (ps : List Procedure) (k : ℕ) → ((n : ℕ) → IsThere (slice_get ps k) (λ p. p.name.at ≡ n) → ⊥) → length ps ≤ k
 few_from [] k h = omega arith

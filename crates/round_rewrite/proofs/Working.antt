@@ -7,16 +7,17 @@ use Rattle.language.specs.Rest.{same_text, join}
 use Rattle.language.specs.Resolve.{is_declared}
 use Rattle.language.proofs.Names.{declared_first}
 use Rattle.scopes.specs.Checked.{IsChecked}
-use Rattle.scopes.specs.Faults.{named, known, IsThere}
-use Rattle.scopes.specs.Statements.{Head, plain, tests, Statement, statements_of, used_by, variables_of_side, label_of, labels_of}
-use Rattle.scopes.specs.Resolves.{Each, Resolves}
+use Rattle.scopes.specs.Faults.{named, known}
+use Rattle.resolved.specs.There.{IsThere}
+use Rattle.resolved.specs.Statements.{Head, plain, tests, Statement, statements_of, used_by, variables_of_side, label_of, labels_of}
+use Rattle.resolved.specs.Resolves.{Each, Resolves}
 use Rattle.scopes.specs.Rewritable.{IsRewritable}
-use Rattle.scopes.proofs.Works.{each_left, each_right, in_either, named_declared, Works, IsGood, Starts, good, threads_start}
+use Rattle.resolved.proofs.Each.{each_left, each_right}
+use Rattle.scopes.proofs.Works.{in_either, named_declared, Works, IsGood, Starts, good, threads_start}
 use Rattle.scopes.proofs.Resolving.{labels_append, working_resolves}
 use Rattle.scopes.proofs.Rewriting.{checked_rewritable}
 use Rattle.round_rewrite.specs.Table as table
-use Rattle.round_rewrite.specs.Table.{numbers, temporaries, in_round, expression, side, targets, sides, draws, drawing, stop_test}
-use Rattle.round_rewrite.specs.Table.{prologue, statement, rewritten, guess, guesses, starts, check, checks, main, copied, globals}
+use Rattle.round_rewrite.specs.Table.{numbers, temporaries, in_round, expression, side, targets, sides, draws, drawing, stop_test, prologue, statement, rewritten, guess, guesses, starts, check, checks, main, copied, globals}
 use Rattle.round_rewrite.specs.Names as renamed
 use Rattle.round_rewrite.specs.Names.{copy_name, save_name, drawn_name, names, rewritten_procedure, main_procedure, rewritten_tree}
 use Rattle.round_rewrite.proofs.Spelling.{same_text_refl}
@@ -353,7 +354,7 @@ module _ (t : Tree) (last : ℕ) (ok : IsChecked t) (small : last < most_rounds)
   abbrev Global : Name → Type 0
   Global x = is_declared x.text t.globals ≡ true
 
-  copies_read : (k : ℕ) (xs : List Name) → k ≤ last → Each Global xs → Each (In first) (Rattle.scopes.specs.Statements.variables_of_sides (map (λ y. value (var (copy_name k y))) xs))
+  copies_read : (k : ℕ) (xs : List Name) → k ≤ last → Each Global xs → Each (In first) (Rattle.resolved.specs.Statements.variables_of_sides (map (λ y. value (var (copy_name k y))) xs))
   copies_read k [] le h = tt
   copies_read k (x ∷ xs) le h = (in_globals first (copy_name k x) (copies_there x h.0 k le), copies_read k xs le h.1)
 

@@ -1,18 +1,13 @@
 -- The rewriting theorem: some run within so many rounds fails exactly where some run of the rewritten
 -- program ends with `bad` being 1.
-use Rattle.std.specs.Prelude.{◌≡◌, ℕ, suc, true, ◌↔◌, codes}
+use Rattle.std.specs.Prelude.{ℕ, suc, ◌↔◌, codes}
 use Rattle.language.specs.Tree.{Tree}
-use Rattle.language.specs.Value.{bit}
 use Rattle.language.specs.Step.{Program}
 use Rattle.language.specs.Rounds.{Unsafe}
 use Rattle.language.specs.Resolve.{number_of, meaning_of}
-use Rattle.language.specs.Sequential.{Valuation, Exit, Pair, in_text_order, sequential_of}
+use Rattle.language.specs.Sequential.{SomeBad, in_text_order, sequential_of}
 use Rattle.round_rewrite.specs.Names.{rewritten_tree}
 use Rattle.round_rewrite.specs.Places.{rewritten_program, bad_at}
-
--- some pair of the first procedure has `bad`, where a sequential program keeps it in the global of this number
-abbrev pub SomeBad : Program → ℕ → Type 0
-SomeBad p bad = (a : Valuation) × (b : Exit) × Pair p 0 a b × (bit b.globals bad ≡ true)
 
 -- the program is unsafe within last + 1 rounds exactly where some pair of the rewritten one has `bad`
 abbrev pub Keeps : ℕ → Program → Type 0

@@ -2,13 +2,13 @@
 use Rattle.std.specs.Prelude.{◌≡◌, ◌≤◌, ◌+◌, ℕ, length, Bool, max, true, List, [], ◌∷◌, ◌++◌, map, codes}
 use Rattle.language.specs.Tree as tree
 use Rattle.language.specs.Tree.{const, var, any, value, skip, assign, leave, Mark, Block, done, one, choose, loop}
-use Rattle.syntax.specs.declared.tree.Stmt.{Stmt}
-use Rattle.syntax.specs.Trees.{Deed, simple, branch, repeat, Item, names_of, items_of, all_before}
+use Rattle.trees.specs.declared.tree.Stmt.{Stmt}
+use Rattle.trees.specs.Trees.{Deed, simple, branch, repeat, Item, names_of, items_of, all_before}
 use Rattle.language.specs.Rest.{join}
 use Rattle.round_rewrite.specs.declared.writer.Writer.{Writer}
 use Rattle.round_rewrite.specs.Table.{Naming, draws, temporaries, plain, side, prologue, statement, rewritten}
 use Rattle.round_rewrite.specs.Names.{named, names}
-use Rattle.round_rewrite.specs.Limits.{most_places}
+use Rattle.resolved.specs.Limits.{most_places}
 
 -- how the procedure's names are written
 abbrev pub naming_of : {N A : Type 0} → Writer N A → Naming tree.Name tree.Name tree.Name tree.Name

@@ -2,7 +2,7 @@
 
 ghost use Rattle.std.specs.Prelude.{◌≡◌, suc, ◌+◌, ◌<◌, ◌≤◌, ◌^◌, ◌++◌, IfOk, map, length};
 ghost use Rattle.language.specs.Tree.{any, var};
-ghost use Rattle.syntax.specs.Trees.{name_of, names_of, expr_of, rhs_of, rhss_of};
+ghost use Rattle.trees.specs.Trees.{name_of, names_of, expr_of, rhs_of, rhss_of};
 ghost use Rattle.round_rewrite.specs.Table.{numbers, draws, targets, sides, written, expression, each};
 ghost use Rattle.round_rewrite.specs.Names.{copy_name, drawn_name};
 
@@ -10,7 +10,7 @@ use crate::expression::temporary;
 use crate::names::{again, copy, drawn};
 use crate::writer::Writer;
 use std::alloc::{AllocError, Allocator};
-use syntax::{Expr, Name, Rhs};
+use trees::{Expr, Name, Rhs};
 
 /// The temporaries up to a number.
 #[tactic(auto, using(crate::proofs::Pushed::pushed))]

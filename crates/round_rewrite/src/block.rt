@@ -2,12 +2,12 @@
 
 ghost use Rattle.std.specs.Prelude.{◌≡◌, IfOk, option_map};
 ghost use Rattle.language.specs.Tree.{done};
-ghost use Rattle.syntax.specs.Trees.{name_of, deed_of, block_of, marked_before};
+ghost use Rattle.trees.specs.Trees.{name_of, deed_of, block_of, marked_before};
 ghost use Rattle.round_rewrite.specs.Writing.{Lays};
 ghost use Rattle.round_rewrite.specs.Table.{plain};
 
 use std::alloc::{AllocError, Allocator};
-use syntax::{Core, Name, Stmt};
+use trees::{Core, Name, Stmt};
 
 /// Puts a statement behind others.
 #[tactic(auto, using(crate::proofs::Laying::lays_pushed))]

@@ -2,7 +2,7 @@
 
 ghost use Rattle.std.specs.Prelude.{◌≡◌, true, [], ◌∷◌, ◌++◌, IfOk, reverse, codes};
 ghost use Rattle.language.specs.Tree.{const, any, var, negation, two, xor, value, assign, assume};
-ghost use Rattle.syntax.specs.Trees.{simple, repeat, names_of, expr_of, rhs_of, rhss_of, deed_of};
+ghost use Rattle.trees.specs.Trees.{simple, repeat, names_of, expr_of, rhs_of, rhss_of, deed_of};
 ghost use Rattle.round_rewrite.specs.Table.{in_round, rise, raised};
 ghost use Rattle.round_rewrite.specs.Names.{named};
 ghost use Rattle.round_rewrite.specs.Writing.{stop_testing, stopping, failing};
@@ -12,7 +12,7 @@ use crate::expression::{not, operation, variable};
 use crate::names::fixed;
 use crate::writer::Writer;
 use std::alloc::{AllocError, Allocator};
-use syntax::{Core, Expr, Name, Op, Rhs};
+use trees::{Core, Expr, Name, Op, Rhs};
 
 /// A constant as a right side.
 pub fn constant<A: Allocator>(bit: bool) -> Rhs<A>

@@ -3,7 +3,7 @@
 ghost use Rattle.std.specs.Prelude.{◌≡◌, ◌<◌, ◌^◌, IfOk, map};
 ghost use Rattle.language.specs.Resolve.{is_declared};
 ghost use Rattle.language.specs.Tree.{const, var, negation, two};
-ghost use Rattle.syntax.specs.Trees.{name_of, operator_of, expr_of, exprs_of, rhs_of};
+ghost use Rattle.trees.specs.Trees.{name_of, operator_of, expr_of, exprs_of, rhs_of};
 ghost use Rattle.round_rewrite.specs.Table.{literal, in_round, joined, read, expression, side, written};
 ghost use Rattle.round_rewrite.specs.Names.{named, copy_name, drawn_name};
 ghost use Rattle.round_rewrite.specs.Limits.{most_rounds};
@@ -11,7 +11,7 @@ ghost use Rattle.round_rewrite.specs.Limits.{most_rounds};
 use crate::names::{again, copy, drawn, fixed};
 use crate::writer::Writer;
 use std::alloc::{AllocError, Allocator};
-use syntax::{Expr, Name, Op, Rhs, declares};
+use trees::{Expr, Name, Op, Rhs, declares};
 
 /// A read of a name.
 pub fn read_of<A: Allocator>(x: Name<A>) -> Expr<A>

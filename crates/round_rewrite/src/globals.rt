@@ -1,7 +1,7 @@
 //! The globals of a rewritten program.
 
 ghost use Rattle.std.specs.Prelude.{◌≡◌, ◌++◌, suc, [], IfOk};
-ghost use Rattle.syntax.specs.Trees.{names_of};
+ghost use Rattle.trees.specs.Trees.{names_of};
 ghost use Rattle.round_rewrite.specs.Table.{numbers, copied, globals};
 ghost use Rattle.round_rewrite.specs.Names.{names, copy_name, save_name};
 
@@ -9,7 +9,7 @@ use crate::cores::push_name;
 use crate::lists::{copies, saves};
 use crate::rounds::Rounds;
 use std::alloc::{AllocError, Allocator};
-use syntax::Name;
+use trees::Name;
 
 /// Puts the copies of the globals for every round behind names.
 fn all_copies<N: Allocator, A: Allocator + Copy>(

@@ -18,32 +18,27 @@ mod needs;
 mod procedures;
 mod rewriting;
 mod rounds;
-mod sequential;
 mod statement;
 mod width;
 mod writer;
 
-ghost use Rattle.std.specs.Prelude.{◌≡◌, ℕ, ◌+◌, ◌<◌, ◌≤◌, Some, slice_get};
+ghost use Rattle.std.specs.Prelude.{◌≡◌, ℕ, ◌<◌};
 ghost use Rattle.language.specs.Tree.{Tree};
-ghost use Rattle.language.specs.Step.{Routine, Program};
-ghost use Rattle.language.specs.Messages.{ArgumentsFit};
-ghost use Rattle.language.specs.Sequential.{sequential_of};
+ghost use Rattle.language.specs.Step.{Program};
 ghost use Rattle.syntax.specs.Printed.{printed};
-ghost use Rattle.round_rewrite.specs.Complete.{IsComplete};
 ghost use Rattle.round_rewrite.specs.Law.{Keeps, KeepsTree};
 ghost use Rattle.round_rewrite.specs.Names.{rewritten_tree};
 ghost use Rattle.round_rewrite.specs.WorkedTexts as worked;
-ghost use Rattle.scopes.specs.Resolves.{Resolves};
 ghost use Rattle.scopes.specs.Rewritable.{IsRewritable};
-ghost use Rattle.round_rewrite.specs.Narrow.{AllNarrow, IsNarrow};
-ghost use Rattle.round_rewrite.specs.Scoped.{FitsScopes};
-ghost use Rattle.round_rewrite.specs.Limits.{most_places, most_rounds};
+ghost use Rattle.round_rewrite.specs.Narrow.{IsNarrow};
+ghost use Rattle.resolved.specs.Scoped.{FitsScopes};
+ghost use Rattle.round_rewrite.specs.Limits.{most_rounds};
 
 pub use fault::RewriteFault;
-pub use limits::{MOST_PLACES, MOST_ROUNDS};
+pub use limits::MOST_ROUNDS;
+pub use resolved::Sequential;
 pub use rewriting::rewrite;
 pub use rounds::Rounds;
-pub use sequential::Sequential;
 pub use width::{Wide, too_wide};
 
 /// The rewriting theorem, over the names that are printed: for 1 to 4 rounds (`last` + 1 of them), a tree
@@ -57,24 +52,6 @@ pub fn rewriting_keeps_failures()
 /// bound on widths.
 pub fn rewriting_keeps_failures_of_resolved_programs()
     ensures { (p : Program) (last : ℕ) → FitsScopes p → last < most_rounds → Keeps last p }
-{}
-
-/// What a tree that resolves means as a sequential program is complete: each variable has its place, each target its right
-/// side, each call a procedure with a place for each argument, and each `goto` a rest that begins at its label.
-pub fn resolving_trees_are_complete()
-    ensures { (t : Tree) → Resolves t → IsComplete (sequential_of t) }
-{}
-
-/// In a tree that resolves, as a sequential program, each call has a place for each argument.
-pub fn calls_of_resolving_trees_fit()
-    ensures { (t : Tree) → Resolves t → ArgumentsFit (sequential_of t) }
-{}
-
-/// In a tree whose procedures have at most 64 places each, as a sequential program, each valuation has at most 64 values.
-pub fn narrow_trees_have_narrow_valuations()
-    ensures { (t : Tree) → AllNarrow t → (q : ℕ) (routine : Routine)
-        → slice_get (sequential_of t).routines q ≡ Some routine
-        → (sequential_of t).globals + routine.places ≤ most_places }
 {}
 
 /// Three programs are rewritten to exactly these texts, byte for byte: one thread that does nothing, for one round; one that sets a

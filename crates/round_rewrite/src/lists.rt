@@ -2,7 +2,7 @@
 
 ghost use Rattle.std.specs.Prelude.{◌≡◌, ◌++◌, ◌<◌, suc, decimal, IfOk, map};
 ghost use Rattle.language.specs.Tree.{any, var, value};
-ghost use Rattle.syntax.specs.Trees.{names_of, rhss_of};
+ghost use Rattle.trees.specs.Trees.{names_of, rhss_of};
 ghost use Rattle.round_rewrite.specs.Table.{each};
 ghost use Rattle.round_rewrite.specs.Names.{named, copy_name, save_name};
 ghost use Rattle.round_rewrite.specs.Limits.{most_rounds};
@@ -10,7 +10,7 @@ ghost use Rattle.round_rewrite.specs.Limits.{most_rounds};
 use crate::expression::copy_of;
 use crate::names::{again, numbered};
 use std::alloc::{AllocError, Allocator};
-use syntax::{Name, Rhs};
+use trees::{Name, Rhs};
 
 /// Puts names once more behind others.
 pub fn all_again<N: Allocator, A: Allocator + Copy>(

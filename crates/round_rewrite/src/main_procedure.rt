@@ -2,7 +2,7 @@
 
 ghost use Rattle.std.specs.Prelude.{◌≡◌, ◌<◌, ◌+◌, suc, false, [], ◌∷◌, IfOk, codes};
 ghost use Rattle.language.specs.Tree.{equal, var, value, two, const, assign, assume, call};
-ghost use Rattle.syntax.specs.Trees.{simple, name_of, names_of, threads_of, deed_of, block_of};
+ghost use Rattle.trees.specs.Trees.{simple, name_of, names_of, threads_of, deed_of, block_of};
 ghost use Rattle.round_rewrite.specs.Table.{numbers, guess, guesses, starts, check, checks, main};
 ghost use Rattle.round_rewrite.specs.Names.{named, names, copy_name, save_name};
 ghost use Rattle.round_rewrite.specs.Writing.{Lays, line_names};
@@ -15,7 +15,7 @@ use crate::lists::{copies, guessed, reads, saves};
 use crate::names::{again, save};
 use crate::rounds::Rounds;
 use std::alloc::{AllocError, Allocator};
-use syntax::{Core, Name, Op, Rhs, Stmt, Thread};
+use trees::{Core, Name, Op, Rhs, Stmt, Thread};
 
 /// Puts the guess of the globals for one round, saved, behind others.
 fn guess<N: Allocator, A: Allocator + Copy>(

@@ -1,12 +1,12 @@
 //! The names of a rewritten program.
 
 ghost use Rattle.std.specs.Prelude.{◌≡◌, ◌<◌, ◌++◌, ◌^◌, suc, decimal, IfOk};
-ghost use Rattle.syntax.specs.Trees.{name_of};
+ghost use Rattle.trees.specs.Trees.{name_of};
 ghost use Rattle.round_rewrite.specs.Names.{named, copy_name, save_name, drawn_name};
 ghost use Rattle.round_rewrite.specs.Limits.{most_rounds};
 
 use std::alloc::{AllocError, Allocator};
-use syntax::Name;
+use trees::Name;
 
 /// A name that stands in no text.
 pub fn fixed<A: Allocator>(alloc: A, text: &str) -> Result<Name<A>, AllocError>

@@ -1,13 +1,13 @@
 //! How many temporaries a procedure needs.
 
 ghost use Rattle.std.specs.Prelude.{◌≡◌, max};
-ghost use Rattle.syntax.specs.Trees.{deed_of, block_of};
+ghost use Rattle.trees.specs.Trees.{deed_of, block_of};
 ghost use Rattle.round_rewrite.specs.Table.{temporaries};
 ghost use Rattle.round_rewrite.specs.Writing.{deed_needs};
 
 use crate::writer::Writer;
 use std::alloc::Allocator;
-use syntax::{Core, Stmt};
+use trees::{Core, Stmt};
 
 /// The larger of two numbers.
 fn larger(a: usize, b: usize) -> usize

@@ -2,10 +2,10 @@
 
 ghost use Rattle.std.specs.Prelude.{◌≡◌, ◌≤◌, ◌++◌, ◌∷◌, IfOk, map};
 ghost use Rattle.language.specs.Tree.{Procedure};
-ghost use Rattle.syntax.specs.Trees.{proc_of, procs_of, tree_of};
+ghost use Rattle.trees.specs.Trees.{proc_of, procs_of, tree_of};
 ghost use Rattle.round_rewrite.specs.Names.{main_procedure, rewritten_procedure};
 ghost use Rattle.round_rewrite.specs.Writing.{procedure_needs, AreFew};
-ghost use Rattle.round_rewrite.specs.Limits.{most_places};
+ghost use Rattle.resolved.specs.Limits.{most_places};
 
 use crate::assignment::temporaries;
 use crate::lists::all_again;
@@ -14,7 +14,7 @@ use crate::names::{again, fixed};
 use crate::rounds::Rounds;
 use crate::writer::Writer;
 use std::alloc::{AllocError, Allocator};
-use syntax::{Proc, Program};
+use trees::{Proc, Program};
 
 /// A procedure rewritten.
 fn procedure<N: Allocator, A: Allocator + Copy>(

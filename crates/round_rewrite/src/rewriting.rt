@@ -2,11 +2,12 @@
 
 ghost use Rattle.std.specs.Prelude.{◌≡◌, [], ◌∷◌, IfOk, IfErr, codes};
 ghost use Rattle.syntax.specs.InGrammar.{InGrammar};
-ghost use Rattle.syntax.specs.Trees.{threads_of, tree_of};
+ghost use Rattle.trees.specs.Trees.{threads_of, tree_of};
 ghost use Rattle.round_rewrite.specs.Law.{KeepsTree};
 ghost use Rattle.round_rewrite.specs.Names.{named, rewritten_tree};
 ghost use Rattle.round_rewrite.specs.Narrow.{IsNarrow};
-ghost use Rattle.round_rewrite.specs.Programs.{IsFaultOf, last_round, sequential_tree};
+ghost use Rattle.round_rewrite.specs.Programs.{IsFaultOf, last_round};
+ghost use Rattle.resolved.specs.Programs.{sequential_tree};
 ghost use Rattle.scopes.specs.Programs.{checked_tree};
 
 use crate::fault::RewriteFault;
@@ -14,11 +15,11 @@ use crate::globals::globals;
 use crate::names::fixed;
 use crate::procedures::procedures;
 use crate::rounds::Rounds;
-use crate::sequential::Sequential;
 use crate::width::is_narrow;
+use resolved::Sequential;
 use scopes::Checked;
 use std::alloc::{AllocError, Allocator};
-use syntax::{Program, Thread};
+use trees::{Program, Thread};
 
 /// The one thread line: that of the first procedure.
 fn threads<A: Allocator + Copy>(alloc: &A) -> Result<Vec<Thread<A>, A>, AllocError>

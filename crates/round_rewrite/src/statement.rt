@@ -2,7 +2,7 @@
 
 ghost use Rattle.std.specs.Prelude.{◌≡◌, ◌<◌, ◌^◌, IfOk, option_map};
 ghost use Rattle.language.specs.Tree.{goto, assert, assume, assign, call};
-ghost use Rattle.syntax.specs.Trees.{branch, repeat, name_of, names_of, rhs_of, rhss_of, exprs_of, items_of, deed_of, block_of};
+ghost use Rattle.trees.specs.Trees.{branch, repeat, name_of, names_of, rhs_of, rhss_of, exprs_of, items_of, deed_of, block_of};
 ghost use Rattle.round_rewrite.specs.Table.{drawing, prologue, statement};
 ghost use Rattle.round_rewrite.specs.Writing.{Lays, bare_form, forms};
 
@@ -12,7 +12,7 @@ use crate::cores::{checked, stop_choice, stop_test};
 use crate::names::again;
 use crate::writer::Writer;
 use std::alloc::{AllocError, Allocator};
-use syntax::{Core, Expr, Name, Rhs, Stmt};
+use trees::{Core, Expr, Name, Rhs, Stmt};
 
 impl<'a, N: Allocator, A: Allocator + Copy> Writer<'a, N, A> {
     ghost use Rattle.round_rewrite.specs.Writing.{naming_of};

@@ -2,18 +2,18 @@
 
 ghost use Rattle.std.specs.Prelude.{◌≡◌, ◌+◌, ◌≤◌, ◌↔◌, IsTrue, length};
 ghost use Rattle.scopes.specs.Programs.{checked_tree};
-ghost use Rattle.syntax.specs.Trees.{proc_of, tree_of};
+ghost use Rattle.trees.specs.Trees.{proc_of, tree_of};
 ghost use Rattle.round_rewrite.specs.Narrow.{IsFirstWide, IsNarrow};
 ghost use Rattle.round_rewrite.specs.Programs.{last_round};
 ghost use Rattle.round_rewrite.specs.Writing.{own_width};
 ghost use Rattle.round_rewrite.specs.Places.{global_count};
 
-use crate::limits::MOST_PLACES;
 use crate::rounds::Rounds;
 use crate::writer::Writer;
+use resolved::MOST_PLACES;
 use scopes::Checked;
 use std::alloc::Allocator;
-use syntax::{Proc, Program};
+use trees::{Proc, Program};
 
 /// A procedure that has too many places when it is rewritten.
 #[derive(Clone, Copy, Debug, PartialEq, Eq)]

@@ -2,7 +2,7 @@
 
 use crate::rounds::Rounds;
 use std::alloc::Allocator;
-use syntax::Name;
+use trees::Name;
 
 /// Writes what the statements of one procedure are rewritten to: where it allocates, for how many rounds, and the
 /// procedure's formals and locals, which may hide globals.

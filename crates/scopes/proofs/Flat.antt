@@ -2,11 +2,11 @@
 use Rattle.std.proofs.Common.{◌≡◌, ℕ, ◌+◌, ◌<◌, ◌≤◌, List, [], ◌∷◌, ◌++◌, length, map, drop, get_or, refl, sym, ◌∙◌, ap, append_assoc, append-nil}
 use Rattle.std.proofs.lemmas.List.{drop_more, drop_all}
 use Rattle.language.specs.Tree.{Name, Mark, Block}
-use Rattle.syntax.specs.Trees.{Deed, simple, branch, repeat, Item, item_of, marked_before, block_of, deed_of, proc_of, procs_of}
-use Rattle.syntax.specs.declared.tree.Proc.{Proc}
-use Rattle.syntax.specs.declared.tree.Stmt.{Stmt}
-use Rattle.scopes.specs.Statements.{Statement, statement_of, statements_of, statements_of_all, head_of, inside}
-use Rattle.syntax.proofs.Folds.{item_is}
+use Rattle.trees.specs.Trees.{Deed, simple, branch, repeat, Item, item_of, marked_before, block_of, deed_of, proc_of, procs_of}
+use Rattle.trees.specs.declared.tree.Proc.{Proc}
+use Rattle.trees.specs.declared.tree.Stmt.{Stmt}
+use Rattle.resolved.specs.Statements.{Statement, statement_of, statements_of, statements_of_all, head_of, inside}
+use Rattle.trees.proofs.Folds.{item_is}
 
 put : (m : Mark Name) (d : Deed) (k : Block Name Name Name) → statements_of (marked_before m d k) ≡ record { mark = m; head = head_of d } ∷ (inside d ++ statements_of k)
 put m (simple s) k = refl

@@ -1,9 +1,9 @@
 -- What a statement is as its form is known.
 use Rattle.std.proofs.Common.{◌≡◌, option_map, ◌∙◌, ap}
-use Rattle.syntax.specs.Trees.{name_of, Deed, Item, deed_of}
-use Rattle.syntax.specs.declared.tree.Stmt.{Stmt}
-use Rattle.syntax.proofs.Folds.{item_is}
-use Rattle.scopes.specs.Statements.{statement_of, head_of}
+use Rattle.trees.specs.Trees.{name_of, Deed, Item, deed_of}
+use Rattle.trees.specs.declared.tree.Stmt.{Stmt}
+use Rattle.trees.proofs.Folds.{item_is}
+use Rattle.resolved.specs.Statements.{statement_of, head_of}
 
 -- what a statement does, where its form is known
 pub head_is : {A : Type 0} (s : Stmt A) (d : Deed) → deed_of s.core ≡ d → (statement_of s).head ≡ head_of d

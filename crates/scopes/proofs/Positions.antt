@@ -4,7 +4,7 @@ use Rattle.std.specs.Prelude.{slice_get, option_map}
 use Rattle.std.proofs.lemmas.List.{length-map}
 use Rattle.std.proofs.lemmas.Option.{slice_get-map, slice_get_past, slice_get-get_or}
 use Rattle.scopes.specs.Find.{Finds}
-use Rattle.scopes.specs.Faults.{IsThere}
+use Rattle.resolved.specs.There.{IsThere}
 use Rattle.scopes.proofs.Found.{moved, nowhere, only}
 
 pub placed : {X Y : Type 0} (f : X → Y) (place : Y → ℕ) (xs : List X) (i : ℕ) (x : X) (m : ℕ) → i < length xs → x ≡ get_or xs i x → place (f x) ≡ m

@@ -3,10 +3,10 @@ use Rattle.std.proofs.Common.{◌≡◌, ℕ, ◌+◌, ◌<◌, ◌≤◌, List,
 use Rattle.std.proofs.lemmas.List.{map-append, drop_more, drop_all}
 use Rattle.language.specs.Tree.{Name, Procedure}
 use Rattle.language.specs.Rest.{same_text}
-use Rattle.syntax.specs.declared.tree.Proc.{Proc}
-use Rattle.syntax.specs.declared.tree.Stmt.{Stmt}
-use Rattle.syntax.specs.Trees.{name_of, proc_of, procs_of}
-use Rattle.scopes.specs.Statements.{lent_statements, label_of, labels_of}
+use Rattle.trees.specs.declared.tree.Proc.{Proc}
+use Rattle.trees.specs.declared.tree.Stmt.{Stmt}
+use Rattle.trees.specs.Trees.{name_of, proc_of, procs_of}
+use Rattle.resolved.specs.Statements.{lent_statements, label_of, labels_of}
 use Rattle.scopes.specs.Faults.{named}
 use Rattle.scopes.proofs.Heads.{label_is}
 use denote.Ref.{Bor}

@@ -6,10 +6,11 @@ use Rattle.language.specs.Rest.{Code, same_text, has_label, first_of_two, join, 
 use Rattle.language.specs.Step.{AtRest}
 use Rattle.language.specs.Resolve.{number_of, is_declared, Scope, scope_of, place_of, resolve_mark, resolve_side, resolve_block}
 use Rattle.language.proofs.Names.{number_less}
-use Rattle.scopes.specs.Statements.{Head, plain, tests, Statement, statements_of, used_by, label_of, labels_of}
-use Rattle.scopes.specs.Faults.{known, IsThere}
+use Rattle.resolved.specs.Statements.{Head, plain, tests, Statement, statements_of, used_by, label_of, labels_of}
+use Rattle.scopes.specs.Faults.{known}
+use Rattle.resolved.specs.There.{IsThere}
 use Rattle.scopes.specs.Checked.{IsChecked}
-use Rattle.scopes.specs.Resolves.{Each, IsPlaceIn, GoesSomewhere, Resolves}
+use Rattle.resolved.specs.Resolves.{Each, IsPlaceIn, GoesSomewhere, Resolves}
 use Rattle.scopes.proofs.Works.{each_of, in_either, named_is, Called, Labelled, Works, Starts, good, threads_start}
 
 placed : (t : Tree) (p : Procedure) (x : Name) → is_declared x.text (known t p) ≡ true → IsPlaceIn t p (place_of (scope_of t p) x)

@@ -6,13 +6,16 @@ use Rattle.language.specs.Tree.{Name, Expression, const, var, negation, two, Rig
 use Rattle.language.specs.Rest.{same_text}
 use Rattle.language.specs.Resolve.{number_of, is_declared, Scope, scope_of}
 use Rattle.scopes.specs.Find.{AnyOf}
-use Rattle.scopes.specs.Statements.{plain, Statement, statements_of, used_by, variables_of, variables_of_side, variables_of_sides, variables_of_all}
-use Rattle.scopes.specs.Faults.{named, names, known, IsThere, HasTwoUnderscores, IsReserved, Repeated}
+use Rattle.resolved.specs.Statements.{plain, Statement, statements_of, used_by, variables_of, variables_of_side, variables_of_sides, variables_of_all}
+use Rattle.scopes.specs.Faults.{named, known, HasTwoUnderscores, IsReserved, Repeated}
+use Rattle.resolved.specs.There.{names, IsThere}
 use Rattle.scopes.specs.declared.fault.ScopeFault.TheVariants as fault
 use Rattle.scopes.specs.Checked.{IsChecked}
-use Rattle.scopes.specs.Resolves.{Each}
-use Rattle.scopes.specs.Rewritable.{begins_low, has_double, AreFree, AreDistinct, Declared, AllDeclared, ExpressionDeclared, ExpressionsDeclared, SideDeclared, SidesDeclared, HasRoom, SimpleDeclared, BlockDeclared, ProcedureRewritable, EachProcedure, EachLine, IsRewritable}
-use Rattle.scopes.proofs.Works.{each_of, each_left, each_right, in_either, named_is, named_declared, Called, Works, IsGood, good, threads_start}
+use Rattle.resolved.specs.Resolves.{Each}
+use Rattle.scopes.specs.Rewritable.{begins_low, has_double, AreFree, AreDistinct, Declared, AllDeclared, ExpressionDeclared, ExpressionsDeclared, SideDeclared, SidesDeclared, HasRoom, SimpleDeclared, BlockDeclared, ProcedureRewritable, EachLine, IsRewritable}
+use Rattle.resolved.specs.Narrow.{EachProcedure}
+use Rattle.scopes.proofs.Works.{each_of, in_either, named_is, named_declared, Called, Works, IsGood, good, threads_start}
+use Rattle.resolved.proofs.Each.{each_left, each_right}
 
 low_first : (x : List ℕ) → begins_low x ≡ true → get_or x 0 0 ≡ 95
 low_first [] h = absurd (cc)

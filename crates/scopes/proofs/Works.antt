@@ -7,23 +7,16 @@ use Rattle.language.specs.Tree.{Name, skip, assign, assert, assume, goto, leave,
 use Rattle.language.specs.Rest.{same_text}
 use Rattle.language.specs.Resolve.{number_of, is_declared}
 use Rattle.scopes.specs.Find.{AnyOf}
-use Rattle.scopes.specs.Statements.{Head, plain, tests, Statement, statements_of, used_by, labels_of}
-use Rattle.scopes.specs.Faults.{named, names, IsThere, IsUnknown, known, CallsUnknown, IsUndeclaredIn, first_at, Miscounts, GoesNowhere, MislabelledIn, ReservedIn, CanStart}
+use Rattle.resolved.specs.Statements.{Head, plain, tests, Statement, statements_of, used_by, labels_of}
+use Rattle.scopes.specs.Faults.{named, IsUnknown, known, CallsUnknown, IsUndeclaredIn, first_at, Miscounts, GoesNowhere, MislabelledIn, ReservedIn, CanStart}
+use Rattle.resolved.specs.There.{names, IsThere}
 use Rattle.scopes.specs.declared.fault.ScopeFault.TheVariants as fault
 use Rattle.scopes.specs.Checked.{IsChecked}
-use Rattle.scopes.specs.Resolves.{Each, HasAllSides}
+use Rattle.resolved.specs.Resolves.{Each, HasAllSides}
 
 pub each_of : {X : Type 0} {P Q : X → Type 0} (xs : List X) → ((x : X) → P x → Q x) → Each P xs → Each Q xs
 each_of [] f h = tt
 each_of (x ∷ xs) f h = (f x h.0, each_of xs f h.1)
-
-pub each_left : {X : Type 0} (P : X → Type 0) (xs ys : List X) → Each P (xs ++ ys) → Each P xs
-each_left P [] ys h = tt
-each_left P (x ∷ xs) ys h = (h.0, each_left P xs ys h.1)
-
-pub each_right : {X : Type 0} (P : X → Type 0) (xs ys : List X) → Each P (xs ++ ys) → Each P ys
-each_right P [] ys h = h
-each_right P (x ∷ xs) ys h = each_right P xs ys h.1
 
 -- what stands at no offset in a list stands at none in its members
 pub nowhere_in : {X : Type 0} (P : X → ℕ → Type 0) (xs : List X) → ((n : ℕ) → AnyOf (λ x. P x n) xs → ⊥) → Each (λ x. (n : ℕ) → P x n → ⊥) xs

@@ -1,20 +1,16 @@
 -- Where the faults of scopes stand: each is a property of a tree and an offset.
-use Rattle.std.specs.Prelude.{◌≡◌, ◌≢◌, ℕ, List, [], ◌∷◌, ◌++◌, Bool, true, false, Option, Some, None, length, map, cond, slice_get, slice_index, ◌==◌, ◌⊎◌, ◌+◌}
+use Rattle.std.specs.Prelude.{◌≡◌, ◌≢◌, ℕ, List, [], ◌∷◌, ◌++◌, Bool, true, false, Option, Some, None, length, cond, slice_get, slice_index, ◌==◌, ◌⊎◌, ◌+◌}
 use Rattle.language.specs.Tree.{Name, assign, goto, call, Procedure, ThreadLine, Tree}
 use Rattle.language.specs.Rest.{same_text}
 use Rattle.language.specs.Resolve.{is_declared}
 use Rattle.scopes.specs.Find.{AnyOf}
-use Rattle.scopes.specs.Statements.{Head, plain, Statement, statements_of, statements_of_all, used_by, labels_of}
+use Rattle.resolved.specs.There.{IsThere, names}
+use Rattle.resolved.specs.Statements.{Head, plain, Statement, statements_of, statements_of_all, used_by, labels_of}
 
 -- the first procedure of this name, where there is one
 abbrev pub named : List ℕ → List Procedure → Option Procedure
 named text [] = None
 named text (p ∷ ps) = cond (same_text text p.name.text) (Some p) (named text ps)
-
--- the procedure is there, and it has the property
-abbrev pub IsThere : {X : Type 0} → Option X → (X → Type 0) → Type 0
-IsThere None P = ⊥
-IsThere (Some p) P = P p
 
 -- a name stands at n, and none of the lists declares it
 abbrev pub IsUnknown : List Name → ℕ → Name → Type 0
@@ -49,10 +45,6 @@ Undeclared t n = AnyOf (λ p. UndeclaredInProcedure t p n) t.procedures
 abbrev pub Repeated : List Name → ℕ → Type 0
 Repeated [] n = ⊥
 Repeated (x ∷ xs) n = AnyOf (λ (y : Name). (y.at ≡ n) × (same_text x.text y.text ≡ true)) xs ⊎ Repeated xs n
-
--- the names of procedures
-abbrev pub names : List Procedure → List Name
-names ps = map (λ (p : Procedure). p.name) ps
 
 -- the targets of an assignment
 abbrev pub targets_of : Head → List Name

@@ -1,7 +1,7 @@
 -- What callers see of a checked program.
 use Rattle.language.specs.Tree.{Tree}
-use Rattle.syntax.specs.declared.tree.Program.{Program}
-use Rattle.syntax.specs.Trees.{tree_of}
+use Rattle.trees.specs.declared.tree.Program.{Program}
+use Rattle.trees.specs.Trees.{tree_of}
 use Rattle.scopes.specs.declared.checked.Checked.{Checked}
 
 -- the program that was checked

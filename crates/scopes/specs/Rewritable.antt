@@ -1,6 +1,7 @@
 -- What the rewriting theorem over names asks of a text's tree. A program without scope faults has it.
 use Rattle.std.specs.Prelude.{◌≡◌, ℕ, ◌≤◌, Bool, true, false, List, [], ◌∷◌, ◌++◌, ◌&&◌, ◌||◌, Option, Some, None, length, map, nat_eq, slice_get}
 use Rattle.language.specs.Tree.{Name, Expression, const, var, negation, two, RightSide, any, value, Simple, skip, assign, assert, assume, goto, leave, call, Block, done, one, choose, loop, Procedure, ThreadLine, Tree}
+use Rattle.resolved.specs.Narrow.{EachProcedure}
 use Rattle.language.specs.Resolve.{is_declared, number_of, Scope, scope_of}
 
 -- the text begins with an underscore
@@ -83,11 +84,6 @@ pub record ProcedureRewritable (t : Tree) (p : Procedure) : Type 0 where
   pub name : has_double p.name.text ≡ false
   pub own : AreFree (p.formals ++ p.locals)
   pub body : BlockDeclared t (scope_of t p) p.body
-
--- each procedure has the property
-abbrev pub EachProcedure : (Procedure → Type 0) → List Procedure → Type 0
-EachProcedure P [] = Unit {0}
-EachProcedure P (p ∷ ps) = P p × EachProcedure P ps
 
 -- each thread line names one of these procedures
 abbrev pub EachLine : List Name → List ThreadLine → Type 0

@@ -1,10 +1,10 @@
 //! Checked programs.
 
-ghost use Rattle.syntax.specs.Trees.{tree_of};
+ghost use Rattle.trees.specs.Trees.{tree_of};
 ghost use Rattle.scopes.specs.Checked.{IsChecked};
 
 use std::alloc::Allocator;
-use syntax::Program;
+use trees::Program;
 
 /// A program in which no fault of scopes stands.
 #[derive(Drop)]

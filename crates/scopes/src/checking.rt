@@ -1,7 +1,7 @@
 //! The check of scopes as a whole.
 
 ghost use Rattle.std.specs.Prelude.{◌≡◌, ◌⊎◌, IfOk, IfErr};
-ghost use Rattle.syntax.specs.Trees.{tree_of};
+ghost use Rattle.trees.specs.Trees.{tree_of};
 ghost use Rattle.scopes.specs.Checked.{IsChecked, IsFirstFault, FaultStands};
 ghost use Rattle.scopes.specs.declared.fault.ScopeFault.TheVariants.{Memory};
 ghost use Rattle.scopes.specs.First.{FindsFirst};
@@ -18,7 +18,7 @@ use crate::threads::first_bad_thread;
 use crate::twice::first_twice;
 use crate::undeclared::first_undeclared;
 use std::alloc::{AllocError, Allocator};
-use syntax::Program;
+use trees::Program;
 
 /// The fault that is answered of those that stand in a program.
 pub fn first_fault<A: Allocator + Copy>(

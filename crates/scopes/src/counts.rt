@@ -1,16 +1,16 @@
 //! Assignments and calls whose two sides differ in number.
 
 ghost use Rattle.std.specs.Prelude.{◌≡◌, ◌≢◌, IfOk, length};
-ghost use Rattle.syntax.specs.Trees.{names_of, proc_of, procs_of, tree_of};
+ghost use Rattle.trees.specs.Trees.{names_of, proc_of, procs_of, tree_of};
 ghost use Rattle.scopes.specs.Find.{Finds};
-ghost use Rattle.scopes.specs.Statements.{statement_of};
+ghost use Rattle.resolved.specs.Statements.{statement_of};
 ghost use Rattle.scopes.specs.Faults.{first_at, Miscounts, MiscountsIn, WrongCount};
 
 use crate::search::{earliest, try_earliest};
 use crate::statements::statements;
 use crate::undeclared::find;
 use std::alloc::{AllocError, Allocator};
-use syntax::{Core, Name, Proc, Program, Stmt};
+use trees::{Core, Name, Proc, Program, Stmt};
 
 /// Where the targets of a statement begin; where there are none, where the statement does.
 pub fn start<A: Allocator>(stmt: &Stmt<A>, targets: &[Name<A>]) -> u32

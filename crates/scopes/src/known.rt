@@ -3,9 +3,9 @@
 ghost use Rattle.std.specs.Prelude.{◌≡◌, IfOk, true, List, [], ◌∷◌, ◌++◌};
 ghost use Rattle.language.specs.Tree as tree;
 ghost use Rattle.language.specs.Resolve.{is_declared};
-ghost use Rattle.syntax.specs.Trees.{name_of};
+ghost use Rattle.trees.specs.Trees.{name_of};
 ghost use Rattle.scopes.specs.Find.{Finds};
-ghost use Rattle.scopes.specs.Statements.{lent};
+ghost use Rattle.resolved.specs.Statements.{lent};
 ghost use Rattle.scopes.specs.Faults.{IsUnknown, Repeated};
 ghost use Rattle.scopes.specs.Known.{AreTexts};
 
@@ -13,7 +13,7 @@ use crate::names::earlier;
 use indexmap::IndexSet;
 use std::alloc::{AllocError, Allocator};
 use std::hash::{BuildHasherDefault, FoldHasher};
-use syntax::Name;
+use trees::Name;
 
 /// Texts in the order in which they are first seen.
 type Texts<'a, A> = IndexSet<&'a str, BuildHasherDefault<FoldHasher>, A>;

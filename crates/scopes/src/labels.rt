@@ -1,9 +1,9 @@
 //! Labels: `goto` without one, and labels that are defined twice.
 
 ghost use Rattle.std.specs.Prelude.{◌≡◌, ◌++◌, ◌⊎◌, IfOk};
-ghost use Rattle.syntax.specs.Trees.{proc_of, tree_of};
+ghost use Rattle.trees.specs.Trees.{proc_of, tree_of};
 ghost use Rattle.scopes.specs.Find.{Finds};
-ghost use Rattle.scopes.specs.Statements.{lent, lent_statements, statement_of, labels_of};
+ghost use Rattle.resolved.specs.Statements.{lent, lent_statements, statement_of, labels_of};
 ghost use Rattle.scopes.specs.Faults.{GoesNowhere, MislabelledIn, BadLabel};
 
 use crate::known::{Known, repeated};
@@ -11,7 +11,7 @@ use crate::names::earlier;
 use crate::search::{earliest, try_earliest};
 use crate::statements::statements;
 use std::alloc::{AllocError, Allocator};
-use syntax::{Core, Name, Proc, Program, Stmt};
+use trees::{Core, Name, Proc, Program, Stmt};
 
 /// References to the labels that statements define, in order.
 pub fn labels<'a, A: Allocator + Copy>(

@@ -2,7 +2,7 @@
 
 ghost use Rattle.language.specs.Tree.{Tree};
 ghost use Rattle.scopes.specs.Checked.{IsChecked};
-ghost use Rattle.scopes.specs.Resolves.{Resolves};
+ghost use Rattle.resolved.specs.Resolves.{Resolves};
 ghost use Rattle.scopes.specs.Rewritable.{IsRewritable};
 
 /// Resolving never fails on a checked tree: each variable has a place among the globals or the formals and locals of

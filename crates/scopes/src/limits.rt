@@ -1,15 +1,16 @@
 //! More procedures, thread lines or statements than there may be.
 
 ghost use Rattle.std.specs.Prelude.{◌≡◌, ◌++◌, IfOk, slice_get};
-ghost use Rattle.syntax.specs.Trees.{procs_of, threads_of, tree_of};
+ghost use Rattle.trees.specs.Trees.{procs_of, threads_of, tree_of};
 ghost use Rattle.scopes.specs.Find.{Finds};
-ghost use Rattle.scopes.specs.Statements.{lent_statements, statements_of_all};
-ghost use Rattle.scopes.specs.Faults.{IsThere, TooMany};
+ghost use Rattle.resolved.specs.Statements.{lent_statements, statements_of_all};
+ghost use Rattle.resolved.specs.There.{IsThere};
+ghost use Rattle.scopes.specs.Faults.{TooMany};
 
 use crate::names::earlier;
 use crate::statements::flatten;
 use std::alloc::{AllocError, Allocator};
-use syntax::{Proc, Program, Stmt, Thread};
+use trees::{Proc, Program, Stmt, Thread};
 
 /// The most procedures that a program has.
 const PROCEDURES: usize = 31;

@@ -2,14 +2,14 @@
 
 ghost use Rattle.std.specs.Prelude.{◌≡◌, ◌++◌, IfOk, IsTrue, ◌↔◌};
 ghost use Rattle.language.specs.Rest.{same_text};
-ghost use Rattle.syntax.specs.Trees.{name_of, names_of, proc_of};
+ghost use Rattle.trees.specs.Trees.{name_of, names_of, proc_of};
 ghost use Rattle.scopes.specs.Find.{Finds, earlier_of};
-ghost use Rattle.scopes.specs.Statements.{lent};
+ghost use Rattle.resolved.specs.Statements.{lent};
 ghost use Rattle.scopes.specs.Faults.{IsReserved, HasTwoUnderscores};
 
 use crate::search::earliest;
 use std::alloc::{AllocError, Allocator};
-use syntax::{Name, Proc};
+use trees::{Name, Proc};
 
 /// The lesser of two offsets that may be there.
 #[tactic(auto, using(crate::proofs::Found::lesser_steps))]

@@ -1,7 +1,7 @@
 //! Declared names with two underscores in a row, which are kept for the rewriting.
 
 ghost use Rattle.std.specs.Prelude.{◌≡◌, IfOk};
-ghost use Rattle.syntax.specs.Trees.{proc_of, procs_of, tree_of};
+ghost use Rattle.trees.specs.Trees.{proc_of, procs_of, tree_of};
 ghost use Rattle.scopes.specs.Find.{Finds};
 ghost use Rattle.scopes.specs.Faults.{ReservedIn, Reserved};
 
@@ -11,7 +11,7 @@ use crate::search::try_earliest;
 use crate::statements::statements;
 use crate::twice::proc_names;
 use std::alloc::{AllocError, Allocator};
-use syntax::{Proc, Program};
+use trees::{Proc, Program};
 
 /// The least offset of a formal, a local or a label of a procedure with two underscores in a row.
 pub fn reserved_in<A: Allocator + Copy>(

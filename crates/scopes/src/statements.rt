@@ -1,11 +1,11 @@
 //! The statements of a block as one list.
 
 ghost use Rattle.std.specs.Prelude.{◌≡◌, ◌++◌, ◌∷◌, IfOk};
-ghost use Rattle.syntax.specs.Trees.{block_of, deed_of, proc_of};
-ghost use Rattle.scopes.specs.Statements.{lent_statements, statement_of, statements_of, inside};
+ghost use Rattle.trees.specs.Trees.{block_of, deed_of, proc_of};
+ghost use Rattle.resolved.specs.Statements.{lent_statements, statement_of, statements_of, inside};
 
 use std::alloc::{AllocError, Allocator};
-use syntax::{Core, Proc, Stmt};
+use trees::{Core, Proc, Stmt};
 
 /// References to the statements of a procedure, in the order of the text.
 pub fn statements<'a, A: Allocator + Copy>(

@@ -1,14 +1,14 @@
 //! Thread lines that name no procedure, or one with formals.
 
 ghost use Rattle.std.specs.Prelude.{◌≡◌};
-ghost use Rattle.syntax.specs.Trees.{proc_of, procs_of, thread_of, tree_of};
+ghost use Rattle.trees.specs.Trees.{proc_of, procs_of, thread_of, tree_of};
 ghost use Rattle.scopes.specs.Find.{Finds};
 ghost use Rattle.scopes.specs.Faults.{no_formals, StartsNowhere, BadThread};
 
 use crate::search::earliest;
 use crate::undeclared::find;
 use std::alloc::Allocator;
-use syntax::{Proc, Program, Thread};
+use trees::{Proc, Program, Thread};
 
 /// Whether a thread can start in this procedure: it has no formals.
 pub fn takes_nothing<A: Allocator>(proc: &Proc<A>) -> bool

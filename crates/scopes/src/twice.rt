@@ -1,17 +1,18 @@
 //! Names that come twice.
 
 ghost use Rattle.std.specs.Prelude.{◌≡◌, ◌++◌, IfOk};
-ghost use Rattle.syntax.specs.Trees.{proc_of, procs_of, tree_of};
+ghost use Rattle.trees.specs.Trees.{proc_of, procs_of, tree_of};
 ghost use Rattle.scopes.specs.Find.{Finds};
-ghost use Rattle.scopes.specs.Statements.{lent, statement_of};
-ghost use Rattle.scopes.specs.Faults.{Repeated, names, targets_of, IsTwiceIn, DeclaredTwice};
+ghost use Rattle.resolved.specs.Statements.{lent, statement_of};
+ghost use Rattle.scopes.specs.Faults.{Repeated, targets_of, IsTwiceIn, DeclaredTwice};
+ghost use Rattle.resolved.specs.There.{names};
 
 use crate::known::repeated;
 use crate::names::{earlier, lend, own_names};
 use crate::search::try_earliest;
 use crate::statements::statements;
 use std::alloc::{AllocError, Allocator};
-use syntax::{Core, Name, Proc, Program, Stmt};
+use trees::{Core, Name, Proc, Program, Stmt};
 
 /// References to the names of procedures, in order.
 pub fn proc_names<'a, A: Allocator + Copy>(

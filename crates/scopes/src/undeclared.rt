@@ -1,18 +1,17 @@
 //! Variables and called procedures without a declaration.
 
 ghost use Rattle.std.specs.Prelude.{◌≡◌, None, option_map, IfOk};
-ghost use Rattle.syntax.specs.Trees.{name_of, expr_of, rhs_of, proc_of, procs_of, tree_of};
+ghost use Rattle.trees.specs.Trees.{name_of, expr_of, rhs_of, proc_of, procs_of, tree_of};
 ghost use Rattle.scopes.specs.Find.{Finds};
-ghost use Rattle.scopes.specs.Statements.{lent, statement_of, used_by, variables_of, variables_of_side};
-ghost use Rattle.scopes.specs.Faults.{named, AnyUnknown, CallsUnknown, IsUndeclaredIn};
-ghost use Rattle.scopes.specs.Faults.{UndeclaredInProcedure, Undeclared};
+ghost use Rattle.resolved.specs.Statements.{lent, statement_of, used_by, variables_of, variables_of_side};
+ghost use Rattle.scopes.specs.Faults.{named, AnyUnknown, CallsUnknown, IsUndeclaredIn, UndeclaredInProcedure, Undeclared};
 
 use crate::known::Known;
 use crate::names::{earlier, is_same, lend, own_names};
 use crate::search::{earliest, try_earliest};
 use crate::statements::statements;
 use std::alloc::{AllocError, Allocator};
-use syntax::{Core, Expr, Name, Proc, Program, Rhs, Stmt};
+use trees::{Core, Expr, Name, Proc, Program, Rhs, Stmt};
 
 /// The first procedure that is named as `x` is written.
 pub fn find<'a, A: Allocator>(procs: &'a [Proc<A>], x: &Name<A>) -> Option<&'a Proc<A>>

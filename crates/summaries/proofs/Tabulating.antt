@@ -2,12 +2,11 @@
 use Rattle.std.proofs.Common.{◌≡◌, ◌<◌, ◌↔◌, ℕ, nat_eq, zero, suc, true, List, [], ◌∷◌, Option, Some, None, map, slice_get, length, inl, inr, refl, sym, subst, arith}
 use Rattle.std.proofs.lemmas.Option.{none-some, slice_get_within, same_Some}
 use Rattle.language.specs.Step.{Program}
-use Rattle.language.specs.Sequential.{Caller, starter, caller, Valuation, IsDue, Entered}
+use Rattle.language.specs.Sequential.{Caller, starter, caller, Valuation, IsDue, Entered, SomeBad}
 use Rattle.language.specs.Flow.{Member}
 use Rattle.language.proofs.Entering.{entered_there}
 use Rattle.language.proofs.Gathered.{pair_exit}
 use Rattle.path_sets.specs.Triples.{Triple, triple}
-use Rattle.round_rewrite.specs.Law.{SomeBad}
 use Rattle.flow_graph.specs.Bits.{bit_of}
 use Rattle.flow_graph.specs.Numbers.{NumberedMessage, numbered_entry, GraphReaches, Sends}
 use Rattle.flow_graph.specs.Numbers.{Leaves, IsNumberOf, IsNumberOfEntry, AreNumbersOfEdge, AreNumbersOfPair}

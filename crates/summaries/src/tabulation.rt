@@ -2,7 +2,7 @@
 
 ghost use Rattle.std.specs.Prelude.{◌≡◌, ◌↔◌, ℕ, length, map, IfOk, IfErr, OnOk, Err, ◌⊎◌};
 ghost use Rattle.language.specs.Step.{Program};
-ghost use Rattle.round_rewrite.specs.Law.{SomeBad};
+ghost use Rattle.language.specs.Sequential.{SomeBad};
 ghost use Rattle.flow_graph.specs.Drawn.{bad_of, graphs_of};
 ghost use Rattle.flow_graph.specs.Graphs.{AreDrawnFrom};
 ghost use Rattle.summaries.specs.Tables.{graph_of, IsTable, Takes};

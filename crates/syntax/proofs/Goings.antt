@@ -7,9 +7,8 @@ use Rattle.tokens.specs.declared.vocabulary.Kind.TheVariants as kind
 use Rattle.tokens.specs.declared.vocabulary.Token.{Token}
 use Rattle.tokens.specs.Token.{Tok, toks_of}
 use Rattle.syntax.specs.Parser.{Parser, give, ◌>>=◌, take}
-use Rattle.syntax.specs.Trees.{Deed, branch, repeat, Item, before, all_before}
-use Rattle.syntax.specs.Exact.{item_step, rest_step, starts_here, section, section_behind, item, going_on}
-use Rattle.syntax.specs.Exact.{put_before, condition, deed_by, deed, if_deed, while_deed}
+use Rattle.trees.specs.Trees.{Deed, branch, repeat, Item, before, all_before}
+use Rattle.syntax.specs.Exact.{item_step, rest_step, starts_here, section, section_behind, item, going_on, put_before, condition, deed_by, deed, if_deed, while_deed}
 use Rattle.syntax.proofs.Fixes.{bind_is}
 use Rattle.syntax.proofs.Sections.{section_is}
 

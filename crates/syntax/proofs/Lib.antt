@@ -1,9 +1,6 @@
 pub mod Fixes
 pub mod KindTests
 pub mod Expressions
-pub mod Folds
-pub mod Held
-mod Counting
 pub mod Exactly
 pub mod Parts
 pub mod Sections
@@ -26,4 +23,3 @@ pub mod PrintsBackPrograms
 pub mod PrintsApart
 pub mod TextsInGrammar
 pub mod ReadsBack
-pub mod Plain

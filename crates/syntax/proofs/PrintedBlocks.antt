@@ -4,9 +4,9 @@ use Rattle.std.proofs.lemmas.List.{drop_more, drop_all}
 use Rattle.language.specs.Tree.{Name, Mark, Block}
 use Rattle.tokens.specs.Parts.{text_of}
 use Rattle.tokens.proofs.PartsCut.{text_of-append}
-use Rattle.syntax.specs.declared.tree.Stmt.{Stmt}
-use Rattle.syntax.specs.Trees.{name_of, Deed, simple, branch, repeat, Item, deed_of, marked_before, before, block_of}
-use Rattle.syntax.proofs.Folds.{item_is}
+use Rattle.trees.specs.declared.tree.Stmt.{Stmt}
+use Rattle.trees.specs.Trees.{name_of, Deed, simple, branch, repeat, Item, deed_of, marked_before, before, block_of}
+use Rattle.trees.proofs.Folds.{item_is}
 use Rattle.syntax.specs.Printed.{label_parts, margin, block_parts}
 use Rattle.syntax.specs.PrintedDeed.{deed_parts}
 

@@ -6,16 +6,16 @@ use Rattle.language.specs.Tree as tree
 use Rattle.language.specs.Tree.{Expression, RightSide, Simple, assign, assert, assume, call, Block}
 use Rattle.tokens.specs.Parts.{text_of}
 use Rattle.tokens.proofs.PartsCut.{text_of-append}
-use Rattle.syntax.specs.declared.tree.Name.{Name}
-use Rattle.syntax.specs.declared.tree.Expr.{Expr}
-use Rattle.syntax.specs.declared.tree.Rhs.{Rhs}
-use Rattle.syntax.specs.declared.tree.Stmt.{Stmt}
-use Rattle.syntax.specs.declared.tree.Core.{Core}
-use Rattle.syntax.specs.declared.tree.Core.TheVariants as core
-use Rattle.syntax.specs.Trees.{name_of, names_of, exprs_of, rhs_of, rhss_of, Deed, simple, branch, repeat, deed_of, block_of}
+use Rattle.trees.specs.declared.tree.Name.{Name}
+use Rattle.trees.specs.declared.tree.Expr.{Expr}
+use Rattle.trees.specs.declared.tree.Rhs.{Rhs}
+use Rattle.trees.specs.declared.tree.Stmt.{Stmt}
+use Rattle.trees.specs.declared.tree.Core.{Core}
+use Rattle.trees.specs.declared.tree.Core.TheVariants as core
+use Rattle.trees.specs.Trees.{name_of, names_of, exprs_of, rhs_of, rhss_of, Deed, simple, branch, repeat, deed_of, block_of}
 use Rattle.syntax.specs.Printed.{name_parts, separated, expression_parts, side_parts, margin, block_parts}
 use Rattle.syntax.specs.PrintedDeed.{deed_parts}
-use Rattle.syntax.proofs.Folds.{deed_of-Assign, deed_of-Assert, deed_of-Assume, deed_of-Call, deed_of-If, deed_of-While}
+use Rattle.trees.proofs.Folds.{deed_of-Assign, deed_of-Assert, deed_of-Assume, deed_of-Call, deed_of-If, deed_of-While}
 use Rattle.syntax.proofs.Appended.{four_behind, five_behind}
 use Rattle.syntax.proofs.Prints.{pushed_last, put_last}
 

@@ -5,11 +5,11 @@ use Rattle.std.proofs.lemmas.List.{drop_more}
 use Rattle.language.specs.Tree as tree
 use Rattle.tokens.specs.Parts.{Part, text_of}
 use Rattle.tokens.proofs.PartsCut.{text_of-append}
-use Rattle.syntax.specs.declared.tree.Name.{Name}
-use Rattle.syntax.specs.declared.tree.Proc.{Proc}
-use Rattle.syntax.specs.declared.tree.Program.{Program}
+use Rattle.trees.specs.declared.tree.Name.{Name}
+use Rattle.trees.specs.declared.tree.Proc.{Proc}
+use Rattle.trees.specs.declared.tree.Program.{Program}
 use Rattle.syntax.specs.Grammar.{joined}
-use Rattle.syntax.specs.Trees.{name_of, names_of, proc_of, procs_of, threads_of, tree_of, block_of}
+use Rattle.trees.specs.Trees.{name_of, names_of, proc_of, procs_of, threads_of, tree_of, block_of}
 use Rattle.syntax.specs.Printed.{name_parts, separated, margin, block_parts, declaration_parts, procedure_parts, thread_parts, printed}
 use Rattle.syntax.proofs.Appended.{four_behind, seven_behind}
 use Rattle.syntax.proofs.Prints.{pushed_last}

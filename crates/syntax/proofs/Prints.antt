@@ -7,11 +7,11 @@ use Rattle.language.specs.Tree.{Name, Operator, Expression, two}
 use Rattle.tokens.specs.declared.vocabulary.Kind.TheVariants as kind
 use Rattle.tokens.specs.Parts.{Part, space, fixed, text_of}
 use Rattle.tokens.proofs.PartsCut.{text_of-append}
-use Rattle.syntax.specs.declared.tree.Op.{Op}
-use Rattle.syntax.specs.declared.tree.Expr.{Expr}
-use Rattle.syntax.specs.declared.tree.Expr.TheVariants.{Two}
-use Rattle.syntax.specs.Trees.{operator_of, expr_of}
-use Rattle.syntax.proofs.Folds.{expr_of-Two}
+use Rattle.trees.specs.declared.tree.Op.{Op}
+use Rattle.trees.specs.declared.tree.Expr.{Expr}
+use Rattle.trees.specs.declared.tree.Expr.TheVariants.{Two}
+use Rattle.trees.specs.Trees.{operator_of, expr_of}
+use Rattle.trees.proofs.Folds.{expr_of-Two}
 use Rattle.syntax.proofs.Appended.{five_behind}
 use Rattle.syntax.specs.Printed.{kind_of, operation, operand_parts, expression_parts, separated, after_commas}
 

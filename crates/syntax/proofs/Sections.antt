@@ -5,11 +5,9 @@ use Rattle.tokens.specs.declared.vocabulary.Kind.TheVariants as kind
 use Rattle.tokens.specs.Token.{Tok, same_kind}
 use Rattle.syntax.specs.Parser.{Parser, Strict, give, refuse, ◌>>=◌, begins, take}
 use Rattle.syntax.specs.Grammar.{name_at}
-use Rattle.syntax.specs.Trees.{Deed, simple, branch, repeat, before}
+use Rattle.trees.specs.Trees.{Deed, simple, branch, repeat, before}
 use Rattle.syntax.specs.Exact.{condition, marked, assignment, calling, named, branching, repeating, deed_by, deed_step, starts_here, item_step, rest_step, section_step, section}
-use Rattle.syntax.proofs.Fixes.{both, Shrinks, Agree, Strict-Shrinks, Shrinks-give, Shrinks-refuse}
-use Rattle.syntax.proofs.Fixes.{Strict-take, Shrinks-bind, Strict-bind, Shrinks-Strict-bind, Agree-same}
-use Rattle.syntax.proofs.Fixes.{Agree-bind, Agree-Strict-bind, Shrinks-cond, IsStep, fix_shrinks, fix_is}
+use Rattle.syntax.proofs.Fixes.{both, Shrinks, Agree, Strict-Shrinks, Shrinks-give, Shrinks-refuse, Strict-take, Shrinks-bind, Strict-bind, Shrinks-Strict-bind, Agree-same, Agree-bind, Agree-Strict-bind, Shrinks-cond, IsStep, fix_shrinks, fix_is}
 use Rattle.syntax.proofs.Exactly.{chosen}
 use Rattle.syntax.proofs.Parts.{strict_name, strict_names, strict_rights, strict_arguments, strict_test}
 

@@ -5,7 +5,7 @@ use Rattle.tokens.specs.declared.vocabulary.Kind.TheVariants as kind
 use Rattle.tokens.specs.Token.{Tok, same_kind}
 use Rattle.syntax.specs.Parser.{Parser, give, refuse, ◌>>=◌, begins, take}
 use Rattle.syntax.specs.Grammar.{takes, name_at, IsMarked, bare, labelled, IsSimple, is_skip, is_return, is_goto, is_assert, is_assume, is_assign, is_call, IsSome, Statements, nothing_more, statement, if_statement, while_statement}
-use Rattle.syntax.specs.Trees.{Deed, simple, branch, repeat, Item, before, marked_before}
+use Rattle.trees.specs.Trees.{Deed, simple, branch, repeat, Item, before, marked_before}
 use Rattle.syntax.specs.Exact.{name, names, rights, arguments, condition, marked, assignment, calling, named, branching, repeating, deed_by, deed_step, starts_here, item_step, rest_step, section_step, section}
 use Rattle.syntax.proofs.KindTests.{same_kind-true}
 use Rattle.syntax.proofs.Fixes.{carried, between, Finds, fix_finds}

@@ -8,11 +8,11 @@ use Rattle.tokens.specs.Cuts.{Cuts}
 use Rattle.tokens.specs.Depth.{TooDeep}
 use Rattle.syntax.specs.declared.fault.ReadFault.{ReadFault}
 use Rattle.syntax.specs.declared.fault.ReadFault.TheVariants as fault
-use Rattle.syntax.specs.declared.tree.Program.{Program}
+use Rattle.trees.specs.declared.tree.Program.{Program}
 use Rattle.syntax.specs.Gives.{Gives, Fails}
 use Rattle.syntax.specs.Exact.{program}
 use Rattle.syntax.specs.Text.{Text, Stands}
-use Rattle.syntax.specs.Trees.{tree_of}
+use Rattle.trees.specs.Trees.{tree_of}
 use Rattle.syntax.proofs.Fixes.{both}
 use Rattle.syntax.proofs.Programs.{program_finds, program_reads}
 

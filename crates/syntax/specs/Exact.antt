@@ -6,7 +6,7 @@ use Rattle.tokens.specs.declared.vocabulary.Kind.TheVariants as kind
 use Rattle.tokens.specs.Token.{Tok, same_kind}
 use Rattle.syntax.specs.Parser.{Parser, give, refuse, ◌>>=◌, begins, take, fix, many}
 use Rattle.syntax.specs.Grammar.{name_at, operator_at, level, right_level, joined}
-use Rattle.syntax.specs.Trees.{Deed, simple, branch, repeat, Item, before, all_before}
+use Rattle.trees.specs.Trees.{Deed, simple, branch, repeat, Item, before, all_before}
 
 -- What is read: an expression of this level, or what follows the expression read so far.
 pub data Goal : Type 0 where

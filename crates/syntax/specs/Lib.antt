@@ -1,4 +1,3 @@
-pub mod Trees
 pub mod Parser
 pub mod Grammar
 pub mod Exact

@@ -2,7 +2,7 @@
 use Rattle.std.specs.Prelude.{ℕ, suc, List, [], ◌∷◌, ◌++◌}
 use Rattle.tokens.specs.declared.vocabulary.Kind.TheVariants as kind
 use Rattle.tokens.specs.Parts.{Part, line, fixed}
-use Rattle.syntax.specs.Trees.{Deed, simple, branch, repeat}
+use Rattle.trees.specs.Trees.{Deed, simple, branch, repeat}
 use Rattle.syntax.specs.Printed.{simple_parts, test_parts, block_parts, line_of}
 
 -- What a statement prints behind its margin and its label.

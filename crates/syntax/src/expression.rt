@@ -4,14 +4,14 @@ ghost use Rattle.std.specs.Prelude.{◌≡◌, option_map};
 ghost use Rattle.syntax.specs.Gives.{Parses, Shorter};
 ghost use Rattle.syntax.specs.Grammar.{level, right_level};
 ghost use Rattle.syntax.specs.Exact.{binds, operand, reading, from};
-ghost use Rattle.syntax.specs.Trees.{operator_of, expr_of};
+ghost use Rattle.trees.specs.Trees.{operator_of, expr_of};
 ghost use Rattle.tokens.specs.Token.{toks_of};
 
 use crate::fault::ReadFault;
 use crate::reader::{Read, Reader};
-use crate::tree::{Expr, Op};
 use std::alloc::Allocator;
 use tokens::{Kind, Token};
+use trees::{Expr, Op};
 
 /// How strongly an operator binds.
 fn level_of(op: Op) -> u8

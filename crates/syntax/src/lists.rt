@@ -4,19 +4,19 @@ ghost use Rattle.std.specs.Prelude.{map};
 ghost use Rattle.syntax.specs.Gives.{Parses, Shorter};
 ghost use Rattle.syntax.specs.Exact.{enclosed, condition};
 ghost use Rattle.syntax.specs.Parser.{Strict};
-ghost use Rattle.syntax.specs.Trees.{rhs_of};
+ghost use Rattle.trees.specs.Trees.{rhs_of};
 ghost use Rattle.tokens.specs.Token.{toks_of};
 
 use crate::item::Item;
 use crate::reader::{Read, Reader, begins};
-use crate::tree::{Expr, Name, Rhs};
 use std::alloc::Allocator;
 use tokens::{Kind, Token};
+use trees::{Expr, Name, Rhs};
 
 impl<A: Allocator + Clone> Item<A> for Name<A> {
     ghost use Rattle.language.specs.Tree as tree;
-    ghost use Rattle.syntax.specs.Exact.{name};
-    ghost use Rattle.syntax.specs.Trees.{name_of};
+    ghost use Rattle.syntax.specs.Exact.{name, right, expression};
+    ghost use Rattle.trees.specs.Trees.{name_of, rhs_of, expr_of};
 
     ghost Tree = { tree.Name };
 
@@ -32,8 +32,6 @@ impl<A: Allocator + Clone> Item<A> for Name<A> {
 
 impl<A: Allocator + Clone> Item<A> for Rhs<A> {
     ghost use Rattle.language.specs.Tree as tree;
-    ghost use Rattle.syntax.specs.Exact.{right};
-    ghost use Rattle.syntax.specs.Trees.{rhs_of};
 
     ghost Tree = { tree.RightSide tree.Name };
 
@@ -54,8 +52,6 @@ impl<A: Allocator + Clone> Item<A> for Rhs<A> {
 
 impl<A: Allocator + Clone> Item<A> for Expr<A> {
     ghost use Rattle.language.specs.Tree as tree;
-    ghost use Rattle.syntax.specs.Exact.{expression};
-    ghost use Rattle.syntax.specs.Trees.{expr_of};
 
     ghost Tree = { tree.Expression tree.Name };
 

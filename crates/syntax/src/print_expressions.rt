@@ -2,12 +2,12 @@
 
 ghost use Rattle.std.specs.Prelude.{◌≡◌, ◌∷◌, []};
 ghost use Rattle.tokens.specs.Parts.{space, fixed, text_of};
-ghost use Rattle.syntax.specs.Trees.{operator_of, expr_of};
+ghost use Rattle.trees.specs.Trees.{operator_of, expr_of};
 ghost use Rattle.syntax.specs.Printed.{Prints, kind_of, operand_parts};
 
 use crate::show::Show;
-use crate::tree::{Expr, Name, Op, Rhs};
 use std::alloc::{AllocError, Allocator};
+use trees::{Expr, Name, Op, Rhs};
 
 /// An operator, with one space on both sides.
 fn sign(op: Op) -> &'static str
@@ -25,8 +25,8 @@ fn sign(op: Op) -> &'static str
 
 impl<N: Allocator> Show for Name<N> {
     ghost use Rattle.language.specs.Tree as tree;
-    ghost use Rattle.syntax.specs.Printed.{name_parts};
-    ghost use Rattle.syntax.specs.Trees.{name_of};
+    ghost use Rattle.syntax.specs.Printed.{name_parts, expression_parts, side_parts};
+    ghost use Rattle.trees.specs.Trees.{name_of, expr_of, rhs_of};
 
     ghost Tree = { tree.Name };
 
@@ -66,8 +66,6 @@ fn print_operand<N: Allocator, A: Allocator>(
 
 impl<N: Allocator> Show for Expr<N> {
     ghost use Rattle.language.specs.Tree as tree;
-    ghost use Rattle.syntax.specs.Printed.{expression_parts};
-    ghost use Rattle.syntax.specs.Trees.{expr_of};
 
     ghost Tree = { tree.Expression tree.Name };
 
@@ -92,8 +90,6 @@ impl<N: Allocator> Show for Expr<N> {
 
 impl<N: Allocator> Show for Rhs<N> {
     ghost use Rattle.language.specs.Tree as tree;
-    ghost use Rattle.syntax.specs.Printed.{side_parts};
-    ghost use Rattle.syntax.specs.Trees.{rhs_of};
 
     ghost Tree = { tree.RightSide tree.Name };
 

@@ -4,14 +4,13 @@ ghost use Rattle.std.specs.Prelude.{◌≡◌, ◌+◌, ◌++◌, IfOk, option_m
 ghost use Rattle.std.specs.String.{string_bytes};
 ghost use Rattle.tokens.specs.Parts.{text_of};
 ghost use Rattle.language.specs.Tree.{assign, goto, call};
-ghost use Rattle.syntax.specs.Trees.{name_of, names_of, exprs_of, rhs_of, rhss_of};
-ghost use Rattle.syntax.specs.Trees.{simple, branch, repeat, deed_of, block_of};
+ghost use Rattle.trees.specs.Trees.{name_of, names_of, exprs_of, rhs_of, rhss_of, simple, branch, repeat, deed_of, block_of};
 ghost use Rattle.syntax.specs.Printed.{Prints, side_parts, label_parts, margin, block_parts};
 ghost use Rattle.syntax.specs.PrintedDeed.{deed_parts};
 
 use crate::show::{Show, print_list};
-use crate::tree::{Core, Expr, Name, Rhs, Stmt};
 use std::alloc::{AllocError, Allocator};
+use trees::{Core, Expr, Name, Rhs, Stmt};
 
 /// The level below. No memory holds a line so far in that its level fits no number.
 fn below(level: usize) -> Result<usize, AllocError>

@@ -2,14 +2,14 @@
 
 ghost use Rattle.std.specs.Prelude.{◌≡◌, IfOk};
 ghost use Rattle.std.specs.String.{string_bytes};
-ghost use Rattle.syntax.specs.Trees.{names_of, tree_of};
+ghost use Rattle.trees.specs.Trees.{names_of, tree_of};
 ghost use Rattle.syntax.specs.InGrammar.{InGrammar, WithinLimits, IsTextOf};
 ghost use Rattle.syntax.specs.Printed.{Prints, declaration_parts, printed};
 
 use crate::print_statements::{print_block, print_margin};
 use crate::show::{Show, print_all, print_list};
-use crate::tree::{Name, Proc, Program, Thread};
 use std::alloc::{AllocError, Allocator};
+use trees::{Name, Proc, Program, Thread};
 
 /// Prints a declaration of these names, if there are any.
 fn print_declaration<N: Allocator, A: Allocator>(
@@ -29,9 +29,9 @@ fn print_declaration<N: Allocator, A: Allocator>(
 }
 
 impl<N: Allocator> Show for Proc<N> {
-    ghost use Rattle.language.specs.Tree.{Procedure};
-    ghost use Rattle.syntax.specs.Printed.{procedure_parts};
-    ghost use Rattle.syntax.specs.Trees.{proc_of};
+    ghost use Rattle.language.specs.Tree.{Procedure, ThreadLine};
+    ghost use Rattle.syntax.specs.Printed.{procedure_parts, thread_parts};
+    ghost use Rattle.trees.specs.Trees.{proc_of, thread_of};
 
     ghost Tree = { Procedure };
 
@@ -51,10 +51,6 @@ impl<N: Allocator> Show for Proc<N> {
 }
 
 impl<N: Allocator> Show for Thread<N> {
-    ghost use Rattle.language.specs.Tree.{ThreadLine};
-    ghost use Rattle.syntax.specs.Printed.{thread_parts};
-    ghost use Rattle.syntax.specs.Trees.{thread_of};
-
     ghost Tree = { ThreadLine };
 
     ghost tree = { thread_of };

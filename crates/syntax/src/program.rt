@@ -3,15 +3,15 @@
 ghost use Rattle.std.specs.Prelude.{◌≡◌, ◌≤◌, [], length, IfOk, IsOkUnless};
 ghost use Rattle.syntax.specs.Gives.{Gives, Parses, Shorter};
 ghost use Rattle.syntax.specs.Exact.{declaration, all_declarations, insides, program};
-ghost use Rattle.syntax.specs.Trees.{names_of, block_of, tree_of};
+ghost use Rattle.trees.specs.Trees.{names_of, block_of, tree_of};
 ghost use Rattle.tokens.specs.Token.{toks_of};
 
 use crate::fault::ReadFault;
 use crate::item::{Item, Repeated};
 use crate::reader::{Read, Reader, begins};
-use crate::tree::{Name, Proc, Program, Stmt, Thread};
 use std::alloc::Allocator;
 use tokens::{Kind, Token};
+use trees::{Name, Proc, Program, Stmt, Thread};
 
 impl<'a, A: Allocator + Clone> Reader<'a, A> {
     /// Reads a declaration.
@@ -79,9 +79,9 @@ impl<'a, A: Allocator + Clone> Reader<'a, A> {
 }
 
 impl<A: Allocator + Clone> Item<A> for Proc<A> {
-    ghost use Rattle.language.specs.Tree.{Procedure};
-    ghost use Rattle.syntax.specs.Exact.{procedure};
-    ghost use Rattle.syntax.specs.Trees.{proc_of};
+    ghost use Rattle.language.specs.Tree.{Procedure, ThreadLine};
+    ghost use Rattle.syntax.specs.Exact.{procedure, thread_line, any_left};
+    ghost use Rattle.trees.specs.Trees.{proc_of, thread_of};
 
     ghost Tree = { Procedure };
 
@@ -119,10 +119,6 @@ impl<A: Allocator + Clone> Repeated<A> for Proc<A> {
 }
 
 impl<A: Allocator + Clone> Item<A> for Thread<A> {
-    ghost use Rattle.language.specs.Tree.{ThreadLine};
-    ghost use Rattle.syntax.specs.Exact.{thread_line};
-    ghost use Rattle.syntax.specs.Trees.{thread_of};
-
     ghost Tree = { ThreadLine };
 
     ghost tree = { thread_of };
@@ -139,8 +135,6 @@ impl<A: Allocator + Clone> Item<A> for Thread<A> {
 }
 
 impl<A: Allocator + Clone> Repeated<A> for Thread<A> {
-    ghost use Rattle.syntax.specs.Exact.{any_left};
-
     ghost another = { any_left };
 
     /// Whether any token comes.

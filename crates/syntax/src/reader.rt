@@ -4,13 +4,13 @@ ghost use Rattle.std.specs.Prelude.{◌≡◌, ◌++◌, ◌∷◌, [], IfOk, Is
 ghost use Rattle.syntax.specs.Gives.{Parses, Shorter};
 ghost use Rattle.syntax.specs.Parser.{begins, take};
 ghost use Rattle.syntax.specs.Grammar.{name_at};
-ghost use Rattle.syntax.specs.Trees.{name_of};
+ghost use Rattle.trees.specs.Trees.{name_of};
 ghost use Rattle.tokens.specs.Token.{tok_of, toks_of};
 
 use crate::fault::ReadFault;
-use crate::tree::Name;
 use std::alloc::Allocator;
 use tokens::{Kind, Token};
+use trees::Name;
 
 /// What was read, and the tokens after it.
 pub type Read<'t, T> = Result<(T, &'t [Token<'t>]), ReadFault>;

@@ -3,14 +3,14 @@
 ghost use Rattle.std.specs.Prelude.{◌≡◌, IfOk, IfErr, MatchResult};
 ghost use Rattle.language.specs.Tree.{Tree};
 ghost use Rattle.syntax.specs.Text.{Text, Stands};
-ghost use Rattle.syntax.specs.Trees.{tree_of};
+ghost use Rattle.trees.specs.Trees.{tree_of};
 ghost use Rattle.syntax.specs.declared.fault.ReadFault.TheVariants.{Memory};
 
 use crate::fault::ReadFault;
 use crate::reader::Reader;
-use crate::tree::Program;
 use std::alloc::Allocator;
 use tokens::{as_ascii, cut, is_too_deep};
+use trees::Program;
 
 /// A text has at most so many bytes.
 const LIMIT: usize = 65536;

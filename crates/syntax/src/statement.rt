@@ -18,15 +18,15 @@ ghost use Rattle.syntax.specs.Exact.{
   if_deed,
   while_deed,
 };
-ghost use Rattle.syntax.specs.Trees.{name_of, deed_of, item_of, block_of};
+ghost use Rattle.trees.specs.Trees.{name_of, deed_of, item_of, block_of};
 ghost use Rattle.tokens.specs.Token.{toks_of};
 
 use crate::fault::ReadFault;
 use crate::item::Item;
 use crate::reader::{Read, Reader, begins, put};
-use crate::tree::{Core, Name, Stmt};
 use std::alloc::Allocator;
 use tokens::{Kind, Token};
+use trees::{Core, Name, Stmt};
 
 /// Whether a statement comes next.
 #[tactic(auto, unfolding(tokens::specs::Token::same_kind))]

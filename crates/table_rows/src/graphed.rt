@@ -1,6 +1,7 @@
 //! From a text to a sequential program.
 
-use round_rewrite::{Rounds, Sequential, rewrite};
+use round_rewrite::{Rounds, rewrite};
+use resolved::Sequential;
 use scopes::{Checked, check};
 use std::alloc::Allocator;
 use syntax::read;

@@ -3,12 +3,12 @@
 ghost use Rattle.std.specs.Prelude.{◌≡◌};
 ghost use Rattle.language.specs.Sequential.{sequential_of};
 ghost use Rattle.language.specs.Step.{Program};
-ghost use Rattle.syntax.specs.Trees.{tree_of};
+ghost use Rattle.trees.specs.Trees.{tree_of};
 
 use crate::graphed::rewritten;
 use flow_graph::graphs;
 use path_sets::{OrderedEdges, PathSet};
-use round_rewrite::Sequential;
+use resolved::Sequential;
 use scarce::Scarce;
 use std::alloc::{AllocError, Allocator, Global};
 use summaries::{EdgeLimit, NoVerdict, Pair, Summaries, tabulate};

@@ -1,7 +1,7 @@
 //! Tokens and trees in plain words, with their offsets.
 
 use std::alloc::{AllocError, Allocator};
-use syntax::{Core, Expr, Name, Op, Proc, Program, Rhs, Stmt, Thread};
+use trees::{Core, Expr, Name, Op, Proc, Program, Rhs, Stmt, Thread};
 use tokens::Token;
 
 /// The kind, the offset and the text of each token.

@@ -2,7 +2,7 @@
 use Rattle.std.proofs.Common.{◌≡◌, ◌∙◌, ◌<◌, ◌-◌, Some, suc, arith, ap, length, map, subst, sym, slice_get}
 use Rattle.std.proofs.lemmas.List.{length-map}
 use Rattle.language.specs.Tree.{Procedure}
-use Rattle.syntax.specs.Trees.{proc_of, tree_of}
+use Rattle.trees.specs.Trees.{proc_of, tree_of}
 use Rattle.cli.specs.Counts.{names_of}
 use Rattle.cli.proofs.Counting.{named_at}
 use Rattle.cli.proofs.counts.name_of.Goals as goal

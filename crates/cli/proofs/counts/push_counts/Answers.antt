@@ -2,7 +2,7 @@
 use Rattle.std.proofs.Common.{◌∙◌, ◌<◌, ◌≤◌, ap, arith, count_by, length, refl, sym}
 use Rattle.std.proofs.lemmas.Option.{slice_get_read}
 use Rattle.std.specs.String.{string_bytes}
-use Rattle.syntax.specs.Trees.{tree_of}
+use Rattle.trees.specs.Trees.{tree_of}
 use Rattle.cli.specs.Counts.{names_of}
 use Rattle.cli.specs.Counted.{is_take}
 use Rattle.cli.proofs.Counting.{all_written, line_pushed, there}

@@ -1,7 +1,7 @@
 -- The lines of the procedures so far.
 use Rattle.std.proofs.Common.{◌≡◌, ◌++◌, take}
 use Rattle.std.specs.String.{string_bytes}
-use Rattle.syntax.specs.Trees.{tree_of}
+use Rattle.trees.specs.Trees.{tree_of}
 use Rattle.cli.specs.Counts.{counts_lines, names_of}
 use Rattle.cli.specs.Counted.{counted_each}
 use Rattle.cli.proofs.counts.push_counts.Given as goal

@@ -1,7 +1,8 @@
 -- A text that is rewritten is that of a checked program; where the rewriting fails, it is too wide.
 use Rattle.std.proofs.Common.{ℕ, None, refl, subst, inl, inr}
 use Rattle.std.proofs.lemmas.Result.{err_from_is_err_and}
-use Rattle.round_rewrite.specs.Narrow.{AllNarrow, IsNarrow}
+use Rattle.resolved.specs.Narrow.{AllNarrow}
+use Rattle.round_rewrite.specs.Narrow.{IsNarrow}
 use Rattle.round_rewrite.specs.declared.fault.RewriteFault.TheVariants.{Memory, TooWide}
 use Rattle.language.specs.Tree.{Tree}
 use Rattle.syntax.proofs.TextsInGrammar.{text_in_grammar}

@@ -3,7 +3,7 @@ use Rattle.std.proofs.Common.{◌≡◌, ◌∙◌, sym, ap, subst}
 use Rattle.std.specs.String.{string_bytes}
 use Rattle.language.specs.Tree.{Tree}
 use Rattle.syntax.specs.InGrammar.{InGrammar, IsTextOf}
-use Rattle.syntax.specs.Trees.{tree_of}
+use Rattle.trees.specs.Trees.{tree_of}
 use Rattle.syntax.specs.Printed.{printed}
 use Rattle.cli.proofs.sequential.sequential.Goals as goal
 

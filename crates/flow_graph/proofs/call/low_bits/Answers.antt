@@ -1,5 +1,5 @@
 -- A number has no bit past its 64.
-use Rattle.round_rewrite.specs.Limits.{most_places}
+use Rattle.resolved.specs.Limits.{most_places}
 use Rattle.std.proofs.Common.{sym, ◌≤◌, ◌^◌, arith}
 use Rattle.std.proofs.Math.Nat.{mod-eq_of_lt}
 use Rattle.std.proofs.Math.Pow.{pow_mono}

@@ -5,7 +5,7 @@ use Rattle.language.specs.Tree.{done}
 use Rattle.language.specs.Resolve.{resolve_block}
 use Rattle.language.specs.Sequential.{numbered}
 use Rattle.language.proofs.Rests.{join_done}
-use Rattle.syntax.specs.Trees.{name_of, block_of}
+use Rattle.trees.specs.Trees.{name_of, block_of}
 use Rattle.flow_graph.specs.Nodes.{point_at}
 use Rattle.flow_graph.specs.Drawing.{names_in}
 use Rattle.flow_graph.specs.declared.flow.Flow.TheVariants as flow

@@ -3,9 +3,9 @@ use Rattle.std.proofs.Common.{◌≡◌, ◌∷◌, [], length, slice_get, refl,
 use Rattle.std.proofs.lemmas.Option.{slice_get_read}
 use Rattle.std.proofs.lemmas.List.{length-map}
 use Rattle.language.specs.Resolve.{meaning_of}
-use Rattle.round_rewrite.specs.Narrow.{AllNarrow}
-use Rattle.round_rewrite.proofs.Sequences.{routines_counted, resolving_fit}
-use Rattle.syntax.specs.Trees.{tree_of, proc_of}
+use Rattle.resolved.specs.Narrow.{AllNarrow}
+use Rattle.resolved.proofs.Sequences.{routines_counted, resolving_fit}
+use Rattle.trees.specs.Trees.{tree_of, proc_of}
 use Rattle.flow_graph.proofs.Taking.{ordered}
 use Rattle.flow_graph.proofs.Graphing.{AllDrawn, drawn_more, drawn_graph, has_room}
 use Rattle.flow_graph.proofs.drawing.graphs.Goals as goal

@@ -3,9 +3,9 @@ use Rattle.std.proofs.Common.{◌≡◌, ◌<◌, ◌+◌, ◌*◌, suc, [], ◌
 use Rattle.language.specs.Resolve.{resolve_block}
 use Rattle.language.specs.Rest.{join, first_of_two}
 use Rattle.language.specs.Sequential.{statements, numbered}
-use Rattle.syntax.specs.Trees.{deed_of, block_of, rhs_of}
-use Rattle.syntax.proofs.Held.{held, smaller}
-use Rattle.syntax.proofs.Folds.{deed_of-If, deed_of-While}
+use Rattle.trees.specs.Trees.{deed_of, block_of, rhs_of}
+use Rattle.trees.proofs.Held.{held, smaller}
+use Rattle.trees.proofs.Folds.{deed_of-If, deed_of-While}
 use Rattle.flow_graph.proofs.Counted.{alone_counts, next_counts}
 use Rattle.flow_graph.proofs.Searching.{place, place_next, place_nowhere}
 use Rattle.flow_graph.proofs.Searching.{same_found, found_first, found_second, found_inside}

@@ -3,8 +3,8 @@ use Rattle.std.proofs.Common.{◌≡◌, ◌≤◌, ◌+◌, ◌*◌, drop}
 use Rattle.language.specs.Resolve.{Scope, resolve_block}
 use Rattle.language.specs.Rest.{Code}
 use Rattle.language.specs.Sequential.{statements, numbered}
-use Rattle.syntax.specs.Trees.{deed_of, block_of}
-use Rattle.syntax.proofs.Held.{held}
+use Rattle.trees.specs.Trees.{deed_of, block_of}
+use Rattle.trees.proofs.Held.{held}
 use Rattle.flow_graph.proofs.Searching.{place}
 use Rattle.flow_graph.proofs.labels.+finding.Given as goal
 

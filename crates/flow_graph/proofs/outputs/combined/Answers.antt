@@ -1,7 +1,7 @@
 -- An operator on words is the operator on the outputs of each row.
 use Rattle.std.proofs.Common.{◌≡◌, ◌∙◌, subst, arith}
 use Rattle.std.proofs.lemmas.List.{length-set}
-use Rattle.syntax.specs.Trees.{operator_of}
+use Rattle.trees.specs.Trees.{operator_of}
 use Rattle.flow_graph.proofs.Rows.{AreCombined, combined_next, combined_rows}
 use Rattle.flow_graph.proofs.outputs.combined.Goals as goal
 

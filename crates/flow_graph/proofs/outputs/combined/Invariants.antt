@@ -1,6 +1,6 @@
 -- each word so far is the operator on those of the operands
 use Rattle.std.proofs.Common.{◌≡◌, length}
-use Rattle.syntax.specs.Trees.{operator_of}
+use Rattle.trees.specs.Trees.{operator_of}
 use Rattle.flow_graph.proofs.Rows.{AreCombined}
 use Rattle.flow_graph.proofs.outputs.combined.Given as goal
 

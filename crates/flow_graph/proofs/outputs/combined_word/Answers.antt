@@ -1,7 +1,7 @@
 -- Each operator on words is the operator on each of their bits.
 use Rattle.std.proofs.Common.{◌∙◌, ◌||◌, cond, not, sym, ap, arith}
 use Rattle.language.specs.Value.{operate}
-use Rattle.syntax.specs.Trees.{operator_of}
+use Rattle.trees.specs.Trees.{operator_of}
 use Rattle.flow_graph.specs.Bits.{bit_of}
 use Rattle.flow_graph.proofs.Rows.{bits_and, bits_or, bits_xor, bits_not, turned}
 use Rattle.flow_graph.proofs.outputs.combined_word.Goals as goal

@@ -1,9 +1,9 @@
 -- Each statement is counted once.
 use Rattle.std.proofs.Common.{◌<◌, ◌+◌, ◌*◌, ◌∙◌, ap, arith}
 use Rattle.language.specs.Sequential.{statements}
-use Rattle.syntax.specs.Trees.{deed_of, block_of}
-use Rattle.syntax.proofs.Held.{held, smaller}
-use Rattle.syntax.proofs.Folds.{deed_of-If, deed_of-While}
+use Rattle.trees.specs.Trees.{deed_of, block_of}
+use Rattle.trees.proofs.Held.{held, smaller}
+use Rattle.trees.proofs.Folds.{deed_of-If, deed_of-While}
 use Rattle.flow_graph.proofs.Counted.{alone_counts, next_counts, end_counts}
 use Rattle.flow_graph.proofs.sizes.+sizes.Goals as goal
 

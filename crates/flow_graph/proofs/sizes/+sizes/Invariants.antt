@@ -1,8 +1,8 @@
 -- What is counted so far, with what the other statements count; each call's measure is what it still has to count.
 use Rattle.std.proofs.Common.{◌≡◌, ◌≤◌, ◌+◌, ◌*◌, drop}
 use Rattle.language.specs.Sequential.{statements}
-use Rattle.syntax.specs.Trees.{deed_of, block_of}
-use Rattle.syntax.proofs.Held.{held}
+use Rattle.trees.specs.Trees.{deed_of, block_of}
+use Rattle.trees.proofs.Held.{held}
 use Rattle.flow_graph.proofs.sizes.+sizes.Given as goal
 
 abbrev pub invariant-size-loop-stmt : goal.invariant-size-loop-stmt

@@ -5,8 +5,9 @@ use Rattle.language.specs.Sequential.{sequential_of}
 use Rattle.language.specs.Tree.{Tree}
 use Rattle.flow_graph.specs.Drawn.{bad_of}
 use Rattle.flow_graph.specs.Graphs.{AreDrawnFrom}
-use Rattle.round_rewrite.specs.Narrow.{AllNarrow}
-use Rattle.round_rewrite.specs.Programs.{last_round, sequential_tree}
+use Rattle.resolved.specs.Narrow.{AllNarrow}
+use Rattle.round_rewrite.specs.Programs.{last_round}
+use Rattle.resolved.specs.Programs.{sequential_tree}
 use Rattle.scopes.specs.Programs.{checked_tree}
 use Rattle.summaries.specs.Limits.{most_of}
 use Rattle.summaries.specs.Tabulated.{SomePairBad}

@@ -1,6 +1,6 @@
 -- The program that is tabulated is the sequential one.
 use Rattle.language.specs.Sequential.{sequential_of}
-use Rattle.syntax.specs.Trees.{tree_of}
+use Rattle.trees.specs.Trees.{tree_of}
 use Rattle.report_rows.proofs.program.on_one_thread.Given as goal
 
 abbrev pub ghost-by_graphs : goal.ghost-by_graphs

@@ -1,7 +1,7 @@
 use Rattle.std.proofs.Common.{◌∙◌, refl, ap, arith, []}
 use Rattle.language.specs.Tree.{any}
-use Rattle.syntax.specs.Trees.{rhs_of, rhss_of}
-use Rattle.syntax.specs.declared.tree.Rhs.TheVariants as rhs
+use Rattle.trees.specs.Trees.{rhs_of, rhss_of}
+use Rattle.trees.specs.declared.tree.Rhs.TheVariants as rhs
 use Rattle.round_rewrite.specs.Table.{numbers, each}
 use Rattle.round_rewrite.proofs.Pushed.{pushed}
 use Rattle.round_rewrite.proofs.assignment.any_values.Goals as goal

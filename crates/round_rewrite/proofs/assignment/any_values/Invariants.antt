@@ -1,7 +1,7 @@
 -- As many so far.
 use Rattle.std.proofs.Common.{◌≡◌}
 use Rattle.language.specs.Tree.{any}
-use Rattle.syntax.specs.Trees.{rhss_of}
+use Rattle.trees.specs.Trees.{rhss_of}
 use Rattle.round_rewrite.specs.Table.{numbers, each}
 use Rattle.round_rewrite.proofs.assignment.any_values.Given as goal
 

@@ -1,6 +1,6 @@
 -- The temporaries so far.
 use Rattle.std.proofs.Common.{◌≡◌, ◌++◌, map}
-use Rattle.syntax.specs.Trees.{names_of}
+use Rattle.trees.specs.Trees.{names_of}
 use Rattle.round_rewrite.specs.Table.{numbers}
 use Rattle.round_rewrite.specs.Names.{drawn_name}
 use Rattle.round_rewrite.proofs.assignment.temporaries.Given as goal

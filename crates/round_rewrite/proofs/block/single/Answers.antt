@@ -1,6 +1,6 @@
 use Rattle.std.proofs.Common.{◌∙◌, ap}
 use Rattle.language.specs.Tree.{done}
-use Rattle.syntax.specs.Trees.{items_of, deed_of, marked_before, all_before}
+use Rattle.trees.specs.Trees.{items_of, deed_of, marked_before, all_before}
 use Rattle.round_rewrite.specs.Table.{plain}
 use Rattle.round_rewrite.proofs.block.single.Goals as goal
 

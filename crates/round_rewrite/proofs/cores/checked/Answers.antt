@@ -1,8 +1,8 @@
 use Rattle.std.proofs.Common.{◌∙◌, ap}
 use Rattle.language.specs.Tree.{done, leave}
-use Rattle.syntax.specs.Trees.{simple, branch, rhs_of, items_of, deed_of, marked_before, all_before}
+use Rattle.trees.specs.Trees.{simple, branch, rhs_of, items_of, deed_of, marked_before, all_before}
 use Rattle.round_rewrite.specs.Table.{plain}
-use Rattle.syntax.proofs.Folds.{deed_of-Skip, deed_of-Return, deed_of-If}
+use Rattle.trees.proofs.Folds.{deed_of-Skip, deed_of-Return, deed_of-If}
 use Rattle.round_rewrite.proofs.cores.checked.Goals as goal
 
 pub returns : goal.returns

@@ -1,8 +1,8 @@
 use Rattle.std.proofs.Common.{◌∙◌, ap}
 use Rattle.language.specs.Tree.{value, done}
-use Rattle.syntax.specs.Trees.{branch, marked_before}
+use Rattle.trees.specs.Trees.{branch, marked_before}
 use Rattle.round_rewrite.specs.Table.{plain}
-use Rattle.syntax.proofs.Folds.{deed_of-Skip, deed_of-Return, deed_of-If}
+use Rattle.trees.proofs.Folds.{deed_of-Skip, deed_of-Return, deed_of-If}
 use Rattle.round_rewrite.proofs.cores.stop_test.Goals as goal
 
 pub returns : goal.returns

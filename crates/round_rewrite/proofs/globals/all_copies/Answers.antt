@@ -1,5 +1,5 @@
 use Rattle.std.proofs.Common.{◌≡◌, suc, ◌+◌, ◌∙◌, ap, arith, [], ◌++◌}
-use Rattle.syntax.specs.Trees.{names_of}
+use Rattle.trees.specs.Trees.{names_of}
 use Rattle.round_rewrite.specs.Table.{numbers, copied}
 use Rattle.round_rewrite.specs.Names.{names, copy_name}
 use Rattle.round_rewrite.proofs.Copied.{copied_next}

@@ -1,6 +1,6 @@
 -- The names for the rounds so far.
 use Rattle.std.proofs.Common.{◌≡◌, ◌++◌, []}
-use Rattle.syntax.specs.Trees.{names_of}
+use Rattle.trees.specs.Trees.{names_of}
 use Rattle.round_rewrite.specs.Table.{numbers, copied}
 use Rattle.round_rewrite.specs.Names.{names, copy_name}
 use Rattle.round_rewrite.proofs.globals.all_copies.Given as goal

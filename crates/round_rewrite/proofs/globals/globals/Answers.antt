@@ -1,5 +1,5 @@
 use Rattle.std.proofs.Common.{suc, ◌∙◌, ap, [], ◌∷◌, ◌++◌, codes}
-use Rattle.syntax.specs.Trees.{names_of}
+use Rattle.trees.specs.Trees.{names_of}
 use Rattle.round_rewrite.specs.Table.{numbers, copied}
 use Rattle.round_rewrite.specs.Names.{named, names, copy_name, save_name}
 use Rattle.round_rewrite.proofs.Copied.{gathered}

@@ -1,6 +1,6 @@
 -- The names so far, and what the others come to.
 use Rattle.std.proofs.Common.{◌≡◌, ◌++◌, drop}
-use Rattle.syntax.specs.Trees.{names_of}
+use Rattle.trees.specs.Trees.{names_of}
 use Rattle.round_rewrite.proofs.lists.all_again.Given as goal
 
 abbrev pub invariant-loop-x : goal.invariant-loop-x

@@ -1,6 +1,6 @@
 use Rattle.std.proofs.Common.{◌∙◌, ap, refl, ◌++◌, ◌+◌, map, drop}
 use Rattle.language.specs.Tree.{any}
-use Rattle.syntax.specs.Trees.{name_of, names_of, rhs_of, rhss_of}
+use Rattle.trees.specs.Trees.{name_of, names_of, rhs_of, rhss_of}
 use Rattle.round_rewrite.proofs.Pushed.{one_through}
 use Rattle.round_rewrite.proofs.lists.guessed.Goals as goal
 

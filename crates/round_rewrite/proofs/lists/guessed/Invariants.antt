@@ -1,7 +1,7 @@
 -- The names so far, and what the others come to.
 use Rattle.std.proofs.Common.{◌≡◌, ◌++◌, drop}
 use Rattle.language.specs.Tree.{any}
-use Rattle.syntax.specs.Trees.{names_of, rhss_of}
+use Rattle.trees.specs.Trees.{names_of, rhss_of}
 use Rattle.round_rewrite.specs.Table.{each}
 use Rattle.round_rewrite.proofs.lists.guessed.Given as goal
 

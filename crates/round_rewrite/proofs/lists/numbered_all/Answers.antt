@@ -1,6 +1,6 @@
 use Rattle.std.proofs.Common.{◌∙◌, ap, ◌++◌, ◌+◌, map, drop, suc, decimal}
 use Rattle.language.specs.Tree.{Name}
-use Rattle.syntax.specs.Trees.{name_of, names_of}
+use Rattle.trees.specs.Trees.{name_of, names_of}
 use Rattle.round_rewrite.specs.Names.{named}
 use Rattle.round_rewrite.proofs.Pushed.{one_through}
 use Rattle.round_rewrite.proofs.lists.numbered_all.Goals as goal

@@ -1,6 +1,6 @@
 -- The names so far, and what the others come to.
 use Rattle.std.proofs.Common.{◌≡◌, ◌++◌, map, drop, suc, decimal}
-use Rattle.syntax.specs.Trees.{names_of}
+use Rattle.trees.specs.Trees.{names_of}
 use Rattle.round_rewrite.specs.Names.{named}
 use Rattle.round_rewrite.proofs.lists.numbered_all.Given as goal
 

@@ -1,6 +1,6 @@
 use Rattle.std.proofs.Common.{◌∙◌, ap, ◌++◌, ◌+◌, map, drop}
 use Rattle.language.specs.Tree.{var, value}
-use Rattle.syntax.specs.Trees.{name_of, names_of, rhs_of, rhss_of}
+use Rattle.trees.specs.Trees.{name_of, names_of, rhs_of, rhss_of}
 use Rattle.round_rewrite.specs.Names.{copy_name}
 use Rattle.round_rewrite.proofs.Pushed.{one_through}
 use Rattle.round_rewrite.proofs.lists.reads.Goals as goal

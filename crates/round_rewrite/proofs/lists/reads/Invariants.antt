@@ -1,7 +1,7 @@
 -- The names so far, and what the others come to.
 use Rattle.std.proofs.Common.{◌≡◌, ◌++◌, map, drop}
 use Rattle.language.specs.Tree.{var, value}
-use Rattle.syntax.specs.Trees.{names_of, rhss_of}
+use Rattle.trees.specs.Trees.{names_of, rhss_of}
 use Rattle.round_rewrite.specs.Names.{copy_name}
 use Rattle.round_rewrite.proofs.lists.reads.Given as goal
 

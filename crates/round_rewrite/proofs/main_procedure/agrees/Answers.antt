@@ -1,8 +1,8 @@
 use Rattle.std.proofs.Common.{◌≡◌, suc, ◌+◌, ◌∙◌, ap, arith}
 use Rattle.language.specs.Tree.{equal, var, value, two, assume}
-use Rattle.syntax.specs.Trees.{simple, name_of}
+use Rattle.trees.specs.Trees.{simple, name_of}
 use Rattle.round_rewrite.specs.Names.{save_name}
-use Rattle.syntax.proofs.Folds.{deed_of-Assume}
+use Rattle.trees.proofs.Folds.{deed_of-Assume}
 use Rattle.round_rewrite.proofs.main_procedure.agrees.Goals as goal
 
 pub returns : goal.returns

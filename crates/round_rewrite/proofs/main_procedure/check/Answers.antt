@@ -1,6 +1,6 @@
 use Rattle.std.proofs.Common.{suc, refl, []}
 use Rattle.language.specs.Tree.{equal, var, value, two, assume, one}
-use Rattle.syntax.specs.Trees.{name_of, names_of, items_of, all_before}
+use Rattle.trees.specs.Trees.{name_of, names_of, items_of, all_before}
 use Rattle.round_rewrite.specs.Table.{plain, check}
 use Rattle.round_rewrite.specs.Names.{names, copy_name, save_name}
 use Rattle.round_rewrite.proofs.Laying.{laid}

@@ -1,5 +1,5 @@
 use Rattle.std.proofs.Common.{◌≡◌, ◌∙◌, ap, sym, arith, []}
-use Rattle.syntax.specs.Trees.{names_of, items_of, all_before}
+use Rattle.trees.specs.Trees.{names_of, items_of, all_before}
 use Rattle.round_rewrite.specs.Table.{numbers, checks}
 use Rattle.round_rewrite.specs.Names.{names}
 use Rattle.round_rewrite.proofs.Mains.{checks_next}

@@ -1,6 +1,6 @@
 -- The checks so far.
 use Rattle.std.proofs.Common.{[]}
-use Rattle.syntax.specs.Trees.{names_of}
+use Rattle.trees.specs.Trees.{names_of}
 use Rattle.round_rewrite.specs.Table.{numbers, checks}
 use Rattle.round_rewrite.specs.Names.{names}
 use Rattle.round_rewrite.specs.Writing.{Lays}

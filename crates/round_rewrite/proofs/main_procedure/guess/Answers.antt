@@ -1,11 +1,11 @@
 use Rattle.std.proofs.Common.{◌∙◌, ap, sym, [], ◌++◌, map}
 use Rattle.language.specs.Tree.{assign}
-use Rattle.syntax.specs.Trees.{simple, names_of, items_of, all_before}
+use Rattle.trees.specs.Trees.{simple, names_of, items_of, all_before}
 use Rattle.round_rewrite.specs.Table.{plain}
 use Rattle.round_rewrite.specs.Names.{names, copy_name, save_name}
 use Rattle.round_rewrite.proofs.Laying.{laid}
 use Rattle.round_rewrite.proofs.Mains.{guess_some}
-use Rattle.syntax.proofs.Folds.{deed_of-Assign}
+use Rattle.trees.proofs.Folds.{deed_of-Assign}
 use Rattle.round_rewrite.proofs.main_procedure.guess.Goals as goal
 
 pub returns : goal.returns

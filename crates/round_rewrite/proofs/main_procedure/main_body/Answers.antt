@@ -1,6 +1,6 @@
 use Rattle.std.proofs.Common.{◌∙◌, ap, []}
 use Rattle.language.specs.Tree.{done}
-use Rattle.syntax.specs.Trees.{names_of, threads_of, items_of, all_before}
+use Rattle.trees.specs.Trees.{names_of, threads_of, items_of, all_before}
 use Rattle.round_rewrite.specs.Table.{numbers, guesses, starts, checks}
 use Rattle.round_rewrite.specs.Names.{names}
 use Rattle.round_rewrite.specs.Writing.{line_names}

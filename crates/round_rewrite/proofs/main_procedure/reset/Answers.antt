@@ -1,8 +1,8 @@
 use Rattle.std.proofs.Common.{◌∙◌, ap, [], ◌∷◌, ◌++◌, codes}
 use Rattle.language.specs.Tree.{assign}
-use Rattle.syntax.specs.Trees.{simple, rhss_of}
+use Rattle.trees.specs.Trees.{simple, rhss_of}
 use Rattle.round_rewrite.specs.Names.{named}
-use Rattle.syntax.proofs.Folds.{deed_of-Assign}
+use Rattle.trees.proofs.Folds.{deed_of-Assign}
 use Rattle.round_rewrite.proofs.main_procedure.reset.Goals as goal
 
 pub returns : goal.returns

@@ -1,18 +1,18 @@
 use Rattle.std.proofs.Common.{false, ◌∙◌, refl, [], ◌∷◌, codes}
 use Rattle.language.specs.Tree.{const, value, assign, call, one}
-use Rattle.syntax.specs.Trees.{simple, thread_of, threads_of, items_of, all_before}
+use Rattle.trees.specs.Trees.{simple, thread_of, threads_of, items_of, all_before}
 use Rattle.round_rewrite.specs.Table.{plain, starts}
 use Rattle.round_rewrite.specs.Names.{named, names}
 use Rattle.round_rewrite.specs.Writing.{line_names}
 use Rattle.round_rewrite.proofs.Laying.{laid}
 use Rattle.round_rewrite.proofs.Mains.{each_more, each_end}
-use Rattle.syntax.proofs.Folds.{deed_of-Call}
+use Rattle.trees.proofs.Folds.{deed_of-Call}
 use Rattle.round_rewrite.proofs.main_procedure.starts.Goals as goal
 
 pub loop-thread-preserved : goal.loop-thread-preserved
 loop-thread-preserved g c =
     let begun = laid _ _ plain _ _ c.in_ok-begun.ensures c.in_ok-reset.ensures in
-    let called = laid _ _ plain _ _ c.in_ok-list.ensures (deed_of-Call _ _ ∙ (λ i. simple (call (c.in_ok-name.ensures i) (Rattle.syntax.specs.Trees.exprs_of (c.new.ensures.items i))))) in
+    let called = laid _ _ plain _ _ c.in_ok-list.ensures (deed_of-Call _ _ ∙ (λ i. simple (call (c.in_ok-name.ensures i) (Rattle.trees.specs.Trees.exprs_of (c.new.ensures.items i))))) in
     each_more thread_of (λ ls. starts (names []) c.args.last (line_names ls))
     (λ y k. one plain (assign (named (codes "rh__") ∷ named (codes "rl__") ∷ named (codes "stop__") ∷ []) (value (const false) ∷ value (const false) ∷ value (const false) ∷ [])) (one plain (call y.name []) k)) (λ y ys k. refl) c.args.threads.now c.loop-thread.thread-index c.thread-item.result c.loop-thread-test.true c.thread-item.is
     c.loop-thread.list.items c.in_ok-list.list.items (λ k. called k ∙ begun _)

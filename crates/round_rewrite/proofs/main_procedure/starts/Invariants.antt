@@ -1,6 +1,6 @@
 -- What stands with the other threads behind it.
 use Rattle.std.proofs.Common.{◌≡◌, [], drop}
-use Rattle.syntax.specs.Trees.{threads_of, items_of, all_before}
+use Rattle.trees.specs.Trees.{threads_of, items_of, all_before}
 use Rattle.round_rewrite.specs.Table.{starts}
 use Rattle.round_rewrite.specs.Names.{names}
 use Rattle.round_rewrite.specs.Writing.{Statements, line_names}

@@ -1,5 +1,5 @@
 use Rattle.std.proofs.Common.{◌∙◌, []}
-use Rattle.syntax.specs.Trees.{names_of, tree_of, threads_of}
+use Rattle.trees.specs.Trees.{names_of, tree_of, threads_of}
 use Rattle.round_rewrite.specs.Table.{main}
 use Rattle.round_rewrite.specs.Names.{names}
 use Rattle.round_rewrite.specs.Writing.{line_names}

@@ -1,5 +1,5 @@
 use Rattle.std.proofs.Common.{◌∙◌, ap, arith, ◌++◌, map}
-use Rattle.syntax.specs.Trees.{names_of, block_of}
+use Rattle.trees.specs.Trees.{names_of, block_of}
 use Rattle.round_rewrite.specs.Table.{numbers, temporaries, rewritten}
 use Rattle.round_rewrite.specs.Names.{names, drawn_name}
 use Rattle.round_rewrite.proofs.Forms.{block_done}

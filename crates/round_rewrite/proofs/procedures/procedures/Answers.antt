@@ -1,6 +1,6 @@
 use Rattle.std.proofs.Common.{◌≡◌, ◌+◌, ◌<◌, ◌≤◌, ◌∙◌, ap, sym, refl, arith, [], ◌∷◌, ◌++◌, map, drop, append-nil}
 use Rattle.std.proofs.lemmas.List.{drop_more, drop_all}
-use Rattle.syntax.specs.Trees.{proc_of, procs_of, tree_of}
+use Rattle.trees.specs.Trees.{proc_of, procs_of, tree_of}
 use Rattle.round_rewrite.specs.Names.{main_procedure, rewritten_procedure}
 use Rattle.round_rewrite.specs.Writing.{AreFew}
 use Rattle.round_rewrite.proofs.Pushed.{one_through}

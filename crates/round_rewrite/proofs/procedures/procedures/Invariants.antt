@@ -1,6 +1,6 @@
 -- The procedures so far, with the others rewritten behind them.
 use Rattle.std.proofs.Common.{◌≡◌, ◌++◌, ◌∷◌, map, drop}
-use Rattle.syntax.specs.Trees.{procs_of, tree_of}
+use Rattle.trees.specs.Trees.{procs_of, tree_of}
 use Rattle.round_rewrite.specs.Names.{main_procedure, rewritten_procedure}
 use Rattle.round_rewrite.specs.Writing.{AreFew}
 use Rattle.round_rewrite.proofs.procedures.procedures.Given as goal

@@ -1,11 +1,11 @@
 use Rattle.std.proofs.Common.{sym, subst, ap, arith}
 use Rattle.language.specs.Tree.{Tree}
 use Rattle.syntax.specs.InGrammar.{InGrammar}
-use Rattle.syntax.specs.Trees.{tree_of}
+use Rattle.trees.specs.Trees.{tree_of}
 use Rattle.round_rewrite.specs.Law.{KeepsTree}
-use Rattle.scopes.specs.Resolves.{Resolves}
+use Rattle.resolved.specs.Resolves.{Resolves}
 use Rattle.scopes.proofs.Rewriting.{checked_rewritable}
-use Rattle.round_rewrite.specs.Narrow.{AllNarrow}
+use Rattle.resolved.specs.Narrow.{AllNarrow}
 use Rattle.round_rewrite.proofs.Widths.{few_procedures, count_rewritten}
 use Rattle.round_rewrite.proofs.Working.{rewritten_resolves}
 use Rattle.round_rewrite.proofs.Readable.{rewritten_in_grammar}

@@ -1,10 +1,11 @@
 use Rattle.std.proofs.Common.{◌≡◌, ◌≤◌, ◌+◌, ◌∙◌, suc, ap, sym, subst, refl, arith, length, slice_get, take}
 use Rattle.std.proofs.lemmas.List.{length-map, take_all}
-use Rattle.syntax.specs.Trees.{name_of, names_of, proc_of, procs_of, tree_of}
-use Rattle.round_rewrite.specs.Limits.{most_places}
+use Rattle.trees.specs.Trees.{name_of, names_of, proc_of, procs_of, tree_of}
+use Rattle.resolved.specs.Limits.{most_places}
 use Rattle.round_rewrite.specs.Narrow.{AreNarrow, rewritten_width}
 use Rattle.round_rewrite.specs.Places.{global_count}
-use Rattle.round_rewrite.proofs.Widths.{rewritten_places, narrow_more, proc_there}
+use Rattle.round_rewrite.proofs.Widths.{rewritten_places, narrow_more}
+use Rattle.resolved.proofs.Counted.{proc_there}
 use Rattle.round_rewrite.proofs.width.first_wide.Given as given
 use Rattle.round_rewrite.proofs.width.first_wide.Goals as goal
 use Rattle.round_rewrite.proofs.width.first_wide.Goals.{After-places-places}

@@ -1,6 +1,6 @@
 -- The procedures before are narrow.
 use Rattle.std.proofs.Common.{take}
-use Rattle.syntax.specs.Trees.{procs_of, tree_of}
+use Rattle.trees.specs.Trees.{procs_of, tree_of}
 use Rattle.round_rewrite.specs.Narrow.{AreNarrow}
 use Rattle.round_rewrite.proofs.width.first_wide.Given as goal
 

@@ -3,8 +3,8 @@ use Rattle.std.proofs.Common.{Some, Option, ap, sym, refl, arith, length, is_som
 use Rattle.std.proofs.lemmas.Bool.{false≢true}
 use Rattle.std.proofs.lemmas.List.{length-map}
 use Rattle.language.specs.Tree.{Tree}
-use Rattle.syntax.specs.Trees.{name_of, names_of, tree_of}
-use Rattle.round_rewrite.specs.Limits.{most_places}
+use Rattle.trees.specs.Trees.{name_of, names_of, tree_of}
+use Rattle.resolved.specs.Limits.{most_places}
 use Rattle.round_rewrite.specs.Narrow.{IsFirstWide, IsNarrow, rewritten_width}
 use Rattle.round_rewrite.specs.Places.{global_count}
 use Rattle.round_rewrite.specs.declared.width.Wide.{Wide}

@@ -1,6 +1,6 @@
 use Rattle.std.proofs.Common.{◌≡◌, ◌∙◌, ap, sym, arith, ◌++◌, length}
 use Rattle.std.proofs.lemmas.List.{length-map}
-use Rattle.syntax.specs.Trees.{name_of, names_of, proc_of, block_of}
+use Rattle.trees.specs.Trees.{name_of, names_of, proc_of, block_of}
 use Rattle.round_rewrite.specs.Writing.{procedure_needs}
 use Rattle.round_rewrite.specs.Table.{temporaries}
 use Rattle.round_rewrite.specs.Names.{names}

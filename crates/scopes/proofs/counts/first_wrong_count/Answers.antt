@@ -1,6 +1,6 @@
 use Rattle.std.proofs.Common.{subst, rules}
 use Rattle.std.specs.Prelude.{IfOk}
-use Rattle.syntax.specs.Trees.{proc_of, procs_of}
+use Rattle.trees.specs.Trees.{proc_of, procs_of}
 use Rattle.scopes.specs.Find.{AnyOf, Finds}
 use Rattle.scopes.specs.Faults.{MiscountsIn}
 use Rattle.scopes.proofs.Earliest.{found_in_ok}

@@ -1,15 +1,14 @@
 use Rattle.std.proofs.Common.{◌≡◌, ◌≢◌, ◌∙◌, length, ap, sym, refl, arith}
-use Rattle.syntax.specs.Trees.{name_of, names_of, rhs_of, exprs_of, procs_of, deed_of}
-use Rattle.scopes.specs.Statements.{statement_of}
-use Rattle.syntax.proofs.Folds.{deed_of-Skip, deed_of-Return, deed_of-Goto, deed_of-Assign, deed_of-If, deed_of-While, deed_of-Assert, deed_of-Assume, deed_of-Call}
+use Rattle.trees.specs.Trees.{name_of, names_of, rhs_of, exprs_of, procs_of, deed_of, expr_of, proc_of}
+use Rattle.resolved.specs.Statements.{statement_of}
+use Rattle.trees.proofs.Folds.{deed_of-Skip, deed_of-Return, deed_of-Goto, deed_of-Assign, deed_of-If, deed_of-While, deed_of-Assert, deed_of-Assume, deed_of-Call}
 use Rattle.scopes.proofs.Heads.{head_is, at_is}
-use Rattle.scopes.proofs.Found.{moved, nowhere}
+use Rattle.scopes.proofs.Found.{moved, nowhere, compared}
 use Rattle.std.proofs.Common.{Option, Some, subst}
 use Rattle.std.proofs.lemmas.List.{length-map}
 use Rattle.language.specs.Tree.{Procedure}
-use Rattle.syntax.specs.Trees.{expr_of, proc_of}
-use Rattle.scopes.specs.Faults.{IsThere, first_at, Miscounts}
-use Rattle.scopes.proofs.Found.{compared}
+use Rattle.resolved.specs.There.{IsThere}
+use Rattle.scopes.specs.Faults.{first_at, Miscounts}
 use Rattle.scopes.proofs.counts.miscounted.Goals as goal
 
 pub returns-in-Skip : goal.returns-in-Skip

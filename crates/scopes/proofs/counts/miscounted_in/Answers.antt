@@ -1,7 +1,7 @@
 use Rattle.std.proofs.Common.{List, sym}
-use Rattle.syntax.specs.Trees.{procs_of}
+use Rattle.trees.specs.Trees.{procs_of}
 use Rattle.scopes.specs.Find.{AnyOf}
-use Rattle.scopes.specs.Statements.{Statement, lent_statements, statement_of}
+use Rattle.resolved.specs.Statements.{Statement, lent_statements, statement_of}
 use Rattle.scopes.specs.Faults.{Miscounts}
 use Rattle.scopes.proofs.Found.{moved}
 use Rattle.scopes.proofs.Earliest.{as_found, found_in}

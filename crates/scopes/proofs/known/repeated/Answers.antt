@@ -1,8 +1,8 @@
 use Rattle.std.proofs.Common.{◌<◌, List, length, take, sym, subst, arith, rules}
 use Rattle.language.specs.Tree as tree
-use Rattle.syntax.specs.Trees.{name_of}
+use Rattle.trees.specs.Trees.{name_of}
 use Rattle.scopes.specs.Known.{AreTexts}
-use Rattle.scopes.specs.Statements.{lent}
+use Rattle.resolved.specs.Statements.{lent}
 use Rattle.scopes.proofs.Seen.{begin_seen, one_taken, next_seen, end_seen}
 use Rattle.scopes.proofs.known.repeated.Goals as goal
 

@@ -2,7 +2,7 @@ use Rattle.std.proofs.Common.{drop, take}
 use Rattle.scopes.specs.Find.{Kept}
 use Rattle.scopes.specs.Faults.{Repeated}
 use Rattle.scopes.specs.Known.{AreTexts, IsAgain}
-use Rattle.scopes.specs.Statements.{lent}
+use Rattle.resolved.specs.Statements.{lent}
 use Rattle.scopes.proofs.known.repeated.Given as goal
 
 abbrev pub invariant-loop-name : goal.invariant-loop-name

@@ -1,4 +1,4 @@
-use Rattle.syntax.specs.Trees.{name_of}
+use Rattle.trees.specs.Trees.{name_of}
 use Rattle.scopes.proofs.Seen.{texts_more}
 use Rattle.scopes.proofs.known.seen_again.Goals as goal
 

@@ -1,6 +1,6 @@
 use Rattle.std.proofs.Common.{take}
 use Rattle.scopes.specs.Known.{AreTexts}
-use Rattle.scopes.specs.Statements.{lent}
+use Rattle.resolved.specs.Statements.{lent}
 use Rattle.scopes.proofs.known.texts.Given as goal
 
 abbrev pub invariant-loop-name : goal.invariant-loop-name

@@ -1,7 +1,7 @@
 use Rattle.std.proofs.Common.{◌++◌, sym, ◌∙◌, ap, append-nil, option_map, arith}
 use Rattle.std.proofs.lemmas.List.{map-append}
-use Rattle.syntax.specs.Trees.{name_of}
-use Rattle.scopes.specs.Statements.{lent, label_of}
+use Rattle.trees.specs.Trees.{name_of}
+use Rattle.resolved.specs.Statements.{lent, label_of}
 use Rattle.scopes.proofs.Pushed.{labelled, all_labelled}
 use Rattle.scopes.proofs.labels.labels.Goals as goal
 use Rattle.scopes.proofs.labels.labels.Goals.{in-Some+in_ok-push, in_default}

@@ -1,5 +1,5 @@
 use Rattle.std.proofs.Common.{◌≡◌, ◌++◌, drop}
-use Rattle.scopes.specs.Statements.{lent, lent_statements, labels_of}
+use Rattle.resolved.specs.Statements.{lent, lent_statements, labels_of}
 use Rattle.scopes.proofs.labels.labels.Given as goal
 
 abbrev pub invariant-loop-stmt : goal.invariant-loop-stmt

@@ -1,6 +1,6 @@
 use Rattle.std.proofs.Common.{arith, ap, ◌∙◌, ◌++◌}
-use Rattle.syntax.specs.Trees.{block_of}
-use Rattle.scopes.specs.Statements.{lent_statements, statements_of}
+use Rattle.trees.specs.Trees.{block_of}
+use Rattle.resolved.specs.Statements.{lent_statements, statements_of}
 use Rattle.scopes.proofs.Flat.{one_procedure}
 use Rattle.scopes.proofs.limits.all_statements.Goals as goal
 

@@ -1,6 +1,6 @@
 use Rattle.std.proofs.Common.{◌≡◌, ◌++◌, drop}
-use Rattle.syntax.specs.Trees.{procs_of}
-use Rattle.scopes.specs.Statements.{lent_statements, statements_of_all}
+use Rattle.trees.specs.Trees.{procs_of}
+use Rattle.resolved.specs.Statements.{lent_statements, statements_of_all}
 use Rattle.scopes.proofs.limits.all_statements.Given as goal
 
 abbrev pub invariant-loop-proc : goal.invariant-loop-proc

@@ -1,8 +1,8 @@
 use Rattle.std.proofs.Common.{◌≡◌, List, sym, ◌∙◌, ap}
 use Rattle.std.specs.Prelude.{slice_get}
-use Rattle.syntax.specs.Trees.{procs_of}
-use Rattle.scopes.specs.Statements.{Statement, lent_statements, statements_of_all}
-use Rattle.scopes.specs.Faults.{IsThere}
+use Rattle.trees.specs.Trees.{procs_of}
+use Rattle.resolved.specs.Statements.{Statement, lent_statements, statements_of_all}
+use Rattle.resolved.specs.There.{IsThere}
 use Rattle.scopes.proofs.Found.{moved, in_three}
 use Rattle.scopes.proofs.limits.first_too_many.Goals as goal
 

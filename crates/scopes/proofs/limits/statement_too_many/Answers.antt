@@ -1,4 +1,4 @@
-use Rattle.scopes.specs.Statements.{statement_of}
+use Rattle.resolved.specs.Statements.{statement_of}
 use Rattle.scopes.proofs.Heads.{at_is}
 use Rattle.scopes.proofs.Positions.{placed, unplaced}
 use Rattle.scopes.proofs.limits.statement_too_many.Goals as goal

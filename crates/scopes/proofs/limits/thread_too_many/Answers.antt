@@ -1,5 +1,5 @@
 use Rattle.std.proofs.Common.{refl}
-use Rattle.syntax.specs.Trees.{thread_of}
+use Rattle.trees.specs.Trees.{thread_of}
 use Rattle.scopes.proofs.Positions.{placed, unplaced}
 use Rattle.scopes.proofs.limits.thread_too_many.Goals as goal
 

@@ -1,6 +1,6 @@
 use Rattle.std.proofs.Common.{◌+◌, ◌++◌, drop, refl, ◌∙◌, ap, arith}
-use Rattle.syntax.specs.Trees.{name_of, names_of}
-use Rattle.scopes.specs.Statements.{lent}
+use Rattle.trees.specs.Trees.{name_of, names_of}
+use Rattle.resolved.specs.Statements.{lent}
 use Rattle.scopes.proofs.Pushed.{one_pushed, all_pushed}
 use Rattle.scopes.proofs.names.lend.Goals as goal
 

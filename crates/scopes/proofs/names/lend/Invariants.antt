@@ -1,6 +1,6 @@
 use Rattle.std.proofs.Common.{◌≡◌, ◌++◌, drop}
-use Rattle.syntax.specs.Trees.{names_of}
-use Rattle.scopes.specs.Statements.{lent}
+use Rattle.trees.specs.Trees.{names_of}
+use Rattle.resolved.specs.Statements.{lent}
 use Rattle.scopes.proofs.names.lend.Given as goal
 
 abbrev pub invariant-loop-name : goal.invariant-loop-name

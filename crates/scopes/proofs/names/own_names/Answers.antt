@@ -1,6 +1,6 @@
 use Rattle.std.proofs.Common.{◌++◌, ◌∙◌, ap}
 use Rattle.std.proofs.lemmas.Result.{IfOk-weaker}
-use Rattle.syntax.specs.Trees.{names_of}
+use Rattle.trees.specs.Trees.{names_of}
 use Rattle.scopes.proofs.Pushed.{behind_none}
 use Rattle.scopes.proofs.names.own_names.Goals as goal
 

@@ -1,6 +1,7 @@
 use Rattle.std.proofs.Common.{rules, sym, ◌∙◌, ap}
-use Rattle.syntax.specs.Trees.{names_of, proc_of, procs_of}
-use Rattle.scopes.specs.Faults.{IsReserved, ReservedIn, names}
+use Rattle.trees.specs.Trees.{names_of, proc_of, procs_of}
+use Rattle.scopes.specs.Faults.{IsReserved, ReservedIn}
+use Rattle.resolved.specs.There.{names}
 use Rattle.scopes.proofs.Earliest.{found_at_ok}
 use Rattle.scopes.proofs.Found.{moved, in_three}
 use Rattle.scopes.proofs.Pushed.{behind_none}

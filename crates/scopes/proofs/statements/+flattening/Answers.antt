@@ -1,11 +1,11 @@
 use Rattle.std.proofs.Common.{arith, ◌+◌, ◌*◌, ◌<◌, ◌++◌, ◌∙◌, ap}
 use Rattle.std.proofs.lemmas.List.{map-append}
 use Rattle.std.proofs.lemmas.Result.{IfOk-weaker}
-use Rattle.syntax.specs.Trees.{deed_of, block_of}
-use Rattle.syntax.proofs.Folds.{deed_of-Skip, deed_of-Return, deed_of-Goto, deed_of-Assign, deed_of-If, deed_of-While, deed_of-Assert, deed_of-Assume, deed_of-Call}
-use Rattle.scopes.specs.Statements.{lent_statements, statement_of, statements_of, inside}
+use Rattle.trees.specs.Trees.{deed_of, block_of}
+use Rattle.trees.proofs.Folds.{deed_of-Skip, deed_of-Return, deed_of-Goto, deed_of-Assign, deed_of-If, deed_of-While, deed_of-Assert, deed_of-Assume, deed_of-Call}
+use Rattle.resolved.specs.Statements.{lent_statements, statement_of, statements_of, inside}
 use Rattle.language.specs.Sequential.{statements}
-use Rattle.syntax.proofs.Held.{held, smaller}
+use Rattle.trees.proofs.Held.{held, smaller}
 use Rattle.scopes.proofs.Flat.{one_more, no_more, after_two, after_one, after_none}
 use Rattle.scopes.proofs.statements.+flattening.Goals as goal
 

@@ -1,9 +1,9 @@
 -- What stands with the others behind it, and each call's measure: a statement holds fewer than its list.
 use Rattle.std.proofs.Common.{◌≡◌, ◌+◌, ◌*◌, ◌++◌, drop}
 use Rattle.language.specs.Sequential.{statements}
-use Rattle.syntax.specs.Trees.{block_of, deed_of}
-use Rattle.syntax.proofs.Held.{held}
-use Rattle.scopes.specs.Statements.{lent_statements, statements_of}
+use Rattle.trees.specs.Trees.{block_of, deed_of}
+use Rattle.trees.proofs.Held.{held}
+use Rattle.resolved.specs.Statements.{lent_statements, statements_of}
 use Rattle.scopes.proofs.statements.+flattening.Given as goal
 
 abbrev pub invariant-flatten-loop-stmt : goal.invariant-flatten-loop-stmt

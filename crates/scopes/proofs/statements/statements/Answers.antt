@@ -1,6 +1,6 @@
 use Rattle.std.proofs.lemmas.Result.{IfOk-weaker}
-use Rattle.syntax.specs.Trees.{block_of}
-use Rattle.scopes.specs.Statements.{statements_of}
+use Rattle.trees.specs.Trees.{block_of}
+use Rattle.resolved.specs.Statements.{statements_of}
 use Rattle.scopes.proofs.Pushed.{behind_none}
 use Rattle.scopes.proofs.statements.statements.Goals as goal
 

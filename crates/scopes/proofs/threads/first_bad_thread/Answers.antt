@@ -1,5 +1,5 @@
 use Rattle.std.proofs.Common.{subst}
-use Rattle.syntax.specs.Trees.{thread_of, threads_of, procs_of}
+use Rattle.trees.specs.Trees.{thread_of, threads_of, procs_of}
 use Rattle.scopes.specs.Find.{AnyOf, Finds}
 use Rattle.scopes.specs.Faults.{StartsNowhere}
 use Rattle.scopes.proofs.Earliest.{as_found, found_in}

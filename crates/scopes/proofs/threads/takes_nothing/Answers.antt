@@ -1,6 +1,6 @@
 use Rattle.std.proofs.Common.{◌∙◌, ℕ, length, ap, sym, nat_eq}
 use Rattle.std.proofs.lemmas.List.{length-map}
-use Rattle.syntax.specs.Trees.{name_of}
+use Rattle.trees.specs.Trees.{name_of}
 use Rattle.scopes.proofs.threads.takes_nothing.Goals as goal
 
 pub returns : goal.returns

@@ -1,7 +1,7 @@
 use Rattle.std.proofs.Common.{◌≡◌, ◌++◌, drop}
-use Rattle.syntax.specs.Trees.{procs_of}
-use Rattle.scopes.specs.Statements.{lent}
-use Rattle.scopes.specs.Faults.{names}
+use Rattle.trees.specs.Trees.{procs_of}
+use Rattle.resolved.specs.Statements.{lent}
+use Rattle.resolved.specs.There.{names}
 use Rattle.scopes.proofs.twice.proc_names.Given as goal
 
 abbrev pub invariant-loop-proc : goal.invariant-loop-proc

@@ -1,8 +1,8 @@
 use Rattle.std.proofs.Common.{◌∙◌, ap, sym}
-use Rattle.syntax.specs.Trees.{names_of, deed_of}
+use Rattle.trees.specs.Trees.{names_of, deed_of}
 use Rattle.scopes.specs.Find.{Finds}
-use Rattle.scopes.specs.Statements.{lent, statement_of}
-use Rattle.syntax.proofs.Folds.{deed_of-Skip, deed_of-Return, deed_of-Goto, deed_of-Assign, deed_of-If, deed_of-While, deed_of-Assert, deed_of-Assume, deed_of-Call}
+use Rattle.resolved.specs.Statements.{lent, statement_of}
+use Rattle.trees.proofs.Folds.{deed_of-Skip, deed_of-Return, deed_of-Goto, deed_of-Assign, deed_of-If, deed_of-While, deed_of-Assert, deed_of-Assume, deed_of-Call}
 use Rattle.scopes.proofs.Heads.{head_is}
 use Rattle.scopes.proofs.Found.{moved, nowhere, on_ok}
 use Rattle.scopes.proofs.Pushed.{behind_none}

@@ -1,7 +1,7 @@
 use Rattle.std.proofs.Common.{rules, List, sym}
 use Rattle.language.specs.Tree.{Name}
 use Rattle.scopes.specs.Find.{AnyOf}
-use Rattle.scopes.specs.Statements.{Statement, lent, lent_statements, statement_of}
+use Rattle.resolved.specs.Statements.{Statement, lent, lent_statements, statement_of}
 use Rattle.scopes.specs.Faults.{Repeated, targets_of}
 use Rattle.scopes.proofs.Earliest.{found_at_ok}
 use Rattle.scopes.proofs.Found.{moved, both_of}

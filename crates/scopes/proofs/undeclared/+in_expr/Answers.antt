@@ -1,10 +1,10 @@
 use Rattle.std.proofs.Common.{◌++◌, ◌∙◌, ap, sym}
 use Rattle.scopes.specs.Find.{AnyOf}
-use Rattle.scopes.specs.Statements.{lent, variables_of}
+use Rattle.resolved.specs.Statements.{lent, variables_of}
 use Rattle.scopes.proofs.Found.{moved, in_both_of}
-use Rattle.syntax.specs.Trees.{expr_of}
+use Rattle.trees.specs.Trees.{expr_of}
 use Rattle.scopes.specs.Faults.{IsUnknown}
-use Rattle.syntax.proofs.Folds.{expr_of-Not, expr_of-Two}
+use Rattle.trees.proofs.Folds.{expr_of-Not, expr_of-Two}
 use Rattle.scopes.proofs.undeclared.+in_expr.Goals as goal
 
 pub returns-in-Not : goal.returns-in-Not

@@ -1,5 +1,5 @@
 use Rattle.std.proofs.Common.{◌≡◌, drop}
-use Rattle.syntax.specs.Trees.{name_of, procs_of}
+use Rattle.trees.specs.Trees.{name_of, procs_of}
 use Rattle.scopes.specs.Faults.{named}
 use Rattle.scopes.proofs.undeclared.find.Given as goal
 

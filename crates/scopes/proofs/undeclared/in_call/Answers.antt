@@ -1,6 +1,6 @@
 use Rattle.std.proofs.Common.{◌∙◌, ap, sym, refl}
-use Rattle.syntax.specs.Trees.{procs_of, deed_of}
-use Rattle.syntax.proofs.Folds.{deed_of-Skip, deed_of-Return, deed_of-Goto, deed_of-Assign, deed_of-If, deed_of-While, deed_of-Assert, deed_of-Assume, deed_of-Call}
+use Rattle.trees.specs.Trees.{procs_of, deed_of}
+use Rattle.trees.proofs.Folds.{deed_of-Skip, deed_of-Return, deed_of-Goto, deed_of-Assign, deed_of-If, deed_of-While, deed_of-Assert, deed_of-Assume, deed_of-Call}
 use Rattle.scopes.proofs.Heads.{head_is}
 use Rattle.scopes.proofs.Found.{moved, nowhere, only}
 use Rattle.scopes.specs.Faults.{CallsUnknown}

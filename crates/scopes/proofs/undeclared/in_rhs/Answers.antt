@@ -1,6 +1,6 @@
-use Rattle.syntax.specs.Trees.{rhs_of}
+use Rattle.trees.specs.Trees.{rhs_of}
 use Rattle.scopes.specs.Find.{AnyOf}
-use Rattle.scopes.specs.Statements.{lent, variables_of_side}
+use Rattle.resolved.specs.Statements.{lent, variables_of_side}
 use Rattle.scopes.specs.Faults.{IsUnknown}
 use Rattle.scopes.proofs.Found.{moved}
 use Rattle.scopes.proofs.undeclared.in_rhs.Goals as goal

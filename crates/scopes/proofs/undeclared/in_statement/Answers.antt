@@ -1,8 +1,8 @@
 use Rattle.std.proofs.Common.{ℕ, ◌∙◌, ap, refl}
-use Rattle.syntax.specs.Trees.{name_of, names_of, expr_of, exprs_of, rhs_of, rhss_of, deed_of}
+use Rattle.trees.specs.Trees.{name_of, names_of, expr_of, exprs_of, rhs_of, rhss_of, deed_of}
 use Rattle.language.specs.Tree.{Name}
-use Rattle.scopes.specs.Statements.{lent, used_by, variables_of, variables_of_all, variables_of_side, variables_of_sides}
-use Rattle.syntax.proofs.Folds.{deed_of-Skip, deed_of-Return, deed_of-Goto, deed_of-Assign, deed_of-If, deed_of-While, deed_of-Assert, deed_of-Assume, deed_of-Call}
+use Rattle.resolved.specs.Statements.{lent, used_by, variables_of, variables_of_all, variables_of_side, variables_of_sides}
+use Rattle.trees.proofs.Folds.{deed_of-Skip, deed_of-Return, deed_of-Goto, deed_of-Assign, deed_of-If, deed_of-While, deed_of-Assert, deed_of-Assume, deed_of-Call}
 use Rattle.scopes.proofs.Heads.{head_is}
 use Rattle.scopes.proofs.Earliest.{as_found, found_in, flat}
 use Rattle.scopes.proofs.Found.{moved, nowhere, in_both_of}

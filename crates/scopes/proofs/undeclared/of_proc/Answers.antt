@@ -1,8 +1,8 @@
 use Rattle.std.proofs.Common.{subst, ◌++◌, List, sym, ◌∙◌, ap}
 use Rattle.language.specs.Tree.{Name}
-use Rattle.syntax.specs.Trees.{names_of, proc_of, procs_of}
+use Rattle.trees.specs.Trees.{names_of, proc_of, procs_of}
 use Rattle.scopes.specs.Find.{AnyOf, Finds}
-use Rattle.scopes.specs.Statements.{Statement, lent, lent_statements, statement_of, statements_of}
+use Rattle.resolved.specs.Statements.{Statement, lent, lent_statements, statement_of, statements_of}
 use Rattle.scopes.specs.Faults.{IsUndeclaredIn}
 use Rattle.scopes.proofs.Found.{moved}
 use Rattle.scopes.proofs.Earliest.{as_found, found_in}

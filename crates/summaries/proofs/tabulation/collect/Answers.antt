@@ -1,6 +1,6 @@
 -- What is read off full tables is what the program's procedures do.
 use Rattle.std.proofs.Common.{◌↔◌, ◌∙◌, subst}
-use Rattle.round_rewrite.specs.Law.{SomeBad}
+use Rattle.language.specs.Sequential.{SomeBad}
 use Rattle.summaries.specs.Tabulated.{SomePairBad}
 use Rattle.summaries.proofs.Steps.{as_many}
 use Rattle.summaries.proofs.Tabulating.{few, all_summaries, all_bad}

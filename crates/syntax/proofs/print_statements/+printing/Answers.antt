@@ -1,8 +1,8 @@
 use Rattle.std.proofs.Common.{◌+◌, ◌<◌, ◌≤◌, ◌*◌, arith}
 use Rattle.std.specs.String.{string_bytes}
-use Rattle.syntax.specs.Trees.{deed_of, block_of}
+use Rattle.trees.specs.Trees.{deed_of, block_of}
 use Rattle.language.specs.Sequential.{statements}
-use Rattle.syntax.proofs.Held.{held, smaller}
+use Rattle.trees.proofs.Held.{held, smaller}
 use Rattle.syntax.proofs.PrintedBlocks.{one_printed, none_left}
 use Rattle.syntax.proofs.PrintedDeeds.{assigned, called, asserted, assumed, branched, repeated, branch_pushed, loop_pushed}
 use Rattle.syntax.proofs.print_statements.+printing.Goals as goal

@@ -1,6 +1,6 @@
 use Rattle.std.proofs.Common.{◌≡◌}
 use Rattle.std.specs.String.{string_bytes}
-use Rattle.syntax.specs.Trees.{tree_of}
+use Rattle.trees.specs.Trees.{tree_of}
 use Rattle.syntax.specs.Printed.{printed}
 use Rattle.syntax.proofs.PrintedPrograms.{program_printed}
 use Rattle.syntax.proofs.ReadsBack.{bytes_read_back}

@@ -1,6 +1,6 @@
 -- The program that is tabulated is the sequential one.
 use Rattle.language.specs.Sequential.{sequential_of}
-use Rattle.syntax.specs.Trees.{tree_of}
+use Rattle.trees.specs.Trees.{tree_of}
 use Rattle.table_rows.proofs.whole.tabulated.Given as goal
 
 abbrev pub ghost-by_graphs : goal.ghost-by_graphs

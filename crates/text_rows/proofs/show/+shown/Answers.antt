@@ -1,7 +1,7 @@
 use Rattle.std.proofs.Common.{◌+◌, ◌<◌, ◌≤◌, ◌*◌, arith}
 use Rattle.language.specs.Sequential.{statements}
-use Rattle.syntax.specs.Trees.{deed_of, block_of}
-use Rattle.syntax.proofs.Held.{held, smaller}
+use Rattle.trees.specs.Trees.{deed_of, block_of}
+use Rattle.trees.proofs.Held.{held, smaller}
 use Rattle.text_rows.proofs.show.+shown.Goals as goal
 
 pub show_stmts-show_core-requires : goal.show_stmts-show_core-requires

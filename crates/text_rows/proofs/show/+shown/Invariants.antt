@@ -1,7 +1,7 @@
 use Rattle.std.proofs.Common.{◌+◌, ◌*◌}
 use Rattle.language.specs.Sequential.{statements}
-use Rattle.syntax.specs.Trees.{deed_of, block_of}
-use Rattle.syntax.proofs.Held.{held}
+use Rattle.trees.specs.Trees.{deed_of, block_of}
+use Rattle.trees.proofs.Held.{held}
 use Rattle.text_rows.proofs.show.+shown.Given as goal
 
 abbrev pub decreases-show_stmts : goal.decreases-show_stmts

@@ -1,5 +1,5 @@
 -- Each argument is one bit more of the entry.
-use Rattle.round_rewrite.specs.Limits.{most_places}
+use Rattle.resolved.specs.Limits.{most_places}
 use Rattle.std.proofs.Common.{◌∷◌, ◌+◌, ◌∙◌, ◌<◌, ap, sym, drop, arith}
 use Rattle.std.proofs.lemmas.List.{drop_more}
 use Rattle.flow_graph.specs.Bits.{worth_of}

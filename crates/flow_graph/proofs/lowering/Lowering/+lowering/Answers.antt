@@ -6,10 +6,10 @@ use Rattle.language.specs.Resolve.{resolve_block}
 use Rattle.language.specs.Rest.{join}
 use Rattle.language.specs.Sequential.{statements, numbered}
 use Rattle.language.specs.Flow.{rests}
-use Rattle.syntax.specs.Trees.{deed_of, block_of, rhs_of}
-use Rattle.syntax.proofs.Held.{held, first_counts}
-use Rattle.syntax.proofs.Folds.{deed_of-If, deed_of-While}
-use Rattle.syntax.proofs.Plain.{is_simple}
+use Rattle.trees.specs.Trees.{deed_of, block_of, rhs_of}
+use Rattle.trees.proofs.Held.{held, first_counts}
+use Rattle.trees.proofs.Folds.{deed_of-If, deed_of-While}
+use Rattle.trees.proofs.Plain.{is_simple}
 use Rattle.flow_graph.specs.Nodes.{point_at, node_of}
 use Rattle.flow_graph.specs.Flows.{widths_of, Lowered}
 use Rattle.flow_graph.specs.Lowering.{lowering_scope, lowered_body, code_from, LoweredIn}

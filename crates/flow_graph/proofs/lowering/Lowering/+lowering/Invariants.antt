@@ -4,8 +4,8 @@ use Rattle.std.proofs.Common.{◌≡◌, ◌≤◌, ◌+◌, ◌*◌, List, leng
 use Rattle.language.specs.Rest.{Code}
 use Rattle.language.specs.Sequential.{statements}
 use Rattle.language.specs.Flow.{rests}
-use Rattle.syntax.specs.Trees.{deed_of, block_of}
-use Rattle.syntax.proofs.Held.{held}
+use Rattle.trees.specs.Trees.{deed_of, block_of}
+use Rattle.trees.proofs.Held.{held}
 use Rattle.flow_graph.specs.declared.flow.Flow.{Flow}
 use Rattle.flow_graph.specs.Nodes.{point_at, node_of}
 use Rattle.flow_graph.specs.Flows.{widths_of, Lowered}

@@ -3,7 +3,7 @@ use Rattle.std.proofs.Common.{◌≡◌, ◌+◌, ◌++◌, ◌∷◌, [], drop,
 use Rattle.std.proofs.lemmas.List.{drop_more, drop_all, length-map, append-nil}
 use Rattle.language.specs.Value.{value_of, values_of}
 use Rattle.language.specs.Resolve.{number_of, resolve_expression}
-use Rattle.syntax.specs.Trees.{name_of, expr_of, exprs_of, proc_of, procs_of}
+use Rattle.trees.specs.Trees.{name_of, expr_of, exprs_of, proc_of, procs_of}
 use Rattle.flow_graph.specs.Bits.{coded}
 use Rattle.flow_graph.specs.Formulas.{says}
 use Rattle.flow_graph.specs.Lowering.{lowering_scope}

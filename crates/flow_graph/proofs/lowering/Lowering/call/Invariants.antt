@@ -2,7 +2,7 @@
 use Rattle.std.proofs.Common.{◌≡◌, ◌++◌, Bool, List, drop, length, map}
 use Rattle.language.specs.Value.{values_of}
 use Rattle.language.specs.Resolve.{resolve_expression}
-use Rattle.syntax.specs.Trees.{exprs_of}
+use Rattle.trees.specs.Trees.{exprs_of}
 use Rattle.flow_graph.specs.Bits.{coded}
 use Rattle.flow_graph.specs.Formulas.{says}
 use Rattle.flow_graph.specs.Lowering.{lowering_scope}

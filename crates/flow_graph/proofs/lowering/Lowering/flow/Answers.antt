@@ -4,10 +4,9 @@ use Rattle.std.proofs.lemmas.Result.{IfOk-weaker}
 use Rattle.language.specs.Tree.{assign, assert, assume, goto, call, done}
 use Rattle.language.specs.Rest.{rest_from}
 use Rattle.language.specs.Sequential.{statements}
-use Rattle.syntax.specs.Trees.{deed_of, block_of, name_of, names_of, rhs_of, rhss_of, exprs_of}
-use Rattle.syntax.proofs.Held.{held}
-use Rattle.syntax.proofs.Folds.{deed_of-Assign, deed_of-Assert, deed_of-Assume, deed_of-Goto, deed_of-Call}
-use Rattle.syntax.proofs.Folds.{deed_of-If, deed_of-While}
+use Rattle.trees.specs.Trees.{deed_of, block_of, name_of, names_of, rhs_of, rhss_of, exprs_of}
+use Rattle.trees.proofs.Held.{held}
+use Rattle.trees.proofs.Folds.{deed_of-Assign, deed_of-Assert, deed_of-Assume, deed_of-Goto, deed_of-Call, deed_of-If, deed_of-While}
 use Rattle.flow_graph.specs.Nodes.{point_at, assumes, goes_to}
 use Rattle.flow_graph.specs.Lowering.{lowered_body, side_in, assignment_in, call_in}
 use Rattle.flow_graph.proofs.Counted.{alone_counts}

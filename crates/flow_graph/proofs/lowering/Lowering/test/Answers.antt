@@ -1,7 +1,7 @@
 -- Where both points are one, nothing is tested.
 use Rattle.std.proofs.lemmas.Result.{IfOk-weaker}
 use Rattle.language.specs.Resolve.{resolve_side}
-use Rattle.syntax.specs.Trees.{rhs_of}
+use Rattle.trees.specs.Trees.{rhs_of}
 use Rattle.flow_graph.specs.Nodes.{goes, tests}
 use Rattle.flow_graph.specs.Lowering.{lowering_scope, DoesIn}
 use Rattle.flow_graph.proofs.Doing.{does_same}

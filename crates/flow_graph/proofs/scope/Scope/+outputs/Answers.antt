@@ -1,8 +1,8 @@
 -- The outputs of an expression from those of its operands.
 use Rattle.std.proofs.Common.{◌∙◌, true, false, replicate, refl, sym, ap, subst}
 use Rattle.language.specs.Tree.{const}
-use Rattle.syntax.specs.Trees.{operator_of, expr_of}
-use Rattle.syntax.proofs.Folds.{expr_of-Const, expr_of-Not, expr_of-Two}
+use Rattle.trees.specs.Trees.{operator_of, expr_of}
+use Rattle.trees.proofs.Folds.{expr_of-Const, expr_of-Not, expr_of-Two}
 use Rattle.flow_graph.specs.Located.{located}
 use Rattle.flow_graph.specs.Tables.{Tabulates}
 use Rattle.flow_graph.specs.Views.{scope_seen}

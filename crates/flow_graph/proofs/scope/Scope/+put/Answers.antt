@@ -1,7 +1,7 @@
 -- Two operands and their operator: the one that needs more comes first.
 use Rattle.std.proofs.Common.{◌<◌, ◌≤◌, ◌∙◌, sym, ap, subst, arith}
-use Rattle.syntax.specs.Trees.{expr_of}
-use Rattle.syntax.proofs.Folds.{expr_of-Two}
+use Rattle.trees.specs.Trees.{expr_of}
+use Rattle.trees.proofs.Folds.{expr_of-Two}
 use Rattle.flow_graph.specs.Located.{located}
 use Rattle.flow_graph.specs.Postfix.{need, Puts}
 use Rattle.flow_graph.specs.Views.{scope_seen}

@@ -1,7 +1,7 @@
 -- Each target is written, unless it is declared nowhere or written again.
 use Rattle.std.proofs.Common.{◌≡◌, ◌+◌, ◌^◌, length, map, ap, sym, ◌∙◌, subst, arith}
 use Rattle.std.specs.Prelude.{IfOk}
-use Rattle.syntax.specs.Trees.{names_of, rhs_of, rhss_of}
+use Rattle.trees.specs.Trees.{names_of, rhs_of, rhss_of}
 use Rattle.flow_graph.specs.Assignments.{anys}
 use Rattle.flow_graph.specs.Located.{bit_of_name}
 use Rattle.flow_graph.specs.Formulas.{SaysSide}

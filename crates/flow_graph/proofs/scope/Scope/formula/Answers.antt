@@ -1,5 +1,5 @@
 use Rattle.std.proofs.Common.{◌∙◌, ◌++◌, IfSome, subst}
-use Rattle.syntax.specs.Trees.{expr_of}
+use Rattle.trees.specs.Trees.{expr_of}
 use Rattle.flow_graph.specs.Bits.{bit_of, coded}
 use Rattle.flow_graph.specs.Formulas.{IsTableOf}
 use Rattle.flow_graph.specs.Views.{scope_seen, over_bits}

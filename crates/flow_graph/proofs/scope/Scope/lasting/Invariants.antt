@@ -1,6 +1,6 @@
 -- the bit is none of those so far
 use Rattle.std.proofs.Common.{◌≡◌, drop, map}
-use Rattle.syntax.specs.Trees.{names_of}
+use Rattle.trees.specs.Trees.{names_of}
 use Rattle.flow_graph.specs.Assignments.{is_among}
 use Rattle.flow_graph.specs.Located.{bit_of_name}
 use Rattle.flow_graph.specs.Views.{scope_seen}

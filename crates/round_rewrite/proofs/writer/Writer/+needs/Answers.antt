@@ -1,11 +1,11 @@
 use Rattle.std.proofs.Common.{◌+◌, ◌*◌, ◌<◌, max, ◌∙◌, ap, sym, arith}
 use Rattle.language.specs.Sequential.{statements}
-use Rattle.syntax.specs.Trees.{deed_of, block_of, names_of, rhss_of}
+use Rattle.trees.specs.Trees.{deed_of, block_of, names_of, rhss_of}
 use Rattle.round_rewrite.specs.Table.{draws, temporaries}
 use Rattle.round_rewrite.specs.Writing.{naming_of, deed_needs}
-use Rattle.syntax.proofs.Held.{held, smaller}
+use Rattle.trees.proofs.Held.{held, smaller}
 use Rattle.round_rewrite.proofs.Needing.{one_more, no_more}
-use Rattle.syntax.proofs.Folds.{deed_of-Skip, deed_of-Return, deed_of-Goto, deed_of-Assert, deed_of-Assume, deed_of-Assign, deed_of-Call, deed_of-If, deed_of-While}
+use Rattle.trees.proofs.Folds.{deed_of-Skip, deed_of-Return, deed_of-Goto, deed_of-Assert, deed_of-Assume, deed_of-Assign, deed_of-Call, deed_of-If, deed_of-While}
 use Rattle.round_rewrite.proofs.writer.Writer.+needs.Goals as goal
 
 pub needs-needs_of-requires : goal.needs-needs_of-requires

@@ -1,10 +1,10 @@
 -- What the statements so far need, with what the others need; each call's measure as in the rewriting.
 use Rattle.std.proofs.Common.{◌≡◌, ◌+◌, ◌*◌, max, drop}
 use Rattle.language.specs.Sequential.{statements}
-use Rattle.syntax.specs.Trees.{deed_of, block_of}
+use Rattle.trees.specs.Trees.{deed_of, block_of}
 use Rattle.round_rewrite.specs.Table.{temporaries}
 use Rattle.round_rewrite.specs.Writing.{naming_of}
-use Rattle.syntax.proofs.Held.{held}
+use Rattle.trees.proofs.Held.{held}
 use Rattle.round_rewrite.proofs.writer.Writer.+needs.Given as goal
 
 abbrev pub invariant-needs-loop-stmt : goal.invariant-needs-loop-stmt

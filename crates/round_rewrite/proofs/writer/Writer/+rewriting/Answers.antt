@@ -2,13 +2,13 @@ use Rattle.std.proofs.Common.{sym, ◌+◌, ◌*◌, ◌<◌, refl, ◌∙◌, a
 use Rattle.std.proofs.lemmas.Result.{IfOk-weaker}
 use Rattle.language.specs.Tree.{skip, leave, assign, call, done}
 use Rattle.language.specs.Sequential.{statements}
-use Rattle.syntax.specs.Trees.{simple, branch, repeat, name_of, names_of, rhs_of, rhss_of, exprs_of, deed_of, block_of, items_of, all_before}
+use Rattle.trees.specs.Trees.{simple, branch, repeat, name_of, names_of, rhs_of, rhss_of, exprs_of, deed_of, block_of, items_of, all_before}
 use Rattle.round_rewrite.specs.Table.{plain, prologue}
 use Rattle.round_rewrite.specs.Writing.{naming_of, forms}
-use Rattle.syntax.proofs.Held.{held, smaller}
+use Rattle.trees.proofs.Held.{held, smaller}
 use Rattle.round_rewrite.proofs.Laying.{laid}
 use Rattle.round_rewrite.proofs.Forms.{by_core, core_is, one_more, no_more, block_whole, block_done}
-use Rattle.syntax.proofs.Folds.{deed_of-Skip, deed_of-Return, deed_of-Goto, deed_of-Assert, deed_of-Assume, deed_of-Assign, deed_of-Call, deed_of-If, deed_of-While}
+use Rattle.trees.proofs.Folds.{deed_of-Skip, deed_of-Return, deed_of-Goto, deed_of-Assert, deed_of-Assume, deed_of-Assign, deed_of-Call, deed_of-If, deed_of-While}
 use Rattle.round_rewrite.proofs.writer.Writer.+rewriting.Goals as goal
 
 pub block-core-requires : goal.block-core-requires

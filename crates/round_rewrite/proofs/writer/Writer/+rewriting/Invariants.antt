@@ -1,9 +1,9 @@
 -- What stands with the rest rewritten behind it, and each call's measure: a statement holds fewer than its list.
 use Rattle.std.proofs.Common.{◌≡◌, ◌+◌, ◌*◌, drop}
 use Rattle.language.specs.Sequential.{statements}
-use Rattle.syntax.specs.Trees.{items_of, deed_of, block_of, all_before}
+use Rattle.trees.specs.Trees.{items_of, deed_of, block_of, all_before}
 use Rattle.round_rewrite.specs.Writing.{Statements, forms, naming_of}
-use Rattle.syntax.proofs.Held.{held}
+use Rattle.trees.proofs.Held.{held}
 use Rattle.round_rewrite.proofs.writer.Writer.+rewriting.Given as goal
 
 abbrev pub invariant-block-loop-stmt : goal.invariant-block-loop-stmt

@@ -1,6 +1,6 @@
 use Rattle.std.proofs.Common.{◌≡◌, sym, ◌∙◌, ap, [], ◌∷◌, ◌++◌, suc, ◌+◌, arith}
 use Rattle.std.proofs.lemmas.List.{map-append}
-use Rattle.syntax.specs.Trees.{name_of, names_of, expr_of, rhs_of, rhss_of}
+use Rattle.trees.specs.Trees.{name_of, names_of, expr_of, rhs_of, rhss_of}
 use Rattle.round_rewrite.specs.Writing.{naming_of}
 use Rattle.round_rewrite.specs.Table.{sides}
 use Rattle.round_rewrite.proofs.Assigning.{sides_kept, sides_drawn, sides_value}

@@ -1,5 +1,5 @@
 use Rattle.std.proofs.Common.{◌∙◌, ap, ◌++◌, ◌+◌, map, drop}
-use Rattle.syntax.specs.Trees.{expr_of, exprs_of}
+use Rattle.trees.specs.Trees.{expr_of, exprs_of}
 use Rattle.round_rewrite.specs.Table.{expression}
 use Rattle.round_rewrite.specs.Writing.{naming_of}
 use Rattle.round_rewrite.proofs.Pushed.{one_through}

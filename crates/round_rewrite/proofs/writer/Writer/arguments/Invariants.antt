@@ -1,6 +1,6 @@
 -- The arguments so far, and what the others are rewritten to.
 use Rattle.std.proofs.Common.{◌≡◌, ◌++◌, map, drop}
-use Rattle.syntax.specs.Trees.{exprs_of}
+use Rattle.trees.specs.Trees.{exprs_of}
 use Rattle.round_rewrite.specs.Table.{expression}
 use Rattle.round_rewrite.specs.Writing.{naming_of}
 use Rattle.round_rewrite.proofs.writer.Writer.arguments.Given as goal

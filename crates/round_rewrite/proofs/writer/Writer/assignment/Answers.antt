@@ -1,10 +1,10 @@
 use Rattle.std.proofs.Common.{◌∙◌, ap, ◌++◌}
 use Rattle.language.specs.Tree.{assign}
-use Rattle.syntax.specs.Trees.{simple, names_of, rhss_of, items_of, all_before}
+use Rattle.trees.specs.Trees.{simple, names_of, rhss_of, items_of, all_before}
 use Rattle.round_rewrite.specs.Table.{plain, drawing, targets, sides}
 use Rattle.round_rewrite.specs.Writing.{naming_of}
 use Rattle.round_rewrite.proofs.Laying.{laid}
-use Rattle.syntax.proofs.Folds.{deed_of-Assign}
+use Rattle.trees.proofs.Folds.{deed_of-Assign}
 use Rattle.round_rewrite.proofs.writer.Writer.assignment.Goals as goal
 
 pub returns : goal.returns

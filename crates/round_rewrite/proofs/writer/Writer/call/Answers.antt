@@ -1,9 +1,9 @@
 use Rattle.std.proofs.Common.{◌∙◌}
 use Rattle.language.specs.Tree.{call}
-use Rattle.syntax.specs.Trees.{simple}
+use Rattle.trees.specs.Trees.{simple}
 use Rattle.round_rewrite.specs.Table.{plain}
 use Rattle.round_rewrite.proofs.Laying.{laid}
-use Rattle.syntax.proofs.Folds.{deed_of-Call}
+use Rattle.trees.proofs.Folds.{deed_of-Call}
 use Rattle.round_rewrite.proofs.writer.Writer.call.Goals as goal
 
 pub returns : goal.returns

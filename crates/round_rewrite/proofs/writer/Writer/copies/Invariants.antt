@@ -1,6 +1,6 @@
 -- The copies so far.
 use Rattle.std.proofs.Common.{◌≡◌, ◌++◌, map}
-use Rattle.syntax.specs.Trees.{name_of, names_of}
+use Rattle.trees.specs.Trees.{name_of, names_of}
 use Rattle.round_rewrite.specs.Table.{numbers}
 use Rattle.round_rewrite.specs.Names.{copy_name}
 use Rattle.round_rewrite.proofs.writer.Writer.copies.Given as goal

@@ -1,12 +1,12 @@
 use Rattle.std.proofs.Common.{◌∙◌, ap, ◌++◌}
 use Rattle.language.specs.Tree.{assign}
-use Rattle.syntax.specs.Trees.{simple, names_of, items_of, all_before}
+use Rattle.trees.specs.Trees.{simple, names_of, items_of, all_before}
 use Rattle.round_rewrite.specs.Table.{plain, numbers}
 use Rattle.round_rewrite.specs.Names.{drawn_name}
 use Rattle.round_rewrite.specs.Writing.{naming_of}
 use Rattle.round_rewrite.proofs.Laying.{laid}
 use Rattle.round_rewrite.proofs.Forms.{drawing_some}
-use Rattle.syntax.proofs.Folds.{deed_of-Assign}
+use Rattle.trees.proofs.Folds.{deed_of-Assign}
 use Rattle.round_rewrite.proofs.writer.Writer.drawing.Goals as goal
 
 pub returns : goal.returns

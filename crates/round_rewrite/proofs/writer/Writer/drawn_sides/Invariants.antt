@@ -1,7 +1,7 @@
 -- The right sides so far.
 use Rattle.std.proofs.Common.{◌≡◌, ◌++◌, map}
 use Rattle.language.specs.Tree.{var}
-use Rattle.syntax.specs.Trees.{name_of, rhss_of}
+use Rattle.trees.specs.Trees.{name_of, rhss_of}
 use Rattle.round_rewrite.specs.Table.{numbers, written}
 use Rattle.round_rewrite.specs.Names.{drawn_name}
 use Rattle.round_rewrite.specs.Writing.{naming_of}

@@ -1,6 +1,6 @@
 use Rattle.std.proofs.Common.{sym, ◌∙◌, ap, not, ◌++◌}
 use Rattle.language.specs.Resolve.{is_declared}
-use Rattle.syntax.specs.Trees.{names_of}
+use Rattle.trees.specs.Trees.{names_of}
 use Rattle.round_rewrite.proofs.Numbering.{number_left, number_right}
 use Rattle.round_rewrite.proofs.writer.Writer.is_shared.Goals as goal
 

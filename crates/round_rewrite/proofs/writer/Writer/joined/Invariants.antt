@@ -1,6 +1,6 @@
 -- The rounds up to this one are joined.
 use Rattle.std.proofs.Common.{◌≡◌}
-use Rattle.syntax.specs.Trees.{name_of, expr_of}
+use Rattle.trees.specs.Trees.{name_of, expr_of}
 use Rattle.round_rewrite.specs.Table.{joined}
 use Rattle.round_rewrite.specs.Writing.{naming_of}
 use Rattle.round_rewrite.proofs.writer.Writer.joined.Given as goal

@@ -1,7 +1,7 @@
 use Rattle.std.proofs.Common.{◌∙◌, [], ◌∷◌, ◌++◌}
 use Rattle.language.specs.Tree.{value, assign}
-use Rattle.syntax.specs.Trees.{simple, rhss_of}
-use Rattle.syntax.proofs.Folds.{deed_of-Assign}
+use Rattle.trees.specs.Trees.{simple, rhss_of}
+use Rattle.trees.proofs.Folds.{deed_of-Assign}
 use Rattle.round_rewrite.proofs.writer.Writer.next_round.Goals as goal
 
 pub returns : goal.returns

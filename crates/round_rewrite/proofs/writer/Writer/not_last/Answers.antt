@@ -1,7 +1,7 @@
 use Rattle.std.proofs.Common.{◌∙◌, ap}
 use Rattle.language.specs.Tree.{negation, value, assume}
-use Rattle.syntax.specs.Trees.{simple}
-use Rattle.syntax.proofs.Folds.{deed_of-Assume}
+use Rattle.trees.specs.Trees.{simple}
+use Rattle.trees.proofs.Folds.{deed_of-Assume}
 use Rattle.round_rewrite.proofs.writer.Writer.not_last.Goals as goal
 
 pub returns : goal.returns

@@ -1,8 +1,8 @@
 use Rattle.std.proofs.Common.{◌∙◌, ap}
 use Rattle.language.specs.Tree.{any, done}
-use Rattle.syntax.specs.Trees.{repeat, items_of, deed_of, marked_before, all_before}
+use Rattle.trees.specs.Trees.{repeat, items_of, deed_of, marked_before, all_before}
 use Rattle.round_rewrite.specs.Table.{plain}
-use Rattle.syntax.proofs.Folds.{deed_of-While}
+use Rattle.trees.proofs.Folds.{deed_of-While}
 use Rattle.round_rewrite.proofs.writer.Writer.rising.Goals as goal
 
 pub returns : goal.returns

@@ -1,4 +1,4 @@
-use Rattle.syntax.specs.Trees.{name_of, expr_of, rhss_of}
+use Rattle.trees.specs.Trees.{name_of, expr_of, rhss_of}
 use Rattle.round_rewrite.specs.Table.{written, expression}
 use Rattle.round_rewrite.specs.Writing.{naming_of}
 use Rattle.round_rewrite.proofs.Pushed.{over_rounds}

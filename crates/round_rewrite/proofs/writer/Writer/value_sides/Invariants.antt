@@ -1,6 +1,6 @@
 -- The right sides so far.
 use Rattle.std.proofs.Common.{◌≡◌, ◌++◌, map}
-use Rattle.syntax.specs.Trees.{name_of, expr_of, rhss_of}
+use Rattle.trees.specs.Trees.{name_of, expr_of, rhss_of}
 use Rattle.round_rewrite.specs.Table.{numbers, written, expression}
 use Rattle.round_rewrite.specs.Writing.{naming_of}
 use Rattle.round_rewrite.proofs.writer.Writer.value_sides.Given as goal

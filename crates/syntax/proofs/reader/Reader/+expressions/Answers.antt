@@ -2,11 +2,11 @@ use Rattle.std.proofs.Common.{rules, ◌≡◌, List, ◌∙◌, sym, ap, Some}
 use Rattle.language.specs.Tree.{Name, Expression, two}
 use Rattle.syntax.specs.Grammar.{right_level}
 use Rattle.syntax.specs.Exact.{reading, from, after}
-use Rattle.syntax.specs.Trees.{operator_of, expr_of}
+use Rattle.trees.specs.Trees.{operator_of, expr_of}
 use Rattle.tokens.specs.declared.vocabulary.Token.{Token}
 use Rattle.tokens.specs.Token.{tok_of, toks_of}
 use Rattle.syntax.proofs.Expressions.{goes_on, ends_before, ends_empty}
-use Rattle.syntax.proofs.Folds.{expr_of-Two}
+use Rattle.trees.proofs.Folds.{expr_of-Two}
 use Rattle.syntax.proofs.reader.Reader.+expressions.Goals as goal
 use Rattle.syntax.proofs.reader.Reader.+expressions.Goals.{expression-in-Some+in_default-operator_of_kind, expression-in_default}
 

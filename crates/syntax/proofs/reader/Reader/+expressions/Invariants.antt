@@ -1,6 +1,6 @@
 use Rattle.std.proofs.Common.{◌≡◌, ◌<◌, length, ◌+◌, ◌*◌}
 use Rattle.syntax.specs.Exact.{reading, from, after}
-use Rattle.syntax.specs.Trees.{expr_of}
+use Rattle.trees.specs.Trees.{expr_of}
 use Rattle.tokens.specs.Token.{toks_of}
 use Rattle.syntax.proofs.reader.Reader.+expressions.Given as goal
 

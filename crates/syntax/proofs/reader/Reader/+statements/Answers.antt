@@ -3,12 +3,10 @@ use Rattle.tokens.specs.declared.vocabulary.Kind.TheVariants as kind
 use Rattle.tokens.specs.Token.{toks_of, same_kind}
 use Rattle.syntax.specs.Parser.{take}
 use Rattle.syntax.specs.Exact.{item, section_behind, going_on, put_before, if_deed, while_deed}
-use Rattle.syntax.specs.Trees.{Deed, Item, item_of, items_of}
+use Rattle.trees.specs.Trees.{Deed, Item, item_of, items_of}
 use Rattle.syntax.proofs.Exits.{refused}
-use Rattle.syntax.proofs.Folds.{deed_of-Skip, deed_of-Return, deed_of-If, deed_of-While}
-use Rattle.syntax.proofs.Goings.{sections_start, sections_no_start, sections_go_on, sections_refused}
-use Rattle.syntax.proofs.Goings.{if_no_yes, if_no_no, if_no_end, if_whole, while_no_body, while_no_end}
-use Rattle.syntax.proofs.Goings.{while_whole, deed_begins}
+use Rattle.trees.proofs.Folds.{deed_of-Skip, deed_of-Return, deed_of-If, deed_of-While}
+use Rattle.syntax.proofs.Goings.{sections_start, sections_no_start, sections_go_on, sections_refused, if_no_yes, if_no_no, if_no_end, if_whole, while_no_body, while_no_end, while_whole, deed_begins}
 use Rattle.syntax.proofs.Loops.{pushed}
 use Rattle.syntax.proofs.reader.Reader.+statements.Goals as goal
 

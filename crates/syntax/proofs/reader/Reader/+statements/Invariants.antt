@@ -1,6 +1,6 @@
 use Rattle.std.proofs.Common.{◌≡◌, ◌<◌, length, ◌+◌, ◌*◌}
 use Rattle.syntax.specs.Exact.{section, going_on, put_before}
-use Rattle.syntax.specs.Trees.{items_of}
+use Rattle.trees.specs.Trees.{items_of}
 use Rattle.tokens.specs.Token.{toks_of}
 use Rattle.syntax.proofs.reader.Reader.+statements.Given as goal
 

@@ -1,6 +1,6 @@
 use Rattle.std.proofs.Common.{◌≡◌, ◌≤◌, length}
 use Rattle.syntax.specs.Exact.{all_declarations, prepend}
-use Rattle.syntax.specs.Trees.{names_of}
+use Rattle.trees.specs.Trees.{names_of}
 use Rattle.tokens.specs.Token.{toks_of}
 use Rattle.syntax.proofs.reader.Reader.declarations.Given as goal
 

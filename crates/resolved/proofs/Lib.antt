@@ -1,0 +1,4 @@
+pub mod Each
+pub mod Completing
+pub mod Sequences
+pub mod Counted

@@ -1,0 +1,113 @@
+-- The procedures of a tree as a sequential program: one for each, as wide, and each call has a place for each argument.
+use Rattle.std.proofs.Common.{◌≡◌, ℕ, zero, suc, ◌+◌, ◌≤◌, List, [], ◌∷◌, ◌++◌, length, map, Option, Some, None, slice_get, option_map, inl, inr, refl, sym, ◌∙◌, ap, subst}
+use Rattle.std.proofs.lemmas.List.{length-map}
+use Rattle.std.proofs.lemmas.Option.{none-some, same_Some}
+use Rattle.language.specs.Tree.{RightSide, Simple, call, done, one, choose, loop, Procedure, Tree}
+use Rattle.language.specs.Value.{Place}
+use Rattle.language.specs.Rest.{Label, Code, join}
+use Rattle.language.specs.Step.{Routine, Program, AtRoutine, body_of}
+use Rattle.language.specs.Resolve.{routine_of, scope_of, resolve_block}
+use Rattle.language.specs.Sequential.{numbered, numbered_routine, point_of, sequential_of}
+use Rattle.language.specs.Flow.{rests, Member, IsRestOf}
+use Rattle.language.specs.Messages.{ArgumentsFit}
+use Rattle.language.proofs.Members.{member_append}
+use Rattle.resolved.specs.Narrow.{EachProcedure, width, AllNarrow}
+use Rattle.resolved.specs.Resolves.{Resolves}
+use Rattle.resolved.specs.Scoped.{SideInScope, Throughout}
+use Rattle.resolved.specs.Complete.{SimpleComplete, RoutineComplete, IsComplete}
+use Rattle.resolved.proofs.Each.{each_at}
+use Rattle.resolved.proofs.Completing.{resolving_complete}
+use Rattle.resolved.specs.Limits.{most_places}
+
+module _ (S : Simple Place ℕ Label → Type 0) (R : RightSide Place → Type 0) where
+  -- the first statement has the one property, or its right side the other
+  abbrev Heads : Code → Type 0
+  Heads done = Unit {0}
+  Heads (one m s t) = S s
+  Heads (choose m r a b t) = R r
+  Heads (loop m r a t) = R r
+
+  -- what each statement of a block has, the first of each of its rests has
+  heads : (b k r : Code) → Throughout S R b → Member r (rests b k) → Heads r
+  heads done k r h f = absurd f
+  heads (one m s t) k r h (inl e) = subst Heads (sym e) h.0
+  heads (one m s t) k r h (inr f) = heads t k r h.1 f
+  heads (choose m c a b t) k r h (inl e) = subst Heads (sym e) h.0
+  heads (choose m c a b t) k r h (inr f) =
+      elim (member_append r (rests a (join t k)) (rests b (join t k) ++ rests t k) f) [
+        | inl g ↦ heads a (join t k) r h.1 g
+        | inr g ↦ elim (member_append r (rests b (join t k)) (rests t k) g) [
+          | inl i ↦ heads b (join t k) r h.2 i
+          | inr i ↦ heads t k r h.3 i
+        ]
+      ]
+  heads (loop m c a t) k r h (inl e) = subst Heads (sym e) h.0
+  heads (loop m c a t) k r h (inr f) =
+      elim (member_append r (rests a (loop m c a (join t k))) (rests t k) f) [
+        | inl g ↦ heads a (loop m c a (join t k)) r h.1 g
+        | inr g ↦ heads t k r h.2 g
+      ]
+
+-- where a program is complete, each call in a body has a place for each argument
+complete_fit : (p : Program) → IsComplete p → ArgumentsFit p
+complete_fit p complete q s m es t rest = at (slice_get p.routines q) refl rest
+  where
+    Fits : Type 0
+    Fits = AtRoutine (slice_get p.routines s) (λ r. length es ≤ r.places)
+
+    member : (b : Code) → IsRestOf b (one m (call s es) t) → Member (one m (call s es) t) (rests b done)
+    member b (inl e) = absurd (none-some m.at (sym (ap point_of e)))
+    member b (inr f) = f
+
+    at : (o : Option Routine) → slice_get p.routines q ≡ o → IsRestOf (body_of o) (one m (call s es) t) → Fits
+    at None e rest = absurd (member done rest)
+    at (Some routine) e rest =
+        let whole : RoutineComplete p.routines p.globals routine = each_at (RoutineComplete p.routines p.globals) p.routines q routine complete.routines e in
+        let here = heads (SimpleComplete p.routines p.globals routine) (SideInScope p.globals routine.places) routine.body done (one m (call s es) t) whole (member routine.body rest) in
+        here.1
+
+pub resolving_fit : (t : Tree) → Resolves t → ArgumentsFit (sequential_of t)
+resolving_fit t h = complete_fit (sequential_of t) (resolving_complete t h)
+
+-- a procedure as one of a sequential program
+abbrev pub sequential_routine : Tree → Procedure → Routine
+sequential_routine t p = record {
+  places = length (p.formals ++ p.locals);
+  body = numbered 1 (resolve_block (scope_of t p) p.body);
+}
+
+-- there is one for each procedure
+pub routines_counted : (t : Tree) → length (sequential_of t).routines ≡ length t.procedures
+routines_counted t =
+    length-map (map (routine_of t) t.procedures) numbered_routine ∙ length-map t.procedures (routine_of t)
+
+-- the one of a number is that of the procedure of this number
+pub routine_at : (t : Tree) (q : ℕ) (p : Procedure) → slice_get t.procedures q ≡ Some p → slice_get (sequential_of t).routines q ≡ Some (sequential_routine t p)
+routine_at t q p e = go t.procedures q e
+  where
+    go : (ps : List Procedure) (q : ℕ) → slice_get ps q ≡ Some p → slice_get (map numbered_routine (map (routine_of t) ps)) q ≡ Some (sequential_routine t p)
+    go [] q e = absurd (none-some p e)
+    go (x ∷ ps) zero e = ap (option_map (sequential_routine t)) e
+    go (x ∷ ps) (suc q) e = go ps q e
+
+-- where a procedure is, there is the one of its number
+pub procedure_at : (t : Tree) (q : ℕ) (r : Routine) → slice_get (sequential_of t).routines q ≡ Some r → (p : Procedure) × (slice_get t.procedures q ≡ Some p) × (r ≡ sequential_routine t p)
+procedure_at t q r e = go t.procedures q e
+  where
+    go : (ps : List Procedure) (q : ℕ) → slice_get (map numbered_routine (map (routine_of t) ps)) q ≡ Some r → (p : Procedure) × (slice_get ps q ≡ Some p) × (r ≡ sequential_routine t p)
+    go [] q e = absurd (none-some r e)
+    go (x ∷ ps) zero e = (x, refl, sym (same_Some (sequential_routine t x) r e))
+    go (x ∷ ps) (suc q) e = go ps q e
+
+-- in a narrow tree the globals and the places of each procedure are at most 64
+pub narrow_places : (t : Tree) → AllNarrow t → (q : ℕ) (r : Routine) → slice_get (sequential_of t).routines q ≡ Some r →
+    (sequential_of t).globals + r.places ≤ most_places
+narrow_places t narrow q r e =
+    let (p, is, same) = procedure_at t q r e in
+    subst (λ (z : Routine). length t.globals + z.places ≤ most_places) (sym same) (go t.procedures q p narrow is)
+  where
+    go : (ps : List Procedure) (q : ℕ) (p : Procedure) → EachProcedure (λ (p : Procedure). width t p ≤ most_places) ps →
+        slice_get ps q ≡ Some p → width t p ≤ most_places
+    go [] q p h e = absurd (none-some p e)
+    go (x ∷ ps) zero p h e = subst (λ y. width t y ≤ most_places) (same_Some x p e) h.0
+    go (x ∷ ps) (suc q) p h e = go ps q p h.1 e

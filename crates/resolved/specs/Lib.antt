@@ -1,0 +1,9 @@
+pub mod Limits
+pub mod Statements
+pub mod There
+pub mod Resolves
+pub mod ResolvesOnce
+pub mod Scoped
+pub mod Complete
+pub mod Narrow
+pub mod Programs

@@ -1,0 +1,44 @@
+-- What the names of a checked tree stand for is there.
+use Rattle.std.specs.Prelude.{◌≡◌, ◌<◌, List, [], ◌∷◌, ◌++◌, length, slice_get}
+use Rattle.language.specs.Tree.{assign, goto, call, done, Procedure, ThreadLine, Tree}
+use Rattle.language.specs.Value.{Place, global, local}
+use Rattle.language.specs.Rest.{rest_from}
+use Rattle.language.specs.Step.{AtRest}
+use Rattle.language.specs.Resolve.{number_of, place_of, scope_of, resolve_block}
+use Rattle.resolved.specs.There.{IsThere, names}
+use Rattle.resolved.specs.Statements.{Head, plain, Statement, statements_of, used_by}
+
+-- each member of the list has the property
+abbrev pub Each : {X : Type 0} → (X → Type 0) → List X → Type 0
+Each P [] = Unit {0}
+Each P (x ∷ xs) = P x × Each P xs
+
+-- the place is one of the tree's globals, or of the procedure's formals and locals
+abbrev pub IsPlaceIn : Tree → Procedure → Place → Type 0
+IsPlaceIn t p (global i) = i < length t.globals
+IsPlaceIn t p (local i) = i < length (p.formals ++ p.locals)
+
+-- a procedure that is called is there, with as many formals as there are arguments; the label of a goto is one of the
+-- procedure's, with what is left to run from it on
+abbrev pub GoesSomewhere : Tree → Procedure → Head → Type 0
+GoesSomewhere t p (plain (call q es)) =
+    IsThere (slice_get t.procedures (number_of q.text (names t.procedures))) (λ r. length r.formals ≡ length es)
+GoesSomewhere t p (plain (goto l)) = AtRest (rest_from l.text (resolve_block (scope_of t p) p.body) done) (λ rest. Unit {0})
+GoesSomewhere t p _ = Unit {0}
+
+-- an assignment has as many right sides as targets
+abbrev pub HasAllSides : Head → Type 0
+HasAllSides (plain (assign xs rs)) = length xs ≡ length rs
+HasAllSides _ = Unit {0}
+
+-- each variable of the statement has its place, what it calls or goes to is there, and each target has its right side
+pub record StatementResolves (t : Tree) (p : Procedure) (s : Statement) : Type 0 where
+  pub variables : Each (λ x. IsPlaceIn t p (place_of (scope_of t p) x)) (used_by s.head)
+  pub target : GoesSomewhere t p s.head
+  pub sides : HasAllSides s.head
+
+-- resolving never fails: every statement of every procedure resolves, and each thread starts in a procedure that is
+-- there and has no formals
+pub record Resolves (t : Tree) : Type 0 where
+  pub statements : Each (λ (p : Procedure). Each (StatementResolves t p) (statements_of p.body)) t.procedures
+  pub threads : Each (λ (line : ThreadLine). IsThere (slice_get t.procedures (number_of line.name.text (names t.procedures))) (λ r. length r.formals ≡ 0)) t.threads

@@ -1,5 +1,0 @@
-use Rattle.round_rewrite.proofs.Sequences.{resolving_fit}
-use Rattle.round_rewrite.proofs.calls_of_resolving_trees_fit.Goals as goal
-
-pub returns : goal.returns
-returns c = resolving_fit

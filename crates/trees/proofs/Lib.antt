@@ -1,0 +1,4 @@
+pub mod Folds
+pub mod Held
+mod Counting
+pub mod Plain

@@ -1,0 +1,10 @@
+use Rattle.std.proofs.Common.{List, refl, ◌∙◌, sym}
+use Rattle.trees.specs.declared.tree.Name.{Name}
+use Rattle.trees.specs.Trees.{name_of, names_of}
+use Rattle.trees.proofs.Counting.{looked_on}
+use Rattle.trees.proofs.names.declares.Goals as goal
+
+pub loop-name-preserved : goal.loop-name-preserved
+loop-name-preserved g c =
+    looked_on (λ (n : Name g.row.N.Denot). name_of n) (λ (l : List (Name g.row.N.Denot)). names_of l) (λ x xs. refl) refl c.args.text.now c.args.names.now c.loop-name.name-index _ c.name-item.result c.loop-name-test.true c.name-item.is
+    (rw c.as_str.ensures.value at (sym c.eq.ensures ∙ c.if-eq.false)) c.loop-name.invariant

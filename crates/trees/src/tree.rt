@@ -1,0 +1,121 @@
+//! The trees of programs, with the offset of each name and statement.
+ghost use Rattle.std.specs.Prelude.{◌≡◌};
+ghost use Rattle.language.specs.Value.{operate};
+ghost use Rattle.trees.specs.Trees.{operator_of};
+
+use std::alloc::Allocator;
+
+/// A program: its globals, its procedures and its thread lines, each in the order of the text.
+#[derive(Debug, Drop)]
+pub struct Program<A: Allocator> {
+    pub globals: Vec<Name<A>, A>,
+    pub procs: Vec<Proc<A>, A>,
+    pub threads: Vec<Thread<A>, A>,
+}
+
+/// A thread line. `at` is the offset of the word `thread`.
+#[derive(Debug, Drop)]
+pub struct Thread<A: Allocator> {
+    pub at: u32,
+    pub name: Name<A>,
+}
+
+/// A name, with the offset of its first byte.
+#[derive(Debug, Drop)]
+pub struct Name<A: Allocator> {
+    pub text: String<A>,
+    pub at: u32,
+}
+
+/// A procedure. Several lists of locals are one, in order.
+#[derive(Debug, Drop)]
+pub struct Proc<A: Allocator> {
+    pub name: Name<A>,
+    pub formals: Vec<Name<A>, A>,
+    pub locals: Vec<Name<A>, A>,
+    pub body: Vec<Stmt<A>, A>,
+}
+
+/// A statement. `at` is the offset of its label, where it has one, and else of its first byte.
+#[cycle(tree)]
+#[derive(Debug, Drop)]
+pub struct Stmt<A: Allocator> {
+    pub label: Option<Name<A>>,
+    pub at: u32,
+    pub core: Core<A>,
+}
+
+/// What a statement does.
+#[cycle(tree)]
+#[derive(Debug, Drop)]
+pub enum Core<A: Allocator> {
+    /// `skip;`
+    Skip,
+    /// `x, y := r, s;`: the targets, and the right sides.
+    Assign(Vec<Name<A>, A>, Vec<Rhs<A>, A>),
+    /// `if (r) then .. else .. fi`
+    If(Rhs<A>, Vec<Stmt<A>, A>, Vec<Stmt<A>, A>),
+    /// `while (r) do .. od`
+    While(Rhs<A>, Vec<Stmt<A>, A>),
+    /// `assert(r);`
+    Assert(Rhs<A>),
+    /// `assume(r);`
+    Assume(Rhs<A>),
+    /// `goto L;`
+    Goto(Name<A>),
+    /// `return;`
+    Return,
+    /// `p(e, f);`
+    Call(Name<A>, Vec<Expr<A>, A>),
+}
+
+/// A right side.
+#[derive(Debug, Drop)]
+pub enum Rhs<A: Allocator> {
+    /// `?`, which has both values.
+    Any,
+    /// An expression, which has one.
+    Value(Expr<A>),
+}
+
+/// An expression. Parentheses of the text leave no mark in it.
+#[derive(Debug, Drop)]
+pub enum Expr<A: Allocator> {
+    Const(bool),
+    Var(Name<A>),
+    Not(Box<Expr<A>, A>),
+    Two(Op, Box<Expr<A>, A>, Box<Expr<A>, A>),
+}
+
+/// A two-sided operator.
+#[derive(Clone, Copy, Debug, PartialEq, Eq)]
+pub enum Op {
+    /// `=>`
+    Implies,
+    /// `|`
+    Or,
+    /// `^`
+    Xor,
+    /// `&`
+    And,
+    /// `=`
+    Equal,
+    /// `!=`
+    Differs,
+}
+
+impl Op {
+    /// The value of the operator for two values.
+    pub fn apply(self, left: bool, right: bool) -> bool
+        ensures { result ≡ operate (operator_of self) left right }
+    {
+        match self {
+            Op::Implies => !left || right,
+            Op::Or => left || right,
+            Op::Xor => left != right,
+            Op::And => left && right,
+            Op::Equal => left == right,
+            Op::Differs => left != right,
+        }
+    }
+}
