@@ -7,8 +7,8 @@ ghost use Rattle.trees.specs.Trees.{tree_of};
 
 use flow_graph::graphs;
 use path_sets::PathSet;
-use round_rewrite::{Rounds, rewrite};
 use resolved::Sequential;
+use round_rewrite::{Rounds, rewrite};
 use scopes::{Checked, check};
 use std::alloc::{Allocator, Global};
 use summaries::{EdgeLimit, NoVerdict, Summaries, tabulate};

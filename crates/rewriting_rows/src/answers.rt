@@ -1,12 +1,12 @@
 //! What is answered to a case: a word, and a text with what the word asks for before it.
 
 use crate::fault::TextFault;
-use round_rewrite::{Rounds, rewrite};
 use resolved::Sequential;
+use round_rewrite::{Rounds, rewrite};
 use scopes::{Checked, check};
 use std::alloc::{AllocError, Allocator, Global};
-use trees::Program;
 use syntax::{print, read};
+use trees::Program;
 
 /// A text to rewrite for a number of rounds. What the answer needs is taken from `alloc`, and its words from `host`.
 #[derive(Drop)]

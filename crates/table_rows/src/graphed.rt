@@ -1,7 +1,7 @@
 //! From a text to a sequential program.
 
-use round_rewrite::{Rounds, rewrite};
 use resolved::Sequential;
+use round_rewrite::{Rounds, rewrite};
 use scopes::{Checked, check};
 use std::alloc::Allocator;
 use syntax::read;

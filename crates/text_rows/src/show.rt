@@ -1,8 +1,8 @@
 //! Tokens and trees in plain words, with their offsets.
 
 use std::alloc::{AllocError, Allocator};
-use trees::{Core, Expr, Name, Op, Proc, Program, Rhs, Stmt, Thread};
 use tokens::Token;
+use trees::{Core, Expr, Name, Op, Proc, Program, Rhs, Stmt, Thread};
 
 /// The kind, the offset and the text of each token.
 pub fn show_tokens<A: Allocator>(
