@@ -15,8 +15,8 @@ use trees::{Expr, Name, Rhs};
 
 impl<A: Allocator + Clone> Item<A> for Name<A> {
     ghost use Rattle.language.specs.Tree as tree;
-    ghost use Rattle.syntax.specs.Exact.{name, right, expression};
-    ghost use Rattle.trees.specs.Trees.{name_of, rhs_of, expr_of};
+    ghost use Rattle.syntax.specs.Exact.{name};
+    ghost use Rattle.trees.specs.Trees.{name_of};
 
     ghost Tree = { tree.Name };
 
@@ -32,6 +32,8 @@ impl<A: Allocator + Clone> Item<A> for Name<A> {
 
 impl<A: Allocator + Clone> Item<A> for Rhs<A> {
     ghost use Rattle.language.specs.Tree as tree;
+    ghost use Rattle.syntax.specs.Exact.{right};
+    ghost use Rattle.trees.specs.Trees.{rhs_of};
 
     ghost Tree = { tree.RightSide tree.Name };
 
@@ -52,6 +54,8 @@ impl<A: Allocator + Clone> Item<A> for Rhs<A> {
 
 impl<A: Allocator + Clone> Item<A> for Expr<A> {
     ghost use Rattle.language.specs.Tree as tree;
+    ghost use Rattle.syntax.specs.Exact.{expression};
+    ghost use Rattle.trees.specs.Trees.{expr_of};
 
     ghost Tree = { tree.Expression tree.Name };
 

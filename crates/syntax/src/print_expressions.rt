@@ -25,8 +25,8 @@ fn sign(op: Op) -> &'static str
 
 impl<N: Allocator> Show for Name<N> {
     ghost use Rattle.language.specs.Tree as tree;
-    ghost use Rattle.syntax.specs.Printed.{name_parts, expression_parts, side_parts};
-    ghost use Rattle.trees.specs.Trees.{name_of, expr_of, rhs_of};
+    ghost use Rattle.syntax.specs.Printed.{name_parts};
+    ghost use Rattle.trees.specs.Trees.{name_of};
 
     ghost Tree = { tree.Name };
 
@@ -66,6 +66,8 @@ fn print_operand<N: Allocator, A: Allocator>(
 
 impl<N: Allocator> Show for Expr<N> {
     ghost use Rattle.language.specs.Tree as tree;
+    ghost use Rattle.syntax.specs.Printed.{expression_parts};
+    ghost use Rattle.trees.specs.Trees.{expr_of};
 
     ghost Tree = { tree.Expression tree.Name };
 
@@ -90,6 +92,8 @@ impl<N: Allocator> Show for Expr<N> {
 
 impl<N: Allocator> Show for Rhs<N> {
     ghost use Rattle.language.specs.Tree as tree;
+    ghost use Rattle.syntax.specs.Printed.{side_parts};
+    ghost use Rattle.trees.specs.Trees.{rhs_of};
 
     ghost Tree = { tree.RightSide tree.Name };
 

@@ -29,9 +29,9 @@ fn print_declaration<N: Allocator, A: Allocator>(
 }
 
 impl<N: Allocator> Show for Proc<N> {
-    ghost use Rattle.language.specs.Tree.{Procedure, ThreadLine};
-    ghost use Rattle.syntax.specs.Printed.{procedure_parts, thread_parts};
-    ghost use Rattle.trees.specs.Trees.{proc_of, thread_of};
+    ghost use Rattle.language.specs.Tree.{Procedure};
+    ghost use Rattle.syntax.specs.Printed.{procedure_parts};
+    ghost use Rattle.trees.specs.Trees.{proc_of};
 
     ghost Tree = { Procedure };
 
@@ -51,6 +51,10 @@ impl<N: Allocator> Show for Proc<N> {
 }
 
 impl<N: Allocator> Show for Thread<N> {
+    ghost use Rattle.language.specs.Tree.{ThreadLine};
+    ghost use Rattle.syntax.specs.Printed.{thread_parts};
+    ghost use Rattle.trees.specs.Trees.{thread_of};
+
     ghost Tree = { ThreadLine };
 
     ghost tree = { thread_of };

@@ -79,9 +79,9 @@ impl<'a, A: Allocator + Clone> Reader<'a, A> {
 }
 
 impl<A: Allocator + Clone> Item<A> for Proc<A> {
-    ghost use Rattle.language.specs.Tree.{Procedure, ThreadLine};
-    ghost use Rattle.syntax.specs.Exact.{procedure, thread_line, any_left};
-    ghost use Rattle.trees.specs.Trees.{proc_of, thread_of};
+    ghost use Rattle.language.specs.Tree.{Procedure};
+    ghost use Rattle.syntax.specs.Exact.{procedure};
+    ghost use Rattle.trees.specs.Trees.{proc_of};
 
     ghost Tree = { Procedure };
 
@@ -119,6 +119,10 @@ impl<A: Allocator + Clone> Repeated<A> for Proc<A> {
 }
 
 impl<A: Allocator + Clone> Item<A> for Thread<A> {
+    ghost use Rattle.language.specs.Tree.{ThreadLine};
+    ghost use Rattle.syntax.specs.Exact.{thread_line};
+    ghost use Rattle.trees.specs.Trees.{thread_of};
+
     ghost Tree = { ThreadLine };
 
     ghost tree = { thread_of };
@@ -135,6 +139,8 @@ impl<A: Allocator + Clone> Item<A> for Thread<A> {
 }
 
 impl<A: Allocator + Clone> Repeated<A> for Thread<A> {
+    ghost use Rattle.syntax.specs.Exact.{any_left};
+
     ghost another = { any_left };
 
     /// Whether any token comes.
