@@ -42,10 +42,6 @@ still_room count number old new room s l i least = s.others l i (λ same. omega 
 pub room_first : HasRoom 0 (zeros 64)
 room_first l i least = ap (λ w. bit_of w i) (zero_at 64 l) ∙ ap (λ x. x == 1) (bit_at-zero i)
 
--- and list nothing
-pub none_first : (row : Row) (columns : List ℕ) (t : Triple) → InBatch row columns (zeros 64) t → ⊥
-none_first row columns t (entry, block, (i, set, same)) = true≢false (sym set ∙ room_first (t.point % 64) i (omega arith))
-
 module _ (row : Row) (count values mask : ℕ) (columns columns' points points' : List ℕ) (small : count < 64) (fits : values < 2 ^ 64)
     (room : HasRoom count points) (cs : Spreads values count columns columns') (ps : Spreads mask count points points') (t : Triple)
     (fits' : t.values < 2 ^ 64) where

@@ -51,8 +51,3 @@ before x xs ys zs (there y us vs i) = there y (us ++ zs) (vs ++ zs) (before x us
 pub mapped : {A B : Type 0} (f : A → B) (x : A) (xs ys : List A) → Inserts x xs ys → Inserts (f x) (map f xs) (map f ys)
 mapped f x xs ys (here us) = here (map f us)
 mapped f x xs ys (there y us vs i) = there (f y) (map f us) (map f vs) (mapped f x us vs i)
-
--- at the end
-pub at_end : {A : Type 0} (x : A) (xs : List A) → Inserts x xs (xs ++ x ∷ [])
-at_end x [] = here []
-at_end x (y ∷ ys) = there y ys (ys ++ x ∷ []) (at_end x ys)

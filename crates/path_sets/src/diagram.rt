@@ -24,7 +24,8 @@ pub struct DiagramEdges<A: Allocator> {
     merged: Merged<A>,
     count: u64,
     ghost counted: { count ≡ length (all_edges merged.nodes.kept.keys merged.rows.entries gathered.masks.entries) },
-    ghost once: { NoneTwice (all_edges merged.nodes.kept.keys merged.rows.entries gathered.masks.entries) } by { NoneTwice-prop (all_edges merged.nodes.kept.keys merged.rows.entries gathered.masks.entries) },
+    ghost once: { NoneTwice (all_edges merged.nodes.kept.keys merged.rows.entries gathered.masks.entries) } by { NoneTwice-prop
+        (all_edges merged.nodes.kept.keys merged.rows.entries gathered.masks.entries) },
 }
 
 impl<A: Allocator + Copy> DiagramEdges<A> {

@@ -1,9 +1,7 @@
 //! One case.
 
 use crate::fields::first_word;
-use crate::many::{agree, takes_each};
 use crate::refused_table::refused_table;
-use crate::sets::{keeps_each, steps};
 use crate::tables::messages;
 use crate::whole::{refused_summaries, summaries};
 use std::alloc::{AllocError, Global};
@@ -35,8 +33,6 @@ fn plain(alloc: Global, out: &mut String, line: &str) -> Result<(), AllocError> 
     let (head, text) = line.split_once(" | ").unwrap_or((line, ""));
     match head.split_once(' ') {
         Some(("limit", number)) => limit(out, number),
-        Some(("set", words)) => steps(alloc, out, words),
-        Some(("many", numbers)) => agree(alloc, out, numbers),
         Some(("summaries", numbers)) => summaries(alloc, out, first_word(numbers), text),
         Some(("table", rest)) => messages(alloc, out, rest, text),
         _ => Ok(()),
@@ -49,8 +45,7 @@ fn refused(alloc: Global, out: &mut String, line: &str) -> Result<(), AllocError
     match head.split_once(' ') {
         Some(("summaries", numbers)) => refused_summaries(alloc, out, first_word(numbers), text),
         Some(("table", rest)) => refused_table(alloc, out, rest, text),
-        Some(("many", number)) => write!(out, "{}", takes_each(alloc, first_word(number).0)),
-        _ => write!(out, "{}", keeps_each(alloc)),
+        _ => Ok(()),
     }
 }
 

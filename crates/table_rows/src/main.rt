@@ -1,13 +1,8 @@
-//! Rows of path sets, tables and tabulation: each line of the standard input is a case, and is printed again with what comes of
-//! it.
+//! Rows of tables and tabulation: each line of the standard input is a case, and is printed again with what comes of it.
 //!
 //! | Line | What is printed under it |
 //! |---|---|
 //! | `limit N` | whether a limit may be N |
-//! | `set STEPS` | what each step on an empty set answers: `+5.2.7` inserts a triple, `?5.2.7` asks for it, `#` counts |
-//! | `many N WIDTH POINTS` | whether both kinds of sets answer alike to N triples in no order, with valuations of so many bits at so many points |
-//! | `each allocation: many N` | whether a set of diagrams takes N triples all the same where each allocation is refused in turn |
-//! | `each allocation: set` | whether a set keeps its triples where each allocation is refused in turn |
 //! | `summaries K N \| TEXT` | the entries and pairs of each procedure for K rounds and at most N path edges, and whether one is bad |
 //! | `each allocation: summaries K N \| TEXT` | the same, where each allocation that is refused leads to want of memory |
 //! | `table P K: MESSAGES \| TEXT` | what the table of procedure P owes after each message: `2.5` is an entry by procedure 2 with 5, `S.5` one by the starter, `s1.5.6` a summary of procedure 1 |
@@ -19,9 +14,7 @@
 mod case;
 mod fields;
 mod graphed;
-mod many;
 mod refused_table;
-mod sets;
 mod tables;
 mod whole;
 

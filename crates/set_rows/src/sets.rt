@@ -52,7 +52,7 @@ fn steps_of<A: Allocator, S: PathSet<A>>(
 }
 
 /// Writes what a step on a set answers.
-fn step<A: Allocator, S: PathSet<A>>(
+pub fn step<A: Allocator, S: PathSet<A>>(
     set: &mut S,
     out: &mut String,
     word: &str,

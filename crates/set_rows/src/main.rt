@@ -1,0 +1,39 @@
+//! Rows of path sets: each line of the standard input is a case, and is printed again with what comes of it.
+//!
+//! | Line | What is printed under it |
+//! |---|---|
+//! | `set STEPS` | what each step on an empty set answers |
+//! | `many N WIDTH POINTS` | whether both kinds of sets answer alike to N triples in no order, of so many bits at so many points |
+//! | `nodes STEPS` | what each step on an empty set of diagrams answers |
+//! | `each allocation: many N` | whether a set of diagrams takes N triples all the same where each allocation is refused in turn |
+//! | `each allocation: set` | whether a set keeps its triples where each allocation is refused in turn |
+//! | `each allocation: nodes 5.2 STEPS` | what comes of `@5.2` after the other steps where each of its allocations is refused in turn |
+//!
+//! | Step | What it does |
+//! |---|---|
+//! | `+5.2.7` | inserts the triple of entry 5, point 2 and valuation 7: `new` or `known` |
+//! | `?5.2.7` | asks for it: `in` or `out` |
+//! | `#` | counts the triples |
+//! | `@5.2` | of diagrams: counts the inner nodes of entry 5 at point 2 |
+//! | `*5.2.100.3` | of diagrams: inserts the 100 least multiples of 3, and tells how many are new |
+//! | `^5.2.8` | of diagrams: inserts the valuations of 8 bits with an even number of ones, and tells how many are new |
+//!
+//! A valuation is a number, whose bits are the places. A line that begins with `#` is a heading.
+#![tactic(auto)]
+
+mod case;
+mod fields;
+mod many;
+mod nodes;
+mod refused_nodes;
+mod sets;
+
+use std::io::{self, BufRead, BufReader};
+
+fn main(rt: HostRuntime) -> io::Result<()> {
+    let input = BufReader::new(rt.alloc(), rt.reader())?;
+    for line in input.lines(rt.alloc()) {
+        case::print(&rt, line?.as_str())?;
+    }
+    Ok(())
+}

@@ -1,0 +1,132 @@
+//! Inner nodes that are counted where memory is refused.
+
+use crate::nodes::{Spot, filling, spot_of};
+use crate::sets::contains;
+use path_sets::{DiagramEdges, OrderedEdges, PathSet};
+use scarce::Scarce;
+use std::alloc::{AllocError, Allocator, Global};
+
+/// Takes the steps of a text; what they answer is dropped.
+fn fill<A: Allocator, S: PathSet<A>>(
+    alloc: Global,
+    set: &mut S,
+    words: &str,
+) -> Result<(), AllocError> {
+    let mut out = String::new(alloc);
+    for word in words.split_whitespace() {
+        filling(set, &mut out, word)?;
+    }
+    Ok(())
+}
+
+/// Whether two sets have as many members, and the same of 1,300 valuations at a point and at the next one.
+fn are_alike<A: Allocator, B: Allocator, S: PathSet<A>, T: PathSet<B>>(
+    one: &S,
+    other: &T,
+    spot: Spot,
+) -> bool {
+    let next = spot.1.wrapping_add(1);
+    one.len() == other.len()
+        && (0..1_300u64).all(|number| {
+            let values = number.wrapping_mul(13);
+            let here = (spot.0, spot.1, values);
+            let there = (spot.0, next, values);
+            contains(one, here) == contains(other, here)
+                && contains(one, there) == contains(other, there)
+        })
+}
+
+/// What comes of counting the nodes at one point, and of counting them again where the first count is refused memory.
+#[derive(Clone, Copy, PartialEq, Eq)]
+enum Came {
+    /// The first count answers this number.
+    First(u64),
+    /// The first count is refused, the set is as it was, and the second one answers this number.
+    Second(u64),
+    /// The set is another one, or the second count is refused too.
+    Lost,
+}
+
+/// What comes of it in a set of diagrams that has the members of another set.
+fn came_of<A: Allocator + Copy, B: Allocator, T: PathSet<B>>(
+    set: &DiagramEdges<A>,
+    other: &T,
+    spot: Spot,
+) -> Came {
+    let first = set.nodes(spot.0, spot.1);
+    if !are_alike(set, other, spot) {
+        return Came::Lost;
+    }
+    match first {
+        Ok(count) => Came::First(count),
+        Err(_) => match set.nodes(spot.0, spot.1) {
+            Ok(count) => Came::Second(count),
+            Err(_) => Came::Lost,
+        },
+    }
+}
+
+/// How many allocations some steps on an empty set of diagrams ask for.
+fn asked_by(alloc: Global, words: &str) -> u64 {
+    let scarce = Scarce::refusing(alloc, 0);
+    let mut set: DiagramEdges<_> = PathSet::empty(&scarce);
+    match fill(alloc, &mut set, words) {
+        Ok(()) => scarce.asked(),
+        Err(_) => 0,
+    }
+}
+
+/// What comes of it after some steps on an empty set of diagrams in memory of `room`.
+fn came_in<A: Allocator + Copy, B: Allocator, T: PathSet<B>>(
+    alloc: Global,
+    room: A,
+    other: &T,
+    words: &str,
+    spot: Spot,
+) -> Came {
+    let mut set: DiagramEdges<A> = PathSet::empty(room);
+    match fill(alloc, &mut set, words) {
+        Ok(()) => came_of(&set, other, spot),
+        Err(_) => Came::Lost,
+    }
+}
+
+/// Writes what comes of a count where each of its allocations is refused in turn; so many are `asked` for in front of it.
+fn in_turn<B: Allocator, T: PathSet<B>>(
+    alloc: Global,
+    out: &mut String,
+    other: &T,
+    words: &str,
+    asked: u64,
+    spot: Spot,
+) -> Result<(), AllocError> {
+    let mut again = None;
+    for nth in 1..1000u64 {
+        let scarce = Scarce::refusing(alloc, asked.wrapping_add(nth));
+        match came_in(alloc, &scarce, other, words, spot) {
+            Came::Second(count) if scarce.refused() && again.unwrap_or(count) == count => {
+                again = Some(count);
+            }
+            Came::First(count) if !scarce.refused() && again == Some(count) => {
+                return write!(out, "memory, and then {count}");
+            }
+            _ => return write!(out, "another answer"),
+        }
+    }
+    write!(out, "too many allocations")
+}
+
+/// Writes it for an entry and a point, and the steps in front of the count.
+pub fn refused_counts(alloc: Global, out: &mut String, words: &str) -> Result<(), AllocError> {
+    let (spot, words) = words.split_once(' ').unwrap_or((words, ""));
+    let mut other: OrderedEdges<Global> = PathSet::empty(alloc);
+    fill(alloc, &mut other, words)?;
+    in_turn(
+        alloc,
+        out,
+        &other,
+        words,
+        asked_by(alloc, words),
+        spot_of(spot).0,
+    )
+}
