@@ -1,7 +1,7 @@
 -- What the program does.
 use Rattle.std.specs.Prelude.{◌⊎◌, ℕ, List, Option}
 use Rattle.cli.specs.Ran.{Declines, Runs}
-use Rattle.cli.specs.declared.asked.LineFault.{LineFault}
+use Rattle.command_line.specs.declared.asked.LineFault.{LineFault}
 
 -- What some words ask for was done; or the words were not read, and that was answered.
 abbrev pub Ends : Option (List ℕ) → Option (List ℕ) → ℕ → Type 0

@@ -4,7 +4,7 @@ use Rattle.std.proofs.lemmas.Bool.{cases_lt}
 use Rattle.cli.specs.Replies.{Refuses, Replies}
 use Rattle.cli.specs.Served.{Gave, IsDue, IsReply, Serves, most_read}
 use Rattle.cli.specs.Written.{bytes_of}
-use Rattle.cli.specs.declared.asked.Order.{Order}
+use Rattle.command_line.specs.declared.asked.Order.{Order}
 use Rattle.cli.specs.declared.reply.Reply.{Reply}
 
 -- what a reader gives is given by one whose bytes are not known

@@ -1,7 +1,3 @@
-pub mod Rows
-pub mod Reading
-pub mod Extending
-pub mod Locating
 pub mod Giving
 pub mod Refusing
 pub mod Counting

@@ -7,14 +7,15 @@ use Rattle.syntax.specs.declared.fault.ReadFault.TheVariants as read
 use Rattle.scopes.specs.Checked.{IsFirstFault}
 use Rattle.scopes.specs.declared.fault.ScopeFault.{ScopeFault}
 use Rattle.scopes.specs.declared.fault.ScopeFault.TheVariants as scope
-use Rattle.cli.specs.Refused.{HasPlace, HasRewriting, IsPast, NamesOffset, RefusalStands, line_of}
+use Rattle.refusals.specs.Lines.{NamesOffset, line_of}
+use Rattle.cli.specs.Refused.{HasPlace, HasRewriting, IsPast, RefusalStands}
 use Rattle.cli.specs.Replies.{IsSequential, RefusesFor, TellsOrLacks}
 use Rattle.cli.specs.Rewritten.{IsRewriting}
 use Rattle.cli.specs.Verdict.{Answers}
 use Rattle.cli.specs.Written.{bytes_of}
-use Rattle.cli.specs.declared.refusal.Refusal.{Refusal}
-use Rattle.cli.specs.declared.refusal.Refusal.TheVariants.{EdgeLimit, Memory, NoWorker, Spent, TooWide}
-use Rattle.cli.specs.declared.refusal.Refusal.TheVariants.{Unchecked, Unread}
+use Rattle.refusals.specs.declared.refusal.Refusal.{Refusal}
+use Rattle.refusals.specs.declared.refusal.Refusal.TheVariants.{EdgeLimit, Memory, NoWorker, Spent, TooWide}
+use Rattle.refusals.specs.declared.refusal.Refusal.TheVariants.{Unchecked, Unread}
 use Rattle.cli.specs.declared.reply.Reply.{Reply}
 
 -- a text that is rewritten has a rewriting that is not too wide

@@ -1,7 +1,5 @@
-pub mod Limits
 pub mod Counts
 pub mod Counted
-pub mod Line
 pub mod Written
 pub mod Rewritten
 pub mod Verdict
@@ -9,5 +7,3 @@ pub mod Refused
 pub mod Replies
 pub mod Served
 pub mod Ran
-pub mod Place
-pub mod Explained

@@ -3,13 +3,13 @@ use Rattle.std.specs.Prelude.{◌≡◌, ◌⊎◌, ℕ, List, Option, None, cod
 use Rattle.std.specs.Io.KnownBytes.{Appends}
 use Rattle.std.specs.String.{string_bytes}
 use Rattle.clap.specs.Words.{Text}
-use Rattle.cli.specs.Line as line
-use Rattle.cli.specs.Refused.{memory_line}
+use Rattle.command_line.specs.Line as line
+use Rattle.refusals.specs.Lines.{memory_line}
 use Rattle.cli.specs.Replies.{Replies}
 use Rattle.cli.specs.Served.{Serves, Writes}
-use Rattle.cli.specs.declared.asked.LineFault.{LineFault}
-use Rattle.cli.specs.declared.asked.LineFault.TheVariants.{Help, Memory, Refused}
-use Rattle.cli.specs.declared.asked.Order.{Order}
+use Rattle.command_line.specs.declared.asked.LineFault.{LineFault}
+use Rattle.command_line.specs.declared.asked.LineFault.TheVariants.{Help, Memory, Refused}
+use Rattle.command_line.specs.declared.asked.Order.{Order}
 
 -- what is written where words give no order: help, or a line
 abbrev pub declined_bytes : LineFault → List ℕ

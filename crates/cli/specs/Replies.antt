@@ -7,14 +7,15 @@ use Rattle.syntax.specs.Printed.{printed}
 use Rattle.scopes.specs.Checked.{IsChecked}
 use Rattle.round_rewrite.specs.Names.{rewritten_tree}
 use Rattle.summaries.specs.Limits.{most_of}
-use Rattle.cli.specs.Limits.{count_of}
-use Rattle.cli.specs.declared.asked.Order.{Order}
-use Rattle.cli.specs.declared.asked.Order.TheVariants.{Check, Sequential}
-use Rattle.cli.specs.declared.refusal.Refusal.{Refusal}
-use Rattle.cli.specs.declared.refusal.Refusal.TheVariants.{Memory}
+use Rattle.command_line.specs.Limits.{count_of}
+use Rattle.command_line.specs.declared.asked.Order.{Order}
+use Rattle.command_line.specs.declared.asked.Order.TheVariants.{Check, Sequential}
+use Rattle.refusals.specs.declared.refusal.Refusal.{Refusal}
+use Rattle.refusals.specs.declared.refusal.Refusal.TheVariants.{Memory}
 use Rattle.cli.specs.declared.reply.Reply.{Reply}
 use Rattle.cli.specs.Verdict.{Answers}
-use Rattle.cli.specs.Refused.{IsPast, NamesOffset, RefusalStands, line_of, status_of}
+use Rattle.refusals.specs.Lines.{NamesOffset, line_of, status_of}
+use Rattle.cli.specs.Refused.{IsPast, RefusalStands}
 use Rattle.cli.specs.Written.{bytes_of}
 
 -- the text is that of a checked program, the bytes are the printed form of its rewriting for so many rounds, and within the

@@ -1,10 +1,11 @@
 -- What is read of a reader, and what a writer takes.
 use Rattle.std.specs.Prelude.{◌≡◌, ◌⊎◌, ◌<◌, ◌≤◌, ℕ, List, Option, codes, length, take}
 use Rattle.std.specs.Io.KnownBytes.{Appends, Consumes, IsAtEnd}
-use Rattle.cli.specs.Refused.{RefusalStands, line_of, memory_line, status_of}
+use Rattle.refusals.specs.Lines.{line_of, memory_line, status_of}
+use Rattle.cli.specs.Refused.{RefusalStands}
 use Rattle.cli.specs.Replies.{Replies, limit_of, rounds_of}
-use Rattle.cli.specs.declared.asked.Order.{Order}
-use Rattle.cli.specs.declared.refusal.Refusal.{Refusal}
+use Rattle.command_line.specs.declared.asked.Order.{Order}
+use Rattle.refusals.specs.declared.refusal.Refusal.{Refusal}
 
 -- how many bytes are read at most: one more than a text may have
 abbrev pub most_read : ℕ

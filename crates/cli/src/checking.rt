@@ -5,7 +5,7 @@ ghost use Rattle.scopes.specs.Programs.{checked_tree};
 ghost use Rattle.cli.specs.Refused.{RefusalStands};
 ghost use Rattle.cli.specs.Verdict.{IsProgramOf};
 
-use crate::refusal::Refusal;
+use refusals::Refusal;
 use scopes::{Checked, check};
 use std::alloc::Allocator;
 use syntax::read;

@@ -5,13 +5,13 @@ ghost use Rattle.syntax.specs.Text.{Text};
 ghost use Rattle.scopes.specs.Programs.{checked_tree};
 ghost use Rattle.round_rewrite.specs.Programs.{last_round};
 ghost use Rattle.summaries.specs.Limits.{most_of};
-ghost use Rattle.cli.specs.Limits.{count_of};
+ghost use Rattle.command_line.specs.Limits.{count_of};
 ghost use Rattle.cli.specs.Refused.{RefusalStands};
 ghost use Rattle.gather.specs.Reports.{IsReport};
 
-use crate::refusal::Refusal;
 use gather::{Report, WorkBoard, WorkSet, check_rounds_with};
 use procedure_worker::Gate;
+use refusals::Refusal;
 use round_rewrite::{Rounds, too_wide};
 use scopes::Checked;
 use std::alloc::Allocator;

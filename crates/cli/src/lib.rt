@@ -2,16 +2,9 @@
 #![tactic(auto)]
 
 mod answers;
-mod asked;
 mod checking;
 mod counts;
-mod explanation;
-mod help;
 mod judge;
-mod line;
-mod message;
-mod place;
-mod refusal;
 mod reply;
 mod rewriting;
 mod running;
@@ -21,10 +14,8 @@ mod sink;
 mod source;
 
 pub use answers::{answer, answer_with, no_memory};
-pub use asked::{LineFault, Order};
-pub use explanation::explain;
-pub use line::order;
-pub use refusal::Refusal;
+pub use command_line::{LineFault, Order, order};
+pub use refusals::{Refusal, explain};
 pub use reply::Reply;
 pub use running::{decline, run};
 pub use serving::{serve, serve_telling};

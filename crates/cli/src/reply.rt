@@ -2,7 +2,7 @@
 
 ghost use Rattle.std.specs.Prelude.{◌≡◌};
 
-use crate::refusal::Refusal;
+use refusals::Refusal;
 use std::alloc::Allocator;
 use std::borrow::CowSlice;
 

@@ -2,12 +2,12 @@
 
 ghost use Rattle.std.specs.Prelude.{IfOk, IfErr, None};
 ghost use Rattle.resolved.specs.Programs.{sequential_tree};
-ghost use Rattle.cli.specs.Limits.{count_of};
+ghost use Rattle.command_line.specs.Limits.{count_of};
 ghost use Rattle.cli.specs.Refused.{RefusalStands};
 ghost use Rattle.cli.specs.Rewritten.{IsRewriting};
 
 use crate::checking::checked;
-use crate::refusal::Refusal;
+use refusals::Refusal;
 use resolved::Sequential;
 use round_rewrite::{RewriteFault, Rounds, rewrite, too_wide};
 use std::alloc::Allocator;

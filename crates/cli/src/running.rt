@@ -4,10 +4,9 @@ ghost use Rattle.std.specs.Prelude.{◌≤◌, map};
 ghost use Rattle.std.specs.String.{string_bytes};
 ghost use Rattle.cli.specs.Ran.{AnswersWords, Declines, Runs};
 
-use crate::asked::LineFault;
-use crate::line::order;
 use crate::serving::{no_room, serve_telling, unread};
 use crate::sink::{put, say};
+use command_line::{LineFault, order};
 use std::fs;
 use std::io::Write;
 use std::rt::Files;

@@ -2,12 +2,12 @@
 
 ghost use Rattle.std.specs.Prelude.{IfOk, IfErr, None};
 ghost use Rattle.std.specs.String.{string_bytes};
-ghost use Rattle.cli.specs.Limits.{count_of};
+ghost use Rattle.command_line.specs.Limits.{count_of};
 ghost use Rattle.cli.specs.Refused.{RefusalStands};
 ghost use Rattle.cli.specs.Replies.{IsSequential};
 
-use crate::refusal::Refusal;
 use crate::rewriting::rewritten;
+use refusals::Refusal;
 use round_rewrite::Rounds;
 use std::alloc::Allocator;
 use syntax::print;

@@ -2,15 +2,14 @@
 
 ghost use Rattle.std.specs.Prelude.{◌≡◌, ◌≢◌, ◌≤◌};
 ghost use Rattle.std.specs.IoError.{error_kind};
-ghost use Rattle.cli.specs.Refused.{memory_line};
+ghost use Rattle.refusals.specs.Lines.{memory_line};
 ghost use Rattle.cli.specs.Served.{Answered, Serves, TellsUnread, Writes, file_line};
 
 use crate::answers::answer;
-use crate::asked::Order;
-use crate::explanation::explain;
-use crate::refusal::Refusal;
 use crate::sink::{put, say};
 use crate::source::text_of;
+use command_line::Order;
+use refusals::{Refusal, explain};
 use std::io::{self, ErrorKind, Read, Write};
 use std::sync::Wait;
 use std::thread::Threads;

@@ -1,9 +1,9 @@
 -- A reply with a status of 2 or 3 tells a refusal that stands.
 use Rattle.std.proofs.Common.{Some, None, arith, subst, sym}
 use Rattle.summaries.specs.Limits.{most_of}
-use Rattle.cli.specs.Limits.{count_of}
+use Rattle.command_line.specs.Limits.{count_of}
 use Rattle.cli.specs.Replies.{IsPastLimit, Refuses}
-use Rattle.cli.specs.declared.asked.Order.{Order}
+use Rattle.command_line.specs.declared.asked.Order.{Order}
 use Rattle.cli.proofs.Refusing.{answers_few, is_past, rewriting_few, tells_many}
 use Rattle.cli.proofs.answers.answer_with.Goals as goal
 

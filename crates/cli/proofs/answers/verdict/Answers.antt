@@ -3,9 +3,9 @@ use Rattle.std.proofs.Common.{Some, inl, inr}
 use Rattle.summaries.specs.Limits.{most_of}
 use Rattle.round_rewrite.specs.Programs.{last_round}
 use Rattle.scopes.specs.Programs.{checked_tree}
-use Rattle.cli.specs.Limits.{count_of}
+use Rattle.command_line.specs.Limits.{count_of}
 use Rattle.cli.specs.Written.{bytes_of}
-use Rattle.cli.specs.declared.refusal.Refusal.TheVariants.{Memory}
+use Rattle.refusals.specs.declared.refusal.Refusal.TheVariants.{Memory}
 use Rattle.cli.proofs.Answering.{answers, has_each, reported_rewriting}
 use Rattle.cli.proofs.Refusing.{refuses}
 use Rattle.cli.proofs.answers.verdict.Goals as goal

@@ -8,7 +8,7 @@ use Rattle.language.specs.Tree.{Tree}
 use Rattle.syntax.proofs.TextsInGrammar.{text_in_grammar}
 use Rattle.round_rewrite.specs.Programs.{IsFaultOf, last_round}
 use Rattle.scopes.specs.Programs.{checked_tree}
-use Rattle.cli.specs.Limits.{count_of}
+use Rattle.command_line.specs.Limits.{count_of}
 use Rattle.cli.proofs.rewriting.rewritten.Goals as goal
 
 pub returns-in_err-checked-clause-stands : goal.returns-in_err-checked-clause-stands

@@ -1,7 +1,0 @@
--- What was there stays in front.
-use Rattle.std.specs.String.{string_bytes}
-use Rattle.cli.specs.Place.{Extends}
-use Rattle.cli.proofs.message.push_bytes.Given as goal
-
-abbrev pub invariant-loop-byte : goal.invariant-loop-byte
-invariant-loop-byte g l = Extends (string_bytes l.initial.message) (string_bytes l.message)

@@ -1,0 +1,60 @@
+-- What is read of the matches of a command.
+use Rattle.std.proofs.Common.{◌≡◌, ◌∙◌, ℕ, Bool, true, false, List, Option, None, Some, Result, Ok, option_map, refl, sym, ap, ap₂, subst, codes}
+use Rattle.std.specs.Box.{box_value}
+use Rattle.std.specs.Bool.{MatchBool}
+use Rattle.std.specs.Str.Parse.{ParsesBool, ParsesUnsigned, false_text, true_text}
+use Rattle.std.proofs.lemmas.Option.{none-some, same_Some}
+use Rattle.clap.specs.Words.{ReadsOne, Row, Text, found_of, one_text, rows_of, subcommand_name_of, subcommand_rows_of}
+use Rattle.clap.specs.declared.parser.matches.ArgMatches.{ArgMatches}
+use Rattle.clap.specs.declared.parser.matches.ArgMatches.TheViews.{out-ArgMatches, out-SubCommand}
+use Rattle.clap.specs.declared.parser.matches.Found.{Found}
+use Rattle.clap.proofs.WalkLemmas.{one_text-rows}
+use Rattle.command_line.specs.Line.{Gives, IsGiven, IsNamed, Reads, flag_text}
+use Rattle.command_line.specs.declared.asked.Order.{Order}
+use Rattle.command_line.specs.declared.asked.Order.TheVariants.{Check, Sequential}
+use Rattle.summaries.specs.Limits.{most_of}
+
+-- a number that is got of an option is what its text reads as
+pub reads : {E : Type 0} (gives : List ℕ → Result ℕ E → Type 0) (bits : ℕ) → ((t : List ℕ) (n : ℕ) → gives t (Ok n) → ParsesUnsigned {E = E} bits 10 t (Ok n))
+    → (f : Found) (id : Text) (r : Option ℕ) (n : ℕ) → r ≡ Some n → (one_text f id ≡ None → r ≡ None) → ((t : List ℕ) → one_text f id ≡ Some t → ReadsOne gives t r)
+    → Reads (rows_of f) id n
+reads gives bits parses f id r n some none value = go (one_text f id) refl
+  where
+    go : (o : Option Text) → one_text f id ≡ o → Reads (rows_of f) id n
+    go None e = absurd (none-some n (sym (none e) ∙ some))
+    go (Some t) e =
+        let p = parses t n (subst (ReadsOne gives t) some (value t e)) in
+        (t, sym (one_text-rows f id) ∙ e, p.0.0, sym p.1)
+
+abbrev both : {B : Type 0} → (B → Text) → (B → List Row) → B → Text × List Row
+both name rows b = (name b, rows b)
+
+paired : {B : Type 0} (name : B → Text) (rows : B → List Row) (o : Option B) (n : Text) (r : List Row) → option_map name o ≡ Some n
+    → option_map (λ (p : Text × List Row). p.1) (option_map (both name rows) o) ≡ Some r → option_map (both name rows) o ≡ Some (n, r)
+paired name rows None n r e h = absurd (none-some n e)
+paired name rows (Some b) n r e h = ap₂ (λ x y. Some (x, y)) (same_Some (name b) n e) (same_Some (rows b) r h)
+
+-- the command that was met, by its name and its rows
+pub met : (m : ArgMatches) (n : Text) (r : List Row) → subcommand_name_of m ≡ Some n → option_map (λ (p : Text × List Row). p.1) (subcommand_rows_of m) ≡ Some r → subcommand_rows_of m ≡ Some (n, r)
+met m n r e h = paired (λ b. (out-SubCommand (box_value b)).name.now) (λ b. rows_of (found_of (out-SubCommand (box_value b)).matches)) (out-ArgMatches m).subcommand n r e h
+
+-- the text of the value that is got of an option without one
+same_flag : (t : Text) (b : Bool) → MatchBool b (t ≡ true_text) (t ≡ false_text) → t ≡ flag_text b
+same_flag t true e = e
+same_flag t false e = e
+
+-- an option without a value that is got is given, or is not
+pub is_given : (E : Type 0) (f : Found) (id : Text) (r : Option Bool) (b : Bool) → r ≡ Some b → (one_text f id ≡ None → r ≡ None)
+    → ((t : List ℕ) → one_text f id ≡ Some t → ReadsOne {E = E} ParsesBool t r) → IsGiven (rows_of f) id b
+is_given E f id r b some none value = go (one_text f id) refl
+  where
+    go : (o : Option Text) → one_text f id ≡ o → IsGiven (rows_of f) id b
+    go None e = absurd (none-some b (sym (none e) ∙ some))
+    go (Some t) e = sym (one_text-rows f id) ∙ e ∙ ap Some (same_flag t b (subst (ReadsOne {E = E} ParsesBool t) some (value t e)))
+
+-- an order of the name, the numbers and the option without a value that were found
+pub gives : (name : Text) (rows : List Row) (k : ℕ) (n : Option ℕ) (s : Option Bool) (o : Order) → IsNamed name k n s o → Reads rows (codes "rounds") k → ((e : ℕ) → n ≡ Some e → Reads rows (codes "edges") e)
+    → ((b : Bool) → s ≡ Some b → IsGiven rows (codes "stats") b) → Gives name rows o
+gives name rows k n s (Check r e b) h rounds edges stats =
+    (h.0, subst (Reads rows (codes "rounds")) (sym h.1) rounds, edges (most_of e) h.2, stats b h.3)
+gives name rows k n s (Sequential r) h rounds edges stats = (h.0, subst (Reads rows (codes "rounds")) (sym h.1) rounds)

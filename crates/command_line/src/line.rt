@@ -1,0 +1,183 @@
+//! What the words of the command line ask for.
+ghost use Rattle.std.specs.Prelude.{◌≡◌, false, List, map, IfErr, IfOk, IfSome, Some};
+ghost use Rattle.std.specs.String.{string_bytes};
+ghost use Rattle.clap.specs.Words.{Row, Text, app_of, kind_of, rule_of, subcommand_rows_of};
+ghost use Rattle.command_line.specs.Line as line;
+
+use crate::asked::{LineFault, Order};
+use crate::help::{BEBOPK, CHECK, SEQUENTIAL, VERSION};
+use clap::builder::ValueParser;
+use clap::error::ErrorKind;
+use clap::{Arg, ArgAction, ArgMatches, Command, Error, value_parser};
+use round_rewrite::{MOST_ROUNDS, Rounds};
+use std::alloc::{AllocError, Global};
+use summaries::EdgeLimit;
+
+/// The argument FILE.
+fn file<'a>(alloc: Global) -> Arg<'a>
+    ensures rule { rule_of result ≡ line.file }
+    ensures local { result.global ≡ false }
+{
+    Arg::new(alloc, "file")
+        .value_name("FILE")
+        .help("The text of a program")
+        .required(true)
+}
+
+/// An option with one value, which this parser reads.
+fn option<'a>(
+    alloc: Global,
+    name: &'a str,
+    value: &'a str,
+    help: &'a str,
+    parser: ValueParser<'a>,
+) -> Arg<'a>
+    ensures rule { rule_of result ≡ line.option_by parser.entry name.entry.now }
+    ensures local { result.global ≡ false }
+{
+    Arg::new(alloc, name)
+        .long(name)
+        .value_name(value)
+        .help(help)
+        .value_parser(parser)
+}
+
+/// The option `--rounds`.
+fn rounds<'a>(alloc: Global) -> Arg<'a>
+    ensures rule { rule_of result ≡ line.rounds }
+    ensures local { result.global ≡ false }
+{
+    let parser = value_parser!(u8).range(1..=MOST_ROUNDS as i64);
+    option(alloc, "rounds", "K", "How many rounds: 1 to 4", parser)
+}
+
+/// The option `--edges`.
+fn edges<'a>(alloc: Global) -> Arg<'a>
+    ensures rule { rule_of result ≡ line.edges }
+    ensures local { result.global ≡ false }
+{
+    let help = "How many path edges a procedure may have: 1 to 16777216";
+    let parser = value_parser!(u32).range(1..=16_777_216);
+    option(alloc, "edges", "N", help, parser).default_value("1000000")
+}
+
+/// The option `--stats`.
+fn stats<'a>(alloc: Global) -> Arg<'a>
+    ensures rule { rule_of result ≡ line.stats }
+    ensures local { result.global ≡ false }
+{
+    Arg::new(alloc, "stats")
+        .long("stats")
+        .action(ArgAction::SetTrue)
+        .help("Also counts what was found of each procedure")
+}
+
+/// The command `check`.
+fn check<'a>(alloc: Global) -> Result<Command<'a>, AllocError>
+    ensures { IfOk result (line.IsBuilt line.check) }
+{
+    Command::new(alloc, "check")
+        .about("Answers whether some run of at most K rounds fails an assert")
+        .after_help(CHECK)
+        .arg(rounds(alloc).default_value("2"))?
+        .arg(edges(alloc))?
+        .arg(stats(alloc))?
+        .arg(file(alloc))
+}
+
+/// The command `sequential`.
+fn sequential<'a>(alloc: Global) -> Result<Command<'a>, AllocError>
+    ensures { IfOk result (line.IsBuilt line.sequential) }
+{
+    Command::new(alloc, "sequential")
+        .about("Prints the sequential program that K rounds are rewritten to")
+        .after_help(SEQUENTIAL)
+        .arg(rounds(alloc).required(true))?
+        .arg(file(alloc))
+}
+
+/// The command line of bebopk.
+fn command<'a>(alloc: Global) -> Result<Command<'a>, AllocError>
+    ensures { IfOk result (λ c. app_of c ≡ line.bebopk) }
+{
+    let check = check(alloc)?;
+    let sequential = sequential(alloc)?;
+    Command::new(alloc, "bebopk")
+        .about("Checks concurrent Boolean programs")
+        .version(VERSION)
+        .after_help(BEBOPK)
+        .subcommand_required(true)
+        .subcommand(check)?
+        .subcommand(sequential)
+}
+
+/// The fault that an error of `clap` is.
+fn fault_of(alloc: Global, error: &Error) -> LineFault
+    ensures { line.IsOfKind (kind_of error.now) result }
+{
+    let kind = error.kind();
+    if kind == ErrorKind::OutOfMemory {
+        return LineFault::Memory;
+    }
+    let help = !error.use_stderr();
+    match format!(in alloc; "{error}") {
+        Ok(text) if help => LineFault::Help(text),
+        Ok(text) => LineFault::Refused(text),
+        Err(_) => LineFault::Memory,
+    }
+}
+
+/// The order of this name with these numbers, and with `--stats` or without; `None` only of those that the command line lets
+/// nobody give.
+fn order_of(name: &str, rounds: u8, edges: Option<u32>, stats: Option<bool>) -> Option<Order>
+    ensures { IfSome result (λ order. line.IsNamed name.now rounds edges stats order) }
+{
+    let rounds = Rounds::new(rounds)?;
+    match (name, edges, stats) {
+        ("check", Some(edges), Some(stats)) => {
+            let edges = EdgeLimit::new(edges)?;
+            Some(Order::Check {
+                rounds,
+                edges,
+                stats,
+            })
+        }
+        ("sequential", None, None) => Some(Order::Sequential { rounds }),
+        _ => None,
+    }
+}
+
+/// The order and the file of what was found for the words; `None` only of what the command line lets nobody give.
+fn asked<'a>(matches: &ArgMatches<'a>) -> Option<(Order, &'a str)>
+    ensures { IfSome result (λ o. (command : Text × List Row)
+        × (subcommand_rows_of matches.now ≡ Some command) × line.Orders command o.0 o.1.now) }
+{
+    let (name, found) = matches.subcommand()?;
+    let rounds = found.get_one::<u8>("rounds")?;
+    let file = found.get_str("file")?;
+    let edges = found.get_one::<u32>("edges");
+    let stats = found.get_one::<bool>("stats");
+    let order = order_of(name, rounds, edges, stats)?;
+    Some((order, file))
+}
+
+/// The order and the file that the command line gives for the words, the program's own name first, or why it gives none.
+pub fn order(alloc: Global, words: &[String]) -> Result<(Order, String), LineFault>
+    ensures asks { IfOk result (λ o. line.AskFor (map string_bytes words.now) o.0 (string_bytes o.1)) }
+    ensures refuses { IfErr result (λ why. line.Refuses (map string_bytes words.now) why) }
+{
+    let Ok(command) = command(alloc) else {
+        return Err(LineFault::Memory);
+    };
+    let matches = match command.try_get_matches_from(words) {
+        Ok(matches) => matches,
+        Err(error) => return Err(fault_of(alloc, &error)),
+    };
+    let Some((order, path)) = asked(&matches) else {
+        return Err(LineFault::Memory);
+    };
+    match String::from_str(alloc, path) {
+        Ok(path) => Ok((order, path)),
+        Err(_) => Err(LineFault::Memory),
+    }
+}

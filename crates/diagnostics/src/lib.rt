@@ -1,0 +1,7 @@
+//! Messages about a place of a text: its line and column, what is wrong there, and the source line.
+#![tactic(auto)]
+
+mod message;
+mod place;
+
+pub use message::{Wrong, at_offset, not_ascii};

@@ -1,0 +1,153 @@
+//! What standard error tells of a refusal.
+
+ghost use Rattle.std.specs.Prelude.{◌≡◌, OnOk, option_map};
+ghost use Rattle.std.specs.String.{string_bytes};
+ghost use Rattle.refusals.specs.Explained.{Explains, offset_in};
+ghost use Rattle.refusals.specs.declared.refusal.Refusal.TheVariants.{TooWide, Unread};
+
+use crate::refusal::Refusal;
+use command_line::Order;
+use diagnostics::{Wrong, at_offset, not_ascii};
+use round_rewrite::Wide;
+use scopes::ScopeFault;
+use std::alloc::{AllocError, Allocator};
+use syntax::ReadFault;
+
+/// Writes that memory gave out.
+fn no_memory<A: Allocator>(message: &mut String<A>) -> Result<(), AllocError> {
+    message.push_str("bebopk: out of memory\n")
+}
+
+/// Writes why a text is not read.
+fn unread<A: Allocator>(
+    message: &mut String<A>,
+    path: &str,
+    text: &[u8],
+    fault: &ReadFault,
+) -> Result<(), AllocError>
+    ensures { OnOk result (Explains path.now text.now (Unread fault.now) (string_bytes message.old)
+        (string_bytes message.new)) }
+{
+    match fault {
+        ReadFault::TooLong => write!(message, "{path}: the text has more than 65536 bytes\n"),
+        ReadFault::NotAscii => not_ascii(message, path, text),
+        ReadFault::Syntax(at) => at_offset(message, path, text, *at, Wrong::Unexpected),
+        ReadFault::TooDeep => write!(
+            message,
+            "{path}: more than 64 of `(`, `begin`, `if` and `while` are open at once, or more than 64 operators stand in one run\n"
+        ),
+        ReadFault::Memory => no_memory(message),
+    }
+}
+
+/// Where a fault of scopes stands, and what is told of the name that stands there; `None` where memory gave out.
+fn told(fault: &ScopeFault) -> Option<(u32, &'static str)>
+    ensures { option_map (λ t. t.0) result ≡ offset_in fault.now }
+{
+    match fault {
+        ScopeFault::Undeclared(at) => Some((*at, " is not declared\n")),
+        ScopeFault::DeclaredTwice(at) => Some((
+            *at,
+            " is declared a second time, or assigned twice by one statement\n",
+        )),
+        ScopeFault::WrongCount(at) => Some((
+            *at,
+            ": targets and right sides, or arguments and formals, differ in number\n",
+        )),
+        ScopeFault::BadThread(at) => Some((*at, " is no procedure without formals\n")),
+        ScopeFault::BadLabel(at) => Some((
+            *at,
+            " is no label of this procedure, or labels a second statement\n",
+        )),
+        ScopeFault::Reserved(at) => Some((
+            *at,
+            " has two underscores in a row, which only the rewriting may write\n",
+        )),
+        ScopeFault::TooMany(at) => Some((
+            *at,
+            " is past the limit of 31 procedures, 8 threads and 1000 statements\n",
+        )),
+        ScopeFault::Memory => None,
+    }
+}
+
+/// Writes which limit of path edges was passed; nothing of an order that has none.
+fn edge_limit<A: Allocator>(
+    message: &mut String<A>,
+    path: &str,
+    order: Order,
+) -> Result<(), AllocError> {
+    match order {
+        Order::Check { edges, .. } => {
+            let edges = edges.edges();
+            write!(
+                message,
+                "{path}: some procedure has more than {edges} path edges; --edges N raises the limit, up to 16777216\n"
+            )
+        }
+        Order::Sequential { .. } => Ok(()),
+    }
+}
+
+/// Writes which procedure has too many places, and how many for how many rounds.
+fn too_wide<A: Allocator>(
+    message: &mut String<A>,
+    path: &str,
+    text: &[u8],
+    order: Order,
+    wide: Option<Wide>,
+) -> Result<(), AllocError>
+    ensures { OnOk result (Explains path.now text.now (TooWide wide) (string_bytes message.old)
+        (string_bytes message.new)) }
+{
+    let rounds = match order {
+        Order::Check { rounds, .. } | Order::Sequential { rounds } => rounds.count(),
+    };
+    match wide {
+        Some(wide) => at_offset(
+            message,
+            path,
+            text,
+            wide.at,
+            Wrong::Wide(wide.places, rounds),
+        ),
+        None => write!(
+            message,
+            "{path}: some procedure needs more than 64 places with --rounds {rounds}\n"
+        ),
+    }
+}
+
+/// Writes what standard error tells of a refusal: for a fault with an offset a line `FILE:LINE:COLUMN: ` with what is wrong there,
+/// the source line (at most 60 bytes of it before the place and 40 from it on, with `..` where more stands), and a caret under
+/// the place; for each other refusal one line. Lines and columns are counted from 1, and each byte is a column. At an error memory
+/// gave out, and a part of the message may be written.
+pub fn explain<A: Allocator>(
+    message: &mut String<A>,
+    path: &str,
+    text: &[u8],
+    order: Order,
+    refusal: &Refusal,
+) -> Result<(), AllocError>
+    ensures { OnOk result (Explains path.now text.now refusal.now (string_bytes message.old)
+        (string_bytes message.new)) }
+{
+    match refusal {
+        Refusal::Unread(fault) => unread(message, path, text, fault),
+        Refusal::Unchecked(fault) => match told(fault) {
+            Some((at, what)) => at_offset(message, path, text, at, Wrong::Word(what)),
+            None => no_memory(message),
+        },
+        Refusal::TooWide(wide) => too_wide(message, path, text, order, *wide),
+        Refusal::EdgeLimit => edge_limit(message, path, order),
+        Refusal::Memory => no_memory(message),
+        Refusal::NoWorker => write!(
+            message,
+            "{path}: the system refused a thread for a procedure\n"
+        ),
+        Refusal::Spent => write!(
+            message,
+            "{path}: the worker of a procedure has used up its calls\n"
+        ),
+    }
+}

@@ -1,0 +1,95 @@
+//! The line that says why a text gets no verdict, and its status.
+
+ghost use Rattle.std.specs.Prelude.{◌≡◌, IfErr, IfOk};
+ghost use Rattle.std.specs.Cow.{cow_slice_items};
+ghost use Rattle.refusals.specs.Lines.{NamesOffset, line_at, line_of, status_of, unchecked_line, unread_line};
+ghost use Rattle.refusals.specs.declared.refusal.Refusal.TheVariants as why;
+
+use crate::refusal::Refusal;
+use scopes::ScopeFault;
+use std::alloc::{AllocError, Allocator};
+use std::borrow::CowSlice;
+use syntax::ReadFault;
+
+/// The bytes of a line, which is fixed.
+fn fixed<A: Allocator>(line: &'static str) -> CowSlice<'static, u8, A>
+    ensures { cow_slice_items result ≡ line.entry.now }
+{
+    CowSlice::Borrowed(line.as_bytes())
+}
+
+/// The line of a fault with its words, number first, and its offset.
+fn located<A: Allocator>(
+    alloc: A,
+    words: &str,
+    at: u32,
+) -> Result<CowSlice<'static, u8, A>, AllocError>
+    ensures { IfOk result (λ line. cow_slice_items line ≡ line_at words.now at) }
+{
+    let line = format!(in alloc; "refused: {words} at {at}\n")?;
+    Ok(CowSlice::Owned(line.into_bytes()))
+}
+
+/// The line of a text that is not read. Only a line with an offset takes memory.
+fn unread<A: Allocator>(alloc: A, fault: &ReadFault) -> Result<CowSlice<'static, u8, A>, AllocError>
+    ensures line { IfOk result (λ line. cow_slice_items line ≡ unread_line fault.now) }
+    ensures memory { IfErr result (λ _. NamesOffset (why.Unread fault.now)) }
+{
+    match fault {
+        ReadFault::TooLong => Ok(fixed("refused: 1 too long\n")),
+        ReadFault::NotAscii => Ok(fixed("refused: 2 not ascii\n")),
+        ReadFault::Syntax(at) => located(alloc, "3 syntax", *at),
+        ReadFault::TooDeep => Ok(fixed("refused: 4 too deep\n")),
+        ReadFault::Memory => Ok(fixed("no verdict: memory\n")),
+    }
+}
+
+/// The line of a text in which a fault of scopes stands. It takes memory, but where memory gave out.
+fn unchecked<A: Allocator>(
+    alloc: A,
+    fault: &ScopeFault,
+) -> Result<CowSlice<'static, u8, A>, AllocError>
+    ensures line { IfOk result (λ line. cow_slice_items line ≡ unchecked_line fault.now) }
+    ensures memory { IfErr result (λ _. NamesOffset (why.Unchecked fault.now)) }
+{
+    match fault {
+        ScopeFault::Undeclared(at) => located(alloc, "6 undeclared", *at),
+        ScopeFault::DeclaredTwice(at) => located(alloc, "7 declared twice", *at),
+        ScopeFault::WrongCount(at) => located(alloc, "8 wrong count", *at),
+        ScopeFault::BadThread(at) => located(alloc, "9 bad thread", *at),
+        ScopeFault::BadLabel(at) => located(alloc, "10 bad label", *at),
+        ScopeFault::Reserved(at) => located(alloc, "11 reserved", *at),
+        ScopeFault::TooMany(at) => located(alloc, "12 too many", *at),
+        ScopeFault::Memory => Ok(fixed("no verdict: memory\n")),
+    }
+}
+
+/// The line that says why a text gets no verdict. Only a line with an offset takes memory.
+pub fn line<A: Allocator>(
+    alloc: A,
+    refusal: &Refusal,
+) -> Result<CowSlice<'static, u8, A>, AllocError>
+    ensures line { IfOk result (λ line. cow_slice_items line ≡ line_of refusal.now) }
+    ensures memory { IfErr result (λ _. NamesOffset refusal.now) }
+{
+    match refusal {
+        Refusal::Unread(fault) => unread(alloc, fault),
+        Refusal::Unchecked(fault) => unchecked(alloc, fault),
+        Refusal::TooWide(_) => Ok(fixed("refused: 14 too wide\n")),
+        Refusal::EdgeLimit => Ok(fixed("no verdict: edge limit\n")),
+        Refusal::Memory => Ok(fixed("no verdict: memory\n")),
+        Refusal::NoWorker => Ok(fixed("no verdict: no worker\n")),
+        Refusal::Spent => Ok(fixed("no verdict: spent\n")),
+    }
+}
+
+/// The status where a text gets no verdict.
+pub fn status(refusal: &Refusal) -> u8
+    ensures { result ≡ status_of refusal.now }
+{
+    match refusal {
+        Refusal::Unread(ReadFault::Memory) | Refusal::Unchecked(ScopeFault::Memory) => 3,
+        Refusal::Unread(_) | Refusal::Unchecked(_) | Refusal::TooWide(_) => 2,
+        Refusal::EdgeLimit | Refusal::Memory | Refusal::NoWorker | Refusal::Spent => 3,
+    }
+}
