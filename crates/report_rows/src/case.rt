@@ -1,7 +1,7 @@
 //! One case.
 
 use crate::gates::{Late, Meeting, Noting};
-use crate::program::{Asked, Kind, read_case};
+use crate::program::{Asked, Parts, read_case};
 use crate::{report, scarcity};
 use procedure_worker::{Gate, Open};
 use std::alloc::{AllocError, Global};
@@ -21,6 +21,19 @@ pub fn print<R: Print + AllocGlobal + Wait + Threads + Sync>(rt: &R, line: &str)
     }
 }
 
+/// The parts that a case begins with, and how it goes on.
+fn parts_of(how: &str) -> (Parts, &str) {
+    let (one_lock, how) = match how.strip_prefix("one lock, ") {
+        Some(how) => (true, how),
+        None => (false, how),
+    };
+    let (diagrams, how) = match how.strip_prefix("diagrams, ") {
+        Some(how) => (true, how),
+        None => (false, how),
+    };
+    (Parts { one_lock, diagrams }, how)
+}
+
 /// Writes what comes of a line.
 fn answer<R: Wait + Threads + Sync>(
     rt: &R,
@@ -29,20 +42,17 @@ fn answer<R: Wait + Threads + Sync>(
     line: &str,
 ) -> Result<(), AllocError> {
     let (how, rest) = line.split_once(": ").unwrap_or(("", line));
-    let (board, how) = match how.strip_prefix("one lock, ") {
-        Some(how) => (Kind::OneLock, how),
-        None => (Kind::LockPerBox, how),
-    };
+    let (parts, how) = parts_of(how);
     let Some((head, text)) = rest.split_once(" | ") else {
         return Ok(());
     };
     let (what, numbers) = head.split_once(' ').unwrap_or((head, ""));
-    let Some(asked) = read_case(alloc, board, numbers, text) else {
+    let Some(asked) = read_case(alloc, parts, numbers, text) else {
         return write!(out, "no such case");
     };
     match how {
         "" if what == "answer" => report::write_answer(rt, alloc, out, &asked),
-        "" => report::write(rt, alloc, out, &asked, &Open),
+        "" => with_all(rt, alloc, out, &asked),
         "late" => late(rt, alloc, out, &asked),
         "meeting" => meeting(rt, alloc, out, &asked),
         "begun" => begun(rt, alloc, out, &asked),
@@ -50,16 +60,17 @@ fn answer<R: Wait + Threads + Sync>(
     }
 }
 
-/// Writes what comes of one more run, where it is something else than what came of those before.
+/// Writes what comes of one more run with these parts, where it is something else than what came of those before.
 fn again<R: Wait + Threads + Sync, K: Gate + Sync>(
     rt: &R,
     alloc: Global,
     out: &mut String,
     asked: &Asked,
+    parts: Parts,
     gate: &K,
 ) -> Result<(), AllocError> {
     let mut one = String::new(alloc);
-    report::write(rt, alloc, &mut one, asked, gate)?;
+    report::write(rt, alloc, &mut one, asked, parts, gate)?;
     if out.is_empty() {
         out.push_str(one.as_str())?;
     } else if out.as_str() != one.as_str() {
@@ -68,7 +79,24 @@ fn again<R: Wait + Threads + Sync, K: Gate + Sync>(
     Ok(())
 }
 
-/// Writes what comes of so many runs, or of as many with one allocation refused in each.
+/// Writes what comes of a run over each board with each set.
+fn with_all<R: Wait + Threads + Sync>(
+    rt: &R,
+    alloc: Global,
+    out: &mut String,
+    asked: &Asked,
+) -> Result<(), AllocError> {
+    for number in 0..4u8 {
+        let parts = Parts {
+            one_lock: number / 2 == 1,
+            diagrams: number % 2 == 1,
+        };
+        again(rt, alloc, out, asked, parts, &Open)?;
+    }
+    Ok(())
+}
+
+/// Writes what comes of so many runs over each board with each set, or of as many with one allocation refused in each.
 fn numbered<R: Wait + Threads + Sync>(
     rt: &R,
     alloc: Global,
@@ -82,7 +110,7 @@ fn numbered<R: Wait + Threads + Sync>(
         return scarcity::write(rt, alloc, out, asked, number);
     }
     for _ in 0..number {
-        again(rt, alloc, out, asked, &Open)?;
+        with_all(rt, alloc, out, asked)?;
     }
     Ok(())
 }
@@ -95,7 +123,8 @@ fn late<R: Wait + Threads + Sync>(
     asked: &Asked,
 ) -> Result<(), AllocError> {
     for lane in 0..=asked.program.program().procs.len().min(31) {
-        again(rt, alloc, out, asked, &Late { lane: lane as u8 })?;
+        let gate = Late { lane: lane as u8 };
+        again(rt, alloc, out, asked, asked.parts, &gate)?;
     }
     Ok(())
 }
@@ -108,7 +137,7 @@ fn meeting<R: Wait + Threads + Sync>(
     asked: &Asked,
 ) -> Result<(), AllocError> {
     let gate = Meeting::new();
-    report::write(rt, alloc, out, asked, &gate)?;
+    report::write(rt, alloc, out, asked, asked.parts, &gate)?;
     write!(
         out,
         "\n{}",
@@ -128,7 +157,7 @@ fn begun<R: Wait + Threads + Sync>(
     asked: &Asked,
 ) -> Result<(), AllocError> {
     let gate = Noting::new();
-    report::write(rt, alloc, out, asked, &gate)?;
+    report::write(rt, alloc, out, asked, asked.parts, &gate)?;
     write!(
         out,
         "\n{}",

@@ -2,16 +2,17 @@
 //!
 //! | Line | What is printed under it |
 //! |---|---|
-//! | `report K N \| TEXT` | the answer for K rounds and at most N path edges, and for each procedure how many entries, pairs and takes it has; or why there is no report |
-//! | `times T: report K N \| TEXT` | the same, where T runs come to the same |
+//! | `report K N \| TEXT` | the answer for K rounds and at most N path edges, and for each procedure how many entries, pairs and takes it has; or why there is no report; once, where both boards with both sets of path edges come to the same |
+//! | `times T: report K N \| TEXT` | the same, where T runs of each come to the same |
 //! | `late: report K N \| TEXT` | the same, where it comes so with each lane in turn kept back at each of its takes and posts |
 //! | `meeting: report K N \| TEXT` | the same, where the first post of lane 1 and the first take of lane 2 wait for each other |
 //! | `begun: report K N \| TEXT` | the same, and whether lane 0 has taken and posted and lane 1 has taken |
 //! | `refusing T: answer K N \| TEXT` | what comes of it with one allocation refused, the first, then the second, up to T |
 //! | `answer K N \| TEXT` | the answer alone |
 //!
-//! The board has a lock for each mailbox, or, where a case begins with `one lock, `, one for all. Entries and pairs are
-//! also compared with those of one thread. A line that begins with `#` is a heading.
+//! Elsewhere the board has a lock for each mailbox, or, where a case begins with `one lock, `, one for all; and the sets are
+//! ordered, or, where `diagrams, ` comes then, diagrams. Entries and pairs are also compared with those of one thread. A
+//! line that begins with `#` is a heading.
 #![tactic(auto)]
 
 mod case;

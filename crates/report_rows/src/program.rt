@@ -14,30 +14,32 @@ use std::alloc::{Allocator, Global};
 use summaries::{EdgeLimit, NoVerdict, Summaries, tabulate};
 use syntax::read;
 
-/// What is asked: a program, for how many rounds, with how many path edges a procedure at most, and over which board.
+/// What is asked: a program, for how many rounds, with how many path edges a procedure at most, and what the workers have.
 #[derive(Drop)]
 pub struct Asked {
     pub program: Checked<Global>,
     pub rounds: Rounds,
     pub limit: EdgeLimit,
-    pub board: Kind,
+    pub parts: Parts,
 }
 
-/// What board the workers have.
+/// Which board the workers have, and which sets of path edges.
 #[derive(Clone, Copy, PartialEq, Eq)]
-pub enum Kind {
-    LockPerBox,
-    OneLock,
+pub struct Parts {
+    /// One lock for all mailboxes, or else a lock for each.
+    pub one_lock: bool,
+    /// Decision diagrams, or else ordered sets.
+    pub diagrams: bool,
 }
 
 /// What two numbers and a text ask; nothing where the text is no program, or a number is past its limit.
-pub fn read_case(alloc: Global, board: Kind, numbers: &str, text: &str) -> Option<Asked> {
+pub fn read_case(alloc: Global, parts: Parts, numbers: &str, text: &str) -> Option<Asked> {
     let (rounds, edges) = numbers.split_once(' ')?;
     Some(Asked {
         program: checked(alloc, text)?,
         rounds: Rounds::new(rounds.parse::<u8>().ok()?)?,
         limit: EdgeLimit::new(edges.parse::<u32>().ok()?)?,
-        board,
+        parts,
     })
 }
 

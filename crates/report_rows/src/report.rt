@@ -1,6 +1,6 @@
 //! What workers come to, as text.
 
-use crate::program::{Asked, Kind, on_one_thread};
+use crate::program::{Asked, Parts, on_one_thread};
 use flow_graph::Graphs;
 use gather::{Answer, Report, check_rounds, check_rounds_with};
 use path_sets::{DiagramEdges, OrderedEdges};
@@ -10,20 +10,35 @@ use std::alloc::{AllocError, Allocator, Global};
 use std::sync::Wait;
 use std::thread::Threads;
 use summaries::{Due, NoVerdict, Summaries};
-use switchboard::OneLock;
+use switchboard::{LockPerBox, OneLock};
 
-/// The report of the workers over the board that is asked for: the one lock has sets of diagrams beside it, the other board
-/// the sets of `check_rounds`.
-fn report_of<R, K, A>(rt: &R, alloc: A, asked: &Asked, gate: &K) -> Result<Report<A, A>, NoVerdict>
+/// The report of the workers with these parts; those of the program are what `check_rounds` has.
+fn report_of<R, K, A>(
+    rt: &R,
+    alloc: A,
+    asked: &Asked,
+    parts: Parts,
+    gate: &K,
+) -> Result<Report<A, A>, NoVerdict>
 where
     R: Wait + Threads + Sync,
     K: Gate + Sync,
     A: Allocator + Copy + Send + Sync,
 {
     let (program, rounds, limit) = (&asked.program, asked.rounds, asked.limit);
-    match asked.board {
-        Kind::LockPerBox => check_rounds(rt, alloc, program, rounds, limit, gate),
-        Kind::OneLock => {
+    match (parts.one_lock, parts.diagrams) {
+        (false, false) => check_rounds(rt, alloc, program, rounds, limit, gate),
+        (false, true) => {
+            check_rounds_with::<R, LockPerBox<Due, Graphs<A>, A>, DiagramEdges<A>, K, Global>(
+                rt, alloc, alloc, program, rounds, limit, gate,
+            )
+        }
+        (true, false) => {
+            check_rounds_with::<R, OneLock<Due, Graphs<A>, A>, OrderedEdges<A>, K, Global>(
+                rt, alloc, alloc, program, rounds, limit, gate,
+            )
+        }
+        (true, true) => {
             check_rounds_with::<R, OneLock<Due, Graphs<A>, A>, DiagramEdges<A>, K, Global>(
                 rt, alloc, alloc, program, rounds, limit, gate,
             )
@@ -94,15 +109,16 @@ fn write_report<A: Allocator>(
     }
 }
 
-/// Writes what the workers come to, with this gate, and whether one thread comes to the same.
+/// Writes what the workers come to with these parts and this gate, and whether one thread comes to the same.
 pub fn write<R: Wait + Threads + Sync, K: Gate + Sync>(
     rt: &R,
     alloc: Global,
     out: &mut String,
     asked: &Asked,
+    parts: Parts,
     gate: &K,
 ) -> Result<(), AllocError> {
-    let report = report_of(rt, alloc, asked, gate);
+    let report = report_of(rt, alloc, asked, parts, gate);
     write_report(out, &report)?;
     let same = match (
         &report,
@@ -137,6 +153,6 @@ pub fn answer<R: Wait + Threads + Sync, A: Allocator + Copy + Send + Sync>(
     alloc: A,
     asked: &Asked,
 ) -> Result<Answer, NoVerdict> {
-    let report = report_of(rt, alloc, asked, &Open)?;
+    let report = report_of(rt, alloc, asked, asked.parts, &Open)?;
     Ok(report.answer)
 }
