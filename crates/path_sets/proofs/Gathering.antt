@@ -1,8 +1,12 @@
 -- Path edges that are gathered, place by place.
-use Rattle.std.proofs.Common.{◌≡◌, ℕ, zero, suc, ◌+◌, ◌*◌, ◌%◌, ◌^◌, ◌<◌, ◌≤◌, true, List, []}
+use Rattle.std.proofs.Common.{◌≡◌, ℕ, zero, suc, ◌+◌, ◌*◌, ◌%◌, ◌^◌, ◌<◌, ◌≤◌, true, List, [], ◌++◌}
 use Rattle.std.proofs.Common.{◌∷◌, Some, slice_get, length, ◌⊎◌, ◌↔◌, inl, inr, refl, sym, ap, ◌∙◌, subst, arith}
-use Rattle.std.specs.Prelude.{Result, Ok, Err, OnOk}
-use Rattle.std.proofs.lemmas.Option.{same_Some, slice_get_within}
+use Rattle.std.proofs.Common.{take, get_or, slice_index_or}
+use Rattle.std.specs.Prelude.{Result, Ok, Err, OnOk, IsPermutation}
+use Rattle.std.specs.List.{Contains}
+use Rattle.std.proofs.Math.Seq.{take-suc}
+use Rattle.std.proofs.lemmas.List.Sorted.{Contains-permutation}
+use Rattle.std.proofs.lemmas.Option.{get_or_from_slice_get, same_Some, slice_get-get_or, slice_get_within}
 use Rattle.language.specs.Flow.{Member}
 use Rattle.language.proofs.Members.{member_append, map_member}
 use Rattle.path_sets.specs.declared.place.Place.{Place}
@@ -55,6 +59,21 @@ in_place (g ∷ gs) t h = elim (member_append t (edges_in g.0 g.1) (edges gs) h)
       )
   | inr later ↦ let r = in_place gs t later in (suc r.0, r.1, r.2, r.3, r.4)
 ]
+
+-- the first items of a list, with the next one
+pub take_more : {A : Type 0} (xs : List A) (n : ℕ) (x : A) → slice_get xs n ≡ Some x → take (n + 1) xs ≡ take n xs ++ x ∷ []
+take_more xs n x h =
+    let next : n + 1 ≡ suc n = omega arith in
+    ap (λ k. take k xs) next ∙ take-suc xs n x (slice_get_within xs n x h)
+    ∙ ap (λ y. take n xs ++ y ∷ []) (get_or_from_slice_get xs n x x h)
+
+-- places in another order have the same edges
+pub same_edges : (gs hs : Groups) → IsPermutation gs hs → (t : Triple) → Member t (edges gs) → Member t (edges hs)
+same_edges gs hs order t h =
+    let (i, p, m, at, is) = in_place gs t h in
+    let there : Contains gs (p, m) = (i, slice_get_within gs i (p, m) at, get_or_from_slice_get gs i (p, m) (p, m) at) in
+    let (j, within, same) = Contains-permutation gs hs (p, m) order there in
+    placed hs j p m t (slice_get-get_or hs j (p, m) within ∙ ap Some same) is
 
 module _ (masks : Groups) (ns0 ns1 ns2 : List Node) (rs0 rs1 rs2 : List (Row × List ℕ)) (B0 B1 B2 : Triple → Type 0) (at : ℕ)
     (p : Place) (m : ℕ)

@@ -1,6 +1,6 @@
 //! Path edges that are gathered go into the sets.
 
-ghost use Rattle.std.specs.Prelude.{◌≡◌, ◌<◌, ◌^◌, ◌⊎◌, true, Some, length, slice_get, OnOk};
+ghost use Rattle.std.specs.Prelude.{◌≡◌, ◌<◌, ◌^◌, ◌⊎◌, true, Some, length, slice_get, IfOk, OnOk, IsPermutation};
 ghost use Rattle.language.specs.Flow.{Member};
 ghost use Rattle.path_sets.specs.Triples.{Triple};
 ghost use Rattle.path_sets.specs.Edges.{edges};
@@ -48,8 +48,53 @@ fn place_at<A: Allocator + Copy>(masks: &Masks<A>, at: usize) -> (Place, u64)
     }
 }
 
-/// Puts all path edges of the masks into the sets, those of a row that stand one after another at once. Where memory is
+/// The places with their masks, those of a row one after another, and in a row those whose first bits are the same.
+fn in_order<A: Allocator + Copy>(masks: &Masks<A>) -> Result<Vec<(Place, u64), A>, AllocError>
+    ensures { IfOk result (λ cells. IsPermutation masks.now.entries cells.items) }
+{
+    let mut cells = Vec::with_capacity(*masks.allocator(), masks.len())?;
+    for at in 0..masks.len() {
+        cells.push(place_at(masks, at))?;
+    }
+    cells.sort_unstable_by_key(|cell: &(Place, u64)| {
+        (cell.0.block, cell.0.entry, cell.0.values.reverse_bits())
+    });
+    Ok(cells)
+}
+
+/// The place at an index, and its mask.
+fn cell_at(cells: &[(Place, u64)], at: usize) -> (Place, u64)
+    requires { at < length cells.now }
+    ensures { slice_get cells.now at ≡ Some result }
+{
+    cells[at]
+}
+
+/// Puts the path edges of these masks into the sets, those of a row that stand one after another at once. Where memory is
 /// refused, some of them may be in.
+fn put_cells<A: Allocator + Copy>(
+    merged: &mut Merged<A>,
+    cells: &[(Place, u64)],
+) -> Result<(), AllocError>
+    ensures takes { Takes (λ t. t.values < 2 ^ 64 → Member t (edges cells.now))
+        merged.old.nodes.kept.keys merged.new.nodes.kept.keys merged.old.rows.entries merged.new.rows.entries }
+    ensures all { OnOk result ((t : Triple) → t.values < 2 ^ 64 → Member t (edges cells.now)
+        → merged_has merged.new.nodes.kept.keys merged.new.rows.entries t ≡ true) }
+{
+    let mut batch = Batch::new(Row { entry: 0, block: 0 });
+    for at in 0..cells.len() {
+        let (place, mask) = cell_at(cells, at);
+        let row = Row {
+            entry: place.entry,
+            block: place.block,
+        };
+        make_room(merged, &mut batch, row)?;
+        batch.add(place.values, mask);
+    }
+    merged.put(&batch)
+}
+
+/// Puts all path edges of the masks into the sets. Where memory is refused, some of them may be in.
 pub(crate) fn put_all<A: Allocator + Copy>(
     merged: &mut Merged<A>,
     masks: &Masks<A>,
@@ -59,15 +104,6 @@ pub(crate) fn put_all<A: Allocator + Copy>(
     ensures all { OnOk result ((t : Triple) → t.values < 2 ^ 64 → Member t (edges masks.now.entries)
         → merged_has merged.new.nodes.kept.keys merged.new.rows.entries t ≡ true) }
 {
-    let mut batch = Batch::new(Row { entry: 0, block: 0 });
-    for at in 0..masks.len() {
-        let (place, mask) = place_at(masks, at);
-        let row = Row {
-            entry: place.entry,
-            block: place.block,
-        };
-        make_room(merged, &mut batch, row)?;
-        batch.add(place.values, mask);
-    }
-    merged.put(&batch)
+    let cells = in_order(masks)?;
+    put_cells(merged, &cells)
 }
