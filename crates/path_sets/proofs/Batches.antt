@@ -6,7 +6,10 @@ use Rattle.std.specs.Int.{bit_at}
 use Rattle.std.proofs.lemmas.Nat.Bits.{bit_at-lt, bit_at-zero, bit_at_or, same_from_bits_below}
 use Rattle.std.proofs.lemmas.Bool.{ltb-true, ltb-false}
 use Rattle.std.proofs.lemmas.Map.Views.{exact_unsigned_eq}
+use Rattle.std.proofs.Common.{length, slice_set}
+use Rattle.std.proofs.lemmas.List.{get_or-set_same, get_or-set_other}
 use Rattle.path_sets.specs.Masks.{bit_of}
+use Rattle.path_sets.specs.Few.{Turns}
 use Rattle.path_sets.specs.Triples.{Triple}
 use Rattle.path_sets.specs.declared.rows.Row.{Row}
 use Rattle.path_sets.specs.Diagrams.{AtPlace, Covers, HasRoom, InBatch, Spreads}
@@ -101,3 +104,19 @@ covers_more count values all columns columns' s covers l i h = by (nat_lt l 64) 
       | inr ne ↦ or_bit all values l (inl (covers l i (sym (s.others l i ne) ∙ h)))
     ]
     by false e = let least = ltb-false l 64 e in or_bit all values l (inl (covers l i (ap (λ w. bit_of w i) (sym (s.past l least)) ∙ h)))
+
+-- columns and valuations with one more of them
+pub turns_more : (count values : ℕ) (columns columns' valuations : List ℕ) → count < length valuations → Spreads values count columns columns'
+    → Turns columns valuations
+    → Turns columns' (slice_set valuations count values)
+turns_more count values columns columns' valuations room s turns l i less = elim (is_or_not i count) [
+  | inl at ↦
+      ap (bit_of (get_or columns' l 0)) at ∙ s.put l less
+      ∙ sym (ap (λ w. bit_of w l) (ap (λ k. get_or (slice_set valuations count values) k 0) at ∙ get_or-set_same valuations count values 0 room))
+  | inr ne ↦
+      s.others l i ne ∙ turns l i less ∙ sym (ap (λ w. bit_of w l) (get_or-set_other valuations count i values 0 ne))
+]
+
+pub turns_first : Turns (zeros 64) (zeros 64)
+turns_first l i less =
+    ap (λ w. bit_of w i) (zero_at 64 l) ∙ ap (λ x. x == 1) (bit_at-zero i ∙ sym (bit_at-zero l)) ∙ sym (ap (λ w. bit_of w l) (zero_at 64 i))

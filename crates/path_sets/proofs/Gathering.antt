@@ -1,7 +1,7 @@
 -- Path edges that are gathered, place by place.
 use Rattle.std.proofs.Common.{◌≡◌, ℕ, zero, suc, ◌+◌, ◌*◌, ◌%◌, ◌^◌, ◌<◌, ◌≤◌, true, List, [], ◌++◌}
 use Rattle.std.proofs.Common.{◌∷◌, Some, slice_get, length, ◌⊎◌, ◌↔◌, inl, inr, refl, sym, ap, ◌∙◌, subst, arith}
-use Rattle.std.proofs.Common.{take, get_or, slice_index_or}
+use Rattle.std.proofs.Common.{take}
 use Rattle.std.specs.Prelude.{Result, Ok, Err, OnOk, IsPermutation}
 use Rattle.std.specs.List.{Contains}
 use Rattle.std.proofs.Math.Seq.{take-suc}

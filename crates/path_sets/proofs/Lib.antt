@@ -9,6 +9,7 @@ pub mod Stored
 pub mod Shifted
 pub mod Canonical
 pub mod Lists
+pub mod Fewer
 pub mod Unions
 pub mod Noted
 pub mod Rooted

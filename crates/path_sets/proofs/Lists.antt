@@ -30,7 +30,7 @@ xor_is (suc zero) (suc zero) small small' = refl
 xor_is (suc zero) (suc (suc b)) small small' = absurd (omega (arith, small'))
 xor_is (suc (suc a)) b small small' = absurd (omega (arith, small))
 
-bit_either : (a b i : ℕ) → bit_of (bit_xor a b) i ≡ cond (bit_of a i) (not (bit_of b i)) (bit_of b i)
+pub bit_either : (a b i : ℕ) → bit_of (bit_xor a b) i ≡ cond (bit_of a i) (not (bit_of b i)) (bit_of b i)
 bit_either a b i = ap (λ x. x == 1) (bit_at_xor a b i) ∙ xor_is (bit_at a i) (bit_at b i) (bit_at-lt a i) (bit_at-lt b i)
 
 -- a bit of what a mask has beside another

@@ -1,64 +1,108 @@
 -- Lines of notes, and what they say after more nodes.
-use Rattle.std.proofs.Common.{◌≡◌, ℕ, ◌<◌, ◌≤◌, ◌^◌, Bool, true, false}
-use Rattle.std.proofs.Common.{◌==◌, List, Some, slice_get, get_or, ◌⊎◌, inl, inr}
+use Rattle.std.proofs.Common.{◌≡◌, ℕ, ◌<◌, ◌≤◌, ◌^◌, Bool, true, false, ◌||◌}
+use Rattle.std.proofs.Common.{◌==◌, List, Some, slice_get, get_or, ◌⊎◌, ◌↔◌, inl, inr}
 use Rattle.std.proofs.Common.{refl, sym, ap, ◌∙◌, subst, arith, true≢false, w64}
 use Rattle.std.proofs.lemmas.Nat.Bits.{bit_at_above, bit_at-trailing_zeros}
+use Rattle.path_sets.specs.declared.few.Few.{Few}
 use Rattle.path_sets.specs.declared.node.Node.{Node}
 use Rattle.path_sets.specs.declared.notes.Line.{Line}
 use Rattle.path_sets.specs.Masks.{bit_of}
-use Rattle.path_sets.specs.Diagrams.{AreTrue, Covers, IsNumber, IsTrueLine, Keeps, level_of, Listed, Unites}
+use Rattle.path_sets.specs.Few.{bits_from, is_among, IsMarked, Turns}
+use Rattle.path_sets.specs.Diagrams.{accepts, AreTrue, blank, Covers, IsNumber, IsTrueLine, Keeps, level_of, Listed, Unites}
+use Rattle.path_sets.proofs.Universe.{same_test}
 
 -- a line stays true with more nodes
-pub true_on : (columns : List ℕ) (ns ms : List Node) (line : Line) → Keeps ns ms → IsTrueLine columns ns line
-    → IsTrueLine columns ms line
-true_on columns ns ms line keeps is =
+pub true_on : (ns ms : List Node) (line : Line) → Keeps ns ms → IsTrueLine ns line → IsTrueLine ms line
+true_on ns ms line keeps is =
     let longer = keeps.longer in
     let inside = is.inside in
     let reached = is.reached in record {
       inside = omega (arith, longer, inside);
       reached = omega (arith, longer, reached);
       deep = let deep = is.deep in let same = keeps.levels line.result reached in omega (arith, deep, same);
-      unites = λ v. (
-        λ h. elim ((is.unites v).0 (sym (keeps.same line.result v is.reached) ∙ h)) [
-          | inl was ↦ inl (keeps.same line.number v is.inside ∙ was)
-          | inr listed ↦ inr listed
-        ],
-        λ h. keeps.same line.result v is.reached ∙ (is.unites v).1 (elim h [
-          | inl was ↦ inl (sym (keeps.same line.number v is.inside) ∙ was)
-          | inr listed ↦ inr listed
-        ]),
-      );
+      unites = λ v. keeps.same line.result v is.reached ∙ is.unites v
+          ∙ sym (ap (λ b. b || is_among line.few (bits_from line.level v)) (keeps.same line.number v is.inside));
     }
 
-pub all_on : (columns : List ℕ) (ns ms : List Node) (lines : List Line) → Keeps ns ms → AreTrue columns ns lines
-    → AreTrue columns ms lines
-all_on columns ns ms lines keeps all i line at = true_on columns ns ms line keeps (all i line at)
-
--- what was found is a true line
-pub found_line : (columns : List ℕ) (ns ms : List Node) (number level mask result : ℕ) → IsNumber ns number → IsNumber ms result
-    → level ≤ level_of ms result
-    → Keeps ns ms
-    → Unites columns mask level ns number ms result → IsTrueLine columns ms
-    (record { number = number; level = level; mask = mask; result = result })
-found_line columns ns ms number level mask result inside reached deep keeps is =
-    let longer = keeps.longer in record {
-      inside = omega (arith, longer, inside);
-      reached = reached;
-      deep = deep;
-      unites = λ v. (
-        λ h. elim ((is v).0 h) [ inl was ↦ inl (keeps.same number v inside ∙ was) | inr listed ↦ inr listed ],
-        λ h. (is v).1 (elim h [ inl was ↦ inl (sym (keeps.same number v inside) ∙ was) | inr listed ↦ inr listed ]),
-      );
-    }
+pub all_on : (ns ms : List Node) (lines : List Line) → Keeps ns ms → AreTrue ns lines → AreTrue ms lines
+all_on ns ms lines keeps all i line at = true_on ns ms line keeps (all i line at)
 
 -- lines with one more that is true
-pub one_more_line : (columns : List ℕ) (ns : List Node) (old new : List Line) (line : Line) → AreTrue columns ns old
-    → IsTrueLine columns ns line
-    → ((i : ℕ) (x : Line) → slice_get new i ≡ Some x → (x ≡ line) ⊎ (slice_get old i ≡ Some x)) → AreTrue columns ns new
-one_more_line columns ns old new line all is written i x at = elim (written i x at) [
-  | inl same ↦ subst (IsTrueLine columns ns) (sym same) is
+pub one_more_line : (ns : List Node) (old new : List Line) (line : Line) → AreTrue ns old → IsTrueLine ns line
+    → ((i : ℕ) (x : Line) → slice_get new i ≡ Some x → (x ≡ line) ⊎ (slice_get old i ≡ Some x)) → AreTrue ns new
+one_more_line ns old new line all is written i x at = elim (written i x at) [
+  | inl same ↦ subst (IsTrueLine ns) (sym same) is
   | inr was ↦ all i x was
 ]
+
+or_false : (b : Bool) → b ≡ (b || false)
+or_false true = refl
+or_false false = refl
+
+-- nothing is put into the empty set
+pub blank_is_true : (ns : List Node) → IsTrueLine ns blank
+blank_is_true ns = record { inside = omega arith; reached = omega arith; deep = omega arith; unites = λ v. or_false (accepts ns 0 v) }
+
+either : (a b : Bool) → (a || b) ≡ true → (a ≡ true) ⊎ (b ≡ true)
+either true b h = inl refl
+either false b h = inr h
+
+first_or : (a b : Bool) → a ≡ true → (a || b) ≡ true
+first_or true b h = refl
+first_or false b h = absurd (true≢false (sym h))
+
+second_or : (a b : Bool) → b ≡ true → (a || b) ≡ true
+second_or true b h = refl
+second_or false b h = h
+
+module _ (columns valuations : List ℕ) (mask level : ℕ) (few : Few) (turns : Turns columns valuations)
+    (is : (v : ℕ) → IsMarked valuations mask level v ↔ (is_among few (bits_from level v) ≡ true)) where
+  -- those that a mask lists are the few
+  listed_among : (v : ℕ) → Listed columns mask level v → is_among few (bits_from level v) ≡ true
+  listed_among v (i, set, same) = (is v).0 (i, set, λ l least most. sym (turns l i most) ∙ same l least most)
+
+  among_listed : (v : ℕ) → is_among few (bits_from level v) ≡ true → Listed columns mask level v
+  among_listed v among = let (i, set, same) = (is v).1 among in (i, set, λ l least most. turns l i most ∙ same l least most)
+
+  -- what was found is a true line
+  pub found_line : (ns ms : List Node) (number result : ℕ) → IsNumber ns number → IsNumber ms result → level ≤ level_of ms result
+      → Keeps ns ms
+      → Unites columns mask level ns number ms result
+      → IsTrueLine ms (record { number = number; result = result; level = level; few = few })
+  found_line ns ms number result inside reached deep keeps unites =
+      let longer = keeps.longer in record {
+        inside = omega (arith, longer, inside);
+        reached = reached;
+        deep = deep;
+        unites = λ v.
+            let same = keeps.same number v inside in
+            let among = is_among few (bits_from level v) in
+            same_test (accepts ms result v) (accepts ms number v || among)
+            (λ h. elim ((unites v).0 h) [
+              | inl was ↦ first_or (accepts ms number v) among (same ∙ was)
+              | inr listed ↦ second_or (accepts ms number v) among (listed_among v listed)
+            ])
+            (λ h. (unites v).1 (elim (either (accepts ms number v) among h) [
+              | inl was ↦ inl (sym same ∙ was)
+              | inr new ↦ inr (among_listed v new)
+            ]));
+      }
+
+  -- a line that is asked for says what is asked
+  pub line_unites : (ns : List Node) (number result : ℕ)
+      → IsTrueLine ns (record { number = number; result = result; level = level; few = few })
+      → Unites columns mask level ns number ns result
+  line_unites ns number result line v =
+      let among = is_among few (bits_from level v) in (
+        λ h. elim (either (accepts ns number v) among (sym (line.unites v) ∙ h)) [
+          | inl was ↦ inl was
+          | inr new ↦ inr (among_listed v new)
+        ],
+        λ h. line.unites v ∙ elim h [
+          | inl was ↦ first_or (accepts ns number v) among was
+          | inr listed ↦ second_or (accepts ns number v) among (listed_among v listed)
+        ],
+      )
 
 module _ (columns : List ℕ) (all mask level : ℕ) (covers : Covers all columns) (short : all < 2 ^ level) where
   -- where no valuation has a bit from a level on, its columns are empty
@@ -96,13 +140,3 @@ unites_wide columns all mask narrow level ns ms n r covers some_of fits (inr (sh
       ],
       λ h. (is' v).1 (elim h [ inl was ↦ inl was | inr listed ↦ inr (one_for_all columns all mask level covers short v listed) ]),
     )
-
--- a line that is asked for says what is asked
-pub line_unites : (columns : List ℕ) (ns : List Node) (line : Line) (number level mask : ℕ) → line.number ≡ number
-    → line.level ≡ level
-    → line.mask ≡ mask
-    → IsTrueLine columns ns line → Unites columns mask level ns number ns line.result
-line_unites columns ns line number level mask en el em is =
-    subst (λ n. Unites columns mask level ns n ns line.result) en
-    (subst (λ l. Unites columns mask l ns line.number ns line.result) el
-    (subst (λ m. Unites columns m line.level ns line.number ns line.result) em is.unites))

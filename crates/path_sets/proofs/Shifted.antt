@@ -53,7 +53,7 @@ bits_same l b v i small less =
     ∙ down_bit v (l + 1) (i - l - 1) ∙ ap (bit_of v) there
 
 -- the low bits of a number
-low_bit : (w m j : ℕ) → bit_of (w % 2 ^ (m + 1 + j)) j ≡ bit_of w j
+pub low_bit : (w m j : ℕ) → bit_of (w % 2 ^ (m + 1 + j)) j ≡ bit_of w j
 low_bit w m j =
     let x = w / 2 ^ j in
     let split : x % 2 ^ (m + 1) ≡ (x / 2 ^ 1 % 2 ^ m) * 2 ^ 1 + x % 2 ^ 1 = mod-pow-add x m 1 in

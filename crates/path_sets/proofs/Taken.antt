@@ -1,10 +1,11 @@
 -- Sets that take path edges, one time after another.
 use Rattle.std.proofs.Common.{◌≡◌, ℕ, ◌%◌, List, get_or, inl}
-use Rattle.std.proofs.Common.{inr, sym, ap, ◌∙◌, ◌/◌, ◌⊎◌, subst}
+use Rattle.std.proofs.Common.{inr, sym, ap, ◌∙◌, ◌/◌, ◌⊎◌, subst, arith}
+use Rattle.std.specs.Prelude.{Result, Ok, Err, OnOk, OnErr}
 use Rattle.path_sets.specs.declared.node.Node.{Node}
 use Rattle.path_sets.specs.declared.rows.Row.{Row}
 use Rattle.path_sets.specs.Triples.{Triple}
-use Rattle.path_sets.specs.Diagrams.{HaveNumbers, InBatch, Keeps, Listed, Roots, Takes, Unites, accepts, merged_has, root_of}
+use Rattle.path_sets.specs.Diagrams.{HaveNumbers, InBatch, IsNumber, Keeps, Listed, Roots, Takes, Unites, accepts, merged_has, root_of}
 use Rattle.path_sets.proofs.Batches.{is_or_not}
 
 -- more is taken
@@ -24,16 +25,36 @@ takes_of few more ns ms rs ss wider a = record {
   sound = λ t h. elim (a.sound t h) [ inl was ↦ inl was | inr new ↦ inr (wider t new) ];
 }
 
-is_at : (row : Row) (bit : ℕ) (t : Triple)
-    → ((t.entry ≡ row.entry) × (t.point / 64 ≡ row.block) × (t.point % 64 ≡ bit)) ⊎
-    ((t.entry ≡ row.entry) × (t.point / 64 ≡ row.block) × (t.point % 64 ≡ bit) → ⊥)
-is_at row bit t = elim (is_or_not t.entry row.entry) [
+is_place : (e b i entry block bit : ℕ) → ((e ≡ entry) × (b ≡ block) × (i ≡ bit)) ⊎ ((e ≡ entry) × (b ≡ block) × (i ≡ bit) → ⊥)
+is_place e b i entry block bit = elim (is_or_not e entry) [
   | inr ne ↦ inr (λ h. ne h.0)
-  | inl entry ↦ elim (is_or_not (t.point / 64) row.block) [
+  | inl same ↦ elim (is_or_not b block) [
     | inr ne ↦ inr (λ h. ne h.1)
-    | inl block ↦ elim (is_or_not (t.point % 64) bit) [ inr ne ↦ inr (λ h. ne h.2) | inl at ↦ inl (entry, block, at) ]
+    | inl same' ↦ elim (is_or_not i bit) [ inr ne ↦ inr (λ h. ne h.2) | inl at ↦ inl (same, same', at) ]
   ]
 ]
+
+-- whether a point is given a number or not, each has one
+pub numbers_on : {T E : Type 0} (ns ms : List Node) (rs ss : List (Row × List ℕ)) (entry block bit number : ℕ) (r : Result T E)
+    → Keeps ns ms
+    → HaveNumbers ns rs
+    → IsNumber ms number
+    → OnOk r (Roots rs entry block bit number ss)
+    → OnErr r ((e b i : ℕ) → root_of ss e b i ≡ root_of rs e b i)
+    → HaveNumbers ms ss
+numbers_on ns ms rs ss entry block bit number (Ok x) keeps numbers inside roots same e b i = elim (is_place e b i entry block bit) [
+  | inl (at, at', at'') ↦ subst (IsNumber ms) (sym ((λ j. root_of ss (at j) (at' j) (at'' j)) ∙ roots.here)) inside
+  | inr ne ↦
+      let longer = keeps.longer in
+      let was = numbers e b i in
+      let same = roots.others e b i ne in
+      omega (arith, longer, was, same)
+]
+numbers_on ns ms rs ss entry block bit number (Err x) keeps numbers inside roots same e b i =
+    let longer = keeps.longer in
+    let was = numbers e b i in
+    let same' = same e b i in
+    omega (arith, longer, was, same')
 
 -- a point's set takes those of a batch at that point, and the other sets stay
 module _ (row : Row) (columns points : List ℕ) (bit mask root : ℕ) (is : mask ≡ get_or points bit 0) (ns ms : List Node)
@@ -55,11 +76,11 @@ module _ (row : Row) (columns points : List ℕ) (bit mask root : ℕ) (is : mas
 
   pub takes_at : Takes (InBatch row columns points) ns ms rs ss
   takes_at = record {
-    kept = λ t h. elim (is_at row bit t) [
+    kept = λ t h. elim (is_place t.entry (t.point / 64) (t.point % 64) row.entry row.block bit) [
       | inl at ↦ let e = here t at in e.0 ∙ (unites t.values).1 (inl (sym e.1 ∙ h))
       | inr ne ↦ there t ne ∙ h
     ];
-    sound = λ t h. elim (is_at row bit t) [
+    sound = λ t h. elim (is_place t.entry (t.point / 64) (t.point % 64) row.entry row.block bit) [
       | inl at ↦ let e = here t at in elim ((unites t.values).0 (sym e.0 ∙ h)) [
         | inl was ↦ inl (e.1 ∙ was)
         | inr listed ↦

@@ -1,6 +1,6 @@
 -- Decision diagrams: the sets of valuations that numbered nodes stand for (Bryant 1986).
 use Rattle.std.specs.Prelude.{◌≡◌, ◌≢◌, ◌+◌, ◌-◌, ◌/◌, ◌%◌, ◌<◌, ◌≤◌, ℕ, zero, suc, Bool, true, false, cond}
-use Rattle.std.specs.Prelude.{◌&&◌, nat_eq, nat_lt, List, [], ◌∷◌, ◌++◌}
+use Rattle.std.specs.Prelude.{◌&&◌, ◌||◌, nat_eq, nat_lt, List, [], ◌∷◌, ◌++◌}
 use Rattle.std.specs.Prelude.{◌⊎◌, Option, Some, None, ◌↔◌, length, slice_get, get_or}
 use Rattle.std.specs.Option.{option_map_or}
 use Rattle.std.specs.Map.{lookup}
@@ -8,6 +8,7 @@ use Rattle.path_sets.specs.declared.node.Node.{Node}
 use Rattle.path_sets.specs.declared.notes.Line.{Line}
 use Rattle.path_sets.specs.declared.rows.Row.{Row}
 use Rattle.path_sets.specs.Masks.{bit_of}
+use Rattle.path_sets.specs.Few.{bits_from, is_among}
 use Rattle.path_sets.specs.Triples.{Triple}
 
 -- the number that a valuation goes on to from a node, by its bit
@@ -120,17 +121,20 @@ pub record Takes (given : Triple → Type 0) (nodes nodes' : List Node) (rows ro
   pub kept : (t : Triple) → merged_has nodes rows t ≡ true → merged_has nodes' rows' t ≡ true
   pub sound : (t : Triple) → merged_has nodes' rows' t ≡ true → (merged_has nodes rows t ≡ true) ⊎ given t
 
--- What a line of notes says of a batch: the set of its number with the valuations that its mask lists from its level on is that of
--- its result.
-pub record IsTrueLine (columns : List ℕ) (nodes : List Node) (line : Line) : Type 0 where
+-- a line that says that the empty set stays so where nothing is put into it
+abbrev pub blank : Line
+blank = record { number = 0; result = 0; level = 0; few = record { count = 0; values = 0 ∷ 0 ∷ 0 ∷ 0 ∷ 0 ∷ 0 ∷ [] } }
+
+-- What a line of notes says: the set of its number with its few valuations is that of its result.
+pub record IsTrueLine (nodes : List Node) (line : Line) : Type 0 where
   pub inside : IsNumber nodes line.number
   pub reached : IsNumber nodes line.result
   pub deep : line.level ≤ level_of nodes line.result
-  pub unites : Unites columns line.mask line.level nodes line.number nodes line.result
+  pub unites : (v : ℕ) → accepts nodes line.result v ≡ (accepts nodes line.number v || is_among line.few (bits_from line.level v))
 
 -- each line is true
-abbrev pub AreTrue : List ℕ → List Node → List Line → Type 0
-AreTrue columns nodes lines = (i : ℕ) (line : Line) → slice_get lines i ≡ Some line → IsTrueLine columns nodes line
+abbrev pub AreTrue : List Node → List Line → Type 0
+AreTrue nodes lines = (i : ℕ) (line : Line) → slice_get lines i ≡ Some line → IsTrueLine nodes line
 
 -- each level at which a valuation of the batch has a 1 is a bit of the number
 abbrev pub Covers : ℕ → List ℕ → Type 0

@@ -3,6 +3,7 @@
 ghost use Rattle.std.specs.Prelude.{◌≡◌, ℕ, ◌<◌, ◌^◌, ◌↔◌, ◌⊎◌};
 ghost use Rattle.path_sets.specs.Triples.{Triple};
 ghost use Rattle.path_sets.specs.Diagrams.{AtPlace, Covers, HasRoom, InBatch};
+ghost use Rattle.path_sets.specs.Few.{Turns};
 
 use crate::rows::Row;
 use crate::spread::spread;
@@ -17,11 +18,14 @@ pub(crate) struct Batch {
     pub(crate) all: Word,
     /// Bit i of column l is bit l of valuation i.
     pub(crate) columns: [Word; 64],
+    /// The valuations themselves.
+    pub(crate) valuations: [Word; 64],
     /// Bit i of word p says that valuation i is at point p of the row.
     pub(crate) points: [u64; 64],
     ghost room: { HasRoom count columns },
     ghost free: { HasRoom count points },
     ghost covers: { Covers all columns },
+    ghost turns: { Turns columns valuations },
 }
 
 impl Batch {
@@ -36,6 +40,7 @@ impl Batch {
             count: 0,
             all: 0,
             columns: [0; 64],
+            valuations: [0; 64],
             points: [0; 64],
         }
     }
@@ -49,6 +54,7 @@ impl Batch {
     {
         let at = self.count;
         spread(&mut self.columns, values, at);
+        self.valuations[at] = values;
         spread(&mut self.points, mask, at);
         self.all |= values;
         self.count += 1;

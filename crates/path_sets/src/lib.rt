@@ -7,6 +7,7 @@
 
 mod batch;
 mod diagram;
+mod few;
 mod gathered;
 mod inner;
 mod laws;

@@ -10,7 +10,7 @@ ghost use Rattle.path_sets.specs.Diagrams.{AreTrue, HaveNumbers, InBatch, Takes,
 use crate::batch::Batch;
 use crate::inner::inner_nodes;
 use crate::nodes::Nodes;
-use crate::notes::{Line, no_lines};
+use crate::notes::{Line, begin};
 use crate::rows::{Row, Rows, root, set_root};
 use crate::union::union;
 use indexmap::IndexMap;
@@ -22,8 +22,10 @@ use std::alloc::{AllocError, Allocator};
 pub(crate) struct Merged<A: Allocator> {
     pub(crate) nodes: Nodes<A>,
     pub(crate) rows: Rows<A>,
+    lines: Vec<Line, A>,
     ghost unique: { IsUnique row_eq rows } by { IsDistinct-prop row_eq (keys rows) },
     ghost numbers: { HaveNumbers nodes.kept.keys rows.entries },
+    ghost noted: { AreTrue nodes.kept.keys lines.items },
 }
 
 impl<A: Allocator + Copy> Merged<A> {
@@ -34,6 +36,7 @@ impl<A: Allocator + Copy> Merged<A> {
         Merged {
             nodes: Nodes::new(alloc),
             rows: IndexMap::new(alloc),
+            lines: Vec::new(alloc),
         }
     }
 
@@ -47,7 +50,8 @@ impl<A: Allocator + Copy> Merged<A> {
         let nodes = self.nodes.copy()?;
         let mut rows = IndexMap::new(*self.rows.allocator());
         set_root(&mut rows, row, bit, root(&self.rows, &row, bit))?;
-        Ok(Merged { nodes, rows })
+        let lines = Vec::new(*self.rows.allocator());
+        Ok(Merged { nodes, rows, lines })
     }
 
     /// Whether a valuation is in the set at a point, which is a bit of a row.
@@ -60,15 +64,8 @@ impl<A: Allocator + Copy> Merged<A> {
     }
 
     /// Puts the valuations of a batch at one point of its row into the set there.
-    fn put_at(
-        &mut self,
-        lines: &mut [Line; 256],
-        batch: &Batch,
-        bit: usize,
-    ) -> Result<(), AllocError>
-        requires bit { bit < 64 }
-        requires lines { AreTrue batch.now.columns self.old.nodes.kept.keys lines.old }
-        ensures lines { AreTrue batch.now.columns self.new.nodes.kept.keys lines.new }
+    fn put_at(&mut self, batch: &Batch, bit: usize) -> Result<(), AllocError>
+        requires { bit < 64 }
         ensures takes { Takes (InBatch batch.now.row batch.now.columns batch.now.points)
             self.old.nodes.kept.keys self.new.nodes.kept.keys self.old.rows.entries self.new.rows.entries }
         ensures all { OnOk result ((t : Triple) → t.point % 64 ≡ bit
@@ -80,15 +77,7 @@ impl<A: Allocator + Copy> Merged<A> {
             return Ok(());
         }
         let number = root(&self.rows, &batch.row, bit);
-        let number = union(
-            &mut self.nodes,
-            lines,
-            &batch.columns,
-            batch.all,
-            number,
-            0,
-            mask,
-        )?;
+        let number = union(&mut self.nodes, &mut self.lines, batch, number, 0, mask)?;
         set_root(&mut self.rows, batch.row, bit, number)?;
         Ok(())
     }
@@ -100,9 +89,9 @@ impl<A: Allocator + Copy> Merged<A> {
         ensures all { OnOk result ((t : Triple) → InBatch batch.now.row batch.now.columns batch.now.points t
             → merged_has self.new.nodes.kept.keys self.new.rows.entries t ≡ true) }
     {
-        let mut lines = no_lines();
+        begin(&mut self.lines)?;
         for bit in 0..64 {
-            self.put_at(&mut lines, batch, bit)?;
+            self.put_at(batch, bit)?;
         }
         Ok(())
     }

@@ -1,10 +1,12 @@
 //! Valuations put into the set of a number, many at a time.
 
 ghost use Rattle.std.specs.Prelude.{◌≡◌, ℕ, ◌<◌, ◌≤◌, ◌^◌, ◌⊎◌, IfOk};
-ghost use Rattle.path_sets.specs.Diagrams.{AreTrue, Covers, IsNumber, Keeps, level_of, Unites};
+ghost use Rattle.path_sets.specs.Diagrams.{AreTrue, IsNumber, Keeps, level_of, Unites};
 
+use crate::batch::Batch;
+use crate::few::{Few, few_of};
 use crate::nodes::{ALL, Nodes};
-use crate::notes::{Line, line_at, note};
+use crate::notes::{Line, note, noted};
 use language::Word;
 use std::alloc::{AllocError, Allocator};
 
@@ -17,12 +19,12 @@ fn narrowed(all: Word, level: u8, mask: u64) -> u64
 }
 
 /// The number of a number's set with the valuations of a batch that are in the mask, of which the bits from a level on
-/// count. The lines are those of this batch, all of whose bits are in `all`.
+/// count.
+#[cycle(union)]
 pub(crate) fn union<A: Allocator + Copy>(
     nodes: &mut Nodes<A>,
-    lines: &mut [Line; 256],
-    columns: &[Word; 64],
-    all: Word,
+    lines: &mut [Line],
+    batch: &Batch,
     number: u32,
     level: u8,
     mask: u64,
@@ -30,13 +32,12 @@ pub(crate) fn union<A: Allocator + Copy>(
     requires level { level ≤ 64 }
     requires inside { IsNumber nodes.old.kept.keys number }
     requires deep { level ≤ level_of nodes.old.kept.keys number }
-    requires covers { Covers all columns.now }
-    requires lines { AreTrue columns.now nodes.old.kept.keys lines.old }
+    requires lines { AreTrue nodes.old.kept.keys lines.old }
     ensures keeps { Keeps nodes.old.kept.keys nodes.new.kept.keys }
-    ensures lines { AreTrue columns.now nodes.new.kept.keys lines.new }
+    ensures lines { AreTrue nodes.new.kept.keys lines.new }
     ensures inside { IfOk result (λ r. IsNumber nodes.new.kept.keys r) }
     ensures deep { IfOk result (λ r. level ≤ level_of nodes.new.kept.keys r) }
-    ensures unites { IfOk result (λ r. Unites columns.now mask level nodes.old.kept.keys number nodes.new.kept.keys r) }
+    ensures unites { IfOk result (λ r. Unites batch.now.columns mask level nodes.old.kept.keys number nodes.new.kept.keys r) }
 {
     if mask == 0 || number == ALL {
         return Ok(number);
@@ -44,24 +45,49 @@ pub(crate) fn union<A: Allocator + Copy>(
     if level == 64 {
         return Ok(ALL);
     }
-    let mask = narrowed(all, level, mask);
-    let line = line_at(lines, number, level, mask);
-    if line.number == number && line.level == level && line.mask == mask {
-        return Ok(line.result);
+    let mask = narrowed(batch.all, level, mask);
+    let Some(few) = few_of(&batch.valuations, mask, level) else {
+        return parted(nodes, lines, batch, number, level, mask);
+    };
+    if let Some(result) = noted(lines, number, level, &few) {
+        return Ok(result);
     }
-    let (low, high) = nodes.children(number, level);
-    let ones = mask & columns[level as usize];
-    let low = union(nodes, lines, columns, all, low, level + 1, mask ^ ones)?;
-    let high = union(nodes, lines, columns, all, high, level + 1, ones)?;
-    let result = nodes.make(level, low, high)?;
+    let result = parted(nodes, lines, batch, number, level, mask)?;
     note(
         lines,
         Line {
             number,
-            level,
-            mask,
             result,
+            level,
+            few,
         },
     );
     Ok(result)
+}
+
+/// The same, by the two halves that a bit of the level parts the valuations into.
+#[cycle(union)]
+fn parted<A: Allocator + Copy>(
+    nodes: &mut Nodes<A>,
+    lines: &mut [Line],
+    batch: &Batch,
+    number: u32,
+    level: u8,
+    mask: u64,
+) -> Result<u32, AllocError>
+    requires level { level < 64 }
+    requires inside { IsNumber nodes.old.kept.keys number }
+    requires deep { level ≤ level_of nodes.old.kept.keys number }
+    requires lines { AreTrue nodes.old.kept.keys lines.old }
+    ensures keeps { Keeps nodes.old.kept.keys nodes.new.kept.keys }
+    ensures lines { AreTrue nodes.new.kept.keys lines.new }
+    ensures inside { IfOk result (λ r. IsNumber nodes.new.kept.keys r) }
+    ensures deep { IfOk result (λ r. level ≤ level_of nodes.new.kept.keys r) }
+    ensures unites { IfOk result (λ r. Unites batch.now.columns mask level nodes.old.kept.keys number nodes.new.kept.keys r) }
+{
+    let (low, high) = nodes.children(number, level);
+    let ones = mask & batch.columns[level as usize];
+    let low = union(nodes, lines, batch, low, level + 1, mask ^ ones)?;
+    let high = union(nodes, lines, batch, high, level + 1, ones)?;
+    nodes.make(level, low, high)
 }
