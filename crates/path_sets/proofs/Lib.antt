@@ -5,6 +5,9 @@ pub mod Grouped
 pub mod Settled
 pub mod Walks
 pub mod Grown
+pub mod OneBit
+pub mod TwoBits
+pub mod Turned
 pub mod Stored
 pub mod Shifted
 pub mod Canonical

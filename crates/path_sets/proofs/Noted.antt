@@ -1,15 +1,17 @@
 -- Lines of notes, and what they say after more nodes.
-use Rattle.std.proofs.Common.{◌≡◌, ℕ, ◌<◌, ◌≤◌, ◌^◌, Bool, true, false}
+use Rattle.std.proofs.Common.{◌≡◌, ℕ, ◌*◌, ◌<◌, ◌≤◌, ◌^◌, Bool, true, false}
 use Rattle.std.proofs.Common.{◌==◌, List, Some, slice_get, get_or, ◌⊎◌, inl, inr}
 use Rattle.std.proofs.Common.{refl, sym, ap, ◌∙◌, subst, arith, true≢false, w64}
 use Rattle.std.proofs.lemmas.Nat.Bits.{bit_at_above, bit_at-trailing_zeros}
-use Rattle.path_sets.specs.declared.node.Node.{Node}
+use Rattle.path_sets.specs.declared.quad.Quad.{Quad}
 use Rattle.path_sets.specs.declared.notes.Line.{Line}
 use Rattle.path_sets.specs.Masks.{bit_of}
-use Rattle.path_sets.specs.Diagrams.{AreTrue, Covers, IsNumber, IsTrueLine, Keeps, level_of, Listed, Unites}
+use Rattle.path_sets.specs.Walks.{IsNumber}
+use Rattle.path_sets.specs.Quads.{KeepQuads, pair_of}
+use Rattle.path_sets.specs.Diagrams.{AreTrue, Covers, IsTrueLine, Listed, Unites}
 
 -- a line stays true with more nodes
-pub true_on : (columns : List ℕ) (ns ms : List Node) (line : Line) → Keeps ns ms → IsTrueLine columns ns line
+pub true_on : (columns : List ℕ) (ns ms : List Quad) (line : Line) → KeepQuads ns ms → IsTrueLine columns ns line
     → IsTrueLine columns ms line
 true_on columns ns ms line keeps is =
     let longer = keeps.longer in
@@ -30,14 +32,14 @@ true_on columns ns ms line keeps is =
       );
     }
 
-pub all_on : (columns : List ℕ) (ns ms : List Node) (lines : List Line) → Keeps ns ms → AreTrue columns ns lines
+pub all_on : (columns : List ℕ) (ns ms : List Quad) (lines : List Line) → KeepQuads ns ms → AreTrue columns ns lines
     → AreTrue columns ms lines
 all_on columns ns ms lines keeps all i line at = true_on columns ns ms line keeps (all i line at)
 
 -- what was found is a true line
-pub found_line : (columns : List ℕ) (ns ms : List Node) (number level mask result : ℕ) → IsNumber ns number → IsNumber ms result
-    → level ≤ level_of ms result
-    → Keeps ns ms
+pub found_line : (columns : List ℕ) (ns ms : List Quad) (number level mask result : ℕ) → IsNumber ns number → IsNumber ms result
+    → level ≤ pair_of ms result
+    → KeepQuads ns ms
     → Unites columns mask level ns number ms result → IsTrueLine columns ms
     (record { number = number; level = level; mask = mask; result = result })
 found_line columns ns ms number level mask result inside reached deep keeps is =
@@ -52,7 +54,7 @@ found_line columns ns ms number level mask result inside reached deep keeps is =
     }
 
 -- lines with one more that is true
-pub one_more_line : (columns : List ℕ) (ns : List Node) (old new : List Line) (line : Line) → AreTrue columns ns old
+pub one_more_line : (columns : List ℕ) (ns : List Quad) (old new : List Line) (line : Line) → AreTrue columns ns old
     → IsTrueLine columns ns line
     → ((i : ℕ) (x : Line) → slice_get new i ≡ Some x → (x ≡ line) ⊎ (slice_get old i ≡ Some x)) → AreTrue columns ns new
 one_more_line columns ns old new line all is written i x at = elim (written i x at) [
@@ -79,10 +81,10 @@ module _ (columns : List ℕ) (all mask level : ℕ) (covers : Covers all column
       (_, ap (λ x. x == 1) found.1, λ l least less. no_bit l _ least ∙ sym (no_bit l i least) ∙ same l least less)
 
 -- and what is found for that one is found for all
-pub unites_wide : (columns : List ℕ) (all mask narrow level : ℕ) (ns ms : List Node) (n r : ℕ) → Covers all columns
+pub unites_wide : (columns : List ℕ) (all mask narrow level : ℕ) (ns ms : List Quad) (n r : ℕ) → Covers all columns
     → (mask ≡ 0 → ⊥)
     → mask < 2 ^ 64
-    → (narrow ≡ mask) ⊎ ((all < 2 ^ level) × (narrow ≡ 1)) → Unites columns narrow level ns n ms r
+    → (narrow ≡ mask) ⊎ ((all < 2 ^ (2 * level)) × (narrow ≡ 1)) → Unites columns narrow level ns n ms r
     → Unites columns mask level ns n ms r
 unites_wide columns all mask narrow level ns ms n r covers some_of fits (inl same) is = subst (λ m. Unites columns m level ns n ms r)
     same is
@@ -92,13 +94,13 @@ unites_wide columns all mask narrow level ns ms n r covers some_of fits (inr (sh
       λ h. elim ((is' v).0 h) [
         | inl was ↦ inl was
         | inr listed ↦ inr
-            (all_for_one columns all mask level covers short some_of fits v listed)
+            (all_for_one columns all mask (2 * level) covers short some_of fits v listed)
       ],
-      λ h. (is' v).1 (elim h [ inl was ↦ inl was | inr listed ↦ inr (one_for_all columns all mask level covers short v listed) ]),
+      λ h. (is' v).1 (elim h [ inl was ↦ inl was | inr listed ↦ inr (one_for_all columns all mask (2 * level) covers short v listed) ]),
     )
 
 -- a line that is asked for says what is asked
-pub line_unites : (columns : List ℕ) (ns : List Node) (line : Line) (number level mask : ℕ) → line.number ≡ number
+pub line_unites : (columns : List ℕ) (ns : List Quad) (line : Line) (number level mask : ℕ) → line.number ≡ number
     → line.level ≡ level
     → line.mask ≡ mask
     → IsTrueLine columns ns line → Unites columns mask level ns number ns line.result

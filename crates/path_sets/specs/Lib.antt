@@ -2,6 +2,9 @@ pub mod Triples
 pub mod Inserts
 pub mod Masks
 pub mod Edges
+pub mod Walks
+pub mod Quads
 pub mod Diagrams
+pub mod Binary
 pub mod Members
 pub mod Suffixes

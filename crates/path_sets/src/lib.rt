@@ -6,6 +6,7 @@
 #![tactic(auto)]
 
 mod batch;
+mod binary;
 mod diagram;
 mod gathered;
 mod inner;
@@ -18,6 +19,8 @@ mod notes;
 mod ordered;
 mod path_set;
 mod place;
+mod quad;
+mod quads;
 mod rows;
 mod spread;
 mod union;
