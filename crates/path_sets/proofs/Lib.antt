@@ -13,6 +13,7 @@ pub mod Shifted
 pub mod Canonical
 pub mod Lists
 pub mod Unions
+pub mod Quarters
 pub mod Noted
 pub mod Rooted
 pub mod Batches

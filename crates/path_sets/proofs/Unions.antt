@@ -136,7 +136,7 @@ module _ (columns : List ℕ) (mask level : ℕ) (small : level < 32) (n0 n1 n2 
     where
       at_level : (ns : List Quad) (z : Quad) → z.level ≡ level → (v : ℕ) → holds ns (turn z v) v
           ≡ cond (bit_of v (2 * level)) (half ns z.both z.first v) (half ns z.second z.none v)
-          at_level ns z same v =
+      at_level ns z same v =
           by_bits (λ k. holds ns k v) z v
           ∙ ap (λ l. cond (bit_of v (2 * l)) (cond (bit_of v (2 * l + 1)) (holds ns z.both v) (holds ns z.first v))
           (cond (bit_of v (2 * l + 1)) (holds ns z.second v) (holds ns z.none v))) same
@@ -148,7 +148,7 @@ module _ (columns : List ℕ) (mask level : ℕ) (small : level < 32) (n0 n1 n2 
       halves : (m high low high' low' : ℕ) → Unites columns (rest m) (level + 1) n0 low n1 low'
           → Unites columns (next m) (level + 1) n0 high n1 high'
           → Joins columns m (2 * level + 1) (half n0 high low) (half n1 high' low')
-          halves m high low high' low' lows highs =
+      halves m high low high' low' lows highs =
           joins_both columns m (2 * level + 1) (omega (arith, small)) (half n0 high low) (half n1 high' low') (holds n0 high)
           (holds n0 low) (holds n1 high') (holds n1 low') (λ v. refl) (λ v. refl) (later (rest m) low low' lows)
           (later (next m) high high' highs)

@@ -2,4 +2,4 @@ use Rattle.std.proofs.Common.{◌-◌}
 use Rattle.path_sets.proofs.union.+union.Given as goal
 
 abbrev pub decreases-union : goal.decreases-union
-decreases-union g l = 64 - l.level
+decreases-union g l = 32 - l.level
