@@ -26,23 +26,6 @@ got_behind [] y (suc i) h = absurd (omega (arith, h))
 got_behind (x ∷ xs) y zero h = absurd (omega (arith, h))
 got_behind (x ∷ xs) y (suc i) h = got_behind xs y i (omega (arith, h))
 
--- what two nodes of the second bit have been put together to by one of the first
-module _ (n0 n1 n2 n3 : List Node) (numbers : List ℕ) (x : Quad) (zero one r : ℕ) (keeps : Keeps n0 n1) (keeps' : Keeps n1 n2)
-    (ready : AreReady n0 numbers x) (is_zero : IsNumber n1 zero)
-    (zeros : (v : ℕ) → accepts n1 zero v
-        ≡ cond (bit_of v (2 * x.level + 1)) (accepts n0 (get_or numbers x.second 0) v) (accepts n0 (get_or numbers x.none 0) v))
-    (ones : (v : ℕ) → accepts n2 one v
-        ≡ cond (bit_of v (2 * x.level + 1)) (accepts n1 (get_or numbers x.both 0) v) (accepts n1 (get_or numbers x.first 0) v))
-    (joined : (v : ℕ) → accepts n3 r v ≡ cond (bit_of v (2 * x.level)) (accepts n2 one v) (accepts n2 zero v)) where
-  pub turned_joined : (v : ℕ) → accepts n3 r v ≡ accepts n0 (get_or numbers (turn x v) 0) v
-  turned_joined v =
-      let both = keeps.same (get_or numbers x.both 0) v ready.3.1 in
-      let first = keeps.same (get_or numbers x.first 0) v ready.1.1 in
-      joined v
-      ∙ ap₂ (cond (bit_of v (2 * x.level))) (ones v ∙ ap₂ (cond (bit_of v (2 * x.level + 1))) both first)
-      (keeps'.same zero v is_zero ∙ zeros v)
-      ∙ sym (by_bits (λ k. accepts n0 (get_or numbers k 0) v) x v)
-
 -- the empty set and that of all valuations have the same numbers
 pub leaves_turned : (qs : List Quad) (ns : List Node) (n : ℕ) → n < 2 → IsTurned qs ns n (get_or (0 ∷ 1 ∷ []) n 0)
 leaves_turned qs ns zero less = record {
