@@ -1,16 +1,16 @@
 -- Nodes of one bit that stand for those of two.
-use Rattle.std.proofs.Common.{◌≡◌, ℕ, zero, suc, ◌+◌, ◌-◌, ◌*◌, ◌<◌, ◌≤◌, Bool, true, false, cond, nat_lt, List, [], ◌∷◌, ◌++◌, get_or, length, Some, slice_get}
-use Rattle.std.proofs.Common.{refl, sym, ap, ap₂, ◌∙◌, subst, arith}
+use Rattle.std.proofs.Common.{◌≡◌, ℕ, zero, suc, ◌+◌, ◌-◌, ◌*◌, ◌<◌, ◌≤◌, Bool, true, false, nat_lt}
+use Rattle.std.proofs.Common.{List, [], ◌∷◌, ◌++◌, get_or, length, Some, slice_get}
+use Rattle.std.proofs.Common.{refl, sym, ap, ◌∙◌, subst, arith}
 use Rattle.std.specs.Option.{option_map_or}
 use Rattle.std.proofs.lemmas.Bool.{ltb-true, ltb-false}
 use Rattle.path_sets.specs.declared.node.Node.{Node}
 use Rattle.path_sets.specs.declared.quad.Quad.{Quad}
-use Rattle.path_sets.specs.Masks.{bit_of}
 use Rattle.path_sets.specs.Walks.{IsNumber}
 use Rattle.path_sets.specs.Quads.{holds, IsBelow, pair_of, QuadsAreOrdered, QuadsGoDown, turn}
 use Rattle.path_sets.specs.Diagrams.{accepts, child, Keeps, level_of}
 use Rattle.path_sets.specs.Binary.{AreReady, IsReady, IsTurned}
-use Rattle.path_sets.proofs.TwoBits.{by_bits, of_children, steps_down}
+use Rattle.path_sets.proofs.TwoBits.{of_children, steps_down}
 use Rattle.path_sets.proofs.Walks.{at_leaf, goes_on, node_of}
 
 -- a list's items stay where they are when one more comes behind

@@ -1,10 +1,10 @@
 -- Nodes that test two bits, and one more of them.
 use Rattle.std.proofs.Common.{◌≡◌, ℕ, ◌+◌, ◌*◌, ◌<◌, Bool, true, false, cond, List, [], ◌∷◌, ◌++◌}
-use Rattle.std.proofs.Common.{Some, slice_get, sym, ap, subst, refl, arith, inl, inr}
+use Rattle.std.proofs.Common.{Some, slice_get, sym, subst, refl, arith, inl, inr}
 use Rattle.path_sets.specs.declared.quad.Quad.{Quad}
 use Rattle.path_sets.specs.Masks.{bit_of}
 use Rattle.path_sets.specs.Walks.{Descends, IsGrown, IsNumber}
-use Rattle.path_sets.specs.Quads.{AreInside, AreLater, holds, IsBelow, KeepQuads, pair_of, QuadsAreOrdered, QuadsGoDown, turn}
+use Rattle.path_sets.specs.Quads.{AreInside, AreLater, holds, IsBelow, KeepQuads, QuadsAreOrdered, QuadsGoDown, turn}
 use Rattle.path_sets.proofs.Grown.{got_from, joined, keeps_grown, keeps_more}
 
 -- what holds of a node's four children holds of the one that a valuation goes on to

@@ -1,5 +1,5 @@
 -- What is put together from the two halves of a batch.
-use Rattle.std.proofs.Common.{bit_and, bit_xor, ◌≡◌, ℕ, ◌+◌, ◌*◌, ◌<◌, ◌≤◌, ◌^◌, Bool, true, false, cond, ◌==◌, List, get_or}
+use Rattle.std.proofs.Common.{bit_and, bit_xor, ◌≡◌, ℕ, ◌+◌, ◌*◌, ◌<◌, ◌^◌, Bool, true, false, cond, ◌==◌, List, get_or}
 use Rattle.std.proofs.Common.{◌⊎◌, ◌↔◌, inl, inr, refl, sym, ap, ◌∙◌, arith, subst, true≢false, w64}
 use Rattle.std.specs.Prelude.{Result, Ok, Err, IfOk}
 use Rattle.std.proofs.lemmas.Nat.Bits.{bit_at-zero, bit_at-trailing_zeros}
@@ -20,11 +20,11 @@ of_ok P Q (Err e) f h = tt
 module _ (columns : List ℕ) (mask level : ℕ) (ns : List Quad) (n : ℕ) where
   -- an empty mask lists nothing
   pub unites_none : mask ≡ 0 → Unites columns mask level ns n ns n
-  unites_none zero' v = (
+  unites_none empty v = (
     λ h. inl h,
     λ h. elim h [
       | inl was ↦ was
-      | inr (i, set, same) ↦ absurd (true≢false (sym set ∙ ap (λ m. bit_of m i) zero' ∙ ap (λ x. x == 1) (bit_at-zero i)))
+      | inr (i, set, same) ↦ absurd (true≢false (sym set ∙ ap (λ m. bit_of m i) empty ∙ ap (λ x. x == 1) (bit_at-zero i)))
     ],
   )
 
@@ -108,8 +108,8 @@ module _ (columns : List ℕ) (mask level : ℕ) (small : level < 32) (n0 n1 n2 
   abbrev pub one : ℕ
   one = bit_and mask (get_or columns (2 * level) 0)
 
-  abbrev pub zero' : ℕ
-  zero' = bit_xor mask one
+  abbrev pub other : ℕ
+  other = bit_xor mask one
 
   abbrev pub next : ℕ → ℕ
   next m = bit_and m (get_or columns (2 * level + 1) 0)
@@ -121,8 +121,9 @@ module _ (columns : List ℕ) (mask level : ℕ) (small : level < 32) (n0 n1 n2 
   abbrev half : List Quad → ℕ → ℕ → ℕ → Bool
   half ns high low v = cond (bit_of v (2 * level + 1)) (holds ns high v) (holds ns low v)
 
-  pub unites_four : Unites columns (rest zero') (level + 1) n0 x.none n1 y.none → Unites columns (rest one) (level + 1) n0 x.first n1 y.first
-      → Unites columns (next zero') (level + 1) n0 x.second n1 y.second
+  pub unites_four : Unites columns (rest other) (level + 1) n0 x.none n1 y.none
+      → Unites columns (rest one) (level + 1) n0 x.first n1 y.first
+      → Unites columns (next other) (level + 1) n0 x.second n1 y.second
       → Unites columns (next one) (level + 1) n0 x.both n1 y.both
       → Unites columns mask level n0 n n2 r
   unites_four none first second both =
@@ -131,7 +132,7 @@ module _ (columns : List ℕ) (mask level : ℕ) (small : level < 32) (n0 n1 n2 
       (half n1 y.both y.first) (half n1 y.second y.none)
       (λ v. split v ∙ at_level n0 x own v)
       (λ v. joined v ∙ at_level n1 y own' v)
-      (halves zero' x.second x.none y.second y.none none second)
+      (halves other x.second x.none y.second y.none none second)
       (halves one x.both x.first y.both y.first first both)
     where
       at_level : (ns : List Quad) (z : Quad) → z.level ≡ level → (v : ℕ) → holds ns (turn z v) v

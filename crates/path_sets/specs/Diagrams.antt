@@ -1,7 +1,7 @@
 -- Decision diagrams: the sets of valuations that numbered nodes stand for (Bryant 1986).
-use Rattle.std.specs.Prelude.{◌≡◌, ◌≢◌, ◌+◌, ◌-◌, ◌*◌, ◌/◌, ◌%◌, ◌<◌, ◌≤◌, ℕ, zero, suc, Bool, true, false, cond}
-use Rattle.std.specs.Prelude.{◌&&◌, nat_eq, nat_lt, List, [], ◌∷◌, ◌++◌}
-use Rattle.std.specs.Prelude.{◌⊎◌, Option, Some, None, ◌↔◌, length, slice_get, get_or}
+use Rattle.std.specs.Prelude.{◌≡◌, ◌≢◌, ◌+◌, ◌*◌, ◌/◌, ◌%◌, ◌<◌, ◌≤◌, ℕ, Bool, true, false, cond}
+use Rattle.std.specs.Prelude.{◌&&◌, nat_eq, List}
+use Rattle.std.specs.Prelude.{◌⊎◌, Some, ◌↔◌, slice_get, get_or}
 use Rattle.std.specs.Option.{option_map_or}
 use Rattle.std.specs.Map.{lookup}
 use Rattle.path_sets.specs.declared.node.Node.{Node}

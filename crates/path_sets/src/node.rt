@@ -1,4 +1,4 @@
-//! One node of a decision diagram.
+//! One node of a decision diagram that tests one bit.
 
 /// A node: the bit that it tests, and the numbers that a valuation goes on to where the bit is 0 and where it is 1.
 #[derive(Clone, Copy, Debug, PartialEq, Eq, Hash)]

@@ -1,4 +1,4 @@
-//! Numbered nodes, each of which stands once.
+//! Numbered nodes that test one bit, each of which stands once.
 
 ghost use Rattle.std.specs.Prelude.{◌≡◌, ℕ, ◌+◌, ◌<◌, ◌^◌, Bool, cond, IfOk, Some, slice_get, length, ◌≤◌};
 ghost use Rattle.path_sets.specs.Masks.{bit_of};

@@ -24,7 +24,11 @@ pub(crate) fn turn(quad: Quad, values: Word) -> u32
 {
     let bit = 2 * quad.level as usize;
     if has(values, bit) {
-        if has(values, bit + 1) { quad.both } else { quad.first }
+        if has(values, bit + 1) {
+            quad.both
+        } else {
+            quad.first
+        }
     } else if has(values, bit + 1) {
         quad.second
     } else {

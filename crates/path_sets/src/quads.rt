@@ -14,7 +14,7 @@ use std::hash::{BuildHasherDefault, FoldHasher};
 /// Numbered nodes, in the order of their numbers.
 type Kept<A> = IndexSet<Quad, BuildHasherDefault<FoldHasher>, A>;
 
-/// The nodes of decision diagrams: number n is the node at n - 2, whose children have smaller numbers and later levels.
+/// The nodes of the diagrams that are kept: number n is the node at n - 2, whose children have smaller numbers and later levels.
 #[derive(Drop)]
 pub(crate) struct Quads<A: Allocator> {
     pub(crate) kept: Kept<A>,

@@ -1,7 +1,7 @@
-use Rattle.std.proofs.Common.{◌≡◌, ℕ, ◌+◌, ◌-◌, ◌≤◌, ◌<◌, ◌∷◌, [], ◌++◌, length, length-append, get_or, List, sym, ap, ◌∙◌, subst, arith}
+use Rattle.std.proofs.Common.{◌≡◌, ℕ, ◌+◌, ◌<◌, ◌∷◌, [], ◌++◌, length, length-append, get_or, sym, ap, ◌∙◌, subst, arith}
 use Rattle.std.proofs.lemmas.List.{get_or_read}
 use Rattle.path_sets.specs.Walks.{IsNumber}
-use Rattle.path_sets.specs.Quads.{holds, turn}
+use Rattle.path_sets.specs.Quads.{turn}
 use Rattle.path_sets.specs.Diagrams.{accepts}
 use Rattle.path_sets.specs.Binary.{AreReady, IsTurned}
 use Rattle.path_sets.proofs.Turned.{leaves_turned, children_ready, one_more_turned}
