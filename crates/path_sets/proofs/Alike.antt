@@ -1,12 +1,13 @@
 -- The diagram of one point's members.
 use Rattle.std.proofs.Common.{◌≡◌, ℕ, ◌+◌, ◌*◌, ◌/◌, ◌%◌, ◌^◌, ◌<◌, true, ◌↔◌, inl, inr, List, [], ◌∷◌, sym, ◌∙◌, arith}
 use Rattle.language.specs.Flow.{Member}
-use Rattle.path_sets.specs.declared.node.Node.{Node}
+use Rattle.path_sets.specs.declared.quad.Quad.{Quad}
 use Rattle.path_sets.specs.declared.place.Place.{Place}
 use Rattle.path_sets.specs.declared.rows.Row.{Row}
 use Rattle.path_sets.specs.Triples.{Triple, triple}
 use Rattle.path_sets.specs.Edges.{edges}
-use Rattle.path_sets.specs.Diagrams.{accepts, merged_has, root_of, Takes}
+use Rattle.path_sets.specs.Quads.{holds}
+use Rattle.path_sets.specs.Diagrams.{merged_has, root_of, Takes}
 use Rattle.path_sets.specs.Members.{all_edges, has_edge, universe}
 use Rattle.path_sets.specs.Suffixes.{Apart, HasNodes, Prefix, SameSuffixes}
 use Rattle.path_sets.proofs.Filtered.{kept_is}
@@ -44,14 +45,14 @@ alike_nodes w n S T alike has = record {
 }
 
 -- the set at a bit of a block of points
-pub set_at : (ns : List Node) (rs : List (Row × List ℕ)) (e b i v : ℕ) → i < 64
-    → merged_has ns rs (triple e (64 * b + i) v) ≡ accepts ns (root_of rs e b i) v
+pub set_at : (ns : List Quad) (rs : List (Row × List ℕ)) (e b i v : ℕ) → i < 64
+    → merged_has ns rs (triple e (64 * b + i) v) ≡ holds ns (root_of rs e b i) v
 set_at ns rs e b i v small =
     let block : (64 * b + i) / 64 ≡ b = omega arith in
     let bit : (64 * b + i) % 64 ≡ i = omega arith in
-    λ j. accepts ns (root_of rs e (block j) (bit j)) v
+    λ j. holds ns (root_of rs e (block j) (bit j)) v
 
-module _ (ns ms os : List Node) (rs ss ts : List (Row × List ℕ)) (masks : List (Place × ℕ)) (e p : ℕ) (entry : e < 2 ^ 64)
+module _ (ns ms os : List Quad) (rs ss ts : List (Row × List ℕ)) (masks : List (Place × ℕ)) (e p : ℕ) (entry : e < 2 ^ 64)
     (point : p < 2 ^ 64)
     (alone : (v : ℕ) → merged_has ms ss (triple e p v) ≡ merged_has ns rs (triple e p v))
     (takes : Takes (λ t. t.values < 2 ^ 64 → Member t (edges masks)) ms os ss ts)

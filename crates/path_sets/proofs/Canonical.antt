@@ -7,8 +7,10 @@ use Rattle.std.proofs.lemmas.Bool.{ltb-true, ltb-false, cases_lt}
 use Rattle.std.proofs.lemmas.Option.{slice_get_cases}
 use Rattle.path_sets.specs.declared.node.Node.{Node}
 use Rattle.path_sets.specs.Masks.{bit_of}
-use Rattle.path_sets.specs.Diagrams.{accepts, AreOrdered, AreReduced, child, GoDown, IsNumber, level_of, node_at, StandOnce}
+use Rattle.path_sets.specs.Walks.{IsNumber, node_at}
+use Rattle.path_sets.specs.Diagrams.{accepts, AreOrdered, AreReduced, child, GoDown, level_of, StandOnce}
 use Rattle.path_sets.proofs.Walks.{has_node, goes_on, at_leaf}
+use Rattle.path_sets.proofs.OneBit.{descends}
 use Rattle.path_sets.proofs.Shifted.{with_bit, bit_here, bits_same}
 
 module _ (ns : List Node) where
@@ -50,18 +52,18 @@ module _ (ns : List Node) (down : GoDown ns) (ordered : AreOrdered ns) where
   -- a set depends on no bit in front of its number's level
   within' : (f n v w : ℕ) → n ≤ f → IsNumber ns n → ((i : ℕ) → level_of ns n ≤ i → i < 64 → bit_of v i ≡ bit_of w i)
       → accepts ns n v ≡ accepts ns n w
-  within' zero n v w fits inside same = at_leaf ns n v (omega (arith, fits)) ∙ sym (at_leaf ns n w (omega (arith, fits)))
+  within' zero n v w fits inside same = at_leaf child ns n v (omega (arith, fits)) ∙ sym (at_leaf child ns n w (omega (arith, fits)))
   within' (suc f) n v w fits inside same = elim (kind ns n inside) [
-    | inr (leaf, _) ↦ at_leaf ns n v leaf ∙ sym (at_leaf ns n w leaf)
+    | inr (leaf, _) ↦ at_leaf child ns n v leaf ∙ sym (at_leaf child ns n w leaf)
     | inl (x, at) ↦
         let level = level_is ns n x at in
         let k = has_node ns n x at in
         let d = down (n - 2) x k.1 in
         let after = child_after n x inside at (bit_of w x.level) in
-        goes_on ns down n v x at
+        goes_on child ns (descends ns down) n v x at
         ∙ ap (λ b. accepts ns (cond b x.high x.low) v) (same x.level (omega (arith, level)) d.0)
         ∙ within' f (child x w) v w (omega (arith, after, fits)) after.1 (λ i least most. same i (omega (arith, least, after, level)) most)
-        ∙ sym (goes_on ns down n w x at)
+        ∙ sym (goes_on child ns (descends ns down) n w x at)
   ]
 
   pub within : (n v w : ℕ) → IsNumber ns n → ((i : ℕ) → level_of ns n ≤ i → i < 64 → bit_of v i ≡ bit_of w i)
@@ -72,7 +74,7 @@ module _ (ns : List Node) (down : GoDown ns) (ordered : AreOrdered ns) where
   pub half : (n : ℕ) (x : Node) → IsNumber ns n → node_at ns n ≡ Some x → (b u : ℕ) → b < 2
       → accepts ns n (with_bit x.level b u) ≡ accepts ns (cond (b == 1) x.high x.low) (with_bit x.level b u)
   half n x inside at b u small =
-      goes_on ns down n (with_bit x.level b u) x at
+      goes_on child ns (descends ns down) n (with_bit x.level b u) x at
       ∙ ap (λ t. accepts ns (cond t x.high x.low) (with_bit x.level b u)) (bit_here x.level b u small)
 
   half_of : (n : ℕ) (x : Node) → IsNumber ns n → node_at ns n ≡ Some x → (b v : ℕ) → b < 2
@@ -138,7 +140,7 @@ module _ (ns : List Node) (down : GoDown ns) (ordered : AreOrdered ns) where
         omega (arith, is, big, big')
 
     leaves : (n m : ℕ) → n ≤ 1 → m ≤ 1 → Same n m → n ≡ m
-    leaves n m leaf leaf' same = by n m leaf leaf' (sym (at_leaf ns n 0 leaf) ∙ same 0 ∙ at_leaf ns m 0 leaf')
+    leaves n m leaf leaf' same = by n m leaf leaf' (sym (at_leaf child ns n 0 leaf) ∙ same 0 ∙ at_leaf child ns m 0 leaf')
       where
         by : (n m : ℕ) → n ≤ 1 → m ≤ 1 → nat_eq n 1 ≡ nat_eq m 1 → n ≡ m
         by zero zero a b e = refl

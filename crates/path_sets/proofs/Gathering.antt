@@ -14,7 +14,7 @@ use Rattle.path_sets.specs.declared.rows.Row.{Row}
 use Rattle.path_sets.specs.Masks.{bit_of, bits_below}
 use Rattle.path_sets.specs.Triples.{Triple}
 use Rattle.path_sets.specs.Edges.{edge_at, edges_in, edges}
-use Rattle.path_sets.specs.declared.node.Node.{Node}
+use Rattle.path_sets.specs.declared.quad.Quad.{Quad}
 use Rattle.path_sets.specs.Diagrams.{AtPlace, Takes, merged_has}
 use Rattle.path_sets.proofs.Batches.{is_or_not}
 use Rattle.path_sets.proofs.Taken.{takes_on, takes_of}
@@ -75,7 +75,7 @@ same_edges gs hs order t h =
     let (j, within, same) = Contains-permutation gs hs (p, m) order there in
     placed hs j p m t (slice_get-get_or hs j (p, m) within ∙ ap Some same) is
 
-module _ (masks : Groups) (ns0 ns1 ns2 : List Node) (rs0 rs1 rs2 : List (Row × List ℕ)) (B0 B1 B2 : Triple → Type 0) (at : ℕ)
+module _ (masks : Groups) (ns0 ns1 ns2 : List Quad) (rs0 rs1 rs2 : List (Row × List ℕ)) (B0 B1 B2 : Triple → Type 0) (at : ℕ)
     (p : Place) (m : ℕ)
     (here : slice_get masks at ≡ Some (p, m)) (taken : Takes (λ t. t.values < 2 ^ 64 → Member t (edges masks)) ns0 ns1 rs0 rs1)
     (some : (t : Triple) → B0 t → t.values < 2 ^ 64 → Member t (edges masks))

@@ -5,12 +5,16 @@ pub mod Grouped
 pub mod Settled
 pub mod Walks
 pub mod Grown
+pub mod OneBit
+pub mod TwoBits
+pub mod Turned
 pub mod Stored
 pub mod Shifted
 pub mod Canonical
 pub mod Lists
 pub mod Fewer
 pub mod Unions
+pub mod Quarters
 pub mod Noted
 pub mod Rooted
 pub mod Batches

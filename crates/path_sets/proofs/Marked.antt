@@ -8,7 +8,8 @@ use Rattle.std.proofs.lemmas.Option.{same_Some}
 use Rattle.language.specs.Flow.{Member}
 use Rattle.path_sets.specs.declared.node.Node.{Node}
 use Rattle.path_sets.specs.Triples.{NoneTwice}
-use Rattle.path_sets.specs.Diagrams.{AreOrdered, GoDown, IsNumber, node_at}
+use Rattle.path_sets.specs.Walks.{IsNumber, node_at}
+use Rattle.path_sets.specs.Diagrams.{AreOrdered, GoDown}
 use Rattle.path_sets.proofs.Canonical.{child_after}
 use Rattle.path_sets.proofs.Led.{IsLed, child_led, root_led}
 

@@ -5,7 +5,8 @@ use Rattle.std.specs.Prelude.{if◌then◌else◌}
 use Rattle.std.specs.List.{list_any}
 use Rattle.std.proofs.lemmas.Option.{same_Some}
 use Rattle.path_sets.specs.declared.node.Node.{Node}
-use Rattle.path_sets.specs.Diagrams.{IsGrown}
+use Rattle.path_sets.specs.declared.quad.Quad.{Quad}
+use Rattle.path_sets.specs.Walks.{IsGrown}
 
 -- whether two nodes are the same
 abbrev pub node_eq : Node → Node → Bool
@@ -16,20 +17,40 @@ node_self x y is =
     ap₂ ◌&&◌ (eq-eqb x.level y.level (ap (λ (z : Node). z.level) is))
     (ap₂ ◌&&◌ (eq-eqb x.low y.low (ap (λ (z : Node). z.low) is)) (eq-eqb x.high y.high (ap (λ (z : Node). z.high) is)))
 
--- what stands in a list is found there
-any_at : (x : Node) (ys : List Node) (i : ℕ) → slice_get ys i ≡ Some x → list_any (node_eq x) ys ≡ true
-any_at x [] i h = absurd (true≢false (sym (ap is_some h)))
-any_at x (y ∷ ys) zero h = ap (λ b. b || list_any (node_eq x) ys) (node_self x y (sym (same_Some y x h)))
-any_at x (y ∷ ys) (suc i) h = by (node_eq x y) (any_at x ys i h)
-  where
-    by : (b : Bool) → list_any (node_eq x) ys ≡ true → (b || list_any (node_eq x) ys) ≡ true
-    by true e = refl
-    by false e = e
+-- whether two nodes of two bits are the same
+abbrev pub quad_eq : Quad → Quad → Bool
+quad_eq x y = nat_eq x.level y.level && (nat_eq x.none y.none && (nat_eq x.first y.first
+    && (nat_eq x.second y.second && nat_eq x.both y.both)))
 
--- a node that is put in where none is equal to it is new
+quad_self : (x y : Quad) → x ≡ y → quad_eq x y ≡ true
+quad_self x y is =
+    ap₂ ◌&&◌ (eq-eqb x.level y.level (ap (λ (z : Quad). z.level) is))
+    (ap₂ ◌&&◌ (eq-eqb x.none y.none (ap (λ (z : Quad). z.none) is))
+    (ap₂ ◌&&◌ (eq-eqb x.first y.first (ap (λ (z : Quad). z.first) is))
+    (ap₂ ◌&&◌ (eq-eqb x.second y.second (ap (λ (z : Quad). z.second) is)) (eq-eqb x.both y.both (ap (λ (z : Quad). z.both) is)))))
+
+module _ {X : Type 0} (eq : X → X → Bool) (self : (x y : X) → x ≡ y → eq x y ≡ true) where
+  -- what stands in a list is found there
+  any_at : (x : X) (ys : List X) (i : ℕ) → slice_get ys i ≡ Some x → list_any (eq x) ys ≡ true
+  any_at x [] i h = absurd (true≢false (sym (ap is_some h)))
+  any_at x (y ∷ ys) zero h = ap (λ b. b || list_any (eq x) ys) (self x y (sym (same_Some y x h)))
+  any_at x (y ∷ ys) (suc i) h = by (eq x y) (any_at x ys i h)
+    where
+      by : (b : Bool) → list_any (eq x) ys ≡ true → (b || list_any (eq x) ys) ≡ true
+      by true e = refl
+      by false e = e
+
+  -- a node that is put in where none is equal to it is new
+  put_in : (x : X) (old new : List X) → new ≡ (if list_any (eq x) old then old else old ++ x ∷ []) → IsGrown x old new
+  put_in x old new h = by (list_any (eq x) old) refl h
+    where
+      by : (b : Bool) → list_any (eq x) old ≡ b → new ≡ (if b then old else old ++ x ∷ []) → IsGrown x old new
+      by true e is = inl is
+      by false e is = inr (is, λ i at. true≢false (sym (any_at x old i at) ∙ e))
+
 pub grown : (x : Node) (old new : List Node) → new ≡ (if list_any (node_eq x) old then old else old ++ x ∷ []) → IsGrown x old new
-grown x old new h = by (list_any (node_eq x) old) refl h
-  where
-    by : (b : Bool) → list_any (node_eq x) old ≡ b → new ≡ (if b then old else old ++ x ∷ []) → IsGrown x old new
-    by true e is = inl is
-    by false e is = inr (is, λ i at. true≢false (sym (any_at x old i at) ∙ e))
+grown = put_in node_eq node_self
+
+pub quads_grown : (x : Quad) (old new : List Quad) → new ≡ (if list_any (quad_eq x) old then old else old ++ x ∷ [])
+    → IsGrown x old new
+quads_grown = put_in quad_eq quad_self

@@ -2,14 +2,16 @@
 use Rattle.std.proofs.Common.{◌≡◌, ℕ, ◌%◌, List, get_or, inl}
 use Rattle.std.proofs.Common.{inr, sym, ap, ◌∙◌, ◌/◌, ◌⊎◌, subst, arith}
 use Rattle.std.specs.Prelude.{Result, Ok, Err, OnOk, OnErr}
-use Rattle.path_sets.specs.declared.node.Node.{Node}
+use Rattle.path_sets.specs.declared.quad.Quad.{Quad}
 use Rattle.path_sets.specs.declared.rows.Row.{Row}
 use Rattle.path_sets.specs.Triples.{Triple}
-use Rattle.path_sets.specs.Diagrams.{HaveNumbers, InBatch, IsNumber, Keeps, Listed, Roots, Takes, Unites, accepts, merged_has, root_of}
+use Rattle.path_sets.specs.Walks.{IsNumber}
+use Rattle.path_sets.specs.Quads.{KeepQuads, holds}
+use Rattle.path_sets.specs.Diagrams.{HaveNumbers, InBatch, Listed, Roots, Takes, Unites, merged_has, root_of}
 use Rattle.path_sets.proofs.Batches.{is_or_not}
 
 -- more is taken
-pub takes_on : (given : Triple → Type 0) (ns ms os : List Node) (rs ss ts : List (Row × List ℕ)) → Takes given ns ms rs ss
+pub takes_on : (given : Triple → Type 0) (ns ms os : List Quad) (rs ss ts : List (Row × List ℕ)) → Takes given ns ms rs ss
     → Takes given ms os ss ts
     → Takes given ns os rs ts
 takes_on given ns ms os rs ss ts a b = record {
@@ -18,7 +20,7 @@ takes_on given ns ms os rs ss ts a b = record {
 }
 
 -- of fewer
-pub takes_of : (few more : Triple → Type 0) (ns ms : List Node) (rs ss : List (Row × List ℕ)) → ((t : Triple) → few t → more t)
+pub takes_of : (few more : Triple → Type 0) (ns ms : List Quad) (rs ss : List (Row × List ℕ)) → ((t : Triple) → few t → more t)
     → Takes few ns ms rs ss → Takes more ns ms rs ss
 takes_of few more ns ms rs ss wider a = record {
   kept = a.kept;
@@ -35,8 +37,8 @@ is_place e b i entry block bit = elim (is_or_not e entry) [
 ]
 
 -- whether a point is given a number or not, each has one
-pub numbers_on : {T E : Type 0} (ns ms : List Node) (rs ss : List (Row × List ℕ)) (entry block bit number : ℕ) (r : Result T E)
-    → Keeps ns ms
+pub numbers_on : {T E : Type 0} (ns ms : List Quad) (rs ss : List (Row × List ℕ)) (entry block bit number : ℕ) (r : Result T E)
+    → KeepQuads ns ms
     → HaveNumbers ns rs
     → IsNumber ms number
     → OnOk r (Roots rs entry block bit number ss)
@@ -57,21 +59,21 @@ numbers_on ns ms rs ss entry block bit number (Err x) keeps numbers inside roots
     omega (arith, longer, was, same')
 
 -- a point's set takes those of a batch at that point, and the other sets stay
-module _ (row : Row) (columns points : List ℕ) (bit mask root : ℕ) (is : mask ≡ get_or points bit 0) (ns ms : List Node)
+module _ (row : Row) (columns points : List ℕ) (bit mask root : ℕ) (is : mask ≡ get_or points bit 0) (ns ms : List Quad)
     (rs ss : List (Row × List ℕ)) (number : ℕ)
-    (keeps : Keeps ns ms) (numbers : HaveNumbers ns rs) (was_root : root ≡ root_of rs row.entry row.block bit)
+    (keeps : KeepQuads ns ms) (numbers : HaveNumbers ns rs) (was_root : root ≡ root_of rs row.entry row.block bit)
     (unites : Unites columns mask 0 ns root ms number) (roots : Roots rs row.entry row.block bit number ss) where
   here : (t : Triple) → (t.entry ≡ row.entry) × (t.point / 64 ≡ row.block) × (t.point % 64 ≡ bit)
-      → (merged_has ms ss t ≡ accepts ms number t.values) × (merged_has ns rs t ≡ accepts ns root t.values)
+      → (merged_has ms ss t ≡ holds ms number t.values) × (merged_has ns rs t ≡ holds ns root t.values)
   here t (entry, block, at) = (
-    (λ j. accepts ms (root_of ss (entry j) (block j) (at j)) t.values) ∙ ap (λ n. accepts ms n t.values) roots.here,
-    (λ j. accepts ns (root_of rs (entry j) (block j) (at j)) t.values) ∙ ap (λ n. accepts ns n t.values) (sym was_root),
+    (λ j. holds ms (root_of ss (entry j) (block j) (at j)) t.values) ∙ ap (λ n. holds ms n t.values) roots.here,
+    (λ j. holds ns (root_of rs (entry j) (block j) (at j)) t.values) ∙ ap (λ n. holds ns n t.values) (sym was_root),
   )
 
   there : (t : Triple) → ((t.entry ≡ row.entry) × (t.point / 64 ≡ row.block) × (t.point % 64 ≡ bit) → ⊥)
       → merged_has ms ss t ≡ merged_has ns rs t
   there t ne =
-      ap (λ n. accepts ms n t.values) (roots.others t.entry (t.point / 64) (t.point % 64) ne)
+      ap (λ n. holds ms n t.values) (roots.others t.entry (t.point / 64) (t.point % 64) ne)
       ∙ keeps.same (root_of rs t.entry (t.point / 64) (t.point % 64)) t.values (numbers t.entry (t.point / 64) (t.point % 64))
 
   pub takes_at : Takes (InBatch row columns points) ns ms rs ss

@@ -6,7 +6,7 @@ use Rattle.std.specs.List.{list_any}
 use Rattle.std.proofs.lemmas.Map.Views.{exact_unsigned_eq}
 use Rattle.language.specs.Flow.{Member}
 use Rattle.language.proofs.Members.{member_map, map_member}
-use Rattle.path_sets.specs.declared.node.Node.{Node}
+use Rattle.path_sets.specs.declared.quad.Quad.{Quad}
 use Rattle.path_sets.specs.declared.place.Place.{Place}
 use Rattle.path_sets.specs.declared.rows.Row.{Row}
 use Rattle.path_sets.specs.Triples.{Triple, triple, NoneTwice}
@@ -112,7 +112,7 @@ same_test true b f g = sym (f refl)
 same_test false true f g = g refl
 same_test false false f g = refl
 
-module _ (nodes : List Node) (rows : List (Row × List ℕ)) (masks : List (Place × ℕ)) where
+module _ (nodes : List Quad) (rows : List (Row × List ℕ)) (masks : List (Place × ℕ)) where
   abbrev pub Has : Triple → Type 0
   Has t = (merged_has nodes rows t ≡ true) ⊎ Member t (edges masks)
 
@@ -147,7 +147,7 @@ values_fit t h =
     let same : t.values ≡ v = ap (λ (k : Triple). k.values) is in
     subst (λ k. k < 2 ^ 64) (sym same) small
 
-module _ (ns ms : List Node) (rs ss : List (Row × List ℕ)) (masks masks' : List (Place × ℕ)) where
+module _ (ns ms : List Quad) (rs ss : List (Row × List ℕ)) (masks masks' : List (Place × ℕ)) where
   -- sets that have just the same path edges have the same members
   pub same_members : ((t : Triple) → t.values < 2 ^ 64 → Has ns rs masks t ↔ Has ms ss masks' t)
       → all_edges ms ss masks' ≡ all_edges ns rs masks
@@ -170,7 +170,7 @@ module _ (ns ms : List Node) (rs ss : List (Row × List ℕ)) (masks masks' : Li
   ))
 
 -- one more path edge among those gathered
-module _ (ns : List Node) (rs : List (Row × List ℕ)) (masks masks' : List (Place × ℕ)) (x : Triple) (fits : Fits x)
+module _ (ns : List Quad) (rs : List (Row × List ℕ)) (masks masks' : List (Place × ℕ)) (x : Triple) (fits : Fits x)
     (more : (t : Triple) → Member t (edges masks') ↔ ((t ≡ x) ⊎ Member t (edges masks))) where
   pub has_more : (t : Triple) → Has ns rs masks' t ↔ ((t ≡ x) ⊎ Has ns rs masks t)
   has_more t = (
@@ -212,7 +212,7 @@ module _ (ns : List Node) (rs : List (Row × List ℕ)) (masks masks' : List (Pl
       (λ had. is_had ns rs masks' t ((has_more t).1 (inr (has_is ns rs masks t had)))))
 
 -- sets with nothing have no members
-pub no_members : (ns : List Node) (rs : List (Row × List ℕ)) (masks : List (Place × ℕ))
+pub no_members : (ns : List Quad) (rs : List (Row × List ℕ)) (masks : List (Place × ℕ))
     → ((t : Triple) → merged_has ns rs t ≡ false)
     → edges masks ≡ []
     → all_edges ns rs masks ≡ []

@@ -1,32 +1,26 @@
 -- Decision diagrams: the sets of valuations that numbered nodes stand for (Bryant 1986).
-use Rattle.std.specs.Prelude.{◌≡◌, ◌≢◌, ◌+◌, ◌-◌, ◌/◌, ◌%◌, ◌<◌, ◌≤◌, ℕ, zero, suc, Bool, true, false, cond}
-use Rattle.std.specs.Prelude.{◌&&◌, ◌||◌, nat_eq, nat_lt, List, [], ◌∷◌, ◌++◌}
-use Rattle.std.specs.Prelude.{◌⊎◌, Option, Some, None, ◌↔◌, length, slice_get, get_or}
+use Rattle.std.specs.Prelude.{◌≡◌, ◌≢◌, ◌+◌, ◌*◌, ◌/◌, ◌%◌, ◌<◌, ◌≤◌, ℕ, Bool, true, false, cond}
+use Rattle.std.specs.Prelude.{◌&&◌, ◌||◌, nat_eq, List, [], ◌∷◌}
+use Rattle.std.specs.Prelude.{◌⊎◌, Some, ◌↔◌, slice_get, get_or}
 use Rattle.std.specs.Option.{option_map_or}
 use Rattle.std.specs.Map.{lookup}
 use Rattle.path_sets.specs.declared.node.Node.{Node}
+use Rattle.path_sets.specs.declared.quad.Quad.{Quad}
 use Rattle.path_sets.specs.declared.notes.Line.{Line}
 use Rattle.path_sets.specs.declared.rows.Row.{Row}
 use Rattle.path_sets.specs.Masks.{bit_of}
 use Rattle.path_sets.specs.Few.{bits_from, is_among}
 use Rattle.path_sets.specs.Triples.{Triple}
+use Rattle.path_sets.specs.Walks.{IsNumber, level_at, Preserves, reaches}
+use Rattle.path_sets.specs.Quads.{holds, pair_of}
 
 -- the number that a valuation goes on to from a node, by its bit
 abbrev pub child : Node → ℕ → ℕ
 child x v = cond (bit_of v x.level) x.high x.low
 
--- the node of a number: 0 and 1 are the empty set and that of all valuations, and have none
-abbrev pub node_at : List Node → ℕ → Option Node
-node_at nodes n = cond (nat_lt n 2) None (slice_get nodes (n - 2))
-
--- whether a walk by the bits of a valuation comes from a number to 1, in at most so many steps
-unfoldable pub walk : List Node → ℕ → ℕ → ℕ → Bool
-walk nodes zero n v = nat_eq n 1
-walk nodes (suc most) n v = option_map_or (λ x. walk nodes most (child x v) v) (node_at nodes n) (nat_eq n 1)
-
 -- whether a valuation is in the set of a number
-unfoldable pub accepts : List Node → ℕ → ℕ → Bool
-accepts nodes n v = walk nodes n n v
+abbrev pub accepts : List Node → ℕ → ℕ → Bool
+accepts nodes n v = reaches child nodes n v
 
 -- each node tests one of 64 bits, and its children have smaller numbers, so each walk ends
 abbrev pub GoDown : List Node → Type 0
@@ -34,7 +28,7 @@ GoDown nodes = (i : ℕ) (x : Node) → slice_get nodes i ≡ Some x → (x.leve
 
 -- the level that a number's node tests; behind the last for 0 and 1, which have none
 abbrev pub level_of : List Node → ℕ → ℕ
-level_of nodes n = option_map_or (λ x. x.level) (node_at nodes n) 64
+level_of nodes n = level_at (λ x. x.level) 64 nodes n
 
 -- a node's children test later levels, so that on each way the levels ascend
 abbrev pub AreOrdered : List Node → Type 0
@@ -49,19 +43,9 @@ AreReduced nodes = (i : ℕ) (x : Node) → slice_get nodes i ≡ Some x → x.l
 abbrev pub StandOnce : List Node → Type 0
 StandOnce nodes = (i j : ℕ) (x : Node) → slice_get nodes i ≡ Some x → slice_get nodes j ≡ Some x → i ≡ j
 
--- a number that stands for a set
-abbrev pub IsNumber : List Node → ℕ → Type 0
-IsNumber nodes n = n < length nodes + 2
-
 -- more nodes, and the sets and the levels of the numbers that there were are the same
-pub record Keeps (old new : List Node) : Type 0 where
-  pub longer : length old ≤ length new
-  pub same : (n v : ℕ) → IsNumber old n → accepts new n v ≡ accepts old n v
-  pub levels : (n : ℕ) → IsNumber old n → level_of new n ≡ level_of old n
-
--- the node, which is new, stands at the end of the nodes that there were, or they are the same
-abbrev pub IsGrown : Node → List Node → List Node → Type 0
-IsGrown x old new = (new ≡ old) ⊎ ((new ≡ old ++ x ∷ []) × ((i : ℕ) → slice_get old i ≢ Some x))
+abbrev pub Keeps : List Node → List Node → Type 0
+Keeps old new = Preserves child (λ x. x.level) 64 old new
 
 -- A batch of up to 64 valuations, held by columns: bit i of column l is bit l of valuation i. Of those in the mask, one has the
 -- bits of v from this level on.
@@ -69,10 +53,13 @@ abbrev pub Listed : List ℕ → ℕ → ℕ → ℕ → Type 0
 Listed columns mask level v =
     (i : ℕ) × (bit_of mask i ≡ true) × ((l : ℕ) → level ≤ l → l < 64 → bit_of (get_or columns l 0) i ≡ bit_of v l)
 
--- The set of the new number is that of the old one with those listed.
-abbrev pub Unites : List ℕ → ℕ → ℕ → List Node → ℕ → List Node → ℕ → Type 0
-Unites columns mask level old n new r =
-    (v : ℕ) → (accepts new r v ≡ true) ↔ ((accepts old n v ≡ true) ⊎ Listed columns mask level v)
+-- the new set is the old one with those listed
+abbrev pub Joins : List ℕ → ℕ → ℕ → (ℕ → Bool) → (ℕ → Bool) → Type 0
+Joins columns mask level old new = (v : ℕ) → (new v ≡ true) ↔ ((old v ≡ true) ⊎ Listed columns mask level v)
+
+-- The set of the new number is that of the old one with those listed, by their bits from this pair of bits on.
+abbrev pub Unites : List ℕ → ℕ → ℕ → List Quad → ℕ → List Quad → ℕ → Type 0
+Unites columns mask level old n new r = Joins columns mask (2 * level) (holds old n) (holds new r)
 
 -- whether two rows are the same
 abbrev pub row_eq : Row → Row → Bool
@@ -109,15 +96,15 @@ AtPlace row values mask t =
     (t.entry ≡ row.entry) × (t.point / 64 ≡ row.block) × (t.values ≡ values) × (bit_of mask (t.point % 64) ≡ true)
 
 -- whether a path edge is in the sets: its valuation is in that of its point
-abbrev pub merged_has : List Node → List (Row × List ℕ) → Triple → Bool
-merged_has nodes rows t = accepts nodes (root_of rows t.entry (t.point / 64) (t.point % 64)) t.values
+abbrev pub merged_has : List Quad → List (Row × List ℕ) → Triple → Bool
+merged_has nodes rows t = holds nodes (root_of rows t.entry (t.point / 64) (t.point % 64)) t.values
 
 -- the points of each row have numbers
-abbrev pub HaveNumbers : List Node → List (Row × List ℕ) → Type 0
+abbrev pub HaveNumbers : List Quad → List (Row × List ℕ) → Type 0
 HaveNumbers nodes rows = (e b i : ℕ) → IsNumber nodes (root_of rows e b i)
 
 -- The sets have what they had, and of what they were to be given nothing else.
-pub record Takes (given : Triple → Type 0) (nodes nodes' : List Node) (rows rows' : List (Row × List ℕ)) : Type 0 where
+pub record Takes (given : Triple → Type 0) (nodes nodes' : List Quad) (rows rows' : List (Row × List ℕ)) : Type 0 where
   pub kept : (t : Triple) → merged_has nodes rows t ≡ true → merged_has nodes' rows' t ≡ true
   pub sound : (t : Triple) → merged_has nodes' rows' t ≡ true → (merged_has nodes rows t ≡ true) ⊎ given t
 
@@ -126,14 +113,14 @@ abbrev pub blank : Line
 blank = record { number = 0; result = 0; level = 0; few = record { count = 0; values = 0 ∷ 0 ∷ 0 ∷ 0 ∷ 0 ∷ 0 ∷ [] } }
 
 -- What a line of notes says: the set of its number with its few valuations is that of its result.
-pub record IsTrueLine (nodes : List Node) (line : Line) : Type 0 where
+pub record IsTrueLine (nodes : List Quad) (line : Line) : Type 0 where
   pub inside : IsNumber nodes line.number
   pub reached : IsNumber nodes line.result
-  pub deep : line.level ≤ level_of nodes line.result
-  pub unites : (v : ℕ) → accepts nodes line.result v ≡ (accepts nodes line.number v || is_among line.few (bits_from line.level v))
+  pub deep : line.level ≤ pair_of nodes line.result
+  pub unites : (v : ℕ) → holds nodes line.result v ≡ (holds nodes line.number v || is_among line.few (bits_from (2 * line.level) v))
 
 -- each line is true
-abbrev pub AreTrue : List Node → List Line → Type 0
+abbrev pub AreTrue : List Quad → List Line → Type 0
 AreTrue nodes lines = (i : ℕ) (line : Line) → slice_get lines i ≡ Some line → IsTrueLine nodes line
 
 -- each level at which a valuation of the batch has a 1 is a bit of the number

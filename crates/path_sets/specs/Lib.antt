@@ -3,6 +3,9 @@ pub mod Inserts
 pub mod Masks
 pub mod Edges
 pub mod Few
+pub mod Walks
+pub mod Quads
 pub mod Diagrams
+pub mod Binary
 pub mod Members
 pub mod Suffixes

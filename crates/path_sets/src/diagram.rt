@@ -16,8 +16,9 @@ use crate::rows::Row;
 use language::{Point, Word};
 use std::alloc::{AllocError, Allocator};
 
-/// Path edges as decision diagrams over the bits of a valuation, bit 0 tested first, one for each entry and point, whose
-/// nodes are shared (Bryant 1986). New path edges are gathered and put into the diagrams many at a time.
+/// Path edges as decision diagrams over the bits of a valuation, one for each entry and point, whose nodes are shared
+/// (Bryant 1986). A node tests two bits, the least first, so that a walk has 32 steps at most. New path edges are gathered
+/// and put into the diagrams many at a time.
 #[derive(Drop)]
 pub struct DiagramEdges<A: Allocator> {
     gathered: OrderedEdges<A>,
@@ -43,9 +44,9 @@ impl<A: Allocator + Copy> DiagramEdges<A> {
         Ok(())
     }
 
-    /// How many inner nodes the diagram of an entry and a point has, which tests bit 0 first: one for each level and each
-    /// set of suffixes that some prefix of its members has there and that depends on the bit of the level. It takes memory
-    /// in proportion to all diagrams; where memory is refused, the set stays as it is.
+    /// How many inner nodes the diagram of an entry and a point has whose nodes test one bit each, bit 0 first: one for
+    /// each level and each set of suffixes that some prefix of its members has there and that depends on the bit of the
+    /// level. It takes memory in proportion to all diagrams; where memory is refused, the set stays as it is.
     pub fn nodes(&self, entry: Word, point: Point) -> Result<u64, AllocError>
         ensures { IfOk result (HasNodes 64 (λ v. Member (triple entry point v)
             (all_edges self.now.merged.nodes.kept.keys self.now.merged.rows.entries self.now.gathered.masks.entries))) }

@@ -1,7 +1,8 @@
 //! The inner nodes of a diagram.
 
 ghost use Rattle.std.specs.Prelude.{◌≡◌, ◌<◌, ◌^◌, true, IfOk};
-ghost use Rattle.path_sets.specs.Diagrams.{accepts, IsNumber};
+ghost use Rattle.path_sets.specs.Walks.{IsNumber};
+ghost use Rattle.path_sets.specs.Diagrams.{accepts};
 ghost use Rattle.path_sets.specs.Suffixes.{HasNodes};
 
 use crate::nodes::{ALL, Nodes};

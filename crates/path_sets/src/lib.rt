@@ -6,6 +6,7 @@
 #![tactic(auto)]
 
 mod batch;
+mod binary;
 mod diagram;
 mod few;
 mod gathered;
@@ -19,6 +20,8 @@ mod notes;
 mod ordered;
 mod path_set;
 mod place;
+mod quad;
+mod quads;
 mod rows;
 mod spread;
 mod union;

@@ -8,9 +8,10 @@ ghost use Rattle.path_sets.specs.Triples.{Triple, triple};
 ghost use Rattle.path_sets.specs.Diagrams.{AreTrue, HaveNumbers, InBatch, Takes, merged_has, root_of, row_eq};
 
 use crate::batch::Batch;
+use crate::binary::binary;
 use crate::inner::inner_nodes;
-use crate::nodes::Nodes;
 use crate::notes::{Line, begin};
+use crate::quads::Quads;
 use crate::rows::{Row, Rows, root, set_root};
 use crate::union::union;
 use indexmap::IndexMap;
@@ -20,7 +21,7 @@ use std::alloc::{AllocError, Allocator};
 /// For each entry and point the number of its set.
 #[derive(Drop)]
 pub(crate) struct Merged<A: Allocator> {
-    pub(crate) nodes: Nodes<A>,
+    pub(crate) nodes: Quads<A>,
     pub(crate) rows: Rows<A>,
     lines: Vec<Line, A>,
     ghost unique: { IsUnique row_eq rows } by { IsDistinct-prop row_eq (keys rows) },
@@ -34,7 +35,7 @@ impl<A: Allocator + Copy> Merged<A> {
         ensures { (t : Triple) → merged_has result.nodes.kept.keys result.rows.entries t ≡ false }
     {
         Merged {
-            nodes: Nodes::new(alloc),
+            nodes: Quads::new(alloc),
             rows: IndexMap::new(alloc),
             lines: Vec::new(alloc),
         }
@@ -102,6 +103,7 @@ impl<A: Allocator + Copy> Merged<A> {
         ensures { IfOk result (HasNodes 64 (λ v. (v < 2 ^ 64) × (merged_has self.now.nodes.kept.keys self.now.rows.entries
             (triple row.now.entry (64 * row.now.block + bit) v) ≡ true))) }
     {
-        inner_nodes(&self.nodes, root(&self.rows, row, bit))
+        let (nodes, number) = binary(&self.nodes, root(&self.rows, row, bit))?;
+        inner_nodes(&nodes, number)
     }
 }

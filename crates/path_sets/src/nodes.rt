@@ -1,12 +1,12 @@
-//! Numbered nodes, each of which stands once.
+//! Numbered nodes that test one bit, each of which stands once.
 
 ghost use Rattle.std.specs.Prelude.{◌≡◌, ℕ, ◌+◌, ◌<◌, ◌^◌, Bool, cond, IfOk, Some, slice_get, length, ◌≤◌};
 ghost use Rattle.path_sets.specs.Masks.{bit_of};
-ghost use Rattle.path_sets.specs.Diagrams.{accepts, AreOrdered, AreReduced, GoDown, IsGrown, IsNumber, Keeps, level_of, StandOnce};
+ghost use Rattle.path_sets.specs.Walks.{IsGrown, IsNumber};
+ghost use Rattle.path_sets.specs.Diagrams.{accepts, AreOrdered, AreReduced, GoDown, Keeps, level_of, StandOnce};
 
-use crate::node::{Node, child};
+use crate::node::Node;
 use indexmap::IndexSet;
-use language::Word;
 use std::alloc::{AllocError, Allocator};
 use std::hash::{BuildHasherDefault, FoldHasher};
 
@@ -15,7 +15,7 @@ pub(crate) const NONE: u32 = 0;
 /// The number of the set of all valuations.
 pub(crate) const ALL: u32 = 1;
 /// How many nodes there may be: their numbers, from 2 on, are below 2^32.
-const MOST: usize = 4_294_967_293;
+pub(crate) const MOST: usize = 4_294_967_293;
 
 /// Numbered nodes, in the order of their numbers.
 type Kept<A> = IndexSet<Node, BuildHasherDefault<FoldHasher>, A>;
@@ -49,38 +49,6 @@ impl<A: Allocator + Copy> Nodes<A> {
         }
     }
 
-    /// Whether a valuation is in the set of a number.
-    pub(crate) fn has(&self, number: u32, values: Word) -> bool
-        requires { IsNumber self.now.kept.keys number }
-        ensures { result ≡ accepts self.now.kept.keys number values }
-    {
-        let mut at = number;
-        while at > ALL {
-            at = child(self.kept[(at - 2) as usize], values);
-        }
-        at == ALL
-    }
-
-    /// The numbers that valuations go on to from a number by their bit of a level: its node's children where it has a
-    /// node of that level, else the number itself.
-    pub(crate) fn children(&self, number: u32, level: u8) -> (u32, u32)
-        requires level { level < 64 }
-        requires inside { IsNumber self.now.kept.keys number }
-        requires deep { level ≤ level_of self.now.kept.keys number }
-        ensures inside { (IsNumber self.now.kept.keys result.0) × (IsNumber self.now.kept.keys result.1) }
-        ensures deep { (level < level_of self.now.kept.keys result.0) × (level < level_of self.now.kept.keys result.1) }
-        ensures split { (v : ℕ) → accepts self.now.kept.keys number v
-            ≡ cond (bit_of v level) (accepts self.now.kept.keys result.1 v) (accepts self.now.kept.keys result.0 v) }
-    {
-        if number > ALL {
-            let node = self.kept[(number - 2) as usize];
-            if node.level == level {
-                return (node.low, node.high);
-            }
-        }
-        (number, number)
-    }
-
     /// The number of the set that has, of the valuations with a 0 at the level, those of one number, and of those with
     /// a 1 those of another.
     pub(crate) fn make(&mut self, level: u8, low: u32, high: u32) -> Result<u32, AllocError>
@@ -101,14 +69,5 @@ impl<A: Allocator + Copy> Nodes<A> {
         }
         let at = index_of(&mut self.kept, Node { level, low, high })?;
         Ok(at as u32 + 2)
-    }
-
-    /// The same nodes under the same numbers.
-    pub(crate) fn copy(&self) -> Result<Self, AllocError>
-        ensures { IfOk result (λ c. c.kept.keys ≡ self.now.kept.keys) }
-    {
-        Ok(Nodes {
-            kept: self.kept.clone()?,
-        })
     }
 }

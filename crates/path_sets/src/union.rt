@@ -1,12 +1,16 @@
 //! Valuations put into the set of a number, many at a time.
 
 ghost use Rattle.std.specs.Prelude.{◌≡◌, ℕ, ◌<◌, ◌≤◌, ◌^◌, ◌⊎◌, IfOk};
-ghost use Rattle.path_sets.specs.Diagrams.{AreTrue, IsNumber, Keeps, level_of, Unites};
+ghost use Rattle.path_sets.specs.Walks.{IsNumber};
+ghost use Rattle.path_sets.specs.Quads.{KeepQuads, pair_of};
+ghost use Rattle.path_sets.specs.Diagrams.{AreTrue, Unites};
 
 use crate::batch::Batch;
 use crate::few::{Few, few_of};
-use crate::nodes::{ALL, Nodes};
+use crate::nodes::ALL;
 use crate::notes::{Line, note, noted};
+use crate::quad::Quad;
+use crate::quads::Quads;
 use language::Word;
 use std::alloc::{AllocError, Allocator};
 
@@ -18,35 +22,35 @@ fn narrowed(all: Word, level: u8, mask: u64) -> u64
     if all >> level == 0 { 1 } else { mask }
 }
 
-/// The number of a number's set with the valuations of a batch that are in the mask, of which the bits from a level on
-/// count.
+/// The number of a number's set with the valuations of a batch that are in the mask, of which the bits from a level's
+/// pair on count.
 #[cycle(union)]
 pub(crate) fn union<A: Allocator + Copy>(
-    nodes: &mut Nodes<A>,
+    nodes: &mut Quads<A>,
     lines: &mut [Line],
     batch: &Batch,
     number: u32,
     level: u8,
     mask: u64,
 ) -> Result<u32, AllocError>
-    requires level { level ≤ 64 }
+    requires level { level ≤ 32 }
     requires inside { IsNumber nodes.old.kept.keys number }
-    requires deep { level ≤ level_of nodes.old.kept.keys number }
+    requires deep { level ≤ pair_of nodes.old.kept.keys number }
     requires lines { AreTrue nodes.old.kept.keys lines.old }
-    ensures keeps { Keeps nodes.old.kept.keys nodes.new.kept.keys }
+    ensures keeps { KeepQuads nodes.old.kept.keys nodes.new.kept.keys }
     ensures lines { AreTrue nodes.new.kept.keys lines.new }
     ensures inside { IfOk result (λ r. IsNumber nodes.new.kept.keys r) }
-    ensures deep { IfOk result (λ r. level ≤ level_of nodes.new.kept.keys r) }
+    ensures deep { IfOk result (λ r. level ≤ pair_of nodes.new.kept.keys r) }
     ensures unites { IfOk result (λ r. Unites batch.now.columns mask level nodes.old.kept.keys number nodes.new.kept.keys r) }
 {
     if mask == 0 || number == ALL {
         return Ok(number);
     }
-    if level == 64 {
+    if level == 32 {
         return Ok(ALL);
     }
-    let mask = narrowed(batch.all, level, mask);
-    let Some(few) = few_of(&batch.valuations, mask, level) else {
+    let mask = narrowed(batch.all, 2 * level, mask);
+    let Some(few) = few_of(&batch.valuations, mask, 2 * level) else {
         return parted(nodes, lines, batch, number, level, mask);
     };
     if let Some(result) = noted(lines, number, level, &few) {
@@ -65,29 +69,41 @@ pub(crate) fn union<A: Allocator + Copy>(
     Ok(result)
 }
 
-/// The same, by the two halves that a bit of the level parts the valuations into.
+/// The same, by the four quarters that the two bits of the level part the valuations into.
 #[cycle(union)]
 fn parted<A: Allocator + Copy>(
-    nodes: &mut Nodes<A>,
+    nodes: &mut Quads<A>,
     lines: &mut [Line],
     batch: &Batch,
     number: u32,
     level: u8,
     mask: u64,
 ) -> Result<u32, AllocError>
-    requires level { level < 64 }
+    requires level { level < 32 }
     requires inside { IsNumber nodes.old.kept.keys number }
-    requires deep { level ≤ level_of nodes.old.kept.keys number }
+    requires deep { level ≤ pair_of nodes.old.kept.keys number }
     requires lines { AreTrue nodes.old.kept.keys lines.old }
-    ensures keeps { Keeps nodes.old.kept.keys nodes.new.kept.keys }
+    ensures keeps { KeepQuads nodes.old.kept.keys nodes.new.kept.keys }
     ensures lines { AreTrue nodes.new.kept.keys lines.new }
     ensures inside { IfOk result (λ r. IsNumber nodes.new.kept.keys r) }
-    ensures deep { IfOk result (λ r. level ≤ level_of nodes.new.kept.keys r) }
+    ensures deep { IfOk result (λ r. level ≤ pair_of nodes.new.kept.keys r) }
     ensures unites { IfOk result (λ r. Unites batch.now.columns mask level nodes.old.kept.keys number nodes.new.kept.keys r) }
 {
-    let (low, high) = nodes.children(number, level);
-    let ones = mask & batch.columns[level as usize];
-    let low = union(nodes, lines, batch, low, level + 1, mask ^ ones)?;
-    let high = union(nodes, lines, batch, high, level + 1, ones)?;
-    nodes.make(level, low, high)
+    let quad = nodes.children(number, level);
+    let ones = mask & batch.columns[2 * level as usize];
+    let zeros = mask ^ ones;
+    let both = ones & batch.columns[2 * level as usize + 1];
+    let second = zeros & batch.columns[2 * level as usize + 1];
+    let next = level + 1;
+    let none = union(nodes, lines, batch, quad.none, next, zeros ^ second)?;
+    let first = union(nodes, lines, batch, quad.first, next, ones ^ both)?;
+    let second = union(nodes, lines, batch, quad.second, next, second)?;
+    let both = union(nodes, lines, batch, quad.both, next, both)?;
+    nodes.make(Quad {
+        level,
+        none,
+        first,
+        second,
+        both,
+    })
 }

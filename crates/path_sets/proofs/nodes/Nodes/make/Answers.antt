@@ -1,7 +1,8 @@
 use Rattle.std.proofs.Common.{arith}
 use Rattle.std.proofs.lemmas.Option.{slice_get_within}
 use Rattle.path_sets.specs.declared.node.Node.{Node}
-use Rattle.path_sets.proofs.Grown.{still_down, still_ordered, still_reduced, still_once, level_at, keeps_grown, joined}
+use Rattle.path_sets.proofs.Grown.{level_here}
+use Rattle.path_sets.proofs.OneBit.{still_down, still_ordered, still_reduced, still_once, node_keeps, node_joined}
 use Rattle.path_sets.proofs.nodes.Nodes.make.Goals as goal
 
 pub invariant_of-self : goal.invariant_of-self
@@ -23,14 +24,14 @@ pub returns-clause-keeps : goal.returns-clause-keeps
 returns-clause-keeps g c =
     let s = c.args.self.now in
     let x : Node = record { level = c.args.level; low = c.args.low; high = c.args.high } in
-    keeps_grown s.kept.keys s.down x c.requires.level c.requires.inside.0 c.requires.inside.1 c.index_of.new.kept.keys
+    node_keeps s.kept.keys s.down x c.requires.level c.requires.inside.0 c.requires.inside.1 c.index_of.new.kept.keys
     c.index_of.ensures.grown
 
 pub returns-in_err-at-clause-keeps : goal.returns-in_err-at-clause-keeps
 returns-in_err-at-clause-keeps g c =
     let s = c.args.self.now in
     let x : Node = record { level = c.args.level; low = c.args.low; high = c.args.high } in
-    keeps_grown s.kept.keys s.down x c.requires.level c.requires.inside.0 c.requires.inside.1 c.index_of.new.kept.keys
+    node_keeps s.kept.keys s.down x c.requires.level c.requires.inside.0 c.requires.inside.1 c.index_of.new.kept.keys
     c.index_of.ensures.grown
 
 pub returns-clause-inside : goal.returns-clause-inside
@@ -43,13 +44,12 @@ pub returns-clause-deep : goal.returns-clause-deep
 returns-clause-deep g c =
     let s = c.args.self.now in
     let x : Node = record { level = c.args.level; low = c.args.low; high = c.args.high } in
-    let same = level_at s.kept.keys s.down x c.requires.level c.requires.inside.0 c.requires.inside.1 c.index_of.new.kept.keys
-    c.in_ok-at.at c.in_ok-at.ensures.at in
+    let same = level_here (λ (y : Node). y.level) 64 c.index_of.new.kept.keys c.in_ok-at.at x c.in_ok-at.ensures.at in
     omega (arith, same)
 
 pub returns-clause-joined : goal.returns-clause-joined
 returns-clause-joined g c =
     let s = c.args.self.now in
     let x : Node = record { level = c.args.level; low = c.args.low; high = c.args.high } in
-    λ v. joined s.kept.keys s.down x c.requires.level c.requires.inside.0 c.requires.inside.1 c.index_of.new.kept.keys
+    λ v. node_joined s.kept.keys s.down x c.requires.level c.requires.inside.0 c.requires.inside.1 c.index_of.new.kept.keys
     c.index_of.ensures.grown c.in_ok-at.at v c.in_ok-at.ensures.at

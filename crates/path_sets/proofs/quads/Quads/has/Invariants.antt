@@ -1,6 +1,7 @@
 use Rattle.std.proofs.Common.{◌≡◌}
-use Rattle.path_sets.specs.Diagrams.{accepts, IsNumber}
-use Rattle.path_sets.proofs.nodes.Nodes.has.Given as goal
+use Rattle.path_sets.specs.Walks.{IsNumber}
+use Rattle.path_sets.specs.Quads.{holds}
+use Rattle.path_sets.proofs.quads.Quads.has.Given as goal
 
 abbrev pub decreases-loop-at : goal.decreases-loop-at
 decreases-loop-at g l = l.at
@@ -8,5 +9,5 @@ decreases-loop-at g l = l.at
 abbrev pub invariant-loop-at : goal.invariant-loop-at
 invariant-loop-at g l = record {
   inside : IsNumber l.self.kept.keys l.at;
-  same : accepts l.self.kept.keys l.at l.values ≡ accepts l.self.kept.keys l.number l.values;
+  same : holds l.self.kept.keys l.at l.values ≡ holds l.self.kept.keys l.number l.values;
 }
