@@ -1,8 +1,9 @@
-//! A plain tabulation of rewritten programs, written for speed and without proofs: `plain FILE` reads what `bebopk sequential`
-//! prints and says how many path edges all procedures have, the nanoseconds that tabulating took, and the kilobytes that the process
-//! held at most before and after. Path edges are kept as a word of 64 points for each entry, valuation and block, in an open table.
+//! A plain tabulation of rewritten programs, written for speed and without proofs: `plain FILE [masks|trees]` reads what
+//! `bebopk sequential` prints and says how many path edges all procedures have, the nanoseconds that tabulating took, the kilobytes
+//! that the process held at most before and after, and whether an assertion fails. Path edges are kept as `masks`, a word of 64 points
+//! for each entry, valuation and block in an open table, or as `trees`, an ordered set of valuations for each entry and point.
 
-use std::collections::HashMap;
+use std::collections::{BTreeSet, HashMap};
 use std::hash::{BuildHasherDefault, Hasher};
 use std::time::Instant;
 
@@ -489,7 +490,77 @@ impl Lower<'_> {
     }
 }
 
-// ---- tabulating
+struct Program {
+    globals: Vec<String>,
+    graphs: Vec<Graph>,
+}
+
+/// The names of the procedures, and of each one its body and how many points it has.
+fn procedures(reader: &mut Reader) -> (HashMap<String, usize>, Vec<(Vec<Stmt>, usize)>) {
+    let (mut names, mut bodies) = (HashMap::new(), Vec::new());
+    while reader.peek() != "thread" {
+        names.insert(reader.next().to_string(), bodies.len());
+        reader.want("(");
+        reader.locals = if reader.peek() == ")" {
+            Vec::new()
+        } else {
+            reader.names()
+        };
+        reader.want(")");
+        reader.want("begin");
+        while reader.takes("decl") {
+            let names = reader.names();
+            reader.locals.extend(names);
+            reader.want(";");
+        }
+        reader.points = 0;
+        bodies.push((reader.stmts(), reader.points));
+        reader.want("end");
+    }
+    (names, bodies)
+}
+
+fn graph_of(names: &HashMap<String, usize>, body: &[Stmt], points: usize) -> Graph {
+    let mut lower = Lower {
+        labels: HashMap::new(),
+        procedures: names,
+        flows: (0..=points).map(|_| Flow::To(0)).collect(),
+    };
+    lower.label(body);
+    let start = lower.block(body, 0);
+    Graph {
+        flows: lower.flows,
+        start,
+    }
+}
+
+fn program_of(text: &str) -> Program {
+    let mut reader = Reader::new(text);
+    while reader.takes("decl") {
+        let names = reader.names();
+        reader.globals.extend(names);
+        reader.want(";");
+    }
+    let (names, bodies) = procedures(&mut reader);
+    let graphs = bodies
+        .iter()
+        .map(|(body, points)| graph_of(&names, body, *points))
+        .collect();
+    Program {
+        globals: reader.globals,
+        graphs,
+    }
+}
+
+// ---- sets of path edges
+
+/// The path edges of one procedure, whose entries have numbers.
+trait EdgeSet {
+    fn new() -> Self;
+    /// Answers whether the path edge is new.
+    fn insert(&mut self, entry: u32, point: usize, values: u64) -> bool;
+    fn len(&self) -> u64;
+}
 
 #[derive(Clone, Copy, Default)]
 struct Slot {
@@ -499,23 +570,14 @@ struct Slot {
 }
 
 /// The points of each entry and valuation.
-struct Edges {
+struct Masks {
     slots: Vec<Slot>,
     used: usize,
     last: usize,
     len: u64,
 }
 
-impl Edges {
-    fn new() -> Self {
-        Edges {
-            slots: vec![Slot::default(); 64],
-            used: 0,
-            last: 0,
-            len: 0,
-        }
-    }
-
+impl Masks {
     fn find(&self, key: u64, values: u64) -> usize {
         let most = self.slots.len() - 1;
         let mut at = mixed(key, values) as usize & most;
@@ -525,6 +587,27 @@ impl Edges {
             at = (at + 1) & most;
         }
         at
+    }
+
+    fn grow(&mut self) {
+        let old = std::mem::take(&mut self.slots);
+        self.slots = vec![Slot::default(); old.len() * 2];
+        for slot in old.into_iter().filter(|s| s.mask != 0) {
+            let at = self.find(slot.key, slot.values);
+            self.slots[at] = slot;
+        }
+        self.last = 0;
+    }
+}
+
+impl EdgeSet for Masks {
+    fn new() -> Self {
+        Masks {
+            slots: vec![Slot::default(); 64],
+            used: 0,
+            last: 0,
+            len: 0,
+        }
     }
 
     fn insert(&mut self, entry: u32, point: usize, values: u64) -> bool {
@@ -552,17 +635,49 @@ impl Edges {
         };
         self.used += 1;
         if self.used * 4 > self.slots.len() * 3 {
-            let old = std::mem::take(&mut self.slots);
-            self.slots = vec![Slot::default(); old.len() * 2];
-            for slot in old.into_iter().filter(|s| s.mask != 0) {
-                let at = self.find(slot.key, slot.values);
-                self.slots[at] = slot;
-            }
-            self.last = 0;
+            self.grow();
         }
         true
     }
+
+    fn len(&self) -> u64 {
+        self.len
+    }
 }
+
+/// The valuations of each point and entry: what a tabulation without masks or diagrams would keep, for the comparison.
+struct Trees {
+    points: Vec<Vec<BTreeSet<u64>>>,
+    len: u64,
+}
+
+impl EdgeSet for Trees {
+    fn new() -> Self {
+        Trees {
+            points: Vec::new(),
+            len: 0,
+        }
+    }
+
+    fn insert(&mut self, entry: u32, point: usize, values: u64) -> bool {
+        if self.points.len() <= point {
+            self.points.resize_with(point + 1, Vec::new);
+        }
+        let entries = &mut self.points[point];
+        if entries.len() <= entry as usize {
+            entries.resize_with(entry as usize + 1, BTreeSet::new);
+        }
+        let added = entries[entry as usize].insert(values);
+        self.len += u64::from(added);
+        added
+    }
+
+    fn len(&self) -> u64 {
+        self.len
+    }
+}
+
+// ---- tabulating
 
 #[derive(Clone, Copy)]
 struct Edge {
@@ -583,8 +698,8 @@ struct Key {
     summaries: Vec<u64>,
 }
 
-struct Table {
-    edges: Edges,
+struct Table<S> {
+    edges: S,
     pending: Vec<Edge>,
     numbers: Map<u64, u32>,
     entries: Vec<Entry>,
@@ -598,7 +713,19 @@ enum Mail {
     Summary(usize, u64, u64),
 }
 
-impl Table {
+impl<S: EdgeSet> Table<S> {
+    fn new() -> Self {
+        Table {
+            edges: S::new(),
+            pending: Vec::new(),
+            numbers: Map::default(),
+            entries: Vec::new(),
+            exits: Map::default(),
+            calls: Map::default(),
+            keys: Vec::new(),
+        }
+    }
+
     fn reach(&mut self, edge: Edge) {
         if self
             .edges
@@ -781,82 +908,45 @@ fn held() -> u64 {
     line.trim().trim_end_matches(" kB").parse().unwrap()
 }
 
-fn main() {
-    let text = std::fs::read_to_string(std::env::args().nth(1).unwrap()).unwrap();
-    let mut reader = Reader::new(&text);
-    while reader.takes("decl") {
-        let names = reader.names();
-        reader.globals.extend(names);
-        reader.want(";");
-    }
-    let (mut names, mut bodies) = (HashMap::new(), Vec::new());
-    while reader.peek() != "thread" {
-        names.insert(reader.next().to_string(), bodies.len());
-        reader.want("(");
-        reader.locals = if reader.peek() == ")" {
-            Vec::new()
-        } else {
-            reader.names()
-        };
-        reader.want(")");
-        reader.want("begin");
-        while reader.takes("decl") {
-            let names = reader.names();
-            reader.locals.extend(names);
-            reader.want(";");
-        }
-        reader.points = 0;
-        bodies.push((reader.stmts(), reader.points));
-        reader.want("end");
-    }
-    let first = reader.globals.len() as u32;
+/// The path edges of all procedures from the first one's entry, and the exits of that entry.
+fn tabulate<S: EdgeSet>(program: &Program) -> (u64, Vec<u64>) {
+    let first = program.globals.len() as u32;
     let globals = (1u64 << first) - 1;
-    let graphs: Vec<Graph> = bodies
-        .iter()
-        .map(|(body, points)| {
-            let flows = (0..=*points).map(|_| Flow::To(0)).collect();
-            let mut lower = Lower {
-                labels: HashMap::new(),
-                procedures: &names,
-                flows,
-            };
-            lower.label(body);
-            let start = lower.block(body, 0);
-            Graph {
-                flows: lower.flows,
-                start,
-            }
-        })
-        .collect();
-    let before = held();
-    let start = Instant::now();
-    let mut tables: Vec<Table> = graphs
-        .iter()
-        .map(|_| Table {
-            edges: Edges::new(),
-            pending: Vec::new(),
-            numbers: Map::default(),
-            entries: Vec::new(),
-            exits: Map::default(),
-            calls: Map::default(),
-            keys: Vec::new(),
-        })
-        .collect();
+    let mut tables: Vec<Table<S>> = program.graphs.iter().map(|_| Table::new()).collect();
     let mut mails = vec![(0, Mail::Entry(63, 0))];
     loop {
         while let Some((to, mail)) = mails.pop() {
-            tables[to].take(to, &graphs[to], globals, mail, &mut mails);
+            tables[to].take(to, &program.graphs[to], globals, mail, &mut mails);
         }
         let Some(q) = tables.iter().position(|t| !t.pending.is_empty()) else {
             break;
         };
         while let Some(edge) = tables[q].pending.pop() {
-            tables[q].work(q, &graphs[q], globals, first, edge, &mut mails);
+            tables[q].work(q, &program.graphs[q], globals, first, edge, &mut mails);
         }
     }
+    let edges = tables.iter().map(|t| t.edges.len()).sum();
+    (edges, tables[0].entries[0].exits.clone())
+}
+
+/// Tabulates a program and prints the figures.
+fn measure<S: EdgeSet>(program: &Program) {
+    let before = held();
+    let start = Instant::now();
+    let (edges, exits) = tabulate::<S>(program);
     let nanos = start.elapsed().as_nanos();
-    let edges: u64 = tables.iter().map(|t| t.edges.len).sum();
-    let bad = reader.globals.iter().position(|n| n == "bad__").unwrap();
-    let failed = tables[0].entries[0].exits.iter().any(|b| b >> bad & 1 == 1);
+    let bad = program.globals.iter().position(|n| n == "bad__").unwrap();
+    let failed = exits.iter().any(|b| b >> bad & 1 == 1);
     println!("{edges} {nanos} {before} {} {failed}", held());
+}
+
+fn main() {
+    let mut words = std::env::args().skip(1);
+    let text = std::fs::read_to_string(words.next().unwrap()).unwrap();
+    let program = program_of(&text);
+    match words.next().as_deref() {
+        None | Some("masks") => measure::<Masks>(&program),
+        Some("trees") => measure::<Trees>(&program),
+        Some(other) => panic!("masks or trees wanted, {} found", other),
+    }
 }
