@@ -56,9 +56,9 @@ fn in_order<A: Allocator + Copy>(masks: &Masks<A>) -> Result<Vec<(Place, u64), A
     for at in 0..masks.len() {
         cells.push(place_at(masks, at))?;
     }
-    cells.sort_unstable_by_key(|cell: &(Place, u64)| {
+    cells.sort_by_cached_key(|cell: &(Place, u64)| {
         (cell.0.block, cell.0.entry, cell.0.values.reverse_bits())
-    });
+    })?;
     Ok(cells)
 }
 

@@ -89,7 +89,7 @@ fn put<A: Allocator + Copy>(
 }
 
 /// How many places and how many path edges are many.
-const MANY: usize = 16_384;
+const MANY: usize = 4_096;
 
 const MANY_EDGES: u64 = 262_144;
 
