@@ -1,6 +1,6 @@
 -- The number of a point after one is given.
-use Rattle.std.proofs.Common.{◌≡◌, ℕ, zero, suc, [], ◌∷◌, ◌<◌, Bool, true, false}
-use Rattle.std.proofs.Common.{cond, ◌&&◌, nat_eq, List, Some, length, get_or, slice_get, position, slice_set}
+use Rattle.std.proofs.Common.{◌≡◌, ℕ, zero, suc, [], ◌∷◌, Bool, true, false}
+use Rattle.std.proofs.Common.{cond, ◌&&◌, nat_eq, List, Some, get_or, slice_get, position}
 use Rattle.std.proofs.Common.{refl, sym, ap, ap₂, ◌∙◌, true≢false, eq-eqb}
 use Rattle.std.specs.Option.{option_map_or}
 use Rattle.std.specs.Map.{lookup}
@@ -8,7 +8,6 @@ use Rattle.std.specs.Cmp.{IsEquivalence}
 use Rattle.std.proofs.lemmas.Map.Views.{exact_unsigned_eq}
 use Rattle.path_sets.specs.declared.rows.Row.{Row}
 use Rattle.path_sets.specs.Diagrams.{row_eq, root_of, Roots}
-use Rattle.std.proofs.lemmas.List.{get_or-set_same, get_or-set_other}
 use Rattle.std.proofs.lemmas.List.Quantifiers.{position-Some}
 use Rattle.std.proofs.lemmas.Option.{slice_get-get_or}
 use Rattle.path_sets.proofs.Places.{both}
@@ -46,16 +45,9 @@ same_row x y h =
 pub row_laws : IsEquivalence row_eq
 row_laws = equivalence row_eq row_self same_row
 
-module _ (old new : List (Row × List ℕ)) (own : Row) (bit number : ℕ) (xs : List ℕ)
-    (updates : (q : Row) → lookup (row_eq q) new ≡ cond (row_eq own q) (Some (slice_set xs bit number)) (lookup (row_eq q) old))
-    (room : bit < length xs) (was : (j : ℕ) → option_map_or (λ ys. get_or ys j 0) (lookup (row_eq own) old) 0 ≡ get_or xs j 0) where
-  here' : root_of new own.entry own.block bit ≡ number
-  here' =
-      ap (λ o. option_map_or (λ ys. get_or ys bit 0) o 0) (updates own
-      ∙ ap (λ b. cond b (Some (slice_set xs bit number)) (lookup (row_eq own) old)) (row_self own))
-      ∙ get_or-set_same xs bit number 0 room
-
-  others' : (e b i : ℕ) → ((e ≡ own.entry) × (b ≡ own.block) × (i ≡ bit) → ⊥) → root_of new e b i ≡ root_of old e b i
+module _ (old new : List (Row × List ℕ)) (own : Row) (numbers : List ℕ)
+    (updates : (q : Row) → lookup (row_eq q) new ≡ cond (row_eq own q) (Some numbers) (lookup (row_eq q) old)) where
+  others' : (e b i : ℕ) → ((e ≡ own.entry) × (b ≡ own.block) → ⊥) → root_of new e b i ≡ root_of old e b i
   others' e b i ne = by (row_eq own other) refl
     where
       other : Row
@@ -64,21 +56,17 @@ module _ (old new : List (Row × List ℕ)) (own : Row) (bit number : ℕ) (xs :
       by : (t : Bool) → row_eq own other ≡ t → root_of new e b i ≡ root_of old e b i
       by true h =
           let same : own ≡ other = same_row own other h in
-          ap (λ o. option_map_or (λ ys. get_or ys i 0) o 0)
-          (updates other ∙ ap (λ t. cond t (Some (slice_set xs bit number)) (lookup (row_eq other) old)) h)
-          ∙ get_or-set_other xs bit i number 0 (λ at. ne (
-            sym (ap (λ (r : Row). r.entry) same),
-            sym (ap (λ (r : Row). r.block) same),
-            at,
-          ))
-          ∙ sym (was i)
-          ∙ ap (λ r. option_map_or (λ ys. get_or ys i 0) (lookup (row_eq r) old) 0) same
+          absurd (ne (sym (ap (λ (r : Row). r.entry) same), sym (ap (λ (r : Row). r.block) same)))
       by false h =
           ap (λ o. option_map_or (λ ys. get_or ys i 0) o 0)
-          (updates other ∙ ap (λ t. cond t (Some (slice_set xs bit number)) (lookup (row_eq other) old)) h)
+          (updates other ∙ ap (λ t. cond t (Some numbers) (lookup (row_eq other) old)) h)
 
-  pub roots : Roots old own.entry own.block bit number new
-  roots = record { here = here'; others = others' }
+  pub roots : Roots old own numbers new
+  roots = record {
+    here = λ i. ap (λ o. option_map_or (λ ys. get_or ys i 0) o 0)
+        (updates own ∙ ap (λ b. cond b (Some numbers) (lookup (row_eq own) old)) (row_self own));
+    others = others';
+  }
 
 -- zeros, as many as that
 abbrev pub zeros : ℕ → List ℕ

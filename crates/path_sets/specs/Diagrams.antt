@@ -70,10 +70,10 @@ abbrev pub root_of : List (Row × List ℕ) → ℕ → ℕ → ℕ → ℕ
 root_of rows entry block bit =
     option_map_or (λ xs. get_or xs bit 0) (lookup (row_eq (record { entry = entry; block = block })) rows) 0
 
--- a point has this number, and the others have those that they had
-pub record Roots (old : List (Row × List ℕ)) (entry block bit number : ℕ) (new : List (Row × List ℕ)) : Type 0 where
-  pub here : root_of new entry block bit ≡ number
-  pub others : (e b i : ℕ) → ((e ≡ entry) × (b ≡ block) × (i ≡ bit) → ⊥) → root_of new e b i ≡ root_of old e b i
+-- the points of a row have these numbers, and the others have those that they had
+pub record Roots (old : List (Row × List ℕ)) (row : Row) (numbers : List ℕ) (new : List (Row × List ℕ)) : Type 0 where
+  pub here : (i : ℕ) → root_of new row.entry row.block i ≡ get_or numbers i 0
+  pub others : (e b i : ℕ) → ((e ≡ row.entry) × (b ≡ row.block) → ⊥) → root_of new e b i ≡ root_of old e b i
 
 -- no word has one of the bits from this one on
 abbrev pub HasRoom : ℕ → List ℕ → Type 0

@@ -5,14 +5,16 @@ ghost use Rattle.path_sets.specs.Suffixes.{HasNodes};
 ghost use Rattle.std.proofs.lemmas.Map.Keys.{IsDistinct-prop};
 ghost use Rattle.indexmap.specs.IndexMap.{IsUnique, keys};
 ghost use Rattle.path_sets.specs.Triples.{Triple, triple};
-ghost use Rattle.path_sets.specs.Diagrams.{AreTrue, HaveNumbers, InBatch, Takes, merged_has, root_of, row_eq};
+ghost use Rattle.path_sets.specs.Walks.{IsNumber};
+ghost use Rattle.path_sets.specs.Quads.{KeepQuads};
+ghost use Rattle.path_sets.specs.Diagrams.{AreTrue, HaveNumbers, InBatch, Takes, Unites, merged_has, root_of, row_eq};
 
 use crate::batch::Batch;
 use crate::binary::binary;
 use crate::inner::inner_nodes;
 use crate::notes::{Line, begin};
 use crate::quads::Quads;
-use crate::rows::{Row, Rows, root, set_root};
+use crate::rows::{Row, Rows, numbers_of, root, set_numbers};
 use crate::union::union;
 use indexmap::IndexMap;
 use language::Word;
@@ -50,7 +52,9 @@ impl<A: Allocator + Copy> Merged<A> {
     {
         let nodes = self.nodes.copy()?;
         let mut rows = IndexMap::new(*self.rows.allocator());
-        set_root(&mut rows, row, bit, root(&self.rows, &row, bit))?;
+        let mut numbers = [0; 64];
+        numbers[bit] = root(&self.rows, &row, bit);
+        set_numbers(&mut rows, row, numbers)?;
         let lines = Vec::new(*self.rows.allocator());
         Ok(Merged { nodes, rows, lines })
     }
@@ -64,26 +68,18 @@ impl<A: Allocator + Copy> Merged<A> {
         self.nodes.has(root(&self.rows, row, bit), values)
     }
 
-    /// Puts the valuations of a batch at one point of its row into the set there.
-    fn put_at(&mut self, batch: &Batch, bit: usize) -> Result<(), AllocError>
-        requires { bit < 64 }
-        ensures takes { Takes (InBatch batch.now.row batch.now.columns batch.now.points)
-            self.old.nodes.kept.keys self.new.nodes.kept.keys self.old.rows.entries self.new.rows.entries }
-        ensures all { OnOk result ((t : Triple) → t.point % 64 ≡ bit
-            → InBatch batch.now.row batch.now.columns batch.now.points t
-            → merged_has self.new.nodes.kept.keys self.new.rows.entries t ≡ true) }
+    /// The number of a number's set with the valuations of a batch that are in the mask.
+    fn unite(&mut self, batch: &Batch, number: u32, mask: u64) -> Result<u32, AllocError>
+        requires { IsNumber self.old.nodes.kept.keys number }
+        ensures rows { self.new.rows ≡ self.old.rows }
+        ensures keeps { KeepQuads self.old.nodes.kept.keys self.new.nodes.kept.keys }
+        ensures inside { IfOk result (λ r. IsNumber self.new.nodes.kept.keys r) }
+        ensures unites { IfOk result (λ r. Unites batch.now.columns mask 0 self.old.nodes.kept.keys number self.new.nodes.kept.keys r) }
     {
-        let mask = batch.points[bit];
-        if mask == 0 {
-            return Ok(());
-        }
-        let number = root(&self.rows, &batch.row, bit);
-        let number = union(&mut self.nodes, &mut self.lines, batch, number, 0, mask)?;
-        set_root(&mut self.rows, batch.row, bit, number)?;
-        Ok(())
+        union(&mut self.nodes, &mut self.lines, batch, number, 0, mask)
     }
 
-    /// Puts the path edges of a batch into the sets. Where memory is refused, some of them may be in.
+    /// Puts the path edges of a batch into the sets. Where memory is refused, none of them are in.
     pub(crate) fn put(&mut self, batch: &Batch) -> Result<(), AllocError>
         ensures takes { Takes (InBatch batch.now.row batch.now.columns batch.now.points)
             self.old.nodes.kept.keys self.new.nodes.kept.keys self.old.rows.entries self.new.rows.entries }
@@ -91,10 +87,11 @@ impl<A: Allocator + Copy> Merged<A> {
             → merged_has self.new.nodes.kept.keys self.new.rows.entries t ≡ true) }
     {
         begin(&mut self.lines)?;
+        let mut numbers = numbers_of(&self.rows, &batch.row);
         for bit in 0..64 {
-            self.put_at(batch, bit)?;
+            numbers[bit] = self.unite(batch, numbers[bit], batch.points[bit])?;
         }
-        Ok(())
+        set_numbers(&mut self.rows, batch.row, numbers)
     }
 
     /// How many inner nodes the diagram of the set at a point has, which is a bit of a row.

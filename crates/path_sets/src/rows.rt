@@ -1,6 +1,6 @@
 //! The numbers of the sets of valuations at points.
 
-ghost use Rattle.std.specs.Prelude.{◌≡◌, ◌<◌, ℕ, OnOk, OnErr, None, Some, IfSome, IsNone, length, slice_get, slice_set};
+ghost use Rattle.std.specs.Prelude.{◌≡◌, ◌<◌, ℕ, OnOk, OnErr, None, Some, IfSome, IsNone, slice_get, get_or};
 ghost use Rattle.std.specs.Map.{lookup};
 ghost use Rattle.indexmap.specs.IndexMap.{IsUnique, index_map_len, keys, values};
 ghost use Rattle.path_sets.specs.Diagrams.{root_of, row_eq, Roots};
@@ -31,6 +31,16 @@ pub(crate) fn root<A: Allocator + Copy>(rows: &Rows<A>, row: &Row, bit: usize) -
     }
 }
 
+/// The numbers of a row's points.
+pub(crate) fn numbers_of<A: Allocator + Copy>(rows: &Rows<A>, row: &Row) -> [u32; 64]
+    ensures { (bit : ℕ) → get_or result bit 0 ≡ root_of rows.now.entries row.now.entry row.now.block bit }
+{
+    match rows.get(row) {
+        Some(numbers) => *numbers,
+        None => [0; 64],
+    }
+}
+
 /// The index of a row, where it has numbers.
 fn find<A: Allocator + Copy>(rows: &Rows<A>, row: &Row) -> Option<usize>
     ensures here { IfSome result (λ at. slice_get (keys rows.now) at ≡ Some row.now) }
@@ -41,35 +51,20 @@ fn find<A: Allocator + Copy>(rows: &Rows<A>, row: &Row) -> Option<usize>
     rows.get_index_of(row)
 }
 
-/// Writes one number of a row.
-fn put(numbers: &mut [u32; 64], bit: usize, number: u32)
-    requires { bit < 64 }
-    ensures written { numbers.new ≡ slice_set numbers.old bit number }
-    ensures len { length numbers.old ≡ 64 }
-{
-    numbers[bit] = number;
-}
-
-/// Gives a point a number. Where memory is refused, each point keeps its own.
-pub(crate) fn set_root<A: Allocator + Copy>(
+/// Gives the points of a row their numbers. Where memory is refused, each point keeps its own.
+pub(crate) fn set_numbers<A: Allocator + Copy>(
     rows: &mut Rows<A>,
     row: Row,
-    bit: usize,
-    number: u32,
+    numbers: [u32; 64],
 ) -> Result<(), AllocError>
-    requires bit { bit < 64 }
-    requires unique { IsUnique row_eq rows.old }
-    ensures ok { OnOk result (Roots rows.old.entries row.entry row.block bit number rows.new.entries) }
-    ensures err { OnErr result ((e b i : ℕ) → root_of rows.new.entries e b i ≡ root_of rows.old.entries e b i) }
+    requires { IsUnique row_eq rows.old }
+    ensures ok { OnOk result (Roots rows.old.entries row numbers rows.new.entries) }
+    ensures err { OnErr result (rows.new.entries ≡ rows.old.entries) }
     ensures unique { IsUnique row_eq rows.new }
 {
     match find(rows, &row) {
-        Some(at) => {
-            put(&mut rows[at], bit, number);
-        }
+        Some(at) => rows[at] = numbers,
         None => {
-            let mut numbers = [0; 64];
-            put(&mut numbers, bit, number);
             rows.insert(row, numbers)?;
         }
     }
