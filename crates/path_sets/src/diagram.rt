@@ -30,6 +30,18 @@ pub struct DiagramEdges<A: Allocator> {
 }
 
 impl<A: Allocator + Copy> DiagramEdges<A> {
+    /// Has the row of an entry and a point tried first from now on.
+    fn seek(&mut self, entry: Word, point: Point)
+        ensures { all_edges self.new.merged.nodes.kept.keys self.new.merged.rows.entries self.new.gathered.masks.entries
+            ≡ all_edges self.old.merged.nodes.kept.keys self.old.merged.rows.entries self.old.gathered.masks.entries }
+    {
+        let (place, _) = place_of(entry, point, 0);
+        self.merged.seek(&Row {
+            entry,
+            block: place.block,
+        });
+    }
+
     /// Puts what is gathered into the diagrams, where it is much. Where memory is refused, all stays gathered.
     fn make_room(&mut self) -> Result<(), AllocError>
         ensures same { all_edges self.new.merged.nodes.kept.keys self.new.merged.rows.entries self.new.gathered.masks.entries
@@ -77,6 +89,7 @@ impl<A: Allocator + Copy> PathSet<A> for DiagramEdges<A> {
         if self.contains(entry, point, values) {
             return Ok(false);
         }
+        self.seek(entry, point);
         self.make_room()?;
         self.gathered.insert(entry, point, values)?;
         self.count += 1;

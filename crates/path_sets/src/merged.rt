@@ -14,7 +14,7 @@ use crate::binary::binary;
 use crate::inner::inner_nodes;
 use crate::notes::{Line, begin};
 use crate::quads::Quads;
-use crate::rows::{Row, Rows, numbers_of, root, set_numbers};
+use crate::rows::{Row, Rows, numbers_of, root, seek, set_numbers};
 use crate::union::union;
 use indexmap::IndexMap;
 use language::Word;
@@ -26,6 +26,8 @@ pub(crate) struct Merged<A: Allocator> {
     pub(crate) nodes: Quads<A>,
     pub(crate) rows: Rows<A>,
     lines: Vec<Line, A>,
+    /// The index of the row that was used last, which is mostly that of the next path edge.
+    last: usize,
     ghost unique: { IsUnique row_eq rows } by { IsDistinct-prop row_eq (keys rows) },
     ghost numbers: { HaveNumbers nodes.kept.keys rows.entries },
     ghost noted: { AreTrue nodes.kept.keys lines.items },
@@ -40,6 +42,7 @@ impl<A: Allocator + Copy> Merged<A> {
             nodes: Quads::new(alloc),
             rows: IndexMap::new(alloc),
             lines: Vec::new(alloc),
+            last: 0,
         }
     }
 
@@ -53,10 +56,23 @@ impl<A: Allocator + Copy> Merged<A> {
         let nodes = self.nodes.copy()?;
         let mut rows = IndexMap::new(*self.rows.allocator());
         let mut numbers = [0; 64];
-        numbers[bit] = root(&self.rows, &row, bit);
+        numbers[bit] = root(&self.rows, self.last, &row, bit);
         set_numbers(&mut rows, row, numbers)?;
         let lines = Vec::new(*self.rows.allocator());
-        Ok(Merged { nodes, rows, lines })
+        Ok(Merged {
+            nodes,
+            rows,
+            lines,
+            last: 0,
+        })
+    }
+
+    /// Has a row tried first from now on.
+    pub(crate) fn seek(&mut self, row: &Row)
+        ensures nodes { self.new.nodes ≡ self.old.nodes }
+        ensures rows { self.new.rows ≡ self.old.rows }
+    {
+        self.last = seek(&self.rows, self.last, row);
     }
 
     /// Whether a valuation is in the set at a point, which is a bit of a row.
@@ -65,7 +81,8 @@ impl<A: Allocator + Copy> Merged<A> {
         ensures { result ≡ merged_has self.now.nodes.kept.keys self.now.rows.entries
             (triple row.now.entry (64 * row.now.block + bit) values) }
     {
-        self.nodes.has(root(&self.rows, row, bit), values)
+        self.nodes
+            .has(root(&self.rows, self.last, row, bit), values)
     }
 
     /// The number of a number's set with the valuations of a batch that are in the mask.
@@ -100,7 +117,7 @@ impl<A: Allocator + Copy> Merged<A> {
         ensures { IfOk result (HasNodes 64 (λ v. (v < 2 ^ 64) × (merged_has self.now.nodes.kept.keys self.now.rows.entries
             (triple row.now.entry (64 * row.now.block + bit) v) ≡ true))) }
     {
-        let (nodes, number) = binary(&self.nodes, root(&self.rows, row, bit))?;
+        let (nodes, number) = binary(&self.nodes, root(&self.rows, self.last, row, bit))?;
         inner_nodes(&nodes, number)
     }
 }

@@ -20,14 +20,32 @@ pub(crate) struct Row {
 /// For each row the numbers of its points, in the order in which the rows are first met.
 pub(crate) type Rows<A> = IndexMap<Row, [u32; 64], BuildHasherDefault<FoldHasher>, A>;
 
-/// The number of the set at a point, which is a bit of a row.
-pub(crate) fn root<A: Allocator + Copy>(rows: &Rows<A>, row: &Row, bit: usize) -> u32
+/// The number of the set at a point, which is a bit of a row; the row at an index is tried first.
+pub(crate) fn root<A: Allocator + Copy>(rows: &Rows<A>, last: usize, row: &Row, bit: usize) -> u32
     requires { bit < 64 }
     ensures { result ≡ root_of rows.now.entries row.now.entry row.now.block bit }
 {
+    if let Some((used, numbers)) = rows.get_index(last) {
+        if used == row {
+            return numbers[bit];
+        }
+    }
     match rows.get(row) {
         Some(numbers) => numbers[bit],
         None => 0,
+    }
+}
+
+/// The index of a row where it has numbers, else some other; the one that was used last is tried first.
+pub(crate) fn seek<A: Allocator + Copy>(rows: &Rows<A>, last: usize, row: &Row) -> usize {
+    if let Some((used, _)) = rows.get_index(last) {
+        if used == row {
+            return last;
+        }
+    }
+    match rows.get_index_of(row) {
+        Some(at) => at,
+        None => last,
     }
 }
 
