@@ -8,7 +8,8 @@ use Rattle.std.proofs.lemmas.Option.{slice_get_cases}
 use Rattle.path_sets.specs.declared.node.Node.{Node}
 use Rattle.path_sets.specs.Masks.{bit_of}
 use Rattle.path_sets.specs.Walks.{IsNumber, node_at}
-use Rattle.path_sets.specs.Diagrams.{accepts, AreOrdered, AreReduced, child, GoDown, level_of, StandOnce}
+use Rattle.path_sets.specs.Diagrams.{accepts, AreOrdered, AreReduced, child, GoDown, level_of}
+use Rattle.path_sets.specs.Walks.{StandOnce}
 use Rattle.path_sets.proofs.Walks.{has_node, goes_on, at_leaf}
 use Rattle.path_sets.proofs.OneBit.{descends}
 use Rattle.path_sets.proofs.Shifted.{with_bit, bit_here, bits_same}

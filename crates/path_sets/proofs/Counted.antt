@@ -6,7 +6,8 @@ use Rattle.language.specs.Flow.{Member}
 use Rattle.path_sets.specs.declared.node.Node.{Node}
 use Rattle.path_sets.specs.Triples.{NoneTwice}
 use Rattle.path_sets.specs.Walks.{IsNumber, node_at}
-use Rattle.path_sets.specs.Diagrams.{AreOrdered, AreReduced, GoDown, level_of, StandOnce}
+use Rattle.path_sets.specs.Diagrams.{AreOrdered, AreReduced, GoDown, level_of}
+use Rattle.path_sets.specs.Walks.{StandOnce}
 use Rattle.path_sets.specs.Suffixes.{Apart, AreNodes, Depends, HasNodes, Prefix, prefix, SameSuffixes}
 use Rattle.path_sets.proofs.Walks.{has_node}
 use Rattle.path_sets.proofs.Canonical.{kind, level_is}

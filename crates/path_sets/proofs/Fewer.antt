@@ -20,6 +20,19 @@ use Rattle.path_sets.proofs.Batches.{is_or_not, same_word}
 use Rattle.path_sets.proofs.Lists.{bit_either}
 use Rattle.path_sets.proofs.Shifted.{down_bit, low_bit}
 
+-- one of two tests
+pub either : (a b : Bool) → (a || b) ≡ true → (a ≡ true) ⊎ (b ≡ true)
+either true b h = inl refl
+either false b h = inr h
+
+pub first_or : (a b : Bool) → a ≡ true → (a || b) ≡ true
+first_or true b h = refl
+first_or false b h = absurd (true≢false (sym h))
+
+pub second_or : (a b : Bool) → b ≡ true → (a || b) ≡ true
+second_or true b h = refl
+second_or false b h = h
+
 or_none : (a b : Bool) → (a || (b || false)) ≡ (a || b)
 or_none true b = refl
 or_none false true = refl
@@ -136,7 +149,7 @@ module _ (valuations : List ℕ) (mask level v : ℕ) (few few' : Few) (rest res
     λ h. elim (parts.0 h) [
       | inl among ↦ inl (added ∙ ap (λ b. b || is_at) among)
       | inr left ↦ elim (without_one valuations rest at level v set small fits left) [
-        | inl one ↦ inl (added ∙ or_second (is_among few (bits_from level v)) is_at one)
+        | inl one ↦ inl (added ∙ second_or (is_among few (bits_from level v)) is_at one)
         | inr still ↦ inr (subst (λ m. IsMarked valuations m level v) (sym out) still)
       ]
     ],
@@ -151,14 +164,6 @@ module _ (valuations : List ℕ) (mask level v : ℕ) (few few' : Few) (rest res
     where
       is_at : Bool
       is_at = nat_eq (bits_from level v) (get_or valuations at 0 / 2 ^ level)
-
-      or_second : (a b : Bool) → b ≡ true → (a || b) ≡ true
-      or_second true b h = refl
-      or_second false b h = h
-
-      either : (a b : Bool) → (a || b) ≡ true → (a ≡ true) ⊎ (b ≡ true)
-      either true b h = inl refl
-      either false b h = inr h
 
 -- what a test finds equal is
 pub same_few : (x y : Few) (r : Bool) → r ≡ (nat_eq x.count y.count && pointwise nat_eq x.values y.values) → r ≡ true → x ≡ y

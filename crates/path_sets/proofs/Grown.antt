@@ -6,7 +6,7 @@ use Rattle.std.proofs.Common.{◌∙◌, subst, arith, true≢false, is_some, �
 use Rattle.std.specs.Option.{option_map_or}
 use Rattle.std.proofs.lemmas.Bool.{ltb-false}
 use Rattle.std.proofs.lemmas.Option.{same_Some}
-use Rattle.path_sets.specs.Walks.{node_at, walk, reaches, level_at, Descends, IsGrown, IsNumber, Preserves}
+use Rattle.path_sets.specs.Walks.{node_at, walk, reaches, level_at, Descends, IsGrown, IsNumber, Preserves, StandOnce}
 use Rattle.path_sets.proofs.Walks.{goes_on, next_below, number_of}
 
 -- a list's items stay where they are when more come behind
@@ -86,3 +86,17 @@ module _ {X : Type 0} (next : X → ℕ → ℕ) (level : X → ℕ) (last : ℕ
         → IsNumber ns (next x v) → reaches next new (i + 2) v ≡ reaches next ns (next x v) v
     joined new down' grown i v at inside =
         goes_on next new down' (i + 2) v x (number_of new i x at) ∙ (keeps_grown new grown).same (next x v) v inside
+
+-- a node that is put in where it is new stands once
+pub still_once : {X : Type 0} (x : X) (ns : List X) → StandOnce ns → (new : List X) → IsGrown x ns new → StandOnce new
+still_once x ns once new (inl same) = subst StandOnce (sym same) once
+still_once x ns once new (inr more) = subst StandOnce (sym more.0) (λ i j y h k. elim (got_from ns x y i h) [
+  | inl (less, was) ↦ elim (got_from ns x y j k) [
+    | inl (less', was') ↦ once i j y was was'
+    | inr (at', is') ↦ absurd (more.1 i (was ∙ ap Some is'))
+  ]
+  | inr (at, is) ↦ elim (got_from ns x y j k) [
+    | inl (less', was') ↦ absurd (more.1 j (was' ∙ ap Some is))
+    | inr (at', is') ↦ at ∙ sym at'
+  ]
+])

@@ -5,7 +5,8 @@ use Rattle.std.proofs.lemmas.Bool.{cases_lt}
 use Rattle.std.proofs.lemmas.Nat.{pow_pos, pow-add, mul-add-lt, shr_split, shr_high, shr_below, mod_below, div_below}
 use Rattle.path_sets.specs.declared.node.Node.{Node}
 use Rattle.path_sets.specs.Walks.{IsNumber, node_at}
-use Rattle.path_sets.specs.Diagrams.{accepts, AreOrdered, AreReduced, GoDown, level_of, StandOnce}
+use Rattle.path_sets.specs.Diagrams.{accepts, AreOrdered, AreReduced, GoDown, level_of}
+use Rattle.path_sets.specs.Walks.{StandOnce}
 use Rattle.path_sets.specs.Suffixes.{SameSuffixes}
 use Rattle.path_sets.proofs.Shifted.{with_bit, bits_above, bits_within, after_bit, next_pow}
 use Rattle.path_sets.proofs.Canonical.{level_is, kind, child_after, within, half, canonical}

@@ -11,6 +11,7 @@ use Rattle.path_sets.specs.Few.{bits_from, is_among, IsMarked, Turns}
 use Rattle.path_sets.specs.Walks.{IsNumber}
 use Rattle.path_sets.specs.Quads.{holds, KeepQuads, pair_of}
 use Rattle.path_sets.specs.Diagrams.{AreTrue, blank, Covers, IsTrueLine, Listed, Unites}
+use Rattle.path_sets.proofs.Fewer.{either, first_or, second_or}
 use Rattle.path_sets.proofs.Universe.{same_test}
 
 -- a line stays true with more nodes
@@ -44,18 +45,6 @@ or_false false = refl
 -- nothing is put into the empty set
 pub blank_is_true : (ns : List Quad) → IsTrueLine ns blank
 blank_is_true ns = record { inside = omega arith; reached = omega arith; deep = omega arith; unites = λ v. or_false (holds ns 0 v) }
-
-either : (a b : Bool) → (a || b) ≡ true → (a ≡ true) ⊎ (b ≡ true)
-either true b h = inl refl
-either false b h = inr h
-
-first_or : (a b : Bool) → a ≡ true → (a || b) ≡ true
-first_or true b h = refl
-first_or false b h = absurd (true≢false (sym h))
-
-second_or : (a b : Bool) → b ≡ true → (a || b) ≡ true
-second_or true b h = refl
-second_or false b h = h
 
 module _ (columns valuations : List ℕ) (mask level : ℕ) (few : Few) (turns : Turns columns valuations)
     (is : (v : ℕ) → IsMarked valuations mask (2 * level) v ↔ (is_among few (bits_from (2 * level) v) ≡ true)) where

@@ -1,10 +1,10 @@
 -- Nodes that test one bit, and one more of them.
 use Rattle.std.proofs.Common.{◌≡◌, ◌≢◌, ℕ, ◌+◌, ◌<◌, Bool, true, false, cond, List, [], ◌∷◌, ◌++◌}
-use Rattle.std.proofs.Common.{Some, slice_get, sym, ap, ◌∙◌, subst, refl, arith, inl, inr}
+use Rattle.std.proofs.Common.{Some, slice_get, sym, ◌∙◌, subst, refl, arith, inl, inr}
 use Rattle.path_sets.specs.declared.node.Node.{Node}
 use Rattle.path_sets.specs.Masks.{bit_of}
 use Rattle.path_sets.specs.Walks.{Descends, IsGrown, IsNumber}
-use Rattle.path_sets.specs.Diagrams.{accepts, AreOrdered, AreReduced, child, GoDown, Keeps, level_of, StandOnce}
+use Rattle.path_sets.specs.Diagrams.{accepts, AreOrdered, AreReduced, child, GoDown, Keeps, level_of}
 use Rattle.path_sets.proofs.Grown.{got_from, joined, keeps_grown, keeps_more}
 
 -- a step goes down
@@ -61,20 +61,6 @@ module _ (ns : List Node) (down : GoDown ns) (x : Node) (small : x.level < 64) (
   still_reduced own reduced new (inr more) = subst AreReduced (sym more.0) (λ i y h. elim (got_from ns x y i h) [
     | inl (less, was) ↦ reduced i y was
     | inr (at, is) ↦ subst (λ (z : Node). z.low ≢ z.high) (sym is) own
-  ])
-
-  -- and it stands nowhere else
-  pub still_once : StandOnce ns → (new : List Node) → IsGrown x ns new → StandOnce new
-  still_once once new (inl same) = subst StandOnce (sym same) once
-  still_once once new (inr more) = subst StandOnce (sym more.0) (λ i j y h k. elim (got_from ns x y i h) [
-    | inl (less, was) ↦ elim (got_from ns x y j k) [
-      | inl (less', was') ↦ once i j y was was'
-      | inr (at', is') ↦ absurd (more.1 i (was ∙ ap Some is'))
-    ]
-    | inr (at, is) ↦ elim (got_from ns x y j k) [
-      | inl (less', was') ↦ absurd (more.1 j (was' ∙ ap Some is))
-      | inr (at', is') ↦ at ∙ sym at'
-    ]
   ])
 
   -- the set of the number of the node

@@ -4,7 +4,7 @@ use Rattle.std.proofs.Common.{Some, slice_get, sym, subst, refl, arith, inl, inr
 use Rattle.path_sets.specs.declared.quad.Quad.{Quad}
 use Rattle.path_sets.specs.Masks.{bit_of}
 use Rattle.path_sets.specs.Walks.{Descends, IsGrown, IsNumber}
-use Rattle.path_sets.specs.Quads.{AreInside, AreLater, holds, IsBelow, KeepQuads, QuadsAreOrdered, QuadsGoDown, turn}
+use Rattle.path_sets.specs.Quads.{AreInside, AreLater, holds, IsBelow, KeepQuads, LeadsOn, QuadsAreOrdered, QuadsAreReduced, QuadsGoDown, turn}
 use Rattle.path_sets.proofs.Grown.{got_from, joined, keeps_grown, keeps_more}
 
 -- what holds of a node's four children holds of the one that a valuation goes on to
@@ -78,3 +78,12 @@ module _ (ns : List Quad) (down : QuadsGoDown ns) (x : Quad) (small : x.level < 
   quad_joined new grown i v at =
       joined turn (λ y. y.level) 32 ns (steps_down ns down) x new (steps_down new (quads_down new grown)) grown i v at
       (of_children (IsNumber ns) x v inside.0 inside.1 inside.2 inside.3)
+
+-- a node whose children are not all the same leaves the nodes reduced
+pub quads_reduced : (ns : List Quad) (x : Quad) → (LeadsOn x → ⊥) → QuadsAreReduced ns → (new : List Quad) → IsGrown x ns new
+    → QuadsAreReduced new
+quads_reduced ns x own reduced new (inl same) = subst QuadsAreReduced (sym same) reduced
+quads_reduced ns x own reduced new (inr more) = subst QuadsAreReduced (sym more.0) (λ i y h. elim (got_from ns x y i h) [
+  | inl (less, was) ↦ reduced i y was
+  | inr (at, is) ↦ subst (λ z. LeadsOn z → ⊥) (sym is) own
+])

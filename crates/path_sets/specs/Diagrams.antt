@@ -39,10 +39,6 @@ AreOrdered nodes =
 abbrev pub AreReduced : List Node → Type 0
 AreReduced nodes = (i : ℕ) (x : Node) → slice_get nodes i ≡ Some x → x.low ≢ x.high
 
--- no node stands twice
-abbrev pub StandOnce : List Node → Type 0
-StandOnce nodes = (i j : ℕ) (x : Node) → slice_get nodes i ≡ Some x → slice_get nodes j ≡ Some x → i ≡ j
-
 -- more nodes, and the sets and the levels of the numbers that there were are the same
 abbrev pub Keeps : List Node → List Node → Type 0
 Keeps old new = Preserves child (λ x. x.level) 64 old new

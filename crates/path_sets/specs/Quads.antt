@@ -40,6 +40,14 @@ QuadsGoDown quads = (i : ℕ) (x : Quad) → slice_get quads i ≡ Some x → Is
 abbrev pub QuadsAreOrdered : List Quad → Type 0
 QuadsAreOrdered quads = (i : ℕ) (x : Quad) → slice_get quads i ≡ Some x → AreLater quads x
 
+-- a node's four children are the same
+abbrev pub LeadsOn : Quad → Type 0
+LeadsOn x = (x.none ≡ x.first) × (x.none ≡ x.second) × (x.none ≡ x.both)
+
+-- no node's are
+abbrev pub QuadsAreReduced : List Quad → Type 0
+QuadsAreReduced quads = (i : ℕ) (x : Quad) → slice_get quads i ≡ Some x → LeadsOn x → ⊥
+
 -- more nodes, and the sets and the levels of the numbers that there were are the same
 abbrev pub KeepQuads : List Quad → List Quad → Type 0
 KeepQuads old new = Preserves turn (λ x. x.level) 32 old new

@@ -37,3 +37,7 @@ pub record Preserves {X : Type 0} (next : X → ℕ → ℕ) (level : X → ℕ)
 -- the node, which is new, stands at the end of the nodes that there were, or they are the same
 abbrev pub IsGrown : {X : Type 0} → X → List X → List X → Type 0
 IsGrown x old new = (new ≡ old) ⊎ ((new ≡ old ++ x ∷ []) × ((i : ℕ) → slice_get old i ≢ Some x))
+
+-- no node stands twice
+abbrev pub StandOnce : {X : Type 0} → List X → Type 0
+StandOnce {X} nodes = (i j : ℕ) (x : X) → slice_get nodes i ≡ Some x → slice_get nodes j ≡ Some x → i ≡ j

@@ -5,7 +5,8 @@ ghost use Rattle.language.specs.Flow.{Member};
 ghost use Rattle.path_sets.specs.declared.node.Node.{Node};
 ghost use Rattle.path_sets.specs.Triples.{Triple, triple};
 ghost use Rattle.path_sets.specs.Walks.{IsNumber};
-ghost use Rattle.path_sets.specs.Diagrams.{accepts, AreOrdered, AreReduced, GoDown, StandOnce};
+ghost use Rattle.path_sets.specs.Diagrams.{accepts, AreOrdered, AreReduced, GoDown};
+ghost use Rattle.path_sets.specs.Walks.{StandOnce};
 ghost use Rattle.path_sets.specs.Suffixes.{HasNodes};
 
 /// A law: the members at a point have one number of inner nodes, which depends on nothing else.

@@ -3,7 +3,8 @@
 ghost use Rattle.std.specs.Prelude.{◌≡◌, ℕ, ◌+◌, ◌<◌, ◌^◌, Bool, cond, IfOk, Some, slice_get, length, ◌≤◌};
 ghost use Rattle.path_sets.specs.Masks.{bit_of};
 ghost use Rattle.path_sets.specs.Walks.{IsGrown, IsNumber};
-ghost use Rattle.path_sets.specs.Diagrams.{accepts, AreOrdered, AreReduced, GoDown, Keeps, level_of, StandOnce};
+ghost use Rattle.path_sets.specs.Diagrams.{accepts, AreOrdered, AreReduced, GoDown, Keeps, level_of};
+ghost use Rattle.path_sets.specs.Walks.{StandOnce};
 
 use crate::node::Node;
 use indexmap::IndexSet;

@@ -1,8 +1,8 @@
 //! Numbered nodes that test two bits at once.
 
 ghost use Rattle.std.specs.Prelude.{◌≡◌, ℕ, ◌+◌, ◌<◌, ◌^◌, IfOk, Some, slice_get, length, ◌≤◌};
-ghost use Rattle.path_sets.specs.Walks.{IsGrown, IsNumber};
-ghost use Rattle.path_sets.specs.Quads.{AreInside, AreLater, holds, KeepQuads, pair_of, QuadsAreOrdered, QuadsGoDown, turn};
+ghost use Rattle.path_sets.specs.Walks.{IsGrown, IsNumber, StandOnce};
+ghost use Rattle.path_sets.specs.Quads.{AreInside, AreLater, holds, KeepQuads, pair_of, QuadsAreOrdered, QuadsAreReduced, QuadsGoDown, turn};
 
 use crate::nodes::{ALL, MOST};
 use crate::quad::{Quad, turn};
@@ -14,12 +14,15 @@ use std::hash::{BuildHasherDefault, FoldHasher};
 /// Numbered nodes, in the order of their numbers.
 type Kept<A> = IndexSet<Quad, BuildHasherDefault<FoldHasher>, A>;
 
-/// The nodes of the diagrams that are kept: number n is the node at n - 2, whose children have smaller numbers and later levels.
+/// The nodes of the diagrams that are kept: number n is the node at n - 2, whose children have smaller numbers and
+/// later levels and are not all the same. No node stands twice.
 #[derive(Drop)]
 pub(crate) struct Quads<A: Allocator> {
     pub(crate) kept: Kept<A>,
     ghost down: { QuadsGoDown kept.keys },
     ghost ordered: { QuadsAreOrdered kept.keys },
+    ghost reduced: { QuadsAreReduced kept.keys },
+    ghost once: { StandOnce kept.keys },
 }
 
 /// The index of a node, which is put at the end where it has none.

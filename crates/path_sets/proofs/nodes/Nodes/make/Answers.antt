@@ -1,8 +1,8 @@
 use Rattle.std.proofs.Common.{arith}
 use Rattle.std.proofs.lemmas.Option.{slice_get_within}
 use Rattle.path_sets.specs.declared.node.Node.{Node}
-use Rattle.path_sets.proofs.Grown.{level_here}
-use Rattle.path_sets.proofs.OneBit.{still_down, still_ordered, still_reduced, still_once, node_keeps, node_joined}
+use Rattle.path_sets.proofs.Grown.{level_here, still_once}
+use Rattle.path_sets.proofs.OneBit.{still_down, still_ordered, still_reduced, node_keeps, node_joined}
 use Rattle.path_sets.proofs.nodes.Nodes.make.Goals as goal
 
 pub invariant_of-self : goal.invariant_of-self
@@ -16,8 +16,7 @@ invariant_of-self g c =
           c.index_of.new.kept.keys c.index_of.ensures.grown;
       reduced = still_reduced s.kept.keys s.down x c.requires.level c.requires.inside.0 c.requires.inside.1 c.if-low-high.false
           s.reduced c.index_of.new.kept.keys c.index_of.ensures.grown;
-      once = still_once s.kept.keys s.down x c.requires.level c.requires.inside.0 c.requires.inside.1 s.once c.index_of.new.kept.keys
-          c.index_of.ensures.grown;
+      once = still_once x s.kept.keys s.once c.index_of.new.kept.keys c.index_of.ensures.grown;
     }
 
 pub returns-clause-keeps : goal.returns-clause-keeps

@@ -1,6 +1,7 @@
 use Rattle.std.proofs.Common.{◌≡◌, sym, subst}
 use Rattle.std.specs.List.{each_same}
-use Rattle.path_sets.specs.Quads.{QuadsAreOrdered, QuadsGoDown}
+use Rattle.path_sets.specs.Quads.{QuadsAreOrdered, QuadsAreReduced, QuadsGoDown}
+use Rattle.path_sets.specs.Walks.{StandOnce}
 use Rattle.path_sets.proofs.quads.Quads.copy.Goals as goal
 
 pub invariant_of-result : goal.invariant_of-result
@@ -9,7 +10,12 @@ invariant_of-result g c =
     let old = s.kept.keys in
     let new = c.in_ok-clone.field-0.keys in
     let same : old ≡ new = sym (each_same old new c.in_ok-clone.ensures.cases) in
-    record { down = subst QuadsGoDown same s.down; ordered = subst QuadsAreOrdered same s.ordered }
+    record {
+      down = subst QuadsGoDown same s.down;
+      ordered = subst QuadsAreOrdered same s.ordered;
+      reduced = subst QuadsAreReduced same s.reduced;
+      once = subst StandOnce same s.once;
+    }
 
 pub returns : goal.returns
 returns g c = each_same c.args.self.now.kept.keys c.in_ok-clone.field-0.keys c.in_ok-clone.ensures.cases
