@@ -1,16 +1,20 @@
 -- The diagram of one point's members.
-use Rattle.std.proofs.Common.{◌≡◌, ℕ, ◌+◌, ◌*◌, ◌/◌, ◌%◌, ◌^◌, ◌<◌, true, ◌↔◌, inl, inr, List, [], ◌∷◌, sym, ◌∙◌, arith}
+use Rattle.std.proofs.Common.{◌≡◌, ℕ, ◌+◌, ◌*◌, ◌/◌, ◌%◌, ◌^◌, ◌<◌, true, ◌↔◌, inl, inr, List, [], ◌∷◌, sym, ap, ◌∙◌, subst, arith}
+use Rattle.std.specs.Prelude.{Result, IfOk}
 use Rattle.language.specs.Flow.{Member}
+use Rattle.path_sets.specs.declared.node.Node.{Node}
 use Rattle.path_sets.specs.declared.quad.Quad.{Quad}
 use Rattle.path_sets.specs.declared.place.Place.{Place}
 use Rattle.path_sets.specs.declared.rows.Row.{Row}
 use Rattle.path_sets.specs.Triples.{Triple, triple}
-use Rattle.path_sets.specs.Edges.{edges}
-use Rattle.path_sets.specs.Quads.{holds}
-use Rattle.path_sets.specs.Diagrams.{merged_has, root_of, Takes}
+use Rattle.path_sets.specs.Edges.{edge_at, edges}
+use Rattle.path_sets.specs.Masks.{bit_of}
+use Rattle.path_sets.specs.Quads.{points_of}
+use Rattle.path_sets.specs.Diagrams.{accepts, merged_has, root_of, Takes}
 use Rattle.path_sets.specs.Members.{all_edges, has_edge, universe}
 use Rattle.path_sets.specs.Suffixes.{Apart, HasNodes, Prefix, SameSuffixes}
 use Rattle.path_sets.proofs.Filtered.{kept_is}
+use Rattle.path_sets.proofs.Unions.{of_ok}
 use Rattle.path_sets.proofs.Universe.{Fits, is_member, member_is, values_fit}
 
 same_on : (S T : ℕ → Type 0) → ((v : ℕ) → S v ↔ T v) → (l p q : ℕ) → SameSuffixes S l p q → SameSuffixes T l p q
@@ -44,34 +48,84 @@ alike_nodes w n S T alike has = record {
   counted = has.counted;
 }
 
--- the set at a bit of a block of points
-pub set_at : (ns : List Quad) (rs : List (Row × List ℕ)) (e b i v : ℕ) → i < 64
-    → merged_has ns rs (triple e (64 * b + i) v) ≡ holds ns (root_of rs e b i) v
-set_at ns rs e b i v small =
+-- whether a valuation is at a bit of a block of points
+pub bit_at_point : (ns : List Quad) (rs : List (Row × ℕ)) (e b i v : ℕ) → i < 64
+    → merged_has ns rs (triple e (64 * b + i) v) ≡ bit_of (points_of ns (root_of rs e b) v) i
+bit_at_point ns rs e b i v small =
     let block : (64 * b + i) / 64 ≡ b = omega arith in
     let bit : (64 * b + i) % 64 ≡ i = omega arith in
-    λ j. holds ns (root_of rs e (block j) (bit j)) v
+    λ j. bit_of (points_of ns (root_of rs e (block j)) v) (bit j)
 
-module _ (ns ms os : List Quad) (rs ss ts : List (Row × List ℕ)) (masks : List (Place × ℕ)) (e p : ℕ) (entry : e < 2 ^ 64)
+-- the diagram of one point has the valuations that are at it
+pub point_nodes : (qs : List Quad) (rs : List (Row × ℕ)) (e b i root : ℕ) (ns : List Node) (n : ℕ) {E : Type 0} (r : Result ℕ E)
+    → i < 64
+    → root ≡ root_of rs e b
+    → ((v : ℕ) → v < 2 ^ 64 → accepts ns n v ≡ bit_of (points_of qs root v) i)
+    → IfOk r (HasNodes 64 (λ v. (v < 2 ^ 64) × (accepts ns n v ≡ true)))
+    → IfOk r (HasNodes 64 (λ v. (v < 2 ^ 64) × (merged_has qs rs (triple e (64 * b + i) v) ≡ true)))
+point_nodes qs rs e b i root ns n r small at same has =
+    of_ok (HasNodes 64 S) (HasNodes 64 T) r
+    (λ k. alike_nodes 64 k S T (λ v. (λ h. (h.0, is v h.0 ∙ h.1), λ h. (h.0, sym (is v h.0) ∙ h.1)))) has
+  where
+    S : ℕ → Type 0
+    S v = (v < 2 ^ 64) × (accepts ns n v ≡ true)
+
+    T : ℕ → Type 0
+    T v = (v < 2 ^ 64) × (merged_has qs rs (triple e (64 * b + i) v) ≡ true)
+
+    is : (v : ℕ) → v < 2 ^ 64 → merged_has qs rs (triple e (64 * b + i) v) ≡ accepts ns n v
+    is v less = bit_at_point qs rs e b i v small ∙ ap (λ k. bit_of (points_of qs k v) i) (sym at) ∙ sym (same v less)
+
+module _ (ns ms os : List Quad) (rs ss ts : List (Row × ℕ)) (masks : List (Place × ℕ)) (e p : ℕ) (entry : e < 2 ^ 64)
     (point : p < 2 ^ 64)
     (alone : (v : ℕ) → merged_has ms ss (triple e p v) ≡ merged_has ns rs (triple e p v))
-    (takes : Takes (λ t. t.values < 2 ^ 64 → Member t (edges masks)) ms os ss ts)
-    (all : (t : Triple) → t.values < 2 ^ 64 → Member t (edges masks) → merged_has os ts t ≡ true) where
+    (takes : Takes (λ t. Member t (edges masks)) ms os ss ts)
+    (all : (t : Triple) → Member t (edges masks) → merged_has os ts t ≡ true) where
   -- a point's set alone, with what is gathered put in, has the members at that point
-  pub members_there : (v : ℕ) → ((v < 2 ^ 64) × (merged_has os ts (triple e p v) ≡ true)) ↔ Member (triple e p v) (all_edges ns rs masks)
+  members_there : (v : ℕ)
+      → ((v < 2 ^ 64) × (merged_has os ts (triple e p v) ≡ true)) ↔ Member (triple e p v) (all_edges ns rs masks)
   members_there v = (
     λ h.
         let fits : Fits (triple e p v) = record { entry = entry; point = point; values = h.0 } in
         is_member ns rs masks (triple e p v) fits (elim (takes.sound (triple e p v) h.1) [
           | inl was ↦ inl (sym (alone v) ∙ was)
-          | inr given ↦ inr (given h.0)
+          | inr given ↦ inr given
         ]),
     λ m.
         let fits = values_fit (triple e p v) (kept_is (has_edge ns rs masks) universe (triple e p v) m).0 in (
           fits,
           elim (member_is ns rs masks (triple e p v) m) [
             | inl merged ↦ takes.kept (triple e p v) (alone v ∙ merged)
-            | inr gathered ↦ all (triple e p v) fits gathered
+            | inr gathered ↦ all (triple e p v) gathered
           ],
         ),
   )
+
+-- so the diagram there is that of the members
+pub member_nodes : (ns ms os : List Quad) (rs ss ts : List (Row × ℕ)) (masks : List (Place × ℕ)) (place : Place)
+    (i e p v : ℕ) {E : Type 0} (r : Result ℕ E) → e < 2 ^ 64
+    → p < 2 ^ 64
+    → i < 64
+    → edge_at place i ≡ triple e p v
+    → ((j v : ℕ) → j < 64
+    → merged_has ms ss (triple e (64 * place.block + j) v) ≡ merged_has ns rs (triple e (64 * place.block + j) v))
+    → Takes (λ t. Member t (edges masks)) ms os ss ts
+    → ((t : Triple) → Member t (edges masks) → merged_has os ts t ≡ true)
+    → IfOk r (HasNodes 64 (λ v. (v < 2 ^ 64) × (merged_has os ts (triple e (64 * place.block + i) v) ≡ true)))
+    → IfOk r (HasNodes 64 (λ v. Member (triple e p v) (all_edges ns rs masks)))
+member_nodes ns ms os rs ss ts masks place i e p v r entry point small at alone takes all has =
+    of_ok (HasNodes 64 S) (HasNodes 64 T) r
+    (λ n. alike_nodes 64 n S T (members_there ns ms os rs ss ts masks e p entry point alone' takes all))
+    (subst (λ q. IfOk r (HasNodes 64 (λ v. (v < 2 ^ 64) × (merged_has os ts (triple e q v) ≡ true)))) there has)
+  where
+    S : ℕ → Type 0
+    S v = (v < 2 ^ 64) × (merged_has os ts (triple e p v) ≡ true)
+
+    T : ℕ → Type 0
+    T v = Member (triple e p v) (all_edges ns rs masks)
+
+    there : 64 * place.block + i ≡ p
+    there = ap (λ (t : Triple). t.point) at
+
+    alone' : (v : ℕ) → merged_has ms ss (triple e p v) ≡ merged_has ns rs (triple e p v)
+    alone' v = subst (λ q. merged_has ms ss (triple e q v) ≡ merged_has ns rs (triple e q v)) there (alone i v small)

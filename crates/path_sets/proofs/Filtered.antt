@@ -6,7 +6,7 @@ use Rattle.language.specs.Flow.{Member}
 use Rattle.language.proofs.Members.{member_left, member_right, member_append, map_member}
 use Rattle.path_sets.specs.Triples.{NoneTwice}
 use Rattle.path_sets.specs.Members.{below, each}
-use Rattle.path_sets.proofs.Batches.{is_or_not}
+use Rattle.std.proofs.lemmas.Bool.{cases_eq}
 
 module _ {A : Type 0} where
   -- what is kept was there and passes
@@ -117,7 +117,7 @@ map_none_twice f (x ∷ xs) apart (once, h) = (
 pub in_below : (n m : ℕ) → n < m → Member n (below m)
 unfolding below
 in_below n zero h = absurd (omega (arith, h))
-in_below n (suc m) h = elim (is_or_not n m) [ inl is ↦ inl is | inr ne ↦ inr (in_below n m (omega (arith, h, ne))) ]
+in_below n (suc m) h = elim (cases_eq n m) [ inl is ↦ inl is | inr ne ↦ inr (in_below n m (omega (arith, h, ne))) ]
 
 pub of_below : (n m : ℕ) → Member n (below m) → n < m
 unfolding below

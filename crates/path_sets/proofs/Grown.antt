@@ -27,7 +27,7 @@ got_from (x ∷ xs) y z (suc i) h = elim (got_from xs y z i h) [
 ]
 
 -- a number's node is the same with more behind
-same_node_at : {X : Type 0} (ns ms : List X) (n : ℕ) → IsNumber ns n → node_at (ns ++ ms) n ≡ node_at ns n
+pub same_node_at : {X : Type 0} (ns ms : List X) (n : ℕ) → IsNumber ns n → node_at (ns ++ ms) n ≡ node_at ns n
 same_node_at {X} ns ms n inside = by (nat_lt n 2) refl
   where
     by : (b : Bool) → nat_lt n 2 ≡ b → cond b None (slice_get (ns ++ ms) (n - 2)) ≡ cond b None (slice_get ns (n - 2))

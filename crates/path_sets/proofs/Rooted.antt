@@ -1,5 +1,5 @@
--- The number of a point after one is given.
-use Rattle.std.proofs.Common.{◌≡◌, ℕ, zero, suc, [], ◌∷◌, Bool, true, false}
+-- The numbers of rows after one is given.
+use Rattle.std.proofs.Common.{◌≡◌, ℕ, Bool, true, false}
 use Rattle.std.proofs.Common.{cond, ◌&&◌, nat_eq, List, Some, get_or, slice_get, position}
 use Rattle.std.proofs.Common.{refl, sym, ap, ap₂, ◌∙◌, true≢false, eq-eqb}
 use Rattle.std.specs.Option.{option_map_or}
@@ -45,35 +45,24 @@ same_row x y h =
 pub row_laws : IsEquivalence row_eq
 row_laws = equivalence row_eq row_self same_row
 
-module _ (old new : List (Row × List ℕ)) (own : Row) (numbers : List ℕ)
-    (updates : (q : Row) → lookup (row_eq q) new ≡ cond (row_eq own q) (Some numbers) (lookup (row_eq q) old)) where
-  others' : (e b i : ℕ) → ((e ≡ own.entry) × (b ≡ own.block) → ⊥) → root_of new e b i ≡ root_of old e b i
-  others' e b i ne = by (row_eq own other) refl
+module _ (old new : List (Row × ℕ)) (own : Row) (number : ℕ)
+    (updates : (q : Row) → lookup (row_eq q) new ≡ cond (row_eq own q) (Some number) (lookup (row_eq q) old)) where
+  others' : (e b : ℕ) → ((e ≡ own.entry) × (b ≡ own.block) → ⊥) → root_of new e b ≡ root_of old e b
+  others' e b ne = by (row_eq own other) refl
     where
       other : Row
       other = record { entry = e; block = b }
 
-      by : (t : Bool) → row_eq own other ≡ t → root_of new e b i ≡ root_of old e b i
+      by : (t : Bool) → row_eq own other ≡ t → root_of new e b ≡ root_of old e b
       by true h =
           let same : own ≡ other = same_row own other h in
           absurd (ne (sym (ap (λ (r : Row). r.entry) same), sym (ap (λ (r : Row). r.block) same)))
       by false h =
-          ap (λ o. option_map_or (λ ys. get_or ys i 0) o 0)
-          (updates other ∙ ap (λ t. cond t (Some numbers) (lookup (row_eq other) old)) h)
+          ap (λ o. option_map_or (λ n. n) o 0) (updates other ∙ ap (λ t. cond t (Some number) (lookup (row_eq other) old)) h)
 
-  pub roots : Roots old own numbers new
+  pub roots : Roots old own number new
   roots = record {
-    here = λ i. ap (λ o. option_map_or (λ ys. get_or ys i 0) o 0)
-        (updates own ∙ ap (λ b. cond b (Some numbers) (lookup (row_eq own) old)) (row_self own));
+    here = ap (λ o. option_map_or (λ n. n) o 0)
+        (updates own ∙ ap (λ b. cond b (Some number) (lookup (row_eq own) old)) (row_self own));
     others = others';
   }
-
--- zeros, as many as that
-abbrev pub zeros : ℕ → List ℕ
-zeros zero = []
-zeros (suc n) = 0 ∷ zeros n
-
-pub zero_at : (n j : ℕ) → get_or (zeros n) j 0 ≡ 0
-zero_at zero j = refl
-zero_at (suc n) zero = refl
-zero_at (suc n) (suc j) = zero_at n j

@@ -2,8 +2,8 @@
 use Rattle.std.proofs.Common.{◌≡◌, ℕ, suc, ◌+◌, ◌-◌, ◌*◌, ◌/◌, ◌%◌, ◌^◌, ◌<◌, ◌≤◌, ◌==◌}
 use Rattle.std.proofs.Common.{sym, ap, ◌∙◌, subst, arith}
 use Rattle.std.specs.Int.{bit_at}
-use Rattle.std.proofs.Math.Nat.{pow-suc}
-use Rattle.std.proofs.lemmas.Nat.{shl-shr, shr-shr, field_of, mod-pow-add}
+use Rattle.std.proofs.Math.Nat.{div-div-eq-div-mul, pow-suc}
+use Rattle.std.proofs.lemmas.Nat.{shl-shr, shr-shr, field_of, mod-pow-add, mul-pow, pow-add}
 use Rattle.std.proofs.lemmas.Nat.Bits.{bit_at_lowest, bit_at-suc}
 use Rattle.path_sets.specs.Masks.{bit_of}
 
@@ -80,3 +80,13 @@ pub after_bit : (p b u l : ℕ) → p + b * 2 ^ l + u * 2 ^ (l + 1) ≡ p + with
 after_bit p b u l =
     let sum : p + b * 2 ^ l + u * (2 ^ l * 2) ≡ p + (b * 2 ^ l + u * (2 ^ l * 2)) = omega arith in
     ap (λ m. p + b * 2 ^ l + u * m) (next_pow l) ∙ sum ∙ ap (λ k. p + k) (bit_and_twice b u (2 ^ l))
+
+-- two bits at each level
+pub four_pow : (l : ℕ) → 4 ^ l ≡ 2 ^ (2 * l)
+four_pow l = let twice : 2 * l ≡ l + l = omega arith in mul-pow 2 2 l ∙ sym (pow-add 2 l l) ∙ ap (λ k. 2 ^ k) (sym twice)
+
+-- what is left at the next level
+pub next_rest : (v l : ℕ) → v / 4 ^ (l + 1) ≡ v / 4 ^ l / 4
+next_rest v l =
+    let same : l + 1 ≡ suc l = omega arith in
+    ap (λ k. v / 4 ^ k) same ∙ ap (λ k. v / k) (pow-suc 4 l) ∙ sym (div-div-eq-div-mul v (4 ^ l) 4)

@@ -7,6 +7,8 @@ use Rattle.std.proofs.lemmas.Option.{same_Some}
 use Rattle.path_sets.specs.declared.node.Node.{Node}
 use Rattle.path_sets.specs.declared.quad.Quad.{Quad}
 use Rattle.path_sets.specs.Walks.{IsGrown}
+use Rattle.path_sets.proofs.Places.{both}
+use Rattle.std.proofs.lemmas.Bool.{eqb-true}
 
 -- whether two nodes are the same
 abbrev pub node_eq : Node → Node → Bool
@@ -19,15 +21,30 @@ node_self x y is =
 
 -- whether two nodes of two bits are the same
 abbrev pub quad_eq : Quad → Quad → Bool
-quad_eq x y = nat_eq x.level y.level && (nat_eq x.none y.none && (nat_eq x.first y.first
+quad_eq x y = nat_eq x.points y.points && (nat_eq x.none y.none && (nat_eq x.first y.first
     && (nat_eq x.second y.second && nat_eq x.both y.both)))
 
-quad_self : (x y : Quad) → x ≡ y → quad_eq x y ≡ true
+pub quad_self : (x y : Quad) → x ≡ y → quad_eq x y ≡ true
 quad_self x y is =
-    ap₂ ◌&&◌ (eq-eqb x.level y.level (ap (λ (z : Quad). z.level) is))
+    ap₂ ◌&&◌ (eq-eqb x.points y.points (ap (λ (z : Quad). z.points) is))
     (ap₂ ◌&&◌ (eq-eqb x.none y.none (ap (λ (z : Quad). z.none) is))
     (ap₂ ◌&&◌ (eq-eqb x.first y.first (ap (λ (z : Quad). z.first) is))
     (ap₂ ◌&&◌ (eq-eqb x.second y.second (ap (λ (z : Quad). z.second) is)) (eq-eqb x.both y.both (ap (λ (z : Quad). z.both) is)))))
+
+-- nodes of two bits that compare as equal are the same
+pub same_quad : (x y : Quad) → quad_eq x y ≡ true → x ≡ y
+same_quad x y h =
+    let (points, rest) = both (nat_eq x.points y.points) _ h in
+    let (none, rest') = both (nat_eq x.none y.none) _ rest in
+    let (first, rest'') = both (nat_eq x.first y.first) _ rest' in
+    let (second, third) = both (nat_eq x.second y.second) (nat_eq x.both y.both) rest'' in
+    λ j. record {
+      points = eqb-true x.points y.points points j;
+      none = eqb-true x.none y.none none j;
+      first = eqb-true x.first y.first first j;
+      second = eqb-true x.second y.second second j;
+      both = eqb-true x.both y.both third j;
+    }
 
 module _ {X : Type 0} (eq : X → X → Bool) (self : (x y : X) → x ≡ y → eq x y ≡ true) where
   -- what stands in a list is found there

@@ -1,155 +1,247 @@
--- What is put together from the two halves of a batch.
-use Rattle.std.proofs.Common.{bit_and, bit_xor, ◌≡◌, ℕ, ◌+◌, ◌*◌, ◌<◌, ◌^◌, Bool, true, false, cond, ◌==◌, List, get_or}
-use Rattle.std.proofs.Common.{◌⊎◌, ◌↔◌, inl, inr, refl, sym, ap, ◌∙◌, arith, subst, true≢false, w64}
+-- Places put into a diagram, one run after another.
+use Rattle.std.proofs.Common.{bit_or, ◌≡◌, ℕ, zero, suc, ◌+◌, ◌/◌, ◌%◌, ◌^◌, ◌<◌, ◌≤◌, Bool, true, false, cond, max, ◌==◌}
+use Rattle.std.proofs.Common.{List, [], ◌∷◌, ◌++◌, take, drop, length, Some, slice_get, ◌⊎◌, ◌↔◌, inl, inr}
+use Rattle.std.proofs.Common.{refl, sym, ap, ◌∙◌, subst, arith, true≢false, is_some}
 use Rattle.std.specs.Prelude.{Result, Ok, Err, IfOk}
-use Rattle.std.proofs.lemmas.Nat.Bits.{bit_at-zero, bit_at-trailing_zeros}
+use Rattle.std.specs.Int.{bit_at}
+use Rattle.std.proofs.lemmas.Bool.{cases_eq}
+use Rattle.std.proofs.lemmas.Nat.Bits.{bit_at-lt, bit_at_or}
+use Rattle.std.proofs.lemmas.Option.{same_Some}
+use Rattle.language.specs.Flow.{Member}
+use Rattle.language.proofs.Members.{member_append, member_left, member_right}
 use Rattle.path_sets.specs.declared.quad.Quad.{Quad}
+use Rattle.path_sets.specs.declared.place.Place.{Place}
 use Rattle.path_sets.specs.Masks.{bit_of}
 use Rattle.path_sets.specs.Walks.{IsNumber}
-use Rattle.path_sets.specs.Quads.{holds, KeepQuads, turn}
-use Rattle.path_sets.specs.Diagrams.{Joins, Listed, Unites}
-use Rattle.path_sets.proofs.Walks.{at_leaf}
-use Rattle.path_sets.proofs.TwoBits.{by_bits}
-use Rattle.path_sets.proofs.Lists.{listed_ones, ones_listed, listed_zeros, zeros_listed}
+use Rattle.path_sets.specs.Quads.{AreInside, Given, Joins, KeepQuads, points_of, sees, turn}
+use Rattle.path_sets.proofs.Shifted.{next_rest}
+use Rattle.path_sets.proofs.TwoBits.{further, here_sees, turn_inside, turn_same}
 
--- what holds of each value holds of the one that is answered
+-- where something is left of a word, there is a next level
+pub not_last : (v l : ℕ) → v < 2 ^ 64 → l ≤ 32 → (v / 4 ^ l ≡ 0 → ⊥) → l + 1 ≤ 32
+not_last v l fits most some = elim (cases_eq l 32) [
+  | inl is ↦ absurd (some (ap (λ k. v / 4 ^ k) is ∙ omega (arith, fits)))
+  | inr ne ↦ omega (arith, most, ne)
+]
+
+-- what follows where a call succeeds
 pub of_ok : {T E : Type 0} (P Q : T → Type 0) (r : Result T E) → ((x : T) → P x → Q x) → IfOk r P → IfOk r Q
 of_ok P Q (Ok x) f h = f x h
 of_ok P Q (Err e) f h = tt
 
-module _ (columns : List ℕ) (mask level : ℕ) (ns : List Quad) (n : ℕ) where
-  -- an empty mask lists nothing
-  pub unites_none : mask ≡ 0 → Unites columns mask level ns n ns n
-  unites_none empty v = (
-    λ h. inl h,
-    λ h. elim h [
-      | inl was ↦ was
-      | inr (i, set, same) ↦ absurd (true≢false (sym set ∙ ap (λ m. bit_of m i) empty ∙ ap (λ x. x == 1) (bit_at-zero i)))
-    ],
-  )
+-- a list begins with its first item
+pub first_and_rest : {A : Type 0} (xs : List A) (x : A) → slice_get xs 0 ≡ Some x → xs ≡ x ∷ drop 1 xs
+first_and_rest [] x h = absurd (true≢false (sym (ap is_some h)))
+first_and_rest (y ∷ ys) x h = ap (λ z. z ∷ ys) (same_Some y x h)
 
-  all_there : (v : ℕ) → holds ns 1 v ≡ true
-  all_there v = at_leaf turn ns 1 v (omega arith)
+-- the first items stand at the first indexes
+pub in_first : {A : Type 0} (n : ℕ) (xs : List A) (x : A) → Member x (take n xs) → (i : ℕ) × (i < n) × (slice_get xs i ≡ Some x)
+in_first zero xs x h = elim h [ ]
+in_first (suc n) [] x h = elim h [ ]
+in_first (suc n) (y ∷ ys) x (inl is) = (zero, omega arith, ap Some (sym is))
+in_first (suc n) (y ∷ ys) x (inr later) = let r = in_first n ys x later in let less = r.1 in (suc r.0, omega (arith, less), r.2)
 
-  -- to all valuations nothing is new
-  pub unites_all : n ≡ 1 → Unites columns mask level ns n ns n
-  unites_all one v = (λ h. inl h, λ h. ap (λ k. holds ns k v) one ∙ all_there v)
+-- one fact in the place of another
+pub iff_on : (A B C : Type 0) → A ↔ B → B ↔ C → A ↔ C
+iff_on A B C f g = (λ a. g.0 (f.0 a), λ c. f.1 (g.1 c))
 
-  -- behind the last bit a mask lists each valuation, if it is not empty
-  pub unites_last : level ≡ 32 → (mask ≡ 0 → ⊥) → mask < 2 ^ 64 → Unites columns mask level ns n ns 1
-  unites_last last some_of fits v =
-      let found = bit_at-trailing_zeros w64 mask (omega (arith, some_of)) fits in
-      (λ h. inr (_, ap (λ x. x == 1) found.1, λ l least most. absurd (omega (arith, last, least, most))), λ h. all_there v)
+larger_bit : (a b : ℕ) → a < 2 → b < 2 → (max a b == 1) ≡ cond (a == 1) true (b == 1)
+larger_bit zero zero small small' = refl
+larger_bit zero (suc zero) small small' = refl
+larger_bit zero (suc (suc b)) small small' = absurd (omega (arith, small'))
+larger_bit (suc zero) zero small small' = refl
+larger_bit (suc zero) (suc zero) small small' = refl
+larger_bit (suc zero) (suc (suc b)) small small' = absurd (omega (arith, small'))
+larger_bit (suc (suc a)) b small small' = absurd (omega (arith, small))
 
--- The two halves of a batch by one bit, each put into the half of a set, are the batch put into the set.
-module _ (columns : List ℕ) (mask level : ℕ) (small : level < 64) (old new old1 old0 new1 new0 : ℕ → Bool)
-    (split : (v : ℕ) → old v ≡ cond (bit_of v level) (old1 v) (old0 v))
-    (joined : (v : ℕ) → new v ≡ cond (bit_of v level) (new1 v) (new0 v))
-    (lows : Joins columns (bit_xor mask (bit_and mask (get_or columns level 0))) (level + 1) old0 new0)
-    (highs : Joins columns (bit_and mask (get_or columns level 0)) (level + 1) old1 new1) where
-  abbrev Both : ℕ → Type 0
-  Both v = (new v ≡ true) ↔ ((old v ≡ true) ⊎ Listed columns mask level v)
+-- the points of two masks
+either_mask : (m w i : ℕ) → (bit_of (bit_or m w) i ≡ true) ↔ ((bit_of m i ≡ true) ⊎ (bit_of w i ≡ true))
+either_mask m w i =
+    let is : bit_of (bit_or m w) i ≡ cond (bit_of m i) true (bit_of w i) =
+    ap (λ x. x == 1) (bit_at_or m w i) ∙ larger_bit (bit_at m i) (bit_at w i) (bit_at-lt m i) (bit_at-lt w i) in
+    by (bit_of m i) (bit_of w i) (bit_of (bit_or m w) i) is
+  where
+    by : (a b c : Bool) → c ≡ cond a true b → (c ≡ true) ↔ ((a ≡ true) ⊎ (b ≡ true))
+    by true b c is = (λ h. inl refl, λ h. is)
+    by false b c is = (λ h. inr (sym is ∙ h), λ h. elim h [ inl never ↦ absurd (true≢false (sym never)) | inr set ↦ is ∙ set ])
 
-  ones : (v : ℕ) → bit_of v level ≡ true → Both v
-  ones v one =
-      let after : new v ≡ new1 v = joined v ∙ ap (λ b. cond b (new1 v) (new0 v)) one in
-      let before : old v ≡ old1 v = split v ∙ ap (λ b. cond b (old1 v) (old0 v)) one in (
-        λ h. elim ((highs v).0 (sym after ∙ h)) [
-          | inl was ↦ inl (before ∙ was)
-          | inr more ↦ inr (ones_listed columns mask level v small one more)
-        ],
-        λ h. after ∙ (highs v).1 (elim h [
-          | inl was ↦ inl (sym before ∙ was)
-          | inr more ↦ inr (listed_ones columns mask level v small one more)
-        ]),
-      )
-
-  zeros : (v : ℕ) → bit_of v level ≡ false → Both v
-  zeros v none =
-      let after : new v ≡ new0 v = joined v ∙ ap (λ b. cond b (new1 v) (new0 v)) none in
-      let before : old v ≡ old0 v = split v ∙ ap (λ b. cond b (old1 v) (old0 v)) none in (
-        λ h. elim ((lows v).0 (sym after ∙ h)) [
-          | inl was ↦ inl (before ∙ was)
-          | inr more ↦ inr (zeros_listed columns mask level v small none more)
-        ],
-        λ h. after ∙ (lows v).1 (elim h [
-          | inl was ↦ inl (sym before ∙ was)
-          | inr more ↦ inr (listed_zeros columns mask level v small none more)
-        ]),
-      )
-
-  pub joins_both : Joins columns mask level old new
-  joins_both v = by (bit_of v level) refl
-    where
-      by : (b : Bool) → bit_of v level ≡ b → Both v
-      by true e = ones v e
-      by false e = zeros v e
-
--- what is put in between stays, with more nodes before and after
-pub unites_on : (columns : List ℕ) (mask level : ℕ) (n0 n1 n2 n3 : List Quad) (n r : ℕ) → KeepQuads n0 n1 → IsNumber n0 n
-    → KeepQuads n2 n3
-    → IsNumber n2 r
-    → Unites columns mask level n1 n n2 r → Unites columns mask level n0 n n3 r
-unites_on columns mask level n0 n1 n2 n3 n r before inside after reached is v = (
-  λ h. elim ((is v).0 (sym (after.same r v reached) ∙ h)) [
-    | inl was ↦ inl (sym (before.same n v inside) ∙ was)
-    | inr listed ↦ inr listed
+-- the points of a place and of those behind it
+first_given : (place : Place) (mask : ℕ) (more : List (Place × ℕ)) (l v i : ℕ) → Given ((place, mask) ∷ more) l v i
+    ↔ (((place.values / 4 ^ l ≡ v) × (bit_of mask i ≡ true)) ⊎ Given more l v i)
+first_given place mask more l v i = (
+  λ h. let (c, m, is, set) = h in elim m [
+    | inl same ↦ inl (ap (λ (d : Place × ℕ). d.0.values / 4 ^ l) (sym same) ∙ is, ap (λ (d : Place × ℕ). bit_of d.1 i) (sym same) ∙ set)
+    | inr later ↦ inr (c, later, is, set)
   ],
-  λ h. after.same r v reached ∙ (is v).1 (elim h [
-    | inl was ↦ inl (before.same n v inside ∙ was)
-    | inr listed ↦ inr listed
-  ]),
+  λ h. elim h [
+    | inl own ↦ ((place, mask), inl refl, own.0, own.1)
+    | inr later ↦ let (c, m, is, set) = later in (c, inr m, is, set)
+  ],
 )
 
--- The four quarters of a batch by two bits, each put into a child's set, are the batch put into the set.
-module _ (columns : List ℕ) (mask level : ℕ) (small : level < 32) (n0 n1 n2 : List Quad) (n r : ℕ) (x y : Quad)
-    (own : x.level ≡ level) (own' : y.level ≡ level)
-    (split : (v : ℕ) → holds n0 n v ≡ holds n0 (turn x v) v) (joined : (v : ℕ) → holds n2 r v ≡ holds n1 (turn y v) v) where
-  abbrev pub one : ℕ
-  one = bit_and mask (get_or columns (2 * level) 0)
+-- those of a run and of the places behind it
+pub run_given : (run more : List (Place × ℕ)) (l v i : ℕ) → Given (run ++ more) l v i ↔ (Given run l v i ⊎ Given more l v i)
+run_given run more l v i = (
+  λ h. let (c, m, is, set) = h in elim (member_append c run more m) [
+    | inl own ↦ inl (c, own, is, set)
+    | inr later ↦ inr (c, later, is, set)
+  ],
+  λ h. elim h [
+    | inl own ↦ let (c, m, is, set) = own in (c, member_left c run more m, is, set)
+    | inr later ↦ let (c, m, is, set) = later in (c, member_right c run more m, is, set)
+  ],
+)
 
-  abbrev pub other : ℕ
-  other = bit_xor mask one
+-- a place of whose valuation nothing is left gives its points to the node
+module _ (ns : List Quad) (x : Quad) (place : Place) (mask l : ℕ) (more : List (Place × ℕ)) (done : place.values / 4 ^ l ≡ 0) where
+  abbrev pub marked : Quad
+  marked = record { points = bit_or x.points mask; none = x.none; first = x.first; second = x.second; both = x.both }
 
-  abbrev pub next : ℕ → ℕ
-  next m = bit_and m (get_or columns (2 * level + 1) 0)
+  node_marked : (v i : ℕ) → (bit_of (sees ns marked v) i ≡ true)
+      ↔ ((bit_of (sees ns x v) i ≡ true) ⊎ ((place.values / 4 ^ l ≡ v) × (bit_of mask i ≡ true)))
+  node_marked v i = elim (cases_eq v 0) [
+    | inl is ↦
+        let new : sees ns marked v ≡ bit_or x.points mask = here_sees ns marked v is in
+        let old : sees ns x v ≡ x.points = here_sees ns x v is in
+        let both = either_mask x.points mask i in (
+          λ h. elim (both.0 (ap (λ m. bit_of m i) (sym new) ∙ h)) [
+            | inl was ↦ inl (ap (λ m. bit_of m i) old ∙ was)
+            | inr set ↦ inr (done ∙ sym is, set)
+          ],
+          λ h. ap (λ m. bit_of m i) new ∙ both.1 (elim h [
+            | inl was ↦ inl (ap (λ m. bit_of m i) (sym old) ∙ was)
+            | inr own ↦ inr own.1
+          ]),
+        )
+    | inr ne ↦
+        let same : sees ns marked v ≡ sees ns x v = further ns marked v ne ∙ sym (further ns x v ne) in (
+          λ h. inl (ap (λ m. bit_of m i) (sym same) ∙ h),
+          λ h. elim h [
+            | inl was ↦ ap (λ m. bit_of m i) same ∙ was
+            | inr own ↦ absurd (ne (sym own.0 ∙ done))
+          ],
+        )
+  ]
 
-  abbrev pub rest : ℕ → ℕ
-  rest m = bit_xor m (next m)
+  pub stops : (v i : ℕ) → ((bit_of (sees ns marked v) i ≡ true) ⊎ Given more l v i)
+      ↔ ((bit_of (sees ns x v) i ≡ true) ⊎ Given ((place, mask) ∷ more) l v i)
+  stops v i =
+      let own = node_marked v i in
+      let all = first_given place mask more l v i in (
+        λ h. elim h [
+          | inl set ↦ elim (own.0 set) [ inl was ↦ inl was | inr first ↦ inr (all.1 (inl first)) ]
+          | inr later ↦ inr (all.1 (inr later))
+        ],
+        λ h. elim h [
+          | inl was ↦ inl (own.1 (inl was))
+          | inr given ↦ elim (all.0 given) [ inl first ↦ inl (own.1 (inr first)) | inr later ↦ inr later ]
+        ],
+      )
 
-  -- a set's half by the first bit, of two quarters by the second
-  abbrev half : List Quad → ℕ → ℕ → ℕ → Bool
-  half ns high low v = cond (bit_of v (2 * level + 1)) (holds ns high v) (holds ns low v)
+-- a run of places whose valuations go on alike gives its points to the child that they go on to
+module _ (ns ms : List Quad) (x y : Quad) (run more : List (Place × ℕ)) (l rest child : ℕ) (keeps : KeepQuads ns ms)
+    (inside : AreInside ns x) (some : rest ≡ 0 → ⊥)
+    (alike : (c : Place × ℕ) → Member c run → (c.0.values / 4 ^ l % 4 ≡ rest % 4) × (c.0.values / 4 ^ l ≡ 0 → ⊥))
+    (joins : Joins run (l + 1) (points_of ns (turn x rest)) (points_of ms child))
+    (points : y.points ≡ x.points) (here : (v : ℕ) → v % 4 ≡ rest % 4 → turn y v ≡ child)
+    (others : (v : ℕ) → (v % 4 ≡ rest % 4 → ⊥) → turn y v ≡ turn x v) where
+  -- the run's points at a valuation are those at what is left of it
+  below_run : (v i : ℕ) → v % 4 ≡ rest % 4 → (v ≡ 0 → ⊥) → Given run (l + 1) (v / 4) i ↔ Given run l v i
+  below_run v i way ne = (
+    λ h.
+        let (c, m, is, set) = h in
+        let next = sym (next_rest c.0.values l) ∙ is in
+        let own = (alike c m).0 ∙ sym way in
+        (c, m, omega (arith, next, own), set),
+    λ h. let (c, m, is, set) = h in (c, m, next_rest c.0.values l ∙ ap (λ k. k / 4) is, set),
+  )
 
-  pub unites_four : Unites columns (rest other) (level + 1) n0 x.none n1 y.none
-      → Unites columns (rest one) (level + 1) n0 x.first n1 y.first
-      → Unites columns (next other) (level + 1) n0 x.second n1 y.second
-      → Unites columns (next one) (level + 1) n0 x.both n1 y.both
-      → Unites columns mask level n0 n n2 r
-  unites_four none first second both =
-      joins_both columns mask (2 * level) (omega (arith, small)) (holds n0 n) (holds n2 r) (half n0 x.both x.first)
-      (half n0 x.second x.none)
-      (half n1 y.both y.first) (half n1 y.second y.none)
-      (λ v. split v ∙ at_level n0 x own v)
-      (λ v. joined v ∙ at_level n1 y own' v)
-      (halves other x.second x.none y.second y.none none second)
-      (halves one x.both x.first y.both y.first first both)
+  node_led : (v i : ℕ) → (bit_of (sees ms y v) i ≡ true) ↔ ((bit_of (sees ns x v) i ≡ true) ⊎ Given run l v i)
+  node_led v i = elim (cases_eq v 0) [
+    | inl is ↦
+        let same : sees ms y v ≡ sees ns x v = here_sees ms y v is ∙ points ∙ sym (here_sees ns x v is) in (
+          λ h. inl (ap (λ m. bit_of m i) (sym same) ∙ h),
+          λ h. elim h [
+            | inl was ↦ ap (λ m. bit_of m i) same ∙ was
+            | inr given ↦ let (c, m, at, set) = given in absurd ((alike c m).1 (at ∙ is))
+          ],
+        )
+    | inr ne ↦ elim (cases_eq (v % 4) (rest % 4)) [
+      | inl way ↦
+          let new : sees ms y v ≡ points_of ms child (v / 4) = further ms y v ne ∙ ap (λ n. points_of ms n (v / 4)) (here v way) in
+          let old : sees ns x v ≡ points_of ns (turn x rest) (v / 4) =
+          further ns x v ne ∙ ap (λ n. points_of ns n (v / 4)) (turn_same x v rest way) in
+          let below = below_run v i way ne in (
+            λ h. elim ((joins (v / 4) i).0 (ap (λ m. bit_of m i) (sym new) ∙ h)) [
+              | inl was ↦ inl (ap (λ m. bit_of m i) old ∙ was)
+              | inr given ↦ inr (below.0 given)
+            ],
+            λ h. ap (λ m. bit_of m i) new ∙ (joins (v / 4) i).1 (elim h [
+              | inl was ↦ inl (ap (λ m. bit_of m i) (sym old) ∙ was)
+              | inr given ↦ inr (below.1 given)
+            ]),
+          )
+      | inr other ↦
+          let same : sees ms y v ≡ sees ns x v =
+          further ms y v ne ∙ ap (λ n. points_of ms n (v / 4)) (others v other)
+          ∙ keeps.same (turn x v) (v / 4) (turn_inside ns x v inside) ∙ sym (further ns x v ne) in (
+            λ h. inl (ap (λ m. bit_of m i) (sym same) ∙ h),
+            λ h. elim h [
+              | inl was ↦ ap (λ m. bit_of m i) same ∙ was
+              | inr given ↦ let (c, m, at, set) = given in absurd (other (ap (λ k. k % 4) (sym at) ∙ (alike c m).0))
+            ],
+          )
+    ]
+  ]
+
+  -- the node's children are still numbers
+  pub led_inside : AreInside ms x → IsNumber ms child → AreInside ms y
+  led_inside within own = (each 0, each 1, each 2, each 3)
     where
-      at_level : (ns : List Quad) (z : Quad) → z.level ≡ level → (v : ℕ) → holds ns (turn z v) v
-          ≡ cond (bit_of v (2 * level)) (half ns z.both z.first v) (half ns z.second z.none v)
-      at_level ns z same v =
-          by_bits (λ k. holds ns k v) z v
-          ∙ ap (λ l. cond (bit_of v (2 * l)) (cond (bit_of v (2 * l + 1)) (holds ns z.both v) (holds ns z.first v))
-          (cond (bit_of v (2 * l + 1)) (holds ns z.second v) (holds ns z.none v))) same
+      each : (v : ℕ) → IsNumber ms (turn y v)
+      each v = elim (cases_eq (v % 4) (rest % 4)) [
+        | inl way ↦ subst (IsNumber ms) (sym (here v way)) own
+        | inr other ↦ subst (IsNumber ms) (sym (others v other)) (turn_inside ms x v within)
+      ]
 
-      later : (m a b : ℕ) → Unites columns m (level + 1) n0 a n1 b → Joins columns m (2 * level + 1 + 1) (holds n0 a) (holds n1 b)
-      later m a b = let same : 2 * (level + 1) ≡ 2 * level + 1 + 1 = omega arith in subst
-          (λ l. Joins columns m l (holds n0 a) (holds n1 b)) same
+  pub goes_on : (v i : ℕ) → ((bit_of (sees ms y v) i ≡ true) ⊎ Given more l v i)
+      ↔ ((bit_of (sees ns x v) i ≡ true) ⊎ Given (run ++ more) l v i)
+  goes_on v i =
+      let own = node_led v i in
+      let all = run_given run more l v i in (
+        λ h. elim h [
+          | inl set ↦ elim (own.0 set) [ inl was ↦ inl was | inr first ↦ inr (all.1 (inl first)) ]
+          | inr later ↦ inr (all.1 (inr later))
+        ],
+        λ h. elim h [
+          | inl was ↦ inl (own.1 (inl was))
+          | inr given ↦ elim (all.0 given) [ inl first ↦ inl (own.1 (inr first)) | inr later ↦ inr later ]
+        ],
+      )
 
-      halves : (m high low high' low' : ℕ) → Unites columns (rest m) (level + 1) n0 low n1 low'
-          → Unites columns (next m) (level + 1) n0 high n1 high'
-          → Joins columns m (2 * level + 1) (half n0 high low) (half n1 high' low')
-      halves m high low high' low' lows highs =
-          joins_both columns m (2 * level + 1) (omega (arith, small)) (half n0 high low) (half n1 high' low') (holds n0 high)
-          (holds n0 low) (holds n1 high') (holds n1 low') (λ v. refl) (λ v. refl) (later (rest m) low low' lows)
-          (later (next m) high high' highs)
+-- the first places go on alike: the first of all, and those behind it
+pub all_alike : (left : List (Place × ℕ)) (n l rest : ℕ) (first : Place × ℕ) → slice_get left 0 ≡ Some first
+    → rest ≡ first.0.values / 4 ^ l
+    → (rest ≡ 0 → ⊥)
+    → ((i : ℕ) (c : Place × ℕ) → 0 < i → i < n → slice_get left i ≡ Some c
+    → (c.0.values / 4 ^ l % 4 ≡ rest % 4) × (c.0.values / 4 ^ l ≡ 0 → ⊥))
+    → (c : Place × ℕ) → Member c (take n left)
+    → (c.0.values / 4 ^ l % 4 ≡ rest % 4) × (c.0.values / 4 ^ l ≡ 0 → ⊥)
+all_alike left n l rest first at is some all c m =
+    let (i, less, there) = in_first n left c m in elim (cases_eq i 0) [
+      | inl zeroth ↦
+          let same : first ≡ c = same_Some first c (sym at ∙ ap (slice_get left) (sym zeroth) ∙ there) in
+          let own : rest ≡ c.0.values / 4 ^ l = is ∙ ap (λ (d : Place × ℕ). d.0.values / 4 ^ l) same in
+          (ap (λ k. k % 4) (sym own), λ none. some (own ∙ none))
+      | inr later ↦ all i c (omega (arith, later)) less there
+    ]
+
+-- where no place is left, all are put in
+pub all_put : (left : List (Place × ℕ)) → length left ≡ 0 → (l v i new seen : ℕ) → new ≡ seen → (Q : Type 0)
+    → ((bit_of seen i ≡ true) ⊎ Given left l v i) ↔ Q
+    → (bit_of new i ≡ true) ↔ Q
+all_put [] none l v i new seen is Q joins = (
+  λ h. joins.0 (inl (ap (λ m. bit_of m i) (sym is) ∙ h)),
+  λ q. elim (joins.1 q) [ inl set ↦ ap (λ m. bit_of m i) is ∙ set | inr given ↦ elim given.1 [ ] ],
+)
+all_put (c ∷ cs) none l v i new seen is Q joins = absurd (omega (arith, none))

@@ -112,7 +112,7 @@ same_test true b f g = sym (f refl)
 same_test false true f g = g refl
 same_test false false f g = refl
 
-module _ (nodes : List Quad) (rows : List (Row × List ℕ)) (masks : List (Place × ℕ)) where
+module _ (nodes : List Quad) (rows : List (Row × ℕ)) (masks : List (Place × ℕ)) where
   abbrev pub Has : Triple → Type 0
   Has t = (merged_has nodes rows t ≡ true) ⊎ Member t (edges masks)
 
@@ -124,7 +124,8 @@ module _ (nodes : List Quad) (rows : List (Row × List ℕ)) (masks : List (Plac
 
   pub is_had : (t : Triple) → Has t → has_edge nodes rows masks t ≡ true
   is_had t (inl in_sets) = or_left (merged_has nodes rows t) (list_any (triple_eq t) (edges masks)) in_sets
-  is_had t (inr gathered) = or_right (merged_has nodes rows t) (list_any (triple_eq t) (edges masks)) (member_any t (edges masks) gathered)
+  is_had t (inr gathered) =
+      or_right (merged_has nodes rows t) (list_any (triple_eq t) (edges masks)) (member_any t (edges masks) gathered)
 
   -- a path edge of words is a member just where it is had
   pub member_is : (t : Triple) → Member t (all_edges nodes rows masks) → Has t
@@ -147,30 +148,31 @@ values_fit t h =
     let same : t.values ≡ v = ap (λ (k : Triple). k.values) is in
     subst (λ k. k < 2 ^ 64) (sym same) small
 
-module _ (ns ms : List Quad) (rs ss : List (Row × List ℕ)) (masks masks' : List (Place × ℕ)) where
+module _ (ns ms : List Quad) (rs ss : List (Row × ℕ)) (masks masks' : List (Place × ℕ)) where
   -- sets that have just the same path edges have the same members
-  pub same_members : ((t : Triple) → t.values < 2 ^ 64 → Has ns rs masks t ↔ Has ms ss masks' t)
+  pub same_members : ((t : Triple) → Has ns rs masks t ↔ Has ms ss masks' t)
       → all_edges ms ss masks' ≡ all_edges ns rs masks
   same_members h =
       same_kept (has_edge ms ss masks') (has_edge ns rs masks) universe
-      (λ t m. let f = h t (values_fit t m) in same_test (has_edge ms ss masks' t) (has_edge ns rs masks t)
-      (λ had. is_had ns rs masks t (f.1 (has_is ms ss masks' t had))) (λ had. is_had ms ss masks' t (f.0 (has_is ns rs masks t had))))
+      (λ t m. let f = h t in same_test (has_edge ms ss masks' t) (has_edge ns rs masks t)
+      (λ had. is_had ns rs masks t (f.1 (has_is ms ss masks' t had)))
+      (λ had. is_had ms ss masks' t (f.0 (has_is ns rs masks t had))))
 
   -- path edges that go from those gathered into the sets are still there
-  pub members_stay : Takes (λ t. t.values < 2 ^ 64 → Member t (edges masks)) ns ms rs ss
+  pub members_stay : Takes (λ t. Member t (edges masks)) ns ms rs ss
       → ((t : Triple) → Member t (edges masks') → Member t (edges masks))
-      → ((t : Triple) → t.values < 2 ^ 64 → Member t (edges masks) → (merged_has ms ss t ≡ true) ⊎ Member t (edges masks'))
+      → ((t : Triple) → Member t (edges masks) → (merged_has ms ss t ≡ true) ⊎ Member t (edges masks'))
       → all_edges ms ss masks' ≡ all_edges ns rs masks
-  members_stay takes fewer all = same_members (λ t fits. (
-    λ h. elim h [ inl was ↦ inl (takes.kept t was) | inr gathered ↦ all t fits gathered ],
+  members_stay takes fewer all = same_members (λ t. (
+    λ h. elim h [ inl was ↦ inl (takes.kept t was) | inr gathered ↦ all t gathered ],
     λ h. elim h [
-      | inl merged ↦ elim (takes.sound t merged) [ inl was ↦ inl was | inr new ↦ inr (new fits) ]
+      | inl merged ↦ elim (takes.sound t merged) [ inl was ↦ inl was | inr new ↦ inr new ]
       | inr gathered ↦ inr (fewer t gathered)
     ],
   ))
 
 -- one more path edge among those gathered
-module _ (ns : List Quad) (rs : List (Row × List ℕ)) (masks masks' : List (Place × ℕ)) (x : Triple) (fits : Fits x)
+module _ (ns : List Quad) (rs : List (Row × ℕ)) (masks masks' : List (Place × ℕ)) (x : Triple) (fits : Fits x)
     (more : (t : Triple) → Member t (edges masks') ↔ ((t ≡ x) ⊎ Member t (edges masks))) where
   pub has_more : (t : Triple) → Has ns rs masks' t ↔ ((t ≡ x) ⊎ Has ns rs masks t)
   has_more t = (
@@ -212,7 +214,7 @@ module _ (ns : List Quad) (rs : List (Row × List ℕ)) (masks masks' : List (Pl
       (λ had. is_had ns rs masks' t ((has_more t).1 (inr (has_is ns rs masks t had)))))
 
 -- sets with nothing have no members
-pub no_members : (ns : List Quad) (rs : List (Row × List ℕ)) (masks : List (Place × ℕ))
+pub no_members : (ns : List Quad) (rs : List (Row × ℕ)) (masks : List (Place × ℕ))
     → ((t : Triple) → merged_has ns rs t ≡ false)
     → edges masks ≡ []
     → all_edges ns rs masks ≡ []

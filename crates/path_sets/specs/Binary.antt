@@ -1,24 +1,26 @@
--- Nodes of one bit in the place of those of two.
-use Rattle.std.specs.Prelude.{◌≡◌, ◌+◌, ◌*◌, ◌<◌, ◌≤◌, ℕ, List, get_or, length}
+-- The set of valuations that are at one point, by nodes of one bit.
+use Rattle.std.specs.Prelude.{◌≡◌, ◌*◌, ◌/◌, ◌^◌, ◌<◌, ◌≤◌, ℕ, Bool, ◌&&◌, nat_eq, List, Some}
+use Rattle.std.specs.Bool.{beq}
+use Rattle.std.specs.Map.{lookup}
 use Rattle.path_sets.specs.declared.node.Node.{Node}
 use Rattle.path_sets.specs.declared.quad.Quad.{Quad}
+use Rattle.path_sets.specs.declared.binary.Asked.{Asked}
 use Rattle.path_sets.specs.Walks.{IsNumber}
-use Rattle.path_sets.specs.Quads.{holds, pair_of}
+use Rattle.path_sets.specs.Quads.{is_at}
 use Rattle.path_sets.specs.Diagrams.{accepts, level_of}
 
--- the number that a number has become has nodes of later levels alone
-abbrev pub IsReady : List Node → List ℕ → ℕ → ℕ → Type 0
-IsReady nodes numbers level n =
-    (n < length numbers) × IsNumber nodes (get_or numbers n 0) × (2 * level + 1 < level_of nodes (get_or numbers n 0))
+-- whether the same set is asked for
+abbrev pub asked_eq : Asked → Asked → Bool
+asked_eq x y = nat_eq x.number y.number && (beq x.zero y.zero && nat_eq x.level y.level)
 
--- those of a node's four children have
-abbrev pub AreReady : List Node → List ℕ → Quad → Type 0
-AreReady nodes numbers x =
-    IsReady nodes numbers x.level x.none × IsReady nodes numbers x.level x.first × IsReady nodes numbers x.level x.second
-    × IsReady nodes numbers x.level x.both
+-- A number of nodes of one bit has the set that is asked for: a valuation is in it where it is at the point by what is left of it
+-- at the level; and no bit before that level is tested.
+pub record Answers (quads : List Quad) (point : ℕ) (nodes : List Node) (asked : Asked) (n : ℕ) : Type 0 where
+  pub inside : IsNumber nodes n
+  pub deep : 2 * asked.level ≤ level_of nodes n
+  pub same : (v : ℕ) → v < 2 ^ 64 → accepts nodes n v ≡ is_at quads asked.number asked.zero point (v / 4 ^ asked.level)
 
--- a number of nodes of one bit has the set of a number of nodes of two, and tests no bit before those
-pub record IsTurned (quads : List Quad) (nodes : List Node) (n m : ℕ) : Type 0 where
-  pub inside : IsNumber nodes m
-  pub deep : 2 * pair_of quads n ≤ level_of nodes m
-  pub same : (v : ℕ) → accepts nodes m v ≡ holds quads n v
+-- the numbers that were found have the sets that were asked for
+abbrev pub AreFound : List Quad → ℕ → List Node → List (Asked × ℕ) → Type 0
+AreFound quads point nodes found =
+    (asked : Asked) (n : ℕ) → lookup (asked_eq asked) found ≡ Some n → Answers quads point nodes asked n

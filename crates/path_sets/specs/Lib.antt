@@ -2,7 +2,6 @@ pub mod Triples
 pub mod Inserts
 pub mod Masks
 pub mod Edges
-pub mod Few
 pub mod Walks
 pub mod Quads
 pub mod Diagrams

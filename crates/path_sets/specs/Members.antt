@@ -27,9 +27,9 @@ abbrev pub triple_eq : Triple → Triple → Bool
 triple_eq x y = nat_eq x.entry y.entry && (nat_eq x.point y.point && nat_eq x.values y.values)
 
 -- whether a path edge is in the sets, or among those that are gathered
-abbrev pub has_edge : List Quad → List (Row × List ℕ) → List (Place × ℕ) → Triple → Bool
+abbrev pub has_edge : List Quad → List (Row × ℕ) → List (Place × ℕ) → Triple → Bool
 has_edge nodes rows masks t = merged_has nodes rows t || list_any (triple_eq t) (edges masks)
 
 -- all of these path edges
-abbrev pub all_edges : List Quad → List (Row × List ℕ) → List (Place × ℕ) → List Triple
+abbrev pub all_edges : List Quad → List (Row × ℕ) → List (Place × ℕ) → List Triple
 all_edges nodes rows masks = filter (has_edge nodes rows masks) universe

@@ -1,53 +1,66 @@
--- Decision diagrams whose nodes test two bits at once.
-use Rattle.std.specs.Prelude.{◌≡◌, ◌+◌, ◌*◌, ◌<◌, ℕ, Bool, cond, List, Some, slice_get}
+-- Diagrams that give each valuation a mask of points, two bits of the valuation at each node.
+use Rattle.std.specs.Prelude.{◌≡◌, ◌≢◌, ◌+◌, ◌/◌, ◌%◌, ◌^◌, ◌<◌, ◌≤◌, ◌↔◌, ◌⊎◌, ℕ, zero, suc, Bool, true, cond, nat_eq}
+use Rattle.std.specs.Prelude.{List, Some, slice_get, length}
+use Rattle.std.specs.Option.{option_map_or}
+use Rattle.language.specs.Flow.{Member}
 use Rattle.path_sets.specs.declared.quad.Quad.{Quad}
+use Rattle.path_sets.specs.declared.place.Place.{Place}
 use Rattle.path_sets.specs.Masks.{bit_of}
-use Rattle.path_sets.specs.Walks.{reaches, level_at, IsNumber, Preserves}
+use Rattle.path_sets.specs.Walks.{node_at, IsNumber}
 
--- the number that a valuation goes on to from a node, by its two bits
+-- the number that a valuation goes on to from a node, by its two low bits
 abbrev pub turn : Quad → ℕ → ℕ
-turn x v = cond (bit_of v (2 * x.level))
-    (cond (bit_of v (2 * x.level + 1)) x.both x.first)
-    (cond (bit_of v (2 * x.level + 1)) x.second x.none)
+turn x v =
+    cond (nat_eq (v % 4) 0) x.none (cond (nat_eq (v % 4) 1) x.first (cond (nat_eq (v % 4) 2) x.second x.both))
 
--- whether a valuation is in the set of a number
-abbrev pub holds : List Quad → ℕ → ℕ → Bool
-holds quads n v = reaches turn quads n v
+-- the points that a valuation comes to from a number, in less than so many steps: those of the node where nothing of it is left
+unfoldable pub walk_to : List Quad → ℕ → ℕ → ℕ → ℕ
+walk_to quads zero n v = 0
+walk_to quads (suc most) n v =
+    option_map_or (λ x. cond (nat_eq v 0) x.points (walk_to quads most (turn x v) (v / 4))) (node_at quads n) 0
 
--- the level whose two bits a number's node tests; behind the last for 0 and 1, which have none
-abbrev pub pair_of : List Quad → ℕ → ℕ
-pair_of quads n = level_at (λ x. x.level) 32 quads n
+-- the points that a valuation is at by the diagram of a number
+unfoldable pub points_of : List Quad → ℕ → ℕ → ℕ
+points_of quads n v = walk_to quads (suc v) n v
+
+-- the points that a valuation is at by a node
+abbrev pub sees : List Quad → Quad → ℕ → ℕ
+sees quads x v = cond (nat_eq v 0) x.points (points_of quads (turn x v) (v / 4))
+
+-- whether a valuation is at a point by the diagram of a number; of the valuation 0 it is told
+abbrev pub is_at : List Quad → ℕ → Bool → ℕ → ℕ → Bool
+is_at quads n nought bit v = cond (nat_eq v 0) nought (bit_of (points_of quads n v) bit)
 
 -- a node's children are numbers
 abbrev pub AreInside : List Quad → Quad → Type 0
 AreInside quads x = (IsNumber quads x.none) × (IsNumber quads x.first) × (IsNumber quads x.second) × (IsNumber quads x.both)
 
--- a node's children test later levels
-abbrev pub AreLater : List Quad → Quad → Type 0
-AreLater quads x =
-    (x.level < pair_of quads x.none) × (x.level < pair_of quads x.first) × (x.level < pair_of quads x.second)
-    × (x.level < pair_of quads x.both)
-
--- a node tests one of 32 pairs of bits, and its children are below a number
+-- a node's children are below a number
 abbrev pub IsBelow : Quad → ℕ → Type 0
-IsBelow x n = (x.level < 32) × (x.none < n) × (x.first < n) × (x.second < n) × (x.both < n)
+IsBelow x n = (x.none < n) × (x.first < n) × (x.second < n) × (x.both < n)
 
--- each node's children have smaller numbers than it has, so each walk ends
+-- each node's children have smaller numbers than it has
 abbrev pub QuadsGoDown : List Quad → Type 0
 QuadsGoDown quads = (i : ℕ) (x : Quad) → slice_get quads i ≡ Some x → IsBelow x (i + 2)
 
--- on each way the levels ascend
-abbrev pub QuadsAreOrdered : List Quad → Type 0
-QuadsAreOrdered quads = (i : ℕ) (x : Quad) → slice_get quads i ≡ Some x → AreLater quads x
+-- there is nothing at a node: no points and no way on
+abbrev pub nothing : Quad
+nothing = record { points = 0; none = 0; first = 0; second = 0; both = 0 }
 
--- a node's four children are the same
-abbrev pub LeadsOn : Quad → Type 0
-LeadsOn x = (x.none ≡ x.first) × (x.none ≡ x.second) × (x.none ≡ x.both)
-
--- no node's are
+-- there is something at each node
 abbrev pub QuadsAreReduced : List Quad → Type 0
-QuadsAreReduced quads = (i : ℕ) (x : Quad) → slice_get quads i ≡ Some x → LeadsOn x → ⊥
+QuadsAreReduced quads = (i : ℕ) (x : Quad) → slice_get quads i ≡ Some x → x ≢ nothing
 
--- more nodes, and the sets and the levels of the numbers that there were are the same
-abbrev pub KeepQuads : List Quad → List Quad → Type 0
-KeepQuads old new = Preserves turn (λ x. x.level) 32 old new
+-- more nodes, and the diagrams of the numbers that there were are the same
+pub record KeepQuads (old new : List Quad) : Type 0 where
+  pub longer : length old ≤ length new
+  pub same : (n v : ℕ) → IsNumber old n → points_of new n v ≡ points_of old n v
+
+-- the point is in the mask of one of the places, of whose valuation v is left at a level
+abbrev pub Given : List (Place × ℕ) → ℕ → ℕ → ℕ → Type 0
+Given cells level v point = (c : Place × ℕ) × Member c cells × (c.0.values / 4 ^ level ≡ v) × (bit_of c.1 point ≡ true)
+
+-- the new diagram has the points of the old one and those of the places
+abbrev pub Joins : List (Place × ℕ) → ℕ → (ℕ → ℕ) → (ℕ → ℕ) → Type 0
+Joins cells level old new =
+    (v point : ℕ) → (bit_of (new v) point ≡ true) ↔ ((bit_of (old v) point ≡ true) ⊎ Given cells level v point)

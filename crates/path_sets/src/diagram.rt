@@ -16,9 +16,9 @@ use crate::rows::Row;
 use language::{Point, Word};
 use std::alloc::{AllocError, Allocator};
 
-/// Path edges as decision diagrams over the bits of a valuation, one for each entry and point, whose nodes are shared
-/// (Bryant 1986). A node tests two bits, the least first, so that a walk has 32 steps at most. New path edges are gathered
-/// and put into the diagrams many at a time.
+/// Path edges as decision diagrams over the bits of a valuation, one for each entry and block of 64 points, whose nodes are
+/// shared (Bryant 1986). A diagram gives a valuation the mask of its points, two bits of it at each node, the least first, and
+/// no further than its highest bit that is 1. New path edges are gathered and put into the diagrams many at a time.
 #[derive(Drop)]
 pub struct DiagramEdges<A: Allocator> {
     gathered: OrderedEdges<A>,
@@ -68,7 +68,7 @@ impl<A: Allocator + Copy> DiagramEdges<A> {
             entry,
             block: place.block,
         };
-        let mut merged = self.merged.alone(row, bit)?;
+        let mut merged = self.merged.alone(row)?;
         put_all(&mut merged, &self.gathered.masks)?;
         merged.count(&row, bit)
     }

@@ -1,41 +1,17 @@
-//! Path edges that are gathered go into the sets.
+//! Path edges that are gathered go into the diagrams.
 
-ghost use Rattle.std.specs.Prelude.{◌≡◌, ◌<◌, ◌^◌, ◌⊎◌, true, Some, length, slice_get, IfOk, OnOk, IsPermutation};
+ghost use Rattle.std.specs.Prelude.{◌≡◌, ℕ, ◌<◌, ◌≤◌, true, Some, length, slice_get, IfOk, OnOk, IsPermutation};
 ghost use Rattle.language.specs.Flow.{Member};
+ghost use Rattle.path_sets.specs.declared.place.Place.{Place};
 ghost use Rattle.path_sets.specs.Triples.{Triple};
 ghost use Rattle.path_sets.specs.Edges.{edges};
-ghost use Rattle.path_sets.specs.Diagrams.{InBatch, Takes, merged_has};
+ghost use Rattle.path_sets.specs.Diagrams.{Takes, merged_has, row_of};
 
-use crate::batch::Batch;
 use crate::merged::Merged;
 use crate::ordered::Masks;
-use crate::place::Place;
+use crate::place::{Place, cell_at};
 use crate::rows::Row;
 use std::alloc::{AllocError, Allocator};
-
-/// Makes room for a valuation of a row: a full batch, or one of another row, is put into the sets, and a new one begun.
-fn make_room<A: Allocator + Copy>(
-    merged: &mut Merged<A>,
-    batch: &mut Batch,
-    row: Row,
-) -> Result<(), AllocError>
-    ensures takes { Takes (InBatch batch.old.row batch.old.columns batch.old.points)
-        merged.old.nodes.kept.keys merged.new.nodes.kept.keys merged.old.rows.entries merged.new.rows.entries }
-    ensures row { OnOk result (batch.new.row ≡ row) }
-    ensures room { OnOk result (batch.new.count < 64) }
-    ensures few { OnOk result ((t : Triple) → InBatch batch.new.row batch.new.columns batch.new.points t
-        → InBatch batch.old.row batch.old.columns batch.old.points t) }
-    ensures all { OnOk result ((t : Triple) → InBatch batch.old.row batch.old.columns batch.old.points t
-        → (merged_has merged.new.nodes.kept.keys merged.new.rows.entries t ≡ true)
-        ⊎ InBatch batch.new.row batch.new.columns batch.new.points t) }
-{
-    if batch.row == row && batch.count < 64 {
-        return Ok(());
-    }
-    merged.put(batch)?;
-    *batch = Batch::new(row);
-    Ok(())
-}
 
 /// The place at an index, and its mask.
 fn place_at<A: Allocator + Copy>(masks: &Masks<A>, at: usize) -> (Place, u64)
@@ -62,46 +38,64 @@ fn in_order<A: Allocator + Copy>(masks: &Masks<A>) -> Result<Vec<(Place, u64), A
     Ok(cells)
 }
 
-/// The place at an index, and its mask.
-fn cell_at(cells: &[(Place, u64)], at: usize) -> (Place, u64)
-    requires { at < length cells.now }
-    ensures { slice_get cells.now at ≡ Some result }
+/// The row of a place.
+fn row_of(place: &Place) -> Row
+    ensures { result ≡ row_of place.now }
 {
-    cells[at]
+    Row {
+        entry: place.entry,
+        block: place.block,
+    }
 }
 
-/// Puts the path edges of these masks into the sets, those of a row that stand one after another at once. Where memory is
-/// refused, some of them may be in.
+/// How many places there are, from the first on, that are of a row, of which the first is.
+fn run_of(cells: &[(Place, u64)], row: Row) -> usize
+    requires { 0 < length cells.now }
+    ensures within { result ≤ length cells.now }
+    ensures some { 0 < result }
+    ensures all { (i : ℕ) (c : Place × ℕ) → 0 < i → i < result → slice_get cells.now i ≡ Some c → row_of c.0 ≡ row }
+{
+    let mut end = 1;
+    while end < cells.len() {
+        let (place, _) = cell_at(cells, end);
+        if row_of(&place) != row {
+            return end;
+        }
+        end += 1;
+    }
+    end
+}
+
+/// Puts the path edges of these places into the diagrams, those of a row that stand one after another at once. Where memory
+/// is refused, some of them may be in.
 fn put_cells<A: Allocator + Copy>(
     merged: &mut Merged<A>,
     cells: &[(Place, u64)],
 ) -> Result<(), AllocError>
-    ensures takes { Takes (λ t. t.values < 2 ^ 64 → Member t (edges cells.now))
+    ensures takes { Takes (λ t. Member t (edges cells.now))
         merged.old.nodes.kept.keys merged.new.nodes.kept.keys merged.old.rows.entries merged.new.rows.entries }
-    ensures all { OnOk result ((t : Triple) → t.values < 2 ^ 64 → Member t (edges cells.now)
+    ensures all { OnOk result ((t : Triple) → Member t (edges cells.now)
         → merged_has merged.new.nodes.kept.keys merged.new.rows.entries t ≡ true) }
 {
-    let mut batch = Batch::new(Row { entry: 0, block: 0 });
-    for at in 0..cells.len() {
-        let (place, mask) = cell_at(cells, at);
-        let row = Row {
-            entry: place.entry,
-            block: place.block,
-        };
-        make_room(merged, &mut batch, row)?;
-        batch.add(place.values, mask);
+    let mut left = cells;
+    while !left.is_empty() {
+        let (place, _) = cell_at(left, 0);
+        let row = row_of(&place);
+        let (run, more) = left.split_at(run_of(left, row));
+        merged.put(row, run)?;
+        left = more;
     }
-    merged.put(&batch)
+    Ok(())
 }
 
-/// Puts all path edges of the masks into the sets. Where memory is refused, some of them may be in.
+/// Puts all path edges of the places into the diagrams. Where memory is refused, some of them may be in.
 pub(crate) fn put_all<A: Allocator + Copy>(
     merged: &mut Merged<A>,
     masks: &Masks<A>,
 ) -> Result<(), AllocError>
-    ensures takes { Takes (λ t. t.values < 2 ^ 64 → Member t (edges masks.now.entries))
+    ensures takes { Takes (λ t. Member t (edges masks.now.entries))
         merged.old.nodes.kept.keys merged.new.nodes.kept.keys merged.old.rows.entries merged.new.rows.entries }
-    ensures all { OnOk result ((t : Triple) → t.values < 2 ^ 64 → Member t (edges masks.now.entries)
+    ensures all { OnOk result ((t : Triple) → Member t (edges masks.now.entries)
         → merged_has merged.new.nodes.kept.keys merged.new.rows.entries t ≡ true) }
 {
     let cells = in_order(masks)?;

@@ -5,10 +5,8 @@
 //! once, where `insert` answers that it was new.
 #![tactic(auto)]
 
-mod batch;
 mod binary;
 mod diagram;
-mod few;
 mod gathered;
 mod inner;
 mod laws;
@@ -16,14 +14,12 @@ mod mask;
 mod merged;
 mod node;
 mod nodes;
-mod notes;
 mod ordered;
 mod path_set;
 mod place;
 mod quad;
 mod quads;
 mod rows;
-mod spread;
 mod union;
 
 pub use diagram::DiagramEdges;

@@ -1,37 +1,52 @@
-//! One node of a decision diagram that tests two bits at once.
+//! One node of a decision diagram that goes on by two bits at once.
 
-ghost use Rattle.std.specs.Prelude.{◌≡◌, ◌<◌};
+ghost use Rattle.std.specs.Prelude.{◌≡◌, ℕ, ◌%◌};
 ghost use Rattle.path_sets.specs.Quads.{turn};
 
-use crate::mask::has;
 use language::Word;
 
-/// A node of level l, which tests the bits 2l and 2l + 1, and the numbers that a valuation goes on to: where both bits
-/// are 0, where the first alone is 1, where the second alone is, and where both are.
+/// A node: the points of the valuation 0, and the numbers that another goes on to by its two low bits: where both are 0,
+/// where the first alone is 1, where the second alone is, and where both are.
 #[derive(Clone, Copy, Debug, PartialEq, Eq, Hash)]
 pub(crate) struct Quad {
-    pub(crate) level: u8,
+    pub(crate) points: u64,
     pub(crate) none: u32,
     pub(crate) first: u32,
     pub(crate) second: u32,
     pub(crate) both: u32,
 }
 
+/// The node of the numbers 0 and 1, at which there is nothing.
+pub(crate) const NOTHING: Quad = Quad {
+    points: 0,
+    none: 0,
+    first: 0,
+    second: 0,
+    both: 0,
+};
+
 /// The number that a valuation goes on to from a node.
-pub(crate) fn turn(quad: Quad, values: Word) -> u32
-    requires { quad.level < 32 }
-    ensures { result ≡ turn quad values }
+pub(crate) fn turn(quad: &Quad, values: Word) -> u32
+    ensures { result ≡ turn quad.now values }
 {
-    let bit = 2 * quad.level as usize;
-    if has(values, bit) {
-        if has(values, bit + 1) {
-            quad.both
-        } else {
-            quad.first
-        }
-    } else if has(values, bit + 1) {
-        quad.second
-    } else {
-        quad.none
+    match values % 4 {
+        0 => quad.none,
+        1 => quad.first,
+        2 => quad.second,
+        _ => quad.both,
+    }
+}
+
+/// Has a valuation, and those with the same two low bits, go on to a number.
+pub(crate) fn lead(quad: &mut Quad, values: Word, number: u32)
+    ensures points { quad.new.points ≡ quad.old.points }
+    ensures here { (v : ℕ) → v % 4 ≡ values % 4 → turn quad.new v ≡ number }
+    ensures others { (v : ℕ) → (v % 4 ≡ values % 4 → ⊥) → turn quad.new v ≡ turn quad.old v }
+{
+    match values % 4 {
+        0 => quad.none = number,
+        1 => quad.first = number,
+        2 => quad.second = number,
+        _ => quad.both = number,
     }
 }

@@ -1,11 +1,11 @@
-//! Numbered nodes that test two bits at once.
+//! Numbered nodes that go on by two bits at once.
 
 ghost use Rattle.std.specs.Prelude.{◌≡◌, ℕ, ◌+◌, ◌<◌, ◌^◌, IfOk, Some, slice_get, length, ◌≤◌};
 ghost use Rattle.path_sets.specs.Walks.{IsGrown, IsNumber, StandOnce};
-ghost use Rattle.path_sets.specs.Quads.{AreInside, AreLater, holds, KeepQuads, pair_of, QuadsAreOrdered, QuadsAreReduced, QuadsGoDown, turn};
+ghost use Rattle.path_sets.specs.Quads.{AreInside, KeepQuads, points_of, QuadsAreReduced, QuadsGoDown, sees};
 
-use crate::nodes::{ALL, MOST};
-use crate::quad::{Quad, turn};
+use crate::nodes::{ALL, MOST, NONE};
+use crate::quad::{NOTHING, Quad, turn};
 use indexmap::IndexSet;
 use language::Word;
 use std::alloc::{AllocError, Allocator};
@@ -14,13 +14,12 @@ use std::hash::{BuildHasherDefault, FoldHasher};
 /// Numbered nodes, in the order of their numbers.
 type Kept<A> = IndexSet<Quad, BuildHasherDefault<FoldHasher>, A>;
 
-/// The nodes of the diagrams that are kept: number n is the node at n - 2, whose children have smaller numbers and
-/// later levels and are not all the same. No node stands twice.
+/// The nodes of the diagrams that are kept: number n is the node at n - 2, whose children have smaller numbers; 0 and 1
+/// have no node and no points. At each node there is something, and no node stands twice.
 #[derive(Drop)]
 pub(crate) struct Quads<A: Allocator> {
     pub(crate) kept: Kept<A>,
     ghost down: { QuadsGoDown kept.keys },
-    ghost ordered: { QuadsAreOrdered kept.keys },
     ghost reduced: { QuadsAreReduced kept.keys },
     ghost once: { StandOnce kept.keys },
 }
@@ -43,56 +42,46 @@ impl<A: Allocator + Copy> Quads<A> {
         }
     }
 
-    /// Whether a valuation is in the set of a number.
-    pub(crate) fn has(&self, number: u32, values: Word) -> bool
+    /// The points that a valuation is at, by the diagram of a number.
+    pub(crate) fn points(&self, number: u32, values: Word) -> u64
         requires { IsNumber self.now.kept.keys number }
-        ensures { result ≡ holds self.now.kept.keys number values }
+        ensures { result ≡ points_of self.now.kept.keys number values }
     {
         let mut at = number;
+        let mut rest = values;
         while at > ALL {
-            at = turn(self.kept[(at - 2) as usize], values);
+            let quad = self.kept[(at - 2) as usize];
+            if rest == 0 {
+                return quad.points;
+            }
+            at = turn(&quad, rest);
+            rest /= 4;
         }
-        at == ALL
+        0
     }
 
-    /// The numbers that valuations go on to from a number by their bits of a level: its node where it has one of that
-    /// level, else a node that leads to the number itself each time.
-    pub(crate) fn children(&self, number: u32, level: u8) -> Quad
-        requires level { level < 32 }
-        requires inside { IsNumber self.now.kept.keys number }
-        requires deep { level ≤ pair_of self.now.kept.keys number }
-        ensures level { result.level ≡ level }
+    /// The node of a number.
+    pub(crate) fn node(&self, number: u32) -> Quad
+        requires { IsNumber self.now.kept.keys number }
         ensures inside { AreInside self.now.kept.keys result }
-        ensures deep { AreLater self.now.kept.keys result }
-        ensures split { (v : ℕ) → holds self.now.kept.keys number v ≡ holds self.now.kept.keys (turn result v) v }
+        ensures same { (v : ℕ) → sees self.now.kept.keys result v ≡ points_of self.now.kept.keys number v }
     {
         if number > ALL {
-            let quad = self.kept[(number - 2) as usize];
-            if quad.level == level {
-                return quad;
-            }
-        }
-        Quad {
-            level,
-            none: number,
-            first: number,
-            second: number,
-            both: number,
+            self.kept[(number - 2) as usize]
+        } else {
+            NOTHING
         }
     }
 
-    /// The number of the set that has each valuation that is in the set of the number that it goes on to from a node.
+    /// The number of a node: 0 where there is nothing at it.
     pub(crate) fn make(&mut self, quad: Quad) -> Result<u32, AllocError>
-        requires level { quad.level < 32 }
-        requires inside { AreInside self.old.kept.keys quad }
-        requires deep { AreLater self.old.kept.keys quad }
+        requires { AreInside self.old.kept.keys quad }
         ensures keeps { KeepQuads self.old.kept.keys self.new.kept.keys }
         ensures inside { IfOk result (λ n. IsNumber self.new.kept.keys n) }
-        ensures deep { IfOk result (λ n. quad.level ≤ pair_of self.new.kept.keys n) }
-        ensures joined { IfOk result (λ n. (v : ℕ) → holds self.new.kept.keys n v ≡ holds self.old.kept.keys (turn quad v) v) }
+        ensures same { IfOk result (λ n. (v : ℕ) → points_of self.new.kept.keys n v ≡ sees self.old.kept.keys quad v) }
     {
-        if quad.none == quad.first && quad.none == quad.second && quad.none == quad.both {
-            return Ok(quad.none);
+        if quad == NOTHING {
+            return Ok(NONE);
         }
         if self.kept.len() >= MOST {
             return Err(AllocError);

@@ -1,6 +1,6 @@
-//! The numbers of the sets of valuations at points.
+//! The numbers of the diagrams of rows.
 
-ghost use Rattle.std.specs.Prelude.{◌≡◌, ◌<◌, ℕ, OnOk, OnErr, None, Some, IfSome, IsNone, slice_get, get_or};
+ghost use Rattle.std.specs.Prelude.{◌≡◌, ◌<◌, ℕ, OnOk, OnErr, None, Some, IfSome, IsNone, slice_get};
 ghost use Rattle.std.specs.Map.{lookup};
 ghost use Rattle.indexmap.specs.IndexMap.{IsUnique, index_map_len, keys, values};
 ghost use Rattle.path_sets.specs.Diagrams.{root_of, row_eq, Roots};
@@ -17,26 +17,25 @@ pub(crate) struct Row {
     pub(crate) block: usize,
 }
 
-/// For each row the numbers of its points, in the order in which the rows are first met.
-pub(crate) type Rows<A> = IndexMap<Row, [u32; 64], BuildHasherDefault<FoldHasher>, A>;
+/// For each row the number of its diagram, in the order in which the rows are first met.
+pub(crate) type Rows<A> = IndexMap<Row, u32, BuildHasherDefault<FoldHasher>, A>;
 
-/// The number of the set at a point, which is a bit of a row; the row at an index is tried first.
-pub(crate) fn root<A: Allocator + Copy>(rows: &Rows<A>, last: usize, row: &Row, bit: usize) -> u32
-    requires { bit < 64 }
-    ensures { result ≡ root_of rows.now.entries row.now.entry row.now.block bit }
+/// The number of a row's diagram; the row at an index is tried first.
+pub(crate) fn root<A: Allocator + Copy>(rows: &Rows<A>, last: usize, row: &Row) -> u32
+    ensures { result ≡ root_of rows.now.entries row.now.entry row.now.block }
 {
-    if let Some((used, numbers)) = rows.get_index(last) {
+    if let Some((used, number)) = rows.get_index(last) {
         if used == row {
-            return numbers[bit];
+            return *number;
         }
     }
     match rows.get(row) {
-        Some(numbers) => numbers[bit],
+        Some(number) => *number,
         None => 0,
     }
 }
 
-/// The index of a row where it has numbers, else some other; the one that was used last is tried first.
+/// The index of a row where it has a diagram, else some other; the one that was used last is tried first.
 pub(crate) fn seek<A: Allocator + Copy>(rows: &Rows<A>, last: usize, row: &Row) -> usize {
     if let Some((used, _)) = rows.get_index(last) {
         if used == row {
@@ -49,17 +48,7 @@ pub(crate) fn seek<A: Allocator + Copy>(rows: &Rows<A>, last: usize, row: &Row) 
     }
 }
 
-/// The numbers of a row's points.
-pub(crate) fn numbers_of<A: Allocator + Copy>(rows: &Rows<A>, row: &Row) -> [u32; 64]
-    ensures { (bit : ℕ) → get_or result bit 0 ≡ root_of rows.now.entries row.now.entry row.now.block bit }
-{
-    match rows.get(row) {
-        Some(numbers) => *numbers,
-        None => [0; 64],
-    }
-}
-
-/// The index of a row, where it has numbers.
+/// The index of a row, where it has a diagram.
 fn find<A: Allocator + Copy>(rows: &Rows<A>, row: &Row) -> Option<usize>
     ensures here { IfSome result (λ at. slice_get (keys rows.now) at ≡ Some row.now) }
     ensures value { IfSome result (λ at. slice_get (values rows.now) at ≡ lookup (row_eq row.now) rows.now.entries) }
@@ -69,21 +58,21 @@ fn find<A: Allocator + Copy>(rows: &Rows<A>, row: &Row) -> Option<usize>
     rows.get_index_of(row)
 }
 
-/// Gives the points of a row their numbers. Where memory is refused, each point keeps its own.
-pub(crate) fn set_numbers<A: Allocator + Copy>(
+/// Gives a row's diagram its number. Where memory is refused, each row keeps its own.
+pub(crate) fn set_root<A: Allocator + Copy>(
     rows: &mut Rows<A>,
     row: Row,
-    numbers: [u32; 64],
+    number: u32,
 ) -> Result<(), AllocError>
     requires { IsUnique row_eq rows.old }
-    ensures ok { OnOk result (Roots rows.old.entries row numbers rows.new.entries) }
+    ensures ok { OnOk result (Roots rows.old.entries row number rows.new.entries) }
     ensures err { OnErr result (rows.new.entries ≡ rows.old.entries) }
     ensures unique { IsUnique row_eq rows.new }
 {
     match find(rows, &row) {
-        Some(at) => rows[at] = numbers,
+        Some(at) => rows[at] = number,
         None => {
-            rows.insert(row, numbers)?;
+            rows.insert(row, number)?;
         }
     }
     Ok(())

@@ -1,109 +1,76 @@
-//! Valuations put into the set of a number, many at a time.
+//! The points of places put into a diagram, many at a time.
 
-ghost use Rattle.std.specs.Prelude.{◌≡◌, ℕ, ◌<◌, ◌≤◌, ◌^◌, ◌⊎◌, IfOk};
+ghost use Rattle.std.specs.Prelude.{◌≡◌, ℕ, ◌+◌, ◌*◌, ◌/◌, ◌%◌, ◌<◌, ◌≤◌, ◌^◌, IfOk, length, Some, slice_get};
+ghost use Rattle.path_sets.specs.declared.place.Place.{Place};
 ghost use Rattle.path_sets.specs.Walks.{IsNumber};
-ghost use Rattle.path_sets.specs.Quads.{KeepQuads, pair_of};
-ghost use Rattle.path_sets.specs.Diagrams.{AreTrue, Unites};
+ghost use Rattle.path_sets.specs.Quads.{Joins, KeepQuads, points_of};
 
-use crate::batch::Batch;
-use crate::few::{Few, few_of};
-use crate::nodes::ALL;
-use crate::notes::{Line, note, noted};
-use crate::quad::Quad;
+use crate::place::{Place, cell_at};
+use crate::quad::{lead, turn};
 use crate::quads::Quads;
 use language::Word;
 use std::alloc::{AllocError, Allocator};
 
-/// One valuation for all those of a mask, where none has a bit from the level on.
-fn narrowed(all: Word, level: u8, mask: u64) -> u64
-    requires { level < 64 }
-    ensures { (result ≡ mask) ⊎ ((all < 2 ^ level) × (result ≡ 1)) }
+/// What is left of a valuation behind the bits of the nodes above a level.
+fn rest_of(values: Word, level: u8) -> Word
+    requires { level ≤ 32 }
+    ensures { result ≡ values / 4 ^ level }
 {
-    if all >> level == 0 { 1 } else { mask }
+    if level == 32 {
+        return 0;
+    }
+    values >> (2 * level)
 }
 
-/// The number of a number's set with the valuations of a batch that are in the mask, of which the bits from a level's
-/// pair on count.
-#[cycle(union)]
+/// How many places there are, from the first on, whose valuations go on from a node of a level as the one given does, of
+/// which the first does.
+fn run_of(cells: &[(Place, u64)], level: u8, rest: Word) -> usize
+    requires some { 0 < length cells.now }
+    requires level { level ≤ 32 }
+    ensures within { result ≤ length cells.now }
+    ensures some { 0 < result }
+    ensures all { (i : ℕ) (c : Place × ℕ) → 0 < i → i < result → slice_get cells.now i ≡ Some c
+        → (c.0.values / 4 ^ level % 4 ≡ rest % 4) × (c.0.values / 4 ^ level ≡ 0 → ⊥) }
+{
+    let mut end = 1;
+    while end < cells.len() {
+        let next = rest_of(cell_at(cells, end).0.values, level);
+        if next == 0 || next % 4 != rest % 4 {
+            return end;
+        }
+        end += 1;
+    }
+    end
+}
+
+/// The number of a number's diagram with the points of the places, by what is left of their valuations at a level. Those that
+/// go on alike are put in at once where they stand one after another.
 pub(crate) fn union<A: Allocator + Copy>(
     nodes: &mut Quads<A>,
-    lines: &mut [Line],
-    batch: &Batch,
+    cells: &[(Place, u64)],
     number: u32,
     level: u8,
-    mask: u64,
 ) -> Result<u32, AllocError>
     requires level { level ≤ 32 }
     requires inside { IsNumber nodes.old.kept.keys number }
-    requires deep { level ≤ pair_of nodes.old.kept.keys number }
-    requires lines { AreTrue nodes.old.kept.keys lines.old }
     ensures keeps { KeepQuads nodes.old.kept.keys nodes.new.kept.keys }
-    ensures lines { AreTrue nodes.new.kept.keys lines.new }
     ensures inside { IfOk result (λ r. IsNumber nodes.new.kept.keys r) }
-    ensures deep { IfOk result (λ r. level ≤ pair_of nodes.new.kept.keys r) }
-    ensures unites { IfOk result (λ r. Unites batch.now.columns mask level nodes.old.kept.keys number nodes.new.kept.keys r) }
+    ensures joins { IfOk result (λ r. Joins cells.now level (points_of nodes.old.kept.keys number) (points_of nodes.new.kept.keys r)) }
 {
-    if mask == 0 || number == ALL {
-        return Ok(number);
+    let mut quad = nodes.node(number);
+    let mut left = cells;
+    while !left.is_empty() {
+        let (place, mask) = cell_at(left, 0);
+        let rest = rest_of(place.values, level);
+        if rest == 0 {
+            quad.points |= mask;
+            left = left.split_at(1).1;
+        } else {
+            let (run, more) = left.split_at(run_of(left, level, rest));
+            let child = union(nodes, run, turn(&quad, rest), level + 1)?;
+            lead(&mut quad, rest, child);
+            left = more;
+        }
     }
-    if level == 32 {
-        return Ok(ALL);
-    }
-    let mask = narrowed(batch.all, 2 * level, mask);
-    let Some(few) = few_of(&batch.valuations, mask, 2 * level) else {
-        return parted(nodes, lines, batch, number, level, mask);
-    };
-    if let Some(result) = noted(lines, number, level, &few) {
-        return Ok(result);
-    }
-    let result = parted(nodes, lines, batch, number, level, mask)?;
-    note(
-        lines,
-        Line {
-            number,
-            result,
-            level,
-            few,
-        },
-    );
-    Ok(result)
-}
-
-/// The same, by the four quarters that the two bits of the level part the valuations into.
-#[cycle(union)]
-fn parted<A: Allocator + Copy>(
-    nodes: &mut Quads<A>,
-    lines: &mut [Line],
-    batch: &Batch,
-    number: u32,
-    level: u8,
-    mask: u64,
-) -> Result<u32, AllocError>
-    requires level { level < 32 }
-    requires inside { IsNumber nodes.old.kept.keys number }
-    requires deep { level ≤ pair_of nodes.old.kept.keys number }
-    requires lines { AreTrue nodes.old.kept.keys lines.old }
-    ensures keeps { KeepQuads nodes.old.kept.keys nodes.new.kept.keys }
-    ensures lines { AreTrue nodes.new.kept.keys lines.new }
-    ensures inside { IfOk result (λ r. IsNumber nodes.new.kept.keys r) }
-    ensures deep { IfOk result (λ r. level ≤ pair_of nodes.new.kept.keys r) }
-    ensures unites { IfOk result (λ r. Unites batch.now.columns mask level nodes.old.kept.keys number nodes.new.kept.keys r) }
-{
-    let quad = nodes.children(number, level);
-    let ones = mask & batch.columns[2 * level as usize];
-    let zeros = mask ^ ones;
-    let both = ones & batch.columns[2 * level as usize + 1];
-    let second = zeros & batch.columns[2 * level as usize + 1];
-    let next = level + 1;
-    let none = union(nodes, lines, batch, quad.none, next, zeros ^ second)?;
-    let first = union(nodes, lines, batch, quad.first, next, ones ^ both)?;
-    let second = union(nodes, lines, batch, quad.second, next, second)?;
-    let both = union(nodes, lines, batch, quad.both, next, both)?;
-    nodes.make(Quad {
-        level,
-        none,
-        first,
-        second,
-        both,
-    })
+    nodes.make(quad)
 }

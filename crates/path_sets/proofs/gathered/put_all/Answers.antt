@@ -1,4 +1,4 @@
-use Rattle.std.proofs.Common.{◌≡◌, ◌^◌, ◌<◌, true, sym, subst, IsPermutation}
+use Rattle.std.proofs.Common.{◌≡◌, true, sym, subst, IsPermutation}
 use Rattle.std.proofs.lemmas.List.Sorted.{IsPermutation-sym}
 use Rattle.language.specs.Flow.{Member}
 use Rattle.path_sets.specs.Triples.{Triple}
@@ -15,9 +15,9 @@ returns-clause-takes g c =
     let masks = c.args.masks.now.entries in
     let cells = c.deref.result.now in
     let order : IsPermutation masks cells = subst (IsPermutation masks) (sym c.deref.ensures.value) c.in_ok-cells.ensures in
-    takes_of (λ t. t.values < 2 ^ 64 → Member t (edges cells)) (λ t. t.values < 2 ^ 64 → Member t (edges masks)) old.nodes.kept.keys
+    takes_of (λ t. Member t (edges cells)) (λ t. Member t (edges masks)) old.nodes.kept.keys
     new.nodes.kept.keys old.rows.entries new.rows.entries
-    (λ t h fits. same_edges cells masks (IsPermutation-sym masks cells order) t (h fits)) c.put_cells.ensures.takes
+    (λ t h. same_edges cells masks (IsPermutation-sym masks cells order) t h) c.put_cells.ensures.takes
 
 pub returns-clause-all : goal.returns-clause-all
 returns-clause-all g c =
@@ -26,6 +26,6 @@ returns-clause-all g c =
     let cells = c.deref.result.now in
     let order : IsPermutation masks cells = subst (IsPermutation masks) (sym c.deref.ensures.value) c.in_ok-cells.ensures in
     let N : Triple → Type 0 = λ t. merged_has new.nodes.kept.keys new.rows.entries t ≡ true in
-    on_ok ((t : Triple) → t.values < 2 ^ 64 → Member t (edges cells) → N t)
-    ((t : Triple) → t.values < 2 ^ 64 → Member t (edges masks) → N t) c.put_cells.result
-    (λ all t fits h. all t fits (same_edges masks cells order t h)) c.put_cells.ensures.all
+    on_ok ((t : Triple) → Member t (edges cells) → N t)
+    ((t : Triple) → Member t (edges masks) → N t) c.put_cells.result
+    (λ all t h. all t (same_edges masks cells order t h)) c.put_cells.ensures.all

@@ -1,156 +1,81 @@
-use Rattle.std.proofs.Common.{◌≡◌, ℕ, refl, arith}
-use Rattle.path_sets.specs.declared.notes.Line.{Line}
-use Rattle.path_sets.specs.declared.quad.Quad.{Quad}
-use Rattle.path_sets.specs.Quads.{holds, turn}
-use Rattle.path_sets.specs.Diagrams.{Unites}
-use Rattle.path_sets.proofs.Unions.{of_ok, unites_none, unites_all, unites_last}
-use Rattle.path_sets.proofs.Quarters.{all_later, four_on, quads_on, three_on, unites_quarters}
-use Rattle.path_sets.proofs.Noted.{all_on, found_line, one_more_line, unites_wide, line_unites}
+use Rattle.std.proofs.Common.{rules, ◌≡◌, ℕ, ◌+◌, ◌/◌, ◌%◌, ◌^◌, true, ◌⊎◌, ◌↔◌, ◌∷◌, ◌++◌}
+use Rattle.std.proofs.Common.{sym, ap, ◌∙◌, subst, arith, length}
+use Rattle.std.proofs.lemmas.Bool.{eqb-true}
+use Rattle.language.specs.Flow.{Member}
+use Rattle.path_sets.specs.declared.place.Place.{Place}
+use Rattle.path_sets.specs.Masks.{bit_of}
+use Rattle.path_sets.specs.Walks.{IsNumber}
+use Rattle.path_sets.specs.Quads.{Given, Joins, points_of, sees}
+use Rattle.path_sets.proofs.TwoBits.{keeps_on, stays_inside, turn_inside}
+use Rattle.path_sets.proofs.Unions.{all_alike, all_put, first_and_rest, goes_on, iff_on, led_inside, not_last, of_ok, stops}
 use Rattle.path_sets.proofs.union.+union.Goals as goal
-use Rattle.path_sets.proofs.union.+union.Goals.{union-then-mask-eq0-via-then-mask-eq0, union-then-mask-eq0-via-else-mask-eq0+then-number-eq-ALL}
 
-pub parted-returns-in_err-second-clause-keeps : goal.parted-returns-in_err-second-clause-keeps
-parted-returns-in_err-second-clause-keeps g t c =
+pub loop-left-preserved-then-rest-eq0 : goal.loop-left-preserved-then-rest-eq0
+loop-left-preserved-then-rest-eq0 g t c =
+    let ns = c.loop-left.nodes.kept.keys in
+    let i = c.loop-left.invariant in
+    let x = c.loop-left.quad in
+    let left = c.loop-left.left.now in
+    let place = c.cell_at-mask.result.0 in
+    let mask = c.cell_at-mask.result.1 in
+    let done = sym c.rest_of-rest.ensures ∙ c.if-rest-eq0.true in
+    let is : left ≡ (place, mask) ∷ c.split_at.result.1.now =
+    first_and_rest left (place, mask) c.cell_at-mask.ensures ∙ ap (λ m. (place, mask) ∷ m) (sym c.split_at.ensures.back) in
+    record {
+      keeps = i.keeps;
+      inside = i.inside;
+      joins = λ v point. let old = subst (λ l. ((bit_of (sees ns x v) point ≡ true) ⊎ Given l c.args.level v point)
+          ↔ ((bit_of (points_of c.args.nodes.now.kept.keys c.args.number v) point ≡ true) ⊎ Given c.args.cells.now c.args.level v point)) is
+          (i.joins v point) in
+          iff_on _ _ _ (stops ns x place mask c.args.level c.split_at.result.1.now done v point) old;
+    }
+
+pub union-requires : goal.union-requires
+union-requires g t c κs within =
+    let ns = c.loop-left.nodes.kept.keys in
+    let some : c.cell_at-mask.result.0.values / 4 ^ c.args.level ≡ 0 → ⊥ = λ is. c.if-rest-eq0.false (c.rest_of-rest.ensures ∙ is) in
+    let next = not_last c.cell_at-mask.result.0.values c.args.level (omega arith) c.requires.level some in
+    let child = subst (IsNumber ns) (sym c.turn.ensures) (turn_inside ns c.loop-left.quad c.rest_of-rest.result c.loop-left.invariant.inside) in
+    (search rules, (search rules, (next, child)))
+
+pub loop-left-preserved : goal.loop-left-preserved
+loop-left-preserved g t c =
+    let ns = c.loop-left.nodes.kept.keys in
+    let ms = c.union.new.nodes.kept.keys in
+    let i = c.loop-left.invariant in
+    let x = c.loop-left.quad in
+    let y = c.lead.new.quad in
+    let left = c.loop-left.left.now in
+    let run = c.split_at-else-rest-eq0.result.0.now in
+    let more = c.split_at-else-rest-eq0.result.1.now in
+    let cut = c.split_at-else-rest-eq0.ensures in
+    let rest = c.rest_of-rest.result in
+    let child = c.in_ok-child.child in
+    let u = c.in_ok-child.ensures in
+    let is : left ≡ run ++ more = cut.by_index.0 in
+    let alike = subst (λ l. (d : Place × ℕ) → Member d l
+    → (d.0.values / 4 ^ c.args.level % 4 ≡ rest % 4) × (d.0.values / 4 ^ c.args.level ≡ 0 → ⊥)) (sym cut.front)
+    (all_alike left c.run_of.result c.args.level rest c.cell_at-mask.result c.cell_at-mask.ensures c.rest_of-rest.ensures c.if-rest-eq0.false
+    c.run_of.ensures.all) in
+    let joins = subst (λ n. Joins run (c.args.level + 1) (points_of ns n) (points_of ms child)) c.turn.ensures u.joins in
+    record {
+      keeps = keeps_on c.args.nodes.now.kept.keys ns ms i.keeps u.keeps;
+      inside = led_inside ns ms x y run more c.args.level rest child u.keeps i.inside c.if-rest-eq0.false alike joins
+          c.lead.ensures.points c.lead.ensures.here c.lead.ensures.others (stays_inside ns ms x u.keeps i.inside) u.inside;
+      joins = λ v point. let old = subst (λ l. ((bit_of (sees ns x v) point ≡ true) ⊎ Given l c.args.level v point)
+          ↔ ((bit_of (points_of c.args.nodes.now.kept.keys c.args.number v) point ≡ true) ⊎ Given c.args.cells.now c.args.level v point)) is
+          (i.joins v point) in
+          iff_on _ _ _ (goes_on ns ms x y run more c.args.level rest child u.keeps i.inside c.if-rest-eq0.false alike joins
+          c.lead.ensures.points c.lead.ensures.here c.lead.ensures.others v point) old;
+    }
+
+pub returns-clause-joins : goal.returns-clause-joins
+returns-clause-joins g t c =
     let n0 = c.args.nodes.now.kept.keys in
-    let n1 = c.union.new.nodes.kept.keys in
-    let n2 = c.union-2.new.nodes.kept.keys in
-    let n3 = c.union-3.new.nodes.kept.keys in
-    three_on n0 n1 n2 n3 c.in_ok-none.ensures.keeps c.in_ok-first.ensures.keeps c.in_err-second.ensures.keeps
-
-pub parted-returns-in_err-both-clause-keeps : goal.parted-returns-in_err-both-clause-keeps
-parted-returns-in_err-both-clause-keeps g t c =
-    let n0 = c.args.nodes.now.kept.keys in
-    let n1 = c.union.new.nodes.kept.keys in
-    let n2 = c.union-2.new.nodes.kept.keys in
-    let n3 = c.union-3.new.nodes.kept.keys in
-    let n4 = c.union-4.new.nodes.kept.keys in
-    four_on n0 n1 n2 n3 n4 c.in_ok-none.ensures.keeps c.in_ok-first.ensures.keeps c.in_ok-second.ensures.keeps
-    c.in_err-both.ensures.keeps
-
-pub parted-make-requires-clause-deep : goal.parted-make-requires-clause-deep
-parted-make-requires-clause-deep g t c =
-    let n0 = c.args.nodes.now.kept.keys in
-    let n1 = c.union.new.nodes.kept.keys in
-    let n2 = c.union-2.new.nodes.kept.keys in
-    let n3 = c.union-3.new.nodes.kept.keys in
-    let n4 = c.union-4.new.nodes.kept.keys in
-    let y : Quad = record {
-      level = c.args.level;
-      none = c.in_ok-none.none;
-      first = c.in_ok-first.first;
-      second = c.in_ok-second.second;
-      both = c.in_ok-both.both;
-    } in
-    all_later n0 n1 n2 n3 n4 c.in_ok-none.ensures.keeps c.in_ok-first.ensures.keeps c.in_ok-second.ensures.keeps
-    c.in_ok-both.ensures.keeps y c.in_ok-none.ensures.inside c.in_ok-first.ensures.inside c.in_ok-second.ensures.inside
-    c.args.level refl c.in_ok-none.ensures.deep c.in_ok-first.ensures.deep c.in_ok-second.ensures.deep c.in_ok-both.ensures.deep
-
-pub parted-returns-clause-keeps : goal.parted-returns-clause-keeps
-parted-returns-clause-keeps g t c =
-    let n0 = c.args.nodes.now.kept.keys in
-    let n1 = c.union.new.nodes.kept.keys in
-    let n2 = c.union-2.new.nodes.kept.keys in
-    let n3 = c.union-3.new.nodes.kept.keys in
-    let n4 = c.union-4.new.nodes.kept.keys in
-    let n5 = c.make.new.self.kept.keys in
-    quads_on n0 n4 n5
-    (four_on n0 n1 n2 n3 n4 c.in_ok-none.ensures.keeps c.in_ok-first.ensures.keeps c.in_ok-second.ensures.keeps
-    c.in_ok-both.ensures.keeps)
-    c.make.ensures.keeps
-
-pub parted-returns-clause-lines : goal.parted-returns-clause-lines
-parted-returns-clause-lines g t c =
-    all_on c.union-4.new.nodes.kept.keys c.make.new.self.kept.keys c.union-4.new.lines c.make.ensures.keeps c.in_ok-both.ensures.lines
-
-pub parted-returns-clause-unites : goal.parted-returns-clause-unites
-parted-returns-clause-unites g t c =
-    let columns = c.args.batch.now.columns in
-    let n0 = c.args.nodes.now.kept.keys in
-    let n1 = c.union.new.nodes.kept.keys in
-    let n2 = c.union-2.new.nodes.kept.keys in
-    let n3 = c.union-3.new.nodes.kept.keys in
-    let n4 = c.union-4.new.nodes.kept.keys in
-    let n5 = c.make.new.self.kept.keys in
-    let y : Quad = record {
-      level = c.args.level;
-      none = c.in_ok-none.none;
-      first = c.in_ok-first.first;
-      second = c.in_ok-second.second;
-      both = c.in_ok-both.both;
-    } in
-    of_ok (λ r. (v : ℕ) → holds n5 r v ≡ holds n4 (turn y v) v) (λ r. Unites columns c.args.mask c.args.level n0 c.args.number n5 r)
-    c.make.result
-    (λ r joined. unites_quarters n0 n1 n2 n3 n4 c.in_ok-none.ensures.keeps c.in_ok-first.ensures.keeps c.in_ok-second.ensures.keeps
-    c.in_ok-both.ensures.keeps y c.in_ok-none.ensures.inside c.in_ok-first.ensures.inside c.in_ok-second.ensures.inside
-    columns c.args.mask c.args.level (omega arith) n5 c.args.number r c.children-quad.result
-    c.children-quad.ensures.level refl c.children-quad.ensures.split joined c.children-quad.ensures.inside
-    c.in_ok-both.ensures.inside c.in_ok-none.ensures.unites c.in_ok-first.ensures.unites c.in_ok-second.ensures.unites
-    c.in_ok-both.ensures.unites)
-    c.make.ensures.joined
-
-pub union-returns-then-mask-eq0-clause-unites : goal.union-returns-then-mask-eq0-clause-unites
-union-returns-then-mask-eq0-clause-unites g t c =
-    let ns = c.args.nodes.now.kept.keys in
-    let columns = c.args.batch.now.columns in
-    elim c.then-mask-eq0.branch [
-      | union-then-mask-eq0-via-then-mask-eq0 w ↦ unites_none columns c.args.mask c.args.level ns c.args.number w.if-mask-eq0.true
-      | union-then-mask-eq0-via-else-mask-eq0+then-number-eq-ALL w ↦
-          unites_all columns c.args.mask c.args.level ns c.args.number w.if-number-eq-ALL.true
-    ]
-
-pub union-returns-then-level-eq32-clause-unites : goal.union-returns-then-level-eq32-clause-unites
-union-returns-then-level-eq32-clause-unites g t c =
-    unites_last c.args.batch.now.columns c.args.mask c.args.level c.args.nodes.now.kept.keys c.args.number c.if-level-eq32.true
-    c.if-mask-eq0.false (omega arith)
-
-pub union-returns-in_default-clause-unites : goal.union-returns-in_default-clause-unites
-union-returns-in_default-clause-unites g t c =
-    let b = c.args.batch.now in
-    let mask = c.args.mask in
-    let narrow = c.narrowed-mask.result in
-    let level = c.args.level in
-    let n0 = c.args.nodes.now.kept.keys in
-    let n1 = c.parted.new.nodes.kept.keys in
-    let number = c.args.number in
-    of_ok (λ r. Unites b.columns narrow level n0 number n1 r) (λ r. Unites b.columns mask level n0 number n1 r) c.parted.result
-    (λ r. unites_wide b.columns b.all mask narrow level n0 n1 number r b.covers c.if-mask-eq0.false (omega arith)
-    c.narrowed-mask.ensures) c.parted.ensures.unites
-
-pub union-returns-in-Some-noted-clause-inside : goal.union-returns-in-Some-noted-clause-inside
-union-returns-in-Some-noted-clause-inside g t c = let at = c.in-Some-noted.ensures in (c.requires.lines at.0 _ at.1).reached
-
-pub union-returns-in-Some-noted-clause-deep : goal.union-returns-in-Some-noted-clause-deep
-union-returns-in-Some-noted-clause-deep g t c = let at = c.in-Some-noted.ensures in (c.requires.lines at.0 _ at.1).deep
-
-pub union-returns-in-Some-noted-clause-unites : goal.union-returns-in-Some-noted-clause-unites
-union-returns-in-Some-noted-clause-unites g t c =
-    let b = c.args.batch.now in
-    let ns = c.args.nodes.now.kept.keys in
-    let narrow = c.narrowed-mask.result in
-    let result = c.in-Some-noted.result in
-    let at = c.in-Some-noted.ensures in
-    unites_wide b.columns b.all c.args.mask narrow c.args.level ns ns c.args.number result b.covers c.if-mask-eq0.false (omega arith)
-    c.narrowed-mask.ensures
-    (line_unites b.columns b.valuations narrow c.args.level c.in-Some.few b.turns c.in-Some.ensures ns c.args.number result
-    (c.requires.lines at.0 _ at.1))
-
-pub union-returns-clause-lines : goal.union-returns-clause-lines
-union-returns-clause-lines g t c =
-    let b = c.args.batch.now in
-    let n0 = c.args.nodes.now.kept.keys in
-    let n1 = c.parted-2.new.nodes.kept.keys in
-    let few = c.in-Some.few in
-    let result = c.in_ok-result.result in
-    let p = c.in_ok-result.ensures in
-    let line : Line = record { number = c.args.number; result = result; level = c.args.level; few = few } in
-    one_more_line n1 c.parted-2.new.lines c.note.new.lines line p.lines
-    (found_line b.columns b.valuations c.narrowed-mask.result c.args.level few b.turns c.in-Some.ensures n0 n1 c.args.number result
-    c.requires.inside p.inside p.deep p.keeps p.unites)
-    c.note.ensures
-
-pub union-returns-clause-unites : goal.union-returns-clause-unites
-union-returns-clause-unites g t c =
-    let b = c.args.batch.now in
-    unites_wide b.columns b.all c.args.mask c.narrowed-mask.result c.args.level c.args.nodes.now.kept.keys
-    c.parted-2.new.nodes.kept.keys c.args.number c.in_ok-result.result b.covers c.if-mask-eq0.false (omega arith)
-    c.narrowed-mask.ensures c.in_ok-result.ensures.unites
+    let ns = c.loop-left.nodes.kept.keys in
+    let ms = c.make.new.self.kept.keys in
+    of_ok (λ r. (v : ℕ) → points_of ms r v ≡ sees ns c.loop-left.quad v)
+    (λ r. Joins c.args.cells.now c.args.level (points_of n0 c.args.number) (points_of ms r)) c.make.result
+    (λ r same v point. all_put c.loop-left.left.now (eqb-true (length c.loop-left.left.now) 0 (sym c.is_empty.ensures ∙ c.loop-left-test.false)) c.args.level v point (points_of ms r v) (sees ns c.loop-left.quad v) (same v)
+    _ (c.loop-left.invariant.joins v point))
+    c.make.ensures.same

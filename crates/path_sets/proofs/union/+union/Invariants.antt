@@ -1,8 +1,18 @@
-use Rattle.std.proofs.Common.{◌-◌, ◌+◌, ◌*◌}
+use Rattle.std.proofs.Common.{length, ◌-◌, ◌≡◌, ℕ, true, ◌⊎◌, ◌↔◌}
+use Rattle.path_sets.specs.Masks.{bit_of}
+use Rattle.path_sets.specs.Quads.{AreInside, Given, KeepQuads, points_of, sees}
 use Rattle.path_sets.proofs.union.+union.Given as goal
 
 abbrev pub decreases-union : goal.decreases-union
-decreases-union g l = 2 * (32 - l.level) + 1
+decreases-union g l = 32 - l.level
 
-abbrev pub decreases-parted : goal.decreases-parted
-decreases-parted g l = 2 * (32 - l.level)
+abbrev pub decreases-loop-left : goal.decreases-loop-left
+decreases-loop-left g l = length l.left
+
+abbrev pub invariant-loop-left : goal.invariant-loop-left
+invariant-loop-left g l = record {
+  keeps : KeepQuads l.initial.nodes.kept.keys l.nodes.kept.keys;
+  inside : AreInside l.nodes.kept.keys l.quad;
+  joins : (v point : ℕ) → ((bit_of (sees l.nodes.kept.keys l.quad v) point ≡ true) ⊎ Given l.left l.level v point)
+      ↔ ((bit_of (points_of l.initial.nodes.kept.keys l.number v) point ≡ true) ⊎ Given l.cells l.level v point);
+}

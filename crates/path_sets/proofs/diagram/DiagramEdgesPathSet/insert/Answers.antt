@@ -15,7 +15,8 @@ invariant_of-self-2 g c =
     let fits : Fits x = record { entry = omega arith; point = omega arith; values = omega arith } in
     let new : Member x (all_edges ns rs s.gathered.masks.entries) → ⊥ =
     λ m. true≢false (sym (c.contains.ensures.1 (subst (Member x) same m)) ∙ c.if-contains.false) in
-    let longer = one_longer ns rs s.gathered.masks.entries c.insert.new.self.masks.entries x fits c.in_ok-insert.ensures.members new in
+    let longer = one_longer ns rs s.gathered.masks.entries c.insert.new.self.masks.entries x fits
+    c.in_ok-insert.ensures.members new in
     record {
       counted = ap (λ n. n + 1) s.counted ∙ sym longer;
       once = all_none_twice ns rs c.insert.new.self.masks.entries;

@@ -1,6 +1,6 @@
 use Rattle.std.proofs.Common.{◌≡◌, sym, subst}
 use Rattle.std.specs.List.{each_same}
-use Rattle.path_sets.specs.Quads.{QuadsAreOrdered, QuadsAreReduced, QuadsGoDown}
+use Rattle.path_sets.specs.Quads.{QuadsAreReduced, QuadsGoDown}
 use Rattle.path_sets.specs.Walks.{StandOnce}
 use Rattle.path_sets.proofs.quads.Quads.copy.Goals as goal
 
@@ -12,7 +12,6 @@ invariant_of-result g c =
     let same : old ≡ new = sym (each_same old new c.in_ok-clone.ensures.cases) in
     record {
       down = subst QuadsGoDown same s.down;
-      ordered = subst QuadsAreOrdered same s.ordered;
       reduced = subst QuadsAreReduced same s.reduced;
       once = subst StandOnce same s.once;
     }

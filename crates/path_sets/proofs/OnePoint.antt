@@ -1,0 +1,249 @@
+-- The diagram of one point, made of nodes that test one bit.
+use Rattle.std.proofs.Common.{◌≡◌, ℕ, zero, suc, ◌+◌, ◌*◌, ◌/◌, ◌%◌, ◌^◌, ◌<◌, ◌≤◌, ◌==◌, Bool, true, false, cond, ◌&&◌, nat_eq}
+use Rattle.std.proofs.Common.{List, Some, inl, inr, refl, sym, ap, ◌∙◌, subst, arith, true≢false, eq-eqb}
+use Rattle.std.specs.Prelude.{Result, Ok, Err, IfOk}
+use Rattle.std.specs.Bool.{beq}
+use Rattle.std.specs.Map.{lookup}
+use Rattle.std.proofs.lemmas.Bool.{cases_eq, eqb-true, ne_eqb}
+use Rattle.std.proofs.lemmas.Nat.Bits.{bit_at_lowest, bit_at-suc, bit_at-zero}
+use Rattle.std.proofs.lemmas.Option.{same_Some}
+use Rattle.path_sets.specs.declared.node.Node.{Node}
+use Rattle.path_sets.specs.declared.quad.Quad.{Quad}
+use Rattle.path_sets.specs.declared.binary.Asked.{Asked}
+use Rattle.path_sets.specs.Masks.{bit_of}
+use Rattle.path_sets.specs.Walks.{IsNumber}
+use Rattle.path_sets.specs.Quads.{is_at, points_of, sees, turn}
+use Rattle.path_sets.specs.Diagrams.{accepts, child, Keeps, level_of}
+use Rattle.path_sets.specs.Binary.{Answers, AreFound, asked_eq}
+use Rattle.path_sets.proofs.Grown.{keeps_on}
+use Rattle.path_sets.proofs.Places.{both}
+use Rattle.path_sets.proofs.Shifted.{down_bit, four_pow, next_rest}
+use Rattle.path_sets.proofs.TwoBits.{no_points}
+use Rattle.path_sets.proofs.Walks.{at_leaf}
+
+-- nothing is left behind the last level
+no_rest : (v l : ℕ) → l ≡ 32 → v < 2 ^ 64 → v / 4 ^ l ≡ 0
+no_rest v l last less = ap (λ k. v / 4 ^ k) last ∙ omega (arith, less)
+
+-- the two bits of a level are the lowest of what is left there
+rest_bit : (v l j : ℕ) → bit_of v (2 * l + j) ≡ bit_of (v / 4 ^ l) j
+rest_bit v l j = sym (ap (λ k. bit_of (v / k) j) (four_pow l) ∙ down_bit v (2 * l) j)
+
+first_bit : (v l : ℕ) → bit_of v (2 * l) ≡ (v / 4 ^ l % 2 == 1)
+first_bit v l =
+    let same : 2 * l ≡ 2 * l + 0 = omega arith in
+    ap (bit_of v) same ∙ rest_bit v l 0 ∙ ap (λ x. x == 1) (bit_at_lowest (v / 4 ^ l))
+
+second_bit : (v l : ℕ) → bit_of v (2 * l + 1) ≡ (v / 4 ^ l / 2 % 2 == 1)
+second_bit v l = rest_bit v l 1 ∙ ap (λ x. x == 1) (bit_at-suc (v / 4 ^ l) 0 ∙ bit_at_lowest (v / 4 ^ l / 2))
+
+-- the two lowest bits of a number, by what is left when it is divided by 4
+by_four : (w : ℕ) (P : ℕ → ℕ → ℕ → Type 0) → (w % 4 ≡ 0 → P 0 0 0) → P 1 1 0 → P 2 0 1 → P 3 1 1
+    → P (w % 4) (w % 2) (w / 2 % 2)
+by_four w P none first second both = elim (cases_eq (w % 4) 0) [
+  | inl is ↦ at 0 0 0 is (omega (arith, is)) (omega (arith, is)) (none is)
+  | inr not0 ↦ elim (cases_eq (w % 4) 1) [
+    | inl is ↦ at 1 1 0 is (omega (arith, is)) (omega (arith, is)) first
+    | inr not1 ↦ elim (cases_eq (w % 4) 2) [
+      | inl is ↦ at 2 0 1 is (omega (arith, is)) (omega (arith, is)) second
+      | inr not2 ↦
+          let is : w % 4 ≡ 3 = omega (arith, not0, not1, not2) in at 3 1 1 is (omega (arith, is)) (omega (arith, is)) both
+    ]
+  ]
+]
+  where
+    at : (r p q : ℕ) → w % 4 ≡ r → w % 2 ≡ p → w / 2 % 2 ≡ q → P r p q → P (w % 4) (w % 2) (w / 2 % 2)
+    at r p q a b c h =
+        subst (λ x. P x (w % 2) (w / 2 % 2)) (sym a) (subst (λ x. P r x (w / 2 % 2)) (sym b) (subst (λ x. P r p x) (sym c) h))
+
+-- nodes that are kept twice are kept
+pub on : (ns ms os : List Node) → Keeps ns ms → Keeps ms os → Keeps ns os
+on ns ms os a b = keeps_on child (λ (x : Node). x.level) 64 ns ms os a b
+
+-- 0 and 1 have no node
+leaf_level : (ns : List Node) (n : ℕ) → n ≤ 1 → level_of ns n ≡ 64
+leaf_level ns zero h = refl
+leaf_level ns (suc zero) h = refl
+leaf_level ns (suc (suc n)) h = absurd (omega (arith, h))
+
+-- what is asked for compares as equal only where it is
+same_flag : (a b : Bool) → beq a b ≡ true → a ≡ b
+same_flag true true h = refl
+same_flag true false h = absurd (true≢false (sym h))
+same_flag false true h = absurd (true≢false (sym h))
+same_flag false false h = refl
+
+same_asked : (x y : Asked) → asked_eq x y ≡ true → x ≡ y
+same_asked x y h =
+    let (number, rest) = both (nat_eq x.number y.number) (beq x.zero y.zero && nat_eq x.level y.level) h in
+    let (nought, level) = both (beq x.zero y.zero) (nat_eq x.level y.level) rest in
+    λ j. record {
+      number = eqb-true x.number y.number number j;
+      zero = same_flag x.zero y.zero nought j;
+      level = eqb-true x.level y.level level j;
+    }
+
+module _ (qs : List Quad) (bit : ℕ) where
+  -- a valuation of which nothing is left is at the point as it is told
+  at_zero : (n : ℕ) (nought : Bool) (w : ℕ) → w ≡ 0 → is_at qs n nought bit w ≡ nought
+  at_zero n nought w is = ap (λ t. cond t nought (bit_of (points_of qs n w) bit)) (eq-eqb w 0 is)
+
+  -- and the others as their points say
+  at_others : (n : ℕ) (nought : Bool) (w : ℕ) → (w ≡ 0 → ⊥) → is_at qs n nought bit w ≡ bit_of (points_of qs n w) bit
+  at_others n nought w ne = ap (λ t. cond t nought (bit_of (points_of qs n w) bit)) (ne_eqb w 0 ne)
+
+  -- where it is told what its points say, all are
+  at_all : (n w : ℕ) → is_at qs n (bit_of (points_of qs n 0) bit) bit w ≡ bit_of (points_of qs n w) bit
+  at_all n w = elim (cases_eq w 0) [
+    | inl is ↦ at_zero n (bit_of (points_of qs n 0) bit) w is ∙ ap (λ k. bit_of (points_of qs n k) bit) (sym is)
+    | inr ne ↦ at_others n (bit_of (points_of qs n 0) bit) w ne
+  ]
+
+  -- 0 and 1 have no points
+  at_none : (n w : ℕ) → n ≤ 1 → is_at qs n false bit w ≡ false
+  at_none n w h =
+      ap (λ p. cond (nat_eq w 0) false (bit_of p bit)) (no_points qs n w h)
+      ∙ ap (λ p. cond (nat_eq w 0) false (p == 1)) (bit_at-zero bit) ∙ by (nat_eq w 0)
+    where
+      by : (t : Bool) → cond t false (0 == 1) ≡ false
+      by true = refl
+      by false = refl
+
+  -- the four ways on from a node
+  four_ways : (x : Quad) (n : ℕ) (nought : Bool) (w : ℕ) → sees qs x w ≡ points_of qs n w
+      → cond (w % 2 == 1)
+      (cond (w / 2 % 2 == 1) (bit_of (points_of qs x.both (w / 4)) bit) (bit_of (points_of qs x.first (w / 4)) bit))
+      (cond (w / 2 % 2 == 1) (bit_of (points_of qs x.second (w / 4)) bit) (is_at qs x.none nought bit (w / 4)))
+      ≡ is_at qs n nought bit w
+  four_ways x n nought w same = elim (cases_eq w 0) [
+    | inl is ↦
+        let low : w % 2 ≡ 0 = omega (arith, is) in
+        let high : w / 2 % 2 ≡ 0 = omega (arith, is) in
+        (λ j. cond (low j == 1)
+        (cond (w / 2 % 2 == 1) (bit_of (points_of qs x.both (w / 4)) bit) (bit_of (points_of qs x.first (w / 4)) bit))
+        (cond (high j == 1) (bit_of (points_of qs x.second (w / 4)) bit) (is_at qs x.none nought bit (w / 4))))
+        ∙ at_zero x.none nought (w / 4) (omega (arith, is)) ∙ sym (at_zero n nought w is)
+    | inr ne ↦
+        by_four w (λ r p q. cond (p == 1)
+        (cond (q == 1) (bit_of (points_of qs x.both (w / 4)) bit) (bit_of (points_of qs x.first (w / 4)) bit))
+        (cond (q == 1) (bit_of (points_of qs x.second (w / 4)) bit) (is_at qs x.none nought bit (w / 4)))
+        ≡ bit_of
+        (points_of qs (cond (nat_eq r 0) x.none (cond (nat_eq r 1) x.first (cond (nat_eq r 2) x.second x.both))) (w / 4)) bit)
+        (λ low. at_others x.none nought (w / 4) (λ is. ne (omega (arith, low, is)))) refl refl refl
+        ∙ sym (at_others n nought w ne
+        ∙ ap (λ p. bit_of p bit) (sym same ∙ ap (λ t. cond t x.points (points_of qs (turn x w) (w / 4))) (ne_eqb w 0 ne)))
+  ]
+
+  -- the nodes of a number that has what is asked for
+  at_leaf_answers : (ns : List Node) (asked : Asked) (n : ℕ) → n ≤ 1 → asked.level ≤ 32
+      → ((v : ℕ) → v < 2 ^ 64 → is_at qs asked.number asked.zero bit (v / 4 ^ asked.level) ≡ nat_eq n 1)
+      → Answers qs bit ns asked n
+  at_leaf_answers ns asked n small most same = record {
+    inside = omega (arith, small);
+    deep = omega (arith, most, leaf_level ns n small);
+    same = λ v less. at_leaf child ns n v small ∙ sym (same v less);
+  }
+
+  -- behind the last level there is nothing left
+  pub last_answers : (ns : List Node) (asked : Asked) (n : ℕ) → n ≤ 1 → asked.level ≡ 32 → asked.zero ≡ nat_eq n 1
+      → Answers qs bit ns asked n
+  last_answers ns asked n small last told =
+      at_leaf_answers ns asked n small (omega (arith, last))
+      (λ v less. at_zero asked.number asked.zero (v / 4 ^ asked.level) (no_rest v asked.level last less) ∙ told)
+
+  -- no valuation is at the point by a number without points
+  pub none_answers : (ns : List Node) (asked : Asked) → asked.level ≤ 32 → asked.number ≤ 1 → asked.zero ≡ false
+      → Answers qs bit ns asked 0
+  none_answers ns asked most small told =
+      at_leaf_answers ns asked 0 (omega arith) most (λ v less.
+      ap (λ t. is_at qs asked.number t bit (v / 4 ^ asked.level)) told
+      ∙ at_none asked.number (v / 4 ^ asked.level) small)
+
+  -- more nodes leave a number what it has
+  answers_on : (ns ms : List Node) → Keeps ns ms → (asked : Asked) (n : ℕ) → Answers qs bit ns asked n
+      → Answers qs bit ms asked n
+  answers_on ns ms keeps asked n a =
+      let longer = keeps.longer in
+      let inside = a.inside in record {
+        inside = omega (arith, longer, inside);
+        deep = let deep = a.deep in let level = keeps.levels n inside in omega (arith, deep, level);
+        same = λ v less. keeps.same n v inside ∙ a.same v less;
+      }
+
+  pub found_on : (ns ms : List Node) → Keeps ns ms → (found : List (Asked × ℕ)) → AreFound qs bit ns found
+      → AreFound qs bit ms found
+  found_on ns ms keeps found have asked n at = answers_on ns ms keeps asked n (have asked n at)
+
+  -- one more number is found
+  pub found_more : (ns : List Node) (old new : List (Asked × ℕ)) (own : Asked) (number : ℕ) → AreFound qs bit ns old
+      → Answers qs bit ns own number
+      → ((q : Asked) → lookup (asked_eq q) new ≡ cond (asked_eq own q) (Some number) (lookup (asked_eq q) old))
+      → AreFound qs bit ns new
+  found_more ns old new own number have answers updates asked n at = by (asked_eq own asked) refl
+    where
+      by : (t : Bool) → asked_eq own asked ≡ t → Answers qs bit ns asked n
+      by true e =
+          let same : number ≡ n = same_Some number n
+          (sym (ap (λ t. cond t (Some number) (lookup (asked_eq asked) old)) e) ∙ sym (updates asked) ∙ at) in
+          subst (Answers qs bit ns asked) same
+          (subst (λ a. Answers qs bit ns a number) (same_asked own asked e) answers)
+      by false e =
+          have asked n (sym (ap (λ t. cond t (Some number) (lookup (asked_eq asked) old)) e) ∙ sym (updates asked) ∙ at)
+
+  -- what is asked for begins with what a number's points say
+  abbrev pub Begins : ℕ → ℕ → Asked → Type 0
+  Begins n l asked = (asked.number ≡ n) × (asked.zero ≡ bit_of (points_of qs n 0) bit) × (asked.level ≡ l)
+
+  begun_same : (ns : List Node) (asked : Asked) (m n l v : ℕ) → Answers qs bit ns asked m → Begins n (l + 1) asked → v < 2 ^ 64
+      → accepts ns m v ≡ bit_of (points_of qs n (v / 4 ^ l / 4)) bit
+  begun_same ns asked m n l v a (number, nought, level) less =
+      a.same v less ∙ (λ j. is_at qs (number j) (nought j) bit (v / 4 ^ (level j))) ∙ at_all n (v / 4 ^ (l + 1))
+      ∙ ap (λ u. bit_of (points_of qs n u) bit) (next_rest v l)
+
+  -- a number's set by those of the four ways on
+  module _ (n1 n2 n3 n4 n5 n6 : List Node) (k12 : Keeps n1 n2) (k23 : Keeps n2 n3) (k34 : Keeps n3 n4) (k45 : Keeps n4 n5)
+      (k56 : Keeps n5 n6) (asked a b c : Asked) (x : Quad) (none first second both low high : ℕ)
+      (same : (v : ℕ) → sees qs x v ≡ points_of qs asked.number v) (begins-a : Begins x.first (asked.level + 1) a)
+      (begins-b : Begins x.second (asked.level + 1) b) (begins-c : Begins x.both (asked.level + 1) c)
+      (none-is : Answers qs bit n1 (record { number = x.none; zero = asked.zero; level = asked.level + 1 }) none)
+      (first-is : Answers qs bit n2 a first) (second-is : Answers qs bit n3 b second) (both-is : Answers qs bit n4 c both)
+      (inside : IsNumber n5 low)
+      (low-is : (v : ℕ) → accepts n5 low v ≡ cond (bit_of v (2 * asked.level + 1)) (accepts n4 second v) (accepts n4 none v))
+      (high-is : (v : ℕ) → accepts n6 high v ≡ cond (bit_of v (2 * asked.level + 1)) (accepts n5 both v) (accepts n5 first v))
+    where
+      -- those without the bit at the level
+      lower : (v : ℕ) → v < 2 ^ 64 → accepts n6 low v ≡ cond (v / 4 ^ asked.level / 2 % 2 == 1)
+          (bit_of (points_of qs x.second (v / 4 ^ asked.level / 4)) bit) (is_at qs x.none asked.zero bit (v / 4 ^ asked.level / 4))
+      lower v less =
+          let other = answers_on n3 n4 k34 b second second-is in
+          let rest = answers_on n1 n4 (on n1 n2 n4 k12 (on n2 n3 n4 k23 k34)) _ none none-is in
+          let there : accepts n4 second v ≡ bit_of (points_of qs x.second (v / 4 ^ asked.level / 4)) bit =
+          begun_same n4 b second x.second asked.level v other begins-b less in
+          let here : accepts n4 none v ≡ is_at qs x.none asked.zero bit (v / 4 ^ asked.level / 4) =
+          rest.same v less ∙ ap (is_at qs x.none asked.zero bit) (next_rest v asked.level) in
+          k56.same low v inside ∙ low-is v ∙ (λ j. cond (second_bit v asked.level j) (there j) (here j))
+
+      -- and those with it
+      upper : (v : ℕ) → v < 2 ^ 64 → accepts n6 high v ≡ cond (v / 4 ^ asked.level / 2 % 2 == 1)
+          (bit_of (points_of qs x.both (v / 4 ^ asked.level / 4)) bit) (bit_of (points_of qs x.first (v / 4 ^ asked.level / 4)) bit)
+      upper v less =
+          let other = answers_on n4 n5 k45 c both both-is in
+          let rest = answers_on n2 n5 (on n2 n3 n5 k23 (on n3 n4 n5 k34 k45)) a first first-is in
+          let there : accepts n5 both v ≡ bit_of (points_of qs x.both (v / 4 ^ asked.level / 4)) bit =
+          begun_same n5 c both x.both asked.level v other begins-c less in
+          let here : accepts n5 first v ≡ bit_of (points_of qs x.first (v / 4 ^ asked.level / 4)) bit =
+          begun_same n5 a first x.first asked.level v rest begins-a less in
+          high-is v ∙ (λ j. cond (second_bit v asked.level j) (there j) (here j))
+
+      pub parted_answers : {E : Type 0} (n7 : List Node) (r : Result ℕ E) → IfOk r (λ n. IsNumber n7 n)
+          → IfOk r (λ n. 2 * asked.level ≤ level_of n7 n)
+          → IfOk r (λ n. (v : ℕ) → accepts n7 n v ≡ cond (bit_of v (2 * asked.level)) (accepts n6 high v) (accepts n6 low v))
+          → IfOk r (Answers qs bit n7 asked)
+      parted_answers n7 (Err e) inside' deep joined = tt
+      parted_answers n7 (Ok n) inside' deep joined = record {
+        inside = inside';
+        deep = deep;
+        same = λ v less.
+            joined v ∙ (λ j. cond (first_bit v asked.level j) (upper v less j) (lower v less j))
+            ∙ four_ways x asked.number asked.zero (v / 4 ^ asked.level) (same (v / 4 ^ asked.level));
+      }

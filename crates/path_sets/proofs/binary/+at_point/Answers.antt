@@ -1,0 +1,106 @@
+use Rattle.std.proofs.Common.{List, arith, sym, subst}
+use Rattle.path_sets.specs.declared.node.Node.{Node}
+use Rattle.path_sets.specs.Diagrams.{Keeps}
+use Rattle.path_sets.specs.Binary.{AreFound}
+use Rattle.path_sets.proofs.OnePoint.{found_more, found_on, last_answers, none_answers, on, parted_answers}
+use Rattle.path_sets.proofs.binary.+at_point.Goals as goal
+
+pub at_point-returns-then-asked-clause-answers : goal.at_point-returns-then-asked-clause-answers
+at_point-returns-then-asked-clause-answers g t c =
+    last_answers c.args.quads.now.kept.keys c.args.bit c.args.nodes.now.kept.keys c.args.asked 1 (omega arith) c.if-asked-eq32.true
+    c.if-asked.true
+
+pub at_point-returns-else-asked-clause-answers : goal.at_point-returns-else-asked-clause-answers
+at_point-returns-else-asked-clause-answers g t c =
+    last_answers c.args.quads.now.kept.keys c.args.bit c.args.nodes.now.kept.keys c.args.asked 0 (omega arith) c.if-asked-eq32.true
+    c.if-asked.false
+
+pub at_point-returns-then-not-asked-clause-answers : goal.at_point-returns-then-not-asked-clause-answers
+at_point-returns-then-not-asked-clause-answers g t c =
+    none_answers c.args.quads.now.kept.keys c.args.bit c.args.nodes.now.kept.keys c.args.asked c.requires.level
+    c.if-asked-le-ALL.true c.if-not-asked.true
+
+pub at_point-returns-in-Some-clause-answers : goal.at_point-returns-in-Some-clause-answers
+at_point-returns-in-Some-clause-answers g t c = c.requires.found c.args.asked c.in-Some.number.now (sym c.in-Some.ensures.value)
+
+pub at_point-returns-in_err-insert-clause-found : goal.at_point-returns-in_err-insert-clause-found
+at_point-returns-in_err-insert-clause-found g t c =
+    subst (AreFound c.args.quads.now.kept.keys c.args.bit c.parted.new.nodes.kept.keys) (sym c.in_err-insert.ensures.err)
+    c.in_ok-number.ensures.found
+
+pub at_point-returns-clause-found : goal.at_point-returns-clause-found
+at_point-returns-clause-found g t c =
+    found_more c.args.quads.now.kept.keys c.args.bit c.parted.new.nodes.kept.keys c.parted.new.found.entries
+    c.insert.new.self.entries c.args.asked c.in_ok-number.number c.in_ok-number.ensures.found c.in_ok-number.ensures.answers
+    c.in_ok-insert.ensures.updates.0
+
+-- the nodes that there were before the four ways on
+before_low : (n0 n1 n2 n3 n4 n5 : List Node) → Keeps n0 n1 → Keeps n1 n2 → Keeps n2 n3 → Keeps n3 n4 → Keeps n4 n5 → Keeps n0 n5
+before_low n0 n1 n2 n3 n4 n5 a b c d e = on n0 n4 n5 (on n0 n2 n4 (on n0 n1 n2 a b) (on n2 n3 n4 c d)) e
+
+pub parted-returns-in_err-low-clause-keeps : goal.parted-returns-in_err-low-clause-keeps
+parted-returns-in_err-low-clause-keeps g t c =
+    before_low c.args.nodes.now.kept.keys c.at_point.new.nodes.kept.keys c.at_point-2.new.nodes.kept.keys
+    c.at_point-3.new.nodes.kept.keys c.at_point-4.new.nodes.kept.keys c.make.new.self.kept.keys c.in_ok-none.ensures.keeps
+    c.in_ok-first.ensures.keeps c.in_ok-second.ensures.keeps c.in_ok-both.ensures.keeps c.make.ensures.keeps
+
+pub parted-returns-in_err-low-clause-found : goal.parted-returns-in_err-low-clause-found
+parted-returns-in_err-low-clause-found g t c =
+    found_on c.args.quads.now.kept.keys c.args.bit c.at_point-4.new.nodes.kept.keys c.make.new.self.kept.keys c.make.ensures.keeps
+    c.at_point-4.new.found.entries c.in_ok-both.ensures.found
+
+pub parted-returns-in_err-high-clause-keeps : goal.parted-returns-in_err-high-clause-keeps
+parted-returns-in_err-high-clause-keeps g t c =
+    let n5 = c.make.new.self.kept.keys in
+    on c.args.nodes.now.kept.keys n5 c.make-2.new.self.kept.keys
+    (before_low c.args.nodes.now.kept.keys c.at_point.new.nodes.kept.keys c.at_point-2.new.nodes.kept.keys
+    c.at_point-3.new.nodes.kept.keys c.at_point-4.new.nodes.kept.keys n5 c.in_ok-none.ensures.keeps
+    c.in_ok-first.ensures.keeps c.in_ok-second.ensures.keeps c.in_ok-both.ensures.keeps c.make.ensures.keeps)
+    c.make-2.ensures.keeps
+
+pub parted-returns-in_err-high-clause-found : goal.parted-returns-in_err-high-clause-found
+parted-returns-in_err-high-clause-found g t c =
+    let n4 = c.at_point-4.new.nodes.kept.keys in
+    let n5 = c.make.new.self.kept.keys in
+    let n6 = c.make-2.new.self.kept.keys in
+    found_on c.args.quads.now.kept.keys c.args.bit n4 n6 (on n4 n5 n6 c.make.ensures.keeps c.make-2.ensures.keeps)
+    c.at_point-4.new.found.entries c.in_ok-both.ensures.found
+
+pub parted-returns-clause-keeps : goal.parted-returns-clause-keeps
+parted-returns-clause-keeps g t c =
+    let n5 = c.make.new.self.kept.keys in
+    let n6 = c.make-2.new.self.kept.keys in
+    let n7 = c.make-3.new.self.kept.keys in
+    on c.args.nodes.now.kept.keys n5 n7
+    (before_low c.args.nodes.now.kept.keys c.at_point.new.nodes.kept.keys c.at_point-2.new.nodes.kept.keys
+    c.at_point-3.new.nodes.kept.keys c.at_point-4.new.nodes.kept.keys n5 c.in_ok-none.ensures.keeps
+    c.in_ok-first.ensures.keeps c.in_ok-second.ensures.keeps c.in_ok-both.ensures.keeps c.make.ensures.keeps)
+    (on n5 n6 n7 c.make-2.ensures.keeps c.make-3.ensures.keeps)
+
+pub parted-returns-clause-found : goal.parted-returns-clause-found
+parted-returns-clause-found g t c =
+    let n4 = c.at_point-4.new.nodes.kept.keys in
+    let n5 = c.make.new.self.kept.keys in
+    let n6 = c.make-2.new.self.kept.keys in
+    let n7 = c.make-3.new.self.kept.keys in
+    found_on c.args.quads.now.kept.keys c.args.bit n4 n7
+    (on n4 n6 n7 (on n4 n5 n6 c.make.ensures.keeps c.make-2.ensures.keeps) c.make-3.ensures.keeps)
+    c.at_point-4.new.found.entries c.in_ok-both.ensures.found
+
+pub parted-returns-clause-answers : goal.parted-returns-clause-answers
+parted-returns-clause-answers g t c =
+    let x = c.node-quad.result in
+    let first = c.begin-first in
+    let second = c.begin-second in
+    let both = c.begin-both in
+    parted_answers c.args.quads.now.kept.keys c.args.bit c.at_point.new.nodes.kept.keys c.at_point-2.new.nodes.kept.keys
+    c.at_point-3.new.nodes.kept.keys c.at_point-4.new.nodes.kept.keys c.make.new.self.kept.keys c.make-2.new.self.kept.keys
+    c.in_ok-first.ensures.keeps c.in_ok-second.ensures.keeps c.in_ok-both.ensures.keeps c.make.ensures.keeps c.make-2.ensures.keeps
+    c.args.asked first.result second.result both.result x c.in_ok-none.none c.in_ok-first.first c.in_ok-second.second
+    c.in_ok-both.both c.in_ok-low.low c.in_ok-high.high c.node-quad.ensures.same
+    (first.ensures.number, first.ensures.zero, first.ensures.level)
+    (second.ensures.number, second.ensures.zero, second.ensures.level)
+    (both.ensures.number, both.ensures.zero, both.ensures.level)
+    c.in_ok-none.ensures.answers c.in_ok-first.ensures.answers c.in_ok-second.ensures.answers c.in_ok-both.ensures.answers
+    c.in_ok-low.ensures.inside c.in_ok-low.ensures.joined c.in_ok-high.ensures.joined c.make-3.new.self.kept.keys c.make-3.result
+    c.make-3.ensures.inside c.make-3.ensures.deep c.make-3.ensures.joined
