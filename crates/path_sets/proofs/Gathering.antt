@@ -86,7 +86,7 @@ same_edges gs hs order t h =
     placed hs c t (at_index hs c j (slice_get-get_or hs j c within ∙ ap Some same)) is
 
 -- the edges of places and of more places are the edges of all of them
-edges_append : (gs hs : Groups) → edges (gs ++ hs) ≡ edges gs ++ edges hs
+pub edges_append : (gs hs : Groups) → edges (gs ++ hs) ≡ edges gs ++ edges hs
 edges_append [] hs = refl
 edges_append (g ∷ gs) hs =
     ap (λ es. edges_in g.0 g.1 ++ es) (edges_append gs hs) ∙ sym (append_assoc (edges_in g.0 g.1) (edges gs) (edges hs))

@@ -23,3 +23,4 @@ pub mod Alike
 pub mod Unique
 pub mod Chains
 pub mod Gathering
+pub mod Covered

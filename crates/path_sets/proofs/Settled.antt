@@ -1,10 +1,9 @@
 -- What a point that is put into a mask does to the edges of all masks.
-use Rattle.std.proofs.Common.{◌≡◌, ℕ, ◌<◌, ◌^◌, Bool, true, false, List, None, Some, slice_get, sym}
+use Rattle.std.proofs.Common.{◌≡◌, ℕ, ◌<◌, ◌^◌, Bool, true, false, List, [], ◌∷◌, ◌++◌, None, Some, slice_get, sym}
 use Rattle.std.proofs.Common.{◌∙◌, subst, true≢false}
 use Rattle.std.specs.List.{IsDistinct}
 use Rattle.std.specs.Map.{keys_of, values_of, lookup}
-use Rattle.indexmap.specs.IndexMap.{IndexMap, set_value_at, insert_entry}
-use Rattle.indexmap.proofs.CallerLemmas.{insert_entry-new}
+use Rattle.indexmap.specs.IndexMap.{set_value_at}
 use Rattle.language.specs.Flow.{Member}
 use Rattle.path_sets.specs.declared.place.Place.{Place}
 use Rattle.path_sets.specs.Edges.{edge_at, edges, place_eq}
@@ -25,14 +24,11 @@ settled gs i p m w b small distinct at value false (set, same) =
     (same_group gs i m w value same, in_group gs i p m b at (bits_hold m b 64 small set))
 
 -- the first point of a place that had none is a new edge
-pub started : {S : Type 0} (old : IndexMap Place ℕ S) (new : Groups) (p : Place) (w b : ℕ) → b < 64 → w ≡ 2 ^ b →
-    lookup (place_eq p) old.entries ≡ None → new ≡ insert_entry place_eq old.entries p w →
-    Settles (edge_at p b) (edges old.entries) (edges new) true
+pub started : (old new : Groups) (p : Place) (w b : ℕ) → b < 64 → w ≡ 2 ^ b → lookup (place_eq p) old ≡ None →
+    new ≡ old ++ (p, w) ∷ [] → Settles (edge_at p b) (edges old) (edges new) true
 started old new p w b small is none made = (
-  subst (λ (es : Groups). Inserts (edge_at p b) (edges old.entries) (edges es))
-      (sym (made ∙ insert_entry-new place_eq old p w none))
-      (put_last old.entries p w b (first_bit w b small is)),
-  no_edge old.entries p b small (absent old.entries p none),
+  subst (λ (es : Groups). Inserts (edge_at p b) (edges old) (edges es)) (sym made) (put_last old p w b (first_bit w b small is)),
+  no_edge old p b small (absent old p none),
 )
 
 module _ {A : Type 0} (x : A) (old new : List A) where

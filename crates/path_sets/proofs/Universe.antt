@@ -1,6 +1,6 @@
 -- Members of sets that are decision diagrams.
 use Rattle.std.proofs.Common.{◌≡◌, ℕ, ◌+◌, ◌<◌, ◌^◌, Bool, true, false, ◌&&◌, ◌||◌}
-use Rattle.std.proofs.Common.{nat_eq, List, [], ◌∷◌, map, length, ◌⊎◌, ◌↔◌, inl, inr}
+use Rattle.std.proofs.Common.{nat_eq, List, [], ◌∷◌, map, filter, length, ◌⊎◌, ◌↔◌, inl, inr}
 use Rattle.std.proofs.Common.{refl, sym, ap, ap₂, ◌∙◌, subst, true≢false, eq-eqb}
 use Rattle.std.specs.List.{list_any}
 use Rattle.std.proofs.lemmas.Map.Views.{exact_unsigned_eq}
@@ -12,7 +12,7 @@ use Rattle.path_sets.specs.declared.rows.Row.{Row}
 use Rattle.path_sets.specs.Triples.{Triple, triple, NoneTwice}
 use Rattle.path_sets.specs.Edges.{edges}
 use Rattle.path_sets.specs.Diagrams.{Takes, merged_has}
-use Rattle.path_sets.specs.Members.{below, each, universe, triple_eq, has_edge, all_edges}
+use Rattle.path_sets.specs.Members.{below, each, universe, triple_eq, has_edge, all_edges, IsThere}
 use Rattle.path_sets.proofs.Places.{both}
 use Rattle.path_sets.proofs.Filtered.{kept_is, is_kept, same_kept, kept_none_twice, one_more, in_each}
 use Rattle.path_sets.proofs.Filtered.{of_each, each_none_twice, map_none_twice, in_below, of_below, below_none_twice}
@@ -114,7 +114,7 @@ same_test false false f g = refl
 
 module _ (nodes : List Quad) (rows : List (Row × ℕ)) (masks : List (Place × ℕ)) where
   abbrev pub Has : Triple → Type 0
-  Has t = (merged_has nodes rows t ≡ true) ⊎ Member t (edges masks)
+  Has t = IsThere nodes rows masks t
 
   pub has_is : (t : Triple) → has_edge nodes rows masks t ≡ true → Has t
   has_is t h = elim (or_is (merged_has nodes rows t) (list_any (triple_eq t) (edges masks)) h) [
@@ -171,21 +171,15 @@ module _ (ns ms : List Quad) (rs ss : List (Row × ℕ)) (masks masks' : List (P
     ],
   ))
 
--- one more path edge among those gathered
-module _ (ns : List Quad) (rs : List (Row × ℕ)) (masks masks' : List (Place × ℕ)) (x : Triple) (fits : Fits x)
-    (more : (t : Triple) → Member t (edges masks') ↔ ((t ≡ x) ⊎ Member t (edges masks))) where
-  pub has_more : (t : Triple) → Has ns rs masks' t ↔ ((t ≡ x) ⊎ Has ns rs masks t)
-  has_more t = (
-    λ h. elim h [
-      | inl merged ↦ inr (inl merged)
-      | inr gathered ↦ elim ((more t).0 gathered) [ inl is ↦ inl is | inr was ↦ inr (inr was) ]
-    ],
-    λ h. elim h [
-      | inl is ↦ inr ((more t).1 (inl is))
-      | inr was ↦ elim was [ inl merged ↦ inl merged | inr gathered ↦ inr ((more t).1 (inr gathered)) ]
-    ],
-  )
+-- the same is gathered
+pub same_gathered : (ns : List Quad) (rs : List (Row × ℕ)) (masks masks' : List (Place × ℕ)) → edges masks' ≡ edges masks
+    → all_edges ns rs masks' ≡ all_edges ns rs masks
+same_gathered ns rs masks masks' same =
+    ap (λ es. filter (λ t. merged_has ns rs t || list_any (triple_eq t) es) universe) same
 
+-- one more path edge is there
+module _ (ns : List Quad) (rs : List (Row × ℕ)) (masks masks' : List (Place × ℕ)) (x : Triple) (fits : Fits x)
+    (has_more : (t : Triple) → Has ns rs masks' t ↔ ((t ≡ x) ⊎ Has ns rs masks t)) where
   pub members_more : (t : Triple) → Member t (all_edges ns rs masks') ↔ ((t ≡ x) ⊎ Member t (all_edges ns rs masks))
   members_more t = (
     λ m. elim ((has_more t).0 (member_is ns rs masks' t m)) [

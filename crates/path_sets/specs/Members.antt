@@ -1,11 +1,14 @@
 -- The members of sets of path edges that are decision diagrams.
-use Rattle.std.specs.Prelude.{ℕ, zero, suc, ◌^◌, Bool, ◌&&◌, ◌||◌, nat_eq, List, [], ◌∷◌, ◌++◌, map, filter}
+use Rattle.std.specs.Prelude.{◌≡◌, ◌<◌, ◌↔◌, ◌⊎◌, ℕ, zero, suc, ◌^◌, Bool, true, false, ◌&&◌, ◌||◌, nat_eq}
+use Rattle.std.specs.Prelude.{List, [], ◌∷◌, ◌++◌, map, filter}
+use Rattle.std.specs.Map.{keys_of}
+use Rattle.language.specs.Flow.{Member}
 use Rattle.std.specs.List.{list_any}
 use Rattle.path_sets.specs.declared.quad.Quad.{Quad}
 use Rattle.path_sets.specs.declared.place.Place.{Place}
 use Rattle.path_sets.specs.declared.rows.Row.{Row}
 use Rattle.path_sets.specs.Triples.{Triple, triple}
-use Rattle.path_sets.specs.Edges.{edges}
+use Rattle.path_sets.specs.Edges.{edge_at, edges}
 use Rattle.path_sets.specs.Diagrams.{merged_has}
 
 -- the numbers below this one, the greatest first
@@ -26,10 +29,31 @@ universe = each (λ e. each (λ p. map (triple e p) (below (2 ^ 64))) (below (2 
 abbrev pub triple_eq : Triple → Triple → Bool
 triple_eq x y = nat_eq x.entry y.entry && (nat_eq x.point y.point && nat_eq x.values y.values)
 
--- whether a path edge is in the sets, or among those that are gathered
+-- whether a path edge is among those that are gathered
+abbrev pub is_gathered : List (Place × ℕ) → Triple → Bool
+is_gathered masks t = list_any (triple_eq t) (edges masks)
+
+-- whether a path edge is in the diagrams, or among those that are gathered
 abbrev pub has_edge : List Quad → List (Row × ℕ) → List (Place × ℕ) → Triple → Bool
-has_edge nodes rows masks t = merged_has nodes rows t || list_any (triple_eq t) (edges masks)
+has_edge nodes rows masks t = merged_has nodes rows t || is_gathered masks t
 
 -- all of these path edges
 abbrev pub all_edges : List Quad → List (Row × ℕ) → List (Place × ℕ) → List Triple
 all_edges nodes rows masks = filter (has_edge nodes rows masks) universe
+
+-- a path edge is in the diagrams, or among those that are gathered
+abbrev pub IsThere : List Quad → List (Row × ℕ) → List (Place × ℕ) → Triple → Type 0
+IsThere nodes rows masks t = (merged_has nodes rows t ≡ true) ⊎ Member t (edges masks)
+
+-- what the diagrams have at a place that is gathered is among what is gathered
+abbrev pub Covers : List Quad → List (Row × ℕ) → List (Place × ℕ) → Type 0
+Covers nodes rows masks =
+    (p : Place) (bit : ℕ) → bit < 64 → Member p (keys_of masks) → merged_has nodes rows (edge_at p bit) ≡ true
+    → is_gathered masks (edge_at p bit) ≡ true
+
+-- The path edge was not there, and it and what was there is; or it was there, and what is gathered is the same. The answer says
+-- which.
+abbrev pub Puts : List Quad → List (Row × ℕ) → Triple → List (Place × ℕ) → List (Place × ℕ) → Bool → Type 0
+Puts nodes rows x old new true =
+    (IsThere nodes rows old x → ⊥) × ((t : Triple) → IsThere nodes rows new t ↔ ((t ≡ x) ⊎ IsThere nodes rows old t))
+Puts nodes rows x old new false = IsThere nodes rows old x × (edges new ≡ edges old)

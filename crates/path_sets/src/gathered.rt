@@ -10,7 +10,7 @@ ghost use Rattle.path_sets.specs.Diagrams.{Takes, merged_has, row_of};
 use crate::merged::Merged;
 use crate::ordered::Masks;
 use crate::place::{Place, cell_at};
-use crate::rows::Row;
+use crate::rows::{Row, row_of};
 use std::alloc::{AllocError, Allocator};
 
 /// The place at an index, and its mask.
@@ -36,16 +36,6 @@ fn in_order<A: Allocator + Copy>(masks: &Masks<A>) -> Result<Vec<(Place, u64), A
         (cell.0.block, cell.0.entry, cell.0.values.reverse_bits())
     })?;
     Ok(cells)
-}
-
-/// The row of a place.
-fn row_of(place: &Place) -> Row
-    ensures { result ≡ row_of place.now }
-{
-    Row {
-        entry: place.entry,
-        block: place.block,
-    }
 }
 
 /// How many places there are, from the first on, that are of a row, of which the first is.

@@ -5,11 +5,11 @@ ghost use Rattle.path_sets.specs.Suffixes.{HasNodes};
 ghost use Rattle.std.proofs.lemmas.Map.Keys.{IsDistinct-prop};
 ghost use Rattle.indexmap.specs.IndexMap.{IsUnique, keys};
 ghost use Rattle.path_sets.specs.Triples.{Triple, triple};
+ghost use Rattle.path_sets.specs.Masks.{bit_of};
 ghost use Rattle.path_sets.specs.Diagrams.{HaveNumbers, InRun, Takes, merged_has, row_eq};
 
 use crate::binary::binary;
 use crate::inner::inner_nodes;
-use crate::mask::has;
 use crate::place::Place;
 use crate::quads::Quads;
 use crate::rows::{Row, Rows, root, seek, set_root};
@@ -65,14 +65,12 @@ impl<A: Allocator + Copy> Merged<A> {
         self.last = seek(&self.rows, self.last, row);
     }
 
-    /// Whether a valuation is at a point, which is a bit of a row.
-    pub(crate) fn has(&self, row: &Row, bit: usize, values: Word) -> bool
-        requires { bit < 64 }
-        ensures { result ≡ merged_has self.now.nodes.kept.keys self.now.rows.entries
+    /// The points of a row that a valuation is at.
+    pub(crate) fn points(&self, row: &Row, values: Word) -> u64
+        ensures { (bit : ℕ) → bit < 64 → bit_of result bit ≡ merged_has self.now.nodes.kept.keys self.now.rows.entries
             (triple row.now.entry (64 * row.now.block + bit) values) }
     {
-        let root = root(&self.rows, self.last, row);
-        has(self.nodes.points(root, values), bit)
+        self.nodes.points(root(&self.rows, self.last, row), values)
     }
 
     /// Puts the points of places, whatever their rows, into the diagram of one row. Where memory is refused, none of them are

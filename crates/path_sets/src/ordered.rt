@@ -1,7 +1,8 @@
 //! A set of path edges that keeps a mask of points for each valuation of each entry.
 
-ghost use Rattle.std.specs.Prelude.{◌≡◌, ◌<◌, ◌^◌, false, [], length, None, Some, slice_get};
-ghost use Rattle.std.specs.Prelude.{IfOk, IfSome, IsNone, OnErr};
+ghost use Rattle.std.specs.Prelude.{◌≡◌, ◌<◌, [], ◌∷◌, ◌++◌, length, None, Some, slice_get};
+ghost use Rattle.std.specs.Prelude.{IfOk, IfSome, IsNone, OnOk, OnErr};
+ghost use Rattle.path_sets.specs.declared.place.Place.{Place};
 ghost use Rattle.std.specs.Map.{lookup};
 ghost use Rattle.std.proofs.lemmas.Map.Keys.{IsDistinct-prop};
 ghost use Rattle.indexmap.specs.IndexMap.{IsUnique, index_map_len, keys};
@@ -24,7 +25,7 @@ pub(crate) type Masks<A> = IndexMap<Place, u64, BuildHasherDefault<FoldHasher>, 
 /// unchanged through many points.
 #[derive(Drop)]
 pub struct OrderedEdges<A: Allocator> {
-    pub(crate) masks: Masks<A>,
+    masks: Masks<A>,
     /// The index of the place that was used last, which is mostly that of the next edge.
     last: usize,
     count: u64,
@@ -34,7 +35,11 @@ pub struct OrderedEdges<A: Allocator> {
 }
 
 /// The index of a place, if it has a mask; the one used last is tried first.
-fn find<A: Allocator + Copy>(masks: &Masks<A>, last: usize, place: &Place) -> Option<usize>
+pub(crate) fn find<A: Allocator + Copy>(
+    masks: &Masks<A>,
+    last: usize,
+    place: &Place,
+) -> Option<usize>
     ensures here { IfSome result (λ at. slice_get (keys masks.now) at ≡ Some place.now) }
     ensures within { IfSome result (λ at. at < index_map_len masks.now) }
     ensures none { IsNone result → lookup (place_eq place.now) masks.now.entries ≡ None }
@@ -48,19 +53,31 @@ fn find<A: Allocator + Copy>(masks: &Masks<A>, last: usize, place: &Place) -> Op
 }
 
 /// Begins the mask of a place that has none.
-fn start<A: Allocator + Copy>(
+pub(crate) fn begin<A: Allocator + Copy>(
     masks: &mut Masks<A>,
     place: Place,
-    bit: usize,
-) -> Result<bool, AllocError>
-    requires bit { bit < 64 }
-    requires none { lookup (place_eq place) masks.old.entries ≡ None }
-    ensures ok { IfOk result (Settles (edge_at place bit) (edges masks.old.entries) (edges masks.new.entries)) }
-    ensures err { OnErr result (edges masks.new.entries ≡ edges masks.old.entries) }
+    mask: u64,
+) -> Result<(), AllocError>
+    requires { lookup (place_eq place) masks.old.entries ≡ None }
+    ensures ok { OnOk result (masks.new.entries ≡ masks.old.entries ++ (place, mask) ∷ []) }
+    ensures err { OnErr result (masks.new.entries ≡ masks.old.entries) }
     ensures unique { IsUnique place_eq masks.new }
 {
-    masks.insert(place, one(bit))?;
-    Ok(true)
+    masks.insert(place, mask)?;
+    Ok(())
+}
+
+/// Puts a point into the mask at an index. Answers whether it is new.
+pub(crate) fn mark_at<A: Allocator + Copy>(masks: &mut Masks<A>, at: usize, bit: usize) -> bool
+    requires bit { bit < 64 }
+    requires within { at < index_map_len masks.old }
+    requires unique { IsUnique place_eq masks.old }
+    ensures settles { (p : Place) → slice_get (keys masks.old) at ≡ Some p
+        → Settles (edge_at p bit) (edges masks.old.entries) (edges masks.new.entries) result }
+    ensures keys { keys masks.new ≡ keys masks.old }
+    ensures unique { IsUnique place_eq masks.new }
+{
+    mark(&mut masks[at], bit)
 }
 
 /// Puts a point into the mask of its place. Answers whether it is new.
@@ -79,34 +96,13 @@ fn put<A: Allocator + Copy>(
     match find(masks, *last, &place) {
         Some(at) => {
             *last = at;
-            Ok(mark(&mut masks[at], bit))
+            Ok(mark_at(masks, at, bit))
         }
         None => {
             *last = masks.len();
-            start(masks, place, bit)
+            begin(masks, place, one(bit))?;
+            Ok(true)
         }
-    }
-}
-
-/// How many places and how many path edges are many.
-const MANY: usize = 4_096;
-
-const MANY_EDGES: u64 = 262_144;
-
-impl<A: Allocator + Copy> OrderedEdges<A> {
-    /// Whether it has many places, or many path edges.
-    pub(crate) fn is_full(&self) -> bool
-        ensures { result ≡ false → length (edges self.now.masks.entries) < 2 ^ 63 }
-    {
-        self.masks.len() >= MANY || self.count >= MANY_EDGES
-    }
-
-    /// Takes all path edges out, and keeps the memory.
-    pub(crate) fn clear(&mut self)
-        ensures { edges self.new.masks.entries ≡ [] }
-    {
-        self.masks.clear();
-        self.count = 0;
     }
 }
 

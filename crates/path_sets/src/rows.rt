@@ -3,8 +3,9 @@
 ghost use Rattle.std.specs.Prelude.{◌≡◌, ◌<◌, ℕ, OnOk, OnErr, None, Some, IfSome, IsNone, slice_get};
 ghost use Rattle.std.specs.Map.{lookup};
 ghost use Rattle.indexmap.specs.IndexMap.{IsUnique, index_map_len, keys, values};
-ghost use Rattle.path_sets.specs.Diagrams.{root_of, row_eq, Roots};
+ghost use Rattle.path_sets.specs.Diagrams.{root_of, row_eq, row_of, Roots};
 
+use crate::place::Place;
 use indexmap::IndexMap;
 use language::Word;
 use std::alloc::{AllocError, Allocator};
@@ -15,6 +16,16 @@ use std::hash::{BuildHasherDefault, FoldHasher};
 pub(crate) struct Row {
     pub(crate) entry: Word,
     pub(crate) block: usize,
+}
+
+/// The row of a place.
+pub(crate) fn row_of(place: &Place) -> Row
+    ensures { result ≡ row_of place.now }
+{
+    Row {
+        entry: place.entry,
+        block: place.block,
+    }
 }
 
 /// For each row the number of its diagram, in the order in which the rows are first met.
