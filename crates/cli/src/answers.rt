@@ -20,7 +20,7 @@ use crate::sequential::sequential;
 use command_line::Order;
 use flow_graph::Graphs;
 use gather::{Answer, Report, WorkBoard, WorkSet};
-use path_sets::OrderedEdges;
+use path_sets::DiagramEdges;
 use procedure_worker::{Gate, Open};
 use refusals::{Refusal, line, status};
 use round_rewrite::Rounds;
@@ -212,7 +212,7 @@ where
         → IsPastLimit text.now order }
     ensures status { result.status ≤ 3 }
 {
-    answer_with::<R, LockPerBox<Due, Graphs<R::A>, R::A>, OrderedEdges<R::A>, Open>(
+    answer_with::<R, LockPerBox<Due, Graphs<R::A>, R::A>, DiagramEdges<R::A>, Open>(
         rt,
         rt.alloc(),
         rt.alloc(),

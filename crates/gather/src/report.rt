@@ -14,7 +14,7 @@ use crate::crew::{parted, work_all};
 use crate::gathering::gather;
 use crate::kinds::{WorkBoard, WorkSet};
 use flow_graph::{Graphs, graphs};
-use path_sets::OrderedEdges;
+use path_sets::DiagramEdges;
 use post_ledger::Ledger;
 use procedure_worker::Gate;
 use round_rewrite::{RewriteFault, Rounds, rewrite};
@@ -129,7 +129,7 @@ where
     })
 }
 
-/// The same over a board with a lock for each mailbox and ordered sets of path edges, all in memory of one allocator.
+/// The same over a board with a lock for each mailbox and path edges as decision diagrams, all in memory of one allocator.
 pub fn check_rounds<R, A, K, N>(
     rt: &R,
     alloc: A,
@@ -146,7 +146,7 @@ where
     ensures report { IfOk result (IsReport (checked_tree program.now) (last_round rounds) (most_of limit)) }
     ensures none { IfErr result (IsNoReport (checked_tree program.now) (last_round rounds) (most_of limit)) }
 {
-    check_rounds_with::<R, LockPerBox<Due, Graphs<A>, A>, OrderedEdges<A>, K, N>(
+    check_rounds_with::<R, LockPerBox<Due, Graphs<A>, A>, DiagramEdges<A>, K, N>(
         rt, alloc, alloc, program, rounds, limit, gate,
     )
 }

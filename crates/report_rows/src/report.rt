@@ -27,9 +27,9 @@ where
 {
     let (program, rounds, limit) = (&asked.program, asked.rounds, asked.limit);
     match (parts.one_lock, parts.diagrams) {
-        (false, false) => check_rounds(rt, alloc, program, rounds, limit, gate),
-        (false, true) => {
-            check_rounds_with::<R, LockPerBox<Due, Graphs<A>, A>, DiagramEdges<A>, K, Global>(
+        (false, true) => check_rounds(rt, alloc, program, rounds, limit, gate),
+        (false, false) => {
+            check_rounds_with::<R, LockPerBox<Due, Graphs<A>, A>, OrderedEdges<A>, K, Global>(
                 rt, alloc, alloc, program, rounds, limit, gate,
             )
         }
