@@ -45,6 +45,19 @@ in_first (suc n) (y ∷ ys) x (inr later) = let r = in_first n ys x later in let
 pub iff_on : (A B C : Type 0) → A ↔ B → B ↔ C → A ↔ C
 iff_on A B C f g = (λ a. g.0 (f.0 a), λ c. f.1 (g.1 c))
 
+-- what has the first of two parts is put beside the second
+regroup : (New Old First Rest All : Type 0) → New ↔ (Old ⊎ First) → All ↔ (First ⊎ Rest) → (New ⊎ Rest) ↔ (Old ⊎ All)
+regroup New Old First Rest All own all = (
+  λ h. elim h [
+    | inl new ↦ elim (own.0 new) [ inl was ↦ inl was | inr first ↦ inr (all.1 (inl first)) ]
+    | inr later ↦ inr (all.1 (inr later))
+  ],
+  λ h. elim h [
+    | inl was ↦ inl (own.1 (inl was))
+    | inr whole ↦ elim (all.0 whole) [ inl first ↦ inl (own.1 (inr first)) | inr later ↦ inr later ]
+  ],
+)
+
 larger_bit : (a b : ℕ) → a < 2 → b < 2 → (max a b == 1) ≡ cond (a == 1) true (b == 1)
 larger_bit zero zero small small' = refl
 larger_bit zero (suc zero) small small' = refl
@@ -125,18 +138,7 @@ module _ (ns : List Quad) (x : Quad) (place : Place) (mask l : ℕ) (more : List
 
   pub stops : (v i : ℕ) → ((bit_of (sees ns marked v) i ≡ true) ⊎ Given more l v i)
       ↔ ((bit_of (sees ns x v) i ≡ true) ⊎ Given ((place, mask) ∷ more) l v i)
-  stops v i =
-      let own = node_marked v i in
-      let all = first_given place mask more l v i in (
-        λ h. elim h [
-          | inl set ↦ elim (own.0 set) [ inl was ↦ inl was | inr first ↦ inr (all.1 (inl first)) ]
-          | inr later ↦ inr (all.1 (inr later))
-        ],
-        λ h. elim h [
-          | inl was ↦ inl (own.1 (inl was))
-          | inr given ↦ elim (all.0 given) [ inl first ↦ inl (own.1 (inr first)) | inr later ↦ inr later ]
-        ],
-      )
+  stops v i = regroup _ _ _ _ _ (node_marked v i) (first_given place mask more l v i)
 
 -- a run of places whose valuations go on alike gives its points to the child that they go on to
 module _ (ns ms : List Quad) (x y : Quad) (run more : List (Place × ℕ)) (l rest child : ℕ) (keeps : KeepQuads ns ms)
@@ -206,18 +208,7 @@ module _ (ns ms : List Quad) (x y : Quad) (run more : List (Place × ℕ)) (l re
 
   pub goes_on : (v i : ℕ) → ((bit_of (sees ms y v) i ≡ true) ⊎ Given more l v i)
       ↔ ((bit_of (sees ns x v) i ≡ true) ⊎ Given (run ++ more) l v i)
-  goes_on v i =
-      let own = node_led v i in
-      let all = run_given run more l v i in (
-        λ h. elim h [
-          | inl set ↦ elim (own.0 set) [ inl was ↦ inl was | inr first ↦ inr (all.1 (inl first)) ]
-          | inr later ↦ inr (all.1 (inr later))
-        ],
-        λ h. elim h [
-          | inl was ↦ inl (own.1 (inl was))
-          | inr given ↦ elim (all.0 given) [ inl first ↦ inl (own.1 (inr first)) | inr later ↦ inr later ]
-        ],
-      )
+  goes_on v i = regroup _ _ _ _ _ (node_led v i) (run_given run more l v i)
 
 -- the first places go on alike: the first of all, and those behind it
 pub all_alike : (left : List (Place × ℕ)) (n l rest : ℕ) (first : Place × ℕ) → slice_get left 0 ≡ Some first

@@ -1,96 +1,72 @@
-use Rattle.std.proofs.Common.{◌≡◌, ◌+◌, ap, sym, ◌∙◌, subst, arith}
+use Rattle.std.proofs.Common.{◌≡◌, ◌+◌, Bool, true, false, ap, sym, ◌∙◌, subst, arith}
 use Rattle.std.proofs.lemmas.Bool.{OnFalse_from, OnTrue_from}
 use Rattle.path_sets.specs.Edges.{edge_at}
-use Rattle.path_sets.specs.Triples.{triple}
+use Rattle.path_sets.specs.Triples.{Triple, triple}
 use Rattle.path_sets.specs.Members.{all_edges, Puts}
+use Rattle.path_sets.proofs.Grouped.{Groups}
 use Rattle.path_sets.proofs.Covered.{longer, members_kept, members_put, was_known, was_new}
 use Rattle.path_sets.proofs.Universe.{Fits, all_none_twice}
+use Rattle.path_sets.proofs.diagram.DiagramEdgesPathSet.insert.Given as given
 use Rattle.path_sets.proofs.diagram.DiagramEdgesPathSet.insert.Goals as goal
+use Rattle.path_sets.proofs.diagram.DiagramEdgesPathSet.insert.Goals.{In_ok-added}
+
+module _ (g : given.Over) (c : In_ok-added g) where
+  abbrev x : Triple
+  x = triple c.args.entry c.args.point c.args.values
+
+  -- what is gathered before and after it
+  abbrev old : Groups
+  old = c.make_room.new.self.gathered.entries
+
+  abbrev new : Groups
+  new = c.put.new.gathered.entries
+
+  fits : Fits x
+  fits = record { entry = omega arith; point = omega arith; values = omega arith }
+
+  -- what was there is there before the path edge is put in
+  here : all_edges c.put.new.merged.nodes.kept.keys c.put.new.merged.rows.entries old
+      ≡ all_edges c.make_room.new.self.merged.nodes.kept.keys c.make_room.new.self.merged.rows.entries old
+  here j = all_edges (c.put.ensures.nodes j).kept.keys (c.put.ensures.rows j).entries old
+
+  -- what is put in, or is there, as the answer says
+  puts : (b : Bool) → c.in_ok-added.added ≡ b
+      → Puts c.put.new.merged.nodes.kept.keys c.put.new.merged.rows.entries
+      (edge_at c.place_of-bit.result.0 c.place_of-bit.result.1) old new b
+  puts b is = subst (Puts c.put.new.merged.nodes.kept.keys c.put.new.merged.rows.entries
+      (edge_at c.place_of-bit.result.0 c.place_of-bit.result.1) old new) is c.in_ok-added.ensures.ok
 
 pub invariant_of-self-then-added : goal.invariant_of-self-then-added
 invariant_of-self-then-added g c =
-    let s = c.make_room.new.self in
-    let m = c.put.new.merged in
-    let ns = m.nodes.kept.keys in
-    let rs = m.rows.entries in
-    let old = s.gathered.entries in
-    let new = c.put.new.gathered.entries in
-    let x = triple c.args.entry c.args.point c.args.values in
-    let own = edge_at c.place_of-bit.result.0 c.place_of-bit.result.1 in
-    let fits : Fits x = record { entry = omega arith; point = omega arith; values = omega arith } in
-    let here : all_edges ns rs old ≡ all_edges s.merged.nodes.kept.keys s.merged.rows.entries old =
-    λ j. all_edges (c.put.ensures.nodes j).kept.keys (c.put.ensures.rows j).entries old in
-    let puts = subst (Puts ns rs own old new) c.if-added.true c.in_ok-added.ensures.ok in
-    let more = longer ns rs x own old new _ fits c.place_of-bit.ensures.edge here puts in
+    let i = (goal.at.invariant_of-self-then-added g c).In_ok-added in
+    let more = longer _ _ (x g i) _ (old g i) (new g i) _ (fits g i) c.place_of-bit.ensures.edge (here g i) (puts g i true c.if-added.true) in
     record {
       unique = c.put.ensures.unique;
       covers = c.put.ensures.covers;
-      counted = ap (λ n. n + 1) s.counted ∙ sym more;
-      once = all_none_twice ns rs new;
+      counted = ap (λ n. n + 1) c.make_room.new.self.counted ∙ sym more;
+      once = all_none_twice c.put.new.merged.nodes.kept.keys c.put.new.merged.rows.entries c.put.new.gathered.entries;
     }
 
 pub returns-then-added-clause-members : goal.returns-then-added-clause-members
 returns-then-added-clause-members g c =
-    let s = c.make_room.new.self in
-    let m = c.put.new.merged in
-    let ns = m.nodes.kept.keys in
-    let rs = m.rows.entries in
-    let old = s.gathered.entries in
-    let new = c.put.new.gathered.entries in
-    let x = triple c.args.entry c.args.point c.args.values in
-    let own = edge_at c.place_of-bit.result.0 c.place_of-bit.result.1 in
-    let fits : Fits x = record { entry = omega arith; point = omega arith; values = omega arith } in
-    let here : all_edges ns rs old ≡ all_edges s.merged.nodes.kept.keys s.merged.rows.entries old =
-    λ j. all_edges (c.put.ensures.nodes j).kept.keys (c.put.ensures.rows j).entries old in
-    let puts = subst (Puts ns rs own old new) c.if-added.true c.in_ok-added.ensures.ok in
-    members_put ns rs x own old new _ fits c.place_of-bit.ensures.edge (here ∙ c.in_ok-make_room.ensures) puts
+    let i = (goal.at.returns-then-added-clause-members g c).In_ok-added in
+    members_put _ _ (x g i) _ (old g i) (new g i) _ (fits g i) c.place_of-bit.ensures.edge (here g i ∙ c.in_ok-make_room.ensures)
+    (puts g i true c.if-added.true)
 
 pub returns-then-added-clause-new : goal.returns-then-added-clause-new
 returns-then-added-clause-new g c =
-    let s = c.make_room.new.self in
-    let m = c.put.new.merged in
-    let ns = m.nodes.kept.keys in
-    let rs = m.rows.entries in
-    let old = s.gathered.entries in
-    let new = c.put.new.gathered.entries in
-    let x = triple c.args.entry c.args.point c.args.values in
-    let own = edge_at c.place_of-bit.result.0 c.place_of-bit.result.1 in
-    let fits : Fits x = record { entry = omega arith; point = omega arith; values = omega arith } in
-    let here : all_edges ns rs old ≡ all_edges s.merged.nodes.kept.keys s.merged.rows.entries old =
-    λ j. all_edges (c.put.ensures.nodes j).kept.keys (c.put.ensures.rows j).entries old in
-    let puts = subst (Puts ns rs own old new) c.if-added.true c.in_ok-added.ensures.ok in
-    OnTrue_from c.in_ok-added.added _ (λ is.
-    was_new ns rs x own old new _ fits c.place_of-bit.ensures.edge (here ∙ c.in_ok-make_room.ensures) puts)
+    let i = (goal.at.returns-then-added-clause-new g c).In_ok-added in
+    OnTrue_from c.in_ok-added.added _ (λ is. was_new _ _ (x g i) _ (old g i) (new g i) _ (fits g i) c.place_of-bit.ensures.edge
+    (here g i ∙ c.in_ok-make_room.ensures) (puts g i true is))
 
 pub returns-else-added-clause-members : goal.returns-else-added-clause-members
 returns-else-added-clause-members g c =
-    let s = c.make_room.new.self in
-    let m = c.put.new.merged in
-    let ns = m.nodes.kept.keys in
-    let rs = m.rows.entries in
-    let old = s.gathered.entries in
-    let new = c.put.new.gathered.entries in
-    let x = triple c.args.entry c.args.point c.args.values in
-    let own = edge_at c.place_of-bit.result.0 c.place_of-bit.result.1 in
-    let fits : Fits x = record { entry = omega arith; point = omega arith; values = omega arith } in
-    let here : all_edges ns rs old ≡ all_edges s.merged.nodes.kept.keys s.merged.rows.entries old =
-    λ j. all_edges (c.put.ensures.nodes j).kept.keys (c.put.ensures.rows j).entries old in
-    let puts = subst (Puts ns rs own old new) c.if-added.false c.in_ok-added.ensures.ok in
-    members_kept ns rs x own old new _ fits c.place_of-bit.ensures.edge (here ∙ c.in_ok-make_room.ensures) puts
+    let i = (goal.at.returns-else-added-clause-members g c).In_ok-added in
+    members_kept _ _ (x g i) _ (old g i) (new g i) _ (fits g i) c.place_of-bit.ensures.edge (here g i ∙ c.in_ok-make_room.ensures)
+    (puts g i false c.if-added.false)
 
 pub returns-else-added-clause-known : goal.returns-else-added-clause-known
 returns-else-added-clause-known g c =
-    let s = c.make_room.new.self in
-    let m = c.put.new.merged in
-    let ns = m.nodes.kept.keys in
-    let rs = m.rows.entries in
-    let old = s.gathered.entries in
-    let new = c.put.new.gathered.entries in
-    let x = triple c.args.entry c.args.point c.args.values in
-    let own = edge_at c.place_of-bit.result.0 c.place_of-bit.result.1 in
-    let fits : Fits x = record { entry = omega arith; point = omega arith; values = omega arith } in
-    let here : all_edges ns rs old ≡ all_edges s.merged.nodes.kept.keys s.merged.rows.entries old =
-    λ j. all_edges (c.put.ensures.nodes j).kept.keys (c.put.ensures.rows j).entries old in
-    let puts = subst (Puts ns rs own old new) c.if-added.false c.in_ok-added.ensures.ok in
-    OnFalse_from c.in_ok-added.added _ (λ is.
-    was_known ns rs x own old new _ fits c.place_of-bit.ensures.edge (here ∙ c.in_ok-make_room.ensures) puts)
+    let i = (goal.at.returns-else-added-clause-known g c).In_ok-added in
+    OnFalse_from c.in_ok-added.added _ (λ is. was_known _ _ (x g i) _ (old g i) (new g i) _ (fits g i) c.place_of-bit.ensures.edge
+    (here g i ∙ c.in_ok-make_room.ensures) (puts g i false is))
