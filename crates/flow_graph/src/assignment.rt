@@ -85,6 +85,7 @@ impl<A: Allocator> Assignment<A> {
 
     /// The next valuation of this number. All right sides are computed over `values` before a bit is written; the
     /// values of the `?` are the bits of `choice`, from the lowest, in the order of the targets.
+    #[inline(always)]
     pub(crate) fn next(&self, values: Word, choice: u64) -> Word
         ensures { result ≡ assigned self.now values choice }
     {

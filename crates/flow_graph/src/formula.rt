@@ -22,6 +22,7 @@ pub enum Formula<A: Allocator> {
 impl<A: Allocator> Formula<A> {
     /// The value of the expression for a valuation, which is a number: the globals from bit 0 in the order of their
     /// declaration, then the formals and locals.
+    #[inline(always)]
     pub(crate) fn value(&self, values: Word) -> bool
         ensures { result ≡ says self.now values }
     {

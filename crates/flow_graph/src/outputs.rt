@@ -30,6 +30,7 @@ pub(crate) enum Outputs<A: Allocator> {
 
 impl<A: Allocator> Outputs<A> {
     /// The word of this number; 0 behind the last.
+    #[inline(always)]
     pub(crate) fn word(&self, at: u64) -> u64
         ensures { result ≡ get_or (words_of self.now) at 0 }
     {

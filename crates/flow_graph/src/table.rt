@@ -31,6 +31,7 @@ impl<A: Allocator> Table<A> {
     ghost use Rattle.flow_graph.specs.Formulas.{table_worth};
 
     /// What the expression is worth for these values.
+    #[inline(always)]
     pub(crate) fn value(&self, values: Word) -> bool
         ensures { result ≡ table_worth self.now values }
     {

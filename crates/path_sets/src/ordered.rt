@@ -35,6 +35,7 @@ pub struct OrderedEdges<A: Allocator> {
 }
 
 /// The index of a place, if it has a mask; the one used last is tried first.
+#[inline(always)]
 pub(crate) fn find<A: Allocator + Copy>(
     masks: &Masks<A>,
     last: usize,

@@ -14,6 +14,7 @@ use path_sets::PathSet;
 use std::alloc::Allocator;
 
 /// Reaches where the run goes on from an edge, if it does.
+#[inline(always)]
 fn reach_next<A: Allocator, S: PathSet<A>>(
     edges: &mut S,
     pending: &mut Vec<Edge, A>,
@@ -37,6 +38,7 @@ fn reach_next<A: Allocator, S: PathSet<A>>(
 }
 
 /// Reaches what each choice of a flow leads to from an edge. At an error some of the edges are added.
+#[inline(always)]
 pub(crate) fn lead<G: Allocator, A: Allocator, S: PathSet<A>>(
     flow: &Flow<G>,
     edges: &mut S,

@@ -12,6 +12,7 @@ use std::alloc::Allocator;
 
 /// Adds one path edge, if it is new, and lets it stand pending. Where it is new and the limit is reached, the answer is
 /// `EdgeLimit`. At an error the edges may have it, and it need not be pending.
+#[inline(always)]
 pub(crate) fn reach<A: Allocator, S: PathSet<A>>(
     edges: &mut S,
     pending: &mut Vec<Edge, A>,
