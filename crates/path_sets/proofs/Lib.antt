@@ -3,6 +3,7 @@ pub mod Masks
 pub mod Places
 pub mod Grouped
 pub mod Settled
+pub mod Sharded
 pub mod Walks
 pub mod Grown
 pub mod OneBit

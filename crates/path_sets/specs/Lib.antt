@@ -2,6 +2,7 @@ pub mod Triples
 pub mod Inserts
 pub mod Masks
 pub mod Edges
+pub mod Shards
 pub mod Walks
 pub mod Quads
 pub mod Diagrams

@@ -8,8 +8,8 @@ ghost use Rattle.path_sets.specs.Edges.{edges};
 ghost use Rattle.path_sets.specs.Diagrams.{Takes, merged_has, row_of};
 
 use crate::merged::Merged;
-use crate::ordered::Masks;
 use crate::place::{Place, cell_at};
+use crate::points::Masks;
 use crate::rows::{Row, row_of};
 use std::alloc::{AllocError, Allocator};
 

@@ -8,6 +8,7 @@
 mod binary;
 mod diagram;
 mod gathered;
+mod homes;
 mod inner;
 mod laws;
 mod mask;
@@ -17,9 +18,11 @@ mod nodes;
 mod ordered;
 mod path_set;
 mod place;
+mod points;
 mod quad;
 mod quads;
 mod rows;
+mod shards;
 mod union;
 
 pub use diagram::DiagramEdges;

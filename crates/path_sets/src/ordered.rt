@@ -1,118 +1,96 @@
 //! A set of path edges that keeps a mask of points for each valuation of each entry.
 
-ghost use Rattle.std.specs.Prelude.{◌≡◌, ◌<◌, [], ◌∷◌, ◌++◌, length, None, Some, slice_get};
-ghost use Rattle.std.specs.Prelude.{IfOk, IfSome, IsNone, OnOk, OnErr};
-ghost use Rattle.path_sets.specs.declared.place.Place.{Place};
+ghost use Rattle.std.specs.Prelude.{◌≡◌, ◌<◌, ◌≤◌, ℕ, length, nat_eq, None, Some, IfOk};
 ghost use Rattle.std.specs.Map.{lookup};
-ghost use Rattle.std.proofs.lemmas.Map.Keys.{IsDistinct-prop};
-ghost use Rattle.indexmap.specs.IndexMap.{IsUnique, index_map_len, keys};
 ghost use Rattle.path_sets.specs.Triples.{NoneTwice, NoneTwice-prop};
-ghost use Rattle.path_sets.specs.Edges.{edges, edge_at, place_eq};
-ghost use Rattle.path_sets.specs.Inserts.{Settles};
+ghost use Rattle.path_sets.specs.Shards.{all_in, edges_at, AreHome, AreThere};
 
-use crate::mask::{has, mark, one};
+use crate::homes::{Homes, home, seek};
 use crate::path_set::PathSet;
-use crate::place::{Place, place_of};
+use crate::place::place_of;
+use crate::shards::Shard;
 use indexmap::IndexMap;
 use language::{Point, Word};
 use std::alloc::{AllocError, Allocator};
-use std::hash::{BuildHasherDefault, FoldHasher};
 
-/// The masks of the places that have any points, in the order in which the places are first met.
-pub(crate) type Masks<A> = IndexMap<Place, u64, BuildHasherDefault<FoldHasher>, A>;
+/// How many places a shard has before new entries go to the next: so many stay in a processor's cache.
+const MANY: usize = 4_096;
 
-/// Path edges in one mask of 64 points for each valuation of each entry, in first-seen order: a valuation mostly goes
-/// unchanged through many points.
+/// Path edges in one mask of 64 points for each valuation of each entry: a valuation mostly goes unchanged through many points.
+/// The places of entries that are first met one after another stand in one shard, in first-seen order, since mostly an entry's
+/// path edges come together: so the places that are looked up are near each other.
 #[derive(Drop)]
 pub struct OrderedEdges<A: Allocator> {
-    masks: Masks<A>,
-    /// The index of the place that was used last, which is mostly that of the next edge.
+    /// For each entry the number of the shard that has its places.
+    homes: Homes<A>,
+    shards: Vec<Shard<A>, A>,
+    /// The index of the entry that was used last, which is mostly that of the next edge.
+    entry: usize,
+    /// The index of the place in its shard that was used last, which is mostly that of the next edge.
     last: usize,
     count: u64,
-    ghost unique: { IsUnique place_eq masks } by { IsDistinct-prop place_eq (keys masks) },
-    ghost counted: { count ≡ length (edges masks.entries) },
-    ghost once: { NoneTwice (edges masks.entries) } by { NoneTwice-prop (edges masks.entries) },
+    ghost home: { AreHome homes.entries shards.items },
+    ghost there: { AreThere homes.entries shards.items },
+    ghost counted: { count ≡ length (all_in shards.items) },
+    ghost once: { NoneTwice (all_in shards.items) } by { NoneTwice-prop (all_in shards.items) },
 }
 
-/// The index of a place, if it has a mask; the one used last is tried first.
-#[inline(always)]
-pub(crate) fn find<A: Allocator + Copy>(
-    masks: &Masks<A>,
-    last: usize,
-    place: &Place,
-) -> Option<usize>
-    ensures here { IfSome result (λ at. slice_get (keys masks.now) at ≡ Some place.now) }
-    ensures within { IfSome result (λ at. at < index_map_len masks.now) }
-    ensures none { IsNone result → lookup (place_eq place.now) masks.now.entries ≡ None }
+/// The number of the shard that new entries go to, which is made where the last one has many places.
+pub(crate) fn open<A: Allocator + Copy>(
+    alloc: A,
+    shards: &mut Vec<Shard<A>, A>,
+) -> Result<usize, AllocError>
+    ensures within { IfOk result (λ k. k < length shards.new.items) }
+    ensures longer { length shards.old.items ≤ length shards.new.items }
+    ensures each { (k : ℕ) → edges_at shards.new.items k ≡ edges_at shards.old.items k }
+    ensures all { all_in shards.new.items ≡ all_in shards.old.items }
 {
-    if let Some((used, _)) = masks.get_index(last) {
-        if used == place {
-            return Some(last);
+    if let Some(shard) = shards.as_slice().last() {
+        if shard.masks.len() < MANY {
+            return Ok(shards.len() - 1);
         }
     }
-    masks.get_index_of(place)
+    shards.push(Shard::new(alloc))?;
+    Ok(shards.len() - 1)
 }
 
-/// Begins the mask of a place that has none.
-pub(crate) fn begin<A: Allocator + Copy>(
-    masks: &mut Masks<A>,
-    place: Place,
-    mask: u64,
-) -> Result<(), AllocError>
-    requires { lookup (place_eq place) masks.old.entries ≡ None }
-    ensures ok { OnOk result (masks.new.entries ≡ masks.old.entries ++ (place, mask) ∷ []) }
-    ensures err { OnErr result (masks.new.entries ≡ masks.old.entries) }
-    ensures unique { IsUnique place_eq masks.new }
-{
-    masks.insert(place, mask)?;
-    Ok(())
-}
+impl<A: Allocator + Copy> OrderedEdges<A> {
+    /// Gives an entry that has no shard the one that new entries go to, and answers its number. Where memory is refused, it has
+    /// none.
+    fn settle(&mut self, entry: Word) -> Result<usize, AllocError>
+        requires { lookup (nat_eq entry) self.old.homes.entries ≡ None }
+        ensures shard { IfOk result (λ k. lookup (nat_eq entry) self.new.homes.entries ≡ Some k) }
+        ensures edges { all_in self.new.shards.items ≡ all_in self.old.shards.items }
+        ensures count { self.new.count ≡ self.old.count }
+    {
+        let at = open(*self.homes.allocator(), &mut self.shards)?;
+        self.entry = self.homes.len();
+        self.homes.insert(entry, at)?;
+        Ok(at)
+    }
 
-/// Puts a point into the mask at an index. Answers whether it is new.
-pub(crate) fn mark_at<A: Allocator + Copy>(masks: &mut Masks<A>, at: usize, bit: usize) -> bool
-    requires bit { bit < 64 }
-    requires within { at < index_map_len masks.old }
-    requires unique { IsUnique place_eq masks.old }
-    ensures settles { (p : Place) → slice_get (keys masks.old) at ≡ Some p
-        → Settles (edge_at p bit) (edges masks.old.entries) (edges masks.new.entries) result }
-    ensures keys { keys masks.new ≡ keys masks.old }
-    ensures unique { IsUnique place_eq masks.new }
-{
-    mark(&mut masks[at], bit)
-}
-
-/// Puts a point into the mask of its place. Answers whether it is new.
-fn put<A: Allocator + Copy>(
-    masks: &mut Masks<A>,
-    last: &mut usize,
-    place: Place,
-    bit: usize,
-) -> Result<bool, AllocError>
-    requires bit { bit < 64 }
-    requires unique { IsUnique place_eq masks.old }
-    ensures ok { IfOk result (Settles (edge_at place bit) (edges masks.old.entries) (edges masks.new.entries)) }
-    ensures err { OnErr result (edges masks.new.entries ≡ edges masks.old.entries) }
-    ensures unique { IsUnique place_eq masks.new }
-{
-    match find(masks, *last, &place) {
-        Some(at) => {
-            *last = at;
-            Ok(mark_at(masks, at, bit))
-        }
-        None => {
-            *last = masks.len();
-            begin(masks, place, one(bit))?;
-            Ok(true)
+    /// The number of an entry's shard, which it gets where it has none.
+    fn shard_of(&mut self, entry: Word) -> Result<usize, AllocError>
+        ensures shard { IfOk result (λ k. lookup (nat_eq entry) self.new.homes.entries ≡ Some k) }
+        ensures edges { all_in self.new.shards.items ≡ all_in self.old.shards.items }
+        ensures count { self.new.count ≡ self.old.count }
+    {
+        self.entry = seek(&self.homes, self.entry, entry);
+        match home(&self.homes, self.entry, entry) {
+            Some(at) => Ok(at),
+            None => self.settle(entry),
         }
     }
 }
 
 impl<A: Allocator + Copy> PathSet<A> for OrderedEdges<A> {
-    ghost members = { λ s. edges s.masks.entries };
+    ghost members = { λ s. all_in s.shards.items };
 
     fn empty(alloc: A) -> Self {
         OrderedEdges {
-            masks: IndexMap::new(alloc),
+            homes: IndexMap::new(alloc),
+            shards: Vec::new(alloc),
+            entry: 0,
             last: 0,
             count: 0,
         }
@@ -120,7 +98,8 @@ impl<A: Allocator + Copy> PathSet<A> for OrderedEdges<A> {
 
     fn insert(&mut self, entry: Word, point: Point, values: Word) -> Result<bool, AllocError> {
         let (place, bit) = place_of(entry, point, values);
-        let added = put(&mut self.masks, &mut self.last, place, bit)?;
+        let at = self.shard_of(entry)?;
+        let added = self.shards[at].put(&mut self.last, place, bit)?;
         if added {
             self.count += 1;
         }
@@ -129,8 +108,8 @@ impl<A: Allocator + Copy> PathSet<A> for OrderedEdges<A> {
 
     fn contains(&self, entry: Word, point: Point, values: Word) -> bool {
         let (place, bit) = place_of(entry, point, values);
-        match find(&self.masks, self.last, &place) {
-            Some(at) => has(self.masks[at], bit),
+        match home(&self.homes, self.entry, entry) {
+            Some(at) => self.shards[at].contains(self.last, &place, bit),
             None => false,
         }
     }

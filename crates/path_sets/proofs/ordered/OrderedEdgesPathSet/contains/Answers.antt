@@ -1,31 +1,33 @@
-use Rattle.std.proofs.Common.{refl, sym, ◌∙◌, true≢false, subst}
+use Rattle.std.proofs.Common.{sym, ap, ◌∙◌, subst, refl, nat_eq, true≢false, arith}
+use Rattle.std.specs.Map.{lookup}
+use Rattle.std.proofs.lemmas.Option.{slice_get_read}
 use Rattle.language.specs.Flow.{Member}
 use Rattle.path_sets.specs.Edges.{edges}
-use Rattle.path_sets.proofs.Masks.{bits_known, bits_hold}
-use Rattle.path_sets.proofs.Grouped.{pair_at, in_group, only_in_group, absent, no_edge}
+use Rattle.path_sets.specs.Triples.{Triple, triple}
+use Rattle.path_sets.proofs.Sharded.{in_own, of_own, none_without}
 use Rattle.path_sets.proofs.ordered.OrderedEdgesPathSet.contains.Goals as goal
 
 pub returns-in-Some : goal.returns-in-Some
 returns-in-Some g c =
     let s = c.args.self.now in
-    let gs = s.masks.entries in
-    let p = c.place_of-bit.result.0 in
-    let b = c.place_of-bit.result.1 in
-    let small = c.place_of-bit.ensures.bit in
-    let m = c.index.result.now in
-    let at = pair_at gs c.in-Some.at p m c.in-Some.ensures.here c.index.ensures in (
-      λ h. subst (λ t. Member t (edges gs)) c.place_of-bit.ensures.edge
-          (in_group gs c.in-Some.at p m b at (bits_hold m b 64 small (sym c.has.ensures ∙ h))),
-      λ there. c.has.ensures ∙ (bits_known m b 64 (only_in_group gs c.in-Some.at p m b small s.unique at
-          (subst (λ t. Member t (edges gs)) (sym c.place_of-bit.ensures.edge) there))).1,
+    let ss = s.shards.items in
+    let k = c.in-Some.at in
+    let x = triple c.args.entry c.args.point c.args.values in
+    let edge = c.place_of-bit.ensures.edge in
+    let own = sym c.in-Some.ensures in
+    let within = s.there c.args.entry k own in
+    let es = edges c.index.result.now.masks.entries in
+    let at = slice_get_read ss _ k c.index.result.now refl within c.index.ensures in (
+      λ h. of_own s.homes.entries ss s.home k c.index.result.now x own at
+          (subst (λ t. Member t es) edge (c.contains.ensures.0 h)),
+      λ there. c.contains.ensures.1 (subst (λ t. Member t es) (sym edge)
+          (in_own s.homes.entries ss s.home k c.index.result.now x own at there)),
     )
 
 pub returns-in-None : goal.returns-in-None
 returns-in-None g c =
-    let gs = c.args.self.now.masks.entries in
-    let p = c.place_of-bit.result.0 in (
+    let s = c.args.self.now in (
       λ h. absurd (true≢false (sym h)),
-      λ there. absurd (no_edge gs p c.place_of-bit.result.1 c.place_of-bit.ensures.bit
-          (absent gs p (c.in-None.ensures.none refl))
-          (subst (λ t. Member t (edges gs)) (sym c.place_of-bit.ensures.edge) there)),
+      λ there. absurd (none_without s.homes.entries s.shards.items s.home (triple c.args.entry c.args.point c.args.values)
+          (sym c.in-None.ensures) there),
     )

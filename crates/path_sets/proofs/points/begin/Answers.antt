@@ -1,7 +1,7 @@
 use Rattle.std.proofs.Common.{◌∙◌}
 use Rattle.indexmap.proofs.CallerLemmas.{insert_entry-new}
 use Rattle.path_sets.specs.Edges.{place_eq}
-use Rattle.path_sets.proofs.ordered.begin.Goals as goal
+use Rattle.path_sets.proofs.points.begin.Goals as goal
 
 pub returns-clause-ok : goal.returns-clause-ok
 returns-clause-ok g c =

@@ -3,7 +3,7 @@ use Rattle.indexmap.specs.IndexMap.{keys}
 use Rattle.path_sets.specs.declared.place.Place.{Place}
 use Rattle.path_sets.specs.Edges.{place_eq}
 use Rattle.path_sets.proofs.Grouped.{found_at}
-use Rattle.path_sets.proofs.ordered.find.Goals as goal
+use Rattle.path_sets.proofs.points.find.Goals as goal
 
 pub returns-clause-here : goal.returns-clause-here
 returns-clause-here g c = by c.get_index_of.result c.get_index_of.ensures.index

@@ -4,7 +4,7 @@ use Rattle.indexmap.proofs.CallerLemmas.{keys-with_value_at}
 use Rattle.path_sets.specs.Edges.{place_eq}
 use Rattle.path_sets.proofs.Grouped.{pair_at}
 use Rattle.path_sets.proofs.Settled.{settled}
-use Rattle.path_sets.proofs.ordered.mark_at.Goals as goal
+use Rattle.path_sets.proofs.points.mark_at.Goals as goal
 
 pub returns-clause-settles : goal.returns-clause-settles
 returns-clause-settles g c p here =

@@ -1,0 +1,26 @@
+-- The path edges of masks that stand in shards, those of an entry in one.
+use Rattle.std.specs.Prelude.{◌≡◌, ◌<◌, ℕ, zero, suc, nat_eq, List, [], ◌∷◌, ◌++◌, Some, length}
+use Rattle.std.specs.Map.{lookup}
+use Rattle.language.specs.Flow.{Member}
+use Rattle.path_sets.specs.declared.shards.Shard.{Shard}
+use Rattle.path_sets.specs.Edges.{edges}
+use Rattle.path_sets.specs.Triples.{Triple}
+
+-- the path edges of the shard with this number; none behind the last
+abbrev pub edges_at : {A : Type 0} → List (Shard A) → ℕ → List Triple
+edges_at [] k = []
+edges_at (s ∷ ss) zero = edges s.masks.entries
+edges_at (s ∷ ss) (suc k) = edges_at ss k
+
+-- the path edges of all shards
+abbrev pub all_in : {A : Type 0} → List (Shard A) → List Triple
+all_in [] = []
+all_in (s ∷ ss) = edges s.masks.entries ++ all_in ss
+
+-- a path edge of a shard is one of an entry that has this shard
+abbrev pub AreHome : {A : Type 0} → List (ℕ × ℕ) → List (Shard A) → Type 0
+AreHome homes shards = (k : ℕ) (t : Triple) → Member t (edges_at shards k) → lookup (nat_eq t.entry) homes ≡ Some k
+
+-- the shard of each entry is there
+abbrev pub AreThere : {A : Type 0} → List (ℕ × ℕ) → List (Shard A) → Type 0
+AreThere homes shards = (e k : ℕ) → lookup (nat_eq e) homes ≡ Some k → k < length shards
