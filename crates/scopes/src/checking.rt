@@ -21,7 +21,7 @@ use std::alloc::{AllocError, Allocator};
 use trees::Program;
 
 /// The fault that is answered of those that stand in a program.
-pub fn first_fault<A: Allocator + Copy>(
+fn first_fault<A: Allocator + Copy>(
     alloc: &A,
     program: &Program<A>,
 ) -> Result<Option<ScopeFault>, AllocError>

@@ -66,7 +66,7 @@ pub fn miscounted_in<A: Allocator + Copy>(
 
 /// The least offset of an assignment's first target, or of a called name, whose two sides differ in number; nothing
 /// where none do. An error is a refused growth.
-pub fn first_wrong_count<A: Allocator + Copy>(
+pub(crate) fn first_wrong_count<A: Allocator + Copy>(
     alloc: &A,
     program: &Program<A>,
 ) -> Result<Option<u32>, AllocError>

@@ -63,7 +63,7 @@ pub fn mislabelled<A: Allocator + Copy>(
 
 /// The least offset of the name in a `goto` that is no label of its procedure, or of a label that is defined again;
 /// nothing where there is none. An error is a refused growth.
-pub fn first_bad_label<A: Allocator + Copy>(
+pub(crate) fn first_bad_label<A: Allocator + Copy>(
     alloc: &A,
     program: &Program<A>,
 ) -> Result<Option<u32>, AllocError>

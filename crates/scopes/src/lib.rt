@@ -20,12 +20,5 @@ mod undeclared;
 
 pub use checked::Checked;
 pub use checking::check;
-pub use counts::first_wrong_count;
 pub use fault::ScopeFault;
-pub use labels::first_bad_label;
 pub use laws::{checked_trees_are_rewritable, checked_trees_resolve};
-pub use limits::first_too_many;
-pub use reserved::first_reserved;
-pub use threads::first_bad_thread;
-pub use twice::first_twice;
-pub use undeclared::first_undeclared;

@@ -67,7 +67,7 @@ pub fn all_statements<'a, A: Allocator + Copy>(
 
 /// The least offset of a 32nd procedure's name, of a 9th thread line or of a 1,001st statement of the whole text;
 /// nothing where there is none. An error is a refused growth.
-pub fn first_too_many<A: Allocator + Copy>(
+pub(crate) fn first_too_many<A: Allocator + Copy>(
     alloc: &A,
     program: &Program<A>,
 ) -> Result<Option<u32>, AllocError>

@@ -30,7 +30,7 @@ pub fn reserved_in<A: Allocator + Copy>(
 
 /// The least offset of a declared variable, procedure or label with two underscores in a row; nothing where none has.
 /// An error is a refused growth.
-pub fn first_reserved<A: Allocator + Copy>(
+pub(crate) fn first_reserved<A: Allocator + Copy>(
     alloc: &A,
     program: &Program<A>,
 ) -> Result<Option<u32>, AllocError>

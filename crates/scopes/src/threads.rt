@@ -35,7 +35,7 @@ pub fn cannot_start<A: Allocator>(procs: &[Proc<A>], line: &Thread<A>) -> Option
 
 /// The least offset of a name in a thread line that names no procedure, or one with formals; nothing where each
 /// line names one in which a thread can start.
-pub fn first_bad_thread<A: Allocator>(program: &Program<A>) -> Option<u32>
+pub(crate) fn first_bad_thread<A: Allocator>(program: &Program<A>) -> Option<u32>
     ensures { Finds (λ n. BadThread (tree_of program.now) n) result }
 {
     let procs = program.procs.as_slice();

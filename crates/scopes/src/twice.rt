@@ -64,7 +64,7 @@ pub fn twice_in<A: Allocator + Copy>(alloc: &A, proc: &Proc<A>) -> Result<Option
 
 /// The least offset of a name that comes again among the globals, the procedures, the formals and locals of one
 /// procedure, or the targets of one assignment; nothing where none does. An error is a refused growth.
-pub fn first_twice<A: Allocator + Copy>(
+pub(crate) fn first_twice<A: Allocator + Copy>(
     alloc: &A,
     program: &Program<A>,
 ) -> Result<Option<u32>, AllocError>

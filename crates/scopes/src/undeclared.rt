@@ -123,7 +123,7 @@ pub fn of_proc<A: Allocator + Copy>(
 
 /// The least offset of a variable or a called procedure that has no declaration; nothing where each has one. An
 /// error is a refused growth.
-pub fn first_undeclared<A: Allocator + Copy>(
+pub(crate) fn first_undeclared<A: Allocator + Copy>(
     alloc: &A,
     program: &Program<A>,
 ) -> Result<Option<u32>, AllocError>
