@@ -221,20 +221,28 @@ fn a_lane_that_learned_is_served_at_its_first_look(rt: HostRuntime) {
     learns(&rt, &lock, &mut first, &mut second);
 }
 
-// Whether the allocation of this number was refused to a lock of three lanes. Its value comes back then.
-fn was_refused<R: Abort, A: Allocator>(rt: &R, host: A, first: Marks<A>, nth: u64) -> bool {
-    let scarce = Scarce::refusing(host, nth);
-    match TicketLock::with_budget(&scarce, first, 3, 5) {
-        Ok((_lock, lanes)) => {
-            assert_eq!(rt; (lanes.len(), scarce.refused()), (3, false));
-            false
-        }
+// How many lanes a lock of three has. Its value comes back where it finds no memory.
+fn lanes_of<R: Abort, H: Allocator + Clone, A: Allocator>(
+    rt: &R,
+    heap: H,
+    first: Marks<A>,
+) -> Option<usize> {
+    match TicketLock::with_budget(heap, first, 3, 5) {
+        Ok((_lock, lanes)) => Some(lanes.len()),
         Err(back) => {
-            assert!(rt; scarce.refused());
-            assert_eq!(rt; back.marks.as_slice(), [(7, 8)].as_slice());
-            true
+            assert!(rt; back.marks.as_slice() == [(7, 8)].as_slice());
+            None
         }
     }
+}
+
+// Whether the allocation of this number was refused to the lock.
+fn was_refused<R: Abort, A: Allocator>(rt: &R, host: A, first: Marks<A>, nth: u64) -> bool {
+    let scarce = Scarce::refusing(host, nth);
+    let lanes = lanes_of(rt, &scarce, first);
+    let wanted = if scarce.refused() { None } else { Some(3) };
+    assert!(rt; lanes == wanted);
+    scarce.refused()
 }
 
 #[test]
