@@ -33,7 +33,7 @@ fn takes<R: Abort, A: Allocator>(rt: &R, mailbox: &mut Mailbox<u8, A>, number: u
     ensures { TakesOldest mailbox.old mailbox.new message }
 {
     let answer = mailbox.take();
-    assert_eq!(rt; answer, Some((number, message)));
+    assert!(rt; answer == Some((number, message)));
 }
 
 // The whole history has to be this, and legal.

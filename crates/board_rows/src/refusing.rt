@@ -56,16 +56,26 @@ fn refuses_a_box<A: Allocator>(alloc: A) -> bool {
     Box::new(alloc, 3u8).is_err()
 }
 
+fn two_boxes<A: Allocator + Copy>(alloc: A) -> Result<(Box<u8, A>, Box<u8, A>), AllocError> {
+    Ok((Box::new(alloc, 1u8)?, Box::new(alloc, 2u8)?))
+}
+
+/// Whether there are two boxes, with what was put in.
+fn are_there<A: Allocator>(boxes: Result<(Box<u8, A>, Box<u8, A>), AllocError>) -> bool {
+    match boxes {
+        Ok((first, second)) => *first == 1 && *second == 2,
+        Err(AllocError) => false,
+    }
+}
+
 /// Two boxes stay while each of three more is refused.
 fn keeps_two<R: Abort, A: Allocator>(rt: &R, scarce: &Scarce<A>) {
-    let (Ok(first), Ok(second)) = (Box::new(scarce, 1u8), Box::new(scarce, 2u8)) else {
-        panic!(rt; "no memory")
-    };
+    let boxes = two_boxes(scarce);
     assert!(rt; !scarce.refused());
     for _ in 0..3u64 {
         assert!(rt; refuses_a_box(scarce) && scarce.refused());
     }
-    assert!(rt; *first == 1 && *second == 2);
+    assert!(rt; are_there(boxes));
 }
 
 fn refuses_the_rest<R: Abort, A: Allocator>(rt: &R, alloc: A) {
