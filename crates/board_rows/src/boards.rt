@@ -72,7 +72,7 @@ pub(crate) fn takes<R: Wait + Abort, B: Letters>(
     ensures keeps { KeepsJobs (B.sight pass.old) (B.sight pass.new) }
 {
     let (job, found) = message(rt, board, pass);
-    assert_eq!(rt; found, wanted);
+    assert!(rt; found == wanted);
     job
 }
 
@@ -315,8 +315,12 @@ where
     settle(board, passes)
 }
 
-// Three messages over two mailboxes; the board closes after the last done.
-fn closes_after_the_last_done<R: Wait + Abort, B: Letters>(rt: &R, alloc: B::Heap, more: B::Heap)
+// The ledger of a board of two mailboxes that served three messages, and closed after the last done.
+fn ledger_of_three<R: Wait + Abort, B: Letters>(
+    rt: &R,
+    alloc: B::Heap,
+    more: B::Heap,
+) -> Ledger<Letter, B::Heap>
 where
     B::Heap: Clone,
     B::Pass: Drop,
@@ -328,9 +332,18 @@ where
     done(rt, &board, &mut zero, job);
     finds(rt, &board, &mut zero, Answer::Closed);
     finds(rt, &board, &mut one, Answer::Closed);
-    let ledger = settle_two(rt, more, board, zero, one);
+    settle_two(rt, more, board, zero, one)
+}
+
+// Three messages over two mailboxes; the board closes after the last done.
+fn closes_after_the_last_done<R: Wait + Abort, B: Letters>(rt: &R, alloc: B::Heap, more: B::Heap)
+where
+    B::Heap: Clone,
+    B::Pass: Drop,
+{
+    let ledger = ledger_of_three::<R, B>(rt, alloc, more);
     assert!(rt; ledger.closed);
-    assert_eq!(rt; counts(ledger.histories.as_slice()), (3, 3, 3));
+    assert!(rt; counts(ledger.histories.as_slice()) == (3, 3, 3));
 }
 
 // Each pass has one call, and its abort is always made.
@@ -387,8 +400,12 @@ fn serves_one<R: Wait + Abort, B: Letters>(rt: &R, board: &B, pass: &mut B::Pass
     finds(rt, board, pass, Answer::Closed);
 }
 
-// One message in one mailbox, with its history.
-fn closes_alone<R: Wait + Abort, B: Letters>(rt: &R, alloc: B::Heap, more: B::Heap)
+// The ledger of a board of one mailbox that served one message.
+fn ledger_of_one<R: Wait + Abort, B: Letters>(
+    rt: &R,
+    alloc: B::Heap,
+    more: B::Heap,
+) -> Ledger<Letter, B::Heap>
 where
     B::Heap: Clone,
     B::Pass: Drop,
@@ -397,8 +414,27 @@ where
     serves_one(rt, &board, &mut pass);
     let mut passes = Vec::new(more);
     gather(rt, &board, &mut passes, pass);
-    let ledger = settle(board, passes);
+    settle(board, passes)
+}
+
+// The ledger is closed, and has this history.
+fn has_closed<R: Abort, A: Allocator>(
+    rt: &R,
+    ledger: &Ledger<Letter, A>,
+    history: &[Event<Letter>],
+) {
     assert!(rt; ledger.closed);
+    for mailbox in &ledger.histories {
+        assert!(rt; mailbox.history() == history);
+    }
+}
+
+// One message in one mailbox, with its history.
+fn closes_alone<R: Wait + Abort, B: Letters>(rt: &R, alloc: B::Heap, more: B::Heap)
+where
+    B::Heap: Clone,
+    B::Pass: Drop,
+{
     let history = [
         Event::Post {
             sender: 1,
@@ -410,23 +446,28 @@ where
         },
         Event::Done { take: 0 },
     ];
-    for mailbox in &ledger.histories {
-        assert_eq!(rt; mailbox.history(), history.as_slice());
-    }
+    let ledger = ledger_of_one::<R, B>(rt, alloc, more);
+    has_closed(rt, &ledger, history.as_slice());
+}
+
+// All rows of one kind of board.
+fn keeps_the_rows<R: Wait + Abort, B: Letters + Drop>(rt: &R, alloc: B::Heap)
+where
+    B::Heap: Copy,
+    B::Pass: Drop,
+{
+    closes_after_the_last_done::<R, B>(rt, alloc, alloc);
+    has_one_call::<R, B>(rt, alloc);
+    stops_posts::<R, B>(rt, alloc);
+    closes_alone::<R, B>(rt, alloc, alloc);
 }
 
 #[test]
 fn behind_one_lock(rt: HostRuntime) {
-    closes_after_the_last_done::<_, OneLock<Letter, (), Global>>(&rt, rt.alloc(), rt.alloc());
-    has_one_call::<_, OneLock<Letter, (), Global>>(&rt, rt.alloc());
-    stops_posts::<_, OneLock<Letter, (), Global>>(&rt, rt.alloc());
-    closes_alone::<_, OneLock<Letter, (), Global>>(&rt, rt.alloc(), rt.alloc());
+    keeps_the_rows::<_, OneLock<Letter, (), Global>>(&rt, rt.alloc());
 }
 
 #[test]
 fn behind_a_lock_for_each(rt: HostRuntime) {
-    closes_after_the_last_done::<_, LockPerBox<Letter, (), Global>>(&rt, rt.alloc(), rt.alloc());
-    has_one_call::<_, LockPerBox<Letter, (), Global>>(&rt, rt.alloc());
-    stops_posts::<_, LockPerBox<Letter, (), Global>>(&rt, rt.alloc());
-    closes_alone::<_, LockPerBox<Letter, (), Global>>(&rt, rt.alloc(), rt.alloc());
+    keeps_the_rows::<_, LockPerBox<Letter, (), Global>>(&rt, rt.alloc());
 }

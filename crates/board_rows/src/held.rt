@@ -1,9 +1,8 @@
 //! Two posts at once, to two mailboxes, with a lock for each.
 ghost use Rattle.std.specs.Prelude.{◌≡◌, ◌<◌};
 ghost use Rattle.post_ledger.specs.Orders.{HasJob};
-ghost use Rattle.board_rows.specs.Passes.{IsSame};
 
-use crate::boards::{Letter, done, post, takes, two};
+use crate::boards::{Letter, Letters, done, post, takes, two};
 use std::alloc::Global;
 use std::process::Abort;
 use std::sync::Wait;
@@ -69,17 +68,20 @@ fn first<R: Wait + Abort>(
 }
 
 // Posts 13 to mailbox 1, once the other is inside.
-fn second<R: Wait + Abort>(
+fn second<R: Wait + Abort, B: Letters>(
     rt: &R,
-    board: &Boxes,
-    mut pass: Pass,
+    board: &B,
+    mut pass: B::Pass,
     job: &Job,
     flags: &Flags,
-) -> (Pass, bool)
-    requires board { pass.board ≡ board.now.table.shared.table_id }
-    requires job { HasJob pass.number job.now pass.seen.order }
-    requires boxes { 1 < pass.seen.boxes }
-    ensures pass { (result.0.board ≡ pass.board) × HasJob result.0.number job.now result.0.seen.order }
+) -> (B::Pass, bool)
+where
+    B::Pass: Drop,
+    requires board { (B.sight pass).board ≡ B.identity board.now }
+    requires job { HasJob (B.sight pass).number job.now (B.sight pass).seen.order }
+    requires boxes { 1 < (B.sight pass).seen.boxes }
+    ensures pass { ((B.sight result.0).board ≡ (B.sight pass).board)
+        × HasJob (B.sight result.0).number job.now (B.sight result.0).seen.order }
 {
     let begun = raised(&flags.begun);
     let answer = post(rt, board, &mut pass, job, 1, 13);
@@ -113,36 +115,54 @@ fn both<R: Threads + Wait + Abort + Sync>(
     )
 }
 
-// Takes 10, and posts 11 to mailbox 1 under its job.
-fn begins<R: Wait + Abort>(rt: &R, board: &Boxes, zero: &mut Pass) -> Job
-    requires { (zero.old.board ≡ board.now.table.shared.table_id) × (1 < zero.old.seen.boxes) }
-    ensures pass { IsSame zero.old zero.new }
-    ensures job { HasJob zero.new.number result zero.new.seen.order }
+// A board of two mailboxes, and its passes, each with the job of a message that it took.
+fn begun<R: Wait + Abort, B: Letters>(rt: &R, alloc: B::Heap) -> (B, (B::Pass, Job), (B::Pass, Job))
+where
+    B::Heap: Clone,
+    B::Pass: Drop,
+    ensures zero { ((B.sight result.1.0).board ≡ B.identity result.0) × ((B.sight result.1.0).seen.boxes ≡ 2)
+        × HasJob (B.sight result.1.0).number result.1.1 (B.sight result.1.0).seen.order }
+    ensures one { ((B.sight result.2.0).board ≡ B.identity result.0) × ((B.sight result.2.0).seen.boxes ≡ 2)
+        × HasJob (B.sight result.2.0).number result.2.1 (B.sight result.2.0).seen.order }
 {
-    let job = takes(rt, board, zero, 10);
-    assert_eq!(rt; post(rt, board, zero, &job, 1, 11), Ok(()));
-    job
+    let (board, mut zero, mut one) = two::<R, B>(rt, alloc, 1000);
+    let zero_job = takes(rt, &board, &mut zero, 10);
+    assert!(rt; post(rt, &board, &mut zero, &zero_job, 1, 11).is_ok());
+    let one_job = takes(rt, &board, &mut one, 11);
+    (board, (zero, zero_job), (one, one_job))
+}
+
+// Completes the message of each pass.
+fn ends<R: Wait + Abort, B: Letters>(rt: &R, board: &B, zero: (B::Pass, Job), one: (B::Pass, Job))
+where
+    B::Pass: Drop,
+    requires zero { ((B.sight zero.0).board ≡ B.identity board.now)
+        × HasJob (B.sight zero.0).number zero.1 (B.sight zero.0).seen.order }
+    requires one { ((B.sight one.0).board ≡ B.identity board.now)
+        × HasJob (B.sight one.0).number one.1 (B.sight one.0).seen.order }
+{
+    let (mut pass, job) = zero;
+    done(rt, board, &mut pass, job);
+    let (mut pass, job) = one;
+    done(rt, board, &mut pass, job);
 }
 
 #[test]
 fn two_posts_at_once(rt: HostRuntime) {
-    let (board, mut zero, mut one) = two::<_, Boxes>(&rt, rt.alloc(), 1000);
-    let zero_job = begins(&rt, &board, &mut zero);
-    let one_job = takes(&rt, &board, &mut one, 11);
+    let (board, (zero, zero_job), (one, one_job)) = begun::<_, Boxes>(&rt, rt.alloc());
     let flags = Flags {
         begun: AtomicBool::new(false),
         answered: AtomicBool::new(false),
         gave_up: AtomicBool::new(false),
     };
-    let ((mut zero, zero_posted), (mut one, one_posted)) = both(
+    let ((zero, zero_posted), (one, one_posted)) = both(
         &rt,
         &board,
         (zero, &zero_job),
         (one, &one_job),
         &flags,
     );
-    done(&rt, &board, &mut zero, zero_job);
-    done(&rt, &board, &mut one, one_job);
+    ends(&rt, &board, (zero, zero_job), (one, one_job));
     assert!(rt; zero_posted && one_posted);
     assert!(rt; !flags.gave_up.load(SeqCst));
 }

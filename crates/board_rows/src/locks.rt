@@ -96,7 +96,7 @@ fn draw<R: Abort, A: Allocator>(rt: &R, lock: &Lock<A>, lane: &mut Place<A>, wan
     let Ok(ticket) = lock.draw(lane) else {
         panic!(rt; "no ticket")
     };
-    assert_eq!(rt; ticket.number(), wanted);
+    assert!(rt; ticket.number() == wanted);
     ticket
 }
 
@@ -137,7 +137,7 @@ fn serve<R: Abort, A: Allocator>(
     let found = marks.len();
     let _ = marks.push((number, mark));
     lock.leave(lane, guard);
-    assert_eq!(rt; found, wanted);
+    assert!(rt; found == wanted);
 }
 
 // Draws a ticket of this number, and is served at the first look, with as many marks before.
@@ -192,7 +192,7 @@ fn a_lane_is_spent_after_its_budget(rt: HostRuntime) {
     draw_and_serve(&rt, &lock, &mut lane, 0, 0, 0);
     draw_and_serve(&rt, &lock, &mut lane, 1, 1, 1);
     draw_and_serve(&rt, &lock, &mut lane, 2, 2, 2);
-    assert_eq!(rt; lane.left(), 0);
+    assert!(rt; lane.left() == 0);
     if let Ok(_more) = lock.draw(&mut lane) {
         panic!(rt; "a fourth ticket");
     }
@@ -221,20 +221,28 @@ fn a_lane_that_learned_is_served_at_its_first_look(rt: HostRuntime) {
     learns(&rt, &lock, &mut first, &mut second);
 }
 
-// Whether the allocation of this number was refused to a lock of three lanes. Its value comes back then.
-fn was_refused<R: Abort, A: Allocator>(rt: &R, host: A, first: Marks<A>, nth: u64) -> bool {
-    let scarce = Scarce::refusing(host, nth);
-    match TicketLock::with_budget(&scarce, first, 3, 5) {
-        Ok((_lock, lanes)) => {
-            assert_eq!(rt; (lanes.len(), scarce.refused()), (3, false));
-            false
-        }
+// How many lanes a lock of three has. Its value comes back where it finds no memory.
+fn lanes_of<R: Abort, H: Allocator + Clone, A: Allocator>(
+    rt: &R,
+    heap: H,
+    first: Marks<A>,
+) -> Option<usize> {
+    match TicketLock::with_budget(heap, first, 3, 5) {
+        Ok((_lock, lanes)) => Some(lanes.len()),
         Err(back) => {
-            assert!(rt; scarce.refused());
-            assert_eq!(rt; back.marks.as_slice(), [(7, 8)].as_slice());
-            true
+            assert!(rt; back.marks.as_slice() == [(7, 8)].as_slice());
+            None
         }
     }
+}
+
+// Whether the allocation of this number was refused to the lock.
+fn was_refused<R: Abort, A: Allocator>(rt: &R, host: A, first: Marks<A>, nth: u64) -> bool {
+    let scarce = Scarce::refusing(host, nth);
+    let lanes = lanes_of(rt, &scarce, first);
+    let wanted = if scarce.refused() { None } else { Some(3) };
+    assert!(rt; lanes == wanted);
+    scarce.refused()
 }
 
 #[test]
@@ -314,8 +322,8 @@ fn four_threads_enter(rt: HostRuntime) {
     give_back(&rt, &lock, &mut lanes, c);
     give_back(&rt, &lock, &mut lanes, d);
     let last = finish(lock, lanes);
-    assert_eq!(rt; last.marks.len(), 4000);
+    assert!(rt; last.marks.len() == 4000);
     for lane in 0..4u64 {
-        assert_eq!(rt; in_order(last.marks.as_slice(), lane), Some(1000));
+        assert!(rt; in_order(last.marks.as_slice(), lane) == Some(1000));
     }
 }

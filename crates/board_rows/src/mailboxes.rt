@@ -33,13 +33,13 @@ fn takes<R: Abort, A: Allocator>(rt: &R, mailbox: &mut Mailbox<u8, A>, number: u
     ensures { TakesOldest mailbox.old mailbox.new message }
 {
     let answer = mailbox.take();
-    assert_eq!(rt; answer, Some((number, message)));
+    assert!(rt; answer == Some((number, message)));
 }
 
 // The whole history has to be this, and legal.
 fn has<R: Abort, A: Allocator>(rt: &R, mailbox: &Mailbox<u8, A>, wanted: &[Event<u8>]) {
-    assert_eq!(rt; mailbox.history(), wanted);
-    assert!(rt; legal(mailbox.history()));
+    let history = mailbox.history();
+    assert!(rt; history == wanted && legal(history));
 }
 
 fn one_message<R: Abort, A: Allocator>(rt: &R, alloc: A) {
@@ -56,17 +56,11 @@ fn one_message_is_posted_taken_and_completed(rt: HostRuntime) {
     one_message(&rt, rt.alloc());
 }
 
-// The messages of sender 0 at a side.
-fn at_side<R: Abort, A: Allocator>(
-    rt: &R,
-    alloc: A,
-    history: &[Event<u8>],
-    side: Side,
-    wanted: &[u8],
-) {
+// Whether these are the messages of sender 0 at a side.
+fn has_at_side<A: Allocator>(alloc: A, history: &[Event<u8>], side: Side, wanted: &[u8]) -> bool {
     match by_sender(alloc, history, 0, side) {
-        Ok(messages) => assert_eq!(rt; messages.as_slice(), wanted),
-        Err(AllocError) => panic!(rt; "no memory"),
+        Ok(messages) => messages.as_slice() == wanted,
+        Err(AllocError) => false,
     }
 }
 
@@ -102,24 +96,40 @@ fn each_sender_has_its_messages_in_order(rt: HostRuntime) {
         done(2),
     ];
     assert!(rt; !legal(done_of_none.as_slice()));
-    at_side(&rt, rt.alloc(), mailbox.history(), Side::Posts, &[5, 6]);
-    at_side(&rt, rt.alloc(), mailbox.history(), Side::Takes, &[5]);
+    let history = mailbox.history();
+    assert!(rt; has_at_side(rt.alloc(), history, Side::Posts, &[5, 6]));
+    assert!(rt; has_at_side(rt.alloc(), history, Side::Takes, &[5]));
 }
 
-// Posts the messages below ten, each again where it was refused: it comes back then, and nothing is recorded.
-fn posts_ten<R: Abort, A: Allocator>(rt: &R, mailbox: &mut Mailbox<u8, A>) {
-    for n in 0..10u8 {
-        if let Err(back) = mailbox.post(0, n) {
-            assert_eq!(rt; back, n);
-            assert_eq!(rt; mailbox.history().len(), usize::from(n));
-            assert_eq!(rt; mailbox.post(0, back), Ok(()));
-        }
+// Posts a message as the one of this number, again where it was refused: it comes back then, and nothing is recorded.
+fn posts_again<R: Abort, A: Allocator>(rt: &R, mailbox: &mut Mailbox<u8, A>, number: u8) {
+    if let Err(back) = mailbox.post(0, number) {
+        assert!(rt; back == number && mailbox.history().len() == usize::from(number));
+        assert!(rt; mailbox.post(0, back).is_ok());
     }
 }
 
-fn takes_ten<R: Abort, A: Allocator>(rt: &R, mailbox: &mut Mailbox<u8, A>) {
+// Posts the messages below ten, and takes them, for which no allocation is asked.
+fn serves_ten<R: Abort, H: Allocator, A: Allocator>(
+    rt: &R,
+    scarce: &Scarce<H>,
+    mailbox: &mut Mailbox<u8, A>,
+) {
     for n in 0..10u8 {
-        assert_eq!(rt; mailbox.take(), Some((u64::from(n), n)));
+        posts_again(rt, mailbox, n);
+    }
+    let asked = scarce.asked();
+    for n in 0..10u8 {
+        takes(rt, mailbox, u64::from(n), n);
+    }
+    assert!(rt; scarce.asked() == asked);
+}
+
+// How many messages of sender 0 were taken, if there is memory for their list.
+fn count_taken<A: Allocator>(alloc: A, history: &[Event<u8>]) -> Option<usize> {
+    match by_sender(alloc, history, 0, Side::Takes) {
+        Ok(taken) => Some(taken.len()),
+        Err(AllocError) => None,
     }
 }
 
@@ -131,10 +141,9 @@ fn list_was_refused<R: Abort, A: Allocator>(
     nth: u64,
 ) -> bool {
     let few = Scarce::refusing(host, nth);
-    match by_sender(&few, history, 0, Side::Takes) {
-        Ok(taken) => assert_eq!(rt; (taken.len(), few.refused()), (10, false)),
-        Err(_) => assert!(rt; few.refused()),
-    }
+    let count = count_taken(&few, history);
+    let wanted = if few.refused() { None } else { Some(10) };
+    assert!(rt; count == wanted);
     few.refused()
 }
 
@@ -142,10 +151,7 @@ fn list_was_refused<R: Abort, A: Allocator>(
 fn was_refused<R: Abort, A: Allocator>(rt: &R, host: A, other: A, nth: u64) -> bool {
     let scarce = Scarce::refusing(host, nth);
     let mut mailbox = Mailbox::new(&scarce);
-    posts_ten(rt, &mut mailbox);
-    let asked = scarce.asked();
-    takes_ten(rt, &mut mailbox);
-    assert_eq!(rt; scarce.asked(), asked);
+    serves_ten(rt, &scarce, &mut mailbox);
     let list = list_was_refused(rt, other, mailbox.history(), nth);
     scarce.refused() || list
 }

@@ -5,7 +5,7 @@ ghost use Rattle.board_rows.specs.Passes.{IsSame, IsPass, KeepsJobs};
 
 use crate::boards::{Letter, Letters, done, gather, message, post, settle};
 use post_ledger::{Event, Ledger, Mailbox, Side, by_sender};
-use std::alloc::{AllocError, Allocator, Global};
+use std::alloc::{Allocator, Global};
 use std::process::Abort;
 use std::sync::Wait;
 use std::thread;
@@ -154,7 +154,7 @@ fn begins<R: Wait + Abort, B: Letters>(rt: &R, board: &B, a: &mut B::Pass)
 {
     let (job, _opening) = message(rt, board, a);
     for to in 0..4u8 {
-        assert_eq!(rt; post(rt, board, a, &job, to, 0), Ok(()));
+        assert!(rt; post(rt, board, a, &job, to, 0).is_ok());
     }
     done(rt, board, a, job);
 }
@@ -169,31 +169,35 @@ fn rising(messages: &[Letter]) -> Option<usize> {
     Some(messages.len())
 }
 
-// How many messages of a sender a mailbox got, if they were taken as they were posted, and rise.
-fn taken_in_order<A: Allocator + Clone>(
-    alloc: &A,
+// How many messages of a sender a mailbox got, if there is memory for two lists, they were taken as they were posted, and rise.
+fn taken_in_order<A: Allocator + Copy>(
+    alloc: A,
     history: &[Event<Letter>],
     sender: u8,
-) -> Result<Option<usize>, AllocError> {
-    let posted = by_sender(alloc.clone()?, history, sender, Side::Posts)?;
-    let taken = by_sender(alloc.clone()?, history, sender, Side::Takes)?;
-    if posted.as_slice() != taken.as_slice() {
-        return Ok(None);
+) -> Option<usize> {
+    let Ok(posted) = by_sender(alloc, history, sender, Side::Posts) else {
+        return None;
+    };
+    let Ok(taken) = by_sender(alloc, history, sender, Side::Takes) else {
+        return None;
+    };
+    if posted.as_slice() == taken.as_slice() {
+        rising(posted.as_slice())
+    } else {
+        None
     }
-    Ok(rising(posted.as_slice()))
 }
 
 // The senders' messages, so many of each, came to each mailbox in order.
-fn came_in_order<R: Abort, A: Allocator + Clone, H: Allocator>(
+fn came_in_order<R: Abort, A: Allocator + Copy, H: Allocator>(
     rt: &R,
-    alloc: &A,
+    alloc: A,
     histories: &[Mailbox<Letter, H>],
     wanted: &[(u8, usize)],
 ) {
     for mailbox in histories {
         for (sender, count) in wanted {
-            let found = taken_in_order(alloc, mailbox.history(), *sender);
-            assert_eq!(rt; found, Ok(Some(*count)), "of {sender}");
+            assert!(rt; taken_in_order(alloc, mailbox.history(), *sender) == Some(*count));
         }
     }
 }
@@ -267,11 +271,10 @@ where
     B::Pass: Drop + Send,
 {
     let ledger = worked::<R, B>(rt, alloc, more);
-    assert!(rt; ledger.closed);
-    assert_eq!(rt; ledger.histories.len(), 4);
+    assert!(rt; ledger.closed && ledger.histories.len() == 4);
     // The first pass began the work of each by one message more.
     let wanted = [(0, 2_501), (1, 2_500), (2, 2_500), (3, 2_500)];
-    came_in_order(rt, &lists, ledger.histories.as_slice(), wanted.as_slice());
+    came_in_order(rt, lists, ledger.histories.as_slice(), wanted.as_slice());
 }
 
 #[test]

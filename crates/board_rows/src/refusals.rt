@@ -78,12 +78,12 @@ fn serves<R: Wait + Abort, A: Allocator, B: Letters>(
     let (job, _first) = message(rt, board, pass);
     let before = scarce.refused();
     let refused = posts(rt, board, pass, &job);
-    assert_eq!(rt; refused == 1, scarce.refused() && !before);
+    assert!(rt; (refused == 1) == (scarce.refused() && !before));
     let asked = scarce.asked();
     takes(rt, board, pass);
     done(rt, board, pass, job);
     finds(rt, board, pass, Answer::Closed);
-    assert_eq!(rt; scarce.asked(), asked);
+    assert!(rt; scarce.asked() == asked);
 }
 
 // A board of one mailbox, each of whose allocations is that of `heap`, serves 20 messages, unless it finds no memory for itself.

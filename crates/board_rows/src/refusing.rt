@@ -22,60 +22,73 @@ fn pushes<A: Allocator>(numbers: &mut Vec<u64, A>) -> Result<(u64, u64), AllocEr
     Ok((refusals, at))
 }
 
-/// One refusal, and before so many growths; the numbers are there.
-fn refuses_one<R: Abort, A: Allocator>(rt: &R, alloc: A, nth: u64, growths: u64) {
+/// The same of an empty list; `None` where a number was refused twice, or the numbers are not there.
+fn pushed<A: Allocator>(mut numbers: Vec<u64, A>) -> Option<(u64, u64)> {
+    match pushes(&mut numbers) {
+        Ok(counts) if numbers.iter().copied().eq(0..100u64) => Some(counts),
+        _ => None,
+    }
+}
+
+/// So many refusals, and before the last so many growths; the numbers are there.
+fn refuses<R: Abort, A: Allocator>(rt: &R, alloc: A, nth: u64, wanted: (u64, u64)) {
     let scarce = Scarce::refusing(alloc, nth);
-    let mut numbers = Vec::new(&scarce);
+    let numbers = Vec::new(&scarce);
     assert!(rt; !scarce.refused());
-    assert_eq!(rt; pushes(&mut numbers), Ok((1, growths)));
-    assert!(rt; scarce.refused());
-    assert!(rt; numbers.iter().copied().eq(0..100u64));
+    assert_eq!(rt; pushed(numbers), Some(wanted));
+    assert!(rt; scarce.refused() == (wanted.0 > 0));
 }
 
 #[test]
 fn refuses_one_growth(rt: HostRuntime) {
     for nth in 1..4u64 {
-        refuses_one(&rt, rt.alloc(), nth, nth - 1);
+        refuses(&rt, rt.alloc(), nth, (1, nth - 1));
     }
-}
-
-fn refuses_none<R: Abort, A: Allocator>(rt: &R, alloc: A) {
-    let scarce = Scarce::refusing(alloc, 0);
-    let mut numbers = Vec::new(&scarce);
-    assert_eq!(rt; pushes(&mut numbers), Ok((0, 0)));
-    assert!(rt; !scarce.refused());
 }
 
 #[test]
 fn refuses_none_at_zero(rt: HostRuntime) {
-    refuses_none(&rt, rt.alloc());
+    refuses(&rt, rt.alloc(), 0, (0, 0));
 }
 
-/// Each of three more boxes is refused.
-fn refuses_three<R: Abort, A: Allocator>(rt: &R, scarce: &Scarce<A>) {
-    for _ in 0..3u64 {
-        assert!(rt; Box::new(scarce, 3u8).is_err());
-        assert!(rt; scarce.refused());
+/// Whether one more box is refused.
+fn refuses_a_box<A: Allocator>(alloc: A) -> bool {
+    Box::new(alloc, 3u8).is_err()
+}
+
+fn two_boxes<A: Allocator + Copy>(alloc: A) -> Result<(Box<u8, A>, Box<u8, A>), AllocError> {
+    Ok((Box::new(alloc, 1u8)?, Box::new(alloc, 2u8)?))
+}
+
+/// Whether there are two boxes, with what was put in.
+fn are_there<A: Allocator>(boxes: Result<(Box<u8, A>, Box<u8, A>), AllocError>) -> bool {
+    match boxes {
+        Ok((first, second)) => *first == 1 && *second == 2,
+        Err(AllocError) => false,
     }
+}
+
+/// Two boxes stay while each of three more is refused.
+fn keeps_two<R: Abort, A: Allocator>(rt: &R, scarce: &Scarce<A>) {
+    let boxes = two_boxes(scarce);
+    assert!(rt; !scarce.refused());
+    for _ in 0..3u64 {
+        assert!(rt; refuses_a_box(scarce) && scarce.refused());
+    }
+    assert!(rt; are_there(boxes));
 }
 
 fn refuses_the_rest<R: Abort, A: Allocator>(rt: &R, alloc: A) {
     let inner = Scarce::refusing(alloc, 0);
     let scarce = Scarce::refusing_from(&inner, 3);
-    let (Ok(first), Ok(second)) = (Box::new(&scarce, 1u8), Box::new(&scarce, 2u8)) else {
-        panic!(rt; "no memory")
-    };
-    assert!(rt; !scarce.refused());
-    refuses_three(rt, &scarce);
-    assert_eq!(rt; (*first, *second), (1, 2));
-    assert_eq!(rt; (scarce.asked(), inner.asked()), (5, 2));
+    keeps_two(rt, &scarce);
+    assert!(rt; scarce.asked() == 5 && inner.asked() == 2);
 }
 
 fn refuses_each<R: Abort, A: Allocator>(rt: &R, alloc: A) {
     let none = Scarce::refusing_from(alloc, 0);
     assert!(rt; !none.refused());
-    assert!(rt; Box::new(&none, 3u8).is_err());
-    assert!(rt; none.refused());
+    assert!(rt; refuses_a_box(&none) && none.refused());
 }
 
 #[test]
@@ -92,39 +105,55 @@ fn two_texts<R: Alloc>(rt: &R) -> Result<(String<R::A>, String<R::A>), AllocErro
     ))
 }
 
+/// Whether the texts are these.
+fn has_two_texts<R: Alloc>(rt: &R) -> Result<bool, AllocError> {
+    match two_texts(rt) {
+        Ok((first, second)) => Ok(first.as_str() == "first" && second.as_str() == "second"),
+        Err(refused) => Err(refused),
+    }
+}
+
+/// One of the texts is refused, and then none.
+fn refuses_a_text<R: Abort, A: Allocator>(rt: &R, scarce: &Scarce<A>, nth: u64) {
+    let with_it = (rt, scarce);
+    assert!(rt; has_two_texts(&with_it).is_err());
+    assert!(rt; scarce.asked() == nth);
+    assert!(rt; has_two_texts(&with_it) == Ok(true));
+    assert!(rt; scarce.asked() == nth.wrapping_add(2));
+}
+
 #[test]
 fn stands_in_a_pair_with_the_runtime(rt: HostRuntime) {
     for nth in 1..3u64 {
         let scarce = Scarce::refusing(rt.alloc(), nth);
-        let with_it = (&rt, &scarce);
-        assert!(rt; two_texts(&with_it).is_err());
-        assert_eq!(rt; scarce.asked(), nth);
-        let Ok((first, second)) = two_texts(&with_it) else {
-            panic!(rt; "refused again")
-        };
-        assert_eq!(rt; first.as_str(), "first");
-        assert_eq!(rt; second.as_str(), "second");
-        assert_eq!(rt; scarce.asked(), nth + 2);
+        refuses_a_text(&rt, &scarce, nth);
     }
 }
 
 /// How many of ten boxes were refused.
 fn refused_boxes(scarce: &Scarce<Global>) -> u64 {
     let mut refused = 0u64;
-    for n in 0..10u64 {
-        if Box::new(scarce, n).is_err() {
+    for _ in 0..10u64 {
+        if refuses_a_box(scarce) {
             refused = refused.wrapping_add(1);
         }
     }
     refused
 }
 
+/// The length of a list, if there was memory for it.
+fn length_of<A: Allocator>(made: Result<Vec<u8, A>, AllocError>) -> Option<usize> {
+    match made {
+        Ok(list) => Some(list.len()),
+        Err(AllocError) => None,
+    }
+}
+
 #[test]
 fn is_shared_by_threads(rt: HostRuntime) {
     let scarce = Scarce::refusing(rt.alloc(), 7);
     let (here, there) = thread::join(&rt, || refused_boxes(&scarce), || refused_boxes(&scarce));
-    assert_eq!(rt; (here.wrapping_add(there), scarce.asked()), (1, 20));
+    assert!(rt; here.wrapping_add(there) == 1 && scarce.asked() == 20);
     let (made, kept) = thread::join(&rt, || Vec::from_elem(&scarce, 5u8, 3), || 1u8);
-    assert_eq!(rt; kept, 1);
-    assert_eq!(rt; made.map(|v| v.len()), Ok(3));
+    assert!(rt; length_of(made) == Some(3) && kept == 1);
 }

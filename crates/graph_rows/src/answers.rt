@@ -32,6 +32,27 @@ fn flow_of<A: Allocator>(graph: &Graph<A>, point: Point) -> Option<&Flow<A>> {
     }
 }
 
+/// The same, of a point of this number.
+fn flow_numbered<A: Allocator>(graph: &Graph<A>, point: u64) -> Option<&Flow<A>> {
+    flow_of(graph, usize::try_from(point).ok()?)
+}
+
+/// Puts a number behind the others.
+fn put_number<B: Allocator>(out: &mut String<B>, number: usize) -> Option<()> {
+    write!(out, " {number}").ok()
+}
+
+/// Puts the binary digits of a valuation behind the others.
+fn put_bits<B: Allocator>(out: &mut String<B>, values: u64) -> Option<()> {
+    write!(out, " {values:b}").ok()
+}
+
+/// Puts a point and a valuation behind the others.
+fn put_pair<B: Allocator>(out: &mut String<B>, pair: (Point, u64)) -> Option<()> {
+    let (point, values) = pair;
+    write!(out, " {point}:{values:b}").ok()
+}
+
 /// Where the run goes on with one choice, from each of the valuations.
 fn steps<A: Allocator, B: Allocator>(
     flow: &Flow<A>,
@@ -41,8 +62,8 @@ fn steps<A: Allocator, B: Allocator>(
 ) -> Option<()> {
     for values in valuations {
         match flow.next(*values, choice) {
-            Some((to, next)) => write!(out, " {to}:{next:b}").ok()?,
-            None => write!(out, " none").ok()?,
+            Some(pair) => put_pair(out, pair)?,
+            None => out.push_str(" none").ok()?,
         }
     }
     Some(())
@@ -102,6 +123,14 @@ fn reached<A: Allocator, B: Allocator>(
     Some(pairs)
 }
 
+/// Puts pairs behind the others.
+fn put_pairs<B: Allocator>(out: &mut String<B>, pairs: &[(Point, u64)]) -> Option<()> {
+    for pair in pairs {
+        put_pair(out, *pair)?;
+    }
+    Some(())
+}
+
 /// The pairs reached, written.
 fn reaches<A: Allocator, B: Allocator + Copy>(
     alloc: B,
@@ -110,10 +139,7 @@ fn reaches<A: Allocator, B: Allocator + Copy>(
     out: &mut String<B>,
 ) -> Option<()> {
     let pairs = reached(alloc, graph, entry)?;
-    for (point, values) in &pairs {
-        write!(out, " {point}:{values:b}").ok()?;
-    }
-    Some(())
+    put_pairs(out, pairs.as_slice())
 }
 
 /// The procedure that is called, the point of the return, and the entry from each of the valuations.
@@ -122,12 +148,10 @@ fn calls<A: Allocator, B: Allocator>(
     valuations: &[u64],
     out: &mut String<B>,
 ) -> Option<()> {
-    let callee = call.callee();
-    let back = call.back();
-    write!(out, " {callee} {back}").ok()?;
+    put_number(out, usize::from(call.callee()))?;
+    put_number(out, call.back())?;
     for values in valuations {
-        let entry = call.entry(*values);
-        write!(out, " {entry:b}").ok()?;
+        put_bits(out, call.entry(*values))?;
     }
     Some(())
 }
@@ -168,10 +192,15 @@ fn leaves<A: Allocator, B: Allocator>(
     out: &mut String<B>,
 ) -> Option<()> {
     for values in valuations {
-        let left = graph.left(*values);
-        write!(out, " {left:b}").ok()?;
+        put_bits(out, graph.left(*values))?;
     }
     Some(())
+}
+
+/// The first point of a graph, and how many it has.
+fn size<A: Allocator, B: Allocator>(graph: &Graph<A>, out: &mut String<B>) -> Option<()> {
+    put_number(out, graph.start())?;
+    put_number(out, graph.points())
 }
 
 /// The answer of a procedure's graph to a question: a word and numbers.
@@ -182,26 +211,41 @@ fn of_graph<A: Allocator, B: Allocator + Copy>(
     out: &mut String<B>,
 ) -> Option<()> {
     match question {
-        ("size", _) => {
-            let start = graph.start();
-            let points = graph.points();
-            write!(out, " {start} {points}").ok()
-        }
+        ("size", _) => size(graph, out),
         ("reached", [entry, ..]) => reaches(alloc, graph, *entry, out),
         ("left", valuations) => leaves(graph, valuations, out),
-        ("resumed", [values, globals, ..]) => {
-            let resumed = graph.resumed(*values, *globals);
-            write!(out, " {resumed:b}").ok()
-        }
-        (word, [point, rest @ ..]) => {
-            let flow = flow_of(graph, usize::try_from(*point).ok()?)?;
-            of_flow(flow, (word, rest), out)
-        }
+        ("resumed", [values, globals, ..]) => put_bits(out, graph.resumed(*values, *globals)),
+        (word, [point, rest @ ..]) => of_flow(flow_numbered(graph, *point)?, (word, rest), out),
         _ => None,
     }
 }
 
-/// The answer to a question, which begins with its first word.
+/// The numbers of a question, which come behind others.
+fn push_numbers<B: Allocator>(numbers: &mut Vec<u64, B>, words: &str) -> Option<()> {
+    for digits in words.split_whitespace() {
+        numbers.push(number(digits)?).ok()?;
+    }
+    Some(())
+}
+
+/// Puts the answer to a question, which begins with its first word, on the line.
+fn put_answer<A: Allocator, B: Allocator + Copy>(
+    alloc: B,
+    graphs: &Graphs<A>,
+    question: (&str, &[u64]),
+    out: &mut String<B>,
+) -> Option<()> {
+    let (word, numbers) = question;
+    let (procedure, rest) = numbers.split_first()?;
+    out.push_str(word).ok()?;
+    if word == "procedures" {
+        put_number(out, graphs.len())
+    } else {
+        of_graph(alloc, graph_of(graphs, *procedure)?, (word, rest), out)
+    }
+}
+
+/// The answer to a question.
 pub(crate) fn answer<A: Allocator, B: Allocator + Copy>(
     alloc: B,
     graphs: &Graphs<A>,
@@ -209,16 +253,8 @@ pub(crate) fn answer<A: Allocator, B: Allocator + Copy>(
 ) -> Option<String<B>> {
     let (word, rest) = question.split_once(" ")?;
     let mut numbers = Vec::new(alloc);
-    for digits in rest.split_whitespace() {
-        numbers.push(number(digits)?).ok()?;
-    }
-    let mut out = String::from_str(alloc, word).ok()?;
-    let (procedure, rest) = numbers.as_slice().split_first()?;
-    if word == "procedures" {
-        let count = graphs.len();
-        write!(out, " {count}").ok()?;
-    } else {
-        of_graph(alloc, graph_of(graphs, *procedure)?, (word, rest), &mut out)?;
-    }
+    push_numbers(&mut numbers, rest)?;
+    let mut out = String::new(alloc);
+    put_answer(alloc, graphs, (word, numbers.as_slice()), &mut out)?;
     Some(out)
 }

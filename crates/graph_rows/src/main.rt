@@ -7,37 +7,54 @@
 mod answers;
 mod refusals;
 
-use answers::answer;
-use flow_graph::graphs;
-use refusals::each_refused;
+use refusals::{each_refused, plain};
 use resolved::Sequential;
 use round_rewrite::{Rounds, rewrite};
 use scopes::check;
 use std::alloc::Allocator;
 use std::io;
 use syntax::read;
-
-/// A text, rewritten for a number of rounds.
-fn rewritten<A: Allocator + Copy>(alloc: A, rounds: &str, text: &str) -> Option<Sequential<A>> {
-    let rounds = Rounds::new(rounds.parse().ok()?)?;
-    let program = read(alloc, text.as_bytes()).ok()?;
-    let checked = check(alloc, program).ok()?;
-    rewrite(&alloc, &checked, rounds).ok()
-}
+use trees::Program;
 
 /// The answer to a question on a rewritten program. Behind the word `refused` it stands after each allocation for the graphs was refused in
 /// turn.
-fn answered<A: Allocator + Copy>(
+fn of_sequential<A: Allocator + Copy>(
     alloc: A,
     sequential: &Sequential<A>,
     question: &str,
 ) -> Option<String<A>> {
     match question.strip_prefix("refused ") {
         Some(question) => each_refused(alloc, sequential, question),
-        None => {
-            let graphs = graphs(&alloc, sequential).ok()?;
-            answer(alloc, &graphs, question)
-        }
+        None => plain(alloc, sequential, question),
+    }
+}
+
+/// The answer to a question on a program, checked and rewritten.
+fn of_program<A: Allocator + Copy>(
+    alloc: A,
+    program: Program<A>,
+    rounds: Rounds,
+    question: &str,
+) -> Option<String<A>> {
+    let Ok(checked) = check(alloc, program) else {
+        return None;
+    };
+    match rewrite(&alloc, &checked, rounds) {
+        Ok(sequential) => of_sequential(alloc, &sequential, question),
+        Err(_) => None,
+    }
+}
+
+/// The answer to a question on a text, rewritten for a number of rounds.
+fn of_text<A: Allocator + Copy>(
+    alloc: A,
+    text: &str,
+    rounds: Rounds,
+    question: &str,
+) -> Option<String<A>> {
+    match read(alloc, text.as_bytes()) {
+        Ok(program) => of_program(alloc, program, rounds, question),
+        Err(_) => None,
     }
 }
 
@@ -45,8 +62,8 @@ fn answered<A: Allocator + Copy>(
 fn row<A: Allocator + Copy>(alloc: A, line: &str) -> Option<String<A>> {
     let (rounds, rest) = line.split_once(" | ")?;
     let (question, text) = rest.split_once(" | ")?;
-    let sequential = rewritten(alloc, rounds, text)?;
-    answered(alloc, &sequential, question)
+    let rounds = Rounds::new(rounds.parse().ok()?)?;
+    of_text(alloc, text, rounds, question)
 }
 
 /// The answer to a line, or the line itself where it is a comment, or that there is no answer.

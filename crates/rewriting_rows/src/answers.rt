@@ -1,62 +1,28 @@
 //! What is answered to a case: a word, and a text with what the word asks for before it.
+//!
+//! What an answer needs is taken from `alloc`, and its words from `host`.
 
-use crate::fault::TextFault;
 use resolved::Sequential;
 use round_rewrite::{Rounds, rewrite};
 use scopes::{Checked, check};
 use std::alloc::{AllocError, Allocator, Global};
+use std::fmt::Display;
 use syntax::{print, read};
-use trees::Program;
+use trees::{Proc, Program, Thread};
 
-/// A text to rewrite for a number of rounds. What the answer needs is taken from `alloc`, and its words from `host`.
-#[derive(Drop)]
-struct Case<'a, A: Allocator + Copy> {
-    host: Global,
-    alloc: A,
+/// What is asked of a text.
+#[derive(Clone, Copy)]
+struct Question<'a> {
+    word: &'a str,
+    /// For how many rounds the text is rewritten.
     count: u8,
-    text: &'a str,
+    /// The line that is looked for in what is printed.
+    line: &'a str,
 }
 
-/// A text, read and checked.
-fn checked<A: Allocator + Copy>(alloc: A, text: &str) -> Result<Checked<A>, TextFault> {
-    let program = read(alloc, text.as_bytes())?;
-    Ok(check(alloc, program)?)
-}
-
-/// A text rewritten for a number of rounds.
-fn sequential<A: Allocator + Copy>(
-    alloc: A,
-    count: u8,
-    text: &str,
-) -> Result<Sequential<A>, TextFault> {
-    let checked = checked(alloc, text)?;
-    let Some(rounds) = Rounds::new(count) else {
-        return Err(TextFault::Rounds);
-    };
-    Ok(rewrite(&alloc, &checked, rounds)?)
-}
-
-/// A text rewritten, as it is printed.
-fn printed<A: Allocator + Copy>(alloc: A, count: u8, text: &str) -> Result<String<A>, TextFault> {
-    let sequential = sequential(alloc, count, text)?;
-    Ok(print(alloc, sequential.program())?)
-}
-
-/// A text read and printed.
-fn printed_again<A: Allocator + Copy>(alloc: A, text: &str) -> Result<String<A>, TextFault> {
-    let program = read(alloc, text.as_bytes())?;
-    Ok(print(alloc, &program)?)
-}
-
-/// A text rewritten, as it is printed, where it is printed the same once it is read again.
-fn rewriting<A: Allocator + Copy>(case: &Case<'_, A>) -> Result<String, TextFault> {
-    let once = printed(case.alloc, case.count, case.text)?;
-    let again = printed_again(case.alloc, once.as_str())?;
-    if again.as_str() == once.as_str() {
-        Ok(String::from_str(case.host, once.as_str())?)
-    } else {
-        Ok(String::from_str(case.host, "printed otherwise once it is read")?)
-    }
+/// A fault in its own words, or whether something holds.
+fn shown<T: Display>(host: Global, value: &T) -> Result<String, AllocError> {
+    format!(in host; "{value}")
 }
 
 /// Whether a line stands in a text.
@@ -69,131 +35,199 @@ fn has_line(text: &str, line: &str) -> bool {
     false
 }
 
-/// Whether a line stands in what is printed: `LINE :: TEXT`.
-fn holds<A: Allocator + Copy>(case: &Case<'_, A>) -> Result<String, TextFault> {
-    let Some((line, text)) = case.text.split_once(" :: ") else {
-        return Err(TextFault::Case);
-    };
-    let printed = printed(case.alloc, case.count, text)?;
-    let holds = has_line(printed.as_str(), line);
-    Ok(format!(in case.host; "{holds}")?)
-}
-
-/// Whether a text is narrow enough.
-fn fits<A: Allocator + Copy>(case: &Case<'_, A>) -> Result<String, TextFault> {
-    let _sequential = sequential(case.alloc, case.count, case.text)?;
-    Ok(String::from_str(case.host, "rewritten")?)
-}
-
-/// The widths of a sequential program's procedures in order, each with a comma behind it.
-fn all_widths<A: Allocator>(
+/// What is printed, where it is printed the same once it is read again.
+fn printed_again<A: Allocator + Copy>(
     host: Global,
-    sequential: &Sequential<A>,
+    alloc: A,
+    printed: &str,
 ) -> Result<String, AllocError> {
-    let mut line = String::new(host);
+    let program = match read(alloc, printed.as_bytes()) {
+        Ok(program) => program,
+        Err(fault) => return shown(host, &fault),
+    };
+    match print(alloc, &program) {
+        Ok(again) if again.as_str() == printed => String::from_str(host, printed),
+        Ok(_) => String::from_str(host, "printed otherwise once it is read"),
+        Err(AllocError) => String::from_str(host, "memory"),
+    }
+}
+
+/// `rewrite` and `holds`: the rewriting as it is printed, and whether the line stands in it.
+fn of_printed<A: Allocator + Copy>(
+    host: Global,
+    alloc: A,
+    question: Question<'_>,
+    program: &Program<A>,
+) -> Result<String, AllocError> {
+    match print(alloc, program) {
+        Ok(text) if question.word == "holds" => {
+            shown(host, &has_line(text.as_str(), question.line))
+        }
+        Ok(text) => printed_again(host, alloc, text.as_str()),
+        Err(AllocError) => String::from_str(host, "memory"),
+    }
+}
+
+/// Puts the widths of a sequential program's procedures behind a line, each with a comma behind it.
+fn put_widths<A: Allocator>(
+    line: &mut String,
+    sequential: &Sequential<A>,
+) -> Result<(), AllocError> {
     for procedure in 0..32u8 {
         if (procedure as usize) < sequential.program().procs.len() {
             let width = sequential.width(procedure);
             write!(line, "{width},")?;
         }
     }
+    Ok(())
+}
+
+/// `widths`: the widths of the procedures in order.
+fn widths<A: Allocator>(host: Global, sequential: &Sequential<A>) -> Result<String, AllocError> {
+    let mut line = String::new(host);
+    put_widths(&mut line, sequential)?;
     Ok(line)
 }
 
-/// The widths of a text, rewritten.
-fn widths<A: Allocator + Copy>(case: &Case<'_, A>) -> Result<String, TextFault> {
-    let sequential = sequential(case.alloc, case.count, case.text)?;
-    Ok(all_widths(case.host, &sequential)?)
-}
-
-/// Whether there is such a number of rounds.
-fn rounds(host: Global, count: u8) -> Result<String, TextFault> {
-    match Rounds::new(count) {
-        Some(_) => Ok(String::from_str(host, "some")?),
-        None => Err(TextFault::Rounds),
+/// What is asked of a rewriting. `fits`: that there is one.
+fn of_sequential<A: Allocator + Copy>(
+    host: Global,
+    alloc: A,
+    question: Question<'_>,
+    sequential: &Sequential<A>,
+) -> Result<String, AllocError> {
+    match question.word {
+        "fits" => String::from_str(host, "rewritten"),
+        "widths" => widths(host, sequential),
+        _ => of_printed(host, alloc, question, sequential.program()),
     }
 }
 
-/// How many globals a program has, the names of its procedures and the offsets of its thread lines.
-fn all_parts<A: Allocator>(host: Global, program: &Program<A>) -> Result<String, AllocError> {
-    let globals = program.globals.len();
-    let mut line = format!(in host; "globals {globals}")?;
-    for proc in &program.procs {
+/// What is asked of a checked program's rewriting.
+fn rewritten<A: Allocator + Copy>(
+    host: Global,
+    alloc: A,
+    question: Question<'_>,
+    checked: &Checked<A>,
+) -> Result<String, AllocError> {
+    let Some(rounds) = Rounds::new(question.count) else {
+        return String::from_str(host, "none");
+    };
+    match rewrite(&alloc, checked, rounds) {
+        Ok(sequential) => of_sequential(host, alloc, question, &sequential),
+        Err(fault) => shown(host, &fault),
+    }
+}
+
+/// Puts the names of procedures behind a line.
+fn put_procedures<A: Allocator>(line: &mut String, procs: &[Proc<A>]) -> Result<(), AllocError> {
+    for proc in procs {
         let name = proc.name.text.as_str();
         write!(line, ", procedure {name}")?;
     }
-    for thread in &program.threads {
+    Ok(())
+}
+
+/// Puts the offsets of thread lines behind a line.
+fn put_threads<A: Allocator>(line: &mut String, threads: &[Thread<A>]) -> Result<(), AllocError> {
+    for thread in threads {
         let at = thread.at;
         write!(line, ", thread at {at}")?;
     }
+    Ok(())
+}
+
+/// `parts`: how many globals a program has, the names of its procedures and the offsets of its thread lines.
+fn parts<A: Allocator>(host: Global, program: &Program<A>) -> Result<String, AllocError> {
+    let globals = program.globals.len();
+    let mut line = format!(in host; "globals {globals}")?;
+    put_procedures(&mut line, &program.procs)?;
+    put_threads(&mut line, &program.threads)?;
     Ok(line)
 }
 
-/// Whether no fault stands in a text.
-fn verdict<A: Allocator + Copy>(host: Global, alloc: A, text: &str) -> Result<String, TextFault> {
-    let _checked = checked(alloc, text)?;
-    Ok(String::from_str(host, "checked")?)
+/// What is asked of a checked program. `check`: that no fault stands in it.
+fn of_checked<A: Allocator + Copy>(
+    host: Global,
+    alloc: A,
+    question: Question<'_>,
+    checked: &Checked<A>,
+) -> Result<String, AllocError> {
+    match question.word {
+        "check" => String::from_str(host, "checked"),
+        "parts" => parts(host, checked.program()),
+        _ => rewritten(host, alloc, question, checked),
+    }
 }
 
-/// The parts of a text, checked.
-fn parts<A: Allocator + Copy>(host: Global, alloc: A, text: &str) -> Result<String, TextFault> {
-    let checked = checked(alloc, text)?;
-    Ok(all_parts(host, checked.program())?)
+/// What is asked of a program; its fault in its own words.
+fn of_program<A: Allocator + Copy>(
+    host: Global,
+    alloc: A,
+    question: Question<'_>,
+    program: Program<A>,
+) -> Result<String, AllocError> {
+    match check(alloc, program) {
+        Ok(checked) => of_checked(host, alloc, question, &checked),
+        Err(fault) => shown(host, &fault),
+    }
 }
 
-/// What is answered to a case with a number of rounds.
-fn counted<A: Allocator + Copy>(case: &Case<'_, A>, word: &str) -> Result<String, TextFault> {
-    match word {
-        "rewrite" => rewriting(case),
-        "holds" => holds(case),
-        "fits" => fits(case),
-        "widths" => widths(case),
-        "rounds" => rounds(case.host, case.count),
-        _ => Err(TextFault::Case),
+/// What is asked of a text; its fault in its own words.
+fn of_text<A: Allocator + Copy>(
+    host: Global,
+    alloc: A,
+    question: Question<'_>,
+    text: &str,
+) -> Result<String, AllocError> {
+    match read(alloc, text.as_bytes()) {
+        Ok(program) => of_program(host, alloc, question, program),
+        Err(fault) => shown(host, &fault),
     }
 }
 
 /// A number of rounds and the text behind it: `COUNT TEXT`.
-fn numbered(rest: &str) -> Result<(u8, &str), TextFault> {
+fn numbered(rest: &str) -> Option<(u8, &str)> {
     let (number, text) = rest.split_once(' ').unwrap_or((rest, ""));
-    match number.parse::<u8>() {
-        Ok(count) => Ok((count, text)),
-        Err(_) => Err(TextFault::Case),
+    Some((number.parse::<u8>().ok()?, text))
+}
+
+/// The question of a word, and the text that it is asked of: `COUNT TEXT`, for `holds` `COUNT LINE :: TEXT`, for `check` and
+/// `parts` a text alone.
+fn asked<'a>(word: &'a str, rest: &'a str) -> Option<(Question<'a>, &'a str)> {
+    let (count, text) = match word {
+        "check" | "parts" => (0, rest),
+        "rewrite" | "holds" | "fits" | "widths" => numbered(rest)?,
+        _ => return None,
+    };
+    let (line, text) = match word {
+        "holds" => text.split_once(" :: ")?,
+        _ => ("", text),
+    };
+    Some((Question { word, count, line }, text))
+}
+
+/// Whether there is such a number of rounds.
+fn rounds(rest: &str) -> &'static str {
+    match numbered(rest) {
+        Some((count, _)) if Rounds::new(count).is_some() => "some",
+        Some(_) => "none",
+        None => "no such case",
     }
 }
 
-/// What is answered to a case; what the answer needs is taken from `alloc`, and its words from `host`.
-fn answer<A: Allocator + Copy>(
-    host: Global,
-    alloc: A,
-    word: &str,
-    rest: &str,
-) -> Result<String, TextFault> {
-    match word {
-        "check" => verdict(host, alloc, rest),
-        "parts" => parts(host, alloc, rest),
-        _ => {
-            let (count, text) = numbered(rest)?;
-            let case = Case {
-                host,
-                alloc,
-                count,
-                text,
-            };
-            counted(&case, word)
-        }
-    }
-}
-
-/// The same; a fault in its own words.
+/// What is answered to a case.
 pub fn words<A: Allocator + Copy>(
     host: Global,
     alloc: A,
     word: &str,
     rest: &str,
 ) -> Result<String, AllocError> {
-    match answer(host, alloc, word, rest) {
-        Ok(answer) => Ok(answer),
-        Err(fault) => format!(in host; "{fault}"),
+    if word == "rounds" {
+        return String::from_str(host, rounds(rest));
+    }
+    match asked(word, rest) {
+        Some((question, text)) => of_text(host, alloc, question, text),
+        None => String::from_str(host, "no such case"),
     }
 }

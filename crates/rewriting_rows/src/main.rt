@@ -8,7 +8,6 @@
 #![tactic(auto)]
 
 mod answers;
-mod fault;
 mod refusals;
 
 use answers::words;
@@ -51,16 +50,20 @@ fn expanded(alloc: Global, line: &str) -> Result<String, AllocError> {
 
 /// What is answered to a case.
 fn answered(host: Global, line: &str) -> Result<String, AllocError> {
-    let Some((word, rest)) = line.split_once(' ') else {
-        return String::from_str(host, "no such case");
-    };
-    if word != "refuse" {
-        return words(host, host, word, rest);
-    }
-    match rest.split_once(' ') {
-        Some((word, rest)) => refused_in_turn(host, word, rest),
+    match line.split_once(' ') {
+        Some(("refuse", case)) => match case.split_once(' ') {
+            Some((word, rest)) => refused_in_turn(host, word, rest),
+            None => String::from_str(host, "no such case"),
+        },
+        Some((word, rest)) => words(host, host, word, rest),
         None => String::from_str(host, "no such case"),
     }
+}
+
+/// What is answered to a line, whose words are written out first.
+fn answer(host: Global, line: &str) -> Result<String, AllocError> {
+    let case = expanded(host, line)?;
+    answered(host, case.as_str())
 }
 
 /// Prints a line, and its answer where it is a case.
@@ -69,8 +72,7 @@ fn say<R: Print + AllocGlobal>(rt: &R, line: &str) -> io::Result<()> {
     if line.is_empty() || line.starts_with('#') {
         return Ok(());
     }
-    let case = expanded(rt.alloc(), line)?;
-    let answer = answered(rt.alloc(), case.as_str())?;
+    let answer = answer(rt.alloc(), line)?;
     println!(rt; "{answer}")
 }
 

@@ -69,11 +69,14 @@ fn have_alike<A: Allocator, B: Allocator, S: PathSet<A>, T: PathSet<B>>(
 
 /// Whether two empty sets are alike after these edges.
 fn fill_alike<A: Allocator, B: Allocator, S: PathSet<A>, T: PathSet<B>>(
-    one: &mut S,
-    other: &mut T,
+    room: A,
+    ample: B,
     shape: Shape,
 ) -> Result<bool, AllocError> {
-    Ok(insert_alike(one, other, shape)? && have_alike(one, other, shape))
+    let mut one = S::empty(room);
+    let mut other = T::empty(ample);
+    let alike = insert_alike(&mut one, &mut other, shape)?;
+    Ok(alike && have_alike(&one, &other, shape))
 }
 
 /// Whether a set of diagrams and an ordered set are alike after these edges.
@@ -82,9 +85,7 @@ fn are_alike<A: Allocator + Copy>(
     ample: Global,
     shape: Shape,
 ) -> Result<bool, AllocError> {
-    let mut one: DiagramEdges<A> = PathSet::empty(alloc);
-    let mut other: OrderedEdges<Global> = PathSet::empty(ample);
-    fill_alike(&mut one, &mut other, shape)
+    fill_alike::<_, _, DiagramEdges<_>, OrderedEdges<_>>(alloc, ample, shape)
 }
 
 /// Writes whether both kinds of sets answer alike.

@@ -66,17 +66,40 @@ fn came_of<A: Allocator + Copy, B: Allocator, T: PathSet<B>>(
     }
 }
 
+/// Takes some steps on an empty set of the type `S`.
+fn fill_empty<A: Allocator, S: PathSet<A>>(
+    alloc: Global,
+    room: A,
+    words: &str,
+) -> Result<(), AllocError> {
+    let mut set = S::empty(room);
+    fill(alloc, &mut set, words)
+}
+
 /// How many allocations some steps on an empty set of diagrams ask for.
 fn asked_by(alloc: Global, words: &str) -> u64 {
     let scarce = Scarce::refusing(alloc, 0);
-    let mut set: DiagramEdges<_> = PathSet::empty(&scarce);
-    match fill(alloc, &mut set, words) {
+    match fill_empty::<_, DiagramEdges<_>>(alloc, &scarce, words) {
         Ok(()) => scarce.asked(),
         Err(_) => 0,
     }
 }
 
-/// What comes of it after some steps on an empty set of diagrams in memory of `room`.
+/// What comes of it after some steps on a set of diagrams.
+fn came_after<A: Allocator + Copy, B: Allocator, T: PathSet<B>>(
+    alloc: Global,
+    set: &mut DiagramEdges<A>,
+    other: &T,
+    words: &str,
+    spot: Spot,
+) -> Came {
+    match fill(alloc, set, words) {
+        Ok(()) => came_of(set, other, spot),
+        Err(_) => Came::Lost,
+    }
+}
+
+/// The same on an empty set in memory of `room`.
 fn came_in<A: Allocator + Copy, B: Allocator, T: PathSet<B>>(
     alloc: Global,
     room: A,
@@ -85,10 +108,7 @@ fn came_in<A: Allocator + Copy, B: Allocator, T: PathSet<B>>(
     spot: Spot,
 ) -> Came {
     let mut set: DiagramEdges<A> = PathSet::empty(room);
-    match fill(alloc, &mut set, words) {
-        Ok(()) => came_of(&set, other, spot),
-        Err(_) => Came::Lost,
-    }
+    came_after(alloc, &mut set, other, words, spot)
 }
 
 /// Writes what comes of a count where each of its allocations is refused in turn; so many are `asked` for in front of it.
@@ -116,17 +136,22 @@ fn in_turn<B: Allocator, T: PathSet<B>>(
     write!(out, "too many allocations")
 }
 
+/// Writes it, compared with a set of the type `T` after the same steps.
+fn compared<B: Allocator, T: PathSet<B>>(
+    alloc: Global,
+    room: B,
+    out: &mut String,
+    words: &str,
+    spot: Spot,
+) -> Result<(), AllocError> {
+    let mut other = T::empty(room);
+    fill(alloc, &mut other, words)?;
+    in_turn(alloc, out, &other, words, asked_by(alloc, words), spot)
+}
+
 /// Writes it for an entry and a point, and the steps in front of the count.
 pub fn refused_counts(alloc: Global, out: &mut String, words: &str) -> Result<(), AllocError> {
     let (spot, words) = words.split_once(' ').unwrap_or((words, ""));
-    let mut other: OrderedEdges<Global> = PathSet::empty(alloc);
-    fill(alloc, &mut other, words)?;
-    in_turn(
-        alloc,
-        out,
-        &other,
-        words,
-        asked_by(alloc, words),
-        spot_of(spot).0,
-    )
+    let (spot, _) = spot_of(spot);
+    compared::<_, OrderedEdges<_>>(alloc, alloc, out, words, spot)
 }

@@ -1,99 +1,96 @@
 //! What each command answers.
+ghost use Rattle.std.specs.Prelude.{ℕ, ◌<◌, ◌≤◌, length};
+ghost use Rattle.std.specs.List.{slice_index};
 
+use crate::page::Page;
 use crate::refused::is_printed_or_refused;
-use crate::row::{escaped, unescaped};
+use crate::row::{in_one_line, unescaped};
 use crate::show::{show_bodies, show_program, show_tokens};
 use std::alloc::{AllocError, Allocator};
 use syntax::{ReadFault, print, read};
-use tokens::{Token, as_ascii, cut, is_too_deep};
+use tokens::{CutFault, Token, as_ascii, cut, is_too_deep};
+use trees::Program;
 
 /// A text has at most so many bytes.
 const LIMIT: usize = 65536;
 
-fn said<A: Allocator>(out: &mut String<A>, holds: bool) -> Result<(), AllocError> {
-    out.push_str(if holds { "true" } else { "false" })
+fn say<A: Allocator>(page: &mut Page<A>, holds: bool) {
+    page.put(if holds { "true" } else { "false" });
 }
 
 // `cut`: the tokens. `deep`: whether they nest too deep. `same`: whether the first two are of one kind. `operator`: whether the
 // first is an operator.
-fn ask_tokens<A: Allocator>(
-    out: &mut String<A>,
-    command: &str,
-    tokens: &[Token<'_>],
-) -> Result<(), AllocError> {
+fn ask_tokens<A: Allocator>(page: &mut Page<A>, command: &str, tokens: &[Token<'_>]) {
     match (command, tokens) {
-        ("cut", _) => show_tokens(out, tokens),
-        ("deep", _) => said(out, is_too_deep(tokens)),
-        ("same", [first, second, ..]) => said(out, first.kind.is(second.kind)),
-        ("operator", [first, ..]) => said(out, first.kind.is_operator()),
-        _ => out.push_str("no such command, or too few tokens"),
+        ("cut", _) => show_tokens(page, tokens),
+        ("deep", _) => say(page, is_too_deep(tokens)),
+        ("same", [first, second, ..]) => say(page, first.kind.is(second.kind)),
+        ("operator", [first, ..]) => say(page, first.kind.is_operator()),
+        _ => page.put("no such command, or too few tokens"),
     }
 }
 
-// Asks the command of the text's tokens, or answers why it has none.
-fn ask_text<A: Allocator + Copy>(
-    alloc: A,
-    out: &mut String<A>,
-    command: &str,
-    bytes: &[u8],
-) -> Result<(), AllocError> {
+// Whether a text is refused by this fault.
+fn is_refused_by<A: Allocator>(alloc: A, text: &str, fault: &CutFault) -> bool
+    requires ascii { (i : ℕ) → slice_index text.now i < 128 }
+    requires within { length text.now ≤ 65536 }
+{
+    match cut(alloc, text) {
+        Ok(_) => false,
+        Err(again) => again == *fault,
+    }
+}
+
+// Asks the command of the text's tokens, or answers why it has none. `faults`: whether the text is refused twice by equal faults.
+fn ask_text<A: Allocator + Copy>(alloc: A, page: &mut Page<A>, command: &str, bytes: &[u8]) {
     let Some(text) = as_ascii(bytes) else {
-        return out.push_str("not ascii");
+        return page.put("not ascii");
     };
     if text.len() > LIMIT {
-        return out.push_str("too long");
+        return page.put("too long");
     }
     match cut(alloc, text) {
-        Ok(tokens) => ask_tokens(out, command, &tokens),
-        Err(fault) => write!(out, "{fault}"),
-    }
-}
-
-// Whether a text is refused twice by equal faults.
-fn faults_are_equal<A: Allocator + Copy>(alloc: A, bytes: &[u8]) -> bool {
-    let Some(text) = as_ascii(bytes) else {
-        return false;
-    };
-    if text.len() > LIMIT {
-        return false;
-    }
-    match (cut(alloc, text), cut(alloc, text)) {
-        (Err(fault), Err(again)) => fault == again,
-        _ => false,
+        Ok(tokens) => ask_tokens(page, command, &tokens),
+        Err(fault) if command == "faults" => say(page, is_refused_by(alloc, text, &fault)),
+        Err(fault) => page.put_shown(&fault),
     }
 }
 
 // What is shown of a program: its tree, the statements of its procedures, or what is printed for it.
-#[derive(Drop)]
+#[derive(Clone, Copy)]
 enum View {
     Tree,
     Bodies,
     Printed,
 }
 
-// What is shown of the program of a text, or the words of the text's fault.
-fn show_text<A: Allocator + Copy>(
-    alloc: A,
-    out: &mut String<A>,
-    view: View,
-    bytes: &[u8],
-) -> Result<(), AllocError> {
-    match (read(alloc, bytes), view) {
-        (Ok(program), View::Tree) => show_program(out, &program),
-        (Ok(program), View::Bodies) => show_bodies(out, &program.procs),
-        (Ok(program), View::Printed) => out.push_str(print(alloc, &program)?.as_str()),
-        (Err(fault), _) => write!(out, "{fault}"),
+fn show<A: Allocator + Copy>(alloc: A, page: &mut Page<A>, view: View, program: &Program<A>) {
+    match view {
+        View::Tree => show_program(page, program),
+        View::Bodies => show_bodies(page, &program.procs),
+        View::Printed => page.put_text(print(alloc, program)),
     }
 }
 
+// What is shown of the program of a text, or the words of the text's fault.
+fn show_text<A: Allocator + Copy>(alloc: A, page: &mut Page<A>, view: View, bytes: &[u8]) {
+    match read(alloc, bytes) {
+        Ok(program) => show(alloc, page, view, &program),
+        Err(fault) => page.put_shown(&fault),
+    }
+}
+
+// A text whose one procedure asserts the expression.
+fn asserting<A: Allocator>(alloc: A, expression: &str) -> Result<String<A>, AllocError> {
+    format!(in alloc; "t() begin assert({expression}); end thread t;")
+}
+
 // The statements of a text whose one procedure asserts the expression.
-fn show_asserted<A: Allocator + Copy>(
-    alloc: A,
-    out: &mut String<A>,
-    expression: &str,
-) -> Result<(), AllocError> {
-    let text = format!(in alloc; "t() begin assert({expression}); end thread t;")?;
-    show_text(alloc, out, View::Bodies, text.as_bytes())
+fn show_asserted<A: Allocator + Copy>(alloc: A, page: &mut Page<A>, expression: &str) {
+    match asserting(alloc, expression) {
+        Ok(text) => show_text(alloc, page, View::Bodies, text.as_bytes()),
+        Err(none) => page.put_text(Err(none)),
+    }
 }
 
 // The number of the fault, and 0 for a text that is read.
@@ -109,72 +106,74 @@ fn number_of_fault<A: Allocator + Copy>(alloc: A, bytes: &[u8]) -> u32 {
 }
 
 // The lengths of the fronts of a text that are read. A front that is not read has to be refused for its syntax, at a place in it.
-fn show_fronts<A: Allocator + Copy>(
-    alloc: A,
-    out: &mut String<A>,
-    bytes: &[u8],
-) -> Result<(), AllocError> {
+fn show_fronts<A: Allocator + Copy>(alloc: A, page: &mut Page<A>, bytes: &[u8]) {
     for length in 0..=bytes.len() {
-        match read(alloc, &bytes[..length]) {
-            Ok(_) => write!(out, "{length} ")?,
-            Err(ReadFault::Syntax(at)) if at as usize <= length => {}
-            Err(fault) => write!(out, "{length}: {fault} ")?,
+        show_front(alloc, page, &bytes[..length]);
+    }
+}
+
+fn show_front<A: Allocator + Copy>(alloc: A, page: &mut Page<A>, bytes: &[u8]) {
+    let length = bytes.len();
+    match read(alloc, bytes) {
+        Ok(_) => page.put_shown(&length),
+        Err(ReadFault::Syntax(at)) if at as usize <= length => return,
+        Err(fault) => {
+            page.put_shown(&length);
+            page.put(": ");
+            page.put_shown(&fault);
         }
     }
-    Ok(())
+    page.put(" ");
 }
 
 // What is printed for a text, where it is printed so or memory is wanted whichever allocation is refused.
-fn show_refused<A: Allocator + Copy>(
-    alloc: A,
-    out: &mut String<A>,
-    bytes: &[u8],
-) -> Result<(), AllocError> {
-    let mut wanted = String::new(alloc);
-    show_text(alloc, &mut wanted, View::Printed, bytes)?;
+fn refused<A: Allocator + Copy>(alloc: A, bytes: &[u8]) -> Result<String<A>, AllocError> {
+    let mut page = Page::new(alloc);
+    show_text(alloc, &mut page, View::Printed, bytes);
+    let wanted = page.text()?;
     if is_printed_or_refused(alloc, bytes, wanted.as_str()) {
-        out.push_str(wanted.as_str())
+        Ok(wanted)
     } else {
-        out.push_str("another answer")
+        String::from_str(alloc, "another answer")
     }
 }
 
-// Puts the answer behind the text so far.
+// Puts the answer on the page.
 fn put_answer<A: Allocator + Copy>(
     alloc: A,
-    out: &mut String<A>,
+    page: &mut Page<A>,
     command: &str,
     spelled: &str,
-) -> Result<(), AllocError> {
-    let text = unescaped(alloc, spelled)?;
-    let bytes = text.as_slice();
+    bytes: &[u8],
+) {
     match command {
-        "read" => show_text(alloc, out, View::Tree, bytes),
-        "assert" => show_asserted(alloc, out, spelled),
-        "print" => show_text(alloc, out, View::Printed, bytes),
-        "refused" => show_refused(alloc, out, bytes),
-        "fronts" => show_fronts(alloc, out, bytes),
-        "fault" => {
-            let number = number_of_fault(alloc, bytes);
-            write!(out, "{number}")
-        }
-        "length" => {
-            let length = bytes.len();
-            write!(out, "{length}")
-        }
-        "faults" => said(out, faults_are_equal(alloc, bytes)),
-        _ => ask_text(alloc, out, command, bytes),
+        "read" => show_text(alloc, page, View::Tree, bytes),
+        "assert" => show_asserted(alloc, page, spelled),
+        "print" => show_text(alloc, page, View::Printed, bytes),
+        "refused" => page.put_text(refused(alloc, bytes)),
+        "fronts" => show_fronts(alloc, page, bytes),
+        "fault" => page.put_shown(&number_of_fault(alloc, bytes)),
+        "length" => page.put_shown(&bytes.len()),
+        _ => ask_text(alloc, page, command, bytes),
+    }
+}
+
+// Puts the answer to a command and the spelling of a text on the page.
+fn put_case<A: Allocator + Copy>(alloc: A, page: &mut Page<A>, line: &str) {
+    let (command, spelled) = line.split_once(' ').unwrap_or((line, ""));
+    match unescaped(alloc, spelled) {
+        Ok(bytes) => put_answer(alloc, page, command, spelled, bytes.as_slice()),
+        Err(none) => page.put_text(Err(none)),
     }
 }
 
 /// The answer to a line, in one line.
 pub fn answer<A: Allocator + Copy>(alloc: A, line: &str) -> Result<String<A>, AllocError> {
-    let mut out = String::new(alloc);
+    let mut page = Page::new(alloc);
     if line.is_empty() || line.starts_with('#') {
-        out.push_str(line)?;
-        return Ok(out);
+        page.put(line);
+    } else {
+        put_case(alloc, &mut page, line);
     }
-    let (command, spelled) = line.split_once(' ').unwrap_or((line, ""));
-    put_answer(alloc, &mut out, command, spelled)?;
-    escaped(alloc, out.as_str())
+    in_one_line(alloc, page.text()?.as_str())
 }

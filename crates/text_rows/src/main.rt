@@ -6,6 +6,7 @@
 #![tactic(auto)]
 
 mod answers;
+mod page;
 mod refused;
 mod row;
 mod show;

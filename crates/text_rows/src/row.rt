@@ -5,14 +5,6 @@
 
 use std::alloc::{AllocError, Allocator};
 
-/// Puts `count` copies of `piece` behind the bytes.
-fn repeat<A: Allocator>(out: &mut Vec<u8, A>, piece: &str, count: u32) -> Result<(), AllocError> {
-    for _ in 0..count {
-        out.extend_from_slice(piece.as_bytes())?;
-    }
-    Ok(())
-}
-
 /// The byte or bytes of an escape of one letter.
 fn escape(letter: char) -> Option<&'static [u8]> {
     match letter {
@@ -26,44 +18,49 @@ fn escape(letter: char) -> Option<&'static [u8]> {
     }
 }
 
-/// Puts the bytes of what stands behind a `\` behind the others.
-fn push_escaped<A: Allocator>(out: &mut Vec<u8, A>, part: &str) -> Result<(), AllocError> {
+/// What stands behind a `\`: some bytes, how often they are spelled, and the text behind them.
+fn spelled(part: &str) -> (&[u8], u32, &str) {
     let mut letters = part.chars();
     if let Some(bytes) = letters.next().and_then(escape) {
+        return (bytes, 1, letters.as_str());
+    }
+    if let Some((count, others)) = part.split_once('{')
+        && let Some((piece, behind)) = others.split_once('}')
+    {
+        return (piece.as_bytes(), count.parse().unwrap_or(0), behind);
+    }
+    (b"\\", 1, part)
+}
+
+/// Puts the bytes of what stands behind a `\` behind the others.
+fn push_spelled<A: Allocator>(out: &mut Vec<u8, A>, part: &str) -> Result<(), AllocError> {
+    let (bytes, count, behind) = spelled(part);
+    for _ in 0..count {
         out.extend_from_slice(bytes)?;
-        return out.extend_from_slice(letters.as_str().as_bytes());
     }
-    if let Some((count, others)) = part.split_once('{') {
-        if let Some((piece, behind)) = others.split_once('}') {
-            repeat(out, piece, count.parse().unwrap_or(0))?;
-            return out.extend_from_slice(behind.as_bytes());
-        }
+    out.extend_from_slice(behind.as_bytes())
+}
+
+/// Puts the bytes that a row spells behind the others.
+fn push_row<A: Allocator>(out: &mut Vec<u8, A>, row: &str) -> Result<(), AllocError> {
+    let Some((front, parts)) = row.split_once('\\') else {
+        return out.extend_from_slice(row.as_bytes());
+    };
+    out.extend_from_slice(front.as_bytes())?;
+    for part in parts.split('\\') {
+        push_spelled(out, part)?;
     }
-    out.extend_from_slice(b"\\")?;
-    out.extend_from_slice(part.as_bytes())
+    Ok(())
 }
 
 /// The bytes that a row spells.
 pub fn unescaped<A: Allocator>(alloc: A, row: &str) -> Result<Vec<u8, A>, AllocError> {
     let mut out = Vec::new(alloc);
-    let mut parts = row.split('\\');
-    if let Some(front) = parts.next() {
-        out.extend_from_slice(front.as_bytes())?;
-    }
-    for part in parts {
-        push_escaped(&mut out, part)?;
-    }
+    push_row(&mut out, row)?;
     Ok(out)
 }
 
 /// The text in one line: `\n` for each line feed.
-pub fn escaped<A: Allocator>(alloc: A, text: &str) -> Result<String<A>, AllocError> {
-    let mut out = String::new(alloc);
-    for letter in text.chars() {
-        match letter {
-            '\n' => out.push_str("\\n")?,
-            _ => out.push(letter)?,
-        }
-    }
-    Ok(out)
+pub fn in_one_line<A: Allocator>(alloc: A, text: &str) -> Result<String<A>, AllocError> {
+    text.replace(alloc, '\n', "\\n")
 }

@@ -1,42 +1,34 @@
 //! Tokens and trees in plain words, with their offsets.
 
-use std::alloc::{AllocError, Allocator};
+use crate::page::Page;
+use std::alloc::Allocator;
 use tokens::Token;
 use trees::{Core, Expr, Name, Op, Proc, Program, Rhs, Stmt, Thread};
 
 /// The kind, the offset and the text of each token.
-pub fn show_tokens<A: Allocator>(
-    out: &mut String<A>,
-    tokens: &[Token<'_>],
-) -> Result<(), AllocError> {
+pub fn show_tokens<A: Allocator>(page: &mut Page<A>, tokens: &[Token<'_>]) {
     for token in tokens {
-        let kind = token.kind;
-        let at = token.at;
-        let text = token.text;
-        write!(out, "{kind:?} {at} {text}, ")?;
+        page.put_named(&token.kind);
+        page.put(" ");
+        page.put_shown(&token.at);
+        page.put(" ");
+        page.put(token.text);
+        page.put(", ");
     }
-    Ok(())
 }
 
 // A name with its offset, behind a text.
-fn show_name<N: Allocator, A: Allocator>(
-    out: &mut String<A>,
-    before: &str,
-    name: &Name<N>,
-) -> Result<(), AllocError> {
-    let text = name.text.as_str();
-    let at = name.at;
-    write!(out, "{before}{text}@{at}")
+fn show_name<A: Allocator>(page: &mut Page<A>, before: &str, name: &Name<A>) {
+    page.put(before);
+    page.put(name.text.as_str());
+    page.put("@");
+    page.put_shown(&name.at);
 }
 
-fn show_names<N: Allocator, A: Allocator>(
-    out: &mut String<A>,
-    names: &[Name<N>],
-) -> Result<(), AllocError> {
+fn show_names<A: Allocator>(page: &mut Page<A>, names: &[Name<A>]) {
     for name in names {
-        show_name(out, " ", name)?;
+        show_name(page, " ", name);
     }
-    Ok(())
 }
 
 fn sign(op: Op) -> &'static str {
@@ -51,180 +43,135 @@ fn sign(op: Op) -> &'static str {
 }
 
 // An expression with parentheses round each two-sided operation.
-fn show_expr<N: Allocator, A: Allocator>(
-    out: &mut String<A>,
-    expr: &Expr<N>,
-) -> Result<(), AllocError> {
+fn show_expr<A: Allocator>(page: &mut Page<A>, expr: &Expr<A>) {
     match expr {
-        Expr::Const(true) => out.push_str("1"),
-        Expr::Const(false) => out.push_str("0"),
-        Expr::Var(name) => out.push_str(name.text.as_str()),
+        Expr::Const(true) => page.put("1"),
+        Expr::Const(false) => page.put("0"),
+        Expr::Var(name) => page.put(name.text.as_str()),
         Expr::Not(inner) => {
-            out.push_str("!")?;
-            show_expr(out, inner)
+            page.put("!");
+            show_expr(page, inner)
         }
         Expr::Two(op, left, right) => {
-            out.push_str("(")?;
-            show_expr(out, left)?;
-            out.push_str(sign(*op))?;
-            show_expr(out, right)?;
-            out.push_str(")")
+            page.put("(");
+            show_expr(page, left);
+            page.put(sign(*op));
+            show_expr(page, right);
+            page.put(")");
         }
     }
 }
 
-fn show_side<N: Allocator, A: Allocator>(
-    out: &mut String<A>,
-    side: &Rhs<N>,
-) -> Result<(), AllocError> {
-    out.push_str(" ")?;
+fn show_side<A: Allocator>(page: &mut Page<A>, side: &Rhs<A>) {
+    page.put(" ");
     match side {
-        Rhs::Any => out.push_str("?"),
-        Rhs::Value(value) => show_expr(out, value),
+        Rhs::Any => page.put("?"),
+        Rhs::Value(value) => show_expr(page, value),
     }
 }
 
-fn show_assignment<N: Allocator, A: Allocator>(
-    out: &mut String<A>,
-    targets: &[Name<N>],
-    sides: &[Rhs<N>],
-) -> Result<(), AllocError> {
-    out.push_str("set")?;
-    show_names(out, targets)?;
-    out.push_str(" :=")?;
+fn show_assignment<A: Allocator>(page: &mut Page<A>, targets: &[Name<A>], sides: &[Rhs<A>]) {
+    page.put("set");
+    show_names(page, targets);
+    page.put(" :=");
     for side in sides {
-        show_side(out, side)?;
+        show_side(page, side);
     }
-    Ok(())
 }
 
-fn show_call<N: Allocator, A: Allocator>(
-    out: &mut String<A>,
-    name: &Name<N>,
-    arguments: &[Expr<N>],
-) -> Result<(), AllocError> {
-    show_name(out, "call ", name)?;
+fn show_call<A: Allocator>(page: &mut Page<A>, name: &Name<A>, arguments: &[Expr<A>]) {
+    show_name(page, "call ", name);
     for argument in arguments {
-        out.push_str(" ")?;
-        show_expr(out, argument)?;
+        page.put(" ");
+        show_expr(page, argument);
     }
-    Ok(())
 }
 
 // A right side between two texts.
-fn show_test<N: Allocator, A: Allocator>(
-    out: &mut String<A>,
-    before: &str,
-    side: &Rhs<N>,
-    behind: &str,
-) -> Result<(), AllocError> {
-    out.push_str(before)?;
-    show_side(out, side)?;
-    out.push_str(behind)
+fn show_test<A: Allocator>(page: &mut Page<A>, before: &str, side: &Rhs<A>, behind: &str) {
+    page.put(before);
+    show_side(page, side);
+    page.put(behind);
 }
 
 // The label of a statement, where it has one, and its offset.
-fn show_place<N: Allocator, A: Allocator>(
-    out: &mut String<A>,
-    label: &Option<Name<N>>,
-    at: u32,
-) -> Result<(), AllocError> {
-    out.push_str("; ")?;
+fn show_place<A: Allocator>(page: &mut Page<A>, label: &Option<Name<A>>, at: u32) {
+    page.put("; ");
     if let Some(label) = label {
-        show_name(out, "", label)?;
-        out.push_str(": ")?;
+        show_name(page, "", label);
+        page.put(": ");
     }
-    write!(out, "{at} ")
+    page.put_shown(&at);
+    page.put(" ");
+}
+
+// A statement that holds no others.
+fn show_simple<A: Allocator>(page: &mut Page<A>, core: &Core<A>) {
+    match core {
+        Core::Assign(targets, sides) => show_assignment(page, targets, sides),
+        Core::Assert(side) => show_test(page, "assert", side, ""),
+        Core::Assume(side) => show_test(page, "assume", side, ""),
+        Core::Goto(label) => show_name(page, "goto ", label),
+        Core::Call(name, arguments) => show_call(page, name, arguments),
+        Core::Return => page.put("return"),
+        _ => page.put("skip"),
+    }
 }
 
 /// Statements, each behind `; ` and its offset.
-#[cycle(shown)]
-pub fn show_stmts<N: Allocator, A: Allocator>(
-    out: &mut String<A>,
-    stmts: &[Stmt<N>],
-) -> Result<(), AllocError> {
+pub fn show_stmts<A: Allocator>(page: &mut Page<A>, stmts: &[Stmt<A>]) {
     for stmt in stmts {
-        show_place(out, &stmt.label, stmt.at)?;
-        show_core(out, &stmt.core)?;
-    }
-    Ok(())
-}
-
-#[cycle(shown)]
-fn show_core<N: Allocator, A: Allocator>(
-    out: &mut String<A>,
-    core: &Core<N>,
-) -> Result<(), AllocError> {
-    match core {
-        Core::Skip => out.push_str("skip"),
-        Core::Assign(targets, sides) => show_assignment(out, targets, sides),
-        Core::If(side, yes, no) => {
-            show_test(out, "if", side, " {")?;
-            show_stmts(out, yes)?;
-            out.push_str(" } {")?;
-            show_stmts(out, no)?;
-            out.push_str(" }")
+        show_place(page, &stmt.label, stmt.at);
+        match &stmt.core {
+            Core::If(side, yes, no) => {
+                show_test(page, "if", side, " {");
+                show_stmts(page, yes);
+                page.put(" } {");
+                show_stmts(page, no);
+                page.put(" }");
+            }
+            Core::While(side, body) => {
+                show_test(page, "while", side, " {");
+                show_stmts(page, body);
+                page.put(" }");
+            }
+            core => show_simple(page, core),
         }
-        Core::While(side, body) => {
-            show_test(out, "while", side, " {")?;
-            show_stmts(out, body)?;
-            out.push_str(" }")
-        }
-        Core::Assert(side) => show_test(out, "assert", side, ""),
-        Core::Assume(side) => show_test(out, "assume", side, ""),
-        Core::Goto(label) => show_name(out, "goto ", label),
-        Core::Return => out.push_str("return"),
-        Core::Call(name, arguments) => show_call(out, name, arguments),
     }
 }
 
 // A line for each procedure.
-fn show_procs<N: Allocator, A: Allocator>(
-    out: &mut String<A>,
-    procs: &[Proc<N>],
-) -> Result<(), AllocError> {
+fn show_procs<A: Allocator>(page: &mut Page<A>, procs: &[Proc<A>]) {
     for proc in procs {
-        show_name(out, "\nproc ", &proc.name)?;
-        out.push_str(" (")?;
-        show_names(out, &proc.formals)?;
-        out.push_str(" ) decl")?;
-        show_names(out, &proc.locals)?;
-        show_stmts(out, &proc.body)?;
+        show_name(page, "\nproc ", &proc.name);
+        page.put(" (");
+        show_names(page, &proc.formals);
+        page.put(" ) decl");
+        show_names(page, &proc.locals);
+        show_stmts(page, &proc.body);
     }
-    Ok(())
 }
 
 // A line for each thread line.
-fn show_threads<N: Allocator, A: Allocator>(
-    out: &mut String<A>,
-    threads: &[Thread<N>],
-) -> Result<(), AllocError> {
+fn show_threads<A: Allocator>(page: &mut Page<A>, threads: &[Thread<A>]) {
     for thread in threads {
-        let at = thread.at;
-        write!(out, "\nthread {at}")?;
-        show_name(out, " ", &thread.name)?;
+        page.put("\nthread ");
+        page.put_shown(&thread.at);
+        show_name(page, " ", &thread.name);
     }
-    Ok(())
 }
 
 /// A whole program: a line of globals, one for each procedure, and one for each thread line.
-pub fn show_program<N: Allocator, A: Allocator>(
-    out: &mut String<A>,
-    program: &Program<N>,
-) -> Result<(), AllocError> {
-    out.push_str("decl")?;
-    show_names(out, &program.globals)?;
-    show_procs(out, &program.procs)?;
-    show_threads(out, &program.threads)
+pub fn show_program<A: Allocator>(page: &mut Page<A>, program: &Program<A>) {
+    page.put("decl");
+    show_names(page, &program.globals);
+    show_procs(page, &program.procs);
+    show_threads(page, &program.threads);
 }
 
 /// The statements of each procedure.
-pub fn show_bodies<N: Allocator, A: Allocator>(
-    out: &mut String<A>,
-    procs: &[Proc<N>],
-) -> Result<(), AllocError> {
+pub fn show_bodies<A: Allocator>(page: &mut Page<A>, procs: &[Proc<A>]) {
     for proc in procs {
-        show_stmts(out, &proc.body)?;
+        show_stmts(page, &proc.body);
     }
-    Ok(())
 }

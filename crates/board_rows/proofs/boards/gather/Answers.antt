@@ -1,5 +1,5 @@
 -- The pass comes behind those of the lower numbers.
-use Rattle.std.proofs.Common.{◌≡◌, ◌++◌, ◌∷◌, [], map, length, ap, ◌∙◌, arith}
+use Rattle.std.proofs.Common.{map, ap, ◌∙◌, arith}
 use Rattle.ticket_lock.specs.Facts.{map-snoc}
 use Rattle.switchboard.proofs.Jobs.{first_more}
 use Rattle.std.proofs.lemmas.List.{length-map}

@@ -1,5 +1,5 @@
 -- As many sights as passes.
-use Rattle.std.proofs.Common.{◌≡◌, map, length, arith}
+use Rattle.std.proofs.Common.{arith}
 use Rattle.std.proofs.lemmas.List.{length-map}
 use Rattle.board_rows.proofs.boards.settle.Goals as goal
 
