@@ -104,14 +104,8 @@ module _ (ts : List Tok) {r : RightSide Name} {t1 : List Tok} (e1 : condition ts
     if_no_no e = if_yes ∙ behind_none kind.Else (after_no r a) t2 e
 
     module _ {t3 : List Tok} {b : Block Name Name Name} (e3 : section_behind kind.Else t2 ≡ Some (b, t3)) where
-      if_no : if_deed ts ≡ after_no r a b t3
+      pub if_no : if_deed ts ≡ after_no r a b t3
       if_no = if_yes ∙ behind_some kind.Else (after_no r a) t2 b t3 e3
-
-      pub if_no_end : take kind.Fi t3 ≡ None → if_deed ts ≡ None
-      if_no_end e = if_no ∙ rw e refl
-
-      pub if_whole : {t4 : List Tok} {z : Tok} → take kind.Fi t3 ≡ Some (z, t4) → if_deed ts ≡ Some (branch r a b, t4)
-      if_whole {t4} {z} e = if_no ∙ bind_is (take kind.Fi) (λ _. give (branch r a b)) t3 z t4 e
 
 -- the steps of a `while`
 abbrev after_body : RightSide Name → Block Name Name Name → Parser Deed
@@ -123,15 +117,9 @@ module _ (ts : List Tok) {r : RightSide Name} {t1 : List Tok} (e1 : condition ts
   while_no_body = headed_none kind.Do after_body ts e1
 
   module _ {t2 : List Tok} {a : Block Name Name Name} (e2 : section_behind kind.Do t1 ≡ Some (a, t2)) where
-    while_body : while_deed ts ≡ after_body r a t2
+    pub while_body : while_deed ts ≡ after_body r a t2
     unfolding while_deed
     while_body = headed_some kind.Do after_body ts e1 e2
-
-    pub while_no_end : take kind.Od t2 ≡ None → while_deed ts ≡ None
-    while_no_end e = while_body ∙ rw e refl
-
-    pub while_whole : {t3 : List Tok} {z : Tok} → take kind.Od t2 ≡ Some (z, t3) → while_deed ts ≡ Some (repeat r a, t3)
-    while_whole {t3} {z} e = while_body ∙ bind_is (take kind.Od) (λ _. give (repeat r a)) t2 z t3 e
 
 -- what a statement does is read as its first word says
 pub deed_begins : (k : Kind) (ts us : List Token) (t : Token) → ts ≡ t ∷ us → t.kind ≡ k → deed (toks_of ts)
