@@ -1,14 +1,14 @@
 -- The steps of the loop that reads statements.
 use Rattle.std.specs.Prelude.{option_and_then}
 use Rattle.std.proofs.Common.{◌≡◌, true, false, List, [], ◌∷◌, ◌++◌, Option, Some, None, refl, sym, ◌∙◌, ap}
-use Rattle.language.specs.Tree.{Name, RightSide, Block, done}
+use Rattle.language.specs.Tree.{Name, RightSide, Block, done, Mark}
 use Rattle.tokens.specs.declared.vocabulary.Kind.{Kind}
 use Rattle.tokens.specs.declared.vocabulary.Kind.TheVariants as kind
 use Rattle.tokens.specs.declared.vocabulary.Token.{Token}
-use Rattle.tokens.specs.Token.{Tok, toks_of}
-use Rattle.syntax.specs.Parser.{Parser, give, ◌>>=◌, take}
+use Rattle.tokens.specs.Token.{Tok, toks_of, same_kind}
+use Rattle.syntax.specs.Parser.{Parser, give, ◌>>=◌, begins, take}
 use Rattle.trees.specs.Trees.{Deed, branch, repeat, Item, before, all_before}
-use Rattle.syntax.specs.Exact.{item_step, rest_step, starts_here, section, section_behind, item, going_on, put_before, condition, deed_by, deed, if_deed, while_deed}
+use Rattle.syntax.specs.Exact.{item_step, rest_step, starts_here, section, section_behind, item, going_on, put_before, marked, condition, calling, assignment, named, deed_step, deed_by, deed, if_deed, while_deed}
 use Rattle.syntax.proofs.Fixes.{bind_is}
 use Rattle.syntax.proofs.Sections.{section_is}
 
@@ -126,3 +126,34 @@ pub deed_begins : (k : Kind) (ts us : List Token) (t : Token) → ts ≡ t ∷ u
     ≡ deed_by section (record { kind = k; at = t.at; text = t.text.now }) (toks_of us)
 unfolding deed
 deed_begins k ts us t e is = rw (e, is) refl
+
+-- a name begins a call or an assignment
+pub deed_calls : (ts us : List Token) (t : Token) → ts ≡ t ∷ us → t.kind ≡ kind.Id
+    → begins kind.Open (toks_of us) ≡ true → deed (toks_of ts) ≡ calling (toks_of ts)
+unfolding deed named same_kind
+deed_calls ts us t e is h = rw (e, is, h) refl
+
+pub deed_assigns : (ts us : List Token) (t : Token) → ts ≡ t ∷ us → t.kind ≡ kind.Id
+    → begins kind.Open (toks_of us) ≡ false → deed (toks_of ts) ≡ assignment (toks_of ts)
+unfolding deed named same_kind
+deed_assigns ts us t e is h = rw (e, is, h) refl
+
+-- a statement is a mark and what it does
+pub item_no_mark : (ts : List Tok) → marked ts ≡ None → item ts ≡ None
+unfolding item
+item_no_mark ts e = rw e refl
+
+module _ (ts : List Tok) {m : Mark Name} {us : List Tok} (e : marked ts ≡ Some (m, us)) where
+  abbrev with_mark : Parser Item
+  with_mark = deed >>= λ d. give (record { mark = m; deed = d })
+
+  item_behind : item ts ≡ with_mark us
+  unfolding item deed
+  item_behind = bind_is marked (λ m. deed_step section >>= λ d. give (record { mark = m; deed = d })) ts m us e
+
+  pub item_no_deed : deed us ≡ None → item ts ≡ None
+  item_no_deed f = item_behind ∙ rw f refl
+
+  pub item_whole : {d : Deed} {rest : List Tok} → deed us ≡ Some (d, rest)
+      → item ts ≡ Some (record { mark = m; deed = d }, rest)
+  item_whole f = item_behind ∙ rw f refl
