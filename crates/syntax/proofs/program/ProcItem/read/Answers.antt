@@ -1,8 +1,7 @@
-use Rattle.std.proofs.Common.{◌≡◌, refl}
+use Rattle.std.proofs.Common.{refl}
 use Rattle.tokens.specs.Token.{toks_of}
 use Rattle.syntax.specs.Exact.{name, formals, insides, procedure}
 use Rattle.syntax.proofs.Exits.{refused}
-use Rattle.syntax.proofs.Parts.{strict_name}
 use Rattle.syntax.proofs.program.ProcItem.read.Goals as goal
 
 pub returns-in_err-name-clause-gives : goal.returns-in_err-name-clause-gives

@@ -1,4 +1,4 @@
-use Rattle.std.proofs.Common.{rules, arith, List, [], ◌∙◌, ap, sym, Some, refl}
+use Rattle.std.proofs.Common.{rules, List, [], ◌∙◌, ap, sym, Some, refl}
 use Rattle.tokens.specs.declared.vocabulary.Kind.TheVariants as kind
 use Rattle.tokens.specs.Token.{toks_of, same_kind}
 use Rattle.syntax.specs.Parser.{take}

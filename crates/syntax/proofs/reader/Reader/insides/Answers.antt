@@ -1,5 +1,5 @@
 use Rattle.std.proofs.Common.{refl}
-use Rattle.syntax.specs.Exact.{insides, closing}
+use Rattle.syntax.specs.Exact.{insides}
 use Rattle.syntax.proofs.Closings.{closed_seen}
 use Rattle.syntax.proofs.reader.Reader.insides.Goals as goal
 
