@@ -1,5 +1,6 @@
 -- One target of an assignment after the other.
-use Rattle.std.proofs.Common.{◌≡◌, ℕ, suc, true, false, cond, List, [], ◌∷◌, ◌++◌, map, sym, ◌∙◌, ap, ap₂, append_assoc}
+use mir.Val.{bool_byte}
+use Rattle.std.proofs.Common.{◌≡◌, ℕ, suc, ◌+◌, Bool, true, false, cond, length, refl, arith, List, [], ◌∷◌, ◌++◌, map, sym, ◌∙◌, ap, ap₂, append_assoc}
 use Rattle.language.specs.Tree.{Name, Expression, var, RightSide, any, value}
 use Rattle.round_rewrite.specs.Table.{Naming, numbers, rounds, targets, sides, side, expression, written}
 
@@ -44,3 +45,13 @@ module _ (w : Naming Name Name Name Name) (last : ℕ) where
       (ap₂ (sides w last j) ex er
       ∙ ap (λ b. cond b (map (written w last (expression w last e) x) (rounds w last) ++ sides w last j more others)
       (value (expression w last e) ∷ sides w last j more others)) s)
+
+-- a list of no elements
+pub empty : {A : Type 0} (l : List A) → length l ≡ 0 → l ≡ []
+empty [] e = refl
+empty (x ∷ l) e = cc
+
+-- one more where it is asked for
+pub counted : (b : Bool) (n m : ℕ) → m ≡ bool_byte b → n + m ≡ cond b (suc n) n
+counted true n m e = rw e (omega arith)
+counted false n m e = rw e (omega arith)

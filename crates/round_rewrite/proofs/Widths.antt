@@ -5,7 +5,6 @@ use Rattle.std.proofs.Common.{codes, sym, ◌∙◌, ap, subst, arith, append_as
 use Rattle.std.proofs.lemmas.List.{length-map}
 use Rattle.std.proofs.lemmas.Option.{same_Some}
 use Rattle.language.specs.Tree.{Name, Procedure, Tree}
-use Rattle.trees.specs.declared.tree.Name as declared
 use Rattle.trees.specs.declared.tree.Proc.{Proc}
 use Rattle.trees.specs.Trees.{proc_of, procs_of}
 use Rattle.scopes.specs.declared.fault.ScopeFault.TheVariants as fault

@@ -60,24 +60,22 @@ impl<'a, N: Allocator, A: Allocator + Copy> Writer<'a, N, A> {
             return 0;
         };
         let number = self.draws(more, others);
-        if matches!(r, Rhs::Any) && self.is_shared(x) {
-            number + 1
-        } else {
-            number
+        match r {
+            Rhs::Any => number + usize::from(self.is_shared(x)),
+            Rhs::Value(_) => number,
         }
     }
 
     /// Puts the copies of a global for each round behind targets.
     #[tactic(auto, using(crate::proofs::Pushed::pushed))]
-    fn copies(&self, x: &Name<N>, into: Vec<Name<A>, A>) -> Result<Vec<Name<A>, A>, AllocError>
-        ensures { IfOk result (λ v. names_of v.items ≡ names_of into.items ++ map (λ k. copy_name k (name_of x.now))
+    fn copies(&self, x: &Name<N>, into: &mut Vec<Name<A>, A>) -> Result<(), AllocError>
+        ensures { IfOk result (λ _. names_of into.new.items ≡ names_of into.old.items ++ map (λ k. copy_name k (name_of x.now))
             (numbers 0 (suc self.now.rounds.last))) }
     {
-        let mut list = into;
         for round in 0..self.rounds.count() {
-            list.push(copy(*self.alloc, round, x)?)?;
+            into.push(copy(*self.alloc, round, x)?)?;
         }
-        Ok(list)
+        Ok(())
     }
 
     /// Puts the targets of an assignment behind others: all copies of a global, a local itself.
@@ -85,27 +83,24 @@ impl<'a, N: Allocator, A: Allocator + Copy> Writer<'a, N, A> {
         &self,
         xs: &[Name<N>],
         rs: &[Rhs<N>],
-        into: Vec<Name<A>, A>,
-    ) -> Result<Vec<Name<A>, A>, AllocError>
-        ensures { IfOk result (λ v. names_of v.items
-            ≡ names_of into.items ++ targets (naming_of self.now) self.now.rounds.last (names_of xs.now)
+        into: &mut Vec<Name<A>, A>,
+    ) -> Result<(), AllocError>
+        ensures { IfOk result (λ _. names_of into.new.items
+            ≡ names_of into.old.items ++ targets (naming_of self.now) self.now.rounds.last (names_of xs.now)
             (rhss_of rs.now)) }
     {
         let Some((x, more)) = xs.split_first() else {
-            return Ok(into);
+            return Ok(());
         };
         let Some((_, others)) = rs.split_first() else {
-            return Ok(into);
+            return Ok(());
         };
         if self.is_shared(x) {
-            let list = self.copies(x, into)?;
-            let all = self.targets(more, others, list)?;
-            Ok(all)
+            self.copies(x, into)?;
+            self.targets(more, others, into)
         } else {
-            let mut list = into;
-            list.push(again(*self.alloc, x)?)?;
-            let all = self.targets(more, others, list)?;
-            Ok(all)
+            into.push(again(*self.alloc, x)?)?;
+            self.targets(more, others, into)
         }
     }
 
@@ -115,19 +110,18 @@ impl<'a, N: Allocator, A: Allocator + Copy> Writer<'a, N, A> {
         &self,
         number: usize,
         x: &Name<N>,
-        into: Vec<Rhs<A>, A>,
-    ) -> Result<Vec<Rhs<A>, A>, AllocError>
+        into: &mut Vec<Rhs<A>, A>,
+    ) -> Result<(), AllocError>
         requires { number < 2 ^ 63 }
-        ensures { IfOk result (λ v. rhss_of v.items
-            ≡ rhss_of into.items ++ map (written (naming_of self.now) self.now.rounds.last (var (drawn_name number))
+        ensures { IfOk result (λ _. rhss_of into.new.items
+            ≡ rhss_of into.old.items ++ map (written (naming_of self.now) self.now.rounds.last (var (drawn_name number))
             (name_of x.now)) (numbers 0 (suc self.now.rounds.last))) }
     {
-        let mut list = into;
         for round in 0..self.rounds.count() {
             let value = temporary(self.alloc, number)?;
-            list.push(self.written(value, x, round)?)?;
+            into.push(self.written(value, x, round)?)?;
         }
-        Ok(list)
+        Ok(())
     }
 
     /// Puts what the copies of a global get, where the global gets an expression, behind right sides.
@@ -136,19 +130,18 @@ impl<'a, N: Allocator, A: Allocator + Copy> Writer<'a, N, A> {
         &self,
         e: &Expr<N>,
         x: &Name<N>,
-        into: Vec<Rhs<A>, A>,
-    ) -> Result<Vec<Rhs<A>, A>, AllocError>
-        ensures { IfOk result (λ v. rhss_of v.items
-            ≡ rhss_of into.items ++ map (written (naming_of self.now) self.now.rounds.last
+        into: &mut Vec<Rhs<A>, A>,
+    ) -> Result<(), AllocError>
+        ensures { IfOk result (λ _. rhss_of into.new.items
+            ≡ rhss_of into.old.items ++ map (written (naming_of self.now) self.now.rounds.last
             (expression (naming_of self.now) self.now.rounds.last (expr_of e.now)) (name_of x.now))
             (numbers 0 (suc self.now.rounds.last))) }
     {
-        let mut list = into;
         for round in 0..self.rounds.count() {
             let value = self.expression(e)?;
-            list.push(self.written(value, x, round)?)?;
+            into.push(self.written(value, x, round)?)?;
         }
-        Ok(list)
+        Ok(())
     }
 
     /// Puts the right sides of an assignment behind others; the first temporary that is free has this number.
@@ -157,35 +150,31 @@ impl<'a, N: Allocator, A: Allocator + Copy> Writer<'a, N, A> {
         number: usize,
         xs: &[Name<N>],
         rs: &[Rhs<N>],
-        into: Vec<Rhs<A>, A>,
-    ) -> Result<Vec<Rhs<A>, A>, AllocError>
+        into: &mut Vec<Rhs<A>, A>,
+    ) -> Result<(), AllocError>
         requires { number + length xs.now < 2 ^ 63 }
-        ensures { IfOk result (λ v. rhss_of v.items
-            ≡ rhss_of into.items ++ sides (naming_of self.now) self.now.rounds.last number (names_of xs.now)
+        ensures { IfOk result (λ _. rhss_of into.new.items
+            ≡ rhss_of into.old.items ++ sides (naming_of self.now) self.now.rounds.last number (names_of xs.now)
             (rhss_of rs.now)) }
     {
         let Some((x, more)) = xs.split_first() else {
-            return Ok(into);
+            return Ok(());
         };
         let Some((r, others)) = rs.split_first() else {
-            return Ok(into);
+            return Ok(());
         };
         if !self.is_shared(x) {
-            let mut list = into;
-            list.push(self.side(r)?)?;
-            let all = self.sides(number, more, others, list)?;
-            return Ok(all);
+            into.push(self.side(r)?)?;
+            return self.sides(number, more, others, into);
         }
         match r {
             Rhs::Any => {
-                let list = self.drawn_sides(number, x, into)?;
-                let all = self.sides(number + 1, more, others, list)?;
-                Ok(all)
+                self.drawn_sides(number, x, into)?;
+                self.sides(number + 1, more, others, into)
             }
             Rhs::Value(e) => {
-                let list = self.value_sides(e, x, into)?;
-                let all = self.sides(number, more, others, list)?;
-                Ok(all)
+                self.value_sides(e, x, into)?;
+                self.sides(number, more, others, into)
             }
         }
     }

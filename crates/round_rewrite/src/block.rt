@@ -15,22 +15,18 @@ pub fn push_marked<A: Allocator>(
     label: Option<Name<A>>,
     at: u32,
     core: Core<A>,
-    into: Vec<Stmt<A>, A>,
-) -> Result<Vec<Stmt<A>, A>, AllocError>
-    ensures { IfOk result (λ v. Lays into.items v.items
+    into: &mut Vec<Stmt<A>, A>,
+) -> Result<(), AllocError>
+    ensures { IfOk result (λ _. Lays into.old.items into.new.items
         (λ k. marked_before (record { label = option_map name_of label; at = at }) (deed_of core) k)) }
 {
-    let mut list = into;
-    list.push(Stmt { label, at, core })?;
-    Ok(list)
+    into.push(Stmt { label, at, core })?;
+    Ok(())
 }
 
 /// Puts a statement without a label behind others.
-pub fn push<A: Allocator>(
-    core: Core<A>,
-    into: Vec<Stmt<A>, A>,
-) -> Result<Vec<Stmt<A>, A>, AllocError>
-    ensures { IfOk result (λ v. Lays into.items v.items (λ k. marked_before plain (deed_of core) k)) }
+pub fn push<A: Allocator>(core: Core<A>, into: &mut Vec<Stmt<A>, A>) -> Result<(), AllocError>
+    ensures { IfOk result (λ _. Lays into.old.items into.new.items (λ k. marked_before plain (deed_of core) k)) }
 {
     push_marked(None, 0, core, into)
 }
@@ -39,6 +35,7 @@ pub fn push<A: Allocator>(
 pub fn single<A: Allocator + Copy>(alloc: &A, core: Core<A>) -> Result<Vec<Stmt<A>, A>, AllocError>
     ensures { IfOk result (λ v. block_of v.items ≡ marked_before plain (deed_of core) done) }
 {
-    let block = push(core, Vec::new(*alloc))?;
+    let mut block = Vec::new(*alloc);
+    push(core, &mut block)?;
     Ok(block)
 }

@@ -95,8 +95,9 @@ pub fn checked<A: Allocator + Copy>(alloc: &A, side: Rhs<A>) -> Result<Core<A>, 
     ensures { IfOk result (λ c. deed_of c ≡ failing (rhs_of side)) }
 {
     let yes = single(alloc, Core::Skip)?;
-    let raised = push(set_both(alloc, "bad__", "stop__")?, Vec::new(*alloc))?;
-    let no = push(Core::Return, raised)?;
+    let mut no = Vec::new(*alloc);
+    push(set_both(alloc, "bad__", "stop__")?, &mut no)?;
+    push(Core::Return, &mut no)?;
     Ok(Core::If(side, yes, no))
 }
 
@@ -159,8 +160,9 @@ impl<'a, N: Allocator, A: Allocator + Copy> Writer<'a, N, A> {
     pub fn rising(&self) -> Result<Core<A>, AllocError>
         ensures { IfOk result (λ c. deed_of c ≡ repeat any (rise (naming_of self.now) self.now.rounds.last)) }
     {
-        let checked = push(self.not_last()?, Vec::new(*self.alloc))?;
-        let body = push(self.next_round()?, checked)?;
+        let mut body = Vec::new(*self.alloc);
+        push(self.not_last()?, &mut body)?;
+        push(self.next_round()?, &mut body)?;
         Ok(Core::While(Rhs::Any, body))
     }
 }

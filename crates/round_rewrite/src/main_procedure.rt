@@ -23,21 +23,20 @@ fn guess<N: Allocator, A: Allocator + Copy>(
     last: u8,
     round: u8,
     xs: &[Name<N>],
-    into: Vec<Stmt<A>, A>,
-) -> Result<Vec<Stmt<A>, A>, AllocError>
+    into: &mut Vec<Stmt<A>, A>,
+) -> Result<(), AllocError>
     requires { round < most_rounds }
-    ensures { IfOk result (λ v. Lays into.items v.items (λ k. guess (names []) last (names_of xs.now) round k)) }
+    ensures { IfOk result (λ _. Lays into.old.items into.new.items (λ k. guess (names []) last (names_of xs.now) round k)) }
 {
     let Some((_first, _)) = xs.split_first() else {
-        return Ok(into);
+        return Ok(());
     };
     let targets = copies(alloc, round, xs, Vec::new(*alloc))?;
     let sides = guessed(*alloc, xs)?;
-    let drawn = push(Core::Assign(targets, sides), into)?;
+    push(Core::Assign(targets, sides), into)?;
     let kept = saves(alloc, round, xs, Vec::new(*alloc))?;
     let values = reads(alloc, round, xs)?;
-    let saved = push(Core::Assign(kept, values), drawn)?;
-    Ok(saved)
+    push(Core::Assign(kept, values), into)
 }
 
 /// Puts the guesses of the globals for every round from the second on behind others.
@@ -45,16 +44,15 @@ fn guesses<N: Allocator, A: Allocator + Copy>(
     alloc: &A,
     rounds: Rounds,
     xs: &[Name<N>],
-    into: Vec<Stmt<A>, A>,
-) -> Result<Vec<Stmt<A>, A>, AllocError>
-    ensures { IfOk result (λ v. Lays into.items v.items
+    into: &mut Vec<Stmt<A>, A>,
+) -> Result<(), AllocError>
+    ensures { IfOk result (λ _. Lays into.old.items into.new.items
         (λ k. guesses (names []) rounds.last (names_of xs.now) (numbers 1 rounds.last) k)) }
 {
-    let mut list = into;
     for before in 0..rounds.last {
-        list = guess(alloc, rounds.last, before + 1, xs, list)?;
+        guess(alloc, rounds.last, before + 1, xs, into)?;
     }
-    Ok(list)
+    Ok(())
 }
 
 /// That the round and `stop__` get 0.
@@ -76,18 +74,17 @@ fn starts<N: Allocator, A: Allocator + Copy>(
     alloc: &A,
     last: u8,
     threads: &[Thread<N>],
-    into: Vec<Stmt<A>, A>,
-) -> Result<Vec<Stmt<A>, A>, AllocError>
-    ensures { IfOk result (λ v. Lays into.items v.items
+    into: &mut Vec<Stmt<A>, A>,
+) -> Result<(), AllocError>
+    ensures { IfOk result (λ _. Lays into.old.items into.new.items
         (λ k. starts (names []) last (line_names (threads_of threads.now)) k)) }
 {
-    let mut list = into;
     for thread in threads {
-        let begun = push(reset(alloc)?, list)?;
+        push(reset(alloc)?, into)?;
         let name = again(*alloc, &thread.name)?;
-        list = push(Core::Call(name, Vec::new(*alloc)), begun)?;
+        push(Core::Call(name, Vec::new(*alloc)), into)?;
     }
-    Ok(list)
+    Ok(())
 }
 
 /// That a round's guess of a global is what the round before ended with.
@@ -114,17 +111,15 @@ fn check<N: Allocator, A: Allocator + Copy>(
     last: u8,
     round: u8,
     xs: &[Name<N>],
-    into: Vec<Stmt<A>, A>,
-) -> Result<Vec<Stmt<A>, A>, AllocError>
+    into: &mut Vec<Stmt<A>, A>,
+) -> Result<(), AllocError>
     requires { round < 3 }
-    ensures { IfOk result (λ v. Lays into.items v.items (λ k. check (names []) last (names_of xs.now) round k)) }
+    ensures { IfOk result (λ _. Lays into.old.items into.new.items (λ k. check (names []) last (names_of xs.now) round k)) }
 {
-    let mut list = into;
     for x in xs {
-        let core = agrees(alloc, round, x)?;
-        list = push(core, list)?;
+        push(agrees(alloc, round, x)?, into)?;
     }
-    Ok(list)
+    Ok(())
 }
 
 /// Puts the checks of every round but the last behind others.
@@ -132,16 +127,15 @@ fn checks<N: Allocator, A: Allocator + Copy>(
     alloc: &A,
     rounds: Rounds,
     xs: &[Name<N>],
-    into: Vec<Stmt<A>, A>,
-) -> Result<Vec<Stmt<A>, A>, AllocError>
-    ensures { IfOk result (λ v. Lays into.items v.items
+    into: &mut Vec<Stmt<A>, A>,
+) -> Result<(), AllocError>
+    ensures { IfOk result (λ _. Lays into.old.items into.new.items
         (λ k. checks (names []) rounds.last (names_of xs.now) (numbers 0 rounds.last) k)) }
 {
-    let mut list = into;
     for round in 0..rounds.last {
-        list = check(alloc, rounds.last, round, xs, list)?;
+        check(alloc, rounds.last, round, xs, into)?;
     }
-    Ok(list)
+    Ok(())
 }
 
 /// The body of the first procedure.
@@ -154,8 +148,9 @@ pub fn main_body<N: Allocator, A: Allocator + Copy>(
     ensures { IfOk result (λ v. block_of v.items
         ≡ main (names []) rounds.last (names_of xs.now) (line_names (threads_of threads.now))) }
 {
-    let guessed = guesses(alloc, rounds, xs, Vec::new(*alloc))?;
-    let started = starts(alloc, rounds.last, threads, guessed)?;
-    let checked = checks(alloc, rounds, xs, started)?;
-    Ok(checked)
+    let mut body = Vec::new(*alloc);
+    guesses(alloc, rounds, xs, &mut body)?;
+    starts(alloc, rounds.last, threads, &mut body)?;
+    checks(alloc, rounds, xs, &mut body)?;
+    Ok(body)
 }

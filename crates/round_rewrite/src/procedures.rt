@@ -35,7 +35,7 @@ fn procedure<N: Allocator, A: Allocator + Copy>(
     let formals = all_again(alloc, &proc.formals, Vec::new(*alloc))?;
     let kept = all_again(alloc, &proc.locals, Vec::new(*alloc))?;
     let locals = temporaries(alloc, kept, writer.needs(&proc.body))?;
-    let body = writer.block(&proc.body, Vec::new(*alloc))?;
+    let body = writer.rewritten(&proc.body)?;
     Ok(Proc {
         name,
         formals,

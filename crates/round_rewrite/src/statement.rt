@@ -1,6 +1,6 @@
 //! What statements are rewritten to.
 
-ghost use Rattle.std.specs.Prelude.{◌≡◌, ◌<◌, ◌^◌, IfOk, option_map};
+ghost use Rattle.std.specs.Prelude.{◌≡◌, ◌<◌, ◌^◌, [], IfOk, option_map};
 ghost use Rattle.language.specs.Tree.{goto, assert, assume, assign, call};
 ghost use Rattle.trees.specs.Trees.{branch, repeat, name_of, names_of, rhs_of, rhss_of, exprs_of, items_of, deed_of, block_of};
 ghost use Rattle.round_rewrite.specs.Table.{drawing, prologue, statement};
@@ -22,31 +22,29 @@ impl<'a, N: Allocator, A: Allocator + Copy> Writer<'a, N, A> {
         &self,
         label: Option<Name<A>>,
         at: u32,
-        into: Vec<Stmt<A>, A>,
-    ) -> Result<Vec<Stmt<A>, A>, AllocError>
-        ensures { IfOk result (λ v. Lays into.items v.items
+        into: &mut Vec<Stmt<A>, A>,
+    ) -> Result<(), AllocError>
+        ensures { IfOk result (λ _. Lays into.old.items into.new.items
             (λ k. prologue (naming_of self.now) self.now.rounds.last
             (record { label = option_map name_of label; at = at }) k)) }
     {
-        let risen = push_marked(label, at, self.rising()?, into)?;
-        let chosen = push(stop_choice(self.alloc)?, risen)?;
-        let tested = push(stop_test(self.alloc)?, chosen)?;
-        Ok(tested)
+        push_marked(label, at, self.rising()?, into)?;
+        push(stop_choice(self.alloc)?, into)?;
+        push(stop_test(self.alloc)?, into)
     }
 
     /// Puts the draw of so many temporaries, if any, behind others.
-    fn drawing(&self, number: usize, into: Vec<Stmt<A>, A>) -> Result<Vec<Stmt<A>, A>, AllocError>
+    fn drawing(&self, number: usize, into: &mut Vec<Stmt<A>, A>) -> Result<(), AllocError>
         requires { number < 2 ^ 63 }
-        ensures { IfOk result (λ v. Lays into.items v.items
+        ensures { IfOk result (λ _. Lays into.old.items into.new.items
             (λ k. drawing (naming_of self.now) self.now.rounds.last number k)) }
     {
         if number == 0 {
-            return Ok(into);
+            return Ok(());
         }
         let targets = temporaries(self.alloc, Vec::new(*self.alloc), number)?;
         let sides = any_values(self.alloc, number)?;
-        let drawn = push(Core::Assign(targets, sides), into)?;
-        Ok(drawn)
+        push(Core::Assign(targets, sides), into)
     }
 
     /// Puts what an assignment is rewritten to behind others.
@@ -54,16 +52,17 @@ impl<'a, N: Allocator, A: Allocator + Copy> Writer<'a, N, A> {
         &self,
         xs: &[Name<N>],
         rs: &[Rhs<N>],
-        into: Vec<Stmt<A>, A>,
-    ) -> Result<Vec<Stmt<A>, A>, AllocError>
-        ensures { IfOk result (λ v. Lays into.items v.items
+        into: &mut Vec<Stmt<A>, A>,
+    ) -> Result<(), AllocError>
+        ensures { IfOk result (λ _. Lays into.old.items into.new.items
             (λ k. statement (naming_of self.now) self.now.rounds.last (assign (names_of xs.now) (rhss_of rs.now)) k)) }
     {
-        let drawn = self.drawing(self.draws(xs, rs), into)?;
-        let targets = self.targets(xs, rs, Vec::new(*self.alloc))?;
-        let sides = self.sides(0, xs, rs, Vec::new(*self.alloc))?;
-        let assigned = push(Core::Assign(targets, sides), drawn)?;
-        Ok(assigned)
+        self.drawing(self.draws(xs, rs), into)?;
+        let mut targets = Vec::new(*self.alloc);
+        self.targets(xs, rs, &mut targets)?;
+        let mut sides = Vec::new(*self.alloc);
+        self.sides(0, xs, rs, &mut sides)?;
+        push(Core::Assign(targets, sides), into)
     }
 
     /// Puts what a call is rewritten to behind others.
@@ -71,16 +70,15 @@ impl<'a, N: Allocator, A: Allocator + Copy> Writer<'a, N, A> {
         &self,
         p: &Name<N>,
         es: &[Expr<N>],
-        into: Vec<Stmt<A>, A>,
-    ) -> Result<Vec<Stmt<A>, A>, AllocError>
-        ensures { IfOk result (λ v. Lays into.items v.items
+        into: &mut Vec<Stmt<A>, A>,
+    ) -> Result<(), AllocError>
+        ensures { IfOk result (λ _. Lays into.old.items into.new.items
             (λ k. statement (naming_of self.now) self.now.rounds.last (call (name_of p.now) (exprs_of es.now)) k)) }
     {
         let name = again(*self.alloc, p)?;
         let arguments = self.arguments(es)?;
-        let called = push(Core::Call(name, arguments), into)?;
-        let tested = push(stop_test(self.alloc)?, called)?;
-        Ok(tested)
+        push(Core::Call(name, arguments), into)?;
+        push(stop_test(self.alloc)?, into)
     }
 
     /// The label once more.
@@ -95,51 +93,54 @@ impl<'a, N: Allocator, A: Allocator + Copy> Writer<'a, N, A> {
 
     /// Puts what statements are rewritten to behind others.
     #[cycle(rewriting)]
-    pub fn block(
-        &self,
-        stmts: &[Stmt<N>],
-        into: Vec<Stmt<A>, A>,
-    ) -> Result<Vec<Stmt<A>, A>, AllocError>
-        ensures { IfOk result (λ v. Lays into.items v.items
+    fn block(&self, stmts: &[Stmt<N>], into: &mut Vec<Stmt<A>, A>) -> Result<(), AllocError>
+        ensures { IfOk result (λ _. Lays into.old.items into.new.items
             (λ k. forms (naming_of self.now) self.now.rounds.last (items_of stmts.now) k)) }
     {
-        let mut list = into;
         for stmt in stmts {
             let label = self.label(&stmt.label)?;
-            let begun = self.prologue(label, stmt.at, list)?;
-            list = self.core(&stmt.core, begun)?;
+            self.prologue(label, stmt.at, into)?;
+            self.core(&stmt.core, into)?;
         }
+        Ok(())
+    }
+
+    /// What statements are rewritten to.
+    #[cycle(rewriting)]
+    pub fn rewritten(&self, stmts: &[Stmt<N>]) -> Result<Vec<Stmt<A>, A>, AllocError>
+        ensures { IfOk result (λ v. Lays [] v.items
+            (λ k. forms (naming_of self.now) self.now.rounds.last (items_of stmts.now) k)) }
+    {
+        let mut list = Vec::new(*self.alloc);
+        self.block(stmts, &mut list)?;
         Ok(list)
     }
 
     /// Puts a `goto` behind others.
-    fn jump(&self, l: &Name<N>, into: Vec<Stmt<A>, A>) -> Result<Vec<Stmt<A>, A>, AllocError>
-        ensures { IfOk result (λ v. Lays into.items v.items
+    fn jump(&self, l: &Name<N>, into: &mut Vec<Stmt<A>, A>) -> Result<(), AllocError>
+        ensures { IfOk result (λ _. Lays into.old.items into.new.items
             (λ k. statement (naming_of self.now) self.now.rounds.last (goto (name_of l.now)) k)) }
     {
         let label = again(*self.alloc, l)?;
-        let laid = push(Core::Goto(label), into)?;
-        Ok(laid)
+        push(Core::Goto(label), into)
     }
 
     /// Puts what an assert is rewritten to behind others.
-    fn asserted(&self, r: &Rhs<N>, into: Vec<Stmt<A>, A>) -> Result<Vec<Stmt<A>, A>, AllocError>
-        ensures { IfOk result (λ v. Lays into.items v.items
+    fn asserted(&self, r: &Rhs<N>, into: &mut Vec<Stmt<A>, A>) -> Result<(), AllocError>
+        ensures { IfOk result (λ _. Lays into.old.items into.new.items
             (λ k. statement (naming_of self.now) self.now.rounds.last (assert (rhs_of r.now)) k)) }
     {
         let core = checked(self.alloc, self.side(r)?)?;
-        let laid = push(core, into)?;
-        Ok(laid)
+        push(core, into)
     }
 
     /// Puts what an assume is rewritten to behind others.
-    fn assumed(&self, r: &Rhs<N>, into: Vec<Stmt<A>, A>) -> Result<Vec<Stmt<A>, A>, AllocError>
-        ensures { IfOk result (λ v. Lays into.items v.items
+    fn assumed(&self, r: &Rhs<N>, into: &mut Vec<Stmt<A>, A>) -> Result<(), AllocError>
+        ensures { IfOk result (λ _. Lays into.old.items into.new.items
             (λ k. statement (naming_of self.now) self.now.rounds.last (assume (rhs_of r.now)) k)) }
     {
         let test = self.side(r)?;
-        let laid = push(Core::Assume(test), into)?;
-        Ok(laid)
+        push(Core::Assume(test), into)
     }
 
     /// Puts what an `if` is rewritten to behind others.
@@ -149,17 +150,16 @@ impl<'a, N: Allocator, A: Allocator + Copy> Writer<'a, N, A> {
         r: &Rhs<N>,
         a: &[Stmt<N>],
         b: &[Stmt<N>],
-        into: Vec<Stmt<A>, A>,
-    ) -> Result<Vec<Stmt<A>, A>, AllocError>
-        ensures { IfOk result (λ v. Lays into.items v.items
+        into: &mut Vec<Stmt<A>, A>,
+    ) -> Result<(), AllocError>
+        ensures { IfOk result (λ _. Lays into.old.items into.new.items
             (λ k. bare_form (naming_of self.now) self.now.rounds.last
             (branch (rhs_of r.now) (block_of a.now) (block_of b.now)) k)) }
     {
         let test = self.side(r)?;
-        let yes = self.block(a, Vec::new(*self.alloc))?;
-        let no = self.block(b, Vec::new(*self.alloc))?;
-        let laid = push(Core::If(test, yes, no), into)?;
-        Ok(laid)
+        let yes = self.rewritten(a)?;
+        let no = self.rewritten(b)?;
+        push(Core::If(test, yes, no), into)
     }
 
     /// Puts what a `while` is rewritten to behind others.
@@ -168,22 +168,21 @@ impl<'a, N: Allocator, A: Allocator + Copy> Writer<'a, N, A> {
         &self,
         r: &Rhs<N>,
         a: &[Stmt<N>],
-        into: Vec<Stmt<A>, A>,
-    ) -> Result<Vec<Stmt<A>, A>, AllocError>
-        ensures { IfOk result (λ v. Lays into.items v.items
+        into: &mut Vec<Stmt<A>, A>,
+    ) -> Result<(), AllocError>
+        ensures { IfOk result (λ _. Lays into.old.items into.new.items
             (λ k. bare_form (naming_of self.now) self.now.rounds.last (repeat (rhs_of r.now) (block_of a.now)) k)) }
     {
         let test = self.side(r)?;
-        let body = self.block(a, Vec::new(*self.alloc))?;
-        let whole = self.prologue(None, 0, body)?;
-        let laid = push(Core::While(test, whole), into)?;
-        Ok(laid)
+        let mut body = self.rewritten(a)?;
+        self.prologue(None, 0, &mut body)?;
+        push(Core::While(test, body), into)
     }
 
     /// Puts what one statement is rewritten to, without its prologue, behind others.
     #[cycle(rewriting)]
-    fn core(&self, core: &Core<N>, into: Vec<Stmt<A>, A>) -> Result<Vec<Stmt<A>, A>, AllocError>
-        ensures { IfOk result (λ v. Lays into.items v.items
+    fn core(&self, core: &Core<N>, into: &mut Vec<Stmt<A>, A>) -> Result<(), AllocError>
+        ensures { IfOk result (λ _. Lays into.old.items into.new.items
             (λ k. bare_form (naming_of self.now) self.now.rounds.last (deed_of core.now) k)) }
     {
         match core {

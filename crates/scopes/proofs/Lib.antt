@@ -9,3 +9,4 @@ pub mod Works
 pub mod Resolving
 pub mod Rewriting
 pub mod Pushed
+pub mod FirstNames

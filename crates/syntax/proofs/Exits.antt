@@ -5,7 +5,7 @@ use Rattle.syntax.specs.Gives.{Fails, Gives}
 use Rattle.syntax.specs.declared.fault.ReadFault.{ReadFault}
 use Rattle.syntax.specs.declared.fault.ReadFault.TheVariants as fault
 
-fails_on : {Y Z : Type 0} (e : ReadFault) (given : Option Y) (other : Option Z) → (given ≡ None → other ≡ None)
+pub fails_on : {Y Z : Type 0} (e : ReadFault) (given : Option Y) (other : Option Z) → (given ≡ None → other ≡ None)
     → Fails e given → Fails e other
 fails_on (fault.Syntax at) given other h f = h f
 fails_on fault.Memory given other h f = tt

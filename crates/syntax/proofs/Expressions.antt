@@ -405,3 +405,9 @@ reading_strict l = record { by = λ ts a rest e. by_list l ts a rest (sym (readi
 
 -- what the loop over operators does
 pub ruleset reading_steps = (starts, no_start, stops_here, stops_at_end, goes_on, no_right)
+
+-- an operand is read as its first token says
+pub operand_begins : (k : Kind) (ts us : List Token) (t : Token) → ts ≡ t ∷ us → t.kind ≡ k → operand (toks_of ts)
+    ≡ operand_step reading (record { kind = k; at = t.at; text = t.text.now }) (toks_of us)
+unfolding operand
+operand_begins k ts us t e is = rw (e, is) refl

@@ -1,14 +1,14 @@
 -- The steps of the loop that reads statements.
 use Rattle.std.specs.Prelude.{option_and_then}
 use Rattle.std.proofs.Common.{◌≡◌, true, false, List, [], ◌∷◌, ◌++◌, Option, Some, None, refl, sym, ◌∙◌, ap}
-use Rattle.language.specs.Tree.{Name, RightSide, Block, done}
+use Rattle.language.specs.Tree.{Name, RightSide, Block, done, Mark}
 use Rattle.tokens.specs.declared.vocabulary.Kind.{Kind}
 use Rattle.tokens.specs.declared.vocabulary.Kind.TheVariants as kind
 use Rattle.tokens.specs.declared.vocabulary.Token.{Token}
-use Rattle.tokens.specs.Token.{Tok, toks_of}
-use Rattle.syntax.specs.Parser.{Parser, give, ◌>>=◌, take}
+use Rattle.tokens.specs.Token.{Tok, toks_of, same_kind}
+use Rattle.syntax.specs.Parser.{Parser, give, ◌>>=◌, begins, take}
 use Rattle.trees.specs.Trees.{Deed, branch, repeat, Item, before, all_before}
-use Rattle.syntax.specs.Exact.{item_step, rest_step, starts_here, section, section_behind, item, going_on, put_before, condition, deed_by, deed, if_deed, while_deed}
+use Rattle.syntax.specs.Exact.{item_step, rest_step, starts_here, section, section_behind, item, going_on, put_before, marked, condition, calling, assignment, named, deed_step, deed_by, deed, if_deed, while_deed}
 use Rattle.syntax.proofs.Fixes.{bind_is}
 use Rattle.syntax.proofs.Sections.{section_is}
 
@@ -104,14 +104,8 @@ module _ (ts : List Tok) {r : RightSide Name} {t1 : List Tok} (e1 : condition ts
     if_no_no e = if_yes ∙ behind_none kind.Else (after_no r a) t2 e
 
     module _ {t3 : List Tok} {b : Block Name Name Name} (e3 : section_behind kind.Else t2 ≡ Some (b, t3)) where
-      if_no : if_deed ts ≡ after_no r a b t3
+      pub if_no : if_deed ts ≡ after_no r a b t3
       if_no = if_yes ∙ behind_some kind.Else (after_no r a) t2 b t3 e3
-
-      pub if_no_end : take kind.Fi t3 ≡ None → if_deed ts ≡ None
-      if_no_end e = if_no ∙ rw e refl
-
-      pub if_whole : {t4 : List Tok} {z : Tok} → take kind.Fi t3 ≡ Some (z, t4) → if_deed ts ≡ Some (branch r a b, t4)
-      if_whole {t4} {z} e = if_no ∙ bind_is (take kind.Fi) (λ _. give (branch r a b)) t3 z t4 e
 
 -- the steps of a `while`
 abbrev after_body : RightSide Name → Block Name Name Name → Parser Deed
@@ -123,18 +117,43 @@ module _ (ts : List Tok) {r : RightSide Name} {t1 : List Tok} (e1 : condition ts
   while_no_body = headed_none kind.Do after_body ts e1
 
   module _ {t2 : List Tok} {a : Block Name Name Name} (e2 : section_behind kind.Do t1 ≡ Some (a, t2)) where
-    while_body : while_deed ts ≡ after_body r a t2
+    pub while_body : while_deed ts ≡ after_body r a t2
     unfolding while_deed
     while_body = headed_some kind.Do after_body ts e1 e2
-
-    pub while_no_end : take kind.Od t2 ≡ None → while_deed ts ≡ None
-    while_no_end e = while_body ∙ rw e refl
-
-    pub while_whole : {t3 : List Tok} {z : Tok} → take kind.Od t2 ≡ Some (z, t3) → while_deed ts ≡ Some (repeat r a, t3)
-    while_whole {t3} {z} e = while_body ∙ bind_is (take kind.Od) (λ _. give (repeat r a)) t2 z t3 e
 
 -- what a statement does is read as its first word says
 pub deed_begins : (k : Kind) (ts us : List Token) (t : Token) → ts ≡ t ∷ us → t.kind ≡ k → deed (toks_of ts)
     ≡ deed_by section (record { kind = k; at = t.at; text = t.text.now }) (toks_of us)
 unfolding deed
 deed_begins k ts us t e is = rw (e, is) refl
+
+-- a name begins a call or an assignment
+pub deed_calls : (ts us : List Token) (t : Token) → ts ≡ t ∷ us → t.kind ≡ kind.Id
+    → begins kind.Open (toks_of us) ≡ true → deed (toks_of ts) ≡ calling (toks_of ts)
+unfolding deed named same_kind
+deed_calls ts us t e is h = rw (e, is, h) refl
+
+pub deed_assigns : (ts us : List Token) (t : Token) → ts ≡ t ∷ us → t.kind ≡ kind.Id
+    → begins kind.Open (toks_of us) ≡ false → deed (toks_of ts) ≡ assignment (toks_of ts)
+unfolding deed named same_kind
+deed_assigns ts us t e is h = rw (e, is, h) refl
+
+-- a statement is a mark and what it does
+pub item_no_mark : (ts : List Tok) → marked ts ≡ None → item ts ≡ None
+unfolding item
+item_no_mark ts e = rw e refl
+
+module _ (ts : List Tok) {m : Mark Name} {us : List Tok} (e : marked ts ≡ Some (m, us)) where
+  abbrev with_mark : Parser Item
+  with_mark = deed >>= λ d. give (record { mark = m; deed = d })
+
+  item_behind : item ts ≡ with_mark us
+  unfolding item deed
+  item_behind = bind_is marked (λ m. deed_step section >>= λ d. give (record { mark = m; deed = d })) ts m us e
+
+  pub item_no_deed : deed us ≡ None → item ts ≡ None
+  item_no_deed f = item_behind ∙ rw f refl
+
+  pub item_whole : {d : Deed} {rest : List Tok} → deed us ≡ Some (d, rest)
+      → item ts ≡ Some (record { mark = m; deed = d }, rest)
+  item_whole f = item_behind ∙ rw f refl

@@ -8,6 +8,7 @@ pub mod Sound
 pub mod Complete
 pub mod Loops
 pub mod Exits
+pub mod Closings
 pub mod Goings
 pub mod Programs
 pub mod Texts

@@ -3,7 +3,7 @@ use Rattle.std.proofs.Common.{◌≡◌, ℕ, ◌+◌, cond, List, ◌++◌, ref
 use Rattle.std.specs.Prelude.{Result, IfOk, is_ok}
 use Rattle.std.specs.declared.vec.Vec.{Vec}
 use Rattle.language.specs.Tree as tree
-use Rattle.language.specs.Tree.{Expression, RightSide, Simple, assign, assert, assume, call, Block}
+use Rattle.language.specs.Tree.{Expression, RightSide, Simple, skip, assign, assert, assume, goto, leave, call, Block}
 use Rattle.tokens.specs.Parts.{text_of}
 use Rattle.tokens.proofs.PartsCut.{text_of-append}
 use Rattle.trees.specs.declared.tree.Name.{Name}
@@ -15,7 +15,7 @@ use Rattle.trees.specs.declared.tree.Core.TheVariants as core
 use Rattle.trees.specs.Trees.{name_of, names_of, exprs_of, rhs_of, rhss_of, Deed, simple, branch, repeat, deed_of, block_of}
 use Rattle.syntax.specs.Printed.{name_parts, separated, expression_parts, side_parts, margin, block_parts}
 use Rattle.syntax.specs.PrintedDeed.{deed_parts}
-use Rattle.trees.proofs.Folds.{deed_of-Assign, deed_of-Assert, deed_of-Assume, deed_of-Call, deed_of-If, deed_of-While}
+use Rattle.trees.proofs.Folds.{deed_of-Skip, deed_of-Return, deed_of-Goto, deed_of-Assign, deed_of-Assert, deed_of-Assume, deed_of-Call, deed_of-If, deed_of-While}
 use Rattle.syntax.proofs.Appended.{four_behind, five_behind}
 use Rattle.syntax.proofs.Prints.{pushed_last, put_last}
 
@@ -123,3 +123,13 @@ module _ {A X E : Type 0} (level : ℕ) (r : Result X E) (k : Core A) (old new :
       → IfOk r (λ _. new ≡ old ++ text_of (deed_parts level (repeat (rhs_of side) (block_of xs)))) → Adds
   repeated side a xs is e last =
       put_last r new old _ _ last (rw e (deed_text (repeat (rhs_of side) (block_of a.items)) _ (ap deed_of is ∙ deed_of-While side a) refl))
+
+  pub jumped : (x : Name A) → k ≡ core.Goto x
+      → IfOk r (λ _. new ≡ old ++ text_of (deed_parts 0 (simple (goto (name_of x))))) → Adds
+  jumped x is last = put_last r new old _ _ last (deed_text (simple (goto (name_of x))) _ (ap deed_of is ∙ deed_of-Goto x) refl)
+
+  pub skipped : k ≡ core.Skip → new ≡ cond (is_ok r) (old ++ codes "skip;\n") old → Adds
+  skipped is last = pushed_last r new old _ _ last (deed_text (simple skip) _ (ap deed_of is ∙ deed_of-Skip A) refl)
+
+  pub left : k ≡ core.Return → new ≡ cond (is_ok r) (old ++ codes "return;\n") old → Adds
+  left is last = pushed_last r new old _ _ last (deed_text (simple leave) _ (ap deed_of is ∙ deed_of-Return A) refl)

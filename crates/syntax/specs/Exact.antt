@@ -58,6 +58,14 @@ more p = many (begins kind.Comma) (take kind.Comma >>= λ _. p)
 unfoldable pub list : {X : Type 0} → Parser X → Parser (List X)
 list p = p >>= λ x. more p >>= λ xs. give (x ∷ xs)
 
+-- a token of this kind behind x
+abbrev pub closing : {X : Type 0} → Kind → X → Parser X
+closing k x = take k >>= λ _. give x
+
+-- a list with a token of this kind behind it
+abbrev pub listed : {X : Type 0} → Parser X → Kind → Parser (List X)
+listed p k = list p >>= λ xs. closing k xs
+
 -- p once, and again while the test holds
 unfoldable pub repeated : {X : Type 0} → (List Tok → Bool) → Parser X → Parser (List X)
 repeated test p = p >>= λ x. many test p >>= λ xs. give (x ∷ xs)

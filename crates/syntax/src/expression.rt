@@ -93,12 +93,11 @@ impl<'a, A: Allocator + Clone> Reader<'a, A> {
             Kind::Id => Ok((Expr::Var(self.name(first)?), rest)),
             Kind::Not => {
                 let (inner, after) = self.expression(5, rest)?;
-                Ok((Expr::Not(Box::new(self.alloc.clone()?, inner)?), after))
+                Ok((Expr::Not(self.in_box(inner)?), after))
             }
             Kind::Open => {
                 let (inner, after) = self.expression(0, rest)?;
-                let (_, last) = self.take(Kind::Close, after)?;
-                Ok((inner, last))
+                self.closed(inner, Kind::Close, after)
             }
             _ => Err(ReadFault::Syntax(first.at)),
         }

@@ -2,7 +2,7 @@
 
 ghost use Rattle.std.specs.Prelude.{map};
 ghost use Rattle.syntax.specs.Gives.{Parses, Shorter};
-ghost use Rattle.syntax.specs.Exact.{enclosed, condition};
+ghost use Rattle.syntax.specs.Exact.{listed, enclosed, condition};
 ghost use Rattle.syntax.specs.Parser.{Strict};
 ghost use Rattle.trees.specs.Trees.{rhs_of};
 ghost use Rattle.tokens.specs.Token.{toks_of};
@@ -69,8 +69,19 @@ impl<A: Allocator + Clone> Item<A> for Expr<A> {
 }
 
 impl<'a, A: Allocator + Clone> Reader<'a, A> {
+    /// Reads items with commas between them, and a token of this kind behind them.
+    #[tactic(auto, using(crate::proofs::Closings::closed_seen))]
+    pub fn listed<'t, T: Item<A>>(&self, kind: Kind, tokens: &'t [Token<'t>]) -> Read<'t, Vec<T, A>>
+        requires { Strict T.grammar }
+        ensures gives { Parses (λ v. map T.tree v.items) result (listed T.grammar kind) tokens.now }
+        ensures shorter { Shorter result tokens.now }
+    {
+        let (list, rest) = self.list(tokens)?;
+        self.closed(list, kind, rest)
+    }
+
     /// Reads items in parentheses, with commas between them, of which there may be none.
-    #[tactic(auto, unfolding(crate::specs::Exact::enclosed))]
+    #[tactic(auto, using(crate::proofs::Closings::closed_seen), unfolding(crate::specs::Exact::enclosed))]
     pub fn enclosed<'t, T: Item<A>>(&self, tokens: &'t [Token<'t>]) -> Read<'t, Vec<T, A>>
         requires { Strict T.grammar }
         ensures gives { Parses (λ v. map T.tree v.items) result (enclosed T.grammar) tokens.now }
@@ -78,23 +89,19 @@ impl<'a, A: Allocator + Clone> Reader<'a, A> {
     {
         let (_, inside) = self.take(Kind::Open, tokens)?;
         if begins(Kind::Close, inside) {
-            let (_, rest) = self.take(Kind::Close, inside)?;
-            return Ok((Vec::new(self.alloc.clone()?), rest));
+            return self.closed(Vec::new(self.alloc.clone()?), Kind::Close, inside);
         }
-        let (list, others) = self.list(inside)?;
-        let (_, rest) = self.take(Kind::Close, others)?;
-        Ok((list, rest))
+        self.listed(Kind::Close, inside)
     }
 
     /// Reads a right side in parentheses.
-    #[tactic(auto, unfolding(crate::specs::Exact::condition))]
+    #[tactic(auto, using(crate::proofs::Closings::closed_seen), unfolding(crate::specs::Exact::condition))]
     pub fn test<'t>(&self, tokens: &'t [Token<'t>]) -> Read<'t, Rhs<A>>
         ensures gives { Parses rhs_of result condition tokens.now }
         ensures shorter { Shorter result tokens.now }
     {
         let (_, inside) = self.take(Kind::Open, tokens)?;
-        let (value, others) = Rhs::read(self, inside)?;
-        let (_, rest) = self.take(Kind::Close, others)?;
-        Ok((value, rest))
+        let (value, rest) = Rhs::read(self, inside)?;
+        self.closed(value, Kind::Close, rest)
     }
 }

@@ -21,9 +21,7 @@ impl<'a, A: Allocator + Clone> Reader<'a, A> {
         ensures shorter { Shorter result tokens.now }
     {
         let (_, inside) = self.take(Kind::Decl, tokens)?;
-        let (list, ended) = self.list(inside)?;
-        let (_, rest) = self.take(Kind::Semicolon, ended)?;
-        Ok((list, rest))
+        self.listed(Kind::Semicolon, inside)
     }
 
     // No names yet, and all tokens.
@@ -50,7 +48,7 @@ impl<'a, A: Allocator + Clone> Reader<'a, A> {
     }
 
     /// Reads `begin`, the locals, the statements and `end`.
-    #[tactic(auto, unfolding(crate::specs::Exact::insides))]
+    #[tactic(auto, using(crate::proofs::Closings::closed_seen), unfolding(crate::specs::Exact::insides))]
     fn insides<'t>(&self, tokens: &'t [Token<'t>]) -> Read<'t, (Vec<Name<A>, A>, Vec<Stmt<A>, A>)>
         ensures gives { Parses (λ b. (names_of b.0.items, block_of b.1.items)) result insides tokens.now }
         ensures shorter { Shorter result tokens.now }
@@ -58,8 +56,7 @@ impl<'a, A: Allocator + Clone> Reader<'a, A> {
         let (_, inside) = self.take(Kind::Begin, tokens)?;
         let (locals, others) = self.declarations(inside)?;
         let (body, ended) = self.statements(others)?;
-        let (_, rest) = self.take(Kind::End, ended)?;
-        Ok(((locals, body), rest))
+        self.closed((locals, body), Kind::End, ended)
     }
 
     /// Reads a whole program.
@@ -129,12 +126,11 @@ impl<A: Allocator + Clone> Item<A> for Thread<A> {
 
     ghost grammar = { thread_line };
 
-    #[tactic(auto, unfolding(crate::specs::Exact::thread_line))]
+    #[tactic(auto, using(crate::proofs::Closings::closed_seen), unfolding(crate::specs::Exact::thread_line))]
     fn read<'t>(reader: &Reader<'_, A>, tokens: &'t [Token<'t>]) -> Read<'t, Thread<A>> {
         let (word, others) = reader.take(Kind::Thread, tokens)?;
-        let (name, ended) = Name::read(reader, others)?;
-        let (_, rest) = reader.take(Kind::Semicolon, ended)?;
-        Ok((Thread { at: word.at, name }, rest))
+        let (name, rest) = Name::read(reader, others)?;
+        reader.closed(Thread { at: word.at, name }, Kind::Semicolon, rest)
     }
 }
 

@@ -3,6 +3,7 @@
 ghost use Rattle.std.specs.Prelude.{◌≡◌, ◌++◌, ◌∷◌, [], IfOk, IsOkUnless};
 ghost use Rattle.syntax.specs.Gives.{Parses, Shorter};
 ghost use Rattle.syntax.specs.Parser.{begins, take};
+ghost use Rattle.syntax.specs.Exact.{closing};
 ghost use Rattle.syntax.specs.Grammar.{name_at};
 ghost use Rattle.trees.specs.Trees.{name_of};
 ghost use Rattle.tokens.specs.Token.{tok_of, toks_of};
@@ -52,14 +53,23 @@ impl<'a, A: Allocator + Clone> Reader<'a, A> {
         Ok(list)
     }
 
+    /// A value in a box.
+    pub fn in_box<T: Drop>(&self, value: T) -> Result<Box<T, A>, ReadFault>
+        ensures ok { IfOk result (λ b. b.value ≡ value) }
+        ensures err { IsOkUnless result ReadFault.Memory }
+    {
+        let alloc = self.alloc.clone()?;
+        Ok(Box::new(alloc, value)?)
+    }
+
     /// Two values, each in a box.
     pub fn boxed<T: Drop>(&self, left: T, right: T) -> Result<(Box<T, A>, Box<T, A>), ReadFault>
         ensures left { IfOk result (λ p. p.0.value ≡ left) }
         ensures right { IfOk result (λ p. p.1.value ≡ right) }
         ensures err { IsOkUnless result ReadFault.Memory }
     {
-        let left = Box::new(self.alloc.clone()?, left)?;
-        let right = Box::new(self.alloc.clone()?, right)?;
+        let left = self.in_box(left)?;
+        let right = self.in_box(right)?;
         Ok((left, right))
     }
 
@@ -76,6 +86,15 @@ impl<'a, A: Allocator + Clone> Reader<'a, A> {
         } else {
             Err(ReadFault::Syntax(first.at))
         }
+    }
+
+    /// Reads a token of this kind behind what was read before it.
+    pub fn closed<'t, T: Drop>(&self, value: T, kind: Kind, tokens: &'t [Token<'t>]) -> Read<'t, T>
+        ensures gives { Parses (λ v. v) result (closing kind value) tokens.now }
+        ensures shorter { Shorter result tokens.now }
+    {
+        let (_, rest) = self.take(kind, tokens)?;
+        Ok((value, rest))
     }
 
     /// The name that a token is.

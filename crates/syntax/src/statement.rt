@@ -67,12 +67,12 @@ impl<'a, A: Allocator + Clone> Reader<'a, A> {
     }
 
     /// Reads a semicolon, behind what a statement does.
+    #[tactic(auto, using(crate::proofs::Closings::closed_seen))]
     fn ended<'t>(&self, core: Core<A>, tokens: &'t [Token<'t>]) -> Read<'t, Core<A>>
         ensures gives { Parses deed_of result (ended (deed_of core)) tokens.now }
         ensures shorter { Shorter result tokens.now }
     {
-        let (_, rest) = self.take(Kind::Semicolon, tokens)?;
-        Ok((core, rest))
+        self.closed(core, Kind::Semicolon, tokens)
     }
 
     /// Reads an assignment.
@@ -81,10 +81,8 @@ impl<'a, A: Allocator + Clone> Reader<'a, A> {
         ensures gives { Parses deed_of result assignment tokens.now }
         ensures shorter { Shorter result tokens.now }
     {
-        let (targets, signed) = self.list(tokens)?;
-        let (_, others) = self.take(Kind::Assign, signed)?;
-        let (sides, ended) = self.list(others)?;
-        let (_, rest) = self.take(Kind::Semicolon, ended)?;
+        let (targets, others) = self.listed(Kind::Assign, tokens)?;
+        let (sides, rest) = self.listed(Kind::Semicolon, others)?;
         Ok((Core::Assign(targets, sides), rest))
     }
 
@@ -95,9 +93,8 @@ impl<'a, A: Allocator + Clone> Reader<'a, A> {
         ensures shorter { Shorter result tokens.now }
     {
         let (name, others) = Name::read(self, tokens)?;
-        let (arguments, ended) = self.enclosed(others)?;
-        let (_, rest) = self.take(Kind::Semicolon, ended)?;
-        Ok((Core::Call(name, arguments), rest))
+        let (arguments, rest) = self.enclosed(others)?;
+        self.ended(Core::Call(name, arguments), rest)
     }
 
     /// Reads a `goto`, behind that word.
@@ -105,9 +102,8 @@ impl<'a, A: Allocator + Clone> Reader<'a, A> {
         ensures gives { Parses deed_of result jumping tokens.now }
         ensures shorter { Shorter result tokens.now }
     {
-        let (label, ended) = Name::read(self, tokens)?;
-        let (_, rest) = self.take(Kind::Semicolon, ended)?;
-        Ok((Core::Goto(label), rest))
+        let (label, rest) = Name::read(self, tokens)?;
+        self.ended(Core::Goto(label), rest)
     }
 
     /// Reads an `assert`, behind that word.
@@ -115,9 +111,8 @@ impl<'a, A: Allocator + Clone> Reader<'a, A> {
         ensures gives { Parses deed_of result asserting tokens.now }
         ensures shorter { Shorter result tokens.now }
     {
-        let (side, ended) = self.test(tokens)?;
-        let (_, rest) = self.take(Kind::Semicolon, ended)?;
-        Ok((Core::Assert(side), rest))
+        let (side, rest) = self.test(tokens)?;
+        self.ended(Core::Assert(side), rest)
     }
 
     /// Reads an `assume`, behind that word.
@@ -125,9 +120,8 @@ impl<'a, A: Allocator + Clone> Reader<'a, A> {
         ensures gives { Parses deed_of result assuming tokens.now }
         ensures shorter { Shorter result tokens.now }
     {
-        let (side, ended) = self.test(tokens)?;
-        let (_, rest) = self.take(Kind::Semicolon, ended)?;
-        Ok((Core::Assume(side), rest))
+        let (side, rest) = self.test(tokens)?;
+        self.ended(Core::Assume(side), rest)
     }
 
     /// Reads statements, at least one, as long as another comes.
@@ -204,8 +198,7 @@ impl<'a, A: Allocator + Clone> Reader<'a, A> {
         let (side, opened) = self.test(tokens)?;
         let (yes, between) = self.block(Kind::Then, opened)?;
         let (no, ended) = self.block(Kind::Else, between)?;
-        let (_, rest) = self.take(Kind::Fi, ended)?;
-        Ok((Core::If(side, yes, no), rest))
+        self.closed(Core::If(side, yes, no), Kind::Fi, ended)
     }
 
     /// Reads a `while`, behind that word.
@@ -217,7 +210,6 @@ impl<'a, A: Allocator + Clone> Reader<'a, A> {
     {
         let (side, opened) = self.test(tokens)?;
         let (body, ended) = self.block(Kind::Do, opened)?;
-        let (_, rest) = self.take(Kind::Od, ended)?;
-        Ok((Core::While(side, body), rest))
+        self.closed(Core::While(side, body), Kind::Od, ended)
     }
 }

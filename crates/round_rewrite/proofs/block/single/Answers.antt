@@ -6,5 +6,5 @@ use Rattle.round_rewrite.proofs.block.single.Goals as goal
 
 pub returns : goal.returns
 returns g c =
-    c.in_ok-block.ensures done
-    ∙ ap (λ ss. all_before (items_of ss) (marked_before plain (deed_of c.args.core) done)) c.new.ensures.items
+    c.in_ok-push.ensures done
+    ∙ ap (λ ss. all_before (items_of ss) (marked_before plain (deed_of c.args.core) done)) c.new-block.ensures.items

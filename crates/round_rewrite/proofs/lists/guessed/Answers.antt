@@ -1,10 +1,15 @@
 use Rattle.std.proofs.Common.{◌∙◌, ap, refl, ◌++◌, ◌+◌, map, drop}
 use Rattle.language.specs.Tree.{any}
 use Rattle.trees.specs.Trees.{name_of, names_of, rhs_of, rhss_of}
-use Rattle.round_rewrite.proofs.Pushed.{one_through}
+use Rattle.round_rewrite.proofs.Pushed.{one_through, all_through}
 use Rattle.round_rewrite.proofs.lists.guessed.Goals as goal
 
 pub loop-x-preserved : goal.loop-x-preserved
 loop-x-preserved g c =
     ap (λ l. rhss_of l ++ map (λ w. any) (names_of (drop (c.loop-x._x-index + 1) c.args.xs.now))) c.in_ok-push.ensures.items
     ∙ one_through rhs_of (λ w. any) name_of c.loop-x.list.items _ c.args.xs.now c.loop-x._x-index c._x-item.result _ c.loop-x-test.true c._x-item.is refl c.loop-x.invariant
+
+pub returns : goal.returns
+returns g c =
+    all_through rhs_of (λ w. any) name_of c.loop-x.list.items c.args.xs.now c.loop-x._x-index _ c.loop-x-test.false
+    c.loop-x.invariant

@@ -8,5 +8,5 @@ use Rattle.round_rewrite.proofs.main_procedure.check.Given as goal
 
 abbrev pub invariant-loop-x : goal.invariant-loop-x
 invariant-loop-x g l =
-    (rest : Statements) → all_before (items_of l.list.items) (check (names []) l.last (names_of (drop l.x-index l.xs)) l.round rest)
-    ≡ all_before (items_of l.fn.into.items) (check (names []) l.last (names_of l.xs) l.round rest)
+    (rest : Statements) → all_before (items_of l.into.items) (check (names []) l.last (names_of (drop l.x-index l.xs)) l.round rest)
+    ≡ all_before (items_of l.initial.into.items) (check (names []) l.last (names_of l.xs) l.round rest)

@@ -8,4 +8,4 @@ use Rattle.round_rewrite.proofs.main_procedure.checks.Given as goal
 
 abbrev pub invariant-loop-round : goal.invariant-loop-round
 invariant-loop-round g l =
-    Lays l.fn.into.items l.list.items (λ k. checks (names []) l.rounds.last (names_of l.xs) (numbers 0 l.round) k)
+    Lays l.initial.into.items l.into.items (λ k. checks (names []) l.rounds.last (names_of l.xs) (numbers 0 l.round) k)

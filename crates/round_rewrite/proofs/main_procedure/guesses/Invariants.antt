@@ -8,4 +8,4 @@ use Rattle.round_rewrite.proofs.main_procedure.guesses.Given as goal
 
 abbrev pub invariant-loop-before : goal.invariant-loop-before
 invariant-loop-before g l =
-    Lays l.fn.into.items l.list.items (λ k. guesses (names []) l.rounds.last (names_of l.xs) (numbers 1 l.before) k)
+    Lays l.initial.into.items l.into.items (λ k. guesses (names []) l.rounds.last (names_of l.xs) (numbers 1 l.before) k)

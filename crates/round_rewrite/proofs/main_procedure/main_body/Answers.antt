@@ -10,7 +10,7 @@ pub returns : goal.returns
 returns g c =
     let xs = names_of c.args.xs.now in
     let last = c.args.rounds.last in
-    c.in_ok-checked.ensures done
-    ∙ (c.in_ok-started.ensures _
-    ∙ (c.in_ok-guessed.ensures _
-    ∙ ap (λ ss. all_before (items_of ss) (guesses (names []) last xs (numbers 1 last) (starts (names []) last (line_names (threads_of c.args.threads.now)) (checks (names []) last xs (numbers 0 last) done)))) c.new.ensures.items))
+    c.in_ok-checks.ensures done
+    ∙ (c.in_ok-starts.ensures _
+    ∙ (c.in_ok-guesses.ensures _
+    ∙ ap (λ ss. all_before (items_of ss) (guesses (names []) last xs (numbers 1 last) (starts (names []) last (line_names (threads_of c.args.threads.now)) (checks (names []) last xs (numbers 0 last) done)))) c.new-body.ensures.items))

@@ -4,7 +4,7 @@ use Rattle.trees.specs.Trees.{deed_of, block_of}
 use Rattle.language.specs.Sequential.{statements}
 use Rattle.trees.proofs.Held.{held, smaller}
 use Rattle.syntax.proofs.PrintedBlocks.{one_printed, none_left}
-use Rattle.syntax.proofs.PrintedDeeds.{assigned, called, asserted, assumed, branched, repeated, branch_pushed, loop_pushed}
+use Rattle.syntax.proofs.PrintedDeeds.{skipped, left, jumped, assigned, called, asserted, assumed, branched, repeated, branch_pushed, loop_pushed}
 use Rattle.syntax.proofs.print_statements.+printing.Goals as goal
 
 pub print_block-print_core-requires : goal.print_block-print_core-requires
@@ -58,3 +58,18 @@ print_loop-returns g t c =
     loop_pushed c.args.level c.in_ok-inner.inner c.print_line.result (string_bytes c.args.out.now) (string_bytes c.print_line.new.out) c.args.side.now c.args.body.now c.in_ok-inner.ensures
     (string_bytes c.print_test.new.out) (string_bytes c.print_block.new.out)
     c.in_ok-print_test.ensures c.in_ok-print_block.ensures c.print_line.ensures
+
+pub print_core-returns-in-Skip : goal.print_core-returns-in-Skip
+print_core-returns-in-Skip g t c =
+    skipped c.args.level c.push_str.result c.args.core.now (string_bytes c.args.out.now)
+    (string_bytes c.push_str.new.self) c.in-Skip.is c.push_str.ensures.bytes
+
+pub print_core-returns-in-Return : goal.print_core-returns-in-Return
+print_core-returns-in-Return g t c =
+    left c.args.level c.push_str-in-Return.result c.args.core.now (string_bytes c.args.out.now)
+    (string_bytes c.push_str-in-Return.new.self) c.in-Return.is c.push_str-in-Return.ensures.bytes
+
+pub print_core-returns-in-Goto : goal.print_core-returns-in-Goto
+print_core-returns-in-Goto g t c =
+    jumped c.args.level c.print_jump.result c.args.core.now (string_bytes c.args.out.now)
+    (string_bytes c.print_jump.new.out) c.in-Goto.label c.in-Goto.is c.print_jump.ensures

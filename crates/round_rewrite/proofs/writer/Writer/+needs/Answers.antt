@@ -65,3 +65,27 @@ needs_of-returns-in-While g t c =
     let shared = (naming_of c.args.self.now).is_shared in
     c.needs.ensures ∙ (ap (λ l. temporaries shared (block_of l)) c.deref-in-While.ensures.value
     ∙ ap (deed_needs shared) (sym (ap deed_of c.in-While.is ∙ deed_of-While _ _)))
+
+pub needs_of-needs-yes-requires : goal.needs_of-needs-yes-requires
+needs_of-needs-yes-requires g t c κs within =
+    let same = ap (λ l. statements (block_of l)) c.deref-in-If.ensures.value in
+    let whole = ap held (ap deed_of c.in-If.is ∙ deed_of-If _ _ _) in
+    let less : 2 * statements (block_of c.deref-in-If.result.now) + 1 < 2 * held (deed_of c.args.core.now) + 2 = omega
+    (arith, same, whole) in
+    (rw (← c.decreases) less, within)
+
+pub needs_of-needs-no-requires : goal.needs_of-needs-no-requires
+needs_of-needs-no-requires g t c κs within =
+    let same = ap (λ l. statements (block_of l)) c.deref-in-If-2.ensures.value in
+    let whole = ap held (ap deed_of c.in-If.is ∙ deed_of-If _ _ _) in
+    let less : 2 * statements (block_of c.deref-in-If-2.result.now) + 1 < 2 * held (deed_of c.args.core.now) + 2 = omega
+    (arith, same, whole) in
+    (rw (← c.decreases) less, within)
+
+pub needs_of-needs-requires : goal.needs_of-needs-requires
+needs_of-needs-requires g t c κs within =
+    let same = ap (λ l. statements (block_of l)) c.deref-in-While.ensures.value in
+    let whole = ap held (ap deed_of c.in-While.is ∙ deed_of-While _ _) in
+    let less : 2 * statements (block_of c.deref-in-While.result.now) + 1 < 2 * held (deed_of c.args.core.now) + 2 = omega
+    (arith, same, whole) in
+    (rw (← c.decreases) less, within)

@@ -1,4 +1,5 @@
 use Rattle.std.proofs.Common.{◌∙◌, ap, ◌++◌}
+use Rattle.std.proofs.lemmas.Result.{IfOk-weaker}
 use Rattle.language.specs.Tree.{assign}
 use Rattle.trees.specs.Trees.{simple, names_of, rhss_of, items_of, all_before}
 use Rattle.round_rewrite.specs.Table.{plain, drawing, targets, sides}
@@ -13,10 +14,11 @@ returns g c =
     let last = c.args.self.now.rounds.last in
     let xs = names_of c.args.xs.now in
     let rs = rhss_of c.args.rs.now in
-    let left = c.in_ok-targets.ensures ∙ ap (λ ns. names_of ns ++ targets w last xs rs) c.new.ensures.items in
-    let right = c.in_ok-sides.ensures ∙ ap (λ ns. rhss_of ns ++ sides w last 0 xs rs) c.new-2.ensures.items in
+    let left = c.in_ok-targets.ensures ∙ ap (λ ns. names_of ns ++ targets w last xs rs) c.new-targets.ensures.items in
+    let right = c.in_ok-sides.ensures ∙ ap (λ ns. rhss_of ns ++ sides w last 0 xs rs) c.new-sides.ensures.items in
     let deed = deed_of-Assign _ _ ∙ (λ i. simple (assign (left i) (right i))) in
-    let assigned = laid _ _ plain _ _ c.in_ok-assigned.ensures deed in
-    λ k. assigned k
-    ∙ (c.in_ok-drawn.ensures _
-    ∙ ap (λ n. all_before (items_of c.args.into.items) (drawing w last n (Rattle.language.specs.Tree.one plain (assign (targets w last xs rs) (sides w last 0 xs rs)) k))) c.draws.ensures.count)
+    IfOk-weaker c.push.result _ _
+    (λ _ l k. laid _ _ plain _ _ l deed k
+    ∙ (c.in_ok-drawing.ensures _
+    ∙ ap (λ n. all_before (items_of c.args.into.now.items) (drawing w last n (Rattle.language.specs.Tree.one plain (assign (targets w last xs rs) (sides w last 0 xs rs)) k))) c.draws.ensures.count))
+    c.push.ensures

@@ -1,4 +1,5 @@
 use Rattle.std.proofs.Common.{◌∙◌}
+use Rattle.std.proofs.lemmas.Result.{IfOk-weaker}
 use Rattle.language.specs.Tree.{call}
 use Rattle.trees.specs.Trees.{simple}
 use Rattle.round_rewrite.specs.Table.{plain}
@@ -9,6 +10,6 @@ use Rattle.round_rewrite.proofs.writer.Writer.call.Goals as goal
 pub returns : goal.returns
 returns g c =
     let deed = deed_of-Call _ _ ∙ (λ i. simple (call (c.in_ok-name.ensures i) (c.in_ok-arguments.ensures i))) in
-    let called = laid _ _ plain _ _ c.in_ok-called.ensures deed in
-    let tested = laid _ _ plain _ _ c.in_ok-tested.ensures c.in_ok-stop_test.ensures in
-    λ k. tested k ∙ called _
+    let called = laid _ _ plain _ _ c.in_ok-push.ensures deed in
+    IfOk-weaker c.push-2.result _ _
+    (λ _ l k. laid _ _ plain _ _ l c.in_ok-stop_test.ensures k ∙ called _) c.push-2.ensures

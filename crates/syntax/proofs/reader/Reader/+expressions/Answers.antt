@@ -1,12 +1,15 @@
-use Rattle.std.proofs.Common.{rules, ◌≡◌, List, ◌∙◌, sym, ap, Some}
+use Rattle.std.proofs.Common.{rules, ◌≡◌, true, false, refl, List, ◌∙◌, sym, ap, Some}
 use Rattle.language.specs.Tree.{Name, Expression, two}
 use Rattle.syntax.specs.Grammar.{right_level}
 use Rattle.syntax.specs.Exact.{reading, from, after}
 use Rattle.trees.specs.Trees.{operator_of, expr_of}
 use Rattle.tokens.specs.declared.vocabulary.Token.{Token}
-use Rattle.tokens.specs.Token.{tok_of, toks_of}
-use Rattle.syntax.proofs.Expressions.{goes_on, ends_before, ends_empty}
-use Rattle.trees.proofs.Folds.{expr_of-Two}
+use Rattle.tokens.specs.Token.{tok_of, toks_of, same_kind}
+use Rattle.tokens.specs.declared.vocabulary.Kind.TheVariants as kind
+use Rattle.syntax.proofs.Closings.{closed_seen}
+use Rattle.syntax.proofs.Exits.{refused}
+use Rattle.syntax.proofs.Expressions.{operand_begins, goes_on, ends_before, ends_empty}
+use Rattle.trees.proofs.Folds.{expr_of-Const, expr_of-Var, expr_of-Not, expr_of-Two}
 use Rattle.syntax.proofs.reader.Reader.+expressions.Goals as goal
 use Rattle.syntax.proofs.reader.Reader.+expressions.Goals.{expression-in-Some+in_default-operator_of_kind, expression-in_default}
 
@@ -32,3 +35,51 @@ expression-returns-clause-gives g t c =
       | expression-in-Some+in_default-operator_of_kind w ↦ ends_before c.args.least (expr_of c.loop-first.tree) c.loop-first.rest.now w.in-Some.others.now w.in-Some.first.now w.in-Some.ensures.cases.0 (sym w.in_default-operator_of_kind.ensures)
       | expression-in_default w ↦ ends_empty c.args.least (expr_of c.loop-first.tree) c.loop-first.rest.now w.in_default.ensures.cases
     ]
+
+pub operand-returns-in-Zero-clause-gives : goal.operand-returns-in-Zero-clause-gives
+unfolding same_kind
+operand-returns-in-Zero-clause-gives g t c =
+    rw (operand_begins kind.Zero c.args.tokens.now c.in-Some.rest.now c.in-Some.first.now c.in-Some.ensures.cases.0
+    c.in-Zero.is) (rw (expr_of-Const g.row.A.Denot false) refl)
+
+pub operand-returns-in-One-clause-gives : goal.operand-returns-in-One-clause-gives
+unfolding same_kind
+operand-returns-in-One-clause-gives g t c =
+    rw (operand_begins kind.One c.args.tokens.now c.in-Some.rest.now c.in-Some.first.now c.in-Some.ensures.cases.0
+    c.in-One.is) (rw (expr_of-Const g.row.A.Denot true) refl)
+
+pub operand-returns-in_ok-name-in-Id-clause-gives : goal.operand-returns-in_ok-name-in-Id-clause-gives
+unfolding same_kind
+operand-returns-in_ok-name-in-Id-clause-gives g t c =
+    rw (operand_begins kind.Id c.args.tokens.now c.in-Some.rest.now c.in-Some.first.now c.in-Some.ensures.cases.0
+    c.in-Id.is) (rw (expr_of-Var c.in_ok-name-in-Id.field-0, c.in_ok-name-in-Id.ensures.ok) refl)
+
+pub operand-returns-in_ok-in_box-in-Not-clause-gives : goal.operand-returns-in_ok-in_box-in-Not-clause-gives
+unfolding same_kind
+operand-returns-in_ok-in_box-in-Not-clause-gives g t c =
+    rw (operand_begins kind.Not c.args.tokens.now c.in-Some.rest.now c.in-Some.first.now c.in-Some.ensures.cases.0
+    c.in-Not.is) (rw (c.in_ok-inner-in-Not.ensures.gives, expr_of-Not c.in_ok-in_box-in-Not.field-0, c.in_ok-in_box-in-Not.ensures.ok) refl)
+
+pub operand-returns-in_ok-inner-in-Open-clause-gives : goal.operand-returns-in_ok-inner-in-Open-clause-gives
+unfolding same_kind
+operand-returns-in_ok-inner-in-Open-clause-gives g t c =
+    rw (operand_begins kind.Open c.args.tokens.now c.in-Some.rest.now c.in-Some.first.now c.in-Some.ensures.cases.0
+    c.in-Open.is) (rw c.in_ok-inner-in-Open.ensures.gives (closed_seen expr_of c.in_ok-inner-in-Open.inner kind.Close c.closed.result c.in_ok-inner-in-Open.after.now _ refl c.closed.ensures.gives))
+
+pub operand-returns-in_err-inner-in-Not-clause-gives : goal.operand-returns-in_err-inner-in-Not-clause-gives
+unfolding same_kind
+operand-returns-in_err-inner-in-Not-clause-gives g t c =
+    refused _ c.from_residual-in_err-inner-in-Not.result _ (reading (from 5) (toks_of c.in-Some.rest.now)) _
+    c.from_residual-in_err-inner-in-Not.ensures.1
+    (λ none. operand_begins kind.Not c.args.tokens.now c.in-Some.rest.now c.in-Some.first.now
+    c.in-Some.ensures.cases.0 c.in-Not.is ∙ rw none refl)
+    c.in_err-inner-in-Not.ensures.gives
+
+pub operand-returns-in_err-inner-in-Open-clause-gives : goal.operand-returns-in_err-inner-in-Open-clause-gives
+unfolding same_kind
+operand-returns-in_err-inner-in-Open-clause-gives g t c =
+    refused _ c.from_residual-in_err-inner-in-Open.result _ (reading (from 0) (toks_of c.in-Some.rest.now)) _
+    c.from_residual-in_err-inner-in-Open.ensures.1
+    (λ none. operand_begins kind.Open c.args.tokens.now c.in-Some.rest.now c.in-Some.first.now
+    c.in-Some.ensures.cases.0 c.in-Open.is ∙ rw none refl)
+    c.in_err-inner-in-Open.ensures.gives

@@ -1,12 +1,13 @@
-use Rattle.std.proofs.Common.{rules, arith, List, [], ◌∙◌, ap, sym, Some}
+use Rattle.std.proofs.Common.{rules, List, [], ◌∙◌, ap, sym, Some, refl}
 use Rattle.tokens.specs.declared.vocabulary.Kind.TheVariants as kind
 use Rattle.tokens.specs.Token.{toks_of, same_kind}
 use Rattle.syntax.specs.Parser.{take}
-use Rattle.syntax.specs.Exact.{item, section_behind, going_on, put_before, if_deed, while_deed}
-use Rattle.trees.specs.Trees.{Deed, Item, item_of, items_of}
+use Rattle.syntax.specs.Exact.{marked, deed, item, section_behind, closing, going_on, put_before, if_deed, while_deed}
+use Rattle.trees.specs.Trees.{Deed, Item, deed_of, item_of, items_of}
 use Rattle.syntax.proofs.Exits.{refused}
-use Rattle.trees.proofs.Folds.{deed_of-Skip, deed_of-Return, deed_of-If, deed_of-While}
-use Rattle.syntax.proofs.Goings.{sections_start, sections_no_start, sections_go_on, sections_refused, if_no_yes, if_no_no, if_no_end, if_whole, while_no_body, while_no_end, while_whole, deed_begins}
+use Rattle.syntax.proofs.Closings.{closed_seen}
+use Rattle.trees.proofs.Folds.{item_is, deed_of-Skip, deed_of-Return, deed_of-If, deed_of-While}
+use Rattle.syntax.proofs.Goings.{sections_start, sections_no_start, sections_go_on, sections_refused, item_no_mark, item_no_deed, item_whole, deed_calls, deed_assigns, if_no_yes, if_no_no, if_no, while_no_body, while_body, deed_begins}
 use Rattle.syntax.proofs.Loops.{pushed}
 use Rattle.syntax.proofs.reader.Reader.+statements.Goals as goal
 
@@ -23,21 +24,12 @@ branch-returns-in_err-no-clause-gives g t c =
     (if_no_no (toks_of c.args.tokens.now) c.in_ok-side.ensures.gives c.in_ok-yes.ensures.gives)
     c.in_err-no.ensures.gives
 
-pub branch-returns-in_err-rest-clause-gives : goal.branch-returns-in_err-rest-clause-gives
-branch-returns-in_err-rest-clause-gives g t c =
-    refused _ c.from_residual-in_err-rest.result _ (take kind.Fi (toks_of c.in_ok-no.ended.now)) _
-    c.from_residual-in_err-rest.ensures.1
-    (if_no_end (toks_of c.args.tokens.now) c.in_ok-side.ensures.gives c.in_ok-yes.ensures.gives
-    c.in_ok-no.ensures.gives) c.in_err-rest.ensures.gives
-
 pub branch-returns-clause-gives : goal.branch-returns-clause-gives
 branch-returns-clause-gives g t c =
-    if_whole (toks_of c.args.tokens.now) c.in_ok-side.ensures.gives c.in_ok-yes.ensures.gives c.in_ok-no.ensures.gives c.in_ok-rest.ensures.gives
-    ∙ ap (λ (d : Deed). Some (d, toks_of c.in_ok-rest.rest.now)) (sym (deed_of-If c.in_ok-side.side c.in_ok-yes.yes c.in_ok-no.no))
-
-pub branch-returns-clause-shorter : goal.branch-returns-clause-shorter
-branch-returns-clause-shorter g t c =
-    omega (arith, c.in_ok-side.ensures.shorter, c.in_ok-yes.ensures.shorter, c.in_ok-no.ensures.shorter, c.in_ok-rest.ensures.shorter)
+    closed_seen deed_of _ kind.Fi c.closed.result _ _
+    (if_no (toks_of c.args.tokens.now) c.in_ok-side.ensures.gives c.in_ok-yes.ensures.gives c.in_ok-no.ensures.gives
+    ∙ ap (λ (d : Deed). closing kind.Fi d (toks_of c.in_ok-no.ended.now)) (sym (deed_of-If c.in_ok-side.side c.in_ok-yes.yes c.in_ok-no.no)))
+    c.closed.ensures.gives
 
 pub core-returns-in-Skip-clause-gives : goal.core-returns-in-Skip-clause-gives
 unfolding same_kind if_deed while_deed
@@ -87,17 +79,12 @@ repeat-returns-in_err-body-clause-gives g t c =
     c.from_residual-in_err-body.ensures.1
     (while_no_body (toks_of c.args.tokens.now) c.in_ok-side.ensures.gives) c.in_err-body.ensures.gives
 
-pub repeat-returns-in_err-rest-clause-gives : goal.repeat-returns-in_err-rest-clause-gives
-repeat-returns-in_err-rest-clause-gives g t c =
-    refused _ c.from_residual-in_err-rest.result _ (take kind.Od (toks_of c.in_ok-body.ended.now)) _
-    c.from_residual-in_err-rest.ensures.1
-    (while_no_end (toks_of c.args.tokens.now) c.in_ok-side.ensures.gives c.in_ok-body.ensures.gives)
-    c.in_err-rest.ensures.gives
-
 pub repeat-returns-clause-gives : goal.repeat-returns-clause-gives
 repeat-returns-clause-gives g t c =
-    while_whole (toks_of c.args.tokens.now) c.in_ok-side.ensures.gives c.in_ok-body.ensures.gives c.in_ok-rest.ensures.gives
-    ∙ ap (λ (d : Deed). Some (d, toks_of c.in_ok-rest.rest.now)) (sym (deed_of-While c.in_ok-side.side c.in_ok-body.body))
+    closed_seen deed_of _ kind.Od c.closed.result _ _
+    (while_body (toks_of c.args.tokens.now) c.in_ok-side.ensures.gives c.in_ok-body.ensures.gives
+    ∙ ap (λ (d : Deed). closing kind.Od d (toks_of c.in_ok-body.ended.now)) (sym (deed_of-While c.in_ok-side.side c.in_ok-body.body)))
+    c.closed.ensures.gives
 
 pub statements-loop-rest-init : goal.statements-loop-rest-init
 statements-loop-rest-init g t c = record {
@@ -127,3 +114,39 @@ statements-returns-in_err-next-clause-gives g t c =
     c.from_residual-in_err-next.ensures.1
     (λ none. c.loop-rest.invariant.whole ∙ sections_refused (items_of c.loop-rest.list.items) (toks_of
     c.loop-rest.rest.now) (sym c.begins_statement.ensures ∙ c.loop-rest-test.true) none) c.in_err-next.ensures.gives
+
+pub core-returns-in-Id-clause-gives : goal.core-returns-in-Id-clause-gives
+core-returns-in-Id-clause-gives g t c =
+    rw (deed_calls c.args.tokens.now c.in-Some.others.now c.in-Some.first.now c.in-Some.ensures.cases.0
+    c.in-Id.is (sym c.begins.ensures ∙ c.if-begins.true)) c.calling.ensures.gives
+
+pub core-returns-in-Id-2-clause-gives : goal.core-returns-in-Id-2-clause-gives
+core-returns-in-Id-2-clause-gives g t c =
+    rw (deed_assigns c.args.tokens.now c.in-Some.others.now c.in-Some.first.now c.in-Some.ensures.cases.0
+    c.in-Id.is (sym c.begins.ensures ∙ c.if-begins.false)) c.assignment.ensures.gives
+
+pub statement-returns-in_err-label-clause-gives : goal.statement-returns-in_err-label-clause-gives
+statement-returns-in_err-label-clause-gives g t c =
+    refused _ c.from_residual.result _ (marked (toks_of c.args.tokens.now)) _ c.from_residual.ensures.1
+    (item_no_mark (toks_of c.args.tokens.now)) c.in_err-label.ensures.gives
+
+pub statement-returns-in_err-core-clause-gives : goal.statement-returns-in_err-core-clause-gives
+statement-returns-in_err-core-clause-gives g t c =
+    refused _ c.from_residual-in_err-core.result _ (deed (toks_of c.in_ok-label.others.now)) _
+    c.from_residual-in_err-core.ensures.1
+    (item_no_deed (toks_of c.args.tokens.now) c.in_ok-label.ensures.gives) c.in_err-core.ensures.gives
+
+pub statement-returns-clause-gives : goal.statement-returns-clause-gives
+statement-returns-clause-gives g t c =
+    item_whole (toks_of c.args.tokens.now) c.in_ok-label.ensures.gives c.in_ok-core.ensures.gives
+    ∙ ap (λ (i : Item). Some (i, toks_of c.in_ok-core.rest.now)) (sym (item_is _))
+
+pub block-returns-in_err-inside-clause-gives : goal.block-returns-in_err-inside-clause-gives
+unfolding section_behind
+block-returns-in_err-inside-clause-gives g t c =
+    refused _ c.from_residual.result _ (take c.args.word (toks_of c.args.tokens.now)) _ c.from_residual.ensures.1
+    (λ none. rw none refl) c.in_err-inside.ensures.gives
+
+pub block-returns-clause-gives : goal.block-returns-clause-gives
+unfolding section_behind
+block-returns-clause-gives g t c = rw c.in_ok-inside.ensures.gives c.statements.ensures.gives

@@ -1,5 +1,5 @@
 use Rattle.syntax.proofs.Parts.{strict_name}
 use Rattle.syntax.proofs.reader.Reader.declaration.Goals as goal
 
-pub list-requires : goal.list-requires
-list-requires g c = strict_name
+pub listed-requires : goal.listed-requires
+listed-requires g c = strict_name
