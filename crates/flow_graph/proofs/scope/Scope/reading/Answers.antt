@@ -1,5 +1,5 @@
 -- A bit is read, or 0 for what is declared nowhere.
-use Rattle.std.proofs.Common.{◌∷◌, [], false, sym, ◌∙◌, ap, subst}
+use Rattle.std.proofs.Common.{◌∷◌, [], false, sym, ◌∙◌, subst}
 use Rattle.flow_graph.specs.Located.{read_of}
 use Rattle.flow_graph.specs.Postfix.{Evaluates}
 use Rattle.flow_graph.specs.declared.postfix.Step.TheVariants.{Read, Constant}
