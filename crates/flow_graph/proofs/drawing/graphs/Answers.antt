@@ -1,12 +1,12 @@
 -- One graph more is that of the next procedure; at the end there is one of each.
 use Rattle.std.proofs.Common.{◌≡◌, ◌∷◌, [], length, slice_get, refl, sym, ◌∙◌, ap, subst, arith, length-append}
-use Rattle.std.specs.Prelude.{IfOk}
+use Rattle.std.specs.Prelude.{IfOk, codes}
 use Rattle.std.proofs.lemmas.Option.{slice_get_read}
 use Rattle.std.proofs.lemmas.List.{length-map}
-use Rattle.language.specs.Resolve.{meaning_of}
+use Rattle.language.specs.Resolve.{meaning_of, number_of}
 use Rattle.resolved.specs.Narrow.{AllNarrow}
 use Rattle.resolved.proofs.Sequences.{routines_counted, resolving_fit}
-use Rattle.trees.specs.Trees.{tree_of, proc_of}
+use Rattle.trees.specs.Trees.{names_of, tree_of, proc_of}
 use Rattle.flow_graph.specs.Drawing.{Draws}
 use Rattle.flow_graph.proofs.Taking.{ordered}
 use Rattle.flow_graph.proofs.Graphing.{AllDrawn, drawn_more, drawn_graph, has_room}
@@ -52,3 +52,8 @@ returns-clause-graphs g c =
             drawn_graph program q proc graph c.args.sequential.now.resolves c.args.sequential.now.narrow is draws,
       ),
     )
+
+pub returns-clause-bad : goal.returns-clause-bad
+returns-clause-bad g c =
+    c.number_of_name-bad.ensures
+    ∙ ap (λ l. number_of (codes "bad__") (names_of l)) (c.deref.ensures.value ∙ ap (λ z. z.globals.items) c.program-program.ensures)
