@@ -1,15 +1,17 @@
 -- What a pass of the board with a lock for each mailbox has of its seat.
-use Rattle.std.specs.Prelude.{◌≡◌, ℕ, ◌+◌, ◌^◌, ◌<◌, ◌≤◌, Bool, true, [], ◌∷◌, IsSome, length}
+use Rattle.std.specs.Prelude.{◌≡◌, ℕ, ◌+◌, ◌^◌, ◌<◌, ◌≤◌, Bool, true, List, [], ◌∷◌, Option, IsSome, length}
 use mathlib.Core.Option.{some}
 use lib.ListN.{get_elem?}
+use Rattle.atomic_table.specs.Table.{Me}
 use Rattle.atomic_table.specs.Seated.{TableId}
 use Rattle.ticket_lock.specs.declared.hand.Hand.{Hand}
+use Rattle.post_ledger.specs.declared.event.Event.{Event}
 use Rattle.post_ledger.specs.Orders.{own, IsClosed}
 use Rattle.switchboard.specs.declared.knowing.Ground.{Ground}
 use Rattle.switchboard.specs.declared.knowing.Seen.{Seen}
 use Rattle.switchboard.specs.Sights.{State, Sight, Account, IsSound}
 use Rattle.switchboard.specs.Knowing.{unseen, only_seen, hand_at}
-use Rattle.switchboard.specs.PerBox.{IsSized, Seat}
+use Rattle.switchboard.specs.PerBox.{View, IsSized, Seat}
 
 -- the hand has nothing but its share, and has tickets for so many calls
 pub record IsIdle {T : Type 0} (left : ℕ) (h : Hand T) : Type 0 where
