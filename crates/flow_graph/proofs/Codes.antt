@@ -1,14 +1,15 @@
 -- Postfix code put together.
-use Rattle.std.proofs.Common.{◌≡◌, ◌<◌, ◌≤◌, ℕ, suc, ◌+◌, ◌-◌, ◌^◌, min, max, ◌==◌, nat_lt, cond, Bool, true, false, List, [], ◌∷◌, ◌++◌, length, length-append, refl, sym, ◌∙◌, ap, subst, arith, append_assoc, append-nil, pow-suc}
+use Rattle.std.proofs.Common.{◌≡◌, ◌≢◌, ◌<◌, ◌≤◌, ℕ, suc, ◌+◌, ◌-◌, ◌^◌, min, max, ◌==◌, nat_lt, cond, Bool, true, false, List, [], ◌∷◌, ◌++◌, length, length-append, refl, sym, ◌∙◌, ap, subst, arith, append_assoc, append-nil, pow-suc, Option, Some, None}
 use Rattle.std.proofs.Math.Pow.{pow_mono}
-use Rattle.std.proofs.lemmas.Bool.{eqb-true, eqb-false, ltb-true, ltb-false}
-use Rattle.language.specs.Tree.{Expression, two}
+use Rattle.std.proofs.lemmas.Bool.{eq-eqb, ne_eqb, eqb-true, eqb-false, ltb-true, ltb-false}
+use Rattle.language.specs.Tree.{Operator, Expression, const, var, negation, two}
 use Rattle.trees.specs.Trees.{operator_of}
 use Rattle.trees.specs.declared.tree.Op.{Op}
-use Rattle.flow_graph.specs.Located.{worth}
-use Rattle.flow_graph.specs.Postfix.{after_steps, top, IsShallow, need, Puts}
+use Rattle.flow_graph.specs.Located.{worth, read_of}
+use Rattle.flow_graph.specs.Postfix.{after_steps, top, IsShallow, need, Evaluates, Puts}
 use Rattle.flow_graph.specs.declared.postfix.Step.{Step}
-use Rattle.flow_graph.specs.declared.postfix.Step.TheVariants.{Apply, ApplySwapped}
+use Rattle.flow_graph.specs.declared.postfix.Step.TheVariants.{Read, Constant, Not, Apply, ApplySwapped}
+use Rattle.resolved.specs.Limits.{most_places}
 
 -- what two operands need together
 record Together (n m N : ℕ) : Type 0 where
@@ -125,3 +126,58 @@ pub worth_alone : (f : ℕ → Bool) (e : Expression ℕ) (old new : List Step) 
 worth_alone f e old new p none =
     let same : new ≡ p.0 ++ [] = p.1 ∙ ap (λ l. l ++ p.0) none ∙ sym (append-nil p.0) in
     ap (λ l. top (after_steps f l [])) same ∙ ap top (p.2.puts f [] [])
+
+-- what is read needs one value
+pub need_read : (o : Option ℕ) → need (read_of o) ≡ 1
+need_read None = refl
+need_read (Some b) = refl
+
+-- operands that need as much need one more together, and others as much as the one that needs more
+module _ (o : Operator) (a b : Expression ℕ) (n m whole : ℕ) (left : n ≡ need a) (right : m ≡ need b) where
+  pub need_same : n ≡ m → whole ≡ min (n + 1) 4294967295 → whole ≡ need (two o a b)
+  need_same same is =
+      is
+      ∙ ap (λ k. min (k + 1) 4294967295) left
+      ∙ ap (λ f. cond f (min (need a + 1) 4294967295) (max (need a) (need b))) (sym (eq-eqb _ _ (sym left ∙ same ∙ right)))
+
+  pub need_other : n ≢ m → whole ≡ max n m → whole ≡ need (two o a b)
+  need_other other is =
+      is
+      ∙ ap (λ k. max k m) left
+      ∙ ap (max (need a)) right
+      ∙ ap (λ f. cond f (min (need a + 1) 4294967295) (max (need a) (need b))) (sym (ne_eqb _ _ (λ same. other (left ∙ same ∙ sym right))))
+
+-- a bit that is read, and a constant, are the worth of an expression by themselves
+pub bit_read : (b : ℕ) → b < most_places → Evaluates (var b) (Read b ∷ [])
+bit_read b small = record {
+  puts = λ f rest stack. refl;
+  shallow = λ depth rest fits deep. (omega (arith, fits), (small, deep));
+  long = omega arith;
+}
+
+pub constant_read : (b : Bool) → Evaluates (const b) (Constant b ∷ [])
+constant_read b = record {
+  puts = λ f rest stack. refl;
+  shallow = λ depth rest fits deep. (omega (arith, fits), deep);
+  long = omega arith;
+}
+
+-- one step behind others, and the step that turns the top
+pub one_put : (e : Expression ℕ) (old new : List Step) (step : Step) → Evaluates e (step ∷ []) → new ≡ old ++ (step ∷ []) →
+    Puts old new e
+one_put e old new step evaluates is = (step ∷ [], is, evaluates)
+
+pub turned : (e : Expression ℕ) (old mid new : List Step) → Puts old mid e → new ≡ mid ++ (Not ∷ []) →
+    Puts old new (negation e)
+turned e old mid new (x, is_x, p) is = (
+  x ++ (Not ∷ []),
+  is ∙ ap (λ l. l ++ (Not ∷ [])) is_x ∙ append_assoc old x (Not ∷ []),
+  record {
+    puts = λ f rest stack.
+        ap (λ l. after_steps f l stack) (append_assoc x (Not ∷ []) rest) ∙ p.puts f (Not ∷ rest) stack;
+    shallow = λ depth rest fits deep.
+        subst (IsShallow depth) (sym (append_assoc x (Not ∷ []) rest))
+        (p.shallow depth (Not ∷ rest) fits (omega arith, deep));
+    long = omega (arith, p.long, length-append x (Not ∷ []));
+  },
+)

@@ -9,6 +9,7 @@ pub mod Counted
 pub mod Numbered
 pub mod Searching
 pub mod Assignments
+pub mod Later
 pub mod Doing
 pub mod Lowered
 pub mod Statements

@@ -1,7 +1,7 @@
 -- Outputs of truth tables, bit by bit.
 use Rattle.std.proofs.Common.{◌≡◌, ◌<◌, ◌≤◌, ℕ, zero, suc, ◌+◌, ◌-◌, ◌*◌, ◌/◌, ◌%◌, ◌^◌, min, max}
 use Rattle.std.proofs.Common.{◌==◌, cond, not, ◌&&◌, ◌||◌, Bool, true, false, List, [], ◌∷◌, ◌++◌, length, get_or}
-use Rattle.std.proofs.Common.{map, take, set, w64, refl, sym, ◌∙◌, ap, subst, arith}
+use Rattle.std.proofs.Common.{map, take, set, w64, refl, sym, ◌∙◌, ap, subst, arith, append-nil, append_assoc}
 use Rattle.std.specs.Int.{bit_at}
 use Rattle.std.specs.Int.RustNames.{bit_and, bit_or, bit_xor}
 use Rattle.std.proofs.lemmas.Bool.{eqb-true, eqb-false, false≢true}
@@ -171,6 +171,13 @@ reads_slot b s words xs at there right = record {
 pub bits_pushed : (b : ℕ) (xs : List ℕ) → b < most_places → AreBits xs → AreBits (xs ++ (b ∷ []))
 bits_pushed b [] h k = (h, tt)
 bits_pushed b (x ∷ xs) h k = (k.0, bits_pushed b xs h k.1)
+
+-- inputs widen to themselves, and step by step
+pub widens_same : (xs : List ℕ) → Widens xs xs
+widens_same xs = ([], sym (append-nil xs))
+
+pub widens_more : (xs ys zs : List ℕ) → Widens xs ys → Widens ys zs → Widens xs zs
+widens_more xs ys zs (more, is) (others, are) = (more ++ others, are ∙ ap (λ l. l ++ others) is ∙ append_assoc xs more others)
 
 -- ---- expressions
 

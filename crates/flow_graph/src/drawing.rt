@@ -11,6 +11,7 @@ ghost use Rattle.flow_graph.specs.Graphs.{AreDrawnFrom};
 use crate::flow::Flow;
 use crate::graph::{Graph, Graphs};
 use crate::lowering::{Lowering, begin};
+use crate::put::{push, put};
 use crate::scope::Scope;
 use language::EXIT;
 use resolved::Sequential;
@@ -38,7 +39,7 @@ fn graph<N: Allocator, A: Allocator + Clone>(
         body,
     };
     let mut flows = Vec::new(alloc.clone()?);
-    flows.push(Flow::Return)?;
+    push(Flow::Return, &mut flows)?;
     lowering.block(body, EXIT, &mut flows)?;
     Ok(Graph {
         flows,
@@ -58,7 +59,7 @@ pub fn graphs<N: Allocator, A: Allocator + Clone>(
     let program = sequential.program();
     let mut graphs = Vec::new(alloc.clone()?);
     for proc in &program.procs {
-        graphs.push(graph(alloc, program, proc)?)?;
+        put(graph(alloc, program, proc), &mut graphs)?;
     }
     let bad = number_of_name(&program.globals, "bad__");
     Ok(Graphs { graphs, bad })

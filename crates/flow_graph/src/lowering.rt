@@ -113,7 +113,7 @@ impl<'a, N: Allocator, A: Allocator + Clone> Lowering<'a, N, A> {
         }
         let mut arguments = Vec::new(self.alloc.clone()?);
         for e in es {
-            arguments.push(self.scope.formula(self.alloc, e)?)?;
+            put(self.scope.formula(self.alloc, e), &mut arguments)?;
         }
         Ok(Flow::Call(Call {
             callee: callee as u8,

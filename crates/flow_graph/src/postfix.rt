@@ -1,16 +1,20 @@
 //! Postfix code for expressions.
 
-ghost use Rattle.std.specs.Prelude.{◌≡◌, [], IfOk};
+ghost use Rattle.std.specs.Prelude.{◌≡◌, ◌∷◌, [], IfOk};
+ghost use Rattle.language.specs.Tree.{var};
+ghost use Rattle.trees.specs.Trees.{name_of};
 ghost use Rattle.flow_graph.specs.Bits.{bit_of};
+ghost use Rattle.flow_graph.specs.Located.{located};
 ghost use Rattle.flow_graph.specs.Postfix.{IsShallow, IsShallow-prop, IsStepped, after_steps, top};
-ghost use Rattle.flow_graph.specs.Postfix.{need, Puts, AreCodeOf};
-ghost use Rattle.flow_graph.specs.Views.{over_bits, IsSmall};
+ghost use Rattle.flow_graph.specs.Postfix.{need, Evaluates, Puts, AreCodeOf};
+ghost use Rattle.flow_graph.specs.Views.{over_bits, scope_seen, IsSmall};
 
+use crate::put::push;
 use crate::scope::Scope;
 use crate::word::BITS;
 use language::Word;
 use std::alloc::{AllocError, Allocator};
-use trees::{Expr, Op};
+use trees::{Expr, Name, Op};
 
 /// One step of postfix code, over a stack of values.
 #[derive(Clone, Copy, Debug)]
@@ -90,34 +94,41 @@ impl<'a, N: Allocator> Scope<'a, N> {
         }
     }
 
+    /// The step that reads a variable: 0 where it is declared nowhere.
+    fn reading(&self, x: &Name<N>) -> Step
+        requires { IsSmall self.now }
+        ensures { Evaluates (located (scope_seen self.now) (var (name_of x.now))) (result ∷ []) }
+    {
+        match self.bit(x) {
+            Some(bit) => Step::Read(bit),
+            None => Step::Constant(false),
+        }
+    }
+
     /// Puts the steps of an expression behind others.
     fn put<A: Allocator>(&self, e: &Expr<N>, steps: &mut Vec<Step, A>) -> Result<(), AllocError>
         requires { IsSmall self.now }
         ensures { IfOk result (λ _. Puts steps.old.items steps.new.items (over_bits self.now e.now)) }
     {
         match e {
-            Expr::Const(b) => steps.push(Step::Constant(*b))?,
-            Expr::Var(x) => match self.bit(x) {
-                Some(b) => steps.push(Step::Read(b))?,
-                None => steps.push(Step::Constant(false))?,
-            },
+            Expr::Const(b) => push(Step::Constant(*b), steps),
+            Expr::Var(x) => push(self.reading(x), steps),
             Expr::Not(a) => {
                 self.put(a, steps)?;
-                steps.push(Step::Not)?
+                push(Step::Not, steps)
             }
             Expr::Two(op, a, b) => {
                 if self.need(a) < self.need(b) {
                     self.put(b, steps)?;
                     self.put(a, steps)?;
-                    steps.push(Step::ApplySwapped(*op))?
+                    push(Step::ApplySwapped(*op), steps)
                 } else {
                     self.put(a, steps)?;
                     self.put(b, steps)?;
-                    steps.push(Step::Apply(*op))?
+                    push(Step::Apply(*op), steps)
                 }
             }
         }
-        Ok(())
     }
 
     /// An expression as postfix code.

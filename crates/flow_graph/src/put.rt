@@ -12,6 +12,13 @@ pub(crate) fn put<T: Drop, A: Allocator>(
 ) -> Result<(), AllocError>
     ensures { IfOk result (λ _. (x : T) × (made ≡ Ok x) × (list.new.items ≡ list.old.items ++ x ∷ [])) }
 {
-    list.push(made?)?;
+    push(made?, list)
+}
+
+/// Puts a value behind others.
+pub(crate) fn push<T: Drop, A: Allocator>(value: T, list: &mut Vec<T, A>) -> Result<(), AllocError>
+    ensures { IfOk result (λ _. list.new.items ≡ list.old.items ++ value ∷ []) }
+{
+    list.push(value)?;
     Ok(())
 }

@@ -10,7 +10,7 @@ use std::alloc::Allocator;
 use trees::{Name, Proc, declares, number_of_name};
 
 /// The names in whose scope the statements of a procedure stand: at most 64 variables, and the procedures.
-#[derive(Clone, Copy)]
+#[derive(Drop)]
 pub(crate) struct Scope<'a, N: Allocator> {
     pub(crate) globals: &'a [Name<N>],
     pub(crate) formals: &'a [Name<N>],

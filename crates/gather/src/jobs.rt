@@ -132,6 +132,20 @@ where
     }
 }
 
+/// Two empty lists with room for so many. It is generic in what they hold, so that no caller has the drop of the first where
+/// memory is refused for the second.
+fn rooms<T: Drop, U: Drop, A: Allocator + Copy>(
+    alloc: A,
+    count: usize,
+) -> Result<(Vec<T, A>, Vec<U, A>), AllocError>
+    ensures { IfOk result (λ r. (r.0.items ≡ []) × (count ≤ vec_capacity r.0)
+        × (r.1.items ≡ []) × (count ≤ vec_capacity r.1)) }
+{
+    let first = Vec::with_capacity(alloc, count)?;
+    let second = Vec::with_capacity(alloc, count)?;
+    Ok((first, second))
+}
+
 /// Runs all jobs, each in a thread of its own, until all have ended.
 pub(crate) fn run_all<R: Wait + Threads + Sync, J: Job + Send, A: Allocator + Copy>(
     rt: &R,
@@ -143,8 +157,7 @@ where
     requires runs { AllCanRun J.can_run jobs.items }
     ensures { IfOk result (λ bs. AreGiven J.gives jobs.items bs.items) }
 {
-    let mut begun = Vec::with_capacity(alloc, jobs.len())?;
-    let mut backs = Vec::with_capacity(alloc, jobs.len())?;
+    let (mut begun, mut backs) = rooms(alloc, jobs.len())?;
     let refused = AtomicU64::new(u64::MAX);
     let first = &refused;
     Ok(thread::scope(

@@ -1,6 +1,7 @@
 -- One `?` more doubles the choices, of which there are 2^64 at most.
-use Rattle.std.proofs.Common.{suc, ap, arith, pow-suc}
-use Rattle.flow_graph.specs.Assignments.{any_of}
+use Rattle.std.proofs.Common.{◌≡◌, suc, ◌^◌, refl, ◌∙◌, ap, arith, pow-suc}
+use Rattle.std.proofs.lemmas.List.{drop_all}
+use Rattle.flow_graph.specs.Assignments.{any_of, anys}
 use Rattle.flow_graph.proofs.Assignments.{anys_step, one_more_fits}
 use Rattle.flow_graph.proofs.assignment.last_choice.Goals as goal
 use Rattle.flow_graph.proofs.assignment.last_choice.Goals.{in-Any, in-Value}
@@ -25,3 +26,13 @@ loop-write-preserved g c =
       | in-Any w ↦ let one = ap any_of w.in-Any.is in (suc n, omega (arith, w.last-is, c.loop-write.invariant.1, pow-suc 2 n), omega (arith, c.loop-write.invariant.2, step, one))
       | in-Value w ↦ let zero = ap any_of w.in-Value.is in (n, omega (arith, w.last-is, c.loop-write.invariant.1), omega (arith, c.loop-write.invariant.2, step, zero))
     ]
+
+pub loop-write-init : goal.loop-write-init
+loop-write-init g c = (0, refl, omega arith)
+
+pub returns : goal.returns
+returns g c =
+    let n = c.loop-write.invariant.0 in
+    let none = ap anys (drop_all c.loop-write.write-index c.args.writes.now c.loop-write-test.false) in
+    let all : n ≡ anys c.args.writes.now = omega (arith, c.loop-write.invariant.2, none) in
+    c.loop-write.invariant.1 ∙ ap (λ k. 2 ^ k) all

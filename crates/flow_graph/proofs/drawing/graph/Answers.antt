@@ -30,8 +30,8 @@ returns g c =
     let p = c.args.proc.now in
     let s = names_in t p in
     let body = c.as_slice-body.ensures.value in
-    let old = c.push.new.self.items in
-    let start : old ≡ flow.Return ∷ [] = c.in_ok-push.ensures.items ∙ ap (λ l. l ++ (flow.Return ∷ [])) c.new-flows.ensures.items in
+    let old = c.push.new.list.items in
+    let start : old ≡ flow.Return ∷ [] = c.in_ok-push.ensures ∙ ap (λ l. l ++ (flow.Return ∷ [])) c.new-flows.ensures.items in
     let lowered = c.in_ok-block.ensures in
     let small = c.block.new.flows.small in
     let one = ap length start in (
@@ -42,3 +42,6 @@ returns g c =
       drawn_flows _ _ _ _ _ _ _ _ _ _ old c.block.new.flows.items c.as_slice.ensures.value c.as_slice-2.ensures.value c.as_slice-3.ensures.value c.as_slice-4.ensures.value body start
           (lowered.1 done refl (omega (arith, lowered.0, small, one), omega (arith, lowered.0, small, one))),
     )
+
+pub overflow_cast-result : goal.overflow_cast-result
+overflow_cast-result g c = omega (arith, c.requires.0, c.len.ensures, c.args.program.now.globals.ok.0)

@@ -1,11 +1,13 @@
 -- One graph more is that of the next procedure; at the end there is one of each.
 use Rattle.std.proofs.Common.{◌≡◌, ◌∷◌, [], length, slice_get, refl, sym, ◌∙◌, ap, subst, arith, length-append}
+use Rattle.std.specs.Prelude.{IfOk, codes}
 use Rattle.std.proofs.lemmas.Option.{slice_get_read}
 use Rattle.std.proofs.lemmas.List.{length-map}
-use Rattle.language.specs.Resolve.{meaning_of}
+use Rattle.language.specs.Resolve.{meaning_of, number_of}
 use Rattle.resolved.specs.Narrow.{AllNarrow}
 use Rattle.resolved.proofs.Sequences.{routines_counted, resolving_fit}
-use Rattle.trees.specs.Trees.{tree_of, proc_of}
+use Rattle.trees.specs.Trees.{names_of, tree_of, proc_of}
+use Rattle.flow_graph.specs.Drawing.{Draws}
 use Rattle.flow_graph.proofs.Taking.{ordered}
 use Rattle.flow_graph.proofs.Graphing.{AllDrawn, drawn_more, drawn_graph, has_room}
 use Rattle.flow_graph.proofs.drawing.graphs.Goals as goal
@@ -22,12 +24,13 @@ graph-requires g c =
 
 pub loop-proc-preserved : goal.loop-proc-preserved
 loop-proc-preserved g c =
-    let pushed = c.in_ok-push.ensures.items in
+    let made = c.in_ok-put.ensures in
     let proc = c.proc-item.result in
     let is = slice_get_read c.deref-proc-items.result.now _ c.loop-proc.proc-index proc refl c.loop-proc-test.true c.proc-item.is in (
-      omega (arith, c.loop-proc.invariant.0, ap length pushed, length-append c.loop-proc.graphs.items (c.in_ok-graph.field-0 ∷ [])),
-      drawn_more c.program-program.result.now c.deref-proc-items.result.now c.loop-proc.graphs.items c.push.new.self.items c.loop-proc.proc-index proc c.in_ok-graph.field-0
-          c.loop-proc.invariant.1 c.loop-proc.invariant.0 is c.in_ok-graph.ensures pushed,
+      omega (arith, c.loop-proc.invariant.0, ap length made.2, length-append c.loop-proc.graphs.items (made.0 ∷ [])),
+      drawn_more c.program-program.result.now c.deref-proc-items.result.now c.loop-proc.graphs.items c.put.new.list.items c.loop-proc.proc-index proc made.0
+          c.loop-proc.invariant.1 c.loop-proc.invariant.0 is
+          (subst (λ r. IfOk r (λ g. Draws c.program-program.result.now proc g)) made.1 c.graph.ensures) made.2,
     )
 
 pub returns-clause-graphs : goal.returns-clause-graphs
@@ -49,3 +52,8 @@ returns-clause-graphs g c =
             drawn_graph program q proc graph c.args.sequential.now.resolves c.args.sequential.now.narrow is draws,
       ),
     )
+
+pub returns-clause-bad : goal.returns-clause-bad
+returns-clause-bad g c =
+    c.number_of_name-bad.ensures
+    ∙ ap (λ l. number_of (codes "bad__") (names_of l)) (c.deref.ensures.value ∙ ap (λ z. z.globals.items) c.program-program.ensures)

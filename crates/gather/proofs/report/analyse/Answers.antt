@@ -1,6 +1,5 @@
 -- From a board that is opened to what its workers have found.
-use Rattle.std.proofs.Common.{◌^◌, ◌∙◌, arith, map}
-use Rattle.std.proofs.lemmas.List.{length-map}
+use Rattle.std.proofs.Common.{◌^◌, ◌∙◌, map}
 use Rattle.std.proofs.lemmas.Result.{err_from_is_err_and}
 use Rattle.summaries.proofs.Steps.{opening_fits}
 use Rattle.gather.proofs.Crews.{new_crew, all_passes}

@@ -1,8 +1,9 @@
 -- Each argument is one bit more of the entry.
 use Rattle.resolved.specs.Limits.{most_places}
-use Rattle.std.proofs.Common.{◌∷◌, ◌+◌, ◌∙◌, ◌<◌, ap, sym, drop, arith}
-use Rattle.std.proofs.lemmas.List.{drop_more}
-use Rattle.flow_graph.specs.Bits.{worth_of}
+use Rattle.std.proofs.Common.{◌≡◌, ◌∷◌, ◌+◌, ◌*◌, ◌^◌, ◌∙◌, ◌<◌, ap, sym, map, drop, arith}
+use Rattle.std.proofs.lemmas.List.{drop_more, drop_all}
+use Rattle.flow_graph.specs.Bits.{coded, worth_of}
+use Rattle.flow_graph.specs.Calls.{entry_of}
 use Rattle.flow_graph.specs.Formulas.{says}
 use Rattle.flow_graph.proofs.Calls.{argument_step, entry_fits}
 use Rattle.flow_graph.proofs.Stacks.{byte_worth}
@@ -38,3 +39,22 @@ loop-argument-preserved g c =
     let (whole, below) = argument_step (λ f. says f c.args.values) (drop i xs) (drop (i + 1) xs) c.argument-item.result c.loop-argument.entry c.loop-argument.bit _ _
     c.loop-argument.invariant.0 next (byte_worth c.value.result ∙ ap worth_of c.value.ensures) c.loop-argument.invariant.1 bit in
     (whole, below, omega (arith, c.loop-argument.invariant.2))
+
+pub overflow_shl-entry : goal.overflow_shl-entry
+overflow_shl-entry g c =
+    omega (
+      arith,
+      c.loop-argument.invariant.2,
+      c.loop-argument-test.true,
+      c.as_slice-argument-items.ensures.len,
+      c.args.self.now.fits,
+    )
+
+pub returns : goal.returns
+returns g c =
+    let xs = c.as_slice-argument-items.result.now in
+    let all = ap (λ l. coded (map (λ f. says f c.args.values) l)) (drop_all c.loop-argument.argument-index xs c.loop-argument-test.false) in
+    let none : c.loop-argument.entry + 2 ^ c.loop-argument.bit * 0 ≡ c.loop-argument.entry = omega arith in
+    sym (ap (λ n. c.loop-argument.entry + 2 ^ c.loop-argument.bit * n) all ∙ none)
+    ∙ c.loop-argument.invariant.0
+    ∙ ap (λ l. entry_of c.args.self.now.globals l c.args.values) c.as_slice-argument-items.ensures.value

@@ -1,12 +1,14 @@
 -- Each argument is compiled; a call that no run makes is none.
-use Rattle.std.proofs.Common.{◌≡◌, ◌+◌, ◌++◌, ◌∷◌, [], drop, length, map, inl, inr, sym, ◌∙◌, ap, arith, length-append}
+use Rattle.std.proofs.Common.{◌≡◌, ◌+◌, ◌++◌, ◌∷◌, [], drop, length, map, inl, inr, sym, ◌∙◌, ap, subst, arith, length-append}
+use Rattle.std.specs.Prelude.{IfOk}
 use Rattle.std.proofs.lemmas.List.{drop_more, drop_all, length-map, append-nil}
 use Rattle.language.specs.Value.{value_of, values_of}
 use Rattle.language.specs.Resolve.{number_of, resolve_expression}
 use Rattle.trees.specs.Trees.{name_of, expr_of, exprs_of, proc_of, procs_of}
 use Rattle.flow_graph.specs.Bits.{coded}
-use Rattle.flow_graph.specs.Formulas.{says}
+use Rattle.flow_graph.specs.Formulas.{says, Says}
 use Rattle.flow_graph.specs.Lowering.{lowering_scope}
+use Rattle.flow_graph.specs.Views.{scope_seen}
 use Rattle.flow_graph.proofs.Doing.{does_no_call, does_calls, more_said}
 use Rattle.flow_graph.proofs.lowering.Lowering.call.Goals as goal
 
@@ -31,16 +33,19 @@ returns-then-es-self g c =
 
 pub loop-e-preserved : goal.loop-e-preserved
 loop-e-preserved g c =
-    let s = lowering_scope c.args.self.now in
+    let me = c.args.self.now in
+    let s = lowering_scope me in
     let es = c.args.es.now in
     let i = c.loop-e.e-index in
     let old = c.loop-e.arguments.items in
-    let f = c.in_ok-formula.field-0 in
+    let made = c.in_ok-put.ensures in
+    let f = made.0 in
+    let says_so = subst (λ r. IfOk r (λ f. Says f (scope_seen me.scope) (expr_of c.e-item.result))) made.1 c.formula.ensures in
     let next = drop_more es i c.e-item.result c.loop-e-test.true ∙ ap (λ x. x ∷ drop (i + 1) es) (sym c.e-item.is) in (
-      omega (arith, c.loop-e.invariant.0, ap length c.in_ok-push.ensures.items, length-append old (f ∷ [])),
+      omega (arith, c.loop-e.invariant.0, ap length made.2, length-append old (f ∷ [])),
       λ gs ls wide.
-          ap (λ l. map (λ f. says f (coded (gs ++ ls))) l ++ values_of gs ls (map (resolve_expression s) (exprs_of (drop (i + 1) es)))) c.in_ok-push.ensures.items
-          ∙ more_said (λ f. says f (coded (gs ++ ls))) old f (value_of gs ls (resolve_expression s (expr_of c.e-item.result))) (values_of gs ls (map (resolve_expression s) (exprs_of (drop (i + 1) es)))) (c.in_ok-formula.ensures gs ls wide)
+          ap (λ l. map (λ f. says f (coded (gs ++ ls))) l ++ values_of gs ls (map (resolve_expression s) (exprs_of (drop (i + 1) es)))) made.2
+          ∙ more_said (λ f. says f (coded (gs ++ ls))) old f (value_of gs ls (resolve_expression s (expr_of c.e-item.result))) (values_of gs ls (map (resolve_expression s) (exprs_of (drop (i + 1) es)))) (says_so gs ls wide)
           ∙ ap (λ l. map (λ f. says f (coded (gs ++ ls))) old ++ values_of gs ls (map (resolve_expression s) (exprs_of l))) (sym next)
           ∙ c.loop-e.invariant.1 gs ls wide,
     )

@@ -1,8 +1,8 @@
 -- The table owes no message, or the worker stops.
-use Rattle.std.proofs.Common.{subst}
+use Rattle.std.proofs.Common.{◌∙◌, subst}
 use Rattle.std.specs.Bool.{OnFalse}
 use Rattle.summaries.specs.Tables.{IsQuiet}
-use Rattle.procedure_worker.proofs.Works.{complete_ends, stopped_ends}
+use Rattle.procedure_worker.proofs.Works.{complete_ends, stopped_ends, job_to_pass}
 use Rattle.procedure_worker.proofs.worker.Worker.deal.Goals as goal
 
 pub returns-in-Ok-false : goal.returns-in-Ok-false
@@ -19,3 +19,26 @@ returns-in-Err g c =
     stopped_ends g.start g.S.PathSet.members c.args.job c.in-Err.why c.give_up.result
     (g.B.Board.sight c.answer.new.pass)
     (g.B.Board.sight c.give_up.new.pass) c.answer.new.self c.in-Err.ensures.stopped c.give_up.ensures
+
+pub loop-init : goal.loop-init
+loop-init g c = (c.requires.1.1.1.1.1.1.1.1.1.1, tt, tt)
+
+pub loop-preserved : goal.loop-preserved
+loop-preserved g c = (c.in-Ok-true.ensures.dealing, tt, tt)
+
+pub answer-requires : goal.answer-requires
+answer-requires g c = λ κs out. (out.0, (out.1.0, (out.1.1.0, (out.1.1.1.0, (out.1.1.1.1.0, (out.1.1.1.1.1.0, (out.1.1.1.1.1.1.0, (out.1.1.1.1.1.1.1.0, (out.1.1.1.1.1.1.1.1, (c.requires.1.1.1.1.1.1.1.1.1.0, c.loop.invariant.0))))))))))
+
+pub give_up-requires : goal.give_up-requires
+give_up-requires g c = record {
+  board = c.in-Err.ensures.stopped.stands.pass.board ∙ c.requires.1.1.1.1.1.1.1.1.1.0;
+  job = job_to_pass g.start (g.B.Board.sight c.answer.new.pass) c.args.job c.in-Err.ensures.stopped.stands.pass
+      c.in-Err.ensures.stopped.has;
+}
+
+pub complete-requires : goal.complete-requires
+complete-requires g c = record {
+  board = c.in-Ok-false.ensures.dealing.sent.0.stands.pass.board ∙ c.requires.1.1.1.1.1.1.1.1.1.0;
+  job = job_to_pass g.start (g.B.Board.sight c.answer.new.pass) c.args.job
+      c.in-Ok-false.ensures.dealing.sent.0.stands.pass c.in-Ok-false.ensures.dealing.has;
+}

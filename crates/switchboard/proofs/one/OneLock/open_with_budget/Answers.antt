@@ -2,6 +2,7 @@
 use Rattle.std.proofs.Common.{◌≡◌, ◌+◌, ◌∷◌, ◌++◌, [], true, length, suc, sym, ap, ◌∙◌, subst, arith, append_assoc, length-append}
 use Rattle.std.proofs.lemmas.List.{length_push}
 use Rattle.std.specs.Vec.Iter.{into_iter_items}
+use Rattle.ticket_lock.specs.Lanes.{fresh_lanes}
 use Rattle.switchboard.specs.Sights.{fresh_sights}
 use Rattle.switchboard.specs.Passes.{IsPass}
 use Rattle.switchboard.proofs.Opening.{fresh_next, fresh_count, sights_push, sights_count, sight_fresh, pass_fresh}
@@ -50,3 +51,11 @@ returns g c =
     let n = length c.loop-lane.yielded in
     let all : n ≡ c.args.boxes = omega (arith, ap length c.loop-lane.invariant.0, length-append c.loop-lane.yielded (into_iter_items it), fresh_count lock.id c.args.budget lock.opening 0 c.args.boxes, c.in-None.ensures.steps.0, it.rest.ok.0) in
     (c.in-Ok.ensures.ok.1, c.loop-lane.invariant.1 ∙ (λ i. fresh_sights lock.id c.args.budget (s i) 0 (all i)))
+
+pub loop-lane-init : goal.loop-lane-init
+loop-lane-init g c = (
+  c.into_iter-lane-iterator.ensures.into_iter_gives.0 ∙ c.in-Ok.ensures.ok.2
+      ∙ ap (λ b. fresh_lanes c.in-Ok.lock.id c.args.budget b 0 c.args.boxes) (sym c.in-Ok.ensures.ok.0),
+  c.in_ok-passes.ensures.items,
+  omega (arith, c.in_ok-passes.ensures.capacity, c.from.ensures),
+)
