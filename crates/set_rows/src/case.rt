@@ -41,7 +41,12 @@ fn plain(alloc: Global, out: &mut String, line: &str) -> Result<(), AllocError> 
 /// Writes what comes of a case whose allocations are refused in turn.
 fn refused(alloc: Global, out: &mut String, line: &str) -> Result<(), AllocError> {
     match line.split_once(' ') {
-        Some(("many", number)) => write!(out, "{}", takes_each(alloc, first_word(number).0)),
+        Some(("many", number)) => write!(out, "{}", takes_each(alloc, false, first_word(number).0)),
+        Some(("ordered", number)) => write!(
+            out,
+            "{}",
+            takes_each(alloc, true, first_word(number).0)
+        ),
         Some(("nodes", words)) => refused_counts(alloc, out, words),
         _ => write!(out, "{}", keeps_each(alloc)),
     }

@@ -3,9 +3,11 @@
 //! | Line | What is printed under it |
 //! |---|---|
 //! | `set STEPS` | what each step on an empty set answers |
-//! | `many N WIDTH POINTS` | whether both kinds of sets answer alike to N triples in no order, of so many bits at so many points |
+//! | `many N WIDTH POINTS` | whether both kinds of sets answer alike to N triples in no order, of so many bits at so many points, of eight entries |
+//! | `many N WIDTH POINTS TURN` | the same, where eight other entries follow after so many triples each |
 //! | `nodes STEPS` | what each step on an empty set of diagrams answers |
 //! | `each allocation: many N` | whether a set of diagrams takes N triples all the same where each allocation is refused in turn |
+//! | `each allocation: ordered N` | the same of an ordered set |
 //! | `each allocation: set` | whether a set keeps its triples where each allocation is refused in turn |
 //! | `each allocation: nodes 5.2 STEPS` | what comes of `@5.2` after the other steps where each of its allocations is refused in turn |
 //!

@@ -6,15 +6,17 @@ use path_sets::{DiagramEdges, OrderedEdges, PathSet};
 use scarce::Scarce;
 use std::alloc::{AllocError, Allocator, Global};
 
-/// Which path edges: how many, of how many bits, at how many points.
+/// Which path edges: how many, of how many bits, at how many points, and after how many of them others of eight entries follow,
+/// if ever.
 #[derive(Clone, Copy, Debug)]
 struct Shape {
     count: u64,
     width: u32,
     points: u64,
+    turn: u64,
 }
 
-/// The path edge of a number, in no order, of one of eight entries.
+/// The path edge of a number, in no order, of one of the eight entries whose turn it is.
 fn scattered(shape: Shape, number: u64) -> (u64, usize, u64) {
     let mixed = number.wrapping_mul(0x9e37_79b9_7f4a_7c15);
     let values = mixed ^ mixed >> 29;
@@ -23,7 +25,8 @@ fn scattered(shape: Shape, number: u64) -> (u64, usize, u64) {
         width => values & (1u64 << (width % 64)).wrapping_sub(1),
     };
     let point = (mixed >> 40).checked_rem(shape.points).unwrap_or(0);
-    (mixed >> 61, point as usize, kept)
+    let turns = number.checked_div(shape.turn).unwrap_or(0);
+    (turns << 3 | mixed >> 61, point as usize, kept)
 }
 
 /// Inserts, again where memory is refused.
@@ -92,25 +95,33 @@ fn are_alike<A: Allocator + Copy>(
 pub fn agree(alloc: Global, out: &mut String, numbers: &str) -> Result<(), AllocError> {
     let (count, rest) = first_word(numbers);
     let (width, rest) = first_word(rest);
+    let (points, rest) = first_word(rest);
     let shape = Shape {
         count,
         width: (width % 65) as u32,
-        points: first_word(rest).0,
+        points,
+        turn: first_word(rest).0,
     };
     let alike = are_alike(alloc, alloc, shape)?;
     write!(out, "{}", if alike { "agree" } else { "differ" })
 }
 
-/// Whether a set of diagrams takes so many edges all the same, whichever of its allocations is refused.
-pub fn takes_each(alloc: Global, count: u64) -> &'static str {
+/// Whether a set of diagrams, or an ordered one, takes so many edges all the same, whichever of its allocations is refused.
+pub fn takes_each(alloc: Global, ordered: bool, count: u64) -> &'static str {
     let shape = Shape {
         count,
         width: 10,
         points: 150,
+        turn: 100,
     };
     for nth in 1..1000u64 {
         let scarce = Scarce::refusing(alloc, nth);
-        match are_alike(&scarce, alloc, shape) {
+        let alike = if ordered {
+            fill_alike::<_, _, OrderedEdges<_>, DiagramEdges<_>>(&scarce, alloc, shape)
+        } else {
+            are_alike(&scarce, alloc, shape)
+        };
+        match alike {
             Ok(true) if scarce.refused() => {}
             Ok(true) if nth > 20 => return "taken",
             Ok(true) => return "few allocations",
