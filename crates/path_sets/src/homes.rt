@@ -25,16 +25,3 @@ pub(crate) fn home<A: Allocator + Copy>(homes: &Homes<A>, last: usize, entry: Wo
         None => None,
     }
 }
-
-/// The index of an entry where it has a shard, else some other; the entry at the index `last` is tried first.
-pub(crate) fn seek<A: Allocator + Copy>(homes: &Homes<A>, last: usize, entry: Word) -> usize {
-    if let Some((used, _)) = homes.get_index(last) {
-        if *used == entry {
-            return last;
-        }
-    }
-    match homes.get_index_of(&entry) {
-        Some(at) => at,
-        None => last,
-    }
-}

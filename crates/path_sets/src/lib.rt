@@ -22,6 +22,7 @@ mod points;
 mod quad;
 mod quads;
 mod rows;
+mod seek;
 mod shards;
 mod union;
 

@@ -5,9 +5,10 @@ ghost use Rattle.std.specs.Map.{lookup};
 ghost use Rattle.path_sets.specs.Triples.{NoneTwice, NoneTwice-prop};
 ghost use Rattle.path_sets.specs.Shards.{all_in, edges_at, AreHome, AreThere};
 
-use crate::homes::{Homes, home, seek};
+use crate::homes::{Homes, home};
 use crate::path_set::PathSet;
 use crate::place::place_of;
+use crate::seek::seek;
 use crate::shards::Shard;
 use indexmap::IndexMap;
 use language::{Point, Word};
@@ -75,7 +76,7 @@ impl<A: Allocator + Copy> OrderedEdges<A> {
         ensures edges { all_in self.new.shards.items ≡ all_in self.old.shards.items }
         ensures count { self.new.count ≡ self.old.count }
     {
-        self.entry = seek(&self.homes, self.entry, entry);
+        self.entry = seek(&self.homes, self.entry, &entry);
         match home(&self.homes, self.entry, entry) {
             Some(at) => Ok(at),
             None => self.settle(entry),

@@ -46,19 +46,6 @@ pub(crate) fn root<A: Allocator + Copy>(rows: &Rows<A>, last: usize, row: &Row) 
     }
 }
 
-/// The index of a row where it has a diagram, else some other; the one that was used last is tried first.
-pub(crate) fn seek<A: Allocator + Copy>(rows: &Rows<A>, last: usize, row: &Row) -> usize {
-    if let Some((used, _)) = rows.get_index(last) {
-        if used == row {
-            return last;
-        }
-    }
-    match rows.get_index_of(row) {
-        Some(at) => at,
-        None => last,
-    }
-}
-
 /// The index of a row, where it has a diagram.
 fn find<A: Allocator + Copy>(rows: &Rows<A>, row: &Row) -> Option<usize>
     ensures here { IfSome result (λ at. slice_get (keys rows.now) at ≡ Some row.now) }
