@@ -1,5 +1,6 @@
 -- Later targets: which of them has a bit, and whether the bit lasts.
-use Rattle.std.proofs.Common.{◌≡◌, ◌<◌, ℕ, ◌+◌, eqb, Bool, true, cond, Option, Some, None, List, ◌∷◌, map, drop, get_or, length, refl, sym, ◌∙◌, ap}
+use Rattle.std.proofs.Common.{◌≡◌, ◌<◌, ℕ, ◌+◌, eqb, Bool, true, cond, Option, Some, None, List, ◌∷◌, map, drop, get_or, length}
+use Rattle.std.proofs.Common.{refl, sym, ◌∙◌, ap}
 use Rattle.std.specs.Option.{option_eq}
 use Rattle.std.proofs.lemmas.List.{drop_more}
 use Rattle.language.specs.Resolve.{Scope}

@@ -1,6 +1,7 @@
 -- One target of an assignment after the other.
 use mir.Val.{bool_byte}
-use Rattle.std.proofs.Common.{◌≡◌, ℕ, suc, ◌+◌, Bool, true, false, cond, length, refl, arith, List, [], ◌∷◌, ◌++◌, map, sym, ◌∙◌, ap, ap₂, append_assoc}
+use Rattle.std.proofs.Common.{◌≡◌, ℕ, suc, ◌+◌, Bool, true, false, cond, length, refl, arith, List, [], ◌∷◌, ◌++◌, map, sym, ◌∙◌}
+use Rattle.std.proofs.Common.{ap, ap₂, append_assoc}
 use Rattle.language.specs.Tree.{Name, Expression, var, RightSide, any, value}
 use Rattle.round_rewrite.specs.Table.{Naming, numbers, rounds, targets, sides, side, expression, written}
 

@@ -1,5 +1,6 @@
 -- What is pushed for one number after the other.
-use Rattle.std.proofs.Common.{◌≡◌, ℕ, zero, suc, ◌+◌, ◌≤◌, List, [], ◌∷◌, ◌++◌, map, sym, ◌∙◌, ap, ap₂, arith, append_assoc, append-nil, drop, get_or, length, ◌<◌}
+use Rattle.std.proofs.Common.{◌≡◌, ℕ, zero, suc, ◌+◌, ◌≤◌, List, [], ◌∷◌, ◌++◌, map, sym, ◌∙◌, ap, ap₂, arith, append_assoc}
+use Rattle.std.proofs.Common.{append-nil, drop, get_or, length, ◌<◌}
 use Rattle.std.proofs.lemmas.List.{map-append, drop_more, drop_all}
 use Rattle.language.specs.Sequential.{numbers}
 
@@ -36,7 +37,9 @@ one_through view f seen items item ss i s whole lt is e so =
     ∙ (ap (λ l. map view items ++ map f (map seen l)) (sym (drop_more ss i s lt ∙ ap (λ y. y ∷ drop (i + 1) ss) (sym is))) ∙ so)))
 
 -- one more of a list is pushed as it is seen
-pub one_seen : {A B C : Type 0} (view : A → C) (seen : B → C) (items : List A) (item : A) (ss : List B) (i : ℕ) (s : B) (whole : List C) → i < length ss → s ≡ get_or ss i s → view item ≡ seen s → map view items ++ map seen (drop i ss) ≡ whole → map view (items ++ item ∷ []) ++ map seen (drop (i + 1) ss) ≡ whole
+pub one_seen : {A B C : Type 0} (view : A → C) (seen : B → C) (items : List A) (item : A) (ss : List B) (i : ℕ) (s : B)
+    (whole : List C) → i < length ss → s ≡ get_or ss i s → view item ≡ seen s → map view items ++ map seen (drop i ss) ≡ whole
+    → map view (items ++ item ∷ []) ++ map seen (drop (i + 1) ss) ≡ whole
 one_seen view seen items item ss i s whole lt is e so =
     let others = map seen (drop (i + 1) ss) in
     ap (λ xs. xs ++ others) (map-append view items (item ∷ []))
@@ -45,11 +48,13 @@ one_seen view seen items item ss i s whole lt is e so =
     ∙ (ap (λ l. map view items ++ map seen l) (sym (drop_more ss i s lt ∙ ap (λ y. y ∷ drop (i + 1) ss) (sym is))) ∙ so)))
 
 -- all of a list are pushed
-pub all_seen : {A B C : Type 0} (view : A → C) (seen : B → C) (items : List A) (ss : List B) (i : ℕ) (whole : List C) → length ss ≤ i → map view items ++ map seen (drop i ss) ≡ whole → map view items ≡ whole
+pub all_seen : {A B C : Type 0} (view : A → C) (seen : B → C) (items : List A) (ss : List B) (i : ℕ) (whole : List C) → length ss
+    ≤ i → map view items ++ map seen (drop i ss) ≡ whole → map view items ≡ whole
 all_seen view seen items ss i whole le so =
     sym (append-nil (map view items)) ∙ (ap (λ l. map view items ++ map seen l) (sym (drop_all i ss le)) ∙ so)
 
 -- all of a list are put through a function and pushed
-pub all_through : {A B C D : Type 0} (view : A → C) (f : D → C) (seen : B → D) (items : List A) (ss : List B) (i : ℕ) (whole : List C) → length ss ≤ i → map view items ++ map f (map seen (drop i ss)) ≡ whole → map view items ≡ whole
+pub all_through : {A B C D : Type 0} (view : A → C) (f : D → C) (seen : B → D) (items : List A) (ss : List B) (i : ℕ)
+    (whole : List C) → length ss ≤ i → map view items ++ map f (map seen (drop i ss)) ≡ whole → map view items ≡ whole
 all_through view f seen items ss i whole le so =
     sym (append-nil (map view items)) ∙ (ap (λ l. map view items ++ map f (map seen l)) (sym (drop_all i ss le)) ∙ so)

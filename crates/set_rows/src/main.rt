@@ -3,7 +3,7 @@
 //! | Line | What is printed under it |
 //! |---|---|
 //! | `set STEPS` | what each step on an empty set answers |
-//! | `many N WIDTH POINTS` | whether both kinds of sets answer alike to N triples in no order, of so many bits at so many points, of eight entries |
+//! | `many N WIDTH POINTS` | whether both kinds of sets answer alike to N triples in no order, of so many bits, points and 8 entries |
 //! | `many N WIDTH POINTS TURN` | the same, where eight other entries follow after so many triples each |
 //! | `nodes STEPS` | what each step on an empty set of diagrams answers |
 //! | `each allocation: many N` | whether a set of diagrams takes N triples all the same where each allocation is refused in turn |

@@ -8,7 +8,8 @@ use Rattle.tokens.specs.declared.vocabulary.Token.{Token}
 use Rattle.tokens.specs.Token.{Tok, toks_of, same_kind}
 use Rattle.syntax.specs.Parser.{Parser, give, ◌>>=◌, begins, take}
 use Rattle.trees.specs.Trees.{Deed, branch, repeat, Item, before, all_before}
-use Rattle.syntax.specs.Exact.{item_step, rest_step, starts_here, section, section_behind, item, going_on, put_before, marked, condition, calling, assignment, named, deed_step, deed_by, deed, if_deed, while_deed}
+use Rattle.syntax.specs.Exact.{item_step, rest_step, starts_here, section, section_behind, item, going_on, put_before, marked}
+use Rattle.syntax.specs.Exact.{condition, calling, assignment, named, deed_step, deed_by, deed, if_deed, while_deed}
 use Rattle.syntax.proofs.Fixes.{bind_is}
 use Rattle.syntax.proofs.Sections.{section_is}
 

@@ -1,5 +1,6 @@
 -- Texts that grow by parts.
-use Rattle.std.proofs.Common.{◌≡◌, ℕ, Bool, refl, ◌+◌, ◌<◌, ◌≤◌, cond, List, [], ◌∷◌, ◌++◌, length, map, drop, get_or, sym, ◌∙◌, ap, append_assoc, append-nil}
+use Rattle.std.proofs.Common.{◌≡◌, ℕ, Bool, refl, ◌+◌, ◌<◌, ◌≤◌, cond, List, [], ◌∷◌, ◌++◌, length, map, drop, get_or, sym, ◌∙◌, ap}
+use Rattle.std.proofs.Common.{append_assoc, append-nil}
 use Rattle.std.specs.Prelude.{Result, Ok, Err, IfOk, is_ok}
 use Rattle.std.proofs.lemmas.List.{drop_more, drop_all}
 use Rattle.std.specs.declared.boxed.Box.{Box}
@@ -32,7 +33,8 @@ pub text_of-operation : (o : Operator) (a b : List Part) → text_of (operation 
 text_of-operation o a b = text_of-append a (space ∷ fixed (kind_of o) ∷ space ∷ b) ∙ ap (λ (x : List ℕ). text_of a ++ x) (text_of-append (space ∷ fixed (kind_of o) ∷ space ∷ []) b)
 
 -- An operation in parentheses, as it is pushed.
-pub text_of-operand : (o : Operator) (a b : Expression language.Name) → text_of (operand_parts (two o a b)) ≡ 40 ∷ (text_of (operand_parts a) ++ (text_of (space ∷ fixed (kind_of o) ∷ space ∷ []) ++ (text_of (operand_parts b) ++ (41 ∷ []))))
+pub text_of-operand : (o : Operator) (a b : Expression language.Name) → text_of (operand_parts (two o a b)) ≡ 40 ∷
+    (text_of (operand_parts a) ++ (text_of (space ∷ fixed (kind_of o) ∷ space ∷ []) ++ (text_of (operand_parts b) ++ (41 ∷ []))))
 text_of-operand o a b =
     ap (λ (x : List ℕ). 40 ∷ x) (text_of-append (operation o (operand_parts a) (operand_parts b)) (fixed kind.Close ∷ [])
     ∙ ap (λ (x : List ℕ). x ++ (41 ∷ [])) (text_of-operation o (operand_parts a) (operand_parts b))
@@ -56,7 +58,8 @@ pub two_printed : {A X E : Type 0} (r : Result X E) (o : Op) (a b : Box (Expr A)
 two_printed r o a b e x y old s1 s2 new is left right h1 h2 last =
     let tree : expr_of e ≡ two (operator_of o) (expr_of x) (expr_of y) = ap expr_of is ∙ expr_of-Two o a b ∙ (λ i. two (operator_of o) (expr_of (left i)) (expr_of (right i))) in
     let form : text_of (expression_parts (expr_of e)) ≡ text_of (operand_parts (expr_of x)) ++ (text_of (space ∷ fixed (kind_of (operator_of o)) ∷ space ∷ []) ++ text_of (operand_parts (expr_of y))) =
-    ap (λ (t : Expression language.Name). text_of (expression_parts t)) tree ∙ text_of-operation (operator_of o) (operand_parts (expr_of x)) (operand_parts (expr_of y)) in
+    ap (λ (t : Expression language.Name). text_of (expression_parts t)) tree ∙ text_of-operation (operator_of o)
+    (operand_parts (expr_of x)) (operand_parts (expr_of y)) in
     put_last r new s2 _ _ last (rw (h2, h1) (append_assoc (old ++ text_of (operand_parts (expr_of x))) _ _ ∙ append_assoc old _ _ ∙ ap (λ (t : List ℕ). old ++ t) (sym form)))
 
 -- Operands that are pushed at once.

@@ -28,7 +28,8 @@ loop-proc-preserved g c =
     let proc = c.proc-item.result in
     let is = slice_get_read c.deref-proc-items.result.now _ c.loop-proc.proc-index proc refl c.loop-proc-test.true c.proc-item.is in (
       omega (arith, c.loop-proc.invariant.0, ap length made.2, length-append c.loop-proc.graphs.items (made.0 ∷ [])),
-      drawn_more c.program-program.result.now c.deref-proc-items.result.now c.loop-proc.graphs.items c.put.new.list.items c.loop-proc.proc-index proc made.0
+      drawn_more c.program-program.result.now c.deref-proc-items.result.now c.loop-proc.graphs.items c.put.new.list.items
+          c.loop-proc.proc-index proc made.0
           c.loop-proc.invariant.1 c.loop-proc.invariant.0 is
           (subst (λ r. IfOk r (λ g. Draws c.program-program.result.now proc g)) made.1 c.graph.ensures) made.2,
     )

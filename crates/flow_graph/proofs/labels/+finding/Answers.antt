@@ -93,19 +93,22 @@ pub find_at-find-requires : goal.find_at-find-requires
 find_at-find-requires g t c κs within =
     let parts = ap held (ap deed_of c.in-If.is ∙ deed_of-If _ _ _) in
     let inside = ap (λ l. statements (block_of l)) c.deref.ensures.value in
-    let less : 2 * statements (block_of c.deref.result.now) + 1 < 2 * held (deed_of c.args.stmt.now.core) + 2 = omega (arith, parts, inside) in
+    let less : 2 * statements (block_of c.deref.result.now) + 1 < 2 * held (deed_of c.args.stmt.now.core) + 2 = omega
+    (arith, parts, inside) in
     (rw (← c.requires.1.0) less, within)
 
 pub find_at-find-requires-in-None : goal.find_at-find-requires-in-None
 find_at-find-requires-in-None g t c κs within =
     let parts = ap held (ap deed_of c.in-If.is ∙ deed_of-If _ _ _) in
     let inside = ap (λ l. statements (block_of l)) c.deref-in-None.ensures.value in
-    let less : 2 * statements (block_of c.deref-in-None.result.now) + 1 < 2 * held (deed_of c.args.stmt.now.core) + 2 = omega (arith, parts, inside) in
+    let less : 2 * statements (block_of c.deref-in-None.result.now) + 1 < 2 * held (deed_of c.args.stmt.now.core) + 2 = omega
+    (arith, parts, inside) in
     (rw (← c.requires.1.0) less, within)
 
 pub find_at-find-requires-in-While : goal.find_at-find-requires-in-While
 find_at-find-requires-in-While g t c κs within =
     let parts = ap held (ap deed_of c.in-While.is ∙ deed_of-While _ _) in
     let inside = ap (λ l. statements (block_of l)) c.deref-in-While.ensures.value in
-    let less : 2 * statements (block_of c.deref-in-While.result.now) + 1 < 2 * held (deed_of c.args.stmt.now.core) + 2 = omega (arith, parts, inside) in
+    let less : 2 * statements (block_of c.deref-in-While.result.now) + 1 < 2 * held (deed_of c.args.stmt.now.core) + 2 = omega
+    (arith, parts, inside) in
     (rw (← c.requires.1.0) less, within)

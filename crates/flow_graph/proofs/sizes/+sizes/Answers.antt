@@ -46,19 +46,22 @@ pub size_of-size-requires : goal.size_of-size-requires
 size_of-size-requires g t c κs within =
     let parts = ap held (ap deed_of c.in-If.is ∙ deed_of-If _ _ _) in
     let inside = ap (λ l. statements (block_of l)) c.deref.ensures.value in
-    let less : 2 * statements (block_of c.deref.result.now) + 1 < 2 * held (deed_of c.args.stmt.now.core) + 2 = omega (arith, parts, inside) in
+    let less : 2 * statements (block_of c.deref.result.now) + 1 < 2 * held (deed_of c.args.stmt.now.core) + 2 = omega
+    (arith, parts, inside) in
     (rw (← c.decreases) less, within)
 
 pub size_of-size-requires-in-If : goal.size_of-size-requires-in-If
 size_of-size-requires-in-If g t c κs within =
     let parts = ap held (ap deed_of c.in-If.is ∙ deed_of-If _ _ _) in
     let inside = ap (λ l. statements (block_of l)) c.deref-in-If.ensures.value in
-    let less : 2 * statements (block_of c.deref-in-If.result.now) + 1 < 2 * held (deed_of c.args.stmt.now.core) + 2 = omega (arith, parts, inside) in
+    let less : 2 * statements (block_of c.deref-in-If.result.now) + 1 < 2 * held (deed_of c.args.stmt.now.core) + 2 = omega
+    (arith, parts, inside) in
     (rw (← c.decreases) less, within)
 
 pub size_of-size-requires-in-While : goal.size_of-size-requires-in-While
 size_of-size-requires-in-While g t c κs within =
     let parts = ap held (ap deed_of c.in-While.is ∙ deed_of-While _ _) in
     let inside = ap (λ l. statements (block_of l)) c.deref-in-While.ensures.value in
-    let less : 2 * statements (block_of c.deref-in-While.result.now) + 1 < 2 * held (deed_of c.args.stmt.now.core) + 2 = omega (arith, parts, inside) in
+    let less : 2 * statements (block_of c.deref-in-While.result.now) + 1 < 2 * held (deed_of c.args.stmt.now.core) + 2 = omega
+    (arith, parts, inside) in
     (rw (← c.decreases) less, within)

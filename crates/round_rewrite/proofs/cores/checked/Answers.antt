@@ -11,6 +11,7 @@ returns g c =
     let no = c.in_ok-push-2.ensures done
     ∙ (ap (λ d. all_before (items_of c.push.new.into.items) (marked_before plain d done)) (deed_of-Return g.row.A.Denot)
     ∙ (c.in_ok-push.ensures (marked_before plain (simple leave) done)
-    ∙ (ap (λ ss. all_before (items_of ss) (marked_before plain (deed_of c.in_ok-set_both.field-0) (marked_before plain (simple leave) done))) c.new-no.ensures.items
+    ∙ (ap (λ ss. all_before (items_of ss) (marked_before plain (deed_of c.in_ok-set_both.field-0)
+    (marked_before plain (simple leave) done))) c.new-no.ensures.items
     ∙ ap (λ d. marked_before plain d (marked_before plain (simple leave) done)) c.in_ok-set_both.ensures))) in
     deed_of-If _ _ _ ∙ (λ i. branch (rhs_of c.args.side) (yes i) (no i))

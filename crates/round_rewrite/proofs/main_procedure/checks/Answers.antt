@@ -9,11 +9,13 @@ pub loop-round-preserved : goal.loop-round-preserved
 loop-round-preserved g c =
     λ k. c.in_ok-check.ensures k
     ∙ (c.loop-round.invariant _
-    ∙ ap (all_before (items_of c.args.into.now.items)) (sym (checks_next (names []) c.args.rounds.last (names_of c.args.xs.now) c.loop-round.round k)))
+    ∙ ap (all_before (items_of c.args.into.now.items)) (sym (checks_next (names []) c.args.rounds.last (names_of c.args.xs.now)
+    c.loop-round.round k)))
 
 pub returns : goal.returns
 returns g c =
     let low = c.loop-round-test.false in
     let high = c.loop-round.auto.round-end in
     λ k. c.loop-round.invariant k
-    ∙ ap (λ n. all_before (items_of c.args.into.now.items) (checks (names []) c.args.rounds.last (names_of c.args.xs.now) (numbers 0 n) k)) (let e : c.loop-round.round ≡ c.args.rounds.last = omega (arith, low, high) in e)
+    ∙ ap (λ n. all_before (items_of c.args.into.now.items) (checks (names []) c.args.rounds.last (names_of c.args.xs.now)
+    (numbers 0 n) k)) (let e : c.loop-round.round ≡ c.args.rounds.last = omega (arith, low, high) in e)

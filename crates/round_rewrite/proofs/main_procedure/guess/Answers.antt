@@ -15,11 +15,13 @@ returns g c =
     let xs = names_of c.args.xs.now in
     let targets = c.in_ok-targets.ensures ∙ ap (λ ns. names_of ns ++ map (copy_name c.args.round) xs) c.new.ensures.items in
     let kept = c.in_ok-kept.ensures ∙ ap (λ ns. names_of ns ++ map (save_name c.args.round) xs) c.new-2.ensures.items in
-    let drawn = laid _ _ plain _ _ c.in_ok-push.ensures (deed_of-Assign _ _ ∙ (λ i. simple (assign (targets i) (c.in_ok-sides.ensures i)))) in
+    let drawn = laid _ _ plain _ _ c.in_ok-push.ensures (deed_of-Assign _ _ ∙
+    (λ i. simple (assign (targets i) (c.in_ok-sides.ensures i)))) in
     IfOk-weaker c.push-2.result _ _
     (λ _ l k. laid _ _ plain _ _ l (deed_of-Assign _ _ ∙ (λ i. simple (assign (kept i) (c.in_ok-values.ensures i)))) k
     ∙ (drawn _
-    ∙ ap (all_before (items_of c.args.into.now.items)) (sym (guess_some (names []) c.args.last xs _ _ c.args.round k (ap names_of c.in-Some.ensures.cases.0)))))
+    ∙ ap (all_before (items_of c.args.into.now.items)) (sym (guess_some (names []) c.args.last xs _ _ c.args.round k
+    (ap names_of c.in-Some.ensures.cases.0)))))
     c.push-2.ensures
 
 pub returns-in_default : goal.returns-in_default

@@ -9,11 +9,13 @@ pub loop-before-preserved : goal.loop-before-preserved
 loop-before-preserved g c =
     λ k. c.in_ok-guess.ensures k
     ∙ (c.loop-before.invariant _
-    ∙ ap (all_before (items_of c.args.into.now.items)) (sym (guesses_next (names []) c.args.rounds.last (names_of c.args.xs.now) c.loop-before.before k)))
+    ∙ ap (all_before (items_of c.args.into.now.items)) (sym (guesses_next (names []) c.args.rounds.last (names_of c.args.xs.now)
+    c.loop-before.before k)))
 
 pub returns : goal.returns
 returns g c =
     let low = c.loop-before-test.false in
     let high = c.loop-before.auto.before-end in
     λ k. c.loop-before.invariant k
-    ∙ ap (λ n. all_before (items_of c.args.into.now.items) (guesses (names []) c.args.rounds.last (names_of c.args.xs.now) (numbers 1 n) k)) (let e : c.loop-before.before ≡ c.args.rounds.last = omega (arith, low, high) in e)
+    ∙ ap (λ n. all_before (items_of c.args.into.now.items) (guesses (names []) c.args.rounds.last (names_of c.args.xs.now)
+    (numbers 1 n) k)) (let e : c.loop-before.before ≡ c.args.rounds.last = omega (arith, low, high) in e)

@@ -13,4 +13,6 @@ returns g c =
     c.in_ok-checks.ensures done
     ∙ (c.in_ok-starts.ensures _
     ∙ (c.in_ok-guesses.ensures _
-    ∙ ap (λ ss. all_before (items_of ss) (guesses (names []) last xs (numbers 1 last) (starts (names []) last (line_names (threads_of c.args.threads.now)) (checks (names []) last xs (numbers 0 last) done)))) c.new-body.ensures.items))
+    ∙ ap (λ ss. all_before (items_of ss) (guesses (names []) last xs (numbers 1 last)
+    (starts (names []) last (line_names (threads_of c.args.threads.now)) (checks (names []) last xs (numbers 0 last) done))))
+    c.new-body.ensures.items))

@@ -23,6 +23,7 @@ returns g c =
     let first = c.in_ok-formals.ensures ∙ (λ i. names_of (c.new.ensures.items i) ++ names_of (c.deref.ensures.value i)) in
     let kept = c.in_ok-kept.ensures ∙ (λ i. names_of (c.new-2.ensures.items i) ++ names_of (c.deref-2.ensures.value i)) in
     let second = c.in_ok-locals.ensures ∙ (λ i. kept i ++ map drawn_name (numbers 0 (needs i))) in
-    let body = block_done (names (names_of c.as_slice.result.now ++ names_of c.as_slice-2.result.now)) last [] c.in_ok-body.body.items c.deref-4.result.now p.body.items refl c.deref-4.ensures.value c.in_ok-body.ensures
+    let body = block_done (names (names_of c.as_slice.result.now ++ names_of c.as_slice-2.result.now)) last []
+    c.in_ok-body.body.items c.deref-4.result.now p.body.items refl c.deref-4.ensures.value c.in_ok-body.ensures
     ∙ (λ i. rewritten (names (formals i ++ locals i)) last (block_of p.body.items)) in
     λ i. record { name = c.in_ok-name.ensures i; formals = first i; locals = second i; body = body i }

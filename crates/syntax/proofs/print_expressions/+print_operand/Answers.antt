@@ -18,7 +18,8 @@ returns-in-Const-true g t c =
 pub returns-in-Const-false : goal.returns-in-Const-false
 returns-in-Const-false g t c =
     let is : c.in-Const-false.field-0 ≡ false = sym c.in-Const-false.field-0-is ∙ c.in-Const-false.field-0-test in
-    constant_pushed c.push_str-in-Const-false.result c.args.expr.now (string_bytes c.args.out.now) (string_bytes c.push_str-in-Const-false.new.self) false
+    constant_pushed c.push_str-in-Const-false.result c.args.expr.now (string_bytes c.args.out.now)
+    (string_bytes c.push_str-in-Const-false.new.self) false
     (rw is at c.in-Const-false.is) c.push_str-in-Const-false.ensures.bytes
 
 pub returns-in-Var : goal.returns-in-Var

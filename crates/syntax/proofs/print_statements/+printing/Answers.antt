@@ -4,7 +4,8 @@ use Rattle.trees.specs.Trees.{deed_of, block_of}
 use Rattle.language.specs.Sequential.{statements}
 use Rattle.trees.proofs.Held.{held, smaller}
 use Rattle.syntax.proofs.PrintedBlocks.{one_printed, none_left}
-use Rattle.syntax.proofs.PrintedDeeds.{skipped, left, jumped, assigned, called, asserted, assumed, branched, repeated, branch_pushed, loop_pushed}
+use Rattle.syntax.proofs.PrintedDeeds.{skipped, left, jumped, assigned, called, asserted, assumed, branched, repeated}
+use Rattle.syntax.proofs.PrintedDeeds.{branch_pushed, loop_pushed}
 use Rattle.syntax.proofs.print_statements.+printing.Goals as goal
 
 pub print_block-print_core-requires : goal.print_block-print_core-requires

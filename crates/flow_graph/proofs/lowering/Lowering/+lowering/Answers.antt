@@ -115,19 +115,22 @@ pub statement-block-requires : goal.statement-block-requires
 statement-block-requires g t c κs within =
     let parts = ap held (ap deed_of c.in-If.is ∙ deed_of-If _ _ _) in
     let inside = ap (λ l. statements (block_of l)) c.deref.ensures.value in
-    let less : 2 * statements (block_of c.deref.result.now) + 1 < 2 * held (deed_of c.args.stmt.now.core) + 2 = omega (arith, parts, inside) in
+    let less : 2 * statements (block_of c.deref.result.now) + 1 < 2 * held (deed_of c.args.stmt.now.core) + 2 = omega
+    (arith, parts, inside) in
     (rw (← c.decreases) less, (within.0, (within.1, c.requires)))
 
 pub statement-block-requires-in-If : goal.statement-block-requires-in-If
 statement-block-requires-in-If g t c κs within =
     let parts = ap held (ap deed_of c.in-If.is ∙ deed_of-If _ _ _) in
     let inside = ap (λ l. statements (block_of l)) c.deref-in-If.ensures.value in
-    let less : 2 * statements (block_of c.deref-in-If.result.now) + 1 < 2 * held (deed_of c.args.stmt.now.core) + 2 = omega (arith, parts, inside) in
+    let less : 2 * statements (block_of c.deref-in-If.result.now) + 1 < 2 * held (deed_of c.args.stmt.now.core) + 2 = omega
+    (arith, parts, inside) in
     (rw (← c.decreases) less, (within.0, (within.1, c.requires)))
 
 pub statement-block-requires-in-While : goal.statement-block-requires-in-While
 statement-block-requires-in-While g t c κs within =
     let parts = ap held (ap deed_of c.in-While.is ∙ deed_of-While _ _) in
     let inside = ap (λ l. statements (block_of l)) c.deref-in-While.ensures.value in
-    let less : 2 * statements (block_of c.deref-in-While.result.now) + 1 < 2 * held (deed_of c.args.stmt.now.core) + 2 = omega (arith, parts, inside) in
+    let less : 2 * statements (block_of c.deref-in-While.result.now) + 1 < 2 * held (deed_of c.args.stmt.now.core) + 2 = omega
+    (arith, parts, inside) in
     (rw (← c.decreases) less, (within.0, (within.1, c.requires)))

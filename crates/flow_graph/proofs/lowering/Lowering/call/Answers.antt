@@ -44,8 +44,10 @@ loop-e-preserved g c =
     let next = drop_more es i c.e-item.result c.loop-e-test.true ∙ ap (λ x. x ∷ drop (i + 1) es) (sym c.e-item.is) in (
       omega (arith, c.loop-e.invariant.0, ap length made.2, length-append old (f ∷ [])),
       λ gs ls wide.
-          ap (λ l. map (λ f. says f (coded (gs ++ ls))) l ++ values_of gs ls (map (resolve_expression s) (exprs_of (drop (i + 1) es)))) made.2
-          ∙ more_said (λ f. says f (coded (gs ++ ls))) old f (value_of gs ls (resolve_expression s (expr_of c.e-item.result))) (values_of gs ls (map (resolve_expression s) (exprs_of (drop (i + 1) es)))) (says_so gs ls wide)
+          ap (λ l. map (λ f. says f (coded (gs ++ ls))) l ++ values_of gs ls
+          (map (resolve_expression s) (exprs_of (drop (i + 1) es)))) made.2
+          ∙ more_said (λ f. says f (coded (gs ++ ls))) old f (value_of gs ls (resolve_expression s (expr_of c.e-item.result)))
+          (values_of gs ls (map (resolve_expression s) (exprs_of (drop (i + 1) es)))) (says_so gs ls wide)
           ∙ ap (λ l. map (λ f. says f (coded (gs ++ ls))) old ++ values_of gs ls (map (resolve_expression s) (exprs_of l))) (sym next)
           ∙ c.loop-e.invariant.1 gs ls wide,
     )

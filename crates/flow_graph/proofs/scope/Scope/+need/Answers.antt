@@ -31,7 +31,8 @@ returns-then-left-right g t c =
     let s = scope_seen c.args.self.now in
     let left = c.need-left.ensures ∙ ap (λ e. need (located s (expr_of e))) c.deref-in-Two.ensures in
     let right = c.need-right.ensures ∙ ap (λ e. need (located s (expr_of e))) c.deref-in-Two-2.ensures in
-    need_same (operator_of c.in-Two.field-0) (located s (expr_of c.in-Two.a.value)) (located s (expr_of c.in-Two.b.value)) _ _ _ left right c.if-left-right.true c.saturating_add.ensures
+    need_same (operator_of c.in-Two.field-0) (located s (expr_of c.in-Two.a.value)) (located s (expr_of c.in-Two.b.value)) _ _ _
+    left right c.if-left-right.true c.saturating_add.ensures
     ∙ ap (λ e. need (located s e)) (sym (ap expr_of c.in-Two.is ∙ expr_of-Two c.in-Two.field-0 c.in-Two.a c.in-Two.b))
 
 pub returns-else-left-right : goal.returns-else-left-right
@@ -39,5 +40,6 @@ returns-else-left-right g t c =
     let s = scope_seen c.args.self.now in
     let left = c.need-left.ensures ∙ ap (λ e. need (located s (expr_of e))) c.deref-in-Two.ensures in
     let right = c.need-right.ensures ∙ ap (λ e. need (located s (expr_of e))) c.deref-in-Two-2.ensures in
-    need_other (operator_of c.in-Two.field-0) (located s (expr_of c.in-Two.a.value)) (located s (expr_of c.in-Two.b.value)) _ _ _ left right c.if-left-right.false c.max.ensures
+    need_other (operator_of c.in-Two.field-0) (located s (expr_of c.in-Two.a.value)) (located s (expr_of c.in-Two.b.value)) _ _ _
+    left right c.if-left-right.false c.max.ensures
     ∙ ap (λ e. need (located s e)) (sym (ap expr_of c.in-Two.is ∙ expr_of-Two c.in-Two.field-0 c.in-Two.a c.in-Two.b))

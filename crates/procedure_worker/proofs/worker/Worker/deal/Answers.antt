@@ -27,7 +27,28 @@ pub loop-preserved : goal.loop-preserved
 loop-preserved g c = (c.in-Ok-true.ensures.dealing, tt, tt)
 
 pub answer-requires : goal.answer-requires
-answer-requires g c = λ κs out. (out.0, (out.1.0, (out.1.1.0, (out.1.1.1.0, (out.1.1.1.1.0, (out.1.1.1.1.1.0, (out.1.1.1.1.1.1.0, (out.1.1.1.1.1.1.1.0, (out.1.1.1.1.1.1.1.1, (c.requires.1.1.1.1.1.1.1.1.1.0, c.loop.invariant.0))))))))))
+answer-requires g c = λ κs out. (
+  out.0,
+  (
+    out.1.0,
+    (
+      out.1.1.0,
+      (
+        out.1.1.1.0,
+        (
+          out.1.1.1.1.0,
+          (
+            out.1.1.1.1.1.0,
+            (
+              out.1.1.1.1.1.1.0,
+              (out.1.1.1.1.1.1.1.0, (out.1.1.1.1.1.1.1.1, (c.requires.1.1.1.1.1.1.1.1.1.0, c.loop.invariant.0))),
+            ),
+          ),
+        ),
+      ),
+    ),
+  ),
+)
 
 pub give_up-requires : goal.give_up-requires
 give_up-requires g c = record {

@@ -8,7 +8,8 @@ use Rattle.round_rewrite.proofs.writer.Writer.+rewriting.Given as goal
 
 abbrev pub invariant-block-loop-stmt : goal.invariant-block-loop-stmt
 invariant-block-loop-stmt g l =
-    (rest : Statements) → all_before (items_of l.into.items) (forms (naming_of l.self) l.self.rounds.last (items_of (drop l.stmt-index l.stmts)) rest)
+    (rest : Statements) → all_before (items_of l.into.items) (forms (naming_of l.self) l.self.rounds.last
+    (items_of (drop l.stmt-index l.stmts)) rest)
     ≡ all_before (items_of l.initial.into.items) (forms (naming_of l.self) l.self.rounds.last (items_of l.stmts) rest)
 
 abbrev pub decreases-block : goal.decreases-block

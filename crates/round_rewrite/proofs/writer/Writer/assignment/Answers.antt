@@ -20,5 +20,6 @@ returns g c =
     IfOk-weaker c.push.result _ _
     (λ _ l k. laid _ _ plain _ _ l deed k
     ∙ (c.in_ok-drawing.ensures _
-    ∙ ap (λ n. all_before (items_of c.args.into.now.items) (drawing w last n (Rattle.language.specs.Tree.one plain (assign (targets w last xs rs) (sides w last 0 xs rs)) k))) c.draws.ensures.count))
+    ∙ ap (λ n. all_before (items_of c.args.into.now.items) (drawing w last n
+    (Rattle.language.specs.Tree.one plain (assign (targets w last xs rs) (sides w last 0 xs rs)) k))) c.draws.ensures.count))
     c.push.ensures

@@ -5,5 +5,6 @@ use Rattle.round_rewrite.proofs.writer.Writer.copies.Goals as goal
 
 pub returns : goal.returns
 returns g c =
-    over_rounds (λ k. copy_name k (name_of c.args.x.now)) (names_of c.args.into.now.items) (names_of c.loop-round.into.items) c.loop-round.round c.count-round-end.result c.args.self.now.rounds.last
+    over_rounds (λ k. copy_name k (name_of c.args.x.now)) (names_of c.args.into.now.items) (names_of c.loop-round.into.items)
+    c.loop-round.round c.count-round-end.result c.args.self.now.rounds.last
     c.loop-round.invariant c.loop-round-test.false c.loop-round.auto.round-end c.count-round-end.ensures.count

@@ -18,5 +18,6 @@ returns g c =
     let deed = deed_of-Assign _ _ ∙ (λ i. simple (assign (named i) (c.in_ok-sides.ensures i))) in
     IfOk-weaker c.push.result _ _
     (λ _ l k. laid _ _ plain _ _ l deed k
-    ∙ ap (all_before (items_of c.args.into.now.items)) (Rattle.std.proofs.Common.sym (drawing_some w last c.args.number k c.if-number-eq0.false)))
+    ∙ ap (all_before (items_of c.args.into.now.items)) (Rattle.std.proofs.Common.sym
+    (drawing_some w last c.args.number k c.if-number-eq0.false)))
     c.push.ensures

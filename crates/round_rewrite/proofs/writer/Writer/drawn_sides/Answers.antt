@@ -9,7 +9,9 @@ use Rattle.round_rewrite.proofs.writer.Writer.drawn_sides.Goals as goal
 
 pub returns : goal.returns
 returns g c =
-    over_rounds (written (naming_of c.args.self.now) c.args.self.now.rounds.last (var (drawn_name c.args.number)) (name_of c.args.x.now)) (rhss_of c.args.into.now.items) (rhss_of c.loop-round.into.items) c.loop-round.round c.count-round-end.result c.args.self.now.rounds.last
+    over_rounds (written (naming_of c.args.self.now) c.args.self.now.rounds.last (var (drawn_name c.args.number))
+    (name_of c.args.x.now)) (rhss_of c.args.into.now.items) (rhss_of c.loop-round.into.items) c.loop-round.round
+    c.count-round-end.result c.args.self.now.rounds.last
     c.loop-round.invariant c.loop-round-test.false c.loop-round.auto.round-end c.count-round-end.ensures.count
 
 pub loop-round-preserved : goal.loop-round-preserved

@@ -7,7 +7,10 @@ use Rattle.round_rewrite.proofs.writer.Writer.value_sides.Goals as goal
 
 pub returns : goal.returns
 returns g c =
-    over_rounds (written (naming_of c.args.self.now) c.args.self.now.rounds.last (expression (naming_of c.args.self.now) c.args.self.now.rounds.last (expr_of c.args.e.now)) (name_of c.args.x.now)) (rhss_of c.args.into.now.items) (rhss_of c.loop-round.into.items) c.loop-round.round c.count-round-end.result c.args.self.now.rounds.last
+    over_rounds (written (naming_of c.args.self.now) c.args.self.now.rounds.last
+    (expression (naming_of c.args.self.now) c.args.self.now.rounds.last (expr_of c.args.e.now)) (name_of c.args.x.now))
+    (rhss_of c.args.into.now.items) (rhss_of c.loop-round.into.items) c.loop-round.round c.count-round-end.result
+    c.args.self.now.rounds.last
     c.loop-round.invariant c.loop-round-test.false c.loop-round.auto.round-end c.count-round-end.ensures.count
 
 pub loop-round-preserved : goal.loop-round-preserved
@@ -16,6 +19,7 @@ loop-round-preserved g c =
     let last = c.args.self.now.rounds.last in
     let x = name_of c.args.x.now in
     ap rhss_of c.in_ok-push.ensures.items
-    ∙ pushed rhs_of (written w last (expression (naming_of c.args.self.now) c.args.self.now.rounds.last (expr_of c.args.e.now)) x) (rhss_of c.args.into.now.items) c.loop-round.into.items _
+    ∙ pushed rhs_of (written w last (expression (naming_of c.args.self.now) c.args.self.now.rounds.last (expr_of c.args.e.now)) x)
+    (rhss_of c.args.into.now.items) c.loop-round.into.items _
     c.loop-round.round c.loop-round.invariant
     (c.in_ok-written.ensures ∙ ap (λ d. written w last d x c.loop-round.round) c.in_ok-value.ensures)

@@ -6,4 +6,6 @@ use Rattle.round_rewrite.specs.Writing.{naming_of}
 use Rattle.round_rewrite.proofs.writer.Writer.value_sides.Given as goal
 
 abbrev pub invariant-loop-round : goal.invariant-loop-round
-invariant-loop-round g l = rhss_of l.into.items ≡ rhss_of l.initial.into.items ++ map (written (naming_of l.self) l.self.rounds.last (expression (naming_of l.self) l.self.rounds.last (expr_of l.e)) (name_of l.x)) (numbers 0 l.round)
+invariant-loop-round g l = rhss_of l.into.items ≡ rhss_of l.initial.into.items ++ map
+    (written (naming_of l.self) l.self.rounds.last (expression (naming_of l.self) l.self.rounds.last (expr_of l.e)) (name_of l.x))
+    (numbers 0 l.round)

@@ -64,7 +64,8 @@ pub operand-returns-in_ok-inner-in-Open-clause-gives : goal.operand-returns-in_o
 unfolding same_kind
 operand-returns-in_ok-inner-in-Open-clause-gives g t c =
     rw (operand_begins kind.Open c.args.tokens.now c.in-Some.rest.now c.in-Some.first.now c.in-Some.ensures.cases.0
-    c.in-Open.is) (rw c.in_ok-inner-in-Open.ensures.gives (closed_seen expr_of c.in_ok-inner-in-Open.inner kind.Close c.closed.result c.in_ok-inner-in-Open.after.now _ refl c.closed.ensures.gives))
+    c.in-Open.is) (rw c.in_ok-inner-in-Open.ensures.gives (closed_seen expr_of c.in_ok-inner-in-Open.inner kind.Close
+    c.closed.result c.in_ok-inner-in-Open.after.now _ refl c.closed.ensures.gives))
 
 pub operand-returns-in_err-inner-in-Not-clause-gives : goal.operand-returns-in_err-inner-in-Not-clause-gives
 unfolding same_kind

@@ -7,7 +7,9 @@ use Rattle.trees.specs.Trees.{Deed, Item, deed_of, item_of, items_of}
 use Rattle.syntax.proofs.Exits.{refused}
 use Rattle.syntax.proofs.Closings.{closed_seen}
 use Rattle.trees.proofs.Folds.{item_is, deed_of-Skip, deed_of-Return, deed_of-If, deed_of-While}
-use Rattle.syntax.proofs.Goings.{sections_start, sections_no_start, sections_go_on, sections_refused, item_no_mark, item_no_deed, item_whole, deed_calls, deed_assigns, if_no_yes, if_no_no, if_no, while_no_body, while_body, deed_begins}
+use Rattle.syntax.proofs.Goings.{sections_start, sections_no_start, sections_go_on, sections_refused, item_no_mark, item_no_deed}
+use Rattle.syntax.proofs.Goings.{item_whole, deed_calls, deed_assigns, if_no_yes, if_no_no, if_no, while_no_body, while_body}
+use Rattle.syntax.proofs.Goings.{deed_begins}
 use Rattle.syntax.proofs.Loops.{pushed}
 use Rattle.syntax.proofs.reader.Reader.+statements.Goals as goal
 
@@ -28,7 +30,8 @@ pub branch-returns-clause-gives : goal.branch-returns-clause-gives
 branch-returns-clause-gives g t c =
     closed_seen deed_of _ kind.Fi c.closed.result _ _
     (if_no (toks_of c.args.tokens.now) c.in_ok-side.ensures.gives c.in_ok-yes.ensures.gives c.in_ok-no.ensures.gives
-    ∙ ap (λ (d : Deed). closing kind.Fi d (toks_of c.in_ok-no.ended.now)) (sym (deed_of-If c.in_ok-side.side c.in_ok-yes.yes c.in_ok-no.no)))
+    ∙ ap (λ (d : Deed). closing kind.Fi d (toks_of c.in_ok-no.ended.now))
+    (sym (deed_of-If c.in_ok-side.side c.in_ok-yes.yes c.in_ok-no.no)))
     c.closed.ensures.gives
 
 pub core-returns-in-Skip-clause-gives : goal.core-returns-in-Skip-clause-gives
