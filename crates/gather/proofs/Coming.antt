@@ -42,12 +42,14 @@ module _ {X : Type 0} where
   take_whole (x ∷ xs) (suc n) h = ap (λ l. x ∷ l) (take_whole xs n (omega (arith, h)))
 
 -- where R holds of the items of two lists by their places, it holds so with one item more of the second, where it holds of that one
-pub more_by_place : {X Y : Type 0} (R : X → Y → Type 0) (all : List X) (ys : List Y) (y : Y) (n : ℕ) → length ys ≡ n
-    → ((a : X) → slice_get all n ≡ Some a → R a y)
-    → ((i : ℕ) (a : X) (b : Y) → slice_get all i ≡ Some a → slice_get ys i ≡ Some b → R a b)
-    → (i : ℕ) (a : X) (b : Y) → slice_get all i ≡ Some a → slice_get (ys ++ y ∷ []) i ≡ Some b → R a b
+pub more_by_place : {X Y : Type 0} (R : ℕ → X → Y → Type 0) (all : List X) (ys : List Y) (y : Y) (n : ℕ) → length ys ≡ n
+    → ((a : X) → slice_get all n ≡ Some a → R n a y)
+    → ((i : ℕ) (a : X) (b : Y) → slice_get all i ≡ Some a → slice_get ys i ≡ Some b → R i a b)
+    → (i : ℕ) (a : X) (b : Y) → slice_get all i ≡ Some a → slice_get (ys ++ y ∷ []) i ≡ Some b → R i a b
 more_by_place R all ys y n many new each i a b there here = elim (at_push_cases ys y b i here) [
   | inl before ↦ each i a b there before
   | inr last ↦
-      subst (λ z. R a z) last.1 (new a (subst (λ k. slice_get all k ≡ Some a) (last.0 ∙ many) there))
+      let place : i ≡ n = last.0 ∙ many in
+      subst (λ z. R i a z) last.1
+      (subst (λ k. R k a y) (sym place) (new a (subst (λ k. slice_get all k ≡ Some a) place there)))
 ]

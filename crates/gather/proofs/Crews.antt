@@ -25,8 +25,10 @@ use Rattle.procedure_worker.specs.Works.{Start, begun, IsPassOf, IsFresh, EndsSo
 use Rattle.procedure_worker.proofs.Works.{new_fresh}
 use Rattle.gather.specs.declared.lane.Lane.{Lane}
 use Rattle.gather.specs.Ends.{LaneEnds, HaveEnded, IsCrew}
-use Rattle.gather.specs.Jobs.{AreGiven}
-use Rattle.gather.specs.Lanes.{start_of, MayWork, HasCome, AreOwn, AreLanes}
+use Rattle.gather.specs.declared.jobs.Came.{Came}
+use Rattle.gather.specs.declared.jobs.Came.TheVariants.{Run, Declined}
+use Rattle.gather.specs.Jobs.{first_of, second_of, CameOf, HaveCome}
+use Rattle.gather.specs.Lanes.{start_of, MayWork, HasWorked, WasDeclined, AreOwn, AreLanes}
 use Rattle.gather.proofs.Full.{got_map}
 
 -- a pass of a new board
@@ -99,22 +101,30 @@ module _ {R G A S B K P : Type 0} (identity : B → TableId) (sight : P → Sigh
             (subst (λ k. start_of identity sight l ≡ begun graphs k limit board) (sym many ∙ sym last.0) starts, may)
       ]
 
+  -- what came of a lane is that it has ended
+  came_end : (members : S → List Triple) (l : Lane R P G A B S K) (n : ℕ) (c : Came (P × Outcome G A S))
+      → CameOf (HasWorked identity sight members l) (WasDeclined identity sight l) n c
+      → LaneEnds members (start_of identity sight l) (sight (first_of c)) (second_of c)
+  came_end members l n (Run b) come = inl come
+  came_end members l n (Declined b none) come = inr come.0
+
   -- where each lane has come back, all have ended
-  pub all_ended : (members : S → List Triple) (lanes : List (Lane R P G A B S K)) (backs : List (P × Outcome G A S))
-      → AreLanes identity sight graphs limit board lanes → AreGiven (HasCome identity sight members) lanes backs
-      → HaveEnded members graphs limit board (map (λ (b : P × Outcome G A S). sight b.0) backs)
-      (map (λ (b : P × Outcome G A S). b.1) backs)
-  all_ended members lanes backs are given = record {
-    each_pass = length-map backs (λ (b : P × Outcome G A S). sight b.0) ∙ (given.all ∙ are.all);
-    each_outcome = length-map backs (λ (b : P × Outcome G A S). b.1) ∙ (given.all ∙ are.all);
+  pub all_ended : (members : S → List Triple) (lanes : List (Lane R P G A B S K)) (cames : List (Came (P × Outcome G A S)))
+      → AreLanes identity sight graphs limit board lanes
+      → HaveCome (HasWorked identity sight members) (WasDeclined identity sight) lanes cames
+      → HaveEnded members graphs limit board (map (λ (c : Came (P × Outcome G A S)). sight (first_of c)) cames)
+      (map (second_of {P = P} {O = Outcome G A S}) cames)
+  all_ended members lanes cames are come = record {
+    each_pass = length-map cames (λ (c : Came (P × Outcome G A S)). sight (first_of c)) ∙ (come.all ∙ are.all);
+    each_outcome = length-map cames (second_of {P = P} {O = Outcome G A S}) ∙ (come.all ∙ are.all);
     ends = λ q s o at there.
-        let (b, here, pass) = got_map (λ (b : P × Outcome G A S). sight b.0) backs q s at in
-        let (b', here', outcome) = got_map (λ (b : P × Outcome G A S). b.1) backs q o there in
-        let (l, lane) = element_at lanes q (subst (λ n. q < n) given.all (slice_get_within backs q b here)) in
-        let come = given.each q l b lane here in
-        let one : b' ≡ b = same_Some b' b (sym here' ∙ here) in
-        let same : b.1 ≡ o = ap (λ (x : P × Outcome G A S). x.1) (sym one) ∙ outcome in
+        let (c, here, pass) = got_map (λ (c : Came (P × Outcome G A S)). sight (first_of c)) cames q s at in
+        let (c', here', outcome) = got_map (second_of {P = P} {O = Outcome G A S}) cames q o there in
+        let (l, lane) = element_at lanes q (subst (λ n. q < n) come.all (slice_get_within cames q c here)) in
+        let ended = came_end members l q c (come.each q l c lane here) in
+        let one : c' ≡ c = same_Some c' c (sym here' ∙ here) in
+        let same : (second_of c) ≡ o = ap (λ (x : Came (P × Outcome G A S)). (second_of x)) (sym one) ∙ outcome in
         subst (λ z. LaneEnds members z s o) (are.own q l lane).0
         (subst (λ z. LaneEnds members (start_of identity sight l) z o) pass
-        (subst (LaneEnds members (start_of identity sight l) (sight b.0)) same come));
+        (subst (LaneEnds members (start_of identity sight l) (sight (first_of c))) same ended));
   }

@@ -43,16 +43,10 @@ use Rattle.procedure_worker.specs.declared.outcome.Outcome.{Outcome}
 use Rattle.procedure_worker.specs.Own.{taken_in, posted_in}
 use Rattle.gather.specs.Ends.{HaveEnded}
 use Rattle.gather.specs.Gathered.{ends_of, NoneFailed}
-use Rattle.gather.specs.Reports.{posted_to, AreDueOnce}
+use Rattle.gather.specs.Reports.{posted_to, sender_of, AreDueOnce}
 use Rattle.gather.proofs.Lists.{place_of, member_at, in_own, take_there}
 use Rattle.gather.proofs.Posts.{none_twice_of_map, posted_member, post_there, posted_once, taken_part, own_nothing}
 use Rattle.gather.proofs.Full.{Served, outcome_at, served, some_procedure, order_closed, has_tables, table_at, ts, full}
-
--- the sender of a message, where the starter has this number
-abbrev sender_of : ℕ → Due → ℕ
-sender_of n (entered Starter a) = n
-sender_of n (entered (Proc c) a) = c
-sender_of n (Summary s a b) = s
 
 -- who sends a message by its flow graph is its sender
 sends_own : {A : Type 0} (graph : Graph A) (c : ℕ) (M : NumberedMessage → Type 0) (n s : ℕ) (k : NumberedMessage)
@@ -202,12 +196,16 @@ module _ {G A S : Type 0} (members : S → List Triple) (graphs : Graphs G) (lim
         (order_closed members graphs limit board passes outcomes histories closed ended settled none q) in
         member_map (λ (y : ℕ × Due). y.1) (posts (part q settled.order)) (s, due_of k) (subst (Member (s, due_of k)) same taken)
 
-    -- what was posted to a mailbox is what is due there, each message once
-    pub due_once : AreDueOnce p q (posted_to (part q settled.order))
+    -- what was posted to a mailbox is what is due there, each message once and by its sender
+    pub due_once : AreDueOnce p q (part q settled.order)
     due_once = record {
       once = posted_once q settled.order own_once (λ s s' m t t' a b.
           let (i, at) = place_of settled.order (Posted q s m t) a in
           let (j, there) = place_of settled.order (Posted q s' m t') b in
           by_sender q s m t i at ∙ sym (by_sender q s' m t' j there));
       all = λ k. (posted_due k, due_posted k);
+      senders = λ s d there.
+          let (t, posted) = post_there q settled.order (s, d) there in
+          let (i, at) = place_of settled.order (Posted q s d t) posted in
+          by_sender q s d t i at ∙ ap (λ n. sender_of n d) drawn.2.0;
     }

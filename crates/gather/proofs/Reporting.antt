@@ -1,7 +1,7 @@
 -- From outcomes to what a report says.
-use Rattle.std.proofs.Common.{◌≡◌, ◌≢◌, ◌<◌, inl, inr, ℕ, List, [], ◌∷◌, suc, map, length, codes}
+use Rattle.std.proofs.Common.{◌≡◌, ◌≢◌, ◌⊎◌, ◌<◌, Result, Ok, Err, inl, inr, ℕ, List, [], ◌∷◌, suc, map, length, codes}
 use Rattle.std.proofs.Common.{refl, sym, ap, ◌∙◌, subst}
-use Rattle.std.specs.Prelude.{Bool, ◌↔◌}
+use Rattle.std.specs.Prelude.{Bool, ◌↔◌, IfOk, IfErr}
 use Rattle.std.proofs.lemmas.Option.{slice_get_within}
 use Rattle.atomic_table.specs.Seated.{TableId}
 use Rattle.post_ledger.specs.declared.event.Event.{Event}
@@ -12,7 +12,7 @@ use Rattle.language.specs.Rounds.{Unsafe}
 use Rattle.language.specs.Step.{Program}
 use Rattle.language.specs.Flow.{Member}
 use Rattle.path_sets.specs.Triples.{Triple}
-use Rattle.language.specs.Sequential.{SomeBad}
+use Rattle.language.specs.Sequential.{SomeBad, sequential_of}
 use Rattle.round_rewrite.specs.Law.{KeepsTree}
 use Rattle.round_rewrite.specs.Names.{rewritten_tree}
 use Rattle.round_rewrite.specs.Narrow.{IsNarrow}
@@ -27,7 +27,7 @@ use Rattle.summaries.specs.declared.table.Table.{Table}
 use Rattle.summaries.specs.Effects.{Effects}
 use Rattle.summaries.specs.Fitting.{FitsIn}
 use Rattle.summaries.specs.Limits.{most_of}
-use Rattle.summaries.specs.Tabulated.{HasMoreEdges}
+use Rattle.summaries.specs.Tabulated.{AreSummaries, HasMoreEdges, SomePairBad}
 use Rattle.switchboard.specs.declared.calls.Cause.{Cause}
 use Rattle.switchboard.specs.declared.calls.Cause.TheVariants as cause
 use Rattle.switchboard.specs.Sights.{Sight}
@@ -36,9 +36,11 @@ use Rattle.procedure_worker.specs.declared.outcome.End.{End}
 use Rattle.procedure_worker.specs.declared.outcome.End.TheVariants.{Closed, Failed}
 use Rattle.procedure_worker.specs.declared.outcome.Outcome.{Outcome}
 use Rattle.procedure_worker.specs.Works.{begun, EndsSo}
+use Rattle.gather.specs.declared.jobs.Came.{Came}
+use Rattle.gather.specs.Jobs.{first_of, second_of}
 use Rattle.gather.specs.Ends.{HaveEnded, AreOfBoard}
 use Rattle.gather.specs.Gathered.{verdict_of, ends_of, NoneFailed, AllClosed, IsCause, IsGathered}
-use Rattle.gather.specs.Reports.{posted_to, rewriting_of, AreDueOnce, IsFound, IsNoReport}
+use Rattle.gather.specs.Reports.{rewriting_of, AreDueOnce, IsFound, IsNoReport, IsTabulated}
 use Rattle.gather.specs.Through.{AreThrough}
 use Rattle.gather.proofs.Lists.{place_of}
 use Rattle.gather.proofs.Full.{got_map, through}
@@ -93,6 +95,29 @@ no_report source last most verdict.Memory narrow other more = narrow
 no_report source last most verdict.NoWorker narrow other more = narrow
 no_report source last most verdict.Spent narrow other more = narrow
 
+-- what one thread tabulates of the rewriting tells of the source
+pub tabulated : (last most : ℕ) (source tree : Tree) → tree ≡ rewritten_tree last source → KeepsTree last source
+    → IsNarrow last source → (r : Result Effects NoVerdict) → IfOk r (AreSummaries (sequential_of tree))
+    → IfOk r (λ s. SomePairBad s ↔ SomeBad (sequential_of tree) (number_of (codes "bad__") tree.globals))
+    → IfOk r (λ s. (q : ℕ) → HasMoreEdges (sequential_of tree) q most → ⊥) → IfOk r (IsTabulated source last most)
+tabulated last most source tree same keeps narrow (Err why) summaries bad few = tt
+tabulated last most source tree same keeps narrow (Ok s) summaries bad few = record {
+  summaries = subst (λ (t : Tree). AreSummaries (sequential_of t) s) same summaries;
+  few = subst (λ (t : Tree). (q : ℕ) → HasMoreEdges (sequential_of t) q most → ⊥) same few;
+  bad = keeps_answer last source tree same keeps (number_of (codes "bad__") tree.globals) refl (SomePairBad s)
+      (subst (λ (t : Tree). SomePairBad s ↔ SomeBad (sequential_of t) (number_of (codes "bad__") tree.globals)) same bad);
+  narrow = narrow;
+}
+
+pub not_tabulated : (last most : ℕ) (source tree : Tree) → tree ≡ rewritten_tree last source → IsNarrow last source
+    → (r : Result Effects NoVerdict)
+    → (r ≡ Err verdict.EdgeLimit → (q : ℕ) × HasMoreEdges (sequential_of tree) q most)
+    → IfErr r (λ e. (e ≡ verdict.Memory) ⊎ (e ≡ verdict.EdgeLimit)) → IfErr r (IsNoReport source last most)
+not_tabulated last most source tree same narrow (Ok s) limit cause = tt
+not_tabulated last most source tree same narrow (Err why) limit cause =
+    no_report source last most why narrow (λ is. elim cause [ inl memory ↦ cc | inr edges ↦ cc ])
+    (λ is. subst (λ (t : Tree). (q : ℕ) × HasMoreEdges (sequential_of t) q most) same (limit (ap Err is)))
+
 -- the images of images
 map_twice : {X Y Z : Type 0} (f : Y → Z) (h : X → Y) (xs : List X) → map f (map h xs) ≡ map (λ x. f (h x)) xs
 map_twice f h [] = refl
@@ -103,14 +128,15 @@ other_cause same = cc
 
 module _ {G A S : Type 0} (members : S → List Triple) (graphs : Graphs G) (limit : EdgeLimit) (board : TableId) where
   -- what has ended, parted into passes and outcomes
-  pub parted : {P : Type 0} (sight : P → Sight Due (Graphs G)) (backs : List (P × Outcome G A S)) (passes : List P)
-      (outcomes : List (Outcome G A S)) → passes ≡ map (λ b. b.0) backs → outcomes ≡ map (λ b. b.1) backs
-      → HaveEnded members graphs limit board (map (λ b. sight b.0) backs) (map (λ b. b.1) backs)
+  pub parted : {P : Type 0} (sight : P → Sight Due (Graphs G)) (cames : List (Came (P × Outcome G A S))) (passes : List P)
+      (outcomes : List (Outcome G A S)) → passes ≡ map first_of cames
+      → outcomes ≡ map second_of cames
+      → HaveEnded members graphs limit board (map (λ c. sight (first_of c)) cames) (map second_of cames)
       → HaveEnded members graphs limit board (map sight passes) outcomes
-  parted sight backs passes outcomes firsts seconds ended =
+  parted sight cames passes outcomes firsts seconds ended =
       subst (HaveEnded members graphs limit board (map sight passes)) (sym seconds)
-      (subst (λ l. HaveEnded members graphs limit board l (map (λ b. b.1) backs))
-      (sym (ap (map sight) firsts ∙ map_twice sight (λ b. b.0) backs)) ended)
+      (subst (λ l. HaveEnded members graphs limit board l (map second_of cames))
+      (sym (ap (map sight) firsts ∙ map_twice sight first_of cames)) ended)
 
   module _ (passes : List (Sight Due (Graphs G))) (outcomes : List (Outcome G A S))
       (ended : HaveEnded members graphs limit board passes outcomes) where
@@ -150,7 +176,7 @@ module _ {G A S : Type 0} (members : S → List Triple) (graphs : Graphs G) (lim
       found s gathered p drawn = record {
         through = subst (λ n. AreThrough n histories) drawn.2.0
             (through FitsIn (length (graphs_of graphs)) passes histories closed settled gathered.shut);
-        due = λ q h at. subst (λ l. AreDueOnce p q (posted_to l)) (sym (settled.parts q h at))
+        due = λ q h at. subst (AreDueOnce p q) (sym (settled.parts q h at))
             (due_once members graphs limit board passes outcomes histories closed ended settled
             (none_failed (ends_of outcomes) gathered.ended) p drawn q
             (subst (λ n. q < n) settled.count (slice_get_within histories q h at)));

@@ -1,5 +1,5 @@
 -- How the lanes of a board end.
-use Rattle.std.specs.Prelude.{◌≡◌, ◌⊎◌, ℕ, Bool, true, List, [], None, Some, length, slice_get}
+use Rattle.std.specs.Prelude.{◌≡◌, ◌≢◌, ◌⊎◌, ℕ, Bool, true, List, [], None, Some, length, slice_get}
 use Rattle.atomic_table.specs.Seated.{TableId}
 use Rattle.post_ledger.specs.declared.event.Event.{Event}
 use Rattle.post_ledger.specs.Orders.{own}
@@ -11,6 +11,7 @@ use Rattle.flow_graph.specs.Graphs.{AreDrawnFrom}
 use Rattle.summaries.specs.declared.due.Due.{Due}
 use Rattle.summaries.specs.declared.edge_limit.EdgeLimit.{EdgeLimit}
 use Rattle.summaries.specs.Fitting.{FitsIn}
+use Rattle.switchboard.specs.declared.calls.Abort.{Abort}
 use Rattle.switchboard.specs.declared.calls.Cause.TheVariants.{NoWorker}
 use Rattle.switchboard.specs.Sights.{Sight}
 use Rattle.switchboard.specs.Promises.{Settles}
@@ -18,10 +19,13 @@ use Rattle.procedure_worker.specs.declared.outcome.End.TheVariants.{Failed}
 use Rattle.procedure_worker.specs.declared.outcome.Outcome.{Outcome}
 use Rattle.procedure_worker.specs.Works.{Start, begun, IsPassOf, IsFresh, HasEnded}
 
--- The lane had no thread: its pass aborted the board for that, and made no event.
+-- The lane had no thread: its pass made no event, and aborted the board for that cause, unless another pass aborted it before.
 pub record HadNoThread {G A S : Type 0} (b : Start G) (s : Sight Due (Graphs G)) (o : Outcome G A S) : Type 0 where
   pub pass : IsPassOf b s
   pub made : s.made ≡ true
+  pub abort : Abort
+  pub kept : s.seen.aborted ≡ Some abort
+  pub first : (abort ≡ record { by = b.number; cause = NoWorker }) ⊎ (abort.by ≢ b.number)
   pub none : own b.number s.seen.order ≡ []
   pub table : o.table ≡ None
   pub named : o.end ≡ Failed NoWorker

@@ -10,9 +10,9 @@ use Rattle.summaries.specs.declared.due.Due.{Due}
 use Rattle.summaries.specs.declared.edge_limit.EdgeLimit.{EdgeLimit}
 use Rattle.switchboard.specs.Sights.{Sight}
 use Rattle.procedure_worker.specs.declared.outcome.Outcome.{Outcome}
-use Rattle.procedure_worker.specs.Works.{Start, begun, IsFresh}
+use Rattle.procedure_worker.specs.Works.{Start, begun, IsFresh, HasEnded}
 use Rattle.gather.specs.declared.lane.Lane.{Lane}
-use Rattle.gather.specs.Ends.{LaneEnds}
+use Rattle.gather.specs.Ends.{HadNoThread}
 
 module _ {R G A S B K P : Type 0} (identity : B → TableId) (sight : P → Sight Due (Graphs G)) where
   -- what the lane's worker begins with
@@ -25,9 +25,13 @@ module _ {R G A S B K P : Type 0} (identity : B → TableId) (sight : P → Sigh
     pub near : l.number < length (graphs_of l.graphs.now)
     pub fresh : IsFresh (start_of l) (sight l.pass)
 
-  -- what came back is the pass and the outcome of the lane, which has ended
-  abbrev pub HasCome : (S → List Triple) → Lane R P G A B S K → P × Outcome G A S → Type 0
-  HasCome members l r = LaneEnds members (start_of l) (sight r.0) r.1
+  -- what came back is the pass and the outcome of the lane, whose worker has ended
+  abbrev pub HasWorked : (S → List Triple) → Lane R P G A B S K → P × Outcome G A S → Type 0
+  HasWorked members l r = HasEnded (start_of l) members (sight r.0) r.1
+
+  -- what came back is the pass and the outcome of the lane, which had no thread
+  abbrev pub WasDeclined : Lane R P G A B S K → P × Outcome G A S → Type 0
+  WasDeclined l r = HadNoThread (start_of l) (sight r.0) r.1
 
   -- each lane is that of the procedure of its number, and its worker may begin
   abbrev pub AreOwn : Graphs G → EdgeLimit → TableId → List (Lane R P G A B S K) → Type 0

@@ -1,5 +1,5 @@
 -- What a report says of a program.
-use Rattle.std.specs.Prelude.{◌≡◌, ◌↔◌, ℕ, suc, List, Some, map, length, slice_get}
+use Rattle.std.specs.Prelude.{◌≡◌, ◌↔◌, ℕ, suc, true, List, Some, map, length, slice_get}
 use Rattle.language.specs.Tree.{Tree}
 use Rattle.language.specs.Step.{Program}
 use Rattle.language.specs.Flow.{Member}
@@ -12,12 +12,14 @@ use Rattle.round_rewrite.specs.Names.{rewritten_tree}
 use Rattle.round_rewrite.specs.Narrow.{IsNarrow}
 use Rattle.path_sets.specs.Triples.{NoneTwice}
 use Rattle.flow_graph.specs.Numbers.{NumberedMessage, IsNumberOf}
+use Rattle.summaries.specs.declared.due.Caller.TheVariants.{Proc, Starter}
 use Rattle.summaries.specs.declared.due.Due.{Due}
+use Rattle.summaries.specs.declared.due.Due.TheVariants.{Entry, Summary}
 use Rattle.summaries.specs.declared.no_verdict.NoVerdict.{NoVerdict}
 use Rattle.summaries.specs.declared.no_verdict.NoVerdict.TheVariants as verdict
 use Rattle.summaries.specs.Dues.{due_of}
 use Rattle.summaries.specs.Effects.{Effects}
-use Rattle.summaries.specs.Tabulated.{AreSummaries, HasMoreEdges}
+use Rattle.summaries.specs.Tabulated.{AreSummaries, HasMoreEdges, SomePairBad}
 use Rattle.gather.specs.declared.report.Answer.TheVariants as answer
 use Rattle.gather.specs.declared.report.Report.{Report}
 use Rattle.gather.specs.Through.{AreThrough}
@@ -26,18 +28,27 @@ use Rattle.gather.specs.Through.{AreThrough}
 abbrev pub posted_to : {M : Type 0} → List (Event M) → List M
 posted_to {M} h = map (λ (p : ℕ × M). p.1) (posts h)
 
--- The messages are those that are due for procedure q, each once.
-pub record AreDueOnce (p : Program) (q : ℕ) (ds : List Due) : Type 0 where
-  pub once : NoneTwice ds
-  pub all : (k : NumberedMessage) → Member (due_of k) ds ↔ IsNumberOf (IsDue p q) k
+-- the number of the sender of a message, where the starter has this number: an entry is sent by its caller, a summary by the
+-- procedure that it is of
+abbrev pub sender_of : ℕ → Due → ℕ
+sender_of starter (Entry Starter a) = starter
+sender_of starter (Entry (Proc c) a) = c
+sender_of starter (Summary s a b) = s
+
+-- The messages posted are those that are due for procedure q, each once, and each was posted by its sender, where the starter's
+-- number is that of the procedures.
+pub record AreDueOnce (p : Program) (q : ℕ) (h : List (Event Due)) : Type 0 where
+  pub once : NoneTwice (posted_to h)
+  pub all : (k : NumberedMessage) → Member (due_of k) (posted_to h) ↔ IsNumberOf (IsDue p q) k
+  pub senders : (s : ℕ) (d : Due) → Member (s, d) (posts h) → s ≡ sender_of (length p.routines) d
 
 -- What the workers of a sequential program have done and found. In each mailbox each message posted was taken once,
 -- each sender's in the order of posting, and nothing was posted after the close; the messages posted are those due
--- there, each once; the summaries are exactly the entries and pairs of each procedure; and no procedure has more path
+-- there, each once and by its sender; the summaries are exactly the entries and pairs of each procedure; and no procedure has more path
 -- edges than `most`.
 pub record IsFound (p : Program) (most : ℕ) (histories : List (List (Event Due))) (s : Effects) : Type 0 where
   pub through : AreThrough (length p.routines) histories
-  pub due : (q : ℕ) (h : List (Event Due)) → slice_get histories q ≡ Some h → AreDueOnce p q (posted_to h)
+  pub due : (q : ℕ) (h : List (Event Due)) → slice_get histories q ≡ Some h → AreDueOnce p q h
   pub summaries : AreSummaries p s
   pub few : (q : ℕ) → HasMoreEdges p q most → ⊥
 
@@ -46,10 +57,22 @@ abbrev pub rewriting_of : ℕ → Tree → Program
 rewriting_of last source = sequential_of (rewritten_tree last source)
 
 -- The report on a source for as many rounds as one more than `last`: its workers have found what there is in its
--- rewriting, and the answer is `Unsafe` exactly where some run of at most so many rounds fails an assert.
+-- rewriting, and its board is closed; the answer is `Unsafe`, and some pair of `main__` is bad, exactly where some run of at
+-- most so many rounds fails an assert.
 pub record IsReport {H A : Type 0} (source : Tree) (last most : ℕ) (r : Report H A) : Type 0 where
   pub found : IsFound (rewriting_of last source) most r.ledger.histories.items r.summaries
+  pub closed : r.ledger.closed ≡ true
   pub answer : (r.answer ≡ answer.Unsafe) ↔ Unsafe (meaning_of source) (suc last)
+  pub bad : SomePairBad r.summaries ↔ Unsafe (meaning_of source) (suc last)
+  pub narrow : IsNarrow last source
+
+-- What one thread finds of a source for as many rounds as one more than `last`: the summaries are those of its rewriting, in
+-- which no procedure has more path edges than `most`, and some pair of `main__` is bad exactly where some run of at most so
+-- many rounds fails an assert.
+pub record IsTabulated (source : Tree) (last most : ℕ) (s : Effects) : Type 0 where
+  pub summaries : AreSummaries (rewriting_of last source) s
+  pub few : (q : ℕ) → HasMoreEdges (rewriting_of last source) q most → ⊥
+  pub bad : SomePairBad s ↔ Unsafe (meaning_of source) (suc last)
   pub narrow : IsNarrow last source
 
 -- Why there is no report: the rewriting is too wide, and only then; some procedure of it has more path edges than

@@ -1,9 +1,11 @@
 //! The crew of a board: a worker for each mailbox.
 ghost use Rattle.std.specs.Prelude.{◌≡◌, ◌≤◌, [], length, map, vec_capacity, IfOk};
 ghost use Rattle.gather.specs.Ends.{IsCrew, HaveEnded};
+ghost use Rattle.gather.specs.Jobs.{first_of, second_of};
 ghost use Rattle.gather.specs.Lanes.{AreLanes};
 
-use crate::jobs::run_all;
+use crate::hire::Hire;
+use crate::jobs::{Came, run_all};
 use crate::kinds::{WorkBoard, WorkSet};
 use crate::lane::Lane;
 use flow_graph::Graphs;
@@ -48,9 +50,9 @@ where
 }
 
 /// Has a worker for each procedure, each in a thread of its own, until all have ended, and gives back each pass with its
-/// outcome, in the order of the mailboxes. Where a thread is refused, the pass of its lane aborts the board for that, and
-/// no later one is started. An error is want of memory, before any thread was started.
-pub(crate) fn work_all<'c, 'g, R, B, S, K>(
+/// outcome, in the order of the mailboxes. Where a start is refused, the passes of that lane and of those behind it abort the
+/// board for that. An error is want of memory, before any thread was started.
+pub(crate) fn work_all<'c, 'g, R, B, S, K, H>(
     rt: &'c R,
     alloc: S::Heap,
     board: &'c B,
@@ -58,7 +60,8 @@ pub(crate) fn work_all<'c, 'g, R, B, S, K>(
     graphs: &'g Graphs<B::Heap>,
     limit: EdgeLimit,
     gate: &'c K,
-) -> Result<Vec<(B::Pass, Outcome<'g, B::Heap, S::Heap, S>), S::Heap>, AllocError>
+    hire: &H,
+) -> Result<Vec<Came<(B::Pass, Outcome<'g, B::Heap, S::Heap, S>)>, S::Heap>, AllocError>
 where
     R: Wait + Threads + Sync,
     B: WorkBoard + Sync,
@@ -67,41 +70,45 @@ where
     S: WorkSet + Send,
     S::Heap: Send + Sync,
     K: Gate + Sync,
+    H: Hire,
     requires { IsCrew graphs.now limit (B.identity board.now) (map B.sight passes.items) }
-    ensures { IfOk result (λ backs. HaveEnded S.members graphs.now limit (B.identity board.now)
-        (map (λ b. B.sight b.0) backs.items) (map (λ b. b.1) backs.items)) }
+    ensures { IfOk result (λ cames. HaveEnded S.members graphs.now limit (B.identity board.now)
+        (map (λ c. B.sight (first_of c)) cames.items) (map second_of cames.items)) }
 {
     let lanes = lanes_of::<R, B, S, K>(rt, alloc, board, passes, graphs, limit, gate)?;
-    run_all(rt, alloc, lanes)
+    run_all(rt, alloc, lanes, hire)
 }
 
-/// Parts pairs into two lists that have room for them.
+/// Parts the pairs that came into two lists that have room for them.
 fn part<P: Drop, O: Drop, H: Allocator, A: Allocator>(
-    pairs: Vec<(P, O), A>,
+    cames: Vec<Came<(P, O)>, A>,
     firsts: &mut Vec<P, H>,
     seconds: &mut Vec<O, A>,
 )
-    requires room { (length pairs.items ≤ vec_capacity firsts.old) × (length pairs.items ≤ vec_capacity seconds.old) }
+    requires room { (length cames.items ≤ vec_capacity firsts.old) × (length cames.items ≤ vec_capacity seconds.old) }
     requires empty { (firsts.old.items ≡ []) × (seconds.old.items ≡ []) }
-    ensures firsts { firsts.new.items ≡ map (λ b. b.0) pairs.items }
-    ensures seconds { seconds.new.items ≡ map (λ b. b.1) pairs.items }
+    ensures firsts { firsts.new.items ≡ map first_of cames.items }
+    ensures seconds { seconds.new.items ≡ map second_of cames.items }
 {
-    for (first, second) in pairs {
+    for came in cames {
+        let (first, second) = came.back();
         firsts.push_reserved(first);
         seconds.push_reserved(second);
     }
 }
 
-/// Parts pairs into two lists. It is generic in what they hold, so that no caller has the drops of a list that is still empty.
+/// Parts the pairs that came into two lists. It is generic in what they hold, so that no caller has the drops of a list that is
+/// still empty.
 pub(crate) fn parted<P: Drop, O: Drop, H: Allocator, A: Allocator>(
     heap: H,
     alloc: A,
-    pairs: Vec<(P, O), A>,
+    cames: Vec<Came<(P, O)>, A>,
 ) -> Result<(Vec<P, H>, Vec<O, A>), AllocError>
-    ensures { IfOk result (λ r. (r.0.items ≡ map (λ b. b.0) pairs.items) × (r.1.items ≡ map (λ b. b.1) pairs.items)) }
+    ensures { IfOk result (λ r. (r.0.items ≡ map first_of cames.items)
+        × (r.1.items ≡ map second_of cames.items)) }
 {
-    let mut firsts = Vec::with_capacity(heap, pairs.len())?;
-    let mut seconds = Vec::with_capacity(alloc, pairs.len())?;
-    part(pairs, &mut firsts, &mut seconds);
+    let mut firsts = Vec::with_capacity(heap, cames.len())?;
+    let mut seconds = Vec::with_capacity(alloc, cames.len())?;
+    part(cames, &mut firsts, &mut seconds);
     Ok((firsts, seconds))
 }

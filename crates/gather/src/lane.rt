@@ -29,13 +29,15 @@ impl<'c, 'g, R: Wait, B: WorkBoard, S: WorkSet, K: Gate> Job
 where
     B::Pass: Drop,
 {
-    ghost use Rattle.gather.specs.Lanes.{MayWork, HasCome};
+    ghost use Rattle.gather.specs.Lanes.{MayWork, HasWorked, WasDeclined};
 
     type Back = (B::Pass, Outcome<'g, B::Heap, S::Heap, S>);
 
     ghost can_run = { MayWork B.identity B.sight };
 
-    ghost gives = { HasCome B.identity B.sight S.members };
+    ghost runs = { HasWorked B.identity B.sight S.members };
+
+    ghost declines = { WasDeclined B.identity B.sight };
 
     fn run(self) -> (B::Pass, Outcome<'g, B::Heap, S::Heap, S>) {
         let Lane {

@@ -3,11 +3,16 @@
 
 mod crew;
 mod gathering;
+mod hire;
 mod jobs;
 mod kinds;
 mod lane;
+mod no_thread;
+mod one_thread;
 mod report;
 
 pub use gathering::gather;
+pub use hire::{Always, Hire};
 pub use kinds::{WorkBoard, WorkSet};
-pub use report::{Answer, Report, check_rounds, check_rounds_with};
+pub use one_thread::tabulate_rounds;
+pub use report::{Answer, Report, check_rounds, check_rounds_tried, check_rounds_with};

@@ -1,5 +1,5 @@
 //! A report on a program: what the workers of its rewriting did and found.
-ghost use Rattle.std.specs.Prelude.{◌≡◌, ◌≢◌, ◌≤◌, ◌↔◌, ℕ, length, IfOk, IfErr, Err};
+ghost use Rattle.std.specs.Prelude.{◌≡◌, ◌≢◌, ◌≤◌, ◌^◌, ◌↔◌, ℕ, true, length, IfOk, IfErr, Err};
 ghost use Rattle.language.specs.Step.{Program};
 ghost use Rattle.language.specs.Sequential.{SomeBad};
 ghost use Rattle.round_rewrite.specs.Programs.{last_round};
@@ -12,6 +12,7 @@ ghost use Rattle.gather.specs.Reports.{IsFound, IsReport, IsNoReport};
 
 use crate::crew::{parted, work_all};
 use crate::gathering::gather;
+use crate::hire::{Always, Hire};
 use crate::kinds::{WorkBoard, WorkSet};
 use flow_graph::{Graphs, graphs};
 use path_sets::DiagramEdges;
@@ -24,6 +25,7 @@ use std::sync::Wait;
 use std::thread::Threads;
 use summaries::{Caller, Due, EdgeLimit, NoVerdict, Summaries};
 use switchboard::LockPerBox;
+use ticket_lock::MOST_TICKETS;
 
 /// Whether some run within the rounds fails an assert.
 #[derive(Clone, Copy, Debug, PartialEq, Eq)]
@@ -45,13 +47,15 @@ pub struct Report<H: Allocator, A: Allocator> {
 }
 
 /// What the workers of all procedures do and find, a thread for each: the ledger of their board, and the summaries.
-fn analyse<R, B, S, K>(
+fn analyse<R, B, S, K, H>(
     rt: &R,
     heap: B::Heap,
     alloc: S::Heap,
     graphs: &Graphs<B::Heap>,
     limit: EdgeLimit,
     gate: &K,
+    hire: &H,
+    budget: u64,
 ) -> Result<(Ledger<Due, B::Heap>, Summaries<S::Heap>), NoVerdict>
 where
     R: Wait + Threads + Sync,
@@ -61,10 +65,13 @@ where
     S: WorkSet + Send,
     S::Heap: Send + Sync,
     K: Gate + Sync,
+    H: Hire,
     requires drawn { (p : Program) × AreDrawnFrom p (graphs_of graphs.now) }
     requires some { 1 ≤ length (graphs_of graphs.now) }
+    requires budget { (2 ≤ budget) × (budget ≤ 2 ^ 56) }
     ensures found { (p : Program) → AreDrawnFrom p (graphs_of graphs.now)
         → IfOk result (λ r. IsFound p (most_of limit) r.0.histories.items r.1) }
+    ensures closed { IfOk result (λ r. r.0.closed ≡ true) }
     ensures bad { (p : Program) → AreDrawnFrom p (graphs_of graphs.now)
         → IfOk result (λ r. SomePairBad r.1 ↔ SomeBad p (bad_of graphs.now)) }
     ensures limit { (p : Program) → AreDrawnFrom p (graphs_of graphs.now) → result ≡ Err NoVerdict.EdgeLimit
@@ -75,8 +82,9 @@ where
         caller: Caller::Starter,
         a: 0,
     };
-    let (board, passes) = B::open(heap, graphs, graphs.len() as u8, 0, opening)?;
-    let ended = work_all::<R, B, S, K>(rt, alloc, &board, passes, graphs, limit, gate)?;
+    let boxes = graphs.len() as u8;
+    let (board, passes) = B::open_with_budget(heap, graphs, boxes, 0, opening, budget)?;
+    let ended = work_all::<R, B, S, K, H>(rt, alloc, &board, passes, graphs, limit, gate, hire)?;
     let (mut back, outcomes) = parted(heap, alloc, ended)?;
     let ledger = board.into_ledger(&mut back);
     let summaries = gather(alloc, graphs, outcomes)?;
@@ -89,6 +97,57 @@ where
 /// `heap`, tables and summaries in that of `alloc`. The gate is told of each take and post. `TooWide` is answered exactly
 /// where some procedure of the rewriting has more than 64 places, `EdgeLimit` only where some procedure has more path edges
 /// than the limit. Of several causes the one of the least number is answered.
+///
+/// A worker has a thread only where `hire` says that it may; where it says no, or the system refuses a thread, that worker and
+/// those behind it do nothing but abort the board, and a cause is `NoWorker`. Each worker has one call of the board fewer than
+/// `budget`, from 2 to 2^56; where one has used them up, a cause is `Spent`.
+pub fn check_rounds_tried<R, B, S, K, H, N>(
+    rt: &R,
+    heap: B::Heap,
+    alloc: S::Heap,
+    program: &Checked<N>,
+    rounds: Rounds,
+    limit: EdgeLimit,
+    gate: &K,
+    hire: &H,
+    budget: u64,
+) -> Result<Report<B::Heap, S::Heap>, NoVerdict>
+where
+    R: Wait + Threads + Sync,
+    B: WorkBoard + Sync + Drop,
+    B::Pass: Send + Drop,
+    B::Heap: Send + Sync,
+    S: WorkSet + Send,
+    S::Heap: Send + Sync,
+    K: Gate + Sync,
+    H: Hire,
+    N: Allocator,
+    requires budget { (2 ≤ budget) × (budget ≤ 2 ^ 56) }
+    ensures report { IfOk result (IsReport (checked_tree program.now) (last_round rounds) (most_of limit)) }
+    ensures none { IfErr result (IsNoReport (checked_tree program.now) (last_round rounds) (most_of limit)) }
+{
+    let sequential = match rewrite(&heap, program, rounds) {
+        Ok(sequential) => sequential,
+        Err(RewriteFault::TooWide) => return Err(NoVerdict::TooWide),
+        Err(RewriteFault::Memory) => return Err(NoVerdict::Memory),
+    };
+    let graphs = graphs(&heap, &sequential)?;
+    let (ledger, summaries) = analyse::<R, B, S, K, H>(
+        rt, heap, alloc, &graphs, limit, gate, hire, budget,
+    )?;
+    let answer = if summaries.bad() {
+        Answer::Unsafe
+    } else {
+        Answer::Safe
+    };
+    Ok(Report {
+        answer,
+        ledger,
+        summaries,
+    })
+}
+
+/// The same, where every worker may have a thread, and has 2^56 - 1 calls.
 pub fn check_rounds_with<R, B, S, K, N>(
     rt: &R,
     heap: B::Heap,
@@ -110,23 +169,17 @@ where
     ensures report { IfOk result (IsReport (checked_tree program.now) (last_round rounds) (most_of limit)) }
     ensures none { IfErr result (IsNoReport (checked_tree program.now) (last_round rounds) (most_of limit)) }
 {
-    let sequential = match rewrite(&heap, program, rounds) {
-        Ok(sequential) => sequential,
-        Err(RewriteFault::TooWide) => return Err(NoVerdict::TooWide),
-        Err(RewriteFault::Memory) => return Err(NoVerdict::Memory),
-    };
-    let graphs = graphs(&heap, &sequential)?;
-    let (ledger, summaries) = analyse::<R, B, S, K>(rt, heap, alloc, &graphs, limit, gate)?;
-    let answer = if summaries.bad() {
-        Answer::Unsafe
-    } else {
-        Answer::Safe
-    };
-    Ok(Report {
-        answer,
-        ledger,
-        summaries,
-    })
+    check_rounds_tried::<R, B, S, K, Always, N>(
+        rt,
+        heap,
+        alloc,
+        program,
+        rounds,
+        limit,
+        gate,
+        &Always,
+        MOST_TICKETS,
+    )
 }
 
 /// The same over a board with a lock for each mailbox and path edges as decision diagrams, all in memory of one allocator.

@@ -2,6 +2,8 @@
 
 use crate::gates::{Late, Meeting, Noting};
 use crate::program::{Asked, Parts, read_case};
+use crate::refusing::Place;
+use crate::tried::{parts_at, with_budget, with_budgets, with_limits, without_lane};
 use crate::{report, scarcity};
 use procedure_worker::{Gate, Open};
 use std::alloc::{AllocError, Global};
@@ -56,7 +58,36 @@ fn answer<R: Wait + Threads + Sync>(
         "late" => late(rt, alloc, out, &asked),
         "meeting" => meeting(rt, alloc, out, &asked),
         "begun" => begun(rt, alloc, out, &asked),
-        _ => numbered(rt, alloc, out, &asked, how),
+        _ => match how.split_once("but lane ") {
+            Some((_, rest)) => but_lane(rt, alloc, out, &asked, rest),
+            None => numbered(rt, alloc, out, &asked, how),
+        },
+    }
+}
+
+/// The call of the gate that words name: `take 2 of lane 0`.
+fn place_of(words: &str) -> Option<Place> {
+    let (call, lane) = words.split_once(" of lane ")?;
+    let (what, count) = call.split_once(' ')?;
+    Some(Place {
+        is_take: what == "take",
+        lane: lane.parse::<u8>().ok()?,
+        count: count.parse::<u64>().ok()?,
+    })
+}
+
+/// Writes what comes of it with the lane refused that is named, after the call that is named.
+fn but_lane<R: Wait + Threads + Sync>(
+    rt: &R,
+    alloc: Global,
+    out: &mut String,
+    asked: &Asked,
+    words: &str,
+) -> Result<(), AllocError> {
+    let (lane, after) = words.split_once(" after ").unwrap_or((words, ""));
+    match lane.parse::<u8>() {
+        Ok(lane) => without_lane(rt, alloc, out, asked, lane, place_of(after)),
+        Err(_) => write!(out, "no such lane"),
     }
 }
 
@@ -87,16 +118,12 @@ fn with_all<R: Wait + Threads + Sync>(
     asked: &Asked,
 ) -> Result<(), AllocError> {
     for number in 0..4u8 {
-        let parts = Parts {
-            one_lock: number / 2 == 1,
-            diagrams: number % 2 == 1,
-        };
-        again(rt, alloc, out, asked, parts, &Open)?;
+        again(rt, alloc, out, asked, parts_at(number), &Open)?;
     }
     Ok(())
 }
 
-/// Writes what comes of so many runs over each board with each set, or of as many with one allocation refused in each.
+/// Writes what comes of a case that begins with a word and a number.
 fn numbered<R: Wait + Threads + Sync>(
     rt: &R,
     alloc: Global,
@@ -106,9 +133,23 @@ fn numbered<R: Wait + Threads + Sync>(
 ) -> Result<(), AllocError> {
     let (word, number) = how.split_once(' ').unwrap_or((how, ""));
     let number = number.parse::<u64>().unwrap_or(0);
-    if word == "refusing" {
-        return scarcity::write(rt, alloc, out, asked, number);
+    match word {
+        "refusing" => scarcity::write(rt, alloc, out, asked, number),
+        "budget" => with_budget(rt, alloc, out, asked, number),
+        "budgets" => with_budgets(rt, alloc, out, asked, number),
+        "limits" => with_limits(rt, alloc, out, asked, number),
+        _ => times(rt, alloc, out, asked, number),
     }
+}
+
+/// Writes what comes of so many runs over each board with each set.
+fn times<R: Wait + Threads + Sync>(
+    rt: &R,
+    alloc: Global,
+    out: &mut String,
+    asked: &Asked,
+    number: u64,
+) -> Result<(), AllocError> {
     for _ in 0..number {
         with_all(rt, alloc, out, asked)?;
     }

@@ -7,6 +7,11 @@
 //! | `late: report K N \| TEXT` | the same, where it comes so with each lane in turn kept back at each of its takes and posts |
 //! | `meeting: report K N \| TEXT` | the same, where the first post of lane 1 and the first take of lane 2 wait for each other |
 //! | `begun: report K N \| TEXT` | the same, and whether lane 0 has taken and posted and lane 1 has taken |
+//! | `but lane L: answer K N \| TEXT` | the answer with the thread of lane L refused, and how many lanes were asked for, over all four pairs |
+//! | `but lane L after take C of lane P: answer K N \| TEXT` | the same, where the refusal comes behind that call (or `post C`) |
+//! | `budget B: answer K N \| TEXT` | the answer where each worker has B - 1 calls of the board, over all four pairs |
+//! | `budgets B: answer K N \| TEXT` | the same for 2, and whether for 3 to B it is `Spent` or the answer that comes without a limit |
+//! | `limits N: answer K N \| TEXT` | the answers for at most 1 to N path edges, where they change, over all four pairs |
 //! | `refusing T: answer K N \| TEXT` | what comes of it with one allocation refused, the first, then the second, up to T |
 //! | `answer K N \| TEXT` | the answer alone |
 //!
@@ -18,8 +23,10 @@
 mod case;
 mod gates;
 mod program;
+mod refusing;
 mod report;
 mod scarcity;
+mod tried;
 
 use std::io::{self, BufRead, BufReader};
 

@@ -1,17 +1,11 @@
 //! From a text to a checked program, and to the summaries that one thread tabulates.
 
-ghost use Rattle.std.specs.Prelude.{◌≡◌};
-ghost use Rattle.language.specs.Sequential.{sequential_of};
-ghost use Rattle.language.specs.Step.{Program};
-ghost use Rattle.trees.specs.Trees.{tree_of};
-
-use flow_graph::graphs;
+use gather::tabulate_rounds;
 use path_sets::PathSet;
-use resolved::Sequential;
-use round_rewrite::{Rounds, rewrite};
+use round_rewrite::Rounds;
 use scopes::{Checked, check};
 use std::alloc::{Allocator, Global};
-use summaries::{EdgeLimit, NoVerdict, Summaries, tabulate};
+use summaries::{EdgeLimit, NoVerdict, Summaries};
 use syntax::read;
 
 /// What is asked: a program, for how many rounds, with how many path edges a procedure at most, and what the workers have.
@@ -48,26 +42,10 @@ fn checked<A: Allocator + Copy>(alloc: A, text: &str) -> Option<Checked<A>> {
     check(alloc, read(alloc, text.as_bytes()).ok()?).ok()
 }
 
-/// What one thread tabulates of a sequential program, with its path edges kept in sets of the type `S`.
-fn by_graphs<A: Allocator + Copy, S: PathSet<A>>(
-    alloc: A,
-    sequential: &Sequential<A>,
-    limit: EdgeLimit,
-) -> Result<Summaries<A>, NoVerdict>
-    ghost program: { Program }
-    requires { program ≡ sequential_of (tree_of sequential.now.program) }
-{
-    let graphs = graphs(&alloc, sequential)?;
-    tabulate::<_, _, S>(alloc, &graphs, limit)
-}
-
 /// What one thread tabulates.
 pub fn on_one_thread<A: Allocator + Copy, S: PathSet<A>>(
     alloc: A,
     asked: &Asked,
 ) -> Result<Summaries<A>, NoVerdict> {
-    match rewrite(&alloc, &asked.program, asked.rounds) {
-        Ok(sequential) => by_graphs::<_, S>(alloc, &sequential, asked.limit),
-        Err(_) => Err(NoVerdict::Memory),
-    }
+    tabulate_rounds::<S, A, Global>(alloc, &asked.program, asked.rounds, asked.limit)
 }

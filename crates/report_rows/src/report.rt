@@ -74,7 +74,7 @@ fn write_counts<A: Allocator>(out: &mut String, report: &Report<A, A>) -> Result
     Ok(())
 }
 
-/// Whether two procedures have the same entries and pairs.
+/// Whether two summaries have the same entries and pairs of each procedure, and are bad alike.
 fn is_same(one: &Summaries<Global>, other: &Summaries<Global>) -> bool {
     let same = |procedure: u8| {
         let number = usize::from(procedure);
@@ -85,7 +85,7 @@ fn is_same(one: &Summaries<Global>, other: &Summaries<Global>) -> bool {
             number >= one.len() && number >= other.len()
         }
     };
-    (0..=31u8).all(same)
+    one.bad() == other.bad() && (0..=31u8).all(same)
 }
 
 /// Writes a report, or why there is none.

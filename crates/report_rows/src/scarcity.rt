@@ -12,7 +12,7 @@ use summaries::NoVerdict;
 /// What comes of a run with one allocation refused.
 #[derive(Clone, Copy, PartialEq, Eq)]
 enum Came {
-    /// Want of memory, or of a thread.
+    /// Want of memory.
     Wanting,
     /// The answer of a run in which nothing was refused.
     Whole(Answer),
@@ -24,7 +24,7 @@ fn run<R: Wait + Threads + Sync>(rt: &R, alloc: Global, asked: &Asked, nth: u64)
     let scarce = Scarce::refusing(alloc, nth);
     let came = answer(rt, &scarce, asked);
     match (scarce.refused(), came) {
-        (true, Err(NoVerdict::Memory | NoVerdict::NoWorker)) => Came::Wanting,
+        (true, Err(NoVerdict::Memory)) => Came::Wanting,
         (false, Ok(answer)) => Came::Whole(answer),
         _ => Came::Otherwise,
     }
@@ -43,10 +43,10 @@ pub fn write<R: Wait + Threads + Sync>(
         match run(rt, alloc, asked, nth) {
             Came::Wanting => {}
             Came::Whole(answer) if nth > 20 => {
-                return write!(out, "want of memory or of a thread, and then {answer:?}");
+                return write!(out, "want of memory, and then {answer:?}");
             }
             _ => return write!(out, "another answer where allocation {nth} is refused"),
         }
     }
-    write!(out, "want of memory or of a thread")
+    write!(out, "want of memory")
 }

@@ -1,12 +1,16 @@
 -- Where all lanes have come back they have ended.
+use Rattle.std.proofs.Common.{arith}
 use Rattle.std.proofs.lemmas.Result.{IfOk-weaker}
 use Rattle.gather.proofs.Crews.{all_ended}
 use Rattle.gather.proofs.crew.work_all.Goals as goal
 
 pub returns : goal.returns
-returns g c = IfOk-weaker c.run_all.result _ _ (λ backs given.
+returns g c = IfOk-weaker c.run_all.result _ _ (λ cames come.
     all_ended g.B-Board.identity g.B-Board.sight c.args.graphs.now c.args.limit (g.B-Board.identity c.args.board.now)
-    g.S.PathSet.members c.in_ok-lanes.lanes.items backs.items c.in_ok-lanes.ensures given) c.run_all.ensures
+    g.S.PathSet.members c.in_ok-lanes.lanes.items cames.items c.in_ok-lanes.ensures come) c.run_all.ensures
+
+pub run_all-requires-clause-few : goal.run_all-requires-clause-few
+run_all-requires-clause-few g c κs within = omega (arith, c.in_ok-lanes.ensures.all, c.args.graphs.now.few)
 
 pub run_all-requires-clause-runs : goal.run_all-requires-clause-runs
 run_all-requires-clause-runs g c κs within = λ i j at. (c.in_ok-lanes.ensures.own i j at).1

@@ -1,5 +1,5 @@
 -- From a board that is opened to what its workers have found.
-use Rattle.std.proofs.Common.{◌^◌, ◌∙◌, map}
+use Rattle.std.proofs.Common.{◌∙◌, map}
 use Rattle.std.proofs.lemmas.Result.{err_from_is_err_and}
 use Rattle.summaries.proofs.Steps.{opening_fits}
 use Rattle.gather.proofs.Crews.{new_crew, all_passes}
@@ -10,13 +10,13 @@ use Rattle.gather.proofs.report.analyse.Given.{Over}
 use Rattle.gather.proofs.report.analyse.Goals as goal
 use Rattle.gather.proofs.report.analyse.Goals.{After-back-2-1}
 
-pub open-requires-clause-fits : goal.open-requires-clause-fits
-open-requires-clause-fits g c = opening_fits c.args.graphs.now c.requires.some
+pub open_with_budget-requires-clause-fits : goal.open_with_budget-requires-clause-fits
+open_with_budget-requires-clause-fits g c = opening_fits c.args.graphs.now c.requires.some
 
 pub work_all-requires-after_bounds : goal.work_all-requires-after_bounds
 work_all-requires-after_bounds g c κs within =
-    new_crew c.args.graphs.now c.args.limit (g.B-Board.identity c.in_ok-board.board) (2 ^ 56) c.len.result c.requires.drawn
-    c.len.ensures (map g.B-Board.sight c.in_ok-board.passes.items) c.in_ok-board.ensures.1
+    new_crew c.args.graphs.now c.args.limit (g.B-Board.identity c.in_ok-board.board) c.args.budget c.len-boxes.result c.requires.drawn
+    c.len-boxes.ensures (map g.B-Board.sight c.in_ok-board.passes.items) c.in_ok-board.ensures.1
 
 -- the lanes, parted into passes and outcomes, have ended
 ended : (g : Over) (c : After-back-2-1 g) → HaveEnded g.S.PathSet.members c.args.graphs.now c.args.limit
@@ -29,7 +29,7 @@ pub into_ledger-ledger-requires : goal.into_ledger-ledger-requires
 into_ledger-ledger-requires g c =
     all_passes g.S.PathSet.members c.args.graphs.now c.args.limit (g.B-Board.identity c.in_ok-board.board)
     (map g.B-Board.sight c.in_ok-back.back.items) c.in_ok-back.outcomes.items (ended g c)
-    (g.B-Board.mailboxes c.in_ok-board.board) (c.in_ok-board.ensures.0 ∙ c.len.ensures)
+    (g.B-Board.mailboxes c.in_ok-board.board) (c.in_ok-board.ensures.0 ∙ c.len-boxes.ensures)
 
 pub returns-in_err-summaries-clause-limit : goal.returns-in_err-summaries-clause-limit
 returns-in_err-summaries-clause-limit g c = λ p drawn is.
@@ -37,7 +37,7 @@ returns-in_err-summaries-clause-limit g c = λ p drawn is.
     let e = err_from_is_err_and c.from_residual-in_err-summaries.result c.from_residual-in_err-summaries.ensures.1 in
     let of = of_board g.S.PathSet.members c.args.graphs.now c.args.limit (g.B-Board.identity c.in_ok-board.board)
     (map g.B-Board.sight c.in_ok-back.back.items) c.in_ok-back.outcomes.items (ended g a)
-    (g.B-Board.mailboxes c.in_ok-board.board) (c.in_ok-board.ensures.0 ∙ c.len.ensures)
+    (g.B-Board.mailboxes c.in_ok-board.board) (c.in_ok-board.ensures.0 ∙ c.len-boxes.ensures)
     c.into_ledger-ledger.result.histories.items c.into_ledger-ledger.result.closed c.into_ledger-ledger.ensures.settles in
     limit_passed g.S.PathSet.members c.args.graphs.now c.args.limit (g.B-Board.identity c.in_ok-board.board)
     (map g.B-Board.sight c.in_ok-back.back.items) c.in_ok-back.outcomes.items (ended g a) c.in_err-summaries.field-0.0
@@ -50,7 +50,7 @@ returns-in_err-summaries-clause-cause g c =
     let e = err_from_is_err_and c.from_residual-in_err-summaries.result c.from_residual-in_err-summaries.ensures.1 in
     let of = of_board g.S.PathSet.members c.args.graphs.now c.args.limit (g.B-Board.identity c.in_ok-board.board)
     (map g.B-Board.sight c.in_ok-back.back.items) c.in_ok-back.outcomes.items (ended g a)
-    (g.B-Board.mailboxes c.in_ok-board.board) (c.in_ok-board.ensures.0 ∙ c.len.ensures)
+    (g.B-Board.mailboxes c.in_ok-board.board) (c.in_ok-board.ensures.0 ∙ c.len-boxes.ensures)
     c.into_ledger-ledger.result.histories.items c.into_ledger-ledger.result.closed c.into_ledger-ledger.ensures.settles in
     rw (e.1, e.2) (not_wide (ends_of c.in_ok-back.outcomes.items) c.in_err-summaries.field-0.0
     (c.in_err-summaries.ensures c.into_ledger-ledger.result.histories.items c.into_ledger-ledger.result.closed of).1)
@@ -60,7 +60,7 @@ returns-clause-found g c = λ p drawn.
     let a = (goal.at.returns-clause-found g c).After-back-2-1 in
     let histories = c.into_ledger-ledger.result.histories.items in
     let closed = c.into_ledger-ledger.result.closed in
-    let count = c.in_ok-board.ensures.0 ∙ c.len.ensures in
+    let count = c.in_ok-board.ensures.0 ∙ c.len-boxes.ensures in
     let left = c.into_ledger-ledger.ensures.settles in
     let id = g.B-Board.identity c.in_ok-board.board in
     let passes = map g.B-Board.sight c.in_ok-back.back.items in
@@ -70,11 +70,20 @@ returns-clause-found g c = λ p drawn.
     found g.S.PathSet.members c.args.graphs.now c.args.limit id passes c.in_ok-back.outcomes.items (ended g a) boxes count
     histories closed left c.in_ok-summaries.summaries (c.in_ok-summaries.ensures histories closed of).0 p drawn
 
+pub returns-clause-closed : goal.returns-clause-closed
+returns-clause-closed g c =
+    let a = (goal.at.returns-clause-closed g c).After-back-2-1 in
+    let of = of_board g.S.PathSet.members c.args.graphs.now c.args.limit (g.B-Board.identity c.in_ok-board.board)
+    (map g.B-Board.sight c.in_ok-back.back.items) c.in_ok-back.outcomes.items (ended g a)
+    (g.B-Board.mailboxes c.in_ok-board.board) (c.in_ok-board.ensures.0 ∙ c.len-boxes.ensures)
+    c.into_ledger-ledger.result.histories.items c.into_ledger-ledger.result.closed c.into_ledger-ledger.ensures.settles in
+    (c.in_ok-summaries.ensures c.into_ledger-ledger.result.histories.items c.into_ledger-ledger.result.closed of).0.shut
+
 pub returns-clause-bad : goal.returns-clause-bad
 returns-clause-bad g c = λ p drawn.
     let a = (goal.at.returns-clause-bad g c).After-back-2-1 in
     let of = of_board g.S.PathSet.members c.args.graphs.now c.args.limit (g.B-Board.identity c.in_ok-board.board)
     (map g.B-Board.sight c.in_ok-back.back.items) c.in_ok-back.outcomes.items (ended g a)
-    (g.B-Board.mailboxes c.in_ok-board.board) (c.in_ok-board.ensures.0 ∙ c.len.ensures)
+    (g.B-Board.mailboxes c.in_ok-board.board) (c.in_ok-board.ensures.0 ∙ c.len-boxes.ensures)
     c.into_ledger-ledger.result.histories.items c.into_ledger-ledger.result.closed c.into_ledger-ledger.ensures.settles in
     (c.in_ok-summaries.ensures c.into_ledger-ledger.result.histories.items c.into_ledger-ledger.result.closed of).0.bad p drawn

@@ -13,8 +13,8 @@ use Rattle.summaries.specs.Limits.{most_of}
 use Rattle.summaries.specs.Tabulated.{SomePairBad}
 use Rattle.gather.specs.Reports.{rewriting_of}
 use Rattle.gather.proofs.Reporting.{keeps_answer, no_report}
-use Rattle.gather.proofs.report.check_rounds_with.Goals as goal
-use Rattle.gather.proofs.report.check_rounds_with.Goals.{then-bad, else-bad}
+use Rattle.gather.proofs.report.check_rounds_tried.Goals as goal
+use Rattle.gather.proofs.report.check_rounds_tried.Goals.{then-bad, else-bad}
 
 pub returns-in_err-ledger-clause-none : goal.returns-in_err-ledger-clause-none
 returns-in_err-ledger-clause-none g c =
@@ -41,6 +41,8 @@ returns-clause-report g c =
     (c.in_ok-ledger.ensures.bad p drawn) in
     record {
       found = c.in_ok-ledger.ensures.found p drawn;
+      closed = c.in_ok-ledger.ensures.closed;
+      bad = told;
       answer = elim c.if-bad.branch [
         | then-bad w ↦ (λ is. told.0 (c.bad.ensures.0 w.if-bad.true), λ unsafe. w.answer-is)
         | else-bad w ↦ (

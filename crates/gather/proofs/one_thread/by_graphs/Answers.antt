@@ -2,7 +2,7 @@
 use Rattle.std.proofs.Common.{sym, subst}
 use Rattle.language.specs.Step.{Program}
 use Rattle.flow_graph.specs.Graphs.{AreDrawnFrom}
-use Rattle.report_rows.proofs.program.by_graphs.Goals as goal
+use Rattle.gather.proofs.one_thread.by_graphs.Goals as goal
 
 pub tabulate-requires : goal.tabulate-requires
 tabulate-requires g c κs within =

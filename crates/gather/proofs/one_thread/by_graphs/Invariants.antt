@@ -1,5 +1,5 @@
 -- The program is the one that is asked for.
-use Rattle.report_rows.proofs.program.by_graphs.Given as goal
+use Rattle.gather.proofs.one_thread.by_graphs.Given as goal
 
 abbrev pub ghost-tabulate : goal.ghost-tabulate
 ghost-tabulate g a = g.program

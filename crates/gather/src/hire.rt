@@ -1,0 +1,19 @@
+//! Who says whether a worker may have a thread.
+
+/// Says before each start whether a worker may have a thread. Where it says no, that counts as a start that the system refused.
+pub trait Hire {
+    /// Asked once for each lane, in the order of their numbers, just before its start, and for none behind a lane that was
+    /// refused.
+    fn may(&self, lane: u8) -> bool;
+}
+
+/// Every worker may have a thread.
+#[derive(Clone, Copy, Debug, PartialEq, Eq)]
+pub struct Always;
+
+impl Hire for Always {
+    fn may(&self, lane: u8) -> bool {
+        let _ = lane;
+        true
+    }
+}
