@@ -80,6 +80,7 @@ fn tables_of<'g, G: Allocator, A: Allocator + Copy, S: PathSet<A>>(
         let Outcome {
             table,
             end: _,
+            lack: _,
             takes: _,
             posts: _,
         } = outcome;

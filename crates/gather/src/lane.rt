@@ -72,6 +72,7 @@ where
         let outcome = Outcome {
             table: None,
             end: End::Failed(Cause::NoWorker),
+            lack: None,
             takes: Vec::new(alloc),
             posts: Vec::new(alloc),
         };

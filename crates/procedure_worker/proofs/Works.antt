@@ -2,7 +2,7 @@
 use Rattle.std.proofs.Common.{◌≡◌, ◌≢◌, ◌⊎◌, inl, inr, ℕ, ◌<◌, ◌∷◌, ◌++◌, [], List, Some, None, Ok, Err}
 use Rattle.std.proofs.Common.{length, slice_get}
 use Rattle.std.proofs.Common.{refl, sym, ap, ◌∙◌, subst, arith, true, false, MatchOption}
-use Rattle.std.specs.Prelude.{Option, Result, IsSome}
+use Rattle.std.specs.Prelude.{◌↔◌, Option, Result, IsSome, IsErrAnd, MatchResult}
 use Rattle.std.specs.Option.{ForSome}
 use Rattle.atomic_table.specs.Seated.{TableId}
 use Rattle.ticket_lock.specs.Facts.{StartsWith-trans}
@@ -48,18 +48,55 @@ use Rattle.switchboard.specs.Promises as promises
 use Rattle.switchboard.proofs.Jobs.{kept_none, kept_added, job_new, no_done_post}
 use Rattle.procedure_worker.specs.declared.outcome.End.{End}
 use Rattle.procedure_worker.specs.declared.outcome.End.TheVariants as end
-use Rattle.procedure_worker.specs.declared.worker.Stop.{Stop}
-use Rattle.procedure_worker.specs.declared.worker.Stop.TheVariants as stop
+use Rattle.procedure_worker.specs.declared.room.NoRoom.{NoRoom}
+use Rattle.procedure_worker.specs.declared.stop.Finish.{Finish}
+use Rattle.procedure_worker.specs.declared.stop.Finish.TheVariants as finish
+use Rattle.procedure_worker.specs.declared.stop.Reason.{Reason}
+use Rattle.procedure_worker.specs.declared.stop.Reason.TheVariants as reason
+use Rattle.procedure_worker.specs.declared.stop.Stop.{Stop}
+use Rattle.procedure_worker.specs.declared.stop.Stop.TheVariants as stop
 use Rattle.procedure_worker.specs.declared.worker.Worker.{Worker}
 use Rattle.procedure_worker.specs.Own.{taken_in, posted_in}
+use Rattle.procedure_worker.specs.Stops.{cause_of, end_of, lack_of, end_at, RefusedFor, FailsFor, TakesOrFails}
 use Rattle.procedure_worker.specs.Works.{Start, IsPassOf, IsFresh, HasStood, HasFailed, Stands, HasSent}
 use Rattle.procedure_worker.specs.Works.{EndsSo, IsReady, IsTaking, IsDealing, IsSending, IsStopped, HasStopped}
-use Rattle.procedure_worker.specs.Works.{Failed, Completes, StopsSo, StoppedFor, mails_of, cause_for}
+use Rattle.procedure_worker.specs.Works.{Failed, Completes, StopsSo, StoppedFor, IsAtFault, IsFounded, mails_of, cause_for}
 use Rattle.procedure_worker.proofs.Lists.{taken_post, taken_take, taken_done, posted_post, posted_take, posted_done}
 
 -- what a worker began with, by what its pass and its table show
 abbrev pub own_start : {G A S : Type 0} → Sight Due (Graphs G) → Worker G A S → TableId → Start G
 own_start s w board = record { graphs = s.seen.world; number = w.number; limit = limit_of w.table; board = board }
+
+-- what is said of an error holds of an answer that is this error
+pub match_err : {T E : Type 0} (r : Result T E) (e : E) (P : T → Type 0) (Q : E → Type 0) → IsErrAnd r (λ x. x ≡ e) → Q e
+    → MatchResult r P Q
+match_err (Ok x) e P Q is q = absurd is
+match_err (Err x) e P Q is q = subst Q (sym is) q
+
+-- memory was refused exactly where the worker failed for that
+lack_shown : (e : Finish) → (end_of e ≡ end.Failed cause.Memory) ↔ IsSome (lack_of e)
+lack_shown finish.Closed = (λ h. absurd cc, λ h. absurd cc)
+lack_shown finish.Aborted = (λ h. absurd cc, λ h. absurd cc)
+lack_shown (finish.Failed reason.Spent) = (λ h. absurd cc, λ h. absurd cc)
+lack_shown (finish.Failed reason.EdgeLimit) = (λ h. absurd cc, λ h. absurd cc)
+lack_shown (finish.Failed (reason.NoRoom witness)) = (λ h. refl, λ h. refl)
+
+module _ {G A S : Type 0} where
+  -- a table that has not failed decides no end
+  not_at_fault : (e : End) (t : Table G A S) → failure t ≡ None → IsAtFault e t
+  not_at_fault e t whole f failed = absurd cc
+
+  -- a table has this fault
+  at_fault : (f : TableFault) (t : Table G A S) → failure t ≡ Some f → IsAtFault (end.Failed (cause_for f)) t
+  at_fault f t failed g again = cc
+
+  -- where the board was aborted, the table has not failed
+  not_at_abort : (e : End) (t : Table G A S) → IsAtFault end.Aborted t → IsAtFault e t
+  not_at_abort e t fault f failed = let same = fault f failed in absurd cc
+
+  -- what a worker's end rests on
+  pub founded : (e : Finish) (t : Table G A S) → IsAtFault (end_of e) t → IsFounded (end_of e) (lack_of e) t
+  founded e t fault = record { memory = lack_shown e; fault = fault }
 
 module _ {G : Type 0} (b : Start G) where
   pass_on : (s t : Sight Due (Graphs G)) → IsPassOf b s → GoesOn FitsIn s t → IsPassOf b t
@@ -206,16 +243,18 @@ module _ {G : Type 0} (b : Start G) where
         }
 
     -- The worker aborted the board.
-    pub failed_ends : (c : Cause) (e : End) (s t : Sight Due (Graphs G)) (x : Table G A S) (took : List Due)
+    pub failed_ends : (why : Reason) (e : Finish) (s t : Sight Due (Graphs G)) (x : Table G A S) (took : List Due)
         (sent : List (ℕ × Due)) →
-        Stands b members s x took sent → s.made ≡ false → HasStood b c s → Failed FitsIn c e s t
-        → EndsSo b members e t x took sent
-    failed_ends c e s t x took sent k made stood f =
-        subst (λ z. EndsSo b members z t x took sent) (sym f.0)
-        (stands_abort c s t x took sent k f.1, has_failed c s t k.pass made stood f.1)
+        Stands b members s x took sent → s.made ≡ false → HasStood b (cause_of why) s
+        → IsAtFault (end.Failed (cause_of why)) x → Failed FitsIn why e s t
+        → EndsSo b members (end_of e) t x took sent × IsAtFault (end_of e) x
+    failed_ends why e s t x took sent k made stood fault f =
+        let c = cause_of why in
+        subst (λ z. EndsSo b members (end_of z) t x took sent × IsAtFault (end_of z) x) (sym f.0)
+        ((stands_abort c s t x took sent k f.1, has_failed c s t k.pass made stood f.1), fault)
 
     -- The message is completed, and all that is implied was posted: the worker is ready, or was without a call.
-    pub complete_ends : (job : ℕ) (r : Option End) (s t : Sight Due (Graphs G)) (w : Worker G A S)
+    pub complete_ends : (job : ℕ) (r : Option Finish) (s t : Sight Due (Graphs G)) (w : Worker G A S)
         → IsDealing b members job s w →
         IsQuiet members w.table → Completes FitsIn job r s t →
         MatchOption r (IsReady b members t w) (λ e. HasStopped b members e t w)
@@ -238,19 +277,24 @@ module _ {G : Type 0} (b : Start G) where
         }
     complete_ends job (Some e) s t w d quiet failed =
         let g = d.sent.0 in
-        failed_ends cause.Spent e s t w.table w.takes.items w.posts.items g.stands g.made failed.0 failed.1
+        failed_ends reason.Spent e s t w.table w.takes.items w.posts.items g.stands g.made failed.0
+        (not_at_fault (end.Failed cause.Spent) w.table g.whole) failed.1
 
     -- The worker stops, for its reason.
-    pub stopped_ends : (job : ℕ) (why : Stop) (e : End) (s t : Sight Due (Graphs G)) (w : Worker G A S)
+    pub stopped_ends : (job : ℕ) (why : Stop) (e : Finish) (s t : Sight Due (Graphs G)) (w : Worker G A S)
         → IsStopped b members job why s w →
         StopsSo FitsIn job why e s t → HasStopped b members e t w
     stopped_ends job stop.Aborted e s t w k so = elim so [
-      | inl done ↦ subst (λ z. EndsSo b members z t w.table w.takes.items w.posts.items) (sym done.0) (
-        stands_done job s t w.table w.takes.items w.posts.items k.stands done.1,
-        done.1.made ∙ k.made,
-        abort_stays done.1.goes,
+      | inl done ↦ subst (λ z. HasStopped b members z t w) (sym done.0) (
+        (
+          stands_done job s t w.table w.takes.items w.posts.items k.stands done.1,
+          done.1.made ∙ k.made,
+          abort_stays done.1.goes,
+        ),
+        k.fault,
       )
-      | inr failed ↦ failed_ends cause.Spent e s t w.table w.takes.items w.posts.items k.stands k.made failed.0 failed.1
+      | inr failed ↦ failed_ends reason.Spent e s t w.table w.takes.items w.posts.items k.stands k.made failed.0
+          (not_at_abort (end.Failed cause.Spent) w.table k.fault) failed.1
     ]
       where
         known : (o : Option Abort) → IsSome o → (a : Abort) × (o ≡ Some a)
@@ -260,8 +304,8 @@ module _ {G : Type 0} (b : Start G) where
         abort_stays : GoesOn FitsIn s t → IsSome t.seen.aborted
         abort_stays g = let z = known s.seen.aborted k.reason in ap Rattle.std.specs.Prelude.is_some
             (g.before.aborted z.0 z.1)
-    stopped_ends job (stop.Failed c) e s t w k so =
-        failed_ends c e s t w.table w.takes.items w.posts.items k.stands k.made k.reason so
+    stopped_ends job (stop.Failed why) e s t w k so =
+        failed_ends why e s t w.table w.takes.items w.posts.items k.stands k.made k.reason k.fault so
 
     -- A table that has kept what it took is that of the procedure still.
     table_keeps : (f : Option TableFault) (p : Program) (q : ℕ) (x y : Table G A S) → IsTableOf members p q x
@@ -342,18 +386,29 @@ module _ {G : Type 0} (b : Start G) where
         }
 
     -- The table has failed.
-    pub answered_fault : (job : ℕ) (f : TableFault) (s : Sight Due (Graphs G)) (w : Worker G A S) (y : Table G A S) →
-        IsDealing b members job s w → Keeps members (Some f) w.table y →
-        IsStopped b members job (stop.Failed (cause_for f)) s (record w { table = y })
-    answered_fault job f s w y deals keeps =
+    table_stops : (job : ℕ) (f : TableFault) (why : Reason) (s : Sight Due (Graphs G)) (w : Worker G A S) (y : Table G A S) →
+        cause_of why ≡ cause_for f → IsDealing b members job s w → Keeps members (Some f) w.table y →
+        IsStopped b members job (stop.Failed why) s (record w { table = y })
+    table_stops job f why s w y same deals keeps =
         let g = deals.sent.0 in
         let stands = stands_keeps (Some f) s w.table y w.takes.items w.posts.items g.stands keeps in record {
           number = deals.number;
           stands = stands;
           made = g.made;
           has = deals.has;
-          reason = fault_stood f s s y w.takes.items w.posts.items stands keeps.fault;
+          reason = subst (λ c. HasStood b c s) (sym same)
+              (fault_stood f s s y w.takes.items w.posts.items stands keeps.fault);
+          fault = subst (λ c. IsAtFault (end.Failed c) y) (sym same) (at_fault f y keeps.fault);
         }
+
+    pub answered_fault : (job : ℕ) (why : Reason) (s : Sight Due (Graphs G)) (w : Worker G A S) (y : Table G A S) →
+        IsDealing b members job s w → FailsFor why (λ f. Keeps members (Some f) w.table y) →
+        IsStopped b members job (stop.Failed why) s (record w { table = y })
+    answered_fault job reason.Spent s w y deals failed = absurd failed
+    answered_fault job reason.EdgeLimit s w y deals failed =
+        table_stops job fault.EdgeLimit reason.EdgeLimit s w y refl deals failed
+    answered_fault job (reason.NoRoom witness) s w y deals failed =
+        table_stops job fault.Memory (reason.NoRoom witness) s w y refl deals failed
 
     -- The message is posted.
     pub sent_dealing : (job to : ℕ) (d : Due) (s t : Sight Due (Graphs G)) (v w : Worker G A S)
@@ -387,48 +442,57 @@ module _ {G : Type 0} (b : Start G) where
         (subst (λ l. Stands b members t w.table l v.posts.items) (sym takes)
         (subst (λ x. Stands b members t x v.takes.items v.posts.items) (sym table) stands))
 
-    -- The worker was without memory before the post.
-    pub sending_starved : (job to : ℕ) (d : Due) (s : Sight Due (Graphs G)) (v w : Worker G A S)
-        → IsSending b members job to d s v →
+    -- The worker stops before the post, or at a post that made no event.
+    sending_stopped : (job to : ℕ) (d : Due) (why : Stop) (s : Sight Due (Graphs G)) (v w : Worker G A S)
+        → IsSending b members job to d s v → StoppedFor b why s →
         w.number ≡ v.number → w.table ≡ v.table → w.takes ≡ v.takes → w.posts.items ≡ v.posts.items →
-        IsStopped b members job (stop.Failed cause.Memory) s w
-    sending_starved job to d s v w k number table takes posts = record {
+        IsStopped b members job why s w
+    sending_stopped job to d why s v w k stands number table takes posts = record {
       number = number ∙ k.number;
       stands = stands_like s v w k.goes.stands table (ap (λ l. l.items) takes) posts;
       made = k.goes.made;
       has = k.has;
-      reason = tt;
+      reason = stands;
+      fault = not_at_fault (end_at why) w.table (ap failure table ∙ k.goes.whole);
     }
 
-    -- The post was refused.
-    pub sending_refused : (job to : ℕ) (d : Due) (why : Stop) (s t : Sight Due (Graphs G)) (v w : Worker G A S)
+    sending_none : (job to : ℕ) (d : Due) (why : Stop) (s t : Sight Due (Graphs G)) (v w : Worker G A S)
         → IsSending b members job to d s v →
         MadeNone FitsIn s t → StoppedFor b why t → w.number ≡ v.number → w.table ≡ v.table → w.takes ≡ v.takes
         → w.posts.items ≡ v.posts.items →
         IsStopped b members job why t w
-    sending_refused job to d why s t v w k m reason number table takes posts =
+    sending_none job to d why s t v w k m stopped number table takes posts =
         let g = k.goes in record {
           number = number ∙ k.number;
           stands = stands_like t v w (stands_none s t v.table v.takes.items v.posts.items g.stands m) table
               (ap (λ l. l.items) takes) posts;
           made = m.made ∙ g.made;
           has = job_none job s t g.stands.pass m k.has;
-          reason = reason;
+          reason = stopped;
+          fault = not_at_fault (end_at why) w.table (ap failure table ∙ g.whole);
         }
 
-    -- No call was left for the post.
-    pub sending_spent : (job to : ℕ) (d : Due) (s t : Sight Due (Graphs G)) (v w : Worker G A S)
+    -- The worker was without memory before the post.
+    pub sending_starved : (job to : ℕ) (d : Due) (witness : NoRoom) (s : Sight Due (Graphs G)) (v w : Worker G A S)
         → IsSending b members job to d s v →
-        WasSpent s t → w.number ≡ v.number → w.table ≡ v.table → w.takes ≡ v.takes → w.posts.items ≡ v.posts.items →
-        IsStopped b members job (stop.Failed cause.Spent) t w
-    sending_spent job to d s t v w k spent number table takes posts =
-        subst (λ z. IsStopped b members job (stop.Failed cause.Spent) z w) (sym spent.1) record {
-          number = number ∙ k.number;
-          stands = stands_like s v w k.goes.stands table (ap (λ l. l.items) takes) posts;
-          made = k.goes.made;
-          has = k.has;
-          reason = spent.0;
-        }
+        w.number ≡ v.number → w.table ≡ v.table → w.takes ≡ v.takes → w.posts.items ≡ v.posts.items →
+        IsStopped b members job (stop.Failed (reason.NoRoom witness)) s w
+    sending_starved job to d witness s v w k number table takes posts =
+        sending_stopped job to d (stop.Failed (reason.NoRoom witness)) s v w k tt number table takes posts
+
+    -- The post was refused.
+    pub sending_refused : (job to : ℕ) (d : Due) (why : Stop) (s t : Sight Due (Graphs G)) (v w : Worker G A S)
+        → IsSending b members job to d s v → RefusedFor FitsIn why s t →
+        w.number ≡ v.number → w.table ≡ v.table → w.takes ≡ v.takes → w.posts.items ≡ v.posts.items →
+        IsStopped b members job why t w
+    sending_refused job to d stop.Aborted s t v w k refused number table takes posts =
+        sending_none job to d stop.Aborted s t v w k refused.0.0 refused.1 number table takes posts
+    sending_refused job to d (stop.Failed reason.Spent) s t v w k spent number table takes posts =
+        subst (λ z. IsStopped b members job (stop.Failed reason.Spent) z w) (sym spent.1)
+        (sending_stopped job to d (stop.Failed reason.Spent) s v w k spent.0 number table takes posts)
+    sending_refused job to d (stop.Failed reason.EdgeLimit) s t v w k refused number table takes posts = absurd refused
+    sending_refused job to d (stop.Failed (reason.NoRoom witness)) s t v w k refused number table takes posts =
+        sending_none job to d (stop.Failed (reason.NoRoom witness)) s t v w k refused.0.0 tt number table takes posts
 
     -- The pass took a message, which the table is to take.
     pub took_taking : (job : ℕ) (d : Due) (s t : Sight Due (Graphs G)) (v w : Worker G A S) → IsReady b members s v
@@ -508,14 +572,25 @@ module _ {G : Type 0} (b : Start G) where
     }
 
     -- The table failed at the message.
-    pub given_fault : (d : Due) {T : Type 0} (f : TableFault) (job : ℕ) (e : End) (s t : Sight Due (Graphs G))
-        (w : Worker G A S) (y : Table G A S) →
-        IsTaking b members job d s w → Takes members d {T = T} (Err f) w.table y → Failed FitsIn (cause_for f) e s t →
+    taking_stops : (d : Due) {T : Type 0} (f : TableFault) (why : Reason) (job : ℕ) (e : Finish) (s t : Sight Due (Graphs G))
+        (w : Worker G A S) (y : Table G A S) → cause_of why ≡ cause_for f →
+        IsTaking b members job d s w → Takes members d {T = T} (Err f) w.table y → Failed FitsIn why e s t →
         HasStopped b members e t (record w { table = y })
-    given_fault d {T} f job e s t w y k given failed =
+    taking_stops d {T} f why job e s t w y same k given failed =
         let stands = given_stands d {T = T} (Err f) job s w y k given in
-        failed_ends (cause_for f) e s t y w.takes.items w.posts.items stands k.made
-        (fault_stood f s s y w.takes.items w.posts.items stands given.fault) failed
+        failed_ends why e s t y w.takes.items w.posts.items stands k.made
+        (subst (λ c. HasStood b c s) (sym same) (fault_stood f s s y w.takes.items w.posts.items stands given.fault))
+        (subst (λ c. IsAtFault (end.Failed c) y) (sym same) (at_fault f y given.fault)) failed
+
+    pub given_fault : (d : Due) (T : Type 0) (why : Reason) (job : ℕ) (e : Finish) (s t : Sight Due (Graphs G))
+        (w : Worker G A S) (y : Table G A S) →
+        IsTaking b members job d s w → TakesOrFails members {T = T} d (Err why) w.table y → Failed FitsIn why e s t →
+        HasStopped b members e t (record w { table = y })
+    given_fault d T reason.Spent job e s t w y k given failed = absurd given
+    given_fault d T reason.EdgeLimit job e s t w y k given failed =
+        taking_stops d {T = T} fault.EdgeLimit reason.EdgeLimit job e s t w y refl k given failed
+    given_fault d T (reason.NoRoom witness) job e s t w y k given failed =
+        taking_stops d {T = T} fault.Memory (reason.NoRoom witness) job e s t w y refl k given failed
 
     -- The pass found no message.
     pub looked_ready : (s t : Sight Due (Graphs G)) (v w : Worker G A S) → IsReady b members s v → MadeNone FitsIn s t
@@ -545,27 +620,30 @@ module _ {G : Type 0} (b : Start G) where
     pub looked_closed : (s t : Sight Due (Graphs G)) (v w : Worker G A S) → IsReady b members s v
         → MadeNone FitsIn s t → t.knows ≡ true →
         w.number ≡ v.number → w.table ≡ v.table → w.takes.items ≡ v.takes.items → w.posts ≡ v.posts
-        → HasStopped b members end.Closed t w
+        → HasStopped b members finish.Closed t w
     looked_closed s t v w ready m known number table takes posts =
-        ((looked_ready s t v w ready m number table takes posts).served, known, m.goes.close known)
+        let served = (looked_ready s t v w ready m number table takes posts).served in
+        ((served, known, m.goes.close known), not_at_fault end.Closed w.table served.0.0.whole)
 
     -- The board was aborted.
     pub looked_aborted : (s t : Sight Due (Graphs G)) (v w : Worker G A S) → IsReady b members s v
         → MadeNone FitsIn s t → IsSome t.seen.aborted →
         w.number ≡ v.number → w.table ≡ v.table → w.takes.items ≡ v.takes.items → w.posts ≡ v.posts
-        → HasStopped b members end.Aborted t w
+        → HasStopped b members finish.Aborted t w
     looked_aborted s t v w ready m aborted number table takes posts =
-        let g = (looked_ready s t v w ready m number table takes posts).served.0.0 in (g.stands, g.made, aborted)
+        let g = (looked_ready s t v w ready m number table takes posts).served.0.0 in
+        ((g.stands, g.made, aborted), not_at_fault end.Aborted w.table g.whole)
 
     -- The worker fails between two messages.
-    pub ready_fails : (c : Cause) (e : End) (s t : Sight Due (Graphs G)) (v w : Worker G A S) → IsReady b members s v
-        → HasStood b c s →
-        Failed FitsIn c e s t → w.table ≡ v.table → w.takes.items ≡ v.takes.items → w.posts ≡ v.posts
+    pub ready_fails : (why : Reason) (e : Finish) (s t : Sight Due (Graphs G)) (v w : Worker G A S) → IsReady b members s v
+        → HasStood b (cause_of why) s →
+        Failed FitsIn why e s t → w.table ≡ v.table → w.takes.items ≡ v.takes.items → w.posts ≡ v.posts
         → HasStopped b members e t w
-    ready_fails c e s t v w ready stood failed table takes posts =
+    ready_fails why e s t v w ready stood failed table takes posts =
         let g = ready.served.0.0 in
-        failed_ends c e s t w.table w.takes.items w.posts.items (stands_like s v w g.stands table takes
-        (ap (λ l. l.items) posts)) g.made stood failed
+        failed_ends why e s t w.table w.takes.items w.posts.items (stands_like s v w g.stands table takes
+        (ap (λ l. l.items) posts)) g.made stood
+        (not_at_fault (end.Failed (cause_of why)) w.table (ap failure table ∙ g.whole)) failed
 
     -- A new worker is ready.
     pub fresh_ready : (s : Sight Due (Graphs G)) (w : Worker G A S) → (p : Program) × AreDrawnFrom p

@@ -1,5 +1,5 @@
 -- What a worker knows while it works, and what it gives back.
-use Rattle.std.specs.Prelude.{◌≡◌, ◌≢◌, ◌⊎◌, ◌<◌, ◌++◌, ◌∷◌, ℕ, true, false, IsSome, List, [], Option}
+use Rattle.std.specs.Prelude.{◌≡◌, ◌≢◌, ◌⊎◌, ◌↔◌, ◌<◌, ◌++◌, ◌∷◌, ℕ, true, false, IsSome, List, [], Option}
 use Rattle.std.specs.Prelude.{Some, None, length, map}
 use Rattle.atomic_table.specs.Seated.{TableId}
 use Rattle.post_ledger.specs.Orders.{own, HasJob, IsClosed}
@@ -30,15 +30,21 @@ use Rattle.summaries.specs.Together.{opening, IsTableOf}
 use Rattle.switchboard.specs.declared.calls.Abort.{Abort}
 use Rattle.switchboard.specs.declared.calls.Cause.{Cause}
 use Rattle.switchboard.specs.declared.calls.Cause.TheVariants as cause
-use Rattle.switchboard.specs.Sights.{Sight, IsSound}
-use Rattle.switchboard.specs.Promises.{WasDone, MadeAbort}
+use Rattle.switchboard.specs.Sights.{Sight, AllTaken, IsSound}
+use Rattle.switchboard.specs.Promises.{Looked, WasDone, MadeAbort}
 use Rattle.procedure_worker.specs.declared.outcome.End.{End}
 use Rattle.procedure_worker.specs.declared.outcome.End.TheVariants as end
 use Rattle.procedure_worker.specs.declared.outcome.Outcome.{Outcome}
-use Rattle.procedure_worker.specs.declared.worker.Stop.{Stop}
-use Rattle.procedure_worker.specs.declared.worker.Stop.TheVariants as stop
+use Rattle.procedure_worker.specs.declared.room.NoRoom.{NoRoom}
+use Rattle.procedure_worker.specs.declared.stop.Finish.{Finish}
+use Rattle.procedure_worker.specs.declared.stop.Finish.TheVariants as finish
+use Rattle.procedure_worker.specs.declared.stop.Reason.{Reason}
+use Rattle.procedure_worker.specs.declared.stop.Reason.TheVariants as reason
+use Rattle.procedure_worker.specs.declared.stop.Stop.{Stop}
+use Rattle.procedure_worker.specs.declared.stop.Stop.TheVariants as stop
 use Rattle.procedure_worker.specs.declared.worker.Worker.{Worker}
 use Rattle.procedure_worker.specs.Own.{taken_in, posted_in}
+use Rattle.procedure_worker.specs.Stops.{cause_of, end_of, end_at}
 
 -- What a worker begins with: the flow graphs, the number of its procedure, how many path edges its table may keep, and
 -- the board.
@@ -62,20 +68,41 @@ cause_for fault.Memory = cause.Memory
 cause_for fault.EdgeLimit = cause.EdgeLimit
 
 module _ {M W : Type 0} (fits : W → ℕ → M → Type 0) where
-  -- the pass has made an abort for this cause, and ends so
-  abbrev pub Failed : Cause → End → Sight M W → Sight M W → Type 0
-  Failed c e s t = (e ≡ end.Failed c) × MadeAbort fits (record { by = s.number; cause = c }) s t
+  -- the pass has made an abort for this reason's cause, and the worker ends so
+  abbrev pub Failed : Reason → Finish → Sight M W → Sight M W → Type 0
+  Failed why e s t = (e ≡ finish.Failed why) × MadeAbort fits (record { by = s.number; cause = cause_of why }) s t
 
   -- the message is completed; or no call was left, and the worker ends
-  abbrev pub Completes : ℕ → Option End → Sight M W → Sight M W → Type 0
+  abbrev pub Completes : ℕ → Option Finish → Sight M W → Sight M W → Type 0
   Completes job None s t = WasDone fits job s t
-  Completes job (Some e) s t = (s.calls ≡ 0) × Failed cause.Spent e s t
+  Completes job (Some e) s t = (s.calls ≡ 0) × Failed reason.Spent e s t
 
   -- the worker ends for this reason: the message is completed where the board was aborted, unless no call was left
-  abbrev pub StopsSo : ℕ → Stop → End → Sight M W → Sight M W → Type 0
-  StopsSo job stop.Aborted e s t = ((e ≡ end.Aborted) × WasDone fits job s t) ⊎
-      ((s.calls ≡ 0) × Failed cause.Spent e s t)
-  StopsSo job (stop.Failed c) e s t = Failed c e s t
+  abbrev pub StopsSo : ℕ → Stop → Finish → Sight M W → Sight M W → Type 0
+  StopsSo job stop.Aborted e s t = ((e ≡ finish.Aborted) × WasDone fits job s t) ⊎
+      ((s.calls ≡ 0) × Failed reason.Spent e s t)
+  StopsSo job (stop.Failed why) e s t = Failed why e s t
+
+-- the end is at the table's fault, where the table has failed
+abbrev pub IsAtFault : {G A S : Type 0} → End → Table G A S → Type 0
+IsAtFault e t = (f : TableFault) → failure t ≡ Some f → e ≡ end.Failed (cause_for f)
+
+-- What a worker's end rests on. It failed for want of memory exactly where there is something that shows a refusal; and where
+-- its table has failed, it failed for that fault.
+pub record IsFounded {G A S : Type 0} (e : End) (lack : Option NoRoom) (t : Table G A S) : Type 0 where
+  pub memory : (e ≡ end.Failed cause.Memory) ↔ IsSome lack
+  pub fault : IsAtFault e t
+
+-- The pass has looked, and found every message of its mailbox taken, on a board that it sees neither closed nor aborted.
+pub record FoundNone {G : Type 0} (s t : Sight Due (Graphs G)) : Type 0 where
+  pub looked : Looked FitsIn s t
+  pub unclosed : t.knows ≡ false
+  pub alive : t.seen.aborted ≡ None
+  pub all : AllTaken s.number t.seen.order
+
+-- A worker goes on only where it took one more message, or found none yet.
+abbrev pub MayGoOn : {G : Type 0} → Sight Due (Graphs G) → Sight Due (Graphs G) → List Due → List Due → Type 0
+MayGoOn s t before after = ((d : Due) × (after ≡ before ++ d ∷ [])) ⊎ FoundNone s t
 
 -- The order of a board begins with the starter's message, by which procedure 0 is entered with every value 0.
 abbrev pub IsOpened : ℕ → List (Entry Due) → Type 0
@@ -104,7 +131,8 @@ module _ {G : Type 0} (b : Start G) where
     pub made : s.made ≡ false
     pub none : own b.number s.seen.order ≡ []
 
-  -- the cause really stands: for the limit, the procedure has more path edges; for calls, the pass has none left
+  -- the cause really stands: for the limit, the procedure has more path edges; for calls, the pass has none left; memory is
+  -- no matter of the pass, and has a witness (`IsFounded`)
   abbrev pub HasStood : Cause → Sight Due (Graphs G) → Type 0
   HasStood cause.Memory s = Unit {0}
   HasStood cause.EdgeLimit s = (p : Program) → AreDrawnFrom p (graphs_of b.graphs) → HasMoreEdges p b.number b.limit
@@ -114,7 +142,7 @@ module _ {G : Type 0} (b : Start G) where
   -- the reason to stop stands: the board was aborted, or the cause
   abbrev pub StoppedFor : Stop → Sight Due (Graphs G) → Type 0
   StoppedFor stop.Aborted s = IsSome s.seen.aborted
-  StoppedFor (stop.Failed c) s = HasStood c s
+  StoppedFor (stop.Failed why) s = HasStood (cause_of why) s
 
   -- The pass has made an abort for this cause, which has stood; the abort that the board keeps is this one, or
   -- another pass's.
@@ -162,9 +190,10 @@ module _ {G : Type 0} (b : Start G) where
     EndsSo end.Aborted s t took sent = Stands s t took sent × (s.made ≡ false) × IsSome s.seen.aborted
     EndsSo (end.Failed c) s t took sent = Stands s t took sent × HasFailed c s
 
-    -- the outcome has a table, and the worker ended so with it
+    -- the outcome has a table, and the worker ended so with it, on what the end rests on
     abbrev pub HasEnded : Sight Due (Graphs G) → Outcome G A S → Type 0
-    HasEnded s o = (t : Table G A S) × (o.table ≡ Some t) × EndsSo o.end s t o.takes.items o.posts.items
+    HasEnded s o =
+        (t : Table G A S) × (o.table ≡ Some t) × EndsSo o.end s t o.takes.items o.posts.items × IsFounded o.end o.lack t
 
     -- The worker between two takes.
     pub record IsReady (s : Sight Due (Graphs G)) (w : Worker G A S) : Type 0 where
@@ -206,7 +235,8 @@ module _ {G : Type 0} (b : Start G) where
       pub made : s.made ≡ false
       pub has : HasJob b.number job s.seen.order
       pub reason : StoppedFor why s
+      pub fault : IsAtFault (end_at why) w.table
 
-    -- The worker has ended.
-    abbrev pub HasStopped : End → Sight Due (Graphs G) → Worker G A S → Type 0
-    HasStopped e s w = EndsSo e s w.table w.takes.items w.posts.items
+    -- The worker has ended, for its table's fault where that has failed.
+    abbrev pub HasStopped : Finish → Sight Due (Graphs G) → Worker G A S → Type 0
+    HasStopped e s w = EndsSo (end_of e) s w.table w.takes.items w.posts.items × IsAtFault (end_of e) w.table

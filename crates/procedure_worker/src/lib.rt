@@ -6,10 +6,13 @@ mod gate;
 mod laws;
 mod outcome;
 mod pause;
+mod room;
+mod stop;
 mod worker;
 mod working;
 
 pub use gate::{Gate, Open};
 pub use laws::a_new_pass_is_fresh;
 pub use outcome::{End, Outcome};
+pub use room::NoRoom;
 pub use working::work;

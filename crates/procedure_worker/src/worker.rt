@@ -1,31 +1,24 @@
 //! What a worker does between two takes.
-ghost use Rattle.std.specs.Prelude.{◌≡◌, OnOk, IfOk, IfErr, MatchResult, MatchOption};
+ghost use Rattle.std.specs.Prelude.{◌≡◌, OnOk, IfOk, IfErr, IfNone, MatchResult, MatchOption};
 ghost use Rattle.std.specs.Bool.{OnFalse};
 ghost use Rattle.std.specs.Option.{ForSome};
 ghost use Rattle.post_ledger.specs.Orders.{HasJob};
 ghost use Rattle.summaries.specs.Fitting.{FitsIn};
 ghost use Rattle.summaries.specs.Tables.{IsQuiet};
 ghost use Rattle.procedure_worker.specs.Works.{Start, IsReady, IsTaking, IsDealing, IsSending, IsStopped, HasStopped};
-ghost use Rattle.procedure_worker.specs.Works.{Failed, Completes, StopsSo, cause_for};
+ghost use Rattle.procedure_worker.specs.Works.{Failed, Completes, StopsSo, MayGoOn};
 
 use crate::gate::Gate;
-use crate::outcome::End;
 use crate::pause::pause;
+use crate::room::{deliver, next, one_more, post};
+use crate::stop::{Finish, Reason, Stop};
 use flow_graph::Graphs;
 use path_sets::PathSet;
 use std::alloc::Allocator;
 use std::sync::Wait;
-use summaries::{Due, Table, TableFault, deliver};
-use switchboard::{Board, Cause, Job, PostFault, Taken};
+use summaries::{Due, Table};
+use switchboard::{Board, Job, Taken};
 use ticket_lock::Spent;
-
-/// Why the work on a message stops before it is done.
-pub(crate) enum Stop {
-    /// The board was aborted by another pass.
-    Aborted,
-    /// The worker has a cause of its own.
-    Failed(Cause),
-}
 
 /// A worker between two calls of its board.
 #[derive(Drop)]
@@ -40,30 +33,20 @@ pub(crate) struct Worker<'g, G: Allocator, A: Allocator, S: PathSet<A>> {
     pub(crate) empty: u32,
 }
 
-/// Why a worker fails, where its table has.
-fn cause_of(fault: TableFault) -> Cause
-    ensures { result ≡ cause_for fault }
-{
-    match fault {
-        TableFault::Memory => Cause::Memory,
-        TableFault::EdgeLimit => Cause::EdgeLimit,
-    }
-}
-
-/// Aborts the board, with the job that the pass has, if it has one.
+/// Aborts the board for this reason, with the job that the pass has, if it has one.
 fn fail<R: Wait, G: Allocator, H: Allocator, B: Board<Due, Graphs<G>, H>>(
     rt: &R,
     board: &B,
     pass: &mut B::Pass,
     job: Option<Job>,
-    cause: Cause,
-) -> End
+    why: Reason,
+) -> Finish
     requires board { (B.sight pass.old).board ≡ B.identity board.now }
     requires job { ForSome job (λ j. HasJob (B.sight pass.old).number j (B.sight pass.old).seen.order) }
-    ensures { Failed FitsIn cause result (B.sight pass.old) (B.sight pass.new) }
+    ensures { Failed FitsIn why result (B.sight pass.old) (B.sight pass.new) }
 {
-    board.abort(rt, pass, job, cause);
-    End::Failed(cause)
+    board.abort(rt, pass, job, why.cause());
+    Finish::Failed(why)
 }
 
 /// Completes the message of the job. Answers how the worker ended, if it did.
@@ -72,14 +55,14 @@ fn complete<R: Wait, G: Allocator, H: Allocator, B: Board<Due, Graphs<G>, H>>(
     board: &B,
     pass: &mut B::Pass,
     job: Job,
-) -> Option<End>
+) -> Option<Finish>
     requires board { (B.sight pass.old).board ≡ B.identity board.now }
     requires job { HasJob (B.sight pass.old).number job (B.sight pass.old).seen.order }
     ensures { Completes FitsIn job result (B.sight pass.old) (B.sight pass.new) }
 {
     match board.done(rt, pass, job) {
         Ok(()) => None,
-        Err((job, Spent)) => Some(fail(rt, board, pass, Some(job), Cause::Spent)),
+        Err((job, Spent)) => Some(fail(rt, board, pass, Some(job), Reason::Spent)),
     }
 }
 
@@ -90,14 +73,14 @@ fn give_up<R: Wait, G: Allocator, H: Allocator, B: Board<Due, Graphs<G>, H>>(
     pass: &mut B::Pass,
     job: Job,
     why: Stop,
-) -> End
+) -> Finish
     requires board { (B.sight pass.old).board ≡ B.identity board.now }
     requires job { HasJob (B.sight pass.old).number job (B.sight pass.old).seen.order }
     ensures { StopsSo FitsIn job why result (B.sight pass.old) (B.sight pass.new) }
 {
     match why {
-        Stop::Aborted => complete(rt, board, pass, job).unwrap_or(End::Aborted),
-        Stop::Failed(cause) => fail(rt, board, pass, Some(job), cause),
+        Stop::Aborted => complete(rt, board, pass, job).unwrap_or(Finish::Aborted),
+        Stop::Failed(why) => fail(rt, board, pass, Some(job), why),
     }
 }
 
@@ -116,22 +99,17 @@ impl<'g, G: Allocator, A: Allocator, S: PathSet<A>> Worker<'g, G, A, S> {
         ghost start: { Start G }
         requires board { start.board ≡ B.identity board.now }
         requires sending { IsSending start S.members job.now to due (B.sight pass.old) self.old }
-        ensures { MatchResult result (λ _. IsDealing start S.members job.now (B.sight pass.new) self.new)
+        ensures done { MatchResult result (λ _. IsDealing start S.members job.now (B.sight pass.new) self.new)
             (λ why. IsStopped start S.members job.now why (B.sight pass.new) self.new) }
+        ensures takes { self.new.takes ≡ self.old.takes }
     {
-        if self.posts.reserve(1).is_err() {
-            return Err(Stop::Failed(Cause::Memory));
+        if let Err(witness) = one_more(&mut self.posts) {
+            return Err(Stop::Failed(Reason::NoRoom(witness)));
         }
-        match board.post(rt, pass, job, to, due) {
-            Ok(()) => {
-                self.posts.push_reserved((to, due));
-                gate.posted(self.number, self.posts.len() as u64);
-                Ok(())
-            }
-            Err(PostFault::Spent(_)) => Err(Stop::Failed(Cause::Spent)),
-            Err(PostFault::Memory(_)) => Err(Stop::Failed(Cause::Memory)),
-            Err(PostFault::Aborted(_)) => Err(Stop::Aborted),
-        }
+        post(rt, board, pass, job, to, due)?;
+        self.posts.push_reserved((to, due));
+        gate.posted(self.number, self.posts.len() as u64);
+        Ok(())
     }
 }
 
@@ -151,14 +129,15 @@ impl<'g, G: Allocator, A: Allocator + Copy, S: PathSet<A>> Worker<'g, G, A, S> {
         ensures dealing { OnOk result (IsDealing start S.members job.now (B.sight pass.new) self.new) }
         ensures none { IfOk result (λ more. OnFalse more (IsQuiet S.members self.new.table)) }
         ensures stopped { IfErr result (λ why. IsStopped start S.members job.now why (B.sight pass.new) self.new) }
+        ensures takes { self.new.takes ≡ self.old.takes }
     {
-        match self.table.next() {
+        match next(&mut self.table) {
             Ok(Some((to, due))) => {
                 self.send(rt, board, pass, job, to, due, gate)?;
                 Ok(true)
             }
             Ok(None) => Ok(false),
-            Err(fault) => Err(Stop::Failed(cause_of(fault))),
+            Err(why) => Err(Stop::Failed(why)),
         }
     }
 
@@ -170,12 +149,13 @@ impl<'g, G: Allocator, A: Allocator + Copy, S: PathSet<A>> Worker<'g, G, A, S> {
         pass: &mut B::Pass,
         job: Job,
         gate: &K,
-    ) -> Option<End>
+    ) -> Option<Finish>
         ghost start: { Start G }
         requires board { start.board ≡ B.identity board.now }
         requires dealing { IsDealing start S.members job (B.sight pass.old) self.old }
-        ensures { MatchOption result (IsReady start S.members (B.sight pass.new) self.new)
+        ensures ends { MatchOption result (IsReady start S.members (B.sight pass.new) self.new)
             (λ e. HasStopped start S.members e (B.sight pass.new) self.new) }
+        ensures takes { self.new.takes ≡ self.old.takes }
     {
         for _ in rt.forever() {
             match self.answer(rt, board, pass, &job, gate) {
@@ -196,36 +176,38 @@ impl<'g, G: Allocator, A: Allocator + Copy, S: PathSet<A>> Worker<'g, G, A, S> {
         job: Job,
         due: Due,
         gate: &K,
-    ) -> Option<End>
+    ) -> Option<Finish>
         ghost start: { Start G }
         requires board { start.board ≡ B.identity board.now }
         requires taking { IsTaking start S.members job due (B.sight pass.old) self.old }
-        ensures { MatchOption result (IsReady start S.members (B.sight pass.new) self.new)
+        ensures ends { MatchOption result (IsReady start S.members (B.sight pass.new) self.new)
             (λ e. HasStopped start S.members e (B.sight pass.new) self.new) }
+        ensures takes { self.new.takes ≡ self.old.takes }
     {
         match deliver(&mut self.table, due) {
             Ok(()) => self.deal(rt, board, pass, job, gate),
-            Err(fault) => Some(fail(rt, board, pass, Some(job), cause_of(fault))),
+            Err(why) => Some(fail(rt, board, pass, Some(job), why)),
         }
     }
 
     /// Takes a message, if there is one, and works on it; where there is none, waits for a moment. Answers how the worker ended,
-    /// if it did.
+    /// if it did: it goes on only where it took a message, or saw neither the close nor an abort.
     pub(crate) fn turn<R: Wait, H: Allocator, B: Board<Due, Graphs<G>, H>, K: Gate>(
         &mut self,
         rt: &R,
         board: &B,
         pass: &mut B::Pass,
         gate: &K,
-    ) -> Option<End>
+    ) -> Option<Finish>
         ghost start: { Start G }
         requires board { start.board ≡ B.identity board.now }
         requires ready { IsReady start S.members (B.sight pass.old) self.old }
-        ensures { MatchOption result (IsReady start S.members (B.sight pass.new) self.new)
+        ensures ends { MatchOption result (IsReady start S.members (B.sight pass.new) self.new)
             (λ e. HasStopped start S.members e (B.sight pass.new) self.new) }
+        ensures goes { IfNone result (MayGoOn (B.sight pass.old) (B.sight pass.new) self.old.takes.items self.new.takes.items) }
     {
-        if self.takes.reserve(1).is_err() {
-            return Some(fail(rt, board, pass, None, Cause::Memory));
+        if let Err(witness) = one_more(&mut self.takes) {
+            return Some(fail(rt, board, pass, None, Reason::NoRoom(witness)));
         }
         match board.take(rt, pass) {
             Ok(Taken::Message(job, due)) => {
@@ -239,9 +221,9 @@ impl<'g, G: Allocator, A: Allocator + Copy, S: PathSet<A>> Worker<'g, G, A, S> {
                 self.empty = self.empty.saturating_add(1);
                 None
             }
-            Ok(Taken::Closed) => Some(End::Closed),
-            Ok(Taken::Aborted) => Some(End::Aborted),
-            Err(Spent) => Some(fail(rt, board, pass, None, Cause::Spent)),
+            Ok(Taken::Closed) => Some(Finish::Closed),
+            Ok(Taken::Aborted) => Some(Finish::Aborted),
+            Err(Spent) => Some(fail(rt, board, pass, None, Reason::Spent)),
         }
     }
 }

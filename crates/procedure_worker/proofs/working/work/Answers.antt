@@ -1,7 +1,8 @@
 -- A new worker is ready, and so it is after each turn that does not end it.
 use Rattle.std.proofs.Common.{refl, sym, subst}
-use Rattle.procedure_worker.specs.Works.{begun, IsReady, HasStopped}
-use Rattle.procedure_worker.proofs.Works.{fresh_ready, own_is}
+use Rattle.procedure_worker.specs.Stops.{end_of}
+use Rattle.procedure_worker.specs.Works.{begun, IsReady, HasStopped, EndsSo, IsFounded}
+use Rattle.procedure_worker.proofs.Works.{fresh_ready, own_is, founded}
 use Rattle.procedure_worker.proofs.working.work.Goals as goal
 
 pub loop-init : goal.loop-init
@@ -55,12 +56,17 @@ turn-requires g c = λ κs out.
 pub returns-in-Some-turn : goal.returns-in-Some-turn
 returns-in-Some-turn g c =
     let b = begun c.args.graphs.now c.args.procedure c.args.limit (g.B.Board.identity c.args.board.now) in
-    let is = own_is b g.S.PathSet.members (g.B.Board.sight c.loop.pass) c.loop.worker c.loop.invariant.0 in (
-      c.turn.new.self.table,
+    let is = own_is b g.S.PathSet.members (g.B.Board.sight c.loop.pass) c.loop.worker c.loop.invariant.0 in
+    let e = c.in-Some-turn.finish in
+    let t = c.turn.new.self.table in
+    let stopped = subst (λ z. HasStopped z g.S.PathSet.members e (g.B.Board.sight c.turn.new.pass) c.turn.new.self) is
+    c.in-Some-turn.ensures.ends in (
+      t,
       refl,
-      subst (λ z. HasStopped z g.S.PathSet.members c.in-Some-turn.end
-          (g.B.Board.sight c.turn.new.pass) c.turn.new.self) is
-          c.in-Some-turn.ensures,
+      subst (λ z. EndsSo b g.S.PathSet.members z (g.B.Board.sight c.turn.new.pass) t c.turn.new.self.takes.items
+          c.turn.new.self.posts.items) (sym c.end.ensures) stopped.0,
+      subst (λ z. IsFounded z c.lack.result t) (sym c.end.ensures)
+          (subst (λ z. IsFounded (end_of e) z t) (sym c.lack.ensures) (founded e t stopped.1)),
     )
 
 pub loop-preserved : goal.loop-preserved
@@ -68,7 +74,7 @@ loop-preserved g c =
     let b = begun c.args.graphs.now c.args.procedure c.args.limit (g.B.Board.identity c.args.board.now) in
     let is = own_is b g.S.PathSet.members (g.B.Board.sight c.loop.pass) c.loop.worker c.loop.invariant.0 in (
       subst (λ z. IsReady z g.S.PathSet.members
-          (g.B.Board.sight c.turn.new.pass) c.turn.new.self) is c.in_default.ensures,
+          (g.B.Board.sight c.turn.new.pass) c.turn.new.self) is c.in_default.ensures.ends,
       tt,
       tt,
     )

@@ -1,12 +1,12 @@
 -- The table owes no message, or the worker stops.
-use Rattle.std.proofs.Common.{◌∙◌, subst}
+use Rattle.std.proofs.Common.{refl, ◌∙◌, subst}
 use Rattle.std.specs.Bool.{OnFalse}
 use Rattle.summaries.specs.Tables.{IsQuiet}
 use Rattle.procedure_worker.proofs.Works.{complete_ends, stopped_ends, job_to_pass}
 use Rattle.procedure_worker.proofs.worker.Worker.deal.Goals as goal
 
-pub returns-in-Ok-false : goal.returns-in-Ok-false
-returns-in-Ok-false g c =
+pub returns-in-Ok-false-clause-ends : goal.returns-in-Ok-false-clause-ends
+returns-in-Ok-false-clause-ends g c =
     let w = c.answer.new.self in
     let quiet =
     subst (λ more. OnFalse more
@@ -14,17 +14,23 @@ returns-in-Ok-false g c =
     complete_ends g.start g.S.PathSet.members c.args.job c.complete.result (g.B.Board.sight c.answer.new.pass)
     (g.B.Board.sight c.complete.new.pass) w c.in-Ok-false.ensures.dealing quiet c.complete.ensures
 
-pub returns-in-Err : goal.returns-in-Err
-returns-in-Err g c =
+pub returns-in-Err-clause-ends : goal.returns-in-Err-clause-ends
+returns-in-Err-clause-ends g c =
     stopped_ends g.start g.S.PathSet.members c.args.job c.in-Err.why c.give_up.result
     (g.B.Board.sight c.answer.new.pass)
     (g.B.Board.sight c.give_up.new.pass) c.answer.new.self c.in-Err.ensures.stopped c.give_up.ensures
 
 pub loop-init : goal.loop-init
-loop-init g c = (c.requires.1.1.1.1.1.1.1.1.1.1, tt, tt)
+loop-init g c = ((c.requires.1.1.1.1.1.1.1.1.1.1, refl), tt, tt)
 
 pub loop-preserved : goal.loop-preserved
-loop-preserved g c = (c.in-Ok-true.ensures.dealing, tt, tt)
+loop-preserved g c = ((c.in-Ok-true.ensures.dealing, c.in-Ok-true.ensures.takes ∙ c.loop.invariant.0.1), tt, tt)
+
+pub returns-in-Ok-false-clause-takes : goal.returns-in-Ok-false-clause-takes
+returns-in-Ok-false-clause-takes g c = c.in-Ok-false.ensures.takes ∙ c.loop.invariant.0.1
+
+pub returns-in-Err-clause-takes : goal.returns-in-Err-clause-takes
+returns-in-Err-clause-takes g c = c.in-Err.ensures.takes ∙ c.loop.invariant.0.1
 
 pub answer-requires : goal.answer-requires
 answer-requires g c = λ κs out. (
@@ -41,7 +47,7 @@ answer-requires g c = λ κs out. (
             out.1.1.1.1.1.0,
             (
               out.1.1.1.1.1.1.0,
-              (out.1.1.1.1.1.1.1.0, (out.1.1.1.1.1.1.1.1, (c.requires.1.1.1.1.1.1.1.1.1.0, c.loop.invariant.0))),
+              (out.1.1.1.1.1.1.1.0, (out.1.1.1.1.1.1.1.1, (c.requires.1.1.1.1.1.1.1.1.1.0, c.loop.invariant.0.0))),
             ),
           ),
         ),

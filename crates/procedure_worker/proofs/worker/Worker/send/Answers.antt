@@ -1,31 +1,22 @@
 -- The message is posted behind those that were; or the post was refused, and nothing was.
-use Rattle.std.proofs.Common.{◌∷◌, ◌++◌, [], refl, ap, ◌∙◌, subst}
-use Rattle.summaries.specs.Fitting.{FitsIn}
-use Rattle.switchboard.specs.Promises.{WasRefused}
-use Rattle.procedure_worker.proofs.Works.{sent_dealing, sending_refused}
-use Rattle.procedure_worker.specs.declared.worker.Stop.TheVariants as stop
-use Rattle.switchboard.specs.declared.calls.Cause.TheVariants as cause
+use Rattle.std.proofs.Common.{◌∷◌, ◌++◌, [], refl, ap, ◌∙◌}
+use Rattle.procedure_worker.proofs.Works.{sent_dealing, sending_refused, match_err}
+use Rattle.procedure_worker.specs.Works.{IsDealing, IsStopped}
 use Rattle.procedure_worker.proofs.worker.Worker.send.Goals as goal
 
-pub returns-in-Ok : goal.returns-in-Ok
-returns-in-Ok g c =
+pub returns-clause-done : goal.returns-clause-done
+returns-clause-done g c =
     sent_dealing g.start g.S.PathSet.members c.args.job.now c.args.to c.args.due (g.B.Board.sight c.args.pass.now)
-    (g.B.Board.sight c.post.new.pass) c.args.self.now _ c.requires.1.1.1.1.1.1.1.1.1.1 c.in-Ok.ensures refl refl refl
-    (c.push_reserved.ensures.items ∙ ap (λ l. l ++ (c.args.to, c.args.due) ∷ []) c.reserve.ensures.items)
+    (g.B.Board.sight c.post.new.pass) c.args.self.now _ c.requires.1.1.1.1.1.1.1.1.1.1 c.in_ok-post.ensures refl refl refl
+    (c.push_reserved.ensures.items ∙ ap (λ l. l ++ (c.args.to, c.args.due) ∷ []) c.one_more.ensures.items)
 
-pub returns-in-Err-Memory : goal.returns-in-Err-Memory
-returns-in-Err-Memory g c =
-    let s = g.B.Board.sight c.args.pass.now in
-    let t = g.B.Board.sight c.post.new.pass in
-    let h = subst (λ f. WasRefused FitsIn c.args.due f s t) c.in-Err-Memory.field-0-is c.in-Err-Memory.ensures in
-    sending_refused g.start g.S.PathSet.members c.args.job.now c.args.to c.args.due
-    (stop.Failed cause.Memory) s t c.args.self.now _ c.requires.1.1.1.1.1.1.1.1.1.1 h.1.0 tt refl refl refl
-    c.reserve.ensures.items
-
-pub returns-in-Err-Aborted : goal.returns-in-Err-Aborted
-returns-in-Err-Aborted g c =
-    let s = g.B.Board.sight c.args.pass.now in
-    let t = g.B.Board.sight c.post.new.pass in
-    let h = subst (λ f. WasRefused FitsIn c.args.due f s t) c.in-Err-Aborted.field-0-is c.in-Err-Aborted.ensures in
-    sending_refused g.start g.S.PathSet.members c.args.job.now c.args.to c.args.due stop.Aborted s t
-    c.args.self.now _ c.requires.1.1.1.1.1.1.1.1.1.1 h.1.0 h.2 refl refl refl c.reserve.ensures.items
+pub returns-in_err-post-clause-done : goal.returns-in_err-post-clause-done
+returns-in_err-post-clause-done g c =
+    let w = record c.args.self.now { posts = c.one_more.new.list } in
+    match_err c.from_residual.result c.in_err-post.field-0.0
+    (λ _. IsDealing g.start g.S.PathSet.members c.args.job.now (g.B.Board.sight c.post.new.pass) w)
+    (λ why. IsStopped g.start g.S.PathSet.members c.args.job.now why (g.B.Board.sight c.post.new.pass) w)
+    c.from_residual.ensures.1
+    (sending_refused g.start g.S.PathSet.members c.args.job.now c.args.to c.args.due c.in_err-post.field-0.0
+    (g.B.Board.sight c.args.pass.now) (g.B.Board.sight c.post.new.pass) c.args.self.now w c.requires.1.1.1.1.1.1.1.1.1.1
+    c.in_err-post.ensures refl refl refl c.one_more.ensures.items)

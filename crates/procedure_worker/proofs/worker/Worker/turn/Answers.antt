@@ -35,7 +35,7 @@ serve-requires g c = λ κs out. (
                         (g.B.Board.sight c.take.new.pass)) c.in-Ok-Message.field-0-is
                         c.in-Ok-Message.ensures) refl refl
                         (c.push_reserved.ensures.items
-                        ∙ ap (λ l. l ++ c.in-Ok-Message.due ∷ []) c.reserve.ensures.items) refl,
+                        ∙ ap (λ l. l ++ c.in-Ok-Message.due ∷ []) c.one_more.ensures.items) refl,
                   ),
                 ),
               ),

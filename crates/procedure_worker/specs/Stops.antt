@@ -1,0 +1,66 @@
+-- Why a worker stops, and what refused it.
+use Rattle.std.specs.Prelude.{◌≡◌, ℕ, List, IsSome, Option, Some, None, Result, Ok, Err}
+use Rattle.path_sets.specs.Triples.{Triple}
+use Rattle.summaries.specs.declared.due.Due.{Due}
+use Rattle.summaries.specs.declared.table.Table.{Table}
+use Rattle.summaries.specs.declared.table_fault.TableFault.{TableFault}
+use Rattle.summaries.specs.declared.table_fault.TableFault.TheVariants as fault
+use Rattle.summaries.specs.Tables.{Takes}
+use Rattle.switchboard.specs.declared.calls.Cause.{Cause}
+use Rattle.switchboard.specs.declared.calls.Cause.TheVariants as cause
+use Rattle.switchboard.specs.Sights.{Sight}
+use Rattle.switchboard.specs.Promises.{WasSpent, Looked}
+use Rattle.procedure_worker.specs.declared.outcome.End.{End}
+use Rattle.procedure_worker.specs.declared.outcome.End.TheVariants as end
+use Rattle.procedure_worker.specs.declared.room.NoRoom.{NoRoom}
+use Rattle.procedure_worker.specs.declared.stop.Reason.{Reason}
+use Rattle.procedure_worker.specs.declared.stop.Reason.TheVariants as reason
+use Rattle.procedure_worker.specs.declared.stop.Stop.{Stop}
+use Rattle.procedure_worker.specs.declared.stop.Stop.TheVariants as stop
+use Rattle.procedure_worker.specs.declared.stop.Finish.{Finish}
+use Rattle.procedure_worker.specs.declared.stop.Finish.TheVariants as finish
+
+-- the cause that a board is aborted for, by the worker's reason
+abbrev pub cause_of : Reason → Cause
+cause_of reason.Spent = cause.Spent
+cause_of reason.EdgeLimit = cause.EdgeLimit
+cause_of (reason.NoRoom witness) = cause.Memory
+
+-- how a worker ended, as its outcome says it
+abbrev pub end_of : Finish → End
+end_of finish.Closed = end.Closed
+end_of finish.Aborted = end.Aborted
+end_of (finish.Failed why) = end.Failed (cause_of why)
+
+-- what shows that memory was refused, where the worker failed for that
+abbrev pub lack_of : Finish → Option NoRoom
+lack_of finish.Closed = None
+lack_of finish.Aborted = None
+lack_of (finish.Failed reason.Spent) = None
+lack_of (finish.Failed reason.EdgeLimit) = None
+lack_of (finish.Failed (reason.NoRoom witness)) = Some witness
+
+-- the end that a worker comes to that stops for this
+abbrev pub end_at : Stop → End
+end_at stop.Aborted = end.Aborted
+end_at (stop.Failed why) = end.Failed (cause_of why)
+
+module _ {M W : Type 0} (fits : W → ℕ → M → Type 0) where
+  -- a post was refused for this: no call was left; memory was refused, on a board that was not aborted; or the board was aborted
+  abbrev pub RefusedFor : Stop → Sight M W → Sight M W → Type 0
+  RefusedFor stop.Aborted s t = Looked fits s t × IsSome t.seen.aborted
+  RefusedFor (stop.Failed reason.Spent) s t = WasSpent s t
+  RefusedFor (stop.Failed reason.EdgeLimit) s t = ⊥
+  RefusedFor (stop.Failed (reason.NoRoom witness)) s t = Looked fits s t × (t.seen.aborted ≡ None)
+
+-- P holds of the fault of a table that is this reason
+abbrev pub FailsFor : Reason → (TableFault → Type 0) → Type 0
+FailsFor reason.Spent P = ⊥
+FailsFor reason.EdgeLimit P = P fault.EdgeLimit
+FailsFor (reason.NoRoom witness) P = P fault.Memory
+
+module _ {G A S : Type 0} (members : S → List Triple) where
+  -- the table takes the message, or has failed for this reason
+  abbrev pub TakesOrFails : {T : Type 0} → Due → Result T Reason → Table G A S → Table G A S → Type 0
+  TakesOrFails d (Ok x) old new = Takes members d (Ok x) old new
+  TakesOrFails {T} d (Err why) old new = FailsFor why (λ f. Takes members d {T = T} (Err f) old new)

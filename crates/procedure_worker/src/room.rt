@@ -1,0 +1,87 @@
+//! All that a worker asks memory for. A request that is refused leaves a witness, which only this file can make.
+ghost use Rattle.std.specs.Prelude.{◌≡◌, ◌≤◌, ◌<◌, vec_len, vec_capacity, OnOk, OnErr, IfOk, IfErr, IfSome, IfNone, MatchResult};
+ghost use Rattle.post_ledger.specs.Orders.{HasJob};
+ghost use Rattle.switchboard.specs.Promises.{WasPosted};
+ghost use Rattle.summaries.specs.Fitting.{FitsIn};
+ghost use Rattle.summaries.specs.Tables.{IsTable, IsAnswer, IsQuiet, Keeps, answers_of};
+ghost use Rattle.procedure_worker.specs.Stops.{RefusedFor, FailsFor, TakesOrFails};
+
+use crate::stop::{Reason, Stop};
+use flow_graph::Graphs;
+use path_sets::PathSet;
+use std::alloc::Allocator;
+use std::sync::Wait;
+use summaries::{Due, Table, TableFault};
+use switchboard::{Board, Job, PostFault};
+
+/// What shows that memory was refused to a worker: it comes of such a refusal alone.
+#[derive(Clone, Copy, Debug, PartialEq, Eq)]
+pub struct NoRoom(());
+
+/// Makes room for one more in a list.
+pub(crate) fn one_more<T, A: Allocator>(list: &mut Vec<T, A>) -> Result<(), NoRoom>
+    ensures items { list.new.items ≡ list.old.items }
+    ensures room { OnOk result (vec_len list.new < vec_capacity list.new) }
+    ensures full { OnErr result (vec_capacity list.old ≤ vec_len list.old) }
+{
+    match list.reserve(1) {
+        Ok(()) => Ok(()),
+        Err(_) => Err(NoRoom(())),
+    }
+}
+
+/// Posts a message, as the board does.
+pub(crate) fn post<R: Wait, G: Allocator, H: Allocator, B: Board<Due, Graphs<G>, H>>(
+    rt: &R,
+    board: &B,
+    pass: &mut B::Pass,
+    job: &Job,
+    to: u8,
+    due: Due,
+) -> Result<(), Stop>
+    requires board { (B.sight pass.old).board ≡ B.identity board.now }
+    requires job { HasJob (B.sight pass.old).number job.now (B.sight pass.old).seen.order }
+    requires fits { (to < (B.sight pass.old).seen.boxes) × FitsIn (B.sight pass.old).seen.world to due }
+    ensures { MatchResult result (λ _. WasPosted FitsIn job.now to due (B.sight pass.old) (B.sight pass.new))
+        (λ why. RefusedFor FitsIn why (B.sight pass.old) (B.sight pass.new)) }
+{
+    match board.post(rt, pass, job, to, due) {
+        Ok(()) => Ok(()),
+        Err(PostFault::Spent(_)) => Err(Stop::Failed(Reason::Spent)),
+        Err(PostFault::Memory(_)) => Err(Stop::Failed(Reason::NoRoom(NoRoom(())))),
+        Err(PostFault::Aborted(_)) => Err(Stop::Aborted),
+    }
+}
+
+/// The next message that a table owes, and the procedure that it is for, as the table answers it.
+pub(crate) fn next<G: Allocator, A: Allocator + Copy, S: PathSet<A>>(
+    table: &mut Table<'_, G, A, S>,
+) -> Result<Option<(u8, Due)>, Reason>
+    requires { IsTable S.members table.old }
+    ensures keeps { OnOk result (Keeps S.members None table.old table.new) }
+    ensures some { IfOk result (λ r. IfSome r (λ m. IsAnswer table.old table.new m.0 m.1)) }
+    ensures none { IfOk result (λ r. IfNone r (answers_of table.new ≡ answers_of table.old)) }
+    ensures quiet { IfOk result (λ r. IfNone r (IsQuiet S.members table.new)) }
+    ensures fails { IfErr result (λ why. FailsFor why (λ f. Keeps S.members (Some f) table.old table.new)) }
+{
+    match table.next() {
+        Ok(answer) => Ok(answer),
+        Err(TableFault::Memory) => Err(Reason::NoRoom(NoRoom(()))),
+        Err(TableFault::EdgeLimit) => Err(Reason::EdgeLimit),
+    }
+}
+
+/// Gives a message to a table, which takes it as `summaries::deliver` says.
+pub(crate) fn deliver<G: Allocator, A: Allocator + Copy, S: PathSet<A>>(
+    table: &mut Table<'_, G, A, S>,
+    due: Due,
+) -> Result<(), Reason>
+    requires { IsTable S.members table.old }
+    ensures { TakesOrFails S.members due result table.old table.new }
+{
+    match summaries::deliver(table, due) {
+        Ok(()) => Ok(()),
+        Err(TableFault::Memory) => Err(Reason::NoRoom(NoRoom(()))),
+        Err(TableFault::EdgeLimit) => Err(Reason::EdgeLimit),
+    }
+}
