@@ -1,5 +1,5 @@
 -- What comes of jobs.
-use Rattle.std.specs.Prelude.{◌≡◌, ◌≤◌, ℕ, List, Some, length, slice_get}
+use Rattle.std.specs.Prelude.{◌≡◌, ◌⊎◌, ◌≤◌, ℕ, true, List, Some, length, slice_get}
 use Rattle.gather.specs.declared.jobs.Begun.{Begun}
 use Rattle.gather.specs.declared.jobs.Begun.TheVariants.{InThread, Without}
 use Rattle.gather.specs.declared.jobs.Came.{Came}
@@ -33,12 +33,19 @@ pub record HaveCome {J B : Type 0} (runs declines : J → B → Type 0) (jobs : 
   pub each : (i : ℕ) (j : J) (c : Came B) → slice_get jobs i ≡ Some j → slice_get cames i ≡ Some c
       → CameOf (runs j) (declines j) i c
 
-module _ {C P : Type 0} (kept_by : P → C → Type 0) where
+-- the job was declined
+abbrev pub IsDeclined : {B : Type 0} → Came B → Type 0
+IsDeclined (Run b) = ⊥
+IsDeclined (Declined b none) = Unit {0}
+
+module _ {B P : Type 0} (kept_by : P → Came B → Type 0) where
   -- The job of number n was begun, and Q holds of what comes of it: it is in a thread that promises that; or it was not given
-  -- one, which is shown.
-  abbrev pub WasBegun : (C → Type 0) → ℕ → Begun C P → Type 0
-  WasBegun Q n (InThread handle) = (c : C) → kept_by handle.promise c → Q c
-  WasBegun Q n (Without c none) = Q c × (none.first ≤ n)
+  -- one, which is shown. Then it was declined, but for the one whose start the system refused, which hands back the thread's
+  -- closure, and that decides.
+  abbrev pub WasBegun : (Came B → Type 0) → ℕ → Begun (Came B) P → Type 0
+  WasBegun Q n (InThread handle) = (c : Came B) → kept_by handle.promise c → Q c
+  WasBegun Q n (Without c none) =
+      Q c × (none.first ≤ n) × (IsDeclined c ⊎ ((none.first ≡ n) × (none.by_system ≡ true)))
 
 -- The jobs were begun, in their order.
 pub record AreBegun {J B P : Type 0} (kept_by : P → Came B → Type 0) (runs declines : J → B → Type 0) (jobs : List J)

@@ -1,5 +1,5 @@
 //! What shows that no thread was had for a job.
-ghost use Rattle.std.specs.Prelude.{◌≡◌, ◌≤◌, ◌↔◌, IsTrue, IfSome};
+ghost use Rattle.std.specs.Prelude.{◌≡◌, ◌≤◌, ◌↔◌, true, IsTrue, IfSome};
 
 use crate::hire::Hire;
 use std::thread::SpawnError;
@@ -9,15 +9,20 @@ use std::thread::SpawnError;
 #[derive(Clone, Copy, Debug)]
 pub(crate) struct NoThread {
     first: u8,
+    by_system: bool,
 }
 
 impl NoThread {
     /// The system refused the start of the job of this number.
     pub(crate) fn of_system<F>(refusal: &SpawnError<F>, number: u8) -> NoThread
-        ensures { result.first ≡ number }
+        ensures first { result.first ≡ number }
+        ensures system { result.by_system ≡ true }
     {
         let _ = refusal;
-        NoThread { first: number }
+        NoThread {
+            first: number,
+            by_system: true,
+        }
     }
 
     /// Asks whether the job of this number may have a thread; `None` where it may.
@@ -25,10 +30,12 @@ impl NoThread {
         ensures { IfSome result (λ no. no.first ≡ number) }
     {
         if hire.may(number) {
-            None
-        } else {
-            Some(NoThread { first: number })
+            return None;
         }
+        Some(NoThread {
+            first: number,
+            by_system: false,
+        })
     }
 
     /// Whether the job of this number gets no thread.
