@@ -90,6 +90,10 @@ IsNamed name k n s (Sequential rounds) = (name ≡ codes "sequential") × (count
 abbrev pub Orders : Text × List Row → Order → Text → Type 0
 Orders command order path = Gives command.0 command.1 order × (first_of (codes "file") command.1 ≡ Some path)
 
+-- What was found for the words is this order on this file.
+abbrev pub Asks : Option (Text × List Row) → Order → Text → Type 0
+Asks found order path = (command : Text × List Row) × (found ≡ Some command) × Orders command order path
+
 -- The command line takes the words, the program's own name first, and gives this order on this file for them.
 pub record AskFor (words : List Text) (order : Order) (path : Text) : Type 0 where
   pub taken : fault_of bebopk words ≡ []
