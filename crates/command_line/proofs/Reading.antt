@@ -1,5 +1,6 @@
 -- What is read of the matches of a command.
-use Rattle.std.proofs.Common.{◌≡◌, ◌∙◌, ℕ, Bool, true, false, List, Option, None, Some, Result, Ok, option_map, refl, sym, ap, ap₂, subst, codes}
+use Rattle.std.proofs.Common.{◌≡◌, ◌∙◌, ◌<◌, ◌^◌, ℕ, Bool, true, false, List, Option, None, Some, Result, Ok, Err, arith}
+use Rattle.std.proofs.Common.{option_map, refl, sym, ap, ap₂, subst, codes}
 use Rattle.std.specs.Box.{box_value}
 use Rattle.std.specs.Bool.{MatchBool}
 use Rattle.std.specs.Str.Parse.{ParsesBool, ParsesUnsigned, false_text, true_text}
@@ -9,7 +10,8 @@ use Rattle.clap.specs.declared.parser.matches.ArgMatches.{ArgMatches}
 use Rattle.clap.specs.declared.parser.matches.ArgMatches.TheViews.{out-ArgMatches, out-SubCommand}
 use Rattle.clap.specs.declared.parser.matches.Found.{Found}
 use Rattle.clap.proofs.WalkLemmas.{one_text-rows}
-use Rattle.command_line.specs.Line.{Gives, IsGiven, IsNamed, Reads, flag_text}
+use Rattle.command_line.specs.Limits.{count_of}
+use Rattle.command_line.specs.Line.{Asks, Gives, IsGiven, IsNamed, Orders, Reads, flag_text}
 use Rattle.command_line.specs.declared.asked.Order.{Order}
 use Rattle.command_line.specs.declared.asked.Order.TheVariants.{Check, Sequential}
 use Rattle.summaries.specs.Limits.{most_of}
@@ -35,8 +37,19 @@ paired name rows None n r e h = absurd (none-some n e)
 paired name rows (Some b) n r e h = ap₂ (λ x y. Some (x, y)) (same_Some (name b) n e) (same_Some (rows b) r h)
 
 -- the command that was met, by its name and its rows
-pub met : (m : ArgMatches) (n : Text) (r : List Row) → subcommand_name_of m ≡ Some n → option_map (λ (p : Text × List Row). p.1) (subcommand_rows_of m) ≡ Some r → subcommand_rows_of m ≡ Some (n, r)
-met m n r e h = paired (λ b. (out-SubCommand (box_value b)).name.now) (λ b. rows_of (found_of (out-SubCommand (box_value b)).matches)) (out-ArgMatches m).subcommand n r e h
+met : (m : ArgMatches) (n : Text) (r : List Row) → subcommand_name_of m ≡ Some n
+    → option_map (λ (p : Text × List Row). p.1) (subcommand_rows_of m) ≡ Some r → subcommand_rows_of m ≡ Some (n, r)
+met m n r e h = paired (λ b. (out-SubCommand (box_value b)).name.now)
+    (λ b. rows_of (found_of (out-SubCommand (box_value b)).matches)) (out-ArgMatches m).subcommand n r e h
+
+-- the same, where it is got from the matches
+pub is_met : {P : Type 0} (name : P → Text) (found : P → Found) (m : ArgMatches) (o : Option P) (p : P) → o ≡ Some p
+    → option_map name o ≡ subcommand_name_of m
+    → option_map (λ q. rows_of (found q)) o ≡ option_map (λ (q : Text × List Row). q.1) (subcommand_rows_of m)
+    → subcommand_rows_of m ≡ Some (name p, rows_of (found p))
+is_met name found m o p was names rows =
+    met m (name p) (rows_of (found p)) (sym names ∙ ap (option_map name) was)
+    (sym rows ∙ ap (option_map (λ q. rows_of (found q))) was)
 
 -- the text of the value that is got of an option without one
 same_flag : (t : Text) (b : Bool) → MatchBool b (t ≡ true_text) (t ≡ false_text) → t ≡ flag_text b
@@ -58,3 +71,53 @@ pub gives : (name : Text) (rows : List Row) (k : ℕ) (n : Option ℕ) (s : Opti
 gives name rows k n s (Check r e b) h rounds edges stats =
     (h.0, subst (Reads rows (codes "rounds")) (sym h.1) rounds, edges (most_of e) h.2, stats b h.3)
 gives name rows k n s (Sequential r) h rounds edges stats = (h.0, subst (Reads rows (codes "rounds")) (sym h.1) rounds)
+
+-- what an option reads as is the number that is got of it, where that fits
+pub number : {E : Type 0} (gives : List ℕ → Result ℕ E → Type 0) (bits : ℕ)
+    → ((t : List ℕ) (r : Result ℕ E) → gives t r → ParsesUnsigned {E = E} bits 10 t r)
+    → (f : Found) (id : Text) (r : Option ℕ) (n : ℕ) → n < 2 ^ bits → Reads (rows_of f) id n
+    → ((t : List ℕ) → one_text f id ≡ Some t → ReadsOne gives t r) → r ≡ Some n
+number gives bits parses f id r n fits h value = go r (value h.0 (one_text-rows f id ∙ h.1))
+  where
+    go : (o : Option ℕ) → ReadsOne gives h.0 o → o ≡ Some n
+    go (Some v) g = ap Some ((parses h.0 (Ok v) g).1 ∙ h.3)
+    go None g = absurd (parses h.0 (Err g.0) g.1 (h.2, subst (λ k. k < 2 ^ bits) (sym h.3) fits))
+
+-- an option without a value that was given, or was not, is got so
+pub flag : (E : Type 0) (f : Found) (id : Text) (r : Option Bool) (b : Bool) → IsGiven (rows_of f) id b
+    → ((t : List ℕ) → one_text f id ≡ Some t → ReadsOne {E = E} ParsesBool t r) → r ≡ Some b
+flag E f id r b h value = go b r (value (flag_text b) (one_text-rows f id ∙ h))
+  where
+    go : (c : Bool) (o : Option Bool) → ReadsOne {E = E} ParsesBool (flag_text c) o → o ≡ Some c
+    go true (Some true) g = refl
+    go true (Some false) g = cc
+    go true None g = absurd (g.1.0 refl)
+    go false (Some true) g = cc
+    go false (Some false) g = refl
+    go false None g = absurd (g.1.1 refl)
+
+-- each order has a number of rounds, which fits a byte
+pub has_rounds : (name : Text) (rows : List Row) (o : Order) → Gives name rows o
+    → (k : ℕ) × (k < 2 ^ 8) × Reads rows (codes "rounds") k
+has_rounds name rows (Check r e b) h = (count_of r, omega (arith, r.few), h.1)
+has_rounds name rows (Sequential r) h = (count_of r, omega (arith, r.few), h.1)
+
+-- an order that was found is named by what is got of its options
+pub is_named : (name : Text) (rows : List Row) (k : ℕ) (n : Option ℕ) (s : Option Bool) (o : Order) → Gives name rows o
+    → ((j : ℕ) → j < 2 ^ 8 → Reads rows (codes "rounds") j → k ≡ j)
+    → ((e : ℕ) → e < 2 ^ 32 → Reads rows (codes "edges") e → n ≡ Some e)
+    → ((b : Bool) → IsGiven rows (codes "stats") b → s ≡ Some b) → IsNamed name k n s o
+is_named name rows k n s (Check r e b) h rounds edges stats = (
+  h.0,
+  sym (rounds (count_of r) (omega (arith, r.few)) h.1),
+  edges (most_of e) (omega (arith, e.few)) h.2,
+  stats b h.3,
+)
+is_named name rows k n s (Sequential r) h rounds edges stats =
+    (h.0, sym (rounds (count_of r) (omega (arith, r.few)) h.1))
+
+-- what was found is an order of the command that was met
+pub of_command : (found : Option (Text × List Row)) (command : Text × List Row) (o : Order) (path : Text)
+    → found ≡ Some command → Asks found o path → Orders command o path
+of_command found command o path is asks =
+    subst (λ (c : Text × List Row). Orders c o path) (same_Some asks.0 command (sym asks.1 ∙ is)) asks.2

@@ -12,8 +12,7 @@ use Rattle.clap.specs.declared.builder.value_parser.ValueParser.TheVariants.{Sig
 use Rattle.clap.specs.declared.error.kind.ErrorKind.{ErrorKind}
 use Rattle.clap.specs.declared.error.kind.ErrorKind.TheVariants as kind
 use Rattle.round_rewrite.specs.Limits.{most_rounds}
-use Rattle.summaries.specs.Limits.{most_of}
-use Rattle.command_line.specs.Limits.{count_of}
+use Rattle.command_line.specs.Limits.{count_of, most_of}
 use Rattle.command_line.specs.declared.asked.LineFault.{LineFault}
 use Rattle.command_line.specs.declared.asked.LineFault.TheVariants.{Help, Memory, Refused}
 use Rattle.command_line.specs.declared.asked.Order.{Order}
@@ -89,6 +88,10 @@ IsNamed name k n s (Sequential rounds) = (name ≡ codes "sequential") × (count
 -- What was found for a command is this order on this file.
 abbrev pub Orders : Text × List Row → Order → Text → Type 0
 Orders command order path = Gives command.0 command.1 order × (first_of (codes "file") command.1 ≡ Some path)
+
+-- What was found for the words is this order on this file.
+abbrev pub Asks : Option (Text × List Row) → Order → Text → Type 0
+Asks found order path = (command : Text × List Row) × (found ≡ Some command) × Orders command order path
 
 -- The command line takes the words, the program's own name first, and gives this order on this file for them.
 pub record AskFor (words : List Text) (order : Order) (path : Text) : Type 0 where

@@ -1,7 +1,7 @@
 //! What the words of the command line ask for.
-ghost use Rattle.std.specs.Prelude.{◌≡◌, false, List, map, IfErr, IfOk, IfSome, Some};
+ghost use Rattle.std.specs.Prelude.{◌≡◌, false, map, IfErr, IfOk, MatchOption};
 ghost use Rattle.std.specs.String.{string_bytes};
-ghost use Rattle.clap.specs.Words.{Row, Text, app_of, kind_of, rule_of, subcommand_rows_of};
+ghost use Rattle.clap.specs.Words.{Text, app_of, kind_of, rule_of, subcommand_rows_of};
 ghost use Rattle.command_line.specs.Line as line;
 
 use crate::asked::{LineFault, Order};
@@ -127,30 +127,32 @@ fn fault_of(alloc: Global, error: &Error) -> LineFault
     }
 }
 
-/// The order of this name with these numbers, and with `--stats` or without; `None` only of those that the command line lets
-/// nobody give.
+/// The order of this name with these numbers, and with `--stats` or without, if there is one.
 fn order_of(name: &str, rounds: u8, edges: Option<u32>, stats: Option<bool>) -> Option<Order>
-    ensures { IfSome result (λ order. line.IsNamed name.now rounds edges stats order) }
+    ensures { MatchOption result ((order : Order) → ¬ line.IsNamed name.now rounds edges stats order)
+        (line.IsNamed name.now rounds edges stats) }
 {
     let rounds = Rounds::new(rounds)?;
-    match (name, edges, stats) {
-        ("check", Some(edges), Some(stats)) => {
-            let edges = EdgeLimit::new(edges)?;
+    match name {
+        "check" => {
+            let edges = EdgeLimit::new(edges?)?;
+            let stats = stats?;
             Some(Order::Check {
                 rounds,
                 edges,
                 stats,
             })
         }
-        ("sequential", None, None) => Some(Order::Sequential { rounds }),
+        "sequential" => Some(Order::Sequential { rounds }),
         _ => None,
     }
 }
 
-/// The order and the file of what was found for the words; `None` only of what the command line lets nobody give.
+/// The order and the file of what was found for the words, if it is an order.
 fn asked<'a>(matches: &ArgMatches<'a>) -> Option<(Order, &'a str)>
-    ensures { IfSome result (λ o. (command : Text × List Row)
-        × (subcommand_rows_of matches.now ≡ Some command) × line.Orders command o.0 o.1.now) }
+    ensures { let found = subcommand_rows_of matches.now in
+        MatchOption result ((order : Order) (path : Text) → ¬ line.Asks found order path)
+        (λ o. line.Asks found o.0 o.1.now) }
 {
     let (name, found) = matches.subcommand()?;
     let rounds = found.get_one::<u8>("rounds")?;

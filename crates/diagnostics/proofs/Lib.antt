@@ -1,2 +1,2 @@
-pub mod Extending
+pub mod Appending
 pub mod Locating

@@ -1,11 +1,13 @@
 -- What is written about a place locates it.
-use Rattle.std.proofs.Common.{◌++◌, ℕ, List, Result, Ok, Err}
+use Rattle.std.proofs.Common.{◌≡◌, ◌++◌, ℕ, List, Result, Ok, Err}
 use Rattle.std.specs.Prelude.{OnOk}
-use Rattle.diagnostics.specs.Place.{Extends, IsPlace, Locates, head}
+use Rattle.diagnostics.specs.Place.{IsPlace}
+use Rattle.diagnostics.specs.Message.{Locates, caret_line, head, source_line}
 
-pub located : {T E : Type 0} (r : Result T E) (path text : List ℕ) (at line column : ℕ)
-    (before behind old new : List ℕ) → IsPlace text at line column before behind
-    → OnOk r (Extends (old ++ head path line column) new) → OnOk r (Locates path text at old new)
-located (Ok _) path text at line column before behind old new place told =
-    record { line = line; column = column; before = before; behind = behind; place = place; told = told }
-located (Err _) path text at line column before behind old new place told = tt
+pub located : {T E : Type 0} (r : Result T E) (path text : List ℕ) (at line column : ℕ) (before behind : List ℕ)
+    (told : List ℕ → List ℕ) (old new : List ℕ) → IsPlace text at line column before behind
+    → OnOk r (new ≡ old ++ (head path line column ++ (told behind ++ (source_line before behind ++ caret_line before))))
+    → OnOk r (Locates path text at told old new)
+located (Ok _) path text at line column before behind told old new place message =
+    record { line = line; column = column; before = before; behind = behind; place = place; message = message }
+located (Err _) path text at line column before behind told old new place message = tt

@@ -1,8 +1,10 @@
 //! A message about a place of a text: where it is, what is wrong with which name, and the source line.
 
-ghost use Rattle.std.specs.Prelude.{◌≡◌, ◌++◌, ◌-◌, OnOk, drop, length, min, take};
+ghost use Rattle.std.specs.Prelude.{◌≡◌, ◌++◌, ◌-◌, ◌<◌, ◌≤◌, OnOk, codes, drop, length, map, min, not, position};
+ghost use Rattle.std.specs.Prelude.{take};
+ghost use Rattle.std.specs.Fmt.{decimal};
 ghost use Rattle.std.specs.String.{string_bytes};
-ghost use Rattle.diagnostics.specs.Place.{Extends, Locates, head};
+ghost use Rattle.diagnostics.specs.Message as told;
 
 use crate::place::{Place, place_of};
 use std::alloc::{AllocError, Allocator};
@@ -51,30 +53,49 @@ fn last(bytes: &[u8], most: usize) -> &[u8]
 }
 
 /// Whether a byte may stand in a word of the language.
-fn is_of_word(byte: u8) -> bool {
+fn is_of_word(byte: u8) -> bool
+    ensures { result ≡ told.is_word_byte byte }
+{
     byte.is_ascii_alphanumeric() || byte == b'_'
 }
 
+/// Where the word at the beginning of some bytes ends, if more stands behind it.
+fn end_of_word(bytes: &[u8]) -> Option<usize>
+    ensures { result ≡ position (λ byte. not (told.is_word_byte byte)) bytes.now }
+{
+    bytes.iter().position(|byte| !is_of_word(*byte))
+}
+
 /// The word at the beginning of some bytes, which may be empty.
-fn word(bytes: &[u8]) -> &[u8] {
-    for (i, byte) in bytes.iter().enumerate() {
-        if !is_of_word(*byte) {
-            return &bytes[..i];
-        }
+fn first_word(bytes: &[u8]) -> &[u8]
+    ensures { result.now ≡ told.first_word bytes.now }
+{
+    match end_of_word(bytes) {
+        Some(end) => &bytes[..end],
+        None => bytes,
     }
-    bytes
+}
+
+/// Two dots where there are more bytes than are shown.
+fn dots(bytes: &[u8], most: usize) -> &'static str
+    ensures { result.now ≡ told.dots most bytes.now }
+{
+    if bytes.len() > most { ".." } else { "" }
 }
 
 /// Writes words.
 fn push<A: Allocator>(message: &mut String<A>, words: &str) -> Result<(), AllocError>
-    ensures { OnOk result (Extends (string_bytes message.old) (string_bytes message.new)) }
+    ensures { OnOk result (string_bytes message.new ≡ string_bytes message.old ++ words.now) }
 {
     message.push_str(words)
 }
 
-/// How a byte of a text is shown: a tab stays, a carriage return is a blank, and what else is no printable character of ASCII is
-/// a question mark.
-fn shown(byte: u8) -> char {
+/// How a byte of a text is shown: a tab stays, a carriage return is a blank, and what else is no printable character of
+/// ASCII is a question mark.
+fn shown(byte: u8) -> char
+    ensures is { result ≡ told.shown byte }
+    ensures ascii { result < 128 }
+{
     match byte {
         b'\t' | b' '..=b'~' => char::from(byte),
         b'\r' => ' ',
@@ -84,7 +105,7 @@ fn shown(byte: u8) -> char {
 
 /// Writes bytes of a text as they are shown.
 fn push_bytes<A: Allocator>(message: &mut String<A>, bytes: &[u8]) -> Result<(), AllocError>
-    ensures { OnOk result (Extends (string_bytes message.old) (string_bytes message.new)) }
+    ensures { OnOk result (string_bytes message.new ≡ string_bytes message.old ++ map told.shown bytes.now) }
 {
     for byte in bytes {
         message.push(shown(*byte))?;
@@ -92,44 +113,56 @@ fn push_bytes<A: Allocator>(message: &mut String<A>, bytes: &[u8]) -> Result<(),
     Ok(())
 }
 
+/// What stands under a byte: a tab under a tab, else a blank.
+fn blank(byte: u8) -> char
+    ensures is { result ≡ told.blank byte }
+    ensures ascii { result < 128 }
+{
+    if byte == b'\t' { '\t' } else { ' ' }
+}
+
 /// Writes as many blanks as there are bytes; a tab stays one, so that what follows stands under them.
 fn push_blanks<A: Allocator>(message: &mut String<A>, bytes: &[u8]) -> Result<(), AllocError>
-    ensures { OnOk result (Extends (string_bytes message.old) (string_bytes message.new)) }
+    ensures { OnOk result (string_bytes message.new ≡ string_bytes message.old ++ map told.blank bytes.now) }
 {
     for byte in bytes {
-        message.push(if *byte == b'\t' { '\t' } else { ' ' })?;
+        message.push(blank(*byte))?;
     }
     Ok(())
 }
 
 /// Writes a word between quotes, and no more of it than fits on a line.
 fn push_name<A: Allocator>(message: &mut String<A>, name: &[u8]) -> Result<(), AllocError>
-    ensures { OnOk result (Extends (string_bytes message.old) (string_bytes message.new)) }
+    ensures { OnOk result (string_bytes message.new ≡ string_bytes message.old ++ told.quoted name.now) }
 {
     push(message, "`")?;
     push_bytes(message, first(name, NAME))?;
-    push(message, if name.len() > NAME { "..`" } else { "`" })
+    push(message, dots(name, NAME))?;
+    push(message, "`")
 }
 
-/// Writes the line of a place, as much of it as stands near the place, and below it a caret under the place.
-fn push_line<A: Allocator>(message: &mut String<A>, place: &Place) -> Result<(), AllocError>
-    ensures { OnOk result (Extends (string_bytes message.old) (string_bytes message.new)) }
+/// Writes the line of a place, as much of it as stands near the place.
+fn push_source<A: Allocator>(
+    message: &mut String<A>,
+    before: &[u8],
+    behind: &[u8],
+) -> Result<(), AllocError>
+    ensures { OnOk result (string_bytes message.new
+        ≡ string_bytes message.old ++ told.source_line before.now behind.now) }
 {
-    let before = last(place.before, BEFORE);
-    let is_cut = place.before.len() > BEFORE;
-    push(message, if is_cut { ".." } else { "" })?;
-    push_bytes(message, before)?;
-    push_bytes(message, first(place.behind, BEHIND))?;
-    push(
-        message,
-        if place.behind.len() > BEHIND {
-            ".."
-        } else {
-            ""
-        },
-    )?;
-    push(message, if is_cut { "\n  " } else { "\n" })?;
-    push_blanks(message, before)?;
+    push(message, dots(before, BEFORE))?;
+    push_bytes(message, last(before, BEFORE))?;
+    push_bytes(message, first(behind, BEHIND))?;
+    push(message, dots(behind, BEHIND))?;
+    push(message, "\n")
+}
+
+/// Writes a caret under a place.
+fn push_caret<A: Allocator>(message: &mut String<A>, before: &[u8]) -> Result<(), AllocError>
+    ensures { OnOk result (string_bytes message.new ≡ string_bytes message.old ++ told.caret_line before.now) }
+{
+    push_blanks(message, dots(before, BEFORE).as_bytes())?;
+    push_blanks(message, last(before, BEFORE))?;
     push(message, "^\n")
 }
 
@@ -140,7 +173,7 @@ fn push_head<A: Allocator>(
     place: &Place,
 ) -> Result<(), AllocError>
     ensures { OnOk result (string_bytes message.new
-        ≡ string_bytes message.old ++ head path.now place.now.line place.now.column) }
+        ≡ string_bytes message.old ++ told.head path.now place.now.line place.now.column) }
 {
     let line = place.line;
     let column = place.column;
@@ -153,7 +186,7 @@ fn push_width<A: Allocator>(
     places: u128,
     rounds: u8,
 ) -> Result<(), AllocError>
-    ensures { OnOk result (Extends (string_bytes message.old) (string_bytes message.new)) }
+    ensures { OnOk result (string_bytes message.new ≡ string_bytes message.old ++ told.needs places rounds) }
 {
     write!(
         message,
@@ -161,14 +194,18 @@ fn push_width<A: Allocator>(
     )
 }
 
-/// Writes what stands first in the rest of a line: a word, a sign, the number of a byte that is neither, or nothing more.
-fn push_first<A: Allocator>(message: &mut String<A>, rest: &[u8]) -> Result<(), AllocError>
-    ensures { OnOk result (Extends (string_bytes message.old) (string_bytes message.new)) }
+/// Writes the number of a byte.
+fn push_number<A: Allocator>(message: &mut String<A>, byte: u8) -> Result<(), AllocError>
+    ensures { OnOk result (string_bytes message.new ≡ string_bytes message.old ++ (codes "byte " ++ decimal byte)) }
 {
-    let word = word(rest);
-    if !word.is_empty() {
-        return push_name(message, word);
-    }
+    write!(message, "byte {byte}")
+}
+
+/// Writes what stands first in the rest of a line, where no word does: a sign, the number of a byte that is none, or
+/// that nothing more does.
+fn push_sign<A: Allocator>(message: &mut String<A>, rest: &[u8]) -> Result<(), AllocError>
+    ensures { OnOk result (string_bytes message.new ≡ string_bytes message.old ++ told.sign_or_number rest.now) }
+{
     match rest.first() {
         Some(b'!'..=b'~') => push_name(message, first(rest, 1)),
         Some(byte) => push_number(message, *byte),
@@ -176,11 +213,16 @@ fn push_first<A: Allocator>(message: &mut String<A>, rest: &[u8]) -> Result<(), 
     }
 }
 
-/// Writes the number of a byte.
-fn push_number<A: Allocator>(message: &mut String<A>, byte: u8) -> Result<(), AllocError>
-    ensures { OnOk result (Extends (string_bytes message.old) (string_bytes message.new)) }
+/// Writes what stands first in the rest of a line.
+fn push_first<A: Allocator>(message: &mut String<A>, rest: &[u8]) -> Result<(), AllocError>
+    ensures { OnOk result (string_bytes message.new ≡ string_bytes message.old ++ told.first_item rest.now) }
 {
-    write!(message, "byte {byte}")
+    let word = first_word(rest);
+    if word.is_empty() {
+        push_sign(message, rest)
+    } else {
+        push_name(message, word)
+    }
 }
 
 /// Writes what is wrong where the rest of a line begins.
@@ -189,15 +231,16 @@ fn push_wrong<A: Allocator>(
     rest: &[u8],
     wrong: Wrong<'_>,
 ) -> Result<(), AllocError>
-    ensures { OnOk result (Extends (string_bytes message.old) (string_bytes message.new)) }
+    ensures { OnOk result (string_bytes message.new
+        ≡ string_bytes message.old ++ told.of_fault wrong.entry rest.now) }
 {
     match wrong {
         Wrong::Word(what) => {
-            push_name(message, word(rest))?;
+            push_name(message, first_word(rest))?;
             push(message, what)
         }
         Wrong::Wide(places, rounds) => {
-            push_name(message, word(rest))?;
+            push_name(message, first_word(rest))?;
             push_width(message, places, rounds)
         }
         Wrong::Unexpected => {
@@ -212,7 +255,26 @@ fn push_wrong<A: Allocator>(
     }
 }
 
-/// Writes where an offset of a text stands, what is wrong there, and its line.
+/// Writes where a byte of a text stands, what is wrong there, and its line.
+fn at_byte<A: Allocator>(
+    message: &mut String<A>,
+    path: &str,
+    text: &[u8],
+    at: usize,
+    wrong: Wrong<'_>,
+) -> Result<(), AllocError>
+    requires { at ≤ length text.now }
+    ensures { OnOk result (told.Locates path.now text.now at (told.of_fault wrong.entry)
+        (string_bytes message.old) (string_bytes message.new)) }
+{
+    let place = place_of(text, at);
+    push_head(message, path, &place)?;
+    push_wrong(message, place.behind, wrong)?;
+    push_source(message, place.before, place.behind)?;
+    push_caret(message, place.before)
+}
+
+/// Writes where an offset of a text stands, what is wrong there, and its line. One past the text stands at its end.
 pub fn at_offset<A: Allocator>(
     message: &mut String<A>,
     path: &str,
@@ -220,13 +282,17 @@ pub fn at_offset<A: Allocator>(
     at: u32,
     wrong: Wrong<'_>,
 ) -> Result<(), AllocError>
-    ensures { OnOk result (Locates path.now text.now (min (length text.now) at) (string_bytes message.old)
-        (string_bytes message.new)) }
+    ensures { OnOk result (told.Locates path.now text.now (min (length text.now) at) (told.of_fault wrong.entry)
+        (string_bytes message.old) (string_bytes message.new)) }
 {
-    let place = place_of(text, at);
-    push_head(message, path, &place)?;
-    push_wrong(message, place.behind, wrong)?;
-    push_line(message, &place)
+    at_byte(message, path, text, text.len().min(at as usize), wrong)
+}
+
+/// Where the first byte stands that is not ASCII.
+fn first_foreign(text: &[u8]) -> Option<usize>
+    ensures { result ≡ told.first_foreign text.now }
+{
+    text.iter().position(|byte| *byte >= 128)
 }
 
 /// Writes that a byte of the text is not ASCII, and where the first one is.
@@ -234,10 +300,12 @@ pub fn not_ascii<A: Allocator>(
     message: &mut String<A>,
     path: &str,
     text: &[u8],
-) -> Result<(), AllocError> {
-    let first = text.iter().position(|byte| *byte >= 128);
-    let Some(at) = first.and_then(|at| u32::try_from(at).ok()) else {
-        return write!(message, "{path}: a byte is not ASCII\n");
-    };
-    at_offset(message, path, text, at, Wrong::NotAscii)
+) -> Result<(), AllocError>
+    ensures { OnOk result (told.LocatesForeign path.now text.now (string_bytes message.old)
+        (string_bytes message.new)) }
+{
+    match first_foreign(text) {
+        Some(at) => at_byte(message, path, text, at, Wrong::NotAscii),
+        None => write!(message, "{path}: a byte is not ASCII\n"),
+    }
 }

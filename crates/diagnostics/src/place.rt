@@ -1,6 +1,6 @@
 //! Where an offset of a text stands, for a reader: its line, its column, and the line itself.
 
-ghost use Rattle.std.specs.Prelude.{◌≡◌, ◌≢◌, ◌-◌, ◌<◌, ◌≤◌, ℕ, length, min, slice_index};
+ghost use Rattle.std.specs.Prelude.{◌≡◌, ◌≢◌, ◌-◌, ◌<◌, ◌≤◌, ℕ, length, slice_index};
 ghost use Rattle.diagnostics.specs.Place.{IsPlace, newlines};
 
 /// Where an offset of a text stands.
@@ -56,12 +56,11 @@ fn end_of(text: &[u8], at: usize) -> usize
     text.len()
 }
 
-/// Where an offset stands; one past the text stands at its end.
-pub(crate) fn place_of<'a>(text: &'a [u8], at: u32) -> Place<'a>
-    ensures { IsPlace text.now (min (length text.now) at) result.line result.column
-        result.before.now result.behind.now }
+/// Where an offset stands.
+pub(crate) fn place_of<'a>(text: &'a [u8], at: usize) -> Place<'a>
+    requires { at ≤ length text.now }
+    ensures { IsPlace text.now at result.line result.column result.before.now result.behind.now }
 {
-    let at = text.len().min(at as usize);
     let start = start_of(text, at);
     let end = end_of(text, at);
     Place {

@@ -1,31 +1,76 @@
 -- What standard error tells of a refusal.
-use Rattle.std.specs.Prelude.{ℕ, List, Option, Some, None, IfSome, length, min, option_map}
-use Rattle.round_rewrite.specs.declared.width.Wide.{Wide}
+use Rattle.std.specs.Prelude.{◌≡◌, ℕ, List, [], ◌++◌, Option, Some, None, MatchOption, codes, length, min}
+use Rattle.std.specs.Fmt.{decimal}
+use Rattle.syntax.specs.declared.fault.ReadFault.{ReadFault}
 use Rattle.syntax.specs.declared.fault.ReadFault.TheVariants as read
-use Rattle.scopes.specs.Checked.{offset}
 use Rattle.scopes.specs.declared.fault.ScopeFault.{ScopeFault}
 use Rattle.scopes.specs.declared.fault.ScopeFault.TheVariants as scope
-use Rattle.diagnostics.specs.Place.{Locates}
+use Rattle.diagnostics.specs.Message.{Locates, LocatesForeign, needs, of_name, unexpected}
+use Rattle.command_line.specs.Limits.{count_of, most_of}
+use Rattle.command_line.specs.declared.asked.Order.{Order}
+use Rattle.command_line.specs.declared.asked.Order.TheVariants.{Check, Sequential}
 use Rattle.refusals.specs.declared.refusal.Refusal.{Refusal}
-use Rattle.refusals.specs.declared.refusal.Refusal.TheVariants.{Unread, Unchecked, TooWide, EdgeLimit, Memory, NoWorker, Spent}
+use Rattle.refusals.specs.declared.refusal.Refusal.TheVariants.{Unread, Unchecked, TooWide, EdgeLimit, Memory}
+use Rattle.refusals.specs.declared.refusal.Refusal.TheVariants.{NoWorker, Spent}
 
--- the offset of a fault of scopes, which want of memory lacks
-abbrev pub offset_in : ScopeFault → Option ℕ
-offset_in scope.Memory = None
-offset_in fault = Some (offset fault)
+-- where a fault of scopes stands, and what is told of the name there; want of memory has no place
+abbrev pub scope_told : ScopeFault → Option (ℕ × List ℕ)
+scope_told (scope.Undeclared at) = Some (at, codes " is not declared\n")
+scope_told (scope.DeclaredTwice at) =
+    Some (at, codes " is declared a second time, or assigned twice by one statement\n")
+scope_told (scope.WrongCount at) =
+    Some (at, codes ": targets and right sides, or arguments and formals, differ in number\n")
+scope_told (scope.BadThread at) = Some (at, codes " is no procedure without formals\n")
+scope_told (scope.BadLabel at) = Some (at, codes " is no label of this procedure, or labels a second statement\n")
+scope_told (scope.Reserved at) =
+    Some (at, codes " has two underscores in a row, which only the rewriting may write\n")
+scope_told (scope.TooMany at) =
+    Some (at, codes " is past the limit of 31 procedures, 8 threads and 1000 statements\n")
+scope_told scope.Memory = None
 
--- the offset that a refusal names
-abbrev pub offset_of : Refusal → Option ℕ
-offset_of (Unread (read.Syntax at)) = Some at
-offset_of (Unread fault) = None
-offset_of (Unchecked fault) = offset_in fault
-offset_of (TooWide wide) = option_map (λ (w : Wide). w.at) wide
-offset_of EdgeLimit = None
-offset_of Memory = None
-offset_of NoWorker = None
-offset_of Spent = None
+-- how many rounds the order is about
+abbrev pub rounds_of : Order → ℕ
+rounds_of (Check rounds edges stats) = count_of rounds
+rounds_of (Sequential rounds) = count_of rounds
 
--- Where the refusal names an offset, the message goes on from the old one with the file, and the line and column of the offset,
--- or of the text's end where it is past that.
-abbrev pub Explains : List ℕ → List ℕ → Refusal → List ℕ → List ℕ → Type 0
-Explains path text refusal old new = IfSome (offset_of refusal) (λ at. Locates path text (min (length text) at) old new)
+-- the line for want of memory
+abbrev pub no_memory : List ℕ
+no_memory = codes "bebopk: out of memory\n"
+
+-- Why a text is not read is told at a place of it, or in a line about the file.
+abbrev pub ExplainsUnread : List ℕ → List ℕ → ReadFault → List ℕ → List ℕ → Type 0
+ExplainsUnread path text read.TooLong old new = new ≡ old ++ (path ++ codes ": the text has more than 65536 bytes\n")
+ExplainsUnread path text read.NotAscii old new = LocatesForeign path text old new
+ExplainsUnread path text (read.Syntax at) old new = Locates path text (min (length text) at) unexpected old new
+ExplainsUnread path text read.TooDeep old new = new ≡ old ++ (path
+    ++ codes ": more than 64 of `(`, `begin`, `if` and `while` are open at once, or more than 64 operators stand in one run\n")
+ExplainsUnread path text read.Memory old new = new ≡ old ++ no_memory
+
+-- the line of a passed limit of path edges; an order without such a limit has none
+abbrev pub edge_line : List ℕ → Order → List ℕ
+edge_line path (Check rounds edges stats) =
+    path ++ (codes ": some procedure has more than " ++ (decimal (most_of edges)
+    ++ codes " path edges; --edges N raises the limit, up to 16777216\n"))
+edge_line path (Sequential rounds) = []
+
+-- the line of a program that is too wide in some procedure
+abbrev pub wide_line : List ℕ → ℕ → List ℕ
+wide_line path rounds =
+    path ++ (codes ": some procedure needs more than 64 places with --rounds " ++ (decimal rounds ++ codes "\n"))
+
+-- The message goes on from the old one with what is told of the refusal: at a place, which is the text's end where the
+-- offset is past it, or in a line about the file.
+abbrev pub Explains : List ℕ → List ℕ → Order → Refusal → List ℕ → List ℕ → Type 0
+Explains path text order (Unread fault) old new = ExplainsUnread path text fault old new
+Explains path text order (Unchecked fault) old new =
+    MatchOption (scope_told fault) (new ≡ old ++ no_memory)
+    (λ t. Locates path text (min (length text) t.0) (of_name t.1) old new)
+Explains path text order (TooWide wide) old new =
+    MatchOption wide (new ≡ old ++ wide_line path (rounds_of order))
+    (λ w. Locates path text (min (length text) w.at) (of_name (needs w.places (rounds_of order))) old new)
+Explains path text order EdgeLimit old new = new ≡ old ++ edge_line path order
+Explains path text order Memory old new = new ≡ old ++ no_memory
+Explains path text order NoWorker old new =
+    new ≡ old ++ (path ++ codes ": the system refused a thread for a procedure\n")
+Explains path text order Spent old new =
+    new ≡ old ++ (path ++ codes ": the worker of a procedure has used up its calls\n")

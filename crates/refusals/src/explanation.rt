@@ -1,9 +1,9 @@
 //! What standard error tells of a refusal.
 
-ghost use Rattle.std.specs.Prelude.{◌≡◌, OnOk, option_map};
+ghost use Rattle.std.specs.Prelude.{◌≡◌, ◌++◌, OnOk, option_map};
 ghost use Rattle.std.specs.String.{string_bytes};
-ghost use Rattle.refusals.specs.Explained.{Explains, offset_in};
-ghost use Rattle.refusals.specs.declared.refusal.Refusal.TheVariants.{TooWide, Unread};
+ghost use Rattle.refusals.specs.Explained.{Explains, ExplainsUnread, edge_line, no_memory, rounds_of, scope_told};
+ghost use Rattle.refusals.specs.declared.refusal.Refusal.TheVariants.{TooWide};
 
 use crate::refusal::Refusal;
 use command_line::Order;
@@ -14,7 +14,9 @@ use std::alloc::{AllocError, Allocator};
 use syntax::ReadFault;
 
 /// Writes that memory gave out.
-fn no_memory<A: Allocator>(message: &mut String<A>) -> Result<(), AllocError> {
+fn push_no_memory<A: Allocator>(message: &mut String<A>) -> Result<(), AllocError>
+    ensures { OnOk result (string_bytes message.new ≡ string_bytes message.old ++ no_memory) }
+{
     message.push_str("bebopk: out of memory\n")
 }
 
@@ -25,7 +27,7 @@ fn unread<A: Allocator>(
     text: &[u8],
     fault: &ReadFault,
 ) -> Result<(), AllocError>
-    ensures { OnOk result (Explains path.now text.now (Unread fault.now) (string_bytes message.old)
+    ensures { OnOk result (ExplainsUnread path.now text.now fault.now (string_bytes message.old)
         (string_bytes message.new)) }
 {
     match fault {
@@ -36,13 +38,13 @@ fn unread<A: Allocator>(
             message,
             "{path}: more than 64 of `(`, `begin`, `if` and `while` are open at once, or more than 64 operators stand in one run\n"
         ),
-        ReadFault::Memory => no_memory(message),
+        ReadFault::Memory => push_no_memory(message),
     }
 }
 
 /// Where a fault of scopes stands, and what is told of the name that stands there; `None` where memory gave out.
 fn told(fault: &ScopeFault) -> Option<(u32, &'static str)>
-    ensures { option_map (λ t. t.0) result ≡ offset_in fault.now }
+    ensures { option_map (λ t. (t.0, t.1.now)) result ≡ scope_told fault.now }
 {
     match fault {
         ScopeFault::Undeclared(at) => Some((*at, " is not declared\n")),
@@ -76,7 +78,9 @@ fn edge_limit<A: Allocator>(
     message: &mut String<A>,
     path: &str,
     order: Order,
-) -> Result<(), AllocError> {
+) -> Result<(), AllocError>
+    ensures { OnOk result (string_bytes message.new ≡ string_bytes message.old ++ edge_line path.now order) }
+{
     match order {
         Order::Check { edges, .. } => {
             let edges = edges.edges();
@@ -89,6 +93,15 @@ fn edge_limit<A: Allocator>(
     }
 }
 
+/// How many rounds an order is about.
+fn rounds_in(order: Order) -> u8
+    ensures { result ≡ rounds_of order }
+{
+    match order {
+        Order::Check { rounds, .. } | Order::Sequential { rounds } => rounds.count(),
+    }
+}
+
 /// Writes which procedure has too many places, and how many for how many rounds.
 fn too_wide<A: Allocator>(
     message: &mut String<A>,
@@ -97,12 +110,10 @@ fn too_wide<A: Allocator>(
     order: Order,
     wide: Option<Wide>,
 ) -> Result<(), AllocError>
-    ensures { OnOk result (Explains path.now text.now (TooWide wide) (string_bytes message.old)
+    ensures { OnOk result (Explains path.now text.now order (TooWide wide) (string_bytes message.old)
         (string_bytes message.new)) }
 {
-    let rounds = match order {
-        Order::Check { rounds, .. } | Order::Sequential { rounds } => rounds.count(),
-    };
+    let rounds = rounds_in(order);
     match wide {
         Some(wide) => at_offset(
             message,
@@ -129,18 +140,18 @@ pub fn explain<A: Allocator>(
     order: Order,
     refusal: &Refusal,
 ) -> Result<(), AllocError>
-    ensures { OnOk result (Explains path.now text.now refusal.now (string_bytes message.old)
+    ensures { OnOk result (Explains path.now text.now order refusal.now (string_bytes message.old)
         (string_bytes message.new)) }
 {
     match refusal {
         Refusal::Unread(fault) => unread(message, path, text, fault),
         Refusal::Unchecked(fault) => match told(fault) {
             Some((at, what)) => at_offset(message, path, text, at, Wrong::Word(what)),
-            None => no_memory(message),
+            None => push_no_memory(message),
         },
         Refusal::TooWide(wide) => too_wide(message, path, text, order, *wide),
         Refusal::EdgeLimit => edge_limit(message, path, order),
-        Refusal::Memory => no_memory(message),
+        Refusal::Memory => push_no_memory(message),
         Refusal::NoWorker => write!(
             message,
             "{path}: the system refused a thread for a procedure\n"

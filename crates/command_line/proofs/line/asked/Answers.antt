@@ -1,26 +1,74 @@
--- What is found for the words is the order.
-use Rattle.std.proofs.Common.{◌≡◌, ◌∙◌, ℕ, Bool, List, Some, option_map, sym, ap, codes}
+-- What is found for the words is the order, and where there is none, no order is found for them.
+use Rattle.std.proofs.Common.{◌≡◌, ◌∙◌, ℕ, Bool, List, Some, Result, option_map, sym, ap, codes}
 use Rattle.std.specs.Str.Parse.{ParsesUnsigned, ExplainsUnsignedError, HasUnsignedDigitsIfOk}
-use Rattle.clap.specs.Words.{Row, Text, found_of, rows_of, subcommand_name_of, subcommand_rows_of}
+use Rattle.std.specs.declared.num.ParseIntError.{ParseIntError}
+use Rattle.std.proofs.lemmas.Option.{none-some, same_Some}
+use Rattle.clap.specs.Words.{found_of, rows_of}
 use Rattle.clap.proofs.WalkLemmas.{first_value-rows}
 use Rattle.command_line.specs.Line.{IsGiven, Reads}
-use Rattle.command_line.proofs.Reading.{gives, is_given, met, reads}
+use Rattle.command_line.proofs.Reading.{flag, gives, has_rounds, is_given, is_met, is_named, number, of_command, reads}
 use Rattle.command_line.proofs.line.asked.Goals as goal
+
+-- what the text of a number of so many bits is read as
+abbrev ReadsAs : ℕ → List ℕ → Result ℕ ParseIntError → Type 0
+ReadsAs bits t r = ParsesUnsigned bits 10 t r × ExplainsUnsignedError 10 t r × HasUnsignedDigitsIfOk t r
+
+pub returns-in_err-rounds : goal.returns-in_err-rounds
+returns-in_err-rounds c =
+    let m = c.args.matches.now in
+    let found = found_of c.in_ok-name.found.now in
+    let is = is_met (λ p. p.0.now) (λ p. found_of p.1.now) m c.subcommand.result _ c.in_ok-name.was
+    c.subcommand.ensures.name c.subcommand.ensures.rows in
+    rw c.from_residual-in_err-rounds.ensures (λ order path asks.
+    let rounds = has_rounds c.in_ok-name.name.now (rows_of found) order (of_command _ _ order path is asks).0 in
+    none-some rounds.0 (sym c.in_err-rounds.was
+    ∙ number (ReadsAs 8) 8 (λ t r g. g.0) found (codes "rounds") c.get_one.result rounds.0 rounds.1 rounds.2
+    c.get_one.ensures.value))
+
+pub returns-in_err-file : goal.returns-in_err-file
+returns-in_err-file c =
+    let m = c.args.matches.now in
+    let found = found_of c.in_ok-name.found.now in
+    let is = is_met (λ p. p.0.now) (λ p. found_of p.1.now) m c.subcommand.result _ c.in_ok-name.was
+    c.subcommand.ensures.name c.subcommand.ensures.rows in
+    rw c.from_residual-in_err-file.ensures (λ order path asks.
+    none-some path (c.in_err-file.ensures ∙ first_value-rows found (codes "file")
+    ∙ (of_command _ _ order path is asks).1))
+
+pub returns-in_err-order : goal.returns-in_err-order
+returns-in_err-order c =
+    let m = c.args.matches.now in
+    let name = c.in_ok-name.name.now in
+    let found = found_of c.in_ok-name.found.now in
+    let is = is_met (λ p. p.0.now) (λ p. found_of p.1.now) m c.subcommand.result _ c.in_ok-name.was
+    c.subcommand.ensures.name c.subcommand.ensures.rows in
+    rw c.from_residual-in_err-order.ensures (λ order path asks.
+    c.in_err-order.ensures order
+    (is_named name (rows_of found) c.in_ok-rounds.rounds c.get_one-edges.result c.get_one-stats.result order
+    (of_command _ _ order path is asks).0
+    (λ n fits h. same_Some c.in_ok-rounds.rounds n (sym c.in_ok-rounds.was
+    ∙ number (ReadsAs 8) 8 (λ t r g. g.0) found (codes "rounds") c.get_one.result n fits h c.get_one.ensures.value))
+    (λ n fits h. number (ReadsAs 32) 32 (λ t r g. g.0) found (codes "edges") c.get_one-edges.result n fits h
+    c.get_one-edges.ensures.value)
+    (λ b h. flag _ found (codes "stats") c.get_one-stats.result b h c.get_one-stats.ensures.value)))
 
 pub returns : goal.returns
 returns c =
     let m = c.args.matches.now in
     let name = c.in_ok-name.name.now in
     let found = found_of c.in_ok-name.found.now in
-    let name_is : subcommand_name_of m ≡ Some name = sym c.subcommand.ensures.name ∙ ap (option_map (λ p. p.0.now)) c.in_ok-name.was in
-    let rows_is : option_map (λ (p : Text × List Row). p.1) (subcommand_rows_of m) ≡ Some (rows_of found) = sym c.subcommand.ensures.rows ∙ ap (option_map (λ p. rows_of (found_of p.1.now))) c.in_ok-name.was in
-    let rounds = reads (λ bs r. ParsesUnsigned 8 10 bs r × ExplainsUnsignedError 10 bs r × HasUnsignedDigitsIfOk bs r) 8 (λ t n g. g.0) found (codes "rounds") c.get_one.result c.in_ok-rounds.rounds c.in_ok-rounds.was c.get_one.ensures.none c.get_one.ensures.value in
-    let edges : (e : ℕ) → c.get_one-edges.result ≡ Some e → Reads (rows_of found) (codes "edges") e = λ e is. reads (λ bs r. ParsesUnsigned 32 10 bs r × ExplainsUnsignedError 10 bs r × HasUnsignedDigitsIfOk bs r) 32 (λ t n g. g.0) found (codes "edges") c.get_one-edges.result e is c.get_one-edges.ensures.none c.get_one-edges.ensures.value in
-    let stats : (b : Bool) → c.get_one-stats.result ≡ Some b → IsGiven (rows_of found) (codes "stats") b = λ b is. is_given _ found (codes "stats") c.get_one-stats.result b is c.get_one-stats.ensures.none c.get_one-stats.ensures.value in (
-      (name, rows_of found),
-      met m name (rows_of found) name_is rows_is,
-      (
-        gives name (rows_of found) c.in_ok-rounds.rounds _ _ c.in_ok-order.order c.in_ok-order.ensures rounds edges stats,
-        sym (first_value-rows found (codes "file")) ∙ sym c.get_str.ensures ∙ ap (option_map (λ s. s.now)) c.in_ok-file.was,
-      ),
-    )
+    let is = is_met (λ p. p.0.now) (λ p. found_of p.1.now) m c.subcommand.result _ c.in_ok-name.was
+    c.subcommand.ensures.name c.subcommand.ensures.rows in
+    let rounds = reads (ReadsAs 8) 8 (λ t n g. g.0) found (codes "rounds") c.get_one.result c.in_ok-rounds.rounds
+    c.in_ok-rounds.was c.get_one.ensures.none c.get_one.ensures.value in
+    let edges : (e : ℕ) → c.get_one-edges.result ≡ Some e → Reads (rows_of found) (codes "edges") e =
+    λ e was. reads (ReadsAs 32) 32 (λ t n g. g.0) found (codes "edges") c.get_one-edges.result e was
+    c.get_one-edges.ensures.none c.get_one-edges.ensures.value in
+    let stats : (b : Bool) → c.get_one-stats.result ≡ Some b → IsGiven (rows_of found) (codes "stats") b =
+    λ b was. is_given _ found (codes "stats") c.get_one-stats.result b was c.get_one-stats.ensures.none
+    c.get_one-stats.ensures.value in
+    let order = gives name (rows_of found) c.in_ok-rounds.rounds _ _ c.in_ok-order.order c.in_ok-order.ensures rounds edges
+    stats in
+    let file = sym (first_value-rows found (codes "file")) ∙ sym c.get_str.ensures
+    ∙ ap (option_map (λ s. s.now)) c.in_ok-file.was in
+    ((name, rows_of found), is, (order, file))
