@@ -1,15 +1,48 @@
 //! Each allocation refused in turn.
 
 use crate::case::print_reply;
-use cli::{Order, Reply, answer};
+use cli::{Order, Reply, answer, answer_with};
+use flow_graph::Graphs;
+use path_sets::{DiagramEdges, OrderedEdges};
+use procedure_worker::Open;
 use scarce::Scarce;
 use std::alloc::Global;
 use std::io;
 use std::sync::Wait;
 use std::thread::Threads;
+use summaries::Due;
+use switchboard::{LockPerBox, OneLock};
 
 /// More allocations than any case makes.
-pub const ALL: u64 = 100_000;
+const ALL: u64 = 100_000;
+
+/// Which allocations are refused.
+#[derive(Clone, Copy)]
+pub struct Sweep {
+    /// One in each run, and in the last run the one of this number at most.
+    most: u64,
+    /// In each run all behind that one as well.
+    and_behind: bool,
+    /// Over each pair of board and set, and not over those of the program alone.
+    all_pairs: bool,
+}
+
+/// The sweep that words name: `all pairs, from each`, or how many allocations are refused.
+pub fn sweep_of(words: &str) -> Sweep {
+    let (all_pairs, words) = match words.strip_prefix("all pairs, ") {
+        Some(words) => (true, words),
+        None => (false, words),
+    };
+    let (and_behind, words) = match words.strip_prefix("from ") {
+        Some(words) => (true, words),
+        None => (false, words),
+    };
+    Sweep {
+        most: words.parse::<u64>().unwrap_or(ALL),
+        and_behind,
+        all_pairs,
+    }
+}
 
 /// A runtime that has threads, and a scarce allocator in place of its own.
 #[derive(Drop)]
@@ -40,7 +73,35 @@ pub fn answer_without<'a, R: Wait + Threads + Sync>(
     answer(&Refusing { rt, scarce }, text, order)
 }
 
-/// What came of one allocation refused.
+type OfScarce<'a> = &'a Scarce<Global>;
+
+type PerBox<'a> = LockPerBox<Due, Graphs<OfScarce<'a>>, OfScarce<'a>>;
+
+type One<'a> = OneLock<Due, Graphs<OfScarce<'a>>, OfScarce<'a>>;
+
+/// The same over one of the four pairs of board and set, of which the first is the program's.
+fn answer_over<'a, R: Wait + Threads + Sync>(
+    rt: &'a R,
+    scarce: &'a Scarce<Global>,
+    pair: u8,
+    text: &[u8],
+    order: Order,
+) -> Reply<&'a Scarce<Global>> {
+    match pair {
+        0 => answer_without(rt, scarce, text, order),
+        1 => answer_with::<R, PerBox<'a>, OrderedEdges<OfScarce<'a>>, Open>(
+            rt, scarce, scarce, text, order, &Open,
+        ),
+        2 => answer_with::<R, One<'a>, OrderedEdges<OfScarce<'a>>, Open>(
+            rt, scarce, scarce, text, order, &Open,
+        ),
+        _ => answer_with::<R, One<'a>, DiagramEdges<OfScarce<'a>>, Open>(
+            rt, scarce, scarce, text, order, &Open,
+        ),
+    }
+}
+
+/// What came of one run.
 #[derive(Clone, Copy, Debug, PartialEq, Eq)]
 enum Came {
     /// No allocation was refused, and the reply is the one without refusal.
@@ -51,42 +112,62 @@ enum Came {
     Other,
 }
 
-/// What comes where the allocation of this number is refused.
-fn came_of<R: AllocGlobal + Wait + Threads + Sync>(
+/// What comes over a pair of board and set where the memory is scarce.
+fn came_of<R: Wait + Threads + Sync>(
     rt: &R,
-    nth: u64,
+    scarce: &Scarce<Global>,
+    pair: u8,
     text: &[u8],
     order: Order,
-    whole: &[u8],
+    whole: &Reply<Global>,
 ) -> Came {
-    let scarce = Scarce::refusing(rt.alloc(), nth);
-    let reply = answer_without(rt, &scarce, text, order);
+    let reply = answer_over(rt, scarce, pair, text, order);
     let bytes = reply.bytes.as_slice();
-    match (bytes == whole, scarce.refused()) {
-        (true, false) => Came::Whole,
-        (true, true) => Came::Either,
-        (false, true) if bytes == b"no verdict: memory\n".as_slice() => Came::Either,
-        (false, _) => Came::Other,
+    let is_whole = reply.status == whole.status && bytes == whole.bytes.as_slice();
+    let is_memory = reply.status == 3 && bytes == b"no verdict: memory\n".as_slice();
+    match scarce.refused() {
+        false if is_whole => Came::Whole,
+        true if is_whole || is_memory => Came::Either,
+        _ => Came::Other,
     }
 }
 
-/// Prints the reply without refusal, where each allocation up to `most` that is refused leaves it or leads to `no verdict: memory`.
+/// Whether over a pair of board and set each run of the sweep comes to the whole reply or to want of memory, until none is refused.
+fn is_well<R: AllocGlobal + Wait + Threads + Sync>(
+    rt: &R,
+    sweep: Sweep,
+    pair: u8,
+    text: &[u8],
+    order: Order,
+    whole: &Reply<Global>,
+) -> bool {
+    for nth in 1..=sweep.most {
+        let scarce = if sweep.and_behind {
+            Scarce::refusing_from(rt.alloc(), nth)
+        } else {
+            Scarce::refusing(rt.alloc(), nth)
+        };
+        match came_of(rt, &scarce, pair, text, order, whole) {
+            Came::Either => {}
+            came => return came == Came::Whole,
+        }
+    }
+    sweep.most != ALL
+}
+
+/// Prints the reply without refusal, where each run of the sweep leaves it or leads to `no verdict: memory`.
 pub fn in_turn<R: Print + AllocGlobal + Wait + Threads + Sync>(
     rt: &R,
-    most: u64,
+    sweep: Sweep,
     text: &[u8],
     order: Order,
 ) -> io::Result<()> {
     let reply = answer(rt, text, order);
-    let mut came = Came::Either;
-    for nth in 1..=most {
-        came = came_of(rt, nth, text, order, reply.bytes.as_slice());
-        if came != Came::Either {
-            break;
+    let pairs = if sweep.all_pairs { 4 } else { 1 };
+    for pair in 0..pairs {
+        if !is_well(rt, sweep, pair, text, order, &reply) {
+            return rt.print("another reply\n");
         }
-    }
-    if came == Came::Other || most == ALL && came != Came::Whole {
-        return rt.print("another reply\n");
     }
     print_reply(rt, &reply)
 }
