@@ -60,7 +60,8 @@ use Rattle.procedure_worker.specs.Own.{taken_in, posted_in}
 use Rattle.procedure_worker.specs.Stops.{cause_of, end_of, lack_of, end_at, RefusedFor, FailsFor, TakesOrFails}
 use Rattle.procedure_worker.specs.Works.{Start, IsPassOf, IsFresh, HasStood, HasFailed, Stands, HasSent}
 use Rattle.procedure_worker.specs.Works.{EndsSo, IsReady, IsTaking, IsDealing, IsSending, IsStopped, HasStopped}
-use Rattle.procedure_worker.specs.Works.{Failed, Completes, StopsSo, StoppedFor, IsAtFault, IsFounded, mails_of, cause_for}
+use Rattle.procedure_worker.specs.Works.{Failed, Completes, StopsSo, StoppedFor, IsAtFault, IsFounded}
+use Rattle.procedure_worker.specs.Works.{mails_of, cause_for}
 use Rattle.procedure_worker.proofs.Lists.{taken_post, taken_take, taken_done, posted_post, posted_take, posted_done}
 
 -- what a worker began with, by what its pass and its table show
@@ -68,8 +69,8 @@ abbrev pub own_start : {G A S : Type 0} → Sight Due (Graphs G) → Worker G A 
 own_start s w board = record { graphs = s.seen.world; number = w.number; limit = limit_of w.table; board = board }
 
 -- what is said of an error holds of an answer that is this error
-pub match_err : {T E : Type 0} (r : Result T E) (e : E) (P : T → Type 0) (Q : E → Type 0) → IsErrAnd r (λ x. x ≡ e) → Q e
-    → MatchResult r P Q
+pub match_err : {T E : Type 0} (r : Result T E) (e : E) (P : T → Type 0) (Q : E → Type 0)
+    → IsErrAnd r (λ x. x ≡ e) → Q e → MatchResult r P Q
 match_err (Ok x) e P Q is q = absurd is
 match_err (Err x) e P Q is q = subst Q (sym is) q
 
@@ -386,8 +387,8 @@ module _ {G : Type 0} (b : Start G) where
         }
 
     -- The table has failed.
-    table_stops : (job : ℕ) (f : TableFault) (why : Reason) (s : Sight Due (Graphs G)) (w : Worker G A S) (y : Table G A S) →
-        cause_of why ≡ cause_for f → IsDealing b members job s w → Keeps members (Some f) w.table y →
+    table_stops : (job : ℕ) (f : TableFault) (why : Reason) (s : Sight Due (Graphs G)) (w : Worker G A S)
+        (y : Table G A S) → cause_of why ≡ cause_for f → IsDealing b members job s w → Keeps members (Some f) w.table y →
         IsStopped b members job (stop.Failed why) s (record w { table = y })
     table_stops job f why s w y same deals keeps =
         let g = deals.sent.0 in
@@ -572,8 +573,8 @@ module _ {G : Type 0} (b : Start G) where
     }
 
     -- The table failed at the message.
-    taking_stops : (d : Due) {T : Type 0} (f : TableFault) (why : Reason) (job : ℕ) (e : Finish) (s t : Sight Due (Graphs G))
-        (w : Worker G A S) (y : Table G A S) → cause_of why ≡ cause_for f →
+    taking_stops : (d : Due) {T : Type 0} (f : TableFault) (why : Reason) (job : ℕ) (e : Finish)
+        (s t : Sight Due (Graphs G)) (w : Worker G A S) (y : Table G A S) → cause_of why ≡ cause_for f →
         IsTaking b members job d s w → Takes members d {T = T} (Err f) w.table y → Failed FitsIn why e s t →
         HasStopped b members e t (record w { table = y })
     taking_stops d {T} f why job e s t w y same k given failed =
@@ -635,8 +636,8 @@ module _ {G : Type 0} (b : Start G) where
         ((g.stands, g.made, aborted), not_at_fault end.Aborted w.table g.whole)
 
     -- The worker fails between two messages.
-    pub ready_fails : (why : Reason) (e : Finish) (s t : Sight Due (Graphs G)) (v w : Worker G A S) → IsReady b members s v
-        → HasStood b (cause_of why) s →
+    pub ready_fails : (why : Reason) (e : Finish) (s t : Sight Due (Graphs G)) (v w : Worker G A S)
+        → IsReady b members s v → HasStood b (cause_of why) s →
         Failed FitsIn why e s t → w.table ≡ v.table → w.takes.items ≡ v.takes.items → w.posts ≡ v.posts
         → HasStopped b members e t w
     ready_fails why e s t v w ready stood failed table takes posts =

@@ -87,13 +87,14 @@ module _ {M W : Type 0} (fits : W → ℕ → M → Type 0) where
 abbrev pub IsAtFault : {G A S : Type 0} → End → Table G A S → Type 0
 IsAtFault e t = (f : TableFault) → failure t ≡ Some f → e ≡ end.Failed (cause_for f)
 
--- What a worker's end rests on. It failed for want of memory exactly where there is something that shows a refusal; and where
--- its table has failed, it failed for that fault.
+-- What a worker's end rests on. It failed for want of memory exactly where there is something that shows a refusal; and
+-- where its table has failed, it failed for that fault.
 pub record IsFounded {G A S : Type 0} (e : End) (lack : Option NoRoom) (t : Table G A S) : Type 0 where
   pub memory : (e ≡ end.Failed cause.Memory) ↔ IsSome lack
   pub fault : IsAtFault e t
 
--- The pass has looked, and found every message of its mailbox taken, on a board that it sees neither closed nor aborted.
+-- The pass has looked, and found every message of its mailbox taken, on a board that it sees neither closed nor
+-- aborted.
 pub record FoundNone {G : Type 0} (s t : Sight Due (Graphs G)) : Type 0 where
   pub looked : Looked FitsIn s t
   pub unclosed : t.knows ≡ false
@@ -131,8 +132,8 @@ module _ {G : Type 0} (b : Start G) where
     pub made : s.made ≡ false
     pub none : own b.number s.seen.order ≡ []
 
-  -- the cause really stands: for the limit, the procedure has more path edges; for calls, the pass has none left; memory is
-  -- no matter of the pass, and has a witness (`IsFounded`)
+  -- the cause really stands: for the limit, the procedure has more path edges; for calls, the pass has none left; that
+  -- memory was refused the outcome shows (`IsFounded`)
   abbrev pub HasStood : Cause → Sight Due (Graphs G) → Type 0
   HasStood cause.Memory s = Unit {0}
   HasStood cause.EdgeLimit s = (p : Program) → AreDrawnFrom p (graphs_of b.graphs) → HasMoreEdges p b.number b.limit

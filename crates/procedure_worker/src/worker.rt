@@ -190,8 +190,8 @@ impl<'g, G: Allocator, A: Allocator + Copy, S: PathSet<A>> Worker<'g, G, A, S> {
         }
     }
 
-    /// Takes a message, if there is one, and works on it; where there is none, waits for a moment. Answers how the worker ended,
-    /// if it did: it goes on only where it took a message, or saw neither the close nor an abort.
+    /// Takes a message, if there is one, and works on it; where there is none, waits for a moment. Answers how the worker
+    /// ended, if it did: it goes on only where it took a message, or saw neither the close nor an abort.
     pub(crate) fn turn<R: Wait, H: Allocator, B: Board<Due, Graphs<G>, H>, K: Gate>(
         &mut self,
         rt: &R,
@@ -204,7 +204,8 @@ impl<'g, G: Allocator, A: Allocator + Copy, S: PathSet<A>> Worker<'g, G, A, S> {
         requires ready { IsReady start S.members (B.sight pass.old) self.old }
         ensures ends { MatchOption result (IsReady start S.members (B.sight pass.new) self.new)
             (λ e. HasStopped start S.members e (B.sight pass.new) self.new) }
-        ensures goes { IfNone result (MayGoOn (B.sight pass.old) (B.sight pass.new) self.old.takes.items self.new.takes.items) }
+        ensures goes { IfNone result (MayGoOn (B.sight pass.old) (B.sight pass.new)
+            self.old.takes.items self.new.takes.items) }
     {
         if let Err(witness) = one_more(&mut self.takes) {
             return Some(fail(rt, board, pass, None, Reason::NoRoom(witness)));

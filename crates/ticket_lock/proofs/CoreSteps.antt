@@ -5,11 +5,13 @@ use mathlib.Core.Option.{some}
 use mathlib.Core.Logic.{dite}
 use native.Mathlib.Decide.{ℕ_discrete, dec_le}
 use lib.ListN.{get_elem?}
+use Rattle.atomic_table.specs.Table.{State}
 use Rattle.ticket_lock.specs.declared.hand.Hand.{Hand}
 use Rattle.ticket_lock.specs.Count.{times, total}
 use Rattle.ticket_lock.specs.History.{StartsWith}
 use Rattle.ticket_lock.specs.Core.{in_hand, Fits, Core}
 use Rattle.ticket_lock.specs.Turns.{with_ticket, with_entry, with_leave}
+use Rattle.ticket_lock.specs.Drawing.{HasDrawn}
 use Rattle.ticket_lock.specs.Facts.{total_set, total_at, total_two, total_few, total_plus, at_set, set_here, at_inside, times-snoc, times-one, times-other, times-without, StartsWith-refl, StartsWith-more, EndsIn-more}
 
 module _ {T : Type 0} (serving next : ℕ) (log : List T) (here : maybe.Option (maybe.Option (Option T))) (hands : List (Hand T)) (id : ℕ) (h : Hand T) (is_at : get_elem? hands id ≡ some h) (c : Core serving next log here hands) where
@@ -162,6 +164,23 @@ module _ {T : Type 0} (serving next : ℕ) (log : List T) (here : maybe.Option (
       let each_one = total_few (λ (x : Hand T). length x.inside) (in_hand serving) 1 hands inside_is in
       elim (dec_le next serving) [ yes d ↦ omega (arith, c.ahead serving d) | no d ↦ (let lt = lt_of_not-le d in omega (arith, c.held serving (omega arith) lt)) ]
 
+  -- each number is in one hand at most
+  pub held_once : (n : ℕ) → total (in_hand n) hands ≤ 1
+  held_once n = elim (dec_le serving n) [
+    | no d ↦ omega (arith, c.past n (lt_of_not-le d))
+    | yes d ↦ elim (dec_le next n) [
+      | yes e ↦ omega (arith, c.ahead n e)
+      | no e ↦ omega (arith, c.held n d (lt_of_not-le e))
+    ]
+  ]
+
+  -- each number was drawn at most once
+  pub drawn_at_most_once : (n : ℕ) → total (λ (x : Hand T). times n x.drawn) hands ≤ 1
+  drawn_at_most_once n = elim (dec_le next n) [
+    | yes d ↦ omega (arith, c.undrawn n d)
+    | no d ↦ omega (arith, c.drawn_once n (lt_of_not-le d))
+  ]
+
   -- the rule reads the hands only by what they have in all, and each by itself
   pub core_same : (hands' : List (Hand T)) → ((n : ℕ) → total (in_hand n) hands' ≡ total (in_hand n) hands) → ((n : ℕ) → total (λ (x : Hand T). times n x.drawn) hands' ≡ total (λ (x : Hand T). times n x.drawn) hands)
       → total (λ (x : Hand T). length x.drawn) hands' ≡ total (λ (x : Hand T). length x.drawn) hands → total (λ (x : Hand T). x.parts) hands' ≡ total (λ (x : Hand T). x.parts) hands
@@ -179,3 +198,14 @@ module _ {T : Type 0} (serving next : ℕ) (log : List T) (here : maybe.Option (
     each = each;
     home = λ none. c.home (sym same_inside ∙ none);
   }
+
+-- where no number was drawn twice, what a seat has drawn nobody had drawn before
+pub not_drawn_before : {T V : Type 0} (see : V → Hand T) (seat number : ℕ) (s t : State (Option T) V)
+    → HasDrawn see seat number s t → total (λ v. times number (see v).drawn) t.views ≤ 1
+    → total (λ v. times number (see v).drawn) s.views ≡ 0
+not_drawn_before {T} {V} see seat number s t d once =
+    let drawn = (λ (x : V). times number (see x).drawn) in
+    let all : total drawn (set s.views seat d.after) ≤ 1 = subst (λ l. total drawn l ≤ 1) d.others once in
+    let more : drawn d.after ≡ drawn d.before + times number (number ∷ []) =
+    ap (λ (h : Hand T). times number h.drawn) d.ticket ∙ times-snoc number (see d.before).drawn number in
+    omega (arith, total_set drawn s.views seat d.before d.after d.there, times-one number)

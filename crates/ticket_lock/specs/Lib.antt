@@ -2,6 +2,7 @@ pub mod Count
 pub mod History
 pub mod Core
 pub mod Turns
+pub mod Drawing
 pub mod Calls
 pub mod Lone
 pub mod Facts

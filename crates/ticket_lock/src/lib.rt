@@ -19,7 +19,7 @@ pub use hand::Hand;
 pub use lane::{Guard, Lane, Note, Spent, Ticket};
 pub use law::LaneLaw;
 pub use lock::TicketLock;
-pub use one::at_most_one_guard;
+pub use one::{at_most_one_guard, no_number_twice};
 pub use open::MOST_TICKETS;
 pub use place::{draw_at, enter_at, leave_at, look_at};
 pub use rule::LockRule;

@@ -7,8 +7,8 @@ use Rattle.procedure_worker.proofs.worker.Worker.send.Goals as goal
 pub returns-clause-done : goal.returns-clause-done
 returns-clause-done g c =
     sent_dealing g.start g.S.PathSet.members c.args.job.now c.args.to c.args.due (g.B.Board.sight c.args.pass.now)
-    (g.B.Board.sight c.post.new.pass) c.args.self.now _ c.requires.1.1.1.1.1.1.1.1.1.1 c.in_ok-post.ensures refl refl refl
-    (c.push_reserved.ensures.items ∙ ap (λ l. l ++ (c.args.to, c.args.due) ∷ []) c.one_more.ensures.items)
+    (g.B.Board.sight c.post.new.pass) c.args.self.now _ c.requires.1.1.1.1.1.1.1.1.1.1 c.in_ok-post.ensures refl
+    refl refl (c.push_reserved.ensures.items ∙ ap (λ l. l ++ (c.args.to, c.args.due) ∷ []) c.one_more.ensures.items)
 
 pub returns-in_err-post-clause-done : goal.returns-in_err-post-clause-done
 returns-in_err-post-clause-done g c =
