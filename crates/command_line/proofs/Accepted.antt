@@ -38,11 +38,12 @@ use Rattle.command_line.specs.declared.asked.Order.TheVariants.{Check, Sequentia
 use Rattle.command_line.proofs.Walks.{AreFit, AreUsable, defaulted, given_row, kept_by_defaults, level_fit, none}
 use Rattle.command_line.proofs.Walks.{row_read}
 
--- the step is into no help
+-- the word is no call for help about a command
 abbrev IsNoHelp : Step → Type 0
 IsNoHelp (subcommand name) = bytes_eq name (codes "help") ≡ false
 IsNoHelp _ = Unit {0}
 
+-- and the walk has met none
 abbrev StopsAtNoHelp : Option (Text × List Text) → Type 0
 StopsAtNoHelp None = Unit {0}
 StopsAtNoHelp (Some p) = bytes_eq p.0 (codes "help") ≡ false
@@ -161,6 +162,7 @@ in_range high t passed = go (starts_with_minus t) refl
           ap (λ (u : Text). digits_value 10 (without_leading_plus u)) (sym same),
         )
 
+-- a value without a fault passes its parser
 passes : (i : Bool) (p : ValueParser) (t : Text) → value_kinds i p t ≡ [] → Accepts i p t
 passes i p t e = accepts-Accepts i p t (go (accepts i p t) e)
   where
@@ -168,6 +170,7 @@ passes i p t e = accepts-Accepts i p t (go (accepts i p t) e)
     go true e = refl
     go false e = cc
 
+-- a text that passed the parser of an option without a value says whether it was given
 as_flag : (t : Text) → (bytes_eq t (codes "true") || bytes_eq t (codes "false")) ≡ true → (b : Bool) × (t ≡ flag_text b)
 as_flag t e = go (bytes_eq t (codes "true")) refl e
   where
@@ -195,6 +198,7 @@ ready = refl
 abbrev rule : Shape → ℕ → Rule
 rule s i = slice_index_or s.rules i file
 
+-- a number from 1 to 4 is a number of rounds, and one from 1 to the greatest limit a limit
 as_rounds : (n : ℕ) → 1 ≤ n → n ≤ 4 → (r : Rounds) × (n ≡ count_of r)
 as_rounds zero low high = absurd (omega arith)
 as_rounds (suc k) low high = (record { last = k; few = omega arith }, refl)
@@ -206,6 +210,7 @@ as_edges n low high = (record { edges = n; some = low; few = high }, refl)
 abbrev IsOrder : Text × List Row → Type 0
 IsOrder command = (order : Order) × (path : Text) × Orders command order path
 
+-- where nothing that is required is missing, it was given
 wants : (b : Bool) → check_kinds false false (not b || false) ≡ [] → b ≡ true
 wants true e = refl
 wants false e = cc
@@ -254,6 +259,7 @@ number_read c rows id a most fit is parser has =
     ∙ ap (λ (p : ValueParser). Some (read_as (reading_of p) v)) by in
     (n.0, n.1, n.2, (without_minus v, one, n.3, n.4))
 
+-- the rows of a command without a fault are an order
 check_rows : (rows : List Row) → AreFit check_ready.rules (fold with_default rows check_ready.rules)
     → check_fault check_ready (fold with_default rows check_ready.rules) false ≡ []
     → IsOrder (codes "check", fold with_default rows check_ready.rules)
@@ -341,6 +347,7 @@ not_help t other = go (bytes_eq (codes "help") t) refl
         (sym ((bytes_eq-Decides t (codes "help")).1 (sym ((bytes_eq-Decides (codes "help") t).0 is))) ∙ other))
     go false is = refl
 
+-- where no command is missing, one was entered
 needs : (x z has : Bool) → check_kinds x (not has && true) z ≡ [] → has ≡ true
 needs x z true e = refl
 needs true z false e = cc

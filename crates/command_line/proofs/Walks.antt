@@ -67,6 +67,7 @@ abbrev pub AreUsable : List Rule → List Rule → Type 0
 AreUsable c [] = Unit {0}
 AreUsable c (a ∷ rest) = IsUsable c a × AreUsable c rest
 
+-- an argument that is found is usable
 found : (c xs : List Rule) (p : Rule → Bool) (a : Rule) → AreUsable c xs → find p xs ≡ Some a → IsUsable c a
 found c [] p a h e = absurd (none-some a e)
 found c (x ∷ xs) p a h e = go (p x) (found c xs p a h.1) e
@@ -87,6 +88,7 @@ longer [] ys h = absurd (omega arith)
 longer (x ∷ xs) ys h = omega arith
 
 module _ (c : List Rule) where
+  -- rows stay fit where such values are written
   pub with_fit : (id : Text) (how : Reading) (s : ValueSource) (vs : List Text) (rows : List Row) → Fits c id vs how
       → AreFit c rows → AreFit c (with_values id how s vs rows)
   with_fit id how s vs [] f h = (f, tt)
@@ -129,6 +131,7 @@ module _ (c : List Rule) where
         cc
   ]
 
+-- rows stay fit over each step of a walk that has no fault
 module _ (c : List Rule) (again : Bool) (all : AreUsable c c) where
   set_fit : (a : Rule) (values : List Text) (rows : List Row) → IsUsable c a → HasValue a
       → range_kinds (unwrap_or_range a.range).start_inclusive (most_values a) (length values) ≡ []
@@ -401,6 +404,7 @@ row_read c (r ∷ rs) id a h is e = go (bytes_eq r.id id) refl (row_read c rs id
         rw same (v.0, v.1, ap (option_map (read_as r.reading)) v.1 ∙ ap (λ x. Some (read_as x v.0)) how, v.2)
     go false same rest e = rw same (rest e)
 
+-- an id to which values are written has a row, and every row stays
 made : (id : Text) (how : Reading) (src : ValueSource) (vs : List Text) (rows : List Row)
     → bytes_eq id id ≡ true → has_row id (with_values id how src vs rows) ≡ true
 made id how src vs [] self = rw self refl
