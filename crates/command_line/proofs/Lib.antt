@@ -1,2 +1,4 @@
 pub mod Rows
 pub mod Reading
+pub mod Walks
+pub mod Accepted

@@ -3,7 +3,9 @@
 
 mod asked;
 mod help;
+mod laws;
 mod line;
 
 pub use asked::{LineFault, Order};
+pub use laws::what_is_taken_is_an_order;
 pub use line::order;

@@ -176,7 +176,7 @@ pub fn order(alloc: Global, words: &[String]) -> Result<(Order, String), LineFau
         Err(error) => return Err(fault_of(alloc, &error)),
     };
     let Some((order, path)) = asked(&matches) else {
-        return Err(LineFault::Memory);
+        unreachable!();
     };
     match String::from_str(alloc, path) {
         Ok(path) => Ok((order, path)),

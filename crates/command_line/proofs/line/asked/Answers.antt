@@ -67,7 +67,8 @@ returns c =
     let stats : (b : Bool) → c.get_one-stats.result ≡ Some b → IsGiven (rows_of found) (codes "stats") b =
     λ b was. is_given _ found (codes "stats") c.get_one-stats.result b was c.get_one-stats.ensures.none
     c.get_one-stats.ensures.value in
-    let order = gives name (rows_of found) c.in_ok-rounds.rounds _ _ c.in_ok-order.order c.in_ok-order.ensures rounds edges
+    let order = gives name
+    (rows_of found) c.in_ok-rounds.rounds _ _ c.in_ok-order.order c.in_ok-order.ensures rounds edges
     stats in
     let file = sym (first_value-rows found (codes "file")) ∙ sym c.get_str.ensures
     ∙ ap (option_map (λ s. s.now)) c.in_ok-file.was in

@@ -7,6 +7,7 @@ use Rattle.clap.specs.declared.error.kind.ErrorKind.TheVariants.{OutOfMemory}
 use Rattle.command_line.specs.declared.asked.LineFault.{LineFault}
 use Rattle.command_line.specs.declared.asked.LineFault.TheVariants.{Help, Memory, Refused}
 use Rattle.command_line.specs.Line as line
+use Rattle.command_line.proofs.Accepted.{accepted}
 use Rattle.command_line.proofs.line.order.Goals as goal
 
 -- why the words give no order, by the kind of the error
@@ -23,6 +24,18 @@ returns-in-Err-clause-refuses c =
     let is : app_of c.in-Ok.command ≡ line.bebopk = c.in-Ok.ensures in
     refuses words (kind_of c.in-Err.error) c.fault_of.result c.fault_of.ensures
     (subst (λ (a : App). (kind_of c.in-Err.error ≡ OutOfMemory) ⊎ IsAmong (kind_of c.in-Err.error) (fault_of a words)) is (c.in-Err.ensures.kinds (ap is_simple_and_free is)))
+
+pub unreachable-requires : goal.unreachable-requires
+unreachable-requires c =
+    let words = map string_bytes c.args.words.now in
+    let is : app_of c.in-Ok.command ≡ line.bebopk = c.in-Ok.ensures in
+    let taken = sym (ap (λ (a : App). fault_of a words) is)
+    ∙ c.in-Ok-try_get_matches_from.ensures.kinds (ap is_simple_and_free is) in
+    let given = accepted words taken in
+    let met = (c.in-Ok-try_get_matches_from.ensures.matches (ap is_simple is)).1
+    ∙ ap (λ (a : App). subcommand_of a words) is in
+    let asked = subst (λ found. line.Asks found given.0 given.1) (sym met) given.2 in
+    c.in_default-asked.ensures given.0 given.1 asked
 
 pub returns-in-Ok-from_str-clause-asks : goal.returns-in-Ok-from_str-clause-asks
 returns-in-Ok-from_str-clause-asks c =
