@@ -1,5 +1,5 @@
 -- Which refusal a reply tells, by the one that stands.
-use Rattle.std.proofs.Common.{◌≡◌, ◌∙◌, ◌⊎◌, ◌≤◌, ℕ, Bool, List, Option, inl, inr}
+use Rattle.std.proofs.Common.{◌≡◌, ◌∙◌, ◌⊎◌, ◌≤◌, ℕ, Bool, List, Option, None, inl, inr}
 use Rattle.std.proofs.Common.{ap, refl, sym, arith, codes, get_or}
 use Rattle.language.specs.Tree.{Tree}
 use Rattle.syntax.specs.Text.{Text}
@@ -7,7 +7,7 @@ use Rattle.syntax.specs.declared.fault.ReadFault.TheVariants as read
 use Rattle.scopes.specs.Checked.{IsFirstFault}
 use Rattle.scopes.specs.declared.fault.ScopeFault.{ScopeFault}
 use Rattle.scopes.specs.declared.fault.ScopeFault.TheVariants as scope
-use Rattle.refusals.specs.Lines.{NamesOffset, line_of}
+use Rattle.refusals.specs.Lines.{NamesOffset, line_of, status_of}
 use Rattle.cli.specs.Refused.{HasPlace, HasRewriting, IsPast, RefusalStands}
 use Rattle.cli.specs.Replies.{IsSequential, RefusesFor, TellsOrLacks}
 use Rattle.cli.specs.Rewritten.{IsRewriting}
@@ -70,10 +70,31 @@ rewriting_few text rounds bytes status (e, is) = omega (arith, e)
 
 -- a reply with a greater status tells why
 pub tells_many : {A : Type 0} (text : List ℕ) (rounds : ℕ) (limit : Option ℕ) (reply : Reply A) (V : Type 0)
-    → (V → reply.status ≤ 1) → V ⊎ RefusesFor text rounds limit reply → 2 ≤ reply.status
+    → (V → reply.status ≤ 1) → V × (reply.refusal ≡ None) ⊎ RefusesFor text rounds limit reply → 2 ≤ reply.status
     → RefusesFor text rounds limit reply
-tells_many text rounds limit reply V few (inl v) many = let least = few v in absurd (omega (arith, least, many))
+tells_many text rounds limit reply V few (inl v) many = let least = few v.0 in absurd (omega (arith, least, many))
 tells_many text rounds limit reply V few (inr why) many = why
+
+-- the status of a refusal is at least 2
+pub status_many : (why : Refusal) → 2 ≤ status_of why
+status_many (Unread read.Memory) = omega arith
+status_many (Unread fault) = omega arith
+status_many (Unchecked scope.Memory) = omega arith
+status_many (Unchecked fault) = omega arith
+status_many (TooWide wide) = omega arith
+status_many EdgeLimit = omega arith
+status_many Memory = omega arith
+status_many NoWorker = omega arith
+status_many Spent = omega arith
+
+-- a reply with a smaller status tells nothing
+pub tells_none : {A : Type 0} (text : List ℕ) (rounds : ℕ) (limit : Option ℕ) (reply : Reply A) (V : Type 0)
+    → V × (reply.refusal ≡ None) ⊎ RefusesFor text rounds limit reply → reply.status ≤ 1 → reply.refusal ≡ None
+tells_none text rounds limit reply V (inl v) few = v.1
+tells_none text rounds limit reply V (inr (why, stands, told)) few =
+    let least = status_many why in
+    let same = told.1 in
+    absurd (omega (arith, least, same, few))
 
 abbrev edge_line : List ℕ
 edge_line = codes "no verdict: edge limit\n"

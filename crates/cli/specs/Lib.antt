@@ -5,5 +5,8 @@ pub mod Rewritten
 pub mod Verdict
 pub mod Refused
 pub mod Replies
+pub mod Streams
+pub mod Told
 pub mod Served
 pub mod Ran
+pub mod Ended

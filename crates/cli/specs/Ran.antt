@@ -1,46 +1,47 @@
 -- What the program does for the words of its command line.
-use Rattle.std.specs.Prelude.{◌≡◌, ◌⊎◌, ℕ, List, Option, None, codes}
-use Rattle.std.specs.Io.KnownBytes.{Appends}
+use Rattle.std.specs.Prelude.{◌≡◌, ◌⊎◌, ℕ, true, List, [], Option, Result, Ok, Err, codes}
 use Rattle.std.specs.String.{string_bytes}
+use Rattle.std.specs.IoError.{error_kind}
+use Rattle.std.specs.declared.io.Error.{Error}
 use Rattle.clap.specs.Words.{Text}
 use Rattle.command_line.specs.Line as line
-use Rattle.refusals.specs.Lines.{memory_line}
-use Rattle.cli.specs.Replies.{Replies}
-use Rattle.cli.specs.Served.{Serves, Writes}
+use Rattle.cli.specs.Served.{Answered, Serves, TellsUnread, without_memory}
+use Rattle.cli.specs.Streams.{Said, Says, Stays, Streams, Takes}
 use Rattle.command_line.specs.declared.asked.LineFault.{LineFault}
 use Rattle.command_line.specs.declared.asked.LineFault.TheVariants.{Help, Memory, Refused}
 use Rattle.command_line.specs.declared.asked.Order.{Order}
 
--- what is written where words give no order: help, or a line
-abbrev pub declined_bytes : LineFault → List ℕ
-declined_bytes (Help text) = string_bytes text
-declined_bytes (Refused why) = codes "refused: line\n"
-declined_bytes Memory = memory_line
+-- what is said where words give no order: help, which ends with 0; a line and why; or that memory ran out
+abbrev pub declined : LineFault → Said
+declined (Help text) = record { reply = string_bytes text; status = 0; message = [] }
+declined (Refused why) = record { reply = codes "refused: line\n"; status = 2; message = string_bytes why }
+declined Memory = without_memory
 
--- the status where words give no order: 0 after help, 2 after a refusal, 3 where memory ran out
-abbrev pub declined_status : LineFault → ℕ
-declined_status (Help text) = 0
-declined_status (Refused why) = 2
-declined_status Memory = 3
+-- What is due to words that give no order was said.
+abbrev pub Declines : LineFault → Streams → Streams → ℕ → Type 0
+Declines fault old new result = Says old new (declined fault) result
 
--- The answer to words that give no order was written, or a part of it before a failed write.
-abbrev pub Declines : LineFault → Option (List ℕ) → Option (List ℕ) → ℕ → Type 0
-Declines fault taken written result = Writes taken written (declined_bytes fault) (declined_status fault) result
+-- `opens` says what the opening of a file by its name may give, and `remaining` what a file has left.
+module _ {F : Type 0} (opens : List ℕ → Result F Error → Type 0) (remaining : F → Option (List ℕ)) where
+  -- The file of this name was opened, and what is due to what it gave was said; or it was not, and that was said.
+  abbrev pub ServesFile : Text → Order → Streams → Streams → ℕ → Type 0
+  ServesFile path order old new result =
+      ((file : F) × opens path (Ok file)
+      × ((left : Option (List ℕ)) × Serves path order (remaining file) left old new result))
+      ⊎ ((error : Error) × opens path (Err error) × TellsUnread path (error_kind error) old new result)
 
--- The words give no order, and that is answered; or they give one, and a reply is due to what some reader gave, whose
--- bytes are
--- not known, as a file's are not.
-abbrev pub Runs : List Text → Option (List ℕ) → Option (List ℕ) → ℕ → Type 0
-Runs words taken written result =
-    ((fault : LineFault) × line.Refuses words fault × Declines fault taken written result)
-    ⊎ ((order : Order) × (path : Text) × line.AskFor words order path × Serves order None None taken written result)
+  -- The words give no order, and that is answered; or they give one, and a reply is due to the file that they name.
+  abbrev pub Runs : List Text → Streams → Streams → ℕ → Type 0
+  Runs words old new result =
+      ((fault : LineFault) × line.Refuses words fault × Declines fault old new result)
+      ⊎ ((order : Order) × (path : Text) × line.AskFor words order path × ServesFile path order old new result)
 
--- The words ask for help, and the writer took just that; or they give an order, and it took just the reply to some
--- text.
-abbrev pub AnswersWords : List Text → Option (List ℕ) → Option (List ℕ) → ℕ → Type 0
-AnswersWords words taken written result =
-    ((fault : LineFault) × line.Refuses words fault × (declined_status fault ≡ 0) × (result ≡ 0)
-    × Appends taken written (declined_bytes fault))
-    ⊎ ((order : Order) × (path : Text) × line.AskFor words order path × (text : List ℕ) × (bytes : List ℕ)
-    × Replies text order bytes result
-    × Appends taken written bytes)
+  -- The words ask for help, and the standard output took just that; or they give an order, and it took just the reply to
+  -- all bytes of the file that they name. The standard error took nothing.
+  abbrev pub AnswersWords : List Text → Streams → Streams → ℕ → Type 0
+  AnswersWords words old new result =
+      ((fault : LineFault) × line.Refuses words fault × ((declined fault).status ≡ 0) × (result ≡ 0)
+      × Takes old.output new.output (declined fault).reply true × Stays old.log new.log)
+      ⊎ ((order : Order) × (path : Text) × line.AskFor words order path
+      × ((file : F) × opens path (Ok file)
+      × ((left : Option (List ℕ)) × Answered order (remaining file) left old new result)))

@@ -9,6 +9,8 @@ use Rattle.scopes.specs.declared.fault.ScopeFault.{ScopeFault}
 use Rattle.scopes.specs.declared.fault.ScopeFault.TheVariants as scope
 use Rattle.round_rewrite.specs.Narrow.{IsFirstWide, IsNarrow}
 use Rattle.round_rewrite.specs.declared.width.Wide.{Wide}
+use Rattle.summaries.specs.declared.no_verdict.NoVerdict.{NoVerdict}
+use Rattle.summaries.specs.declared.no_verdict.NoVerdict.TheVariants as cause
 use Rattle.refusals.specs.declared.refusal.Refusal.{Refusal}
 use Rattle.refusals.specs.declared.refusal.Refusal.TheVariants.{Unread, Unchecked, TooWide, EdgeLimit, Memory}
 use Rattle.refusals.specs.declared.refusal.Refusal.TheVariants.{NoWorker, Spent}
@@ -57,3 +59,12 @@ RefusalStands bytes rounds limit EdgeLimit = IsPast bytes rounds limit
 RefusalStands bytes rounds limit Memory = HasRewriting bytes rounds ⊎ HasPlace bytes
 RefusalStands bytes rounds limit NoWorker = HasWorkers bytes rounds limit
 RefusalStands bytes rounds limit Spent = HasWorkers bytes rounds limit
+
+-- A cause for which a program with this tree gets no verdict is told as this refusal: as the one of its name, and where
+-- the rewriting for this last round is too wide with the first procedure that is.
+abbrev pub IsToldAs : Tree → ℕ → NoVerdict → Refusal → Type 0
+IsToldAs t last cause.TooWide why = (wide : Option Wide) × IsFirstWide last t wide × (why ≡ TooWide wide)
+IsToldAs t last cause.Memory why = why ≡ Memory
+IsToldAs t last cause.EdgeLimit why = why ≡ EdgeLimit
+IsToldAs t last cause.NoWorker why = why ≡ NoWorker
+IsToldAs t last cause.Spent why = why ≡ Spent

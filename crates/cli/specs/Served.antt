@@ -1,9 +1,13 @@
--- What is read of a reader, and what a writer takes.
-use Rattle.std.specs.Prelude.{◌≡◌, ◌⊎◌, ◌<◌, ◌≤◌, ℕ, List, Option, codes, length, take}
-use Rattle.std.specs.Io.KnownBytes.{Appends, Consumes, IsAtEnd}
+-- What is read of a reader, and what is said of it.
+use Rattle.std.specs.Prelude.{◌≡◌, ◌≢◌, ◌⊎◌, ◌<◌, ◌≤◌, ℕ, true, List, [], Option, codes, length}
+use Rattle.std.specs.Io.KnownBytes.{Consumes, IsAtEnd}
+use Rattle.std.specs.declared.io.ErrorKind.{ErrorKind}
+use Rattle.std.specs.declared.io.ErrorKind.TheVariants.{OutOfMemory}
 use Rattle.refusals.specs.Lines.{line_of, memory_line, status_of}
 use Rattle.cli.specs.Refused.{RefusalStands}
 use Rattle.cli.specs.Replies.{Replies, limit_of, rounds_of}
+use Rattle.cli.specs.Streams.{Said, Says, Stays, Streams, Takes}
+use Rattle.cli.specs.Told.{IsExplanation, IsReason, out_of_memory}
 use Rattle.command_line.specs.declared.asked.Order.{Order}
 use Rattle.refusals.specs.declared.refusal.Refusal.{Refusal}
 
@@ -25,51 +29,53 @@ GavePart most old new = (bytes : List ℕ) × Consumes old new bytes × (length 
 abbrev pub GaveAll : Option (List ℕ) → Option (List ℕ) → List ℕ → Type 0
 GaveAll old new bytes = Consumes old new bytes × IsAtEnd new
 
--- The writer took these bytes and no others, and the status is that of the reply; or it took a part of them that is
--- not the
--- whole, and the status is 3.
-abbrev pub Writes : Option (List ℕ) → Option (List ℕ) → List ℕ → ℕ → ℕ → Type 0
-Writes old new bytes status result =
-    (Appends old new bytes × (result ≡ status))
-    ⊎ (((n : ℕ) × (n < length bytes) × Appends old new (take n bytes)) × (result ≡ 3))
-
 -- the line where the file can't be read
 abbrev pub file_line : List ℕ
 file_line = codes "refused: file\n"
 
--- These bytes with this status are the reply to the text: what was asked for, or the line of a refusal that stands.
-abbrev pub IsReply : List ℕ → Order → List ℕ → ℕ → Type 0
-IsReply text order bytes status =
-    ((status ≤ 1) × Replies text order bytes status)
-    ⊎ ((why : Refusal) × RefusalStands text (rounds_of order) (limit_of order) why × (bytes ≡ line_of why)
-    × (status ≡ status_of why))
+-- what is said where memory gave out
+abbrev pub without_memory : Said
+without_memory = record { reply = memory_line; status = 3; message = out_of_memory }
 
--- These bytes with this status say that the file can't be read, or that memory gave out over it.
-abbrev pub IsUnread : List ℕ → ℕ → Type 0
-IsUnread bytes status = ((bytes ≡ file_line) × (status ≡ 2)) ⊎ ((bytes ≡ memory_line) × (status ≡ 3))
+-- This is said of a text in the file of this name: what was asked for, and no message; or the line of a refusal that
+-- stands, with its status, and why.
+abbrev pub IsReply : List ℕ → List ℕ → Order → Said → Type 0
+IsReply path text order said =
+    ((said.status ≤ 1) × Replies text order said.reply said.status × (said.message ≡ []))
+    ⊎ ((why : Refusal) × RefusalStands text (rounds_of order) (limit_of order) why × (said.reply ≡ line_of why)
+    × (said.status ≡ status_of why) × IsExplanation path text order why said.message)
 
--- What is due to a file that is not read was written, or a part of it before a failed write.
-abbrev pub TellsUnread : Option (List ℕ) → Option (List ℕ) → ℕ → Type 0
-TellsUnread taken written result = (bytes : List ℕ) × (status : ℕ) × IsUnread bytes status
-    × Writes taken written bytes status result
+-- This is said of a file that the system, with an error of this kind, does not open or read: that it can't be read, and
+-- why; or that memory gave out, where the error tells that.
+abbrev pub IsUnread : List ℕ → ErrorKind → Said → Type 0
+IsUnread path kind said =
+    ((kind ≢ OutOfMemory) × (said.reply ≡ file_line) × (said.status ≡ 2) × IsReason path said.message)
+    ⊎ ((kind ≡ OutOfMemory) × (said ≡ without_memory))
 
--- The reader gave a text, and these bytes with this status are the reply to it; or reading failed, and they say so.
-abbrev pub IsDue : Option (List ℕ) → Option (List ℕ) → Order → List ℕ → ℕ → Type 0
-IsDue old new order bytes status =
-    ((text : List ℕ) × Gave most_read old new text × IsReply text order bytes status)
-    ⊎ (GavePart most_read old new × IsUnread bytes status)
+-- What is due to a file that is not opened or read was said.
+pub record TellsUnread (path : List ℕ) (kind : ErrorKind) (old new : Streams) (result : ℕ) : Type 0 where
+  pub said : Said
+  pub unread : IsUnread path kind said
+  pub says : Says old new said result
 
--- A reply is due to what the reader gave, and it was written, or a part of it before a failed write.
-pub record Serves (order : Order) (given left taken written : Option (List ℕ)) (result : ℕ) : Type 0 where
-  pub bytes : List ℕ
-  pub status : ℕ
-  pub due : IsDue given left order bytes status
-  pub writes : Writes taken written bytes status result
+-- The reader gave a text, and this is the reply to it; or reading failed, and this says so.
+abbrev pub IsDue : List ℕ → Order → Option (List ℕ) → Option (List ℕ) → Said → Type 0
+IsDue path order given left said =
+    ((text : List ℕ) × Gave most_read given left text × IsReply path text order said)
+    ⊎ (GavePart most_read given left × ((kind : ErrorKind) × IsUnread path kind said))
 
--- The reader gave all its bytes, and the writer took just the reply to them.
-pub record Answered (order : Order) (given left taken written : Option (List ℕ)) (result : ℕ) : Type 0 where
+-- What is due to what the reader gave was said.
+pub record Serves (path : List ℕ) (order : Order) (given left : Option (List ℕ)) (old new : Streams)
+    (result : ℕ) : Type 0 where
+  pub said : Said
+  pub due : IsDue path order given left said
+  pub says : Says old new said result
+
+-- The reader gave all its bytes, and the standard output took just the reply to them, and the standard error nothing.
+pub record Answered (order : Order) (given left : Option (List ℕ)) (old new : Streams) (result : ℕ) : Type 0 where
   pub text : List ℕ
   pub bytes : List ℕ
   pub all : GaveAll given left text
   pub reply : Replies text order bytes result
-  pub wrote : Appends taken written bytes
+  pub wrote : Takes old.output new.output bytes true
+  pub quiet : Stays old.log new.log

@@ -71,7 +71,7 @@ fn reported<N: Allocator, H: Allocator, A: Allocator>(
     requires { HasEach (names_of (checked_tree program.now)) report.now }
     ensures { (bytes_of result
         ≡ answer_line report.now.answer ++ lines_behind stats (names_of (checked_tree program.now)) report.now)
-        × (result.status ≡ answer_status report.now.answer)
+        × (result.status ≡ answer_status report.now.answer) × (result.refusal ≡ None)
         ⊎ (stats ≡ true) × Tells why.Memory result }
 {
     let (word, status) = match report.answer {
@@ -132,6 +132,7 @@ where
     S::Heap: Send + Sync,
     K: Gate + Sync,
     ensures { Answers text.now (count_of rounds) (most_of edges) stats (bytes_of result) result.status
+        × (result.refusal ≡ None)
         ⊎ RefusesFor text.now (count_of rounds) (Some (most_of edges)) result }
 {
     let program = match checked(alloc, text) {
@@ -146,7 +147,8 @@ where
 
 /// The reply to a text that is to be rewritten.
 fn rewriting<A: Allocator + Copy>(alloc: A, text: &[u8], rounds: Rounds) -> Reply<A>
-    ensures { (result.status ≡ 0) × IsSequential text.now (count_of rounds) (bytes_of result)
+    ensures { ((result.status ≡ 0) × IsSequential text.now (count_of rounds) (bytes_of result))
+        × (result.refusal ≡ None)
         ⊎ RefusesFor text.now (count_of rounds) None result }
 {
     match sequential(alloc, text, rounds) {
@@ -179,6 +181,7 @@ where
     S::Heap: Send + Sync,
     K: Gate + Sync,
     ensures answers { result.status ≤ 1 → Replies text.now order (bytes_of result) result.status }
+    ensures silent { result.status ≤ 1 → result.refusal ≡ None }
     ensures refuses { 2 ≤ result.status → Refuses text.now order result }
     ensures limit { result.status ≡ 3 → bytes_of result ≡ codes "no verdict: edge limit\n"
         → IsPastLimit text.now order }
@@ -201,12 +204,13 @@ where
 /// bytes are the printed form of that program, and within the limits of texts they are read back as it. Where the status is
 /// 2, a fault of the text stands, and the bytes are its line. Where it is 3, there is no verdict: for want of memory, since
 /// some procedure has more path edges than the limit, since a thread was refused, or since a worker has used up its calls.
-/// A reply with status 2 or 3 tells the refusal that stands.
+/// A reply with status 2 or 3 tells the refusal that stands, and one with 0 or 1 tells none.
 pub fn answer<R>(rt: &R, text: &[u8], order: Order) -> Reply<R::A>
 where
     R: Alloc + Wait + Threads + Sync,
     R::A: Copy + Send + Sync,
     ensures answers { result.status ≤ 1 → Replies text.now order (bytes_of result) result.status }
+    ensures silent { result.status ≤ 1 → result.refusal ≡ None }
     ensures refuses { 2 ≤ result.status → Refuses text.now order result }
     ensures limit { result.status ≡ 3 → bytes_of result ≡ codes "no verdict: edge limit\n"
         → IsPastLimit text.now order }

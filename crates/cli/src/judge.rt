@@ -6,7 +6,7 @@ ghost use Rattle.scopes.specs.Programs.{checked_tree};
 ghost use Rattle.round_rewrite.specs.Programs.{last_round};
 ghost use Rattle.summaries.specs.Limits.{most_of};
 ghost use Rattle.command_line.specs.Limits.{count_of};
-ghost use Rattle.cli.specs.Refused.{RefusalStands};
+ghost use Rattle.cli.specs.Refused.{IsToldAs, RefusalStands};
 ghost use Rattle.gather.specs.Reports.{IsReport};
 
 use gather::{Report, WorkBoard, WorkSet, check_rounds_with};
@@ -18,6 +18,24 @@ use std::alloc::Allocator;
 use std::sync::Wait;
 use std::thread::Threads;
 use summaries::{EdgeLimit, NoVerdict};
+
+/// The refusal that a cause is told as: of a program that is too wide with its first procedure that is.
+fn refusal_of<N: Allocator, A: Allocator + Copy>(
+    alloc: &A,
+    program: &Checked<N>,
+    rounds: Rounds,
+    cause: NoVerdict,
+) -> Refusal
+    ensures { IsToldAs (checked_tree program.now) (last_round rounds) cause result }
+{
+    match cause {
+        NoVerdict::TooWide => Refusal::TooWide(too_wide(alloc, program, rounds)),
+        NoVerdict::Memory => Refusal::Memory,
+        NoVerdict::EdgeLimit => Refusal::EdgeLimit,
+        NoVerdict::NoWorker => Refusal::NoWorker,
+        NoVerdict::Spent => Refusal::Spent,
+    }
+}
 
 /// The report on a checked program for so many rounds, and at most so many path edges a procedure: the workers have the board
 /// `B`, keep path edges in sets of the type `S`, and tell the gate of what they take and post.
@@ -45,10 +63,6 @@ where
 {
     match check_rounds_with::<R, B, S, K, N>(rt, heap, alloc, program, rounds, edges, gate) {
         Ok(report) => Ok(report),
-        Err(NoVerdict::TooWide) => Err(Refusal::TooWide(too_wide(&alloc, program, rounds))),
-        Err(NoVerdict::Memory) => Err(Refusal::Memory),
-        Err(NoVerdict::EdgeLimit) => Err(Refusal::EdgeLimit),
-        Err(NoVerdict::NoWorker) => Err(Refusal::NoWorker),
-        Err(NoVerdict::Spent) => Err(Refusal::Spent),
+        Err(cause) => Err(refusal_of(&alloc, program, rounds, cause)),
     }
 }

@@ -1,10 +1,12 @@
-//! The program bebopk, but for its streams: from words and bytes to a reply, and from a reader to a writer.
+//! The program bebopk, but for what the system hands it: from bytes to a reply, from a reader to the standard streams,
+//! and from the words of the command line to a status.
 #![tactic(auto)]
 
 mod answers;
 mod checking;
 mod counts;
 mod judge;
+mod program;
 mod reply;
 mod rewriting;
 mod running;
@@ -15,7 +17,9 @@ mod source;
 
 pub use answers::{answer, answer_with, no_memory};
 pub use command_line::{LineFault, Order, order};
+pub use program::{ended, words};
 pub use refusals::{Refusal, explain};
 pub use reply::Reply;
 pub use running::{decline, run};
-pub use serving::{serve, serve_telling};
+pub use serving::serve;
+pub use sink::Stream;

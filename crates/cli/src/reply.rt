@@ -22,6 +22,7 @@ impl<A: Allocator> Reply<A> {
     pub(crate) fn fixed(text: &'static str, status: u8) -> Self
         ensures bytes { bytes_of result ≡ text.entry.now }
         ensures status { result.status ≡ status }
+        ensures refusal { result.refusal ≡ None }
     {
         Reply {
             bytes: CowSlice::Borrowed(text.as_bytes()),

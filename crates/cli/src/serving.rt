@@ -1,70 +1,107 @@
-//! From a reader and an order to a writer and a status.
+//! From a reader and an order to the standard streams and a status.
 
-ghost use Rattle.std.specs.Prelude.{◌≡◌, ◌≢◌, ◌≤◌};
+ghost use Rattle.std.specs.Prelude.{◌≤◌, ℕ, IfOk, List};
 ghost use Rattle.std.specs.IoError.{error_kind};
-ghost use Rattle.refusals.specs.Lines.{memory_line};
-ghost use Rattle.cli.specs.Served.{Answered, Serves, TellsUnread, Writes, file_line};
+ghost use Rattle.std.specs.String.{string_bytes};
+ghost use Rattle.cli.specs.Served.{Answered, Serves, TellsUnread, without_memory};
+ghost use Rattle.cli.specs.Streams.{Logs, Says, streams};
+ghost use Rattle.cli.specs.Told.{IsMessage, IsReason};
 
 use crate::answers::answer;
-use crate::sink::{put, say};
+use crate::sink::{Stream, say, tell};
 use crate::source::text_of;
 use command_line::Order;
 use refusals::{Refusal, explain};
-use std::io::{self, ErrorKind, Read, Write};
+use std::alloc::{AllocError, Allocator};
+use std::io::{self, ErrorKind, Read};
 use std::sync::Wait;
 use std::thread::Threads;
 
 /// What is told where memory gave out.
 const NO_MEMORY: &str = "bebopk: out of memory\n";
 
-/// Tells why a text gets no verdict. What is not to be written is left out.
-fn tell<X: Alloc, L: Write>(
+/// Tells why a text gets no verdict, if it gets none, or that memory gave out over that.
+fn tell_why<X: Alloc, L: Stream>(
     rt: &X,
     path: &str,
     text: &[u8],
     order: Order,
-    refusal: &Refusal,
+    refusal: &Option<Refusal>,
     log: &mut L,
-) {
-    let mut message = String::new(rt.alloc());
-    let _ = match explain(&mut message, path, text, order, refusal) {
-        Ok(()) => put(log, message.as_bytes()),
-        Err(_) => put(log, NO_MEMORY.as_bytes()),
+)
+    ensures { (message : List ℕ) × IsMessage path.now text.now order refusal.now message
+        × Logs (L.held log.old) (L.held log.new) message }
+{
+    let Some(refusal) = refusal else {
+        return;
     };
+    let mut message = String::new(rt.alloc());
+    match explain(&mut message, path, text, order, refusal) {
+        Ok(()) => tell(log, message.as_bytes()),
+        Err(_) => tell(log, NO_MEMORY.as_bytes()),
+    }
 }
 
-/// Answers that memory gave out, and tells it to `log`.
-pub(crate) fn no_room<W: Write, L: Write>(writer: &mut W, log: &mut L) -> u8
-    ensures { Writes (W.contents writer.old) (W.contents writer.new) memory_line 3 result }
+/// Answers that memory gave out, and tells it.
+pub(crate) fn no_room<W: Stream, L: Stream>(writer: &mut W, log: &mut L) -> u8
+    ensures { Says (streams (W.held writer.old) (L.held log.old)) (streams (W.held writer.new) (L.held log.new))
+        without_memory result }
 {
-    put(log, NO_MEMORY.as_bytes());
+    tell(log, NO_MEMORY.as_bytes());
     say(writer, b"no verdict: memory\n", 3)
 }
 
-/// Answers that a file is not read, with the system's reason to `log`, and gives the status: 2, or 3 where memory gave out or
-/// a write fails.
-pub(crate) fn unread<W: Write, L: Write>(
+/// The line that names a file and says why the system does not read it.
+fn reason<A: Allocator + Copy>(
+    alloc: A,
+    path: &str,
+    error: &io::Error,
+) -> Result<String<A>, AllocError>
+    ensures { IfOk result (λ line. IsReason path.now (string_bytes line)) }
+{
+    let words = format!(in alloc; "{error}")?;
+    format!(in alloc; "{path}: {words}\n")
+}
+
+/// Tells why the system does not read a file, or that memory gave out over that.
+fn tell_reason<A: Allocator + Copy, L: Stream>(alloc: A, path: &str, error: &io::Error, log: &mut L)
+    ensures { (message : List ℕ) × IsReason path.now message × Logs (L.held log.old) (L.held log.new) message }
+{
+    match reason(alloc, path, error) {
+        Ok(line) => tell(log, line.as_bytes()),
+        Err(_) => tell(log, NO_MEMORY.as_bytes()),
+    }
+}
+
+/// Answers that a file is not opened or read, with the system's reason to `log`, and gives the status: 2, or 3 where
+/// memory gave out or a write fails.
+pub(crate) fn unread<A: Allocator + Copy, W: Stream, L: Stream>(
+    alloc: A,
     path: &str,
     error: &io::Error,
     writer: &mut W,
     log: &mut L,
 ) -> u8
-    ensures file { error_kind error.now ≢ ErrorKind.OutOfMemory
-        → Writes (W.contents writer.old) (W.contents writer.new) file_line 2 result }
-    ensures memory { error_kind error.now ≡ ErrorKind.OutOfMemory
-        → Writes (W.contents writer.old) (W.contents writer.new) memory_line 3 result }
-    ensures told { TellsUnread (W.contents writer.old) (W.contents writer.new) result }
+    ensures { TellsUnread path.now (error_kind error.now) (streams (W.held writer.old) (L.held log.old))
+        (streams (W.held writer.new) (L.held log.new)) result }
 {
     if error.kind() == ErrorKind::OutOfMemory {
         return no_room(writer, log);
     }
-    let _ = write!(log, "{path}: {error}\n");
+    tell_reason(alloc, path, error, log);
     say(writer, b"refused: file\n", 2)
 }
 
-/// `serve`, with the name of what is read, and with a stream to which is told why there is no verdict, as a compiler does:
-/// what `explain` says of a refused text, and the system's reason where reading fails. Writes to it that fail change nothing.
-pub fn serve_telling<X: Alloc + Wait + Threads + Sync, R: Read, W: Write, L: Write>(
+/// Reads a text, writes the reply to it, tells why there is no verdict, and gives the status.
+///
+/// It reads to the end, or 65,537 bytes where there are more, which are answered as too long. Where room for them is
+/// refused, it writes the reply for want of memory and gives 3; after a failed read it writes the line `refused: file` and
+/// gives 2; after a failed write it gives 3. A read or a write that a signal interrupts is made again. Where it gives 0 or
+/// 1, it read all that the reader had, and wrote just the bytes that `answer` promises for that, once.
+///
+/// Where there is no verdict, it tells why to `log`, as a compiler does, with the name of what is read: what `explain` says
+/// of a refused text, and the system's reason where reading fails. Writes to it that fail change nothing.
+pub fn serve<X: Alloc + Wait + Threads + Sync, R: Read, W: Stream, L: Stream>(
     rt: &X,
     path: &str,
     reader: &mut R,
@@ -74,42 +111,18 @@ pub fn serve_telling<X: Alloc + Wait + Threads + Sync, R: Read, W: Write, L: Wri
 ) -> u8
 where
     X::A: Copy + Send + Sync,
-    ensures serves { Serves order (R.remaining reader.old) (R.remaining reader.new)
-        (W.contents writer.old) (W.contents writer.new) result }
+    ensures serves { Serves path.now order (R.remaining reader.old) (R.remaining reader.new)
+        (streams (W.held writer.old) (L.held log.old)) (streams (W.held writer.new) (L.held log.new)) result }
     ensures answers { result ≤ 1 → Answered order (R.remaining reader.old) (R.remaining reader.new)
-        (W.contents writer.old) (W.contents writer.new) result }
+        (streams (W.held writer.old) (L.held log.old)) (streams (W.held writer.new) (L.held log.new)) result }
     ensures status { result ≤ 3 }
 {
     let text = match text_of(rt.alloc(), reader) {
         Ok(text) => text,
-        Err(error) => return unread(path, &error, writer, log),
+        Err(error) => return unread(rt.alloc(), path, &error, writer, log),
     };
-    let reply = answer(rt, text.as_slice(), order);
-    if let Some(refusal) = &reply.refusal {
-        tell(rt, path, text.as_slice(), order, refusal, log);
-    }
+    let text = text.as_slice();
+    let reply = answer(rt, text, order);
+    tell_why(rt, path, text, order, &reply.refusal, log);
     say(writer, reply.bytes.as_slice(), reply.status)
-}
-
-/// Reads a text, writes the reply to it and gives the status.
-///
-/// It reads to the end, or 65,537 bytes where there are more, which are answered as too long. Where room for them is refused,
-/// it writes the reply for want of memory and gives 3; after a failed read it writes the line `refused: file` and gives 2; after
-/// a failed write it gives 3. A read or a write that a signal interrupts is made again. Where it gives 0 or 1, it read all that
-/// the reader had, and wrote just the bytes that `answer` promises for that, once.
-pub fn serve<X: Alloc + Wait + Threads + Sync, R: Read, W: Write>(
-    rt: &X,
-    reader: &mut R,
-    writer: &mut W,
-    order: Order,
-) -> u8
-where
-    X::A: Copy + Send + Sync,
-    ensures serves { Serves order (R.remaining reader.old) (R.remaining reader.new)
-        (W.contents writer.old) (W.contents writer.new) result }
-    ensures answers { result ≤ 1 → Answered order (R.remaining reader.old) (R.remaining reader.new)
-        (W.contents writer.old) (W.contents writer.new) result }
-    ensures status { result ≤ 3 }
-{
-    serve_telling(rt, "", reader, order, writer, &mut io::sink())
 }

@@ -4,10 +4,11 @@ use crate::broken::count;
 use crate::memory::served;
 use crate::refused::in_turn;
 use crate::streams::{Manner, SOUND, Sink, Source};
-use cli::{LineFault, Order, order, run, serve};
+use cli::{Order, ended, order, serve};
 use std::alloc::{AllocError, Global};
 use std::fs;
-use std::io::{self, Write};
+use std::io::{self, ErrorKind, Read, Write};
+use std::process::ExitCode;
 use std::rt::Files;
 use std::sync::Wait;
 use std::thread::Threads;
@@ -40,21 +41,32 @@ pub fn answered<R: Files + Print + AllocGlobal + Wait + Threads + Sync>(
     let Some((how, rest)) = line.split_once(": ") else {
         return Ok(());
     };
-    let words = split(
-        rt.alloc(),
-        rest.split_once(" | ").map_or(rest, |parts| parts.0),
-    )?;
-    match rest.split_once(" | ") {
-        None => print_run(rt, words.as_slice()),
-        Some((_, text)) => match order(rt.alloc(), words.as_slice()) {
+    let (line, text) = rest.split_once(" | ").unwrap_or((rest, ""));
+    let words = split(rt.alloc(), line);
+    match how {
+        "program" => print_run(rt, words, |path: &str| fs::open(rt, path)),
+        "file" => {
+            let text = text.replace(rt.alloc(), "\\n", "\n")?;
+            print_run(rt, words, |path: &str| opened(text.as_bytes(), path))
+        }
+        _ => match order(rt.alloc(), words?.as_slice()) {
             Ok((order, _file)) => to_text(rt, how, text, order),
             Err(_) => rt.print("no order\n"),
         },
     }
 }
 
+/// The only file there is: `a.bp`, which has this text.
+fn opened<'a>(text: &'a [u8], path: &str) -> io::Result<&'a [u8]> {
+    if path == "a.bp" {
+        Ok(text)
+    } else {
+        Err(io::Error::from(ErrorKind::NotFound))
+    }
+}
+
 /// The words of a line, the program's name first.
-fn split(alloc: Global, line: &str) -> Result<Vec<String>, AllocError> {
+fn split(alloc: Global, line: &str) -> io::Result<Vec<String>> {
     let mut words = Vec::new(alloc);
     words.push(String::from_str(alloc, "bebopk")?)?;
     for word in line.split_whitespace() {
@@ -63,15 +75,29 @@ fn split(alloc: Global, line: &str) -> Result<Vec<String>, AllocError> {
     Ok(words)
 }
 
-/// Prints what the program does for words.
-fn print_run<R: Files + Print + AllocGlobal + Wait + Threads + Sync>(
-    rt: &R,
-    words: &[String],
-) -> io::Result<()> {
+/// The number of an exit status.
+fn number_of(status: ExitCode) -> u8 {
+    (0..u8::MAX)
+        .find(|number| ExitCode::from(*number) == status)
+        .unwrap_or(u8::MAX)
+}
+
+/// Prints what the program does for words: its status, and what the standard output and the standard error took.
+fn print_run<R, F, O>(rt: &R, words: io::Result<Vec<String>>, opener: O) -> io::Result<()>
+where
+    R: Print + AllocGlobal + Wait + Threads + Sync,
+    F: Read + Drop,
+    O: FnOnce(&str) -> io::Result<F>,
+    requires { O.IsAlwaysCallable opener }
+{
     let mut written = Vec::new(rt.alloc());
     let mut log = Vec::new(rt.alloc());
-    let status = run(rt, words, &mut written, &mut log);
-    print_reply(rt, status, written.as_slice())?;
+    let status = ended(rt, || words, opener, &mut written, &mut log);
+    print_reply(rt, number_of(status), written.as_slice())?;
+    if log.is_empty() {
+        return rt.print("standard error: nothing\n");
+    }
+    rt.print("standard error:\n")?;
     io::writer(rt).write_all(log.as_slice())
 }
 
@@ -124,7 +150,7 @@ fn print_streamed<R: Print + AllocGlobal + Wait + Threads + Sync>(
 ) -> io::Result<()> {
     let mut source = Source::new(text.as_bytes(), reading);
     let mut sink = Sink::new(Vec::new(rt.alloc()), writing);
-    let status = serve(rt, &mut source, &mut sink, order);
+    let status = serve(rt, "a.bp", &mut source, order, &mut sink, &mut io::sink());
     print_reply(rt, status, sink.taken())
 }
 

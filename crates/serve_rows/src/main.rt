@@ -2,7 +2,8 @@
 //!
 //! | Line | What is printed under it |
 //! |---|---|
-//! | `program: WORDS` | what `run` does for the words: the status, and what the standard output and the standard error took |
+//! | `program: WORDS` | what the program does for the words: the status, and what the standard output and the standard error took |
+//! | `file: WORDS \| TEXT` | the same where `a.bp` is the only file and has this text, in which `\n` stands for a line feed |
 //! | `broken COUNT: WORDS \| FILES` | how many lines of each kind `serve` writes for so many broken texts, made from these files in turn |
 //! | `HOW: WORDS \| TEXT` | the status that `serve` gives, and what the writer took |
 //!

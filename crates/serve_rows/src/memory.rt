@@ -5,6 +5,7 @@ ghost use Rattle.cli.specs.Replies.{Replies};
 
 use cli::{Order, serve};
 use std::alloc::Global;
+use std::io;
 use std::sync::Wait;
 use std::thread::Threads;
 
@@ -21,6 +22,6 @@ where
 {
     let mut rest = text;
     let mut written = Vec::new(alloc);
-    let status = serve(rt, &mut rest, &mut written, order);
+    let status = serve(rt, "a.bp", &mut rest, order, &mut written, &mut io::sink());
     (status, written)
 }

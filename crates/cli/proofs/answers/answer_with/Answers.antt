@@ -4,7 +4,7 @@ use Rattle.summaries.specs.Limits.{most_of}
 use Rattle.command_line.specs.Limits.{count_of}
 use Rattle.cli.specs.Replies.{IsPastLimit, Refuses}
 use Rattle.command_line.specs.declared.asked.Order.{Order}
-use Rattle.cli.proofs.Refusing.{answers_few, is_past, rewriting_few, tells_many}
+use Rattle.cli.proofs.Refusing.{answers_few, is_past, rewriting_few, tells_many, tells_none}
 use Rattle.cli.proofs.answers.answer_with.Goals as goal
 
 pub returns-in-Check-clause-refuses : goal.returns-in-Check-clause-refuses
@@ -25,3 +25,12 @@ returns-in-Sequential-clause-refuses g c = λ many.
     subst (λ (o : Order). Refuses c.args.text.now o c.rewriting.result) (sym c.in-Sequential.is)
     (tells_many c.args.text.now (count_of c.in-Sequential.rounds) None c.rewriting.result _
     (rewriting_few _ _ _ _) c.rewriting.ensures many)
+
+pub returns-in-Check-clause-silent : goal.returns-in-Check-clause-silent
+returns-in-Check-clause-silent g c = λ few.
+    tells_none c.args.text.now (count_of c.in-Check.rounds) (Some (most_of c.in-Check.edges)) c.verdict.result _
+    c.verdict.ensures few
+
+pub returns-in-Sequential-clause-silent : goal.returns-in-Sequential-clause-silent
+returns-in-Sequential-clause-silent g c = λ few.
+    tells_none c.args.text.now (count_of c.in-Sequential.rounds) None c.rewriting.result _ c.rewriting.ensures few

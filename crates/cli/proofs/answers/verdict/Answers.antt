@@ -33,7 +33,8 @@ returns-in-Ok-judge g c =
     let of = c.in-Ok.ensures.program in
     let is = c.in-Ok-judge.ensures.report in
     elim c.reported.ensures [
-      | inl told ↦ inl (answers text last most t report c.args.stats of is (bytes_of reply) reply.status told.0 told.1)
+      | inl told ↦
+          inl (answers text last most t report c.args.stats of is (bytes_of reply) reply.status told.0 told.1, told.2)
       | inr lacks ↦ inr (Memory, inl (reported_rewriting text last most t report of is), lacks.1)
     ]
 

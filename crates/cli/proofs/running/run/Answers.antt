@@ -1,38 +1,30 @@
--- The words give an order, and its file is read or not.
-use Rattle.std.proofs.Common.{[], inr, rules}
+-- The words give an order, and their file is opened or not.
+use Rattle.std.proofs.Common.{inl, inr, map, refl, subst, sym}
 use Rattle.std.specs.String.{string_bytes}
-use Rattle.cli.proofs.Giving.{unknown}
+use Rattle.std.proofs.lemmas.Fn.{gave_at}
+use Rattle.command_line.specs.Line.{AskFor}
 use Rattle.cli.proofs.running.run.Goals as goal
 
-pub returns-in-Ok-open-clause-runs : goal.returns-in-Ok-open-clause-runs
-returns-in-Ok-open-clause-runs g c =
-    inr (c.in-Ok.found.0, _, c.in-Ok.ensures.asks, unknown _ _ _ _ _ _ c.serve_telling.ensures.serves)
+pub returns-in-Ok-opener-clause-runs : goal.returns-in-Ok-opener-clause-runs
+returns-in-Ok-opener-clause-runs g c =
+    let words = map string_bytes c.args.words.now in
+    let order = c.in-Ok.found.0 in
+    let asks = subst (AskFor words order) (sym c.as_str-path.ensures.value) c.in-Ok.ensures.asks in
+    let opened = gave_at g.O.FnOnce c.in-Ok-opener.ensures refl in
+    inr (order, _, asks, inl (c.in-Ok-opener.file, opened, (_, c.serve.ensures.serves)))
+
+pub returns-in-Ok-opener-clause-answers : goal.returns-in-Ok-opener-clause-answers
+returns-in-Ok-opener-clause-answers g c few =
+    let words = map string_bytes c.args.words.now in
+    let order = c.in-Ok.found.0 in
+    let asks = subst (AskFor words order) (sym c.as_str-path.ensures.value) c.in-Ok.ensures.asks in
+    let opened = gave_at g.O.FnOnce c.in-Ok-opener.ensures refl in
+    inr (order, _, asks, (c.in-Ok-opener.file, opened, (_, c.serve.ensures.answers few)))
 
 pub returns-clause-runs : goal.returns-clause-runs
 returns-clause-runs g c =
-    let (bytes, status, unread, writes) = c.unread.ensures.told in
-    inr (
-      c.in-Ok.found.0,
-      _,
-      c.in-Ok.ensures.asks,
-      record {
-        bytes = bytes;
-        status = status;
-        due =
-            inr (([], tt, search rules), unread);
-        writes = writes;
-      },
-    )
-
-pub returns-in-Ok-open-clause-answers : goal.returns-in-Ok-open-clause-answers
-returns-in-Ok-open-clause-answers g c small =
-    let told = c.serve_telling.ensures.answers small in
-    inr (
-      c.in-Ok.found.0,
-      string_bytes c.in-Ok.found.1,
-      c.in-Ok.ensures.asks,
-      told.text,
-      told.bytes,
-      told.reply,
-      told.wrote,
-    )
+    let words = map string_bytes c.args.words.now in
+    let order = c.in-Ok.found.0 in
+    let asks = subst (AskFor words order) (sym c.as_str-path.ensures.value) c.in-Ok.ensures.asks in
+    let opened = gave_at g.O.FnOnce c.in-Err-opener.ensures refl in
+    inr (order, _, asks, inr (c.in-Err-opener.error, opened, c.unread.ensures))

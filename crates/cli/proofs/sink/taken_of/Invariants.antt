@@ -1,7 +1,7 @@
 -- The writer took the bytes so far.
 use Rattle.std.proofs.Common.{◌≤◌, length, take}
 use Rattle.std.specs.Io.KnownBytes.{Appends}
-use Rattle.cli.proofs.sink.put.Given as goal
+use Rattle.cli.proofs.sink.taken_of.Given as goal
 
 abbrev pub invariant-loop-turn : goal.invariant-loop-turn
 invariant-loop-turn g l = record {

@@ -5,8 +5,8 @@ use Rattle.std.proofs.lemmas.List.{take_rest}
 use Rattle.std.specs.Io.KnownBytes.{Appends, Keeps}
 use Rattle.std.proofs.KnownBytes.{Appends-kept, Appends-trans}
 use lib.Seq.{take-add}
-use Rattle.cli.proofs.sink.put.Goals as goal
-use Rattle.cli.proofs.sink.put.Goals.{in-Ok, in-Err+else-ne}
+use Rattle.cli.proofs.sink.taken_of.Goals as goal
+use Rattle.cli.proofs.sink.taken_of.Goals.{in-Ok, in-Err+else-ne}
 
 -- what was taken before, and what a write takes behind it
 took_more : (a b c : Option (List ℕ)) (all : List ℕ) (at n m : ℕ) → m ≡ at + n → Appends a b (take at all)

@@ -1,0 +1,49 @@
+-- What a stream that is written to holds, and what it takes.
+use Rattle.std.specs.Prelude.{◌≡◌, ◌⊎◌, ◌<◌, ℕ, Bool, true, false, IsTrue, List, [], Option, length, take}
+use Rattle.std.specs.Io.KnownBytes.{Appends}
+
+-- what is known of a stream: the bytes that it holds, where they are known, and whether a write to it may have failed
+pub record Held : Type 0 where
+  pub bytes : Option (List ℕ)
+  pub may_have_failed : Bool
+
+-- The stream took all of these bytes and no others; or a write to it may have failed, and it took a part of them that is
+-- not the whole.
+abbrev pub Takes : Held → Held → List ℕ → Bool → Type 0
+Takes old new bytes true = Appends old.bytes new.bytes bytes
+Takes old new bytes false =
+    IsTrue new.may_have_failed × ((n : ℕ) × (n < length bytes) × Appends old.bytes new.bytes (take n bytes))
+
+-- The stream took all of these bytes, or, where a write to it failed, a part, and no others.
+abbrev pub Logs : Held → Held → List ℕ → Type 0
+Logs old new bytes = (all : Bool) × Takes old new bytes all
+
+-- The stream holds what it held.
+abbrev pub Stays : Held → Held → Type 0
+Stays old new = Takes old new [] true
+
+-- The stream took all of these bytes, and the result is their status; or, where a write to it failed, a part, and the
+-- result is 3.
+abbrev pub Writes : Held → Held → List ℕ → ℕ → ℕ → Type 0
+Writes old new bytes status result =
+    (Takes old new bytes true × (result ≡ status)) ⊎ (Takes old new bytes false × (result ≡ 3))
+
+-- the standard output and the standard error
+pub record Streams : Type 0 where
+  pub output : Held
+  pub log : Held
+
+-- the standard output and the standard error, by what each holds
+abbrev pub streams : Held → Held → Streams
+streams output log = record { output = output; log = log }
+
+-- what is to be said: the reply, its status, and the message about it
+pub record Said : Type 0 where
+  pub reply : List ℕ
+  pub status : ℕ
+  pub message : List ℕ
+
+-- The standard output took the reply and the standard error the message, each once and as a whole, or a part where a
+-- write failed; the result is the status, or 3 where a write of the reply failed.
+abbrev pub Says : Streams → Streams → Said → ℕ → Type 0
+Says old new said result = Writes old.output new.output said.reply said.status result × Logs old.log new.log said.message

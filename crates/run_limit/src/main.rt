@@ -1,0 +1,16 @@
+//! The program: `cli::ended` on the words of the command line, the files and the standard streams of the system.
+#![tactic(auto)]
+
+use cli::{ended, words};
+use std::fs;
+use std::process::ExitCode;
+
+fn main(rt: HostRuntime) -> ExitCode {
+    ended(
+        &rt,
+        || words(&rt),
+        |path: &str| fs::open(&rt, path),
+        &mut rt.stdout(),
+        &mut rt.stderr(),
+    )
+}
