@@ -52,19 +52,20 @@ same_message (Entry (Proc q) a) = refl
 same_message (Summary p a b) = refl
 
 -- the messages posted are those due
-due_members : (p : Program) (q : ℕ) (ds : List Due) → AreDueOnce p q ds → (d : Due) → Member d ds ↔ IsDueFor p q d
-due_members p q ds due d = (
-  λ m k is. (due.all k).0 (subst (λ x. Member x ds) (sym is) m),
-  λ h. subst (λ x. Member x ds) (same_message d) ((due.all (by_number d)).1 (h (by_number d) (same_message d))),
+due_members : (p : Program) (q : ℕ) (h : List (Event Due)) → AreDueOnce p q h → (d : Due)
+    → Member d (posted_to h) ↔ IsDueFor p q d
+due_members p q h due d = (
+  λ m k is. (due.all k).0 (subst (λ x. Member x (posted_to h)) (sym is) m),
+  λ is. subst (λ x. Member x (posted_to h)) (same_message d) ((due.all (by_number d)).1 (is (by_number d) (same_message d))),
 )
 
 -- as many messages were taken as are due
-due_many : (p : Program) (q : ℕ) (h : List (Event Due)) → AreDueOnce p q (posted_to h) → takes h ≡ posts h
+due_many : (p : Program) (q : ℕ) (h : List (Event Due)) → AreDueOnce p q h → takes h ≡ posts h
     → AreSoMany (IsDueFor p q) (count_by is_take h)
 due_many p q h due taken = record {
   all = posted_to h;
   once = due.once;
-  members = due_members p q (posted_to h) due;
+  members = due_members p q h due;
   many = length-map (posts h) (λ (x : ℕ × Due). x.1) ∙ ap length (sym taken) ∙ takes_counted h;
 }
 

@@ -10,7 +10,7 @@ out_of_memory = codes "bebopk: out of memory\n"
 
 -- The message explains why this text gets no verdict, or tells that memory gave out over that.
 abbrev pub IsExplanation : List ℕ → List ℕ → Order → Refusal → List ℕ → Type 0
-IsExplanation path text order why message = Explains path text why [] message ⊎ (message ≡ out_of_memory)
+IsExplanation path text order why message = Explains path text order why [] message ⊎ (message ≡ out_of_memory)
 
 -- The message explains why this text gets no verdict, if it gets none, and else it is empty.
 abbrev pub IsMessage : List ℕ → List ℕ → Order → Option Refusal → List ℕ → Type 0

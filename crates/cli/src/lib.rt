@@ -21,5 +21,5 @@ pub use program::{ended, words};
 pub use refusals::{Refusal, explain};
 pub use reply::Reply;
 pub use running::{decline, run};
-pub use serving::serve;
+pub use serving::{serve, serve_telling};
 pub use sink::Stream;

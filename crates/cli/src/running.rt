@@ -6,7 +6,7 @@ ghost use Rattle.std.specs.String.{string_bytes};
 ghost use Rattle.cli.specs.Ran.{AnswersWords, Declines, Runs};
 ghost use Rattle.cli.specs.Streams.{streams};
 
-use crate::serving::{no_room, serve, unread};
+use crate::serving::{no_room, serve_telling, unread};
 use crate::sink::{Stream, say, tell};
 use command_line::{LineFault, order};
 use std::io::{self, Read};
@@ -52,7 +52,7 @@ where
     };
     let path = path.as_str();
     match opener(path) {
-        Ok(mut file) => serve(rt, path, &mut file, order, writer, log),
+        Ok(mut file) => serve_telling(rt, path, &mut file, order, writer, log),
         Err(error) => unread(rt.alloc(), path, &error, writer, log),
     }
 }

@@ -1,10 +1,10 @@
 //! From a reader and an order to the standard streams and a status.
 
-ghost use Rattle.std.specs.Prelude.{◌≤◌, ℕ, IfOk, List};
+ghost use Rattle.std.specs.Prelude.{◌≤◌, ℕ, IfOk, List, []};
 ghost use Rattle.std.specs.IoError.{error_kind};
 ghost use Rattle.std.specs.String.{string_bytes};
 ghost use Rattle.cli.specs.Served.{Answered, Serves, TellsUnread, without_memory};
-ghost use Rattle.cli.specs.Streams.{Logs, Says, streams};
+ghost use Rattle.cli.specs.Streams.{Held, Logs, Says, streams};
 ghost use Rattle.cli.specs.Told.{IsMessage, IsReason};
 
 use crate::answers::answer;
@@ -92,16 +92,9 @@ pub(crate) fn unread<A: Allocator + Copy, W: Stream, L: Stream>(
     say(writer, b"refused: file\n", 2)
 }
 
-/// Reads a text, writes the reply to it, tells why there is no verdict, and gives the status.
-///
-/// It reads to the end, or 65,537 bytes where there are more, which are answered as too long. Where room for them is
-/// refused, it writes the reply for want of memory and gives 3; after a failed read it writes the line `refused: file` and
-/// gives 2; after a failed write it gives 3. A read or a write that a signal interrupts is made again. Where it gives 0 or
-/// 1, it read all that the reader had, and wrote just the bytes that `answer` promises for that, once.
-///
-/// Where there is no verdict, it tells why to `log`, as a compiler does, with the name of what is read: what `explain` says
-/// of a refused text, and the system's reason where reading fails. Writes to it that fail change nothing.
-pub fn serve<X: Alloc + Wait + Threads + Sync, R: Read, W: Stream, L: Stream>(
+/// `serve`, with the name of what is read, and with a stream to which is told why there is no verdict, as a compiler does:
+/// what `explain` says of a refused text, and the system's reason where reading fails. Writes to it that fail change nothing.
+pub fn serve_telling<X: Alloc + Wait + Threads + Sync, R: Read, W: Stream, L: Stream>(
     rt: &X,
     path: &str,
     reader: &mut R,
@@ -125,4 +118,27 @@ where
     let reply = answer(rt, text, order);
     tell_why(rt, path, text, order, &reply.refusal, log);
     say(writer, reply.bytes.as_slice(), reply.status)
+}
+
+/// Reads a text, writes the reply to it and gives the status.
+///
+/// It reads to the end, or 65,537 bytes where there are more, which are answered as too long. Where room for them is
+/// refused, it writes the reply for want of memory and gives 3; after a failed read it writes the line `refused: file` and
+/// gives 2; after a failed write it gives 3. A read or a write that a signal interrupts is made again. Where it gives 0 or
+/// 1, it read all that the reader had, and wrote just the bytes that `answer` promises for that, once.
+pub fn serve<X: Alloc + Wait + Threads + Sync, R: Read, W: Stream>(
+    rt: &X,
+    reader: &mut R,
+    writer: &mut W,
+    order: Order,
+) -> u8
+where
+    X::A: Copy + Send + Sync,
+    ensures serves { (log : Held × Held) × Serves [] order (R.remaining reader.old) (R.remaining reader.new)
+        (streams (W.held writer.old) log.0) (streams (W.held writer.new) log.1) result }
+    ensures answers { result ≤ 1 → (log : Held × Held) × Answered order (R.remaining reader.old) (R.remaining reader.new)
+        (streams (W.held writer.old) log.0) (streams (W.held writer.new) log.1) result }
+    ensures status { result ≤ 3 }
+{
+    serve_telling(rt, "", reader, order, writer, &mut io::sink())
 }

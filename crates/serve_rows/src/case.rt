@@ -150,7 +150,7 @@ fn print_streamed<R: Print + AllocGlobal + Wait + Threads + Sync>(
 ) -> io::Result<()> {
     let mut source = Source::new(text.as_bytes(), reading);
     let mut sink = Sink::new(Vec::new(rt.alloc()), writing);
-    let status = serve(rt, "a.bp", &mut source, order, &mut sink, &mut io::sink());
+    let status = serve(rt, &mut source, &mut sink, order);
     print_reply(rt, status, sink.taken())
 }
 

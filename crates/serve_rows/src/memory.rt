@@ -22,6 +22,6 @@ where
 {
     let mut rest = text;
     let mut written = Vec::new(alloc);
-    let status = serve(rt, "a.bp", &mut rest, order, &mut written, &mut io::sink());
+    let status = serve(rt, &mut rest, &mut written, order);
     (status, written)
 }

@@ -11,7 +11,7 @@ returns-in-Ok-opener-clause-runs g c =
     let order = c.in-Ok.found.0 in
     let asks = subst (AskFor words order) (sym c.as_str-path.ensures.value) c.in-Ok.ensures.asks in
     let opened = gave_at g.O.FnOnce c.in-Ok-opener.ensures refl in
-    inr (order, _, asks, inl (c.in-Ok-opener.file, opened, (_, c.serve.ensures.serves)))
+    inr (order, _, asks, inl (c.in-Ok-opener.file, opened, (_, c.serve_telling.ensures.serves)))
 
 pub returns-in-Ok-opener-clause-answers : goal.returns-in-Ok-opener-clause-answers
 returns-in-Ok-opener-clause-answers g c few =
@@ -19,7 +19,7 @@ returns-in-Ok-opener-clause-answers g c few =
     let order = c.in-Ok.found.0 in
     let asks = subst (AskFor words order) (sym c.as_str-path.ensures.value) c.in-Ok.ensures.asks in
     let opened = gave_at g.O.FnOnce c.in-Ok-opener.ensures refl in
-    inr (order, _, asks, (c.in-Ok-opener.file, opened, (_, c.serve.ensures.answers few)))
+    inr (order, _, asks, (c.in-Ok-opener.file, opened, (_, c.serve_telling.ensures.answers few)))
 
 pub returns-clause-runs : goal.returns-clause-runs
 returns-clause-runs g c =

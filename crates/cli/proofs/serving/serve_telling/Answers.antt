@@ -1,0 +1,30 @@
+-- The reply is the answer to the text that was read, and the message is about that.
+use Rattle.std.proofs.Common.{inl, subst}
+use Rattle.cli.specs.Served.{IsReply}
+use Rattle.cli.specs.Streams.{Said, Writes}
+use Rattle.cli.specs.Written.{bytes_of}
+use Rattle.cli.proofs.Giving.{replied}
+use Rattle.cli.proofs.serving.serve_telling.Goals as goal
+
+pub returns-clause-serves : goal.returns-clause-serves
+returns-clause-serves g c =
+    let path = c.args.path.now in
+    let order = c.args.order in
+    let text = c.as_slice-text.result.now in
+    let reply = c.answer-reply.result in
+    let of = c.answer-reply.ensures in
+    let (message, about, logs) = c.tell_why.ensures in
+    let said : Said = record { reply = bytes_of reply; status = reply.status; message = message } in
+    let taken = g.W.Stream.held c.args.writer.now in
+    let written = g.W.Stream.held c.say.new.writer in
+    let wrote = subst (λ b. Writes taken written b reply.status c.say.result) c.as_slice.ensures.value c.say.ensures in
+    record {
+      said = said;
+      due = inl (
+        c.in-Ok.text.items,
+        c.in-Ok.ensures.gave,
+        subst (λ t. IsReply path t order said) c.as_slice-text.ensures.value
+            (replied path text order reply message of.answers of.silent of.refuses about),
+      );
+      says = (wrote, logs);
+    }
