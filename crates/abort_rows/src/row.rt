@@ -89,6 +89,7 @@ fn call_of<R: Wait, B: Letters>(
     }
 }
 
+/// Makes a step of the row.
 fn make<R: Wait, B: Letters>(
     rt: &R,
     board: &B,
