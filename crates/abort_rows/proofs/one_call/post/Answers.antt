@@ -1,0 +1,20 @@
+-- A post leaves the jobs, also where it is refused.
+use Rattle.switchboard.proofs.Jobs.{post_keeps, post_same}
+use Rattle.abort_rows.proofs.Leaving.{leaves_all}
+use Rattle.abort_rows.proofs.one_call.post.Goals as goal
+
+pub returns-in-Ok : goal.returns-in-Ok
+returns-in-Ok g c =
+    let s = g.B.Board.sight c.args.pass.now in
+    let t = g.B.Board.sight c.post.new.pass in
+    let job = c.in-Some.job in
+    leaves_all s t c.args.job.now (post_same _ s t job 1 _ c.post.result c.post.ensures)
+    (post_keeps _ s t job 1 _ c.post.result c.post.ensures) c.requires.job
+
+pub returns-in-Err : goal.returns-in-Err
+returns-in-Err g c =
+    let s = g.B.Board.sight c.args.pass.now in
+    let t = g.B.Board.sight c.post.new.pass in
+    let job = c.in-Some.job in
+    leaves_all s t c.args.job.now (post_same _ s t job 1 _ c.post.result c.post.ensures)
+    (post_keeps _ s t job 1 _ c.post.result c.post.ensures) c.requires.job

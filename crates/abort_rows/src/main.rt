@@ -1,0 +1,42 @@
+//! Rows of boards with an abort put in: each line of the standard input is a case, and is printed again with what comes
+//! of it.
+//!
+//! A row has two passes. After the opening, which posts m0 to mailbox 0, come the calls of this table; after them both
+//! passes take once more. A job is that of the message with its number.
+//!
+//! | Call | What | Call | What |
+//! |---|---|---|---|
+//! | 1 | pass 0 takes m0 | 8 | pass 1 takes: `Empty` |
+//! | 2 | it posts m1 to mailbox 1 | 9 | it completes m1 |
+//! | 3 | it posts m2 to mailbox 1 | 10 | it completes m2 |
+//! | 4 | it tells what it has seen | 11 | it takes: `Empty` |
+//! | 5 | pass 1 learns it | 12 | pass 0 completes m0 |
+//! | 6 | it takes m1 | 13 | it takes: `Closed` |
+//! | 7 | it takes m2 | 14 | pass 1 takes: `Closed` |
+//!
+//! A case is `one lock, pass 1, no job, after 6`, or `lock for each, pass 1, job 2, after 7`: over which board, which
+//! pass aborts it, with which of its jobs, and behind which call, where 0 is the opening. The other calls are made all
+//! the same, but those whose job was never had or is spent. Each pass has calls enough, or one fewer than B where
+//! `budget B, ` comes before the pass; and where `, twice` comes last, the pass aborts the board a second time at once,
+//! without a job.
+//!
+//! What is printed are the answers of the calls behind the abort, and how many of each event the histories have then. A
+//! line that begins with `#` is a heading.
+#![tactic(auto)]
+
+mod boards;
+mod calls;
+mod case;
+mod ends;
+mod one_call;
+mod row;
+
+use std::io::{self, BufRead, BufReader};
+
+fn main(rt: HostRuntime) -> io::Result<()> {
+    let input = BufReader::new(rt.alloc(), rt.reader())?;
+    for line in input.lines(rt.alloc()) {
+        case::print(&rt, line?.as_str())?;
+    }
+    Ok(())
+}
