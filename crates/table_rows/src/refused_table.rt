@@ -85,35 +85,34 @@ fn add_owed<G: Allocator, A: Allocator + Copy, S: PathSet<A>>(
     Ok(())
 }
 
-/// All that the table owes after each message.
-fn owed_after_each<G: Allocator, A: Allocator + Copy, S: PathSet<A>>(
-    alloc: Global,
+/// Adds all that the table owes after each message.
+fn add_owed_after_each<G: Allocator, A: Allocator + Copy, S: PathSet<A>>(
     table: &mut Table<'_, G, A, S>,
+    mails: &mut Vec<Mail>,
     words: &str,
-) -> Result<Vec<Mail>, TableFault>
+) -> Result<(), TableFault>
     requires { IsTable S.members table.old }
 {
-    let mut mails = Vec::new(alloc);
     'words: for word in words.split_whitespace() {
         take(table, message_of(word))?;
-        add_owed(table, &mut mails)?;
+        add_owed(table, mails)?;
     }
-    Ok(mails)
+    Ok(())
 }
 
 /// The same of the table of a procedure, whose edges are kept in a set of the type `S`, in memory of `room`.
-fn owed_by<G: Allocator, A: Allocator + Copy, S: PathSet<A>>(
-    alloc: Global,
+fn add_owed_by<G: Allocator, A: Allocator + Copy, S: PathSet<A>>(
     room: A,
+    mails: &mut Vec<Mail>,
     graphs: &Graphs<G>,
     procedure: u8,
     limit: EdgeLimit,
     words: &str,
-) -> Result<Vec<Mail>, TableFault>
+) -> Result<(), TableFault>
     requires { procedure < length (graphs_of graphs.now) }
 {
     let mut table: Table<'_, G, A, S> = Table::new(room, graphs, procedure, limit);
-    owed_after_each(alloc, &mut table, words)
+    add_owed_after_each(&mut table, mails, words)
 }
 
 /// Whether the table answers these messages, from the one numbered `at` on, until it owes no more; `at` goes behind them.
@@ -256,10 +255,18 @@ fn write_both(
 ) -> Result<(), AllocError>
     requires { procedure < length (graphs_of graphs.now) }
 {
-    let Ok(wanted) = owed_by::<_, _, OrderedEdges<_>>(alloc, alloc, graphs, procedure, limit, words)
-    else {
+    let mut wanted = Vec::new(alloc);
+    let owed = add_owed_by::<_, _, OrderedEdges<_>>(
+        alloc,
+        &mut wanted,
+        graphs,
+        procedure,
+        limit,
+        words,
+    );
+    if owed.is_err() {
         return write!(out, "fault");
-    };
+    }
     let wanted = wanted.as_slice();
     write!(out, "ordered: ")?;
     write_in_turn(alloc, out, true, graphs, procedure, limit, words, wanted)?;
