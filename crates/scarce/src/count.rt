@@ -3,10 +3,12 @@ ghost use Rattle.scarce.specs.Refusals.{IsRefused, HasRefused};
 
 use std::sync::atomic::{AtomicU64, Ordering};
 
-/// How many allocations were asked, and which of them are refused: those numbered `first` to `last`, counted from 1.
+/// How many allocations were asked, and how many blocks are out, and which allocations are refused: those numbered `first` to
+/// `last`, counted from 1.
 #[derive(Drop)]
 pub(crate) struct Count {
     asked: AtomicU64,
+    out: AtomicU64,
     first: u64,
     last: u64,
 }
@@ -18,6 +20,7 @@ impl Count {
     {
         Count {
             asked: AtomicU64::new(0),
+            out: AtomicU64::new(0),
             first,
             last,
         }
@@ -25,6 +28,10 @@ impl Count {
 
     pub(crate) fn asked(&self) -> u64 {
         self.asked.load(Ordering::SeqCst)
+    }
+
+    pub(crate) fn out(&self) -> u64 {
+        self.out.load(Ordering::SeqCst)
     }
 
     pub(crate) fn has_refused(&self, asked: u64) -> bool
@@ -41,9 +48,18 @@ impl Count {
     }
 }
 
-/// Counts one more request, and answers whether it is passed on.
+/// Counts one more request, and answers whether it is passed on; its block is then out.
 // It has no clause: what a caller has of it then holds whichever way it answers.
 pub(crate) fn permits(count: &Count) -> bool {
     let before = count.asked.fetch_add(1, Ordering::SeqCst);
-    !count.refuses(before.wrapping_add(1))
+    let is_passed_on = !count.refuses(before.wrapping_add(1));
+    if is_passed_on {
+        count.out.fetch_add(1, Ordering::SeqCst);
+    }
+    is_passed_on
+}
+
+/// Counts a block that comes back.
+pub(crate) fn regains(count: &Count) {
+    count.out.fetch_sub(1, Ordering::SeqCst);
 }

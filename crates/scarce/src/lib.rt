@@ -6,7 +6,7 @@ ghost use Rattle.scarce.specs.Refusals.{Refuses, inner_of};
 
 mod count;
 
-use count::{Count, permits};
+use count::{Count, permits, regains};
 use std::alloc::{AllocError, Allocator};
 
 /// An allocator that counts what is asked of it and refuses some of it. What it does not refuse it passes on to `B`.
@@ -45,6 +45,12 @@ impl<B: Allocator> Scarce<B> {
         self.count.asked()
     }
 
+    /// How many blocks are out: those of the requests that were passed on, less those that came back. One that `B` refuses counts
+    /// as a block that never comes back.
+    pub fn live(&self) -> u64 {
+        self.count.out()
+    }
+
     /// Whether an allocation was refused so far.
     pub fn refused(&self) -> bool {
         self.count.has_refused(self.asked())
@@ -69,6 +75,7 @@ unsafe impl<B: Allocator> Allocator for Scarce<B> {
     }
 
     unsafe fn deallocate(&self, ptr: *mut u8, size: usize, align: usize) {
+        regains(&self.count);
         self.inner.deallocate(ptr, size, align);
     }
 }

@@ -40,14 +40,14 @@ fn plain(alloc: Global, out: &mut String, line: &str) -> Result<(), AllocError> 
 
 /// Writes what comes of a case whose allocations are refused in turn.
 fn refused(alloc: Global, out: &mut String, line: &str) -> Result<(), AllocError> {
-    match line.split_once(' ') {
-        Some(("many", number)) => write!(out, "{}", takes_each(alloc, false, first_word(number).0)),
-        Some(("ordered", number)) => write!(
-            out,
-            "{}",
-            takes_each(alloc, true, first_word(number).0)
-        ),
-        Some(("nodes", words)) => refused_counts(alloc, out, words),
-        _ => write!(out, "{}", keeps_each(alloc)),
+    let (head, text) = line.split_once(' ').unwrap_or((line, ""));
+    let (number, _) = first_word(text);
+    match head {
+        "many" => write!(out, "{}", takes_each(alloc, false, number)),
+        "ordered" => write!(out, "{}", takes_each(alloc, true, number)),
+        "set" => write!(out, "{}", keeps_each(alloc, true, number)),
+        "diagrams" => write!(out, "{}", keeps_each(alloc, false, number)),
+        "nodes" => refused_counts(alloc, out, text),
+        _ => Ok(()),
     }
 }

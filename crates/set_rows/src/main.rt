@@ -8,7 +8,8 @@
 //! | `nodes STEPS` | what each step on an empty set of diagrams answers |
 //! | `each allocation: many N` | whether a set of diagrams takes N triples all the same where each allocation is refused in turn |
 //! | `each allocation: ordered N` | the same of an ordered set |
-//! | `each allocation: set` | whether a set keeps its triples where each allocation is refused in turn |
+//! | `each allocation: set N` | whether an ordered set keeps N triples, and takes none of 20 again, where each allocation is refused in turn: at each refusal it is as it was |
+//! | `each allocation: diagrams N` | the same of a set of diagrams |
 //! | `each allocation: nodes 5.2 STEPS` | what comes of `@5.2` after the other steps where each of its allocations is refused in turn |
 //!
 //! | Step | What it does |

@@ -29,45 +29,52 @@ fn scattered(shape: Shape, number: u64) -> (u64, usize, u64) {
     (turns << 3 | mixed >> 61, point as usize, kept)
 }
 
-/// Inserts, again where memory is refused.
-fn insert_again<A: Allocator, S: PathSet<A>>(
-    set: &mut S,
-    edge: (u64, usize, u64),
-) -> Result<bool, AllocError> {
-    match insert(set, edge) {
-        Ok(added) => Ok(added),
-        Err(_) => insert(set, edge),
+/// Whether two sets have as many members, and the same of the edges of the numbers below this one.
+fn have_alike<A: Allocator, B: Allocator, S: PathSet<A>, T: PathSet<B>>(
+    one: &S,
+    other: &T,
+    shape: Shape,
+    numbers: u64,
+) -> bool {
+    for number in 0..numbers {
+        let edge = scattered(shape, number);
+        if contains(one, edge) != contains(other, edge) {
+            return false;
+        }
+    }
+    one.len() == other.len()
+}
+
+/// Inserts the edge of a number, again where memory is refused; answers nothing where the set is then no longer like another one.
+fn insert_again<A: Allocator, B: Allocator, S: PathSet<A>, T: PathSet<B>>(
+    one: &mut S,
+    other: &T,
+    shape: Shape,
+    number: u64,
+) -> Result<Option<bool>, AllocError> {
+    let edge = scattered(shape, number);
+    match insert(one, edge) {
+        Ok(added) => Ok(Some(added)),
+        Err(_) if have_alike(one, other, shape, number.saturating_add(1)) => {
+            Ok(Some(insert(one, edge)?))
+        }
+        Err(_) => Ok(None),
     }
 }
 
-/// Whether two sets answer alike to each edge that is inserted.
+/// Whether two sets answer alike to each edge that is inserted, and are alike at a refusal.
 fn insert_alike<A: Allocator, B: Allocator, S: PathSet<A>, T: PathSet<B>>(
     one: &mut S,
     other: &mut T,
     shape: Shape,
 ) -> Result<bool, AllocError> {
     for number in 0..shape.count {
-        let edge = scattered(shape, number);
-        if insert_again(one, edge)? != insert(other, edge)? {
+        let added = insert_again(one, other, shape, number)?;
+        if added != Some(insert(other, scattered(shape, number))?) {
             return Ok(false);
         }
     }
-    Ok(one.len() == other.len())
-}
-
-/// Whether two sets have the same of these edges and of as many others.
-fn have_alike<A: Allocator, B: Allocator, S: PathSet<A>, T: PathSet<B>>(
-    one: &S,
-    other: &T,
-    shape: Shape,
-) -> bool {
-    for number in 0..shape.count.saturating_mul(2) {
-        let edge = scattered(shape, number);
-        if contains(one, edge) != contains(other, edge) {
-            return false;
-        }
-    }
-    true
+    Ok(true)
 }
 
 /// Whether two empty sets are alike after these edges.
@@ -79,7 +86,7 @@ fn fill_alike<A: Allocator, B: Allocator, S: PathSet<A>, T: PathSet<B>>(
     let mut one = S::empty(room);
     let mut other = T::empty(ample);
     let alike = insert_alike(&mut one, &mut other, shape)?;
-    Ok(alike && have_alike(&one, &other, shape))
+    Ok(alike && have_alike(&one, &other, shape, shape.count.saturating_mul(2)))
 }
 
 /// Whether a set of diagrams and an ordered set are alike after these edges.
@@ -122,6 +129,7 @@ pub fn takes_each(alloc: Global, ordered: bool, count: u64) -> &'static str {
             are_alike(&scarce, alloc, shape)
         };
         match alike {
+            _ if scarce.live() > 0 => return "memory that does not come back",
             Ok(true) if scarce.refused() => {}
             Ok(true) if nth > 20 => return "taken",
             Ok(true) => return "few allocations",

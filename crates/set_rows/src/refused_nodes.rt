@@ -124,6 +124,7 @@ fn in_turn<B: Allocator, T: PathSet<B>>(
     for nth in 1..1000u64 {
         let scarce = Scarce::refusing(alloc, asked.wrapping_add(nth));
         match came_in(alloc, &scarce, other, words, spot) {
+            _ if scarce.live() > 0 => return write!(out, "memory that does not come back"),
             Came::Second(count) if scarce.refused() && again.unwrap_or(count) == count => {
                 again = Some(count);
             }

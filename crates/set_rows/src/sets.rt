@@ -71,9 +71,9 @@ pub fn step<A: Allocator, S: PathSet<A>>(
     }
 }
 
-/// An edge at one of 7 points with one of 9 entries; 400 different ones, and then the first ones again.
-fn edge_of(number: u64) -> (u64, usize, u64) {
-    let number = number % 400;
+/// The edge of a number, at one of 7 points and of one of 9 entries; so many different ones, and then the first ones again.
+fn edge_of(different: u64, number: u64) -> (u64, usize, u64) {
+    let number = number.checked_rem(different).unwrap_or(0);
     (
         number % 9,
         (number % 7) as usize,
@@ -81,41 +81,43 @@ fn edge_of(number: u64) -> (u64, usize, u64) {
     )
 }
 
-/// Whether the set has the edges of all numbers below this one.
-fn has_before<A: Allocator, S: PathSet<A>>(set: &S, number: u64) -> bool {
-    (0..number).all(|earlier| contains(set, edge_of(earlier)))
+/// Whether the set has the edges of the numbers below this one, and none of the others.
+fn has_below<A: Allocator, S: PathSet<A>>(set: &S, different: u64, number: u64) -> bool {
+    (0..different).all(|n| contains(set, edge_of(different, n)) == (n < number))
 }
 
 /// Inserts the edge of a number, again where memory is refused; answers whether the set then has it once, and where memory was
-/// refused had all as it was.
-fn keeps<A: Allocator, S: PathSet<A>>(set: &mut S, number: u64) -> Result<bool, AllocError> {
-    let edge = edge_of(number);
+/// refused had all as it was, and no other.
+fn keeps<A: Allocator, S: PathSet<A>>(
+    set: &mut S,
+    different: u64,
+    number: u64,
+) -> Result<bool, AllocError> {
+    let edge = edge_of(different, number);
     let before = set.len();
     let known = contains(set, edge);
     let (added, kept) = match insert(set, edge) {
         Ok(added) => (added, true),
         Err(_) => {
-            let kept = set.len() == before
-                && contains(set, edge) == known
-                && has_before(set, number);
+            let kept = set.len() == before && has_below(set, different, number);
             (insert(set, edge)?, kept)
         }
     };
-    let counted = set.len() == number.min(399) + 1;
+    let counted = set.len() == number.saturating_add(1).min(different);
     Ok(kept && counted && added != known && contains(set, edge))
 }
 
-/// Whether a set keeps 420 edges, the last 20 of which it has already.
-fn keeps_all<A: Allocator, S: PathSet<A>>(set: &mut S) -> Result<bool, AllocError> {
-    for number in 0..420u64 {
-        if !keeps(set, number)? {
+/// Whether a set keeps so many different edges, and then takes none of the first 20 again.
+fn keeps_all<A: Allocator, S: PathSet<A>>(set: &mut S, different: u64) -> Result<bool, AllocError> {
+    for number in 0..different.saturating_add(20) {
+        if !keeps(set, different, number)? {
             return Ok(false);
         }
     }
-    Ok(true)
+    Ok(has_below(set, different, different))
 }
 
-/// What comes of 420 insertions with the allocation of this number refused.
+/// What comes of the insertions with the allocation of this number refused.
 #[derive(Clone, Copy, PartialEq, Eq)]
 enum Came {
     /// No allocation was refused, and the set kept its edges.
@@ -127,19 +129,20 @@ enum Came {
 }
 
 /// What comes of it in a set of the type `S`.
-fn came_of<'a, S: PathSet<&'a Scarce<Global>>>(scarce: &'a Scarce<Global>) -> Came {
+fn came_of<'a, S: PathSet<&'a Scarce<Global>>>(scarce: &'a Scarce<Global>, different: u64) -> Came {
     let mut set = S::empty(scarce);
     let is_free = scarce.asked() == 0;
-    match keeps_all(&mut set) {
+    match keeps_all(&mut set, different) {
         Ok(true) if is_free && scarce.refused() => Came::Kept,
         Ok(true) if is_free => Came::Whole,
         _ => Came::Lost,
     }
 }
 
-/// What is said of a set that keeps its edges, whichever of its allocations is refused.
-fn said(came: Came, nth: u64) -> Option<&'static str> {
+/// What is said of a set that keeps its edges, whichever of its allocations is refused, once it is let go.
+fn said(came: Came, scarce: &Scarce<Global>, nth: u64) -> Option<&'static str> {
     match came {
+        _ if scarce.live() > 0 => Some("memory that does not come back"),
         Came::Kept => None,
         Came::Whole if nth > 20 => Some("kept"),
         Came::Whole => Some("few allocations"),
@@ -147,11 +150,16 @@ fn said(came: Came, nth: u64) -> Option<&'static str> {
     }
 }
 
-/// Whether an ordered set keeps its edges, whichever of its allocations is refused.
-pub fn keeps_each(alloc: Global) -> &'static str {
+/// Whether a set of diagrams, or an ordered one, keeps so many different edges, whichever of its allocations is refused.
+pub fn keeps_each(alloc: Global, ordered: bool, different: u64) -> &'static str {
     for nth in 1..1000u64 {
         let scarce = Scarce::refusing(alloc, nth);
-        if let Some(text) = said(came_of::<OrderedEdges<_>>(&scarce), nth) {
+        let came = if ordered {
+            came_of::<OrderedEdges<_>>(&scarce, different)
+        } else {
+            came_of::<DiagramEdges<_>>(&scarce, different)
+        };
+        if let Some(text) = said(came, &scarce, nth) {
             return text;
         }
     }

@@ -8,83 +8,290 @@ use crate::fields::{first, first_word};
 use crate::graphed::rewritten;
 use crate::tables::{message_of, take};
 use flow_graph::{Graphs, graphs};
-use path_sets::{OrderedEdges, PathSet};
+use path_sets::{DiagramEdges, OrderedEdges, PathSet};
 use scarce::Scarce;
 use std::alloc::{AllocError, Allocator, Global};
-use summaries::{Due, EdgeLimit, Table, TableFault};
+use summaries::{Caller, Due, EdgeLimit, Table, TableFault};
 
-/// The table takes a message and answers all that it then owes.
-fn worked<G: Allocator, A: Allocator + Copy, S: PathSet<A>>(
+/// A message and the procedure that it is for.
+type Mail = (u8, Due);
+
+/// A call of a table.
+#[derive(Clone, Copy, Debug)]
+enum Call {
+    Entry,
+    Summary,
+    Next,
+}
+
+/// What comes of a table.
+#[derive(Clone, Copy, Debug)]
+enum Came {
+    /// No allocation was refused, and it answered all that was wanted.
+    Whole,
+    /// One was refused to this call, which answered want of memory, and each later call does.
+    Refused(Call),
+    /// It answered something else.
+    Other,
+}
+
+/// The calls to which an allocation was refused.
+#[derive(Clone, Copy, Debug)]
+struct Seen {
+    entry: bool,
+    summary: bool,
+    next: bool,
+}
+
+impl Seen {
+    fn add(&mut self, call: Call) {
+        match call {
+            Call::Entry => self.entry = true,
+            Call::Summary => self.summary = true,
+            Call::Next => self.next = true,
+        }
+    }
+
+    fn write(self, out: &mut String) -> Result<(), AllocError> {
+        write!(out, "refused in")?;
+        write!(out, "{}", if self.entry { " entry" } else { "" })?;
+        write!(out, "{}", if self.summary { " summary" } else { "" })?;
+        write!(out, "{}", if self.next { " next" } else { "" })
+    }
+}
+
+/// The call that takes a message.
+fn call_of(due: Due) -> Call {
+    match due {
+        Due::Entry { caller: _, a: _ } => Call::Entry,
+        Due::Summary { p: _, a: _, b: _ } => Call::Summary,
+    }
+}
+
+/// Adds all that the table owes.
+fn add_owed<G: Allocator, A: Allocator + Copy, S: PathSet<A>>(
     table: &mut Table<'_, G, A, S>,
-    due: Due,
+    mails: &mut Vec<Mail>,
 ) -> Result<(), TableFault>
     requires { IsTable S.members table.old }
     ensures { IsTable S.members table.new }
 {
-    take(table, due)?;
     'turns: for _turn in 0..1000u32 {
-        if table.next()?.is_none() {
+        let Some(mail) = table.next()? else {
             break;
-        }
+        };
+        mails.push(mail)?;
     }
     Ok(())
 }
 
-/// Whether a table that came to this answers want of memory from then on, where it was refused memory, and else has worked.
-fn stays<G: Allocator, A: Allocator + Copy, S: PathSet<A>>(
+/// Adds all that the table owes after each message.
+fn add_owed_after_each<G: Allocator, A: Allocator + Copy, S: PathSet<A>>(
     table: &mut Table<'_, G, A, S>,
-    done: Result<(), TableFault>,
-    was_refused: bool,
-    due: Due,
-) -> bool
+    mails: &mut Vec<Mail>,
+    words: &str,
+) -> Result<(), TableFault>
     requires { IsTable S.members table.old }
 {
-    if !was_refused {
-        return done.is_ok();
+    'words: for word in words.split_whitespace() {
+        take(table, message_of(word))?;
+        add_owed(table, mails)?;
     }
-    done == Err(TableFault::Memory)
-        && take(table, due) == Err(TableFault::Memory)
+    Ok(())
+}
+
+/// The same of the table of a procedure, whose edges are kept in a set of the type `S`, in memory of `room`.
+fn add_owed_by<G: Allocator, A: Allocator + Copy, S: PathSet<A>>(
+    room: A,
+    mails: &mut Vec<Mail>,
+    graphs: &Graphs<G>,
+    procedure: u8,
+    limit: EdgeLimit,
+    words: &str,
+) -> Result<(), TableFault>
+    requires { procedure < length (graphs_of graphs.now) }
+{
+    let mut table: Table<'_, G, A, S> = Table::new(room, graphs, procedure, limit);
+    add_owed_after_each(&mut table, mails, words)
+}
+
+/// Whether the table answers these messages, from the one numbered `at` on, until it owes no more; `at` goes behind them.
+fn answers<G: Allocator, A: Allocator + Copy, S: PathSet<A>>(
+    table: &mut Table<'_, G, A, S>,
+    wanted: &[Mail],
+    at: &mut usize,
+) -> Result<bool, TableFault>
+    requires { IsTable S.members table.old }
+    ensures { IsTable S.members table.new }
+{
+    'turns: for _turn in 0..1000u32 {
+        let Some(mail) = table.next()? else {
+            break;
+        };
+        if wanted.get(*at).copied() != Some(mail) {
+            return Ok(false);
+        }
+        *at = at.wrapping_add(1);
+    }
+    Ok(true)
+}
+
+/// The table takes each message and answers all that it then owes. Answers whether that is what was wanted, or the call that failed.
+fn worked<G: Allocator, A: Allocator + Copy, S: PathSet<A>>(
+    table: &mut Table<'_, G, A, S>,
+    words: &str,
+    wanted: &[Mail],
+) -> Result<bool, (Call, TableFault)>
+    requires { IsTable S.members table.old }
+    ensures { IsTable S.members table.new }
+{
+    let mut at = 0usize;
+    'words: for word in words.split_whitespace() {
+        let due = message_of(word);
+        if let Err(fault) = take(table, due) {
+            return Err((call_of(due), fault));
+        }
+        match answers(table, wanted, &mut at) {
+            Ok(true) => {}
+            Ok(false) => return Ok(false),
+            Err(fault) => return Err((Call::Next, fault)),
+        }
+    }
+    Ok(at == wanted.len())
+}
+
+/// Whether each call of a table answers want of memory.
+fn stays<G: Allocator, A: Allocator + Copy, S: PathSet<A>>(table: &mut Table<'_, G, A, S>) -> bool
+    requires { IsTable S.members table.old }
+{
+    table.take_entry(Caller::Starter, 0) == Err(TableFault::Memory)
+        && table.take_summary(1, 0, 0) == Err(TableFault::Memory)
         && table.next() == Err(TableFault::Memory)
 }
 
-/// Works a table, in whose room an allocation is refused: whether it was, and whether the table then stays failed. Its edges are
-/// kept in a set of the type `S`.
+/// What comes of a table, in whose room an allocation may be refused.
 fn came_of<G: Allocator, A: Allocator + Copy, S: PathSet<A>>(
+    scarce: &Scarce<Global>,
+    table: &mut Table<'_, G, A, S>,
+    words: &str,
+    wanted: &[Mail],
+) -> Came
+    requires { IsTable S.members table.old }
+{
+    match worked(table, words, wanted) {
+        Ok(true) if !scarce.refused() => Came::Whole,
+        Err((call, TableFault::Memory)) if scarce.refused() => {
+            if stays(table) {
+                Came::Refused(call)
+            } else {
+                Came::Other
+            }
+        }
+        _ => Came::Other,
+    }
+}
+
+/// The same of the table of a procedure, whose edges are kept in a set of the type `S`.
+fn came_in<G: Allocator, A: Allocator + Copy, S: PathSet<A>>(
     room: A,
     scarce: &Scarce<Global>,
     graphs: &Graphs<G>,
     procedure: u8,
-    due: Due,
     limit: EdgeLimit,
-) -> (bool, bool)
+    words: &str,
+    wanted: &[Mail],
+) -> Came
     requires { procedure < length (graphs_of graphs.now) }
 {
     let mut table: Table<'_, G, A, S> = Table::new(room, graphs, procedure, limit);
-    let done = worked(&mut table, due);
-    let was_refused = scarce.refused();
-    (was_refused, stays(&mut table, done, was_refused, due))
+    came_of(scarce, &mut table, words, wanted)
 }
 
-/// Whether the table of a procedure that was refused memory answers so from then on.
-fn of_graphs(alloc: Global, graphs: &Graphs<Global>, procedure: u64, due: Due) -> &'static str {
-    let (Ok(procedure), Some(limit)) = (u8::try_from(procedure), EdgeLimit::new(1000)) else {
-        return "no such procedure";
+/// Writes what comes of the table of a procedure, whose edges are kept in an ordered set or in diagrams, with each allocation
+/// refused in turn.
+fn write_in_turn(
+    alloc: Global,
+    out: &mut String,
+    ordered: bool,
+    graphs: &Graphs<Global>,
+    procedure: u8,
+    limit: EdgeLimit,
+    words: &str,
+    wanted: &[Mail],
+) -> Result<(), AllocError>
+    requires { procedure < length (graphs_of graphs.now) }
+{
+    let mut seen = Seen {
+        entry: false,
+        summary: false,
+        next: false,
     };
-    if procedure as usize >= graphs.len() {
-        return "no such procedure";
-    }
     for nth in 1..400u64 {
         let scarce = Scarce::refusing(alloc, nth);
-        match came_of::<_, _, OrderedEdges<_>>(&scarce, &scarce, graphs, procedure, due, limit) {
-            (true, true) => {}
-            (false, true) if nth > 5 => return "fails for want of memory, and stays so",
-            _ => return "another answer",
+        let room = &scarce;
+        let came = if ordered {
+            came_in::<_, _, OrderedEdges<_>>(room, room, graphs, procedure, limit, words, wanted)
+        } else {
+            came_in::<_, _, DiagramEdges<_>>(room, room, graphs, procedure, limit, words, wanted)
+        };
+        match came {
+            _ if scarce.live() > 0 => return write!(out, "memory that does not come back"),
+            Came::Whole => return seen.write(out),
+            Came::Refused(call) => seen.add(call),
+            Came::Other => return write!(out, "another answer"),
         }
     }
-    "too many allocations"
+    write!(out, "too many allocations")
 }
 
-/// Writes it for a procedure, rounds and one message, and a text.
+/// Writes it of both kinds of sets, against the answers of a table with ample memory.
+fn write_both(
+    alloc: Global,
+    out: &mut String,
+    graphs: &Graphs<Global>,
+    procedure: u8,
+    limit: EdgeLimit,
+    words: &str,
+) -> Result<(), AllocError>
+    requires { procedure < length (graphs_of graphs.now) }
+{
+    let mut wanted = Vec::new(alloc);
+    let owed = add_owed_by::<_, _, OrderedEdges<_>>(
+        alloc,
+        &mut wanted,
+        graphs,
+        procedure,
+        limit,
+        words,
+    );
+    if owed.is_err() {
+        return write!(out, "fault");
+    }
+    let wanted = wanted.as_slice();
+    write!(out, "ordered: ")?;
+    write_in_turn(alloc, out, true, graphs, procedure, limit, words, wanted)?;
+    write!(out, "\ndiagrams: ")?;
+    write_in_turn(alloc, out, false, graphs, procedure, limit, words, wanted)
+}
+
+/// Writes it of a procedure of these graphs, if there is such a one.
+fn of_graphs(
+    alloc: Global,
+    out: &mut String,
+    graphs: &Graphs<Global>,
+    procedure: u64,
+    words: &str,
+) -> Result<(), AllocError> {
+    let (Ok(procedure), Some(limit)) = (u8::try_from(procedure), EdgeLimit::new(1000)) else {
+        return write!(out, "no such procedure");
+    };
+    if procedure as usize >= graphs.len() {
+        return write!(out, "no such procedure");
+    }
+    write_both(alloc, out, graphs, procedure, limit, words)
+}
+
+/// Writes it for a procedure, rounds and messages, and a text.
 pub fn refused_table(
     alloc: Global,
     out: &mut String,
@@ -92,16 +299,12 @@ pub fn refused_table(
     text: &str,
 ) -> Result<(), AllocError> {
     let (procedure, rest) = first_word(asked);
-    let (rounds, word) = rest.split_once(": ").unwrap_or((rest, ""));
+    let (rounds, words) = rest.split_once(": ").unwrap_or((rest, ""));
     let Some(sequential) = rewritten(alloc, text, first(rounds).0) else {
         return write!(out, "not rewritten");
     };
     match graphs(&alloc, &sequential) {
-        Ok(graphs) => write!(
-            out,
-            "{}",
-            of_graphs(alloc, &graphs, procedure, message_of(word))
-        ),
+        Ok(graphs) => of_graphs(alloc, out, &graphs, procedure, words),
         Err(_) => Err(AllocError),
     }
 }

@@ -2,5 +2,5 @@
 use Rattle.summaries.specs.Tables.{IsTable}
 use Rattle.table_rows.proofs.refused_table.worked.Given as goal
 
-abbrev pub invariant-turns : goal.invariant-turns
-invariant-turns g l = IsTable g.S.PathSet.members l.table
+abbrev pub invariant-words : goal.invariant-words
+invariant-words g l = IsTable g.S.PathSet.members l.table
