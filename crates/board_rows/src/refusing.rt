@@ -30,13 +30,13 @@ fn pushed<A: Allocator>(mut numbers: Vec<u64, A>) -> Option<(u64, u64)> {
     }
 }
 
-/// So many refusals, and before the last so many growths; the numbers are there.
+/// So many refusals, and before the last so many growths; the numbers are there, and no block is out once they are let go.
 fn refuses<R: Abort, A: Allocator>(rt: &R, alloc: A, nth: u64, wanted: (u64, u64)) {
     let scarce = Scarce::refusing(alloc, nth);
     let numbers = Vec::new(&scarce);
     assert!(rt; !scarce.refused());
     assert_eq!(rt; pushed(numbers), Some(wanted));
-    assert!(rt; scarce.refused() == (wanted.0 > 0));
+    assert!(rt; scarce.refused() == (wanted.0 > 0) && scarce.live() == 0);
 }
 
 #[test]
@@ -49,6 +49,7 @@ fn refuses_one_growth(rt: HostRuntime) {
 #[test]
 fn refuses_none_at_zero(rt: HostRuntime) {
     refuses(&rt, rt.alloc(), 0, (0, 0));
+    has_one_block(&rt, rt.alloc());
 }
 
 /// Whether one more box is refused.
@@ -75,6 +76,7 @@ fn keeps_two<R: Abort, A: Allocator>(rt: &R, scarce: &Scarce<A>) {
     for _ in 0..3u64 {
         assert!(rt; refuses_a_box(scarce) && scarce.refused());
     }
+    assert!(rt; scarce.live() == 2);
     assert!(rt; are_there(boxes));
 }
 
@@ -83,6 +85,18 @@ fn refuses_the_rest<R: Abort, A: Allocator>(rt: &R, alloc: A) {
     let scarce = Scarce::refusing_from(&inner, 3);
     keeps_two(rt, &scarce);
     assert!(rt; scarce.asked() == 5 && inner.asked() == 2);
+    assert!(rt; scarce.live() == 0 && inner.live() == 0);
+}
+
+/// A list grows in one block.
+fn has_one_block<R: Abort, A: Allocator>(rt: &R, alloc: A) {
+    let scarce = Scarce::refusing(alloc, 0);
+    let mut numbers = Vec::new(&scarce);
+    assert!(rt; scarce.live() == 0);
+    assert_eq!(rt; pushes(&mut numbers), Ok((0, 0)));
+    assert!(rt; scarce.live() == 1 && scarce.asked() > 1);
+    drop(numbers);
+    assert!(rt; scarce.live() == 0);
 }
 
 fn refuses_each<R: Abort, A: Allocator>(rt: &R, alloc: A) {
