@@ -11,7 +11,7 @@ use Rattle.scopes.specs.Checked.{IsChecked}
 use Rattle.round_rewrite.proofs.Widths.{few_procedures}
 use Rattle.post_ledger.specs.declared.event.Event.{Event}
 use Rattle.post_ledger.specs.History.{posts, takes}
-use Rattle.language.specs.Flow.{Member}
+use Rattle.language.specs.Lists.{Member}
 use Rattle.language.specs.Sequential.{caller, starter}
 use Rattle.flow_graph.specs.Numbers.{NumberedMessage, numbered_entry, numbered_summary}
 use Rattle.post_ledger.specs.declared.event.Event.TheVariants.{Done, Post, Take}

@@ -13,8 +13,7 @@ use Rattle.language.specs.Resolve.{meaning_of, routine_of}
 use Rattle.language.specs.Sequential.{numbered_routine, sequential_of}
 use Rattle.round_rewrite.specs.Names.{rewritten_procedure, rewritten_tree}
 use Rattle.language.specs.Step.{Program}
-use Rattle.language.specs.Flow.{Member}
-use Rattle.path_sets.specs.Triples.{NoneTwice}
+use Rattle.language.specs.Lists.{Member, NoneTwice}
 use Rattle.post_ledger.specs.declared.event.Event.{Event}
 use Rattle.summaries.specs.declared.due.Due.{Due}
 use Rattle.summaries.specs.declared.pair.Pair.{Pair}

@@ -3,9 +3,8 @@ use Rattle.std.specs.Prelude.{◌≡◌, ◌↔◌, ℕ, suc, List, [], ◌∷�
 use Rattle.std.specs.Fmt.{decimal}
 use Rattle.language.specs.Tree.{Procedure, Tree}
 use Rattle.language.specs.Step.{Program}
-use Rattle.language.specs.Flow.{Member}
+use Rattle.language.specs.Lists.{Member, NoneTwice}
 use Rattle.language.specs.Sequential.{sequential_of}
-use Rattle.path_sets.specs.Triples.{NoneTwice}
 use Rattle.round_rewrite.specs.Names.{rewritten_tree}
 use Rattle.flow_graph.specs.Numbers.{AreNumbersOfPair, IsNumberOfEntry}
 use Rattle.summaries.specs.Fitting.{IsDueFor}

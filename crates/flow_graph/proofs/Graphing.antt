@@ -10,7 +10,8 @@ use Rattle.language.specs.Rest.{Label, Code, rest_from}
 use Rattle.language.specs.Resolve.{Scope, resolve_block}
 use Rattle.language.specs.Step.{Routine, Program, zeros, fresh, AtRoutine, body_of}
 use Rattle.language.specs.Sequential.{statements, numbered, Valuation, Calls, sequential_of}
-use Rattle.language.specs.Flow.{rests, Member, IsRestOf, after_first}
+use Rattle.language.specs.Flow.{rests, IsRestOf, after_first}
+use Rattle.language.specs.Lists.{Member}
 use Rattle.language.specs.Messages.{IsValuationOf, ArgumentsFit}
 use Rattle.language.proofs.Entering.{call_shape}
 use Rattle.language.proofs.RestPoints.{rest_at_point, rests_count}

@@ -3,7 +3,7 @@ use Rattle.std.proofs.Common.{◌≡◌, ◌↔◌, ◌≤◌, ◌<◌, ◌+◌,
 use Rattle.std.proofs.lemmas.Option.{slice_get_within}
 use Rattle.language.specs.Step.{Routine, Program, AtRoutine}
 use Rattle.language.specs.Sequential.{Caller, caller, Message, entry}
-use Rattle.language.specs.Flow.{Member}
+use Rattle.language.specs.Lists.{Member}
 use Rattle.language.specs.Messages as by_messages
 use Rattle.language.specs.Messages.{Owes, IsMessageTo, ArgumentsFit}
 use Rattle.language.proofs.ByMessages.{reached_entry, reached_stands}

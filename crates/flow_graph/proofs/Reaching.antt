@@ -7,7 +7,8 @@ use Rattle.language.specs.Rest.{Code, join}
 use Rattle.language.specs.Step.{Program, fresh, AtRoutine, body_of}
 use Rattle.language.specs.Sequential.{statements, marked, numbered, point_of, Valuation, Calls}
 use Rattle.language.specs.Sequential.{Caller, caller, Message, entry, summary, exit_of, resumed_with}
-use Rattle.language.specs.Flow.{rests, Member, IsRestOf, after_first}
+use Rattle.language.specs.Flow.{rests, IsRestOf, after_first}
+use Rattle.language.specs.Lists.{Member}
 use Rattle.language.specs.Messages as by_messages
 use Rattle.language.specs.Messages.{Reached, Owes, IsValuationOf, IsMessageTo, ArgumentsFit}
 use Rattle.language.proofs.ByMessages.{reached_entry, reached_stands}

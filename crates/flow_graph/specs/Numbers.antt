@@ -4,7 +4,7 @@ use Rattle.language.specs.Rest.{Code}
 use Rattle.language.specs.Step.{Program}
 use Rattle.language.specs.Sequential.{Valuation, Edge, Exit, Pair, Entered}
 use Rattle.language.specs.Sequential.{Caller, starter, caller, Message, entry, summary, IsDue}
-use Rattle.language.specs.Flow.{Member}
+use Rattle.language.specs.Lists.{Member}
 use Rattle.language.specs.Messages.{IsValuationOf, ArgumentsFit}
 use Rattle.flow_graph.specs.Bits.{coded}
 use Rattle.flow_graph.specs.Nodes.{number, point_at}

@@ -2,7 +2,7 @@
 -- the number of an entry, a point, and the number of a valuation; a message stands with the procedure that it is for.
 use Rattle.std.specs.Prelude.{◌≡◌, ◌↔◌, ◌≤◌, ℕ, Some, List, slice_get}
 use Rattle.language.specs.Sequential.{Caller, caller}
-use Rattle.language.specs.Flow.{Member}
+use Rattle.language.specs.Lists.{Member}
 use Rattle.flow_graph.specs.Flows.{last_of, next_of, entered_by}
 use Rattle.flow_graph.specs.Returns.{left, resumed}
 use Rattle.flow_graph.specs.Numbers.{NumberedMessage, numbered_entry, numbered_summary, Among, GraphReaches, Sends}

@@ -4,7 +4,8 @@ ghost use Rattle.std.specs.Prelude.{◌≡◌, ◌↔◌, ◌<◌, ℕ, ◌+◌,
 ghost use Rattle.language.specs.Rest.{Code};
 ghost use Rattle.language.specs.Step.{Routine, Program, body_of};
 ghost use Rattle.language.specs.Sequential.{in_text_order, Valuation, Caller, Message, IsDue};
-ghost use Rattle.language.specs.Flow.{Member, IsRestOf};
+ghost use Rattle.language.specs.Flow.{IsRestOf};
+ghost use Rattle.language.specs.Lists.{Member};
 ghost use Rattle.language.specs.Messages.{Reached, Owes, EdgeTo, IsValuationOf, IsMessageTo, ArgumentsFit};
 ghost use Rattle.flow_graph.specs.Nodes.{point_at};
 ghost use Rattle.flow_graph.specs.Flows.{code};

@@ -16,9 +16,9 @@ use Rattle.post_ledger.proofs.Closing.{all_taken}
 use Rattle.post_ledger.proofs.Orders.{own_here, own_else}
 use Rattle.language.specs.Step.{Program}
 use Rattle.language.specs.Sequential.{IsDue}
-use Rattle.language.specs.Flow.{Member}
+use Rattle.language.specs.Lists.{Member, NoneTwice}
 use Rattle.language.proofs.Members.{member_left, member_map, map_member}
-use Rattle.path_sets.specs.Triples.{Triple, NoneTwice}
+use Rattle.path_sets.specs.Triples.{Triple}
 use Rattle.flow_graph.specs.declared.graph.Graph.{Graph}
 use Rattle.flow_graph.specs.declared.graph.Graphs.{Graphs}
 use Rattle.flow_graph.specs.Drawn.{graphs_of}

@@ -18,7 +18,7 @@ use Rattle.post_ledger.proofs.Closing.{all_taken, each_taken}
 use Rattle.post_ledger.proofs.Orders.{nothing_follows}
 use Rattle.language.specs.Step.{Program}
 use Rattle.language.specs.Sequential.{IsDue}
-use Rattle.language.specs.Flow.{Member}
+use Rattle.language.specs.Lists.{Member}
 use Rattle.language.proofs.Members.{member_left}
 use Rattle.path_sets.specs.Triples.{Triple}
 use Rattle.flow_graph.specs.declared.graph.Graphs.{Graphs}

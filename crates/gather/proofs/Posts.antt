@@ -2,9 +2,8 @@
 use Rattle.std.proofs.Common.{◌≡◌, ◌≢◌, inl, inr, ℕ, List, [], ◌∷◌, map}
 use Rattle.std.proofs.Common.{refl, sym, ap, ◌∙◌, subst}
 use Rattle.std.proofs.lemmas.Bool.{cases_eq}
-use Rattle.language.specs.Flow.{Member}
+use Rattle.language.specs.Lists.{Member, NoneTwice}
 use Rattle.language.proofs.Members.{member_map, map_member}
-use Rattle.path_sets.specs.Triples.{NoneTwice}
 use Rattle.post_ledger.specs.declared.event.Event.{Event}
 use Rattle.post_ledger.specs.declared.event.Event.TheVariants as event
 use Rattle.post_ledger.specs.declared.entry.Entry.{Entry}

@@ -10,7 +10,7 @@ use Rattle.language.specs.Tree.{Tree}
 use Rattle.language.specs.Resolve.{meaning_of, number_of}
 use Rattle.language.specs.Rounds.{Unsafe}
 use Rattle.language.specs.Step.{Program}
-use Rattle.language.specs.Flow.{Member}
+use Rattle.language.specs.Lists.{Member}
 use Rattle.path_sets.specs.Triples.{Triple}
 use Rattle.language.specs.Sequential.{SomeBad, sequential_of}
 use Rattle.round_rewrite.specs.Law.{KeepsTree}

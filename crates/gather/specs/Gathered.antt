@@ -3,7 +3,7 @@ use Rattle.std.specs.Prelude.{◌≡◌, ◌≤◌, ◌⊎◌, ◌↔◌, ℕ, B
 use Rattle.std.specs.Prelude.{Option, Some, None, map, Result, IfOk, IfErr}
 use Rattle.post_ledger.specs.declared.event.Event.{Event}
 use Rattle.language.specs.Step.{Program}
-use Rattle.language.specs.Flow.{Member}
+use Rattle.language.specs.Lists.{Member}
 use Rattle.path_sets.specs.Triples.{Triple}
 use Rattle.language.specs.Sequential.{SomeBad}
 use Rattle.flow_graph.specs.declared.graph.Graphs.{Graphs}

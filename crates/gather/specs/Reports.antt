@@ -2,7 +2,7 @@
 use Rattle.std.specs.Prelude.{◌≡◌, ◌↔◌, ℕ, suc, true, List, Some, map, length, slice_get}
 use Rattle.language.specs.Tree.{Tree}
 use Rattle.language.specs.Step.{Program}
-use Rattle.language.specs.Flow.{Member}
+use Rattle.language.specs.Lists.{Member, NoneTwice}
 use Rattle.language.specs.Resolve.{meaning_of}
 use Rattle.language.specs.Rounds.{Unsafe}
 use Rattle.language.specs.Sequential.{IsDue, sequential_of}
@@ -10,7 +10,6 @@ use Rattle.post_ledger.specs.declared.event.Event.{Event}
 use Rattle.post_ledger.specs.History.{posts}
 use Rattle.round_rewrite.specs.Names.{rewritten_tree}
 use Rattle.round_rewrite.specs.Narrow.{IsNarrow}
-use Rattle.path_sets.specs.Triples.{NoneTwice}
 use Rattle.flow_graph.specs.Numbers.{NumberedMessage, IsNumberOf}
 use Rattle.summaries.specs.declared.due.Caller.TheVariants.{Proc, Starter}
 use Rattle.summaries.specs.declared.due.Due.{Due}

@@ -1,6 +1,6 @@
 -- What is in two lists, one after the other, and in a list, each item through a function.
 use Rattle.std.proofs.Common.{◌≡◌, List, [], ◌∷◌, ◌++◌, ◌⊎◌, inl, inr, refl, ap, map}
-use Rattle.language.specs.Flow.{Member}
+use Rattle.language.specs.Lists.{Member}
 
 pub member_left : {A : Type 0} (x : A) (xs ys : List A) → Member x xs → Member x (xs ++ ys)
 member_left x [] ys h = absurd h

@@ -4,7 +4,8 @@ use Rattle.std.proofs.lemmas.Option.{none-some, same_Some}
 use Rattle.language.specs.Tree.{Mark, RightSide, Simple, done, one, choose, loop}
 use Rattle.language.specs.Value.{Place}
 use Rattle.language.specs.Rest.{Label, Code, join, has_label, first_of_two, rest_from}
-use Rattle.language.specs.Flow.{rests, Member, IsRestOf}
+use Rattle.language.specs.Flow.{rests, IsRestOf}
+use Rattle.language.specs.Lists.{Member}
 use Rattle.language.proofs.Members.{member_left, member_right, member_append}
 
 -- r is what comes after the block, or left from one of its statements on

@@ -6,7 +6,8 @@ use Rattle.std.proofs.lemmas.Bool.{true≢false}
 use Rattle.language.specs.Tree.{done, one, choose, loop}
 use Rattle.language.specs.Rest.{Code, join}
 use Rattle.language.specs.Sequential.{statements, numbered, points, numbers, point_of}
-use Rattle.language.specs.Flow.{rests, Member, IsRestOf}
+use Rattle.language.specs.Flow.{rests, IsRestOf}
+use Rattle.language.specs.Lists.{Member}
 use Rattle.language.proofs.Points.{points_numbered}
 
 -- the points of the rests are the numbers that the statements are marked with

@@ -6,7 +6,8 @@ use Rattle.language.specs.Rest.{Code, Label, join, rest_from}
 use Rattle.language.specs.Step.{Routine, Program, Frame, frame, State, state, fresh, zeros, AtRoutine, AtRest, body_of, StepsTo, AfterSteps}
 use Rattle.language.specs.Rounds.{starting_stack}
 use Rattle.language.specs.Sequential.{Valuation, Reaches}
-use Rattle.language.specs.Flow.{Member, IsRestOf, Flow}
+use Rattle.language.specs.Flow.{IsRestOf, Flow}
+use Rattle.language.specs.Lists.{Member}
 use Rattle.language.proofs.Rests.{join_done}
 use Rattle.language.proofs.RestMembers.{in_whole, member_from, rest_follows}
 

@@ -1,5 +1,6 @@
 -- What can be left to run in a procedure, and the steps inside one call.
 use Rattle.std.specs.Prelude.{◌≡◌, ℕ, List, [], ◌∷◌, ◌++◌, ◌⊎◌, slice_get}
+use Rattle.language.specs.Lists.{Member}
 use Rattle.language.specs.Tree.{done, one, choose, loop}
 use Rattle.language.specs.Rest.{Code, join}
 use Rattle.language.specs.Step.{Program, Frame, frame, State, state, body_of, Step}
@@ -13,11 +14,6 @@ rests (one m s t) k = one m s (join t k) ∷ rests t k
 rests (choose m r a b t) k =
     choose m r a b (join t k) ∷ (rests a (join t k) ++ (rests b (join t k) ++ rests t k))
 rests (loop m r a t) k = loop m r a (join t k) ∷ (rests a (loop m r a (join t k)) ++ rests t k)
-
--- x is in the list
-abbrev pub Member : {A : Type 0} → A → List A → Type 0
-Member x [] = ⊥
-Member x (y ∷ ys) = (x ≡ y) ⊎ Member x ys
 
 -- r can be left to run of this body: nothing, or what is left from one of its statements on
 abbrev pub IsRestOf : Code → Code → Type 0

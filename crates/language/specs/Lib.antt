@@ -1,3 +1,4 @@
+pub mod Lists
 pub mod Tree
 pub mod Value
 pub mod Rest

@@ -6,7 +6,8 @@ use Rattle.language.specs.Rest.{Label, Code}
 use Rattle.language.specs.Step.{Program, frame, state, AtRoutine, body_of, Runs}
 use Rattle.language.specs.Sequential.{Valuation, Calls, IsZero, Entered, Exit, exit_of, resumed_with}
 use Rattle.language.specs.Sequential.{Caller, starter, caller, Message, entry, summary, IsDue}
-use Rattle.language.specs.Flow.{Member, IsRestOf, Flow, after_first}
+use Rattle.language.specs.Flow.{IsRestOf, Flow, after_first}
+use Rattle.language.specs.Lists.{Member}
 
 -- By the messages of which M holds, procedure q reaches from the entry valuation a the valuation v, with r left to
 -- run: the start of each entry, what a flow leads to, and, behind a call, what a summary of it leads to.

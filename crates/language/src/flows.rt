@@ -5,7 +5,8 @@ ghost use Rattle.language.specs.Value.{Place};
 ghost use Rattle.language.specs.Rest.{Label, Code};
 ghost use Rattle.language.specs.Step.{Routine, Program, Frame, frame, State, state, Step, body_of};
 ghost use Rattle.language.specs.Sequential.{numbered, numbers, statements, point_of, Valuation, Reaches};
-ghost use Rattle.language.specs.Flow.{rests, Member, IsRestOf, Flow, FlowsTo, ReturnsTo, EntersTo};
+ghost use Rattle.language.specs.Flow.{rests, IsRestOf, Flow, FlowsTo, ReturnsTo, EntersTo};
+ghost use Rattle.language.specs.Lists.{Member};
 
 /// In a block that is marked in text order, what is left from its statements on has their numbers as points, in order.
 pub fn rests_have_their_points_in_text_order()

@@ -4,7 +4,8 @@ ghost use Rattle.language.specs.Tree.{done};
 ghost use Rattle.language.specs.Rest.{Code};
 ghost use Rattle.language.specs.Step.{Routine, Program, body_of};
 ghost use Rattle.language.specs.Sequential.{point_of, Valuation, Edge, Exit, Pair, Caller, Message, entry, IsDue};
-ghost use Rattle.language.specs.Flow.{Member, IsRestOf};
+ghost use Rattle.language.specs.Flow.{IsRestOf};
+ghost use Rattle.language.specs.Lists.{Member};
 ghost use Rattle.language.specs.Messages.{Reached, Owes, AreDue, HasOpening, HasOwed, EdgeTo, IsValuationOf};
 ghost use Rattle.language.specs.Messages.{IsMessageTo, ArgumentsFit, IsTakenBy};
 

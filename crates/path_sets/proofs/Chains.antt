@@ -4,7 +4,7 @@ use Rattle.std.proofs.Common.{refl, sym, ap, subst, arith}
 use Rattle.std.proofs.Math.Nat.{pow-le-pow_right}
 use Rattle.std.proofs.lemmas.Bool.{cases_lt}
 use Rattle.std.proofs.lemmas.Nat.{pow_pos}
-use Rattle.language.specs.Flow.{Member}
+use Rattle.language.specs.Lists.{Member}
 use Rattle.path_sets.specs.Suffixes.{Apart, Depends, HasNodes, Prefix, prefix, SameSuffixes}
 use Rattle.path_sets.proofs.Shifted.{next_pow}
 use Rattle.path_sets.proofs.Led.{fits_from, fits_to}

@@ -2,9 +2,8 @@
 use Rattle.std.proofs.Common.{◌≡◌, ℕ, suc, ◌+◌, ◌-◌, ◌*◌, ◌^◌, ◌<◌, ◌≤◌, Bool, true, false, ◌↔◌, inl, inr}
 use Rattle.std.proofs.Common.{List, [], ◌∷◌, Some, length, get_or, refl, sym, ap, ◌∙◌, subst, arith}
 use Rattle.std.proofs.lemmas.Bool.{cases_lt}
-use Rattle.language.specs.Flow.{Member}
+use Rattle.language.specs.Lists.{Member, NoneTwice}
 use Rattle.path_sets.specs.declared.node.Node.{Node}
-use Rattle.path_sets.specs.Triples.{NoneTwice}
 use Rattle.path_sets.specs.Walks.{IsNumber, node_at}
 use Rattle.path_sets.specs.Diagrams.{AreOrdered, AreReduced, GoDown, level_of}
 use Rattle.path_sets.specs.Walks.{StandOnce}

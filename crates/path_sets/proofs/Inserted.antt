@@ -1,7 +1,6 @@
 -- What is in a list with one more item, and how such lists are put together.
 use Rattle.std.proofs.Common.{◌≡◌, ◌+◌, List, [], ◌∷◌, ◌++◌, ◌⊎◌, map, length, inl, inr, refl, sym, arith}
-use Rattle.language.specs.Flow.{Member}
-use Rattle.path_sets.specs.Triples.{NoneTwice}
+use Rattle.language.specs.Lists.{Member, NoneTwice}
 use Rattle.path_sets.specs.Inserts.{Inserts, here, there}
 
 -- what is in the longer list is x, or was there

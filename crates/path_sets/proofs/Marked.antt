@@ -5,9 +5,8 @@ use Rattle.std.proofs.lemmas.Bool.{cases_eq, cases_lt}
 use Rattle.std.proofs.lemmas.List.{get_or-set_same, get_or-set_other, get_or-replicate, get_or_past, length-replicate}
 use Rattle.std.proofs.Math.ListN.{replicate}
 use Rattle.std.proofs.lemmas.Option.{same_Some}
-use Rattle.language.specs.Flow.{Member}
+use Rattle.language.specs.Lists.{Member, NoneTwice}
 use Rattle.path_sets.specs.declared.node.Node.{Node}
-use Rattle.path_sets.specs.Triples.{NoneTwice}
 use Rattle.path_sets.specs.Walks.{IsNumber, node_at}
 use Rattle.path_sets.specs.Diagrams.{AreOrdered, GoDown}
 use Rattle.path_sets.proofs.Canonical.{child_after}

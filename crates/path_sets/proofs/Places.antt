@@ -2,7 +2,7 @@
 use Rattle.std.proofs.Common.{◌≡◌, ℕ, ◌+◌, ◌*◌, ◌<◌, Bool, true, false, ◌&&◌, nat_eq, refl, sym}
 use Rattle.std.proofs.Common.{ap, ap₂, subst, true≢false, eq-eqb, arith}
 use Rattle.std.proofs.lemmas.Map.Views.{exact_unsigned_eq}
-use Rattle.language.specs.Flow.{Member}
+use Rattle.language.specs.Lists.{Member}
 use Rattle.language.proofs.Members.{map_member}
 use Rattle.path_sets.specs.declared.place.Place.{Place}
 use Rattle.path_sets.specs.Edges.{edge_at, edges_in, place_eq}

@@ -4,12 +4,12 @@ use Rattle.std.proofs.Common.{nat_eq, List, [], ◌∷◌, map, filter, length, 
 use Rattle.std.proofs.Common.{refl, sym, ap, ap₂, ◌∙◌, subst, true≢false, eq-eqb}
 use Rattle.std.specs.List.{list_any}
 use Rattle.std.proofs.lemmas.Map.Views.{exact_unsigned_eq}
-use Rattle.language.specs.Flow.{Member}
+use Rattle.language.specs.Lists.{Member, NoneTwice}
 use Rattle.language.proofs.Members.{member_map, map_member}
 use Rattle.path_sets.specs.declared.quad.Quad.{Quad}
 use Rattle.path_sets.specs.declared.place.Place.{Place}
 use Rattle.path_sets.specs.declared.rows.Row.{Row}
-use Rattle.path_sets.specs.Triples.{Triple, triple, NoneTwice}
+use Rattle.path_sets.specs.Triples.{Triple, triple}
 use Rattle.path_sets.specs.Edges.{edges}
 use Rattle.path_sets.specs.Diagrams.{Takes, merged_has}
 use Rattle.path_sets.specs.Members.{below, each, universe, triple_eq, has_edge, all_edges, IsThere}

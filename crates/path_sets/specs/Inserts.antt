@@ -1,6 +1,6 @@
 -- One more item in a list.
 use Rattle.std.specs.Prelude.{◌≡◌, Bool, true, false, List, ◌∷◌}
-use Rattle.language.specs.Flow.{Member}
+use Rattle.language.specs.Lists.{Member}
 
 -- the second list is the first with x put in at one place
 pub data Inserts {A : Type 0} (x : A) : List A → List A → Type 0 where

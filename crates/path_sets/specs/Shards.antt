@@ -1,7 +1,7 @@
 -- The path edges of masks that stand in shards, those of an entry in one.
 use Rattle.std.specs.Prelude.{◌≡◌, ◌<◌, ℕ, zero, suc, nat_eq, List, [], ◌∷◌, ◌++◌, Some, length}
 use Rattle.std.specs.Map.{lookup}
-use Rattle.language.specs.Flow.{Member}
+use Rattle.language.specs.Lists.{Member}
 use Rattle.path_sets.specs.declared.shards.Shard.{Shard}
 use Rattle.path_sets.specs.Edges.{edges}
 use Rattle.path_sets.specs.Triples.{Triple}

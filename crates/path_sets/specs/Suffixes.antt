@@ -1,7 +1,7 @@
 -- The inner nodes of the reduced ordered diagram of a set of valuations, by the set alone (Bryant 1986). A prefix gives the bits of a
 -- valuation below a level, bit 0 first, and a suffix those from the level on.
 use Rattle.std.specs.Prelude.{◌≡◌, ℕ, ◌+◌, ◌*◌, ◌^◌, ◌<◌, ◌↔◌, List, [], ◌∷◌, length}
-use Rattle.language.specs.Flow.{Member}
+use Rattle.language.specs.Lists.{Member}
 
 -- a prefix, whose bits are below 2 ^ level
 pub record Prefix : Type 0 where

@@ -4,10 +4,10 @@ ghost use Rattle.std.specs.Prelude.{◌≡◌, ◌<◌, None, length, IfOk, OnEr
 ghost use Rattle.std.specs.Map.{lookup};
 ghost use Rattle.std.proofs.lemmas.Map.Keys.{IsDistinct-prop};
 ghost use Rattle.indexmap.specs.IndexMap.{IsUnique, keys};
-ghost use Rattle.language.specs.Flow.{Member};
+ghost use Rattle.language.specs.Lists.{Member, NoneTwice, NoneTwice-prop};
 ghost use Rattle.path_sets.specs.Edges.{edge_at, place_eq};
 ghost use Rattle.path_sets.specs.Suffixes.{HasNodes};
-ghost use Rattle.path_sets.specs.Triples.{NoneTwice, NoneTwice-prop, triple};
+ghost use Rattle.path_sets.specs.Triples.{triple};
 ghost use Rattle.path_sets.specs.Members.{all_edges, Covers, Puts};
 
 use crate::gathered::put_all;

@@ -1,7 +1,7 @@
 //! Laws on diagrams.
 
 ghost use Rattle.std.specs.Prelude.{◌≡◌, ◌<◌, ◌≤◌, ◌-◌, ◌^◌, ℕ, List};
-ghost use Rattle.language.specs.Flow.{Member};
+ghost use Rattle.language.specs.Lists.{Member};
 ghost use Rattle.path_sets.specs.declared.node.Node.{Node};
 ghost use Rattle.path_sets.specs.Triples.{Triple, triple};
 ghost use Rattle.path_sets.specs.Walks.{IsNumber};

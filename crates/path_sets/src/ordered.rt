@@ -2,7 +2,7 @@
 
 ghost use Rattle.std.specs.Prelude.{◌≡◌, ◌<◌, ◌≤◌, ℕ, length, nat_eq, None, Some, IfOk};
 ghost use Rattle.std.specs.Map.{lookup};
-ghost use Rattle.path_sets.specs.Triples.{NoneTwice, NoneTwice-prop};
+ghost use Rattle.language.specs.Lists.{NoneTwice, NoneTwice-prop};
 ghost use Rattle.path_sets.specs.Shards.{all_in, edges_at, AreHome, AreThere};
 
 use crate::homes::{Homes, home};

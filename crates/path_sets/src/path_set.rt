@@ -4,8 +4,8 @@ ghost use Rattle.std.specs.Prelude.{◌≡◌, ℕ, ◌+◌, ◌<◌, ◌^◌, �
 ghost use Rattle.std.specs.Prelude.{IsTrue, IfOk, OnOk, OnErr};
 ghost use Rattle.std.specs.Prelude.{if◌then◌else◌};
 ghost use Rattle.std.specs.Bool.{OnTrue, OnFalse};
-ghost use Rattle.language.specs.Flow.{Member};
-ghost use Rattle.path_sets.specs.Triples.{Triple, triple, NoneTwice};
+ghost use Rattle.language.specs.Lists.{Member, NoneTwice};
+ghost use Rattle.path_sets.specs.Triples.{Triple, triple};
 
 use language::{Point, Word};
 use std::alloc::{AllocError, Allocator};

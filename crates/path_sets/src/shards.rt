@@ -3,7 +3,7 @@
 ghost use Rattle.std.specs.Prelude.{◌≡◌, ◌<◌, ◌↔◌, [], IsTrue, IfOk, OnErr};
 ghost use Rattle.std.proofs.lemmas.Map.Keys.{IsDistinct-prop};
 ghost use Rattle.indexmap.specs.IndexMap.{IsUnique, keys};
-ghost use Rattle.language.specs.Flow.{Member};
+ghost use Rattle.language.specs.Lists.{Member};
 ghost use Rattle.path_sets.specs.Edges.{edges, edge_at, place_eq};
 ghost use Rattle.path_sets.specs.Inserts.{Settles};
 

@@ -11,7 +11,7 @@ use Rattle.std.proofs.lemmas.List.{map-append}
 use Rattle.post_ledger.specs.declared.entry.Entry.{Entry}
 use Rattle.post_ledger.specs.declared.entry.Entry.TheVariants.{Posted, Taken, Completed}
 use Rattle.post_ledger.specs.Orders.{own, HasJob}
-use Rattle.language.specs.Flow.{Member}
+use Rattle.language.specs.Lists.{Member}
 use Rattle.language.specs.Step.{Program}
 use Rattle.language.proofs.Members.{member_left, member_right, member_append}
 use Rattle.language.proofs.Entering.{due_there}

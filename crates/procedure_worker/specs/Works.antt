@@ -7,7 +7,7 @@ use Rattle.post_ledger.specs.declared.entry.Entry.{Entry}
 use Rattle.post_ledger.specs.declared.entry.Entry.TheVariants.{Posted}
 use Rattle.ticket_lock.specs.History.{StartsWith}
 use Rattle.language.specs.Step.{Program}
-use Rattle.language.specs.Flow.{Member}
+use Rattle.language.specs.Lists.{Member}
 use Rattle.path_sets.specs.Triples.{Triple}
 use Rattle.flow_graph.specs.declared.graph.Graphs.{Graphs}
 use Rattle.flow_graph.specs.Drawn.{graphs_of}

@@ -8,7 +8,8 @@ use Rattle.language.specs.Rest.{Label, Code, join}
 use Rattle.language.specs.Step.{Routine, Program, AtRoutine, body_of}
 use Rattle.language.specs.Resolve.{routine_of, scope_of, resolve_block}
 use Rattle.language.specs.Sequential.{numbered, numbered_routine, point_of, sequential_of}
-use Rattle.language.specs.Flow.{rests, Member, IsRestOf}
+use Rattle.language.specs.Flow.{rests, IsRestOf}
+use Rattle.language.specs.Lists.{Member}
 use Rattle.language.specs.Messages.{ArgumentsFit}
 use Rattle.language.proofs.Members.{member_append}
 use Rattle.resolved.specs.Narrow.{EachProcedure, width, AllNarrow}

@@ -1,9 +1,8 @@
 -- What is found by keys after one value more was added to a key.
 use Rattle.std.proofs.Common.{◌≡◌, ◌⊎◌, Bool, true, false, List, [], ◌∷◌, ◌++◌, inl, inr, refl, sym, subst, nat_eq}
 use Rattle.std.proofs.lemmas.Map.Views.{exact_unsigned_eq}
-use Rattle.language.specs.Flow.{Member}
+use Rattle.language.specs.Lists.{Member, NoneTwice}
 use Rattle.language.proofs.Members.{member_left, member_right, member_append}
-use Rattle.path_sets.specs.Triples.{NoneTwice}
 use Rattle.summaries.specs.declared.edge.Call.{Call}
 use Rattle.summaries.specs.declared.pair.Pair.{Pair}
 use Rattle.summaries.specs.Found.{call, call_eq, pair, pair_eq}

@@ -2,7 +2,7 @@
 use Rattle.std.proofs.Common.{◌≡◌, ◌⊎◌, ℕ, List, [], ◌∷◌, ◌++◌, false, inl, inr, sym, ap, ◌∙◌, subst}
 use Rattle.std.specs.Prelude.{Vec}
 use Rattle.std.proofs.lemmas.Option.{same_Some}
-use Rattle.language.specs.Flow.{Member}
+use Rattle.language.specs.Lists.{Member}
 use Rattle.path_sets.specs.Triples.{Triple, triple}
 use Rattle.flow_graph.specs.Flows.{entered_by}
 use Rattle.flow_graph.specs.Returns.{resumed}

@@ -9,7 +9,7 @@ use Rattle.std.proofs.Math.Seq.{take-length}
 use Rattle.summaries.proofs.Firsts.{take_more}
 use Rattle.summaries.proofs.Eaches.{each_left, each_last, each_or_last}
 use Rattle.std.proofs.lemmas.Option.{same_Some}
-use Rattle.language.specs.Flow.{Member}
+use Rattle.language.specs.Lists.{Member}
 use Rattle.language.proofs.Members.{member_left, member_right, member_append}
 use Rattle.path_sets.specs.Triples.{Triple, triple}
 use Rattle.summaries.specs.declared.edge.Edge.{Edge}

@@ -1,7 +1,7 @@
 -- Keys that are found in a list, and those that are in it.
 use Rattle.std.proofs.Common.{Bool, ◌≡◌, true, false, List, [], ◌∷◌, inl, inr, refl, sym, ap, ◌∙◌, true≢false, ◌||◌}
 use Rattle.std.specs.List.{list_any}
-use Rattle.language.specs.Flow.{Member}
+use Rattle.language.specs.Lists.{Member}
 
 module _ {K : Type 0} (eq : K → K → Bool) where
   -- a key that is found is in the list, where equal keys are the same

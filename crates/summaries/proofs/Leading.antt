@@ -1,7 +1,7 @@
 -- The step of a table at an edge whose choices lead on.
 use Rattle.std.proofs.Common.{◌≡◌, ◌⊎◌, ℕ, Some, List, inl, refl, sym, subst, slice_get}
 use Rattle.std.specs.Prelude.{Vec}
-use Rattle.language.specs.Flow.{Member}
+use Rattle.language.specs.Lists.{Member}
 use Rattle.path_sets.specs.Triples.{Triple}
 use Rattle.flow_graph.specs.Numbers.{NumberedMessage, GraphReaches, flows}
 use Rattle.flow_graph.specs.declared.flow.Flow.{Flow}

@@ -6,9 +6,8 @@ use Rattle.std.proofs.Common.{Result, Ok, Err, is_ok, arith}
 use Rattle.std.proofs.lemmas.List.{take-append-drop, take-append-le, length-take-le}
 use Rattle.std.specs.List.{list_any}
 use Rattle.std.proofs.lemmas.Map.Views.{exact_unsigned_eq}
-use Rattle.language.specs.Flow.{Member}
+use Rattle.language.specs.Lists.{Member, NoneTwice}
 use Rattle.language.proofs.Members.{member_left, member_right, member_append}
-use Rattle.path_sets.specs.Triples.{NoneTwice}
 use Rattle.summaries.proofs.Keys.{found_is_in, is_found}
 use Rattle.indexmap.specs.IndexSet.{insert_key}
 use Rattle.summaries.specs.declared.due.Caller.{Caller}

@@ -1,7 +1,6 @@
 -- A list with nothing twice is no longer than one that has all its members.
 use Rattle.std.proofs.Common.{◌≡◌, ◌≤◌, ◌+◌, ◌⊎◌, List, [], ◌∷◌, length, inl, inr, refl, sym, ◌∙◌, subst, arith}
-use Rattle.language.specs.Flow.{Member}
-use Rattle.path_sets.specs.Triples.{NoneTwice}
+use Rattle.language.specs.Lists.{Member, NoneTwice}
 
 module _ {A : Type 0} where
   -- the list without one member: shorter by one, with all the others

@@ -1,6 +1,6 @@
 -- A table that is sound and complete, and has nothing pending, has what is reached and what is sent.
 use Rattle.std.proofs.Common.{◌≡◌, ℕ, List, [], inl, inr, subst, sym, refl}
-use Rattle.language.specs.Flow.{Member}
+use Rattle.language.specs.Lists.{Member}
 use Rattle.path_sets.specs.Triples.{Triple, triple}
 use Rattle.flow_graph.specs.Returns.{left}
 use Rattle.flow_graph.specs.Numbers.{NumberedMessage, numbered_entry, numbered_summary, GraphReaches}

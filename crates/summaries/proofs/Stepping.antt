@@ -4,9 +4,9 @@ use Rattle.std.proofs.Common.{inl, inr, refl, sym, ap, subst, nat_eq, arith, Res
 use Rattle.std.specs.Result.{OnOk}
 use Rattle.std.specs.Prelude.{Vec}
 use Rattle.language.specs.Sequential.{Caller, caller}
-use Rattle.language.specs.Flow.{Member}
+use Rattle.language.specs.Lists.{Member, NoneTwice}
 use Rattle.language.proofs.Members.{member_left, member_right, member_append}
-use Rattle.path_sets.specs.Triples.{Triple, triple, NoneTwice}
+use Rattle.path_sets.specs.Triples.{Triple, triple}
 use Rattle.flow_graph.specs.Returns.{left, resumed}
 use Rattle.flow_graph.specs.Numbers.{NumberedMessage, numbered_entry, numbered_summary, GraphReaches, Leaves}
 use Rattle.flow_graph.specs.declared.graph.Graph.{Graph}

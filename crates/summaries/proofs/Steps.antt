@@ -14,7 +14,7 @@ use Rattle.flow_graph.specs.declared.graph.Graphs.{Graphs}
 use Rattle.flow_graph.specs.Drawn.{graphs_of}
 use Rattle.summaries.specs.Fitting.{FitsIn}
 use Rattle.language.specs.Sequential.{starter, caller, Valuation, entry, IsZero, IsDue}
-use Rattle.language.specs.Flow.{Member}
+use Rattle.language.specs.Lists.{Member}
 use Rattle.language.proofs.Members.{member_append}
 use Rattle.language.proofs.Entering.{due_there}
 use Rattle.path_sets.specs.Triples.{Triple}

@@ -3,9 +3,9 @@ use Rattle.std.proofs.Common.{◌≡◌, ℕ, List, Some, None, sym, subst, drop
 use Rattle.std.proofs.lemmas.List.{take-append-drop}
 use Rattle.language.specs.Step.{Program}
 use Rattle.language.specs.Sequential.{IsDue}
-use Rattle.language.specs.Flow.{Member}
+use Rattle.language.specs.Lists.{Member, NoneTwice}
 use Rattle.language.proofs.Members.{member_left}
-use Rattle.path_sets.specs.Triples.{Triple, NoneTwice}
+use Rattle.path_sets.specs.Triples.{Triple}
 use Rattle.flow_graph.specs.Numbers.{NumberedMessage, Sends, IsNumberOf, AreNumbersOfEdge}
 use Rattle.flow_graph.proofs.Taking.{edges_reached, due_sent}
 use Rattle.flow_graph.proofs.Pairs.{edge_numbers}

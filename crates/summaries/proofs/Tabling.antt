@@ -2,7 +2,7 @@
 use Rattle.std.proofs.Common.{◌≡◌, ℕ, Option, Some, None, List, [], ◌∷◌, ◌++◌, inl, refl, sym, subst, take, drop}
 use Rattle.std.specs.Option.{IfSome}
 use Rattle.std.proofs.lemmas.List.{take-append-drop}
-use Rattle.language.specs.Flow.{Member}
+use Rattle.language.specs.Lists.{Member}
 use Rattle.language.proofs.Members.{member_left, member_right}
 use Rattle.path_sets.specs.Triples.{Triple}
 use Rattle.flow_graph.specs.Numbers.{NumberedMessage}

@@ -3,7 +3,7 @@ use Rattle.std.proofs.Common.{◌≡◌, ◌<◌, ◌↔◌, ℕ, nat_eq, zero, 
 use Rattle.std.proofs.lemmas.Option.{none-some, slice_get_within, same_Some}
 use Rattle.language.specs.Step.{Program}
 use Rattle.language.specs.Sequential.{Caller, starter, caller, Valuation, IsDue, Entered, SomeBad}
-use Rattle.language.specs.Flow.{Member}
+use Rattle.language.specs.Lists.{Member}
 use Rattle.language.proofs.Entering.{entered_there}
 use Rattle.language.proofs.Gathered.{pair_exit}
 use Rattle.path_sets.specs.Triples.{Triple, triple}

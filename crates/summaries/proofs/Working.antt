@@ -1,7 +1,7 @@
 -- When an edge is worked on.
 use Rattle.std.proofs.Common.{◌≡◌, ◌≤◌, ℕ, Some, List, length, refl, sym, ◌∙◌, subst, slice_get, arith}
 use Rattle.std.proofs.lemmas.Option.{none-some, same_Some, slice_get_within}
-use Rattle.language.specs.Flow.{Member}
+use Rattle.language.specs.Lists.{Member}
 use Rattle.path_sets.specs.Triples.{Triple, triple}
 use Rattle.flow_graph.specs.Calls.{entry_of}
 use Rattle.flow_graph.specs.Flows.{last_of, next_of, entered_by}

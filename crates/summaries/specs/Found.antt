@@ -1,8 +1,8 @@
 -- What a table holds is reached and sent, and nothing that is reached or sent is left out but by what is pending.
 use Rattle.std.specs.Prelude.{◌≡◌, ◌≤◌, ◌⊎◌, ◌↔◌, ◌&&◌, ℕ, Bool, List, [], Some, nat_eq, slice_get, take}
 use Rattle.language.specs.Sequential.{Caller, caller}
-use Rattle.language.specs.Flow.{Member}
-use Rattle.path_sets.specs.Triples.{Triple, triple, NoneTwice}
+use Rattle.language.specs.Lists.{Member, NoneTwice}
+use Rattle.path_sets.specs.Triples.{Triple, triple}
 use Rattle.flow_graph.specs.Drawn.{flows_of, globals_of, start_of}
 use Rattle.flow_graph.specs.Flows.{last_of, next_of, entered_by}
 use Rattle.flow_graph.specs.Returns.{left, resumed}

@@ -1,7 +1,7 @@
 -- Path edges that are added, and stand pending.
 use Rattle.std.specs.Prelude.{◌≡◌, ◌≤◌, ◌<◌, ℕ, Option, Some, Result, Err, OnOk, List, ◌⊎◌}
 use Rattle.std.specs.Prelude.{◌++◌, length, ◌+◌, slice_get}
-use Rattle.language.specs.Flow.{Member}
+use Rattle.language.specs.Lists.{Member}
 use Rattle.path_sets.specs.Triples.{Triple, triple}
 use Rattle.flow_graph.specs.Drawn.{flows_of, globals_of}
 use Rattle.flow_graph.specs.Flows.{last_of, next_of, entered_by}

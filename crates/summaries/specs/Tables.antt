@@ -1,8 +1,8 @@
 -- What the table of one procedure promises, of which the path edges kept are listed by `members`.
 use Rattle.std.specs.Prelude.{◌≡◌, ◌≤◌, ◌<◌, ◌⊎◌, ◌↔◌, ◌+◌, ◌-◌, ◌*◌, ◌++◌, ◌∷◌}
 use Rattle.std.specs.Prelude.{ℕ, Option, Some, None, Result, Ok, Err, OnOk, List, [], length}
-use Rattle.language.specs.Flow.{Member}
-use Rattle.path_sets.specs.Triples.{Triple, triple, NoneTwice}
+use Rattle.language.specs.Lists.{Member, NoneTwice}
+use Rattle.path_sets.specs.Triples.{Triple, triple}
 use Rattle.flow_graph.specs.Drawn.{callee_of, entered_from, globals_of}
 use Rattle.flow_graph.specs.Returns.{left}
 use Rattle.flow_graph.specs.declared.call.Call.{Call}

@@ -1,8 +1,8 @@
 -- What the summaries of a program say: the valuations with which its procedures are entered, and their pairs.
 use Rattle.std.specs.Prelude.{◌≡◌, ◌<◌, ◌⊎◌, ◌↔◌, ℕ, true, Some, List, [], ◌∷◌, length, slice_get}
 use Rattle.language.specs.Step.{Program}
-use Rattle.language.specs.Flow.{Member}
-use Rattle.path_sets.specs.Triples.{NoneTwice, Triple}
+use Rattle.language.specs.Lists.{Member, NoneTwice}
+use Rattle.path_sets.specs.Triples.{Triple}
 use Rattle.flow_graph.specs.Bits.{bit_of}
 use Rattle.flow_graph.specs.Numbers.{IsNumberOfEntry, AreNumbersOfEdge, AreNumbersOfPair}
 use Rattle.summaries.specs.declared.pair.Pair.{Pair}

@@ -2,7 +2,7 @@
 use Rattle.std.specs.Prelude.{◌≡◌, ◌<◌, ◌⊎◌, ◌↔◌, ℕ, nat_eq, Option, Some, None, List, length, map, slice_get}
 use Rattle.language.specs.Step.{Program}
 use Rattle.language.specs.Sequential.{IsDue}
-use Rattle.language.specs.Flow.{Member}
+use Rattle.language.specs.Lists.{Member}
 use Rattle.language.specs.Messages.{ArgumentsFit}
 use Rattle.path_sets.specs.Triples.{Triple}
 use Rattle.flow_graph.specs.Graphs.{IsInTextOrder, IsGraph, AreDrawnFrom}

@@ -3,8 +3,7 @@
 ghost use Rattle.std.specs.Prelude.{◌≡◌, ◌≤◌, ◌<◌, ◌^◌, ◌∷◌, [], ◌++◌, length};
 ghost use Rattle.std.specs.Prelude.{OnOk, OnErr, IfSome, IfNone};
 ghost use Rattle.std.specs.Bool.{OnTrue, OnFalse};
-ghost use Rattle.language.specs.Flow.{Member};
-ghost use Rattle.path_sets.specs.Triples.{NoneTwice, NoneTwice-prop};
+ghost use Rattle.language.specs.Lists.{Member, NoneTwice, NoneTwice-prop};
 ghost use Rattle.summaries.specs.Grows.{Gives};
 ghost use Rattle.summaries.specs.Mails.{mail};
 

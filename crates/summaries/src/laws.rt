@@ -3,7 +3,7 @@
 ghost use Rattle.std.specs.Prelude.{◌≡◌, ◌<◌, ℕ, Some, None, List, length};
 ghost use Rattle.language.specs.Step.{Program};
 ghost use Rattle.language.specs.Sequential.{IsDue};
-ghost use Rattle.language.specs.Flow.{Member};
+ghost use Rattle.language.specs.Lists.{Member};
 ghost use Rattle.path_sets.specs.Triples.{Triple};
 ghost use Rattle.flow_graph.specs.Numbers.{NumberedMessage, IsNumberOf, AreNumbersOfEdge};
 ghost use Rattle.flow_graph.specs.declared.graph.Graph.{Graph};

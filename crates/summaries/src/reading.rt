@@ -1,7 +1,7 @@
 //! What tables found, as summaries.
 
 ghost use Rattle.std.specs.Prelude.{◌≡◌, ◌↔◌, ℕ, length, IfOk, nat_eq};
-ghost use Rattle.language.specs.Flow.{Member};
+ghost use Rattle.language.specs.Lists.{Member};
 ghost use Rattle.summaries.specs.declared.due.Caller.{Caller};
 ghost use Rattle.summaries.specs.declared.pair.Pair.{Pair};
 ghost use Rattle.summaries.specs.Under.{under};

@@ -1,8 +1,7 @@
 //! An exit whose callers are known.
 
 ghost use Rattle.std.specs.Prelude.{◌≡◌, OnOk};
-ghost use Rattle.language.specs.Flow.{Member};
-ghost use Rattle.path_sets.specs.Triples.{NoneTwice};
+ghost use Rattle.language.specs.Lists.{Member, NoneTwice};
 ghost use Rattle.summaries.specs.declared.given.Mail.{Mail};
 ghost use Rattle.summaries.specs.Grows.{AddsOnly, Gives, Each, IsTold};
 

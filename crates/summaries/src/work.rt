@@ -1,7 +1,7 @@
 //! The work of a table: on an edge, and on a message that comes.
 
 ghost use Rattle.std.specs.Prelude.{◌≡◌, ◌≤◌, length, OnOk, slice_get, Some};
-ghost use Rattle.language.specs.Flow.{Member};
+ghost use Rattle.language.specs.Lists.{Member};
 ghost use Rattle.flow_graph.specs.Drawn.{flows_of};
 ghost use Rattle.flow_graph.specs.declared.flow.Flow.TheVariants as flow;
 ghost use Rattle.summaries.specs.declared.due.Due.TheVariants.{Entry, Summary};

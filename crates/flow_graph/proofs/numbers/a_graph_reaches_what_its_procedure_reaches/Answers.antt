@@ -1,5 +1,5 @@
 use Rattle.std.proofs.Common.{map}
-use Rattle.language.specs.Flow.{Member}
+use Rattle.language.specs.Lists.{Member}
 use Rattle.flow_graph.specs.Numbers.{by_numbers}
 use Rattle.flow_graph.proofs.Reaching.{reaches_numbers}
 use Rattle.language.proofs.Members.{member_map, map_member}

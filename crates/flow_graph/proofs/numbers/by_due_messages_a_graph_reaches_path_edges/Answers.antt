@@ -1,4 +1,4 @@
-use Rattle.language.specs.Flow.{Member}
+use Rattle.language.specs.Lists.{Member}
 use Rattle.flow_graph.proofs.Taking.{edges_reached}
 use Rattle.flow_graph.proofs.numbers.by_due_messages_a_graph_reaches_path_edges.Goals as goal
 

@@ -1,4 +1,4 @@
-use Rattle.language.specs.Flow.{Member}
+use Rattle.language.specs.Lists.{Member}
 use Rattle.flow_graph.proofs.Taking.{due_sent}
 use Rattle.flow_graph.proofs.numbers.by_due_messages_a_graph_sends_due_messages.Goals as goal
 

@@ -1,4 +1,4 @@
-use Rattle.language.specs.Flow.{Member}
+use Rattle.language.specs.Lists.{Member}
 use Rattle.flow_graph.proofs.Holding.{reaches_more, sends_more}
 use Rattle.flow_graph.proofs.numbers.more_messages_lead_a_graph_further.Goals as goal
 

@@ -1,4 +1,4 @@
-use Rattle.language.specs.Flow.{Member}
+use Rattle.language.specs.Lists.{Member}
 use Rattle.flow_graph.proofs.Holding.{reaches_wide}
 use Rattle.flow_graph.proofs.numbers.what_a_graph_reaches_has_its_widths.Goals as goal
 

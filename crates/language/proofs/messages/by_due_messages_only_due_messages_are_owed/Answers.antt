@@ -1,4 +1,4 @@
-use Rattle.language.specs.Flow.{Member}
+use Rattle.language.specs.Lists.{Member}
 use Rattle.language.proofs.Sound.{owed_due}
 use Rattle.language.proofs.messages.by_due_messages_only_due_messages_are_owed.Goals as goal
 

@@ -1,4 +1,4 @@
-use Rattle.language.specs.Flow.{Member}
+use Rattle.language.specs.Lists.{Member}
 use Rattle.language.proofs.Gathered.{reached_edge}
 use Rattle.language.proofs.messages.by_due_messages_only_path_edges_are_reached.Goals as goal
 

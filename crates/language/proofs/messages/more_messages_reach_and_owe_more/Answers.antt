@@ -1,4 +1,4 @@
-use Rattle.language.specs.Flow.{Member}
+use Rattle.language.specs.Lists.{Member}
 use Rattle.language.proofs.ByMessages.{reached_more, owed_more}
 use Rattle.language.proofs.messages.more_messages_reach_and_owe_more.Goals as goal
 

@@ -1,4 +1,4 @@
-use Rattle.language.specs.Flow.{Member}
+use Rattle.language.specs.Lists.{Member}
 use Rattle.language.proofs.ByMessages.{reached_entry}
 use Rattle.language.proofs.messages.what_is_reached_has_an_entry.Goals as goal
 

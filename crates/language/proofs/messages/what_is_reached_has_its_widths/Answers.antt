@@ -1,4 +1,4 @@
-use Rattle.language.specs.Flow.{Member}
+use Rattle.language.specs.Lists.{Member}
 use Rattle.language.specs.Sequential.{entry}
 use Rattle.language.proofs.ByMessages.{reached_entry}
 use Rattle.language.proofs.Widths.{reached_valuation}

@@ -1,4 +1,4 @@
-use Rattle.language.specs.Flow.{Member}
+use Rattle.language.specs.Lists.{Member}
 use Rattle.language.proofs.ByMessages.{reached_stands}
 use Rattle.language.proofs.messages.what_is_reached_stands_in_its_body.Goals as goal
 

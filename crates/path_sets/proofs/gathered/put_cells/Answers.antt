@@ -1,5 +1,5 @@
 use Rattle.std.proofs.Common.{◌≡◌, ℕ}
-use Rattle.language.specs.Flow.{Member}
+use Rattle.language.specs.Lists.{Member}
 use Rattle.path_sets.specs.declared.place.Place.{Place}
 use Rattle.path_sets.specs.Edges.{edges}
 use Rattle.path_sets.specs.Diagrams.{row_of, Takes}

@@ -1,4 +1,4 @@
-use Rattle.language.specs.Flow.{Member}
+use Rattle.language.specs.Lists.{Member}
 use Rattle.path_sets.specs.Triples.{triple}
 use Rattle.path_sets.proofs.Unique.{one_count}
 use Rattle.path_sets.proofs.laws.members_have_one_count.Goals as goal

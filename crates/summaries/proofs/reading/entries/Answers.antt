@@ -4,7 +4,7 @@ use Rattle.std.specs.List.{filter, IsDistinct}
 use Rattle.std.proofs.lemmas.List.{append-nil, take_all}
 use Rattle.std.proofs.lemmas.List.Elements.{filter_more}
 use Rattle.indexmap.specs.IndexMap.{keys}
-use Rattle.language.specs.Flow.{Member}
+use Rattle.language.specs.Lists.{Member}
 use Rattle.summaries.specs.Under.{under}
 use Rattle.summaries.proofs.Ascending.{has_any, numbers_ascend, nat_eq_flips, still_distinct, same_members, member_filter, distinct_filter, keys_with_values}
 use Rattle.summaries.proofs.reading.entries.Given.{Over}

@@ -1,7 +1,7 @@
 -- The pairs, each once, are sorted.
 use Rattle.std.proofs.Common.{◌↔◌, sym, ◌∙◌, subst}
 use Rattle.std.specs.List.{IsDistinct}
-use Rattle.language.specs.Flow.{Member}
+use Rattle.language.specs.Lists.{Member}
 use Rattle.summaries.proofs.Ascending.{pairs_ascend, pair_eq, pair_eq_flips, still_distinct, same_members}
 use Rattle.summaries.proofs.reading.pairs.Goals as goal
 

@@ -1,5 +1,5 @@
 use Rattle.std.proofs.Common.{length, ap, sym, ◌∙◌, subst, inl, inr}
-use Rattle.language.specs.Flow.{Member}
+use Rattle.language.specs.Lists.{Member}
 use Rattle.path_sets.specs.Edges.{edges}
 use Rattle.path_sets.proofs.Covered.{covers_none, covers_on}
 use Rattle.path_sets.proofs.Universe.{all_none_twice, members_stay}

@@ -1,5 +1,5 @@
 use Rattle.std.proofs.Common.{ap, sym, ◌∙◌, ◌+◌, ◌*◌, inl, inr, subst, refl, arith}
-use Rattle.language.specs.Flow.{Member}
+use Rattle.language.specs.Lists.{Member}
 use Rattle.path_sets.specs.Edges.{edges}
 use Rattle.path_sets.specs.Triples.{Triple, triple}
 use Rattle.path_sets.specs.Diagrams.{merged_has}

@@ -4,12 +4,12 @@ use Rattle.std.specs.Map.{lookup}
 use Rattle.std.proofs.lemmas.List.{length-set}
 use Rattle.std.proofs.lemmas.Option.{slice_get_read}
 use Rattle.std.proofs.lemmas.Bool.{OnFalse_from, OnTrue_from}
-use Rattle.language.specs.Flow.{Member}
+use Rattle.language.specs.Lists.{Member, NoneTwice}
 use Rattle.path_sets.specs.Edges.{edge_at, edges}
 use Rattle.path_sets.specs.Inserts.{Inserts, Settles}
 use Rattle.path_sets.specs.declared.shards.Shard.{Shard}
 use Rattle.path_sets.specs.Shards.{all_in, AreHome, AreThere}
-use Rattle.path_sets.specs.Triples.{NoneTwice, Triple, triple}
+use Rattle.path_sets.specs.Triples.{Triple, triple}
 use Rattle.path_sets.proofs.Inserted.{is_new_or_old, is_in, stays_in, one_longer, still_none_twice}
 use Rattle.path_sets.proofs.Sharded.{at_error, home_same, home_stays, same_all, settles_all}
 use Rattle.path_sets.proofs.ordered.OrderedEdgesPathSet.insert.Given as given

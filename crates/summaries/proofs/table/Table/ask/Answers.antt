@@ -3,7 +3,7 @@ use Rattle.std.proofs.lemmas.Result.{IfOk-weaker}
 use Rattle.path_sets.specs.Triples.{Triple}
 use Rattle.flow_graph.specs.Flows.{entered_by}
 use Rattle.flow_graph.specs.declared.flow.Flow.TheVariants as flow
-use Rattle.language.specs.Flow.{Member}
+use Rattle.language.specs.Lists.{Member}
 use Rattle.language.specs.Sequential.{caller}
 use Rattle.flow_graph.specs.Numbers.{numbered_entry}
 use Rattle.summaries.specs.Under.{under}

@@ -1,6 +1,6 @@
 use Rattle.std.proofs.Common.{◌≡◌, nat_eq, Err, inl, inr, refl, sym, ap, ◌∙◌, subst}
-use Rattle.language.specs.Flow.{Member}
-use Rattle.path_sets.specs.Triples.{triple, NoneTwice}
+use Rattle.language.specs.Lists.{Member, NoneTwice}
+use Rattle.path_sets.specs.Triples.{triple}
 use Rattle.summaries.specs.Found.{TookDue}
 use Rattle.summaries.specs.Under.{under}
 use Rattle.summaries.specs.Grows.{Gives, Each, IsTold}

@@ -1,6 +1,6 @@
 use Rattle.std.proofs.Common.{◌⊎◌, inr, refl, sym, subst}
 use Rattle.std.proofs.lemmas.Result.{IfOk-weaker}
-use Rattle.language.specs.Flow.{Member}
+use Rattle.language.specs.Lists.{Member}
 use Rattle.path_sets.specs.Triples.{Triple}
 use Rattle.summaries.specs.Grows.{Grows, Each, IsBehind}
 use Rattle.summaries.proofs.Ending.{ended_also, end_only, end_step, ended_reached}

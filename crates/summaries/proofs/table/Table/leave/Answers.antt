@@ -1,7 +1,7 @@
 use Rattle.std.proofs.Common.{◌≡◌, ◌∷◌, [], nat_eq, true, inl, refl, sym, subst}
-use Rattle.language.specs.Flow.{Member}
+use Rattle.language.specs.Lists.{Member, NoneTwice}
 use Rattle.language.proofs.Members.{member_right}
-use Rattle.path_sets.specs.Triples.{triple, NoneTwice}
+use Rattle.path_sets.specs.Triples.{triple}
 use Rattle.summaries.proofs.Keys.{found_is_in}
 use Rattle.summaries.specs.declared.found.Found.{Found}
 use Rattle.summaries.specs.Under.{under}

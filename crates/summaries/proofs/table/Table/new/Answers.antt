@@ -1,6 +1,6 @@
 use Rattle.std.proofs.Common.{length, refl, sym, ap, ◌∙◌, subst, arith}
 use Rattle.std.proofs.lemmas.Option.{none-some}
-use Rattle.language.specs.Flow.{Member}
+use Rattle.language.specs.Lists.{Member}
 use Rattle.summaries.proofs.Mails.{answers_none}
 use Rattle.summaries.proofs.Stepping.{no_message, empty_grounded, empty_complete}
 use Rattle.summaries.proofs.Tabling.{quiet_table}

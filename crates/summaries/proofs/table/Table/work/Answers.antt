@@ -1,6 +1,6 @@
 use Rattle.std.proofs.Common.{◌≡◌, ◌≤◌, length, nat_eq, Some, slice_get, sym, ap, ◌∙◌, subst, arith}
 use Rattle.std.proofs.lemmas.Result.{IfOk-weaker}
-use Rattle.language.specs.Flow.{Member}
+use Rattle.language.specs.Lists.{Member}
 use Rattle.flow_graph.specs.Numbers.{GraphReaches}
 use Rattle.flow_graph.specs.Returns.{left}
 use Rattle.flow_graph.specs.declared.flow.Flow.TheVariants.{Call}
