@@ -10,6 +10,7 @@ use Rattle.round_rewrite.specs.declared.rounds.Rounds.{Rounds}
 abbrev pub last_round : Rounds → ℕ
 last_round r = r.last
 
--- The fault that is answered for a tree: its rewriting is too wide, and then it is, or memory ran out, and then it is not.
+-- The fault that is answered for a tree: its rewriting is too wide, and then it is, or memory ran out, and then it is
+-- not.
 abbrev pub IsFaultOf : ℕ → Tree → RewriteFault → Type 0
 IsFaultOf last t f = ((f ≡ fault.TooWide) × (IsNarrow last t → ⊥)) ⊎ ((f ≡ fault.Memory) × IsNarrow last t)
