@@ -1,13 +1,16 @@
 -- The rewritten assignment: draw, spread over the copies, write.
-use Rattle.std.proofs.Common.{◌≡◌, ℕ, zero, suc, ◌+◌, ◌*◌, ◌<◌, ◌≤◌, Bool, false, not, ◌&&◌, ◌||◌, List, [], ◌∷◌, ◌++◌, length, map, refl, sym, ◌∙◌, ap, subst, ap₂, arith, inl, inr}
+use Rattle.std.proofs.Common.{◌≡◌, ℕ, zero, suc, ◌+◌, ◌*◌, ◌<◌, ◌≤◌, Bool, false, not, ◌&&◌, ◌||◌, List, [], ◌∷◌, ◌++◌, length, map, refl}
+use Rattle.std.proofs.Common.{sym, ◌∙◌, ap, subst, ap₂, arith, inl, inr}
 use Rattle.std.proofs.lemmas.Bool.{cases_eq}
 use Rattle.std.proofs.lemmas.List.{get_or-set_same, get_or-set_other, length-set, set-append_left}
 use Rattle.language.specs.Tree.{Expression, var, RightSide, any, value}
-use Rattle.language.specs.Value.{Place, global, local, bit, with_bit, look_up, value_of, IsValue, AreValues, written_globals, written_locals}
+use Rattle.language.specs.Value.{Place, global, local, bit, with_bit, look_up, value_of, IsValue, AreValues, written_globals}
+use Rattle.language.specs.Value.{written_locals}
 use Rattle.round_rewrite.specs.Table.{numbers, in_round, expression, written, targets, sides, draws, each}
 use Rattle.round_rewrite.specs.Places.{places, is_global}
 use Rattle.resolved.specs.Scoped.{PlaceInScope, PlacesInScope, SideInScope, SidesInScope}
-use Rattle.round_rewrite.proofs.Laid.{row, with_row, row_bit, row_with, with_own, with_right, length-with_row, long-with_row, bit_right, bits_of, lay, Shape}
+use Rattle.round_rewrite.proofs.Laid.{row, with_row, row_bit, row_with, with_own, with_right, length-with_row, long-with_row, bit_right}
+use Rattle.round_rewrite.proofs.Laid.{bits_of, lay, Shape}
 use Rattle.round_rewrite.proofs.Translate.{same, same_refl, same_false, at_is, expression_is, or_false}
 use Rattle.round_rewrite.specs.Limits.{most_rounds}
 
@@ -47,7 +50,8 @@ length-drawn (suc d) j (t ∷ ts) tmp = length-drawn d (suc j) ts (with_bit tmp 
 bit-drawn : (d j : ℕ) (ts tmp : List Bool) (i : ℕ) → i < j → bit (drawn_to d j ts tmp) i ≡ bit tmp i
 bit-drawn zero j ts tmp i h = refl
 bit-drawn (suc d) j [] tmp i h = refl
-bit-drawn (suc d) j (t ∷ ts) tmp i h = bit-drawn d (suc j) ts (with_bit tmp j t) i (omega arith) ∙ get_or-set_other tmp j i t false (omega arith)
+bit-drawn (suc d) j (t ∷ ts) tmp i h = bit-drawn d (suc j) ts (with_bit tmp j t) i (omega arith)
+    ∙ get_or-set_other tmp j i t false (omega arith)
 
 -- the values of the `?` with a global target
 pub picks : List Place → List (RightSide Place) → List Bool → List Bool
@@ -69,7 +73,8 @@ Picked j (global i ∷ xs) (value e ∷ rs) (v ∷ vs) tmp = Picked j xs rs vs t
 Picked j (local i ∷ xs) (any ∷ rs) (v ∷ vs) tmp = Picked j xs rs vs tmp
 Picked j (local i ∷ xs) (value e ∷ rs) (v ∷ vs) tmp = Picked j xs rs vs tmp
 
-pub picked : (g l : List Bool) (j : ℕ) (xs : List Place) (rs : List (RightSide Place)) (vs tmp : List Bool) → AreValues g l rs vs → j + draws is_global xs rs ≤ length tmp → Picked j xs rs vs (drawn_to (draws is_global xs rs) j (picks xs rs vs) tmp)
+pub picked : (g l : List Bool) (j : ℕ) (xs : List Place) (rs : List (RightSide Place)) (vs tmp : List Bool) → AreValues g l rs vs
+    → j + draws is_global xs rs ≤ length tmp → Picked j xs rs vs (drawn_to (draws is_global xs rs) j (picks xs rs vs) tmp)
 unfolding picks
 picked g l j [] rs vs tmp a h = tt
 picked g l j (x ∷ xs) [] vs tmp a h = tt
@@ -77,14 +82,16 @@ picked g l j (x ∷ xs) (r ∷ rs) [] tmp a h = absurd a
 picked g l j (global i ∷ xs) (any ∷ rs) (v ∷ vs) tmp a h =
     let room : j + suc (draws is_global xs rs) ≤ length tmp = h in
     let e : length (with_bit tmp j v) ≡ length tmp = length-set tmp j v in (
-      bit-drawn (draws is_global xs rs) (suc j) (picks xs rs vs) (with_bit tmp j v) j (omega arith) ∙ get_or-set_same tmp j v false (omega arith),
+      bit-drawn (draws is_global xs rs) (suc j) (picks xs rs vs) (with_bit tmp j v) j (omega arith)
+          ∙ get_or-set_same tmp j v false (omega arith),
       picked g l (suc j) xs rs vs (with_bit tmp j v) a.1 (omega arith),
     )
 picked g l j (global i ∷ xs) (value e ∷ rs) (v ∷ vs) tmp a h = picked g l j xs rs vs tmp a.1 h
 picked g l j (local i ∷ xs) (any ∷ rs) (v ∷ vs) tmp a h = picked g l j xs rs vs tmp a.1 h
 picked g l j (local i ∷ xs) (value e ∷ rs) (v ∷ vs) tmp a h = picked g l j xs rs vs tmp a.1 h
 
-pub any_are : (X L g l : List Bool) (j : ℕ) (xs : List Place) (rs : List (RightSide Place)) (vs : List Bool) → AreValues g l rs vs → AreValues X L (each any (numbers j (draws is_global xs rs))) (picks xs rs vs)
+pub any_are : (X L g l : List Bool) (j : ℕ) (xs : List Place) (rs : List (RightSide Place)) (vs : List Bool) → AreValues g l rs vs
+    → AreValues X L (each any (numbers j (draws is_global xs rs))) (picks xs rs vs)
 unfolding picks
 any_are X L g l j [] rs vs a = tt
 any_are X L g l j (x ∷ xs) [] vs a = tt
@@ -94,12 +101,17 @@ any_are X L g l j (global i ∷ xs) (value e ∷ rs) (v ∷ vs) a = any_are X L 
 any_are X L g l j (local i ∷ xs) (any ∷ rs) (v ∷ vs) a = any_are X L g l j xs rs vs a.1
 any_are X L g l j (local i ∷ xs) (value e ∷ rs) (v ∷ vs) a = any_are X L g l j xs rs vs a.1
 
-pub drawn_writes : (X l tmp : List Bool) (own d j : ℕ) (ts : List Bool) → length l ≡ own → (written_globals (map (λ k. local (own + k)) (numbers j d)) ts X ≡ X) × (written_locals (map (λ k. local (own + k)) (numbers j d)) ts (l ++ tmp) ≡ l ++ drawn_to d j ts tmp)
+pub drawn_writes : (X l tmp : List Bool) (own d j : ℕ) (ts : List Bool) → length l ≡ own
+    → (written_globals (map (λ k. local (own + k)) (numbers j d)) ts X ≡ X)
+    × (written_locals (map (λ k. local (own + k)) (numbers j d)) ts (l ++ tmp) ≡ l ++ drawn_to d j ts tmp)
 drawn_writes X l tmp own zero j ts e = (refl, refl)
 drawn_writes X l tmp own (suc d) j [] e = (refl, refl)
 drawn_writes X l tmp own (suc d) j (t ∷ ts) e =
-    let ih = drawn_writes X l (with_bit tmp j t) own d (suc j) ts e in
-    (ih.0, ap (written_locals (map (λ k. local (own + k)) (numbers (suc j) d)) ts) (with_right l tmp (own + j) j t (ap (λ z. z + j) (sym e))) ∙ ih.1)
+    let ih = drawn_writes X l (with_bit tmp j t) own d (suc j) ts e in (
+      ih.0,
+      ap (written_locals (map (λ k. local (own + k)) (numbers (suc j) d)) ts) (with_right l tmp (own + j) j t (ap (λ z. z + j) (sym e)))
+          ∙ ih.1,
+    )
 
 module _ (n last own : ℕ) (C S : List (List Bool)) (q : ℕ) (s b : Bool) (shape : Shape n last C S)
     (small : last < most_rounds) (within : q ≤ last) (l tmp : List Bool) (el : length l ≡ own) where
@@ -110,24 +122,31 @@ module _ (n last own : ℕ) (C S : List (List Bool)) (q : ℕ) (s b : Bool) (sha
   spread : ℕ → Bool → ℕ → Bool
   spread i v k = (same k q && v) || (not (same k q) && bit (row C k) i)
 
-  written_is : (d : Expression Place) (v : Bool) (i k : ℕ) → i < n → k ≤ last → value_of X (l ++ tmp) d ≡ v → (u : Bool) → IsValue X (l ++ tmp) (written (places n last own) last d (global i) k) u ≡ (u ≡ spread i v k)
+  written_is : (d : Expression Place) (v : Bool) (i k : ℕ) → i < n → k ≤ last → value_of X (l ++ tmp) d ≡ v → (u : Bool)
+      → IsValue X (l ++ tmp) (written (places n last own) last d (global i) k) u ≡ (u ≡ spread i v k)
   unfolding spread
   written_is d v i k hi hk ed u =
       let e : value_of (lay C S (bits_of q s b)) (l ++ tmp) (in_round (places n last own) last k) ≡ same k q =
       at_is n last own C S q s b (l ++ tmp) shape small within k hk in
-      let c : bit (lay C S (bits_of q s b)) (k * n + i) ≡ bit (row C k) i = row_bit n C _ k i shape.copies (let z : length C ≡ suc last = shape.rounds in omega arith) hi in
+      let c : bit (lay C S (bits_of q s b)) (k * n + i) ≡ bit (row C k) i =
+      row_bit n C _ k i shape.copies (let z : length C ≡ suc last = shape.rounds in omega arith) hi in
       λ z. u ≡ ((e z && ed z) || (not (e z) && c z))
 
   abbrev Below : List ℕ → Type 0
   Below [] = Unit {0}
   Below (k ∷ ks) = (k ≤ last) × Below ks
 
-  spread_are : (d : Expression Place) (v : Bool) (i : ℕ) → i < n → value_of X (l ++ tmp) d ≡ v → (ks : List ℕ) → Below ks → (rs : List (RightSide Place)) (ws : List Bool) → AreValues X (l ++ tmp) rs ws → AreValues X (l ++ tmp) (map (written (places n last own) last d (global i)) ks ++ rs) (map (spread i v) ks ++ ws)
+  spread_are : (d : Expression Place) (v : Bool) (i : ℕ) → i < n → value_of X (l ++ tmp) d ≡ v → (ks : List ℕ) → Below ks
+      → (rs : List (RightSide Place)) (ws : List Bool) → AreValues X (l ++ tmp) rs ws
+      → AreValues X (l ++ tmp) (map (written (places n last own) last d (global i)) ks ++ rs) (map (spread i v) ks ++ ws)
   spread_are d v i hi ed [] below rs ws a = a
   spread_are d v i hi ed (k ∷ ks) below rs ws a =
       (subst (λ T. T) (sym (written_is d v i k hi below.0 ed (spread i v k))) refl, spread_are d v i hi ed ks below.1 rs ws a)
 
-  spread_back : (d : Expression Place) (v : Bool) (i : ℕ) → i < n → value_of X (l ++ tmp) d ≡ v → (ks : List ℕ) → Below ks → (rs : List (RightSide Place)) (ws : List Bool) → AreValues X (l ++ tmp) (map (written (places n last own) last d (global i)) ks ++ rs) ws → (us : List Bool) × (ws ≡ map (spread i v) ks ++ us) × AreValues X (l ++ tmp) rs us
+  spread_back : (d : Expression Place) (v : Bool) (i : ℕ) → i < n → value_of X (l ++ tmp) d ≡ v → (ks : List ℕ) → Below ks
+      → (rs : List (RightSide Place)) (ws : List Bool)
+      → AreValues X (l ++ tmp) (map (written (places n last own) last d (global i)) ks ++ rs) ws
+      → (us : List Bool) × (ws ≡ map (spread i v) ks ++ us) × AreValues X (l ++ tmp) rs us
   spread_back d v i hi ed [] below rs ws a = (ws, refl, a)
   spread_back d v i hi ed (k ∷ ks) below rs [] a = absurd a
   spread_back d v i hi ed (k ∷ ks) below rs (w ∷ ws) a =
@@ -142,13 +161,19 @@ module _ (n last own : ℕ) (C S : List (List Bool)) (q : ℕ) (s b : Bool) (sha
   all_below = below_all 0 (suc last) (omega arith)
 
   -- one write to a copy: only that of the round changes
-  spread_one : (h : List Bool) (i : ℕ) (v : Bool) (k : ℕ) → length h ≡ n → i < n → k ≤ last → (k ≡ q → with_bit (lay (with_row C q h) S (bits_of q s b)) (k * n + i) (spread i v k) ≡ lay (with_row C q (with_bit h i v)) S (bits_of q s b)) × ((k ≡ q → ⊥) → with_bit (lay (with_row C q h) S (bits_of q s b)) (k * n + i) (spread i v k) ≡ lay (with_row C q h) S (bits_of q s b))
+  spread_one : (h : List Bool) (i : ℕ) (v : Bool) (k : ℕ) → length h ≡ n → i < n → k ≤ last
+      → (k ≡ q
+      → with_bit (lay (with_row C q h) S (bits_of q s b)) (k * n + i) (spread i v k)
+      ≡ lay (with_row C q (with_bit h i v)) S (bits_of q s b))
+      × ((k ≡ q → ⊥)
+      → with_bit (lay (with_row C q h) S (bits_of q s b)) (k * n + i) (spread i v k) ≡ lay (with_row C q h) S (bits_of q s b))
   unfolding spread
   spread_one h i v k eh hi hk =
       let D : List (List Bool) = with_row C q h in
       let lc : length C ≡ suc last = shape.rounds in
       let ld : length D ≡ length C = length-with_row C q h in
-      let write : (u : Bool) → with_bit (lay D S (bits_of q s b)) (k * n + i) u ≡ lay (with_row D k (with_bit (row D k) i u)) S (bits_of q s b) =
+      let write : (u : Bool) → with_bit (lay D S (bits_of q s b)) (k * n + i) u ≡ lay (with_row D k (with_bit (row D k) i u)) S
+      (bits_of q s b) =
       λ u. row_with n D _ k i u (long-with_row n C q h shape.copies eh) (omega arith) hi in (
         (λ e.
             let w1 : with_row D k (with_bit (row D k) i v) ≡ with_row C q (with_bit h i v) =
@@ -159,34 +184,46 @@ module _ (n last own : ℕ) (C S : List (List Bool)) (q : ℕ) (s b : Bool) (sha
             ap (with_bit (lay D S (bits_of q s b)) (k * n + i)) new ∙ (write v ∙ ap (λ z. lay z S (bits_of q s b)) w1)),
         (λ ne.
             let old : ((same k q && v) || (not (same k q) && bit (row C k) i)) ≡ bit (row D k) i =
-            ap (λ t. (t && v) || (not t && bit (row C k) i)) (same_false k q ne) ∙ ap (λ z. bit z i) (sym (row-with_other C q k h (λ e. ne (sym e)))) in
-            ap (with_bit (lay D S (bits_of q s b)) (k * n + i)) old ∙ (write (bit (row D k) i) ∙ ap (λ z. lay z S (bits_of q s b)) (with_own D k i))),
+            ap (λ t. (t && v) || (not t && bit (row C k) i)) (same_false k q ne)
+            ∙ ap (λ z. bit z i) (sym (row-with_other C q k h (λ e. ne (sym e)))) in
+            ap (with_bit (lay D S (bits_of q s b)) (k * n + i)) old
+            ∙ (write (bit (row D k) i) ∙ ap (λ z. lay z S (bits_of q s b)) (with_own D k i))),
       )
 
   copies_of : ℕ → List ℕ → List Place
   copies_of i ks = map (λ k. global (k * n + i)) ks
 
-  locals_skip : (i : ℕ) (v : Bool) (ks : List ℕ) (ts : List Place) (ws L : List Bool) → written_locals (copies_of i ks ++ ts) (map (spread i v) ks ++ ws) L ≡ written_locals ts ws L
+  locals_skip : (i : ℕ) (v : Bool) (ks : List ℕ) (ts : List Place) (ws L : List Bool)
+      → written_locals (copies_of i ks ++ ts) (map (spread i v) ks ++ ws) L ≡ written_locals ts ws L
   unfolding copies_of
   locals_skip i v [] ts ws L = refl
   locals_skip i v (k ∷ ks) ts ws L = locals_skip i v ks ts ws L
 
-  spread_past : (h : List Bool) (i : ℕ) (v : Bool) (k m : ℕ) (ts : List Place) (ws : List Bool) → length h ≡ n → i < n → q < k → k + m ≤ suc last → written_globals (copies_of i (numbers k m) ++ ts) (map (spread i v) (numbers k m) ++ ws) (lay (with_row C q h) S (bits_of q s b)) ≡ written_globals ts ws (lay (with_row C q h) S (bits_of q s b))
+  spread_past : (h : List Bool) (i : ℕ) (v : Bool) (k m : ℕ) (ts : List Place) (ws : List Bool) → length h ≡ n → i < n → q < k
+      → k + m ≤ suc last
+      → written_globals (copies_of i (numbers k m) ++ ts) (map (spread i v) (numbers k m) ++ ws) (lay (with_row C q h) S (bits_of q s b))
+      ≡ written_globals ts ws (lay (with_row C q h) S (bits_of q s b))
   unfolding copies_of
   spread_past h i v k zero ts ws eh hi past end = refl
   spread_past h i v k (suc m) ts ws eh hi past end =
-      ap (written_globals (copies_of i (numbers (suc k) m) ++ ts) (map (spread i v) (numbers (suc k) m) ++ ws)) ((spread_one h i v k eh hi (omega arith)).1 (omega arith))
+      ap (written_globals (copies_of i (numbers (suc k) m) ++ ts) (map (spread i v) (numbers (suc k) m) ++ ws))
+      ((spread_one h i v k eh hi (omega arith)).1 (omega arith))
       ∙ spread_past h i v (suc k) m ts ws eh hi (omega arith) (omega arith)
 
-  spread_upto : (h : List Bool) (i : ℕ) (v : Bool) (k m : ℕ) (ts : List Place) (ws : List Bool) → length h ≡ n → i < n → k ≤ q → q < k + m → k + m ≤ suc last → written_globals (copies_of i (numbers k m) ++ ts) (map (spread i v) (numbers k m) ++ ws) (lay (with_row C q h) S (bits_of q s b)) ≡ written_globals ts ws (lay (with_row C q (with_bit h i v)) S (bits_of q s b))
+  spread_upto : (h : List Bool) (i : ℕ) (v : Bool) (k m : ℕ) (ts : List Place) (ws : List Bool) → length h ≡ n → i < n → k ≤ q → q < k + m
+      → k + m ≤ suc last
+      → written_globals (copies_of i (numbers k m) ++ ts) (map (spread i v) (numbers k m) ++ ws) (lay (with_row C q h) S (bits_of q s b))
+      ≡ written_globals ts ws (lay (with_row C q (with_bit h i v)) S (bits_of q s b))
   unfolding copies_of
   spread_upto h i v k zero ts ws eh hi le lt end = absurd (omega arith)
   spread_upto h i v k (suc m) ts ws eh hi le lt end = elim (cases_eq k q) [
     | inl e ↦
-        ap (written_globals (copies_of i (numbers (suc k) m) ++ ts) (map (spread i v) (numbers (suc k) m) ++ ws)) ((spread_one h i v k eh hi (omega arith)).0 e)
+        ap (written_globals (copies_of i (numbers (suc k) m) ++ ts) (map (spread i v) (numbers (suc k) m) ++ ws))
+        ((spread_one h i v k eh hi (omega arith)).0 e)
         ∙ spread_past (with_bit h i v) i v (suc k) m ts ws (length-set h i v ∙ eh) hi (omega arith) (omega arith)
     | inr ne ↦
-        ap (written_globals (copies_of i (numbers (suc k) m) ++ ts) (map (spread i v) (numbers (suc k) m) ++ ws)) ((spread_one h i v k eh hi (omega arith)).1 ne)
+        ap (written_globals (copies_of i (numbers (suc k) m) ++ ts) (map (spread i v) (numbers (suc k) m) ++ ws))
+        ((spread_one h i v k eh hi (omega arith)).1 ne)
         ∙ spread_upto h i v (suc k) m ts ws eh hi (omega arith) (omega arith) (omega arith)
   ]
 
@@ -200,22 +237,29 @@ module _ (n last own : ℕ) (C S : List (List Bool)) (q : ℕ) (s b : Bool) (sha
   drawn_is : (j : ℕ) → look_up X (l ++ tmp) (local (own + j)) ≡ bit tmp j
   drawn_is j = bit_right l tmp (own + j) j (ap (λ z. z + j) (sym el))
 
-  expr_is : (e : Expression Place) → Rattle.resolved.specs.Scoped.InScope n own e → value_of X (l ++ tmp) (expression (places n last own) last e) ≡ value_of (row C q) l e
+  expr_is : (e : Expression Place) → Rattle.resolved.specs.Scoped.InScope n own e
+      → value_of X (l ++ tmp) (expression (places n last own) last e) ≡ value_of (row C q) l e
   expr_is e h = expression_is n last own C S q s b (l ++ tmp) shape small within l tmp refl el e h
 
-  pub sides_are : (j : ℕ) (xs : List Place) (rs : List (RightSide Place)) (vs : List Bool) → AreValues (row C q) l rs vs → Picked j xs rs vs tmp → PlacesInScope n own xs → SidesInScope n own rs → AreValues X (l ++ tmp) (sides (places n last own) last j xs rs) (spread_all xs rs vs)
+  pub sides_are : (j : ℕ) (xs : List Place) (rs : List (RightSide Place)) (vs : List Bool) → AreValues (row C q) l rs vs
+      → Picked j xs rs vs tmp → PlacesInScope n own xs → SidesInScope n own rs
+      → AreValues X (l ++ tmp) (sides (places n last own) last j xs rs) (spread_all xs rs vs)
   unfolding spread_all
   sides_are j [] rs vs a p hx hr = tt
   sides_are j (x ∷ xs) [] vs a p hx hr = tt
   sides_are j (x ∷ xs) (r ∷ rs) [] a p hx hr = absurd a
   sides_are j (global i ∷ xs) (any ∷ rs) (v ∷ vs) a p hx hr =
-      spread_are (var (local (own + j))) v i hx.0 (drawn_is j ∙ p.0) (numbers 0 (suc last)) all_below _ _ (sides_are (suc j) xs rs vs a.1 p.1 hx.1 hr.1)
+      spread_are (var (local (own + j))) v i hx.0 (drawn_is j ∙ p.0) (numbers 0 (suc last)) all_below _ _
+      (sides_are (suc j) xs rs vs a.1 p.1 hx.1 hr.1)
   sides_are j (global i ∷ xs) (value e ∷ rs) (v ∷ vs) a p hx hr =
-      spread_are (expression (places n last own) last e) v i hx.0 (expr_is e hr.0 ∙ sym a.0) (numbers 0 (suc last)) all_below _ _ (sides_are j xs rs vs a.1 p hx.1 hr.1)
+      spread_are (expression (places n last own) last e) v i hx.0 (expr_is e hr.0 ∙ sym a.0) (numbers 0 (suc last)) all_below _ _
+      (sides_are j xs rs vs a.1 p hx.1 hr.1)
   sides_are j (local i ∷ xs) (any ∷ rs) (v ∷ vs) a p hx hr = (tt, sides_are j xs rs vs a.1 p hx.1 hr.1)
   sides_are j (local i ∷ xs) (value e ∷ rs) (v ∷ vs) a p hx hr = (a.0 ∙ sym (expr_is e hr.0), sides_are j xs rs vs a.1 p hx.1 hr.1)
 
-  pub sides_back : (j : ℕ) (xs : List Place) (rs : List (RightSide Place)) (ws : List Bool) → PlacesInScope n own xs → SidesInScope n own rs → AreValues X (l ++ tmp) (sides (places n last own) last j xs rs) ws → (vs : List Bool) × AreValues (row C q) l rs vs × (ws ≡ spread_all xs rs vs)
+  pub sides_back : (j : ℕ) (xs : List Place) (rs : List (RightSide Place)) (ws : List Bool) → PlacesInScope n own xs
+      → SidesInScope n own rs → AreValues X (l ++ tmp) (sides (places n last own) last j xs rs) ws
+      → (vs : List Bool) × AreValues (row C q) l rs vs × (ws ≡ spread_all xs rs vs)
   unfolding spread_all
   sides_back j [] rs [] hx hr a = let (vs, h) = some_values (row C q) l rs in (vs, h, refl)
   sides_back j [] rs (w ∷ ws) hx hr a = absurd a
@@ -226,7 +270,9 @@ module _ (n last own : ℕ) (C S : List (List Bool)) (q : ℕ) (s b : Bool) (sha
       let (vs, hv, ev) = sides_back (suc j) xs rs us hx.1 hr.1 h in
       (bit tmp j ∷ vs, (tt, hv), e ∙ ap (λ z. map (spread i (bit tmp j)) (numbers 0 (suc last)) ++ z) ev)
   sides_back j (global i ∷ xs) (value e ∷ rs) ws hx hr a =
-      let (us, e1, h) = spread_back (expression (places n last own) last e) (value_of (row C q) l e) i hx.0 (expr_is e hr.0) (numbers 0 (suc last)) all_below _ ws a in
+      let (us, e1, h) =
+      spread_back (expression (places n last own) last e) (value_of (row C q) l e) i hx.0 (expr_is e hr.0)
+      (numbers 0 (suc last)) all_below _ ws a in
       let (vs, hv, ev) = sides_back j xs rs us hx.1 hr.1 h in
       (value_of (row C q) l e ∷ vs, (refl, hv), e1 ∙ ap (λ z. map (spread i (value_of (row C q) l e)) (numbers 0 (suc last)) ++ z) ev)
   sides_back j (local i ∷ xs) (any ∷ rs) [] hx hr a = absurd a
@@ -238,18 +284,24 @@ module _ (n last own : ℕ) (C S : List (List Bool)) (q : ℕ) (s b : Bool) (sha
       let (vs, hv, ev) = sides_back j xs rs ws hx.1 hr.1 a.1 in
       (w ∷ vs, (a.0 ∙ expr_is e hr.0, hv), ap (λ z. w ∷ z) ev)
 
-  pub writes : (xs : List Place) (rs : List (RightSide Place)) (vs h : List Bool) → AreValues (row C q) l rs vs → PlacesInScope n own xs → length h ≡ n → written_globals (targets (places n last own) last xs rs) (spread_all xs rs vs) (lay (with_row C q h) S (bits_of q s b)) ≡ lay (with_row C q (written_globals xs vs h)) S (bits_of q s b)
+  pub writes : (xs : List Place) (rs : List (RightSide Place)) (vs h : List Bool) → AreValues (row C q) l rs vs → PlacesInScope n own xs
+      → length h ≡ n
+      → written_globals (targets (places n last own) last xs rs) (spread_all xs rs vs) (lay (with_row C q h) S (bits_of q s b))
+      ≡ lay (with_row C q (written_globals xs vs h)) S (bits_of q s b)
   unfolding spread_all copies_of
   writes [] rs vs h a hx eh = refl
   writes (x ∷ xs) [] [] h a hx eh = refl
   writes (x ∷ xs) [] (v ∷ vs) h a hx eh = absurd a
   writes (x ∷ xs) (r ∷ rs) [] h a hx eh = absurd a
   writes (global i ∷ xs) (r ∷ rs) (v ∷ vs) h a hx eh =
-      spread_upto h i v 0 (suc last) (targets (places n last own) last xs rs) (spread_all xs rs vs) eh hx.0 (omega arith) (omega arith) (omega arith)
+      spread_upto h i v 0 (suc last) (targets (places n last own) last xs rs) (spread_all xs rs vs) eh hx.0 (omega arith) (omega arith)
+      (omega arith)
       ∙ writes xs rs vs (with_bit h i v) a.1 hx.1 (length-set h i v ∙ eh)
   writes (local i ∷ xs) (r ∷ rs) (v ∷ vs) h a hx eh = writes xs rs vs h a.1 hx.1 eh
 
-  pub writes_locals : (xs : List Place) (rs : List (RightSide Place)) (vs l' : List Bool) → AreValues (row C q) l rs vs → PlacesInScope n own xs → length l' ≡ own → written_locals (targets (places n last own) last xs rs) (spread_all xs rs vs) (l' ++ tmp) ≡ written_locals xs vs l' ++ tmp
+  pub writes_locals : (xs : List Place) (rs : List (RightSide Place)) (vs l' : List Bool) → AreValues (row C q) l rs vs
+      → PlacesInScope n own xs → length l' ≡ own
+      → written_locals (targets (places n last own) last xs rs) (spread_all xs rs vs) (l' ++ tmp) ≡ written_locals xs vs l' ++ tmp
   unfolding spread_all copies_of
   writes_locals [] rs vs l' a hx eh = refl
   writes_locals (x ∷ xs) [] [] l' a hx eh = refl
@@ -259,7 +311,8 @@ module _ (n last own : ℕ) (C S : List (List Bool)) (q : ℕ) (s b : Bool) (sha
       locals_skip i v (numbers 0 (suc last)) (targets (places n last own) last xs rs) (spread_all xs rs vs) (l' ++ tmp)
       ∙ writes_locals xs rs vs l' a.1 hx.1 eh
   writes_locals (local i ∷ xs) (r ∷ rs) (v ∷ vs) l' a hx eh =
-      ap (written_locals (targets (places n last own) last xs rs) (spread_all xs rs vs)) (set-append_left l' tmp i v (let z : length l' ≡ own = eh in let z' : i < own = hx.0 in omega arith))
+      ap (written_locals (targets (places n last own) last xs rs) (spread_all xs rs vs)) (set-append_left l' tmp i v
+      (let z : length l' ≡ own = eh in let z' : i < own = hx.0 in omega arith))
       ∙ writes_locals xs rs vs (with_bit l' i v) a.1 hx.1 (length-set l' i v ∙ eh)
 
 pub with-own_row : (C : List (List Bool)) (k : ℕ) → with_row C k (row C k) ≡ C

@@ -25,8 +25,11 @@ rest-join x (choose m r y z t) b k =
     (λ i. cond (has_label x m) (Some (choose m r y z (join_join t b k i)))
     (first_of_two (rest_from x y (join_join t b k i)) (first_of_two (rest_from x z (join_join t b k i)) (rest-join x t b k i))))
     ∙ (ap (cond (has_label x m) (Some (choose m r y z (join t (join b k)))))
-    (ap (first_of_two (rest_from x y (join t (join b k)))) (sym (first_assoc (rest_from x z (join t (join b k))) (rest_from x t (join b k)) (rest_from x b k)))
-    ∙ sym (first_assoc (rest_from x y (join t (join b k))) (first_of_two (rest_from x z (join t (join b k))) (rest_from x t (join b k))) (rest_from x b k)))
+    (ap (first_of_two (rest_from x y (join t (join b k))))
+    (sym (first_assoc (rest_from x z (join t (join b k))) (rest_from x t (join b k)) (rest_from x b k)))
+    ∙ sym
+    (first_assoc (rest_from x y (join t (join b k))) (first_of_two (rest_from x z (join t (join b k))) (rest_from x t (join b k)))
+    (rest_from x b k)))
     ∙ sym (cond_first (has_label x m) _ _ (rest_from x b k)))
 rest-join x (loop m r y t) b k =
     (λ i. cond (has_label x m) (Some (loop m r y (join_join t b k i)))
@@ -94,30 +97,37 @@ module _ (w : Naming Place Place ℕ ℕ) (last : ℕ) where
   rewritten-join : (a b : Code) → rewritten w last (join a b) ≡ join (rewritten w last a) (rewritten w last b)
   rewritten-join done b = refl
   rewritten-join (one m s t) b =
-      ap (prologue w last m) (ap (statement w last s) (rewritten-join t b) ∙ sym (statement-join w last s (rewritten w last t) (rewritten w last b)))
+      ap (prologue w last m)
+      (ap (statement w last s) (rewritten-join t b) ∙ sym (statement-join w last s (rewritten w last t) (rewritten w last b)))
   rewritten-join (choose m r x y t) b =
       ap (λ z. prologue w last m (choose plain (side w last r) (rewritten w last x) (rewritten w last y) z)) (rewritten-join t b)
   rewritten-join (loop m r x t) b =
-      ap (λ z. prologue w last m (loop plain (side w last r) (join (rewritten w last x) (prologue w last plain done)) z)) (rewritten-join t b)
+      ap (λ z. prologue w last m (loop plain (side w last r) (join (rewritten w last x) (prologue w last plain done)) z))
+      (rewritten-join t b)
 
   pub put-join : (a b : Code) → put (join a b) ≡ join (put a) (put b)
   put-join a b = ap (rewritten w last) (bare-join a b) ∙ rewritten-join (bare a) (bare b)
 
   -- the body of a loop, its end's prologue and the loop again are the rewritten body and loop
-  pub put-again : (m : Mark Label) (r : RightSide Place) (a t : Code) → put (join a (loop m r a t)) ≡ join (join (put a) (prologue w last plain done)) (loop plain (side w last r) (join (put a) (prologue w last plain done)) (put t))
+  pub put-again : (m : Mark Label) (r : RightSide Place) (a t : Code)
+      → put (join a (loop m r a t))
+      ≡ join (join (put a) (prologue w last plain done)) (loop plain (side w last r) (join (put a) (prologue w last plain done)) (put t))
   put-again m r a t =
       put-join a (loop m r a t)
-      ∙ sym (join_join (put a) (prologue w last plain done) (loop plain (side w last r) (join (put a) (prologue w last plain done)) (put t)))
+      ∙ sym
+      (join_join (put a) (prologue w last plain done) (loop plain (side w last r) (join (put a) (prologue w last plain done)) (put t)))
 
   tails : (t k k' : Code) → bare k ≡ put k' → bare (join (rewritten w last t) k) ≡ put (join t k')
   tails t k k' e = bare-join (rewritten w last t) k ∙ (ap₂ join (bare-rewritten t) e ∙ sym (put-join t k'))
 
   -- a jump in a rewritten block leads to the rewritten rest
-  pub rest-rewritten : (x : Label) (b k k' : Code) → bare k ≡ put k' → option_map bare (rest_from x (rewritten w last b) k) ≡ option_map put (rest_from x b k')
+  pub rest-rewritten : (x : Label) (b k k' : Code) → bare k ≡ put k'
+      → option_map bare (rest_from x (rewritten w last b) k) ≡ option_map put (rest_from x b k')
   rest-rewritten x done k k' e = refl
   rest-rewritten x (one m s t) k k' e =
       let whole : bare (join (statement w last s (rewritten w last t)) k) ≡ statement w last s (put (join t k')) =
-      ap bare (statement-join w last s (rewritten w last t) k) ∙ (bare-statement s (join (rewritten w last t) k) ∙ ap (statement w last s) (tails t k k' e)) in
+      ap bare (statement-join w last s (rewritten w last t) k)
+      ∙ (bare-statement s (join (rewritten w last t) k) ∙ ap (statement w last s) (tails t k k' e)) in
       found bare put (has_label x m) _ _ _ _ (ap (prologue w last plain) whole)
       (ap (option_map bare) (rest-statement x s (rewritten w last t) k) ∙ rest-rewritten x t k k' e)
   rest-rewritten x (choose m r a b t) k k' e =

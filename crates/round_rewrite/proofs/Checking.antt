@@ -1,5 +1,6 @@
 -- All guesses, and the checks that each round ended with the guess for the round after it, both ways.
-use Rattle.std.proofs.Common.{◌≡◌, ℕ, zero, suc, ◌+◌, ◌*◌, ◌<◌, ◌≤◌, Bool, true, false, cond, not, List, [], ◌∷◌, ◌++◌, length, map, refl, sym, ◌∙◌, ap, subst, ap₂, arith, append_assoc, length-append, inl, inr}
+use Rattle.std.proofs.Common.{◌≡◌, ℕ, zero, suc, ◌+◌, ◌*◌, ◌<◌, ◌≤◌, Bool, true, false, cond, not, List, [], ◌∷◌, ◌++◌, length, map, refl}
+use Rattle.std.proofs.Common.{sym, ◌∙◌, ap, subst, ap₂, arith, append_assoc, length-append, inl, inr}
 use Rattle.std.proofs.lemmas.Bool.{cases_eq}
 use Rattle.language.specs.Tree.{var, two, equal, value, assume}
 use Rattle.language.specs.Value.{global, bit}
@@ -7,7 +8,8 @@ use Rattle.language.specs.Rest.{Code}
 use Rattle.language.specs.Step.{State}
 use Rattle.round_rewrite.specs.Table.{numbers, plain, guesses, check, checks}
 use Rattle.round_rewrite.specs.Places.{places, all_globals}
-use Rattle.round_rewrite.proofs.Laid.{Long, long_row, row, with_row, row_bit, with_middle, bit_right, length-flat, flat, lay, Shape, long-append}
+use Rattle.round_rewrite.proofs.Laid.{Long, long_row, row, with_row, row_bit, with_middle, bit_right, length-flat, flat, lay, Shape}
+use Rattle.round_rewrite.proofs.Laid.{long-append}
 use Rattle.round_rewrite.proofs.Plain.{World, PlainAfter}
 use Rattle.round_rewrite.proofs.Leading.{Leads}
 use Rattle.round_rewrite.proofs.Compose.{Linked}
@@ -29,7 +31,8 @@ module _ (w : World) (n last : ℕ) (g : List Bool) (eg : length g ≡ n) (bits 
 
   fill_shape : (k m : ℕ) (a d e : List (List Bool)) → Fill k m a d e → Shape n last (g ∷ (a ++ d)) (a ++ e)
   fill_shape k m a d e f =
-      let la : length a ≡ k = f.a_length in let ld : length d ≡ m = f.d_length in let le : length e ≡ m = f.e_length in let al : k + m ≡ last = f.all in
+      let la : length a ≡ k = f.a_length in let ld : length d ≡ m = f.d_length in let le : length e ≡ m = f.e_length in
+      let al : k + m ≡ last = f.all in
       let ad : length (a ++ d) ≡ length a + length d = length-append a d in
       let ae : length (a ++ e) ≡ length a + length e = length-append a e in
       record {
@@ -39,9 +42,11 @@ module _ (w : World) (n last : ℕ) (g : List Bool) (eg : length g ≡ n) (bits 
         guesses = omega arith;
       }
 
-  fill_next : (k m : ℕ) (a d e : List (List Bool)) (x y u : List Bool) → Fill k (suc m) a (x ∷ d) (y ∷ e) → length u ≡ n → Fill (suc k) m (a ++ u ∷ []) d e
+  fill_next : (k m : ℕ) (a d e : List (List Bool)) (x y u : List Bool) → Fill k (suc m) a (x ∷ d) (y ∷ e) → length u ≡ n
+      → Fill (suc k) m (a ++ u ∷ []) d e
   fill_next k m a d e x y u f eu =
-      let la : length a ≡ k = f.a_length in let ld : suc (length d) ≡ suc m = f.d_length in let le : suc (length e) ≡ suc m = f.e_length in let al : k + suc m ≡ last = f.all in
+      let la : length a ≡ k = f.a_length in let ld : suc (length d) ≡ suc m = f.d_length in let le : suc (length e) ≡ suc m = f.e_length in
+      let al : k + suc m ≡ last = f.all in
       record {
         a_long = long-append n a (u ∷ []) f.a_long (eu, tt);
         d_long = f.d_long.1;
@@ -52,7 +57,8 @@ module _ (w : World) (n last : ℕ) (g : List Bool) (eg : length g ≡ n) (bits 
         all = omega arith;
       }
 
-  guessed_is : (k m : ℕ) (a d e : List (List Bool)) (x y u : List Bool) → Fill k (suc m) a (x ∷ d) (y ∷ e) → guessed (g ∷ (a ++ x ∷ d)) (a ++ y ∷ e) k u bits ≡ Open (a ++ u ∷ []) d e
+  guessed_is : (k m : ℕ) (a d e : List (List Bool)) (x y u : List Bool) → Fill k (suc m) a (x ∷ d) (y ∷ e)
+      → guessed (g ∷ (a ++ x ∷ d)) (a ++ y ∷ e) k u bits ≡ Open (a ++ u ∷ []) d e
   guessed_is k m a d e x y u f =
       let c : with_row (a ++ x ∷ d) k u ≡ (a ++ u ∷ []) ++ d =
       ap (λ j. with_row (a ++ x ∷ d) j u) (sym f.a_length) ∙ (with_middle a x u d ∙ sym (append_assoc a (u ∷ []) d)) in
@@ -60,7 +66,9 @@ module _ (w : World) (n last : ℕ) (g : List Bool) (eg : length g ≡ n) (bits 
       ap (λ j. with_row (a ++ y ∷ e) j u) (sym f.a_length) ∙ (with_middle a y u e ∙ sym (append_assoc a (u ∷ []) e)) in
       ap₂ (λ p q. lay (g ∷ p) q bits) c s
 
-  pub guesses_lead : (t : Code) (Q : State → Type 0) (m k : ℕ) (a d e u : List (List Bool)) → Fill k m a d e → Long n u → length u ≡ m → Leads w (main_at (lay (g ∷ (a ++ u)) (a ++ u) bits) t) Q → Leads w (main_at (Open a d e) (guesses (places n last 0) last (all_globals n) (numbers (suc k) m) t)) Q
+  pub guesses_lead : (t : Code) (Q : State → Type 0) (m k : ℕ) (a d e u : List (List Bool)) → Fill k m a d e → Long n u → length u ≡ m
+      → Leads w (main_at (lay (g ∷ (a ++ u)) (a ++ u) bits) t) Q
+      → Leads w (main_at (Open a d e) (guesses (places n last 0) last (all_globals n) (numbers (suc k) m) t)) Q
   guesses_lead t Q zero k a [] [] [] f lu eu h = h
   guesses_lead t Q zero k a [] [] (x ∷ u) f lu eu h = absurd (omega arith)
   guesses_lead t Q zero k a [] (x ∷ e) u f lu eu h = absurd (let z : suc (length e) ≡ zero = f.e_length in omega arith)
@@ -69,24 +77,37 @@ module _ (w : World) (n last : ℕ) (g : List Bool) (eg : length g ≡ n) (bits 
   guesses_lead t Q (suc m) k a (x ∷ d) [] u f lu eu h = absurd (let z : zero ≡ suc m = f.e_length in omega arith)
   guesses_lead t Q (suc m) k a (x ∷ d) (y ∷ e) [] f lu eu h = absurd (omega arith)
   guesses_lead t Q (suc m) k a (x ∷ d) (y ∷ e) (v ∷ u) f lu eu h =
-      guess_leads w n last (g ∷ (a ++ x ∷ d)) (a ++ y ∷ e) bits k (fill_shape k (suc m) a (x ∷ d) (y ∷ e) f) (let z : k + suc m ≡ last = f.all in omega arith)
+      guess_leads w n last (g ∷ (a ++ x ∷ d)) (a ++ y ∷ e) bits k (fill_shape k (suc m) a (x ∷ d) (y ∷ e) f) (let z : k + suc m ≡ last =
+      f.all in omega arith)
       (guesses (places n last 0) last (all_globals n) (numbers (suc (suc k)) m) t) Q v lu.0
-      (subst (λ z. Leads w (main_at z (guesses (places n last 0) last (all_globals n) (numbers (suc (suc k)) m) t)) Q) (sym (guessed_is k m a d e x y v f))
+      (subst (λ z. Leads w (main_at z (guesses (places n last 0) last (all_globals n) (numbers (suc (suc k)) m) t)) Q)
+      (sym (guessed_is k m a d e x y v f))
       (guesses_lead t Q m (suc k) (a ++ v ∷ []) d e u (fill_next k m a d e x y v f lu.0) lu.1 (omega arith)
       (subst (λ z. Leads w (main_at (lay (g ∷ z) z bits) t) Q) (sym (append_assoc a (v ∷ []) u)) h)))
 
-  pub guesses_back : (t : Code) (m k : ℕ) (a d e : List (List Bool)) → Fill k m a d e → (N : ℕ) → PlainAfter w N (main_at (Open a d e) (guesses (places n last 0) last (all_globals n) (numbers (suc k) m) t)) (Bad n last) → (u : List (List Bool)) × Long n u × (length u ≡ m) × (M : ℕ) × PlainAfter w M (main_at (lay (g ∷ (a ++ u)) (a ++ u) bits) t) (Bad n last)
+  pub guesses_back : (t : Code) (m k : ℕ) (a d e : List (List Bool)) → Fill k m a d e → (N : ℕ)
+      → PlainAfter w N (main_at (Open a d e) (guesses (places n last 0) last (all_globals n) (numbers (suc k) m) t)) (Bad n last)
+      → (u : List (List Bool)) × Long n u × (length u ≡ m) × (M : ℕ)
+      × PlainAfter w M (main_at (lay (g ∷ (a ++ u)) (a ++ u) bits) t) (Bad n last)
   guesses_back t zero k a [] [] f N h = ([], tt, refl, N, h)
   guesses_back t zero k a [] (x ∷ e) f N h = absurd (let z : suc (length e) ≡ zero = f.e_length in omega arith)
   guesses_back t zero k a (x ∷ d) e f N h = absurd (let z : suc (length d) ≡ zero = f.d_length in omega arith)
   guesses_back t (suc m) k a [] e f N h = absurd (let z : zero ≡ suc m = f.d_length in omega arith)
   guesses_back t (suc m) k a (x ∷ d) [] f N h = absurd (let z : zero ≡ suc m = f.e_length in omega arith)
   guesses_back t (suc m) k a (x ∷ d) (y ∷ e) f N h =
-      let (v, ev, M, le, h1) = guess_back w n last (g ∷ (a ++ x ∷ d)) (a ++ y ∷ e) bits k (fill_shape k (suc m) a (x ∷ d) (y ∷ e) f) (let z : k + suc m ≡ last = f.all in omega arith)
+      let (v, ev, M, le, h1) =
+      guess_back w n last (g ∷ (a ++ x ∷ d)) (a ++ y ∷ e) bits k (fill_shape k (suc m) a (x ∷ d) (y ∷ e) f) (let z : k + suc m ≡ last =
+      f.all in omega arith)
       (guesses (places n last 0) last (all_globals n) (numbers (suc (suc k)) m) t) N h in
       let (u, lu, eu, M', h2) = guesses_back t m (suc k) (a ++ v ∷ []) d e (fill_next k m a d e x y v f ev) M
-      (subst (λ z. PlainAfter w M (main_at z (guesses (places n last 0) last (all_globals n) (numbers (suc (suc k)) m) t)) (Bad n last)) (guessed_is k m a d e x y v f) h1) in
-      (v ∷ u, (ev, lu), ap suc eu, M', subst (λ z. PlainAfter w M' (main_at (lay (g ∷ z) z bits) t) (Bad n last)) (append_assoc a (v ∷ []) u) h2)
+      (subst (λ z. PlainAfter w M (main_at z (guesses (places n last 0) last (all_globals n) (numbers (suc (suc k)) m) t)) (Bad n last))
+      (guessed_is k m a d e x y v f) h1) in (
+        v ∷ u,
+        (ev, lu),
+        ap suc eu,
+        M',
+        subst (λ z. PlainAfter w M' (main_at (lay (g ∷ z) z bits) t) (Bad n last)) (append_assoc a (v ∷ []) u) h2,
+      )
 
 same_true : (a b : Bool) → a ≡ b → true ≡ cond a b (not b)
 same_true true b e = e
@@ -121,7 +142,8 @@ module _ (w : World) (n last : ℕ) (C S : List (List Bool)) (bits : List Bool) 
   copied_bit : (k i : ℕ) → k < last → i < n → bit X (k * n + i) ≡ bit (row C k) i
   copied_bit k i lt hi = row_bit n C (flat S ++ bits) k i shape.copies (let z : length C ≡ suc last = shape.rounds in omega arith) hi
 
-  check_leads : (t : Code) (Q : State → Type 0) (k : ℕ) → k < last → row S k ≡ row C k → (m j : ℕ) → j + m ≤ n → Leads w (main_at X t) Q → Leads w (main_at X (check (places n last 0) last (map global (numbers j m)) k t)) Q
+  check_leads : (t : Code) (Q : State → Type 0) (k : ℕ) → k < last → row S k ≡ row C k → (m j : ℕ) → j + m ≤ n → Leads w (main_at X t) Q
+      → Leads w (main_at X (check (places n last 0) last (map global (numbers j m)) k t)) Q
   check_leads t Q k lt e zero j within h = h
   check_leads t Q k lt e (suc m) j within h =
       let r = check_leads t Q k lt e m (suc j) (omega arith) h in (
@@ -133,41 +155,68 @@ module _ (w : World) (n last : ℕ) (C S : List (List Bool)) (bits : List Bool) 
         ),
       )
 
-  check_back : (t : Code) (k : ℕ) → k < last → (m j : ℕ) → j + m ≤ n → (N : ℕ) → PlainAfter w N (main_at X (check (places n last 0) last (map global (numbers j m)) k t)) (Bad n last) → ((i : ℕ) → j ≤ i → i < j + m → bit (row S k) i ≡ bit (row C k) i) × (M : ℕ) × PlainAfter w M (main_at X t) (Bad n last)
+  check_back : (t : Code) (k : ℕ) → k < last → (m j : ℕ) → j + m ≤ n → (N : ℕ)
+      → PlainAfter w N (main_at X (check (places n last 0) last (map global (numbers j m)) k t)) (Bad n last)
+      → ((i : ℕ) → j ≤ i → i < j + m → bit (row S k) i ≡ bit (row C k) i) × (M : ℕ) × PlainAfter w M (main_at X t) (Bad n last)
   check_back t k lt zero j within N h = ((λ i le l. absurd (omega arith)), N, h)
   check_back t k lt (suc m) j within N h =
-      let (M, e, (is, run)) = unstep_main w n last N X [] plain (assume (value (two equal (var (global (suc last * n + (k * n + j)))) (var (global (k * n + j)))))) (check (places n last 0) last (map global (numbers (suc j) m)) k t) h in
+      let (M, e, (is, run)) =
+      unstep_main w n last N X [] plain
+      (assume (value (two equal (var (global (suc last * n + (k * n + j)))) (var (global (k * n + j))))))
+      (check (places n last 0) last (map global (numbers (suc j) m)) k t) h in
       let (facts, M', run') = check_back t k lt m (suc j) (omega arith) M run in
       let here : bit (row S k) j ≡ bit (row C k) j =
-      sym (saved_bit k j lt (omega arith)) ∙ (true_same (bit X (suc last * n + (k * n + j))) (bit X (k * n + j)) is ∙ copied_bit k j lt (omega arith)) in
-      ((λ i le l. elim (cases_eq i j) [ inl same ↦ subst (λ z. bit (row S k) z ≡ bit (row C k) z) (sym same) here | inr other ↦ facts i (omega arith) (omega arith) ]), M', run')
+      sym (saved_bit k j lt (omega arith))
+      ∙ (true_same (bit X (suc last * n + (k * n + j))) (bit X (k * n + j)) is ∙ copied_bit k j lt (omega arith)) in (
+        (λ i le l.
+            elim (cases_eq i j) [
+              | inl same ↦ subst (λ z. bit (row S k) z ≡ bit (row C k) z) (sym same) here
+              | inr other ↦ facts i (omega arith) (omega arith)
+            ]),
+        M',
+        run',
+      )
 
-  pub checks_lead : (t : Code) (Q : State → Type 0) (m k : ℕ) → k + m ≤ last → ((i : ℕ) → i < last → row S i ≡ row C i) → Leads w (main_at X t) Q → Leads w (main_at X (checks (places n last 0) last (all_globals n) (numbers k m) t)) Q
+  pub checks_lead : (t : Code) (Q : State → Type 0) (m k : ℕ) → k + m ≤ last → ((i : ℕ) → i < last → row S i ≡ row C i)
+      → Leads w (main_at X t) Q → Leads w (main_at X (checks (places n last 0) last (all_globals n) (numbers k m) t)) Q
   checks_lead t Q zero k within e h = h
   checks_lead t Q (suc m) k within e h =
-      check_leads (checks (places n last 0) last (all_globals n) (numbers (suc k) m) t) Q k (omega arith) (e k (omega arith)) n 0 (omega arith)
+      check_leads (checks (places n last 0) last (all_globals n) (numbers (suc k) m) t) Q k (omega arith) (e k (omega arith)) n 0
+      (omega arith)
       (checks_lead t Q m (suc k) (omega arith) e h)
 
-  pub checks_back : (t : Code) (m k : ℕ) → k + m ≤ last → (N : ℕ) → PlainAfter w N (main_at X (checks (places n last 0) last (all_globals n) (numbers k m) t)) (Bad n last) → ((i : ℕ) → k ≤ i → i < k + m → row S i ≡ row C i) × (M : ℕ) × PlainAfter w M (main_at X t) (Bad n last)
+  pub checks_back : (t : Code) (m k : ℕ) → k + m ≤ last → (N : ℕ)
+      → PlainAfter w N (main_at X (checks (places n last 0) last (all_globals n) (numbers k m) t)) (Bad n last)
+      → ((i : ℕ) → k ≤ i → i < k + m → row S i ≡ row C i) × (M : ℕ) × PlainAfter w M (main_at X t) (Bad n last)
   checks_back t zero k within N h = ((λ i le l. absurd (omega arith)), N, h)
   checks_back t (suc m) k within N h =
-      let (facts, M, run) = check_back (checks (places n last 0) last (all_globals n) (numbers (suc k) m) t) k (omega arith) n 0 (omega arith) N h in
+      let (facts, M, run) =
+      check_back (checks (places n last 0) last (all_globals n) (numbers (suc k) m) t) k (omega arith) n 0 (omega arith) N h in
       let (more, M', run') = checks_back t m (suc k) (omega arith) M run in
       let here : row S k ≡ row C k =
       same_bits n (row S k) (row C k)
       (long_row n S k shape.saved (let z : length S ≡ last = shape.guesses in omega arith))
       (long_row n C k shape.copies (let z : length C ≡ suc last = shape.rounds in omega arith))
-      (λ i lt. facts i (omega arith) (omega arith)) in
-      ((λ i le l. elim (cases_eq i k) [ inl same ↦ subst (λ z. row S z ≡ row C z) (sym same) here | inr other ↦ more i (omega arith) (omega arith) ]), M', run')
+      (λ i lt. facts i (omega arith) (omega arith)) in (
+        (λ i le l.
+            elim (cases_eq i k) [
+              | inl same ↦ subst (λ z. row S z ≡ row C z) (sym same) here
+              | inr other ↦ more i (omega arith) (omega arith)
+            ]),
+        M',
+        run',
+      )
 
 -- what the checks say is that the rows are linked
-pub linked_rows : (S : List (List Bool)) (y : List Bool) (G : List (List Bool)) → length S ≡ length G → ((k : ℕ) → k < length S → row S k ≡ row (y ∷ G) k) → Linked y S G
+pub linked_rows : (S : List (List Bool)) (y : List Bool) (G : List (List Bool)) → length S ≡ length G
+    → ((k : ℕ) → k < length S → row S k ≡ row (y ∷ G) k) → Linked y S G
 linked_rows [] y [] e h = tt
 linked_rows [] y (z ∷ G) e h = absurd (omega arith)
 linked_rows (x ∷ S) y [] e h = absurd (omega arith)
 linked_rows (x ∷ S) y (z ∷ G) e h = (h 0 (omega arith), linked_rows S z G (omega arith) (λ k lt. h (suc k) (omega arith)))
 
-pub rows_linked : (S : List (List Bool)) (y : List Bool) (G : List (List Bool)) → Linked y S G → (k : ℕ) → k < length S → row S k ≡ row (y ∷ G) k
+pub rows_linked : (S : List (List Bool)) (y : List Bool) (G : List (List Bool)) → Linked y S G → (k : ℕ) → k < length S
+    → row S k ≡ row (y ∷ G) k
 rows_linked [] y [] h k lt = absurd (omega arith)
 rows_linked [] y (z ∷ G) h k lt = absurd h
 rows_linked (x ∷ S) y [] h k lt = absurd h

@@ -1,5 +1,6 @@
 -- Rounds of all threads, one after the other, and turns of one thread after the other over rows, are the same.
-use Rattle.std.proofs.Common.{◌≡◌, ℕ, zero, suc, ◌+◌, ◌<◌, ◌≤◌, Bool, true, false, cond, List, [], ◌∷◌, length, Option, Some, None, slice_get, refl, sym, ◌∙◌, ap, subst, arith, ◌⊎◌, inl, inr}
+use Rattle.std.proofs.Common.{◌≡◌, ℕ, zero, suc, ◌+◌, ◌<◌, ◌≤◌, Bool, true, false, cond, List, [], ◌∷◌, length, Option, Some, None}
+use Rattle.std.proofs.Common.{slice_get, refl, sym, ◌∙◌, ap, subst, arith, ◌⊎◌, inl, inr}
 use Rattle.language.specs.Tree.{skip, assign, assert, assume, goto, leave, call, done, one, choose, loop}
 use Rattle.language.specs.Value.{values_of}
 use Rattle.language.specs.Rest.{Code, rest_from}
@@ -13,11 +14,13 @@ use Rattle.round_rewrite.proofs.Turns.{Turns, FailTurns, idle}
 abbrev how_many : State → ℕ
 how_many (state g fs) = length g
 
-rest_keeps : (o : Option Code) (F : Code → State) (n : ℕ) (P : State → Type 0) → ((c : Code) → how_many (F c) ≡ n) → AtRest o (λ c. P (F c)) → (u : State) × P u × (how_many u ≡ n)
+rest_keeps : (o : Option Code) (F : Code → State) (n : ℕ) (P : State → Type 0) → ((c : Code) → how_many (F c) ≡ n)
+    → AtRest o (λ c. P (F c)) → (u : State) × P u × (how_many u ≡ n)
 rest_keeps None F n P e h = absurd h
 rest_keeps (Some c) F n P e h = (F c, h, e c)
 
-routine_keeps : (o : Option Routine) (F : Routine → State) (n : ℕ) (P : State → Type 0) → ((c : Routine) → how_many (F c) ≡ n) → AtRoutine o (λ c. P (F c)) → (u : State) × P u × (how_many u ≡ n)
+routine_keeps : (o : Option Routine) (F : Routine → State) (n : ℕ) (P : State → Type 0) → ((c : Routine) → how_many (F c) ≡ n)
+    → AtRoutine o (λ c. P (F c)) → (u : State) × P u × (how_many u ≡ n)
 routine_keeps None F n P e h = absurd h
 routine_keeps (Some c) F n P e h = (F c, h, e c)
 
@@ -32,7 +35,8 @@ step_keeps p (state g (frame c l (one m (goto x) t) ∷ fs)) P h =
     rest_keeps (rest_from x (body_of (slice_get p.routines c)) done) (λ u. state g (frame c l u ∷ fs)) (length g) P (λ u. refl) h
 step_keeps p (state g (frame c l (one m leave t) ∷ fs)) P h = (_, h, refl)
 step_keeps p (state g (frame c l (one m (call q es) t) ∷ fs)) P h =
-    routine_keeps (slice_get p.routines q) (λ r. state g (frame q (fresh r.places (values_of g l es)) r.body ∷ frame c l t ∷ fs)) (length g) P (λ u. refl) h
+    routine_keeps (slice_get p.routines q) (λ r. state g (frame q (fresh r.places (values_of g l es)) r.body ∷ frame c l t ∷ fs))
+    (length g) P (λ u. refl) h
 step_keeps p (state g (frame c l (choose m r a b t) ∷ fs)) P h = (_, h.2, refl)
 step_keeps p (state g (frame c l (loop m r a t) ∷ fs)) P h = (_, h.2, refl)
 
@@ -65,7 +69,8 @@ FailThreads p G (s ∷ ss) G' =
     ⊎ ((H : List (List Bool)) × (s' : List Frame) × Turns p G s H s' × FailThreads p H ss G')
 
 -- turns that fail are turns
-pub fail_is_turns : (p : Program) (G : List (List Bool)) (s : List Frame) (G' : List (List Bool)) → FailTurns p G s G' → (s' : List Frame) × Turns p G s G' s'
+pub fail_is_turns : (p : Program) (G : List (List Bool)) (s : List Frame) (G' : List (List Bool)) → FailTurns p G s G'
+    → (s' : List Frame) × Turns p G s G' s'
 fail_is_turns p [] s G' h = absurd h
 fail_is_turns p (g ∷ G) s [] h = absurd h
 fail_is_turns p (g ∷ G) s (g' ∷ G') (inl (mid, run, f, e)) = (mid, (mid, run, subst (λ z. Turns p G mid z mid) (sym e) (idle p G mid)))
@@ -76,7 +81,9 @@ idle_threads p G [] = refl
 idle_threads p G (s ∷ ss) = (G, idle p G s, idle_threads p G ss)
 
 -- the first row of all threads is a round
-row_split : (p : Program) (g : List Bool) (G : List (List Bool)) (ss : List (List Frame)) (g' : List Bool) (G' : List (List Bool)) (ss' : List (List Frame)) → Threads p (g ∷ G) ss (g' ∷ G') ss' → (mid : List (List Frame)) × Round p g ss g' mid × Threads p G mid G' ss'
+row_split : (p : Program) (g : List Bool) (G : List (List Bool)) (ss : List (List Frame)) (g' : List Bool) (G' : List (List Bool))
+    (ss' : List (List Frame)) → Threads p (g ∷ G) ss (g' ∷ G') ss'
+    → (mid : List (List Frame)) × Round p g ss g' mid × Threads p G mid G' ss'
 row_split p g G [] g' G' [] e = let a : g' ≡ g = cc in let b : G' ≡ G = cc in ([], (a, refl), b)
 row_split p g G [] g' G' (s' ∷ ss') h = absurd h
 row_split p g G (s ∷ ss) g' G' [] h = absurd h
@@ -85,7 +92,8 @@ row_split p g G (s ∷ ss) g' G' (s' ∷ ss') (h ∷ H, (m, run, ts), more) =
     let (mid, round, threads) = row_split p h H ss g' G' ss' more in
     (m ∷ mid, (h, run, round), (H, ts, threads))
 
-fail_split : (p : Program) (g : List Bool) (G : List (List Bool)) (ss : List (List Frame)) (g' : List Bool) (G' : List (List Bool)) → FailThreads p (g ∷ G) ss (g' ∷ G') → FailsInRound p g ss ⊎ ((mid : List (List Frame)) × Round p g ss g' mid × FailThreads p G mid G')
+fail_split : (p : Program) (g : List Bool) (G : List (List Bool)) (ss : List (List Frame)) (g' : List Bool) (G' : List (List Bool))
+    → FailThreads p (g ∷ G) ss (g' ∷ G') → FailsInRound p g ss ⊎ ((mid : List (List Frame)) × Round p g ss g' mid × FailThreads p G mid G')
 fail_split p g G [] g' G' h = absurd h
 fail_split p g G (s ∷ ss) g' G' (inl ([], ss', ft, more)) = absurd ft
 fail_split p g G (s ∷ ss) g' G' (inl (h ∷ H, ss', inl (m, run, f, e), more)) = inl (inl (state h m, run, f))
@@ -99,7 +107,8 @@ fail_split p g G (s ∷ ss) g' G' (inr (h ∷ H, s', (m, run, ts), more)) =
       | inr (mid, round, ft) ↦ inr (m ∷ mid, (h, run, round), inr (H, s', ts, ft))
     ]
 
-row_join : (p : Program) (g : List Bool) (G : List (List Bool)) (ss mid : List (List Frame)) (g' : List Bool) (G' : List (List Bool)) (ss' : List (List Frame)) → Round p g ss g' mid → Threads p G mid G' ss' → Threads p (g ∷ G) ss (g' ∷ G') ss'
+row_join : (p : Program) (g : List Bool) (G : List (List Bool)) (ss mid : List (List Frame)) (g' : List Bool) (G' : List (List Bool))
+    (ss' : List (List Frame)) → Round p g ss g' mid → Threads p G mid G' ss' → Threads p (g ∷ G) ss (g' ∷ G') ss'
 row_join p g G [] [] g' G' [] (e, em) h = cc
 row_join p g G [] [] g' G' (x ∷ ss') (e, em) h = absurd h
 row_join p g G [] (x ∷ mid) g' G' ss' (e, em) h = cc
@@ -108,7 +117,8 @@ row_join p g G (s ∷ ss) (m ∷ mid) g' G' [] r h = absurd h
 row_join p g G (s ∷ ss) (m ∷ mid) g' G' (s' ∷ ss') (k, run, round) (H, ts, more) =
     (k ∷ H, (m, run, ts), row_join p k H ss mid g' G' ss' round more)
 
-fail_join : (p : Program) (g : List Bool) (G : List (List Bool)) (ss mid : List (List Frame)) (g' : List Bool) (G' : List (List Bool)) → Round p g ss g' mid → FailThreads p G mid G' → FailThreads p (g ∷ G) ss (g' ∷ G')
+fail_join : (p : Program) (g : List Bool) (G : List (List Bool)) (ss mid : List (List Frame)) (g' : List Bool) (G' : List (List Bool))
+    → Round p g ss g' mid → FailThreads p G mid G' → FailThreads p (g ∷ G) ss (g' ∷ G')
 fail_join p g G [] [] g' G' r h = absurd h
 fail_join p g G [] (x ∷ mid) g' G' r h = let e : x ∷ mid ≡ [] = r.1 in cc
 fail_join p g G (s ∷ ss) [] g' G' r h = absurd r
@@ -118,7 +128,8 @@ fail_join p g G (s ∷ ss) (m ∷ mid) g' G' (k, run, round) (inr (H, s', ts, mo
     inr (k ∷ H, s', (m, run, ts), fail_join p k H ss mid g' G' round more)
 
 -- a round that fails, where all the others then stay as they are
-fail_row : (p : Program) (g : List Bool) (ss : List (List Frame)) → FailsInRound p g ss → (g' : List Bool) × (length g' ≡ length g) × ((G : List (List Bool)) → FailThreads p (g ∷ G) ss (g' ∷ G))
+fail_row : (p : Program) (g : List Bool) (ss : List (List Frame)) → FailsInRound p g ss
+    → (g' : List Bool) × (length g' ≡ length g) × ((G : List (List Bool)) → FailThreads p (g ∷ G) ss (g' ∷ G))
 fail_row p g [] h = absurd h
 fail_row p g (s ∷ ss) (inl (state h m, run, f)) =
     (h, run_keeps p g h s m run, λ G. inl (h ∷ G, ss, inl (m, run, f, refl), idle_threads p (h ∷ G) ss))
@@ -140,7 +151,9 @@ no_rows p (s ∷ ss) G' (inr ([], s', ts, more)) = no_rows p ss G' more
 no_rows p (s ∷ ss) G' (inr (h ∷ H, s', ts, more)) = ts
 
 -- linked rows in which a thread fails are rounds, and then a round that fails
-pub to_rounds : (p : Program) (g : List Bool) (G : List (List Bool)) (ss : List (List Frame)) (G' : List (List Bool)) → Linked g G G' → FailThreads p G ss G' → (r : ℕ) × (r < length G) × (h : List Bool) × (ts : List (List Frame)) × Rounds p r g ss h ts × FailsInRound p h ts
+pub to_rounds : (p : Program) (g : List Bool) (G : List (List Bool)) (ss : List (List Frame)) (G' : List (List Bool)) → Linked g G G'
+    → FailThreads p G ss G'
+    → (r : ℕ) × (r < length G) × (h : List Bool) × (ts : List (List Frame)) × Rounds p r g ss h ts × FailsInRound p h ts
 to_rounds p g [] ss G' link h = absurd (no_rows p ss G' h)
 to_rounds p g (x ∷ G) ss [] link h = absurd link
 to_rounds p g (x ∷ G) ss (y ∷ G') (e, link) h =
@@ -164,12 +177,26 @@ copies_long n zero g e = (tt, refl)
 copies_long n (suc k) g e = let h = copies_long n k g e in ((e, h.0), ap suc h.1)
 
 -- rounds, and then a round that fails, are linked rows in which a thread fails, with k rows more
-pub from_rounds : (p : Program) (n r k : ℕ) (g : List Bool) (ss : List (List Frame)) (h : List Bool) (ts : List (List Frame)) → length g ≡ n → Rounds p r g ss h ts → FailsInRound p h ts → (G : List (List Bool)) × (G' : List (List Bool)) × (length G ≡ r + k) × Long n G × Linked g (g ∷ G) G' × FailThreads p (g ∷ G) ss G'
+pub from_rounds : (p : Program) (n r k : ℕ) (g : List Bool) (ss : List (List Frame)) (h : List Bool) (ts : List (List Frame))
+    → length g ≡ n → Rounds p r g ss h ts → FailsInRound p h ts
+    → (G : List (List Bool)) × (G' : List (List Bool)) × (length G ≡ r + k) × Long n G × Linked g (g ∷ G) G' × FailThreads p (g ∷ G) ss G'
 from_rounds p n zero k g ss h ts eg (eh, et) f =
     let f' : FailsInRound p g ss = subst (λ z. FailsInRound p g z) et (subst (λ z. FailsInRound p z ts) eh f) in
     let (g', el, ft) = fail_row p g ss f' in
-    let long = copies_long n k g' (el ∙ eg) in
-    (copies k g', g' ∷ copies k g', long.1 ∙ sym (Rattle.std.proofs.Common.zero-add k), long.0, (refl, copies_linked k g'), ft (copies k g'))
+    let long = copies_long n k g' (el ∙ eg) in (
+      copies k g',
+      g' ∷ copies k g',
+      long.1 ∙ sym (Rattle.std.proofs.Common.zero-add k),
+      long.0,
+      (refl, copies_linked k g'),
+      ft (copies k g'),
+    )
 from_rounds p n (suc r) k g ss h ts eg (y, mid, round, rounds) f =
-    let (G, G', e, long, link, ft) = from_rounds p n r k y mid h ts (round_keeps p g y ss mid round ∙ eg) rounds f in
-    (y ∷ G, y ∷ G', ap suc e ∙ sym (Rattle.std.proofs.Common.suc-add r k), (round_keeps p g y ss mid round ∙ eg, long), (refl, link), fail_join p g (y ∷ G) ss mid y G' round ft)
+    let (G, G', e, long, link, ft) = from_rounds p n r k y mid h ts (round_keeps p g y ss mid round ∙ eg) rounds f in (
+      y ∷ G,
+      y ∷ G',
+      ap suc e ∙ sym (Rattle.std.proofs.Common.suc-add r k),
+      (round_keeps p g y ss mid round ∙ eg, long),
+      (refl, link),
+      fail_join p g (y ∷ G) ss mid y G' round ft,
+    )

@@ -5,7 +5,8 @@ use Rattle.round_rewrite.specs.Table.{Naming, numbers, copied}
 use Rattle.round_rewrite.proofs.Pushed.{numbers_next}
 
 -- four names behind two lists
-pub gathered : {B : Type 0} (first second : List B) (a b c d : B) → ((((first ++ second) ++ a ∷ []) ++ b ∷ []) ++ c ∷ []) ++ d ∷ [] ≡ first ++ second ++ (a ∷ b ∷ []) ++ c ∷ d ∷ []
+pub gathered : {B : Type 0} (first second : List B) (a b c d : B)
+    → ((((first ++ second) ++ a ∷ []) ++ b ∷ []) ++ c ∷ []) ++ d ∷ [] ≡ first ++ second ++ (a ∷ b ∷ []) ++ c ∷ d ∷ []
 gathered first second a b c d =
     ap (λ ns. (ns ++ c ∷ []) ++ d ∷ []) (append_assoc (first ++ second) (a ∷ []) (b ∷ []))
     ∙ append_assoc ((first ++ second) ++ a ∷ b ∷ []) (c ∷ []) (d ∷ [])
@@ -17,7 +18,8 @@ module _ (w : Naming Name Name Name Name) (last : ℕ) (f : ℕ → Name → Nam
       ap (λ ns. map (f j) xs ++ ns) (copied_behind ks k) ∙ sym (append_assoc (map (f j) xs) (copied w last f xs ks) (map (f k) xs))
 
   -- the names for one more round are put behind those for the rounds before
-  pub copied_next : (start k round : ℕ) (old now new : List Name) → round ≡ start + k → now ≡ old ++ copied w last f xs (numbers start k) → new ≡ now ++ map (f round) xs → new ≡ old ++ copied w last f xs (numbers start (k + 1))
+  pub copied_next : (start k round : ℕ) (old now new : List Name) → round ≡ start + k → now ≡ old ++ copied w last f xs (numbers start k)
+      → new ≡ now ++ map (f round) xs → new ≡ old ++ copied w last f xs (numbers start (k + 1))
   copied_next start k round old now new r e h =
       h ∙ (ap (λ ns. ns ++ map (f round) xs) e
       ∙ (append_assoc old (copied w last f xs (numbers start k)) (map (f round) xs)

@@ -1,5 +1,6 @@
 -- Statements rewritten, one after the other.
-use Rattle.std.proofs.Common.{◌≡◌, ℕ, zero, suc, ◌+◌, ◌<◌, ◌≤◌, List, [], ◌∷◌, length, get_or, drop, map, Option, option_map, refl, sym, ◌∙◌, ap}
+use Rattle.std.proofs.Common.{◌≡◌, ℕ, zero, suc, ◌+◌, ◌<◌, ◌≤◌, List, [], ◌∷◌, length, get_or, drop, map, Option, option_map, refl, sym}
+use Rattle.std.proofs.Common.{◌∙◌, ap}
 use Rattle.std.proofs.lemmas.List.{drop_more, drop_all}
 use Rattle.std.proofs.lemmas.Result.{IfOk-weaker}
 use Rattle.std.specs.Prelude.{Result, IfOk}
@@ -9,7 +10,8 @@ use Rattle.language.specs.Rest.{join}
 use Rattle.trees.specs.declared.tree.Stmt.{Stmt}
 use Rattle.trees.specs.declared.tree.Core.{Core}
 use Rattle.trees.specs.declared.tree.Core.TheFolds.{fold_out-Stmt}
-use Rattle.trees.specs.Trees.{Deed, simple, branch, repeat, Item, name_of, core_step, stmt_step, items_of, deed_of, marked_before, all_before, block_of}
+use Rattle.trees.specs.Trees.{Deed, simple, branch, repeat, Item, name_of, core_step, stmt_step, items_of, deed_of, marked_before}
+use Rattle.trees.specs.Trees.{all_before, block_of}
 use Rattle.round_rewrite.specs.Table.{Naming, numbers, each, plain, side, drawing, prologue, statement, rewritten}
 use Rattle.round_rewrite.specs.Writing.{Statements, Lays, bare_form, form, forms}
 use Rattle.language.proofs.Rests.{join_done}
@@ -21,7 +23,9 @@ module _ (w : Naming tree.Name tree.Name tree.Name tree.Name) (last : ℕ) where
   forms_rewritten [] k = refl
   forms_rewritten (i ∷ is) k = by_deed i.deed (forms_rewritten is k)
     where
-      by_deed : (d : Deed) → forms w last is k ≡ join (rewritten w last (all_before is done)) k → prologue w last i.mark (bare_form w last d (forms w last is k)) ≡ join (rewritten w last (marked_before i.mark d (all_before is done))) k
+      by_deed : (d : Deed) → forms w last is k ≡ join (rewritten w last (all_before is done)) k
+          → prologue w last i.mark (bare_form w last d (forms w last is k))
+          ≡ join (rewritten w last (marked_before i.mark d (all_before is done))) k
       by_deed (simple s) e =
           ap (prologue w last i.mark) (ap (statement w last s) e
           ∙ sym (statement-join w last s (rewritten w last (all_before is done)) k))
@@ -31,22 +35,27 @@ module _ (w : Naming tree.Name tree.Name tree.Name tree.Name) (last : ℕ) where
           ap (λ t. prologue w last i.mark (loop plain (side w last r) (join (rewritten w last a) (prologue w last plain done)) t)) e
 
   -- a block rewritten from nothing, with others behind it
-  pub block_whole : {M N : Type 0} (start new : List (Stmt M)) (body items : List (Stmt N)) → start ≡ [] → body ≡ items → Lays start new (λ k. forms w last (items_of body) k) → (k : Statements) → all_before (items_of new) k ≡ join (rewritten w last (block_of items)) k
+  pub block_whole : {M N : Type 0} (start new : List (Stmt M)) (body items : List (Stmt N)) → start ≡ [] → body ≡ items
+      → Lays start new (λ k. forms w last (items_of body) k) → (k : Statements)
+      → all_before (items_of new) k ≡ join (rewritten w last (block_of items)) k
   block_whole start new body items e f l k =
       l k
       ∙ (ap (λ s. all_before (items_of s) (forms w last (items_of body) k)) e
       ∙ (ap (λ b. forms w last (items_of b) k) f ∙ forms_rewritten (items_of items) k))
 
   -- a block rewritten from nothing
-  pub block_done : {M N : Type 0} (start new : List (Stmt M)) (body items : List (Stmt N)) → start ≡ [] → body ≡ items → Lays start new (λ k. forms w last (items_of body) k) → block_of new ≡ rewritten w last (block_of items)
+  pub block_done : {M N : Type 0} (start new : List (Stmt M)) (body items : List (Stmt N)) → start ≡ [] → body ≡ items
+      → Lays start new (λ k. forms w last (items_of body) k) → block_of new ≡ rewritten w last (block_of items)
   block_done start new body items e f l = block_whole start new body items e f l done ∙ join_done (rewritten w last (block_of items))
 
-  pub drawing_some : (n : ℕ) (k : Statements) → (n ≡ 0 → ⊥) → drawing w last n k ≡ one plain (assign (map w.drawn (numbers 0 n)) (each any (numbers 0 n))) k
+  pub drawing_some : (n : ℕ) (k : Statements) → (n ≡ 0 → ⊥)
+      → drawing w last n k ≡ one plain (assign (map w.drawn (numbers 0 n)) (each any (numbers 0 n))) k
   drawing_some zero k some = absurd (some refl)
   drawing_some (suc n) k some = refl
 
   -- what one statement is rewritten to
-  pub by_core : {M N : Type 0} (a b : List (Stmt M)) (core : Core N) (d : Deed) → deed_of core ≡ d → Lays a b (λ k. bare_form w last d k) → Lays a b (λ k. bare_form w last (deed_of core) k)
+  pub by_core : {M N : Type 0} (a b : List (Stmt M)) (core : Core N) (d : Deed) → deed_of core ≡ d → Lays a b (λ k. bare_form w last d k)
+      → Lays a b (λ k. bare_form w last (deed_of core) k)
   by_core a b core d e l k = l k ∙ ap (λ x. all_before (items_of a) (bare_form w last x k)) (sym e)
 
   -- the same of a list that came where memory did not run out
@@ -56,7 +65,12 @@ module _ (w : Naming tree.Name tree.Name tree.Name tree.Name) (last : ℕ) where
   core_is r items a core d e h = IfOk-weaker r _ _ (λ v l. by_core a (items v) core d (sym e) l) h
 
   -- one more statement is rewritten
-  pub one_more : {M N : Type 0} (ss : List (Stmt N)) (i : ℕ) (s : Stmt N) → i < length ss → s ≡ get_or ss i s → (old mid new : List (Stmt M)) (label : Option tree.Name) → label ≡ option_map name_of s.label → Lays old mid (λ k. prologue w last (record { label = label; at = s.at }) k) → Lays mid new (λ k. bare_form w last (deed_of s.core) k) → (whole : Statements → Statements) → ((rest : Statements) → all_before (items_of old) (forms w last (items_of (drop i ss)) rest) ≡ whole rest) → (rest : Statements) → all_before (items_of new) (forms w last (items_of (drop (i + 1) ss)) rest) ≡ whole rest
+  pub one_more : {M N : Type 0} (ss : List (Stmt N)) (i : ℕ) (s : Stmt N) → i < length ss → s ≡ get_or ss i s
+      → (old mid new : List (Stmt M)) (label : Option tree.Name) → label ≡ option_map name_of s.label
+      → Lays old mid (λ k. prologue w last (record { label = label; at = s.at }) k)
+      → Lays mid new (λ k. bare_form w last (deed_of s.core) k) → (whole : Statements → Statements)
+      → ((rest : Statements) → all_before (items_of old) (forms w last (items_of (drop i ss)) rest) ≡ whole rest) → (rest : Statements)
+      → all_before (items_of new) (forms w last (items_of (drop (i + 1) ss)) rest) ≡ whole rest
   one_more {M} {N} ss i s lt is old mid new label named begun laid whole so rest =
       let k = forms w last (items_of (drop (i + 1) ss)) rest in
       let here = ap items_of (drop_more ss i s lt ∙ ap (λ (y : Stmt N). y ∷ drop (i + 1) ss) (sym is)) in
@@ -67,6 +81,8 @@ module _ (w : Naming tree.Name tree.Name tree.Name tree.Name) (last : ℕ) where
       ∙ (sym (ap (λ is'. all_before (items_of old) (forms w last is' rest)) here) ∙ so rest))))
 
   -- all statements are rewritten
-  pub no_more : {M N : Type 0} (ss : List (Stmt N)) (i : ℕ) → length ss ≤ i → (new : List (Stmt M)) (whole : Statements → Statements) → ((rest : Statements) → all_before (items_of new) (forms w last (items_of (drop i ss)) rest) ≡ whole rest) → (rest : Statements) → all_before (items_of new) rest ≡ whole rest
+  pub no_more : {M N : Type 0} (ss : List (Stmt N)) (i : ℕ) → length ss ≤ i → (new : List (Stmt M)) (whole : Statements → Statements)
+      → ((rest : Statements) → all_before (items_of new) (forms w last (items_of (drop i ss)) rest) ≡ whole rest) → (rest : Statements)
+      → all_before (items_of new) rest ≡ whole rest
   no_more ss i le new whole so rest =
       sym (ap (λ l. all_before (items_of new) (forms w last (items_of l) rest)) (drop_all i ss le)) ∙ so rest

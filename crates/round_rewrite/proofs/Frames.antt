@@ -1,5 +1,6 @@
 -- A stack of the source and the temporaries together give the rewritten stack.
-use Rattle.std.proofs.Common.{◌≡◌, ℕ, zero, suc, ◌+◌, ◌-◌, ◌*◌, ◌<◌, ◌≤◌, max, Bool, true, false, cond, List, [], ◌∷◌, ◌++◌, length, map, Option, Some, None, option_map, slice_get, sym, ◌∙◌, ap, ap₂, arith, ◌⊎◌, inl, inr, append_assoc}
+use Rattle.std.proofs.Common.{◌≡◌, ℕ, zero, suc, ◌+◌, ◌-◌, ◌*◌, ◌<◌, ◌≤◌, max, Bool, true, false, cond, List, [], ◌∷◌, ◌++◌, length, map}
+use Rattle.std.proofs.Common.{Option, Some, None, option_map, slice_get, sym, ◌∙◌, ap, ap₂, arith, ◌⊎◌, inl, inr, append_assoc}
 use Rattle.language.specs.Tree.{Simple, skip, assign, assert, assume, goto, leave, call, Mark, done, one, choose, loop, RightSide}
 use Rattle.language.specs.Value.{Place}
 use Rattle.language.specs.Rest.{Label, Code, join, rest_from, first_of_two, has_label}
@@ -26,7 +27,8 @@ Roomy routines n own d s = SimpleInScope routines n own s × (draws_of s ≤ d)
 abbrev pub Fits : List Routine → ℕ → ℕ → ℕ → Code → Type 0
 Fits routines n own d b = Throughout (Roomy routines n own d) (SideInScope n own) b
 
-pub throughout-join : (S : Simple Place ℕ Label → Type 0) (R : RightSide Place → Type 0) (a b : Code) → Throughout S R a → Throughout S R b → Throughout S R (join a b)
+pub throughout-join : (S : Simple Place ℕ Label → Type 0) (R : RightSide Place → Type 0) (a b : Code) → Throughout S R a → Throughout S R b
+    → Throughout S R (join a b)
 throughout-join S R done b ha hb = hb
 throughout-join S R (one m s t) b ha hb = (ha.0, throughout-join S R t b ha.1 hb)
 throughout-join S R (choose m r x y t) b ha hb = (ha.0, ha.1, ha.2, throughout-join S R t b ha.3 hb)
@@ -45,7 +47,8 @@ there_first : (P : Code → Type 0) (o u : Option Code) → IfThere P o → IfTh
 there_first P None u h k = k
 there_first P (Some x) u h k = h
 
-pub throughout-rest : (S : Simple Place ℕ Label → Type 0) (R : RightSide Place → Type 0) (x : Label) (b k : Code) → Throughout S R b → Throughout S R k → IfThere (Throughout S R) (rest_from x b k)
+pub throughout-rest : (S : Simple Place ℕ Label → Type 0) (R : RightSide Place → Type 0) (x : Label) (b k : Code) → Throughout S R b
+    → Throughout S R k → IfThere (Throughout S R) (rest_from x b k)
 throughout-rest S R x done k hb hk = tt
 throughout-rest S R x (one m s t) k hb hk =
     there_cond (Throughout S R) (has_label x m) _ _ (hb.0, throughout-join S R t k hb.1 hk) (throughout-rest S R x t k hb.1 hk)
@@ -57,9 +60,11 @@ throughout-rest S R x (choose m r a b t) k hb hk =
 throughout-rest S R x (loop m r a t) k hb hk =
     let after : Throughout S R (join t k) = throughout-join S R t k hb.2 hk in
     there_cond (Throughout S R) (has_label x m) _ _ (hb.0, hb.1, after)
-    (there_first (Throughout S R) _ _ (throughout-rest S R x a (loop m r a (join t k)) hb.1 (hb.0, hb.1, after)) (throughout-rest S R x t k hb.2 hk))
+    (there_first (Throughout S R) _ _ (throughout-rest S R x a (loop m r a (join t k)) hb.1 (hb.0, hb.1, after))
+    (throughout-rest S R x t k hb.2 hk))
 
-room_simple : (s : Simple Place ℕ Label) (t : Code) (m : Mark Label) (d : ℕ) → temporaries is_global (one m s t) ≤ d → (draws_of s ≤ d) × (temporaries is_global t ≤ d)
+room_simple : (s : Simple Place ℕ Label) (t : Code) (m : Mark Label) (d : ℕ) → temporaries is_global (one m s t) ≤ d
+    → (draws_of s ≤ d) × (temporaries is_global t ≤ d)
 room_simple skip t m d h = (omega arith, h)
 room_simple (assign xs rs) t m d h = (omega arith, omega arith)
 room_simple (assert r) t m d h = (omega arith, h)
@@ -68,13 +73,18 @@ room_simple (goto x) t m d h = (omega arith, h)
 room_simple leave t m d h = (omega arith, h)
 room_simple (call q es) t m d h = (omega arith, h)
 
-pub roomy : (routines : List Routine) (n own d : ℕ) (b : Code) → Throughout (SimpleInScope routines n own) (SideInScope n own) b → temporaries is_global b ≤ d → Fits routines n own d b
+pub roomy : (routines : List Routine) (n own d : ℕ) (b : Code) → Throughout (SimpleInScope routines n own) (SideInScope n own) b
+    → temporaries is_global b ≤ d → Fits routines n own d b
 roomy routines n own d done h room = tt
 roomy routines n own d (one m s t) h room =
     let both = room_simple s t m d room in
     ((h.0, both.0), roomy routines n own d t h.1 both.1)
-roomy routines n own d (choose m r a b t) h room =
-    (h.0, roomy routines n own d a h.1 (omega arith), roomy routines n own d b h.2 (omega arith), roomy routines n own d t h.3 (omega arith))
+roomy routines n own d (choose m r a b t) h room = (
+  h.0,
+  roomy routines n own d a h.1 (omega arith),
+  roomy routines n own d b h.2 (omega arith),
+  roomy routines n own d t h.3 (omega arith),
+)
 roomy routines n own d (loop m r a t) h room =
     (h.0, roomy routines n own d a h.1 (omega arith), roomy routines n own d t h.2 (omega arith))
 
@@ -121,7 +131,8 @@ module _ (p : Program) (last : ℕ) where
   -- the world of the rewritten program, at the procedures of the source
   pub record IsWorld (w : World) : Type 0 where
     pub enters_is : (c : ℕ) → w.enters (suc c) ≡ option_map put_routine (slice_get p.routines c)
-    pub jumps_is : (c : ℕ) (r : Routine) (x : Label) → slice_get p.routines c ≡ Some r → w.jumps (suc c) x ≡ option_map (put_rest r.places) (rest_from x r.body done)
+    pub jumps_is : (c : ℕ) (r : Routine) (x : Label) → slice_get p.routines c ≡ Some r
+        → w.jumps (suc c) x ≡ option_map (put_rest r.places) (rest_from x r.body done)
 
 pub zeros-add : (a b : ℕ) → zeros (a + b) ≡ zeros a ++ zeros b
 zeros-add zero b = ap zeros (Rattle.std.proofs.Common.zero-add b)
@@ -131,4 +142,5 @@ zeros-add (suc a) b = ap zeros (Rattle.std.proofs.Common.suc-add a b) ∙ ap (λ
 pub fresh_more : (own d : ℕ) (vs : List Bool) → length vs ≤ own → fresh (own + d) vs ≡ fresh own vs ++ zeros d
 fresh_more own d vs h =
     let e : own + d - length vs ≡ (own - length vs) + d = omega arith in
-    ap (λ k. vs ++ zeros k) e ∙ (ap (λ z. vs ++ z) (zeros-add (own - length vs) d) ∙ sym (append_assoc vs (zeros (own - length vs)) (zeros d)))
+    ap (λ k. vs ++ zeros k) e
+    ∙ (ap (λ z. vs ++ z) (zeros-add (own - length vs) d) ∙ sym (append_assoc vs (zeros (own - length vs)) (zeros d)))

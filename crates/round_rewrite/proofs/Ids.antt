@@ -33,7 +33,10 @@ two_lows : (a s : List ℕ) → BeginsName a → AreWordBytes a → AreWordBytes
 two_lows a s begins front back = record {
   begins = begins_both a (95 ∷ 95 ∷ s) begins;
   bytes = words_both a (95 ∷ 95 ∷ s) front (refl, (refl, back));
-  no_keyword = λ k e. (let free : has_double (a ++ 95 ∷ 95 ∷ s) ≡ false = rw e at (reserved_free k) in let bad : true ≡ false = sym (double_there a s) ∙ free in cc);
+  no_keyword =
+      λ k e.
+      (let free : has_double (a ++ 95 ∷ 95 ∷ s) ≡ false = rw e at (reserved_free k) in
+      let bad : true ≡ false = sym (double_there a s) ∙ free in cc);
 }
 
 word_digit : (d : ℕ) → d < 10 → is_word_byte (48 + d) ≡ true

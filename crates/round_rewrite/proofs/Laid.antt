@@ -1,5 +1,6 @@
 -- How the globals of the rewritten program lie: copies round by round, saved guesses, the round's bits, stop, bad.
-use Rattle.std.proofs.Common.{◌≡◌, ℕ, zero, suc, ◌+◌, ◌*◌, ◌<◌, Bool, true, false, List, [], ◌∷◌, ◌++◌, length, refl, sym, ◌∙◌, ap, arith, append_assoc, length-append, zero-add}
+use Rattle.std.proofs.Common.{◌≡◌, ℕ, zero, suc, ◌+◌, ◌*◌, ◌<◌, Bool, true, false, List, [], ◌∷◌, ◌++◌, length, refl, sym, ◌∙◌, ap, arith}
+use Rattle.std.proofs.Common.{append_assoc, length-append, zero-add}
 use Rattle.std.proofs.lemmas.List.{get_or_append_left, set-append_left, set-get_or}
 use Rattle.language.specs.Value.{bit, with_bit}
 use Rattle.round_rewrite.specs.Places.{bits_at}
@@ -35,21 +36,25 @@ with_row (r ∷ rs) (suc k) v = r ∷ with_row rs k v
 
 pub length-flat : (n : ℕ) (C : List (List Bool)) → Long n C → length (flat C) ≡ length C * n
 length-flat n [] h = omega arith
-length-flat n (r ∷ C) h = length-append r (flat C) ∙ (let e : length (flat C) ≡ length C * n = length-flat n C h.1 in let e' : length r ≡ n = h.0 in omega arith)
+length-flat n (r ∷ C) h = length-append r (flat C)
+    ∙ (let e : length (flat C) ≡ length C * n = length-flat n C h.1 in let e' : length r ≡ n = h.0 in omega arith)
 
-pub row_bit : (n : ℕ) (C : List (List Bool)) (X : List Bool) (k i : ℕ) → Long n C → k < length C → i < n → bit (flat C ++ X) (k * n + i) ≡ bit (row C k) i
+pub row_bit : (n : ℕ) (C : List (List Bool)) (X : List Bool) (k i : ℕ) → Long n C → k < length C → i < n
+    → bit (flat C ++ X) (k * n + i) ≡ bit (row C k) i
 row_bit n [] X k i long h h' = absurd (omega arith)
 row_bit n (r ∷ C) X zero i long h h' =
     let e : length r ≡ n = long.0 in
     let at : zero * n + i ≡ i = omega arith in
-    ap (bit ((r ++ flat C) ++ X)) at ∙ (ap (λ z. bit z i) (append_assoc r (flat C) X) ∙ get_or_append_left r (flat C ++ X) false i (omega arith))
+    ap (bit ((r ++ flat C) ++ X)) at
+    ∙ (ap (λ z. bit z i) (append_assoc r (flat C) X) ∙ get_or_append_left r (flat C ++ X) false i (omega arith))
 row_bit n (r ∷ C) X (suc k) i long h h' =
     let e : length r ≡ n = long.0 in
     let at : suc k * n + i ≡ length r + (k * n + i) = omega arith in
     ap (λ z. bit z (suc k * n + i)) (append_assoc r (flat C) X)
     ∙ (bit_right r (flat C ++ X) (suc k * n + i) (k * n + i) at ∙ row_bit n C X k i long.1 (omega arith) h')
 
-pub row_with : (n : ℕ) (C : List (List Bool)) (X : List Bool) (k i : ℕ) (v : Bool) → Long n C → k < length C → i < n → with_bit (flat C ++ X) (k * n + i) v ≡ flat (with_row C k (with_bit (row C k) i v)) ++ X
+pub row_with : (n : ℕ) (C : List (List Bool)) (X : List Bool) (k i : ℕ) (v : Bool) → Long n C → k < length C → i < n
+    → with_bit (flat C ++ X) (k * n + i) v ≡ flat (with_row C k (with_bit (row C k) i v)) ++ X
 row_with n [] X k i v long h h' = absurd (omega arith)
 row_with n (r ∷ C) X zero i v long h h' =
     let e : length r ≡ n = long.0 in
@@ -69,7 +74,8 @@ pub row_middle : (pre : List (List Bool)) (g : List Bool) (post : List (List Boo
 row_middle [] g post = refl
 row_middle (r ∷ pre) g post = row_middle pre g post
 
-pub with_middle : (pre : List (List Bool)) (g h : List Bool) (post : List (List Bool)) → with_row (pre ++ g ∷ post) (length pre) h ≡ pre ++ h ∷ post
+pub with_middle : (pre : List (List Bool)) (g h : List Bool) (post : List (List Bool))
+    → with_row (pre ++ g ∷ post) (length pre) h ≡ pre ++ h ∷ post
 with_middle [] g h post = refl
 with_middle (r ∷ pre) g h post = ap (λ z. r ∷ z) (with_middle pre g h post)
 
@@ -122,7 +128,8 @@ pub record Shape (n last : ℕ) (C S : List (List Bool)) : Type 0 where
   pub rounds : length C ≡ suc last
   pub guesses : length S ≡ last
 
-pub bits_index : (n last : ℕ) (C S : List (List Bool)) (j : ℕ) → Shape n last C S → bits_at n last + j ≡ length (flat C) + (length (flat S) + j)
+pub bits_index : (n last : ℕ) (C S : List (List Bool)) (j : ℕ) → Shape n last C S
+    → bits_at n last + j ≡ length (flat C) + (length (flat S) + j)
 bits_index n last C S j h =
     let a : length (flat C) ≡ length C * n = length-flat n C h.copies in
     let b : length (flat S) ≡ length S * n = length-flat n S h.saved in
@@ -130,12 +137,14 @@ bits_index n last C S j h =
     let d : length S * n ≡ last * n = ap (λ z. z * n) h.guesses in
     omega arith
 
-pub bits_bit : (n last : ℕ) (C S : List (List Bool)) (bits : List Bool) (j : ℕ) → Shape n last C S → bit (lay C S bits) (bits_at n last + j) ≡ bit bits j
+pub bits_bit : (n last : ℕ) (C S : List (List Bool)) (bits : List Bool) (j : ℕ) → Shape n last C S
+    → bit (lay C S bits) (bits_at n last + j) ≡ bit bits j
 bits_bit n last C S bits j h =
     bit_right (flat C) (flat S ++ bits) (bits_at n last + j) (length (flat S) + j) (bits_index n last C S j h)
     ∙ bit_right (flat S) bits (length (flat S) + j) j refl
 
-pub bits_with : (n last : ℕ) (C S : List (List Bool)) (bits : List Bool) (j : ℕ) (v : Bool) → Shape n last C S → with_bit (lay C S bits) (bits_at n last + j) v ≡ lay C S (with_bit bits j v)
+pub bits_with : (n last : ℕ) (C S : List (List Bool)) (bits : List Bool) (j : ℕ) (v : Bool) → Shape n last C S
+    → with_bit (lay C S bits) (bits_at n last + j) v ≡ lay C S (with_bit bits j v)
 bits_with n last C S bits j v h =
     with_right (flat C) (flat S ++ bits) (bits_at n last + j) (length (flat S) + j) v (bits_index n last C S j h)
     ∙ ap (λ z. flat C ++ z) (with_right (flat S) bits (length (flat S) + j) j v refl)

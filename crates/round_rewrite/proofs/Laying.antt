@@ -12,7 +12,8 @@ all_before_last : (is : List Item) (i : Item) (k : Statements) → all_before (i
 all_before_last [] i k = refl
 all_before_last (j ∷ is) i k = ap (before j) (all_before_last is i k)
 
-pub lays_pushed : {A : Type 0} (old : List (Stmt A)) (s : Stmt A) {new : List (Stmt A)} → new ≡ old ++ s ∷ [] → Lays old new (λ k. marked_before (record { label = option_map name_of s.label; at = s.at }) (deed_of s.core) k)
+pub lays_pushed : {A : Type 0} (old : List (Stmt A)) (s : Stmt A) {new : List (Stmt A)} → new ≡ old ++ s ∷ []
+    → Lays old new (λ k. marked_before (record { label = option_map name_of s.label; at = s.at }) (deed_of s.core) k)
 lays_pushed {A} old s e k =
     ap (λ ss. all_before (items_of ss) k) e
     ∙ (ap (λ is. all_before is k) (map-append item_of old (s ∷ []))
@@ -28,5 +29,6 @@ pub said : {A : Type 0} (a b : List (Stmt A)) (f g : Statements → Statements) 
 said a b f g first same k = first k ∙ ap (all_before (items_of a)) (same k)
 
 -- one statement, whose deed is said otherwise
-pub laid : {A : Type 0} (a b : List (Stmt A)) (m : Mark tree.Name) (d d' : Deed) → Lays a b (λ k. marked_before m d k) → d ≡ d' → Lays a b (λ k. marked_before m d' k)
+pub laid : {A : Type 0} (a b : List (Stmt A)) (m : Mark tree.Name) (d d' : Deed) → Lays a b (λ k. marked_before m d k) → d ≡ d'
+    → Lays a b (λ k. marked_before m d' k)
 laid a b m d d' l e k = l k ∙ ap (λ x. all_before (items_of a) (marked_before m x k)) e

@@ -12,7 +12,8 @@ abbrev pub Never : (State → Type 0) → List Frame → Type 0
 Never Q fs = (g : List Bool) (f : Frame) → Q (state g (f ∷ fs)) → ⊥
 
 -- such a state is not yet there: there is a first step
-pub unstep : (w : World) (Q : State → Type 0) (n : ℕ) (g : List Bool) (f : Frame) (fs : List Frame) → Never Q fs → PlainAfter w n (state g (f ∷ fs)) Q → (m : ℕ) × (n ≡ suc m) × PlainSteps w (state g (f ∷ fs)) (λ t. PlainAfter w m t Q)
+pub unstep : (w : World) (Q : State → Type 0) (n : ℕ) (g : List Bool) (f : Frame) (fs : List Frame) → Never Q fs
+    → PlainAfter w n (state g (f ∷ fs)) Q → (m : ℕ) × (n ≡ suc m) × PlainSteps w (state g (f ∷ fs)) (λ t. PlainAfter w m t Q)
 unstep w Q zero g f fs never h = absurd (never g f h)
 unstep w Q (suc m) g f fs never h = (m, refl, h)
 

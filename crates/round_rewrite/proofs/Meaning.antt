@@ -1,19 +1,24 @@
 -- The rewritten tree means the rewritten program, and the theorem over names.
-use Rattle.std.proofs.Common.{◌≡◌, ℕ, zero, suc, ◌+◌, ◌*◌, ◌<◌, ◌≤◌, true, false, cond, List, [], ◌∷◌, ◌++◌, length, map, codes, Option, Some, None, option_map, slice_get, refl, sym, ◌∙◌, ap, subst, ap₂, arith, append_assoc, length-append}
+use Rattle.std.proofs.Common.{◌≡◌, ℕ, zero, suc, ◌+◌, ◌*◌, ◌<◌, ◌≤◌, true, false, cond, List, [], ◌∷◌, ◌++◌, length, map, codes, Option}
+use Rattle.std.proofs.Common.{Some, None, option_map, slice_get, refl, sym, ◌∙◌, ap, subst, ap₂, arith, append_assoc, length-append}
 use Rattle.std.proofs.lemmas.List.{length-map}
 use Rattle.std.proofs.lemmas.Option.{slice_get-map}
-use Rattle.language.specs.Tree.{Name, Expression, const, var, negation, two, RightSide, any, value, Simple, skip, assign, assert, assume, goto, leave, call, Block, done, one, choose, loop, Procedure, ThreadLine, Tree}
+use Rattle.language.specs.Tree.{Name, Expression, const, var, negation, two, RightSide, any, value, Simple, skip, assign, assert, assume}
+use Rattle.language.specs.Tree.{goto, leave, call, Block, done, one, choose, loop, Procedure, ThreadLine, Tree}
 use Rattle.language.specs.Value.{global, local}
 use Rattle.language.specs.Rest.{same_text}
 use Rattle.language.specs.Step.{AtRoutine}
-use Rattle.language.specs.Resolve.{number_of, is_declared, Scope, place_of, resolve_expression, resolve_side, resolve_simple, resolve_block, scope_of, routine_of, meaning_of}
+use Rattle.language.specs.Resolve.{number_of, is_declared, Scope, place_of, resolve_expression, resolve_side, resolve_simple, resolve_block}
+use Rattle.language.specs.Resolve.{scope_of, routine_of, meaning_of}
 use Rattle.language.specs.Sequential.{in_text_order, sequential_of, SomeBad}
 use Rattle.round_rewrite.specs.Table.{Naming, numbers, temporaries, rewritten, main, globals}
 use Rattle.round_rewrite.specs.Places.{places, is_global, rewritten_routine, main_routine, rewritten_program, bad_at, global_count}
 use Rattle.round_rewrite.specs.Names.{named, copy_name, save_name, drawn_name, names, rewritten_procedure, main_procedure, rewritten_tree}
-use Rattle.resolved.specs.Scoped.{PlaceInScope, InScope, AreInScope, SideInScope, SidesInScope, PlacesInScope, SimpleInScope, Throughout, EachRoutine, EachThread, RoutineInScope, FitsScopes}
+use Rattle.resolved.specs.Scoped.{PlaceInScope, InScope, AreInScope, SideInScope, SidesInScope, PlacesInScope, SimpleInScope, Throughout}
+use Rattle.resolved.specs.Scoped.{EachRoutine, EachThread, RoutineInScope, FitsScopes}
 use Rattle.language.proofs.Names.{number_less}
-use Rattle.scopes.specs.Rewritable.{has_double, AreFree, Declared, AllDeclared, ExpressionDeclared, ExpressionsDeclared, SideDeclared, SidesDeclared, HasRoom, SimpleDeclared, BlockDeclared, ProcedureRewritable, EachLine, IsRewritable}
+use Rattle.scopes.specs.Rewritable.{has_double, AreFree, Declared, AllDeclared, ExpressionDeclared, ExpressionsDeclared, SideDeclared}
+use Rattle.scopes.specs.Rewritable.{SidesDeclared, HasRoom, SimpleDeclared, BlockDeclared, ProcedureRewritable, EachLine, IsRewritable}
 use Rattle.resolved.specs.Narrow.{EachProcedure, width}
 use Rattle.round_rewrite.specs.Narrow.{IsNarrow}
 use Rattle.round_rewrite.specs.Law.{Keeps, KeepsTree}
@@ -29,18 +34,22 @@ use Rattle.round_rewrite.specs.Limits.{most_rounds}
 names_of : List Procedure → List Name
 names_of procs = map (λ (p : Procedure). p.name) procs
 
-names_kept : (last : ℕ) (procs : List Procedure) → map (λ (p : Procedure). p.name) (map (rewritten_procedure last) procs) ≡ map (λ (p : Procedure). p.name) procs
+names_kept : (last : ℕ) (procs : List Procedure)
+    → map (λ (p : Procedure). p.name) (map (rewritten_procedure last) procs) ≡ map (λ (p : Procedure). p.name) procs
 names_kept last [] = refl
 names_kept last (p ∷ procs) = ap (λ z. p.name ∷ z) (names_kept last procs)
 
-pub free_names : (t : Tree) (procs : List Procedure) → EachProcedure (ProcedureRewritable t) procs → AreFree (map (λ (p : Procedure). p.name) procs)
+pub free_names : (t : Tree) (procs : List Procedure) → EachProcedure (ProcedureRewritable t) procs
+    → AreFree (map (λ (p : Procedure). p.name) procs)
 free_names t [] h = tt
 free_names t (p ∷ procs) h = (h.0.name, free_names t procs h.1)
 
 -- no procedure of the source is named as the first one of the rewritten program
-pub not_main : (t : Tree) → IsRewritable t → (x : List ℕ) → is_declared x (map (λ (p : Procedure). p.name) t.procedures) ≡ true → same_text x (codes "main__") ≡ false
+pub not_main : (t : Tree) → IsRewritable t → (x : List ℕ) → is_declared x (map (λ (p : Procedure). p.name) t.procedures) ≡ true
+    → same_text x (codes "main__") ≡ false
 not_main t ok x h =
-    let free : has_double x ≡ false = free_name x (map (λ (p : Procedure). p.name) t.procedures) (free_names t t.procedures ok.procedures) h in
+    let free : has_double x ≡ false =
+    free_name x (map (λ (p : Procedure). p.name) t.procedures) (free_names t t.procedures ok.procedures) h in
     same_text_other (codes "main__") x (free_differs x (109 ∷ 97 ∷ 105 ∷ 110 ∷ []) [] free)
 
 module _ (t : Tree) (last : ℕ) (ok : IsRewritable t) (small : last < most_rounds) where
@@ -63,7 +72,9 @@ module _ (t : Tree) (last : ℕ) (ok : IsRewritable t) (small : last < most_roun
       ∙ ap (λ z. suc (number_of q.text z)) (names_kept last t.procedures)
 
   main_is : routine_of t' (main_procedure last t) ≡ main_routine last (meaning_of t)
-  main_is = ap (λ b. record { places = 0; body = b }) (main_resolved t gs ps last ok.globals ok.distinct (omega arith) small ps' called t.threads ok.threads)
+  main_is =
+      ap (λ b. record { places = 0; body = b }) (main_resolved t gs ps last ok.globals ok.distinct
+      (omega arith) small ps' called t.threads ok.threads)
 
   abbrev own_of : Procedure → List Name
   own_of p = p.formals ++ p.locals
@@ -79,7 +90,8 @@ module _ (t : Tree) (last : ℕ) (ok : IsRewritable t) (small : last < most_roun
 
   length-own : (p : Procedure) → length (p.formals ++ (p.locals ++ temps_of p)) ≡ length (own_of p) + drawn_of p
   length-own p =
-      ap length (sym (append_assoc p.formals p.locals (temps_of p))) ∙ (length-append (own_of p) (temps_of p) ∙ ap (λ z. length (own_of p) + z) (length-temps p))
+      ap length (sym (append_assoc p.formals p.locals (temps_of p)))
+      ∙ (length-append (own_of p) (temps_of p) ∙ ap (λ z. length (own_of p) + z) (length-temps p))
 
   few_drawn : (p : Procedure) → width t' (rewritten_procedure last p) ≤ most_places → drawn_of p ≤ most_places
   few_drawn p h = let e : length (p.formals ++ (p.locals ++ temps_of p)) ≡ length (own_of p) + drawn_of p = length-own p in omega arith
@@ -92,10 +104,14 @@ module _ (t : Tree) (last : ℕ) (ok : IsRewritable t) (small : last < most_roun
       let few : d ≤ most_places = few_drawn p narrow in
       let counts : temporaries (names own).is_shared p.body ≡ temporaries is_global (resolve_block (scope_of t p) p.body) =
       temporaries_resolved t gs own ps d last ok.globals h.own few small ps' called p.body in
-      let bodies : resolve_block (wider gs own ps d last ok.globals h.own few small ps') (rewritten (names own) last p.body) ≡ rewritten (places (length gs) last (length own)) last (resolve_block (scope_of t p) p.body) =
+      let bodies : resolve_block (wider gs own ps d last ok.globals h.own few small ps') (rewritten (names own) last p.body) ≡ rewritten
+      (places (length gs) last (length own)) last (resolve_block (scope_of t p) p.body) =
       block_resolved t gs own ps d last ok.globals h.own few small ps' called p.body h.body (omega arith) in
-      let scoped : resolve_block (scope_of t' (rewritten_procedure last p)) (rewritten (names own) last p.body) ≡ resolve_block (wider gs own ps d last ok.globals h.own few small ps') (rewritten (names own) last p.body) =
-      ap (λ l. resolve_block (record { globals = t'.globals; locals = l; procedures = ps' }) (rewritten (names own) last p.body)) (sym (append_assoc p.formals p.locals (temps_of p))) in
+      let scoped : resolve_block (scope_of t' (rewritten_procedure last p)) (rewritten (names own) last p.body) ≡ resolve_block
+      (wider gs own ps d last ok.globals h.own few small ps') (rewritten (names own) last p.body) =
+      ap (λ l.
+      resolve_block (record { globals = t'.globals; locals = l; procedures = ps' }) (rewritten (names own) last p.body))
+      (sym (append_assoc p.formals p.locals (temps_of p))) in
       λ i. record { places = (length-own p ∙ ap (λ z. length own + z) counts) i; body = (scoped ∙ bodies) i }
 
   routines_are : (procs : List Procedure) → EachProcedure (ProcedureRewritable t) procs →
@@ -134,8 +150,12 @@ module _ (t : Tree) (last : ℕ) (ok : IsRewritable t) (small : last < most_roun
 
     place_fits : (x : Name) → Declared s x → PlaceInScope (length gs) (length own) (place_of s x)
     place_fits x h = by_test (is_declared x.text own)
-        (λ e. subst (PlaceInScope (length gs) (length own)) (sym (ap (λ c. cond c (local (number_of x.text own)) (global (number_of x.text gs))) e)) (number_less x.text own e))
-        (λ e. subst (PlaceInScope (length gs) (length own)) (sym (ap (λ c. cond c (local (number_of x.text own)) (global (number_of x.text gs))) e)) (number_less x.text gs (h e)))
+        (λ e.
+        subst (PlaceInScope (length gs) (length own))
+        (sym (ap (λ c. cond c (local (number_of x.text own)) (global (number_of x.text gs))) e)) (number_less x.text own e))
+        (λ e.
+        subst (PlaceInScope (length gs) (length own))
+        (sym (ap (λ c. cond c (local (number_of x.text own)) (global (number_of x.text gs))) e)) (number_less x.text gs (h e)))
 
     places_fit : (xs : List Name) → AllDeclared s xs → PlacesInScope (length gs) (length own) (map (place_of s) xs)
     places_fit [] h = tt
@@ -147,7 +167,8 @@ module _ (t : Tree) (last : ℕ) (ok : IsRewritable t) (small : last < most_roun
     expression_fits (negation e) h = expression_fits e h
     expression_fits (two o a b) h = (expression_fits a h.0, expression_fits b h.1)
 
-    expressions_fit : (es : List (Expression Name)) → ExpressionsDeclared s es → AreInScope (length gs) (length own) (map (resolve_expression s) es)
+    expressions_fit : (es : List (Expression Name)) → ExpressionsDeclared s es
+        → AreInScope (length gs) (length own) (map (resolve_expression s) es)
     expressions_fit [] h = tt
     expressions_fit (e ∷ es) h = (expression_fits e h.0, expressions_fit es h.1)
 
@@ -159,11 +180,13 @@ module _ (t : Tree) (last : ℕ) (ok : IsRewritable t) (small : last < most_roun
     sides_fit [] h = tt
     sides_fit (r ∷ rs) h = (side_fits r h.0, sides_fit rs h.1)
 
-    room_fits : (o : Option Procedure) (es : List (Expression Name)) → HasRoom o (length es) → AtRoutine (option_map (routine_of t) o) (λ r. length (map (resolve_expression s) es) ≤ r.places)
+    room_fits : (o : Option Procedure) (es : List (Expression Name)) → HasRoom o (length es)
+        → AtRoutine (option_map (routine_of t) o) (λ r. length (map (resolve_expression s) es) ≤ r.places)
     room_fits None es h = absurd h
     room_fits (Some p) es h = subst (λ k. k ≤ length (p.formals ++ p.locals)) (sym (length-map es (resolve_expression s))) h
 
-    simple_fits : (c : Simple Name Name Name) → SimpleDeclared t s c → SimpleInScope (meaning_of t).routines (length gs) (length own) (resolve_simple s c)
+    simple_fits : (c : Simple Name Name Name) → SimpleDeclared t s c
+        → SimpleInScope (meaning_of t).routines (length gs) (length own) (resolve_simple s c)
     simple_fits skip h = tt
     simple_fits (assign xs rs) h = (places_fit xs h.0, sides_fit rs h.1)
     simple_fits (assert r) h = side_fits r h
@@ -172,17 +195,21 @@ module _ (t : Tree) (last : ℕ) (ok : IsRewritable t) (small : last < most_roun
     simple_fits leave h = tt
     simple_fits (call q es) h = (
       expressions_fit es h.0,
-      subst (λ o. AtRoutine o (λ r. length (map (resolve_expression s) es) ≤ r.places)) (sym (slice_get-map (routine_of t) t.procedures (number_of q.text ps)))
+      subst (λ o. AtRoutine o (λ r. length (map (resolve_expression s) es) ≤ r.places))
+          (sym (slice_get-map (routine_of t) t.procedures (number_of q.text ps)))
           (room_fits (slice_get t.procedures (number_of q.text ps)) es h.2),
     )
 
-    block_fits : (b : Block Name Name Name) → BlockDeclared t s b → Throughout (SimpleInScope (meaning_of t).routines (length gs) (length own)) (SideInScope (length gs) (length own)) (resolve_block s b)
+    block_fits : (b : Block Name Name Name) → BlockDeclared t s b
+        → Throughout (SimpleInScope (meaning_of t).routines (length gs) (length own)) (SideInScope (length gs) (length own))
+        (resolve_block s b)
     block_fits done h = tt
     block_fits (one m c k) h = (simple_fits c h.0, block_fits k h.1)
     block_fits (choose m r a b k) h = (side_fits r h.0, block_fits a h.1, block_fits b h.2, block_fits k h.3)
     block_fits (loop m r a k) h = (side_fits r h.0, block_fits a h.1, block_fits k h.2)
 
-  routines_fit : (procs : List Procedure) → EachProcedure (ProcedureRewritable t) procs → EachRoutine (RoutineInScope (meaning_of t).routines (length gs)) (map (routine_of t) procs)
+  routines_fit : (procs : List Procedure) → EachProcedure (ProcedureRewritable t) procs
+      → EachRoutine (RoutineInScope (meaning_of t).routines (length gs)) (map (routine_of t) procs)
   routines_fit [] h = tt
   routines_fit (p ∷ procs) h = (block_fits (own_of p) p.body h.0.body, routines_fit procs h.1)
 
@@ -191,10 +218,13 @@ module _ (t : Tree) (last : ℕ) (ok : IsRewritable t) (small : last < most_roun
   there (p ∷ procs) zero h = tt
   there (p ∷ procs) (suc k) h = there procs k (omega arith)
 
-  threads_fit : (lines : List ThreadLine) → EachLine ps lines → EachThread (meaning_of t).routines (map (λ (line : ThreadLine). number_of line.name.text ps) lines)
+  threads_fit : (lines : List ThreadLine) → EachLine ps lines
+      → EachThread (meaning_of t).routines (map (λ (line : ThreadLine). number_of line.name.text ps) lines)
   threads_fit [] h = tt
   threads_fit (line ∷ lines) h = (
-    there t.procedures (number_of line.name.text ps) (let z : number_of line.name.text ps < length ps = number_less line.name.text ps h.0 in let e : length ps ≡ length t.procedures = length-map t.procedures (λ (p : Procedure). p.name) in omega arith),
+    there t.procedures (number_of line.name.text ps) (let z : number_of line.name.text ps < length ps =
+        number_less line.name.text ps h.0 in let e : length ps ≡ length t.procedures =
+        length-map t.procedures (λ (p : Procedure). p.name) in omega arith),
     threads_fit lines h.1,
   )
 

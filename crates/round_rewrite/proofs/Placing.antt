@@ -1,5 +1,6 @@
 -- The printed names stand at their places.
-use Rattle.std.proofs.Common.{◌≡◌, ℕ, zero, suc, ◌+◌, ◌*◌, ◌<◌, ◌≤◌, true, false, cond, List, [], ◌∷◌, ◌++◌, length, map, codes, refl, sym, ◌∙◌, ap, ap₂, arith, append_assoc, length-append}
+use Rattle.std.proofs.Common.{◌≡◌, ℕ, zero, suc, ◌+◌, ◌*◌, ◌<◌, ◌≤◌, true, false, cond, List, [], ◌∷◌, ◌++◌, length, map, codes, refl, sym}
+use Rattle.std.proofs.Common.{◌∙◌, ap, ap₂, arith, append_assoc, length-append}
 use Rattle.std.specs.Prelude.{decimal}
 use Rattle.language.specs.Tree.{Name}
 use Rattle.language.specs.Value.{global, local}
@@ -9,7 +10,8 @@ use Rattle.round_rewrite.specs.Table.{Naming, numbers, copied, globals}
 use Rattle.round_rewrite.specs.Places.{copy_at, save_at, bits_at, high_at, low_at, stop_at, bad_at}
 use Rattle.round_rewrite.specs.Names.{named, copy_name, save_name, drawn_name, names}
 use Rattle.scopes.specs.Rewritable.{has_double, AreFree}
-use Rattle.round_rewrite.proofs.Spelling.{same_text_refl, same_text_false, same_text-append, copies_differ, saves_differ, save_no_copy, low_no_copy, low_no_save, drawn_differ, no_drawn, digit_is}
+use Rattle.round_rewrite.proofs.Spelling.{same_text_refl, same_text_false, same_text-append, copies_differ, saves_differ, save_no_copy}
+use Rattle.round_rewrite.proofs.Spelling.{low_no_copy, low_no_save, drawn_differ, no_drawn, digit_is}
 use Rattle.round_rewrite.proofs.Numbering.{number_right, number_left, not_free, free_name, Spelled, length-rows, none_in_rows, in_rows}
 use Rattle.resolved.specs.Limits.{most_places}
 use Rattle.round_rewrite.specs.Limits.{most_rounds}
@@ -27,7 +29,8 @@ saves_spelled = record {
 }
 
 -- among temporaries
-no_temporary : (t : List ℕ) (j d : ℕ) → ((i : ℕ) → same_text t (drawn_name i).text ≡ false) → is_declared t (map drawn_name (numbers j d)) ≡ false
+no_temporary : (t : List ℕ) (j d : ℕ) → ((i : ℕ) → same_text t (drawn_name i).text ≡ false)
+    → is_declared t (map drawn_name (numbers j d)) ≡ false
 no_temporary t j zero h = refl
 no_temporary t j (suc d) h = ap (λ c. cond c true (is_declared t (map drawn_name (numbers (suc j) d)))) (h j) ∙ no_temporary t (suc j) d h
 
@@ -37,16 +40,20 @@ the_temporary : (e j d : ℕ) → e < d → j + d ≤ most_places →
 the_temporary e j zero lt all = absurd (omega arith)
 the_temporary zero j (suc d) lt all =
     let z : j + zero ≡ j = omega arith in
-    let same : same_text (drawn_name (j + zero)).text (drawn_name j).text ≡ true = ap (λ k. same_text (drawn_name k).text (drawn_name j).text) z ∙ same_text_refl (drawn_name j).text in (
+    let same : same_text (drawn_name (j + zero)).text (drawn_name j).text ≡ true =
+    ap (λ k. same_text (drawn_name k).text (drawn_name j).text) z ∙ same_text_refl (drawn_name j).text in (
       ap (λ c. cond c true (is_declared (drawn_name (j + zero)).text (map drawn_name (numbers (suc j) d)))) same,
       ap (λ c. cond c 0 (suc (number_of (drawn_name (j + zero)).text (map drawn_name (numbers (suc j) d))))) same,
     )
 the_temporary (suc e) j (suc d) lt all =
     let z : j + suc e ≡ suc j + e = omega arith in
-    let other : same_text (drawn_name (j + suc e)).text (drawn_name j).text ≡ false = drawn_differ (j + suc e) j (omega arith) (omega arith) (λ q. omega arith) in
+    let other : same_text (drawn_name (j + suc e)).text (drawn_name j).text ≡ false =
+    drawn_differ (j + suc e) j (omega arith) (omega arith) (λ q. omega arith) in
     let ih = the_temporary e (suc j) d (omega arith) (omega arith) in (
-      ap (λ c. cond c true (is_declared (drawn_name (j + suc e)).text (map drawn_name (numbers (suc j) d)))) other ∙ (ap (λ k. is_declared (drawn_name k).text (map drawn_name (numbers (suc j) d))) z ∙ ih.0),
-      ap (λ c. cond c 0 (suc (number_of (drawn_name (j + suc e)).text (map drawn_name (numbers (suc j) d))))) other ∙ ap suc (ap (λ k. number_of (drawn_name k).text (map drawn_name (numbers (suc j) d))) z ∙ ih.1),
+      ap (λ c. cond c true (is_declared (drawn_name (j + suc e)).text (map drawn_name (numbers (suc j) d)))) other
+          ∙ (ap (λ k. is_declared (drawn_name k).text (map drawn_name (numbers (suc j) d))) z ∙ ih.0),
+      ap (λ c. cond c 0 (suc (number_of (drawn_name (j + suc e)).text (map drawn_name (numbers (suc j) d))))) other
+          ∙ ap suc (ap (λ k. number_of (drawn_name k).text (map drawn_name (numbers (suc j) d))) z ∙ ih.1),
     )
 
 pub length-numbers : (j d : ℕ) → length (numbers j d) ≡ d
@@ -87,22 +94,28 @@ module _ (gs own ps : List Name) (d last : ℕ) (gs_free : AreFree gs) (own_free
   length-B = length-rows (names []) last save_name gs 1 last
 
   -- a name with two underscores that is no temporary is no formal, local or temporary
-  outside : (a s : List ℕ) → ((i : ℕ) → same_text (a ++ 95 ∷ 95 ∷ s) (drawn_name i).text ≡ false) → is_declared (a ++ 95 ∷ 95 ∷ s) (own ++ temps) ≡ false
+  outside : (a s : List ℕ) → ((i : ℕ) → same_text (a ++ 95 ∷ 95 ∷ s) (drawn_name i).text ≡ false)
+      → is_declared (a ++ 95 ∷ 95 ∷ s) (own ++ temps) ≡ false
   outside a s h = (number_right (a ++ 95 ∷ 95 ∷ s) own temps (not_free a s own own_free)).1 ∙ no_temporary (a ++ 95 ∷ 95 ∷ s) 0 d h
 
-  as_global : (ps' : List Name) (x : Name) (i j : ℕ) → is_declared x.text (own ++ temps) ≡ false → number_of x.text (globals (names []) last gs) ≡ i → i ≡ j → place_of (wider ps') x ≡ global j
-  as_global ps' x i j h e e' = ap (λ c. cond c (local (number_of x.text (own ++ temps))) (global (number_of x.text (globals (names []) last gs)))) h ∙ ap global (e ∙ e')
+  as_global : (ps' : List Name) (x : Name) (i j : ℕ) → is_declared x.text (own ++ temps) ≡ false
+      → number_of x.text (globals (names []) last gs) ≡ i → i ≡ j → place_of (wider ps') x ≡ global j
+  as_global ps' x i j h e e' =
+      ap (λ c. cond c (local (number_of x.text (own ++ temps))) (global (number_of x.text (globals (names []) last gs)))) h
+      ∙ ap global (e ∙ e')
 
   digit_not_t : (k : ℕ) → k < most_rounds → (t r : List ℕ) (x : List ℕ) → has_double x ≡ false →
       x ++ 95 ∷ 95 ∷ decimal (suc k) ≡ 116 ∷ 109 ∷ 112 ∷ 95 ∷ 95 ∷ 116 ∷ r → ⊥
   digit_not_t k h t r x free e = no_drawn x (49 + k) [] r free (λ z. omega arith) (ap (λ y. x ++ 95 ∷ 95 ∷ y) (sym (digit_is k h)) ∙ e)
 
-  pub copy_place : (ps' : List Name) (x : Name) (k : ℕ) → k ≤ last → is_declared x.text own ≡ false → is_declared x.text gs ≡ true → place_of (wider ps') (copy_name k x) ≡ copy_at (length gs) k (place_of scope x)
+  pub copy_place : (ps' : List Name) (x : Name) (k : ℕ) → k ≤ last → is_declared x.text own ≡ false → is_declared x.text gs ≡ true
+      → place_of (wider ps') (copy_name k x) ≡ copy_at (length gs) k (place_of scope x)
   copy_place ps' x k le hidden there =
       let free : has_double x.text ≡ false = free_name x.text gs gs_free there in
       let t : List ℕ = (copy_name k x).text in
       let out : is_declared t (own ++ temps) ≡ false =
-      outside x.text (decimal (suc k)) (λ i. same_text_false t (drawn_name i).text (digit_not_t k (omega arith) [] (decimal (suc i)) x.text free)) in
+      outside x.text (decimal (suc k))
+      (λ i. same_text_false t (drawn_name i).text (digit_not_t k (omega arith) [] (decimal (suc i)) x.text free)) in
       let r = in_rows (names []) last copy_name gs copies_spelled x there k 0 (suc last) (omega arith) (omega arith) in
       let z : 0 + k ≡ k = omega arith in
       let inA : is_declared t A ≡ true = ap (λ y. is_declared (copy_name y x).text A) (sym z) ∙ r.0 in
@@ -113,21 +126,27 @@ module _ (gs own ps : List Name) (d last : ℕ) (gs_free : AreFree gs) (own_free
       as_global ps' (copy_name k x) (number_of t A) (k * length gs + number_of x.text gs) out (l3.0 ∙ (l2.0 ∙ l1.0)) atA
       ∙ ap (copy_at (length gs) k) (sym (ap (λ c. cond c (local (number_of x.text own)) (global (number_of x.text gs))) hidden))
 
-  pub save_place : (ps' : List Name) (x : Name) (k : ℕ) → k < last → is_declared x.text own ≡ false → is_declared x.text gs ≡ true → place_of (wider ps') (save_name (suc k) x) ≡ save_at (length gs) last (suc k) (place_of scope x)
+  pub save_place : (ps' : List Name) (x : Name) (k : ℕ) → k < last → is_declared x.text own ≡ false → is_declared x.text gs ≡ true
+      → place_of (wider ps') (save_name (suc k) x) ≡ save_at (length gs) last (suc k) (place_of scope x)
   save_place ps' x k lt hidden there =
       let free : has_double x.text ≡ false = free_name x.text gs gs_free there in
       let t : List ℕ = (save_name (suc k) x).text in
       let out : is_declared t (own ++ temps) ≡ false =
-      outside x.text (115 ∷ decimal (suc (suc k))) (λ i. same_text_false t (drawn_name i).text (no_drawn x.text 115 (decimal (suc (suc k))) (decimal (suc i)) free (λ z. omega arith))) in
+      outside x.text (115 ∷ decimal (suc (suc k)))
+      (λ i.
+      same_text_false t (drawn_name i).text (no_drawn x.text 115 (decimal (suc (suc k))) (decimal (suc i)) free (λ z. omega arith))) in
       let r = in_rows (names []) last save_name gs saves_spelled x there k 1 last lt (omega arith) in
       let z : 1 + k ≡ suc k = omega arith in
       let inB : is_declared t B ≡ true = ap (λ y. is_declared (save_name y x).text B) (sym z) ∙ r.0 in
       let atB : number_of t B ≡ k * length gs + number_of x.text gs = ap (λ y. number_of (save_name y x).text B) (sym z) ∙ r.1 in
-      let noA : is_declared t A ≡ false = none_in_rows (names []) last copy_name gs t 0 (suc last) (λ i y l. save_no_copy x.text y.text (suc k) i (omega arith) (omega arith)) in
+      let noA : is_declared t A ≡ false =
+      none_in_rows (names []) last copy_name gs t 0 (suc last)
+      (λ i y l. save_no_copy x.text y.text (suc k) i (omega arith) (omega arith)) in
       let l1 = number_right t A B noA in
       let l2 = number_left t (A ++ B) bit_names (l1.1 ∙ inB) in
       let l3 = number_left t (A ++ B ++ bit_names) last_names l2.1 in
-      as_global ps' (save_name (suc k) x) (length A + number_of t B) (suc last * length gs + (k * length gs + number_of x.text gs)) out (l3.0 ∙ (l2.0 ∙ l1.0)) (ap₂ (λ p q. p + q) length-A atB)
+      as_global ps' (save_name (suc k) x) (length A + number_of t B) (suc last * length gs + (k * length gs + number_of x.text gs)) out
+      (l3.0 ∙ (l2.0 ∙ l1.0)) (ap₂ (λ p q. p + q) length-A atB)
       ∙ ap (save_at (length gs) last (suc k)) (sym (ap (λ c. cond c (local (number_of x.text own)) (global (number_of x.text gs))) hidden))
 
   pub kept_place : (ps' : List Name) (x : Name) → is_declared x.text own ≡ true → place_of (wider ps') x ≡ place_of scope x
@@ -148,12 +167,18 @@ module _ (gs own ps : List Name) (d last : ℕ) (gs_free : AreFree gs) (own_free
       ∙ ap local (r.0 ∙ ap (λ y. length own + y) atk)
 
   -- a name of the rewriting's own that ends in two underscores
-  low_place : (ps' : List Name) (a : List ℕ) (m : ℕ) → ((i : ℕ) → same_text (a ++ 95 ∷ 95 ∷ []) (drawn_name i).text ≡ false) → number_of (a ++ 95 ∷ 95 ∷ []) (bit_names ++ last_names) ≡ m → place_of (wider ps') (named (a ++ 95 ∷ 95 ∷ [])) ≡ global (bits_at (length gs) last + m)
+  low_place : (ps' : List Name) (a : List ℕ) (m : ℕ) → ((i : ℕ) → same_text (a ++ 95 ∷ 95 ∷ []) (drawn_name i).text ≡ false)
+      → number_of (a ++ 95 ∷ 95 ∷ []) (bit_names ++ last_names) ≡ m
+      → place_of (wider ps') (named (a ++ 95 ∷ 95 ∷ [])) ≡ global (bits_at (length gs) last + m)
   low_place ps' a m differ at =
       let t : List ℕ = a ++ 95 ∷ 95 ∷ [] in
       let split : a ++ 95 ∷ 95 ∷ [] ≡ (a ++ 95 ∷ []) ++ 95 ∷ [] = sym (append_assoc a (95 ∷ []) (95 ∷ [])) in
-      let noA : is_declared t A ≡ false = none_in_rows (names []) last copy_name gs t 0 (suc last) (λ i y l. ap (λ z. same_text z (copy_name i y).text) split ∙ low_no_copy (a ++ 95 ∷ []) y.text i (omega arith)) in
-      let noB : is_declared t B ≡ false = none_in_rows (names []) last save_name gs t 1 last (λ i y l. ap (λ z. same_text z (save_name i y).text) split ∙ low_no_save (a ++ 95 ∷ []) y.text i (omega arith)) in
+      let noA : is_declared t A ≡ false =
+      none_in_rows (names []) last copy_name gs t 0 (suc last)
+      (λ i y l. ap (λ z. same_text z (copy_name i y).text) split ∙ low_no_copy (a ++ 95 ∷ []) y.text i (omega arith)) in
+      let noB : is_declared t B ≡ false =
+      none_in_rows (names []) last save_name gs t 1 last
+      (λ i y l. ap (λ z. same_text z (save_name i y).text) split ∙ low_no_save (a ++ 95 ∷ []) y.text i (omega arith)) in
       let r1 = number_right t A B noA in
       let r2 = number_right t (A ++ B) (bit_names ++ last_names) (r1.1 ∙ noB) in
       let lAB : length (A ++ B) ≡ bits_at (length gs) last = length-append A B ∙ ap₂ (λ p q. p + q) length-A length-B in

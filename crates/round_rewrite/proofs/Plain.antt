@@ -1,5 +1,6 @@
 -- The machine whose rests carry no labels and no numbers, and that it makes the same steps.
-use Rattle.std.proofs.Common.{◌≡◌, ℕ, zero, suc, ◌+◌, Bool, true, false, cond, List, [], ◌∷◌, map, Option, Some, None, option_map, slice_get, refl, sym, ◌∙◌, ap, ap₂}
+use Rattle.std.proofs.Common.{◌≡◌, ℕ, zero, suc, ◌+◌, Bool, true, false, cond, List, [], ◌∷◌, map, Option, Some, None, option_map}
+use Rattle.std.proofs.Common.{slice_get, refl, sym, ◌∙◌, ap, ap₂}
 use mathlib.Core.Path.{fun_ext}
 use Rattle.language.specs.Tree.{skip, assign, assert, assume, goto, leave, call, Mark, done, one, choose, loop, RightSide}
 use Rattle.language.specs.Value.{Place, values_of, IsValue, AreValues, written_globals, written_locals}
@@ -68,7 +69,8 @@ bare-branch : (v : Bool) (a b t : Code) → bare (cond v (join a t) (join b t)) 
 bare-branch true a b t = bare-join a t
 bare-branch false a b t = bare-join b t
 
-bare-again : (v : Bool) (m : Mark Label) (r : RightSide Place) (a t : Code) → bare (cond v (join a (loop m r a t)) t) ≡ cond v (join (bare a) (loop plain r (bare a) (bare t))) (bare t)
+bare-again : (v : Bool) (m : Mark Label) (r : RightSide Place) (a t : Code)
+    → bare (cond v (join a (loop m r a t)) t) ≡ cond v (join (bare a) (loop plain r (bare a) (bare t))) (bare t)
 bare-again true m r a t = bare-join a (loop m r a t)
 bare-again false m r a t = refl
 
@@ -81,7 +83,8 @@ at_routine None Q = refl
 at_routine (Some r) Q = refl
 
 -- a step is a step of the plain machine
-pub plain_step : (p : Program) (s : State) (Q : State → Type 0) → StepsTo p s (λ u. Q (bare_state u)) ≡ PlainSteps (world_of p) (bare_state s) Q
+pub plain_step : (p : Program) (s : State) (Q : State → Type 0)
+    → StepsTo p s (λ u. Q (bare_state u)) ≡ PlainSteps (world_of p) (bare_state s) Q
 plain_step p (state g []) Q = refl
 plain_step p (state g (frame c l done ∷ fs)) Q = refl
 plain_step p (state g (frame c l (one m skip t) ∷ fs)) Q = refl
@@ -100,7 +103,8 @@ plain_step p (state g (frame c l (loop m r a t) ∷ fs)) Q =
     λ i. (v : Bool) × IsValue g l r v × Q (state g (frame c l (bare-again v m r a t i) ∷ map bare_frame fs))
 
 -- so are n steps
-pub plain_after : (p : Program) (n : ℕ) (s : State) (Q : State → Type 0) → AfterSteps p n s (λ u. Q (bare_state u)) ≡ PlainAfter (world_of p) n (bare_state s) Q
+pub plain_after : (p : Program) (n : ℕ) (s : State) (Q : State → Type 0)
+    → AfterSteps p n s (λ u. Q (bare_state u)) ≡ PlainAfter (world_of p) n (bare_state s) Q
 plain_after p zero s Q = refl
 plain_after p (suc n) s Q =
     ap (StepsTo p s) (fun_ext (λ t. plain_after p n t Q))
@@ -115,23 +119,27 @@ bare-numbered n (choose m r a b t) =
 bare-numbered n (loop m r a t) =
     λ i. loop plain r (bare-numbered (suc n) a i) (bare-numbered (suc n + statements a) t i)
 
-pub map-first : {A B : Type 0} (f : A → B) (x y : Option A) → option_map f (first_of_two x y) ≡ first_of_two (option_map f x) (option_map f y)
+pub map-first : {A B : Type 0} (f : A → B) (x y : Option A)
+    → option_map f (first_of_two x y) ≡ first_of_two (option_map f x) (option_map f y)
 map-first f None y = refl
 map-first f (Some a) y = refl
 
 -- two searches that agree where the label stands and behind it
-pub found : {A B C : Type 0} (f : A → C) (g : B → C) (c : Bool) (x : A) (y : B) (o : Option A) (u : Option B) → f x ≡ g y → option_map f o ≡ option_map g u → option_map f (cond c (Some x) o) ≡ option_map g (cond c (Some y) u)
+pub found : {A B C : Type 0} (f : A → C) (g : B → C) (c : Bool) (x : A) (y : B) (o : Option A) (u : Option B) → f x ≡ g y
+    → option_map f o ≡ option_map g u → option_map f (cond c (Some x) o) ≡ option_map g (cond c (Some y) u)
 found f g true x y o u e h = ap Some e
 found f g false x y o u e h = h
 
-pub firsts : {A B C : Type 0} (f : A → C) (g : B → C) (o o' : Option A) (u u' : Option B) → option_map f o ≡ option_map g u → option_map f o' ≡ option_map g u' → option_map f (first_of_two o o') ≡ option_map g (first_of_two u u')
+pub firsts : {A B C : Type 0} (f : A → C) (g : B → C) (o o' : Option A) (u u' : Option B) → option_map f o ≡ option_map g u
+    → option_map f o' ≡ option_map g u' → option_map f (first_of_two o o') ≡ option_map g (first_of_two u u')
 firsts f g o o' u u' e e' = map-first f o o' ∙ (ap₂ first_of_two e e' ∙ sym (map-first g u u'))
 
 tails-numbered : (n : ℕ) (t k k' : Code) → bare k ≡ bare k' → bare (join (numbered n t) k) ≡ bare (join t k')
 tails-numbered n t k k' e = bare-join (numbered n t) k ∙ (ap₂ join (bare-numbered n t) e ∙ sym (bare-join t k'))
 
 -- numbers make no difference to where a jump leads
-pub rest-numbered : (x : Label) (n : ℕ) (b k k' : Code) → bare k ≡ bare k' → option_map bare (rest_from x (numbered n b) k) ≡ option_map bare (rest_from x b k')
+pub rest-numbered : (x : Label) (n : ℕ) (b k k' : Code) → bare k ≡ bare k'
+    → option_map bare (rest_from x (numbered n b) k) ≡ option_map bare (rest_from x b k')
 rest-numbered x n done k k' e = refl
 rest-numbered x n (one m s t) k k' e =
     found bare bare (has_label x m) _ _ _ _ (ap (one plain s) (tails-numbered (suc n) t k k' e)) (rest-numbered x (suc n) t k k' e)
@@ -150,5 +158,6 @@ rest-numbered x n (loop m r a t) k k' e =
     let wholes : loop plain r (bare (numbered (suc n) a)) (bare (join (numbered nt t) k)) ≡ loop plain r (bare a) (bare (join t k')) =
     λ i. loop plain r (bare-numbered (suc n) a i) (tails i) in
     found bare bare (has_label x m) _ _ _ _ wholes
-    (firsts bare bare _ _ _ _ (rest-numbered x (suc n) a (loop (marked n m) r (numbered (suc n) a) (join (numbered nt t) k)) (loop m r a (join t k')) wholes)
+    (firsts bare bare _ _ _ _
+    (rest-numbered x (suc n) a (loop (marked n m) r (numbered (suc n) a) (join (numbered nt t) k)) (loop m r a (join t k')) wholes)
     (rest-numbered x nt t k k' e))

@@ -41,11 +41,13 @@ module _ (w : World) (n last own : ℕ) (C S : List (List Bool)) (shape : Shape 
   stop_is : (q : ℕ) (s b : Bool) → bit (now q s b) (stop_at n last) ≡ s
   stop_is q s b = bits_bit n last C S (bits_of q s b) 2 shape
 
-  pub stop_leads : (q : ℕ) (s b : Bool) (t : Code) → Leads w (on (now q s b) (cond s done t)) Q → Leads w (on (now q s b) (stop_test (places n last own) last t)) Q
+  pub stop_leads : (q : ℕ) (s b : Bool) (t : Code) → Leads w (on (now q s b) (cond s done t)) Q
+      → Leads w (on (now q s b) (stop_test (places n last own) last t)) Q
   stop_leads q true b t (m, h) = (suc (suc m), (true, sym (stop_is q true b), h))
   stop_leads q false b t (m, h) = (suc (suc m), (false, sym (stop_is q false b), h))
 
-  stop_go : Never Q fs → (N : ℕ) (X : List Bool) (v s : Bool) (t : Code) → v ≡ s → PlainAfter w N (on X (cond v (join (one plain leave done) t) (join (one plain skip done) t))) Q → Later w N (on X (cond s done t)) Q
+  stop_go : Never Q fs → (N : ℕ) (X : List Bool) (v s : Bool) (t : Code) → v ≡ s
+      → PlainAfter w N (on X (cond v (join (one plain leave done) t) (join (one plain skip done) t))) Q → Later w N (on X (cond s done t)) Q
   stop_go never N X true s t e h =
       let (m, em, k) = unstep w Q N _ _ fs never h in
       later_now w Q (on X (cond s done t)) N m em (subst (λ z. PlainAfter w m (on X (cond z done t)) Q) e k)
@@ -53,13 +55,15 @@ module _ (w : World) (n last own : ℕ) (C S : List (List Bool)) (shape : Shape 
       let (m, em, k) = unstep w Q N _ _ fs never h in
       later_now w Q (on X (cond s done t)) N m em (subst (λ z. PlainAfter w m (on X (cond z done t)) Q) e k)
 
-  pub stop_back : Never Q fs → (N q : ℕ) (s b : Bool) (t : Code) → PlainAfter w N (on (now q s b) (stop_test (places n last own) last t)) Q → Later w N (on (now q s b) (cond s done t)) Q
+  pub stop_back : Never Q fs → (N q : ℕ) (s b : Bool) (t : Code) → PlainAfter w N (on (now q s b) (stop_test (places n last own) last t)) Q
+      → Later w N (on (now q s b) (cond s done t)) Q
   stop_back never N q s b t h =
       let (m, e, k) = unstep w Q N _ _ fs never h in
       later w Q (on (now q s b) (cond s done t)) N m e (stop_go never m (now q s b) k.0 s t (k.1 ∙ stop_is q s b) k.2)
 
   -- the prologue: on, one round up, or out
-  pub prologue_goes : (q : ℕ) (b : Bool) (t : Code) → Leads w (on (now q false b) t) Q → Leads w (on (now q false b) (prologue (places n last own) last plain t)) Q
+  pub prologue_goes : (q : ℕ) (b : Bool) (t : Code) → Leads w (on (now q false b) t) Q
+      → Leads w (on (now q false b) (prologue (places n last own) last plain t)) Q
   prologue_goes q b t (m, h) = (suc (suc (suc (suc (suc m)))), (false, tt, (false, tt, (false, sym (stop_is q false b), h))))
 
   rise_writes : (q : ℕ) (b x y : Bool) → x ≡ high (suc q) → y ≡ low (suc q) →
@@ -79,7 +83,9 @@ module _ (w : World) (n last own : ℕ) (C S : List (List Bool)) (shape : Shape 
   low_is : (q : ℕ) (b : Bool) → q < 3 → not (bit (now q false b) (low_at n last)) ≡ low (suc q)
   low_is q b h = ap not (bits_bit n last C S (bits_of q false b) 1 shape) ∙ sym (low_next q h)
 
-  pub prologue_rises : (q : ℕ) (b : Bool) (t : Code) → q < last → Leads w (on (now (suc q) false b) (prologue (places n last own) last plain t)) Q → Leads w (on (now q false b) (prologue (places n last own) last plain t)) Q
+  pub prologue_rises : (q : ℕ) (b : Bool) (t : Code) → q < last
+      → Leads w (on (now (suc q) false b) (prologue (places n last own) last plain t)) Q
+      → Leads w (on (now q false b) (prologue (places n last own) last plain t)) Q
   prologue_rises q b t lt (m, h) =
       let X : List Bool = now q false b in
       let free : true ≡ not (value_of X L (in_round (places n last own) last last)) =
@@ -99,7 +105,8 @@ module _ (w : World) (n last own : ℕ) (C S : List (List Bool)) (shape : Shape 
         ),
       )
 
-  pub prologue_stops : (q : ℕ) (b : Bool) (t : Code) → Leads w (on (now q true b) done) Q → Leads w (on (now q false b) (prologue (places n last own) last plain t)) Q
+  pub prologue_stops : (q : ℕ) (b : Bool) (t : Code) → Leads w (on (now q true b) done) Q
+      → Leads w (on (now q false b) (prologue (places n last own) last plain t)) Q
   prologue_stops q b t h =
       let r = stop_leads q true b t h in (
         suc (suc (suc r.0)),
@@ -112,7 +119,8 @@ module _ (w : World) (n last own : ℕ) (C S : List (List Bool)) (shape : Shape 
             (
               true ∷ [],
               (refl, tt),
-              subst (λ z. PlainAfter w r.0 (on z (stop_test (places n last own) last t)) Q) (sym (bits_with n last C S (bits_of q false b) 2 true shape)) r.1,
+              subst (λ z. PlainAfter w r.0 (on z (stop_test (places n last own) last t)) Q)
+                  (sym (bits_with n last C S (bits_of q false b) 2 true shape)) r.1,
             ),
           ),
         ),
@@ -124,13 +132,15 @@ module _ (w : World) (n last own : ℕ) (C S : List (List Bool)) (shape : Shape 
     went : Later w N (on (now q false b) t) Q → Exits N q b t
     stopped : Later w N (on (now q true b) done) Q → Exits N q b t
 
-  raised_back : (N q : ℕ) (b : Bool) (t : Code) (X : List Bool) (r0 r1 : RightSide Place) (x0 x1 : Place) (vs : List Bool) → AreValues X L (r0 ∷ r1 ∷ []) vs → (x : Bool) × (y : Bool) × (vs ≡ x ∷ y ∷ []) × IsValue X L r0 x × IsValue X L r1 y
+  raised_back : (N q : ℕ) (b : Bool) (t : Code) (X : List Bool) (r0 r1 : RightSide Place) (x0 x1 : Place) (vs : List Bool)
+      → AreValues X L (r0 ∷ r1 ∷ []) vs → (x : Bool) × (y : Bool) × (vs ≡ x ∷ y ∷ []) × IsValue X L r0 x × IsValue X L r1 y
   raised_back N q b t X r0 r1 x0 x1 [] a = absurd a
   raised_back N q b t X r0 r1 x0 x1 (x ∷ []) a = absurd a.1
   raised_back N q b t X r0 r1 x0 x1 (x ∷ y ∷ []) a = (x, y, refl, a.0, a.1.0)
   raised_back N q b t X r0 r1 x0 x1 (x ∷ y ∷ z ∷ vs) a = absurd a.1.1
 
-  one_back : (X : List Bool) (r0 : RightSide Place) (vs : List Bool) → AreValues X L (r0 ∷ []) vs → (x : Bool) × (vs ≡ x ∷ []) × IsValue X L r0 x
+  one_back : (X : List Bool) (r0 : RightSide Place) (vs : List Bool) → AreValues X L (r0 ∷ []) vs
+      → (x : Bool) × (vs ≡ x ∷ []) × IsValue X L r0 x
   one_back X r0 [] a = absurd a
   one_back X r0 (x ∷ []) a = (x, refl, a.0)
   one_back X r0 (x ∷ y ∷ vs) a = absurd a.1
@@ -155,7 +165,9 @@ module _ (w : World) (n last own : ℕ) (C S : List (List Bool)) (shape : Shape 
       ex k.2 in
       let write : with_bit (now q false b) (stop_at n last) x ≡ now q true b =
       ap (with_bit (now q false b) (stop_at n last)) ix ∙ bits_with n last C S (bits_of q false b) 2 true shape in
-      stopped (later w Q (on (now q true b) done) N m e (stop_back never m q true b t (subst (λ z. PlainAfter w m (on z (stop_test (places n last own) last t)) Q) write k')))
+      stopped
+      (later w Q (on (now q true b) done) N m e
+      (stop_back never m q true b t (subst (λ z. PlainAfter w m (on z (stop_test (places n last own) last t)) Q) write k')))
   exits_stop never N q b false t h =
       let (m, e, k) = unstep w Q N _ _ fs never h in
       went (later w Q (on (now q false b) t) N m e (stop_back never m q false b t k))
@@ -166,7 +178,10 @@ module _ (w : World) (n last own : ℕ) (C S : List (List Bool)) (shape : Shape 
   shorter N m q b t e (went r) = went (later w Q _ N m e r)
   shorter N m q b t e (stopped r) = stopped (later w Q _ N m e r)
 
-  exits_loop : Never Q fs → (N q : ℕ) (b v : Bool) (t : Code) → q ≤ last → PlainAfter w N (on (now q false b) (cond v (join (rise (places n last own) last) (prologue (places n last own) last plain t)) (stop_branch t))) Q → Exits N q b t
+  exits_loop : Never Q fs → (N q : ℕ) (b v : Bool) (t : Code) → q ≤ last
+      → PlainAfter w N
+      (on (now q false b) (cond v (join (rise (places n last own) last) (prologue (places n last own) last plain t)) (stop_branch t))) Q
+      → Exits N q b t
   unfolding stop_branch
   exits_loop never N q b true t within h =
       let X : List Bool = now q false b in
@@ -204,7 +219,8 @@ module _ (w : World) (n last own : ℕ) (C S : List (List Bool)) (shape : Shape 
       branches m q b v t h = h
 
   -- every run from a prologue rises, goes on or stops
-  pub exits : Never Q fs → (N q : ℕ) (b : Bool) (t : Code) → q ≤ last → PlainAfter w N (on (now q false b) (prologue (places n last own) last plain t)) Q → Exits N q b t
+  pub exits : Never Q fs → (N q : ℕ) (b : Bool) (t : Code) → q ≤ last
+      → PlainAfter w N (on (now q false b) (prologue (places n last own) last plain t)) Q → Exits N q b t
   unfolding stop_branch
   exits never N q b t within h =
       let (m, e, k) = unstep w Q N _ _ fs never h in

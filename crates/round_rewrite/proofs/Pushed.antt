@@ -14,7 +14,8 @@ pub numbers_next : (start k : ℕ) → numbers start (k + 1) ≡ numbers start k
 numbers_next start k = ap (numbers start) (let e : k + 1 ≡ suc k = omega arith in e) ∙ numbers_last start k
 
 -- one more is pushed
-pub pushed : {A B : Type 0} (view : A → B) (f : ℕ → B) (old : List B) (items : List A) (item : A) (k : ℕ) → map view items ≡ old ++ map f (numbers 0 k) → view item ≡ f k → map view (items ++ item ∷ []) ≡ old ++ map f (numbers 0 (k + 1))
+pub pushed : {A B : Type 0} (view : A → B) (f : ℕ → B) (old : List B) (items : List A) (item : A) (k : ℕ)
+    → map view items ≡ old ++ map f (numbers 0 k) → view item ≡ f k → map view (items ++ item ∷ []) ≡ old ++ map f (numbers 0 (k + 1))
 pushed view f old items item k e i =
     map-append view items (item ∷ [])
     ∙ (ap₂ (λ xs x. xs ++ x ∷ []) e i
@@ -29,7 +30,9 @@ pub over_rounds : {B : Type 0} (f : ℕ → B) (old now : List B) (k n last : �
 over_rounds f old now k n last e a b c = e ∙ ap (λ m. old ++ map f (numbers 0 m)) (let d : k ≡ suc last = omega (arith, a, b, c) in d)
 
 -- one more of a list is put through a function and pushed
-pub one_through : {A B C D : Type 0} (view : A → C) (f : D → C) (seen : B → D) (items : List A) (item : A) (ss : List B) (i : ℕ) (s : B) (whole : List C) → i < length ss → s ≡ get_or ss i s → view item ≡ f (seen s) → map view items ++ map f (map seen (drop i ss)) ≡ whole → map view (items ++ item ∷ []) ++ map f (map seen (drop (i + 1) ss)) ≡ whole
+pub one_through : {A B C D : Type 0} (view : A → C) (f : D → C) (seen : B → D) (items : List A) (item : A) (ss : List B) (i : ℕ) (s : B)
+    (whole : List C) → i < length ss → s ≡ get_or ss i s → view item ≡ f (seen s) → map view items ++ map f (map seen (drop i ss)) ≡ whole
+    → map view (items ++ item ∷ []) ++ map f (map seen (drop (i + 1) ss)) ≡ whole
 one_through view f seen items item ss i s whole lt is e so =
     let others = map f (map seen (drop (i + 1) ss)) in
     ap (λ xs. xs ++ others) (map-append view items (item ∷ []))

@@ -1,23 +1,29 @@
 -- The rewritten tree is one of the grammar where the source's tree is.
-use Rattle.std.proofs.Common.{◌≡◌, ℕ, zero, suc, ◌+◌, ◌<◌, ◌≤◌, true, false, cond, not, List, [], ◌∷◌, ◌++◌, length, map, codes, refl, sym, ◌∙◌, subst, arith}
+use Rattle.std.proofs.Common.{◌≡◌, ℕ, zero, suc, ◌+◌, ◌<◌, ◌≤◌, true, false, cond, not, List, [], ◌∷◌, ◌++◌, length, map, codes, refl, sym}
+use Rattle.std.proofs.Common.{◌∙◌, subst, arith}
 use Rattle.std.proofs.lemmas.List.{length-map}
 use Rattle.std.specs.List.{AllByRecursion}
-use Rattle.language.specs.Tree.{Name, Expression, const, var, negation, two, xor, RightSide, any, value, Simple, skip, assign, assert, assume, goto, leave, call, Mark, Block, done, one, choose, loop, Procedure, ThreadLine, Tree}
+use Rattle.language.specs.Tree.{Name, Expression, const, var, negation, two, xor, RightSide, any, value, Simple, skip, assign, assert}
+use Rattle.language.specs.Tree.{assume, goto, leave, call, Mark, Block, done, one, choose, loop, Procedure, ThreadLine, Tree}
 use Rattle.language.specs.Rest.{join}
 use Rattle.language.specs.Resolve.{is_declared}
 use Rattle.syntax.specs.Grammar.{IsSome}
-use Rattle.syntax.specs.InGrammar.{IsId, AreIds, ExpressionInGrammar, SideInGrammar, SimpleInGrammar, LabelInGrammar, BlockInGrammar, ProcedureInGrammar, ThreadInGrammar, InGrammar}
+use Rattle.syntax.specs.InGrammar.{IsId, AreIds, ExpressionInGrammar, SideInGrammar, SimpleInGrammar, LabelInGrammar, BlockInGrammar}
+use Rattle.syntax.specs.InGrammar.{ProcedureInGrammar, ThreadInGrammar, InGrammar}
 use Rattle.resolved.specs.Resolves.{Each}
 use Rattle.resolved.specs.Statements.{variables_of, variables_of_side, variables_of_sides, variables_of_all}
 use Rattle.resolved.proofs.Each.{each_left, each_right}
-use Rattle.round_rewrite.specs.Table.{numbers, plain, temporaries, in_round, expression, side, rounds, targets, sides, draws, drawing, stop_test, rise, prologue, statement, rewritten, guess, guesses, starts, check, checks, copied, globals}
+use Rattle.round_rewrite.specs.Table.{numbers, plain, temporaries, in_round, expression, side, rounds, targets, sides, draws, drawing}
+use Rattle.round_rewrite.specs.Table.{stop_test, rise, prologue, statement, rewritten, guess, guesses, starts, check, checks, copied}
+use Rattle.round_rewrite.specs.Table.{globals}
 use Rattle.round_rewrite.specs.Names.{named, copy_name, save_name, drawn_name, names, rewritten_procedure, main_procedure, rewritten_tree}
 use Rattle.round_rewrite.specs.Narrow.{IsNarrow}
 use Rattle.round_rewrite.specs.Places.{global_count}
 use Rattle.round_rewrite.specs.Writing.{procedure_needs, AreFew}
 use Rattle.round_rewrite.proofs.Resolved.{by_test, rest_room}
 use Rattle.round_rewrite.proofs.Widths.{narrow_procedures, few_needs}
-use Rattle.round_rewrite.proofs.Uses.{each_both, any_uses, written_each, drawn_each, sides_even, Held, at_uses, arguments_use, side_uses, targets_held, sides_use}
+use Rattle.round_rewrite.proofs.Uses.{each_both, any_uses, written_each, drawn_each, sides_even, Held, at_uses, arguments_use, side_uses}
+use Rattle.round_rewrite.proofs.Uses.{targets_held, sides_use}
 use Rattle.round_rewrite.proofs.Ids.{copy_id, save_id, drawn_id, high_id, low_id, stop_id, bad_id, main_id}
 use Rattle.resolved.specs.Limits.{most_places}
 use Rattle.round_rewrite.specs.Limits.{most_rounds}
@@ -41,7 +47,8 @@ ids_used : (e : Expression Name) → Each IsId (variables_of e) → ExpressionIn
 ids_used (const b) h = tt
 ids_used (var x) h = h.0
 ids_used (negation e) h = ids_used e h
-ids_used (two o a b) h = (ids_used a (each_left IsId (variables_of a) (variables_of b) h), ids_used b (each_right IsId (variables_of a) (variables_of b) h))
+ids_used (two o a b) h =
+    (ids_used a (each_left IsId (variables_of a) (variables_of b) h), ids_used b (each_right IsId (variables_of a) (variables_of b) h))
 
 side_uses_ids : (r : RightSide Name) → SideInGrammar r → Each IsId (variables_of_side r)
 side_uses_ids any h = tt
@@ -83,7 +90,8 @@ arguments_ids_used : (es : List (Expression Name)) → Each IsId (variables_of_a
 arguments_ids_used = list_ids_used ExpressionInGrammar variables_of variables_of_all (λ e es. refl) ids_used
 
 -- an assignment of the grammar, by its variables
-assign_in_grammar : (xs : List Name) (rs : List (RightSide Name)) → 0 < length xs → length xs ≡ length rs → Each IsId xs → Each IsId (variables_of_sides rs) → SimpleInGrammar (assign xs rs)
+assign_in_grammar : (xs : List Name) (rs : List (RightSide Name)) → 0 < length xs → length xs ≡ length rs → Each IsId xs
+    → Each IsId (variables_of_sides rs) → SimpleInGrammar (assign xs rs)
 assign_in_grammar xs rs some even h g = (some, each_ids xs h, omega (arith, some, even), sides_ids_used rs g)
 
 -- blocks of the grammar joined
@@ -124,16 +132,31 @@ module _ (own : List Name) (last d : ℕ) (small : last < most_rounds) (few : d 
   rise_in_grammar = (
     tt,
     ids_used (in_round (names own) last last) (at_uses own last d IsId IsId held last),
-    (tt, assign_in_grammar (named (codes "rh__") ∷ named (codes "rl__") ∷ []) (value (two xor (var (named (codes "rh__"))) (var (named (codes "rl__")))) ∷ value (negation (var (named (codes "rl__")))) ∷ []) (omega arith) refl (high_id, (low_id, tt)) (high_id, (low_id, (low_id, tt))), tt),
+    (
+      tt,
+      assign_in_grammar (named (codes "rh__") ∷ named (codes "rl__") ∷ [])
+          (value (two xor (var (named (codes "rh__"))) (var (named (codes "rl__")))) ∷ value (negation (var (named (codes "rl__")))) ∷ [])
+          (omega arith) refl (high_id, (low_id, tt)) (high_id, (low_id, (low_id, tt))),
+      tt,
+    ),
   )
 
-  prologue_in_grammar : (m : Mark Name) (k : Block Name Name Name) → LabelInGrammar m.label → BlockInGrammar k → BlockInGrammar (prologue (names own) last m k)
+  prologue_in_grammar : (m : Mark Name) (k : Block Name Name Name) → LabelInGrammar m.label → BlockInGrammar k
+      → BlockInGrammar (prologue (names own) last m k)
   prologue_in_grammar m k l h = (
     l,
     tt,
     tt,
     rise_in_grammar,
-    (tt, tt, tt, (tt, assign_in_grammar (named (codes "stop__") ∷ []) (value (const true) ∷ []) (omega arith) refl (stop_id, tt) tt, tt), tt, (tt, tt, tt), stop_test_in_grammar k h),
+    (
+      tt,
+      tt,
+      tt,
+      (tt, assign_in_grammar (named (codes "stop__") ∷ []) (value (const true) ∷ []) (omega arith) refl (stop_id, tt) tt, tt),
+      tt,
+      (tt, tt, tt),
+      stop_test_in_grammar k h,
+    ),
   )
 
   drawing_in_grammar : (n : ℕ) (k : Block Name Name Name) → n ≤ d → BlockInGrammar k → BlockInGrammar (drawing (names own) last n k)
@@ -146,24 +169,32 @@ module _ (own : List Name) (last d : ℕ) (small : last < most_rounds) (few : d 
     h,
   )
 
-  some_target : (x : Name) (xs : List Name) (r : RightSide Name) (rs : List (RightSide Name)) → 0 < length (targets (names own) last (x ∷ xs) (r ∷ rs))
+  some_target : (x : Name) (xs : List Name) (r : RightSide Name) (rs : List (RightSide Name))
+      → 0 < length (targets (names own) last (x ∷ xs) (r ∷ rs))
   some_target x xs r rs =
       let here : List Name = map (λ k. copy_name k x) (rounds (names own) last) in
       by_test (is_declared x.text own)
-      (λ e. subst (λ c. 0 < length (cond (not c) (here ++ targets (names own) last xs rs) (x ∷ targets (names own) last xs rs))) (sym e) (omega arith))
-      (λ e. subst (λ c. 0 < length (cond (not c) (here ++ targets (names own) last xs rs) (x ∷ targets (names own) last xs rs))) (sym e) (omega arith))
+      (λ e.
+      subst (λ c. 0 < length (cond (not c) (here ++ targets (names own) last xs rs) (x ∷ targets (names own) last xs rs))) (sym e)
+      (omega arith))
+      (λ e.
+      subst (λ c. 0 < length (cond (not c) (here ++ targets (names own) last xs rs) (x ∷ targets (names own) last xs rs))) (sym e)
+      (omega arith))
 
   some_targets : (xs : List Name) (rs : List (RightSide Name)) → 0 < length xs → 0 < length rs → 0 < length (targets (names own) last xs rs)
   some_targets [] rs h g = absurd (omega arith)
   some_targets (x ∷ xs) [] h g = absurd (omega arith)
   some_targets (x ∷ xs) (r ∷ rs) h g = some_target x xs r rs
 
-  statement_in_grammar : (m : Mark Name) (c : Simple Name Name Name) (b k : Block Name Name Name) → SimpleInGrammar c → temporaries (names own).is_shared (one m c b) ≤ d → BlockInGrammar k → BlockInGrammar (statement (names own) last c k)
+  statement_in_grammar : (m : Mark Name) (c : Simple Name Name Name) (b k : Block Name Name Name) → SimpleInGrammar c
+      → temporaries (names own).is_shared (one m c b) ≤ d → BlockInGrammar k → BlockInGrammar (statement (names own) last c k)
   statement_in_grammar m skip b k w room h = (tt, tt, h)
   statement_in_grammar m (assign xs rs) b k w room h =
-      drawing_in_grammar (draws (names own).is_shared xs rs) (one plain (assign (targets (names own) last xs rs) (sides (names own) last 0 xs rs)) k) (omega arith) (
+      drawing_in_grammar (draws (names own).is_shared xs rs)
+      (one plain (assign (targets (names own) last xs rs) (sides (names own) last 0 xs rs)) k) (omega arith) (
         tt,
-        assign_in_grammar (targets (names own) last xs rs) (sides (names own) last 0 xs rs) (some_targets xs rs w.0 w.2) (sides_even own last 0 xs rs)
+        assign_in_grammar (targets (names own) last xs rs) (sides (names own) last 0 xs rs) (some_targets xs rs w.0 w.2)
+            (sides_even own last 0 xs rs)
             (targets_held own last d IsId IsId held xs rs (ids_each xs w.1))
             (sides_use own last d IsId IsId held 0 xs rs (ids_each xs w.1) (sides_use_ids rs w.3) (omega arith)),
         h,
@@ -174,25 +205,38 @@ module _ (own : List Name) (last d : ℕ) (small : last < most_rounds) (few : d 
     tt,
     (tt, tt, tt),
     tt,
-    (tt, assign_in_grammar (named (codes "bad__") ∷ named (codes "stop__") ∷ []) (value (const true) ∷ value (const true) ∷ []) (omega arith) refl (bad_id, (stop_id, tt)) tt, (tt, tt, tt)),
+    (
+      tt,
+      assign_in_grammar (named (codes "bad__") ∷ named (codes "stop__") ∷ []) (value (const true) ∷ value (const true) ∷ [])
+          (omega arith) refl (bad_id, (stop_id, tt)) tt,
+      (tt, tt, tt),
+    ),
     h,
   )
-  statement_in_grammar m (assume r) b k w room h = (tt, side_ids_used (side (names own) last r) (side_uses own last d IsId IsId held r (side_uses_ids r w)), h)
+  statement_in_grammar m (assume r) b k w room h =
+      (tt, side_ids_used (side (names own) last r) (side_uses own last d IsId IsId held r (side_uses_ids r w)), h)
   statement_in_grammar m (goto l) b k w room h = (tt, w, h)
   statement_in_grammar m leave b k w room h = (tt, tt, h)
   statement_in_grammar m (call q es) b k w room h = (
     tt,
-    (w.0, arguments_ids_used (map (expression (names own) last) es) (arguments_use own last d IsId IsId held es (arguments_use_ids es w.1))),
+    (
+      w.0,
+      arguments_ids_used (map (expression (names own) last) es) (arguments_use own last d IsId IsId held es (arguments_use_ids es w.1)),
+    ),
     stop_test_in_grammar k h,
   )
 
-  block_in_grammar : (b : Block Name Name Name) → BlockInGrammar b → temporaries (names own).is_shared b ≤ d → BlockInGrammar (rewritten (names own) last b)
+  block_in_grammar : (b : Block Name Name Name) → BlockInGrammar b → temporaries (names own).is_shared b ≤ d
+      → BlockInGrammar (rewritten (names own) last b)
   block_in_grammar done h room = tt
   block_in_grammar (one m c k) h room =
       prologue_in_grammar m (statement (names own) last c (rewritten (names own) last k)) h.0
-      (statement_in_grammar m c k (rewritten (names own) last k) h.1 room (block_in_grammar k h.2 (rest_room (names own).is_shared d m c k room)))
+      (statement_in_grammar m c k (rewritten (names own) last k) h.1 room
+      (block_in_grammar k h.2 (rest_room (names own).is_shared d m c k room)))
   block_in_grammar (choose m r a b k) h room =
-      prologue_in_grammar m (choose plain (side (names own) last r) (rewritten (names own) last a) (rewritten (names own) last b) (rewritten (names own) last k)) h.0 (
+      prologue_in_grammar m
+      (choose plain (side (names own) last r) (rewritten (names own) last a) (rewritten (names own) last b)
+      (rewritten (names own) last k)) h.0 (
         tt,
         side_ids_used (side (names own) last r) (side_uses own last d IsId IsId held r (side_uses_ids r h.1)),
         some_rewritten a h.2,
@@ -202,11 +246,14 @@ module _ (own : List Name) (last d : ℕ) (small : last < most_rounds) (few : d 
         block_in_grammar k h.6 (omega arith),
       )
   block_in_grammar (loop m r a k) h room =
-      prologue_in_grammar m (loop plain (side (names own) last r) (join (rewritten (names own) last a) (prologue (names own) last plain done)) (rewritten (names own) last k)) h.0 (
+      prologue_in_grammar m
+      (loop plain (side (names own) last r) (join (rewritten (names own) last a) (prologue (names own) last plain done))
+      (rewritten (names own) last k)) h.0 (
         tt,
         side_ids_used (side (names own) last r) (side_uses own last d IsId IsId held r (side_uses_ids r h.1)),
         some_joined (rewritten (names own) last a) (prologue (names own) last plain done) tt,
-        join_in_grammar (rewritten (names own) last a) (prologue (names own) last plain done) (block_in_grammar a h.3 (omega arith)) (prologue_in_grammar plain done tt tt),
+        join_in_grammar (rewritten (names own) last a) (prologue (names own) last plain done) (block_in_grammar a h.3 (omega arith))
+            (prologue_in_grammar plain done tt tt),
         block_in_grammar k h.4 (omega arith),
       )
 
@@ -219,7 +266,10 @@ procedures_in_grammar last small (p ∷ ps) few h =
       record {
         name = h.0.name;
         formals = h.0.formals;
-        locals = each_ids (p.locals ++ map drawn_name (numbers 0 d)) (each_both IsId p.locals (map drawn_name (numbers 0 d)) (ids_each p.locals h.0.locals) (drawn_each IsId d (λ j lt. drawn_id j (omega (arith, few.0))) 0 d (omega arith)));
+        locals =
+            each_ids (p.locals ++ map drawn_name (numbers 0 d))
+            (each_both IsId p.locals (map drawn_name (numbers 0 d)) (ids_each p.locals h.0.locals)
+            (drawn_each IsId d (λ j lt. drawn_id j (omega (arith, few.0))) 0 d (omega arith)));
         some = some_rewritten own last d small few.0 p.body h.0.some;
         body = block_in_grammar own last d small few.0 p.body h.0.body (omega arith);
       },
@@ -242,7 +292,9 @@ module _ (last : ℕ) (small : last < most_rounds) where
       let bits : List Name = named (codes "rh__") ∷ named (codes "rl__") ∷ [] in
       let lasts : List Name = named (codes "stop__") ∷ named (codes "bad__") ∷ [] in
       each_both IsId (A ++ B ++ bits) lasts
-      (each_both IsId (A ++ B) bits (each_both IsId A B (rows_ids copy_name copy_id xs h 0 (suc last) (omega arith)) (rows_ids save_name save_id xs h 1 last (omega arith))) (high_id, (low_id, tt)))
+      (each_both IsId (A ++ B) bits
+      (each_both IsId A B (rows_ids copy_name copy_id xs h 0 (suc last) (omega arith))
+      (rows_ids save_name save_id xs h 1 last (omega arith))) (high_id, (low_id, tt)))
       (stop_id, (bad_id, tt))
 
   reads_ids : (k : ℕ) (xs : List Name) → k < most_rounds → Each IsId xs →
@@ -258,23 +310,31 @@ module _ (last : ℕ) (small : last < most_rounds) where
       Each IsId (map (write k) (x ∷ xs)) =
       λ write f. written_each IsId IsId (write k) (x ∷ xs) (λ y i. f k y lt i) h in (
         tt,
-        assign_in_grammar (map (copy_name k) (x ∷ xs)) (map (λ y. any) (x ∷ xs)) (omega arith) (length-map (x ∷ xs) (copy_name k) ∙ sym (length-map {B = RightSide Name} (x ∷ xs) (λ y. any))) (written copy_name copy_id) (any_uses IsId (x ∷ xs)),
+        assign_in_grammar (map (copy_name k) (x ∷ xs)) (map (λ y. any) (x ∷ xs)) (omega arith) (length-map (x ∷ xs) (copy_name k)
+            ∙ sym (length-map {B = RightSide Name} (x ∷ xs) (λ y. any))) (written copy_name copy_id) (any_uses IsId (x ∷ xs)),
         (
           tt,
-          assign_in_grammar (map (save_name k) (x ∷ xs)) (map (λ y. value (var (copy_name k y))) (x ∷ xs)) (omega arith) (length-map (x ∷ xs) (save_name k) ∙ sym (length-map (x ∷ xs) (λ y. value (var (copy_name k y))))) (written save_name save_id) (reads_ids k (x ∷ xs) lt h),
+          assign_in_grammar (map (save_name k) (x ∷ xs)) (map (λ y. value (var (copy_name k y))) (x ∷ xs)) (omega arith)
+              (length-map (x ∷ xs) (save_name k) ∙ sym (length-map (x ∷ xs) (λ y. value (var (copy_name k y)))))
+              (written save_name save_id) (reads_ids k (x ∷ xs) lt h),
           g,
         ),
       )
 
-  guesses_in_grammar : (xs : List Name) (k m : ℕ) (b : Block Name Name Name) → k + m ≤ 4 → Each IsId xs → BlockInGrammar b → BlockInGrammar (guesses (names []) last xs (numbers k m) b)
+  guesses_in_grammar : (xs : List Name) (k m : ℕ) (b : Block Name Name Name) → k + m ≤ 4 → Each IsId xs → BlockInGrammar b
+      → BlockInGrammar (guesses (names []) last xs (numbers k m) b)
   guesses_in_grammar xs k zero b le h g = g
-  guesses_in_grammar xs k (suc m) b le h g = guess_in_grammar xs k (guesses (names []) last xs (numbers (suc k) m) b) (omega arith) h (guesses_in_grammar xs (suc k) m b (omega arith) h g)
+  guesses_in_grammar xs k (suc m) b le h g =
+      guess_in_grammar xs k (guesses (names []) last xs (numbers (suc k) m) b) (omega arith) h
+      (guesses_in_grammar xs (suc k) m b (omega arith) h g)
 
-  starts_in_grammar : (lines : List ThreadLine) (b : Block Name Name Name) → AllByRecursion ThreadInGrammar lines → BlockInGrammar b → BlockInGrammar (starts (names []) last (map (λ (line : ThreadLine). line.name) lines) b)
+  starts_in_grammar : (lines : List ThreadLine) (b : Block Name Name Name) → AllByRecursion ThreadInGrammar lines → BlockInGrammar b
+      → BlockInGrammar (starts (names []) last (map (λ (line : ThreadLine). line.name) lines) b)
   starts_in_grammar [] b s g = g
   starts_in_grammar (line ∷ lines) b s g = (
     tt,
-    assign_in_grammar (named (codes "rh__") ∷ named (codes "rl__") ∷ named (codes "stop__") ∷ []) (value (const false) ∷ value (const false) ∷ value (const false) ∷ []) (omega arith) refl (high_id, (low_id, (stop_id, tt))) tt,
+    assign_in_grammar (named (codes "rh__") ∷ named (codes "rl__") ∷ named (codes "stop__") ∷ [])
+        (value (const false) ∷ value (const false) ∷ value (const false) ∷ []) (omega arith) refl (high_id, (low_id, (stop_id, tt))) tt,
     (tt, (s.0, tt), starts_in_grammar lines b s.1 g),
   )
 
@@ -283,9 +343,12 @@ module _ (last : ℕ) (small : last < most_rounds) where
   check_in_grammar [] k b lt h g = g
   check_in_grammar (x ∷ xs) k b lt h g = (tt, (save_id (suc k) x lt h.0, copy_id k x (omega arith) h.0), check_in_grammar xs k b lt h.1 g)
 
-  checks_in_grammar : (xs : List Name) (k m : ℕ) (b : Block Name Name Name) → k + m < 4 → Each IsId xs → BlockInGrammar b → BlockInGrammar (checks (names []) last xs (numbers k m) b)
+  checks_in_grammar : (xs : List Name) (k m : ℕ) (b : Block Name Name Name) → k + m < 4 → Each IsId xs → BlockInGrammar b
+      → BlockInGrammar (checks (names []) last xs (numbers k m) b)
   checks_in_grammar xs k zero b le h g = g
-  checks_in_grammar xs k (suc m) b le h g = check_in_grammar xs k (checks (names []) last xs (numbers (suc k) m) b) (omega arith) h (checks_in_grammar xs (suc k) m b (omega arith) h g)
+  checks_in_grammar xs k (suc m) b le h g =
+      check_in_grammar xs k (checks (names []) last xs (numbers (suc k) m) b) (omega arith) h
+      (checks_in_grammar xs (suc k) m b (omega arith) h g)
 
   -- `main__` has a statement
   some_guess : (xs : List Name) (k : ℕ) (b : Block Name Name Name) → IsSome b → IsSome (guess (names []) last xs k b)
@@ -296,7 +359,8 @@ module _ (last : ℕ) (small : last < most_rounds) where
   some_guesses xs k zero b h = h
   some_guesses xs k (suc m) b h = some_guess xs k (guesses (names []) last xs (numbers (suc k) m) b) (some_guesses xs (suc k) m b h)
 
-  some_starts : (lines : List ThreadLine) (b : Block Name Name Name) → 0 < length lines → IsSome (starts (names []) last (map (λ (line : ThreadLine). line.name) lines) b)
+  some_starts : (lines : List ThreadLine) (b : Block Name Name Name) → 0 < length lines
+      → IsSome (starts (names []) last (map (λ (line : ThreadLine). line.name) lines) b)
   some_starts [] b lt = absurd (omega arith)
   some_starts (line ∷ lines) b lt = tt
 
@@ -310,7 +374,9 @@ module _ (last : ℕ) (small : last < most_rounds) where
         formals = tt;
         locals = tt;
         some = some_guesses t.globals 1 last second (some_starts t.threads last_part h.some_thread);
-        body = guesses_in_grammar t.globals 1 last second (omega arith) ids (starts_in_grammar t.threads last_part h.threads (checks_in_grammar t.globals 0 last done (omega arith) ids tt));
+        body =
+            guesses_in_grammar t.globals 1 last second (omega arith) ids
+            (starts_in_grammar t.threads last_part h.threads (checks_in_grammar t.globals 0 last done (omega arith) ids tt));
       }
 
 -- the rewritten tree is one of the grammar

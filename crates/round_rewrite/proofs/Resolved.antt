@@ -1,15 +1,21 @@
 -- The rewritten block by names, resolved, is the rewritten block by places of the resolved block.
-use Rattle.std.proofs.Common.{◌≡◌, ℕ, zero, suc, ◌+◌, ◌/◌, ◌%◌, ◌<◌, ◌≤◌, max, Bool, true, false, cond, not, List, [], ◌∷◌, ◌++◌, length, map, codes, refl, sym, ◌∙◌, ap, subst, ap₂, arith}
+use Rattle.std.proofs.Common.{◌≡◌, ℕ, zero, suc, ◌+◌, ◌/◌, ◌%◌, ◌<◌, ◌≤◌, max, Bool, true, false, cond, not, List, [], ◌∷◌, ◌++◌, length}
+use Rattle.std.proofs.Common.{map, codes, refl, sym, ◌∙◌, ap, subst, ap₂, arith}
 use Rattle.std.proofs.lemmas.List.{map-append}
-use Rattle.language.specs.Tree.{Name, Expression, const, var, negation, two, or, and, xor, RightSide, any, value, Simple, skip, assign, assert, assume, goto, leave, call, Mark, Block, done, one, choose, loop, Tree}
+use Rattle.language.specs.Tree.{Name, Expression, const, var, negation, two, or, and, xor, RightSide, any, value, Simple, skip, assign}
+use Rattle.language.specs.Tree.{assert, assume, goto, leave, call, Mark, Block, done, one, choose, loop, Tree}
 use Rattle.language.specs.Value.{Place, global, local}
 use Rattle.language.specs.Rest.{join}
-use Rattle.language.specs.Resolve.{number_of, is_declared, Scope, place_of, resolve_expression, resolve_side, resolve_simple, resolve_mark, resolve_block}
-use Rattle.round_rewrite.specs.Table.{Naming, numbers, plain, literal, in_round, joined, read, expression, side, written, rounds, targets, sides, draws, temporaries, drawing, stop_test, prologue, statement, rewritten}
+use Rattle.language.specs.Resolve.{number_of, is_declared, Scope, place_of, resolve_expression, resolve_side, resolve_simple, resolve_mark}
+use Rattle.language.specs.Resolve.{resolve_block}
+use Rattle.round_rewrite.specs.Table.{Naming, numbers, plain, literal, in_round, joined, read, expression, side, written, rounds, targets}
+use Rattle.round_rewrite.specs.Table.{sides, draws, temporaries, drawing, stop_test, prologue, statement, rewritten}
 use Rattle.round_rewrite.specs.Places.{places, is_global, copy_at, high_at, low_at, stop_at, bad_at}
 use Rattle.round_rewrite.specs.Names.{named, copy_name, drawn_name, names}
-use Rattle.scopes.specs.Rewritable.{AreFree, Declared, AllDeclared, ExpressionDeclared, ExpressionsDeclared, SideDeclared, SidesDeclared, SimpleDeclared, BlockDeclared}
-use Rattle.round_rewrite.proofs.Placing.{scope, wider, copy_place, kept_place, drawn_place, high_place, low_bit_place, stop_place, bad_place}
+use Rattle.scopes.specs.Rewritable.{AreFree, Declared, AllDeclared, ExpressionDeclared, ExpressionsDeclared, SideDeclared, SidesDeclared}
+use Rattle.scopes.specs.Rewritable.{SimpleDeclared, BlockDeclared}
+use Rattle.round_rewrite.proofs.Placing.{scope, wider, copy_place, kept_place, drawn_place, high_place, low_bit_place, stop_place}
+use Rattle.round_rewrite.proofs.Placing.{bad_place}
 use Rattle.resolved.specs.Limits.{most_places}
 use Rattle.round_rewrite.specs.Limits.{most_rounds}
 
@@ -19,7 +25,8 @@ by_test true f g = f refl
 by_test false f g = g refl
 
 -- what stands behind a statement needs no more temporaries than both
-pub rest_room : {V P L : Type 0} (is_shared : V → Bool) (d : ℕ) (m : Mark L) (c : Simple V P L) (k : Block V P L) → temporaries is_shared (one m c k) ≤ d → temporaries is_shared k ≤ d
+pub rest_room : {V P L : Type 0} (is_shared : V → Bool) (d : ℕ) (m : Mark L) (c : Simple V P L) (k : Block V P L)
+    → temporaries is_shared (one m c k) ≤ d → temporaries is_shared k ≤ d
 rest_room is_shared d m skip k h = h
 rest_room is_shared d m (assign xs rs) k h = omega arith
 rest_room is_shared d m (assert r) k h = h
@@ -31,7 +38,8 @@ rest_room is_shared d m (call q es) k h = h
 resolve-join : (s : Scope) (a b : Block Name Name Name) → resolve_block s (join a b) ≡ join (resolve_block s a) (resolve_block s b)
 resolve-join s done b = refl
 resolve-join s (one m c t) b = ap (one (resolve_mark m) (resolve_simple s c)) (resolve-join s t b)
-resolve-join s (choose m r x y t) b = ap (choose (resolve_mark m) (resolve_side s r) (resolve_block s x) (resolve_block s y)) (resolve-join s t b)
+resolve-join s (choose m r x y t) b =
+    ap (choose (resolve_mark m) (resolve_side s r) (resolve_block s x) (resolve_block s y)) (resolve-join s t b)
 resolve-join s (loop m r x t) b = ap (loop (resolve_mark m) (resolve_side s r) (resolve_block s x)) (resolve-join s t b)
 
 literal_resolved : (s : Scope) (m : ℕ) (x : Name) → resolve_expression s (literal m x) ≡ literal m (place_of s x)
@@ -72,7 +80,8 @@ module _ (t : Tree) (gs own ps : List Name) (d last : ℕ) (gs_free : AreFree gs
   own_place : (x : Name) → is_declared x.text own ≡ true → place_of s x ≡ local (number_of x.text own)
   own_place x h = ap (λ c. cond c (local (number_of x.text own)) (global (number_of x.text gs))) h
 
-  copied_place : (x : Name) → Declared s x → is_declared x.text own ≡ false → (k : ℕ) → k ≤ last → place_of s' (copy_name k x) ≡ copy_at (length gs) k (place_of s x)
+  copied_place : (x : Name) → Declared s x → is_declared x.text own ≡ false → (k : ℕ) → k ≤ last
+      → place_of s' (copy_name k x) ≡ copy_at (length gs) k (place_of s x)
   copied_place x h hidden k le = copy_place gs own ps d last gs_free own_free few small ps' x k le hidden (h hidden)
 
   pub at_resolved : (k : ℕ) → resolve_expression s' (in_round N last k) ≡ in_round P last k
@@ -80,25 +89,31 @@ module _ (t : Tree) (gs own ps : List Name) (d last : ℕ) (gs_free : AreFree gs
       λ i. two and ((literal_resolved s' (k / 2 % 2) (named (codes "rh__")) ∙ ap (literal (k / 2 % 2)) hi) i)
       ((literal_resolved s' (k % 2) (named (codes "rl__")) ∙ ap (literal (k % 2)) lo) i)
 
-  joined_resolved : (x : Name) → Declared s x → is_declared x.text own ≡ false → (k : ℕ) → k ≤ last → resolve_expression s' (joined N last k x) ≡ joined P last k (place_of s x)
+  joined_resolved : (x : Name) → Declared s x → is_declared x.text own ≡ false → (k : ℕ) → k ≤ last
+      → resolve_expression s' (joined N last k x) ≡ joined P last k (place_of s x)
   joined_resolved x h hidden zero le = λ i. two and (at_resolved 0 i) (var (copied_place x h hidden 0 le i))
   joined_resolved x h hidden (suc k) le =
-      λ i. two or (joined_resolved x h hidden k (omega arith) i) (two and (at_resolved (suc k) i) (var (copied_place x h hidden (suc k) le i)))
+      λ i.
+      two or (joined_resolved x h hidden k (omega arith) i)
+      (two and (at_resolved (suc k) i) (var (copied_place x h hidden (suc k) le i)))
 
   read_resolved : (x : Name) → Declared s x → resolve_expression s' (read N last x) ≡ read P last (place_of s x)
   read_resolved x h = by_test (is_declared x.text own)
       (λ e. ap (λ c. resolve_expression s' (cond (not c) (joined N last last x) (var x))) e
       ∙ (ap var (kept_place gs own ps d last gs_free own_free few small ps' x e ∙ own_place x e) ∙ sym (ap (read P last) (own_place x e))))
       (λ e. ap (λ c. resolve_expression s' (cond (not c) (joined N last last x) (var x))) e
-      ∙ (joined_resolved x h e last (omega arith) ∙ (ap (joined P last last) (shared_place x e) ∙ sym (ap (read P last) (shared_place x e)))))
+      ∙ (joined_resolved x h e last (omega arith)
+      ∙ (ap (joined P last last) (shared_place x e) ∙ sym (ap (read P last) (shared_place x e)))))
 
-  expression_resolved : (e : Expression Name) → ExpressionDeclared s e → resolve_expression s' (expression N last e) ≡ expression P last (resolve_expression s e)
+  expression_resolved : (e : Expression Name) → ExpressionDeclared s e
+      → resolve_expression s' (expression N last e) ≡ expression P last (resolve_expression s e)
   expression_resolved (const b) h = refl
   expression_resolved (var x) h = read_resolved x h
   expression_resolved (negation e) h = ap negation (expression_resolved e h)
   expression_resolved (two o a b) h = ap₂ (two o) (expression_resolved a h.0) (expression_resolved b h.1)
 
-  expressions_resolved : (es : List (Expression Name)) → ExpressionsDeclared s es → map (resolve_expression s') (map (expression N last) es) ≡ map (expression P last) (map (resolve_expression s) es)
+  expressions_resolved : (es : List (Expression Name)) → ExpressionsDeclared s es
+      → map (resolve_expression s') (map (expression N last) es) ≡ map (expression P last) (map (resolve_expression s) es)
   expressions_resolved [] h = refl
   expressions_resolved (e ∷ es) h = ap₂ (λ x y. x ∷ y) (expression_resolved e h.0) (expressions_resolved es h.1)
 
@@ -106,71 +121,104 @@ module _ (t : Tree) (gs own ps : List Name) (d last : ℕ) (gs_free : AreFree gs
   side_resolved any h = refl
   side_resolved (value e) h = ap value (expression_resolved e h)
 
-  written_resolved : (x : Name) → Declared s x → is_declared x.text own ≡ false → (e : Expression Name) (e' : Expression Place) → resolve_expression s' e ≡ e' → (j m : ℕ) → j + m ≤ suc last → map (resolve_side s') (map (written N last e x) (numbers j m)) ≡ map (written P last e' (place_of s x)) (numbers j m)
+  written_resolved : (x : Name) → Declared s x → is_declared x.text own ≡ false → (e : Expression Name) (e' : Expression Place)
+      → resolve_expression s' e ≡ e' → (j m : ℕ) → j + m ≤ suc last
+      → map (resolve_side s') (map (written N last e x) (numbers j m)) ≡ map (written P last e' (place_of s x)) (numbers j m)
   written_resolved x h hidden e e' ee j zero le = refl
   written_resolved x h hidden e e' ee j (suc m) le =
-      λ i. value (two or (two and (at_resolved j i) (ee i)) (two and (negation (at_resolved j i)) (var (copied_place x h hidden j (omega arith) i))))
+      λ i.
+      value
+      (two or (two and (at_resolved j i) (ee i))
+      (two and (negation (at_resolved j i)) (var (copied_place x h hidden j (omega arith) i))))
       ∷ written_resolved x h hidden e e' ee (suc j) m (omega arith) i
 
-  copies_resolved : (x : Name) → Declared s x → is_declared x.text own ≡ false → (j m : ℕ) → j + m ≤ suc last → map (place_of s') (map (λ k. copy_name k x) (numbers j m)) ≡ map (λ k. copy_at (length gs) k (place_of s x)) (numbers j m)
+  copies_resolved : (x : Name) → Declared s x → is_declared x.text own ≡ false → (j m : ℕ) → j + m ≤ suc last
+      → map (place_of s') (map (λ k. copy_name k x) (numbers j m)) ≡ map (λ k. copy_at (length gs) k (place_of s x)) (numbers j m)
   copies_resolved x h hidden j zero le = refl
-  copies_resolved x h hidden j (suc m) le = λ i. copied_place x h hidden j (omega arith) i ∷ copies_resolved x h hidden (suc j) m (omega arith) i
+  copies_resolved x h hidden j (suc m) le =
+      λ i. copied_place x h hidden j (omega arith) i ∷ copies_resolved x h hidden (suc j) m (omega arith) i
 
   shared_is : (x : Name) → not (is_declared x.text own) ≡ is_global (place_of s x)
-  shared_is x = by_test (is_declared x.text own) (λ e. ap not e ∙ sym (ap is_global (own_place x e))) (λ e. ap not e ∙ sym (ap is_global (shared_place x e)))
+  shared_is x =
+      by_test (is_declared x.text own) (λ e. ap not e ∙ sym (ap is_global (own_place x e)))
+      (λ e. ap not e ∙ sym (ap is_global (shared_place x e)))
 
-  targets_resolved : (xs : List Name) (rs : List (RightSide Name)) → AllDeclared s xs → map (place_of s') (targets N last xs rs) ≡ targets P last (map (place_of s) xs) (map (resolve_side s) rs)
+  targets_resolved : (xs : List Name) (rs : List (RightSide Name)) → AllDeclared s xs
+      → map (place_of s') (targets N last xs rs) ≡ targets P last (map (place_of s) xs) (map (resolve_side s) rs)
   targets_resolved [] rs h = refl
   targets_resolved (x ∷ xs) [] h = refl
   targets_resolved (x ∷ xs) (r ∷ rs) h =
-      let ih : map (place_of s') (targets N last xs rs) ≡ targets P last (map (place_of s) xs) (map (resolve_side s) rs) = targets_resolved xs rs h.1 in
+      let ih : map (place_of s') (targets N last xs rs) ≡ targets P last (map (place_of s) xs) (map (resolve_side s) rs) =
+      targets_resolved xs rs h.1 in
       let here : List Name = map (λ k. copy_name k x) (rounds N last) in
-      let there : Place → List Place = λ y. cond (is_global y) (map (λ k. copy_at (length gs) k y) (rounds P last) ++ targets P last (map (place_of s) xs) (map (resolve_side s) rs)) (y ∷ targets P last (map (place_of s) xs) (map (resolve_side s) rs)) in
+      let there : Place → List Place =
+      λ y.
+      cond (is_global y)
+      (map (λ k. copy_at (length gs) k y) (rounds P last) ++ targets P last (map (place_of s) xs) (map (resolve_side s) rs))
+      (y ∷ targets P last (map (place_of s) xs) (map (resolve_side s) rs)) in
       by_test (is_declared x.text own)
       (λ e. ap (λ c. map (place_of s') (cond (not c) (here ++ targets N last xs rs) (x ∷ targets N last xs rs))) e
-      ∙ (ap₂ (λ a b. a ∷ b) (kept_place gs own ps d last gs_free own_free few small ps' x e ∙ own_place x e) ih ∙ sym (ap there (own_place x e))))
+      ∙ (ap₂ (λ a b. a ∷ b) (kept_place gs own ps d last gs_free own_free few small ps' x e ∙ own_place x e) ih
+      ∙ sym (ap there (own_place x e))))
       (λ e. ap (λ c. map (place_of s') (cond (not c) (here ++ targets N last xs rs) (x ∷ targets N last xs rs))) e
       ∙ (map-append (place_of s') here (targets N last xs rs)
-      ∙ (ap₂ (λ a b. a ++ b) (copies_resolved x h.0 e 0 (suc last) (omega arith) ∙ ap (λ y. map (λ k. copy_at (length gs) k y) (rounds P last)) (shared_place x e)) ih
+      ∙ (ap₂ (λ a b. a ++ b)
+      (copies_resolved x h.0 e 0 (suc last) (omega arith)
+      ∙ ap (λ y. map (λ k. copy_at (length gs) k y) (rounds P last)) (shared_place x e)) ih
       ∙ sym (ap there (shared_place x e)))))
 
   drawn_resolved : (j : ℕ) → j < d → resolve_expression s' (var (drawn_name j)) ≡ var (local (length own + j))
   drawn_resolved j lt = ap var (drawn_place gs own ps d last gs_free own_free few small ps' j lt)
 
-  sides_resolved : (j : ℕ) (xs : List Name) (rs : List (RightSide Name)) → AllDeclared s xs → SidesDeclared s rs → j + draws N.is_shared xs rs ≤ d → map (resolve_side s') (sides N last j xs rs) ≡ sides P last j (map (place_of s) xs) (map (resolve_side s) rs)
+  sides_resolved : (j : ℕ) (xs : List Name) (rs : List (RightSide Name)) → AllDeclared s xs → SidesDeclared s rs
+      → j + draws N.is_shared xs rs ≤ d
+      → map (resolve_side s') (sides N last j xs rs) ≡ sides P last j (map (place_of s) xs) (map (resolve_side s) rs)
   sides_resolved j [] rs h hr room = refl
   sides_resolved j (x ∷ xs) [] h hr room = refl
   sides_resolved j (x ∷ xs) (any ∷ rs) h hr room =
       let Rest : ℕ → List (RightSide Place) = λ k. sides P last k (map (place_of s) xs) (map (resolve_side s) rs) in
       let here : List (RightSide Name) = map (written N last (var (drawn_name j)) x) (rounds N last) in
-      let there : Place → List (RightSide Place) = λ y. cond (is_global y) (map (written P last (var (local (length own + j))) y) (rounds P last) ++ Rest (suc j)) (any ∷ Rest j) in
+      let there : Place → List (RightSide Place) =
+      λ y. cond (is_global y) (map (written P last (var (local (length own + j))) y) (rounds P last) ++ Rest (suc j)) (any ∷ Rest j) in
       by_test (is_declared x.text own)
       (λ e.
-      let less : j + draws N.is_shared xs rs ≤ d = subst (λ c. j + cond (not c) (suc (draws N.is_shared xs rs)) (draws N.is_shared xs rs) ≤ d) e room in
+      let less : j + draws N.is_shared xs rs ≤ d =
+      subst (λ c. j + cond (not c) (suc (draws N.is_shared xs rs)) (draws N.is_shared xs rs) ≤ d) e room in
       ap (λ c. map (resolve_side s') (cond (not c) (here ++ sides N last (suc j) xs rs) (any ∷ sides N last j xs rs))) e
       ∙ (ap (λ b. any ∷ b) (sides_resolved j xs rs h.1 hr.1 less) ∙ sym (ap there (own_place x e))))
       (λ e.
-      let more : j + suc (draws N.is_shared xs rs) ≤ d = subst (λ c. j + cond (not c) (suc (draws N.is_shared xs rs)) (draws N.is_shared xs rs) ≤ d) e room in
+      let more : j + suc (draws N.is_shared xs rs) ≤ d =
+      subst (λ c. j + cond (not c) (suc (draws N.is_shared xs rs)) (draws N.is_shared xs rs) ≤ d) e room in
       ap (λ c. map (resolve_side s') (cond (not c) (here ++ sides N last (suc j) xs rs) (any ∷ sides N last j xs rs))) e
       ∙ (map-append (resolve_side s') here (sides N last (suc j) xs rs)
-      ∙ (ap₂ (λ a b. a ++ b) (written_resolved x h.0 e (var (drawn_name j)) (var (local (length own + j))) (drawn_resolved j (omega arith)) 0 (suc last) (omega arith) ∙ ap (λ y. map (written P last (var (local (length own + j))) y) (rounds P last)) (shared_place x e))
+      ∙ (ap₂ (λ a b. a ++ b)
+      (written_resolved x h.0 e (var (drawn_name j)) (var (local (length own + j))) (drawn_resolved j (omega arith)) 0 (suc last)
+      (omega arith) ∙ ap (λ y. map (written P last (var (local (length own + j))) y) (rounds P last)) (shared_place x e))
       (sides_resolved (suc j) xs rs h.1 hr.1 (omega arith))
       ∙ sym (ap there (shared_place x e)))))
   sides_resolved j (x ∷ xs) (value v ∷ rs) h hr room =
       let Rest : List (RightSide Place) = sides P last j (map (place_of s) xs) (map (resolve_side s) rs) in
       let V : Expression Place = expression P last (resolve_expression s v) in
       let here : List (RightSide Name) = map (written N last (expression N last v) x) (rounds N last) in
-      let there : Place → List (RightSide Place) = λ y. cond (is_global y) (map (written P last V y) (rounds P last) ++ Rest) (value V ∷ Rest) in
+      let there : Place → List (RightSide Place) =
+      λ y. cond (is_global y) (map (written P last V y) (rounds P last) ++ Rest) (value V ∷ Rest) in
       by_test (is_declared x.text own)
-      (λ e. ap (λ c. map (resolve_side s') (cond (not c) (here ++ sides N last j xs rs) (value (expression N last v) ∷ sides N last j xs rs))) e
+      (λ e.
+      ap
+      (λ c. map (resolve_side s') (cond (not c) (here ++ sides N last j xs rs) (value (expression N last v) ∷ sides N last j xs rs))) e
       ∙ (ap₂ (λ a b. value a ∷ b) (expression_resolved v hr.0) (sides_resolved j xs rs h.1 hr.1 room) ∙ sym (ap there (own_place x e))))
-      (λ e. ap (λ c. map (resolve_side s') (cond (not c) (here ++ sides N last j xs rs) (value (expression N last v) ∷ sides N last j xs rs))) e
+      (λ e.
+      ap
+      (λ c. map (resolve_side s') (cond (not c) (here ++ sides N last j xs rs) (value (expression N last v) ∷ sides N last j xs rs))) e
       ∙ (map-append (resolve_side s') here (sides N last j xs rs)
-      ∙ (ap₂ (λ a b. a ++ b) (written_resolved x h.0 e (expression N last v) V (expression_resolved v hr.0) 0 (suc last) (omega arith) ∙ ap (λ y. map (written P last V y) (rounds P last)) (shared_place x e))
+      ∙ (ap₂ (λ a b. a ++ b)
+      (written_resolved x h.0 e (expression N last v) V (expression_resolved v hr.0) 0 (suc last) (omega arith)
+      ∙ ap (λ y. map (written P last V y) (rounds P last)) (shared_place x e))
       (sides_resolved j xs rs h.1 hr.1 room)
       ∙ sym (ap there (shared_place x e)))))
 
-  draws_resolved : (xs : List Name) (rs : List (RightSide Name)) → draws N.is_shared xs rs ≡ draws is_global (map (place_of s) xs) (map (resolve_side s) rs)
+  draws_resolved : (xs : List Name) (rs : List (RightSide Name))
+      → draws N.is_shared xs rs ≡ draws is_global (map (place_of s) xs) (map (resolve_side s) rs)
   draws_resolved [] rs = refl
   draws_resolved (x ∷ xs) [] = refl
   draws_resolved (x ∷ xs) (any ∷ rs) = λ i. cond (shared_is x i) (suc (draws_resolved xs rs i)) (draws_resolved xs rs i)
@@ -190,20 +238,24 @@ module _ (t : Tree) (gs own ps : List Name) (d last : ℕ) (gs_free : AreFree gs
 
   drawn_all : (j m : ℕ) → j + m ≤ d → map (place_of s') (map drawn_name (numbers j m)) ≡ map (λ k. local (length own + k)) (numbers j m)
   drawn_all j zero le = refl
-  drawn_all j (suc m) le = λ i. drawn_place gs own ps d last gs_free own_free few small ps' j (omega arith) i ∷ drawn_all (suc j) m (omega arith) i
+  drawn_all j (suc m) le =
+      λ i. drawn_place gs own ps d last gs_free own_free few small ps' j (omega arith) i ∷ drawn_all (suc j) m (omega arith) i
 
   any_all : (ks : List ℕ) → map (resolve_side s') (map (λ k. any) ks) ≡ map (λ k. any) ks
   any_all [] = refl
   any_all (k ∷ ks) = ap (λ z. any ∷ z) (any_all ks)
 
-  drawing_resolved : (m : ℕ) (k : Block Name Name Name) → m ≤ d → resolve_block s' (drawing N last m k) ≡ drawing P last m (resolve_block s' k)
+  drawing_resolved : (m : ℕ) (k : Block Name Name Name) → m ≤ d
+      → resolve_block s' (drawing N last m k) ≡ drawing P last m (resolve_block s' k)
   drawing_resolved zero k le = refl
-  drawing_resolved (suc m) k le = λ i. one plain (assign (drawn_all 0 (suc m) (omega arith) i) (any_all (numbers 0 (suc m)) i)) (resolve_block s' k)
+  drawing_resolved (suc m) k le =
+      λ i. one plain (assign (drawn_all 0 (suc m) (omega arith) i) (any_all (numbers 0 (suc m)) i)) (resolve_block s' k)
 
   stop_resolved : (k : Block Name Name Name) → resolve_block s' (stop_test N last k) ≡ stop_test P last (resolve_block s' k)
   stop_resolved k = λ i. choose plain (value (var (st i))) (one plain leave done) (one plain skip done) (resolve_block s' k)
 
-  prologue_resolved : (m : Mark Name) (k : Block Name Name Name) → resolve_block s' (prologue N last m k) ≡ prologue P last (resolve_mark m) (resolve_block s' k)
+  prologue_resolved : (m : Mark Name) (k : Block Name Name Name)
+      → resolve_block s' (prologue N last m k) ≡ prologue P last (resolve_mark m) (resolve_block s' k)
   prologue_resolved m k =
       λ i. loop (resolve_mark m) any
       (one plain (assume (value (negation (at_resolved last i))))
@@ -220,12 +272,15 @@ module _ (t : Tree) (gs own ps : List Name) (d last : ℕ) (gs_free : AreFree gs
   drawn_in leave = 0
   drawn_in (call q es) = 0
 
-  statement_resolved : (c : Simple Name Name Name) (k : Block Name Name Name) → SimpleDeclared t s c → drawn_in c ≤ d → resolve_block s' (statement N last c k) ≡ statement P last (resolve_simple s c) (resolve_block s' k)
+  statement_resolved : (c : Simple Name Name Name) (k : Block Name Name Name) → SimpleDeclared t s c → drawn_in c ≤ d
+      → resolve_block s' (statement N last c k) ≡ statement P last (resolve_simple s c) (resolve_block s' k)
   statement_resolved skip k h room = refl
   statement_resolved (assign xs rs) k h room =
       let few_draws : draws N.is_shared xs rs ≤ d = room in
       drawing_resolved (draws N.is_shared xs rs) (one plain (assign (targets N last xs rs) (sides N last 0 xs rs)) k) few_draws
-      ∙ (λ i. drawing P last (draws_resolved xs rs i) (one plain (assign (targets_resolved xs rs h.0 i) (sides_resolved 0 xs rs h.0 h.1 (omega arith) i)) (resolve_block s' k)))
+      ∙ (λ i.
+      drawing P last (draws_resolved xs rs i)
+      (one plain (assign (targets_resolved xs rs h.0 i) (sides_resolved 0 xs rs h.0 h.1 (omega arith) i)) (resolve_block s' k)))
   statement_resolved (assert r) k h room =
       λ i. choose plain (side_resolved r h i) (one plain skip done)
       (one plain (assign (bd i ∷ st i ∷ []) (value (const true) ∷ value (const true) ∷ [])) (one plain leave done)) (resolve_block s' k)
@@ -234,7 +289,8 @@ module _ (t : Tree) (gs own ps : List Name) (d last : ℕ) (gs_free : AreFree gs
   statement_resolved leave k h room = refl
   statement_resolved (call q es) k h room = λ i. one plain (call (called q h.1 i) (expressions_resolved es h.0 i)) (stop_resolved k i)
 
-  drawn_room : (m : Mark Name) (c : Simple Name Name Name) (k : Block Name Name Name) → temporaries N.is_shared (one m c k) ≤ d → drawn_in c ≤ d
+  drawn_room : (m : Mark Name) (c : Simple Name Name Name) (k : Block Name Name Name) → temporaries N.is_shared (one m c k) ≤ d
+      → drawn_in c ≤ d
   drawn_room m skip k h = omega arith
   drawn_room m (assign xs rs) k h = omega arith
   drawn_room m (assert r) k h = omega arith
@@ -243,17 +299,24 @@ module _ (t : Tree) (gs own ps : List Name) (d last : ℕ) (gs_free : AreFree gs
   drawn_room m leave k h = omega arith
   drawn_room m (call q es) k h = omega arith
 
-  pub block_resolved : (b : Block Name Name Name) → BlockDeclared t s b → temporaries N.is_shared b ≤ d → resolve_block s' (rewritten N last b) ≡ rewritten P last (resolve_block s b)
+  pub block_resolved : (b : Block Name Name Name) → BlockDeclared t s b → temporaries N.is_shared b ≤ d
+      → resolve_block s' (rewritten N last b) ≡ rewritten P last (resolve_block s b)
   block_resolved done h room = refl
   block_resolved (one m c k) h room =
       prologue_resolved m (statement N last c (rewritten N last k))
       ∙ ap (prologue P last (resolve_mark m))
-      (statement_resolved c (rewritten N last k) h.0 (drawn_room m c k room) ∙ ap (statement P last (resolve_simple s c)) (block_resolved k h.1 (rest_room N.is_shared d m c k room)))
+      (statement_resolved c (rewritten N last k) h.0 (drawn_room m c k room)
+      ∙ ap (statement P last (resolve_simple s c)) (block_resolved k h.1 (rest_room N.is_shared d m c k room)))
   block_resolved (choose m r a b k) h room =
       prologue_resolved m (choose plain (side N last r) (rewritten N last a) (rewritten N last b) (rewritten N last k))
-      ∙ (λ i. prologue P last (resolve_mark m) (choose plain (side_resolved r h.0 i) (block_resolved a h.1 (omega arith) i) (block_resolved b h.2 (omega arith) i) (block_resolved k h.3 (omega arith) i)))
+      ∙ (λ i.
+      prologue P last (resolve_mark m)
+      (choose plain (side_resolved r h.0 i) (block_resolved a h.1 (omega arith) i) (block_resolved b h.2 (omega arith) i)
+      (block_resolved k h.3 (omega arith) i)))
   block_resolved (loop m r a k) h room =
-      let inside : resolve_block s' (join (rewritten N last a) (prologue N last plain done)) ≡ join (rewritten P last (resolve_block s a)) (prologue P last plain done) =
-      resolve-join s' (rewritten N last a) (prologue N last plain done) ∙ ap₂ join (block_resolved a h.1 (omega arith)) (prologue_resolved plain done) in
+      let inside : resolve_block s' (join (rewritten N last a) (prologue N last plain done)) ≡ join (rewritten P last (resolve_block s a))
+      (prologue P last plain done) =
+      resolve-join s' (rewritten N last a) (prologue N last plain done)
+      ∙ ap₂ join (block_resolved a h.1 (omega arith)) (prologue_resolved plain done) in
       prologue_resolved m (loop plain (side N last r) (join (rewritten N last a) (prologue N last plain done)) (rewritten N last k))
       ∙ (λ i. prologue P last (resolve_mark m) (loop plain (side_resolved r h.0 i) (inside i) (block_resolved k h.2 (omega arith) i)))

@@ -1,5 +1,6 @@
 -- Which printed names differ.
-use Rattle.std.proofs.Common.{◌≡◌, ℕ, zero, suc, ◌+◌, ◌<◌, Bool, true, false, ◌&&◌, ◌||◌, List, [], ◌∷◌, ◌++◌, nat_eq, refl, sym, ◌∙◌, ap, ap₂, arith, append_assoc}
+use Rattle.std.proofs.Common.{◌≡◌, ℕ, zero, suc, ◌+◌, ◌<◌, Bool, true, false, ◌&&◌, ◌||◌, List, [], ◌∷◌, ◌++◌, nat_eq, refl, sym, ◌∙◌, ap}
+use Rattle.std.proofs.Common.{ap₂, arith, append_assoc}
 use Rattle.std.proofs.lemmas.List.{append_cancel_right, append_cancel_left}
 use Rattle.std.proofs.lemmas.Slice.Eq.{bytes_eq-Decides}
 use Rattle.std.proofs.lemmas.Fmt.{decimal_injective}
@@ -29,11 +30,14 @@ same_text-append a b s = go (same_text a b) refl
   where
     go : (c : Bool) → same_text a b ≡ c → same_text (a ++ s) (b ++ s) ≡ c
     go true e = ap (λ z. same_text (a ++ s) (z ++ s)) (sym (same_text_true a b e)) ∙ same_text_refl (a ++ s)
-    go false e = same_text_false (a ++ s) (b ++ s) (λ k. let bad : true ≡ false = sym (ap (same_text a) (sym (append_cancel_right a b s k)) ∙ same_text_refl a) ∙ e in cc)
+    go false e =
+        same_text_false (a ++ s) (b ++ s) (λ k. let bad : true ≡ false =
+        sym (ap (same_text a) (sym (append_cancel_right a b s k)) ∙ same_text_refl a) ∙ e in cc)
 
 pub double_there : (a s : List ℕ) → has_double (a ++ 95 ∷ 95 ∷ s) ≡ true
 double_there [] s = refl
-double_there (c ∷ a) s = ap (λ z. (nat_eq c 95 && begins_low (a ++ 95 ∷ 95 ∷ s)) || z) (double_there a s) ∙ or_true (nat_eq c 95 && begins_low (a ++ 95 ∷ 95 ∷ s))
+double_there (c ∷ a) s = ap (λ z. (nat_eq c 95 && begins_low (a ++ 95 ∷ 95 ∷ s)) || z) (double_there a s)
+    ∙ or_true (nat_eq c 95 && begins_low (a ++ 95 ∷ 95 ∷ s))
   where
     or_true : (x : Bool) → (x || true) ≡ true
     or_true true = refl
@@ -41,7 +45,8 @@ double_there (c ∷ a) s = ap (λ z. (nat_eq c 95 && begins_low (a ++ 95 ∷ 95 
 
 -- a text without two underscores in a row is none with them
 pub free_differs : (x a s : List ℕ) → has_double x ≡ false → same_text (a ++ 95 ∷ 95 ∷ s) x ≡ false
-free_differs x a s free = same_text_false (a ++ 95 ∷ 95 ∷ s) x (λ e. let bad : true ≡ false = sym (double_there a s) ∙ (ap has_double e ∙ free) in cc)
+free_differs x a s free =
+    same_text_false (a ++ 95 ∷ 95 ∷ s) x (λ e. let bad : true ≡ false = sym (double_there a s) ∙ (ap has_double e ∙ free) in cc)
 
 snoc_last : (a b : List ℕ) (u v : ℕ) → a ++ u ∷ [] ≡ b ++ v ∷ [] → (u ≡ v) × (a ≡ b)
 snoc_last [] [] u v e = (let k : u ≡ v = cc in k, refl)
@@ -78,14 +83,17 @@ copies_differ x y k j hk hj ne = same_text_false _ _ (λ e.
 pub saves_differ : (x y : List ℕ) (k j : ℕ) → k < most_rounds → j < most_rounds → (k ≡ j → ⊥) →
     same_text (x ++ 95 ∷ 95 ∷ 115 ∷ decimal (suc k)) (y ++ 95 ∷ 95 ∷ 115 ∷ decimal (suc j)) ≡ false
 saves_differ x y k j hk hj ne = same_text_false _ _ (λ e.
-    let last = snoc_last (x ++ 95 ∷ 95 ∷ 115 ∷ []) (y ++ 95 ∷ 95 ∷ 115 ∷ []) (49 + k) (49 + j) (sym (save_text x k hk) ∙ (e ∙ save_text y j hj)) in
+    let last =
+    snoc_last (x ++ 95 ∷ 95 ∷ 115 ∷ []) (y ++ 95 ∷ 95 ∷ 115 ∷ []) (49 + k) (49 + j) (sym (save_text x k hk) ∙ (e ∙ save_text y j hj)) in
     ne (let z : 49 + k ≡ 49 + j = last.0 in omega arith))
 
 pub save_no_copy : (x y : List ℕ) (k j : ℕ) → k < most_rounds → j < most_rounds →
     same_text (x ++ 95 ∷ 95 ∷ 115 ∷ decimal (suc k)) (y ++ 95 ∷ 95 ∷ decimal (suc j)) ≡ false
 save_no_copy x y k j hk hj = same_text_false _ _ (λ e.
     let r = snoc_last (x ++ 95 ∷ 95 ∷ 115 ∷ []) (y ++ 95 ∷ 95 ∷ []) (49 + k) (49 + j) (sym (save_text x k hk) ∙ (e ∙ copy_text y j hj)) in
-    let r2 = snoc_last (x ++ 95 ∷ 95 ∷ []) (y ++ 95 ∷ []) 115 95 (append_assoc x (95 ∷ 95 ∷ []) (115 ∷ []) ∙ (r.1 ∙ sym (append_assoc y (95 ∷ []) (95 ∷ [])))) in
+    let r2 =
+    snoc_last (x ++ 95 ∷ 95 ∷ []) (y ++ 95 ∷ []) 115 95
+    (append_assoc x (95 ∷ 95 ∷ []) (115 ∷ []) ∙ (r.1 ∙ sym (append_assoc y (95 ∷ []) (95 ∷ [])))) in
     let z : ◌≡◌ {A = ℕ} 115 95 = r2.0 in omega arith)
 
 -- a text that ends in an underscore is no copy and no guess
@@ -103,12 +111,15 @@ low_no_save a y j hj = same_text_false _ _ (λ e.
 pub drawn_differ : (i j : ℕ) → i < most_places → j < most_places → (i ≡ j → ⊥) →
     same_text (116 ∷ 109 ∷ 112 ∷ 95 ∷ 95 ∷ 116 ∷ decimal (suc i))
     (116 ∷ 109 ∷ 112 ∷ 95 ∷ 95 ∷ 116 ∷ decimal (suc j)) ≡ false
-drawn_differ i j hi hj ne = same_text_false (116 ∷ 109 ∷ 112 ∷ 95 ∷ 95 ∷ 116 ∷ decimal (suc i)) (116 ∷ 109 ∷ 112 ∷ 95 ∷ 95 ∷ 116 ∷ decimal (suc j)) (λ e.
-    let t : decimal (suc i) ≡ decimal (suc j) = append_cancel_left (116 ∷ 109 ∷ 112 ∷ 95 ∷ 95 ∷ 116 ∷ []) (decimal (suc i)) (decimal (suc j)) e in
+drawn_differ i j hi hj ne =
+    same_text_false (116 ∷ 109 ∷ 112 ∷ 95 ∷ 95 ∷ 116 ∷ decimal (suc i)) (116 ∷ 109 ∷ 112 ∷ 95 ∷ 95 ∷ 116 ∷ decimal (suc j)) (λ e.
+    let t : decimal (suc i) ≡ decimal (suc j) =
+    append_cancel_left (116 ∷ 109 ∷ 112 ∷ 95 ∷ 95 ∷ 116 ∷ []) (decimal (suc i)) (decimal (suc j)) e in
     ne (let z : suc i ≡ suc j = decimal_injective (suc i) (suc j) (omega arith) (omega arith) t in omega arith))
 
 -- no copy or guess of a text without two underscores is a temporary
-pub no_drawn : (x : List ℕ) (u : ℕ) (r d : List ℕ) → has_double x ≡ false → (u ≡ 116 → ⊥) → x ++ 95 ∷ 95 ∷ u ∷ r ≡ 116 ∷ 109 ∷ 112 ∷ 95 ∷ 95 ∷ 116 ∷ d → ⊥
+pub no_drawn : (x : List ℕ) (u : ℕ) (r d : List ℕ) → has_double x ≡ false → (u ≡ 116 → ⊥)
+    → x ++ 95 ∷ 95 ∷ u ∷ r ≡ 116 ∷ 109 ∷ 112 ∷ 95 ∷ 95 ∷ 116 ∷ d → ⊥
 no_drawn [] u r d free ne e = let z : ◌≡◌ {A = ℕ} 95 116 = cc in omega arith
 no_drawn (a ∷ []) u r d free ne e = let z : ◌≡◌ {A = ℕ} 95 109 = cc in omega arith
 no_drawn (a ∷ b ∷ []) u r d free ne e = let z : ◌≡◌ {A = ℕ} 95 112 = cc in omega arith

@@ -62,8 +62,10 @@ module _ (p : Program) (last : ℕ) (fits : FitsScopes p) (small : last < most_r
   pub unsafe_bad : Unsafe p (suc last) → SomeBad result (bad_at p.globals last)
   unsafe_bad unsafe =
       let (n, h) = unsafe_leads p last fits small unsafe in
-      let h1 : PlainAfter (world_of result) n (bare_state start) (Bad p.globals last) = subst (λ s. PlainAfter (world_of result) n s (Bad p.globals last)) (sym (start_is p last)) h in
-      let h2 : AfterSteps result n start (λ u. Bad p.globals last (bare_state u)) = subst (λ T. T) (sym (plain_after result n start (Bad p.globals last))) h1 in
+      let h1 : PlainAfter (world_of result) n (bare_state start) (Bad p.globals last) =
+      subst (λ s. PlainAfter (world_of result) n s (Bad p.globals last)) (sym (start_is p last)) h in
+      let h2 : AfterSteps result n start (λ u. Bad p.globals last (bare_state u)) =
+      subst (λ T. T) (sym (plain_after result n start (Bad p.globals last))) h1 in
       let (u, run, bad) = after_pick result n start (λ u. Bad p.globals last (bare_state u)) h2 in
       to_pair n u run bad
 
@@ -72,8 +74,10 @@ module _ (p : Program) (last : ℕ) (fits : FitsScopes p) (small : last < most_r
       Unsafe p (suc last)
   from_run n b l done e run bad =
       let h : AfterSteps result n start (λ u. Bad p.globals last (bare_state u)) =
-      after_map result n start (λ v. v ≡ state b (frame 0 l done ∷ [])) (λ u. Bad p.globals last (bare_state u)) (λ u eu. subst (λ v. Bad p.globals last (bare_state v)) (sym eu) (refl, bad)) run in
-      let h1 : PlainAfter (world_of result) n (bare_state start) (Bad p.globals last) = subst (λ T. T) (plain_after result n start (Bad p.globals last)) h in
+      after_map result n start (λ v. v ≡ state b (frame 0 l done ∷ [])) (λ u. Bad p.globals last (bare_state u))
+      (λ u eu. subst (λ v. Bad p.globals last (bare_state v)) (sym eu) (refl, bad)) run in
+      let h1 : PlainAfter (world_of result) n (bare_state start) (Bad p.globals last) =
+      subst (λ T. T) (plain_after result n start (Bad p.globals last)) h in
       leads_unsafe p last fits small n (subst (λ s. PlainAfter (world_of result) n s (Bad p.globals last)) (start_is p last) h1)
   from_run n b l (one m s t) e run bad = cc
   from_run n b l (choose m r x y t) e run bad = cc
@@ -84,7 +88,9 @@ module _ (p : Program) (last : ℕ) (fits : FitsScopes p) (small : last < most_r
       bit b (bad_at p.globals last) ≡ true → Unsafe p (suc last)
   from_entry a b l rest e (inl (q, is)) run bad =
       let run' : Runs result start (state b (frame 0 l rest ∷ [])) =
-      subst (λ (v : Valuation). Runs result (state v.globals (frame 0 v.places (numbered 1 body) ∷ [])) (state b (frame 0 l rest ∷ []))) is run in
+      subst
+      (λ (v : Valuation). Runs result (state v.globals (frame 0 v.places (numbered 1 body) ∷ [])) (state b (frame 0 l rest ∷ []))) is
+      run in
       from_run run'.0 b l rest e run'.1 bad
   from_entry a b l rest e (inr (c, asks)) run bad = absurd (never_asked last p c a asks)
 

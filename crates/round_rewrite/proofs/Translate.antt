@@ -1,5 +1,6 @@
 -- What the rewritten expressions are worth.
-use Rattle.std.proofs.Common.{◌≡◌, ℕ, zero, suc, ◌+◌, ◌*◌, ◌/◌, ◌%◌, ◌<◌, ◌≤◌, Bool, true, false, not, ◌&&◌, ◌||◌, List, [], ◌∷◌, ◌++◌, length, map, refl, sym, ◌∙◌, ap, ap₂, arith, inl, inr}
+use Rattle.std.proofs.Common.{◌≡◌, ℕ, zero, suc, ◌+◌, ◌*◌, ◌/◌, ◌%◌, ◌<◌, ◌≤◌, Bool, true, false, not, ◌&&◌, ◌||◌, List, [], ◌∷◌, ◌++◌}
+use Rattle.std.proofs.Common.{length, map, refl, sym, ◌∙◌, ap, ap₂, arith, inl, inr}
 use Rattle.std.proofs.lemmas.Bool.{cases_eq}
 use Rattle.std.proofs.lemmas.List.{get_or_append_left}
 use Rattle.language.specs.Tree.{Expression, const, var, negation, two, RightSide, any, value}
@@ -67,7 +68,8 @@ module _ (n last own : ℕ) (C S : List (List Bool)) (q : ℕ) (s b : Bool) (L :
   pub at_is : (k : ℕ) → k ≤ last → value_of globals_now L (in_round (places n last own) last k) ≡ same k q
   at_is k h =
       ap₂ (λ x y. x && y) (literal_is globals_now L (k / 2 % 2) _) (literal_is globals_now L (k % 2) _)
-      ∙ (ap₂ (λ x y. lit (k / 2 % 2) x && lit (k % 2) y) (bits_bit n last C S (bits_of q s b) 0 shape) (bits_bit n last C S (bits_of q s b) 1 shape)
+      ∙ (ap₂ (λ x y. lit (k / 2 % 2) x && lit (k % 2) y) (bits_bit n last C S (bits_of q s b) 0 shape)
+      (bits_bit n last C S (bits_of q s b) 1 shape)
       ∙ closed k q (omega arith) (omega arith))
 
   copy_is : (k i : ℕ) → k ≤ last → i < n → bit globals_now (k * n + i) ≡ bit (row C k) i
@@ -88,24 +90,28 @@ module _ (n last own : ℕ) (C S : List (List Bool)) (q : ℕ) (s b : Bool) (L :
       ap₂ (λ x y. x && y) (at_is zero h ∙ (ap (same zero) e ∙ refl)) (copy_is zero i h h' ∙ ap (λ z. bit (row C z) i) (sym e))
   from (suc k) i h h' le = elim (cases_eq q (suc k)) [
     | inl e ↦ ap₂ (λ x y. x || y) (before k i (omega arith) h' (omega arith))
-        (ap₂ (λ x y. x && y) (at_is (suc k) h ∙ (ap (same (suc k)) e ∙ same_refl (suc k))) (copy_is (suc k) i h h' ∙ ap (λ z. bit (row C z) i) (sym e)))
+        (ap₂ (λ x y. x && y) (at_is (suc k) h ∙ (ap (same (suc k)) e ∙ same_refl (suc k)))
+        (copy_is (suc k) i h h' ∙ ap (λ z. bit (row C z) i) (sym e)))
     | inr ne ↦ ap₂ (λ x y. x || y) (from k i (omega arith) h' (omega arith))
         (and_false _ _ (at_is (suc k) h ∙ same_false (suc k) q (omega arith)))
         ∙ or_false _
   ]
 
   -- a rewritten read is the read of the round's copy; locals stand before the temporaries
-  pub expression_is : (l tmp : List Bool) → L ≡ l ++ tmp → length l ≡ own → (e : Expression Place) → InScope n own e → value_of globals_now L (expression (places n last own) last e) ≡ value_of (row C q) l e
+  pub expression_is : (l tmp : List Bool) → L ≡ l ++ tmp → length l ≡ own → (e : Expression Place) → InScope n own e
+      → value_of globals_now L (expression (places n last own) last e) ≡ value_of (row C q) l e
   expression_is l tmp eL el (const c) h = refl
   expression_is l tmp eL el (var (global i)) h = from last i (omega arith) h within
   expression_is l tmp eL el (var (local i)) h = ap (λ z. bit z i) eL ∙ get_or_append_left l tmp false i (omega arith)
   expression_is l tmp eL el (negation e) h = ap not (expression_is l tmp eL el e h)
   expression_is l tmp eL el (two o x y) h = ap₂ (operate o) (expression_is l tmp eL el x h.0) (expression_is l tmp eL el y h.1)
 
-  pub expressions_are : (l tmp : List Bool) → L ≡ l ++ tmp → length l ≡ own → (es : List (Expression Place)) → AreInScope n own es → values_of globals_now L (map (expression (places n last own) last) es) ≡ values_of (row C q) l es
+  pub expressions_are : (l tmp : List Bool) → L ≡ l ++ tmp → length l ≡ own → (es : List (Expression Place)) → AreInScope n own es
+      → values_of globals_now L (map (expression (places n last own) last) es) ≡ values_of (row C q) l es
   expressions_are l tmp eL el [] h = refl
   expressions_are l tmp eL el (e ∷ es) h = ap₂ (λ x xs. x ∷ xs) (expression_is l tmp eL el e h.0) (expressions_are l tmp eL el es h.1)
 
-  pub side_is : (l tmp : List Bool) → L ≡ l ++ tmp → length l ≡ own → (r : RightSide Place) → SideInScope n own r → (v : Bool) → IsValue globals_now L (side (places n last own) last r) v ≡ IsValue (row C q) l r v
+  pub side_is : (l tmp : List Bool) → L ≡ l ++ tmp → length l ≡ own → (r : RightSide Place) → SideInScope n own r → (v : Bool)
+      → IsValue globals_now L (side (places n last own) last r) v ≡ IsValue (row C q) l r v
   side_is l tmp eL el any h v = refl
   side_is l tmp eL el (value e) h v = ap (λ z. v ≡ z) (expression_is l tmp eL el e h)

@@ -1,11 +1,13 @@
 -- Nobody calls the first procedure of a rewritten program, so it is entered once, with every value 0.
-use Rattle.std.proofs.Common.{◌≡◌, ℕ, zero, suc, ◌+◌, Bool, true, false, cond, List, [], ◌∷◌, map, Option, Some, None, slice_get, refl, sym, ◌∙◌, subst}
+use Rattle.std.proofs.Common.{◌≡◌, ℕ, zero, suc, ◌+◌, Bool, true, false, cond, List, [], ◌∷◌, map, Option, Some, None, slice_get, refl, sym}
+use Rattle.std.proofs.Common.{◌∙◌, subst}
 use Rattle.language.specs.Tree.{RightSide, Simple, skip, assign, assert, assume, goto, leave, call, Mark, done, one, choose, loop}
 use Rattle.language.specs.Value.{Place, values_of}
 use Rattle.language.specs.Rest.{Label, Code, join, rest_from}
 use Rattle.language.specs.Step.{Routine, Program, Frame, frame, State, state, fresh, AtRoutine, AtRest, body_of, StepsTo, AfterSteps}
 use Rattle.language.specs.Sequential.{statements, numbered, numbered_routine, in_text_order, Valuation, Calls, Asks}
-use Rattle.round_rewrite.specs.Table.{Naming, numbers, plain, side, draws, drawing, statement, prologue, rewritten, guess, guesses, starts, check, checks, main}
+use Rattle.round_rewrite.specs.Table.{Naming, numbers, plain, side, draws, drawing, statement, prologue, rewritten, guess, guesses, starts}
+use Rattle.round_rewrite.specs.Table.{check, checks, main}
 use Rattle.round_rewrite.specs.Places.{places, all_globals, rewritten_routine, main_routine, rewritten_program}
 use Rattle.resolved.specs.Scoped.{Throughout}
 use Rattle.round_rewrite.proofs.Frames.{throughout-join, throughout-rest, IfThere}
@@ -36,7 +38,12 @@ StateAway (state g fs) = AllAway fs
 away-numbered : (n : ℕ) (b : Code) → Away b → Away (numbered n b)
 away-numbered n done h = tt
 away-numbered n (one m s t) h = (h.0, away-numbered (suc n) t h.1)
-away-numbered n (choose m r a b t) h = (tt, away-numbered (suc n) a h.1, away-numbered (suc n + statements a) b h.2, away-numbered (suc n + (statements a + statements b)) t h.3)
+away-numbered n (choose m r a b t) h = (
+  tt,
+  away-numbered (suc n) a h.1,
+  away-numbered (suc n + statements a) b h.2,
+  away-numbered (suc n + (statements a + statements b)) t h.3,
+)
 away-numbered n (loop m r a t) h = (tt, away-numbered (suc n) a h.1, away-numbered (suc n + statements a) t h.2)
 
 module _ (n last own : ℕ) where
@@ -49,7 +56,10 @@ module _ (n last own : ℕ) where
 
   away-statement : (s : Simple Place ℕ Label) (t : Code) → Away t → Away (statement w last s t)
   away-statement skip t h = (tt, h)
-  away-statement (assign xs rs) t h = away-drawing (draws w.is_shared xs rs) (one plain (assign (Rattle.round_rewrite.specs.Table.targets w last xs rs) (Rattle.round_rewrite.specs.Table.sides w last 0 xs rs)) t) (tt, h)
+  away-statement (assign xs rs) t h =
+      away-drawing (draws w.is_shared xs rs)
+      (one plain
+      (assign (Rattle.round_rewrite.specs.Table.targets w last xs rs) (Rattle.round_rewrite.specs.Table.sides w last 0 xs rs)) t) (tt, h)
   away-statement (assert r) t h = (tt, (tt, tt), (tt, (tt, tt)), h)
   away-statement (assume r) t h = (tt, h)
   away-statement (goto x) t h = (tt, h)
@@ -61,10 +71,17 @@ module _ (n last own : ℕ) where
 
   away-rewritten : (b : Code) → Away (rewritten w last b)
   away-rewritten done = tt
-  away-rewritten (one m s t) = away-prologue m (statement w last s (rewritten w last t)) (away-statement s (rewritten w last t) (away-rewritten t))
-  away-rewritten (choose m r a b t) = away-prologue m (choose plain (side w last r) (rewritten w last a) (rewritten w last b) (rewritten w last t)) (tt, away-rewritten a, away-rewritten b, away-rewritten t)
+  away-rewritten (one m s t) =
+      away-prologue m (statement w last s (rewritten w last t)) (away-statement s (rewritten w last t) (away-rewritten t))
+  away-rewritten (choose m r a b t) =
+      away-prologue m (choose plain (side w last r) (rewritten w last a) (rewritten w last b) (rewritten w last t))
+      (tt, away-rewritten a, away-rewritten b, away-rewritten t)
   away-rewritten (loop m r a t) =
-      away-prologue m (loop plain (side w last r) (join (rewritten w last a) (prologue w last plain done)) (rewritten w last t)) (tt, throughout-join Elsewhere Any (rewritten w last a) (prologue w last plain done) (away-rewritten a) (away-prologue plain done tt), away-rewritten t)
+      away-prologue m (loop plain (side w last r) (join (rewritten w last a) (prologue w last plain done)) (rewritten w last t)) (
+        tt,
+        throughout-join Elsewhere Any (rewritten w last a) (prologue w last plain done) (away-rewritten a) (away-prologue plain done tt),
+        away-rewritten t,
+      )
 
   away-guess : (xs : List Place) (k : ℕ) (t : Code) → Away t → Away (guess w last xs k t)
   away-guess [] k t h = h
@@ -87,15 +104,19 @@ module _ (n last own : ℕ) where
   away-checks xs (k ∷ ks) t h = away-check xs k (checks w last xs ks t) (away-checks xs ks t h)
 
   away-main : (xs : List Place) (T : List ℕ) → Away (main w last xs T)
-  away-main xs T = away-guesses xs (numbers 1 last) (starts w last T (checks w last xs (numbers 0 last) done)) (away-starts T (checks w last xs (numbers 0 last) done) (away-checks xs (numbers 0 last) done tt))
+  away-main xs T =
+      away-guesses xs (numbers 1 last) (starts w last T (checks w last xs (numbers 0 last) done))
+      (away-starts T (checks w last xs (numbers 0 last) done) (away-checks xs (numbers 0 last) done tt))
 
 abbrev RoutineAway : Option Routine → Type 0
 RoutineAway None = Unit {0}
 RoutineAway (Some r) = Away r.body
 
-away_routines : (n last : ℕ) (rs : List Routine) (c : ℕ) → RoutineAway (slice_get (map numbered_routine (map (rewritten_routine n last) rs)) c)
+away_routines : (n last : ℕ) (rs : List Routine) (c : ℕ)
+    → RoutineAway (slice_get (map numbered_routine (map (rewritten_routine n last) rs)) c)
 away_routines n last [] c = tt
-away_routines n last (r ∷ rs) zero = away-numbered 1 (rewritten (places n last r.places) last r.body) (away-rewritten n last r.places r.body)
+away_routines n last (r ∷ rs) zero =
+    away-numbered 1 (rewritten (places n last r.places) last r.body) (away-rewritten n last r.places r.body)
 away_routines n last (r ∷ rs) (suc c) = away_routines n last rs c
 
 module _ (p : Program) (bodies : (c : ℕ) → RoutineAway (slice_get p.routines c)) where
@@ -103,11 +124,13 @@ module _ (p : Program) (bodies : (c : ℕ) → RoutineAway (slice_get p.routines
   away_body None h = tt
   away_body (Some r) h = h
 
-  rest_away : (o : Option Code) (F : Code → State) (P : State → Type 0) → IfThere Away o → ((c : Code) → Away c → StateAway (F c)) → AtRest o (λ c. P (F c)) → (u : State) × P u × StateAway u
+  rest_away : (o : Option Code) (F : Code → State) (P : State → Type 0) → IfThere Away o → ((c : Code) → Away c → StateAway (F c))
+      → AtRest o (λ c. P (F c)) → (u : State) × P u × StateAway u
   rest_away None F P h f a = absurd a
   rest_away (Some c) F P h f a = (F c, a, f c h)
 
-  routine_away : (o : Option Routine) (F : Routine → State) (P : State → Type 0) → RoutineAway o → ((r : Routine) → Away r.body → StateAway (F r)) → AtRoutine o (λ r. P (F r)) → (u : State) × P u × StateAway u
+  routine_away : (o : Option Routine) (F : Routine → State) (P : State → Type 0) → RoutineAway o
+      → ((r : Routine) → Away r.body → StateAway (F r)) → AtRoutine o (λ r. P (F r)) → (u : State) × P u × StateAway u
   routine_away None F P h f a = absurd a
   routine_away (Some r) F P h f a = (F r, a, f r h)
 
@@ -128,10 +151,12 @@ module _ (p : Program) (bodies : (c : ℕ) → RoutineAway (slice_get p.routines
   step_away (state g (frame c l (one m (assume r) t) ∷ fs)) P h a = (_, a.1, (h.0.1, h.1))
   step_away (state g (frame c l (one m (goto x) t) ∷ fs)) P h a =
       rest_away (rest_from x (body_of (slice_get p.routines c)) done) (λ u. state g (frame c l u ∷ fs)) P
-      (throughout-rest Elsewhere Any x (body_of (slice_get p.routines c)) done (away_body (slice_get p.routines c) (bodies c)) tt) (λ u hu. (hu, h.1)) a
+      (throughout-rest Elsewhere Any x (body_of (slice_get p.routines c)) done (away_body (slice_get p.routines c) (bodies c)) tt)
+      (λ u hu. (hu, h.1)) a
   step_away (state g (frame c l (one m leave t) ∷ fs)) P h a = (_, a, (tt, h.1))
   step_away (state g (frame c l (one m (call q es) t) ∷ fs)) P h a =
-      routine_away (slice_get p.routines q) (λ r. state g (frame q (fresh r.places (values_of g l es)) r.body ∷ frame c l t ∷ fs)) P (bodies q) (λ r hr. (hr, (h.0.1, h.1))) a
+      routine_away (slice_get p.routines q) (λ r. state g (frame q (fresh r.places (values_of g l es)) r.body ∷ frame c l t ∷ fs)) P
+      (bodies q) (λ r hr. (hr, (h.0.1, h.1))) a
   step_away (state g (frame c l (choose m r x y t) ∷ fs)) P h (v, is, a) = (_, a, (away-branch v x y t h.0.1 h.0.2 h.0.3, h.1))
   step_away (state g (frame c l (loop m r x t) ∷ fs)) P h (v, is, a) = (_, a, (away-again v m r x t h.0.1 h.0.2, h.1))
 
@@ -145,10 +170,14 @@ module _ (p : Program) (bodies : (c : ℕ) → RoutineAway (slice_get p.routines
 pub never_asked : (last : ℕ) (p : Program) (c : ℕ) (a : Valuation) → Asks (in_text_order (rewritten_program last p)) c 0 a → ⊥
 never_asked last p c a (g, l, rest, fs, (n, run), calls) =
     let main_away : Away (numbered 1 (main (places p.globals last 0) last (all_globals p.globals) p.threads)) =
-    away-numbered 1 (main (places p.globals last 0) last (all_globals p.globals) p.threads) (away-main p.globals last 0 (all_globals p.globals) p.threads) in
-    no_call g l rest (run_away (in_text_order (rewritten_program last p)) (bodies main_away) n _ (state g (frame c l rest ∷ fs)) (main_away, tt) run).0 calls
+    away-numbered 1 (main (places p.globals last 0) last (all_globals p.globals) p.threads)
+    (away-main p.globals last 0 (all_globals p.globals) p.threads) in
+    no_call g l rest
+    (run_away (in_text_order (rewritten_program last p)) (bodies main_away) n _ (state g (frame c l rest ∷ fs)) (main_away, tt) run).0
+    calls
   where
-    bodies : Away (numbered 1 (main (places p.globals last 0) last (all_globals p.globals) p.threads)) → (k : ℕ) → RoutineAway (slice_get (map numbered_routine (main_routine last p ∷ map (rewritten_routine p.globals last) p.routines)) k)
+    bodies : Away (numbered 1 (main (places p.globals last 0) last (all_globals p.globals) p.threads)) → (k : ℕ)
+        → RoutineAway (slice_get (map numbered_routine (main_routine last p ∷ map (rewritten_routine p.globals last) p.routines)) k)
     bodies h zero = h
     bodies h (suc k) = away_routines p.globals last p.routines k
 

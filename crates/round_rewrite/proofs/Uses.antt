@@ -1,12 +1,15 @@
--- Which variables the parts of the rewritten statements use, where D is to hold of each of them and S holds of those of the source.
-use Rattle.std.proofs.Common.{◌≡◌, ℕ, zero, suc, ◌+◌, ◌/◌, ◌%◌, ◌≤◌, ◌<◌, true, false, cond, not, List, [], ◌∷◌, ◌++◌, length, map, codes, refl, sym, ◌∙◌, ap, subst, ap₂, arith, length-append}
+-- Which variables the parts of the rewritten statements use, where D is to hold of each of them and S holds of those of
+-- the source.
+use Rattle.std.proofs.Common.{◌≡◌, ℕ, zero, suc, ◌+◌, ◌/◌, ◌%◌, ◌≤◌, ◌<◌, true, false, cond, not, List, [], ◌∷◌, ◌++◌, length, map, codes}
+use Rattle.std.proofs.Common.{refl, sym, ◌∙◌, ap, subst, ap₂, arith, length-append}
 use Rattle.std.proofs.lemmas.List.{length-map}
 use Rattle.language.specs.Tree.{Name, Expression, const, var, negation, two, RightSide, any, value}
 use Rattle.language.specs.Resolve.{is_declared}
 use Rattle.resolved.specs.Resolves.{Each}
 use Rattle.resolved.specs.Statements.{variables_of, variables_of_side, variables_of_sides, variables_of_all}
 use Rattle.resolved.proofs.Each.{each_left, each_right}
-use Rattle.round_rewrite.specs.Table.{Naming, numbers, literal, in_round, joined, read, expression, side, written, rounds, targets, sides, draws}
+use Rattle.round_rewrite.specs.Table.{Naming, numbers, literal, in_round, joined, read, expression, side, written, rounds, targets, sides}
+use Rattle.round_rewrite.specs.Table.{draws}
 use Rattle.round_rewrite.specs.Names.{named, copy_name, drawn_name, names}
 use Rattle.round_rewrite.proofs.Resolved.{by_test}
 
@@ -16,7 +19,8 @@ each_both P [] ys h g = g
 each_both P (x ∷ xs) ys h g = (h.0, each_both P xs ys h.1 g)
 
 -- the variables of right sides, of one list after another
-pub sides_both : (D : Name → Type 0) (rs ss : List (RightSide Name)) → Each D (variables_of_sides rs) → Each D (variables_of_sides ss) → Each D (variables_of_sides (rs ++ ss))
+pub sides_both : (D : Name → Type 0) (rs ss : List (RightSide Name)) → Each D (variables_of_sides rs) → Each D (variables_of_sides ss)
+    → Each D (variables_of_sides (rs ++ ss))
 sides_both D [] ss h g = g
 sides_both D (r ∷ rs) ss h g =
     each_both D (variables_of_side r) (variables_of_sides (rs ++ ss)) (each_left D (variables_of_side r) (variables_of_sides rs) h)
@@ -28,17 +32,20 @@ any_uses D [] = tt
 any_uses D (x ∷ xs) = any_uses D xs
 
 -- what holds of each name that is written holds of each in the list of them
-pub written_each : {X : Type 0} (D : Name → Type 0) (P : X → Type 0) (f : X → Name) (xs : List X) → ((x : X) → P x → D (f x)) → Each P xs → Each D (map f xs)
+pub written_each : {X : Type 0} (D : Name → Type 0) (P : X → Type 0) (f : X → Name) (xs : List X) → ((x : X) → P x → D (f x)) → Each P xs
+    → Each D (map f xs)
 written_each D P f [] g h = tt
 written_each D P f (x ∷ xs) g h = (g x h.0, written_each D P f xs g h.1)
 
 -- the temporaries up to a number
-pub drawn_each : (D : Name → Type 0) (d : ℕ) → ((j : ℕ) → j < d → D (drawn_name j)) → (j m : ℕ) → j + m ≤ d → Each D (map drawn_name (numbers j m))
+pub drawn_each : (D : Name → Type 0) (d : ℕ) → ((j : ℕ) → j < d → D (drawn_name j)) → (j m : ℕ) → j + m ≤ d
+    → Each D (map drawn_name (numbers j m))
 drawn_each D d h j zero le = tt
 drawn_each D d h j (suc m) le = (h j (omega arith), drawn_each D d h (suc j) m (omega arith))
 
 -- there are as many right sides as targets
-pub sides_even : (own : List Name) (last j : ℕ) (xs : List Name) (rs : List (RightSide Name)) → length (targets (names own) last xs rs) ≡ length (sides (names own) last j xs rs)
+pub sides_even : (own : List Name) (last j : ℕ) (xs : List Name) (rs : List (RightSide Name))
+    → length (targets (names own) last xs rs) ≡ length (sides (names own) last j xs rs)
 sides_even own last j [] rs = refl
 sides_even own last j (x ∷ xs) [] = refl
 sides_even own last j (x ∷ xs) (any ∷ rs) =
@@ -46,22 +53,38 @@ sides_even own last j (x ∷ xs) (any ∷ rs) =
     let here : List Name = map (λ k. copy_name k x) (rounds N last) in
     let there : List (RightSide Name) = map (written N last (var (drawn_name j)) x) (rounds N last) in
     by_test (is_declared x.text own)
-    (λ e. subst (λ c. length (cond (not c) (here ++ targets N last xs rs) (x ∷ targets N last xs rs)) ≡ length (cond (not c) (there ++ sides N last (suc j) xs rs) (any ∷ sides N last j xs rs))) (sym e)
+    (λ e.
+    subst
+    (λ c. length (cond (not c) (here ++ targets N last xs rs) (x ∷ targets N last xs rs))
+    ≡ length (cond (not c) (there ++ sides N last (suc j) xs rs) (any ∷ sides N last j xs rs))) (sym e)
     (ap suc (sides_even own last j xs rs)))
-    (λ e. subst (λ c. length (cond (not c) (here ++ targets N last xs rs) (x ∷ targets N last xs rs)) ≡ length (cond (not c) (there ++ sides N last (suc j) xs rs) (any ∷ sides N last j xs rs))) (sym e)
+    (λ e.
+    subst
+    (λ c. length (cond (not c) (here ++ targets N last xs rs) (x ∷ targets N last xs rs))
+    ≡ length (cond (not c) (there ++ sides N last (suc j) xs rs) (any ∷ sides N last j xs rs))) (sym e)
     (length-append here (targets N last xs rs)
-    ∙ (ap₂ (λ a b. a + b) (length-map (rounds N last) (λ k. copy_name k x) ∙ sym (length-map (rounds N last) (written N last (var (drawn_name j)) x))) (sides_even own last (suc j) xs rs)
+    ∙ (ap₂ (λ a b. a + b)
+    (length-map (rounds N last) (λ k. copy_name k x) ∙ sym (length-map (rounds N last) (written N last (var (drawn_name j)) x)))
+    (sides_even own last (suc j) xs rs)
     ∙ sym (length-append there (sides N last (suc j) xs rs)))))
 sides_even own last j (x ∷ xs) (value v ∷ rs) =
     let N = names own in
     let here : List Name = map (λ k. copy_name k x) (rounds N last) in
     let there : List (RightSide Name) = map (written N last (expression N last v) x) (rounds N last) in
     by_test (is_declared x.text own)
-    (λ e. subst (λ c. length (cond (not c) (here ++ targets N last xs rs) (x ∷ targets N last xs rs)) ≡ length (cond (not c) (there ++ sides N last j xs rs) (value (expression N last v) ∷ sides N last j xs rs))) (sym e)
+    (λ e.
+    subst
+    (λ c. length (cond (not c) (here ++ targets N last xs rs) (x ∷ targets N last xs rs))
+    ≡ length (cond (not c) (there ++ sides N last j xs rs) (value (expression N last v) ∷ sides N last j xs rs))) (sym e)
     (ap suc (sides_even own last j xs rs)))
-    (λ e. subst (λ c. length (cond (not c) (here ++ targets N last xs rs) (x ∷ targets N last xs rs)) ≡ length (cond (not c) (there ++ sides N last j xs rs) (value (expression N last v) ∷ sides N last j xs rs))) (sym e)
+    (λ e.
+    subst
+    (λ c. length (cond (not c) (here ++ targets N last xs rs) (x ∷ targets N last xs rs))
+    ≡ length (cond (not c) (there ++ sides N last j xs rs) (value (expression N last v) ∷ sides N last j xs rs))) (sym e)
     (length-append here (targets N last xs rs)
-    ∙ (ap₂ (λ a b. a + b) (length-map (rounds N last) (λ k. copy_name k x) ∙ sym (length-map (rounds N last) (written N last (expression N last v) x))) (sides_even own last j xs rs)
+    ∙ (ap₂ (λ a b. a + b)
+    (length-map (rounds N last) (λ k. copy_name k x) ∙ sym (length-map (rounds N last) (written N last (expression N last v) x)))
+    (sides_even own last j xs rs)
     ∙ sym (length-append there (sides N last j xs rs)))))
 
 -- D holds of the names of the bits, of `stop__` and `bad__`, of the copies of globals, of locals and of temporaries
@@ -102,7 +125,9 @@ module _ (own : List Name) (last d : ℕ) (D S : Name → Type 0) (held : Held o
   read_uses : (x : Name) → S x → Each D (variables_of (read (names own) last x))
   read_uses x h = by_test (is_declared x.text own)
       (λ e. subst (λ c. Each D (variables_of (cond (not c) (joined (names own) last last x) (var x)))) (sym e) (held.kept x h e, tt))
-      (λ e. subst (λ c. Each D (variables_of (cond (not c) (joined (names own) last last x) (var x)))) (sym e) (joined_uses x h e last (omega arith)))
+      (λ e.
+      subst (λ c. Each D (variables_of (cond (not c) (joined (names own) last last x) (var x)))) (sym e)
+      (joined_uses x h e last (omega arith)))
 
   pub expression_uses : (e : Expression Name) → Each S (variables_of e) → Each D (variables_of (expression (names own) last e))
   expression_uses (const b) h = tt
@@ -110,31 +135,38 @@ module _ (own : List Name) (last d : ℕ) (D S : Name → Type 0) (held : Held o
   expression_uses (negation e) h = expression_uses e h
   expression_uses (two o a b) h =
       each_both D (variables_of (expression (names own) last a)) (variables_of (expression (names own) last b))
-      (expression_uses a (each_left S (variables_of a) (variables_of b) h)) (expression_uses b (each_right S (variables_of a) (variables_of b) h))
+      (expression_uses a (each_left S (variables_of a) (variables_of b) h))
+      (expression_uses b (each_right S (variables_of a) (variables_of b) h))
 
-  pub arguments_use : (es : List (Expression Name)) → Each S (variables_of_all es) → Each D (variables_of_all (map (expression (names own) last) es))
+  pub arguments_use : (es : List (Expression Name)) → Each S (variables_of_all es)
+      → Each D (variables_of_all (map (expression (names own) last) es))
   arguments_use [] h = tt
   arguments_use (e ∷ es) h =
       each_both D (variables_of (expression (names own) last e)) (variables_of_all (map (expression (names own) last) es))
-      (expression_uses e (each_left S (variables_of e) (variables_of_all es) h)) (arguments_use es (each_right S (variables_of e) (variables_of_all es) h))
+      (expression_uses e (each_left S (variables_of e) (variables_of_all es) h))
+      (arguments_use es (each_right S (variables_of e) (variables_of_all es) h))
 
   pub side_uses : (r : RightSide Name) → Each S (variables_of_side r) → Each D (variables_of_side (side (names own) last r))
   side_uses any h = tt
   side_uses (value e) h = expression_uses e h
 
-  written_uses : (e : Expression Name) → Each D (variables_of e) → (x : Name) → S x → is_declared x.text own ≡ false → (k : ℕ) → k ≤ last → Each D (variables_of_side (written (names own) last e x k))
+  written_uses : (e : Expression Name) → Each D (variables_of e) → (x : Name) → S x → is_declared x.text own ≡ false → (k : ℕ) → k ≤ last
+      → Each D (variables_of_side (written (names own) last e x k))
   written_uses e g x h hidden k le =
       each_both D (variables_of (in_round (names own) last k) ++ variables_of e)
       (variables_of (in_round (names own) last k) ++ (copy_name k x ∷ []))
       (each_both D (variables_of (in_round (names own) last k)) (variables_of e) (at_uses k) g) (copy_uses x h hidden k le)
 
-  row_uses : (e : Expression Name) → Each D (variables_of e) → (x : Name) → S x → is_declared x.text own ≡ false → (j m : ℕ) → j + m ≤ suc last → Each D (variables_of_sides (map (written (names own) last e x) (numbers j m)))
+  row_uses : (e : Expression Name) → Each D (variables_of e) → (x : Name) → S x → is_declared x.text own ≡ false → (j m : ℕ)
+      → j + m ≤ suc last → Each D (variables_of_sides (map (written (names own) last e x) (numbers j m)))
   row_uses e g x h hidden j zero le = tt
   row_uses e g x h hidden j (suc m) le =
-      each_both D (variables_of_side (written (names own) last e x j)) (variables_of_sides (map (written (names own) last e x) (numbers (suc j) m)))
+      each_both D (variables_of_side (written (names own) last e x j))
+      (variables_of_sides (map (written (names own) last e x) (numbers (suc j) m)))
       (written_uses e g x h hidden j (omega arith)) (row_uses e g x h hidden (suc j) m (omega arith))
 
-  copies_held : (x : Name) → S x → is_declared x.text own ≡ false → (j m : ℕ) → j + m ≤ suc last → Each D (map (λ k. copy_name k x) (numbers j m))
+  copies_held : (x : Name) → S x → is_declared x.text own ≡ false → (j m : ℕ) → j + m ≤ suc last
+      → Each D (map (λ k. copy_name k x) (numbers j m))
   copies_held x h hidden j zero le = tt
   copies_held x h hidden j (suc m) le = (held.copied x h hidden j (omega arith), copies_held x h hidden (suc j) m (omega arith))
 
@@ -147,9 +179,12 @@ module _ (own : List Name) (last d : ℕ) (D S : Name → Type 0) (held : Held o
       let rec : Each D others = targets_held xs rs h.1 in
       by_test (is_declared x.text own)
       (λ e. subst (λ c. Each D (cond (not c) (here ++ others) (x ∷ others))) (sym e) (held.kept x h.0 e, rec))
-      (λ e. subst (λ c. Each D (cond (not c) (here ++ others) (x ∷ others))) (sym e) (each_both D here others (copies_held x h.0 e 0 (suc last) (omega arith)) rec))
+      (λ e.
+      subst (λ c. Each D (cond (not c) (here ++ others) (x ∷ others))) (sym e)
+      (each_both D here others (copies_held x h.0 e 0 (suc last) (omega arith)) rec))
 
-  pub sides_use : (j : ℕ) (xs : List Name) (rs : List (RightSide Name)) → Each S xs → Each S (variables_of_sides rs) → j + draws (names own).is_shared xs rs ≤ d → Each D (variables_of_sides (sides (names own) last j xs rs))
+  pub sides_use : (j : ℕ) (xs : List Name) (rs : List (RightSide Name)) → Each S xs → Each S (variables_of_sides rs)
+      → j + draws (names own).is_shared xs rs ≤ d → Each D (variables_of_sides (sides (names own) last j xs rs))
   sides_use j [] rs h g room = tt
   sides_use j (x ∷ xs) [] h g room = tt
   sides_use j (x ∷ xs) (any ∷ rs) h g room =
@@ -163,14 +198,18 @@ module _ (own : List Name) (last d : ℕ) (D S : Name → Type 0) (held : Held o
       (λ e.
       let more : j + suc drawn ≤ d = subst (λ c. j + cond (not c) (suc drawn) drawn ≤ d) e room in
       subst (λ c. Each D (variables_of_sides (cond (not c) (here ++ Rest (suc j)) (any ∷ Rest j)))) (sym e)
-      (sides_both D here (Rest (suc j)) (row_uses (var (drawn_name j)) (held.drawn j (omega arith), tt) x h.0 e 0 (suc last) (omega arith)) (sides_use (suc j) xs rs h.1 g (omega arith))))
+      (sides_both D here (Rest (suc j)) (row_uses (var (drawn_name j)) (held.drawn j (omega arith), tt) x h.0 e 0 (suc last) (omega arith))
+      (sides_use (suc j) xs rs h.1 g (omega arith))))
   sides_use j (x ∷ xs) (value v ∷ rs) h g room =
       let here : List (RightSide Name) = map (written (names own) last (expression (names own) last v) x) (rounds (names own) last) in
       let others : List (RightSide Name) = sides (names own) last j xs rs in
-      let uses : Each D (variables_of (expression (names own) last v)) = expression_uses v (each_left S (variables_of v) (variables_of_sides rs) g) in
+      let uses : Each D (variables_of (expression (names own) last v)) =
+      expression_uses v (each_left S (variables_of v) (variables_of_sides rs) g) in
       let rec : Each D (variables_of_sides others) = sides_use j xs rs h.1 (each_right S (variables_of v) (variables_of_sides rs) g) room in
       by_test (is_declared x.text own)
-      (λ e. subst (λ c. Each D (variables_of_sides (cond (not c) (here ++ others) (value (expression (names own) last v) ∷ others)))) (sym e)
+      (λ e.
+      subst (λ c. Each D (variables_of_sides (cond (not c) (here ++ others) (value (expression (names own) last v) ∷ others)))) (sym e)
       (each_both D (variables_of (expression (names own) last v)) (variables_of_sides others) uses rec))
-      (λ e. subst (λ c. Each D (variables_of_sides (cond (not c) (here ++ others) (value (expression (names own) last v) ∷ others)))) (sym e)
+      (λ e.
+      subst (λ c. Each D (variables_of_sides (cond (not c) (here ++ others) (value (expression (names own) last v) ∷ others)))) (sym e)
       (sides_both D here others (row_uses (expression (names own) last v) uses x h.0 e 0 (suc last) (omega arith)) rec))

@@ -33,13 +33,19 @@ length-globals last xs =
     let four = named (codes "rh__") ∷ named (codes "rl__") ∷ named (codes "stop__") ∷ named (codes "bad__") ∷ [] in
     let first = copied (names []) last copy_name xs (numbers 0 (suc last)) in
     let second = copied (names []) last save_name xs (numbers 1 last) in
-    let c : length (globals (names []) last xs) ≡ length ((first ++ second) ++ four) = ap length (sym (gathered first second (named (codes "rh__")) (named (codes "rl__")) (named (codes "stop__")) (named (codes "bad__"))) ∙ four_behind (first ++ second) (named (codes "rh__")) (named (codes "rl__")) (named (codes "stop__")) (named (codes "bad__"))) in
+    let c : length (globals (names []) last xs) ≡ length ((first ++ second) ++ four) =
+    ap length
+    (sym (gathered first second (named (codes "rh__")) (named (codes "rl__")) (named (codes "stop__")) (named (codes "bad__")))
+    ∙ four_behind (first ++ second) (named (codes "rh__")) (named (codes "rl__")) (named (codes "stop__")) (named (codes "bad__"))) in
     c ∙ (length-append (first ++ second) four ∙ (ap (λ n. n + 4) (length-append first second ∙ (λ i. a i + b i))))
 
-own_places : (last : ℕ) (p : Procedure) → length ((rewritten_procedure last p).formals ++ (rewritten_procedure last p).locals) ≡ length p.formals + (length p.locals + procedure_needs p)
+own_places : (last : ℕ) (p : Procedure)
+    → length ((rewritten_procedure last p).formals ++ (rewritten_procedure last p).locals)
+    ≡ length p.formals + (length p.locals + procedure_needs p)
 own_places last p =
     let temps = map drawn_name (numbers 0 (procedure_needs p)) in
-    let t : length temps ≡ procedure_needs p = length-map (numbers 0 (procedure_needs p)) drawn_name ∙ length-numbers 0 (procedure_needs p) in
+    let t : length temps ≡ procedure_needs p = length-map (numbers 0 (procedure_needs p)) drawn_name
+    ∙ length-numbers 0 (procedure_needs p) in
     length-append p.formals (p.locals ++ temps)
     ∙ ap (λ n. length p.formals + n) (length-append p.locals temps ∙ ap (λ n. length p.locals + n) t)
 
@@ -120,5 +126,6 @@ pub few_procedures : (t : Tree) → IsChecked t → length t.procedures ≤ 31
 few_procedures t ok = few_from t.procedures 31 (λ n h. ok (fault.TooMany n) (inl h))
 
 -- the procedures of a program that is a tree rewritten, counted
-pub count_rewritten : {A : Type 0} (last : ℕ) (t : Tree) (ps : List (Proc A)) → procs_of ps ≡ (rewritten_tree last t).procedures → length ps ≡ suc (length t.procedures)
+pub count_rewritten : {A : Type 0} (last : ℕ) (t : Tree) (ps : List (Proc A)) → procs_of ps ≡ (rewritten_tree last t).procedures
+    → length ps ≡ suc (length t.procedures)
 count_rewritten last t ps e = sym (length-map ps proc_of) ∙ (ap length e ∙ ap suc (length-map t.procedures (rewritten_procedure last)))

@@ -1,8 +1,11 @@
--- Each statement of a checked tree rewritten works: its variables are declared, what it calls and goes to is there, and each
+-- Each statement of a checked tree rewritten works: its variables are declared, what it calls and goes to is there, and
+-- each
 -- target has its right side. So the rewritten tree resolves.
-use Rattle.std.proofs.Common.{◌≡◌, ℕ, zero, suc, ◌+◌, ◌<◌, ◌≤◌, Bool, true, false, cond, List, [], ◌∷◌, ◌++◌, length, map, codes, Option, Some, None, option_map, inl, inr, refl, sym, ◌∙◌, ap, subst, ap₂, arith, append_assoc}
+use Rattle.std.proofs.Common.{◌≡◌, ℕ, zero, suc, ◌+◌, ◌<◌, ◌≤◌, Bool, true, false, cond, List, [], ◌∷◌, ◌++◌, length, map, codes, Option}
+use Rattle.std.proofs.Common.{Some, None, option_map, inl, inr, refl, sym, ◌∙◌, ap, subst, ap₂, arith, append_assoc}
 use Rattle.std.proofs.lemmas.List.{length-map}
-use Rattle.language.specs.Tree.{Name, var, RightSide, any, value, Simple, skip, assign, assert, assume, goto, leave, call, Mark, Block, done, one, choose, loop, Procedure, ThreadLine, Tree}
+use Rattle.language.specs.Tree.{Name, var, RightSide, any, value, Simple, skip, assign, assert, assume, goto, leave, call, Mark, Block}
+use Rattle.language.specs.Tree.{done, one, choose, loop, Procedure, ThreadLine, Tree}
 use Rattle.language.specs.Rest.{same_text, join}
 use Rattle.language.specs.Resolve.{is_declared}
 use Rattle.language.proofs.Names.{declared_first}
@@ -17,7 +20,8 @@ use Rattle.scopes.proofs.Works.{in_either, named_declared, Works, IsGood, Starts
 use Rattle.scopes.proofs.Resolving.{labels_append, working_resolves}
 use Rattle.scopes.proofs.Rewriting.{checked_rewritable}
 use Rattle.round_rewrite.specs.Table as table
-use Rattle.round_rewrite.specs.Table.{numbers, temporaries, in_round, expression, side, targets, sides, draws, drawing, stop_test, prologue, statement, rewritten, guess, guesses, starts, check, checks, main, copied, globals}
+use Rattle.round_rewrite.specs.Table.{numbers, temporaries, in_round, expression, side, targets, sides, draws, drawing, stop_test, prologue}
+use Rattle.round_rewrite.specs.Table.{statement, rewritten, guess, guesses, starts, check, checks, main, copied, globals}
 use Rattle.round_rewrite.specs.Names as renamed
 use Rattle.round_rewrite.specs.Names.{copy_name, save_name, drawn_name, names, rewritten_procedure, main_procedure, rewritten_tree}
 use Rattle.round_rewrite.proofs.Spelling.{same_text_refl}
@@ -25,7 +29,8 @@ use Rattle.round_rewrite.proofs.Numbering.{number_right, number_left, in_rows}
 use Rattle.round_rewrite.proofs.Placing.{copies_spelled, saves_spelled}
 use Rattle.round_rewrite.proofs.Resolved.{by_test, rest_room}
 use Rattle.round_rewrite.proofs.Meaning.{not_main}
-use Rattle.round_rewrite.proofs.Uses.{each_both, any_uses, written_each, drawn_each, sides_even, Held, at_uses, arguments_use, side_uses, targets_held, sides_use}
+use Rattle.round_rewrite.proofs.Uses.{each_both, any_uses, written_each, drawn_each, sides_even, Held, at_uses, arguments_use, side_uses}
+use Rattle.round_rewrite.proofs.Uses.{targets_held, sides_use}
 use Rattle.round_rewrite.specs.Limits.{most_rounds}
 
 -- a name that is declared in the second of two lists is declared in both
@@ -33,40 +38,52 @@ pub declared_right : (x : List ℕ) (xs ys : List Name) → is_declared x ys ≡
 declared_right x xs ys h = by_test (is_declared x xs) (λ e. (number_left x xs ys e).1) (λ e. (number_right x xs ys e).1 ∙ h)
 
 -- each of the names is declared
-each_declared : (xs ys : List Name) → ((x : List ℕ) → is_declared x xs ≡ true → is_declared x ys ≡ true) → Each (λ (x : Name). is_declared x.text ys ≡ true) xs
+each_declared : (xs ys : List Name) → ((x : List ℕ) → is_declared x xs ≡ true → is_declared x ys ≡ true)
+    → Each (λ (x : Name). is_declared x.text ys ≡ true) xs
 each_declared [] ys f = tt
-each_declared (x ∷ xs) ys f = (f x.text (ap (λ c. cond c true (is_declared x.text xs)) (same_text_refl x.text)), each_declared xs ys (λ z h. f z (declared_right z (x ∷ []) xs h)))
+each_declared (x ∷ xs) ys f = (
+  f x.text (ap (λ c. cond c true (is_declared x.text xs)) (same_text_refl x.text)),
+  each_declared xs ys (λ z h. f z (declared_right z (x ∷ []) xs h)),
+)
 
 temporary_declared : (e j d : ℕ) → e < d → is_declared (drawn_name (j + e)).text (map drawn_name (numbers j d)) ≡ true
 temporary_declared e j zero lt = absurd (omega arith)
 temporary_declared zero j (suc d) lt =
     let z : j ≡ j + zero = omega arith in
-    subst (λ k. is_declared (drawn_name k).text (map drawn_name (numbers j (suc d))) ≡ true) z (ap (λ c. cond c true (is_declared (drawn_name j).text (map drawn_name (numbers (suc j) d)))) (same_text_refl (drawn_name j).text))
+    subst (λ k. is_declared (drawn_name k).text (map drawn_name (numbers j (suc d))) ≡ true) z
+    (ap (λ c. cond c true (is_declared (drawn_name j).text (map drawn_name (numbers (suc j) d)))) (same_text_refl (drawn_name j).text))
 temporary_declared (suc e) j (suc d) lt =
     let z : suc j + e ≡ j + suc e = omega arith in
     declared_right (drawn_name (j + suc e)).text (drawn_name j ∷ []) (map drawn_name (numbers (suc j) d))
-    (subst (λ k. is_declared (drawn_name k).text (map drawn_name (numbers (suc j) d)) ≡ true) z (temporary_declared e (suc j) d (omega arith)))
+    (subst (λ k. is_declared (drawn_name k).text (map drawn_name (numbers (suc j) d)) ≡ true) z
+    (temporary_declared e (suc j) d (omega arith)))
 
 -- what holds of each statement of two blocks holds of each of both joined
-each_join : (P : Statement → Type 0) (a b : Block Name Name Name) → Each P (statements_of a) → Each P (statements_of b) → Each P (statements_of (join a b))
+each_join : (P : Statement → Type 0) (a b : Block Name Name Name) → Each P (statements_of a) → Each P (statements_of b)
+    → Each P (statements_of (join a b))
 each_join P done b h g = g
 each_join P (one m c t) b h g = (h.0, each_join P t b h.1 g)
 each_join P (choose m r x y t) b h g =
     let rest : Each P (statements_of y ++ statements_of t) = each_right P (statements_of x) (statements_of y ++ statements_of t) h.1 in (
       h.0,
-      each_both P (statements_of x) (statements_of y ++ statements_of (join t b)) (each_left P (statements_of x) (statements_of y ++ statements_of t) h.1)
-          (each_both P (statements_of y) (statements_of (join t b)) (each_left P (statements_of y) (statements_of t) rest) (each_join P t b (each_right P (statements_of y) (statements_of t) rest) g)),
+      each_both P (statements_of x) (statements_of y ++ statements_of (join t b))
+          (each_left P (statements_of x) (statements_of y ++ statements_of t) h.1)
+          (each_both P (statements_of y) (statements_of (join t b)) (each_left P (statements_of y) (statements_of t) rest)
+          (each_join P t b (each_right P (statements_of y) (statements_of t) rest) g)),
     )
 each_join P (loop m r x t) b h g = (
   h.0,
-  each_both P (statements_of x) (statements_of (join t b)) (each_left P (statements_of x) (statements_of t) h.1) (each_join P t b (each_right P (statements_of x) (statements_of t) h.1) g),
+  each_both P (statements_of x) (statements_of (join t b)) (each_left P (statements_of x) (statements_of t) h.1)
+      (each_join P t b (each_right P (statements_of x) (statements_of t) h.1) g),
 )
 
 -- lists of statements with the same labels
-labels_both : (xs xs' ys ys' : List Statement) → labels_of xs ≡ labels_of xs' → labels_of ys ≡ labels_of ys' → labels_of (xs ++ ys) ≡ labels_of (xs' ++ ys')
+labels_both : (xs xs' ys ys' : List Statement) → labels_of xs ≡ labels_of xs' → labels_of ys ≡ labels_of ys'
+    → labels_of (xs ++ ys) ≡ labels_of (xs' ++ ys')
 labels_both xs xs' ys ys' e f = labels_append xs ys ∙ (ap₂ (λ a b. a ++ b) e f ∙ sym (labels_append xs' ys'))
 
-labels_join : (a b : Block Name Name Name) → labels_of (statements_of b) ≡ [] → labels_of (statements_of (join a b)) ≡ labels_of (statements_of a)
+labels_join : (a b : Block Name Name Name) → labels_of (statements_of b) ≡ []
+    → labels_of (statements_of (join a b)) ≡ labels_of (statements_of a)
 labels_join done b e = e
 labels_join (one m c t) b e = ap (λ l. label_of m.label ++ l) (labels_join t b e)
 labels_join (choose m r x y t) b e =
@@ -74,17 +91,22 @@ labels_join (choose m r x y t) b e =
     (labels_both (statements_of x) (statements_of x) (statements_of y ++ statements_of (join t b)) (statements_of y ++ statements_of t) refl
     (labels_both (statements_of y) (statements_of y) (statements_of (join t b)) (statements_of t) refl (labels_join t b e)))
 labels_join (loop m r x t) b e =
-    ap (λ l. label_of m.label ++ l) (labels_both (statements_of x) (statements_of x) (statements_of (join t b)) (statements_of t) refl (labels_join t b e))
+    ap (λ l. label_of m.label ++ l)
+    (labels_both (statements_of x) (statements_of x) (statements_of (join t b)) (statements_of t) refl (labels_join t b e))
 
 -- the labels of a rewritten block are those of the block
 module _ (own : List Name) (last : ℕ) where
-  drawing_labels : (n : ℕ) (k : Block Name Name Name) → labels_of (statements_of (drawing (names own) last n k)) ≡ labels_of (statements_of k)
+  drawing_labels : (n : ℕ) (k : Block Name Name Name)
+      → labels_of (statements_of (drawing (names own) last n k)) ≡ labels_of (statements_of k)
   drawing_labels zero k = refl
   drawing_labels (suc n) k = refl
 
-  statement_labels : (c : Simple Name Name Name) (k : Block Name Name Name) → labels_of (statements_of (statement (names own) last c k)) ≡ labels_of (statements_of k)
+  statement_labels : (c : Simple Name Name Name) (k : Block Name Name Name)
+      → labels_of (statements_of (statement (names own) last c k)) ≡ labels_of (statements_of k)
   statement_labels skip k = refl
-  statement_labels (assign xs rs) k = drawing_labels (draws (names own).is_shared xs rs) (one table.plain (assign (targets (names own) last xs rs) (sides (names own) last 0 xs rs)) k)
+  statement_labels (assign xs rs) k =
+      drawing_labels (draws (names own).is_shared xs rs)
+      (one table.plain (assign (targets (names own) last xs rs) (sides (names own) last 0 xs rs)) k)
   statement_labels (assert r) k = refl
   statement_labels (assume r) k = refl
   statement_labels (goto l) k = refl
@@ -96,20 +118,26 @@ module _ (own : List Name) (last : ℕ) where
   labels_kept (one m c k) = ap (λ l. label_of m.label ++ l) (statement_labels c (rewritten (names own) last k) ∙ labels_kept k)
   labels_kept (choose m r a b k) =
       ap (λ l. label_of m.label ++ l)
-      (labels_both (statements_of (rewritten (names own) last a)) (statements_of a) (statements_of (rewritten (names own) last b) ++ statements_of (rewritten (names own) last k)) (statements_of b ++ statements_of k) (labels_kept a)
-      (labels_both (statements_of (rewritten (names own) last b)) (statements_of b) (statements_of (rewritten (names own) last k)) (statements_of k) (labels_kept b) (labels_kept k)))
+      (labels_both (statements_of (rewritten (names own) last a)) (statements_of a)
+      (statements_of (rewritten (names own) last b) ++ statements_of (rewritten (names own) last k))
+      (statements_of b ++ statements_of k) (labels_kept a)
+      (labels_both (statements_of (rewritten (names own) last b)) (statements_of b) (statements_of (rewritten (names own) last k))
+      (statements_of k) (labels_kept b) (labels_kept k)))
   labels_kept (loop m r a k) =
       ap (λ l. label_of m.label ++ l)
-      (labels_both (statements_of (join (rewritten (names own) last a) (prologue (names own) last table.plain done))) (statements_of a) (statements_of (rewritten (names own) last k)) (statements_of k)
+      (labels_both (statements_of (join (rewritten (names own) last a) (prologue (names own) last table.plain done))) (statements_of a)
+      (statements_of (rewritten (names own) last k)) (statements_of k)
       (labels_join (rewritten (names own) last a) (prologue (names own) last table.plain done) refl ∙ labels_kept a) (labels_kept k))
 
 -- the procedure of a name, rewritten
-named_rewritten : (last : ℕ) (x : List ℕ) (ps : List Procedure) → named x (map (rewritten_procedure last) ps) ≡ option_map (rewritten_procedure last) (named x ps)
+named_rewritten : (last : ℕ) (x : List ℕ) (ps : List Procedure)
+    → named x (map (rewritten_procedure last) ps) ≡ option_map (rewritten_procedure last) (named x ps)
 named_rewritten last x [] = refl
 named_rewritten last x (p ∷ ps) = go (same_text x p.name.text) (named_rewritten last x ps)
   where
     go : (b : Bool) → named x (map (rewritten_procedure last) ps) ≡ option_map (rewritten_procedure last) (named x ps)
-        → cond b (Some (rewritten_procedure last p)) (named x (map (rewritten_procedure last) ps)) ≡ option_map (rewritten_procedure last) (cond b (Some p) (named x ps))
+        → cond b (Some (rewritten_procedure last p)) (named x (map (rewritten_procedure last) ps))
+        ≡ option_map (rewritten_procedure last) (cond b (Some p) (named x ps))
     go true h = refl
     go false h = h
 
@@ -133,7 +161,8 @@ module _ (t : Tree) (last : ℕ) (ok : IsChecked t) (small : last < most_rounds)
   takes_there q n h =
       let other : same_text q.text (codes "main__") ≡ false = not_main t rewritable q.text (named_declared q.text t.procedures h.0) in
       let e : named q.text t'.procedures ≡ option_map (rewritten_procedure last) (named q.text t.procedures) =
-      ap (λ c. cond c (Some (main_procedure last t)) (named q.text (map (rewritten_procedure last) t.procedures))) other ∙ named_rewritten last q.text t.procedures in
+      ap (λ c. cond c (Some (main_procedure last t)) (named q.text (map (rewritten_procedure last) t.procedures))) other
+      ∙ named_rewritten last q.text t.procedures in
       subst (λ o. Takes o n) (sym e) (takes_rewritten last n (named q.text t.procedures) h)
 
   -- the globals of the rewritten tree, part by part
@@ -152,14 +181,21 @@ module _ (t : Tree) (last : ℕ) (ok : IsChecked t) (small : last < most_rounds)
   copies_there : (x : Name) → is_declared x.text t.globals ≡ true → (k : ℕ) → k ≤ last → is_declared (copy_name k x).text t'.globals ≡ true
   copies_there x h k le =
       let z : 0 + k ≡ k = omega arith in
-      let inA : is_declared (copy_name k x).text A ≡ true = subst (λ y. is_declared (copy_name y x).text A ≡ true) z (in_rows (names []) last copy_name t.globals copies_spelled x h k 0 (suc last) (omega arith) (omega arith)).0 in
-      declared_first (copy_name k x).text (A ++ B ++ bits) lasts (declared_first (copy_name k x).text (A ++ B) bits (declared_first (copy_name k x).text A B inA))
+      let inA : is_declared (copy_name k x).text A ≡ true =
+      subst (λ y. is_declared (copy_name y x).text A ≡ true) z
+      (in_rows (names []) last copy_name t.globals copies_spelled x h k 0 (suc last) (omega arith) (omega arith)).0 in
+      declared_first (copy_name k x).text (A ++ B ++ bits) lasts
+      (declared_first (copy_name k x).text (A ++ B) bits (declared_first (copy_name k x).text A B inA))
 
-  saves_there : (x : Name) → is_declared x.text t.globals ≡ true → (k : ℕ) → k < last → is_declared (save_name (suc k) x).text t'.globals ≡ true
+  saves_there : (x : Name) → is_declared x.text t.globals ≡ true → (k : ℕ) → k < last
+      → is_declared (save_name (suc k) x).text t'.globals ≡ true
   saves_there x h k lt =
       let z : 1 + k ≡ suc k = omega arith in
-      let inB : is_declared (save_name (suc k) x).text B ≡ true = subst (λ y. is_declared (save_name y x).text B ≡ true) z (in_rows (names []) last save_name t.globals saves_spelled x h k 1 last lt (omega arith)).0 in
-      declared_first (save_name (suc k) x).text (A ++ B ++ bits) lasts (declared_first (save_name (suc k) x).text (A ++ B) bits (declared_right (save_name (suc k) x).text A B inB))
+      let inB : is_declared (save_name (suc k) x).text B ≡ true =
+      subst (λ y. is_declared (save_name y x).text B ≡ true) z
+      (in_rows (names []) last save_name t.globals saves_spelled x h k 1 last lt (omega arith)).0 in
+      declared_first (save_name (suc k) x).text (A ++ B ++ bits) lasts
+      (declared_first (save_name (suc k) x).text (A ++ B) bits (declared_right (save_name (suc k) x).text A B inB))
 
   bits_there : (x : List ℕ) → is_declared x bits ≡ true → is_declared x t'.globals ≡ true
   bits_there x h =
@@ -200,7 +236,8 @@ module _ (t : Tree) (last : ℕ) (ok : IsChecked t) (small : last < most_rounds)
     assume_works : (r : RightSide Name) → Each In (variables_of_side r) → Works t' p' (plain (assume r))
     assume_works r h = record { variables = h; called = tt; sides = tt; labelled = tt }
 
-    assign_works : (xs : List Name) (rs : List (RightSide Name)) → Each In (used_by (plain (assign xs rs))) → length xs ≡ length rs → Works t' p' (plain (assign xs rs))
+    assign_works : (xs : List Name) (rs : List (RightSide Name)) → Each In (used_by (plain (assign xs rs))) → length xs ≡ length rs
+        → Works t' p' (plain (assign xs rs))
     assign_works xs rs h e = record { variables = h; called = tt; sides = e; labelled = tt }
 
     skip_works : Works t' p' (plain skip)
@@ -209,7 +246,8 @@ module _ (t : Tree) (last : ℕ) (ok : IsChecked t) (small : last < most_rounds)
     leave_works : Works t' p' (plain leave)
     leave_works = record { variables = tt; called = tt; sides = tt; labelled = tt }
 
-    stop_test_works : (k : Block Name Name Name) (own : List Name) → Work (statements_of k) → Work (statements_of (stop_test (names own) last k))
+    stop_test_works : (k : Block Name Name Name) (own : List Name) → Work (statements_of k)
+        → Work (statements_of (stop_test (names own) last k))
     stop_test_works k own h = (test_works _ (stop_in, tt), (leave_works, (skip_works, h)))
 
   -- in a procedure that is rewritten
@@ -233,7 +271,9 @@ module _ (t : Tree) (last : ℕ) (ok : IsChecked t) (small : last < most_rounds)
     Known x = is_declared x.text (known t p) ≡ true
 
     own_in : (x : Name) → is_declared x.text (own ++ temps) ≡ true → In p' x
-    own_in x h = declared_first x.text (p.formals ++ (p.locals ++ temps)) t'.globals (subst (λ ns. is_declared x.text ns ≡ true) (append_assoc p.formals p.locals temps) h)
+    own_in x h =
+        declared_first x.text (p.formals ++ (p.locals ++ temps)) t'.globals
+        (subst (λ ns. is_declared x.text ns ≡ true) (append_assoc p.formals p.locals temps) h)
 
     copied_in : (x : Name) → Known x → is_declared x.text own ≡ false → (k : ℕ) → k ≤ last → In p' (copy_name k x)
     copied_in x h hidden k le =
@@ -250,10 +290,15 @@ module _ (t : Tree) (last : ℕ) (ok : IsChecked t) (small : last < most_rounds)
       bad = bad_in p';
       copied = copied_in;
       kept = λ x h e. own_in x (declared_first x.text own temps e);
-      drawn = λ j lt. own_in (drawn_name j) (declared_right (drawn_name j).text own temps (let z : 0 + j ≡ j = omega arith in subst (λ k. is_declared (drawn_name k).text temps ≡ true) z (temporary_declared j 0 drawn lt)));
+      drawn =
+          λ j lt.
+          own_in (drawn_name j) (declared_right (drawn_name j).text own temps
+          (let z : 0 + j ≡ j = omega arith in
+          subst (λ k. is_declared (drawn_name k).text temps ≡ true) z (temporary_declared j 0 drawn lt)));
     }
 
-    prologue_works : (m : Mark Name) (k : Block Name Name Name) → Work p' (statements_of k) → Work p' (statements_of (prologue (names own) last m k))
+    prologue_works : (m : Mark Name) (k : Block Name Name Name) → Work p' (statements_of k)
+        → Work p' (statements_of (prologue (names own) last m k))
     prologue_works m k h = (
       test_works p' any tt,
       (
@@ -274,26 +319,33 @@ module _ (t : Tree) (last : ℕ) (ok : IsChecked t) (small : last < most_rounds)
       ),
     )
 
-    drawing_works : (n : ℕ) (k : Block Name Name Name) → n ≤ drawn → Work p' (statements_of k) → Work p' (statements_of (drawing (names own) last n k))
+    drawing_works : (n : ℕ) (k : Block Name Name Name) → n ≤ drawn → Work p' (statements_of k)
+        → Work p' (statements_of (drawing (names own) last n k))
     drawing_works zero k le h = h
     drawing_works (suc n) k le h = (
       assign_works p' (map drawn_name (numbers 0 (suc n))) (map (λ x. any) (numbers 0 (suc n)))
-          (each_both (In p') (map drawn_name (numbers 0 (suc n))) _ (drawn_each (In p') drawn held.drawn 0 (suc n) (omega arith)) (any_uses (In p') (numbers 0 (suc n))))
+          (each_both (In p') (map drawn_name (numbers 0 (suc n))) _ (drawn_each (In p') drawn held.drawn 0 (suc n) (omega arith))
+          (any_uses (In p') (numbers 0 (suc n))))
           (length-map (numbers 0 (suc n)) drawn_name ∙ sym (length-map {B = RightSide Name} (numbers 0 (suc n)) (λ x. any))),
       h,
     )
 
-    label_there : (l : Name) → is_declared l.text (labels_of (statements_of p.body)) ≡ true → is_declared l.text (labels_of (statements_of p'.body)) ≡ true
+    label_there : (l : Name) → is_declared l.text (labels_of (statements_of p.body)) ≡ true
+        → is_declared l.text (labels_of (statements_of p'.body)) ≡ true
     label_there l h = ap (is_declared l.text) (labels_kept own last p.body) ∙ h
 
-    statement_works : (m : Mark Name) (c : Simple Name Name Name) (b k : Block Name Name Name) → Was (plain c) → temporaries (names own).is_shared (one m c b) ≤ drawn → Work p' (statements_of k) → Work p' (statements_of (statement (names own) last c k))
+    statement_works : (m : Mark Name) (c : Simple Name Name Name) (b k : Block Name Name Name) → Was (plain c)
+        → temporaries (names own).is_shared (one m c b) ≤ drawn → Work p' (statements_of k)
+        → Work p' (statements_of (statement (names own) last c k))
     statement_works m skip b k w room h = (skip_works p', h)
     statement_works m (assign xs rs) b k w room h =
-        drawing_works (draws (names own).is_shared xs rs) (one table.plain (assign (targets (names own) last xs rs) (sides (names own) last 0 xs rs)) k) (omega arith) (
+        drawing_works (draws (names own).is_shared xs rs)
+        (one table.plain (assign (targets (names own) last xs rs) (sides (names own) last 0 xs rs)) k) (omega arith) (
           assign_works p' (targets (names own) last xs rs) (sides (names own) last 0 xs rs)
               (each_both (In p') (targets (names own) last xs rs) _
               (targets_held own last drawn (In p') Known held xs rs (each_left _ xs _ w.variables))
-              (sides_use own last drawn (In p') Known held 0 xs rs (each_left _ xs _ w.variables) (each_right _ xs _ w.variables) (omega arith)))
+              (sides_use own last drawn (In p') Known held 0 xs rs (each_left _ xs _ w.variables) (each_right _ xs _ w.variables)
+              (omega arith)))
               (sides_even own last 0 xs rs),
           h,
         )
@@ -307,43 +359,61 @@ module _ (t : Tree) (last : ℕ) (ok : IsChecked t) (small : last < most_rounds)
         ),
       ),
     )
-    statement_works m (assume r) b k w room h = (assume_works p' (side (names own) last r) (side_uses own last drawn (In p') Known held r w.variables), h)
+    statement_works m (assume r) b k w room h =
+        (assume_works p' (side (names own) last r) (side_uses own last drawn (In p') Known held r w.variables), h)
     statement_works m (goto l) b k w room h = (record { variables = tt; called = tt; sides = tt; labelled = label_there l w.labelled }, h)
     statement_works m leave b k w room h = (leave_works p', h)
     statement_works m (call q es) b k w room h = (
       record {
         variables = arguments_use own last drawn (In p') Known held es w.variables;
-        called = subst (λ n. Takes (named q.text t'.procedures) n) (sym (length-map es (expression (names own) last))) (takes_there q (length es) w.called);
+        called =
+            subst (λ n. Takes (named q.text t'.procedures) n) (sym (length-map es (expression (names own) last)))
+            (takes_there q (length es) w.called);
         sides = tt;
         labelled = tt;
       },
       stop_test_works p' k own h,
     )
 
-    block_works : (b : Block Name Name Name) → Each (λ (s : Statement). Was s.head) (statements_of b) → temporaries (names own).is_shared b ≤ drawn → Work p' (statements_of (rewritten (names own) last b))
+    block_works : (b : Block Name Name Name) → Each (λ (s : Statement). Was s.head) (statements_of b)
+        → temporaries (names own).is_shared b ≤ drawn → Work p' (statements_of (rewritten (names own) last b))
     block_works done h room = tt
-    block_works (one m c k) h room = prologue_works m (statement (names own) last c (rewritten (names own) last k)) (statement_works m c k (rewritten (names own) last k) h.0 room (block_works k h.1 (rest_room (names own).is_shared drawn m c k room)))
+    block_works (one m c k) h room =
+        prologue_works m (statement (names own) last c (rewritten (names own) last k))
+        (statement_works m c k (rewritten (names own) last k) h.0 room
+        (block_works k h.1 (rest_room (names own).is_shared drawn m c k room)))
     block_works (choose m r a b k) h room =
         let W : Statement → Type 0 = λ s. Was s.head in
-        let inside : Each W (statements_of b ++ statements_of k) = each_right W (statements_of a) (statements_of b ++ statements_of k) h.1 in
-        prologue_works m (choose table.plain (side (names own) last r) (rewritten (names own) last a) (rewritten (names own) last b) (rewritten (names own) last k)) (
+        let inside : Each W (statements_of b ++ statements_of k) =
+        each_right W (statements_of a) (statements_of b ++ statements_of k) h.1 in
+        prologue_works m
+        (choose table.plain (side (names own) last r) (rewritten (names own) last a) (rewritten (names own) last b)
+        (rewritten (names own) last k)) (
           test_works p' (side (names own) last r) (side_uses own last drawn (In p') Known held r h.0.variables),
-          each_both (λ (s : Statement). Works t' p' s.head) (statements_of (rewritten (names own) last a)) (statements_of (rewritten (names own) last b) ++ statements_of (rewritten (names own) last k))
+          each_both (λ (s : Statement). Works t' p' s.head) (statements_of (rewritten (names own) last a))
+              (statements_of (rewritten (names own) last b) ++ statements_of (rewritten (names own) last k))
               (block_works a (each_left W (statements_of a) (statements_of b ++ statements_of k) h.1) (omega arith))
-              (each_both (λ (s : Statement). Works t' p' s.head) (statements_of (rewritten (names own) last b)) (statements_of (rewritten (names own) last k))
-              (block_works b (each_left W (statements_of b) (statements_of k) inside) (omega arith)) (block_works k (each_right W (statements_of b) (statements_of k) inside) (omega arith))),
+              (each_both (λ (s : Statement). Works t' p' s.head) (statements_of (rewritten (names own) last b))
+              (statements_of (rewritten (names own) last k))
+              (block_works b (each_left W (statements_of b) (statements_of k) inside) (omega arith))
+              (block_works k (each_right W (statements_of b) (statements_of k) inside) (omega arith))),
         )
     block_works (loop m r a k) h room =
         let W : Statement → Type 0 = λ s. Was s.head in
-        prologue_works m (loop table.plain (side (names own) last r) (join (rewritten (names own) last a) (prologue (names own) last table.plain done)) (rewritten (names own) last k)) (
+        prologue_works m
+        (loop table.plain (side (names own) last r) (join (rewritten (names own) last a) (prologue (names own) last table.plain done))
+        (rewritten (names own) last k)) (
           test_works p' (side (names own) last r) (side_uses own last drawn (In p') Known held r h.0.variables),
-          each_both (λ (s : Statement). Works t' p' s.head) (statements_of (join (rewritten (names own) last a) (prologue (names own) last table.plain done))) (statements_of (rewritten (names own) last k))
+          each_both (λ (s : Statement). Works t' p' s.head)
+              (statements_of (join (rewritten (names own) last a) (prologue (names own) last table.plain done)))
+              (statements_of (rewritten (names own) last k))
               (each_join (λ (s : Statement). Works t' p' s.head) (rewritten (names own) last a) (prologue (names own) last table.plain done)
               (block_works a (each_left W (statements_of a) (statements_of k) h.1) (omega arith)) (prologue_works table.plain done tt))
               (block_works k (each_right W (statements_of a) (statements_of k) h.1) (omega arith)),
         )
 
-  procedures_work : (ps : List Procedure) → Each (IsGood t) ps → Each (λ p. Each (λ (s : Statement). Works t' p s.head) (statements_of p.body)) (map (rewritten_procedure last) ps)
+  procedures_work : (ps : List Procedure) → Each (IsGood t) ps
+      → Each (λ p. Each (λ (s : Statement). Works t' p s.head) (statements_of p.body)) (map (rewritten_procedure last) ps)
   procedures_work [] h = tt
   procedures_work (p ∷ ps) h = (block_works p p.body h.0.statements (omega arith), procedures_work ps h.1)
 
@@ -354,51 +424,72 @@ module _ (t : Tree) (last : ℕ) (ok : IsChecked t) (small : last < most_rounds)
   abbrev Global : Name → Type 0
   Global x = is_declared x.text t.globals ≡ true
 
-  copies_read : (k : ℕ) (xs : List Name) → k ≤ last → Each Global xs → Each (In first) (Rattle.resolved.specs.Statements.variables_of_sides (map (λ y. value (var (copy_name k y))) xs))
+  copies_read : (k : ℕ) (xs : List Name) → k ≤ last → Each Global xs
+      → Each (In first) (Rattle.resolved.specs.Statements.variables_of_sides (map (λ y. value (var (copy_name k y))) xs))
   copies_read k [] le h = tt
   copies_read k (x ∷ xs) le h = (in_globals first (copy_name k x) (copies_there x h.0 k le), copies_read k xs le h.1)
 
-  guess_works : (xs : List Name) (k : ℕ) (b : Block Name Name Name) → k < last → Each Global xs → Work first (statements_of b) → Work first (statements_of (guess (names []) last xs (suc k) b))
+  guess_works : (xs : List Name) (k : ℕ) (b : Block Name Name Name) → k < last → Each Global xs → Work first (statements_of b)
+      → Work first (statements_of (guess (names []) last xs (suc k) b))
   guess_works [] k b lt g h = h
   guess_works (x ∷ xs) k b lt g h =
-      let copies : Each (In first) (map (copy_name (suc k)) (x ∷ xs)) = written_each (In first) Global (copy_name (suc k)) (x ∷ xs) (λ y i. in_globals first (copy_name (suc k) y) (copies_there y i (suc k) (omega arith))) g in
-      let saves : Each (In first) (map (save_name (suc k)) (x ∷ xs)) = written_each (In first) Global (save_name (suc k)) (x ∷ xs) (λ y i. in_globals first (save_name (suc k) y) (saves_there y i k lt)) g in (
-        assign_works first (map (copy_name (suc k)) (x ∷ xs)) (map (λ y. any) (x ∷ xs)) (each_both (In first) (map (copy_name (suc k)) (x ∷ xs)) _ copies (any_uses (In first) (x ∷ xs)))
+      let copies : Each (In first) (map (copy_name (suc k)) (x ∷ xs)) =
+      written_each (In first) Global (copy_name (suc k)) (x ∷ xs)
+      (λ y i. in_globals first (copy_name (suc k) y) (copies_there y i (suc k) (omega arith))) g in
+      let saves : Each (In first) (map (save_name (suc k)) (x ∷ xs)) =
+      written_each (In first) Global (save_name (suc k)) (x ∷ xs)
+      (λ y i. in_globals first (save_name (suc k) y) (saves_there y i k lt)) g in (
+        assign_works first (map (copy_name (suc k)) (x ∷ xs)) (map (λ y. any) (x ∷ xs))
+            (each_both (In first) (map (copy_name (suc k)) (x ∷ xs)) _ copies (any_uses (In first) (x ∷ xs)))
             (length-map (x ∷ xs) (copy_name (suc k)) ∙ sym (length-map (x ∷ xs) (λ y. any))),
         (
-          assign_works first (map (save_name (suc k)) (x ∷ xs)) (map (λ y. value (var (copy_name (suc k) y))) (x ∷ xs)) (each_both (In first) (map (save_name (suc k)) (x ∷ xs)) _ saves (copies_read (suc k) (x ∷ xs) (omega arith) g))
+          assign_works first (map (save_name (suc k)) (x ∷ xs)) (map (λ y. value (var (copy_name (suc k) y))) (x ∷ xs))
+              (each_both (In first) (map (save_name (suc k)) (x ∷ xs)) _ saves (copies_read (suc k) (x ∷ xs) (omega arith) g))
               (length-map (x ∷ xs) (save_name (suc k)) ∙ sym (length-map (x ∷ xs) (λ y. value (var (copy_name (suc k) y))))),
           h,
         ),
       )
 
-  guesses_work : (xs : List Name) (k m : ℕ) (b : Block Name Name Name) → k + m ≤ last → Each Global xs → Work first (statements_of b) → Work first (statements_of (guesses (names []) last xs (numbers (suc k) m) b))
+  guesses_work : (xs : List Name) (k m : ℕ) (b : Block Name Name Name) → k + m ≤ last → Each Global xs → Work first (statements_of b)
+      → Work first (statements_of (guesses (names []) last xs (numbers (suc k) m) b))
   guesses_work xs k zero b le g h = h
-  guesses_work xs k (suc m) b le g h = guess_works xs k (guesses (names []) last xs (numbers (suc (suc k)) m) b) (omega arith) g (guesses_work xs (suc k) m b (omega arith) g h)
+  guesses_work xs k (suc m) b le g h =
+      guess_works xs k (guesses (names []) last xs (numbers (suc (suc k)) m) b) (omega arith) g
+      (guesses_work xs (suc k) m b (omega arith) g h)
 
-  starts_work : (lines : List ThreadLine) (b : Block Name Name Name) → Each (Starts t.procedures) lines → Work first (statements_of b) → Work first (statements_of (starts (names []) last (map (λ (line : ThreadLine). line.name) lines) b))
+  starts_work : (lines : List ThreadLine) (b : Block Name Name Name) → Each (Starts t.procedures) lines → Work first (statements_of b)
+      → Work first (statements_of (starts (names []) last (map (λ (line : ThreadLine). line.name) lines) b))
   starts_work [] b s h = h
   starts_work (line ∷ lines) b s h = (
     assign_works first _ _ (high_in first, (low_in first, (stop_in first, tt))) refl,
     (record { variables = tt; called = takes_there line.name 0 s.0; sides = tt; labelled = tt }, starts_work lines b s.1 h),
   )
 
-  check_works : (xs : List Name) (k : ℕ) (b : Block Name Name Name) → k < last → Each Global xs → Work first (statements_of b) → Work first (statements_of (check (names []) last xs k b))
+  check_works : (xs : List Name) (k : ℕ) (b : Block Name Name Name) → k < last → Each Global xs → Work first (statements_of b)
+      → Work first (statements_of (check (names []) last xs k b))
   check_works [] k b lt g h = h
   check_works (x ∷ xs) k b lt g h = (
-    assume_works first _ (in_globals first (save_name (suc k) x) (saves_there x g.0 k lt), (in_globals first (copy_name k x) (copies_there x g.0 k (omega arith)), tt)),
+    assume_works first _ (
+      in_globals first (save_name (suc k) x) (saves_there x g.0 k lt),
+      (in_globals first (copy_name k x) (copies_there x g.0 k (omega arith)), tt),
+    ),
     check_works xs k b lt g.1 h,
   )
 
-  checks_work : (xs : List Name) (k m : ℕ) (b : Block Name Name Name) → k + m ≤ last → Each Global xs → Work first (statements_of b) → Work first (statements_of (checks (names []) last xs (numbers k m) b))
+  checks_work : (xs : List Name) (k m : ℕ) (b : Block Name Name Name) → k + m ≤ last → Each Global xs → Work first (statements_of b)
+      → Work first (statements_of (checks (names []) last xs (numbers k m) b))
   checks_work xs k zero b le g h = h
-  checks_work xs k (suc m) b le g h = check_works xs k (checks (names []) last xs (numbers (suc k) m) b) (omega arith) g (checks_work xs (suc k) m b (omega arith) g h)
+  checks_work xs k (suc m) b le g h =
+      check_works xs k (checks (names []) last xs (numbers (suc k) m) b) (omega arith) g (checks_work xs (suc k) m b (omega arith) g h)
 
   main_works : Each (λ (s : Statement). Works t' first s.head) (statements_of first.body)
   main_works =
       let g : Each Global t.globals = each_declared t.globals t.globals (λ x h. h) in
-      guesses_work t.globals 0 last (starts (names []) last (map (λ (line : ThreadLine). line.name) t.threads) (checks (names []) last t.globals (numbers 0 last) done)) (omega arith) g
-      (starts_work t.threads (checks (names []) last t.globals (numbers 0 last) done) (threads_start t ok) (checks_work t.globals 0 last done (omega arith) g tt))
+      guesses_work t.globals 0 last
+      (starts (names []) last (map (λ (line : ThreadLine). line.name) t.threads)
+      (checks (names []) last t.globals (numbers 0 last) done)) (omega arith) g
+      (starts_work t.threads (checks (names []) last t.globals (numbers 0 last) done) (threads_start t ok)
+      (checks_work t.globals 0 last done (omega arith) g tt))
 
   -- the rewritten tree resolves
   pub rewritten_resolves : Resolves (rewritten_tree last t)

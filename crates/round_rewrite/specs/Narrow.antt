@@ -23,7 +23,8 @@ rewritten_width last t p = width (rewritten_tree last t) (rewritten_procedure la
 abbrev pub AreNarrow : ℕ → Tree → List Procedure → Type 0
 AreNarrow last t = EachProcedure (λ (p : Procedure). rewritten_width last t p ≤ most_places)
 
--- The first procedure of the source that has more than 64 places in the rewritten tree, with the offset of its name and its
+-- The first procedure of the source that has more than 64 places in the rewritten tree, with the offset of its name and
+-- its
 -- places; none where all have at most 64.
 abbrev pub IsFirstWide : ℕ → Tree → Option Wide → Type 0
 IsFirstWide last t None = AreNarrow last t t.procedures

@@ -2,7 +2,8 @@
 -- of them. (Only the idea, to guess the globals of later rounds and to check the guesses at the end, is that
 -- of Lal and Reps 2008.)
 use Rattle.std.specs.Prelude.{ℕ, zero, suc, ◌/◌, ◌%◌, Bool, true, false, List, [], ◌∷◌, ◌++◌, None, map, reverse, cond, max}
-use Rattle.language.specs.Tree.{Expression, const, var, negation, two, or, xor, and, equal, RightSide, any, value, Simple, skip, assign, assert, assume, goto, leave, call, Mark, Block, done, one, choose, loop}
+use Rattle.language.specs.Tree.{Expression, const, var, negation, two, or, xor, and, equal, RightSide, any, value, Simple, skip, assign}
+use Rattle.language.specs.Tree.{assert, assume, goto, leave, call, Mark, Block, done, one, choose, loop}
 pub use Rattle.language.specs.Sequential.{numbers}
 use Rattle.language.specs.Rest.{join}
 

@@ -7,7 +7,8 @@ use Rattle.round_rewrite.proofs.globals.all_copies.Goals as goal
 
 pub loop-round-preserved : goal.loop-round-preserved
 loop-round-preserved g c =
-    copied_next (names []) c.args.rounds.last copy_name (names_of c.args.xs.now) 0 c.loop-round.round c.loop-round.round (names_of c.args.into.items) (names_of c.loop-round.list.items) (names_of c.in_ok-list.list.items)
+    copied_next (names []) c.args.rounds.last copy_name (names_of c.args.xs.now) 0 c.loop-round.round c.loop-round.round
+    (names_of c.args.into.items) (names_of c.loop-round.list.items) (names_of c.in_ok-list.list.items)
     (let e : c.loop-round.round ≡ 0 + c.loop-round.round = omega arith in e) c.loop-round.invariant c.in_ok-list.ensures
 
 pub returns : goal.returns
@@ -16,4 +17,5 @@ returns g c =
     let high = c.loop-round.auto.round-end in
     let count = c.count-round-end.ensures.count in
     c.loop-round.invariant
-    ∙ ap (λ n. names_of c.args.into.items ++ copied (names []) c.args.rounds.last copy_name (names_of c.args.xs.now) (numbers 0 n)) (let e : c.loop-round.round ≡ suc c.args.rounds.last = omega (arith, low, high, count) in e)
+    ∙ ap (λ n. names_of c.args.into.items ++ copied (names []) c.args.rounds.last copy_name (names_of c.args.xs.now) (numbers 0 n))
+    (let e : c.loop-round.round ≡ suc c.args.rounds.last = omega (arith, low, high, count) in e)

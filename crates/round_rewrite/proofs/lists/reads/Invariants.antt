@@ -6,4 +6,6 @@ use Rattle.round_rewrite.specs.Names.{copy_name}
 use Rattle.round_rewrite.proofs.lists.reads.Given as goal
 
 abbrev pub invariant-loop-x : goal.invariant-loop-x
-invariant-loop-x g l = rhss_of l.list.items ++ map (λ y. value (var (copy_name l.round y))) (names_of (drop l.x-index l.xs)) ≡ map (λ y. value (var (copy_name l.round y))) (names_of l.xs)
+invariant-loop-x g l =
+    rhss_of l.list.items ++ map (λ y. value (var (copy_name l.round y))) (names_of (drop l.x-index l.xs))
+    ≡ map (λ y. value (var (copy_name l.round y))) (names_of l.xs)

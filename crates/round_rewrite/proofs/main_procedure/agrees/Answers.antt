@@ -7,6 +7,9 @@ use Rattle.round_rewrite.proofs.main_procedure.agrees.Goals as goal
 
 pub returns : goal.returns
 returns g c =
-    let kept = c.read_of-kept.ensures ∙ ap var (c.in_ok-saved.ensures ∙ ap (λ n. save_name n (name_of c.args.x.now)) (let e : c.args.round + 1 ≡ suc c.args.round = omega arith in e)) in
+    let kept = c.read_of-kept.ensures
+    ∙ ap var
+    (c.in_ok-saved.ensures
+    ∙ ap (λ n. save_name n (name_of c.args.x.now)) (let e : c.args.round + 1 ≡ suc c.args.round = omega arith in e)) in
     let same = c.in_ok-same.ensures ∙ (λ i. two equal (kept i) (c.in_ok-reached.ensures i)) in
     deed_of-Assume _ ∙ (λ i. simple (assume (value (same i))))

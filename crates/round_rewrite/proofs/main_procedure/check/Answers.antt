@@ -10,7 +10,8 @@ use Rattle.round_rewrite.proofs.main_procedure.check.Goals as goal
 pub loop-x-preserved : goal.loop-x-preserved
 loop-x-preserved g c =
     each_more name_of (λ xs. check (names []) c.args.last xs c.args.round)
-    (λ y k. one plain (assume (value (two equal (var (save_name (suc c.args.round) y)) (var (copy_name c.args.round y))))) k) (λ y ys k. refl) c.args.xs.now c.loop-x.x-index c.x-item.result c.loop-x-test.true c.x-item.is
+    (λ y k. one plain (assume (value (two equal (var (save_name (suc c.args.round) y)) (var (copy_name c.args.round y))))) k)
+    (λ y ys k. refl) c.args.xs.now c.loop-x.x-index c.x-item.result c.loop-x-test.true c.x-item.is
     c.loop-x.into.items c.push.new.into.items (laid _ _ plain _ _ c.in_ok-push.ensures c.in_ok-agrees.ensures)
     (λ rest. all_before (items_of c.args.into.now.items) (check (names []) c.args.last (names_of c.args.xs.now) c.args.round
     rest)) c.loop-x.invariant

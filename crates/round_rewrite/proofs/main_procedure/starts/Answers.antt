@@ -15,7 +15,11 @@ loop-thread-preserved g c =
     let called = laid _ _ plain _ _ c.in_ok-push-2.ensures (deed_of-Call _ _ ∙
     (λ i. simple (call (c.in_ok-name.ensures i) (Rattle.trees.specs.Trees.exprs_of (c.new.ensures.items i))))) in
     each_more thread_of (λ ls. starts (names []) c.args.last (line_names ls))
-    (λ y k. one plain (assign (named (codes "rh__") ∷ named (codes "rl__") ∷ named (codes "stop__") ∷ []) (value (const false) ∷ value (const false) ∷ value (const false) ∷ [])) (one plain (call y.name []) k)) (λ y ys k. refl) c.args.threads.now c.loop-thread.thread-index c.thread-item.result c.loop-thread-test.true c.thread-item.is
+    (λ y k.
+    one plain
+    (assign (named (codes "rh__") ∷ named (codes "rl__") ∷ named (codes "stop__") ∷ [])
+    (value (const false) ∷ value (const false) ∷ value (const false) ∷ [])) (one plain (call y.name []) k))
+    (λ y ys k. refl) c.args.threads.now c.loop-thread.thread-index c.thread-item.result c.loop-thread-test.true c.thread-item.is
     c.loop-thread.into.items c.push-in-loop-thread.new.into.items (λ k. called k ∙ begun _)
     (λ rest. all_before (items_of c.args.into.now.items) (starts (names []) c.args.last
     (line_names (threads_of c.args.threads.now)) rest)) c.loop-thread.invariant

@@ -8,15 +8,21 @@ use Rattle.round_rewrite.proofs.procedures.procedures.Goals as goal
 
 pub procedure-requires : goal.procedure-requires
 procedure-requires g c =
-    let here = drop_more c.deref-proc-items.result.now c.loop-proc.proc-index c.proc-item.result c.loop-proc-test.true ∙ ap (λ y. y ∷ drop (c.loop-proc.proc-index + 1) c.deref-proc-items.result.now) (sym c.proc-item.is) in
+    let here = drop_more c.deref-proc-items.result.now c.loop-proc.proc-index c.proc-item.result c.loop-proc-test.true
+    ∙ ap (λ y. y ∷ drop (c.loop-proc.proc-index + 1) c.deref-proc-items.result.now) (sym c.proc-item.is) in
     (Rattle.std.proofs.Common.subst (λ l. AreFew (procs_of l)) here c.loop-proc.invariant.1).0
 
 pub loop-proc-preserved : goal.loop-proc-preserved
 loop-proc-preserved g c =
     let f = rewritten_procedure c.args.rounds.last in
-    let here = drop_more c.deref-proc-items.result.now c.loop-proc.proc-index c.proc-item.result c.loop-proc-test.true ∙ ap (λ y. y ∷ drop (c.loop-proc.proc-index + 1) c.deref-proc-items.result.now) (sym c.proc-item.is) in (
-      ap (λ l. procs_of l ++ map f (procs_of (drop (c.loop-proc.proc-index + 1) c.deref-proc-items.result.now))) c.in_ok-push-2.ensures.items
-          ∙ one_through proc_of f proc_of c.loop-proc.list.items c.in_ok-procedure.field-0 c.deref-proc-items.result.now c.loop-proc.proc-index c.proc-item.result _ c.loop-proc-test.true c.proc-item.is c.in_ok-procedure.ensures c.loop-proc.invariant.0,
+    let here = drop_more c.deref-proc-items.result.now c.loop-proc.proc-index c.proc-item.result c.loop-proc-test.true
+    ∙ ap (λ y. y ∷ drop (c.loop-proc.proc-index + 1) c.deref-proc-items.result.now) (sym c.proc-item.is) in (
+      ap
+          (λ l. procs_of l ++ map f (procs_of (drop (c.loop-proc.proc-index + 1) c.deref-proc-items.result.now)))
+          c.in_ok-push-2.ensures.items
+          ∙ one_through proc_of f proc_of c.loop-proc.list.items c.in_ok-procedure.field-0 c.deref-proc-items.result.now
+          c.loop-proc.proc-index c.proc-item.result _ c.loop-proc-test.true c.proc-item.is c.in_ok-procedure.ensures
+          c.loop-proc.invariant.0,
       (Rattle.std.proofs.Common.subst (λ l. AreFew (procs_of l)) here c.loop-proc.invariant.1).1,
     )
 

@@ -16,7 +16,8 @@ pub returns-clause-keeps : goal.returns-clause-keeps
 returns-clause-keeps g c =
     let last = c.args.rounds.last in
     subst (λ (t : Tree). KeepsTree (suc last) t) (ap tree_of c.program-source.ensures.same)
-    (keeps_tree (tree_of c.program-source.result.now) last (checked_rewritable (tree_of c.program-source.result.now) c.program-source.ensures.checked)
+    (keeps_tree (tree_of c.program-source.result.now) last
+    (checked_rewritable (tree_of c.program-source.result.now) c.program-source.ensures.checked)
     c.args.rounds.few (c.is_narrow.ensures.0 c.if-not-is_narrow.false))
 
 pub invariant_of-result-clause-resolves : goal.invariant_of-result-clause-resolves
@@ -29,15 +30,24 @@ invariant_of-result-clause-narrow g c = subst AllNarrow (sym c.in_ok-program.ens
 
 pub invariant_of-result-clause-some : goal.invariant_of-result-clause-some
 invariant_of-result-clause-some g c =
-    omega (arith, count_rewritten c.args.rounds.last (tree_of c.program-source.result.now) c.in_ok-program.program.procs.items (ap (λ (t : Tree). t.procedures) c.in_ok-program.ensures))
+    omega (
+      arith,
+      count_rewritten c.args.rounds.last (tree_of c.program-source.result.now) c.in_ok-program.program.procs.items
+          (ap (λ (t : Tree). t.procedures) c.in_ok-program.ensures),
+    )
 
 pub invariant_of-result-clause-few : goal.invariant_of-result-clause-few
 invariant_of-result-clause-few g c =
     let t = tree_of c.program-source.result.now in
-    omega (arith, few_procedures t c.program-source.ensures.checked, count_rewritten c.args.rounds.last t c.in_ok-program.program.procs.items (ap (λ (t : Tree). t.procedures) c.in_ok-program.ensures))
+    omega (
+      arith,
+      few_procedures t c.program-source.ensures.checked,
+      count_rewritten c.args.rounds.last t c.in_ok-program.program.procs.items (ap (λ (t : Tree). t.procedures) c.in_ok-program.ensures),
+    )
 
 pub returns-clause-grammar : goal.returns-clause-grammar
 returns-clause-grammar g c = λ h.
     subst InGrammar (sym c.in_ok-program.ensures)
-    (rewritten_in_grammar (tree_of c.program-source.result.now) c.args.rounds.last c.args.rounds.few (c.is_narrow.ensures.0 c.if-not-is_narrow.false)
+    (rewritten_in_grammar (tree_of c.program-source.result.now) c.args.rounds.last c.args.rounds.few
+    (c.is_narrow.ensures.0 c.if-not-is_narrow.false)
     (subst InGrammar (ap tree_of (sym c.program-source.ensures.same)) h))

@@ -5,7 +5,8 @@ use Rattle.round_rewrite.specs.Table.{draws, temporaries}
 use Rattle.round_rewrite.specs.Writing.{naming_of, deed_needs}
 use Rattle.trees.proofs.Held.{held, smaller}
 use Rattle.round_rewrite.proofs.Needing.{one_more, no_more}
-use Rattle.trees.proofs.Folds.{deed_of-Skip, deed_of-Return, deed_of-Goto, deed_of-Assert, deed_of-Assume, deed_of-Assign, deed_of-Call, deed_of-If, deed_of-While}
+use Rattle.trees.proofs.Folds.{deed_of-Skip, deed_of-Return, deed_of-Goto, deed_of-Assert, deed_of-Assume, deed_of-Assign, deed_of-Call}
+use Rattle.trees.proofs.Folds.{deed_of-If, deed_of-While}
 use Rattle.round_rewrite.proofs.writer.Writer.+needs.Goals as goal
 
 pub needs-needs_of-requires : goal.needs-needs_of-requires
@@ -16,12 +17,16 @@ needs-needs_of-requires g t c κs within =
 
 pub needs-loop-stmt-preserved : goal.needs-loop-stmt-preserved
 needs-loop-stmt-preserved g t c =
-    one_more (naming_of c.args.self.now).is_shared c.args.stmts.now c.loop-stmt.stmt-index c.stmt-item.result c.loop-stmt.number c.needs_of.result c.larger-number.result _
+    one_more
+    (naming_of c.args.self.now).is_shared c.args.stmts.now c.loop-stmt.stmt-index c.stmt-item.result c.loop-stmt.number
+    c.needs_of.result c.larger-number.result _
     c.loop-stmt-test.true c.stmt-item.is c.needs_of.ensures c.larger-number.ensures c.loop-stmt.invariant
 
 pub needs-returns : goal.needs-returns
 needs-returns g t c =
-    no_more (naming_of c.args.self.now).is_shared c.args.stmts.now c.loop-stmt.stmt-index c.loop-stmt.number _ c.loop-stmt-test.false c.loop-stmt.invariant
+    no_more
+    (naming_of c.args.self.now).is_shared c.args.stmts.now c.loop-stmt.stmt-index c.loop-stmt.number _ c.loop-stmt-test.false
+    c.loop-stmt.invariant
 
 pub needs_of-returns-in-Skip : goal.needs_of-returns-in-Skip
 needs_of-returns-in-Skip g t c =

@@ -9,7 +9,8 @@ use Rattle.round_rewrite.proofs.writer.Writer.+needs.Given as goal
 
 abbrev pub invariant-needs-loop-stmt : goal.invariant-needs-loop-stmt
 invariant-needs-loop-stmt g l =
-    max l.number (temporaries (naming_of l.self).is_shared (block_of (drop l.stmt-index l.stmts))) ≡ temporaries (naming_of l.self).is_shared (block_of l.stmts)
+    max l.number (temporaries (naming_of l.self).is_shared (block_of (drop l.stmt-index l.stmts)))
+    ≡ temporaries (naming_of l.self).is_shared (block_of l.stmts)
 
 abbrev pub decreases-needs : goal.decreases-needs
 decreases-needs g l = 2 * statements (block_of l.stmts.now) + 1

@@ -11,7 +11,8 @@ returns-in_ok-copies g t c =
     IfOk-weaker c.targets.result _ _
     (λ _ l. targets_shared (naming_of c.args.self.now) c.args.self.now.rounds.last (names_of c.args.xs.now)
     (rhss_of c.args.rs.now) (names_of c.args.into.now.items)
-    (name_of c.in-Some.x.now) (names_of c.in-Some.more.now) (rhs_of c.in-Some-split_first.field-0-0.now) (rhss_of c.in-Some-split_first.others.now)
+    (name_of c.in-Some.x.now) (names_of c.in-Some.more.now) (rhs_of c.in-Some-split_first.field-0-0.now)
+    (rhss_of c.in-Some-split_first.others.now)
     (ap names_of c.in-Some.ensures.cases.0) (ap rhss_of c.in-Some-split_first.ensures.cases.0)
     (sym c.is_shared.ensures ∙ c.if-is_shared.true) c.in_ok-copies.ensures l)
     c.targets.ensures
@@ -21,7 +22,8 @@ returns-in_ok-push g t c =
     IfOk-weaker c.targets-else-is_shared.result _ _
     (λ _ l. targets_kept (naming_of c.args.self.now) c.args.self.now.rounds.last (names_of c.args.xs.now) (rhss_of c.args.rs.now)
     (names_of c.args.into.now.items)
-    (name_of c.in-Some.x.now) (names_of c.in-Some.more.now) (rhs_of c.in-Some-split_first.field-0-0.now) (rhss_of c.in-Some-split_first.others.now)
+    (name_of c.in-Some.x.now) (names_of c.in-Some.more.now) (rhs_of c.in-Some-split_first.field-0-0.now)
+    (rhss_of c.in-Some-split_first.others.now)
     (ap names_of c.in-Some.ensures.cases.0) (ap rhss_of c.in-Some-split_first.ensures.cases.0)
     (sym c.is_shared.ensures ∙ c.if-is_shared.false)
     (ap names_of c.in_ok-push.ensures.items ∙ (map-append name_of c.args.into.now.items _ ∙ ap

@@ -9,7 +9,8 @@ pub loop-e-preserved : goal.loop-e-preserved
 loop-e-preserved g c =
     let f = expression (naming_of c.args.self.now) c.args.self.now.rounds.last in
     ap (λ l. exprs_of l ++ map f (exprs_of (drop (c.loop-e.e-index + 1) c.args.es.now))) c.in_ok-push.ensures.items
-    ∙ one_through expr_of f expr_of c.loop-e.list.items c.in_ok-expression.field-0 c.args.es.now c.loop-e.e-index c.e-item.result _ c.loop-e-test.true c.e-item.is c.in_ok-expression.ensures c.loop-e.invariant
+    ∙ one_through expr_of f expr_of c.loop-e.list.items c.in_ok-expression.field-0 c.args.es.now c.loop-e.e-index c.e-item.result _
+    c.loop-e-test.true c.e-item.is c.in_ok-expression.ensures c.loop-e.invariant
 
 pub returns : goal.returns
 returns g c =

@@ -14,7 +14,8 @@ pub returns : goal.returns
 returns g c =
     let w = naming_of c.args.self.now in
     let last = c.args.self.now.rounds.last in
-    let named = c.in_ok-targets.ensures ∙ ap (λ ns. names_of ns ++ Rattle.std.proofs.Common.map drawn_name (numbers 0 c.args.number)) c.new.ensures.items in
+    let named = c.in_ok-targets.ensures
+    ∙ ap (λ ns. names_of ns ++ Rattle.std.proofs.Common.map drawn_name (numbers 0 c.args.number)) c.new.ensures.items in
     let deed = deed_of-Assign _ _ ∙ (λ i. simple (assign (named i) (c.in_ok-sides.ensures i))) in
     IfOk-weaker c.push.result _ _
     (λ _ l k. laid _ _ plain _ _ l deed k
