@@ -36,7 +36,8 @@ module _ {F : Type 0} (opens : List ℕ → Result F Error → Type 0) (remainin
       ((fault : LineFault) × line.Refuses words fault × Declines fault old new result)
       ⊎ ((order : Order) × (path : Text) × line.AskFor words order path × ServesFile path order old new result)
 
-  -- The words ask for help, and the standard output took just that; or they give an order, and it took just the reply to
+  -- The words ask for help, and the standard output took just that; or they give an order, and it took just the reply
+  -- to
   -- all bytes of the file that they name. The standard error took nothing.
   abbrev pub AnswersWords : List Text → Streams → Streams → ℕ → Type 0
   AnswersWords words old new result =

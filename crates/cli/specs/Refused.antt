@@ -16,7 +16,8 @@ use Rattle.refusals.specs.declared.refusal.Refusal.TheVariants.{Unread, Unchecke
 use Rattle.refusals.specs.declared.refusal.Refusal.TheVariants.{NoWorker, Spent}
 use Rattle.cli.specs.Verdict.{IsOver}
 
--- The text is that of a checked tree, whose rewriting for so many rounds is too wide; and this is its first procedure that is.
+-- The text is that of a checked tree, whose rewriting for so many rounds is too wide; and this is its first procedure
+-- that is.
 pub record IsWide (bytes : List ℕ) (rounds : ℕ) (t : Tree) (wide : Option Wide) : Type 0 where
   pub of : Text bytes t
   pub checked : IsChecked t

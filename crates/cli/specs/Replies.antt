@@ -18,7 +18,8 @@ use Rattle.refusals.specs.Lines.{NamesOffset, line_of, status_of}
 use Rattle.cli.specs.Refused.{IsPast, RefusalStands}
 use Rattle.cli.specs.Written.{bytes_of}
 
--- the text is that of a checked program, the bytes are the printed form of its rewriting for so many rounds, and within the
+-- the text is that of a checked program, the bytes are the printed form of its rewriting for so many rounds, and within
+-- the
 -- limits of texts they are a text of that rewriting, offsets aside
 pub record IsSequential (text : List ℕ) (rounds : ℕ) (bytes : List ℕ) : Type 0 where
   pub tree : Tree

@@ -7,7 +7,8 @@ pub record Held : Type 0 where
   pub bytes : Option (List ℕ)
   pub may_have_failed : Bool
 
--- The stream took all of these bytes and no others; or a write to it may have failed, and it took a part of them that is
+-- The stream took all of these bytes and no others; or a write to it may have failed, and it took a part of them that
+-- is
 -- not the whole.
 abbrev pub Takes : Held → Held → List ℕ → Bool → Type 0
 Takes old new bytes true = Appends old.bytes new.bytes bytes

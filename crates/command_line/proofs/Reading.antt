@@ -17,8 +17,10 @@ use Rattle.command_line.specs.declared.asked.Order.TheVariants.{Check, Sequentia
 use Rattle.summaries.specs.Limits.{most_of}
 
 -- a number that is got of an option is what its text reads as
-pub reads : {E : Type 0} (gives : List ℕ → Result ℕ E → Type 0) (bits : ℕ) → ((t : List ℕ) (n : ℕ) → gives t (Ok n) → ParsesUnsigned {E = E} bits 10 t (Ok n))
-    → (f : Found) (id : Text) (r : Option ℕ) (n : ℕ) → r ≡ Some n → (one_text f id ≡ None → r ≡ None) → ((t : List ℕ) → one_text f id ≡ Some t → ReadsOne gives t r)
+pub reads : {E : Type 0} (gives : List ℕ → Result ℕ E → Type 0) (bits : ℕ)
+    → ((t : List ℕ) (n : ℕ) → gives t (Ok n) → ParsesUnsigned {E = E} bits 10 t (Ok n))
+    → (f : Found) (id : Text) (r : Option ℕ) (n : ℕ) → r ≡ Some n → (one_text f id ≡ None → r ≡ None)
+    → ((t : List ℕ) → one_text f id ≡ Some t → ReadsOne gives t r)
     → Reads (rows_of f) id n
 reads gives bits parses f id r n some none value = go (one_text f id) refl
   where
@@ -66,7 +68,8 @@ is_given E f id r b some none value = go (one_text f id) refl
     go (Some t) e = sym (one_text-rows f id) ∙ e ∙ ap Some (same_flag t b (subst (ReadsOne {E = E} ParsesBool t) some (value t e)))
 
 -- an order of the name, the numbers and the option without a value that were found
-pub gives : (name : Text) (rows : List Row) (k : ℕ) (n : Option ℕ) (s : Option Bool) (o : Order) → IsNamed name k n s o → Reads rows (codes "rounds") k → ((e : ℕ) → n ≡ Some e → Reads rows (codes "edges") e)
+pub gives : (name : Text) (rows : List Row) (k : ℕ) (n : Option ℕ) (s : Option Bool) (o : Order) → IsNamed name k n s o
+    → Reads rows (codes "rounds") k → ((e : ℕ) → n ≡ Some e → Reads rows (codes "edges") e)
     → ((b : Bool) → s ≡ Some b → IsGiven rows (codes "stats") b) → Gives name rows o
 gives name rows k n s (Check r e b) h rounds edges stats =
     (h.0, subst (Reads rows (codes "rounds")) (sym h.1) rounds, edges (most_of e) h.2, stats b h.3)

@@ -22,7 +22,9 @@ abbrev sequential : List Text → List Text
 sequential words = codes "bebopk" ∷ codes "sequential" ∷ words
 
 -- check a.bp
-defaults : (fault_of bebopk (check (codes "a.bp" ∷ [])) ≡ []) × (found (check (codes "a.bp" ∷ [])) ≡ Some (codes "check", Some (codes "2"), Some (codes "1000000"), Some (codes "false"), Some (codes "a.bp")))
+defaults : (fault_of bebopk (check (codes "a.bp" ∷ [])) ≡ [])
+    × (found (check (codes "a.bp" ∷ []))
+    ≡ Some (codes "check", Some (codes "2"), Some (codes "1000000"), Some (codes "false"), Some (codes "a.bp")))
 unfolding clap_on_literals
 defaults = (refl, refl)
 
@@ -37,7 +39,8 @@ behind = (refl, refl)
 
 -- sequential --rounds 4 a.bp
 rewriting : (fault_of bebopk (sequential (codes "--rounds" ∷ codes "4" ∷ codes "a.bp" ∷ [])) ≡ [])
-    × (found (sequential (codes "--rounds" ∷ codes "4" ∷ codes "a.bp" ∷ [])) ≡ Some (codes "sequential", Some (codes "4"), None, None, Some (codes "a.bp")))
+    × (found (sequential (codes "--rounds" ∷ codes "4" ∷ codes "a.bp" ∷ []))
+    ≡ Some (codes "sequential", Some (codes "4"), None, None, Some (codes "a.bp")))
 unfolding clap_on_literals
 rewriting = (refl, refl)
 
@@ -72,6 +75,7 @@ unfolding clap_on_literals
 stats_with_a_value = refl
 
 -- sequential --rounds 1 --stats a.bp
-stats_of_sequential : fault_of bebopk (sequential (codes "--rounds" ∷ codes "1" ∷ codes "--stats" ∷ codes "a.bp" ∷ [])) ≡ kind.UnknownArgument ∷ []
+stats_of_sequential : fault_of bebopk (sequential (codes "--rounds" ∷ codes "1" ∷ codes "--stats" ∷ codes "a.bp" ∷ []))
+    ≡ kind.UnknownArgument ∷ []
 unfolding clap_on_literals
 stats_of_sequential = refl

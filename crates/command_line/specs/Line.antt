@@ -62,7 +62,8 @@ IsBuilt app c = (app_of c ≡ app) × ((fields_of c).has_globals ≡ false)
 
 -- The value that was found for this option, given or by default, reads as the number.
 abbrev pub Reads : List Row → Text → ℕ → Type 0
-Reads rows id n = (t : Text) × (one_of id rows ≡ Some t) × IsNumeral 10 (without_leading_plus t) × (digits_value 10 (without_leading_plus t) ≡ n)
+Reads rows id n = (t : Text) × (one_of id rows ≡ Some t) × IsNumeral 10 (without_leading_plus t)
+    × (digits_value 10 (without_leading_plus t) ≡ n)
 
 -- what is found for an option without a value: that it was given, or that it was not
 abbrev pub flag_text : Bool → Text
@@ -111,7 +112,8 @@ IsOfKind k (Help text) = IsShown k × (k ≢ kind.OutOfMemory)
 IsOfKind k (Refused text) = ¬ IsShown k × (k ≢ kind.OutOfMemory)
 IsOfKind k Memory = ⊤
 
--- The command line does not take the words: help is asked for, or they have another fault. Memory may run out at any words.
+-- The command line does not take the words: help is asked for, or they have another fault. Memory may run out at any
+-- words.
 abbrev pub Refuses : List Text → LineFault → Type 0
 Refuses words (Help text) = (k : ErrorKind) × IsAmong k (fault_of bebopk words) × IsShown k
 Refuses words (Refused text) = (k : ErrorKind) × IsAmong k (fault_of bebopk words) × ¬ IsShown k

@@ -11,7 +11,8 @@ use Rattle.language.proofs.Standing.{Stands, whole_stands, flow_stands}
 use Rattle.language.proofs.Entering.{call_shape}
 
 -- what is reached from a valuation has an entry with it
-pub reached_entry : (p : Program) (q : ℕ) (M : Message → Type 0) (a v : Valuation) (r : Code) → Reached p q M a v r → (from : Caller) × M (entry from a)
+pub reached_entry : (p : Program) (q : ℕ) (M : Message → Type 0) (a v : Valuation) (r : Code) → Reached p q M a v r
+    → (from : Caller) × M (entry from a)
 reached_entry p q M _ _ _ (starts from a is) = (from, is)
 reached_entry p q M _ _ _ (flows a v v' r r' reached flow) = reached_entry p q M a v r reached
 reached_entry p q M _ _ _ (returns a v e r s b reached calls is) = reached_entry p q M a v r reached
@@ -32,6 +33,8 @@ reached_more p q M N more _ _ _ (flows a v v' r r' reached flow) = flows a v v' 
 reached_more p q M N more _ _ _ (returns a v e r s b reached calls is) =
     returns a v e r s b (reached_more p q M N more a v r reached) calls (more (summary s e b) is)
 
-pub owed_more : (p : Program) (q : ℕ) (M N : Message → Type 0) → ((m : Message) → M m → N m) → (s : ℕ) (m : Message) → Owes p q M s m → Owes p q N s m
+pub owed_more : (p : Program) (q : ℕ) (M N : Message → Type 0) → ((m : Message) → M m → N m) → (s : ℕ) (m : Message) → Owes p q M s m
+    → Owes p q N s m
 owed_more p q M N more _ _ (asks a v e r s reached calls) = asks a v e r s (reached_more p q M N more a v r reached) calls
-owed_more p q M N more _ _ (tells a v s is reached) = tells a v s (more (entry (caller s) a) is) (reached_more p q M N more a v done reached)
+owed_more p q M N more _ _ (tells a v s is reached) =
+    tells a v s (more (entry (caller s) a) is) (reached_more p q M N more a v done reached)

@@ -27,18 +27,22 @@ no_entering (Some routine) f g g' k h fs e = let same : suc (suc (length fs)) �
 
 -- a step that leaves the callers where they are can be taken over others
 other_callers : (p : Program) (q : ℕ) (g l : List Bool) (r : Code) (g' l' : List Bool) (r' : Code) (fs gs : List Frame) →
-    Step p (state g (frame q l r ∷ fs)) (state g' (frame q l' r' ∷ fs)) → Step p (state g (frame q l r ∷ gs)) (state g' (frame q l' r' ∷ gs))
+    Step p (state g (frame q l r ∷ fs)) (state g' (frame q l' r' ∷ fs))
+    → Step p (state g (frame q l r ∷ gs)) (state g' (frame q l' r' ∷ gs))
 other_callers p q g l done g' l' r' fs gs h = absurd (no_return g g' (frame q l' r') fs h)
 other_callers p q g l (one m skip t) g' l' r' fs gs h = ap (over gs) h
 other_callers p q g l (one m (assign xs rs) t) g' l' r' fs gs (vs, values, h) = (vs, values, ap (over gs) h)
 other_callers p q g l (one m (assert c) t) g' l' r' fs gs (is, h) = (is, ap (over gs) h)
 other_callers p q g l (one m (assume c) t) g' l' r' fs gs (is, h) = (is, ap (over gs) h)
 other_callers p q g l (one m (goto x) t) g' l' r' fs gs h =
-    at_rest_map (rest_from x (body_of (slice_get p.routines q)) done) (λ rest. state g (frame q l rest ∷ fs) ≡ state g' (frame q l' r' ∷ fs))
+    at_rest_map (rest_from x (body_of (slice_get p.routines q)) done)
+    (λ rest. state g (frame q l rest ∷ fs) ≡ state g' (frame q l' r' ∷ fs))
     (λ rest. state g (frame q l rest ∷ gs) ≡ state g' (frame q l' r' ∷ gs)) (λ rest e. ap (over gs) e) h
 other_callers p q g l (one m leave t) g' l' r' fs gs h = ap (over gs) h
 other_callers p q g l (one m (call n es) t) g' l' r' fs gs h =
-    absurd (no_entering (slice_get p.routines n) (λ routine. frame n (fresh routine.places (values_of g l es)) routine.body) g g' (frame q l t) (frame q l' r') fs h)
+    absurd
+    (no_entering (slice_get p.routines n) (λ routine. frame n (fresh routine.places (values_of g l es)) routine.body) g g'
+    (frame q l t) (frame q l' r') fs h)
 other_callers p q g l (choose m c a b t) g' l' r' fs gs (v, is, h) = (v, is, ap (over gs) h)
 other_callers p q g l (loop m c a t) g' l' r' fs gs (v, is, h) = (v, is, ap (over gs) h)
 

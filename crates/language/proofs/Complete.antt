@@ -36,7 +36,8 @@ called : (p : Program) (M : ℕ → Message → Type 0) → HasOwed p M → (q :
 called p M closed q a v e r s reached calls = closed q s (entry (caller q) e) (asks a v e r s reached calls)
 
 -- a caller goes on behind its call
-back : (p : Program) (M : ℕ → Message → Type 0) → HasOwed p M → (k : ℕ) (z : Valuation) (q : ℕ) (a v : Valuation) → Reaching p M q a v done →
+back : (p : Program) (M : ℕ → Message → Type 0) → HasOwed p M → (k : ℕ) (z : Valuation) (q : ℕ) (a v : Valuation) → Reaching p M q a v done
+    →
     (fs : List Frame) → Wait p M k z q a fs → Held p M k z (state v.globals fs)
 back p M closed k z q a v reached [] wait = tt
 back p M closed k z q a v reached (frame c l t ∷ fs) (b, g, r, same, before, calls, below) =
@@ -49,7 +50,8 @@ back p M closed k z q a v reached (frame c l t ∷ fs) (b, g, r, same, before, c
       below,
     )
 
-held_step : (p : Program) (M : ℕ → Message → Type 0) → HasOwed p M → (k : ℕ) (z : Valuation) (s t : State) → Held p M k z s → Step p s t → Held p M k z t
+held_step : (p : Program) (M : ℕ → Message → Type 0) → HasOwed p M → (k : ℕ) (z : Valuation) (s t : State) → Held p M k z s → Step p s t
+    → Held p M k z t
 held_step p M closed k z (state g []) t held step = absurd step
 held_step p M closed k z (state g (frame q l r ∷ fs)) t (a, reached, wait) step = by_kind ((step_kinds p q v r fs t).0 step)
   where
@@ -72,7 +74,8 @@ held_steps p M closed k z (suc n) s t held run =
     held_steps p M closed k z n u t (held_step p M closed k z s u held step) more
 
 -- the stack from an entering on: its one frame has been reached
-alone_held : (p : Program) (M : ℕ → Message → Type 0) (q : ℕ) (a : Valuation) (from : Caller) → M q (entry from a) → Held p M q a (alone p q a)
+alone_held : (p : Program) (M : ℕ → Message → Type 0) (q : ℕ) (a : Valuation) (from : Caller) → M q (entry from a)
+    → Held p M q a (alone p q a)
 alone_held p M q a from is = (a, starts from a is, (refl, refl))
 
 -- what holds of the whole body
@@ -87,7 +90,10 @@ start_held : (p : Program) (M : ℕ → Message → Type 0) → HasOpening p M �
 start_held p M opened = of_routine (slice_get p.routines 0) refl
   where
     of_routine : (o : Option Routine) → slice_get p.routines 0 ≡ o →
-        (z : Valuation) × Held p M 0 z (state (zeros p.globals) (elim o as (λ x. List Frame) [ None ↦ [] | Some routine ↦ frame 0 (zeros routine.places) routine.body ∷ [] ]))
+        (z : Valuation)
+        × Held p M 0 z
+        (state (zeros p.globals)
+        (elim o as (λ x. List Frame) [ None ↦ [] | Some routine ↦ frame 0 (zeros routine.places) routine.body ∷ [] ]))
     of_routine None e = (record { globals = []; places = [] }, tt)
     of_routine (Some routine) e =
         let z : Valuation = record { globals = zeros p.globals; places = zeros routine.places } in
@@ -95,14 +101,17 @@ start_held p M opened = of_routine (slice_get p.routines 0) refl
         (z, whole_held p M 0 z routine e (alone_held p M 0 z starter (opened z begins)))
 
 -- in a sequential run the top frame has been reached
-top_reached : (p : Program) (M : ℕ → Message → Type 0) → HasOpening p M → HasOwed p M → (g l : List Bool) (q : ℕ) (r : Code) (fs : List Frame) →
+top_reached : (p : Program) (M : ℕ → Message → Type 0) → HasOpening p M → HasOwed p M
+    → (g l : List Bool) (q : ℕ) (r : Code) (fs : List Frame) →
     Reaches p (state g (frame q l r ∷ fs)) → (a : Valuation) × Reaching p M q a (record { globals = g; places = l }) r
 top_reached p M opened closed g l q r fs (n, run) =
     let (z, begun) = start_held p M opened in
-    let (a, reached, wait) = held_steps p M closed 0 z n (state (zeros p.globals) (starting_stack p.routines 0)) (state g (frame q l r ∷ fs)) begun run in
+    let (a, reached, wait) =
+    held_steps p M closed 0 z n (state (zeros p.globals) (starting_stack p.routines 0)) (state g (frame q l r ∷ fs)) begun run in
     (a, reached)
 
-asked_had : (p : Program) (M : ℕ → Message → Type 0) → HasOpening p M → HasOwed p M → (c q : ℕ) (e : Valuation) → Asks p c q e → M q (entry (caller c) e)
+asked_had : (p : Program) (M : ℕ → Message → Type 0) → HasOpening p M → HasOwed p M → (c q : ℕ) (e : Valuation) → Asks p c q e
+    → M q (entry (caller c) e)
 asked_had p M opened closed c q e (g, l, r, fs, reaches, calls) =
     let (a, reached) = top_reached p M opened closed g l c r fs reaches in
     called p M closed c a (record { globals = g; places = l }) e r q reached calls
@@ -117,7 +126,8 @@ pub inside_reached : (p : Program) (M : ℕ → Message → Type 0) → HasOpeni
     Inside p q a v r → Reached p q (M q) a v r
 inside_reached p M opened closed q a v r (entered, (n, run)) =
     let (from, is) = entered_had p M opened closed q a entered in
-    let (b, reached, (same, at)) = held_steps p M closed q a n (alone p q a) (state v.globals (frame q v.places r ∷ [])) (alone_held p M q a from is) run in
+    let (b, reached, (same, at)) =
+    held_steps p M closed q a n (alone p q a) (state v.globals (frame q v.places r ∷ [])) (alone_held p M q a from is) run in
     subst (λ z. Reached p q (M q) z v r) at reached
 
 pub due_had : (p : Program) (M : ℕ → Message → Type 0) → HasOpening p M → HasOwed p M → (q : ℕ) (m : Message) → IsDue p q m → M q m

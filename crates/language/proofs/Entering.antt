@@ -5,7 +5,8 @@ use Rattle.language.specs.Value.{Place, values_of}
 use Rattle.language.specs.Rest.{Label, Code}
 use Rattle.language.specs.Step.{Routine, Program, Frame, frame, state, zeros, fresh, AtRoutine, body_of}
 use Rattle.language.specs.Rounds.{starting_stack}
-use Rattle.language.specs.Sequential.{Valuation, Reaches, Calls, Asks, IsZero, Entered, Caller, starter, caller, Message, entry, summary, IsDue}
+use Rattle.language.specs.Sequential.{Valuation, Reaches, Calls, Asks, IsZero, Entered, Caller, starter, caller, Message, entry, summary}
+use Rattle.language.specs.Sequential.{IsDue}
 use Rattle.language.specs.Flow.{IsRestOf, after_first}
 use Rattle.language.proofs.Standing.{frame_stands}
 use Rattle.language.proofs.StepKinds.{routine_found}
@@ -37,11 +38,13 @@ call_shape p g l (loop m c a t) s e h = absurd h
 pub callee_there : (p : Program) (g l : List Bool) (r : Code) (s : ℕ) (e : Valuation) → Calls p g l r s e → IsThere p s
 callee_there p g l r s e calls =
     let (m, es, t, same, h) = call_shape p g l r s e calls in
-    let (routine, is, more) = routine_found (slice_get p.routines s) (λ z. e ≡ record { globals = g; places = fresh z.places (values_of g l es) }) h in
+    let (routine, is, more) =
+    routine_found (slice_get p.routines s) (λ z. e ≡ record { globals = g; places = fresh z.places (values_of g l es) }) h in
     (routine, is)
 
 -- what can be left to run of no procedure calls nothing
-rest_there : (p : Program) (q : ℕ) (o : Option Routine) → slice_get p.routines q ≡ o → (g l : List Bool) (r : Code) (s : ℕ) (e : Valuation) →
+rest_there : (p : Program) (q : ℕ) (o : Option Routine) → slice_get p.routines q ≡ o → (g l : List Bool) (r : Code) (s : ℕ) (e : Valuation)
+    →
     IsRestOf (body_of o) r → Calls p g l r s e → IsThere p q
 rest_there p q None is g l r s e (inl same) calls = absurd (subst (λ z. Calls p g l z s e) same calls)
 rest_there p q None is g l r s e (inr f) calls = absurd f
@@ -64,12 +67,15 @@ ComesTo p q a = (fs : List Frame) × Reaches p (state a.globals (frame q a.place
 
 zero_comes : (p : Program) (a : Valuation) → IsZero p a → ComesTo p 0 a
 zero_comes p a begins =
-    let (routine, is, same) = routine_found (slice_get p.routines 0) (λ z. a ≡ record { globals = zeros p.globals; places = zeros z.places }) begins in
+    let (routine, is, same) =
+    routine_found (slice_get p.routines 0) (λ z. a ≡ record { globals = zeros p.globals; places = zeros z.places }) begins in
     let begun : Reaches p (state (zeros p.globals) (frame 0 (zeros routine.places) routine.body ∷ [])) =
     (0, ap (state (zeros p.globals)) (start_is p 0 routine is)) in
     let bodied : Reaches p (state (zeros p.globals) (frame 0 (zeros routine.places) (body_of (slice_get p.routines 0)) ∷ [])) =
-    subst (λ b. Reaches p (state (zeros p.globals) (frame 0 (zeros routine.places) b ∷ []))) (sym (ap body_of is)) begun in
-    ([], subst (λ (z : Valuation). Reaches p (state z.globals (frame 0 z.places (body_of (slice_get p.routines 0)) ∷ []))) (sym same) bodied)
+    subst (λ b. Reaches p (state (zeros p.globals) (frame 0 (zeros routine.places) b ∷ []))) (sym (ap body_of is)) begun in (
+      [],
+      subst (λ (z : Valuation). Reaches p (state z.globals (frame 0 z.places (body_of (slice_get p.routines 0)) ∷ []))) (sym same) bodied,
+    )
 
 -- what is entered, some run comes to
 pub entered_comes : (p : Program) (q : ℕ) (a : Valuation) → Entered p q a → ComesTo p q a
@@ -80,7 +86,8 @@ entered_comes p q a (inr (c, (g, l, r, fs, reaches, calls))) =
 -- what is entered is there
 pub entered_there : (p : Program) (q : ℕ) (a : Valuation) → Entered p q a → IsThere p q
 entered_there p q a (inl (e, begins)) =
-    let (routine, is, same) = routine_found (slice_get p.routines 0) (λ z. a ≡ record { globals = zeros p.globals; places = zeros z.places }) begins in
+    let (routine, is, same) =
+    routine_found (slice_get p.routines 0) (λ z. a ≡ record { globals = zeros p.globals; places = zeros z.places }) begins in
     (routine, subst (λ z. slice_get p.routines z ≡ Some routine) (sym e) is)
 entered_there p q a (inr (c, (g, l, r, fs, reaches, calls))) = callee_there p g l r q a calls
 

@@ -8,7 +8,8 @@ use Rattle.language.specs.Messages.{Reached, AreDue, HasOpening, HasOwed, EdgeTo
 use Rattle.language.proofs.Sound.{inside_edge, edge_inside, some_edge, edge_some, pair_inside, inside_pair, reached_inside}
 use Rattle.language.proofs.Complete.{inside_reached, due_had}
 
-pub reached_edge : (p : Program) (q : ℕ) (M : Message → Type 0) → AreDue p q M → (a v : Valuation) (r : Code) → Reached p q M a v r → EdgeTo p q a v r
+pub reached_edge : (p : Program) (q : ℕ) (M : Message → Type 0) → AreDue p q M → (a v : Valuation) (r : Code) → Reached p q M a v r
+    → EdgeTo p q a v r
 reached_edge p q M due a v r reached = inside_edge p q a v r (reached_inside p q M due a v r reached)
 
 pub edge_reached : (p : Program) (M : ℕ → Message → Type 0) → HasOpening p M → HasOwed p M → (q : ℕ) (a v : Valuation) (r : Code) →
@@ -23,7 +24,8 @@ gathered p M opened closed due q = (
 )
 
 -- a path edge at a point has something left to run at that point
-pub edge_point : (p : Program) (q : ℕ) (a v : Valuation) (point : Option ℕ) → Edge p q a point v ↔ ((r : Code) × (point ≡ point_of r) × EdgeTo p q a v r)
+pub edge_point : (p : Program) (q : ℕ) (a v : Valuation) (point : Option ℕ)
+    → Edge p q a point v ↔ ((r : Code) × (point ≡ point_of r) × EdgeTo p q a v r)
 edge_point p q a v point = (
   λ edge. let (r, at, inside) = edge_some p q a v point edge in (r, at, inside_edge p q a v r inside),
   λ h. some_edge p q a v point h.0 h.1 (edge_inside p q a v h.0 h.2),

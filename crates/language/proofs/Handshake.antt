@@ -39,7 +39,8 @@ b rest = frame 1 [] rest ∷ []
 data Waiting : List Bool → List Frame → Type 0 where
   waits : Waiting (false ∷ false ∷ false ∷ []) (a a0)
 
-waiting_step : (g : List Bool) (stack : List Frame) → Waiting g stack → (P : State → Type 0) → StepsTo handshake (state g stack) P → Somewhere Waiting P
+waiting_step : (g : List Bool) (stack : List Frame) → Waiting g stack → (P : State → Type 0) → StepsTo handshake (state g stack) P
+    → Somewhere Waiting P
 waiting_step _ _ waits P f = grind (arith, f.0)
 
 waiting_passes : (g : List Bool) (stack : List Frame) → Waiting g stack → Fails (state g stack) → ⊥
@@ -50,9 +51,17 @@ data Starting : List Bool → List Frame → Type 0 where
   starts : (x : Bool) → Starting (x ∷ false ∷ false ∷ []) (b (setting b1))
   stops : (x : Bool) → Starting (x ∷ false ∷ false ∷ []) (b b1)
 
-starting_step : (g : List Bool) (stack : List Frame) → Starting g stack → (P : State → Type 0) → StepsTo handshake (state g stack) P → Somewhere Starting P
-starting_step _ _ (starts x) P (vs, are, f) =
-    (_, _, stops true, one_value (x ∷ false ∷ false ∷ []) [] true (λ ws. P (state (written_globals (global 0 ∷ []) ws (x ∷ false ∷ false ∷ [])) (frame 1 (written_locals (global 0 ∷ []) ws []) b1 ∷ []))) vs are f)
+starting_step : (g : List Bool) (stack : List Frame) → Starting g stack → (P : State → Type 0) → StepsTo handshake (state g stack) P
+    → Somewhere Starting P
+starting_step _ _ (starts x) P (vs, are, f) = (
+  _,
+  _,
+  stops true,
+  one_value (x ∷ false ∷ false ∷ []) [] true
+      (λ ws.
+      P (state (written_globals (global 0 ∷ []) ws (x ∷ false ∷ false ∷ [])) (frame 1 (written_locals (global 0 ∷ []) ws []) b1 ∷ [])))
+      vs are f,
+)
 starting_step _ _ (stops x) P f = grind (arith, f.0)
 
 -- a in its second turn: it waits for z
@@ -61,10 +70,18 @@ data Blocked : List Bool → List Frame → Type 0 where
   answers : (x y : Bool) → Blocked (x ∷ y ∷ false ∷ []) (a a1)
   stays : (x y : Bool) → Blocked (x ∷ y ∷ false ∷ []) (a a2)
 
-blocked_step : (g : List Bool) (stack : List Frame) → Blocked g stack → (P : State → Type 0) → StepsTo handshake (state g stack) P → Somewhere Blocked P
+blocked_step : (g : List Bool) (stack : List Frame) → Blocked g stack → (P : State → Type 0) → StepsTo handshake (state g stack) P
+    → Somewhere Blocked P
 blocked_step _ _ (asks x y) P f = (_, _, answers x y, f.1)
-blocked_step _ _ (answers x y) P (vs, are, f) =
-    (_, _, stays x true, one_value (x ∷ y ∷ false ∷ []) [] true (λ ws. P (state (written_globals (global 1 ∷ []) ws (x ∷ y ∷ false ∷ [])) (frame 0 (written_locals (global 1 ∷ []) ws []) a2 ∷ []))) vs are f)
+blocked_step _ _ (answers x y) P (vs, are, f) = (
+  _,
+  _,
+  stays x true,
+  one_value (x ∷ y ∷ false ∷ []) [] true
+      (λ ws.
+      P (state (written_globals (global 1 ∷ []) ws (x ∷ y ∷ false ∷ [])) (frame 0 (written_locals (global 1 ∷ []) ws []) a2 ∷ []))) vs
+      are f,
+)
 blocked_step _ _ (stays x y) P f = grind (arith, f.0)
 
 blocked_passes : (g : List Bool) (stack : List Frame) → Blocked g stack → Fails (state g stack) → ⊥
@@ -80,12 +97,25 @@ data Unfailing : List Bool → List Frame → Type 0 where
   ends : (x y z : Bool) → Unfailing (x ∷ y ∷ z ∷ []) (b done)
   gone : (x y z : Bool) → Unfailing (x ∷ y ∷ z ∷ []) []
 
-unfailing_step : (g : List Bool) (stack : List Frame) → Unfailing g stack → (P : State → Type 0) → StepsTo handshake (state g stack) P → Somewhere Unfailing P
-unfailing_step _ _ (writes_x x y z) P (vs, are, f) =
-    (_, _, awaits_y true y z, one_value (x ∷ y ∷ z ∷ []) [] true (λ ws. P (state (written_globals (global 0 ∷ []) ws (x ∷ y ∷ z ∷ [])) (frame 1 (written_locals (global 0 ∷ []) ws []) b1 ∷ []))) vs are f)
+unfailing_step : (g : List Bool) (stack : List Frame) → Unfailing g stack → (P : State → Type 0) → StepsTo handshake (state g stack) P
+    → Somewhere Unfailing P
+unfailing_step _ _ (writes_x x y z) P (vs, are, f) = (
+  _,
+  _,
+  awaits_y true y z,
+  one_value (x ∷ y ∷ z ∷ []) [] true
+      (λ ws. P (state (written_globals (global 0 ∷ []) ws (x ∷ y ∷ z ∷ [])) (frame 1 (written_locals (global 0 ∷ []) ws []) b1 ∷ []))) vs
+      are f,
+)
 unfailing_step _ _ (awaits_y x y z) P f = (_, _, writes_z x y z, f.1)
-unfailing_step _ _ (writes_z x y z) P (vs, are, f) =
-    (_, _, ends x y true, one_value (x ∷ y ∷ z ∷ []) [] true (λ ws. P (state (written_globals (global 2 ∷ []) ws (x ∷ y ∷ z ∷ [])) (frame 1 (written_locals (global 2 ∷ []) ws []) done ∷ []))) vs are f)
+unfailing_step _ _ (writes_z x y z) P (vs, are, f) = (
+  _,
+  _,
+  ends x y true,
+  one_value (x ∷ y ∷ z ∷ []) [] true
+      (λ ws. P (state (written_globals (global 2 ∷ []) ws (x ∷ y ∷ z ∷ [])) (frame 1 (written_locals (global 2 ∷ []) ws []) done ∷ [])))
+      vs are f,
+)
 unfailing_step _ _ (ends x y z) P f = (_, _, gone x y z, f)
 unfailing_step _ _ (gone x y z) P f = absurd f
 
@@ -97,17 +127,25 @@ unfailing_passes _ _ (ends x y z) f = f
 unfailing_passes _ _ (gone x y z) f = f
 
 -- b fails after no turn of a
-after_waiting : (g : List Bool) (stack : List Frame) (s : State) → Waiting g stack → Runs handshake (state g (b (setting b1))) s → Fails s → ⊥
+after_waiting : (g : List Bool) (stack : List Frame) (s : State) → Waiting g stack → Runs handshake (state g (b (setting b1))) s → Fails s
+    → ⊥
 after_waiting _ _ s waits run bad =
     no_failure handshake Unfailing unfailing_step unfailing_passes _ _ s (writes_x false false false) run bad
 
-after_blocked : (g h : List Bool) (stack below : List Frame) (s : State) → Blocked h stack → Starting g below → Runs handshake (state h below) s → Fails s → ⊥
-after_blocked _ _ _ _ s (asks x y) (starts z) run bad = no_failure handshake Unfailing unfailing_step unfailing_passes _ _ s (writes_x x y false) run bad
-after_blocked _ _ _ _ s (asks x y) (stops z) run bad = no_failure handshake Unfailing unfailing_step unfailing_passes _ _ s (awaits_y x y false) run bad
-after_blocked _ _ _ _ s (answers x y) (starts z) run bad = no_failure handshake Unfailing unfailing_step unfailing_passes _ _ s (writes_x x y false) run bad
-after_blocked _ _ _ _ s (answers x y) (stops z) run bad = no_failure handshake Unfailing unfailing_step unfailing_passes _ _ s (awaits_y x y false) run bad
-after_blocked _ _ _ _ s (stays x y) (starts z) run bad = no_failure handshake Unfailing unfailing_step unfailing_passes _ _ s (writes_x x y false) run bad
-after_blocked _ _ _ _ s (stays x y) (stops z) run bad = no_failure handshake Unfailing unfailing_step unfailing_passes _ _ s (awaits_y x y false) run bad
+after_blocked : (g h : List Bool) (stack below : List Frame) (s : State) → Blocked h stack → Starting g below
+    → Runs handshake (state h below) s → Fails s → ⊥
+after_blocked _ _ _ _ s (asks x y) (starts z) run bad =
+    no_failure handshake Unfailing unfailing_step unfailing_passes _ _ s (writes_x x y false) run bad
+after_blocked _ _ _ _ s (asks x y) (stops z) run bad =
+    no_failure handshake Unfailing unfailing_step unfailing_passes _ _ s (awaits_y x y false) run bad
+after_blocked _ _ _ _ s (answers x y) (starts z) run bad =
+    no_failure handshake Unfailing unfailing_step unfailing_passes _ _ s (writes_x x y false) run bad
+after_blocked _ _ _ _ s (answers x y) (stops z) run bad =
+    no_failure handshake Unfailing unfailing_step unfailing_passes _ _ s (awaits_y x y false) run bad
+after_blocked _ _ _ _ s (stays x y) (starts z) run bad =
+    no_failure handshake Unfailing unfailing_step unfailing_passes _ _ s (writes_x x y false) run bad
+after_blocked _ _ _ _ s (stays x y) (stops z) run bad =
+    no_failure handshake Unfailing unfailing_step unfailing_passes _ _ s (awaits_y x y false) run bad
 
 first_round : FailsInRound handshake (false ∷ false ∷ false ∷ []) (a a0 ∷ b (setting b1) ∷ []) → ⊥
 first_round (inl (s, run, bad)) = no_failure handshake Waiting waiting_step waiting_passes _ _ s waits run bad
@@ -120,21 +158,24 @@ blocked : (g : List Bool) (stack below : List Frame) (h : List Bool) → Waiting
 blocked _ _ _ _ waits (starts x) = asks x false
 blocked _ _ _ _ waits (stops x) = asks x false
 
-second_round : (g : List Bool) (stack below : List Frame) → Blocked g stack → Starting g below → FailsInRound handshake g (stack ∷ below ∷ []) → ⊥
+second_round : (g : List Bool) (stack below : List Frame) → Blocked g stack → Starting g below
+    → FailsInRound handshake g (stack ∷ below ∷ []) → ⊥
 second_round g stack below ok ok' (inl (s, run, bad)) = no_failure handshake Blocked blocked_step blocked_passes g stack s ok run bad
 second_round g stack below ok ok' (inr (h, stack', run, inl (s, more, bad))) =
     after_blocked g h stack' below s (turn handshake Blocked blocked_step g h stack stack' ok run) ok' more bad
 second_round g stack below ok ok' (inr (h, stack', run, inr (h', stack'', run', never))) = never
 
 -- the globals and stacks after the first round
-after_first : (g : List Bool) (stacks : List (List Frame)) → Round handshake (false ∷ false ∷ false ∷ []) (a a0 ∷ b (setting b1) ∷ []) g stacks →
+after_first : (g : List Bool) (stacks : List (List Frame))
+    → Round handshake (false ∷ false ∷ false ∷ []) (a a0 ∷ b (setting b1) ∷ []) g stacks →
     FailsInRound handshake g stacks → ⊥
 after_first g [] f bad = absurd f
 after_first g (stack ∷ []) (h, run, f) bad = absurd f
 after_first g (stack ∷ below ∷ more) (h, run, (h', run', (e, none))) bad =
     let waited = turn handshake Waiting waiting_step _ h _ stack waits run in
     let begun = turn handshake Starting starting_step h h' (b (setting b1)) below (begin h stack waited) run' in
-    let bad' = subst (λ z. FailsInRound handshake z (stack ∷ below ∷ [])) e (subst (λ z. FailsInRound handshake g (stack ∷ below ∷ z)) none bad) in
+    let bad' =
+    subst (λ z. FailsInRound handshake z (stack ∷ below ∷ [])) e (subst (λ z. FailsInRound handshake g (stack ∷ below ∷ z)) none bad) in
     second_round h' stack below (blocked h' stack below h waited begun) begun bad'
   where
     begin : (h : List Bool) (stack : List Frame) → Waiting h stack → Starting h (b (setting b1))
@@ -160,7 +201,11 @@ three_rounds_fail = (
     (
       true ∷ true ∷ true ∷ [],
       a a2 ∷ b done ∷ [],
-      (true ∷ true ∷ false ∷ [], (2, (refl, (true ∷ [], (refl, tt), refl))), (true ∷ true ∷ true ∷ [], (2, (refl, (true ∷ [], (refl, tt), refl))), (refl, refl))),
+      (
+        true ∷ true ∷ false ∷ [],
+        (2, (refl, (true ∷ [], (refl, tt), refl))),
+        (true ∷ true ∷ true ∷ [], (2, (refl, (true ∷ [], (refl, tt), refl))), (refl, refl)),
+      ),
       (refl, refl),
     ),
   ),

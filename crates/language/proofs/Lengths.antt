@@ -11,7 +11,8 @@ length_zeros (suc n) = ap suc (length_zeros n)
 
 pub length_fresh : (n : ℕ) (arguments : List Bool) → length arguments ≤ n → length (fresh n arguments) ≡ n
 length_fresh n arguments few =
-    let all : length (fresh n arguments) ≡ length arguments + length (zeros (n - length arguments)) = length-append arguments (zeros (n - length arguments)) in
+    let all : length (fresh n arguments) ≡ length arguments + length (zeros (n - length arguments)) =
+    length-append arguments (zeros (n - length arguments)) in
     let more : length (zeros (n - length arguments)) ≡ n - length arguments = length_zeros (n - length arguments) in
     omega (arith, all, more, few)
 

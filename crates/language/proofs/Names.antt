@@ -10,7 +10,8 @@ pub declared_first : (t : List ℕ) (xs ys : List Name) → is_declared t xs ≡
 declared_first t [] ys e = absurd (false≢true e)
 declared_first t (n ∷ xs) ys e = by_case (declared_first t xs ys) (same_text t n.text) e
   where
-    by_case : (is_declared t xs ≡ true → is_declared t (xs ++ ys) ≡ true) → (b : Bool) → cond b true (is_declared t xs) ≡ true → cond b true (is_declared t (xs ++ ys)) ≡ true
+    by_case : (is_declared t xs ≡ true → is_declared t (xs ++ ys) ≡ true) → (b : Bool) → cond b true (is_declared t xs) ≡ true
+        → cond b true (is_declared t (xs ++ ys)) ≡ true
     by_case ih true e = refl
     by_case ih false e = ih e
 
@@ -18,7 +19,8 @@ pub declared_second : (t : List ℕ) (xs ys : List Name) → is_declared t xs �
 declared_second t [] ys e = refl
 declared_second t (n ∷ xs) ys e = by_case (declared_second t xs ys) (same_text t n.text) e
   where
-    by_case : (is_declared t xs ≡ false → is_declared t (xs ++ ys) ≡ is_declared t ys) → (b : Bool) → cond b true (is_declared t xs) ≡ false → cond b true (is_declared t (xs ++ ys)) ≡ is_declared t ys
+    by_case : (is_declared t xs ≡ false → is_declared t (xs ++ ys) ≡ is_declared t ys) → (b : Bool)
+        → cond b true (is_declared t xs) ≡ false → cond b true (is_declared t (xs ++ ys)) ≡ is_declared t ys
     by_case ih true e = absurd (true≢false e)
     by_case ih false e = ih e
 
@@ -26,7 +28,8 @@ pub number_first : (t : List ℕ) (xs ys : List Name) → is_declared t xs ≡ t
 number_first t [] ys e = absurd (false≢true e)
 number_first t (n ∷ xs) ys e = by_case (number_first t xs ys) (same_text t n.text) e
   where
-    by_case : (is_declared t xs ≡ true → number_of t (xs ++ ys) ≡ number_of t xs) → (b : Bool) → cond b true (is_declared t xs) ≡ true → cond b 0 (suc (number_of t (xs ++ ys))) ≡ cond b 0 (suc (number_of t xs))
+    by_case : (is_declared t xs ≡ true → number_of t (xs ++ ys) ≡ number_of t xs) → (b : Bool) → cond b true (is_declared t xs) ≡ true
+        → cond b 0 (suc (number_of t (xs ++ ys))) ≡ cond b 0 (suc (number_of t xs))
     by_case ih true e = refl
     by_case ih false e = ap suc (ih e)
 
@@ -34,7 +37,8 @@ pub number_second : (t : List ℕ) (xs ys : List Name) → is_declared t xs ≡ 
 number_second t [] ys e = omega arith
 number_second t (n ∷ xs) ys e = by_case (number_second t xs ys) (same_text t n.text) e
   where
-    by_case : (is_declared t xs ≡ false → number_of t (xs ++ ys) ≡ length xs + number_of t ys) → (b : Bool) → cond b true (is_declared t xs) ≡ false → cond b 0 (suc (number_of t (xs ++ ys))) ≡ length (n ∷ xs) + number_of t ys
+    by_case : (is_declared t xs ≡ false → number_of t (xs ++ ys) ≡ length xs + number_of t ys) → (b : Bool)
+        → cond b true (is_declared t xs) ≡ false → cond b 0 (suc (number_of t (xs ++ ys))) ≡ length (n ∷ xs) + number_of t ys
     by_case ih true e = absurd (true≢false e)
     by_case ih false e = let more = ih e in omega (arith, more)
 
@@ -42,7 +46,8 @@ pub number_less : (x : List ℕ) (xs : List Name) → is_declared x xs ≡ true 
 number_less x [] h = cc
 number_less x (y ∷ xs) h = go (same_text x y.text) h (λ k. number_less x xs k)
   where
-    go : (c : Bool) → cond c true (is_declared x xs) ≡ true → (is_declared x xs ≡ true → number_of x xs < length xs) → cond c 0 (suc (number_of x xs)) < suc (length xs)
+    go : (c : Bool) → cond c true (is_declared x xs) ≡ true → (is_declared x xs ≡ true → number_of x xs < length xs)
+        → cond c 0 (suc (number_of x xs)) < suc (length xs)
     go true k rec = omega arith
     go false k rec = let z : number_of x xs < length xs = rec k in omega arith
 

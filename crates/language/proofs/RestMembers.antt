@@ -64,8 +64,10 @@ in_follows (one m s t) k r r' (inr f) next = in_one m s t k r' (in_follows t k r
 in_follows (choose m c a b t) k r r' (inl e) next = of_branch (subst (λ z. Follows z r') e next)
   where
     of_branch : Follows (choose m c a b (join t k)) r' → In (choose m c a b t) k r'
-    of_branch (inl same) = subst (In (choose m c a b t) k) (sym same) (in_choose_first m c a b t k (join a (join t k)) (in_whole a (join t k)))
-    of_branch (inr same) = subst (In (choose m c a b t) k) (sym same) (in_choose_second m c a b t k (join b (join t k)) (in_whole b (join t k)))
+    of_branch (inl same) =
+        subst (In (choose m c a b t) k) (sym same) (in_choose_first m c a b t k (join a (join t k)) (in_whole a (join t k)))
+    of_branch (inr same) =
+        subst (In (choose m c a b t) k) (sym same) (in_choose_second m c a b t k (join b (join t k)) (in_whole b (join t k)))
 in_follows (choose m c a b t) k r r' (inr f) next =
     elim (member_append r (rests a (join t k)) (rests b (join t k) ++ rests t k) f) [
       | inl g ↦ in_choose_first m c a b t k r' (in_follows a (join t k) r r' g next)
@@ -77,7 +79,9 @@ in_follows (choose m c a b t) k r r' (inr f) next =
 in_follows (loop m c a t) k r r' (inl e) next = of_loop (subst (λ z. Follows z r') e next)
   where
     of_loop : Follows (loop m c a (join t k)) r' → In (loop m c a t) k r'
-    of_loop (inl same) = subst (In (loop m c a t) k) (sym same) (in_loop_body m c a t k (join a (loop m c a (join t k))) (in_whole a (loop m c a (join t k))))
+    of_loop (inl same) =
+        subst (In (loop m c a t) k) (sym same)
+        (in_loop_body m c a t k (join a (loop m c a (join t k))) (in_whole a (loop m c a (join t k))))
     of_loop (inr same) = subst (In (loop m c a t) k) (sym same) (in_loop_tail m c a t k (join t k) (in_whole t k))
 in_follows (loop m c a t) k r r' (inr f) next =
     elim (member_append r (rests a (loop m c a (join t k))) (rests t k) f) [
@@ -100,14 +104,17 @@ member_from x done k r e = absurd (none-some r e)
 member_from x (one m s t) k r e =
     elim (picked (has_label x m) (one m s (join t k)) r (rest_from x t k) e) [ inl same ↦ inl same | inr f ↦ inr (member_from x t k r f) ]
 member_from x (choose m c a b t) k r e =
-    elim (picked (has_label x m) (choose m c a b (join t k)) r (first_of_two (rest_from x a (join t k)) (first_of_two (rest_from x b (join t k)) (rest_from x t k))) e) [
+    elim (picked (has_label x m) (choose m c a b (join t k)) r
+    (first_of_two (rest_from x a (join t k)) (first_of_two (rest_from x b (join t k)) (rest_from x t k))) e) [
       | inl same ↦ inl same
       | inr f ↦ inr (elim (first_picked (rest_from x a (join t k)) (first_of_two (rest_from x b (join t k)) (rest_from x t k)) r f) [
         | inl g ↦ member_left r (rests a (join t k)) (rests b (join t k) ++ rests t k) (member_from x a (join t k) r g)
-        | inr g ↦ member_right r (rests a (join t k)) (rests b (join t k) ++ rests t k) (elim (first_picked (rest_from x b (join t k)) (rest_from x t k) r g) [
-          | inl h ↦ member_left r (rests b (join t k)) (rests t k) (member_from x b (join t k) r h)
-          | inr h ↦ member_right r (rests b (join t k)) (rests t k) (member_from x t k r h)
-        ])
+        | inr g ↦
+            member_right r (rests a (join t k)) (rests b (join t k) ++ rests t k)
+            (elim (first_picked (rest_from x b (join t k)) (rest_from x t k) r g) [
+              | inl h ↦ member_left r (rests b (join t k)) (rests t k) (member_from x b (join t k) r h)
+              | inr h ↦ member_right r (rests b (join t k)) (rests t k) (member_from x t k r h)
+            ])
       ])
     ]
 member_from x (loop m c a t) k r e =

@@ -1,5 +1,6 @@
 -- The points of what is left to run in a numbered block.
-use Rattle.std.proofs.Common.{◌≡◌, ◌↔◌, Bool, true, false, ℕ, zero, suc, ◌+◌, ◌<◌, List, [], ◌∷◌, ◌++◌, length, Option, Some, None, map, slice_get, inl, inr, refl, sym, ◌∙◌, ap, ap₂, arith, length-append}
+use Rattle.std.proofs.Common.{◌≡◌, ◌↔◌, Bool, true, false, ℕ, zero, suc, ◌+◌, ◌<◌, List, [], ◌∷◌, ◌++◌, length, Option, Some, None, map}
+use Rattle.std.proofs.Common.{slice_get, inl, inr, refl, sym, ◌∙◌, ap, ap₂, arith, length-append}
 use Rattle.std.proofs.lemmas.List.{map-append}
 use Rattle.std.proofs.lemmas.Option.{none-some, same_Some}
 use Rattle.std.proofs.lemmas.Bool.{true≢false}
@@ -91,7 +92,8 @@ point_tells_rest n b r r' (inr f) (inr f') same =
     same_member n (statements b) (rests (numbered n b) done) r r' (numbered_rests n b done) f f' same
 
 -- the place of a member in a list whose points are numbers in order, and its point
-place_gives_point : (k n : ℕ) (xs : List Code) (r : Code) (i j : ℕ) → map point_of xs ≡ map Some (numbers k n) → j ≡ k + i → slice_get xs i ≡ Some r →
+place_gives_point : (k n : ℕ) (xs : List Code) (r : Code) (i j : ℕ) → map point_of xs ≡ map Some (numbers k n) → j ≡ k + i
+    → slice_get xs i ≡ Some r →
     Member r xs × (point_of r ≡ Some j)
 place_gives_point k n [] r i j e sum at = absurd (none-some r at)
 place_gives_point k zero (x ∷ xs) r i j e sum at = absurd (not_empty (point_of x) (map point_of xs) e)
@@ -103,7 +105,8 @@ place_gives_point k (suc n) (x ∷ xs) r (suc i) j e sum at =
     let (f, point) = place_gives_point (suc k) n xs r i j (ap rest_of e) (omega arith) at in
     (inr f, point)
 
-point_gives_place : (k n : ℕ) (xs : List Code) (r : Code) (i j : ℕ) → map point_of xs ≡ map Some (numbers k n) → j ≡ k + i → Member r xs → point_of r ≡ Some j →
+point_gives_place : (k n : ℕ) (xs : List Code) (r : Code) (i j : ℕ) → map point_of xs ≡ map Some (numbers k n) → j ≡ k + i → Member r xs
+    → point_of r ≡ Some j →
     slice_get xs i ≡ Some r
 point_gives_place k n [] r i j e sum f point = absurd f
 point_gives_place k zero (x ∷ xs) r i j e sum f point = absurd (not_empty (point_of x) (map point_of xs) e)
@@ -124,7 +127,8 @@ rest_at_point b r i = (forth, λ h. back h.0 h.1)
   where
     forth : slice_get (rests (numbered 1 b) done) i ≡ Some r → IsRestOf (numbered 1 b) r × (point_of r ≡ Some (suc i))
     forth at =
-        let (f, point) = place_gives_point 1 (statements b) (rests (numbered 1 b) done) r i (suc i) (numbered_rests 1 b done) (omega arith) at in
+        let (f, point) =
+        place_gives_point 1 (statements b) (rests (numbered 1 b) done) r i (suc i) (numbered_rests 1 b done) (omega arith) at in
         (inr f, point)
 
     back : IsRestOf (numbered 1 b) r → point_of r ≡ Some (suc i) → slice_get (rests (numbered 1 b) done) i ≡ Some r

@@ -56,7 +56,8 @@ same_cond b o o' p p' e f = ap (λ z. cond b z p) e ∙ ap (cond b o') f
 pub rest_behind : (x : Label) (b k : Code) → rest_from x b k ≡ behind k (rest_from x b done)
 rest_behind x done k = refl
 rest_behind x (one m s t) k =
-    same_cond (has_label x m) (Some (one m s (join t k))) (Some (one m s (join (join t done) k))) (rest_from x t k) (behind k (rest_from x t done))
+    same_cond (has_label x m) (Some (one m s (join t k))) (Some (one m s (join (join t done) k))) (rest_from x t k)
+    (behind k (rest_from x t done))
     (ap (λ z. Some (one m s z)) (same_join t k)) (rest_behind x t k)
     ∙ sym (behind_cond (has_label x m) (Some (one m s (join t done))) (rest_from x t done) k)
 rest_behind x (choose m r a b t) k =
@@ -87,7 +88,8 @@ rest_behind x (loop m r a t) k =
     (first_of_two (rest_from x a (loop m r a (join t done))) (rest_from x t done)) k)
 
 -- the rest from a label within a loop's body: what is left of the body, then the loop again
-pub rest_in_loop : (x : Label) (m : Mark Label) (r : RightSide Place) (a t k rest : Code) → has_label x m ≡ false → rest_from x a done ≡ Some rest →
+pub rest_in_loop : (x : Label) (m : Mark Label) (r : RightSide Place) (a t k rest : Code) → has_label x m ≡ false
+    → rest_from x a done ≡ Some rest →
     rest_from x (loop m r a t) k ≡ Some (join rest (loop m r a (join t k)))
 rest_in_loop x m r a t k rest other there =
     ap (λ b. cond b (Some (loop m r a (join t k))) (first_of_two (rest_from x a (loop m r a (join t k))) (rest_from x t k))) other

@@ -51,13 +51,15 @@ pub runs_over : (p : Program) (fs : List Frame) (s t : State) → Runs p s t →
 runs_over p fs s t (n, run) = steps_over p fs n s t run
 
 -- the step into a call
-pub entering : (p : Program) (q : ℕ) (v : Valuation) (r : Code) (fs : List Frame) (s : ℕ) (e : Valuation) → Calls p v.globals v.places r s e →
+pub entering : (p : Program) (q : ℕ) (v : Valuation) (r : Code) (fs : List Frame) (s : ℕ) (e : Valuation)
+    → Calls p v.globals v.places r s e →
     Step p (state v.globals (frame q v.places r ∷ fs))
     (state e.globals (frame s e.places (body_of (slice_get p.routines s)) ∷ frame q v.places (after_first r) ∷ fs))
 entering p q v r fs s e calls = (step_kinds p q v r fs _).1 (inr (inr (s, e, calls, refl)))
 
 -- the step out of a call
-pub returning : (p : Program) (q : ℕ) (v : Valuation) (fs : List Frame) → Step p (state v.globals (frame q v.places done ∷ fs)) (state v.globals fs)
+pub returning : (p : Program) (q : ℕ) (v : Valuation) (fs : List Frame)
+    → Step p (state v.globals (frame q v.places done ∷ fs)) (state v.globals fs)
 returning p q v fs = (step_kinds p q v done fs _).1 (inr (inl (refl, refl)))
 
 -- a flow, over any callers

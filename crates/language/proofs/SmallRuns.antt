@@ -12,14 +12,17 @@ use Rattle.language.proofs.OneThread.{Somewhere, fails_after, never_unsafe}
 round_of_none : (p : Program) (g g' : List Bool) (stacks' : List (List Frame)) → Round p g [] g' stacks' → stacks' ≡ []
 round_of_none p g g' stacks' f = f.1
 
-rounds_of_none : (p : Program) (n : ℕ) (g : List Bool) (stacks : List (List Frame)) (g' : List Bool) (stacks' : List (List Frame)) → stacks ≡ [] → Rounds p n g stacks g' stacks' → stacks' ≡ []
+rounds_of_none : (p : Program) (n : ℕ) (g : List Bool) (stacks : List (List Frame)) (g' : List Bool) (stacks' : List (List Frame))
+    → stacks ≡ [] → Rounds p n g stacks g' stacks' → stacks' ≡ []
 rounds_of_none p zero g stacks g' stacks' e f = f.1 ∙ e
 rounds_of_none p (suc n) g stacks g' stacks' e (h, mid, first, more) =
     rounds_of_none p n h mid g' stacks' (round_of_none p g h mid (subst (λ z. Round p g z h mid) e first)) more
 
 pub none_fail : (p : Program) (k : ℕ) → p.threads ≡ [] → Unsafe p k → ⊥
 none_fail p k e (r, small, g, stacks, rounds, fails) =
-    subst (FailsInRound p g) (rounds_of_none p r (zeros p.globals) (map (starting_stack p.routines) p.threads) g stacks (ap (map (starting_stack p.routines)) e) rounds) fails
+    subst (FailsInRound p g)
+    (rounds_of_none p r (zeros p.globals) (map (starting_stack p.routines) p.threads) g stacks
+    (ap (map (starting_stack p.routines)) e) rounds) fails
 
 pub writer_first : Unsafe writer_then_reader 1
 writer_first = (
@@ -54,12 +57,14 @@ writer_passes (suc (suc (suc n))) g f = f.2
 
 first_round : FailsInRound reader_then_writer (false ∷ []) (reader ∷ writer ∷ []) → ⊥
 first_round (inl (s, (n, run), fails)) = reader_passes n (fails_after reader_then_writer n (state (false ∷ []) reader) s run fails)
-first_round (inr (h, stack, turn, inl (s, (n, run), fails))) = writer_passes n h (fails_after reader_then_writer n (state h writer) s run fails)
+first_round (inr (h, stack, turn, inl (s, (n, run), fails))) =
+    writer_passes n h (fails_after reader_then_writer n (state h writer) s run fails)
 first_round (inr (h, stack, turn, inr (h', stack', turn', never))) = never
 
 reader_first_1 : Unsafe reader_then_writer 1 → ⊥
 reader_first_1 (zero, small, g, stacks, (same, fresh), fails) =
-    first_round (subst (λ h. FailsInRound reader_then_writer h (reader ∷ writer ∷ [])) same (subst (FailsInRound reader_then_writer g) fresh fails))
+    first_round
+    (subst (λ h. FailsInRound reader_then_writer h (reader ∷ writer ∷ [])) same (subst (FailsInRound reader_then_writer g) fresh fails))
 reader_first_1 (suc r, small, g, stacks, rounds, fails) = absurd (omega arith)
 
 reader_first_2 : Unsafe reader_then_writer 2
@@ -68,7 +73,12 @@ reader_first_2 = (
   omega arith,
   true ∷ [],
   reader ∷ (frame 0 [] done ∷ []) ∷ [],
-  (true ∷ [], reader ∷ (frame 0 [] done ∷ []) ∷ [], (false ∷ [], (0, refl), (true ∷ [], (1, (true ∷ [], (refl, tt), refl)), (refl, refl))), (refl, refl)),
+  (
+    true ∷ [],
+    reader ∷ (frame 0 [] done ∷ []) ∷ [],
+    (false ∷ [], (0, refl), (true ∷ [], (1, (true ∷ [], (refl, tt), refl)), (refl, refl))),
+    (refl, refl),
+  ),
   inl (_, (0, refl), refl),
 )
 
@@ -96,13 +106,15 @@ data Sound : List Bool → List Frame → Type 0 where
   gone : Sound (true ∷ []) []
 
 write_step : (b : Bool) (P : State → Type 0) (vs : List Bool) → AreValues (b ∷ []) [] (value (const true) ∷ []) vs →
-    P (state (written_globals (global 0 ∷ []) vs (b ∷ [])) (frame 0 (written_locals (global 0 ∷ []) vs []) checking ∷ [])) → Somewhere Sound P
+    P (state (written_globals (global 0 ∷ []) vs (b ∷ [])) (frame 0 (written_locals (global 0 ∷ []) vs []) checking ∷ []))
+    → Somewhere Sound P
 write_step b P [] are f = absurd are
 write_step b P (v ∷ []) are f =
     (true ∷ [], frame 0 [] checking ∷ [], at_check, subst (λ x. P (state (x ∷ []) (frame 0 [] checking ∷ []))) are.0 f)
 write_step b P (v ∷ w ∷ vs) are f = absurd are.1
 
-sound_step : (g : List Bool) (stack : List Frame) → Sound g stack → (P : State → Type 0) → StepsTo checked_write (state g stack) P → Somewhere Sound P
+sound_step : (g : List Bool) (stack : List Frame) → Sound g stack → (P : State → Type 0) → StepsTo checked_write (state g stack) P
+    → Somewhere Sound P
 sound_step _ _ (at_write b) P (vs, are, f) = write_step b P vs are f
 sound_step _ _ at_check P f = (_, _, at_end, f.1)
 sound_step _ _ at_end P f = (_, _, gone, f)

@@ -45,12 +45,14 @@ edge_inside p q a v r (entered, run) =
 abbrev SomeRest : Program → ℕ → Valuation → Option ℕ → Valuation → Code → Type 0
 SomeRest p q a point v body = (r : Code) × (point ≡ point_of r) × RunsFrom p q a (state v.globals (frame q v.places r ∷ [])) body
 
-pub some_edge : (p : Program) (q : ℕ) (a v : Valuation) (point : Option ℕ) (r : Code) → point ≡ point_of r → Inside p q a v r → Edge p q a point v
+pub some_edge : (p : Program) (q : ℕ) (a v : Valuation) (point : Option ℕ) (r : Code) → point ≡ point_of r → Inside p q a v r
+    → Edge p q a point v
 some_edge p q a v point r at (entered, run) =
     let there = entered_there p q a entered in
     (entered, at_body (slice_get p.routines q) there.0 (SomeRest p q a point v) there.1 (r, at, run))
 
-pub edge_some : (p : Program) (q : ℕ) (a v : Valuation) (point : Option ℕ) → Edge p q a point v → (r : Code) × (point ≡ point_of r) × Inside p q a v r
+pub edge_some : (p : Program) (q : ℕ) (a v : Valuation) (point : Option ℕ) → Edge p q a point v
+    → (r : Code) × (point ≡ point_of r) × Inside p q a v r
 edge_some p q a v point (entered, h) =
     let (r, at, run) = of_body (slice_get p.routines q) (SomeRest p q a point v) h in
     (r, at, (entered, run))
@@ -83,7 +85,8 @@ behind p q a v e r s b (entered, run) calls pair =
     let ended = runs_then p _ _ _ called (runs_over p waiting (alone p s e) (state b.globals (frame s l done ∷ [])) inner) in
     (entered, runs_step p _ _ _ ended (returning p s (record { globals = b.globals; places = l }) waiting))
 
-pub reached_inside : (p : Program) (q : ℕ) (M : Message → Type 0) → AreDue p q M → (a v : Valuation) (r : Code) → Reached p q M a v r → Inside p q a v r
+pub reached_inside : (p : Program) (q : ℕ) (M : Message → Type 0) → AreDue p q M → (a v : Valuation) (r : Code) → Reached p q M a v r
+    → Inside p q a v r
 reached_inside p q M due _ _ _ (starts from a is) = (due_entered p q from a (due (entry from a) is), no_steps p (alone p q a))
 reached_inside p q M due _ _ _ (flows a v v' r r' reached flow) =
     let (entered, run) = reached_inside p q M due a v r reached in
@@ -92,10 +95,17 @@ reached_inside p q M due _ _ _ (returns a v e r s b reached calls is) =
     behind p q a v e r s b (reached_inside p q M due a v r reached) calls (due (summary s e b) is).1
 
 -- where steps inside an entered procedure come to a call, the procedure asks for what it enters
-pub inside_asks : (p : Program) (q : ℕ) (a v e : Valuation) (r : Code) (s : ℕ) → Inside p q a v r → Calls p v.globals v.places r s e → Asks p q s e
+pub inside_asks : (p : Program) (q : ℕ) (a v e : Valuation) (r : Code) (s : ℕ) → Inside p q a v r → Calls p v.globals v.places r s e
+    → Asks p q s e
 inside_asks p q a v e r s (entered, run) calls =
-    let (fs, comes) = entered_comes p q a entered in
-    (v.globals, v.places, r, fs, runs_then p _ _ _ comes (runs_over p fs (alone p q a) (state v.globals (frame q v.places r ∷ [])) run), calls)
+    let (fs, comes) = entered_comes p q a entered in (
+      v.globals,
+      v.places,
+      r,
+      fs,
+      runs_then p _ _ _ comes (runs_over p fs (alone p q a) (state v.globals (frame q v.places r ∷ [])) run),
+      calls,
+    )
 
 pub owed_due : (p : Program) (q : ℕ) (M : Message → Type 0) → AreDue p q M → (s : ℕ) (m : Message) → Owes p q M s m → IsDue p s m
 owed_due p q M due _ _ (asks a v e r s reached calls) = inside_asks p q a v e r s (reached_inside p q M due a v r reached) calls

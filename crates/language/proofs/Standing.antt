@@ -1,5 +1,6 @@
 -- Each frame stands at a rest of its procedure's body, and steps keep that.
-use Rattle.std.proofs.Common.{◌≡◌, ℕ, zero, suc, true, false, List, [], ◌∷◌, Option, Some, None, slice_get, inl, inr, refl, sym, ap, subst, Bool}
+use Rattle.std.proofs.Common.{◌≡◌, ℕ, zero, suc, true, false, List, [], ◌∷◌, Option, Some, None, slice_get, inl, inr, refl, sym, ap, subst}
+use Rattle.std.proofs.Common.{Bool}
 use Rattle.language.specs.Tree.{skip, assign, assert, assume, goto, leave, call, done, one, choose, loop}
 use Rattle.language.specs.Value.{values_of, written_globals, written_locals}
 use Rattle.language.specs.Rest.{Code, Label, join, rest_from}
@@ -28,12 +29,14 @@ whole_stands b = subst (IsRestOf b) (join_done b) (in_whole b done)
 
 -- a procedure's number tells its body
 entered : (p : Program) (q : ℕ) (o : Option Routine) → slice_get p.routines q ≡ o → (P : State → Type 0) (F : Routine → State) →
-    ((routine : Routine) → Stands p q routine.body → Standing p (F routine)) → AtRoutine o (λ routine. P (F routine)) → (u : State) × Standing p u × P u
+    ((routine : Routine) → Stands p q routine.body → Standing p (F routine)) → AtRoutine o (λ routine. P (F routine))
+    → (u : State) × Standing p u × P u
 entered p q None e P F stand h = absurd h
 entered p q (Some routine) e P F stand h =
     (F routine, stand routine (subst (λ b. IsRestOf b routine.body) (sym (ap body_of e)) (whole_stands routine.body)), h)
 
-jumped : (x : Label) (p : Program) (c : ℕ) (o : Option Code) → rest_from x (body_of (slice_get p.routines c)) done ≡ o → (P : State → Type 0) (F : Code → State) →
+jumped : (x : Label) (p : Program) (c : ℕ) (o : Option Code) → rest_from x (body_of (slice_get p.routines c)) done ≡ o
+    → (P : State → Type 0) (F : Code → State) →
     ((rest : Code) → Stands p c rest → Standing p (F rest)) → AtRest o (λ rest. P (F rest)) → (u : State) × Standing p u × P u
 jumped x p c None e P F stand h = absurd h
 jumped x p c (Some rest) e P F stand h =
@@ -45,24 +48,38 @@ steps_stand p (state g []) P at h = absurd h
 steps_stand p (state g (frame c l done ∷ fs)) P at h = (state g fs, at.1, h)
 steps_stand p (state g (frame c l (one m skip t) ∷ fs)) P at h =
     (state g (frame c l t ∷ fs), (rest_follows (body_of (slice_get p.routines c)) (one m skip t) t at.0 refl, at.1), h)
-steps_stand p (state g (frame c l (one m (assign xs rs) t) ∷ fs)) P at (vs, values, h) =
-    (state (written_globals xs vs g) (frame c (written_locals xs vs l) t ∷ fs), (rest_follows (body_of (slice_get p.routines c)) (one m (assign xs rs) t) t at.0 refl, at.1), h)
+steps_stand p (state g (frame c l (one m (assign xs rs) t) ∷ fs)) P at (vs, values, h) = (
+  state (written_globals xs vs g) (frame c (written_locals xs vs l) t ∷ fs),
+  (rest_follows (body_of (slice_get p.routines c)) (one m (assign xs rs) t) t at.0 refl, at.1),
+  h,
+)
 steps_stand p (state g (frame c l (one m (assert r) t) ∷ fs)) P at h =
     (state g (frame c l t ∷ fs), (rest_follows (body_of (slice_get p.routines c)) (one m (assert r) t) t at.0 refl, at.1), h.1)
 steps_stand p (state g (frame c l (one m (assume r) t) ∷ fs)) P at h =
     (state g (frame c l t ∷ fs), (rest_follows (body_of (slice_get p.routines c)) (one m (assume r) t) t at.0 refl, at.1), h.1)
 steps_stand p (state g (frame c l (one m (goto x) t) ∷ fs)) P at h =
-    jumped x p c (rest_from x (body_of (slice_get p.routines c)) done) refl P (λ rest. state g (frame c l rest ∷ fs)) (λ rest stands. (stands, at.1)) h
+    jumped x p c (rest_from x (body_of (slice_get p.routines c)) done) refl P (λ rest. state g (frame c l rest ∷ fs))
+    (λ rest stands. (stands, at.1)) h
 steps_stand p (state g (frame c l (one m leave t) ∷ fs)) P at h = (state g (frame c l done ∷ fs), (inl refl, at.1), h)
 steps_stand p (state g (frame c l (one m (call q es) t) ∷ fs)) P at h =
-    entered p q (slice_get p.routines q) refl P (λ routine. state g (frame q (fresh routine.places (values_of g l es)) routine.body ∷ frame c l t ∷ fs))
+    entered p q (slice_get p.routines q) refl P
+    (λ routine. state g (frame q (fresh routine.places (values_of g l es)) routine.body ∷ frame c l t ∷ fs))
     (λ routine stands. (stands, (rest_follows (body_of (slice_get p.routines c)) (one m (call q es) t) t at.0 refl, at.1))) h
-steps_stand p (state g (frame c l (choose m r a b t) ∷ fs)) P at (true, is, h) =
-    (state g (frame c l (join a t) ∷ fs), (rest_follows (body_of (slice_get p.routines c)) (choose m r a b t) (join a t) at.0 (inl refl), at.1), h)
-steps_stand p (state g (frame c l (choose m r a b t) ∷ fs)) P at (false, is, h) =
-    (state g (frame c l (join b t) ∷ fs), (rest_follows (body_of (slice_get p.routines c)) (choose m r a b t) (join b t) at.0 (inr refl), at.1), h)
-steps_stand p (state g (frame c l (loop m r a t) ∷ fs)) P at (true, is, h) =
-    (state g (frame c l (join a (loop m r a t)) ∷ fs), (rest_follows (body_of (slice_get p.routines c)) (loop m r a t) (join a (loop m r a t)) at.0 (inl refl), at.1), h)
+steps_stand p (state g (frame c l (choose m r a b t) ∷ fs)) P at (true, is, h) = (
+  state g (frame c l (join a t) ∷ fs),
+  (rest_follows (body_of (slice_get p.routines c)) (choose m r a b t) (join a t) at.0 (inl refl), at.1),
+  h,
+)
+steps_stand p (state g (frame c l (choose m r a b t) ∷ fs)) P at (false, is, h) = (
+  state g (frame c l (join b t) ∷ fs),
+  (rest_follows (body_of (slice_get p.routines c)) (choose m r a b t) (join b t) at.0 (inr refl), at.1),
+  h,
+)
+steps_stand p (state g (frame c l (loop m r a t) ∷ fs)) P at (true, is, h) = (
+  state g (frame c l (join a (loop m r a t)) ∷ fs),
+  (rest_follows (body_of (slice_get p.routines c)) (loop m r a t) (join a (loop m r a t)) at.0 (inl refl), at.1),
+  h,
+)
 steps_stand p (state g (frame c l (loop m r a t) ∷ fs)) P at (false, is, h) =
     (state g (frame c l t ∷ fs), (rest_follows (body_of (slice_get p.routines c)) (loop m r a t) t at.0 (inr refl), at.1), h)
 
@@ -76,7 +93,8 @@ run_stands p (suc n) s t at h =
 -- what a flow leads to can be left there too
 pub flow_stands : (p : Program) (q : ℕ) (v v' : Valuation) (r r' : Code) → Stands p q r → Flow p q v r v' r' → Stands p q r'
 flow_stands p q v v' r r' at flow =
-    let (u, there, is) = steps_stand p (state v.globals (frame q v.places r ∷ [])) (λ z. z ≡ state v'.globals (frame q v'.places r' ∷ [])) (at, tt) flow in
+    let (u, there, is) =
+    steps_stand p (state v.globals (frame q v.places r ∷ [])) (λ z. z ≡ state v'.globals (frame q v'.places r' ∷ [])) (at, tt) flow in
     (subst (Standing p) is there).0
 
 pub flow_stays : (p : Program) (q : ℕ) (routine : Routine) (v v' : Valuation) (r r' : Code) → slice_get p.routines q ≡ Some routine →
@@ -89,7 +107,8 @@ flow_stays p q routine v v' r r' e at flow =
 start_stands : (p : Program) (n : ℕ) → AllStand p (starting_stack p.routines n)
 start_stands p n = of_routine (slice_get p.routines n) refl
   where
-    of_routine : (o : Option Routine) → slice_get p.routines n ≡ o → AllStand p (elim o as (λ x. List Frame) [ None ↦ [] | Some routine ↦ frame n (zeros routine.places) routine.body ∷ [] ])
+    of_routine : (o : Option Routine) → slice_get p.routines n ≡ o
+        → AllStand p (elim o as (λ x. List Frame) [ None ↦ [] | Some routine ↦ frame n (zeros routine.places) routine.body ∷ [] ])
     of_routine None e = tt
     of_routine (Some routine) e = (subst (λ b. IsRestOf b routine.body) (sym (ap body_of e)) (whole_stands routine.body), tt)
 
@@ -99,7 +118,9 @@ member_stands p [] q l r at f = absurd f
 member_stands p (frame c k t ∷ fs) q l r at (inl e) = (subst (λ z. AllStand p (z ∷ fs)) (sym e) at).0
 member_stands p (frame c k t ∷ fs) q l r at (inr f) = member_stands p fs q l r at.1 f
 
-pub frame_stands : (p : Program) (g : List Bool) (stack : List Frame) (q : ℕ) (l : List Bool) (r : Code) → Reaches p (state g stack) → Member (frame q l r) stack →
+pub frame_stands : (p : Program) (g : List Bool) (stack : List Frame) (q : ℕ) (l : List Bool) (r : Code) → Reaches p (state g stack)
+    → Member (frame q l r) stack →
     IsRestOf (body_of (slice_get p.routines q)) r
 frame_stands p g stack q l r (n, run) f =
-    member_stands p stack q l r (run_stands p n (state (zeros p.globals) (starting_stack p.routines 0)) (state g stack) (start_stands p 0) run) f
+    member_stands p stack q l r
+    (run_stands p n (state (zeros p.globals) (starting_stack p.routines 0)) (state g stack) (start_stands p 0) run) f

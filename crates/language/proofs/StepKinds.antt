@@ -30,22 +30,35 @@ kind_of_step p q v (one m (assign xs rs) t) fs s (vs, values, h) =
 kind_of_step p q v (one m (assert c) t) fs s (is, h) = inl (v, t, (is, refl), sym h)
 kind_of_step p q v (one m (assume c) t) fs s (is, h) = inl (v, t, (is, refl), sym h)
 kind_of_step p q v (one m (goto x) t) fs s h =
-    let (rest, e, same) = rest_found (rest_from x (body_of (slice_get p.routines q)) done) (λ z. state v.globals (frame q v.places z ∷ fs) ≡ s) h in
-    inl (v, rest, subst (λ o. AtRest o (λ z. state v.globals (frame q v.places z ∷ []) ≡ state v.globals (frame q v.places rest ∷ []))) (sym e) refl, sym same)
+    let (rest, e, same) =
+    rest_found (rest_from x (body_of (slice_get p.routines q)) done) (λ z. state v.globals (frame q v.places z ∷ fs) ≡ s) h in
+    inl (
+      v,
+      rest,
+      subst (λ o. AtRest o (λ z. state v.globals (frame q v.places z ∷ []) ≡ state v.globals (frame q v.places rest ∷ []))) (sym e) refl,
+      sym same,
+    )
 kind_of_step p q v (one m leave t) fs s h = inl (v, done, refl, sym h)
 kind_of_step p q v (one m (call n es) t) fs s h =
-    let (routine, e, same) = routine_found (slice_get p.routines n) (λ z. state v.globals (frame n (fresh z.places (values_of v.globals v.places es)) z.body ∷ frame q v.places t ∷ fs) ≡ s) h in
+    let (routine, e, same) =
+    routine_found (slice_get p.routines n)
+    (λ z. state v.globals (frame n (fresh z.places (values_of v.globals v.places es)) z.body ∷ frame q v.places t ∷ fs) ≡ s) h in
     let a : Valuation = record { globals = v.globals; places = fresh routine.places (values_of v.globals v.places es) } in
     inr (inr (
       n,
       a,
-      (refl, subst (λ o. AtRoutine o (λ z. a ≡ record { globals = v.globals; places = fresh z.places (values_of v.globals v.places es) })) (sym e) refl),
+      (
+        refl,
+        subst (λ o. AtRoutine o (λ z. a ≡ record { globals = v.globals; places = fresh z.places (values_of v.globals v.places es) }))
+            (sym e) refl,
+      ),
       subst (λ b. s ≡ state v.globals (frame n a.places b ∷ frame q v.places t ∷ fs)) (sym (ap body_of e)) (sym same),
     ))
 kind_of_step p q v (choose m c a b t) fs s (w, is, h) = inl (v, cond w (join a t) (join b t), (w, is, refl), sym h)
 kind_of_step p q v (loop m c a t) fs s (w, is, h) = inl (v, cond w (join a (loop m c a t)) t, (w, is, refl), sym h)
 
-entering_steps : (p : Program) (q : ℕ) (v : Valuation) (r : Code) (fs : List Frame) (s : State) (n : ℕ) (a : Valuation) → Calls p v.globals v.places r n a →
+entering_steps : (p : Program) (q : ℕ) (v : Valuation) (r : Code) (fs : List Frame) (s : State) (n : ℕ) (a : Valuation)
+    → Calls p v.globals v.places r n a →
     s ≡ state a.globals (frame n a.places (body_of (slice_get p.routines n)) ∷ frame q v.places (after_first r) ∷ fs) →
     Step p (state v.globals (frame q v.places r ∷ fs)) s
 entering_steps p q v done fs s n a h e = absurd h
@@ -63,7 +76,8 @@ entering_steps p q v (one m (call k es) t) fs s n a (same, h) e =
     with_places : Routine → Valuation
     with_places r = record { globals = v.globals; places = fresh r.places (values_of v.globals v.places es) }
 
-    entered : (o : Option Routine) → AtRoutine o (λ r. a ≡ with_places r) → s ≡ state a.globals (frame k a.places (body_of o) ∷ frame q v.places t ∷ fs) →
+    entered : (o : Option Routine) → AtRoutine o (λ r. a ≡ with_places r)
+        → s ≡ state a.globals (frame k a.places (body_of o) ∷ frame q v.places t ∷ fs) →
         AtRoutine o (λ r. state v.globals (frame k (fresh r.places (values_of v.globals v.places es)) r.body ∷ frame q v.places t ∷ fs) ≡ s)
     entered None h e = h
     entered (Some r) h e = sym (subst (λ (z : Valuation). s ≡ state z.globals (frame k z.places r.body ∷ frame q v.places t ∷ fs)) h e)
@@ -79,5 +93,6 @@ step_of_kind p q v r fs s (inr (inl (e, same))) =
 step_of_kind p q v r fs s (inr (inr (n, a, calls, same))) = entering_steps p q v r fs s n a calls same
 
 pub step_kinds : (p : Program) (q : ℕ) (v : Valuation) (r : Code) (callers : List Frame) (s : State) →
-    Step p (state v.globals (frame q v.places r ∷ callers)) s ↔ (FlowsTo p q v r callers s ⊎ (ReturnsTo v r callers s ⊎ EntersTo p q v r callers s))
+    Step p (state v.globals (frame q v.places r ∷ callers)) s ↔
+    (FlowsTo p q v r callers s ⊎ (ReturnsTo v r callers s ⊎ EntersTo p q v r callers s))
 step_kinds p q v r callers s = (kind_of_step p q v r callers s, step_of_kind p q v r callers s)

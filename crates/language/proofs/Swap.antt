@@ -7,7 +7,8 @@ use Rattle.language.specs.Step.{Frame, frame, State, state}
 
 pub swapped : (a b : Bool) (l : List Bool) (c : ℕ) (t : Code) (fs : List Frame) (u : State) (vs : List Bool) →
     AreValues (a ∷ b ∷ []) l (value (var (global 1)) ∷ value (var (global 0)) ∷ []) vs →
-    state (written_globals (global 0 ∷ global 1 ∷ []) vs (a ∷ b ∷ [])) (frame c (written_locals (global 0 ∷ global 1 ∷ []) vs l) t ∷ fs) ≡ u →
+    state (written_globals (global 0 ∷ global 1 ∷ []) vs (a ∷ b ∷ [])) (frame c (written_locals (global 0 ∷ global 1 ∷ []) vs l) t ∷ fs)
+    ≡ u →
     state (b ∷ a ∷ []) (frame c l t ∷ fs) ≡ u
 swapped a b l c t fs u [] are e = absurd are
 swapped a b l c t fs u (v ∷ []) are e = absurd are.1

@@ -1,5 +1,6 @@
 -- The widths of valuations: as many values as globals and as places.
-use Rattle.std.proofs.Common.{◌≡◌, ◌⊎◌, ℕ, zero, suc, ◌≤◌, List, [], ◌∷◌, Bool, inl, inr, refl, sym, ◌∙◌, ap, subst, arith, length, slice_get}
+use Rattle.std.proofs.Common.{◌≡◌, ◌⊎◌, ℕ, zero, suc, ◌≤◌, List, [], ◌∷◌, Bool, inl, inr, refl, sym, ◌∙◌, ap, subst, arith, length}
+use Rattle.std.proofs.Common.{slice_get}
 use Rattle.language.specs.Tree.{skip, assign, assert, assume, goto, leave, call, done, one, choose, loop}
 use Rattle.language.specs.Value.{values_of}
 use Rattle.language.specs.Rest.{Code, rest_from}
@@ -44,7 +45,9 @@ flow_widths p q v v' (one m (assign xs rs) t) r' (vs, values, h) =
 flow_widths p q v v' (one m (assert c) t) r' (is, h) = same_wide _ _ h
 flow_widths p q v v' (one m (assume c) t) r' (is, h) = same_wide _ _ h
 flow_widths p q v v' (one m (goto x) t) r' h =
-    let (rest, e, same) = rest_found (rest_from x (body_of (slice_get p.routines q)) done) (λ z. state v.globals (frame q v.places z ∷ []) ≡ state v'.globals (frame q v'.places r' ∷ [])) h in
+    let (rest, e, same) =
+    rest_found (rest_from x (body_of (slice_get p.routines q)) done)
+    (λ z. state v.globals (frame q v.places z ∷ []) ≡ state v'.globals (frame q v'.places r' ∷ [])) h in
     same_wide _ _ same
 flow_widths p q v v' (one m leave t) r' h = same_wide _ _ h
 flow_widths p q v v' (one m (call n es) t) r' h = absurd (no_flow_from_call p q n v v' m es t r' h)
@@ -55,7 +58,8 @@ flow_widths p q v v' (loop m c a t) r' (w, is, h) = same_wide _ _ h
 entered_breadth : (p : Program) (g l : List Bool) (r : Code) (s : ℕ) (e : Valuation) → Calls p g l r s e → length g ≡ length e.globals
 entered_breadth p g l r s e calls =
     let (m, es, t, same, h) = call_shape p g l r s e calls in
-    let (routine, is, at) = routine_found (slice_get p.routines s) (λ z. e ≡ record { globals = g; places = fresh z.places (values_of g l es) }) h in
+    let (routine, is, at) =
+    routine_found (slice_get p.routines s) (λ z. e ≡ record { globals = g; places = fresh z.places (values_of g l es) }) h in
     sym (ap (λ (z : Valuation). length z.globals) at)
 
 step_breadth : (p : Program) (s t : State) → Step p s t → breadth s ≡ breadth t
@@ -79,7 +83,8 @@ steps_breadth p (suc n) s t run =
 asked_valuation : (p : Program) → ArgumentsFit p → (c q : ℕ) (a : Valuation) → Asks p c q a → IsValuationOf p q a
 asked_valuation p fit c q a (g, l, r, fs, (n, run), calls) =
     let (m, es, t, same, h) = call_shape p g l r q a calls in
-    let (routine, is, at) = routine_found (slice_get p.routines q) (λ z. a ≡ record { globals = g; places = fresh z.places (values_of g l es) }) h in
+    let (routine, is, at) =
+    routine_found (slice_get p.routines q) (λ z. a ≡ record { globals = g; places = fresh z.places (values_of g l es) }) h in
     let rest = subst (IsRestOf (body_of (slice_get p.routines c))) same (frame_stands p g (frame c l r ∷ fs) c l r (n, run) (inl refl)) in
     let few : length es ≤ routine.places = subst (λ o. AtRoutine o (λ z. length es ≤ z.places)) is (fit c q m es t rest) in
     let count : length (values_of g l es) ≡ length es = length_values g l es in
@@ -91,9 +96,11 @@ asked_valuation p fit c q a (g, l, r, fs, (n, run), calls) =
 
 zero_valuation : (p : Program) (a : Valuation) → IsZero p a → IsValuationOf p 0 a
 zero_valuation p a begins =
-    let (routine, is, at) = routine_found (slice_get p.routines 0) (λ z. a ≡ record { globals = zeros p.globals; places = zeros z.places }) begins in (
+    let (routine, is, at) =
+    routine_found (slice_get p.routines 0) (λ z. a ≡ record { globals = zeros p.globals; places = zeros z.places }) begins in (
       ap (λ (z : Valuation). length z.globals) at ∙ length_zeros p.globals,
-      subst (λ o. AtRoutine o (λ z. length a.places ≡ z.places)) (sym is) (ap (λ (z : Valuation). length z.places) at ∙ length_zeros routine.places),
+      subst (λ o. AtRoutine o (λ z. length a.places ≡ z.places)) (sym is)
+          (ap (λ (z : Valuation). length z.places) at ∙ length_zeros routine.places),
     )
 
 entered_valuation : (p : Program) → ArgumentsFit p → (q : ℕ) (a : Valuation) → Entered p q a → IsValuationOf p q a
@@ -113,7 +120,8 @@ same_valuation p q v w (globals, places) (g, l) =
     (sym globals ∙ g, subst (λ n. AtRoutine (slice_get p.routines q) (λ z. n ≡ z.places)) places l)
 
 -- by messages of the right widths, what is reached has them
-pub reached_valuation : (p : Program) (q : ℕ) (M : Message → Type 0) → ((m : Message) → M m → IsMessageTo p q m) → (a v : Valuation) (r : Code) →
+pub reached_valuation : (p : Program) (q : ℕ) (M : Message → Type 0) → ((m : Message) → M m → IsMessageTo p q m)
+    → (a v : Valuation) (r : Code) →
     Reached p q M a v r → IsValuationOf p q v
 reached_valuation p q M right _ _ _ (starts from a is) = right (entry from a) is
 reached_valuation p q M right _ _ _ (flows a v v' r r' reached flow) =

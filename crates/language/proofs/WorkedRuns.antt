@@ -9,13 +9,15 @@ use Rattle.language.specs.Examples.{bare, setting, once, run_once, run_twice, pa
 use Rattle.language.proofs.OneThread.{Somewhere, never_unsafe}
 
 -- the one value that is written is that of the expression
-pub one_value : (g l : List Bool) (e : Bool) (P : List Bool → Type 0) (vs : List Bool) → AreValues g l (value (const e) ∷ []) vs → P vs → P (e ∷ [])
+pub one_value : (g l : List Bool) (e : Bool) (P : List Bool → Type 0) (vs : List Bool) → AreValues g l (value (const e) ∷ []) vs → P vs
+    → P (e ∷ [])
 one_value g l e P [] are f = absurd are
 one_value g l e P (v ∷ []) are f = subst (λ x. P (x ∷ [])) are.0 f
 one_value g l e P (v ∷ w ∷ vs) are f = absurd are.1
 
 -- the same of a place of the frame
-one_local : (g : List Bool) (b : Bool) (P : List Bool → Type 0) (vs : List Bool) → AreValues g (b ∷ []) (value (var (local 0)) ∷ []) vs → P vs → P (b ∷ [])
+one_local : (g : List Bool) (b : Bool) (P : List Bool → Type 0) (vs : List Bool) → AreValues g (b ∷ []) (value (var (local 0)) ∷ []) vs
+    → P vs → P (b ∷ [])
 one_local g b P [] are f = absurd are
 one_local g b P (v ∷ []) are f = subst (λ x. P (x ∷ [])) are.0 f
 one_local g b P (v ∷ w ∷ vs) are f = absurd are.1
@@ -27,10 +29,17 @@ data Once : List Bool → List Frame → Type 0 where
   at_end : Once (true ∷ []) (frame 0 [] done ∷ [])
   gone : Once (true ∷ []) []
 
-once_step : (g : List Bool) (stack : List Frame) → Once g stack → (P : State → Type 0) → StepsTo run_once (state g stack) P → Somewhere Once P
+once_step : (g : List Bool) (stack : List Frame) → Once g stack → (P : State → Type 0) → StepsTo run_once (state g stack) P
+    → Somewhere Once P
 once_step _ _ at_check P f = (_, _, at_write, f.1)
-once_step _ _ at_write P (vs, are, f) =
-    (_, _, at_end, one_value (false ∷ []) [] true (λ ws. P (state (written_globals (global 0 ∷ []) ws (false ∷ [])) (frame 0 (written_locals (global 0 ∷ []) ws []) done ∷ []))) vs are f)
+once_step _ _ at_write P (vs, are, f) = (
+  _,
+  _,
+  at_end,
+  one_value (false ∷ []) [] true
+      (λ ws. P (state (written_globals (global 0 ∷ []) ws (false ∷ [])) (frame 0 (written_locals (global 0 ∷ []) ws []) done ∷ []))) vs
+      are f,
+)
 once_step _ _ at_end P f = (_, _, gone, f)
 once_step _ _ gone P f = absurd f
 
@@ -81,12 +90,17 @@ data Passing : List Bool → List Frame → Type 0 where
   left : Passing (false ∷ []) []
 
 -- the call writes the value that it was passed
-written : (b v : Bool) (below : List Frame) (P : State → Type 0) (vs : List Bool) → AreValues (b ∷ []) (v ∷ []) (value (var (local 0)) ∷ []) vs →
-    P (state (written_globals (global 0 ∷ []) vs (b ∷ [])) (frame 0 (written_locals (global 0 ∷ []) vs (v ∷ [])) done ∷ below)) → P (state (v ∷ []) (frame 0 (v ∷ []) done ∷ below))
+written : (b v : Bool) (below : List Frame) (P : State → Type 0) (vs : List Bool)
+    → AreValues (b ∷ []) (v ∷ []) (value (var (local 0)) ∷ []) vs →
+    P (state (written_globals (global 0 ∷ []) vs (b ∷ [])) (frame 0 (written_locals (global 0 ∷ []) vs (v ∷ [])) done ∷ below))
+    → P (state (v ∷ []) (frame 0 (v ∷ []) done ∷ below))
 written b v below P vs are f =
-    one_local (b ∷ []) v (λ ws. P (state (written_globals (global 0 ∷ []) ws (b ∷ [])) (frame 0 (written_locals (global 0 ∷ []) ws (v ∷ [])) done ∷ below))) vs are f
+    one_local (b ∷ []) v
+    (λ ws. P (state (written_globals (global 0 ∷ []) ws (b ∷ [])) (frame 0 (written_locals (global 0 ∷ []) ws (v ∷ [])) done ∷ below)))
+    vs are f
 
-passing_step : (g : List Bool) (stack : List Frame) → Passing g stack → (P : State → Type 0) → StepsTo passed_values (state g stack) P → Somewhere Passing P
+passing_step : (g : List Bool) (stack : List Frame) → Passing g stack → (P : State → Type 0) → StepsTo passed_values (state g stack) P
+    → Somewhere Passing P
 passing_step _ _ first_asked P f = (_, _, first_entered, f)
 passing_step _ _ first_entered P (vs, are, f) = (_, _, first_written, written false true (frame 1 [] last_call ∷ []) P vs are f)
 passing_step _ _ first_written P f = (_, _, second_asked, f)

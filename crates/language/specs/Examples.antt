@@ -69,12 +69,15 @@ passed_values = record {
   globals = 1;
   routines =
       record { places = 1; body = one bare (assign (global 0 ∷ []) (value (var (local 0)) ∷ [])) done }
-      ∷ routine (one bare (call 0 (const true ∷ [])) (one bare (call 0 (const false ∷ [])) (one bare (assert (value (negation (var (global 0))))) done)))
+      ∷ routine
+      (one bare (call 0 (const true ∷ []))
+      (one bare (call 0 (const false ∷ [])) (one bare (assert (value (negation (var (global 0))))) done)))
       ∷ [];
   threads = 1 ∷ [];
 }
 
--- decl x,y,z; a() begin assume(x); y:=1; assume(z); assert(0); end b() begin x:=1; assume(y); z:=1; end thread a; thread b;
+-- decl x,y,z; a() begin assume(x); y:=1; assume(z); assert(0); end b() begin x:=1; assume(y); z:=1; end thread a;
+-- thread b;
 abbrev pub handshake : Program
 handshake = record {
   globals = 3;

@@ -1,7 +1,8 @@
 -- What the names of a text stand for. A name is the local or formal of its procedure where there is one,
 -- else the global; of two procedures of one name it is the first.
 use Rattle.std.specs.Prelude.{ℕ, zero, suc, ◌+◌, List, [], ◌∷◌, ◌++◌, Option, Some, None, length, map, cond}
-use Rattle.language.specs.Tree.{Name, Expression, const, var, negation, two, RightSide, any, value, Simple, skip, assign, assert, assume, goto, leave, call, Mark, Block, done, one, choose, loop, Procedure, ThreadLine, Tree}
+use Rattle.language.specs.Tree.{Name, Expression, const, var, negation, two, RightSide, any, value, Simple, skip, assign, assert, assume}
+use Rattle.language.specs.Tree.{goto, leave, call, Mark, Block, done, one, choose, loop, Procedure, ThreadLine, Tree}
 use Rattle.language.specs.Value.{Place, global, local}
 use Rattle.language.specs.Rest.{Label, Code, same_text}
 use Rattle.language.specs.Step.{Routine, Program}

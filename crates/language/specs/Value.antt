@@ -1,6 +1,7 @@
 -- What expressions and right sides are worth (Ball and Rajamani 2000: variables of truth values).
 use Rattle.std.specs.Prelude.{◌≡◌, ℕ, slice_index_or, slice_set, Bool, false, List, [], ◌∷◌, not, ◌&&◌, ◌||◌, cond}
-use Rattle.language.specs.Tree.{Operator, implies, or, xor, and, equal, differs, Expression, const, var, negation, two, RightSide, any, value}
+use Rattle.language.specs.Tree.{Operator, implies, or, xor, and, equal, differs, Expression, const, var, negation, two, RightSide, any}
+use Rattle.language.specs.Tree.{value}
 
 -- where a variable's value is kept: a global by its number, or a place of the frame, which has the
 -- formals, then the locals, then the temporaries

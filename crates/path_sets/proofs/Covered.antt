@@ -35,7 +35,8 @@ module _ (ns ms : List Quad) (rs ss : List (Row × ℕ)) (masks : Groups) where
 -- the same diagrams
 pub covers_same : (ns ms : List Quad) (rs ss : List (Row × ℕ)) (masks : Groups) → ms ≡ ns → ss ≡ rs → Covers ns rs masks
     → Covers ms ss masks
-covers_same ns ms rs ss masks nodes rows covers = subst (λ n. Covers n ss masks) (sym nodes) (subst (λ r. Covers ns r masks) (sym rows) covers)
+covers_same ns ms rs ss masks nodes rows covers =
+    subst (λ n. Covers n ss masks) (sym nodes) (subst (λ r. Covers ns r masks) (sym rows) covers)
 
 -- a key of places and one more
 one_more_key : (gs : Groups) (p q : Place) (w : ℕ) → Member q (keys_of (gs ++ (p, w) ∷ [])) → Member q (keys_of gs) ⊎ (q ≡ p)
@@ -44,7 +45,8 @@ one_more_key [] p q w (inr later) = elim later [ ]
 one_more_key (g ∷ gs) p q w (inl is) = inl (inl is)
 one_more_key (g ∷ gs) p q w (inr later) = elim (one_more_key gs p q w later) [ inl old ↦ inl (inr old) | inr is ↦ inr is ]
 
-module _ (ns : List Quad) (rs : List (Row × ℕ)) (p : Place) (bit : ℕ) (small : bit < 64) (old new : Groups) (covers : Covers ns rs old) where
+module _ (ns : List Quad) (rs : List (Row × ℕ)) (p : Place) (bit : ℕ) (small : bit < 64) (old new : Groups)
+    (covers : Covers ns rs old) where
   abbrev x : Triple
   x = edge_at p bit
 

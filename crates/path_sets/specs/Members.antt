@@ -51,7 +51,8 @@ Covers nodes rows masks =
     (p : Place) (bit : ℕ) → bit < 64 → Member p (keys_of masks) → merged_has nodes rows (edge_at p bit) ≡ true
     → is_gathered masks (edge_at p bit) ≡ true
 
--- The path edge was not there, and it and what was there is; or it was there, and what is gathered is the same. The answer says
+-- The path edge was not there, and it and what was there is; or it was there, and what is gathered is the same. The
+-- answer says
 -- which.
 abbrev pub Puts : List Quad → List (Row × ℕ) → Triple → List (Place × ℕ) → List (Place × ℕ) → Bool → Type 0
 Puts nodes rows x old new true =

@@ -13,7 +13,8 @@ abbrev pub turn : Quad → ℕ → ℕ
 turn x v =
     cond (nat_eq (v % 4) 0) x.none (cond (nat_eq (v % 4) 1) x.first (cond (nat_eq (v % 4) 2) x.second x.both))
 
--- the points that a valuation comes to from a number, in less than so many steps: those of the node where nothing of it is left
+-- the points that a valuation comes to from a number, in less than so many steps: those of the node where nothing of it
+-- is left
 unfoldable pub walk_to : List Quad → ℕ → ℕ → ℕ → ℕ
 walk_to quads zero n v = 0
 walk_to quads (suc most) n v =

@@ -1,4 +1,5 @@
--- The inner nodes of the reduced ordered diagram of a set of valuations, by the set alone (Bryant 1986). A prefix gives the bits of a
+-- The inner nodes of the reduced ordered diagram of a set of valuations, by the set alone (Bryant 1986). A prefix gives
+-- the bits of a
 -- valuation below a level, bit 0 first, and a suffix those from the level on.
 use Rattle.std.specs.Prelude.{◌≡◌, ℕ, ◌+◌, ◌*◌, ◌^◌, ◌<◌, ◌↔◌, List, [], ◌∷◌, length}
 use Rattle.language.specs.Lists.{Member}
@@ -16,7 +17,8 @@ prefix level bits = record { level = level; bits = bits }
 abbrev pub SameSuffixes : (ℕ → Type 0) → ℕ → ℕ → ℕ → Type 0
 SameSuffixes S level p q = (u : ℕ) → S (p + u * 2 ^ level) ↔ S (q + u * 2 ^ level)
 
--- which suffixes the set has after a prefix depends on the bit of the level: after a 0 there they are not those after a 1
+-- which suffixes the set has after a prefix depends on the bit of the level: after a 0 there they are not those after a
+-- 1
 abbrev pub Depends : (ℕ → Type 0) → ℕ → ℕ → Type 0
 Depends S level p = SameSuffixes S (level + 1) p (p + 2 ^ level) → ⊥
 
@@ -32,7 +34,8 @@ pub record AreNodes (width : ℕ) (S : ℕ → Type 0) (prefixes : List Prefix) 
       → (q : ℕ) × Member (prefix level q) prefixes × SameSuffixes S level p q
   pub apart : Apart S prefixes
 
--- The diagram of a set of valuations of so many bits has so many inner nodes: one for each level and each set of suffixes that
+-- The diagram of a set of valuations of so many bits has so many inner nodes: one for each level and each set of
+-- suffixes that
 -- depends on the bit of the level.
 pub record HasNodes (width : ℕ) (S : ℕ → Type 0) (count : ℕ) : Type 0 where
   pub prefixes : List Prefix

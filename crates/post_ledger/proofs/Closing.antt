@@ -1,5 +1,6 @@
 -- What a legal history with as many Posts as Takes as Dones says of its messages.
-use Rattle.std.proofs.Common.{◌≡◌, ◌∙◌, ℕ, zero, suc, ◌<◌, ◌≤◌, Bool, true, false, List, [], ◌∷◌, ◌++◌, length, take, Contains, nat_eq, refl, sym, ap, subst, arith}
+use Rattle.std.proofs.Common.{◌≡◌, ◌∙◌, ℕ, zero, suc, ◌<◌, ◌≤◌, Bool, true, false, List, [], ◌∷◌, ◌++◌, length, take, Contains, nat_eq}
+use Rattle.std.proofs.Common.{refl, sym, ap, subst, arith}
 use Rattle.std.proofs.lemmas.List.{append-nil, length_push, take-append-le}
 use Rattle.std.proofs.Math.Seq.{take-length}
 use Rattle.std.specs.List.{IsDistinct, list_any}
@@ -23,13 +24,16 @@ module _ {M : Type 0} where
   in_order_push : (h : List (Event M)) (e : Event M) → Sizes h → InOrder h → MayFollow h e → InOrder (h ++ e ∷ [])
   in_order_push h (Post s m) z same may =
       let t : takes (h ++ Post s m ∷ []) ≡ takes h = takes-append h (Post s m ∷ []) ∙ append-nil (takes h) in
-      t ∙ same ∙ sym (take-append-le (length (takes h)) (posts h) ((s, m) ∷ []) z.fewer) ∙ ap (take (length (takes h))) (sym (posts-append h (Post s m ∷ []))) ∙ ap (λ l. take (length l) (posts (h ++ Post s m ∷ []))) (sym t)
+      t ∙ same ∙ sym (take-append-le (length (takes h)) (posts h) ((s, m) ∷ []) z.fewer)
+      ∙ ap (take (length (takes h))) (sym (posts-append h (Post s m ∷ [])))
+      ∙ ap (λ l. take (length l) (posts (h ++ Post s m ∷ []))) (sym t)
   in_order_push h (Take s m) z same may =
       let t : takes (h ++ Take s m ∷ []) ≡ takes h ++ (s, m) ∷ [] = takes-append h (Take s m ∷ []) in
       let p : posts (h ++ Take s m ∷ []) ≡ posts h = posts-append h (Take s m ∷ []) ∙ append-nil (posts h) in
       let more = (split_at_element (posts h) (length (takes h)) (s, m) may).2 in
       let n : length (takes (h ++ Take s m ∷ [])) ≡ suc (length (takes h)) = ap length t ∙ omega (arith, length_push (takes h) (s, m)) in
-      t ∙ ap (λ l. l ++ (s, m) ∷ []) same ∙ sym more ∙ ap (λ k. take k (posts h)) (sym n) ∙ ap (take (length (takes (h ++ Take s m ∷ [])))) (sym p)
+      t ∙ ap (λ l. l ++ (s, m) ∷ []) same ∙ sym more ∙ ap (λ k. take k (posts h)) (sym n)
+      ∙ ap (take (length (takes (h ++ Take s m ∷ [])))) (sym p)
   in_order_push h (Done q) z same may =
       let t : takes (h ++ Done q ∷ []) ≡ takes h = takes-append h (Done q ∷ []) ∙ append-nil (takes h) in
       let p : posts (h ++ Done q ∷ []) ≡ posts h = posts-append h (Done q ∷ []) ∙ append-nil (posts h) in
@@ -40,7 +44,8 @@ module _ {M : Type 0} where
   in_order_to h legal (suc n) le =
       let at = element_at h n (omega arith) in
       let parts = split_at_element h n at.0 at.1 in
-      subst InOrder (sym parts.2) (in_order_push (take n h) at.0 (sizes_to h legal n (omega arith)) (in_order_to h legal n (omega arith)) (legal n at.0 at.1))
+      subst InOrder (sym parts.2)
+      (in_order_push (take n h) at.0 (sizes_to h legal n (omega arith)) (in_order_to h legal n (omega arith)) (legal n at.0 at.1))
 
   pub in_order : (h : List (Event M)) → IsLegal h → takes h ≡ take (length (takes h)) (posts h)
   in_order h legal = subst InOrder (take-length h) (in_order_to h legal (length h) (omega arith))
@@ -51,7 +56,8 @@ module _ {M : Type 0} where
   pub each_taken : (h : List (Event M)) (s : ℕ) → IsLegal h → IsCompleted h → taken s h ≡ sent s h
   each_taken h s legal completed = ap (messages_of s) (all_taken h legal completed)
 
-  found_or_not : (h : List (Event M)) (t : ℕ) (found : Bool) → list_any (nat_eq t) (dones h) ≡ found → Sizes h → IsCompleted h → t < length (takes h) → Contains (dones h) t
+  found_or_not : (h : List (Event M)) (t : ℕ) (found : Bool) → list_any (nat_eq t) (dones h) ≡ found → Sizes h → IsCompleted h
+      → t < length (takes h) → Contains (dones h) t
   found_or_not h t true is z completed old = Contains-from_any eqb-true t (dones h) is
   found_or_not h t false is z completed old =
       let fewer = dones_fewer h t z old (λ there. false≢true (sym is ∙ list_any-from_Contains nat_eq_equiv t (dones h) there)) in
@@ -64,5 +70,6 @@ module _ {M : Type 0} where
   pub done_once : (h : List (Event M)) → IsLegal h → IsDistinct nat_eq (dones h)
   done_once h legal = (sizes_of h legal).once
 
-  pub board_taken : (boxes : ℕ) (order : List (Entry M)) (q s : ℕ) → IsLawful boxes order → IsClosed order → taken s (part q order) ≡ sent s (part q order)
+  pub board_taken : (boxes : ℕ) (order : List (Entry M)) (q s : ℕ) → IsLawful boxes order → IsClosed order
+      → taken s (part q order) ≡ sent s (part q order)
   board_taken boxes order q s law closed = each_taken (part q order) s (law.legal q) (closed q)

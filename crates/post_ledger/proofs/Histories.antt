@@ -1,5 +1,6 @@
 -- How a history grows by one event.
-use Rattle.std.proofs.Common.{◌≡◌, ℕ, zero, suc, ◌+◌, ◌<◌, ◌≤◌, List, [], ◌∷◌, ◌++◌, ◌⊎◌, Some, length, take, slice_get, refl, sym, ◌∙◌, ap, subst, inl, inr, arith, add-one, length-append}
+use Rattle.std.proofs.Common.{◌≡◌, ℕ, zero, suc, ◌+◌, ◌<◌, ◌≤◌, List, [], ◌∷◌, ◌++◌, ◌⊎◌, Some, length, take, slice_get, refl, sym, ◌∙◌, ap}
+use Rattle.std.proofs.Common.{subst, inl, inr, arith, add-one, length-append}
 use Rattle.std.proofs.lemmas.Bool.{cases_eq}
 use Rattle.std.proofs.lemmas.List.{append-nil, take-append-le, take_at, length-take}
 use Rattle.std.proofs.lemmas.Option.{slice_get_within, same_Some}
@@ -26,7 +27,8 @@ dones-append (Take s m ∷ a) b = dones-append a b
 dones-append (Done t ∷ a) b = ap (λ l. t ∷ l) (dones-append a b)
 
 -- an element of a list with one more at its end is one of the list, or the last
-pub at_push_cases : {X : Type 0} (xs : List X) (y x : X) (i : ℕ) → slice_get (xs ++ y ∷ []) i ≡ Some x → (slice_get xs i ≡ Some x) ⊎ ((i ≡ length xs) × (y ≡ x))
+pub at_push_cases : {X : Type 0} (xs : List X) (y x : X) (i : ℕ) → slice_get (xs ++ y ∷ []) i ≡ Some x
+    → (slice_get xs i ≡ Some x) ⊎ ((i ≡ length xs) × (y ≡ x))
 at_push_cases [] y x zero e = inr (refl, cc)
 at_push_cases [] y x (suc i) e = cc
 at_push_cases (z ∷ xs) y x zero e = inl e
@@ -44,7 +46,8 @@ legal_push h e legal follows i x at =
     ]
 
 -- a list about one of its elements
-pub split_at_element : {X : Type 0} (xs : List X) (i : ℕ) (x : X) → slice_get xs i ≡ Some x → (ys : List X) × (xs ≡ take i xs ++ x ∷ ys) × (take (suc i) xs ≡ take i xs ++ x ∷ [])
+pub split_at_element : {X : Type 0} (xs : List X) (i : ℕ) (x : X) → slice_get xs i ≡ Some x
+    → (ys : List X) × (xs ≡ take i xs ++ x ∷ ys) × (take (suc i) xs ≡ take i xs ++ x ∷ [])
 split_at_element [] i x e = cc
 split_at_element (y ∷ xs) zero x e = (xs, cc, cc)
 split_at_element (y ∷ xs) (suc i) x e =
@@ -60,17 +63,20 @@ pub at_seam : {X : Type 0} (xs : List X) (x : X) (ys : List X) (n : ℕ) → len
 at_seam xs x ys n e = subst (λ k. slice_get (xs ++ x ∷ ys) k ≡ Some x) e (seam xs x ys)
 
 -- the Post at a place is the one of the number of the Posts before it
-pub post_at : {M : Type 0} (h : List (Event M)) (i : ℕ) (s : ℕ) (m : M) (n : ℕ) → slice_get h i ≡ Some (Post s m) → length (posts (take i h)) ≡ n → slice_get (posts h) n ≡ Some (s, m)
+pub post_at : {M : Type 0} (h : List (Event M)) (i : ℕ) (s : ℕ) (m : M) (n : ℕ) → slice_get h i ≡ Some (Post s m)
+    → length (posts (take i h)) ≡ n → slice_get (posts h) n ≡ Some (s, m)
 post_at h i s m n at many =
     let parts = split_at_element h i (Post s m) at in
     let whole : posts h ≡ posts (take i h) ++ (s, m) ∷ posts parts.0 = ap posts parts.1 ∙ posts-append (take i h) (Post s m ∷ parts.0) in
     subst (λ l. slice_get l n ≡ Some (s, m)) (sym whole) (at_seam (posts (take i h)) (s, m) (posts parts.0) n many)
 
 -- an event that is no Post adds none
-pub posts_skip : {M : Type 0} (h : List (Event M)) (i : ℕ) (e : Event M) → slice_get h i ≡ Some e → posts (e ∷ []) ≡ [] → posts (take (i + 1) h) ≡ posts (take i h)
+pub posts_skip : {M : Type 0} (h : List (Event M)) (i : ℕ) (e : Event M) → slice_get h i ≡ Some e → posts (e ∷ []) ≡ []
+    → posts (take (i + 1) h) ≡ posts (take i h)
 posts_skip h i e at none =
     let parts = split_at_element h i e at in
-    ap (λ k. posts (take k h)) (add-one i) ∙ ap posts parts.2 ∙ posts-append (take i h) (e ∷ []) ∙ ap (λ l. posts (take i h) ++ l) none ∙ append-nil (posts (take i h))
+    ap (λ k. posts (take k h)) (add-one i) ∙ ap posts parts.2 ∙ posts-append (take i h) (e ∷ []) ∙ ap (λ l. posts (take i h) ++ l) none
+    ∙ append-nil (posts (take i h))
 
 -- there are no more Takes than events
 pub takes_few : {M : Type 0} (h : List (Event M)) → length (takes h) ≤ length h
@@ -80,17 +86,21 @@ takes_few (Take s m ∷ h) = omega (arith, takes_few h)
 takes_few (Done t ∷ h) = omega (arith, takes_few h)
 
 -- one event further there are its Takes more
-pub takes_more : {M : Type 0} (h : List (Event M)) (i : ℕ) (e : Event M) → slice_get h i ≡ Some e → length (takes (take (i + 1) h)) ≡ length (takes (take i h)) + length (takes (e ∷ []))
+pub takes_more : {M : Type 0} (h : List (Event M)) (i : ℕ) (e : Event M) → slice_get h i ≡ Some e
+    → length (takes (take (i + 1) h)) ≡ length (takes (take i h)) + length (takes (e ∷ []))
 takes_more h i e at =
     let parts = split_at_element h i e at in
-    ap (λ k. length (takes (take k h))) (add-one i) ∙ ap (λ l. length (takes l)) parts.2 ∙ ap length (takes-append (take i h) (e ∷ [])) ∙ length-append (takes (take i h)) (takes (e ∷ []))
+    ap (λ k. length (takes (take k h))) (add-one i) ∙ ap (λ l. length (takes l)) parts.2 ∙ ap length (takes-append (take i h) (e ∷ []))
+    ∙ length-append (takes (take i h)) (takes (e ∷ []))
 
 -- the Takes so far are no more than the events so far
 pub takes_so_far : {M : Type 0} (h : List (Event M)) (i : ℕ) → length (takes (take i h)) ≤ i
 takes_so_far h i = omega (arith, takes_few (take i h), length-take i h)
 
 -- what may follow at each place up to i, and at i, may follow at each place up to i + 1
-pub each_more : {M : Type 0} (h : List (Event M)) (i : ℕ) (e : Event M) → slice_get h i ≡ Some e → MayFollow (take i h) e → ((j : ℕ) (x : Event M) → j < i → slice_get h j ≡ Some x → MayFollow (take j h) x) → (j : ℕ) (x : Event M) → j < i + 1 → slice_get h j ≡ Some x → MayFollow (take j h) x
+pub each_more : {M : Type 0} (h : List (Event M)) (i : ℕ) (e : Event M) → slice_get h i ≡ Some e → MayFollow (take i h) e
+    → ((j : ℕ) (x : Event M) → j < i → slice_get h j ≡ Some x → MayFollow (take j h) x) → (j : ℕ) (x : Event M) → j < i + 1
+    → slice_get h j ≡ Some x → MayFollow (take j h) x
 each_more h i e at here below j x short there =
     elim (cases_eq j i) [
       | inl same ↦

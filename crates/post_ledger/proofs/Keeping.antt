@@ -1,5 +1,6 @@
 -- What each call of a mailbox keeps.
-use Rattle.std.proofs.Common.{◌≡◌, ℕ, ◌+◌, ◌<◌, ◌≤◌, List, [], ◌∷◌, ◌++◌, Some, true, false, length, take, slice_get, Contains, refl, sym, ◌∙◌, ap, subst, arith, add-one, ◌-◌, ◌⊎◌, inl, inr, nat_eq}
+use Rattle.std.proofs.Common.{◌≡◌, ℕ, ◌+◌, ◌<◌, ◌≤◌, List, [], ◌∷◌, ◌++◌, Some, true, false, length, take, slice_get, Contains, refl, sym}
+use Rattle.std.proofs.Common.{◌∙◌, ap, subst, arith, add-one, ◌-◌, ◌⊎◌, inl, inr, nat_eq}
 use Rattle.std.proofs.lemmas.List.{append-nil, length_push, take-append-le}
 use Rattle.std.proofs.lemmas.Option.{slice_get_within}
 use Rattle.std.specs.List.{IsDistinct, list_any}
@@ -50,10 +51,12 @@ takes_done : {M : Type 0} (h : List (Event M)) (t : ℕ) → takes (h ++ Done t 
 takes_done h t = takes-append h (Done t ∷ []) ∙ append-nil (takes h)
 
 -- a Post, where the room was reserved
-pub counts_post : {M : Type 0} (h : List (Event M)) (cap cap' n u t o s : ℕ) (m : M) → Counts h cap n u t o → length h + (u + u + o + 3) ≤ cap' → Counts (h ++ Post s m ∷ []) cap' n (u + 1) t o
+pub counts_post : {M : Type 0} (h : List (Event M)) (cap cap' n u t o s : ℕ) (m : M) → Counts h cap n u t o
+    → length h + (u + u + o + 3) ≤ cap' → Counts (h ++ Post s m ∷ []) cap' n (u + 1) t o
 counts_post h cap cap' n u t o s m kept room =
     let long : length (h ++ Post s m ∷ []) ≡ length h + 1 = length_push h (Post s m) in
-    let more : length (posts (h ++ Post s m ∷ [])) ≡ length (posts h) + 1 = ap length (posts-append h (Post s m ∷ [])) ∙ length_push (posts h) (s, m) in
+    let more : length (posts (h ++ Post s m ∷ [])) ≡ length (posts h) + 1 = ap length (posts-append h (Post s m ∷ []))
+    ∙ length_push (posts h) (s, m) in
     record {
       legal = legal_push h (Post s m) kept.legal tt;
       all_taken = ap length (takes_post h s m) ∙ kept.all_taken;
@@ -67,16 +70,20 @@ counts_post h cap cap' n u t o s m kept room =
     }
 
 -- the Take of the oldest Post, which stands at a place behind which none was taken
-pub counts_take : {M : Type 0} (h : List (Event M)) (cap n u t o at s : ℕ) (m : M) → Counts h cap n u t o → 0 < u → slice_get h at ≡ Some (Post s m) → posts (take at h) ≡ posts (take n h) → Counts (h ++ Take s m ∷ []) cap (at + 1) (u - 1) (t + 1) (o + 1)
+pub counts_take : {M : Type 0} (h : List (Event M)) (cap n u t o at s : ℕ) (m : M) → Counts h cap n u t o → 0 < u
+    → slice_get h at ≡ Some (Post s m) → posts (take at h) ≡ posts (take n h)
+    → Counts (h ++ Take s m ∷ []) cap (at + 1) (u - 1) (t + 1) (o + 1)
 counts_take h cap n u t o at s m kept some here skipped =
     let long : length (h ++ Take s m ∷ []) ≡ length h + 1 = length_push h (Take s m) in
-    let more : length (takes (h ++ Take s m ∷ [])) ≡ length (takes h) + 1 = ap length (takes-append h (Take s m ∷ [])) ∙ length_push (takes h) (s, m) in
+    let more : length (takes (h ++ Take s m ∷ [])) ≡ length (takes h) + 1 = ap length (takes-append h (Take s m ∷ []))
+    ∙ length_push (takes h) (s, m) in
     let inside : at < length h = slice_get_within h at (Post s m) here in
     let before : length (posts (take at h)) ≡ t = ap length skipped ∙ kept.passed in
     let parts = split_at_element h at (Post s m) here in
     let few : at + 1 ≤ length h = omega arith in
     let through : posts (take (at + 1) (h ++ Take s m ∷ [])) ≡ posts (take at h) ++ (s, m) ∷ [] =
-    ap posts (take-append-le (at + 1) h (Take s m ∷ []) few ∙ ap (λ k. take k h) (add-one at) ∙ parts.2) ∙ posts-append (take at h) (Post s m ∷ []) in
+    ap posts (take-append-le (at + 1) h (Take s m ∷ []) few ∙ ap (λ k. take k h) (add-one at) ∙ parts.2)
+    ∙ posts-append (take at h) (Post s m ∷ []) in
     record {
       legal = legal_push h (Take s m) kept.legal (post_at h at s m (length (takes h)) here (before ∙ sym kept.all_taken));
       all_taken = omega (arith, more, kept.all_taken);
@@ -86,11 +93,13 @@ counts_take h cap n u t o at s m kept some here skipped =
       within = omega (arith, long);
       passed = ap length through ∙ length_push (posts (take at h)) (s, m) ∙ ap (λ k. k + 1) before;
       once = subst (IsDistinct nat_eq) (sym (dones_take h s m)) kept.once;
-      earlier = subst (λ l. (q : ℕ) → list_any (nat_eq q) l ≡ true → q < t + 1) (sym (dones_take h s m)) (λ q e. omega (arith, kept.earlier q e));
+      earlier =
+          subst (λ l. (q : ℕ) → list_any (nat_eq q) l ≡ true → q < t + 1) (sym (dones_take h s m)) (λ q e. omega (arith, kept.earlier q e));
     }
 
 -- the same events with more room
-pub counts_grow : {M : Type 0} (h h' : List (Event M)) (cap cap' n u t o : ℕ) → h' ≡ h → cap ≤ cap' → Counts h cap n u t o → Counts h' cap' n u t o
+pub counts_grow : {M : Type 0} (h h' : List (Event M)) (cap cap' n u t o : ℕ) → h' ≡ h → cap ≤ cap' → Counts h cap n u t o
+    → Counts h' cap' n u t o
 counts_grow h h' cap cap' n u t o same grown kept =
     subst (λ l. Counts l cap' n u t o) (sym same) (record {
       legal = kept.legal;
@@ -106,7 +115,8 @@ counts_grow h h' cap cap' n u t o same grown kept =
 
 -- a number that is not in a list is not found there
 pub not_found : (xs : List ℕ) (q : ℕ) → (Contains xs q → ⊥) → list_any (nat_eq q) xs ≡ false
-not_found xs q fresh = elim (cases_Bool (list_any (nat_eq q) xs)) [ inl found ↦ absurd (fresh (Contains-from_any eqb-true q xs found)) | inr none ↦ none ]
+not_found xs q fresh =
+    elim (cases_Bool (list_any (nat_eq q) xs)) [ inl found ↦ absurd (fresh (Contains-from_any eqb-true q xs found)) | inr none ↦ none ]
 
 -- what is found with one more at the end is found before, or is that one
 found_push : (xs : List ℕ) (x q : ℕ) → list_any (nat_eq q) (xs ++ x ∷ []) ≡ true → (list_any (nat_eq q) xs ≡ true) ⊎ (q ≡ x)
@@ -117,18 +127,24 @@ found_push xs x q e =
     ]
 
 -- the numbers of completed Takes with one more
-pub more_earlier : (xs : List ℕ) (t q : ℕ) → ((k : ℕ) → list_any (nat_eq k) xs ≡ true → k < t) → q < t → (k : ℕ) → list_any (nat_eq k) (xs ++ q ∷ []) ≡ true → k < t
+pub more_earlier : (xs : List ℕ) (t q : ℕ) → ((k : ℕ) → list_any (nat_eq k) xs ≡ true → k < t) → q < t → (k : ℕ)
+    → list_any (nat_eq k) (xs ++ q ∷ []) ≡ true → k < t
 more_earlier xs t q earlier old k e = elim (found_push xs q k e) [ inl found ↦ earlier k found | inr same ↦ omega (arith, same) ]
 
 -- a Take that no Done names is open
-pub some_open : {M : Type 0} (h : List (Event M)) (cap n u t o q : ℕ) → Counts h cap n u t o → q < length (takes h) → (Contains (dones h) q → ⊥) → 0 < o
+pub some_open : {M : Type 0} (h : List (Event M)) (cap n u t o q : ℕ) → Counts h cap n u t o → q < length (takes h)
+    → (Contains (dones h) q → ⊥) → 0 < o
 some_open h cap n u t o q kept old fresh =
     let early : q < t = omega (arith, kept.all_taken) in
-    let more = length-le_from_distinct_below (dones h ++ q ∷ []) t (IsDistinct-push nat_eq_equiv (dones h) q kept.once (not_found (dones h) q fresh)) (more_earlier (dones h) t q kept.earlier early) in
+    let more =
+    length-le_from_distinct_below (dones h ++ q ∷ []) t
+    (IsDistinct-push nat_eq_equiv (dones h) q kept.once (not_found (dones h) q fresh))
+    (more_earlier (dones h) t q kept.earlier early) in
     omega (arith, more, length_push (dones h) q, kept.all_open)
 
 -- the Done of an open Take
-pub counts_done : {M : Type 0} (h : List (Event M)) (cap n u t o q : ℕ) → Counts h cap n u t o → q < length (takes h) → (Contains (dones h) q → ⊥) → Counts (h ++ Done q ∷ []) cap n u t (o - 1)
+pub counts_done : {M : Type 0} (h : List (Event M)) (cap n u t o q : ℕ) → Counts h cap n u t o → q < length (takes h)
+    → (Contains (dones h) q → ⊥) → Counts (h ++ Done q ∷ []) cap n u t (o - 1)
 counts_done h cap n u t o q kept old fresh =
     let long : length (h ++ Done q ∷ []) ≡ length h + 1 = length_push h (Done q) in
     let open_one : 0 < o = some_open h cap n u t o q kept old fresh in

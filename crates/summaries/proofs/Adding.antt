@@ -42,7 +42,8 @@ module _ {K V : Type 0} (eq : K → K → Bool) (same : (x y : K) → eq x y ≡
       by : (b : Bool) → eq key k ≡ b → Member v (after k)
       by true e =
           let is = same key k e in
-          subst (λ j. Member v (after j)) is (subst (Member v) (sym added) (member_left v (before key) (value ∷ []) (subst (λ j. Member v (before j)) (sym is) m)))
+          subst (λ j. Member v (after j)) is
+          (subst (Member v) (sym added) (member_left v (before key) (value ∷ []) (subst (λ j. Member v (before j)) (sym is) m)))
       by false e = subst (Member v) (sym (others k e)) m
 
   -- the new one is there

@@ -1,5 +1,6 @@
 -- Lists that are sorted, and the members that they keep.
-use Rattle.std.proofs.Common.{◌≡◌, ◌<◌, ◌+◌, ◌↔◌, ◌⊎◌, ℕ, zero, suc, Bool, true, false, not, cond, ◌&&◌, ◌==◌, nat_eq, List, [], ◌∷◌, length, get_or, Some, inl, inr, refl, sym, ap, ◌∙◌, subst, arith, true≢false, Ordering}
+use Rattle.std.proofs.Common.{◌≡◌, ◌<◌, ◌+◌, ◌↔◌, ◌⊎◌, ℕ, zero, suc, Bool, true, false, not, cond, ◌&&◌, ◌==◌, nat_eq, List, [], ◌∷◌}
+use Rattle.std.proofs.Common.{length, get_or, Some, inl, inr, refl, sym, ap, ◌∙◌, subst, arith, true≢false, Ordering}
 use Rattle.std.specs.List.{filter, IsDistinct, Contains, AllByRecursion}
 use Rattle.std.specs.List.Sorted.{IsPermutation, IsSortedBy, IsSorted}
 use Rattle.std.specs.Ordering.{is_lt, nat_cmp, ordering_then}
@@ -41,7 +42,8 @@ module _ {X : Type 0} where
   member_filter p x [] = (λ m. absurd m, λ h. h.0)
   member_filter p x (y ∷ ys) = by (p y) refl (member_filter p x ys)
     where
-      by : (b : Bool) → p y ≡ b → (Member x (filter p ys) ↔ (Member x ys × (p x ≡ true))) → Member x (cond b (y ∷ filter p ys) (filter p ys)) ↔ (Member x (y ∷ ys) × (p x ≡ true))
+      by : (b : Bool) → p y ≡ b → (Member x (filter p ys) ↔ (Member x ys × (p x ≡ true)))
+          → Member x (cond b (y ∷ filter p ys) (filter p ys)) ↔ (Member x (y ∷ ys) × (p x ≡ true))
       by true e rest = (
         λ m. elim m [ inl same ↦ (inl same, ap p same ∙ e) | inr n ↦ (inr (rest.0 n).0, (rest.0 n).1) ],
         λ h. elim h.0 [ inl same ↦ inl same | inr n ↦ inr (rest.1 (n, h.1)) ],
@@ -63,9 +65,11 @@ module _ {X : Type 0} where
   pub distinct_filter : (eq : X → X → Bool) (p : X → Bool) (xs : List X) → IsDistinct eq xs → IsDistinct eq (filter p xs)
   distinct_filter eq p [] once = once
   distinct_filter eq p (x ∷ xs) once =
-      by (p x) (all_filter (λ y. eq x y ≡ false) p xs (IsDistinct-head eq x xs once)) (distinct_filter eq p xs (IsDistinct-tail eq x xs once))
+      by (p x) (all_filter (λ y. eq x y ≡ false) p xs (IsDistinct-head eq x xs once))
+      (distinct_filter eq p xs (IsDistinct-tail eq x xs once))
     where
-      by : (b : Bool) → AllByRecursion (λ y. eq x y ≡ false) (filter p xs) → IsDistinct eq (filter p xs) → IsDistinct eq (cond b (x ∷ filter p xs) (filter p xs))
+      by : (b : Bool) → AllByRecursion (λ y. eq x y ≡ false) (filter p xs) → IsDistinct eq (filter p xs)
+          → IsDistinct eq (cond b (x ∷ filter p xs) (filter p xs))
       by true all rest = IsDistinct-cons eq x (filter p xs) all rest
       by false all rest = rest
 
@@ -100,7 +104,8 @@ pair_less x y after apart = by (nat_cmp y.a x.a) refl after (nat_eq x.a y.a) ref
     equal : (m n : ℕ) → m ≡ n → nat_eq n m ≡ true
     equal m n e = grind (arith, nat_tests)
 
-    by : (r : Ordering) → nat_cmp y.a x.a ≡ r → is_lt (ordering_then r (nat_cmp y.b x.b)) ≡ false → (b : Bool) → nat_eq x.a y.a ≡ b → (b && nat_eq x.b y.b) ≡ false → (x.a < y.a) ⊎ (x.a ≡ y.a) × (x.b < y.b)
+    by : (r : Ordering) → nat_cmp y.a x.a ≡ r → is_lt (ordering_then r (nat_cmp y.b x.b)) ≡ false → (b : Bool) → nat_eq x.a y.a ≡ b
+        → (b && nat_eq x.b y.b) ≡ false → (x.a < y.a) ⊎ (x.a ≡ y.a) × (x.b < y.b)
     by Less e h b f k = absurd (true≢false h)
     by Equal e h true f k = inr (exact_unsigned_eq x.a y.a f, less x.b y.b h k)
     by Equal e h false f k = absurd (true≢false (sym (equal y.a x.a (exact_unsigned y.a x.a e)) ∙ f))
@@ -119,7 +124,8 @@ pairs_ascend (x ∷ y ∷ zs) sorted once = (
 )
 
 -- a sort keeps each member once
-pub still_distinct : {X : Type 0} (eq : X → X → Bool) → ((x y : X) → eq x y ≡ eq y x) → (xs ys : List X) → IsPermutation xs ys → IsDistinct eq xs → IsDistinct eq ys
+pub still_distinct : {X : Type 0} (eq : X → X → Bool) → ((x y : X) → eq x y ≡ eq y x) → (xs ys : List X) → IsPermutation xs ys
+    → IsDistinct eq xs → IsDistinct eq ys
 still_distinct eq flips xs ys moved once = IsDistinct-IsPermutation eq flips xs ys moved once
 
 -- whether a list has a member
@@ -133,7 +139,8 @@ module _ {V A : Type 0} where
   key_there a v [] m = absurd m
   key_there a v (e ∷ es) m = by (nat_eq a e.0) refl m (key_there a v es)
     where
-      by : (b : Bool) → nat_eq a e.0 ≡ b → Member v (items_of (cond b (Some e.1) (lookup (nat_eq a) es))) → (Member v (items_of (lookup (nat_eq a) es)) → Member a (keys_of es)) → Member a (keys_of (e ∷ es))
+      by : (b : Bool) → nat_eq a e.0 ≡ b → Member v (items_of (cond b (Some e.1) (lookup (nat_eq a) es)))
+          → (Member v (items_of (lookup (nat_eq a) es)) → Member a (keys_of es)) → Member a (keys_of (e ∷ es))
       by true f n rest = inl (exact_unsigned_eq a e.0 f)
       by false f n rest = inr (rest n)
 

@@ -32,7 +32,15 @@ use Rattle.summaries.proofs.Telling.{gives_kept}
 module _ {A G : Type 0} (graph : Graph G) (q : ℕ) (f : Found A) (given : Given A) (sites : Groups Call Site A) (pending : Vec Edge A) where
   -- what is found, with other sites, messages given and edges pending
   abbrev pub asked_to : Found A
-  asked_to = record { entries = f.entries; summaries = f.summaries; sites = sites; exits = f.exits; pairs = f.pairs; given = given; pending = pending }
+  asked_to = record {
+    entries = f.entries;
+    summaries = f.summaries;
+    sites = sites;
+    exits = f.exits;
+    pairs = f.pairs;
+    given = given;
+    pending = pending;
+  }
 
   -- the messages taken are the same
   pub taken_there : (k : NumberedMessage) → TookMessage f k → TookMessage asked_to k

@@ -25,7 +25,8 @@ use Rattle.summaries.proofs.Dues.{who, who_is, due_told, same_entry, apart}
 use Rattle.summaries.proofs.Stepping.{Step, grown_to, grown_reached, grown_step}
 use Rattle.summaries.proofs.Telling.{gives_kept}
 
-module _ {A G : Type 0} (graph : Graph G) (q : ℕ) (f : Found A) (entries : Groups ℕ rust.Caller A) (given : Given A) (pending : Vec Edge A) (a : ℕ) (from : rust.Caller)
+module _ {A G : Type 0} (graph : Graph G) (q : ℕ) (f : Found A) (entries : Groups ℕ rust.Caller A) (given : Given A) (pending : Vec Edge A)
+    (a : ℕ) (from : rust.Caller)
     (added : under nat_eq entries.by_key a ≡ under nat_eq f.entries.by_key a ++ from ∷ [])
     (others : (k : ℕ) → nat_eq a k ≡ false → under nat_eq entries.by_key k ≡ under nat_eq f.entries.by_key k) where
   -- what is found, with other entries, messages given and edges pending
@@ -35,12 +36,15 @@ module _ {A G : Type 0} (graph : Graph G) (q : ℕ) (f : Found A) (entries : Gro
   abbrev M : NumberedMessage → Type 0
   M = TookMessage begun_to
 
-  entry_or : (x : ℕ) (c : rust.Caller) → Member c (under nat_eq entries.by_key x) → Member c (under nat_eq f.entries.by_key x) ⊎ ((a ≡ x) × (from ≡ c))
+  entry_or : (x : ℕ) (c : rust.Caller) → Member c (under nat_eq entries.by_key x)
+      → Member c (under nat_eq f.entries.by_key x) ⊎ ((a ≡ x) × (from ≡ c))
   entry_or = added_or nat_eq exact_unsigned_eq (under nat_eq f.entries.by_key) (under nat_eq entries.by_key) a from added others
 
   -- the messages taken stay
   pub taken_begun : (k : NumberedMessage) → TookMessage f k → TookMessage begun_to k
-  taken_begun (numbered_entry c x) h = added_keeps nat_eq exact_unsigned_eq (under nat_eq f.entries.by_key) (under nat_eq entries.by_key) a from added others x (caller_of c) h
+  taken_begun (numbered_entry c x) h =
+      added_keeps nat_eq exact_unsigned_eq (under nat_eq f.entries.by_key) (under nat_eq entries.by_key) a from added others x
+      (caller_of c) h
   taken_begun (numbered_summary s x y) h = h
 
   -- the entry is taken

@@ -33,13 +33,15 @@ module _ {A G : Type 0} (graph : Graph G) (q : ℕ) (f : Found A) (summaries : G
   abbrev M : NumberedMessage → Type 0
   M = TookMessage ended_to
 
-  summary_or : (j : Call) (y : ℕ) → Member y (under call_eq summaries.by_key j) → Member y (under call_eq f.summaries.by_key j) ⊎ ((k ≡ j) × (b ≡ y))
+  summary_or : (j : Call) (y : ℕ) → Member y (under call_eq summaries.by_key j)
+      → Member y (under call_eq f.summaries.by_key j) ⊎ ((k ≡ j) × (b ≡ y))
   summary_or = added_or call_eq same_call (under call_eq f.summaries.by_key) (under call_eq summaries.by_key) k b added others
 
   -- the messages taken stay
   pub taken_ended : (m : NumberedMessage) → TookMessage f m → TookMessage ended_to m
   taken_ended (numbered_entry c x) h = h
-  taken_ended (numbered_summary s x y) h = added_keeps call_eq same_call (under call_eq f.summaries.by_key) (under call_eq summaries.by_key) k b added others (call s x) y h
+  taken_ended (numbered_summary s x y) h =
+      added_keeps call_eq same_call (under call_eq f.summaries.by_key) (under call_eq summaries.by_key) k b added others (call s x) y h
 
   -- the summary is taken
   left_so : Member b (under call_eq summaries.by_key k)
@@ -47,13 +49,19 @@ module _ {A G : Type 0} (graph : Graph G) (q : ℕ) (f : Found A) (summaries : G
 
   -- and no other
   pub ended_also : TookAlso (Summary k.callee k.entered b) f ended_to
-  ended_also (numbered_entry c x) = (λ h. inr h, λ w. elim w [ inl is ↦ absurd (apart (caller_of c) k.callee x k.entered b is) | inr was ↦ was ])
+  ended_also (numbered_entry c x) =
+      (λ h. inr h, λ w. elim w [ inl is ↦ absurd (apart (caller_of c) k.callee x k.entered b is) | inr was ↦ was ])
   ended_also (numbered_summary s x y) = (
-    λ h. elim (summary_or (call s x) y h) [ inl was ↦ inr was | inr is ↦ inl (λ i. Summary (sym is.0 i).callee (sym is.0 i).entered (sym is.1 i)) ],
+    λ h.
+        elim (summary_or (call s x) y h) [
+          | inl was ↦ inr was
+          | inr is ↦ inl (λ i. Summary (sym is.0 i).callee (sym is.0 i).entered (sym is.1 i))
+        ],
     λ w. elim w [
       | inl is ↦
           let (same, at) = same_summary s k.callee x k.entered y b is in
-          subst (λ j. Member y (under call_eq summaries.by_key j)) same (subst (λ z. Member z (under call_eq summaries.by_key k)) at left_so)
+          subst (λ j. Member y (under call_eq summaries.by_key j)) same
+          (subst (λ z. Member z (under call_eq summaries.by_key k)) at left_so)
       | inr was ↦ taken_ended (numbered_summary s x y) was
     ],
   )

@@ -20,8 +20,10 @@ use Rattle.summaries.specs.declared.table_fault.TableFault.TheVariants.{Memory, 
 use Rattle.summaries.specs.Grows.{Grows, Adds, Each, IsAt, IsNextBefore, IsNext, triple_of, edge_of}
 
 -- an edge that was there adds nothing
-pub known : (e : Edge) (old new : List Triple) (before : List Edge) (answer : Bool) → answer ≡ false → OnFalse answer (Member (triple_of e) old) →
-    ((t : Triple) → (Member t new → (t ≡ triple_of e) ⊎ Member t old) × ((t ≡ triple_of e) ⊎ Member t old → Member t new)) → length new ≡ length old + (if answer then 1 else 0) → Grows (λ t. t ≡ triple_of e) old new before before
+pub known : (e : Edge) (old new : List Triple) (before : List Edge) (answer : Bool) → answer ≡ false
+    → OnFalse answer (Member (triple_of e) old) →
+    ((t : Triple) → (Member t new → (t ≡ triple_of e) ⊎ Member t old) × ((t ≡ triple_of e) ⊎ Member t old → Member t new))
+    → length new ≡ length old + (if answer then 1 else 0) → Grows (λ t. t ≡ triple_of e) old new before before
 known e old new before true is there members longer = absurd (true≢false is)
 known e old new before false is there members longer = record {
   all = λ t w. (members t).1 (inl w);
@@ -35,7 +37,9 @@ known e old new before false is there members longer = record {
 }
 
 -- an edge that is new stands pending
-pub added : (e : Edge) (old new : List Triple) (before : List Edge) → ((t : Triple) → (Member t new → (t ≡ triple_of e) ⊎ Member t old) × ((t ≡ triple_of e) ⊎ Member t old → Member t new)) → length new ≡ length old + 1 → Grows (λ t. t ≡ triple_of e) old new before (before ++ e ∷ [])
+pub added : (e : Edge) (old new : List Triple) (before : List Edge)
+    → ((t : Triple) → (Member t new → (t ≡ triple_of e) ⊎ Member t old) × ((t ≡ triple_of e) ⊎ Member t old → Member t new))
+    → length new ≡ length old + 1 → Grows (λ t. t ≡ triple_of e) old new before (before ++ e ∷ [])
 added e old new before members longer = record {
   all = λ t is. (members t).1 (inl is);
   kept = λ t m. (members t).1 (inr m);
@@ -95,7 +99,8 @@ longer_by n o true is e = e
 longer_by n o false is e = absurd (true≢false (sym is))
 
 -- what is reached, called otherwise
-pub grows_as : (V W : Triple → Type 0) (old new : List Triple) (before after : List Edge) → ((t : Triple) → V t → W t) → ((t : Triple) → W t → V t) →
+pub grows_as : (V W : Triple → Type 0) (old new : List Triple) (before after : List Edge) → ((t : Triple) → V t → W t)
+    → ((t : Triple) → W t → V t) →
     Grows V old new before after → Grows W old new before after
 grows_as V W old new before after to from grows = record {
   all = λ t w. grows.all t (from t w);

@@ -41,7 +41,8 @@ module _ (c : Caller) (cs ds : List Caller) (same : cs ≡ ds) (found : Bool)
   pub caller_new : found ≡ false → Member c ds → ⊥
   caller_new e m = true≢false (sym (is_found (λ k x. eq-value.it x k) laws-law.refl c ds m) ∙ there ∙ e)
 
-module _ {K : Type 0} (eq : K → K → Bool) (k : K) (ks after : List K) (added : Bool) (tells : added ≡ not (list_any (eq k) ks)) (keys : after ≡ insert_key eq ks k) where
+module _ {K : Type 0} (eq : K → K → Bool) (k : K) (ks after : List K) (added : Bool) (tells : added ≡ not (list_any (eq k) ks))
+    (keys : after ≡ insert_key eq ks k) where
   -- a key that is new stands behind the others
   pub inserted_new : added ≡ true → after ≡ ks ++ k ∷ []
   inserted_new is = keys ∙ by (list_any (eq k) ks) (sym tells ∙ is)
@@ -91,7 +92,8 @@ once_after k ks after (Err _) is new once = subst NoneTwice (sym is) once
 
 -- what stands behind others is not among them, where nothing stands twice
 pub next_new : {K : Type 0} (ks : List K) (n m : ℕ) (k : K) → take m ks ≡ take n ks ++ k ∷ [] → NoneTwice ks → Member k (take n ks) → ⊥
-next_new {K = K} ks n m k more once = apart (take n ks) (drop m ks) (subst NoneTwice (sym (ap (λ l. l ++ drop m ks) (sym more) ∙ take-append-drop m ks)) once)
+next_new {K = K} ks n m k more once =
+    apart (take n ks) (drop m ks) (subst NoneTwice (sym (ap (λ l. l ++ drop m ks) (sym more) ∙ take-append-drop m ks)) once)
   where
     apart : (xs ys : List K) → NoneTwice ((xs ++ k ∷ []) ++ ys) → Member k xs → ⊥
     apart [] ys o m = m

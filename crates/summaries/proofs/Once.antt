@@ -4,7 +4,8 @@ use Rattle.language.specs.Lists.{Member, NoneTwice}
 
 module _ {A : Type 0} where
   -- the list without one member: shorter by one, with all the others
-  without : (x : A) (ys : List A) → Member x ys → (zs : List A) × (length ys ≡ length zs + 1) × ((y : A) → Member y ys → (y ≡ x) ⊎ Member y zs)
+  without : (x : A) (ys : List A) → Member x ys
+      → (zs : List A) × (length ys ≡ length zs + 1) × ((y : A) → Member y ys → (y ≡ x) ⊎ Member y zs)
   without x [] m = absurd m
   without x (y ∷ ys) (inl e) = (ys, omega arith, λ z m. elim m [ inl f ↦ inl (f ∙ sym e) | inr n ↦ inr n ])
   without x (y ∷ ys) (inr m) =
@@ -18,5 +19,7 @@ module _ {A : Type 0} where
   no_longer [] ys once all = omega arith
   no_longer (x ∷ xs) ys once all =
       let (zs, long, others) = without x ys (all x (inl refl)) in
-      let rest = no_longer xs zs once.1 (λ y m. elim (others y (all y (inr m))) [ inl e ↦ absurd (once.0 (subst (λ z. Member z xs) e m)) | inr k ↦ k ]) in
+      let rest =
+      no_longer xs zs once.1
+      (λ y m. elim (others y (all y (inr m))) [ inl e ↦ absurd (once.0 (subst (λ z. Member z xs) e m)) | inr k ↦ k ]) in
       omega (arith, long, rest)

@@ -1,5 +1,6 @@
 -- A list in which one item is replaced, or that has one more.
-use Rattle.std.proofs.Common.{◌≡◌, ◌<◌, ◌⊎◌, ℕ, zero, suc, List, [], ◌∷◌, ◌++◌, map, length, Some, slice_get, slice_set, inl, inr, refl, sym, ap, subst, arith}
+use Rattle.std.proofs.Common.{◌≡◌, ◌<◌, ◌⊎◌, ℕ, zero, suc, List, [], ◌∷◌, ◌++◌, map, length, Some, slice_get, slice_set, inl, inr, refl}
+use Rattle.std.proofs.Common.{sym, ap, subst, arith}
 use Rattle.std.proofs.lemmas.Option.{none-some, same_Some}
 use Rattle.language.specs.Lists.{Member}
 
@@ -11,7 +12,8 @@ module _ {A : Type 0} where
   get_set (x ∷ xs) (suc i) y h = get_set xs i y (omega (arith, h))
 
   -- what is there is the item, or was there before
-  pub set_get : (xs : List A) (i q : ℕ) (y x : A) → slice_get (slice_set xs i y) q ≡ Some x → ((q ≡ i) × (x ≡ y)) ⊎ ((q ≡ i → ⊥) × (slice_get xs q ≡ Some x))
+  pub set_get : (xs : List A) (i q : ℕ) (y x : A) → slice_get (slice_set xs i y) q ≡ Some x
+      → ((q ≡ i) × (x ≡ y)) ⊎ ((q ≡ i → ⊥) × (slice_get xs q ≡ Some x))
   set_get [] i q y x e = absurd (none-some x e)
   set_get (z ∷ zs) zero zero y x e = inl (refl, sym (same_Some y x e))
   set_get (z ∷ zs) zero (suc q) y x e = inr (λ h. omega (arith, h), e)
@@ -32,7 +34,8 @@ module _ {A : Type 0} where
       move n z a b = subst (λ m. P m z) (sym a) (subst (P i) (sym b) new)
 
   -- what is there in a list with one more item is that item, or was there before
-  pub pushed_get : (xs : List A) (y : A) (q : ℕ) (x : A) → slice_get (xs ++ y ∷ []) q ≡ Some x → ((q ≡ length xs) × (x ≡ y)) ⊎ (slice_get xs q ≡ Some x)
+  pub pushed_get : (xs : List A) (y : A) (q : ℕ) (x : A) → slice_get (xs ++ y ∷ []) q ≡ Some x
+      → ((q ≡ length xs) × (x ≡ y)) ⊎ (slice_get xs q ≡ Some x)
   pushed_get [] y zero x e = inl (refl, sym (same_Some y x e))
   pushed_get [] y (suc q) x e = absurd (none-some x e)
   pushed_get (z ∷ zs) y zero x e = inr e
@@ -48,7 +51,8 @@ module _ {A : Type 0} where
       ]
 
   -- a list whose images stand at the places of another one, as long, has that one as its images
-  pub map_is : {B : Type 0} (f : A → B) (xs : List A) (ys : List B) → length xs ≡ length ys → ((q : ℕ) (x : A) → slice_get xs q ≡ Some x → slice_get ys q ≡ Some (f x)) → map f xs ≡ ys
+  pub map_is : {B : Type 0} (f : A → B) (xs : List A) (ys : List B) → length xs ≡ length ys
+      → ((q : ℕ) (x : A) → slice_get xs q ≡ Some x → slice_get ys q ≡ Some (f x)) → map f xs ≡ ys
   map_is f [] [] long each = refl
   map_is f [] (y ∷ ys) long each = absurd (omega (arith, long))
   map_is f (x ∷ xs) [] long each = absurd (omega (arith, long))

@@ -26,7 +26,8 @@ use Rattle.summaries.specs.Found.{HasExit, HasGiven, IsOwed, IsPending, IsGround
 use Rattle.summaries.specs.Grows.{EntersAt, Grows, triple_of}
 use Rattle.summaries.specs.Tables.{HasMore}
 
--- A step of the table of procedure q from f, with the edges es, to g, with the edges ds: what comes to be held is reached
+-- A step of the table of procedure q from f, with the edges es, to g, with the edges ds: what comes to be held is
+-- reached
 -- and sent, nothing goes, and what is then to be held beside it is held.
 pub record Step {A G : Type 0} (graph : Graph G) (q : ℕ) (f g : Found A) (es ds : List Triple) : Type 0 where
   pub taken : (k : NumberedMessage) → TookMessage f k → TookMessage g k
@@ -65,7 +66,8 @@ module _ {A G : Type 0} (graph : Graph G) (q : ℕ) (f g : Found A) (es ds : Lis
       | inl was ↦ let (reached, at) = old.site s e a n v was in (more a n v reached, at)
       | inr is ↦ is
     ];
-    exit = λ a b m. elim (step.exit a b m) [ inl was ↦ let (v, reached, is) = old.exit a b was in (v, more a 0 v reached, is) | inr is ↦ is ];
+    exit =
+        λ a b m. elim (step.exit a b m) [ inl was ↦ let (v, reached, is) = old.exit a b was in (v, more a 0 v reached, is) | inr is ↦ is ];
     given = λ s k m. elim (step.given s k m) [ inl was ↦ owed s k (old.given s k was) | inr is ↦ is ];
     pending = λ a n v m. elim (step.pending (edge a n v) m) [ inl was ↦ step.kept (triple a n v) (old.pending a n v was) | inr is ↦ is ];
     callers_once = step.callers_once old.callers_once;
@@ -95,7 +97,8 @@ module _ {A G : Type 0} (graph : Graph G) (q : ℕ) (f g : Found A) (es ds : Lis
     worked = λ a n v m. elim (step.new (triple a n v) m) [
       | inl was ↦ elim (old.worked a n v was) [
         | inl aside ↦ inl aside
-        | inr rest ↦ elim rest [ inl pending ↦ inr (inl (step.stays (edge a n v) pending)) | inr worked ↦ inr (inr (still_worked a n v worked)) ]
+        | inr rest ↦
+            elim rest [ inl pending ↦ inr (inl (step.stays (edge a n v) pending)) | inr worked ↦ inr (inr (still_worked a n v worked)) ]
       ]
       | inr is ↦ inr (inl is)
     ];
@@ -103,7 +106,9 @@ module _ {A G : Type 0} (graph : Graph G) (q : ℕ) (f g : Found A) (es ds : Lis
       | inl was ↦ step.kept (triple a back (resumed graph.globals v b)) (old.ended s e b a n v back was.0 enters was.1)
       | inr is ↦ is
     ];
-    asks = λ s e a n v m. elim (step.asks s e a n v m) [ inl was ↦ step.gives s (numbered_entry (caller q) e) (old.asks s e a n v was) | inr is ↦ is ];
+    asks =
+        λ s e a n v m.
+        elim (step.asks s e a n v m) [ inl was ↦ step.gives s (numbered_entry (caller q) e) (old.asks s e a n v was) | inr is ↦ is ];
     tells = λ a b c m taken. elim (step.tells a b c m taken) [
       | inl was ↦ step.gives c (numbered_summary q a b) (old.tells a b c was.0 was.1)
       | inr is ↦ is
@@ -119,7 +124,8 @@ module _ {A G : Type 0} (graph : Graph G) (q : ℕ) (f g : Found A) (es ds : Lis
 
 module _ {A G : Type 0} (graph : Graph G) (q : ℕ) (f : Found A) (es : List Triple) where
   -- an edge that was left aside and is worked on need not be
-  pub worked_off : (a n v : ℕ) → IsWorked graph q f es a n v → IsComplete graph q f es (λ t. t ≡ triple a n v) → IsComplete graph q f es (λ t. ⊥)
+  pub worked_off : (a n v : ℕ) → IsWorked graph q f es a n v → IsComplete graph q f es (λ t. t ≡ triple a n v)
+      → IsComplete graph q f es (λ t. ⊥)
   worked_off a n v worked old = record {
     begun = old.begun;
     worked = λ b m w there. elim (old.worked b m w there) [
@@ -133,8 +139,10 @@ module _ {A G : Type 0} (graph : Graph G) (q : ℕ) (f : Found A) (es : List Tri
   }
 
 -- more edges than a limit are reached, where one beside as many is
-pub has_more : (limit : ℕ) (es : List Triple) (P : Triple → Type 0) → NoneTwice es → ((t : Triple) → Member t es → P t) → (t : Triple) → P t → (Member t es → ⊥) → limit ≤ length es → HasMore limit P
-has_more limit es P once all t is new full = (t ∷ es, (new, once), omega (arith, full), λ u m. elim m [ inl e ↦ subst P (sym e) is | inr was ↦ all u was ])
+pub has_more : (limit : ℕ) (es : List Triple) (P : Triple → Type 0) → NoneTwice es → ((t : Triple) → Member t es → P t) → (t : Triple)
+    → P t → (Member t es → ⊥) → limit ≤ length es → HasMore limit P
+has_more limit es P once all t is new full =
+    (t ∷ es, (new, once), omega (arith, full), λ u m. elim m [ inl e ↦ subst P (sym e) is | inr was ↦ all u was ])
 
 -- by the same messages taken the edges of a table are reached
 pub all_reached : {A G : Type 0} (graph : Graph G) (q : ℕ) (f g : Found A) (es : List Triple) →
@@ -145,7 +153,8 @@ all_reached graph q f g es sound taken t m =
     (sound.edge t.entry t.point t.values m)
 
 -- where the entries and the summaries are the same, so are the messages taken
-pub taken_as : {A : Type 0} (f g : Found A) → ((a : ℕ) → under nat_eq g.entries.by_key a ≡ under nat_eq f.entries.by_key a) → ((c : Call) → under call_eq g.summaries.by_key c ≡ under call_eq f.summaries.by_key c) →
+pub taken_as : {A : Type 0} (f g : Found A) → ((a : ℕ) → under nat_eq g.entries.by_key a ≡ under nat_eq f.entries.by_key a)
+    → ((c : Call) → under call_eq g.summaries.by_key c ≡ under call_eq f.summaries.by_key c) →
     (k : NumberedMessage) → TookMessage f k → TookMessage g k
 taken_as f g entries summaries (numbered_entry from a) h = subst (Member (caller_of from)) (sym (entries a)) h
 taken_as f g entries summaries (numbered_summary s a b) h = subst (Member b) (sym (summaries (call s a))) h
@@ -223,7 +232,15 @@ module _ {A G : Type 0} (graph : Graph G) (q : ℕ) (f g : Found A) (es : List T
     (pended : g.pending.items ≡ f.pending.items) where
   -- what is found, with these
   abbrev pub same_to : Found A
-  same_to = record { entries = f.entries; summaries = f.summaries; sites = f.sites; exits = f.exits; pairs = g.pairs; given = g.given; pending = g.pending }
+  same_to = record {
+    entries = f.entries;
+    summaries = f.summaries;
+    sites = f.sites;
+    exits = f.exits;
+    pairs = g.pairs;
+    given = g.given;
+    pending = g.pending;
+  }
 
   -- nothing changes
   pub same_step : Step graph q f same_to es es
@@ -249,10 +266,19 @@ module _ {A G : Type 0} (graph : Graph G) (q : ℕ) (f g : Found A) (es : List T
     exits_once = λ old. old;
   }
 
-module _ {A G : Type 0} (graph : Graph G) (q : ℕ) (f : Found A) (es : List Triple) (pending : Vec Edge A) (e : Edge) (popped : f.pending.items ≡ pending.items ++ e ∷ []) where
+module _ {A G : Type 0} (graph : Graph G) (q : ℕ) (f : Found A) (es : List Triple) (pending : Vec Edge A) (e : Edge)
+    (popped : f.pending.items ≡ pending.items ++ e ∷ []) where
   -- what is found, with the last edge no longer pending
   abbrev pub popped_to : Found A
-  popped_to = record { entries = f.entries; summaries = f.summaries; sites = f.sites; exits = f.exits; pairs = f.pairs; given = f.given; pending = pending }
+  popped_to = record {
+    entries = f.entries;
+    summaries = f.summaries;
+    sites = f.sites;
+    exits = f.exits;
+    pairs = f.pairs;
+    given = f.given;
+    pending = pending;
+  }
 
   taken_there : (k : NumberedMessage) → TookMessage f k → TookMessage popped_to k
   taken_there = taken_as f popped_to (λ a. refl) (λ c. refl)

@@ -1,5 +1,6 @@
 -- The steps of a tabulation.
-use Rattle.std.proofs.Common.{◌≡◌, ◌<◌, ◌≤◌, ◌+◌, ◌-◌, ◌*◌, ◌++◌, ℕ, List, [], ◌∷◌, Some, None, map, option_map, slice_get, slice_set, length, inl, inr, refl, sym, ap, ◌∙◌, subst, arith, length-append, get_or}
+use Rattle.std.proofs.Common.{◌≡◌, ◌<◌, ◌≤◌, ◌+◌, ◌-◌, ◌*◌, ◌++◌, ℕ, List, [], ◌∷◌, Some, None, map, option_map, slice_get, slice_set}
+use Rattle.std.proofs.Common.{length, inl, inr, refl, sym, ap, ◌∙◌, subst, arith, length-append, get_or}
 use Rattle.std.proofs.Common.{Result, Ok, Err, OnOk}
 use Rattle.std.specs.Result.{IsErrAnd}
 use Rattle.std.specs.List.{sum_by}
@@ -74,7 +75,8 @@ opening_fits graphs some_of p drawn k e =
 pub get_map : {X Y : Type 0} (f : X → Y) (xs : List X) (q : ℕ) (x : X) → slice_get xs q ≡ Some x → slice_get (map f xs) q ≡ Some (f x)
 get_map f xs q x e = slice_get-map f xs q ∙ ap (option_map f) e
 
-module _ {G A S : Type 0} (members : S → List Triple) (p : Program) (Aside : Mail → Type 0) (ts : List (Table G A S)) (are : AreTables members p Aside ts) where
+module _ {G A S : Type 0} (members : S → List Triple) (p : Program) (Aside : Mail → Type 0) (ts : List (Table G A S))
+    (are : AreTables members p Aside ts) where
   -- as many tables as procedures
   pub as_many : length ts ≡ length p.routines
   as_many = sym (length-map ts graph_of) ∙ are.drawn.2.0
@@ -90,7 +92,8 @@ module _ {G A S : Type 0} (members : S → List Triple) (p : Program) (Aside : M
       omega (arith, as_many, below)
 
   -- the opening is due
-  pub opening_due : (t : Table G A S) → slice_get ts 0 ≡ Some t → (k : NumberedMessage) → due_of k ≡ Entry Starter 0 → IsNumberOf (IsDue p 0) k
+  pub opening_due : (t : Table G A S) → slice_get ts 0 ≡ Some t → (k : NumberedMessage) → due_of k ≡ Entry Starter 0
+      → IsNumberOf (IsDue p 0) k
   opening_due t is k e = let (routine, there) = there_too ts p.routines 0 t as_many is in
       starter_due p routine there k e
 
@@ -126,7 +129,8 @@ module _ {G A S : Type 0} (members : S → List Triple) (p : Program) (Aside : M
         (over_limit members p q t' (still_of q t t' is table stays due) failed),
   )
 
-  pub same_too_many : (q : ℕ) (t t' : Table G A S) → slice_get ts q ≡ Some t → IsTable members t' → StaysAs t t' → t'.fault ≡ Some EdgeLimit → TookSame t.found t'.found
+  pub same_too_many : (q : ℕ) (t t' : Table G A S) → slice_get ts q ≡ Some t → IsTable members t' → StaysAs t t'
+      → t'.fault ≡ Some EdgeLimit → TookSame t.found t'.found
       → (n : ℕ) → HaveLimit n ts → (s : ℕ) × HasMoreEdges p s n
   same_too_many q t t' is table stays failed same = too_many q t t' is table stays failed (same_due q t t' is same)
 
@@ -141,7 +145,8 @@ module _ {G A S : Type 0} (members : S → List Triple) (p : Program) (Aside : M
   mail_receiver s d due = let (k, e) = number_of_due d in is_receiver s k (due k e)
 
   -- where a table answers, or has nothing to answer
-  goes_on : (q : ℕ) (t t' : Table G A S) → slice_get ts q ≡ Some t → IsTable members t' → t'.fault ≡ None → StaysAs t t' → TookSame t.found t'.found → Becomes members p q t t'
+  goes_on : (q : ℕ) (t t' : Table G A S) → slice_get ts q ≡ Some t → IsTable members t' → t'.fault ≡ None → StaysAs t t'
+      → TookSame t.found t'.found → Becomes members p q t t'
   goes_on q t t' is table whole stays same = record {
     table = table;
     whole = whole;
@@ -152,7 +157,8 @@ module _ {G A S : Type 0} (members : S → List Triple) (p : Program) (Aside : M
 
 -- a table answers a message, which then is left aside
 pub answered : {G A S : Type 0} (members : S → List Triple) (p : Program) (ts : List (Table G A S)) → AreTables members p (λ x. ⊥) ts
-    → (q : ℕ) (t t' : Table G A S) → slice_get ts q ≡ Some t → IsTable members t' → t'.fault ≡ None → StaysAs t t' → TookSame t.found t'.found
+    → (q : ℕ) (t t' : Table G A S) → slice_get ts q ≡ Some t → IsTable members t' → t'.fault ≡ None → StaysAs t t'
+    → TookSame t.found t'.found
     → (x : Mail) → answers_of t' ≡ answers_of t ++ x ∷ [] → AreTables members p (λ y. y ≡ x) (slice_set ts q t')
 answered members p ts are q t t' is table whole stays same x more =
     replaced members p (λ y. ⊥) (λ y. y ≡ x) ts q t t' are is (goes_on members p (λ y. ⊥) ts are q t t' is table whole stays same)
@@ -162,15 +168,18 @@ answered members p ts are q t t' is table whole stays same x more =
 
 -- a table has nothing to answer
 pub answered_none : {G A S : Type 0} (members : S → List Triple) (p : Program) (ts : List (Table G A S)) → AreTables members p (λ x. ⊥) ts
-    → (q : ℕ) (t t' : Table G A S) → slice_get ts q ≡ Some t → IsTable members t' → t'.fault ≡ None → StaysAs t t' → TookSame t.found t'.found
+    → (q : ℕ) (t t' : Table G A S) → slice_get ts q ≡ Some t → IsTable members t' → t'.fault ≡ None → StaysAs t t'
+    → TookSame t.found t'.found
     → answers_of t' ≡ answers_of t → AreTables members p (λ y. ⊥) (slice_set ts q t')
 answered_none members p ts are q t t' is table whole stays same none =
     replaced members p (λ y. ⊥) (λ y. ⊥) ts q t t' are is (goes_on members p (λ y. ⊥) ts are q t t' is table whole stays same)
     (λ y m. inl (subst (Member y) none m)) (λ y h. inl h)
 
 -- the receiver takes the message that is left aside
-pub delivered : {G A S : Type 0} (members : S → List Triple) (p : Program) (s : ℕ) (d : Due) (ts : List (Table G A S)) → AreTables members p (λ y. y ≡ mail s d) ts
-    → (t t' : Table G A S) → slice_get ts s ≡ Some t → IsTable members t' → t'.fault ≡ None → StaysAs t t' → TookAlso d t.found t'.found → TookOnly d t.found t'.found
+pub delivered : {G A S : Type 0} (members : S → List Triple) (p : Program) (s : ℕ) (d : Due) (ts : List (Table G A S))
+    → AreTables members p (λ y. y ≡ mail s d) ts
+    → (t t' : Table G A S) → slice_get ts s ≡ Some t → IsTable members t' → t'.fault ≡ None → StaysAs t t' → TookAlso d t.found t'.found
+    → TookOnly d t.found t'.found
     → answers_of t' ≡ answers_of t → ((k : NumberedMessage) → due_of k ≡ d → IsNumberOf (IsDue p s) k) →
     AreTables members p (λ y. ⊥) (slice_set ts s t')
 delivered {G} {A} {S} members p s d ts are t t' is table whole stays also only none due =
@@ -191,7 +200,8 @@ delivered {G} {A} {S} members p s d ts are t t' is table whole stays also only n
 
 module _ {G A S : Type 0} (members : S → List Triple) where
   -- one more table that owes nothing
-  pub one_more_quiet : (n : ℕ) (ts : List (Table G A S)) (t' : Table G A S) → AreQuietBefore members n ts → IsQuiet members t' → AreQuietBefore members (n + 1) (slice_set ts n t')
+  pub one_more_quiet : (n : ℕ) (ts : List (Table G A S)) (t' : Table G A S) → AreQuietBefore members n ts → IsQuiet members t'
+      → AreQuietBefore members (n + 1) (slice_set ts n t')
   one_more_quiet n ts t' quiet now q u below e =
       elim (set_get ts n q t' u e) [
         | inl h ↦ subst (IsQuiet members) (sym h.1) now
@@ -221,7 +231,8 @@ module _ {G A S : Type 0} where
   pub room : ℕ → List (Table G A S) → ℕ
   room n ts = sum_by (left_of n) ts
 
-  room_set : (n : ℕ) (ts : List (Table G A S)) (i : ℕ) (t t' : Table G A S) → slice_get ts i ≡ Some t → room n (slice_set ts i t') + left_of n t ≡ room n ts + left_of n t'
+  room_set : (n : ℕ) (ts : List (Table G A S)) (i : ℕ) (t t' : Table G A S) → slice_get ts i ≡ Some t
+      → room n (slice_set ts i t') + left_of n t ≡ room n ts + left_of n t'
   unfolding room
   room_set n ts i t t' is =
       let same : left_of n (get_or ts i t) ≡ left_of n t = ap (left_of n) (get_or_from_slice_get ts i t t is) in
@@ -268,7 +279,8 @@ limit_told Memory e = let no : ⊥ = cc in absurd no
 limit_told EdgeLimit e = refl
 
 -- tables that are new have taken nothing but for the opening
-pub new_tables : {G A S : Type 0} (members : S → List Triple) (p : Program) (ts : List (Table G A S)) → AreDrawnFrom p (map graph_of ts) → AreNew members ts → AreTables members p (λ x. x ≡ opening) ts
+pub new_tables : {G A S : Type 0} (members : S → List Triple) (p : Program) (ts : List (Table G A S)) → AreDrawnFrom p (map graph_of ts)
+    → AreNew members ts → AreTables members p (λ x. x ≡ opening) ts
 new_tables members p ts drawn new = record {
   drawn = drawn;
   table = λ q t is. (new.fresh q t is).table;
@@ -280,7 +292,8 @@ new_tables members p ts drawn new = record {
 }
 
 -- where there are no tables, nothing is left aside
-pub none_aside : {G A S : Type 0} (members : S → List Triple) (p : Program) (Aside : Mail → Type 0) (ts : List (Table G A S)) → length ts ≡ 0 → AreTables members p Aside ts → AreTables members p (λ x. ⊥) ts
+pub none_aside : {G A S : Type 0} (members : S → List Triple) (p : Program) (Aside : Mail → Type 0) (ts : List (Table G A S))
+    → length ts ≡ 0 → AreTables members p Aside ts → AreTables members p (λ x. ⊥) ts
 none_aside members p Aside [] none are = record {
   drawn = are.drawn;
   table = are.table;

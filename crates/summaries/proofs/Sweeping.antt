@@ -40,7 +40,8 @@ module _ {G A S : Type 0} where
   taken_stays (x ∷ xs) (suc i) t t' is keeps (suc q) k h = taken_stays xs i t t' is keeps q k h
 
   -- each has its limit still
-  pub limits_stay : (n : ℕ) (ts : List (Table G A S)) (i : ℕ) (t t' : Table G A S) → slice_get ts i ≡ Some t → StaysAs t t' → HaveLimit n ts → HaveLimit n (slice_set ts i t')
+  pub limits_stay : (n : ℕ) (ts : List (Table G A S)) (i : ℕ) (t t' : Table G A S) → slice_get ts i ≡ Some t → StaysAs t t'
+      → HaveLimit n ts → HaveLimit n (slice_set ts i t')
   limits_stay n ts i t t' is stays have =
       each_then (λ q u. most_of u.limit ≡ n) ts i t' have (ap most_of stays.limit ∙ have i t is)
 
@@ -81,7 +82,9 @@ module _ {G A S : Type 0} (members : S → List Triple) (p : Program) where
     -- so the tables are those of the program's procedures still
     pub replaced : AreTables members p After (slice_set ts i t')
     replaced = record {
-      drawn = subst (AreDrawnFrom p) (sym (map-set_same graph_of ts i t' t (becomes.stays.graph ∙ ap graph_of (sym (get_or_from_slice_get ts i t t is))))) are.drawn;
+      drawn =
+          subst (AreDrawnFrom p)
+          (sym (map-set_same graph_of ts i t' t (becomes.stays.graph ∙ ap graph_of (sym (get_or_from_slice_get ts i t t is))))) are.drawn;
       table = each_then (λ q u. IsTable members u) ts i t' are.table becomes.table;
       whole = each_then (λ q u. u.fault ≡ None) ts i t' are.whole becomes.whole;
       number = each_then (λ q u. u.procedure ≡ q) ts i t' are.number (becomes.stays.procedure ∙ are.number i t is);

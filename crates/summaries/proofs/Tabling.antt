@@ -29,7 +29,9 @@ module _ {G A S : Type 0} (members : S → List Triple) (t : Table G A S) (g : F
   taken = (same_step t.graph.now t.procedure t.found g (members t.edges) paired gave pended).taken
 
   -- a table stays one where nothing that it finds changes
-  pub same_table : IsTable members t → IsTable members (record { graph = t.graph; procedure = t.procedure; limit = t.limit; edges = t.edges; found = there; fault = t.fault })
+  pub same_table : IsTable members t
+      → IsTable members
+      (record { graph = t.graph; procedure = t.procedure; limit = t.limit; edges = t.edges; found = there; fault = t.fault })
   same_table old = record {
     edges = λ x m. reaches_more t.graph.now (TookMessage t.found) (TookMessage there) taken x.entry x.point x.values (old.edges x m);
     within = old.within;
@@ -77,7 +79,8 @@ next_sent f (Some (to, due)) n keys same next P gives = λ k is.
     let there : Member (mail to due) (take n keys) =
     subst (Member (mail to due)) (sym next)
     (member_right (mail to due) (answers_in f.given) (mail to due ∷ []) (inl refl)) in
-    let all : Member (mail to due) keys = subst (Member (mail to due)) (take-append-drop n keys) (member_left (mail to due) (take n keys) (drop n keys) there) in
+    let all : Member (mail to due) keys =
+    subst (Member (mail to due)) (take-append-drop n keys) (member_left (mail to due) (take n keys) (drop n keys) there) in
     gives to k (subst (λ d. Member (mail to d) f.given.mails.items) (sym is) (subst (Member (mail to due)) same all))
 
 -- a table with nothing pending that has answered all it gave is quiet
@@ -88,7 +91,11 @@ pub quiet_table : {G A S : Type 0} (members : S → List Triple) (t : Table G A 
 quiet_table members t sound complete none all =
     let quiet = is_exact t.graph.now t.procedure t.found (members t.edges) complete none sound in record {
       edges = quiet.0;
-      sends = λ s k. (λ h. subst (Member (mail s (due_of k))) (sym all) ((quiet.1 s k).0 h), λ m. (quiet.1 s k).1 (subst (Member (mail s (due_of k))) all m));
+      sends =
+          λ s k. (
+            λ h. subst (Member (mail s (due_of k))) (sym all) ((quiet.1 s k).0 h),
+            λ m. (quiet.1 s k).1 (subst (Member (mail s (due_of k))) all m),
+          );
       leaves = λ a b. (
         λ m. sound.exit a b ((complete.pairs a b).0 m),
         λ h. (complete.pairs a b).1 (is_left t.graph.now t.procedure t.found (members t.edges) complete none a b h),

@@ -1,5 +1,6 @@
 -- Where no table owes a message, the tables have the entries, the pairs and the path edges of their procedures.
-use Rattle.std.proofs.Common.{◌≡◌, ◌<◌, ◌↔◌, ℕ, nat_eq, zero, suc, true, List, [], ◌∷◌, Option, Some, None, map, slice_get, length, inl, inr, refl, sym, subst, arith}
+use Rattle.std.proofs.Common.{◌≡◌, ◌<◌, ◌↔◌, ℕ, nat_eq, zero, suc, true, List, [], ◌∷◌, Option, Some, None, map, slice_get, length, inl}
+use Rattle.std.proofs.Common.{inr, refl, sym, subst, arith}
 use Rattle.std.proofs.lemmas.Option.{none-some, slice_get_within, same_Some}
 use Rattle.language.specs.Step.{Program}
 use Rattle.language.specs.Sequential.{Caller, starter, caller, Valuation, IsDue, Entered, SomeBad}
@@ -38,7 +39,8 @@ first_too [] q x e = absurd (none-some x e)
 first_too (y ∷ ys) q x e = (y, refl)
 
 -- what is among the images at a place is the image of what is there
-got_map : {X Y : Type 0} (f : X → Y) (xs : List X) (q : ℕ) (y : Y) → slice_get (map f xs) q ≡ Some y → (x : X) × (slice_get xs q ≡ Some x) × (y ≡ f x)
+got_map : {X Y : Type 0} (f : X → Y) (xs : List X) (q : ℕ) (y : Y) → slice_get (map f xs) q ≡ Some y
+    → (x : X) × (slice_get xs q ≡ Some x) × (y ≡ f x)
 got_map f [] q y e = absurd (none-some y e)
 got_map f (x ∷ xs) zero y e = (x, refl, sym (same_Some (f x) y e))
 got_map f (x ∷ xs) (suc q) y e = got_map f xs q y e
@@ -91,12 +93,14 @@ module _ {G A S : Type 0} (members : S → List Triple) (p : Program) (ts : List
         by None e h = absurd h
         by (Some t) e h = are.due q t k e h
 
-    sent_taken : (q s : ℕ) (graph : Graph G) (k : NumberedMessage) → slice_get (map graph_of ts) q ≡ Some graph → Sends graph q (T q) s k → T s k
+    sent_taken : (q s : ℕ) (graph : Graph G) (k : NumberedMessage) → slice_get (map graph_of ts) q ≡ Some graph → Sends graph q (T q) s k
+        → T s k
     sent_taken q s graph k here sends =
         let (t, is, same) = got_map graph_of ts q graph here in
         let by_table : Sends t.graph.now t.procedure (TookMessage t.found) s k =
         subst (λ n. Sends t.graph.now n (TookMessage t.found) s k) (sym (are.number q t is))
-        (subst (λ (o : Option (Table G A S)). Sends t.graph.now q (IsTaken o) s k) is (subst (λ (g : Graph G). Sends g q (T q) s k) same sends)) in
+        (subst (λ (o : Option (Table G A S)). Sends t.graph.now q (IsTaken o) s k) is
+        (subst (λ (g : Graph G). Sends g q (T q) s k) same sends)) in
         elim (are.answers q t (mail s (due_of k)) is (((quiet_at q t is).sends s k).0 by_table))
         [ inl none ↦ absurd none | inr received ↦ received k refl ]
 
@@ -152,11 +156,26 @@ module _ {G A S : Type 0} (members : S → List Triple) (p : Program) (ts : List
     few n limits q more = let (t, is) = got ts q (edge_table q n more) in table_few q t is n limits more
 
     -- some pair is bad where some pair that the first table keeps has the bit
-    pub table_bad : (t : Table G A S) → slice_get ts 0 ≡ Some t → (bad : ℕ) → SomeBad p bad ↔ ((a : ℕ) × (b : ℕ) × Member (pair a b) t.found.pairs.keys × (bit_of b bad ≡ true))
+    pub table_bad : (t : Table G A S) → slice_get ts 0 ≡ Some t → (bad : ℕ)
+        → SomeBad p bad ↔ ((a : ℕ) × (b : ℕ) × Member (pair a b) t.found.pairs.keys × (bit_of b bad ≡ true))
     table_bad t is bad =
-        let bits = bad_left p (map graph_of ts) T are.drawn.0 are.drawn.2 (opening t is) sent_taken is_due are.drawn.1 t.graph.now (get_map graph_of ts 0 t is) bad in (
-          λ h. let (a, b, leaves, bit) = bits.0 h in (a, b, ((quiet_at 0 t is).leaves a b).1 (subst (λ (o : Option (Table G A S)). Leaves t.graph.now (IsTaken o) a b) is leaves), bit),
-          λ h. bits.1 (h.0, h.1, subst (λ (o : Option (Table G A S)). Leaves t.graph.now (IsTaken o) h.0 h.1) (sym is) (((quiet_at 0 t is).leaves h.0 h.1).0 h.2), h.3),
+        let bits =
+        bad_left p (map graph_of ts) T are.drawn.0 are.drawn.2 (opening t is) sent_taken is_due are.drawn.1 t.graph.now
+        (get_map graph_of ts 0 t is) bad in (
+          λ h. let (a, b, leaves, bit) = bits.0 h in (
+            a,
+            b,
+            ((quiet_at 0 t is).leaves a b).1 (subst (λ (o : Option (Table G A S)). Leaves t.graph.now (IsTaken o) a b) is leaves),
+            bit,
+          ),
+          λ h.
+              bits.1 (
+                h.0,
+                h.1,
+                subst (λ (o : Option (Table G A S)). Leaves t.graph.now (IsTaken o) h.0 h.1) (sym is)
+                    (((quiet_at 0 t is).leaves h.0 h.1).0 h.2),
+                h.3,
+              ),
         )
 
     module _ (ss : List Effect) (as_long : length ss ≡ length ts) (read : AreReadOff ts ss) where

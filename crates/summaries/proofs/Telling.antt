@@ -33,7 +33,8 @@ gives_known m old known = record {
 }
 
 -- the same messages, called otherwise
-pub gives_as : (V W : Mail → Type 0) (old new : List Mail) → ((x : Mail) → V x → W x) → ((x : Mail) → W x → V x) → Gives V old new → Gives W old new
+pub gives_as : (V W : Mail → Type 0) (old new : List Mail) → ((x : Mail) → V x → W x) → ((x : Mail) → W x → V x) → Gives V old new
+    → Gives W old new
 gives_as V W old new to from gives = record {
   all = λ x w. gives.all x (from x w);
   only = λ x n. elim (gives.only x n) [ inl v ↦ inl (to x v) | inr was ↦ inr was ];
@@ -45,7 +46,8 @@ pub gives_kept : (W : Mail → Type 0) (old new : List Mail) → Gives W old new
 gives_kept W old new gives x m = subst (Member x) (sym gives.behind.1) (member_left x old gives.behind.0 m)
 
 -- one giving after another
-pub gives_both : (V W U : Mail → Type 0) (old mid new : List Mail) → Gives V old mid → Gives W mid new → ((x : Mail) → U x → V x ⊎ W x) → ((x : Mail) → V x ⊎ W x → U x) →
+pub gives_both : (V W U : Mail → Type 0) (old mid new : List Mail) → Gives V old mid → Gives W mid new → ((x : Mail) → U x → V x ⊎ W x)
+    → ((x : Mail) → V x ⊎ W x → U x) →
     Gives U old new
 gives_both V W U old mid new first second from to = record {
   all = λ x u. elim (from x u) [ inl v ↦ gives_kept W mid new second x (first.all x v) | inr w ↦ second.all x w ];
@@ -60,7 +62,8 @@ gives_both V W U old mid new first second from to = record {
 }
 
 -- one item more
-pub gives_more : {X : Type 0} (W : X → Mail → Type 0) (xs : List X) (y : X) (old mid new : List Mail) → Gives (Each W xs) old mid → Gives (W y) mid new → Gives (Each W (xs ++ y ∷ [])) old new
+pub gives_more : {X : Type 0} (W : X → Mail → Type 0) (xs : List X) (y : X) (old mid new : List Mail) → Gives (Each W xs) old mid
+    → Gives (W y) mid new → Gives (Each W (xs ++ y ∷ [])) old new
 gives_more W xs y old mid new first second =
     gives_both (Each W xs) (W y) (Each W (xs ++ y ∷ [])) old mid new first second
     (λ x w. each_or_last W xs y x w)

@@ -15,7 +15,8 @@ use Rattle.summaries.specs.declared.found.Found.{Found}
 use Rattle.summaries.specs.Found.{site, HasSite, HasExit, IsWorked}
 use Rattle.summaries.specs.Grows.{IsNext}
 
-module _ {A G : Type 0} (graph : Graph G) (q : ℕ) (f : Found A) (es : List Triple) (e : Edge) (leaves : e.point ≡ 0 → HasExit f e.entry (left graph.globals e.values)) where
+module _ {A G : Type 0} (graph : Graph G) (q : ℕ) (f : Found A) (es : List Triple) (e : Edge)
+    (leaves : e.point ≡ 0 → HasExit f e.entry (left graph.globals e.values)) where
   -- where there is no such point
   pub beyond_worked : length graph.flows.items ≤ e.point → IsWorked graph q f es e.entry e.point e.values
   beyond_worked past = record {
@@ -42,11 +43,13 @@ module _ {A G : Type 0} (graph : Graph G) (q : ℕ) (f : Found A) (es : List Tri
       is flow at = same_Some flow (Call call) (sym at ∙ here)
 
   -- where what its choices lead to is there, and it does not call
-  pub led_worked : (flow : Flow G) → slice_get graph.flows.items e.point ≡ Some flow → ((call : rust.Call G) → flow ≡ Call call → ⊥) → ((t : Triple) → IsNext flow e t → Member t es) →
+  pub led_worked : (flow : Flow G) → slice_get graph.flows.items e.point ≡ Some flow → ((call : rust.Call G) → flow ≡ Call call → ⊥)
+      → ((t : Triple) → IsNext flow e t → Member t es) →
       IsWorked graph q f es e.entry e.point e.values
   led_worked flow here no_call all = record {
     flows = λ w i n v at most next.
-        all (triple e.entry n v) (i, subst (λ u. i ≤ last_of u) (is w at) most, (n, v, subst (λ u. next_of u e.values i ≡ Some (n, v)) (is w at) next, refl));
+        all (triple e.entry n v)
+        (i, subst (λ u. i ≤ last_of u) (is w at) most, (n, v, subst (λ u. next_of u e.values i ≡ Some (n, v)) (is w at) next, refl));
     calls = λ w s x n at enters. absurd (no_entry flow no_call (subst (λ u. entered_by u e.values ≡ Some (s, x, n)) (is w at) enters));
     leaves = leaves;
   }

@@ -96,7 +96,8 @@ module _ {A G : Type 0} (graph : Graph G) (q : ℕ) (f : Found A) (edges : List 
     pub callers_once : (a : ℕ) → NoneTwice (under nat_eq f.entries.by_key a)
     pub exits_once : (a : ℕ) → NoneTwice (under nat_eq f.exits.by_key a)
 
-  -- The edge is worked on: where its choices lead are edges, its call stands as a site, and at the exit its globals as an
+  -- The edge is worked on: where its choices lead are edges, its call stands as a site, and at the exit its globals as
+  -- an
   -- exit.
   pub record IsWorked (a n v : ℕ) : Type 0 where
     pub flows : (flow : Flow G) (i n' v' : ℕ) → slice_get (flows_of graph) n ≡ Some flow → i ≤ last_of flow →
@@ -107,7 +108,8 @@ module _ {A G : Type 0} (graph : Graph G) (q : ℕ) (f : Found A) (edges : List 
     pub leaves : n ≡ 0 → HasExit f a (left (globals_of graph) v)
 
   -- The start of each entry is an edge; each edge is pending, worked on, or one of those left aside; where a site and a
-  -- summary meet is the edge behind the call; each site's entry is given; where an exit and a caller's entry meet is the
+  -- summary meet is the edge behind the call; each site's entry is given; where an exit and a caller's entry meet is
+  -- the
   -- summary given; the pairs are the exits.
   pub record IsComplete (Aside : Triple → Type 0) : Type 0 where
     pub begun : (from : Caller) (a : ℕ) → TookMessage f (numbered_entry from a) → Member (triple a (start_of graph) a) edges

@@ -26,7 +26,8 @@ triple_of e = triple e.entry e.point e.values
 abbrev pub edge_of : Triple → Edge
 edge_of t = record { entry = t.entry; point = t.point; values = t.values }
 
--- The triples of which W holds are edges after, beside those before, and no others; each edge that is new stands pending,
+-- The triples of which W holds are edges after, beside those before, and no others; each edge that is new stands
+-- pending,
 -- beside those before; what comes to stand pending is an edge; as many come to stand pending as there are new edges.
 pub record Grows (W : Triple → Type 0) (old new : List Triple) (before after : List Edge) : Type 0 where
   pub all : (t : Triple) → W t → Member t new
@@ -42,8 +43,10 @@ pub record Grows (W : Triple → Type 0) (old new : List Triple) (before after :
 abbrev pub AddsOnly : {X : Type 0} → (X → Type 0) → List X → List X → Type 0
 AddsOnly {X} W old new = (x : X) → Member x new → W x ⊎ Member x old
 
--- Triples were to be added, and so answers the adding. On Ok those of which W holds are added, and what is new stands pending;
--- whatever the answer, no others are added, and no more than the limit; where the answer is that the limit is passed, there are
+-- Triples were to be added, and so answers the adding. On Ok those of which W holds are added, and what is new stands
+-- pending;
+-- whatever the answer, no others are added, and no more than the limit; where the answer is that the limit is passed,
+-- there are
 -- as many, and one of which W holds is not among them.
 pub record Adds (W : Triple → Type 0) {T : Type 0} (answer : Result T TableFault) (most : ℕ) (old new : List Triple)
     (before after : List Edge) : Type 0 where

@@ -89,7 +89,8 @@ pub record StaysAs {G A S : Type 0} (old new : Table G A S) : Type 0 where
   pub procedure : new.procedure ≡ old.procedure
   pub limit : new.limit ≡ old.limit
 
--- The table has answered this message: it comes behind those that were answered before, is sent by the messages taken, and is
+-- The table has answered this message: it comes behind those that were answered before, is sent by the messages taken,
+-- and is
 -- none of those answered before.
 pub record IsAnswer {G A S : Type 0} (old new : Table G A S) (to : ℕ) (d : Due) : Type 0 where
   pub behind : answers_of new ≡ answers_of old ++ mail to d ∷ []
@@ -97,13 +98,15 @@ pub record IsAnswer {G A S : Type 0} (old new : Table G A S) (to : ℕ) (d : Due
   pub once : Member (mail to d) (answers_of old) → ⊥
 
 module _ {G A S : Type 0} (members : S → List Triple) where
-  -- All that the table holds is reached and sent, and nothing that is reached or sent is left out but by what is pending
+  -- All that the table holds is reached and sent, and nothing that is reached or sent is left out but by what is
+  -- pending
   -- and by the edges left aside.
   abbrev pub Holds : (Triple → Type 0) → Table G A S → Type 0
   Holds Aside t = IsGrounded t.graph.now t.procedure t.found (members t.edges) ×
       IsComplete t.graph.now t.procedure t.found (members t.edges) Aside
 
-  -- The edges kept are reached by the messages taken, and no more than the limit; unless the table has failed, nothing is
+  -- The edges kept are reached by the messages taken, and no more than the limit; unless the table has failed, nothing
+  -- is
   -- left out but by what is pending; where it has failed for its limit, more edges than that are reached.
   pub record IsTable (t : Table G A S) : Type 0 where
     pub edges : (x : Triple) → Member x (members t.edges) → IsReached t x
@@ -118,8 +121,10 @@ module _ {G A S : Type 0} (members : S → List Triple) where
     pub answered : answers_of t ≡ []
     pub fault : t.fault ≡ None
 
-  -- The table has worked, and so answers. It is that of the same procedure; the edges kept are reached by the messages taken,
-  -- and no more than the limit. On Ok nothing is left out but by what is pending and by the edges left aside, and no message
+  -- The table has worked, and so answers. It is that of the same procedure; the edges kept are reached by the messages
+  -- taken,
+  -- and no more than the limit. On Ok nothing is left out but by what is pending and by the edges left aside, and no
+  -- message
   -- was answered; where the answer is that the limit is passed, more edges than that are reached.
   pub record Worked (Aside : Triple → Type 0) {T : Type 0} (answer : Result T TableFault) (old new : Table G A S) : Type 0 where
     pub holds : OnOk answer (Holds Aside new)
@@ -130,8 +135,10 @@ module _ {G A S : Type 0} (members : S → List Triple) where
     pub stays : StaysAs old new
     pub fault : new.fault ≡ old.fault
 
-  -- The table was given a message to take, and so answers. It is that of the same procedure, and has failed where the answer is
-  -- a fault. On Ok it has taken the message, and answered none; it has taken no other; once failed, it answers that from then on.
+  -- The table was given a message to take, and so answers. It is that of the same procedure, and has failed where the
+  -- answer is
+  -- a fault. On Ok it has taken the message, and answered none; it has taken no other; once failed, it answers that
+  -- from then on.
   pub record Takes (d : Due) {T : Type 0} (answer : Result T TableFault) (old new : Table G A S) : Type 0 where
     pub table : IsTable new
     pub taken : OnOk answer (TookAlso d old.found new.found)

@@ -52,7 +52,8 @@ module _ {G A S : Type 0} where
   AreReadOff ts ss = (q : ℕ) (t : Table G A S) (s : Effect) → slice_get ts q ≡ Some t → slice_get ss q ≡ Some s → IsReadOff t s
 
 module _ {G A S : Type 0} (members : S → List Triple) where
-  -- The table is that of procedure q, works on the flow graph that was drawn from it, and has taken only messages that are due
+  -- The table is that of procedure q, works on the flow graph that was drawn from it, and has taken only messages that
+  -- are due
   -- for it.
   pub record IsTableOf (p : Program) (q : ℕ) (t : Table G A S) : Type 0 where
     pub fit : ArgumentsFit p
@@ -67,7 +68,8 @@ module _ {G A S : Type 0} (members : S → List Triple) where
     pub fresh : (q : ℕ) (t : Table G A S) → slice_get ts q ≡ Some t → IsNew members t
     pub number : (q : ℕ) (t : Table G A S) → slice_get ts q ≡ Some t → procedure_of t ≡ q
 
-  -- The tables are those of the program's procedures, by number, and none has failed; what each has taken is due for its
+  -- The tables are those of the program's procedures, by number, and none has failed; what each has taken is due for
+  -- its
   -- procedure; and the opening and each message that was answered is taken by its receiver, but for those left aside.
   pub record AreTables (p : Program) (Aside : Mail → Type 0) (ts : List (Table G A S)) : Type 0 where
     pub drawn : AreDrawnFrom p (map graph_of ts)

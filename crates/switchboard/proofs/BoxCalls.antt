@@ -38,10 +38,17 @@ module _ {M W : Type 0} (fits : W → ℕ → M → Type 0) where
     pub close : x.knows ≡ true → IsClosed x.order
 
   pub later_start : (w : W) (boxes : ℕ) (made : Bool) (x : Seen M) → IsSeen fits w boxes made x → Later w boxes x x
-  later_start w boxes made x s = record { begins = StartsWith-refl x.order; aborted = λ c e. e; knows = λ e. e; sound = s.sound; close = s.close }
+  later_start w boxes made x s = record {
+    begins = StartsWith-refl x.order;
+    aborted = λ c e. e;
+    knows = λ e. e;
+    sound = s.sound;
+    close = s.close;
+  }
 
   -- and so after one more step
-  pub later_next : (w : W) (boxes : ℕ) (base : Ground M W) (a : Seen M) (v : View M W) (y : Seen M) → get_elem? v.boards 0 ≡ some base → base.world.value ≡ w → base.boxes ≡ boxes → Later w boxes a v.seen → News fits v y → Later w boxes a y
+  pub later_next : (w : W) (boxes : ℕ) (base : Ground M W) (a : Seen M) (v : View M W) (y : Seen M) → get_elem? v.boards 0 ≡ some base
+      → base.world.value ≡ w → base.boxes ≡ boxes → Later w boxes a v.seen → News fits v y → Later w boxes a y
   later_next w boxes base a v y is world count l n =
       let opens = l.sound.lawful.opens in
       let some_of : 0 < length y.order = omega (arith, ap length opens.3, StartsWith-length y.order v.seen.order n.begins) in
@@ -49,15 +56,25 @@ module _ {M W : Type 0} (fits : W → ℕ → M → Type 0) where
         begins = StartsWith-trans y.order v.seen.order a.order n.begins l.begins;
         aborted = λ c e. n.aborted c (l.aborted c e);
         knows = λ e. n.knows (l.knows e);
-        sound = subst (λ z. IsSound fits z) (λ i. record { world = world i; boxes = count i; order = y.order; aborted = y.aborted }) (n.sound some_of base is);
+        sound =
+            subst (λ z. IsSound fits z) (λ i. record { world = world i; boxes = count i; order = y.order; aborted = y.aborted })
+            (n.sound some_of base is);
         close = n.close;
       }
 
-  pub seen_on : (w : W) (boxes : ℕ) (made : Bool) (a x : Seen M) → IsSeen fits w boxes made a → Later w boxes a x → IsSeen fits w boxes made x
+  pub seen_on : (w : W) (boxes : ℕ) (made : Bool) (a x : Seen M) → IsSeen fits w boxes made a → Later w boxes a x
+      → IsSeen fits w boxes made x
   seen_on w boxes made a x s l = record {
     sound = l.sound;
     close = l.close;
-    known = λ e. some_later fits (state_seen w boxes a) (state_seen w boxes x) record { world = refl; boxes = refl; order = l.begins; aborted = l.aborted } (s.known e);
+    known =
+        λ e.
+        some_later fits (state_seen w boxes a) (state_seen w boxes x) record {
+          world = refl;
+          boxes = refl;
+          order = l.begins;
+          aborted = l.aborted;
+        } (s.known e);
   }
 
   -- a pass was inside the lock of a mailbox, found x, and left y
@@ -81,23 +98,37 @@ module _ {M W : Type 0} (fits : W → ℕ → M → Type 0) where
     visit_out = visit.left.0 ∙ (ap table.rest visit.slots ∙ ap table.rest visit.inside.out)
 
     -- it has one ticket fewer to draw in that lock, and is ready again
-    pub visit_hands : (left boxes : ℕ) → (left ≡ 0 → ⊥) → ((k : ℕ) → k < boxes → IsIdle left (hand_at k b.0)) → out.0.hands ≡ set v.0.hands q (hand_at q out.0) → (k : ℕ) → k < boxes → IsIdle (left - 1) (hand_at k out.0)
+    pub visit_hands : (left boxes : ℕ) → (left ≡ 0 → ⊥) → ((k : ℕ) → k < boxes → IsIdle left (hand_at k b.0))
+        → out.0.hands ≡ set v.0.hands q (hand_at q out.0) → (k : ℕ) → k < boxes → IsIdle (left - 1) (hand_at k out.0)
     visit_hands left boxes some_of idle hands k near = dite (ℕ_discrete k q)
         (λ (e : k ≡ q). subst (λ i. IsIdle (left - 1) (hand_at i out.0)) (sym e) (
         let was = idle q (subst (λ i. i < boxes) e near) in
         let h : hand_at q out.0 ≡ with_leave y (hand_at q v.0) = visit.left.1 in
         record {
-          tickets = ap (λ (z : Hand (List (Event M))). z.tickets) h ∙ (ap (λ (z : Hand (List (Event M))). z.tickets) same_hand ∙ visit.inside.tickets);
+          tickets = ap (λ (z : Hand (List (Event M))). z.tickets) h
+              ∙ (ap (λ (z : Hand (List (Event M))). z.tickets) same_hand ∙ visit.inside.tickets);
           inside = ap (λ (z : Hand (List (Event M))). z.inside) h;
-          parts = ap (λ (z : Hand (List (Event M))). z.parts) h ∙ (ap (λ (z : Hand (List (Event M))). z.parts) same_hand ∙ (visit.inside.parts ∙ was.parts));
-          drawn = omega (arith, ap (λ (z : Hand (List (Event M))). length z.drawn) h, ap (λ (z : Hand (List (Event M))). length z.drawn) same_hand, visit.inside.drawn, was.drawn, some_of);
+          parts = ap (λ (z : Hand (List (Event M))). z.parts) h
+              ∙ (ap (λ (z : Hand (List (Event M))). z.parts) same_hand ∙ (visit.inside.parts ∙ was.parts));
+          drawn =
+              omega (
+                arith,
+                ap (λ (z : Hand (List (Event M))). length z.drawn) h,
+                ap (λ (z : Hand (List (Event M))). length z.drawn) same_hand,
+                visit.inside.drawn,
+                was.drawn,
+                some_of,
+              );
         }))
         (λ (ne : k ≢ q).
         let was = idle k near in
         let there : hand_at k out.0 ≡ hand_at k b.0 =
-        ap (λ l. get_or l k (bare 0)) hands ∙ (get_or-set_other v.0.hands q k (hand_at q out.0) (bare 0) ne ∙ (ap (λ l. get_or l k (bare 0)) visit.hands
-        ∙ (ap (λ (z : View M W). get_or z.hands k (bare 0)) visit.inside.after ∙ get_or-set_other b.0.hands q k (hand_at q in_it.0) (bare 0) ne))) in
-        subst (λ h. IsIdle (left - 1) h) (sym there) record { tickets = was.tickets; inside = was.inside; parts = was.parts; drawn = omega (arith, was.drawn) })
+        ap (λ l. get_or l k (bare 0)) hands
+        ∙ (get_or-set_other v.0.hands q k (hand_at q out.0) (bare 0) ne ∙ (ap (λ l. get_or l k (bare 0)) visit.hands
+        ∙ (ap (λ (z : View M W). get_or z.hands k (bare 0)) visit.inside.after
+        ∙ get_or-set_other b.0.hands q k (hand_at q in_it.0) (bare 0) ne))) in
+        subst (λ h. IsIdle (left - 1) h)
+        (sym there) record { tickets = was.tickets; inside = was.inside; parts = was.parts; drawn = omega (arith, was.drawn) })
 
   module _ (id : TableId) (number left : ℕ) (made : Bool) (w : W) (boxes : ℕ) (m : Seat M W)
       (p : IsBoxPass fits id number left made w boxes m) where
@@ -111,14 +142,17 @@ module _ {M W : Type 0} (fits : W → ℕ → M → Type 0) where
     first_later = later_start w boxes made m.0.seen p.seen
 
     -- a later sight, after one more step of a seat of the pass
-    pub step_later : (v : View M W) (y : Seen M) → v.boards ≡ m.0.boards → Later w boxes m.0.seen v.seen → News fits v y → Later w boxes m.0.seen y
+    pub step_later : (v : View M W) (y : Seen M) → v.boards ≡ m.0.boards → Later w boxes m.0.seen v.seen → News fits v y
+        → Later w boxes m.0.seen y
     step_later v y same l n = later_next w boxes p.base m.0.seen v y (ap (λ l. get_elem? l 0) same ∙ p.is_base) p.world p.mailboxes l n
 
     -- the pass made none but its own events
-    pub own_same : (v : View M W) (order : List (Entry M)) → v.lanes ≡ m.0.lanes → HasOwn fits v order → own number order ≡ own number m.0.seen.order
+    pub own_same : (v : View M W) (order : List (Entry M)) → v.lanes ≡ m.0.lanes → HasOwn fits v order
+        → own number order ≡ own number m.0.seen.order
     own_same v order same has = has 0 own_part (ap (λ l. get_elem? l 0) (same ∙ p.lanes))
 
-    pub goes : (id' : TableId) (left' : ℕ) (made' : Bool) (x : Seen M) → id' ≡ id → Later w boxes m.0.seen x → (made' ≡ true → IsSome x.aborted) → GoesOn fits sight (box_sight id' number left' made' w boxes x)
+    pub goes : (id' : TableId) (left' : ℕ) (made' : Bool) (x : Seen M) → id' ≡ id → Later w boxes m.0.seen x
+        → (made' ≡ true → IsSome x.aborted) → GoesOn fits sight (box_sight id' number left' made' w boxes x)
     goes id' left' made' x same l known = record {
       board = same;
       number = refl;
@@ -129,13 +163,18 @@ module _ {M W : Type 0} (fits : W → ℕ → M → Type 0) where
       close = l.close;
     }
 
-    pub looked_is : (id' : TableId) (x : Seen M) → id' ≡ id → (left ≡ 0 → ⊥) → Later w boxes m.0.seen x → own number x.order ≡ own number m.0.seen.order → Looked fits sight (box_sight id' number (left - 1) made w boxes x)
-    looked_is id' x same some_of l list = (record { goes = goes id' (left - 1) made x same l (seen_on w boxes made m.0.seen x p.seen l).known; made = refl; own = list }, omega (arith, some_of))
+    pub looked_is : (id' : TableId) (x : Seen M) → id' ≡ id → (left ≡ 0 → ⊥) → Later w boxes m.0.seen x
+        → own number x.order ≡ own number m.0.seen.order → Looked fits sight (box_sight id' number (left - 1) made w boxes x)
+    looked_is id' x same some_of l list = (
+      record { goes = goes id' (left - 1) made x same l (seen_on w boxes made m.0.seen x p.seen l).known; made = refl; own = list },
+      omega (arith, some_of),
+    )
 
     pub pass_on : (id' : TableId) (left' : ℕ) (made' : Bool) (u : Seat M W) → id' ≡ id → u.0.boards ≡ m.0.boards
         → u.0.lanes ≡ record { number = number; events = own number u.0.seen.order; made = made' } ∷ [] → u.1 ≡ [] → u.0.told ≡ unseen
         → u.0.owes ≡ 0
-        → left' ≤ u.0.budget → ((q : ℕ) → q < boxes → IsIdle left' (hand_at q u.0)) → IsSeen fits w boxes made' u.0.seen → IsBoxPass fits id' number left' made' w boxes u
+        → left' ≤ u.0.budget → ((q : ℕ) → q < boxes → IsIdle left' (hand_at q u.0)) → IsSeen fits w boxes made' u.0.seen
+        → IsBoxPass fits id' number left' made' w boxes u
     pass_on id' left' made' u same board lanes out told owes budget hands seen = record {
       base = p.base;
       is_base = ap (λ l. get_elem? l 0) board ∙ p.is_base;
@@ -153,7 +192,8 @@ module _ {M W : Type 0} (fits : W → ℕ → M → Type 0) where
     }
 
     -- the lanes, where the own list stays
-    pub same_lanes : (u : View M W) → u.lanes ≡ m.0.lanes → own number u.seen.order ≡ own number m.0.seen.order → u.lanes ≡ record { number = number; events = own number u.seen.order; made = made } ∷ []
+    pub same_lanes : (u : View M W) → u.lanes ≡ m.0.lanes → own number u.seen.order ≡ own number m.0.seen.order
+        → u.lanes ≡ record { number = number; events = own number u.seen.order; made = made } ∷ []
     same_lanes u same list = same ∙ (p.lanes ∙ ap (λ l. record { number = number; events = l; made = made } ∷ []) (sym list))
 
     -- a pass that looked, and did no more
@@ -176,18 +216,24 @@ module _ {M W : Type 0} (fits : W → ℕ → M → Type 0) where
 
     module _ (q : ℕ) (x y : List (Event M)) (b in_it v out : Seat M W) (visit : Visit q x y b in_it v out)
         (idle : (k : ℕ) → k < boxes → IsIdle left (hand_at k b.0)) (b_out : b.1 ≡ m.1) (some_of : left ≡ 0 → ⊥)
-        (board : v.0.boards ≡ m.0.boards) (lanes : v.0.lanes ≡ m.0.lanes) (told : v.0.told ≡ m.0.told) (budget : left ≤ v.0.budget + 1) (later : Later w boxes m.0.seen v.0.seen) where
+        (board : v.0.boards ≡ m.0.boards) (lanes : v.0.lanes ≡ m.0.lanes) (told : v.0.told ≡ m.0.told) (budget : left ≤ v.0.budget + 1)
+        (later : Later w boxes m.0.seen v.0.seen) where
       -- it left the mailbox as it was
       pub stays_on : (id' : TableId) → id' ≡ id → y ≡ x → v.0.owes ≡ 0 → own number v.0.seen.order ≡ own number m.0.seen.order
-          → IsBoxPass fits id' number (left - 1) made w boxes out × Looked fits sight (box_sight id' number (left - 1) made w boxes out.0.seen) × (out.0.seen ≡ v.0.seen)
+          → IsBoxPass fits id' number (left - 1) made w boxes out
+          × Looked fits sight (box_sight id' number (left - 1) made w boxes out.0.seen) × (out.0.seen ≡ v.0.seen)
       stays_on id' same unchanged owes list =
           let is : out.0 ≡ with_hand q (hand_at q out.0) v.0 = (visit_tells q x y b in_it v out visit).0 unchanged in
           let seen : out.0.seen ≡ v.0.seen = ap (λ (z : View M W). z.seen) is in
           let l : Later w boxes m.0.seen out.0.seen = subst (λ z. Later w boxes m.0.seen z) (sym seen) later in
           let list' : own number out.0.seen.order ≡ own number m.0.seen.order = ap (λ (z : Seen M). own number z.order) seen ∙ list in (
-            pass_on id' (left - 1) made out same (ap (λ (z : View M W). z.boards) is ∙ board) (same_lanes out.0 (ap (λ (z : View M W). z.lanes) is ∙ lanes) list') (visit_out q x y b in_it v out visit ∙ (b_out ∙ p.outside))
-                (ap (λ (z : View M W). z.told) is ∙ (told ∙ p.told)) (ap (λ (z : View M W). z.owes) is ∙ owes) (omega (arith, ap (λ (z : View M W). z.budget) is))
-                (visit_hands q x y b in_it v out visit left boxes some_of idle (ap (λ (z : View M W). z.hands) is)) (seen_on w boxes made m.0.seen out.0.seen p.seen l),
+            pass_on id' (left - 1) made out same (ap (λ (z : View M W). z.boards) is ∙ board)
+                (same_lanes out.0 (ap (λ (z : View M W). z.lanes) is ∙ lanes) list')
+                (visit_out q x y b in_it v out visit ∙ (b_out ∙ p.outside))
+                (ap (λ (z : View M W). z.told) is ∙ (told ∙ p.told)) (ap (λ (z : View M W). z.owes) is ∙ owes)
+                (omega (arith, ap (λ (z : View M W). z.budget) is))
+                (visit_hands q x y b in_it v out visit left boxes some_of idle (ap (λ (z : View M W). z.hands) is))
+                (seen_on w boxes made m.0.seen out.0.seen p.seen l),
             looked_is id' out.0.seen same some_of l list',
             seen,
           )
@@ -204,7 +250,8 @@ module _ {M W : Type 0} (fits : W → ℕ → M → Type 0) where
         grown_order = ap (λ (z : View M W). z.seen.order) recorded_is.after
 
         pub grown_own : own number out.0.seen.order ≡ own number m.0.seen.order ++ entry ∷ []
-        grown_own = ap (own number) grown_order ∙ (own-append number recorded_is.front (entry ∷ []) ∙ (λ i. recorded_is.own i ++ own_here number entry [] maker i))
+        grown_own = ap (own number) grown_order
+            ∙ (own-append number recorded_is.front (entry ∷ []) ∙ (λ i. recorded_is.own i ++ own_here number entry [] maker i))
 
         pub later_out : Later w boxes m.0.seen out.0.seen
         later_out = step_later v.0 out.0.seen board later recorded_is.news
@@ -228,7 +275,14 @@ module _ {M W : Type 0} (fits : W → ℕ → M → Type 0) where
             let is = recorded_is.after in
             let l : Later w boxes m.0.seen u.0.seen = subst (λ z. Later w boxes m.0.seen z) (sym seen) later_out in
             pass_on id' (left - 1) made u same (board' ∙ (ap (λ (z : View M W). z.boards) is ∙ board))
-            (lanes' ∙ (ap (λ (z : View M W). z.lanes) is ∙ ap (λ l. record { number = number; events = l; made = made } ∷ []) (sym (ap (λ (z : Seen M). own number z.order) seen ∙ grown_own))))
-            (slots ∙ (visit_out q x y b in_it v out visit ∙ (b_out ∙ p.outside))) (told' ∙ (ap (λ (z : View M W). z.told) is ∙ (told ∙ p.told))) owes (omega (arith, budget', ap (λ (z : View M W). z.budget) is))
-            (λ k near. subst (λ h. IsIdle (left - 1) h) (sym (ap (λ l. get_or l k (bare 0)) hands)) (visit_hands q x y b in_it v out visit left boxes some_of idle (ap (λ (z : View M W). z.hands) is) k near))
+            (lanes'
+            ∙ (ap (λ (z : View M W). z.lanes) is
+            ∙ ap (λ l. record { number = number; events = l; made = made } ∷ [])
+            (sym (ap (λ (z : Seen M). own number z.order) seen ∙ grown_own))))
+            (slots ∙ (visit_out q x y b in_it v out visit ∙ (b_out ∙ p.outside)))
+            (told' ∙ (ap (λ (z : View M W). z.told) is ∙ (told ∙ p.told))) owes
+            (omega (arith, budget', ap (λ (z : View M W). z.budget) is))
+            (λ k near.
+            subst (λ h. IsIdle (left - 1) h) (sym (ap (λ l. get_or l k (bare 0)) hands))
+            (visit_hands q x y b in_it v out visit left boxes some_of idle (ap (λ (z : View M W). z.hands) is) k near))
             (seen_on w boxes made m.0.seen u.0.seen p.seen l)

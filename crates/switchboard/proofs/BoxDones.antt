@@ -21,7 +21,8 @@ use Rattle.switchboard.specs.Entries.{job_stays}
 use Rattle.switchboard.specs.Knowing.{hand_at, counted_down, made_abort}
 use Rattle.switchboard.specs.PerBox.{View, Asks, Tells, IsInside, Raised, Seat}
 use Rattle.switchboard.specs.BoxPasses.{IsIdle, box_sight, IsBoxPass}
-use Rattle.switchboard.proofs.BoxCalls.{Later, Visit, own_part, first_later, step_later, own_same, goes, pass_on, recorded_is, added_is, record_on}
+use Rattle.switchboard.proofs.BoxCalls.{Later, Visit, own_part, first_later, step_later, own_same, goes, pass_on, recorded_is, added_is}
+use Rattle.switchboard.proofs.BoxCalls.{record_on}
 
 module _ {M W : Type 0} (fits : W → ℕ → M → Type 0) (id : TableId) (number left : ℕ) (made : Bool) (w : W) (boxes : ℕ) (m : Seat M W)
     (p : IsBoxPass fits id number left made w boxes m) where
@@ -37,7 +38,9 @@ module _ {M W : Type 0} (fits : W → ℕ → M → Type 0) (id : TableId) (numb
     pub may_complete : (take < length (takes x)) × (Contains (dones x) take → ⊥)
     may_complete =
         let was : HasJob number job m.0.seen.order = subst (λ (z : Sight M W). HasJob z.number job z.seen.order) (sym see) has in
-        let now : HasJob number take v.0.seen.order = subst (λ k. HasJob number k v.0.seen.order) (sym same_job) (job_stays number job m.0.seen.order v.0.seen.order (sym list) was) in
+        let now : HasJob number take v.0.seen.order =
+        subst (λ k. HasJob number k v.0.seen.order) (sym same_job)
+        (job_stays number job m.0.seen.order v.0.seen.order (sym list) was) in
         subst (λ h. (take < length (takes h)) × (Contains (dones h) take → ⊥)) inside.part now
 
     module _ (y : List (Event M)) (grown : y ≡ x ++ Done take ∷ []) where
@@ -53,7 +56,8 @@ module _ {M W : Type 0} (fits : W → ℕ → M → Type 0) (id : TableId) (numb
         visit = record { inside = inside; hands = refl; slots = refl; left = gone }
 
         later : Later fits w boxes m.0.seen v.0.seen
-        later = step_later fits id number left made w boxes m p m.0 v.0.seen refl (first_later fits id number left made w boxes m p) inside.news
+        later =
+            step_later fits id number left made w boxes m p m.0 v.0.seen refl (first_later fits id number left made w boxes m p) inside.news
 
         board : v.0.boards ≡ m.0.boards
         board = ap (λ (z : View M W). z.boards) inside.after
@@ -66,7 +70,10 @@ module _ {M W : Type 0} (fits : W → ℕ → M → Type 0) (id : TableId) (numb
 
         -- it has its Done in the count
         pub done_owes : out.0.owes ≡ 1
-        done_owes = ap (λ (z : View M W). z.owes) (recorded_is fits id number left made w boxes m p number x y m v v out visit p.hands refl some_of board lanes told budget later (Done take) grown refl).after
+        done_owes =
+            ap (λ (z : View M W). z.owes)
+            (recorded_is fits id number left made w boxes m p number x y m v v out visit p.hands refl some_of board lanes told budget later
+            (Done take) grown refl).after
             ∙ omega (arith, ap (λ (z : View M W). z.owes) inside.after, p.owes)
 
         module _ (u : Seat M W) (counted : u ≡ (counted_down out.0, out.1)) (id' : TableId) (same : id' ≡ id) where
@@ -75,12 +82,17 @@ module _ {M W : Type 0} (fits : W → ℕ → M → Type 0) (id : TableId) (numb
 
           pub done_on : IsBoxPass fits id' number (left - 1) made w boxes u
           done_on = subst (λ z. IsBoxPass fits id' number (left - 1) made w boxes z) (sym counted)
-              (record_on fits id number left made w boxes m p number x y m v v out visit p.hands refl some_of board lanes told budget later (Done take) grown refl id' after same refl refl refl refl refl refl (omega (arith, done_owes)) refl)
+              (record_on fits id number left made w boxes m p number x y m v v out visit p.hands refl some_of board lanes told budget later
+              (Done take) grown refl id' after same refl refl refl refl refl refl (omega (arith, done_owes)) refl)
 
           pub was_done : WasDone fits job s (box_sight id' number (left - 1) made w boxes u.0.seen)
           was_done =
-              let a = added_is fits id number left made w boxes m p number x y m v v out visit p.hands refl some_of board lanes told budget later (Done take) grown refl id' same in
-              let b : Added fits (Completed number job) before (box_sight id' number (left - 1) made w boxes out.0.seen) = subst (λ k. Added fits (Completed number k) before (box_sight id' number (left - 1) made w boxes out.0.seen)) same_job a in
+              let a =
+              added_is fits id number left made w boxes m p number x y m v v out visit p.hands refl some_of board lanes told budget
+              later (Done take) grown refl id' same in
+              let b : Added fits (Completed number job) before (box_sight id' number (left - 1) made w boxes out.0.seen) =
+              subst
+              (λ k. Added fits (Completed number k) before (box_sight id' number (left - 1) made w boxes out.0.seen)) same_job a in
               let c : Added fits (Completed number job) before (box_sight id' number (left - 1) made w boxes u.0.seen) = subst
               (λ (z : Seen M). Added fits (Completed number job) before (box_sight id' number (left - 1) made w boxes z))
               (sym (ap (λ (z : Seat M W). z.0.seen) counted)) b in
@@ -92,7 +104,8 @@ module _ {M W : Type 0} (fits : W → ℕ → M → Type 0) (id : TableId) (numb
     is = ap (λ (z : Seat M W). z.0) raised.after
 
     later_raised : Later fits w boxes m.0.seen u.0.seen
-    later_raised = step_later fits id number left made w boxes m p m.0 u.0.seen refl (first_later fits id number left made w boxes m p) raised.news
+    later_raised =
+        step_later fits id number left made w boxes m p m.0 u.0.seen refl (first_later fits id number left made w boxes m p) raised.news
 
     list_raised : own number u.0.seen.order ≡ own number m.0.seen.order
     list_raised = own_same fits id number left made w boxes m p m.0 u.0.seen.order refl raised.own
@@ -102,18 +115,24 @@ module _ {M W : Type 0} (fits : W → ℕ → M → Type 0) (id : TableId) (numb
 
     pub abort_on : IsBoxPass fits id' number left true w boxes u
     abort_on = pass_on fits id number left made w boxes m p id' left true u same (ap (λ (z : View M W). z.boards) is)
-        (ap (λ (z : View M W). z.lanes) is ∙ (ap (map made_abort) p.lanes ∙ ap (λ l. record { number = number; events = l; made = true } ∷ []) (sym list_raised)))
+        (ap (λ (z : View M W). z.lanes) is
+        ∙ (ap (map made_abort) p.lanes ∙ ap (λ l. record { number = number; events = l; made = true } ∷ []) (sym list_raised)))
         (ap (λ (z : Seat M W). z.1) raised.after ∙ p.outside) (ap (λ (z : View M W). z.told) is ∙ p.told)
         (ap (λ (z : View M W). z.owes) is ∙ p.owes)
-        (omega (arith, ap (λ (z : View M W). z.budget) is, p.budget)) (λ q near. subst (λ (z : View M W). IsIdle left (hand_at q z)) (sym is) (p.hands q near))
+        (omega (arith, ap (λ (z : View M W). z.budget) is, p.budget))
+        (λ q near. subst (λ (z : View M W). IsIdle left (hand_at q z)) (sym is) (p.hands q near))
         record { sound = later_raised.sound; close = later_raised.close; known = λ _. knows_it }
 
-    pub was_aborted : (s : Sight M W) → before ≡ s → MadeAbort fits record { by = s.number; cause = cause } s (box_sight id' number left true w boxes u.0.seen)
-    was_aborted s see = subst (λ (z : Sight M W). MadeAbort fits record { by = z.number; cause = cause } z (box_sight id' number left true w boxes u.0.seen)) see record {
-      goes = goes fits id number left made w boxes m p id' left true u.0.seen same later_raised (λ _. knows_it);
-      made = refl;
-      calls = refl;
-      own = list_raised;
-      first = λ _. raised.which;
-      again = λ e. absurd (let no_way : true ≡ false = sym e ∙ not_made in cc);
-    }
+    pub was_aborted : (s : Sight M W) → before ≡ s
+        → MadeAbort fits record { by = s.number; cause = cause } s (box_sight id' number left true w boxes u.0.seen)
+    was_aborted s see =
+        subst
+        (λ (z : Sight M W). MadeAbort fits record { by = z.number; cause = cause } z (box_sight id' number left true w boxes u.0.seen))
+        see record {
+          goes = goes fits id number left made w boxes m p id' left true u.0.seen same later_raised (λ _. knows_it);
+          made = refl;
+          calls = refl;
+          own = list_raised;
+          first = λ _. raised.which;
+          again = λ e. absurd (let no_way : true ≡ false = sym e ∙ not_made in cc);
+        }

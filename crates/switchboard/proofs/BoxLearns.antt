@@ -67,26 +67,47 @@ module _ {M W : Type 0} (fits : W → ℕ → M → Type 0) (id : TableId) (numb
     list = took.own 0 (own_part fits id number left made w boxes m p) (ap (λ l. get_elem? l 0) (lanes ∙ p.lanes)) refl
 
     pub learn_on : IsBoxPass fits id' number left made w boxes u
-    learn_on = pass_on fits id number left made w boxes m p id' left made u same (ap (λ (z : View M W). z.boards) is ∙ boards) (same_lanes fits id number left made w boxes m p u.0 (ap (λ (z : View M W). z.lanes) is ∙ lanes) list)
+    learn_on =
+        pass_on fits id number left made w boxes m p id' left made u same (ap (λ (z : View M W). z.boards) is ∙ boards)
+        (same_lanes fits id number left made w boxes m p u.0 (ap (λ (z : View M W). z.lanes) is ∙ lanes) list)
         (ap (λ (z : Seat M W). z.1) took.after ∙ p.outside) (ap (λ (z : View M W). z.told) is)
         (omega (arith, ap (λ (z : View M W). z.owes) is, ap (λ (z : View M W). z.owes) blank, p.owes))
-        (omega (arith, ap (λ (z : View M W). z.budget) is, p.budget)) (λ q near. subst (λ h. IsIdle left h) (sym (ap (λ (z : View M W). get_or z.hands q (bare 0)) is ∙ ap (λ l. get_or l q (bare 0)) hands)) (p.hands q near))
+        (omega (arith, ap (λ (z : View M W). z.budget) is, p.budget))
+        (λ q near.
+        subst (λ h. IsIdle left h) (sym (ap (λ (z : View M W). get_or z.hands q (bare 0)) is ∙ ap (λ l. get_or l q (bare 0)) hands))
+        (p.hands q near))
         (seen_on fits w boxes made m.0.seen u.0.seen p.seen later)
 
     seen : u.0.seen ≡ both_seen m.0.seen x
     seen = ap (λ (z : View M W). z.seen) is
 
-    pub learned_is : (s : Sight M W) → box_sight id number left made w boxes m.0.seen ≡ s → (a : Account M) → box_account told_id x ≡ a → Learned fits a s (box_sight id' number left made w boxes u.0.seen)
-    learned_is s see a see_a = subst (λ z. Learned fits a z (box_sight id' number left made w boxes u.0.seen)) see (subst (λ z. Learned fits z (box_sight id number left made w boxes m.0.seen) (box_sight id' number left made w boxes u.0.seen)) see_a record {
-      none = record { goes = goes fits id number left made w boxes m p id' left made u.0.seen same later (seen_on fits w boxes made m.0.seen u.0.seen p.seen later).known; made = refl; own = list };
-      calls = refl;
-      theirs = took.theirs;
-      longer = elim (dec_le (length x.order) (length m.0.seen.order)) [
-        | yes d ↦ inl (ap (λ (z : Seen M). z.order) seen ∙ longer_first m.0.seen.order x.order d)
-        | no d ↦ inr (ap (λ (z : Seen M). z.order) seen ∙ longer_second m.0.seen.order x.order (lt_of_not-le d))
-      ];
-      abort = took.aborted;
-      either = elim (one_abort m.0.seen.aborted x.aborted) [ inl e ↦ inl (ap (λ (z : Seen M). z.aborted) seen ∙ e) | inr e ↦ inr (ap (λ (z : Seen M). z.aborted) seen ∙ e) ];
-      close = λ e. ap (λ (z : Seen M). z.knows) seen ∙ told_knew m.0.seen.knows x.knows e;
-      known = λ e. either_knew m.0.seen.knows x.knows (sym (ap (λ (z : Seen M). z.knows) seen) ∙ e);
-    })
+    pub learned_is : (s : Sight M W) → box_sight id number left made w boxes m.0.seen ≡ s → (a : Account M) → box_account told_id x ≡ a
+        → Learned fits a s (box_sight id' number left made w boxes u.0.seen)
+    learned_is s see a see_a =
+        subst (λ z. Learned fits a z (box_sight id' number left made w boxes u.0.seen)) see
+        (subst
+        (λ z. Learned fits z (box_sight id number left made w boxes m.0.seen) (box_sight id' number left made w boxes u.0.seen))
+        see_a record {
+          none = record {
+            goes =
+                goes fits id number left made w boxes m p id' left made u.0.seen same later
+                (seen_on fits w boxes made m.0.seen u.0.seen p.seen
+                later).known;
+            made = refl;
+            own = list;
+          };
+          calls = refl;
+          theirs = took.theirs;
+          longer = elim (dec_le (length x.order) (length m.0.seen.order)) [
+            | yes d ↦ inl (ap (λ (z : Seen M). z.order) seen ∙ longer_first m.0.seen.order x.order d)
+            | no d ↦ inr (ap (λ (z : Seen M). z.order) seen ∙ longer_second m.0.seen.order x.order (lt_of_not-le d))
+          ];
+          abort = took.aborted;
+          either =
+              elim (one_abort m.0.seen.aborted x.aborted) [
+                | inl e ↦ inl (ap (λ (z : Seen M). z.aborted) seen ∙ e)
+                | inr e ↦ inr (ap (λ (z : Seen M). z.aborted) seen ∙ e)
+              ];
+          close = λ e. ap (λ (z : Seen M). z.knows) seen ∙ told_knew m.0.seen.knows x.knows e;
+          known = λ e. either_knew m.0.seen.knows x.knows (sym (ap (λ (z : Seen M). z.knows) seen) ∙ e);
+        })

@@ -1,5 +1,6 @@
 -- The rule of a board with a lock for each mailbox holds of a new board, and the passes that are dealt.
-use Rattle.std.proofs.Common.{◌≡◌, ◌≢◌, inl, ℕ, zero, suc, ◌+◌, ◌-◌, ◌*◌, ◌^◌, ◌<◌, ◌≤◌, false, List, [], ◌∷◌, ◌++◌, map, length, get_or, slice_get}
+use Rattle.std.proofs.Common.{◌≡◌, ◌≢◌, inl, ℕ, zero, suc, ◌+◌, ◌-◌, ◌*◌, ◌^◌, ◌<◌, ◌≤◌, false, List, [], ◌∷◌, ◌++◌, map, length, get_or}
+use Rattle.std.proofs.Common.{slice_get}
 use Rattle.std.proofs.Common.{Some, None, refl, sym, ap, ◌∙◌, subst, arith, Option}
 use mathlib.Core.Option as maybe
 use mathlib.Core.Option.{some, some-injective, some-ne-none}
@@ -41,7 +42,8 @@ module _ {T : Type 0} where
   one_bares (suc n) k = ap (λ l. bare 1 ∷ l) (one_bares n k)
 
   -- a new lock
-  core_open : (n : ℕ) (x : T) (here : maybe.Option (maybe.Option (Option T))) → n ≤ 64 → here ≡ some (some (Some x)) → Core 0 0 (x ∷ []) here (bare n ∷ [])
+  core_open : (n : ℕ) (x : T) (here : maybe.Option (maybe.Option (Option T))) → n ≤ 64 → here ≡ some (some (Some x))
+      → Core 0 0 (x ∷ []) here (bare n ∷ [])
   core_open n x here few is = record {
     served = refl;
     order = omega arith;
@@ -57,11 +59,14 @@ module _ {T : Type 0} where
   }
     where
       one_hand : (j : ℕ) (h : Hand T) → (let l : List (Hand T) = bare n ∷ [] in get_elem? l j ≡ some h) → Fits 0 (x ∷ []) h
-      one_hand zero h e = subst (λ z. Fits 0 (x ∷ []) z) (some-injective (bare n) h e) record { begins = (x ∷ [], refl); inside = inl refl; few = omega arith; idle = λ _. (refl, refl) }
+      one_hand zero h e =
+          subst (λ z. Fits 0 (x ∷ []) z)
+          (some-injective (bare n) h e) record { begins = (x ∷ [], refl); inside = inl refl; few = omega arith; idle = λ _. (refl, refl) }
       one_hand (suc j) h e = absurd (some-ne-none h (sym e))
 
   -- what lies in a slot of a new table
-  at_home : (l : List (Option T)) (q : ℕ) (x : T) → q < length l → ((h : Option T) → slice_get l q ≡ Some h → h ≡ Some x) → get_elem? (map some l) q ≡ some (some (Some x))
+  at_home : (l : List (Option T)) (q : ℕ) (x : T) → q < length l → ((h : Option T) → slice_get l q ≡ Some h → h ≡ Some x)
+      → get_elem? (map some l) q ≡ some (some (Some x))
   at_home [] q x near is = absurd (omega arith)
   at_home (h ∷ l) zero x near is = ap (λ z. some (some z)) (is h refl)
   at_home (h ∷ l) (suc q) x near is = at_home l q x (omega arith) is
@@ -73,23 +78,27 @@ module _ (M : Type 0) where
 
   owns_below : (first count n : ℕ) → n < first → times n (map (λ (o : Own M). o.number) (owns_from first count)) ≡ 0
   owns_below first zero n lt = refl
-  owns_below first (suc count) n lt = let none : times n (first ∷ []) ≡ 0 = times-other n first (λ e. omega arith) in omega (arith, owns_below (suc first) count n (omega arith))
+  owns_below first (suc count) n lt = let none : times n (first ∷ []) ≡ 0 = times-other n first (λ e. omega arith) in
+      omega (arith, owns_below (suc first) count n (omega arith))
 
   owns_once : (first count n : ℕ) → times n (map (λ (o : Own M). o.number) (owns_from first count)) ≤ 1
   owns_once first zero n = omega arith
   owns_once first (suc count) n = dite (ℕ_discrete first n)
-      (λ (e : first ≡ n). let one : times n (first ∷ []) ≡ 1 = subst (λ k. times n (k ∷ []) ≡ 1) (sym e) (times-one n) in omega (arith, owns_below (suc first) count n (omega arith)))
+      (λ (e : first ≡ n). let one : times n (first ∷ []) ≡ 1 = subst (λ k. times n (k ∷ []) ≡ 1) (sym e) (times-one n) in
+      omega (arith, owns_below (suc first) count n (omega arith)))
       (λ (ne : first ≢ n). let none : times n (first ∷ []) ≡ 0 = times-other n first ne in omega (arith, owns_once (suc first) count n))
 
   -- each of them made no event
   owns_at : (first count k : ℕ) (o : Own M) → get_elem? (owns_from first count) k ≡ some o → (o.number < first + count) × (o.events ≡ [])
   owns_at first zero k o e = absurd (some-ne-none o (sym e))
   owns_at first (suc count) zero o e =
-      let is : record { number = first; events = []; made = false } ≡ o = some-injective record { number = first; events = []; made = false } o e in
+      let is : record { number = first; events = []; made = false } ≡ o =
+      some-injective record { number = first; events = []; made = false } o e in
       (omega (arith, ap (λ (z : Own M). z.number) is), sym (ap (λ (z : Own M). z.events) is))
   owns_at first (suc count) (suc k) o e = let r = owns_at (suc first) count k o e in (omega (arith, r.0), r.1)
 
-module _ {M W : Type 0} (fits : W → ℕ → M → Type 0) (g : Ground M W) (near : g.to < g.boxes) (few : g.boxes ≤ 64) (fit : fits g.world.value g.to g.first) where
+module _ {M W : Type 0} (fits : W → ℕ → M → Type 0) (g : Ground M W) (near : g.to < g.boxes) (few : g.boxes ≤ 64)
+    (fit : fits g.world.value g.to g.first) where
   abbrev first_order : List (Entry M)
   first_order = Posted g.to g.boxes g.first 0 ∷ []
 
@@ -100,11 +109,14 @@ module _ {M W : Type 0} (fits : W → ℕ → M → Type 0) (g : Ground M W) (ne
   none_own : (n : ℕ) → n < g.boxes → own n first_order ≡ []
   none_own n short = own_else n (Posted g.to g.boxes g.first 0) [] (λ e. omega arith)
 
-  pub opens : (words : List ℕ) (slots : List (Option (List (Event M)))) → length words ≡ 8 * (g.boxes + 1) → get_or words 0 0 ≡ 1 → ((k : ℕ) → 0 < k → get_or words k 0 ≡ 0) → length slots ≡ g.boxes
-      → ((q : ℕ) (h : Option (List (Event M))) → slice_get slots q ≡ Some h → h ≡ Some (part q first_order)) → Rule fits g (table.opening words slots (first_view g 0 g.boxes))
+  pub opens : (words : List ℕ) (slots : List (Option (List (Event M)))) → length words ≡ 8 * (g.boxes + 1) → get_or words 0 0 ≡ 1
+      → ((k : ℕ) → 0 < k → get_or words k 0 ≡ 0) → length slots ≡ g.boxes
+      → ((q : ℕ) (h : Option (List (Event M))) → slice_get slots q ≡ Some h → h ≡ Some (part q first_order))
+      → Rule fits g (table.opening words slots (first_view g 0 g.boxes))
   opens words slots long one zeros many boxes =
       let v : View M W = first_view g 0 g.boxes in
-      let saw : Rattle.switchboard.specs.PerBox.Saw fits g first_order None 1 (first_seen g) = record { begins = StartsWith-refl first_order; sound = λ _. sound; aborted = λ a e. cc; close = λ e. cc } in
+      let saw : Rattle.switchboard.specs.PerBox.Saw fits g first_order None 1
+      (first_seen g) = record { begins = StartsWith-refl first_order; sound = λ _. sound; aborted = λ a e. cc; close = λ e. cc } in
       record {
         order = first_order;
         first = None;
@@ -114,10 +126,16 @@ module _ {M W : Type 0} (fits : W → ℕ → M → Type 0) (g : Ground M W) (ne
           part q first_order ∷ [],
           record {
             room = omega arith;
-            core = subst (λ a. Core a (get_or words (word_of q + 1) 0) (part q first_order ∷ []) (get_elem? (map some slots) q) (hand_at q v ∷ [])) (sym (zeros (word_of q) (omega arith)))
-                (subst (λ b. Core 0 b (part q first_order ∷ []) (get_elem? (map some slots) q) (hand_at q v ∷ [])) (sym (zeros (word_of q + 1) (omega arith)))
-                (subst (λ h. Core 0 0 (part q first_order ∷ []) (get_elem? (map some slots) q) (h ∷ [])) (sym (bares_at g.boxes g.boxes q short))
-                (core_open g.boxes (part q first_order) (get_elem? (map some slots) q) few (at_home slots q (part q first_order) (omega (arith, many)) (boxes q)))));
+            core =
+                subst
+                (λ a. Core a (get_or words (word_of q + 1) 0) (part q first_order ∷ []) (get_elem? (map some slots) q) (hand_at q v ∷ []))
+                (sym (zeros (word_of q) (omega arith)))
+                (subst (λ b. Core 0 b (part q first_order ∷ []) (get_elem? (map some slots) q) (hand_at q v ∷ []))
+                (sym (zeros (word_of q + 1) (omega arith)))
+                (subst (λ h. Core 0 0 (part q first_order ∷ []) (get_elem? (map some slots) q) (h ∷ []))
+                (sym (bares_at g.boxes g.boxes q short))
+                (core_open g.boxes (part q first_order) (get_elem? (map some slots) q) few
+                (at_home slots q (part q first_order) (omega (arith, many)) (boxes q)))));
           },
           ([], refl),
         );
@@ -138,7 +156,8 @@ module _ {M W : Type 0} (fits : W → ℕ → M → Type 0) (g : Ground M W) (ne
         maker = λ a e. cc;
       }
     where
-      one_seat : (v : View M W) → Knows fits g first_order None 1 v → (j : ℕ) (u : View M W) → (let l : List (View M W) = v ∷ [] in get_elem? l j ≡ some u) → Knows fits g first_order None 1 u
+      one_seat : (v : View M W) → Knows fits g first_order None 1 v → (j : ℕ) (u : View M W)
+          → (let l : List (View M W) = v ∷ [] in get_elem? l j ≡ some u) → Knows fits g first_order None 1 u
       one_seat v k zero u e = subst (λ z. Knows fits g first_order None 1 z) (some-injective v u e) k
       one_seat v k (suc j) u e = absurd (some-ne-none u (sym e))
 
@@ -153,29 +172,60 @@ module _ {M W : Type 0} (fits : W → ℕ → M → Type 0) (g : Ground M W) (ne
       λ i. record (first_view g (suc first) count) { hands = fewer_bares g.boxes count i; budget = budget i }
 
   -- the first seat gives its first pass away
-  pub deals_one : (first count id : ℕ) (v : View M W) → v ≡ first_view g first (suc count) → table.Splits (Rule fits g) id v (less_one v) (just_one v)
+  pub deals_one : (first count id : ℕ) (v : View M W) → v ≡ first_view g first (suc count)
+      → table.Splits (Rule fits g) id v (less_one v) (just_one v)
   deals_one first count id v is = subst (λ z. table.Splits (Rule fits g) id z (less_one z) (just_one z)) (sym is) (λ s r is_at.
       let whole : View M W = first_view g first (suc count) in
       let a : View M W = less_one whole in
       let b : View M W = just_one whole in
       let k = r.each id whole is_at in
-      let hand_a : (q : ℕ) → q < g.boxes → hand_at q a ≡ bare count = λ q short. ap (λ l. get_or l q (bare 0)) (fewer_bares g.boxes count) ∙ bares_at g.boxes count q short in
-      let hand_b : (q : ℕ) → q < g.boxes → hand_at q b ≡ bare 1 = λ q short. ap (λ l. get_or l q (bare 0)) (one_bares g.boxes (suc count)) ∙ bares_at g.boxes 1 q short in
+      let hand_a : (q : ℕ) → q < g.boxes → hand_at q a ≡ bare count = λ q short. ap (λ l. get_or l q (bare 0)) (fewer_bares g.boxes count)
+      ∙ bares_at g.boxes count q short in
+      let hand_b : (q : ℕ) → q < g.boxes → hand_at q b ≡ bare 1 = λ q short. ap (λ l. get_or l q (bare 0)) (one_bares g.boxes (suc count))
+      ∙ bares_at g.boxes 1 q short in
       splits fits g s r id whole is_at a b
-      (λ q short. subst (λ h. Divides h (hand_at q a) (hand_at q b)) (sym (bares_at g.boxes (suc count) q short)) (subst (λ h. Divides (bare (suc count)) h (hand_at q b)) (sym (hand_a q short)) (subst (λ h. Divides (bare (suc count)) (bare count) h) (sym (hand_b q short)) record {
+      (λ q short.
+      subst (λ h. Divides h (hand_at q a) (hand_at q b)) (sym (bares_at g.boxes (suc count) q short))
+      (subst (λ h. Divides (bare (suc count)) h (hand_at q b)) (sym (hand_a q short))
+      (subst (λ h. Divides (bare (suc count)) (bare count) h) (sym (hand_b q short)) record {
         hands = λ n. refl;
         drawn = λ n. refl;
         count = refl;
         parts = omega arith;
         inside = refl;
-        fits = λ serving log f. (record { begins = f.begins; inside = inl refl; few = omega arith; idle = λ _. (refl, refl) }, record { begins = f.begins; inside = inl refl; few = omega arith; idle = λ _. (refl, refl) });
+        fits =
+            λ serving log f. (
+              record { begins = f.begins; inside = inl refl; few = omega arith; idle = λ _. (refl, refl) },
+              record {
+                begins = f.begins;
+                inside = inl refl;
+                few = omega arith;
+                idle = λ _. (refl, refl);
+              },
+            );
       })))
-      record { board = k.board; saw = k.saw; told = k.told; owns = λ j o at. k.owns (suc j) o at; parts = λ q short. ap (λ (h : Hand (List (Event M))). h.parts) (hand_a q short) ∙ sym (length-owns M (suc first) count); idle = λ e. refl }
-      record { board = k.board; saw = k.saw; told = k.told; owns = λ j o at. first_only first count j o r.order at (λ n x there. k.owns n x there); parts = λ q short. ap (λ (h : Hand (List (Event M))). h.parts) (hand_b q short); idle = λ e. refl }
+      record {
+        board = k.board;
+        saw = k.saw;
+        told = k.told;
+        owns = λ j o at. k.owns (suc j) o at;
+        parts = λ q short. ap (λ (h : Hand (List (Event M))). h.parts) (hand_a q short) ∙ sym (length-owns M (suc first) count);
+        idle = λ e. refl;
+      }
+      record {
+        board = k.board;
+        saw = k.saw;
+        told = k.told;
+        owns = λ j o at. first_only first count j o r.order at (λ n x there. k.owns n x there);
+        parts = λ q short. ap (λ (h : Hand (List (Event M))). h.parts) (hand_b q short);
+        idle = λ e. refl;
+      }
       (λ n. omega arith) (omega arith) (λ n. omega arith) refl (omega arith))
     where
-      first_only : (first count j : ℕ) (o : Own M) (order : List (Entry M)) → (let l : List (Own M) = record { number = first; events = []; made = false } ∷ [] in get_elem? l j ≡ some o)
-          → ((n : ℕ) (x : Own M) → get_elem? (owns_from first (suc count)) n ≡ some x → own x.number order ≡ x.events) → own o.number order ≡ o.events
+      first_only : (first count j : ℕ) (o : Own M) (order : List (Entry M))
+          → (let l : List (Own M) = record { number = first; events = []; made = false } ∷ [] in get_elem? l j ≡ some o)
+          → ((n : ℕ) (x : Own M) → get_elem? (owns_from first (suc count)) n ≡ some x → own x.number order ≡ x.events)
+          → own o.number order ≡ o.events
       first_only first count zero o order e all = all 0 o e
       first_only first count (suc j) o order e all = absurd (some-ne-none o (sym e))
 
@@ -183,23 +233,33 @@ module _ {M W : Type 0} (fits : W → ℕ → M → Type 0) (g : Ground M W) (ne
   pub dealt_pass : (id : TableId) (number count calls : ℕ) (m : Seat M W) → m ≡ (just_one (first_view g number (suc count)), [])
       → IsSized id g.boxes → number < g.boxes → calls ≤ 2 ^ 56
       → IsBoxPass fits id number calls false g.world.value g.boxes m
-  dealt_pass id number count calls m is sized short enough = subst (λ z. IsBoxPass fits id number calls false g.world.value g.boxes z) (sym is) record {
-    base = g;
-    is_base = refl;
-    world = refl;
-    mailboxes = refl;
-    sized = sized;
-    near = short;
-    lanes = ap (λ l. record { number = number; events = l; made = false } ∷ []) (sym (none_own number short));
-    outside = refl;
-    told = refl;
-    owes = refl;
-    budget = enough;
-    hands = λ q there. subst (λ h. IsIdle calls h) (sym (ap (λ l. get_or l q (bare 0)) (one_bares g.boxes (suc count)) ∙ bares_at g.boxes 1 q there)) record { tickets = refl; inside = refl; parts = refl; drawn = omega arith };
-    seen = record { sound = sound; close = λ e. cc; known = λ e. cc };
-  }
+  dealt_pass id number count calls m is sized short enough =
+      subst (λ z. IsBoxPass fits id number calls false g.world.value g.boxes z) (sym is) record {
+        base = g;
+        is_base = refl;
+        world = refl;
+        mailboxes = refl;
+        sized = sized;
+        near = short;
+        lanes = ap (λ l. record { number = number; events = l; made = false } ∷ []) (sym (none_own number short));
+        outside = refl;
+        told = refl;
+        owes = refl;
+        budget = enough;
+        hands =
+            λ q there.
+            subst (λ h. IsIdle calls h)
+            (sym (ap (λ l. get_or l q (bare 0)) (one_bares g.boxes (suc count)) ∙ bares_at g.boxes 1 q there)) record {
+              tickets = refl;
+              inside = refl;
+              parts = refl;
+              drawn = omega arith;
+            };
+        seen = record { sound = sound; close = λ e. cc; known = λ e. cc };
+      }
 
-  pub deals_from : (first left id : ℕ) (v : View M W) → v ≡ first_view g first left → 0 < left → table.Splits (Rule fits g) id v (less_one v) (just_one v)
+  pub deals_from : (first left id : ℕ) (v : View M W) → v ≡ first_view g first left → 0 < left
+      → table.Splits (Rule fits g) id v (less_one v) (just_one v)
   deals_from first zero id v is some_of = absurd (omega arith)
   deals_from first (suc count) id v is some_of = deals_one first count id v is
 
@@ -214,8 +274,10 @@ module _ {M W : Type 0} (fits : W → ℕ → M → Type 0) (g : Ground M W) (ne
   pub dealt_next : (id own_id : TableId) (calls n left : ℕ) (w v : W) (boxes : ℕ) (m m' own_me : Seat M W)
       (items items' : List (Sight M W)) → n + left ≡ boxes → n < boxes → own_id ≡ id → v ≡ w → m ≡ (first_view g n left, [])
       → m' ≡ (less_one m.0, m.1)
-      → own_me ≡ (just_one m.0, []) → items ≡ fresh_sights id (calls + 1) (opened w boxes g.to g.first) 0 n → items' ≡ items ++ box_sight own_id n calls false v boxes own_me.0.seen ∷ [] → g.boxes ≡ boxes
-      → (k : ℕ) × (n + 1 + k ≡ boxes) × (m' ≡ (first_view g (n + 1) k, [])) × (items' ≡ fresh_sights id (calls + 1) (opened w boxes g.to g.first) 0 (n + 1))
+      → own_me ≡ (just_one m.0, []) → items ≡ fresh_sights id (calls + 1) (opened w boxes g.to g.first) 0 n
+      → items' ≡ items ++ box_sight own_id n calls false v boxes own_me.0.seen ∷ [] → g.boxes ≡ boxes
+      → (k : ℕ) × (n + 1 + k ≡ boxes) × (m' ≡ (first_view g (n + 1) k, []))
+      × (items' ≡ fresh_sights id (calls + 1) (opened w boxes g.to g.first) 0 (n + 1))
   dealt_next id own_id calls n zero w v boxes m m' own_me items items' sum lt same same_w is is' own_is are now many = absurd (omega arith)
   dealt_next id own_id calls n (suc count) w v boxes m m' own_me items items' sum lt same same_w is is' own_is are now many =
       let next : suc n ≡ n + 1 = omega arith in
@@ -234,5 +296,8 @@ module _ {M W : Type 0} (fits : W → ℕ → M → Type 0) (g : Ground M W) (ne
         count,
         omega arith,
         is' ∙ ((λ i. (less_one (is i).0, (is i).1)) ∙ ((λ i. (less_next n count i, [])) ∙ (λ i. (first_view g (next i) count, [])))),
-        now ∙ ((λ i. are i ++ shown i ∷ []) ∙ (sym (sights_push id (calls + 1) (opened w boxes g.to g.first) 0 n) ∙ ap (fresh_sights id (calls + 1) (opened w boxes g.to g.first) 0) next)),
+        now
+            ∙ ((λ i. are i ++ shown i ∷ [])
+            ∙ (sym (sights_push id (calls + 1) (opened w boxes g.to g.first) 0 n)
+            ∙ ap (fresh_sights id (calls + 1) (opened w boxes g.to g.first) 0) next)),
       )

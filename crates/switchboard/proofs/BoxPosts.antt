@@ -24,7 +24,8 @@ use Rattle.switchboard.specs.Knowing.{hand_at, with_seen, counted_up}
 use Rattle.switchboard.specs.PerBox.{View, Asks, Tells, IsInside, Seat}
 use Rattle.switchboard.specs.BoxPasses.{box_sight, IsBoxPass}
 use Rattle.switchboard.specs.BoxAnswers.{SawMore, PutIn}
-use Rattle.switchboard.proofs.BoxCalls.{Later, Visit, own_part, first_later, step_later, own_same, stays_on, recorded_is, added_is, record_on}
+use Rattle.switchboard.proofs.BoxCalls.{Later, Visit, own_part, first_later, step_later, own_same, stays_on, recorded_is, added_is}
+use Rattle.switchboard.proofs.BoxCalls.{record_on}
 
 -- what a post does while the mailbox is out moves no hand
 pub put_hands : {M W : Type 0} (fits : W → ℕ → M → Type 0) (number job : ℕ) (message : M) (r : Result (Unit {0}) (PostFault M))
@@ -42,15 +43,22 @@ module _ {M W : Type 0} (fits : W → ℕ → M → Type 0) (id : TableId) (numb
   module _ (to : ℕ) (x : List (Event M)) (in_it : Seat M W) (inside : IsInside fits to x m in_it) (job : ℕ) (s : Sight M W)
       (see : before ≡ s) (has : HasJob s.number job s.seen.order) where
     -- the pass has its job still
-    pub job_inside : (o : Own M) × (in_it.0.lanes ≡ o ∷ []) × (own o.number in_it.0.seen.order ≡ o.events) × HasJob o.number job in_it.0.seen.order
+    pub job_inside : (o : Own M) × (in_it.0.lanes ≡ o ∷ []) × (own o.number in_it.0.seen.order ≡ o.events)
+        × HasJob o.number job in_it.0.seen.order
     job_inside =
         let list = own_same fits id number left made w boxes m p m.0 in_it.0.seen.order refl inside.own in
-        let was : HasJob number job m.0.seen.order = subst (λ (z : Sight M W). HasJob z.number job z.seen.order) (sym see) has in
-        (own_part fits id number left made w boxes m p, ap (λ (z : View M W). z.lanes) inside.after ∙ p.lanes, list, job_stays number job m.0.seen.order in_it.0.seen.order (sym list) was)
+        let was : HasJob number job m.0.seen.order = subst (λ (z : Sight M W). HasJob z.number job z.seen.order) (sym see) has in (
+          own_part fits id number left made w boxes m p,
+          ap (λ (z : View M W). z.lanes) inside.after ∙ p.lanes,
+          list,
+          job_stays number job m.0.seen.order in_it.0.seen.order (sym list) was,
+        )
 
     module _ (message : M) (fit : fits s.seen.world to message) (some_of : left ≡ 0 → ⊥) where
       first : Later fits w boxes m.0.seen in_it.0.seen
-      first = step_later fits id number left made w boxes m p m.0 in_it.0.seen refl (first_later fits id number left made w boxes m p) inside.news
+      first =
+          step_later fits id number left made w boxes m p m.0 in_it.0.seen refl
+          (first_later fits id number left made w boxes m p) inside.news
 
       module _ (v : Seat M W) (more : SawMore fits in_it.0 v.0) where
         later : Later fits w boxes m.0.seen v.0.seen
@@ -60,7 +68,8 @@ module _ {M W : Type 0} (fits : W → ℕ → M → Type 0) (id : TableId) (numb
         list = own_same fits id number left made w boxes m p in_it.0 v.0.seen.order (ap (λ (z : View M W). z.lanes) inside.after) more.1
 
         -- the message was put in
-        module _ (y : List (Event M)) (is : v ≡ (counted_up job (with_seen v.0.seen in_it.0), in_it.1)) (grown : y ≡ x ++ Post number message ∷ []) where
+        module _ (y : List (Event M)) (is : v ≡ (counted_up job (with_seen v.0.seen in_it.0), in_it.1))
+            (grown : y ≡ x ++ Post number message ∷ []) where
           lanes : v.0.lanes ≡ m.0.lanes
           lanes = ap (λ (z : Seat M W). z.0.lanes) is ∙ ap (λ (z : View M W). z.lanes) inside.after
 
@@ -81,7 +90,19 @@ module _ {M W : Type 0} (fits : W → ℕ → M → Type 0) (id : TableId) (numb
           pub made_asks : Asks fits to (passes x y) v.0
           made_asks =
               let world : s.seen.world ≡ p.base.world.value = sym (ap (λ (z : Sight M W). z.seen.world) see) ∙ sym p.world in
-              inr (own_part fits id number left made w boxes m p, Post number message, lanes ∙ p.lanes, list, grown, (refl, has_now, (p.base, ap (λ l. get_elem? l 0) board ∙ p.is_base, subst (λ z. fits z to message) world fit), omega (arith, owes)))
+              inr (
+                own_part fits id number left made w boxes m p,
+                Post number message,
+                lanes ∙ p.lanes,
+                list,
+                grown,
+                (
+                  refl,
+                  has_now,
+                  (p.base, ap (λ l. get_elem? l 0) board ∙ p.is_base, subst (λ z. fits z to message) world fit),
+                  omega (arith, owes),
+                ),
+              )
 
           module _ (out : Seat M W) (gone : lock.Left (hand_at to) (Tells fits to) y v out) (id' : TableId) (same : id' ≡ id) where
             visit : Visit fits to x y m in_it v out
@@ -99,20 +120,29 @@ module _ {M W : Type 0} (fits : W → ℕ → M → Type 0) (id : TableId) (numb
             budget = omega (arith, ap (λ (z : Seat M W). z.0.budget) is, ap (λ (z : View M W). z.budget) inside.after, p.budget, some_of)
 
             pub made_on : IsBoxPass fits id' number (left - 1) made w boxes out
-            made_on = record_on fits id number left made w boxes m p to x y m in_it v out visit p.hands refl some_of board lanes told budget later (Post number message) grown refl id' out same refl refl refl refl refl refl
-                (ap (λ (z : View M W). z.owes) (recorded_is fits id number left made w boxes m p to x y m in_it v out visit p.hands refl some_of board lanes told budget later (Post number message) grown refl).after ∙ omega (arith, owes)) refl
+            made_on =
+                record_on fits id number left made w boxes m p to x y m in_it v out visit p.hands refl some_of board lanes told budget
+                later (Post number message) grown refl id' out same refl refl refl refl refl refl
+                (ap (λ (z : View M W). z.owes)
+                (recorded_is fits id number left made w boxes m p to x y m in_it v out visit p.hands refl some_of board lanes told
+                budget later (Post number message) grown refl).after ∙ omega (arith, owes)) refl
 
-            pub made_posted : v.0.seen.aborted ≡ None → WasPosted fits job to message before (box_sight id' number (left - 1) made w boxes out.0.seen)
+            pub made_posted : v.0.seen.aborted ≡ None
+                → WasPosted fits job to message before (box_sight id' number (left - 1) made w boxes out.0.seen)
             made_posted alive = (
               subst (λ k. Added fits (Posted to number message k) before (box_sight id' number (left - 1) made w boxes out.0.seen)) under
-                  (added_is fits id number left made w boxes m p to x y m in_it v out visit p.hands refl some_of board lanes told budget later (Post number message) grown refl id' same),
-              ap (λ (z : View M W). z.seen.aborted) (recorded_is fits id number left made w boxes m p to x y m in_it v out visit p.hands refl some_of board lanes told budget later (Post number message) grown refl).after ∙ alive,
+                  (added_is fits id number left made w boxes m p to x y m in_it v out visit p.hands refl some_of board lanes told budget
+                  later (Post number message) grown refl id' same),
+              ap (λ (z : View M W). z.seen.aborted)
+                  (recorded_is fits id number left made w boxes m p to x y m in_it v out visit p.hands refl some_of board lanes told budget
+                  later (Post number message) grown refl).after ∙ alive,
             )
 
         -- the message came back
         module _ (y : List (Event M)) (is : v ≡ (with_seen v.0.seen in_it.0, in_it.1)) (unchanged : y ≡ x) (out : Seat M W)
             (gone : lock.Left (hand_at to) (Tells fits to) y v out) (id' : TableId) (same : id' ≡ id) where
-          pub refused_on : IsBoxPass fits id' number (left - 1) made w boxes out × Looked fits before (box_sight id' number (left - 1) made w boxes out.0.seen) × (out.0.seen ≡ v.0.seen)
+          pub refused_on : IsBoxPass fits id' number (left - 1) made w boxes out
+              × Looked fits before (box_sight id' number (left - 1) made w boxes out.0.seen) × (out.0.seen ≡ v.0.seen)
           refused_on =
               stays_on fits id number left made w boxes m p to x y m in_it v out
               record {
@@ -131,7 +161,9 @@ module _ {M W : Type 0} (fits : W → ℕ → M → Type 0) (id : TableId) (numb
       pub post_asks : (r : Result (Unit {0}) (PostFault M)) (y : List (Event M)) (v : Seat M W)
           → PutIn fits number job message r x y in_it v → (hand_at to v.0).seen ≡ (hand_at to in_it.0).seen
           → (z : List (Event M)) → EndsIn (hand_at to v.0).seen z → Asks fits to (passes z y) v.0
-      post_asks r y v put hand z ends = subst (λ k. Asks fits to (passes k y) v.0) (EndsIn-same (hand_at to in_it.0).seen x z inside.found (subst (λ l. EndsIn l z) hand ends)) (asks r put)
+      post_asks r y v put hand z ends =
+          subst (λ k. Asks fits to (passes k y) v.0)
+          (EndsIn-same (hand_at to in_it.0).seen x z inside.found (subst (λ l. EndsIn l z) hand ends)) (asks r put)
         where
           asks : (q : Result (Unit {0}) (PostFault M)) → PutIn fits number job message q x y in_it v → Asks fits to (passes x y) v.0
           asks (Ok o) t = made_asks v t.0 y t.2 t.3
@@ -145,7 +177,8 @@ module _ {M W : Type 0} (fits : W → ℕ → M → Type 0) (id : TableId) (numb
         pub post_on : IsBoxPass fits id' number (left - 1) made w boxes out
         post_on = on r put
           where
-            on : (q : Result (Unit {0}) (PostFault M)) → PutIn fits number job message q x y in_it v → IsBoxPass fits id' number (left - 1) made w boxes out
+            on : (q : Result (Unit {0}) (PostFault M)) → PutIn fits number job message q x y in_it v
+                → IsBoxPass fits id' number (left - 1) made w boxes out
             on (Ok o) t = made_on v t.0 y t.2 t.3 out gone id' same
             on (Err (fault.Spent back)) t = absurd t
             on (Err (fault.Memory back)) t = (refused_on v t.0 y t.2 t.3 out gone id' same).0
@@ -157,8 +190,11 @@ module _ {M W : Type 0} (fits : W → ℕ → M → Type 0) (id : TableId) (numb
         pub was_posted : Says s (box_sight id' number (left - 1) made w boxes out.0.seen) r
         was_posted = subst (λ z. Says z (box_sight id' number (left - 1) made w boxes out.0.seen) r) see (says r put)
           where
-            says : (q : Result (Unit {0}) (PostFault M)) → PutIn fits number job message q x y in_it v → Says before (box_sight id' number (left - 1) made w boxes out.0.seen) q
+            says : (q : Result (Unit {0}) (PostFault M)) → PutIn fits number job message q x y in_it v
+                → Says before (box_sight id' number (left - 1) made w boxes out.0.seen) q
             says (Ok o) t = made_posted v t.0 y t.2 t.3 out gone id' same t.1
             says (Err (fault.Spent back)) t = absurd t
-            says (Err (fault.Memory back)) t = let f = refused_on v t.0 y t.2 t.3 out gone id' same in (t.4, f.1, ap (λ (z : Seen M). z.aborted) f.2 ∙ t.1)
-            says (Err (fault.Aborted back)) t = let f = refused_on v t.0 y t.2 t.3 out gone id' same in (t.4, f.1, subst (λ (z : Seen M). IsSome z.aborted) (sym f.2) t.1)
+            says (Err (fault.Memory back)) t = let f = refused_on v t.0 y t.2 t.3 out gone id' same in
+                (t.4, f.1, ap (λ (z : Seen M). z.aborted) f.2 ∙ t.1)
+            says (Err (fault.Aborted back)) t = let f = refused_on v t.0 y t.2 t.3 out gone id' same in
+                (t.4, f.1, subst (λ (z : Seen M). IsSome z.aborted) (sym f.2) t.1)

@@ -21,7 +21,8 @@ flagged low (Some a) small large = refl
 
 module _ {M W : Type 0} (fits : W → ℕ → M → Type 0) (m w : Seat M W) (n : ℕ) (looked : Looked fits m n w) where
   -- a pass has its job still when it has looked
-  pub job_seen : (job : ℕ) → ((o : Own M) × (m.0.lanes ≡ o ∷ []) × (own o.number m.0.seen.order ≡ o.events) × HasJob o.number job m.0.seen.order)
+  pub job_seen : (job : ℕ)
+      → ((o : Own M) × (m.0.lanes ≡ o ∷ []) × (own o.number m.0.seen.order ≡ o.events) × HasJob o.number job m.0.seen.order)
       → (o : Own M) × (w.0.lanes ≡ o ∷ []) × (own o.number w.0.seen.order ≡ o.events) × HasJob o.number job w.0.seen.order
   job_seen job has =
       let o = has.0 in

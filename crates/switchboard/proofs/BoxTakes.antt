@@ -25,7 +25,8 @@ use Rattle.switchboard.specs.BoxPasses.{IsIdle, box_sight, IsBoxPass}
 use Rattle.switchboard.specs.BoxAnswers.{TookOut}
 use Rattle.switchboard.proofs.Visits.{posted_fits}
 use Rattle.switchboard.proofs.BoxPuts.{not_flagged, flagged}
-use Rattle.switchboard.proofs.BoxCalls.{Later, Visit, own_part, first_later, step_later, own_same, look_on, stays_on, recorded_is, added_is, record_on}
+use Rattle.switchboard.proofs.BoxCalls.{Later, Visit, own_part, first_later, step_later, own_same, look_on, stays_on, recorded_is, added_is}
+use Rattle.switchboard.proofs.BoxCalls.{record_on}
 
 -- no post is outstanding where the low bits are 0
 pub low_zero : (low n : ℕ) (a : Option Abort) → low < 2 ^ 63 → n ≡ low + flag a → n % 2 ^ 63 ≡ 0 → low ≡ 0
@@ -45,21 +46,25 @@ module _ {M W : Type 0} (fits : W → ℕ → M → Type 0) (id : TableId) (numb
   pub looked_on : (id' : TableId) → id' ≡ id → IsBoxPass fits id' number (left - 1) made w boxes u
   looked_on id' same = (look_on fits id number left made w boxes m p id' u same some_of looked.after looked.news looked.own).0
 
-  pub says_closed : (id' : TableId) → id' ≡ id → n % 2 ^ 63 ≡ 0 → (s : Sight M W) → before ≡ s → Took fits (Ok answer.Closed) s (box_sight id' number (left - 1) made w boxes u.0.seen)
-  says_closed id' same zero s see = subst (λ z. Took fits (Ok answer.Closed) z (box_sight id' number (left - 1) made w boxes u.0.seen)) see (
-    (look_on fits id number left made w boxes m p id' u same some_of looked.after looked.news looked.own).1,
-    looked.knows ∙ eq-eqb looked.low 0 (low_zero looked.low n u.0.seen.aborted looked.small looked.found zero),
-  )
+  pub says_closed : (id' : TableId) → id' ≡ id → n % 2 ^ 63 ≡ 0 → (s : Sight M W) → before ≡ s
+      → Took fits (Ok answer.Closed) s (box_sight id' number (left - 1) made w boxes u.0.seen)
+  says_closed id' same zero s see =
+      subst (λ z. Took fits (Ok answer.Closed) z (box_sight id' number (left - 1) made w boxes u.0.seen)) see (
+        (look_on fits id number left made w boxes m p id' u same some_of looked.after looked.news looked.own).1,
+        looked.knows ∙ eq-eqb looked.low 0 (low_zero looked.low n u.0.seen.aborted looked.small looked.found zero),
+      )
 
   open_still : (n % 2 ^ 63 ≡ 0 → ⊥) → u.0.seen.knows ≡ false
   open_still more = looked.knows ∙ ne_eqb looked.low 0 (low_some looked.low n u.0.seen.aborted looked.found more)
 
-  pub says_aborted : (id' : TableId) → id' ≡ id → (n % 2 ^ 63 ≡ 0 → ⊥) → 2 ^ 63 ≤ n → (s : Sight M W) → before ≡ s → Took fits (Ok answer.Aborted) s (box_sight id' number (left - 1) made w boxes u.0.seen)
-  says_aborted id' same more large s see = subst (λ z. Took fits (Ok answer.Aborted) z (box_sight id' number (left - 1) made w boxes u.0.seen)) see (
-    (look_on fits id number left made w boxes m p id' u same some_of looked.after looked.news looked.own).1,
-    open_still more,
-    flagged looked.low u.0.seen.aborted looked.small (omega (arith, looked.found)),
-  )
+  pub says_aborted : (id' : TableId) → id' ≡ id → (n % 2 ^ 63 ≡ 0 → ⊥) → 2 ^ 63 ≤ n → (s : Sight M W) → before ≡ s
+      → Took fits (Ok answer.Aborted) s (box_sight id' number (left - 1) made w boxes u.0.seen)
+  says_aborted id' same more large s see =
+      subst (λ z. Took fits (Ok answer.Aborted) z (box_sight id' number (left - 1) made w boxes u.0.seen)) see (
+        (look_on fits id number left made w boxes m p id' u same some_of looked.after looked.news looked.own).1,
+        open_still more,
+        flagged looked.low u.0.seen.aborted looked.small (omega (arith, looked.found)),
+      )
 
   module _ (more : n % 2 ^ 63 ≡ 0 → ⊥) (clear : n < 2 ^ 63) (x : List (Event M)) (v : Seat M W) (inside : IsInside fits number x u v) where
     same_lanes : v.0.lanes ≡ m.0.lanes
@@ -67,7 +72,9 @@ module _ {M W : Type 0} (fits : W → ℕ → M → Type 0) (id : TableId) (numb
 
     later : Later fits w boxes m.0.seen v.0.seen
     later =
-        let first = step_later fits id number left made w boxes m p m.0 u.0.seen refl (first_later fits id number left made w boxes m p) looked.news in
+        let first =
+        step_later fits id number left made w boxes m p m.0 u.0.seen refl
+        (first_later fits id number left made w boxes m p) looked.news in
         step_later fits id number left made w boxes m p u.0 v.0.seen (ap (λ (z : Seat M W). z.0.boards) looked.after) first inside.news
 
     list : own number v.0.seen.order ≡ own number m.0.seen.order
@@ -81,10 +88,12 @@ module _ {M W : Type 0} (fits : W → ℕ → M → Type 0) (id : TableId) (numb
 
     module _ (r : Taken M) (y : List (Event M)) (took : TookOut r x y) where
       pub take_asks : (z : List (Event M)) → EndsIn (hand_at number v.0).seen z → Asks fits number (passes z y) v.0
-      take_asks z ends = subst (λ k. Asks fits number (passes k y) v.0) (EndsIn-same (hand_at number v.0).seen x z inside.found ends) (asks r took)
+      take_asks z ends =
+          subst (λ k. Asks fits number (passes k y) v.0) (EndsIn-same (hand_at number v.0).seen x z inside.found ends) (asks r took)
         where
           asks : (q : Taken M) → TookOut q x y → Asks fits number (passes x y) v.0
-          asks (answer.Message job k) t = inr (own_part fits id number left made w boxes m p, event.Take t.0 k, same_lanes ∙ p.lanes, list, t.3, (refl, t.1))
+          asks (answer.Message job k) t =
+              inr (own_part fits id number left made w boxes m p, event.Take t.0 k, same_lanes ∙ p.lanes, list, t.3, (refl, t.1))
           asks answer.Empty t = inl t.0
           asks answer.Closed t = absurd t
           asks answer.Aborted t = absurd t
@@ -112,31 +121,48 @@ module _ {M W : Type 0} (fits : W → ℕ → M → Type 0) (id : TableId) (numb
         takes_on id' same = on r took
           where
             on : (q : Taken M) → TookOut q x y → IsBoxPass fits id' number (left - 1) made w boxes out
-            on (answer.Message job k) t = record_on fits id number left made w boxes m p number x y u v v out visit idle slots some_of board same_lanes told budget later (event.Take t.0 k) t.3 refl id' out same refl refl refl refl refl refl
-                (ap (λ (z : View M W). z.owes) (recorded_is fits id number left made w boxes m p number x y u v v out visit idle slots some_of board same_lanes told budget later (event.Take t.0 k) t.3 refl).after ∙ owes) refl
-            on answer.Empty t = (stays_on fits id number left made w boxes m p number x y u v v out visit idle slots some_of board same_lanes told budget later id' same t.0 owes list).0
+            on (answer.Message job k) t =
+                record_on fits id number left made w boxes m p number x y u v v out visit idle slots some_of board same_lanes told budget
+                later (event.Take t.0 k) t.3 refl id' out same refl refl refl refl refl refl
+                (ap (λ (z : View M W). z.owes)
+                (recorded_is fits id number left made w boxes m p number x y u v v out visit idle slots some_of board same_lanes told
+                budget later (event.Take t.0 k) t.3 refl).after ∙ owes) refl
+            on answer.Empty t =
+                (stays_on fits id number left made w boxes m p number x y u v v out visit idle slots some_of board same_lanes told budget
+                later id' same t.0 owes list).0
             on answer.Closed t = absurd t
             on answer.Aborted t = absurd t
 
-        pub took_is : (id' : TableId) → id' ≡ id → (s : Sight M W) → before ≡ s → Took fits (Ok r) s (box_sight id' number (left - 1) made w boxes out.0.seen)
+        pub took_is : (id' : TableId) → id' ≡ id → (s : Sight M W) → before ≡ s
+            → Took fits (Ok r) s (box_sight id' number (left - 1) made w boxes out.0.seen)
         took_is id' same s see = subst (λ z. Took fits (Ok r) z (box_sight id' number (left - 1) made w boxes out.0.seen)) see (is r took)
           where
             is : (q : Taken M) → TookOut q x y → Took fits (Ok q) before (box_sight id' number (left - 1) made w boxes out.0.seen)
             is (answer.Message job k) t =
                 let e : Event M = event.Take t.0 k in
-                let rec = recorded_is fits id number left made w boxes m p number x y u v v out visit idle slots some_of board same_lanes told budget later e t.3 refl in
+                let rec =
+                recorded_is fits id number left made w boxes m p number x y u v v out visit idle slots some_of board same_lanes told
+                budget later e t.3 refl in
                 let order = ap (λ (z : View M W). z.seen.order) rec.after in
-                let whole : part number out.0.seen.order ≡ part number rec.front ++ e ∷ [] = ap (part number) order ∙ (part-append number rec.front (entry.Taken number t.0 k ∷ []) ∙ ap (λ l. part number rec.front ++ l) (part_here number (entry.Taken number t.0 k) [] refl)) in
+                let whole : part number out.0.seen.order ≡ part number rec.front ++ e ∷ [] = ap (part number) order
+                ∙ (part-append number rec.front (entry.Taken number t.0 k ∷ [])
+                ∙ ap (λ l. part number rec.front ++ l) (part_here number (entry.Taken number t.0 k) [] refl)) in
                 record {
                   sender = t.0;
-                  added = added_is fits id number left made w boxes m p number x y u v v out visit idle slots some_of board same_lanes told budget later e t.3 refl id' same;
+                  added =
+                      added_is fits id number left made w boxes m p number x y u v v out visit idle slots some_of board same_lanes told
+                      budget later e t.3 refl id' same;
                   oldest = (t.0, subst (λ h. slice_get (posts h) (length (takes h)) ≡ Some (t.0, k)) (sym rec.part) t.1, whole);
                   number = t.2 ∙ ap (λ h. length (takes h)) (sym rec.part);
-                  fit = posted_fits fits w number (length (takes x)) t.0 k v.0.seen.order later.sound.fitting (subst (λ h. slice_get (posts h) (length (takes x)) ≡ Some (t.0, k)) (sym inside.part) t.1);
+                  fit =
+                      posted_fits fits w number (length (takes x)) t.0 k v.0.seen.order later.sound.fitting
+                      (subst (λ h. slice_get (posts h) (length (takes x)) ≡ Some (t.0, k)) (sym inside.part) t.1);
                   alive = ap (λ (z : View M W). z.seen.aborted) rec.after ∙ alive;
                 }
             is answer.Empty t =
-                let s = stays_on fits id number left made w boxes m p number x y u v v out visit idle slots some_of board same_lanes told budget later id' same t.0 owes list in (
+                let s =
+                stays_on fits id number left made w boxes m p number x y u v v out visit idle slots some_of board same_lanes told
+                budget later id' same t.0 owes list in (
                   s.1,
                   ap (λ (z : Seen M). z.knows) s.2 ∙ (inside.knows ∙ open_still more),
                   ap (λ (z : Seen M). z.aborted) s.2 ∙ alive,

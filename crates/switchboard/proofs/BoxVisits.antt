@@ -31,15 +31,27 @@ module _ {M W : Type 0} (fits : W → ℕ → M → Type 0) where
       let d_is : d.0 ≡ with_hand q (hand_at q d.0) m.0 = drew.2 in
       let drawn = drew.1.0 in
       let entered = came_in.1.0 in
-      let back : with_hand q (hand_at q w.0) d.0 ≡ with_hand q (hand_at q w.0) m.0 = ap (with_hand q (hand_at q w.0)) d_is ∙ ap (λ l. record m.0 { hands = l }) (set-set m.0.hands q (hand_at q d.0) (hand_at q w.0)) in
+      let back : with_hand q (hand_at q w.0) d.0 ≡ with_hand q (hand_at q w.0) m.0 = ap (with_hand q (hand_at q w.0)) d_is
+      ∙ ap (λ l. record m.0 { hands = l }) (set-set m.0.hands q (hand_at q d.0) (hand_at q w.0)) in
       let seen : d.0.seen ≡ m.0.seen = ap (λ (z : View M W). z.seen) d_is in
       record {
         out = came_in.0 ∙ ap (λ l. (q, None) ∷ l) drew.0;
         after = tell.0 ∙ ap (with_seen w.0.seen) back;
         inside = (ticket, ap (λ (z : Hand (List (Event M))). z.inside) entered);
-        tickets = ap (λ (z : Hand (List (Event M))). z.tickets) entered ∙ (ap (λ (z : Hand (List (Event M))). without ticket z.tickets) drawn ∙ only_ticket ticket h.tickets ready.0);
-        parts = ap (λ (z : Hand (List (Event M))). z.parts) (entered ∙ (λ i. record { seen = (hand_at q w.0).seen; tickets = without ticket (drawn i).tickets; inside = ticket ∷ []; drawn = (drawn i).drawn; parts = (drawn i).parts }));
-        drawn = ap (λ (z : Hand (List (Event M))). length z.drawn) entered ∙ (ap (λ (z : Hand (List (Event M))). length z.drawn) drawn ∙ length-append h.drawn (ticket ∷ []));
+        tickets = ap (λ (z : Hand (List (Event M))). z.tickets) entered
+            ∙ (ap (λ (z : Hand (List (Event M))). without ticket z.tickets) drawn ∙ only_ticket ticket h.tickets ready.0);
+        parts =
+            ap (λ (z : Hand (List (Event M))). z.parts)
+            (entered
+            ∙ (λ i. record {
+              seen = (hand_at q w.0).seen;
+              tickets = without ticket (drawn i).tickets;
+              inside = ticket ∷ [];
+              drawn = (drawn i).drawn;
+              parts = (drawn i).parts;
+            }));
+        drawn = ap (λ (z : Hand (List (Event M))). length z.drawn) entered
+            ∙ (ap (λ (z : Hand (List (Event M))). length z.drawn) drawn ∙ length-append h.drawn (ticket ∷ []));
         found = came_in.1.4;
         news = hand_news q (hand_at q d.0) m.0 w.0.seen (subst (λ z. News fits z w.0.seen) d_is tell.1);
         own = subst (λ z. HasOwn fits z w.0.seen.order) d_is tell.2;

@@ -1,5 +1,6 @@
 -- Each step on the word of outstanding posts may be taken.
-use Rattle.std.proofs.Common.{◌≡◌, ◌≢◌, ◌⊎◌, inl, inr, ℕ, zero, suc, ◌+◌, ◌-◌, ◌*◌, ◌^◌, ◌%◌, ◌<◌, ◌≤◌, ◌==◌, ◌||◌, if◌then◌else◌, Bool, true, false}
+use Rattle.std.proofs.Common.{◌≡◌, ◌≢◌, ◌⊎◌, inl, inr, ℕ, zero, suc, ◌+◌, ◌-◌, ◌*◌, ◌^◌, ◌%◌, ◌<◌, ◌≤◌, ◌==◌, ◌||◌, if◌then◌else◌, Bool}
+use Rattle.std.proofs.Common.{true, false}
 use Rattle.std.proofs.Common.{List, [], ◌∷◌, map, length, set, get_or, Some, None, refl, sym, ap, ◌∙◌, subst, arith, Option, length-set}
 use Rattle.std.proofs.Common.{get_or-set_same, eq-eqb, lt_of_not-le}
 use Rattle.std.proofs.lemmas.Bool.{eqb-true}
@@ -11,7 +12,8 @@ use lib.ListN.{get_elem?}
 use Rattle.atomic_table.specs.Table as table
 use Rattle.ticket_lock.specs.Count.{times, total}
 use Rattle.ticket_lock.specs.History.{StartsWith}
-use Rattle.ticket_lock.specs.Facts.{total_set, total_at, total_two, total_only, set_here, at_inside, times-one, StartsWith-refl, StartsWith-length, StartsWith-whole}
+use Rattle.ticket_lock.specs.Facts.{total_set, total_at, total_two, total_only, set_here, at_inside, times-one, StartsWith-refl}
+use Rattle.ticket_lock.specs.Facts.{StartsWith-length, StartsWith-whole}
 use Rattle.ticket_lock.proofs.LoneSteps.{longer_first, longer_second, longer_begins, longer_whole}
 use Rattle.post_ledger.specs.declared.event.Event.{Event}
 use Rattle.post_ledger.specs.declared.entry.Entry.{Entry}
@@ -23,9 +25,11 @@ use Rattle.switchboard.specs.declared.knowing.Seen.{Seen}
 use Rattle.switchboard.specs.declared.knowing.Own.{Own}
 use Rattle.switchboard.specs.Sights.{IsSound, abort_of}
 use Rattle.switchboard.specs.Entries.{job_stays}
-use Rattle.switchboard.specs.Knowing.{either_abort, state_of, both_seen, with_seen, numbers, makes, made_by, counted_up, counted_down, made_abort, taken_in}
+use Rattle.switchboard.specs.Knowing.{either_abort, state_of, both_seen, with_seen, numbers, makes, made_by, counted_up, counted_down}
+use Rattle.switchboard.specs.Knowing.{made_abort, taken_in}
 use Rattle.switchboard.specs.PerBox.{View, flag, Saw, Rule, Looked, Raised, TookIn, Seat, owed}
-use Rattle.switchboard.specs.PerBoxFacts.{Grows, grows_same, saw_grows, saw_all, sound_with, closed_at_zero, fewer_dones, news_is, rebuilt, locks_still, made_still}
+use Rattle.switchboard.specs.PerBoxFacts.{Grows, grows_same, saw_grows, saw_all, sound_with, closed_at_zero, fewer_dones, news_is, rebuilt}
+use Rattle.switchboard.specs.PerBoxFacts.{locks_still, made_still}
 
 flag_small : (a : Option Abort) → flag a ≤ 2 ^ 63
 flag_small None = omega arith
@@ -41,7 +45,9 @@ or_flag low (Some b) a small =
     let e : low + 2 ^ 63 ≡ 1 * 2 ^ 63 + low = omega arith in
     let one : 2 ^ 63 ≡ 1 * 2 ^ 63 + 0 = omega arith in
     let zero_or : bit_or low 0 ≡ low = or_comm low 0 in
-    ap (λ k. bit_or k (2 ^ 63)) e ∙ (ap (bit_or (1 * 2 ^ 63 + low)) one ∙ (or_block 63 1 1 low 0 small (omega arith) ∙ (ap (λ k. bit_or 1 1 * 2 ^ 63 + k) zero_or ∙ omega arith)))
+    ap (λ k. bit_or k (2 ^ 63)) e
+    ∙ (ap (bit_or (1 * 2 ^ 63 + low)) one
+    ∙ (or_block 63 1 1 low 0 small (omega arith) ∙ (ap (λ k. bit_or 1 1 * 2 ^ 63 + k) zero_or ∙ omega arith)))
 
 module _ {M W : Type 0} (fits : W → ℕ → M → Type 0) (g : Ground M W) where
   -- a pass with a job counts up
@@ -56,12 +62,16 @@ module _ {M W : Type 0} (fits : W → ℕ → M → Type 0) (g : Ground M W) whe
       let has_still = job_stays o.number job v.seen.order r.order mine has in
       let open_still : r.low ≡ 0 → ⊥ = λ e. no_job g.boxes r.order o.number job r.sound.lawful
       (closed_at_zero g.boxes r.order r.low (owed s.views) r.sound.lawful r.count e) has_still in
-      let on : Grows r.order r.order r.first r.first r.low (r.low + 1) = record { begins = StartsWith-refl r.order; aborted = λ a e. e; still = λ e. absurd (open_still e) } in
+      let on : Grows r.order r.order r.first r.first r.low
+      (r.low + 1) = record { begins = StartsWith-refl r.order; aborted = λ a e. e; still = λ e. absurd (open_still e) } in
       let n : ℕ = (get_or s.words 0 0 + 1) % 2 ^ 64 in
       let budget = total_at (λ (u : View M W). u.budget) s.views id v is_at in
       let e : n ≡ r.low + 1 + flag r.first = omega (arith, r.word, r.few, flag_small r.first) in
-      let holds = rebuilt fits g s r id v is_at r.order r.first (r.low + 1) (set s.words 0 n) s.homes w on (λ j _. refl) r.sound (locks_still fits g s r id v is_at n w (λ q. refl))
-      (omega (arith, length-set s.words 0 n, r.some_word)) (get_or-set_same s.words 0 n 0 r.some_word ∙ e) (omega (arith, r.count)) (omega arith) record {
+      let holds =
+      rebuilt fits g s r id v is_at r.order r.first (r.low + 1) (set s.words 0 n) s.homes w on (λ j _. refl) r.sound
+      (locks_still fits g s r id v is_at n w (λ q. refl))
+      (omega (arith, length-set s.words 0 n, r.some_word)) (get_or-set_same s.words 0 n 0 r.some_word ∙ e) (omega (arith, r.count))
+      (omega arith) record {
         board = k.board;
         saw = saw_grows fits g r.order r.order r.first r.first r.low (r.low + 1) v.seen on k.saw;
         told = saw_grows fits g r.order r.order r.first r.first r.low (r.low + 1) v.told on k.told;
@@ -80,11 +90,15 @@ module _ {M W : Type 0} (fits : W → ℕ → M → Type 0) (g : Ground M W) whe
       let k = r.each id v is_at in
       let owes = total_at (λ (u : View M W). u.owes) s.views id v is_at in
       let above : 0 < r.low = omega (arith, r.count, fewer_dones g.boxes r.order r.sound.lawful) in
-      let on : Grows r.order r.order r.first r.first r.low (r.low - 1) = record { begins = StartsWith-refl r.order; aborted = λ a e. e; still = λ e. absurd (omega arith) } in
+      let on : Grows r.order r.order r.first r.first r.low
+      (r.low - 1) = record { begins = StartsWith-refl r.order; aborted = λ a e. e; still = λ e. absurd (omega arith) } in
       let n : ℕ = (get_or s.words 0 0 + (2 ^ 64 - 1)) % 2 ^ 64 in
       let e : n ≡ r.low - 1 + flag r.first = omega (arith, r.word, r.few, flag_small r.first) in
-      let holds = rebuilt fits g s r id v is_at r.order r.first (r.low - 1) (set s.words 0 n) s.homes w on (λ j _. refl) r.sound (locks_still fits g s r id v is_at n w (λ q. refl))
-      (omega (arith, length-set s.words 0 n, r.some_word)) (get_or-set_same s.words 0 n 0 r.some_word ∙ e) (omega (arith, r.count)) (omega arith) record {
+      let holds =
+      rebuilt fits g s r id v is_at r.order r.first (r.low - 1) (set s.words 0 n) s.homes w on (λ j _. refl) r.sound
+      (locks_still fits g s r id v is_at n w (λ q. refl))
+      (omega (arith, length-set s.words 0 n, r.some_word)) (get_or-set_same s.words 0 n 0 r.some_word ∙ e) (omega (arith, r.count))
+      (omega arith) record {
         board = k.board;
         saw = saw_grows fits g r.order r.order r.first r.first r.low (r.low - 1) v.seen on k.saw;
         told = saw_grows fits g r.order r.order r.first r.first r.low (r.low - 1) v.told on k.told;
@@ -103,9 +117,13 @@ module _ {M W : Type 0} (fits : W → ℕ → M → Type 0) (g : Ground M W) whe
       let k = r.each id v is_at in
       let n : ℕ = get_or s.words 0 0 in
       let on = grows_same r.order r.first r.low in
-      let saw : Saw fits g r.order r.first r.low x = saw_all fits g r.order r.first r.low x r.sound refl (λ a e. e) (λ e. eqb-true r.low 0 e) in
-      let holds = rebuilt fits g s r id v is_at r.order r.first r.low (set s.words 0 n) s.homes w on (λ j _. refl) r.sound (locks_still fits g s r id v is_at n w (λ q. refl))
-      (omega (arith, length-set s.words 0 n, r.some_word)) (get_or-set_same s.words 0 n 0 r.some_word ∙ r.word) (omega (arith, r.count)) (omega arith) record {
+      let saw : Saw fits g r.order r.first r.low x =
+      saw_all fits g r.order r.first r.low x r.sound refl (λ a e. e) (λ e. eqb-true r.low 0 e) in
+      let holds =
+      rebuilt fits g s r id v is_at r.order r.first r.low (set s.words 0 n) s.homes w on (λ j _. refl) r.sound
+      (locks_still fits g s r id v is_at n w (λ q. refl))
+      (omega (arith, length-set s.words 0 n, r.some_word)) (get_or-set_same s.words 0 n 0 r.some_word ∙ r.word) (omega (arith, r.count))
+      (omega arith) record {
         board = k.board;
         saw = saw;
         told = k.told;
@@ -130,15 +148,23 @@ module _ {M W : Type 0} (fits : W → ℕ → M → Type 0) (g : Ground M W) whe
       )
 
   -- a seat takes in what it was told
-  took_seen : (order : List (Entry M)) (first : Option Abort) (low : ℕ) (x y : Seen M) → ((a : Abort) → first ≡ Some a → a.by < g.boxes) → Saw fits g order first low x → Saw fits g order first low y → Saw fits g order first low (both_seen x y)
+  took_seen : (order : List (Entry M)) (first : Option Abort) (low : ℕ) (x y : Seen M) → ((a : Abort) → first ≡ Some a → a.by < g.boxes)
+      → Saw fits g order first low x → Saw fits g order first low y → Saw fits g order first low (both_seen x y)
   took_seen order first low x y by a b =
       let l = longer_begins order x.order y.order a.begins b.begins in
-      let abort : (c : Abort) → either_abort x.aborted y.aborted ≡ Some c → first ≡ Some c = one_of x.aborted y.aborted a.aborted b.aborted in
+      let abort : (c : Abort) → either_abort x.aborted y.aborted ≡ Some c → first ≡ Some c =
+      one_of x.aborted y.aborted a.aborted b.aborted in
       record {
         begins = l.0;
         sound = λ some_of. elim (dec_le (length y.order) (length x.order)) [
-          | yes d ↦ (let same = longer_first x.order y.order d in sound_with fits g order first x (both_seen x y) (a.sound (omega (arith, ap length same))) (sym same) (λ c e. by c (abort c e)))
-          | no d ↦ (let same = longer_second x.order y.order (lt_of_not-le d) in sound_with fits g order first y (both_seen x y) (b.sound (omega (arith, ap length same))) (sym same) (λ c e. by c (abort c e)))
+          | yes d ↦
+              (let same = longer_first x.order y.order d in
+              sound_with fits g order first x (both_seen x y) (a.sound (omega (arith, ap length same))) (sym same)
+              (λ c e. by c (abort c e)))
+          | no d ↦
+              (let same = longer_second x.order y.order (lt_of_not-le d) in
+              sound_with fits g order first y (both_seen x y) (b.sound (omega (arith, ap length same))) (sym same)
+              (λ c e. by c (abort c e)))
         ];
         aborted = abort;
         close = λ e. elim (known x.knows y.knows e) [
@@ -147,7 +173,8 @@ module _ {M W : Type 0} (fits : W → ℕ → M → Type 0) (g : Ground M W) whe
         ];
       }
     where
-      one_of : (p q : Option Abort) → ((c : Abort) → p ≡ Some c → first ≡ Some c) → ((c : Abort) → q ≡ Some c → first ≡ Some c) → (c : Abort) → either_abort p q ≡ Some c → first ≡ Some c
+      one_of : (p q : Option Abort) → ((c : Abort) → p ≡ Some c → first ≡ Some c) → ((c : Abort) → q ≡ Some c → first ≡ Some c)
+          → (c : Abort) → either_abort p q ≡ Some c → first ≡ Some c
       one_of None q f h c e = h c e
       one_of (Some b) q f h c e = f c e
 
@@ -158,7 +185,8 @@ module _ {M W : Type 0} (fits : W → ℕ → M → Type 0) (g : Ground M W) whe
   -- an own list that stays from first to last is the same in between
   between : (n : ℕ) (a b c : List (Entry M)) → StartsWith b a → StartsWith c b → own n c ≡ own n a → own n b ≡ own n a
   between n a b c p q same =
-      let more : (l m : List (Entry M)) → StartsWith l m → StartsWith (own n l) (own n m) = λ l m t. (own n t.0, ap (own n) t.1 ∙ own-append n m t.0) in
+      let more : (l m : List (Entry M)) → StartsWith l m → StartsWith (own n l) (own n m) =
+      λ l m t. (own n t.0, ap (own n) t.1 ∙ own-append n m t.0) in
       let short = StartsWith-length (own n c) (own n b) (more c b q) in
       StartsWith-whole (own n b) (own n a) (more b a p) (omega (arith, ap length same))
 
@@ -172,8 +200,11 @@ module _ {M W : Type 0} (fits : W → ℕ → M → Type 0) (g : Ground M W) whe
       let on = grows_same r.order r.first r.low in
       let l = longer_begins r.order v.seen.order v.told.order k.saw.begins k.told.begins in
       let saw : Saw fits g r.order r.first r.low x = took_seen r.order r.first r.low v.seen v.told r.sound.by k.saw k.told in
-      let holds = rebuilt fits g s r id v is_at r.order r.first r.low (set s.words 0 n) s.homes w on (λ j _. refl) r.sound (locks_still fits g s r id v is_at n w (λ q. refl))
-      (omega (arith, length-set s.words 0 n, r.some_word)) (get_or-set_same s.words 0 n 0 r.some_word ∙ r.word) (omega (arith, r.count)) (omega arith) record {
+      let holds =
+      rebuilt fits g s r id v is_at r.order r.first r.low (set s.words 0 n) s.homes w on (λ j _. refl) r.sound
+      (locks_still fits g s r id v is_at n w (λ q. refl))
+      (omega (arith, length-set s.words 0 n, r.some_word)) (get_or-set_same s.words 0 n 0 r.some_word ∙ r.word) (omega (arith, r.count))
+      (omega arith) record {
         board = k.board;
         saw = saw;
         told = record { begins = (r.order, refl); sound = λ e. absurd (omega arith); aborted = λ a e. cc; close = λ e. cc };
@@ -203,7 +234,8 @@ module _ {M W : Type 0} (fits : W → ℕ → M → Type 0) (g : Ground M W) whe
       knew true q e = refl
       knew false q e = cc
 
-      theirs : (p q first : Option Abort) (a : Abort) → ((c : Abort) → p ≡ Some c → first ≡ Some c) → first ≡ Some a → q ≡ Some a → either_abort p q ≡ Some a
+      theirs : (p q first : Option Abort) (a : Abort) → ((c : Abort) → p ≡ Some c → first ≡ Some c) → first ≡ Some a → q ≡ Some a
+          → either_abort p q ≡ Some a
       theirs None q first a f is e = e
       theirs (Some b) q first a f is e = sym (f b refl) ∙ is
 
@@ -219,13 +251,23 @@ module _ {M W : Type 0} (fits : W → ℕ → M → Type 0) (g : Ground M W) whe
       let n : ℕ = bit_or (get_or s.words 0 0) (2 ^ 63) in
       let low_small : r.low < 2 ^ 63 = omega (arith, r.few) in
       let e : n ≡ r.low + flag first = ap (λ (i : ℕ). bit_or i (2 ^ 63)) r.word ∙ or_flag r.low r.first a low_small in
-      let on : Grows r.order r.order r.first first r.low r.low = record { begins = StartsWith-refl r.order; aborted = λ b is. stays r.first b is; still = λ z. (z, refl) } in
-      let sound : IsSound fits (state_of g record { order = r.order; aborted = first; knows = false }) = record { lawful = r.sound.lawful; fitting = r.sound.fitting; by = λ b is. one r.first b r.sound.by is } in
-      let saw : Saw fits g r.order first r.low x = saw_all fits g r.order first r.low x sound refl (λ b is. is) (λ is. (k.saw.close is).0) in
+      let on : Grows r.order r.order r.first first r.low
+      r.low = record { begins = StartsWith-refl r.order; aborted = λ b is. stays r.first b is; still = λ z. (z, refl) } in
+      let sound : IsSound fits
+      (state_of g record { order = r.order; aborted = first; knows = false }) = record {
+        lawful = r.sound.lawful;
+        fitting = r.sound.fitting;
+        by = λ b is. one r.first b r.sound.by is;
+      } in
+      let saw : Saw fits g r.order first r.low x =
+      saw_all fits g r.order first r.low x sound refl (λ b is. is) (λ is. (k.saw.close is).0) in
       let now : w.lanes ≡ made_abort o ∷ [] = ap (map made_abort) lanes in
       let no_more : (j : ℕ) → makes j v ≡ 0 = λ j. ap (total (made_by j)) lanes ∙ none_made j in
-      let holds = rebuilt fits g s r id v is_at r.order first r.low (set s.words 0 n) s.homes w on (λ j _. refl) sound (locks_still fits g s r id v is_at n w (λ q. refl))
-      (omega (arith, length-set s.words 0 n, r.some_word)) (get_or-set_same s.words 0 n 0 r.some_word ∙ e) (omega (arith, r.count)) (omega arith) record {
+      let holds =
+      rebuilt fits g s r id v is_at r.order first r.low (set s.words 0 n) s.homes w on (λ j _. refl) sound
+      (locks_still fits g s r id v is_at n w (λ q. refl))
+      (omega (arith, length-set s.words 0 n, r.some_word)) (get_or-set_same s.words 0 n 0 r.some_word ∙ e) (omega (arith, r.count))
+      (omega arith) record {
         board = k.board;
         saw = saw;
         told = saw_grows fits g r.order r.order r.first first r.low r.low v.told on k.told;
@@ -233,9 +275,12 @@ module _ {M W : Type 0} (fits : W → ℕ → M → Type 0) (g : Ground M W) whe
         parts = λ q short. k.parts q short ∙ (ap length lanes ∙ sym (ap length now));
         idle = λ z. absurd (omega (arith, ap length now));
       } (ap (map (λ (p : Own M). p.number)) now ∙ sym (ap (map (λ (p : Own M). p.number)) lanes))
-      (λ b is. makers r.first b is (λ old. let t = total_set (makes b.by) s.views id v w is_at in let z = no_more b.by in omega (arith, r.maker b old))
+      (λ b is.
+      makers r.first b is (λ old. let t = total_set (makes b.by) s.views id v w is_at in let z = no_more b.by in
+      omega (arith, r.maker b old))
       (λ same. let here = total_at (makes b.by) (set s.views id w) id w (set_here s.views id w (at_inside s.views id v is_at)) in
-      let one_of : makes b.by w ≡ 1 = ap (total (made_by b.by)) now ∙ made_here b.by (by ∙ ap (λ (c : Abort). c.by) same) in omega arith)) in (
+      let one_of : makes b.by w ≡ 1 = ap (total (made_by b.by)) now ∙ made_here b.by (by ∙ ap (λ (c : Abort). c.by) same) in
+      omega arith)) in (
         w,
         table.keeps,
         tt,
@@ -247,8 +292,11 @@ module _ {M W : Type 0} (fits : W → ℕ → M → Type 0) (g : Ground M W) whe
           own = k.owns;
           knows = refl;
           which = which r.first (λ c is same. let t = r.maker c is in
-              let others : (j : ℕ) (u : View M W) → j ≢ id → get_elem? s.views j ≡ some u → makes c.by u ≡ 0 = λ j u ne at. (let two = total_two (λ (z : View M W). times c.by (numbers z)) s.views id j v u (λ i. ne (sym i)) is_at at in
-              let here : times c.by (numbers v) ≡ 1 = ap (λ l. times c.by (map (λ (p : Own M). p.number) l)) lanes ∙ subst (λ i. times i (o.number ∷ []) ≡ 1) (by ∙ sym same) (times-one o.number) in
+              let others : (j : ℕ) (u : View M W) → j ≢ id → get_elem? s.views j ≡ some u → makes c.by u ≡ 0 =
+              λ j u ne at.
+              (let two = total_two (λ (z : View M W). times c.by (numbers z)) s.views id j v u (λ i. ne (sym i)) is_at at in
+              let here : times c.by (numbers v) ≡ 1 = ap (λ l. times c.by (map (λ (p : Own M). p.number) l)) lanes
+              ∙ subst (λ i. times i (o.number ∷ []) ≡ 1) (by ∙ sym same) (times-one o.number) in
               omega (arith, r.once c.by, few_made c.by u.lanes)) in
               let all = total_only (makes c.by) s.views id v is_at others in let z = no_more c.by in omega arith);
         },
@@ -268,7 +316,8 @@ module _ {M W : Type 0} (fits : W → ℕ → M → Type 0) (g : Ground M W) whe
       made_here : (j : ℕ) → o.number ≡ j → total (made_by j) (made_abort o ∷ []) ≡ 1
       made_here j e = rw (eq-eqb o.number j e) refl
 
-      only_lane : (i : ℕ) (p : Own M) (order : List (Entry M)) → (let l : List (Own M) = made_abort o ∷ [] in get_elem? l i ≡ some p) → own o.number order ≡ o.events → own p.number order ≡ p.events
+      only_lane : (i : ℕ) (p : Own M) (order : List (Entry M)) → (let l : List (Own M) = made_abort o ∷ [] in get_elem? l i ≡ some p)
+          → own o.number order ≡ o.events → own p.number order ≡ p.events
       only_lane zero p order at list = subst (λ (z : Own M). own z.number order ≡ z.events) (some-injective (made_abort o) p at) list
       only_lane (suc i) p order at list = absurd (some-ne-none p (sym at))
 
@@ -286,6 +335,7 @@ module _ {M W : Type 0} (fits : W → ℕ → M → Type 0) (g : Ground M W) whe
           one_made false true = omega arith
           one_made false false = omega arith
 
-      which : (p : Option Abort) → ((c : Abort) → p ≡ Some c → c.by ≡ a.by → ⊥) → (b : Abort) × (abort_of p a ≡ Some b) × ((b ≡ a) ⊎ (b.by ≢ a.by))
+      which : (p : Option Abort) → ((c : Abort) → p ≡ Some c → c.by ≡ a.by → ⊥)
+          → (b : Abort) × (abort_of p a ≡ Some b) × ((b ≡ a) ⊎ (b.by ≢ a.by))
       which None f = (a, refl, inl refl)
       which (Some c) f = (c, refl, inr (f c refl))

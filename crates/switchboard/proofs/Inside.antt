@@ -46,7 +46,8 @@ module _ {M W : Type 0} (fits : W → ℕ → M → Type 0) where
 
   module _ {a : Standing (State M W)} {w : W} {boxes : ℕ} {kept : Bool} {p : IsPass fits a w boxes kept}
       {x v : State M W} {s : Sight M W} {n : ℕ} (h : Inside a w boxes kept p x v s n) where
-    -- What is said of the number and the state that the call names holds of the lane's number and the state found, and back.
+    -- What is said of the number and the state that the call names holds of the lane's number and the state found, and
+    -- back.
     pub to_lane : (R : ℕ → State M W → Type 0) → R n v → R a.number x
     to_lane R r = subst (λ k. R k x) h.number (subst (λ z. R n z) h.lent r)
 

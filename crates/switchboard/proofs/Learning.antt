@@ -20,7 +20,8 @@ use Rattle.switchboard.specs.Passes.{is_by, is_complete, calls_of, share, accoun
 use Rattle.switchboard.proofs.Visits.{latest_is, showing, some_later, complete_is, complete_stays}
 
 -- whether the abort is the pass's own, if it stays from first to last, is the same in between
-by_between : (n : ℕ) (o p q : Option Abort) → ((a : Abort) → o ≡ Some a → p ≡ Some a) → ((a : Abort) → p ≡ Some a → q ≡ Some a) → is_by n q ≡ is_by n o → is_by n p ≡ is_by n o
+by_between : (n : ℕ) (o p q : Option Abort) → ((a : Abort) → o ≡ Some a → p ≡ Some a) → ((a : Abort) → p ≡ Some a → q ≡ Some a)
+    → is_by n q ≡ is_by n o → is_by n p ≡ is_by n o
 by_between n (Some a) p q f h same = ap (is_by n) (f a refl)
 by_between n None None q f h same = refl
 by_between n None (Some b) q f h same = sym (ap (is_by n) (h b refl)) ∙ same
@@ -50,17 +51,22 @@ module _ {M W : Type 0} where
     ends_after {a} p seen mine =
         EndsIn-some seen (omega (arith, StartsWith-length seen a.seen mine, ap length p.ends.1, length-append p.ends.0 (p.last ∷ [])))
 
-    pub news_is : (note : Told (State M W)) (a b : Standing (State M W)) (w : W) (boxes : ℕ) (kept : Bool) (p : IsPass fits a w boxes kept) → lock.Learned (Comes fits) share note a b → (y : State M W) → EndsIn b.seen y → News a.number p.last y
+    pub news_is : (note : Told (State M W)) (a b : Standing (State M W)) (w : W) (boxes : ℕ) (kept : Bool) (p : IsPass fits a w boxes kept)
+        → lock.Learned (Comes fits) share note a b → (y : State M W) → EndsIn b.seen y → News a.number p.last y
     news_is note a b w boxes kept p l y ends =
         let on = rises_last (Comes fits) b.seen a.seen p.last y l.rises l.mine p.ends ends in
         let z = l.own p.left p.has in
         let to = z.2 y ends in
         let same = z.1 ∙ sym p.own_part in
         let list = own_between a.number p.last y z.0 on.0 to.0 (ap (λ (q : List (Entry M) × Bool). q.0) same) in
-        let by = by_between a.number p.last.aborted y.aborted z.0.aborted on.0.aborted to.0.aborted (ap (λ (q : List (Entry M) × Bool). q.1) same) in
+        let by =
+        by_between a.number p.last.aborted y.aborted z.0.aborted on.0.aborted to.0.aborted
+        (ap (λ (q : List (Entry M) × Bool). q.1) same) in
         record { before = on.0; sound = on.1 p.sound; part = λ i. (list i, by i) }
 
-    pub pass_learned : (note : Told (State M W)) (a b : Standing (State M W)) (w : W) (boxes : ℕ) (kept : Bool) (p : IsPass fits a w boxes kept) → lock.Learned (Comes fits) share note a b → (y : State M W) → EndsIn b.seen y → IsPass fits b w boxes kept
+    pub pass_learned : (note : Told (State M W)) (a b : Standing (State M W)) (w : W) (boxes : ℕ) (kept : Bool)
+        (p : IsPass fits a w boxes kept) → lock.Learned (Comes fits) share note a b → (y : State M W) → EndsIn b.seen y
+        → IsPass fits b w boxes kept
     pass_learned note a b w boxes kept p l y ends =
         let n = news_is note a b w boxes kept p l y ends in
         let number : b.number ≡ a.number = ap (λ (z : Standing (State M W)). z.number) l.lane in
@@ -83,7 +89,8 @@ module _ {M W : Type 0} where
         }
 
     -- it is what one of the two had seen last
-    pub one_of : (note : Told (State M W)) (a b : Standing (State M W)) → lock.Learned (Comes fits) share note a b → (x y : State M W) → EndsIn a.seen x → EndsIn b.seen y → (y ≡ x) ⊎ EndsIn note.seen y
+    pub one_of : (note : Told (State M W)) (a b : Standing (State M W)) → lock.Learned (Comes fits) share note a b → (x y : State M W)
+        → EndsIn a.seen x → EndsIn b.seen y → (y ≡ x) ⊎ EndsIn note.seen y
     one_of note a b l x y ends_a ends =
         let seen : b.seen ≡ longer a.seen note.seen = ap (λ (z : Standing (State M W)). z.seen) l.lane in
         elim (dec_le (length note.seen) (length a.seen)) [

@@ -1,5 +1,6 @@
 -- What the passes of a board know together at its end.
-use Rattle.std.proofs.Common.{◌≡◌, ℕ, zero, suc, ◌<◌, Bool, true, false, not, List, [], ◌∷◌, ◌++◌, Some, length, slice_get, refl, sym, ap, ◌∙◌, subst, arith, All, eq-eqb, IsTrue}
+use Rattle.std.proofs.Common.{◌≡◌, ℕ, zero, suc, ◌<◌, Bool, true, false, not, List, [], ◌∷◌, ◌++◌, Some, length, slice_get, refl, sym, ap}
+use Rattle.std.proofs.Common.{◌∙◌, subst, arith, All, eq-eqb, IsTrue}
 use Rattle.std.specs.Prelude.{◌↔◌, Option}
 use Rattle.std.proofs.lemmas.List.{append-nil, nil_from_length}
 use Rattle.std.specs.Iterator.{Yields, Drains, HoldsAlong}
@@ -39,9 +40,11 @@ module _ {M W : Type 0} (fits : W → ℕ → M → Type 0) where
     Steps s r t = Unwraps fits (of s) r (of t)
 
     -- the lanes that came are those of the first passes
-    front : (s : S) (xs : List (Standing (State M W))) (t : S) → Yields Steps s xs t → (ps : List (Sight M W)) × (into_iter_items (of s) ≡ ps ++ into_iter_items (of t)) × Pairs xs ps
+    front : (s : S) (xs : List (Standing (State M W))) (t : S) → Yields Steps s xs t
+        → (ps : List (Sight M W)) × (into_iter_items (of s) ≡ ps ++ into_iter_items (of t)) × Pairs xs ps
     front s [] t y = ([], ap (λ z. into_iter_items (of z)) y, tt)
-    front s (x ∷ xs) t y = let step = y.1 in let rest = front y.0 xs t y.2 in (step.0 ∷ rest.0, step.1 ∙ ap (λ l. step.0 ∷ l) rest.1, (step.3, rest.2))
+    front s (x ∷ xs) t y = let step = y.1 in let rest = front y.0 xs t y.2 in
+        (step.0 ∷ rest.0, step.1 ∙ ap (λ l. step.0 ∷ l) rest.1, (step.3, rest.2))
 
     -- all that came are those of all passes
     pub all_pairs : (s : S) (xs : List (Standing (State M W))) → Drains Steps s xs → Pairs xs (into_iter_items (of s))
@@ -55,7 +58,8 @@ module _ {M W : Type 0} (fits : W → ℕ → M → Type 0) where
     idle_of : (id : TableId) (x : Standing (State M W)) (p : Sight M W) → IsLaneOf fits x p → p.board ≡ id → IsIdle id x
     idle_of id x p l board = (ap (λ (z : Sight M W). z.board) l.4 ∙ board, l.3.waits, l.3.outside)
 
-    all_idle : (id : TableId) (xs : List (Standing (State M W))) (ps : List (Sight M W)) → Pairs xs ps → ((j : ℕ) (p : Sight M W) → slice_get ps j ≡ Some p → p.board ≡ id) → All (IsIdle id) xs
+    all_idle : (id : TableId) (xs : List (Standing (State M W))) (ps : List (Sight M W)) → Pairs xs ps
+        → ((j : ℕ) (p : Sight M W) → slice_get ps j ≡ Some p → p.board ≡ id) → All (IsIdle id) xs
     all_idle id [] ps pairs boards k d h = absurd (omega arith)
     all_idle id (x ∷ xs) [] pairs boards k d h = absurd pairs
     all_idle id (x ∷ xs) (p ∷ ps) pairs boards zero d h = idle_of id x p pairs.0 (boards 0 p refl)
@@ -64,7 +68,8 @@ module _ {M W : Type 0} (fits : W → ℕ → M → Type 0) where
     pub idle_along : (id : TableId) (boxes : ℕ) (s : S) → AreAll id boxes (into_iter_items (of s)) → HoldsAlong Steps s (All (IsIdle id))
     idle_along id boxes s all xs t y =
         let r = front s xs t y in
-        all_idle id xs r.0 r.2 (λ j p at. (all.1 j p (subst (λ l. slice_get l j ≡ Some p) (sym r.1) (get_front r.0 (into_iter_items (of t)) j p at))).0)
+        all_idle id xs r.0 r.2
+        (λ j p at. (all.1 j p (subst (λ l. slice_get l j ≡ Some p) (sym r.1) (get_front r.0 (into_iter_items (of t)) j p at))).0)
 
     same_length : (xs : List (Standing (State M W))) (ps : List (Sight M W)) → Pairs xs ps → length xs ≡ length ps
     same_length [] [] pairs = refl
@@ -72,11 +77,13 @@ module _ {M W : Type 0} (fits : W → ℕ → M → Type 0) where
     same_length (x ∷ xs) [] pairs = absurd pairs
     same_length (x ∷ xs) (p ∷ ps) pairs = ap suc (same_length xs ps pairs.1)
 
-    pub drained_length : (id : TableId) (boxes : ℕ) (s : S) → AreAll id boxes (into_iter_items (of s)) → (xs : List (Standing (State M W))) → Drains Steps s xs → length xs ≡ boxes
+    pub drained_length : (id : TableId) (boxes : ℕ) (s : S) → AreAll id boxes (into_iter_items (of s)) → (xs : List (Standing (State M W)))
+        → Drains Steps s xs → length xs ≡ boxes
     drained_length id boxes s all xs d = same_length xs (into_iter_items (of s)) (all_pairs s xs d) ∙ all.0
 
   -- the lane beside a pass
-  lane_at : (xs : List (Standing (State M W))) (ps : List (Sight M W)) (j : ℕ) (p : Sight M W) → Pairs xs ps → slice_get ps j ≡ Some p → (x : Standing (State M W)) × (get_elem? xs j ≡ some x) × IsLaneOf fits x p
+  lane_at : (xs : List (Standing (State M W))) (ps : List (Sight M W)) (j : ℕ) (p : Sight M W) → Pairs xs ps → slice_get ps j ≡ Some p
+      → (x : Standing (State M W)) × (get_elem? xs j ≡ some x) × IsLaneOf fits x p
   lane_at [] [] j p pairs at = cc
   lane_at [] (q ∷ ps) j p pairs at = absurd pairs
   lane_at (x ∷ xs) [] j p pairs at = absurd pairs
@@ -92,7 +99,8 @@ module _ {M W : Type 0} (fits : W → ℕ → M → Type 0) where
     pub own_list : own p.number v.order ≡ own p.number p.seen.order
     pub mine : is_by p.number v.aborted ≡ true → p.made ≡ true
 
-  ends_at : (x : Standing (State M W)) (w : W) (boxes : ℕ) (kept : Bool) (l : IsPass fits x w boxes kept) (v : State M W) → Comes fits l.last v → share x.number v ≡ share x.number l.left → Ends (showing fits x kept l.last) v
+  ends_at : (x : Standing (State M W)) (w : W) (boxes : ℕ) (kept : Bool) (l : IsPass fits x w boxes kept) (v : State M W)
+      → Comes fits l.last v → share x.number v ≡ share x.number l.left → Ends (showing fits x kept l.last) v
   ends_at x w boxes kept l v comes part = record {
     before = comes.0;
     sound = l.sound;
@@ -106,7 +114,8 @@ module _ {M W : Type 0} (fits : W → ℕ → M → Type 0) where
       was true f t = (let no_way = f refl in cc)
       was false f t = refl
 
-  pub ends_of : (xs : List (Standing (State M W))) (ps : List (Sight M W)) (v : State M W) → Pairs xs ps → KeepsOwn share xs v → ComesLast (Comes fits) xs v → (j : ℕ) (p : Sight M W) → slice_get ps j ≡ Some p → Ends p v
+  pub ends_of : (xs : List (Standing (State M W))) (ps : List (Sight M W)) (v : State M W) → Pairs xs ps → KeepsOwn share xs v
+      → ComesLast (Comes fits) xs v → (j : ℕ) (p : Sight M W) → slice_get ps j ≡ Some p → Ends p v
   ends_of xs ps v pairs keeps comes j p at =
       let o = lane_at xs ps j p pairs at in
       let x = o.0 in
@@ -114,7 +123,9 @@ module _ {M W : Type 0} (fits : W → ℕ → M → Type 0) where
       let e = ends_at x o.2.0 o.2.1 o.2.2 l v (comes j x l.last o.1 l.ends) (keeps j x l.left o.1 l.has) in
       subst (λ q. Ends q v) (sym (shows fits x o.2.0 o.2.1 o.2.2 l) ∙ o.2.4) e
 
-  pub settles_is : (id : TableId) (boxes : ℕ) (ps : List (Sight M W)) (xs : List (Standing (State M W))) (v : State M W) (histories : List (List (Event M))) (closed : Bool) → 0 < boxes → AreAll id boxes ps → Pairs xs ps → KeepsOwn share xs v → ComesLast (Comes fits) xs v
+  pub settles_is : (id : TableId) (boxes : ℕ) (ps : List (Sight M W)) (xs : List (Standing (State M W))) (v : State M W)
+      (histories : List (List (Event M))) (closed : Bool) → 0 < boxes → AreAll id boxes ps → Pairs xs ps → KeepsOwn share xs v
+      → ComesLast (Comes fits) xs v
       → AreParts histories v → (IsTrue closed ↔ IsClosed v.order) → Settles fits boxes ps histories closed
   settles_is id boxes ps xs v histories closed some_of all pairs keeps comes parts close =
       let ends : (j : ℕ) (p : Sight M W) → slice_get ps j ≡ Some p → Ends p v = ends_of xs ps v pairs keeps comes in
@@ -125,7 +136,8 @@ module _ {M W : Type 0} (fits : W → ℕ → M → Type 0) where
       record {
         order = v.order;
         lawful = law;
-        fitting = λ j p at i to sender m t there. subst (λ w. fits w to m) (ends j p at).before.world (e.final.fitting i to sender m t there);
+        fitting =
+            λ j p at i to sender m t there. subst (λ w. fits w to m) (ends j p at).before.world (e.final.fitting i to sender m t there);
         begins = λ j p at. (ends j p at).before.order;
         own = λ j p at. subst (λ n. own n v.order ≡ own n p.seen.order) (all.1 j p at).1 (ends j p at).own_list;
         count = parts.count ∙ count;

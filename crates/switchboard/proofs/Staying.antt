@@ -94,15 +94,18 @@ module _ {M W : Type 0} (fits : W → ℕ → M → Type 0) where
   pub known_to_posts : (s t : Sight M W) (job to : ℕ) (m : M) → s.knows ≡ true → WasPosted fits job to m s t → ⊥
   known_to_posts s t job to m known p = open_behind_post s t job to m p (p.0.goes.close (p.0.goes.knows known))
 
-  pub closed_to_posts : (s t : Sight M W) (job to : ℕ) (m : M) → IsSound fits s.seen → IsClosed s.seen.order → WasPosted fits job to m s t → ⊥
+  pub closed_to_posts : (s t : Sight M W) (job to : ℕ) (m : M) → IsSound fits s.seen → IsClosed s.seen.order → WasPosted fits job to m s t
+      → ⊥
   closed_to_posts s t job to m sound closed p = none_added _ s t sound closed p.0
 
   pub abort_answers : (s t : Sight M W) (r : Result (answers.Taken M) Spent) → IsSome s.seen.aborted → Took fits r s t → SaysStopped r
   abort_answers s t (Err e) some_one k = tt
   abort_answers s t (Ok answer.Closed) some_one k = tt
   abort_answers s t (Ok answer.Aborted) some_one k = tt
-  abort_answers s t (Ok answer.Empty) some_one k = some_not_none t.seen.aborted (some_later fits s.seen t.seen k.0.0.goes.before some_one) k.2
-  abort_answers s t (Ok (answer.Message job m)) some_one k = some_not_none t.seen.aborted (some_later fits s.seen t.seen k.added.goes.before some_one) k.alive
+  abort_answers s t (Ok answer.Empty) some_one k =
+      some_not_none t.seen.aborted (some_later fits s.seen t.seen k.0.0.goes.before some_one) k.2
+  abort_answers s t (Ok (answer.Message job m)) some_one k =
+      some_not_none t.seen.aborted (some_later fits s.seen t.seen k.added.goes.before some_one) k.alive
 
   pub abort_posts : (s t : Sight M W) (job to : ℕ) (m : M) → IsSome s.seen.aborted → WasPosted fits job to m s t → ⊥
   abort_posts s t job to m some_one p = some_not_none t.seen.aborted (some_later fits s.seen t.seen p.0.goes.before some_one) p.1
@@ -110,4 +113,5 @@ module _ {M W : Type 0} (fits : W → ℕ → M → Type 0) where
   pub abort_refusals : (s t : Sight M W) (m : M) (f : PostFault M) → IsSome s.seen.aborted → WasRefused fits m f s t → IsStopped f
   abort_refusals s t m (fault.Spent back) some_one p = tt
   abort_refusals s t m (fault.Aborted back) some_one p = tt
-  abort_refusals s t m (fault.Memory back) some_one p = some_not_none t.seen.aborted (some_later fits s.seen t.seen p.1.0.goes.before some_one) p.2
+  abort_refusals s t m (fault.Memory back) some_one p =
+      some_not_none t.seen.aborted (some_later fits s.seen t.seen p.1.0.goes.before some_one) p.2

@@ -73,7 +73,11 @@ module _ {M W : Type 0} (fits : W → ℕ → M → Type 0) where
   step_keeps n x y s (adds e is maker may) = subst (Kept n x) (sym is) record {
     before = record { world = refl; boxes = refl; order = (e ∷ [], refl); aborted = λ a h. h };
     sound = sound_push fits e x s may;
-    apart = λ k ne. (let rest : own k (x.order ++ e ∷ []) ≡ own k x.order = own-append k x.order (e ∷ []) ∙ (ap (λ l. own k x.order ++ l) (own_else k e [] (λ h. ne (sym h ∙ maker))) ∙ append-nil (own k x.order)) in (λ i. (rest i, is_by k x.aborted)));
+    apart =
+        λ k ne.
+        (let rest : own k (x.order ++ e ∷ []) ≡ own k x.order = own-append k x.order (e ∷ [])
+        ∙ (ap (λ l. own k x.order ++ l) (own_else k e [] (λ h. ne (sym h ∙ maker))) ∙ append-nil (own k x.order)) in
+        (λ i. (rest i, is_by k x.aborted)));
   }
   step_keeps n x y s (aborts a is maker near) = subst (Kept n x) (sym is) record {
     before = record { world = refl; boxes = refl; order = StartsWith-refl x.order; aborted = λ b h. first_abort x.aborted a b h };
@@ -82,10 +86,12 @@ module _ {M W : Type 0} (fits : W → ℕ → M → Type 0) where
   }
 
   -- the value found comes after the one that the pass had seen last
-  pub found_is : (guard : Held (State M W)) (a m : Standing (State M W)) → Entered (Comes fits) share guard a m → (s : State M W) → EndsIn a.seen s → Comes fits s guard.value
+  pub found_is : (guard : Held (State M W)) (a m : Standing (State M W)) → Entered (Comes fits) share guard a m → (s : State M W)
+      → EndsIn a.seen s → Comes fits s guard.value
   found_is guard a m e s ends = rises_last (Comes fits) m.seen a.seen s guard.value e.stands.rises e.stands.later ends e.stands.found
 
-  pub may_leave : (guard : Held (State M W)) (a m : Standing (State M W)) (y : State M W) → Entered (Comes fits) share guard a m → Kept a.number guard.value y → MayLeave (Comes fits) share m y
+  pub may_leave : (guard : Held (State M W)) (a m : Standing (State M W)) (y : State M W) → Entered (Comes fits) share guard a m
+      → Kept a.number guard.value y → MayLeave (Comes fits) share m y
   may_leave guard a m y e k =
       let same : (x : State M W) → EndsIn m.seen x → guard.value ≡ x = λ x ends. EndsIn-same m.seen guard.value x e.stands.found ends in
       let number : m.number ≡ a.number = ap (λ (z : Standing (State M W)). z.number) e.lane in
@@ -107,7 +113,8 @@ module _ {M W : Type 0} (fits : W → ℕ → M → Type 0) where
     pub found : (s : State M W) → EndsIn a.seen s → Comes fits s x
     pub part : (z : State M W) → a.own ≡ z ∷ [] → share a.number x ≡ share a.number z
 
-  pub visit_is : (guard : Held (State M W)) (a m b : Standing (State M W)) (y : State M W) → Entered (Comes fits) share guard a m → Left y m b → Visit a b guard.value y
+  pub visit_is : (guard : Held (State M W)) (a m b : Standing (State M W)) (y : State M W) → Entered (Comes fits) share guard a m
+      → Left y m b → Visit a b guard.value y
   visit_is guard a m b y e l = record {
     lock = ap (λ (z : Standing (State M W)). z.lock) l ∙ ap (λ (z : Standing (State M W)). z.lock) e.lane;
     number = ap (λ (z : Standing (State M W)). z.number) l ∙ ap (λ (z : Standing (State M W)). z.number) e.lane;
@@ -133,7 +140,8 @@ module _ {M W : Type 0} (fits : W → ℕ → M → Type 0) where
     seen = s;
   }
 
-  pub shows_now : (lane : Standing (State M W)) (w : W) (boxes : ℕ) (kept : Bool) (s : State M W) → EndsIn lane.seen s → s.world ≡ w → s.boxes ≡ boxes → sight_of lane w boxes kept ≡ showing lane kept s
+  pub shows_now : (lane : Standing (State M W)) (w : W) (boxes : ℕ) (kept : Bool) (s : State M W) → EndsIn lane.seen s → s.world ≡ w
+      → s.boxes ≡ boxes → sight_of lane w boxes kept ≡ showing lane kept s
   shows_now lane w boxes kept s ends same_world same_boxes =
       let order = latest_is (λ (s : State M W). s.order) [] lane.seen s ends in
       let aborted = latest_is (λ (s : State M W). s.aborted) None lane.seen s ends in
@@ -155,7 +163,8 @@ module _ {M W : Type 0} (fits : W → ℕ → M → Type 0) where
         };
       }
 
-  pub shows : (lane : Standing (State M W)) (w : W) (boxes : ℕ) (kept : Bool) (p : IsPass fits lane w boxes kept) → sight_of lane w boxes kept ≡ showing lane kept p.last
+  pub shows : (lane : Standing (State M W)) (w : W) (boxes : ℕ) (kept : Bool) (p : IsPass fits lane w boxes kept)
+      → sight_of lane w boxes kept ≡ showing lane kept p.last
   shows lane w boxes kept p = shows_now lane w boxes kept p.last p.ends p.same_world p.same_boxes
 
   pub calls_less : (kept : Bool) (a b : ℕ) → 0 < calls_of kept a → b ≡ a - 1 → calls_of kept a ≡ calls_of kept b + 1
@@ -206,14 +215,24 @@ module _ {M W : Type 0} (fits : W → ℕ → M → Type 0) where
     pub sound : IsSound fits x
     pub part : share n x ≡ share n last
 
-  pub found_here : (guard : Held (State M W)) (a m : Standing (State M W)) (w : W) (boxes : ℕ) (kept : Bool) (p : IsPass fits a w boxes kept) → Entered (Comes fits) share guard a m → Found a.number p.last guard.value
-  found_here guard a m w boxes kept p e = let comes = found_is guard a m e p.last p.ends in record { before = comes.0; sound = comes.1 p.sound; part = e.stands.own p.left p.has ∙ sym p.own_part }
+  pub found_here : (guard : Held (State M W)) (a m : Standing (State M W)) (w : W) (boxes : ℕ) (kept : Bool)
+      (p : IsPass fits a w boxes kept) → Entered (Comes fits) share guard a m → Found a.number p.last guard.value
+  found_here guard a m w boxes kept p e = let comes =
+      found_is guard a m e p.last p.ends in record {
+        before = comes.0;
+        sound = comes.1 p.sound;
+        part = e.stands.own p.left p.has ∙ sym p.own_part;
+      }
 
-  pub found_of : (a b : Standing (State M W)) (x y : State M W) (w : W) (boxes : ℕ) (kept : Bool) (p : IsPass fits a w boxes kept) → Visit a b x y → Found a.number p.last x
-  found_of a b x y w boxes kept p v = let comes = v.found p.last p.ends in record { before = comes.0; sound = comes.1 p.sound; part = v.part p.left p.has ∙ sym p.own_part }
+  pub found_of : (a b : Standing (State M W)) (x y : State M W) (w : W) (boxes : ℕ) (kept : Bool) (p : IsPass fits a w boxes kept)
+      → Visit a b x y → Found a.number p.last x
+  found_of a b x y w boxes kept p v = let comes =
+      v.found p.last p.ends in record { before = comes.0; sound = comes.1 p.sound; part = v.part p.left p.has ∙ sym p.own_part }
 
   -- the pass after it was inside
-  pub pass_on : (a b : Standing (State M W)) (x y : State M W) (w : W) (boxes : ℕ) (kept kept' : Bool) (p : IsPass fits a w boxes kept) → Visit a b x y → Kept a.number x y → (kept' ≡ true → 0 < b.left) → (kept' ≡ true → is_by a.number y.aborted ≡ false) → (kept' ≡ false → IsSome y.aborted) → IsPass fits b w boxes kept'
+  pub pass_on : (a b : Standing (State M W)) (x y : State M W) (w : W) (boxes : ℕ) (kept kept' : Bool) (p : IsPass fits a w boxes kept)
+      → Visit a b x y → Kept a.number x y → (kept' ≡ true → 0 < b.left) → (kept' ≡ true → is_by a.number y.aborted ≡ false)
+      → (kept' ≡ false → IsSome y.aborted) → IsPass fits b w boxes kept'
   pass_on a b x y w boxes kept kept' p v k ticket mine known =
       let f = found_of a b x y w boxes kept p v in
       record {
@@ -235,14 +254,16 @@ module _ {M W : Type 0} (fits : W → ℕ → M → Type 0) where
       }
 
   -- the same, where the step made no abort
-  pub pass_stays : (a b : Standing (State M W)) (x y : State M W) (w : W) (boxes : ℕ) (kept : Bool) (p : IsPass fits a w boxes kept) → Visit a b x y → Kept a.number x y → y.aborted ≡ x.aborted → 0 < calls_of kept a.left → IsPass fits b w boxes kept
+  pub pass_stays : (a b : Standing (State M W)) (x y : State M W) (w : W) (boxes : ℕ) (kept : Bool) (p : IsPass fits a w boxes kept)
+      → Visit a b x y → Kept a.number x y → y.aborted ≡ x.aborted → 0 < calls_of kept a.left → IsPass fits b w boxes kept
   pass_stays a b x y w boxes kept p v k same some_of =
       let f = found_of a b x y w boxes kept p v in
       pass_on a b x y w boxes kept kept p v k (ticket_stays kept a.left b.left some_of v.left)
       (λ is. ap (is_by a.number) same ∙ (ap (λ (q : List (Entry M) × Bool). q.1) (f.part ∙ p.own_part) ∙ p.not_by is))
       (λ is. some_later p.last y (before_trans p.last x y f.before k.before) (p.knows is))
 
-  goes_on : (a b : Standing (State M W)) (x y : State M W) (w : W) (boxes : ℕ) (kept kept' : Bool) (p : IsPass fits a w boxes kept) → Visit a b x y → Kept a.number x y → (kept' ≡ false → IsSome y.aborted) → GoesOn fits (showing a kept p.last) (showing b kept' y)
+  goes_on : (a b : Standing (State M W)) (x y : State M W) (w : W) (boxes : ℕ) (kept kept' : Bool) (p : IsPass fits a w boxes kept)
+      → Visit a b x y → Kept a.number x y → (kept' ≡ false → IsSome y.aborted) → GoesOn fits (showing a kept p.last) (showing b kept' y)
   goes_on a b x y w boxes kept kept' p v k known =
       let f = found_of a b x y w boxes kept p v in
       record {
@@ -256,23 +277,32 @@ module _ {M W : Type 0} (fits : W → ℕ → M → Type 0) where
       }
 
   -- a call at which the pass made no event
-  pub looked_is : (a b : Standing (State M W)) (x : State M W) (w : W) (boxes : ℕ) (kept : Bool) (p : IsPass fits a w boxes kept) → Visit a b x x → 0 < calls_of kept a.left → Looked fits (showing a kept p.last) (showing b kept x)
+  pub looked_is : (a b : Standing (State M W)) (x : State M W) (w : W) (boxes : ℕ) (kept : Bool) (p : IsPass fits a w boxes kept)
+      → Visit a b x x → 0 < calls_of kept a.left → Looked fits (showing a kept p.last) (showing b kept x)
   looked_is a b x w boxes kept p v some_of =
       let f = found_of a b x x w boxes kept p v in
       let k = step_keeps a.number x x f.sound (stays refl) in (
-        record { goes = goes_on a b x x w boxes kept kept p v k (λ is. some_later p.last x f.before (p.knows is)); made = refl; own = ap (λ (q : List (Entry M) × Bool). q.0) f.part },
+        record {
+          goes = goes_on a b x x w boxes kept kept p v k (λ is. some_later p.last x f.before (p.knows is));
+          made = refl;
+          own = ap (λ (q : List (Entry M) × Bool). q.0) f.part;
+        },
         calls_less kept a.left b.left some_of v.left,
       )
 
   -- a call at which it made one
-  pub added_is : (a b : Standing (State M W)) (x y : State M W) (e : Entry M) (w : W) (boxes : ℕ) (kept : Bool) (p : IsPass fits a w boxes kept) → Visit a b x y → y ≡ with_entry e x → maker_of e ≡ a.number → Allowed fits e x → 0 < calls_of kept a.left → Added fits e (showing a kept p.last) (showing b kept y)
+  pub added_is : (a b : Standing (State M W)) (x y : State M W) (e : Entry M) (w : W) (boxes : ℕ) (kept : Bool)
+      (p : IsPass fits a w boxes kept) → Visit a b x y → y ≡ with_entry e x → maker_of e ≡ a.number → Allowed fits e x
+      → 0 < calls_of kept a.left → Added fits e (showing a kept p.last) (showing b kept y)
   added_is a b x y e w boxes kept p v is maker may some_of =
       let f = found_of a b x y w boxes kept p v in
       let k = step_keeps a.number x y f.sound (adds e is maker may) in
       let last = ap (λ (s : State M W). s.order) is in
       let abort = ap (λ (s : State M W). s.aborted) is in
       record {
-        goes = goes_on a b x y w boxes kept kept p v k (λ no_ticket. some_later p.last y (before_trans p.last x y f.before k.before) (p.knows no_ticket));
+        goes =
+            goes_on a b x y w boxes kept kept p v k
+            (λ no_ticket. some_later p.last y (before_trans p.last x y f.before k.before) (p.knows no_ticket));
         made = refl;
         calls = calls_less kept a.left b.left some_of v.left;
         front = x.order;
@@ -282,23 +312,40 @@ module _ {M W : Type 0} (fits : W → ℕ → M → Type 0) where
       }
 
   -- a message that is not yet taken was posted, and fits
-  pub posted_fits : (w : W) (q k s : ℕ) (m : M) (order : List (Entry M)) → ((i to sender : ℕ) (n : M) (t : ℕ) → slice_get order i ≡ Some (entry.Posted to sender n t) → fits w to n) → slice_get (posts (part q order)) k ≡ Some (s, m) → fits w q m
+  pub posted_fits : (w : W) (q k s : ℕ) (m : M) (order : List (Entry M))
+      → ((i to sender : ℕ) (n : M) (t : ℕ) → slice_get order i ≡ Some (entry.Posted to sender n t) → fits w to n)
+      → slice_get (posts (part q order)) k ≡ Some (s, m) → fits w q m
   posted_fits w q k s m [] all at = cc
   posted_fits w q k s m (entry.Posted to s' m' t ∷ es) all at = elim (cases_eq to q) [
-    | inl here ↦ first k (ap (λ l. slice_get (posts l) k) (sym (part_here q (entry.Posted to s' m' t) es here)) ∙ at) here (λ j. posted_fits w q j s m es (λ i. all (suc i)))
-    | inr else ↦ posted_fits w q k s m es (λ i. all (suc i)) (ap (λ l. slice_get (posts l) k) (sym (part_else q (entry.Posted to s' m' t) es else)) ∙ at)
+    | inl here ↦
+        first k (ap (λ l. slice_get (posts l) k) (sym (part_here q (entry.Posted to s' m' t) es here)) ∙ at) here
+        (λ j. posted_fits w q j s m es (λ i. all (suc i)))
+    | inr else ↦
+        posted_fits w q k s m es (λ i. all (suc i))
+        (ap (λ l. slice_get (posts l) k) (sym (part_else q (entry.Posted to s' m' t) es else)) ∙ at)
   ]
     where
-      first : (j : ℕ) → slice_get ((s', m') ∷ posts (part q es)) j ≡ Some (s, m) → to ≡ q → ((i : ℕ) → slice_get (posts (part q es)) i ≡ Some (s, m) → fits w q m) → fits w q m
-      first zero is here rest = (let same : m' ≡ m = ap (λ (z : ℕ × M). z.1) (same_Some (s', m') (s, m) is) in subst (λ i. fits w i m) here (subst (λ n. fits w to n) same (all 0 to s' m' t refl)))
+      first : (j : ℕ) → slice_get ((s', m') ∷ posts (part q es)) j ≡ Some (s, m) → to ≡ q
+          → ((i : ℕ) → slice_get (posts (part q es)) i ≡ Some (s, m) → fits w q m) → fits w q m
+      first zero is here rest =
+          (let same : m' ≡ m = ap (λ (z : ℕ × M). z.1) (same_Some (s', m') (s, m) is) in
+          subst (λ i. fits w i m) here (subst (λ n. fits w to n) same (all 0 to s' m' t refl)))
       first (suc j) is here rest = rest j is
   posted_fits w q k s m (entry.Taken of s' m' ∷ es) all at = elim (cases_eq of q) [
-    | inl here ↦ posted_fits w q k s m es (λ i. all (suc i)) (ap (λ l. slice_get (posts l) k) (sym (part_here q (entry.Taken of s' m') es here)) ∙ at)
-    | inr else ↦ posted_fits w q k s m es (λ i. all (suc i)) (ap (λ l. slice_get (posts l) k) (sym (part_else q (entry.Taken of s' m') es else)) ∙ at)
+    | inl here ↦
+        posted_fits w q k s m es (λ i. all (suc i))
+        (ap (λ l. slice_get (posts l) k) (sym (part_here q (entry.Taken of s' m') es here)) ∙ at)
+    | inr else ↦
+        posted_fits w q k s m es (λ i. all (suc i))
+        (ap (λ l. slice_get (posts l) k) (sym (part_else q (entry.Taken of s' m') es else)) ∙ at)
   ]
   posted_fits w q k s m (entry.Completed of t ∷ es) all at = elim (cases_eq of q) [
-    | inl here ↦ posted_fits w q k s m es (λ i. all (suc i)) (ap (λ l. slice_get (posts l) k) (sym (part_here q (entry.Completed of t) es here)) ∙ at)
-    | inr else ↦ posted_fits w q k s m es (λ i. all (suc i)) (ap (λ l. slice_get (posts l) k) (sym (part_else q (entry.Completed of t) es else)) ∙ at)
+    | inl here ↦
+        posted_fits w q k s m es (λ i. all (suc i))
+        (ap (λ l. slice_get (posts l) k) (sym (part_here q (entry.Completed of t) es here)) ∙ at)
+    | inr else ↦
+        posted_fits w q k s m es (λ i. all (suc i))
+        (ap (λ l. slice_get (posts l) k) (sym (part_else q (entry.Completed of t) es else)) ∙ at)
   ]
 
   -- of a mailbox of the board
@@ -317,19 +364,25 @@ module _ {M W : Type 0} (fits : W → ℕ → M → Type 0) where
   take_still n answer.Closed x y t = ap (λ (s : State M W). s.aborted) t.0
   take_still n answer.Aborted x y t = ap (λ (s : State M W). s.aborted) t.0
 
-  pub took_is : (r : Taken M) (a b : Standing (State M W)) (x y : State M W) (w : W) (boxes : ℕ) (kept : Bool) (p : IsPass fits a w boxes kept) → Visit a b x y → a.number < x.boxes → Answers a.number r x y → 0 < calls_of kept a.left → Took fits (Ok r) (showing a kept p.last) (showing b kept y)
+  pub took_is : (r : Taken M) (a b : Standing (State M W)) (x y : State M W) (w : W) (boxes : ℕ) (kept : Bool)
+      (p : IsPass fits a w boxes kept) → Visit a b x y → a.number < x.boxes → Answers a.number r x y → 0 < calls_of kept a.left
+      → Took fits (Ok r) (showing a kept p.last) (showing b kept y)
   unfolding added_is
   took_is (answer.Message job m) a b x y w boxes kept p v near t some_of =
       let f = found_of a b x y w boxes kept p v in
       let e : Entry M = entry.Taken a.number t.sender m in
       let add = added_is a b x y e w boxes kept p v t.after refl (take_allowed a.number job m x y near t) some_of in
-      let longer : part a.number y.order ≡ part a.number x.order ++ event.Take t.sender m ∷ [] = ap (λ (s : State M W). part a.number s.order) t.after ∙ (part-append a.number x.order (e ∷ []) ∙ ap (λ l. part a.number x.order ++ l) (part_here a.number e [] refl)) in
+      let longer : part a.number y.order ≡ part a.number x.order ++ event.Take t.sender m ∷ [] =
+      ap (λ (s : State M W). part a.number s.order) t.after
+      ∙ (part-append a.number x.order (e ∷ []) ∙ ap (λ l. part a.number x.order ++ l) (part_here a.number e [] refl)) in
       record {
         sender = t.sender;
         added = add;
         oldest = (t.sender, t.oldest, longer);
         number = t.number;
-        fit = subst (λ z. fits z a.number m) f.before.world (posted_fits x.world a.number (length (takes (part a.number x.order))) t.sender m x.order f.sound.fitting t.oldest);
+        fit =
+            subst (λ z. fits z a.number m) f.before.world
+            (posted_fits x.world a.number (length (takes (part a.number x.order))) t.sender m x.order f.sound.fitting t.oldest);
         alive = ap (λ (s : State M W). s.aborted) t.after ∙ t.alive;
       }
   took_is answer.Empty a b x y w boxes kept p v near t some_of =
@@ -348,13 +401,15 @@ module _ {M W : Type 0} (fits : W → ℕ → M → Type 0) where
       (λ u. (looked_is a b x w boxes kept p u some_of, open_is x (found_of a b x x w boxes kept p u).sound t.1, t.2)) v
 
   -- a post that was made or refused
-  pub post_step : (n : ℕ) (e : Entry M) (m : M) (r : Result (Unit {0}) (PostFault M)) (x y : State M W) → maker_of e ≡ n → Allowed fits e x → OnOk r ((x.aborted ≡ None) × (y ≡ with_entry e x)) → IfErr r (λ f. Refuses m f x y) → Step n x y
+  pub post_step : (n : ℕ) (e : Entry M) (m : M) (r : Result (Unit {0}) (PostFault M)) (x y : State M W) → maker_of e ≡ n → Allowed fits e x
+      → OnOk r ((x.aborted ≡ None) × (y ≡ with_entry e x)) → IfErr r (λ f. Refuses m f x y) → Step n x y
   post_step n e m (Ok u) x y maker may ok err = adds e ok.1 maker may
   post_step n e m (Err (fault.Spent back)) x y maker may ok err = absurd err
   post_step n e m (Err (fault.Memory back)) x y maker may ok err = stays err.1
   post_step n e m (Err (fault.Aborted back)) x y maker may ok err = stays err.1
 
-  pub post_still : (e : Entry M) (m : M) (r : Result (Unit {0}) (PostFault M)) (x y : State M W) → OnOk r ((x.aborted ≡ None) × (y ≡ with_entry e x)) → IfErr r (λ f. Refuses m f x y) → y.aborted ≡ x.aborted
+  pub post_still : (e : Entry M) (m : M) (r : Result (Unit {0}) (PostFault M)) (x y : State M W)
+      → OnOk r ((x.aborted ≡ None) × (y ≡ with_entry e x)) → IfErr r (λ f. Refuses m f x y) → y.aborted ≡ x.aborted
   post_still e m (Ok u) x y ok err = ap (λ (s : State M W). s.aborted) ok.1
   post_still e m (Err (fault.Spent back)) x y ok err = absurd err
   post_still e m (Err (fault.Memory back)) x y ok err = ap (λ (s : State M W). s.aborted) err.1
@@ -363,12 +418,21 @@ module _ {M W : Type 0} (fits : W → ℕ → M → Type 0) where
   abbrev pub PostAnswer : ℕ → ℕ → M → Sight M W → Sight M W → Result (Unit {0}) (PostFault M) → Type 0
   PostAnswer job to m s t r = MatchResult r (λ _. WasPosted fits job to m s t) (λ f. WasRefused fits m f s t)
 
-  pub posted_is : (job to : ℕ) (m : M) (r : Result (Unit {0}) (PostFault M)) (a b : Standing (State M W)) (x y : State M W) (w : W) (boxes : ℕ) (kept : Bool) (p : IsPass fits a w boxes kept) → Visit a b x y → Allowed fits (entry.Posted to a.number m job) x
-      → OnOk r ((x.aborted ≡ None) × (y ≡ with_entry (entry.Posted to a.number m job) x)) → IfErr r (λ f. Refuses m f x y) → 0 < calls_of kept a.left → PostAnswer job to m (showing a kept p.last) (showing b kept y) r
-  posted_is job to m (Ok u) a b x y w boxes kept p v may ok err some_of = (added_is a b x y (entry.Posted to a.number m job) w boxes kept p v ok.1 refl may some_of, ap (λ (s : State M W). s.aborted) ok.1 ∙ ok.0)
+  pub posted_is : (job to : ℕ) (m : M) (r : Result (Unit {0}) (PostFault M)) (a b : Standing (State M W)) (x y : State M W) (w : W)
+      (boxes : ℕ) (kept : Bool) (p : IsPass fits a w boxes kept) → Visit a b x y → Allowed fits (entry.Posted to a.number m job) x
+      → OnOk r ((x.aborted ≡ None) × (y ≡ with_entry (entry.Posted to a.number m job) x)) → IfErr r (λ f. Refuses m f x y)
+      → 0 < calls_of kept a.left → PostAnswer job to m (showing a kept p.last) (showing b kept y) r
+  posted_is job to m (Ok u) a b x y w boxes kept p v may ok err some_of = (
+    added_is a b x y (entry.Posted to a.number m job) w boxes kept p v ok.1 refl may some_of,
+    ap (λ (s : State M W). s.aborted) ok.1 ∙ ok.0,
+  )
   posted_is job to m (Err (fault.Spent back)) a b x y w boxes kept p v may ok err some_of = absurd err
-  posted_is job to m (Err (fault.Memory back)) a b x y w boxes kept p v may ok err some_of = subst (λ z. Visit a b x z → WasRefused fits m (fault.Memory back) (showing a kept p.last) (showing b kept z)) (sym err.1) (λ u. (err.0, looked_is a b x w boxes kept p u some_of, err.2)) v
-  posted_is job to m (Err (fault.Aborted back)) a b x y w boxes kept p v may ok err some_of = subst (λ z. Visit a b x z → WasRefused fits m (fault.Aborted back) (showing a kept p.last) (showing b kept z)) (sym err.1) (λ u. (err.0, looked_is a b x w boxes kept p u some_of, err.2)) v
+  posted_is job to m (Err (fault.Memory back)) a b x y w boxes kept p v may ok err some_of =
+      subst (λ z. Visit a b x z → WasRefused fits m (fault.Memory back) (showing a kept p.last) (showing b kept z)) (sym err.1)
+      (λ u. (err.0, looked_is a b x w boxes kept p u some_of, err.2)) v
+  posted_is job to m (Err (fault.Aborted back)) a b x y w boxes kept p v may ok err some_of =
+      subst (λ z. Visit a b x z → WasRefused fits m (fault.Aborted back) (showing a kept p.last) (showing b kept z)) (sym err.1)
+      (λ u. (err.0, looked_is a b x w boxes kept p u some_of, err.2)) v
 
   some_abort : (o : Option Abort) (a : Abort) → IsSome (abort_of o a)
   some_abort None a = refl
@@ -382,8 +446,12 @@ module _ {M W : Type 0} (fits : W → ℕ → M → Type 0) where
       (b, refl, inr (λ same. (let no_way : true ≡ false = sym (eq-eqb b.by n same) ∙ mine in cc)))
 
   -- an abort
-  pub abort_pass : (q : Abort) (a b : Standing (State M W)) (x y : State M W) (w : W) (boxes : ℕ) (kept : Bool) (p : IsPass fits a w boxes kept) → Visit a b x y → Kept a.number x y → y ≡ record x { aborted = abort_of x.aborted q } → IsPass fits b w boxes false
-  abort_pass q a b x y w boxes kept p v k is = pass_on a b x y w boxes kept false p v k (λ e. cc) (λ e. cc) (λ e. subst (λ (s : State M W). IsSome s.aborted) (sym is) (some_abort x.aborted q))
+  pub abort_pass : (q : Abort) (a b : Standing (State M W)) (x y : State M W) (w : W) (boxes : ℕ) (kept : Bool)
+      (p : IsPass fits a w boxes kept) → Visit a b x y → Kept a.number x y → y ≡ record x { aborted = abort_of x.aborted q }
+      → IsPass fits b w boxes false
+  abort_pass q a b x y w boxes kept p v k is =
+      pass_on a b x y w boxes kept false p v k (λ e. cc) (λ e. cc)
+      (λ e. subst (λ (s : State M W). IsSome s.aborted) (sym is) (some_abort x.aborted q))
 
   pub aborted_is : (q : Abort) (a b : Standing (State M W)) (x y : State M W) (w : W) (boxes : ℕ)
       (p : IsPass fits a w boxes true) → q.by ≡ a.number → Visit a b x y → Kept a.number x y
@@ -391,7 +459,8 @@ module _ {M W : Type 0} (fits : W → ℕ → M → Type 0) where
   aborted_is q a b x y w boxes p by v k is =
       let f = found_of a b x y w boxes true p v in
       record {
-        goes = goes_on a b x y w boxes true false p v k (λ e. subst (λ (s : State M W). IsSome s.aborted) (sym is) (some_abort x.aborted q));
+        goes =
+            goes_on a b x y w boxes true false p v k (λ e. subst (λ (s : State M W). IsSome s.aborted) (sym is) (some_abort x.aborted q));
         made = refl;
         calls = v.left;
         own = ap (λ (s : State M W). own a.number s.order) is ∙ ap (λ (z : List (Entry M) × Bool). z.0) f.part;
@@ -401,7 +470,8 @@ module _ {M W : Type 0} (fits : W → ℕ → M → Type 0) where
         again = λ e. cc;
       }
 
-  pub aborted_again : (q : Abort) (a : Standing (State M W)) (w : W) (boxes : ℕ) (p : IsPass fits a w boxes false) → MadeAbort fits q (showing a false p.last) (showing a false p.last)
+  pub aborted_again : (q : Abort) (a : Standing (State M W)) (w : W) (boxes : ℕ) (p : IsPass fits a w boxes false)
+      → MadeAbort fits q (showing a false p.last) (showing a false p.last)
   aborted_again q a w boxes p = record {
     goes = record {
       board = refl;
@@ -420,28 +490,34 @@ module _ {M W : Type 0} (fits : W → ℕ → M → Type 0) where
   }
 
   -- the pass as it shows itself after it was inside
-  pub after_shows : (a b : Standing (State M W)) (x y : State M W) (w : W) (boxes : ℕ) (kept kept' : Bool) (p : IsPass fits a w boxes kept) → Visit a b x y → Kept a.number x y → sight_of b w boxes kept' ≡ showing b kept' y
+  pub after_shows : (a b : Standing (State M W)) (x y : State M W) (w : W) (boxes : ℕ) (kept kept' : Bool) (p : IsPass fits a w boxes kept)
+      → Visit a b x y → Kept a.number x y → sight_of b w boxes kept' ≡ showing b kept' y
   after_shows a b x y w boxes kept kept' p v k =
       let f = found_of a b x y w boxes kept p v in
-      shows_now b w boxes kept' y v.ends (k.before.world ∙ (f.before.world ∙ p.same_world)) (k.before.boxes ∙ (f.before.boxes ∙ p.same_boxes))
+      shows_now b w boxes kept' y v.ends (k.before.world ∙ (f.before.world ∙ p.same_world))
+      (k.before.boxes ∙ (f.before.boxes ∙ p.same_boxes))
 
   pub job_allowed : (n job : ℕ) (x : State M W) → IsSound fits x → HasJob n job x.order → Allowed fits (entry.Completed n job) x
   job_allowed n job x s has = record { near = job_inside x.boxes x.order n job s.lawful has; follows = has; under = tt; fit = tt }
 
   -- the pass's job is one of the state found
-  pub job_found : (n job : ℕ) (last x : State M W) (s : Sight M W) (a : Standing (State M W)) (kept : Bool) → Found n last x → showing a kept last ≡ s → a.number ≡ n → HasJob s.number job s.seen.order → HasJob n job x.order
+  pub job_found : (n job : ℕ) (last x : State M W) (s : Sight M W) (a : Standing (State M W)) (kept : Bool) → Found n last x
+      → showing a kept last ≡ s → a.number ≡ n → HasJob s.number job s.seen.order → HasJob n job x.order
   job_found n job last x s a kept f see same has =
-      let here : HasJob n job last.order = subst (λ k. HasJob k job last.order) same (subst (λ (z : Sight M W). HasJob z.number job z.seen.order) (sym see) has) in
+      let here : HasJob n job last.order =
+      subst (λ k. HasJob k job last.order) same (subst (λ (z : Sight M W). HasJob z.number job z.seen.order) (sym see) has) in
       job_stays n job last.order x.order (sym (ap (λ (z : List (Entry M) × Bool). z.0) f.part)) here
 
-  pub some_calls : (r : ℕ) (a : Standing (State M W)) (kept : Bool) (last : State M W) (s : Sight M W) → showing a kept last ≡ s → r ≡ s.calls → (r ≡ 0 → ⊥) → 0 < calls_of kept a.left
+  pub some_calls : (r : ℕ) (a : Standing (State M W)) (kept : Bool) (last : State M W) (s : Sight M W) → showing a kept last ≡ s
+      → r ≡ s.calls → (r ≡ 0 → ⊥) → 0 < calls_of kept a.left
   some_calls r a kept last s see is some_of = subst (λ k. 0 < k) (is ∙ sym (ap (λ (z : Sight M W). z.calls) see)) (positive r some_of)
     where
       positive : (n : ℕ) → (n ≡ 0 → ⊥) → 0 < n
       positive zero none = absurd (none refl)
       positive (suc n) none = omega arith
 
-  pub post_allowed : (n job to : ℕ) (m : M) (x : State M W) → to < x.boxes → HasJob n job x.order → fits x.world to m → Allowed fits (entry.Posted to n m job) x
+  pub post_allowed : (n job to : ℕ) (m : M) (x : State M W) → to < x.boxes → HasJob n job x.order → fits x.world to m
+      → Allowed fits (entry.Posted to n m job) x
   post_allowed n job to m x near has fit = record { near = near; follows = tt; under = has; fit = fit }
 
   pub aborted_when : (q : Abort) (a b : Standing (State M W)) (x y : State M W) (w : W) (boxes : ℕ) (kept : Bool)
@@ -450,6 +526,7 @@ module _ {M W : Type 0} (fits : W → ℕ → M → Type 0) where
   aborted_when q a b x y w boxes true p e by v k is = aborted_is q a b x y w boxes p by v k is
   aborted_when q a b x y w boxes false p e by v k is = cc
 
-  pub again_when : (q : Abort) (a : Standing (State M W)) (w : W) (boxes : ℕ) (kept : Bool) (p : IsPass fits a w boxes kept) → kept ≡ false → MadeAbort fits q (showing a kept p.last) (showing a kept p.last)
+  pub again_when : (q : Abort) (a : Standing (State M W)) (w : W) (boxes : ℕ) (kept : Bool) (p : IsPass fits a w boxes kept) → kept ≡ false
+      → MadeAbort fits q (showing a kept p.last) (showing a kept p.last)
   again_when q a w boxes true p e = cc
   again_when q a w boxes false p e = aborted_again q a w boxes p

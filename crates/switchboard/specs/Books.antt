@@ -11,7 +11,8 @@ use Rattle.switchboard.specs.declared.calls.Taken.{Taken}
 use Rattle.switchboard.specs.declared.calls.Taken.TheVariants as answer
 use Rattle.switchboard.specs.Sights.{State, AllTaken}
 
--- What a book keeps: its order is lawful, each history is the order's part for its mailbox, its numbers are those of the Posts and the
+-- What a book keeps: its order is lawful, each history is the order's part for its mailbox, its numbers are those of
+-- the Posts and the
 -- Dones, and there is room for the Take and the Done that each Post still owes.
 pub record Kept {M : Type 0} (histories : List (List (Event M))) (order : List (Entry M)) (capacity posts dones : ℕ) : Type 0 where
   pub lawful : IsLawful (length histories) order
@@ -26,7 +27,8 @@ module _ {M W : Type 0} where
   abbrev pub with_entry : Entry M → State M W → State M W
   with_entry e s = record s { order = s.order ++ e ∷ [] }
 
-  -- the oldest message of the mailbox that was not taken is taken, on a board that is not aborted; the job is that of this take
+  -- the oldest message of the mailbox that was not taken is taken, on a board that is not aborted; the job is that of
+  -- this take
   pub record Takes (by job : ℕ) (m : M) (s t : State M W) : Type 0 where
     pub sender : ℕ
     pub oldest : slice_get (posts (part by s.order)) (length (takes (part by s.order))) ≡ Some (sender, m)
@@ -34,14 +36,16 @@ module _ {M W : Type 0} where
     pub after : t ≡ with_entry (entry.Taken by sender m) s
     pub alive : s.aborted ≡ None
 
-  -- closed, where the order is; aborted, where it is not and the board is; else the oldest message, or that every one is taken
+  -- closed, where the order is; aborted, where it is not and the board is; else the oldest message, or that every one
+  -- is taken
   abbrev pub Answers : ℕ → Taken M → State M W → State M W → Type 0
   Answers by (answer.Message job m) s t = Takes by job m s t
   Answers by answer.Empty s t = (t ≡ s) × (IsClosed s.order → ⊥) × (s.aborted ≡ None) × AllTaken by s.order
   Answers by answer.Closed s t = (t ≡ s) × IsClosed s.order
   Answers by answer.Aborted s t = (t ≡ s) × (IsClosed s.order → ⊥) × IsSome s.aborted
 
-  -- the message comes back and nothing changes: there was no memory, on a board that is not aborted, or the board is aborted
+  -- the message comes back and nothing changes: there was no memory, on a board that is not aborted, or the board is
+  -- aborted
   abbrev pub Refuses : M → PostFault M → State M W → State M W → Type 0
   Refuses m (fault.Spent back) s t = ⊥
   Refuses m (fault.Memory back) s t = (back ≡ m) × (t ≡ s) × (s.aborted ≡ None)

@@ -42,9 +42,11 @@ module _ {M W : Type 0} where
   module _ (fits : W → ℕ → M → Type 0) where
     -- the seat is that of the pass
     abbrev pub HasSeat : Sight M W → TableId → Seat M W → Type 0
-    HasSeat s id me = IsBoxPass fits id s.number s.calls s.made s.seen.world s.seen.boxes me × (box_sight id s.number s.calls s.made s.seen.world s.seen.boxes me.0.seen ≡ s)
+    HasSeat s id me = IsBoxPass fits id s.number s.calls s.made s.seen.world s.seen.boxes me
+        × (box_sight id s.number s.calls s.made s.seen.world s.seen.boxes me.0.seen ≡ s)
 
-    -- What is left of a board whose passes a seat has all: the longest order, whose parts are the histories; it is closed where no post is outstanding;
+    -- What is left of a board whose passes a seat has all: the longest order, whose parts are the histories; it is
+    -- closed where no post is outstanding;
     -- and the maker of the first abort has made it.
     pub record Ends (g : Ground M W) (v : View M W) (histories : List (List (Event M))) (closed : Bool) : Type 0 where
       pub order : List (Entry M)
@@ -55,7 +57,8 @@ module _ {M W : Type 0} where
       pub owns : (k : ℕ) (o : Own M) → get_elem? v.lanes k ≡ some o → own o.number order ≡ o.events
       pub boards : (i : ℕ) (k : Ground M W) → get_elem? v.boards i ≡ some k → k ≡ g
       pub once : (n : ℕ) → times n (numbers v) ≤ 1
-      pub maker : (a : Abort) → first ≡ Some a → (k : ℕ) × (o : Own M) × (get_elem? v.lanes k ≡ some o) × (o.number ≡ a.by) × (o.made ≡ true)
+      pub maker : (a : Abort) → first ≡ Some a
+          → (k : ℕ) × (o : Own M) × (get_elem? v.lanes k ≡ some o) × (o.number ≡ a.by) × (o.made ≡ true)
       pub count : length histories ≡ g.boxes
       pub parts : (q : ℕ) (h : List (Event M)) → slice_get histories q ≡ Some h → h ≡ part q order
       pub close : IsTrue closed ↔ IsClosed order

@@ -42,13 +42,15 @@ module _ {M W : Type 0} where
   }
 
   module _ (fits : W → ℕ → M → Type 0) where
-    -- what a pass has seen: it is sound; who knows the close has seen a closed order; and who made an abort knows of one
+    -- what a pass has seen: it is sound; who knows the close has seen a closed order; and who made an abort knows of
+    -- one
     pub record IsSeen (w : W) (boxes : ℕ) (made : Bool) (x : Seen M) : Type 0 where
       pub sound : IsSound fits (state_seen w boxes x)
       pub close : x.knows ≡ true → IsClosed x.order
       pub known : made ≡ true → IsSome x.aborted
 
-    -- The seat is this pass's alone, at a board of this world with so many mailboxes. It holds no mailbox, waits for none, and has none in the count; it
+    -- The seat is this pass's alone, at a board of this world with so many mailboxes. It holds no mailbox, waits for
+    -- none, and has none in the count; it
     -- made just its own events of the order that it has seen; it has tickets, and Posts to count up, for its calls.
     pub record IsBoxPass (id : TableId) (number left : ℕ) (made : Bool) (w : W) (boxes : ℕ) (me : Seat M W) : Type 0 where
       pub base : Ground M W

@@ -9,7 +9,12 @@ module _ {M W : Type 0} where
   before_refl s = record { world = refl; boxes = refl; order = StartsWith-refl s.order; aborted = λ a e. e }
 
   pub before_trans : (s t u : State M W) → Before s t → Before t u → Before s u
-  before_trans s t u p q = record { world = q.world ∙ p.world; boxes = q.boxes ∙ p.boxes; order = StartsWith-trans u.order t.order s.order q.order p.order; aborted = λ a e. q.aborted a (p.aborted a e) }
+  before_trans s t u p q = record {
+    world = q.world ∙ p.world;
+    boxes = q.boxes ∙ p.boxes;
+    order = StartsWith-trans u.order t.order s.order q.order p.order;
+    aborted = λ a e. q.aborted a (p.aborted a e);
+  }
 
   module _ (fits : W → ℕ → M → Type 0) where
     pub comes_refl : (s : State M W) → Comes fits s s

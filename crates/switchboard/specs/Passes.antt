@@ -39,7 +39,12 @@ module _ {M W : Type 0} where
     calls = calls_of kept lane.left;
     made = not kept;
     knows = is_complete (latest (λ s. s.order) [] lane.seen);
-    seen = record { world = w; boxes = boxes; order = latest (λ s. s.order) [] lane.seen; aborted = latest (λ s. s.aborted) None lane.seen };
+    seen = record {
+      world = w;
+      boxes = boxes;
+      order = latest (λ s. s.order) [] lane.seen;
+      aborted = latest (λ s. s.aborted) None lane.seen;
+    };
   }
 
   -- how contracts see what a pass told
@@ -56,7 +61,8 @@ module _ {M W : Type 0} where
     abbrev pub Comes : State M W → State M W → Type 0
     Comes s t = Before s t × (IsSound fits s → IsSound fits t)
 
-    -- The lane is outside and waits for nothing; what it has seen last is sound, and has the pass's own part as the lane left it; a ticket is kept
+    -- The lane is outside and waits for nothing; what it has seen last is sound, and has the pass's own part as the
+    -- lane left it; a ticket is kept
     -- until the pass makes an abort.
     pub record IsPass (lane : Standing (State M W)) (w : W) (boxes : ℕ) (kept : Bool) : Type 0 where
       pub waits : lane.tickets ≡ []

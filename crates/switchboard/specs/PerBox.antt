@@ -1,4 +1,5 @@
--- The rule of a board with a lock for each mailbox, and what each of its steps tells. Word 0 counts the outstanding posts, and its bit 63 says that
+-- The rule of a board with a lock for each mailbox, and what each of its steps tells. Word 0 counts the outstanding
+-- posts, and its bit 63 says that
 -- the board was aborted.
 use Rattle.std.specs.Prelude.{◌≡◌, ◌≢◌, ◌⊎◌, ℕ, ◌+◌, ◌*◌, ◌^◌, ◌<◌, ◌≤◌, ◌==◌, true, false, List, [], ◌∷◌, ◌++◌}
 use Rattle.std.specs.Prelude.{map, length, Option, Some, None, slice_index, slice_set}
@@ -82,7 +83,8 @@ module _ {M W : Type 0} where
   IsBox g word slot = (word ≡ word_of slot) × (slot < g.boxes)
 
   module _ (fits : W → ℕ → M → Type 0) where
-    -- What was seen is a beginning of the order, and sound, if it has an event; an abort that was seen is the first; who knows the close has seen
+    -- What was seen is a beginning of the order, and sound, if it has an event; an abort that was seen is the first;
+    -- who knows the close has seen
     -- the whole order, and no post is outstanding.
     pub record Saw (g : Ground M W) (order : List (Entry M)) (first : Option Abort) (low : ℕ) (x : Seen M) : Type 0 where
       pub begins : StartsWith order x.order
@@ -90,7 +92,8 @@ module _ {M W : Type 0} where
       pub aborted : (a : Abort) → x.aborted ≡ Some a → first ≡ Some a
       pub close : x.knows ≡ true → (low ≡ 0) × (x.order ≡ order)
 
-    -- What holds of each seat: it has a share of each lock for each of its passes; each of its passes made just its own events of the order; without a
+    -- What holds of each seat: it has a share of each lock for each of its passes; each of its passes made just its own
+    -- events of the order; without a
     -- pass it has none in the count.
     pub record Knows (g : Ground M W) (order : List (Entry M)) (first : Option Abort) (low : ℕ) (v : View M W) : Type 0 where
       pub board : (i : ℕ) (k : Ground M W) → get_elem? v.boards i ≡ some k → k ≡ g
@@ -100,8 +103,10 @@ module _ {M W : Type 0} where
       pub parts : (q : ℕ) → q < g.boxes → (hand_at q v).parts ≡ length v.lanes
       pub idle : length v.lanes ≡ 0 → v.owes ≡ 0
 
-    -- The rule: the longest order is sound, and begins with what each seat has seen; each lock stands at its part for the mailbox; the low bits of word 0 are the Posts without a Done, and what the
-    -- seats have in the count beside them; each pass is in one seat, and all are; the maker of the first abort has made it.
+    -- The rule: the longest order is sound, and begins with what each seat has seen; each lock stands at its part for
+    -- the mailbox; the low bits of word 0 are the Posts without a Done, and what the
+    -- seats have in the count beside them; each pass is in one seat, and all are; the maker of the first abort has made
+    -- it.
     pub record Rule (g : Ground M W) (s : Boxes M W) : Type 0 where
       pub order : List (Entry M)
       pub first : Option Abort
@@ -117,7 +122,8 @@ module _ {M W : Type 0} where
       pub whole : total (λ (v : View M W). length v.lanes) s.views ≡ g.boxes
       pub maker : (a : Abort) → first ≡ Some a → 0 < total (makes a.by) s.views
 
-    -- what a seat sees after a step goes on from what it had seen, and is sound; who knows the close has seen a closed order
+    -- what a seat sees after a step goes on from what it had seen, and is sound; who knows the close has seen a closed
+    -- order
     pub record News (v : View M W) (x : Seen M) : Type 0 where
       pub begins : StartsWith x.order v.seen.order
       pub aborted : (a : Abort) → v.seen.aborted ≡ Some a → x.aborted ≡ Some a
@@ -129,10 +135,12 @@ module _ {M W : Type 0} where
     abbrev pub HasOwn : View M W → List (Entry M) → Type 0
     HasOwn v order = (k : ℕ) (o : Own M) → get_elem? v.lanes k ≡ some o → own o.number order ≡ o.events
 
-    -- what is asked of an event that a pass is to record, behind the history found: a Post is the pass's own, under a job that it has, fits and is counted up; a Take or a Done is one of the pass's
+    -- what is asked of an event that a pass is to record, behind the history found: a Post is the pass's own, under a
+    -- job that it has, fits and is counted up; a Take or a Done is one of the pass's
     -- own mailbox, and may follow
     abbrev pub MayRecord : ℕ → ℕ → Event M → List (Event M) → View M W → Type 0
-    MayRecord q n (Post s m) x v = (s ≡ n) × HasJob n v.under v.seen.order × ((g : Ground M W) × (get_elem? v.boards 0 ≡ some g) × fits g.world.value q m) × (0 < v.owes)
+    MayRecord q n (Post s m) x v = (s ≡ n) × HasJob n v.under v.seen.order
+        × ((g : Ground M W) × (get_elem? v.boards 0 ≡ some g) × fits g.world.value q m) × (0 < v.owes)
     MayRecord q n (Take s m) x v = (n ≡ q) × MayFollow x (Take s m)
     MayRecord q n (Done t) x v = (n ≡ q) × MayFollow x (Done t)
 
@@ -141,9 +149,12 @@ module _ {M W : Type 0} where
     Asks q draws v = Unit {0}
     Asks q waits v = Unit {0}
     Asks q (enters x) v = Unit {0}
-    Asks q (passes x y) v = (y ≡ x) ⊎ ((o : Own M) × (e : Event M) × (v.lanes ≡ o ∷ []) × (own o.number v.seen.order ≡ o.events) × (y ≡ x ++ e ∷ []) × MayRecord q o.number e x v)
+    Asks q (passes x y) v = (y ≡ x)
+        ⊎ ((o : Own M) × (e : Event M) × (v.lanes ≡ o ∷ []) × (own o.number v.seen.order ≡ o.events) × (y ≡ x ++ e ∷ [])
+        × MayRecord q o.number e x v)
 
-    -- the event is the last of the order that the pass has seen then, and of its own; the history found was the part of the order before it
+    -- the event is the last of the order that the pass has seen then, and of its own; the history found was the part of
+    -- the order before it
     pub record Recorded (q : ℕ) (o : Own M) (e : Event M) (x : List (Event M)) (v w : View M W) : Type 0 where
       pub front : List (Entry M)
       pub after : w ≡ record v {
@@ -157,15 +168,18 @@ module _ {M W : Type 0} where
       pub part : part q front ≡ x
       pub news : News v w.seen
 
-    -- a look in turn tells the order, whose part for the mailbox is the history found; a pass on records the event, if there is one
+    -- a look in turn tells the order, whose part for the mailbox is the history found; a pass on records the event, if
+    -- there is one
     abbrev pub Tells : ℕ → Kind (List (Event M)) → View M W → View M W → Type 0
     Tells q draws v w = w ≡ with_hand q (hand_at q w) v
     Tells q waits v w = w ≡ v
-    Tells q (enters x) v w = (w ≡ with_seen w.seen (with_hand q (hand_at q w) v)) × News v w.seen × HasOwn v w.seen.order × (w.seen.aborted ≡ v.seen.aborted) × (w.seen.knows ≡ v.seen.knows) × (part q w.seen.order ≡ x)
+    Tells q (enters x) v w = (w ≡ with_seen w.seen (with_hand q (hand_at q w) v)) × News v w.seen × HasOwn v w.seen.order
+        × (w.seen.aborted ≡ v.seen.aborted) × (w.seen.knows ≡ v.seen.knows) × (part q w.seen.order ≡ x)
     Tells q (passes x y) v w = (y ≡ x → w ≡ with_hand q (hand_at q w) v)
         × ((o : Own M) (e : Event M) → v.lanes ≡ o ∷ [] → y ≡ x ++ e ∷ [] → Recorded q o e x v w)
 
-    -- the seat is inside the lock of a mailbox, whose history x is out, and is the part of the order that the seat has seen then
+    -- the seat is inside the lock of a mailbox, whose history x is out, and is the part of the order that the seat has
+    -- seen then
     pub record IsInside (q : ℕ) (x : List (Event M)) (m m' : Seat M W) : Type 0 where
       pub out : m'.1 ≡ (q, None) ∷ m.1
       pub after : m'.0 ≡ with_seen m'.0.seen (with_hand q (hand_at q m'.0) m.0)
@@ -204,4 +218,5 @@ module _ {M W : Type 0} where
       pub news : News m.0 m'.0.seen
       pub theirs : StartsWith m'.0.seen.order m.0.told.order
       pub aborted : (a : Abort) → m.0.told.aborted ≡ Some a → m'.0.seen.aborted ≡ Some a
-      pub own : (k : ℕ) (o : Own M) → get_elem? m.0.lanes k ≡ some o → own o.number m.0.seen.order ≡ o.events → own o.number m'.0.seen.order ≡ o.events
+      pub own : (k : ℕ) (o : Own M) → get_elem? m.0.lanes k ≡ some o → own o.number m.0.seen.order ≡ o.events
+          → own o.number m'.0.seen.order ≡ o.events

@@ -59,7 +59,8 @@ module _ {M : Type 0} where
   -- a lock whose words, slot and hands stay, and whose mailbox gets no event, stands
   pub stays_there : (q : ℕ) (order order' : List (Entry M)) (words words' : List ℕ) (homes homes' : Homes M)
       (hands hands' : List (Hand (List (Event M)))) → Stands q order words homes hands
-      → part q order' ≡ part q order → length words' ≡ length words → get_or words' (word_of q) 0 ≡ get_or words (word_of q) 0 → get_or words' (word_of q + 1) 0 ≡ get_or words (word_of q + 1) 0
+      → part q order' ≡ part q order → length words' ≡ length words → get_or words' (word_of q) 0 ≡ get_or words (word_of q) 0
+      → get_or words' (word_of q + 1) 0 ≡ get_or words (word_of q + 1) 0
       → get_elem? homes' q ≡ get_elem? homes q → hands' ≡ hands → Stands q order' words' homes' hands'
   stays_there q order order' words words' homes homes' hands hands' s same_part same_length first second same_home same_hands =
       let log = s.0 in
@@ -70,7 +71,8 @@ module _ {M : Type 0} where
           core = subst (λ a. Core a (get_or words' (word_of q + 1) 0) log (get_elem? homes' q) hands') (sym first)
               (subst (λ b. Core (get_or words (word_of q) 0) b log (get_elem? homes' q) hands') (sym second)
               (subst (λ x. Core (get_or words (word_of q) 0) (get_or words (word_of q + 1) 0) log x hands') (sym same_home)
-              (subst (λ l. Core (get_or words (word_of q) 0) (get_or words (word_of q + 1) 0) log (get_elem? homes q) l) (sym same_hands) c)));
+              (subst (λ l. Core (get_or words (word_of q) 0) (get_or words (word_of q + 1) 0) log (get_elem? homes q) l)
+              (sym same_hands) c)));
         },
         subst (λ h. EndsIn log h) (sym same_part) s.2,
       )
@@ -86,7 +88,8 @@ module _ {M : Type 0} where
   )
 
   -- the order is closed where no post is outstanding
-  pub closed_at_zero : (boxes : ℕ) (order : List (Entry M)) (low more : ℕ) → IsLawful boxes order → low + completed order ≡ posted order + more → low ≡ 0 → IsClosed order
+  pub closed_at_zero : (boxes : ℕ) (order : List (Entry M)) (low more : ℕ) → IsLawful boxes order
+      → low + completed order ≡ posted order + more → low ≡ 0 → IsClosed order
   closed_at_zero boxes order low more law count none = (counted_closed boxes order law).0 (omega (arith, fewer_dones boxes order law))
 
   -- the order, the first abort and the low bits go on
@@ -100,7 +103,8 @@ module _ {M : Type 0} where
 
 module _ {M W : Type 0} where
   module _ (fits : W → ℕ → M → Type 0) (g : Ground M W) where
-    pub saw_grows : (order order' : List (Entry M)) (first first' : Option Abort) (low low' : ℕ) (x : Seen M) → Grows order order' first first' low low' → Saw fits g order first low x → Saw fits g order' first' low' x
+    pub saw_grows : (order order' : List (Entry M)) (first first' : Option Abort) (low low' : ℕ) (x : Seen M)
+        → Grows order order' first first' low low' → Saw fits g order first low x → Saw fits g order' first' low' x
     saw_grows order order' first first' low low' x on s = record {
       begins = StartsWith-trans order' order x.order on.begins s.begins;
       sound = s.sound;
@@ -109,33 +113,44 @@ module _ {M W : Type 0} where
     }
 
     -- what was seen is sound where its order is one that is
-    pub sound_with : (order : List (Entry M)) (first : Option Abort) (x y : Seen M) → IsSound fits (state_of g x) → x.order ≡ y.order → ((a : Abort) → y.aborted ≡ Some a → a.by < g.boxes) → IsSound fits (state_of g y)
+    pub sound_with : (order : List (Entry M)) (first : Option Abort) (x y : Seen M) → IsSound fits (state_of g x) → x.order ≡ y.order
+        → ((a : Abort) → y.aborted ≡ Some a → a.by < g.boxes) → IsSound fits (state_of g y)
     sound_with order first x y s same by = record {
       lawful = subst (λ l. IsLawful g.boxes l) same s.lawful;
-      fitting = subst (λ l. (i to sender : ℕ) (m : M) (t : ℕ) → Rattle.std.specs.Prelude.slice_get l i ≡ Some (Rattle.post_ledger.specs.declared.entry.Entry.TheVariants.Posted to sender m t) → fits g.world.value to m) same s.fitting;
+      fitting =
+          subst
+          (λ l. (i to sender : ℕ) (m : M) (t : ℕ)
+          → Rattle.std.specs.Prelude.slice_get l i ≡ Some (Rattle.post_ledger.specs.declared.entry.Entry.TheVariants.Posted to sender m t)
+          → fits g.world.value to m) same s.fitting;
       by = by;
     }
 
     -- the whole order was seen, with an abort that is the first, if any
-    pub saw_all : (order : List (Entry M)) (first : Option Abort) (low : ℕ) (x : Seen M) → IsSound fits (state_of g record { order = order; aborted = first; knows = false }) → x.order ≡ order
+    pub saw_all : (order : List (Entry M)) (first : Option Abort) (low : ℕ) (x : Seen M)
+        → IsSound fits (state_of g record { order = order; aborted = first; knows = false }) → x.order ≡ order
         → ((a : Abort) → x.aborted ≡ Some a → first ≡ Some a) → (x.knows ≡ true → low ≡ 0) → Saw fits g order first low x
     saw_all order first low x s same aborted knows = record {
       begins = subst (λ l. StartsWith order l) (sym same) (StartsWith-refl order);
-      sound = λ some_of. sound_with order first record { order = order; aborted = first; knows = false } x s (sym same) (λ a e. s.by a (aborted a e));
+      sound =
+          λ some_of.
+          sound_with order first record { order = order; aborted = first; knows = false } x s (sym same) (λ a e. s.by a (aborted a e));
       aborted = aborted;
       close = λ k. (knows k, same);
     }
 
     module _ (s : Boxes M W) (r : Rule fits g s) (id : ℕ) (v : View M W) (is_at : get_elem? s.views id ≡ some v) where
       -- a pass of another seat is none of this one's
-      pub not_mine : (j k : ℕ) (u : View M W) (o : Own M) → j ≢ id → get_elem? s.views j ≡ some u → get_elem? u.lanes k ≡ some o → times o.number (numbers v) ≡ 0
+      pub not_mine : (j k : ℕ) (u : View M W) (o : Own M) → j ≢ id → get_elem? s.views j ≡ some u → get_elem? u.lanes k ≡ some o
+          → times o.number (numbers v) ≡ 0
       not_mine j k u o ne at_u at_o =
           let two = total_two (λ (w : View M W). times o.number (numbers w)) s.views id j v u (λ e. ne (sym e)) is_at at_u in
           omega (arith, r.once o.number, number_in u.lanes k o at_o)
 
       -- what the seat sees is news, where it is so of the state after the step
-      pub news_is : (order' : List (Entry M)) (first' : Option Abort) (low' more : ℕ) (x : Seen M) → IsLawful g.boxes order' → low' + completed order' ≡ posted order' + more → Saw fits g order' first' low' x
-          → StartsWith x.order v.seen.order → ((a : Abort) → v.seen.aborted ≡ Some a → x.aborted ≡ Some a) → (v.seen.knows ≡ true → x.knows ≡ true) → News fits v x
+      pub news_is : (order' : List (Entry M)) (first' : Option Abort) (low' more : ℕ) (x : Seen M) → IsLawful g.boxes order'
+          → low' + completed order' ≡ posted order' + more → Saw fits g order' first' low' x
+          → StartsWith x.order v.seen.order → ((a : Abort) → v.seen.aborted ≡ Some a → x.aborted ≡ Some a)
+          → (v.seen.knows ≡ true → x.knows ≡ true) → News fits v x
       news_is order' first' low' more x law count saw begins aborted knows = record {
         begins = begins;
         aborted = aborted;
@@ -145,7 +160,8 @@ module _ {M W : Type 0} where
       }
 
       -- whoever has made an abort has made it
-      pub made_still : (w : View M W) → ((n : ℕ) → makes n w ≡ makes n v) → (a : Abort) → r.first ≡ Some a → 0 < total (makes a.by) (set s.views id w)
+      pub made_still : (w : View M W) → ((n : ℕ) → makes n w ≡ makes n v) → (a : Abort) → r.first ≡ Some a
+          → 0 < total (makes a.by) (set s.views id w)
       made_still w same a is = omega (arith, total_set (makes a.by) s.views id v w is_at, same a.by, r.maker a is)
 
       -- the count after one seat has another view
@@ -157,11 +173,14 @@ module _ {M W : Type 0} where
       -- the rule after one seat has another view
       pub rebuilt : (order' : List (Entry M)) (first' : Option Abort) (low' : ℕ) (words : List ℕ) (homes : Homes M) (w : View M W)
           → Grows r.order order' r.first first' r.low low'
-          → ((n : ℕ) → times n (numbers v) ≡ 0 → own n order' ≡ own n r.order) → IsSound fits (state_of g record { order = order'; aborted = first'; knows = false })
-          → ((q : ℕ) → q < g.boxes → Stands q order' words homes (set (map (hand_at q) s.views) id (hand_at q w))) → 0 < length words → get_or words 0 0 ≡ low' + flag first'
+          → ((n : ℕ) → times n (numbers v) ≡ 0 → own n order' ≡ own n r.order)
+          → IsSound fits (state_of g record { order = order'; aborted = first'; knows = false })
+          → ((q : ℕ) → q < g.boxes → Stands q order' words homes (set (map (hand_at q) s.views) id (hand_at q w))) → 0 < length words
+          → get_or words 0 0 ≡ low' + flag first'
           → low' + completed order' + v.owes ≡ posted order' + owed s.views + w.owes → low' + w.budget ≤ r.low + v.budget
           → Knows fits g order' first' low' w → numbers w ≡ numbers v
-          → ((a : Abort) → first' ≡ Some a → 0 < total (makes a.by) (set s.views id w)) → Rule fits g record { words = words; homes = homes; views = set s.views id w }
+          → ((a : Abort) → first' ≡ Some a → 0 < total (makes a.by) (set s.views id w))
+          → Rule fits g record { words = words; homes = homes; views = set s.views id w }
       rebuilt order' first' low' words homes w on apart sound locks some_word word count few mine same maker = record {
         order = order';
         first = first';
@@ -183,27 +202,50 @@ module _ {M W : Type 0} where
             idle = k.idle;
           })
         ];
-        once = λ n. let e : times n (numbers w) ≡ times n (numbers v) = ap (times n) same in omega (arith, total_set (λ (u : View M W). times n (numbers u)) s.views id v w is_at, r.once n);
-        whole = omega (arith, total_set (λ (u : View M W). length u.lanes) s.views id v w is_at, r.whole, ap length same, length-numbers w.lanes, length-numbers v.lanes);
+        once = λ n. let e : times n (numbers w) ≡ times n (numbers v) = ap (times n) same in
+            omega (arith, total_set (λ (u : View M W). times n (numbers u)) s.views id v w is_at, r.once n);
+        whole =
+            omega (
+              arith,
+              total_set (λ (u : View M W). length u.lanes) s.views id v w is_at,
+              r.whole,
+              ap length same,
+              length-numbers w.lanes,
+              length-numbers v.lanes,
+            );
         maker = maker;
       }
 
       -- the other locks stand where one takes a step
       pub locks_after : (order' : List (Entry M)) (slot i n : ℕ) (homes : Homes M) (log : List (List (Event M))) (w : View M W)
           (h : Hand (List (Event M))) → (i ≡ word_of slot) ⊎ (i ≡ word_of slot + 1)
-          → ((k : ℕ) → k ≢ slot → get_elem? homes k ≡ get_elem? s.homes k) → hand_at slot w ≡ h → ((q : ℕ) → q ≢ slot → hand_at q w ≡ hand_at q v)
-          → Kept (word_of slot) slot log (set s.words i n) homes (set (map (hand_at slot) s.views) id h) → EndsIn log (part slot order') → ((q : ℕ) → q ≢ slot → part q order' ≡ part q r.order)
+          → ((k : ℕ) → k ≢ slot → get_elem? homes k ≡ get_elem? s.homes k) → hand_at slot w ≡ h
+          → ((q : ℕ) → q ≢ slot → hand_at q w ≡ hand_at q v)
+          → Kept (word_of slot) slot log (set s.words i n) homes (set (map (hand_at slot) s.views) id h) → EndsIn log (part slot order')
+          → ((q : ℕ) → q ≢ slot → part q order' ≡ part q r.order)
           → (q : ℕ) → q < g.boxes → Stands q order' (set s.words i n) homes (set (map (hand_at q) s.views) id (hand_at q w))
       locks_after order' slot i n homes log w h where_i same_homes is_h others kept ends parts q near = dite (ℕ_discrete q slot)
-          (λ (e : q ≡ slot). subst (λ k. Stands k order' (set s.words i n) homes (set (map (hand_at k) s.views) id (hand_at k w))) (sym e)
-          (log, subst (λ z. Kept (word_of slot) slot log (set s.words i n) homes (set (map (hand_at slot) s.views) id z)) (sym is_h) kept, ends))
-          (λ (ne : q ≢ slot). stays_there q r.order order' s.words (set s.words i n) s.homes homes (map (hand_at q) s.views) (set (map (hand_at q) s.views) id (hand_at q w)) (r.locks q near) (parts q ne) (length-set s.words i n)
+          (λ (e : q ≡ slot). subst (λ k. Stands k order' (set s.words i n) homes (set (map (hand_at k) s.views) id (hand_at k w))) (sym e) (
+            log,
+            subst (λ z. Kept (word_of slot) slot log (set s.words i n) homes (set (map (hand_at slot) s.views) id z)) (sym is_h) kept,
+            ends,
+          ))
+          (λ (ne : q ≢ slot).
+          stays_there q r.order order' s.words (set s.words i n) s.homes homes (map (hand_at q) s.views)
+          (set (map (hand_at q) s.views) id (hand_at q w)) (r.locks q near) (parts q ne) (length-set s.words i n)
           (get_or-set_other s.words i (word_of q) n 0 (λ k. elim where_i [ inl a ↦ ne (omega arith) | inr a ↦ absurd (omega arith) ]))
           (get_or-set_other s.words i (word_of q + 1) n 0 (λ k. elim where_i [ inl a ↦ absurd (omega arith) | inr a ↦ ne (omega arith) ]))
-          (same_homes q ne) (ap (set (map (hand_at q) s.views) id) (others q ne) ∙ set_again (map (hand_at q) s.views) id (hand_at q v) (at-map (hand_at q) s.views id v is_at)))
+          (same_homes q ne)
+          (ap (set (map (hand_at q) s.views) id) (others q ne)
+          ∙ set_again (map (hand_at q) s.views) id (hand_at q v) (at-map (hand_at q) s.views id v is_at)))
 
       -- all locks stand where no hand changes, and no word but word 0
-      pub locks_still : (n : ℕ) (w : View M W) → ((q : ℕ) → hand_at q w ≡ hand_at q v) → (q : ℕ) → q < g.boxes → Stands q r.order (set s.words 0 n) s.homes (set (map (hand_at q) s.views) id (hand_at q w))
-      locks_still n w others q near = stays_there q r.order r.order s.words (set s.words 0 n) s.homes s.homes (map (hand_at q) s.views) (set (map (hand_at q) s.views) id (hand_at q w)) (r.locks q near) refl (length-set s.words 0 n)
-          (get_or-set_other s.words 0 (word_of q) n 0 (λ k. omega arith)) (get_or-set_other s.words 0 (word_of q + 1) n 0 (λ k. omega arith)) refl
-          (ap (set (map (hand_at q) s.views) id) (others q) ∙ set_again (map (hand_at q) s.views) id (hand_at q v) (at-map (hand_at q) s.views id v is_at))
+      pub locks_still : (n : ℕ) (w : View M W) → ((q : ℕ) → hand_at q w ≡ hand_at q v) → (q : ℕ) → q < g.boxes
+          → Stands q r.order (set s.words 0 n) s.homes (set (map (hand_at q) s.views) id (hand_at q w))
+      locks_still n w others q near =
+          stays_there q r.order r.order s.words (set s.words 0 n) s.homes s.homes (map (hand_at q) s.views)
+          (set (map (hand_at q) s.views) id (hand_at q w)) (r.locks q near) refl (length-set s.words 0 n)
+          (get_or-set_other s.words 0 (word_of q) n 0 (λ k. omega arith))
+          (get_or-set_other s.words 0 (word_of q + 1) n 0 (λ k. omega arith)) refl
+          (ap (set (map (hand_at q) s.views) id) (others q)
+          ∙ set_again (map (hand_at q) s.views) id (hand_at q v) (at-map (hand_at q) s.views id v is_at))

@@ -18,7 +18,8 @@ use Rattle.post_ledger.specs.declared.event.Event.TheVariants.{Post, Take, Done}
 use Rattle.post_ledger.specs.declared.entry.Entry.{Entry}
 use Rattle.post_ledger.specs.History.{MayFollow}
 use Rattle.post_ledger.specs.Orders.{mailbox_of, event_of, maker_of, part, own, posted, completed}
-use Rattle.post_ledger.proofs.Orders.{part-append, part_here, part_else, own-append, own_here, own_else, posted-append, completed-append, nothing_follows}
+use Rattle.post_ledger.proofs.Orders.{part-append, part_here, part_else, own-append, own_here, own_else, posted-append, completed-append}
+use Rattle.post_ledger.proofs.Orders.{nothing_follows}
 use Rattle.switchboard.specs.declared.knowing.Ground.{Ground}
 use Rattle.switchboard.specs.declared.knowing.Seen.{Seen}
 use Rattle.switchboard.specs.declared.knowing.Own.{Own}
@@ -26,7 +27,8 @@ use Rattle.switchboard.specs.Sights.{IsSound}
 use Rattle.switchboard.specs.Entries.{Allowed, sound_push, job_stays}
 use Rattle.switchboard.specs.Knowing.{entry_of, owes_after, with_event, made_by, state_of, hand_at, with_hand, with_seen, numbers, makes}
 use Rattle.switchboard.specs.PerBox.{View, word_of, IsBox, Saw, Knows, Rule, MayRecord, Asks, Recorded, Tells, Boxes, Homes, owed}
-use Rattle.switchboard.specs.PerBoxFacts.{hand_here, hand_else, has_hand, closed_at_zero, Grows, grows_same, saw_grows, saw_all, news_is, made_still, rebuilt, locks_after}
+use Rattle.switchboard.specs.PerBoxFacts.{hand_here, hand_else, has_hand, closed_at_zero, Grows, grows_same, saw_grows, saw_all, news_is}
+use Rattle.switchboard.specs.PerBoxFacts.{made_still, rebuilt, locks_after}
 
 module _ {M : Type 0} where
   entry_box : (q under : ℕ) (e : Event M) → mailbox_of (entry_of q under e) ≡ q
@@ -53,13 +55,16 @@ module _ {M : Type 0} where
   part_after : (q under : ℕ) (order : List (Entry M)) (e : Event M) → part q (order ++ entry_of q under e ∷ []) ≡ part q order ++ e ∷ []
   part_after q under order e =
       let x : Entry M = entry_of q under e in
-      part-append q order (x ∷ []) ∙ (ap (λ l. part q order ++ l) (part_here q x [] (entry_box q under e)) ∙ ap (λ z. part q order ++ z ∷ []) (entry_event q under e))
+      part-append q order (x ∷ [])
+      ∙ (ap (λ l. part q order ++ l) (part_here q x [] (entry_box q under e))
+      ∙ ap (λ z. part q order ++ z ∷ []) (entry_event q under e))
 
   -- and the others as they were
   part_other : (q k under : ℕ) (order : List (Entry M)) (e : Event M) → k ≢ q → part k (order ++ entry_of q under e ∷ []) ≡ part k order
   part_other q k under order e ne =
       let x : Entry M = entry_of q under e in
-      part-append k order (x ∷ []) ∙ (ap (λ l. part k order ++ l) (part_else k x [] (λ z. ne (sym z ∙ entry_box q under e))) ∙ append-nil (part k order))
+      part-append k order (x ∷ [])
+      ∙ (ap (λ l. part k order ++ l) (part_else k x [] (λ z. ne (sym z ∙ entry_box q under e))) ∙ append-nil (part k order))
 
 module _ {M W : Type 0} (fits : W → ℕ → M → Type 0) (g : Ground M W) where
   maker_is : (q n : ℕ) (e : Event M) (x : List (Event M)) (v : View M W) → MayRecord fits q n e x v → maker_of (entry_of q v.under e) ≡ n
@@ -67,27 +72,47 @@ module _ {M W : Type 0} (fits : W → ℕ → M → Type 0) (g : Ground M W) whe
   maker_is q n (Take s m) x v may = sym may.0
   maker_is q n (Done t) x v may = sym may.0
 
-  counted : (q n low more : ℕ) (e : Event M) (x : List (Event M)) (v : View M W) (order : List (Entry M)) → MayRecord fits q n e x v → low + completed order ≡ posted order + more
-      → (let longer : List (Entry M) = order ++ entry_of q v.under e ∷ [] in low + completed longer + v.owes ≡ posted longer + more + owes_after e v.owes)
-  counted q n low more (Post s m) x v order may count = omega (arith, posted-append order (entry_of q v.under (Post s m) ∷ []), completed-append order (entry_of q v.under (Post s m) ∷ []), may.3)
-  counted q n low more (Take s m) x v order may count = omega (arith, posted-append order (entry_of q v.under (Take s m) ∷ []), completed-append order (entry_of q v.under (Take s m) ∷ []))
-  counted q n low more (Done t) x v order may count = omega (arith, posted-append order (entry_of q v.under (Done t) ∷ []), completed-append order (entry_of q v.under (Done t) ∷ []))
+  counted : (q n low more : ℕ) (e : Event M) (x : List (Event M)) (v : View M W) (order : List (Entry M)) → MayRecord fits q n e x v
+      → low + completed order ≡ posted order + more
+      → (let longer : List (Entry M) = order ++ entry_of q v.under e ∷ [] in
+      low + completed longer + v.owes ≡ posted longer + more + owes_after e v.owes)
+  counted q n low more (Post s m) x v order may count =
+      omega
+      (arith, posted-append order (entry_of q v.under (Post s m) ∷ []), completed-append order (entry_of q v.under (Post s m) ∷ []), may.3)
+  counted q n low more (Take s m) x v order may count =
+      omega (arith, posted-append order (entry_of q v.under (Take s m) ∷ []), completed-append order (entry_of q v.under (Take s m) ∷ []))
+  counted q n low more (Done t) x v order may count =
+      omega (arith, posted-append order (entry_of q v.under (Done t) ∷ []), completed-append order (entry_of q v.under (Done t) ∷ []))
 
   module _ (s : Boxes M W) (r : Rule fits g s) (id : ℕ) (v : View M W) (is_at : get_elem? s.views id ≡ some v) where
     -- what the seat is to record may come behind the order
-    may_come : (q : ℕ) (o : Own M) (e : Event M) (x : List (Event M)) → q < g.boxes → part q r.order ≡ x → own o.number v.seen.order ≡ own o.number r.order → MayRecord fits q o.number e x v
+    may_come : (q : ℕ) (o : Own M) (e : Event M) (x : List (Event M)) → q < g.boxes → part q r.order ≡ x
+        → own o.number v.seen.order ≡ own o.number r.order → MayRecord fits q o.number e x v
         → Allowed fits (entry_of q v.under e) (state_of g record { order = r.order; aborted = r.first; knows = false })
     may_come q o (Post a m) x near is list may = record {
       near = near;
       follows = tt;
-      under = subst (λ n. Rattle.post_ledger.specs.Orders.HasJob n v.under r.order) (sym may.0) (job_stays o.number v.under v.seen.order r.order list may.1);
+      under =
+          subst (λ n. Rattle.post_ledger.specs.Orders.HasJob n v.under r.order) (sym may.0)
+          (job_stays o.number v.under v.seen.order r.order list may.1);
       fit = subst (λ (k : Ground M W). fits k.world.value q m) ((r.each id v is_at).board 0 may.2.0 may.2.1) may.2.2;
     }
-    may_come q o (Take a m) x near is list may = record { near = near; follows = subst (λ h. MayFollow h (Take a m)) (sym is) may.1; under = tt; fit = tt }
-    may_come q o (Done t) x near is list may = record { near = near; follows = subst (λ h. MayFollow h (Done t)) (sym is) may.1; under = tt; fit = tt }
+    may_come q o (Take a m) x near is list may = record {
+      near = near;
+      follows = subst (λ h. MayFollow h (Take a m)) (sym is) may.1;
+      under = tt;
+      fit = tt;
+    }
+    may_come q o (Done t) x near is list may = record {
+      near = near;
+      follows = subst (λ h. MayFollow h (Done t)) (sym is) may.1;
+      under = tt;
+      fit = tt;
+    }
 
     -- a seat with another hand of the same shares, which has seen this
-    knows_hand : (q : ℕ) (h : Hand (List (Event M))) (x : Seen M) → q < length v.hands → h.parts ≡ (hand_at q v).parts → Saw fits g r.order r.first r.low x → Knows fits g r.order r.first r.low (with_seen x (with_hand q h v))
+    knows_hand : (q : ℕ) (h : Hand (List (Event M))) (x : Seen M) → q < length v.hands → h.parts ≡ (hand_at q v).parts
+        → Saw fits g r.order r.first r.low x → Knows fits g r.order r.first r.low (with_seen x (with_hand q h v))
     knows_hand q h x short parts saw =
         let k = r.each id v is_at in
         record {
@@ -96,7 +121,10 @@ module _ {M W : Type 0} (fits : W → ℕ → M → Type 0) (g : Ground M W) whe
           told = k.told;
           owns = k.owns;
           parts = λ j near. dite (ℕ_discrete j q)
-              (λ (e : j ≡ q). subst (λ i. (hand_at i (with_hand q h v)).parts ≡ length v.lanes) (sym e) (ap (λ (z : Hand (List (Event M))). z.parts) (hand_here q h v short) ∙ (parts ∙ k.parts q (subst (λ i. i < g.boxes) e near))))
+              (λ (e : j ≡ q).
+              subst (λ i. (hand_at i (with_hand q h v)).parts ≡ length v.lanes) (sym e)
+              (ap (λ (z : Hand (List (Event M))). z.parts) (hand_here q h v short)
+              ∙ (parts ∙ k.parts q (subst (λ i. i < g.boxes) e near))))
               (λ (ne : j ≢ q). ap (λ (z : Hand (List (Event M))). z.parts) (hand_else q j h v ne) ∙ k.parts j near);
           idle = k.idle;
         }
@@ -105,15 +133,19 @@ module _ {M W : Type 0} (fits : W → ℕ → M → Type 0) (g : Ground M W) whe
     turned : (order : List (Entry M)) (q i n : ℕ) (homes : Homes M) (log : List (List (Event M))) (h : Hand (List (Event M)))
         (w : View M W) → (i ≡ word_of q) ⊎ (i ≡ word_of q + 1)
         → ((k : ℕ) → k ≢ q → get_elem? homes k ≡ get_elem? s.homes k) → hand_at q w ≡ h → ((k : ℕ) → k ≢ q → hand_at k w ≡ hand_at k v)
-        → Kept (word_of q) q log (set s.words i n) homes (set (map (hand_at q) s.views) id h) → EndsIn log (part q order) → ((k : ℕ) → k ≢ q → part k order ≡ part k r.order) → Grows r.order order r.first r.first r.low r.low
-        → ((k : ℕ) → times k (numbers v) ≡ 0 → own k order ≡ own k r.order) → IsSound fits (state_of g record { order = order; aborted = r.first; knows = false })
+        → Kept (word_of q) q log (set s.words i n) homes (set (map (hand_at q) s.views) id h) → EndsIn log (part q order)
+        → ((k : ℕ) → k ≢ q → part k order ≡ part k r.order) → Grows r.order order r.first r.first r.low r.low
+        → ((k : ℕ) → times k (numbers v) ≡ 0 → own k order ≡ own k r.order)
+        → IsSound fits (state_of g record { order = order; aborted = r.first; knows = false })
         → r.low + completed order + v.owes ≡ posted order + owed s.views + w.owes → w.budget ≡ v.budget
         → Knows fits g order r.first r.low w → numbers w ≡ numbers v → ((k : ℕ) → makes k w ≡ makes k v)
         → Rule fits g record { words = set s.words i n; homes = homes; views = set s.views id w }
     turned order q i n homes log h w where_i same_homes is_h others kept ends parts on apart sound count budget mine same made =
         rebuilt fits g s r id v is_at order r.first r.low (set s.words i n) homes w on apart sound
         (locks_after fits g s r id v is_at order q i n homes log w h where_i same_homes is_h others kept ends parts)
-        (omega (arith, length-set s.words i n, r.some_word)) (get_or-set_other s.words i 0 n 0 (λ k. elim where_i [ inl a ↦ absurd (omega arith) | inr a ↦ absurd (omega arith) ]) ∙ r.word) count (omega arith) mine same
+        (omega (arith, length-set s.words i n, r.some_word))
+        (get_or-set_other s.words i 0 n 0 (λ k. elim where_i [ inl a ↦ absurd (omega arith) | inr a ↦ absurd (omega arith) ]) ∙ r.word)
+        count (omega arith) mine same
         (made_still fits g s r id v is_at w made)
 
     -- a hand that has a ticket or is inside has a share
@@ -121,9 +153,12 @@ module _ {M W : Type 0} (fits : W → ℕ → M → Type 0) (g : Ground M W) whe
         → Kept (word_of q) q log (set s.words i n) homes (set (map (hand_at q) s.views) id h)
         → h.parts ≡ (hand_at q v).parts → ((h.tickets ≡ []) × (h.inside ≡ []) → ⊥) → q < length v.hands
     has_share q i n homes log h kept same busy =
-        let at = set_here (map (hand_at q) s.views) id h (at_inside (map (hand_at q) s.views) id (hand_at q v) (at-map (hand_at q) s.views id v is_at)) in
+        let at =
+        set_here (map (hand_at q) s.views) id h
+        (at_inside (map (hand_at q) s.views) id (hand_at q v) (at-map (hand_at q) s.views id v is_at)) in
         let fit = kept.core.each id h at in
-        has_hand (λ (z : Hand (List (Event M))). z.parts) q v refl (elim (dec_le 1 h.parts) [ yes d ↦ omega arith | no d ↦ (let lt = lt_of_not-le d in absurd (busy (fit.idle (omega arith)))) ])
+        has_hand (λ (z : Hand (List (Event M))). z.parts) q v refl
+        (elim (dec_le 1 h.parts) [ yes d ↦ omega arith | no d ↦ (let lt = lt_of_not-le d in absurd (busy (fit.idle (omega arith)))) ])
 
     module _ (q : ℕ) (near : q < g.boxes) where
       abbrev log : List (List (Event M))
@@ -132,33 +167,42 @@ module _ {M W : Type 0} (fits : W → ℕ → M → Type 0) (g : Ground M W) whe
       follows : Follows (Rule fits g) (hand_at q) (Asks fits q) (Tells fits q) (word_of q) q s log id v
       follows draws i n homes log' h where_i _ same_homes turn kept asked =
           let parts = ap (λ (z : Hand (List (Event M))). z.parts) turn.1.1 in
-          let short = has_share q i n homes log' h kept parts (λ none. let e = ap (λ (z : Hand (List (Event M))). length z.tickets) turn.1.1 in let z = ap length none.0 in omega (arith, length-append (hand_at q v).tickets (turn.1.0 ∷ []))) in
+          let short =
+          has_share q i n homes log' h kept parts (λ none. let e = ap (λ (z : Hand (List (Event M))). length z.tickets) turn.1.1 in
+          let z = ap length none.0 in omega (arith, length-append (hand_at q v).tickets (turn.1.0 ∷ []))) in
           let w : View M W = with_hand q h v in
           let is_h = hand_here q h v short in (
             w,
             is_h,
-            turned r.order q i n homes log' h w where_i same_homes is_h (λ k ne. hand_else q k h v ne) kept (subst (λ l. EndsIn l (part q r.order)) (sym turn.0) (r.locks q near).2) (λ k ne. refl) (grows_same r.order r.first r.low)
-                (λ k _. refl) r.sound (omega (arith, r.count)) refl (knows_hand q h v.seen short parts (r.each id v is_at).saw) refl (λ k. refl),
+            turned r.order q i n homes log' h w where_i same_homes is_h (λ k ne. hand_else q k h v ne) kept
+                (subst (λ l. EndsIn l (part q r.order)) (sym turn.0) (r.locks q near).2) (λ k ne. refl) (grows_same r.order r.first r.low)
+                (λ k _. refl) r.sound (omega (arith, r.count)) refl (knows_hand q h v.seen short parts (r.each id v is_at).saw) refl
+                (λ k. refl),
             sym (ap (λ z. with_hand q z v) is_h),
           )
       follows waits i n homes log' h where_i _ same_homes turn kept asked = (
         v,
         sym turn.1,
-        turned r.order q i n homes log' h v where_i same_homes (sym turn.1) (λ k ne. refl) kept (subst (λ l. EndsIn l (part q r.order)) (sym turn.0) (r.locks q near).2) (λ k ne. refl) (grows_same r.order r.first r.low)
+        turned r.order q i n homes log' h v where_i same_homes (sym turn.1) (λ k ne. refl) kept
+            (subst (λ l. EndsIn l (part q r.order)) (sym turn.0) (r.locks q near).2) (λ k ne. refl) (grows_same r.order r.first r.low)
             (λ k _. refl) r.sound (omega (arith, r.count)) refl (r.each id v is_at) refl (λ k. refl),
         refl,
       )
       follows (enters x) i n homes log' h where_i _ same_homes turn kept asked =
           let mine = r.each id v is_at in
           let parts = ap (λ (z : Hand (List (Event M))). z.parts) turn.2.1 in
-          let short = has_share q i n homes log' h kept parts (λ none. let e = ap (λ (z : Hand (List (Event M))). length z.inside) turn.2.1 in let z = ap length none.1 in omega arith) in
+          let short =
+          has_share q i n homes log' h kept parts (λ none. let e = ap (λ (z : Hand (List (Event M))). length z.inside) turn.2.1 in
+          let z = ap length none.1 in omega arith) in
           let y : Seen M = record v.seen { order = r.order } in
-          let saw : Saw fits g r.order r.first r.low y = saw_all fits g r.order r.first r.low y r.sound refl mine.saw.aborted (λ e. (mine.saw.close e).0) in
+          let saw : Saw fits g r.order r.first r.low y =
+          saw_all fits g r.order r.first r.low y r.sound refl mine.saw.aborted (λ e. (mine.saw.close e).0) in
           let w : View M W = with_seen y (with_hand q h v) in
           let is_h = hand_here q h v short in (
             w,
             is_h,
-            turned r.order q i n homes log' h w where_i same_homes is_h (λ k ne. hand_else q k h v ne) kept (subst (λ l. EndsIn l (part q r.order)) (sym turn.0) (r.locks q near).2) (λ k ne. refl) (grows_same r.order r.first r.low)
+            turned r.order q i n homes log' h w where_i same_homes is_h (λ k ne. hand_else q k h v ne) kept
+                (subst (λ l. EndsIn l (part q r.order)) (sym turn.0) (r.locks q near).2) (λ k ne. refl) (grows_same r.order r.first r.low)
                 (λ k _. refl) r.sound (omega (arith, r.count)) refl (knows_hand q h y short parts saw) refl (λ k. refl),
             (
               sym (ap (λ z. with_seen y (with_hand q z v)) is_h),
@@ -182,7 +226,8 @@ module _ {M W : Type 0} (fits : W → ℕ → M → Type 0) (g : Ground M W) whe
             | inl same ↦ (let w : View M W = with_hand q h v in (
               w,
               is_h,
-              turned r.order q i n homes log' h w where_i same_homes is_h (λ k ne. hand_else q k h v ne) kept (subst (λ z. EndsIn log' z) (same ∙ sym part_is) last) (λ k ne. refl) (grows_same r.order r.first r.low)
+              turned r.order q i n homes log' h w where_i same_homes is_h (λ k ne. hand_else q k h v ne) kept
+                  (subst (λ z. EndsIn log' z) (same ∙ sym part_is) last) (λ k ne. refl) (grows_same r.order r.first r.low)
                   (λ k _. refl) r.sound (omega (arith, r.count)) refl (knows_hand q h v.seen short parts mine.saw) refl (λ k. refl),
               ((λ _. sym (ap (λ z. with_hand q z v) is_h)), (λ o e lanes is. absurd (longer_no x e (sym same ∙ is)))),
             ))
@@ -197,21 +242,30 @@ module _ {M W : Type 0} (fits : W → ℕ → M → Type 0) (g : Ground M W) whe
                 let list : own o.number r.order ≡ o.events = mine.owns 0 o (ap (λ l. get_elem? l 0) lanes) in
                 let maker = maker_is q o.number e x v may in
                 let come = may_come q o e x near part_is (a.3 ∙ sym list) may in
-                let sound : IsSound fits (state_of g record { order = order; aborted = r.first; knows = false }) = sound_push fits more (state_of g record { order = r.order; aborted = r.first; knows = false }) r.sound come in
+                let sound : IsSound fits (state_of g record { order = order; aborted = r.first; knows = false }) =
+                sound_push fits more (state_of g record { order = r.order; aborted = r.first; knows = false }) r.sound come in
                 let not_closed : r.low ≡ 0 → ⊥ = λ z. none_more
                 (nothing_follows g.boxes r.order (more ∷ []) r.sound.lawful
                 (closed_at_zero g.boxes r.order r.low (owed s.views) r.sound.lawful r.count z) sound.lawful) in
-                let on : Grows r.order order r.first r.first r.low r.low = record { begins = (more ∷ [], refl); aborted = λ b z. z; still = λ z. absurd (not_closed z) } in
+                let on : Grows r.order order r.first r.first r.low
+                r.low = record { begins = (more ∷ [], refl); aborted = λ b z. z; still = λ z. absurd (not_closed z) } in
                 let count = counted q o.number r.low (owed s.views) e x v r.order may r.count in
                 let z : Seen M = record v.seen { order = order } in
-                let saw : Saw fits g order r.first r.low z = saw_all fits g order r.first r.low z sound refl mine.saw.aborted (λ k. (mine.saw.close k).0) in
-                let w : View M W = record v { hands = set v.hands q h; lanes = with_event more o ∷ []; seen = z; owes = owes_after e v.owes } in
-                let grown : own o.number order ≡ o.events ++ more ∷ [] = own-append o.number r.order (more ∷ []) ∙ ((λ j. list j ++ own_here o.number more [] maker j)) in
+                let saw : Saw fits g order r.first r.low z =
+                saw_all fits g order r.first r.low z sound refl mine.saw.aborted (λ k. (mine.saw.close k).0) in
+                let w : View M
+                W = record v { hands = set v.hands q h; lanes = with_event more o ∷ []; seen = z; owes = owes_after e v.owes } in
+                let grown : own o.number order ≡ o.events ++ more ∷ [] = own-append o.number r.order (more ∷ [])
+                ∙ ((λ j. list j ++ own_here o.number more [] maker j)) in
                 let named : numbers v ≡ o.number ∷ [] = ap (map (λ (p : Own M). p.number)) lanes in
-                let holds = turned order q i n homes log' h w where_i same_homes is_h (λ k ne. hand_else q k h v ne) kept (subst (λ l. EndsIn log' l) (is ∙ (ap (λ l. l ++ e ∷ []) (sym part_is) ∙ sym (part_after q v.under r.order e))) last)
+                let holds =
+                turned order q i n homes log' h w where_i same_homes is_h (λ k ne. hand_else q k h v ne) kept
+                (subst (λ l. EndsIn log' l) (is ∙ (ap (λ l. l ++ e ∷ []) (sym part_is) ∙ sym (part_after q v.under r.order e))) last)
                 (λ k ne. part_other q k v.under r.order e ne) on
-                (λ k none. own-append k r.order (more ∷ []) ∙ (ap (λ l. own k r.order ++ l) (own_else k more [] (λ j. absurd (let one = times-one k in
-                let there : times k (o.number ∷ []) ≡ 1 = subst (λ m. times k (m ∷ []) ≡ 1) (sym (sym maker ∙ j)) one in omega (arith, ap (times k) named)))) ∙ append-nil (own k r.order)))
+                (λ k none. own-append k r.order (more ∷ [])
+                ∙ (ap (λ l. own k r.order ++ l) (own_else k more [] (λ j. absurd (let one = times-one k in
+                let there : times k (o.number ∷ []) ≡ 1 = subst (λ m. times k (m ∷ []) ≡ 1) (sym (sym maker ∙ j)) one in
+                omega (arith, ap (times k) named)))) ∙ append-nil (own k r.order)))
                 sound count refl record {
                   board = mine.board;
                   saw = saw;
@@ -222,10 +276,19 @@ module _ {M W : Type 0} (fits : W → ℕ → M → Type 0) (g : Ground M W) whe
                 } (sym named) (λ k. sym (ap (total (made_by k)) lanes)) in
                 let news = news_is fits g s r id v is_at order r.first r.low (owed (set s.views id w)) z sound.lawful
                 (Rattle.switchboard.specs.PerBoxFacts.count_after fits g s r id v is_at order r.low w count) saw
-                (Rattle.ticket_lock.specs.Facts.StartsWith-trans order r.order v.seen.order on.begins mine.saw.begins) (λ b k. k) (λ k. k) in
+                (Rattle.ticket_lock.specs.Facts.StartsWith-trans order r.order v.seen.order on.begins mine.saw.begins) (λ b k. k)
+                (λ k. k) in
                 let done : Recorded fits q o e x v w = record {
                   front = r.order;
-                  after = sym (ap (λ (k : Hand (List (Event M))). record v { hands = set v.hands q k; lanes = with_event more o ∷ []; seen = z; owes = owes_after e v.owes }) is_h);
+                  after =
+                      sym
+                      (ap
+                      (λ (k : Hand (List (Event M))). record v {
+                        hands = set v.hands q k;
+                        lanes = with_event more o ∷ [];
+                        seen = z;
+                        owes = owes_after e v.owes;
+                      }) is_h);
                   begins = mine.saw.begins;
                   own = list;
                   part = part_is;
@@ -236,7 +299,9 @@ module _ {M W : Type 0} (fits : W → ℕ → M → Type 0) (g : Ground M W) whe
                   holds,
                   (
                     (λ same. absurd (longer_no x e (sym same ∙ is))),
-                    (λ p f lanes' is'. subst (λ k. Recorded fits q k f x v w) (one_lane o p (sym lanes ∙ lanes')) (subst (λ k. Recorded fits q o k x v w) (EndsIn-same y e f (x, is) (x, is')) done)),
+                    (λ p f lanes' is'.
+                        subst (λ k. Recorded fits q k f x v w) (one_lane o p (sym lanes ∙ lanes'))
+                        (subst (λ k. Recorded fits q o k x v w) (EndsIn-same y e f (x, is) (x, is')) done)),
                   ),
                 ))
           ]
@@ -248,4 +313,5 @@ module _ {M W : Type 0} (fits : W → ℕ → M → Type 0) (g : Ground M W) whe
   boxes_open_at q near s r = let l = r.locks q near in (l.0, l.1, λ id v is_at. follows s r id v is_at q near)
 
   pub boxes_open : (word slot : ℕ) → IsBox g word slot → Opens (Rule fits g) (hand_at slot) (Asks fits slot) (Tells fits slot) word slot
-  boxes_open word slot is = subst (λ w. Opens (Rule fits g) (hand_at slot) (Asks fits slot) (Tells fits slot) w slot) (sym is.0) (boxes_open_at slot is.1)
+  boxes_open word slot is =
+      subst (λ w. Opens (Rule fits g) (hand_at slot) (Asks fits slot) (Tells fits slot) w slot) (sym is.0) (boxes_open_at slot is.1)

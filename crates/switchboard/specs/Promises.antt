@@ -24,7 +24,8 @@ module _ {M W : Type 0} where
 
   -- the first passes of a board with so many mailboxes, in the order of their numbers
   abbrev pub AreFirst : TableId → ℕ → List (Sight M W) → Type 0
-  AreFirst id boxes passes = (j : ℕ) (p : Sight M W) → slice_get passes j ≡ Some p → (p.board ≡ id) × (p.number ≡ j) × (p.seen.boxes ≡ boxes)
+  AreFirst id boxes passes = (j : ℕ) (p : Sight M W) → slice_get passes j ≡ Some p
+      → (p.board ≡ id) × (p.number ≡ j) × (p.seen.boxes ≡ boxes)
 
   -- all passes of a board, in the order of their numbers
   abbrev pub AreAll : TableId → ℕ → List (Sight M W) → Type 0
@@ -75,7 +76,8 @@ module _ {M W : Type 0} (fits : W → ℕ → M → Type 0) where
   abbrev pub Looked : Sight M W → Sight M W → Type 0
   Looked s t = MadeNone s t × (s.calls ≡ t.calls + 1)
 
-  -- the call made this event: it is the last of the order, and the own list is the old one and this event; one call is used up
+  -- the call made this event: it is the last of the order, and the own list is the old one and this event; one call is
+  -- used up
   pub record Added (e : Entry M) (s t : Sight M W) : Type 0 where
     pub goes : GoesOn s t
     pub made : t.made ≡ s.made
@@ -89,13 +91,15 @@ module _ {M W : Type 0} (fits : W → ℕ → M → Type 0) where
   abbrev pub WasPosted : ℕ → ℕ → M → Sight M W → Sight M W → Type 0
   WasPosted job to m s t = Added (Posted to s.number m job) s t × (t.seen.aborted ≡ None)
 
-  -- the message came back: the calls are used up; there was no memory, on a board that was not aborted; or the board was aborted
+  -- the message came back: the calls are used up; there was no memory, on a board that was not aborted; or the board
+  -- was aborted
   abbrev pub WasRefused : M → PostFault M → Sight M W → Sight M W → Type 0
   WasRefused m (fault.Spent back) s t = (back ≡ m) × WasSpent s t
   WasRefused m (fault.Memory back) s t = (back ≡ m) × Looked s t × (t.seen.aborted ≡ None)
   WasRefused m (fault.Aborted back) s t = (back ≡ m) × Looked s t × IsSome t.seen.aborted
 
-  -- the oldest message not yet taken was taken, of a board that was not aborted; it fits the mailbox, and the job is that of the take
+  -- the oldest message not yet taken was taken, of a board that was not aborted; it fits the mailbox, and the job is
+  -- that of the take
   pub record TookMessage (job : ℕ) (m : M) (s t : Sight M W) : Type 0 where
     pub sender : ℕ
     pub added : Added (Taken s.number sender m) s t
@@ -142,16 +146,20 @@ module _ {M W : Type 0} (fits : W → ℕ → M → Type 0) where
     pub close : told.knows ≡ true → t.knows ≡ true
     pub known : t.knows ≡ true → (s.knows ≡ true) ⊎ (told.knows ≡ true)
 
-  -- What is left of a board: one lawful order, which begins with each pass's order and has each pass's own list; its parts are the histories; it is closed where
-  -- all its histories are, and where some pass knows the close; and the abort that some pass knows of was made by a pass.
+  -- What is left of a board: one lawful order, which begins with each pass's order and has each pass's own list; its
+  -- parts are the histories; it is closed where
+  -- all its histories are, and where some pass knows the close; and the abort that some pass knows of was made by a
+  -- pass.
   pub record Settles (boxes : ℕ) (passes : List (Sight M W)) (histories : List (List (Event M))) (closed : Bool) : Type 0 where
     pub order : List (Entry M)
     pub lawful : IsLawful boxes order
-    pub fitting : (j : ℕ) (p : Sight M W) → slice_get passes j ≡ Some p → (i to sender : ℕ) (m : M) (t : ℕ) → slice_get order i ≡ Some (Posted to sender m t) → fits p.seen.world to m
+    pub fitting : (j : ℕ) (p : Sight M W) → slice_get passes j ≡ Some p → (i to sender : ℕ) (m : M) (t : ℕ)
+        → slice_get order i ≡ Some (Posted to sender m t) → fits p.seen.world to m
     pub begins : (j : ℕ) (p : Sight M W) → slice_get passes j ≡ Some p → StartsWith order p.seen.order
     pub own : (j : ℕ) (p : Sight M W) → slice_get passes j ≡ Some p → own j order ≡ own j p.seen.order
     pub count : length histories ≡ boxes
     pub parts : (q : ℕ) (h : List (Event M)) → slice_get histories q ≡ Some h → h ≡ part q order
     pub close : IsTrue closed ↔ IsClosed order
     pub known : (j : ℕ) (p : Sight M W) → slice_get passes j ≡ Some p → p.knows ≡ true → closed ≡ true
-    pub aborts : (j : ℕ) (p : Sight M W) (a : Abort) → slice_get passes j ≡ Some p → p.seen.aborted ≡ Some a → (q : Sight M W) × (slice_get passes a.by ≡ Some q) × (q.made ≡ true)
+    pub aborts : (j : ℕ) (p : Sight M W) (a : Abort) → slice_get passes j ≡ Some p → p.seen.aborted ≡ Some a
+        → (q : Sight M W) × (slice_get passes a.by ≡ Some q) × (q.made ≡ true)

@@ -9,7 +9,8 @@ use Rattle.post_ledger.specs.History.{posts, takes}
 use Rattle.post_ledger.specs.Orders.{part, IsLawful}
 use Rattle.switchboard.specs.declared.calls.Abort.{Abort}
 
--- the world of its messages, the number of its mailboxes, the order of its events, and its first abort, if there was one
+-- the world of its messages, the number of its mailboxes, the order of its events, and its first abort, if there was
+-- one
 pub record State (M W : Type 0) : Type 0 where
   pub world : W
   pub boxes : ℕ

@@ -13,4 +13,6 @@ module _ {M W : Type 0} (fits : W → ℕ → M → Type 0) where
 
   -- the lane of the first pass that is left comes next, if one is
   abbrev pub Unwraps : {Z : Type 0} → IntoIter (Sight M W) Z → Option (Standing (State M W)) → IntoIter (Sight M W) Z → Type 0
-  Unwraps s r t = MatchOption r ((into_iter_len s ≡ 0) × (into_iter_len t ≡ 0)) (λ lane. (p : Sight M W) × (into_iter_items s ≡ p ∷ into_iter_items t) × (into_iter_len t + 1 ≡ into_iter_len s) × IsLaneOf lane p)
+  Unwraps s r t =
+      MatchOption r ((into_iter_len s ≡ 0) × (into_iter_len t ≡ 0))
+      (λ lane. (p : Sight M W) × (into_iter_items s ≡ p ∷ into_iter_items t) × (into_iter_len t + 1 ≡ into_iter_len s) × IsLaneOf lane p)

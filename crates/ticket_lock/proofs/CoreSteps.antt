@@ -1,5 +1,6 @@
 -- Each step of the lock keeps its rule.
-use Rattle.std.proofs.Common.{◌≡◌, ◌≢◌, inl, inr, ℕ, ◌+◌, ◌*◌, ◌^◌, ◌<◌, ◌≤◌, List, [], ◌∷◌, ◌++◌, length, set, refl, sym, ap, ◌∙◌, subst, arith, Option, Some, length-append, lt_of_not-le}
+use Rattle.std.proofs.Common.{◌≡◌, ◌≢◌, inl, inr, ℕ, ◌+◌, ◌*◌, ◌^◌, ◌<◌, ◌≤◌, List, [], ◌∷◌, ◌++◌, length, set, refl, sym, ap, ◌∙◌, subst}
+use Rattle.std.proofs.Common.{arith, Option, Some, length-append, lt_of_not-le}
 use mathlib.Core.Option as maybe
 use mathlib.Core.Option.{some}
 use mathlib.Core.Logic.{dite}
@@ -12,23 +13,36 @@ use Rattle.ticket_lock.specs.History.{StartsWith}
 use Rattle.ticket_lock.specs.Core.{in_hand, Fits, Core}
 use Rattle.ticket_lock.specs.Turns.{with_ticket, with_entry, with_leave}
 use Rattle.ticket_lock.specs.Drawing.{HasDrawn}
-use Rattle.ticket_lock.specs.Facts.{total_set, total_at, total_two, total_few, total_plus, at_set, set_here, at_inside, times-snoc, times-one, times-other, times-without, StartsWith-refl, StartsWith-more, EndsIn-more}
+use Rattle.ticket_lock.specs.Facts.{total_set, total_at, total_two, total_few, total_plus, at_set, set_here, at_inside, times-snoc}
+use Rattle.ticket_lock.specs.Facts.{times-one, times-other, times-without, StartsWith-refl, StartsWith-more, EndsIn-more}
 
-module _ {T : Type 0} (serving next : ℕ) (log : List T) (here : maybe.Option (maybe.Option (Option T))) (hands : List (Hand T)) (id : ℕ) (h : Hand T) (is_at : get_elem? hands id ≡ some h) (c : Core serving next log here hands) where
+module _ {T : Type 0} (serving next : ℕ) (log : List T) (here : maybe.Option (maybe.Option (Option T))) (hands : List (Hand T)) (id : ℕ)
+    (h : Hand T) (is_at : get_elem? hands id ≡ some h) (c : Core serving next log here hands) where
   -- a ticket in the hand is served or waits
   pub in_range : (n : ℕ) → 0 < in_hand n h → (serving ≤ n) × (n < next)
   in_range n some_of = (
-    elim (dec_le serving n) [ yes d ↦ d | no d ↦ (let lt = lt_of_not-le d in absurd (omega (arith, c.past n lt, total_at (in_hand n) hands id h is_at))) ],
+    elim (dec_le serving n) [
+      | yes d ↦ d
+      | no d ↦ (let lt = lt_of_not-le d in absurd (omega (arith, c.past n lt, total_at (in_hand n) hands id h is_at)))
+    ],
     elim (dec_le next n) [ no d ↦ lt_of_not-le d | yes d ↦ absurd (omega (arith, c.ahead n d, total_at (in_hand n) hands id h is_at)) ],
   )
 
   -- the numbers do not run out
   pub few_drawn : next ≤ 64 * 2 ^ 56
-  few_drawn = omega (arith, total_few (λ (x : Hand T). length x.drawn) (λ (x : Hand T). x.parts) (2 ^ 56) hands (λ j x e. (c.each j x e).few), c.drawn, c.parts)
+  few_drawn =
+      omega (
+        arith,
+        total_few (λ (x : Hand T). length x.drawn) (λ (x : Hand T). x.parts) (2 ^ 56) hands (λ j x e. (c.each j x e).few),
+        c.drawn,
+        c.parts,
+      )
 
-  each_set : (serving' : ℕ) (log' : List T) (w : Hand T) → Fits serving' log' w → ((j : ℕ) (x : Hand T) → j ≢ id → get_elem? hands j ≡ some x → Fits serving' log' x)
+  each_set : (serving' : ℕ) (log' : List T) (w : Hand T) → Fits serving' log' w
+      → ((j : ℕ) (x : Hand T) → j ≢ id → get_elem? hands j ≡ some x → Fits serving' log' x)
       → (j : ℕ) (x : Hand T) → get_elem? (set hands id w) j ≡ some x → Fits serving' log' x
-  each_set serving' log' w mine others j x e = elim (at_set hands id j w x e) [ inl t ↦ subst (λ z. Fits serving' log' z) t.1 mine | inr t ↦ others j x t.0 t.1 ]
+  each_set serving' log' w mine others j x e =
+      elim (at_set hands id j w x e) [ inl t ↦ subst (λ z. Fits serving' log' z) t.1 mine | inr t ↦ others j x t.0 t.1 ]
 
   pub core_draws : length h.drawn < h.parts * 2 ^ 56 → Core serving (next + 1) log here (set hands id (with_ticket next h))
   core_draws room =
@@ -39,7 +53,8 @@ module _ {T : Type 0} (serving next : ℕ) (log : List T) (here : maybe.Option (
         order = omega (arith, c.order);
         held = λ n lo hi. let s = total_set (in_hand n) hands id h w is_at in let t = times-snoc n h.tickets next in
             dite (ℕ_discrete next n)
-            (λ (e : next ≡ n). let one : times n (next ∷ []) ≡ 1 = subst (λ k. times n (k ∷ []) ≡ 1) (sym e) (times-one n) in omega (arith, c.ahead n (omega arith)))
+            (λ (e : next ≡ n). let one : times n (next ∷ []) ≡ 1 = subst (λ k. times n (k ∷ []) ≡ 1) (sym e) (times-one n) in
+            omega (arith, c.ahead n (omega arith)))
             (λ (ne : next ≢ n). let no_more = times-other n next ne in omega (arith, c.held n lo (omega arith)));
         past = λ n lo. let s = total_set (in_hand n) hands id h w is_at in let t = times-snoc n h.tickets next in let o = c.order in
             let no_more = times-other n next (λ e. omega arith) in omega (arith, c.past n lo);
@@ -47,7 +62,8 @@ module _ {T : Type 0} (serving next : ℕ) (log : List T) (here : maybe.Option (
             let no_more = times-other n next (λ e. omega arith) in omega (arith, c.ahead n (omega arith));
         drawn_once = λ n hi. let s = total_set (λ (x : Hand T). times n x.drawn) hands id h w is_at in let t = times-snoc n h.drawn next in
             dite (ℕ_discrete next n)
-            (λ (e : next ≡ n). let one : times n (next ∷ []) ≡ 1 = subst (λ k. times n (k ∷ []) ≡ 1) (sym e) (times-one n) in omega (arith, c.undrawn n (omega arith)))
+            (λ (e : next ≡ n). let one : times n (next ∷ []) ≡ 1 = subst (λ k. times n (k ∷ []) ≡ 1) (sym e) (times-one n) in
+            omega (arith, c.undrawn n (omega arith)))
             (λ (ne : next ≢ n). let no_more = times-other n next ne in omega (arith, c.drawn_once n (omega arith)));
         undrawn = λ n hi. let s = total_set (λ (x : Hand T). times n x.drawn) hands id h w is_at in let t = times-snoc n h.drawn next in
             let no_more = times-other n next (λ e. omega arith) in omega (arith, c.undrawn n (omega arith));
@@ -57,7 +73,11 @@ module _ {T : Type 0} (serving next : ℕ) (log : List T) (here : maybe.Option (
           begins = mine.begins;
           inside = mine.inside;
           few = omega (arith, length-append h.drawn (next ∷ []));
-          idle = λ none. absurd (let z : h.parts ≡ 0 = none in let r : length h.drawn < 0 * 2 ^ 56 = subst (λ k. length h.drawn < k * 2 ^ 56) z room in omega arith);
+          idle =
+              λ none.
+              absurd
+              (let z : h.parts ≡ 0 = none in let r : length h.drawn < 0 * 2 ^ 56 = subst (λ k. length h.drawn < k * 2 ^ 56) z room in
+              omega arith);
         } (λ j x _ e. c.each j x e);
         home = λ none. c.home (omega (arith, total_set (λ (x : Hand T). length x.inside) hands id h w is_at));
       }
@@ -67,16 +87,20 @@ module _ {T : Type 0} (serving next : ℕ) (log : List T) (here : maybe.Option (
       let range = in_range serving (omega arith) in
       elim ((c.each id h is_at).inside) [
         | inl e ↦ e
-        | inr e ↦ (let one : times serving h.inside ≡ 1 = subst (λ l. times serving l ≡ 1) (sym e.0) (times-one serving) in absurd (omega (arith, c.held serving (omega arith) range.1, total_at (in_hand serving) hands id h is_at)))
+        | inr e ↦
+            (let one : times serving h.inside ≡ 1 = subst (λ l. times serving l ≡ 1) (sym e.0) (times-one serving) in
+            absurd (omega (arith, c.held serving (omega arith) range.1, total_at (in_hand serving) hands id h is_at)))
       ]
 
-  pub core_enters : (here' : maybe.Option (maybe.Option (Option T))) → 0 < times serving h.tickets → Core serving next log here' (set hands id (with_entry serving log h))
+  pub core_enters : (here' : maybe.Option (maybe.Option (Option T))) → 0 < times serving h.tickets
+      → Core serving next log here' (set hands id (with_entry serving log h))
   core_enters here' some_of =
       let w : Hand T = with_entry serving log h in
       let mine = c.each id h is_at in
       let out = outside some_of in
       let same : (n : ℕ) → total (in_hand n) (set hands id w) ≡ total (in_hand n) hands = λ n.
-      (let none : times n h.inside ≡ 0 = ap (times n) out in omega (arith, total_set (in_hand n) hands id h w is_at, times-without serving n h.tickets some_of)) in
+      (let none : times n h.inside ≡ 0 = ap (times n) out in
+      omega (arith, total_set (in_hand n) hands id h w is_at, times-without serving n h.tickets some_of)) in
       record {
         served = c.served;
         order = c.order;
@@ -93,10 +117,15 @@ module _ {T : Type 0} (serving next : ℕ) (log : List T) (here : maybe.Option (
           few = mine.few;
           idle = λ none. absurd (let z : times serving h.tickets ≡ 0 = ap (times serving) (mine.idle none).0 in omega arith);
         } (λ j x _ e. c.each j x e);
-        home = λ none. absurd (let k = total_at (λ (x : Hand T). length x.inside) (set hands id w) id w (set_here hands id w (at_inside hands id h is_at)) in omega arith);
+        home =
+            λ none.
+            absurd (let k =
+            total_at (λ (x : Hand T). length x.inside) (set hands id w) id w (set_here hands id w (at_inside hands id h is_at)) in
+            omega arith);
       }
 
-  pub core_passes : (y : T) → h.inside ≡ serving ∷ [] → h.seen ≡ log → Core (serving + 1) next (log ++ y ∷ []) (some (some (Some y))) (set hands id (with_leave y h))
+  pub core_passes : (y : T) → h.inside ≡ serving ∷ [] → h.seen ≡ log
+      → Core (serving + 1) next (log ++ y ∷ []) (some (some (Some y))) (set hands id (with_leave y h))
   core_passes y inside seen =
       let w : Hand T = with_leave y h in
       let mine = c.each id h is_at in
@@ -105,13 +134,15 @@ module _ {T : Type 0} (serving next : ℕ) (log : List T) (here : maybe.Option (
       let held_one = c.held serving (omega arith) range.1 in
       let at_most = total_at (in_hand serving) hands id h is_at in
       let other : (n : ℕ) → serving ≢ n → total (in_hand n) (set hands id w) ≡ total (in_hand n) hands = λ n ne.
-      (let none : times n h.inside ≡ 0 = ap (times n) inside ∙ times-other n serving ne in omega (arith, total_set (in_hand n) hands id h w is_at)) in
+      (let none : times n h.inside ≡ 0 = ap (times n) inside ∙ times-other n serving ne in
+      omega (arith, total_set (in_hand n) hands id h w is_at)) in
       record {
         served = omega (arith, length-append log (y ∷ []), c.served);
         order = omega arith;
         held = λ n lo hi. other n (λ e. omega arith) ∙ c.held n (omega arith) hi;
         past = λ n lo. dite (ℕ_discrete serving n)
-            (λ (e : serving ≡ n). subst (λ k. total (in_hand k) (set hands id w) ≡ 0) e (omega (arith, total_set (in_hand serving) hands id h w is_at)))
+            (λ (e : serving ≡ n).
+            subst (λ k. total (in_hand k) (set hands id w) ≡ 0) e (omega (arith, total_set (in_hand serving) hands id h w is_at)))
             (λ (ne : serving ≢ n). other n ne ∙ c.past n (omega arith));
         ahead = λ n hi. other n (λ e. omega arith) ∙ c.ahead n hi;
         drawn_once = λ n hi. omega (arith, total_set (λ (x : Hand T). times n x.drawn) hands id h w is_at, c.drawn_once n hi);
@@ -128,7 +159,8 @@ module _ {T : Type 0} (serving next : ℕ) (log : List T) (here : maybe.Option (
           inside = inl (elim f.inside [
             | inl o ↦ o
             | inr o ↦ (let two = total_two (in_hand serving) hands id j h x (λ s. ne (sym s)) is_at e in
-                let also : times serving x.inside ≡ 1 = subst (λ l. times serving l ≡ 1) (sym o.0) (times-one serving) in absurd (omega arith))
+                let also : times serving x.inside ≡ 1 = subst (λ l. times serving l ≡ 1) (sym o.0) (times-one serving) in
+                absurd (omega arith))
           ]);
           few = f.few;
           idle = f.idle;
@@ -140,7 +172,8 @@ module _ {T : Type 0} (serving next : ℕ) (log : List T) (here : maybe.Option (
   pub nobody_inside : 0 < times serving h.tickets → total (λ (x : Hand T). length x.inside) hands ≡ 0
   nobody_inside some_of =
       let range = in_range serving (omega arith) in
-      let each_one = total_few (λ (x : Hand T). length x.inside) (λ (x : Hand T). times serving x.inside) 1 hands (λ j x e. inside_counts j x e) in
+      let each_one =
+      total_few (λ (x : Hand T). length x.inside) (λ (x : Hand T). times serving x.inside) 1 hands (λ j x e. inside_counts j x e) in
       let both = total_plus (λ (x : Hand T). times serving x.tickets) (λ (x : Hand T). times serving x.inside) hands in
       let mine = total_at (λ (x : Hand T). times serving x.tickets) hands id h is_at in
       omega (arith, c.held serving (omega arith) range.1)
@@ -148,21 +181,29 @@ module _ {T : Type 0} (serving next : ℕ) (log : List T) (here : maybe.Option (
       inside_counts : (j : ℕ) (x : Hand T) → get_elem? hands j ≡ some x → length x.inside ≤ times serving x.inside * 1
       inside_counts j x e = elim ((c.each j x e).inside) [
         | inl o ↦ (let z : length x.inside ≡ 0 = ap length o in omega arith)
-        | inr o ↦ (let z : length x.inside ≡ 1 = ap length o.0 in let also : times serving x.inside ≡ 1 = subst (λ l. times serving l ≡ 1) (sym o.0) (times-one serving) in omega arith)
+        | inr o ↦
+            (let z : length x.inside ≡ 1 = ap length o.0 in
+            let also : times serving x.inside ≡ 1 = subst (λ l. times serving l ≡ 1) (sym o.0) (times-one serving) in omega arith)
       ]
 
-module _ {T : Type 0} (serving next : ℕ) (log : List T) (here : maybe.Option (maybe.Option (Option T))) (hands : List (Hand T)) (c : Core serving next log here hands) where
+module _ {T : Type 0} (serving next : ℕ) (log : List T) (here : maybe.Option (maybe.Option (Option T))) (hands : List (Hand T))
+    (c : Core serving next log here hands) where
   inside_is : (j : ℕ) (x : Hand T) → get_elem? hands j ≡ some x → length x.inside ≤ in_hand serving x * 1
   inside_is j x e = elim ((c.each j x e).inside) [
     | inl o ↦ (let z : length x.inside ≡ 0 = ap length o in omega arith)
-    | inr o ↦ (let z : length x.inside ≡ 1 = ap length o.0 in let also : times serving x.inside ≡ 1 = subst (λ l. times serving l ≡ 1) (sym o.0) (times-one serving) in omega arith)
+    | inr o ↦
+        (let z : length x.inside ≡ 1 = ap length o.0 in
+        let also : times serving x.inside ≡ 1 = subst (λ l. times serving l ≡ 1) (sym o.0) (times-one serving) in omega arith)
   ]
 
   -- at most one hand is inside
   pub at_most_one : total (λ (x : Hand T). length x.inside) hands ≤ 1
   at_most_one =
       let each_one = total_few (λ (x : Hand T). length x.inside) (in_hand serving) 1 hands inside_is in
-      elim (dec_le next serving) [ yes d ↦ omega (arith, c.ahead serving d) | no d ↦ (let lt = lt_of_not-le d in omega (arith, c.held serving (omega arith) lt)) ]
+      elim (dec_le next serving) [
+        | yes d ↦ omega (arith, c.ahead serving d)
+        | no d ↦ (let lt = lt_of_not-le d in omega (arith, c.held serving (omega arith) lt))
+      ]
 
   -- each number is in one hand at most
   pub held_once : (n : ℕ) → total (in_hand n) hands ≤ 1
@@ -182,9 +223,12 @@ module _ {T : Type 0} (serving next : ℕ) (log : List T) (here : maybe.Option (
   ]
 
   -- the rule reads the hands only by what they have in all, and each by itself
-  pub core_same : (hands' : List (Hand T)) → ((n : ℕ) → total (in_hand n) hands' ≡ total (in_hand n) hands) → ((n : ℕ) → total (λ (x : Hand T). times n x.drawn) hands' ≡ total (λ (x : Hand T). times n x.drawn) hands)
-      → total (λ (x : Hand T). length x.drawn) hands' ≡ total (λ (x : Hand T). length x.drawn) hands → total (λ (x : Hand T). x.parts) hands' ≡ total (λ (x : Hand T). x.parts) hands
-      → total (λ (x : Hand T). length x.inside) hands' ≡ total (λ (x : Hand T). length x.inside) hands → ((j : ℕ) (x : Hand T) → get_elem? hands' j ≡ some x → Fits serving log x) → Core serving next log here hands'
+  pub core_same : (hands' : List (Hand T)) → ((n : ℕ) → total (in_hand n) hands' ≡ total (in_hand n) hands)
+      → ((n : ℕ) → total (λ (x : Hand T). times n x.drawn) hands' ≡ total (λ (x : Hand T). times n x.drawn) hands)
+      → total (λ (x : Hand T). length x.drawn) hands' ≡ total (λ (x : Hand T). length x.drawn) hands
+      → total (λ (x : Hand T). x.parts) hands' ≡ total (λ (x : Hand T). x.parts) hands
+      → total (λ (x : Hand T). length x.inside) hands' ≡ total (λ (x : Hand T). length x.inside) hands
+      → ((j : ℕ) (x : Hand T) → get_elem? hands' j ≡ some x → Fits serving log x) → Core serving next log here hands'
   core_same hands' same_hand same_drawn same_count same_parts same_inside each = record {
     served = c.served;
     order = c.order;

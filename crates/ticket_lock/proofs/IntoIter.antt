@@ -14,7 +14,8 @@ All-front P xs ys a k d h = subst P (front xs ys k d h) (a k d (omega (arith, Ra
     front (u ∷ us) vs (suc k) d h = front us vs k d (omega arith)
 
 module _ {X Z : Type 0} where
-  pub gives_front : (s : IntoIter X Z) (xs : List X) (t : IntoIter X Z) → Yields into_iter_steps s xs t → into_iter_items s ≡ xs ++ into_iter_items t
+  pub gives_front : (s : IntoIter X Z) (xs : List X) (t : IntoIter X Z) → Yields into_iter_steps s xs t
+      → into_iter_items s ≡ xs ++ into_iter_items t
   gives_front s [] t y = ap into_iter_items y
   gives_front s (x ∷ xs) t y = y.1.0 ∙ ap (λ l. x ∷ l) (gives_front y.0 xs t y.2)
 

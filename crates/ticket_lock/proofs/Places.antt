@@ -1,5 +1,6 @@
 -- Each step of a lock at a place may be taken, under every rule that lets a lock stand there.
-use Rattle.std.proofs.Common.{◌≡◌, ◌≢◌, inl, inr, ℕ, ◌+◌, ◌*◌, ◌^◌, ◌%◌, ◌<◌, List, [], ◌∷◌, ◌++◌, map, length, set, get_or, refl, sym, ap, ◌∙◌, subst, arith, Option, Some, length-set, get_or-set_other, get_or-set_same}
+use Rattle.std.proofs.Common.{◌≡◌, ◌≢◌, inl, inr, ℕ, ◌+◌, ◌*◌, ◌^◌, ◌%◌, ◌<◌, List, [], ◌∷◌, ◌++◌, map, length, set, get_or, refl, sym, ap}
+use Rattle.std.proofs.Common.{◌∙◌, subst, arith, Option, Some, length-set, get_or-set_other, get_or-set_same}
 use mathlib.Core.Option as maybe
 use mathlib.Core.Option.{some, none}
 use mathlib.Core.Logic.{dite}
@@ -17,15 +18,21 @@ use Rattle.ticket_lock.proofs.CoreSteps.{in_range, few_drawn, core_draws, outsid
 
 module _ {T : Type 0} where
   -- the lock's rule after one of its two words was written
-  kept_words : (word slot i n a b : ℕ) (log : List T) (words : List ℕ) (homes : List (maybe.Option (Option T))) (hands : List (Hand T)) → word + 1 < length words
-      → get_or (set words i n) word 0 ≡ a → get_or (set words i n) (word + 1) 0 ≡ b → Core a b log (get_elem? homes slot) hands → Kept word slot log (set words i n) homes hands
+  kept_words : (word slot i n a b : ℕ) (log : List T) (words : List ℕ) (homes : List (maybe.Option (Option T))) (hands : List (Hand T))
+      → word + 1 < length words
+      → get_or (set words i n) word 0 ≡ a → get_or (set words i n) (word + 1) 0 ≡ b → Core a b log (get_elem? homes slot) hands
+      → Kept word slot log (set words i n) homes hands
   kept_words word slot i n a b log words homes hands room is_a is_b c = record {
     room = omega (arith, length-set words i n);
-    core = subst (λ x. Core x (get_or (set words i n) (word + 1) 0) log (get_elem? homes slot) hands) (sym is_a) (subst (λ x. Core a x log (get_elem? homes slot) hands) (sym is_b) c);
+    core =
+        subst (λ x. Core x (get_or (set words i n) (word + 1) 0) log (get_elem? homes slot) hands) (sym is_a)
+        (subst (λ x. Core a x log (get_elem? homes slot) hands) (sym is_b) c);
   }
 
-module _ {T V : Type 0} (holds : State (Option T) V → Type 0) (see : V → Hand T) (asks : Kind T → V → Type 0) (tells : Kind T → V → V → Type 0) (word slot : ℕ) (opening : Opens holds see asks tells word slot) where
-  pub draws_allowed : (slots id : ℕ) (m : Me (Option T) V) → length (see m.0).drawn < (see m.0).parts * 2 ^ 56 → asks draws m.0 → Allows holds slots id m (word + 1) (λ n. (n + 1) % 2 ^ 64) (Drew see tells m)
+module _ {T V : Type 0} (holds : State (Option T) V → Type 0) (see : V → Hand T) (asks : Kind T → V → Type 0)
+    (tells : Kind T → V → V → Type 0) (word slot : ℕ) (opening : Opens holds see asks tells word slot) where
+  pub draws_allowed : (slots id : ℕ) (m : Me (Option T) V) → length (see m.0).drawn < (see m.0).parts * 2 ^ 56 → asks draws m.0
+      → Allows holds slots id m (word + 1) (λ n. (n + 1) % 2 ^ 64) (Drew see tells m)
   draws_allowed slots id m room asked s ok len is_at small =
       let o = opening s ok in
       let log : List T = o.0 in
@@ -43,7 +50,8 @@ module _ {T V : Type 0} (holds : State (Option T) V → Type 0) (see : V → Han
       let w : Hand T = with_ticket next h in
       let c = core_draws serving next log here hands id h is_h kept.core room in
       let inside = kept.room in
-      let kept' : Kept word slot log (set s.words (word + 1) n) s.homes (set hands id w) = kept_words word slot (word + 1) n serving (next + 1) log s.words s.homes (set hands id w) kept.room
+      let kept' : Kept word slot log (set s.words (word + 1) n) s.homes (set hands id w) =
+      kept_words word slot (word + 1) n serving (next + 1) log s.words s.homes (set hands id w) kept.room
       (get_or-set_other s.words (word + 1) word n 0 (λ k. omega arith)) (get_or-set_same s.words (word + 1) n 0 inside ∙ e) c in
       let r = o.2 id m.0 is_at draws (word + 1) n s.homes log w (inr refl) refl (λ k _. refl) (refl, (next, refl)) kept' asked in (
         r.0,
@@ -64,7 +72,8 @@ module _ {T V : Type 0} (holds : State (Option T) V → Type 0) (see : V → Han
         ),
       )
 
-  pub looks_allowed : (slots id : ℕ) (m : Me (Option T) V) (ticket : ℕ) → 0 < times ticket (see m.0).tickets → asks waits m.0 → ((x : T) → asks (enters x) m.0)
+  pub looks_allowed : (slots id : ℕ) (m : Me (Option T) V) (ticket : ℕ) → 0 < times ticket (see m.0).tickets → asks waits m.0
+      → ((x : T) → asks (enters x) m.0)
       → Allows holds slots id m word (λ n. n) (Loaded see tells slot ticket m)
   looks_allowed slots id m ticket some_of ask_waits ask_enters s ok len is_at small =
       let o = opening s ok in
@@ -82,7 +91,8 @@ module _ {T V : Type 0} (holds : State (Option T) V → Type 0) (see : V → Han
       let served = kept.core.served in
       let in_row = kept.room in
       let same_a : get_or (set s.words word serving) word 0 ≡ serving = get_or-set_same s.words word serving 0 (omega arith) in
-      let same_b : get_or (set s.words word serving) (word + 1) 0 ≡ next = get_or-set_other s.words word (word + 1) serving 0 (λ k. omega arith) in
+      let same_b : get_or (set s.words word serving) (word + 1) 0 ≡ next =
+      get_or-set_other s.words word (word + 1) serving 0 (λ k. omega arith) in
       dite (ℕ_discrete serving ticket)
       (λ (e : serving ≡ ticket).
       let here_now : 0 < times serving h.tickets = subst (λ k. 0 < times k h.tickets) (sym e) some_of in
@@ -91,27 +101,47 @@ module _ {T V : Type 0} (holds : State (Option T) V → Type 0) (see : V → Han
       let homes : List (maybe.Option (Option T)) = set s.homes slot none in
       let w : Hand T = with_entry serving log h in
       let c = core_enters serving next log here hands id h is_h kept.core (get_elem? homes slot) here_now in
-      let kept' : Kept word slot log (set s.words word serving) homes (set hands id w) = kept_words word slot word serving serving next log s.words homes (set hands id w) kept.room same_a same_b c in
-      let r = o.2 id m.0 is_at (enters x) word serving homes log w (inl refl) (length-set s.homes slot none) (λ k ne. set_else s.homes slot k none ne) (refl, home.1, (serving, refl)) kept' (ask_enters x) in
+      let kept' : Kept word slot log (set s.words word serving) homes (set hands id w) =
+      kept_words word slot word serving serving next log s.words homes (set hands id w) kept.room same_a same_b c in
+      let r =
+      o.2 id m.0 is_at (enters x) word serving homes log w (inl refl) (length-set s.homes slot none)
+      (λ k ne. set_else s.homes slot k none ne) (refl, home.1, (serving, refl)) kept' (ask_enters x) in
       let seen : (see r.0).seen ≡ log = ap (λ (z : Hand T). z.seen) r.1 in
-      let E : List T → Type 0 = λ l. (see r.0 ≡ with_entry ticket l h) × (h.inside ≡ []) × (length l ≡ ticket + 1) × StartsWith l h.seen × EndsIn l x in (
+      let E : List T → Type 0 = λ l. (see r.0 ≡ with_entry ticket l h) × (h.inside ≡ []) × (length l ≡ ticket + 1) × StartsWith l h.seen
+      × EndsIn l x in (
         r.0,
         takes slot (Some x),
         home.2,
         r.2,
         (
-          (λ _. (x, (refl, subst E (sym seen) (subst (λ k. see r.0 ≡ with_entry k log h) e r.1, outside serving next log here hands id h is_h kept.core here_now, omega arith, fits.begins, home.1), r.3))),
+          (λ _. (
+            x,
+            (
+              refl,
+              subst E (sym seen) (
+                subst (λ k. see r.0 ≡ with_entry k log h) e r.1,
+                outside serving next log here hands id h is_h kept.core here_now,
+                omega arith,
+                fits.begins,
+                home.1,
+              ),
+              r.3,
+            ),
+          )),
           λ ne. absurd (ne e),
         ),
       ))
       (λ (ne : serving ≢ ticket).
-      let kept' : Kept word slot log (set s.words word serving) s.homes (set hands id h) = kept_words word slot word serving serving next log s.words s.homes (set hands id h) kept.room same_a same_b
+      let kept' : Kept word slot log (set s.words word serving) s.homes (set hands id h) =
+      kept_words word slot word serving serving next log s.words s.homes (set hands id h) kept.room same_a same_b
       (subst (λ l. Core serving next log here l) (sym (set_again hands id h is_h)) kept.core) in
       let r = o.2 id m.0 is_at waits word serving s.homes log h (inl refl) refl (λ k _. refl) (refl, refl) kept' ask_waits in
       (r.0, keeps, tt, r.2, ((λ e. absurd (ne e)), (λ _. (refl, r.1, omega arith, r.3)))))
 
-  passes_with : (slots id : ℕ) (v : V) (y : T) (tail : List (ℕ × Option T)) (t : ℕ) → slot < slots → (see v).inside ≡ t ∷ [] → ((x : T) → EndsIn (see v).seen x → asks (passes x y) v)
-      → Allows holds slots id (v, (slot, Some y) ∷ tail) word (λ n. (n + 1) % 2 ^ 64) (λ n. Passed see tells slot (v, (slot, Some y) ∷ tail))
+  passes_with : (slots id : ℕ) (v : V) (y : T) (tail : List (ℕ × Option T)) (t : ℕ) → slot < slots → (see v).inside ≡ t ∷ []
+      → ((x : T) → EndsIn (see v).seen x → asks (passes x y) v)
+      → Allows holds slots id (v, (slot, Some y) ∷ tail) word (λ n. (n + 1) % 2 ^ 64)
+      (λ n. Passed see tells slot (v, (slot, Some y) ∷ tail))
   passes_with slots id v y tail t short is_inside asked s ok len is_at small =
       let o = opening s ok in
       let log : List T = o.0 in
@@ -138,14 +168,20 @@ module _ {T V : Type 0} (holds : State (Option T) V → Type 0) (see : V → Han
             let x : T = last.0 in
             let ends : EndsIn h.seen x = subst (λ l. EndsIn l x) (sym both.1) last.1 in
             let c = core_passes serving next log here hands id h is_h kept.core y both.0 both.1 in
-            let kept' : Kept word slot (log ++ y ∷ []) (set s.words word n) homes (set hands id w) = kept_words word slot word n (serving + 1) next (log ++ y ∷ []) s.words homes (set hands id w) kept.room
+            let kept' : Kept word slot (log ++ y ∷ []) (set s.words word n) homes (set hands id w) =
+            kept_words word slot word n (serving + 1) next (log ++ y ∷ []) s.words homes (set hands id w) kept.room
             (get_or-set_same s.words word n 0 (omega arith) ∙ e) (get_or-set_other s.words word (word + 1) n 0 (λ k. omega arith))
             (subst (λ z. Core (serving + 1) next (log ++ y ∷ []) z (set hands id w)) (sym home_is) c) in
-            let r = o.2 id v is_at (passes x y) word n homes (log ++ y ∷ []) w (inl refl) (length-set s.homes slot (some (Some y))) (λ k ne. set_else s.homes slot k (some (Some y)) ne)
+            let r =
+            o.2 id v is_at (passes x y) word n homes (log ++ y ∷ []) w (inl refl) (length-set s.homes slot (some (Some y)))
+            (λ k ne. set_else s.homes slot k (some (Some y)) ne)
             (refl, last.1, both.1, refl) kept' (asked x ends) in
             (r.0, gives, tt, r.2, (x, y, refl, refl, ends, r.1, r.3)))
       ]
 
-  pub passes_allowed : (slots id : ℕ) (m : Me (Option T) V) (y : T) (t : ℕ) → slot < slots → m.1 ≡ (slot, Some y) ∷ rest m.1 → (see m.0).inside ≡ t ∷ [] → ((x : T) → EndsIn (see m.0).seen x → asks (passes x y) m.0)
+  pub passes_allowed : (slots id : ℕ) (m : Me (Option T) V) (y : T) (t : ℕ) → slot < slots → m.1 ≡ (slot, Some y) ∷ rest m.1
+      → (see m.0).inside ≡ t ∷ [] → ((x : T) → EndsIn (see m.0).seen x → asks (passes x y) m.0)
       → Allows holds slots id m word (λ n. (n + 1) % 2 ^ 64) (λ n. Passed see tells slot m)
-  passes_allowed slots id m y t short is is_inside asked = subst (λ c. Allows holds slots id (m.0, c) word (λ n. (n + 1) % 2 ^ 64) (λ n. Passed see tells slot (m.0, c))) (sym is) (passes_with slots id m.0 y (rest m.1) t short is_inside asked)
+  passes_allowed slots id m y t short is is_inside asked =
+      subst (λ c. Allows holds slots id (m.0, c) word (λ n. (n + 1) % 2 ^ 64) (λ n. Passed see tells slot (m.0, c))) (sym is)
+      (passes_with slots id m.0 y (rest m.1) t short is_inside asked)

@@ -1,5 +1,6 @@
 -- From what a step tells to what a call of a lock promises.
-use Rattle.std.proofs.Common.{◌≡◌, ◌≢◌, ℕ, ◌+◌, ◌-◌, ◌<◌, ◌≤◌, List, [], ◌∷◌, ◌++◌, map, refl, sym, ap, ◌∙◌, subst, arith, eqb, false, eq-eqb, ne_eqb}
+use Rattle.std.proofs.Common.{◌≡◌, ◌≢◌, ℕ, ◌+◌, ◌-◌, ◌<◌, ◌≤◌, List, [], ◌∷◌, ◌++◌, map, refl, sym, ap, ◌∙◌, subst, arith, eqb, false}
+use Rattle.std.proofs.Common.{eq-eqb, ne_eqb}
 use mathlib.Core.Option.{some}
 use mathlib.Core.Logic.{dite}
 use native.Mathlib.Decide.{ℕ_discrete}
@@ -23,10 +24,12 @@ without-snoc : (n : ℕ) (xs : List ℕ) → times n xs ≡ 0 → without n (xs 
 without-snoc n [] none = rw (eq-eqb n n refl) refl
 without-snoc n (x ∷ xs) none = dite (ℕ_discrete x n)
     (λ (e : x ≡ n). let one = rw (eq-eqb x n e) at none in absurd (omega arith))
-    (λ (ne : x ≢ n). let s : eqb x n ≡ false = ne_eqb x n ne in let rest = rw s at none in rw s (ap (λ r. x ∷ r) (without-snoc n xs (omega arith))))
+    (λ (ne : x ≢ n). let s : eqb x n ≡ false = ne_eqb x n ne in let rest = rw s at none in
+    rw s (ap (λ r. x ∷ r) (without-snoc n xs (omega arith))))
 
 module _ {T Part : Type 0} (before : T → T → Type 0) (part : ℕ → T → Part) where
-  pub served_is : (id id' : TableId) (number left ticket : ℕ) (v w : View T) (x : T) → id' ≡ id → ((o : T) × (v.own ≡ (number, o) ∷ [])) → Enters ticket x v.hand w.hand → Tells before part 0 (enters x) v w
+  pub served_is : (id id' : TableId) (number left ticket : ℕ) (v w : View T) (x : T) → id' ≡ id → ((o : T) × (v.own ≡ (number, o) ∷ []))
+      → Enters ticket x v.hand w.hand → Tells before part 0 (enters x) v w
       → Served before part ticket record { value = x; number = ticket } (standing id number left v) (standing id' number left w)
   served_is id id' number left ticket v w x same one e t = (
     record {
@@ -35,7 +38,8 @@ module _ {T Part : Type 0} (before : T → T → Type 0) (part : ℕ → T → P
       later = e.3;
       found = e.4;
       own = λ y is. (let o = one.0 in let there : get_elem? v.own 0 ≡ some (number, o) = ap (λ l. get_elem? l 0) one.1 in
-          let l : List T = o ∷ [] in let m : List T = y ∷ [] in let both : l ≡ m = sym (ap (λ (q : List (ℕ × T)). map (λ p. p.1) q) one.1) ∙ is in
+          let l : List T = o ∷ [] in let m : List T = y ∷ [] in
+          let both : l ≡ m = sym (ap (λ (q : List (ℕ × T)). map (λ p. p.1) q) one.1) ∙ is in
           let f : List T → T = only o in t.3 0 number o there ∙ ap (λ q. part number (f q)) both);
       rises = t.2;
       outside = e.1;
@@ -58,32 +62,53 @@ module _ {T Part : Type 0} (before : T → T → Type 0) (part : ℕ → T → P
 
 module _ {T : Type 0} where
   pub drew_holds : (ticket : ℕ) (a b : Standing T) → Drew ticket a b → 0 < times ticket b.tickets
-  drew_holds ticket a b d = subst (λ (z : Standing T). 0 < times ticket z.tickets) (sym d.lane) (omega (arith, times-snoc ticket a.tickets ticket, times-one ticket))
+  drew_holds ticket a b d =
+      subst (λ (z : Standing T). 0 < times ticket z.tickets) (sym d.lane)
+      (omega (arith, times-snoc ticket a.tickets ticket, times-one ticket))
 
   module _ {Part : Type 0} (before : T → T → Type 0) (part : ℕ → T → Part) where
-    entered_from : (ticket : ℕ) (guard : Held T) (a c : Standing T) → 0 < a.left → ((k : ℕ) → ticket ≤ k → (times k a.drawn ≡ 0) × (times k a.tickets ≡ 0))
-        → Served before part ticket guard (record a { left = a.left - 1; tickets = a.tickets ++ ticket ∷ []; drawn = a.drawn ++ ticket ∷ [] }) c → Entered before part guard a c
+    entered_from : (ticket : ℕ) (guard : Held T) (a c : Standing T) → 0 < a.left
+        → ((k : ℕ) → ticket ≤ k → (times k a.drawn ≡ 0) × (times k a.tickets ≡ 0))
+        → Served before part ticket guard
+        (record a { left = a.left - 1; tickets = a.tickets ++ ticket ∷ []; drawn = a.drawn ++ ticket ∷ [] }) c
+        → Entered before part guard a c
     entered_from ticket guard a c had fresh s =
         let n : ticket ≡ guard.number = sym s.0.number in
         let back : without ticket (a.tickets ++ ticket ∷ []) ≡ a.tickets = without-snoc ticket a.tickets (fresh ticket (omega arith)).1 in
-        let lane : c ≡ record a { left = a.left - 1; drawn = a.drawn ++ guard.number ∷ []; seen = c.seen; inside = guard.number ∷ [] } = s.1 ∙ (λ i. record a { left = a.left - 1; tickets = back i; drawn = a.drawn ++ n i ∷ []; seen = c.seen; inside = n i ∷ [] }) in
+        let lane : c ≡ record a { left = a.left - 1; drawn = a.drawn ++ guard.number ∷ []; seen = c.seen; inside = guard.number ∷ [] } =
+        s.1 ∙ (λ i. record a { left = a.left - 1; tickets = back i; drawn = a.drawn ++ n i ∷ []; seen = c.seen; inside = n i ∷ [] }) in
         record {
           had = had;
           fresh = subst (λ m. (k : ℕ) → m ≤ k → (times k a.drawn ≡ 0) × (times k a.tickets ≡ 0)) n fresh;
-          stands = record { number = refl; turn = s.0.turn ∙ ap (λ m. m + 1) n; later = s.0.later; found = s.0.found; own = s.0.own; rises = s.0.rises; outside = s.0.outside };
+          stands = record {
+            number = refl;
+            turn = s.0.turn ∙ ap (λ m. m + 1) n;
+            later = s.0.later;
+            found = s.0.found;
+            own = s.0.own;
+            rises = s.0.rises;
+            outside = s.0.outside;
+          };
           lane = lane;
         }
 
-    pub entered_is : (ticket : ℕ) (guard : Held T) (a b c : Standing T) → Drew ticket a b → Served before part ticket guard b c → Entered before part guard a c
-    entered_is ticket guard a b c d s = entered_from ticket guard a c d.had d.fresh (subst (λ z. Served before part ticket guard z c) d.lane s)
+    pub entered_is : (ticket : ℕ) (guard : Held T) (a b c : Standing T) → Drew ticket a b → Served before part ticket guard b c
+        → Entered before part guard a c
+    entered_is ticket guard a b c d s =
+        entered_from ticket guard a c d.had d.fresh (subst (λ z. Served before part ticket guard z c) d.lane s)
 
-    pub served_to : (x : T) (n ticket : ℕ) (a a' b : Standing T) → n ≡ ticket → a ≡ a' → Served before part n record { value = x; number = n } a b → Served before part ticket record { value = x; number = n } a' b
-    served_to x n ticket a a' b e d s = subst (λ z. Served before part ticket record { value = x; number = n } z b) d (subst (λ (k : ℕ). Served before part k record { value = x; number = n } a b) e s)
+    pub served_to : (x : T) (n ticket : ℕ) (a a' b : Standing T) → n ≡ ticket → a ≡ a'
+        → Served before part n record { value = x; number = n } a b → Served before part ticket record { value = x; number = n } a' b
+    served_to x n ticket a a' b e d s =
+        subst (λ z. Served before part ticket record { value = x; number = n } z b) d
+        (subst (λ (k : ℕ). Served before part k record { value = x; number = n } a b) e s)
 
 module _ {T Part : Type 0} (before : T → T → Type 0) (part : ℕ → T → Part) where
   -- a lane that drew and entered
-  pub came_is : (id id' : TableId) (number left ticket : ℕ) (a : Standing T) (v w : Me (Option T) (View T)) (x : T) → standing id number left v.0 ≡ a → id' ≡ id → (left ≡ 0 → ⊥) → ((o : T) × (v.0.own ≡ (number, o) ∷ []))
-      → Came (hand_of 0) (Tells before part 0) 0 v ticket x w → Entered before part record { value = x; number = ticket } a (standing id' number (left - 1) w.0)
+  pub came_is : (id id' : TableId) (number left ticket : ℕ) (a : Standing T) (v w : Me (Option T) (View T)) (x : T)
+      → standing id number left v.0 ≡ a → id' ≡ id → (left ≡ 0 → ⊥) → ((o : T) × (v.0.own ≡ (number, o) ∷ []))
+      → Came (hand_of 0) (Tells before part 0) 0 v ticket x w
+      → Entered before part record { value = x; number = ticket } a (standing id' number (left - 1) w.0)
   came_is id id' number left ticket a v w x is same some_of one came =
       let d : Me (Option T) (View T) = came.0 in
       let drew = came.1 in
@@ -105,13 +130,15 @@ module _ {T Part : Type 0} (before : T → T → Type 0) (part : ℕ → T → P
       } in
       let served = served_is before part id id' number (left - 1) ticket d.0 w.0 x same (one.0, drew.2.1 ∙ one.1) came.2.1 came.2.2 in
       subst (λ z. Entered before part record { value = x; number = ticket } z (standing id' number (left - 1) w.0)) is
-      (entered_is before part ticket record { value = x; number = ticket } (standing id number left v.0) (standing id number (left - 1) d.0) (standing id' number (left - 1) w.0) drawn served)
+      (entered_is before part ticket record { value = x; number = ticket } (standing id number left v.0)
+      (standing id number (left - 1) d.0) (standing id' number (left - 1) w.0) drawn served)
 
 pub alone : {T : Type 0} (x y : T) → (let l : List T = x ∷ [] in let m : List T = y ∷ [] in l ≡ m) → x ≡ y
 alone x y e = cc
 
 module _ {T Part : Type 0} (before : T → T → Type 0) (part : ℕ → T → Part) where
-  learned_of : (id : TableId) (number left : ℕ) (v m : Me (Option T) (View T)) (x : T) (seen : List T) (note : Told T) → note.seen ≡ seen → v.0.own ≡ (number, x) ∷ [] → TookIn before part (merged v.0 (new_view seen []), v.1) m
+  learned_of : (id : TableId) (number left : ℕ) (v m : Me (Option T) (View T)) (x : T) (seen : List T) (note : Told T) → note.seen ≡ seen
+      → v.0.own ≡ (number, x) ∷ [] → TookIn before part (merged v.0 (new_view seen []), v.1) m
       → Learned before part note (standing id number left v.0) (standing id number left m.0)
   learned_of id number left v m x seen note is one took =
       let h = v.0.hand in
@@ -140,10 +167,13 @@ module _ {T Part : Type 0} (before : T → T → Type 0) (part : ℕ → T → P
       }
 
   -- a lane that was told of a history and took it in
-  pub learned_is : (id id' : TableId) (number left : ℕ) (a : Standing T) (note : Told T) (v w m n : Me (Option T) (View T)) → standing id number left v.0 ≡ a → id' ≡ id → ((x : T) × (v.0.own ≡ (number, x) ∷ []))
-      → w ≡ (new_view note.seen [], []) → m ≡ (merged v.0 w.0, v.1) → TookIn before part m n → Learned before part note a (standing id' number left n.0)
+  pub learned_is : (id id' : TableId) (number left : ℕ) (a : Standing T) (note : Told T) (v w m n : Me (Option T) (View T))
+      → standing id number left v.0 ≡ a → id' ≡ id → ((x : T) × (v.0.own ≡ (number, x) ∷ []))
+      → w ≡ (new_view note.seen [], []) → m ≡ (merged v.0 w.0, v.1) → TookIn before part m n
+      → Learned before part note a (standing id' number left n.0)
   learned_is id id' number left a note v w m n is same one blank joined took =
       let view : w.0 ≡ new_view note.seen [] = ap (λ z. z.0) blank in
       let whole : m ≡ (merged v.0 (new_view note.seen []), v.1) = joined ∙ (λ i. (merged v.0 (view i), v.1)) in
       let r = learned_of id number left v n one.0 note.seen note refl one.1 (subst (λ z. TookIn before part z n) whole took) in
-      subst (λ z. Learned before part note z (standing id' number left n.0)) is (subst (λ z. Learned before part note (standing id number left v.0) (standing z number left n.0)) (sym same) r)
+      subst (λ z. Learned before part note z (standing id' number left n.0)) is
+      (subst (λ z. Learned before part note (standing id number left v.0) (standing z number left n.0)) (sym same) r)

@@ -22,13 +22,16 @@ abbrev pub StandsAt : {K : Type 0} → (K → ℕ → ℕ → Type 0) → TableI
 StandsAt is_place seat table key word slot = (seat ≡ table) × IsRoom word slot table × is_place key word slot
 
 module _ {T : Type 0} where
-  -- the hand has drawn a ticket that is above all that it drew and has, and not below the number of values left that it has seen
+  -- the hand has drawn a ticket that is above all that it drew and has, and not below the number of values left that it
+  -- has seen
   abbrev pub Draws : ℕ → Hand T → Hand T → Type 0
   Draws n h h' = (h' ≡ with_ticket n h) × (length h.seen ≤ n + 1) × ((k : ℕ) → n ≤ k → (times k h.drawn ≡ 0) × (in_hand k h ≡ 0))
 
-  -- the hand, which was outside, is inside with one of its tickets, at a history with as many values left as the ticket says, which begins with all that it had seen and ends in x
+  -- the hand, which was outside, is inside with one of its tickets, at a history with as many values left as the ticket
+  -- says, which begins with all that it had seen and ends in x
   abbrev pub Enters : ℕ → T → Hand T → Hand T → Type 0
-  Enters n x h h' = (h' ≡ with_entry n h'.seen h) × (h.inside ≡ []) × (length h'.seen ≡ n + 1) × StartsWith h'.seen h.seen × EndsIn h'.seen x
+  Enters n x h h' = (h' ≡ with_entry n h'.seen h) × (h.inside ≡ []) × (length h'.seen ≡ n + 1) × StartsWith h'.seen h.seen
+      × EndsIn h'.seen x
 
 module _ {T V : Type 0} (see : V → Hand T) (tells : Kind T → V → V → Type 0) where
   -- a draw: the slots that the seat holds stay
@@ -53,7 +56,8 @@ module _ {T V : Type 0} (see : V → Hand T) (tells : Kind T → V → V → Typ
 
   -- the value y, which the seat held in the slot, is the last of the history now, and the seat is outside
   abbrev pub Passed : ℕ → Me (Option T) V → Me (Option T) V → Type 0
-  Passed slot m m' = (x : T) × (y : T) × (m.1 ≡ (slot, Some y) ∷ rest m.1) × (m'.1 ≡ rest m.1) × EndsIn (see m.0).seen x × (see m'.0 ≡ with_leave y (see m.0)) × tells (passes x y) m.0 m'.0
+  Passed slot m m' = (x : T) × (y : T) × (m.1 ≡ (slot, Some y) ∷ rest m.1) × (m'.1 ≡ rest m.1) × EndsIn (see m.0).seen x
+      × (see m'.0 ≡ with_leave y (see m.0)) × tells (passes x y) m.0 m'.0
 
   -- a draw, and then a look in turn: the seat is inside with this ticket, and has the value out
   abbrev pub Came : ℕ → Me (Option T) V → ℕ → T → Me (Option T) V → Type 0

@@ -12,15 +12,18 @@ module _ {T : Type 0} where
   abbrev pub in_hand : ℕ → Hand T → ℕ
   in_hand n h = times n h.tickets + times n h.inside
 
-  -- a hand has seen a beginning of the history, the whole of it while it is inside, where it is with the ticket that is served; it draws no more than its share, and nothing without one
+  -- a hand has seen a beginning of the history, the whole of it while it is inside, where it is with the ticket that is
+  -- served; it draws no more than its share, and nothing without one
   pub record Fits (serving : ℕ) (log : List T) (h : Hand T) : Type 0 where
     pub begins : StartsWith log h.seen
     pub inside : (h.inside ≡ []) ⊎ ((h.inside ≡ serving ∷ []) × (h.seen ≡ log))
     pub few : length h.drawn ≤ h.parts * 2 ^ 56
     pub idle : h.parts ≡ 0 → (h.tickets ≡ []) × (h.inside ≡ [])
 
-  -- the history has the opening value and one value for each ticket served; each ticket from `serving` up to but not including `next` is in one hand, and no other ticket is;
-  -- each ticket below `next` was drawn once, and no other was; where nobody is inside, the value that lies at home is the last of the history
+  -- the history has the opening value and one value for each ticket served; each ticket from `serving` up to but not
+  -- including `next` is in one hand, and no other ticket is;
+  -- each ticket below `next` was drawn once, and no other was; where nobody is inside, the value that lies at home is
+  -- the last of the history
   pub record Core (serving next : ℕ) (log : List T) (here : maybe.Option (maybe.Option (Option T))) (hands : List (Hand T)) : Type 0 where
     pub served : length log ≡ serving + 1
     pub order : serving ≤ next

@@ -1,5 +1,6 @@
 -- Lemmas on counting and on histories, which the laws of the rules cite.
-use Rattle.std.proofs.Common.{◌≡◌, ◌≢◌, ◌⊎◌, inl, inr, ℕ, zero, suc, ◌+◌, ◌*◌, ◌<◌, ◌≤◌, eqb, cond, true, false, List, [], ◌∷◌, ◌++◌, map, length, set, refl, sym, ap, ◌∙◌, subst, arith, append_assoc, eq-eqb, ne_eqb, length-append}
+use Rattle.std.proofs.Common.{◌≡◌, ◌≢◌, ◌⊎◌, inl, inr, ℕ, zero, suc, ◌+◌, ◌*◌, ◌<◌, ◌≤◌, eqb, cond, true, false, List, [], ◌∷◌, ◌++◌, map}
+use Rattle.std.proofs.Common.{length, set, refl, sym, ap, ◌∙◌, subst, arith, append_assoc, eq-eqb, ne_eqb, length-append}
 use Rattle.std.proofs.lemmas.List.{append-nil}
 use mathlib.Core.Option.{some, some-injective, some-ne-none}
 use mathlib.Core.Logic.{dite}
@@ -19,14 +20,16 @@ module _ {A : Type 0} where
   total_at f (x ∷ xs) zero v e = let same : f x ≡ f v = ap f (some-injective x v e) in omega arith
   total_at f (x ∷ xs) (suc i) v e = omega (arith, total_at f xs i v e)
 
-  pub total_two : (f : A → ℕ) (l : List A) (i j : ℕ) (v w : A) → i ≢ j → get_elem? l i ≡ some v → get_elem? l j ≡ some w → f v + f w ≤ total f l
+  pub total_two : (f : A → ℕ) (l : List A) (i j : ℕ) (v w : A) → i ≢ j → get_elem? l i ≡ some v → get_elem? l j ≡ some w
+      → f v + f w ≤ total f l
   total_two f [] i j v w ne e d = absurd (some-ne-none v (sym e))
   total_two f (x ∷ xs) zero zero v w ne e d = absurd (ne refl)
   total_two f (x ∷ xs) zero (suc j) v w ne e d = let same : f x ≡ f v = ap f (some-injective x v e) in omega (arith, total_at f xs j w d)
   total_two f (x ∷ xs) (suc i) zero v w ne e d = let same : f x ≡ f w = ap f (some-injective x w d) in omega (arith, total_at f xs i v e)
   total_two f (x ∷ xs) (suc i) (suc j) v w ne e d = omega (arith, total_two f xs i j v w (λ s. ne (ap suc s)) e d)
 
-  pub total_few : (f g : A → ℕ) (k : ℕ) (l : List A) → ((j : ℕ) (h : A) → get_elem? l j ≡ some h → f h ≤ g h * k) → total f l ≤ total g l * k
+  pub total_few : (f g : A → ℕ) (k : ℕ) (l : List A) → ((j : ℕ) (h : A) → get_elem? l j ≡ some h → f h ≤ g h * k)
+      → total f l ≤ total g l * k
   total_few f g k [] few = omega arith
   total_few f g k (x ∷ xs) few = omega (arith, few 0 x refl, total_few f g k xs (λ j h e. few (suc j) h e))
 
@@ -61,10 +64,13 @@ module _ {A : Type 0} where
   total_zero f (x ∷ xs) none = omega (arith, none 0 x refl, total_zero f xs (λ j w d. none (suc j) w d))
 
   -- where f is 0 of each element but one, it is in all what it is of that one
-  pub total_only : (f : A → ℕ) (l : List A) (i : ℕ) (v : A) → get_elem? l i ≡ some v → ((j : ℕ) (w : A) → j ≢ i → get_elem? l j ≡ some w → f w ≡ 0) → total f l ≡ f v
+  pub total_only : (f : A → ℕ) (l : List A) (i : ℕ) (v : A) → get_elem? l i ≡ some v
+      → ((j : ℕ) (w : A) → j ≢ i → get_elem? l j ≡ some w → f w ≡ 0) → total f l ≡ f v
   total_only f [] i v e none = absurd (some-ne-none v (sym e))
-  total_only f (x ∷ xs) zero v e none = let same : f x ≡ f v = ap f (some-injective x v e) in omega (arith, total_zero f xs (λ j w d. none (suc j) w (λ h. omega arith) d))
-  total_only f (x ∷ xs) (suc i) v e none = omega (arith, none 0 x (λ h. omega arith) refl, total_only f xs i v e (λ j w ne d. none (suc j) w (λ h. ne (omega arith)) d))
+  total_only f (x ∷ xs) zero v e none = let same : f x ≡ f v = ap f (some-injective x v e) in
+      omega (arith, total_zero f xs (λ j w d. none (suc j) w (λ h. omega arith) d))
+  total_only f (x ∷ xs) (suc i) v e none =
+      omega (arith, none 0 x (λ h. omega arith) refl, total_only f xs i v e (λ j w ne d. none (suc j) w (λ h. ne (omega arith)) d))
 
   pub set_again : (l : List A) (i : ℕ) (a : A) → get_elem? l i ≡ some a → set l i a ≡ l
   set_again [] i a e = refl
@@ -89,12 +95,14 @@ module _ {A : Type 0} where
   at_inside (x ∷ xs) (suc i) a e = omega (arith, at_inside xs i a e)
 
   -- an element after a write is the one written, or an old one at another place
-  pub at_set : (l : List A) (i j : ℕ) (a b : A) → get_elem? (set l i a) j ≡ some b → ((j ≡ i) × (a ≡ b)) ⊎ ((j ≢ i) × (get_elem? l j ≡ some b))
+  pub at_set : (l : List A) (i j : ℕ) (a b : A) → get_elem? (set l i a) j ≡ some b
+      → ((j ≡ i) × (a ≡ b)) ⊎ ((j ≢ i) × (get_elem? l j ≡ some b))
   at_set [] i j a b e = absurd (some-ne-none b (sym e))
   at_set (x ∷ xs) zero zero a b e = inl (refl, some-injective a b e)
   at_set (x ∷ xs) zero (suc j) a b e = inr ((λ h. omega arith), e)
   at_set (x ∷ xs) (suc i) zero a b e = inr ((λ h. omega arith), e)
-  at_set (x ∷ xs) (suc i) (suc j) a b e = elim (at_set xs i j a b e) [ inl t ↦ inl (ap suc t.0, t.1) | inr t ↦ (let n = t.0 in inr ((λ h. n (omega arith)), t.1)) ]
+  at_set (x ∷ xs) (suc i) (suc j) a b e =
+      elim (at_set xs i j a b e) [ inl t ↦ inl (ap suc t.0, t.1) | inr t ↦ (let n = t.0 in inr ((λ h. n (omega arith)), t.1)) ]
 
   pub at_snoc : (l : List A) (a b : A) (j : ℕ) → get_elem? (l ++ a ∷ []) j ≡ some b → ((j ≡ length l) × (a ≡ b)) ⊎ (get_elem? l j ≡ some b)
   at_snoc [] a b zero e = inl (refl, some-injective a b e)
@@ -107,7 +115,8 @@ module _ {A : Type 0} where
   at_longer (x ∷ xs) m zero a e = e
   at_longer (x ∷ xs) m (suc i) a e = at_longer xs m i a e
 
-  pub at_append : (l m : List A) (k : ℕ) (a : A) → get_elem? (l ++ m) k ≡ some a → (get_elem? l k ≡ some a) ⊎ ((j : ℕ) × (get_elem? m j ≡ some a))
+  pub at_append : (l m : List A) (k : ℕ) (a : A) → get_elem? (l ++ m) k ≡ some a
+      → (get_elem? l k ≡ some a) ⊎ ((j : ℕ) × (get_elem? m j ≡ some a))
   at_append [] m k a e = inr (k, e)
   at_append (x ∷ xs) m zero a e = inl e
   at_append (x ∷ xs) m (suc k) a e = at_append xs m k a e
@@ -179,7 +188,9 @@ module _ {A : Type 0} where
       → (l : List A) (x y : A) → EndsIn l x → before x y → IsRising before l → IsRising before (l ++ y ∷ [])
   rises_on before same on l x y ends step up i j a b le at_a at_b =
       elim (at_snoc l y b j at_b) [
-        | inr old_b ↦ (let short = at_inside l j b old_b in elim (at_snoc l y a i at_a) [ inl t ↦ absurd (omega arith) | inr old_a ↦ up i j a b le old_a old_b ])
+        | inr old_b ↦
+            (let short = at_inside l j b old_b in
+            elim (at_snoc l y a i at_a) [ inl t ↦ absurd (omega arith) | inr old_a ↦ up i j a b le old_a old_b ])
         | inl t ↦ elim (at_snoc l y a i at_a) [
           | inl s ↦ (let e : a ≡ b = sym s.1 ∙ t.1 in subst (λ z. before a z) e (same a))
           | inr old_a ↦ (let short = at_inside l i a old_a in
@@ -192,17 +203,21 @@ module _ {A : Type 0} where
 
   pub rises_short : (before : A → A → Type 0) (l a : List A) → StartsWith l a → IsRising before l → IsRising before a
   rises_short before l a p up i j x y le at_x at_y =
-      let m : (k : ℕ) (z : A) → get_elem? a k ≡ some z → get_elem? l k ≡ some z = λ k z e. subst (λ w. get_elem? w k ≡ some z) (sym p.1) (at_longer a p.0 k z e) in
+      let m : (k : ℕ) (z : A) → get_elem? a k ≡ some z → get_elem? l k ≡ some z =
+      λ k z e. subst (λ w. get_elem? w k ≡ some z) (sym p.1) (at_longer a p.0 k z e) in
       up i j x y le (m i x at_x) (m j y at_y)
 
   -- the last value of a beginning comes before the last of the whole
-  pub rises_last : (before : A → A → Type 0) (l a : List A) (x y : A) → IsRising before l → StartsWith l a → EndsIn a x → EndsIn l y → before x y
+  pub rises_last : (before : A → A → Type 0) (l a : List A) (x y : A) → IsRising before l → StartsWith l a → EndsIn a x → EndsIn l y
+      → before x y
   rises_last before l a x y up p ex ey =
       let na : length a ≡ length ex.0 + 1 = omega (arith, ap length ex.1, length-append ex.0 (x ∷ [])) in
       let nl : length l ≡ length ey.0 + 1 = omega (arith, ap length ey.1, length-append ey.0 (y ∷ [])) in
       let short = StartsWith-length l a p in
       let at_x = EndsIn-at a x ex (length ex.0) na in
-      up (length ex.0) (length ey.0) x y (omega arith) (subst (λ w. get_elem? w (length ex.0) ≡ some x) (sym p.1) (at_longer a p.0 (length ex.0) x at_x)) (EndsIn-at l y ey (length ey.0) nl)
+      up (length ex.0) (length ey.0) x y (omega arith)
+      (subst (λ w. get_elem? w (length ex.0) ≡ some x) (sym p.1) (at_longer a p.0 (length ex.0) x at_x))
+      (EndsIn-at l y ey (length ey.0) nl)
 
 pub times-snoc : (n : ℕ) (xs : List ℕ) (x : ℕ) → times n (xs ++ x ∷ []) ≡ times n xs + times n (x ∷ [])
 times-snoc n [] x = omega arith
@@ -221,5 +236,7 @@ times-other n x ne = rw (ne_eqb x n ne) refl
 pub times-without : (n m : ℕ) (xs : List ℕ) → 0 < times n xs → times m (without n xs) + times m (n ∷ []) ≡ times m xs
 times-without n m [] h = absurd (omega arith)
 times-without n m (x ∷ xs) h = dite (ℕ_discrete x n)
-    (λ (e : x ≡ n). let s : eqb x n ≡ true = eq-eqb x n e in rw s (subst (λ (k : ℕ). times m xs + (cond (eqb k m) 1 0 + 0) ≡ cond (eqb x m) 1 0 + times m xs) e (omega arith)))
-    (λ (ne : x ≢ n). let s : eqb x n ≡ false = ne_eqb x n ne in let h' = rw s at h in rw s (omega (arith, times-without n m xs (omega arith))))
+    (λ (e : x ≡ n). let s : eqb x n ≡ true = eq-eqb x n e in
+    rw s (subst (λ (k : ℕ). times m xs + (cond (eqb k m) 1 0 + 0) ≡ cond (eqb x m) 1 0 + times m xs) e (omega arith)))
+    (λ (ne : x ≢ n). let s : eqb x n ≡ false = ne_eqb x n ne in let h' = rw s at h in
+    rw s (omega (arith, times-without n m xs (omega arith))))

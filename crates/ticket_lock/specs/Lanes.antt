@@ -11,7 +11,8 @@ pub record Lock (T : Type 0) : Type 0 where
   pub opening : T
   pub lanes : ℕ
 
--- a lane: its lock and its number, how many tickets it has left to draw, the history that it has seen, the tickets that it waits with, the ticket that it is inside with if any, all tickets that it drew,
+-- a lane: its lock and its number, how many tickets it has left to draw, the history that it has seen, the tickets that
+-- it waits with, the ticket that it is inside with if any, all tickets that it drew,
 -- and, alone in a list, the value that it left last or the opening value
 pub record Standing (T : Type 0) : Type 0 where
   pub lock : TableId
@@ -40,18 +41,37 @@ IsSized id = (id.words ≡ 2) × (id.slots ≡ 1)
 module _ {T : Type 0} where
   -- how contracts see a lane
   abbrev pub standing : TableId → ℕ → ℕ → View T → Standing T
-  standing id number left v = record { lock = id; number = number; left = left; seen = v.hand.seen; tickets = v.hand.tickets; inside = v.hand.inside; drawn = v.hand.drawn; own = map (λ p. p.1) v.own }
+  standing id number left v = record {
+    lock = id;
+    number = number;
+    left = left;
+    seen = v.hand.seen;
+    tickets = v.hand.tickets;
+    inside = v.hand.inside;
+    drawn = v.hand.drawn;
+    own = map (λ p. p.1) v.own;
+  }
 
   -- a lane that has drawn nothing, and has seen the opening value
   abbrev pub fresh_lane : TableId → ℕ → T → ℕ → Standing T
-  fresh_lane id budget x number = record { lock = id; number = number; left = budget; seen = x ∷ []; tickets = []; inside = []; drawn = []; own = x ∷ [] }
+  fresh_lane id budget x number = record {
+    lock = id;
+    number = number;
+    left = budget;
+    seen = x ∷ [];
+    tickets = [];
+    inside = [];
+    drawn = [];
+    own = x ∷ [];
+  }
 
   -- `count` such lanes, numbered from `first` on
   abbrev pub fresh_lanes : TableId → ℕ → T → ℕ → ℕ → List (Standing T)
   fresh_lanes id budget x first zero = []
   fresh_lanes id budget x first (suc count) = fresh_lane id budget x first ∷ fresh_lanes id budget x (suc first) count
 
-  -- a lane has one number and one share, has taken in what it was told, draws within its share, and holds the slot just while it is inside
+  -- a lane has one number and one share, has taken in what it was told, draws within its share, and holds the slot just
+  -- while it is inside
   pub record IsLane (id : TableId) (number left : ℕ) (me : Me (Option T) (View T)) : Type 0 where
     pub one : (x : T) × (me.0.own ≡ (number, x) ∷ [])
     pub taken : me.0.told ≡ []

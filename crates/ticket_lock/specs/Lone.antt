@@ -1,4 +1,5 @@
--- The rule of a lock that has a table of its own: word 0 counts the values left, word 1 has the next ticket, and slot 0 the value.
+-- The rule of a lock that has a table of its own: word 0 counts the values left, word 1 has the next ticket, and slot 0
+-- the value.
 use Rattle.std.specs.Prelude.{◌≡◌, ◌≢◌, ◌⊎◌, ℕ, zero, suc, ◌+◌, ◌<◌, ◌≤◌, List, [], ◌∷◌, ◌++◌, map, length, take, drop, Option}
 use mathlib.Core.Option.{some}
 use lib.ListN.{get_elem?}
@@ -47,7 +48,8 @@ module _ {T : Type 0} where
   abbrev pub IsWhole : ℕ → View T → Type 0
   IsWhole lanes v = (v.told ≡ []) × (v.hand.tickets ≡ []) × (v.hand.inside ≡ []) × (length v.own ≡ lanes)
 
-  -- x is the last value of the history seen, which begins with the opening value and has one value more than tickets were drawn; each ticket below the number of tickets was drawn once, and no other was
+  -- x is the last value of the history seen, which begins with the opening value and has one value more than tickets
+  -- were drawn; each ticket below the number of tickets was drawn once, and no other was
   abbrev pub Rests : T → View T → T → Type 0
   Rests opening v x = EndsIn v.hand.seen x × StartsWith v.hand.seen (opening ∷ []) × (length v.hand.seen ≡ length v.hand.drawn + 1)
       × ((n : ℕ) → n < length v.hand.drawn → times n v.hand.drawn ≡ 1) × ((n : ℕ) → length v.hand.drawn ≤ n → times n v.hand.drawn ≡ 0)
@@ -63,7 +65,13 @@ module _ {T : Type 0} where
   -- a view that has all that two had, and was told what the second had seen
   abbrev pub merged : View T → View T → View T
   merged v w = record {
-    hand = record { seen = v.hand.seen; tickets = v.hand.tickets ++ w.hand.tickets; inside = v.hand.inside ++ w.hand.inside; drawn = v.hand.drawn ++ w.hand.drawn; parts = v.hand.parts + w.hand.parts };
+    hand = record {
+      seen = v.hand.seen;
+      tickets = v.hand.tickets ++ w.hand.tickets;
+      inside = v.hand.inside ++ w.hand.inside;
+      drawn = v.hand.drawn ++ w.hand.drawn;
+      parts = v.hand.parts + w.hand.parts;
+    };
     told = w.hand.seen;
     own = v.own ++ w.own;
   }
@@ -81,13 +89,15 @@ module _ {T : Type 0} where
   just_seen v = new_view v.hand.seen []
 
 module _ {T Part : Type 0} (before : T → T → Type 0) (part : ℕ → T → Part) where
-  -- a view's shares are its lanes; it was told a beginning of the history; and the last value of the history has the part of each of its lanes as that lane left it
+  -- a view's shares are its lanes; it was told a beginning of the history; and the last value of the history has the
+  -- part of each of its lanes as that lane left it
   pub record Knows (log : List T) (v : View T) : Type 0 where
     pub shares : v.hand.parts ≡ length v.own
     pub told : StartsWith log v.told
     pub owns : (k l : ℕ) (x y : T) → get_elem? v.own k ≡ some (l, x) → EndsIn log y → part l y ≡ part l x
 
-  -- the lock's rule; the history begins with the opening value, and each value of it comes before the later ones; each lane is in one view at most, and all lanes are;
+  -- the lock's rule; the history begins with the opening value, and each value of it comes before the later ones; each
+  -- lane is in one view at most, and all lanes are;
   -- some view with a lane has seen the whole history or was told it
   pub record Lone (opening : T) (lanes : ℕ) (s : State (Option T) (View T)) : Type 0 where
     pub log : List T
@@ -99,21 +109,27 @@ module _ {T Part : Type 0} (before : T → T → Type 0) (part : ℕ → T → P
     pub once : (l : ℕ) → total (λ v. times l (numbers v)) s.views ≤ 1
     pub known : (j : ℕ) × (v : View T) × (get_elem? s.views j ≡ some v) × (0 < length v.own) × ((v.hand.seen ≡ log) ⊎ (v.told ≡ log))
 
-  -- of a value left it is asked that the value found comes before it, and that it has the parts of all lanes but the one that leaves as they were found
+  -- of a value left it is asked that the value found comes before it, and that it has the parts of all lanes but the
+  -- one that leaves as they were found
   abbrev pub Asks : ℕ → Kind T → View T → Type 0
   Asks slot draws v = Unit {0}
   Asks slot waits v = Unit {0}
   Asks slot (enters x) v = Unit {0}
   Asks slot (passes x y) v = before x y × ((l : ℕ) × (z : T) × (v.own ≡ (l, z) ∷ []) × ((k : ℕ) → k ≢ l → part k y ≡ part k x))
 
-  -- a look in turn tells that the history rises, and that the value found has the lanes' parts as they left them; and a pass on that the value left is the one that its lane left last
+  -- a look in turn tells that the history rises, and that the value found has the lanes' parts as they left them; and a
+  -- pass on that the value left is the one that its lane left last
   abbrev pub Tells : ℕ → Kind T → View T → View T → Type 0
   Tells slot draws v w = (w.told ≡ v.told) × (w.own ≡ v.own)
   Tells slot waits v w = w ≡ v
-  Tells slot (enters x) v w = (w.told ≡ v.told) × (w.own ≡ v.own) × IsRising before w.hand.seen × ((k l : ℕ) (z : T) → get_elem? v.own k ≡ some (l, z) → part l x ≡ part l z)
+  Tells slot (enters x) v w = (w.told ≡ v.told) × (w.own ≡ v.own) × IsRising before w.hand.seen
+      × ((k l : ℕ) (z : T) → get_elem? v.own k ≡ some (l, z) → part l x ≡ part l z)
   Tells slot (passes x y) v w = (w.told ≡ v.told) × ((l : ℕ) (z : T) → v.own ≡ (l, z) ∷ [] → w.own ≡ (l, y) ∷ [])
 
-  -- a load at which a view takes in what it was told; the last value of the lock's history has each of its lanes' parts as that lane left it, and what it has seen comes before that value
+  -- a load at which a view takes in what it was told; the last value of the lock's history has each of its lanes' parts
+  -- as that lane left it, and what it has seen comes before that value
   abbrev pub TookIn : Me (Option T) (View T) → Me (Option T) (View T) → Type 0
-  TookIn m m' = (m' ≡ (taken_in m.0, m.1)) × StartsWith m'.0.hand.seen m.0.hand.seen × StartsWith m'.0.hand.seen m.0.told × IsRising before m'.0.hand.seen
-      × ((k l : ℕ) (x : T) → get_elem? m.0.own k ≡ some (l, x) → (y : T) × (part l y ≡ part l x) × ((z : T) → EndsIn m'.0.hand.seen z → before z y))
+  TookIn m m' = (m' ≡ (taken_in m.0, m.1)) × StartsWith m'.0.hand.seen m.0.hand.seen × StartsWith m'.0.hand.seen m.0.told
+      × IsRising before m'.0.hand.seen
+      × ((k l : ℕ) (x : T) → get_elem? m.0.own k ≡ some (l, x)
+      → (y : T) × (part l y ≡ part l x) × ((z : T) → EndsIn m'.0.hand.seen z → before z y))

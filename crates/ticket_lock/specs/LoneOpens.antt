@@ -1,5 +1,6 @@
 -- The rule of a lone lock lets a lock stand at the start of its table.
-use Rattle.std.proofs.Common.{◌≡◌, ◌≢◌, ◌⊎◌, inl, inr, ℕ, zero, suc, ◌<◌, List, [], ◌∷◌, ◌++◌, map, length, set, refl, sym, ap, ◌∙◌, subst, arith, Option}
+use Rattle.std.proofs.Common.{◌≡◌, ◌≢◌, ◌⊎◌, inl, inr, ℕ, zero, suc, ◌<◌, List, [], ◌∷◌, ◌++◌, map, length, set, refl, sym, ap, ◌∙◌, subst}
+use Rattle.std.proofs.Common.{arith, Option}
 use mathlib.Core.Option as maybe
 use mathlib.Core.Option.{some, some-injective, some-ne-none}
 use mathlib.Core.Logic.{dite}
@@ -13,7 +14,8 @@ use Rattle.ticket_lock.specs.Count.{times}
 use Rattle.ticket_lock.specs.History.{StartsWith, EndsIn, IsRising}
 use Rattle.ticket_lock.specs.Turns.{draws, waits, enters, passes, Kept, Follows, Opens}
 use Rattle.ticket_lock.specs.Lone.{IsStart, hand_of, numbers, Knows, Lone, Asks, Tells}
-use Rattle.ticket_lock.specs.Facts.{total_set, total_two, at_set, set_here, set_else, at_inside, map-set, times-one, StartsWith-more, EndsIn-same, EndsIn-more, rises_on}
+use Rattle.ticket_lock.specs.Facts.{total_set, total_two, at_set, set_here, set_else, at_inside, map-set, times-one, StartsWith-more}
+use Rattle.ticket_lock.specs.Facts.{EndsIn-same, EndsIn-more, rises_on}
 
 module _ {T : Type 0} where
   -- a lane of the view is among its numbers
@@ -25,7 +27,8 @@ module _ {T : Type 0} where
       omega arith
   number_at (p ∷ ps) (suc k) l x e = omega (arith, number_at ps k l x e)
 
-  pub same_number : (l m : ℕ) (y a : T) → (let own : List (ℕ × T) = (l, y) ∷ [] in let own' : List (ℕ × T) = (m, a) ∷ [] in own ≡ own') → l ≡ m
+  pub same_number : (l m : ℕ) (y a : T) → (let own : List (ℕ × T) = (l, y) ∷ [] in let own' : List (ℕ × T) = (m, a) ∷ [] in own ≡ own')
+      → l ≡ m
   same_number l m y a e = ap (λ q. first q) e
     where
       first : List (ℕ × T) → ℕ
@@ -41,19 +44,29 @@ module _ {T Part : Type 0} (before : T → T → Type 0) (part : ℕ → T → P
   abbrev Known : List T → List (View T) → Type 0
   Known log views = (j : ℕ) × (v : View T) × (get_elem? views j ≡ some v) × (0 < length v.own) × ((v.hand.seen ≡ log) ⊎ (v.told ≡ log))
 
-  pub known_set : (log : List T) (views : List (View T)) (id : ℕ) (v w : View T) → get_elem? views id ≡ some v → length w.own ≡ length v.own → (v.hand.seen ≡ log → w.hand.seen ≡ log) → w.told ≡ v.told → Known log views → Known log (set views id w)
+  pub known_set : (log : List T) (views : List (View T)) (id : ℕ) (v w : View T) → get_elem? views id ≡ some v
+      → length w.own ≡ length v.own → (v.hand.seen ≡ log → w.hand.seen ≡ log) → w.told ≡ v.told → Known log views
+      → Known log (set views id w)
   known_set log views id v w is_at same seen told k = dite (ℕ_discrete k.0 id)
       (λ (e : k.0 ≡ id).
       let u_is : k.1 ≡ v = some-injective k.1 v (sym (k.2) ∙ (ap (get_elem? views) e ∙ is_at)) in
       let K : View T → Type 0 = λ u. (0 < length u.own) × ((u.hand.seen ≡ log) ⊎ (u.told ≡ log)) in
-      let at_v = subst K u_is (k.3, k.4) in
-      (id, w, set_here views id w (at_inside views id v is_at), omega (arith, at_v.0), elim at_v.1 [ inl s ↦ inl (seen s) | inr t ↦ inr (told ∙ t) ]))
+      let at_v = subst K u_is (k.3, k.4) in (
+        id,
+        w,
+        set_here views id w (at_inside views id v is_at),
+        omega (arith, at_v.0),
+        elim at_v.1 [ inl s ↦ inl (seen s) | inr t ↦ inr (told ∙ t) ],
+      ))
       (λ (ne : k.0 ≢ id). (k.0, k.1, set_else views id k.0 w ne ∙ k.2, k.3, k.4))
 
-  module _ (opening : T) (lanes : ℕ) (s : State (Option T) (View T)) (r : Lone before part opening lanes s) (id : ℕ) (v : View T) (is_at : get_elem? s.views id ≡ some v) where
+  module _ (opening : T) (lanes : ℕ) (s : State (Option T) (View T)) (r : Lone before part opening lanes s) (id : ℕ) (v : View T)
+      (is_at : get_elem? s.views id ≡ some v) where
     -- the rule after one view was changed, which keeps the numbers of its lanes
-    pub rebuilt : (log : List T) (words : List ℕ) (homes : List (maybe.Option (Option T))) (w : View T) → Kept 0 0 log words homes (set (map (hand_of 0) s.views) id w.hand)
-        → StartsWith log (opening ∷ []) → IsRising before log → numbers w ≡ numbers v → length w.own ≡ length v.own → Knows before part log w
+    pub rebuilt : (log : List T) (words : List ℕ) (homes : List (maybe.Option (Option T))) (w : View T)
+        → Kept 0 0 log words homes (set (map (hand_of 0) s.views) id w.hand)
+        → StartsWith log (opening ∷ []) → IsRising before log → numbers w ≡ numbers v → length w.own ≡ length v.own
+        → Knows before part log w
         → ((j : ℕ) (u : View T) → j ≢ id → get_elem? s.views j ≡ some u → Knows before part log u) → Known log (set s.views id w)
         → Lone before part opening lanes record { words = words; homes = homes; views = set s.views id w }
     rebuilt log words homes w kept begun rising same_numbers same_length mine others known = record {
@@ -61,25 +74,36 @@ module _ {T Part : Type 0} (before : T → T → Type 0) (part : ℕ → T → P
       kept = subst (λ l. Kept 0 0 log words homes l) (sym (map-set (hand_of 0) s.views id w)) kept;
       begun = begun;
       rising = rising;
-      each_view = λ j u e. elim (at_set s.views id j w u e) [ inl t ↦ subst (λ z. Knows before part log z) t.1 mine | inr t ↦ others j u t.0 t.1 ];
+      each_view =
+          λ j u e. elim (at_set s.views id j w u e) [ inl t ↦ subst (λ z. Knows before part log z) t.1 mine | inr t ↦ others j u t.0 t.1 ];
       whole = omega (arith, total_set (λ (u : View T). length u.own) s.views id v w is_at, r.whole);
-      once = λ l. let same : times l (numbers w) ≡ times l (numbers v) = ap (times l) same_numbers in omega (arith, total_set (λ (u : View T). times l (numbers u)) s.views id v w is_at, r.once l);
+      once = λ l. let same : times l (numbers w) ≡ times l (numbers v) = ap (times l) same_numbers in
+          omega (arith, total_set (λ (u : View T). times l (numbers u)) s.views id v w is_at, r.once l);
       known = known;
     }
 
     -- a step that leaves the history as it is
-    same_log : (words : List ℕ) (homes : List (maybe.Option (Option T))) (h : Hand T) → Kept 0 0 r.log words homes (set (map (hand_of 0) s.views) id h) → h.parts ≡ v.hand.parts → (v.hand.seen ≡ r.log → h.seen ≡ r.log)
-        → Lone before part opening lanes record { words = words; homes = homes; views = set s.views id record { hand = h; told = v.told; own = v.own } }
+    same_log : (words : List ℕ) (homes : List (maybe.Option (Option T))) (h : Hand T)
+        → Kept 0 0 r.log words homes (set (map (hand_of 0) s.views) id h) → h.parts ≡ v.hand.parts → (v.hand.seen ≡ r.log → h.seen ≡ r.log)
+        → Lone before part opening
+        lanes record { words = words; homes = homes; views = set s.views id record { hand = h; told = v.told; own = v.own } }
     same_log words homes h kept parts seen =
         let w : View T = record { hand = h; told = v.told; own = v.own } in
         let mine = r.each_view id v is_at in
-        rebuilt r.log words homes w kept r.begun r.rising refl refl record { shares = parts ∙ mine.shares; told = mine.told; owns = mine.owns } (λ j u _ e. r.each_view j u e)
+        rebuilt r.log words homes w kept r.begun r.rising refl refl record {
+          shares = parts ∙ mine.shares;
+          told = mine.told;
+          owns = mine.owns;
+        } (λ j u _ e. r.each_view j u e)
         (known_set r.log s.views id v w is_at refl seen refl r.known)
 
     -- a value left by the one lane of the view
-    passed_on : ((x : T) → before x x) → ((x y z : T) → before x y → before y z → before x z) → (words : List ℕ) (homes : List (maybe.Option (Option T))) (h : Hand T) (x y : T) (l : ℕ) (z : T)
-        → Kept 0 0 (r.log ++ y ∷ []) words homes (set (map (hand_of 0) s.views) id h) → h.parts ≡ v.hand.parts → h.seen ≡ r.log ++ y ∷ [] → EndsIn r.log x → before x y → v.own ≡ (l, z) ∷ [] → ((k : ℕ) → k ≢ l → part k y ≡ part k x)
-        → Lone before part opening lanes record { words = words; homes = homes; views = set s.views id record { hand = h; told = v.told; own = (l, y) ∷ [] } }
+    passed_on : ((x : T) → before x x) → ((x y z : T) → before x y → before y z → before x z)
+        → (words : List ℕ) (homes : List (maybe.Option (Option T))) (h : Hand T) (x y : T) (l : ℕ) (z : T)
+        → Kept 0 0 (r.log ++ y ∷ []) words homes (set (map (hand_of 0) s.views) id h) → h.parts ≡ v.hand.parts → h.seen ≡ r.log ++ y ∷ []
+        → EndsIn r.log x → before x y → v.own ≡ (l, z) ∷ [] → ((k : ℕ) → k ≢ l → part k y ≡ part k x)
+        → Lone before part opening
+        lanes record { words = words; homes = homes; views = set s.views id record { hand = h; told = v.told; own = (l, y) ∷ [] } }
     passed_on same on words homes h x y l z kept parts seen ends step own apart =
         let w : View T = record { hand = h; told = v.told; own = (l, y) ∷ [] } in
         let mine = r.each_view id v is_at in
@@ -87,7 +111,8 @@ module _ {T Part : Type 0} (before : T → T → Type 0) (part : ℕ → T → P
         let one : length v.own ≡ 1 = ap length own in
         let my_number : numbers v ≡ l ∷ [] = ap (λ q. map (λ p. p.0) q) own in
         let only : (q : T) → EndsIn log q → y ≡ q = λ q e. EndsIn-same log y q (EndsIn-more r.log y) e in
-        rebuilt log words homes w kept (StartsWith-more r.log (opening ∷ []) y r.begun) (rises_on before same on r.log x y ends step r.rising) (sym my_number) (sym one)
+        rebuilt log words homes w kept (StartsWith-more r.log (opening ∷ []) y r.begun)
+        (rises_on before same on r.log x y ends step r.rising) (sym my_number) (sym one)
         record {
           shares = parts ∙ (mine.shares ∙ one);
           told = StartsWith-more r.log v.told y mine.told;
@@ -107,26 +132,32 @@ module _ {T Part : Type 0} (before : T → T → Type 0) (part : ℕ → T → P
         (id, w, set_here s.views id w (at_inside s.views id v is_at), omega arith, inl seen)
 
   module _ (same : (x : T) → before x x) (on : (x y z : T) → before x y → before y z → before x z) (opening : T) (lanes : ℕ) where
-    follows : (s : State (Option T) (View T)) (r : Lone before part opening lanes s) (id : ℕ) (v : View T) → get_elem? s.views id ≡ some v → Follows (Lone before part opening lanes) (hand_of 0) (Asks before part 0) (Tells before part 0) 0 0 s r.log id v
+    follows : (s : State (Option T) (View T)) (r : Lone before part opening lanes s) (id : ℕ) (v : View T) → get_elem? s.views id ≡ some v
+        → Follows (Lone before part opening lanes) (hand_of 0) (Asks before part 0) (Tells before part 0) 0 0 s r.log id v
     follows s r id v is_at draws i n homes log' h _ _ _ turn kept asked =
         let seen = ap (λ (z : Hand T). z.seen) turn.1.1 in (
           record { hand = h; told = v.told; own = v.own },
           refl,
-          same_log opening lanes s r id v is_at (set s.words i n) homes h (subst (λ l. Kept 0 0 l (set s.words i n) homes (set (map (hand_of 0) s.views) id h)) turn.0 kept) (ap (λ (z : Hand T). z.parts) turn.1.1) (λ e. seen ∙ e),
+          same_log opening lanes s r id v is_at (set s.words i n) homes h
+              (subst (λ l. Kept 0 0 l (set s.words i n) homes (set (map (hand_of 0) s.views) id h)) turn.0 kept)
+              (ap (λ (z : Hand T). z.parts) turn.1.1) (λ e. seen ∙ e),
           (refl, refl),
         )
     follows s r id v is_at waits i n homes log' h _ _ _ turn kept asked =
         let kept' = subst (λ l. Kept 0 0 l (set s.words i n) homes (set (map (hand_of 0) s.views) id h)) turn.0 kept in (
           v,
           sym turn.1,
-          same_log opening lanes s r id v is_at (set s.words i n) homes v.hand (subst (λ z. Kept 0 0 r.log (set s.words i n) homes (set (map (hand_of 0) s.views) id z)) turn.1 kept') refl (λ e. e),
+          same_log opening lanes s r id v is_at (set s.words i n) homes v.hand
+              (subst (λ z. Kept 0 0 r.log (set s.words i n) homes (set (map (hand_of 0) s.views) id z)) turn.1 kept') refl (λ e. e),
           refl,
         )
     follows s r id v is_at (enters x) i n homes log' h _ _ _ turn kept asked =
         let seen : h.seen ≡ r.log = ap (λ (z : Hand T). z.seen) turn.2.1 in (
           record { hand = h; told = v.told; own = v.own },
           refl,
-          same_log opening lanes s r id v is_at (set s.words i n) homes h (subst (λ l. Kept 0 0 l (set s.words i n) homes (set (map (hand_of 0) s.views) id h)) turn.0 kept) (ap (λ (z : Hand T). z.parts) turn.2.1) (λ e. seen),
+          same_log opening lanes s r id v is_at (set s.words i n) homes h
+              (subst (λ l. Kept 0 0 l (set s.words i n) homes (set (map (hand_of 0) s.views) id h)) turn.0 kept)
+              (ap (λ (z : Hand T). z.parts) turn.2.1) (λ e. seen),
           (refl, refl, subst (λ l. IsRising before l) (sym seen) r.rising, λ k l z at_k. (r.each_view id v is_at).owns k l z x at_k turn.1),
         )
     follows s r id v is_at (passes x y) i n homes log' h _ _ _ turn kept asked =
@@ -135,9 +166,18 @@ module _ {T Part : Type 0} (before : T → T → Type 0) (part : ℕ → T → P
         let z : T = asked.1.1 in (
           record { hand = h; told = v.told; own = (l, y) ∷ [] },
           refl,
-          passed_on opening lanes s r id v is_at same on (set s.words i n) homes h x y l z (subst (λ m. Kept 0 0 m (set s.words i n) homes (set (map (hand_of 0) s.views) id h)) turn.0 kept) (ap (λ (q : Hand T). q.parts) turn.3) seen turn.1 asked.0 asked.1.2 asked.1.3,
-          (refl, λ m q e. let own : List (ℕ × T) = (l, z) ∷ [] in let own' : List (ℕ × T) = (m, q) ∷ [] in let p : own ≡ own' = sym asked.1.2 ∙ e in let first = same_number l m z q p in (λ j. (first j, y) ∷ [])),
+          passed_on opening lanes s r id v is_at same on (set s.words i n) homes h x y l z
+              (subst (λ m. Kept 0 0 m (set s.words i n) homes (set (map (hand_of 0) s.views) id h)) turn.0 kept)
+              (ap (λ (q : Hand T). q.parts) turn.3) seen turn.1 asked.0 asked.1.2 asked.1.3,
+          (
+            refl,
+            λ m q e. let own : List (ℕ × T) = (l, z) ∷ [] in let own' : List (ℕ × T) = (m, q) ∷ [] in
+                let p : own ≡ own' = sym asked.1.2 ∙ e in let first = same_number l m z q p in (λ j. (first j, y) ∷ []),
+          ),
         )
 
-    pub lone_opens : (key : Opening T) (word slot : ℕ) → IsStart key word slot → Opens (Lone before part opening lanes) (hand_of slot) (Asks before part slot) (Tells before part slot) word slot
-    lone_opens key word slot start = subst (λ (p : ℕ × ℕ). Opens (Lone before part opening lanes) (hand_of p.1) (Asks before part p.1) (Tells before part p.1) p.0 p.1) (λ i. (sym start.0 i, sym start.1 i)) (λ s r. (r.log, r.kept, follows s r))
+    pub lone_opens : (key : Opening T) (word slot : ℕ) → IsStart key word slot
+        → Opens (Lone before part opening lanes) (hand_of slot) (Asks before part slot) (Tells before part slot) word slot
+    lone_opens key word slot start =
+        subst (λ (p : ℕ × ℕ). Opens (Lone before part opening lanes) (hand_of p.1) (Asks before part p.1) (Tells before part p.1) p.0 p.1)
+        (λ i. (sym start.0 i, sym start.1 i)) (λ s r. (r.log, r.kept, follows s r))

@@ -8,7 +8,8 @@ use Rattle.ticket_lock.specs.History.{StartsWith, EndsIn, longer, IsRising}
 use Rattle.ticket_lock.specs.Lanes.{Standing, Held, Told}
 
 module _ {T : Type 0} where
-  -- the lane has drawn this ticket, which is above all that it drew and all that it waits with, and not below the number of values left that it has seen; nothing else of the lane changes
+  -- the lane has drawn this ticket, which is above all that it drew and all that it waits with, and not below the
+  -- number of values left that it has seen; nothing else of the lane changes
   pub record Drew (ticket : ℕ) (a b : Standing T) : Type 0 where
     pub had : 0 < a.left
     pub fresh : (k : ℕ) → ticket ≤ k → (times k a.drawn ≡ 0) × (times k a.tickets ≡ 0)
@@ -19,12 +20,14 @@ module _ {T : Type 0} where
   abbrev pub WasSpent : Standing T → Standing T → Type 0
   WasSpent a b = (a.left ≡ 0) × (b ≡ a)
 
-  -- it is not yet this ticket's turn: the ticket comes back, the lane stays as it was, and has seen fewer values left than the ticket says
+  -- it is not yet this ticket's turn: the ticket comes back, the lane stays as it was, and has seen fewer values left
+  -- than the ticket says
   abbrev pub CameBack : ℕ → ℕ → Standing T → Standing T → Type 0
   CameBack ticket back a b = (back ≡ ticket) × (b ≡ a) × (length a.seen ≤ ticket)
 
   module _ {Part : Type 0} (before : T → T → Type 0) (part : ℕ → T → Part) where
-    -- the guard of a ticket stands at a history with as many values left as the ticket says, which begins with all that its lane had seen. The guard finds the last value of it,
+    -- the guard of a ticket stands at a history with as many values left as the ticket says, which begins with all that
+    -- its lane had seen. The guard finds the last value of it,
     -- which has the lane's own part as the lane left it. Each value of the history comes before the later ones
     pub record Stands (ticket : ℕ) (guard : Held T) (a b : Standing T) : Type 0 where
       pub number : guard.number ≡ ticket
@@ -37,7 +40,8 @@ module _ {T : Type 0} where
 
     -- the lane is inside with one of its tickets; nothing else of it changes but what it has seen
     abbrev pub Served : ℕ → Held T → Standing T → Standing T → Type 0
-    Served ticket guard a b = Stands ticket guard a b × (b ≡ record a { seen = b.seen; tickets = without ticket a.tickets; inside = ticket ∷ [] })
+    Served ticket guard a b = Stands ticket guard a b
+        × (b ≡ record a { seen = b.seen; tickets = without ticket a.tickets; inside = ticket ∷ [] })
 
     -- the lane has drawn the guard's ticket, as `draw` does, and is inside with it
     pub record Entered (guard : Held T) (a b : Standing T) : Type 0 where
@@ -46,12 +50,14 @@ module _ {T : Type 0} where
       pub stands : Stands guard.number guard a b
       pub lane : b ≡ record a { left = a.left - 1; drawn = a.drawn ++ guard.number ∷ []; seen = b.seen; inside = guard.number ∷ [] }
 
-    -- what a lane that is inside may leave: the last value that it has seen, which it found, comes before it, and it has the parts of all other lanes as they were found
+    -- what a lane that is inside may leave: the last value that it has seen, which it found, comes before it, and it
+    -- has the parts of all other lanes as they were found
     pub record MayLeave (a : Standing T) (left : T) : Type 0 where
       pub later : (x : T) → EndsIn a.seen x → before x left
       pub apart : (x : T) → EndsIn a.seen x → (k : ℕ) → k ≢ a.number → part k left ≡ part k x
 
-    -- the lane has seen what it had seen and what the note tells, and what comes first of the two values that it had seen last and has seen last now, comes before;
+    -- the lane has seen what it had seen and what the note tells, and what comes first of the two values that it had
+    -- seen last and has seen last now, comes before;
     -- and what it has seen last comes before a value of the lock that has the lane's own part as the lane left it
     pub record Learned (note : Told T) (a b : Standing T) : Type 0 where
       pub lane : b ≡ record a { seen = longer a.seen note.seen }
@@ -62,7 +68,8 @@ module _ {T : Type 0} where
 
   -- the value has each lane's own part as that lane left it
   abbrev pub KeepsOwn : {Part : Type 0} → (ℕ → T → Part) → List (Standing T) → T → Type 0
-  KeepsOwn part lanes value = (j : ℕ) (y : Standing T) (z : T) → get_elem? lanes j ≡ some y → y.own ≡ z ∷ [] → part y.number value ≡ part y.number z
+  KeepsOwn part lanes value = (j : ℕ) (y : Standing T) (z : T) → get_elem? lanes j ≡ some y → y.own ≡ z ∷ []
+      → part y.number value ≡ part y.number z
 
   -- what each lane has seen last comes before the value
   abbrev pub ComesLast : (T → T → Type 0) → List (Standing T) → T → Type 0
@@ -76,7 +83,8 @@ module _ {T : Type 0} where
   abbrev pub IsWaiting : TableId → ℕ → Standing T → Type 0
   IsWaiting id ticket x = (x.lock ≡ id) × (x.tickets ≡ ticket ∷ []) × (x.inside ≡ [])
 
-  -- the value is the last one of the longest history that a lane has seen, of which the history of each other lane is a beginning; it begins with the opening value, and has one value more than tickets were drawn;
+  -- the value is the last one of the longest history that a lane has seen, of which the history of each other lane is a
+  -- beginning; it begins with the opening value, and has one value more than tickets were drawn;
   -- each ticket below the number of tickets was drawn once by one lane, and no other was
   pub record Closes (opening : T) (lanes : List (Standing T)) (value : T) : Type 0 where
     pub place : ℕ

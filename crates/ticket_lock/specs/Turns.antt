@@ -9,7 +9,8 @@ use Rattle.ticket_lock.specs.Count.{without}
 use Rattle.ticket_lock.specs.History.{EndsIn}
 use Rattle.ticket_lock.specs.Core.{Core}
 
--- the kinds of step that change a hand or look at the count: a draw, a look too early, a look in turn that finds a value, and a pass on of the value left after the value found
+-- the kinds of step that change a hand or look at the count: a draw, a look too early, a look in turn that finds a
+-- value, and a pass on of the value left after the value found
 pub data Kind (T : Type 0) : Type 0 where
   draws : Kind T
   waits : Kind T
@@ -37,18 +38,24 @@ module _ {T : Type 0} where
   Turns (passes x y) log log' h h' = (log' ≡ log ++ y ∷ []) × EndsIn log x × (h.seen ≡ log) × (h' ≡ with_leave y h)
 
   -- the lock's rule, at a place of a table
-  pub record Kept (word slot : ℕ) (log : List T) (words : List ℕ) (homes : List (maybe.Option (Option T))) (hands : List (Hand T)) : Type 0 where
+  pub record Kept (word slot : ℕ) (log : List T) (words : List ℕ) (homes : List (maybe.Option (Option T)))
+      (hands : List (Hand T)) : Type 0 where
     pub room : word + 1 < length words
     pub core : Core (slice_index words word) (slice_index words (word + 1)) log (get_elem? homes slot) hands
 
-module _ {T V : Type 0} (holds : State (Option T) V → Type 0) (see : V → Hand T) (asks : Kind T → V → Type 0) (tells : Kind T → V → V → Type 0) (word slot : ℕ) where
-  -- where a seat takes a step of the lock that keeps the lock's rule, and meets what the step asks, it has a new view with that hand which keeps the table's rule, and of which the step tells
+module _ {T V : Type 0} (holds : State (Option T) V → Type 0) (see : V → Hand T) (asks : Kind T → V → Type 0)
+    (tells : Kind T → V → V → Type 0) (word slot : ℕ) where
+  -- where a seat takes a step of the lock that keeps the lock's rule, and meets what the step asks, it has a new view
+  -- with that hand which keeps the table's rule, and of which the step tells
   abbrev pub Follows : State (Option T) V → List T → ℕ → V → Type 0
   Follows s log id v = (kind : Kind T) (i n : ℕ) (homes : List (maybe.Option (Option T))) (log' : List T) (h : Hand T)
       → (i ≡ word) ⊎ (i ≡ word + 1) → length homes ≡ length s.homes → ((k : ℕ) → k ≢ slot → get_elem? homes k ≡ get_elem? s.homes k)
       → Turns kind log log' (see v) h → Kept word slot log' (slice_set s.words i n) homes (slice_set (map see s.views) id h) → asks kind v
-      → (w : V) × (see w ≡ h) × holds record { words = slice_set s.words i n; homes = homes; views = slice_set s.views id w } × tells kind v w
+      → (w : V) × (see w ≡ h) × holds record { words = slice_set s.words i n; homes = homes; views = slice_set s.views id w }
+      × tells kind v w
 
   -- the lock's rule holds wherever the table's does, and each step of the lock can be taken
   abbrev pub Opens : Type 0
-  Opens = (s : State (Option T) V) → holds s → (log : List T) × Kept word slot log s.words s.homes (map see s.views) × ((id : ℕ) (v : V) → get_elem? s.views id ≡ some v → Follows s log id v)
+  Opens = (s : State (Option T) V) → holds s
+      → (log : List T) × Kept word slot log s.words s.homes (map see s.views)
+      × ((id : ℕ) (v : V) → get_elem? s.views id ≡ some v → Follows s log id v)

@@ -70,9 +70,12 @@ gap_begins w r (comment pass stop) = refl
 -- Where a gap stands, no token does.
 pub token_no_gap : (k : Kind) (v r w s : List ℕ) → v ++ r ≡ w ++ s → IsToken k v r → IsGap w s → ⊥
 token_no_gap k v r w s e (word is stop) gap =
-    apart is_word_byte is_gap_byte word_no_gap (v ++ r) (begins-append _ v r (word_begins k v is)) (subst (λ bs. begins is_gap_byte bs ≡ true) (sym e) (begins-append _ w s (gap_begins w s gap)))
+    apart is_word_byte is_gap_byte word_no_gap (v ++ r) (begins-append _ v r (word_begins k v is))
+    (subst (λ bs. begins is_gap_byte bs ≡ true) (sym e) (begins-append _ w s (gap_begins w s gap)))
 token_no_gap k v r w s e (sign_of is longest) gap =
-    apart is_gap_byte is_sign_byte gap_no_sign (v ++ r) (subst (λ bs. begins is_gap_byte bs ≡ true) (sym e) (begins-append _ w s (gap_begins w s gap))) (begins-append _ v r (sign_begins k v is))
+    apart is_gap_byte is_sign_byte gap_no_sign (v ++ r)
+    (subst (λ bs. begins is_gap_byte bs ≡ true) (sym e) (begins-append _ w s (gap_begins w s gap)))
+    (begins-append _ v r (sign_begins k v is))
 
 -- One gap at most stands at the front.
 pub one_gap : (v r w s : List ℕ) → v ++ r ≡ w ++ s → IsGap v r → IsGap w s → v ≡ w
@@ -99,9 +102,14 @@ one_token j k v r w s e (word is stop) (word also end) =
     let same : v ≡ w = one_run is_word_byte v w r s (word_bytes j v is) (word_bytes k w also) stop end e in
     (one_kind j k w (subst (IsWord j) same is) also, same)
 one_token j k v r w s e (word is stop) (sign_of also longest) =
-    absurd (apart is_word_byte is_sign_byte word_no_sign (v ++ r) (begins-append _ v r (word_begins j v is)) (subst (λ bs. begins is_sign_byte bs ≡ true) (sym e) (begins-append _ w s (sign_begins k w also))))
+    absurd
+    (apart is_word_byte is_sign_byte word_no_sign (v ++ r) (begins-append _ v r (word_begins j v is))
+    (subst (λ bs. begins is_sign_byte bs ≡ true) (sym e) (begins-append _ w s (sign_begins k w also))))
 one_token j k v r w s e (sign_of is longest) (word also end) =
-    absurd (apart is_word_byte is_sign_byte word_no_sign (v ++ r) (subst (λ bs. begins is_word_byte bs ≡ true) (sym e) (begins-append _ w s (word_begins k w also))) (begins-append _ v r (sign_begins j v is)))
+    absurd
+    (apart is_word_byte is_sign_byte word_no_sign (v ++ r)
+    (subst (λ bs. begins is_word_byte bs ≡ true) (sym e) (begins-append _ w s (word_begins k w also)))
+    (begins-append _ v r (sign_begins j v is)))
 one_token j k v r w s e (sign_of is longest) (sign_of also most) =
     let long : length v ≡ length w = omega (arith, longest k w s also e, most j v r is (sym e)) in
     let same : v ≡ w = one_front v w r s long e in

@@ -1,5 +1,6 @@
 -- A text of parts that are apart is cut into their tokens.
-use Rattle.std.proofs.Common.{◌≡◌, ◌≢◌, ℕ, ◌+◌, ◌≤◌, Bool, true, false, not, ◌&&◌, ◌||◌, inl, inr, List, [], ◌∷◌, ◌++◌, length, get_or, refl, sym, ap, subst, ◌∙◌, arith, append_assoc, add-zero, length-append, Some}
+use Rattle.std.proofs.Common.{◌≡◌, ◌≢◌, ℕ, ◌+◌, ◌≤◌, Bool, true, false, not, ◌&&◌, ◌||◌, inl, inr, List, [], ◌∷◌, ◌++◌, length, get_or}
+use Rattle.std.proofs.Common.{refl, sym, ap, subst, ◌∙◌, arith, append_assoc, add-zero, length-append, Some}
 use Rattle.std.specs.Prelude.{option_map, unwrap_or, ◌==◌, nat_lt}
 use Rattle.std.specs.List.{list_all}
 use Rattle.std.specs.Str.{IsAscii}
@@ -12,7 +13,8 @@ use Rattle.tokens.specs.declared.vocabulary.Kind.{Kind}
 use Rattle.tokens.specs.declared.vocabulary.Kind.TheVariants as kind
 use Rattle.tokens.specs.Spelling.{reserved_word, sign, is_word_byte, AreWordBytes, IsWord, reserved, name}
 use Rattle.tokens.specs.Cuts.{Stops, IsLongestSign, IsToken, word, sign_of, blank, Cuts, nothing, gap, token}
-use Rattle.tokens.specs.Parts.{Part, shown, space, line, text_of, tokens_of, is_word, may_grow, begins_equal, IsApart, IsSpelled, AreApart, spelling}
+use Rattle.tokens.specs.Parts.{Part, shown, space, line, text_of, tokens_of, is_word, may_grow, begins_equal, IsApart, IsSpelled, AreApart}
+use Rattle.tokens.specs.Parts.{spelling}
 use Rattle.tokens.proofs.Fronts.{begins, is_sign_byte, is_gap_byte, word_begins, sign_begins}
 
 -- Only words are spelled as words,
@@ -76,7 +78,8 @@ both true false c e f = refl
 both false b c e f = cc
 
 -- After a word comes no word byte.
-word_stops : (k : Kind) (w : List ℕ) (parts : List Part) → IsWord k w → IsApart k parts → AreApart parts → Stops is_word_byte (text_of parts)
+word_stops : (k : Kind) (w : List ℕ) (parts : List Part) → IsWord k w → IsApart k parts → AreApart parts
+    → Stops is_word_byte (text_of parts)
 word_stops k w [] is apart spelled = tt
 word_stops k w (space ∷ parts) is apart spelled = refl
 word_stops k w (line ∷ parts) is apart spelled = refl
@@ -97,7 +100,8 @@ word_no_equal : (b : ℕ) (x : Bool) → is_word_byte b ≡ true → b == 62 || 
 word_no_equal b x e f = grind (arith, nat_tests)
 
 -- What comes next does not make a sign longer.
-never_grows : (k : Kind) (x c : ℕ) (rest : List ℕ) (parts : List Part) → grows_ok k (x ∷ []) ≡ true → c == 62 || (c == 61 && (x == 58 || x == 33)) ≡ true → text_of parts ≡ c ∷ rest → IsApart k parts → AreApart parts → ⊥
+never_grows : (k : Kind) (x c : ℕ) (rest : List ℕ) (parts : List Part) → grows_ok k (x ∷ []) ≡ true
+    → c == 62 || (c == 61 && (x == 58 || x == 33)) ≡ true → text_of parts ≡ c ∷ rest → IsApart k parts → AreApart parts → ⊥
 never_grows k x c rest [] grows long e apart spelled = cc
 never_grows k x c rest (space ∷ parts) grows long e apart spelled =
     let same : 32 ≡ c = cc in
@@ -116,21 +120,27 @@ never_grows k x c rest (shown next v ∷ parts) grows long e apart spelled = by_
     by_text (d ∷ v) (inr also) f =
         let same : d ≡ c = cc in
         let ok : (not (d == 61) || begins_equal next) && not (d == 62) ≡ true = at_sign next_ok next (d ∷ v) (next_ok_all next) also in
-        excluded (c == 62) (c == 61) (x == 58 || x == 33) (may_grow k) (begins_equal next) (is_word k && is_word next) long grows (subst (λ b. (not (b == 61) || begins_equal next) && not (b == 62) ≡ true) same ok) apart
+        excluded (c == 62) (c == 61) (x == 58 || x == 33) (may_grow k) (begins_equal next) (is_word k && is_word next) long grows
+        (subst (λ b. (not (b == 61) || begins_equal next) && not (b == 62) ≡ true) same ok) apart
 
 -- A sign that stands apart is the longest.
-sign_longest : (k : Kind) (w : List ℕ) (parts : List Part) → sign k ≡ Some w → IsApart k parts → AreApart parts → IsLongestSign w (w ++ text_of parts)
+sign_longest : (k : Kind) (w : List ℕ) (parts : List Part) → sign k ≡ Some w → IsApart k parts → AreApart parts
+    → IsLongestSign w (w ++ text_of parts)
 sign_longest k w parts is apart spelled j other rest e cut =
-    by_length w other (at_sign long_ok k w (long_ok_all k) is) (at_sign grows_ok k w (grows_ok_all k) is) (at_sign long_ok j other (long_ok_all j) e) cut
+    by_length w other (at_sign long_ok k w (long_ok_all k) is) (at_sign grows_ok k w (grows_ok_all k) is)
+    (at_sign long_ok j other (long_ok_all j) e) cut
   where
-    by_length : (w other : List ℕ) → long_ok k w ≡ true → grows_ok k w ≡ true → long_ok j other ≡ true → w ++ text_of parts ≡ other ++ rest → length other ≤ length w
+    by_length : (w other : List ℕ) → long_ok k w ≡ true → grows_ok k w ≡ true → long_ok j other ≡ true → w ++ text_of parts ≡ other ++ rest
+        → length other ≤ length w
     by_length w [] some grows long f = omega arith
     by_length [] (b ∷ other) some grows long f = cc
     by_length (x ∷ w) (b ∷ []) some grows long f = omega arith
     by_length (x ∷ []) (b ∷ c ∷ []) some grows long f =
         let same : x ≡ b = cc in
         let next : text_of parts ≡ c ∷ rest = cc in
-        absurd (never_grows k x c rest parts grows (subst (λ v. c == 62 || (c == 61 && (v == 58 || v == 33)) ≡ true) (sym same) long) next apart spelled)
+        absurd
+        (never_grows k x c rest parts grows
+        (subst (λ v. c == 62 || (c == 61 && (v == 58 || v == 33)) ≡ true) (sym same) long) next apart spelled)
     by_length (x ∷ y ∷ w) (b ∷ c ∷ []) some grows long f = omega arith
     by_length (x ∷ w) (b ∷ c ∷ d ∷ other) some grows long f = cc
 
@@ -212,11 +222,13 @@ text_of-append (line ∷ parts) more = ap (λ v. 10 ∷ v) (text_of-append parts
 text_of-append (shown k w ∷ parts) more = ap (λ v. w ++ v) (text_of-append parts more) ∙ sym (append_assoc w (text_of parts) (text_of more))
 
 -- and tokens behind tokens.
-pub tokens_of-append : (at : ℕ) (parts more : List Part) → tokens_of at (parts ++ more) ≡ tokens_of at parts ++ tokens_of (at + length (text_of parts)) more
+pub tokens_of-append : (at : ℕ) (parts more : List Part)
+    → tokens_of at (parts ++ more) ≡ tokens_of at parts ++ tokens_of (at + length (text_of parts)) more
 tokens_of-append at [] more = ap (λ n. tokens_of n more) (sym (add-zero at))
 tokens_of-append at (space ∷ parts) more =
     tokens_of-append (at + 1) parts more ∙ ap (λ n. tokens_of (at + 1) parts ++ tokens_of n more) (omega arith)
 tokens_of-append at (line ∷ parts) more =
     tokens_of-append (at + 1) parts more ∙ ap (λ n. tokens_of (at + 1) parts ++ tokens_of n more) (omega arith)
 tokens_of-append at (shown k w ∷ parts) more =
-    ap (λ ts. record { kind = k; at = at; text = w } ∷ ts) (tokens_of-append (at + length w) parts more ∙ ap (λ n. tokens_of (at + length w) parts ++ tokens_of n more) (omega (arith, length-append w (text_of parts))))
+    ap (λ ts. record { kind = k; at = at; text = w } ∷ ts) (tokens_of-append (at + length w) parts more
+    ∙ ap (λ n. tokens_of (at + length w) parts ++ tokens_of n more) (omega (arith, length-append w (text_of parts))))

@@ -1,5 +1,6 @@
 -- Longest runs: what passes a test, up to what does not.
-use Rattle.std.proofs.Common.{◌≡◌, ℕ, ◌+◌, Bool, true, false, cond, List, [], ◌∷◌, ◌++◌, length, take, drop, refl, sym, ap, subst, ◌∙◌, arith}
+use Rattle.std.proofs.Common.{◌≡◌, ℕ, ◌+◌, Bool, true, false, cond, List, [], ◌∷◌, ◌++◌, length, take, drop, refl, sym, ap, subst, ◌∙◌}
+use Rattle.std.proofs.Common.{arith}
 use Rattle.std.proofs.Math.Numerals.{one-add}
 use Rattle.std.proofs.Math.Seq.{take-append_seam}
 use Rattle.std.specs.List.{AllByRecursion, prefix_len, slice_range}
@@ -7,10 +8,13 @@ use Rattle.std.proofs.lemmas.Grind.{common_steps}
 use Rattle.tokens.specs.Cuts.{Stops}
 
 -- Of what passes and stops there is one way to cut it.
-pub one_run : (test : ℕ → Bool) (v w r s : List ℕ) → AllByRecursion (λ b. test b ≡ true) v → AllByRecursion (λ b. test b ≡ true) w → Stops test r → Stops test s → v ++ r ≡ w ++ s → v ≡ w
+pub one_run : (test : ℕ → Bool) (v w r s : List ℕ) → AllByRecursion (λ b. test b ≡ true) v → AllByRecursion (λ b. test b ≡ true) w
+    → Stops test r → Stops test s → v ++ r ≡ w ++ s → v ≡ w
 one_run test [] [] r s pass also stop end e = refl
-one_run test [] (b ∷ w) r s pass also stop end e = let fails : test b ≡ false = subst (Stops test) e stop in let holds : test b ≡ true = also.0 in cc
-one_run test (b ∷ v) [] r s pass also stop end e = let fails : test b ≡ false = subst (Stops test) (sym e) end in let holds : test b ≡ true = pass.0 in cc
+one_run test [] (b ∷ w) r s pass also stop end e = let fails : test b ≡ false = subst (Stops test) e stop in
+    let holds : test b ≡ true = also.0 in cc
+one_run test (b ∷ v) [] r s pass also stop end e = let fails : test b ≡ false = subst (Stops test) (sym e) end in
+    let holds : test b ≡ true = pass.0 in cc
 one_run test (b ∷ v) (c ∷ w) r s pass also stop end e =
     let rests : v ++ r ≡ w ++ s = cc in
     let same : v ≡ w = one_run test v w r s pass.1 also.1 stop end rests in
@@ -26,7 +30,8 @@ pub run_passes : (test : ℕ → Bool) (bs : List ℕ) → AllByRecursion (λ b.
 run_passes test [] = tt
 run_passes test (b ∷ bs) = by_test (test b) refl (run_passes test bs)
   where
-    by_test : (t : Bool) → test b ≡ t → AllByRecursion (λ b. test b ≡ true) (take (prefix_len test bs) bs) → AllByRecursion (λ b. test b ≡ true) (take (cond t (1 + prefix_len test bs) 0) (b ∷ bs))
+    by_test : (t : Bool) → test b ≡ t → AllByRecursion (λ b. test b ≡ true) (take (prefix_len test bs) bs)
+        → AllByRecursion (λ b. test b ≡ true) (take (cond t (1 + prefix_len test bs) 0) (b ∷ bs))
     by_test true e rest = rw one-add (e, rest)
     by_test false e rest = tt
 
@@ -35,7 +40,8 @@ pub run_stops : (test : ℕ → Bool) (bs : List ℕ) → Stops test (drop (pref
 run_stops test [] = tt
 run_stops test (b ∷ bs) = by_test (test b) refl (run_stops test bs)
   where
-    by_test : (t : Bool) → test b ≡ t → Stops test (drop (prefix_len test bs) bs) → Stops test (drop (cond t (1 + prefix_len test bs) 0) (b ∷ bs))
+    by_test : (t : Bool) → test b ≡ t → Stops test (drop (prefix_len test bs) bs)
+        → Stops test (drop (cond t (1 + prefix_len test bs) 0) (b ∷ bs))
     by_test true e rest = rw one-add rest
     by_test false e rest = e
 

@@ -32,11 +32,14 @@ pub data IsToken : Kind → List ℕ → List ℕ → Type 0 where
   word : {k : Kind} {text rest : List ℕ} → IsWord k text → Stops is_word_byte rest → IsToken k text rest
   sign_of : {k : Kind} {text rest : List ℕ} → sign k ≡ Some text → IsLongestSign text (text ++ rest) → IsToken k text rest
 
--- The bytes from this offset on are cut into these tokens: no bytes into none, a gap and the rest into those of the rest, a token and the rest into it and those of the rest.
+-- The bytes from this offset on are cut into these tokens: no bytes into none, a gap and the rest into those of the
+-- rest, a token and the rest into it and those of the rest.
 pub data Cuts : ℕ → List ℕ → List Tok → Type 0 where
   nothing : {at : ℕ} → Cuts at [] []
-  gap : {at : ℕ} {bytes : List ℕ} {tokens : List Tok} (text rest : List ℕ) → bytes ≡ text ++ rest → IsGap text rest → Cuts (at + length text) rest tokens → Cuts at bytes tokens
-  token : {at : ℕ} {bytes : List ℕ} {tokens : List Tok} (k : Kind) (text rest : List ℕ) → bytes ≡ text ++ rest → IsToken k text rest → Cuts (at + length text) rest tokens → Cuts at bytes (record { kind = k; at = at; text = text } ∷ tokens)
+  gap : {at : ℕ} {bytes : List ℕ} {tokens : List Tok} (text rest : List ℕ) → bytes ≡ text ++ rest → IsGap text rest
+      → Cuts (at + length text) rest tokens → Cuts at bytes tokens
+  token : {at : ℕ} {bytes : List ℕ} {tokens : List Tok} (k : Kind) (text rest : List ℕ) → bytes ≡ text ++ rest → IsToken k text rest
+      → Cuts (at + length text) rest tokens → Cuts at bytes (record { kind = k; at = at; text = text } ∷ tokens)
 
 -- Neither a gap nor a token stands at the front of these bytes, and there are some.
 pub record IsBad (bytes : List ℕ) : Type 0 where
@@ -47,5 +50,7 @@ pub record IsBad (bytes : List ℕ) : Type 0 where
 -- The bytes from this offset on are cut into tokens up to the place of the first that begins neither a gap nor a token.
 pub data BadAt : ℕ → List ℕ → ℕ → Type 0 where
   here : {at : ℕ} {bytes : List ℕ} → IsBad bytes → BadAt at bytes at
-  past_gap : {at place : ℕ} {bytes : List ℕ} (text rest : List ℕ) → bytes ≡ text ++ rest → IsGap text rest → BadAt (at + length text) rest place → BadAt at bytes place
-  past_token : {at place : ℕ} {bytes : List ℕ} (k : Kind) (text rest : List ℕ) → bytes ≡ text ++ rest → IsToken k text rest → BadAt (at + length text) rest place → BadAt at bytes place
+  past_gap : {at place : ℕ} {bytes : List ℕ} (text rest : List ℕ) → bytes ≡ text ++ rest → IsGap text rest
+      → BadAt (at + length text) rest place → BadAt at bytes place
+  past_token : {at place : ℕ} {bytes : List ℕ} (k : Kind) (text rest : List ℕ) → bytes ≡ text ++ rest → IsToken k text rest
+      → BadAt (at + length text) rest place → BadAt at bytes place

@@ -63,7 +63,8 @@ NestsTooDeep tokens = (front rest : List Tok) × (tokens ≡ front ++ rest) × (
 -- Some stretch of tokens, none of which ends a run, has more than 64 operators.
 abbrev pub HasLongRun : List Tok → Type 0
 HasLongRun tokens =
-    (before stretch after : List Tok) × (tokens ≡ before ++ (stretch ++ after)) × AllByRecursion (λ t. ends_run t.kind ≡ false) stretch × (64 < operators stretch)
+    (before stretch after : List Tok) × (tokens ≡ before ++ (stretch ++ after)) × AllByRecursion (λ t. ends_run t.kind ≡ false) stretch
+    × (64 < operators stretch)
 
 -- A text is too deep where its tokens nest too deep or have too long a run.
 abbrev pub TooDeep : List Tok → Type 0

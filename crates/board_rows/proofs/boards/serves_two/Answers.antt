@@ -10,4 +10,5 @@ done-requires-clause-job g c =
 pub done-requires-2-clause-job : goal.done-requires-2-clause-job
 done-requires-2-clause-job g c =
     let j = c.takes-third.result in
-    c.done.ensures.keeps j (λ same. c.takes-third.ensures.fresh c.takes-second.result c.takes-second.ensures.job (sym same)) (c.finds.ensures.keeps j c.takes-third.ensures.job)
+    c.done.ensures.keeps j (λ same. c.takes-third.ensures.fresh c.takes-second.result c.takes-second.ensures.job (sym same))
+    (c.finds.ensures.keeps j c.takes-third.ensures.job)

@@ -5,4 +5,9 @@ use Rattle.board_rows.proofs.held.first.Goals as goal
 pub returns : goal.returns
 returns g c =
     let p = c.post_held-answer.ensures in
-    record { pass = ((post_same _ c.args.pass c.post_held-answer.new.pass c.args.job.now 0 _ c.post_held-answer.result p).0, post_keeps _ c.args.pass c.post_held-answer.new.pass c.args.job.now 0 _ c.post_held-answer.result p c.args.job.now c.requires.job) }
+    record {
+      pass = (
+        (post_same _ c.args.pass c.post_held-answer.new.pass c.args.job.now 0 _ c.post_held-answer.result p).0,
+        post_keeps _ c.args.pass c.post_held-answer.new.pass c.args.job.now 0 _ c.post_held-answer.result p c.args.job.now c.requires.job,
+      );
+    }

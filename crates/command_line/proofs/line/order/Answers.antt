@@ -11,7 +11,8 @@ use Rattle.command_line.proofs.Accepted.{accepted}
 use Rattle.command_line.proofs.line.order.Goals as goal
 
 -- why the words give no order, by the kind of the error
-refuses : (words : List Text) (k : ErrorKind) (why : LineFault) → line.IsOfKind k why → (k ≡ OutOfMemory) ⊎ IsAmong k (fault_of line.bebopk words) → line.Refuses words why
+refuses : (words : List Text) (k : ErrorKind) (why : LineFault) → line.IsOfKind k why
+    → (k ≡ OutOfMemory) ⊎ IsAmong k (fault_of line.bebopk words) → line.Refuses words why
 refuses words k (Help t) h (inl e) = absurd (h.1 e)
 refuses words k (Help t) h (inr m) = (k, m, h.0)
 refuses words k (Refused t) h (inl e) = absurd (h.1 e)
@@ -23,7 +24,8 @@ returns-in-Err-clause-refuses c =
     let words = map string_bytes c.args.words.now in
     let is : app_of c.in-Ok.command ≡ line.bebopk = c.in-Ok.ensures in
     refuses words (kind_of c.in-Err.error) c.fault_of.result c.fault_of.ensures
-    (subst (λ (a : App). (kind_of c.in-Err.error ≡ OutOfMemory) ⊎ IsAmong (kind_of c.in-Err.error) (fault_of a words)) is (c.in-Err.ensures.kinds (ap is_simple_and_free is)))
+    (subst (λ (a : App). (kind_of c.in-Err.error ≡ OutOfMemory) ⊎ IsAmong (kind_of c.in-Err.error) (fault_of a words)) is
+    (c.in-Err.ensures.kinds (ap is_simple_and_free is)))
 
 pub unreachable-requires : goal.unreachable-requires
 unreachable-requires c =

@@ -35,7 +35,8 @@ union-requires g t c κs within =
     let ns = c.loop-left.nodes.kept.keys in
     let some : c.cell_at-mask.result.0.values / 4 ^ c.args.level ≡ 0 → ⊥ = λ is. c.if-rest-eq0.false (c.rest_of-rest.ensures ∙ is) in
     let next = not_last c.cell_at-mask.result.0.values c.args.level (omega arith) c.requires.level some in
-    let child = subst (IsNumber ns) (sym c.turn.ensures) (turn_inside ns c.loop-left.quad c.rest_of-rest.result c.loop-left.invariant.inside) in
+    let child =
+    subst (IsNumber ns) (sym c.turn.ensures) (turn_inside ns c.loop-left.quad c.rest_of-rest.result c.loop-left.invariant.inside) in
     (search rules, (search rules, (next, child)))
 
 pub loop-left-preserved : goal.loop-left-preserved
@@ -55,7 +56,8 @@ loop-left-preserved g t c =
     let is : left ≡ run ++ more = cut.by_index.0 in
     let alike = subst (λ l. (d : Place × ℕ) → Member d l
     → (d.0.values / 4 ^ c.args.level % 4 ≡ rest % 4) × (d.0.values / 4 ^ c.args.level ≡ 0 → ⊥)) (sym cut.front)
-    (all_alike left c.run_of.result c.args.level rest c.cell_at-mask.result c.cell_at-mask.ensures c.rest_of-rest.ensures c.if-rest-eq0.false
+    (all_alike left c.run_of.result c.args.level rest c.cell_at-mask.result c.cell_at-mask.ensures c.rest_of-rest.ensures
+    c.if-rest-eq0.false
     c.run_of.ensures.all) in
     let joins = subst (λ n. Joins run (c.args.level + 1) (points_of ns n) (points_of ms child)) c.turn.ensures u.joins in
     record {
@@ -76,6 +78,9 @@ returns-clause-joins g t c =
     let ms = c.make.new.self.kept.keys in
     of_ok (λ r. (v : ℕ) → points_of ms r v ≡ sees ns c.loop-left.quad v)
     (λ r. Joins c.args.cells.now c.args.level (points_of n0 c.args.number) (points_of ms r)) c.make.result
-    (λ r same v point. all_put c.loop-left.left.now (eqb-true (length c.loop-left.left.now) 0 (sym c.is_empty.ensures ∙ c.loop-left-test.false)) c.args.level v point (points_of ms r v) (sees ns c.loop-left.quad v) (same v)
+    (λ r same v point.
+    all_put c.loop-left.left.now
+    (eqb-true (length c.loop-left.left.now) 0 (sym c.is_empty.ensures ∙ c.loop-left-test.false)) c.args.level v point
+    (points_of ms r v) (sees ns c.loop-left.quad v) (same v)
     _ (c.loop-left.invariant.joins v point))
     c.make.ensures.same

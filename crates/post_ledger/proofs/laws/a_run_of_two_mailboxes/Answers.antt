@@ -29,8 +29,11 @@ half =
 
 whole : IsLawful 2 row
 whole =
-    let g : List (Entry ℕ) = Posted 0 2 10 0 ∷ Taken 0 2 10 ∷ Posted 1 0 11 0 ∷ Posted 1 0 12 0 ∷ Taken 1 0 11 ∷ Taken 1 0 12 ∷ Completed 1 0 ∷ [] in
-    let h : List (Entry ℕ) = Posted 0 2 10 0 ∷ Taken 0 2 10 ∷ Posted 1 0 11 0 ∷ Posted 1 0 12 0 ∷ Taken 1 0 11 ∷ Taken 1 0 12 ∷ Completed 1 0 ∷ Completed 1 1 ∷ [] in
+    let g : List (Entry ℕ) =
+    Posted 0 2 10 0 ∷ Taken 0 2 10 ∷ Posted 1 0 11 0 ∷ Posted 1 0 12 0 ∷ Taken 1 0 11 ∷ Taken 1 0 12 ∷ Completed 1 0 ∷ [] in
+    let h : List (Entry ℕ) =
+    Posted 0 2 10 0 ∷ Taken 0 2 10 ∷ Posted 1 0 11 0 ∷ Posted 1 0 12 0 ∷ Taken 1 0 11 ∷ Taken 1 0 12 ∷ Completed 1 0 ∷ Completed 1 1
+    ∷ [] in
     let law_g = lawful_push 2 beginning (Completed 1 0) half (lit< tt) (lit< tt, absent [] 0 refl) tt in
     let law_h = lawful_push 2 g (Completed 1 1) law_g (lit< tt) (lit< tt, absent (0 ∷ []) 1 refl) tt in
     lawful_push 2 h (Completed 0 0) law_h (lit< tt) (lit< tt, absent [] 0 refl) tt

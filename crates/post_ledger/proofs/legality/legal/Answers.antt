@@ -11,10 +11,15 @@ with_take-taken-requires g c = omega (arith, takes_so_far c.args.history.now c.l
 pub loop-i-preserved : goal.loop-i-preserved
 loop-i-preserved g c =
     let e = c.index-history-i.result in
-    let here : slice_get c.args.history.now c.loop-i.i ≡ Some e = slice_get-get_or c.args.history.now c.loop-i.i e c.loop-i-test.true ∙ ap Some (sym c.index-history-i.is) in (
-      takes_more c.args.history.now c.loop-i.i e here ∙ ap (λ n. n + length (takes (e ∷ []))) c.loop-i.invariant.0 ∙ sym c.with_take-taken.ensures,
+    let here : slice_get c.args.history.now c.loop-i.i ≡ Some e = slice_get-get_or c.args.history.now c.loop-i.i e c.loop-i-test.true
+    ∙ ap Some (sym c.index-history-i.is) in (
+      takes_more c.args.history.now c.loop-i.i e here ∙ ap (λ n. n + length (takes (e ∷ []))) c.loop-i.invariant.0
+          ∙ sym c.with_take-taken.ensures,
       each_more c.args.history.now c.loop-i.i e here (c.if-not-may_follow.ensures.0 refl) c.loop-i.invariant.1,
     )
 
 pub returns : goal.returns
-returns g c = (λ yes i e there. c.loop-i.invariant.1 i e (let inside : _ = slice_get_within c.args.history.now i e there in omega arith) there, λ legal. refl)
+returns g c = (
+  λ yes i e there. c.loop-i.invariant.1 i e (let inside : _ = slice_get_within c.args.history.now i e there in omega arith) there,
+  λ legal. refl,
+)

@@ -5,5 +5,6 @@ use Rattle.summaries.specs.Limits.{most_of}
 
 abbrev pub invariant-loop-globals : goal.invariant-loop-globals
 invariant-loop-globals g l =
-    Grows (Each (IsBehind l.graph l.site) (take l.globals-index l.summaries)) (g.S.PathSet.members l.initial.edges) (g.S.PathSet.members l.edges) l.initial.pending.items l.pending.items
+    Grows (Each (IsBehind l.graph l.site) (take l.globals-index l.summaries)) (g.S.PathSet.members l.initial.edges)
+    (g.S.PathSet.members l.edges) l.initial.pending.items l.pending.items
     × (length (g.S.PathSet.members l.edges) ≤ most_of l.limit)

@@ -5,5 +5,6 @@ use Rattle.summaries.specs.Limits.{most_of}
 
 abbrev pub invariant-loop-site : goal.invariant-loop-site
 invariant-loop-site g l =
-    Grows (Each (λ site. IsBehind l.graph site l.globals) (take l.site-index l.sites)) (g.S.PathSet.members l.initial.edges) (g.S.PathSet.members l.edges) l.initial.pending.items l.pending.items
+    Grows (Each (λ site. IsBehind l.graph site l.globals) (take l.site-index l.sites)) (g.S.PathSet.members l.initial.edges)
+    (g.S.PathSet.members l.edges) l.initial.pending.items l.pending.items
     × (length (g.S.PathSet.members l.edges) ≤ most_of l.limit)

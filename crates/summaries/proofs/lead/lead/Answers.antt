@@ -38,8 +38,13 @@ choices-preserved g c =
     let flow = c.args.flow.now in
     let from = c.args.from in
     let k = c.choices.choice in (
-      both (IsNextBefore k flow from) (IsAt from (next_of flow from.values k)) (IsNextBefore (k + 1) flow from) _ _ _ _ _ _ c.choices.invariant.0
-          (subst (λ next. Grows (IsAt from next) (g.S.PathSet.members c.choices.edges) (g.S.PathSet.members c.reach_next.new.edges) c.choices.pending.items c.reach_next.new.pending.items) c.choose-next.ensures.next c.in_ok-reach_next.ensures.ok)
+      both (IsNextBefore k flow from) (IsAt from (next_of flow from.values k))
+          (IsNextBefore (k + 1) flow from) _ _ _ _ _ _ c.choices.invariant.0
+          (subst
+          (λ next.
+          Grows (IsAt from next) (g.S.PathSet.members c.choices.edges)
+          (g.S.PathSet.members c.reach_next.new.edges) c.choices.pending.items c.reach_next.new.pending.items)
+          c.choose-next.ensures.next c.in_ok-reach_next.ensures.ok)
           (next_more flow from k) (next_so_far flow from k),
       c.in_ok-reach_next.ensures.within,
       omega (arith, c.choose-next.ensures.more.0 c.if-not-more.false),
@@ -54,8 +59,13 @@ returns-then-not-more g c =
     let least = is_last k (last_of flow) c.choose-next.result.1 c.choose-next.ensures.more c.if-not-more.true in
     let grown = grows_as (IsNextBefore (k + 1) flow from) (IsNext flow from) _ _ _ _ (next_all flow from k least most)
     (all_next flow from k least most)
-    (both (IsNextBefore k flow from) (IsAt from (next_of flow from.values k)) (IsNextBefore (k + 1) flow from) _ _ _ _ _ _ c.choices.invariant.0
-    (subst (λ next. Grows (IsAt from next) (g.S.PathSet.members c.choices.edges) (g.S.PathSet.members c.reach_next.new.edges) c.choices.pending.items c.reach_next.new.pending.items) c.choose-next.ensures.next c.in_ok-reach_next.ensures.ok)
+    (both (IsNextBefore k flow from) (IsAt from (next_of flow from.values k))
+    (IsNextBefore (k + 1) flow from) _ _ _ _ _ _ c.choices.invariant.0
+    (subst
+    (λ next.
+    Grows (IsAt from next) (g.S.PathSet.members c.choices.edges)
+    (g.S.PathSet.members c.reach_next.new.edges) c.choices.pending.items c.reach_next.new.pending.items) c.choose-next.ensures.next
+    c.in_ok-reach_next.ensures.ok)
     (next_more flow from k) (next_so_far flow from k)) in record {
       ok = grown;
       only = grown.only;

@@ -6,7 +6,8 @@ use Rattle.summaries.specs.Limits.{most_of}
 
 abbrev pub invariant-choices : goal.invariant-choices
 invariant-choices g l =
-    Grows (IsNextBefore l.choice l.flow l.from) (g.S.PathSet.members l.initial.edges) (g.S.PathSet.members l.edges) l.initial.pending.items l.pending.items
+    Grows (IsNextBefore l.choice l.flow l.from) (g.S.PathSet.members l.initial.edges)
+    (g.S.PathSet.members l.edges) l.initial.pending.items l.pending.items
     × (length (g.S.PathSet.members l.edges) ≤ most_of l.limit)
     × (l.choice ≤ last_of l.flow)
 

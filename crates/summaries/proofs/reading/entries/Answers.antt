@@ -6,7 +6,8 @@ use Rattle.std.proofs.lemmas.List.Elements.{filter_more}
 use Rattle.indexmap.specs.IndexMap.{keys}
 use Rattle.language.specs.Lists.{Member}
 use Rattle.summaries.specs.Under.{under}
-use Rattle.summaries.proofs.Ascending.{has_any, numbers_ascend, nat_eq_flips, still_distinct, same_members, member_filter, distinct_filter, keys_with_values}
+use Rattle.summaries.proofs.Ascending.{has_any, numbers_ascend, nat_eq_flips, still_distinct, same_members, member_filter, distinct_filter}
+use Rattle.summaries.proofs.Ascending.{keys_with_values}
 use Rattle.summaries.proofs.reading.entries.Given.{Over}
 use Rattle.summaries.proofs.reading.entries.Goals as goal
 use Rattle.summaries.proofs.reading.entries.Goals.{then-not-is_empty+in_ok-push, else-not-is_empty, After-sort_unstable}
@@ -25,17 +26,26 @@ loop-entry-preserved g c =
     subst (λ l. c.if-not-is_empty.entries.items ≡ filter p (take (i + 1) l)) same
     (elim c.if-not-is_empty.branch [
       | then-not-is_empty+in_ok-push w ↦
-          ap (λ v. v.items) w.entries-is ∙ w.in_ok-push.ensures.items ∙ ap (λ l. l ++ x ∷ []) so_far ∙ sym (more ∙ ap (λ b. filter p (take i items) ++ cond (not b) (x ∷ []) []) w.if-not-is_empty.true)
+          ap (λ v. v.items) w.entries-is ∙ w.in_ok-push.ensures.items ∙ ap (λ l. l ++ x ∷ []) so_far
+          ∙ sym (more ∙ ap (λ b. filter p (take i items) ++ cond (not b) (x ∷ []) []) w.if-not-is_empty.true)
       | else-not-is_empty w ↦
-          ap (λ v. v.items) w.entries-is ∙ so_far ∙ sym (more ∙ ap (λ b. filter p (take i items) ++ cond (not b) (x ∷ []) []) w.if-not-is_empty.false ∙ append-nil (filter p (take i items)))
+          ap (λ v. v.items) w.entries-is ∙ so_far
+          ∙ sym
+          (more ∙ ap (λ b. filter p (take i items) ++ cond (not b) (x ∷ []) []) w.if-not-is_empty.false
+          ∙ append-nil (filter p (take i items)))
     ])
 
 -- the entries are the keys that have callers
-all_keys : (g : Over) (c : After-sort_unstable g) → c.loop-entry.entries.items ≡ filter (λ a. has_any (under nat_eq c.args.callers.now.by_key a)) (keys c.args.callers.now.by_key)
+all_keys : (g : Over) (c : After-sort_unstable g)
+    → c.loop-entry.entries.items ≡ filter (λ a. has_any (under nat_eq c.args.callers.now.by_key a)) (keys c.args.callers.now.by_key)
 all_keys g c =
-    let same : c.as_slice-entry-items.result.now ≡ keys c.args.callers.now.by_key = c.as_slice-entry-items.ensures ∙ c.keys-keys.ensures.rest in
-    let past : length (keys c.args.callers.now.by_key) ≤ c.loop-entry.entry-index = omega (arith, c.loop-entry-test.false, ap length same) in
-    c.loop-entry.invariant ∙ ap (filter (λ a. has_any (under nat_eq c.args.callers.now.by_key a))) (take_all c.loop-entry.entry-index (keys c.args.callers.now.by_key) past)
+    let same : c.as_slice-entry-items.result.now ≡ keys c.args.callers.now.by_key = c.as_slice-entry-items.ensures
+    ∙ c.keys-keys.ensures.rest in
+    let past : length (keys c.args.callers.now.by_key) ≤ c.loop-entry.entry-index =
+    omega (arith, c.loop-entry-test.false, ap length same) in
+    c.loop-entry.invariant
+    ∙ ap (filter (λ a. has_any (under nat_eq c.args.callers.now.by_key a)))
+    (take_all c.loop-entry.entry-index (keys c.args.callers.now.by_key) past)
 
 pub returns-clause-ascend : goal.returns-clause-ascend
 returns-clause-ascend g c =
@@ -43,7 +53,8 @@ returns-clause-ascend g c =
     let passes : ℕ → Bool = λ a. has_any (under nat_eq c.args.callers.now.by_key a) in
     let once = distinct_filter nat_eq passes (keys c.args.callers.now.by_key) c.keys-keys.ensures.unique in
     numbers_ascend c.sort_unstable.new.self.items c.sort_unstable.ensures.sorted
-    (still_distinct nat_eq nat_eq_flips c.loop-entry.entries.items c.sort_unstable.new.self.items c.sort_unstable.ensures.permutation (subst (IsDistinct nat_eq) (sym (all_keys g a)) once))
+    (still_distinct nat_eq nat_eq_flips c.loop-entry.entries.items c.sort_unstable.new.self.items c.sort_unstable.ensures.permutation
+    (subst (IsDistinct nat_eq) (sym (all_keys g a)) once))
 
 pub returns-clause-entries : goal.returns-clause-entries
 returns-clause-entries g c = λ a.

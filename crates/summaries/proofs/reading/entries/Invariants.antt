@@ -7,4 +7,5 @@ use Rattle.summaries.proofs.Ascending.{has_any}
 use Rattle.summaries.proofs.reading.entries.Given as goal
 
 abbrev pub invariant-loop-entry : goal.invariant-loop-entry
-invariant-loop-entry g l = l.entries.items ≡ filter (λ a. has_any (under nat_eq l.fn.callers.by_key a)) (take l.entry-index (keys l.fn.callers.by_key))
+invariant-loop-entry g l =
+    l.entries.items ≡ filter (λ a. has_any (under nat_eq l.fn.callers.by_key a)) (take l.entry-index (keys l.fn.callers.by_key))

@@ -8,7 +8,9 @@ use Rattle.summaries.proofs.reading.pairs.Goals as goal
 pub returns-clause-ascend : goal.returns-clause-ascend
 returns-clause-ascend g c =
     let same = c.in_ok-pairs.ensures.items ∙ c.as_slice.ensures.keys in
-    let once = still_distinct pair_eq pair_eq_flips c.in_ok-pairs.pairs.items c.sort_unstable.new.self.items c.sort_unstable.ensures.permutation (subst (IsDistinct pair_eq) (sym same) c.as_slice.ensures.unique) in
+    let once =
+    still_distinct pair_eq pair_eq_flips c.in_ok-pairs.pairs.items c.sort_unstable.new.self.items c.sort_unstable.ensures.permutation
+    (subst (IsDistinct pair_eq) (sym same) c.as_slice.ensures.unique) in
     pairs_ascend c.sort_unstable.new.self.items c.sort_unstable.ensures.sorted once
 
 pub returns-clause-pairs : goal.returns-clause-pairs

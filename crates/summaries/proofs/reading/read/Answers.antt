@@ -14,7 +14,8 @@ loop-table-preserved g c =
     let tables = c.args.tables.now in
     let invariant = c.loop-table.invariant in
     let table = c.table-item.result in
-    let is : slice_get tables c.loop-table.table-index ≡ Some table = slice_get_read tables _ c.loop-table.table-index table refl c.loop-table-test.true c.table-item.is in
+    let is : slice_get tables c.loop-table.table-index ≡ Some table =
+    slice_get_read tables _ c.loop-table.table-index table refl c.loop-table-test.true c.table-item.is in
     let new : Effect = record { entries = c.in_ok-entries.field-0.items; pairs = c.in_ok-pairs.field-0.items } in
     let read : IsReadOff table new = record {
       ascend = c.in_ok-entries.ensures.ascend;
@@ -28,6 +29,8 @@ loop-table-preserved g c =
           each_pushed (λ n (u : Effect). (v : Table g.row.G.Denot g.row.A.Denot g.row.S.Denot) →
           slice_get tables n ≡ Some v → IsReadOff v u) before new
           (λ n u is_u v is_v. invariant.read n v u is_v is_u)
-          (λ v is_v. subst (λ (w : Table g.row.G.Denot g.row.A.Denot g.row.S.Denot). IsReadOff w new) (same_Some table v (sym is ∙ ap (slice_get tables) (sym invariant.count) ∙ is_v)) read)
+          (λ v is_v.
+          subst (λ (w : Table g.row.G.Denot g.row.A.Denot g.row.S.Denot). IsReadOff w new)
+          (same_Some table v (sym is ∙ ap (slice_get tables) (sym invariant.count) ∙ is_v)) read)
           q s (subst (λ l. slice_get l q ≡ Some s) pushed is_s) t is_t;
     }

@@ -12,5 +12,6 @@ invariant-loop-procedure g l = record {
   numbered : (q : ℕ) (t : Table g.row.G.Denot g.row.A.Denot g.row.S.Denot) → slice_get l.tables.items q ≡ Some t → t.procedure ≡ q;
   limits : (q : ℕ) (t : Table g.row.G.Denot g.row.A.Denot g.row.S.Denot) → slice_get l.tables.items q ≡ Some t →
       most_of t.limit ≡ most_of l.fn.limit;
-  graphs : (q : ℕ) (t : Table g.row.G.Denot g.row.A.Denot g.row.S.Denot) → slice_get l.tables.items q ≡ Some t → slice_get l.fn.graphs.graphs.items q ≡ Some t.graph.now;
+  graphs : (q : ℕ) (t : Table g.row.G.Denot g.row.A.Denot g.row.S.Denot) → slice_get l.tables.items q ≡ Some t
+      → slice_get l.fn.graphs.graphs.items q ≡ Some t.graph.now;
 }

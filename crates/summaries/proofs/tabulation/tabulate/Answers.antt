@@ -11,8 +11,17 @@ use Rattle.summaries.specs.Limits.{most_of}
 
 pub run-requires : goal.run-requires
 run-requires g c κs within =
-    let new = c.in_ok-tables.ensures in
-    (within.0, (within.1.0, (within.1.1, new_tables g.S.PathSet.members g.program c.in_ok-tables.tables.items (subst (AreDrawnFrom g.program) (sym new.graphs) c.requires.1.1.1) new.new)))
+    let new = c.in_ok-tables.ensures in (
+      within.0,
+      (
+        within.1.0,
+        (
+          within.1.1,
+          new_tables g.S.PathSet.members g.program c.in_ok-tables.tables.items
+              (subst (AreDrawnFrom g.program) (sym new.graphs) c.requires.1.1.1) new.new,
+        ),
+      ),
+    )
 
 pub returns-in_err-run-clause-limit : goal.returns-in_err-run-clause-limit
 returns-in_err-run-clause-limit g c = λ e.

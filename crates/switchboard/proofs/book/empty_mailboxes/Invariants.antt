@@ -4,4 +4,5 @@ use Rattle.post_ledger.specs.declared.event.Event.{Event}
 use Rattle.switchboard.proofs.book.empty_mailboxes.Given as goal
 
 abbrev pub invariant-loop-number : goal.invariant-loop-number
-invariant-loop-number g l = (length l.mailboxes.items ≡ l.number) × (l.boxes ≤ vec_capacity l.mailboxes) × ((q : ℕ) (h : List (Event _)) → slice_get l.mailboxes.items q ≡ Some h → h ≡ [])
+invariant-loop-number g l = (length l.mailboxes.items ≡ l.number) × (l.boxes ≤ vec_capacity l.mailboxes)
+    × ((q : ℕ) (h : List (Event _)) → slice_get l.mailboxes.items q ≡ Some h → h ≡ [])

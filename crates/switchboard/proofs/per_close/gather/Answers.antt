@@ -22,14 +22,18 @@ pub take_in-requires-clause-table : goal.take_in-requires-clause-table
 take_in-requires-clause-table g c =
     let now = c.loop-pass.invariant in
     let are = now.1.1 ∙ ap (λ l. l ++ now.1.0) c.in-Some-pop.ensures.items in
-    let of = pass_of g.M.Mail.fits c.args.shared.now.table_id c.args.shared.now.key.boxes c.args.passes.now.items c.pop-in-loop-pass.new.self.items now.1.0 c.in-Some-pop.pass are c.requires.all in
+    let of =
+    pass_of g.M.Mail.fits c.args.shared.now.table_id c.args.shared.now.key.boxes c.args.passes.now.items
+    c.pop-in-loop-pass.new.self.items now.1.0 c.in-Some-pop.pass are c.requires.all in
     (now.0, ap (λ z. z.board) c.into_seat.ensures.1 ∙ of.0, omega (arith, c.requires.table.0.0))
 
 pub take_in-requires-clause-theirs : goal.take_in-requires-clause-theirs
 take_in-requires-clause-theirs g c = λ q near.
     let now = c.loop-pass.invariant in
     let are = now.1.1 ∙ ap (λ l. l ++ now.1.0) c.in-Some-pop.ensures.items in
-    let of = pass_of g.M.Mail.fits c.args.shared.now.table_id c.args.shared.now.key.boxes c.args.passes.now.items c.pop-in-loop-pass.new.self.items now.1.0 c.in-Some-pop.pass are c.requires.all in
+    let of =
+    pass_of g.M.Mail.fits c.args.shared.now.table_id c.args.shared.now.key.boxes c.args.passes.now.items
+    c.pop-in-loop-pass.new.self.items now.1.0 c.in-Some-pop.pass are c.requires.all in
     (c.into_seat.ensures.0.hands q (omega (arith, near, of.1))).inside
 
 pub loop-pass-preserved : goal.loop-pass-preserved
@@ -44,5 +48,9 @@ loop-pass-preserved g c =
     let items = c.in-Some-pop.ensures.items in
     let are = now.1.1 ∙ ap (λ l. l ++ rest) items in
     let of = pass_of F c.args.shared.now.table_id boxes all front rest s are c.requires.all in
-    let so_far = subst (λ l. Gathered boxes all (length l) c.loop-pass.seat.me) items now.2 in
-    (c.take_in.ensures.0.0 ∙ now.0, (s ∷ rest, are ∙ append_assoc front (s ∷ []) rest), gathered_more F boxes all front rest s are _ c.loop-pass.seat.me c.into_seat.result.me c.take_in.new.seat.me so_far c.into_seat.ensures of.1 c.take_in.ensures.1)
+    let so_far = subst (λ l. Gathered boxes all (length l) c.loop-pass.seat.me) items now.2 in (
+      c.take_in.ensures.0.0 ∙ now.0,
+      (s ∷ rest, are ∙ append_assoc front (s ∷ []) rest),
+      gathered_more F boxes all front rest s are _ c.loop-pass.seat.me c.into_seat.result.me c.take_in.new.seat.me so_far
+          c.into_seat.ensures of.1 c.take_in.ensures.1,
+    )

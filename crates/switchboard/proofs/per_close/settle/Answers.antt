@@ -1,5 +1,6 @@
 -- Each mailbox that is taken out is the order's part.
-use Rattle.std.proofs.Common.{◌≡◌, ◌≢◌, ℕ, ◌+◌, ◌<◌, ◌≤◌, Some, None, false, length, slice_get, inl, inr, sym, ap, subst, ◌∙◌, arith, get_or-set_other, get_or-set_same}
+use Rattle.std.proofs.Common.{◌≡◌, ◌≢◌, ℕ, ◌+◌, ◌<◌, ◌≤◌, Some, None, false, length, slice_get, inl, inr, sym, ap, subst, ◌∙◌, arith}
+use Rattle.std.proofs.Common.{get_or-set_other, get_or-set_same}
 use Rattle.std.proofs.lemmas.List.{length_push}
 use Rattle.std.proofs.lemmas.Bool.{cases_eq}
 use Rattle.std.proofs.lemmas.Option.{slice_get_within}
@@ -16,7 +17,8 @@ loop-slot-init g c =
     let w = c.requires.whole in
     let room = c.requires.room in
     let none = ap length room.0 in (
-      rests g.M.Mail.fits c.args.table.shared.key c.args.seat.id c.word-word.result c.args.seat.me.0 _ _ w.0 w.1 w.2 v.2 c.word-word.ensures,
+      rests g.M.Mail.fits c.args.table.shared.key c.args.seat.id c.word-word.result c.args.seat.me.0 _ _ w.0 w.1 w.2 v.2
+          c.word-word.ensures,
       c.close_with-closed.ensures.counts.1 ∙ c.requires.table.1.1,
       v.1,
       (λ k lt. absurd (omega arith)),
@@ -28,7 +30,9 @@ loop-slot-init g c =
 pub take-requires : goal.take-requires
 take-requires g c =
     let now = c.loop-slot.invariant in
-    let short : c.loop-slot.slot < _ = omega (arith, c.loop-slot-test.true, c.slot_count-slot-end.ensures, c.close_with-closed.ensures.counts.1, c.requires.table.1.1, now.1) in
+    let short : c.loop-slot.slot < _ =
+    omega
+    (arith, c.loop-slot-test.true, c.slot_count-slot-end.ensures, c.close_with-closed.ensures.counts.1, c.requires.table.1.1, now.1) in
     (short, now.2 c.loop-slot.slot (omega arith) short)
 
 pub unreachable-requires : goal.unreachable-requires
@@ -36,7 +40,8 @@ unreachable-requires g c =
     let now = c.loop-slot.invariant in
     let r = now.0 in
     let q = c.loop-slot.slot in
-    let short : q < c.args.table.shared.key.boxes = omega (arith, c.loop-slot-test.true, c.slot_count-slot-end.ensures, c.close_with-closed.ensures.counts.1, c.requires.table.1.1) in
+    let short : q < c.args.table.shared.key.boxes =
+    omega (arith, c.loop-slot-test.true, c.slot_count-slot-end.ensures, c.close_with-closed.ensures.counts.1, c.requires.table.1.1) in
     c.in_default.not-Some _ (sym (some-injective (Some _) c.take.result (sym (r.at q short) ∙ c.take.ensures.value)))
 
 pub loop-slot-preserved : goal.loop-slot-preserved
@@ -47,13 +52,17 @@ loop-slot-preserved g c =
     let others = c.take.ensures.others in
     let p = c.push_reserved.ensures.items in
     let room = c.loop-slot.room.items in
-    let short : q < c.args.table.shared.key.boxes = omega (arith, c.loop-slot-test.true, c.slot_count-slot-end.ensures, c.close_with-closed.ensures.counts.1, c.requires.table.1.1) in
+    let short : q < c.args.table.shared.key.boxes =
+    omega (arith, c.loop-slot-test.true, c.slot_count-slot-end.ensures, c.close_with-closed.ensures.counts.1, c.requires.table.1.1) in
     let count = slots_counts old in (
       subst (λ l. Rests g.M.Mail.fits c.args.table.shared.key c.args.seat.me.0 c.word-word.result l) (sym others.0) now.0,
       others.2 ∙ now.1,
-      (λ k lo hi. ap (λ l. Rattle.std.proofs.Common.get_or l k false) others.1 ∙ (get_or-set_other (slots_filled old) q k false false (λ e. omega arith) ∙ now.2 k (omega arith) (omega (arith, others.2)))),
+      (λ k lo hi. ap (λ l. Rattle.std.proofs.Common.get_or l k false) others.1
+          ∙ (get_or-set_other (slots_filled old) q k false false (λ e. omega arith) ∙ now.2 k (omega arith) (omega (arith, others.2)))),
       (λ k lt. ap (λ l. Rattle.std.proofs.Common.get_or l k false) others.1 ∙ elim (cases_eq k q) [
-        | inl e ↦ ap (λ j. Rattle.std.proofs.Common.get_or (Rattle.std.proofs.Common.set (slots_filled old) q false) j false) e ∙ get_or-set_same (slots_filled old) q false false (omega (arith, count.1, now.1))
+        | inl e ↦
+            ap (λ j. Rattle.std.proofs.Common.get_or (Rattle.std.proofs.Common.set (slots_filled old) q false) j false) e
+            ∙ get_or-set_same (slots_filled old) q false false (omega (arith, count.1, now.1))
         | inr ne ↦ get_or-set_other (slots_filled old) q k false false ne ∙ now.3 k (omega arith)
       ]),
       omega (arith, ap length p, length_push room c.in-Some.mailbox, now.4),
@@ -68,4 +77,12 @@ pub returns : goal.returns
 returns g c =
     let now = c.loop-slot.invariant in
     ends_is g.M.Mail.fits c.args.table.shared.key c.args.seat.me.0 c.word-word.result _ now.0 c.loop-slot.room.items
-    (omega (arith, now.4, c.loop-slot-test.false, c.loop-slot.auto.slot-end, c.slot_count-slot-end.ensures, c.close_with-closed.ensures.counts.1, c.requires.table.1.1)) now.6
+    (omega (
+      arith,
+      now.4,
+      c.loop-slot-test.false,
+      c.loop-slot.auto.slot-end,
+      c.slot_count-slot-end.ensures,
+      c.close_with-closed.ensures.counts.1,
+      c.requires.table.1.1,
+    )) now.6

@@ -14,4 +14,5 @@ invariant-loop-slot g l =
     × ((k : ℕ) → k < l.slot → get_or (slots_filled l.closed.slots) k false ≡ false)
     × (length l.room.items ≡ l.slot)
     × (l.fn.table.shared.key.boxes ≤ vec_capacity l.room)
-    × ((q : ℕ) (h : List (Event g.row.M.Denot)) → slice_get l.room.items q ≡ Some h → get_elem? (slots_items l.closed.slots) q ≡ some (Some h))
+    × ((q : ℕ) (h : List (Event g.row.M.Denot)) → slice_get l.room.items q ≡ Some h
+    → get_elem? (slots_items l.closed.slots) q ≡ some (Some h))

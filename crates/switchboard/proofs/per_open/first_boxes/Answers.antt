@@ -14,6 +14,8 @@ loop-number-preserved g c =
       omega (arith, c.push_reserved.ensures.capacity, c.loop-number.invariant.1),
       (λ q h at. elim (at_push_cases items (Some c.in_ok-mailbox.mailbox) h q (sym (ap (λ l. slice_get l q) p) ∙ at)) [
         | inl old ↦ c.loop-number.invariant.2 q h old
-        | inr last ↦ subst (λ k. h ≡ Some (part k (Posted c.args.to c.args.boxes c.args.first 0 ∷ []))) (sym (last.0 ∙ c.loop-number.invariant.0)) (sym last.1 ∙ ap Some c.in_ok-mailbox.ensures)
+        | inr last ↦
+            subst (λ k. h ≡ Some (part k (Posted c.args.to c.args.boxes c.args.first 0 ∷ []))) (sym (last.0 ∙ c.loop-number.invariant.0))
+            (sym last.1 ∙ ap Some c.in_ok-mailbox.ensures)
       ]),
     )

@@ -7,4 +7,5 @@ use Rattle.switchboard.proofs.per_open.first_boxes.Given as goal
 abbrev pub invariant-loop-number : goal.invariant-loop-number
 invariant-loop-number g l =
     (length l.slots.items ≡ l.number) × (l.boxes ≤ vec_capacity l.slots)
-    × ((q : ℕ) (h : Option (List (Event g.row.M.Denot))) → slice_get l.slots.items q ≡ Some h → h ≡ Some (part q (Posted l.to l.boxes l.first 0 ∷ [])))
+    × ((q : ℕ) (h : Option (List (Event g.row.M.Denot))) → slice_get l.slots.items q ≡ Some h
+    → h ≡ Some (part q (Posted l.to l.boxes l.first 0 ∷ [])))

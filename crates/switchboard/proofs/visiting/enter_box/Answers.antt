@@ -10,5 +10,8 @@ returns g c =
     let m = c.args.seat.now.me in
     let w = c.enter_at-mailbox.new.seat.me in
     let x = c.enter_at-mailbox.result.1 in
-    let same = c.from.ensures in
-    (did.0, subst (λ q. IsInside g.M.Mail.fits q x m w) same (inside_is g.M.Mail.fits c.from.result _ x m w (subst (λ q. IsReady (hand_at q m.0)) (sym same) c.requires.ready) did.1))
+    let same = c.from.ensures in (
+      did.0,
+      subst (λ q. IsInside g.M.Mail.fits q x m w) same
+          (inside_is g.M.Mail.fits c.from.result _ x m w (subst (λ q. IsReady (hand_at q m.0)) (sym same) c.requires.ready) did.1),
+    )

@@ -8,14 +8,23 @@ pub unreachable-requires : goal.unreachable-requires
 unreachable-requires g c =
     let L = g.T.LaneLaw in
     let key = c.args.board.shared.key in
-    let r = closes L.before L.part key.value.value key.lanes c.args.seat.id c.args.seat.me.0 _ _ c.requires.whole c.close_with-closed.ensures.values.2 in
+    let r =
+    closes L.before L.part key.value.value key.lanes c.args.seat.id c.args.seat.me.0 _ _ c.requires.whole
+    c.close_with-closed.ensures.values.2 in
     c.in_default.not-Some r.0 (sym (some-injective (Some r.0) c.take-last.result (sym r.1 ∙ c.take-last.ensures.value)))
 
 pub returns : goal.returns
 returns g c =
     let L = g.T.LaneLaw in
     let key = c.args.board.shared.key in
-    let r = closes L.before L.part key.value.value key.lanes c.args.seat.id c.args.seat.me.0 _ _ c.requires.whole c.close_with-closed.ensures.values.2 in
-    let e : Some r.0 ≡ Some c.in-Some.value = some-injective (Some r.0) c.take-last.result (sym r.1 ∙ c.take-last.ensures.value) ∙ c.in-Some.is in
+    let r =
+    closes L.before L.part key.value.value key.lanes c.args.seat.id c.args.seat.me.0 _ _ c.requires.whole
+    c.close_with-closed.ensures.values.2 in
+    let e : Some r.0 ≡ Some c.in-Some.value = some-injective (Some r.0) c.take-last.result (sym r.1 ∙ c.take-last.ensures.value)
+    ∙ c.in-Some.is in
     let same : r.0 ≡ c.in-Some.value = cc in
-    record { rests = subst (λ x. Rests key.value.value c.args.seat.me.0 x) same r.2; parts = subst (λ x. KeepsParts L.part c.args.seat.me.0 x) same r.3; rises = r.4 }
+    record {
+      rests = subst (λ x. Rests key.value.value c.args.seat.me.0 x) same r.2;
+      parts = subst (λ x. KeepsParts L.part c.args.seat.me.0 x) same r.3;
+      rises = r.4;
+    }

@@ -8,4 +8,5 @@ pub returns : goal.returns
 returns g c = λ key word slot s place ok.
     let o = g.met.P.LockRule.opens key word slot place s ok in
     let see = g.P.LockRule.see slot in
-    subst (λ (n : ℕ). n ≤ 1) (total-map see (λ h. length h.inside) s.views) (at_most_one (get_or s.words word 0) (get_or s.words (word + 1) 0) o.0 (get_elem? s.homes slot) (map see s.views) o.1.core)
+    subst (λ (n : ℕ). n ≤ 1) (total-map see (λ h. length h.inside) s.views)
+    (at_most_one (get_or s.words word 0) (get_or s.words (word + 1) 0) o.0 (get_elem? s.homes slot) (map see s.views) o.1.core)

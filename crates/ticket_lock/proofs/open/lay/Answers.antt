@@ -10,4 +10,5 @@ new-requires g c =
     let x = c.of.result.value in
     let lanes = c.from.result in
     let items = c.in_ok-slots.ensures.ok ∙ ap (λ z. Some z ∷ []) (sym c.of.ensures) in
-    subst (λ l. Lone L.before L.part x lanes (opening (0 ∷ 0 ∷ []) l (new_view (x ∷ []) (lanes_from 0 lanes x)))) (sym items) (opens L.before L.part L.reflexive x lanes (omega arith) (omega arith))
+    subst (λ l. Lone L.before L.part x lanes (opening (0 ∷ 0 ∷ []) l (new_view (x ∷ []) (lanes_from 0 lanes x)))) (sym items)
+    (opens L.before L.part L.reflexive x lanes (omega arith) (omega arith))

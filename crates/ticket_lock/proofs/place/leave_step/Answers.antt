@@ -15,6 +15,10 @@ fetch_add-requires g c =
     let inside = c.requires.inside in (
       x.0 ∙ t.0,
       omega arith,
-      passes_allowed (g.P.TableRule.holds c.args.shared.now.key) (P.see slot) (P.asks slot) (P.tells slot) c.args.word slot (g.met.P.LockRule.opens c.args.shared.now.key c.args.word slot t.2) _ _ me c.args.value inside.0
-          (t.1.2) (holds_it _ _ _ _ _ is (sym t.3)) (subst (λ v. (P.see slot v).inside ≡ inside.0 ∷ _) (sym first) inside.1) (subst (λ v. (y : _) → Rattle.ticket_lock.specs.History.EndsIn (P.see slot v).seen y → P.asks slot (Rattle.ticket_lock.specs.Turns.passes y c.args.value) v) (sym first) c.requires.asks),
+      passes_allowed (g.P.TableRule.holds c.args.shared.now.key) (P.see slot) (P.asks slot) (P.tells slot) c.args.word slot
+          (g.met.P.LockRule.opens c.args.shared.now.key c.args.word slot t.2) _ _ me c.args.value inside.0
+          (t.1.2) (holds_it _ _ _ _ _ is (sym t.3)) (subst (λ v. (P.see slot v).inside ≡ inside.0 ∷ _) (sym first) inside.1)
+          (subst
+          (λ v. (y : _) → Rattle.ticket_lock.specs.History.EndsIn (P.see slot v).seen y
+          → P.asks slot (Rattle.ticket_lock.specs.Turns.passes y c.args.value) v) (sym first) c.requires.asks),
     )

@@ -39,7 +39,8 @@ module _ (g : given.Over) (c : In_ok-added g) where
 pub invariant_of-self-then-added : goal.invariant_of-self-then-added
 invariant_of-self-then-added g c =
     let i = (goal.at.invariant_of-self-then-added g c).In_ok-added in
-    let more = longer _ _ (x g i) _ (old g i) (new g i) _ (fits g i) c.place_of-bit.ensures.edge (here g i) (puts g i true c.if-added.true) in
+    let more =
+    longer _ _ (x g i) _ (old g i) (new g i) _ (fits g i) c.place_of-bit.ensures.edge (here g i) (puts g i true c.if-added.true) in
     record {
       unique = c.put.ensures.unique;
       covers = c.put.ensures.covers;

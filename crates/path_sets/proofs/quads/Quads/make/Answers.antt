@@ -14,7 +14,9 @@ invariant_of-self g c =
     let new = c.index_of.new.kept.keys in
     record {
       down = quads_down ns s.down x c.requires new c.index_of.ensures.grown;
-      reduced = quads_reduced ns x (λ is. true≢false (sym (quad_self x nothing is) ∙ sym c.eq.ensures ∙ c.if-eq.false)) s.reduced new c.index_of.ensures.grown;
+      reduced =
+          quads_reduced ns x
+          (λ is. true≢false (sym (quad_self x nothing is) ∙ sym c.eq.ensures ∙ c.if-eq.false)) s.reduced new c.index_of.ensures.grown;
       once = still_once x ns s.once new c.index_of.ensures.grown;
     }
 

@@ -18,7 +18,8 @@ main_is g c = ap (λ (e : Effects). slice_get e.procedures 0) (sym c.self.view_i
     ap (λ l. slice_get l 0) (sym c.as_slice.ensures.value) ∙ sym c.in-Some.ensures.value
 
 pub returns-then-has_bit : goal.returns-then-has_bit
-returns-then-has_bit g c = (λ _. (c.in-Some.main.now, main_is g (goal.at.returns-then-has_bit g c).In-Some, (x.a, x.b, member, bit)), λ _. refl)
+returns-then-has_bit g c =
+    (λ _. (c.in-Some.main.now, main_is g (goal.at.returns-then-has_bit g c).In-Some, (x.a, x.b, member, bit)), λ _. refl)
   where
     x : Pair
     x = get_or c.deref-pair-items.result.now c.loop-pair.pair-index (pair 0 0)
@@ -38,7 +39,9 @@ loop-pair-preserved g c = λ q x below is bit.
     elim (eq-or-lt_of_le (let within : q ≤ c.loop-pair.pair-index = omega (arith, below) in within)) [
       | inr before ↦ c.loop-pair.invariant q x before is bit
       | inl now ↦
-          let here : get_or c.deref-pair-items.result.now c.loop-pair.pair-index (pair 0 0) ≡ x = get_or_from_slice_get c.deref-pair-items.result.now c.loop-pair.pair-index x (pair 0 0) (ap (slice_get c.deref-pair-items.result.now) (sym now) ∙ is) in
+          let here : get_or c.deref-pair-items.result.now c.loop-pair.pair-index (pair 0 0) ≡ x =
+          get_or_from_slice_get c.deref-pair-items.result.now c.loop-pair.pair-index x (pair 0 0)
+          (ap (slice_get c.deref-pair-items.result.now) (sym now) ∙ is) in
           true≢false (sym bit ∙ ap (λ (y : Pair). bit_of y.b c.args.self.now.bad) (sym here)
           ∙ ap (λ (e : Effects). bit_of (get_or c.deref-pair-items.result.now c.loop-pair.pair-index (pair 0 0)).b
           e.bad) (sym c.self.view_is) ∙ sym c.has_bit.ensures ∙ c.if-has_bit.false)

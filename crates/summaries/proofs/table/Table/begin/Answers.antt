@@ -102,8 +102,11 @@ returns-clause-worked g c =
     let a = c.args.a in
     let es = g.S.PathSet.members self.edges in
     let ds = g.S.PathSet.members c.reach.new.edges in
-    let grown = grows_as (λ t. t ≡ triple a c.start.result a) (λ t. t ≡ triple a self.graph.now.start a) es ds f.pending.items c.reach.new.pending.items
-    (λ t is. is ∙ ap (λ n. triple a n a) c.start.ensures) (λ t is. is ∙ ap (λ n. triple a n a) (sym c.start.ensures)) c.in_ok-reach.ensures.ok in
+    let grown =
+    grows_as (λ t. t ≡ triple a c.start.result a)
+    (λ t. t ≡ triple a self.graph.now.start a) es ds f.pending.items c.reach.new.pending.items
+    (λ t is. is ∙ ap (λ n. triple a n a) c.start.ensures)
+    (λ t is. is ∙ ap (λ n. triple a n a) (sym c.start.ensures)) c.in_ok-reach.ensures.ok in
     let gave = subst
     (λ bs. Gives
     (Each (λ b. IsTold self.procedure a b c.args.caller) bs) f.given.mails.items
@@ -128,17 +131,20 @@ returns-clause-worked g c =
 pub returns-clause-taken : goal.returns-clause-taken
 returns-clause-taken g c =
     let self = c.args.self.now in
-    begun_also self.graph.now self.procedure self.found c.add.new.self c.tell_exits.new.given c.reach.new.pending c.args.a c.args.caller c.in_ok-add.ensures.added c.in_ok-add.ensures.others
+    begun_also self.graph.now self.procedure self.found c.add.new.self c.tell_exits.new.given c.reach.new.pending c.args.a c.args.caller
+    c.in_ok-add.ensures.added c.in_ok-add.ensures.others
 
 pub returns-in_err-reach-clause-only : goal.returns-in_err-reach-clause-only
 returns-in_err-reach-clause-only g c = λ k.
     let self = c.args.self.now in
-    (begun_also self.graph.now self.procedure self.found c.add.new.self self.found.given c.reach.new.pending c.args.a c.args.caller c.in_ok-add.ensures.added c.in_ok-add.ensures.others k).0
+    (begun_also self.graph.now self.procedure self.found c.add.new.self self.found.given c.reach.new.pending c.args.a c.args.caller
+    c.in_ok-add.ensures.added c.in_ok-add.ensures.others k).0
 
 pub returns-in_err-tell_exits-clause-only : goal.returns-in_err-tell_exits-clause-only
 returns-in_err-tell_exits-clause-only g c = λ k.
     let self = c.args.self.now in
-    (begun_also self.graph.now self.procedure self.found c.add.new.self c.tell_exits.new.given c.reach.new.pending c.args.a c.args.caller c.in_ok-add.ensures.added c.in_ok-add.ensures.others k).0
+    (begun_also self.graph.now self.procedure self.found c.add.new.self c.tell_exits.new.given c.reach.new.pending c.args.a c.args.caller
+    c.in_ok-add.ensures.added c.in_ok-add.ensures.others k).0
 
 pub returns-clause-only : goal.returns-clause-only
 returns-clause-only g c = λ k. (returns-clause-taken g c k).0

@@ -49,7 +49,9 @@ returns-clause-taken g c =
     let self = c.args.self.now in
     let f = self.found in
     IfOk-weaker c.go_on_at_each.result _ _
-    (λ _ _. ended_also self.graph.now self.procedure f c.add.new.self c.go_on_at_each.new.pending c.args.call c.args.b c.in_ok-add.ensures.added c.in_ok-add.ensures.others)
+    (λ _ _.
+    ended_also self.graph.now self.procedure f c.add.new.self c.go_on_at_each.new.pending c.args.call c.args.b
+    c.in_ok-add.ensures.added c.in_ok-add.ensures.others)
     c.go_on_at_each.ensures.ok
 
 pub returns-in_err-add-clause-only : goal.returns-in_err-add-clause-only
@@ -61,4 +63,5 @@ returns-in_err-add-clause-only g c = λ k m.
 pub returns-clause-only : goal.returns-clause-only
 returns-clause-only g c = λ k.
     let self = c.args.self.now in
-    (ended_also self.graph.now self.procedure self.found c.add.new.self c.go_on_at_each.new.pending c.args.call c.args.b c.in_ok-add.ensures.added c.in_ok-add.ensures.others k).0
+    (ended_also self.graph.now self.procedure self.found c.add.new.self c.go_on_at_each.new.pending c.args.call c.args.b
+    c.in_ok-add.ensures.added c.in_ok-add.ensures.others k).0

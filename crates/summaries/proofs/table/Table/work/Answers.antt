@@ -25,7 +25,8 @@ returns-in_err-leave-clause-worked g c =
     refused_worked g.S.PathSet.members (λ t. ⊥) _ old new
     (λ t m. subst (λ graph. GraphReaches graph (TookMessage new.found) t.entry t.point t.values) (sym left.stays.graph)
     (all_reached old.graph.now old.procedure old.found new.found (g.S.PathSet.members old.edges) c.requires.holds.0
-    (taken_as old.found new.found (λ a. ap (λ e. under nat_eq e.by_key a) left.taken.0) (λ k. ap (λ e. under call_eq e.by_key k) left.taken.1))
+    (taken_as old.found new.found (λ a. ap (λ e. under nat_eq e.by_key a) left.taken.0)
+    (λ k. ap (λ e. under call_eq e.by_key k) left.taken.1))
     t (subst (λ s. Member t (g.S.PathSet.members s)) left.edges m)))
     (omega (arith, edges, limit, c.requires.within)) left.stays left.fault c.from_residual.ensures.1
 
@@ -63,7 +64,8 @@ returns-in-Call-clause-worked g c =
     let asked = c.ask.ensures.worked in
     let same = sym asked.stays.graph in
     let here = subst (λ graph. slice_get graph.flows.items e.point ≡ Some (Call call)) same (c.flow.ensures ∙ ap Some c.in-Call.is) in
-    let leaves : e.point ≡ 0 → HasExit last.found e.entry (left last.graph.now.globals e.values) = λ is. subst (λ graph. HasExit last.found e.entry (left graph.globals e.values)) same
+    let leaves : e.point ≡ 0 → HasExit last.found e.entry (left last.graph.now.globals e.values) =
+    λ is. subst (λ graph. HasExit last.found e.entry (left graph.globals e.values)) same
     (subst (λ x. Member (left new.graph.now.globals e.values) (under nat_eq x.by_key e.entry)) (sym c.ask.ensures.exits) (was.left is)) in
     then_worked g.S.PathSet.members (λ t. t ≡ triple_of e) (λ t. ⊥) c.ask.result old new last was.stays was.fault was.answers
     (both_ok c.ask.result
@@ -84,7 +86,9 @@ returns-in_default g c =
     let ds = g.S.PathSet.members c.lead.new.edges in
     let there = subst (λ s. Member (triple_of e) (g.S.PathSet.members s)) (sym c.in_ok-leave.ensures.edges) c.requires.edge in
     let here = c.flow.ensures in
-    let only = lead_only new.graph.now new.procedure f c.lead.new.pending es ds e c.flow.result.now c.in_ok-leave.ensures.ok.0 there here c.lead.ensures.only in record {
+    let only =
+    lead_only new.graph.now new.procedure f c.lead.new.pending es ds e c.flow.result.now c.in_ok-leave.ensures.ok.0 there here
+    c.lead.ensures.only in record {
       worked =
           added_worked g.S.PathSet.members (IsNext c.flow.result.now e) (λ t. ⊥) c.lead.result c.args.self.now _ es _ _ c.lead.ensures
           (g.met.S.PathSet.none_twice c.lead.new.edges) only

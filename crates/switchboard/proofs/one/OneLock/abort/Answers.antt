@@ -14,7 +14,10 @@ returns-then-not-pass g c =
     let i = c.pass.inside in
     let a = i.lane in
     let see = sym (shows F a i.world.value i.boxes i.kept p) ∙ c.pass.view_is in
-    moved (λ s t. MadeAbort F record { by = s.number; cause = c.args.cause } s t) (showing F a i.kept p.last) c.args.pass.now (showing F a i.kept p.last) c.args.pass.now see see (again_when F record { by = a.number; cause = c.args.cause } a i.world.value i.boxes i.kept p c.if-not-pass.true)
+    moved (λ s t.
+    MadeAbort F record { by = s.number; cause = c.args.cause } s t) (showing F a i.kept p.last) c.args.pass.now
+    (showing F a i.kept p.last) c.args.pass.now see see
+    (again_when F record { by = a.number; cause = c.args.cause } a i.world.value i.boxes i.kept p c.if-not-pass.true)
 
 pub leave-requires-clause-value : goal.leave-requires-clause-value
 leave-requires-clause-value g c =

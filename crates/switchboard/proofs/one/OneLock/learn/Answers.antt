@@ -27,4 +27,6 @@ returns g c =
     let see = sym (shows F a i.world.value i.boxes i.kept p) ∙ c.pass.view_is in
     let now = shows_now F b i.world.value i.boxes i.kept y.0 y.1 (n.before.world ∙ p.same_world) (n.before.boxes ∙ p.same_boxes) in
     let learned = learned_is F c.told.inside.note a b i.world.value i.boxes i.kept p l c.told.invariant y.0 y.1 in
-    moved (λ s t. Learned F c.args.told s t) (showing F a i.kept p.last) c.args.pass.now (showing F b i.kept y.0) (sight_of b i.world.value i.boxes i.kept) see (sym now) (subst (λ q. Learned F q (showing F a i.kept p.last) (showing F b i.kept y.0)) c.told.view_is learned)
+    moved (λ s t. Learned F c.args.told s t) (showing F a i.kept p.last) c.args.pass.now (showing F b i.kept y.0)
+    (sight_of b i.world.value i.boxes i.kept) see (sym now)
+    (subst (λ q. Learned F q (showing F a i.kept p.last) (showing F b i.kept y.0)) c.told.view_is learned)

@@ -37,9 +37,12 @@ loop-lane-preserved g c =
     let n = length c.loop-lane.yielded in
     let shown = sight_fresh lock.id c.args.budget c.args.world.now c.of.result.value c.args.boxes c.args.to (0 + n)
     c.args.first c.in-Some.lane lock.opening s c.of.ensures r.1.0 in
-    let long : length (c.loop-lane.yielded ++ c.in-Some.lane ∷ []) ≡ suc n = omega (arith, length_push c.loop-lane.yielded c.in-Some.lane) in (
+    let long : length (c.loop-lane.yielded ++ c.in-Some.lane ∷ []) ≡ suc n =
+    omega (arith, length_push c.loop-lane.yielded c.in-Some.lane) in (
       append_assoc c.loop-lane.yielded (c.in-Some.lane ∷ []) (into_iter_items c.next.new.self) ∙ r.0,
-      c.push_reserved.ensures.items ∙ ((λ i. c.loop-lane.invariant.1 i ++ shown i ∷ []) ∙ (sym (sights_push lock.id c.args.budget lock.opening 0 n) ∙ ap (fresh_sights lock.id c.args.budget lock.opening 0) (sym long))),
+      c.push_reserved.ensures.items
+          ∙ ((λ i. c.loop-lane.invariant.1 i ++ shown i ∷ [])
+          ∙ (sym (sights_push lock.id c.args.budget lock.opening 0 n) ∙ ap (fresh_sights lock.id c.args.budget lock.opening 0) (sym long))),
       omega (arith, c.loop-lane.invariant.2, c.push_reserved.ensures.capacity),
     )
 
@@ -49,7 +52,15 @@ returns g c =
     let it = c.loop-lane.lane-iterator in
     let s = c.in-Ok.ensures.ok.0 ∙ c.in_ok-book.ensures in
     let n = length c.loop-lane.yielded in
-    let all : n ≡ c.args.boxes = omega (arith, ap length c.loop-lane.invariant.0, length-append c.loop-lane.yielded (into_iter_items it), fresh_count lock.id c.args.budget lock.opening 0 c.args.boxes, c.in-None.ensures.steps.0, it.rest.ok.0) in
+    let all : n ≡ c.args.boxes =
+    omega (
+      arith,
+      ap length c.loop-lane.invariant.0,
+      length-append c.loop-lane.yielded (into_iter_items it),
+      fresh_count lock.id c.args.budget lock.opening 0 c.args.boxes,
+      c.in-None.ensures.steps.0,
+      it.rest.ok.0,
+    ) in
     (c.in-Ok.ensures.ok.1, c.loop-lane.invariant.1 ∙ (λ i. fresh_sights lock.id c.args.budget (s i) 0 (all i)))
 
 pub loop-lane-init : goal.loop-lane-init

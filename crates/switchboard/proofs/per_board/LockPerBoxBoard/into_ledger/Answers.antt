@@ -5,7 +5,8 @@ use Rattle.switchboard.proofs.Opening.{map_same}
 use Rattle.switchboard.proofs.per_board.LockPerBoxBoard.into_ledger.Goals as goal
 
 pub into_ledger-requires : goal.into_ledger-requires
-into_ledger-requires g c = subst (AreAll c.args.self.table.shared.table_id c.args.self.table.shared.key.boxes) (map_same c.args.passes.now.items) c.requires
+into_ledger-requires g c =
+    subst (AreAll c.args.self.table.shared.table_id c.args.self.table.shared.key.boxes) (map_same c.args.passes.now.items) c.requires
 
 pub returns-clause-settles : goal.returns-clause-settles
 returns-clause-settles g c =

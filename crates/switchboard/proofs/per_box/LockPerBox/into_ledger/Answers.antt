@@ -4,4 +4,5 @@ use Rattle.switchboard.proofs.per_box.LockPerBox.into_ledger.Goals as goal
 
 pub returns-clause-settles : goal.returns-clause-settles
 returns-clause-settles g c =
-    settles_is g.M.Mail.fits c.args.self.table.shared.key c.args.self.table.shared.table_id c.args.passes.now.items c.gather-seat.result.me _ _ c.requires c.gather-seat.ensures.gathered c.settle-closed.ensures
+    settles_is g.M.Mail.fits c.args.self.table.shared.key c.args.self.table.shared.table_id c.args.passes.now.items c.gather-seat.result.me
+    _ _ c.requires c.gather-seat.ensures.gathered c.settle-closed.ensures

@@ -5,8 +5,11 @@ use Rattle.switchboard.proofs.BoxSeats.{tells_allowed}
 use Rattle.switchboard.proofs.per_box.LockPerBox.tell.Goals as goal
 
 pub split_seat-requires : goal.split_seat-requires
-split_seat-requires g c =
-    (ap (λ s. s.board) c.pass.view_is ∙ c.requires, omega (arith, c.args.self.now.sized.0.0), tells_allowed g.M.Mail.fits c.args.self.now.table.shared.key _ c.pass.inside.seat.me.0)
+split_seat-requires g c = (
+  ap (λ s. s.board) c.pass.view_is ∙ c.requires,
+  omega (arith, c.args.self.now.sized.0.0),
+  tells_allowed g.M.Mail.fits c.args.self.now.table.shared.key _ c.pass.inside.seat.me.0,
+)
 
 pub invariant_of-pass : goal.invariant_of-pass
 invariant_of-pass g c =

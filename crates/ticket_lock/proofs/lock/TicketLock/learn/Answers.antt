@@ -13,7 +13,8 @@ join_seat-requires g c =
       note.0 ∙ (c.requires.1 ∙ own),
       ap (λ m. m.1) blank,
       omega (arith, c.self.invariant.0),
-      merges_allowed g.T.LaneLaw.before g.T.LaneLaw.part key.value.value key.lanes _ _ _ _ c.lane.invariant.taken (ap (λ m. m.0.told) blank) (ap (λ m. m.0.hand.inside) blank),
+      merges_allowed g.T.LaneLaw.before g.T.LaneLaw.part key.value.value key.lanes _ _ _ _ c.lane.invariant.taken
+          (ap (λ m. m.0.told) blank) (ap (λ m. m.0.hand.inside) blank),
     )
 
 pub load-requires : goal.load-requires
@@ -28,5 +29,7 @@ pub returns : goal.returns
 returns g c =
     let L = g.T.LaneLaw in
     let lane = c.lane.inside in
-    learned_is L.before L.part lane.seat.table_id c.load.new.seat.table_id lane.number lane.left c.args.lane.now c.args.note lane.seat.me c.into_seat-seat.result.me c.join_seat.new.seat.me c.load.new.seat.me
-    c.lane.view_is (c.load.ensures.0 ∙ c.join_seat.ensures.0) c.lane.invariant.one c.into_seat-seat.ensures.2 c.join_seat.ensures.2 c.load.ensures.2
+    learned_is L.before L.part lane.seat.table_id c.load.new.seat.table_id lane.number lane.left c.args.lane.now c.args.note lane.seat.me
+    c.into_seat-seat.result.me c.join_seat.new.seat.me c.load.new.seat.me
+    c.lane.view_is
+    (c.load.ensures.0 ∙ c.join_seat.ensures.0) c.lane.invariant.one c.into_seat-seat.ensures.2 c.join_seat.ensures.2 c.load.ensures.2
