@@ -35,7 +35,8 @@ fn put<R: Wait, B: Letters>(
 )
     requires board { (B.sight pass.old).board ≡ B.identity board.now }
     requires place { Has (B.sight pass.old) place.old }
-    requires job { HasJob (B.sight pass.old).number job (B.sight pass.old).seen.order × (place.old ≢ Some job) }
+    requires job { HasJob (B.sight pass.old).number job (B.sight pass.old).seen.order
+        × (place.old ≢ Some job) }
     ensures place { place.new ≡ Some job }
     ensures spends { Spends (B.sight pass.old) (B.sight pass.new) place.old }
 {

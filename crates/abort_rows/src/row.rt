@@ -49,7 +49,8 @@ where
     B::Heap: Clone,
     B::Pass: Drop,
     requires { (2 ≤ budget) × (budget ≤ 1000) }
-    ensures { IfOk result (λ r. (B.mailboxes r.0 ≡ 2) × IsRow B.sight B.account (B.identity r.0) r.1) }
+    ensures { IfOk result
+        (λ r. (B.mailboxes r.0 ≡ 2) × IsRow B.sight B.account (B.identity r.0) r.1) }
 {
     let (board, mut passes) = B::open_with_budget(alloc, &(), 2, 0, Letter(0), budget)?;
     let Some(one) = passes.pop() else {

@@ -47,7 +47,8 @@ pub(crate) fn message<R: Wait + Abort, B: Letters>(
     requires { (B.sight pass.old).board ≡ B.identity board.now }
     ensures pass { IsSame (B.sight pass.old) (B.sight pass.new) }
     ensures job { HasJob (B.sight pass.new).number result.0 (B.sight pass.new).seen.order }
-    ensures fresh { (j : ℕ) → HasJob (B.sight pass.old).number j (B.sight pass.old).seen.order → j ≢ result.0 }
+    ensures fresh { (j : ℕ) → HasJob (B.sight pass.old).number j (B.sight pass.old).seen.order
+        → j ≢ result.0 }
     ensures keeps { KeepsJobs (B.sight pass.old) (B.sight pass.new) }
 {
     match Board::take(board, rt, pass) {
@@ -68,7 +69,8 @@ pub(crate) fn takes<R: Wait + Abort, B: Letters>(
     requires { (B.sight pass.old).board ≡ B.identity board.now }
     ensures pass { IsSame (B.sight pass.old) (B.sight pass.new) }
     ensures job { HasJob (B.sight pass.new).number result (B.sight pass.new).seen.order }
-    ensures fresh { (j : ℕ) → HasJob (B.sight pass.old).number j (B.sight pass.old).seen.order → j ≢ result }
+    ensures fresh { (j : ℕ) → HasJob (B.sight pass.old).number j (B.sight pass.old).seen.order
+        → j ≢ result }
     ensures keeps { KeepsJobs (B.sight pass.old) (B.sight pass.new) }
 {
     let (job, found) = message(rt, board, pass);
@@ -118,7 +120,8 @@ pub(crate) fn done<R: Wait + Abort, B: Letters>(rt: &R, board: &B, pass: &mut B:
     requires board { (B.sight pass.old).board ≡ B.identity board.now }
     requires job { HasJob (B.sight pass.old).number job (B.sight pass.old).seen.order }
     ensures pass { IsSame (B.sight pass.old) (B.sight pass.new) }
-    ensures keeps { (j : ℕ) → j ≢ job → HasJob (B.sight pass.old).number j (B.sight pass.old).seen.order
+    ensures keeps { (j : ℕ) → j ≢ job
+        → HasJob (B.sight pass.old).number j (B.sight pass.old).seen.order
         → HasJob (B.sight pass.new).number j (B.sight pass.new).seen.order }
 {
     match Board::done(board, rt, pass, job) {
@@ -182,8 +185,10 @@ pub(crate) fn gather<R: Abort, B: Letters>(
 )
 where
     B::Pass: Drop,
-    requires passes { AreFirst (B.identity board.now) (B.mailboxes board.now) (map B.sight passes.old.items) }
-    requires pass { ((B.sight pass).board ≡ B.identity board.now) × ((B.sight pass).number ≡ vec_len passes.old)
+    requires passes { AreFirst (B.identity board.now) (B.mailboxes board.now)
+        (map B.sight passes.old.items) }
+    requires pass { ((B.sight pass).board ≡ B.identity board.now)
+        × ((B.sight pass).number ≡ vec_len passes.old)
         × ((B.sight pass).seen.boxes ≡ B.mailboxes board.now) }
     ensures { AreFirst (B.identity board.now) (B.mailboxes board.now) (map B.sight passes.new.items)
         × (vec_len passes.new ≡ vec_len passes.old + 1) }
@@ -234,7 +239,8 @@ where
     B::Pass: Drop,
     requires { (2 ≤ budget) × (budget ≤ 1000) }
     ensures board { B.mailboxes result.0 ≡ 2 }
-    ensures zero { ((B.sight result.1).board ≡ B.identity result.0) × ((B.sight result.1).number ≡ 0)
+    ensures zero { ((B.sight result.1).board ≡ B.identity result.0)
+        × ((B.sight result.1).number ≡ 0)
         × ((B.sight result.1).seen.boxes ≡ 2) }
     ensures one { ((B.sight result.2).board ≡ B.identity result.0) × ((B.sight result.2).number ≡ 1)
         × ((B.sight result.2).seen.boxes ≡ 2) }
@@ -270,7 +276,8 @@ fn counts<A: Allocator>(histories: &[Mailbox<Letter, A>]) -> (u64, u64, u64) {
 
 // Takes 10, and posts 11 and 12 under its job.
 fn posts_two<R: Wait + Abort, B: Letters>(rt: &R, board: &B, zero: &mut B::Pass) -> Job
-    requires { ((B.sight zero.old).board ≡ B.identity board.now) × (1 < (B.sight zero.old).seen.boxes) }
+    requires { ((B.sight zero.old).board ≡ B.identity board.now)
+        × (1 < (B.sight zero.old).seen.boxes) }
     ensures pass { IsSame (B.sight zero.old) (B.sight zero.new) }
     ensures job { HasJob (B.sight zero.new).number result (B.sight zero.new).seen.order }
 {

@@ -49,7 +49,8 @@ fn first<R: Wait + Abort>(
     requires board { pass.board ≡ board.now.table.shared.table_id }
     requires job { HasJob pass.number job.now pass.seen.order }
     requires boxes { 0 < pass.seen.boxes }
-    ensures pass { (result.0.board ≡ pass.board) × HasJob result.0.number job.now result.0.seen.order }
+    ensures pass { (result.0.board ≡ pass.board)
+        × HasJob result.0.number job.now result.0.seen.order }
 {
     let answer = board.post_held(
         rt,
@@ -120,9 +121,11 @@ fn begun<R: Wait + Abort, B: Letters>(rt: &R, alloc: B::Heap) -> (B, (B::Pass, J
 where
     B::Heap: Clone,
     B::Pass: Drop,
-    ensures zero { ((B.sight result.1.0).board ≡ B.identity result.0) × ((B.sight result.1.0).seen.boxes ≡ 2)
+    ensures zero { ((B.sight result.1.0).board ≡ B.identity result.0)
+        × ((B.sight result.1.0).seen.boxes ≡ 2)
         × HasJob (B.sight result.1.0).number result.1.1 (B.sight result.1.0).seen.order }
-    ensures one { ((B.sight result.2.0).board ≡ B.identity result.0) × ((B.sight result.2.0).seen.boxes ≡ 2)
+    ensures one { ((B.sight result.2.0).board ≡ B.identity result.0)
+        × ((B.sight result.2.0).seen.boxes ≡ 2)
         × HasJob (B.sight result.2.0).number result.2.1 (B.sight result.2.0).seen.order }
 {
     let (board, mut zero, mut one) = two::<R, B>(rt, alloc, 1000);

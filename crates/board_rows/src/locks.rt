@@ -38,7 +38,8 @@ fn open<R: Abort, A: Allocator + Clone>(
     budget: u64,
 ) -> (Lock<A>, Vec<Place<A>, A>)
     requires { (0 < lanes) × (lanes ≤ 64) × (2 ≤ budget) × (budget ≤ 1000000) }
-    ensures { All (IsIdle result.0.id) result.1.items × (vec_len result.1 ≡ lanes) × (result.0.lanes ≡ lanes) }
+    ensures { All (IsIdle result.0.id) result.1.items × (vec_len result.1 ≡ lanes)
+        × (result.0.lanes ≡ lanes) }
 {
     let Ok(heap) = alloc.clone() else {
         panic!(rt; "no memory")
@@ -59,7 +60,8 @@ fn next_lane<R: Abort, A: Allocator>(
 ) -> Place<A>
     requires { All (IsIdle lock.now.id) lanes.old.items }
     ensures lane { IsIdle lock.now.id result }
-    ensures others { All (IsIdle lock.now.id) lanes.new.items × (vec_len lanes.new + 1 ≡ vec_len lanes.old) }
+    ensures others { All (IsIdle lock.now.id) lanes.new.items
+        × (vec_len lanes.new + 1 ≡ vec_len lanes.old) }
 {
     match lanes.pop() {
         Some(lane) => lane,
@@ -74,7 +76,8 @@ fn give_back<R: Abort, A: Allocator>(
     lane: Place<A>,
 )
     requires { All (IsIdle lock.now.id) lanes.old.items × IsIdle lock.now.id lane }
-    ensures { All (IsIdle lock.now.id) lanes.new.items × (vec_len lanes.new ≡ vec_len lanes.old + 1) }
+    ensures { All (IsIdle lock.now.id) lanes.new.items
+        × (vec_len lanes.new ≡ vec_len lanes.old + 1) }
 {
     match lanes.push(lane) {
         Ok(()) => {}

@@ -45,7 +45,8 @@ fn serve<R: Wait + Abort, B: Letters>(rt: &R, board: &B, pass: &mut B::Pass) -> 
 
 // Posts its messages to the four mailboxes in turn, and takes one between two posts.
 fn posts<R: Wait + Abort, B: Letters>(rt: &R, board: &B, pass: &mut B::Pass, job: &Job, sender: u32)
-    requires board { ((B.sight pass.old).board ≡ B.identity board.now) × ((B.sight pass.old).seen.boxes ≡ 4) }
+    requires board { ((B.sight pass.old).board ≡ B.identity board.now)
+        × ((B.sight pass.old).seen.boxes ≡ 4) }
     requires job { HasJob (B.sight pass.old).number job.now (B.sight pass.old).seen.order }
     requires sender { sender < 4 }
     ensures pass { IsSame (B.sight pass.old) (B.sight pass.new) }
@@ -82,7 +83,8 @@ fn work<R: Wait + Abort, B: Letters>(
     mut pass: B::Pass,
     sender: u32,
 ) -> (B::Pass, bool)
-    requires { ((B.sight pass).board ≡ B.identity board.now) × ((B.sight pass).seen.boxes ≡ 4) × (sender < 4) }
+    requires { ((B.sight pass).board ≡ B.identity board.now) × ((B.sight pass).seen.boxes ≡ 4)
+        × (sender < 4) }
     ensures { IsSame (B.sight pass) (B.sight result.0) }
 {
     let (job, _first) = message(rt, board, &mut pass);
@@ -169,7 +171,8 @@ fn rising(messages: &[Letter]) -> Option<usize> {
     Some(messages.len())
 }
 
-// How many messages of a sender a mailbox got, if there is memory for two lists, they were taken as they were posted, and rise.
+// How many messages of a sender a mailbox got, if there is memory for two lists, they were taken as they were posted,
+// and rise.
 fn taken_in_order<A: Allocator + Copy>(
     alloc: A,
     history: &[Event<Letter>],
@@ -244,14 +247,18 @@ where
     let ((a, b, first), (c, d, second)) = join(
         rt,
         move || -> (B::Pass, B::Pass, bool)
-            requires a { ((B.sight a).board ≡ B.identity shared.now) × ((B.sight a).seen.boxes ≡ 4) }
-            requires b { ((B.sight b).board ≡ B.identity shared.now) × ((B.sight b).seen.boxes ≡ 4) }
+            requires a { ((B.sight a).board ≡ B.identity shared.now)
+                × ((B.sight a).seen.boxes ≡ 4) }
+            requires b { ((B.sight b).board ≡ B.identity shared.now)
+                × ((B.sight b).seen.boxes ≡ 4) }
             ensures a { IsSame (B.sight a) (B.sight result.0) }
             ensures b { IsSame (B.sight b) (B.sight result.1) }
         { two_work(rt, shared, a, b, 0) },
         move || -> (B::Pass, B::Pass, bool)
-            requires c { ((B.sight c).board ≡ B.identity shared.now) × ((B.sight c).seen.boxes ≡ 4) }
-            requires d { ((B.sight d).board ≡ B.identity shared.now) × ((B.sight d).seen.boxes ≡ 4) }
+            requires c { ((B.sight c).board ≡ B.identity shared.now)
+                × ((B.sight c).seen.boxes ≡ 4) }
+            requires d { ((B.sight d).board ≡ B.identity shared.now)
+                × ((B.sight d).seen.boxes ≡ 4) }
             ensures c { IsSame (B.sight c) (B.sight result.0) }
             ensures d { IsSame (B.sight d) (B.sight result.1) }
         { two_work(rt, shared, c, d, 2) },

@@ -19,7 +19,8 @@ fn post_twice<R: Wait + Abort, B: Letters>(
     to: u8,
     message: u32,
 ) -> bool
-    requires board { ((B.sight pass.old).board ≡ B.identity board.now) × (to < (B.sight pass.old).seen.boxes) }
+    requires board { ((B.sight pass.old).board ≡ B.identity board.now)
+        × (to < (B.sight pass.old).seen.boxes) }
     requires job { HasJob (B.sight pass.old).number job.now (B.sight pass.old).seen.order }
     ensures pass { IsSame (B.sight pass.old) (B.sight pass.new) }
     ensures job { HasJob (B.sight pass.new).number job.now (B.sight pass.new).seen.order }
@@ -38,7 +39,8 @@ fn post_twice<R: Wait + Abort, B: Letters>(
 
 // Posts 20 messages, to mailboxes 0 and 2 in turn. It says how many were refused.
 fn posts<R: Wait + Abort, B: Letters>(rt: &R, board: &B, pass: &mut B::Pass, job: &Job) -> u32
-    requires board { ((B.sight pass.old).board ≡ B.identity board.now) × (2 < (B.sight pass.old).seen.boxes) }
+    requires board { ((B.sight pass.old).board ≡ B.identity board.now)
+        × (2 < (B.sight pass.old).seen.boxes) }
     requires job { HasJob (B.sight pass.old).number job.now (B.sight pass.old).seen.order }
     ensures pass { IsSame (B.sight pass.old) (B.sight pass.new) }
     ensures job { HasJob (B.sight pass.new).number job.now (B.sight pass.new).seen.order }
@@ -68,8 +70,8 @@ fn takes<R: Wait + Abort, B: Letters>(rt: &R, board: &B, pass: &mut B::Pass, fir
     }
 }
 
-// Posts 20 messages and takes them, and the board is closed then. One post is refused where an allocation is refused to the posts;
-// takes and completions ask for none.
+// Posts 20 messages and takes them, and the board is closed then. One post is refused where an allocation is refused to
+// the posts; takes and completions ask for none.
 fn serves<R: Wait + Abort, A: Allocator, B: Letters>(
     rt: &R,
     scarce: &Scarce<A>,
@@ -77,7 +79,8 @@ fn serves<R: Wait + Abort, A: Allocator, B: Letters>(
     pass: &mut B::Pass,
     other: &mut B::Pass,
 )
-    requires pass { ((B.sight pass.old).board ≡ B.identity board.now) × (2 < (B.sight pass.old).seen.boxes) }
+    requires pass { ((B.sight pass.old).board ≡ B.identity board.now)
+        × (2 < (B.sight pass.old).seen.boxes) }
     requires other { (B.sight other.old).board ≡ B.identity board.now }
 {
     let (job, _first) = message(rt, board, pass);
@@ -92,8 +95,8 @@ fn serves<R: Wait + Abort, A: Allocator, B: Letters>(
     assert!(rt; scarce.asked() == asked);
 }
 
-// A board of three mailboxes, each of whose allocations is that of `heap`, serves 20 messages, unless it finds no memory for
-// itself.
+// A board of three mailboxes, each of whose allocations is that of `heap`, serves 20 messages, unless it finds no
+// memory for itself.
 fn tries<R: Wait + Abort, A: Allocator, B: Letters + Drop>(
     rt: &R,
     scarce: &Scarce<A>,

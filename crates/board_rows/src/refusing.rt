@@ -5,7 +5,8 @@ use std::alloc::{AllocError, Allocator, Global};
 use std::process::Abort;
 use std::thread;
 
-/// Pushes the numbers below 100, each again where it was refused; answers how many were refused, and the growth before the last refusal.
+/// Pushes the numbers below 100, each again where it was refused; answers how many were refused, and the growth before
+/// the last refusal.
 fn pushes<A: Allocator>(numbers: &mut Vec<u64, A>) -> Result<(u64, u64), AllocError> {
     let (mut refusals, mut growths, mut at) = (0u64, 0u64, 0u64);
     for n in 0..100u64 {
@@ -30,7 +31,8 @@ fn pushed<A: Allocator>(mut numbers: Vec<u64, A>) -> Option<(u64, u64)> {
     }
 }
 
-/// So many refusals, and before the last so many growths; the numbers are there, and no block is out once they are let go.
+/// So many refusals, and before the last so many growths; the numbers are there, and no block is out once they are let
+/// go.
 fn refuses<R: Abort, A: Allocator>(rt: &R, alloc: A, nth: u64, wanted: (u64, u64)) {
     let scarce = Scarce::refusing(alloc, nth);
     let numbers = Vec::new(&scarce);

@@ -8,7 +8,8 @@ ghost use Rattle.refusals.specs.Lines.{memory_line};
 ghost use Rattle.refusals.specs.declared.refusal.Refusal.TheVariants as why;
 ghost use Rattle.cli.specs.Counted.{HasEach, answer_line, answer_status, lines_behind};
 ghost use Rattle.cli.specs.Counts.{names_of};
-ghost use Rattle.cli.specs.Replies.{IsPastLimit, IsSequential, Refuses, RefusesFor, Replies, Tells, TellsOrLacks};
+ghost use Rattle.cli.specs.Replies.{IsPastLimit, IsSequential, Refuses, RefusesFor, Replies, Tells};
+ghost use Rattle.cli.specs.Replies.{TellsOrLacks};
 ghost use Rattle.cli.specs.Verdict.{Answers};
 ghost use Rattle.cli.specs.Written.{Says, bytes_of};
 
@@ -45,7 +46,8 @@ pub fn no_memory<A: Allocator>() -> Reply<A>
     }
 }
 
-/// The reply to a text that gets no verdict: the one for want of memory only where memory gave out over a line with an offset.
+/// The reply to a text that gets no verdict: the one for want of memory only where memory gave out over a line with an
+/// offset.
 fn refused<A: Allocator>(alloc: A, refusal: Refusal) -> Reply<A>
     ensures { TellsOrLacks refusal result }
 {
@@ -70,7 +72,8 @@ fn reported<N: Allocator, H: Allocator, A: Allocator>(
 ) -> Reply<A>
     requires { HasEach (names_of (checked_tree program.now)) report.now }
     ensures { (bytes_of result
-        ≡ answer_line report.now.answer ++ lines_behind stats (names_of (checked_tree program.now)) report.now)
+        ≡ answer_line report.now.answer ++ lines_behind stats
+        (names_of (checked_tree program.now)) report.now)
         × (result.status ≡ answer_status report.now.answer) × (result.refusal ≡ None)
         ⊎ (stats ≡ true) × Tells why.Memory result }
 {
@@ -131,7 +134,8 @@ where
     S: WorkSet + Send,
     S::Heap: Send + Sync,
     K: Gate + Sync,
-    ensures { Answers text.now (count_of rounds) (most_of edges) stats (bytes_of result) result.status
+    ensures { Answers text.now (count_of rounds) (most_of edges) stats
+        (bytes_of result) result.status
         × (result.refusal ≡ None)
         ⊎ RefusesFor text.now (count_of rounds) (Some (most_of edges)) result }
 {
@@ -161,9 +165,9 @@ fn rewriting<A: Allocator + Copy>(alloc: A, text: &[u8], rounds: Rounds) -> Repl
     }
 }
 
-/// `answer` with a board of the type `B`, whose memory is that of `heap`, and sets of path edges of the type `S`; all other
-/// memory is that of `alloc`. The gate is told of what the workers take and post. Whichever these are, and whatever the
-/// schedule of the workers, a reply with status 0 or 1 has the same bytes.
+/// `answer` with a board of the type `B`, whose memory is that of `heap`, and sets of path edges of the type `S`; all
+/// other memory is that of `alloc`. The gate is told of what the workers take and post. Whichever these are, and
+/// whatever the schedule of the workers, a reply with status 0 or 1 has the same bytes.
 pub fn answer_with<R, B, S, K>(
     rt: &R,
     heap: B::Heap,
@@ -197,14 +201,15 @@ where
     }
 }
 
-/// The reply to a text. Where its status is 0 or 1, the text is that of a checked program. To `Check` no procedure of the
-/// program that it is rewritten to has then more path edges than the limit, and the reply is `unsafe` with status 1 exactly
-/// where some run of at most so many rounds fails an assert, and else `safe` with 0; with `stats` a line follows for each
-/// procedure of that program, which counts its entry valuations, its pairs and the messages due for it. To `Sequential` the
-/// bytes are the printed form of that program, and within the limits of texts they are read back as it. Where the status is
-/// 2, a fault of the text stands, and the bytes are its line. Where it is 3, there is no verdict: for want of memory, since
-/// some procedure has more path edges than the limit, since a thread was refused, or since a worker has used up its calls.
-/// A reply with status 2 or 3 tells the refusal that stands, and one with 0 or 1 tells none.
+/// The reply to a text. Where its status is 0 or 1, the text is that of a checked program. To `Check` no procedure of
+/// the program that it is rewritten to has then more path edges than the limit, and the reply is `unsafe` with status 1
+/// exactly where some run of at most so many rounds fails an assert, and else `safe` with 0; with `stats` a line
+/// follows for each procedure of that program, which counts its entry valuations, its pairs and the messages due for
+/// it. To `Sequential` the bytes are the printed form of that program, and within the limits of texts they are read
+/// back as it. Where the status is 2, a fault of the text stands, and the bytes are its line. Where it is 3, there is
+/// no verdict: for want of memory, since some procedure has more path edges than the limit, since a thread was refused,
+/// or since a worker has used up its calls. A reply with status 2 or 3 tells the refusal that stands, and one with 0 or
+/// 1 tells none.
 pub fn answer<R>(rt: &R, text: &[u8], order: Order) -> Reply<R::A>
 where
     R: Alloc + Wait + Threads + Sync,

@@ -13,7 +13,8 @@ use syntax::read;
 /// The checked program of a text.
 pub(crate) fn checked<A: Allocator + Copy>(alloc: A, text: &[u8]) -> Result<Checked<A>, Refusal>
     ensures program { IfOk result (λ c. IsProgramOf text.now (checked_tree c)) }
-    ensures stands { IfErr result (λ why. (rounds : ℕ) (limit : Option ℕ) → RefusalStands text.now rounds limit why) }
+    ensures stands { IfErr result
+        (λ why. (rounds : ℕ) (limit : Option ℕ) → RefusalStands text.now rounds limit why) }
 {
     let program = match read(alloc, text) {
         Ok(program) => program,

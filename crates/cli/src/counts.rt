@@ -51,8 +51,8 @@ fn push_line<A: Allocator>(
 }
 
 /// Writes a line for each procedure of a program's rewriting, in the order of their numbers: its name, how many entry
-/// valuations and pairs the summaries have of it, and how many messages were taken from its mailbox. At an error memory gave
-/// out, and a part may be written.
+/// valuations and pairs the summaries have of it, and how many messages were taken from its mailbox. At an error memory
+/// gave out, and a part may be written.
 pub(crate) fn push_counts<A: Allocator, N: Allocator, S: Allocator, H: Allocator>(
     lines: &mut String<A>,
     program: &Program<N>,
@@ -63,7 +63,8 @@ pub(crate) fn push_counts<A: Allocator, N: Allocator, S: Allocator, H: Allocator
     requires boxes { length mailboxes.now ≡ length (names_of (tree_of program.now)) }
     requires few { length (names_of (tree_of program.now)) ≤ 32 }
     ensures { OnOk result (string_bytes lines.new ≡ string_bytes lines.old
-        ++ counts_lines (names_of (tree_of program.now)) (counted_each summaries.now.procedures mailboxes.now)) }
+        ++ counts_lines (names_of (tree_of program.now))
+        (counted_each summaries.now.procedures mailboxes.now)) }
 {
     for number in 0..summaries.len() as u8 {
         let name = name_of(program, number);

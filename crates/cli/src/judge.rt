@@ -36,8 +36,8 @@ fn refusal_of<N: Allocator, A: Allocator + Copy>(
     }
 }
 
-/// The report on a checked program for so many rounds, and at most so many path edges a procedure: the workers have the board
-/// `B`, keep path edges in sets of the type `S`, and tell the gate of what they take and post.
+/// The report on a checked program for so many rounds, and at most so many path edges a procedure: the workers have the
+/// board `B`, keep path edges in sets of the type `S`, and tell the gate of what they take and post.
 pub(crate) fn judge<R, B, S, K, N>(
     rt: &R,
     heap: B::Heap,
@@ -56,7 +56,8 @@ where
     S::Heap: Send + Sync,
     K: Gate + Sync,
     N: Allocator,
-    ensures report { IfOk result (IsReport (checked_tree program.now) (count_of rounds) (most_of edges)) }
+    ensures report { IfOk result
+        (IsReport (checked_tree program.now) (count_of rounds) (most_of edges)) }
     ensures stands { (text : List ℕ) → Text text (checked_tree program.now)
         → IfErr result (RefusalStands text (count_of rounds) (Some (most_of edges))) }
 {

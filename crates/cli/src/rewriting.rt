@@ -18,7 +18,8 @@ pub(crate) fn rewritten<A: Allocator + Copy>(
     text: &[u8],
     rounds: Rounds,
 ) -> Result<Sequential<A>, Refusal>
-    ensures rewriting { IfOk result (λ s. IsRewriting text.now (count_of rounds) (sequential_tree s)) }
+    ensures rewriting { IfOk result
+        (λ s. IsRewriting text.now (count_of rounds) (sequential_tree s)) }
     ensures stands { IfErr result (RefusalStands text.now (count_of rounds) None) }
 {
     let checked = checked(alloc, text)?;

@@ -13,8 +13,8 @@ use std::io::{self, Read};
 use std::sync::Wait;
 use std::thread::Threads;
 
-/// Answers words that give no order, and gives the status: help on `writer` with 0; `refused: line` with 2, and the reason
-/// on `log`; for want of memory 3. Where a write to `writer` fails, the status is 3.
+/// Answers words that give no order, and gives the status: help on `writer` with 0; `refused: line` with 2, and the
+/// reason on `log`; for want of memory 3. Where a write to `writer` fails, the status is 3.
 pub fn decline<W: Stream, L: Stream>(fault: &LineFault, writer: &mut W, log: &mut L) -> u8
     ensures { Declines fault.now (streams (W.held writer.old) (L.held log.old))
         (streams (W.held writer.new) (L.held log.new)) result }
@@ -29,9 +29,9 @@ pub fn decline<W: Stream, L: Stream>(fault: &LineFault, writer: &mut W, log: &mu
     }
 }
 
-/// Does what the words of the command line ask for, the program's own name first. The file that they name is what `opener`
-/// gives for its path. The reply to it goes to `writer`, and why there is no verdict to `log`; the status is that of
-/// `serve` or of `decline`.
+/// Does what the words of the command line ask for, the program's own name first. The file that they name is what
+/// `opener` gives for its path. The reply to it goes to `writer`, and why there is no verdict to `log`; the status is
+/// that of `serve` or of `decline`.
 pub fn run<X, F, O, W, L>(rt: &X, words: &[String], opener: O, writer: &mut W, log: &mut L) -> u8
 where
     X: AllocGlobal + Wait + Threads + Sync,
@@ -41,9 +41,12 @@ where
     L: Stream,
     requires { O.IsAlwaysCallable opener }
     ensures runs { Runs (FnOnceReturnsAt O.FnOnce opener) F.remaining (map string_bytes words.now)
-        (streams (W.held writer.old) (L.held log.old)) (streams (W.held writer.new) (L.held log.new)) result }
-    ensures answers { result ≤ 1 → AnswersWords (FnOnceReturnsAt O.FnOnce opener) F.remaining (map string_bytes words.now)
-        (streams (W.held writer.old) (L.held log.old)) (streams (W.held writer.new) (L.held log.new)) result }
+        (streams (W.held writer.old) (L.held log.old))
+        (streams (W.held writer.new) (L.held log.new)) result }
+    ensures answers { result ≤ 1
+        → AnswersWords (FnOnceReturnsAt O.FnOnce opener) F.remaining (map string_bytes words.now)
+        (streams (W.held writer.old) (L.held log.old))
+        (streams (W.held writer.new) (L.held log.new)) result }
     ensures status { result ≤ 3 }
 {
     let (order, path) = match order(rt.alloc(), words) {

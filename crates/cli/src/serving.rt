@@ -44,7 +44,8 @@ fn tell_why<X: Alloc, L: Stream>(
 
 /// Answers that memory gave out, and tells it.
 pub(crate) fn no_room<W: Stream, L: Stream>(writer: &mut W, log: &mut L) -> u8
-    ensures { Says (streams (W.held writer.old) (L.held log.old)) (streams (W.held writer.new) (L.held log.new))
+    ensures { Says (streams (W.held writer.old) (L.held log.old))
+        (streams (W.held writer.new) (L.held log.new))
         without_memory result }
 {
     tell(log, NO_MEMORY.as_bytes());
@@ -65,7 +66,8 @@ fn reason<A: Allocator + Copy>(
 
 /// Tells why the system does not read a file, or that memory gave out over that.
 fn tell_reason<A: Allocator + Copy, L: Stream>(alloc: A, path: &str, error: &io::Error, log: &mut L)
-    ensures { (message : List ℕ) × IsReason path.now message × Logs (L.held log.old) (L.held log.new) message }
+    ensures { (message : List ℕ) × IsReason path.now message
+        × Logs (L.held log.old) (L.held log.new) message }
 {
     match reason(alloc, path, error) {
         Ok(line) => tell(log, line.as_bytes()),
@@ -82,7 +84,8 @@ pub(crate) fn unread<A: Allocator + Copy, W: Stream, L: Stream>(
     writer: &mut W,
     log: &mut L,
 ) -> u8
-    ensures { TellsUnread path.now (error_kind error.now) (streams (W.held writer.old) (L.held log.old))
+    ensures { TellsUnread path.now (error_kind error.now)
+        (streams (W.held writer.old) (L.held log.old))
         (streams (W.held writer.new) (L.held log.new)) result }
 {
     if error.kind() == ErrorKind::OutOfMemory {
@@ -92,8 +95,9 @@ pub(crate) fn unread<A: Allocator + Copy, W: Stream, L: Stream>(
     say(writer, b"refused: file\n", 2)
 }
 
-/// `serve`, with the name of what is read, and with a stream to which is told why there is no verdict, as a compiler does:
-/// what `explain` says of a refused text, and the system's reason where reading fails. Writes to it that fail change nothing.
+/// `serve`, with the name of what is read, and with a stream to which is told why there is no verdict, as a compiler
+/// does: what `explain` says of a refused text, and the system's reason where reading fails. Writes to it that fail
+/// change nothing.
 pub fn serve_telling<X: Alloc + Wait + Threads + Sync, R: Read, W: Stream, L: Stream>(
     rt: &X,
     path: &str,
@@ -105,9 +109,11 @@ pub fn serve_telling<X: Alloc + Wait + Threads + Sync, R: Read, W: Stream, L: St
 where
     X::A: Copy + Send + Sync,
     ensures serves { Serves path.now order (R.remaining reader.old) (R.remaining reader.new)
-        (streams (W.held writer.old) (L.held log.old)) (streams (W.held writer.new) (L.held log.new)) result }
+        (streams (W.held writer.old) (L.held log.old))
+        (streams (W.held writer.new) (L.held log.new)) result }
     ensures answers { result ≤ 1 → Answered order (R.remaining reader.old) (R.remaining reader.new)
-        (streams (W.held writer.old) (L.held log.old)) (streams (W.held writer.new) (L.held log.new)) result }
+        (streams (W.held writer.old) (L.held log.old))
+        (streams (W.held writer.new) (L.held log.new)) result }
     ensures status { result ≤ 3 }
 {
     let text = match text_of(rt.alloc(), reader) {
@@ -123,9 +129,9 @@ where
 /// Reads a text, writes the reply to it and gives the status.
 ///
 /// It reads to the end, or 65,537 bytes where there are more, which are answered as too long. Where room for them is
-/// refused, it writes the reply for want of memory and gives 3; after a failed read it writes the line `refused: file` and
-/// gives 2; after a failed write it gives 3. A read or a write that a signal interrupts is made again. Where it gives 0 or
-/// 1, it read all that the reader had, and wrote just the bytes that `answer` promises for that, once.
+/// refused, it writes the reply for want of memory and gives 3; after a failed read it writes the line `refused: file`
+/// and gives 2; after a failed write it gives 3. A read or a write that a signal interrupts is made again. Where it
+/// gives 0 or 1, it read all that the reader had, and wrote just the bytes that `answer` promises for that, once.
 pub fn serve<X: Alloc + Wait + Threads + Sync, R: Read, W: Stream>(
     rt: &X,
     reader: &mut R,
@@ -134,9 +140,11 @@ pub fn serve<X: Alloc + Wait + Threads + Sync, R: Read, W: Stream>(
 ) -> u8
 where
     X::A: Copy + Send + Sync,
-    ensures serves { (log : Held × Held) × Serves [] order (R.remaining reader.old) (R.remaining reader.new)
+    ensures serves { (log : Held × Held)
+        × Serves [] order (R.remaining reader.old) (R.remaining reader.new)
         (streams (W.held writer.old) log.0) (streams (W.held writer.new) log.1) result }
-    ensures answers { result ≤ 1 → (log : Held × Held) × Answered order (R.remaining reader.old) (R.remaining reader.new)
+    ensures answers { result ≤ 1
+        → (log : Held × Held) × Answered order (R.remaining reader.old) (R.remaining reader.new)
         (streams (W.held writer.old) log.0) (streams (W.held writer.new) log.1) result }
     ensures status { result ≤ 3 }
 {

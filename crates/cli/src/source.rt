@@ -12,9 +12,11 @@ const MOST: usize = 65_537;
 /// Reads to the end, or until no room is left, and gives how many bytes were read.
 fn fill<R: Read>(reader: &mut R, room: &mut [u8]) -> io::Result<usize>
     ensures within { IfOk result (λ n. n ≤ length room.new) }
-    ensures gave { IfOk result (λ n. Gave (length room.old) (R.remaining reader.old) (R.remaining reader.new)
+    ensures gave { IfOk result
+        (λ n. Gave (length room.old) (R.remaining reader.old) (R.remaining reader.new)
         (take n room.new)) }
-    ensures part { OnErr result (GavePart (length room.old) (R.remaining reader.old) (R.remaining reader.new)) }
+    ensures part { OnErr result
+        (GavePart (length room.old) (R.remaining reader.old) (R.remaining reader.new)) }
 {
     let mut filled = 0;
     for _turn in 0..u64::MAX {
@@ -39,9 +41,11 @@ fn fill<R: Read>(reader: &mut R, room: &mut [u8]) -> io::Result<usize>
 
 /// Reads to the end, or as much as shows that the bytes are no text.
 pub(crate) fn text_of<R: Read, A: Allocator>(alloc: A, reader: &mut R) -> io::Result<Vec<u8, A>>
-    ensures gave { IfOk result (λ text. Gave most_read (R.remaining reader.old) (R.remaining reader.new)
+    ensures gave { IfOk result
+        (λ text. Gave most_read (R.remaining reader.old) (R.remaining reader.new)
         (vec_items text)) }
-    ensures part { OnErr result (GavePart most_read (R.remaining reader.old) (R.remaining reader.new)) }
+    ensures part { OnErr result
+        (GavePart most_read (R.remaining reader.old) (R.remaining reader.new)) }
 {
     let mut text = Vec::new(alloc);
     text.resize(MOST, 0)?;

@@ -6,8 +6,8 @@ use summaries::EdgeLimit;
 /// What is asked of a text.
 #[derive(Clone, Copy, Debug, PartialEq, Eq)]
 pub enum Order {
-    /// Whether a run of at most so many rounds fails an assert, where no procedure has more than so many path edges; and, if
-    /// asked for, what each procedure of the sequential program counts.
+    /// Whether a run of at most so many rounds fails an assert, where no procedure has more than so many path edges;
+    /// and, if asked for, what each procedure of the sequential program counts.
     Check {
         rounds: Rounds,
         edges: EdgeLimit,

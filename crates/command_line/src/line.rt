@@ -129,7 +129,8 @@ fn fault_of(alloc: Global, error: &Error) -> LineFault
 
 /// The order of this name with these numbers, and with `--stats` or without, if there is one.
 fn order_of(name: &str, rounds: u8, edges: Option<u32>, stats: Option<bool>) -> Option<Order>
-    ensures { MatchOption result ((order : Order) → ¬ line.IsNamed name.now rounds edges stats order)
+    ensures { MatchOption result
+        ((order : Order) → ¬ line.IsNamed name.now rounds edges stats order)
         (line.IsNamed name.now rounds edges stats) }
 {
     let rounds = Rounds::new(rounds)?;
@@ -163,9 +164,11 @@ fn asked<'a>(matches: &ArgMatches<'a>) -> Option<(Order, &'a str)>
     Some((order, file))
 }
 
-/// The order and the file that the command line gives for the words, the program's own name first, or why it gives none.
+/// The order and the file that the command line gives for the words, the program's own name first, or why it gives
+/// none.
 pub fn order(alloc: Global, words: &[String]) -> Result<(Order, String), LineFault>
-    ensures asks { IfOk result (λ o. line.AskFor (map string_bytes words.now) o.0 (string_bytes o.1)) }
+    ensures asks { IfOk result
+        (λ o. line.AskFor (map string_bytes words.now) o.0 (string_bytes o.1)) }
     ensures refuses { IfErr result (λ why. line.Refuses (map string_bytes words.now) why) }
 {
     let Ok(command) = command(alloc) else {

@@ -1,6 +1,7 @@
 //! A message about a place of a text: where it is, what is wrong with which name, and the source line.
 
-ghost use Rattle.std.specs.Prelude.{◌≡◌, ◌++◌, ◌-◌, ◌<◌, ◌≤◌, OnOk, codes, drop, length, map, min, not, position};
+ghost use Rattle.std.specs.Prelude.{◌≡◌, ◌++◌, ◌-◌, ◌<◌, ◌≤◌, OnOk, codes, drop, length, map, min};
+ghost use Rattle.std.specs.Prelude.{not, position};
 ghost use Rattle.std.specs.Prelude.{take};
 ghost use Rattle.std.specs.Fmt.{decimal};
 ghost use Rattle.std.specs.String.{string_bytes};
@@ -105,7 +106,8 @@ fn shown(byte: u8) -> char
 
 /// Writes bytes of a text as they are shown.
 fn push_bytes<A: Allocator>(message: &mut String<A>, bytes: &[u8]) -> Result<(), AllocError>
-    ensures { OnOk result (string_bytes message.new ≡ string_bytes message.old ++ map told.shown bytes.now) }
+    ensures { OnOk result
+        (string_bytes message.new ≡ string_bytes message.old ++ map told.shown bytes.now) }
 {
     for byte in bytes {
         message.push(shown(*byte))?;
@@ -123,7 +125,8 @@ fn blank(byte: u8) -> char
 
 /// Writes as many blanks as there are bytes; a tab stays one, so that what follows stands under them.
 fn push_blanks<A: Allocator>(message: &mut String<A>, bytes: &[u8]) -> Result<(), AllocError>
-    ensures { OnOk result (string_bytes message.new ≡ string_bytes message.old ++ map told.blank bytes.now) }
+    ensures { OnOk result
+        (string_bytes message.new ≡ string_bytes message.old ++ map told.blank bytes.now) }
 {
     for byte in bytes {
         message.push(blank(*byte))?;
@@ -133,7 +136,8 @@ fn push_blanks<A: Allocator>(message: &mut String<A>, bytes: &[u8]) -> Result<()
 
 /// Writes a word between quotes, and no more of it than fits on a line.
 fn push_name<A: Allocator>(message: &mut String<A>, name: &[u8]) -> Result<(), AllocError>
-    ensures { OnOk result (string_bytes message.new ≡ string_bytes message.old ++ told.quoted name.now) }
+    ensures { OnOk result
+        (string_bytes message.new ≡ string_bytes message.old ++ told.quoted name.now) }
 {
     push(message, "`")?;
     push_bytes(message, first(name, NAME))?;
@@ -159,7 +163,8 @@ fn push_source<A: Allocator>(
 
 /// Writes a caret under a place.
 fn push_caret<A: Allocator>(message: &mut String<A>, before: &[u8]) -> Result<(), AllocError>
-    ensures { OnOk result (string_bytes message.new ≡ string_bytes message.old ++ told.caret_line before.now) }
+    ensures { OnOk result
+        (string_bytes message.new ≡ string_bytes message.old ++ told.caret_line before.now) }
 {
     push_blanks(message, dots(before, BEFORE).as_bytes())?;
     push_blanks(message, last(before, BEFORE))?;
@@ -186,7 +191,8 @@ fn push_width<A: Allocator>(
     places: u128,
     rounds: u8,
 ) -> Result<(), AllocError>
-    ensures { OnOk result (string_bytes message.new ≡ string_bytes message.old ++ told.needs places rounds) }
+    ensures { OnOk result
+        (string_bytes message.new ≡ string_bytes message.old ++ told.needs places rounds) }
 {
     write!(
         message,
@@ -196,7 +202,8 @@ fn push_width<A: Allocator>(
 
 /// Writes the number of a byte.
 fn push_number<A: Allocator>(message: &mut String<A>, byte: u8) -> Result<(), AllocError>
-    ensures { OnOk result (string_bytes message.new ≡ string_bytes message.old ++ (codes "byte " ++ decimal byte)) }
+    ensures { OnOk result
+        (string_bytes message.new ≡ string_bytes message.old ++ (codes "byte " ++ decimal byte)) }
 {
     write!(message, "byte {byte}")
 }
@@ -204,7 +211,8 @@ fn push_number<A: Allocator>(message: &mut String<A>, byte: u8) -> Result<(), Al
 /// Writes what stands first in the rest of a line, where no word does: a sign, the number of a byte that is none, or
 /// that nothing more does.
 fn push_sign<A: Allocator>(message: &mut String<A>, rest: &[u8]) -> Result<(), AllocError>
-    ensures { OnOk result (string_bytes message.new ≡ string_bytes message.old ++ told.sign_or_number rest.now) }
+    ensures { OnOk result
+        (string_bytes message.new ≡ string_bytes message.old ++ told.sign_or_number rest.now) }
 {
     match rest.first() {
         Some(b'!'..=b'~') => push_name(message, first(rest, 1)),
@@ -215,7 +223,8 @@ fn push_sign<A: Allocator>(message: &mut String<A>, rest: &[u8]) -> Result<(), A
 
 /// Writes what stands first in the rest of a line.
 fn push_first<A: Allocator>(message: &mut String<A>, rest: &[u8]) -> Result<(), AllocError>
-    ensures { OnOk result (string_bytes message.new ≡ string_bytes message.old ++ told.first_item rest.now) }
+    ensures { OnOk result
+        (string_bytes message.new ≡ string_bytes message.old ++ told.first_item rest.now) }
 {
     let word = first_word(rest);
     if word.is_empty() {
@@ -282,7 +291,8 @@ pub fn at_offset<A: Allocator>(
     at: u32,
     wrong: Wrong<'_>,
 ) -> Result<(), AllocError>
-    ensures { OnOk result (told.Locates path.now text.now (min (length text.now) at) (told.of_fault wrong.entry)
+    ensures { OnOk result
+        (told.Locates path.now text.now (min (length text.now) at) (told.of_fault wrong.entry)
         (string_bytes message.old) (string_bytes message.new)) }
 {
     at_byte(message, path, text, text.len().min(at as usize), wrong)

@@ -1,6 +1,6 @@
-//! Answers for the programs of examples/ and for the transcripts of the documents. In the standard input a line `== NAME`
-//! begins a text, the lines under it are that text, and a line `$ WORDS` asks about it. Each line `$ WORDS` is printed again,
-//! with the reply and the status under it.
+//! Answers for the programs of examples/ and for the transcripts of the documents. In the standard input a line `==
+//! NAME` begins a text, the lines under it are that text, and a line `$ WORDS` asks about it. Each line `$ WORDS` is
+//! printed again, with the reply and the status under it.
 //!
 //! `examples/run --write` makes the files stdin and stdout from the documents and examples/verdicts.txt.
 #![tactic(auto)]

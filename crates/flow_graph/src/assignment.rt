@@ -103,7 +103,8 @@ impl<'a, N: Allocator> Scope<'a, N> {
     /// The bit of a target: `None` where it is declared nowhere, or a later target writes it again.
     fn lasting(&self, target: &Name<N>, later: &[Name<N>]) -> Option<u8>
         requires { IsSmall self.now }
-        ensures bit { result ≡ lasting_bit (scope_seen self.now) (name_of target.now) (names_of later.now) }
+        ensures bit { result
+            ≡ lasting_bit (scope_seen self.now) (name_of target.now) (names_of later.now) }
         ensures small { IfSome result (λ b. b < most_places) }
     {
         let bit = self.bit(target)?;
@@ -123,7 +124,8 @@ impl<'a, N: Allocator> Scope<'a, N> {
         side: &Rhs<N>,
     ) -> Result<Write<A>, AllocError>
         requires { IsSmall self.now × (bit < most_places) }
-        ensures { IfOk result (λ w. (w.mask ≡ 2 ^ bit) × SaysSide w.side (scope_seen self.now) (rhs_of side.now)) }
+        ensures { IfOk result
+            (λ w. (w.mask ≡ 2 ^ bit) × SaysSide w.side (scope_seen self.now) (rhs_of side.now)) }
     {
         let side = self.side(alloc, side)?;
         let mask = 1 << bit;
@@ -139,7 +141,8 @@ impl<'a, N: Allocator> Scope<'a, N> {
         sides: &[Rhs<N>],
     ) -> Result<Assignment<A>, AllocError>
         requires { IsSmall self.now }
-        ensures { IfOk result (λ a. Assigns a (scope_seen self.now) (names_of targets.now) (rhss_of sides.now)) }
+        ensures { IfOk result
+            (λ a. Assigns a (scope_seen self.now) (names_of targets.now) (rhss_of sides.now)) }
     {
         let count = targets.len().min(sides.len());
         let mut writes = Vec::new(alloc.clone()?);

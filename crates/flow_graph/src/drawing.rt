@@ -53,8 +53,10 @@ pub fn graphs<N: Allocator, A: Allocator + Clone>(
     alloc: &A,
     sequential: &Sequential<N>,
 ) -> Result<Graphs<A>, AllocError>
-    ensures graphs { IfOk result (λ gs. AreDrawnFrom (sequential_of (sequential_tree sequential.now)) (graphs_of gs)) }
-    ensures bad { IfOk result (λ gs. bad_of gs ≡ number_of (codes "bad__") (sequential_tree sequential.now).globals) }
+    ensures graphs { IfOk result
+        (λ gs. AreDrawnFrom (sequential_of (sequential_tree sequential.now)) (graphs_of gs)) }
+    ensures bad { IfOk result
+        (λ gs. bad_of gs ≡ number_of (codes "bad__") (sequential_tree sequential.now).globals) }
 {
     let program = sequential.program();
     let mut graphs = Vec::new(alloc.clone()?);

@@ -43,8 +43,8 @@ impl<A: Allocator> Flow<A> {
         self.choose(values, choice).0
     }
 
-    /// Where the run goes on for a choice, as `next` tells, and whether there is a choice behind it, as `last` tells. So
-    /// who walks over all choices looks at the flow once for each.
+    /// Where the run goes on for a choice, as `next` tells, and whether there is a choice behind it, as `last` tells.
+    /// So who walks over all choices looks at the flow once for each.
     #[inline(always)]
     pub fn choose(&self, values: Word, choice: u64) -> (Option<(Point, Word)>, bool)
         ensures next { result.0 ≡ next_of self.now values choice }

@@ -6,12 +6,15 @@ ghost use Rattle.language.specs.Step.{Routine, Program, body_of};
 ghost use Rattle.language.specs.Sequential.{in_text_order, Valuation, Caller, Message, IsDue};
 ghost use Rattle.language.specs.Flow.{IsRestOf};
 ghost use Rattle.language.specs.Lists.{Member};
-ghost use Rattle.language.specs.Messages.{Reached, Owes, EdgeTo, IsValuationOf, IsMessageTo, ArgumentsFit};
+ghost use Rattle.language.specs.Messages.{Reached, Owes, EdgeTo, IsValuationOf, IsMessageTo};
+ghost use Rattle.language.specs.Messages.{ArgumentsFit};
 ghost use Rattle.flow_graph.specs.Nodes.{point_at};
 ghost use Rattle.flow_graph.specs.Flows.{code};
 ghost use Rattle.flow_graph.specs.Graphs.{IsGraph, IsInTextOrder};
-ghost use Rattle.flow_graph.specs.Numbers.{Among, AllAre, NumberedMessage, numbered_entry, by_numbers, IsNumberOf};
-ghost use Rattle.flow_graph.specs.Numbers.{GraphReaches, Sends, AreNumbersOf, IsNumberOfValuation, AreNumbersOfEdge};
+ghost use Rattle.flow_graph.specs.Numbers.{Among, AllAre, NumberedMessage, numbered_entry};
+ghost use Rattle.flow_graph.specs.Numbers.{by_numbers, IsNumberOf};
+ghost use Rattle.flow_graph.specs.Numbers.{GraphReaches, Sends, AreNumbersOf, IsNumberOfValuation};
+ghost use Rattle.flow_graph.specs.Numbers.{AreNumbersOfEdge};
 ghost use Rattle.flow_graph.specs.Triples.{HoldStarts, HoldFlows, HoldReturns, AreReached};
 ghost use Rattle.flow_graph.specs.Triples.{HoldAsks, HoldTells, AreSent};
 ghost use Rattle.flow_graph.specs.declared.graph.Graph.{Graph};
@@ -21,28 +24,33 @@ use std::alloc::Allocator;
 
 /// By the same messages, a graph reaches by numbers what its procedure reaches.
 pub fn a_graph_reaches_what_its_procedure_reaches<A: Allocator>()
-    ensures { (p : Program) (q : ℕ) (graph : Graph A) (ms : List Message) → ArgumentsFit p → IsGraph p q graph
+    ensures { (p : Program) (q : ℕ) (graph : Graph A) (ms : List Message) → ArgumentsFit p
+        → IsGraph p q graph
         → AllAre (IsMessageTo p q) ms → (a n v : ℕ)
-        → GraphReaches graph (Among (map by_numbers ms)) a n v ↔ AreNumbersOf (Reached p q (Among ms)) a n v }
+        → GraphReaches graph (Among (map by_numbers ms)) a n v ↔ AreNumbersOf
+        (Reached p q (Among ms)) a n v }
 {}
 
 /// By the same messages, a graph sends by numbers what its procedure owes.
 pub fn a_graph_sends_what_its_procedure_owes<A: Allocator>()
-    ensures { (p : Program) (q : ℕ) (graph : Graph A) (ms : List Message) → ArgumentsFit p → IsInTextOrder p
+    ensures { (p : Program) (q : ℕ) (graph : Graph A) (ms : List Message) → ArgumentsFit p
+        → IsInTextOrder p
         → IsGraph p q graph → AllAre (IsMessageTo p q) ms → (s : ℕ) (k : NumberedMessage)
         → Sends graph q (Among (map by_numbers ms)) s k ↔ IsNumberOf (Owes p q (Among ms) s) k }
 {}
 
 /// By messages that are due, a graph reaches only path edges.
 pub fn by_due_messages_a_graph_reaches_path_edges<A: Allocator>()
-    ensures { (p : Program) (q : ℕ) (graph : Graph A) (ks : List NumberedMessage) → ArgumentsFit p → IsGraph p q graph
+    ensures { (p : Program) (q : ℕ) (graph : Graph A) (ks : List NumberedMessage) → ArgumentsFit p
+        → IsGraph p q graph
         → AllAre (IsNumberOf (IsDue p q)) ks → (a n v : ℕ)
         → GraphReaches graph (Among ks) a n v → AreNumbersOf (EdgeTo p q) a n v }
 {}
 
 /// By messages that are due, a graph sends only messages that are due.
 pub fn by_due_messages_a_graph_sends_due_messages<A: Allocator>()
-    ensures { (p : Program) (q : ℕ) (graph : Graph A) (ks : List NumberedMessage) → ArgumentsFit p → IsInTextOrder p
+    ensures { (p : Program) (q : ℕ) (graph : Graph A) (ks : List NumberedMessage) → ArgumentsFit p
+        → IsInTextOrder p
         → IsGraph p q graph → AllAre (IsNumberOf (IsDue p q)) ks → (s : ℕ) (k : NumberedMessage)
         → Sends graph q (Among ks) s k → IsNumberOf (IsDue p s) k }
 {}
@@ -50,15 +58,19 @@ pub fn by_due_messages_a_graph_sends_due_messages<A: Allocator>()
 /// By messages of the widths of its procedure, a graph reaches only points that it has, with numbers of the procedure's
 /// valuations.
 pub fn what_a_graph_reaches_has_its_widths<A: Allocator>()
-    ensures { (p : Program) (q : ℕ) (graph : Graph A) (ks : List NumberedMessage) → ArgumentsFit p → IsGraph p q graph
-        → AllAre (IsNumberOf (IsMessageTo p q)) ks → (a n v : ℕ) → GraphReaches graph (Among ks) a n v
+    ensures { (p : Program) (q : ℕ) (graph : Graph A) (ks : List NumberedMessage) → ArgumentsFit p
+        → IsGraph p q graph
+        → AllAre (IsNumberOf (IsMessageTo p q)) ks → (a n v : ℕ)
+        → GraphReaches graph (Among ks) a n v
         → (n < length (flows_of graph)) × IsNumberOfValuation p q a × IsNumberOfValuation p q v }
 {}
 
 /// By messages of the widths of its procedure, a graph sends only messages of the widths of who they are for.
 pub fn what_a_graph_sends_has_its_widths<A: Allocator>()
-    ensures { (p : Program) (q : ℕ) (graph : Graph A) (ks : List NumberedMessage) → ArgumentsFit p → IsInTextOrder p
-        → IsGraph p q graph → AllAre (IsNumberOf (IsMessageTo p q)) ks → (s : ℕ) (k : NumberedMessage)
+    ensures { (p : Program) (q : ℕ) (graph : Graph A) (ks : List NumberedMessage) → ArgumentsFit p
+        → IsInTextOrder p
+        → IsGraph p q graph → AllAre (IsNumberOf (IsMessageTo p q)) ks
+        → (s : ℕ) (k : NumberedMessage)
         → Sends graph q (Among ks) s k → IsNumberOf (IsMessageTo p s) k }
 {}
 
@@ -66,32 +78,37 @@ pub fn what_a_graph_sends_has_its_widths<A: Allocator>()
 pub fn more_messages_lead_a_graph_further<A: Allocator>()
     ensures { (q : ℕ) (graph : Graph A) (ks js : List NumberedMessage) → AllAre (Among js) ks
         → ((a n v : ℕ) → GraphReaches graph (Among ks) a n v → GraphReaches graph (Among js) a n v)
-        × ((s : ℕ) (k : NumberedMessage) → Sends graph q (Among ks) s k → Sends graph q (Among js) s k) }
+        × ((s : ℕ) (k : NumberedMessage) → Sends graph q (Among ks) s k
+        → Sends graph q (Among js) s k) }
 {}
 
 /// What a graph reaches from the number of an entry has an entry with this number.
 pub fn what_a_graph_reaches_has_an_entry<A: Allocator>()
-    ensures { (graph : Graph A) (ks : List NumberedMessage) (a n v : ℕ) → GraphReaches graph (Among ks) a n v
+    ensures { (graph : Graph A) (ks : List NumberedMessage) (a n v : ℕ)
+        → GraphReaches graph (Among ks) a n v
         → (from : Caller) × Member (numbered_entry from a) ks }
 {}
 
 /// Triples that hold the starts, and follow the flows and the returns, hold all that a graph reaches.
 pub fn triples_that_follow_hold_what_is_reached<A: Allocator>()
-    ensures { (graph : Graph A) (ks : List NumberedMessage) (ts : List (ℕ × ℕ × ℕ)) → HoldStarts graph ks ts
+    ensures { (graph : Graph A) (ks : List NumberedMessage) (ts : List (ℕ × ℕ × ℕ))
+        → HoldStarts graph ks ts
         → HoldFlows graph ts → HoldReturns graph ks ts → (a n v : ℕ)
         → GraphReaches graph (Among ks) a n v → Member (a, n, v) ts }
 {}
 
 /// Triples of all that a graph reaches, and of nothing else, hold the starts and follow the flows and the returns.
 pub fn triples_of_all_that_is_reached_follow<A: Allocator>()
-    ensures { (graph : Graph A) (ks : List NumberedMessage) (ts : List (ℕ × ℕ × ℕ)) → AreReached graph ks ts
+    ensures { (graph : Graph A) (ks : List NumberedMessage) (ts : List (ℕ × ℕ × ℕ))
+        → AreReached graph ks ts
         → HoldStarts graph ks ts × HoldFlows graph ts × HoldReturns graph ks ts }
 {}
 
 /// Messages that, besides, hold what such triples ask and tell, hold all that a graph sends.
 pub fn messages_that_follow_hold_what_is_sent<A: Allocator>()
     ensures { (q : ℕ) (graph : Graph A) (ks : List NumberedMessage) (ts : List (ℕ × ℕ × ℕ))
-        (sent : List (ℕ × NumberedMessage)) → HoldStarts graph ks ts → HoldFlows graph ts → HoldReturns graph ks ts
+        (sent : List (ℕ × NumberedMessage)) → HoldStarts graph ks ts → HoldFlows graph ts
+        → HoldReturns graph ks ts
         → HoldAsks graph q ts sent → HoldTells graph q ks ts sent → (s : ℕ) (k : NumberedMessage)
         → Sends graph q (Among ks) s k → Member (s, k) sent }
 {}
@@ -131,7 +148,8 @@ pub fn its_numbers_tell_a_path_edge()
 
 /// In a program that is marked in text order, the number of a point tells what is left to run.
 pub fn the_number_of_a_point_tells_its_rest()
-    ensures { (p : Program) (q : ℕ) (r s : Code) → IsInTextOrder p → IsRestOf (body_of (slice_get p.routines q)) r
+    ensures { (p : Program) (q : ℕ) (r s : Code) → IsInTextOrder p
+        → IsRestOf (body_of (slice_get p.routines q)) r
         → IsRestOf (body_of (slice_get p.routines q)) s → point_at r ≡ point_at s → r ≡ s }
 {}
 
@@ -142,11 +160,13 @@ pub fn marked_programs_are_in_text_order()
 
 /// The number of a procedure's valuation has as many bits as there are globals and places.
 pub fn the_number_of_a_valuation_has_its_width()
-    ensures { (p : Program) (q : ℕ) (routine : Routine) (n : ℕ) → slice_get p.routines q ≡ Some routine
+    ensures { (p : Program) (q : ℕ) (routine : Routine) (n : ℕ)
+        → slice_get p.routines q ≡ Some routine
         → IsNumberOfValuation p q n → n < 2 ^ (p.globals + routine.places) }
 {}
 
 /// The numbers of a path edge are those of its valuations and its point.
 pub fn the_numbers_of_a_path_edge_have_its_point()
-    ensures { (p : Program) (q a n v : ℕ) → AreNumbersOf (EdgeTo p q) a n v ↔ AreNumbersOfEdge p q a n v }
+    ensures { (p : Program) (q a n v : ℕ)
+        → AreNumbersOf (EdgeTo p q) a n v ↔ AreNumbersOfEdge p q a n v }
 {}

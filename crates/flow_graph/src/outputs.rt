@@ -73,7 +73,8 @@ pub(crate) fn outputs_of_slot(slot: usize) -> [u64; WORDS]
 
 /// The outputs of an operator in 64 rows, for those of its operands.
 fn combined_word(op: Op, left: u64, right: u64) -> u64
-    ensures { (j : ℕ) → j < word_rows → bit_of result j ≡ operate (operator_of op) (bit_of left j) (bit_of right j) }
+    ensures { (j : ℕ) → j < word_rows
+        → bit_of result j ≡ operate (operator_of op) (bit_of left j) (bit_of right j) }
 {
     match op {
         Op::Implies => !left | right,

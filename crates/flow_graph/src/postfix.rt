@@ -108,7 +108,8 @@ impl<'a, N: Allocator> Scope<'a, N> {
     /// Puts the steps of an expression behind others.
     fn put<A: Allocator>(&self, e: &Expr<N>, steps: &mut Vec<Step, A>) -> Result<(), AllocError>
         requires { IsSmall self.now }
-        ensures { IfOk result (λ _. Puts steps.old.items steps.new.items (over_bits self.now e.now)) }
+        ensures { IfOk result
+            (λ _. Puts steps.old.items steps.new.items (over_bits self.now e.now)) }
     {
         match e {
             Expr::Const(b) => push(Step::Constant(*b), steps),

@@ -10,7 +10,8 @@ pub(crate) fn put<T: Drop, A: Allocator>(
     made: Result<T, AllocError>,
     list: &mut Vec<T, A>,
 ) -> Result<(), AllocError>
-    ensures { IfOk result (λ _. (x : T) × (made ≡ Ok x) × (list.new.items ≡ list.old.items ++ x ∷ [])) }
+    ensures { IfOk result
+        (λ _. (x : T) × (made ≡ Ok x) × (list.new.items ≡ list.old.items ++ x ∷ [])) }
 {
     push(made?, list)
 }

@@ -89,7 +89,8 @@ impl<'a, N: Allocator> Scope<'a, N> {
         ensures widens { Widens inputs.old.items inputs.new.items }
         ensures bits { AreBits inputs.new.items }
         ensures few { length inputs.new.items ≤ most_inputs }
-        ensures outputs { IfSome result (λ w. Tabulates inputs.new.items w (over_bits self.now e.now)) }
+        ensures outputs { IfSome result
+            (λ w. Tabulates inputs.new.items w (over_bits self.now e.now)) }
     {
         match e {
             Expr::Const(b) => Some(if *b { [ALL; WORDS] } else { [0; WORDS] }),

@@ -1,4 +1,5 @@
-//! Answers to questions on flow graphs. A question is a word and numbers: valuations in binary digits behind `0b`, others in decimal.
+//! Answers to questions on flow graphs. A question is a word and numbers: valuations in binary digits behind `0b`,
+//! others in decimal.
 
 use flow_graph::{Call, Flow, Graph, Graphs};
 use language::Point;

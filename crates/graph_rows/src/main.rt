@@ -1,7 +1,8 @@
-//! Rows of flow graphs: each line of the standard input is a question on the graphs of a text, and its answer goes to the standard output.
+//! Rows of flow graphs: each line of the standard input is a question on the graphs of a text, and its answer goes to
+//! the standard output.
 //!
-//! A line is `ROUNDS | QUESTION | TEXT`: the text is checked and rewritten for so many rounds, and the question is put to the flow graphs
-//! of the result. A line that begins with `#` is written as it stands.
+//! A line is `ROUNDS | QUESTION | TEXT`: the text is checked and rewritten for so many rounds, and the question is put
+//! to the flow graphs of the result. A line that begins with `#` is written as it stands.
 #![tactic(auto)]
 
 mod answers;
@@ -16,8 +17,8 @@ use std::io;
 use syntax::read;
 use trees::Program;
 
-/// The answer to a question on a rewritten program. Behind the word `refused` it stands after each allocation for the graphs was refused in
-/// turn.
+/// The answer to a question on a rewritten program. Behind the word `refused` it stands after each allocation for the
+/// graphs was refused in turn.
 fn of_sequential<A: Allocator + Copy>(
     alloc: A,
     sequential: &Sequential<A>,

@@ -35,8 +35,8 @@ fn is_answered<H: Allocator + Copy, A: Allocator + Copy>(
     }
 }
 
-/// Whether the allocation of this number was refused. With it refused there are no graphs, or the answer is the wanted one; `None` where
-/// neither is so.
+/// Whether the allocation of this number was refused. With it refused there are no graphs, or the answer is the wanted
+/// one; `None` where neither is so.
 fn was_refused<A: Allocator + Copy>(
     alloc: A,
     nth: u64,
@@ -54,8 +54,8 @@ fn was_refused<A: Allocator + Copy>(
     }
 }
 
-/// Whether with each allocation refused in turn there are no graphs, or the answer is the same; at last none is refused. There are three at
-/// least: for the list of graphs, and for the flows of two of them.
+/// Whether with each allocation refused in turn there are no graphs, or the answer is the same; at last none is
+/// refused. There are three at least: for the list of graphs, and for the flows of two of them.
 fn holds_in_turn<A: Allocator + Copy>(
     alloc: A,
     sequential: &Sequential<A>,

@@ -1,16 +1,20 @@
 //! Laws on what is left to run in a procedure, on its points, and on the steps inside one call.
-ghost use Rattle.std.specs.Prelude.{◌≡◌, ◌↔◌, ◌⊎◌, ◌∷◌, [], ℕ, suc, length, List, Bool, Some, map, slice_get};
-ghost use Rattle.language.specs.Tree.{Mark, RightSide, Expression, Simple, call, done, one, choose, loop};
+ghost use Rattle.std.specs.Prelude.{◌≡◌, ◌↔◌, ◌⊎◌, ◌∷◌, [], ℕ, suc, length, List, Bool, Some, map};
+ghost use Rattle.std.specs.Prelude.{slice_get};
+ghost use Rattle.language.specs.Tree.{Mark, RightSide, Expression, Simple, call, done, one, choose};
+ghost use Rattle.language.specs.Tree.{loop};
 ghost use Rattle.language.specs.Value.{Place};
 ghost use Rattle.language.specs.Rest.{Label, Code};
 ghost use Rattle.language.specs.Step.{Routine, Program, Frame, frame, State, state, Step, body_of};
-ghost use Rattle.language.specs.Sequential.{numbered, numbers, statements, point_of, Valuation, Reaches};
+ghost use Rattle.language.specs.Sequential.{numbered, numbers, statements, point_of, Valuation};
+ghost use Rattle.language.specs.Sequential.{Reaches};
 ghost use Rattle.language.specs.Flow.{rests, IsRestOf, Flow, FlowsTo, ReturnsTo, EntersTo};
 ghost use Rattle.language.specs.Lists.{Member};
 
 /// In a block that is marked in text order, what is left from its statements on has their numbers as points, in order.
 pub fn rests_have_their_points_in_text_order()
-    ensures { (n : ℕ) (b k : Code) → map point_of (rests (numbered n b) k) ≡ map Some (numbers n (statements b)) }
+    ensures { (n : ℕ) (b k : Code)
+        → map point_of (rests (numbered n b) k) ≡ map Some (numbers n (statements b)) }
 {}
 
 /// In a body that is marked in text order, a point tells what is left to run.
@@ -57,7 +61,8 @@ pub fn callers_do_not_matter_to_a_flow()
 
 /// No flow enters a procedure.
 pub fn a_call_has_no_flow()
-    ensures { (p : Program) (q n : ℕ) (v v' : Valuation) (m : Mark Label) (es : List (Expression Place)) (t r' : Code)
+    ensures { (p : Program) (q n : ℕ) (v v' : Valuation) (m : Mark Label)
+        (es : List (Expression Place)) (t r' : Code)
         → Flow p q v (one m (call n es) t) v' r' → ⊥ }
 {}
 

@@ -2,7 +2,8 @@
 ghost use Rattle.std.specs.Prelude.{◌≡◌, ◌↔◌, ◌⊎◌, ℕ, List, Bool, true, false, [], ◌∷◌};
 ghost use Rattle.std.specs.Prelude.{◌++◌, ◌-◌, Option, Some};
 ghost use Rattle.std.specs.Prelude.{length, slice_get};
-ghost use Rattle.language.specs.Tree.{RightSide, Expression, Mark, any, assign, assume, call, choose, done, goto};
+ghost use Rattle.language.specs.Tree.{RightSide, Expression, Mark, any, assign, assume, call};
+ghost use Rattle.language.specs.Tree.{choose, done, goto};
 ghost use Rattle.language.specs.Tree.{leave, loop, one, skip};
 ghost use Rattle.language.specs.Value.{Place, IsValue, global, values_of};
 ghost use Rattle.language.specs.Rest.{Label, Code, join, rest_from};
@@ -16,13 +17,15 @@ pub fn a_finished_frame_goes()
 
 /// A `skip` goes on and changes nothing.
 pub fn a_skip_goes_on()
-    ensures { (p : Program) (g l : List Bool) (c : ℕ) (m : Mark Label) (t : Code) (fs : List Frame) (u : State)
+    ensures { (p : Program) (g l : List Bool) (c : ℕ) (m : Mark Label) (t : Code) (fs : List Frame)
+        (u : State)
         → Step p (state g (frame c l (one m skip t) ∷ fs)) u ↔ (state g (frame c l t ∷ fs) ≡ u) }
 {}
 
 /// An assume has a step exactly where 1 is a value of its right side, and that step leads behind it.
 pub fn an_assume_steps_where_1_is_a_value()
-    ensures { (p : Program) (g l : List Bool) (c : ℕ) (m : Mark Label) (r : RightSide Place) (t : Code)
+    ensures { (p : Program) (g l : List Bool) (c : ℕ) (m : Mark Label) (r : RightSide Place)
+        (t : Code)
         (fs : List Frame) (u : State)
         → Step p (state g (frame c l (one m (assume r) t) ∷ fs)) u
         ↔ (IsValue g l r true × (state g (frame c l t ∷ fs) ≡ u)) }
@@ -30,7 +33,8 @@ pub fn an_assume_steps_where_1_is_a_value()
 
 /// An `if` goes to its first branch where 1 is a value and to its second where 0 is, and then on.
 pub fn an_if_goes_into_a_branch()
-    ensures { (p : Program) (g l : List Bool) (c : ℕ) (m : Mark Label) (r : RightSide Place) (a b t : Code)
+    ensures { (p : Program) (g l : List Bool) (c : ℕ) (m : Mark Label) (r : RightSide Place)
+        (a b t : Code)
         (fs : List Frame) (u : State)
         → Step p (state g (frame c l (choose m r a b t) ∷ fs)) u
         ↔ ((IsValue g l r true × (state g (frame c l (join a t) ∷ fs) ≡ u))
@@ -39,7 +43,8 @@ pub fn an_if_goes_into_a_branch()
 
 /// A loop goes to its body and then to itself where 1 is a value, and on where 0 is.
 pub fn a_loop_goes_into_its_body_or_on()
-    ensures { (p : Program) (g l : List Bool) (c : ℕ) (m : Mark Label) (r : RightSide Place) (a t : Code)
+    ensures { (p : Program) (g l : List Bool) (c : ℕ) (m : Mark Label) (r : RightSide Place)
+        (a t : Code)
         (fs : List Frame) (u : State)
         → Step p (state g (frame c l (loop m r a t) ∷ fs)) u
         ↔ ((IsValue g l r true × (state g (frame c l (join a (loop m r a t)) ∷ fs) ≡ u))
@@ -48,26 +53,34 @@ pub fn a_loop_goes_into_its_body_or_on()
 
 /// A return leaves nothing to run in its frame.
 pub fn a_return_leaves_nothing_to_run()
-    ensures { (p : Program) (g l : List Bool) (c : ℕ) (m : Mark Label) (t : Code) (fs : List Frame) (u : State)
-        → Step p (state g (frame c l (one m leave t) ∷ fs)) u ↔ (state g (frame c l done ∷ fs) ≡ u) }
+    ensures { (p : Program) (g l : List Bool) (c : ℕ) (m : Mark Label) (t : Code) (fs : List Frame)
+        (u : State)
+        → Step p (state g (frame c l (one m leave t) ∷ fs)) u ↔
+        (state g (frame c l done ∷ fs) ≡ u) }
 {}
 
 /// A goto leads to the rest from its label on in the body of the frame's procedure.
 pub fn a_goto_leads_to_its_label()
-    ensures { (p : Program) (g l : List Bool) (c : ℕ) (m : Mark Label) (x : Label) (routine : Routine) (rest t : Code)
+    ensures { (p : Program) (g l : List Bool) (c : ℕ) (m : Mark Label) (x : Label)
+        (routine : Routine) (rest t : Code)
         (fs : List Frame) (u : State)
         → slice_get p.routines c ≡ Some routine → rest_from x routine.body done ≡ Some rest
-        → Step p (state g (frame c l (one m (goto x) t) ∷ fs)) u ↔ (state g (frame c l rest ∷ fs) ≡ u) }
+        → Step p (state g (frame c l (one m (goto x) t) ∷ fs)) u ↔
+        (state g (frame c l rest ∷ fs) ≡ u) }
 {}
 
-/// A call enters the whole body of its procedure, with the arguments first and 0 in every other place, and the caller keeps what
-/// follows.
+/// A call enters the whole body of its procedure, with the arguments first and 0 in every other place, and the caller
+/// keeps what follows.
 pub fn a_call_enters_with_its_arguments()
-    ensures { (p : Program) (g l : List Bool) (c q : ℕ) (m : Mark Label) (es : List (Expression Place))
+    ensures { (p : Program) (g l : List Bool) (c q : ℕ) (m : Mark Label)
+        (es : List (Expression Place))
         (routine : Routine) (t : Code) (fs : List Frame) (u : State)
         → slice_get p.routines q ≡ Some routine
         → Step p (state g (frame c l (one m (call q es) t) ∷ fs)) u
-        ↔ (state g (frame q (values_of g l es ++ zeros (routine.places - length (values_of g l es))) routine.body
+        ↔
+        (state g
+        (frame q
+        (values_of g l es ++ zeros (routine.places - length (values_of g l es))) routine.body
         ∷ frame c l t ∷ fs) ≡ u) }
 {}
 
@@ -78,7 +91,9 @@ pub fn a_question_mark_has_both_values()
 
 /// x := ? gives a global either value, and no other step.
 pub fn a_target_of_a_question_mark_gets_either_value()
-    ensures { (p : Program) (a : Bool) (l : List Bool) (c : ℕ) (m : Mark Label) (t : Code) (fs : List Frame) (u : State)
+    ensures { (p : Program) (a : Bool) (l : List Bool) (c : ℕ) (m : Mark Label) (t : Code)
+        (fs : List Frame) (u : State)
         → Step p (state (a ∷ []) (frame c l (one m (assign (global 0 ∷ []) (any ∷ [])) t) ∷ fs)) u
-        ↔ ((state (true ∷ []) (frame c l t ∷ fs) ≡ u) ⊎ (state (false ∷ []) (frame c l t ∷ fs) ≡ u)) }
+        ↔
+        ((state (true ∷ []) (frame c l t ∷ fs) ≡ u) ⊎ (state (false ∷ []) (frame c l t ∷ fs) ≡ u)) }
 {}

@@ -14,8 +14,8 @@ use indexmap::IndexMap;
 use std::alloc::{AllocError, Allocator};
 use std::hash::{BuildHasherDefault, FoldHasher};
 
-/// The valuations that are at the point, by what is left of them at a level and the diagram of a number there; of the one of
-/// which nothing is left, it is told.
+/// The valuations that are at the point, by what is left of them at a level and the diagram of a number there; of the
+/// one of which nothing is left, it is told.
 #[derive(Clone, Copy, Debug, PartialEq, Eq, Hash)]
 pub(crate) struct Asked {
     pub(crate) number: u32,
@@ -108,8 +108,8 @@ fn begin<A: Allocator + Copy>(quads: &Quads<A>, bit: usize, number: u32, level: 
     }
 }
 
-/// The reduced diagram, whose nodes test one bit each, of the valuations that are at a point by the diagram of a number, and
-/// its number there.
+/// The reduced diagram, whose nodes test one bit each, of the valuations that are at a point by the diagram of a
+/// number, and its number there.
 pub(crate) fn binary<A: Allocator + Copy>(
     quads: &Quads<A>,
     number: u32,

@@ -24,10 +24,10 @@ use std::alloc::{AllocError, Allocator};
 /// How many places are gathered at most.
 const MANY: usize = 4_096;
 
-/// Path edges as decision diagrams over the bits of a valuation, one for each entry and block of 64 points, whose nodes are
-/// shared (Bryant 1986). A diagram gives a valuation the mask of its points, two bits of it at each node, the least first, and
-/// no further than its highest bit that is 1. The places of new path edges are gathered, and put into the diagrams many at a
-/// time.
+/// Path edges as decision diagrams over the bits of a valuation, one for each entry and block of 64 points, whose nodes
+/// are shared (Bryant 1986). A diagram gives a valuation the mask of its points, two bits of it at each node, the least
+/// first, and no further than its highest bit that is 1. The places of new path edges are gathered, and put into the
+/// diagrams many at a time.
 #[derive(Drop)]
 pub struct DiagramEdges<A: Allocator> {
     /// The points of the places that are gathered, those that the diagrams have there too.
@@ -38,16 +38,20 @@ pub struct DiagramEdges<A: Allocator> {
     count: u64,
     ghost unique: { IsUnique place_eq gathered } by { IsDistinct-prop place_eq (keys gathered) },
     ghost covers: { Covers merged.nodes.kept.keys merged.rows.entries gathered.entries },
-    ghost counted: { count ≡ length (all_edges merged.nodes.kept.keys merged.rows.entries gathered.entries) },
-    ghost once: { NoneTwice (all_edges merged.nodes.kept.keys merged.rows.entries gathered.entries) } by { NoneTwice-prop
-        (all_edges merged.nodes.kept.keys merged.rows.entries gathered.entries) },
+    ghost counted: { count
+        ≡ length (all_edges merged.nodes.kept.keys merged.rows.entries gathered.entries) },
+    ghost once: { NoneTwice
+        (all_edges merged.nodes.kept.keys merged.rows.entries gathered.entries) } by { NoneTwice-prop
+            (all_edges merged.nodes.kept.keys merged.rows.entries gathered.entries) },
 }
 
 impl<A: Allocator + Copy> DiagramEdges<A> {
     /// Puts what is gathered into the diagrams, where it is much. Where memory is refused, all stays gathered.
     fn make_room(&mut self) -> Result<(), AllocError>
-        ensures { all_edges self.new.merged.nodes.kept.keys self.new.merged.rows.entries self.new.gathered.entries
-            ≡ all_edges self.old.merged.nodes.kept.keys self.old.merged.rows.entries self.old.gathered.entries }
+        ensures { all_edges self.new.merged.nodes.kept.keys self.new.merged.rows.entries
+            self.new.gathered.entries
+            ≡ all_edges self.old.merged.nodes.kept.keys self.old.merged.rows.entries
+            self.old.gathered.entries }
     {
         if self.gathered.len() >= MANY {
             put_all(&mut self.merged, &self.gathered)?;
@@ -61,7 +65,8 @@ impl<A: Allocator + Copy> DiagramEdges<A> {
     /// level. It takes memory in proportion to all diagrams; where memory is refused, the set stays as it is.
     pub fn nodes(&self, entry: Word, point: Point) -> Result<u64, AllocError>
         ensures { IfOk result (HasNodes 64 (λ v. Member (triple entry point v)
-            (all_edges self.now.merged.nodes.kept.keys self.now.merged.rows.entries self.now.gathered.entries))) }
+            (all_edges self.now.merged.nodes.kept.keys self.now.merged.rows.entries
+            self.now.gathered.entries))) }
     {
         let (place, bit) = place_of(entry, point, 0);
         let row = Row {
@@ -74,8 +79,8 @@ impl<A: Allocator + Copy> DiagramEdges<A> {
     }
 }
 
-/// Puts a point into the mask of a place that is not gathered yet, which begins with the points that the diagrams have. Answers
-/// whether it is new; else the place stays where it is.
+/// Puts a point into the mask of a place that is not gathered yet, which begins with the points that the diagrams have.
+/// Answers whether it is new; else the place stays where it is.
 fn gather<A: Allocator + Copy>(
     gathered: &mut Masks<A>,
     merged: &mut Merged<A>,
@@ -85,14 +90,17 @@ fn gather<A: Allocator + Copy>(
     requires bit { bit < 64 }
     requires none { lookup (place_eq place) gathered.old.entries ≡ None }
     requires unique { IsUnique place_eq gathered.old }
-    requires covers { Covers merged.old.nodes.kept.keys merged.old.rows.entries gathered.old.entries }
+    requires covers { Covers merged.old.nodes.kept.keys merged.old.rows.entries
+        gathered.old.entries }
     ensures nodes { merged.new.nodes ≡ merged.old.nodes }
     ensures rows { merged.new.rows ≡ merged.old.rows }
-    ensures ok { IfOk result (Puts merged.new.nodes.kept.keys merged.new.rows.entries (edge_at place bit)
+    ensures ok { IfOk result
+        (Puts merged.new.nodes.kept.keys merged.new.rows.entries (edge_at place bit)
         gathered.old.entries gathered.new.entries) }
     ensures err { OnErr result (gathered.new.entries ≡ gathered.old.entries) }
     ensures unique { IsUnique place_eq gathered.new }
-    ensures covers { Covers merged.new.nodes.kept.keys merged.new.rows.entries gathered.new.entries }
+    ensures covers { Covers merged.new.nodes.kept.keys merged.new.rows.entries
+        gathered.new.entries }
 {
     let row = row_of(&place);
     merged.seek(&row);
@@ -114,14 +122,17 @@ fn put<A: Allocator + Copy>(
 ) -> Result<bool, AllocError>
     requires bit { bit < 64 }
     requires unique { IsUnique place_eq gathered.old }
-    requires covers { Covers merged.old.nodes.kept.keys merged.old.rows.entries gathered.old.entries }
+    requires covers { Covers merged.old.nodes.kept.keys merged.old.rows.entries
+        gathered.old.entries }
     ensures nodes { merged.new.nodes ≡ merged.old.nodes }
     ensures rows { merged.new.rows ≡ merged.old.rows }
-    ensures ok { IfOk result (Puts merged.new.nodes.kept.keys merged.new.rows.entries (edge_at place bit)
+    ensures ok { IfOk result
+        (Puts merged.new.nodes.kept.keys merged.new.rows.entries (edge_at place bit)
         gathered.old.entries gathered.new.entries) }
     ensures err { OnErr result (gathered.new.entries ≡ gathered.old.entries) }
     ensures unique { IsUnique place_eq gathered.new }
-    ensures covers { Covers merged.new.nodes.kept.keys merged.new.rows.entries gathered.new.entries }
+    ensures covers { Covers merged.new.nodes.kept.keys merged.new.rows.entries
+        gathered.new.entries }
 {
     match find(gathered, *last, &place) {
         Some(at) => {
@@ -136,7 +147,8 @@ fn put<A: Allocator + Copy>(
 }
 
 impl<A: Allocator + Copy> PathSet<A> for DiagramEdges<A> {
-    ghost members = { λ s. all_edges s.merged.nodes.kept.keys s.merged.rows.entries s.gathered.entries };
+    ghost members = { λ s.
+        all_edges s.merged.nodes.kept.keys s.merged.rows.entries s.gathered.entries };
 
     fn empty(alloc: A) -> Self {
         DiagramEdges {

@@ -1,6 +1,7 @@
 //! Path edges that are gathered go into the diagrams.
 
-ghost use Rattle.std.specs.Prelude.{◌≡◌, ℕ, ◌<◌, ◌≤◌, true, Some, length, slice_get, IfOk, OnOk, IsPermutation};
+ghost use Rattle.std.specs.Prelude.{◌≡◌, ℕ, ◌<◌, ◌≤◌, true, Some, length, slice_get, IfOk, OnOk};
+ghost use Rattle.std.specs.Prelude.{IsPermutation};
 ghost use Rattle.language.specs.Lists.{Member};
 ghost use Rattle.path_sets.specs.declared.place.Place.{Place};
 ghost use Rattle.path_sets.specs.Triples.{Triple};
@@ -43,7 +44,8 @@ fn run_of(cells: &[(Place, u64)], row: Row) -> usize
     requires { 0 < length cells.now }
     ensures within { result ≤ length cells.now }
     ensures some { 0 < result }
-    ensures all { (i : ℕ) (c : Place × ℕ) → 0 < i → i < result → slice_get cells.now i ≡ Some c → row_of c.0 ≡ row }
+    ensures all { (i : ℕ) (c : Place × ℕ) → 0 < i → i < result → slice_get cells.now i ≡ Some c
+        → row_of c.0 ≡ row }
 {
     let mut end = 1;
     while end < cells.len() {
@@ -56,8 +58,8 @@ fn run_of(cells: &[(Place, u64)], row: Row) -> usize
     end
 }
 
-/// Puts the path edges of these places into the diagrams, those of a row that stand one after another at once. Where memory
-/// is refused, some of them may be in.
+/// Puts the path edges of these places into the diagrams, those of a row that stand one after another at once. Where
+/// memory is refused, some of them may be in.
 fn put_cells<A: Allocator + Copy>(
     merged: &mut Merged<A>,
     cells: &[(Place, u64)],

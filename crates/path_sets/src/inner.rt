@@ -14,7 +14,8 @@ pub(crate) fn inner_nodes<A: Allocator + Copy>(
     number: u32,
 ) -> Result<u64, AllocError>
     requires { IsNumber nodes.now.kept.keys number }
-    ensures { IfOk result (HasNodes 64 (λ v. (v < 2 ^ 64) × (accepts nodes.now.kept.keys number v ≡ true))) }
+    ensures { IfOk result
+        (HasNodes 64 (λ v. (v < 2 ^ 64) × (accepts nodes.now.kept.keys number v ≡ true))) }
 {
     let mut reached = vec![in *nodes.kept.allocator(); false; number as usize + 1]?;
     reached[number as usize] = true;

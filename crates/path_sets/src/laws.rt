@@ -11,14 +11,17 @@ ghost use Rattle.path_sets.specs.Suffixes.{HasNodes};
 
 /// A law: the members at a point have one number of inner nodes, which depends on nothing else.
 pub fn members_have_one_count()
-    ensures { (width e p n m : ℕ) (members : List Triple) → HasNodes width (λ v. Member (triple e p v) members) n
+    ensures { (width e p n m : ℕ) (members : List Triple)
+        → HasNodes width (λ v. Member (triple e p v) members) n
         → HasNodes width (λ v. Member (triple e p v) members) m → n ≡ m }
 {}
 
 /// A law: in ordered and reduced diagrams, where no node stands twice, equal sets have one number (Bryant 1986).
 pub fn equal_sets_have_one_number()
-    ensures { (nodes : List Node) (n m : ℕ) → GoDown nodes → AreOrdered nodes → AreReduced nodes → StandOnce nodes
-        → IsNumber nodes n → IsNumber nodes m → ((v : ℕ) → accepts nodes n v ≡ accepts nodes m v) → n ≡ m }
+    ensures { (nodes : List Node) (n m : ℕ) → GoDown nodes → AreOrdered nodes → AreReduced nodes
+        → StandOnce nodes
+        → IsNumber nodes n → IsNumber nodes m → ((v : ℕ) → accepts nodes n v ≡ accepts nodes m v)
+        → n ≡ m }
 {}
 
 /// A law: the diagram of the least 2^k valuations of some bits is a chain of nodes for the bits from k on.

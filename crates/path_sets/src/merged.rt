@@ -1,6 +1,7 @@
 //! Diagrams of valuations with their points, one for each row.
 
-ghost use Rattle.std.specs.Prelude.{◌≡◌, ℕ, ◌+◌, ◌*◌, ◌<◌, ◌/◌, ◌%◌, ◌^◌, ◌⊎◌, true, false, IfOk, OnOk};
+ghost use Rattle.std.specs.Prelude.{◌≡◌, ℕ, ◌+◌, ◌*◌, ◌<◌, ◌/◌, ◌%◌, ◌^◌, ◌⊎◌, true, false, IfOk};
+ghost use Rattle.std.specs.Prelude.{OnOk};
 ghost use Rattle.path_sets.specs.Suffixes.{HasNodes};
 ghost use Rattle.std.proofs.lemmas.Map.Keys.{IsDistinct-prop};
 ghost use Rattle.indexmap.specs.IndexMap.{IsUnique, keys};
@@ -44,9 +45,11 @@ impl<A: Allocator + Copy> Merged<A> {
 
     /// The diagram of one row alone.
     pub(crate) fn alone(&self, row: Row) -> Result<Self, AllocError>
-        ensures { IfOk result (λ m. (bit v : ℕ) → bit < 64 → merged_has m.nodes.kept.keys m.rows.entries
+        ensures { IfOk result
+            (λ m. (bit v : ℕ) → bit < 64 → merged_has m.nodes.kept.keys m.rows.entries
             (triple row.entry (64 * row.block + bit) v)
-            ≡ merged_has self.now.nodes.kept.keys self.now.rows.entries (triple row.entry (64 * row.block + bit) v)) }
+            ≡ merged_has self.now.nodes.kept.keys self.now.rows.entries
+            (triple row.entry (64 * row.block + bit) v)) }
     {
         let nodes = self.nodes.copy()?;
         let mut rows = IndexMap::new(*self.rows.allocator());
@@ -68,14 +71,15 @@ impl<A: Allocator + Copy> Merged<A> {
 
     /// The points of a row that a valuation is at.
     pub(crate) fn points(&self, row: &Row, values: Word) -> u64
-        ensures { (bit : ℕ) → bit < 64 → bit_of result bit ≡ merged_has self.now.nodes.kept.keys self.now.rows.entries
+        ensures { (bit : ℕ) → bit < 64
+            → bit_of result bit ≡ merged_has self.now.nodes.kept.keys self.now.rows.entries
             (triple row.now.entry (64 * row.now.block + bit) values) }
     {
         self.nodes.points(root(&self.rows, self.last, row), values)
     }
 
-    /// Puts the points of places, whatever their rows, into the diagram of one row. Where memory is refused, none of them are
-    /// in.
+    /// Puts the points of places, whatever their rows, into the diagram of one row. Where memory is refused, none of
+    /// them are in.
     pub(crate) fn put(&mut self, row: Row, run: &[(Place, u64)]) -> Result<(), AllocError>
         ensures takes { Takes (InRun row run.now)
             self.old.nodes.kept.keys self.new.nodes.kept.keys self.old.rows.entries self.new.rows.entries }
@@ -90,7 +94,9 @@ impl<A: Allocator + Copy> Merged<A> {
     /// How many inner nodes the diagram of the set at a point has, which is a bit of a row.
     pub(crate) fn count(&self, row: &Row, bit: usize) -> Result<u64, AllocError>
         requires { bit < 64 }
-        ensures { IfOk result (HasNodes 64 (λ v. (v < 2 ^ 64) × (merged_has self.now.nodes.kept.keys self.now.rows.entries
+        ensures { IfOk result
+            (HasNodes 64
+            (λ v. (v < 2 ^ 64) × (merged_has self.now.nodes.kept.keys self.now.rows.entries
             (triple row.now.entry (64 * row.now.block + bit) v) ≡ true))) }
     {
         let (nodes, number) = binary(&self.nodes, root(&self.rows, self.last, row), bit)?;

@@ -1,9 +1,11 @@
 //! Numbered nodes that test one bit, each of which stands once.
 
-ghost use Rattle.std.specs.Prelude.{◌≡◌, ℕ, ◌+◌, ◌<◌, ◌^◌, Bool, cond, IfOk, Some, slice_get, length, ◌≤◌};
+ghost use Rattle.std.specs.Prelude.{◌≡◌, ℕ, ◌+◌, ◌<◌, ◌^◌, Bool, cond, IfOk, Some, slice_get};
+ghost use Rattle.std.specs.Prelude.{length, ◌≤◌};
 ghost use Rattle.path_sets.specs.Masks.{bit_of};
 ghost use Rattle.path_sets.specs.Walks.{IsGrown, IsNumber};
-ghost use Rattle.path_sets.specs.Diagrams.{accepts, AreOrdered, AreReduced, GoDown, Keeps, level_of};
+ghost use Rattle.path_sets.specs.Diagrams.{accepts, AreOrdered, AreReduced, GoDown, Keeps};
+ghost use Rattle.path_sets.specs.Diagrams.{level_of};
 ghost use Rattle.path_sets.specs.Walks.{StandOnce};
 
 use crate::node::Node;
@@ -21,8 +23,8 @@ pub(crate) const MOST: usize = 4_294_967_293;
 /// Numbered nodes, in the order of their numbers.
 type Kept<A> = IndexSet<Node, BuildHasherDefault<FoldHasher>, A>;
 
-/// The nodes of reduced ordered decision diagrams: number n is the node at n - 2, whose children have smaller numbers and
-/// later levels and differ. No node stands twice, so that equal sets have equal numbers.
+/// The nodes of reduced ordered decision diagrams: number n is the node at n - 2, whose children have smaller numbers
+/// and later levels and differ. No node stands twice, so that equal sets have equal numbers.
 #[derive(Drop)]
 pub(crate) struct Nodes<A: Allocator> {
     pub(crate) kept: Kept<A>,
@@ -55,12 +57,14 @@ impl<A: Allocator + Copy> Nodes<A> {
     pub(crate) fn make(&mut self, level: u8, low: u32, high: u32) -> Result<u32, AllocError>
         requires level { level < 64 }
         requires inside { (IsNumber self.old.kept.keys low) × (IsNumber self.old.kept.keys high) }
-        requires deep { (level < level_of self.old.kept.keys low) × (level < level_of self.old.kept.keys high) }
+        requires deep { (level < level_of self.old.kept.keys low)
+            × (level < level_of self.old.kept.keys high) }
         ensures keeps { Keeps self.old.kept.keys self.new.kept.keys }
         ensures inside { IfOk result (λ n. IsNumber self.new.kept.keys n) }
         ensures deep { IfOk result (λ n. level ≤ level_of self.new.kept.keys n) }
         ensures joined { IfOk result (λ n. (v : ℕ) → accepts self.new.kept.keys n v
-            ≡ cond (bit_of v level) (accepts self.old.kept.keys high v) (accepts self.old.kept.keys low v)) }
+            ≡ cond (bit_of v level) (accepts self.old.kept.keys high v)
+            (accepts self.old.kept.keys low v)) }
     {
         if low == high {
             return Ok(low);

@@ -17,9 +17,9 @@ use std::alloc::{AllocError, Allocator};
 /// How many places a shard has before new entries go to the next: so many stay in a processor's cache.
 const MANY: usize = 4_096;
 
-/// Path edges in one mask of 64 points for each valuation of each entry: a valuation mostly goes unchanged through many points.
-/// The places of entries that are first met one after another stand in one shard, in first-seen order, since mostly an entry's
-/// path edges come together: so the places that are looked up are near each other.
+/// Path edges in one mask of 64 points for each valuation of each entry: a valuation mostly goes unchanged through many
+/// points. The places of entries that are first met one after another stand in one shard, in first-seen order, since
+/// mostly an entry's path edges come together: so the places that are looked up are near each other.
 #[derive(Drop)]
 pub struct OrderedEdges<A: Allocator> {
     /// For each entry the number of the shard that has its places.
@@ -56,8 +56,8 @@ pub(crate) fn open<A: Allocator + Copy>(
 }
 
 impl<A: Allocator + Copy> OrderedEdges<A> {
-    /// Gives an entry that has no shard the one that new entries go to, and answers its number. Where memory is refused, it has
-    /// none.
+    /// Gives an entry that has no shard the one that new entries go to, and answers its number. Where memory is
+    /// refused, it has none.
     fn settle(&mut self, entry: Word) -> Result<usize, AllocError>
         requires { lookup (nat_eq entry) self.old.homes.entries ≡ None }
         ensures shard { IfOk result (λ k. lookup (nat_eq entry) self.new.homes.entries ≡ Some k) }

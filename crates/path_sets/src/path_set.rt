@@ -24,8 +24,10 @@ pub trait PathSet<A: Allocator>: Sized + Drop {
         requires { length (members self.old) < 2 ^ 63 }
         ensures members { OnOk result ((t : Triple) → Member t (members self.new)
             ↔ ((t ≡ triple entry point values) ⊎ Member t (members self.old))) }
-        ensures new { IfOk result (λ added. OnTrue added (¬ Member (triple entry point values) (members self.old))) }
-        ensures known { IfOk result (λ added. OnFalse added (Member (triple entry point values) (members self.old))) }
+        ensures new { IfOk result
+            (λ added. OnTrue added (¬ Member (triple entry point values) (members self.old))) }
+        ensures known { IfOk result
+            (λ added. OnFalse added (Member (triple entry point values) (members self.old))) }
         ensures len { IfOk result (λ added. length (members self.new)
             ≡ length (members self.old) + (if added then 1 else 0)) }
         ensures err { OnErr result (members self.new ≡ members self.old) };

@@ -5,8 +5,8 @@ ghost use Rattle.path_sets.specs.Quads.{turn};
 
 use language::Word;
 
-/// A node: the points of the valuation 0, and the numbers that another goes on to by its two low bits: where both are 0,
-/// where the first alone is 1, where the second alone is, and where both are.
+/// A node: the points of the valuation 0, and the numbers that another goes on to by its two low bits: where both are
+/// 0, where the first alone is 1, where the second alone is, and where both are.
 #[derive(Clone, Copy, Debug, PartialEq, Eq, Hash)]
 pub(crate) struct Quad {
     pub(crate) points: u64,

@@ -2,7 +2,8 @@
 
 ghost use Rattle.std.specs.Prelude.{◌≡◌, ℕ, ◌+◌, ◌<◌, ◌^◌, IfOk, Some, slice_get, length, ◌≤◌};
 ghost use Rattle.path_sets.specs.Walks.{IsGrown, IsNumber, StandOnce};
-ghost use Rattle.path_sets.specs.Quads.{AreInside, KeepQuads, points_of, QuadsAreReduced, QuadsGoDown, sees};
+ghost use Rattle.path_sets.specs.Quads.{AreInside, KeepQuads, points_of, QuadsAreReduced};
+ghost use Rattle.path_sets.specs.Quads.{QuadsGoDown, sees};
 
 use crate::nodes::{ALL, MOST, NONE};
 use crate::quad::{NOTHING, Quad, turn};
@@ -64,7 +65,8 @@ impl<A: Allocator + Copy> Quads<A> {
     pub(crate) fn node(&self, number: u32) -> Quad
         requires { IsNumber self.now.kept.keys number }
         ensures inside { AreInside self.now.kept.keys result }
-        ensures same { (v : ℕ) → sees self.now.kept.keys result v ≡ points_of self.now.kept.keys number v }
+        ensures same { (v : ℕ)
+            → sees self.now.kept.keys result v ≡ points_of self.now.kept.keys number v }
     {
         if number > ALL {
             self.kept[(number - 2) as usize]
@@ -78,7 +80,8 @@ impl<A: Allocator + Copy> Quads<A> {
         requires { AreInside self.old.kept.keys quad }
         ensures keeps { KeepQuads self.old.kept.keys self.new.kept.keys }
         ensures inside { IfOk result (λ n. IsNumber self.new.kept.keys n) }
-        ensures same { IfOk result (λ n. (v : ℕ) → points_of self.new.kept.keys n v ≡ sees self.old.kept.keys quad v) }
+        ensures same { IfOk result
+            (λ n. (v : ℕ) → points_of self.new.kept.keys n v ≡ sees self.old.kept.keys quad v) }
     {
         if quad == NOTHING {
             return Ok(NONE);

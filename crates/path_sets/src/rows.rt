@@ -1,6 +1,7 @@
 //! The numbers of the diagrams of rows.
 
-ghost use Rattle.std.specs.Prelude.{◌≡◌, ◌<◌, ℕ, OnOk, OnErr, None, Some, IfSome, IsNone, slice_get};
+ghost use Rattle.std.specs.Prelude.{◌≡◌, ◌<◌, ℕ, OnOk, OnErr, None, Some, IfSome, IsNone};
+ghost use Rattle.std.specs.Prelude.{slice_get};
 ghost use Rattle.std.specs.Map.{lookup};
 ghost use Rattle.indexmap.specs.IndexMap.{IsUnique, index_map_len, keys, values};
 ghost use Rattle.path_sets.specs.Diagrams.{root_of, row_eq, row_of, Roots};
@@ -49,7 +50,8 @@ pub(crate) fn root<A: Allocator + Copy>(rows: &Rows<A>, last: usize, row: &Row) 
 /// The index of a row, where it has a diagram.
 fn find<A: Allocator + Copy>(rows: &Rows<A>, row: &Row) -> Option<usize>
     ensures here { IfSome result (λ at. slice_get (keys rows.now) at ≡ Some row.now) }
-    ensures value { IfSome result (λ at. slice_get (values rows.now) at ≡ lookup (row_eq row.now) rows.now.entries) }
+    ensures value { IfSome result
+        (λ at. slice_get (values rows.now) at ≡ lookup (row_eq row.now) rows.now.entries) }
     ensures within { IfSome result (λ at. at < index_map_len rows.now) }
     ensures none { IsNone result → lookup (row_eq row.now) rows.now.entries ≡ None }
 {

@@ -30,7 +30,8 @@ impl<A: Allocator + Copy> Shard<A> {
         }
     }
 
-    /// Puts a point into the mask of its place; the place at the index `last` is tried first. Answers whether it is new.
+    /// Puts a point into the mask of its place; the place at the index `last` is tried first. Answers whether it is
+    /// new.
     pub(crate) fn put(
         &mut self,
         last: &mut usize,
@@ -38,7 +39,9 @@ impl<A: Allocator + Copy> Shard<A> {
         bit: usize,
     ) -> Result<bool, AllocError>
         requires { bit < 64 }
-        ensures ok { IfOk result (Settles (edge_at place bit) (edges self.old.masks.entries) (edges self.new.masks.entries)) }
+        ensures ok { IfOk result
+            (Settles (edge_at place bit) (edges self.old.masks.entries)
+            (edges self.new.masks.entries)) }
         ensures err { OnErr result (edges self.new.masks.entries ≡ edges self.old.masks.entries) }
     {
         match find(&self.masks, *last, &place) {

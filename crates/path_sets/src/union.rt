@@ -1,6 +1,7 @@
 //! The points of places put into a diagram, many at a time.
 
-ghost use Rattle.std.specs.Prelude.{◌≡◌, ℕ, ◌+◌, ◌*◌, ◌/◌, ◌%◌, ◌<◌, ◌≤◌, ◌^◌, IfOk, length, Some, slice_get};
+ghost use Rattle.std.specs.Prelude.{◌≡◌, ℕ, ◌+◌, ◌*◌, ◌/◌, ◌%◌, ◌<◌, ◌≤◌, ◌^◌, IfOk, length, Some};
+ghost use Rattle.std.specs.Prelude.{slice_get};
 ghost use Rattle.path_sets.specs.declared.place.Place.{Place};
 ghost use Rattle.path_sets.specs.Walks.{IsNumber};
 ghost use Rattle.path_sets.specs.Quads.{Joins, KeepQuads, points_of};
@@ -22,8 +23,8 @@ fn rest_of(values: Word, level: u8) -> Word
     values >> (2 * level)
 }
 
-/// How many places there are, from the first on, whose valuations go on from a node of a level as the one given does, of
-/// which the first does.
+/// How many places there are, from the first on, whose valuations go on from a node of a level as the one given does,
+/// of which the first does.
 fn run_of(cells: &[(Place, u64)], level: u8, rest: Word) -> usize
     requires some { 0 < length cells.now }
     requires level { level ≤ 32 }
@@ -43,8 +44,8 @@ fn run_of(cells: &[(Place, u64)], level: u8, rest: Word) -> usize
     end
 }
 
-/// The number of a number's diagram with the points of the places, by what is left of their valuations at a level. Those that
-/// go on alike are put in at once where they stand one after another.
+/// The number of a number's diagram with the points of the places, by what is left of their valuations at a level.
+/// Those that go on alike are put in at once where they stand one after another.
 pub(crate) fn union<A: Allocator + Copy>(
     nodes: &mut Quads<A>,
     cells: &[(Place, u64)],
@@ -55,7 +56,10 @@ pub(crate) fn union<A: Allocator + Copy>(
     requires inside { IsNumber nodes.old.kept.keys number }
     ensures keeps { KeepQuads nodes.old.kept.keys nodes.new.kept.keys }
     ensures inside { IfOk result (λ r. IsNumber nodes.new.kept.keys r) }
-    ensures joins { IfOk result (λ r. Joins cells.now level (points_of nodes.old.kept.keys number) (points_of nodes.new.kept.keys r)) }
+    ensures joins { IfOk result
+        (λ r.
+        Joins cells.now level (points_of nodes.old.kept.keys number)
+        (points_of nodes.new.kept.keys r)) }
 {
     let mut quad = nodes.node(number);
     let mut left = cells;

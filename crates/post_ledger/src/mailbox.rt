@@ -40,8 +40,10 @@ impl<M, A: Allocator> Model for Mailbox<M, A> {
 /// The first Post from a place on: its place, sender and message.
 fn next_post<M: Copy>(events: &[Event<M>], from: usize) -> Option<(usize, u8, M)>
     requires { from ≤ length events.now }
-    ensures found { IfSome result (λ f. (from ≤ f.0) × (slice_get events.now f.0 ≡ Some (Event.Post f.1 f.2))) }
-    ensures skipped { IfSome result (λ f. posts (take f.0 events.now) ≡ posts (take from events.now)) }
+    ensures found { IfSome result
+        (λ f. (from ≤ f.0) × (slice_get events.now f.0 ≡ Some (Event.Post f.1 f.2))) }
+    ensures skipped { IfSome result
+        (λ f. posts (take f.0 events.now) ≡ posts (take from events.now)) }
     ensures none { IfNone result (posts events.now ≡ posts (take from events.now)) }
 {
     let mut at = from;
@@ -91,7 +93,8 @@ impl<M: Copy, A: Allocator> Mailbox<M, A> {
     pub fn take(&mut self) -> Option<(u64, M)>
         ensures none { IsNone result ↔ (length (posts self.old) ≡ length (takes self.old)) }
         ensures unchanged { IfNone result (self.new ≡ self.old) }
-        ensures some { IfSome result (λ t. (t.0 ≡ length (takes self.old)) × TakesOldest self.old self.new t.1) }
+        ensures some { IfSome result
+            (λ t. (t.0 ≡ length (takes self.old)) × TakesOldest self.old self.new t.1) }
     {
         match self.take_from() {
             None => None,

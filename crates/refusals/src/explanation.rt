@@ -2,7 +2,8 @@
 
 ghost use Rattle.std.specs.Prelude.{◌≡◌, ◌++◌, OnOk, option_map};
 ghost use Rattle.std.specs.String.{string_bytes};
-ghost use Rattle.refusals.specs.Explained.{Explains, ExplainsUnread, edge_line, no_memory, rounds_of, scope_told};
+ghost use Rattle.refusals.specs.Explained.{Explains, ExplainsUnread, edge_line, no_memory};
+ghost use Rattle.refusals.specs.Explained.{rounds_of, scope_told};
 ghost use Rattle.refusals.specs.declared.refusal.Refusal.TheVariants.{TooWide};
 
 use crate::refusal::Refusal;
@@ -79,7 +80,8 @@ fn edge_limit<A: Allocator>(
     path: &str,
     order: Order,
 ) -> Result<(), AllocError>
-    ensures { OnOk result (string_bytes message.new ≡ string_bytes message.old ++ edge_line path.now order) }
+    ensures { OnOk result
+        (string_bytes message.new ≡ string_bytes message.old ++ edge_line path.now order) }
 {
     match order {
         Order::Check { edges, .. } => {
@@ -110,7 +112,8 @@ fn too_wide<A: Allocator>(
     order: Order,
     wide: Option<Wide>,
 ) -> Result<(), AllocError>
-    ensures { OnOk result (Explains path.now text.now order (TooWide wide) (string_bytes message.old)
+    ensures { OnOk result
+        (Explains path.now text.now order (TooWide wide) (string_bytes message.old)
         (string_bytes message.new)) }
 {
     let rounds = rounds_in(order);
@@ -129,10 +132,10 @@ fn too_wide<A: Allocator>(
     }
 }
 
-/// Writes what standard error tells of a refusal: for a fault with an offset a line `FILE:LINE:COLUMN: ` with what is wrong there,
-/// the source line (at most 60 bytes of it before the place and 40 from it on, with `..` where more stands), and a caret under
-/// the place; for each other refusal one line. Lines and columns are counted from 1, and each byte is a column. At an error memory
-/// gave out, and a part of the message may be written.
+/// Writes what standard error tells of a refusal: for a fault with an offset a line `FILE:LINE:COLUMN: ` with what is
+/// wrong there, the source line (at most 60 bytes of it before the place and 40 from it on, with `..` where more
+/// stands), and a caret under the place; for each other refusal one line. Lines and columns are counted from 1, and
+/// each byte is a column. At an error memory gave out, and a part of the message may be written.
 pub fn explain<A: Allocator>(
     message: &mut String<A>,
     path: &str,

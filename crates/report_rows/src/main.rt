@@ -15,9 +15,9 @@
 //! | `refusing T: answer K N \| TEXT` | what comes of it with one allocation refused, the first, then the second, up to T |
 //! | `answer K N \| TEXT` | the answer alone |
 //!
-//! Elsewhere the board has a lock for each mailbox, or, where a case begins with `one lock, `, one for all; and the sets are
-//! ordered, or, where `diagrams, ` comes then, diagrams. Entries and pairs are also compared with those of one thread. A
-//! line that begins with `#` is a heading.
+//! Elsewhere the board has a lock for each mailbox, or, where a case begins with `one lock, `, one for all; and the
+//! sets are ordered, or, where `diagrams, ` comes then, diagrams. Entries and pairs are also compared with those of one
+//! thread. A line that begins with `#` is a heading.
 #![tactic(auto)]
 
 mod case;

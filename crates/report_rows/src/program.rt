@@ -8,7 +8,8 @@ use std::alloc::{Allocator, Global};
 use summaries::{EdgeLimit, NoVerdict, Summaries};
 use syntax::read;
 
-/// What is asked: a program, for how many rounds, with how many path edges a procedure at most, and what the workers have.
+/// What is asked: a program, for how many rounds, with how many path edges a procedure at most, and what the workers
+/// have.
 #[derive(Drop)]
 pub struct Asked {
     pub program: Checked<Global>,

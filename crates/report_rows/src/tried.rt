@@ -83,7 +83,8 @@ fn write_came(out: &mut String, came: Result<Answer, NoVerdict>) -> Result<(), A
     }
 }
 
-/// Writes what comes of it over each pair of board and set with this lane refused, after this call; once, where all come to the same.
+/// Writes what comes of it over each pair of board and set with this lane refused, after this call; once, where all
+/// come to the same.
 pub fn without_lane<R: Wait + Threads + Sync>(
     rt: &R,
     alloc: Global,
@@ -126,8 +127,8 @@ fn put(out: &mut String, one: &str) -> Result<(), AllocError> {
     }
 }
 
-/// Writes what comes of it over each pair of board and set where each worker has one call fewer than this; once, where all come
-/// to the same.
+/// Writes what comes of it over each pair of board and set where each worker has one call fewer than this; once, where
+/// all come to the same.
 pub fn with_budget<R: Wait + Threads + Sync>(
     rt: &R,
     alloc: Global,
@@ -184,8 +185,8 @@ fn is_spent_or<R: Wait + Threads + Sync>(
     true
 }
 
-/// Writes what comes of it with budget 2, and whether with each one above, up to `most`, either calls are used up or the answer
-/// comes that comes with the greatest.
+/// Writes what comes of it with budget 2, and whether with each one above, up to `most`, either calls are used up or
+/// the answer comes that comes with the greatest.
 pub fn with_budgets<R: Wait + Threads + Sync>(
     rt: &R,
     alloc: Global,
@@ -213,8 +214,8 @@ pub fn with_budgets<R: Wait + Threads + Sync>(
     }
 }
 
-/// Writes what comes of it over each pair of board and set with each limit of path edges in turn, where it is another than
-/// before.
+/// Writes what comes of it over each pair of board and set with each limit of path edges in turn, where it is another
+/// than before.
 pub fn with_limits<R: Wait + Threads + Sync>(
     rt: &R,
     alloc: Global,

@@ -192,8 +192,8 @@ fn numbered(rest: &str) -> Option<(u8, &str)> {
     Some((number.parse::<u8>().ok()?, text))
 }
 
-/// The question of a word, and the text that it is asked of: `COUNT TEXT`, for `holds` `COUNT LINE :: TEXT`, for `check` and
-/// `parts` a text alone.
+/// The question of a word, and the text that it is asked of: `COUNT TEXT`, for `holds` `COUNT LINE :: TEXT`, for
+/// `check` and `parts` a text alone.
 fn asked<'a>(word: &'a str, rest: &'a str) -> Option<(Question<'a>, &'a str)> {
     let (count, text) = match word {
         "check" | "parts" => (0, rest),

@@ -1,10 +1,10 @@
-//! Reads cases, a line each, and prints each with its answer behind it: what is answered to a text by the check of scopes
-//! and by the rewriting.
+//! Reads cases, a line each, and prints each with its answer behind it: what is answered to a text by the check of
+//! scopes and by the rewriting.
 //!
 //! `check TEXT` and `parts TEXT` ask for the check, `rewrite COUNT TEXT`, `holds COUNT LINE :: TEXT`, `fits COUNT TEXT`
-//! and `widths COUNT TEXT` for the rewriting, and `rounds COUNT` for a number of rounds alone. `refuse` before a case has
-//! each allocation refused in turn. `{COUNT WORDS}` in a text stands for so many times these words. Lines that begin
-//! with `#`, and empty lines, are printed alone.
+//! and `widths COUNT TEXT` for the rewriting, and `rounds COUNT` for a number of rounds alone. `refuse` before a case
+//! has each allocation refused in turn. `{COUNT WORDS}` in a text stands for so many times these words. Lines that
+//! begin with `#`, and empty lines, are printed alone.
 #![tactic(auto)]
 
 mod answers;

@@ -4,8 +4,8 @@ use crate::answers::words;
 use scarce::Scarce;
 use std::alloc::{AllocError, Global};
 
-/// Whether the allocation of this number was refused, and the answer then is the true one or the want of memory; `None` where
-/// there is another answer.
+/// Whether the allocation of this number was refused, and the answer then is the true one or the want of memory; `None`
+/// where there is another answer.
 fn was_refused(host: Global, nth: u64, word: &str, rest: &str, wanted: &str) -> Option<bool> {
     let scarce = Scarce::refusing(host, nth);
     let given = words(host, &scarce, word, rest).ok()?;

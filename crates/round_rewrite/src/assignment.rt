@@ -3,7 +3,8 @@
 ghost use Rattle.std.specs.Prelude.{◌≡◌, suc, ◌+◌, ◌<◌, ◌≤◌, ◌^◌, ◌++◌, IfOk, map, length};
 ghost use Rattle.language.specs.Tree.{any, var};
 ghost use Rattle.trees.specs.Trees.{name_of, names_of, expr_of, rhs_of, rhss_of};
-ghost use Rattle.round_rewrite.specs.Table.{numbers, draws, targets, sides, written, expression, each};
+ghost use Rattle.round_rewrite.specs.Table.{numbers, draws, targets, sides, written, expression};
+ghost use Rattle.round_rewrite.specs.Table.{each};
 ghost use Rattle.round_rewrite.specs.Names.{copy_name, drawn_name};
 
 use crate::expression::temporary;
@@ -20,7 +21,8 @@ pub fn temporaries<A: Allocator + Copy>(
     number: usize,
 ) -> Result<Vec<Name<A>, A>, AllocError>
     requires { number < 2 ^ 63 }
-    ensures { IfOk result (λ v. names_of v.items ≡ names_of names.items ++ map drawn_name (numbers 0 number)) }
+    ensures { IfOk result
+        (λ v. names_of v.items ≡ names_of names.items ++ map drawn_name (numbers 0 number)) }
 {
     let mut list = names;
     for k in 0..number {
@@ -50,7 +52,8 @@ impl<'a, N: Allocator, A: Allocator + Copy> Writer<'a, N, A> {
     /// How many `?` with a global target an assignment has: so many temporaries it draws. Each call has a target
     /// less; a checked program of at most 64 places has no more targets than places.
     pub fn draws(&self, xs: &[Name<N>], rs: &[Rhs<N>]) -> usize
-        ensures count { result ≡ draws (naming_of self.now).is_shared (names_of xs.now) (rhss_of rs.now) }
+        ensures count { result
+            ≡ draws (naming_of self.now).is_shared (names_of xs.now) (rhss_of rs.now) }
         ensures few { result ≤ length xs.now }
     {
         let Some((x, more)) = xs.split_first() else {
@@ -69,7 +72,9 @@ impl<'a, N: Allocator, A: Allocator + Copy> Writer<'a, N, A> {
     /// Puts the copies of a global for each round behind targets.
     #[tactic(auto, using(crate::proofs::Pushed::pushed))]
     fn copies(&self, x: &Name<N>, into: &mut Vec<Name<A>, A>) -> Result<(), AllocError>
-        ensures { IfOk result (λ _. names_of into.new.items ≡ names_of into.old.items ++ map (λ k. copy_name k (name_of x.now))
+        ensures { IfOk result
+            (λ _. names_of into.new.items
+            ≡ names_of into.old.items ++ map (λ k. copy_name k (name_of x.now))
             (numbers 0 (suc self.now.rounds.last))) }
     {
         for round in 0..self.rounds.count() {
@@ -86,7 +91,8 @@ impl<'a, N: Allocator, A: Allocator + Copy> Writer<'a, N, A> {
         into: &mut Vec<Name<A>, A>,
     ) -> Result<(), AllocError>
         ensures { IfOk result (λ _. names_of into.new.items
-            ≡ names_of into.old.items ++ targets (naming_of self.now) self.now.rounds.last (names_of xs.now)
+            ≡ names_of into.old.items ++ targets (naming_of self.now) self.now.rounds.last
+            (names_of xs.now)
             (rhss_of rs.now)) }
     {
         let Some((x, more)) = xs.split_first() else {
@@ -114,7 +120,8 @@ impl<'a, N: Allocator, A: Allocator + Copy> Writer<'a, N, A> {
     ) -> Result<(), AllocError>
         requires { number < 2 ^ 63 }
         ensures { IfOk result (λ _. rhss_of into.new.items
-            ≡ rhss_of into.old.items ++ map (written (naming_of self.now) self.now.rounds.last (var (drawn_name number))
+            ≡ rhss_of into.old.items ++ map
+            (written (naming_of self.now) self.now.rounds.last (var (drawn_name number))
             (name_of x.now)) (numbers 0 (suc self.now.rounds.last))) }
     {
         for round in 0..self.rounds.count() {
@@ -154,7 +161,8 @@ impl<'a, N: Allocator, A: Allocator + Copy> Writer<'a, N, A> {
     ) -> Result<(), AllocError>
         requires { number + length xs.now < 2 ^ 63 }
         ensures { IfOk result (λ _. rhss_of into.new.items
-            ≡ rhss_of into.old.items ++ sides (naming_of self.now) self.now.rounds.last number (names_of xs.now)
+            ≡ rhss_of into.old.items ++ sides (naming_of self.now) self.now.rounds.last number
+            (names_of xs.now)
             (rhss_of rs.now)) }
     {
         let Some((x, more)) = xs.split_first() else {

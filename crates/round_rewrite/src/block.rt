@@ -18,7 +18,8 @@ pub fn push_marked<A: Allocator>(
     into: &mut Vec<Stmt<A>, A>,
 ) -> Result<(), AllocError>
     ensures { IfOk result (λ _. Lays into.old.items into.new.items
-        (λ k. marked_before (record { label = option_map name_of label; at = at }) (deed_of core) k)) }
+        (λ k.
+        marked_before (record { label = option_map name_of label; at = at }) (deed_of core) k)) }
 {
     into.push(Stmt { label, at, core })?;
     Ok(())
@@ -26,7 +27,8 @@ pub fn push_marked<A: Allocator>(
 
 /// Puts a statement without a label behind others.
 pub fn push<A: Allocator>(core: Core<A>, into: &mut Vec<Stmt<A>, A>) -> Result<(), AllocError>
-    ensures { IfOk result (λ _. Lays into.old.items into.new.items (λ k. marked_before plain (deed_of core) k)) }
+    ensures { IfOk result
+        (λ _. Lays into.old.items into.new.items (λ k. marked_before plain (deed_of core) k)) }
 {
     push_marked(None, 0, core, into)
 }

@@ -48,7 +48,8 @@ pub fn push_side<A: Allocator>(
 
 /// That a variable gets 1.
 fn set<A: Allocator + Copy>(alloc: &A, text: &str) -> Result<Core<A>, AllocError>
-    ensures { IfOk result (λ c. deed_of c ≡ simple (assign (named text.now ∷ []) (value (const true) ∷ []))) }
+    ensures { IfOk result
+        (λ c. deed_of c ≡ simple (assign (named text.now ∷ []) (value (const true) ∷ []))) }
 {
     let targets = push_name(alloc, text, Vec::new(*alloc))?;
     let sides = push_side(constant(true), Vec::new(*alloc))?;
@@ -62,7 +63,9 @@ fn set_both<A: Allocator + Copy>(
     second: &str,
 ) -> Result<Core<A>, AllocError>
     ensures { IfOk result (λ c. deed_of c
-        ≡ simple (assign (named first.now ∷ named second.now ∷ []) (value (const true) ∷ value (const true) ∷ []))) }
+        ≡ simple
+        (assign (named first.now ∷ named second.now ∷ [])
+        (value (const true) ∷ value (const true) ∷ []))) }
 {
     let target = push_name(alloc, first, Vec::new(*alloc))?;
     let targets = push_name(alloc, second, target)?;
@@ -103,7 +106,8 @@ pub fn checked<A: Allocator + Copy>(alloc: &A, side: Rhs<A>) -> Result<Core<A>, 
 
 /// The variables of the round's number.
 pub fn round_names<A: Allocator + Copy>(alloc: &A) -> Result<Vec<Name<A>, A>, AllocError>
-    ensures { IfOk result (λ v. names_of v.items ≡ named (codes "rh__") ∷ named (codes "rl__") ∷ []) }
+    ensures { IfOk result
+        (λ v. names_of v.items ≡ named (codes "rh__") ∷ named (codes "rl__") ∷ []) }
 {
     let high = push_name(alloc, "rh__", Vec::new(*alloc))?;
     let names = push_name(alloc, "rl__", high)?;
@@ -112,7 +116,8 @@ pub fn round_names<A: Allocator + Copy>(alloc: &A) -> Result<Vec<Name<A>, A>, Al
 
 /// The high bit of the next round's number.
 fn next_high<A: Allocator + Copy>(alloc: &A) -> Result<Expr<A>, AllocError>
-    ensures { IfOk result (λ e. expr_of e ≡ two xor (var (named (codes "rh__"))) (var (named (codes "rl__")))) }
+    ensures { IfOk result
+        (λ e. expr_of e ≡ two xor (var (named (codes "rh__"))) (var (named (codes "rl__")))) }
 {
     let high = variable(alloc, "rh__")?;
     let low = variable(alloc, "rl__")?;
@@ -135,7 +140,9 @@ impl<'a, N: Allocator, A: Allocator + Copy> Writer<'a, N, A> {
     /// That the round's number grows by 1.
     fn next_round(&self) -> Result<Core<A>, AllocError>
         ensures { IfOk result (λ c. deed_of c
-            ≡ simple (assign (reverse (naming_of self.now).bits) (reverse (raised (naming_of self.now).bits)))) }
+            ≡ simple
+            (assign (reverse (naming_of self.now).bits)
+            (reverse (raised (naming_of self.now).bits)))) }
     {
         let targets = round_names(self.alloc)?;
         let high = Rhs::Value(next_high(self.alloc)?);
@@ -158,7 +165,8 @@ impl<'a, N: Allocator, A: Allocator + Copy> Writer<'a, N, A> {
 
     /// The loop of the prologue: on to the next round, any number of times, as long as there is one.
     pub fn rising(&self) -> Result<Core<A>, AllocError>
-        ensures { IfOk result (λ c. deed_of c ≡ repeat any (rise (naming_of self.now) self.now.rounds.last)) }
+        ensures { IfOk result
+            (λ c. deed_of c ≡ repeat any (rise (naming_of self.now) self.now.rounds.last)) }
     {
         let mut body = Vec::new(*self.alloc);
         push(self.not_last()?, &mut body)?;

@@ -4,7 +4,8 @@ ghost use Rattle.std.specs.Prelude.{◌≡◌, ◌<◌, ◌^◌, IfOk, map};
 ghost use Rattle.language.specs.Resolve.{is_declared};
 ghost use Rattle.language.specs.Tree.{const, var, negation, two};
 ghost use Rattle.trees.specs.Trees.{name_of, operator_of, expr_of, exprs_of, rhs_of};
-ghost use Rattle.round_rewrite.specs.Table.{literal, in_round, joined, read, expression, side, written};
+ghost use Rattle.round_rewrite.specs.Table.{literal, in_round, joined, read, expression, side};
+ghost use Rattle.round_rewrite.specs.Table.{written};
 ghost use Rattle.round_rewrite.specs.Names.{named, copy_name, drawn_name};
 ghost use Rattle.round_rewrite.specs.Limits.{most_rounds};
 
@@ -89,7 +90,8 @@ impl<'a, N: Allocator, A: Allocator + Copy> Writer<'a, N, A> {
 
     /// That the round is `round`.
     pub fn at(&self, round: u8) -> Result<Expr<A>, AllocError>
-        ensures { IfOk result (λ e. expr_of e ≡ in_round (naming_of self.now) self.now.rounds.last round) }
+        ensures { IfOk result
+            (λ e. expr_of e ≡ in_round (naming_of self.now) self.now.rounds.last round) }
     {
         let high = literal(self.alloc, round / 2 % 2, "rh__")?;
         let low = literal(self.alloc, round % 2, "rl__")?;
@@ -100,7 +102,8 @@ impl<'a, N: Allocator, A: Allocator + Copy> Writer<'a, N, A> {
     fn active(&self, round: u8, x: &Name<N>) -> Result<Expr<A>, AllocError>
         requires { round < most_rounds }
         ensures { IfOk result (λ e. expr_of e ≡ two Rattle.language.specs.Tree.and
-            (in_round (naming_of self.now) self.now.rounds.last round) (var (copy_name round (name_of x.now)))) }
+            (in_round (naming_of self.now) self.now.rounds.last round)
+            (var (copy_name round (name_of x.now)))) }
     {
         let is_round = self.at(round)?;
         operation(
@@ -113,7 +116,8 @@ impl<'a, N: Allocator, A: Allocator + Copy> Writer<'a, N, A> {
 
     /// A read of a global: its copy for the round.
     fn joined(&self, x: &Name<N>) -> Result<Expr<A>, AllocError>
-        ensures { IfOk result (λ e. expr_of e ≡ joined (naming_of self.now) self.now.rounds.last self.now.rounds.last
+        ensures { IfOk result
+            (λ e. expr_of e ≡ joined (naming_of self.now) self.now.rounds.last self.now.rounds.last
             (name_of x.now)) }
     {
         let mut join = self.active(0, x)?;
@@ -126,7 +130,8 @@ impl<'a, N: Allocator, A: Allocator + Copy> Writer<'a, N, A> {
 
     /// A read of a variable.
     fn read(&self, x: &Name<N>) -> Result<Expr<A>, AllocError>
-        ensures { IfOk result (λ e. expr_of e ≡ read (naming_of self.now) self.now.rounds.last (name_of x.now)) }
+        ensures { IfOk result
+            (λ e. expr_of e ≡ read (naming_of self.now) self.now.rounds.last (name_of x.now)) }
     {
         if self.is_shared(x) {
             self.joined(x)
@@ -137,7 +142,9 @@ impl<'a, N: Allocator, A: Allocator + Copy> Writer<'a, N, A> {
 
     /// An expression, with each read of a global put so.
     pub fn expression(&self, e: &Expr<N>) -> Result<Expr<A>, AllocError>
-        ensures { IfOk result (λ r. expr_of r ≡ expression (naming_of self.now) self.now.rounds.last (expr_of e.now)) }
+        ensures { IfOk result
+            (λ r. expr_of r
+            ≡ expression (naming_of self.now) self.now.rounds.last (expr_of e.now)) }
     {
         match e {
             Expr::Const(b) => Ok(Expr::Const(*b)),
@@ -156,7 +163,8 @@ impl<'a, N: Allocator, A: Allocator + Copy> Writer<'a, N, A> {
 
     /// A right side, with each read of a global put so.
     pub fn side(&self, r: &Rhs<N>) -> Result<Rhs<A>, AllocError>
-        ensures { IfOk result (λ s. rhs_of s ≡ side (naming_of self.now) self.now.rounds.last (rhs_of r.now)) }
+        ensures { IfOk result
+            (λ s. rhs_of s ≡ side (naming_of self.now) self.now.rounds.last (rhs_of r.now)) }
     {
         match r {
             Rhs::Any => Ok(Rhs::Any),
@@ -166,7 +174,8 @@ impl<'a, N: Allocator, A: Allocator + Copy> Writer<'a, N, A> {
 
     /// Arguments, with each read of a global put so.
     pub fn arguments(&self, es: &[Expr<N>]) -> Result<Vec<Expr<A>, A>, AllocError>
-        ensures { IfOk result (λ v. exprs_of v.items ≡ map (expression (naming_of self.now) self.now.rounds.last)
+        ensures { IfOk result
+            (λ v. exprs_of v.items ≡ map (expression (naming_of self.now) self.now.rounds.last)
             (exprs_of es.now)) }
     {
         let mut list = Vec::new(*self.alloc);
@@ -194,7 +203,8 @@ impl<'a, N: Allocator, A: Allocator + Copy> Writer<'a, N, A> {
     /// other its own.
     pub fn written(&self, value: Expr<A>, x: &Name<N>, round: u8) -> Result<Rhs<A>, AllocError>
         requires { round < most_rounds }
-        ensures { IfOk result (λ r. rhs_of r ≡ written (naming_of self.now) self.now.rounds.last (expr_of value)
+        ensures { IfOk result
+            (λ r. rhs_of r ≡ written (naming_of self.now) self.now.rounds.last (expr_of value)
             (name_of x.now) round) }
     {
         let old = self.kept(x, round)?;

@@ -19,7 +19,8 @@ fn all_copies<N: Allocator, A: Allocator + Copy>(
     into: Vec<Name<A>, A>,
 ) -> Result<Vec<Name<A>, A>, AllocError>
     ensures { IfOk result (λ v. names_of v.items ≡ names_of into.items
-        ++ copied (names []) rounds.last copy_name (names_of xs.now) (numbers 0 (suc rounds.last))) }
+        ++ copied (names []) rounds.last copy_name (names_of xs.now)
+        (numbers 0 (suc rounds.last))) }
 {
     let mut list = into;
     for round in 0..rounds.count() {
@@ -51,7 +52,8 @@ pub fn globals<N: Allocator, A: Allocator + Copy>(
     rounds: Rounds,
     xs: &[Name<N>],
 ) -> Result<Vec<Name<A>, A>, AllocError>
-    ensures { IfOk result (λ v. names_of v.items ≡ globals (names []) rounds.last (names_of xs.now)) }
+    ensures { IfOk result
+        (λ v. names_of v.items ≡ globals (names []) rounds.last (names_of xs.now)) }
 {
     let copied = all_copies(alloc, rounds, xs, Vec::new(*alloc))?;
     let saved = all_saves(alloc, rounds, xs, copied)?;

@@ -37,7 +37,8 @@ fn numbered_all<N: Allocator, A: Allocator + Copy>(
 ) -> Result<Vec<Name<A>, A>, AllocError>
     requires { round < most_rounds }
     ensures { IfOk result (λ v. names_of v.items
-        ≡ names_of into.items ++ map (λ x. named (x.text ++ (mark.now ++ decimal (suc round)))) (names_of xs.now)) }
+        ≡ names_of into.items ++ map (λ x. named (x.text ++ (mark.now ++ decimal (suc round))))
+        (names_of xs.now)) }
 {
     let mut list = into;
     for x in xs {
@@ -54,7 +55,8 @@ pub fn copies<N: Allocator, A: Allocator + Copy>(
     into: Vec<Name<A>, A>,
 ) -> Result<Vec<Name<A>, A>, AllocError>
     requires { round < most_rounds }
-    ensures { IfOk result (λ v. names_of v.items ≡ names_of into.items ++ map (copy_name round) (names_of xs.now)) }
+    ensures { IfOk result
+        (λ v. names_of v.items ≡ names_of into.items ++ map (copy_name round) (names_of xs.now)) }
 {
     numbered_all(alloc, "__", round, xs, into)
 }
@@ -67,7 +69,8 @@ pub fn saves<N: Allocator, A: Allocator + Copy>(
     into: Vec<Name<A>, A>,
 ) -> Result<Vec<Name<A>, A>, AllocError>
     requires { round < most_rounds }
-    ensures { IfOk result (λ v. names_of v.items ≡ names_of into.items ++ map (save_name round) (names_of xs.now)) }
+    ensures { IfOk result
+        (λ v. names_of v.items ≡ names_of into.items ++ map (save_name round) (names_of xs.now)) }
 {
     numbered_all(alloc, "__s", round, xs, into)
 }
@@ -93,7 +96,8 @@ pub fn reads<N: Allocator, A: Allocator + Copy>(
     xs: &[Name<N>],
 ) -> Result<Vec<Rhs<A>, A>, AllocError>
     requires { round < most_rounds }
-    ensures { IfOk result (λ v. rhss_of v.items ≡ map (λ y. value (var (copy_name round y))) (names_of xs.now)) }
+    ensures { IfOk result
+        (λ v. rhss_of v.items ≡ map (λ y. value (var (copy_name round y))) (names_of xs.now)) }
 {
     let mut list = Vec::new(*alloc);
     for x in xs {

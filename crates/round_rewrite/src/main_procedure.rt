@@ -26,7 +26,9 @@ fn guess<N: Allocator, A: Allocator + Copy>(
     into: &mut Vec<Stmt<A>, A>,
 ) -> Result<(), AllocError>
     requires { round < most_rounds }
-    ensures { IfOk result (λ _. Lays into.old.items into.new.items (λ k. guess (names []) last (names_of xs.now) round k)) }
+    ensures { IfOk result
+        (λ _.
+        Lays into.old.items into.new.items (λ k. guess (names []) last (names_of xs.now) round k)) }
 {
     let Some((_first, _)) = xs.split_first() else {
         return Ok(());
@@ -114,7 +116,9 @@ fn check<N: Allocator, A: Allocator + Copy>(
     into: &mut Vec<Stmt<A>, A>,
 ) -> Result<(), AllocError>
     requires { round < 3 }
-    ensures { IfOk result (λ _. Lays into.old.items into.new.items (λ k. check (names []) last (names_of xs.now) round k)) }
+    ensures { IfOk result
+        (λ _.
+        Lays into.old.items into.new.items (λ k. check (names []) last (names_of xs.now) round k)) }
 {
     for x in xs {
         push(agrees(alloc, round, x)?, into)?;

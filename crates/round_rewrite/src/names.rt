@@ -32,7 +32,8 @@ pub fn numbered<N: Allocator, A: Allocator>(
     round: u8,
 ) -> Result<Name<A>, AllocError>
     requires { round < most_rounds }
-    ensures { IfOk result (λ n. name_of n ≡ named ((name_of x.now).text ++ (mark.now ++ decimal (suc round)))) }
+    ensures { IfOk result
+        (λ n. name_of n ≡ named ((name_of x.now).text ++ (mark.now ++ decimal (suc round)))) }
 {
     let text = x.text.as_str();
     let number = round + 1;

@@ -23,7 +23,8 @@ use trees::{Program, Thread};
 
 /// The one thread line: that of the first procedure.
 fn threads<A: Allocator + Copy>(alloc: &A) -> Result<Vec<Thread<A>, A>, AllocError>
-    ensures { IfOk result (λ v. threads_of v.items ≡ record { at = 0; name = named (codes "main__") } ∷ []) }
+    ensures { IfOk result
+        (λ v. threads_of v.items ≡ record { at = 0; name = named (codes "main__") } ∷ []) }
 {
     let mut list = Vec::new(*alloc);
     let name = fixed(*alloc, "main__")?;
@@ -63,7 +64,8 @@ pub fn rewrite<N: Allocator, A: Allocator + Copy>(
     // The source is unsafe within the rounds exactly where some pair of `main__` of that program has `bad__`.
     ensures keeps { IfOk result (λ s. KeepsTree (count_of rounds) (checked_tree checked.now)) }
     // It is a tree of the grammar where the source is.
-    ensures grammar { InGrammar (checked_tree checked.now) → IfOk result (λ s. InGrammar (sequential_tree s)) }
+    ensures grammar { InGrammar (checked_tree checked.now)
+        → IfOk result (λ s. InGrammar (sequential_tree s)) }
     // A fault is that the program is too wide, and then it is, or that memory ran out, and then it is not.
     ensures fault { IfErr result (IsFaultOf (count_of rounds) (checked_tree checked.now)) }
 {

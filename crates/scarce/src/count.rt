@@ -3,8 +3,8 @@ ghost use Rattle.scarce.specs.Refusals.{IsRefused, HasRefused};
 
 use std::sync::atomic::{AtomicU64, Ordering};
 
-/// How many allocations were asked, and how many blocks are out, and which allocations are refused: those numbered `first` to
-/// `last`, counted from 1.
+/// How many allocations were asked, and how many blocks are out, and which allocations are refused: those numbered
+/// `first` to `last`, counted from 1.
 #[derive(Drop)]
 pub(crate) struct Count {
     asked: AtomicU64,

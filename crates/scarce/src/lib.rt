@@ -45,8 +45,8 @@ impl<B: Allocator> Scarce<B> {
         self.count.asked()
     }
 
-    /// How many blocks are out: those of the requests that were passed on, less those that came back. One that `B` refuses counts
-    /// as a block that never comes back.
+    /// How many blocks are out: those of the requests that were passed on, less those that came back. One that `B`
+    /// refuses counts as a block that never comes back.
     pub fn live(&self) -> u64 {
         self.count.out()
     }

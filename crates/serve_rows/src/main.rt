@@ -16,7 +16,8 @@
 //! | `writer fails after COUNT` | the writer fails once it took so many bytes |
 //! | `each allocation` | with each allocation refused in turn, which leaves the reply or leads to `no verdict: memory` |
 //!
-//! A line that begins with `#` is a heading, and has no answer. `long.bp` is a file of 65,537 bytes, which the program writes first.
+//! A line that begins with `#` is a heading, and has no answer. `long.bp` is a file of 65,537 bytes, which the program
+//! writes first.
 #![tactic(auto)]
 
 mod breaking;

@@ -6,8 +6,8 @@ use path_sets::{DiagramEdges, OrderedEdges, PathSet};
 use scarce::Scarce;
 use std::alloc::{AllocError, Allocator, Global};
 
-/// Which path edges: how many, of how many bits, at how many points, and after how many of them others of eight entries follow,
-/// if ever.
+/// Which path edges: how many, of how many bits, at how many points, and after how many of them others of eight entries
+/// follow, if ever.
 #[derive(Clone, Copy, Debug)]
 struct Shape {
     count: u64,
@@ -45,7 +45,8 @@ fn have_alike<A: Allocator, B: Allocator, S: PathSet<A>, T: PathSet<B>>(
     one.len() == other.len()
 }
 
-/// Inserts the edge of a number, again where memory is refused; answers nothing where the set is then no longer like another one.
+/// Inserts the edge of a number, again where memory is refused; answers nothing where the set is then no longer like
+/// another one.
 fn insert_again<A: Allocator, B: Allocator, S: PathSet<A>, T: PathSet<B>>(
     one: &mut S,
     other: &T,
@@ -113,7 +114,8 @@ pub fn agree(alloc: Global, out: &mut String, numbers: &str) -> Result<(), Alloc
     write!(out, "{}", if alike { "agree" } else { "differ" })
 }
 
-/// Whether a set of diagrams, or an ordered one, takes so many edges all the same, whichever of its allocations is refused.
+/// Whether a set of diagrams, or an ordered one, takes so many edges all the same, whichever of its allocations is
+/// refused.
 pub fn takes_each(alloc: Global, ordered: bool, count: u64) -> &'static str {
     let shape = Shape {
         count,

@@ -71,7 +71,8 @@ pub fn step<A: Allocator, S: PathSet<A>>(
     }
 }
 
-/// The edge of a number, at one of 7 points and of one of 9 entries; so many different ones, and then the first ones again.
+/// The edge of a number, at one of 7 points and of one of 9 entries; so many different ones, and then the first ones
+/// again.
 fn edge_of(different: u64, number: u64) -> (u64, usize, u64) {
     let number = number.checked_rem(different).unwrap_or(0);
     (
@@ -86,8 +87,8 @@ fn has_below<A: Allocator, S: PathSet<A>>(set: &S, different: u64, number: u64) 
     (0..different).all(|n| contains(set, edge_of(different, n)) == (n < number))
 }
 
-/// Inserts the edge of a number, again where memory is refused; answers whether the set then has it once, and where memory was
-/// refused had all as it was, and no other.
+/// Inserts the edge of a number, again where memory is refused; answers whether the set then has it once, and where
+/// memory was refused had all as it was, and no other.
 fn keeps<A: Allocator, S: PathSet<A>>(
     set: &mut S,
     different: u64,
@@ -150,7 +151,8 @@ fn said(came: Came, scarce: &Scarce<Global>, nth: u64) -> Option<&'static str> {
     }
 }
 
-/// Whether a set of diagrams, or an ordered one, keeps so many different edges, whichever of its allocations is refused.
+/// Whether a set of diagrams, or an ordered one, keeps so many different edges, whichever of its allocations is
+/// refused.
 pub fn keeps_each(alloc: Global, ordered: bool, different: u64) -> &'static str {
     for nth in 1..1000u64 {
         let scarce = Scarce::refusing(alloc, nth);

@@ -55,7 +55,8 @@ impl<A: Allocator + Copy> Given<A> {
     pub(crate) fn give_unless(&mut self, known: bool, to: u8, due: Due) -> Result<(), AllocError>
         requires known { OnTrue known (Member (mail to due) self.old.mails.items) }
         requires new { OnFalse known (¬ Member (mail to due) self.old.mails.items) }
-        ensures ok { OnOk result (Gives (λ m. m ≡ mail to due) self.old.mails.items self.new.mails.items) }
+        ensures ok { OnOk result
+            (Gives (λ m. m ≡ mail to due) self.old.mails.items self.new.mails.items) }
         ensures err { OnErr result (self.new.mails.items ≡ self.old.mails.items) }
         ensures answered { self.new.answered ≡ self.old.answered }
     {
@@ -67,7 +68,8 @@ impl<A: Allocator + Copy> Given<A> {
 
     /// The first message that is not answered yet, which then is.
     pub(crate) fn next(&mut self) -> Option<(u8, Due)>
-        ensures some { IfSome result (λ m. answers_in self.new ≡ answers_in self.old ++ mail m.0 m.1 ∷ []) }
+        ensures some { IfSome result
+            (λ m. answers_in self.new ≡ answers_in self.old ++ mail m.0 m.1 ∷ []) }
         ensures new { IfSome result (λ m. ¬ Member (mail m.0 m.1) (answers_in self.old)) }
         ensures none { IfNone result (answers_in self.old ≡ self.old.mails.items) }
         ensures same { IfNone result (self.new.answered ≡ self.old.answered) }

@@ -13,7 +13,8 @@ use language::Word;
 use path_sets::PathSet;
 use std::alloc::Allocator;
 
-/// Goes on behind the call of a site, for what it has left; nowhere where no call stands there. At an error the edge may be added.
+/// Goes on behind the call of a site, for what it has left; nowhere where no call stands there. At an error the edge
+/// may be added.
 fn reach_behind<G: Allocator, A: Allocator, S: PathSet<A>>(
     graph: &Graph<G>,
     edges: &mut S,
@@ -23,7 +24,8 @@ fn reach_behind<G: Allocator, A: Allocator, S: PathSet<A>>(
     globals: Word,
 ) -> Result<(), TableFault>
     requires { length (S.members edges.old) ≤ most_of limit }
-    ensures { Adds (IsBehind graph.now site globals) result (most_of limit) (S.members edges.old) (S.members edges.new)
+    ensures { Adds (IsBehind graph.now site globals) result (most_of limit) (S.members edges.old)
+        (S.members edges.new)
         pending.old.items pending.new.items }
 {
     if site.point >= graph.points() {
@@ -59,7 +61,8 @@ pub(crate) fn go_on<G: Allocator, A: Allocator, S: PathSet<A>>(
     Ok(())
 }
 
-/// Goes on behind the call of each of these sites, for the globals that it left. At an error some of the edges are added.
+/// Goes on behind the call of each of these sites, for the globals that it left. At an error some of the edges are
+/// added.
 pub(crate) fn go_on_at_each<G: Allocator, A: Allocator, S: PathSet<A>>(
     graph: &Graph<G>,
     edges: &mut S,

@@ -26,16 +26,18 @@ impl<K: Eq + Hash + Copy, V: Copy, A: Allocator + Copy> Groups<K, V, A> {
         }
     }
 
-    /// Adds a value to those of a key. Answers whether the key had any. Where memory is refused, each key has the values that
-    /// it had.
+    /// Adds a value to those of a key. Answers whether the key had any. Where memory is refused, each key has the
+    /// values that it had.
     pub(crate) fn add(&mut self, key: K, value: V) -> Result<bool, AllocError>
         requires { FitsInMemory V.row }
         ensures had { IfOk result (λ had. OnTrue had (under K.eq self.old.by_key key ≢ [])) }
         ensures none { IfOk result (λ had. OnFalse had (under K.eq self.old.by_key key ≡ [])) }
-        ensures added { OnOk result (under K.eq self.new.by_key key ≡ under K.eq self.old.by_key key ++ value ∷ []) }
+        ensures added { OnOk result
+            (under K.eq self.new.by_key key ≡ under K.eq self.old.by_key key ++ value ∷ []) }
         ensures others { OnOk result ((k : K) → K.eq key k ≡ false
             → under K.eq self.new.by_key k ≡ under K.eq self.old.by_key k) }
-        ensures err { OnErr result ((k : K) → under K.eq self.new.by_key k ≡ under K.eq self.old.by_key k) }
+        ensures err { OnErr result
+            ((k : K) → under K.eq self.new.by_key k ≡ under K.eq self.old.by_key k) }
     {
         match self.by_key.get_index_of(&key) {
             Some(at) => {

@@ -26,27 +26,35 @@ ghost use Rattle.summaries.specs.Together.{IsTableOf};
 use path_sets::PathSet;
 use std::alloc::Allocator;
 
-/// Where nothing is pending, the edges are what is reached by the messages taken, and the messages given are what is sent.
+/// Where nothing is pending, the edges are what is reached by the messages taken, and the messages given are what is
+/// sent.
 pub fn a_quiet_table_has_what_is_reached<A: Allocator, G: Allocator>()
-    ensures { (graph : Graph G) (q : ℕ) (f : Found A) (edges : List Triple) → IsGrounded graph q f edges
+    ensures { (graph : Graph G) (q : ℕ) (f : Found A) (edges : List Triple)
+        → IsGrounded graph q f edges
         → IsComplete graph q f edges (λ t. ⊥) → IsWorkedOff f → IsExact graph q f edges }
 {}
 
-/// The table of a procedure that has taken only messages which are due for it keeps only path edges of the procedure, and
-/// answers only messages which are due for their receivers. It fails for its limit only where there are more path edges.
+/// The table of a procedure that has taken only messages which are due for it keeps only path edges of the procedure,
+/// and answers only messages which are due for their receivers. It fails for its limit only where there are more path
+/// edges.
 pub fn a_table_keeps_path_edges_and_answers_what_is_due<G: Allocator, A: Allocator, S: PathSet<A>>()
     ensures edges { (p : Program) (q : ℕ) (t : Table G A S) → IsTableOf S.members p q t
-        → (x : Triple) → Member x (edges_of S.members t) → AreNumbersOfEdge p q x.entry x.point x.values }
-    ensures answer { (p : Program) (q : ℕ) (old t : Table G A S) (to : ℕ) (d : Due) → IsTableOf S.members p q t
+        → (x : Triple) → Member x (edges_of S.members t)
+        → AreNumbersOfEdge p q x.entry x.point x.values }
+    ensures answer { (p : Program) (q : ℕ) (old t : Table G A S) (to : ℕ) (d : Due)
+        → IsTableOf S.members p q t
         → IsAnswer old t to d → (k : NumberedMessage) → due_of k ≡ d → IsNumberOf (IsDue p to) k }
-    ensures answered { (p : Program) (q : ℕ) (t : Table G A S) → IsTableOf S.members p q t → failure t ≡ None
+    ensures answered { (p : Program) (q : ℕ) (t : Table G A S) → IsTableOf S.members p q t
+        → failure t ≡ None
         → (x : Mail) → Member x (answers_of t) → (k : NumberedMessage) → due_of k ≡ x.due
         → IsNumberOf (IsDue p x.to) k }
-    ensures limit { (p : Program) (q : ℕ) (t : Table G A S) → IsTableOf S.members p q t → failure t ≡ Some EdgeLimit
+    ensures limit { (p : Program) (q : ℕ) (t : Table G A S) → IsTableOf S.members p q t
+        → failure t ≡ Some EdgeLimit
         → HasMoreEdges p q (limit_of t) }
 {}
 
 /// The starter's message, by which procedure 0 is entered with every value 0, fits the mailbox of procedure 0.
 pub fn the_opening_fits_the_first_mailbox<G: Allocator>()
-    ensures { (graphs : Graphs G) → 0 < length (graphs_of graphs) → FitsIn graphs 0 (Entry Starter 0) }
+    ensures { (graphs : Graphs G) → 0 < length (graphs_of graphs)
+        → FitsIn graphs 0 (Entry Starter 0) }
 {}

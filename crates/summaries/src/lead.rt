@@ -23,7 +23,8 @@ fn reach_next<A: Allocator, S: PathSet<A>>(
     next: Option<(Point, Word)>,
 ) -> Result<(), TableFault>
     requires { length (S.members edges.old) ≤ most_of limit }
-    ensures { Adds (IsAt from next) result (most_of limit) (S.members edges.old) (S.members edges.new)
+    ensures { Adds (IsAt from next) result (most_of limit) (S.members edges.old)
+        (S.members edges.new)
         pending.old.items pending.new.items }
 {
     let Some((point, values)) = next else {
@@ -47,7 +48,8 @@ pub(crate) fn lead<G: Allocator, A: Allocator, S: PathSet<A>>(
     from: Edge,
 ) -> Result<(), TableFault>
     requires { length (S.members edges.old) ≤ most_of limit }
-    ensures { Adds (IsNext flow.now from) result (most_of limit) (S.members edges.old) (S.members edges.new)
+    ensures { Adds (IsNext flow.now from) result (most_of limit) (S.members edges.old)
+        (S.members edges.new)
         pending.old.items pending.new.items }
 {
     let mut choice = 0;

@@ -1,5 +1,5 @@
-//! Summaries of procedures: which path edges of one procedure are reached by the messages that its table has taken, and which
-//! messages the table then owes (summary edges after Ball and Rajamani 2000).
+//! Summaries of procedures: which path edges of one procedure are reached by the messages that its table has taken, and
+//! which messages the table then owes (summary edges after Ball and Rajamani 2000).
 #![tactic(auto)]
 
 mod due;

@@ -2,8 +2,8 @@
 
 use language::Word;
 
-/// What one call of a procedure does as a whole (a summary edge after Ball and Rajamani 2000): entered with the valuation `a`,
-/// it leaves the globals `b`.
+/// What one call of a procedure does as a whole (a summary edge after Ball and Rajamani 2000): entered with the
+/// valuation `a`, it leaves the globals `b`.
 #[derive(Clone, Copy, Debug, PartialEq, Eq, PartialOrd, Ord, Hash)]
 pub struct Pair {
     /// The valuation on entry.

@@ -20,7 +20,8 @@ pub(crate) fn reach<A: Allocator, S: PathSet<A>>(
     edge: Edge,
 ) -> Result<(), TableFault>
     requires { length (S.members edges.old) ≤ most_of limit }
-    ensures { Adds (λ t. t ≡ triple_of edge) result (most_of limit) (S.members edges.old) (S.members edges.new)
+    ensures { Adds (λ t. t ≡ triple_of edge) result (most_of limit) (S.members edges.old)
+        (S.members edges.new)
         pending.old.items pending.new.items }
 {
     if edges.len() >= limit.edges() as u64 {

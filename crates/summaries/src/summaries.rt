@@ -59,7 +59,8 @@ impl<A: Allocator> Summaries<A> {
     /// The valuations with which a procedure is entered, ascending.
     pub fn entries(&self, procedure: u8) -> &[Word]
         requires { procedure < length self.now.procedures }
-        ensures { (s : Effect) → slice_get self.now.procedures procedure ≡ Some s → result.now ≡ s.entries }
+        ensures { (s : Effect) → slice_get self.now.procedures procedure ≡ Some s
+            → result.now ≡ s.entries }
     {
         let summary = &self.procedures[procedure as usize];
         summary.entries.as_slice()
@@ -68,7 +69,8 @@ impl<A: Allocator> Summaries<A> {
     /// The valuations with which a procedure is entered, each with the globals that are then left, ascending.
     pub fn pairs(&self, procedure: u8) -> &[Pair]
         requires { procedure < length self.now.procedures }
-        ensures { (s : Effect) → slice_get self.now.procedures procedure ≡ Some s → result.now ≡ s.pairs }
+        ensures { (s : Effect) → slice_get self.now.procedures procedure ≡ Some s
+            → result.now ≡ s.pairs }
     {
         let summary = &self.procedures[procedure as usize];
         summary.pairs.as_slice()

@@ -28,12 +28,15 @@ pub struct Table<'g, G: Allocator, A: Allocator, S: PathSet<A>> {
 }
 
 impl<'g, G: Allocator, A: Allocator + Copy, S: PathSet<A>> Table<'g, G, A, S> {
-    ghost use Rattle.std.specs.Prelude.{◌<◌, ◌^◌, [], length, slice_get, OnOk, Err, IfOk, IfSome, IfNone};
+    ghost use Rattle.std.specs.Prelude.{◌<◌, ◌^◌, [], length, slice_get, OnOk, Err, IfOk, IfSome};
+    ghost use Rattle.std.specs.Prelude.{IfNone};
     ghost use Rattle.std.specs.Bool.{OnTrue, OnFalse};
     ghost use Rattle.flow_graph.specs.Drawn.{graphs_of};
     ghost use Rattle.summaries.specs.declared.due.Due.TheVariants.{Entry, Summary};
-    ghost use Rattle.summaries.specs.Tables.{graph_of, procedure_of, limit_of, answers_of, failure, fault_of};
-    ghost use Rattle.summaries.specs.Tables.{IsTable, IsNew, IsQuiet, IsAnswer, Takes, Keeps, failed_by, work_left};
+    ghost use Rattle.summaries.specs.Tables.{graph_of, procedure_of, limit_of, answers_of, failure};
+    ghost use Rattle.summaries.specs.Tables.{fault_of};
+    ghost use Rattle.summaries.specs.Tables.{IsTable, IsNew, IsQuiet, IsAnswer, Takes, Keeps};
+    ghost use Rattle.summaries.specs.Tables.{failed_by, work_left};
 
     /// The table of a procedure, which has taken nothing yet, and takes no memory.
     pub fn new(alloc: A, graphs: &'g Graphs<G>, procedure: u8, limit: EdgeLimit) -> Self
@@ -54,8 +57,8 @@ impl<'g, G: Allocator, A: Allocator + Copy, S: PathSet<A>> Table<'g, G, A, S> {
         }
     }
 
-    /// Takes a message: a caller enters the procedure with the valuation `a`. Where memory is refused, or an edge more than
-    /// the limit is found, the table has failed, and answers that from then on.
+    /// Takes a message: a caller enters the procedure with the valuation `a`. Where memory is refused, or an edge more
+    /// than the limit is found, the table has failed, and answers that from then on.
     pub fn take_entry(&mut self, caller: Caller, a: Word) -> Result<(), TableFault>
         requires { IsTable S.members self.old }
         ensures { Takes S.members (Entry caller a) result self.old self.new }
@@ -67,7 +70,8 @@ impl<'g, G: Allocator, A: Allocator + Copy, S: PathSet<A>> Table<'g, G, A, S> {
         self.keep(begun)
     }
 
-    /// Takes a message: procedure `p`, entered with the valuation `a`, leaves the globals `b`. It fails as `take_entry` does.
+    /// Takes a message: procedure `p`, entered with the valuation `a`, leaves the globals `b`. It fails as `take_entry`
+    /// does.
     pub fn take_summary(&mut self, p: u8, a: Word, b: Word) -> Result<(), TableFault>
         requires { IsTable S.members self.old }
         ensures { Takes S.members (Summary p a b) result self.old self.new }
@@ -85,8 +89,8 @@ impl<'g, G: Allocator, A: Allocator + Copy, S: PathSet<A>> Table<'g, G, A, S> {
         self.keep(ended)
     }
 
-    /// The next message that the table owes by those that it has taken, and the procedure that it is for; each comes once.
-    /// `None` where there is no more until another message is taken. It fails as `take_entry` does.
+    /// The next message that the table owes by those that it has taken, and the procedure that it is for; each comes
+    /// once. `None` where there is no more until another message is taken. It fails as `take_entry` does.
     pub fn next(&mut self) -> Result<Option<(u8, Due)>, TableFault>
         requires { IsTable S.members self.old }
         ensures keeps { Keeps S.members (fault_of result) self.old self.new }
@@ -132,7 +136,8 @@ impl<'g, G: Allocator, A: Allocator + Copy, S: PathSet<A>> Table<'g, G, A, S> {
         ensures less { IfOk result (λ worked. OnTrue worked
             (work_left S.members self.new < work_left S.members self.old)) }
         ensures none { IfOk result (λ worked. OnFalse worked (self.new.found.pending.items ≡ [])) }
-        ensures given { IfOk result (λ worked. OnFalse worked (self.new.found.given ≡ self.old.found.given)) }
+        ensures given { IfOk result
+            (λ worked. OnFalse worked (self.new.found.given ≡ self.old.found.given)) }
     {
         let Some(edge) = self.found.pending.pop() else {
             return Ok(false);

@@ -7,7 +7,8 @@ ghost use Rattle.flow_graph.specs.Drawn.{bad_of, graphs_of};
 ghost use Rattle.flow_graph.specs.Graphs.{AreDrawnFrom};
 ghost use Rattle.summaries.specs.Tables.{graph_of, IsTable, Takes};
 ghost use Rattle.summaries.specs.Tabulated.{AreSummaries, SomePairBad, HasMoreEdges};
-ghost use Rattle.summaries.specs.Together.{opening, HaveLimit, AreNew, AreTables, AreQuietBefore, AreFull};
+ghost use Rattle.summaries.specs.Together.{opening, HaveLimit, AreNew, AreTables, AreQuietBefore};
+ghost use Rattle.summaries.specs.Together.{AreFull};
 ghost use Rattle.summaries.specs.Limits.{most_of};
 
 use crate::due::{Caller, Due};
@@ -59,8 +60,10 @@ fn run<G: Allocator, A: Allocator + Copy, S: PathSet<A>>(
     ghost program: { Program }
     requires { AreTables S.members program (λ x. x ≡ opening) tables.old.items }
     ensures tables { OnOk result (AreTables S.members program (λ x. ⊥) tables.new.items) }
-    ensures quiet { OnOk result (AreQuietBefore S.members (length tables.new.items) tables.new.items) }
-    ensures limits { (n : ℕ) → HaveLimit n tables.old.items → OnOk result (HaveLimit n tables.new.items) }
+    ensures quiet { OnOk result
+        (AreQuietBefore S.members (length tables.new.items) tables.new.items) }
+    ensures limits { (n : ℕ) → HaveLimit n tables.old.items
+        → OnOk result (HaveLimit n tables.new.items) }
     ensures limit { result ≡ Err TableFault.EdgeLimit → (n : ℕ) → HaveLimit n tables.old.items
         → (q : ℕ) × HasMoreEdges program q n }
 {
@@ -87,14 +90,15 @@ fn run<G: Allocator, A: Allocator + Copy, S: PathSet<A>>(
     Ok(())
 }
 
-/// The summaries of the program that the graphs are drawn from, by the tables of all its procedures, which owe each other
-/// nothing.
+/// The summaries of the program that the graphs are drawn from, by the tables of all its procedures, which owe each
+/// other nothing.
 pub fn collect<G: Allocator, A: Allocator + Copy, S: PathSet<A>>(
     alloc: A,
     graphs: &Graphs<G>,
     tables: &[Table<'_, G, A, S>],
 ) -> Result<Summaries<A>, AllocError>
-    ensures summaries { (p : Program) → AreFull S.members p tables.now → IfOk result (λ s. AreSummaries p s) }
+    ensures summaries { (p : Program) → AreFull S.members p tables.now
+        → IfOk result (λ s. AreSummaries p s) }
     ensures bad { (p : Program) → AreFull S.members p tables.now
         → IfOk result (λ s. SomePairBad s ↔ SomeBad p (bad_of graphs.now)) }
     ensures few { (p : Program) (n : ℕ) → AreFull S.members p tables.now → HaveLimit n tables.now
@@ -105,8 +109,8 @@ pub fn collect<G: Allocator, A: Allocator + Copy, S: PathSet<A>>(
     Ok(Summaries { procedures, bad })
 }
 
-/// The summaries of a program by its flow graphs, where no procedure has more path edges than the limit; the path edges are
-/// kept in sets of the type `S`. `EdgeLimit` is answered only where some procedure has more.
+/// The summaries of a program by its flow graphs, where no procedure has more path edges than the limit; the path edges
+/// are kept in sets of the type `S`. `EdgeLimit` is answered only where some procedure has more.
 pub fn tabulate<G: Allocator, A: Allocator + Copy, S: PathSet<A>>(
     alloc: A,
     graphs: &Graphs<G>,
@@ -117,7 +121,8 @@ pub fn tabulate<G: Allocator, A: Allocator + Copy, S: PathSet<A>>(
     ensures summaries { IfOk result (λ s. AreSummaries program s) }
     ensures bad { IfOk result (λ s. SomePairBad s ↔ SomeBad program (bad_of graphs.now)) }
     ensures few { IfOk result (λ s. (q : ℕ) → ¬ HasMoreEdges program q (most_of limit)) }
-    ensures limit { result ≡ Err NoVerdict.EdgeLimit → (q : ℕ) × HasMoreEdges program q (most_of limit) }
+    ensures limit { result ≡ Err NoVerdict.EdgeLimit
+        → (q : ℕ) × HasMoreEdges program q (most_of limit) }
     ensures cause { IfErr result (λ e. (e ≡ NoVerdict.Memory) ⊎ (e ≡ NoVerdict.EdgeLimit)) }
 {
     let mut tables: Vec<Table<'_, G, A, S>, A> = tables_of(alloc, graphs, limit)?;

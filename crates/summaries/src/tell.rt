@@ -19,7 +19,8 @@ pub(crate) fn tell<A: Allocator + Copy>(
     caller: Caller,
 ) -> Result<(), AllocError>
     requires { (x : Mail) → IsTold p a b caller x → ¬ Member x given.old.mails.items }
-    ensures ok { OnOk result (Gives (IsTold p a b caller) given.old.mails.items given.new.mails.items) }
+    ensures ok { OnOk result
+        (Gives (IsTold p a b caller) given.old.mails.items given.new.mails.items) }
     ensures only { AddsOnly (IsTold p a b caller) given.old.mails.items given.new.mails.items }
     ensures answered { given.new.answered ≡ given.old.answered }
 {
@@ -39,9 +40,12 @@ pub(crate) fn tell_all<A: Allocator + Copy>(
     callers: &[Caller],
 ) -> Result<(), AllocError>
     requires once { NoneTwice callers.now }
-    requires new { (x : Mail) → Each (IsTold p a b) callers.now x → ¬ Member x given.old.mails.items }
-    ensures ok { OnOk result (Gives (Each (IsTold p a b) callers.now) given.old.mails.items given.new.mails.items) }
-    ensures only { AddsOnly (Each (IsTold p a b) callers.now) given.old.mails.items given.new.mails.items }
+    requires new { (x : Mail) → Each (IsTold p a b) callers.now x
+        → ¬ Member x given.old.mails.items }
+    ensures ok { OnOk result
+        (Gives (Each (IsTold p a b) callers.now) given.old.mails.items given.new.mails.items) }
+    ensures only { AddsOnly
+        (Each (IsTold p a b) callers.now) given.old.mails.items given.new.mails.items }
     ensures answered { given.new.answered ≡ given.old.answered }
 {
     for caller in callers {
@@ -60,7 +64,8 @@ pub(crate) fn tell_exits<A: Allocator + Copy>(
     caller: Caller,
 ) -> Result<(), AllocError>
     requires once { NoneTwice exits.now }
-    requires new { (x : Mail) → Each (λ b. IsTold p a b caller) exits.now x → ¬ Member x given.old.mails.items }
+    requires new { (x : Mail) → Each (λ b. IsTold p a b caller) exits.now x
+        → ¬ Member x given.old.mails.items }
     ensures ok { OnOk result (Gives (Each (λ b. IsTold p a b caller) exits.now)
         given.old.mails.items given.new.mails.items) }
     ensures only { AddsOnly (Each (λ b. IsTold p a b caller) exits.now)

@@ -60,7 +60,8 @@ impl<'g, G: Allocator, A: Allocator + Copy, S: PathSet<A>> Table<'g, G, A, S> {
 
     /// Asks for a procedure that is called from an edge, and goes on behind the call for what is known of it.
     fn ask(&mut self, edge: Edge, call: &flow_graph::Call<G>) -> Result<(), TableFault>
-        requires call { slice_get (flows_of (graph_of self.old)) edge.point ≡ Some (flow.Call call.now) }
+        requires call { slice_get (flows_of (graph_of self.old)) edge.point
+            ≡ Some (flow.Call call.now) }
         requires edge { Member (triple_of edge) (S.members self.old.edges) }
         requires holds { Holds S.members (λ t. t ≡ triple_of edge) self.old }
         requires within { length (S.members self.old.edges) ≤ limit_of self.old }
@@ -95,7 +96,8 @@ impl<'g, G: Allocator, A: Allocator + Copy, S: PathSet<A>> Table<'g, G, A, S> {
         )
     }
 
-    /// Works on an edge that is no longer pending: adds the edges that it leads to, and gives the messages that it makes due.
+    /// Works on an edge that is no longer pending: adds the edges that it leads to, and gives the messages that it
+    /// makes due.
     pub(crate) fn work(&mut self, edge: Edge) -> Result<(), TableFault>
         requires edge { Member (triple_of edge) (S.members self.old.edges) }
         requires holds { Holds S.members (λ t. t ≡ triple_of edge) self.old }
@@ -153,7 +155,8 @@ impl<'g, G: Allocator, A: Allocator + Copy, S: PathSet<A>> Table<'g, G, A, S> {
         requires holds { Holds S.members (λ t. ⊥) self.old }
         requires within { length (S.members self.old.edges) ≤ limit_of self.old }
         ensures worked { Worked S.members (λ t. ⊥) result self.old self.new }
-        ensures taken { OnOk result (TookAlso (Summary call.callee call.entered b) self.old.found self.new.found) }
+        ensures taken { OnOk result
+            (TookAlso (Summary call.callee call.entered b) self.old.found self.new.found) }
         ensures only { TookOnly (Summary call.callee call.entered b) self.old.found self.new.found }
     {
         self.found.summaries.add(call, b)?;

@@ -4,7 +4,8 @@ ghost use Rattle.std.specs.Option.{ForSome};
 ghost use Rattle.atomic_table.specs.Seated.{TableId};
 ghost use Rattle.post_ledger.specs.Orders.{HasJob};
 ghost use Rattle.switchboard.specs.Sights.{Sight, Account, opened, fresh_sights, told_by};
-ghost use Rattle.switchboard.specs.Promises.{WasSpent, WasPosted, WasRefused, Took, WasDone, MadeAbort, Learned};
+ghost use Rattle.switchboard.specs.Promises.{WasSpent, WasPosted, WasRefused, Took, WasDone};
+ghost use Rattle.switchboard.specs.Promises.{MadeAbort, Learned};
 ghost use Rattle.switchboard.specs.Promises.{AreAll, Settles};
 
 use crate::calls::{Cause, Job, PostFault, Taken};
@@ -14,8 +15,8 @@ use std::alloc::{AllocError, Allocator};
 use std::sync::Wait;
 use ticket_lock::Spent;
 
-/// Mailboxes with a pass each, numbered alike: pass i alone takes from mailbox i, and is the sender of what it posts. Every call stands at one
-/// order of the board's events, of which its pass has seen a beginning.
+/// Mailboxes with a pass each, numbered alike: pass i alone takes from mailbox i, and is the sender of what it posts.
+/// Every call stands at one order of the board's events, of which its pass has seen a beginning.
 pub trait Board<M: Mail<W>, W, A: Allocator>: Sized {
     /// What one thread at a time works with.
     type Pass;
@@ -31,7 +32,8 @@ pub trait Board<M: Mail<W>, W, A: Allocator>: Sized {
 
     ghost account: { Self.Told → Account M };
 
-    /// A board of 1 to 64 mailboxes, with the opening post in one of them, and its passes in the order of their numbers.
+    /// A board of 1 to 64 mailboxes, with the opening post in one of them, and its passes in the order of their
+    /// numbers.
     fn open(
         alloc: A,
         world: &W,
@@ -44,7 +46,8 @@ pub trait Board<M: Mail<W>, W, A: Allocator>: Sized {
         requires boxes { (to < boxes) × (boxes ≤ 64) }
         requires fits { M.fits world.now to first }
         ensures { IfOk result (λ r. (mailboxes r.0 ≡ boxes)
-            × (map sight r.1.items ≡ fresh_sights (identity r.0) (2 ^ 56) (opened world.now boxes to first) 0 boxes)) };
+            × (map sight r.1.items
+            ≡ fresh_sights (identity r.0) (2 ^ 56) (opened world.now boxes to first) 0 boxes)) };
 
     /// The same, where each pass has fewer calls: one fewer than `budget`, from 2 to 2^56.
     fn open_with_budget(
@@ -61,7 +64,8 @@ pub trait Board<M: Mail<W>, W, A: Allocator>: Sized {
         requires budget { (2 ≤ budget) × (budget ≤ 2 ^ 56) }
         requires fits { M.fits world.now to first }
         ensures { IfOk result (λ r. (mailboxes r.0 ≡ boxes)
-            × (map sight r.1.items ≡ fresh_sights (identity r.0) budget (opened world.now boxes to first) 0 boxes)) };
+            × (map sight r.1.items
+            ≡ fresh_sights (identity r.0) budget (opened world.now boxes to first) 0 boxes)) };
 
     /// Posts a message that fits the mailbox, under a job of the pass. A post that is refused hands its message back.
     fn post<R: Wait>(
@@ -74,11 +78,14 @@ pub trait Board<M: Mail<W>, W, A: Allocator>: Sized {
     ) -> Result<(), PostFault<M>>
         requires board { (sight pass.old).board ≡ identity self.now }
         requires job { HasJob (sight pass.old).number job.now (sight pass.old).seen.order }
-        requires fits { (to < (sight pass.old).seen.boxes) × M.fits (sight pass.old).seen.world to message }
-        ensures { MatchResult result (λ _. WasPosted M.fits job.now to message (sight pass.old) (sight pass.new))
+        requires fits { (to < (sight pass.old).seen.boxes)
+            × M.fits (sight pass.old).seen.world to message }
+        ensures { MatchResult result
+            (λ _. WasPosted M.fits job.now to message (sight pass.old) (sight pass.new))
             (λ f. WasRefused M.fits message f (sight pass.old) (sight pass.new)) };
 
-    /// Takes the oldest message of the pass's mailbox, with a job; or says that the board is closed, or aborted, or the mailbox empty.
+    /// Takes the oldest message of the pass's mailbox, with a job; or says that the board is closed, or aborted, or the
+    /// mailbox empty.
     fn take<R: Wait>(&self, rt: &R, pass: &mut Self::Pass) -> Result<Taken<M>, Spent>
         requires { (sight pass.old).board ≡ identity self.now }
         ensures { Took M.fits result (sight pass.old) (sight pass.new) };
@@ -93,7 +100,8 @@ pub trait Board<M: Mail<W>, W, A: Allocator>: Sized {
     /// Aborts the board, and spends the job without completing its message.
     fn abort<R: Wait>(&self, rt: &R, pass: &mut Self::Pass, job: Option<Job>, cause: Cause)
         requires board { (sight pass.old).board ≡ identity self.now }
-        requires job { ForSome job (λ j. HasJob (sight pass.old).number j (sight pass.old).seen.order) }
+        requires job { ForSome job
+            (λ j. HasJob (sight pass.old).number j (sight pass.old).seen.order) }
         ensures { MadeAbort M.fits (record { by = (sight pass.old).number; cause = cause })
             (sight pass.old) (sight pass.new) };
 
@@ -105,10 +113,12 @@ pub trait Board<M: Mail<W>, W, A: Allocator>: Sized {
 
     /// The pass has then seen what it had seen and what it was told.
     fn learn(&self, pass: &mut Self::Pass, told: Self::Told)
-        requires { ((sight pass.old).board ≡ identity self.now) × ((account told).board ≡ identity self.now) }
+        requires { ((sight pass.old).board ≡ identity self.now)
+            × ((account told).board ≡ identity self.now) }
         ensures { Learned M.fits (account told) (sight pass.old) (sight pass.new) };
 
-    /// What is left of the board, which takes all its passes out of the list, in the order of their numbers. Takes no memory.
+    /// What is left of the board, which takes all its passes out of the list, in the order of their numbers. Takes no
+    /// memory.
     fn into_ledger(self, passes: &mut Vec<Self::Pass, A>) -> Ledger<M, A>
         requires { AreAll (identity self) (mailboxes self) (map sight passes.old.items) }
         ensures empty { passes.new.items ≡ [] }

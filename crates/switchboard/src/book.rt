@@ -14,8 +14,8 @@ use post_ledger::{Entry, Ledger, Mailbox};
 use std::alloc::{AllocError, Allocator};
 use std::marker::Model;
 
-/// All mailboxes of a board, and the order of their events. Each call makes one event at most, in time that does not grow with the order.
-/// Contracts see it as a `State`.
+/// All mailboxes of a board, and the order of their events. Each call makes one event at most, in time that does not
+/// grow with the order. Contracts see it as a `State`.
 #[derive(Drop)]
 pub struct Book<M, W, A: Allocator> {
     world: Shown<W>,
@@ -41,7 +41,8 @@ impl<M, W, A: Allocator> Model for Book<M, W, A> {
       aborted = b.aborted;
     } };
 
-    ghost invariant = { λ b. Kept b.mailboxes.items b.order.items (vec_capacity b.order) b.posted b.completed };
+    ghost invariant = { λ b.
+        Kept b.mailboxes.items b.order.items (vec_capacity b.order) b.posted b.completed };
 }
 
 /// So many mailboxes with no events.
@@ -112,8 +113,8 @@ impl<M: Copy, W, A: Allocator> Book<M, W, A> {
         }
     }
 
-    /// Posts a message to a mailbox, under a job of the sender, and reserves the places of its Take and its Done. A post that is refused
-    /// hands its message back.
+    /// Posts a message to a mailbox, under a job of the sender, and reserves the places of its Take and its Done. A
+    /// post that is refused hands its message back.
     pub fn post(&mut self, by: u8, job: &Job, to: u8, message: M) -> Result<(), PostFault<M>>
         requires job { HasJob by job.now self.old.order }
         requires to { to < self.old.boxes }
@@ -178,7 +179,10 @@ impl<M: Copy, W, A: Allocator> Book<M, W, A> {
     /// Aborts the board, unless it was aborted before.
     pub fn abort(&mut self, by: u8, cause: Cause)
         ensures { self.new
-            ≡ record self.old { aborted = abort_of self.old.aborted (record { by = by; cause = cause }) } }
+            ≡ record self.old {
+              aborted =
+                  abort_of self.old.aborted (record { by = by; cause = cause });
+            } }
     {
         if self.aborted.is_none() {
             self.aborted = Some(Abort { by, cause });

@@ -1,8 +1,8 @@
 //! What the calls of a board take and answer.
 use std::marker::Model;
 
-/// The right to post, which comes of the take of a message. It has to be spent, by `done` or by `abort`. Contracts see it as the
-/// number of its take.
+/// The right to post, which comes of the take of a message. It has to be spent, by `done` or by `abort`. Contracts see
+/// it as the number of its take.
 pub struct Job {
     pub(crate) take: u64,
 }

@@ -5,7 +5,8 @@ use post_ledger::Entry;
 use std::collections::LinkedList;
 use ticket_lock::Hand;
 
-/// What the table of a board is told once: the world of its messages, the number of its mailboxes, and the opening post.
+/// What the table of a board is told once: the world of its messages, the number of its mailboxes, and the opening
+/// post.
 #[derive(Drop)]
 pub struct Ground<M, W> {
     pub(crate) world: Shown<W>,
@@ -39,8 +40,8 @@ pub struct Knowing<M, W, T> {
     pub(crate) seen: Seen<M>,
     /// What it was told and has not yet taken in.
     pub(crate) told: Seen<M>,
-    /// How many it has in the count of outstanding posts: of Posts that it has counted up and not yet recorded, and of Dones that it has recorded
-    /// and not yet counted down.
+    /// How many it has in the count of outstanding posts: of Posts that it has counted up and not yet recorded, and of
+    /// Dones that it has recorded and not yet counted down.
     pub(crate) owes: u64,
     /// How many Posts it may still count up.
     pub(crate) budget: u64,

@@ -6,35 +6,44 @@ ghost use Rattle.switchboard.specs.declared.calls.Taken.{Taken};
 ghost use Rattle.switchboard.specs.declared.calls.PostFault.{PostFault};
 ghost use Rattle.switchboard.specs.declared.calls.Abort.{Abort};
 ghost use Rattle.switchboard.specs.Sights.{Sight, Account, IsSound};
-ghost use Rattle.switchboard.specs.Promises.{Took, TookMessage, WasPosted, WasRefused, WasDone, MadeAbort, Learned};
+ghost use Rattle.switchboard.specs.Promises.{Took, TookMessage, WasPosted, WasRefused, WasDone};
+ghost use Rattle.switchboard.specs.Promises.{MadeAbort, Learned};
 ghost use Rattle.switchboard.specs.Promises.{WasSpent, SaysClosed, SaysStopped, IsStopped};
 
 use crate::mail::Mail;
 
-/// Who knows the close gets `Closed` from each later take that is not answered `Spent`, and knows it from then on; a closed
-/// order stays as it is.
+/// Who knows the close gets `Closed` from each later take that is not answered `Spent`, and knows it from then on; a
+/// closed order stays as it is.
 pub fn the_close_stays<M: Mail<W>, W>()
-    ensures answers { (s t : Sight M W) (r : Result (Taken M) Spent) → s.knows ≡ true → Took M.fits r s t → SaysClosed r }
-    ensures knows { (s t : Sight M W) (r : Result (Taken M) Spent) → s.knows ≡ true → Took M.fits r s t
+    ensures answers { (s t : Sight M W) (r : Result (Taken M) Spent) → s.knows ≡ true
+        → Took M.fits r s t → SaysClosed r }
+    ensures knows { (s t : Sight M W) (r : Result (Taken M) Spent) → s.knows ≡ true
+        → Took M.fits r s t
         → t.knows ≡ true }
-    ensures same { (s t : Sight M W) (r : Result (Taken M) Spent) → IsSound M.fits s.seen → IsClosed s.seen.order
+    ensures same { (s t : Sight M W) (r : Result (Taken M) Spent) → IsSound M.fits s.seen
+        → IsClosed s.seen.order
         → Took M.fits r s t → t.seen.order ≡ s.seen.order }
 {}
 
 /// Who knows the close, or has seen a closed order, posts nothing.
 pub fn nothing_is_posted_after_the_close<M: Mail<W>, W>()
-    ensures known { (s t : Sight M W) (job to : ℕ) (m : M) → s.knows ≡ true → WasPosted M.fits job to m s t → ⊥ }
-    ensures closed { (s t : Sight M W) (job to : ℕ) (m : M) → IsSound M.fits s.seen → IsClosed s.seen.order
+    ensures known { (s t : Sight M W) (job to : ℕ) (m : M) → s.knows ≡ true
+        → WasPosted M.fits job to m s t → ⊥ }
+    ensures closed { (s t : Sight M W) (job to : ℕ) (m : M) → IsSound M.fits s.seen
+        → IsClosed s.seen.order
         → WasPosted M.fits job to m s t → ⊥ }
 {}
 
-/// Who knows of an abort finds it in each later take, which answers `Aborted` or `Closed`, or `Spent`; and in each later post,
-/// which is refused as aborted, or as spent.
+/// Who knows of an abort finds it in each later take, which answers `Aborted` or `Closed`, or `Spent`; and in each
+/// later post, which is refused as aborted, or as spent.
 pub fn an_abort_stays<M: Mail<W>, W>()
-    ensures takes { (s t : Sight M W) (r : Result (Taken M) Spent) → IsSome s.seen.aborted → Took M.fits r s t
+    ensures takes { (s t : Sight M W) (r : Result (Taken M) Spent) → IsSome s.seen.aborted
+        → Took M.fits r s t
         → SaysStopped r }
-    ensures posts { (s t : Sight M W) (job to : ℕ) (m : M) → IsSome s.seen.aborted → WasPosted M.fits job to m s t → ⊥ }
-    ensures refusals { (s t : Sight M W) (m : M) (f : PostFault M) → IsSome s.seen.aborted → WasRefused M.fits m f s t
+    ensures posts { (s t : Sight M W) (job to : ℕ) (m : M) → IsSome s.seen.aborted
+        → WasPosted M.fits job to m s t → ⊥ }
+    ensures refusals { (s t : Sight M W) (m : M) (f : PostFault M) → IsSome s.seen.aborted
+        → WasRefused M.fits m f s t
         → IsStopped f }
 {}
 
@@ -46,7 +55,8 @@ pub fn nobody_with_a_job_knows_the_close<M: Mail<W>, W>()
 
 /// Who took a message has its job, which is none that it had before.
 pub fn a_message_comes_with_a_job<M: Mail<W>, W>()
-    ensures has { (s t : Sight M W) (job : ℕ) (m : M) → TookMessage M.fits job m s t → HasJob t.number job t.seen.order }
+    ensures has { (s t : Sight M W) (job : ℕ) (m : M) → TookMessage M.fits job m s t
+        → HasJob t.number job t.seen.order }
     ensures other { (s t : Sight M W) (job old : ℕ) (m : M) → TookMessage M.fits job m s t
         → HasJob s.number old s.seen.order → old ≢ job }
 {}
@@ -55,7 +65,8 @@ pub fn a_message_comes_with_a_job<M: Mail<W>, W>()
 pub fn a_job_lasts_until_it_is_done<M: Mail<W>, W>()
     ensures takes { (s t : Sight M W) (r : Result (Taken M) Spent) (j : ℕ) → Took M.fits r s t
         → HasJob s.number j s.seen.order → HasJob t.number j t.seen.order }
-    ensures posts { (s t : Sight M W) (job to : ℕ) (m : M) (r : Result (Unit {0}) (PostFault M)) (j : ℕ)
+    ensures posts { (s t : Sight M W) (job to : ℕ) (m : M) (r : Result (Unit {0}) (PostFault M))
+        (j : ℕ)
         → MatchResult r (λ _. WasPosted M.fits job to m s t) (λ f. WasRefused M.fits m f s t)
         → HasJob s.number j s.seen.order → HasJob t.number j t.seen.order }
     ensures dones { (s t : Sight M W) (job j : ℕ) → WasDone M.fits job s t → j ≢ job

@@ -2,7 +2,8 @@
 ghost use Rattle.std.specs.Prelude.{◌≡◌, ◌<◌, ◌≤◌, ◌^◌, map, MatchResult, IfOk, []};
 ghost use Rattle.post_ledger.specs.Orders.{HasJob};
 ghost use Rattle.switchboard.specs.Sights.{opened, fresh_sights, told_by};
-ghost use Rattle.switchboard.specs.Promises.{WasSpent, WasPosted, WasRefused, Took, WasDone, MadeAbort, Learned};
+ghost use Rattle.switchboard.specs.Promises.{WasSpent, WasPosted, WasRefused, Took, WasDone};
+ghost use Rattle.switchboard.specs.Promises.{MadeAbort, Learned};
 ghost use Rattle.switchboard.specs.Promises.{AreAll, Settles};
 
 use crate::board::Board;
@@ -60,7 +61,8 @@ impl<M: Mail<W>, W, A: Allocator> OneLock<M, W, A> {
         requires budget { (2 ≤ budget) × (budget ≤ 2 ^ 56) }
         requires fits { M.fits world.now to first }
         ensures { IfOk result (λ r. (r.0.lock.lanes ≡ boxes)
-            × (r.1.items ≡ fresh_sights r.0.lock.id budget (opened world.now boxes to first) 0 boxes)) }
+            × (r.1.items
+            ≡ fresh_sights r.0.lock.id budget (opened world.now boxes to first) 0 boxes)) }
     {
         let book = Book::open(alloc.clone()?, world, boxes, to, first)?;
         let mut passes = Vec::with_capacity(alloc.clone()?, usize::from(boxes))?;
@@ -146,7 +148,8 @@ impl<M: Mail<W>, W, A: Allocator> OneLock<M, W, A> {
 
     fn abort<R: Wait>(&self, rt: &R, pass: &mut OnePass<M, W, A>, job: Option<Job>, cause: Cause)
         requires { pass.old.board ≡ self.now.lock.id }
-        ensures { MadeAbort M.fits (record { by = pass.old.number; cause = cause }) pass.old pass.new }
+        ensures { MadeAbort M.fits
+            (record { by = pass.old.number; cause = cause }) pass.old pass.new }
     {
         if let Some(job) = job {
             let Job { take: _ } = job;
@@ -184,7 +187,8 @@ impl<M: Mail<W>, W, A: Allocator> OneLock<M, W, A> {
     fn into_ledger(self, passes: &mut Vec<OnePass<M, W, A>, A>) -> Ledger<M, A>
         requires { AreAll self.lock.id self.lock.lanes passes.old.items }
         ensures empty { passes.new.items ≡ [] }
-        ensures settles { Settles M.fits self.lock.lanes passes.old.items result.histories.items result.closed }
+        ensures settles { Settles M.fits self.lock.lanes passes.old.items result.histories.items
+            result.closed }
     {
         let OneLock { lock, heap } = self;
         let all = mem::replace(passes, Vec::new(heap));

@@ -81,10 +81,12 @@ fn count_step<J: About, W, M: Mail<W>, A: Allocator>(
     job: &Job,
 )
     requires table { (seat.old.table_id ≡ shared.now.table_id) × (0 < shared.now.table_id.words) }
-    requires job { (o : Own M) × (seat.old.me.0.lanes ≡ o ∷ []) × (own o.number seat.old.me.0.seen.order ≡ o.events)
+    requires job { (o : Own M) × (seat.old.me.0.lanes ≡ o ∷ [])
+        × (own o.number seat.old.me.0.seen.order ≡ o.events)
         × HasJob o.number J.job seat.old.me.0.seen.order }
     requires budget { 0 < seat.old.me.0.budget }
-    ensures { IsSameSeat seat.old seat.new × (seat.new.me ≡ (counted_up J.job seat.old.me.0, seat.old.me.1)) }
+    ensures { IsSameSeat seat.old seat.new
+        × (seat.new.me ≡ (counted_up J.job seat.old.me.0, seat.old.me.1)) }
 {
     let _ = job;
     shared.fetch_add::<CountsUp<J>>(seat, 0, 1);
@@ -97,10 +99,12 @@ pub(crate) fn count_up<W, M: Mail<W>, A: Allocator>(
     job: &Job,
 )
     requires table { (seat.old.table_id ≡ shared.now.table_id) × (0 < shared.now.table_id.words) }
-    requires job { (o : Own M) × (seat.old.me.0.lanes ≡ o ∷ []) × (own o.number seat.old.me.0.seen.order ≡ o.events)
+    requires job { (o : Own M) × (seat.old.me.0.lanes ≡ o ∷ [])
+        × (own o.number seat.old.me.0.seen.order ≡ o.events)
         × HasJob o.number job.now seat.old.me.0.seen.order }
     requires budget { 0 < seat.old.me.0.budget }
-    ensures { IsSameSeat seat.old seat.new × (seat.new.me ≡ (counted_up job.now seat.old.me.0, seat.old.me.1)) }
+    ensures { IsSameSeat seat.old seat.new
+        × (seat.new.me ≡ (counted_up job.now seat.old.me.0, seat.old.me.1)) }
 {
     count_step::<Brand, W, M, A>(shared, seat, job);
 }
@@ -112,7 +116,8 @@ pub(crate) fn count_down<W, M: Mail<W>, A: Allocator>(
 )
     requires table { (seat.old.table_id ≡ shared.now.table_id) × (0 < shared.now.table_id.words) }
     requires owes { 0 < seat.old.me.0.owes }
-    ensures { IsSameSeat seat.old seat.new × (seat.new.me ≡ (counted_down seat.old.me.0, seat.old.me.1)) }
+    ensures { IsSameSeat seat.old seat.new
+        × (seat.new.me ≡ (counted_down seat.old.me.0, seat.old.me.1)) }
 {
     shared.fetch_sub::<CountsDown>(seat, 0, 1);
 }
@@ -135,7 +140,8 @@ fn raise_step<J: About, W, M: Mail<W>, A: Allocator>(
     cause: Cause,
 )
     requires table { (seat.old.table_id ≡ shared.now.table_id) × (0 < shared.now.table_id.words) }
-    requires own { (o : Own M) × (seat.old.me.0.lanes ≡ o ∷ []) × (o.number ≡ J.abort.by) × (o.made ≡ false)
+    requires own { (o : Own M) × (seat.old.me.0.lanes ≡ o ∷ []) × (o.number ≡ J.abort.by)
+        × (o.made ≡ false)
         × (J.abort.by < shared.now.key.boxes) }
     ensures { IsSameSeat seat.old seat.new × Raised M.fits J.abort seat.old.me seat.new.me }
 {
@@ -207,7 +213,8 @@ pub(crate) fn take_in<W, M: Mail<W>, A: Allocator>(
     seat: &mut Place<M, W, A>,
     other: Place<M, W, A>,
 )
-    requires table { (seat.old.table_id ≡ shared.now.table_id) × (other.table_id ≡ shared.now.table_id)
+    requires table { (seat.old.table_id ≡ shared.now.table_id)
+        × (other.table_id ≡ shared.now.table_id)
         × (0 < shared.now.table_id.words) }
     requires none { other.me.1 ≡ [] }
     requires mine { (q : ℕ) → q < shared.now.key.boxes → (hand_at q seat.old.me.0).inside ≡ [] }

@@ -90,7 +90,8 @@ impl<M: Mail<W>, W, A: Allocator> Board<M, W, A> for LockPerBox<M, W, A> {
     }
 
     fn into_ledger(self, passes: &mut Vec<BoxPass<M, W, A>, A>) -> Ledger<M, A>
-        requires { AreAll self.table.shared.table_id self.table.shared.key.boxes (map (λ p. p) passes.old.items) }
+        requires { AreAll self.table.shared.table_id self.table.shared.key.boxes
+            (map (λ p. p) passes.old.items) }
         ensures empty { passes.new.items ≡ [] }
         ensures settles { Settles M.fits self.table.shared.key.boxes (map (λ p. p) passes.old.items)
             result.histories.items result.closed }

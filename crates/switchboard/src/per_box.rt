@@ -5,7 +5,8 @@ ghost use Rattle.ticket_lock.specs.Calls.{IsSameSeat};
 ghost use Rattle.post_ledger.specs.Orders.{own, HasJob};
 ghost use Rattle.switchboard.specs.declared.knowing.Own.{Own};
 ghost use Rattle.switchboard.specs.Sights.{told_by};
-ghost use Rattle.switchboard.specs.Promises.{WasSpent, WasPosted, WasRefused, Took, WasDone, MadeAbort, Learned};
+ghost use Rattle.switchboard.specs.Promises.{WasSpent, WasPosted, WasRefused, Took, WasDone};
+ghost use Rattle.switchboard.specs.Promises.{MadeAbort, Learned};
 ghost use Rattle.switchboard.specs.PerBox.{IsSized};
 ghost use Rattle.switchboard.specs.BoxAnswers.{TookOut, PutIn};
 
@@ -38,7 +39,8 @@ pub struct LockPerBox<M: Mail<W>, W, A: Allocator> {
     pub(crate) table: BoxTable<M, W, A>,
     /// For the mailboxes, once the board is at its end.
     pub(crate) room: Vec<Mailbox<M, A>, A>,
-    ghost sized: { IsSized table.shared.table_id table.shared.key.boxes × (0 < table.shared.key.boxes) },
+    ghost sized: { IsSized table.shared.table_id table.shared.key.boxes
+        × (0 < table.shared.key.boxes) },
     ghost free: { (vec_len room ≡ 0) × (table.shared.key.boxes ≤ vec_capacity room) },
 }
 
@@ -64,11 +66,13 @@ fn put<F: Fn(), W, M: Mail<W>, A: Allocator>(
 ) -> Result<(), PostFault<M>>
     requires callable { F.IsAlwaysCallable held.now }
     requires table { (seat.old.table_id ≡ shared.now.table_id) × (0 < shared.now.table_id.words) }
-    requires job { (o : Own M) × (seat.old.me.0.lanes ≡ o ∷ []) × (own o.number seat.old.me.0.seen.order ≡ o.events)
+    requires job { (o : Own M) × (seat.old.me.0.lanes ≡ o ∷ [])
+        × (own o.number seat.old.me.0.seen.order ≡ o.events)
         × HasJob o.number job.now seat.old.me.0.seen.order }
     requires budget { 0 < seat.old.me.0.budget }
     ensures { IsSameSeat seat.old seat.new
-        × PutIn M.fits number job.now message result mailbox.old mailbox.new seat.old.me seat.new.me }
+        × PutIn M.fits number job.now message result mailbox.old mailbox.new seat.old.me
+        seat.new.me }
 {
     if look(shared, seat) >= ABORTED {
         return Err(PostFault::Aborted(message));
@@ -84,7 +88,8 @@ fn put<F: Fn(), W, M: Mail<W>, A: Allocator>(
 }
 
 impl<M: Mail<W>, W, A: Allocator> LockPerBox<M, W, A> {
-    /// As `post`; where it answers `Ok` it has called `held` once while it held the lock of mailbox `to`, and else never.
+    /// As `post`; where it answers `Ok` it has called `held` once while it held the lock of mailbox `to`, and else
+    /// never.
     pub fn post_held<R: Wait, F: Fn()>(
         &self,
         rt: &R,
@@ -172,7 +177,8 @@ impl<M: Mail<W>, W, A: Allocator> LockPerBox<M, W, A> {
 
     pub(crate) fn abort(&self, pass: &mut BoxPass<M, W, A>, job: Option<Job>, cause: Cause)
         requires { pass.old.board ≡ self.now.table.shared.table_id }
-        ensures { MadeAbort M.fits (record { by = pass.old.number; cause = cause }) pass.old pass.new }
+        ensures { MadeAbort M.fits
+            (record { by = pass.old.number; cause = cause }) pass.old pass.new }
     {
         if let Some(job) = job {
             let Job { take: _ } = job;
@@ -195,7 +201,8 @@ impl<M: Mail<W>, W, A: Allocator> LockPerBox<M, W, A> {
     }
 
     pub(crate) fn learn(&self, pass: &mut BoxPass<M, W, A>, told: BoxTold<M, W, A>)
-        requires { (pass.old.board ≡ self.now.table.shared.table_id) × (told.board ≡ self.now.table.shared.table_id) }
+        requires { (pass.old.board ≡ self.now.table.shared.table_id)
+            × (told.board ≡ self.now.table.shared.table_id) }
         ensures { Learned M.fits told pass.old pass.new }
     {
         let BoxTold { seat } = told;

@@ -1,5 +1,6 @@
 //! A new board with a lock for each mailbox.
-ghost use Rattle.std.specs.Prelude.{◌≡◌, ℕ, ◌+◌, ◌*◌, ◌-◌, ◌^◌, ◌<◌, ◌≤◌, ◌∷◌, [], List, Some, Option, IfOk, length, slice_get, get_or};
+ghost use Rattle.std.specs.Prelude.{◌≡◌, ℕ, ◌+◌, ◌*◌, ◌-◌, ◌^◌, ◌<◌, ◌≤◌, ◌∷◌, [], List, Some};
+ghost use Rattle.std.specs.Prelude.{Option, IfOk, length, slice_get, get_or};
 ghost use Rattle.std.specs.Prelude.{vec_len, vec_capacity};
 ghost use Rattle.post_ledger.specs.declared.event.Event.{Event};
 ghost use Rattle.post_ledger.specs.declared.entry.Entry.TheVariants.{Posted};
@@ -74,8 +75,10 @@ fn lay<W, M: Mail<W>, A: Allocator + Clone>(
 ) -> Result<(BoxTable<M, W, A>, Place<M, W, A>), AllocError>
     requires boxes { (about.now.to < about.now.boxes) × (about.now.boxes ≤ 64) }
     requires fits { M.fits about.now.world.value about.now.to about.now.first }
-    ensures { IfOk result (λ r. (r.0.shared.key ≡ about.now) × IsSized r.0.shared.table_id about.now.boxes
-        × (r.1.table_id ≡ r.0.shared.table_id) × (r.1.me ≡ (first_view about.now 0 about.now.boxes, []))) }
+    ensures { IfOk result
+        (λ r. (r.0.shared.key ≡ about.now) × IsSized r.0.shared.table_id about.now.boxes
+        × (r.1.table_id ≡ r.0.shared.table_id)
+        × (r.1.me ≡ (first_view about.now 0 about.now.boxes, []))) }
 {
     let words = first_words(alloc.clone()?, about.boxes)?;
     let slots = first_boxes(&alloc, about.boxes, about.to, about.first)?;
@@ -99,7 +102,8 @@ fn deal<W, M: Mail<W>, A: Allocator>(
 )
     requires table { (seat.table_id ≡ shared.now.table_id) × IsSized shared.now.table_id boxes
         × (shared.now.key.boxes ≡ boxes) × (shared.now.key.world.value ≡ world.now) }
-    requires fits { (shared.now.key.to < boxes) × M.fits world.now shared.now.key.to shared.now.key.first }
+    requires fits { (shared.now.key.to < boxes)
+        × M.fits world.now shared.now.key.to shared.now.key.first }
     requires calls { calls ≤ 2 ^ 56 }
     requires seat { seat.me ≡ (first_view shared.now.key 0 boxes, []) }
     requires room { (passes.old.items ≡ []) × (boxes ≤ vec_capacity passes.old) }
@@ -134,7 +138,8 @@ impl<M: Mail<W>, W, A: Allocator> LockPerBox<M, W, A> {
         requires budget { (2 ≤ budget) × (budget ≤ 2 ^ 56) }
         requires fits { M.fits world.now to first }
         ensures { IfOk result (λ r. (r.0.table.shared.key.boxes ≡ boxes) × (r.1.items
-            ≡ fresh_sights r.0.table.shared.table_id budget (opened world.now boxes to first) 0 boxes)) }
+            ≡ fresh_sights r.0.table.shared.table_id budget
+            (opened world.now boxes to first) 0 boxes)) }
     {
         let room = Vec::with_capacity(alloc.clone()?, usize::from(boxes))?;
         let mut passes = Vec::with_capacity(alloc.clone()?, usize::from(boxes))?;

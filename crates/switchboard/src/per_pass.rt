@@ -24,9 +24,11 @@ impl<M: Mail<W>, W, A: Allocator> Model for BoxPass<M, W, A> {
 
     ghost Value = { Sight M W };
 
-    ghost view = { λ p. box_sight p.seat.table_id p.number p.left p.made p.world.value p.boxes p.seat.me.0.seen };
+    ghost view = { λ p.
+        box_sight p.seat.table_id p.number p.left p.made p.world.value p.boxes p.seat.me.0.seen };
 
-    ghost invariant = { λ p. IsBoxPass M.fits p.seat.table_id p.number p.left p.made p.world.value p.boxes p.seat.me };
+    ghost invariant = { λ p.
+        IsBoxPass M.fits p.seat.table_id p.number p.left p.made p.world.value p.boxes p.seat.me };
 }
 
 impl<M: Mail<W>, W, A: Allocator> BoxPass<M, W, A> {

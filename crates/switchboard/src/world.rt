@@ -5,7 +5,8 @@ ghost use Rattle.std.specs.Borrow.{ftrue};
 use std::marker::{Model, PhantomData};
 
 /// A world that only clauses read. It has no bytes and owns nothing, so what holds it may go to another thread.
-// It says what std's `Snapshot` says; of a type that holds a `Snapshot` the toolchain makes no proof that it may go to a thread.
+// It says what std's `Snapshot` says; of a type that holds a `Snapshot` the toolchain makes no proof that it may go to
+// a thread.
 #[derive(Drop)]
 pub(crate) struct Shown<W> {
     of: PhantomData<W>,

@@ -1,4 +1,5 @@
-//! Rows of tables and tabulation: each line of the standard input is a case, and is printed again with what comes of it.
+//! Rows of tables and tabulation: each line of the standard input is a case, and is printed again with what comes of
+//! it.
 //!
 //! | Line | What is printed under it |
 //! |---|---|

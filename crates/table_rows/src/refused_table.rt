@@ -115,7 +115,8 @@ fn add_owed_by<G: Allocator, A: Allocator + Copy, S: PathSet<A>>(
     add_owed_after_each(&mut table, mails, words)
 }
 
-/// Whether the table answers these messages, from the one numbered `at` on, until it owes no more; `at` goes behind them.
+/// Whether the table answers these messages, from the one numbered `at` on, until it owes no more; `at` goes behind
+/// them.
 fn answers<G: Allocator, A: Allocator + Copy, S: PathSet<A>>(
     table: &mut Table<'_, G, A, S>,
     wanted: &[Mail],
@@ -136,7 +137,8 @@ fn answers<G: Allocator, A: Allocator + Copy, S: PathSet<A>>(
     Ok(true)
 }
 
-/// The table takes each message and answers all that it then owes. Answers whether that is what was wanted, or the call that failed.
+/// The table takes each message and answers all that it then owes. Answers whether that is what was wanted, or the call
+/// that failed.
 fn worked<G: Allocator, A: Allocator + Copy, S: PathSet<A>>(
     table: &mut Table<'_, G, A, S>,
     words: &str,
@@ -207,8 +209,8 @@ fn came_in<G: Allocator, A: Allocator + Copy, S: PathSet<A>>(
     came_of(scarce, &mut table, words, wanted)
 }
 
-/// Writes what comes of the table of a procedure, whose edges are kept in an ordered set or in diagrams, with each allocation
-/// refused in turn.
+/// Writes what comes of the table of a procedure, whose edges are kept in an ordered set or in diagrams, with each
+/// allocation refused in turn.
 fn write_in_turn(
     alloc: Global,
     out: &mut String,

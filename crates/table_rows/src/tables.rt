@@ -131,7 +131,8 @@ fn write_turns<G: Allocator, A: Allocator + Copy, S: PathSet<A>>(
     Ok(())
 }
 
-/// Writes what the table of a procedure owes after each message; its edges are kept in a set of the type `S`, in memory of `room`.
+/// Writes what the table of a procedure owes after each message; its edges are kept in a set of the type `S`, in memory
+/// of `room`.
 fn of_graphs<G: Allocator, A: Allocator + Copy, S: PathSet<A>>(
     alloc: Global,
     room: A,
@@ -150,7 +151,8 @@ fn of_graphs<G: Allocator, A: Allocator + Copy, S: PathSet<A>>(
     write_turns(alloc, out, &mut table, words)
 }
 
-/// Writes what the table of a procedure owes after each message: the procedure, the rounds and the messages, and the text.
+/// Writes what the table of a procedure owes after each message: the procedure, the rounds and the messages, and the
+/// text.
 pub fn messages(
     alloc: Global,
     out: &mut String,

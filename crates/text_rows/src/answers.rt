@@ -18,8 +18,8 @@ fn say<A: Allocator>(page: &mut Page<A>, holds: bool) {
     page.put(if holds { "true" } else { "false" });
 }
 
-// `cut`: the tokens. `deep`: whether they nest too deep. `same`: whether the first two are of one kind. `operator`: whether the
-// first is an operator.
+// `cut`: the tokens. `deep`: whether they nest too deep. `same`: whether the first two are of one kind. `operator`:
+// whether the first is an operator.
 fn ask_tokens<A: Allocator>(page: &mut Page<A>, command: &str, tokens: &[Token<'_>]) {
     match (command, tokens) {
         ("cut", _) => show_tokens(page, tokens),
@@ -41,7 +41,8 @@ fn is_refused_by<A: Allocator>(alloc: A, text: &str, fault: &CutFault) -> bool
     }
 }
 
-// Asks the command of the text's tokens, or answers why it has none. `faults`: whether the text is refused twice by equal faults.
+// Asks the command of the text's tokens, or answers why it has none. `faults`: whether the text is refused twice by
+// equal faults.
 fn ask_text<A: Allocator + Copy>(alloc: A, page: &mut Page<A>, command: &str, bytes: &[u8]) {
     let Some(text) = as_ascii(bytes) else {
         return page.put("not ascii");
@@ -105,7 +106,8 @@ fn number_of_fault<A: Allocator + Copy>(alloc: A, bytes: &[u8]) -> u32 {
     }
 }
 
-// The lengths of the fronts of a text that are read. A front that is not read has to be refused for its syntax, at a place in it.
+// The lengths of the fronts of a text that are read. A front that is not read has to be refused for its syntax, at a
+// place in it.
 fn show_fronts<A: Allocator + Copy>(alloc: A, page: &mut Page<A>, bytes: &[u8]) {
     for length in 0..=bytes.len() {
         show_front(alloc, page, &bytes[..length]);

@@ -16,8 +16,8 @@ fn is_printed_so<A: Allocator + Copy>(alloc: A, bytes: &[u8], wanted: &str) -> O
     }
 }
 
-/// Whether with each allocation refused in turn want of memory is answered, or the wanted text, and at last, where none is
-/// refused, the wanted text.
+/// Whether with each allocation refused in turn want of memory is answered, or the wanted text, and at last, where none
+/// is refused, the wanted text.
 pub fn is_printed_or_refused<A: Allocator + Copy>(alloc: A, bytes: &[u8], wanted: &str) -> bool {
     for nth in 1..1000u64 {
         let scarce = Scarce::refusing(alloc, nth);

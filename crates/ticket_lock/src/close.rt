@@ -29,14 +29,17 @@ fn finish<T: LaneLaw, A: Allocator>(board: Board<T, A>, seat: Place<T>) -> T
 }
 
 impl<T: LaneLaw, A: Allocator> TicketLock<T, A> {
-    /// The value that was left last, or the opening value where none was; it has each lane's own part as that lane left it, and what each lane had seen comes before it. The iterator must give all lanes of the lock, none with a ticket or a guard
-    /// in hand.
+    /// The value that was left last, or the opening value where none was; it has each lane's own part as that lane left
+    /// it, and what each lane had seen comes before it. The iterator must give all lanes of the lock, none with a
+    /// ticket or a guard in hand.
     pub fn close<I: Iterator<Item = Lane<T>> + Drop>(self, lanes: I) -> T
         requires can { I.can_next lanes }
         requires finite { IsFinite (I.remaining lanes) }
         requires idle { HoldsAlong I.next_gives lanes (All (IsIdle self.id)) }
-        requires all { (xs : List (Lane T)) → Drains I.next_gives lanes xs → length xs ≡ self.lanes }
-        ensures { (xs : List (Lane T)) × Drains I.next_gives lanes xs × Closes self.opening xs result
+        requires all { (xs : List (Lane T)) → Drains I.next_gives lanes xs
+            → length xs ≡ self.lanes }
+        ensures { (xs : List (Lane T)) × Drains I.next_gives lanes xs
+            × Closes self.opening xs result
             × KeepsOwn T.part xs result × ComesLast T.before xs result }
     {
         let board = self.into_board();

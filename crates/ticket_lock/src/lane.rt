@@ -135,7 +135,8 @@ impl<T> Note<T> {
     ghost use Rattle.ticket_lock.specs.Lanes.{IsSized};
 
     pub(crate) fn into_seat(self) -> Place<T>
-        ensures { (result.table_id ≡ self.lock) × IsSized self.lock × (result.me ≡ (new_view self.seen [], [])) }
+        ensures { (result.table_id ≡ self.lock) × IsSized self.lock
+            × (result.me ≡ (new_view self.seen [], [])) }
     {
         let Note { seat } = self;
         seat

@@ -2,7 +2,8 @@
 ghost use Rattle.std.specs.Prelude.{◌≡◌, ◌<◌, [], ◌∷◌, MatchResult};
 ghost use Rattle.ticket_lock.specs.Count.{times};
 ghost use Rattle.ticket_lock.specs.Lanes.{IsSized};
-ghost use Rattle.ticket_lock.specs.Promises.{Drew, WasSpent, CameBack, Served, Entered, MayLeave, Left, Learned};
+ghost use Rattle.ticket_lock.specs.Promises.{Drew, WasSpent, CameBack, Served, Entered, MayLeave};
+ghost use Rattle.ticket_lock.specs.Promises.{Left, Learned};
 
 use crate::alone::{Board, Merges, TakesIn, Tells};
 use crate::lane::{Guard, Lane, Note, Spent, Ticket};
@@ -35,17 +36,19 @@ impl<T: LaneLaw, A: Allocator> Model for TicketLock<T, A> {
 impl<T: LaneLaw, A: Allocator> TicketLock<T, A> {
     pub(crate) fn into_board(self) -> Board<T, A>
         ensures { IsSized result.shared.table_id × (result.shared.table_id ≡ self.id)
-            × (result.shared.key.value.value ≡ self.opening) × (result.shared.key.lanes ≡ self.lanes) }
+            × (result.shared.key.value.value ≡ self.opening)
+            × (result.shared.key.lanes ≡ self.lanes) }
     {
         let TicketLock { board } = self;
         board
     }
 
-    /// Draws the next ticket: one fetch_add. `Spent` is answered exactly where the lane has drawn all its tickets, and changes nothing.
-    /// The lane must be one of this lock.
+    /// Draws the next ticket: one fetch_add. `Spent` is answered exactly where the lane has drawn all its tickets, and
+    /// changes nothing. The lane must be one of this lock.
     pub fn draw(&self, lane: &mut Lane<T>) -> Result<Ticket, Spent>
         requires { lane.old.lock ≡ self.now.id }
-        ensures { MatchResult result (λ t. Drew t lane.old lane.new) (λ _. WasSpent lane.old lane.new) }
+        ensures { MatchResult result (λ t. Drew t lane.old lane.new)
+            (λ _. WasSpent lane.old lane.new) }
     {
         if lane.left == 0 {
             return Err(Spent);
@@ -55,8 +58,9 @@ impl<T: LaneLaw, A: Allocator> TicketLock<T, A> {
         Ok(Ticket { number })
     }
 
-    /// Looks whether it is the ticket's turn: one load, and one exchange where it is. Then the lane is inside, and has the guard. Where it is not, the
-    /// ticket comes back, and nothing changes. The lane must be one of this lock, and the ticket one of the lane's.
+    /// Looks whether it is the ticket's turn: one load, and one exchange where it is. Then the lane is inside, and has
+    /// the guard. Where it is not, the ticket comes back, and nothing changes. The lane must be one of this lock, and
+    /// the ticket one of the lane's.
     pub fn look(&self, lane: &mut Lane<T>, ticket: Ticket) -> Result<Guard<T>, Ticket>
         requires lock { lane.old.lock ≡ self.now.id }
         requires held { 0 < times ticket lane.old.tickets }
@@ -71,9 +75,9 @@ impl<T: LaneLaw, A: Allocator> TicketLock<T, A> {
         Ok(Guard { value, number })
     }
 
-    /// Leaves the guard's value behind the last one of the history, and serves the next ticket: one exchange that brings the value home, and then one
-    /// fetch_add. The lane must be one of this lock, and inside with this guard; the value found must come before the value left, and the parts of other
-    /// lanes must be as found.
+    /// Leaves the guard's value behind the last one of the history, and serves the next ticket: one exchange that
+    /// brings the value home, and then one fetch_add. The lane must be one of this lock, and inside with this guard;
+    /// the value found must come before the value left, and the parts of other lanes must be as found.
     pub fn leave(&self, lane: &mut Lane<T>, guard: Guard<T>)
         requires lock { lane.old.lock ≡ self.now.id }
         requires inside { lane.old.inside ≡ guard.number ∷ [] }
@@ -95,7 +99,8 @@ impl<T: LaneLaw, A: Allocator> TicketLock<T, A> {
         }
     }
 
-    /// The lane has then seen what it had seen and what the note's lane had seen when it told: one load. The lane and the note must be of this lock.
+    /// The lane has then seen what it had seen and what the note's lane had seen when it told: one load. The lane and
+    /// the note must be of this lock.
     pub fn learn(&self, lane: &mut Lane<T>, note: Note<T>)
         requires { (lane.old.lock ≡ self.now.id) × (note.lock ≡ self.now.id) }
         ensures { Learned T.before T.part note lane.old lane.new }
@@ -105,9 +110,9 @@ impl<T: LaneLaw, A: Allocator> TicketLock<T, A> {
         self.board.shared.load::<TakesIn>(&mut lane.seat, 0);
     }
 
-    /// Draws a ticket and looks until it is served, with a pause between two looks, and after some looks yields between two.
-    /// `Spent` is answered exactly where the lane has drawn all its tickets, and changes nothing. The lane must be one of this
-    /// lock.
+    /// Draws a ticket and looks until it is served, with a pause between two looks, and after some looks yields between
+    /// two. `Spent` is answered exactly where the lane has drawn all its tickets, and changes nothing. The lane must be
+    /// one of this lock.
     pub fn enter<R: Wait>(&self, rt: &R, lane: &mut Lane<T>) -> Result<Guard<T>, Spent>
         requires { lane.old.lock ≡ self.now.id }
         ensures { MatchResult result (λ g. Entered T.before T.part g lane.old lane.new)

@@ -1,5 +1,6 @@
 //! A new lock, with its lanes.
-ghost use Rattle.std.specs.Prelude.{◌≡◌, ◌^◌, ◌<◌, ◌≤◌, [], ◌∷◌, IfOk, IfErr, vec_len, vec_capacity};
+ghost use Rattle.std.specs.Prelude.{◌≡◌, ◌^◌, ◌<◌, ◌≤◌, [], ◌∷◌, IfOk, IfErr, vec_len};
+ghost use Rattle.std.specs.Prelude.{vec_capacity};
 ghost use Rattle.ticket_lock.specs.Lone.{new_view, lanes_from};
 ghost use Rattle.ticket_lock.specs.Lanes.{IsSized, fresh_lanes};
 
@@ -48,7 +49,8 @@ fn lay<T: LaneLaw, A: Allocator + Clone>(
     lanes: u8,
 ) -> Result<(Board<T, A>, Place<T>), T>
     requires { (0 < lanes) × (lanes ≤ 64) }
-    ensures ok { IfOk result (λ r. (r.0.shared.key.value.value ≡ value) × (r.0.shared.key.lanes ≡ lanes)
+    ensures ok { IfOk result
+        (λ r. (r.0.shared.key.value.value ≡ value) × (r.0.shared.key.lanes ≡ lanes)
         × IsSized r.0.shared.table_id × (r.1.table_id ≡ r.0.shared.table_id)
         × (r.1.me ≡ (new_view (value ∷ []) (lanes_from 0 lanes value), []))) }
     ensures err { IfErr result (λ x. x ≡ value) }
@@ -78,10 +80,13 @@ fn deal<T: LaneLaw, A: Allocator>(
     lanes: u8,
     budget: u64,
 )
-    requires table { (seat.table_id ≡ shared.now.table_id) × IsSized shared.now.table_id × (budget ≤ 2 ^ 56) }
-    requires seat { let x = shared.now.key.value.value in seat.me ≡ (new_view (x ∷ []) (lanes_from 0 lanes x), []) }
+    requires table { (seat.table_id ≡ shared.now.table_id) × IsSized shared.now.table_id
+        × (budget ≤ 2 ^ 56) }
+    requires seat { let x = shared.now.key.value.value in
+        seat.me ≡ (new_view (x ∷ []) (lanes_from 0 lanes x), []) }
     requires room { (dealt.old.items ≡ []) × (lanes ≤ vec_capacity dealt.old) }
-    ensures { dealt.new.items ≡ fresh_lanes shared.now.table_id budget shared.now.key.value.value 0 lanes }
+    ensures { dealt.new.items
+        ≡ fresh_lanes shared.now.table_id budget shared.now.key.value.value 0 lanes }
 {
     for number in 0..lanes {
         let own = shared.split_seat::<Deals>(&mut seat);
@@ -94,7 +99,8 @@ fn deal<T: LaneLaw, A: Allocator>(
 }
 
 impl<T: LaneLaw, A: Allocator> TicketLock<T, A> {
-    /// A lock that keeps this value, with 1 to 64 lanes, each of which may draw 2^56 tickets. The value comes back where there is no memory.
+    /// A lock that keeps this value, with 1 to 64 lanes, each of which may draw 2^56 tickets. The value comes back
+    /// where there is no memory.
     pub fn new(alloc: A, value: T, lanes: u8) -> Result<(TicketLock<T, A>, Vec<Lane<T>, A>), T>
     where
         A: Clone,

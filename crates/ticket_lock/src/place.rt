@@ -4,7 +4,8 @@ ghost use Rattle.atomic_table.specs.Table.{rest};
 ghost use Rattle.ticket_lock.specs.Count.{times};
 ghost use Rattle.ticket_lock.specs.History.{EndsIn};
 ghost use Rattle.ticket_lock.specs.Turns.{draws, waits, enters, passes};
-ghost use Rattle.ticket_lock.specs.Calls.{IsSameSeat, IsRoom, StandsAt, IsFree, Drew, Looked, Came, Left};
+ghost use Rattle.ticket_lock.specs.Calls.{IsSameSeat, IsRoom, StandsAt, IsFree, Drew, Looked, Came};
+ghost use Rattle.ticket_lock.specs.Calls.{Left};
 
 use crate::plays::{Draws, Looks, Passes};
 use crate::rule::{At, LockRule};
@@ -17,8 +18,8 @@ use std::thread;
 // How often a ticket is looked at before its thread yields, since the one that it waits for may have no processor.
 const LOOKS: u32 = 16;
 
-// The pause between two looks, which does not grow with them: a ticket that oversleeps its turn holds up all behind it, who would
-// oversleep the more.
+// The pause between two looks, which does not grow with them: a ticket that oversleeps its turn holds up all behind it,
+// who would oversleep the more.
 fn pause() {
     let backoff = Backoff::new();
     backoff.spin();
@@ -32,26 +33,33 @@ fn draw_step<J: At, T, V, K, P: LockRule<T, V, K>>(
     word: usize,
     slot: usize,
 ) -> u64
-    requires table { (seat.old.table_id ≡ shared.now.table_id) × IsRoom word J.slot shared.now.table_id
+    requires table { (seat.old.table_id ≡ shared.now.table_id)
+        × IsRoom word J.slot shared.now.table_id
         × P.is_place shared.now.key word J.slot × (J.slot ≡ slot) }
-    requires room { length (P.see J.slot seat.old.me.0).drawn < (P.see J.slot seat.old.me.0).parts * 2 ^ 56 }
+    requires room { length (P.see J.slot seat.old.me.0).drawn
+        < (P.see J.slot seat.old.me.0).parts * 2 ^ 56 }
     requires asks { P.asks J.slot draws seat.old.me.0 }
-    ensures { IsSameSeat seat.old seat.new × Drew (P.see J.slot) (P.tells J.slot) seat.old.me result seat.new.me }
+    ensures { IsSameSeat seat.old seat.new
+        × Drew (P.see J.slot) (P.tells J.slot) seat.old.me result seat.new.me }
 {
     shared.fetch_add::<Draws<J, K, P>>(seat, word + 1, 1)
 }
 
-/// Draws the next ticket of the lock at this place: one fetch_add. The seat must have some of its share of the right to draw left.
+/// Draws the next ticket of the lock at this place: one fetch_add. The seat must have some of its share of the right to
+/// draw left.
 pub fn draw_at<T, V, K, P: LockRule<T, V, K>>(
     shared: &Shared<Option<T>, V, K, P>,
     seat: &mut Seat<Option<T>, V>,
     word: usize,
     slot: usize,
 ) -> u64
-    requires table { StandsAt P.is_place seat.old.table_id shared.now.table_id shared.now.key word slot }
-    requires room { length (P.see slot seat.old.me.0).drawn < (P.see slot seat.old.me.0).parts * 2 ^ 56 }
+    requires table { StandsAt P.is_place seat.old.table_id shared.now.table_id shared.now.key word
+        slot }
+    requires room { length (P.see slot seat.old.me.0).drawn
+        < (P.see slot seat.old.me.0).parts * 2 ^ 56 }
     requires asks { P.asks slot draws seat.old.me.0 }
-    ensures { IsSameSeat seat.old seat.new × Drew (P.see slot) (P.tells slot) seat.old.me result seat.new.me }
+    ensures { IsSameSeat seat.old seat.new
+        × Drew (P.see slot) (P.tells slot) seat.old.me result seat.new.me }
 {
     draw_step::<Brand, T, V, K, P>(shared, seat, word, slot)
 }
@@ -63,7 +71,8 @@ fn look_step<J: At, T, V, K, P: LockRule<T, V, K>>(
     slot: usize,
     ticket: u64,
 ) -> Option<T>
-    requires table { (seat.old.table_id ≡ shared.now.table_id) × IsRoom word J.slot shared.now.table_id
+    requires table { (seat.old.table_id ≡ shared.now.table_id)
+        × IsRoom word J.slot shared.now.table_id
         × P.is_place shared.now.key word J.slot × (J.slot ≡ slot) × (J.ticket ≡ ticket) }
     requires held { 0 < times J.ticket (P.see J.slot seat.old.me.0).tickets }
     requires waits { P.asks J.slot waits seat.old.me.0 }
@@ -77,8 +86,8 @@ fn look_step<J: At, T, V, K, P: LockRule<T, V, K>>(
     shared.exchange(seat, slot, None)
 }
 
-/// Looks whether it is this ticket's turn: one load, and where it is, one exchange that takes the value out. Where it is not, nothing changes, and fewer
-/// values were left than the ticket says. The ticket must be one of the seat's.
+/// Looks whether it is this ticket's turn: one load, and where it is, one exchange that takes the value out. Where it
+/// is not, nothing changes, and fewer values were left than the ticket says. The ticket must be one of the seat's.
 pub fn look_at<T, V, K, P: LockRule<T, V, K>>(
     shared: &Shared<Option<T>, V, K, P>,
     seat: &mut Seat<Option<T>, V>,
@@ -86,7 +95,8 @@ pub fn look_at<T, V, K, P: LockRule<T, V, K>>(
     slot: usize,
     ticket: u64,
 ) -> Option<T>
-    requires table { StandsAt P.is_place seat.old.table_id shared.now.table_id shared.now.key word slot }
+    requires table { StandsAt P.is_place seat.old.table_id shared.now.table_id shared.now.key word
+        slot }
     requires held { 0 < times ticket (P.see slot seat.old.me.0).tickets }
     requires waits { P.asks slot waits seat.old.me.0 }
     requires enters { (x : T) → P.asks slot (enters x) seat.old.me.0 }
@@ -96,9 +106,9 @@ pub fn look_at<T, V, K, P: LockRule<T, V, K>>(
     look_step::<Brand, T, V, K, P>(shared, seat, word, slot, ticket)
 }
 
-/// Draws the next ticket of the lock at this place, and looks until it is served, with a pause between two looks, and after some looks yields between
-/// two: the ticket's number and the value. The seat must have some of its share of the right to draw left, and the rule must let each seat draw, look
-/// and enter.
+/// Draws the next ticket of the lock at this place, and looks until it is served, with a pause between two looks, and
+/// after some looks yields between two: the ticket's number and the value. The seat must have some of its share of the
+/// right to draw left, and the rule must let each seat draw, look and enter.
 pub fn enter_at<R: Wait, T, V, K, P: LockRule<T, V, K>>(
     rt: &R,
     shared: &Shared<Option<T>, V, K, P>,
@@ -106,8 +116,10 @@ pub fn enter_at<R: Wait, T, V, K, P: LockRule<T, V, K>>(
     word: usize,
     slot: usize,
 ) -> (u64, T)
-    requires table { StandsAt P.is_place seat.old.table_id shared.now.table_id shared.now.key word slot }
-    requires room { length (P.see slot seat.old.me.0).drawn < (P.see slot seat.old.me.0).parts * 2 ^ 56 }
+    requires table { StandsAt P.is_place seat.old.table_id shared.now.table_id shared.now.key word
+        slot }
+    requires room { length (P.see slot seat.old.me.0).drawn
+        < (P.see slot seat.old.me.0).parts * 2 ^ 56 }
     requires free { IsFree (P.asks slot) (P.tells slot) }
     ensures { IsSameSeat seat.old seat.new
         × Came (P.see slot) (P.tells slot) slot seat.old.me result.0 result.1 seat.new.me }
@@ -135,21 +147,23 @@ fn leave_step<J: At, T, V, K, P: LockRule<T, V, K>>(
     slot: usize,
     value: T,
 )
-    requires table { (seat.old.table_id ≡ shared.now.table_id) × IsRoom word J.slot shared.now.table_id
+    requires table { (seat.old.table_id ≡ shared.now.table_id)
+        × IsRoom word J.slot shared.now.table_id
         × P.is_place shared.now.key word J.slot × (J.slot ≡ slot) }
     requires out { seat.old.me.1 ≡ (J.slot, None) ∷ rest seat.old.me.1 }
     requires inside { (t : ℕ) × ((P.see J.slot seat.old.me.0).inside ≡ t ∷ []) }
     requires asks { (x : T) → EndsIn (P.see J.slot seat.old.me.0).seen x
         → P.asks J.slot (passes x value) seat.old.me.0 }
-    ensures { IsSameSeat seat.old seat.new × Left (P.see J.slot) (P.tells J.slot) value seat.old.me seat.new.me }
+    ensures { IsSameSeat seat.old seat.new
+        × Left (P.see J.slot) (P.tells J.slot) value seat.old.me seat.new.me }
 {
     let found = shared.exchange(seat, slot, Some(value));
     let None = found else { unreachable!() };
     shared.fetch_add::<Passes<J, K, P>>(seat, word, 1);
 }
 
-/// Leaves a value behind the last one of the history: one exchange that brings it home, and then one fetch_add that serves the next ticket.
-/// The seat must be inside.
+/// Leaves a value behind the last one of the history: one exchange that brings it home, and then one fetch_add that
+/// serves the next ticket. The seat must be inside.
 pub fn leave_at<T, V, K, P: LockRule<T, V, K>>(
     shared: &Shared<Option<T>, V, K, P>,
     seat: &mut Seat<Option<T>, V>,
@@ -157,11 +171,14 @@ pub fn leave_at<T, V, K, P: LockRule<T, V, K>>(
     slot: usize,
     value: T,
 )
-    requires table { StandsAt P.is_place seat.old.table_id shared.now.table_id shared.now.key word slot }
+    requires table { StandsAt P.is_place seat.old.table_id shared.now.table_id shared.now.key word
+        slot }
     requires out { seat.old.me.1 ≡ (slot, None) ∷ rest seat.old.me.1 }
     requires inside { (t : ℕ) × ((P.see slot seat.old.me.0).inside ≡ t ∷ []) }
-    requires asks { (x : T) → EndsIn (P.see slot seat.old.me.0).seen x → P.asks slot (passes x value) seat.old.me.0 }
-    ensures { IsSameSeat seat.old seat.new × Left (P.see slot) (P.tells slot) value seat.old.me seat.new.me }
+    requires asks { (x : T) → EndsIn (P.see slot seat.old.me.0).seen x
+        → P.asks slot (passes x value) seat.old.me.0 }
+    ensures { IsSameSeat seat.old seat.new
+        × Left (P.see slot) (P.tells slot) value seat.old.me seat.new.me }
 {
     leave_step::<Brand, T, V, K, P>(shared, seat, word, slot, value);
 }

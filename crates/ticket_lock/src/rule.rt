@@ -19,8 +19,8 @@ impl At for Brand {
     ghost ticket = { 0 };
 }
 
-/// A rule that holds the lock's rule at each of its places: a place is a word, at which the count of values left stands, with the next ticket in the
-/// word behind it, and a slot, in which the value lies.
+/// A rule that holds the lock's rule at each of its places: a place is a word, at which the count of values left
+/// stands, with the next ticket in the word behind it, and a slot, in which the value lies.
 pub trait LockRule<T, V, K>: TableRule<Option<T>, V, K> {
     ghost is_place: { K → ℕ → ℕ → Type 0 };
 

@@ -1,6 +1,7 @@
 //! The words and signs of the language, by their spelling.
 
-ghost use Rattle.std.specs.Prelude.{◌≡◌, ◌≢◌, ◌≤◌, ◌++◌, ◌<◌, ◌∷◌, [], ℕ, List, take, length, Some, IfSome, IfNone};
+ghost use Rattle.std.specs.Prelude.{◌≡◌, ◌≢◌, ◌≤◌, ◌++◌, ◌<◌, ◌∷◌, [], ℕ, List, take, length, Some};
+ghost use Rattle.std.specs.Prelude.{IfSome, IfNone};
 ghost use Rattle.tokens.specs.declared.vocabulary.Kind.{Kind};
 ghost use Rattle.tokens.specs.Cuts.{IsLongestSign};
 ghost use Rattle.tokens.specs.Spelling.{reserved_word, sign, IsWord, AreWordBytes};

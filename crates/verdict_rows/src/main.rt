@@ -1,4 +1,5 @@
-//! Rows of the command line: each line of the standard input is a case, and is printed again with what is answered to it.
+//! Rows of the command line: each line of the standard input is a case, and is printed again with what is answered to
+//! it.
 //!
 //! | Line | What is printed under it |
 //! |---|---|

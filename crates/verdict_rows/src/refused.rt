@@ -132,7 +132,8 @@ fn came_of<R: Wait + Threads + Sync>(
     }
 }
 
-/// Whether over a pair of board and set each run of the sweep comes to the whole reply or to want of memory, until none is refused.
+/// Whether over a pair of board and set each run of the sweep comes to the whole reply or to want of memory, until none
+/// is refused.
 fn is_well<R: AllocGlobal + Wait + Threads + Sync>(
     rt: &R,
     sweep: Sweep,
