@@ -6,7 +6,7 @@ use Rattle.cli.specs.Replies.{Refuses, Replies}
 use Rattle.cli.specs.Served.{IsReply}
 use Rattle.cli.specs.Told.{IsMessage}
 use Rattle.cli.specs.Written.{bytes_of}
-use Rattle.command_line.specs.declared.asked.Order.{Order}
+use Rattle.orders.specs.declared.order.Order.{Order}
 use Rattle.cli.specs.declared.reply.Reply.{Reply}
 
 -- an answer to a text is a reply to it, with the message about it

@@ -9,7 +9,7 @@ use Rattle.cli.specs.Served.{Answered, Serves, TellsUnread, without_memory}
 use Rattle.cli.specs.Streams.{Said, Says, Stays, Streams, Takes}
 use Rattle.command_line.specs.declared.asked.LineFault.{LineFault}
 use Rattle.command_line.specs.declared.asked.LineFault.TheVariants.{Help, Memory, Refused}
-use Rattle.command_line.specs.declared.asked.Order.{Order}
+use Rattle.orders.specs.declared.order.Order.{Order}
 
 -- what is said where words give no order: help, which ends with 0; a line and why; or that memory ran out
 abbrev pub declined : LineFault → Said

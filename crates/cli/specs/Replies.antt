@@ -1,15 +1,16 @@
 -- What a reply says of a text, by what was asked.
-use Rattle.std.specs.Prelude.{◌≡◌, ◌⊎◌, ℕ, List, Option, Some, None}
+use Rattle.std.specs.Prelude.{◌≡◌, ◌⊎◌, ℕ, List, Option, None}
 use Rattle.language.specs.Tree.{Tree}
 use Rattle.syntax.specs.InGrammar.{WithinLimits, IsTextOf}
 use Rattle.syntax.specs.Text.{Text}
 use Rattle.syntax.specs.Printed.{printed}
 use Rattle.scopes.specs.Checked.{IsChecked}
 use Rattle.round_rewrite.specs.Names.{rewritten_for}
-use Rattle.summaries.specs.Limits.{most_of}
+use Rattle.path_sets.specs.EdgeLimits.{most_of}
 use Rattle.round_rewrite.specs.Programs.{count_of}
-use Rattle.command_line.specs.declared.asked.Order.{Order}
-use Rattle.command_line.specs.declared.asked.Order.TheVariants.{Check, Sequential}
+use Rattle.orders.specs.Parts.{edges_of, rounds_of}
+use Rattle.orders.specs.declared.order.Order.{Order}
+use Rattle.orders.specs.declared.order.Order.TheVariants.{Check, Sequential}
 use Rattle.refusals.specs.declared.refusal.Refusal.{Refusal}
 use Rattle.refusals.specs.declared.refusal.Refusal.TheVariants.{Memory}
 use Rattle.cli.specs.declared.reply.Reply.{Reply}
@@ -33,19 +34,9 @@ abbrev pub Replies : List ℕ → Order → List ℕ → ℕ → Type 0
 Replies text (Check rounds edges stats) bytes status = Answers text (count_of rounds) (most_of edges) stats bytes status
 Replies text (Sequential rounds) bytes status = (status ≡ 0) × IsSequential text (count_of rounds) bytes
 
--- how many rounds were asked for
-abbrev pub rounds_of : Order → ℕ
-rounds_of (Check rounds edges stats) = count_of rounds
-rounds_of (Sequential rounds) = count_of rounds
-
--- how many path edges a procedure may have, which only a check limits
-abbrev pub limit_of : Order → Option ℕ
-limit_of (Check rounds edges stats) = Some (most_of edges)
-limit_of (Sequential rounds) = None
-
 -- a check was asked for, and some procedure of the text's rewriting has more path edges than its limit
 abbrev pub IsPastLimit : List ℕ → Order → Type 0
-IsPastLimit text order = IsPast text (rounds_of order) (limit_of order)
+IsPastLimit text order = IsPast text (rounds_of order) (edges_of order)
 
 -- The reply tells this refusal, and is its line with its status.
 abbrev pub Tells : {A : Type 0} → Refusal → Reply A → Type 0
@@ -61,4 +52,4 @@ RefusesFor text rounds limit reply = (why : Refusal) × RefusalStands text round
 
 -- Some refusal stands for what was asked, and the reply tells it, and is its line with its status.
 abbrev pub Refuses : {A : Type 0} → List ℕ → Order → Reply A → Type 0
-Refuses text order reply = RefusesFor text (rounds_of order) (limit_of order) reply
+Refuses text order reply = RefusesFor text (rounds_of order) (edges_of order) reply

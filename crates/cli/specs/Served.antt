@@ -1,19 +1,22 @@
 -- What is read of a reader, and what is said of it.
-use Rattle.std.specs.Prelude.{◌≡◌, ◌≢◌, ◌⊎◌, ◌<◌, ◌≤◌, ℕ, true, List, [], Option, codes, length}
+use Rattle.std.specs.Prelude.{◌≡◌, ◌≢◌, ◌⊎◌, ◌+◌, ◌<◌, ◌≤◌, ℕ, true, List, [], Option, codes, length}
 use Rattle.std.specs.Io.KnownBytes.{Consumes, IsAtEnd}
 use Rattle.std.specs.declared.io.ErrorKind.{ErrorKind}
 use Rattle.std.specs.declared.io.ErrorKind.TheVariants.{OutOfMemory}
+use Rattle.tokens.specs.Limits.{most_bytes}
+use Rattle.refusals.specs.Explained.{no_memory}
 use Rattle.refusals.specs.Lines.{line_of, memory_line, status_of}
 use Rattle.cli.specs.Refused.{RefusalStands}
-use Rattle.cli.specs.Replies.{Replies, limit_of, rounds_of}
+use Rattle.cli.specs.Replies.{Replies}
+use Rattle.orders.specs.Parts.{edges_of, rounds_of}
 use Rattle.cli.specs.Streams.{Said, Says, Stays, Streams, Takes}
-use Rattle.cli.specs.Told.{IsExplanation, IsReason, out_of_memory}
-use Rattle.command_line.specs.declared.asked.Order.{Order}
+use Rattle.cli.specs.Told.{IsExplanation, IsReason}
+use Rattle.orders.specs.declared.order.Order.{Order}
 use Rattle.refusals.specs.declared.refusal.Refusal.{Refusal}
 
 -- how many bytes are read at most: one more than a text may have
 abbrev pub most_read : ℕ
-most_read = 65537
+most_read = most_bytes + 1
 
 -- The reader gave these bytes, at most so many, and all that it had where they are fewer.
 pub record Gave (most : ℕ) (old new : Option (List ℕ)) (bytes : List ℕ) : Type 0 where
@@ -35,14 +38,14 @@ file_line = codes "refused: file\n"
 
 -- what is said where memory gave out
 abbrev pub without_memory : Said
-without_memory = record { reply = memory_line; status = 3; message = out_of_memory }
+without_memory = record { reply = memory_line; status = 3; message = no_memory }
 
 -- This is said of a text in the file of this name: what was asked for, and no message; or the line of a refusal that
 -- stands, with its status, and why.
 abbrev pub IsReply : List ℕ → List ℕ → Order → Said → Type 0
 IsReply path text order said =
     ((said.status ≤ 1) × Replies text order said.reply said.status × (said.message ≡ []))
-    ⊎ ((why : Refusal) × RefusalStands text (rounds_of order) (limit_of order) why × (said.reply ≡ line_of why)
+    ⊎ ((why : Refusal) × RefusalStands text (rounds_of order) (edges_of order) why × (said.reply ≡ line_of why)
     × (said.status ≡ status_of why) × IsExplanation path text order why said.message)
 
 -- This is said of a file that the system, with an error of this kind, does not open or read: that it can't be read, and

@@ -1,16 +1,12 @@
 -- What standard error tells.
 use Rattle.std.specs.Prelude.{◌≡◌, ◌⊎◌, ℕ, List, [], ◌++◌, Option, None, Some, codes}
-use Rattle.command_line.specs.declared.asked.Order.{Order}
-use Rattle.refusals.specs.Explained.{Explains}
+use Rattle.orders.specs.declared.order.Order.{Order}
+use Rattle.refusals.specs.Explained.{Explains, no_memory}
 use Rattle.refusals.specs.declared.refusal.Refusal.{Refusal}
-
--- what is told where memory gave out
-abbrev pub out_of_memory : List ℕ
-out_of_memory = codes "bebopk: out of memory\n"
 
 -- The message explains why this text gets no verdict, or tells that memory gave out over that.
 abbrev pub IsExplanation : List ℕ → List ℕ → Order → Refusal → List ℕ → Type 0
-IsExplanation path text order why message = Explains path text order why [] message ⊎ (message ≡ out_of_memory)
+IsExplanation path text order why message = Explains path text order why [] message ⊎ (message ≡ no_memory)
 
 -- The message explains why this text gets no verdict, if it gets none, and else it is empty.
 abbrev pub IsMessage : List ℕ → List ℕ → Order → Option Refusal → List ℕ → Type 0
@@ -20,4 +16,4 @@ IsMessage path text order (Some why) message = IsExplanation path text order why
 -- The message is the file with the system's words behind it, or tells that memory gave out over that.
 abbrev pub IsReason : List ℕ → List ℕ → Type 0
 IsReason path message =
-    ((words : List ℕ) × (message ≡ path ++ (codes ": " ++ (words ++ codes "\n")))) ⊎ (message ≡ out_of_memory)
+    ((words : List ℕ) × (message ≡ path ++ (codes ": " ++ (words ++ codes "\n")))) ⊎ (message ≡ no_memory)

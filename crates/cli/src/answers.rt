@@ -2,7 +2,7 @@
 ghost use Rattle.std.specs.Prelude.{◌≡◌, ◌⊎◌, ◌≤◌, ◌++◌, IfOk, None, Some, codes, true};
 ghost use Rattle.std.specs.String.{string_bytes};
 ghost use Rattle.scopes.specs.Programs.{checked_tree};
-ghost use Rattle.summaries.specs.Limits.{most_of};
+ghost use Rattle.path_sets.specs.EdgeLimits.{most_of};
 ghost use Rattle.round_rewrite.specs.Programs.{count_of};
 ghost use Rattle.refusals.specs.Lines.{memory_line};
 ghost use Rattle.refusals.specs.declared.refusal.Refusal.TheVariants as why;
@@ -18,12 +18,12 @@ use crate::counts::push_counts;
 use crate::judge::judge;
 use crate::reply::Reply;
 use crate::sequential::sequential;
-use command_line::Order;
 use flow_graph::Graphs;
 use gather::{Answer, Report, WorkBoard, WorkSet};
+use orders::Order;
 use path_sets::DiagramEdges;
 use procedure_worker::{Gate, Open};
-use refusals::{Refusal, line, status};
+use refusals::{MEMORY_LINE, Refusal, line, status};
 use round_rewrite::Rounds;
 use scopes::Checked;
 use std::alloc::{AllocError, Allocator};
@@ -40,7 +40,7 @@ pub fn no_memory<A: Allocator>() -> Reply<A>
     ensures refusal { result.refusal ≡ Some why.Memory }
 {
     Reply {
-        bytes: CowSlice::Borrowed(b"no verdict: memory\n"),
+        bytes: CowSlice::Borrowed(MEMORY_LINE.as_bytes()),
         status: 3,
         refusal: Some(Refusal::Memory),
     }

@@ -16,7 +16,8 @@ mod sink;
 mod source;
 
 pub use answers::{answer, answer_with, no_memory};
-pub use command_line::{LineFault, Order, order};
+pub use command_line::{LineFault, order};
+pub use orders::Order;
 pub use program::{ended, words};
 pub use refusals::{Refusal, explain};
 pub use reply::Reply;

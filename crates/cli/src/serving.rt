@@ -10,15 +10,12 @@ ghost use Rattle.cli.specs.Told.{IsMessage, IsReason};
 use crate::answers::answer;
 use crate::sink::{Stream, say, tell};
 use crate::source::text_of;
-use command_line::Order;
-use refusals::{Refusal, explain};
+use orders::Order;
+use refusals::{MEMORY_LINE, NO_MEMORY, Refusal, explain};
 use std::alloc::{AllocError, Allocator};
 use std::io::{self, ErrorKind, Read};
 use std::sync::Wait;
 use std::thread::Threads;
-
-/// What is told where memory gave out.
-const NO_MEMORY: &str = "bebopk: out of memory\n";
 
 /// Tells why a text gets no verdict, if it gets none, or that memory gave out over that.
 fn tell_why<X: Alloc, L: Stream>(
@@ -49,7 +46,7 @@ pub(crate) fn no_room<W: Stream, L: Stream>(writer: &mut W, log: &mut L) -> u8
         without_memory result }
 {
     tell(log, NO_MEMORY.as_bytes());
-    say(writer, b"no verdict: memory\n", 3)
+    say(writer, MEMORY_LINE.as_bytes(), 3)
 }
 
 /// The line that names a file and says why the system does not read it.

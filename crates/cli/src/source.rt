@@ -5,9 +5,10 @@ ghost use Rattle.cli.specs.Served.{GavePart, Gave, most_read};
 
 use std::alloc::Allocator;
 use std::io::{self, ErrorKind, Read};
+use tokens::MOST_BYTES;
 
 /// One byte more than a text may have, so that a longer one is seen to be longer.
-const MOST: usize = 65_537;
+const MOST: usize = MOST_BYTES + 1;
 
 /// Reads to the end, or until no room is left, and gives how many bytes were read.
 fn fill<R: Read>(reader: &mut R, room: &mut [u8]) -> io::Result<usize>

@@ -30,12 +30,13 @@ use Rattle.clap.specs.declared.builder.value_parser.ValueParser.{ValueParser}
 use Rattle.clap.specs.declared.builder.value_parser.ValueParser.TheVariants.{Bool as bool, Signed}
 use Rattle.clap.proofs.ValueTestLemmas.{accepts-Accepts}
 use Rattle.round_rewrite.specs.declared.rounds.Rounds.{Rounds}
-use Rattle.summaries.specs.declared.edge_limit.EdgeLimit.{EdgeLimit}
+use Rattle.path_sets.specs.declared.edge_limit.EdgeLimit.{EdgeLimit}
 use Rattle.round_rewrite.specs.Programs.{count_of}
-use Rattle.summaries.specs.Limits.{most_of}
+use Rattle.path_sets.specs.EdgeLimits.{most_of}
+use Rattle.path_sets.specs.Limits.{most_edges}
 use Rattle.command_line.specs.Line.{Asks, bebopk, check, file, flag_text, Orders, Reads, sequential}
-use Rattle.command_line.specs.declared.asked.Order.{Order}
-use Rattle.command_line.specs.declared.asked.Order.TheVariants.{Check, Sequential}
+use Rattle.orders.specs.declared.order.Order.{Order}
+use Rattle.orders.specs.declared.order.Order.TheVariants.{Check, Sequential}
 use Rattle.command_line.proofs.Walks.{AreFit, AreUsable, defaulted, given_row, kept_by_defaults, level_fit, none}
 use Rattle.command_line.proofs.Walks.{row_read}
 
@@ -204,7 +205,7 @@ as_rounds : (n : ℕ) → 1 ≤ n → n ≤ 4 → (r : Rounds) × (n ≡ count_o
 as_rounds zero low high = absurd (omega arith)
 as_rounds (suc k) low high = (record { last = k; few = omega arith }, refl)
 
-as_edges : (n : ℕ) → 1 ≤ n → n ≤ 16777216 → (l : EdgeLimit) × (n ≡ most_of l)
+as_edges : (n : ℕ) → 1 ≤ n → n ≤ most_edges → (l : EdgeLimit) × (n ≡ most_of l)
 as_edges n low high = (record { edges = n; some = low; few = high }, refl)
 
 -- what was found for a command is an order
@@ -272,7 +273,7 @@ check_rows rows fit fault =
     let third = with_default second (rule check_ready 2) in
     let k = number_read c all (codes "rounds") (rule check_ready 0) 4 fit refl refl
     (kept_by_defaults (codes "rounds") (drop 1 c) first (defaulted rows (rule check_ready 0) (lit< tt))) in
-    let n = number_read c all (codes "edges") (rule check_ready 1) 16777216 fit refl refl
+    let n = number_read c all (codes "edges") (rule check_ready 1) most_edges fit refl refl
     (kept_by_defaults (codes "edges") (drop 2 c) second (defaulted first (rule check_ready 1) (lit< tt))) in
     let s = row_read c all (codes "stats") (rule check_ready 2) fit refl
     (kept_by_defaults (codes "stats") (drop 3 c) third (defaulted second (rule check_ready 2) (lit< tt))) in

@@ -12,9 +12,9 @@ use Rattle.clap.specs.declared.parser.matches.Found.{Found}
 use Rattle.clap.proofs.WalkLemmas.{one_text-rows}
 use Rattle.round_rewrite.specs.Programs.{count_of}
 use Rattle.command_line.specs.Line.{Asks, Gives, IsGiven, IsNamed, Orders, Reads, flag_text}
-use Rattle.command_line.specs.declared.asked.Order.{Order}
-use Rattle.command_line.specs.declared.asked.Order.TheVariants.{Check, Sequential}
-use Rattle.summaries.specs.Limits.{most_of}
+use Rattle.orders.specs.declared.order.Order.{Order}
+use Rattle.orders.specs.declared.order.Order.TheVariants.{Check, Sequential}
+use Rattle.path_sets.specs.EdgeLimits.{most_of}
 
 -- a number that is got of an option is what its text reads as
 pub reads : {E : Type 0} (gives : List ℕ → Result ℕ E → Type 0) (bits : ℕ)

@@ -13,11 +13,12 @@ use Rattle.clap.specs.declared.error.kind.ErrorKind.{ErrorKind}
 use Rattle.clap.specs.declared.error.kind.ErrorKind.TheVariants as kind
 use Rattle.round_rewrite.specs.Limits.{most_rounds}
 use Rattle.round_rewrite.specs.Programs.{count_of}
-use Rattle.summaries.specs.Limits.{most_of}
+use Rattle.path_sets.specs.EdgeLimits.{most_of}
+use Rattle.path_sets.specs.Limits.{most_edges}
 use Rattle.command_line.specs.declared.asked.LineFault.{LineFault}
 use Rattle.command_line.specs.declared.asked.LineFault.TheVariants.{Help, Memory, Refused}
-use Rattle.command_line.specs.declared.asked.Order.{Order}
-use Rattle.command_line.specs.declared.asked.Order.TheVariants.{Check, Sequential}
+use Rattle.orders.specs.declared.order.Order.{Order}
+use Rattle.orders.specs.declared.order.Order.TheVariants.{Check, Sequential}
 
 -- an option with one value, which this parser reads
 abbrev pub option_by : ValueParser → Text → Rule
@@ -31,7 +32,7 @@ abbrev pub rounds : Rule
 rounds = number_up_to most_rounds (codes "rounds")
 
 abbrev pub edges : Rule
-edges = record (number_up_to 16777216 (codes "edges")) { defaults = codes "1000000" ∷ [] }
+edges = record (number_up_to most_edges (codes "edges")) { defaults = codes "1000000" ∷ [] }
 
 -- an option without a value
 abbrev pub stats : Rule

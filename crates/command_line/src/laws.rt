@@ -3,7 +3,7 @@
 ghost use Rattle.std.specs.Prelude.{◌≡◌, List, []};
 ghost use Rattle.clap.specs.Words.{Text, fault_of};
 ghost use Rattle.command_line.specs.Line.{AskFor, bebopk};
-ghost use Rattle.command_line.specs.declared.asked.Order.{Order};
+ghost use Rattle.orders.specs.declared.order.Order.{Order};
 
 /// All words that the command line takes ask for an order on a file.
 pub fn what_is_taken_is_an_order()

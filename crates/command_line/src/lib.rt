@@ -1,4 +1,4 @@
-//! The command line of bebopk: orders, and what words ask for.
+//! The command line of bebopk: which order its words ask for.
 #![tactic(auto)]
 
 mod asked;
@@ -6,6 +6,6 @@ mod help;
 mod laws;
 mod line;
 
-pub use asked::{LineFault, Order};
+pub use asked::LineFault;
 pub use laws::what_is_taken_is_an_order;
 pub use line::order;

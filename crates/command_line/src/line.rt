@@ -4,14 +4,15 @@ ghost use Rattle.std.specs.String.{string_bytes};
 ghost use Rattle.clap.specs.Words.{Text, app_of, kind_of, rule_of, subcommand_rows_of};
 ghost use Rattle.command_line.specs.Line as line;
 
-use crate::asked::{LineFault, Order};
+use crate::asked::LineFault;
 use crate::help::{BEBOPK, CHECK, SEQUENTIAL, VERSION};
 use clap::builder::ValueParser;
 use clap::error::ErrorKind;
 use clap::{Arg, ArgAction, ArgMatches, Command, Error, value_parser};
+use orders::Order;
+use path_sets::{EdgeLimit, MOST_EDGES};
 use round_rewrite::{MOST_ROUNDS, Rounds};
 use std::alloc::{AllocError, Global};
-use summaries::EdgeLimit;
 
 /// The argument FILE.
 fn file<'a>(alloc: Global) -> Arg<'a>
@@ -57,7 +58,7 @@ fn edges<'a>(alloc: Global) -> Arg<'a>
     ensures local { result.global ≡ false }
 {
     let help = "How many path edges a procedure may have: 1 to 16777216";
-    let parser = value_parser!(u32).range(1..=16_777_216);
+    let parser = value_parser!(u32).range(1..=MOST_EDGES as i64);
     option(alloc, "edges", "N", help, parser).default_value("1000000")
 }
 

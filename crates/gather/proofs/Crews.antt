@@ -12,7 +12,7 @@ use Rattle.flow_graph.specs.declared.graph.Graphs.{Graphs}
 use Rattle.flow_graph.specs.Drawn.{graphs_of}
 use Rattle.flow_graph.specs.Graphs.{AreDrawnFrom}
 use Rattle.summaries.specs.declared.due.Due.{Due}
-use Rattle.summaries.specs.declared.edge_limit.EdgeLimit.{EdgeLimit}
+use Rattle.path_sets.specs.declared.edge_limit.EdgeLimit.{EdgeLimit}
 use Rattle.summaries.specs.declared.table.Table.{Table}
 use Rattle.summaries.specs.Together.{opening}
 use Rattle.switchboard.specs.Sights.{Sight, State, opened, fresh_sight, fresh_sights}

@@ -27,7 +27,7 @@ use Rattle.flow_graph.specs.Numbers.{NumberedMessage, IsNumberOf, Sends, asks, t
 use Rattle.summaries.specs.declared.due.Caller.TheVariants.{Starter, Proc}
 use Rattle.summaries.specs.declared.due.Due.{Due}
 use Rattle.summaries.specs.declared.due.Due.TheVariants.{Entry as entered, Summary}
-use Rattle.summaries.specs.declared.edge_limit.EdgeLimit.{EdgeLimit}
+use Rattle.path_sets.specs.declared.edge_limit.EdgeLimit.{EdgeLimit}
 use Rattle.summaries.specs.Dues.{due_of}
 use Rattle.summaries.specs.Fitting.{FitsIn}
 use Rattle.summaries.specs.Found.{TookMessage}

@@ -10,7 +10,7 @@ use Rattle.flow_graph.specs.declared.graph.Graphs.{Graphs}
 use Rattle.flow_graph.specs.Drawn.{bad_of, graphs_of}
 use Rattle.flow_graph.specs.Graphs.{AreDrawnFrom}
 use Rattle.summaries.specs.declared.due.Due.{Due}
-use Rattle.summaries.specs.Limits.{most_of}
+use Rattle.path_sets.specs.EdgeLimits.{most_of}
 use Rattle.summaries.specs.Effects.{Effects}
 use Rattle.summaries.specs.Tabulated.{AreSummaries, SomePairBad, HasMoreEdges}
 use Rattle.gather.specs.Ends.{AreOfBoard}

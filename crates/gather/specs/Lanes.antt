@@ -7,7 +7,7 @@ use Rattle.flow_graph.specs.declared.graph.Graphs.{Graphs}
 use Rattle.flow_graph.specs.Drawn.{graphs_of}
 use Rattle.flow_graph.specs.Graphs.{AreDrawnFrom}
 use Rattle.summaries.specs.declared.due.Due.{Due}
-use Rattle.summaries.specs.declared.edge_limit.EdgeLimit.{EdgeLimit}
+use Rattle.path_sets.specs.declared.edge_limit.EdgeLimit.{EdgeLimit}
 use Rattle.switchboard.specs.Sights.{Sight}
 use Rattle.procedure_worker.specs.declared.outcome.Outcome.{Outcome}
 use Rattle.procedure_worker.specs.Works.{Start, begun, IsFresh, HasEnded}

@@ -6,7 +6,7 @@ ghost use Rattle.language.specs.Step.{Program};
 ghost use Rattle.resolved.specs.Programs.{sequential_tree};
 ghost use Rattle.round_rewrite.specs.Programs.{count_of};
 ghost use Rattle.scopes.specs.Programs.{checked_tree};
-ghost use Rattle.summaries.specs.Limits.{most_of};
+ghost use Rattle.path_sets.specs.EdgeLimits.{most_of};
 ghost use Rattle.summaries.specs.Tabulated.{AreSummaries, HasMoreEdges, SomePairBad};
 ghost use Rattle.gather.specs.Reports.{IsNoReport, IsTabulated};
 

@@ -6,7 +6,7 @@ ghost use Rattle.round_rewrite.specs.Programs.{count_of};
 ghost use Rattle.scopes.specs.Programs.{checked_tree};
 ghost use Rattle.flow_graph.specs.Drawn.{bad_of, graphs_of};
 ghost use Rattle.flow_graph.specs.Graphs.{AreDrawnFrom};
-ghost use Rattle.summaries.specs.Limits.{most_of};
+ghost use Rattle.path_sets.specs.EdgeLimits.{most_of};
 ghost use Rattle.summaries.specs.Tabulated.{HasMoreEdges, SomePairBad};
 ghost use Rattle.gather.specs.Reports.{IsFound, IsReport, IsNoReport};
 

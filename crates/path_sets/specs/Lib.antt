@@ -1,3 +1,5 @@
+pub mod Limits
+pub mod EdgeLimits
 pub mod Triples
 pub mod Inserts
 pub mod Masks

@@ -7,6 +7,7 @@
 
 mod binary;
 mod diagram;
+mod edge_limit;
 mod gathered;
 mod homes;
 mod inner;
@@ -27,6 +28,7 @@ mod shards;
 mod union;
 
 pub use diagram::DiagramEdges;
+pub use edge_limit::{EdgeLimit, MOST_EDGES};
 pub use laws::{
     equal_sets_have_one_number, members_have_one_count, the_least_valuations_make_a_chain,
 };

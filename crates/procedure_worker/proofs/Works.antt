@@ -5,7 +5,7 @@ use Rattle.std.proofs.Common.{refl, sym, ap, ◌∙◌, subst, arith, true, fals
 use Rattle.std.specs.Prelude.{◌↔◌, Option, Result, IsSome, IsErrAnd, MatchResult}
 use Rattle.std.specs.Option.{ForSome}
 use Rattle.atomic_table.specs.Seated.{TableId}
-use Rattle.ticket_lock.specs.Facts.{StartsWith-trans}
+use Rattle.ticket_lock.specs.Proved.Facts.{StartsWith-trans}
 use Rattle.std.proofs.lemmas.Option.{slice_get_within}
 use Rattle.std.proofs.lemmas.List.{map-append}
 use Rattle.post_ledger.specs.declared.entry.Entry.{Entry}
@@ -23,7 +23,7 @@ use Rattle.summaries.specs.declared.due.Due.{Due}
 use Rattle.summaries.specs.declared.table.Table.{Table}
 use Rattle.summaries.specs.declared.table_fault.TableFault.{TableFault}
 use Rattle.summaries.specs.declared.table_fault.TableFault.TheVariants as fault
-use Rattle.summaries.specs.Limits.{most_of}
+use Rattle.path_sets.specs.EdgeLimits.{most_of}
 use Rattle.summaries.specs.Mails.{mail}
 use Rattle.summaries.specs.Dues.{due_of}
 use Rattle.summaries.specs.Fitting.{IsDueFor, FitsIn}
@@ -41,7 +41,7 @@ use Rattle.switchboard.specs.declared.calls.Cause.TheVariants as cause
 use Rattle.switchboard.specs.Sights.{Sight, opened, fresh_sight}
 use Rattle.switchboard.proofs.Opening.{sound_open}
 use Rattle.post_ledger.proofs.Orders.{own_else}
-use Rattle.summaries.specs.declared.edge_limit.EdgeLimit.{EdgeLimit}
+use Rattle.path_sets.specs.declared.edge_limit.EdgeLimit.{EdgeLimit}
 use Rattle.procedure_worker.specs.Works.{begun}
 use Rattle.switchboard.specs.Promises.{GoesOn, MadeNone, Added, WasSpent, WasPosted, WasDone, MadeAbort}
 use Rattle.switchboard.specs.Promises as promises

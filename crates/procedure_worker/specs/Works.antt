@@ -18,8 +18,8 @@ use Rattle.summaries.specs.declared.given.Mail.{Mail}
 use Rattle.summaries.specs.declared.table.Table.{Table}
 use Rattle.summaries.specs.declared.table_fault.TableFault.{TableFault}
 use Rattle.summaries.specs.declared.table_fault.TableFault.TheVariants as fault
-use Rattle.summaries.specs.declared.edge_limit.EdgeLimit.{EdgeLimit}
-use Rattle.summaries.specs.Limits.{most_of}
+use Rattle.path_sets.specs.declared.edge_limit.EdgeLimit.{EdgeLimit}
+use Rattle.path_sets.specs.EdgeLimits.{most_of}
 use Rattle.summaries.specs.Mails.{mail}
 use Rattle.summaries.specs.Dues.{due_of}
 use Rattle.summaries.specs.Fitting.{FitsIn}

@@ -3,7 +3,7 @@ ghost use Rattle.std.specs.Prelude.{◌≡◌, ◌<◌, ℕ, length};
 ghost use Rattle.atomic_table.specs.Seated.{TableId};
 ghost use Rattle.flow_graph.specs.declared.graph.Graphs.{Graphs};
 ghost use Rattle.flow_graph.specs.Drawn.{graphs_of};
-ghost use Rattle.summaries.specs.declared.edge_limit.EdgeLimit.{EdgeLimit};
+ghost use Rattle.path_sets.specs.declared.edge_limit.EdgeLimit.{EdgeLimit};
 ghost use Rattle.summaries.specs.Together.{opening};
 ghost use Rattle.switchboard.specs.Sights.{opened, fresh_sight};
 ghost use Rattle.procedure_worker.specs.Works.{begun, IsFresh};

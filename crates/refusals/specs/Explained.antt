@@ -6,10 +6,12 @@ use Rattle.syntax.specs.declared.fault.ReadFault.TheVariants as read
 use Rattle.scopes.specs.declared.fault.ScopeFault.{ScopeFault}
 use Rattle.scopes.specs.declared.fault.ScopeFault.TheVariants as scope
 use Rattle.diagnostics.specs.Message.{Locates, LocatesForeign, needs, of_name, unexpected}
-use Rattle.round_rewrite.specs.Programs.{count_of}
-use Rattle.summaries.specs.Limits.{most_of}
-use Rattle.command_line.specs.declared.asked.Order.{Order}
-use Rattle.command_line.specs.declared.asked.Order.TheVariants.{Check, Sequential}
+use Rattle.path_sets.specs.EdgeLimits.{most_of}
+use Rattle.path_sets.specs.Limits.{most_edges}
+use Rattle.tokens.specs.Limits.{most_bytes}
+use Rattle.orders.specs.Parts.{rounds_of}
+use Rattle.orders.specs.declared.order.Order.{Order}
+use Rattle.orders.specs.declared.order.Order.TheVariants.{Check, Sequential}
 use Rattle.refusals.specs.declared.refusal.Refusal.{Refusal}
 use Rattle.refusals.specs.declared.refusal.Refusal.TheVariants.{Unread, Unchecked, TooWide, EdgeLimit, Memory}
 use Rattle.refusals.specs.declared.refusal.Refusal.TheVariants.{NoWorker, Spent}
@@ -29,18 +31,14 @@ scope_told (scope.TooMany at) =
     Some (at, codes " is past the limit of 31 procedures, 8 threads and 1000 statements\n")
 scope_told scope.Memory = None
 
--- how many rounds the order is about
-abbrev pub rounds_of : Order → ℕ
-rounds_of (Check rounds edges stats) = count_of rounds
-rounds_of (Sequential rounds) = count_of rounds
-
 -- the line for want of memory
 abbrev pub no_memory : List ℕ
 no_memory = codes "bebopk: out of memory\n"
 
 -- Why a text is not read is told at a place of it, or in a line about the file.
 abbrev pub ExplainsUnread : List ℕ → List ℕ → ReadFault → List ℕ → List ℕ → Type 0
-ExplainsUnread path text read.TooLong old new = new ≡ old ++ (path ++ codes ": the text has more than 65536 bytes\n")
+ExplainsUnread path text read.TooLong old new =
+    new ≡ old ++ (path ++ (codes ": the text has more than " ++ (decimal most_bytes ++ codes " bytes\n")))
 ExplainsUnread path text read.NotAscii old new = LocatesForeign path text old new
 ExplainsUnread path text (read.Syntax at) old new = Locates path text (min (length text) at) unexpected old new
 ExplainsUnread path text read.TooDeep old new = new ≡ old ++ (path
@@ -51,7 +49,7 @@ ExplainsUnread path text read.Memory old new = new ≡ old ++ no_memory
 abbrev pub edge_line : List ℕ → Order → List ℕ
 edge_line path (Check rounds edges stats) =
     path ++ (codes ": some procedure has more than " ++ (decimal (most_of edges)
-    ++ codes " path edges; --edges N raises the limit, up to 16777216\n"))
+    ++ (codes " path edges; --edges N raises the limit, up to " ++ (decimal most_edges ++ codes "\n"))))
 edge_line path (Sequential rounds) = []
 
 -- the line of a program that is too wide in some procedure

@@ -3,22 +3,27 @@
 ghost use Rattle.std.specs.Prelude.{◌≡◌, ◌++◌, OnOk, option_map};
 ghost use Rattle.std.specs.String.{string_bytes};
 ghost use Rattle.refusals.specs.Explained.{Explains, ExplainsUnread, edge_line, no_memory};
-ghost use Rattle.refusals.specs.Explained.{rounds_of, scope_told};
+ghost use Rattle.refusals.specs.Explained.{scope_told};
 ghost use Rattle.refusals.specs.declared.refusal.Refusal.TheVariants.{TooWide};
 
 use crate::refusal::Refusal;
-use command_line::Order;
 use diagnostics::{Wrong, at_offset, not_ascii};
+use orders::Order;
+use path_sets::MOST_EDGES;
 use round_rewrite::Wide;
 use scopes::ScopeFault;
 use std::alloc::{AllocError, Allocator};
 use syntax::ReadFault;
+use tokens::MOST_BYTES;
+
+/// What is told where memory gave out.
+pub const NO_MEMORY: &str = "bebopk: out of memory\n";
 
 /// Writes that memory gave out.
 fn push_no_memory<A: Allocator>(message: &mut String<A>) -> Result<(), AllocError>
     ensures { OnOk result (string_bytes message.new ≡ string_bytes message.old ++ no_memory) }
 {
-    message.push_str("bebopk: out of memory\n")
+    message.push_str(NO_MEMORY)
 }
 
 /// Writes why a text is not read.
@@ -32,7 +37,10 @@ fn unread<A: Allocator>(
         (string_bytes message.new)) }
 {
     match fault {
-        ReadFault::TooLong => write!(message, "{path}: the text has more than 65536 bytes\n"),
+        ReadFault::TooLong => write!(
+            message,
+            "{path}: the text has more than {MOST_BYTES} bytes\n"
+        ),
         ReadFault::NotAscii => not_ascii(message, path, text),
         ReadFault::Syntax(at) => at_offset(message, path, text, *at, Wrong::Unexpected),
         ReadFault::TooDeep => write!(
@@ -88,7 +96,7 @@ fn edge_limit<A: Allocator>(
             let edges = edges.edges();
             write!(
                 message,
-                "{path}: some procedure has more than {edges} path edges; --edges N raises the limit, up to 16777216\n"
+                "{path}: some procedure has more than {edges} path edges; --edges N raises the limit, up to {MOST_EDGES}\n"
             )
         }
         Order::Sequential { .. } => Ok(()),

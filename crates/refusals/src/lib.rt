@@ -5,6 +5,6 @@ mod explanation;
 mod lines;
 mod refusal;
 
-pub use explanation::explain;
-pub use lines::{line, status};
+pub use explanation::{NO_MEMORY, explain};
+pub use lines::{MEMORY_LINE, line, status};
 pub use refusal::Refusal;

@@ -12,6 +12,9 @@ use std::alloc::{AllocError, Allocator};
 use std::borrow::CowSlice;
 use syntax::ReadFault;
 
+/// The line for want of memory: it is fixed, and takes none.
+pub const MEMORY_LINE: &str = "no verdict: memory\n";
+
 /// The bytes of a line, which is fixed.
 fn fixed<A: Allocator>(line: &'static str) -> CowSlice<'static, u8, A>
     ensures { cow_slice_items result ≡ line.entry.now }
@@ -41,7 +44,7 @@ fn unread<A: Allocator>(alloc: A, fault: &ReadFault) -> Result<CowSlice<'static,
         ReadFault::NotAscii => Ok(fixed("refused: 2 not ascii\n")),
         ReadFault::Syntax(at) => located(alloc, "3 syntax", *at),
         ReadFault::TooDeep => Ok(fixed("refused: 4 too deep\n")),
-        ReadFault::Memory => Ok(fixed("no verdict: memory\n")),
+        ReadFault::Memory => Ok(fixed(MEMORY_LINE)),
     }
 }
 
@@ -61,7 +64,7 @@ fn unchecked<A: Allocator>(
         ScopeFault::BadLabel(at) => located(alloc, "10 bad label", *at),
         ScopeFault::Reserved(at) => located(alloc, "11 reserved", *at),
         ScopeFault::TooMany(at) => located(alloc, "12 too many", *at),
-        ScopeFault::Memory => Ok(fixed("no verdict: memory\n")),
+        ScopeFault::Memory => Ok(fixed(MEMORY_LINE)),
     }
 }
 
@@ -78,7 +81,7 @@ pub fn line<A: Allocator>(
         Refusal::Unchecked(fault) => unchecked(alloc, fault),
         Refusal::TooWide(_) => Ok(fixed("refused: 14 too wide\n")),
         Refusal::EdgeLimit => Ok(fixed("no verdict: edge limit\n")),
-        Refusal::Memory => Ok(fixed("no verdict: memory\n")),
+        Refusal::Memory => Ok(fixed(MEMORY_LINE)),
         Refusal::NoWorker => Ok(fixed("no verdict: no worker\n")),
         Refusal::Spent => Ok(fixed("no verdict: spent\n")),
     }

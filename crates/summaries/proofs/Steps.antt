@@ -41,7 +41,7 @@ use Rattle.summaries.specs.Together.{opening, IsReceived, IsTaken, HaveLimit, Is
 use Rattle.summaries.proofs.Tabled.{over_limit, answer_due}
 use Rattle.summaries.proofs.Replaced.{get_set, set_get}
 use Rattle.summaries.proofs.Sweeping.{same_taken, same_taken_back, Becomes, replaced}
-use Rattle.summaries.specs.Limits.{most_of}
+use Rattle.path_sets.specs.EdgeLimits.{most_of}
 
 -- the numbers of a message
 pub number_of_due : (d : Due) → (k : NumberedMessage) × (due_of k ≡ d)

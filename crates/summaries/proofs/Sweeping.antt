@@ -18,7 +18,7 @@ use Rattle.summaries.specs.Tables.{graph_of, answers_of, IsTable, StaysAs, TookS
 use Rattle.summaries.specs.Together.{opening, IsTaken, IsReceived, HaveLimit, AreTables}
 use Rattle.summaries.proofs.Replaced.{set_get, each_then}
 use Rattle.std.proofs.Common.{nat_eq}
-use Rattle.summaries.specs.Limits.{most_of}
+use Rattle.path_sets.specs.EdgeLimits.{most_of}
 
 -- what is taken stays so where the same was taken
 pub same_taken : {A : Type 0} (old new : Found A) → TookSame old new → (k : NumberedMessage) → TookMessage old k → TookMessage new k

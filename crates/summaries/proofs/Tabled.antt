@@ -19,7 +19,7 @@ use Rattle.summaries.specs.Found.{TookMessage}
 use Rattle.summaries.specs.Tables.{answers_of, IsReached, IsAnswer}
 use Rattle.summaries.specs.Tabulated.{HasMoreEdges}
 use Rattle.summaries.specs.Together.{IsTableOf}
-use Rattle.summaries.specs.Limits.{most_of}
+use Rattle.path_sets.specs.EdgeLimits.{most_of}
 use Rattle.summaries.proofs.Mails.{none_twice_first}
 use Rattle.summaries.proofs.Quiet.{owed_sent}
 

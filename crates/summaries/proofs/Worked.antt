@@ -18,7 +18,7 @@ use Rattle.summaries.specs.Found.{TookMessage}
 use Rattle.summaries.proofs.Growing.{no_limit, failed_ok}
 use Rattle.summaries.proofs.Stepping.{has_more}
 use Rattle.summaries.specs.Tables.{answers_of, HasMore, Holds, IsReached, IsAnswer, StaysAs, Worked}
-use Rattle.summaries.specs.Limits.{most_of}
+use Rattle.path_sets.specs.EdgeLimits.{most_of}
 
 -- a message that is answered, by its parts
 pub answer_is : {G A S : Type 0} (old new : Table G A S) (r : Option (ℕ × Due)) →

@@ -1,4 +1,3 @@
-pub mod Limits
 pub mod Under
 pub mod Mails
 pub mod Dues

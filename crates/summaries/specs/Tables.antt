@@ -18,7 +18,7 @@ use Rattle.summaries.specs.declared.table_fault.TableFault.TheVariants.{EdgeLimi
 use Rattle.summaries.specs.Mails.{mail}
 use Rattle.summaries.specs.Dues.{due_of}
 use Rattle.summaries.specs.Found.{pair, site, answers_in, TookMessage, HasSite, HasExit, IsGrounded, IsComplete}
-use Rattle.summaries.specs.Limits.{most_of}
+use Rattle.path_sets.specs.EdgeLimits.{most_of}
 
 module _ {G A S : Type 0} where
   -- the flow graph of the table's procedure

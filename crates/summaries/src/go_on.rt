@@ -2,15 +2,14 @@
 
 ghost use Rattle.std.specs.Prelude.{◌≤◌, length};
 ghost use Rattle.summaries.specs.Grows.{Adds, Each, IsBehind};
-ghost use Rattle.summaries.specs.Limits.{most_of};
+ghost use Rattle.path_sets.specs.EdgeLimits.{most_of};
 
 use crate::edge::{Edge, Site};
-use crate::edge_limit::EdgeLimit;
 use crate::reach::reach;
 use crate::table_fault::TableFault;
 use flow_graph::{Flow, Graph};
 use language::Word;
-use path_sets::PathSet;
+use path_sets::{EdgeLimit, PathSet};
 use std::alloc::Allocator;
 
 /// Goes on behind the call of a site, for what it has left; nowhere where no call stands there. At an error the edge

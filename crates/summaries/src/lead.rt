@@ -2,15 +2,14 @@
 
 ghost use Rattle.std.specs.Prelude.{◌≤◌, length};
 ghost use Rattle.summaries.specs.Grows.{Adds, IsAt, IsNext};
-ghost use Rattle.summaries.specs.Limits.{most_of};
+ghost use Rattle.path_sets.specs.EdgeLimits.{most_of};
 
 use crate::edge::Edge;
-use crate::edge_limit::EdgeLimit;
 use crate::reach::reach;
 use crate::table_fault::TableFault;
 use flow_graph::Flow;
 use language::{Point, Word};
-use path_sets::PathSet;
+use path_sets::{EdgeLimit, PathSet};
 use std::alloc::Allocator;
 
 /// Reaches where the run goes on from an edge, if it does.

@@ -4,7 +4,6 @@
 
 mod due;
 mod edge;
-mod edge_limit;
 mod fitting;
 mod found;
 mod given;
@@ -25,13 +24,13 @@ mod values;
 mod work;
 
 pub use due::{Caller, Due};
-pub use edge_limit::EdgeLimit;
 pub use laws::{
     a_quiet_table_has_what_is_reached, a_table_keeps_path_edges_and_answers_what_is_due,
     the_opening_fits_the_first_mailbox,
 };
 pub use no_verdict::NoVerdict;
 pub use pair::Pair;
+pub use path_sets::EdgeLimit;
 pub use summaries::Summaries;
 pub use table::Table;
 pub use table_fault::TableFault;

@@ -2,12 +2,11 @@
 
 ghost use Rattle.std.specs.Prelude.{◌≡◌, ◌≤◌, length};
 ghost use Rattle.summaries.specs.Grows.{Adds, triple_of};
-ghost use Rattle.summaries.specs.Limits.{most_of};
+ghost use Rattle.path_sets.specs.EdgeLimits.{most_of};
 
 use crate::edge::Edge;
-use crate::edge_limit::EdgeLimit;
 use crate::table_fault::TableFault;
-use path_sets::PathSet;
+use path_sets::{EdgeLimit, PathSet};
 use std::alloc::Allocator;
 
 /// Adds one path edge, if it is new, and lets it stand pending. Where it is new and the limit is reached, the answer is

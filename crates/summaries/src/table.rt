@@ -1,11 +1,10 @@
 //! The table of one procedure.
 
 ghost use Rattle.std.specs.Prelude.{◌≡◌, Some, None};
-ghost use Rattle.summaries.specs.Limits.{most_of};
+ghost use Rattle.path_sets.specs.EdgeLimits.{most_of};
 
 use crate::due::{Caller, Due};
 use crate::edge::{Call, Edge};
-use crate::edge_limit::EdgeLimit;
 use crate::found::Found;
 use crate::go_on::go_on_at_each;
 use crate::reach::reach;
@@ -13,7 +12,7 @@ use crate::table_fault::TableFault;
 use crate::tell::tell_exits;
 use flow_graph::{Graph, Graphs};
 use language::Word;
-use path_sets::PathSet;
+use path_sets::{EdgeLimit, PathSet};
 use std::alloc::Allocator;
 
 /// The path edges of one procedure and the calls on them, by the messages that it has taken.

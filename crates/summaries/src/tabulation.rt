@@ -9,17 +9,16 @@ ghost use Rattle.summaries.specs.Tables.{graph_of, IsTable, Takes};
 ghost use Rattle.summaries.specs.Tabulated.{AreSummaries, SomePairBad, HasMoreEdges};
 ghost use Rattle.summaries.specs.Together.{opening, HaveLimit, AreNew, AreTables, AreQuietBefore};
 ghost use Rattle.summaries.specs.Together.{AreFull};
-ghost use Rattle.summaries.specs.Limits.{most_of};
+ghost use Rattle.path_sets.specs.EdgeLimits.{most_of};
 
 use crate::due::{Caller, Due};
-use crate::edge_limit::EdgeLimit;
 use crate::no_verdict::NoVerdict;
 use crate::reading::read;
 use crate::summaries::Summaries;
 use crate::table::Table;
 use crate::table_fault::TableFault;
 use flow_graph::Graphs;
-use path_sets::PathSet;
+use path_sets::{EdgeLimit, PathSet};
 use std::alloc::{AllocError, Allocator};
 
 /// The tables of all procedures, by number, which have taken nothing yet.

@@ -7,7 +7,7 @@ use Rattle.atomic_table.specs.Seated.{TableId}
 use Rattle.ticket_lock.specs.History.{EndsIn}
 use Rattle.ticket_lock.specs.Turns.{passes}
 use Rattle.ticket_lock.specs.Calls as lock
-use Rattle.ticket_lock.specs.Facts.{EndsIn-same}
+use Rattle.ticket_lock.specs.Proved.Facts.{EndsIn-same}
 use Rattle.post_ledger.specs.declared.event.Event.{Event}
 use Rattle.post_ledger.specs.declared.event.Event.TheVariants.{Done}
 use Rattle.post_ledger.specs.declared.entry.Entry.TheVariants.{Completed}
@@ -17,7 +17,7 @@ use Rattle.switchboard.specs.declared.calls.Cause.{Cause}
 use Rattle.switchboard.specs.declared.knowing.Seen.{Seen}
 use Rattle.switchboard.specs.Sights.{Sight}
 use Rattle.switchboard.specs.Promises.{WasDone, Added, MadeAbort}
-use Rattle.switchboard.specs.Entries.{job_stays}
+use Rattle.switchboard.specs.Proved.Entries.{job_stays}
 use Rattle.switchboard.specs.Knowing.{hand_at, counted_down, made_abort}
 use Rattle.switchboard.specs.PerBox.{View, Asks, Tells, IsInside, Raised, Seat}
 use Rattle.switchboard.specs.BoxPasses.{IsIdle, box_sight, IsBoxPass}

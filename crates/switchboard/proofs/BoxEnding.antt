@@ -14,8 +14,8 @@ use Rattle.atomic_table.specs.Table as table
 use Rattle.atomic_table.specs.Seated.{TableId}
 use Rattle.ticket_lock.specs.declared.hand.Hand.{Hand}
 use Rattle.ticket_lock.specs.Count.{times, total}
-use Rattle.ticket_lock.specs.Facts.{total_at, total_two, total_only, total-map, at-map, at_longer, times-one, EndsIn-same, StartsWith-refl}
-use Rattle.ticket_lock.specs.Facts.{StartsWith-trans}
+use Rattle.ticket_lock.specs.Proved.Facts.{total_at, total_two, total_only, total-map, at-map, at_longer, times-one, EndsIn-same, StartsWith-refl}
+use Rattle.ticket_lock.specs.Proved.Facts.{StartsWith-trans}
 use Rattle.post_ledger.specs.declared.event.Event.{Event}
 use Rattle.post_ledger.specs.declared.entry.Entry.{Entry}
 use Rattle.post_ledger.specs.Orders.{part, own, IsClosed}
@@ -28,7 +28,7 @@ use Rattle.switchboard.specs.Sights.{Sight, IsSound}
 use Rattle.switchboard.specs.Promises.{AreAll, Settles}
 use Rattle.switchboard.specs.Knowing.{bare, merged_hands, made_by, state_of, hand_at, numbers, makes, merged, taken_in}
 use Rattle.switchboard.specs.PerBox.{View, flag, Saw, Rule, TookIn, Seat, owed}
-use Rattle.switchboard.specs.PerBoxFacts.{number_in, closed_at_zero}
+use Rattle.switchboard.specs.Proved.PerBoxFacts.{number_in, closed_at_zero}
 use Rattle.switchboard.specs.BoxEnds.{own_of, HasTaken, Gathered, HasSeat, Ends}
 use Rattle.switchboard.proofs.BoxSeats.{merged_is}
 use Rattle.switchboard.proofs.BoxTakes.{low_zero}

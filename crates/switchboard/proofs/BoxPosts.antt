@@ -8,7 +8,7 @@ use Rattle.atomic_table.specs.Seated.{TableId}
 use Rattle.ticket_lock.specs.History.{EndsIn}
 use Rattle.ticket_lock.specs.Turns.{passes}
 use Rattle.ticket_lock.specs.Calls as lock
-use Rattle.ticket_lock.specs.Facts.{EndsIn-same}
+use Rattle.ticket_lock.specs.Proved.Facts.{EndsIn-same}
 use Rattle.post_ledger.specs.declared.event.Event.{Event}
 use Rattle.post_ledger.specs.declared.event.Event.TheVariants.{Post}
 use Rattle.post_ledger.specs.declared.entry.Entry.TheVariants.{Posted}
@@ -19,7 +19,7 @@ use Rattle.switchboard.specs.declared.knowing.Seen.{Seen}
 use Rattle.switchboard.specs.declared.knowing.Own.{Own}
 use Rattle.switchboard.specs.Sights.{Sight}
 use Rattle.switchboard.specs.Promises.{Looked, Added, WasPosted, WasRefused}
-use Rattle.switchboard.specs.Entries.{job_stays}
+use Rattle.switchboard.specs.Proved.Entries.{job_stays}
 use Rattle.switchboard.specs.Knowing.{hand_at, with_seen, counted_up}
 use Rattle.switchboard.specs.PerBox.{View, Asks, Tells, IsInside, Seat}
 use Rattle.switchboard.specs.BoxPasses.{box_sight, IsBoxPass}

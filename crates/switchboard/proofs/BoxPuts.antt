@@ -7,7 +7,7 @@ use Rattle.post_ledger.specs.declared.event.Event.{Event}
 use Rattle.post_ledger.specs.Orders.{own, HasJob}
 use Rattle.switchboard.specs.declared.calls.Abort.{Abort}
 use Rattle.switchboard.specs.declared.knowing.Own.{Own}
-use Rattle.switchboard.specs.Entries.{job_stays}
+use Rattle.switchboard.specs.Proved.Entries.{job_stays}
 use Rattle.switchboard.specs.PerBox.{View, flag, Looked, Seat}
 
 -- bit 63 is clear where there was no abort

@@ -6,7 +6,7 @@ use Rattle.atomic_table.specs.Seated.{TableId}
 use Rattle.ticket_lock.specs.History.{EndsIn}
 use Rattle.ticket_lock.specs.Turns.{passes}
 use Rattle.ticket_lock.specs.Calls as lock
-use Rattle.ticket_lock.specs.Facts.{EndsIn-same}
+use Rattle.ticket_lock.specs.Proved.Facts.{EndsIn-same}
 use Rattle.post_ledger.specs.declared.event.Event.{Event}
 use Rattle.post_ledger.specs.declared.event.Event.TheVariants as event
 use Rattle.post_ledger.specs.declared.entry.Entry.TheVariants as entry

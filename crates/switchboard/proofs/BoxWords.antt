@@ -12,8 +12,8 @@ use lib.ListN.{get_elem?}
 use Rattle.atomic_table.specs.Table as table
 use Rattle.ticket_lock.specs.Count.{times, total}
 use Rattle.ticket_lock.specs.History.{StartsWith}
-use Rattle.ticket_lock.specs.Facts.{total_set, total_at, total_two, total_only, set_here, at_inside, times-one, StartsWith-refl}
-use Rattle.ticket_lock.specs.Facts.{StartsWith-length, StartsWith-whole}
+use Rattle.ticket_lock.specs.Proved.Facts.{total_set, total_at, total_two, total_only, set_here, at_inside, times-one, StartsWith-refl}
+use Rattle.ticket_lock.specs.Proved.Facts.{StartsWith-length, StartsWith-whole}
 use Rattle.ticket_lock.proofs.LoneSteps.{longer_first, longer_second, longer_begins, longer_whole}
 use Rattle.post_ledger.specs.declared.event.Event.{Event}
 use Rattle.post_ledger.specs.declared.entry.Entry.{Entry}
@@ -24,12 +24,12 @@ use Rattle.switchboard.specs.declared.knowing.Ground.{Ground}
 use Rattle.switchboard.specs.declared.knowing.Seen.{Seen}
 use Rattle.switchboard.specs.declared.knowing.Own.{Own}
 use Rattle.switchboard.specs.Sights.{IsSound, abort_of}
-use Rattle.switchboard.specs.Entries.{job_stays}
+use Rattle.switchboard.specs.Proved.Entries.{job_stays}
 use Rattle.switchboard.specs.Knowing.{either_abort, state_of, both_seen, with_seen, numbers, makes, made_by, counted_up, counted_down}
 use Rattle.switchboard.specs.Knowing.{made_abort, taken_in}
 use Rattle.switchboard.specs.PerBox.{View, flag, Saw, Rule, Looked, Raised, TookIn, Seat, owed}
-use Rattle.switchboard.specs.PerBoxFacts.{Grows, grows_same, saw_grows, saw_all, sound_with, closed_at_zero, fewer_dones, news_is, rebuilt}
-use Rattle.switchboard.specs.PerBoxFacts.{locks_still, made_still}
+use Rattle.switchboard.specs.Proved.PerBoxFacts.{Grows, grows_same, saw_grows, saw_all, sound_with, closed_at_zero, fewer_dones, news_is, rebuilt}
+use Rattle.switchboard.specs.Proved.PerBoxFacts.{locks_still, made_still}
 
 flag_small : (a : Option Abort) → flag a ≤ 2 ^ 63
 flag_small None = omega arith

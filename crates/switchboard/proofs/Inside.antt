@@ -13,7 +13,7 @@ use Rattle.switchboard.specs.Sights.{State, Sight, abort_of}
 use Rattle.switchboard.specs.Books.{with_entry, Answers, Refuses}
 use Rattle.switchboard.specs.Passes.{calls_of, share, sight_of, Comes, IsPass}
 use Rattle.switchboard.specs.Promises.{Took, Added, MadeAbort}
-use Rattle.switchboard.specs.Entries.{Allowed}
+use Rattle.switchboard.specs.Proved.Entries.{Allowed}
 use Rattle.switchboard.proofs.Visits.{Kept, Visit, Found, found_here, shows, showing, step_keeps, adds}
 use Rattle.switchboard.proofs.Visits.{aborts, take_step, post_step, job_found, job_allowed, post_allowed, some_calls}
 use Rattle.switchboard.proofs.Visits.{after_shows, moved, pass_stays, take_still, took_is, added_is, post_still, posted_is}

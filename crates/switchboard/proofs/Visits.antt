@@ -9,7 +9,7 @@ use Rattle.std.proofs.lemmas.Option.{same_Some}
 use Rattle.ticket_lock.specs.Lanes.{Standing, Held}
 use Rattle.ticket_lock.specs.History.{EndsIn}
 use Rattle.ticket_lock.specs.Promises.{Entered, MayLeave, Left}
-use Rattle.ticket_lock.specs.Facts.{rises_last, EndsIn-same, StartsWith-refl}
+use Rattle.ticket_lock.specs.Proved.Facts.{rises_last, EndsIn-same, StartsWith-refl}
 use Rattle.post_ledger.specs.declared.event.Event.TheVariants as event
 use Rattle.post_ledger.specs.declared.entry.Entry.{Entry}
 use Rattle.post_ledger.specs.declared.entry.Entry.TheVariants as entry
@@ -27,8 +27,8 @@ use Rattle.switchboard.specs.Sights.{State, Sight, Before, IsSound, abort_of}
 use Rattle.switchboard.specs.Books.{with_entry, Takes, Answers, Refuses}
 use Rattle.switchboard.specs.Promises.{GoesOn, Looked, Added, WasPosted, WasRefused, Took, MadeAbort}
 use Rattle.switchboard.specs.Passes.{is_by, is_complete, latest, calls_of, share, sight_of, Comes, IsPass}
-use Rattle.switchboard.specs.Laws.{before_refl, before_trans}
-use Rattle.switchboard.specs.Entries.{Allowed, sound_push, job_stays}
+use Rattle.switchboard.specs.Proved.Laws.{before_refl, before_trans}
+use Rattle.switchboard.specs.Proved.Entries.{Allowed, sound_push, job_stays}
 
 -- a relation at other ends
 pub moved : {X : Type 0} (R : X → X → Type 0) (s s' t t' : X) → s ≡ s' → t ≡ t' → R s t → R s' t'

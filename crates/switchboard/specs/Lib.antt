@@ -2,13 +2,10 @@ pub mod Sights
 pub mod Books
 pub mod Promises
 pub mod Passes
-pub mod Laws
+pub mod Proved
 pub mod Unwraps
-pub mod Entries
 pub mod Knowing
 pub mod PerBox
-pub mod PerBoxFacts
-pub mod PerBoxOpens
 pub mod BoxPasses
 pub mod BoxAnswers
 pub mod BoxEnds

@@ -29,7 +29,7 @@ impl<W, M: Mail<W>, A: Allocator> LockRule<
 > for Boxes {
     ghost use Rattle.switchboard.specs.Knowing.{hand_at};
     ghost use Rattle.switchboard.specs.PerBox.{IsBox, Asks, Tells};
-    ghost use Rattle.switchboard.specs.PerBoxOpens.{boxes_open};
+    ghost use Rattle.switchboard.specs.Proved.PerBoxOpens.{boxes_open};
 
     ghost is_place = { IsBox };
 

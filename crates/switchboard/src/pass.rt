@@ -11,7 +11,7 @@ use ticket_lock::{Lane, LaneLaw, Note};
 // A state comes before those that go on from it. A pass's own part is what it made itself.
 impl<W, M: Mail<W>, A: Allocator> LaneLaw for Book<M, W, A> {
     ghost use Rattle.switchboard.specs.Passes.{share, Comes};
-    ghost use Rattle.switchboard.specs.Laws.{comes_refl, comes_trans};
+    ghost use Rattle.switchboard.specs.Proved.Laws.{comes_refl, comes_trans};
 
     type Part = (LinkedList<Entry<M>>, bool);
 

@@ -3,6 +3,7 @@ use Rattle.std.specs.Prelude.{Result, Ok, Err, IfOk, IfErr, MatchResult}
 use Rattle.std.proofs.Common.{◌≡◌, ℕ, ◌≤◌, List, [], length, Some, refl, sym, ◌∙◌, inr}
 use Rattle.std.specs.Str.{IsAscii}
 use Rattle.language.specs.Tree.{Tree}
+use Rattle.tokens.specs.Limits.{most_bytes}
 use Rattle.tokens.specs.Token.{Tok}
 use Rattle.tokens.specs.Cuts.{Cuts}
 use Rattle.tokens.specs.Depth.{TooDeep}
@@ -16,7 +17,7 @@ use Rattle.trees.specs.Trees.{tree_of}
 use Rattle.syntax.proofs.Fixes.{both}
 use Rattle.syntax.proofs.Programs.{program_finds, program_reads}
 
-module _ (A : Type 0) (bytes : List ℕ) (tokens : List Tok) (within : length bytes ≤ 65536) (ascii : IsAscii bytes) (cut : Cuts 0 bytes tokens) (only : (others : List Tok) → Cuts 0 bytes others → others ≡ tokens) (shallow : TooDeep tokens → ⊥) where
+module _ (A : Type 0) (bytes : List ℕ) (tokens : List Tok) (within : length bytes ≤ most_bytes) (ascii : IsAscii bytes) (cut : Cuts 0 bytes tokens) (only : (others : List Tok) → Cuts 0 bytes others → others ≡ tokens) (shallow : TooDeep tokens → ⊥) where
   reads : (tree : Tree) → Text bytes tree → program tokens ≡ Some (tree, [])
   reads tree text = program_reads tokens tree (rw (only text.tokens text.cut) at text.program)
 

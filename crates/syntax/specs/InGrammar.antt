@@ -2,6 +2,7 @@
 use Rattle.std.specs.Prelude.{ℕ, ◌<◌, ◌≤◌, List, length, Option, Some, None}
 use Rattle.std.specs.List.{AllByRecursion}
 use Rattle.language.specs.Tree.{Name, Expression, const, var, negation, two, RightSide, any, value, Simple, skip, assign, assert, assume, goto, leave, call, Block, done, one, choose, loop, Procedure, ThreadLine, Tree}
+use Rattle.tokens.specs.Limits.{most_bytes}
 use Rattle.tokens.specs.Spelling.{IsName}
 use Rattle.syntax.specs.Grammar.{IsSome}
 use Rattle.syntax.specs.Text.{Text, DeepTokens}
@@ -71,9 +72,9 @@ pub record InGrammar (t : Tree) : Type 0 where
   pub some_thread : 0 < length t.threads
   pub threads : AllByRecursion ThreadInGrammar t.threads
 
--- The bytes are within the limits of texts: at most 65,536, and not cut into tokens that are too deep.
+-- The bytes are within the limits of texts: at most 65,536 (`most_bytes`), and not cut into tokens that are too deep.
 pub record WithinLimits (bytes : List ℕ) : Type 0 where
-  pub few : length bytes ≤ 65536
+  pub few : length bytes ≤ most_bytes
   pub shallow : DeepTokens bytes → ⊥
 
 -- The bytes are the text of a program with this tree, offsets aside.

@@ -2,6 +2,7 @@
 use Rattle.std.specs.Prelude.{ℕ, ◌<◌, ◌≤◌, ◌⊎◌, List, length}
 use Rattle.std.specs.Str.{IsAscii}
 use Rattle.language.specs.Tree.{Tree}
+use Rattle.tokens.specs.Limits.{most_bytes}
 use Rattle.tokens.specs.Token.{Tok}
 use Rattle.tokens.specs.Cuts.{Cuts, BadAt}
 use Rattle.tokens.specs.Depth.{TooDeep}
@@ -12,7 +13,7 @@ use Rattle.syntax.specs.Grammar.{IsProgram}
 -- The bytes are the text of a program with this tree: they are at most 65,536 and ASCII, they are cut into tokens
 -- that are not too deep, and the tokens are a program with this tree by the grammar.
 pub record Text (bytes : List ℕ) (tree : Tree) : Type 0 where
-  pub within : length bytes ≤ 65536
+  pub within : length bytes ≤ most_bytes
   pub ascii : IsAscii bytes
   pub tokens : List Tok
   pub cut : Cuts 0 bytes tokens
@@ -31,11 +32,11 @@ NoProgram bytes = (tokens : List Tok) × Cuts 0 bytes tokens × (TooDeep tokens 
 -- up to which the bytes are cut into tokens and where no token begins; tokens that are too deep; tokens that are no
 -- program. Want of memory may come wherever the bytes are not too many and ASCII: those two tests take none.
 abbrev pub Stands : ReadFault → List ℕ → Type 0
-Stands fault.TooLong bytes = 65536 < length bytes
-Stands fault.NotAscii bytes = (length bytes ≤ 65536) × (IsAscii bytes → ⊥)
-Stands (fault.Syntax at) bytes = (length bytes ≤ 65536) × IsAscii bytes × (BadAt 0 bytes at ⊎ NoProgram bytes)
-Stands fault.TooDeep bytes = (length bytes ≤ 65536) × IsAscii bytes × DeepTokens bytes
-Stands fault.Memory bytes = (length bytes ≤ 65536) × IsAscii bytes
+Stands fault.TooLong bytes = most_bytes < length bytes
+Stands fault.NotAscii bytes = (length bytes ≤ most_bytes) × (IsAscii bytes → ⊥)
+Stands (fault.Syntax at) bytes = (length bytes ≤ most_bytes) × IsAscii bytes × (BadAt 0 bytes at ⊎ NoProgram bytes)
+Stands fault.TooDeep bytes = (length bytes ≤ most_bytes) × IsAscii bytes × DeepTokens bytes
+Stands fault.Memory bytes = (length bytes ≤ most_bytes) × IsAscii bytes
 
 -- The faults are tested in the order of these numbers, but that the tokens are tested for being a program last.
 abbrev pub number : ReadFault → ℕ

@@ -9,11 +9,8 @@ ghost use Rattle.syntax.specs.declared.fault.ReadFault.TheVariants.{Memory};
 use crate::fault::ReadFault;
 use crate::reader::Reader;
 use std::alloc::Allocator;
-use tokens::{as_ascii, cut, is_too_deep};
+use tokens::{MOST_BYTES, as_ascii, cut, is_too_deep};
 use trees::Program;
-
-/// A text has at most so many bytes.
-const LIMIT: usize = 65536;
 
 /// Reads a text: its tree, with the offset of each name and statement. The faults are tested in the order of their
 /// numbers, but `Syntax`, which comes before `TooDeep` where the text is no list of tokens, and after it where the
@@ -27,7 +24,7 @@ pub fn read<A: Allocator + Clone>(alloc: A, bytes: &[u8]) -> Result<Program<A>, 
     // A fault that is answered stands.
     ensures fault { IfErr result (λ fault. Stands fault bytes.now) }
 {
-    if bytes.len() > LIMIT {
+    if bytes.len() > MOST_BYTES {
         return Err(ReadFault::TooLong);
     }
     let Some(text) = as_ascii(bytes) else {

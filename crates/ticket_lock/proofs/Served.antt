@@ -17,7 +17,7 @@ use Rattle.ticket_lock.specs.Calls.{Enters, Came}
 use Rattle.ticket_lock.specs.Lone.{hand_of, Tells, TookIn, merged, new_view}
 use Rattle.ticket_lock.specs.Lanes.{Standing, Held, Told, standing}
 use Rattle.ticket_lock.specs.Promises.{Drew, Served, Entered, Learned}
-use Rattle.ticket_lock.specs.Facts.{times-snoc, times-one}
+use Rattle.ticket_lock.specs.Proved.Facts.{times-snoc, times-one}
 
 -- the last of a list is the first of its kind
 without-snoc : (n : ℕ) (xs : List ℕ) → times n xs ≡ 0 → without n (xs ++ n ∷ []) ≡ xs

@@ -5,7 +5,6 @@ pub mod Turns
 pub mod Drawing
 pub mod Calls
 pub mod Lone
-pub mod Facts
-pub mod LoneOpens
+pub mod Proved
 pub mod Lanes
 pub mod Promises

@@ -18,7 +18,7 @@ impl<T: LaneLaw> TableRule<Option<T>, View<T>, Opening<T>> for Alone {
 
 impl<T: LaneLaw> LockRule<T, View<T>, Opening<T>> for Alone {
     ghost use Rattle.ticket_lock.specs.Lone.{IsStart, hand_of, Asks, Tells};
-    ghost use Rattle.ticket_lock.specs.LoneOpens.{lone_opens};
+    ghost use Rattle.ticket_lock.specs.Proved.LoneOpens.{lone_opens};
 
     ghost is_place = { IsStart };
 

@@ -1,3 +1,4 @@
+pub mod Limits
 pub mod Token
 pub mod Spelling
 pub mod Cuts

@@ -4,6 +4,7 @@ ghost use Rattle.std.specs.Prelude.{◌≡◌, ◌≤◌, ℕ, List, length, IfO
 ghost use Rattle.std.specs.Str.{IsAscii};
 ghost use Rattle.tokens.specs.Cuts.{Cuts, BadAt};
 ghost use Rattle.tokens.specs.Fault.{NamesPlace, IsUncut};
+ghost use Rattle.tokens.specs.Limits.{most_bytes};
 ghost use Rattle.tokens.specs.declared.cutting.CutFault.TheVariants.{Memory};
 ghost use Rattle.tokens.specs.Token.{Tok, toks_of};
 
@@ -34,7 +35,7 @@ impl<T: Drop> From<AllocFailed<T>> for CutFault {
 /// The tokens of a text, in order.
 pub fn cut<'a, A: Allocator>(alloc: A, text: &'a str) -> Result<Vec<Token<'a>, A>, CutFault>
     requires ascii { IsAscii text.now }
-    requires within { length text.now ≤ 65536 }
+    requires within { length text.now ≤ most_bytes }
     ensures cuts { IfOk result (λ tokens. Cuts 0 text.now (toks_of tokens.items)) }
     ensures only { IfOk result
         (λ tokens. (others : List Tok) → Cuts 0 text.now others → others ≡ toks_of tokens.items) }

@@ -3,6 +3,7 @@
 
 mod cutting;
 mod depth;
+mod limits;
 mod parts;
 mod piece;
 mod text;
@@ -11,6 +12,7 @@ mod words;
 
 pub use cutting::{CutFault, cut, cutting_is_unique};
 pub use depth::is_too_deep;
+pub use limits::MOST_BYTES;
 pub use parts::parts_are_cut;
 pub use text::as_ascii;
 pub use vocabulary::{Kind, Token};

@@ -1,6 +1,6 @@
 -- The reply is the answer where there is a report, and else tells the refusal that stands.
 use Rattle.std.proofs.Common.{Some, inl, inr}
-use Rattle.summaries.specs.Limits.{most_of}
+use Rattle.path_sets.specs.EdgeLimits.{most_of}
 use Rattle.round_rewrite.specs.Programs.{count_of}
 use Rattle.scopes.specs.Programs.{checked_tree}
 use Rattle.cli.specs.Written.{bytes_of}

@@ -5,7 +5,7 @@ use Rattle.syntax.specs.Text.{Text}
 use Rattle.scopes.specs.Checked.{IsChecked}
 use Rattle.scopes.specs.Programs.{checked_tree}
 use Rattle.round_rewrite.specs.Programs.{count_of}
-use Rattle.summaries.specs.Limits.{most_of}
+use Rattle.path_sets.specs.EdgeLimits.{most_of}
 use Rattle.gather.specs.Reports.{IsNoReport}
 use Rattle.summaries.specs.declared.no_verdict.NoVerdict.{NoVerdict}
 use Rattle.summaries.specs.declared.no_verdict.NoVerdict.TheVariants as cause

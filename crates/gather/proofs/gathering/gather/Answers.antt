@@ -1,6 +1,6 @@
 -- Where no end names a cause the tables are full; else the least cause is answered.
 use Rattle.std.proofs.Common.{sym, ◌∙◌, subst}
-use Rattle.summaries.specs.Limits.{most_of}
+use Rattle.path_sets.specs.EdgeLimits.{most_of}
 use Rattle.summaries.specs.Together.{HaveLimit, AreFull}
 use Rattle.gather.specs.Gathered.{ends_of, NoneFailed}
 use Rattle.gather.proofs.Causes.{by_memory}

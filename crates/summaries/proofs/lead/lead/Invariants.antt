@@ -2,7 +2,7 @@ use Rattle.std.proofs.Common.{◌≤◌, ◌-◌, length}
 use Rattle.summaries.specs.Grows.{Grows, IsNextBefore}
 use Rattle.flow_graph.specs.Flows.{last_of}
 use Rattle.summaries.proofs.lead.lead.Given as goal
-use Rattle.summaries.specs.Limits.{most_of}
+use Rattle.path_sets.specs.EdgeLimits.{most_of}
 
 abbrev pub invariant-choices : goal.invariant-choices
 invariant-choices g l =

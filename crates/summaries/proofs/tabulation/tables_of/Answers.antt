@@ -4,7 +4,7 @@ use Rattle.summaries.specs.declared.table.Table.{Table}
 use Rattle.summaries.specs.Tables.{graph_of, IsNew}
 use Rattle.summaries.proofs.Replaced.{each_pushed, map_is}
 use Rattle.summaries.proofs.tabulation.tables_of.Goals as goal
-use Rattle.summaries.specs.Limits.{most_of}
+use Rattle.path_sets.specs.EdgeLimits.{most_of}
 
 pub loop-procedure-preserved : goal.loop-procedure-preserved
 loop-procedure-preserved g c =

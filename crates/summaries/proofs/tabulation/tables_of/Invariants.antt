@@ -3,7 +3,7 @@ use Rattle.std.proofs.Common.{◌≡◌, ℕ, Some, length, slice_get}
 use Rattle.summaries.specs.declared.table.Table.{Table}
 use Rattle.summaries.specs.Tables.{IsNew}
 use Rattle.summaries.proofs.tabulation.tables_of.Given as goal
-use Rattle.summaries.specs.Limits.{most_of}
+use Rattle.path_sets.specs.EdgeLimits.{most_of}
 
 abbrev pub invariant-loop-procedure : goal.invariant-loop-procedure
 invariant-loop-procedure g l = record {

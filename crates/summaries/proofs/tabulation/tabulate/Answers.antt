@@ -7,7 +7,7 @@ use Rattle.summaries.specs.Together.{HaveLimit, AreFull}
 use Rattle.summaries.proofs.tabulation.tabulate.Given.{Over}
 use Rattle.summaries.proofs.tabulation.tabulate.Goals as goal
 use Rattle.summaries.proofs.tabulation.tabulate.Goals.{In_ok-collect}
-use Rattle.summaries.specs.Limits.{most_of}
+use Rattle.path_sets.specs.EdgeLimits.{most_of}
 
 pub run-requires : goal.run-requires
 run-requires g c κs within =

@@ -12,7 +12,7 @@ use Rattle.summaries.proofs.Worked.{failed_worked, refused_worked}
 use Rattle.summaries.proofs.table.Table.begin.Given.{Over}
 use Rattle.summaries.proofs.table.Table.begin.Goals as goal
 use Rattle.summaries.proofs.table.Table.begin.Goals.{After-add}
-use Rattle.summaries.specs.Limits.{most_of}
+use Rattle.path_sets.specs.EdgeLimits.{most_of}
 
 pub returns-then-contains-clause-worked : goal.returns-then-contains-clause-worked
 returns-then-contains-clause-worked g c = record {

@@ -13,7 +13,7 @@ use Rattle.summaries.proofs.Working.{beyond_worked, called_worked, led_worked}
 use Rattle.summaries.proofs.Stepping.{still_holds, worked_off, both_ok, all_reached, taken_as}
 use Rattle.summaries.proofs.Worked.{refused_worked, then_worked, added_worked}
 use Rattle.summaries.proofs.table.Table.work.Goals as goal
-use Rattle.summaries.specs.Limits.{most_of}
+use Rattle.path_sets.specs.EdgeLimits.{most_of}
 
 pub returns-in_err-leave-clause-worked : goal.returns-in_err-leave-clause-worked
 returns-in_err-leave-clause-worked g c =

@@ -1,6 +1,6 @@
 -- The passes' lanes are all lanes of the lock.
 use Rattle.std.proofs.Common.{◌<◌, ◌∙◌, sym, ap, subst, arith}
-use Rattle.ticket_lock.specs.Facts.{at_inside}
+use Rattle.ticket_lock.specs.Proved.Facts.{at_inside}
 use Rattle.switchboard.specs.declared.lanes.Lanes.{Lanes}
 use Rattle.switchboard.specs.Promises.{AreAll}
 use Rattle.switchboard.proofs.Settling.{settles_is, idle_along, drained_length, all_pairs, Pairs}

@@ -14,8 +14,8 @@ use Rattle.ticket_lock.specs.Count.{times}
 use Rattle.ticket_lock.specs.History.{StartsWith, EndsIn, IsRising}
 use Rattle.ticket_lock.specs.Turns.{draws, waits, enters, passes, Kept, Follows, Opens}
 use Rattle.ticket_lock.specs.Lone.{IsStart, hand_of, numbers, Knows, Lone, Asks, Tells}
-use Rattle.ticket_lock.specs.Facts.{total_set, total_two, at_set, set_here, set_else, at_inside, map-set, times-one, StartsWith-more}
-use Rattle.ticket_lock.specs.Facts.{EndsIn-same, EndsIn-more, rises_on}
+use Rattle.ticket_lock.specs.Proved.Facts.{total_set, total_two, at_set, set_here, set_else, at_inside, map-set, times-one, StartsWith-more}
+use Rattle.ticket_lock.specs.Proved.Facts.{EndsIn-same, EndsIn-more, rises_on}
 
 module _ {T : Type 0} where
   -- a lane of the view is among its numbers

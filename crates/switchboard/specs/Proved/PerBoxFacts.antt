@@ -14,7 +14,7 @@ use Rattle.ticket_lock.specs.Count.{times, total}
 use Rattle.ticket_lock.specs.History.{StartsWith, EndsIn}
 use Rattle.ticket_lock.specs.Core.{Core}
 use Rattle.ticket_lock.specs.Turns.{Kept}
-use Rattle.ticket_lock.specs.Facts.{total_set, total_two, at_set, set_again, map-set, at-map, times-one, StartsWith-refl, StartsWith-trans}
+use Rattle.ticket_lock.specs.Proved.Facts.{total_set, total_two, at_set, set_again, map-set, at-map, times-one, StartsWith-refl, StartsWith-trans}
 use Rattle.post_ledger.specs.declared.event.Event.{Event}
 use Rattle.post_ledger.specs.declared.entry.Entry.{Entry}
 use Rattle.post_ledger.specs.History.{posts, dones}

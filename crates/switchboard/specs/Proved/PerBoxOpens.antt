@@ -12,7 +12,7 @@ use Rattle.ticket_lock.specs.declared.hand.Hand.{Hand}
 use Rattle.ticket_lock.specs.Count.{times, total}
 use Rattle.ticket_lock.specs.History.{EndsIn}
 use Rattle.ticket_lock.specs.Turns.{draws, waits, enters, passes, Kept, Follows, Opens}
-use Rattle.ticket_lock.specs.Facts.{set_here, at_inside, at-map, times-one, EndsIn-same, EndsIn-more, StartsWith-refl}
+use Rattle.ticket_lock.specs.Proved.Facts.{set_here, at_inside, at-map, times-one, EndsIn-same, EndsIn-more, StartsWith-refl}
 use Rattle.post_ledger.specs.declared.event.Event.{Event}
 use Rattle.post_ledger.specs.declared.event.Event.TheVariants.{Post, Take, Done}
 use Rattle.post_ledger.specs.declared.entry.Entry.{Entry}
@@ -24,11 +24,11 @@ use Rattle.switchboard.specs.declared.knowing.Ground.{Ground}
 use Rattle.switchboard.specs.declared.knowing.Seen.{Seen}
 use Rattle.switchboard.specs.declared.knowing.Own.{Own}
 use Rattle.switchboard.specs.Sights.{IsSound}
-use Rattle.switchboard.specs.Entries.{Allowed, sound_push, job_stays}
+use Rattle.switchboard.specs.Proved.Entries.{Allowed, sound_push, job_stays}
 use Rattle.switchboard.specs.Knowing.{entry_of, owes_after, with_event, made_by, state_of, hand_at, with_hand, with_seen, numbers, makes}
 use Rattle.switchboard.specs.PerBox.{View, word_of, IsBox, Saw, Knows, Rule, MayRecord, Asks, Recorded, Tells, Boxes, Homes, owed}
-use Rattle.switchboard.specs.PerBoxFacts.{hand_here, hand_else, has_hand, closed_at_zero, Grows, grows_same, saw_grows, saw_all, news_is}
-use Rattle.switchboard.specs.PerBoxFacts.{made_still, rebuilt, locks_after}
+use Rattle.switchboard.specs.Proved.PerBoxFacts.{hand_here, hand_else, has_hand, closed_at_zero, Grows, grows_same, saw_grows, saw_all, news_is}
+use Rattle.switchboard.specs.Proved.PerBoxFacts.{made_still, rebuilt, locks_after}
 
 module _ {M : Type 0} where
   entry_box : (q under : ℕ) (e : Event M) → mailbox_of (entry_of q under e) ≡ q
@@ -275,8 +275,8 @@ module _ {M W : Type 0} (fits : W → ℕ → M → Type 0) (g : Ground M W) whe
                   idle = λ none. absurd (omega arith);
                 } (sym named) (λ k. sym (ap (total (made_by k)) lanes)) in
                 let news = news_is fits g s r id v is_at order r.first r.low (owed (set s.views id w)) z sound.lawful
-                (Rattle.switchboard.specs.PerBoxFacts.count_after fits g s r id v is_at order r.low w count) saw
-                (Rattle.ticket_lock.specs.Facts.StartsWith-trans order r.order v.seen.order on.begins mine.saw.begins) (λ b k. k)
+                (Rattle.switchboard.specs.Proved.PerBoxFacts.count_after fits g s r id v is_at order r.low w count) saw
+                (Rattle.ticket_lock.specs.Proved.Facts.StartsWith-trans order r.order v.seen.order on.begins mine.saw.begins) (λ b k. k)
                 (λ k. k) in
                 let done : Recorded fits q o e x v w = record {
                   front = r.order;

@@ -1,6 +1,6 @@
 -- What callers see of a limit.
 use Rattle.std.specs.Prelude.{ℕ}
-use Rattle.summaries.specs.declared.edge_limit.EdgeLimit.{EdgeLimit}
+use Rattle.path_sets.specs.declared.edge_limit.EdgeLimit.{EdgeLimit}
 
 -- how many path edges the table of one procedure may hold
 abbrev pub most_of : EdgeLimit → ℕ

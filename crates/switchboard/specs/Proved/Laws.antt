@@ -1,6 +1,6 @@
 -- The law of the states that a lock keeps for a board.
 use Rattle.std.proofs.Common.{ℕ, refl, ◌∙◌}
-use Rattle.ticket_lock.specs.Facts.{StartsWith-refl, StartsWith-trans}
+use Rattle.ticket_lock.specs.Proved.Facts.{StartsWith-refl, StartsWith-trans}
 use Rattle.switchboard.specs.Sights.{State, Before}
 use Rattle.switchboard.specs.Passes.{Comes}
 

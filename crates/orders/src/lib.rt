@@ -1,0 +1,6 @@
+//! What is asked of a text.
+#![tactic(auto)]
+
+mod order;
+
+pub use order::Order;

@@ -1,0 +1,3 @@
+-- What is proved of the definitions because a type or a trait carries it. A reader of contracts may leave it out.
+pub mod Facts
+pub mod LoneOpens
