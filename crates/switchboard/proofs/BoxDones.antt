@@ -14,7 +14,7 @@ use Rattle.post_ledger.specs.declared.entry.Entry.TheVariants.{Completed}
 use Rattle.post_ledger.specs.History.{takes, dones}
 use Rattle.post_ledger.specs.Orders.{own, HasJob}
 use Rattle.switchboard.specs.declared.calls.Cause.{Cause}
-use Rattle.switchboard.specs.declared.knowing.Seen.{Seen}
+use Rattle.switchboard.specs.declared.lock_per_box.knowing.Seen.{Seen}
 use Rattle.switchboard.specs.Sights.{Sight}
 use Rattle.switchboard.specs.Promises.{WasDone, Added, MadeAbort}
 use Rattle.switchboard.specs.Proved.Entries.{job_stays}

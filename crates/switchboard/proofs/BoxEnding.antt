@@ -22,8 +22,8 @@ use Rattle.post_ledger.specs.Orders.{part, own, IsClosed}
 use Rattle.post_ledger.proofs.Histories.{at_seam}
 use Rattle.post_ledger.proofs.Orders.{element_at, counted_closed}
 use Rattle.switchboard.specs.declared.calls.Abort.{Abort}
-use Rattle.switchboard.specs.declared.knowing.Ground.{Ground}
-use Rattle.switchboard.specs.declared.knowing.Own.{Own}
+use Rattle.switchboard.specs.declared.lock_per_box.knowing.Ground.{Ground}
+use Rattle.switchboard.specs.declared.lock_per_box.knowing.Own.{Own}
 use Rattle.switchboard.specs.Sights.{Sight, IsSound}
 use Rattle.switchboard.specs.Promises.{AreAll, Settles}
 use Rattle.switchboard.specs.Knowing.{bare, merged_hands, made_by, state_of, hand_at, numbers, makes, merged, taken_in}

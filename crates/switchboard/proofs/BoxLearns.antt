@@ -11,7 +11,7 @@ use Rattle.ticket_lock.proofs.LoneSteps.{longer_first, longer_second}
 use Rattle.post_ledger.specs.declared.event.Event.{Event}
 use Rattle.post_ledger.specs.Orders.{own}
 use Rattle.switchboard.specs.declared.calls.Abort.{Abort}
-use Rattle.switchboard.specs.declared.knowing.Seen.{Seen}
+use Rattle.switchboard.specs.declared.lock_per_box.knowing.Seen.{Seen}
 use Rattle.switchboard.specs.Sights.{Sight, Account}
 use Rattle.switchboard.specs.Promises.{Learned}
 use Rattle.switchboard.specs.Knowing.{bare, merged_hands, either_abort, both_seen, only_seen, merged, taken_in}

@@ -18,8 +18,8 @@ use Rattle.post_ledger.specs.declared.entry.Entry.{Entry}
 use Rattle.post_ledger.specs.declared.entry.Entry.TheVariants.{Posted}
 use Rattle.post_ledger.specs.Orders.{part, own}
 use Rattle.post_ledger.proofs.Orders.{own_else}
-use Rattle.switchboard.specs.declared.knowing.Ground.{Ground}
-use Rattle.switchboard.specs.declared.knowing.Own.{Own}
+use Rattle.switchboard.specs.declared.lock_per_box.knowing.Ground.{Ground}
+use Rattle.switchboard.specs.declared.lock_per_box.knowing.Own.{Own}
 use Rattle.switchboard.specs.Sights.{Sight, IsSound, opened, fresh_sight, fresh_sights}
 use Rattle.switchboard.specs.Knowing.{bare, bares, owns_from, first_seen, state_of, hand_at, first_view, less_one, just_one}
 use Rattle.switchboard.specs.PerBox.{View, word_of, IsSized, Knows, Stands, Rule, Seat}

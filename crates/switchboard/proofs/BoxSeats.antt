@@ -15,9 +15,9 @@ use Rattle.ticket_lock.proofs.CoreSteps.{core_same}
 use Rattle.post_ledger.specs.declared.event.Event.{Event}
 use Rattle.post_ledger.specs.declared.entry.Entry.{Entry}
 use Rattle.switchboard.specs.declared.calls.Abort.{Abort}
-use Rattle.switchboard.specs.declared.knowing.Ground.{Ground}
-use Rattle.switchboard.specs.declared.knowing.Seen.{Seen}
-use Rattle.switchboard.specs.declared.knowing.Own.{Own}
+use Rattle.switchboard.specs.declared.lock_per_box.knowing.Ground.{Ground}
+use Rattle.switchboard.specs.declared.lock_per_box.knowing.Seen.{Seen}
+use Rattle.switchboard.specs.declared.lock_per_box.knowing.Own.{Own}
 use Rattle.switchboard.specs.Knowing.{bare, merged_hands, unseen, made_by, hand_at, numbers, makes, only_seen, merged}
 use Rattle.switchboard.specs.PerBox.{View, word_of, Saw, Knows, Rule, Boxes}
 

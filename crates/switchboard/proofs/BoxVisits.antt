@@ -7,7 +7,7 @@ use Rattle.ticket_lock.specs.declared.hand.Hand.{Hand}
 use Rattle.ticket_lock.specs.Count.{without}
 use Rattle.ticket_lock.specs.Calls as lock
 use Rattle.post_ledger.specs.declared.event.Event.{Event}
-use Rattle.switchboard.specs.declared.knowing.Seen.{Seen}
+use Rattle.switchboard.specs.declared.lock_per_box.knowing.Seen.{Seen}
 use Rattle.switchboard.specs.Knowing.{hand_at, with_hand, with_seen}
 use Rattle.switchboard.specs.PerBox.{View, IsReady, Tells, IsInside, News, HasOwn, Seat}
 

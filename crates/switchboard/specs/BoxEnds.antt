@@ -10,8 +10,8 @@ use Rattle.post_ledger.specs.declared.event.Event.{Event}
 use Rattle.post_ledger.specs.declared.entry.Entry.{Entry}
 use Rattle.post_ledger.specs.Orders.{part, own, IsClosed}
 use Rattle.switchboard.specs.declared.calls.Abort.{Abort}
-use Rattle.switchboard.specs.declared.knowing.Ground.{Ground}
-use Rattle.switchboard.specs.declared.knowing.Own.{Own}
+use Rattle.switchboard.specs.declared.lock_per_box.knowing.Ground.{Ground}
+use Rattle.switchboard.specs.declared.lock_per_box.knowing.Own.{Own}
 use Rattle.switchboard.specs.Sights.{Sight, IsSound}
 use Rattle.switchboard.specs.Knowing.{unseen, state_of, hand_at, numbers}
 use Rattle.switchboard.specs.PerBox.{View, Saw, Seat}

@@ -7,8 +7,8 @@ use Rattle.atomic_table.specs.Seated.{TableId}
 use Rattle.ticket_lock.specs.declared.hand.Hand.{Hand}
 use Rattle.post_ledger.specs.declared.event.Event.{Event}
 use Rattle.post_ledger.specs.Orders.{own, IsClosed}
-use Rattle.switchboard.specs.declared.knowing.Ground.{Ground}
-use Rattle.switchboard.specs.declared.knowing.Seen.{Seen}
+use Rattle.switchboard.specs.declared.lock_per_box.knowing.Ground.{Ground}
+use Rattle.switchboard.specs.declared.lock_per_box.knowing.Seen.{Seen}
 use Rattle.switchboard.specs.Sights.{State, Sight, Account, IsSound}
 use Rattle.switchboard.specs.Knowing.{unseen, only_seen, hand_at}
 use Rattle.switchboard.specs.PerBox.{View, IsSized, Seat}

@@ -18,10 +18,10 @@ use Rattle.post_ledger.specs.declared.entry.Entry.{Entry}
 use Rattle.post_ledger.specs.History.{MayFollow}
 use Rattle.post_ledger.specs.Orders.{part, own, posted, completed, HasJob, IsClosed}
 use Rattle.switchboard.specs.declared.calls.Abort.{Abort}
-use Rattle.switchboard.specs.declared.knowing.Ground.{Ground}
-use Rattle.switchboard.specs.declared.knowing.Seen.{Seen}
-use Rattle.switchboard.specs.declared.knowing.Own.{Own}
-use Rattle.switchboard.specs.declared.knowing.Knowing.{Knowing}
+use Rattle.switchboard.specs.declared.lock_per_box.knowing.Ground.{Ground}
+use Rattle.switchboard.specs.declared.lock_per_box.knowing.Seen.{Seen}
+use Rattle.switchboard.specs.declared.lock_per_box.knowing.Own.{Own}
+use Rattle.switchboard.specs.declared.lock_per_box.knowing.Knowing.{Knowing}
 use Rattle.switchboard.specs.Sights.{IsSound}
 use Rattle.switchboard.specs.Knowing.{entry_of, owes_after, with_event, state_of, hand_at, with_hand}
 use Rattle.switchboard.specs.Knowing.{with_seen, numbers, makes, made_abort, taken_in}

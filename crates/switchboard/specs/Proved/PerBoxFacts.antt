@@ -21,9 +21,9 @@ use Rattle.post_ledger.specs.History.{posts, dones}
 use Rattle.post_ledger.specs.Orders.{part, own, posted, completed, IsLawful, IsClosed}
 use Rattle.post_ledger.proofs.Orders.{sum_le, posted_is, completed_is, sizes_of, dones_few, counted_closed}
 use Rattle.switchboard.specs.declared.calls.Abort.{Abort}
-use Rattle.switchboard.specs.declared.knowing.Ground.{Ground}
-use Rattle.switchboard.specs.declared.knowing.Seen.{Seen}
-use Rattle.switchboard.specs.declared.knowing.Own.{Own}
+use Rattle.switchboard.specs.declared.lock_per_box.knowing.Ground.{Ground}
+use Rattle.switchboard.specs.declared.lock_per_box.knowing.Seen.{Seen}
+use Rattle.switchboard.specs.declared.lock_per_box.knowing.Own.{Own}
 use Rattle.switchboard.specs.Sights.{IsSound}
 use Rattle.switchboard.specs.Knowing.{bare, state_of, hand_at, with_hand, numbers, makes}
 use Rattle.switchboard.specs.PerBox.{View, word_of, flag, Saw, Knows, Stands, Rule, News, Boxes, Homes, owed}

@@ -20,9 +20,9 @@ use Rattle.post_ledger.specs.History.{MayFollow}
 use Rattle.post_ledger.specs.Orders.{mailbox_of, event_of, maker_of, part, own, posted, completed}
 use Rattle.post_ledger.proofs.Orders.{part-append, part_here, part_else, own-append, own_here, own_else, posted-append, completed-append}
 use Rattle.post_ledger.proofs.Orders.{nothing_follows}
-use Rattle.switchboard.specs.declared.knowing.Ground.{Ground}
-use Rattle.switchboard.specs.declared.knowing.Seen.{Seen}
-use Rattle.switchboard.specs.declared.knowing.Own.{Own}
+use Rattle.switchboard.specs.declared.lock_per_box.knowing.Ground.{Ground}
+use Rattle.switchboard.specs.declared.lock_per_box.knowing.Seen.{Seen}
+use Rattle.switchboard.specs.declared.lock_per_box.knowing.Own.{Own}
 use Rattle.switchboard.specs.Sights.{IsSound}
 use Rattle.switchboard.specs.Proved.Entries.{Allowed, sound_push, job_stays}
 use Rattle.switchboard.specs.Knowing.{entry_of, owes_after, with_event, made_by, state_of, hand_at, with_hand, with_seen, numbers, makes}

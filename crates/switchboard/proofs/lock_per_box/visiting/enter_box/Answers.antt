@@ -1,0 +1,17 @@
+use Rattle.std.proofs.Common.{sym, subst}
+use Rattle.switchboard.specs.Knowing.{hand_at}
+use Rattle.switchboard.specs.PerBox.{IsReady, IsInside}
+use Rattle.switchboard.proofs.BoxVisits.{inside_is}
+use Rattle.switchboard.proofs.lock_per_box.visiting.enter_box.Goals as goal
+
+pub returns : goal.returns
+returns g c =
+    let did = c.enter_at-mailbox.ensures in
+    let m = c.args.seat.now.me in
+    let w = c.enter_at-mailbox.new.seat.me in
+    let x = c.enter_at-mailbox.result.1 in
+    let same = c.from.ensures in (
+      did.0,
+      subst (λ q. IsInside g.M.Mail.fits q x m w) same
+          (inside_is g.M.Mail.fits c.from.result _ x m w (subst (λ q. IsReady (hand_at q m.0)) (sym same) c.requires.ready) did.1),
+    )

@@ -1,0 +1,83 @@
+-- The Take of the job stands and is not completed, so there is room for its Done.
+use Rattle.std.proofs.Common.{refl, ◌<◌, ◌+◌, length, Contains, ap, arith}
+use Rattle.std.specs.Vec.{vec_capacity}
+use Rattle.post_ledger.specs.declared.entry.Entry.TheVariants.{Completed}
+use Rattle.post_ledger.specs.History.{takes, dones}
+use Rattle.post_ledger.proofs.Orders.{job_inside}
+use Rattle.switchboard.proofs.Keeping.{box_at, kept_entry, room_done, few_done, job_inside_is, job_in_box}
+use Rattle.switchboard.proofs.one_lock.book.Book.done.Given as given
+use Rattle.switchboard.proofs.one_lock.book.Book.done.Goals as goal
+
+pub index_mut-mailbox-requires : goal.index_mut-mailbox-requires
+index_mut-mailbox-requires g c =
+    let i = c.self.inside in
+    let has =
+    job_inside_is c.args.by c.args.job c.job.inside.take i.order.items c.args.self.now.order c.job.view_is
+    (ap (λ s. s.order) c.self.view_is) c.requires in
+    let near : c.from.result < length i.mailboxes.items =
+    omega (
+      arith,
+      c.from.ensures,
+      job_inside (length i.mailboxes.items) i.order.items c.args.by c.job.inside.take c.self.invariant.lawful has,
+    ) in
+    omega (arith, near)
+
+-- the job's Take is one of the mailbox, and is not completed there
+there : (g : given.Over) (c : goal.After-index_mut-mailbox g) →
+    let h = c.index_mut-mailbox.result.now in
+    (c.job.inside.take < length (takes h)) × (Contains (dones h) c.job.inside.take → ⊥)
+there g c =
+    let i = c.self.inside in
+    let has = job_inside_is c.args.by c.args.job c.job.inside.take i.order.items c.args.self.now.order c.job.view_is
+    (ap (λ s. s.order) c.self.view_is) c.requires in
+    let at = box_at i.mailboxes.items c.from.result c.index_mut-mailbox.result.now c.from.ensures refl
+    (job_inside (length i.mailboxes.items) i.order.items c.args.by c.job.inside.take c.self.invariant.lawful has)
+    c.index_mut-mailbox.ensures.value in
+    job_in_box i.mailboxes.items i.order.items (vec_capacity i.order) i.posted i.completed c.args.by c.job.inside.take
+    c.from.result c.index_mut-mailbox.result.now c.self.invariant c.from.ensures at has
+
+pub done-requires-clause-taken : goal.done-requires-clause-taken
+done-requires-clause-taken g c = (there g c).0
+
+pub done-requires-clause-open : goal.done-requires-clause-open
+done-requires-clause-open g c = (there g c).1
+
+pub push_reserved-requires : goal.push_reserved-requires
+push_reserved-requires g c =
+    let i = c.self.inside in
+    let has =
+    job_inside_is c.args.by c.args.job c.job.inside.take i.order.items c.args.self.now.order c.job.view_is
+    (ap (λ s. s.order) c.self.view_is) c.requires in
+    omega (
+      arith,
+      room_done i.mailboxes.items i.order.items
+          (vec_capacity i.order) i.posted i.completed c.args.by c.job.inside.take c.self.invariant has,
+    )
+
+pub overflow_add-self : goal.overflow_add-self
+overflow_add-self g c =
+    let i = c.self.inside in
+    let has =
+    job_inside_is c.args.by c.args.job c.job.inside.take i.order.items c.args.self.now.order c.job.view_is
+    (ap (λ s. s.order) c.self.view_is) c.requires in
+    omega (
+      arith,
+      few_done i.mailboxes.items i.order.items (vec_capacity i.order) i.posted i.completed c.self.invariant,
+      room_done i.mailboxes.items i.order.items
+          (vec_capacity i.order) i.posted i.completed c.args.by c.job.inside.take c.self.invariant has,
+    )
+
+pub invariant_of-self : goal.invariant_of-self
+invariant_of-self g c =
+    let i = c.self.inside in
+    let has =
+    job_inside_is c.args.by c.args.job c.job.inside.take i.order.items c.args.self.now.order c.job.view_is
+    (ap (λ s. s.order) c.self.view_is) c.requires in
+    let at = box_at i.mailboxes.items c.from.result c.index_mut-mailbox.result.now c.from.ensures refl
+    (job_inside (length i.mailboxes.items) i.order.items c.args.by c.job.inside.take c.self.invariant.lawful has)
+    c.index_mut-mailbox.ensures.value in
+    kept_entry i.mailboxes.items i.order.items c.push_reserved.new.self.items (vec_capacity i.order)
+    (vec_capacity c.push_reserved.new.self) i.posted i.completed i.posted (i.completed + 1)
+    (Completed c.args.by c.job.inside.take) c.from.result c.index_mut-mailbox.result.now c.done.new.self
+    c.from.ensures c.self.invariant at has tt (omega arith) (omega arith)
+    (omega (arith, c.self.invariant.room, c.push_reserved.ensures.capacity)) c.done.ensures c.push_reserved.ensures.items

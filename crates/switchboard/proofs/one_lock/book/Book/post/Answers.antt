@@ -1,0 +1,48 @@
+-- There is room for the Post and for all that is owed.
+use Rattle.std.proofs.Common.{◌+◌, ◌∷◌, ◌++◌, [], ap, ◌∙◌, arith}
+use Rattle.std.specs.Vec.{vec_capacity}
+use Rattle.std.proofs.Common.{◌*◌, ◌≤◌}
+use Rattle.post_ledger.specs.declared.entry.Entry.TheVariants.{Posted}
+use Rattle.switchboard.proofs.Keeping.{box_at, kept_entry, kept_back, order_fits, job_inside_is}
+use Rattle.switchboard.proofs.one_lock.book.Book.post.Goals as goal
+
+pub overflow_sub-owed : goal.overflow_sub-owed
+overflow_sub-owed g c =
+    let i = c.self.inside in
+    omega (arith, c.len.ensures, order_fits i.mailboxes.items i.order.items (vec_capacity i.order) i.posted i.completed c.self.invariant)
+
+pub invariant_of-self-in-Err-post : goal.invariant_of-self-in-Err-post
+invariant_of-self-in-Err-post g c =
+    let i = c.self.inside in
+    let at = box_at i.mailboxes.items c.from.result c.index_mut-mailbox.result.now c.from.ensures (ap (λ s. s.boxes) c.self.view_is)
+    c.requires.to c.index_mut-mailbox.ensures.value in
+    kept_back i.mailboxes.items i.order.items c.reserve.new.self.items (vec_capacity i.order)
+    (vec_capacity c.reserve.new.self) i.posted i.completed c.from.result c.index_mut-mailbox.result.now c.post.new.self
+    c.self.invariant at c.in-Err-post.ensures.err.1 c.reserve.ensures.items c.reserve.ensures.capacity
+
+pub push_reserved-requires : goal.push_reserved-requires
+push_reserved-requires g c =
+    let i = c.self.inside in
+    let short = order_fits i.mailboxes.items i.order.items (vec_capacity i.order) i.posted i.completed c.self.invariant in
+    let room : 3 * (i.posted + 1) ≤ vec_capacity c.reserve.new.self =
+    omega (arith, c.in-Ok.ensures.ok, c.len.ensures, c.reserve.ensures.len) in
+    omega (arith, c.reserve.ensures.len)
+
+pub invariant_of-self-in-Ok-post : goal.invariant_of-self-in-Ok-post
+invariant_of-self-in-Ok-post g c =
+    let i = c.self.inside in
+    let at = box_at i.mailboxes.items c.from.result c.index_mut-mailbox.result.now c.from.ensures (ap (λ s. s.boxes) c.self.view_is)
+    c.requires.to c.index_mut-mailbox.ensures.value in
+    let has =
+    job_inside_is c.args.by c.args.job.now c.job.inside.take i.order.items c.args.self.now.order c.job.view_is
+    (ap (λ s. s.order) c.self.view_is) c.requires.job in
+    let short = order_fits i.mailboxes.items i.order.items (vec_capacity i.order) i.posted i.completed c.self.invariant in
+    let room : 3 * (i.posted + 1) ≤ vec_capacity c.reserve.new.self =
+    omega (arith, c.in-Ok.ensures.ok, c.len.ensures, c.reserve.ensures.len) in
+    kept_entry i.mailboxes.items i.order.items c.push_reserved.new.self.items (vec_capacity i.order)
+    (vec_capacity c.push_reserved.new.self) i.posted i.completed (i.posted + 1) i.completed
+    (Posted c.args.to c.args.by c.args.message c.job.inside.take) c.from.result c.index_mut-mailbox.result.now c.post.new.self
+    c.from.ensures c.self.invariant at tt has (omega arith) (omega arith)
+    (omega (arith, c.push_reserved.ensures.capacity)) c.in-Ok-post.ensures.ok
+    (c.push_reserved.ensures.items
+    ∙ ap (λ l. l ++ Posted c.args.to c.args.by c.args.message c.job.inside.take ∷ []) c.reserve.ensures.items)

@@ -1,0 +1,211 @@
+//! The board with a lock for each mailbox.
+ghost use Rattle.std.specs.Prelude.{◌≡◌, ℕ, Bool, ◌<◌, ◌≤◌, ◌∷◌, [], MatchResult};
+ghost use Rattle.std.specs.Prelude.{vec_len, vec_capacity};
+ghost use Rattle.ticket_lock.specs.Calls.{IsSameSeat};
+ghost use Rattle.post_ledger.specs.Orders.{own, HasJob};
+ghost use Rattle.switchboard.specs.declared.lock_per_box.knowing.Own.{Own};
+ghost use Rattle.switchboard.specs.Sights.{told_by};
+ghost use Rattle.switchboard.specs.Promises.{WasSpent, WasPosted, WasRefused, Took, WasDone};
+ghost use Rattle.switchboard.specs.Promises.{MadeAbort, Learned};
+ghost use Rattle.switchboard.specs.PerBox.{IsSized};
+ghost use Rattle.switchboard.specs.BoxAnswers.{TookOut, PutIn};
+
+use crate::lock_per_box::rule::Boxes;
+use crate::calls::{Cause, Job, PostFault, Taken};
+use crate::lock_per_box::knowing::{Ground, Knowing};
+use crate::mail::Mail;
+use crate::lock_per_box::outstanding::{
+    ABORTED, Boards, Place, TellsSeen, count_down, count_up, look, raise, take_in,
+};
+use crate::lock_per_box::pass::{BoxPass, BoxTold};
+use crate::lock_per_box::visiting::{enter_box, leave_box};
+use atomic_table::Table;
+use post_ledger::Mailbox;
+use std::alloc::Allocator;
+use std::sync::Wait;
+use ticket_lock::Spent;
+
+pub(crate) type BoxTable<M, W, A> = Table<
+    Option<Mailbox<M, A>>,
+    Knowing<M, W, Mailbox<M, A>>,
+    Ground<M, W>,
+    Boxes,
+    A,
+>;
+
+/// Each mailbox behind a ticket lock of its own, and one word with the number of outstanding posts.
+#[derive(Drop)]
+pub struct LockPerBox<M: Mail<W>, W, A: Allocator> {
+    pub(crate) table: BoxTable<M, W, A>,
+    /// For the mailboxes, once the board is at its end.
+    pub(crate) room: Vec<Mailbox<M, A>, A>,
+    ghost sized: { IsSized table.shared.table_id table.shared.key.boxes
+        × (0 < table.shared.key.boxes) },
+    ghost free: { (vec_len room ≡ 0) × (table.shared.key.boxes ≤ vec_capacity room) },
+}
+
+/// Takes the oldest message that is not taken, if there is one.
+fn take_out<M: Copy, A: Allocator>(mailbox: &mut Mailbox<M, A>) -> Taken<M>
+    ensures { TookOut result mailbox.old mailbox.new }
+{
+    match mailbox.take_from() {
+        None => Taken::Empty,
+        Some((take, _, message)) => Taken::Message(Job { take }, message),
+    }
+}
+
+/// Puts a message into the mailbox, which is out, where the board is not aborted, and counts it up.
+fn put<F: Fn(), W, M: Mail<W>, A: Allocator>(
+    shared: &Boards<M, W, A>,
+    seat: &mut Place<M, W, A>,
+    mailbox: &mut Mailbox<M, A>,
+    number: u8,
+    job: &Job,
+    message: M,
+    held: &F,
+) -> Result<(), PostFault<M>>
+    requires callable { F.IsAlwaysCallable held.now }
+    requires table { (seat.old.table_id ≡ shared.now.table_id) × (0 < shared.now.table_id.words) }
+    requires job { (o : Own M) × (seat.old.me.0.lanes ≡ o ∷ [])
+        × (own o.number seat.old.me.0.seen.order ≡ o.events)
+        × HasJob o.number job.now seat.old.me.0.seen.order }
+    requires budget { 0 < seat.old.me.0.budget }
+    ensures { IsSameSeat seat.old seat.new
+        × PutIn M.fits number job.now message result mailbox.old mailbox.new seat.old.me
+        seat.new.me }
+{
+    if look(shared, seat) >= ABORTED {
+        return Err(PostFault::Aborted(message));
+    }
+    match mailbox.post(number, message) {
+        Err(back) => Err(PostFault::Memory(back)),
+        Ok(()) => {
+            count_up(shared, seat, job);
+            held();
+            Ok(())
+        }
+    }
+}
+
+impl<M: Mail<W>, W, A: Allocator> LockPerBox<M, W, A> {
+    /// As `post`; where it answers `Ok` it has called `held` once while it held the lock of mailbox `to`, and else
+    /// never.
+    pub fn post_held<R: Wait, F: Fn()>(
+        &self,
+        rt: &R,
+        pass: &mut BoxPass<M, W, A>,
+        job: &Job,
+        to: u8,
+        message: M,
+        held: &F,
+    ) -> Result<(), PostFault<M>>
+        requires callable { F.IsAlwaysCallable held.now }
+        requires board { pass.old.board ≡ self.now.table.shared.table_id }
+        requires job { HasJob pass.old.number job.now pass.old.seen.order }
+        requires fits { (to < pass.old.seen.boxes) × M.fits pass.old.seen.world to message }
+        ensures { MatchResult result (λ _. WasPosted M.fits job.now to message pass.old pass.new)
+            (λ f. WasRefused M.fits message f pass.old pass.new) }
+    {
+        if pass.left == 0 {
+            return Err(PostFault::Spent(message));
+        }
+        pass.left -= 1;
+        let shared = &self.table.shared;
+        let mut mailbox = enter_box(rt, shared, &mut pass.seat, to);
+        let answer = put(
+            shared,
+            &mut pass.seat,
+            &mut mailbox,
+            pass.number,
+            job,
+            message,
+            held,
+        );
+        leave_box(shared, &mut pass.seat, to, mailbox);
+        answer
+    }
+
+    pub(crate) fn take<R: Wait>(
+        &self,
+        rt: &R,
+        pass: &mut BoxPass<M, W, A>,
+    ) -> Result<Taken<M>, Spent>
+        requires { pass.old.board ≡ self.now.table.shared.table_id }
+        ensures { Took M.fits result pass.old pass.new }
+    {
+        if pass.left == 0 {
+            return Err(Spent);
+        }
+        pass.left -= 1;
+        let shared = &self.table.shared;
+        let found = look(shared, &mut pass.seat);
+        if found % ABORTED == 0 {
+            return Ok(Taken::Closed);
+        }
+        if found >= ABORTED {
+            return Ok(Taken::Aborted);
+        }
+        let mut mailbox = enter_box(rt, shared, &mut pass.seat, pass.number);
+        let answer = take_out(&mut mailbox);
+        leave_box(shared, &mut pass.seat, pass.number, mailbox);
+        Ok(answer)
+    }
+
+    pub(crate) fn done<R: Wait>(
+        &self,
+        rt: &R,
+        pass: &mut BoxPass<M, W, A>,
+        job: Job,
+    ) -> Result<(), (Job, Spent)>
+        requires board { pass.old.board ≡ self.now.table.shared.table_id }
+        requires job { HasJob pass.old.number job pass.old.seen.order }
+        ensures { MatchResult result (λ _. WasDone M.fits job pass.old pass.new)
+            (λ e. (e.0 ≡ job) × WasSpent pass.old pass.new) }
+    {
+        if pass.left == 0 {
+            return Err((job, Spent));
+        }
+        pass.left -= 1;
+        let Job { take } = job;
+        let shared = &self.table.shared;
+        let mut mailbox = enter_box(rt, shared, &mut pass.seat, pass.number);
+        mailbox.done(take);
+        leave_box(shared, &mut pass.seat, pass.number, mailbox);
+        count_down(shared, &mut pass.seat);
+        Ok(())
+    }
+
+    pub(crate) fn abort(&self, pass: &mut BoxPass<M, W, A>, job: Option<Job>, cause: Cause)
+        requires { pass.old.board ≡ self.now.table.shared.table_id }
+        ensures { MadeAbort M.fits
+            (record { by = pass.old.number; cause = cause }) pass.old pass.new }
+    {
+        if let Some(job) = job {
+            let Job { take: _ } = job;
+        }
+        if pass.made {
+            return;
+        }
+        pass.made = true;
+        raise(&self.table.shared, &mut pass.seat, pass.number, cause);
+    }
+
+    pub(crate) fn tell(&self, pass: &mut BoxPass<M, W, A>) -> BoxTold<M, W, A>
+        requires { pass.old.board ≡ self.now.table.shared.table_id }
+        ensures same { pass.new ≡ pass.old }
+        ensures told { result ≡ told_by pass.old }
+    {
+        BoxTold {
+            seat: self.table.shared.split_seat::<TellsSeen>(&mut pass.seat),
+        }
+    }
+
+    pub(crate) fn learn(&self, pass: &mut BoxPass<M, W, A>, told: BoxTold<M, W, A>)
+        requires { (pass.old.board ≡ self.now.table.shared.table_id)
+            × (told.board ≡ self.now.table.shared.table_id) }
+        ensures { Learned M.fits told pass.old pass.new }
+    {
+        let BoxTold { seat } = told;
+        take_in(&self.table.shared, &mut pass.seat, seat);
+    }
+}

@@ -1,0 +1,227 @@
+//! The steps on the word of outstanding posts, and the plays of a board with a lock for each mailbox.
+ghost use Rattle.std.specs.Prelude.{◌≡◌, ℕ, ◌<◌, ◌∷◌, [], false};
+ghost use Rattle.ticket_lock.specs.Calls.{IsSameSeat};
+ghost use Rattle.post_ledger.specs.Orders.{own, HasJob};
+ghost use Rattle.switchboard.specs.declared.calls.Abort.{Abort};
+ghost use Rattle.switchboard.specs.declared.lock_per_box.knowing.Own.{Own};
+ghost use Rattle.switchboard.specs.Knowing.{counted_up, counted_down, hand_at, merged};
+ghost use Rattle.switchboard.specs.PerBox.{Looked, Raised, TookIn};
+
+use crate::lock_per_box::rule::Boxes;
+use crate::calls::{Cause, Job};
+use crate::lock_per_box::knowing::{Ground, Knowing};
+use crate::mail::Mail;
+use atomic_table::{Join, Play, Seat, Shared, Split};
+use post_ledger::Mailbox;
+use std::alloc::Allocator;
+use std::marker::{Brand, PhantomData};
+
+/// Bit 63 of word 0, which says that the board was aborted.
+pub(crate) const ABORTED: u64 = 1 << 63;
+
+pub(crate) type Boards<M, W, A> = Shared<
+    Option<Mailbox<M, A>>,
+    Knowing<M, W, Mailbox<M, A>>,
+    Ground<M, W>,
+    Boxes,
+>;
+
+pub(crate) type Place<M, W, A> = Seat<Option<Mailbox<M, A>>, Knowing<M, W, Mailbox<M, A>>>;
+
+// Names the job or the abort that a step is about, which a `Play` cannot see.
+pub(crate) trait About {
+    ghost job: { ℕ };
+
+    ghost abort: { Abort };
+}
+
+impl About for Brand {
+    ghost use Rattle.switchboard.specs.declared.calls.Cause.TheVariants.{Memory};
+
+    ghost job = { 0 };
+
+    ghost abort = { record { by = 0; cause = Memory } };
+}
+
+pub(crate) struct CountsUp<J> {
+    of: PhantomData<J>,
+}
+
+impl<J: About, S, M, W, T> Play<S, Knowing<M, W, T>> for CountsUp<J> {
+    ghost then = { λ _ m _ w. w ≡ (counted_up J.job m.0, m.1) };
+}
+
+pub(crate) struct CountsDown;
+
+impl<S, M, W, T> Play<S, Knowing<M, W, T>> for CountsDown {
+    ghost then = { λ _ m _ w. w ≡ (counted_down m.0, m.1) };
+}
+
+pub(crate) struct Looks;
+
+impl<W, M: Mail<W>, A: Allocator> Play<Option<Mailbox<M, A>>, Knowing<M, W, Mailbox<M, A>>>
+    for Looks {
+    ghost then = { λ _ m n w. Looked M.fits m n w };
+}
+
+pub(crate) struct Raises<J> {
+    of: PhantomData<J>,
+}
+
+impl<J: About, W, M: Mail<W>, A: Allocator> Play<
+    Option<Mailbox<M, A>>,
+    Knowing<M, W, Mailbox<M, A>>,
+> for Raises<J> {
+    ghost then = { λ _ m _ w. Raised M.fits J.abort m w };
+}
+
+fn count_step<J: About, W, M: Mail<W>, A: Allocator>(
+    shared: &Boards<M, W, A>,
+    seat: &mut Place<M, W, A>,
+    job: &Job,
+)
+    requires table { (seat.old.table_id ≡ shared.now.table_id) × (0 < shared.now.table_id.words) }
+    requires job { (o : Own M) × (seat.old.me.0.lanes ≡ o ∷ [])
+        × (own o.number seat.old.me.0.seen.order ≡ o.events)
+        × HasJob o.number J.job seat.old.me.0.seen.order }
+    requires budget { 0 < seat.old.me.0.budget }
+    ensures { IsSameSeat seat.old seat.new
+        × (seat.new.me ≡ (counted_up J.job seat.old.me.0, seat.old.me.1)) }
+{
+    let _ = job;
+    shared.fetch_add::<CountsUp<J>>(seat, 0, 1);
+}
+
+/// Counts up a Post that the seat's pass will make under this job: one fetch_add.
+pub(crate) fn count_up<W, M: Mail<W>, A: Allocator>(
+    shared: &Boards<M, W, A>,
+    seat: &mut Place<M, W, A>,
+    job: &Job,
+)
+    requires table { (seat.old.table_id ≡ shared.now.table_id) × (0 < shared.now.table_id.words) }
+    requires job { (o : Own M) × (seat.old.me.0.lanes ≡ o ∷ [])
+        × (own o.number seat.old.me.0.seen.order ≡ o.events)
+        × HasJob o.number job.now seat.old.me.0.seen.order }
+    requires budget { 0 < seat.old.me.0.budget }
+    ensures { IsSameSeat seat.old seat.new
+        × (seat.new.me ≡ (counted_up job.now seat.old.me.0, seat.old.me.1)) }
+{
+    count_step::<Brand, W, M, A>(shared, seat, job);
+}
+
+/// Counts down a Post whose Done the seat's pass has recorded: one fetch_sub.
+pub(crate) fn count_down<W, M: Mail<W>, A: Allocator>(
+    shared: &Boards<M, W, A>,
+    seat: &mut Place<M, W, A>,
+)
+    requires table { (seat.old.table_id ≡ shared.now.table_id) × (0 < shared.now.table_id.words) }
+    requires owes { 0 < seat.old.me.0.owes }
+    ensures { IsSameSeat seat.old seat.new
+        × (seat.new.me ≡ (counted_down seat.old.me.0, seat.old.me.1)) }
+{
+    shared.fetch_sub::<CountsDown>(seat, 0, 1);
+}
+
+/// Looks at the word: one load.
+pub(crate) fn look<W, M: Mail<W>, A: Allocator>(
+    shared: &Boards<M, W, A>,
+    seat: &mut Place<M, W, A>,
+) -> u64
+    requires table { (seat.old.table_id ≡ shared.now.table_id) × (0 < shared.now.table_id.words) }
+    ensures { IsSameSeat seat.old seat.new × Looked M.fits seat.old.me result seat.new.me }
+{
+    shared.load::<Looks>(seat, 0)
+}
+
+fn raise_step<J: About, W, M: Mail<W>, A: Allocator>(
+    shared: &Boards<M, W, A>,
+    seat: &mut Place<M, W, A>,
+    by: u8,
+    cause: Cause,
+)
+    requires table { (seat.old.table_id ≡ shared.now.table_id) × (0 < shared.now.table_id.words) }
+    requires own { (o : Own M) × (seat.old.me.0.lanes ≡ o ∷ []) × (o.number ≡ J.abort.by)
+        × (o.made ≡ false)
+        × (J.abort.by < shared.now.key.boxes) }
+    ensures { IsSameSeat seat.old seat.new × Raised M.fits J.abort seat.old.me seat.new.me }
+{
+    let _ = by;
+    let _ = cause;
+    shared.fetch_or::<Raises<J>>(seat, 0, ABORTED);
+}
+
+/// Raises bit 63 for the seat's pass, which has made no abort before: one fetch_or, whatever the other bits are.
+pub(crate) fn raise<W, M: Mail<W>, A: Allocator>(
+    shared: &Boards<M, W, A>,
+    seat: &mut Place<M, W, A>,
+    by: u8,
+    cause: Cause,
+)
+    requires table { (seat.old.table_id ≡ shared.now.table_id) × (0 < shared.now.table_id.words) }
+    requires own { (o : Own M) × (seat.old.me.0.lanes ≡ o ∷ []) × (o.number ≡ by) × (o.made ≡ false)
+        × (by < shared.now.key.boxes) }
+    ensures { IsSameSeat seat.old seat.new
+        × Raised M.fits (record { by = by; cause = cause }) seat.old.me seat.new.me }
+{
+    raise_step::<Brand, W, M, A>(shared, seat, by, cause);
+}
+
+// The first seat gives its first pass away.
+pub(crate) struct Deals;
+
+impl<M, W, T> Split<Knowing<M, W, T>> for Deals {
+    ghost use Rattle.switchboard.specs.Knowing.{less_one, just_one};
+
+    ghost left = { less_one };
+
+    ghost right = { just_one };
+}
+
+// A seat tells what it has seen.
+pub(crate) struct TellsSeen;
+
+impl<M, W, T> Split<Knowing<M, W, T>> for TellsSeen {
+    ghost use Rattle.switchboard.specs.Knowing.{only_seen};
+
+    ghost left = { λ v. v };
+
+    ghost right = { λ v. only_seen v.seen };
+}
+
+// A seat takes in what another has, and is told what it has seen.
+pub(crate) struct Merges;
+
+impl<M, W, T> Join<Knowing<M, W, T>> for Merges {
+    ghost use Rattle.switchboard.specs.Knowing.{unseen, only_seen, merged};
+
+    ghost both = { merged };
+
+    ghost spent = { only_seen unseen };
+}
+
+// A seat takes in what it was told.
+pub(crate) struct TakesIn;
+
+impl<W, M: Mail<W>, A: Allocator> Play<Option<Mailbox<M, A>>, Knowing<M, W, Mailbox<M, A>>>
+    for TakesIn {
+    ghost then = { λ _ m _ w. TookIn M.fits m w };
+}
+
+/// Takes in another seat, where both are outside all locks, and then what it has seen: one load.
+pub(crate) fn take_in<W, M: Mail<W>, A: Allocator>(
+    shared: &Boards<M, W, A>,
+    seat: &mut Place<M, W, A>,
+    other: Place<M, W, A>,
+)
+    requires table { (seat.old.table_id ≡ shared.now.table_id)
+        × (other.table_id ≡ shared.now.table_id)
+        × (0 < shared.now.table_id.words) }
+    requires none { other.me.1 ≡ [] }
+    requires mine { (q : ℕ) → q < shared.now.key.boxes → (hand_at q seat.old.me.0).inside ≡ [] }
+    requires theirs { (q : ℕ) → q < shared.now.key.boxes → (hand_at q other.me.0).inside ≡ [] }
+    ensures { IsSameSeat seat.old seat.new
+        × TookIn M.fits (merged seat.old.me.0 other.me.0, seat.old.me.1) seat.new.me }
+{
+    shared.join_seat::<Merges>(seat, other);
+    shared.load::<TakesIn>(seat, 0);
+}
