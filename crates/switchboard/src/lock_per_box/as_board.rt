@@ -4,9 +4,9 @@ ghost use Rattle.switchboard.specs.Promises.{AreAll, Settles};
 
 use crate::board::Board;
 use crate::calls::{Cause, Job, PostFault, Taken};
-use crate::mail::Mail;
 use crate::lock_per_box::board::LockPerBox;
 use crate::lock_per_box::pass::{BoxPass, BoxTold};
+use crate::mail::Mail;
 use post_ledger::Ledger;
 use std::alloc::{AllocError, Allocator};
 use std::sync::Wait;

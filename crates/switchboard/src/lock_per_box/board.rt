@@ -10,15 +10,15 @@ ghost use Rattle.switchboard.specs.Promises.{MadeAbort, Learned};
 ghost use Rattle.switchboard.specs.PerBox.{IsSized};
 ghost use Rattle.switchboard.specs.BoxAnswers.{TookOut, PutIn};
 
-use crate::lock_per_box::rule::Boxes;
 use crate::calls::{Cause, Job, PostFault, Taken};
 use crate::lock_per_box::knowing::{Ground, Knowing};
-use crate::mail::Mail;
 use crate::lock_per_box::outstanding::{
     ABORTED, Boards, Place, TellsSeen, count_down, count_up, look, raise, take_in,
 };
 use crate::lock_per_box::pass::{BoxPass, BoxTold};
+use crate::lock_per_box::rule::Boxes;
 use crate::lock_per_box::visiting::{enter_box, leave_box};
+use crate::mail::Mail;
 use atomic_table::Table;
 use post_ledger::Mailbox;
 use std::alloc::Allocator;

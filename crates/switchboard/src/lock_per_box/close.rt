@@ -5,10 +5,10 @@ ghost use Rattle.switchboard.specs.Knowing.{hand_at};
 ghost use Rattle.switchboard.specs.PerBox.{IsSized};
 ghost use Rattle.switchboard.specs.BoxEnds.{Gathered, Ends};
 
-use crate::mail::Mail;
-use crate::lock_per_box::outstanding::{ABORTED, Boards, Place, take_in};
 use crate::lock_per_box::board::{BoxTable, LockPerBox};
+use crate::lock_per_box::outstanding::{ABORTED, Boards, Place, take_in};
 use crate::lock_per_box::pass::BoxPass;
+use crate::mail::Mail;
 use post_ledger::{Ledger, Mailbox};
 use std::alloc::Allocator;
 

@@ -9,12 +9,12 @@ ghost use Rattle.switchboard.specs.Sights.{opened, fresh_sights};
 ghost use Rattle.switchboard.specs.Knowing.{first_view};
 ghost use Rattle.switchboard.specs.PerBox.{IsSized};
 
-use crate::lock_per_box::knowing::Ground;
-use crate::mail::Mail;
-use crate::lock_per_box::outstanding::{Boards, Deals, Place};
 use crate::lock_per_box::board::{BoxTable, LockPerBox};
+use crate::lock_per_box::knowing::Ground;
+use crate::lock_per_box::outstanding::{Boards, Deals, Place};
 use crate::lock_per_box::pass::BoxPass;
 use crate::lock_per_box::visiting::STRIDE;
+use crate::mail::Mail;
 use crate::world::Shown;
 use atomic_table::{Refused, Table};
 use post_ledger::Mailbox;

@@ -7,9 +7,9 @@ ghost use Rattle.switchboard.specs.declared.lock_per_box.knowing.Own.{Own};
 ghost use Rattle.switchboard.specs.Knowing.{counted_up, counted_down, hand_at, merged};
 ghost use Rattle.switchboard.specs.PerBox.{Looked, Raised, TookIn};
 
-use crate::lock_per_box::rule::Boxes;
 use crate::calls::{Cause, Job};
 use crate::lock_per_box::knowing::{Ground, Knowing};
+use crate::lock_per_box::rule::Boxes;
 use crate::mail::Mail;
 use atomic_table::{Join, Play, Seat, Shared, Split};
 use post_ledger::Mailbox;

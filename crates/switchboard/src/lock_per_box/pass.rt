@@ -1,6 +1,6 @@
 //! What a thread holds of the board with a lock for each mailbox.
-use crate::mail::Mail;
 use crate::lock_per_box::outstanding::Place;
+use crate::mail::Mail;
 use crate::world::Shown;
 use std::alloc::Allocator;
 use std::marker::Model;

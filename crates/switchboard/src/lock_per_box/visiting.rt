@@ -8,8 +8,8 @@ ghost use Rattle.post_ledger.specs.declared.event.Event.{Event};
 ghost use Rattle.switchboard.specs.Knowing.{hand_at};
 ghost use Rattle.switchboard.specs.PerBox.{word_of, IsBoxOf, IsReady, IsInside, Asks, Tells};
 
-use crate::mail::Mail;
 use crate::lock_per_box::outstanding::{Boards, Place};
+use crate::mail::Mail;
 use post_ledger::Mailbox;
 use std::alloc::Allocator;
 use std::sync::Wait;

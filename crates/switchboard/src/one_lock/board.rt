@@ -7,10 +7,10 @@ ghost use Rattle.switchboard.specs.Promises.{MadeAbort, Learned};
 ghost use Rattle.switchboard.specs.Promises.{AreAll, Settles};
 
 use crate::board::Board;
-use crate::one_lock::book::Book;
 use crate::calls::{Cause, Job, PostFault, Taken};
-use crate::one_lock::lanes::Lanes;
 use crate::mail::Mail;
+use crate::one_lock::book::Book;
+use crate::one_lock::lanes::Lanes;
 use crate::one_lock::pass::{OnePass, OneTold};
 use crate::world::Shown;
 use post_ledger::Ledger;

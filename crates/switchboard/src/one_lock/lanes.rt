@@ -1,6 +1,6 @@
 //! The lanes of the passes of a board.
-use crate::one_lock::book::Book;
 use crate::mail::Mail;
+use crate::one_lock::book::Book;
 use crate::one_lock::pass::OnePass;
 use std::alloc::Allocator;
 use std::vec::IntoIter;

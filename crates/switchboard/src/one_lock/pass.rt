@@ -1,6 +1,6 @@
 //! What a thread holds of the board behind one lock.
-use crate::one_lock::book::Book;
 use crate::mail::Mail;
+use crate::one_lock::book::Book;
 use crate::world::Shown;
 use post_ledger::Entry;
 use std::alloc::Allocator;

@@ -12,7 +12,7 @@ use Rattle.path_sets.proofs.diagram.gather.Goals.{In_ok-begin}
 module _ (g : given.Over) (c : In_ok-begin g) where
   covers : Covers c.seek.new.self.nodes.kept.keys c.seek.new.self.rows.entries c.args.gathered.now.entries
   covers = covers_same _ _ _ _ c.args.gathered.now.entries (ap (λ n. n.kept.keys) c.seek.ensures.nodes)
-      (ap (λ r. r.entries) c.seek.ensures.rows) c.requires.covers
+      (ap (λ r. r.entries) c.seek.ensures.rows) c.requires.gathered.covers
 
   -- the mask that was asked for has the points that the diagrams have
   knows : (b : ℕ) → b < 64 → bit_of c.points-mask.result b
@@ -31,8 +31,11 @@ returns-clause-ok g c =
     c.args.gathered.now.entries c.begin.new.masks.entries (covers g c) c.points-mask.result c.mark.new.mask c.requires.none
     (knows g c) (marks g c) c.in_ok-begin.ensures.ok
 
-pub returns-clause-covers : goal.returns-clause-covers
-returns-clause-covers g c =
-    covers_begun c.seek.new.self.nodes.kept.keys c.seek.new.self.rows.entries c.args.place c.args.bit c.requires.bit
-    c.args.gathered.now.entries c.begin.new.masks.entries (covers g c) c.points-mask.result c.mark.new.mask c.requires.none
-    (knows g c) (marks g c) c.in_ok-begin.ensures.ok
+pub returns-clause-gathered : goal.returns-clause-gathered
+returns-clause-gathered g c = record {
+  unique = c.begin.ensures.unique;
+  covers =
+      covers_begun c.seek.new.self.nodes.kept.keys c.seek.new.self.rows.entries c.args.place c.args.bit c.requires.bit
+      c.args.gathered.now.entries c.begin.new.masks.entries (covers g c) c.points-mask.result c.mark.new.mask c.requires.none
+      (knows g c) (marks g c) c.in_ok-begin.ensures.ok;
+}

@@ -42,8 +42,8 @@ invariant_of-self-then-added g c =
     let more =
     longer _ _ (x g i) _ (old g i) (new g i) _ (fits g i) c.place_of-bit.ensures.edge (here g i) (puts g i true c.if-added.true) in
     record {
-      unique = c.put.ensures.unique;
-      covers = c.put.ensures.covers;
+      unique = c.put.ensures.gathered.unique;
+      covers = c.put.ensures.gathered.covers;
       counted = ap (λ n. n + 1) c.make_room.new.self.counted ∙ sym more;
       once = all_none_twice c.put.new.merged.nodes.kept.keys c.put.new.merged.rows.entries c.put.new.gathered.entries;
     }
