@@ -16,7 +16,7 @@ use Rattle.round_rewrite.proofs.Laid.{Long, flat, row, bits_of, lay, Shape, bits
 use Rattle.round_rewrite.proofs.Plain.{PlainAfter, bare, bare_state, bare_routine, world_of, bare-numbered, rest-numbered}
 use Rattle.round_rewrite.proofs.Leading.{Leads}
 use Rattle.round_rewrite.proofs.Blocks.{bare-rewritten, rest-rewritten}
-use Rattle.round_rewrite.proofs.Frames.{put_routine, IsWorld, zeros-add}
+use Rattle.round_rewrite.proofs.Frames.{put_routine, IsWorld, Setting, zeros-add}
 use Rattle.round_rewrite.proofs.Compose.{Linked, FailThreads, copies, copies_long, to_rounds, from_rounds}
 use Rattle.round_rewrite.proofs.Guessing.{Bad, main_at}
 use Rattle.round_rewrite.proofs.Checking.{Fill, guesses_lead, guesses_back, checks_lead, checks_back, linked_rows, rows_linked}
@@ -114,6 +114,9 @@ module _ (p : Program) (last : ℕ) where
     abbrev z : List Bool
     z = zeros n
 
+    abbrev setting : Setting
+    setting = record { p = p; last = last; fits = fits; small = small; w = world_of result; isw = is_world }
+
     first_fill : Fill (world_of result) n last z (length_zeros n) (bits_of 0 false false) 0 last [] (copies last z) (copies last z)
     first_fill = let c = copies_long n last z (length_zeros n) in record {
       a_long = tt;
@@ -158,8 +161,8 @@ module _ (p : Program) (last : ℕ) where
             guesses_lead (world_of result) n last z (length_zeros n) (bits_of 0 false false)
             (starts (places n last 0) last p.threads checks_code) (Bad n last) last 0 [] (copies last z)
             (copies last z) G first_fill long eG
-            (fails_lead p last fits small (world_of result) is_world G long eG (Bad n last) checks_code p.threads fits.threads (z ∷ G)
-            (length_zeros n, long) (ap suc eG) (y ∷ G') ft
+            (fails_lead setting G (long, eG) (Bad n last) checks_code p.threads fits.threads (z ∷ G)
+            ((length_zeros n, long), ap suc eG) (y ∷ G') ft
             (λ q s. let kept = fails_keep p n (z ∷ G) (map (starting_stack p.routines) p.threads) (y ∷ G') (length_zeros n, long) ft in
             let sh : Shape n last (y ∷ G') G = shape_of (y ∷ G') G kept.0 long (kept.1 ∙ ap suc eG) eG in
             checks_lead (world_of result) n last (y ∷ G') G (bits_of q s true) sh done (Bad n last) last 0 (omega arith)
@@ -175,8 +178,7 @@ module _ (p : Program) (last : ℕ) where
         guesses_back (world_of result) n last z (length_zeros n) (bits_of 0 false false)
         (starts (places n last 0) last p.threads checks_code) last 0 [] (copies last z) (copies last z) first_fill N h in
         rows G long eG
-        (starts_back p last fits small (world_of result) is_world G long eG checks_code p.threads fits.threads (z ∷ G)
-        (length_zeros n, long) (ap suc eG) 0 false false M h1)
+        (starts_back setting G (long, eG) checks_code p.threads fits.threads (z ∷ G) ((length_zeros n, long), ap suc eG) 0 false false M h1)
       where
         fails : (G : List (List Bool)) (y : List Bool) (G' : List (List Bool)) → length G ≡ last → Linked y G G'
             → FailThreads p (z ∷ G) (map (starting_stack p.routines) p.threads) (y ∷ G') → Unsafe p (suc last)
@@ -185,7 +187,7 @@ module _ (p : Program) (last : ℕ) where
             (r, omega arith, g, ts, rounds, f)
 
         rows : (G : List (List Bool)) (long : Long n G) (eG : length G ≡ last)
-            → Ran p last fits small (world_of result) is_world G long eG p.threads checks_code (z ∷ G) false → Unsafe p (suc last)
+            → Ran setting G (long, eG) p.threads checks_code (z ∷ G) false → Unsafe p (suc last)
         rows G long eG x =
             let sh : Shape n last x.rows G = shape_of x.rows G x.long long (x.same ∙ ap suc eG) eG in
             let (facts, M, run) =

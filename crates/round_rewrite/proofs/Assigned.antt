@@ -314,8 +314,3 @@ module _ (n last own : ℕ) (C S : List (List Bool)) (q : ℕ) (s b : Bool) (sha
       ap (written_locals (targets (places n last own) last xs rs) (spread_all xs rs vs)) (set-append_left l' tmp i v
       (let z : length l' ≡ own = eh in let z' : i < own = hx.0 in omega arith))
       ∙ writes_locals xs rs vs (with_bit l' i v) a.1 hx.1 (length-set l' i v ∙ eh)
-
-pub with-own_row : (C : List (List Bool)) (k : ℕ) → with_row C k (row C k) ≡ C
-with-own_row [] k = refl
-with-own_row (r ∷ C) zero = refl
-with-own_row (r ∷ C) (suc k) = ap (λ z. r ∷ z) (with-own_row C k)

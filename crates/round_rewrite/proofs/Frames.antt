@@ -5,9 +5,10 @@ use Rattle.language.specs.Tree.{Simple, skip, assign, assert, assume, goto, leav
 use Rattle.language.specs.Value.{Place}
 use Rattle.language.specs.Rest.{Label, Code, join, rest_from, first_of_two, has_label}
 use Rattle.language.specs.Step.{Routine, Program, Frame, frame, zeros, fresh}
-use Rattle.round_rewrite.specs.Table.{draws, temporaries, stop_test}
+use Rattle.round_rewrite.specs.Table.{plain, draws, temporaries, side, prologue, statement, stop_test}
 use Rattle.round_rewrite.specs.Places.{places, is_global}
-use Rattle.resolved.specs.Scoped.{SimpleInScope, SideInScope, Throughout}
+use Rattle.round_rewrite.specs.Limits.{most_rounds}
+use Rattle.resolved.specs.Scoped.{SimpleInScope, SideInScope, Throughout, FitsScopes}
 use Rattle.round_rewrite.proofs.Plain.{World}
 use Rattle.round_rewrite.proofs.Blocks.{put}
 
@@ -88,13 +89,26 @@ roomy routines n own d (choose m r a b t) h room = (
 roomy routines n own d (loop m r a t) h room =
     (h.0, roomy routines n own d a h.1 (omega arith), roomy routines n own d t h.2 (omega arith))
 
--- a frame of the source with the temporaries
-pub record Both : Type 0 where
+-- an open call: its procedure, how many places it has of its own, their values, and those of the temporaries
+pub record Activation : Type 0 where
   pub c : ℕ
   pub own : ℕ
   pub l : List Bool
   pub tmp : List Bool
+
+-- an open call and what it has left to do: a frame of the source with the temporaries
+pub record Both : Type 0 where
+  pub activation : Activation
+  pub open activation use *
   pub rest : Code
+
+abbrev pub both : Activation → Code → Both
+both a rest = record { activation = a; rest = rest }
+
+-- a call that begins with these values
+abbrev pub entered : ℕ → Routine → List Bool → Both
+entered q r vs =
+    both (record { c = q; own = r.places; l = fresh r.places vs; tmp = zeros (temporaries is_global r.body) }) r.body
 
 abbrev pub source : Both → Frame
 source b = frame b.c b.l b.rest
@@ -116,6 +130,16 @@ module _ (p : Program) (last : ℕ) where
   abbrev pub put_rest : ℕ → Code → Code
   put_rest own rest = put (places p.globals last own) last rest
 
+  -- the rewritten rest behind its prologue
+  abbrev pub inner : ℕ → Code → Code
+  inner own done = done
+  inner own (one k s t) = statement (places p.globals last own) last s (put_rest own t)
+  inner own (choose k r x y t) =
+      choose plain (side (places p.globals last own) last r) (put_rest own x) (put_rest own y) (put_rest own t)
+  inner own (loop k r x t) =
+      loop plain (side (places p.globals last own) last r)
+      (join (put_rest own x) (prologue (places p.globals last own) last plain done)) (put_rest own t)
+
   abbrev pub callers : List Both → Frame → List Frame
   callers [] m = m ∷ []
   callers (b ∷ bs) m =
@@ -133,6 +157,15 @@ module _ (p : Program) (last : ℕ) where
     pub enters_is : (c : ℕ) → w.enters (suc c) ≡ option_map put_routine (slice_get p.routines c)
     pub jumps_is : (c : ℕ) (r : Routine) (x : Label) → slice_get p.routines c ≡ Some r
         → w.jumps (suc c) x ≡ option_map (put_rest r.places) (rest_from x r.body done)
+
+-- what stays the same in a run: the source, its last round, and the world of the rewritten program
+pub record Setting : Type 0 where
+  pub p : Program
+  pub last : ℕ
+  pub fits : FitsScopes p
+  pub small : last < most_rounds
+  pub w : World
+  pub isw : IsWorld p last w
 
 pub zeros-add : (a b : ℕ) → zeros (a + b) ≡ zeros a ++ zeros b
 zeros-add zero b = ap zeros (Rattle.std.proofs.Common.zero-add b)

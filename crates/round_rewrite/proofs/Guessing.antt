@@ -61,7 +61,7 @@ fill_row vs r e = fill_all [] vs r e
 module _ (n last : ℕ) where
   copy_writes : (C : List (List Bool)) (X : List Bool) (k j m : ℕ) (vs : List Bool) → Long n C → k < length C → j + m ≤ n → length vs ≡ m
       → written_globals (map (copy_at n k) (map global (numbers j m))) vs (flat C ++ X) ≡ flat (with_row C k (fill j vs (row C k))) ++ X
-  copy_writes C X k j zero [] long h within e = ap (λ z. flat z ++ X) (sym (Rattle.round_rewrite.proofs.Assigned.with-own_row C k))
+  copy_writes C X k j zero [] long h within e = ap (λ z. flat z ++ X) (sym (Rattle.round_rewrite.proofs.Laid.with-own_row C k))
   copy_writes C X k j zero (v ∷ vs) long h within e = absurd (omega arith)
   copy_writes C X k j (suc m) [] long h within e = absurd (omega arith)
   copy_writes C X k j (suc m) (v ∷ vs) long h within e =
@@ -80,7 +80,7 @@ module _ (n last : ℕ) where
       → written_globals (map (save_at n last (suc k)) (map global (numbers j m))) vs (A ++ (flat S ++ X))
       ≡ A ++ (flat (with_row S k (fill j vs (row S k))) ++ X)
   save_writes A S X k j zero [] ea long h within e =
-      ap (λ z. A ++ (flat z ++ X)) (sym (Rattle.round_rewrite.proofs.Assigned.with-own_row S k))
+      ap (λ z. A ++ (flat z ++ X)) (sym (Rattle.round_rewrite.proofs.Laid.with-own_row S k))
   save_writes A S X k j zero (v ∷ vs) ea long h within e = absurd (omega arith)
   save_writes A S X k j (suc m) [] ea long h within e = absurd (omega arith)
   save_writes A S X k j (suc m) (v ∷ vs) ea long h within e =
@@ -159,8 +159,8 @@ not_guessed n last C S bits k v e shape lt ev =
     nil_from_length (row S k) (Rattle.round_rewrite.proofs.Laid.long_row n S k shape.saved
     (let z : length S ≡ last = shape.guesses in omega arith) ∙ e) ∙ sym (nil_from_length v (ev ∙ e)) in
     ap₂ (λ x y. lay x y bits)
-    (ap (with_row C (suc k)) (sym c) ∙ Rattle.round_rewrite.proofs.Assigned.with-own_row C (suc k))
-    (ap (with_row S k) (sym s) ∙ Rattle.round_rewrite.proofs.Assigned.with-own_row S k)
+    (ap (with_row C (suc k)) (sym c) ∙ Rattle.round_rewrite.proofs.Laid.with-own_row C (suc k))
+    (ap (with_row S k) (sym s) ∙ Rattle.round_rewrite.proofs.Laid.with-own_row S k)
 
 module _ (n last : ℕ) (C S : List (List Bool)) (bits : List Bool) (k : ℕ) (shape : Shape n last C S) (lt : k < last) where
   room : suc k < length C
