@@ -199,33 +199,34 @@ module _ (n last own : ℕ) (C S : List (List Bool)) (q : ℕ) (s b : Bool) (sha
   locals_skip i v [] ts ws L = refl
   locals_skip i v (k ∷ ks) ts ws L = locals_skip i v ks ts ws L
 
-  spread_past : (h : List Bool) (i : ℕ) (v : Bool) (k m : ℕ) (ts : List Place) (ws : List Bool) → length h ≡ n → i < n → q < k
-      → k + m ≤ suc last
-      → written_globals (copies_of i (numbers k m) ++ ts) (map (spread i v) (numbers k m) ++ ws) (lay (with_row C q h) S (bits_of q s b))
-      ≡ written_globals ts ws (lay (with_row C q h) S (bits_of q s b))
-  unfolding copies_of
-  spread_past h i v k zero ts ws eh hi past end = refl
-  spread_past h i v k (suc m) ts ws eh hi past end =
-      ap (written_globals (copies_of i (numbers (suc k) m) ++ ts) (map (spread i v) (numbers (suc k) m) ++ ws))
-      ((spread_one h i v k eh hi (omega arith)).1 (omega arith))
-      ∙ spread_past h i v (suc k) m ts ws eh hi (omega arith) (omega arith)
+  module _ (i : ℕ) (v : Bool) (hi : i < n) (ts : List Place) (ws : List Bool) where
+    spread_past : (h : List Bool) (k m : ℕ) → length h ≡ n → q < k
+        → k + m ≤ suc last
+        → written_globals (copies_of i (numbers k m) ++ ts) (map (spread i v) (numbers k m) ++ ws) (lay (with_row C q h) S (bits_of q s b))
+        ≡ written_globals ts ws (lay (with_row C q h) S (bits_of q s b))
+    unfolding copies_of
+    spread_past h k zero eh past end = refl
+    spread_past h k (suc m) eh past end =
+        ap (written_globals (copies_of i (numbers (suc k) m) ++ ts) (map (spread i v) (numbers (suc k) m) ++ ws))
+        ((spread_one h i v k eh hi (omega arith)).1 (omega arith))
+        ∙ spread_past h (suc k) m eh (omega arith) (omega arith)
 
-  spread_upto : (h : List Bool) (i : ℕ) (v : Bool) (k m : ℕ) (ts : List Place) (ws : List Bool) → length h ≡ n → i < n → k ≤ q → q < k + m
-      → k + m ≤ suc last
-      → written_globals (copies_of i (numbers k m) ++ ts) (map (spread i v) (numbers k m) ++ ws) (lay (with_row C q h) S (bits_of q s b))
-      ≡ written_globals ts ws (lay (with_row C q (with_bit h i v)) S (bits_of q s b))
-  unfolding copies_of
-  spread_upto h i v k zero ts ws eh hi le lt end = absurd (omega arith)
-  spread_upto h i v k (suc m) ts ws eh hi le lt end = elim (cases_eq k q) [
-    | inl e ↦
-        ap (written_globals (copies_of i (numbers (suc k) m) ++ ts) (map (spread i v) (numbers (suc k) m) ++ ws))
-        ((spread_one h i v k eh hi (omega arith)).0 e)
-        ∙ spread_past (with_bit h i v) i v (suc k) m ts ws (length-set h i v ∙ eh) hi (omega arith) (omega arith)
-    | inr ne ↦
-        ap (written_globals (copies_of i (numbers (suc k) m) ++ ts) (map (spread i v) (numbers (suc k) m) ++ ws))
-        ((spread_one h i v k eh hi (omega arith)).1 ne)
-        ∙ spread_upto h i v (suc k) m ts ws eh hi (omega arith) (omega arith) (omega arith)
-  ]
+    spread_upto : (h : List Bool) (k m : ℕ) → length h ≡ n → k ≤ q → q < k + m
+        → k + m ≤ suc last
+        → written_globals (copies_of i (numbers k m) ++ ts) (map (spread i v) (numbers k m) ++ ws) (lay (with_row C q h) S (bits_of q s b))
+        ≡ written_globals ts ws (lay (with_row C q (with_bit h i v)) S (bits_of q s b))
+    unfolding copies_of
+    spread_upto h k zero eh le lt end = absurd (omega arith)
+    spread_upto h k (suc m) eh le lt end = elim (cases_eq k q) [
+      | inl e ↦
+          ap (written_globals (copies_of i (numbers (suc k) m) ++ ts) (map (spread i v) (numbers (suc k) m) ++ ws))
+          ((spread_one h i v k eh hi (omega arith)).0 e)
+          ∙ spread_past (with_bit h i v) (suc k) m (length-set h i v ∙ eh) (omega arith) (omega arith)
+      | inr ne ↦
+          ap (written_globals (copies_of i (numbers (suc k) m) ++ ts) (map (spread i v) (numbers (suc k) m) ++ ws))
+          ((spread_one h i v k eh hi (omega arith)).1 ne)
+          ∙ spread_upto h (suc k) m eh (omega arith) (omega arith) (omega arith)
+    ]
 
   pub spread_all : List Place → List (RightSide Place) → List Bool → List Bool
   spread_all [] rs vs = []
@@ -294,7 +295,7 @@ module _ (n last own : ℕ) (C S : List (List Bool)) (q : ℕ) (s b : Bool) (sha
   writes (x ∷ xs) [] (v ∷ vs) h a hx eh = absurd a
   writes (x ∷ xs) (r ∷ rs) [] h a hx eh = absurd a
   writes (global i ∷ xs) (r ∷ rs) (v ∷ vs) h a hx eh =
-      spread_upto h i v 0 (suc last) (targets (places n last own) last xs rs) (spread_all xs rs vs) eh hx.0 (omega arith) (omega arith)
+      spread_upto i v hx.0 (targets (places n last own) last xs rs) (spread_all xs rs vs) h 0 (suc last) eh (omega arith) (omega arith)
       (omega arith)
       ∙ writes xs rs vs (with_bit h i v) a.1 hx.1 (length-set h i v ∙ eh)
   writes (local i ∷ xs) (r ∷ rs) (v ∷ vs) h a hx eh = writes xs rs vs h a.1 hx.1 eh

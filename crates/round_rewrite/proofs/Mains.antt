@@ -9,27 +9,28 @@ use Rattle.round_rewrite.specs.Table.{Naming, numbers, each, plain, guess, guess
 use Rattle.round_rewrite.specs.Writing.{Statements, Lays}
 use Rattle.round_rewrite.proofs.Pushed.{numbers_next}
 
--- one more of a list is put behind what stands
-pub each_more : {M X Y : Type 0} (seen : X → Y) (f : List Y → Statements → Statements) (g : Y → Statements → Statements)
-    → ((y : Y) (ys : List Y) (k : Statements) → f (y ∷ ys) k ≡ g y (f ys k)) → (xs : List X) (i : ℕ) (x : X) → i < length xs
-    → x ≡ get_or xs i x → (old new : List (Stmt M)) → Lays old new (g (seen x)) → (whole : Statements → Statements)
-    → ((rest : Statements) → all_before (items_of old) (f (map seen (drop i xs)) rest) ≡ whole rest) → (rest : Statements)
-    → all_before (items_of new) (f (map seen (drop (i + 1) xs)) rest) ≡ whole rest
-each_more seen f g step xs i x lt is old new laid whole so rest =
-    let others = map seen (drop (i + 1) xs) in
-    laid (f others rest)
-    ∙ (ap (all_before (items_of old)) (sym (step (seen x) others rest))
-    ∙ (ap (λ l. all_before (items_of old) (f (map seen l) rest)) (sym (drop_more xs i x lt ∙ ap (λ y. y ∷ drop (i + 1) xs) (sym is)))
-    ∙ so rest))
+module _ {M X Y : Type 0} (seen : X → Y) (f : List Y → Statements → Statements) where
+  module _ (g : Y → Statements → Statements) (step : (y : Y) (ys : List Y) (k : Statements) → f (y ∷ ys) k ≡ g y (f ys k)) where
+    -- one more of a list is put behind what stands
+    pub each_more : (xs : List X) (i : ℕ) (x : X) → i < length xs → x ≡ get_or xs i x → (old new : List (Stmt M))
+        → Lays old new (g (seen x)) → (whole : Statements → Statements)
+        → ((rest : Statements) → all_before (items_of old) (f (map seen (drop i xs)) rest) ≡ whole rest) → (rest : Statements)
+        → all_before (items_of new) (f (map seen (drop (i + 1) xs)) rest) ≡ whole rest
+    each_more xs i x lt is old new laid whole so rest =
+        let others = map seen (drop (i + 1) xs) in
+        laid (f others rest)
+        ∙ (ap (all_before (items_of old)) (sym (step (seen x) others rest))
+        ∙ (ap (λ l. all_before (items_of old) (f (map seen l) rest)) (sym (drop_more xs i x lt ∙ ap (λ y. y ∷ drop (i + 1) xs) (sym is)))
+        ∙ so rest))
 
--- all of a list are put behind what stood
-pub each_end : {M X Y : Type 0} (seen : X → Y) (f : List Y → Statements → Statements) → ((k : Statements) → f [] k ≡ k)
-    → (xs : List X) (i : ℕ) → length xs ≤ i → (new : List (Stmt M)) (whole : Statements → Statements)
-    → ((rest : Statements) → all_before (items_of new) (f (map seen (drop i xs)) rest) ≡ whole rest) → (rest : Statements)
-    → all_before (items_of new) rest ≡ whole rest
-each_end seen f none xs i le new whole so rest =
-    ap (all_before (items_of new)) (sym (none rest))
-    ∙ (sym (ap (λ l. all_before (items_of new) (f (map seen l) rest)) (drop_all i xs le)) ∙ so rest)
+  -- all of a list are put behind what stood
+  pub each_end : ((k : Statements) → f [] k ≡ k) → (xs : List X) (i : ℕ) → length xs ≤ i → (new : List (Stmt M))
+      (whole : Statements → Statements)
+      → ((rest : Statements) → all_before (items_of new) (f (map seen (drop i xs)) rest) ≡ whole rest) → (rest : Statements)
+      → all_before (items_of new) rest ≡ whole rest
+  each_end none xs i le new whole so rest =
+      ap (all_before (items_of new)) (sym (none rest))
+      ∙ (sym (ap (λ l. all_before (items_of new) (f (map seen l) rest)) (drop_all i xs le)) ∙ so rest)
 
 module _ (w : Naming tree.Name tree.Name tree.Name tree.Name) (last : ℕ) where
   pub guess_some : (xs : List tree.Name) (x : tree.Name) (more : List tree.Name) (k : ℕ) (t : Statements) → xs ≡ x ∷ more

@@ -124,15 +124,16 @@ pub map-first : {A B : Type 0} (f : A → B) (x y : Option A)
 map-first f None y = refl
 map-first f (Some a) y = refl
 
--- two searches that agree where the label stands and behind it
-pub found : {A B C : Type 0} (f : A → C) (g : B → C) (c : Bool) (x : A) (y : B) (o : Option A) (u : Option B) → f x ≡ g y
-    → option_map f o ≡ option_map g u → option_map f (cond c (Some x) o) ≡ option_map g (cond c (Some y) u)
-found f g true x y o u e h = ap Some e
-found f g false x y o u e h = h
+module _ {A B C : Type 0} (f : A → C) (g : B → C) where
+  -- two searches that agree where the label stands and behind it
+  pub found : (c : Bool) (x : A) (y : B) (o : Option A) (u : Option B) → f x ≡ g y
+      → option_map f o ≡ option_map g u → option_map f (cond c (Some x) o) ≡ option_map g (cond c (Some y) u)
+  found true x y o u e h = ap Some e
+  found false x y o u e h = h
 
-pub firsts : {A B C : Type 0} (f : A → C) (g : B → C) (o o' : Option A) (u u' : Option B) → option_map f o ≡ option_map g u
-    → option_map f o' ≡ option_map g u' → option_map f (first_of_two o o') ≡ option_map g (first_of_two u u')
-firsts f g o o' u u' e e' = map-first f o o' ∙ (ap₂ first_of_two e e' ∙ sym (map-first g u u'))
+  pub firsts : (o o' : Option A) (u u' : Option B) → option_map f o ≡ option_map g u
+      → option_map f o' ≡ option_map g u' → option_map f (first_of_two o o') ≡ option_map g (first_of_two u u')
+  firsts o o' u u' e e' = map-first f o o' ∙ (ap₂ first_of_two e e' ∙ sym (map-first g u u'))
 
 tails-numbered : (n : ℕ) (t k k' : Code) → bare k ≡ bare k' → bare (join (numbered n t) k) ≡ bare (join t k')
 tails-numbered n t k k' e = bare-join (numbered n t) k ∙ (ap₂ join (bare-numbered n t) e ∙ sym (bare-join t k'))
