@@ -175,8 +175,9 @@ module _ (setting : Setting) (now : Moment setting.p.globals setting.last) (m : 
         let vs : List Bool = values_of (row C q) a.l es in
         let d : ℕ = temporaries is_global r.body in
         let lv : length vs ≤ r.places = subst (λ k. k ≤ r.places) (sym (length_values (row C q) a.l es)) short in
+        let scope = h.fits.0.0 in
         let ev : values_of X (a.l ++ a.tmp) (map (expression (places p.globals last a.own) last) es) ≡ vs =
-        expressions_are p.globals last a.own C S q false b (a.l ++ a.tmp) shape small within a.l a.tmp refl h.long es h.fits.0.0.0 in
+        expressions_are p.globals last a.own C S q false b (a.l ++ a.tmp) shape small within a.l a.tmp refl h.long es scope.0 in
         let ef : fresh (r.places + d)
         (values_of X (a.l ++ a.tmp) (map (expression (places p.globals last a.own) last) es)) ≡ fresh r.places vs ++ zeros d =
         ap (fresh (r.places + d)) ev ∙ fresh_more r.places d vs lv in
@@ -210,9 +211,10 @@ module _ (setting : Setting) (now : Moment setting.p.globals setting.last) (m : 
         moved_here N a (one k skip t) bs (both a t ∷ bs)
         (good_rest p last a (one k skip t) t h h.fits.1, good) refl (later_now w Q _ N n1 e1 r1)
     step_back N a (one k (assign xs rs) t) h run =
+        let scope = h.fits.0.0 in
         let (M, vs, tmp', lt, are, et, r) =
         assign_back w p.globals last a.own (suc a.c) (callers p last bs m) Q now small a.l a.tmp h.long (never_below bs) N xs rs
-        (put_rest p last a.own t) h.fits.0.0.0 h.fits.0.0.1 run in
+        (put_rest p last a.own t) scope.0 scope.1 run in
         moved (written_globals xs vs (row C q)) (both (record a { l = written_locals xs vs a.l; tmp = tmp' }) t ∷ bs)
         (length_globals xs vs (row C q) ∙ row_long now)
         (good_with p last a (written_locals xs vs a.l) tmp' (one k (assign xs rs) t) t h (length_locals xs vs a.l) et h.fits.1, good)
@@ -262,6 +264,7 @@ module _ (setting : Setting) (now : Moment setting.p.globals setting.last) (m : 
         moved_here N a (one k leave t) bs (both a done ∷ bs)
         (good_rest p last a (one k leave t) done h tt, good) refl (later_now w Q _ N n1 e1 r1)
     step_back N a (one k (call q' es) t) h run =
+        let scope = h.fits.0.0 in
         let (n1, e1, r1) =
         unstep w Q N X
         (frame (suc a.c) (a.l ++ a.tmp) (statement (places p.globals last a.own) last (call q' es) (put_rest p last a.own t)))
@@ -271,7 +274,7 @@ module _ (setting : Setting) (now : Moment setting.p.globals setting.last) (m : 
         state X
         (frame (suc q') (fresh z.places (values_of X (a.l ++ a.tmp) (map (expression (places p.globals last a.own) last) es))) z.body
         ∷ callers p last (both a t ∷ bs) m) in
-        call_back N a k t q' es (slice_get p.routines q') refl h h.fits.0.0.1
+        call_back N a k t q' es (slice_get p.routines q') refl h scope.1
         (at_routine_later N n1 (option_map (put_routine p last) (slice_get p.routines q')) F e1
         (subst (λ o. AtRoutine o (λ z. PlainAfter w n1 (F z) Q)) (isw.enters_is q') r1))
     step_back N a (choose k r x y t) h run =

@@ -65,21 +65,22 @@ module _ (w : Naming tree.Name tree.Name tree.Name tree.Name) (last : ℕ) where
   core_is r items a core d e h = IfOk-weaker r _ _ (λ v l. by_core a (items v) core d (sym e) l) h
 
   module _ {M N : Type 0} (ss : List (Stmt N)) (i : ℕ) where
-    -- one more statement is rewritten
-    pub one_more : (s : Stmt N) → i < length ss → s ≡ get_or ss i s → (old mid new : List (Stmt M)) (label : Option tree.Name)
-        → label ≡ option_map name_of s.label → Lays old mid (λ k. prologue w last (record { label = label; at = s.at }) k)
-        → Lays mid new (λ k. bare_form w last (deed_of s.core) k) → (whole : Statements → Statements)
-        → ((rest : Statements) → all_before (items_of old) (forms w last (items_of (drop i ss)) rest) ≡ whole rest) → (rest : Statements)
-        → all_before (items_of new) (forms w last (items_of (drop (i + 1) ss)) rest) ≡ whole rest
-    one_more s lt is old mid new label named begun laid whole so rest =
-        let k = forms w last (items_of (drop (i + 1) ss)) rest in
-        let here = ap items_of (drop_more ss i s lt ∙ ap (λ (y : Stmt N). y ∷ drop (i + 1) ss) (sym is)) in
-        laid k
-        ∙ (begun (bare_form w last (deed_of s.core) k)
-        ∙ (ap
-        (λ l. all_before (items_of old) (prologue w last (record { label = l; at = s.at }) (bare_form w last (deed_of s.core) k))) named
-        ∙ (sym (ap (λ j. all_before (items_of old) (form w last j k)) (fold_out-Stmt N Deed Item core_step stmt_step s))
-        ∙ (sym (ap (λ is'. all_before (items_of old) (forms w last is' rest)) here) ∙ so rest))))
+    module _ (s : Stmt N) (lt : i < length ss) (is : s ≡ get_or ss i s) where
+      -- one more statement is rewritten
+      pub one_more : (old mid new : List (Stmt M)) (label : Option tree.Name)
+          → label ≡ option_map name_of s.label → Lays old mid (λ k. prologue w last (record { label = label; at = s.at }) k)
+          → Lays mid new (λ k. bare_form w last (deed_of s.core) k) → (whole : Statements → Statements)
+          → ((rest : Statements) → all_before (items_of old) (forms w last (items_of (drop i ss)) rest) ≡ whole rest) → (rest : Statements)
+          → all_before (items_of new) (forms w last (items_of (drop (i + 1) ss)) rest) ≡ whole rest
+      one_more old mid new label named begun laid whole so rest =
+          let k = forms w last (items_of (drop (i + 1) ss)) rest in
+          let here = ap items_of (drop_more ss i s lt ∙ ap (λ (y : Stmt N). y ∷ drop (i + 1) ss) (sym is)) in
+          laid k
+          ∙ (begun (bare_form w last (deed_of s.core) k)
+          ∙ (ap
+          (λ l. all_before (items_of old) (prologue w last (record { label = l; at = s.at }) (bare_form w last (deed_of s.core) k))) named
+          ∙ (sym (ap (λ j. all_before (items_of old) (form w last j k)) (fold_out-Stmt N Deed Item core_step stmt_step s))
+          ∙ (sym (ap (λ is'. all_before (items_of old) (forms w last is' rest)) here) ∙ so rest))))
 
     -- all statements are rewritten
     pub no_more : length ss ≤ i → (new : List (Stmt M)) (whole : Statements → Statements)

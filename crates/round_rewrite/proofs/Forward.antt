@@ -123,15 +123,6 @@ module _ (setting : Setting) (now : Moment setting.p.globals setting.last) (m : 
         (put_rest p last a.own a.rest) h in
         (suc r.0, r.1)
 
-    -- into a rest: through its prologue, where it has one
-    pub enter_leads : (c own : ℕ) (L : List Bool) (rest : Code) (fs : List Frame)
-        → Leads w (state X (frame c L (inner p last own rest) ∷ fs)) Q
-        → Leads w (state X (frame c L (put_rest p last own rest) ∷ fs)) Q
-    enter_leads c own L done fs h = h
-    enter_leads c own L (one k s t) fs h = prologue_goes w p.globals last own C S shape small c L fs Q q b _ h
-    enter_leads c own L (choose k r x y t) fs h = prologue_goes w p.globals last own C S shape small c L fs Q q b _ h
-    enter_leads c own L (loop k r x t) fs h = prologue_goes w p.globals last own C S shape small c L fs Q q b _ h
-
     module _ (R : State → Type 0) where
       -- what has to be shown of the states that the step leads to
       abbrev pub Next : Type 0
@@ -197,8 +188,9 @@ module _ (setting : Setting) (now : Moment setting.p.globals setting.last) (m : 
             (good_rest p last a (one k skip t) t h h.fits.1, good) s in
             (suc r.0, r.1)
         step_leads a (one k (assign xs rs) t) h s =
+            let scope = h.fits.0.0 in
             assign_leads w p.globals last a.own (suc a.c) (callers p last bs m) Q now small a.l a.tmp h.long xs rs s.0
-            (put_rest p last a.own t) s.1 h.fits.0.0.0 h.fits.0.0.1 h.fits.0.1
+            (put_rest p last a.own t) s.1 scope.0 scope.1 h.fits.0.1
             (λ tmp' et. next (written_globals xs s.0 (row C q)) (both (record a { l = written_locals xs s.0 a.l; tmp = tmp' }) t ∷ bs)
             (length_globals xs s.0 (row C q) ∙ row_long now) (
               good_with p last a (written_locals xs s.0 a.l) tmp' (one k (assign xs rs) t) t h (length_locals xs s.0 a.l) et h.fits.1,
@@ -230,9 +222,10 @@ module _ (setting : Setting) (now : Moment setting.p.globals setting.last) (m : 
             (good_rest p last a (one k leave t) done h tt, good) s in
             (suc r.0, r.1)
         step_leads a (one k (call q' es) t) h s =
+            let scope = h.fits.0.0 in
             let z =
             call_leads a t q' es (slice_get p.routines q') refl
-            (good_rest p last a (one k (call q' es) t) t h h.fits.1) h.fits.0.0.0 h.fits.0.0.1 s in (
+            (good_rest p last a (one k (call q' es) t) t h h.fits.1) scope.0 scope.1 s in (
               suc z.0,
               subst
                   (λ o.

@@ -41,10 +41,6 @@ abbrev fill : ℕ → List Bool → List Bool → List Bool
 fill j [] r = r
 fill j (v ∷ vs) r = fill (suc j) vs (with_bit r j v)
 
-length-fill : (j : ℕ) (vs r : List Bool) → length (fill j vs r) ≡ length r
-length-fill j [] r = refl
-length-fill j (v ∷ vs) r = length-fill (suc j) vs (with_bit r j v) ∙ length-set r j v
-
 fill_all : (a vs b : List Bool) → length b ≡ length vs → fill (length a) vs (a ++ b) ≡ a ++ vs
 fill_all a [] [] e = refl
 fill_all a [] (x ∷ b) e = absurd (omega arith)

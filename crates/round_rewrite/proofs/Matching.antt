@@ -41,9 +41,6 @@ module _ (t : Tree) (gs ps : List Name) (last : ℕ) (gs_free : AreFree gs) (dis
   abbrev n : ℕ
   n = length gs
 
-  abbrev sm : Scope
-  sm = scope gs [] ps 0 last gs_free tt few small
-
   abbrev sm' : Scope
   sm' = wider gs [] ps 0 last gs_free tt few small ps'
 

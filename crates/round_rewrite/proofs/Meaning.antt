@@ -31,9 +31,6 @@ use Rattle.round_rewrite.proofs.Theorem.{keeps}
 use Rattle.resolved.specs.Limits.{most_places}
 use Rattle.round_rewrite.specs.Limits.{most_rounds}
 
-names_of : List Procedure → List Name
-names_of procs = map (λ (p : Procedure). p.name) procs
-
 names_kept : (last : ℕ) (procs : List Procedure)
     → map (λ (p : Procedure). p.name) (map (rewritten_procedure last) procs) ≡ map (λ (p : Procedure). p.name) procs
 names_kept last [] = refl

@@ -62,9 +62,6 @@ length-numbers j (suc d) = ap suc (length-numbers (suc j) d)
 
 module _ (gs own ps : List Name) (d last : ℕ) (gs_free : AreFree gs) (own_free : AreFree own) (few : d ≤ most_places)
     (small : last < most_rounds) where
-  w : Naming Name Name Name Name
-  w = names []
-
   abbrev temps : List Name
   temps = map drawn_name (numbers 0 d)
 

@@ -111,8 +111,8 @@ module _ (setting : Setting) (S : List (List Bool)) (saves : AreRows setting.p.g
   zero_back X L [] a = absurd a
   zero_back X L (x ∷ []) a = absurd a.1
   zero_back X L (x ∷ y ∷ []) a = absurd a.1.1
-  zero_back X L (x ∷ y ∷ z ∷ []) a = λ i. a.0 i ∷ a.1.0 i ∷ a.1.1.0 i ∷ []
-  zero_back X L (x ∷ y ∷ z ∷ u ∷ vs) a = absurd a.1.1.1
+  zero_back X L (x ∷ y ∷ z ∷ []) (ax, (ay, (az, none))) = λ i. ax i ∷ ay i ∷ az i ∷ []
+  zero_back X L (x ∷ y ∷ z ∷ u ∷ vs) (ax, (ay, (az, more))) = absurd more
 
   enters_now : (c : ℕ) (r : Routine) → slice_get p.routines c ≡ Some r → w.enters (suc c) ≡ Some (put_routine p last r)
   enters_now c r e = isw.enters_is c ∙ ap (option_map (put_routine p last)) e

@@ -32,9 +32,6 @@ module _ (p : Program) (last : ℕ) (fits : FitsScopes p) (small : last < most_r
   abbrev zero_valuation : Valuation
   zero_valuation = record { globals = zeros (global_count p.globals last); places = [] }
 
-  abbrev bare_start : State
-  bare_start = main_at (lay (copies (suc last) (zeros p.globals)) (copies last (zeros p.globals)) (bits_of 0 false false)) body
-
   to_pair : (n : ℕ) (u : State) → AfterSteps result n start (λ v. v ≡ u) → Bad p.globals last (bare_state u) →
       SomeBad result (bad_at p.globals last)
   to_pair n (state g []) run h = absurd h
