@@ -22,15 +22,12 @@ use Rattle.round_rewrite.proofs.Guessing.{Bad, main_at}
 use Rattle.round_rewrite.proofs.Checking.{Fill, guesses_lead, guesses_back, checks_lead, checks_back, linked_rows, rows_linked}
 use Rattle.round_rewrite.proofs.Starting.{Ran, fails_lead, starts_back, fails_keep}
 use Rattle.round_rewrite.specs.Limits.{most_rounds}
+use Rattle.round_rewrite.proofs.InTurn.{passes}
 
 module _ (w : Naming Place Place ℕ ℕ) (last : ℕ) where
   bare-guess : (xs : List Place) (k : ℕ) (t : Code) → bare (guess w last xs k t) ≡ guess w last xs k (bare t)
   bare-guess [] k t = refl
   bare-guess (x ∷ xs) k t = refl
-
-  bare-guesses : (xs : List Place) (ks : List ℕ) (t : Code) → bare (guesses w last xs ks t) ≡ guesses w last xs ks (bare t)
-  bare-guesses xs [] t = refl
-  bare-guesses xs (k ∷ ks) t = bare-guess xs k (guesses w last xs ks t) ∙ ap (guess w last xs k) (bare-guesses xs ks t)
 
   bare-starts : (T : List ℕ) (t : Code) → bare (starts w last T t) ≡ starts w last T (bare t)
   bare-starts [] t = refl
@@ -40,15 +37,13 @@ module _ (w : Naming Place Place ℕ ℕ) (last : ℕ) where
   bare-check [] k t = refl
   bare-check (x ∷ xs) k t = ap (check w last (x ∷ []) k) (bare-check xs k t)
 
-  bare-checks : (xs : List Place) (ks : List ℕ) (t : Code) → bare (checks w last xs ks t) ≡ checks w last xs ks (bare t)
-  bare-checks xs [] t = refl
-  bare-checks xs (k ∷ ks) t = bare-check xs k (checks w last xs ks t) ∙ ap (check w last xs k) (bare-checks xs ks t)
-
   pub bare-main : (xs : List Place) (T : List ℕ) → bare (main w last xs T) ≡ main w last xs T
   bare-main xs T =
-      bare-guesses xs (numbers 1 last) (starts w last T (checks w last xs (numbers 0 last) done))
-      ∙ ap (guesses w last xs (numbers 1 last))
-      (bare-starts T (checks w last xs (numbers 0 last) done) ∙ ap (starts w last T) (bare-checks xs (numbers 0 last) done))
+      let ends : Code = checks w last xs (numbers 0 last) done in
+      passes (guesses w last xs) (guess w last xs) (λ t. refl) (λ k ks t. refl) bare (bare-guess xs) (numbers 1 last) (starts w last T ends)
+      ∙ ap (guesses w last xs (numbers 1 last)) (bare-starts T ends
+      ∙ ap (starts w last T)
+      (passes (checks w last xs) (check w last xs) (λ t. refl) (λ k ks t. refl) bare (bare-check xs) (numbers 0 last) done))
 
 flat_copies : (n k : ℕ) → flat (copies k (zeros n)) ≡ zeros (k * n)
 flat_copies n zero = ap zeros (let z : zero ≡ zero * n = omega arith in z)

@@ -26,6 +26,7 @@ pub mod Resolved
 pub mod Matching
 pub mod Meaning
 pub mod Pushed
+pub mod InTurn
 pub mod Assigning
 pub mod Laying
 pub mod Forms

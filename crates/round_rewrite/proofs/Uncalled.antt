@@ -11,6 +11,7 @@ use Rattle.round_rewrite.specs.Table.{check, checks, main}
 use Rattle.round_rewrite.specs.Places.{places, all_globals, rewritten_routine, main_routine, rewritten_program}
 use Rattle.resolved.specs.Scoped.{Throughout}
 use Rattle.round_rewrite.proofs.Frames.{throughout-join, throughout-rest, IfThere}
+use Rattle.round_rewrite.proofs.InTurn.{keep}
 
 -- the statement does not call the first procedure
 abbrev Elsewhere : Simple Place ℕ Label → Type 0
@@ -87,10 +88,6 @@ module _ (n last own : ℕ) where
   away-guess [] k t h = h
   away-guess (x ∷ xs) k t h = (tt, (tt, h))
 
-  away-guesses : (xs : List Place) (ks : List ℕ) (t : Code) → Away t → Away (guesses w last xs ks t)
-  away-guesses xs [] t h = h
-  away-guesses xs (k ∷ ks) t h = away-guess xs k (guesses w last xs ks t) (away-guesses xs ks t h)
-
   away-starts : (T : List ℕ) (t : Code) → Away t → Away (starts w last T t)
   away-starts [] t h = h
   away-starts (c ∷ T) t h = (tt, ((c, refl), away-starts T t h))
@@ -99,14 +96,12 @@ module _ (n last own : ℕ) where
   away-check [] k t h = h
   away-check (x ∷ xs) k t h = (tt, away-check xs k t h)
 
-  away-checks : (xs : List Place) (ks : List ℕ) (t : Code) → Away t → Away (checks w last xs ks t)
-  away-checks xs [] t h = h
-  away-checks xs (k ∷ ks) t h = away-check xs k (checks w last xs ks t) (away-checks xs ks t h)
-
   away-main : (xs : List Place) (T : List ℕ) → Away (main w last xs T)
   away-main xs T =
-      away-guesses xs (numbers 1 last) (starts w last T (checks w last xs (numbers 0 last) done))
-      (away-starts T (checks w last xs (numbers 0 last) done) (away-checks xs (numbers 0 last) done tt))
+      let ends : Code = checks w last xs (numbers 0 last) done in
+      keep (guesses w last xs) (guess w last xs) (λ t. refl) (λ k ks t. refl) Away (away-guess xs) (numbers 1 last) (starts w last T ends)
+      (away-starts T ends
+      (keep (checks w last xs) (check w last xs) (λ t. refl) (λ k ks t. refl) Away (away-check xs) (numbers 0 last) done tt))
 
 abbrev RoutineAway : Option Routine → Type 0
 RoutineAway None = Unit {0}
