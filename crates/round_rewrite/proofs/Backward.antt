@@ -15,8 +15,8 @@ use Rattle.round_rewrite.proofs.Translate.{expressions_are}
 use Rattle.round_rewrite.proofs.Drawing.{assign_back}
 use Rattle.round_rewrite.proofs.Plain.{PlainAfter}
 use Rattle.round_rewrite.proofs.Leading.{Leads, Never, unstep, Later, later, later_now}
-use Rattle.round_rewrite.proofs.Prologue.{stop_leads, stop_back}
-use Rattle.round_rewrite.proofs.Frames.{Activation, both, entered, Both, source, Good, AllGood, put_rest, inner, callers, stack}
+use Rattle.round_rewrite.proofs.Prologue.{stop_back}
+use Rattle.round_rewrite.proofs.Frames.{Activation, both, entered, Both, source, Good, AllGood, put_rest, inner, callers, top, site, stack}
 use Rattle.round_rewrite.proofs.Frames.{Setting, put_routine, fresh_more}
 use Rattle.round_rewrite.proofs.Forward.{good_with, good_rest, jump_good, call_good, branch_fits, put_branch, loop_fits, put_loop, side_at}
 
@@ -43,32 +43,29 @@ module _ (setting : Setting) (now : Moment setting.p.globals setting.last) (m : 
   X = globals_at now
 
   -- frames that leave where stop is 1, down to the first procedure
-  pub unwind_back : (c : ℕ) (L : List Bool) (bs : List Both) (q' : ℕ) (b' : Bool) (N : ℕ)
-      → PlainAfter w N (state (lay C S (bits_of q' true b')) (frame c L done ∷ callers p last bs m)) Q
+  pub unwind_back : (a : Activation) (bs : List Both) (q' : ℕ) (b' : Bool) (N : ℕ)
+      → PlainAfter w N (state (lay C S (bits_of q' true b')) (top p last a done bs m)) Q
       → Later w N (state (lay C S (bits_of q' true b')) (m ∷ [])) Q
-  unwind_back c L [] q' b' N h =
-      let (k, e, r) = unstep w Q N _ _ (m ∷ []) (never_below []) h in
+  unwind_back a [] q' b' N h =
+      let (k, e, r) = unstep w Q N _ _ _ (never_below []) h in
       later_now w Q _ N k e r
-  unwind_back c L (a ∷ bs) q' b' N h =
-      let Y : List Bool = lay C S (bits_of q' true b') in
-      let (k, e, r) = unstep w Q N Y (frame c L done) (callers p last (a ∷ bs) m) (never_below (a ∷ bs)) h in
+  unwind_back a (d ∷ bs) q' b' N h =
+      let (k, e, r) = unstep w Q N _ _ _ (never_below (d ∷ bs)) h in
       let (k2, lt, r2) =
-      stop_back w p.globals last a.own C S shape small (suc a.c) (a.l ++ a.tmp) (callers p last bs m) Q (never_below bs) k q' true b'
-      (put_rest p last a.own a.rest) r in
-      let (k3, lt3, r3) = unwind_back (suc a.c) (a.l ++ a.tmp) bs q' b' k2 r2 in
+      stop_back w small (site p last C S shape d.activation bs m) Q (never_below bs) k q' true b' (put_rest p last d.own d.rest) r in
+      let (k3, lt3, r3) = unwind_back d.activation bs q' b' k2 r2 in
       (k3, omega arith, r3)
 
   -- a frame that leaves where stop is 0
-  pub pop_back : (c : ℕ) (L : List Bool) (bs : List Both) (N : ℕ) → PlainAfter w N (state X (frame c L done ∷ callers p last bs m)) Q
+  pub pop_back : (a : Activation) (bs : List Both) (N : ℕ) → PlainAfter w N (state X (top p last a done bs m)) Q
       → Later w N (state X (stack p last bs m)) Q
-  pop_back c L [] N h =
-      let (k, e, r) = unstep w Q N X (frame c L done) (m ∷ []) (never_below []) h in
+  pop_back a [] N h =
+      let (k, e, r) = unstep w Q N _ _ _ (never_below []) h in
       later_now w Q (state X (m ∷ [])) N k e r
-  pop_back c L (a ∷ bs) N h =
-      let (k, e, r) = unstep w Q N X (frame c L done) (callers p last (a ∷ bs) m) (never_below (a ∷ bs)) h in
-      later w Q (state X (stack p last (a ∷ bs) m)) N k e
-      (stop_back w p.globals last a.own C S shape small (suc a.c) (a.l ++ a.tmp) (callers p last bs m) Q (never_below bs) k q false b
-      (put_rest p last a.own a.rest) r)
+  pop_back a (d ∷ bs) N h =
+      let (k, e, r) = unstep w Q N _ _ _ (never_below (d ∷ bs)) h in
+      later w Q (state X (stack p last (d ∷ bs) m)) N k e
+      (stop_back w small (site p last C S shape d.activation bs m) Q (never_below bs) k q false b (put_rest p last d.own d.rest) r)
 
   -- what a run from behind the prologue of a statement begins with
   pub data Begins (N : ℕ) (a : Activation) (rest : Code) (bs : List Both) : Type 0 where
@@ -76,7 +73,7 @@ module _ (setting : Setting) (now : Moment setting.p.globals setting.last) (m : 
         → StepsTo p (state (row C q) (frame a.c a.l rest ∷ map source bs)) (λ u. u ≡ state g' (map source bs'))
         → Later w N (state (turned now g') (stack p last bs' m)) Q → Begins N a rest bs
     failed : Fails (state (row C q) (frame a.c a.l rest ∷ map source bs))
-        → Later w N (state (lay C S (bits_of q true true)) (frame (suc a.c) (a.l ++ a.tmp) done ∷ callers p last bs m)) Q
+        → Later w N (state (lay C S (bits_of q true true)) (top p last a done bs m)) Q
         → Begins N a rest bs
 
   moved_here : (N : ℕ) (a : Activation) (rest : Code) (bs bs' : List Both) → AllGood p last bs'
@@ -119,13 +116,10 @@ module _ (setting : Setting) (now : Moment setting.p.globals setting.last) (m : 
         → IsValue X (a.l ++ a.tmp) (side (places p.globals last a.own) last r) v
         → PlainAfter w N
         (state X
-        (frame (suc a.c) (a.l ++ a.tmp) (cond v (one plain skip (put_rest p last a.own t)) (fail_code (put_rest p last a.own t)))
-        ∷ callers p last bs m)) Q → Begins N a (one k (assert r) t) bs
+        (top p last a (cond v (one plain skip (put_rest p last a.own t)) (fail_code (put_rest p last a.own t))) bs m)) Q → Begins N a (one k (assert r) t) bs
     unfolding fail_code
     assert_back N a k r t true h is run =
-        let (n1, e1, r1) =
-        unstep w Q N X (frame (suc a.c) (a.l ++ a.tmp) (one plain skip (put_rest p last a.own t))) (callers p last bs m)
-        (never_below bs) run in
+        let (n1, e1, r1) = unstep w Q N _ _ _ (never_below bs) run in
         moved_here N a (one k (assert r) t) bs (both a t ∷ bs)
         (good_rest p last a (one k (assert r) t) t h h.fits.1, good)
         (back_value a h.long r h.fits.0.0 true is, refl)
@@ -134,7 +128,7 @@ module _ (setting : Setting) (now : Moment setting.p.globals setting.last) (m : 
         let fs : List Frame = callers p last bs m in
         let two : List Place = global (bad_at p.globals last) ∷ global (stop_at p.globals last) ∷ [] in
         let rest : Code = one plain leave (put_rest p last a.own t) in
-        let (n1, e1, r1) = unstep w Q N X (frame (suc a.c) (a.l ++ a.tmp) (fail_code (put_rest p last a.own t))) fs (never_below bs) run in
+        let (n1, e1, r1) = unstep w Q N _ _ _ (never_below bs) run in
         let (x, y, ex, ix, iy) = two_back X (a.l ++ a.tmp) (value (const true)) (value (const true)) r1.0 r1.1 in
         let r2 : PlainAfter w n1 (state (with_bit (with_bit X (bad_at p.globals last) x) (stop_at p.globals last) y)
         (frame (suc a.c) (a.l ++ a.tmp) rest ∷ fs)) Q =
@@ -143,13 +137,13 @@ module _ (setting : Setting) (now : Moment setting.p.globals setting.last) (m : 
         r1.2 in
         let r3 : PlainAfter w n1 (state (lay C S (bits_of q true true)) (frame (suc a.c) (a.l ++ a.tmp) rest ∷ fs)) Q =
         subst (λ z. PlainAfter w n1 (state z (frame (suc a.c) (a.l ++ a.tmp) rest ∷ fs)) Q) (fail_writes x y ix iy) r2 in
-        let (n4, e4, r4) = unstep w Q n1 (lay C S (bits_of q true true)) (frame (suc a.c) (a.l ++ a.tmp) rest) fs (never_below bs) r3 in
+        let (n4, e4, r4) = unstep w Q n1 _ _ _ (never_below bs) r3 in
         failed (back_value a h.long r h.fits.0.0 false is) (n4, omega arith, r4)
 
     jump_back : (N : ℕ) (a : Activation) (k : Mark Label) (x : Label) (t : Code) (o : Option Code)
         → (h : Good p last (both a (one k (goto x) t))) → rest_from x h.routine.body done ≡ o
         → AtRest (option_map (put_rest p last a.own) o)
-        (λ u. Later w N (state X (frame (suc a.c) (a.l ++ a.tmp) u ∷ callers p last bs m)) Q)
+        (λ u. Later w N (state X (top p last a u bs m)) Q)
         → Begins N a (one k (goto x) t) bs
     jump_back N a k x t None h e at = absurd at
     jump_back N a k x t (Some found) h e at =
@@ -199,15 +193,13 @@ module _ (setting : Setting) (now : Moment setting.p.globals setting.last) (m : 
     -- such a run begins with a step of the source, or fails
     pub step_back : (N : ℕ) (a : Activation) (rest : Code) → Good p last (both a rest)
         → PlainAfter w N
-        (state X (frame (suc a.c) (a.l ++ a.tmp) (inner p last a.own rest) ∷ callers p last bs m)) Q
+        (state X (top p last a (inner p last a.own rest) bs m)) Q
         → Begins N a rest bs
     unfolding fail_code
     step_back N a done h run =
-        moved_here N a done bs bs good refl (pop_back (suc a.c) (a.l ++ a.tmp) bs N run)
+        moved_here N a done bs bs good refl (pop_back a bs N run)
     step_back N a (one k skip t) h run =
-        let (n1, e1, r1) =
-        unstep w Q N X (frame (suc a.c) (a.l ++ a.tmp) (one plain skip (put_rest p last a.own t))) (callers p last bs m)
-        (never_below bs) run in
+        let (n1, e1, r1) = unstep w Q N _ _ _ (never_below bs) run in
         moved_here N a (one k skip t) bs (both a t ∷ bs)
         (good_rest p last a (one k skip t) t h h.fits.1, good) refl (later_now w Q _ N n1 e1 r1)
     step_back N a (one k (assign xs rs) t) h run =
@@ -220,55 +212,41 @@ module _ (setting : Setting) (now : Moment setting.p.globals setting.last) (m : 
         (good_with p last a (written_locals xs vs a.l) tmp' (one k (assign xs rs) t) t h (length_locals xs vs a.l) et h.fits.1, good)
         (vs, are, refl) (M, lt, r)
     step_back N a (one k (assert r) t) h run =
-        let (n1, e1, r1) =
-        unstep w Q N X (frame (suc a.c) (a.l ++ a.tmp) (statement (places p.globals last a.own) last (assert r) (put_rest p last a.own t)))
-        (callers p last bs m) (never_below bs) run in
+        let (n1, e1, r1) = unstep w Q N _ _ _ (never_below bs) run in
         longer (assert_back n1 a k r t r1.0 h r1.1 (branches r1.0 n1 a t r1.2)) e1
       where
         branches : (v : Bool) (n1 : ℕ) (a : Activation) (t : Code)
             → PlainAfter w n1
             (state X
-            (frame (suc a.c) (a.l ++ a.tmp)
-            (cond v (join (one plain skip done) (put_rest p last a.own t)) (join (fail_code done) (put_rest p last a.own t)))
-            ∷ callers p last bs m)) Q
+            (top p last a (cond v (join (one plain skip done) (put_rest p last a.own t)) (join (fail_code done) (put_rest p last a.own t))) bs m)) Q
             → PlainAfter w n1
             (state X
-            (frame (suc a.c) (a.l ++ a.tmp) (cond v (one plain skip (put_rest p last a.own t)) (fail_code (put_rest p last a.own t)))
-            ∷ callers p last bs m)) Q
+            (top p last a (cond v (one plain skip (put_rest p last a.own t)) (fail_code (put_rest p last a.own t))) bs m)) Q
         branches v n1 a t r = r
 
         longer : {n1 : ℕ} → Begins n1 a (one k (assert r) t) bs → N ≡ suc n1 → Begins N a (one k (assert r) t) bs
         longer {n1} (moved g' bs' eg good s r) e = moved g' bs' eg good s (later w Q _ N n1 e r)
         longer {n1} (failed f r) e = failed f (later w Q _ N n1 e r)
     step_back N a (one k (assume r) t) h run =
-        let (n1, e1, r1) =
-        unstep w Q N X (frame (suc a.c) (a.l ++ a.tmp) (statement (places p.globals last a.own) last (assume r) (put_rest p last a.own t)))
-        (callers p last bs m) (never_below bs) run in
+        let (n1, e1, r1) = unstep w Q N _ _ _ (never_below bs) run in
         moved_here N a (one k (assume r) t) bs (both a t ∷ bs)
         (good_rest p last a (one k (assume r) t) t h h.fits.1, good)
         (back_value a h.long r h.fits.0.0 true r1.0, refl) (later_now w Q _ N n1 e1 r1.1)
     step_back N a (one k (goto x) t) h run =
-        let (n1, e1, r1) =
-        unstep w Q N X (frame (suc a.c) (a.l ++ a.tmp) (statement (places p.globals last a.own) last (goto x) (put_rest p last a.own t)))
-        (callers p last bs m) (never_below bs) run in
+        let (n1, e1, r1) = unstep w Q N _ _ _ (never_below bs) run in
         let where_to : w.jumps (suc a.c) x ≡ option_map (put_rest p last a.own) (rest_from x h.routine.body done) =
         isw.jumps_is a.c h.routine x h.there ∙ ap (λ o. option_map (put_rest p last o) (rest_from x h.routine.body done)) h.own_is in
-        let F : Code → State = λ u. state X (frame (suc a.c) (a.l ++ a.tmp) u ∷ callers p last bs m) in
+        let F : Code → State = λ u. state X (top p last a u bs m) in
         jump_back N a k x t (rest_from x h.routine.body done) h refl
         (at_rest_later N n1 (option_map (put_rest p last a.own) (rest_from x h.routine.body done)) F e1
         (subst (λ o. AtRest o (λ u. PlainAfter w n1 (F u) Q)) where_to r1))
     step_back N a (one k leave t) h run =
-        let (n1, e1, r1) =
-        unstep w Q N X (frame (suc a.c) (a.l ++ a.tmp) (one plain leave (put_rest p last a.own t))) (callers p last bs m)
-        (never_below bs) run in
+        let (n1, e1, r1) = unstep w Q N _ _ _ (never_below bs) run in
         moved_here N a (one k leave t) bs (both a done ∷ bs)
         (good_rest p last a (one k leave t) done h tt, good) refl (later_now w Q _ N n1 e1 r1)
     step_back N a (one k (call q' es) t) h run =
         let scope = h.fits.0.0 in
-        let (n1, e1, r1) =
-        unstep w Q N X
-        (frame (suc a.c) (a.l ++ a.tmp) (statement (places p.globals last a.own) last (call q' es) (put_rest p last a.own t)))
-        (callers p last bs m) (never_below bs) run in
+        let (n1, e1, r1) = unstep w Q N _ _ _ (never_below bs) run in
         let F : Routine → State =
         λ z.
         state X
@@ -278,12 +256,7 @@ module _ (setting : Setting) (now : Moment setting.p.globals setting.last) (m : 
         (at_routine_later N n1 (option_map (put_routine p last) (slice_get p.routines q')) F e1
         (subst (λ o. AtRoutine o (λ z. PlainAfter w n1 (F z) Q)) (isw.enters_is q') r1))
     step_back N a (choose k r x y t) h run =
-        let (n1, e1, r1) =
-        unstep w Q N X
-        (frame (suc a.c) (a.l ++ a.tmp)
-        (choose plain (side (places p.globals last a.own) last r) (put_rest p last a.own x) (put_rest p last a.own y)
-        (put_rest p last a.own t)))
-        (callers p last bs m) (never_below bs) run in
+        let (n1, e1, r1) = unstep w Q N _ _ _ (never_below bs) run in
         let v : Bool = r1.0 in
         moved_here N a (choose k r x y t) bs (both a (cond v (join x t) (join y t)) ∷ bs) (
           good_rest p last a (choose k r x y t) (cond v (join x t) (join y t)) h
@@ -292,12 +265,10 @@ module _ (setting : Setting) (now : Moment setting.p.globals setting.last) (m : 
         )
         (v, back_value a h.long r h.fits.0 v r1.1, refl)
         (later_now w Q _ N n1 e1
-        (subst (λ z. PlainAfter w n1 (state X (frame (suc a.c) (a.l ++ a.tmp) z ∷ callers p last bs m)) Q)
+        (subst (λ z. PlainAfter w n1 (state X (top p last a z bs m)) Q)
         (sym (put_branch p last a.own v x y t)) r1.2))
     step_back N a (loop k r x t) h run =
-        let (n1, e1, r1) =
-        unstep w Q N X (frame (suc a.c) (a.l ++ a.tmp) (inner p last a.own (loop k r x t)))
-        (callers p last bs m) (never_below bs) run in
+        let (n1, e1, r1) = unstep w Q N _ _ _ (never_below bs) run in
         let v : Bool = r1.0 in
         moved_here N a (loop k r x t) bs (both a (cond v (join x (loop k r x t)) t) ∷ bs) (
           good_rest p last a (loop k r x t) (cond v (join x (loop k r x t)) t) h
@@ -306,5 +277,5 @@ module _ (setting : Setting) (now : Moment setting.p.globals setting.last) (m : 
         )
         (v, back_value a h.long r h.fits.0 v r1.1, refl)
         (later_now w Q _ N n1 e1
-        (subst (λ z. PlainAfter w n1 (state X (frame (suc a.c) (a.l ++ a.tmp) z ∷ callers p last bs m)) Q)
+        (subst (λ z. PlainAfter w n1 (state X (top p last a z bs m)) Q)
         (sym (put_loop p last a.own v k r x t)) r1.2))

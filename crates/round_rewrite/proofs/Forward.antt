@@ -15,10 +15,10 @@ use Rattle.round_rewrite.proofs.Drawing.{assign_leads}
 use Rattle.round_rewrite.proofs.Plain.{PlainAfter}
 use Rattle.round_rewrite.proofs.Leading.{Leads}
 use Rattle.round_rewrite.proofs.Blocks.{put-join, put-again}
-use Rattle.round_rewrite.proofs.Prologue.{prologue_goes, stop_leads}
+use Rattle.round_rewrite.proofs.Prologue.{stop_leads}
 use Rattle.round_rewrite.proofs.Frames.{Activation, both, entered, Fits, Roomy, Both, source, Good, AllGood, put_rest, inner, callers}
 use Rattle.round_rewrite.proofs.Frames.{stack}
-use Rattle.round_rewrite.proofs.Frames.{Setting, put_routine, roomy}
+use Rattle.round_rewrite.proofs.Frames.{Setting, put_routine, roomy, top, site}
 use Rattle.round_rewrite.proofs.Frames.{throughout-join, throughout-rest, IfThere, fresh_more}
 use Rattle.resolved.proofs.Each.{each_at}
 
@@ -114,13 +114,12 @@ module _ (setting : Setting) (now : Moment setting.p.globals setting.last) (m : 
 
   module _ (Q : State → Type 0) where
     -- a frame that leaves, where stop is 0
-    pub pop_leads : (c : ℕ) (L : List Bool) (bs : List Both) → Leads w (state X (stack p last bs m)) Q
-        → Leads w (state X (frame c L done ∷ callers p last bs m)) Q
-    pop_leads c L [] (k, h) = (suc k, h)
-    pop_leads c L (a ∷ bs) h =
+    pub pop_leads : (a : Activation) (bs : List Both) → Leads w (state X (stack p last bs m)) Q
+        → Leads w (state X (top p last a done bs m)) Q
+    pop_leads a [] (k, h) = (suc k, h)
+    pop_leads a (b' ∷ bs) h =
         let r =
-        stop_leads w p.globals last a.own C S shape small (suc a.c) (a.l ++ a.tmp) (callers p last bs m) Q q false b
-        (put_rest p last a.own a.rest) h in
+        stop_leads w small (site p last C S shape b'.activation bs m) Q q false b (put_rest p last b'.own b'.rest) h in
         (suc r.0, r.1)
 
     module _ (R : State → Type 0) where
@@ -140,7 +139,7 @@ module _ (setting : Setting) (now : Moment setting.p.globals setting.last) (m : 
             → AtRest o (λ t. R (state (row C q) (frame a.c a.l t ∷ map source bs)))
             → (n : ℕ)
             × AtRest (option_map (put_rest p last a.own) o)
-            (λ t. PlainAfter w n (state X (frame (suc a.c) (a.l ++ a.tmp) t ∷ callers p last bs m)) Q)
+            (λ t. PlainAfter w n (state X (top p last a t bs m)) Q)
         jump_leads a rest x None h e at = absurd at
         jump_leads a rest x (Some found) h e at =
             same_globals next (both a found ∷ bs) (jump_good p last a rest x found fits h e, good) at
@@ -180,8 +179,8 @@ module _ (setting : Setting) (now : Moment setting.p.globals setting.last) (m : 
         -- a step of the top frame
         pub step_leads : (a : Activation) (rest : Code) → Good p last (both a rest)
             → StepsTo p (state (row C q) (frame a.c a.l rest ∷ map source bs)) R
-            → Leads w (state X (frame (suc a.c) (a.l ++ a.tmp) (inner p last a.own rest) ∷ callers p last bs m)) Q
-        step_leads a done h s = pop_leads (suc a.c) (a.l ++ a.tmp) bs (same_globals next bs good s)
+            → Leads w (state X (top p last a (inner p last a.own rest) bs m)) Q
+        step_leads a done h s = pop_leads a bs (same_globals next bs good s)
         step_leads a (one k skip t) h s =
             let r =
             same_globals next (both a t ∷ bs)
@@ -213,7 +212,7 @@ module _ (setting : Setting) (now : Moment setting.p.globals setting.last) (m : 
             let where_to : w.jumps (suc a.c) x ≡ option_map (put_rest p last a.own) (rest_from x h.routine.body done) =
             isw.jumps_is a.c h.routine x h.there ∙ ap (λ o. option_map (put_rest p last o) (rest_from x h.routine.body done)) h.own_is in (
               suc z.0,
-              subst (λ o. AtRest o (λ u. PlainAfter w z.0 (state X (frame (suc a.c) (a.l ++ a.tmp) u ∷ callers p last bs m)) Q))
+              subst (λ o. AtRest o (λ u. PlainAfter w z.0 (state X (top p last a u bs m)) Q))
                   (sym where_to) z.1,
             )
         step_leads a (one k leave t) h s =
@@ -241,20 +240,20 @@ module _ (setting : Setting) (now : Moment setting.p.globals setting.last) (m : 
             let S' : (z : Code) → Fits p.routines p.globals a.own (length a.tmp) z → Good p last (both a z) =
             λ z f. good_rest p last a (choose k r x y t) z h f in
             let branch : Leads w
-            (state X (frame (suc a.c) (a.l ++ a.tmp) (put_rest p last a.own (cond v (join x t) (join y t))) ∷ callers p last bs m)) Q =
+            (state X (top p last a (put_rest p last a.own (cond v (join x t) (join y t))) bs m)) Q =
             same_globals next (both a (cond v (join x t) (join y t)) ∷ bs)
             (S' (cond v (join x t) (join y t)) (branch_fits p a.own (length a.tmp) v x y t h.fits.1 h.fits.2 h.fits.3), good) s in (
               suc branch.0,
               (
                 v,
                 subst (λ T. T) (sym (side_at a h.long r h.fits.0 v)) is,
-                subst (λ z. PlainAfter w branch.0 (state X (frame (suc a.c) (a.l ++ a.tmp) z ∷ callers p last bs m)) Q)
+                subst (λ z. PlainAfter w branch.0 (state X (top p last a z bs m)) Q)
                     (put_branch p last a.own v x y t) branch.1,
               ),
             )
         step_leads a (loop k r x t) h (v, is, s) =
             let branch : Leads w
-            (state X (frame (suc a.c) (a.l ++ a.tmp) (put_rest p last a.own (cond v (join x (loop k r x t)) t)) ∷ callers p last bs m)) Q =
+            (state X (top p last a (put_rest p last a.own (cond v (join x (loop k r x t)) t)) bs m)) Q =
             same_globals next (both a (cond v (join x (loop k r x t)) t) ∷ bs) (
               good_rest p last a (loop k r x t) (cond v (join x (loop k r x t)) t) h
                   (loop_fits p a.own (length a.tmp) v k r x t h.fits),
@@ -264,7 +263,7 @@ module _ (setting : Setting) (now : Moment setting.p.globals setting.last) (m : 
               (
                 v,
                 subst (λ T. T) (sym (side_at a h.long r h.fits.0 v)) is,
-                subst (λ z. PlainAfter w branch.0 (state X (frame (suc a.c) (a.l ++ a.tmp) z ∷ callers p last bs m)) Q)
+                subst (λ z. PlainAfter w branch.0 (state X (top p last a z bs m)) Q)
                     (put_loop p last a.own v k r x t) branch.1,
               ),
             )

@@ -11,6 +11,8 @@ use Rattle.round_rewrite.specs.Limits.{most_rounds}
 use Rattle.resolved.specs.Scoped.{SimpleInScope, SideInScope, Throughout, FitsScopes}
 use Rattle.round_rewrite.proofs.Plain.{World}
 use Rattle.round_rewrite.proofs.Blocks.{put}
+use Rattle.round_rewrite.proofs.Laid.{Shape}
+use Rattle.round_rewrite.proofs.Prologue.{Site}
 
 abbrev pub draws_of : Simple Place ℕ Label → ℕ
 draws_of skip = 0
@@ -145,9 +147,18 @@ module _ (p : Program) (last : ℕ) where
   callers (b ∷ bs) m =
       frame (suc b.c) (b.l ++ b.tmp) (stop_test (places p.globals last b.own) last (put_rest b.own b.rest)) ∷ callers bs m
 
+  -- the rewritten frames, where the top one has this to do
+  abbrev pub top : Activation → Code → List Both → Frame → List Frame
+  top a rest bs m = frame (suc a.c) (a.l ++ a.tmp) rest ∷ callers bs m
+
+  -- the top frame of a rewritten stack, over these rows and saved guesses
+  abbrev pub site : (C S : List (List Bool)) → Shape p.globals last C S → Activation → List Both → Frame → Site p.globals last
+  site C S shape a bs m =
+      record { C = C; S = S; shape = shape; c = suc a.c; own = a.own; L = a.l ++ a.tmp; fs = callers bs m }
+
   abbrev pub stack : List Both → Frame → List Frame
   stack [] m = m ∷ []
-  stack (b ∷ bs) m = frame (suc b.c) (b.l ++ b.tmp) (put_rest b.own b.rest) ∷ callers bs m
+  stack (b ∷ bs) m = top b.activation (put_rest b.own b.rest) bs m
 
   abbrev pub put_routine : Routine → Routine
   put_routine r = record { places = r.places + temporaries is_global r.body; body = put_rest r.places r.body }

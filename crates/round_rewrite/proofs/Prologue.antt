@@ -30,8 +30,20 @@ pub not_true : (x : Bool) → true ≡ not x → x ≡ false
 not_true true e = cc
 not_true false e = refl
 
-module _ (w : World) (n last own : ℕ) (C S : List (List Bool)) (shape : Shape n last C S) (small : last < most_rounds)
-    (c : ℕ) (L : List Bool) (fs : List Frame) (Q : State → Type 0) where
+-- a frame of a rewritten procedure, and what stays the same while it stands at a prologue: the rows and the saved guesses, its
+-- procedure, how many places that has in the source, the values of all its places, and the frames below
+pub record Site (n last : ℕ) : Type 0 where
+  pub C : List (List Bool)
+  pub S : List (List Bool)
+  pub shape : Shape n last C S
+  pub c : ℕ
+  pub own : ℕ
+  pub L : List Bool
+  pub fs : List Frame
+
+module _ (w : World) {n last : ℕ} (small : last < most_rounds) (site : Site n last) (Q : State → Type 0) where
+  open site use {C, S, shape, c, own, L, fs}
+
   abbrev pub now : ℕ → Bool → Bool → List Bool
   now q s b = lay C S (bits_of q s b)
 

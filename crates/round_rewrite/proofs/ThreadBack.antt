@@ -10,7 +10,7 @@ use Rattle.resolved.specs.Scoped.{FitsScopes}
 use Rattle.round_rewrite.proofs.Laid.{row_middle, with_middle, Long, long-append, bits_of, lay, Shape, Moment, globals_at}
 use Rattle.round_rewrite.proofs.Plain.{PlainAfter}
 use Rattle.round_rewrite.proofs.Prologue.{Exits, rose, went, stopped, exits}
-use Rattle.round_rewrite.proofs.Frames.{Activation, both, Both, source, Good, AllGood, put_rest, inner, callers, stack, Setting}
+use Rattle.round_rewrite.proofs.Frames.{Activation, both, Both, source, Good, AllGood, put_rest, inner, top, site, stack, Setting}
 use Rattle.round_rewrite.proofs.Backward.{Begins, moved, failed, step_back, unwind_back, never_below}
 use Rattle.round_rewrite.proofs.Turns.{Turns, FailTurns, idle, step_turns, step_fails, no_steps}
 
@@ -205,7 +205,7 @@ module _ (setting : Setting) (S : List (List Bool)) (m : Frame) (Q : State → T
         let here : List Frame = map source (both a rest ∷ bs) in
         let fails' : Fails (state r.g here) = subst (λ y. Fails (state y here)) (row_middle r.pre r.g post) fails in
         let (M', lt', run') =
-        unwind_back setting (moment r b) m Q single (suc a.c) (a.l ++ a.tmp) bs (length r.pre) true M run in
+        unwind_back setting (moment r b) m Q single a bs (length r.pre) true M run in
         longer N M' (omega arith) post r b here (record {
           down = down_here M' post r (length r.pre) true true run';
           turns = inr (refl, inl (here, no_steps p (state r.g here), fails', refl));
@@ -230,7 +230,7 @@ module _ (setting : Setting) (S : List (List Bool)) (m : Frame) (Q : State → T
 
       exited : (a : Activation) (rest : Code) → Good p last (both a rest)
           → put_rest p last a.own rest ≡ prologue (places p.globals last a.own) last plain (inner p last a.own rest)
-          → Exits w p.globals last a.own now.C S now.shape small (suc a.c) (a.l ++ a.tmp) (callers p last bs m) Q N
+          → Exits w small (site p last now.C S now.shape a bs m) Q N
           (length r.pre) b (inner p last a.own rest)
           → Ends N post r b (map source (both a rest ∷ bs))
       exited a rest h is (rose more (M, lt, run)) =
@@ -238,24 +238,24 @@ module _ (setting : Setting) (S : List (List Bool)) (m : Frame) (Q : State → T
           (rose_back M (omega (arith, le)) post r b (both a rest ∷ bs) (h, good) more
           (subst
           (λ t. PlainAfter w M
-          (state (lay now.C S (bits_of (suc (length r.pre)) false b)) (frame (suc a.c) (a.l ++ a.tmp) t ∷ callers p last bs m)) Q)
+          (state (lay now.C S (bits_of (suc (length r.pre)) false b)) (top p last a t bs m)) Q)
           (sym is) run))
       exited a rest h is (went (M, lt, run)) =
           longer N M (omega arith) post r b (map source (both a rest ∷ bs))
           (begun M (omega (arith, le)) post r b a rest bs (step_back setting now m Q single bs good M a rest h run))
       exited a rest h is (stopped (M, lt, run)) =
-          let (M', lt', run') = unwind_back setting now m Q single (suc a.c) (a.l ++ a.tmp) bs (length r.pre) b M run in
+          let (M', lt', run') = unwind_back setting now m Q single a bs (length r.pre) b M run in
           longer N M' (omega arith) post r b (map source (both a rest ∷ bs))
           (ended M' post r (length r.pre) true b (map source (both a rest ∷ bs)) run')
 
       -- a run from the prologue of the top frame's rest
       through : (a : Activation) (t : Code)
           → PlainAfter w N (state (globals_at now)
-          (frame (suc a.c) (a.l ++ a.tmp) (prologue (places p.globals last a.own) last plain t) ∷ callers p last bs m)) Q
-          → Exits w p.globals last a.own now.C S now.shape small (suc a.c) (a.l ++ a.tmp) (callers p last bs m) Q N
+          (top p last a (prologue (places p.globals last a.own) last plain t) bs m)) Q
+          → Exits w small (site p last now.C S now.shape a bs m) Q N
           (length r.pre) b t
       through a t run =
-          exits w p.globals last a.own now.C S now.shape small (suc a.c) (a.l ++ a.tmp) (callers p last bs m) Q
+          exits w small (site p last now.C S now.shape a bs m) Q
           (never_below setting now m Q single bs) N (length r.pre) b t now.within run
 
       top_back : (a : Activation) (rest : Code) → Good p last (both a rest)

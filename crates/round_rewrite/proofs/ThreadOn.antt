@@ -11,7 +11,7 @@ use Rattle.round_rewrite.proofs.Laid.{row, row_middle, with_middle, bits_of, lay
 use Rattle.round_rewrite.proofs.Plain.{PlainAfter}
 use Rattle.round_rewrite.proofs.Leading.{Leads}
 use Rattle.round_rewrite.proofs.Prologue.{prologue_goes, prologue_rises, prologue_stops, stop_leads}
-use Rattle.round_rewrite.proofs.Frames.{Activation, both, Both, source, Good, AllGood, put_rest, inner, callers, stack, Setting}
+use Rattle.round_rewrite.proofs.Frames.{Activation, both, Both, source, Good, AllGood, put_rest, inner, callers, top, site, stack, Setting}
 use Rattle.round_rewrite.proofs.Forward.{side_at, pop_leads, step_leads}
 use Rattle.round_rewrite.proofs.Turns.{Turns, FailTurns}
 use Rattle.round_rewrite.proofs.ThreadBack.{Seat, reseat, next_seat, moment, length-next}
@@ -31,53 +31,48 @@ module _ (setting : Setting) (S : List (List Bool)) (m : Frame) (Q : State → T
 
   module _ (C : List (List Bool)) (shape : Shape p.globals last C S) (b : Bool) where
     -- frames that leave where stop is 1
-    unwind : (c : ℕ) (L : List Bool) (bs : List Both) (q : ℕ) → At C q true b (m ∷ [])
-        → At C q true b (frame c L done ∷ callers p last bs m)
-    unwind c L [] q (k, h) = (suc k, h)
-    unwind c L (a ∷ bs) q h =
+    unwind : (a : Activation) (bs : List Both) (q : ℕ) → At C q true b (m ∷ []) → At C q true b (top p last a done bs m)
+    unwind a [] q (k, h) = (suc k, h)
+    unwind a (d ∷ bs) q h =
         let r =
-        stop_leads w p.globals last a.own C S shape small (suc a.c) (a.l ++ a.tmp) (callers p last bs m) Q q true b
-        (put_rest p last a.own a.rest)
-        (unwind (suc a.c) (a.l ++ a.tmp) bs q h) in
+        stop_leads w small (site p last C S shape d.activation bs m) Q q true b (put_rest p last d.own d.rest)
+        (unwind d.activation bs q h) in
         (suc r.0, r.1)
 
     -- the thread stops at a prologue
-    stops_at : (q c own : ℕ) (L : List Bool) (t : Code) (bs : List Both) → At C q true b (m ∷ [])
-        → At C q false b (frame c L (prologue (places p.globals last own) last plain t) ∷ callers p last bs m)
-    stops_at q c own L t bs out =
-        prologue_stops w p.globals last own C S shape small c L (callers p last bs m) Q q b t (unwind c L bs q out)
+    stops_at : (q : ℕ) (a : Activation) (t : Code) (bs : List Both) → At C q true b (m ∷ [])
+        → At C q false b (top p last a (prologue (places p.globals last a.own) last plain t) bs m)
+    stops_at q a t bs out = prologue_stops w small (site p last C S shape a bs m) Q q b t (unwind a bs q out)
 
     -- the thread stops where it is
-    idle_top : (q : ℕ) → q ≤ last → (c own : ℕ) (L : List Bool) (rest : Code) (bs : List Both) → At C q true b (m ∷ [])
-        → At C q false b (stack p last bs m) → At C q false b (frame c L (put_rest p last own rest) ∷ callers p last bs m)
-    idle_top q within c own L done bs out below =
-        pop_leads setting (record { C = C; S = S; q = q; b = b; shape = shape; within = within }) m Q c L bs below
-    idle_top q within c own L (one k s t) bs out below = stops_at q c own L _ bs out
-    idle_top q within c own L (choose k r x y t) bs out below = stops_at q c own L _ bs out
-    idle_top q within c own L (loop k r x t) bs out below = stops_at q c own L _ bs out
+    idle_top : (q : ℕ) → q ≤ last → (a : Activation) (rest : Code) (bs : List Both) → At C q true b (m ∷ [])
+        → At C q false b (stack p last bs m) → At C q false b (stack p last (both a rest ∷ bs) m)
+    idle_top q within a done bs out below =
+        pop_leads setting (record { C = C; S = S; q = q; b = b; shape = shape; within = within }) m Q a bs below
+    idle_top q within a (one k s t) bs out below = stops_at q a _ bs out
+    idle_top q within a (choose k r x y t) bs out below = stops_at q a _ bs out
+    idle_top q within a (loop k r x t) bs out below = stops_at q a _ bs out
 
     stops : (q : ℕ) → q ≤ last → (bs : List Both) → ((s : Bool) → At C q s b (m ∷ [])) → At C q false b (stack p last bs m)
     stops q within [] out = out false
-    stops q within (a ∷ bs) out =
-        idle_top q within (suc a.c) a.own (a.l ++ a.tmp) a.rest bs (out true) (stops q within bs out)
+    stops q within (a ∷ bs) out = idle_top q within a.activation a.rest bs (out true) (stops q within bs out)
 
     -- the round's bits catch up in a prologue
-    catch_up : (d q r : ℕ) → q + d ≡ r → r ≤ last → (c own : ℕ) (L : List Bool) (t : Code) (fs : List Frame)
-        → At C r false b (frame c L (prologue (places p.globals last own) last plain t) ∷ fs)
-        → At C q false b (frame c L (prologue (places p.globals last own) last plain t) ∷ fs)
-    catch_up zero q r e within c own L t fs h =
+    catch_up : (d q r : ℕ) → q + d ≡ r → r ≤ last → (a : Activation) (t : Code) (bs : List Both)
+        → At C r false b (top p last a (prologue (places p.globals last a.own) last plain t) bs m)
+        → At C q false b (top p last a (prologue (places p.globals last a.own) last plain t) bs m)
+    catch_up zero q r e within a t bs h =
         let same : r ≡ q = omega arith in
-        subst (λ k. At C k false b (frame c L (prologue (places p.globals last own) last plain t) ∷ fs)) same h
-    catch_up (suc d) q r e within c own L t fs h =
-        prologue_rises w p.globals last own C S shape small c L fs Q q b t (omega arith)
-        (catch_up d (suc q) r (omega arith) within c own L t fs h)
+        subst (λ k. At C k false b (top p last a (prologue (places p.globals last a.own) last plain t) bs m)) same h
+    catch_up (suc d) q r e within a t bs h =
+        prologue_rises w small (site p last C S shape a bs m) Q q b t (omega arith)
+        (catch_up d (suc q) r (omega arith) within a t bs h)
 
     -- behind the prologue, with the round's bits
-    go_in : (q r : ℕ) → q ≤ r → r ≤ last → (c own : ℕ) (L : List Bool) (t : Code) (fs : List Frame)
-        → At C r false b (frame c L t ∷ fs)
-        → At C q false b (frame c L (prologue (places p.globals last own) last plain t) ∷ fs)
-    go_in q r le within c own L t fs h =
-        catch_up (r - q) q r (omega arith) within c own L t fs (prologue_goes w p.globals last own C S shape small c L fs Q r b t h)
+    go_in : (q r : ℕ) → q ≤ r → r ≤ last → (a : Activation) (t : Code) (bs : List Both) → At C r false b (top p last a t bs m)
+        → At C q false b (top p last a (prologue (places p.globals last a.own) last plain t) bs m)
+    go_in q r le within a t bs h =
+        catch_up (r - q) q r (omega arith) within a t bs (prologue_goes w small (site p last C S shape a bs m) Q r b t h)
 
   module _ (post : List (List Bool)) (r : Seat p.globals last S post) (b : Bool) where
     within : length r.pre ≤ last
@@ -101,7 +96,7 @@ module _ (setting : Setting) (S : List (List Bool)) (m : Frame) (Q : State → T
     module _ (k : ℕ) (h : List Bool) (mid : List Frame) (rec : RecRow k h mid) where
       busy : (g : List Bool) → (eg : length g ≡ p.globals) → (a : Activation) (rest : Code) (bs : List Both) → Good p last (both a rest)
           → AllGood p last bs → StepsTo p (state g (map source (both a rest ∷ bs))) (λ t. AfterSteps p k t (λ u. u ≡ state h mid))
-          → At (rows g) (length r.pre) false b (frame (suc a.c) (a.l ++ a.tmp) (inner p last a.own rest) ∷ callers p last bs m)
+          → At (rows g) (length r.pre) false b (top p last a (inner p last a.own rest) bs m)
       busy g eg a rest bs good goods steps =
           step_leads setting (now_at g eg) m Q (λ t. AfterSteps p k t (λ u. u ≡ state h mid))
           (λ g' bs' eg' goods' run.
@@ -125,15 +120,15 @@ module _ (setting : Setting) (S : List (List Bool)) (m : Frame) (Q : State → T
             shape = (now_at g eg).shape;
             within = omega (arith, le, within);
           } in
-          pop_leads setting lower m Q (suc a.c) (a.l ++ a.tmp) bs (rec g eg q le bs goods steps)
+          pop_leads setting lower m Q a bs (rec g eg q le bs goods steps)
       top_on g eg q le a (one d s t) bs good goods steps =
-          go_in (rows g) (now_at g eg).shape b q (length r.pre) le within (suc a.c) a.own (a.l ++ a.tmp) _ (callers p last bs m)
+          go_in (rows g) (now_at g eg).shape b q (length r.pre) le within a _ bs
           (busy g eg a (one d s t) bs good goods steps)
       top_on g eg q le a (choose d s x y t) bs good goods steps =
-          go_in (rows g) (now_at g eg).shape b q (length r.pre) le within (suc a.c) a.own (a.l ++ a.tmp) _ (callers p last bs m)
+          go_in (rows g) (now_at g eg).shape b q (length r.pre) le within a _ bs
           (busy g eg a (choose d s x y t) bs good goods steps)
       top_on g eg q le a (loop d s x t) bs good goods steps =
-          go_in (rows g) (now_at g eg).shape b q (length r.pre) le within (suc a.c) a.own (a.l ++ a.tmp) _ (callers p last bs m)
+          go_in (rows g) (now_at g eg).shape b q (length r.pre) le within a _ bs
           (busy g eg a (loop d s x t) bs good goods steps)
 
     -- a turn of the source is a run in the round's row
@@ -156,7 +151,7 @@ module _ (setting : Setting) (S : List (List Bool)) (m : Frame) (Q : State → T
     fail_inner g eg a (one d (assert v) t) bs good f out =
         let shape : Shape p.globals last (rows g) S = (now_at g eg).shape in
         let X : List Bool = globals_at (now_at g eg) in
-        let u = unwind (rows g) shape true (suc a.c) (a.l ++ a.tmp) bs (length r.pre) out in
+        let u = unwind (rows g) shape true a bs (length r.pre) out in
         let zero_is : IsValue (row (rows g) (length r.pre)) a.l v false =
         subst (λ y. IsValue y a.l v false) (sym (row_middle r.pre g post)) f in
         let is : IsValue X (a.l ++ a.tmp) (side (places p.globals last a.own) last v) false =
@@ -166,7 +161,7 @@ module _ (setting : Setting) (S : List (List Bool)) (m : Frame) (Q : State → T
         ap (λ y. with_bit y (stop_at p.globals last) true)
         (bits_with p.globals last (rows g) S (bits_of (length r.pre) false b) 3 true shape)
         ∙ bits_with p.globals last (rows g) S (bits_of (length r.pre) false true) 2 true shape in
-        prologue_goes w p.globals last a.own (rows g) S shape small (suc a.c) (a.l ++ a.tmp) (callers p last bs m) Q (length r.pre) b _ (
+        prologue_goes w small (site p last (rows g) S shape a bs m) Q (length r.pre) b _ (
           suc (suc (suc u.0)),
           (
             false,
@@ -174,7 +169,7 @@ module _ (setting : Setting) (S : List (List Bool)) (m : Frame) (Q : State → T
             (
               true ∷ true ∷ [],
               (refl, (refl, tt)),
-              subst (λ y. PlainAfter w u.0 (state y (frame (suc a.c) (a.l ++ a.tmp) done ∷ callers p last bs m)) Q) (sym writes) u.1,
+              subst (λ y. PlainAfter w u.0 (state y (top p last a done bs m)) Q) (sym writes) u.1,
             ),
           ),
         )
@@ -191,8 +186,7 @@ module _ (setting : Setting) (S : List (List Bool)) (m : Frame) (Q : State → T
         → At (rows g) (length r.pre) true true (m ∷ []) → At (rows g) q false b (stack p last (both a rest ∷ bs) m)
     fail_top g eg q le a done bs good f out = absurd f
     fail_top g eg q le a (one d s t) bs good f out =
-        catch_up (rows g) (now_at g eg).shape b (length r.pre - q) q (length r.pre) (omega arith) within (suc a.c) a.own
-        (a.l ++ a.tmp) _ (callers p last bs m) (fail_inner g eg a (one d s t) bs good f out)
+        catch_up (rows g) (now_at g eg).shape b (length r.pre - q) q (length r.pre) (omega arith) within a _ bs (fail_inner g eg a (one d s t) bs good f out)
     fail_top g eg q le a (choose d v x y t) bs good f out = absurd f
     fail_top g eg q le a (loop d v x t) bs good f out = absurd f
 
