@@ -1,20 +1,20 @@
 -- A run of the rewritten program from behind a prologue begins with a step of the source, or with its failure.
-use Rattle.std.proofs.Common.{◌≡◌, ℕ, suc, ◌+◌, ◌<◌, ◌≤◌, Bool, true, false, cond, List, [], ◌∷◌, ◌++◌, length, map, Option, Some, None}
+use Rattle.std.proofs.Common.{◌≡◌, ℕ, suc, ◌+◌, ◌≤◌, Bool, true, false, cond, List, [], ◌∷◌, ◌++◌, length, map, Option, Some, None}
 use Rattle.std.proofs.Common.{option_map, slice_get, refl, sym, ◌∙◌, ap, subst, ap₂, arith}
 use Rattle.language.specs.Tree.{Expression, const, RightSide, value, skip, assign, assert, assume, goto, leave, call, Mark, done, one}
 use Rattle.language.specs.Tree.{choose, loop}
 use Rattle.language.specs.Value.{Place, global, with_bit, values_of, IsValue, AreValues, written_globals, written_locals}
 use Rattle.language.specs.Rest.{Label, Code, join, rest_from}
-use Rattle.language.specs.Step.{Routine, Program, Frame, frame, State, state, zeros, fresh, AtRoutine, AtRest, body_of, StepsTo, Fails}
+use Rattle.language.specs.Step.{Routine, Frame, frame, State, state, zeros, fresh, AtRoutine, AtRest, body_of, StepsTo, Fails}
 use Rattle.language.proofs.Lengths.{length_values, length_globals, length_locals}
-use Rattle.round_rewrite.specs.Table.{plain, temporaries, expression, side, stop_test, statement}
+use Rattle.round_rewrite.specs.Table.{plain, temporaries, expression, side, stop_test}
 use Rattle.round_rewrite.specs.Places.{places, is_global, stop_at, bad_at}
-use Rattle.resolved.specs.Scoped.{AreInScope, SideInScope, FitsScopes}
+use Rattle.resolved.specs.Scoped.{SideInScope}
 use Rattle.round_rewrite.proofs.Laid.{row, bits_of, lay, Moment, globals_at, turned, unturned, row_long, bits_with}
 use Rattle.round_rewrite.proofs.Translate.{expressions_are}
 use Rattle.round_rewrite.proofs.Drawing.{assign_back}
 use Rattle.round_rewrite.proofs.Plain.{PlainAfter}
-use Rattle.round_rewrite.proofs.Leading.{Leads, Never, unstep, Later, later, later_now}
+use Rattle.round_rewrite.proofs.Leading.{Never, unstep, Later, later, later_now}
 use Rattle.round_rewrite.proofs.Prologue.{stop_back}
 use Rattle.round_rewrite.proofs.Frames.{Activation, both, entered, Both, source, Good, AllGood, put_rest, inner, callers, top, site, stack}
 use Rattle.round_rewrite.proofs.Frames.{Setting, put_routine, fresh_more}
@@ -116,7 +116,8 @@ module _ (setting : Setting) (now : Moment setting.p.globals setting.last) (m : 
         → IsValue X (a.l ++ a.tmp) (side (places p.globals last a.own) last r) v
         → PlainAfter w N
         (state X
-        (top p last a (cond v (one plain skip (put_rest p last a.own t)) (fail_code (put_rest p last a.own t))) bs m)) Q → Begins N a (one k (assert r) t) bs
+        (top p last a (cond v (one plain skip (put_rest p last a.own t)) (fail_code (put_rest p last a.own t))) bs m)) Q
+        → Begins N a (one k (assert r) t) bs
     unfolding fail_code
     assert_back N a k r t true h is run =
         let (n1, e1, r1) = unstep w Q N _ _ _ (never_below bs) run in
@@ -171,7 +172,7 @@ module _ (setting : Setting) (now : Moment setting.p.globals setting.last) (m : 
         let lv : length vs ≤ r.places = subst (λ k. k ≤ r.places) (sym (length_values (row C q) a.l es)) short in
         let scope = h.fits.0.0 in
         let ev : values_of X (a.l ++ a.tmp) (map (expression (places p.globals last a.own) last) es) ≡ vs =
-        expressions_are p.globals last a.own C S q false b (a.l ++ a.tmp) shape small within a.l a.tmp refl h.long es scope.0 in
+        expressions_are small now a.own (a.l ++ a.tmp) a.l a.tmp refl h.long es scope.0 in
         let ef : fresh (r.places + d)
         (values_of X (a.l ++ a.tmp) (map (expression (places p.globals last a.own) last) es)) ≡ fresh r.places vs ++ zeros d =
         ap (fresh (r.places + d)) ev ∙ fresh_more r.places d vs lv in
@@ -218,7 +219,8 @@ module _ (setting : Setting) (now : Moment setting.p.globals setting.last) (m : 
         branches : (v : Bool) (n1 : ℕ) (a : Activation) (t : Code)
             → PlainAfter w n1
             (state X
-            (top p last a (cond v (join (one plain skip done) (put_rest p last a.own t)) (join (fail_code done) (put_rest p last a.own t))) bs m)) Q
+            (top p last a
+            (cond v (join (one plain skip done) (put_rest p last a.own t)) (join (fail_code done) (put_rest p last a.own t))) bs m)) Q
             → PlainAfter w n1
             (state X
             (top p last a (cond v (one plain skip (put_rest p last a.own t)) (fail_code (put_rest p last a.own t))) bs m)) Q

@@ -65,10 +65,10 @@ module _ (w : World) (n last own c : ℕ) (fs : List Frame) (Q : State → Type 
     write_state xs rs vs tmp' t a hx =
         state
         (written_globals (targets (places n last own) last xs rs)
-        (spread_all n last own C S q false b shape small within l tmp' el xs rs vs) (lay C S (bits_of q false b)))
+        (spread_all small now own l tmp' el xs rs vs) (lay C S (bits_of q false b)))
         (frame c
         (written_locals (targets (places n last own) last xs rs)
-        (spread_all n last own C S q false b shape small within l tmp' el xs rs vs) (l ++ tmp')) t ∷ fs)
+        (spread_all small now own l tmp' el xs rs vs) (l ++ tmp')) t ∷ fs)
 
     write_is : (xs : List Place) (rs : List (RightSide Place)) (vs tmp' : List Bool) (t : Code) (a : AreValues (row C q) l rs vs)
         (hx : PlacesInScope n own xs)
@@ -77,15 +77,15 @@ module _ (w : World) (n last own c : ℕ) (fs : List Frame) (Q : State → Type 
     unfolding write_state
     write_is xs rs vs tmp' t a hx =
         let eg : written_globals (targets (places n last own) last xs rs)
-        (spread_all n last own C S q false b shape small within l tmp' el xs rs vs) (lay C S (bits_of q false b))
+        (spread_all small now own l tmp' el xs rs vs) (lay C S (bits_of q false b))
         ≡ turned now (written_globals xs vs (row C q)) =
         ap
         (written_globals (targets (places n last own) last xs rs)
-        (spread_all n last own C S q false b shape small within l tmp' el xs rs vs)) (sym (unturned now))
-        ∙ writes n last own C S q false b shape small within l tmp' el xs rs vs (row C q) a hx (row_long now) in
+        (spread_all small now own l tmp' el xs rs vs)) (sym (unturned now))
+        ∙ writes small now own l tmp' el xs rs vs (row C q) a hx (row_long now) in
         let ell : written_locals (targets (places n last own) last xs rs)
-        (spread_all n last own C S q false b shape small within l tmp' el xs rs vs) (l ++ tmp') ≡ written_locals xs vs l ++ tmp' =
-        writes_locals n last own C S q false b shape small within l tmp' el xs rs vs l a hx el in
+        (spread_all small now own l tmp' el xs rs vs) (l ++ tmp') ≡ written_locals xs vs l ++ tmp' =
+        writes_locals small now own l tmp' el xs rs vs l a hx el in
         ap₂ (λ x y. state x (frame c y t ∷ fs)) eg ell
 
     pub assign_leads : (xs : List Place) (rs : List (RightSide Place)) (vs : List Bool) (t : Code) → AreValues (row C q) l rs vs
@@ -106,7 +106,7 @@ module _ (w : World) (n last own c : ℕ) (fs : List Frame) (Q : State → Type 
         (any_are (lay C S (bits_of q false b)) (l ++ tmp) (row C q) l 0 xs rs vs a) (
           suc r.0,
           (
-            spread_all n last own C S q false b shape small within l tmp' el xs rs vs,
+            spread_all small now own l tmp' el xs rs vs,
             are xs rs vs tmp' a p hx hr,
             subst (λ z. PlainAfter w r.0 z Q) (sym (write_is xs rs vs tmp' t a hx)) r.1,
           ),
@@ -115,8 +115,8 @@ module _ (w : World) (n last own c : ℕ) (fs : List Frame) (Q : State → Type 
         are : (xs : List Place) (rs : List (RightSide Place)) (vs tmp' : List Bool) → AreValues (row C q) l rs vs → Picked 0 xs rs vs tmp'
             → PlacesInScope n own xs → SidesInScope n own rs
             → AreValues (lay C S (bits_of q false b)) (l ++ tmp') (sides (places n last own) last 0 xs rs)
-            (spread_all n last own C S q false b shape small within l tmp' el xs rs vs)
-        are xs rs vs tmp' a p hx hr = sides_are n last own C S q false b shape small within l tmp' el 0 xs rs vs a p hx hr
+            (spread_all small now own l tmp' el xs rs vs)
+        are xs rs vs tmp' a p hx hr = sides_are small now own l tmp' el 0 xs rs vs a p hx hr
 
     pub assign_back : Never Q fs → (N : ℕ) (xs : List Place) (rs : List (RightSide Place)) (t : Code) → PlacesInScope n own xs
         → SidesInScope n own rs
@@ -148,5 +148,5 @@ module _ (w : World) (n last own c : ℕ) (fs : List Frame) (Q : State → Type 
         back : (xs : List Place) (rs : List (RightSide Place)) (tmp' ws : List Bool) → PlacesInScope n own xs → SidesInScope n own rs
             → AreValues (lay C S (bits_of q false b)) (l ++ tmp') (sides (places n last own) last 0 xs rs) ws
             → (vs : List Bool) × AreValues (row C q) l rs vs
-            × (ws ≡ spread_all n last own C S q false b shape small within l tmp' el xs rs vs)
-        back xs rs tmp' ws hx hr a = sides_back n last own C S q false b shape small within l tmp' el 0 xs rs ws hx hr a
+            × (ws ≡ spread_all small now own l tmp' el xs rs vs)
+        back xs rs tmp' ws hx hr a = sides_back small now own l tmp' el 0 xs rs ws hx hr a

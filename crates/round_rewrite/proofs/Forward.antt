@@ -1,5 +1,5 @@
 -- A step of the source is a run of the rewritten program.
-use Rattle.std.proofs.Common.{◌≡◌, ℕ, suc, ◌+◌, ◌<◌, ◌≤◌, Bool, true, false, cond, List, [], ◌∷◌, ◌++◌, length, map, Option, Some, None}
+use Rattle.std.proofs.Common.{◌≡◌, ℕ, suc, ◌+◌, ◌≤◌, Bool, true, false, cond, List, [], ◌∷◌, ◌++◌, length, map, Option, Some, None}
 use Rattle.std.proofs.Common.{option_map, slice_get, refl, sym, ◌∙◌, ap, subst, arith}
 use Rattle.language.specs.Tree.{Expression, RightSide, skip, assign, assert, assume, goto, leave, call, Mark, done, one, choose, loop}
 use Rattle.language.specs.Value.{Place, values_of, IsValue, written_globals, written_locals}
@@ -110,7 +110,7 @@ module _ (setting : Setting) (now : Moment setting.p.globals setting.last) (m : 
 
   pub side_at : (a : Activation) → length a.l ≡ a.own → (r : RightSide Place) → SideInScope p.globals a.own r → (v : Bool)
       → IsValue X (a.l ++ a.tmp) (side (naming a.own) last r) v ≡ IsValue (row C q) a.l r v
-  side_at a el r h v = side_is p.globals last a.own C S q false b (a.l ++ a.tmp) shape small within a.l a.tmp refl el r h v
+  side_at a el r h v = side_is small now a.own (a.l ++ a.tmp) a.l a.tmp refl el r h v
 
   module _ (Q : State → Type 0) where
     -- a frame that leaves, where stop is 0
@@ -165,7 +165,7 @@ module _ (setting : Setting) (now : Moment setting.p.globals setting.last) (m : 
             same_globals next (entered q' r vs ∷ both a t ∷ bs)
             (call_good p last q' r vs fits e lv, (h, good)) at in
             let ev : values_of X (a.l ++ a.tmp) (map (expression (naming a.own) last) es) ≡ vs =
-            expressions_are p.globals last a.own C S q false b (a.l ++ a.tmp) shape small within a.l a.tmp refl h.long es scope in
+            expressions_are small now a.own (a.l ++ a.tmp) a.l a.tmp refl h.long es scope in
             let ef : fresh (r.places + d)
             (values_of X (a.l ++ a.tmp) (map (expression (naming a.own) last) es)) ≡ fresh r.places vs ++ zeros d =
             ap (fresh (r.places + d)) ev ∙ fresh_more r.places d vs lv in (

@@ -8,8 +8,8 @@ use Rattle.language.specs.Rest.{Label, Code}
 use Rattle.language.specs.Step.{Frame, frame, State, state}
 use Rattle.round_rewrite.specs.Table.{numbers, plain, each, guess}
 use Rattle.round_rewrite.specs.Places.{places, copy_at, save_at, all_globals, bad_at}
-use Rattle.round_rewrite.proofs.Laid.{Long, row, with_row, row_bit, row_with, row_middle, with_middle, with_right, bit_right, length-flat}
-use Rattle.round_rewrite.proofs.Laid.{flat, lay, Shape, with-own_row, long_row, length-with_row, long-with_row, long-append}
+use Rattle.round_rewrite.proofs.Laid.{Long, row, with_row, row_bit, row_with, with_right, bit_right, length-flat}
+use Rattle.round_rewrite.proofs.Laid.{flat, lay, Shape, with-own_row, long_row, length-with_row, long-with_row}
 use Rattle.round_rewrite.proofs.Assigned.{row-with_same, with-with_row}
 use Rattle.round_rewrite.proofs.Plain.{World, PlainSteps, PlainAfter}
 use Rattle.round_rewrite.proofs.Leading.{Leads}

@@ -11,7 +11,7 @@ use Rattle.round_rewrite.specs.Names.{copy_name, save_name, names}
 use Rattle.scopes.specs.Rewritable.{AreFree, AreDistinct, EachLine}
 use Rattle.round_rewrite.proofs.Spelling.{same_text_refl, same_text_false}
 use Rattle.round_rewrite.proofs.Numbering.{number_right}
-use Rattle.round_rewrite.proofs.Placing.{scope, wider, copy_place, save_place}
+use Rattle.round_rewrite.proofs.Placing.{wider, copy_place, save_place}
 use Rattle.round_rewrite.proofs.Resolved.{lo, hi, st}
 use Rattle.resolved.specs.Limits.{most_places}
 use Rattle.round_rewrite.specs.Limits.{most_rounds}

@@ -6,7 +6,7 @@ use Rattle.language.specs.Tree.{Name}
 use Rattle.language.specs.Value.{global, local}
 use Rattle.language.specs.Rest.{same_text}
 use Rattle.language.specs.Resolve.{number_of, is_declared, Scope, place_of}
-use Rattle.round_rewrite.specs.Table.{Naming, numbers, copied, globals}
+use Rattle.round_rewrite.specs.Table.{numbers, copied, globals}
 use Rattle.round_rewrite.specs.Places.{copy_at, save_at, bits_at, high_at, low_at, stop_at, bad_at}
 use Rattle.round_rewrite.specs.Names.{named, copy_name, save_name, drawn_name, names}
 use Rattle.scopes.specs.Rewritable.{has_double, AreFree}

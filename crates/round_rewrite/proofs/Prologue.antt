@@ -8,7 +8,7 @@ use Rattle.language.specs.Rest.{Code, join}
 use Rattle.language.specs.Step.{Frame, frame, State, state}
 use Rattle.round_rewrite.specs.Table.{plain, in_round, stop_test, rise, prologue}
 use Rattle.round_rewrite.specs.Places.{places, high_at, low_at, stop_at}
-use Rattle.round_rewrite.proofs.Laid.{high, low, bits_of, lay, Shape, bits_bit, bits_with}
+use Rattle.round_rewrite.proofs.Laid.{high, low, bits_of, lay, Shape, Moment, bits_bit, bits_with}
 use Rattle.round_rewrite.proofs.Translate.{same, same_refl, same_false, at_is}
 use Rattle.round_rewrite.proofs.Plain.{World, PlainAfter}
 use Rattle.round_rewrite.proofs.Leading.{Leads, Never, unstep, Later, later, later_now}
@@ -30,7 +30,8 @@ pub not_true : (x : Bool) → true ≡ not x → x ≡ false
 not_true true e = cc
 not_true false e = refl
 
--- a frame of a rewritten procedure, and what stays the same while it stands at a prologue: the rows and the saved guesses, its
+-- a frame of a rewritten procedure, and what stays the same while it stands at a prologue: the rows and the saved
+-- guesses, its
 -- procedure, how many places that has in the source, the values of all its places, and the frames below
 pub record Site (n last : ℕ) : Type 0 where
   pub C : List (List Bool)
@@ -46,6 +47,9 @@ module _ (w : World) {n last : ℕ} (small : last < most_rounds) (site : Site n 
 
   abbrev pub now : ℕ → Bool → Bool → List Bool
   now q s b = lay C S (bits_of q s b)
+
+  abbrev in_round_of : (q : ℕ) → q ≤ last → Bool → Moment n last
+  in_round_of q within b = record { C = C; S = S; q = q; b = b; shape = shape; within = within }
 
   abbrev pub on : List Bool → Code → State
   on X t = state X (frame c L t ∷ fs)
@@ -101,7 +105,7 @@ module _ (w : World) {n last : ℕ} (small : last < most_rounds) (site : Site n 
   prologue_rises q b t lt (m, h) =
       let X : List Bool = now q false b in
       let free : true ≡ not (value_of X L (in_round (places n last own) last last)) =
-      sym (ap not (at_is n last own C S q false b L shape small (omega arith) last (omega arith) ∙ same_false last q (omega arith))) in (
+      sym (ap not (at_is small (in_round_of q (omega arith) b) own L last (omega arith) ∙ same_false last q (omega arith))) in (
         suc (suc (suc m)),
         (
           true,
@@ -203,7 +207,7 @@ module _ (w : World) {n last : ℕ} (small : last < most_rounds) (site : Site n 
       (value (two xor (var (global (high_at n last))) (var (global (low_at n last)))))
       (value (negation (var (global (low_at n last))))) (global 0) (global 0) k1.0 k1.1 in
       let free : same last q ≡ false =
-      sym (at_is n last own C S q false b L shape small within last (omega arith)) ∙
+      sym (at_is small (in_round_of q within b) own L last (omega arith)) ∙
       not_true (value_of X L (in_round (places n last own) last last)) k.0 in
       let lt : q < last = elim (cases_eq q last) [
         | inl eq ↦ absurd (let bad : true ≡ false = sym (ap (same last) eq ∙ same_refl last) ∙ free in cc)

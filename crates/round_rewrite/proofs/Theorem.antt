@@ -1,5 +1,5 @@
 -- The rewriting theorem over places.
-use Rattle.std.proofs.Common.{◌≡◌, ℕ, suc, ◌<◌, Bool, true, false, List, [], ◌∷◌, None, refl, sym, subst, inl, inr}
+use Rattle.std.proofs.Common.{◌≡◌, ℕ, suc, ◌<◌, Bool, true, List, [], ◌∷◌, None, refl, sym, subst, inl, inr}
 use Rattle.language.specs.Tree.{done, one, choose, loop}
 use Rattle.language.specs.Value.{bit}
 use Rattle.language.specs.Rest.{Code}
@@ -10,11 +10,9 @@ use Rattle.round_rewrite.specs.Table.{main}
 use Rattle.round_rewrite.specs.Places.{places, all_globals, rewritten_program, bad_at, global_count}
 use Rattle.resolved.specs.Scoped.{FitsScopes}
 use Rattle.round_rewrite.specs.Law.{Keeps}
-use Rattle.round_rewrite.proofs.Laid.{bits_of, lay}
 use Rattle.round_rewrite.proofs.Plain.{PlainAfter, bare_state, world_of, plain_after}
 use Rattle.round_rewrite.proofs.Turns.{after_map, after_pick}
-use Rattle.round_rewrite.proofs.Compose.{copies}
-use Rattle.round_rewrite.proofs.Guessing.{Bad, main_at}
+use Rattle.round_rewrite.proofs.Guessing.{Bad}
 use Rattle.round_rewrite.proofs.Assembly.{start_is, unsafe_leads, leads_unsafe}
 use Rattle.round_rewrite.proofs.Uncalled.{never_asked}
 use Rattle.round_rewrite.specs.Limits.{most_rounds}

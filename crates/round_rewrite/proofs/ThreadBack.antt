@@ -3,10 +3,9 @@ use Rattle.std.proofs.Common.{◌≡◌, ℕ, zero, suc, ◌+◌, ◌<◌, ◌�
 use Rattle.std.proofs.Common.{subst, arith, append_assoc, length-append, ◌⊎◌, inl, inr}
 use Rattle.language.specs.Tree.{done, one, choose, loop}
 use Rattle.language.specs.Rest.{Code}
-use Rattle.language.specs.Step.{Program, Frame, frame, State, state, StepsTo, Fails}
+use Rattle.language.specs.Step.{Frame, State, state, StepsTo, Fails}
 use Rattle.round_rewrite.specs.Table.{plain, prologue}
 use Rattle.round_rewrite.specs.Places.{places}
-use Rattle.resolved.specs.Scoped.{FitsScopes}
 use Rattle.round_rewrite.proofs.Laid.{row_middle, with_middle, Long, long-append, bits_of, lay, Shape, Moment, globals_at}
 use Rattle.round_rewrite.proofs.Plain.{PlainAfter}
 use Rattle.round_rewrite.proofs.Prologue.{Exits, rose, went, stopped, exits}

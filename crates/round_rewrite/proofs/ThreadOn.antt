@@ -1,17 +1,17 @@
 -- A thread's turns, or turns that fail, are a run of the rewritten thread down to the first procedure.
-use Rattle.std.proofs.Common.{◌≡◌, ℕ, zero, suc, ◌+◌, ◌-◌, ◌<◌, ◌≤◌, Bool, true, false, List, [], ◌∷◌, ◌++◌, length, map, refl, sym, ◌∙◌}
+use Rattle.std.proofs.Common.{◌≡◌, ℕ, zero, suc, ◌+◌, ◌-◌, ◌≤◌, Bool, true, false, List, [], ◌∷◌, ◌++◌, length, map, refl, sym, ◌∙◌}
 use Rattle.std.proofs.Common.{ap, subst, arith, append_assoc, inl, inr}
 use Rattle.language.specs.Tree.{skip, assign, assert, assume, goto, leave, call, done, one, choose, loop}
 use Rattle.language.specs.Value.{with_bit, IsValue}
 use Rattle.language.specs.Rest.{Code}
-use Rattle.language.specs.Step.{Program, Frame, frame, State, state, StepsTo, AfterSteps, Fails}
+use Rattle.language.specs.Step.{Frame, State, state, StepsTo, AfterSteps, Fails}
 use Rattle.round_rewrite.specs.Table.{plain, side, prologue}
 use Rattle.round_rewrite.specs.Places.{places, stop_at, bad_at}
 use Rattle.round_rewrite.proofs.Laid.{row, row_middle, with_middle, bits_of, lay, Shape, Moment, globals_at, bits_with}
 use Rattle.round_rewrite.proofs.Plain.{PlainAfter}
 use Rattle.round_rewrite.proofs.Leading.{Leads}
 use Rattle.round_rewrite.proofs.Prologue.{prologue_goes, prologue_rises, prologue_stops, stop_leads}
-use Rattle.round_rewrite.proofs.Frames.{Activation, both, Both, source, Good, AllGood, put_rest, inner, callers, top, site, stack, Setting}
+use Rattle.round_rewrite.proofs.Frames.{Activation, both, Both, source, Good, AllGood, put_rest, inner, top, site, stack, Setting}
 use Rattle.round_rewrite.proofs.Forward.{side_at, pop_leads, step_leads}
 use Rattle.round_rewrite.proofs.Turns.{Turns, FailTurns}
 use Rattle.round_rewrite.proofs.ThreadBack.{Seat, reseat, next_seat, moment, length-next}
@@ -186,7 +186,8 @@ module _ (setting : Setting) (S : List (List Bool)) (m : Frame) (Q : State → T
         → At (rows g) (length r.pre) true true (m ∷ []) → At (rows g) q false b (stack p last (both a rest ∷ bs) m)
     fail_top g eg q le a done bs good f out = absurd f
     fail_top g eg q le a (one d s t) bs good f out =
-        catch_up (rows g) (now_at g eg).shape b (length r.pre - q) q (length r.pre) (omega arith) within a _ bs (fail_inner g eg a (one d s t) bs good f out)
+        catch_up (rows g) (now_at g eg).shape b (length r.pre - q) q (length r.pre) (omega arith) within a _ bs
+        (fail_inner g eg a (one d s t) bs good f out)
     fail_top g eg q le a (choose d v x y t) bs good f out = absurd f
     fail_top g eg q le a (loop d v x t) bs good f out = absurd f
 

@@ -8,7 +8,7 @@ use Rattle.language.specs.Value.{Place, global, local, bit, operate, look_up, va
 use Rattle.round_rewrite.specs.Table.{literal, in_round, joined, expression, side}
 use Rattle.round_rewrite.specs.Places.{places}
 use Rattle.resolved.specs.Scoped.{InScope, AreInScope, SideInScope}
-use Rattle.round_rewrite.proofs.Laid.{row, row_bit, high, low, bits_of, lay, Shape, bits_bit}
+use Rattle.round_rewrite.proofs.Laid.{row, row_bit, high, low, bits_of, Moment, globals_at, bits_bit}
 use Rattle.round_rewrite.specs.Limits.{most_rounds}
 
 pub or_false : (x : Bool) → (x || false) ≡ x
@@ -59,18 +59,19 @@ closed (suc (suc (suc zero))) (suc (suc (suc zero))) h h' = refl
 closed (suc (suc (suc (suc k)))) q h h' = absurd (omega arith)
 closed k (suc (suc (suc (suc q)))) h h' = absurd (omega arith)
 
-module _ (n last own : ℕ) (C S : List (List Bool)) (q : ℕ) (s b : Bool) (L : List Bool) (shape : Shape n last C S)
-    (small : last < most_rounds) (within : q ≤ last) where
-  abbrev pub globals_now : List Bool
-  globals_now = lay C S (bits_of q s b)
+module _ {n last : ℕ} (small : last < most_rounds) (now : Moment n last) (own : ℕ) (L : List Bool) where
+  open now use {C, S, q, b, shape, within}
+
+  abbrev globals_now : List Bool
+  globals_now = globals_at now
 
   -- `at` k is the test that the round is k
   pub at_is : (k : ℕ) → k ≤ last → value_of globals_now L (in_round (places n last own) last k) ≡ same k q
   at_is k h =
       ap₂ (λ x y. x && y) (literal_is globals_now L (k / 2 % 2) _) (literal_is globals_now L (k % 2) _)
-      ∙ (ap₂ (λ x y. lit (k / 2 % 2) x && lit (k % 2) y) (bits_bit n last C S (bits_of q s b) 0 shape)
-      (bits_bit n last C S (bits_of q s b) 1 shape)
-      ∙ closed k q (omega arith) (omega arith))
+      ∙ (ap₂ (λ x y. lit (k / 2 % 2) x && lit (k % 2) y) (bits_bit n last C S (bits_of q false b) 0 shape)
+      (bits_bit n last C S (bits_of q false b) 1 shape)
+      ∙ closed k q (omega arith) (omega (arith, within)))
 
   copy_is : (k i : ℕ) → k ≤ last → i < n → bit globals_now (k * n + i) ≡ bit (row C k) i
   copy_is k i h h' = row_bit n C _ k i shape.copies (let e : length C ≡ suc last = shape.rounds in omega arith) h'
