@@ -1,6 +1,7 @@
 -- The rewriting theorem over places, put together.
-use Rattle.std.proofs.Common.{◌≡◌, ℕ, zero, suc, ◌+◌, ◌-◌, ◌*◌, ◌<◌, Bool, true, false, List, [], ◌∷◌, ◌++◌, length, map, Option, Some}
-use Rattle.std.proofs.Common.{None, option_map, slice_get, refl, sym, ◌∙◌, ap, ap₂, arith, append_assoc, ◌⊎◌, inl, inr}
+use Rattle.std.proofs.Common.{◌≡◌, ℕ, zero, suc, ◌+◌, ◌-◌, ◌*◌, ◌<◌, Bool, true, false, List, [], ◌∷◌}
+use Rattle.std.proofs.Common.{◌++◌, length, map, Option, Some, None, option_map, slice_get, refl, sym, ◌∙◌, ap, ap₂, arith}
+use Rattle.std.proofs.Common.{append_assoc, ◌⊎◌, inl, inr}
 use Rattle.std.proofs.lemmas.Option.{slice_get-map}
 use Rattle.language.specs.Tree.{done}
 use Rattle.language.specs.Value.{Place}
@@ -40,7 +41,8 @@ module _ (w : Naming Place Place ℕ ℕ) (last : ℕ) where
   pub bare-main : (xs : List Place) (T : List ℕ) → bare (main w last xs T) ≡ main w last xs T
   bare-main xs T =
       let ends : Code = checks w last xs (numbers 0 last) done in
-      passes (guesses w last xs) (guess w last xs) (λ t. refl) (λ k ks t. refl) bare (bare-guess xs) (numbers 1 last) (starts w last T ends)
+      passes (guesses w last xs) (guess w last xs) (λ t. refl) (λ k ks t. refl) bare (bare-guess xs) (numbers 1 last)
+      (starts w last T ends)
       ∙ ap (guesses w last xs (numbers 1 last)) (bare-starts T ends
       ∙ ap (starts w last T)
       (passes (checks w last xs) (check w last xs) (λ t. refl) (λ k ks t. refl) bare (bare-check xs) (numbers 0 last) done))
@@ -50,7 +52,8 @@ flat_copies n zero = ap zeros (let z : zero ≡ zero * n = omega arith in z)
 flat_copies n (suc k) = ap (λ z. zeros n ++ z) (flat_copies n k)
     ∙ (sym (zeros-add n (k * n)) ∙ ap zeros (let z : n + k * n ≡ suc k * n = omega arith in z))
 
-zeros_lie : (n last : ℕ) → zeros (global_count n last) ≡ lay (copies (suc last) (zeros n)) (copies last (zeros n)) (bits_of 0 false false)
+zeros_lie : (n last : ℕ)
+    → zeros (global_count n last) ≡ lay (copies (suc last) (zeros n)) (copies last (zeros n)) (bits_of 0 false false)
 zeros_lie n last =
     zeros-add (suc last * n + last * n) 4
     ∙ (ap (λ z. z ++ zeros 4) (zeros-add (suc last * n) (last * n))
@@ -173,12 +176,14 @@ module _ (p : Program) (last : ℕ) where
         guesses_back (world_of result) n last z (length_zeros n) (bits_of 0 false false)
         (starts (places n last 0) last p.threads checks_code) last 0 [] (copies last z) (copies last z) first_fill N h in
         rows G long eG
-        (starts_back setting G (long, eG) checks_code p.threads fits.threads (z ∷ G) ((length_zeros n, long), ap suc eG) 0 false false M h1)
+        (starts_back setting G (long, eG) checks_code p.threads fits.threads (z ∷ G)
+        ((length_zeros n, long), ap suc eG) 0 false false M h1)
       where
         fails : (G : List (List Bool)) (y : List Bool) (G' : List (List Bool)) → length G ≡ last → Linked y G G'
             → FailThreads p (z ∷ G) (map (starting_stack p.routines) p.threads) (y ∷ G') → Unsafe p (suc last)
         fails G y G' eG link ft =
-            let (r, lt, g, ts, rounds, f) = to_rounds p z (z ∷ G) (map (starting_stack p.routines) p.threads) (y ∷ G') (refl, link) ft in
+            let (r, lt, g, ts, rounds, f) =
+            to_rounds p z (z ∷ G) (map (starting_stack p.routines) p.threads) (y ∷ G') (refl, link) ft in
             (r, omega arith, g, ts, rounds, f)
 
         rows : (G : List (List Bool)) (long : Long n G) (eG : length G ≡ last)
@@ -195,7 +200,8 @@ module _ (p : Program) (last : ℕ) where
             failing e (inr (e', b)) = b
 
             turned : (G : List (List Bool)) → length G ≡ last → (H : List (List Bool)) → length H ≡ suc last
-                → ((i : ℕ) → i < last → row G i ≡ row H i) → FailThreads p (z ∷ G) (map (starting_stack p.routines) p.threads) H
+                → ((i : ℕ) → i < last → row G i ≡ row H i)
+                → FailThreads p (z ∷ G) (map (starting_stack p.routines) p.threads) H
                 → Unsafe p (suc last)
             turned G eG [] eH facts ft = absurd (omega arith)
             turned G eG (y ∷ H) eH facts ft = fails G y H eG (linked_rows G y H (omega arith) (λ k lt. facts k (omega arith))) ft

@@ -1,6 +1,6 @@
 -- A run of the rewritten program from behind a prologue begins with a step of the source, or with its failure.
-use Rattle.std.proofs.Common.{◌≡◌, ℕ, suc, ◌+◌, ◌≤◌, Bool, true, false, cond, List, [], ◌∷◌, ◌++◌, length, map, Option, Some, None}
-use Rattle.std.proofs.Common.{option_map, slice_get, refl, sym, ◌∙◌, ap, subst, ap₂, arith}
+use Rattle.std.proofs.Common.{◌≡◌, ℕ, suc, ◌+◌, ◌≤◌, Bool, true, false, cond, List, [], ◌∷◌, ◌++◌, length, map}
+use Rattle.std.proofs.Common.{Option, Some, None, option_map, slice_get, refl, sym, ◌∙◌, ap, subst, ap₂, arith}
 use Rattle.language.specs.Tree.{Expression, const, RightSide, value, skip, assign, assert, assume, goto, leave, call, Mark, done, one}
 use Rattle.language.specs.Tree.{choose, loop}
 use Rattle.language.specs.Value.{Place, global, with_bit, values_of, IsValue, AreValues, written_globals, written_locals}
@@ -134,7 +134,8 @@ module _ (setting : Setting) (now : Moment setting.p.globals setting.last) (m : 
         let r2 : PlainAfter w n1 (state (with_bit (with_bit X (bad_at p.globals last) x) (stop_at p.globals last) y)
         (frame (suc a.c) (a.l ++ a.tmp) rest ∷ fs)) Q =
         subst
-        (λ vs. PlainAfter w n1 (state (written_globals two vs X) (frame (suc a.c) (written_locals two vs (a.l ++ a.tmp)) rest ∷ fs)) Q) ex
+        (λ vs. PlainAfter w n1 (state (written_globals two vs X) (frame (suc a.c) (written_locals two vs (a.l ++ a.tmp)) rest ∷ fs)) Q)
+        ex
         r1.2 in
         let r3 : PlainAfter w n1 (state (lay C S (bits_of q true true)) (frame (suc a.c) (a.l ++ a.tmp) rest ∷ fs)) Q =
         subst (λ z. PlainAfter w n1 (state z (frame (suc a.c) (a.l ++ a.tmp) rest ∷ fs)) Q) (fail_writes x y ix iy) r2 in
@@ -151,7 +152,8 @@ module _ (setting : Setting) (now : Moment setting.p.globals setting.last) (m : 
         let goal : State = state (row C q) (frame a.c a.l found ∷ map source bs) in
         let step : AtRest (rest_from x (body_of (slice_get p.routines a.c)) done)
         (λ u. state (row C q) (frame a.c a.l u ∷ map source bs) ≡ goal) =
-        subst (λ r. AtRest (rest_from x (body_of r) done) (λ u. state (row C q) (frame a.c a.l u ∷ map source bs) ≡ goal)) (sym h.there)
+        subst (λ r. AtRest (rest_from x (body_of r) done) (λ u. state (row C q) (frame a.c a.l u ∷ map source bs) ≡ goal))
+        (sym h.there)
         (subst (λ o. AtRest o (λ u. state (row C q) (frame a.c a.l u ∷ map source bs) ≡ goal)) (sym e) refl) in
         moved_here N a (one k (goto x) t) bs (both a found ∷ bs)
         (jump_good p last a (one k (goto x) t) x found fits h e, good) step at
@@ -179,7 +181,8 @@ module _ (setting : Setting) (now : Moment setting.p.globals setting.last) (m : 
         let goal : State = state (row C q) (frame q' (fresh r.places vs) r.body ∷ frame a.c a.l t ∷ map source bs) in
         let step : AtRoutine (slice_get p.routines q')
         (λ z. state (row C q) (frame q' (fresh z.places vs) z.body ∷ frame a.c a.l t ∷ map source bs) ≡ goal) =
-        subst (λ o. AtRoutine o (λ z. state (row C q) (frame q' (fresh z.places vs) z.body ∷ frame a.c a.l t ∷ map source bs) ≡ goal))
+        subst
+        (λ o. AtRoutine o (λ z. state (row C q) (frame q' (fresh z.places vs) z.body ∷ frame a.c a.l t ∷ map source bs) ≡ goal))
         (sym e) refl in
         moved_here N a (one k (call q' es) t) bs (entered q' r vs ∷ both a t ∷ bs)
         (call_good p last q' r vs fits e lv, (good_rest p last a (one k (call q' es) t) t h h.fits.1, good)) step (

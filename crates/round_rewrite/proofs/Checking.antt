@@ -1,6 +1,7 @@
 -- All guesses, and the checks that each round ended with the guess for the round after it, both ways.
-use Rattle.std.proofs.Common.{◌≡◌, ℕ, zero, suc, ◌+◌, ◌*◌, ◌<◌, ◌≤◌, Bool, true, false, cond, not, List, [], ◌∷◌, ◌++◌, length, map, refl}
-use Rattle.std.proofs.Common.{sym, ◌∙◌, ap, subst, ap₂, arith, append_assoc, length-append, inl, inr}
+use Rattle.std.proofs.Common.{◌≡◌, ℕ, zero, suc, ◌+◌, ◌*◌, ◌<◌, ◌≤◌, Bool, true, false, cond, not, List, []}
+use Rattle.std.proofs.Common.{◌∷◌, ◌++◌, length, map, refl, sym, ◌∙◌, ap, subst, ap₂, arith, append_assoc, length-append}
+use Rattle.std.proofs.Common.{inl, inr}
 use Rattle.std.proofs.lemmas.Bool.{cases_eq}
 use Rattle.language.specs.Tree.{var, two, equal, value, assume}
 use Rattle.language.specs.Value.{global, bit}
@@ -45,7 +46,8 @@ module _ (w : World) (n last : ℕ) (g : List Bool) (eg : length g ≡ n) (bits 
   fill_next : (k m : ℕ) (a d e : List (List Bool)) (x y u : List Bool) → Fill k (suc m) a (x ∷ d) (y ∷ e) → length u ≡ n
       → Fill (suc k) m (a ++ u ∷ []) d e
   fill_next k m a d e x y u f eu =
-      let la : length a ≡ k = f.a_length in let ld : suc (length d) ≡ suc m = f.d_length in let le : suc (length e) ≡ suc m = f.e_length in
+      let la : length a ≡ k = f.a_length in let ld : suc (length d) ≡ suc m = f.d_length in
+      let le : suc (length e) ≡ suc m = f.e_length in
       let al : k + suc m ≡ last = f.all in
       record {
         a_long = long-append n a (u ∷ []) f.a_long (eu, tt);
@@ -143,7 +145,8 @@ module _ (w : World) (n last : ℕ) (C S : List (List Bool)) (bits : List Bool) 
   copied_bit : (k i : ℕ) → k < last → i < n → bit X (k * n + i) ≡ bit (row C k) i
   copied_bit k i lt hi = row_bit n C (flat S ++ bits) k i shape.copies (let z : length C ≡ suc last = shape.rounds in omega arith) hi
 
-  check_leads : (t : Code) (Q : State → Type 0) (k : ℕ) → k < last → row S k ≡ row C k → (m j : ℕ) → j + m ≤ n → Leads w (main_at X t) Q
+  check_leads : (t : Code) (Q : State → Type 0) (k : ℕ) → k < last → row S k ≡ row C k → (m j : ℕ) → j + m ≤ n
+      → Leads w (main_at X t) Q
       → Leads w (main_at X (check (places n last 0) last (map global (numbers j m)) k t)) Q
   check_leads t Q k lt e zero j within h = h
   check_leads t Q k lt e (suc m) j within h =
@@ -158,7 +161,8 @@ module _ (w : World) (n last : ℕ) (C S : List (List Bool)) (bits : List Bool) 
 
   check_back : (t : Code) (k : ℕ) → k < last → (m j : ℕ) → j + m ≤ n → (N : ℕ)
       → PlainAfter w N (main_at X (check (places n last 0) last (map global (numbers j m)) k t)) (Bad n last)
-      → ((i : ℕ) → j ≤ i → i < j + m → bit (row S k) i ≡ bit (row C k) i) × (M : ℕ) × PlainAfter w M (main_at X t) (Bad n last)
+      → ((i : ℕ) → j ≤ i → i < j + m → bit (row S k) i ≡ bit (row C k) i) × (M : ℕ)
+      × PlainAfter w M (main_at X t) (Bad n last)
   check_back t k lt zero j within N h = ((λ i le l. absurd (omega arith)), N, h)
   check_back t k lt (suc m) j within N h =
       let (M, e, (is, run)) =

@@ -1,6 +1,6 @@
 -- A rewritten assignment is the assignment in the round's copy, both ways.
-use Rattle.std.proofs.Common.{◌≡◌, ℕ, zero, suc, ◌+◌, ◌<◌, ◌≤◌, Bool, false, List, ◌∷◌, ◌++◌, length, map, refl, sym, ◌∙◌, ap, subst, ap₂}
-use Rattle.std.proofs.Common.{arith}
+use Rattle.std.proofs.Common.{◌≡◌, ℕ, zero, suc, ◌+◌, ◌<◌, ◌≤◌, Bool, false, List, ◌∷◌, ◌++◌, length, map}
+use Rattle.std.proofs.Common.{refl, sym, ◌∙◌, ap, subst, ap₂, arith}
 use Rattle.language.specs.Tree.{RightSide, any, assign, one}
 use Rattle.language.specs.Value.{Place, local, AreValues, written_globals, written_locals}
 use Rattle.language.specs.Rest.{Code}
@@ -28,7 +28,8 @@ module _ (w : World) (n last own c : ℕ) (fs : List Frame) (Q : State → Type 
           a,
           subst
               (λ z.
-              PlainAfter w m (state z (frame c (written_locals (map (λ k. local (own + k)) (numbers 0 (suc d))) ts (l ++ tmp)) t ∷ fs)) Q)
+              PlainAfter w m
+              (state z (frame c (written_locals (map (λ k. local (own + k)) (numbers 0 (suc d))) ts (l ++ tmp)) t ∷ fs)) Q)
               (sym eg)
               (subst (λ z. PlainAfter w m (state X (frame c z t ∷ fs)) Q) (sym ell) h),
         ),
@@ -92,7 +93,8 @@ module _ (w : World) (n last own c : ℕ) (fs : List Frame) (Q : State → Type 
         → PlacesInScope n own xs → SidesInScope n own rs → draws is_global xs rs ≤ length tmp
         → ((tmp' : List Bool) → length tmp' ≡ length tmp
         → Leads w (state (turned now (written_globals xs vs (row C q))) (frame c (written_locals xs vs l ++ tmp') t ∷ fs)) Q)
-        → Leads w (state (lay C S (bits_of q false b)) (frame c (l ++ tmp) (statement (places n last own) last (assign xs rs) t) ∷ fs)) Q
+        → Leads w
+        (state (lay C S (bits_of q false b)) (frame c (l ++ tmp) (statement (places n last own) last (assign xs rs) t) ∷ fs)) Q
     unfolding write_state
     assign_leads xs rs vs t a hx hr room k =
         let ts : List Bool = picks xs rs vs in
@@ -112,7 +114,8 @@ module _ (w : World) (n last own c : ℕ) (fs : List Frame) (Q : State → Type 
           ),
         )
       where
-        are : (xs : List Place) (rs : List (RightSide Place)) (vs tmp' : List Bool) → AreValues (row C q) l rs vs → Picked 0 xs rs vs tmp'
+        are : (xs : List Place) (rs : List (RightSide Place)) (vs tmp' : List Bool) → AreValues (row C q) l rs vs
+            → Picked 0 xs rs vs tmp'
             → PlacesInScope n own xs → SidesInScope n own rs
             → AreValues (lay C S (bits_of q false b)) (l ++ tmp') (sides (places n last own) last 0 xs rs)
             (spread_all small now own l tmp' el xs rs vs)

@@ -1,6 +1,6 @@
 -- Statements rewritten, one after the other.
-use Rattle.std.proofs.Common.{◌≡◌, ℕ, zero, suc, ◌+◌, ◌<◌, ◌≤◌, List, [], ◌∷◌, length, get_or, drop, map, Option, option_map, refl, sym}
-use Rattle.std.proofs.Common.{◌∙◌, ap}
+use Rattle.std.proofs.Common.{◌≡◌, ℕ, zero, suc, ◌+◌, ◌<◌, ◌≤◌, List, [], ◌∷◌, length, get_or, drop, map}
+use Rattle.std.proofs.Common.{Option, option_map, refl, sym, ◌∙◌, ap}
 use Rattle.std.proofs.lemmas.List.{drop_more, drop_all}
 use Rattle.std.proofs.lemmas.Result.{IfOk-weaker}
 use Rattle.std.specs.Prelude.{Result, IfOk}
@@ -54,7 +54,8 @@ module _ (w : Naming tree.Name tree.Name tree.Name tree.Name) (last : ℕ) where
   drawing_some (suc n) k some = refl
 
   -- what one statement is rewritten to
-  pub by_core : {M N : Type 0} (a b : List (Stmt M)) (core : Core N) (d : Deed) → deed_of core ≡ d → Lays a b (λ k. bare_form w last d k)
+  pub by_core : {M N : Type 0} (a b : List (Stmt M)) (core : Core N) (d : Deed) → deed_of core ≡ d
+      → Lays a b (λ k. bare_form w last d k)
       → Lays a b (λ k. bare_form w last (deed_of core) k)
   by_core a b core d e l k = l k ∙ ap (λ x. all_before (items_of a) (bare_form w last x k)) (sym e)
 
@@ -70,7 +71,8 @@ module _ (w : Naming tree.Name tree.Name tree.Name tree.Name) (last : ℕ) where
       pub one_more : (old mid new : List (Stmt M)) (label : Option tree.Name)
           → label ≡ option_map name_of s.label → Lays old mid (λ k. prologue w last (record { label = label; at = s.at }) k)
           → Lays mid new (λ k. bare_form w last (deed_of s.core) k) → (whole : Statements → Statements)
-          → ((rest : Statements) → all_before (items_of old) (forms w last (items_of (drop i ss)) rest) ≡ whole rest) → (rest : Statements)
+          → ((rest : Statements) → all_before (items_of old) (forms w last (items_of (drop i ss)) rest) ≡ whole rest)
+          → (rest : Statements)
           → all_before (items_of new) (forms w last (items_of (drop (i + 1) ss)) rest) ≡ whole rest
       one_more old mid new label named begun laid whole so rest =
           let k = forms w last (items_of (drop (i + 1) ss)) rest in
@@ -84,7 +86,8 @@ module _ (w : Naming tree.Name tree.Name tree.Name tree.Name) (last : ℕ) where
 
     -- all statements are rewritten
     pub no_more : length ss ≤ i → (new : List (Stmt M)) (whole : Statements → Statements)
-        → ((rest : Statements) → all_before (items_of new) (forms w last (items_of (drop i ss)) rest) ≡ whole rest) → (rest : Statements)
+        → ((rest : Statements) → all_before (items_of new) (forms w last (items_of (drop i ss)) rest) ≡ whole rest)
+        → (rest : Statements)
         → all_before (items_of new) rest ≡ whole rest
     no_more le new whole so rest =
         sym (ap (λ l. all_before (items_of new) (forms w last (items_of l) rest)) (drop_all i ss le)) ∙ so rest

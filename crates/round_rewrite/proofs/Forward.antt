@@ -1,6 +1,6 @@
 -- A step of the source is a run of the rewritten program.
-use Rattle.std.proofs.Common.{◌≡◌, ℕ, suc, ◌+◌, ◌≤◌, Bool, true, false, cond, List, [], ◌∷◌, ◌++◌, length, map, Option, Some, None}
-use Rattle.std.proofs.Common.{option_map, slice_get, refl, sym, ◌∙◌, ap, subst, arith}
+use Rattle.std.proofs.Common.{◌≡◌, ℕ, suc, ◌+◌, ◌≤◌, Bool, true, false, cond, List, [], ◌∷◌, ◌++◌, length, map}
+use Rattle.std.proofs.Common.{Option, Some, None, option_map, slice_get, refl, sym, ◌∙◌, ap, subst, arith}
 use Rattle.language.specs.Tree.{Expression, RightSide, skip, assign, assert, assume, goto, leave, call, Mark, done, one, choose, loop}
 use Rattle.language.specs.Value.{Place, values_of, IsValue, written_globals, written_locals}
 use Rattle.language.specs.Rest.{Label, Code, join, rest_from}
@@ -17,9 +17,8 @@ use Rattle.round_rewrite.proofs.Leading.{Leads}
 use Rattle.round_rewrite.proofs.Blocks.{put-join, put-again}
 use Rattle.round_rewrite.proofs.Prologue.{stop_leads}
 use Rattle.round_rewrite.proofs.Frames.{Activation, both, entered, Fits, Roomy, Both, source, Good, AllGood, put_rest, inner, callers}
-use Rattle.round_rewrite.proofs.Frames.{stack}
-use Rattle.round_rewrite.proofs.Frames.{Setting, put_routine, roomy, top, site}
-use Rattle.round_rewrite.proofs.Frames.{throughout-join, throughout-rest, IfThere, fresh_more}
+use Rattle.round_rewrite.proofs.Frames.{stack, Setting, put_routine, roomy, top, site, throughout-join, throughout-rest, IfThere}
+use Rattle.round_rewrite.proofs.Frames.{fresh_more}
 use Rattle.resolved.proofs.Each.{each_at}
 
 -- an open call that has new values and goes on in the same procedure
@@ -47,7 +46,8 @@ body_fits p c r d fits e room =
     roomy p.routines p.globals r.places d r.body (each_at (RoutineInScope p.routines p.globals) p.routines c r fits.routines e) room
 
 pub branch_fits : (p : Program) (own d : ℕ) (v : Bool) (x y t : Code) → Fits p.routines p.globals own d x
-    → Fits p.routines p.globals own d y → Fits p.routines p.globals own d t → Fits p.routines p.globals own d (cond v (join x t) (join y t))
+    → Fits p.routines p.globals own d y → Fits p.routines p.globals own d t
+    → Fits p.routines p.globals own d (cond v (join x t) (join y t))
 branch_fits p own d true x y t hx hy ht = throughout-join (Roomy p.routines p.globals own d) (SideInScope p.globals own) x t hx ht
 branch_fits p own d false x y t hx hy ht = throughout-join (Roomy p.routines p.globals own d) (SideInScope p.globals own) y t hy ht
 
@@ -148,13 +148,15 @@ module _ (setting : Setting) (now : Moment setting.p.globals setting.last) (m : 
             → slice_get p.routines q' ≡ o → Good p last (both a t) → AreInScope p.globals a.own es
             → AtRoutine o (λ r. length es ≤ r.places)
             → AtRoutine o
-            (λ r. R (state (row C q) (frame q' (fresh r.places (values_of (row C q) a.l es)) r.body ∷ frame a.c a.l t ∷ map source bs)))
+            (λ r.
+            R (state (row C q) (frame q' (fresh r.places (values_of (row C q) a.l es)) r.body ∷ frame a.c a.l t ∷ map source bs)))
             → (n : ℕ)
             × AtRoutine (option_map (put_routine p last) o)
             (λ r.
             PlainAfter w n
             (state X
-            (frame (suc q') (fresh r.places (values_of X (a.l ++ a.tmp) (map (expression (naming a.own) last) es))) r.body ∷ callers p last
+            (frame (suc q') (fresh r.places (values_of X (a.l ++ a.tmp) (map (expression (naming a.own) last) es))) r.body
+            ∷ callers p last
             (both a t ∷ bs) m)) Q)
         call_leads a t q' es None e h scope short at = absurd at
         call_leads a t q' es (Some r) e h scope short at =
@@ -210,7 +212,8 @@ module _ (setting : Setting) (now : Moment setting.p.globals setting.last) (m : 
             subst (λ o. AtRest (rest_from x (body_of o) done) (λ u. R (state (row C q) (frame a.c a.l u ∷ map source bs)))) h.there s in
             let z = jump_leads a (one k (goto x) t) x (rest_from x h.routine.body done) h refl found in
             let where_to : w.jumps (suc a.c) x ≡ option_map (put_rest p last a.own) (rest_from x h.routine.body done) =
-            isw.jumps_is a.c h.routine x h.there ∙ ap (λ o. option_map (put_rest p last o) (rest_from x h.routine.body done)) h.own_is in (
+            isw.jumps_is a.c h.routine x h.there
+            ∙ ap (λ o. option_map (put_rest p last o) (rest_from x h.routine.body done)) h.own_is in (
               suc z.0,
               subst (λ o. AtRest o (λ u. PlainAfter w z.0 (state X (top p last a u bs m)) Q))
                   (sym where_to) z.1,

@@ -1,6 +1,7 @@
 -- A stack of the source and the temporaries together give the rewritten stack.
-use Rattle.std.proofs.Common.{◌≡◌, ℕ, zero, suc, ◌+◌, ◌-◌, ◌*◌, ◌<◌, ◌≤◌, max, Bool, true, false, cond, List, [], ◌∷◌, ◌++◌, length, map}
-use Rattle.std.proofs.Common.{Option, Some, None, option_map, slice_get, sym, ◌∙◌, ap, ap₂, arith, ◌⊎◌, inl, inr, append_assoc}
+use Rattle.std.proofs.Common.{◌≡◌, ℕ, zero, suc, ◌+◌, ◌-◌, ◌*◌, ◌<◌, ◌≤◌, max, Bool, true, false, cond, List}
+use Rattle.std.proofs.Common.{[], ◌∷◌, ◌++◌, length, map, Option, Some, None, option_map, slice_get, sym, ◌∙◌, ap, ap₂}
+use Rattle.std.proofs.Common.{arith, ◌⊎◌, inl, inr, append_assoc}
 use Rattle.language.specs.Tree.{Simple, skip, assign, assert, assume, goto, leave, call, Mark, done, one, choose, loop, RightSide}
 use Rattle.language.specs.Value.{Place}
 use Rattle.language.specs.Rest.{Label, Code, join, rest_from, first_of_two, has_label}
@@ -30,7 +31,8 @@ Roomy routines n own d s = SimpleInScope routines n own s × (draws_of s ≤ d)
 abbrev pub Fits : List Routine → ℕ → ℕ → ℕ → Code → Type 0
 Fits routines n own d b = Throughout (Roomy routines n own d) (SideInScope n own) b
 
-pub throughout-join : (S : Simple Place ℕ Label → Type 0) (R : RightSide Place → Type 0) (a b : Code) → Throughout S R a → Throughout S R b
+pub throughout-join : (S : Simple Place ℕ Label → Type 0) (R : RightSide Place → Type 0) (a b : Code) → Throughout S R a
+    → Throughout S R b
     → Throughout S R (join a b)
 throughout-join S R done b ha hb = hb
 throughout-join S R (one m s t) b ha hb = (ha.0, throughout-join S R t b ha.1 hb)

@@ -1,6 +1,6 @@
 -- The guesses and the checks of the first procedure, both ways.
-use Rattle.std.proofs.Common.{◌≡◌, ℕ, zero, suc, ◌+◌, ◌*◌, ◌<◌, ◌≤◌, Bool, true, List, [], ◌∷◌, ◌++◌, length, map, refl, sym, ◌∙◌, ap}
-use Rattle.std.proofs.Common.{subst, ap₂, arith, append_assoc, length-append}
+use Rattle.std.proofs.Common.{◌≡◌, ℕ, zero, suc, ◌+◌, ◌*◌, ◌<◌, ◌≤◌, Bool, true, List, [], ◌∷◌, ◌++◌}
+use Rattle.std.proofs.Common.{length, map, refl, sym, ◌∙◌, ap, subst, ap₂, arith, append_assoc, length-append}
 use Rattle.std.proofs.lemmas.List.{length-set, nil_from_length}
 use Rattle.language.specs.Tree.{var, RightSide, any, value, Simple, assign, Mark, done, one, choose, loop}
 use Rattle.language.specs.Value.{Place, global, local, bit, with_bit, AreValues, written_globals, written_locals}
@@ -8,8 +8,8 @@ use Rattle.language.specs.Rest.{Label, Code}
 use Rattle.language.specs.Step.{Frame, frame, State, state}
 use Rattle.round_rewrite.specs.Table.{numbers, plain, each, guess}
 use Rattle.round_rewrite.specs.Places.{places, copy_at, save_at, all_globals, bad_at}
-use Rattle.round_rewrite.proofs.Laid.{Long, row, with_row, row_bit, row_with, with_right, bit_right, length-flat}
-use Rattle.round_rewrite.proofs.Laid.{flat, lay, Shape, with-own_row, long_row, length-with_row, long-with_row}
+use Rattle.round_rewrite.proofs.Laid.{Long, row, with_row, row_bit, row_with, with_right, bit_right, length-flat, flat, lay, Shape}
+use Rattle.round_rewrite.proofs.Laid.{with-own_row, long_row, length-with_row, long-with_row}
 use Rattle.round_rewrite.proofs.Assigned.{row-with_same, with-with_row}
 use Rattle.round_rewrite.proofs.Plain.{World, PlainSteps, PlainAfter}
 use Rattle.round_rewrite.proofs.Leading.{Leads}
@@ -55,7 +55,8 @@ pub fill_row : (vs r : List Bool) → length r ≡ length vs → fill 0 vs r ≡
 fill_row vs r e = fill_all [] vs r e
 
 module _ (n last : ℕ) where
-  copy_writes : (C : List (List Bool)) (X : List Bool) (k j m : ℕ) (vs : List Bool) → Long n C → k < length C → j + m ≤ n → length vs ≡ m
+  copy_writes : (C : List (List Bool)) (X : List Bool) (k j m : ℕ) (vs : List Bool) → Long n C → k < length C → j + m ≤ n
+      → length vs ≡ m
       → written_globals (map (copy_at n k) (map global (numbers j m))) vs (flat C ++ X) ≡ flat (with_row C k (fill j vs (row C k))) ++ X
   copy_writes C X k j zero [] long h within e = ap (λ z. flat z ++ X) (sym (with-own_row C k))
   copy_writes C X k j zero (v ∷ vs) long h within e = absurd (omega arith)
@@ -118,12 +119,14 @@ module _ (n last : ℕ) where
     row_values j (suc m) a (v ∷ b) er ea eb within = (
       sym (row_bit n C X k j long h (omega arith) ∙ (ap (λ z. bit z j) er ∙ bit_right a (v ∷ b) j 0 (omega arith))),
       row_values (suc j) m (a ++ v ∷ []) b (er
-          ∙ sym (append_assoc a (v ∷ []) b)) (let z : length (a ++ v ∷ []) ≡ length a + 1 = length-append a (v ∷ []) in omega arith)
+          ∙ sym (append_assoc a (v ∷ []) b))
+          (let z : length (a ++ v ∷ []) ≡ length a + 1 = length-append a (v ∷ []) in omega arith)
           (omega arith) (omega arith),
     )
 
     row_values_back : (j m : ℕ) (a b vs : List Bool) → row C k ≡ a ++ b
-        → length a ≡ j → length b ≡ m → j + m ≤ n → AreValues (flat C ++ X) L (reads k (map global (numbers j m))) vs → vs ≡ b
+        → length a ≡ j → length b ≡ m → j + m ≤ n → AreValues (flat C ++ X) L (reads k (map global (numbers j m))) vs
+        → vs ≡ b
     row_values_back j zero a [] [] er ea eb within h' = refl
     row_values_back j zero a [] (x ∷ vs) er ea eb within h' = absurd h'
     row_values_back j zero a (v ∷ b) vs er ea eb within h' = absurd (omega arith)
@@ -148,7 +151,8 @@ main_at g t = state g (frame 0 [] t ∷ [])
 abbrev pub guessed : List (List Bool) → List (List Bool) → ℕ → List Bool → List Bool → List Bool
 guessed C S k v bits = lay (with_row C (suc k) v) (with_row S k v) bits
 
-not_guessed : (n last : ℕ) (C S : List (List Bool)) (bits : List Bool) (k : ℕ) (v : List Bool) → n ≡ 0 → Shape n last C S → k < last
+not_guessed : (n last : ℕ) (C S : List (List Bool)) (bits : List Bool) (k : ℕ) (v : List Bool) → n ≡ 0 → Shape n last C S
+    → k < last
     → length v ≡ n → guessed C S k v bits ≡ lay C S bits
 not_guessed n last C S bits k v e shape lt ev =
     let c : row C (suc k) ≡ v =

@@ -11,7 +11,8 @@ module _ {K T : Type 0} (parts : List K → T → T) (part : K → T → T) (non
   behind (j ∷ ks) k t = more j (ks ++ k ∷ []) t ∙ (ap (part j) (behind ks k t) ∙ sym (more j ks (part k t)))
 
   -- what passes each part passes all
-  pub passes : (f : T → T) → ((k : K) (t : T) → f (part k t) ≡ part k (f t)) → (ks : List K) (t : T) → f (parts ks t) ≡ parts ks (f t)
+  pub passes : (f : T → T) → ((k : K) (t : T) → f (part k t) ≡ part k (f t)) → (ks : List K) (t : T)
+      → f (parts ks t) ≡ parts ks (f t)
   passes f each [] t = ap f (none t) ∙ sym (none (f t))
   passes f each (k ∷ ks) t =
       ap f (more k ks t) ∙ (each k (parts ks t) ∙ (ap (part k) (passes f each ks t) ∙ sym (more k ks (f t))))
@@ -23,7 +24,8 @@ module _ {K T : Type 0} (parts : List K → T → T) (part : K → T → T) (non
 
 -- the parts for one number more
 pub one_behind : {T : Type 0} (parts : List ℕ → T → T) (part : ℕ → T → T) → ((t : T) → parts [] t ≡ t)
-    → ((k : ℕ) (ks : List ℕ) (t : T) → parts (k ∷ ks) t ≡ part k (parts ks t)) → (start k n : ℕ) → start + k ≡ n → (t : T)
+    → ((k : ℕ) (ks : List ℕ) (t : T) → parts (k ∷ ks) t ≡ part k (parts ks t)) → (start k n : ℕ) → start + k ≡ n
+    → (t : T)
     → parts (numbers start (k + 1)) t ≡ parts (numbers start k) (part n t)
 one_behind parts part none more start k n e t =
     ap (λ ks. parts ks t) (numbers_next start k)

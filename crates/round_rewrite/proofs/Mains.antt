@@ -1,5 +1,6 @@
 -- What the first procedure is made of, one part after the other.
-use Rattle.std.proofs.Common.{◌≡◌, ℕ, ◌+◌, ◌<◌, ◌≤◌, List, [], ◌∷◌, length, get_or, drop, map, refl, sym, ◌∙◌, ap, arith}
+use Rattle.std.proofs.Common.{◌≡◌, ℕ, ◌+◌, ◌<◌, ◌≤◌, List, [], ◌∷◌, length, get_or, drop, map, refl, sym}
+use Rattle.std.proofs.Common.{◌∙◌, ap, arith}
 use Rattle.std.proofs.lemmas.List.{drop_more, drop_all}
 use Rattle.language.specs.Tree as tree
 use Rattle.language.specs.Tree.{any, var, value, assign, one}
@@ -20,7 +21,8 @@ module _ {M X Y : Type 0} (seen : X → Y) (f : List Y → Statements → Statem
         let others = map seen (drop (i + 1) xs) in
         laid (f others rest)
         ∙ (ap (all_before (items_of old)) (sym (step (seen x) others rest))
-        ∙ (ap (λ l. all_before (items_of old) (f (map seen l) rest)) (sym (drop_more xs i x lt ∙ ap (λ y. y ∷ drop (i + 1) xs) (sym is)))
+        ∙ (ap (λ l. all_before (items_of old) (f (map seen l) rest))
+        (sym (drop_more xs i x lt ∙ ap (λ y. y ∷ drop (i + 1) xs) (sym is)))
         ∙ so rest))
 
   -- all of a list are put behind what stood

@@ -1,5 +1,6 @@
 -- How many temporaries statements need, one after the other.
-use Rattle.std.proofs.Common.{◌≡◌, ℕ, ◌+◌, ◌<◌, ◌≤◌, Bool, max, List, ◌∷◌, length, get_or, drop, refl, sym, ◌∙◌, ap, arith}
+use Rattle.std.proofs.Common.{◌≡◌, ℕ, ◌+◌, ◌<◌, ◌≤◌, Bool, max, List, ◌∷◌, length, get_or, drop, refl, sym}
+use Rattle.std.proofs.Common.{◌∙◌, ap, arith}
 use Rattle.std.proofs.lemmas.List.{drop_more, drop_all}
 use Rattle.language.specs.Tree as tree
 use Rattle.language.specs.Tree.{skip, assign, assert, assume, goto, leave, call, Mark}
@@ -35,7 +36,8 @@ module _ (shared : tree.Name → Bool) where
 
   module _ {A : Type 0} (l : List (Stmt A)) (i : ℕ) where
     pub one_more : (s : Stmt A) (old own new whole : ℕ) → i < length l → s ≡ get_or l i s
-        → own ≡ deed_needs shared (deed_of s.core) → new ≡ max old own → max old (temporaries shared (block_of (drop i l))) ≡ whole
+        → own ≡ deed_needs shared (deed_of s.core) → new ≡ max old own
+        → max old (temporaries shared (block_of (drop i l))) ≡ whole
         → max new (temporaries shared (block_of (drop (i + 1) l))) ≡ whole
     one_more s old own new whole lt is e f h =
         let k = temporaries shared (block_of (drop (i + 1) l)) in

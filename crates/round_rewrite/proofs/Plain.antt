@@ -1,6 +1,6 @@
 -- The machine whose rests carry no labels and no numbers, and that it makes the same steps.
-use Rattle.std.proofs.Common.{◌≡◌, ℕ, zero, suc, ◌+◌, Bool, true, false, cond, List, [], ◌∷◌, map, Option, Some, None, option_map}
-use Rattle.std.proofs.Common.{slice_get, refl, sym, ◌∙◌, ap, ap₂}
+use Rattle.std.proofs.Common.{◌≡◌, ℕ, zero, suc, ◌+◌, Bool, true, false, cond, List, [], ◌∷◌, map, Option, Some, None}
+use Rattle.std.proofs.Common.{option_map, slice_get, refl, sym, ◌∙◌, ap, ap₂}
 use mathlib.Core.Path.{fun_ext}
 use Rattle.language.specs.Tree.{skip, assign, assert, assume, goto, leave, call, Mark, done, one, choose, loop, RightSide}
 use Rattle.language.specs.Value.{Place, values_of, IsValue, AreValues, written_globals, written_locals}
@@ -78,7 +78,8 @@ at_rest : (o : Option Code) (Q : Code → Type 0) → AtRest o (λ rest. Q (bare
 at_rest None Q = refl
 at_rest (Some rest) Q = refl
 
-at_routine : (o : Option Routine) (Q : Routine → Type 0) → AtRoutine o (λ r. Q (bare_routine r)) ≡ AtRoutine (option_map bare_routine o) Q
+at_routine : (o : Option Routine) (Q : Routine → Type 0)
+    → AtRoutine o (λ r. Q (bare_routine r)) ≡ AtRoutine (option_map bare_routine o) Q
 at_routine None Q = refl
 at_routine (Some r) Q = refl
 

@@ -1,6 +1,6 @@
 -- What the prologue, the test of stop, and frames that leave do, both ways.
-use Rattle.std.proofs.Common.{◌≡◌, ℕ, zero, suc, ◌<◌, ◌≤◌, Bool, true, false, not, cond}
-use Rattle.std.proofs.Common.{List, [], ◌∷◌, refl, sym, ◌∙◌, ap, subst, ap₂, arith, inl, inr}
+use Rattle.std.proofs.Common.{◌≡◌, ℕ, zero, suc, ◌<◌, ◌≤◌, Bool, true, false, not, cond, List, [], ◌∷◌, refl, sym}
+use Rattle.std.proofs.Common.{◌∙◌, ap, subst, ap₂, arith, inl, inr}
 use Rattle.std.proofs.lemmas.Bool.{cases_eq}
 use Rattle.language.specs.Tree.{const, var, negation, two, xor, RightSide, any, value, skip, assign, leave, done, one, choose}
 use Rattle.language.specs.Value.{Place, global, bit, with_bit, value_of, IsValue, AreValues, written_globals, written_locals}
@@ -63,7 +63,8 @@ module _ (w : World) {n last : ℕ} (small : last < most_rounds) (site : Site n 
   stop_leads q false b t (m, h) = (suc (suc m), (false, sym (stop_is q false b), h))
 
   stop_go : Never Q fs → (N : ℕ) (X : List Bool) (v s : Bool) (t : Code) → v ≡ s
-      → PlainAfter w N (on X (cond v (join (one plain leave done) t) (join (one plain skip done) t))) Q → Later w N (on X (cond s done t)) Q
+      → PlainAfter w N (on X (cond v (join (one plain leave done) t) (join (one plain skip done) t))) Q
+      → Later w N (on X (cond s done t)) Q
   stop_go never N X true s t e h =
       let (m, em, k) = unstep w Q N _ _ fs never h in
       later_now w Q (on X (cond s done t)) N m em (subst (λ z. PlainAfter w m (on X (cond z done t)) Q) e k)
@@ -71,7 +72,8 @@ module _ (w : World) {n last : ℕ} (small : last < most_rounds) (site : Site n 
       let (m, em, k) = unstep w Q N _ _ fs never h in
       later_now w Q (on X (cond s done t)) N m em (subst (λ z. PlainAfter w m (on X (cond z done t)) Q) e k)
 
-  pub stop_back : Never Q fs → (N q : ℕ) (s b : Bool) (t : Code) → PlainAfter w N (on (now q s b) (stop_test (places n last own) last t)) Q
+  pub stop_back : Never Q fs → (N q : ℕ) (s b : Bool) (t : Code)
+      → PlainAfter w N (on (now q s b) (stop_test (places n last own) last t)) Q
       → Later w N (on (now q s b) (cond s done t)) Q
   stop_back never N q s b t h =
       let (m, e, k) = unstep w Q N _ _ fs never h in
@@ -149,7 +151,8 @@ module _ (w : World) {n last : ℕ} (small : last < most_rounds) (site : Site n 
     stopped : Later w N (on (now q true b) done) Q → Exits N q b t
 
   raised_back : (N q : ℕ) (b : Bool) (t : Code) (X : List Bool) (r0 r1 : RightSide Place) (x0 x1 : Place) (vs : List Bool)
-      → AreValues X L (r0 ∷ r1 ∷ []) vs → (x : Bool) × (y : Bool) × (vs ≡ x ∷ y ∷ []) × IsValue X L r0 x × IsValue X L r1 y
+      → AreValues X L (r0 ∷ r1 ∷ []) vs
+      → (x : Bool) × (y : Bool) × (vs ≡ x ∷ y ∷ []) × IsValue X L r0 x × IsValue X L r1 y
   raised_back N q b t X r0 r1 x0 x1 [] a = absurd a
   raised_back N q b t X r0 r1 x0 x1 (x ∷ []) a = absurd a.1
   raised_back N q b t X r0 r1 x0 x1 (x ∷ y ∷ []) a = (x, y, refl, a.0, a.1.0)

@@ -1,6 +1,6 @@
 -- The rewritten block by names, resolved, is the rewritten block by places of the resolved block.
-use Rattle.std.proofs.Common.{◌≡◌, ℕ, zero, suc, ◌+◌, ◌/◌, ◌%◌, ◌<◌, ◌≤◌, max, Bool, true, false, cond, not, List, [], ◌∷◌, ◌++◌, length}
-use Rattle.std.proofs.Common.{map, codes, refl, sym, ◌∙◌, ap, subst, ap₂, arith}
+use Rattle.std.proofs.Common.{◌≡◌, ℕ, zero, suc, ◌+◌, ◌/◌, ◌%◌, ◌<◌, ◌≤◌, max, Bool, true, false, cond, not}
+use Rattle.std.proofs.Common.{List, [], ◌∷◌, ◌++◌, length, map, codes, refl, sym, ◌∙◌, ap, subst, ap₂, arith}
 use Rattle.std.proofs.lemmas.List.{map-append}
 use Rattle.language.specs.Tree.{Name, Expression, const, var, negation, two, or, and, xor, RightSide, any, value, Simple, skip, assign}
 use Rattle.language.specs.Tree.{assert, assume, goto, leave, call, Mark, Block, done, one, choose, loop, Tree}
@@ -100,7 +100,8 @@ module _ (t : Tree) (gs own ps : List Name) (d last : ℕ) (gs_free : AreFree gs
   read_resolved : (x : Name) → Declared s x → resolve_expression s' (read N last x) ≡ read P last (place_of s x)
   read_resolved x h = by_test (is_declared x.text own)
       (λ e. ap (λ c. resolve_expression s' (cond (not c) (joined N last last x) (var x))) e
-      ∙ (ap var (kept_place gs own ps d last gs_free own_free few small ps' x e ∙ own_place x e) ∙ sym (ap (read P last) (own_place x e))))
+      ∙ (ap var (kept_place gs own ps d last gs_free own_free few small ps' x e ∙ own_place x e)
+      ∙ sym (ap (read P last) (own_place x e))))
       (λ e. ap (λ c. resolve_expression s' (cond (not c) (joined N last last x) (var x))) e
       ∙ (joined_resolved x h e last (omega arith)
       ∙ (ap (joined P last last) (shared_place x e) ∙ sym (ap (read P last) (shared_place x e)))))
@@ -206,7 +207,8 @@ module _ (t : Tree) (gs own ps : List Name) (d last : ℕ) (gs_free : AreFree gs
       (λ e.
       ap
       (λ c. map (resolve_side s') (cond (not c) (here ++ sides N last j xs rs) (value (expression N last v) ∷ sides N last j xs rs))) e
-      ∙ (ap₂ (λ a b. value a ∷ b) (expression_resolved v hr.0) (sides_resolved j xs rs h.1 hr.1 room) ∙ sym (ap there (own_place x e))))
+      ∙ (ap₂ (λ a b. value a ∷ b) (expression_resolved v hr.0) (sides_resolved j xs rs h.1 hr.1 room)
+      ∙ sym (ap there (own_place x e))))
       (λ e.
       ap
       (λ c. map (resolve_side s') (cond (not c) (here ++ sides N last j xs rs) (value (expression N last v) ∷ sides N last j xs rs))) e
@@ -236,7 +238,8 @@ module _ (t : Tree) (gs own ps : List Name) (d last : ℕ) (gs_free : AreFree gs
   temporaries_resolved (choose m r a b k) = λ i. max (temporaries_resolved a i) (max (temporaries_resolved b i) (temporaries_resolved k i))
   temporaries_resolved (loop m r a k) = λ i. max (temporaries_resolved a i) (temporaries_resolved k i)
 
-  drawn_all : (j m : ℕ) → j + m ≤ d → map (place_of s') (map drawn_name (numbers j m)) ≡ map (λ k. local (length own + k)) (numbers j m)
+  drawn_all : (j m : ℕ) → j + m ≤ d
+      → map (place_of s') (map drawn_name (numbers j m)) ≡ map (λ k. local (length own + k)) (numbers j m)
   drawn_all j zero le = refl
   drawn_all j (suc m) le =
       λ i. drawn_place gs own ps d last gs_free own_free few small ps' j (omega arith) i ∷ drawn_all (suc j) m (omega arith) i
@@ -283,7 +286,8 @@ module _ (t : Tree) (gs own ps : List Name) (d last : ℕ) (gs_free : AreFree gs
       (one plain (assign (targets_resolved xs rs h.0 i) (sides_resolved 0 xs rs h.0 h.1 (omega arith) i)) (resolve_block s' k)))
   statement_resolved (assert r) k h room =
       λ i. choose plain (side_resolved r h i) (one plain skip done)
-      (one plain (assign (bd i ∷ st i ∷ []) (value (const true) ∷ value (const true) ∷ [])) (one plain leave done)) (resolve_block s' k)
+      (one plain (assign (bd i ∷ st i ∷ []) (value (const true) ∷ value (const true) ∷ [])) (one plain leave done))
+      (resolve_block s' k)
   statement_resolved (assume r) k h room = λ i. one plain (assume (side_resolved r h i)) (resolve_block s' k)
   statement_resolved (goto x) k h room = refl
   statement_resolved leave k h room = refl

@@ -1,6 +1,6 @@
 -- The first procedure runs the threads, one after the other, both ways.
-use Rattle.std.proofs.Common.{◌≡◌, ℕ, suc, ◌+◌, ◌-◌, Bool, true, false, List, [], ◌∷◌, ◌++◌, length, map, Option, Some, None}
-use Rattle.std.proofs.Common.{option_map, slice_get, refl, sym, ◌∙◌, ap, subst, arith, ◌⊎◌, inl, inr}
+use Rattle.std.proofs.Common.{◌≡◌, ℕ, suc, ◌+◌, ◌-◌, Bool, true, false, List, [], ◌∷◌, ◌++◌, length, map, Option}
+use Rattle.std.proofs.Common.{Some, None, option_map, slice_get, refl, sym, ◌∙◌, ap, subst, arith, ◌⊎◌, inl, inr}
 use Rattle.language.specs.Tree.{RightSide, value, const, assign, call, one}
 use Rattle.language.specs.Value.{Place, global, with_bit, AreValues, written_globals, written_locals}
 use Rattle.language.specs.Rest.{Code}
@@ -117,7 +117,8 @@ module _ (setting : Setting) (S : List (List Bool)) (saves : AreRows setting.p.g
   enters_now : (c : ℕ) (r : Routine) → slice_get p.routines c ≡ Some r → w.enters (suc c) ≡ Some (put_routine p last r)
   enters_now c r e = isw.enters_is c ∙ ap (option_map (put_routine p last)) e
 
-  fresh_now : (r : Routine) → fresh (r.places + temporaries is_global r.body) [] ≡ fresh r.places [] ++ zeros (temporaries is_global r.body)
+  fresh_now : (r : Routine)
+      → fresh (r.places + temporaries is_global r.body) [] ≡ fresh r.places [] ++ zeros (temporaries is_global r.body)
   fresh_now r = fresh_more r.places (temporaries is_global r.body) [] (omega arith)
 
   module _ (Q : State → Type 0) (t : Code) where
@@ -220,7 +221,9 @@ module _ (setting : Setting) (S : List (List Bool)) (saves : AreRows setting.p.g
       (state Y
       (frame (suc c) (fresh (r.places + temporaries is_global r.body) []) (put_rest p last r.places r.body) ∷ frame 0 [] t ∷ []))
       (Bad n last) =
-      subst (λ o. AtRoutine o (λ z. PlainAfter w M2 (state Y (frame (suc c) (fresh z.places []) z.body ∷ frame 0 [] t ∷ [])) (Bad n last)))
+      subst
+      (λ o.
+      AtRoutine o (λ z. PlainAfter w M2 (state Y (frame (suc c) (fresh z.places []) z.body ∷ frame 0 [] t ∷ [])) (Bad n last)))
       (enters_now c r e) h4 in (
         M2,
         subst (λ l. PlainAfter w M2 (state Y (frame (suc c) l (put_rest p last r.places r.body) ∷ frame 0 [] t ∷ [])) (Bad n last))
@@ -287,7 +290,8 @@ module _ (setting : Setting) (S : List (List Bool)) (saves : AreRows setting.p.g
         )
 
   pub starts_back : (t : Code) (T : List ℕ) → EachThread p.routines T → (G : List (List Bool)) → AreRows p.globals (suc last) G
-      → (q : ℕ) (s b : Bool) (N : ℕ) → PlainAfter w N (main_at (lay G S (bits_of q s b)) (starts naming last T t)) (Bad p.globals last)
+      → (q : ℕ) (s b : Bool) (N : ℕ)
+      → PlainAfter w N (main_at (lay G S (bits_of q s b)) (starts naming last T t)) (Bad p.globals last)
       → Ran T t G b
   starts_back t [] there G are q s b N h = record {
     left = N;

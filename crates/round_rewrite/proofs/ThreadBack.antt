@@ -1,6 +1,6 @@
 -- A run of a rewritten thread down to the first procedure is the thread's turns, or turns that fail.
-use Rattle.std.proofs.Common.{◌≡◌, ℕ, zero, suc, ◌+◌, ◌<◌, ◌≤◌, Bool, true, false, List, [], ◌∷◌, ◌++◌, length, map, refl, sym, ◌∙◌, ap}
-use Rattle.std.proofs.Common.{subst, arith, append_assoc, length-append, ◌⊎◌, inl, inr}
+use Rattle.std.proofs.Common.{◌≡◌, ℕ, zero, suc, ◌+◌, ◌<◌, ◌≤◌, Bool, true, false, List, [], ◌∷◌, ◌++◌}
+use Rattle.std.proofs.Common.{length, map, refl, sym, ◌∙◌, ap, subst, arith, append_assoc, length-append, ◌⊎◌, inl, inr}
 use Rattle.language.specs.Tree.{done, one, choose, loop}
 use Rattle.language.specs.Rest.{Code}
 use Rattle.language.specs.Step.{Frame, State, state, StepsTo, Fails}
@@ -54,7 +54,8 @@ pub record Seat (n last : ℕ) (S post : List (List Bool)) : Type 0 where
   pub long : length g ≡ n
 
 -- the same place, with other globals
-abbrev pub reseat : {n last : ℕ} {S post : List (List Bool)} (r : Seat n last S post) (h : List Bool) → length h ≡ n → Seat n last S post
+abbrev pub reseat : {n last : ℕ} {S post : List (List Bool)} (r : Seat n last S post) (h : List Bool) → length h ≡ n
+    → Seat n last S post
 reseat r h e = record { pre = r.pre; g = h; zip = r.zip; long = e }
 
 -- the place one row on
@@ -223,7 +224,8 @@ module _ (setting : Setting) (S : List (List Bool)) (m : Frame) (Q : State → T
         (subst (λ k. PlainAfter w N (state (lay (r.pre ++ r.g ∷ h ∷ post) S (bits_of k false b)) (stack p last bs m)) Q)
         (sym (length-next r.pre r.g)) run)))
 
-    module _ (N : ℕ) (le : N ≤ f) (post : List (List Bool)) (r : Seated post) (b : Bool) (bs : List Both) (good : AllGood p last bs) where
+    module _ (N : ℕ) (le : N ≤ f) (post : List (List Bool)) (r : Seated post) (b : Bool) (bs : List Both)
+        (good : AllGood p last bs) where
       abbrev now : Moment p.globals last
       now = moment r b
 

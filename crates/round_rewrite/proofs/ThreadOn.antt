@@ -1,6 +1,6 @@
 -- A thread's turns, or turns that fail, are a run of the rewritten thread down to the first procedure.
-use Rattle.std.proofs.Common.{◌≡◌, ℕ, zero, suc, ◌+◌, ◌-◌, ◌≤◌, Bool, true, false, List, [], ◌∷◌, ◌++◌, length, map, refl, sym, ◌∙◌}
-use Rattle.std.proofs.Common.{ap, subst, arith, append_assoc, inl, inr}
+use Rattle.std.proofs.Common.{◌≡◌, ℕ, zero, suc, ◌+◌, ◌-◌, ◌≤◌, Bool, true, false, List, [], ◌∷◌, ◌++◌}
+use Rattle.std.proofs.Common.{length, map, refl, sym, ◌∙◌, ap, subst, arith, append_assoc, inl, inr}
 use Rattle.language.specs.Tree.{skip, assign, assert, assume, goto, leave, call, done, one, choose, loop}
 use Rattle.language.specs.Value.{with_bit, IsValue}
 use Rattle.language.specs.Rest.{Code}
@@ -86,15 +86,18 @@ module _ (setting : Setting) (S : List (List Bool)) (m : Frame) (Q : State → T
 
     -- where a row's run may go on
     abbrev pub Onward : List Bool → List Frame → Type 0
-    Onward h mid = (q : ℕ) → q ≤ length r.pre → (bs : List Both) → AllGood p last bs → map source bs ≡ mid → length h ≡ p.globals
+    Onward h mid = (q : ℕ) → q ≤ length r.pre → (bs : List Both) → AllGood p last bs → map source bs ≡ mid
+        → length h ≡ p.globals
         → At (rows h) q false b (stack p last bs m)
 
     abbrev RecRow : ℕ → List Bool → List Frame → Type 0
-    RecRow k h mid = (g : List Bool) → length g ≡ p.globals → (q : ℕ) → q ≤ length r.pre → (bs : List Both) → AllGood p last bs
+    RecRow k h mid = (g : List Bool) → length g ≡ p.globals → (q : ℕ) → q ≤ length r.pre → (bs : List Both)
+        → AllGood p last bs
         → AfterSteps p k (state g (map source bs)) (λ u. u ≡ state h mid) → At (rows g) q false b (stack p last bs m)
 
     module _ (k : ℕ) (h : List Bool) (mid : List Frame) (rec : RecRow k h mid) where
-      busy : (g : List Bool) → (eg : length g ≡ p.globals) → (a : Activation) (rest : Code) (bs : List Both) → Good p last (both a rest)
+      busy : (g : List Bool) → (eg : length g ≡ p.globals) → (a : Activation) (rest : Code) (bs : List Both)
+          → Good p last (both a rest)
           → AllGood p last bs → StepsTo p (state g (map source (both a rest ∷ bs))) (λ t. AfterSteps p k t (λ u. u ≡ state h mid))
           → At (rows g) (length r.pre) false b (top p last a (inner p last a.own rest) bs m)
       busy g eg a rest bs good goods steps =
@@ -143,7 +146,8 @@ module _ (setting : Setting) (S : List (List Bool)) (m : Frame) (Q : State → T
 
     -- a failing assert sets bad and stop, and the thread leaves
     fail_inner : (g : List Bool) → (eg : length g ≡ p.globals) → (a : Activation) (rest : Code) (bs : List Both)
-        → Good p last (both a rest) → Fails (state g (map source (both a rest ∷ bs))) → At (rows g) (length r.pre) true true (m ∷ [])
+        → Good p last (both a rest) → Fails (state g (map source (both a rest ∷ bs)))
+        → At (rows g) (length r.pre) true true (m ∷ [])
         → At (rows g) (length r.pre) false b (stack p last (both a rest ∷ bs) m)
     fail_inner g eg a done bs good f out = absurd f
     fail_inner g eg a (one d skip t) bs good f out = absurd f
@@ -182,7 +186,8 @@ module _ (setting : Setting) (S : List (List Bool)) (m : Frame) (Q : State → T
 
     -- the same where the round's bits lag behind
     fail_top : (g : List Bool) → (eg : length g ≡ p.globals) → (q : ℕ) → q ≤ length r.pre
-        → (a : Activation) (rest : Code) (bs : List Both) → Good p last (both a rest) → Fails (state g (map source (both a rest ∷ bs)))
+        → (a : Activation) (rest : Code) (bs : List Both) → Good p last (both a rest)
+        → Fails (state g (map source (both a rest ∷ bs)))
         → At (rows g) (length r.pre) true true (m ∷ []) → At (rows g) q false b (stack p last (both a rest ∷ bs) m)
     fail_top g eg q le a done bs good f out = absurd f
     fail_top g eg q le a (one d s t) bs good f out =
@@ -191,8 +196,10 @@ module _ (setting : Setting) (S : List (List Bool)) (m : Frame) (Q : State → T
     fail_top g eg q le a (choose d v x y t) bs good f out = absurd f
     fail_top g eg q le a (loop d v x t) bs good f out = absurd f
 
-    pub fail_on : (g : List Bool) → (eg : length g ≡ p.globals) → (q : ℕ) → q ≤ length r.pre → (bs : List Both) → AllGood p last bs
-        → Fails (state g (map source bs)) → At (rows g) (length r.pre) true true (m ∷ []) → At (rows g) q false b (stack p last bs m)
+    pub fail_on : (g : List Bool) → (eg : length g ≡ p.globals) → (q : ℕ) → q ≤ length r.pre → (bs : List Both)
+        → AllGood p last bs
+        → Fails (state g (map source bs)) → At (rows g) (length r.pre) true true (m ∷ [])
+        → At (rows g) q false b (stack p last bs m)
     fail_on g eg q le [] goods f out = absurd f
     fail_on g eg q le (a ∷ bs) goods f out = fail_top g eg q le a.activation a.rest bs goods.0 f out
 

@@ -1,6 +1,7 @@
 -- What the rewritten expressions are worth.
-use Rattle.std.proofs.Common.{◌≡◌, ℕ, zero, suc, ◌+◌, ◌*◌, ◌/◌, ◌%◌, ◌<◌, ◌≤◌, Bool, true, false, not, ◌&&◌, ◌||◌, List, [], ◌∷◌, ◌++◌}
-use Rattle.std.proofs.Common.{length, map, refl, sym, ◌∙◌, ap, ap₂, arith, inl, inr}
+use Rattle.std.proofs.Common.{◌≡◌, ℕ, zero, suc, ◌+◌, ◌*◌, ◌/◌, ◌%◌, ◌<◌, ◌≤◌, Bool, true, false, not}
+use Rattle.std.proofs.Common.{◌&&◌, ◌||◌, List, [], ◌∷◌, ◌++◌, length, map, refl, sym, ◌∙◌, ap, ap₂, arith, inl}
+use Rattle.std.proofs.Common.{inr}
 use Rattle.std.proofs.lemmas.Bool.{cases_eq}
 use Rattle.std.proofs.lemmas.List.{get_or_append_left}
 use Rattle.language.specs.Tree.{Expression, const, var, negation, two, RightSide, any, value}
@@ -79,13 +80,15 @@ module _ {n last : ℕ} (small : last < most_rounds) (now : Moment n last) (own 
   and_false : (x y : Bool) → x ≡ false → (x && y) ≡ false
   and_false x y e = ap (λ z. z && y) e
 
-  before : (k i : ℕ) → k ≤ last → i < n → k < q → value_of globals_now L (joined (places n last own) last k (global i)) ≡ false
+  before : (k i : ℕ) → k ≤ last → i < n → k < q
+      → value_of globals_now L (joined (places n last own) last k (global i)) ≡ false
   before zero i h h' lt = and_false _ _ (at_is zero h ∙ same_false zero q (omega arith))
   before (suc k) i h h' lt =
       ap₂ (λ x y. x || y) (before k i (omega arith) h' (omega arith))
       (and_false _ _ (at_is (suc k) h ∙ same_false (suc k) q (omega arith)))
 
-  from : (k i : ℕ) → k ≤ last → i < n → q ≤ k → value_of globals_now L (joined (places n last own) last k (global i)) ≡ bit (row C q) i
+  from : (k i : ℕ) → k ≤ last → i < n → q ≤ k
+      → value_of globals_now L (joined (places n last own) last k (global i)) ≡ bit (row C q) i
   from zero i h h' le =
       let e : q ≡ zero = omega arith in
       ap₂ (λ x y. x && y) (at_is zero h ∙ (ap (same zero) e ∙ refl)) (copy_is zero i h h' ∙ ap (λ z. bit (row C z) i) (sym e))
@@ -107,10 +110,12 @@ module _ {n last : ℕ} (small : last < most_rounds) (now : Moment n last) (own 
   expression_is l tmp eL el (negation e) h = ap not (expression_is l tmp eL el e h)
   expression_is l tmp eL el (two o x y) h = ap₂ (operate o) (expression_is l tmp eL el x h.0) (expression_is l tmp eL el y h.1)
 
-  pub expressions_are : (l tmp : List Bool) → L ≡ l ++ tmp → length l ≡ own → (es : List (Expression Place)) → AreInScope n own es
+  pub expressions_are : (l tmp : List Bool) → L ≡ l ++ tmp → length l ≡ own → (es : List (Expression Place))
+      → AreInScope n own es
       → values_of globals_now L (map (expression (places n last own) last) es) ≡ values_of (row C q) l es
   expressions_are l tmp eL el [] h = refl
-  expressions_are l tmp eL el (e ∷ es) h = ap₂ (λ x xs. x ∷ xs) (expression_is l tmp eL el e h.0) (expressions_are l tmp eL el es h.1)
+  expressions_are l tmp eL el (e ∷ es) h =
+      ap₂ (λ x xs. x ∷ xs) (expression_is l tmp eL el e h.0) (expressions_are l tmp eL el es h.1)
 
   pub side_is : (l tmp : List Bool) → L ≡ l ++ tmp → length l ≡ own → (r : RightSide Place) → SideInScope n own r → (v : Bool)
       → IsValue globals_now L (side (places n last own) last r) v ≡ IsValue (row C q) l r v

@@ -1,6 +1,6 @@
 -- Nobody calls the first procedure of a rewritten program, so it is entered once, with every value 0.
-use Rattle.std.proofs.Common.{◌≡◌, ℕ, zero, suc, ◌+◌, Bool, true, false, cond, List, [], ◌∷◌, map, Option, Some, None, slice_get, refl, sym}
-use Rattle.std.proofs.Common.{◌∙◌, subst}
+use Rattle.std.proofs.Common.{◌≡◌, ℕ, zero, suc, ◌+◌, Bool, true, false, cond, List, [], ◌∷◌, map, Option, Some, None}
+use Rattle.std.proofs.Common.{slice_get, refl, sym, ◌∙◌, subst}
 use Rattle.language.specs.Tree.{RightSide, Simple, skip, assign, assert, assume, goto, leave, call, Mark, done, one, choose, loop}
 use Rattle.language.specs.Value.{Place, values_of}
 use Rattle.language.specs.Rest.{Label, Code, join, rest_from}
@@ -119,7 +119,8 @@ module _ (p : Program) (bodies : (c : ℕ) → RoutineAway (slice_get p.routines
   away_body None h = tt
   away_body (Some r) h = h
 
-  rest_away : (o : Option Code) (F : Code → State) (P : State → Type 0) → IfThere Away o → ((c : Code) → Away c → StateAway (F c))
+  rest_away : (o : Option Code) (F : Code → State) (P : State → Type 0) → IfThere Away o
+      → ((c : Code) → Away c → StateAway (F c))
       → AtRest o (λ c. P (F c)) → (u : State) × P u × StateAway u
   rest_away None F P h f a = absurd a
   rest_away (Some c) F P h f a = (F c, a, f c h)
@@ -133,7 +134,8 @@ module _ (p : Program) (bodies : (c : ℕ) → RoutineAway (slice_get p.routines
   away-branch true a b t ha hb ht = throughout-join Elsewhere Any a t ha ht
   away-branch false a b t ha hb ht = throughout-join Elsewhere Any b t hb ht
 
-  away-again : (v : Bool) (m : Mark Label) (r : RightSide Place) (a t : Code) → Away a → Away t → Away (cond v (join a (loop m r a t)) t)
+  away-again : (v : Bool) (m : Mark Label) (r : RightSide Place) (a t : Code) → Away a → Away t
+      → Away (cond v (join a (loop m r a t)) t)
   away-again true m r a t ha ht = throughout-join Elsewhere Any a (loop m r a t) ha (tt, ha, ht)
   away-again false m r a t ha ht = ht
 

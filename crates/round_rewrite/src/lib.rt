@@ -54,8 +54,8 @@ pub fn rewriting_keeps_failures_of_resolved_programs()
     ensures { (p : Program) (last : ℕ) → FitsScopes p → last < most_rounds → Keeps last p }
 {}
 
-/// Three programs are rewritten to exactly these texts, byte for byte: one thread that does nothing, for one round; one that sets a
-/// global to either value, for two; and a program with each construct, for three.
+/// Three programs are rewritten to exactly these texts, byte for byte: one thread that does nothing, for one round; one
+/// that sets a global to either value, for two; and a program with each construct, for three.
 pub fn worked_programs_are_rewritten_to_these_texts()
     ensures skipping { printed worked.skipping ≡ worked.skipping_text }
     ensures one_round { printed (rewritten_tree 0 worked.skipping) ≡ worked.skipping_in_one_round }

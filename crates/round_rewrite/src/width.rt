@@ -89,8 +89,8 @@ pub(crate) fn is_narrow<N: Allocator, A: Allocator + Copy>(
     first_wide(alloc, rounds, program).is_none()
 }
 
-/// Which procedure of a checked program is too wide for so many rounds: the first, in the order of the source, that has more
-/// than 64 places when it is rewritten. It takes no memory. `rewrite` answers `TooWide` where there is one.
+/// Which procedure of a checked program is too wide for so many rounds: the first, in the order of the source, that has
+/// more than 64 places when it is rewritten. It takes no memory. `rewrite` answers `TooWide` where there is one.
 pub fn too_wide<N: Allocator, A: Allocator + Copy>(
     alloc: &A,
     checked: &Checked<N>,
