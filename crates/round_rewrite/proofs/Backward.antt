@@ -20,6 +20,7 @@ use Rattle.round_rewrite.proofs.Frames.{Activation, both, entered, Both, source,
 use Rattle.round_rewrite.proofs.Frames.{Setting, put_routine, fresh_more}
 use Rattle.round_rewrite.proofs.Forward.{good_with, good_rest, jump_good, call_good, branch_fits, put_branch, loop_fits, put_loop, side_at}
 
+-- two right sides have two values
 two_back : (X L : List Bool) (r0 r1 : RightSide Place) (vs : List Bool) → AreValues X L (r0 ∷ r1 ∷ []) vs
     → (x : Bool) × (y : Bool) × (vs ≡ x ∷ y ∷ []) × IsValue X L r0 x × IsValue X L r1 y
 two_back X L r0 r1 [] a = absurd a
@@ -32,6 +33,7 @@ module _ (setting : Setting) (now : Moment setting.p.globals setting.last) (m : 
   open setting use {p, last, fits, small, w, isw}
   open now use {C, S, q, b, shape, within}
 
+  -- no frame above the first procedure has the property
   pub never_below : (bs : List Both) → Never Q (callers p last bs m)
   never_below [] = λ g f. single g f m []
   never_below (a ∷ bs) =
@@ -76,6 +78,7 @@ module _ (setting : Setting) (now : Moment setting.p.globals setting.last) (m : 
         → Later w N (state (lay C S (bits_of q true true)) (top p last a done bs m)) Q
         → Begins N a rest bs
 
+  -- a step of the source that leaves the globals as they are
   moved_here : (N : ℕ) (a : Activation) (rest : Code) (bs bs' : List Both) → AllGood p last bs'
       → StepsTo p (state (row C q) (frame a.c a.l rest ∷ map source bs)) (λ u. u ≡ state (row C q) (map source bs'))
       → Later w N (state X (stack p last bs' m)) Q → Begins N a rest bs
@@ -83,10 +86,12 @@ module _ (setting : Setting) (now : Moment setting.p.globals setting.last) (m : 
       moved (row C q) bs' (row_long now) good step
       (r.0, r.1, subst (λ z. PlainAfter w r.0 (state z (stack p last bs' m)) Q) (sym (unturned now)) r.2)
 
+  -- the value of a rewritten right side is one of the source, in the row of the round
   back_value : (a : Activation) → length a.l ≡ a.own → (r : RightSide Place) → SideInScope p.globals a.own r → (v : Bool)
       → IsValue X (a.l ++ a.tmp) (side (places p.globals last a.own) last r) v → IsValue (row C q) a.l r v
   back_value a el r h v is = subst (λ T. T) (side_at setting now m a el r h v) is
 
+  -- a failing assert sets `bad` and `stop`
   fail_writes : (x y : Bool) → x ≡ true → y ≡ true →
       with_bit (with_bit X (bad_at p.globals last) x) (stop_at p.globals last) y ≡ lay C S (bits_of q true true)
   fail_writes x y ex ey =
@@ -94,23 +99,27 @@ module _ (setting : Setting) (now : Moment setting.p.globals setting.last) (m : 
       ∙ (ap (λ z. with_bit z (stop_at p.globals last) true) (bits_with p.globals last C S (bits_of q false b) 3 true shape)
       ∙ bits_with p.globals last C S (bits_of q false true) 2 true shape)
 
+  -- what an assert that does not hold is rewritten to
   fail_code : Code → Code
   fail_code t =
       one plain (assign (global (bad_at p.globals last) ∷ global (stop_at p.globals last) ∷ [])
       (value (const true) ∷ value (const true) ∷ []))
       (one plain leave t)
 
+  -- what is so after a jump is so a step later
   at_rest_later : (N k : ℕ) (o : Option Code) (F : Code → State) → N ≡ suc k → AtRest o (λ u. PlainAfter w k (F u) Q)
       → AtRest o (λ u. Later w N (F u) Q)
   at_rest_later N k None F e a = absurd a
   at_rest_later N k (Some u) F e a = later_now w Q (F u) N k e a
 
+  -- what is so after a call is so a step later
   at_routine_later : (N k : ℕ) (o : Option Routine) (F : Routine → State) → N ≡ suc k → AtRoutine o (λ u. PlainAfter w k (F u) Q)
       → AtRoutine o (λ u. Later w N (F u) Q)
   at_routine_later N k None F e a = absurd a
   at_routine_later N k (Some u) F e a = later_now w Q (F u) N k e a
 
   module _ (bs : List Both) (good : AllGood p last bs) where
+    -- a run through an assert
     assert_back : (N : ℕ) (a : Activation) (k : Mark Label) (r : RightSide Place) (t : Code) (v : Bool)
         → Good p last (both a (one k (assert r) t))
         → IsValue X (a.l ++ a.tmp) (side (places p.globals last a.own) last r) v
@@ -142,6 +151,7 @@ module _ (setting : Setting) (now : Moment setting.p.globals setting.last) (m : 
         let (n4, e4, r4) = unstep w Q n1 _ _ _ (never_below bs) r3 in
         failed (back_value a h.long r h.fits.0.0 false is) (n4, omega arith, r4)
 
+    -- a run through a jump
     jump_back : (N : ℕ) (a : Activation) (k : Mark Label) (x : Label) (t : Code) (o : Option Code)
         → (h : Good p last (both a (one k (goto x) t))) → rest_from x h.routine.body done ≡ o
         → AtRest (option_map (put_rest p last a.own) o)
@@ -158,6 +168,7 @@ module _ (setting : Setting) (now : Moment setting.p.globals setting.last) (m : 
         moved_here N a (one k (goto x) t) bs (both a found ∷ bs)
         (jump_good p last a (one k (goto x) t) x found fits h e, good) step at
 
+    -- a run through a call
     call_back : (N : ℕ) (a : Activation) (k : Mark Label) (t : Code) (q' : ℕ) (es : List (Expression Place))
         (o : Option Routine) → slice_get p.routines q' ≡ o → Good p last (both a (one k (call q' es) t))
         → AtRoutine o (λ r. length es ≤ r.places)

@@ -21,6 +21,7 @@ module _ (w : World) (n last : ℕ) (g : List Bool) (eg : length g ≡ n) (bits 
   abbrev pub Open : List (List Bool) → List (List Bool) → List (List Bool) → List Bool
   Open a d e = lay (g ∷ (a ++ d)) (a ++ e) bits
 
+  -- the rows for k guesses are written, those for m more are not yet
   pub record Fill (k m : ℕ) (a d e : List (List Bool)) : Type 0 where
     pub a_long : Long n a
     pub d_long : Long n d

@@ -45,23 +45,27 @@ pub body_fits : (p : Program) (c : ℕ) (r : Routine) (d : ℕ) → FitsScopes p
 body_fits p c r d fits e room =
     roomy p.routines p.globals r.places d r.body (each_at (RoutineInScope p.routines p.globals) p.routines c r fits.routines e) room
 
+-- either branch of an `if` fits, with what follows
 pub branch_fits : (p : Program) (own d : ℕ) (v : Bool) (x y t : Code) → Fits p.routines p.globals own d x
     → Fits p.routines p.globals own d y → Fits p.routines p.globals own d t
     → Fits p.routines p.globals own d (cond v (join x t) (join y t))
 branch_fits p own d true x y t hx hy ht = throughout-join (Roomy p.routines p.globals own d) (SideInScope p.globals own) x t hx ht
 branch_fits p own d false x y t hx hy ht = throughout-join (Roomy p.routines p.globals own d) (SideInScope p.globals own) y t hy ht
 
+-- the branch that an `if` takes, rewritten
 pub put_branch : (p : Program) (last own : ℕ) (v : Bool) (x y t : Code)
     → put_rest p last own (cond v (join x t) (join y t))
     ≡ cond v (join (put_rest p last own x) (put_rest p last own t)) (join (put_rest p last own y) (put_rest p last own t))
 put_branch p last own true x y t = put-join (places p.globals last own) last x t
 put_branch p last own false x y t = put-join (places p.globals last own) last y t
 
+-- what a `while` goes on with fits
 pub loop_fits : (p : Program) (own d : ℕ) (v : Bool) (k : Mark Label) (r : RightSide Place) (x t : Code)
     → Fits p.routines p.globals own d (loop k r x t) → Fits p.routines p.globals own d (cond v (join x (loop k r x t)) t)
 loop_fits p own d true k r x t h = throughout-join (Roomy p.routines p.globals own d) (SideInScope p.globals own) x (loop k r x t) h.1 h
 loop_fits p own d false k r x t h = h.2
 
+-- what a `while` goes on with, rewritten
 pub put_loop : (p : Program) (last own : ℕ) (v : Bool) (k : Mark Label) (r : RightSide Place) (x t : Code)
     → put_rest p last own (cond v (join x (loop k r x t)) t)
     ≡ cond v
@@ -108,6 +112,7 @@ module _ (setting : Setting) (now : Moment setting.p.globals setting.last) (m : 
   abbrev pub naming : ℕ → Naming Place Place ℕ ℕ
   naming own = places p.globals last own
 
+  -- a rewritten right side has the values that the source has in the row of the round
   pub side_at : (a : Activation) → length a.l ≡ a.own → (r : RightSide Place) → SideInScope p.globals a.own r → (v : Bool)
       → IsValue X (a.l ++ a.tmp) (side (naming a.own) last r) v ≡ IsValue (row C q) a.l r v
   side_at a el r h v = side_is small now a.own (a.l ++ a.tmp) a.l a.tmp refl el r h v
@@ -128,12 +133,14 @@ module _ (setting : Setting) (now : Moment setting.p.globals setting.last) (m : 
       Next = (g' : List Bool) (bs : List Both) → length g' ≡ p.globals → AllGood p last bs → R (state g' (map source bs))
           → Leads w (state (turned now g') (stack p last bs m)) Q
 
+      -- where the step leaves the globals as they are
       same_globals : Next → (bs : List Both) → AllGood p last bs → R (state (row C q) (map source bs))
           → Leads w (state X (stack p last bs m)) Q
       same_globals next bs good r =
           subst (λ z. Leads w (state z (stack p last bs m)) Q) (unturned now) (next (row C q) bs (row_long now) good r)
 
       module _ (next : Next) (bs : List Both) (good : AllGood p last bs) where
+        -- where the step is a jump
         jump_leads : (a : Activation) (rest : Code) (x : Label) (o : Option Code)
             → (h : Good p last (both a rest)) → rest_from x h.routine.body done ≡ o
             → AtRest o (λ t. R (state (row C q) (frame a.c a.l t ∷ map source bs)))
@@ -144,6 +151,7 @@ module _ (setting : Setting) (now : Moment setting.p.globals setting.last) (m : 
         jump_leads a rest x (Some found) h e at =
             same_globals next (both a found ∷ bs) (jump_good p last a rest x found fits h e, good) at
 
+        -- where the step is a call
         call_leads : (a : Activation) (t : Code) (q' : ℕ) (es : List (Expression Place)) (o : Option Routine)
             → slice_get p.routines q' ≡ o → Good p last (both a t) → AreInScope p.globals a.own es
             → AtRoutine o (λ r. length es ≤ r.places)

@@ -15,6 +15,7 @@ use Rattle.round_rewrite.proofs.Blocks.{put}
 use Rattle.round_rewrite.proofs.Laid.{Shape}
 use Rattle.round_rewrite.proofs.Prologue.{Site}
 
+-- how many temporaries a statement draws
 abbrev pub draws_of : Simple Place ℕ Label → ℕ
 draws_of skip = 0
 draws_of (assign xs rs) = draws is_global xs rs
@@ -28,9 +29,11 @@ draws_of (call q es) = 0
 abbrev pub Roomy : List Routine → ℕ → ℕ → ℕ → Simple Place ℕ Label → Type 0
 Roomy routines n own d s = SimpleInScope routines n own s × (draws_of s ≤ d)
 
+-- each statement of a block is in scope and has room for its temporaries
 abbrev pub Fits : List Routine → ℕ → ℕ → ℕ → Code → Type 0
 Fits routines n own d b = Throughout (Roomy routines n own d) (SideInScope n own) b
 
+-- what is so throughout two blocks is so throughout both, joined
 pub throughout-join : (S : Simple Place ℕ Label → Type 0) (R : RightSide Place → Type 0) (a b : Code) → Throughout S R a
     → Throughout S R b
     → Throughout S R (join a b)
@@ -52,6 +55,7 @@ there_first : (P : Code → Type 0) (o u : Option Code) → IfThere P o → IfTh
 there_first P None u h k = k
 there_first P (Some x) u h k = h
 
+-- what is so throughout a body is so throughout each rest that a jump finds
 pub throughout-rest : (S : Simple Place ℕ Label → Type 0) (R : RightSide Place → Type 0) (x : Label) (b k : Code) → Throughout S R b
     → Throughout S R k → IfThere (Throughout S R) (rest_from x b k)
 throughout-rest S R x done k hb hk = tt
@@ -68,6 +72,7 @@ throughout-rest S R x (loop m r a t) k hb hk =
     (there_first (Throughout S R) _ _ (throughout-rest S R x a (loop m r a (join t k)) hb.1 (hb.0, hb.1, after))
     (throughout-rest S R x t k hb.2 hk))
 
+-- room for a block is room for its first statement and for the others
 room_simple : (s : Simple Place ℕ Label) (t : Code) (m : Mark Label) (d : ℕ) → temporaries is_global (one m s t) ≤ d
     → (draws_of s ≤ d) × (temporaries is_global t ≤ d)
 room_simple skip t m d h = (omega arith, h)
@@ -78,6 +83,7 @@ room_simple (goto x) t m d h = (omega arith, h)
 room_simple leave t m d h = (omega arith, h)
 room_simple (call q es) t m d h = (omega arith, h)
 
+-- a block in scope, with room for its temporaries, fits
 pub roomy : (routines : List Routine) (n own d : ℕ) (b : Code) → Throughout (SimpleInScope routines n own) (SideInScope n own) b
     → temporaries is_global b ≤ d → Fits routines n own d b
 roomy routines n own d done h room = tt
@@ -114,6 +120,7 @@ abbrev pub entered : ℕ → Routine → List Bool → Both
 entered q r vs =
     both (record { c = q; own = r.places; l = fresh r.places vs; tmp = zeros (temporaries is_global r.body) }) r.body
 
+-- the frame of the source
 abbrev pub source : Both → Frame
 source b = frame b.c b.l b.rest
 
@@ -127,10 +134,12 @@ module _ (p : Program) (last : ℕ) where
     pub room : temporaries is_global routine.body ≤ length b.tmp
     pub fits : Fits p.routines p.globals b.own (length b.tmp) b.rest
 
+  -- the same of all frames
   abbrev pub AllGood : List Both → Type 0
   AllGood [] = Unit {0}
   AllGood (b ∷ bs) = Good b × AllGood bs
 
+  -- a rest, rewritten
   abbrev pub put_rest : ℕ → Code → Code
   put_rest own rest = put (places p.globals last own) last rest
 
@@ -144,6 +153,7 @@ module _ (p : Program) (last : ℕ) where
       loop plain (side (places p.globals last own) last r)
       (join (put_rest own x) (prologue (places p.globals last own) last plain done)) (put_rest own t)
 
+  -- the rewritten frames below the top one: each tests `stop` when it goes on
   abbrev pub callers : List Both → Frame → List Frame
   callers [] m = m ∷ []
   callers (b ∷ bs) m =
@@ -158,10 +168,12 @@ module _ (p : Program) (last : ℕ) where
   site C S shape a bs m =
       record { C = C; S = S; shape = shape; c = suc a.c; own = a.own; L = a.l ++ a.tmp; fs = callers bs m }
 
+  -- the rewritten stack
   abbrev pub stack : List Both → Frame → List Frame
   stack [] m = m ∷ []
   stack (b ∷ bs) m = top b.activation (put_rest b.own b.rest) bs m
 
+  -- a procedure, rewritten
   abbrev pub put_routine : Routine → Routine
   put_routine r = record { places = r.places + temporaries is_global r.body; body = put_rest r.places r.body }
 
@@ -180,6 +192,7 @@ pub record Setting : Type 0 where
   pub w : World
   pub isw : IsWorld p last w
 
+-- zeros behind zeros
 pub zeros-add : (a b : ℕ) → zeros (a + b) ≡ zeros a ++ zeros b
 zeros-add zero b = ap zeros (Rattle.std.proofs.Common.zero-add b)
 zeros-add (suc a) b = ap zeros (Rattle.std.proofs.Common.suc-add a b) ∙ ap (λ z. false ∷ z) (zeros-add a b)

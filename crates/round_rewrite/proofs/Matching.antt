@@ -11,7 +11,7 @@ use Rattle.round_rewrite.specs.Names.{copy_name, save_name, names}
 use Rattle.scopes.specs.Rewritable.{AreFree, AreDistinct, EachLine}
 use Rattle.round_rewrite.proofs.Spelling.{same_text_refl, same_text_false}
 use Rattle.round_rewrite.proofs.Numbering.{number_right}
-use Rattle.round_rewrite.proofs.Placing.{wider, copy_place, save_place}
+use Rattle.round_rewrite.proofs.Placing.{Vocabulary, wider, copy_place, save_place}
 use Rattle.round_rewrite.proofs.Resolved.{lo, hi, st}
 use Rattle.resolved.specs.Limits.{most_places}
 use Rattle.round_rewrite.specs.Limits.{most_rounds}
@@ -42,8 +42,22 @@ module _ (t : Tree) (gs ps : List Name) (last : ℕ) (gs_free : AreFree gs) (dis
   abbrev n : ℕ
   n = length gs
 
+  -- the first procedure has no names of its own
+  abbrev vocabulary : Vocabulary
+  vocabulary = record {
+    gs = gs;
+    own = [];
+    ps = ps;
+    d = 0;
+    last = last;
+    gs_free = gs_free;
+    own_free = tt;
+    few = few;
+    small = small;
+  }
+
   abbrev sm' : Scope
-  sm' = wider gs [] ps 0 last gs_free tt few small ps'
+  sm' = wider vocabulary ps'
 
   abbrev N : Naming Name Name Name Name
   N = names []
@@ -73,8 +87,8 @@ module _ (t : Tree) (gs ps : List Name) (last : ℕ) (gs_free : AreFree gs) (dis
       ap (number_of x.text) e ∙ (r.0
       ∙ (ap (λ c. length pre + cond c 0 (suc (number_of x.text suf))) (same_text_refl x.text)
       ∙ (let z : length pre + 0 ≡ j = omega arith in z))) in (
-        (λ k le. copy_place gs [] ps 0 last gs_free tt few small ps' x k le refl there ∙ ap (λ i. copy_at n k (global i)) at),
-        (λ k lt. save_place gs [] ps 0 last gs_free tt few small ps' x k lt refl there
+        (λ k le. copy_place vocabulary ps' x k le refl there ∙ ap (λ i. copy_at n k (global i)) at),
+        (λ k lt. save_place vocabulary ps' x k lt refl there
             ∙ ap (λ i. save_at n last (suc k) (global i)) at),
         matches_from (pre ++ x ∷ []) suf (e
             ∙ sym (append_assoc pre (x ∷ []) suf)) (suc j)
@@ -150,8 +164,8 @@ module _ (t : Tree) (gs ps : List Name) (last : ℕ) (gs_free : AreFree gs) (dis
       λ i.
       one plain
       (assign
-      (hi t gs [] ps 0 last gs_free tt few small ps' called i ∷ lo t gs [] ps 0 last gs_free tt few small ps' called i
-      ∷ st t gs [] ps 0 last gs_free tt few small ps' called i ∷ [])
+      (hi t vocabulary ps' called i ∷ lo t vocabulary ps' called i
+      ∷ st t vocabulary ps' called i ∷ [])
       (value (const false) ∷ value (const false) ∷ value (const false) ∷ []))
       (one plain (call (called line.name h.0 i) []) (starts_match lines h.1 b b' e i))
 

@@ -61,8 +61,21 @@ pub length-numbers : (j d : ℕ) → length (numbers j d) ≡ d
 length-numbers j zero = refl
 length-numbers j (suc d) = ap suc (length-numbers (suc j) d)
 
-module _ (gs own ps : List Name) (d last : ℕ) (gs_free : AreFree gs) (own_free : AreFree own) (few : d ≤ most_places)
-    (small : last < most_rounds) where
+-- the names of a program and of one of its procedures, with how many temporaries that needs, and the last round
+pub record Vocabulary : Type 0 where
+  pub gs : List Name
+  pub own : List Name
+  pub ps : List Name
+  pub d : ℕ
+  pub last : ℕ
+  pub gs_free : AreFree gs
+  pub own_free : AreFree own
+  pub few : d ≤ most_places
+  pub small : last < most_rounds
+
+module _ (vocabulary : Vocabulary) where
+  open vocabulary use {gs, own, ps, d, last, gs_free, own_free, few, small}
+
   abbrev temps : List Name
   temps = map drawn_name (numbers 0 d)
 

@@ -20,6 +20,7 @@ use Rattle.round_rewrite.proofs.ThreadBack.{Seat, moment, Ends, thread_back}
 use Rattle.round_rewrite.proofs.ThreadOn.{turns_on, fails_on}
 use Rattle.round_rewrite.proofs.Guessing.{Bad, bad_single, unstep_main, main_at}
 
+-- turns keep how many rows there are, and how long they are
 pub turns_keep : (p : Program) (n : ℕ) (G : List (List Bool)) (s : List Frame) (H : List (List Bool)) (s' : List Frame) → Long n G
     → Turns p G s H s' → Long n H × (length H ≡ length G)
 turns_keep p n [] s [] s' long h = (tt, refl)
@@ -29,6 +30,7 @@ turns_keep p n (g ∷ G) s (h ∷ H) s' long (mid, run, more) =
     let r = turns_keep p n G mid H s' long.1 more in
     ((run_keeps p g h s mid run ∙ long.0, r.0), ap suc r.1)
 
+-- the same of all threads in turn
 pub threads_keep : (p : Program) (n : ℕ) (G : List (List Bool)) (ss : List (List Frame)) (H : List (List Bool)) (ss' : List (List Frame))
     → Long n G → Threads p G ss H ss' → Long n H × (length H ≡ length G)
 threads_keep p n G [] H [] long e = (subst (Long n) (sym e) long, ap length e)
@@ -39,6 +41,7 @@ threads_keep p n G (s ∷ ss) H (s' ∷ ss') long (K, ts, more) =
     let r = threads_keep p n K ss H ss' k.0 more in
     (r.0, r.1 ∙ k.1)
 
+-- the same of threads of which one fails
 pub fails_keep : (p : Program) (n : ℕ) (G : List (List Bool)) (ss : List (List Frame)) (H : List (List Bool)) → Long n G
     → FailThreads p G ss H → Long n H × (length H ≡ length G)
 fails_keep p n G [] H long h = absurd h
@@ -52,6 +55,7 @@ fails_keep p n G (s ∷ ss) H long (inr (K, s', ts, more)) =
     let r = fails_keep p n K ss H k.0 more in
     (r.0, r.1 ∙ k.1)
 
+-- the frame that a thread starts with
 abbrev first_frame : ℕ → Option Routine → List Frame
 first_frame c None = []
 first_frame c (Some r) = frame c (zeros r.places) r.body ∷ []
@@ -67,9 +71,11 @@ module _ (setting : Setting) (S : List (List Bool)) (saves : AreRows setting.p.g
   abbrev naming : Naming Place Place ℕ ℕ
   naming = places p.globals last 0
 
+  -- a new thread's frame fits
   starter_good : (c : ℕ) (r : Routine) → slice_get p.routines c ≡ Some r → AllGood p last (entered c r [] ∷ [])
   starter_good c r e = (call_good p last c r [] fits e (omega arith), tt)
 
+  -- a new thread's frame is that of the source
   starter_is : (c : ℕ) (r : Routine) → slice_get p.routines c ≡ Some r
       → map source (entered c r [] ∷ []) ≡ starting_stack p.routines c
   starter_is c r e =
@@ -92,12 +98,15 @@ module _ (setting : Setting) (S : List (List Bool)) (saves : AreRows setting.p.g
     long = are.0.0;
   }
 
+  -- what is set before a thread starts: the bits of the round, and `stop`
   abbrev zero_targets : List Place
   zero_targets = global (high_at p.globals last) ∷ global (low_at p.globals last) ∷ global (stop_at p.globals last) ∷ []
 
+  -- the values they are set to
   abbrev zero_sides : List (RightSide Place)
   zero_sides = value (const false) ∷ value (const false) ∷ value (const false) ∷ []
 
+  -- these writes lead to round 0, where stop is 0
   zero_writes : (G : List (List Bool)) → Shape p.globals last G S → (q : ℕ) (s b : Bool) →
       with_bit (with_bit (with_bit (lay G S (bits_of q s b)) (high_at p.globals last) false) (low_at p.globals last)
       false) (stop_at p.globals last) false ≡ lay G S (bits_of 0 false b)
@@ -107,6 +116,7 @@ module _ (setting : Setting) (S : List (List Bool)) (saves : AreRows setting.p.g
       ∙ (ap (λ z. with_bit z (stop_at p.globals last) false) (bits_with p.globals last G S _ 1 false shape)
       ∙ bits_with p.globals last G S _ 2 false shape)
 
+  -- there is one choice of these values
   zero_back : (X L : List Bool) (vs : List Bool) → AreValues X L zero_sides vs → vs ≡ false ∷ false ∷ false ∷ []
   zero_back X L [] a = absurd a
   zero_back X L (x ∷ []) a = absurd a.1
@@ -114,9 +124,11 @@ module _ (setting : Setting) (S : List (List Bool)) (saves : AreRows setting.p.g
   zero_back X L (x ∷ y ∷ z ∷ []) (ax, (ay, (az, none))) = λ i. ax i ∷ ay i ∷ az i ∷ []
   zero_back X L (x ∷ y ∷ z ∷ u ∷ vs) (ax, (ay, (az, more))) = absurd more
 
+  -- the call of a procedure of the source
   enters_now : (c : ℕ) (r : Routine) → slice_get p.routines c ≡ Some r → w.enters (suc c) ≡ Some (put_routine p last r)
   enters_now c r e = isw.enters_is c ∙ ap (option_map (put_routine p last)) e
 
+  -- a new rewritten frame's values
   fresh_now : (r : Routine)
       → fresh (r.places + temporaries is_global r.body) [] ≡ fresh r.places [] ++ zeros (temporaries is_global r.body)
   fresh_now r = fresh_more r.places (temporaries is_global r.body) [] (omega arith)
@@ -195,6 +207,7 @@ module _ (setting : Setting) (S : List (List Bool)) (saves : AreRows setting.p.g
         (subst (λ y. Turns p (g ∷ G) y (x ∷ H) s') (sym (starter_is c r e)) ts)
         (fails_lead T there.1 (x ∷ H) (k.0, k.1 ∙ are.1) G' more out b))
 
+  -- a run through the start of one thread
   start_back : (G : List (List Bool)) → Shape p.globals last G S → (q : ℕ) (s b : Bool) (c : ℕ) (r : Routine)
       → slice_get p.routines c ≡ Some r → (t : Code) (N : ℕ)
       → PlainAfter w N (main_at (lay G S (bits_of q s b)) (one plain (assign zero_targets zero_sides) (one plain (call (suc c) []) t)))
@@ -289,6 +302,7 @@ module _ (setting : Setting) (S : List (List Bool)) (saves : AreRows setting.p.g
               (entered c r [] ∷ []) (starter_good c r e) h1,
         )
 
+  -- a run through the starts of all threads
   pub starts_back : (t : Code) (T : List ℕ) → EachThread p.routines T → (G : List (List Bool)) → AreRows p.globals (suc last) G
       → (q : ℕ) (s b : Bool) (N : ℕ)
       → PlainAfter w N (main_at (lay G S (bits_of q s b)) (starts naming last T t)) (Bad p.globals last)

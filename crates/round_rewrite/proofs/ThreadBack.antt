@@ -21,6 +21,7 @@ pub record Zip (n last : ℕ) (pre post S : List (List Bool)) : Type 0 where
   pub count : length pre + length post ≡ last
   pub guesses : length S ≡ last
 
+-- the rows with that of the round have their shape
 pub zip_shape : (n last : ℕ) (pre post S : List (List Bool)) (h : List Bool) → Zip n last pre post S → length h ≡ n
     → Shape n last (pre ++ h ∷ post) S
 zip_shape n last pre post S h z e = record {
@@ -30,6 +31,7 @@ zip_shape n last pre post S h z e = record {
   guesses = z.guesses;
 }
 
+-- the row of the round is one of those before the next
 pub zip_next : (n last : ℕ) (pre post S : List (List Bool)) (g h : List Bool) → Zip n last pre (h ∷ post) S → length g ≡ n
     → Zip n last (pre ++ g ∷ []) post S
 zip_next n last pre post S g h z e = record {
@@ -42,6 +44,7 @@ zip_next n last pre post S g h z e = record {
   guesses = z.guesses;
 }
 
+-- one row more
 pub length-next : (pre : List (List Bool)) (g : List Bool) → length (pre ++ g ∷ []) ≡ suc (length pre)
 length-next pre g = length-append pre (g ∷ []) ∙ omega arith
 
@@ -82,6 +85,7 @@ module _ (setting : Setting) (S : List (List Bool)) (m : Frame) (Q : State → T
     (single : (g : List Bool) (f f' : Frame) (fs : List Frame) → Q (state g (f ∷ f' ∷ fs)) → ⊥) where
   open setting use {p, last, fits, small, w, isw}
 
+  -- a place in rows of this program
   abbrev Seated : List (List Bool) → Type 0
   Seated post = Seat p.globals last S post
 
@@ -106,6 +110,7 @@ module _ (setting : Setting) (S : List (List Bool)) (m : Frame) (Q : State → T
     pub turns : ((bad ≡ b) × ((s' : List Frame) × Turns p (r.g ∷ post) s (g' ∷ post') s'))
         ⊎ ((bad ≡ true) × FailTurns p (r.g ∷ post) s (g' ∷ post'))
 
+  -- what is claimed of runs of fewer than f steps, from where the top frame stands at the start of its rest
   abbrev Rec : ℕ → Type 0
   Rec f = (N : ℕ) → N < f → (post : List (List Bool)) (r : Seated post) (b : Bool) (bs : List Both) → AllGood p last bs
       → PlainAfter w N (state (globals_at (moment r b)) (stack p last bs m)) Q → Ends N post r b (map source bs)
@@ -190,6 +195,7 @@ module _ (setting : Setting) (S : List (List Bool)) (m : Frame) (Q : State → T
       record { down = down_here N post r q s b run; turns = inl (refl, (fs, idle p (r.g ∷ post) fs)) }
 
   module _ (f : ℕ) (rec : Rec f) where
+    -- a run that begins with a step of the source, or with its failure
     begun : (N : ℕ) → N ≤ f → (post : List (List Bool)) (r : Seated post) (b : Bool) (a : Activation) (rest : Code) (bs : List Both)
         → Begins setting (moment r b) m Q single N a rest bs → Ends N post r b (map source (both a rest ∷ bs))
     begun N le post r b a rest bs (moved h bs' eh good step (M, lt, run)) =
@@ -211,6 +217,7 @@ module _ (setting : Setting) (S : List (List Bool)) (m : Frame) (Q : State → T
           turns = inr (refl, inl (here, no_steps p (state r.g here), fails', refl));
         })
 
+    -- a run that goes on in the next row
     rose_back : (N : ℕ) → N < f → (post : List (List Bool)) (r : Seated post) (b : Bool) (bs : List Both) → AllGood p last bs
         → length r.pre < last
         → PlainAfter w N (state (lay (r.pre ++ r.g ∷ post) S (bits_of (suc (length r.pre)) false b)) (stack p last bs m)) Q
@@ -229,6 +236,7 @@ module _ (setting : Setting) (S : List (List Bool)) (m : Frame) (Q : State → T
       abbrev now : Moment p.globals last
       now = moment r b
 
+      -- a run that has left the prologue of the top frame
       exited : (a : Activation) (rest : Code) → Good p last (both a rest)
           → put_rest p last a.own rest ≡ prologue (places p.globals last a.own) last plain (inner p last a.own rest)
           → Exits w small (site p last now.C S now.shape a bs m) Q N
@@ -259,6 +267,7 @@ module _ (setting : Setting) (S : List (List Bool)) (m : Frame) (Q : State → T
           exits w small (site p last now.C S now.shape a bs m) Q
           (never_below setting now m Q single bs) N (length r.pre) b t now.within run
 
+      -- a run from the start of the rest of the top frame
       top_back : (a : Activation) (rest : Code) → Good p last (both a rest)
           → PlainAfter w N (state (globals_at now) (stack p last (both a rest ∷ bs) m)) Q
           → Ends N post r b (map source (both a rest ∷ bs))

@@ -53,6 +53,7 @@ module _ (setting : Setting) (S : List (List Bool)) (m : Frame) (Q : State → T
     idle_top q within a (choose k r x y t) bs out below = stops_at q a _ bs out
     idle_top q within a (loop k r x t) bs out below = stops_at q a _ bs out
 
+    -- the thread stops, and all its frames leave
     stops : (q : ℕ) → q ≤ last → (bs : List Both) → ((s : Bool) → At C q s b (m ∷ [])) → At C q false b (stack p last bs m)
     stops q within [] out = out false
     stops q within (a ∷ bs) out = idle_top q within a.activation a.rest bs (out true) (stops q within bs out)
@@ -78,9 +79,11 @@ module _ (setting : Setting) (S : List (List Bool)) (m : Frame) (Q : State → T
     within : length r.pre ≤ last
     within = (moment r b).within
 
+    -- the rows, with these globals in the round of the thread
     abbrev rows : List Bool → List (List Bool)
     rows g = r.pre ++ g ∷ post
 
+    -- the globals of the rewritten program, with these in the round of the thread
     abbrev now_at : (g : List Bool) → length g ≡ p.globals → Moment p.globals last
     now_at g eg = moment (reseat r g eg) b
 
@@ -90,12 +93,14 @@ module _ (setting : Setting) (S : List (List Bool)) (m : Frame) (Q : State → T
         → length h ≡ p.globals
         → At (rows h) q false b (stack p last bs m)
 
+    -- what is claimed of k steps of the source in one row
     abbrev RecRow : ℕ → List Bool → List Frame → Type 0
     RecRow k h mid = (g : List Bool) → length g ≡ p.globals → (q : ℕ) → q ≤ length r.pre → (bs : List Both)
         → AllGood p last bs
         → AfterSteps p k (state g (map source bs)) (λ u. u ≡ state h mid) → At (rows g) q false b (stack p last bs m)
 
     module _ (k : ℕ) (h : List Bool) (mid : List Frame) (rec : RecRow k h mid) where
+      -- a step behind the prologue, and then the k steps
       busy : (g : List Bool) → (eg : length g ≡ p.globals) → (a : Activation) (rest : Code) (bs : List Both)
           → Good p last (both a rest)
           → AllGood p last bs → StepsTo p (state g (map source (both a rest ∷ bs))) (λ t. AfterSteps p k t (λ u. u ≡ state h mid))
@@ -109,6 +114,7 @@ module _ (setting : Setting) (S : List (List Bool)) (m : Frame) (Q : State → T
           (subst (λ y. StepsTo p (state y (map source (both a rest ∷ bs))) (λ t. AfterSteps p k t (λ u. u ≡ state h mid)))
           (sym (row_middle r.pre g post)) steps)
 
+      -- a step of the top frame, and then the k steps
       top_on : (g : List Bool) → (eg : length g ≡ p.globals) → (q : ℕ) → q ≤ length r.pre
           → (a : Activation) (rest : Code) (bs : List Both) → Good p last (both a rest) → AllGood p last bs
           → StepsTo p (state g (map source (both a rest ∷ bs))) (λ t. AfterSteps p k t (λ u. u ≡ state h mid))
@@ -196,6 +202,7 @@ module _ (setting : Setting) (S : List (List Bool)) (m : Frame) (Q : State → T
     fail_top g eg q le a (choose d v x y t) bs good f out = absurd f
     fail_top g eg q le a (loop d v x t) bs good f out = absurd f
 
+    -- the same of a stack
     pub fail_on : (g : List Bool) → (eg : length g ≡ p.globals) → (q : ℕ) → q ≤ length r.pre → (bs : List Both)
         → AllGood p last bs
         → Fails (state g (map source bs)) → At (rows g) (length r.pre) true true (m ∷ [])
