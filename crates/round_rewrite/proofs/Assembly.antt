@@ -1,6 +1,7 @@
 -- The rewriting theorem over places, put together.
-use Rattle.std.proofs.Common.{◌≡◌, ℕ, zero, suc, ◌+◌, ◌-◌, ◌*◌, ◌<◌, Bool, true, false, List, [], ◌∷◌, ◌++◌, length, map, Option, Some}
-use Rattle.std.proofs.Common.{None, option_map, slice_get, refl, sym, ◌∙◌, ap, ap₂, arith, append_assoc, ◌⊎◌, inl, inr}
+use Rattle.std.proofs.Common.{◌≡◌, ℕ, zero, suc, ◌+◌, ◌-◌, ◌*◌, ◌<◌, Bool, true, false, List, [], ◌∷◌}
+use Rattle.std.proofs.Common.{◌++◌, length, map, Option, Some, None, option_map, slice_get, refl, sym, ◌∙◌, ap, ap₂, arith}
+use Rattle.std.proofs.Common.{append_assoc, ◌⊎◌, inl, inr}
 use Rattle.std.proofs.lemmas.Option.{slice_get-map}
 use Rattle.language.specs.Tree.{done}
 use Rattle.language.specs.Value.{Place}
@@ -16,21 +17,18 @@ use Rattle.round_rewrite.proofs.Laid.{Long, flat, row, bits_of, lay, Shape, bits
 use Rattle.round_rewrite.proofs.Plain.{PlainAfter, bare, bare_state, bare_routine, world_of, bare-numbered, rest-numbered}
 use Rattle.round_rewrite.proofs.Leading.{Leads}
 use Rattle.round_rewrite.proofs.Blocks.{bare-rewritten, rest-rewritten}
-use Rattle.round_rewrite.proofs.Frames.{put_routine, IsWorld, zeros-add}
+use Rattle.round_rewrite.proofs.Frames.{put_routine, IsWorld, Setting, zeros-add}
 use Rattle.round_rewrite.proofs.Compose.{Linked, FailThreads, copies, copies_long, to_rounds, from_rounds}
 use Rattle.round_rewrite.proofs.Guessing.{Bad, main_at}
 use Rattle.round_rewrite.proofs.Checking.{Fill, guesses_lead, guesses_back, checks_lead, checks_back, linked_rows, rows_linked}
 use Rattle.round_rewrite.proofs.Starting.{Ran, fails_lead, starts_back, fails_keep}
 use Rattle.round_rewrite.specs.Limits.{most_rounds}
+use Rattle.round_rewrite.proofs.InTurn.{passes}
 
 module _ (w : Naming Place Place ℕ ℕ) (last : ℕ) where
   bare-guess : (xs : List Place) (k : ℕ) (t : Code) → bare (guess w last xs k t) ≡ guess w last xs k (bare t)
   bare-guess [] k t = refl
   bare-guess (x ∷ xs) k t = refl
-
-  bare-guesses : (xs : List Place) (ks : List ℕ) (t : Code) → bare (guesses w last xs ks t) ≡ guesses w last xs ks (bare t)
-  bare-guesses xs [] t = refl
-  bare-guesses xs (k ∷ ks) t = bare-guess xs k (guesses w last xs ks t) ∙ ap (guess w last xs k) (bare-guesses xs ks t)
 
   bare-starts : (T : List ℕ) (t : Code) → bare (starts w last T t) ≡ starts w last T (bare t)
   bare-starts [] t = refl
@@ -40,22 +38,22 @@ module _ (w : Naming Place Place ℕ ℕ) (last : ℕ) where
   bare-check [] k t = refl
   bare-check (x ∷ xs) k t = ap (check w last (x ∷ []) k) (bare-check xs k t)
 
-  bare-checks : (xs : List Place) (ks : List ℕ) (t : Code) → bare (checks w last xs ks t) ≡ checks w last xs ks (bare t)
-  bare-checks xs [] t = refl
-  bare-checks xs (k ∷ ks) t = bare-check xs k (checks w last xs ks t) ∙ ap (check w last xs k) (bare-checks xs ks t)
-
   pub bare-main : (xs : List Place) (T : List ℕ) → bare (main w last xs T) ≡ main w last xs T
   bare-main xs T =
-      bare-guesses xs (numbers 1 last) (starts w last T (checks w last xs (numbers 0 last) done))
-      ∙ ap (guesses w last xs (numbers 1 last))
-      (bare-starts T (checks w last xs (numbers 0 last) done) ∙ ap (starts w last T) (bare-checks xs (numbers 0 last) done))
+      let ends : Code = checks w last xs (numbers 0 last) done in
+      passes (guesses w last xs) (guess w last xs) (λ t. refl) (λ k ks t. refl) bare (bare-guess xs) (numbers 1 last)
+      (starts w last T ends)
+      ∙ ap (guesses w last xs (numbers 1 last)) (bare-starts T ends
+      ∙ ap (starts w last T)
+      (passes (checks w last xs) (check w last xs) (λ t. refl) (λ k ks t. refl) bare (bare-check xs) (numbers 0 last) done))
 
 flat_copies : (n k : ℕ) → flat (copies k (zeros n)) ≡ zeros (k * n)
 flat_copies n zero = ap zeros (let z : zero ≡ zero * n = omega arith in z)
 flat_copies n (suc k) = ap (λ z. zeros n ++ z) (flat_copies n k)
     ∙ (sym (zeros-add n (k * n)) ∙ ap zeros (let z : n + k * n ≡ suc k * n = omega arith in z))
 
-zeros_lie : (n last : ℕ) → zeros (global_count n last) ≡ lay (copies (suc last) (zeros n)) (copies last (zeros n)) (bits_of 0 false false)
+zeros_lie : (n last : ℕ)
+    → zeros (global_count n last) ≡ lay (copies (suc last) (zeros n)) (copies last (zeros n)) (bits_of 0 false false)
 zeros_lie n last =
     zeros-add (suc last * n + last * n) 4
     ∙ (ap (λ z. z ++ zeros 4) (zeros-add (suc last * n) (last * n))
@@ -114,6 +112,9 @@ module _ (p : Program) (last : ℕ) where
     abbrev z : List Bool
     z = zeros n
 
+    abbrev setting : Setting
+    setting = record { p = p; last = last; fits = fits; small = small; w = world_of result; isw = is_world }
+
     first_fill : Fill (world_of result) n last z (length_zeros n) (bits_of 0 false false) 0 last [] (copies last z) (copies last z)
     first_fill = let c = copies_long n last z (length_zeros n) in record {
       a_long = tt;
@@ -158,8 +159,8 @@ module _ (p : Program) (last : ℕ) where
             guesses_lead (world_of result) n last z (length_zeros n) (bits_of 0 false false)
             (starts (places n last 0) last p.threads checks_code) (Bad n last) last 0 [] (copies last z)
             (copies last z) G first_fill long eG
-            (fails_lead p last fits small (world_of result) is_world G long eG (Bad n last) checks_code p.threads fits.threads (z ∷ G)
-            (length_zeros n, long) (ap suc eG) (y ∷ G') ft
+            (fails_lead setting G (long, eG) (Bad n last) checks_code p.threads fits.threads (z ∷ G)
+            ((length_zeros n, long), ap suc eG) (y ∷ G') ft
             (λ q s. let kept = fails_keep p n (z ∷ G) (map (starting_stack p.routines) p.threads) (y ∷ G') (length_zeros n, long) ft in
             let sh : Shape n last (y ∷ G') G = shape_of (y ∷ G') G kept.0 long (kept.1 ∙ ap suc eG) eG in
             checks_lead (world_of result) n last (y ∷ G') G (bits_of q s true) sh done (Bad n last) last 0 (omega arith)
@@ -175,17 +176,18 @@ module _ (p : Program) (last : ℕ) where
         guesses_back (world_of result) n last z (length_zeros n) (bits_of 0 false false)
         (starts (places n last 0) last p.threads checks_code) last 0 [] (copies last z) (copies last z) first_fill N h in
         rows G long eG
-        (starts_back p last fits small (world_of result) is_world G long eG checks_code p.threads fits.threads (z ∷ G)
-        (length_zeros n, long) (ap suc eG) 0 false false M h1)
+        (starts_back setting G (long, eG) checks_code p.threads fits.threads (z ∷ G)
+        ((length_zeros n, long), ap suc eG) 0 false false M h1)
       where
         fails : (G : List (List Bool)) (y : List Bool) (G' : List (List Bool)) → length G ≡ last → Linked y G G'
             → FailThreads p (z ∷ G) (map (starting_stack p.routines) p.threads) (y ∷ G') → Unsafe p (suc last)
         fails G y G' eG link ft =
-            let (r, lt, g, ts, rounds, f) = to_rounds p z (z ∷ G) (map (starting_stack p.routines) p.threads) (y ∷ G') (refl, link) ft in
+            let (r, lt, g, ts, rounds, f) =
+            to_rounds p z (z ∷ G) (map (starting_stack p.routines) p.threads) (y ∷ G') (refl, link) ft in
             (r, omega arith, g, ts, rounds, f)
 
         rows : (G : List (List Bool)) (long : Long n G) (eG : length G ≡ last)
-            → Ran p last fits small (world_of result) is_world G long eG p.threads checks_code (z ∷ G) false → Unsafe p (suc last)
+            → Ran setting G (long, eG) p.threads checks_code (z ∷ G) false → Unsafe p (suc last)
         rows G long eG x =
             let sh : Shape n last x.rows G = shape_of x.rows G x.long long (x.same ∙ ap suc eG) eG in
             let (facts, M, run) =
@@ -198,7 +200,8 @@ module _ (p : Program) (last : ℕ) where
             failing e (inr (e', b)) = b
 
             turned : (G : List (List Bool)) → length G ≡ last → (H : List (List Bool)) → length H ≡ suc last
-                → ((i : ℕ) → i < last → row G i ≡ row H i) → FailThreads p (z ∷ G) (map (starting_stack p.routines) p.threads) H
+                → ((i : ℕ) → i < last → row G i ≡ row H i)
+                → FailThreads p (z ∷ G) (map (starting_stack p.routines) p.threads) H
                 → Unsafe p (suc last)
             turned G eG [] eH facts ft = absurd (omega arith)
             turned G eG (y ∷ H) eH facts ft = fails G y H eG (linked_rows G y H (omega arith) (λ k lt. facts k (omega arith))) ft

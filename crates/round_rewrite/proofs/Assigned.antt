@@ -1,6 +1,6 @@
 -- The rewritten assignment: draw, spread over the copies, write.
-use Rattle.std.proofs.Common.{◌≡◌, ℕ, zero, suc, ◌+◌, ◌*◌, ◌<◌, ◌≤◌, Bool, false, not, ◌&&◌, ◌||◌, List, [], ◌∷◌, ◌++◌, length, map, refl}
-use Rattle.std.proofs.Common.{sym, ◌∙◌, ap, subst, ap₂, arith, inl, inr}
+use Rattle.std.proofs.Common.{◌≡◌, ℕ, zero, suc, ◌+◌, ◌*◌, ◌<◌, ◌≤◌, Bool, false, not, ◌&&◌, ◌||◌, List}
+use Rattle.std.proofs.Common.{[], ◌∷◌, ◌++◌, length, map, refl, sym, ◌∙◌, ap, subst, ap₂, arith, inl, inr}
 use Rattle.std.proofs.lemmas.Bool.{cases_eq}
 use Rattle.std.proofs.lemmas.List.{get_or-set_same, get_or-set_other, length-set, set-append_left}
 use Rattle.language.specs.Tree.{Expression, var, RightSide, any, value}
@@ -10,7 +10,7 @@ use Rattle.round_rewrite.specs.Table.{numbers, in_round, expression, written, ta
 use Rattle.round_rewrite.specs.Places.{places, is_global}
 use Rattle.resolved.specs.Scoped.{PlaceInScope, PlacesInScope, SideInScope, SidesInScope}
 use Rattle.round_rewrite.proofs.Laid.{row, with_row, row_bit, row_with, with_own, with_right, length-with_row, long-with_row, bit_right}
-use Rattle.round_rewrite.proofs.Laid.{bits_of, lay, Shape}
+use Rattle.round_rewrite.proofs.Laid.{bits_of, lay, Moment, globals_at}
 use Rattle.round_rewrite.proofs.Translate.{same, same_refl, same_false, at_is, expression_is, or_false}
 use Rattle.round_rewrite.specs.Limits.{most_rounds}
 
@@ -113,10 +113,12 @@ drawn_writes X l tmp own (suc d) j (t ∷ ts) e =
           ∙ ih.1,
     )
 
-module _ (n last own : ℕ) (C S : List (List Bool)) (q : ℕ) (s b : Bool) (shape : Shape n last C S)
-    (small : last < most_rounds) (within : q ≤ last) (l tmp : List Bool) (el : length l ≡ own) where
-  abbrev pub X : List Bool
-  X = lay C S (bits_of q s b)
+module _ {n last : ℕ} (small : last < most_rounds) (now : Moment n last) (own : ℕ) (l tmp : List Bool)
+    (el : length l ≡ own) where
+  open now use {C, S, q, b, shape, within}
+
+  abbrev X : List Bool
+  X = globals_at now
 
   -- what the copy of global i for round k gets where it gets v
   spread : ℕ → Bool → ℕ → Bool
@@ -126,9 +128,9 @@ module _ (n last own : ℕ) (C S : List (List Bool)) (q : ℕ) (s b : Bool) (sha
       → IsValue X (l ++ tmp) (written (places n last own) last d (global i) k) u ≡ (u ≡ spread i v k)
   unfolding spread
   written_is d v i k hi hk ed u =
-      let e : value_of (lay C S (bits_of q s b)) (l ++ tmp) (in_round (places n last own) last k) ≡ same k q =
-      at_is n last own C S q s b (l ++ tmp) shape small within k hk in
-      let c : bit (lay C S (bits_of q s b)) (k * n + i) ≡ bit (row C k) i =
+      let e : value_of (lay C S (bits_of q false b)) (l ++ tmp) (in_round (places n last own) last k) ≡ same k q =
+      at_is small now own (l ++ tmp) k hk in
+      let c : bit (lay C S (bits_of q false b)) (k * n + i) ≡ bit (row C k) i =
       row_bit n C _ k i shape.copies (let z : length C ≡ suc last = shape.rounds in omega arith) hi in
       λ z. u ≡ ((e z && ed z) || (not (e z) && c z))
 
@@ -163,17 +165,17 @@ module _ (n last own : ℕ) (C S : List (List Bool)) (q : ℕ) (s b : Bool) (sha
   -- one write to a copy: only that of the round changes
   spread_one : (h : List Bool) (i : ℕ) (v : Bool) (k : ℕ) → length h ≡ n → i < n → k ≤ last
       → (k ≡ q
-      → with_bit (lay (with_row C q h) S (bits_of q s b)) (k * n + i) (spread i v k)
-      ≡ lay (with_row C q (with_bit h i v)) S (bits_of q s b))
+      → with_bit (lay (with_row C q h) S (bits_of q false b)) (k * n + i) (spread i v k)
+      ≡ lay (with_row C q (with_bit h i v)) S (bits_of q false b))
       × ((k ≡ q → ⊥)
-      → with_bit (lay (with_row C q h) S (bits_of q s b)) (k * n + i) (spread i v k) ≡ lay (with_row C q h) S (bits_of q s b))
+      → with_bit (lay (with_row C q h) S (bits_of q false b)) (k * n + i) (spread i v k) ≡ lay (with_row C q h) S (bits_of q false b))
   unfolding spread
   spread_one h i v k eh hi hk =
       let D : List (List Bool) = with_row C q h in
       let lc : length C ≡ suc last = shape.rounds in
       let ld : length D ≡ length C = length-with_row C q h in
-      let write : (u : Bool) → with_bit (lay D S (bits_of q s b)) (k * n + i) u ≡ lay (with_row D k (with_bit (row D k) i u)) S
-      (bits_of q s b) =
+      let write : (u : Bool) → with_bit (lay D S (bits_of q false b)) (k * n + i) u ≡ lay (with_row D k (with_bit (row D k) i u)) S
+      (bits_of q false b) =
       λ u. row_with n D _ k i u (long-with_row n C q h shape.copies eh) (omega arith) hi in (
         (λ e.
             let w1 : with_row D k (with_bit (row D k) i v) ≡ with_row C q (with_bit h i v) =
@@ -181,13 +183,13 @@ module _ (n last own : ℕ) (C S : List (List Bool)) (q : ℕ) (s b : Bool) (sha
             (ap (λ z. with_row D q (with_bit z i v)) (row-with_same C q h (omega arith)) ∙ with-with_row C q h (with_bit h i v)) in
             let new : ((same k q && v) || (not (same k q) && bit (row C k) i)) ≡ v =
             ap (λ t. (t && v) || (not t && bit (row C k) i)) (ap (λ j. same j q) e ∙ same_refl q) ∙ or_false v in
-            ap (with_bit (lay D S (bits_of q s b)) (k * n + i)) new ∙ (write v ∙ ap (λ z. lay z S (bits_of q s b)) w1)),
+            ap (with_bit (lay D S (bits_of q false b)) (k * n + i)) new ∙ (write v ∙ ap (λ z. lay z S (bits_of q false b)) w1)),
         (λ ne.
             let old : ((same k q && v) || (not (same k q) && bit (row C k) i)) ≡ bit (row D k) i =
             ap (λ t. (t && v) || (not t && bit (row C k) i)) (same_false k q ne)
             ∙ ap (λ z. bit z i) (sym (row-with_other C q k h (λ e. ne (sym e)))) in
-            ap (with_bit (lay D S (bits_of q s b)) (k * n + i)) old
-            ∙ (write (bit (row D k) i) ∙ ap (λ z. lay z S (bits_of q s b)) (with_own D k i))),
+            ap (with_bit (lay D S (bits_of q false b)) (k * n + i)) old
+            ∙ (write (bit (row D k) i) ∙ ap (λ z. lay z S (bits_of q false b)) (with_own D k i))),
       )
 
   copies_of : ℕ → List ℕ → List Place
@@ -199,33 +201,36 @@ module _ (n last own : ℕ) (C S : List (List Bool)) (q : ℕ) (s b : Bool) (sha
   locals_skip i v [] ts ws L = refl
   locals_skip i v (k ∷ ks) ts ws L = locals_skip i v ks ts ws L
 
-  spread_past : (h : List Bool) (i : ℕ) (v : Bool) (k m : ℕ) (ts : List Place) (ws : List Bool) → length h ≡ n → i < n → q < k
-      → k + m ≤ suc last
-      → written_globals (copies_of i (numbers k m) ++ ts) (map (spread i v) (numbers k m) ++ ws) (lay (with_row C q h) S (bits_of q s b))
-      ≡ written_globals ts ws (lay (with_row C q h) S (bits_of q s b))
-  unfolding copies_of
-  spread_past h i v k zero ts ws eh hi past end = refl
-  spread_past h i v k (suc m) ts ws eh hi past end =
-      ap (written_globals (copies_of i (numbers (suc k) m) ++ ts) (map (spread i v) (numbers (suc k) m) ++ ws))
-      ((spread_one h i v k eh hi (omega arith)).1 (omega arith))
-      ∙ spread_past h i v (suc k) m ts ws eh hi (omega arith) (omega arith)
+  module _ (i : ℕ) (v : Bool) (hi : i < n) (ts : List Place) (ws : List Bool) where
+    spread_past : (h : List Bool) (k m : ℕ) → length h ≡ n → q < k
+        → k + m ≤ suc last
+        → written_globals (copies_of i (numbers k m) ++ ts) (map (spread i v) (numbers k m) ++ ws)
+        (lay (with_row C q h) S (bits_of q false b))
+        ≡ written_globals ts ws (lay (with_row C q h) S (bits_of q false b))
+    unfolding copies_of
+    spread_past h k zero eh past end = refl
+    spread_past h k (suc m) eh past end =
+        ap (written_globals (copies_of i (numbers (suc k) m) ++ ts) (map (spread i v) (numbers (suc k) m) ++ ws))
+        ((spread_one h i v k eh hi (omega arith)).1 (omega arith))
+        ∙ spread_past h (suc k) m eh (omega arith) (omega arith)
 
-  spread_upto : (h : List Bool) (i : ℕ) (v : Bool) (k m : ℕ) (ts : List Place) (ws : List Bool) → length h ≡ n → i < n → k ≤ q → q < k + m
-      → k + m ≤ suc last
-      → written_globals (copies_of i (numbers k m) ++ ts) (map (spread i v) (numbers k m) ++ ws) (lay (with_row C q h) S (bits_of q s b))
-      ≡ written_globals ts ws (lay (with_row C q (with_bit h i v)) S (bits_of q s b))
-  unfolding copies_of
-  spread_upto h i v k zero ts ws eh hi le lt end = absurd (omega arith)
-  spread_upto h i v k (suc m) ts ws eh hi le lt end = elim (cases_eq k q) [
-    | inl e ↦
-        ap (written_globals (copies_of i (numbers (suc k) m) ++ ts) (map (spread i v) (numbers (suc k) m) ++ ws))
-        ((spread_one h i v k eh hi (omega arith)).0 e)
-        ∙ spread_past (with_bit h i v) i v (suc k) m ts ws (length-set h i v ∙ eh) hi (omega arith) (omega arith)
-    | inr ne ↦
-        ap (written_globals (copies_of i (numbers (suc k) m) ++ ts) (map (spread i v) (numbers (suc k) m) ++ ws))
-        ((spread_one h i v k eh hi (omega arith)).1 ne)
-        ∙ spread_upto h i v (suc k) m ts ws eh hi (omega arith) (omega arith) (omega arith)
-  ]
+    spread_upto : (h : List Bool) (k m : ℕ) → length h ≡ n → k ≤ q → q < k + m
+        → k + m ≤ suc last
+        → written_globals (copies_of i (numbers k m) ++ ts) (map (spread i v) (numbers k m) ++ ws)
+        (lay (with_row C q h) S (bits_of q false b))
+        ≡ written_globals ts ws (lay (with_row C q (with_bit h i v)) S (bits_of q false b))
+    unfolding copies_of
+    spread_upto h k zero eh le lt end = absurd (omega arith)
+    spread_upto h k (suc m) eh le lt end = elim (cases_eq k q) [
+      | inl e ↦
+          ap (written_globals (copies_of i (numbers (suc k) m) ++ ts) (map (spread i v) (numbers (suc k) m) ++ ws))
+          ((spread_one h i v k eh hi (omega arith)).0 e)
+          ∙ spread_past (with_bit h i v) (suc k) m (length-set h i v ∙ eh) (omega arith) (omega arith)
+      | inr ne ↦
+          ap (written_globals (copies_of i (numbers (suc k) m) ++ ts) (map (spread i v) (numbers (suc k) m) ++ ws))
+          ((spread_one h i v k eh hi (omega arith)).1 ne)
+          ∙ spread_upto h (suc k) m eh (omega arith) (omega arith) (omega arith)
+    ]
 
   pub spread_all : List Place → List (RightSide Place) → List Bool → List Bool
   spread_all [] rs vs = []
@@ -239,7 +244,7 @@ module _ (n last own : ℕ) (C S : List (List Bool)) (q : ℕ) (s b : Bool) (sha
 
   expr_is : (e : Expression Place) → Rattle.resolved.specs.Scoped.InScope n own e
       → value_of X (l ++ tmp) (expression (places n last own) last e) ≡ value_of (row C q) l e
-  expr_is e h = expression_is n last own C S q s b (l ++ tmp) shape small within l tmp refl el e h
+  expr_is e h = expression_is small now own (l ++ tmp) l tmp refl el e h
 
   pub sides_are : (j : ℕ) (xs : List Place) (rs : List (RightSide Place)) (vs : List Bool) → AreValues (row C q) l rs vs
       → Picked j xs rs vs tmp → PlacesInScope n own xs → SidesInScope n own rs
@@ -286,15 +291,15 @@ module _ (n last own : ℕ) (C S : List (List Bool)) (q : ℕ) (s b : Bool) (sha
 
   pub writes : (xs : List Place) (rs : List (RightSide Place)) (vs h : List Bool) → AreValues (row C q) l rs vs → PlacesInScope n own xs
       → length h ≡ n
-      → written_globals (targets (places n last own) last xs rs) (spread_all xs rs vs) (lay (with_row C q h) S (bits_of q s b))
-      ≡ lay (with_row C q (written_globals xs vs h)) S (bits_of q s b)
+      → written_globals (targets (places n last own) last xs rs) (spread_all xs rs vs) (lay (with_row C q h) S (bits_of q false b))
+      ≡ lay (with_row C q (written_globals xs vs h)) S (bits_of q false b)
   unfolding spread_all copies_of
   writes [] rs vs h a hx eh = refl
   writes (x ∷ xs) [] [] h a hx eh = refl
   writes (x ∷ xs) [] (v ∷ vs) h a hx eh = absurd a
   writes (x ∷ xs) (r ∷ rs) [] h a hx eh = absurd a
   writes (global i ∷ xs) (r ∷ rs) (v ∷ vs) h a hx eh =
-      spread_upto h i v 0 (suc last) (targets (places n last own) last xs rs) (spread_all xs rs vs) eh hx.0 (omega arith) (omega arith)
+      spread_upto i v hx.0 (targets (places n last own) last xs rs) (spread_all xs rs vs) h 0 (suc last) eh (omega arith) (omega arith)
       (omega arith)
       ∙ writes xs rs vs (with_bit h i v) a.1 hx.1 (length-set h i v ∙ eh)
   writes (local i ∷ xs) (r ∷ rs) (v ∷ vs) h a hx eh = writes xs rs vs h a.1 hx.1 eh
@@ -314,8 +319,3 @@ module _ (n last own : ℕ) (C S : List (List Bool)) (q : ℕ) (s b : Bool) (sha
       ap (written_locals (targets (places n last own) last xs rs) (spread_all xs rs vs)) (set-append_left l' tmp i v
       (let z : length l' ≡ own = eh in let z' : i < own = hx.0 in omega arith))
       ∙ writes_locals xs rs vs (with_bit l' i v) a.1 hx.1 (length-set l' i v ∙ eh)
-
-pub with-own_row : (C : List (List Bool)) (k : ℕ) → with_row C k (row C k) ≡ C
-with-own_row [] k = refl
-with-own_row (r ∷ C) zero = refl
-with-own_row (r ∷ C) (suc k) = ap (λ z. r ∷ z) (with-own_row C k)

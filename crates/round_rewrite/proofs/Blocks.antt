@@ -1,5 +1,6 @@
 -- How the rewriting goes with joining, with leaving out labels and numbers, and with jumps.
-use Rattle.std.proofs.Common.{◌≡◌, ℕ, zero, suc, Bool, true, false, cond, Option, Some, None, option_map, refl, sym, ◌∙◌, ap, ap₂}
+use Rattle.std.proofs.Common.{◌≡◌, ℕ, zero, suc, Bool, true, false, cond, Option, Some, None, option_map, refl, sym, ◌∙◌, ap}
+use Rattle.std.proofs.Common.{ap₂}
 use Rattle.language.specs.Tree.{Simple, skip, assign, assert, assume, goto, leave, call, Mark, Block, done, one, choose, loop, RightSide}
 use Rattle.language.specs.Value.{Place}
 use Rattle.language.specs.Rest.{Label, Code, join, rest_from, first_of_two, has_label}
@@ -91,7 +92,8 @@ module _ (w : Naming Place Place ℕ ℕ) (last : ℕ) where
       λ i. prologue w last plain (choose plain (side w last r) (bare-rewritten a i) (bare-rewritten b i) (bare-rewritten t i))
   bare-rewritten (loop m r a t) =
       λ i. prologue w last plain (loop plain (side w last r)
-      ((bare-join (rewritten w last a) (prologue w last plain done) ∙ ap (λ z. join z (prologue w last plain done)) (bare-rewritten a)) i)
+      ((bare-join (rewritten w last a) (prologue w last plain done) ∙ ap (λ z. join z (prologue w last plain done)) (bare-rewritten a))
+      i)
       (bare-rewritten t i))
 
   rewritten-join : (a b : Code) → rewritten w last (join a b) ≡ join (rewritten w last a) (rewritten w last b)

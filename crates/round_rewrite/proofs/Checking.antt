@@ -1,6 +1,7 @@
 -- All guesses, and the checks that each round ended with the guess for the round after it, both ways.
-use Rattle.std.proofs.Common.{◌≡◌, ℕ, zero, suc, ◌+◌, ◌*◌, ◌<◌, ◌≤◌, Bool, true, false, cond, not, List, [], ◌∷◌, ◌++◌, length, map, refl}
-use Rattle.std.proofs.Common.{sym, ◌∙◌, ap, subst, ap₂, arith, append_assoc, length-append, inl, inr}
+use Rattle.std.proofs.Common.{◌≡◌, ℕ, zero, suc, ◌+◌, ◌*◌, ◌<◌, ◌≤◌, Bool, true, false, cond, not, List, []}
+use Rattle.std.proofs.Common.{◌∷◌, ◌++◌, length, map, refl, sym, ◌∙◌, ap, subst, ap₂, arith, append_assoc, length-append}
+use Rattle.std.proofs.Common.{inl, inr}
 use Rattle.std.proofs.lemmas.Bool.{cases_eq}
 use Rattle.language.specs.Tree.{var, two, equal, value, assume}
 use Rattle.language.specs.Value.{global, bit}
@@ -20,6 +21,7 @@ module _ (w : World) (n last : ℕ) (g : List Bool) (eg : length g ≡ n) (bits 
   abbrev pub Open : List (List Bool) → List (List Bool) → List (List Bool) → List Bool
   Open a d e = lay (g ∷ (a ++ d)) (a ++ e) bits
 
+  -- the rows for k guesses are written, those for m more are not yet
   pub record Fill (k m : ℕ) (a d e : List (List Bool)) : Type 0 where
     pub a_long : Long n a
     pub d_long : Long n d
@@ -45,7 +47,8 @@ module _ (w : World) (n last : ℕ) (g : List Bool) (eg : length g ≡ n) (bits 
   fill_next : (k m : ℕ) (a d e : List (List Bool)) (x y u : List Bool) → Fill k (suc m) a (x ∷ d) (y ∷ e) → length u ≡ n
       → Fill (suc k) m (a ++ u ∷ []) d e
   fill_next k m a d e x y u f eu =
-      let la : length a ≡ k = f.a_length in let ld : suc (length d) ≡ suc m = f.d_length in let le : suc (length e) ≡ suc m = f.e_length in
+      let la : length a ≡ k = f.a_length in let ld : suc (length d) ≡ suc m = f.d_length in
+      let le : suc (length e) ≡ suc m = f.e_length in
       let al : k + suc m ≡ last = f.all in
       record {
         a_long = long-append n a (u ∷ []) f.a_long (eu, tt);
@@ -66,48 +69,49 @@ module _ (w : World) (n last : ℕ) (g : List Bool) (eg : length g ≡ n) (bits 
       ap (λ j. with_row (a ++ y ∷ e) j u) (sym f.a_length) ∙ (with_middle a y u e ∙ sym (append_assoc a (u ∷ []) e)) in
       ap₂ (λ p q. lay (g ∷ p) q bits) c s
 
-  pub guesses_lead : (t : Code) (Q : State → Type 0) (m k : ℕ) (a d e u : List (List Bool)) → Fill k m a d e → Long n u → length u ≡ m
-      → Leads w (main_at (lay (g ∷ (a ++ u)) (a ++ u) bits) t) Q
-      → Leads w (main_at (Open a d e) (guesses (places n last 0) last (all_globals n) (numbers (suc k) m) t)) Q
-  guesses_lead t Q zero k a [] [] [] f lu eu h = h
-  guesses_lead t Q zero k a [] [] (x ∷ u) f lu eu h = absurd (omega arith)
-  guesses_lead t Q zero k a [] (x ∷ e) u f lu eu h = absurd (let z : suc (length e) ≡ zero = f.e_length in omega arith)
-  guesses_lead t Q zero k a (x ∷ d) e u f lu eu h = absurd (let z : suc (length d) ≡ zero = f.d_length in omega arith)
-  guesses_lead t Q (suc m) k a [] e u f lu eu h = absurd (let z : zero ≡ suc m = f.d_length in omega arith)
-  guesses_lead t Q (suc m) k a (x ∷ d) [] u f lu eu h = absurd (let z : zero ≡ suc m = f.e_length in omega arith)
-  guesses_lead t Q (suc m) k a (x ∷ d) (y ∷ e) [] f lu eu h = absurd (omega arith)
-  guesses_lead t Q (suc m) k a (x ∷ d) (y ∷ e) (v ∷ u) f lu eu h =
-      guess_leads w n last (g ∷ (a ++ x ∷ d)) (a ++ y ∷ e) bits k (fill_shape k (suc m) a (x ∷ d) (y ∷ e) f) (let z : k + suc m ≡ last =
-      f.all in omega arith)
-      (guesses (places n last 0) last (all_globals n) (numbers (suc (suc k)) m) t) Q v lu.0
-      (subst (λ z. Leads w (main_at z (guesses (places n last 0) last (all_globals n) (numbers (suc (suc k)) m) t)) Q)
-      (sym (guessed_is k m a d e x y v f))
-      (guesses_lead t Q m (suc k) (a ++ v ∷ []) d e u (fill_next k m a d e x y v f lu.0) lu.1 (omega arith)
-      (subst (λ z. Leads w (main_at (lay (g ∷ z) z bits) t) Q) (sym (append_assoc a (v ∷ []) u)) h)))
+  module _ (t : Code) where
+    pub guesses_lead : (Q : State → Type 0) (m k : ℕ) (a d e u : List (List Bool)) → Fill k m a d e → Long n u → length u ≡ m
+        → Leads w (main_at (lay (g ∷ (a ++ u)) (a ++ u) bits) t) Q
+        → Leads w (main_at (Open a d e) (guesses (places n last 0) last (all_globals n) (numbers (suc k) m) t)) Q
+    guesses_lead Q zero k a [] [] [] f lu eu h = h
+    guesses_lead Q zero k a [] [] (x ∷ u) f lu eu h = absurd (omega arith)
+    guesses_lead Q zero k a [] (x ∷ e) u f lu eu h = absurd (let z : suc (length e) ≡ zero = f.e_length in omega arith)
+    guesses_lead Q zero k a (x ∷ d) e u f lu eu h = absurd (let z : suc (length d) ≡ zero = f.d_length in omega arith)
+    guesses_lead Q (suc m) k a [] e u f lu eu h = absurd (let z : zero ≡ suc m = f.d_length in omega arith)
+    guesses_lead Q (suc m) k a (x ∷ d) [] u f lu eu h = absurd (let z : zero ≡ suc m = f.e_length in omega arith)
+    guesses_lead Q (suc m) k a (x ∷ d) (y ∷ e) [] f lu eu h = absurd (omega arith)
+    guesses_lead Q (suc m) k a (x ∷ d) (y ∷ e) (v ∷ u) f lu eu h =
+        guess_leads w last (guesses (places n last 0) last (all_globals n) (numbers (suc (suc k)) m) t) n (g ∷ (a ++ x ∷ d))
+        (a ++ y ∷ e) bits k
+        (fill_shape k (suc m) a (x ∷ d) (y ∷ e) f) (let z : k + suc m ≡ last = f.all in omega arith) Q v lu.0
+        (subst (λ z. Leads w (main_at z (guesses (places n last 0) last (all_globals n) (numbers (suc (suc k)) m) t)) Q)
+        (sym (guessed_is k m a d e x y v f))
+        (guesses_lead Q m (suc k) (a ++ v ∷ []) d e u (fill_next k m a d e x y v f lu.0) lu.1 (omega arith)
+        (subst (λ z. Leads w (main_at (lay (g ∷ z) z bits) t) Q) (sym (append_assoc a (v ∷ []) u)) h)))
 
-  pub guesses_back : (t : Code) (m k : ℕ) (a d e : List (List Bool)) → Fill k m a d e → (N : ℕ)
-      → PlainAfter w N (main_at (Open a d e) (guesses (places n last 0) last (all_globals n) (numbers (suc k) m) t)) (Bad n last)
-      → (u : List (List Bool)) × Long n u × (length u ≡ m) × (M : ℕ)
-      × PlainAfter w M (main_at (lay (g ∷ (a ++ u)) (a ++ u) bits) t) (Bad n last)
-  guesses_back t zero k a [] [] f N h = ([], tt, refl, N, h)
-  guesses_back t zero k a [] (x ∷ e) f N h = absurd (let z : suc (length e) ≡ zero = f.e_length in omega arith)
-  guesses_back t zero k a (x ∷ d) e f N h = absurd (let z : suc (length d) ≡ zero = f.d_length in omega arith)
-  guesses_back t (suc m) k a [] e f N h = absurd (let z : zero ≡ suc m = f.d_length in omega arith)
-  guesses_back t (suc m) k a (x ∷ d) [] f N h = absurd (let z : zero ≡ suc m = f.e_length in omega arith)
-  guesses_back t (suc m) k a (x ∷ d) (y ∷ e) f N h =
-      let (v, ev, M, le, h1) =
-      guess_back w n last (g ∷ (a ++ x ∷ d)) (a ++ y ∷ e) bits k (fill_shape k (suc m) a (x ∷ d) (y ∷ e) f) (let z : k + suc m ≡ last =
-      f.all in omega arith)
-      (guesses (places n last 0) last (all_globals n) (numbers (suc (suc k)) m) t) N h in
-      let (u, lu, eu, M', h2) = guesses_back t m (suc k) (a ++ v ∷ []) d e (fill_next k m a d e x y v f ev) M
-      (subst (λ z. PlainAfter w M (main_at z (guesses (places n last 0) last (all_globals n) (numbers (suc (suc k)) m) t)) (Bad n last))
-      (guessed_is k m a d e x y v f) h1) in (
-        v ∷ u,
-        (ev, lu),
-        ap suc eu,
-        M',
-        subst (λ z. PlainAfter w M' (main_at (lay (g ∷ z) z bits) t) (Bad n last)) (append_assoc a (v ∷ []) u) h2,
-      )
+    pub guesses_back : (m k : ℕ) (a d e : List (List Bool)) → Fill k m a d e → (N : ℕ)
+        → PlainAfter w N (main_at (Open a d e) (guesses (places n last 0) last (all_globals n) (numbers (suc k) m) t)) (Bad n last)
+        → (u : List (List Bool)) × Long n u × (length u ≡ m) × (M : ℕ)
+        × PlainAfter w M (main_at (lay (g ∷ (a ++ u)) (a ++ u) bits) t) (Bad n last)
+    guesses_back zero k a [] [] f N h = ([], tt, refl, N, h)
+    guesses_back zero k a [] (x ∷ e) f N h = absurd (let z : suc (length e) ≡ zero = f.e_length in omega arith)
+    guesses_back zero k a (x ∷ d) e f N h = absurd (let z : suc (length d) ≡ zero = f.d_length in omega arith)
+    guesses_back (suc m) k a [] e f N h = absurd (let z : zero ≡ suc m = f.d_length in omega arith)
+    guesses_back (suc m) k a (x ∷ d) [] f N h = absurd (let z : zero ≡ suc m = f.e_length in omega arith)
+    guesses_back (suc m) k a (x ∷ d) (y ∷ e) f N h =
+        let (v, ev, M, le, h1) =
+        guess_back w last (guesses (places n last 0) last (all_globals n) (numbers (suc (suc k)) m) t) n (g ∷ (a ++ x ∷ d))
+        (a ++ y ∷ e) bits k
+        (fill_shape k (suc m) a (x ∷ d) (y ∷ e) f) (let z : k + suc m ≡ last = f.all in omega arith) N h in
+        let (u, lu, eu, M', h2) = guesses_back m (suc k) (a ++ v ∷ []) d e (fill_next k m a d e x y v f ev) M
+        (subst (λ z. PlainAfter w M (main_at z (guesses (places n last 0) last (all_globals n) (numbers (suc (suc k)) m) t)) (Bad n last))
+        (guessed_is k m a d e x y v f) h1) in (
+          v ∷ u,
+          (ev, lu),
+          ap suc eu,
+          M',
+          subst (λ z. PlainAfter w M' (main_at (lay (g ∷ z) z bits) t) (Bad n last)) (append_assoc a (v ∷ []) u) h2,
+        )
 
 same_true : (a b : Bool) → a ≡ b → true ≡ cond a b (not b)
 same_true true b e = e
@@ -142,7 +146,8 @@ module _ (w : World) (n last : ℕ) (C S : List (List Bool)) (bits : List Bool) 
   copied_bit : (k i : ℕ) → k < last → i < n → bit X (k * n + i) ≡ bit (row C k) i
   copied_bit k i lt hi = row_bit n C (flat S ++ bits) k i shape.copies (let z : length C ≡ suc last = shape.rounds in omega arith) hi
 
-  check_leads : (t : Code) (Q : State → Type 0) (k : ℕ) → k < last → row S k ≡ row C k → (m j : ℕ) → j + m ≤ n → Leads w (main_at X t) Q
+  check_leads : (t : Code) (Q : State → Type 0) (k : ℕ) → k < last → row S k ≡ row C k → (m j : ℕ) → j + m ≤ n
+      → Leads w (main_at X t) Q
       → Leads w (main_at X (check (places n last 0) last (map global (numbers j m)) k t)) Q
   check_leads t Q k lt e zero j within h = h
   check_leads t Q k lt e (suc m) j within h =
@@ -157,7 +162,8 @@ module _ (w : World) (n last : ℕ) (C S : List (List Bool)) (bits : List Bool) 
 
   check_back : (t : Code) (k : ℕ) → k < last → (m j : ℕ) → j + m ≤ n → (N : ℕ)
       → PlainAfter w N (main_at X (check (places n last 0) last (map global (numbers j m)) k t)) (Bad n last)
-      → ((i : ℕ) → j ≤ i → i < j + m → bit (row S k) i ≡ bit (row C k) i) × (M : ℕ) × PlainAfter w M (main_at X t) (Bad n last)
+      → ((i : ℕ) → j ≤ i → i < j + m → bit (row S k) i ≡ bit (row C k) i) × (M : ℕ)
+      × PlainAfter w M (main_at X t) (Bad n last)
   check_back t k lt zero j within N h = ((λ i le l. absurd (omega arith)), N, h)
   check_back t k lt (suc m) j within N h =
       let (M, e, (is, run)) =

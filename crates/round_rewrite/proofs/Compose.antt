@@ -1,6 +1,6 @@
 -- Rounds of all threads, one after the other, and turns of one thread after the other over rows, are the same.
-use Rattle.std.proofs.Common.{◌≡◌, ℕ, zero, suc, ◌+◌, ◌<◌, ◌≤◌, Bool, true, false, cond, List, [], ◌∷◌, length, Option, Some, None}
-use Rattle.std.proofs.Common.{slice_get, refl, sym, ◌∙◌, ap, subst, arith, ◌⊎◌, inl, inr}
+use Rattle.std.proofs.Common.{◌≡◌, ℕ, zero, suc, ◌+◌, ◌<◌, ◌≤◌, Bool, true, false, cond, List, [], ◌∷◌, length}
+use Rattle.std.proofs.Common.{Option, Some, None, slice_get, refl, sym, ◌∙◌, ap, subst, arith, ◌⊎◌, inl, inr}
 use Rattle.language.specs.Tree.{skip, assign, assert, assume, goto, leave, call, done, one, choose, loop}
 use Rattle.language.specs.Value.{values_of}
 use Rattle.language.specs.Rest.{Code, rest_from}
@@ -93,7 +93,8 @@ row_split p g G (s ∷ ss) g' G' (s' ∷ ss') (h ∷ H, (m, run, ts), more) =
     (m ∷ mid, (h, run, round), (H, ts, threads))
 
 fail_split : (p : Program) (g : List Bool) (G : List (List Bool)) (ss : List (List Frame)) (g' : List Bool) (G' : List (List Bool))
-    → FailThreads p (g ∷ G) ss (g' ∷ G') → FailsInRound p g ss ⊎ ((mid : List (List Frame)) × Round p g ss g' mid × FailThreads p G mid G')
+    → FailThreads p (g ∷ G) ss (g' ∷ G')
+    → FailsInRound p g ss ⊎ ((mid : List (List Frame)) × Round p g ss g' mid × FailThreads p G mid G')
 fail_split p g G [] g' G' h = absurd h
 fail_split p g G (s ∷ ss) g' G' (inl ([], ss', ft, more)) = absurd ft
 fail_split p g G (s ∷ ss) g' G' (inl (h ∷ H, ss', inl (m, run, f, e), more)) = inl (inl (state h m, run, f))
@@ -179,7 +180,8 @@ copies_long n (suc k) g e = let h = copies_long n k g e in ((e, h.0), ap suc h.1
 -- rounds, and then a round that fails, are linked rows in which a thread fails, with k rows more
 pub from_rounds : (p : Program) (n r k : ℕ) (g : List Bool) (ss : List (List Frame)) (h : List Bool) (ts : List (List Frame))
     → length g ≡ n → Rounds p r g ss h ts → FailsInRound p h ts
-    → (G : List (List Bool)) × (G' : List (List Bool)) × (length G ≡ r + k) × Long n G × Linked g (g ∷ G) G' × FailThreads p (g ∷ G) ss G'
+    → (G : List (List Bool)) × (G' : List (List Bool)) × (length G ≡ r + k) × Long n G × Linked g (g ∷ G) G'
+    × FailThreads p (g ∷ G) ss G'
 from_rounds p n zero k g ss h ts eg (eh, et) f =
     let f' : FailsInRound p g ss = subst (λ z. FailsInRound p g z) et (subst (λ z. FailsInRound p z ts) eh f) in
     let (g', el, ft) = fail_row p g ss f' in

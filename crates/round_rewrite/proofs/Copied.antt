@@ -18,7 +18,8 @@ module _ (w : Naming Name Name Name Name) (last : ℕ) (f : ℕ → Name → Nam
       ap (λ ns. map (f j) xs ++ ns) (copied_behind ks k) ∙ sym (append_assoc (map (f j) xs) (copied w last f xs ks) (map (f k) xs))
 
   -- the names for one more round are put behind those for the rounds before
-  pub copied_next : (start k round : ℕ) (old now new : List Name) → round ≡ start + k → now ≡ old ++ copied w last f xs (numbers start k)
+  pub copied_next : (start k round : ℕ) (old now new : List Name) → round ≡ start + k
+      → now ≡ old ++ copied w last f xs (numbers start k)
       → new ≡ now ++ map (f round) xs → new ≡ old ++ copied w last f xs (numbers start (k + 1))
   copied_next start k round old now new r e h =
       h ∙ (ap (λ ns. ns ++ map (f round) xs) e

@@ -1,6 +1,6 @@
 -- A rewritten assignment is the assignment in the round's copy, both ways.
-use Rattle.std.proofs.Common.{◌≡◌, ℕ, zero, suc, ◌+◌, ◌<◌, ◌≤◌, Bool, false, List, ◌∷◌, ◌++◌, length, map, refl, sym, ◌∙◌, ap, subst, ap₂}
-use Rattle.std.proofs.Common.{arith}
+use Rattle.std.proofs.Common.{◌≡◌, ℕ, zero, suc, ◌+◌, ◌<◌, ◌≤◌, Bool, false, List, ◌∷◌, ◌++◌, length, map}
+use Rattle.std.proofs.Common.{refl, sym, ◌∙◌, ap, subst, ap₂, arith}
 use Rattle.language.specs.Tree.{RightSide, any, assign, one}
 use Rattle.language.specs.Value.{Place, local, AreValues, written_globals, written_locals}
 use Rattle.language.specs.Rest.{Code}
@@ -8,9 +8,9 @@ use Rattle.language.specs.Step.{Frame, frame, State, state}
 use Rattle.round_rewrite.specs.Table.{numbers, plain, targets, sides, draws, each, drawing, statement}
 use Rattle.round_rewrite.specs.Places.{places, is_global}
 use Rattle.resolved.specs.Scoped.{PlacesInScope, SidesInScope}
-use Rattle.round_rewrite.proofs.Laid.{row, with_row, long_row, bits_of, lay, Shape}
+use Rattle.round_rewrite.proofs.Laid.{row, bits_of, lay, Moment, turned, unturned, row_long}
 use Rattle.round_rewrite.proofs.Assigned.{drawn_to, length-drawn, picks, Picked, picked, any_are, drawn_writes, spread_all, sides_are}
-use Rattle.round_rewrite.proofs.Assigned.{sides_back, writes, writes_locals, with-own_row}
+use Rattle.round_rewrite.proofs.Assigned.{sides_back, writes, writes_locals}
 use Rattle.round_rewrite.proofs.Plain.{World, PlainAfter}
 use Rattle.round_rewrite.proofs.Leading.{Leads, Never, unstep}
 use Rattle.round_rewrite.specs.Limits.{most_rounds}
@@ -28,7 +28,8 @@ module _ (w : World) (n last own c : ℕ) (fs : List Frame) (Q : State → Type 
           a,
           subst
               (λ z.
-              PlainAfter w m (state z (frame c (written_locals (map (λ k. local (own + k)) (numbers 0 (suc d))) ts (l ++ tmp)) t ∷ fs)) Q)
+              PlainAfter w m
+              (state z (frame c (written_locals (map (λ k. local (own + k)) (numbers 0 (suc d))) ts (l ++ tmp)) t ∷ fs)) Q)
               (sym eg)
               (subst (λ z. PlainAfter w m (state X (frame c z t ∷ fs)) Q) (sym ell) h),
         ),
@@ -57,82 +58,75 @@ module _ (w : World) (n last own c : ℕ) (fs : List Frame) (Q : State → Type 
             (state z (frame c (written_locals (map (λ k. local (own + k)) (numbers 0 (suc d))) ts (l ++ tmp)) t ∷ fs)) Q) eg k.2),
       )
 
-  module _ (C S : List (List Bool)) (q : ℕ) (b : Bool) (shape : Shape n last C S) (small : last < most_rounds)
-      (within : q ≤ last) (l tmp : List Bool) (el : length l ≡ own) where
-    -- the globals where the round's copy is h
-    abbrev pub turned : List Bool → List Bool
-    turned h = lay (with_row C q h) S (bits_of q false b)
-
-    unturned : turned (row C q) ≡ lay C S (bits_of q false b)
-    unturned = ap (λ z. lay z S (bits_of q false b)) (with-own_row C q)
-
-    row_long : length (row C q) ≡ n
-    row_long = long_row n C q shape.copies (let e : length C ≡ suc last = shape.rounds in omega arith)
+  module _ (now : Moment n last) (small : last < most_rounds) (l tmp : List Bool) (el : length l ≡ own) where
+    open now use {C, S, q, b, shape, within}
 
     write_state : (xs : List Place) (rs : List (RightSide Place)) (vs tmp' : List Bool) (t : Code) → AreValues (row C q) l rs vs
         → PlacesInScope n own xs → State
     write_state xs rs vs tmp' t a hx =
         state
         (written_globals (targets (places n last own) last xs rs)
-        (spread_all n last own C S q false b shape small within l tmp' el xs rs vs) (lay C S (bits_of q false b)))
+        (spread_all small now own l tmp' el xs rs vs) (lay C S (bits_of q false b)))
         (frame c
         (written_locals (targets (places n last own) last xs rs)
-        (spread_all n last own C S q false b shape small within l tmp' el xs rs vs) (l ++ tmp')) t ∷ fs)
+        (spread_all small now own l tmp' el xs rs vs) (l ++ tmp')) t ∷ fs)
 
     write_is : (xs : List Place) (rs : List (RightSide Place)) (vs tmp' : List Bool) (t : Code) (a : AreValues (row C q) l rs vs)
         (hx : PlacesInScope n own xs)
         → write_state xs rs vs tmp' t a hx
-        ≡ state (turned (written_globals xs vs (row C q))) (frame c (written_locals xs vs l ++ tmp') t ∷ fs)
+        ≡ state (turned now (written_globals xs vs (row C q))) (frame c (written_locals xs vs l ++ tmp') t ∷ fs)
     unfolding write_state
     write_is xs rs vs tmp' t a hx =
         let eg : written_globals (targets (places n last own) last xs rs)
-        (spread_all n last own C S q false b shape small within l tmp' el xs rs vs) (lay C S (bits_of q false b))
-        ≡ turned (written_globals xs vs (row C q)) =
+        (spread_all small now own l tmp' el xs rs vs) (lay C S (bits_of q false b))
+        ≡ turned now (written_globals xs vs (row C q)) =
         ap
         (written_globals (targets (places n last own) last xs rs)
-        (spread_all n last own C S q false b shape small within l tmp' el xs rs vs)) (sym unturned)
-        ∙ writes n last own C S q false b shape small within l tmp' el xs rs vs (row C q) a hx row_long in
+        (spread_all small now own l tmp' el xs rs vs)) (sym (unturned now))
+        ∙ writes small now own l tmp' el xs rs vs (row C q) a hx (row_long now) in
         let ell : written_locals (targets (places n last own) last xs rs)
-        (spread_all n last own C S q false b shape small within l tmp' el xs rs vs) (l ++ tmp') ≡ written_locals xs vs l ++ tmp' =
-        writes_locals n last own C S q false b shape small within l tmp' el xs rs vs l a hx el in
+        (spread_all small now own l tmp' el xs rs vs) (l ++ tmp') ≡ written_locals xs vs l ++ tmp' =
+        writes_locals small now own l tmp' el xs rs vs l a hx el in
         ap₂ (λ x y. state x (frame c y t ∷ fs)) eg ell
 
     pub assign_leads : (xs : List Place) (rs : List (RightSide Place)) (vs : List Bool) (t : Code) → AreValues (row C q) l rs vs
         → PlacesInScope n own xs → SidesInScope n own rs → draws is_global xs rs ≤ length tmp
         → ((tmp' : List Bool) → length tmp' ≡ length tmp
-        → Leads w (state (turned (written_globals xs vs (row C q))) (frame c (written_locals xs vs l ++ tmp') t ∷ fs)) Q)
-        → Leads w (state (lay C S (bits_of q false b)) (frame c (l ++ tmp) (statement (places n last own) last (assign xs rs) t) ∷ fs)) Q
+        → Leads w (state (turned now (written_globals xs vs (row C q))) (frame c (written_locals xs vs l ++ tmp') t ∷ fs)) Q)
+        → Leads w
+        (state (lay C S (bits_of q false b)) (frame c (l ++ tmp) (statement (places n last own) last (assign xs rs) t) ∷ fs)) Q
     unfolding write_state
     assign_leads xs rs vs t a hx hr room k =
         let ts : List Bool = picks xs rs vs in
         let d : ℕ = draws is_global xs rs in
         let tmp' : List Bool = drawn_to d 0 ts tmp in
         let p : Picked 0 xs rs vs tmp' = picked (row C q) l 0 xs rs vs tmp a (omega arith) in
-        let r : Leads w (state (turned (written_globals xs vs (row C q))) (frame c (written_locals xs vs l ++ tmp') t ∷ fs)) Q =
+        let r : Leads w (state (turned now (written_globals xs vs (row C q))) (frame c (written_locals xs vs l ++ tmp') t ∷ fs)) Q =
         k tmp' (length-drawn d 0 ts tmp) in
         draw_leads (lay C S (bits_of q false b)) l tmp d ts
         (one plain (assign (targets (places n last own) last xs rs) (sides (places n last own) last 0 xs rs)) t) el
         (any_are (lay C S (bits_of q false b)) (l ++ tmp) (row C q) l 0 xs rs vs a) (
           suc r.0,
           (
-            spread_all n last own C S q false b shape small within l tmp' el xs rs vs,
+            spread_all small now own l tmp' el xs rs vs,
             are xs rs vs tmp' a p hx hr,
             subst (λ z. PlainAfter w r.0 z Q) (sym (write_is xs rs vs tmp' t a hx)) r.1,
           ),
         )
       where
-        are : (xs : List Place) (rs : List (RightSide Place)) (vs tmp' : List Bool) → AreValues (row C q) l rs vs → Picked 0 xs rs vs tmp'
+        are : (xs : List Place) (rs : List (RightSide Place)) (vs tmp' : List Bool) → AreValues (row C q) l rs vs
+            → Picked 0 xs rs vs tmp'
             → PlacesInScope n own xs → SidesInScope n own rs
             → AreValues (lay C S (bits_of q false b)) (l ++ tmp') (sides (places n last own) last 0 xs rs)
-            (spread_all n last own C S q false b shape small within l tmp' el xs rs vs)
-        are xs rs vs tmp' a p hx hr = sides_are n last own C S q false b shape small within l tmp' el 0 xs rs vs a p hx hr
+            (spread_all small now own l tmp' el xs rs vs)
+        are xs rs vs tmp' a p hx hr = sides_are small now own l tmp' el 0 xs rs vs a p hx hr
 
     pub assign_back : Never Q fs → (N : ℕ) (xs : List Place) (rs : List (RightSide Place)) (t : Code) → PlacesInScope n own xs
         → SidesInScope n own rs
         → PlainAfter w N
         (state (lay C S (bits_of q false b)) (frame c (l ++ tmp) (statement (places n last own) last (assign xs rs) t) ∷ fs)) Q
         → (M : ℕ) × (vs : List Bool) × (tmp' : List Bool) × (M < N) × AreValues (row C q) l rs vs × (length tmp' ≡ length tmp)
-        × PlainAfter w M (state (turned (written_globals xs vs (row C q))) (frame c (written_locals xs vs l ++ tmp') t ∷ fs)) Q
+        × PlainAfter w M (state (turned now (written_globals xs vs (row C q))) (frame c (written_locals xs vs l ++ tmp') t ∷ fs)) Q
     unfolding write_state
     assign_back never N xs rs t hx hr h =
         let X : List Bool = lay C S (bits_of q false b) in
@@ -157,5 +151,5 @@ module _ (w : World) (n last own c : ℕ) (fs : List Frame) (Q : State → Type 
         back : (xs : List Place) (rs : List (RightSide Place)) (tmp' ws : List Bool) → PlacesInScope n own xs → SidesInScope n own rs
             → AreValues (lay C S (bits_of q false b)) (l ++ tmp') (sides (places n last own) last 0 xs rs) ws
             → (vs : List Bool) × AreValues (row C q) l rs vs
-            × (ws ≡ spread_all n last own C S q false b shape small within l tmp' el xs rs vs)
-        back xs rs tmp' ws hx hr a = sides_back n last own C S q false b shape small within l tmp' el 0 xs rs ws hx hr a
+            × (ws ≡ spread_all small now own l tmp' el xs rs vs)
+        back xs rs tmp' ws hx hr a = sides_back small now own l tmp' el 0 xs rs ws hx hr a

@@ -1,6 +1,6 @@
 -- Statements rewritten, one after the other.
-use Rattle.std.proofs.Common.{◌≡◌, ℕ, zero, suc, ◌+◌, ◌<◌, ◌≤◌, List, [], ◌∷◌, length, get_or, drop, map, Option, option_map, refl, sym}
-use Rattle.std.proofs.Common.{◌∙◌, ap}
+use Rattle.std.proofs.Common.{◌≡◌, ℕ, zero, suc, ◌+◌, ◌<◌, ◌≤◌, List, [], ◌∷◌, length, get_or, drop, map}
+use Rattle.std.proofs.Common.{Option, option_map, refl, sym, ◌∙◌, ap}
 use Rattle.std.proofs.lemmas.List.{drop_more, drop_all}
 use Rattle.std.proofs.lemmas.Result.{IfOk-weaker}
 use Rattle.std.specs.Prelude.{Result, IfOk}
@@ -54,7 +54,8 @@ module _ (w : Naming tree.Name tree.Name tree.Name tree.Name) (last : ℕ) where
   drawing_some (suc n) k some = refl
 
   -- what one statement is rewritten to
-  pub by_core : {M N : Type 0} (a b : List (Stmt M)) (core : Core N) (d : Deed) → deed_of core ≡ d → Lays a b (λ k. bare_form w last d k)
+  pub by_core : {M N : Type 0} (a b : List (Stmt M)) (core : Core N) (d : Deed) → deed_of core ≡ d
+      → Lays a b (λ k. bare_form w last d k)
       → Lays a b (λ k. bare_form w last (deed_of core) k)
   by_core a b core d e l k = l k ∙ ap (λ x. all_before (items_of a) (bare_form w last x k)) (sym e)
 
@@ -64,25 +65,29 @@ module _ (w : Naming tree.Name tree.Name tree.Name tree.Name) (last : ℕ) where
       → IfOk r (λ v. Lays a (items v) (λ k. bare_form w last (deed_of core) k))
   core_is r items a core d e h = IfOk-weaker r _ _ (λ v l. by_core a (items v) core d (sym e) l) h
 
-  -- one more statement is rewritten
-  pub one_more : {M N : Type 0} (ss : List (Stmt N)) (i : ℕ) (s : Stmt N) → i < length ss → s ≡ get_or ss i s
-      → (old mid new : List (Stmt M)) (label : Option tree.Name) → label ≡ option_map name_of s.label
-      → Lays old mid (λ k. prologue w last (record { label = label; at = s.at }) k)
-      → Lays mid new (λ k. bare_form w last (deed_of s.core) k) → (whole : Statements → Statements)
-      → ((rest : Statements) → all_before (items_of old) (forms w last (items_of (drop i ss)) rest) ≡ whole rest) → (rest : Statements)
-      → all_before (items_of new) (forms w last (items_of (drop (i + 1) ss)) rest) ≡ whole rest
-  one_more {M} {N} ss i s lt is old mid new label named begun laid whole so rest =
-      let k = forms w last (items_of (drop (i + 1) ss)) rest in
-      let here = ap items_of (drop_more ss i s lt ∙ ap (λ (y : Stmt N). y ∷ drop (i + 1) ss) (sym is)) in
-      laid k
-      ∙ (begun (bare_form w last (deed_of s.core) k)
-      ∙ (ap (λ l. all_before (items_of old) (prologue w last (record { label = l; at = s.at }) (bare_form w last (deed_of s.core) k))) named
-      ∙ (sym (ap (λ j. all_before (items_of old) (form w last j k)) (fold_out-Stmt N Deed Item core_step stmt_step s))
-      ∙ (sym (ap (λ is'. all_before (items_of old) (forms w last is' rest)) here) ∙ so rest))))
+  module _ {M N : Type 0} (ss : List (Stmt N)) (i : ℕ) where
+    module _ (s : Stmt N) (lt : i < length ss) (is : s ≡ get_or ss i s) where
+      -- one more statement is rewritten
+      pub one_more : (old mid new : List (Stmt M)) (label : Option tree.Name)
+          → label ≡ option_map name_of s.label → Lays old mid (λ k. prologue w last (record { label = label; at = s.at }) k)
+          → Lays mid new (λ k. bare_form w last (deed_of s.core) k) → (whole : Statements → Statements)
+          → ((rest : Statements) → all_before (items_of old) (forms w last (items_of (drop i ss)) rest) ≡ whole rest)
+          → (rest : Statements)
+          → all_before (items_of new) (forms w last (items_of (drop (i + 1) ss)) rest) ≡ whole rest
+      one_more old mid new label named begun laid whole so rest =
+          let k = forms w last (items_of (drop (i + 1) ss)) rest in
+          let here = ap items_of (drop_more ss i s lt ∙ ap (λ (y : Stmt N). y ∷ drop (i + 1) ss) (sym is)) in
+          laid k
+          ∙ (begun (bare_form w last (deed_of s.core) k)
+          ∙ (ap
+          (λ l. all_before (items_of old) (prologue w last (record { label = l; at = s.at }) (bare_form w last (deed_of s.core) k))) named
+          ∙ (sym (ap (λ j. all_before (items_of old) (form w last j k)) (fold_out-Stmt N Deed Item core_step stmt_step s))
+          ∙ (sym (ap (λ is'. all_before (items_of old) (forms w last is' rest)) here) ∙ so rest))))
 
-  -- all statements are rewritten
-  pub no_more : {M N : Type 0} (ss : List (Stmt N)) (i : ℕ) → length ss ≤ i → (new : List (Stmt M)) (whole : Statements → Statements)
-      → ((rest : Statements) → all_before (items_of new) (forms w last (items_of (drop i ss)) rest) ≡ whole rest) → (rest : Statements)
-      → all_before (items_of new) rest ≡ whole rest
-  no_more ss i le new whole so rest =
-      sym (ap (λ l. all_before (items_of new) (forms w last (items_of l) rest)) (drop_all i ss le)) ∙ so rest
+    -- all statements are rewritten
+    pub no_more : length ss ≤ i → (new : List (Stmt M)) (whole : Statements → Statements)
+        → ((rest : Statements) → all_before (items_of new) (forms w last (items_of (drop i ss)) rest) ≡ whole rest)
+        → (rest : Statements)
+        → all_before (items_of new) rest ≡ whole rest
+    no_more le new whole so rest =
+        sym (ap (λ l. all_before (items_of new) (forms w last (items_of l) rest)) (drop_all i ss le)) ∙ so rest

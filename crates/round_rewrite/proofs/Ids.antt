@@ -1,5 +1,6 @@
 -- The names of the rewritten program are names of the grammar.
-use Rattle.std.proofs.Common.{◌≡◌, ℕ, zero, suc, ◌+◌, ◌-◌, ◌<◌, ◌^◌, true, false, List, [], ◌∷◌, ◌++◌, codes, refl, sym, ◌∙◌, subst, arith}
+use Rattle.std.proofs.Common.{◌≡◌, ℕ, zero, suc, ◌+◌, ◌-◌, ◌<◌, ◌^◌, true, false, List, [], ◌∷◌, ◌++◌}
+use Rattle.std.proofs.Common.{codes, refl, sym, ◌∙◌, subst, arith}
 use Rattle.std.specs.Prelude.{decimal, option_map, unwrap_or}
 use Rattle.std.specs.Str.Parse.{AllDigits}
 use Rattle.std.proofs.lemmas.Fmt.{decimal_is_IsNumeral}
@@ -69,7 +70,8 @@ pub save_id : (k : ℕ) (x : Name) → k < most_rounds → IsId x → IsId (save
 save_id k x small h = two_lows x.text (115 ∷ decimal (suc k)) h.begins h.bytes (refl, words_decimal (suc k) (omega arith))
 
 pub drawn_id : (j : ℕ) → j < most_places → IsId (drawn_name j)
-drawn_id j few = two_lows (codes "tmp") (116 ∷ decimal (suc j)) refl (refl, (refl, (refl, tt))) (refl, words_decimal (suc j) (omega arith))
+drawn_id j few =
+    two_lows (codes "tmp") (116 ∷ decimal (suc j)) refl (refl, (refl, (refl, tt))) (refl, words_decimal (suc j) (omega arith))
 
 pub high_id : IsId (named (codes "rh__"))
 high_id = two_lows (codes "rh") [] refl (refl, (refl, tt)) tt

@@ -1,6 +1,6 @@
 -- How the globals of the rewritten program lie: copies round by round, saved guesses, the round's bits, stop, bad.
-use Rattle.std.proofs.Common.{◌≡◌, ℕ, zero, suc, ◌+◌, ◌*◌, ◌<◌, Bool, true, false, List, [], ◌∷◌, ◌++◌, length, refl, sym, ◌∙◌, ap, arith}
-use Rattle.std.proofs.Common.{append_assoc, length-append, zero-add}
+use Rattle.std.proofs.Common.{◌≡◌, ℕ, zero, suc, ◌+◌, ◌*◌, ◌<◌, ◌≤◌, Bool, true, false, List, [], ◌∷◌}
+use Rattle.std.proofs.Common.{◌++◌, length, refl, sym, ◌∙◌, ap, arith, append_assoc, length-append, zero-add}
 use Rattle.std.proofs.lemmas.List.{get_or_append_left, set-append_left, set-get_or}
 use Rattle.language.specs.Value.{bit, with_bit}
 use Rattle.round_rewrite.specs.Places.{bits_at}
@@ -23,6 +23,10 @@ flat (r ∷ rs) = r ++ flat rs
 abbrev pub Long : ℕ → List (List Bool) → Type 0
 Long n [] = Unit {0}
 Long n (r ∷ rs) = (length r ≡ n) × Long n rs
+
+-- there are so many rows, and each is so long
+abbrev pub AreRows : ℕ → ℕ → List (List Bool) → Type 0
+AreRows n count G = Long n G × (length G ≡ count)
 
 abbrev pub row : List (List Bool) → ℕ → List Bool
 row [] k = []
@@ -84,6 +88,11 @@ with_own [] k i = refl
 with_own (r ∷ C) zero i = ap (λ z. z ∷ C) (set-get_or r i false)
 with_own (r ∷ C) (suc k) i = ap (λ z. r ∷ z) (with_own C k i)
 
+pub with-own_row : (C : List (List Bool)) (k : ℕ) → with_row C k (row C k) ≡ C
+with-own_row [] k = refl
+with-own_row (r ∷ C) zero = refl
+with-own_row (r ∷ C) (suc k) = ap (λ z. r ∷ z) (with-own_row C k)
+
 pub length-with_row : (C : List (List Bool)) (k : ℕ) (v : List Bool) → length (with_row C k v) ≡ length C
 length-with_row [] k v = refl
 length-with_row (r ∷ C) zero v = refl
@@ -127,6 +136,29 @@ pub record Shape (n last : ℕ) (C S : List (List Bool)) : Type 0 where
   pub saved : Long n S
   pub rounds : length C ≡ suc last
   pub guesses : length S ≡ last
+
+-- the globals in a round, where stop is 0: the rows and the saved guesses, the round, and bad
+pub record Moment (n last : ℕ) : Type 0 where
+  pub C : List (List Bool)
+  pub S : List (List Bool)
+  pub q : ℕ
+  pub b : Bool
+  pub shape : Shape n last C S
+  pub within : q ≤ last
+
+abbrev pub globals_at : {n last : ℕ} (now : Moment n last) → List Bool
+globals_at now = lay now.C now.S (bits_of now.q false now.b)
+
+-- the same globals, but that the round's row is h
+abbrev pub turned : {n last : ℕ} (now : Moment n last) → List Bool → List Bool
+turned now h = lay (with_row now.C now.q h) now.S (bits_of now.q false now.b)
+
+pub unturned : {n last : ℕ} (now : Moment n last) → turned now (row now.C now.q) ≡ globals_at now
+unturned now = ap (λ z. lay z now.S (bits_of now.q false now.b)) (with-own_row now.C now.q)
+
+pub row_long : {n last : ℕ} (now : Moment n last) → length (row now.C now.q) ≡ n
+row_long {n} now =
+    long_row n now.C now.q now.shape.copies (let e : length now.C ≡ suc _ = now.shape.rounds in omega (arith, now.within))
 
 pub bits_index : (n last : ℕ) (C S : List (List Bool)) (j : ℕ) → Shape n last C S
     → bits_at n last + j ≡ length (flat C) + (length (flat S) + j)

@@ -20,14 +20,6 @@ lays_pushed {A} old s e k =
     ∙ (all_before_last (items_of old) (item_of s) k
     ∙ ap (λ i. all_before (items_of old) (before i k)) (fold_out-Stmt A Deed Item core_step stmt_step s)))
 
--- one lot of statements behind another
-pub then : {A : Type 0} (a b c : List (Stmt A)) (f g : Statements → Statements) → Lays a b f → Lays b c g → Lays a c (λ k. f (g k))
-then a b c f g first second k = second k ∙ first (g k)
-
--- the same statements, said otherwise
-pub said : {A : Type 0} (a b : List (Stmt A)) (f g : Statements → Statements) → Lays a b f → ((k : Statements) → f k ≡ g k) → Lays a b g
-said a b f g first same k = first k ∙ ap (all_before (items_of a)) (same k)
-
 -- one statement, whose deed is said otherwise
 pub laid : {A : Type 0} (a b : List (Stmt A)) (m : Mark tree.Name) (d d' : Deed) → Lays a b (λ k. marked_before m d k) → d ≡ d'
     → Lays a b (λ k. marked_before m d' k)

@@ -1,12 +1,13 @@
+-- In reading order: the theorem over places, then over names, then what the code writes. docs/REWRITING.md has a map.
 pub mod Plain
 pub mod Blocks
 pub mod Laid
 pub mod Translate
-pub mod Leading
 pub mod Assigned
-pub mod Frames
-pub mod Prologue
+pub mod Leading
 pub mod Drawing
+pub mod Prologue
+pub mod Frames
 pub mod Forward
 pub mod Backward
 pub mod Turns
@@ -26,6 +27,7 @@ pub mod Resolved
 pub mod Matching
 pub mod Meaning
 pub mod Pushed
+pub mod InTurn
 pub mod Assigning
 pub mod Laying
 pub mod Forms

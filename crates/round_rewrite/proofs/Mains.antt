@@ -1,5 +1,6 @@
 -- What the first procedure is made of, one part after the other.
-use Rattle.std.proofs.Common.{◌≡◌, ℕ, ◌+◌, ◌<◌, ◌≤◌, List, [], ◌∷◌, ◌++◌, length, get_or, drop, map, refl, sym, ◌∙◌, ap, arith}
+use Rattle.std.proofs.Common.{◌≡◌, ℕ, ◌+◌, ◌<◌, ◌≤◌, List, [], ◌∷◌, length, get_or, drop, map, refl, sym}
+use Rattle.std.proofs.Common.{◌∙◌, ap, arith}
 use Rattle.std.proofs.lemmas.List.{drop_more, drop_all}
 use Rattle.language.specs.Tree as tree
 use Rattle.language.specs.Tree.{any, var, value, assign, one}
@@ -7,29 +8,31 @@ use Rattle.trees.specs.declared.tree.Stmt.{Stmt}
 use Rattle.trees.specs.Trees.{items_of, all_before}
 use Rattle.round_rewrite.specs.Table.{Naming, numbers, each, plain, guess, guesses, check, checks}
 use Rattle.round_rewrite.specs.Writing.{Statements, Lays}
-use Rattle.round_rewrite.proofs.Pushed.{numbers_next}
+use Rattle.round_rewrite.proofs.InTurn.{one_behind}
 
--- one more of a list is put behind what stands
-pub each_more : {M X Y : Type 0} (seen : X → Y) (f : List Y → Statements → Statements) (g : Y → Statements → Statements)
-    → ((y : Y) (ys : List Y) (k : Statements) → f (y ∷ ys) k ≡ g y (f ys k)) → (xs : List X) (i : ℕ) (x : X) → i < length xs
-    → x ≡ get_or xs i x → (old new : List (Stmt M)) → Lays old new (g (seen x)) → (whole : Statements → Statements)
-    → ((rest : Statements) → all_before (items_of old) (f (map seen (drop i xs)) rest) ≡ whole rest) → (rest : Statements)
-    → all_before (items_of new) (f (map seen (drop (i + 1) xs)) rest) ≡ whole rest
-each_more seen f g step xs i x lt is old new laid whole so rest =
-    let others = map seen (drop (i + 1) xs) in
-    laid (f others rest)
-    ∙ (ap (all_before (items_of old)) (sym (step (seen x) others rest))
-    ∙ (ap (λ l. all_before (items_of old) (f (map seen l) rest)) (sym (drop_more xs i x lt ∙ ap (λ y. y ∷ drop (i + 1) xs) (sym is)))
-    ∙ so rest))
+module _ {M X Y : Type 0} (seen : X → Y) (f : List Y → Statements → Statements) where
+  module _ (g : Y → Statements → Statements) (step : (y : Y) (ys : List Y) (k : Statements) → f (y ∷ ys) k ≡ g y (f ys k)) where
+    -- one more of a list is put behind what stands
+    pub each_more : (xs : List X) (i : ℕ) (x : X) → i < length xs → x ≡ get_or xs i x → (old new : List (Stmt M))
+        → Lays old new (g (seen x)) → (whole : Statements → Statements)
+        → ((rest : Statements) → all_before (items_of old) (f (map seen (drop i xs)) rest) ≡ whole rest) → (rest : Statements)
+        → all_before (items_of new) (f (map seen (drop (i + 1) xs)) rest) ≡ whole rest
+    each_more xs i x lt is old new laid whole so rest =
+        let others = map seen (drop (i + 1) xs) in
+        laid (f others rest)
+        ∙ (ap (all_before (items_of old)) (sym (step (seen x) others rest))
+        ∙ (ap (λ l. all_before (items_of old) (f (map seen l) rest))
+        (sym (drop_more xs i x lt ∙ ap (λ y. y ∷ drop (i + 1) xs) (sym is)))
+        ∙ so rest))
 
--- all of a list are put behind what stood
-pub each_end : {M X Y : Type 0} (seen : X → Y) (f : List Y → Statements → Statements) → ((k : Statements) → f [] k ≡ k)
-    → (xs : List X) (i : ℕ) → length xs ≤ i → (new : List (Stmt M)) (whole : Statements → Statements)
-    → ((rest : Statements) → all_before (items_of new) (f (map seen (drop i xs)) rest) ≡ whole rest) → (rest : Statements)
-    → all_before (items_of new) rest ≡ whole rest
-each_end seen f none xs i le new whole so rest =
-    ap (all_before (items_of new)) (sym (none rest))
-    ∙ (sym (ap (λ l. all_before (items_of new) (f (map seen l) rest)) (drop_all i xs le)) ∙ so rest)
+  -- all of a list are put behind what stood
+  pub each_end : ((k : Statements) → f [] k ≡ k) → (xs : List X) (i : ℕ) → length xs ≤ i → (new : List (Stmt M))
+      (whole : Statements → Statements)
+      → ((rest : Statements) → all_before (items_of new) (f (map seen (drop i xs)) rest) ≡ whole rest) → (rest : Statements)
+      → all_before (items_of new) rest ≡ whole rest
+  each_end none xs i le new whole so rest =
+      ap (all_before (items_of new)) (sym (none rest))
+      ∙ (sym (ap (λ l. all_before (items_of new) (f (map seen l) rest)) (drop_all i xs le)) ∙ so rest)
 
 module _ (w : Naming tree.Name tree.Name tree.Name tree.Name) (last : ℕ) where
   pub guess_some : (xs : List tree.Name) (x : tree.Name) (more : List tree.Name) (k : ℕ) (t : Statements) → xs ≡ x ∷ more
@@ -39,26 +42,11 @@ module _ (w : Naming tree.Name tree.Name tree.Name tree.Name) (last : ℕ) where
   guess_some [] x more k t e = cc
   guess_some (y ∷ ys) x more k t e = refl
 
-  guesses_behind : (xs : List tree.Name) (ks : List ℕ) (k : ℕ) (t : Statements)
-      → guesses w last xs (ks ++ k ∷ []) t ≡ guesses w last xs ks (guess w last xs k t)
-  guesses_behind xs [] k t = refl
-  guesses_behind xs (j ∷ ks) k t = ap (guess w last xs j) (guesses_behind xs ks k t)
-
   pub guesses_next : (xs : List tree.Name) (k : ℕ) (t : Statements)
       → guesses w last xs (numbers 1 (k + 1)) t ≡ guesses w last xs (numbers 1 k) (guess w last xs (k + 1) t)
   guesses_next xs k t =
-      ap (λ ks. guesses w last xs ks t) (numbers_next 1 k)
-      ∙ (guesses_behind xs (numbers 1 k) (1 + k) t
-      ∙ ap (λ n. guesses w last xs (numbers 1 k) (guess w last xs n t)) (let e : 1 + k ≡ k + 1 = omega arith in e))
-
-  checks_behind : (xs : List tree.Name) (ks : List ℕ) (k : ℕ) (t : Statements)
-      → checks w last xs (ks ++ k ∷ []) t ≡ checks w last xs ks (check w last xs k t)
-  checks_behind xs [] k t = refl
-  checks_behind xs (j ∷ ks) k t = ap (check w last xs j) (checks_behind xs ks k t)
+      one_behind (guesses w last xs) (guess w last xs) (λ t. refl) (λ j ks t. refl) 1 k (k + 1) (omega arith) t
 
   pub checks_next : (xs : List tree.Name) (k : ℕ) (t : Statements)
       → checks w last xs (numbers 0 (k + 1)) t ≡ checks w last xs (numbers 0 k) (check w last xs k t)
-  checks_next xs k t =
-      ap (λ ks. checks w last xs ks t) (numbers_next 0 k)
-      ∙ (checks_behind xs (numbers 0 k) (0 + k) t
-      ∙ ap (λ n. checks w last xs (numbers 0 k) (check w last xs n t)) (let e : 0 + k ≡ k = omega arith in e))
+  checks_next xs k t = one_behind (checks w last xs) (check w last xs) (λ t. refl) (λ j ks t. refl) 0 k k (omega arith) t

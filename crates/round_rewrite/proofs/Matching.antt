@@ -1,6 +1,6 @@
 -- The first procedure by names, resolved, is the first procedure by places.
-use Rattle.std.proofs.Common.{◌≡◌, ℕ, zero, suc, ◌+◌, ◌<◌, ◌≤◌, Bool, true, false, cond, List, [], ◌∷◌, ◌++◌, length, map, refl, sym, ◌∙◌}
-use Rattle.std.proofs.Common.{ap, subst, ap₂, arith, append_assoc, length-append}
+use Rattle.std.proofs.Common.{◌≡◌, ℕ, zero, suc, ◌+◌, ◌<◌, ◌≤◌, Bool, true, false, cond, List, [], ◌∷◌}
+use Rattle.std.proofs.Common.{◌++◌, length, map, refl, sym, ◌∙◌, ap, subst, ap₂, arith, append_assoc, length-append}
 use Rattle.language.specs.Tree.{Name, const, var, two, equal, any, value, assign, assume, call, Block, done, one, ThreadLine, Tree}
 use Rattle.language.specs.Value.{Place, global}
 use Rattle.language.specs.Rest.{Code, same_text}
@@ -11,13 +11,14 @@ use Rattle.round_rewrite.specs.Names.{copy_name, save_name, names}
 use Rattle.scopes.specs.Rewritable.{AreFree, AreDistinct, EachLine}
 use Rattle.round_rewrite.proofs.Spelling.{same_text_refl, same_text_false}
 use Rattle.round_rewrite.proofs.Numbering.{number_right}
-use Rattle.round_rewrite.proofs.Placing.{scope, wider, copy_place, save_place}
+use Rattle.round_rewrite.proofs.Placing.{Vocabulary, wider, copy_place, save_place}
 use Rattle.round_rewrite.proofs.Resolved.{lo, hi, st}
 use Rattle.resolved.specs.Limits.{most_places}
 use Rattle.round_rewrite.specs.Limits.{most_rounds}
 
 pub same_text_other : (a b : List ℕ) → same_text a b ≡ false → same_text b a ≡ false
-same_text_other a b h = same_text_false b a (λ e. let bad : true ≡ false = sym (same_text_refl a) ∙ (ap (same_text a) (sym e) ∙ h) in cc)
+same_text_other a b h =
+    same_text_false b a (λ e. let bad : true ≡ false = sym (same_text_refl a) ∙ (ap (same_text a) (sym e) ∙ h) in cc)
 
 none_cons : (c r : Bool) → cond c true r ≡ false → (c ≡ false) × (r ≡ false)
 none_cons true r h = cc
@@ -41,11 +42,22 @@ module _ (t : Tree) (gs ps : List Name) (last : ℕ) (gs_free : AreFree gs) (dis
   abbrev n : ℕ
   n = length gs
 
-  abbrev sm : Scope
-  sm = scope gs [] ps 0 last gs_free tt few small
+  -- the first procedure has no names of its own
+  abbrev vocabulary : Vocabulary
+  vocabulary = record {
+    gs = gs;
+    own = [];
+    ps = ps;
+    d = 0;
+    last = last;
+    gs_free = gs_free;
+    own_free = tt;
+    few = few;
+    small = small;
+  }
 
   abbrev sm' : Scope
-  sm' = wider gs [] ps 0 last gs_free tt few small ps'
+  sm' = wider vocabulary ps'
 
   abbrev N : Naming Name Name Name Name
   N = names []
@@ -63,7 +75,8 @@ module _ (t : Tree) (gs ps : List Name) (last : ℕ) (gs_free : AreFree gs) (dis
       × ((k : ℕ) → k < last → place_of sm' (save_name (suc k) x) ≡ save_at n last (suc k) y)
       × Matches xs ys
 
-  matches_from : (pre suf : List Name) → gs ≡ pre ++ suf → (j : ℕ) → j ≡ length pre → Matches suf (map global (numbers j (length suf)))
+  matches_from : (pre suf : List Name) → gs ≡ pre ++ suf → (j : ℕ) → j ≡ length pre
+      → Matches suf (map global (numbers j (length suf)))
   matches_from pre [] e j ej = tt
   matches_from pre (x ∷ suf) e j ej =
       let before : is_declared x.text pre ≡ false = not_before pre x suf (subst AreDistinct e distinct) in
@@ -74,8 +87,9 @@ module _ (t : Tree) (gs ps : List Name) (last : ℕ) (gs_free : AreFree gs) (dis
       ap (number_of x.text) e ∙ (r.0
       ∙ (ap (λ c. length pre + cond c 0 (suc (number_of x.text suf))) (same_text_refl x.text)
       ∙ (let z : length pre + 0 ≡ j = omega arith in z))) in (
-        (λ k le. copy_place gs [] ps 0 last gs_free tt few small ps' x k le refl there ∙ ap (λ i. copy_at n k (global i)) at),
-        (λ k lt. save_place gs [] ps 0 last gs_free tt few small ps' x k lt refl there ∙ ap (λ i. save_at n last (suc k) (global i)) at),
+        (λ k le. copy_place vocabulary ps' x k le refl there ∙ ap (λ i. copy_at n k (global i)) at),
+        (λ k lt. save_place vocabulary ps' x k lt refl there
+            ∙ ap (λ i. save_at n last (suc k) (global i)) at),
         matches_from (pre ++ x ∷ []) suf (e
             ∙ sym (append_assoc pre (x ∷ []) suf)) (suc j)
             (let z : length (pre ++ x ∷ []) ≡ length pre + 1 = length-append pre (x ∷ []) in omega arith),
@@ -117,8 +131,10 @@ module _ (t : Tree) (gs ps : List Name) (last : ℕ) (gs_free : AreFree gs) (dis
       λ i. one plain (assign (copies_match (x ∷ xs) (y ∷ ys) m (suc k) (omega arith) i) (any_match (x ∷ xs) (y ∷ ys) m i))
       (one plain (assign (saves_match (x ∷ xs) (y ∷ ys) m k lt i) (reads_match (x ∷ xs) (y ∷ ys) m (suc k) (omega arith) i)) (e i))
 
-  guesses_match : (xs : List Name) (ys : List Place) → Matches xs ys → (k m : ℕ) → k + m ≤ last → (b : Block Name Name Name) (b' : Code)
-      → resolve_block sm' b ≡ b' → resolve_block sm' (guesses N last xs (numbers (suc k) m) b) ≡ guesses P last ys (numbers (suc k) m) b'
+  guesses_match : (xs : List Name) (ys : List Place) → Matches xs ys → (k m : ℕ) → k + m ≤ last
+      → (b : Block Name Name Name) (b' : Code)
+      → resolve_block sm' b ≡ b'
+      → resolve_block sm' (guesses N last xs (numbers (suc k) m) b) ≡ guesses P last ys (numbers (suc k) m) b'
   guesses_match xs ys ms k zero le b b' e = e
   guesses_match xs ys ms k (suc m) le b b' e =
       guess_match xs ys ms k (omega arith) (guesses N last xs (numbers (suc (suc k)) m) b) (guesses P last ys (numbers (suc (suc k)) m) b')
@@ -132,7 +148,8 @@ module _ (t : Tree) (gs ps : List Name) (last : ℕ) (gs_free : AreFree gs) (dis
   check_match (x ∷ xs) (y ∷ ys) m k lt b b' e =
       λ i. one plain (assume (value (two equal (var (m.1 k lt i)) (var (m.0 k (omega arith) i))))) (check_match xs ys m.2 k lt b b' e i)
 
-  checks_match : (xs : List Name) (ys : List Place) → Matches xs ys → (k m : ℕ) → k + m ≤ last → (b : Block Name Name Name) (b' : Code)
+  checks_match : (xs : List Name) (ys : List Place) → Matches xs ys → (k m : ℕ) → k + m ≤ last
+      → (b : Block Name Name Name) (b' : Code)
       → resolve_block sm' b ≡ b' → resolve_block sm' (checks N last xs (numbers k m) b) ≡ checks P last ys (numbers k m) b'
   checks_match xs ys ms k zero le b b' e = e
   checks_match xs ys ms k (suc m) le b b' e =
@@ -147,8 +164,8 @@ module _ (t : Tree) (gs ps : List Name) (last : ℕ) (gs_free : AreFree gs) (dis
       λ i.
       one plain
       (assign
-      (hi t gs [] ps 0 last gs_free tt few small ps' called i ∷ lo t gs [] ps 0 last gs_free tt few small ps' called i
-      ∷ st t gs [] ps 0 last gs_free tt few small ps' called i ∷ [])
+      (hi t vocabulary ps' called i ∷ lo t vocabulary ps' called i
+      ∷ st t vocabulary ps' called i ∷ [])
       (value (const false) ∷ value (const false) ∷ value (const false) ∷ []))
       (one plain (call (called line.name h.0 i) []) (starts_match lines h.1 b b' e i))
 
@@ -159,6 +176,7 @@ module _ (t : Tree) (gs ps : List Name) (last : ℕ) (gs_free : AreFree gs) (dis
       let ms : Matches gs (all_globals n) = matches_from [] gs refl 0 refl in
       guesses_match gs (all_globals n) ms 0 last (omega arith)
       (starts N last (map (λ (line : ThreadLine). line.name) lines) (checks N last gs (numbers 0 last) done))
-      (starts P last (map (λ (line : ThreadLine). number_of line.name.text ps) lines) (checks P last (all_globals n) (numbers 0 last) done))
+      (starts P last (map (λ (line : ThreadLine). number_of line.name.text ps) lines)
+      (checks P last (all_globals n) (numbers 0 last) done))
       (starts_match lines h (checks N last gs (numbers 0 last) done) (checks P last (all_globals n) (numbers 0 last) done)
       (checks_match gs (all_globals n) ms 0 last (omega arith) done done refl))

@@ -1,6 +1,7 @@
 -- The rewritten tree means the rewritten program, and the theorem over names.
-use Rattle.std.proofs.Common.{◌≡◌, ℕ, zero, suc, ◌+◌, ◌*◌, ◌<◌, ◌≤◌, true, false, cond, List, [], ◌∷◌, ◌++◌, length, map, codes, Option}
-use Rattle.std.proofs.Common.{Some, None, option_map, slice_get, refl, sym, ◌∙◌, ap, subst, ap₂, arith, append_assoc, length-append}
+use Rattle.std.proofs.Common.{◌≡◌, ℕ, zero, suc, ◌+◌, ◌*◌, ◌<◌, ◌≤◌, true, false, cond, List, [], ◌∷◌}
+use Rattle.std.proofs.Common.{◌++◌, length, map, codes, Option, Some, None, option_map, slice_get, refl, sym, ◌∙◌, ap, subst}
+use Rattle.std.proofs.Common.{ap₂, arith, append_assoc, length-append}
 use Rattle.std.proofs.lemmas.List.{length-map}
 use Rattle.std.proofs.lemmas.Option.{slice_get-map}
 use Rattle.language.specs.Tree.{Name, Expression, const, var, negation, two, RightSide, any, value, Simple, skip, assign, assert, assume}
@@ -24,15 +25,12 @@ use Rattle.round_rewrite.specs.Narrow.{IsNarrow}
 use Rattle.round_rewrite.specs.Law.{Keeps, KeepsTree}
 use Rattle.round_rewrite.proofs.Spelling.{free_differs}
 use Rattle.round_rewrite.proofs.Numbering.{free_name, length-rows}
-use Rattle.round_rewrite.proofs.Placing.{wider, bad_place, length-numbers}
+use Rattle.round_rewrite.proofs.Placing.{Vocabulary, wider, bad_place, length-numbers}
 use Rattle.round_rewrite.proofs.Resolved.{by_test, temporaries_resolved, block_resolved}
 use Rattle.round_rewrite.proofs.Matching.{main_resolved, same_text_other}
 use Rattle.round_rewrite.proofs.Theorem.{keeps}
 use Rattle.resolved.specs.Limits.{most_places}
 use Rattle.round_rewrite.specs.Limits.{most_rounds}
-
-names_of : List Procedure → List Name
-names_of procs = map (λ (p : Procedure). p.name) procs
 
 names_kept : (last : ℕ) (procs : List Procedure)
     → map (λ (p : Procedure). p.name) (map (rewritten_procedure last) procs) ≡ map (λ (p : Procedure). p.name) procs
@@ -71,6 +69,20 @@ module _ (t : Tree) (last : ℕ) (ok : IsRewritable t) (small : last < most_roun
       ap (λ c. cond c 0 (suc (number_of q.text (map (λ (p : Procedure). p.name) (map (rewritten_procedure last) t.procedures))))) other
       ∙ ap (λ z. suc (number_of q.text z)) (names_kept last t.procedures)
 
+  -- the names of the source and of a procedure with these names of its own
+  abbrev vocabulary : (own : List Name) (d : ℕ) → AreFree own → d ≤ most_places → Vocabulary
+  vocabulary own d own_free few = record {
+    gs = gs;
+    own = own;
+    ps = ps;
+    d = d;
+    last = last;
+    gs_free = ok.globals;
+    own_free = own_free;
+    few = few;
+    small = small;
+  }
+
   main_is : routine_of t' (main_procedure last t) ≡ main_routine last (meaning_of t)
   main_is =
       ap (λ b. record { places = 0; body = b }) (main_resolved t gs ps last ok.globals ok.distinct
@@ -102,13 +114,14 @@ module _ (t : Tree) (last : ℕ) (ok : IsRewritable t) (small : last < most_roun
       let own : List Name = own_of p in
       let d : ℕ = drawn_of p in
       let few : d ≤ most_places = few_drawn p narrow in
+      let words : Vocabulary = vocabulary own d h.own few in
       let counts : temporaries (names own).is_shared p.body ≡ temporaries is_global (resolve_block (scope_of t p) p.body) =
-      temporaries_resolved t gs own ps d last ok.globals h.own few small ps' called p.body in
-      let bodies : resolve_block (wider gs own ps d last ok.globals h.own few small ps') (rewritten (names own) last p.body) ≡ rewritten
+      temporaries_resolved t words ps' called p.body in
+      let bodies : resolve_block (wider words ps') (rewritten (names own) last p.body) ≡ rewritten
       (places (length gs) last (length own)) last (resolve_block (scope_of t p) p.body) =
-      block_resolved t gs own ps d last ok.globals h.own few small ps' called p.body h.body (omega arith) in
+      block_resolved t words ps' called p.body h.body (omega arith) in
       let scoped : resolve_block (scope_of t' (rewritten_procedure last p)) (rewritten (names own) last p.body) ≡ resolve_block
-      (wider gs own ps d last ok.globals h.own few small ps') (rewritten (names own) last p.body) =
+      (wider words ps') (rewritten (names own) last p.body) =
       ap (λ l.
       resolve_block (record { globals = t'.globals; locals = l; procedures = ps' }) (rewritten (names own) last p.body))
       (sym (append_assoc p.formals p.locals (temps_of p))) in
@@ -234,7 +247,7 @@ module _ (t : Tree) (last : ℕ) (ok : IsRewritable t) (small : last < most_roun
   bad_number : number_of (codes "bad__") t'.globals ≡ bad_at (length gs) last
   bad_number =
       let e : global (number_of (codes "bad__") t'.globals) ≡ global (bad_at (length gs) last) =
-      bad_place gs [] ps 0 last ok.globals tt (omega arith) small ps' in
+      bad_place (vocabulary [] 0 tt (omega arith)) ps' in
       cc
 
   pub keeps_tree : IsNarrow last t → KeepsTree (suc last) t

@@ -1,5 +1,6 @@
 -- How many temporaries statements need, one after the other.
-use Rattle.std.proofs.Common.{◌≡◌, ℕ, ◌+◌, ◌<◌, ◌≤◌, Bool, max, List, ◌∷◌, length, get_or, drop, refl, sym, ◌∙◌, ap, arith}
+use Rattle.std.proofs.Common.{◌≡◌, ℕ, ◌+◌, ◌<◌, ◌≤◌, Bool, max, List, ◌∷◌, length, get_or, drop, refl, sym}
+use Rattle.std.proofs.Common.{◌∙◌, ap, arith}
 use Rattle.std.proofs.lemmas.List.{drop_more, drop_all}
 use Rattle.language.specs.Tree as tree
 use Rattle.language.specs.Tree.{skip, assign, assert, assume, goto, leave, call, Mark}
@@ -33,22 +34,24 @@ module _ (shared : tree.Name → Bool) where
   first s l = put (item_of s).mark (item_of s).deed (block_of l)
       ∙ ap (λ d. max (deed_needs shared d) (temporaries shared (block_of l))) (item_deed s)
 
-  pub one_more : {A : Type 0} (l : List (Stmt A)) (i : ℕ) (s : Stmt A) (old own new whole : ℕ) → i < length l → s ≡ get_or l i s
-      → own ≡ deed_needs shared (deed_of s.core) → new ≡ max old own → max old (temporaries shared (block_of (drop i l))) ≡ whole
-      → max new (temporaries shared (block_of (drop (i + 1) l))) ≡ whole
-  one_more {A} l i s old own new whole lt is e f h =
-      let k = temporaries shared (block_of (drop (i + 1) l)) in
-      let here : temporaries shared (block_of (drop i l)) ≡ max (deed_needs shared (deed_of s.core)) k =
-      ap (λ x. temporaries shared (block_of x)) (drop_more l i s lt ∙ ap (λ (y : Stmt A). y ∷ drop (i + 1) l) (sym is))
-      ∙ first s (drop (i + 1) l) in
-      ap (λ n. max n k) (f ∙ ap (max old) e)
-      ∙ (sym (max_assoc old (deed_needs shared (deed_of s.core)) k)
-      ∙ (ap (max old) (sym here) ∙ h))
+  module _ {A : Type 0} (l : List (Stmt A)) (i : ℕ) where
+    pub one_more : (s : Stmt A) (old own new whole : ℕ) → i < length l → s ≡ get_or l i s
+        → own ≡ deed_needs shared (deed_of s.core) → new ≡ max old own
+        → max old (temporaries shared (block_of (drop i l))) ≡ whole
+        → max new (temporaries shared (block_of (drop (i + 1) l))) ≡ whole
+    one_more s old own new whole lt is e f h =
+        let k = temporaries shared (block_of (drop (i + 1) l)) in
+        let here : temporaries shared (block_of (drop i l)) ≡ max (deed_needs shared (deed_of s.core)) k =
+        ap (λ x. temporaries shared (block_of x)) (drop_more l i s lt ∙ ap (λ (y : Stmt A). y ∷ drop (i + 1) l) (sym is))
+        ∙ first s (drop (i + 1) l) in
+        ap (λ n. max n k) (f ∙ ap (max old) e)
+        ∙ (sym (max_assoc old (deed_needs shared (deed_of s.core)) k)
+        ∙ (ap (max old) (sym here) ∙ h))
 
-  pub no_more : {A : Type 0} (l : List (Stmt A)) (i : ℕ) (old whole : ℕ) → length l ≤ i
-      → max old (temporaries shared (block_of (drop i l))) ≡ whole → old ≡ whole
-  no_more l i old whole le h =
-      let none : max old (temporaries shared (block_of (drop i l))) ≡ max old 0 =
-      ap (λ x. max old (temporaries shared (block_of x))) (drop_all i l le) in
-      let back : old ≡ max old 0 = omega arith in
-      back ∙ (sym none ∙ h)
+    pub no_more : (old whole : ℕ) → length l ≤ i
+        → max old (temporaries shared (block_of (drop i l))) ≡ whole → old ≡ whole
+    no_more old whole le h =
+        let none : max old (temporaries shared (block_of (drop i l))) ≡ max old 0 =
+        ap (λ x. max old (temporaries shared (block_of x))) (drop_all i l le) in
+        let back : old ≡ max old 0 = omega arith in
+        back ∙ (sym none ∙ h)

@@ -1,6 +1,6 @@
 -- Where the printed names stand among the rewritten program's globals, formals, locals and temporaries.
-use Rattle.std.proofs.Common.{◌≡◌, ℕ, zero, suc, ◌+◌, ◌*◌, ◌<◌, ◌≤◌, Bool, true, false, cond, List, [], ◌∷◌, ◌++◌, length, map, refl, ◌∙◌}
-use Rattle.std.proofs.Common.{ap, ap₂, arith, length-append}
+use Rattle.std.proofs.Common.{◌≡◌, ℕ, zero, suc, ◌+◌, ◌*◌, ◌<◌, ◌≤◌, Bool, true, false, cond, List, [], ◌∷◌}
+use Rattle.std.proofs.Common.{◌++◌, length, map, refl, ◌∙◌, ap, ap₂, arith, length-append}
 use Rattle.language.specs.Tree.{Name}
 use Rattle.language.specs.Rest.{same_text}
 use Rattle.language.specs.Resolve.{number_of, is_declared}
@@ -21,7 +21,8 @@ number_left t xs ys h = (number_first t xs ys h, declared_first t xs ys h)
 -- a text that has two underscores is no declared name
 pub not_free : (a s : List ℕ) (xs : List Name) → AreFree xs → is_declared (a ++ 95 ∷ 95 ∷ s) xs ≡ false
 not_free a s [] h = refl
-not_free a s (x ∷ xs) h = ap (λ c. cond c true (is_declared (a ++ 95 ∷ 95 ∷ s) xs)) (free_differs x.text a s h.0) ∙ not_free a s xs h.1
+not_free a s (x ∷ xs) h = ap (λ c. cond c true (is_declared (a ++ 95 ∷ 95 ∷ s) xs)) (free_differs x.text a s h.0)
+    ∙ not_free a s xs h.1
 
 -- a declared name is one of the names
 pub free_name : (t : List ℕ) (xs : List Name) → AreFree xs → is_declared t xs ≡ true → has_double t ≡ false
@@ -29,7 +30,8 @@ free_name t [] h d = cc
 free_name t (x ∷ xs) h d = go (same_text t x.text) refl d
     (λ k. free_name t xs h.1 k)
   where
-    go : (c : Bool) → same_text t x.text ≡ c → cond c true (is_declared t xs) ≡ true → (is_declared t xs ≡ true → has_double t ≡ false)
+    go : (c : Bool) → same_text t x.text ≡ c → cond c true (is_declared t xs) ≡ true
+        → (is_declared t xs ≡ true → has_double t ≡ false)
         → has_double t ≡ false
     go true e k rec = ap has_double (same_text_true t x.text e) ∙ h.0
     go false e k rec = rec k
@@ -37,7 +39,8 @@ free_name t (x ∷ xs) h d = go (same_text t x.text) refl d
 -- names written with a round: copies, or guesses
 pub record Spelled (f : ℕ → Name → Name) : Type 0 where
   pub alike : (k : ℕ) (x y : Name) → same_text (f k x).text (f k y).text ≡ same_text x.text y.text
-  pub unlike : (k j : ℕ) (x y : Name) → k < most_rounds → j < most_rounds → (k ≡ j → ⊥) → same_text (f k x).text (f j y).text ≡ false
+  pub unlike : (k j : ℕ) (x y : Name) → k < most_rounds → j < most_rounds → (k ≡ j → ⊥)
+      → same_text (f k x).text (f j y).text ≡ false
 
 module _ (w : Naming Name Name Name Name) (last : ℕ) (f : ℕ → Name → Name) (xs : List Name) where
   abbrev rows : ℕ → ℕ → List Name
@@ -63,7 +66,8 @@ module _ (w : Naming Name Name Name Name) (last : ℕ) (f : ℕ → Name → Nam
       ∙ none_in_rows t (suc j) m (λ i y lt. h i y (omega arith))
 
   in_row : Spelled f → (x : Name) (k : ℕ) (ys : List Name)
-      → (is_declared (f k x).text (map (f k) ys) ≡ is_declared x.text ys) × (number_of (f k x).text (map (f k) ys) ≡ number_of x.text ys)
+      → (is_declared (f k x).text (map (f k) ys) ≡ is_declared x.text ys)
+      × (number_of (f k x).text (map (f k) ys) ≡ number_of x.text ys)
   in_row sp x k [] = (refl, refl)
   in_row sp x k (y ∷ ys) =
       let r = in_row sp x k ys in
@@ -71,7 +75,8 @@ module _ (w : Naming Name Name Name Name) (last : ℕ) (f : ℕ → Name → Nam
 
   -- the name of round j + d stands d rows on
   pub in_rows : Spelled f → (x : Name) → is_declared x.text xs ≡ true → (d j m : ℕ) → d < m → j + m ≤ 4
-      → (is_declared (f (j + d) x).text (rows j m) ≡ true) × (number_of (f (j + d) x).text (rows j m) ≡ d * length xs + number_of x.text xs)
+      → (is_declared (f (j + d) x).text (rows j m) ≡ true)
+      × (number_of (f (j + d) x).text (rows j m) ≡ d * length xs + number_of x.text xs)
   in_rows sp x h d j zero lt all = absurd (omega arith)
   in_rows sp x h zero j (suc m) lt all =
       let e : j + zero ≡ j = omega arith in

@@ -1,12 +1,12 @@
 -- The printed names stand at their places.
-use Rattle.std.proofs.Common.{◌≡◌, ℕ, zero, suc, ◌+◌, ◌*◌, ◌<◌, ◌≤◌, true, false, cond, List, [], ◌∷◌, ◌++◌, length, map, codes, refl, sym}
-use Rattle.std.proofs.Common.{◌∙◌, ap, ap₂, arith, append_assoc, length-append}
+use Rattle.std.proofs.Common.{◌≡◌, ℕ, zero, suc, ◌+◌, ◌*◌, ◌<◌, ◌≤◌, true, false, cond, List, [], ◌∷◌}
+use Rattle.std.proofs.Common.{◌++◌, length, map, codes, refl, sym, ◌∙◌, ap, ap₂, arith, append_assoc, length-append}
 use Rattle.std.specs.Prelude.{decimal}
 use Rattle.language.specs.Tree.{Name}
 use Rattle.language.specs.Value.{global, local}
 use Rattle.language.specs.Rest.{same_text}
 use Rattle.language.specs.Resolve.{number_of, is_declared, Scope, place_of}
-use Rattle.round_rewrite.specs.Table.{Naming, numbers, copied, globals}
+use Rattle.round_rewrite.specs.Table.{numbers, copied, globals}
 use Rattle.round_rewrite.specs.Places.{copy_at, save_at, bits_at, high_at, low_at, stop_at, bad_at}
 use Rattle.round_rewrite.specs.Names.{named, copy_name, save_name, drawn_name, names}
 use Rattle.scopes.specs.Rewritable.{has_double, AreFree}
@@ -32,7 +32,8 @@ saves_spelled = record {
 no_temporary : (t : List ℕ) (j d : ℕ) → ((i : ℕ) → same_text t (drawn_name i).text ≡ false)
     → is_declared t (map drawn_name (numbers j d)) ≡ false
 no_temporary t j zero h = refl
-no_temporary t j (suc d) h = ap (λ c. cond c true (is_declared t (map drawn_name (numbers (suc j) d)))) (h j) ∙ no_temporary t (suc j) d h
+no_temporary t j (suc d) h = ap (λ c. cond c true (is_declared t (map drawn_name (numbers (suc j) d)))) (h j)
+    ∙ no_temporary t (suc j) d h
 
 the_temporary : (e j d : ℕ) → e < d → j + d ≤ most_places →
     (is_declared (drawn_name (j + e)).text (map drawn_name (numbers j d)) ≡ true) ×
@@ -60,10 +61,20 @@ pub length-numbers : (j d : ℕ) → length (numbers j d) ≡ d
 length-numbers j zero = refl
 length-numbers j (suc d) = ap suc (length-numbers (suc j) d)
 
-module _ (gs own ps : List Name) (d last : ℕ) (gs_free : AreFree gs) (own_free : AreFree own) (few : d ≤ most_places)
-    (small : last < most_rounds) where
-  w : Naming Name Name Name Name
-  w = names []
+-- the names of a program and of one of its procedures, with how many temporaries that needs, and the last round
+pub record Vocabulary : Type 0 where
+  pub gs : List Name
+  pub own : List Name
+  pub ps : List Name
+  pub d : ℕ
+  pub last : ℕ
+  pub gs_free : AreFree gs
+  pub own_free : AreFree own
+  pub few : d ≤ most_places
+  pub small : last < most_rounds
+
+module _ (vocabulary : Vocabulary) where
+  open vocabulary use {gs, own, ps, d, last, gs_free, own_free, few, small}
 
   abbrev temps : List Name
   temps = map drawn_name (numbers 0 d)
@@ -96,7 +107,8 @@ module _ (gs own ps : List Name) (d last : ℕ) (gs_free : AreFree gs) (own_free
   -- a name with two underscores that is no temporary is no formal, local or temporary
   outside : (a s : List ℕ) → ((i : ℕ) → same_text (a ++ 95 ∷ 95 ∷ s) (drawn_name i).text ≡ false)
       → is_declared (a ++ 95 ∷ 95 ∷ s) (own ++ temps) ≡ false
-  outside a s h = (number_right (a ++ 95 ∷ 95 ∷ s) own temps (not_free a s own own_free)).1 ∙ no_temporary (a ++ 95 ∷ 95 ∷ s) 0 d h
+  outside a s h = (number_right (a ++ 95 ∷ 95 ∷ s) own temps (not_free a s own own_free)).1
+      ∙ no_temporary (a ++ 95 ∷ 95 ∷ s) 0 d h
 
   as_global : (ps' : List Name) (x : Name) (i j : ℕ) → is_declared x.text (own ++ temps) ≡ false
       → number_of x.text (globals (names []) last gs) ≡ i → i ≡ j → place_of (wider ps') x ≡ global j
@@ -106,9 +118,11 @@ module _ (gs own ps : List Name) (d last : ℕ) (gs_free : AreFree gs) (own_free
 
   digit_not_t : (k : ℕ) → k < most_rounds → (t r : List ℕ) (x : List ℕ) → has_double x ≡ false →
       x ++ 95 ∷ 95 ∷ decimal (suc k) ≡ 116 ∷ 109 ∷ 112 ∷ 95 ∷ 95 ∷ 116 ∷ r → ⊥
-  digit_not_t k h t r x free e = no_drawn x (49 + k) [] r free (λ z. omega arith) (ap (λ y. x ++ 95 ∷ 95 ∷ y) (sym (digit_is k h)) ∙ e)
+  digit_not_t k h t r x free e =
+      no_drawn x (49 + k) [] r free (λ z. omega arith) (ap (λ y. x ++ 95 ∷ 95 ∷ y) (sym (digit_is k h)) ∙ e)
 
-  pub copy_place : (ps' : List Name) (x : Name) (k : ℕ) → k ≤ last → is_declared x.text own ≡ false → is_declared x.text gs ≡ true
+  pub copy_place : (ps' : List Name) (x : Name) (k : ℕ) → k ≤ last → is_declared x.text own ≡ false
+      → is_declared x.text gs ≡ true
       → place_of (wider ps') (copy_name k x) ≡ copy_at (length gs) k (place_of scope x)
   copy_place ps' x k le hidden there =
       let free : has_double x.text ≡ false = free_name x.text gs gs_free there in
@@ -126,7 +140,8 @@ module _ (gs own ps : List Name) (d last : ℕ) (gs_free : AreFree gs) (own_free
       as_global ps' (copy_name k x) (number_of t A) (k * length gs + number_of x.text gs) out (l3.0 ∙ (l2.0 ∙ l1.0)) atA
       ∙ ap (copy_at (length gs) k) (sym (ap (λ c. cond c (local (number_of x.text own)) (global (number_of x.text gs))) hidden))
 
-  pub save_place : (ps' : List Name) (x : Name) (k : ℕ) → k < last → is_declared x.text own ≡ false → is_declared x.text gs ≡ true
+  pub save_place : (ps' : List Name) (x : Name) (k : ℕ) → k < last → is_declared x.text own ≡ false
+      → is_declared x.text gs ≡ true
       → place_of (wider ps') (save_name (suc k) x) ≡ save_at (length gs) last (suc k) (place_of scope x)
   save_place ps' x k lt hidden there =
       let free : has_double x.text ≡ false = free_name x.text gs gs_free there in
@@ -147,7 +162,8 @@ module _ (gs own ps : List Name) (d last : ℕ) (gs_free : AreFree gs) (own_free
       let l3 = number_left t (A ++ B ++ bit_names) last_names l2.1 in
       as_global ps' (save_name (suc k) x) (length A + number_of t B) (suc last * length gs + (k * length gs + number_of x.text gs)) out
       (l3.0 ∙ (l2.0 ∙ l1.0)) (ap₂ (λ p q. p + q) length-A atB)
-      ∙ ap (save_at (length gs) last (suc k)) (sym (ap (λ c. cond c (local (number_of x.text own)) (global (number_of x.text gs))) hidden))
+      ∙ ap (save_at (length gs) last (suc k))
+      (sym (ap (λ c. cond c (local (number_of x.text own)) (global (number_of x.text gs))) hidden))
 
   pub kept_place : (ps' : List Name) (x : Name) → is_declared x.text own ≡ true → place_of (wider ps') x ≡ place_of scope x
   kept_place ps' x here =

@@ -1,6 +1,6 @@
 -- The machine whose rests carry no labels and no numbers, and that it makes the same steps.
-use Rattle.std.proofs.Common.{◌≡◌, ℕ, zero, suc, ◌+◌, Bool, true, false, cond, List, [], ◌∷◌, map, Option, Some, None, option_map}
-use Rattle.std.proofs.Common.{slice_get, refl, sym, ◌∙◌, ap, ap₂}
+use Rattle.std.proofs.Common.{◌≡◌, ℕ, zero, suc, ◌+◌, Bool, true, false, cond, List, [], ◌∷◌, map, Option, Some, None}
+use Rattle.std.proofs.Common.{option_map, slice_get, refl, sym, ◌∙◌, ap, ap₂}
 use mathlib.Core.Path.{fun_ext}
 use Rattle.language.specs.Tree.{skip, assign, assert, assume, goto, leave, call, Mark, done, one, choose, loop, RightSide}
 use Rattle.language.specs.Value.{Place, values_of, IsValue, AreValues, written_globals, written_locals}
@@ -78,7 +78,8 @@ at_rest : (o : Option Code) (Q : Code → Type 0) → AtRest o (λ rest. Q (bare
 at_rest None Q = refl
 at_rest (Some rest) Q = refl
 
-at_routine : (o : Option Routine) (Q : Routine → Type 0) → AtRoutine o (λ r. Q (bare_routine r)) ≡ AtRoutine (option_map bare_routine o) Q
+at_routine : (o : Option Routine) (Q : Routine → Type 0)
+    → AtRoutine o (λ r. Q (bare_routine r)) ≡ AtRoutine (option_map bare_routine o) Q
 at_routine None Q = refl
 at_routine (Some r) Q = refl
 
@@ -124,15 +125,16 @@ pub map-first : {A B : Type 0} (f : A → B) (x y : Option A)
 map-first f None y = refl
 map-first f (Some a) y = refl
 
--- two searches that agree where the label stands and behind it
-pub found : {A B C : Type 0} (f : A → C) (g : B → C) (c : Bool) (x : A) (y : B) (o : Option A) (u : Option B) → f x ≡ g y
-    → option_map f o ≡ option_map g u → option_map f (cond c (Some x) o) ≡ option_map g (cond c (Some y) u)
-found f g true x y o u e h = ap Some e
-found f g false x y o u e h = h
+module _ {A B C : Type 0} (f : A → C) (g : B → C) where
+  -- two searches that agree where the label stands and behind it
+  pub found : (c : Bool) (x : A) (y : B) (o : Option A) (u : Option B) → f x ≡ g y
+      → option_map f o ≡ option_map g u → option_map f (cond c (Some x) o) ≡ option_map g (cond c (Some y) u)
+  found true x y o u e h = ap Some e
+  found false x y o u e h = h
 
-pub firsts : {A B C : Type 0} (f : A → C) (g : B → C) (o o' : Option A) (u u' : Option B) → option_map f o ≡ option_map g u
-    → option_map f o' ≡ option_map g u' → option_map f (first_of_two o o') ≡ option_map g (first_of_two u u')
-firsts f g o o' u u' e e' = map-first f o o' ∙ (ap₂ first_of_two e e' ∙ sym (map-first g u u'))
+  pub firsts : (o o' : Option A) (u u' : Option B) → option_map f o ≡ option_map g u
+      → option_map f o' ≡ option_map g u' → option_map f (first_of_two o o') ≡ option_map g (first_of_two u u')
+  firsts o o' u u' e e' = map-first f o o' ∙ (ap₂ first_of_two e e' ∙ sym (map-first g u u'))
 
 tails-numbered : (n : ℕ) (t k k' : Code) → bare k ≡ bare k' → bare (join (numbered n t) k) ≡ bare (join t k')
 tails-numbered n t k k' e = bare-join (numbered n t) k ∙ (ap₂ join (bare-numbered n t) e ∙ sym (bare-join t k'))

@@ -1,6 +1,6 @@
 -- What the prologue, the test of stop, and frames that leave do, both ways.
-use Rattle.std.proofs.Common.{◌≡◌, ℕ, zero, suc, ◌<◌, ◌≤◌, Bool, true, false, not, cond}
-use Rattle.std.proofs.Common.{List, [], ◌∷◌, refl, sym, ◌∙◌, ap, subst, ap₂, arith, inl, inr}
+use Rattle.std.proofs.Common.{◌≡◌, ℕ, zero, suc, ◌<◌, ◌≤◌, Bool, true, false, not, cond, List, [], ◌∷◌, refl, sym}
+use Rattle.std.proofs.Common.{◌∙◌, ap, subst, ap₂, arith, inl, inr}
 use Rattle.std.proofs.lemmas.Bool.{cases_eq}
 use Rattle.language.specs.Tree.{const, var, negation, two, xor, RightSide, any, value, skip, assign, leave, done, one, choose}
 use Rattle.language.specs.Value.{Place, global, bit, with_bit, value_of, IsValue, AreValues, written_globals, written_locals}
@@ -8,7 +8,7 @@ use Rattle.language.specs.Rest.{Code, join}
 use Rattle.language.specs.Step.{Frame, frame, State, state}
 use Rattle.round_rewrite.specs.Table.{plain, in_round, stop_test, rise, prologue}
 use Rattle.round_rewrite.specs.Places.{places, high_at, low_at, stop_at}
-use Rattle.round_rewrite.proofs.Laid.{high, low, bits_of, lay, Shape, bits_bit, bits_with}
+use Rattle.round_rewrite.proofs.Laid.{high, low, bits_of, lay, Shape, Moment, bits_bit, bits_with}
 use Rattle.round_rewrite.proofs.Translate.{same, same_refl, same_false, at_is}
 use Rattle.round_rewrite.proofs.Plain.{World, PlainAfter}
 use Rattle.round_rewrite.proofs.Leading.{Leads, Never, unstep, Later, later, later_now}
@@ -30,10 +30,26 @@ pub not_true : (x : Bool) → true ≡ not x → x ≡ false
 not_true true e = cc
 not_true false e = refl
 
-module _ (w : World) (n last own : ℕ) (C S : List (List Bool)) (shape : Shape n last C S) (small : last < most_rounds)
-    (c : ℕ) (L : List Bool) (fs : List Frame) (Q : State → Type 0) where
+-- a frame of a rewritten procedure, and what stays the same while it stands at a prologue: the rows and the saved
+-- guesses, its
+-- procedure, how many places that has in the source, the values of all its places, and the frames below
+pub record Site (n last : ℕ) : Type 0 where
+  pub C : List (List Bool)
+  pub S : List (List Bool)
+  pub shape : Shape n last C S
+  pub c : ℕ
+  pub own : ℕ
+  pub L : List Bool
+  pub fs : List Frame
+
+module _ (w : World) {n last : ℕ} (small : last < most_rounds) (site : Site n last) (Q : State → Type 0) where
+  open site use {C, S, shape, c, own, L, fs}
+
   abbrev pub now : ℕ → Bool → Bool → List Bool
   now q s b = lay C S (bits_of q s b)
+
+  abbrev in_round_of : (q : ℕ) → q ≤ last → Bool → Moment n last
+  in_round_of q within b = record { C = C; S = S; q = q; b = b; shape = shape; within = within }
 
   abbrev pub on : List Bool → Code → State
   on X t = state X (frame c L t ∷ fs)
@@ -47,7 +63,8 @@ module _ (w : World) (n last own : ℕ) (C S : List (List Bool)) (shape : Shape 
   stop_leads q false b t (m, h) = (suc (suc m), (false, sym (stop_is q false b), h))
 
   stop_go : Never Q fs → (N : ℕ) (X : List Bool) (v s : Bool) (t : Code) → v ≡ s
-      → PlainAfter w N (on X (cond v (join (one plain leave done) t) (join (one plain skip done) t))) Q → Later w N (on X (cond s done t)) Q
+      → PlainAfter w N (on X (cond v (join (one plain leave done) t) (join (one plain skip done) t))) Q
+      → Later w N (on X (cond s done t)) Q
   stop_go never N X true s t e h =
       let (m, em, k) = unstep w Q N _ _ fs never h in
       later_now w Q (on X (cond s done t)) N m em (subst (λ z. PlainAfter w m (on X (cond z done t)) Q) e k)
@@ -55,7 +72,8 @@ module _ (w : World) (n last own : ℕ) (C S : List (List Bool)) (shape : Shape 
       let (m, em, k) = unstep w Q N _ _ fs never h in
       later_now w Q (on X (cond s done t)) N m em (subst (λ z. PlainAfter w m (on X (cond z done t)) Q) e k)
 
-  pub stop_back : Never Q fs → (N q : ℕ) (s b : Bool) (t : Code) → PlainAfter w N (on (now q s b) (stop_test (places n last own) last t)) Q
+  pub stop_back : Never Q fs → (N q : ℕ) (s b : Bool) (t : Code)
+      → PlainAfter w N (on (now q s b) (stop_test (places n last own) last t)) Q
       → Later w N (on (now q s b) (cond s done t)) Q
   stop_back never N q s b t h =
       let (m, e, k) = unstep w Q N _ _ fs never h in
@@ -89,7 +107,7 @@ module _ (w : World) (n last own : ℕ) (C S : List (List Bool)) (shape : Shape 
   prologue_rises q b t lt (m, h) =
       let X : List Bool = now q false b in
       let free : true ≡ not (value_of X L (in_round (places n last own) last last)) =
-      sym (ap not (at_is n last own C S q false b L shape small (omega arith) last (omega arith) ∙ same_false last q (omega arith))) in (
+      sym (ap not (at_is small (in_round_of q (omega arith) b) own L last (omega arith) ∙ same_false last q (omega arith))) in (
         suc (suc (suc m)),
         (
           true,
@@ -133,7 +151,8 @@ module _ (w : World) (n last own : ℕ) (C S : List (List Bool)) (shape : Shape 
     stopped : Later w N (on (now q true b) done) Q → Exits N q b t
 
   raised_back : (N q : ℕ) (b : Bool) (t : Code) (X : List Bool) (r0 r1 : RightSide Place) (x0 x1 : Place) (vs : List Bool)
-      → AreValues X L (r0 ∷ r1 ∷ []) vs → (x : Bool) × (y : Bool) × (vs ≡ x ∷ y ∷ []) × IsValue X L r0 x × IsValue X L r1 y
+      → AreValues X L (r0 ∷ r1 ∷ []) vs
+      → (x : Bool) × (y : Bool) × (vs ≡ x ∷ y ∷ []) × IsValue X L r0 x × IsValue X L r1 y
   raised_back N q b t X r0 r1 x0 x1 [] a = absurd a
   raised_back N q b t X r0 r1 x0 x1 (x ∷ []) a = absurd a.1
   raised_back N q b t X r0 r1 x0 x1 (x ∷ y ∷ []) a = (x, y, refl, a.0, a.1.0)
@@ -191,7 +210,7 @@ module _ (w : World) (n last own : ℕ) (C S : List (List Bool)) (shape : Shape 
       (value (two xor (var (global (high_at n last))) (var (global (low_at n last)))))
       (value (negation (var (global (low_at n last))))) (global 0) (global 0) k1.0 k1.1 in
       let free : same last q ≡ false =
-      sym (at_is n last own C S q false b L shape small within last (omega arith)) ∙
+      sym (at_is small (in_round_of q within b) own L last (omega arith)) ∙
       not_true (value_of X L (in_round (places n last own) last last)) k.0 in
       let lt : q < last = elim (cases_eq q last) [
         | inl eq ↦ absurd (let bad : true ≡ false = sym (ap (same last) eq ∙ same_refl last) ∙ free in cc)

@@ -1,6 +1,6 @@
 -- What is pushed for one number after the other.
-use Rattle.std.proofs.Common.{◌≡◌, ℕ, zero, suc, ◌+◌, ◌≤◌, List, [], ◌∷◌, ◌++◌, map, sym, ◌∙◌, ap, ap₂, arith, append_assoc}
-use Rattle.std.proofs.Common.{append-nil, drop, get_or, length, ◌<◌}
+use Rattle.std.proofs.Common.{◌≡◌, ℕ, zero, suc, ◌+◌, ◌≤◌, List, [], ◌∷◌, ◌++◌, map, sym, ◌∙◌, ap, ap₂}
+use Rattle.std.proofs.Common.{arith, append_assoc, append-nil, drop, get_or, length, ◌<◌}
 use Rattle.std.proofs.lemmas.List.{map-append, drop_more, drop_all}
 use Rattle.language.specs.Sequential.{numbers}
 
@@ -15,7 +15,8 @@ numbers_next start k = ap (numbers start) (let e : k + 1 ≡ suc k = omega arith
 
 -- one more is pushed
 pub pushed : {A B : Type 0} (view : A → B) (f : ℕ → B) (old : List B) (items : List A) (item : A) (k : ℕ)
-    → map view items ≡ old ++ map f (numbers 0 k) → view item ≡ f k → map view (items ++ item ∷ []) ≡ old ++ map f (numbers 0 (k + 1))
+    → map view items ≡ old ++ map f (numbers 0 k) → view item ≡ f k
+    → map view (items ++ item ∷ []) ≡ old ++ map f (numbers 0 (k + 1))
 pushed view f old items item k e i =
     map-append view items (item ∷ [])
     ∙ (ap₂ (λ xs x. xs ++ x ∷ []) e i
@@ -25,40 +26,44 @@ pushed view f old items item k e i =
     ∙ ap (numbers 0) (let s : suc k ≡ k + 1 = omega arith in s))))))
 
 -- all rounds are done
-pub over_rounds : {B : Type 0} (f : ℕ → B) (old now : List B) (k n last : ℕ) → now ≡ old ++ map f (numbers 0 k)
-    → n ≤ k → k ≤ n → n ≡ suc last → now ≡ old ++ map f (numbers 0 (suc last))
+pub over_rounds : {B : Type 0} (f : ℕ → B) (old now : List B) (k n last : ℕ) → now ≡ old ++ map f (numbers 0 k) → n ≤ k
+    → k ≤ n
+    → n ≡ suc last → now ≡ old ++ map f (numbers 0 (suc last))
 over_rounds f old now k n last e a b c = e ∙ ap (λ m. old ++ map f (numbers 0 m)) (let d : k ≡ suc last = omega (arith, a, b, c) in d)
 
--- one more of a list is put through a function and pushed
-pub one_through : {A B C D : Type 0} (view : A → C) (f : D → C) (seen : B → D) (items : List A) (item : A) (ss : List B) (i : ℕ) (s : B)
-    (whole : List C) → i < length ss → s ≡ get_or ss i s → view item ≡ f (seen s) → map view items ++ map f (map seen (drop i ss)) ≡ whole
-    → map view (items ++ item ∷ []) ++ map f (map seen (drop (i + 1) ss)) ≡ whole
-one_through view f seen items item ss i s whole lt is e so =
-    let others = map f (map seen (drop (i + 1) ss)) in
-    ap (λ xs. xs ++ others) (map-append view items (item ∷ []))
-    ∙ (append_assoc (map view items) (view item ∷ []) others
-    ∙ (ap (λ x. map view items ++ x ∷ others) e
-    ∙ (ap (λ l. map view items ++ map f (map seen l)) (sym (drop_more ss i s lt ∙ ap (λ y. y ∷ drop (i + 1) ss) (sym is))) ∙ so)))
+module _ {A B C D : Type 0} (view : A → C) (f : D → C) (seen : B → D) where
+  -- one more of a list is put through a function and pushed
+  pub one_through : (items : List A) (item : A) (ss : List B) (i : ℕ) (s : B) (whole : List C) → i < length ss → s ≡ get_or ss i s
+      → view item ≡ f (seen s) → map view items ++ map f (map seen (drop i ss)) ≡ whole
+      → map view (items ++ item ∷ []) ++ map f (map seen (drop (i + 1) ss)) ≡ whole
+  one_through items item ss i s whole lt is e so =
+      let others = map f (map seen (drop (i + 1) ss)) in
+      ap (λ xs. xs ++ others) (map-append view items (item ∷ []))
+      ∙ (append_assoc (map view items) (view item ∷ []) others
+      ∙ (ap (λ x. map view items ++ x ∷ others) e
+      ∙ (ap (λ l. map view items ++ map f (map seen l)) (sym (drop_more ss i s lt ∙ ap (λ y. y ∷ drop (i + 1) ss) (sym is)))
+      ∙ so)))
 
--- one more of a list is pushed as it is seen
-pub one_seen : {A B C : Type 0} (view : A → C) (seen : B → C) (items : List A) (item : A) (ss : List B) (i : ℕ) (s : B)
-    (whole : List C) → i < length ss → s ≡ get_or ss i s → view item ≡ seen s → map view items ++ map seen (drop i ss) ≡ whole
-    → map view (items ++ item ∷ []) ++ map seen (drop (i + 1) ss) ≡ whole
-one_seen view seen items item ss i s whole lt is e so =
-    let others = map seen (drop (i + 1) ss) in
-    ap (λ xs. xs ++ others) (map-append view items (item ∷ []))
-    ∙ (append_assoc (map view items) (view item ∷ []) others
-    ∙ (ap (λ x. map view items ++ x ∷ others) e
-    ∙ (ap (λ l. map view items ++ map seen l) (sym (drop_more ss i s lt ∙ ap (λ y. y ∷ drop (i + 1) ss) (sym is))) ∙ so)))
+  -- all of a list are put through a function and pushed
+  pub all_through : (items : List A) (ss : List B) (i : ℕ) (whole : List C) → length ss ≤ i
+      → map view items ++ map f (map seen (drop i ss)) ≡ whole → map view items ≡ whole
+  all_through items ss i whole le so =
+      sym (append-nil (map view items)) ∙ (ap (λ l. map view items ++ map f (map seen l)) (sym (drop_all i ss le)) ∙ so)
 
--- all of a list are pushed
-pub all_seen : {A B C : Type 0} (view : A → C) (seen : B → C) (items : List A) (ss : List B) (i : ℕ) (whole : List C) → length ss
-    ≤ i → map view items ++ map seen (drop i ss) ≡ whole → map view items ≡ whole
-all_seen view seen items ss i whole le so =
-    sym (append-nil (map view items)) ∙ (ap (λ l. map view items ++ map seen l) (sym (drop_all i ss le)) ∙ so)
+module _ {A B C : Type 0} (view : A → C) (seen : B → C) where
+  -- one more of a list is pushed as it is seen
+  pub one_seen : (items : List A) (item : A) (ss : List B) (i : ℕ) (s : B) (whole : List C) → i < length ss → s ≡ get_or ss i s
+      → view item ≡ seen s → map view items ++ map seen (drop i ss) ≡ whole
+      → map view (items ++ item ∷ []) ++ map seen (drop (i + 1) ss) ≡ whole
+  one_seen items item ss i s whole lt is e so =
+      let others = map seen (drop (i + 1) ss) in
+      ap (λ xs. xs ++ others) (map-append view items (item ∷ []))
+      ∙ (append_assoc (map view items) (view item ∷ []) others
+      ∙ (ap (λ x. map view items ++ x ∷ others) e
+      ∙ (ap (λ l. map view items ++ map seen l) (sym (drop_more ss i s lt ∙ ap (λ y. y ∷ drop (i + 1) ss) (sym is))) ∙ so)))
 
--- all of a list are put through a function and pushed
-pub all_through : {A B C D : Type 0} (view : A → C) (f : D → C) (seen : B → D) (items : List A) (ss : List B) (i : ℕ)
-    (whole : List C) → length ss ≤ i → map view items ++ map f (map seen (drop i ss)) ≡ whole → map view items ≡ whole
-all_through view f seen items ss i whole le so =
-    sym (append-nil (map view items)) ∙ (ap (λ l. map view items ++ map f (map seen l)) (sym (drop_all i ss le)) ∙ so)
+  -- all of a list are pushed
+  pub all_seen : (items : List A) (ss : List B) (i : ℕ) (whole : List C) → length ss ≤ i
+      → map view items ++ map seen (drop i ss) ≡ whole → map view items ≡ whole
+  all_seen items ss i whole le so =
+      sym (append-nil (map view items)) ∙ (ap (λ l. map view items ++ map seen l) (sym (drop_all i ss le)) ∙ so)

@@ -1,6 +1,6 @@
 -- The rewritten tree is one of the grammar where the source's tree is.
-use Rattle.std.proofs.Common.{◌≡◌, ℕ, zero, suc, ◌+◌, ◌<◌, ◌≤◌, true, false, cond, not, List, [], ◌∷◌, ◌++◌, length, map, codes, refl, sym}
-use Rattle.std.proofs.Common.{◌∙◌, subst, arith}
+use Rattle.std.proofs.Common.{◌≡◌, ℕ, zero, suc, ◌+◌, ◌<◌, ◌≤◌, true, false, cond, not, List, [], ◌∷◌, ◌++◌}
+use Rattle.std.proofs.Common.{length, map, codes, refl, sym, ◌∙◌, subst, arith}
 use Rattle.std.proofs.lemmas.List.{length-map}
 use Rattle.std.specs.List.{AllByRecursion}
 use Rattle.language.specs.Tree.{Name, Expression, const, var, negation, two, xor, RightSide, any, value, Simple, skip, assign, assert}
@@ -135,7 +135,8 @@ module _ (own : List Name) (last d : ℕ) (small : last < most_rounds) (few : d 
     (
       tt,
       assign_in_grammar (named (codes "rh__") ∷ named (codes "rl__") ∷ [])
-          (value (two xor (var (named (codes "rh__"))) (var (named (codes "rl__")))) ∷ value (negation (var (named (codes "rl__")))) ∷ [])
+          (value (two xor (var (named (codes "rh__"))) (var (named (codes "rl__")))) ∷ value (negation (var (named (codes "rl__"))))
+          ∷ [])
           (omega arith) refl (high_id, (low_id, tt)) (high_id, (low_id, (low_id, tt))),
       tt,
     ),
@@ -159,7 +160,8 @@ module _ (own : List Name) (last d : ℕ) (small : last < most_rounds) (few : d 
     ),
   )
 
-  drawing_in_grammar : (n : ℕ) (k : Block Name Name Name) → n ≤ d → BlockInGrammar k → BlockInGrammar (drawing (names own) last n k)
+  drawing_in_grammar : (n : ℕ) (k : Block Name Name Name) → n ≤ d → BlockInGrammar k
+      → BlockInGrammar (drawing (names own) last n k)
   drawing_in_grammar zero k le h = h
   drawing_in_grammar (suc n) k le h = (
     tt,
@@ -181,7 +183,8 @@ module _ (own : List Name) (last d : ℕ) (small : last < most_rounds) (few : d 
       subst (λ c. 0 < length (cond (not c) (here ++ targets (names own) last xs rs) (x ∷ targets (names own) last xs rs))) (sym e)
       (omega arith))
 
-  some_targets : (xs : List Name) (rs : List (RightSide Name)) → 0 < length xs → 0 < length rs → 0 < length (targets (names own) last xs rs)
+  some_targets : (xs : List Name) (rs : List (RightSide Name)) → 0 < length xs → 0 < length rs
+      → 0 < length (targets (names own) last xs rs)
   some_targets [] rs h g = absurd (omega arith)
   some_targets (x ∷ xs) [] h g = absurd (omega arith)
   some_targets (x ∷ xs) (r ∷ rs) h g = some_target x xs r rs
@@ -334,7 +337,8 @@ module _ (last : ℕ) (small : last < most_rounds) where
   starts_in_grammar (line ∷ lines) b s g = (
     tt,
     assign_in_grammar (named (codes "rh__") ∷ named (codes "rl__") ∷ named (codes "stop__") ∷ [])
-        (value (const false) ∷ value (const false) ∷ value (const false) ∷ []) (omega arith) refl (high_id, (low_id, (stop_id, tt))) tt,
+        (value (const false) ∷ value (const false) ∷ value (const false) ∷ []) (omega arith) refl
+        (high_id, (low_id, (stop_id, tt))) tt,
     (tt, (s.0, tt), starts_in_grammar lines b s.1 g),
   )
 
@@ -355,7 +359,8 @@ module _ (last : ℕ) (small : last < most_rounds) where
   some_guess [] k b h = h
   some_guess (x ∷ xs) k b h = tt
 
-  some_guesses : (xs : List Name) (k m : ℕ) (b : Block Name Name Name) → IsSome b → IsSome (guesses (names []) last xs (numbers k m) b)
+  some_guesses : (xs : List Name) (k m : ℕ) (b : Block Name Name Name) → IsSome b
+      → IsSome (guesses (names []) last xs (numbers k m) b)
   some_guesses xs k zero b h = h
   some_guesses xs k (suc m) b h = some_guess xs k (guesses (names []) last xs (numbers (suc k) m) b) (some_guesses xs (suc k) m b h)
 
@@ -380,7 +385,8 @@ module _ (last : ℕ) (small : last < most_rounds) where
       }
 
 -- the rewritten tree is one of the grammar
-pub rewritten_in_grammar : (t : Tree) (last : ℕ) → last < most_rounds → IsNarrow last t → InGrammar t → InGrammar (rewritten_tree last t)
+pub rewritten_in_grammar : (t : Tree) (last : ℕ) → last < most_rounds → IsNarrow last t → InGrammar t
+    → InGrammar (rewritten_tree last t)
 rewritten_in_grammar t last small narrow h =
     let n : ℕ = global_count (length t.globals) last in
     let few : AreFew t.procedures = few_needs n t.procedures (narrow_procedures t last n refl narrow) in

@@ -1,6 +1,6 @@
 -- The rewritten block by names, resolved, is the rewritten block by places of the resolved block.
-use Rattle.std.proofs.Common.{◌≡◌, ℕ, zero, suc, ◌+◌, ◌/◌, ◌%◌, ◌<◌, ◌≤◌, max, Bool, true, false, cond, not, List, [], ◌∷◌, ◌++◌, length}
-use Rattle.std.proofs.Common.{map, codes, refl, sym, ◌∙◌, ap, subst, ap₂, arith}
+use Rattle.std.proofs.Common.{◌≡◌, ℕ, zero, suc, ◌+◌, ◌/◌, ◌%◌, ◌<◌, ◌≤◌, max, Bool, true, false, cond, not}
+use Rattle.std.proofs.Common.{List, [], ◌∷◌, ◌++◌, length, map, codes, refl, sym, ◌∙◌, ap, subst, ap₂, arith}
 use Rattle.std.proofs.lemmas.List.{map-append}
 use Rattle.language.specs.Tree.{Name, Expression, const, var, negation, two, or, and, xor, RightSide, any, value, Simple, skip, assign}
 use Rattle.language.specs.Tree.{assert, assume, goto, leave, call, Mark, Block, done, one, choose, loop, Tree}
@@ -12,12 +12,11 @@ use Rattle.round_rewrite.specs.Table.{Naming, numbers, plain, literal, in_round,
 use Rattle.round_rewrite.specs.Table.{sides, draws, temporaries, drawing, stop_test, prologue, statement, rewritten}
 use Rattle.round_rewrite.specs.Places.{places, is_global, copy_at, high_at, low_at, stop_at, bad_at}
 use Rattle.round_rewrite.specs.Names.{named, copy_name, drawn_name, names}
-use Rattle.scopes.specs.Rewritable.{AreFree, Declared, AllDeclared, ExpressionDeclared, ExpressionsDeclared, SideDeclared, SidesDeclared}
+use Rattle.scopes.specs.Rewritable.{Declared, AllDeclared, ExpressionDeclared, ExpressionsDeclared, SideDeclared, SidesDeclared}
 use Rattle.scopes.specs.Rewritable.{SimpleDeclared, BlockDeclared}
-use Rattle.round_rewrite.proofs.Placing.{scope, wider, copy_place, kept_place, drawn_place, high_place, low_bit_place, stop_place}
+use Rattle.round_rewrite.proofs.Placing.{Vocabulary, scope, wider, copy_place, kept_place, drawn_place, high_place, low_bit_place}
+use Rattle.round_rewrite.proofs.Placing.{stop_place}
 use Rattle.round_rewrite.proofs.Placing.{bad_place}
-use Rattle.resolved.specs.Limits.{most_places}
-use Rattle.round_rewrite.specs.Limits.{most_rounds}
 
 -- a test made once
 pub by_test : {A : Type 0} (c : Bool) → (c ≡ true → A) → (c ≡ false → A) → A
@@ -46,14 +45,16 @@ literal_resolved : (s : Scope) (m : ℕ) (x : Name) → resolve_expression s (li
 literal_resolved s zero x = refl
 literal_resolved s (suc m) x = refl
 
-module _ (t : Tree) (gs own ps : List Name) (d last : ℕ) (gs_free : AreFree gs) (own_free : AreFree own)
-    (few : d ≤ most_places) (small : last < most_rounds) (ps' : List Name)
-    (called : (q : Name) → is_declared q.text ps ≡ true → number_of q.text ps' ≡ suc (number_of q.text ps)) where
+module _ (t : Tree) (vocabulary : Vocabulary) (ps' : List Name)
+    (called : (q : Name) → is_declared q.text vocabulary.ps ≡ true
+    → number_of q.text ps' ≡ suc (number_of q.text vocabulary.ps)) where
+  open vocabulary use {gs, own, ps, d, last, gs_free, own_free, few, small}
+
   abbrev pub s : Scope
-  s = scope gs own ps d last gs_free own_free few small
+  s = scope vocabulary
 
   abbrev pub s' : Scope
-  s' = wider gs own ps d last gs_free own_free few small ps'
+  s' = wider vocabulary ps'
 
   abbrev pub N : Naming Name Name Name Name
   N = names own
@@ -62,16 +63,16 @@ module _ (t : Tree) (gs own ps : List Name) (d last : ℕ) (gs_free : AreFree gs
   P = places (length gs) last (length own)
 
   pub lo : place_of s' (named (codes "rl__")) ≡ global (low_at (length gs) last)
-  lo = low_bit_place gs own ps d last gs_free own_free few small ps'
+  lo = low_bit_place vocabulary ps'
 
   pub hi : place_of s' (named (codes "rh__")) ≡ global (high_at (length gs) last)
-  hi = high_place gs own ps d last gs_free own_free few small ps'
+  hi = high_place vocabulary ps'
 
   pub st : place_of s' (named (codes "stop__")) ≡ global (stop_at (length gs) last)
-  st = stop_place gs own ps d last gs_free own_free few small ps'
+  st = stop_place vocabulary ps'
 
   bd : place_of s' (named (codes "bad__")) ≡ global (bad_at (length gs) last)
-  bd = bad_place gs own ps d last gs_free own_free few small ps'
+  bd = bad_place vocabulary ps'
 
   -- where a variable is hidden by no formal or local
   shared_place : (x : Name) → is_declared x.text own ≡ false → place_of s x ≡ global (number_of x.text gs)
@@ -82,7 +83,7 @@ module _ (t : Tree) (gs own ps : List Name) (d last : ℕ) (gs_free : AreFree gs
 
   copied_place : (x : Name) → Declared s x → is_declared x.text own ≡ false → (k : ℕ) → k ≤ last
       → place_of s' (copy_name k x) ≡ copy_at (length gs) k (place_of s x)
-  copied_place x h hidden k le = copy_place gs own ps d last gs_free own_free few small ps' x k le hidden (h hidden)
+  copied_place x h hidden k le = copy_place vocabulary ps' x k le hidden (h hidden)
 
   pub at_resolved : (k : ℕ) → resolve_expression s' (in_round N last k) ≡ in_round P last k
   at_resolved k =
@@ -100,7 +101,8 @@ module _ (t : Tree) (gs own ps : List Name) (d last : ℕ) (gs_free : AreFree gs
   read_resolved : (x : Name) → Declared s x → resolve_expression s' (read N last x) ≡ read P last (place_of s x)
   read_resolved x h = by_test (is_declared x.text own)
       (λ e. ap (λ c. resolve_expression s' (cond (not c) (joined N last last x) (var x))) e
-      ∙ (ap var (kept_place gs own ps d last gs_free own_free few small ps' x e ∙ own_place x e) ∙ sym (ap (read P last) (own_place x e))))
+      ∙ (ap var (kept_place vocabulary ps' x e ∙ own_place x e)
+      ∙ sym (ap (read P last) (own_place x e))))
       (λ e. ap (λ c. resolve_expression s' (cond (not c) (joined N last last x) (var x))) e
       ∙ (joined_resolved x h e last (omega arith)
       ∙ (ap (joined P last last) (shared_place x e) ∙ sym (ap (read P last) (shared_place x e)))))
@@ -158,7 +160,7 @@ module _ (t : Tree) (gs own ps : List Name) (d last : ℕ) (gs_free : AreFree gs
       (y ∷ targets P last (map (place_of s) xs) (map (resolve_side s) rs)) in
       by_test (is_declared x.text own)
       (λ e. ap (λ c. map (place_of s') (cond (not c) (here ++ targets N last xs rs) (x ∷ targets N last xs rs))) e
-      ∙ (ap₂ (λ a b. a ∷ b) (kept_place gs own ps d last gs_free own_free few small ps' x e ∙ own_place x e) ih
+      ∙ (ap₂ (λ a b. a ∷ b) (kept_place vocabulary ps' x e ∙ own_place x e) ih
       ∙ sym (ap there (own_place x e))))
       (λ e. ap (λ c. map (place_of s') (cond (not c) (here ++ targets N last xs rs) (x ∷ targets N last xs rs))) e
       ∙ (map-append (place_of s') here (targets N last xs rs)
@@ -168,7 +170,7 @@ module _ (t : Tree) (gs own ps : List Name) (d last : ℕ) (gs_free : AreFree gs
       ∙ sym (ap there (shared_place x e)))))
 
   drawn_resolved : (j : ℕ) → j < d → resolve_expression s' (var (drawn_name j)) ≡ var (local (length own + j))
-  drawn_resolved j lt = ap var (drawn_place gs own ps d last gs_free own_free few small ps' j lt)
+  drawn_resolved j lt = ap var (drawn_place vocabulary ps' j lt)
 
   sides_resolved : (j : ℕ) (xs : List Name) (rs : List (RightSide Name)) → AllDeclared s xs → SidesDeclared s rs
       → j + draws N.is_shared xs rs ≤ d
@@ -206,7 +208,8 @@ module _ (t : Tree) (gs own ps : List Name) (d last : ℕ) (gs_free : AreFree gs
       (λ e.
       ap
       (λ c. map (resolve_side s') (cond (not c) (here ++ sides N last j xs rs) (value (expression N last v) ∷ sides N last j xs rs))) e
-      ∙ (ap₂ (λ a b. value a ∷ b) (expression_resolved v hr.0) (sides_resolved j xs rs h.1 hr.1 room) ∙ sym (ap there (own_place x e))))
+      ∙ (ap₂ (λ a b. value a ∷ b) (expression_resolved v hr.0) (sides_resolved j xs rs h.1 hr.1 room)
+      ∙ sym (ap there (own_place x e))))
       (λ e.
       ap
       (λ c. map (resolve_side s') (cond (not c) (here ++ sides N last j xs rs) (value (expression N last v) ∷ sides N last j xs rs))) e
@@ -236,10 +239,11 @@ module _ (t : Tree) (gs own ps : List Name) (d last : ℕ) (gs_free : AreFree gs
   temporaries_resolved (choose m r a b k) = λ i. max (temporaries_resolved a i) (max (temporaries_resolved b i) (temporaries_resolved k i))
   temporaries_resolved (loop m r a k) = λ i. max (temporaries_resolved a i) (temporaries_resolved k i)
 
-  drawn_all : (j m : ℕ) → j + m ≤ d → map (place_of s') (map drawn_name (numbers j m)) ≡ map (λ k. local (length own + k)) (numbers j m)
+  drawn_all : (j m : ℕ) → j + m ≤ d
+      → map (place_of s') (map drawn_name (numbers j m)) ≡ map (λ k. local (length own + k)) (numbers j m)
   drawn_all j zero le = refl
   drawn_all j (suc m) le =
-      λ i. drawn_place gs own ps d last gs_free own_free few small ps' j (omega arith) i ∷ drawn_all (suc j) m (omega arith) i
+      λ i. drawn_place vocabulary ps' j (omega arith) i ∷ drawn_all (suc j) m (omega arith) i
 
   any_all : (ks : List ℕ) → map (resolve_side s') (map (λ k. any) ks) ≡ map (λ k. any) ks
   any_all [] = refl
@@ -283,7 +287,8 @@ module _ (t : Tree) (gs own ps : List Name) (d last : ℕ) (gs_free : AreFree gs
       (one plain (assign (targets_resolved xs rs h.0 i) (sides_resolved 0 xs rs h.0 h.1 (omega arith) i)) (resolve_block s' k)))
   statement_resolved (assert r) k h room =
       λ i. choose plain (side_resolved r h i) (one plain skip done)
-      (one plain (assign (bd i ∷ st i ∷ []) (value (const true) ∷ value (const true) ∷ [])) (one plain leave done)) (resolve_block s' k)
+      (one plain (assign (bd i ∷ st i ∷ []) (value (const true) ∷ value (const true) ∷ [])) (one plain leave done))
+      (resolve_block s' k)
   statement_resolved (assume r) k h room = λ i. one plain (assume (side_resolved r h i)) (resolve_block s' k)
   statement_resolved (goto x) k h room = refl
   statement_resolved leave k h room = refl

@@ -1,6 +1,6 @@
 -- Which printed names differ.
-use Rattle.std.proofs.Common.{◌≡◌, ℕ, zero, suc, ◌+◌, ◌<◌, Bool, true, false, ◌&&◌, ◌||◌, List, [], ◌∷◌, ◌++◌, nat_eq, refl, sym, ◌∙◌, ap}
-use Rattle.std.proofs.Common.{ap₂, arith, append_assoc}
+use Rattle.std.proofs.Common.{◌≡◌, ℕ, zero, suc, ◌+◌, ◌<◌, Bool, true, false, ◌&&◌, ◌||◌, List, [], ◌∷◌}
+use Rattle.std.proofs.Common.{◌++◌, nat_eq, refl, sym, ◌∙◌, ap, ap₂, arith, append_assoc}
 use Rattle.std.proofs.lemmas.List.{append_cancel_right, append_cancel_left}
 use Rattle.std.proofs.lemmas.Slice.Eq.{bytes_eq-Decides}
 use Rattle.std.proofs.lemmas.Fmt.{decimal_injective}
@@ -68,41 +68,50 @@ digit_is (suc (suc (suc zero))) h = refl
 digit_is (suc (suc (suc (suc k)))) h = absurd (omega arith)
 
 -- the texts, with their last digit
-pub copy_text : (x : List ℕ) (k : ℕ) → k < most_rounds → x ++ 95 ∷ 95 ∷ decimal (suc k) ≡ (x ++ 95 ∷ 95 ∷ []) ++ (49 + k) ∷ []
+pub copy_text : (x : List ℕ) (k : ℕ) → k < most_rounds
+    → x ++ 95 ∷ 95 ∷ decimal (suc k) ≡ (x ++ 95 ∷ 95 ∷ []) ++ (49 + k) ∷ []
 copy_text x k h = ap (λ d. x ++ 95 ∷ 95 ∷ d) (digit_is k h) ∙ sym (append_assoc x (95 ∷ 95 ∷ []) ((49 + k) ∷ []))
 
-pub save_text : (x : List ℕ) (k : ℕ) → k < most_rounds → x ++ 95 ∷ 95 ∷ 115 ∷ decimal (suc k) ≡ (x ++ 95 ∷ 95 ∷ 115 ∷ []) ++ (49 + k) ∷ []
-save_text x k h = ap (λ d. x ++ 95 ∷ 95 ∷ 115 ∷ d) (digit_is k h) ∙ sym (append_assoc x (95 ∷ 95 ∷ 115 ∷ []) ((49 + k) ∷ []))
+pub save_text : (x : List ℕ) (k : ℕ) → k < most_rounds
+    → x ++ 95 ∷ 95 ∷ 115 ∷ decimal (suc k) ≡ (x ++ 95 ∷ 95 ∷ 115 ∷ []) ++ (49 + k) ∷ []
+save_text x k h = ap (λ d. x ++ 95 ∷ 95 ∷ 115 ∷ d) (digit_is k h)
+    ∙ sym (append_assoc x (95 ∷ 95 ∷ 115 ∷ []) ((49 + k) ∷ []))
 
 pub copies_differ : (x y : List ℕ) (k j : ℕ) → k < most_rounds → j < most_rounds → (k ≡ j → ⊥) →
     same_text (x ++ 95 ∷ 95 ∷ decimal (suc k)) (y ++ 95 ∷ 95 ∷ decimal (suc j)) ≡ false
 copies_differ x y k j hk hj ne = same_text_false _ _ (λ e.
-    let last = snoc_last (x ++ 95 ∷ 95 ∷ []) (y ++ 95 ∷ 95 ∷ []) (49 + k) (49 + j) (sym (copy_text x k hk) ∙ (e ∙ copy_text y j hj)) in
+    let last =
+    snoc_last (x ++ 95 ∷ 95 ∷ []) (y ++ 95 ∷ 95 ∷ []) (49 + k) (49 + j) (sym (copy_text x k hk) ∙ (e ∙ copy_text y j hj)) in
     ne (let z : 49 + k ≡ 49 + j = last.0 in omega arith))
 
 pub saves_differ : (x y : List ℕ) (k j : ℕ) → k < most_rounds → j < most_rounds → (k ≡ j → ⊥) →
     same_text (x ++ 95 ∷ 95 ∷ 115 ∷ decimal (suc k)) (y ++ 95 ∷ 95 ∷ 115 ∷ decimal (suc j)) ≡ false
 saves_differ x y k j hk hj ne = same_text_false _ _ (λ e.
     let last =
-    snoc_last (x ++ 95 ∷ 95 ∷ 115 ∷ []) (y ++ 95 ∷ 95 ∷ 115 ∷ []) (49 + k) (49 + j) (sym (save_text x k hk) ∙ (e ∙ save_text y j hj)) in
+    snoc_last (x ++ 95 ∷ 95 ∷ 115 ∷ []) (y ++ 95 ∷ 95 ∷ 115 ∷ []) (49 + k) (49 + j)
+    (sym (save_text x k hk) ∙ (e ∙ save_text y j hj)) in
     ne (let z : 49 + k ≡ 49 + j = last.0 in omega arith))
 
 pub save_no_copy : (x y : List ℕ) (k j : ℕ) → k < most_rounds → j < most_rounds →
     same_text (x ++ 95 ∷ 95 ∷ 115 ∷ decimal (suc k)) (y ++ 95 ∷ 95 ∷ decimal (suc j)) ≡ false
 save_no_copy x y k j hk hj = same_text_false _ _ (λ e.
-    let r = snoc_last (x ++ 95 ∷ 95 ∷ 115 ∷ []) (y ++ 95 ∷ 95 ∷ []) (49 + k) (49 + j) (sym (save_text x k hk) ∙ (e ∙ copy_text y j hj)) in
+    let r =
+    snoc_last (x ++ 95 ∷ 95 ∷ 115 ∷ []) (y ++ 95 ∷ 95 ∷ []) (49 + k) (49 + j)
+    (sym (save_text x k hk) ∙ (e ∙ copy_text y j hj)) in
     let r2 =
     snoc_last (x ++ 95 ∷ 95 ∷ []) (y ++ 95 ∷ []) 115 95
     (append_assoc x (95 ∷ 95 ∷ []) (115 ∷ []) ∙ (r.1 ∙ sym (append_assoc y (95 ∷ []) (95 ∷ [])))) in
     let z : ◌≡◌ {A = ℕ} 115 95 = r2.0 in omega arith)
 
 -- a text that ends in an underscore is no copy and no guess
-pub low_no_copy : (a y : List ℕ) (j : ℕ) → j < most_rounds → same_text (a ++ 95 ∷ []) (y ++ 95 ∷ 95 ∷ decimal (suc j)) ≡ false
+pub low_no_copy : (a y : List ℕ) (j : ℕ) → j < most_rounds
+    → same_text (a ++ 95 ∷ []) (y ++ 95 ∷ 95 ∷ decimal (suc j)) ≡ false
 low_no_copy a y j hj = same_text_false _ _ (λ e.
     let r = snoc_last a (y ++ 95 ∷ 95 ∷ []) 95 (49 + j) (e ∙ copy_text y j hj) in
     let z : 95 ≡ 49 + j = r.0 in omega arith)
 
-pub low_no_save : (a y : List ℕ) (j : ℕ) → j < most_rounds → same_text (a ++ 95 ∷ []) (y ++ 95 ∷ 95 ∷ 115 ∷ decimal (suc j)) ≡ false
+pub low_no_save : (a y : List ℕ) (j : ℕ) → j < most_rounds
+    → same_text (a ++ 95 ∷ []) (y ++ 95 ∷ 95 ∷ 115 ∷ decimal (suc j)) ≡ false
 low_no_save a y j hj = same_text_false _ _ (λ e.
     let r = snoc_last a (y ++ 95 ∷ 95 ∷ 115 ∷ []) 95 (49 + j) (e ∙ save_text y j hj) in
     let z : 95 ≡ 49 + j = r.0 in omega arith)
@@ -112,7 +121,8 @@ pub drawn_differ : (i j : ℕ) → i < most_places → j < most_places → (i �
     same_text (116 ∷ 109 ∷ 112 ∷ 95 ∷ 95 ∷ 116 ∷ decimal (suc i))
     (116 ∷ 109 ∷ 112 ∷ 95 ∷ 95 ∷ 116 ∷ decimal (suc j)) ≡ false
 drawn_differ i j hi hj ne =
-    same_text_false (116 ∷ 109 ∷ 112 ∷ 95 ∷ 95 ∷ 116 ∷ decimal (suc i)) (116 ∷ 109 ∷ 112 ∷ 95 ∷ 95 ∷ 116 ∷ decimal (suc j)) (λ e.
+    same_text_false (116 ∷ 109 ∷ 112 ∷ 95 ∷ 95 ∷ 116 ∷ decimal (suc i))
+    (116 ∷ 109 ∷ 112 ∷ 95 ∷ 95 ∷ 116 ∷ decimal (suc j)) (λ e.
     let t : decimal (suc i) ≡ decimal (suc j) =
     append_cancel_left (116 ∷ 109 ∷ 112 ∷ 95 ∷ 95 ∷ 116 ∷ []) (decimal (suc i)) (decimal (suc j)) e in
     ne (let z : suc i ≡ suc j = decimal_injective (suc i) (suc j) (omega arith) (omega arith) t in omega arith))
@@ -127,6 +137,7 @@ no_drawn (a ∷ b ∷ c ∷ []) u r d free ne e = ne cc
 no_drawn (a ∷ b ∷ c ∷ f ∷ []) u r d free ne e = let z : ◌≡◌ {A = ℕ} 95 116 = cc in omega arith
 no_drawn (a ∷ b ∷ c ∷ f ∷ g ∷ x) u r d free ne e =
     let ef : f ≡ 95 = cc in let eg : g ≡ 95 = cc in
-    let same : a ∷ b ∷ c ∷ f ∷ g ∷ x ≡ (a ∷ b ∷ c ∷ []) ++ 95 ∷ 95 ∷ x = λ i. a ∷ b ∷ c ∷ ef i ∷ eg i ∷ x in
+    let same : a ∷ b ∷ c ∷ f ∷ g ∷ x ≡ (a ∷ b ∷ c ∷ []) ++ 95 ∷ 95 ∷ x =
+    λ i. a ∷ b ∷ c ∷ ef i ∷ eg i ∷ x in
     let bad : true ≡ false = sym (double_there (a ∷ b ∷ c ∷ []) x) ∙ (ap has_double (sym same) ∙ free) in
     cc

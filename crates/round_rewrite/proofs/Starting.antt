@@ -1,6 +1,6 @@
 -- The first procedure runs the threads, one after the other, both ways.
-use Rattle.std.proofs.Common.{◌≡◌, ℕ, suc, ◌+◌, ◌-◌, ◌<◌, Bool, true, false, List, [], ◌∷◌, ◌++◌, length, map, Option, Some, None}
-use Rattle.std.proofs.Common.{option_map, slice_get, refl, sym, ◌∙◌, ap, subst, arith, ◌⊎◌, inl, inr}
+use Rattle.std.proofs.Common.{◌≡◌, ℕ, suc, ◌+◌, ◌-◌, Bool, true, false, List, [], ◌∷◌, ◌++◌, length, map, Option}
+use Rattle.std.proofs.Common.{Some, None, option_map, slice_get, refl, sym, ◌∙◌, ap, subst, arith, ◌⊎◌, inl, inr}
 use Rattle.language.specs.Tree.{RightSide, value, const, assign, call, one}
 use Rattle.language.specs.Value.{Place, global, with_bit, AreValues, written_globals, written_locals}
 use Rattle.language.specs.Rest.{Code}
@@ -8,19 +8,19 @@ use Rattle.language.specs.Step.{Routine, Program, Frame, frame, State, state, ze
 use Rattle.language.specs.Rounds.{starting_stack}
 use Rattle.round_rewrite.specs.Table.{Naming, plain, temporaries, starts}
 use Rattle.round_rewrite.specs.Places.{places, is_global, high_at, low_at, stop_at}
-use Rattle.resolved.specs.Scoped.{EachThread, FitsScopes}
-use Rattle.round_rewrite.proofs.Laid.{Long, bits_of, lay, Shape, bits_with}
-use Rattle.round_rewrite.proofs.Plain.{World, PlainAfter}
+use Rattle.resolved.specs.Scoped.{EachThread}
+use Rattle.round_rewrite.proofs.Laid.{Long, AreRows, bits_of, lay, Shape, bits_with}
+use Rattle.round_rewrite.proofs.Plain.{PlainAfter}
 use Rattle.round_rewrite.proofs.Leading.{Leads}
-use Rattle.round_rewrite.proofs.Frames.{Both, source, AllGood, put_rest, put_routine, stack, IsWorld, fresh_more}
-use Rattle.round_rewrite.proofs.Forward.{both, call_good}
+use Rattle.round_rewrite.proofs.Frames.{entered, source, AllGood, put_rest, put_routine, stack, Setting, fresh_more}
+use Rattle.round_rewrite.proofs.Forward.{call_good}
 use Rattle.round_rewrite.proofs.Turns.{Turns, FailTurns}
 use Rattle.round_rewrite.proofs.Compose.{Threads, FailThreads, run_keeps, fail_is_turns}
-use Rattle.round_rewrite.proofs.ThreadBack.{Zip, zip_shape, Ends, thread_back}
+use Rattle.round_rewrite.proofs.ThreadBack.{Seat, moment, Ends, thread_back}
 use Rattle.round_rewrite.proofs.ThreadOn.{turns_on, fails_on}
 use Rattle.round_rewrite.proofs.Guessing.{Bad, bad_single, unstep_main, main_at}
-use Rattle.round_rewrite.specs.Limits.{most_rounds}
 
+-- turns keep how many rows there are, and how long they are
 pub turns_keep : (p : Program) (n : ℕ) (G : List (List Bool)) (s : List Frame) (H : List (List Bool)) (s' : List Frame) → Long n G
     → Turns p G s H s' → Long n H × (length H ≡ length G)
 turns_keep p n [] s [] s' long h = (tt, refl)
@@ -30,6 +30,7 @@ turns_keep p n (g ∷ G) s (h ∷ H) s' long (mid, run, more) =
     let r = turns_keep p n G mid H s' long.1 more in
     ((run_keeps p g h s mid run ∙ long.0, r.0), ap suc r.1)
 
+-- the same of all threads in turn
 pub threads_keep : (p : Program) (n : ℕ) (G : List (List Bool)) (ss : List (List Frame)) (H : List (List Bool)) (ss' : List (List Frame))
     → Long n G → Threads p G ss H ss' → Long n H × (length H ≡ length G)
 threads_keep p n G [] H [] long e = (subst (Long n) (sym e) long, ap length e)
@@ -40,6 +41,7 @@ threads_keep p n G (s ∷ ss) H (s' ∷ ss') long (K, ts, more) =
     let r = threads_keep p n K ss H ss' k.0 more in
     (r.0, r.1 ∙ k.1)
 
+-- the same of threads of which one fails
 pub fails_keep : (p : Program) (n : ℕ) (G : List (List Bool)) (ss : List (List Frame)) (H : List (List Bool)) → Long n G
     → FailThreads p G ss H → Long n H × (length H ≡ length G)
 fails_keep p n G [] H long h = absurd h
@@ -53,33 +55,58 @@ fails_keep p n G (s ∷ ss) H long (inr (K, s', ts, more)) =
     let r = fails_keep p n K ss H k.0 more in
     (r.0, r.1 ∙ k.1)
 
+-- the frame that a thread starts with
 abbrev first_frame : ℕ → Option Routine → List Frame
 first_frame c None = []
 first_frame c (Some r) = frame c (zeros r.places) r.body ∷ []
 
-module _ (p : Program) (last : ℕ) (fits : FitsScopes p) (small : last < most_rounds) (w : World)
-    (isw : IsWorld p last w) (S : List (List Bool)) (s_long : Long p.globals S) (s_length : length S ≡ last) where
+-- a procedure that is there
+there_is : (o : Option Routine) → AtRoutine o (λ r. Unit {0}) → (r : Routine) × (o ≡ Some r)
+there_is None h = absurd h
+there_is (Some r) h = (r, refl)
+
+module _ (setting : Setting) (S : List (List Bool)) (saves : AreRows setting.p.globals setting.last S) where
+  open setting use {p, last, fits, small, w, isw}
+
   abbrev naming : Naming Place Place ℕ ℕ
   naming = places p.globals last 0
 
-  -- a new thread's frame
-  abbrev starter : ℕ → Routine → Both
-  starter c r = both c r.places (fresh r.places []) (zeros (temporaries is_global r.body)) r.body
-
-  starter_good : (c : ℕ) (r : Routine) → slice_get p.routines c ≡ Some r → AllGood p last (starter c r ∷ [])
+  -- a new thread's frame fits
+  starter_good : (c : ℕ) (r : Routine) → slice_get p.routines c ≡ Some r → AllGood p last (entered c r [] ∷ [])
   starter_good c r e = (call_good p last c r [] fits e (omega arith), tt)
 
-  starter_is : (c : ℕ) (r : Routine) → slice_get p.routines c ≡ Some r → map source (starter c r ∷ []) ≡ starting_stack p.routines c
+  -- a new thread's frame is that of the source
+  starter_is : (c : ℕ) (r : Routine) → slice_get p.routines c ≡ Some r
+      → map source (entered c r [] ∷ []) ≡ starting_stack p.routines c
   starter_is c r e =
       let f : fresh r.places [] ≡ zeros r.places = ap zeros (let z : r.places - 0 ≡ r.places = omega arith in z) in
       ap (λ l. frame c l r.body ∷ []) f ∙ sym (ap (first_frame c) e)
 
+  -- a thread starts in the first row
+  abbrev first_seat : (g : List Bool) (G : List (List Bool)) → AreRows p.globals (suc last) (g ∷ G) → Seat p.globals last S G
+  first_seat g G are = record {
+    pre = [];
+    g = g;
+    zip =
+        record {
+          pre_long = tt;
+          post_long = are.0.1;
+          saved = saves.0;
+          count = (let e : suc (length G) ≡ suc last = are.1 in omega arith);
+          guesses = saves.1;
+        };
+    long = are.0.0;
+  }
+
+  -- what is set before a thread starts: the bits of the round, and `stop`
   abbrev zero_targets : List Place
   zero_targets = global (high_at p.globals last) ∷ global (low_at p.globals last) ∷ global (stop_at p.globals last) ∷ []
 
+  -- the values they are set to
   abbrev zero_sides : List (RightSide Place)
   zero_sides = value (const false) ∷ value (const false) ∷ value (const false) ∷ []
 
+  -- these writes lead to round 0, where stop is 0
   zero_writes : (G : List (List Bool)) → Shape p.globals last G S → (q : ℕ) (s b : Bool) →
       with_bit (with_bit (with_bit (lay G S (bits_of q s b)) (high_at p.globals last) false) (low_at p.globals last)
       false) (stop_at p.globals last) false ≡ lay G S (bits_of 0 false b)
@@ -89,47 +116,104 @@ module _ (p : Program) (last : ℕ) (fits : FitsScopes p) (small : last < most_r
       ∙ (ap (λ z. with_bit z (stop_at p.globals last) false) (bits_with p.globals last G S _ 1 false shape)
       ∙ bits_with p.globals last G S _ 2 false shape)
 
+  -- there is one choice of these values
   zero_back : (X L : List Bool) (vs : List Bool) → AreValues X L zero_sides vs → vs ≡ false ∷ false ∷ false ∷ []
   zero_back X L [] a = absurd a
   zero_back X L (x ∷ []) a = absurd a.1
   zero_back X L (x ∷ y ∷ []) a = absurd a.1.1
-  zero_back X L (x ∷ y ∷ z ∷ []) a = λ i. a.0 i ∷ a.1.0 i ∷ a.1.1.0 i ∷ []
-  zero_back X L (x ∷ y ∷ z ∷ u ∷ vs) a = absurd a.1.1.1
+  zero_back X L (x ∷ y ∷ z ∷ []) (ax, (ay, (az, none))) = λ i. ax i ∷ ay i ∷ az i ∷ []
+  zero_back X L (x ∷ y ∷ z ∷ u ∷ vs) (ax, (ay, (az, more))) = absurd more
 
+  -- the call of a procedure of the source
   enters_now : (c : ℕ) (r : Routine) → slice_get p.routines c ≡ Some r → w.enters (suc c) ≡ Some (put_routine p last r)
   enters_now c r e = isw.enters_is c ∙ ap (option_map (put_routine p last)) e
 
-  fresh_now : (r : Routine) → fresh (r.places + temporaries is_global r.body) [] ≡ fresh r.places [] ++ zeros (temporaries is_global r.body)
+  -- a new rewritten frame's values
+  fresh_now : (r : Routine)
+      → fresh (r.places + temporaries is_global r.body) [] ≡ fresh r.places [] ++ zeros (temporaries is_global r.body)
   fresh_now r = fresh_more r.places (temporaries is_global r.body) [] (omega arith)
 
-  -- the start of one thread
-  start_leads : (Q : State → Type 0) (G : List (List Bool)) → Shape p.globals last G S → (q : ℕ) (s b : Bool) (c : ℕ) (r : Routine)
-      → slice_get p.routines c ≡ Some r → (t : Code)
-      → Leads w (state (lay G S (bits_of 0 false b)) (stack p last (starter c r ∷ []) (frame 0 [] t))) Q
-      → Leads w (main_at (lay G S (bits_of q s b)) (one plain (assign zero_targets zero_sides) (one plain (call (suc c) []) t))) Q
-  start_leads Q G shape q s b c r e t (k, h) =
-      let Y : List Bool = lay G S (bits_of 0 false b) in
-      let h1 : PlainAfter w k
-      (state Y
-      (frame (suc c) (fresh (r.places + temporaries is_global r.body) []) (put_rest p last r.places r.body) ∷ frame 0 [] t ∷ [])) Q =
-      subst (λ l. PlainAfter w k (state Y (frame (suc c) l (put_rest p last r.places r.body) ∷ frame 0 [] t ∷ [])) Q)
-      (sym (fresh_now r)) h in
-      let h2 : PlainAfter w (suc k) (main_at Y (one plain (call (suc c) []) t)) Q =
-      subst (λ o. AtRoutine o (λ z. PlainAfter w k (state Y (frame (suc c) (fresh z.places []) z.body ∷ frame 0 [] t ∷ [])) Q))
-      (sym (enters_now c r e)) h1 in (
-        suc (suc k),
-        (
-          false ∷ false ∷ false ∷ [],
-          (refl, (refl, (refl, tt))),
-          subst (λ z. PlainAfter w (suc k) (main_at z (one plain (call (suc c) []) t)) Q) (sym (zero_writes G shape q s b)) h2,
-        ),
-      )
+  module _ (Q : State → Type 0) (t : Code) where
+    -- the start of one thread
+    start_leads : (G : List (List Bool)) → Shape p.globals last G S → (q : ℕ) (s b : Bool) (c : ℕ) (r : Routine)
+        → slice_get p.routines c ≡ Some r
+        → Leads w (state (lay G S (bits_of 0 false b)) (stack p last (entered c r [] ∷ []) (frame 0 [] t))) Q
+        → Leads w (main_at (lay G S (bits_of q s b)) (one plain (assign zero_targets zero_sides) (one plain (call (suc c) []) t))) Q
+    start_leads G shape q s b c r e (k, h) =
+        let Y : List Bool = lay G S (bits_of 0 false b) in
+        let h1 : PlainAfter w k
+        (state Y
+        (frame (suc c) (fresh (r.places + temporaries is_global r.body) []) (put_rest p last r.places r.body) ∷ frame 0 [] t ∷ [])) Q =
+        subst (λ l. PlainAfter w k (state Y (frame (suc c) l (put_rest p last r.places r.body) ∷ frame 0 [] t ∷ [])) Q)
+        (sym (fresh_now r)) h in
+        let h2 : PlainAfter w (suc k) (main_at Y (one plain (call (suc c) []) t)) Q =
+        subst (λ o. AtRoutine o (λ z. PlainAfter w k (state Y (frame (suc c) (fresh z.places []) z.body ∷ frame 0 [] t ∷ [])) Q))
+        (sym (enters_now c r e)) h1 in (
+          suc (suc k),
+          (
+            false ∷ false ∷ false ∷ [],
+            (refl, (refl, (refl, tt))),
+            subst (λ z. PlainAfter w (suc k) (main_at z (one plain (call (suc c) []) t)) Q) (sym (zero_writes G shape q s b)) h2,
+          ),
+        )
 
+  module _ (Q : State → Type 0) (t : Code) where
+    -- the threads run, and none fails
+    pub starts_lead : (T : List ℕ) → EachThread p.routines T → (G : List (List Bool)) → AreRows p.globals (suc last) G
+        → (G' : List (List Bool)) (ss' : List (List Frame)) → Threads p G (map (starting_stack p.routines) T) G' ss' → (b : Bool)
+        → ((q : ℕ) (s : Bool) → Leads w (main_at (lay G' S (bits_of q s b)) t) Q) → (q : ℕ) (s : Bool)
+        → Leads w (main_at (lay G S (bits_of q s b)) (starts naming last T t)) Q
+    starts_lead [] there G are G' [] e b out q s = subst (λ z. Leads w (main_at (lay z S (bits_of q s b)) t) Q) e (out q s)
+    starts_lead [] there G are G' (x ∷ ss') h b out q s = absurd h
+    starts_lead (c ∷ T) there G are G' [] h b out q s = absurd h
+    starts_lead (c ∷ T) there [] are G' (s' ∷ ss') h b out q s = absurd (let e : 0 ≡ suc last = are.1 in omega arith)
+    starts_lead (c ∷ T) there (g ∷ G) are G' (s' ∷ ss') ([], ts, more) b out q s = absurd ts
+    starts_lead (c ∷ T) there (g ∷ G) are G' (s' ∷ ss') (x ∷ H, ts, more) b out q s =
+        let (r, e) = there_is (slice_get p.routines c) there.0 in
+        let seat : Seat p.globals last S G = first_seat g G are in
+        let after : Code = starts naming last T t in
+        let k = turns_keep p p.globals (g ∷ G) (starting_stack p.routines c) (x ∷ H) s' are.0 ts in
+        start_leads Q after (g ∷ G) (moment seat b).shape q s b c r e
+        (turns_on setting S (frame 0 [] after) Q b G seat 0 (omega arith) (entered c r [] ∷ []) (starter_good c r e) x H s'
+        (subst (λ y. Turns p (g ∷ G) y (x ∷ H) s') (sym (starter_is c r e)) ts)
+        (starts_lead T there.1 (x ∷ H) (k.0, k.1 ∙ are.1) G' ss' more b out))
+
+    -- the threads run, and one fails
+    pub fails_lead : (T : List ℕ) → EachThread p.routines T → (G : List (List Bool)) → AreRows p.globals (suc last) G
+        → (G' : List (List Bool)) → FailThreads p G (map (starting_stack p.routines) T) G'
+        → ((q : ℕ) (s : Bool) → Leads w (main_at (lay G' S (bits_of q s true)) t) Q) → (b : Bool) (q : ℕ) (s : Bool)
+        → Leads w (main_at (lay G S (bits_of q s b)) (starts naming last T t)) Q
+    fails_lead [] there G are G' h out b q s = absurd h
+    fails_lead (c ∷ T) there [] are G' h out b q s = absurd (let e : 0 ≡ suc last = are.1 in omega arith)
+    fails_lead (c ∷ T) there (g ∷ G) are G' (inl ([], ss', ft, more)) out b q s = absurd ft
+    fails_lead (c ∷ T) there (g ∷ G) are G' (inl (x ∷ H, ss', ft, more)) out b q s =
+        let (r, e) = there_is (slice_get p.routines c) there.0 in
+        let seat : Seat p.globals last S G = first_seat g G are in
+        let after : Code = starts naming last T t in
+        let (s', ts) = fail_is_turns p (g ∷ G) (starting_stack p.routines c) (x ∷ H) ft in
+        let k = turns_keep p p.globals (g ∷ G) (starting_stack p.routines c) (x ∷ H) s' are.0 ts in
+        start_leads Q after (g ∷ G) (moment seat b).shape q s b c r e
+        (fails_on setting S (frame 0 [] after) Q b G seat 0 (omega arith) (entered c r [] ∷ []) (starter_good c r e) x H
+        (subst (λ y. FailTurns p (g ∷ G) y (x ∷ H)) (sym (starter_is c r e)) ft)
+        (starts_lead T there.1 (x ∷ H) (k.0, k.1 ∙ are.1) G' ss' more true out))
+    fails_lead (c ∷ T) there (g ∷ G) are G' (inr ([], s', ts, more)) out b q s = absurd ts
+    fails_lead (c ∷ T) there (g ∷ G) are G' (inr (x ∷ H, s', ts, more)) out b q s =
+        let (r, e) = there_is (slice_get p.routines c) there.0 in
+        let seat : Seat p.globals last S G = first_seat g G are in
+        let after : Code = starts naming last T t in
+        let k = turns_keep p p.globals (g ∷ G) (starting_stack p.routines c) (x ∷ H) s' are.0 ts in
+        start_leads Q after (g ∷ G) (moment seat b).shape q s b c r e
+        (turns_on setting S (frame 0 [] after) Q b G seat 0 (omega arith) (entered c r [] ∷ []) (starter_good c r e) x H s'
+        (subst (λ y. Turns p (g ∷ G) y (x ∷ H) s') (sym (starter_is c r e)) ts)
+        (fails_lead T there.1 (x ∷ H) (k.0, k.1 ∙ are.1) G' more out b))
+
+  -- a run through the start of one thread
   start_back : (G : List (List Bool)) → Shape p.globals last G S → (q : ℕ) (s b : Bool) (c : ℕ) (r : Routine)
       → slice_get p.routines c ≡ Some r → (t : Code) (N : ℕ)
       → PlainAfter w N (main_at (lay G S (bits_of q s b)) (one plain (assign zero_targets zero_sides) (one plain (call (suc c) []) t)))
       (Bad p.globals last)
-      → (M : ℕ) × PlainAfter w M (state (lay G S (bits_of 0 false b)) (stack p last (starter c r ∷ []) (frame 0 [] t))) (Bad p.globals last)
+      → (M : ℕ)
+      × PlainAfter w M (state (lay G S (bits_of 0 false b)) (stack p last (entered c r [] ∷ []) (frame 0 [] t))) (Bad p.globals last)
   start_back G shape q s b c r e t N h =
       let n : ℕ = p.globals in
       let X : List Bool = lay G S (bits_of q s b) in
@@ -150,89 +234,14 @@ module _ (p : Program) (last : ℕ) (fits : FitsScopes p) (small : last < most_r
       (state Y
       (frame (suc c) (fresh (r.places + temporaries is_global r.body) []) (put_rest p last r.places r.body) ∷ frame 0 [] t ∷ []))
       (Bad n last) =
-      subst (λ o. AtRoutine o (λ z. PlainAfter w M2 (state Y (frame (suc c) (fresh z.places []) z.body ∷ frame 0 [] t ∷ [])) (Bad n last)))
+      subst
+      (λ o.
+      AtRoutine o (λ z. PlainAfter w M2 (state Y (frame (suc c) (fresh z.places []) z.body ∷ frame 0 [] t ∷ [])) (Bad n last)))
       (enters_now c r e) h4 in (
         M2,
         subst (λ l. PlainAfter w M2 (state Y (frame (suc c) l (put_rest p last r.places r.body) ∷ frame 0 [] t ∷ [])) (Bad n last))
             (fresh_now r) h5,
       )
-
-  -- the threads run, and none fails
-  pub starts_lead : (Q : State → Type 0) (t : Code) (T : List ℕ) → EachThread p.routines T → (G : List (List Bool)) → Long p.globals G
-      → length G ≡ suc last → (G' : List (List Bool)) (ss' : List (List Frame)) → Threads p G (map (starting_stack p.routines) T) G' ss'
-      → (b : Bool) → ((q : ℕ) (s : Bool) → Leads w (main_at (lay G' S (bits_of q s b)) t) Q) → (q : ℕ) (s : Bool)
-      → Leads w (main_at (lay G S (bits_of q s b)) (starts naming last T t)) Q
-  starts_lead Q t [] there G long el G' [] e b out q s = subst (λ z. Leads w (main_at (lay z S (bits_of q s b)) t) Q) e (out q s)
-  starts_lead Q t [] there G long el G' (x ∷ ss') h b out q s = absurd h
-  starts_lead Q t (c ∷ T) there G long el G' [] h b out q s = absurd h
-  starts_lead Q t (c ∷ T) there [] long el G' (s' ∷ ss') h b out q s = absurd (omega arith)
-  starts_lead Q t (c ∷ T) there (g ∷ G) long el G' (s' ∷ ss') (H, ts, more) b out q s =
-      first Q t c T there (slice_get p.routines c) refl there.0 g G long el b s' H ts
-      (let k = turns_keep p p.globals (g ∷ G) (starting_stack p.routines c) H s' long ts in
-      starts_lead Q t T there.1 H k.0 (k.1 ∙ el) G' ss' more b out) q s
-    where
-      first : (Q : State → Type 0) (t : Code) (c : ℕ) (T : List ℕ) → EachThread p.routines (c ∷ T) → (o : Option Routine)
-          → slice_get p.routines c ≡ o → AtRoutine o (λ r. Unit {0}) → (g : List Bool) (G : List (List Bool)) → Long p.globals (g ∷ G)
-          → length (g ∷ G) ≡ suc last → (b : Bool) (s' : List Frame) (H : List (List Bool))
-          → Turns p (g ∷ G) (starting_stack p.routines c) H s'
-          → ((q : ℕ) (s : Bool) → Leads w (main_at (lay H S (bits_of q s b)) (starts naming last T t)) Q) → (q : ℕ) (s : Bool)
-          → Leads w (main_at (lay (g ∷ G) S (bits_of q s b)) (starts naming last (c ∷ T) t)) Q
-      first Q t c T there None e h g G long el b s' H ts out q s = absurd h
-      first Q t c T there (Some r) e h g G long el b s' [] ts out q s = absurd ts
-      first Q t c T there (Some r) e h g G long el b s' (x ∷ H) ts out q s =
-          let z : Zip p.globals last [] G
-          S = record { pre_long = tt; post_long = long.1; saved = s_long; count = omega arith; guesses = s_length } in
-          start_leads Q (g ∷ G) (zip_shape p.globals last [] G S g z long.0) q s b c r e (starts naming last T t)
-          (turns_on p last fits small w isw S (frame 0 [] (starts naming last T t)) Q G [] g z long.0 b 0 (omega arith) (starter c r ∷ [])
-          (starter_good c r e) x H s'
-          (subst (λ y. Turns p (g ∷ G) y (x ∷ H) s') (sym (starter_is c r e)) ts) out)
-
-  -- the threads run, and one fails
-  pub fails_lead : (Q : State → Type 0) (t : Code) (T : List ℕ) → EachThread p.routines T → (G : List (List Bool)) → Long p.globals G
-      → length G ≡ suc last → (G' : List (List Bool)) → FailThreads p G (map (starting_stack p.routines) T) G'
-      → ((q : ℕ) (s : Bool) → Leads w (main_at (lay G' S (bits_of q s true)) t) Q) → (b : Bool) (q : ℕ) (s : Bool)
-      → Leads w (main_at (lay G S (bits_of q s b)) (starts naming last T t)) Q
-  fails_lead Q t [] there G long el G' h out b q s = absurd h
-  fails_lead Q t (c ∷ T) there [] long el G' h out b q s = absurd (omega arith)
-  fails_lead Q t (c ∷ T) there (g ∷ G) long el G' (inl (H, ss', ft, more)) out b q s =
-      let (s', ts) = fail_is_turns p (g ∷ G) (starting_stack p.routines c) H ft in
-      let k = turns_keep p p.globals (g ∷ G) (starting_stack p.routines c) H s' long ts in
-      failing Q t c T (slice_get p.routines c) refl there.0 g G long el b H ft
-      (starts_lead Q t T there.1 H k.0 (k.1 ∙ el) G' ss' more true out) q s
-    where
-      failing : (Q : State → Type 0) (t : Code) (c : ℕ) (T : List ℕ) (o : Option Routine) → slice_get p.routines c ≡ o
-          → AtRoutine o (λ r. Unit {0}) → (g : List Bool) (G : List (List Bool)) → Long p.globals (g ∷ G) → length (g ∷ G) ≡ suc last
-          → (b : Bool) (H : List (List Bool)) → FailTurns p (g ∷ G) (starting_stack p.routines c) H
-          → ((q : ℕ) (s : Bool) → Leads w (main_at (lay H S (bits_of q s true)) (starts naming last T t)) Q) → (q : ℕ) (s : Bool)
-          → Leads w (main_at (lay (g ∷ G) S (bits_of q s b)) (starts naming last (c ∷ T) t)) Q
-      failing Q t c T None e h g G long el b H ts out q s = absurd h
-      failing Q t c T (Some r) e h g G long el b [] ts out q s = absurd ts
-      failing Q t c T (Some r) e h g G long el b (x ∷ H) ts out q s =
-          let z : Zip p.globals last [] G
-          S = record { pre_long = tt; post_long = long.1; saved = s_long; count = omega arith; guesses = s_length } in
-          start_leads Q (g ∷ G) (zip_shape p.globals last [] G S g z long.0) q s b c r e (starts naming last T t)
-          (fails_on p last fits small w isw S (frame 0 [] (starts naming last T t)) Q G [] g z long.0 b 0 (omega arith) (starter c r ∷ [])
-          (starter_good c r e) x H
-          (subst (λ y. FailTurns p (g ∷ G) y (x ∷ H)) (sym (starter_is c r e)) ts) out)
-  fails_lead Q t (c ∷ T) there (g ∷ G) long el G' (inr (H, s', ts, more)) out b q s =
-      let k = turns_keep p p.globals (g ∷ G) (starting_stack p.routines c) H s' long ts in
-      running Q t c T (slice_get p.routines c) refl there.0 g G long el b H s' ts
-      (fails_lead Q t T there.1 H k.0 (k.1 ∙ el) G' more out b) q s
-    where
-      running : (Q : State → Type 0) (t : Code) (c : ℕ) (T : List ℕ) (o : Option Routine) → slice_get p.routines c ≡ o
-          → AtRoutine o (λ r. Unit {0}) → (g : List Bool) (G : List (List Bool)) → Long p.globals (g ∷ G) → length (g ∷ G) ≡ suc last
-          → (b : Bool) (H : List (List Bool)) (s' : List Frame) → Turns p (g ∷ G) (starting_stack p.routines c) H s'
-          → ((q : ℕ) (s : Bool) → Leads w (main_at (lay H S (bits_of q s b)) (starts naming last T t)) Q) → (q : ℕ) (s : Bool)
-          → Leads w (main_at (lay (g ∷ G) S (bits_of q s b)) (starts naming last (c ∷ T) t)) Q
-      running Q t c T None e h g G long el b H s' ts out q s = absurd h
-      running Q t c T (Some r) e h g G long el b [] s' ts out q s = absurd ts
-      running Q t c T (Some r) e h g G long el b (x ∷ H) s' ts out q s =
-          let z : Zip p.globals last [] G
-          S = record { pre_long = tt; post_long = long.1; saved = s_long; count = omega arith; guesses = s_length } in
-          start_leads Q (g ∷ G) (zip_shape p.globals last [] G S g z long.0) q s b c r e (starts naming last T t)
-          (turns_on p last fits small w isw S (frame 0 [] (starts naming last T t)) Q G [] g z long.0 b 0 (omega arith) (starter c r ∷ [])
-          (starter_good c r e) x H s'
-          (subst (λ y. Turns p (g ∷ G) y (x ∷ H) s') (sym (starter_is c r e)) ts) out)
 
   -- the threads ran: they made their turns, or one failed
   pub record Ran (T : List ℕ) (t : Code) (G : List (List Bool)) (b : Bool) : Type 0 where
@@ -275,31 +284,33 @@ module _ (p : Program) (last : ℕ) (fits : FitsScopes p) (small : last < most_r
       both_ran (inr (e, ft)) (inr (e', more)) = let (s', ts) = fail_is_turns p G (starting_stack p.routines c) H ft in
           inr (e', inr (H, s', ts, more))
 
-  -- the run of one thread
-  one_ran : (c : ℕ) (r : Routine) → slice_get p.routines c ≡ Some r → (t : Code) (g : List Bool) (G : List (List Bool))
-      → Long p.globals (g ∷ G) → length (g ∷ G) ≡ suc last → (q : ℕ) (s b : Bool) (N : ℕ)
-      → PlainAfter w N
-      (main_at (lay (g ∷ G) S (bits_of q s b)) (one plain (assign zero_targets zero_sides) (one plain (call (suc c) []) t)))
-      (Bad p.globals last)
-      → (f : ℕ)
-      × Ends p last fits small w isw S (frame 0 [] t) (Bad p.globals last) (bad_single p.globals last) f [] g G b
-      (map source (starter c r ∷ []))
-  one_ran c r e t g G long el q s b N h =
-      let z : Zip p.globals last [] G
-      S = record { pre_long = tt; post_long = long.1; saved = s_long; count = omega arith; guesses = s_length } in
-      let (M, h1) = start_back (g ∷ G) (zip_shape p.globals last [] G S g z long.0) q s b c r e t N h in (
-        M,
-        thread_back p last fits small w isw S (frame 0 [] t) (Bad p.globals last) (bad_single p.globals last) (suc M) M
-            (omega arith) [] g G z long.0 b (starter c r ∷ []) (starter_good c r e) h1,
-      )
+  module _ (t : Code) where
+    -- the run of one thread
+    one_ran : (c : ℕ) (r : Routine) → slice_get p.routines c ≡ Some r → (g : List Bool) (G : List (List Bool))
+        (are : AreRows p.globals (suc last) (g ∷ G)) (q : ℕ) (s b : Bool) (N : ℕ)
+        → PlainAfter w N
+        (main_at (lay (g ∷ G) S (bits_of q s b)) (one plain (assign zero_targets zero_sides) (one plain (call (suc c) []) t)))
+        (Bad p.globals last)
+        → (f : ℕ)
+        × Ends setting S (frame 0 [] t) (Bad p.globals last) (bad_single p.globals last) f G (first_seat g G are) b
+        (map source (entered c r [] ∷ []))
+    one_ran c r e g G are q s b N h =
+        let seat : Seat p.globals last S G = first_seat g G are in
+        let (M, h1) = start_back (g ∷ G) (moment seat b).shape q s b c r e t N h in (
+          M,
+          thread_back setting S (frame 0 [] t) (Bad p.globals last) (bad_single p.globals last) (suc M) M (omega arith) G seat b
+              (entered c r [] ∷ []) (starter_good c r e) h1,
+        )
 
-  pub starts_back : (t : Code) (T : List ℕ) → EachThread p.routines T → (G : List (List Bool)) → Long p.globals G → length G ≡ suc last
-      → (q : ℕ) (s b : Bool) (N : ℕ) → PlainAfter w N (main_at (lay G S (bits_of q s b)) (starts naming last T t)) (Bad p.globals last)
+  -- a run through the starts of all threads
+  pub starts_back : (t : Code) (T : List ℕ) → EachThread p.routines T → (G : List (List Bool)) → AreRows p.globals (suc last) G
+      → (q : ℕ) (s b : Bool) (N : ℕ)
+      → PlainAfter w N (main_at (lay G S (bits_of q s b)) (starts naming last T t)) (Bad p.globals last)
       → Ran T t G b
-  starts_back t [] there G long el q s b N h = record {
+  starts_back t [] there G are q s b N h = record {
     left = N;
     rows = G;
-    long = long;
+    long = are.0;
     same = refl;
     round = q;
     stop = s;
@@ -307,23 +318,14 @@ module _ (p : Program) (last : ℕ) (fits : FitsScopes p) (small : last < most_r
     run = h;
     turns = inl (refl, ([], refl));
   }
-  starts_back t (c ∷ T) there [] long el q s b N h = absurd (omega arith)
-  starts_back t (c ∷ T) there (g ∷ G) long el q s b N h =
-      rest_ran t c T (slice_get p.routines c) refl there.0 g G long el q s b N h (starts_back t T there.1)
-    where
-      rest_ran : (t : Code) (c : ℕ) (T : List ℕ) (o : Option Routine) → slice_get p.routines c ≡ o → AtRoutine o (λ r. Unit {0})
-          → (g : List Bool) (G : List (List Bool)) → Long p.globals (g ∷ G) → length (g ∷ G) ≡ suc last → (q : ℕ) (s b : Bool) (N : ℕ)
-          → PlainAfter w N (main_at (lay (g ∷ G) S (bits_of q s b)) (starts naming last (c ∷ T) t)) (Bad p.globals last)
-          → ((H : List (List Bool)) → Long p.globals H → length H ≡ suc last → (q : ℕ) (s b : Bool) (N : ℕ)
-          → PlainAfter w N (main_at (lay H S (bits_of q s b)) (starts naming last T t)) (Bad p.globals last) → Ran T t H b)
-          → Ran (c ∷ T) t (g ∷ G) b
-      rest_ran t c T None e h g G long el q s b N run rec = absurd h
-      rest_ran t c T (Some r) e h g G long el q s b N run rec =
-          let (f, x) = one_ran c r e (starts naming last T t) g G long el q s b N run in
-          let turns : ((x.bad ≡ b) × ((s' : List Frame) × Turns p (g ∷ G) (starting_stack p.routines c) (x.g' ∷ x.post') s'))
-          ⊎ ((x.bad ≡ true) × FailTurns p (g ∷ G) (starting_stack p.routines c) (x.g' ∷ x.post')) =
-          subst
-          (λ y. ((x.bad ≡ b) × ((s' : List Frame) × Turns p (g ∷ G) y (x.g' ∷ x.post') s'))
-          ⊎ ((x.bad ≡ true) × FailTurns p (g ∷ G) y (x.g' ∷ x.post'))) (starter_is c r e) x.turns in
-          ran_more c T t (g ∷ G) (x.g' ∷ x.post') b x.bad (ap suc x.same) turns
-          (rec (x.g' ∷ x.post') (x.long, x.post_long) (ap suc x.same ∙ el) x.round x.stop x.bad x.left x.run)
+  starts_back t (c ∷ T) there [] are q s b N h = absurd (let e : 0 ≡ suc last = are.1 in omega arith)
+  starts_back t (c ∷ T) there (g ∷ G) are q s b N h =
+      let (r, e) = there_is (slice_get p.routines c) there.0 in
+      let (f, x) = one_ran (starts naming last T t) c r e g G are q s b N h in
+      let turns : ((x.bad ≡ b) × ((s' : List Frame) × Turns p (g ∷ G) (starting_stack p.routines c) (x.g' ∷ x.post') s'))
+      ⊎ ((x.bad ≡ true) × FailTurns p (g ∷ G) (starting_stack p.routines c) (x.g' ∷ x.post')) =
+      subst
+      (λ y. ((x.bad ≡ b) × ((s' : List Frame) × Turns p (g ∷ G) y (x.g' ∷ x.post') s'))
+      ⊎ ((x.bad ≡ true) × FailTurns p (g ∷ G) y (x.g' ∷ x.post'))) (starter_is c r e) x.turns in
+      ran_more c T t (g ∷ G) (x.g' ∷ x.post') b x.bad (ap suc x.same) turns
+      (starts_back t T there.1 (x.g' ∷ x.post') ((x.long, x.post_long), ap suc x.same ∙ are.1) x.round x.stop x.bad x.left x.run)

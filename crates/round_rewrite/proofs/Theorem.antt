@@ -1,5 +1,5 @@
 -- The rewriting theorem over places.
-use Rattle.std.proofs.Common.{◌≡◌, ℕ, suc, ◌<◌, Bool, true, false, List, [], ◌∷◌, None, refl, sym, subst, inl, inr}
+use Rattle.std.proofs.Common.{◌≡◌, ℕ, suc, ◌<◌, Bool, true, List, [], ◌∷◌, None, refl, sym, subst, inl, inr}
 use Rattle.language.specs.Tree.{done, one, choose, loop}
 use Rattle.language.specs.Value.{bit}
 use Rattle.language.specs.Rest.{Code}
@@ -10,11 +10,9 @@ use Rattle.round_rewrite.specs.Table.{main}
 use Rattle.round_rewrite.specs.Places.{places, all_globals, rewritten_program, bad_at, global_count}
 use Rattle.resolved.specs.Scoped.{FitsScopes}
 use Rattle.round_rewrite.specs.Law.{Keeps}
-use Rattle.round_rewrite.proofs.Laid.{bits_of, lay}
 use Rattle.round_rewrite.proofs.Plain.{PlainAfter, bare_state, world_of, plain_after}
 use Rattle.round_rewrite.proofs.Turns.{after_map, after_pick}
-use Rattle.round_rewrite.proofs.Compose.{copies}
-use Rattle.round_rewrite.proofs.Guessing.{Bad, main_at}
+use Rattle.round_rewrite.proofs.Guessing.{Bad}
 use Rattle.round_rewrite.proofs.Assembly.{start_is, unsafe_leads, leads_unsafe}
 use Rattle.round_rewrite.proofs.Uncalled.{never_asked}
 use Rattle.round_rewrite.specs.Limits.{most_rounds}
@@ -31,9 +29,6 @@ module _ (p : Program) (last : ℕ) (fits : FitsScopes p) (small : last < most_r
 
   abbrev zero_valuation : Valuation
   zero_valuation = record { globals = zeros (global_count p.globals last); places = [] }
-
-  abbrev bare_start : State
-  bare_start = main_at (lay (copies (suc last) (zeros p.globals)) (copies last (zeros p.globals)) (bits_of 0 false false)) body
 
   to_pair : (n : ℕ) (u : State) → AfterSteps result n start (λ v. v ≡ u) → Bad p.globals last (bare_state u) →
       SomeBad result (bad_at p.globals last)

@@ -1,20 +1,17 @@
 -- A run of a rewritten thread down to the first procedure is the thread's turns, or turns that fail.
-use Rattle.std.proofs.Common.{◌≡◌, ℕ, zero, suc, ◌+◌, ◌<◌, ◌≤◌, Bool, true, false, List, [], ◌∷◌, ◌++◌, length, map, refl, sym, ◌∙◌, ap}
-use Rattle.std.proofs.Common.{subst, arith, append_assoc, length-append, ◌⊎◌, inl, inr}
+use Rattle.std.proofs.Common.{◌≡◌, ℕ, zero, suc, ◌+◌, ◌<◌, ◌≤◌, Bool, true, false, List, [], ◌∷◌, ◌++◌}
+use Rattle.std.proofs.Common.{length, map, refl, sym, ◌∙◌, ap, subst, arith, append_assoc, length-append, ◌⊎◌, inl, inr}
 use Rattle.language.specs.Tree.{done, one, choose, loop}
 use Rattle.language.specs.Rest.{Code}
-use Rattle.language.specs.Step.{Program, Frame, frame, State, state, StepsTo, Fails}
+use Rattle.language.specs.Step.{Frame, State, state, StepsTo, Fails}
 use Rattle.round_rewrite.specs.Table.{plain, prologue}
 use Rattle.round_rewrite.specs.Places.{places}
-use Rattle.resolved.specs.Scoped.{FitsScopes}
-use Rattle.round_rewrite.proofs.Laid.{row_middle, with_middle, Long, long-append, bits_of, lay, Shape}
-use Rattle.round_rewrite.proofs.Plain.{World, PlainAfter}
+use Rattle.round_rewrite.proofs.Laid.{row_middle, with_middle, Long, long-append, bits_of, lay, Shape, Moment, globals_at}
+use Rattle.round_rewrite.proofs.Plain.{PlainAfter}
 use Rattle.round_rewrite.proofs.Prologue.{Exits, rose, went, stopped, exits}
-use Rattle.round_rewrite.proofs.Frames.{Both, source, Good, AllGood, put_rest, callers, stack, IsWorld}
-use Rattle.round_rewrite.proofs.Forward.{both, inner}
+use Rattle.round_rewrite.proofs.Frames.{Activation, both, Both, source, Good, AllGood, put_rest, inner, top, site, stack, Setting}
 use Rattle.round_rewrite.proofs.Backward.{Begins, moved, failed, step_back, unwind_back, never_below}
 use Rattle.round_rewrite.proofs.Turns.{Turns, FailTurns, idle, step_turns, step_fails, no_steps}
-use Rattle.round_rewrite.specs.Limits.{most_rounds}
 
 -- the rows before and behind the round's row, and the saved guesses, have their numbers and lengths
 pub record Zip (n last : ℕ) (pre post S : List (List Bool)) : Type 0 where
@@ -24,6 +21,7 @@ pub record Zip (n last : ℕ) (pre post S : List (List Bool)) : Type 0 where
   pub count : length pre + length post ≡ last
   pub guesses : length S ≡ last
 
+-- the rows with that of the round have their shape
 pub zip_shape : (n last : ℕ) (pre post S : List (List Bool)) (h : List Bool) → Zip n last pre post S → length h ≡ n
     → Shape n last (pre ++ h ∷ post) S
 zip_shape n last pre post S h z e = record {
@@ -33,6 +31,7 @@ zip_shape n last pre post S h z e = record {
   guesses = z.guesses;
 }
 
+-- the row of the round is one of those before the next
 pub zip_next : (n last : ℕ) (pre post S : List (List Bool)) (g h : List Bool) → Zip n last pre (h ∷ post) S → length g ≡ n
     → Zip n last (pre ++ g ∷ []) post S
 zip_next n last pre post S g h z e = record {
@@ -45,14 +44,53 @@ zip_next n last pre post S g h z e = record {
   guesses = z.guesses;
 }
 
+-- one row more
 pub length-next : (pre : List (List Bool)) (g : List Bool) → length (pre ++ g ∷ []) ≡ suc (length pre)
 length-next pre g = length-append pre (g ∷ []) ∙ omega arith
 
-module _ (p : Program) (last : ℕ) (fits : FitsScopes p) (small : last < most_rounds) (w : World)
-    (isw : IsWorld p last w) (S : List (List Bool)) (m : Frame) (Q : State → Type 0)
+-- where a thread is in the rows: the rows before, the globals in its round, and that all rows, with those behind it,
+-- fit
+pub record Seat (n last : ℕ) (S post : List (List Bool)) : Type 0 where
+  pub pre : List (List Bool)
+  pub g : List Bool
+  pub zip : Zip n last pre post S
+  pub long : length g ≡ n
+
+-- the same place, with other globals
+abbrev pub reseat : {n last : ℕ} {S post : List (List Bool)} (r : Seat n last S post) (h : List Bool) → length h ≡ n
+    → Seat n last S post
+reseat r h e = record { pre = r.pre; g = h; zip = r.zip; long = e }
+
+-- the place one row on
+abbrev pub next_seat : {n last : ℕ} {S post : List (List Bool)} {h : List Bool} (r : Seat n last S (h ∷ post)) → Seat n last S post
+next_seat {n} {last} {S} {post} {h} r = record {
+  pre = r.pre ++ r.g ∷ [];
+  g = h;
+  zip = zip_next n last r.pre post S r.g h r.zip r.long;
+  long = r.zip.post_long.0;
+}
+
+-- the globals of the rewritten program in the thread's round
+abbrev pub moment : {n last : ℕ} {S post : List (List Bool)} (r : Seat n last S post) → Bool → Moment n last
+moment {n} {last} {S} {post} r b = record {
+  C = r.pre ++ r.g ∷ post;
+  S = S;
+  q = length r.pre;
+  b = b;
+  shape = zip_shape n last r.pre post S r.g r.zip r.long;
+  within = (let c : length r.pre + length post ≡ last = r.zip.count in omega arith);
+}
+
+module _ (setting : Setting) (S : List (List Bool)) (m : Frame) (Q : State → Type 0)
     (single : (g : List Bool) (f f' : Frame) (fs : List Frame) → Q (state g (f ∷ f' ∷ fs)) → ⊥) where
-  -- the run comes down to the first procedure, and the thread has made its turns
-  pub record Ends (N : ℕ) (pre : List (List Bool)) (g : List Bool) (post : List (List Bool)) (b : Bool) (s : List Frame) : Type 0 where
+  open setting use {p, last, fits, small, w, isw}
+
+  -- a place in rows of this program
+  abbrev Seated : List (List Bool) → Type 0
+  Seated post = Seat p.globals last S post
+
+  -- the run comes down to the first procedure
+  pub record Down (N : ℕ) (pre post : List (List Bool)) : Type 0 where
     pub left : ℕ
     pub fewer : left ≤ N
     pub g' : List Bool
@@ -64,198 +102,183 @@ module _ (p : Program) (last : ℕ) (fits : FitsScopes p) (small : last < most_r
     pub stop : Bool
     pub bad : Bool
     pub run : PlainAfter w left (state (lay (pre ++ g' ∷ post') S (bits_of round stop bad)) (m ∷ [])) Q
-    pub turns : ((bad ≡ b) × ((s' : List Frame) × Turns p (g ∷ post) s (g' ∷ post') s'))
-        ⊎ ((bad ≡ true) × FailTurns p (g ∷ post) s (g' ∷ post'))
 
+  -- the run comes down to the first procedure, and the thread has made its turns
+  pub record Ends (N : ℕ) (post : List (List Bool)) (r : Seat p.globals last S post) (b : Bool) (s : List Frame) : Type 0 where
+    pub down : Down N r.pre post
+    pub open down use *
+    pub turns : ((bad ≡ b) × ((s' : List Frame) × Turns p (r.g ∷ post) s (g' ∷ post') s'))
+        ⊎ ((bad ≡ true) × FailTurns p (r.g ∷ post) s (g' ∷ post'))
+
+  -- what is claimed of runs of fewer than f steps, from where the top frame stands at the start of its rest
   abbrev Rec : ℕ → Type 0
-  Rec f = (N : ℕ) → N < f → (pre : List (List Bool)) (g : List Bool) (post : List (List Bool)) → Zip p.globals last pre post S
-      → length g ≡ p.globals → (b : Bool) (bs : List Both) → AllGood p last bs
-      → PlainAfter w N (state (lay (pre ++ g ∷ post) S (bits_of (length pre) false b)) (stack p last bs m)) Q
-      → Ends N pre g post b (map source bs)
+  Rec f = (N : ℕ) → N < f → (post : List (List Bool)) (r : Seated post) (b : Bool) (bs : List Both) → AllGood p last bs
+      → PlainAfter w N (state (globals_at (moment r b)) (stack p last bs m)) Q → Ends N post r b (map source bs)
 
-  -- what ends the run ends it from before, where the turns from there are known
-  kept : (N M : ℕ) → M ≤ N → (pre : List (List Bool)) (g h : List Bool) (post : List (List Bool)) (b : Bool)
-      (s t : List Frame) (e : Ends M pre h post b t)
-      → ((e.bad ≡ b) × ((s' : List Frame) × Turns p (g ∷ post) s (e.g' ∷ e.post') s'))
-      ⊎ ((e.bad ≡ true) × FailTurns p (g ∷ post) s (e.g' ∷ e.post'))
-      → Ends N pre g post b s
-  kept N M le pre g h post b s t e turns = record {
-    left = e.left;
-    fewer = (let k : e.left ≤ M = e.fewer in omega arith);
-    g' = e.g';
-    post' = e.post';
-    long = e.long;
-    post_long = e.post_long;
-    same = e.same;
-    round = e.round;
-    stop = e.stop;
-    bad = e.bad;
-    run = e.run;
-    turns = turns;
+  -- what ends the run ends a longer one
+  longer : (N M : ℕ) → M ≤ N → (post : List (List Bool)) (r : Seated post) (b : Bool) (s : List Frame) → Ends M post r b s
+      → Ends N post r b s
+  longer N M le post r b s e = record {
+    down = record {
+      left = e.left;
+      fewer = (let k : e.left ≤ M = e.fewer in omega arith);
+      g' = e.g';
+      post' = e.post';
+      long = e.long;
+      post_long = e.post_long;
+      same = e.same;
+      round = e.round;
+      stop = e.stop;
+      bad = e.bad;
+      run = e.run;
+    };
+    turns = e.turns;
   }
 
-  after_step : (N M : ℕ) → M ≤ N → (pre : List (List Bool))
-      (g h : List Bool) (post : List (List Bool)) (b : Bool) (s t : List Frame)
-      → StepsTo p (state g s) (λ u. u ≡ state h t) → Ends M pre h post b t → Ends N pre g post b s
-  after_step N M le pre g h post b s t step e =
-      kept N M le pre g h post b s t e
-      (elim e.turns [
-        | inl (eb, (s', ts)) ↦ inl (eb, (s', step_turns p g h post s t e.g' e.post' s' step ts))
-        | inr (eb, ts) ↦ inr (eb, step_fails p g h post s t e.g' e.post' step ts)
-      ])
-
-  after_row : (N M : ℕ) → M ≤ N → (pre : List (List Bool)) (g h : List Bool) (post : List (List Bool)) (b : Bool) (s : List Frame)
-      → length g ≡ p.globals → Ends M (pre ++ g ∷ []) h post b s → Ends N pre g (h ∷ post) b s
-  after_row N M le pre g h post b s eg e = record {
-    left = e.left;
-    fewer = (let k : e.left ≤ M = e.fewer in omega arith);
-    g' = g;
-    post' = e.g' ∷ e.post';
-    long = eg;
-    post_long = (e.long, e.post_long);
-    same = ap suc e.same;
-    round = e.round;
-    stop = e.stop;
-    bad = e.bad;
-    run =
-        subst (λ z. PlainAfter w e.left (state (lay z S (bits_of e.round e.stop e.bad)) (m ∷ [])) Q)
-        (append_assoc pre (g ∷ []) (e.g' ∷ e.post')) e.run;
+  -- what ends the run ends it from a step before
+  after_step : (N : ℕ) (post : List (List Bool)) (r : Seated post) (h : List Bool) (eh : length h ≡ p.globals) (b : Bool)
+      (s t : List Frame) → StepsTo p (state r.g s) (λ u. u ≡ state h t) → Ends N post (reseat r h eh) b t → Ends N post r b s
+  after_step N post r h eh b s t step e = record {
+    down = e.down;
     turns = elim e.turns [
-      | inl (eb, (s', ts)) ↦ inl (eb, (s', (s, no_steps p (state g s), ts)))
-      | inr (eb, ts) ↦ inr (eb, inr (s, no_steps p (state g s), ts))
+      | inl (eb, (s', ts)) ↦ inl (eb, (s', step_turns p r.g h post s t e.g' e.post' s' step ts))
+      | inr (eb, ts) ↦ inr (eb, step_fails p r.g h post s t e.g' e.post' step ts)
     ];
   }
 
-  ended : (N : ℕ) (pre : List (List Bool)) (g : List Bool) (post : List (List Bool)) (q : ℕ) (stop b : Bool) (s : List Frame) (M : ℕ)
-      → M ≤ N → Zip p.globals last pre post S → length g ≡ p.globals
-      → PlainAfter w M (state (lay (pre ++ g ∷ post) S (bits_of q stop b)) (m ∷ [])) Q → Ends N pre g post b s
-  ended N pre g post q stop b s M le z eg run = record {
-    left = M;
-    fewer = le;
-    g' = g;
-    post' = post;
-    long = eg;
-    post_long = z.post_long;
-    same = refl;
-    round = q;
-    stop = stop;
-    bad = b;
-    run = run;
-    turns = inl (refl, (s, idle p (g ∷ post) s));
+  -- what ends the run from the next row ends it from this one
+  after_row : (N : ℕ) (h : List Bool) (post : List (List Bool)) (r : Seated (h ∷ post)) (b : Bool) (s : List Frame)
+      → Ends N post (next_seat r) b s → Ends N (h ∷ post) r b s
+  after_row N h post r b s e = record {
+    down = record {
+      left = e.left;
+      fewer = e.fewer;
+      g' = r.g;
+      post' = e.g' ∷ e.post';
+      long = r.long;
+      post_long = (e.long, e.post_long);
+      same = ap suc e.same;
+      round = e.round;
+      stop = e.stop;
+      bad = e.bad;
+      run =
+          subst (λ z. PlainAfter w e.left (state (lay z S (bits_of e.round e.stop e.bad)) (m ∷ [])) Q)
+          (append_assoc r.pre (r.g ∷ []) (e.g' ∷ e.post')) e.run;
+    };
+    turns = elim e.turns [
+      | inl (eb, (s', ts)) ↦ inl (eb, (s', (s, no_steps p (state r.g s), ts)))
+      | inr (eb, ts) ↦ inr (eb, inr (s, no_steps p (state r.g s), ts))
+    ];
   }
 
-  begun : (f : ℕ) → Rec f → (N : ℕ) → N ≤ f
-      → (pre : List (List Bool)) (g : List Bool) (post : List (List Bool)) (z : Zip p.globals last pre post S) (eg : length g ≡ p.globals)
-      (b : Bool) (c own : ℕ) (l tmp : List Bool) (rest : Code) (bs : List Both) → (within : length pre ≤ last)
-      → Begins p last fits small w isw (pre ++ g ∷ post) S (length pre) b
-      (zip_shape p.globals last pre post S g z eg) within m Q single N c l tmp rest bs
-      → Ends N pre g post b (frame c l rest ∷ map source bs)
-  begun f rec N le pre g post z eg b c own l tmp rest bs within (moved h bs' eh good step (M, lt, run)) =
-      let step' : StepsTo p (state g (frame c l rest ∷ map source bs)) (λ u. u ≡ state h (map source bs')) =
-      subst (λ y. StepsTo p (state y (frame c l rest ∷ map source bs)) (λ u. u ≡ state h (map source bs'))) (row_middle pre g post) step in
-      let run' : PlainAfter w M (state (lay (pre ++ h ∷ post) S (bits_of (length pre) false b)) (stack p last bs' m)) Q =
-      subst (λ y. PlainAfter w M (state (lay y S (bits_of (length pre) false b)) (stack p last bs' m)) Q) (with_middle pre g h post) run in
-      after_step N M (omega arith) pre g h post b (frame c l rest ∷ map source bs) (map source bs') step'
-      (rec M (omega arith) pre h post z eh b bs' good run')
-  begun f rec N le pre g post z eg b c own l tmp rest bs within (failed fails (M, lt, run)) =
-      let fails' : Fails (state g (frame c l rest ∷ map source bs)) =
-      subst (λ y. Fails (state y (frame c l rest ∷ map source bs))) (row_middle pre g post) fails in
-      let (M', lt', run') =
-      unwind_back p last fits small w isw (pre ++ g ∷ post) S (length pre) b
-      (zip_shape p.globals last pre post S g z eg) within m Q single (suc c) (l ++ tmp) bs (length pre) true M run in
-      record {
-        left = M';
-        fewer = omega arith;
-        g' = g;
-        post' = post;
-        long = eg;
-        post_long = z.post_long;
-        same = refl;
-        round = length pre;
-        stop = true;
-        bad = true;
-        run = run';
-        turns = inr (refl, inl (frame c l rest ∷ map source bs, no_steps p (state g (frame c l rest ∷ map source bs)), fails', refl));
-      }
+  -- the first procedure is on top, and the rows are as they were
+  abbrev down_here : (N : ℕ) (post : List (List Bool)) (r : Seated post) (q : ℕ) (s b : Bool)
+      → PlainAfter w N (state (lay (r.pre ++ r.g ∷ post) S (bits_of q s b)) (m ∷ [])) Q → Down N r.pre post
+  down_here N post r q s b run = record {
+    left = N;
+    fewer = omega arith;
+    g' = r.g;
+    post' = post;
+    long = r.long;
+    post_long = r.zip.post_long;
+    same = refl;
+    round = q;
+    stop = s;
+    bad = b;
+    run = run;
+  }
 
-  rose_back : (f : ℕ) → Rec f → (N M : ℕ) → M < N → N ≤ f → (pre : List (List Bool)) (g : List Bool) (post : List (List Bool))
-      → Zip p.globals last pre post S → length g ≡ p.globals → (b : Bool) (bs : List Both) → AllGood p last bs → length pre < last
-      → PlainAfter w M (state (lay (pre ++ g ∷ post) S (bits_of (suc (length pre)) false b)) (stack p last bs m)) Q
-      → Ends N pre g post b (map source bs)
-  rose_back f rec N M lt le pre g [] z eg b bs good more run = absurd (let c : length pre + 0 ≡ last = z.count in omega arith)
-  rose_back f rec N M lt le pre g (h ∷ post) z eg b bs good more run =
-      after_row N M (omega arith) pre g h post b (map source bs) eg
-      (rec M (omega arith) (pre ++ g ∷ []) h post (zip_next p.globals last pre post S g h z eg) z.post_long.0 b bs good
-      (subst (λ y. PlainAfter w M (state (lay y S (bits_of (length (pre ++ g ∷ [])) false b)) (stack p last bs m)) Q)
-      (sym (append_assoc pre (g ∷ []) (h ∷ post)))
-      (subst (λ k. PlainAfter w M (state (lay (pre ++ g ∷ h ∷ post) S (bits_of k false b)) (stack p last bs m)) Q)
-      (sym (length-next pre g)) run)))
+  -- the thread stops where it is
+  ended : (N : ℕ) (post : List (List Bool)) (r : Seated post) (q : ℕ) (s b : Bool) (fs : List Frame)
+      → PlainAfter w N (state (lay (r.pre ++ r.g ∷ post) S (bits_of q s b)) (m ∷ [])) Q → Ends N post r b fs
+  ended N post r q s b fs run =
+      record { down = down_here N post r q s b run; turns = inl (refl, (fs, idle p (r.g ∷ post) fs)) }
 
-  exited : (f : ℕ) → Rec f → (N : ℕ) → N ≤ f
-      → (pre : List (List Bool)) (g : List Bool) (post : List (List Bool)) (z : Zip p.globals last pre post S) (eg : length g ≡ p.globals)
-      (b : Bool) (c own : ℕ) (l tmp : List Bool) (rest : Code) (bs : List Both) → Good p last (both c own l tmp rest) → AllGood p last bs
-      → (within : length pre ≤ last)
-      → put_rest p last own rest
-      ≡ prologue (places p.globals last own) last plain
-      (inner p last fits small w isw (pre ++ g ∷ post) S (length pre) b (zip_shape p.globals last pre post S g z eg) within m own rest)
-      → Exits w p.globals last own (pre ++ g ∷ post) S (zip_shape p.globals last pre post S g z eg) small (suc c) (l ++ tmp)
-      (callers p last bs m) Q N (length pre) b
-      (inner p last fits small w isw (pre ++ g ∷ post) S (length pre) b (zip_shape p.globals last pre post S g z eg) within m own rest)
-      → Ends N pre g post b (frame c l rest ∷ map source bs)
-  exited f rec N le pre g post z eg b c own l tmp rest bs h good within is (rose more (M, lt, run)) =
-      rose_back f rec N M lt le pre g post z eg b (both c own l tmp rest ∷ bs) (h, good) more
-      (subst
-      (λ t.
-      PlainAfter w M
-      (state (lay (pre ++ g ∷ post) S (bits_of (suc (length pre)) false b)) (frame (suc c) (l ++ tmp) t ∷ callers p last bs m)) Q)
-      (sym is) run)
-  exited f rec N le pre g post z eg b c own l tmp rest bs h good within is (went (M, lt, run)) =
-      weaker (begun f rec M (omega arith) pre g post z eg b c own l tmp rest bs within
-      (step_back p last fits small w isw (pre ++ g ∷ post) S (length pre) b
-      (zip_shape p.globals last pre post S g z eg) within m Q single M c own l tmp rest bs h good run))
-    where
-      weaker : Ends M pre g post b (frame c l rest ∷ map source bs) → Ends N pre g post b (frame c l rest ∷ map source bs)
-      weaker e = let le : M ≤ N = omega arith in kept N M le pre g g post b _ _ e e.turns
-  exited f rec N le pre g post z eg b c own l tmp rest bs h good within is (stopped (M, lt, run)) =
-      let (M', lt', run') =
-      unwind_back p last fits small w isw (pre ++ g ∷ post) S (length pre) b
-      (zip_shape p.globals last pre post S g z eg) within m Q single (suc c) (l ++ tmp) bs (length pre) b M run in
-      ended N pre g post (length pre) true b (frame c l rest ∷ map source bs) M' (omega arith) z eg run'
+  module _ (f : ℕ) (rec : Rec f) where
+    -- a run that begins with a step of the source, or with its failure
+    begun : (N : ℕ) → N ≤ f → (post : List (List Bool)) (r : Seated post) (b : Bool) (a : Activation) (rest : Code) (bs : List Both)
+        → Begins setting (moment r b) m Q single N a rest bs → Ends N post r b (map source (both a rest ∷ bs))
+    begun N le post r b a rest bs (moved h bs' eh good step (M, lt, run)) =
+        let here : List Frame = map source (both a rest ∷ bs) in
+        let step' : StepsTo p (state r.g here) (λ u. u ≡ state h (map source bs')) =
+        subst (λ y. StepsTo p (state y here) (λ u. u ≡ state h (map source bs'))) (row_middle r.pre r.g post) step in
+        let run' : PlainAfter w M (state (globals_at (moment (reseat r h eh) b)) (stack p last bs' m)) Q =
+        subst (λ y. PlainAfter w M (state (lay y S (bits_of (length r.pre) false b)) (stack p last bs' m)) Q)
+        (with_middle r.pre r.g h post) run in
+        longer N M (omega arith) post r b here
+        (after_step M post r h eh b here (map source bs') step' (rec M (omega arith) post (reseat r h eh) b bs' good run'))
+    begun N le post r b a rest bs (failed fails (M, lt, run)) =
+        let here : List Frame = map source (both a rest ∷ bs) in
+        let fails' : Fails (state r.g here) = subst (λ y. Fails (state y here)) (row_middle r.pre r.g post) fails in
+        let (M', lt', run') =
+        unwind_back setting (moment r b) m Q single a bs (length r.pre) true M run in
+        longer N M' (omega arith) post r b here (record {
+          down = down_here M' post r (length r.pre) true true run';
+          turns = inr (refl, inl (here, no_steps p (state r.g here), fails', refl));
+        })
 
-  top_back : (f : ℕ) → Rec f → (N : ℕ) → N ≤ f
-      → (pre : List (List Bool)) (g : List Bool) (post : List (List Bool)) (z : Zip p.globals last pre post S) (eg : length g ≡ p.globals)
-      (b : Bool) (c own : ℕ) (l tmp : List Bool) (rest : Code) (bs : List Both) → Good p last (both c own l tmp rest) → AllGood p last bs
-      → (within : length pre ≤ last)
-      → PlainAfter w N
-      (state (lay (pre ++ g ∷ post) S (bits_of (length pre) false b))
-      (frame (suc c) (l ++ tmp) (put_rest p last own rest) ∷ callers p last bs m)) Q → Ends N pre g post b (frame c l rest ∷ map source bs)
-  top_back f rec N le pre g post z eg b c own l tmp done bs h good within run =
-      begun f rec N le pre g post z eg b c own l tmp done bs within
-      (step_back p last fits small w isw (pre ++ g ∷ post) S (length pre) b
-      (zip_shape p.globals last pre post S g z eg) within m Q single N c own l tmp done bs h good run)
-  top_back f rec N le pre g post z eg b c own l tmp (one k s t) bs h good within run =
-      exited f rec N le pre g post z eg b c own l tmp (one k s t) bs h good within refl
-      (exits w p.globals last own (pre ++ g ∷ post) S (zip_shape p.globals last pre post S g z eg) small (suc c) (l ++ tmp)
-      (callers p last bs m) Q
-      (never_below p last fits small w isw (pre ++ g ∷ post) S (length pre) b
-      (zip_shape p.globals last pre post S g z eg) within m Q single bs) N (length pre) b _ within run)
-  top_back f rec N le pre g post z eg b c own l tmp (choose k r x y t) bs h good within run =
-      exited f rec N le pre g post z eg b c own l tmp (choose k r x y t) bs h good within refl
-      (exits w p.globals last own (pre ++ g ∷ post) S (zip_shape p.globals last pre post S g z eg) small (suc c) (l ++ tmp)
-      (callers p last bs m) Q
-      (never_below p last fits small w isw (pre ++ g ∷ post) S (length pre) b
-      (zip_shape p.globals last pre post S g z eg) within m Q single bs) N (length pre) b _ within run)
-  top_back f rec N le pre g post z eg b c own l tmp (loop k r x t) bs h good within run =
-      exited f rec N le pre g post z eg b c own l tmp (loop k r x t) bs h good within refl
-      (exits w p.globals last own (pre ++ g ∷ post) S (zip_shape p.globals last pre post S g z eg) small (suc c) (l ++ tmp)
-      (callers p last bs m) Q
-      (never_below p last fits small w isw (pre ++ g ∷ post) S (length pre) b
-      (zip_shape p.globals last pre post S g z eg) within m Q single bs) N (length pre) b _ within run)
+    -- a run that goes on in the next row
+    rose_back : (N : ℕ) → N < f → (post : List (List Bool)) (r : Seated post) (b : Bool) (bs : List Both) → AllGood p last bs
+        → length r.pre < last
+        → PlainAfter w N (state (lay (r.pre ++ r.g ∷ post) S (bits_of (suc (length r.pre)) false b)) (stack p last bs m)) Q
+        → Ends N post r b (map source bs)
+    rose_back N lt [] r b bs good more run = absurd (let c : length r.pre + 0 ≡ last = r.zip.count in omega arith)
+    rose_back N lt (h ∷ post) r b bs good more run =
+        after_row N h post r b (map source bs)
+        (rec N lt post (next_seat r) b bs good
+        (subst (λ y. PlainAfter w N (state (lay y S (bits_of (length (r.pre ++ r.g ∷ [])) false b)) (stack p last bs m)) Q)
+        (sym (append_assoc r.pre (r.g ∷ []) (h ∷ post)))
+        (subst (λ k. PlainAfter w N (state (lay (r.pre ++ r.g ∷ h ∷ post) S (bits_of k false b)) (stack p last bs m)) Q)
+        (sym (length-next r.pre r.g)) run)))
+
+    module _ (N : ℕ) (le : N ≤ f) (post : List (List Bool)) (r : Seated post) (b : Bool) (bs : List Both)
+        (good : AllGood p last bs) where
+      abbrev now : Moment p.globals last
+      now = moment r b
+
+      -- a run that has left the prologue of the top frame
+      exited : (a : Activation) (rest : Code) → Good p last (both a rest)
+          → put_rest p last a.own rest ≡ prologue (places p.globals last a.own) last plain (inner p last a.own rest)
+          → Exits w small (site p last now.C S now.shape a bs m) Q N
+          (length r.pre) b (inner p last a.own rest)
+          → Ends N post r b (map source (both a rest ∷ bs))
+      exited a rest h is (rose more (M, lt, run)) =
+          longer N M (omega (arith, le)) post r b (map source (both a rest ∷ bs))
+          (rose_back M (omega (arith, le)) post r b (both a rest ∷ bs) (h, good) more
+          (subst
+          (λ t. PlainAfter w M
+          (state (lay now.C S (bits_of (suc (length r.pre)) false b)) (top p last a t bs m)) Q)
+          (sym is) run))
+      exited a rest h is (went (M, lt, run)) =
+          longer N M (omega arith) post r b (map source (both a rest ∷ bs))
+          (begun M (omega (arith, le)) post r b a rest bs (step_back setting now m Q single bs good M a rest h run))
+      exited a rest h is (stopped (M, lt, run)) =
+          let (M', lt', run') = unwind_back setting now m Q single a bs (length r.pre) b M run in
+          longer N M' (omega arith) post r b (map source (both a rest ∷ bs))
+          (ended M' post r (length r.pre) true b (map source (both a rest ∷ bs)) run')
+
+      -- a run from the prologue of the top frame's rest
+      through : (a : Activation) (t : Code)
+          → PlainAfter w N (state (globals_at now)
+          (top p last a (prologue (places p.globals last a.own) last plain t) bs m)) Q
+          → Exits w small (site p last now.C S now.shape a bs m) Q N
+          (length r.pre) b t
+      through a t run =
+          exits w small (site p last now.C S now.shape a bs m) Q
+          (never_below setting now m Q single bs) N (length r.pre) b t now.within run
+
+      -- a run from the start of the rest of the top frame
+      top_back : (a : Activation) (rest : Code) → Good p last (both a rest)
+          → PlainAfter w N (state (globals_at now) (stack p last (both a rest ∷ bs) m)) Q
+          → Ends N post r b (map source (both a rest ∷ bs))
+      top_back a done h run = begun N le post r b a done bs (step_back setting now m Q single bs good N a done h run)
+      top_back a (one k s t) h run = exited a (one k s t) h refl (through a _ run)
+      top_back a (choose k q x y t) h run = exited a (choose k q x y t) h refl (through a _ run)
+      top_back a (loop k q x t) h run = exited a (loop k q x t) h refl (through a _ run)
 
   -- a run of the rewritten thread is the thread's turns
   pub thread_back : (f : ℕ) → Rec f
-  thread_back zero N lt pre g post z eg b bs good run = absurd (omega arith)
-  thread_back (suc f) N lt pre g post z eg b [] good run = ended N pre g post (length pre) false b [] N (omega arith) z eg run
-  thread_back (suc f) N lt pre g post z eg b (a ∷ bs) good run =
-      top_back f (thread_back f) N (omega arith) pre g post z eg b a.c a.own a.l a.tmp a.rest bs good.0 good.1
-      (let c : length pre + length post ≡ last = z.count in omega arith) run
+  thread_back zero N lt post r b bs good run = absurd (omega arith)
+  thread_back (suc f) N lt post r b [] good run = ended N post r (length r.pre) false b [] run
+  thread_back (suc f) N lt post r b (a ∷ bs) good run =
+      top_back f (thread_back f) N (omega arith) post r b bs good.1 a.activation a.rest good.0 run

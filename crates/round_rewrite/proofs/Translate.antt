@@ -1,6 +1,7 @@
 -- What the rewritten expressions are worth.
-use Rattle.std.proofs.Common.{◌≡◌, ℕ, zero, suc, ◌+◌, ◌*◌, ◌/◌, ◌%◌, ◌<◌, ◌≤◌, Bool, true, false, not, ◌&&◌, ◌||◌, List, [], ◌∷◌, ◌++◌}
-use Rattle.std.proofs.Common.{length, map, refl, sym, ◌∙◌, ap, ap₂, arith, inl, inr}
+use Rattle.std.proofs.Common.{◌≡◌, ℕ, zero, suc, ◌+◌, ◌*◌, ◌/◌, ◌%◌, ◌<◌, ◌≤◌, Bool, true, false, not}
+use Rattle.std.proofs.Common.{◌&&◌, ◌||◌, List, [], ◌∷◌, ◌++◌, length, map, refl, sym, ◌∙◌, ap, ap₂, arith, inl}
+use Rattle.std.proofs.Common.{inr}
 use Rattle.std.proofs.lemmas.Bool.{cases_eq}
 use Rattle.std.proofs.lemmas.List.{get_or_append_left}
 use Rattle.language.specs.Tree.{Expression, const, var, negation, two, RightSide, any, value}
@@ -8,7 +9,7 @@ use Rattle.language.specs.Value.{Place, global, local, bit, operate, look_up, va
 use Rattle.round_rewrite.specs.Table.{literal, in_round, joined, expression, side}
 use Rattle.round_rewrite.specs.Places.{places}
 use Rattle.resolved.specs.Scoped.{InScope, AreInScope, SideInScope}
-use Rattle.round_rewrite.proofs.Laid.{row, row_bit, high, low, bits_of, lay, Shape, bits_bit}
+use Rattle.round_rewrite.proofs.Laid.{row, row_bit, high, low, bits_of, Moment, globals_at, bits_bit}
 use Rattle.round_rewrite.specs.Limits.{most_rounds}
 
 pub or_false : (x : Bool) → (x || false) ≡ x
@@ -59,18 +60,19 @@ closed (suc (suc (suc zero))) (suc (suc (suc zero))) h h' = refl
 closed (suc (suc (suc (suc k)))) q h h' = absurd (omega arith)
 closed k (suc (suc (suc (suc q)))) h h' = absurd (omega arith)
 
-module _ (n last own : ℕ) (C S : List (List Bool)) (q : ℕ) (s b : Bool) (L : List Bool) (shape : Shape n last C S)
-    (small : last < most_rounds) (within : q ≤ last) where
-  abbrev pub globals_now : List Bool
-  globals_now = lay C S (bits_of q s b)
+module _ {n last : ℕ} (small : last < most_rounds) (now : Moment n last) (own : ℕ) (L : List Bool) where
+  open now use {C, S, q, b, shape, within}
+
+  abbrev globals_now : List Bool
+  globals_now = globals_at now
 
   -- `at` k is the test that the round is k
   pub at_is : (k : ℕ) → k ≤ last → value_of globals_now L (in_round (places n last own) last k) ≡ same k q
   at_is k h =
       ap₂ (λ x y. x && y) (literal_is globals_now L (k / 2 % 2) _) (literal_is globals_now L (k % 2) _)
-      ∙ (ap₂ (λ x y. lit (k / 2 % 2) x && lit (k % 2) y) (bits_bit n last C S (bits_of q s b) 0 shape)
-      (bits_bit n last C S (bits_of q s b) 1 shape)
-      ∙ closed k q (omega arith) (omega arith))
+      ∙ (ap₂ (λ x y. lit (k / 2 % 2) x && lit (k % 2) y) (bits_bit n last C S (bits_of q false b) 0 shape)
+      (bits_bit n last C S (bits_of q false b) 1 shape)
+      ∙ closed k q (omega arith) (omega (arith, within)))
 
   copy_is : (k i : ℕ) → k ≤ last → i < n → bit globals_now (k * n + i) ≡ bit (row C k) i
   copy_is k i h h' = row_bit n C _ k i shape.copies (let e : length C ≡ suc last = shape.rounds in omega arith) h'
@@ -78,13 +80,15 @@ module _ (n last own : ℕ) (C S : List (List Bool)) (q : ℕ) (s b : Bool) (L :
   and_false : (x y : Bool) → x ≡ false → (x && y) ≡ false
   and_false x y e = ap (λ z. z && y) e
 
-  before : (k i : ℕ) → k ≤ last → i < n → k < q → value_of globals_now L (joined (places n last own) last k (global i)) ≡ false
+  before : (k i : ℕ) → k ≤ last → i < n → k < q
+      → value_of globals_now L (joined (places n last own) last k (global i)) ≡ false
   before zero i h h' lt = and_false _ _ (at_is zero h ∙ same_false zero q (omega arith))
   before (suc k) i h h' lt =
       ap₂ (λ x y. x || y) (before k i (omega arith) h' (omega arith))
       (and_false _ _ (at_is (suc k) h ∙ same_false (suc k) q (omega arith)))
 
-  from : (k i : ℕ) → k ≤ last → i < n → q ≤ k → value_of globals_now L (joined (places n last own) last k (global i)) ≡ bit (row C q) i
+  from : (k i : ℕ) → k ≤ last → i < n → q ≤ k
+      → value_of globals_now L (joined (places n last own) last k (global i)) ≡ bit (row C q) i
   from zero i h h' le =
       let e : q ≡ zero = omega arith in
       ap₂ (λ x y. x && y) (at_is zero h ∙ (ap (same zero) e ∙ refl)) (copy_is zero i h h' ∙ ap (λ z. bit (row C z) i) (sym e))
@@ -106,10 +110,12 @@ module _ (n last own : ℕ) (C S : List (List Bool)) (q : ℕ) (s b : Bool) (L :
   expression_is l tmp eL el (negation e) h = ap not (expression_is l tmp eL el e h)
   expression_is l tmp eL el (two o x y) h = ap₂ (operate o) (expression_is l tmp eL el x h.0) (expression_is l tmp eL el y h.1)
 
-  pub expressions_are : (l tmp : List Bool) → L ≡ l ++ tmp → length l ≡ own → (es : List (Expression Place)) → AreInScope n own es
+  pub expressions_are : (l tmp : List Bool) → L ≡ l ++ tmp → length l ≡ own → (es : List (Expression Place))
+      → AreInScope n own es
       → values_of globals_now L (map (expression (places n last own) last) es) ≡ values_of (row C q) l es
   expressions_are l tmp eL el [] h = refl
-  expressions_are l tmp eL el (e ∷ es) h = ap₂ (λ x xs. x ∷ xs) (expression_is l tmp eL el e h.0) (expressions_are l tmp eL el es h.1)
+  expressions_are l tmp eL el (e ∷ es) h =
+      ap₂ (λ x xs. x ∷ xs) (expression_is l tmp eL el e h.0) (expressions_are l tmp eL el es h.1)
 
   pub side_is : (l tmp : List Bool) → L ≡ l ++ tmp → length l ≡ own → (r : RightSide Place) → SideInScope n own r → (v : Bool)
       → IsValue globals_now L (side (places n last own) last r) v ≡ IsValue (row C q) l r v

@@ -24,7 +24,8 @@ idle p (g ∷ G) s = (s, no_steps p (state g s), idle p G s)
 
 -- a step before the turns
 pub step_turns : (p : Program) (g h : List Bool) (G : List (List Bool)) (s t : List Frame) (g' : List Bool) (G' : List (List Bool))
-    (s' : List Frame) → StepsTo p (state g s) (λ u. u ≡ state h t) → Turns p (h ∷ G) t (g' ∷ G') s' → Turns p (g ∷ G) s (g' ∷ G') s'
+    (s' : List Frame) → StepsTo p (state g s) (λ u. u ≡ state h t) → Turns p (h ∷ G) t (g' ∷ G') s'
+    → Turns p (g ∷ G) s (g' ∷ G') s'
 step_turns p g h G s t g' G' s' step (mid, run, more) = (mid, step_runs p (state g s) (state h t) (state g' mid) step run, more)
 
 pub step_fails : (p : Program) (g h : List Bool) (G : List (List Bool)) (s t : List Frame) (g' : List Bool) (G' : List (List Bool))

@@ -1,6 +1,6 @@
 -- Nobody calls the first procedure of a rewritten program, so it is entered once, with every value 0.
-use Rattle.std.proofs.Common.{◌≡◌, ℕ, zero, suc, ◌+◌, Bool, true, false, cond, List, [], ◌∷◌, map, Option, Some, None, slice_get, refl, sym}
-use Rattle.std.proofs.Common.{◌∙◌, subst}
+use Rattle.std.proofs.Common.{◌≡◌, ℕ, zero, suc, ◌+◌, Bool, true, false, cond, List, [], ◌∷◌, map, Option, Some, None}
+use Rattle.std.proofs.Common.{slice_get, refl, sym, ◌∙◌, subst}
 use Rattle.language.specs.Tree.{RightSide, Simple, skip, assign, assert, assume, goto, leave, call, Mark, done, one, choose, loop}
 use Rattle.language.specs.Value.{Place, values_of}
 use Rattle.language.specs.Rest.{Label, Code, join, rest_from}
@@ -11,6 +11,7 @@ use Rattle.round_rewrite.specs.Table.{check, checks, main}
 use Rattle.round_rewrite.specs.Places.{places, all_globals, rewritten_routine, main_routine, rewritten_program}
 use Rattle.resolved.specs.Scoped.{Throughout}
 use Rattle.round_rewrite.proofs.Frames.{throughout-join, throughout-rest, IfThere}
+use Rattle.round_rewrite.proofs.InTurn.{keep}
 
 -- the statement does not call the first procedure
 abbrev Elsewhere : Simple Place ℕ Label → Type 0
@@ -87,10 +88,6 @@ module _ (n last own : ℕ) where
   away-guess [] k t h = h
   away-guess (x ∷ xs) k t h = (tt, (tt, h))
 
-  away-guesses : (xs : List Place) (ks : List ℕ) (t : Code) → Away t → Away (guesses w last xs ks t)
-  away-guesses xs [] t h = h
-  away-guesses xs (k ∷ ks) t h = away-guess xs k (guesses w last xs ks t) (away-guesses xs ks t h)
-
   away-starts : (T : List ℕ) (t : Code) → Away t → Away (starts w last T t)
   away-starts [] t h = h
   away-starts (c ∷ T) t h = (tt, ((c, refl), away-starts T t h))
@@ -99,14 +96,12 @@ module _ (n last own : ℕ) where
   away-check [] k t h = h
   away-check (x ∷ xs) k t h = (tt, away-check xs k t h)
 
-  away-checks : (xs : List Place) (ks : List ℕ) (t : Code) → Away t → Away (checks w last xs ks t)
-  away-checks xs [] t h = h
-  away-checks xs (k ∷ ks) t h = away-check xs k (checks w last xs ks t) (away-checks xs ks t h)
-
   away-main : (xs : List Place) (T : List ℕ) → Away (main w last xs T)
   away-main xs T =
-      away-guesses xs (numbers 1 last) (starts w last T (checks w last xs (numbers 0 last) done))
-      (away-starts T (checks w last xs (numbers 0 last) done) (away-checks xs (numbers 0 last) done tt))
+      let ends : Code = checks w last xs (numbers 0 last) done in
+      keep (guesses w last xs) (guess w last xs) (λ t. refl) (λ k ks t. refl) Away (away-guess xs) (numbers 1 last) (starts w last T ends)
+      (away-starts T ends
+      (keep (checks w last xs) (check w last xs) (λ t. refl) (λ k ks t. refl) Away (away-check xs) (numbers 0 last) done tt))
 
 abbrev RoutineAway : Option Routine → Type 0
 RoutineAway None = Unit {0}
@@ -124,7 +119,8 @@ module _ (p : Program) (bodies : (c : ℕ) → RoutineAway (slice_get p.routines
   away_body None h = tt
   away_body (Some r) h = h
 
-  rest_away : (o : Option Code) (F : Code → State) (P : State → Type 0) → IfThere Away o → ((c : Code) → Away c → StateAway (F c))
+  rest_away : (o : Option Code) (F : Code → State) (P : State → Type 0) → IfThere Away o
+      → ((c : Code) → Away c → StateAway (F c))
       → AtRest o (λ c. P (F c)) → (u : State) × P u × StateAway u
   rest_away None F P h f a = absurd a
   rest_away (Some c) F P h f a = (F c, a, f c h)
@@ -138,7 +134,8 @@ module _ (p : Program) (bodies : (c : ℕ) → RoutineAway (slice_get p.routines
   away-branch true a b t ha hb ht = throughout-join Elsewhere Any a t ha ht
   away-branch false a b t ha hb ht = throughout-join Elsewhere Any b t hb ht
 
-  away-again : (v : Bool) (m : Mark Label) (r : RightSide Place) (a t : Code) → Away a → Away t → Away (cond v (join a (loop m r a t)) t)
+  away-again : (v : Bool) (m : Mark Label) (r : RightSide Place) (a t : Code) → Away a → Away t
+      → Away (cond v (join a (loop m r a t)) t)
   away-again true m r a t ha ht = throughout-join Elsewhere Any a (loop m r a t) ha (tt, ha, ht)
   away-again false m r a t ha ht = ht
 

@@ -1,7 +1,7 @@
 -- Which variables the parts of the rewritten statements use, where D is to hold of each of them and S holds of those of
 -- the source.
-use Rattle.std.proofs.Common.{◌≡◌, ℕ, zero, suc, ◌+◌, ◌/◌, ◌%◌, ◌≤◌, ◌<◌, true, false, cond, not, List, [], ◌∷◌, ◌++◌, length, map, codes}
-use Rattle.std.proofs.Common.{refl, sym, ◌∙◌, ap, subst, ap₂, arith, length-append}
+use Rattle.std.proofs.Common.{◌≡◌, ℕ, zero, suc, ◌+◌, ◌/◌, ◌%◌, ◌≤◌, ◌<◌, true, false, cond, not, List, []}
+use Rattle.std.proofs.Common.{◌∷◌, ◌++◌, length, map, codes, refl, sym, ◌∙◌, ap, subst, ap₂, arith, length-append}
 use Rattle.std.proofs.lemmas.List.{length-map}
 use Rattle.language.specs.Tree.{Name, Expression, const, var, negation, two, RightSide, any, value}
 use Rattle.language.specs.Resolve.{is_declared}
@@ -32,7 +32,8 @@ any_uses D [] = tt
 any_uses D (x ∷ xs) = any_uses D xs
 
 -- what holds of each name that is written holds of each in the list of them
-pub written_each : {X : Type 0} (D : Name → Type 0) (P : X → Type 0) (f : X → Name) (xs : List X) → ((x : X) → P x → D (f x)) → Each P xs
+pub written_each : {X : Type 0} (D : Name → Type 0) (P : X → Type 0) (f : X → Name) (xs : List X) → ((x : X) → P x → D (f x))
+    → Each P xs
     → Each D (map f xs)
 written_each D P f [] g h = tt
 written_each D P f (x ∷ xs) g h = (g x h.0, written_each D P f xs g h.1)
@@ -115,7 +116,8 @@ module _ (own : List Name) (last d : ℕ) (D S : Name → Type 0) (held : Held o
   copy_uses x h hidden k le = each_both D (variables_of (in_round (names own) last k)) (copy_name k x ∷ []) (at_uses k)
       (held.copied x h hidden k le, tt)
 
-  joined_uses : (x : Name) → S x → is_declared x.text own ≡ false → (k : ℕ) → k ≤ last → Each D (variables_of (joined (names own) last k x))
+  joined_uses : (x : Name) → S x → is_declared x.text own ≡ false → (k : ℕ) → k ≤ last
+      → Each D (variables_of (joined (names own) last k x))
   joined_uses x h hidden zero le = copy_uses x h hidden 0 le
   joined_uses x h hidden (suc k) le =
       each_both D (variables_of (joined (names own) last k x))
@@ -150,7 +152,8 @@ module _ (own : List Name) (last d : ℕ) (D S : Name → Type 0) (held : Held o
   side_uses any h = tt
   side_uses (value e) h = expression_uses e h
 
-  written_uses : (e : Expression Name) → Each D (variables_of e) → (x : Name) → S x → is_declared x.text own ≡ false → (k : ℕ) → k ≤ last
+  written_uses : (e : Expression Name) → Each D (variables_of e) → (x : Name) → S x → is_declared x.text own ≡ false
+      → (k : ℕ) → k ≤ last
       → Each D (variables_of_side (written (names own) last e x k))
   written_uses e g x h hidden k le =
       each_both D (variables_of (in_round (names own) last k) ++ variables_of e)
@@ -194,7 +197,8 @@ module _ (own : List Name) (last d : ℕ) (D S : Name → Type 0) (held : Held o
       by_test (is_declared x.text own)
       (λ e.
       let less : j + drawn ≤ d = subst (λ c. j + cond (not c) (suc drawn) drawn ≤ d) e room in
-      subst (λ c. Each D (variables_of_sides (cond (not c) (here ++ Rest (suc j)) (any ∷ Rest j)))) (sym e) (sides_use j xs rs h.1 g less))
+      subst (λ c. Each D (variables_of_sides (cond (not c) (here ++ Rest (suc j)) (any ∷ Rest j)))) (sym e)
+      (sides_use j xs rs h.1 g less))
       (λ e.
       let more : j + suc drawn ≤ d = subst (λ c. j + cond (not c) (suc drawn) drawn ≤ d) e room in
       subst (λ c. Each D (variables_of_sides (cond (not c) (here ++ Rest (suc j)) (any ∷ Rest j)))) (sym e)

@@ -1,7 +1,7 @@
 -- How wide the procedures of the rewritten program are, and how many there are.
-use Rattle.std.proofs.Common.{◌≡◌, ℕ, zero, suc, ◌+◌, ◌<◌, ◌≤◌, Some, inl, refl, slice_get, take}
-use Rattle.std.proofs.Common.{is_some, true≢false, List, [], ◌∷◌, ◌++◌, length, length-append, get_or, map}
-use Rattle.std.proofs.Common.{codes, sym, ◌∙◌, ap, subst, arith, append_assoc}
+use Rattle.std.proofs.Common.{◌≡◌, ℕ, zero, suc, ◌+◌, ◌<◌, ◌≤◌, Some, inl, refl, slice_get, take, is_some}
+use Rattle.std.proofs.Common.{true≢false, List, [], ◌∷◌, ◌++◌, length, length-append, get_or, map, codes, sym, ◌∙◌, ap}
+use Rattle.std.proofs.Common.{subst, arith, append_assoc}
 use Rattle.std.proofs.lemmas.List.{length-map}
 use Rattle.std.proofs.lemmas.Option.{same_Some}
 use Rattle.language.specs.Tree.{Name, Procedure, Tree}
@@ -21,7 +21,8 @@ use Rattle.round_rewrite.proofs.Placing.{length-numbers}
 use Rattle.round_rewrite.proofs.Copied.{gathered}
 use Rattle.resolved.specs.Limits.{most_places}
 
-four_behind : {B : Type 0} (xs : List B) (a b c d : B) → (((xs ++ a ∷ []) ++ b ∷ []) ++ c ∷ []) ++ d ∷ [] ≡ xs ++ (a ∷ b ∷ c ∷ d ∷ [])
+four_behind : {B : Type 0} (xs : List B) (a b c d : B)
+    → (((xs ++ a ∷ []) ++ b ∷ []) ++ c ∷ []) ++ d ∷ [] ≡ xs ++ (a ∷ b ∷ c ∷ d ∷ [])
 four_behind xs a b c d =
     ap (λ ns. (ns ++ c ∷ []) ++ d ∷ []) (append_assoc xs (a ∷ []) (b ∷ []))
     ∙ (ap (λ ns. ns ++ d ∷ []) (append_assoc xs (a ∷ b ∷ []) (c ∷ [])) ∙ append_assoc xs (a ∷ b ∷ c ∷ []) (d ∷ []))

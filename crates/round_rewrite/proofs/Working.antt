@@ -1,8 +1,9 @@
 -- Each statement of a checked tree rewritten works: its variables are declared, what it calls and goes to is there, and
 -- each
 -- target has its right side. So the rewritten tree resolves.
-use Rattle.std.proofs.Common.{◌≡◌, ℕ, zero, suc, ◌+◌, ◌<◌, ◌≤◌, Bool, true, false, cond, List, [], ◌∷◌, ◌++◌, length, map, codes, Option}
-use Rattle.std.proofs.Common.{Some, None, option_map, inl, inr, refl, sym, ◌∙◌, ap, subst, ap₂, arith, append_assoc}
+use Rattle.std.proofs.Common.{◌≡◌, ℕ, zero, suc, ◌+◌, ◌<◌, ◌≤◌, Bool, true, false, cond, List, [], ◌∷◌}
+use Rattle.std.proofs.Common.{◌++◌, length, map, codes, Option, Some, None, option_map, inl, inr, refl, sym, ◌∙◌, ap, subst}
+use Rattle.std.proofs.Common.{ap₂, arith, append_assoc}
 use Rattle.std.proofs.lemmas.List.{length-map}
 use Rattle.language.specs.Tree.{Name, var, RightSide, any, value, Simple, skip, assign, assert, assume, goto, leave, call, Mark, Block}
 use Rattle.language.specs.Tree.{done, one, choose, loop, Procedure, ThreadLine, Tree}
@@ -178,7 +179,8 @@ module _ (t : Tree) (last : ℕ) (ok : IsChecked t) (small : last < most_rounds)
   abbrev lasts : List Name
   lasts = renamed.named (codes "stop__") ∷ renamed.named (codes "bad__") ∷ []
 
-  copies_there : (x : Name) → is_declared x.text t.globals ≡ true → (k : ℕ) → k ≤ last → is_declared (copy_name k x).text t'.globals ≡ true
+  copies_there : (x : Name) → is_declared x.text t.globals ≡ true → (k : ℕ) → k ≤ last
+      → is_declared (copy_name k x).text t'.globals ≡ true
   copies_there x h k le =
       let z : 0 + k ≡ k = omega arith in
       let inA : is_declared (copy_name k x).text A ≡ true =
@@ -407,7 +409,8 @@ module _ (t : Tree) (last : ℕ) (ok : IsChecked t) (small : last < most_rounds)
           each_both (λ (s : Statement). Works t' p' s.head)
               (statements_of (join (rewritten (names own) last a) (prologue (names own) last table.plain done)))
               (statements_of (rewritten (names own) last k))
-              (each_join (λ (s : Statement). Works t' p' s.head) (rewritten (names own) last a) (prologue (names own) last table.plain done)
+              (each_join (λ (s : Statement). Works t' p' s.head) (rewritten (names own) last a)
+              (prologue (names own) last table.plain done)
               (block_works a (each_left W (statements_of a) (statements_of k) h.1) (omega arith)) (prologue_works table.plain done tt))
               (block_works k (each_right W (statements_of a) (statements_of k) h.1) (omega arith)),
         )
@@ -450,7 +453,8 @@ module _ (t : Tree) (last : ℕ) (ok : IsChecked t) (small : last < most_rounds)
         ),
       )
 
-  guesses_work : (xs : List Name) (k m : ℕ) (b : Block Name Name Name) → k + m ≤ last → Each Global xs → Work first (statements_of b)
+  guesses_work : (xs : List Name) (k m : ℕ) (b : Block Name Name Name) → k + m ≤ last → Each Global xs
+      → Work first (statements_of b)
       → Work first (statements_of (guesses (names []) last xs (numbers (suc k) m) b))
   guesses_work xs k zero b le g h = h
   guesses_work xs k (suc m) b le g h =
@@ -476,7 +480,8 @@ module _ (t : Tree) (last : ℕ) (ok : IsChecked t) (small : last < most_rounds)
     check_works xs k b lt g.1 h,
   )
 
-  checks_work : (xs : List Name) (k m : ℕ) (b : Block Name Name Name) → k + m ≤ last → Each Global xs → Work first (statements_of b)
+  checks_work : (xs : List Name) (k m : ℕ) (b : Block Name Name Name) → k + m ≤ last → Each Global xs
+      → Work first (statements_of b)
       → Work first (statements_of (checks (names []) last xs (numbers k m) b))
   checks_work xs k zero b le g h = h
   checks_work xs k (suc m) b le g h =

@@ -1,5 +1,5 @@
-use Rattle.std.proofs.Common.{◌≡◌, ◌≤◌, ◌<◌, ◌↔◌, ◌∙◌, ℕ, Bool, true, false, not, None}
-use Rattle.std.proofs.Common.{Some, Option, ap, sym, refl, arith, length, is_some, true≢false}
+use Rattle.std.proofs.Common.{◌≡◌, ◌≤◌, ◌<◌, ◌↔◌, ◌∙◌, ℕ, Bool, true, false, not, None, Some, Option, ap, sym}
+use Rattle.std.proofs.Common.{refl, arith, length, is_some, true≢false}
 use Rattle.std.proofs.lemmas.Bool.{false≢true}
 use Rattle.std.proofs.lemmas.List.{length-map}
 use Rattle.language.specs.Tree.{Tree}

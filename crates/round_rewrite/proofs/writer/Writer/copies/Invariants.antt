@@ -6,4 +6,5 @@ use Rattle.round_rewrite.specs.Names.{copy_name}
 use Rattle.round_rewrite.proofs.writer.Writer.copies.Given as goal
 
 abbrev pub invariant-loop-round : goal.invariant-loop-round
-invariant-loop-round g l = names_of l.into.items ≡ names_of l.initial.into.items ++ map (λ k. copy_name k (name_of l.x)) (numbers 0 l.round)
+invariant-loop-round g l =
+    names_of l.into.items ≡ names_of l.initial.into.items ++ map (λ k. copy_name k (name_of l.x)) (numbers 0 l.round)
