@@ -65,7 +65,7 @@ complete_fit p complete q s m es t rest = at (slice_get p.routines q) refl rest
     at (Some routine) e rest =
         let whole : RoutineComplete p.routines p.globals routine = each_at (RoutineComplete p.routines p.globals) p.routines q routine complete.routines e in
         let here = heads (SimpleComplete p.routines p.globals routine) (SideInScope p.globals routine.places) routine.body done (one m (call s es) t) whole (member routine.body rest) in
-        here.1
+        here.scope.callee
 
 pub resolving_fit : (t : Tree) → Resolves t → ArgumentsFit (sequential_of t)
 resolving_fit t h = complete_fit (sequential_of t) (resolving_complete t h)

@@ -105,7 +105,7 @@ module _ (p : Program) (last : ℕ) (fits : FitsScopes p) (small : last < most_r
       let (n1, e1, r1) = unstep w Q N X (frame (suc c) (l ++ tmp) (one plain skip (put_rest p last own t))) (callers p last bs m) (never_below bs) run in
       moved_here N c l tmp (one k (assert r) t) bs (both c own l tmp t ∷ bs)
       (good_with p last c own l tmp (one k (assert r) t) l tmp t h refl refl h.fits.1, good)
-      (back_value own l tmp h.long r h.fits.0.0 true is, refl)
+      (back_value own l tmp h.long r h.fits.0.0.test true is, refl)
       (later_now w Q _ N n1 e1 r1)
   assert_back N c own l tmp k r t bs false h good is run =
       let fs : List Frame = callers p last bs m in
@@ -119,7 +119,7 @@ module _ (p : Program) (last : ℕ) (fits : FitsScopes p) (small : last < most_r
       let r3 : PlainAfter w n1 (state (lay C S (bits_of q true true)) (frame (suc c) (l ++ tmp) rest ∷ fs)) Q =
       subst (λ z. PlainAfter w n1 (state z (frame (suc c) (l ++ tmp) rest ∷ fs)) Q) (fail_writes x y ix iy) r2 in
       let (n4, e4, r4) = unstep w Q n1 (lay C S (bits_of q true true)) (frame (suc c) (l ++ tmp) rest) fs (never_below bs) r3 in
-      failed (back_value own l tmp h.long r h.fits.0.0 false is) (n4, omega arith, r4)
+      failed (back_value own l tmp h.long r h.fits.0.0.test false is) (n4, omega arith, r4)
 
   jump_back : (N c own : ℕ) (l tmp : List Bool) (k : Mark Label) (x : Label) (t : Code) (bs : List Both) (o : Option Code) → (h : Good p last (both c own l tmp (one k (goto x) t))) → AllGood p last bs → rest_from x h.routine.body done ≡ o → AtRest (option_map (put_rest p last own) o) (λ u. Later w N (state X (frame (suc c) (l ++ tmp) u ∷ callers p last bs m)) Q) → Begins N c l tmp (one k (goto x) t) bs
   jump_back N c own l tmp k x t bs None h good e a = absurd a
@@ -169,7 +169,7 @@ module _ (p : Program) (last : ℕ) (fits : FitsScopes p) (small : last < most_r
       moved_here N c l tmp (one k skip t) bs (both c own l tmp t ∷ bs)
       (good_with p last c own l tmp (one k skip t) l tmp t h refl refl h.fits.1, good) refl (later_now w Q _ N n1 e1 r1)
   step_back N c own l tmp (one k (assign xs rs) t) bs h good run =
-      let (M, vs, tmp', lt, are, et, r) = assign_back w p.globals last own (suc c) (callers p last bs m) Q C S q b shape small within l tmp h.long (never_below bs) N xs rs (put_rest p last own t) h.fits.0.0.0 h.fits.0.0.1 run in
+      let (M, vs, tmp', lt, are, et, r) = assign_back w p.globals last own (suc c) (callers p last bs m) Q C S q b shape small within l tmp h.long (never_below bs) N xs rs (put_rest p last own t) h.fits.0.0.targets h.fits.0.0.sides run in
       moved (written_globals xs vs (row C q)) (both c own (written_locals xs vs l) tmp' t ∷ bs)
       (length_globals xs vs (row C q) ∙ long_now)
       (good_with p last c own l tmp (one k (assign xs rs) t) (written_locals xs vs l) tmp' t h (length_locals xs vs l) et h.fits.1, good)
@@ -188,7 +188,7 @@ module _ (p : Program) (last : ℕ) (fits : FitsScopes p) (small : last < most_r
       let (n1, e1, r1) = unstep w Q N X (frame (suc c) (l ++ tmp) (statement (places p.globals last own) last (assume r) (put_rest p last own t))) (callers p last bs m) (never_below bs) run in
       moved_here N c l tmp (one k (assume r) t) bs (both c own l tmp t ∷ bs)
       (good_with p last c own l tmp (one k (assume r) t) l tmp t h refl refl h.fits.1, good)
-      (back_value own l tmp h.long r h.fits.0.0 true r1.0, refl) (later_now w Q _ N n1 e1 r1.1)
+      (back_value own l tmp h.long r h.fits.0.0.test true r1.0, refl) (later_now w Q _ N n1 e1 r1.1)
   step_back N c own l tmp (one k (goto x) t) bs h good run =
       let (n1, e1, r1) = unstep w Q N X (frame (suc c) (l ++ tmp) (statement (places p.globals last own) last (goto x) (put_rest p last own t))) (callers p last bs m) (never_below bs) run in
       let where_to : w.jumps (suc c) x ≡ option_map (put_rest p last own) (rest_from x h.routine.body done) =
@@ -204,7 +204,7 @@ module _ (p : Program) (last : ℕ) (fits : FitsScopes p) (small : last < most_r
   step_back N c own l tmp (one k (call q' es) t) bs h good run =
       let (n1, e1, r1) = unstep w Q N X (frame (suc c) (l ++ tmp) (statement (places p.globals last own) last (call q' es) (put_rest p last own t))) (callers p last bs m) (never_below bs) run in
       let F : Routine → State = λ z. state X (frame (suc q') (fresh z.places (values_of X (l ++ tmp) (map (expression (places p.globals last own) last) es))) z.body ∷ callers p last (both c own l tmp t ∷ bs) m) in
-      call_back N c own l tmp k t q' es bs (slice_get p.routines q') refl h good h.fits.0.0.0 h.fits.0.0.1
+      call_back N c own l tmp k t q' es bs (slice_get p.routines q') refl h good h.fits.0.0.arguments h.fits.0.0.callee
       (at_routine_later N n1 (option_map (put_routine p last) (slice_get p.routines q')) F e1
       (subst (λ o. AtRoutine o (λ z. PlainAfter w n1 (F z) Q)) (isw.enters_is q') r1))
   step_back N c own l tmp (choose k r x y t) bs h good run =

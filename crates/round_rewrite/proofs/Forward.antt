@@ -156,16 +156,16 @@ module _ (p : Program) (last : ℕ) (fits : FitsScopes p) (small : last < most_r
           let r = same_globals next (both c own l tmp t ∷ bs) (good_with p last c own l tmp (one k skip t) l tmp t h refl refl h.fits.1, good) s in
           (suc r.0, r.1)
       step_leads c own l tmp (one k (assign xs rs) t) bs h good s next =
-          assign_leads w p.globals last own (suc c) (callers p last bs m) Q C S q b shape small within l tmp h.long xs rs s.0 (put_rest p last own t) s.1 h.fits.0.0.0 h.fits.0.0.1 h.fits.0.1
+          assign_leads w p.globals last own (suc c) (callers p last bs m) Q C S q b shape small within l tmp h.long xs rs s.0 (put_rest p last own t) s.1 h.fits.0.0.targets h.fits.0.0.sides h.fits.0.1
           (λ tmp' et. next (written_globals xs s.0 (row C q)) (both c own (written_locals xs s.0 l) tmp' t ∷ bs)
           (length_globals xs s.0 (row C q) ∙ row_long)
           (good_with p last c own l tmp (one k (assign xs rs) t) (written_locals xs s.0 l) tmp' t h (length_locals xs s.0 l) et h.fits.1, good) s.2)
       step_leads c own l tmp (one k (assert r) t) bs h good s next =
           let z = same_globals next (both c own l tmp t ∷ bs) (good_with p last c own l tmp (one k (assert r) t) l tmp t h refl refl h.fits.1, good) s.1 in
-          (suc (suc z.0), (true, subst (λ T. T) (sym (side_at own l tmp h.long r h.fits.0.0 true)) s.0, z.1))
+          (suc (suc z.0), (true, subst (λ T. T) (sym (side_at own l tmp h.long r h.fits.0.0.test true)) s.0, z.1))
       step_leads c own l tmp (one k (assume r) t) bs h good s next =
           let z = same_globals next (both c own l tmp t ∷ bs) (good_with p last c own l tmp (one k (assume r) t) l tmp t h refl refl h.fits.1, good) s.1 in
-          (suc z.0, (subst (λ T. T) (sym (side_at own l tmp h.long r h.fits.0.0 true)) s.0, z.1))
+          (suc z.0, (subst (λ T. T) (sym (side_at own l tmp h.long r h.fits.0.0.test true)) s.0, z.1))
       step_leads c own l tmp (one k (goto x) t) bs h good s next =
           let found : AtRest (rest_from x h.routine.body done) (λ u. R (state (row C q) (frame c l u ∷ map source bs))) =
           subst (λ o. AtRest (rest_from x (body_of o) done) (λ u. R (state (row C q) (frame c l u ∷ map source bs)))) h.there s in
@@ -177,7 +177,7 @@ module _ (p : Program) (last : ℕ) (fits : FitsScopes p) (small : last < most_r
           let r = same_globals next (both c own l tmp done ∷ bs) (good_with p last c own l tmp (one k leave t) l tmp done h refl refl tt, good) s in
           (suc r.0, r.1)
       step_leads c own l tmp (one k (call q' es) t) bs h good s next =
-          let z = call_leads c own l tmp t q' es bs (slice_get p.routines q') refl (good_with p last c own l tmp (one k (call q' es) t) l tmp t h refl refl h.fits.1) good h.fits.0.0.0 h.fits.0.0.1 s next in
+          let z = call_leads c own l tmp t q' es bs (slice_get p.routines q') refl (good_with p last c own l tmp (one k (call q' es) t) l tmp t h refl refl h.fits.1) good h.fits.0.0.arguments h.fits.0.0.callee s next in
           (suc z.0, subst (λ o. AtRoutine o (λ r. PlainAfter w z.0 (state X (frame (suc q') (fresh r.places (values_of X (l ++ tmp) (map (expression (naming own) last) es))) r.body ∷ callers p last (both c own l tmp t ∷ bs) m)) Q)) (sym (isw.enters_is q')) z.1)
       step_leads c own l tmp (choose k r x y t) bs h good (v, is, s) next =
           let S' : (z : Code) → Fits p.routines p.globals own (length tmp) z → Good p last (both c own l tmp z) = λ z f. good_with p last c own l tmp (choose k r x y t) l tmp z h refl refl f in

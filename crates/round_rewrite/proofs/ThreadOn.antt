@@ -112,7 +112,7 @@ module _ (p : Program) (last : ℕ) (fits : FitsScopes p) (small : last < most_r
         let u = unwind (rows g) (shape_at g eg) (suc c) (l ++ tmp) bs (length pre) true out in
         let zero_is : IsValue (row (rows g) (length pre)) l r false = subst (λ y. IsValue y l r false) (sym (row_middle pre g post)) f in
         let is : IsValue X (l ++ tmp) (Rattle.round_rewrite.specs.Table.side (places p.globals last own) last r) false =
-        subst (λ T. T) (sym (side_at p last fits small w isw (rows g) S (length pre) b (shape_at g eg) within m own l tmp good.long r good.fits.0.0 false)) zero_is in
+        subst (λ T. T) (sym (side_at p last fits small w isw (rows g) S (length pre) b (shape_at g eg) within m own l tmp good.long r good.fits.0.0.test false)) zero_is in
         let writes : with_bit (with_bit X (bad_at p.globals last) true) (stop_at p.globals last) true ≡ lay (rows g) S
         (bits_of (length pre) true true) =
         ap (λ y. with_bit y (stop_at p.globals last) true)

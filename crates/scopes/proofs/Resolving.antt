@@ -1,12 +1,14 @@
 -- A checked tree resolves.
 use Rattle.std.proofs.Common.{◌≡◌, ℕ, Bool, true, false, cond, List, [], ◌∷◌, ◌++◌, length, Option, Some, None, ◌⊎◌, inl, inr, refl, sym, ◌∙◌, ap, subst, append_assoc}
-use Rattle.language.specs.Tree.{Name, skip, assign, assert, assume, goto, leave, call, Block, done, one, choose, loop, Procedure, Tree}
+use Rattle.std.proofs.lemmas.Option.{IfSome_then}
+use Rattle.language.specs.Tree.{Name, Block, done, one, choose, loop, Procedure, Tree}
 use Rattle.language.specs.Value.{global, local}
 use Rattle.language.specs.Rest.{Code, same_text, has_label, first_of_two, join, rest_from}
 use Rattle.language.specs.Step.{AtRest}
 use Rattle.language.specs.Resolve.{number_of, is_declared, Scope, scope_of, place_of, resolve_mark, resolve_side, resolve_block}
 use Rattle.language.proofs.Names.{number_less}
-use Rattle.resolved.specs.Statements.{Head, plain, tests, Statement, statements_of, used_by, label_of, labels_of}
+use Rattle.language.specs.Parts.{Head, arguments_of, callee_of, jump_of}
+use Rattle.resolved.specs.Statements.{Statement, statements_of, used_by, label_of, labels_of}
 use Rattle.scopes.specs.Faults.{known}
 use Rattle.resolved.specs.There.{IsThere}
 use Rattle.scopes.specs.Checked.{IsChecked}
@@ -79,15 +81,11 @@ rest_there s x (loop m r a t) k h =
       ]))
     ])
 
-target_there : (t : Tree) (p : Procedure) (h : Head) → Called t.procedures h → Labelled (labels_of (statements_of p.body)) h → GoesSomewhere t p h
-target_there t p (plain (call q es)) c l = subst (λ o. IsThere o (λ r. length r.formals ≡ length es)) (named_is q.text t.procedures) c.1
-target_there t p (plain (goto x)) c l = rest_there (scope_of t p) x.text p.body done l
-target_there t p (plain skip) c l = tt
-target_there t p (plain (assign xs rs)) c l = tt
-target_there t p (plain (assert r)) c l = tt
-target_there t p (plain (assume r)) c l = tt
-target_there t p (plain leave) c l = tt
-target_there t p (tests r) c l = tt
+target_there : (t : Tree) (p : Procedure) (h : Head Name Name Name) → Called t.procedures h → Labelled (labels_of (statements_of p.body)) h → GoesSomewhere t p h
+target_there t p h called labelled = (
+  IfSome_then (callee_of h) called (λ q k. subst (λ o. IsThere o (λ r. length r.formals ≡ length (arguments_of h))) (named_is q.text t.procedures) k.1),
+  IfSome_then (jump_of h) labelled (λ l k. rest_there (scope_of t p) l.text p.body done k),
+)
 
 -- a tree resolves where each statement works and each thread starts
 pub working_resolves : (t : Tree) → Each (λ (p : Procedure). Each (λ (s : Statement). Works t p s.head) (statements_of p.body)) t.procedures → Each (Starts t.procedures) t.threads → Resolves t

@@ -1,12 +1,14 @@
 -- A checked tree has what the rewriting asks.
 use Rattle.std.proofs.Common.{◌≡◌, ℕ, suc, ◌+◌, Bool, true, false, cond, ◌&&◌, ◌||◌, nat_eq, List, [], ◌∷◌, ◌++◌, length, get_or, Option, Some, None, inl, inr, refl, sym, ◌∙◌, subst, arith, length-append}
-use Rattle.std.specs.Prelude.{slice_get}
+use Rattle.std.specs.Prelude.{slice_get, IfSome}
+use Rattle.std.proofs.lemmas.Option.{IfSome_then}
 use Rattle.std.proofs.lemmas.Bool.{eqb-true}
-use Rattle.language.specs.Tree.{Name, Expression, const, var, negation, two, RightSide, any, value, Simple, skip, assign, assert, assume, goto, leave, call, Block, done, one, choose, loop, Procedure, ThreadLine, Tree}
+use Rattle.language.specs.Tree.{Name, Expression, const, var, negation, two, RightSide, any, value, Simple, Block, done, one, choose, loop, Procedure, ThreadLine, Tree}
 use Rattle.language.specs.Rest.{same_text}
 use Rattle.language.specs.Resolve.{number_of, is_declared, Scope, scope_of}
 use Rattle.scopes.specs.Find.{AnyOf}
-use Rattle.resolved.specs.Statements.{plain, Statement, statements_of, used_by, variables_of, variables_of_side, variables_of_sides, variables_of_all}
+use Rattle.language.specs.Parts.{plain, targets_of, sides_of, test_of, arguments_of, callee_of}
+use Rattle.resolved.specs.Statements.{Statement, statements_of, used_by, variables_of, variables_of_side, variables_of_sides, variables_of_test, variables_of_all}
 use Rattle.scopes.specs.Faults.{named, known, HasTwoUnderscores, IsReserved, Repeated}
 use Rattle.resolved.specs.There.{names, IsThere}
 use Rattle.scopes.specs.declared.fault.ScopeFault.TheVariants as fault
@@ -94,19 +96,29 @@ room : (o : Option Procedure) (m : ℕ) → IsThere o (λ r. length r.formals �
 room None m h = h
 room (Some r) m h = let e : length (r.formals ++ r.locals) ≡ length r.formals + length r.locals = length-append r.formals r.locals in omega arith
 
+test_declared : (s : Scope) (o : Option (RightSide Name)) → Each (Declared s) (variables_of_test o) → IfSome o (SideDeclared s)
+test_declared s None h = tt
+test_declared s (Some r) h = side_declared s r h
+
 simple_declared : (t : Tree) (s : Scope) (c : Simple Name Name Name) → s.procedures ≡ names t.procedures → Each (Declared s) (used_by (plain c)) → Called t.procedures (plain c) → SimpleDeclared t s c
-simple_declared t s skip e h k = tt
-simple_declared t s (assign xs rs) e h k = (all_declared s xs (each_left (Declared s) xs (variables_of_sides rs) h), sides_declared s rs (each_right (Declared s) xs (variables_of_sides rs) h))
-simple_declared t s (assert r) e h k = side_declared s r h
-simple_declared t s (assume r) e h k = side_declared s r h
-simple_declared t s (goto x) e h k = tt
-simple_declared t s leave e h k = tt
-simple_declared t s (call q es) e h k =
-    subst (λ ns. ExpressionsDeclared s es × (is_declared q.text ns ≡ true) × HasRoom (slice_get t.procedures (number_of q.text ns)) (length es)) (sym e) (
-      expressions_declared s es h,
-      named_declared q.text t.procedures k.0,
-      subst (λ o. HasRoom o (length es)) (named_is q.text t.procedures) (room (named q.text t.procedures) (length es) k.1),
-    )
+simple_declared t s c e h k =
+    let xs = targets_of (plain c) in
+    let rs = sides_of (plain c) in
+    let test = test_of (plain c) in
+    let es = arguments_of (plain c) in
+    let of_sides = each_right (Declared s) xs (variables_of_sides rs ++ (variables_of_test test ++ variables_of_all es)) h in
+    let of_test = each_right (Declared s) (variables_of_sides rs) (variables_of_test test ++ variables_of_all es) of_sides in
+    record {
+      targets = all_declared s xs (each_left (Declared s) xs _ h);
+      sides = sides_declared s rs (each_left (Declared s) (variables_of_sides rs) _ of_sides);
+      test = test_declared s test (each_left (Declared s) (variables_of_test test) _ of_test);
+      arguments = expressions_declared s es (each_right (Declared s) (variables_of_test test) _ of_test);
+      callee = IfSome_then (callee_of (plain c)) k (λ q w. subst
+          (λ ns. (is_declared q.text ns ≡ true) × HasRoom (slice_get t.procedures (number_of q.text ns)) (length es)) (sym e) (
+            named_declared q.text t.procedures w.0,
+            subst (λ o. HasRoom o (length es)) (named_is q.text t.procedures) (room (named q.text t.procedures) (length es) w.1),
+          ));
+    }
 
 block_declared : (t : Tree) (p : Procedure) (b : Block Name Name Name) → Each (λ (s : Statement). Works t p s.head) (statements_of b) → BlockDeclared t (scope_of t p) b
 block_declared t p done h = tt
@@ -115,13 +127,13 @@ block_declared t p (one m c k) h = (
   block_declared t p k h.1,
 )
 block_declared t p (choose m r a b k) h = (
-  side_declared (scope_of t p) r (each_of (variables_of_side r) (λ x q. declared_there t p x q) h.0.variables),
+  side_declared (scope_of t p) r (each_of (variables_of_side r) (λ x q. declared_there t p x q) (each_left _ (variables_of_side r) [] h.0.variables)),
   block_declared t p a (each_left (λ (s : Statement). Works t p s.head) (statements_of a) (statements_of b ++ statements_of k) h.1),
   block_declared t p b (each_left (λ (s : Statement). Works t p s.head) (statements_of b) (statements_of k) (each_right (λ (s : Statement). Works t p s.head) (statements_of a) (statements_of b ++ statements_of k) h.1)),
   block_declared t p k (each_right (λ (s : Statement). Works t p s.head) (statements_of b) (statements_of k) (each_right (λ (s : Statement). Works t p s.head) (statements_of a) (statements_of b ++ statements_of k) h.1)),
 )
 block_declared t p (loop m r a k) h = (
-  side_declared (scope_of t p) r (each_of (variables_of_side r) (λ x q. declared_there t p x q) h.0.variables),
+  side_declared (scope_of t p) r (each_of (variables_of_side r) (λ x q. declared_there t p x q) (each_left _ (variables_of_side r) [] h.0.variables)),
   block_declared t p a (each_left (λ (s : Statement). Works t p s.head) (statements_of a) (statements_of k) h.1),
   block_declared t p k (each_right (λ (s : Statement). Works t p s.head) (statements_of a) (statements_of k) h.1),
 )

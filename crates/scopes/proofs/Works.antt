@@ -1,18 +1,19 @@
 -- What a checked tree's statements and names are: each fact, where the fault that denies it stands nowhere.
 use Rattle.std.proofs.Common.{◌≡◌, ◌≢◌, ℕ, suc, Bool, true, false, cond, List, [], ◌∷◌, ◌++◌, length, Option, Some, None, ◌⊎◌, inl, inr, refl}
-use Rattle.std.specs.Prelude.{slice_get}
+use Rattle.std.specs.Prelude.{slice_get, IfSome}
 use Rattle.std.proofs.lemmas.Bool.{eqb-true}
 use Rattle.std.proofs.lemmas.Bool.Decides.{eqb_tells}
-use Rattle.language.specs.Tree.{Name, skip, assign, assert, assume, goto, leave, call, Procedure, ThreadLine, Tree}
+use Rattle.language.specs.Tree.{Name, Procedure, ThreadLine, Tree}
+use Rattle.language.specs.Parts.{Head, HasAllSides, targets_of, sides_of, arguments_of, callee_of, jump_of}
 use Rattle.language.specs.Rest.{same_text}
 use Rattle.language.specs.Resolve.{number_of, is_declared}
 use Rattle.scopes.specs.Find.{AnyOf}
-use Rattle.resolved.specs.Statements.{Head, plain, tests, Statement, statements_of, used_by, labels_of}
-use Rattle.scopes.specs.Faults.{named, IsUnknown, known, CallsUnknown, IsUndeclaredIn, first_at, Miscounts, GoesNowhere, MislabelledIn, ReservedIn, CanStart}
+use Rattle.resolved.specs.Statements.{Statement, statements_of, used_by, labels_of}
+use Rattle.scopes.specs.Faults.{named, IsUnknown, known, IsUndeclaredIn, first_at, Miscounts, GoesNowhere, MislabelledIn, ReservedIn, CanStart}
 use Rattle.resolved.specs.There.{names, IsThere}
 use Rattle.scopes.specs.declared.fault.ScopeFault.TheVariants as fault
 use Rattle.scopes.specs.Checked.{IsChecked}
-use Rattle.resolved.specs.Resolves.{Each, HasAllSides}
+use Rattle.resolved.specs.Resolves.{Each}
 
 pub each_of : {X : Type 0} {P Q : X → Type 0} (xs : List X) → ((x : X) → P x → Q x) → Each P xs → Each Q xs
 each_of [] f h = tt
@@ -60,70 +61,43 @@ named_declared x (p ∷ ps) h = go (same_text x p.name.text) h (named_declared x
     go false h f = f h
 
 -- the procedure that a call names is there, with as many formals as there are arguments
-abbrev pub Called : List Procedure → Head → Type 0
-Called ps (plain (call q es)) = (named q.text ps ≡ None → ⊥) × IsThere (named q.text ps) (λ r. length r.formals ≡ length es)
-Called ps (plain skip) = Unit {0}
-Called ps (plain (assign xs rs)) = Unit {0}
-Called ps (plain (assert r)) = Unit {0}
-Called ps (plain (assume r)) = Unit {0}
-Called ps (plain (goto l)) = Unit {0}
-Called ps (plain leave) = Unit {0}
-Called ps (tests r) = Unit {0}
+abbrev pub Called : List Procedure → Head Name Name Name → Type 0
+Called ps h = IfSome (callee_of h) (λ q. (named q.text ps ≡ None → ⊥) × IsThere (named q.text ps) (λ r. length r.formals ≡ length (arguments_of h)))
 
 counted : (o : Option Procedure) (m : ℕ) → (o ≡ None → ⊥) → (IsThere o (λ r. length r.formals ≢ m) → ⊥) → IsThere o (λ r. length r.formals ≡ m)
 counted None m a b = absurd (a refl)
 counted (Some r) m a b = settled (length r.formals) m b
 
 pub called : (vs : List Name) (ps : List Procedure) (s : Statement) → ((n : ℕ) → IsUndeclaredIn vs ps s n → ⊥) → ((n : ℕ) → Miscounts ps n s → ⊥) → Called ps s.head
-called vs ps s u c = go s.head (λ n h. u n (inr h)) (λ n h. c n h)
+called vs ps s u c = go (callee_of s.head) (λ n h. u n (inr h)) (λ n h. c n (inr h))
   where
-    go : (h : Head) → ((n : ℕ) → CallsUnknown ps n h → ⊥) → ((n : ℕ) → Miscounts ps n (record { mark = s.mark; head = h }) → ⊥) → Called ps h
-    go (plain (call q es)) a b = ((λ e. a q.at (refl, e)), counted (named q.text ps) (length es) (λ e. a q.at (refl, e)) (λ k. b q.at (refl, k)))
-    go (plain skip) a b = tt
-    go (plain (assign xs rs)) a b = tt
-    go (plain (assert r)) a b = tt
-    go (plain (assume r)) a b = tt
-    go (plain (goto l)) a b = tt
-    go (plain leave) a b = tt
-    go (tests r) a b = tt
+    go : (o : Option Name)
+        → ((n : ℕ) → IsThere o (λ q. (q.at ≡ n) × (named q.text ps ≡ None)) → ⊥)
+        → ((n : ℕ) → IsThere o (λ q. (q.at ≡ n) × IsThere (named q.text ps) (λ r. length r.formals ≢ length (arguments_of s.head))) → ⊥)
+        → IfSome o (λ q. (named q.text ps ≡ None → ⊥) × IsThere (named q.text ps) (λ r. length r.formals ≡ length (arguments_of s.head)))
+    go None a b = tt
+    go (Some q) a b = (
+      (λ e. a q.at (refl, e)),
+      counted (named q.text ps) (length (arguments_of s.head)) (λ e. a q.at (refl, e)) (λ k. b q.at (refl, k)),
+    )
 
 -- an assignment that is counted right has as many right sides as targets
 sided : (ps : List Procedure) (s : Statement) → ((n : ℕ) → Miscounts ps n s → ⊥) → HasAllSides s.head
-sided ps s c = go s.head (λ n h. c n h)
-  where
-    go : (h : Head) → ((n : ℕ) → Miscounts ps n (record { mark = s.mark; head = h }) → ⊥) → HasAllSides h
-    go (plain (assign xs rs)) b = settled (length xs) (length rs) (λ k. b (first_at s.mark.at xs) (refl, k))
-    go (plain (call q es)) b = tt
-    go (plain skip) b = tt
-    go (plain (assert r)) b = tt
-    go (plain (assume r)) b = tt
-    go (plain (goto l)) b = tt
-    go (plain leave) b = tt
-    go (tests r) b = tt
+sided ps s c is = settled (length (targets_of s.head)) (length (sides_of s.head)) (λ k. c (first_at s.mark.at (targets_of s.head)) (inl (is, refl, k)))
 
 -- the label of a goto is one of these
-abbrev pub Labelled : List Name → Head → Type 0
-Labelled ls (plain (goto l)) = is_declared l.text ls ≡ true
-Labelled ls (plain (call q es)) = Unit {0}
-Labelled ls (plain skip) = Unit {0}
-Labelled ls (plain (assign xs rs)) = Unit {0}
-Labelled ls (plain (assert r)) = Unit {0}
-Labelled ls (plain (assume r)) = Unit {0}
-Labelled ls (plain leave) = Unit {0}
-Labelled ls (tests r) = Unit {0}
+abbrev pub Labelled : List Name → Head Name Name Name → Type 0
+Labelled ls h = IfSome (jump_of h) (λ l. is_declared l.text ls ≡ true)
 
-labelled : (ls : List Name) (h : Head) → ((n : ℕ) → GoesNowhere ls n h → ⊥) → Labelled ls h
-labelled ls (plain (goto l)) a = is_known ls l a
-labelled ls (plain (call q es)) a = tt
-labelled ls (plain skip) a = tt
-labelled ls (plain (assign xs rs)) a = tt
-labelled ls (plain (assert r)) a = tt
-labelled ls (plain (assume r)) a = tt
-labelled ls (plain leave) a = tt
-labelled ls (tests r) a = tt
+labelled : (ls : List Name) (h : Head Name Name Name) → ((n : ℕ) → GoesNowhere ls n h → ⊥) → Labelled ls h
+labelled ls h a = go (jump_of h) a
+  where
+    go : (o : Option Name) → ((n : ℕ) → IsThere o (IsUnknown ls n) → ⊥) → IfSome o (λ l. is_declared l.text ls ≡ true)
+    go None a = tt
+    go (Some l) a = is_known ls l a
 
 -- the variables of a statement are known, what it calls and goes to is there, and each target has its right side
-pub record Works (t : Tree) (p : Procedure) (h : Head) : Type 0 where
+pub record Works (t : Tree) (p : Procedure) (h : Head Name Name Name) : Type 0 where
   pub variables : Each (λ (x : Name). is_declared x.text (known t p) ≡ true) (used_by h)
   pub called : Called t.procedures h
   pub sides : HasAllSides h
