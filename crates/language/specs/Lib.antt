@@ -1,5 +1,6 @@
 pub mod Lists
 pub mod Tree
+pub mod Parts
 pub mod Value
 pub mod Rest
 pub mod Step

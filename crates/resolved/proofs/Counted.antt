@@ -1,5 +1,6 @@
 -- The places of the procedures of a program, counted.
-use Rattle.std.proofs.Common.{◌≡◌, ℕ, zero, suc, ◌+◌, ◌<◌, ◌≤◌, Some, List, [], ◌∷◌, ◌++◌, length, length-append, get_or, slice_get, sym, ◌∙◌, ap, subst, arith}
+use Rattle.std.proofs.Common.{◌≡◌, ℕ, zero, suc, ◌+◌, ◌<◌, ◌≤◌, Some, List, [], ◌∷◌, ◌++◌, length, length-append, get_or, slice_get, sym}
+use Rattle.std.proofs.Common.{◌∙◌, ap, subst, arith}
 use Rattle.std.proofs.lemmas.List.{length-map}
 use Rattle.language.specs.Tree.{Procedure}
 use Rattle.trees.specs.declared.tree.Name as declared
@@ -10,21 +11,25 @@ use Rattle.resolved.specs.Limits.{most_places}
 use Rattle.resolved.specs.Narrow.{EachProcedure, width, AllNarrow}
 
 -- each procedure of a list has what all have
-pub each_at : {A : Type 0} (P : Procedure → Type 0) (ss : List (Proc A)) (i : ℕ) (s : Proc A) → i < length ss → s ≡ get_or ss i s → EachProcedure P (procs_of ss) → P (proc_of s)
+pub each_at : {A : Type 0} (P : Procedure → Type 0) (ss : List (Proc A)) (i : ℕ) (s : Proc A) → i < length ss → s ≡ get_or ss i s
+    → EachProcedure P (procs_of ss) → P (proc_of s)
 each_at P [] i s lt is e = absurd (omega arith)
 each_at P (x ∷ ss) zero s lt is e = subst (λ y. P (proc_of y)) (sym is) e.0
 each_at P (x ∷ ss) (suc i) s lt is e = each_at P ss i s (omega arith) is e.1
 
 -- the procedure at an index, as a tree
-pub proc_there : {A : Type 0} (ss : List (Proc A)) (i : ℕ) (s : Proc A) → i < length ss → s ≡ get_or ss i s → slice_get (procs_of ss) i ≡ Some (proc_of s)
+pub proc_there : {A : Type 0} (ss : List (Proc A)) (i : ℕ) (s : Proc A) → i < length ss → s ≡ get_or ss i s
+    → slice_get (procs_of ss) i ≡ Some (proc_of s)
 proc_there [] i s lt is = absurd (omega arith)
 proc_there (x ∷ ss) zero s lt is = ap (λ y. Some (proc_of y)) (sym is)
 proc_there (x ∷ ss) (suc i) s lt is = proc_there ss i s (omega arith) is
 
 -- the places of a procedure of a program, counted
-pub places_counted : {A : Type 0} (globals formals locals : List (declared.Name A)) → length (names_of globals) + length (names_of formals ++ names_of locals) ≡ length globals + (length formals + length locals)
+pub places_counted : {A : Type 0} (globals formals locals : List (declared.Name A))
+    → length (names_of globals) + length (names_of formals ++ names_of locals) ≡ length globals + (length formals + length locals)
 places_counted globals formals locals =
-    let a : length (names_of formals ++ names_of locals) ≡ length (names_of formals) + length (names_of locals) = length-append (names_of formals) (names_of locals) in
+    let a : length (names_of formals ++ names_of locals) ≡ length (names_of formals) + length (names_of locals) =
+    length-append (names_of formals) (names_of locals) in
     (λ i. length-map globals name_of i + (a ∙ (λ j. length-map formals name_of j + length-map locals name_of j)) i)
 
 -- they are at most 64 in a narrow program

@@ -1,12 +1,13 @@
 -- What the names of a checked tree stand for is there.
-use Rattle.std.specs.Prelude.{◌≡◌, ◌<◌, List, [], ◌∷◌, ◌++◌, length, slice_get}
-use Rattle.language.specs.Tree.{assign, goto, call, done, Procedure, ThreadLine, Tree}
+use Rattle.std.specs.Prelude.{◌≡◌, ◌<◌, List, [], ◌∷◌, ◌++◌, length, slice_get, IfSome}
+use Rattle.language.specs.Tree.{Name, done, Procedure, ThreadLine, Tree}
+use Rattle.language.specs.Parts.{Head, callee_of, arguments_of, jump_of, HasAllSides}
 use Rattle.language.specs.Value.{Place, global, local}
 use Rattle.language.specs.Rest.{rest_from}
 use Rattle.language.specs.Step.{AtRest}
 use Rattle.language.specs.Resolve.{number_of, place_of, scope_of, resolve_block}
 use Rattle.resolved.specs.There.{IsThere, names}
-use Rattle.resolved.specs.Statements.{Head, plain, Statement, statements_of, used_by}
+use Rattle.resolved.specs.Statements.{Statement, statements_of, used_by}
 
 -- each member of the list has the property
 abbrev pub Each : {X : Type 0} → (X → Type 0) → List X → Type 0
@@ -20,16 +21,13 @@ IsPlaceIn t p (local i) = i < length (p.formals ++ p.locals)
 
 -- a procedure that is called is there, with as many formals as there are arguments; the label of a goto is one of the
 -- procedure's, with what is left to run from it on
-abbrev pub GoesSomewhere : Tree → Procedure → Head → Type 0
-GoesSomewhere t p (plain (call q es)) =
-    IsThere (slice_get t.procedures (number_of q.text (names t.procedures))) (λ r. length r.formals ≡ length es)
-GoesSomewhere t p (plain (goto l)) = AtRest (rest_from l.text (resolve_block (scope_of t p) p.body) done) (λ rest. Unit {0})
-GoesSomewhere t p _ = Unit {0}
-
--- an assignment has as many right sides as targets
-abbrev pub HasAllSides : Head → Type 0
-HasAllSides (plain (assign xs rs)) = length xs ≡ length rs
-HasAllSides _ = Unit {0}
+abbrev pub GoesSomewhere : Tree → Procedure → Head Name Name Name → Type 0
+GoesSomewhere t p h =
+    IfSome (callee_of h) (λ callee.
+    IsThere (slice_get t.procedures (number_of callee.text (names t.procedures)))
+    (λ r. length r.formals ≡ length (arguments_of h)))
+    × IfSome (jump_of h) (λ label.
+    AtRest (rest_from label.text (resolve_block (scope_of t p) p.body) done) (λ rest. Unit {0}))
 
 -- each variable of the statement has its place, what it calls or goes to is there, and each target has its right side
 pub record StatementResolves (t : Tree) (p : Procedure) (s : Statement) : Type 0 where
@@ -41,4 +39,6 @@ pub record StatementResolves (t : Tree) (p : Procedure) (s : Statement) : Type 0
 -- there and has no formals
 pub record Resolves (t : Tree) : Type 0 where
   pub statements : Each (λ (p : Procedure). Each (StatementResolves t p) (statements_of p.body)) t.procedures
-  pub threads : Each (λ (line : ThreadLine). IsThere (slice_get t.procedures (number_of line.name.text (names t.procedures))) (λ r. length r.formals ≡ 0)) t.threads
+  pub threads : Each
+      (λ (line : ThreadLine). IsThere (slice_get t.procedures (number_of line.name.text (names t.procedures))) (λ r. length r.formals ≡ 0))
+      t.threads

@@ -2,15 +2,17 @@
 use mathlib.Core.HLevel.{×_prop, Unit-prop, ⊥_prop}
 use native.Mathlib.Nat.{ℕ_set}
 use native.Mathlib.Bridge.{le_prop}
-use Rattle.std.specs.Prelude.{List, [], ◌∷◌, Option, Some, None}
-use Rattle.language.specs.Tree.{skip, assign, assert, assume, goto, leave, call, Procedure, Tree}
+use Rattle.std.specs.Prelude.{◌≡◌, List, [], ◌∷◌, Option, Some, None}
+use Rattle.std.specs.Option.{MatchOption-prop}
+use Rattle.language.specs.Tree.{Name, Procedure, Tree}
+use Rattle.language.specs.Parts.{Head, callee_of, jump_of, HasAllSides}
 use Rattle.language.specs.Value.{Place, global, local}
 use Rattle.language.specs.Rest.{Code}
 use Rattle.language.specs.Step.{AtRest}
 use Rattle.language.specs.Resolve.{place_of, scope_of}
 use Rattle.resolved.specs.There.{IsThere}
-use Rattle.resolved.specs.Statements.{Head, plain, tests, Statement}
-use Rattle.resolved.specs.Resolves.{Each, IsPlaceIn, GoesSomewhere, HasAllSides, StatementResolves, Resolves}
+use Rattle.resolved.specs.Statements.{Statement}
+use Rattle.resolved.specs.Resolves.{Each, IsPlaceIn, GoesSomewhere, StatementResolves, Resolves}
 
 pub Each-prop : {X : Type 0} (P : X → Type 0) → ((x : X) → IsProp (P x)) → (xs : List X) → IsProp (Each P xs)
 Each-prop P p [] = Unit-prop
@@ -28,25 +30,13 @@ is_rest-prop : (o : Option Code) → IsProp (AtRest o (λ rest. Unit {0}))
 is_rest-prop None = ⊥_prop
 is_rest-prop (Some rest) = Unit-prop
 
-GoesSomewhere-prop : (t : Tree) (p : Procedure) (h : Head) → IsProp (GoesSomewhere t p h)
-GoesSomewhere-prop t p (plain (call q es)) = IsThere-prop _ _ (λ r. ℕ_set _ _)
-GoesSomewhere-prop t p (plain (goto l)) = is_rest-prop _
-GoesSomewhere-prop t p (plain skip) = Unit-prop
-GoesSomewhere-prop t p (plain (assign xs rs)) = Unit-prop
-GoesSomewhere-prop t p (plain (assert r)) = Unit-prop
-GoesSomewhere-prop t p (plain (assume r)) = Unit-prop
-GoesSomewhere-prop t p (plain leave) = Unit-prop
-GoesSomewhere-prop t p (tests r) = Unit-prop
+GoesSomewhere-prop : (t : Tree) (p : Procedure) (h : Head Name Name Name) → IsProp (GoesSomewhere t p h)
+GoesSomewhere-prop t p h =
+    ×_prop (MatchOption-prop (callee_of h) _ _ Unit-prop (λ callee. IsThere-prop _ _ (λ r. ℕ_set _ _)))
+    (MatchOption-prop (jump_of h) _ _ Unit-prop (λ label. is_rest-prop _))
 
-HasAllSides-prop : (h : Head) → IsProp (HasAllSides h)
-HasAllSides-prop (plain (assign xs rs)) = ℕ_set _ _
-HasAllSides-prop (plain (call q es)) = Unit-prop
-HasAllSides-prop (plain (goto l)) = Unit-prop
-HasAllSides-prop (plain skip) = Unit-prop
-HasAllSides-prop (plain (assert r)) = Unit-prop
-HasAllSides-prop (plain (assume r)) = Unit-prop
-HasAllSides-prop (plain leave) = Unit-prop
-HasAllSides-prop (tests r) = Unit-prop
+HasAllSides-prop : (h : Head Name Name Name) → IsProp (HasAllSides h)
+HasAllSides-prop h f g i is = let e : f is ≡ g is = ℕ_set _ _ (f is) (g is) in e i
 
 StatementResolves-prop : (t : Tree) (p : Procedure) (s : Statement) → IsProp (StatementResolves t p s)
 StatementResolves-prop t p s a b = λ i. record {

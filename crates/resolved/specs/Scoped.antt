@@ -1,7 +1,8 @@
 -- A resolved program that fits its scopes: every variable is a global or a place of its procedure, and
 -- every procedure that is called is there, with a place for each argument.
-use Rattle.std.specs.Prelude.{ℕ, ◌<◌, ◌≤◌, List, [], ◌∷◌, length, slice_get}
-use Rattle.language.specs.Tree.{Expression, const, var, negation, two, RightSide, any, value, Simple, skip, assign, assert, assume, goto, leave, call, done, one, choose, loop}
+use Rattle.std.specs.Prelude.{ℕ, ◌<◌, ◌≤◌, List, [], ◌∷◌, length, slice_get, IfSome}
+use Rattle.language.specs.Tree.{Expression, const, var, negation, two, RightSide, any, value, Simple, done, one, choose, loop}
+use Rattle.language.specs.Parts.{plain, targets_of, sides_of, test_of, arguments_of, callee_of}
 use Rattle.language.specs.Value.{Place, global, local}
 use Rattle.language.specs.Rest.{Label, Code}
 use Rattle.language.specs.Step.{Routine, Program, AtRoutine}
@@ -38,16 +39,15 @@ abbrev pub PlacesInScope : ℕ → ℕ → List Place → Type 0
 PlacesInScope n own [] = Unit {0}
 PlacesInScope n own (x ∷ xs) = PlaceInScope n own x × PlacesInScope n own xs
 
--- the variables of a statement that holds no others are in scope, and a call has a place for each argument
-abbrev pub SimpleInScope : List Routine → ℕ → ℕ → Simple Place ℕ Label → Type 0
-SimpleInScope routines n own skip = Unit {0}
-SimpleInScope routines n own (assign xs rs) = PlacesInScope n own xs × SidesInScope n own rs
-SimpleInScope routines n own (assert r) = SideInScope n own r
-SimpleInScope routines n own (assume r) = SideInScope n own r
-SimpleInScope routines n own (goto x) = Unit {0}
-SimpleInScope routines n own leave = Unit {0}
-SimpleInScope routines n own (call q es) =
-    AreInScope n own es × AtRoutine (slice_get routines q) (λ r. length es ≤ r.places)
+-- The variables of a statement that holds no others are in scope, and the procedure that it calls is there, with a
+-- place
+-- for each argument.
+pub record SimpleInScope (routines : List Routine) (globals own : ℕ) (s : Simple Place ℕ Label) : Type 0 where
+  pub targets : PlacesInScope globals own (targets_of (plain s))
+  pub sides : SidesInScope globals own (sides_of (plain s))
+  pub test : IfSome (test_of (plain s)) (SideInScope globals own)
+  pub arguments : AreInScope globals own (arguments_of (plain s))
+  pub callee : IfSome (callee_of (plain s)) (λ q. AtRoutine (slice_get routines q) (λ r. length (arguments_of (plain s)) ≤ r.places))
 
 -- each statement that holds no others has the one property, each right side of an `if` or `while` the other
 abbrev pub Throughout : (Simple Place ℕ Label → Type 0) → (RightSide Place → Type 0) → Code → Type 0

@@ -1,20 +1,18 @@
 -- The statements of a tree as one list, and the names that they use.
 use Rattle.std.specs.Prelude.{List, [], ◌∷◌, ◌++◌, Option, Some, None, map}
-use Rattle.language.specs.Tree.{Name, Expression, const, var, negation, two, RightSide, any, value, Simple, skip, assign, assert, assume, goto, leave, call, Mark, Block, done, one, choose, loop, Procedure}
-use Rattle.trees.specs.Trees.{Deed, simple, branch, repeat, item_of, name_of}
+use Rattle.language.specs.Tree.{Name, Expression, const, var, negation, two, RightSide, any, value, Mark, Block, done, one, choose, loop}
+use Rattle.language.specs.Tree.{Procedure}
+use Rattle.language.specs.Parts.{Head, plain, tests, targets_of, sides_of, test_of, arguments_of}
+use Rattle.trees.specs.Trees.{Deed, item_of, name_of}
+use Rattle.trees.specs.Parts.{head_of, first_inside, second_inside}
 use Rattle.trees.specs.declared.tree.Stmt.{Stmt}
 use Rattle.trees.specs.declared.tree.Name as declared
 use denote.Ref.{Bor}
 
--- what a statement does, without the statements that it holds: of an `if` and a `while` its right side
-pub data Head : Type 0 where
-  plain : Simple Name Name Name → Head
-  tests : RightSide Name → Head
-
 -- a statement without the statements that it holds
 pub record Statement : Type 0 where
   pub mark : Mark Name
-  pub head : Head
+  pub head : Head Name Name Name
 
 -- the statements of a block in the order of the text, those inside an `if` or a `while` after it
 abbrev pub statements_of : Block Name Name Name → List Statement
@@ -29,7 +27,9 @@ abbrev pub statements_of_all : List Procedure → List Statement
 statements_of_all [] = []
 statements_of_all (p ∷ ps) = statements_of p.body ++ statements_of_all ps
 
--- the variables of an expression, of a right side, and of lists of them, each as often as it stands there
+-- the variables of an expression, of a right side, of lists of them, and of a right side that may be there, each as
+-- often
+-- as it stands there
 abbrev pub variables_of : Expression Name → List Name
 variables_of (const b) = []
 variables_of (var x) = x ∷ []
@@ -48,16 +48,15 @@ abbrev pub variables_of_all : List (Expression Name) → List Name
 variables_of_all [] = []
 variables_of_all (e ∷ es) = variables_of e ++ variables_of_all es
 
+abbrev pub variables_of_test : Option (RightSide Name) → List Name
+variables_of_test None = []
+variables_of_test (Some r) = variables_of_side r
+
 -- the variables of a statement, targets first
-abbrev pub used_by : Head → List Name
-used_by (plain skip) = []
-used_by (plain (assign xs rs)) = xs ++ variables_of_sides rs
-used_by (plain (assert r)) = variables_of_side r
-used_by (plain (assume r)) = variables_of_side r
-used_by (plain (goto l)) = []
-used_by (plain leave) = []
-used_by (plain (call p es)) = variables_of_all es
-used_by (tests r) = variables_of_side r
+abbrev pub used_by : Head Name Name Name → List Name
+used_by h =
+    targets_of h
+    ++ (variables_of_sides (sides_of h) ++ (variables_of_test (test_of h) ++ variables_of_all (arguments_of h)))
 
 -- the label of a statement, where it has one
 abbrev pub label_of : Option Name → List Name
@@ -70,11 +69,6 @@ labels_of [] = []
 labels_of (s ∷ ss) = label_of s.mark.label ++ labels_of ss
 
 -- a statement as the code holds it, without those that it holds
-abbrev pub head_of : Deed → Head
-head_of (simple s) = plain s
-head_of (branch r a b) = tests r
-head_of (repeat r a) = tests r
-
 abbrev pub statement_of : {A : Type 0} → Stmt A → Statement
 statement_of s = let i = item_of s in record { mark = i.mark; head = head_of i.deed }
 
@@ -88,6 +82,4 @@ lent_statements ss = map (λ r. statement_of r.now) ss
 
 -- the statements that a statement holds
 abbrev pub inside : Deed → List Statement
-inside (simple s) = []
-inside (branch r a b) = statements_of a ++ statements_of b
-inside (repeat r a) = statements_of a
+inside d = statements_of (first_inside d) ++ statements_of (second_inside d)

@@ -132,7 +132,7 @@ module _ (setting : Setting) (now : Moment setting.p.globals setting.last) (m : 
         let (n1, e1, r1) = unstep w Q N _ _ _ (never_below bs) run in
         moved_here N a (one k (assert r) t) bs (both a t ∷ bs)
         (good_rest p last a (one k (assert r) t) t h h.fits.1, good)
-        (back_value a h.long r h.fits.0.0 true is, refl)
+        (back_value a h.long r h.fits.0.0.test true is, refl)
         (later_now w Q _ N n1 e1 r1)
     assert_back N a k r t false h is run =
         let fs : List Frame = callers p last bs m in
@@ -149,7 +149,7 @@ module _ (setting : Setting) (now : Moment setting.p.globals setting.last) (m : 
         let r3 : PlainAfter w n1 (state (lay C S (bits_of q true true)) (frame (suc a.c) (a.l ++ a.tmp) rest ∷ fs)) Q =
         subst (λ z. PlainAfter w n1 (state z (frame (suc a.c) (a.l ++ a.tmp) rest ∷ fs)) Q) (fail_writes x y ix iy) r2 in
         let (n4, e4, r4) = unstep w Q n1 _ _ _ (never_below bs) r3 in
-        failed (back_value a h.long r h.fits.0.0 false is) (n4, omega arith, r4)
+        failed (back_value a h.long r h.fits.0.0.test false is) (n4, omega arith, r4)
 
     -- a run through a jump
     jump_back : (N : ℕ) (a : Activation) (k : Mark Label) (x : Label) (t : Code) (o : Option Code)
@@ -185,7 +185,7 @@ module _ (setting : Setting) (now : Moment setting.p.globals setting.last) (m : 
         let lv : length vs ≤ r.places = subst (λ k. k ≤ r.places) (sym (length_values (row C q) a.l es)) short in
         let scope = h.fits.0.0 in
         let ev : values_of X (a.l ++ a.tmp) (map (expression (places p.globals last a.own) last) es) ≡ vs =
-        expressions_are small now a.own (a.l ++ a.tmp) a.l a.tmp refl h.long es scope.0 in
+        expressions_are small now a.own (a.l ++ a.tmp) a.l a.tmp refl h.long es scope.arguments in
         let ef : fresh (r.places + d)
         (values_of X (a.l ++ a.tmp) (map (expression (places p.globals last a.own) last) es)) ≡ fresh r.places vs ++ zeros d =
         ap (fresh (r.places + d)) ev ∙ fresh_more r.places d vs lv in
@@ -221,7 +221,7 @@ module _ (setting : Setting) (now : Moment setting.p.globals setting.last) (m : 
         let scope = h.fits.0.0 in
         let (M, vs, tmp', lt, are, et, r) =
         assign_back w p.globals last a.own (suc a.c) (callers p last bs m) Q now small a.l a.tmp h.long (never_below bs) N xs rs
-        (put_rest p last a.own t) scope.0 scope.1 run in
+        (put_rest p last a.own t) scope.targets scope.sides run in
         moved (written_globals xs vs (row C q)) (both (record a { l = written_locals xs vs a.l; tmp = tmp' }) t ∷ bs)
         (length_globals xs vs (row C q) ∙ row_long now)
         (good_with p last a (written_locals xs vs a.l) tmp' (one k (assign xs rs) t) t h (length_locals xs vs a.l) et h.fits.1, good)
@@ -247,7 +247,7 @@ module _ (setting : Setting) (now : Moment setting.p.globals setting.last) (m : 
         let (n1, e1, r1) = unstep w Q N _ _ _ (never_below bs) run in
         moved_here N a (one k (assume r) t) bs (both a t ∷ bs)
         (good_rest p last a (one k (assume r) t) t h h.fits.1, good)
-        (back_value a h.long r h.fits.0.0 true r1.0, refl) (later_now w Q _ N n1 e1 r1.1)
+        (back_value a h.long r h.fits.0.0.test true r1.0, refl) (later_now w Q _ N n1 e1 r1.1)
     step_back N a (one k (goto x) t) h run =
         let (n1, e1, r1) = unstep w Q N _ _ _ (never_below bs) run in
         let where_to : w.jumps (suc a.c) x ≡ option_map (put_rest p last a.own) (rest_from x h.routine.body done) =
@@ -268,7 +268,7 @@ module _ (setting : Setting) (now : Moment setting.p.globals setting.last) (m : 
         state X
         (frame (suc q') (fresh z.places (values_of X (a.l ++ a.tmp) (map (expression (places p.globals last a.own) last) es))) z.body
         ∷ callers p last (both a t ∷ bs) m) in
-        call_back N a k t q' es (slice_get p.routines q') refl h scope.1
+        call_back N a k t q' es (slice_get p.routines q') refl h scope.callee
         (at_routine_later N n1 (option_map (put_routine p last) (slice_get p.routines q')) F e1
         (subst (λ o. AtRoutine o (λ z. PlainAfter w n1 (F z) Q)) (isw.enters_is q') r1))
     step_back N a (choose k r x y t) h run =

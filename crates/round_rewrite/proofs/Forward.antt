@@ -199,7 +199,7 @@ module _ (setting : Setting) (now : Moment setting.p.globals setting.last) (m : 
         step_leads a (one k (assign xs rs) t) h s =
             let scope = h.fits.0.0 in
             assign_leads w p.globals last a.own (suc a.c) (callers p last bs m) Q now small a.l a.tmp h.long xs rs s.0
-            (put_rest p last a.own t) s.1 scope.0 scope.1 h.fits.0.1
+            (put_rest p last a.own t) s.1 scope.targets scope.sides h.fits.0.1
             (λ tmp' et. next (written_globals xs s.0 (row C q)) (both (record a { l = written_locals xs s.0 a.l; tmp = tmp' }) t ∷ bs)
             (length_globals xs s.0 (row C q) ∙ row_long now) (
               good_with p last a (written_locals xs s.0 a.l) tmp' (one k (assign xs rs) t) t h (length_locals xs s.0 a.l) et h.fits.1,
@@ -209,12 +209,12 @@ module _ (setting : Setting) (now : Moment setting.p.globals setting.last) (m : 
             let z =
             same_globals next (both a t ∷ bs)
             (good_rest p last a (one k (assert r) t) t h h.fits.1, good) s.1 in
-            (suc (suc z.0), (true, subst (λ T. T) (sym (side_at a h.long r h.fits.0.0 true)) s.0, z.1))
+            (suc (suc z.0), (true, subst (λ T. T) (sym (side_at a h.long r h.fits.0.0.test true)) s.0, z.1))
         step_leads a (one k (assume r) t) h s =
             let z =
             same_globals next (both a t ∷ bs)
             (good_rest p last a (one k (assume r) t) t h h.fits.1, good) s.1 in
-            (suc z.0, (subst (λ T. T) (sym (side_at a h.long r h.fits.0.0 true)) s.0, z.1))
+            (suc z.0, (subst (λ T. T) (sym (side_at a h.long r h.fits.0.0.test true)) s.0, z.1))
         step_leads a (one k (goto x) t) h s =
             let found : AtRest (rest_from x h.routine.body done) (λ u. R (state (row C q) (frame a.c a.l u ∷ map source bs))) =
             subst (λ o. AtRest (rest_from x (body_of o) done) (λ u. R (state (row C q) (frame a.c a.l u ∷ map source bs)))) h.there s in
@@ -235,7 +235,7 @@ module _ (setting : Setting) (now : Moment setting.p.globals setting.last) (m : 
             let scope = h.fits.0.0 in
             let z =
             call_leads a t q' es (slice_get p.routines q') refl
-            (good_rest p last a (one k (call q' es) t) t h h.fits.1) scope.0 scope.1 s in (
+            (good_rest p last a (one k (call q' es) t) t h h.fits.1) scope.arguments scope.callee s in (
               suc z.0,
               subst
                   (λ o.

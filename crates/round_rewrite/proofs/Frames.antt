@@ -1,12 +1,12 @@
 -- A stack of the source and the temporaries together give the rewritten stack.
-use Rattle.std.proofs.Common.{◌≡◌, ℕ, zero, suc, ◌+◌, ◌-◌, ◌*◌, ◌<◌, ◌≤◌, max, Bool, true, false, cond, List}
-use Rattle.std.proofs.Common.{[], ◌∷◌, ◌++◌, length, map, Option, Some, None, option_map, slice_get, sym, ◌∙◌, ap, ap₂}
-use Rattle.std.proofs.Common.{arith, ◌⊎◌, inl, inr, append_assoc}
+use Rattle.std.proofs.Common.{◌≡◌, ℕ, zero, suc, ◌+◌, ◌-◌, ◌*◌, ◌<◌, ◌≤◌, max, Bool, true, false, cond, List, [], ◌∷◌, ◌++◌, length, map}
+use Rattle.std.proofs.Common.{Option, Some, None, option_map, slice_get, sym, ◌∙◌, ap, ap₂, arith, ◌⊎◌, inl, inr, append_assoc}
 use Rattle.language.specs.Tree.{Simple, skip, assign, assert, assume, goto, leave, call, Mark, done, one, choose, loop, RightSide}
 use Rattle.language.specs.Value.{Place}
 use Rattle.language.specs.Rest.{Label, Code, join, rest_from, first_of_two, has_label}
 use Rattle.language.specs.Step.{Routine, Program, Frame, frame, zeros, fresh}
-use Rattle.round_rewrite.specs.Table.{plain, draws, temporaries, side, prologue, statement, stop_test}
+use Rattle.round_rewrite.specs.Table.{plain, draws, temporaries, side, prologue, statement, stop_test, draws_of}
+use Rattle.language.specs.Parts.{plain}
 use Rattle.round_rewrite.specs.Places.{places, is_global}
 use Rattle.round_rewrite.specs.Limits.{most_rounds}
 use Rattle.resolved.specs.Scoped.{SimpleInScope, SideInScope, Throughout, FitsScopes}
@@ -15,19 +15,9 @@ use Rattle.round_rewrite.proofs.Blocks.{put}
 use Rattle.round_rewrite.proofs.Laid.{Shape}
 use Rattle.round_rewrite.proofs.Prologue.{Site}
 
--- how many temporaries a statement draws
-abbrev pub draws_of : Simple Place ℕ Label → ℕ
-draws_of skip = 0
-draws_of (assign xs rs) = draws is_global xs rs
-draws_of (assert r) = 0
-draws_of (assume r) = 0
-draws_of (goto x) = 0
-draws_of leave = 0
-draws_of (call q es) = 0
-
 -- in scope, with room for so many temporaries
 abbrev pub Roomy : List Routine → ℕ → ℕ → ℕ → Simple Place ℕ Label → Type 0
-Roomy routines n own d s = SimpleInScope routines n own s × (draws_of s ≤ d)
+Roomy routines n own d s = SimpleInScope routines n own s × (draws_of is_global (plain s) ≤ d)
 
 -- each statement of a block is in scope and has room for its temporaries
 abbrev pub Fits : List Routine → ℕ → ℕ → ℕ → Code → Type 0
@@ -72,16 +62,9 @@ throughout-rest S R x (loop m r a t) k hb hk =
     (there_first (Throughout S R) _ _ (throughout-rest S R x a (loop m r a (join t k)) hb.1 (hb.0, hb.1, after))
     (throughout-rest S R x t k hb.2 hk))
 
--- room for a block is room for its first statement and for the others
 room_simple : (s : Simple Place ℕ Label) (t : Code) (m : Mark Label) (d : ℕ) → temporaries is_global (one m s t) ≤ d
-    → (draws_of s ≤ d) × (temporaries is_global t ≤ d)
-room_simple skip t m d h = (omega arith, h)
-room_simple (assign xs rs) t m d h = (omega arith, omega arith)
-room_simple (assert r) t m d h = (omega arith, h)
-room_simple (assume r) t m d h = (omega arith, h)
-room_simple (goto x) t m d h = (omega arith, h)
-room_simple leave t m d h = (omega arith, h)
-room_simple (call q es) t m d h = (omega arith, h)
+    → (draws_of is_global (plain s) ≤ d) × (temporaries is_global t ≤ d)
+room_simple s t m d h = (omega arith, omega arith)
 
 -- a block in scope, with room for its temporaries, fits
 pub roomy : (routines : List Routine) (n own d : ℕ) (b : Code) → Throughout (SimpleInScope routines n own) (SideInScope n own) b

@@ -6,6 +6,8 @@ use Rattle.std.proofs.lemmas.List.{length-map}
 use Rattle.std.proofs.lemmas.Option.{slice_get-map}
 use Rattle.language.specs.Tree.{Name, Expression, const, var, negation, two, RightSide, any, value, Simple, skip, assign, assert, assume}
 use Rattle.language.specs.Tree.{goto, leave, call, Block, done, one, choose, loop, Procedure, ThreadLine, Tree}
+use Rattle.std.specs.Prelude.{IfSome}
+use Rattle.language.specs.Parts.{plain, targets_of, sides_of, test_of, arguments_of, callee_of}
 use Rattle.language.specs.Value.{global, local}
 use Rattle.language.specs.Rest.{same_text}
 use Rattle.language.specs.Step.{AtRoutine}
@@ -20,6 +22,7 @@ use Rattle.resolved.specs.Scoped.{EachRoutine, EachThread, RoutineInScope, FitsS
 use Rattle.language.proofs.Names.{number_less}
 use Rattle.scopes.specs.Rewritable.{has_double, AreFree, Declared, AllDeclared, ExpressionDeclared, ExpressionsDeclared, SideDeclared}
 use Rattle.scopes.specs.Rewritable.{SidesDeclared, HasRoom, SimpleDeclared, BlockDeclared, ProcedureRewritable, EachLine, IsRewritable}
+use Rattle.resolved.proofs.Parts.{parts_resolve}
 use Rattle.resolved.specs.Narrow.{EachProcedure, width}
 use Rattle.round_rewrite.specs.Narrow.{IsNarrow}
 use Rattle.round_rewrite.specs.Law.{Keeps, KeepsTree}
@@ -198,20 +201,32 @@ module _ (t : Tree) (last : ℕ) (ok : IsRewritable t) (small : last < most_roun
     room_fits None es h = absurd h
     room_fits (Some p) es h = subst (λ k. k ≤ length (p.formals ++ p.locals)) (sym (length-map es (resolve_expression s))) h
 
+    test_fits : (o : Option (RightSide Name)) → IfSome o (SideDeclared s)
+        → IfSome (option_map (resolve_side s) o) (SideInScope (length gs) (length own))
+    test_fits None h = tt
+    test_fits (Some r) h = side_fits r h
+
+    callee_fits : (o : Option Name) (es : List (Expression Name))
+        → IfSome o (λ q. (is_declared q.text ps ≡ true) × HasRoom (slice_get t.procedures (number_of q.text ps)) (length es))
+        → IfSome (option_map (λ (q : Name). number_of q.text ps) o)
+        (λ q. AtRoutine (slice_get (meaning_of t).routines q) (λ r. length (map (resolve_expression s) es) ≤ r.places))
+    callee_fits None es h = tt
+    callee_fits (Some q) es h =
+        subst (λ o. AtRoutine o (λ r. length (map (resolve_expression s) es) ≤ r.places))
+        (sym (slice_get-map (routine_of t) t.procedures (number_of q.text ps)))
+        (room_fits (slice_get t.procedures (number_of q.text ps)) es h.1)
+
     simple_fits : (c : Simple Name Name Name) → SimpleDeclared t s c
         → SimpleInScope (meaning_of t).routines (length gs) (length own) (resolve_simple s c)
-    simple_fits skip h = tt
-    simple_fits (assign xs rs) h = (places_fit xs h.0, sides_fit rs h.1)
-    simple_fits (assert r) h = side_fits r h
-    simple_fits (assume r) h = side_fits r h
-    simple_fits (goto x) h = tt
-    simple_fits leave h = tt
-    simple_fits (call q es) h = (
-      expressions_fit es h.0,
-      subst (λ o. AtRoutine o (λ r. length (map (resolve_expression s) es) ≤ r.places))
-          (sym (slice_get-map (routine_of t) t.procedures (number_of q.text ps)))
-          (room_fits (slice_get t.procedures (number_of q.text ps)) es h.2),
-    )
+    simple_fits c h =
+        let parts = parts_resolve s c in
+        record {
+          targets = rw parts.targets (places_fit (targets_of (plain c)) h.targets);
+          sides = rw parts.sides (sides_fit (sides_of (plain c)) h.sides);
+          test = rw parts.test (test_fits (test_of (plain c)) h.test);
+          arguments = rw parts.arguments (expressions_fit (arguments_of (plain c)) h.arguments);
+          callee = rw (parts.callee, parts.arguments) (callee_fits (callee_of (plain c)) (arguments_of (plain c)) h.callee);
+        }
 
     block_fits : (b : Block Name Name Name) → BlockDeclared t s b
         → Throughout (SimpleInScope (meaning_of t).routines (length gs) (length own)) (SideInScope (length gs) (length own))

@@ -1,17 +1,14 @@
 -- How many temporaries statements need, one after the other.
-use Rattle.std.proofs.Common.{◌≡◌, ℕ, ◌+◌, ◌<◌, ◌≤◌, Bool, max, List, ◌∷◌, length, get_or, drop, refl, sym}
-use Rattle.std.proofs.Common.{◌∙◌, ap, arith}
+use Rattle.std.proofs.Common.{◌≡◌, ℕ, ◌+◌, ◌<◌, ◌≤◌, Bool, max, List, ◌∷◌, length, get_or, drop, refl, sym, ◌∙◌, ap, arith}
 use Rattle.std.proofs.lemmas.List.{drop_more, drop_all}
 use Rattle.language.specs.Tree as tree
-use Rattle.language.specs.Tree.{skip, assign, assert, assume, goto, leave, call, Mark}
+use Rattle.language.specs.Tree.{Mark}
+use Rattle.language.specs.Parts.{plain}
 use Rattle.trees.specs.declared.tree.Stmt.{Stmt}
 use Rattle.trees.specs.Trees.{Deed, simple, branch, repeat, item_of, deed_of, block_of, marked_before}
-use Rattle.round_rewrite.specs.Table.{temporaries}
+use Rattle.round_rewrite.specs.Table.{draws_of, temporaries}
 use Rattle.round_rewrite.specs.Writing.{Statements, deed_needs}
 use Rattle.trees.proofs.Folds.{item_deed}
-
-max_zero : (n : ℕ) → n ≡ max 0 n
-max_zero n = omega arith
 
 max_assoc : (a b c : ℕ) → max a (max b c) ≡ max (max a b) c
 max_assoc a b c = omega arith
@@ -19,15 +16,15 @@ max_assoc a b c = omega arith
 module _ (shared : tree.Name → Bool) where
   put : (m : Mark tree.Name) (d : Deed) (k : Statements)
       → temporaries shared (marked_before m d k) ≡ max (deed_needs shared d) (temporaries shared k)
-  put m (simple skip) k = max_zero _
-  put m (simple (assign xs rs)) k = refl
-  put m (simple (assert r)) k = max_zero _
-  put m (simple (assume r)) k = max_zero _
-  put m (simple (goto l)) k = max_zero _
-  put m (simple leave) k = max_zero _
-  put m (simple (call p es)) k = max_zero _
-  put m (branch r a b) k = max_assoc _ _ _
-  put m (repeat r a) k = refl
+  put m (simple s) k =
+      let e : max (draws_of shared (plain s)) (temporaries shared k) ≡ max (max (draws_of shared (plain s)) (max 0 0))
+      (temporaries shared k) = omega arith in e
+  put m (branch r a b) k =
+      let e : max (temporaries shared a) (max (temporaries shared b) (temporaries shared k)) ≡ max
+      (max 0 (max (temporaries shared a) (temporaries shared b))) (temporaries shared k) = omega arith in e
+  put m (repeat r a) k =
+      let e : max (temporaries shared a) (temporaries shared k) ≡ max (max 0 (max (temporaries shared a) 0)) (temporaries shared k) =
+      omega arith in e
 
   first : {A : Type 0} (s : Stmt A) (l : List (Stmt A))
       → temporaries shared (block_of (s ∷ l)) ≡ max (deed_needs shared (deed_of s.core)) (temporaries shared (block_of l))

@@ -9,14 +9,18 @@ use Rattle.language.specs.Rest.{join}
 use Rattle.language.specs.Resolve.{number_of, is_declared, Scope, place_of, resolve_expression, resolve_side, resolve_simple, resolve_mark}
 use Rattle.language.specs.Resolve.{resolve_block}
 use Rattle.round_rewrite.specs.Table.{Naming, numbers, plain, literal, in_round, joined, read, expression, side, written, rounds, targets}
-use Rattle.round_rewrite.specs.Table.{sides, draws, temporaries, drawing, stop_test, prologue, statement, rewritten}
+use Rattle.round_rewrite.specs.Table.{sides, draws, temporaries, drawing, stop_test, prologue, statement, rewritten, draws_of}
 use Rattle.round_rewrite.specs.Places.{places, is_global, copy_at, high_at, low_at, stop_at, bad_at}
 use Rattle.round_rewrite.specs.Names.{named, copy_name, drawn_name, names}
 use Rattle.scopes.specs.Rewritable.{Declared, AllDeclared, ExpressionDeclared, ExpressionsDeclared, SideDeclared, SidesDeclared}
-use Rattle.scopes.specs.Rewritable.{SimpleDeclared, BlockDeclared}
+use Rattle.scopes.specs.Rewritable.{SimpleDeclared, BlockDeclared, AreFree}
 use Rattle.round_rewrite.proofs.Placing.{Vocabulary, scope, wider, copy_place, kept_place, drawn_place, high_place, low_bit_place}
-use Rattle.round_rewrite.proofs.Placing.{stop_place}
-use Rattle.round_rewrite.proofs.Placing.{bad_place}
+use Rattle.round_rewrite.proofs.Placing.{stop_place, bad_place}
+use Rattle.language.specs.Parts as parts
+use Rattle.language.specs.Parts.{targets_of, sides_of}
+use Rattle.resolved.proofs.Parts.{parts_resolve}
+use Rattle.resolved.specs.Limits.{most_places}
+use Rattle.round_rewrite.specs.Limits.{most_rounds}
 
 -- a test made once
 pub by_test : {A : Type 0} (c : Bool) → (c ≡ true → A) → (c ≡ false → A) → A
@@ -26,13 +30,7 @@ by_test false f g = g refl
 -- what stands behind a statement needs no more temporaries than both
 pub rest_room : {V P L : Type 0} (is_shared : V → Bool) (d : ℕ) (m : Mark L) (c : Simple V P L) (k : Block V P L)
     → temporaries is_shared (one m c k) ≤ d → temporaries is_shared k ≤ d
-rest_room is_shared d m skip k h = h
-rest_room is_shared d m (assign xs rs) k h = omega arith
-rest_room is_shared d m (assert r) k h = h
-rest_room is_shared d m (assume r) k h = h
-rest_room is_shared d m (goto x) k h = h
-rest_room is_shared d m leave k h = h
-rest_room is_shared d m (call q es) k h = h
+rest_room is_shared d m c k h = omega arith
 
 resolve-join : (s : Scope) (a b : Block Name Name Name) → resolve_block s (join a b) ≡ join (resolve_block s a) (resolve_block s b)
 resolve-join s done b = refl
@@ -227,15 +225,15 @@ module _ (t : Tree) (vocabulary : Vocabulary) (ps' : List Name)
   draws_resolved (x ∷ xs) (any ∷ rs) = λ i. cond (shared_is x i) (suc (draws_resolved xs rs i)) (draws_resolved xs rs i)
   draws_resolved (x ∷ xs) (value v ∷ rs) = draws_resolved xs rs
 
+  draws_of_resolved : (c : Simple Name Name Name)
+      → draws_of N.is_shared (parts.plain c) ≡ draws_of is_global (parts.plain (resolve_simple s c))
+  draws_of_resolved c =
+      let resolved = parts_resolve s c in
+      draws_resolved (targets_of (parts.plain c)) (sides_of (parts.plain c)) ∙ sym (ap₂ (draws is_global) resolved.targets resolved.sides)
+
   pub temporaries_resolved : (b : Block Name Name Name) → temporaries N.is_shared b ≡ temporaries is_global (resolve_block s b)
   temporaries_resolved done = refl
-  temporaries_resolved (one m skip k) = temporaries_resolved k
-  temporaries_resolved (one m (assign xs rs) k) = ap₂ max (draws_resolved xs rs) (temporaries_resolved k)
-  temporaries_resolved (one m (assert r) k) = temporaries_resolved k
-  temporaries_resolved (one m (assume r) k) = temporaries_resolved k
-  temporaries_resolved (one m (goto x) k) = temporaries_resolved k
-  temporaries_resolved (one m leave k) = temporaries_resolved k
-  temporaries_resolved (one m (call q es) k) = temporaries_resolved k
+  temporaries_resolved (one m c k) = ap₂ max (draws_of_resolved c) (temporaries_resolved k)
   temporaries_resolved (choose m r a b k) = λ i. max (temporaries_resolved a i) (max (temporaries_resolved b i) (temporaries_resolved k i))
   temporaries_resolved (loop m r a k) = λ i. max (temporaries_resolved a i) (temporaries_resolved k i)
 
@@ -267,16 +265,8 @@ module _ (t : Tree) (vocabulary : Vocabulary) (ps' : List Name)
       (choose plain any (one plain (assign (st i ∷ []) (value (const true) ∷ [])) done) (one plain skip done)
       (choose plain (value (var (st i))) (one plain leave done) (one plain skip done) (resolve_block s' k)))
 
-  abbrev drawn_in : Simple Name Name Name → ℕ
-  drawn_in skip = 0
-  drawn_in (assign xs rs) = draws N.is_shared xs rs
-  drawn_in (assert r) = 0
-  drawn_in (assume r) = 0
-  drawn_in (goto x) = 0
-  drawn_in leave = 0
-  drawn_in (call q es) = 0
-
-  statement_resolved : (c : Simple Name Name Name) (k : Block Name Name Name) → SimpleDeclared t s c → drawn_in c ≤ d
+  statement_resolved : (c : Simple Name Name Name) (k : Block Name Name Name) → SimpleDeclared t s c
+      → draws_of N.is_shared (parts.plain c) ≤ d
       → resolve_block s' (statement N last c k) ≡ statement P last (resolve_simple s c) (resolve_block s' k)
   statement_resolved skip k h room = refl
   statement_resolved (assign xs rs) k h room =
@@ -284,25 +274,20 @@ module _ (t : Tree) (vocabulary : Vocabulary) (ps' : List Name)
       drawing_resolved (draws N.is_shared xs rs) (one plain (assign (targets N last xs rs) (sides N last 0 xs rs)) k) few_draws
       ∙ (λ i.
       drawing P last (draws_resolved xs rs i)
-      (one plain (assign (targets_resolved xs rs h.0 i) (sides_resolved 0 xs rs h.0 h.1 (omega arith) i)) (resolve_block s' k)))
+      (one plain (assign (targets_resolved xs rs h.targets i) (sides_resolved 0 xs rs h.targets h.sides (omega arith) i))
+      (resolve_block s' k)))
   statement_resolved (assert r) k h room =
-      λ i. choose plain (side_resolved r h i) (one plain skip done)
-      (one plain (assign (bd i ∷ st i ∷ []) (value (const true) ∷ value (const true) ∷ [])) (one plain leave done))
-      (resolve_block s' k)
-  statement_resolved (assume r) k h room = λ i. one plain (assume (side_resolved r h i)) (resolve_block s' k)
+      λ i. choose plain (side_resolved r h.test i) (one plain skip done)
+      (one plain (assign (bd i ∷ st i ∷ []) (value (const true) ∷ value (const true) ∷ [])) (one plain leave done)) (resolve_block s' k)
+  statement_resolved (assume r) k h room = λ i. one plain (assume (side_resolved r h.test i)) (resolve_block s' k)
   statement_resolved (goto x) k h room = refl
   statement_resolved leave k h room = refl
-  statement_resolved (call q es) k h room = λ i. one plain (call (called q h.1 i) (expressions_resolved es h.0 i)) (stop_resolved k i)
+  statement_resolved (call q es) k h room =
+      λ i. one plain (call (called q h.callee.0 i) (expressions_resolved es h.arguments i)) (stop_resolved k i)
 
   drawn_room : (m : Mark Name) (c : Simple Name Name Name) (k : Block Name Name Name) → temporaries N.is_shared (one m c k) ≤ d
-      → drawn_in c ≤ d
-  drawn_room m skip k h = omega arith
-  drawn_room m (assign xs rs) k h = omega arith
-  drawn_room m (assert r) k h = omega arith
-  drawn_room m (assume r) k h = omega arith
-  drawn_room m (goto x) k h = omega arith
-  drawn_room m leave k h = omega arith
-  drawn_room m (call q es) k h = omega arith
+      → draws_of N.is_shared (parts.plain c) ≤ d
+  drawn_room m c k h = omega arith
 
   pub block_resolved : (b : Block Name Name Name) → BlockDeclared t s b → temporaries N.is_shared b ≤ d
       → resolve_block s' (rewritten N last b) ≡ rewritten P last (resolve_block s b)

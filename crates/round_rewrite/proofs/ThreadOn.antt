@@ -165,7 +165,7 @@ module _ (setting : Setting) (S : List (List Bool)) (m : Frame) (Q : State → T
         let zero_is : IsValue (row (rows g) (length r.pre)) a.l v false =
         subst (λ y. IsValue y a.l v false) (sym (row_middle r.pre g post)) f in
         let is : IsValue X (a.l ++ a.tmp) (side (places p.globals last a.own) last v) false =
-        subst (λ T. T) (sym (side_at setting (now_at g eg) m a good.long v good.fits.0.0 false)) zero_is in
+        subst (λ T. T) (sym (side_at setting (now_at g eg) m a good.long v good.fits.0.0.test false)) zero_is in
         let writes : with_bit (with_bit X (bad_at p.globals last) true) (stop_at p.globals last) true
         ≡ lay (rows g) S (bits_of (length r.pre) true true) =
         ap (λ y. with_bit y (stop_at p.globals last) true)

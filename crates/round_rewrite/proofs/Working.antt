@@ -13,7 +13,8 @@ use Rattle.language.proofs.Names.{declared_first}
 use Rattle.scopes.specs.Checked.{IsChecked}
 use Rattle.scopes.specs.Faults.{named, known}
 use Rattle.resolved.specs.There.{IsThere}
-use Rattle.resolved.specs.Statements.{Head, plain, tests, Statement, statements_of, used_by, variables_of_side, label_of, labels_of}
+use Rattle.language.specs.Parts.{Head, plain, tests}
+use Rattle.resolved.specs.Statements.{Statement, statements_of, variables_of_side, variables_of_sides, label_of, labels_of}
 use Rattle.resolved.specs.Resolves.{Each, Resolves}
 use Rattle.scopes.specs.Rewritable.{IsRewritable}
 use Rattle.resolved.proofs.Each.{each_left, each_right}
@@ -233,20 +234,26 @@ module _ (t : Tree) (last : ℕ) (ok : IsChecked t) (small : last < most_rounds)
 
     -- statements that neither call nor go anywhere
     test_works : (r : RightSide Name) → Each In (variables_of_side r) → Works t' p' (tests r)
-    test_works r h = record { variables = h; called = tt; sides = tt; labelled = tt }
+    test_works r h = record { variables = each_both In (variables_of_side r) [] h tt; called = tt; sides = λ is. refl; labelled = tt }
 
     assume_works : (r : RightSide Name) → Each In (variables_of_side r) → Works t' p' (plain (assume r))
-    assume_works r h = record { variables = h; called = tt; sides = tt; labelled = tt }
+    assume_works r h = record { variables = each_both In (variables_of_side r) [] h tt; called = tt; sides = λ is. refl; labelled = tt }
 
-    assign_works : (xs : List Name) (rs : List (RightSide Name)) → Each In (used_by (plain (assign xs rs))) → length xs ≡ length rs
+    assign_works : (xs : List Name) (rs : List (RightSide Name)) → Each In (xs ++ variables_of_sides rs) → length xs ≡ length rs
         → Works t' p' (plain (assign xs rs))
-    assign_works xs rs h e = record { variables = h; called = tt; sides = e; labelled = tt }
+    assign_works xs rs h e = record {
+      variables = each_both In xs (variables_of_sides rs ++ []) (each_left In xs (variables_of_sides rs) h)
+          (each_both In (variables_of_sides rs) [] (each_right In xs (variables_of_sides rs) h) tt);
+      called = tt;
+      sides = λ is. e;
+      labelled = tt;
+    }
 
     skip_works : Works t' p' (plain skip)
-    skip_works = record { variables = tt; called = tt; sides = tt; labelled = tt }
+    skip_works = record { variables = tt; called = tt; sides = λ is. refl; labelled = tt }
 
     leave_works : Works t' p' (plain leave)
-    leave_works = record { variables = tt; called = tt; sides = tt; labelled = tt }
+    leave_works = record { variables = tt; called = tt; sides = λ is. refl; labelled = tt }
 
     stop_test_works : (k : Block Name Name Name) (own : List Name) → Work (statements_of k)
         → Work (statements_of (stop_test (names own) last k))
@@ -266,7 +273,7 @@ module _ (t : Tree) (last : ℕ) (ok : IsChecked t) (small : last < most_rounds)
     abbrev p' : Procedure
     p' = rewritten_procedure last p
 
-    abbrev Was : Head → Type 0
+    abbrev Was : Head Name Name Name → Type 0
     Was h = Works t p h
 
     abbrev Known : Name → Type 0
@@ -346,13 +353,14 @@ module _ (t : Tree) (last : ℕ) (ok : IsChecked t) (small : last < most_rounds)
           assign_works p' (targets (names own) last xs rs) (sides (names own) last 0 xs rs)
               (each_both (In p') (targets (names own) last xs rs) _
               (targets_held own last drawn (In p') Known held xs rs (each_left _ xs _ w.variables))
-              (sides_use own last drawn (In p') Known held 0 xs rs (each_left _ xs _ w.variables) (each_right _ xs _ w.variables)
-              (omega arith)))
+              (sides_use own last drawn (In p') Known held 0 xs rs (each_left _ xs _ w.variables)
+              (each_left _ (variables_of_sides rs) [] (each_right _ xs _ w.variables)) (omega arith)))
               (sides_even own last 0 xs rs),
           h,
         )
     statement_works m (assert r) b k w room h = (
-      test_works p' (side (names own) last r) (side_uses own last drawn (In p') Known held r w.variables),
+      test_works p' (side (names own) last r)
+          (side_uses own last drawn (In p') Known held r (each_left _ (variables_of_side r) [] w.variables)),
       (
         skip_works p',
         (
@@ -361,9 +369,13 @@ module _ (t : Tree) (last : ℕ) (ok : IsChecked t) (small : last < most_rounds)
         ),
       ),
     )
-    statement_works m (assume r) b k w room h =
-        (assume_works p' (side (names own) last r) (side_uses own last drawn (In p') Known held r w.variables), h)
-    statement_works m (goto l) b k w room h = (record { variables = tt; called = tt; sides = tt; labelled = label_there l w.labelled }, h)
+    statement_works m (assume r) b k w room h = (
+      assume_works p' (side (names own) last r)
+          (side_uses own last drawn (In p') Known held r (each_left _ (variables_of_side r) [] w.variables)),
+      h,
+    )
+    statement_works m (goto l) b k w room h =
+        (record { variables = tt; called = tt; sides = λ is. refl; labelled = label_there l w.labelled }, h)
     statement_works m leave b k w room h = (leave_works p', h)
     statement_works m (call q es) b k w room h = (
       record {
@@ -371,7 +383,7 @@ module _ (t : Tree) (last : ℕ) (ok : IsChecked t) (small : last < most_rounds)
         called =
             subst (λ n. Takes (named q.text t'.procedures) n) (sym (length-map es (expression (names own) last)))
             (takes_there q (length es) w.called);
-        sides = tt;
+        sides = λ is. refl;
         labelled = tt;
       },
       stop_test_works p' k own h,
@@ -391,7 +403,8 @@ module _ (t : Tree) (last : ℕ) (ok : IsChecked t) (small : last < most_rounds)
         prologue_works m
         (choose table.plain (side (names own) last r) (rewritten (names own) last a) (rewritten (names own) last b)
         (rewritten (names own) last k)) (
-          test_works p' (side (names own) last r) (side_uses own last drawn (In p') Known held r h.0.variables),
+          test_works p' (side (names own) last r)
+              (side_uses own last drawn (In p') Known held r (each_left _ (variables_of_side r) [] h.0.variables)),
           each_both (λ (s : Statement). Works t' p' s.head) (statements_of (rewritten (names own) last a))
               (statements_of (rewritten (names own) last b) ++ statements_of (rewritten (names own) last k))
               (block_works a (each_left W (statements_of a) (statements_of b ++ statements_of k) h.1) (omega arith))
@@ -405,12 +418,12 @@ module _ (t : Tree) (last : ℕ) (ok : IsChecked t) (small : last < most_rounds)
         prologue_works m
         (loop table.plain (side (names own) last r) (join (rewritten (names own) last a) (prologue (names own) last table.plain done))
         (rewritten (names own) last k)) (
-          test_works p' (side (names own) last r) (side_uses own last drawn (In p') Known held r h.0.variables),
+          test_works p' (side (names own) last r)
+              (side_uses own last drawn (In p') Known held r (each_left _ (variables_of_side r) [] h.0.variables)),
           each_both (λ (s : Statement). Works t' p' s.head)
               (statements_of (join (rewritten (names own) last a) (prologue (names own) last table.plain done)))
               (statements_of (rewritten (names own) last k))
-              (each_join (λ (s : Statement). Works t' p' s.head) (rewritten (names own) last a)
-              (prologue (names own) last table.plain done)
+              (each_join (λ (s : Statement). Works t' p' s.head) (rewritten (names own) last a) (prologue (names own) last table.plain done)
               (block_works a (each_left W (statements_of a) (statements_of k) h.1) (omega arith)) (prologue_works table.plain done tt))
               (block_works k (each_right W (statements_of a) (statements_of k) h.1) (omega arith)),
         )
@@ -466,7 +479,7 @@ module _ (t : Tree) (last : ℕ) (ok : IsChecked t) (small : last < most_rounds)
   starts_work [] b s h = h
   starts_work (line ∷ lines) b s h = (
     assign_works first _ _ (high_in first, (low_in first, (stop_in first, tt))) refl,
-    (record { variables = tt; called = takes_there line.name 0 s.0; sides = tt; labelled = tt }, starts_work lines b s.1 h),
+    (record { variables = tt; called = takes_there line.name 0 s.0; sides = λ is. refl; labelled = tt }, starts_work lines b s.1 h),
   )
 
   check_works : (xs : List Name) (k : ℕ) (b : Block Name Name Name) → k < last → Each Global xs → Work first (statements_of b)

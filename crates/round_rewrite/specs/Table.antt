@@ -1,10 +1,11 @@
 -- The rewriting for so many rounds, as one table over trees. Rounds count from 0 here; `last` is the last
 -- of them. (Only the idea, to guess the globals of later rounds and to check the guesses at the end, is that
 -- of Lal and Reps 2008.)
-use Rattle.std.specs.Prelude.{ℕ, zero, suc, ◌/◌, ◌%◌, Bool, true, false, List, [], ◌∷◌, ◌++◌, None, map, reverse, cond}
-use Rattle.std.specs.Prelude.{max}
+use Rattle.std.specs.Prelude.{ℕ, zero, suc, ◌/◌, ◌%◌, Bool, true, false, List, [], ◌∷◌, ◌++◌, None, map, reverse, cond, max}
 use Rattle.language.specs.Tree.{Expression, const, var, negation, two, or, xor, and, equal, RightSide, any, value, Simple, skip, assign}
 use Rattle.language.specs.Tree.{assert, assume, goto, leave, call, Mark, Block, done, one, choose, loop}
+use Rattle.language.specs.Parts as parts
+use Rattle.language.specs.Parts.{Head, targets_of, sides_of}
 pub use Rattle.language.specs.Sequential.{numbers}
 use Rattle.language.specs.Rest.{join}
 
@@ -60,11 +61,14 @@ draws is_shared (x ∷ xs) [] = 0
 draws is_shared (x ∷ xs) (any ∷ rs) = cond (is_shared x) (suc (draws is_shared xs rs)) (draws is_shared xs rs)
 draws is_shared (x ∷ xs) (value e ∷ rs) = draws is_shared xs rs
 
+-- how many temporaries a statement draws, without those that it holds
+abbrev pub draws_of : {V P L : Type 0} → (V → Bool) → Head V P L → ℕ
+draws_of is_shared h = draws is_shared (targets_of h) (sides_of h)
+
 -- how many temporaries a block needs
 abbrev pub temporaries : {V P L : Type 0} → (V → Bool) → Block V P L → ℕ
 temporaries is_shared done = 0
-temporaries is_shared (one m (assign xs rs) t) = max (draws is_shared xs rs) (temporaries is_shared t)
-temporaries is_shared (one m s t) = temporaries is_shared t
+temporaries is_shared (one m s t) = max (draws_of is_shared (parts.plain s)) (temporaries is_shared t)
 temporaries is_shared (choose m r a b t) =
     max (temporaries is_shared a) (max (temporaries is_shared b) (temporaries is_shared t))
 temporaries is_shared (loop m r a t) = max (temporaries is_shared a) (temporaries is_shared t)

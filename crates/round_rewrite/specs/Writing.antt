@@ -4,9 +4,10 @@ use Rattle.language.specs.Tree as tree
 use Rattle.language.specs.Tree.{const, var, any, value, skip, assign, leave, Mark, Block, done, one, choose, loop}
 use Rattle.trees.specs.declared.tree.Stmt.{Stmt}
 use Rattle.trees.specs.Trees.{Deed, simple, branch, repeat, Item, names_of, items_of, all_before}
+use Rattle.trees.specs.Parts.{head_of, first_inside, second_inside}
 use Rattle.language.specs.Rest.{join}
 use Rattle.round_rewrite.specs.declared.writer.Writer.{Writer}
-use Rattle.round_rewrite.specs.Table.{Naming, draws, temporaries, plain, side, prologue, statement, rewritten}
+use Rattle.round_rewrite.specs.Table.{Naming, draws_of, temporaries, plain, side, prologue, statement, rewritten}
 use Rattle.round_rewrite.specs.Names.{named, names}
 use Rattle.resolved.specs.Limits.{most_places}
 
@@ -61,10 +62,8 @@ module _ (w : Naming tree.Name tree.Name tree.Name tree.Name) (last : ℕ) where
 
 -- how many temporaries one statement needs, with those that it holds
 abbrev pub deed_needs : (tree.Name → Bool) → Deed → ℕ
-deed_needs is_shared (simple (assign xs rs)) = draws is_shared xs rs
-deed_needs is_shared (simple s) = 0
-deed_needs is_shared (branch r a b) = max (temporaries is_shared a) (temporaries is_shared b)
-deed_needs is_shared (repeat r a) = temporaries is_shared a
+deed_needs is_shared d =
+    max (draws_of is_shared (head_of d)) (max (temporaries is_shared (first_inside d)) (temporaries is_shared (second_inside d)))
 
 -- how many temporaries a procedure needs
 abbrev pub procedure_needs : tree.Procedure → ℕ

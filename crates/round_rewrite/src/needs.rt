@@ -36,20 +36,8 @@ impl<'a, N: Allocator, A: Allocator + Copy> Writer<'a, N, A> {
     fn needs_of(&self, core: &Core<N>) -> usize
         ensures { result ≡ deed_needs (naming_of self.now).is_shared (deed_of core.now) }
     {
-        match core {
-            Core::Assign(xs, rs) => self.draws(xs, rs),
-            Core::If(_, a, b) => {
-                let yes = self.needs(a);
-                let no = self.needs(b);
-                larger(yes, no)
-            }
-            Core::While(_, a) => self.needs(a),
-            Core::Skip => 0,
-            Core::Return => 0,
-            Core::Goto(_) => 0,
-            Core::Call(_, _) => 0,
-            Core::Assert(_) => 0,
-            Core::Assume(_) => 0,
-        }
+        let (first, second) = core.inside();
+        let held = larger(self.needs(first), self.needs(second));
+        larger(self.draws(core.targets(), core.sides()), held)
     }
 }

@@ -1,11 +1,13 @@
 -- Where the faults of scopes stand: each is a property of a tree and an offset.
-use Rattle.std.specs.Prelude.{◌≡◌, ◌≢◌, ℕ, List, [], ◌∷◌, ◌++◌, Bool, true, false, Option, Some, None, length, cond, slice_get, slice_index, ◌==◌, ◌⊎◌, ◌+◌}
-use Rattle.language.specs.Tree.{Name, assign, goto, call, Procedure, ThreadLine, Tree}
+use Rattle.std.specs.Prelude.{◌≡◌, ◌≢◌, ℕ, List, [], ◌∷◌, ◌++◌, Bool, true, false, Option, Some, None, length, cond, slice_get, slice_index}
+use Rattle.std.specs.Prelude.{◌==◌, ◌⊎◌, ◌+◌}
+use Rattle.language.specs.Tree.{Name, Procedure, ThreadLine, Tree}
+use Rattle.language.specs.Parts.{Head, assigns, targets_of, sides_of, arguments_of, callee_of, jump_of}
 use Rattle.language.specs.Rest.{same_text}
 use Rattle.language.specs.Resolve.{is_declared}
 use Rattle.scopes.specs.Find.{AnyOf}
 use Rattle.resolved.specs.There.{IsThere, names}
-use Rattle.resolved.specs.Statements.{Head, plain, Statement, statements_of, statements_of_all, used_by, labels_of}
+use Rattle.resolved.specs.Statements.{Statement, statements_of, statements_of_all, used_by, labels_of}
 
 -- the first procedure of this name, where there is one
 abbrev pub named : List ℕ → List Procedure → Option Procedure
@@ -25,9 +27,8 @@ abbrev pub known : Tree → Procedure → List Name
 known t p = (p.formals ++ p.locals) ++ t.globals
 
 -- a called procedure that stands at n and has no declaration
-abbrev pub CallsUnknown : List Procedure → ℕ → Head → Type 0
-CallsUnknown ps n (plain (call q es)) = (q.at ≡ n) × (named q.text ps ≡ None)
-CallsUnknown ps n _ = ⊥
+abbrev pub CallsUnknown : List Procedure → ℕ → Head Name Name Name → Type 0
+CallsUnknown procedures n h = IsThere (callee_of h) (λ callee. (callee.at ≡ n) × (named callee.text procedures ≡ None))
 
 -- a statement has at n a variable that is none of these, or calls a procedure that has no declaration
 abbrev pub IsUndeclaredIn : List Name → List Procedure → Statement → ℕ → Type 0
@@ -46,11 +47,6 @@ abbrev pub Repeated : List Name → ℕ → Type 0
 Repeated [] n = ⊥
 Repeated (x ∷ xs) n = AnyOf (λ (y : Name). (y.at ≡ n) × (same_text x.text y.text ≡ true)) xs ⊎ Repeated xs n
 
--- the targets of an assignment
-abbrev pub targets_of : Head → List Name
-targets_of (plain (assign xs rs)) = xs
-targets_of _ = []
-
 -- a name at n comes again among the formals and locals of a procedure, or among the targets of an assignment in it
 abbrev pub IsTwiceIn : Procedure → ℕ → Type 0
 IsTwiceIn p n = Repeated (p.formals ++ p.locals) n ⊎ AnyOf (λ s. Repeated (targets_of s.head) n) (statements_of p.body)
@@ -68,15 +64,22 @@ abbrev pub first_at : ℕ → List Name → ℕ
 first_at m [] = m
 first_at m (x ∷ xs) = x.at
 
+-- an assignment has more or fewer targets than right sides; n is the offset of the first target
+abbrev pub MiscountsSides : ℕ → Statement → Type 0
+MiscountsSides n s =
+    (assigns s.head ≡ true) × (first_at s.mark.at (targets_of s.head) ≡ n)
+    × (length (targets_of s.head) ≢ length (sides_of s.head))
+
+-- a call has more or fewer arguments than the procedure that it calls has formals; n is the offset of the called name
+abbrev pub MiscountsArguments : List Procedure → ℕ → Head Name Name Name → Type 0
+MiscountsArguments procedures n h =
+    IsThere (callee_of h) (λ callee. (callee.at ≡ n)
+    × IsThere (named callee.text procedures) (λ p. length p.formals ≢ length (arguments_of h)))
+
 -- a statement's targets and right sides, or its arguments and the formals of the procedure that it calls, differ
 -- in number; n is the offset of the first target or of the called name
 abbrev pub Miscounts : List Procedure → ℕ → Statement → Type 0
-Miscounts ps n s = counted s.mark.at s.head
-  where
-    counted : ℕ → Head → Type 0
-    counted m (plain (assign xs rs)) = (first_at m xs ≡ n) × (length xs ≢ length rs)
-    counted m (plain (call q es)) = (q.at ≡ n) × IsThere (named q.text ps) (λ p. length p.formals ≢ length es)
-    counted m _ = ⊥
+Miscounts procedures n s = MiscountsSides n s ⊎ MiscountsArguments procedures n s.head
 
 -- a statement of the procedure does
 abbrev pub MiscountsIn : List Procedure → Procedure → ℕ → Type 0
@@ -103,9 +106,8 @@ abbrev pub BadThread : Tree → ℕ → Type 0
 BadThread t n = AnyOf (λ line. StartsNowhere t.procedures line n) t.threads
 
 -- a goto that stands at n names none of these labels
-abbrev pub GoesNowhere : List Name → ℕ → Head → Type 0
-GoesNowhere labels n (plain (goto l)) = IsUnknown labels n l
-GoesNowhere labels n _ = ⊥
+abbrev pub GoesNowhere : List Name → ℕ → Head Name Name Name → Type 0
+GoesNowhere labels n h = IsThere (jump_of h) (IsUnknown labels n)
 
 -- a goto of the procedure names at n none of its labels, or a label of it comes again at n
 abbrev pub MislabelledIn : ℕ → Procedure → Type 0

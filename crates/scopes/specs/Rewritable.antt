@@ -1,6 +1,9 @@
 -- What the rewriting theorem over names asks of a text's tree. A program without scope faults has it.
-use Rattle.std.specs.Prelude.{◌≡◌, ℕ, ◌≤◌, Bool, true, false, List, [], ◌∷◌, ◌++◌, ◌&&◌, ◌||◌, Option, Some, None, length, map, nat_eq, slice_get}
-use Rattle.language.specs.Tree.{Name, Expression, const, var, negation, two, RightSide, any, value, Simple, skip, assign, assert, assume, goto, leave, call, Block, done, one, choose, loop, Procedure, ThreadLine, Tree}
+use Rattle.std.specs.Prelude.{◌≡◌, ℕ, ◌≤◌, Bool, true, false, List, [], ◌∷◌, ◌++◌, ◌&&◌, ◌||◌, Option, Some, None, length, map, nat_eq}
+use Rattle.std.specs.Prelude.{slice_get, IfSome}
+use Rattle.language.specs.Tree.{Name, Expression, const, var, negation, two, RightSide, any, value, Simple, Block, done, one, choose, loop}
+use Rattle.language.specs.Tree.{Procedure, ThreadLine, Tree}
+use Rattle.language.specs.Parts.{plain, targets_of, sides_of, test_of, arguments_of, callee_of}
 use Rattle.resolved.specs.Narrow.{EachProcedure}
 use Rattle.language.specs.Resolve.{is_declared, number_of, Scope, scope_of}
 
@@ -60,17 +63,14 @@ abbrev pub HasRoom : Option Procedure → ℕ → Type 0
 HasRoom None n = ⊥
 HasRoom (Some p) n = n ≤ length (p.formals ++ p.locals)
 
--- the names of a statement are declared, and a call has no more arguments than there are places
-abbrev pub SimpleDeclared : Tree → Scope → Simple Name Name Name → Type 0
-SimpleDeclared t s skip = Unit {0}
-SimpleDeclared t s (assign xs rs) = AllDeclared s xs × SidesDeclared s rs
-SimpleDeclared t s (assert r) = SideDeclared s r
-SimpleDeclared t s (assume r) = SideDeclared s r
-SimpleDeclared t s (goto x) = Unit {0}
-SimpleDeclared t s leave = Unit {0}
-SimpleDeclared t s (call q es) =
-    ExpressionsDeclared s es × (is_declared q.text s.procedures ≡ true)
-    × HasRoom (slice_get t.procedures (number_of q.text s.procedures)) (length es)
+-- The names of a statement are declared, and a call has no more arguments than there are places.
+pub record SimpleDeclared (t : Tree) (scope : Scope) (s : Simple Name Name Name) : Type 0 where
+  pub targets : AllDeclared scope (targets_of (plain s))
+  pub sides : SidesDeclared scope (sides_of (plain s))
+  pub test : IfSome (test_of (plain s)) (SideDeclared scope)
+  pub arguments : ExpressionsDeclared scope (arguments_of (plain s))
+  pub callee : IfSome (callee_of (plain s)) (λ callee. (is_declared callee.text scope.procedures ≡ true)
+      × HasRoom (slice_get t.procedures (number_of callee.text scope.procedures)) (length (arguments_of (plain s))))
 
 -- so it is for each statement of the block
 abbrev pub BlockDeclared : Tree → Scope → Block Name Name Name → Type 0

@@ -4,13 +4,14 @@ ghost use Rattle.std.specs.Prelude.{◌≡◌, ◌≢◌, IfOk, length};
 ghost use Rattle.trees.specs.Trees.{names_of, proc_of, procs_of, tree_of};
 ghost use Rattle.scopes.specs.Find.{Finds};
 ghost use Rattle.resolved.specs.Statements.{statement_of};
-ghost use Rattle.scopes.specs.Faults.{first_at, Miscounts, MiscountsIn, WrongCount};
+ghost use Rattle.scopes.specs.Faults.{first_at, MiscountsSides, MiscountsArguments, Miscounts, MiscountsIn, WrongCount};
 
+use crate::names::earlier;
 use crate::search::{earliest, try_earliest};
 use crate::statements::statements;
 use crate::undeclared::find;
 use std::alloc::{AllocError, Allocator};
-use trees::{Core, Name, Proc, Program, Stmt};
+use trees::{Name, Proc, Program, Stmt};
 
 /// Where the targets of a statement begin; where there are none, where the statement does.
 pub fn start<A: Allocator>(stmt: &Stmt<A>, targets: &[Name<A>]) -> u32
@@ -30,26 +31,35 @@ pub fn unequal(at: u32, left: usize, right: usize) -> Option<u32>
     if left == right { None } else { Some(at) }
 }
 
+/// The offset of an assignment's first target, where its targets and right sides differ in number.
+pub fn sides_miscounted<A: Allocator>(stmt: &Stmt<A>) -> Option<u32>
+    ensures { Finds (λ n. MiscountsSides n (statement_of stmt.now)) result }
+{
+    if stmt.core.assigns() {
+        let targets = stmt.core.targets();
+        let sides = stmt.core.sides();
+        unequal(start(stmt, targets), targets.len(), sides.len())
+    } else {
+        None
+    }
+}
+
+/// The offset of a called name, where the arguments and the formals of what is called differ in number.
+pub fn arguments_miscounted<A: Allocator>(procs: &[Proc<A>], stmt: &Stmt<A>) -> Option<u32>
+    ensures { Finds (λ n. MiscountsArguments (procs_of procs.now) n (statement_of stmt.now).head) result }
+{
+    let callee = stmt.core.callee()?;
+    let proc = find(procs, callee)?;
+    unequal(callee.at, proc.formals.len(), stmt.core.arguments().len())
+}
+
 /// The offset of the first target or of the called name, where the two sides of a statement differ in number.
 pub fn miscounted<A: Allocator>(procs: &[Proc<A>], stmt: &Stmt<A>) -> Option<u32>
     ensures { Finds (λ n. Miscounts (procs_of procs.now) n (statement_of stmt.now)) result }
 {
-    match &stmt.core {
-        Core::Assign(targets, sides) => {
-            unequal(start(stmt, targets), targets.len(), sides.len())
-        }
-        Core::Call(name, arguments) => match find(procs, name) {
-            None => None,
-            Some(proc) => unequal(name.at, proc.formals.len(), arguments.len()),
-        },
-        Core::Skip => None,
-        Core::Return => None,
-        Core::Goto(_) => None,
-        Core::If(_, _, _) => None,
-        Core::While(_, _) => None,
-        Core::Assert(_) => None,
-        Core::Assume(_) => None,
-    }
+    let first = sides_miscounted(stmt);
+    let second = arguments_miscounted(procs, stmt);
+    earlier(first, second)
 }
 
 /// The same for a procedure.

@@ -11,7 +11,7 @@ use crate::names::earlier;
 use crate::search::{earliest, try_earliest};
 use crate::statements::statements;
 use std::alloc::{AllocError, Allocator};
-use trees::{Core, Name, Proc, Program, Stmt};
+use trees::{Name, Proc, Program, Stmt};
 
 /// References to the labels that statements define, in order.
 pub fn labels<'a, A: Allocator + Copy>(
@@ -33,17 +33,7 @@ pub fn labels<'a, A: Allocator + Copy>(
 pub fn lost<A: Allocator + Copy>(labels: &Known<A>, stmt: &Stmt<A>) -> Option<u32>
     ensures { Finds (λ n. GoesNowhere (lent labels.now.names.items) n (statement_of stmt.now).head) result }
 {
-    match &stmt.core {
-        Core::Goto(label) => labels.unknown(label),
-        Core::Skip => None,
-        Core::Return => None,
-        Core::Assign(_, _) => None,
-        Core::Call(_, _) => None,
-        Core::If(_, _, _) => None,
-        Core::While(_, _) => None,
-        Core::Assert(_) => None,
-        Core::Assume(_) => None,
-    }
+    labels.unknown(stmt.core.jump()?)
 }
 
 /// The least offset of a label of a procedure that is defined twice, or of the name of a `goto` that is none.

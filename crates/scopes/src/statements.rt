@@ -5,7 +5,7 @@ ghost use Rattle.trees.specs.Trees.{block_of, deed_of, proc_of};
 ghost use Rattle.resolved.specs.Statements.{lent_statements, statement_of, statements_of, inside};
 
 use std::alloc::{AllocError, Allocator};
-use trees::{Core, Proc, Stmt};
+use trees::{Proc, Stmt};
 
 /// References to the statements of a procedure, in the order of the text.
 pub fn statements<'a, A: Allocator + Copy>(
@@ -44,18 +44,7 @@ fn flatten_one<'a, A: Allocator>(
 {
     let mut list = into;
     list.push(stmt)?;
-    match &stmt.core {
-        Core::If(_, then, otherwise) => {
-            let first = flatten(then, list)?;
-            flatten(otherwise, first)
-        }
-        Core::While(_, body) => flatten(body, list),
-        Core::Skip => Ok(list),
-        Core::Return => Ok(list),
-        Core::Goto(_) => Ok(list),
-        Core::Assign(_, _) => Ok(list),
-        Core::Call(_, _) => Ok(list),
-        Core::Assert(_) => Ok(list),
-        Core::Assume(_) => Ok(list),
-    }
+    let (first, second) = stmt.core.inside();
+    list = flatten(first, list)?;
+    flatten(second, list)
 }

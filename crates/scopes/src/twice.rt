@@ -1,10 +1,11 @@
 //! Names that come twice.
 
 ghost use Rattle.std.specs.Prelude.{◌≡◌, ◌++◌, IfOk};
+ghost use Rattle.language.specs.Parts.{targets_of};
 ghost use Rattle.trees.specs.Trees.{proc_of, procs_of, tree_of};
 ghost use Rattle.scopes.specs.Find.{Finds};
 ghost use Rattle.resolved.specs.Statements.{lent, statement_of};
-ghost use Rattle.scopes.specs.Faults.{Repeated, targets_of, IsTwiceIn, DeclaredTwice};
+ghost use Rattle.scopes.specs.Faults.{Repeated, IsTwiceIn, DeclaredTwice};
 ghost use Rattle.resolved.specs.There.{names};
 
 use crate::known::repeated;
@@ -12,7 +13,7 @@ use crate::names::{earlier, lend, own_names};
 use crate::search::try_earliest;
 use crate::statements::statements;
 use std::alloc::{AllocError, Allocator};
-use trees::{Core, Name, Proc, Program, Stmt};
+use trees::{Name, Proc, Program, Stmt};
 
 /// References to the names of procedures, in order.
 pub fn proc_names<'a, A: Allocator + Copy>(
@@ -28,27 +29,15 @@ pub fn proc_names<'a, A: Allocator + Copy>(
     Ok(list)
 }
 
-/// The least offset of a target that comes again in a statement's assignment.
+/// The least offset of a target that comes again in a statement.
 pub fn target_again<A: Allocator + Copy>(
     alloc: &A,
     stmt: &Stmt<A>,
 ) -> Result<Option<u32>, AllocError>
     ensures { IfOk result (λ r. Finds (λ n. Repeated (targets_of (statement_of stmt.now).head) n) r) }
 {
-    match &stmt.core {
-        Core::Assign(targets, _) => {
-            let list = lend(targets, Vec::new(*alloc))?;
-            repeated(*alloc, &list)
-        }
-        Core::Skip => Ok(None),
-        Core::Return => Ok(None),
-        Core::Goto(_) => Ok(None),
-        Core::Call(_, _) => Ok(None),
-        Core::If(_, _, _) => Ok(None),
-        Core::While(_, _) => Ok(None),
-        Core::Assert(_) => Ok(None),
-        Core::Assume(_) => Ok(None),
-    }
+    let list = lend(stmt.core.targets(), Vec::new(*alloc))?;
+    repeated(*alloc, &list)
 }
 
 /// The least offset of a name that comes again in a procedure.

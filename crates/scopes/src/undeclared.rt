@@ -3,7 +3,7 @@
 ghost use Rattle.std.specs.Prelude.{◌≡◌, None, option_map, IfOk};
 ghost use Rattle.trees.specs.Trees.{name_of, expr_of, rhs_of, proc_of, procs_of, tree_of};
 ghost use Rattle.scopes.specs.Find.{Finds};
-ghost use Rattle.resolved.specs.Statements.{lent, statement_of, used_by, variables_of, variables_of_side};
+ghost use Rattle.resolved.specs.Statements.{lent, statement_of, used_by, variables_of, variables_of_side, variables_of_test};
 ghost use Rattle.scopes.specs.Faults.{named, AnyUnknown, CallsUnknown, IsUndeclaredIn, UndeclaredInProcedure, Undeclared};
 
 use crate::known::Known;
@@ -11,7 +11,7 @@ use crate::names::{earlier, is_same, lend, own_names};
 use crate::search::{earliest, try_earliest};
 use crate::statements::statements;
 use std::alloc::{AllocError, Allocator};
-use trees::{Core, Expr, Name, Proc, Program, Rhs, Stmt};
+use trees::{Expr, Name, Proc, Program, Rhs, Stmt};
 
 /// The first procedure that is named as `x` is written.
 pub fn find<'a, A: Allocator>(procs: &'a [Proc<A>], x: &Name<A>) -> Option<&'a Proc<A>>
@@ -51,44 +51,34 @@ pub fn in_rhs<A: Allocator + Copy>(known: &Known<A>, rhs: &Rhs<A>) -> Option<u32
     }
 }
 
+/// The same for a right side that may be there.
+pub fn in_test<A: Allocator + Copy>(known: &Known<A>, test: Option<&Rhs<A>>) -> Option<u32>
+    ensures { Finds (AnyUnknown (lent known.now.names.items) (variables_of_test (option_map (λ r. rhs_of r.now) test.entry))) result }
+{
+    in_rhs(known, test?)
+}
+
 /// The same for the variables of a statement, without those of the statements that it holds.
 pub fn in_statement<A: Allocator + Copy>(known: &Known<A>, stmt: &Stmt<A>) -> Option<u32>
     ensures { Finds (AnyUnknown (lent known.now.names.items) (used_by (statement_of stmt.now).head)) result }
 {
-    match &stmt.core {
-        Core::Skip => None,
-        Core::Return => None,
-        Core::Goto(_) => None,
-        Core::Assign(targets, sides) => {
-            let first = earliest(targets, |target| known.unknown(target));
-            let second = earliest(sides, |side| in_rhs(known, side));
-            earlier(first, second)
-        }
-        Core::If(test, _, _) => in_rhs(known, test),
-        Core::While(test, _) => in_rhs(known, test),
-        Core::Assert(test) => in_rhs(known, test),
-        Core::Assume(test) => in_rhs(known, test),
-        Core::Call(_, arguments) => earliest(arguments, |e| in_expr(known, e)),
-    }
+    let targets = earliest(stmt.core.targets(), |target| known.unknown(target));
+    let sides = earliest(stmt.core.sides(), |side| in_rhs(known, side));
+    let test = in_test(known, stmt.core.test());
+    let arguments = earliest(stmt.core.arguments(), |e| in_expr(known, e));
+    let tested = earlier(test, arguments);
+    let read = earlier(sides, tested);
+    earlier(targets, read)
 }
 
 /// The offset of a called procedure that is not there.
 pub fn in_call<A: Allocator>(procs: &[Proc<A>], stmt: &Stmt<A>) -> Option<u32>
     ensures { Finds (λ n. CallsUnknown (procs_of procs.now) n (statement_of stmt.now).head) result }
 {
-    match &stmt.core {
-        Core::Call(name, _) => match find(procs, name) {
-            None => Some(name.at),
-            Some(_) => None,
-        },
-        Core::Skip => None,
-        Core::Return => None,
-        Core::Goto(_) => None,
-        Core::Assign(_, _) => None,
-        Core::If(_, _, _) => None,
-        Core::While(_, _) => None,
-        Core::Assert(_) => None,
-        Core::Assume(_) => None,
+    let callee = stmt.core.callee()?;
+    match find(procs, callee) {
+        None => Some(callee.at),
+        Some(_) => None,
     }
 }
 

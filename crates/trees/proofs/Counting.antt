@@ -5,25 +5,32 @@ use Rattle.language.specs.Tree.{Name}
 use Rattle.language.specs.Rest.{same_text}
 use Rattle.language.specs.Resolve.{number_of, is_declared}
 
-module _ {X : Type 0} (name : X → Name) (names : List X → List Name) (each : (x : X) (xs : List X) → names (x ∷ xs) ≡ name x ∷ names xs) (none : names [] ≡ []) where
+module _ {X : Type 0} (name : X → Name) (names : List X → List Name) (each : (x : X) (xs : List X) → names (x ∷ xs) ≡ name x ∷ names xs)
+    (none : names [] ≡ []) where
   -- one that has another text is counted
-  pub counted_on : (text : List ℕ) (l : List X) (i before all : ℕ) (x : X) → i < length l → x ≡ get_or l i x → same_text text (name x).text ≡ false
+  pub counted_on : (text : List ℕ) (l : List X) (i before all : ℕ) (x : X) → i < length l → x ≡ get_or l i x
+      → same_text text (name x).text ≡ false
       → before + number_of text (names (drop i l)) ≡ all → (before + 1) + number_of text (names (drop (i + 1) l)) ≡ all
   counted_on text l i before all x lt is other h =
       let step : drop i l ≡ x ∷ drop (i + 1) l = drop_more l i x lt ∙ ap (λ (y : X). y ∷ drop (i + 1) l) (sym is) in
-      let one : number_of text (names (drop i l)) ≡ suc (number_of text (names (drop (i + 1) l))) = ap (λ (xs : List X). number_of text (names xs)) step ∙ ap (number_of text) (each x (drop (i + 1) l)) ∙ rw other refl in
+      let one : number_of text (names (drop i l)) ≡ suc (number_of text (names (drop (i + 1) l))) =
+      ap (λ (xs : List X). number_of text (names xs)) step ∙ ap (number_of text) (each x (drop (i + 1) l)) ∙ rw other refl in
       omega (arith, h, one)
 
   -- behind the last, all are counted
-  pub all_counted : (text : List ℕ) (l : List X) (i before all : ℕ) → length l ≤ i → before + number_of text (names (drop i l)) ≡ all → before ≡ all
+  pub all_counted : (text : List ℕ) (l : List X) (i before all : ℕ) → length l ≤ i → before + number_of text (names (drop i l)) ≡ all
+      → before ≡ all
   all_counted text l i before all le h =
-      let no_more : number_of text (names (drop i l)) ≡ 0 = ap (λ (xs : List X). number_of text (names xs)) (drop_all i l le) ∙ ap (number_of text) none in
+      let no_more : number_of text (names (drop i l)) ≡ 0 = ap (λ (xs : List X). number_of text (names xs)) (drop_all i l le)
+      ∙ ap (number_of text) none in
       omega (arith, h, no_more)
 
   -- one that has another text is passed over
-  pub looked_on : (text : List ℕ) (l : List X) (i : ℕ) (all : Bool) (x : X) → i < length l → x ≡ get_or l i x → same_text text (name x).text ≡ false
+  pub looked_on : (text : List ℕ) (l : List X) (i : ℕ) (all : Bool) (x : X) → i < length l → x ≡ get_or l i x
+      → same_text text (name x).text ≡ false
       → is_declared text (names (drop i l)) ≡ all → is_declared text (names (drop (i + 1) l)) ≡ all
   looked_on text l i all x lt is other h =
       let step : drop i l ≡ x ∷ drop (i + 1) l = drop_more l i x lt ∙ ap (λ (y : X). y ∷ drop (i + 1) l) (sym is) in
-      let one : is_declared text (names (drop i l)) ≡ is_declared text (names (drop (i + 1) l)) = ap (λ (xs : List X). is_declared text (names xs)) step ∙ ap (is_declared text) (each x (drop (i + 1) l)) ∙ rw other refl in
+      let one : is_declared text (names (drop i l)) ≡ is_declared text (names (drop (i + 1) l)) =
+      ap (λ (xs : List X). is_declared text (names xs)) step ∙ ap (is_declared text) (each x (drop (i + 1) l)) ∙ rw other refl in
       sym one ∙ h

@@ -4,7 +4,8 @@ use Rattle.std.specs.declared.boxed.Box.{Box}
 use Rattle.std.specs.declared.vec.Vec.{Vec}
 use Rattle.language.specs.Tree as tree
 use Rattle.language.specs.Tree.{Expression, const, var, negation, two, skip, assign, assert, assume, goto, leave, call}
-use Rattle.trees.specs.Trees.{operator_of, expr_step, expr_of, name_of, names_of, exprs_of, rhs_of, rhss_of, Deed, simple, branch, repeat, Item, core_step, stmt_step, item_of, deed_of, block_of}
+use Rattle.trees.specs.Trees.{operator_of, expr_step, expr_of, name_of, names_of, exprs_of, rhs_of, rhss_of, Deed, simple, branch, repeat}
+use Rattle.trees.specs.Trees.{Item, core_step, stmt_step, item_of, deed_of, block_of}
 use Rattle.trees.specs.declared.tree.Name.{Name}
 use Rattle.trees.specs.declared.tree.Op.{Op}
 use Rattle.trees.specs.declared.tree.Expr.{Expr}
@@ -13,7 +14,8 @@ use Rattle.trees.specs.declared.tree.Expr.TheOpen as open_expr
 use Rattle.trees.specs.declared.tree.Rhs.{Rhs}
 use Rattle.trees.specs.declared.tree.Stmt.{Stmt}
 use Rattle.trees.specs.declared.tree.Core.TheVariants as core
-use Rattle.trees.specs.declared.tree.Core.TheVariants.{rolls-Skip, rolls-Return, rolls-Assign, rolls-Assert, rolls-Assume, rolls-Goto, rolls-Call, If, rolls-If, While, rolls-While}
+use Rattle.trees.specs.declared.tree.Core.TheVariants.{rolls-Skip, rolls-Return, rolls-Assign, rolls-Assert, rolls-Assume, rolls-Goto}
+use Rattle.trees.specs.declared.tree.Core.TheVariants.{rolls-Call, If, rolls-If, While, rolls-While}
 use Rattle.trees.specs.declared.tree.Core.TheOpen as open_core
 use Rattle.trees.specs.declared.tree.Core.TheFolds.{fold-roll-Core, fold_out-Stmt}
 use Rattle.trees.specs.declared.tree.Expr.TheFolds.{fold-roll-Expr}
@@ -27,10 +29,12 @@ expr_of-Var {A} x = ap expr_of (sym (rolls-Var x)) ∙ fold-roll-Expr A (Express
 pub expr_of-Not : {A : Type 0} (b : Box (Expr A) A) → expr_of (Not b) ≡ negation (expr_of b.value)
 expr_of-Not {A} b = ap expr_of (sym (rolls-Not b)) ∙ fold-roll-Expr A (Expression tree.Name) expr_step (open_expr.Not b)
 
-pub expr_of-Two : {A : Type 0} (o : Op) (a b : Box (Expr A) A) → expr_of (Two o a b) ≡ two (operator_of o) (expr_of a.value) (expr_of b.value)
+pub expr_of-Two : {A : Type 0} (o : Op) (a b : Box (Expr A) A)
+    → expr_of (Two o a b) ≡ two (operator_of o) (expr_of a.value) (expr_of b.value)
 expr_of-Two {A} o a b = ap expr_of (sym (rolls-Two o a b)) ∙ fold-roll-Expr A (Expression tree.Name) expr_step (open_expr.Two o a b)
 
-pub item_is : {A : Type 0} (s : Stmt A) → item_of s ≡ record { mark = record { label = option_map name_of s.label; at = s.at }; deed = deed_of s.core }
+pub item_is : {A : Type 0} (s : Stmt A)
+    → item_of s ≡ record { mark = record { label = option_map name_of s.label; at = s.at }; deed = deed_of s.core }
 item_is {A} s = fold_out-Stmt A Deed Item core_step stmt_step s
 
 pub item_deed : {A : Type 0} (s : Stmt A) → (item_of s).deed ≡ deed_of s.core
@@ -42,7 +46,8 @@ deed_of-Skip A = ap deed_of (sym rolls-Skip) ∙ fold-roll-Core A Deed Item core
 pub deed_of-Return : (A : Type 0) → deed_of {A = A} core.Return ≡ simple leave
 deed_of-Return A = ap deed_of (sym rolls-Return) ∙ fold-roll-Core A Deed Item core_step stmt_step open_core.Return
 
-pub deed_of-Assign : {A : Type 0} (xs : Vec (Name A) A) (rs : Vec (Rhs A) A) → deed_of (core.Assign xs rs) ≡ simple (assign (names_of xs.items) (rhss_of rs.items))
+pub deed_of-Assign : {A : Type 0} (xs : Vec (Name A) A) (rs : Vec (Rhs A) A)
+    → deed_of (core.Assign xs rs) ≡ simple (assign (names_of xs.items) (rhss_of rs.items))
 deed_of-Assign {A} xs rs = ap deed_of (sym (rolls-Assign xs rs)) ∙ fold-roll-Core A Deed Item core_step stmt_step (open_core.Assign xs rs)
 
 pub deed_of-Assert : {A : Type 0} (r : Rhs A) → deed_of (core.Assert r) ≡ simple (assert (rhs_of r))
@@ -54,10 +59,12 @@ deed_of-Assume {A} r = ap deed_of (sym (rolls-Assume r)) ∙ fold-roll-Core A De
 pub deed_of-Goto : {A : Type 0} (x : Name A) → deed_of (core.Goto x) ≡ simple (goto (name_of x))
 deed_of-Goto {A} x = ap deed_of (sym (rolls-Goto x)) ∙ fold-roll-Core A Deed Item core_step stmt_step (open_core.Goto x)
 
-pub deed_of-Call : {A : Type 0} (p : Name A) (es : Vec (Expr A) A) → deed_of (core.Call p es) ≡ simple (call (name_of p) (exprs_of es.items))
+pub deed_of-Call : {A : Type 0} (p : Name A) (es : Vec (Expr A) A)
+    → deed_of (core.Call p es) ≡ simple (call (name_of p) (exprs_of es.items))
 deed_of-Call {A} p es = ap deed_of (sym (rolls-Call p es)) ∙ fold-roll-Core A Deed Item core_step stmt_step (open_core.Call p es)
 
-pub deed_of-If : {A : Type 0} (r : Rhs A) (a b : Vec (Stmt A) A) → deed_of (If r a b) ≡ branch (rhs_of r) (block_of a.items) (block_of b.items)
+pub deed_of-If : {A : Type 0} (r : Rhs A) (a b : Vec (Stmt A) A)
+    → deed_of (If r a b) ≡ branch (rhs_of r) (block_of a.items) (block_of b.items)
 deed_of-If {A} r a b = ap deed_of (sym (rolls-If r a b)) ∙ fold-roll-Core A Deed Item core_step stmt_step (open_core.If r a b)
 
 pub deed_of-While : {A : Type 0} (r : Rhs A) (a : Vec (Stmt A) A) → deed_of (While r a) ≡ repeat (rhs_of r) (block_of a.items)

@@ -2,7 +2,8 @@
 use Rattle.std.specs.Prelude.{List, [], ◌∷◌, map, option_map}
 use Rattle.std.specs.String.{string_bytes}
 use Rattle.language.specs.Tree as tree
-use Rattle.language.specs.Tree.{Operator, implies, or, xor, and, equal, differs, Expression, const, var, negation, two, RightSide, any, value, Simple, skip, assign, assert, assume, goto, leave, call, Mark, Block, done, one, choose, loop}
+use Rattle.language.specs.Tree.{Operator, implies, or, xor, and, equal, differs, Expression, const, var, negation, two, RightSide, any}
+use Rattle.language.specs.Tree.{value, Simple, skip, assign, assert, assume, goto, leave, call, Mark, Block, done, one, choose, loop}
 use Rattle.trees.specs.declared.tree.Name.{Name}
 use Rattle.trees.specs.declared.tree.Op.{Op}
 use Rattle.trees.specs.declared.tree.Op.TheVariants as op
@@ -123,7 +124,12 @@ block_of ss = all_before (items_of ss) done
 
 -- a procedure
 abbrev pub proc_of : {A : Type 0} → Proc A → tree.Procedure
-proc_of p = record { name = name_of p.name; formals = names_of p.formals.items; locals = names_of p.locals.items; body = block_of p.body.items }
+proc_of p = record {
+  name = name_of p.name;
+  formals = names_of p.formals.items;
+  locals = names_of p.locals.items;
+  body = block_of p.body.items;
+}
 
 -- procedures, in order
 abbrev pub procs_of : {A : Type 0} → List (Proc A) → List tree.Procedure

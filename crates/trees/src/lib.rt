@@ -2,6 +2,7 @@
 #![tactic(auto)]
 
 mod names;
+mod parts;
 mod tree;
 
 pub use names::{declares, number_of_name, number_of_procedure};

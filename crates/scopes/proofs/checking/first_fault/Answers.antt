@@ -8,11 +8,38 @@ use Rattle.scopes.proofs.checking.first_fault.Goals as goal
 pub returns : goal.returns
 returns g c =
     let t = tree_of c.args.program.now in
-    let six = start fault.Undeclared (Undeclared t) 6 (λ n. refl) (λ n. refl) c.in_ok-first_undeclared.field-0 c.map-undeclared.result (mapped fault.Undeclared c.in_ok-first_undeclared.field-0 c.map-undeclared.result c.map-undeclared.ensures.cases) c.in_ok-first_undeclared.ensures in
-    let seven = next fault.DeclaredTwice (DeclaredTwice t) 6 (λ n. refl) (λ n. refl) c.in_ok-first_twice.field-0 c.map-undeclared.result c.map-twice.result c.sooner-to_seven.result (mapped fault.DeclaredTwice c.in_ok-first_twice.field-0 c.map-twice.result c.map-twice.ensures.cases) c.sooner-to_seven.ensures six c.in_ok-first_twice.ensures in
-    let eight = next fault.WrongCount (WrongCount t) 7 (λ n. refl) (λ n. refl) c.in_ok-first_wrong_count.field-0 c.sooner-to_seven.result c.map-counts.result c.sooner-to_eight.result (mapped fault.WrongCount c.in_ok-first_wrong_count.field-0 c.map-counts.result c.map-counts.ensures.cases) c.sooner-to_eight.ensures seven c.in_ok-first_wrong_count.ensures in
-    let nine = next fault.BadThread (BadThread t) 8 (λ n. refl) (λ n. refl) c.first_bad_thread.result c.sooner-to_eight.result c.map-threads.result c.sooner-to_nine.result (mapped fault.BadThread c.first_bad_thread.result c.map-threads.result c.map-threads.ensures.cases) c.sooner-to_nine.ensures eight c.first_bad_thread.ensures in
-    let ten = next fault.BadLabel (BadLabel t) 9 (λ n. refl) (λ n. refl) c.in_ok-first_bad_label.field-0 c.sooner-to_nine.result c.map-labels.result c.sooner-to_ten.result (mapped fault.BadLabel c.in_ok-first_bad_label.field-0 c.map-labels.result c.map-labels.ensures.cases) c.sooner-to_ten.ensures nine c.in_ok-first_bad_label.ensures in
-    let eleven = next fault.Reserved (Reserved t) 10 (λ n. refl) (λ n. refl) c.in_ok-first_reserved.field-0 c.sooner-to_ten.result c.map-reserved.result c.sooner-to_eleven.result (mapped fault.Reserved c.in_ok-first_reserved.field-0 c.map-reserved.result c.map-reserved.ensures.cases) c.sooner-to_eleven.ensures ten c.in_ok-first_reserved.ensures in
-    let twelve = next fault.TooMany (TooMany t) 11 (λ n. refl) (λ n. refl) c.in_ok-first_too_many.field-0 c.sooner-to_eleven.result c.map-many.result c.sooner.result (mapped fault.TooMany c.in_ok-first_too_many.field-0 c.map-many.result c.map-many.ensures.cases) c.sooner.ensures eleven c.in_ok-first_too_many.ensures in
+    let six =
+    start fault.Undeclared (Undeclared t) 6 (λ n. refl) (λ n. refl) c.in_ok-first_undeclared.field-0 c.map-undeclared.result
+    (mapped fault.Undeclared c.in_ok-first_undeclared.field-0 c.map-undeclared.result c.map-undeclared.ensures.cases)
+    c.in_ok-first_undeclared.ensures in
+    let seven =
+    next fault.DeclaredTwice (DeclaredTwice t) 6 (λ n. refl)
+    (λ n. refl) c.in_ok-first_twice.field-0 c.map-undeclared.result c.map-twice.result c.sooner-to_seven.result
+    (mapped fault.DeclaredTwice c.in_ok-first_twice.field-0 c.map-twice.result c.map-twice.ensures.cases) c.sooner-to_seven.ensures six
+    c.in_ok-first_twice.ensures in
+    let eight =
+    next fault.WrongCount (WrongCount t) 7 (λ n. refl)
+    (λ n. refl) c.in_ok-first_wrong_count.field-0 c.sooner-to_seven.result c.map-counts.result c.sooner-to_eight.result
+    (mapped fault.WrongCount c.in_ok-first_wrong_count.field-0 c.map-counts.result c.map-counts.ensures.cases)
+    c.sooner-to_eight.ensures seven c.in_ok-first_wrong_count.ensures in
+    let nine =
+    next fault.BadThread (BadThread t) 8 (λ n. refl)
+    (λ n. refl) c.first_bad_thread.result c.sooner-to_eight.result c.map-threads.result c.sooner-to_nine.result
+    (mapped fault.BadThread c.first_bad_thread.result c.map-threads.result c.map-threads.ensures.cases) c.sooner-to_nine.ensures eight
+    c.first_bad_thread.ensures in
+    let ten =
+    next fault.BadLabel (BadLabel t) 9 (λ n. refl)
+    (λ n. refl) c.in_ok-first_bad_label.field-0 c.sooner-to_nine.result c.map-labels.result c.sooner-to_ten.result
+    (mapped fault.BadLabel c.in_ok-first_bad_label.field-0 c.map-labels.result c.map-labels.ensures.cases) c.sooner-to_ten.ensures nine
+    c.in_ok-first_bad_label.ensures in
+    let eleven =
+    next fault.Reserved (Reserved t) 10 (λ n. refl)
+    (λ n. refl) c.in_ok-first_reserved.field-0 c.sooner-to_ten.result c.map-reserved.result c.sooner-to_eleven.result
+    (mapped fault.Reserved c.in_ok-first_reserved.field-0 c.map-reserved.result c.map-reserved.ensures.cases)
+    c.sooner-to_eleven.ensures ten c.in_ok-first_reserved.ensures in
+    let twelve =
+    next fault.TooMany (TooMany t) 11 (λ n. refl)
+    (λ n. refl) c.in_ok-first_too_many.field-0 c.sooner-to_eleven.result c.map-many.result c.sooner.result
+    (mapped fault.TooMany c.in_ok-first_too_many.field-0 c.map-many.result c.map-many.ensures.cases) c.sooner.ensures eleven
+    c.in_ok-first_too_many.ensures in
     first_of_all t 12 c.sooner.result twelve

@@ -15,9 +15,15 @@ loop-name-preserved g c =
     let told = c.in_ok-seen_again.ensures.told (lent (take c.loop-name.name-index c.args.names.now)) c.loop-name.invariant.told in
     let again = c.in_ok-seen_again.ensures.again (lent (take c.loop-name.name-index c.args.names.now)) c.loop-name.invariant.told in
     record {
-      told = subst (λ (l : List tree.Name). AreTexts c.seen_again.new.seen l) (sym (one_taken (λ r. name_of r.now) c.args.names.now c.loop-name.name-index c.name-item.result lt c.name-item.is)) told;
-      kept = next_seen (λ r. name_of r.now) c.args.names.now c.loop-name.name-index c.name-item.result c.loop-name.found c.in_ok-seen_again.field-0 c.earlier-found.result lt c.name-item.is c.earlier-found.ensures c.loop-name.invariant.kept again;
+      told =
+          subst (λ (l : List tree.Name). AreTexts c.seen_again.new.seen l)
+          (sym (one_taken (λ r. name_of r.now) c.args.names.now c.loop-name.name-index c.name-item.result lt c.name-item.is)) told;
+      kept =
+          next_seen
+          (λ r. name_of r.now) c.args.names.now c.loop-name.name-index c.name-item.result c.loop-name.found c.in_ok-seen_again.field-0
+          c.earlier-found.result lt c.name-item.is c.earlier-found.ensures c.loop-name.invariant.kept again;
     }
 
 pub returns : goal.returns
-returns g c = end_seen (λ r. name_of r.now) c.args.names.now c.loop-name.name-index c.loop-name.found (omega arith) c.loop-name.invariant.kept
+returns g c =
+    end_seen (λ r. name_of r.now) c.args.names.now c.loop-name.name-index c.loop-name.found (omega arith) c.loop-name.invariant.kept

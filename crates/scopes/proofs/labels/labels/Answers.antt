@@ -11,7 +11,8 @@ returns g c = all_labelled c.args.stmts.now c.loop-stmt.stmt-index (lent c.loop-
 
 pub loop-stmt-preserved : goal.loop-stmt-preserved
 loop-stmt-preserved g c =
-    labelled c.args.stmts.now c.loop-stmt.stmt-index c.stmt-item.result (lent c.loop-stmt.list.items) (lent c.match-stmt.list.items) _ c.loop-stmt-test.true c.stmt-item.is
+    labelled c.args.stmts.now c.loop-stmt.stmt-index c.stmt-item.result (lent c.loop-stmt.list.items)
+    (lent c.match-stmt.list.items) _ c.loop-stmt-test.true c.stmt-item.is
     (elim c.match-stmt.branch [
       | in-Some+in_ok-push w ↦
           ap (λ v. lent v.items) w.list-is

@@ -8,7 +8,8 @@ use Rattle.scopes.proofs.statements.+flattening.Given as goal
 
 abbrev pub invariant-flatten-loop-stmt : goal.invariant-flatten-loop-stmt
 invariant-flatten-loop-stmt g l =
-    lent_statements l.list.items ++ statements_of (block_of (drop l.stmt-index l.stmts)) ≡ lent_statements l.initial.list.items ++ statements_of (block_of l.stmts)
+    lent_statements l.list.items ++ statements_of (block_of (drop l.stmt-index l.stmts))
+    ≡ lent_statements l.initial.list.items ++ statements_of (block_of l.stmts)
 
 abbrev pub decreases-flatten : goal.decreases-flatten
 decreases-flatten g l = 2 * statements (block_of l.stmts.now) + 1

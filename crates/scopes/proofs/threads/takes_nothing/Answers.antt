@@ -4,4 +4,5 @@ use Rattle.trees.specs.Trees.{name_of}
 use Rattle.scopes.proofs.threads.takes_nothing.Goals as goal
 
 pub returns : goal.returns
-returns g c = c.is_empty.ensures ∙ ap (λ l. nat_eq (length l) 0) c.as_slice.ensures.value ∙ ap (λ (n : ℕ). nat_eq n 0) (sym (length-map c.args.proc.now.formals.items name_of))
+returns g c = c.is_empty.ensures ∙ ap (λ l. nat_eq (length l) 0) c.as_slice.ensures.value
+    ∙ ap (λ (n : ℕ). nat_eq n 0) (sym (length-map c.args.proc.now.formals.items name_of))

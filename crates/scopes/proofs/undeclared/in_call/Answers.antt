@@ -1,37 +1,24 @@
-use Rattle.std.proofs.Common.{◌∙◌, ap, sym, refl}
-use Rattle.trees.specs.Trees.{procs_of, deed_of}
-use Rattle.trees.proofs.Folds.{deed_of-Skip, deed_of-Return, deed_of-Goto, deed_of-Assign, deed_of-If, deed_of-While, deed_of-Assert, deed_of-Assume, deed_of-Call}
+use Rattle.std.proofs.Common.{ℕ, Option, Some, ◌∙◌, ap, sym, refl}
+use Rattle.language.specs.Tree.{Name}
+use Rattle.language.specs.Parts.{callee_of}
+use Rattle.trees.specs.Trees.{name_of, procs_of}
+use Rattle.resolved.specs.There.{IsThere}
+use Rattle.std.specs.Prelude.{◌≡◌, None}
+use Rattle.scopes.specs.Faults.{named}
 use Rattle.scopes.proofs.Heads.{head_is}
 use Rattle.scopes.proofs.Found.{moved, nowhere, only}
-use Rattle.scopes.specs.Faults.{CallsUnknown}
 use Rattle.scopes.proofs.undeclared.in_call.Goals as goal
 
-pub returns-in-Skip : goal.returns-in-Skip
-returns-in-Skip g c = moved (λ h n. CallsUnknown (procs_of c.args.procs.now) n h) _ _ _ (head_is c.args.stmt.now _ (ap deed_of c.in-Skip.is ∙ deed_of-Skip _)) (nowhere (λ n h. h))
-
-pub returns-in-Return : goal.returns-in-Return
-returns-in-Return g c = moved (λ h n. CallsUnknown (procs_of c.args.procs.now) n h) _ _ _ (head_is c.args.stmt.now _ (ap deed_of c.in-Return.is ∙ deed_of-Return _)) (nowhere (λ n h. h))
-
-pub returns-in-Goto : goal.returns-in-Goto
-returns-in-Goto g c = moved (λ h n. CallsUnknown (procs_of c.args.procs.now) n h) _ _ _ (head_is c.args.stmt.now _ (ap deed_of c.in-Goto.is ∙ deed_of-Goto _)) (nowhere (λ n h. h))
-
-pub returns-in-Assign : goal.returns-in-Assign
-returns-in-Assign g c = moved (λ h n. CallsUnknown (procs_of c.args.procs.now) n h) _ _ _ (head_is c.args.stmt.now _ (ap deed_of c.in-Assign.is ∙ deed_of-Assign _ _)) (nowhere (λ n h. h))
-
-pub returns-in-If : goal.returns-in-If
-returns-in-If g c = moved (λ h n. CallsUnknown (procs_of c.args.procs.now) n h) _ _ _ (head_is c.args.stmt.now _ (ap deed_of c.in-If.is ∙ deed_of-If _ _ _)) (nowhere (λ n h. h))
-
-pub returns-in-While : goal.returns-in-While
-returns-in-While g c = moved (λ h n. CallsUnknown (procs_of c.args.procs.now) n h) _ _ _ (head_is c.args.stmt.now _ (ap deed_of c.in-While.is ∙ deed_of-While _ _)) (nowhere (λ n h. h))
-
-pub returns-in-Assert : goal.returns-in-Assert
-returns-in-Assert g c = moved (λ h n. CallsUnknown (procs_of c.args.procs.now) n h) _ _ _ (head_is c.args.stmt.now _ (ap deed_of c.in-Assert.is ∙ deed_of-Assert _)) (nowhere (λ n h. h))
-
-pub returns-in-Assume : goal.returns-in-Assume
-returns-in-Assume g c = moved (λ h n. CallsUnknown (procs_of c.args.procs.now) n h) _ _ _ (head_is c.args.stmt.now _ (ap deed_of c.in-Assume.is ∙ deed_of-Assume _)) (nowhere (λ n h. h))
-
 pub returns-in-None : goal.returns-in-None
-returns-in-None g c = moved (λ h n. CallsUnknown (procs_of c.args.procs.now) n h) _ _ _ (head_is c.args.stmt.now _ (ap deed_of c.in-Call.is ∙ deed_of-Call _ _)) (only c.in-Call.name.at (refl, sym c.in-None.ensures) (λ k h. h.0))
+returns-in-None g c =
+    moved (λ (o : Option Name) (n : ℕ). IsThere o (λ q. (q.at ≡ n) × (named q.text (procs_of c.args.procs.now) ≡ None)))
+    (Some (name_of c.in_ok-callee.callee.now)) _ _
+    (ap callee_of (head_is c.args.stmt.now) ∙ sym c.in_ok-callee.ensures)
+    (only c.in_ok-callee.callee.now.at (refl, sym c.in-None.ensures) (λ k h. h.0))
 
 pub returns-in-Some : goal.returns-in-Some
-returns-in-Some g c = moved (λ h n. CallsUnknown (procs_of c.args.procs.now) n h) _ _ _ (head_is c.args.stmt.now _ (ap deed_of c.in-Call.is ∙ deed_of-Call _ _)) (nowhere (λ n h. let e = h.1 in let f = c.in-Some.ensures in absurd (cc)))
+returns-in-Some g c =
+    moved (λ (o : Option Name) (n : ℕ). IsThere o (λ q. (q.at ≡ n) × (named q.text (procs_of c.args.procs.now) ≡ None)))
+    (Some (name_of c.in_ok-callee.callee.now)) _ _
+    (ap callee_of (head_is c.args.stmt.now) ∙ sym c.in_ok-callee.ensures)
+    (nowhere (λ n h. let e = h.1 in let f = c.in-Some.ensures in absurd (cc)))

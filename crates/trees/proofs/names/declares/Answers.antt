@@ -6,5 +6,7 @@ use Rattle.trees.proofs.names.declares.Goals as goal
 
 pub loop-name-preserved : goal.loop-name-preserved
 loop-name-preserved g c =
-    looked_on (λ (n : Name g.row.N.Denot). name_of n) (λ (l : List (Name g.row.N.Denot)). names_of l) (λ x xs. refl) refl c.args.text.now c.args.names.now c.loop-name.name-index _ c.name-item.result c.loop-name-test.true c.name-item.is
+    looked_on (λ (n : Name g.row.N.Denot). name_of n) (λ (l : List (Name g.row.N.Denot)). names_of l)
+    (λ x xs. refl) refl c.args.text.now c.args.names.now c.loop-name.name-index _ c.name-item.result c.loop-name-test.true
+    c.name-item.is
     (rw c.as_str.ensures.value at (sym c.eq.ensures ∙ c.if-eq.false)) c.loop-name.invariant

@@ -1,0 +1,49 @@
+-- The parts of a statement: what can be asked of it, whatever its kind.
+use Rattle.std.specs.Prelude.{◌≡◌, Bool, true, false, List, [], Option, Some, None, length}
+use Rattle.language.specs.Tree.{Expression, RightSide, Simple, assign, assert, assume, goto, call}
+
+-- what a statement does, without the statements that it holds: of an `if` and a `while` its right side
+pub data Head (V P L : Type 0) : Type 0 where
+  plain : Simple V P L → Head V P L
+  tests : RightSide V → Head V P L
+
+-- the statement is an assignment, whose right sides are for its targets one by one
+abbrev pub assigns : {V P L : Type 0} → Head V P L → Bool
+assigns (plain (assign xs rs)) = true
+assigns _ = false
+
+-- the variables that the statement gives values to, in order
+abbrev pub targets_of : {V P L : Type 0} → Head V P L → List V
+targets_of (plain (assign xs rs)) = xs
+targets_of _ = []
+
+-- the right sides for the targets of an assignment, in order
+abbrev pub sides_of : {V P L : Type 0} → Head V P L → List (RightSide V)
+sides_of (plain (assign xs rs)) = rs
+sides_of _ = []
+
+-- the right side that the statement tests, where it tests one
+abbrev pub test_of : {V P L : Type 0} → Head V P L → Option (RightSide V)
+test_of (plain (assert r)) = Some r
+test_of (plain (assume r)) = Some r
+test_of (tests r) = Some r
+test_of _ = None
+
+-- the arguments that the statement hands on, in order
+abbrev pub arguments_of : {V P L : Type 0} → Head V P L → List (Expression V)
+arguments_of (plain (call p es)) = es
+arguments_of _ = []
+
+-- the procedure that the statement calls, where it calls one
+abbrev pub callee_of : {V P L : Type 0} → Head V P L → Option P
+callee_of (plain (call p es)) = Some p
+callee_of _ = None
+
+-- the label that the statement jumps to, where it jumps
+abbrev pub jump_of : {V P L : Type 0} → Head V P L → Option L
+jump_of (plain (goto l)) = Some l
+jump_of _ = None
+
+-- an assignment has as many right sides as targets
+abbrev pub HasAllSides : {V P L : Type 0} → Head V P L → Type 0
+HasAllSides h = assigns h ≡ true → length (targets_of h) ≡ length (sides_of h)
