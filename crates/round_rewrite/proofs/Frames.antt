@@ -6,7 +6,7 @@ use Rattle.language.specs.Value.{Place}
 use Rattle.language.specs.Rest.{Label, Code, join, rest_from, first_of_two, has_label}
 use Rattle.language.specs.Step.{Routine, Program, Frame, frame, zeros, fresh}
 use Rattle.round_rewrite.specs.Table.{plain, draws, temporaries, side, prologue, statement, stop_test, draws_of}
-use Rattle.language.specs.Parts.{plain}
+use Rattle.language.specs.Parts as parts
 use Rattle.round_rewrite.specs.Places.{places, is_global}
 use Rattle.round_rewrite.specs.Limits.{most_rounds}
 use Rattle.resolved.specs.Scoped.{SimpleInScope, SideInScope, Throughout, FitsScopes}
@@ -17,7 +17,7 @@ use Rattle.round_rewrite.proofs.Prologue.{Site}
 
 -- in scope, with room for so many temporaries
 abbrev pub Roomy : List Routine → ℕ → ℕ → ℕ → Simple Place ℕ Label → Type 0
-Roomy routines n own d s = SimpleInScope routines n own s × (draws_of is_global (plain s) ≤ d)
+Roomy routines n own d s = SimpleInScope routines n own s × (draws_of is_global (parts.plain s) ≤ d)
 
 -- each statement of a block is in scope and has room for its temporaries
 abbrev pub Fits : List Routine → ℕ → ℕ → ℕ → Code → Type 0
@@ -63,7 +63,7 @@ throughout-rest S R x (loop m r a t) k hb hk =
     (throughout-rest S R x t k hb.2 hk))
 
 room_simple : (s : Simple Place ℕ Label) (t : Code) (m : Mark Label) (d : ℕ) → temporaries is_global (one m s t) ≤ d
-    → (draws_of is_global (plain s) ≤ d) × (temporaries is_global t ≤ d)
+    → (draws_of is_global (parts.plain s) ≤ d) × (temporaries is_global t ≤ d)
 room_simple s t m d h = (omega arith, omega arith)
 
 -- a block in scope, with room for its temporaries, fits
