@@ -61,6 +61,14 @@ pub length-numbers : (j d : ℕ) → length (numbers j d) ≡ d
 length-numbers j zero = refl
 length-numbers j (suc d) = ap suc (length-numbers (suc j) d)
 
+-- the bits of the round, by name
+abbrev pub bit_names : List Name
+bit_names = named (codes "rh__") ∷ named (codes "rl__") ∷ []
+
+-- the globals that stand last
+abbrev pub last_names : List Name
+last_names = named (codes "stop__") ∷ named (codes "bad__") ∷ []
+
 -- the names of a program and of one of its procedures, with how many temporaries that needs, and the last round
 pub record Vocabulary : Type 0 where
   pub gs : List Name
@@ -87,12 +95,6 @@ module _ (vocabulary : Vocabulary) where
 
   abbrev B : List Name
   B = copied (names []) last save_name gs (numbers 1 last)
-
-  abbrev bit_names : List Name
-  bit_names = named (codes "rh__") ∷ named (codes "rl__") ∷ []
-
-  abbrev last_names : List Name
-  last_names = named (codes "stop__") ∷ named (codes "bad__") ∷ []
 
   -- the scope of a rewritten procedure
   abbrev pub wider : List Name → Scope

@@ -28,7 +28,7 @@ use Rattle.round_rewrite.specs.Names as renamed
 use Rattle.round_rewrite.specs.Names.{copy_name, save_name, drawn_name, names, rewritten_procedure, main_procedure, rewritten_tree}
 use Rattle.round_rewrite.proofs.Spelling.{same_text_refl}
 use Rattle.round_rewrite.proofs.Numbering.{number_right, number_left, in_rows}
-use Rattle.round_rewrite.proofs.Placing.{copies_spelled, saves_spelled}
+use Rattle.round_rewrite.proofs.Placing.{bit_names, last_names, copies_spelled, saves_spelled}
 use Rattle.round_rewrite.proofs.Resolved.{by_test, rest_room}
 use Rattle.round_rewrite.proofs.Meaning.{not_main}
 use Rattle.round_rewrite.proofs.Uses.{each_both, any_uses, written_each, drawn_each, sides_even, Held, at_uses, arguments_use, side_uses}
@@ -174,12 +174,6 @@ module _ (t : Tree) (last : ℕ) (ok : IsChecked t) (small : last < most_rounds)
   abbrev B : List Name
   B = copied (names []) last save_name t.globals (numbers 1 last)
 
-  abbrev bits : List Name
-  bits = renamed.named (codes "rh__") ∷ renamed.named (codes "rl__") ∷ []
-
-  abbrev lasts : List Name
-  lasts = renamed.named (codes "stop__") ∷ renamed.named (codes "bad__") ∷ []
-
   copies_there : (x : Name) → is_declared x.text t.globals ≡ true → (k : ℕ) → k ≤ last
       → is_declared (copy_name k x).text t'.globals ≡ true
   copies_there x h k le =
@@ -187,8 +181,8 @@ module _ (t : Tree) (last : ℕ) (ok : IsChecked t) (small : last < most_rounds)
       let inA : is_declared (copy_name k x).text A ≡ true =
       subst (λ y. is_declared (copy_name y x).text A ≡ true) z
       (in_rows (names []) last copy_name t.globals copies_spelled x h k 0 (suc last) (omega arith) (omega arith)).0 in
-      declared_first (copy_name k x).text (A ++ B ++ bits) lasts
-      (declared_first (copy_name k x).text (A ++ B) bits (declared_first (copy_name k x).text A B inA))
+      declared_first (copy_name k x).text (A ++ B ++ bit_names) last_names
+      (declared_first (copy_name k x).text (A ++ B) bit_names (declared_first (copy_name k x).text A B inA))
 
   saves_there : (x : Name) → is_declared x.text t.globals ≡ true → (k : ℕ) → k < last
       → is_declared (save_name (suc k) x).text t'.globals ≡ true
@@ -197,16 +191,16 @@ module _ (t : Tree) (last : ℕ) (ok : IsChecked t) (small : last < most_rounds)
       let inB : is_declared (save_name (suc k) x).text B ≡ true =
       subst (λ y. is_declared (save_name y x).text B ≡ true) z
       (in_rows (names []) last save_name t.globals saves_spelled x h k 1 last lt (omega arith)).0 in
-      declared_first (save_name (suc k) x).text (A ++ B ++ bits) lasts
-      (declared_first (save_name (suc k) x).text (A ++ B) bits (declared_right (save_name (suc k) x).text A B inB))
+      declared_first (save_name (suc k) x).text (A ++ B ++ bit_names) last_names
+      (declared_first (save_name (suc k) x).text (A ++ B) bit_names (declared_right (save_name (suc k) x).text A B inB))
 
-  bits_there : (x : List ℕ) → is_declared x bits ≡ true → is_declared x t'.globals ≡ true
+  bits_there : (x : List ℕ) → is_declared x bit_names ≡ true → is_declared x t'.globals ≡ true
   bits_there x h =
-      declared_first x (A ++ B ++ bits) lasts (declared_right x (A ++ B) bits h)
+      declared_first x (A ++ B ++ bit_names) last_names (declared_right x (A ++ B) bit_names h)
 
-  lasts_there : (x : List ℕ) → is_declared x lasts ≡ true → is_declared x t'.globals ≡ true
+  lasts_there : (x : List ℕ) → is_declared x last_names ≡ true → is_declared x t'.globals ≡ true
   lasts_there x h =
-      declared_right x (A ++ B ++ bits) lasts h
+      declared_right x (A ++ B ++ bit_names) last_names h
 
   -- in a procedure of the rewritten tree
   module _ (p' : Procedure) where
