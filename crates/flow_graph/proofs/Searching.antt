@@ -108,11 +108,14 @@ place_here x n s m (branch r a b) k e =
     ap (λ h. option_map point_at (cond h
     (Some (choose (marked n (resolve_mark m)) (resolve_side s r) (numbered (suc n) (resolve_block s a))
     (numbered (suc n + statements (resolve_block s a)) (resolve_block s b)) k))
-    (first_of_two (rest_from x (numbered (suc n) (resolve_block s a)) k) (first_of_two (rest_from x (numbered (suc n + statements (resolve_block s a)) (resolve_block s b)) k) None)))) e
+    (first_of_two (rest_from x (numbered (suc n) (resolve_block s a)) k)
+    (first_of_two (rest_from x (numbered (suc n + statements (resolve_block s a)) (resolve_block s b)) k) None)))) e
 place_here x n s m (repeat r a) k e =
     ap (λ h. option_map point_at (cond h
     (Some (loop (marked n (resolve_mark m)) (resolve_side s r) (numbered (suc n) (resolve_block s a)) k))
-    (first_of_two (rest_from x (numbered (suc n) (resolve_block s a)) (loop (marked n (resolve_mark m)) (resolve_side s r) (numbered (suc n) (resolve_block s a)) k)) None))) e
+    (first_of_two
+    (rest_from x (numbered (suc n) (resolve_block s a))
+    (loop (marked n (resolve_mark m)) (resolve_side s r) (numbered (suc n) (resolve_block s a)) k)) None))) e
 
 -- what is left to run behind the first block inside of a statement: behind the body of a loop the loop again
 abbrev behind_first : ℕ → Scope → Mark tree.Name → Deed → Code → Code
@@ -142,16 +145,23 @@ place_inside x n s m (repeat r a) k e =
     ∙ sym (first_none (place x A again))
 
 -- the first statement of a list, by its place in it
-pub place_next : {A : Type 0} (x : Label) (n j : ℕ) (s : Scope) (l : List (Stmt A)) (i : ℕ) (stmt : Stmt A) (k : Code) → i < length l → stmt ≡ get_or l i stmt →
+pub place_next : {A : Type 0} (x : Label) (n j : ℕ) (s : Scope) (l : List (Stmt A)) (i : ℕ) (stmt : Stmt A) (k : Code) → i < length l
+    → stmt ≡ get_or l i stmt →
     j ≡ n + statements (block_of (stmt ∷ [])) →
     place x (numbered n (resolve_block s (block_of (drop i l)))) k
-    ≡ first_of_two (place x (numbered n (resolve_block s (block_of (stmt ∷ [])))) (join (numbered j (resolve_block s (block_of (drop (i + 1) l)))) k)) (place x (numbered j (resolve_block s (block_of (drop (i + 1) l)))) k)
+    ≡ first_of_two
+    (place x (numbered n (resolve_block s (block_of (stmt ∷ [])))) (join (numbered j (resolve_block s (block_of (drop (i + 1) l)))) k))
+    (place x (numbered j (resolve_block s (block_of (drop (i + 1) l)))) k)
 place_next {A} x n j s l i stmt k lt is e =
-    ap (λ z. place x (numbered n (resolve_block s (block_of z))) k) (drop_more l i stmt lt ∙ ap (λ (y : Stmt A). y ∷ drop (i + 1) l) (sym is))
+    ap (λ z. place x (numbered n (resolve_block s (block_of z))) k)
+    (drop_more l i stmt lt ∙ ap (λ (y : Stmt A). y ∷ drop (i + 1) l) (sym is))
     ∙ place_split x n s (item_of stmt).mark (item_of stmt).deed (block_of (drop (i + 1) l)) k
-    ∙ ap (λ z. first_of_two (place x (numbered n (resolve_block s (block_of (stmt ∷ [])))) (join (numbered z (resolve_block s (block_of (drop (i + 1) l)))) k)) (place x (numbered z (resolve_block s (block_of (drop (i + 1) l)))) k)) (sym e)
+    ∙ ap (λ z. first_of_two
+    (place x (numbered n (resolve_block s (block_of (stmt ∷ [])))) (join (numbered z (resolve_block s (block_of (drop (i + 1) l)))) k))
+    (place x (numbered z (resolve_block s (block_of (drop (i + 1) l)))) k)) (sym e)
 
-pub place_nowhere : {A : Type 0} (x : Label) (n : ℕ) (s : Scope) (l : List (Stmt A)) (i : ℕ) (k : Code) → length l ≤ i → place x (numbered n (resolve_block s (block_of (drop i l)))) k ≡ None
+pub place_nowhere : {A : Type 0} (x : Label) (n : ℕ) (s : Scope) (l : List (Stmt A)) (i : ℕ) (k : Code) → length l ≤ i
+    → place x (numbered n (resolve_block s (block_of (drop i l)))) k ≡ None
 place_nowhere x n s l i k le = ap (λ z. place x (numbered n (resolve_block s (block_of z))) k) (drop_all i l le)
 
 module _ {A : Type 0} (x : Label) (stmt : Stmt A) (n at : ℕ)
@@ -173,7 +183,8 @@ module _ {A : Type 0} (x : Label) (stmt : Stmt A) (n at : ℕ)
     -- the place of the label, by the two blocks
     in_two : (s : Scope) (k : Code) → n + statements (block_of (stmt ∷ [])) ≤ 18446744073709551615 →
         (place x (numbered n (resolve_block s (block_of (stmt ∷ [])))) k
-        ≡ first_of_two (place x (numbered at (resolve_block s (block_of first))) (behind_first n s (item_of stmt).mark (item_of stmt).deed k))
+        ≡ first_of_two
+        (place x (numbered at (resolve_block s (block_of first))) (behind_first n s (item_of stmt).mark (item_of stmt).deed k))
         (place x (numbered (at + statements (block_of first)) (resolve_block s (block_of second))) k))
     in_two s k most =
         let i = item_of stmt in

@@ -1,21 +1,26 @@
 -- What a tree that resolves means is complete, also with its statements numbered.
-use Rattle.std.proofs.Common.{◌≡◌, ℕ, suc, ◌+◌, ◌≤◌, Bool, true, false, cond, List, [], ◌∷◌, ◌++◌, length, map, Option, Some, None, option_map, slice_get, sym, ◌∙◌, ap, subst, arith, length-append}
+use Rattle.std.proofs.Common.{◌≡◌, ℕ, suc, ◌+◌, ◌≤◌, Bool, true, false, cond, List, [], ◌∷◌, ◌++◌, length, map, Option}
+use Rattle.std.proofs.Common.{Some, None, option_map, slice_get, sym, ◌∙◌, ap, subst, arith, length-append}
 use Rattle.std.proofs.lemmas.List.{length-map}
 use Rattle.std.proofs.lemmas.Option.{slice_get-map}
-use Rattle.language.specs.Tree.{Name, Expression, const, var, negation, two, RightSide, any, value, Simple, Mark, Block, done, one, choose, loop, Procedure, ThreadLine, Tree}
+use Rattle.language.specs.Tree.{Name, Expression, const, var, negation, two, RightSide, any, value, Simple, Mark, Block}
+use Rattle.language.specs.Tree.{done, one, choose, loop, Procedure, ThreadLine, Tree}
 use Rattle.language.specs.Value.{Place, global, local}
 use Rattle.language.specs.Rest.{Label, Code, has_label, first_of_two, join, rest_from}
 use Rattle.language.specs.Step.{Routine, AtRoutine, AtRest}
-use Rattle.language.specs.Resolve.{number_of, Scope, place_of, scope_of, resolve_expression, resolve_side, resolve_simple, resolve_block, routine_of, meaning_of}
+use Rattle.language.specs.Resolve.{number_of, Scope, place_of, scope_of, resolve_expression, resolve_side}
+use Rattle.language.specs.Resolve.{resolve_simple, resolve_block, routine_of, meaning_of}
 use Rattle.language.specs.Sequential.{statements, marked, numbered, numbered_routine, sequential_of}
 use Rattle.language.specs.Parts.{plain, assigns, targets_of, sides_of, test_of, arguments_of, callee_of, jump_of}
 use Rattle.resolved.specs.There.{IsThere, names}
-use Rattle.resolved.specs.Statements.{Statement, statements_of, variables_of, variables_of_side, variables_of_sides, variables_of_test, variables_of_all}
+use Rattle.resolved.specs.Statements.{Statement, statements_of, variables_of, variables_of_side, variables_of_sides}
+use Rattle.resolved.specs.Statements.{variables_of_test, variables_of_all}
 use Rattle.resolved.specs.Resolves.{Each, IsPlaceIn, StatementResolves, Resolves}
 use Rattle.resolved.proofs.Each.{each_left, each_right}
 use Rattle.resolved.proofs.Parts.{parts_resolve}
 use Rattle.std.specs.Prelude.{IfSome}
-use Rattle.resolved.specs.Scoped.{PlaceInScope, InScope, AreInScope, SideInScope, SidesInScope, PlacesInScope, Throughout, EachRoutine, EachThread}
+use Rattle.resolved.specs.Scoped.{PlaceInScope, InScope, AreInScope, SideInScope, SidesInScope, PlacesInScope}
+use Rattle.resolved.specs.Scoped.{Throughout, EachRoutine, EachThread}
 use Rattle.resolved.specs.Complete.{SimpleComplete, RoutineComplete, IsComplete}
 
 module _ (t : Tree) (p : Procedure) where
@@ -43,11 +48,19 @@ module _ (t : Tree) (p : Procedure) where
   expression_in_scope (const b) h = tt
   expression_in_scope (var x) h = in_scope (place_of s x) h.0
   expression_in_scope (negation e) h = expression_in_scope e h
-  expression_in_scope (two o a b) h = (expression_in_scope a (each_left Placed (variables_of a) (variables_of b) h), expression_in_scope b (each_right Placed (variables_of a) (variables_of b) h))
+  expression_in_scope (two o a b) h = (
+    expression_in_scope a (each_left Placed (variables_of a) (variables_of b) h),
+    expression_in_scope b
+        (each_right Placed (variables_of a) (variables_of b) h),
+  )
 
   arguments_in_scope : (es : List (Expression Name)) → Each Placed (variables_of_all es) → AreInScope n own (map (resolve_expression s) es)
   arguments_in_scope [] h = tt
-  arguments_in_scope (e ∷ es) h = (expression_in_scope e (each_left Placed (variables_of e) (variables_of_all es) h), arguments_in_scope es (each_right Placed (variables_of e) (variables_of_all es) h))
+  arguments_in_scope (e ∷ es) h = (
+    expression_in_scope e (each_left Placed (variables_of e) (variables_of_all es) h),
+    arguments_in_scope es
+        (each_right Placed (variables_of e) (variables_of_all es) h),
+  )
 
   side_in_scope : (r : RightSide Name) → Each Placed (variables_of_side r) → SideInScope n own (resolve_side s r)
   side_in_scope any h = tt
@@ -55,16 +68,22 @@ module _ (t : Tree) (p : Procedure) where
 
   sides_in_scope : (rs : List (RightSide Name)) → Each Placed (variables_of_sides rs) → SidesInScope n own (map (resolve_side s) rs)
   sides_in_scope [] h = tt
-  sides_in_scope (r ∷ rs) h = (side_in_scope r (each_left Placed (variables_of_side r) (variables_of_sides rs) h), sides_in_scope rs (each_right Placed (variables_of_side r) (variables_of_sides rs) h))
+  sides_in_scope (r ∷ rs) h = (
+    side_in_scope r (each_left Placed (variables_of_side r) (variables_of_sides rs) h),
+    sides_in_scope rs
+        (each_right Placed (variables_of_side r) (variables_of_sides rs) h),
+  )
 
-  room : (o : Option Procedure) (es : List (Expression Name)) → IsThere o (λ r. length r.formals ≡ length es) → AtRoutine (option_map (routine_of t) o) (λ r. length (map (resolve_expression s) es) ≤ r.places)
+  room : (o : Option Procedure) (es : List (Expression Name)) → IsThere o (λ r. length r.formals ≡ length es)
+      → AtRoutine (option_map (routine_of t) o) (λ r. length (map (resolve_expression s) es) ≤ r.places)
   room None es h = absurd h
   room (Some r) es h =
       let e : length (r.formals ++ r.locals) ≡ length r.formals + length r.locals = length-append r.formals r.locals in
       let k : length (map (resolve_expression s) es) ≡ length es = length-map es (resolve_expression s) in
       omega (arith, e, k, h)
 
-  test_in_scope : (o : Option (RightSide Name)) → Each Placed (variables_of_test o) → IfSome (option_map (resolve_side s) o) (SideInScope n own)
+  test_in_scope : (o : Option (RightSide Name)) → Each Placed (variables_of_test o)
+      → IfSome (option_map (resolve_side s) o) (SideInScope n own)
   test_in_scope None h = tt
   test_in_scope (Some r) h = side_in_scope r h
 
@@ -82,7 +101,8 @@ module _ (t : Tree) (p : Procedure) where
   label_there None P h = tt
   label_there (Some l) P h = h
 
-  simple_complete : (m : Mark Name) (c : Simple Name Name Name) → StatementResolves t p (record { mark = m; head = plain c }) → SimpleComplete (meaning_of t).routines n (routine_of t p) (resolve_simple s c)
+  simple_complete : (m : Mark Name) (c : Simple Name Name Name) → StatementResolves t p (record { mark = m; head = plain c })
+      → SimpleComplete (meaning_of t).routines n (routine_of t p) (resolve_simple s c)
   simple_complete m c h =
       let xs = targets_of (plain c) in
       let rs = sides_of (plain c) in
@@ -120,8 +140,12 @@ module _ (t : Tree) (p : Procedure) where
         block_complete k (each_right P (statements_of b) (statements_of k) rest),
       )
   block_complete (loop m r a k) h =
-      let P : Statement → Type 0 = StatementResolves t p in
-      (side_in_scope r (each_left Placed (variables_of_side r) [] h.0.variables), block_complete a (each_left P (statements_of a) (statements_of k) h.1), block_complete k (each_right P (statements_of a) (statements_of k) h.1))
+      let P : Statement → Type 0 = StatementResolves t p in (
+        side_in_scope r (each_left Placed (variables_of_side r) [] h.0.variables),
+        block_complete a
+            (each_left P (statements_of a) (statements_of k) h.1),
+        block_complete k (each_right P (statements_of a) (statements_of k) h.1),
+      )
 
 -- there is a rest
 abbrev IsRest : Option Code → Type 0
@@ -131,7 +155,8 @@ here_or_on : (c : Bool) (a b a' b' : Option Code) → IsRest a' → (IsRest b �
 here_or_on true a b a' b' here on h = here
 here_or_on false a b a' b' here on h = on h
 
-one_of_two : (a b a' b' : Option Code) → (IsRest a → IsRest a') → (IsRest b → IsRest b') → IsRest (first_of_two a b) → IsRest (first_of_two a' b')
+one_of_two : (a b a' b' : Option Code) → (IsRest a → IsRest a') → (IsRest b → IsRest b') → IsRest (first_of_two a b)
+    → IsRest (first_of_two a' b')
 one_of_two (Some x) b None b' f g h = absurd (f tt)
 one_of_two None b None b' f g h = g h
 one_of_two a b (Some y) b' f g h = tt
@@ -139,24 +164,30 @@ one_of_two a b (Some y) b' f g h = tt
 -- numbers make no difference to what a jump finds
 rest_numbered : (x : Label) (b : Code) (i : ℕ) (k k' : Code) → IsRest (rest_from x b k) → IsRest (rest_from x (numbered i b) k')
 rest_numbered x done i k k' h = h
-rest_numbered x (one m c t) i k k' h = here_or_on (has_label x m) _ (rest_from x t k) _ (rest_from x (numbered (suc i) t) k') tt (rest_numbered x t (suc i) k k') h
+rest_numbered x (one m c t) i k k' h =
+    here_or_on (has_label x m) _ (rest_from x t k) _ (rest_from x (numbered (suc i) t) k') tt (rest_numbered x t (suc i) k k') h
 rest_numbered x (choose m r a b t) i k k' h =
     let b' : Code = numbered (suc i + statements a) b in
     let t' : Code = numbered (suc i + (statements a + statements b)) t in
     here_or_on (has_label x m) _ (first_of_two (rest_from x a (join t k)) (first_of_two (rest_from x b (join t k)) (rest_from x t k))) _
     (first_of_two (rest_from x (numbered (suc i) a) (join t' k')) (first_of_two (rest_from x b' (join t' k')) (rest_from x t' k'))) tt
-    (one_of_two (rest_from x a (join t k)) (first_of_two (rest_from x b (join t k)) (rest_from x t k)) (rest_from x (numbered (suc i) a) (join t' k')) (first_of_two (rest_from x b' (join t' k')) (rest_from x t' k'))
+    (one_of_two (rest_from x a (join t k)) (first_of_two (rest_from x b (join t k)) (rest_from x t k))
+    (rest_from x (numbered (suc i) a) (join t' k')) (first_of_two (rest_from x b' (join t' k')) (rest_from x t' k'))
     (rest_numbered x a (suc i) (join t k) (join t' k'))
-    (one_of_two (rest_from x b (join t k)) (rest_from x t k) (rest_from x b' (join t' k')) (rest_from x t' k') (rest_numbered x b (suc i + statements a) (join t k) (join t' k')) (rest_numbered x t (suc i + (statements a + statements b)) k k'))) h
+    (one_of_two (rest_from x b (join t k)) (rest_from x t k) (rest_from x b' (join t' k')) (rest_from x t' k')
+    (rest_numbered x b (suc i + statements a) (join t k) (join t' k')) (rest_numbered x t (suc i + (statements a + statements b)) k k'))) h
 rest_numbered x (loop m r a t) i k k' h =
     let t' : Code = numbered (suc i + statements a) t in
     let a' : Code = numbered (suc i) a in
     here_or_on (has_label x m) _ (first_of_two (rest_from x a (loop m r a (join t k))) (rest_from x t k)) _
     (first_of_two (rest_from x a' (loop (marked i m) r a' (join t' k'))) (rest_from x t' k')) tt
-    (one_of_two (rest_from x a (loop m r a (join t k))) (rest_from x t k) (rest_from x a' (loop (marked i m) r a' (join t' k'))) (rest_from x t' k')
-    (rest_numbered x a (suc i) (loop m r a (join t k)) (loop (marked i m) r a' (join t' k'))) (rest_numbered x t (suc i + statements a) k k')) h
+    (one_of_two (rest_from x a (loop m r a (join t k))) (rest_from x t k) (rest_from x a' (loop (marked i m) r a' (join t' k')))
+    (rest_from x t' k')
+    (rest_numbered x a (suc i) (loop m r a (join t k)) (loop (marked i m) r a' (join t' k')))
+    (rest_numbered x t (suc i + statements a) k k')) h
 
-places_numbered : (o : Option Routine) (m : ℕ) → AtRoutine o (λ r. m ≤ r.places) → AtRoutine (option_map numbered_routine o) (λ r. m ≤ r.places)
+places_numbered : (o : Option Routine) (m : ℕ) → AtRoutine o (λ r. m ≤ r.places)
+    → AtRoutine (option_map numbered_routine o) (λ r. m ≤ r.places)
 places_numbered None m h = h
 places_numbered (Some r) m h = h
 
@@ -172,7 +203,8 @@ label_numbered r None h = tt
 label_numbered r (Some x) h = rest_numbered x r.body 1 done done h
 
 -- numbers make no difference to what is complete
-simple_numbered : (rs : List Routine) (n : ℕ) (r : Routine) (c : Simple Place ℕ Label) → SimpleComplete rs n r c → SimpleComplete (map numbered_routine rs) n (numbered_routine r) c
+simple_numbered : (rs : List Routine) (n : ℕ) (r : Routine) (c : Simple Place ℕ Label) → SimpleComplete rs n r c
+    → SimpleComplete (map numbered_routine rs) n (numbered_routine r) c
 simple_numbered rs n r c h = record {
   scope = record {
     targets = h.scope.targets;
@@ -185,33 +217,49 @@ simple_numbered rs n r c h = record {
   jump = label_numbered r (jump_of (plain c)) h.jump;
 }
 
-block_numbered : (rs : List Routine) (n : ℕ) (r : Routine) (b : Code) (i : ℕ) → Throughout (SimpleComplete rs n r) (SideInScope n r.places) b → Throughout (SimpleComplete (map numbered_routine rs) n (numbered_routine r)) (SideInScope n r.places) (numbered i b)
+block_numbered : (rs : List Routine) (n : ℕ) (r : Routine) (b : Code) (i : ℕ)
+    → Throughout (SimpleComplete rs n r) (SideInScope n r.places) b
+    → Throughout (SimpleComplete (map numbered_routine rs) n (numbered_routine r)) (SideInScope n r.places) (numbered i b)
 block_numbered rs n r done i h = tt
 block_numbered rs n r (one m c t) i h = (simple_numbered rs n r c h.0, block_numbered rs n r t (suc i) h.1)
-block_numbered rs n r (choose m s a b t) i h = (h.0, block_numbered rs n r a (suc i) h.1, block_numbered rs n r b (suc i + statements a) h.2, block_numbered rs n r t (suc i + (statements a + statements b)) h.3)
+block_numbered rs n r (choose m s a b t) i h = (
+  h.0,
+  block_numbered rs n r a (suc i) h.1,
+  block_numbered rs n r b (suc i + statements a) h.2,
+  block_numbered rs n r t
+      (suc i + (statements a + statements b)) h.3,
+)
 block_numbered rs n r (loop m s a t) i h = (h.0, block_numbered rs n r a (suc i) h.1, block_numbered rs n r t (suc i + statements a) h.2)
 
 module _ (t : Tree) where
   abbrev all : List Routine
   all = (meaning_of t).routines
 
-  routines_complete : (ps : List Procedure) → Each (λ (p : Procedure). Each (StatementResolves t p) (statements_of p.body)) ps → EachRoutine (RoutineComplete (map numbered_routine (meaning_of t).routines) (length t.globals)) (map numbered_routine (map (routine_of t) ps))
+  routines_complete : (ps : List Procedure) → Each (λ (p : Procedure). Each (StatementResolves t p) (statements_of p.body)) ps
+      → EachRoutine (RoutineComplete (map numbered_routine (meaning_of t).routines) (length t.globals))
+      (map numbered_routine (map (routine_of t) ps))
   routines_complete [] h = tt
   routines_complete (p ∷ ps) h = (
-    block_numbered (meaning_of t).routines (length t.globals) (routine_of t p) (resolve_block (scope_of t p) p.body) 1 (block_complete t p p.body h.0),
+    block_numbered (meaning_of t).routines (length t.globals) (routine_of t p) (resolve_block (scope_of t p) p.body) 1
+        (block_complete t p p.body h.0),
     routines_complete ps h.1,
   )
 
-  start_there : (o : Option Procedure) → IsThere o (λ r. length r.formals ≡ 0) → AtRoutine (option_map numbered_routine (option_map (routine_of t) o)) (λ r. Unit {0})
+  start_there : (o : Option Procedure) → IsThere o (λ r. length r.formals ≡ 0)
+      → AtRoutine (option_map numbered_routine (option_map (routine_of t) o)) (λ r. Unit {0})
   start_there None h = h
   start_there (Some r) h = tt
 
-  threads_there : (lines : List ThreadLine) → Each (λ (line : ThreadLine). IsThere (slice_get t.procedures (number_of line.name.text (names t.procedures))) (λ r. length r.formals ≡ 0)) lines → EachThread (map numbered_routine (meaning_of t).routines) (map (λ (line : ThreadLine). number_of line.name.text (names t.procedures)) lines)
+  threads_there : (lines : List ThreadLine) → Each
+      (λ (line : ThreadLine). IsThere (slice_get t.procedures (number_of line.name.text (names t.procedures)))
+      (λ r. length r.formals ≡ 0)) lines → EachThread (map numbered_routine (meaning_of t).routines)
+      (map (λ (line : ThreadLine). number_of line.name.text (names t.procedures)) lines)
   threads_there [] h = tt
   threads_there (line ∷ lines) h =
       let k : ℕ = number_of line.name.text (names t.procedures) in (
         subst (λ o. AtRoutine o (λ r. Unit {0})) (sym (slice_get-map numbered_routine (map (routine_of t) t.procedures) k))
-            (subst (λ o. AtRoutine (option_map numbered_routine o) (λ r. Unit {0})) (sym (slice_get-map (routine_of t) t.procedures k)) (start_there (slice_get t.procedures k) h.0)),
+            (subst (λ o. AtRoutine (option_map numbered_routine o) (λ r. Unit {0})) (sym (slice_get-map (routine_of t) t.procedures k))
+            (start_there (slice_get t.procedures k) h.0)),
         threads_there lines h.1,
       )
 

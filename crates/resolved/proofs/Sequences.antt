@@ -1,5 +1,6 @@
 -- The procedures of a tree as a sequential program: one for each, as wide, and each call has a place for each argument.
-use Rattle.std.proofs.Common.{◌≡◌, ℕ, zero, suc, ◌+◌, ◌≤◌, List, [], ◌∷◌, ◌++◌, length, map, Option, Some, None, slice_get, option_map, inl, inr, refl, sym, ◌∙◌, ap, subst}
+use Rattle.std.proofs.Common.{◌≡◌, ℕ, zero, suc, ◌+◌, ◌≤◌, List, [], ◌∷◌, ◌++◌, length, map, Option, Some, None}
+use Rattle.std.proofs.Common.{slice_get, option_map, inl, inr, refl, sym, ◌∙◌, ap, subst}
 use Rattle.std.proofs.lemmas.List.{length-map}
 use Rattle.std.proofs.lemmas.Option.{none-some, same_Some}
 use Rattle.language.specs.Tree.{RightSide, Simple, call, done, one, choose, loop, Procedure, Tree}
@@ -63,8 +64,10 @@ complete_fit p complete q s m es t rest = at (slice_get p.routines q) refl rest
     at : (o : Option Routine) → slice_get p.routines q ≡ o → IsRestOf (body_of o) (one m (call s es) t) → Fits
     at None e rest = absurd (member done rest)
     at (Some routine) e rest =
-        let whole : RoutineComplete p.routines p.globals routine = each_at (RoutineComplete p.routines p.globals) p.routines q routine complete.routines e in
-        let here = heads (SimpleComplete p.routines p.globals routine) (SideInScope p.globals routine.places) routine.body done (one m (call s es) t) whole (member routine.body rest) in
+        let whole : RoutineComplete p.routines p.globals routine = each_at
+        (RoutineComplete p.routines p.globals) p.routines q routine complete.routines e in
+        let here = heads (SimpleComplete p.routines p.globals routine) (SideInScope p.globals routine.places) routine.body done
+        (one m (call s es) t) whole (member routine.body rest) in
         here.scope.callee
 
 pub resolving_fit : (t : Tree) → Resolves t → ArgumentsFit (sequential_of t)
@@ -83,19 +86,23 @@ routines_counted t =
     length-map (map (routine_of t) t.procedures) numbered_routine ∙ length-map t.procedures (routine_of t)
 
 -- the one of a number is that of the procedure of this number
-pub routine_at : (t : Tree) (q : ℕ) (p : Procedure) → slice_get t.procedures q ≡ Some p → slice_get (sequential_of t).routines q ≡ Some (sequential_routine t p)
+pub routine_at : (t : Tree) (q : ℕ) (p : Procedure) → slice_get t.procedures q ≡ Some p
+    → slice_get (sequential_of t).routines q ≡ Some (sequential_routine t p)
 routine_at t q p e = go t.procedures q e
   where
-    go : (ps : List Procedure) (q : ℕ) → slice_get ps q ≡ Some p → slice_get (map numbered_routine (map (routine_of t) ps)) q ≡ Some (sequential_routine t p)
+    go : (ps : List Procedure) (q : ℕ) → slice_get ps q ≡ Some p
+        → slice_get (map numbered_routine (map (routine_of t) ps)) q ≡ Some (sequential_routine t p)
     go [] q e = absurd (none-some p e)
     go (x ∷ ps) zero e = ap (option_map (sequential_routine t)) e
     go (x ∷ ps) (suc q) e = go ps q e
 
 -- where a procedure is, there is the one of its number
-pub procedure_at : (t : Tree) (q : ℕ) (r : Routine) → slice_get (sequential_of t).routines q ≡ Some r → (p : Procedure) × (slice_get t.procedures q ≡ Some p) × (r ≡ sequential_routine t p)
+pub procedure_at : (t : Tree) (q : ℕ) (r : Routine) → slice_get (sequential_of t).routines q ≡ Some r
+    → (p : Procedure) × (slice_get t.procedures q ≡ Some p) × (r ≡ sequential_routine t p)
 procedure_at t q r e = go t.procedures q e
   where
-    go : (ps : List Procedure) (q : ℕ) → slice_get (map numbered_routine (map (routine_of t) ps)) q ≡ Some r → (p : Procedure) × (slice_get ps q ≡ Some p) × (r ≡ sequential_routine t p)
+    go : (ps : List Procedure) (q : ℕ) → slice_get (map numbered_routine (map (routine_of t) ps)) q ≡ Some r
+        → (p : Procedure) × (slice_get ps q ≡ Some p) × (r ≡ sequential_routine t p)
     go [] q e = absurd (none-some r e)
     go (x ∷ ps) zero e = (x, refl, sym (same_Some (sequential_routine t x) r e))
     go (x ∷ ps) (suc q) e = go ps q e

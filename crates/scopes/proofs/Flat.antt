@@ -1,5 +1,6 @@
 -- The statements of a block, one statement after the other.
-use Rattle.std.proofs.Common.{◌≡◌, ℕ, ◌+◌, ◌<◌, ◌≤◌, List, [], ◌∷◌, ◌++◌, length, map, drop, get_or, refl, sym, ◌∙◌, ap, append_assoc, append-nil}
+use Rattle.std.proofs.Common.{◌≡◌, ℕ, ◌+◌, ◌<◌, ◌≤◌, List, [], ◌∷◌, ◌++◌, length, map, drop, get_or, refl, sym, ◌∙◌, ap}
+use Rattle.std.proofs.Common.{append_assoc, append-nil}
 use Rattle.std.proofs.lemmas.List.{drop_more, drop_all}
 use Rattle.language.specs.Tree.{Name, Mark, Block}
 use Rattle.trees.specs.Trees.{Deed, simple, branch, repeat, Item, item_of, marked_before, block_of, deed_of, proc_of, procs_of}
@@ -9,12 +10,18 @@ use Rattle.resolved.specs.Statements.{Statement, statement_of, statements_of, st
 use Rattle.trees.specs.Parts.{head_of}
 use Rattle.trees.proofs.Folds.{item_is}
 
-put : (m : Mark Name) (d : Deed) (k : Block Name Name Name) → statements_of (marked_before m d k) ≡ record { mark = m; head = head_of d } ∷ (inside d ++ statements_of k)
+put : (m : Mark Name) (d : Deed) (k : Block Name Name Name)
+    → statements_of (marked_before m d k) ≡ record { mark = m; head = head_of d } ∷ (inside d ++ statements_of k)
 put m (simple s) k = refl
-put m (branch r a b) k = ap (λ (l : List Statement). record { mark = m; head = head_of (branch r a b) } ∷ l) (sym (append_assoc (statements_of a) (statements_of b) (statements_of k)))
-put m (repeat r a) k = ap (λ (l : List Statement). record { mark = m; head = head_of (repeat r a) } ∷ l) (sym (append_assoc (statements_of a) [] (statements_of k)))
+put m (branch r a b) k =
+    ap (λ (l : List Statement). record { mark = m; head = head_of (branch r a b) } ∷ l)
+    (sym (append_assoc (statements_of a) (statements_of b) (statements_of k)))
+put m (repeat r a) k =
+    ap (λ (l : List Statement). record { mark = m; head = head_of (repeat r a) } ∷ l)
+    (sym (append_assoc (statements_of a) [] (statements_of k)))
 
-pub first : {A : Type 0} (s : Stmt A) (k : List (Stmt A)) → statements_of (block_of (s ∷ k)) ≡ (statement_of s ∷ inside (deed_of s.core)) ++ statements_of (block_of k)
+pub first : {A : Type 0} (s : Stmt A) (k : List (Stmt A))
+    → statements_of (block_of (s ∷ k)) ≡ (statement_of s ∷ inside (deed_of s.core)) ++ statements_of (block_of k)
 first s k =
     put (item_of s).mark (item_of s).deed (block_of k)
     ∙ ap (λ (i : Item). statement_of s ∷ (inside i.deed ++ statements_of (block_of k))) (item_is s)
@@ -28,24 +35,29 @@ one_more {A} l i s old new w lt is h e =
     ap (λ (x : List Statement). x ++ statements_of (block_of (drop (i + 1) l))) e
     ∙ append_assoc old (statement_of s ∷ inside (deed_of s.core)) (statements_of (block_of (drop (i + 1) l)))
     ∙ ap (λ (x : List Statement). old ++ x) (sym (first s (drop (i + 1) l)))
-    ∙ ap (λ (x : List (Stmt A)). old ++ statements_of (block_of x)) (sym (drop_more l i s lt ∙ ap (λ (y : Stmt A). y ∷ drop (i + 1) l) (sym is)))
+    ∙ ap (λ (x : List (Stmt A)). old ++ statements_of (block_of x))
+    (sym (drop_more l i s lt ∙ ap (λ (y : Stmt A). y ∷ drop (i + 1) l) (sym is)))
     ∙ h
 
-pub no_more : {A : Type 0} (l : List (Stmt A)) (i : ℕ) (old w : List Statement) → length l ≤ i → old ++ statements_of (block_of (drop i l)) ≡ w → old ≡ w
+pub no_more : {A : Type 0} (l : List (Stmt A)) (i : ℕ) (old w : List Statement) → length l ≤ i
+    → old ++ statements_of (block_of (drop i l)) ≡ w → old ≡ w
 no_more {A} l i old w le h =
     sym (append-nil old) ∙ ap (λ (x : List (Stmt A)). old ++ statements_of (block_of x)) (sym (drop_all i l le)) ∙ h
 
 -- what stands behind others in the end: the statement, and behind it its two blocks
-pub after_two : (into pushed one two : List Statement) (s : Statement) (i a b : List Statement) → pushed ≡ into ++ (s ∷ []) → one ≡ pushed ++ a → two ≡ one ++ b → i ≡ a ++ b → two ≡ into ++ (s ∷ i)
+pub after_two : (into pushed one two : List Statement) (s : Statement) (i a b : List Statement) → pushed ≡ into ++ (s ∷ [])
+    → one ≡ pushed ++ a → two ≡ one ++ b → i ≡ a ++ b → two ≡ into ++ (s ∷ i)
 after_two into pushed one two s i a b e f h k =
-    h ∙ ap (λ (x : List Statement). x ++ b) f ∙ ap (λ (x : List Statement). (x ++ a) ++ b) e ∙ again ∙ ap (λ (x : List Statement). into ++ (s ∷ x)) (sym k)
+    h ∙ ap (λ (x : List Statement). x ++ b) f ∙ ap (λ (x : List Statement). (x ++ a) ++ b) e ∙ again
+    ∙ ap (λ (x : List Statement). into ++ (s ∷ x)) (sym k)
   where
     again : ((into ++ (s ∷ [])) ++ a) ++ b ≡ into ++ (s ∷ (a ++ b))
     again = ap (λ (x : List Statement). x ++ b) (append_assoc into (s ∷ []) a) ∙ append_assoc into (s ∷ a) b
 
 -- three lists of names, put one behind the other
 pub gathered : {X : Type 0} {Y : Type 0} (h : X → Y) (n f o k : List Y) (d1 d2 d3 x1 x2 x3 : List X)
-    → k ≡ o ++ map h d3 → o ≡ f ++ map h d2 → f ≡ n ++ map h d1 → n ≡ [] → d1 ≡ x1 → d2 ≡ x2 → d3 ≡ x3 → (map h x1 ++ map h x2) ++ map h x3 ≡ k
+    → k ≡ o ++ map h d3 → o ≡ f ++ map h d2 → f ≡ n ++ map h d1 → n ≡ [] → d1 ≡ x1 → d2 ≡ x2 → d3 ≡ x3 →
+    (map h x1 ++ map h x2) ++ map h x3 ≡ k
 gathered {X} {Y} h n f o k d1 d2 d3 x1 x2 x3 a b c e p q r =
     sym (a ∙ ap (λ (l : List Y). l ++ map h d3) (b ∙ ap (λ (l : List Y). l ++ map h d2) (c ∙ ap (λ (l : List Y). l ++ map h d1) e))
     ∙ ap (λ (l : List X). (map h l ++ map h d2) ++ map h d3) p ∙ ap (λ (l : List X). (map h x1 ++ map h l) ++ map h d3) q
@@ -59,5 +71,6 @@ pub one_procedure : {A : Type 0} (l : List (Proc A)) (i : ℕ) (p : Proc A) (old
 one_procedure {A} l i p old new w lt is h e =
     ap (λ (x : List Statement). x ++ statements_of_all (procs_of (drop (i + 1) l))) e
     ∙ append_assoc old (statements_of (proc_of p).body) (statements_of_all (procs_of (drop (i + 1) l)))
-    ∙ ap (λ (x : List (Proc A)). old ++ statements_of_all (procs_of x)) (sym (drop_more l i p lt ∙ ap (λ (y : Proc A). y ∷ drop (i + 1) l) (sym is)))
+    ∙ ap (λ (x : List (Proc A)). old ++ statements_of_all (procs_of x))
+    (sym (drop_more l i p lt ∙ ap (λ (y : Proc A). y ∷ drop (i + 1) l) (sym is)))
     ∙ h

@@ -1,20 +1,25 @@
 -- A checked tree has what the rewriting asks.
-use Rattle.std.proofs.Common.{◌≡◌, ℕ, suc, ◌+◌, Bool, true, false, cond, ◌&&◌, ◌||◌, nat_eq, List, [], ◌∷◌, ◌++◌, length, get_or, Option, Some, None, inl, inr, refl, sym, ◌∙◌, subst, arith, length-append}
+use Rattle.std.proofs.Common.{◌≡◌, ℕ, suc, ◌+◌, Bool, true, false, cond, ◌&&◌, ◌||◌, nat_eq, List, [], ◌∷◌, ◌++◌}
+use Rattle.std.proofs.Common.{length, get_or, Option, Some, None, inl, inr, refl, sym, ◌∙◌, subst, arith, length-append}
 use Rattle.std.specs.Prelude.{slice_get, IfSome}
 use Rattle.std.proofs.lemmas.Option.{IfSome_then}
 use Rattle.std.proofs.lemmas.Bool.{eqb-true}
-use Rattle.language.specs.Tree.{Name, Expression, const, var, negation, two, RightSide, any, value, Simple, Block, done, one, choose, loop, Procedure, ThreadLine, Tree}
+use Rattle.language.specs.Tree.{Name, Expression, const, var, negation, two, RightSide, any, value, Simple, Block, done}
+use Rattle.language.specs.Tree.{one, choose, loop, Procedure, ThreadLine, Tree}
 use Rattle.language.specs.Rest.{same_text}
 use Rattle.language.specs.Resolve.{number_of, is_declared, Scope, scope_of}
 use Rattle.scopes.specs.Find.{AnyOf}
 use Rattle.language.specs.Parts.{plain, targets_of, sides_of, test_of, arguments_of, callee_of}
-use Rattle.resolved.specs.Statements.{Statement, statements_of, used_by, variables_of, variables_of_side, variables_of_sides, variables_of_test, variables_of_all}
+use Rattle.resolved.specs.Statements.{Statement, statements_of, used_by, variables_of, variables_of_side}
+use Rattle.resolved.specs.Statements.{variables_of_sides, variables_of_test, variables_of_all}
 use Rattle.scopes.specs.Faults.{named, known, HasTwoUnderscores, IsReserved, Repeated}
 use Rattle.resolved.specs.There.{names, IsThere}
 use Rattle.scopes.specs.declared.fault.ScopeFault.TheVariants as fault
 use Rattle.scopes.specs.Checked.{IsChecked}
 use Rattle.resolved.specs.Resolves.{Each}
-use Rattle.scopes.specs.Rewritable.{begins_low, has_double, AreFree, AreDistinct, Declared, AllDeclared, ExpressionDeclared, ExpressionsDeclared, SideDeclared, SidesDeclared, HasRoom, SimpleDeclared, BlockDeclared, ProcedureRewritable, EachLine, IsRewritable}
+use Rattle.scopes.specs.Rewritable.{begins_low, has_double, AreFree, AreDistinct, Declared, AllDeclared}
+use Rattle.scopes.specs.Rewritable.{ExpressionDeclared, ExpressionsDeclared, SideDeclared, SidesDeclared, HasRoom}
+use Rattle.scopes.specs.Rewritable.{SimpleDeclared, BlockDeclared, ProcedureRewritable, EachLine, IsRewritable}
 use Rattle.resolved.specs.Narrow.{EachProcedure}
 use Rattle.scopes.proofs.Works.{each_of, in_either, named_is, named_declared, Called, Works, IsGood, good, threads_start}
 use Rattle.resolved.proofs.Each.{each_left, each_right}
@@ -30,7 +35,8 @@ double_there : (x : List ℕ) → has_double x ≡ true → HasTwoUnderscores x
 double_there [] h = absurd (cc)
 double_there (c ∷ x) h = go (nat_eq c 95) (begins_low x) (has_double x) refl refl refl h (λ g. one_on c x (double_there x g))
   where
-    go : (a b d : Bool) → nat_eq c 95 ≡ a → begins_low x ≡ b → has_double x ≡ d → ((a && b) || d) ≡ true → (has_double x ≡ true → HasTwoUnderscores (c ∷ x)) → HasTwoUnderscores (c ∷ x)
+    go : (a b d : Bool) → nat_eq c 95 ≡ a → begins_low x ≡ b → has_double x ≡ d → ((a && b) || d) ≡ true
+        → (has_double x ≡ true → HasTwoUnderscores (c ∷ x)) → HasTwoUnderscores (c ∷ x)
     go true true d e f g h later = (0, eqb-true c 95 e, low_first x f)
     go true false true e f g h later = later g
     go true false false e f g h later = absurd (cc)
@@ -48,7 +54,8 @@ free : (xs : List Name) → ((n : ℕ) → IsReserved xs n → ⊥) → AreFree 
 free [] h = tt
 free (x ∷ xs) h = (not_double x.text (λ d. h x.at (inl (refl, d))), free xs (λ n q. h n (inr q)))
 
-copy_there : (x : List ℕ) (ys : List Name) → is_declared x ys ≡ true → (n : ℕ) × AnyOf (λ (y : Name). (y.at ≡ n) × (same_text x y.text ≡ true)) ys
+copy_there : (x : List ℕ) (ys : List Name) → is_declared x ys ≡ true
+    → (n : ℕ) × AnyOf (λ (y : Name). (y.at ≡ n) × (same_text x y.text ≡ true)) ys
 copy_there x [] h = absurd (cc)
 copy_there x (y ∷ ys) h = go (same_text x y.text) refl h (copy_there x ys)
   where
@@ -78,11 +85,19 @@ expression_declared : (s : Scope) (e : Expression Name) → Each (Declared s) (v
 expression_declared s (const b) h = tt
 expression_declared s (var x) h = h.0
 expression_declared s (negation e) h = expression_declared s e h
-expression_declared s (two o a b) h = (expression_declared s a (each_left (Declared s) (variables_of a) (variables_of b) h), expression_declared s b (each_right (Declared s) (variables_of a) (variables_of b) h))
+expression_declared s (two o a b) h = (
+  expression_declared s a (each_left (Declared s) (variables_of a) (variables_of b) h),
+  expression_declared s b
+      (each_right (Declared s) (variables_of a) (variables_of b) h),
+)
 
 expressions_declared : (s : Scope) (es : List (Expression Name)) → Each (Declared s) (variables_of_all es) → ExpressionsDeclared s es
 expressions_declared s [] h = tt
-expressions_declared s (e ∷ es) h = (expression_declared s e (each_left (Declared s) (variables_of e) (variables_of_all es) h), expressions_declared s es (each_right (Declared s) (variables_of e) (variables_of_all es) h))
+expressions_declared s (e ∷ es) h = (
+  expression_declared s e (each_left (Declared s) (variables_of e) (variables_of_all es) h),
+  expressions_declared s es
+      (each_right (Declared s) (variables_of e) (variables_of_all es) h),
+)
 
 side_declared : (s : Scope) (r : RightSide Name) → Each (Declared s) (variables_of_side r) → SideDeclared s r
 side_declared s any h = tt
@@ -90,17 +105,23 @@ side_declared s (value e) h = expression_declared s e h
 
 sides_declared : (s : Scope) (rs : List (RightSide Name)) → Each (Declared s) (variables_of_sides rs) → SidesDeclared s rs
 sides_declared s [] h = tt
-sides_declared s (r ∷ rs) h = (side_declared s r (each_left (Declared s) (variables_of_side r) (variables_of_sides rs) h), sides_declared s rs (each_right (Declared s) (variables_of_side r) (variables_of_sides rs) h))
+sides_declared s (r ∷ rs) h = (
+  side_declared s r (each_left (Declared s) (variables_of_side r) (variables_of_sides rs) h),
+  sides_declared s rs
+      (each_right (Declared s) (variables_of_side r) (variables_of_sides rs) h),
+)
 
 room : (o : Option Procedure) (m : ℕ) → IsThere o (λ r. length r.formals ≡ m) → HasRoom o m
 room None m h = h
-room (Some r) m h = let e : length (r.formals ++ r.locals) ≡ length r.formals + length r.locals = length-append r.formals r.locals in omega arith
+room (Some r) m h =
+    let e : length (r.formals ++ r.locals) ≡ length r.formals + length r.locals = length-append r.formals r.locals in omega arith
 
 test_declared : (s : Scope) (o : Option (RightSide Name)) → Each (Declared s) (variables_of_test o) → IfSome o (SideDeclared s)
 test_declared s None h = tt
 test_declared s (Some r) h = side_declared s r h
 
-simple_declared : (t : Tree) (s : Scope) (c : Simple Name Name Name) → s.procedures ≡ names t.procedures → Each (Declared s) (used_by (plain c)) → Called t.procedures (plain c) → SimpleDeclared t s c
+simple_declared : (t : Tree) (s : Scope) (c : Simple Name Name Name) → s.procedures ≡ names t.procedures
+    → Each (Declared s) (used_by (plain c)) → Called t.procedures (plain c) → SimpleDeclared t s c
 simple_declared t s c e h k =
     let xs = targets_of (plain c) in
     let rs = sides_of (plain c) in
@@ -120,25 +141,33 @@ simple_declared t s c e h k =
           ));
     }
 
-block_declared : (t : Tree) (p : Procedure) (b : Block Name Name Name) → Each (λ (s : Statement). Works t p s.head) (statements_of b) → BlockDeclared t (scope_of t p) b
+block_declared : (t : Tree) (p : Procedure) (b : Block Name Name Name) → Each (λ (s : Statement). Works t p s.head) (statements_of b)
+    → BlockDeclared t (scope_of t p) b
 block_declared t p done h = tt
 block_declared t p (one m c k) h = (
   simple_declared t (scope_of t p) c refl (each_of (used_by (plain c)) (λ x q. declared_there t p x q) h.0.variables) h.0.called,
   block_declared t p k h.1,
 )
 block_declared t p (choose m r a b k) h = (
-  side_declared (scope_of t p) r (each_of (variables_of_side r) (λ x q. declared_there t p x q) (each_left _ (variables_of_side r) [] h.0.variables)),
+  side_declared (scope_of t p) r
+      (each_of (variables_of_side r) (λ x q. declared_there t p x q) (each_left _ (variables_of_side r) [] h.0.variables)),
   block_declared t p a (each_left (λ (s : Statement). Works t p s.head) (statements_of a) (statements_of b ++ statements_of k) h.1),
-  block_declared t p b (each_left (λ (s : Statement). Works t p s.head) (statements_of b) (statements_of k) (each_right (λ (s : Statement). Works t p s.head) (statements_of a) (statements_of b ++ statements_of k) h.1)),
-  block_declared t p k (each_right (λ (s : Statement). Works t p s.head) (statements_of b) (statements_of k) (each_right (λ (s : Statement). Works t p s.head) (statements_of a) (statements_of b ++ statements_of k) h.1)),
+  block_declared t p b
+      (each_left (λ (s : Statement). Works t p s.head) (statements_of b) (statements_of k)
+      (each_right (λ (s : Statement). Works t p s.head) (statements_of a) (statements_of b ++ statements_of k) h.1)),
+  block_declared t p k
+      (each_right (λ (s : Statement). Works t p s.head) (statements_of b) (statements_of k)
+      (each_right (λ (s : Statement). Works t p s.head) (statements_of a) (statements_of b ++ statements_of k) h.1)),
 )
 block_declared t p (loop m r a k) h = (
-  side_declared (scope_of t p) r (each_of (variables_of_side r) (λ x q. declared_there t p x q) (each_left _ (variables_of_side r) [] h.0.variables)),
+  side_declared (scope_of t p) r
+      (each_of (variables_of_side r) (λ x q. declared_there t p x q) (each_left _ (variables_of_side r) [] h.0.variables)),
   block_declared t p a (each_left (λ (s : Statement). Works t p s.head) (statements_of a) (statements_of k) h.1),
   block_declared t p k (each_right (λ (s : Statement). Works t p s.head) (statements_of a) (statements_of k) h.1),
 )
 
-procedures_rewritable : (t : Tree) (ps : List Procedure) → AreFree (names ps) → Each (IsGood t) ps → EachProcedure (ProcedureRewritable t) ps
+procedures_rewritable : (t : Tree) (ps : List Procedure) → AreFree (names ps) → Each (IsGood t) ps
+    → EachProcedure (ProcedureRewritable t) ps
 procedures_rewritable t [] f h = tt
 procedures_rewritable t (p ∷ ps) f h = (
   record {
@@ -149,7 +178,9 @@ procedures_rewritable t (p ∷ ps) f h = (
   procedures_rewritable t ps f.1 h.1,
 )
 
-lines_named : (ps : List Procedure) (lines : List ThreadLine) → Each (λ (line : ThreadLine). (named line.name.text ps ≡ None → ⊥) × IsThere (named line.name.text ps) (λ r. length r.formals ≡ 0)) lines → EachLine (names ps) lines
+lines_named : (ps : List Procedure) (lines : List ThreadLine)
+    → Each (λ (line : ThreadLine). (named line.name.text ps ≡ None → ⊥) × IsThere (named line.name.text ps)
+    (λ r. length r.formals ≡ 0)) lines → EachLine (names ps) lines
 lines_named ps [] h = tt
 lines_named ps (line ∷ lines) h = (named_declared line.name.text ps h.0.0, lines_named ps lines h.1)
 

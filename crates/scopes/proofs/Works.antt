@@ -1,5 +1,6 @@
 -- What a checked tree's statements and names are: each fact, where the fault that denies it stands nowhere.
-use Rattle.std.proofs.Common.{◌≡◌, ◌≢◌, ℕ, suc, Bool, true, false, cond, List, [], ◌∷◌, ◌++◌, length, Option, Some, None, ◌⊎◌, inl, inr, refl}
+use Rattle.std.proofs.Common.{◌≡◌, ◌≢◌, ℕ, suc, Bool, true, false, cond, List, [], ◌∷◌, ◌++◌, length, Option, Some}
+use Rattle.std.proofs.Common.{None, ◌⊎◌, inl, inr, refl}
 use Rattle.std.specs.Prelude.{slice_get, IfSome}
 use Rattle.std.proofs.lemmas.Bool.{eqb-true}
 use Rattle.std.proofs.lemmas.Bool.Decides.{eqb_tells}
@@ -9,7 +10,8 @@ use Rattle.language.specs.Rest.{same_text}
 use Rattle.language.specs.Resolve.{number_of, is_declared}
 use Rattle.scopes.specs.Find.{AnyOf}
 use Rattle.resolved.specs.Statements.{Statement, statements_of, used_by, labels_of}
-use Rattle.scopes.specs.Faults.{named, IsUnknown, known, IsUndeclaredIn, first_at, Miscounts, GoesNowhere, MislabelledIn, ReservedIn, CanStart}
+use Rattle.scopes.specs.Faults.{named, IsUnknown, known, IsUndeclaredIn, first_at, Miscounts, GoesNowhere}
+use Rattle.scopes.specs.Faults.{MislabelledIn, ReservedIn, CanStart}
 use Rattle.resolved.specs.There.{names, IsThere}
 use Rattle.scopes.specs.declared.fault.ScopeFault.TheVariants as fault
 use Rattle.scopes.specs.Checked.{IsChecked}
@@ -20,7 +22,8 @@ each_of [] f h = tt
 each_of (x ∷ xs) f h = (f x h.0, each_of xs f h.1)
 
 -- what stands at no offset in a list stands at none in its members
-pub nowhere_in : {X : Type 0} (P : X → ℕ → Type 0) (xs : List X) → ((n : ℕ) → AnyOf (λ x. P x n) xs → ⊥) → Each (λ x. (n : ℕ) → P x n → ⊥) xs
+pub nowhere_in : {X : Type 0} (P : X → ℕ → Type 0) (xs : List X) → ((n : ℕ) → AnyOf (λ x. P x n) xs → ⊥)
+    → Each (λ x. (n : ℕ) → P x n → ⊥) xs
 nowhere_in P [] h = tt
 nowhere_in P (x ∷ xs) h = ((λ n p. h n (inl p)), nowhere_in P xs (λ n q. h n (inr q)))
 
@@ -29,7 +32,9 @@ pub in_either : (x : List ℕ) (xs ys : List Name) → is_declared x (xs ++ ys) 
 in_either x [] ys h = inr h
 in_either x (n ∷ ns) ys h = go (same_text x n.text) h (in_either x ns ys)
   where
-    go : (b : Bool) → cond b true (is_declared x (ns ++ ys)) ≡ true → (is_declared x (ns ++ ys) ≡ true → (is_declared x ns ≡ true) ⊎ (is_declared x ys ≡ true)) → (cond b true (is_declared x ns) ≡ true) ⊎ (is_declared x ys ≡ true)
+    go : (b : Bool) → cond b true (is_declared x (ns ++ ys)) ≡ true
+        → (is_declared x (ns ++ ys) ≡ true → (is_declared x ns ≡ true) ⊎ (is_declared x ys ≡ true))
+        → (cond b true (is_declared x ns) ≡ true) ⊎ (is_declared x ys ≡ true)
     go true h f = inl refl
     go false h f = f h
 
@@ -48,7 +53,8 @@ pub named_is : (x : List ℕ) (ps : List Procedure) → named x ps ≡ slice_get
 named_is x [] = refl
 named_is x (p ∷ ps) = go (same_text x p.name.text) (named_is x ps)
   where
-    go : (b : Bool) → named x ps ≡ slice_get ps (number_of x (names ps)) → cond b (Some p) (named x ps) ≡ slice_get (p ∷ ps) (cond b 0 (suc (number_of x (names ps))))
+    go : (b : Bool) → named x ps ≡ slice_get ps (number_of x (names ps))
+        → cond b (Some p) (named x ps) ≡ slice_get (p ∷ ps) (cond b 0 (suc (number_of x (names ps))))
     go true h = refl
     go false h = h
 
@@ -56,19 +62,23 @@ pub named_declared : (x : List ℕ) (ps : List Procedure) → (named x ps ≡ No
 named_declared x [] h = absurd (h refl)
 named_declared x (p ∷ ps) h = go (same_text x p.name.text) h (named_declared x ps)
   where
-    go : (b : Bool) → (cond b (Some p) (named x ps) ≡ None → ⊥) → ((named x ps ≡ None → ⊥) → is_declared x (names ps) ≡ true) → cond b true (is_declared x (names ps)) ≡ true
+    go : (b : Bool) → (cond b (Some p) (named x ps) ≡ None → ⊥) → ((named x ps ≡ None → ⊥) → is_declared x (names ps) ≡ true)
+        → cond b true (is_declared x (names ps)) ≡ true
     go true h f = refl
     go false h f = f h
 
 -- the procedure that a call names is there, with as many formals as there are arguments
 abbrev pub Called : List Procedure → Head Name Name Name → Type 0
-Called ps h = IfSome (callee_of h) (λ q. (named q.text ps ≡ None → ⊥) × IsThere (named q.text ps) (λ r. length r.formals ≡ length (arguments_of h)))
+Called ps h =
+    IfSome (callee_of h) (λ q. (named q.text ps ≡ None → ⊥) × IsThere (named q.text ps) (λ r. length r.formals ≡ length (arguments_of h)))
 
-counted : (o : Option Procedure) (m : ℕ) → (o ≡ None → ⊥) → (IsThere o (λ r. length r.formals ≢ m) → ⊥) → IsThere o (λ r. length r.formals ≡ m)
+counted : (o : Option Procedure) (m : ℕ) → (o ≡ None → ⊥) → (IsThere o (λ r. length r.formals ≢ m) → ⊥)
+    → IsThere o (λ r. length r.formals ≡ m)
 counted None m a b = absurd (a refl)
 counted (Some r) m a b = settled (length r.formals) m b
 
-pub called : (vs : List Name) (ps : List Procedure) (s : Statement) → ((n : ℕ) → IsUndeclaredIn vs ps s n → ⊥) → ((n : ℕ) → Miscounts ps n s → ⊥) → Called ps s.head
+pub called : (vs : List Name) (ps : List Procedure) (s : Statement) → ((n : ℕ) → IsUndeclaredIn vs ps s n → ⊥)
+    → ((n : ℕ) → Miscounts ps n s → ⊥) → Called ps s.head
 called vs ps s u c = go (callee_of s.head) (λ n h. u n (inr h)) (λ n h. c n (inr h))
   where
     go : (o : Option Name)
@@ -83,7 +93,8 @@ called vs ps s u c = go (callee_of s.head) (λ n h. u n (inr h)) (λ n h. c n (i
 
 -- an assignment that is counted right has as many right sides as targets
 sided : (ps : List Procedure) (s : Statement) → ((n : ℕ) → Miscounts ps n s → ⊥) → HasAllSides s.head
-sided ps s c is = settled (length (targets_of s.head)) (length (sides_of s.head)) (λ k. c (first_at s.mark.at (targets_of s.head)) (inl (is, refl, k)))
+sided ps s c is =
+    settled (length (targets_of s.head)) (length (sides_of s.head)) (λ k. c (first_at s.mark.at (targets_of s.head)) (inl (is, refl, k)))
 
 -- the label of a goto is one of these
 abbrev pub Labelled : List Name → Head Name Name Name → Type 0
@@ -116,7 +127,9 @@ all_work : (t : Tree) (p : Procedure) (ss : List Statement)
 all_work t p [] u c g = tt
 all_work t p (s ∷ ss) u c g = (
   record {
-    variables = each_of (used_by s.head) (λ x h. is_known (known t p) x h) (nowhere_in (λ x n. IsUnknown (known t p) n x) (used_by s.head) (λ n h. u n (inl (inl h))));
+    variables =
+        each_of (used_by s.head) (λ x h. is_known (known t p) x h)
+        (nowhere_in (λ x n. IsUnknown (known t p) n x) (used_by s.head) (λ n h. u n (inl (inl h))));
     called = called (known t p) t.procedures s (λ n h. u n (inl h)) (λ n h. c n (inl h));
     sides = sided t.procedures s (λ n h. c n (inl h));
     labelled = labelled (labels_of (statements_of p.body)) s.head (λ n h. g n (inl h));
@@ -141,7 +154,8 @@ all_good t (p ∷ ps) u c g r = (
 
 pub good : (t : Tree) → IsChecked t → Each (IsGood t) t.procedures
 good t ok =
-    all_good t t.procedures (λ n. ok (fault.Undeclared n)) (λ n. ok (fault.WrongCount n)) (λ n. ok (fault.BadLabel n)) (λ n h. ok (fault.Reserved n) (inr (inr h)))
+    all_good t t.procedures (λ n. ok (fault.Undeclared n)) (λ n. ok (fault.WrongCount n)) (λ n. ok (fault.BadLabel n))
+    (λ n h. ok (fault.Reserved n) (inr (inr h)))
 
 -- the thread line names a procedure that is there, with no formals
 abbrev pub Starts : List Procedure → ThreadLine → Type 0
@@ -154,4 +168,5 @@ starts (Some r) h = ((λ e. cc), settled (length r.formals) 0 (λ k. h (λ e. k 
 pub threads_start : (t : Tree) → IsChecked t → Each (Starts t.procedures) t.threads
 threads_start t ok =
     each_of t.threads (λ line h. starts (named line.name.text t.procedures) (λ k. h line.name.at (refl, k)))
-    (nowhere_in (λ (line : ThreadLine) n. (line.name.at ≡ n) × (CanStart (named line.name.text t.procedures) → ⊥)) t.threads (λ n. ok (fault.BadThread n)))
+    (nowhere_in (λ (line : ThreadLine) n. (line.name.at ≡ n) × (CanStart (named line.name.text t.procedures) → ⊥)) t.threads
+    (λ n. ok (fault.BadThread n)))

@@ -19,11 +19,13 @@ put m (repeat r a) k =
     let e : suc (statements a + statements k) ≡ suc ((statements a + 0) + statements k) = omega arith in e
 
 -- the first statement counts one, and what it holds
-pub first_counts : {A : Type 0} (s : Stmt A) (l : List (Stmt A)) → statements (block_of (s ∷ l)) ≡ suc (held (deed_of s.core) + statements (block_of l))
+pub first_counts : {A : Type 0} (s : Stmt A) (l : List (Stmt A))
+    → statements (block_of (s ∷ l)) ≡ suc (held (deed_of s.core) + statements (block_of l))
 first_counts s l = put (item_of s).mark (item_of s).deed (block_of l) ∙ ap (λ d. suc (held d + statements (block_of l))) (item_deed s)
 
 -- a statement of a list holds fewer than the list
-pub smaller : {A : Type 0} (l : List (Stmt A)) (i : ℕ) (s : Stmt A) → i < length l → s ≡ get_or l i s → held (deed_of s.core) + 1 ≤ statements (block_of l)
+pub smaller : {A : Type 0} (l : List (Stmt A)) (i : ℕ) (s : Stmt A) → i < length l → s ≡ get_or l i s
+    → held (deed_of s.core) + 1 ≤ statements (block_of l)
 smaller [] i s lt is = absurd (omega arith)
 smaller {A} (x ∷ l) zero s lt is =
     let e = first_counts x l in

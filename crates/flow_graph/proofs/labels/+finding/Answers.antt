@@ -38,17 +38,22 @@ find-loop-stmt-preserved g t c s k most =
     let (so_far, same) = c.loop-stmt.invariant s k most in
     let next = next_counts c.args.stmts.now c.loop-stmt.stmt-index stmt c.loop-stmt-test.true c.stmt-item.is in
     let one = c.size_of.ensures (omega (arith, so_far, next, most)) in
-    let j : c.saturating_add-at.result ≡ c.loop-stmt.at + statements (block_of (stmt ∷ [])) = omega (arith, so_far, next, one, most, c.saturating_add-at.ensures) in
-    let here = c.find_at.ensures s (join (numbered c.saturating_add-at.result (resolve_block s (block_of more))) k) (omega (arith, so_far, next, most)) in (
+    let j : c.saturating_add-at.result ≡ c.loop-stmt.at + statements (block_of (stmt ∷ [])) = omega
+    (arith, so_far, next, one, most, c.saturating_add-at.ensures) in
+    let here = c.find_at.ensures s (join (numbered c.saturating_add-at.result (resolve_block s (block_of more))) k)
+    (omega (arith, so_far, next, most)) in (
       omega (arith, so_far, next, j),
       same
-          ∙ place_next x c.loop-stmt.at c.saturating_add-at.result s c.args.stmts.now c.loop-stmt.stmt-index stmt k c.loop-stmt-test.true c.stmt-item.is j
-          ∙ ap (λ o. first_of_two o (place x (numbered c.saturating_add-at.result (resolve_block s (block_of more))) k)) (sym here ∙ c.in_default.is),
+          ∙ place_next x c.loop-stmt.at c.saturating_add-at.result s c.args.stmts.now c.loop-stmt.stmt-index stmt
+          k c.loop-stmt-test.true c.stmt-item.is j
+          ∙ ap (λ o. first_of_two o (place x (numbered c.saturating_add-at.result (resolve_block s (block_of more))) k))
+          (sym here ∙ c.in_default.is),
     )
 
 pub find-returns : goal.find-returns
 find-returns g t c s k most =
-    sym ((c.loop-stmt.invariant s k most).1 ∙ place_nowhere c.args.label.now c.loop-stmt.at s c.args.stmts.now c.loop-stmt.stmt-index k c.loop-stmt-test.false)
+    sym ((c.loop-stmt.invariant s k most).1
+    ∙ place_nowhere c.args.label.now c.loop-stmt.at s c.args.stmts.now c.loop-stmt.stmt-index k c.loop-stmt-test.false)
 
 pub find_at-returns-in-Some : goal.find_at-returns-in-Some
 find_at-returns-in-Some g t c =

@@ -17,10 +17,12 @@ flatten-flatten_one-requires g t c κs within =
 
 pub flatten-loop-stmt-preserved : goal.flatten-loop-stmt-preserved
 flatten-loop-stmt-preserved g t c =
-    one_more c.args.stmts.now c.loop-stmt.stmt-index c.stmt-item.result (lent_statements c.loop-stmt.list.items) (lent_statements c.in_ok-list.list.items) _ (omega arith) c.stmt-item.is c.loop-stmt.invariant c.in_ok-list.ensures
+    one_more c.args.stmts.now c.loop-stmt.stmt-index c.stmt-item.result (lent_statements c.loop-stmt.list.items)
+    (lent_statements c.in_ok-list.list.items) _ (omega arith) c.stmt-item.is c.loop-stmt.invariant c.in_ok-list.ensures
 
 pub flatten-returns : goal.flatten-returns
-flatten-returns g t c = no_more c.args.stmts.now c.loop-stmt.stmt-index (lent_statements c.loop-stmt.list.items) _ (omega arith) c.loop-stmt.invariant
+flatten-returns g t c =
+    no_more c.args.stmts.now c.loop-stmt.stmt-index (lent_statements c.loop-stmt.list.items) _ (omega arith) c.loop-stmt.invariant
 
 pub flatten_one-returns : goal.flatten_one-returns
 flatten_one-returns g t c =
