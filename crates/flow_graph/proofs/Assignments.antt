@@ -1,9 +1,12 @@
 -- Assignments as lists of bits and right sides.
-use Rattle.std.proofs.Common.{◌≡◌, ◌<◌, ◌≤◌, ℕ, zero, suc, ◌+◌, ◌-◌, ◌*◌, ◌/◌, ◌%◌, ◌^◌, ◌==◌, eqb, min, not, ◌||◌, Bool, true, false, cond, nat_lt, Option, Some, None, List, [], ◌∷◌, ◌++◌, length, map, take, drop, get_or, refl, sym, ◌∙◌, ap, subst, arith, pow-suc, append_assoc, append-nil}
+use Rattle.std.proofs.Common.{◌≡◌, ◌<◌, ◌≤◌, ℕ, zero, suc, ◌+◌, ◌-◌, ◌*◌, ◌/◌, ◌%◌, ◌^◌, ◌==◌, eqb, min, not, ◌||◌, Bool, true, false, cond}
+use Rattle.std.proofs.Common.{nat_lt, Option, Some, None, List, [], ◌∷◌, ◌++◌, length, map, take, drop, get_or, refl, sym, ◌∙◌, ap, subst}
+use Rattle.std.proofs.Common.{arith, pow-suc, append_assoc, append-nil}
 use Rattle.std.specs.List.{AllByRecursion, IsDistinct, list_any}
 use Rattle.std.specs.Int.RustNames.{bit_or}
 use Rattle.std.proofs.lemmas.Bool.{false≢true, true≢false, eqb-true, eqb-false, ltb-true, ltb-false}
-use Rattle.std.proofs.lemmas.List.{length-append, length-drop, length-map, get_or-set_same, get_or-set_other, set-append_left, set-append_right, set_past, length-set, drop_more, append-nil}
+use Rattle.std.proofs.lemmas.List.{length-append, length-drop, length-map, get_or-set_same, get_or-set_other, set-append_left}
+use Rattle.std.proofs.lemmas.List.{set-append_right, set_past, length-set, drop_more, append-nil}
 use Rattle.std.proofs.Math.Pow.{pow_mono}
 use Rattle.std.proofs.lemmas.Map.Keys.{IsDistinct-cons}
 use Rattle.std.proofs.lemmas.Map.Steps.{length-le_from_distinct_below}
@@ -158,12 +161,14 @@ still b k ts other free = go (b == k) refl
     go true e = absurd (other (eqb-true b k e))
     go false e = free
 
-agree_dropped : (b : ℕ) (v : Bool) (ts : List (Option ℕ)) (m : ℕ) (bs : List Bool) → is_among b ts ≡ true → Agree (Some b ∷ ts) m bs → Agree ts m (with_bit bs b v)
+agree_dropped : (b : ℕ) (v : Bool) (ts : List (Option ℕ)) (m : ℕ) (bs : List Bool) → is_among b ts ≡ true → Agree (Some b ∷ ts) m bs
+    → Agree ts m (with_bit bs b v)
 agree_dropped b v ts m bs h agree k free =
     let other = not_it b k ts h free in
     agree k (still b k ts other free) ∙ sym (get_or-set_other bs b k v false (λ e. other (sym e)))
 
-agree_kept : (b : ℕ) (v w : Bool) (ts : List (Option ℕ)) (m : ℕ) (bs : List Bool) → v ≡ w → b < length bs → Agree (Some b ∷ ts) m bs → Agree ts (masked m (2 ^ b) w) (with_bit bs b v)
+agree_kept : (b : ℕ) (v w : Bool) (ts : List (Option ℕ)) (m : ℕ) (bs : List Bool) → v ≡ w → b < length bs → Agree (Some b ∷ ts) m bs
+    → Agree ts (masked m (2 ^ b) w) (with_bit bs b v)
 agree_kept b v w ts m bs same inside agree k free = go (b == k) refl
   where
     go : (c : Bool) → (b == k) ≡ c → bit_of (masked m (2 ^ b) w) k ≡ bit (with_bit bs b v) k
@@ -196,13 +201,15 @@ module _ (s : Scope) (gs ls : List Bool) where
   run [] i m = m
   run (k ∷ ks) i m = run ks (left_of k.1 i) (masked m (2 ^ k.0) (value_at k.1 i))
 
-  got_same : {A : Type 0} (sd : Side A) (r : RightSide Name) (i : ℕ) → length gs ≡ length s.globals → SaysSide sd s r → side_value sd (coded (gs ++ ls)) i ≡ value_at r i
+  got_same : {A : Type 0} (sd : Side A) (r : RightSide Name) (i : ℕ) → length gs ≡ length s.globals → SaysSide sd s r
+      → side_value sd (coded (gs ++ ls)) i ≡ value_at r i
   got_same side.Any any i e h = refl
   got_same side.Any (value x) i e h = absurd h
   got_same (side.Value f) any i e h = absurd h
   got_same (side.Value f) (value x) i e h = h gs ls e
 
-  run_same : {A : Type 0} (ws : List (Write A)) (ks : List (ℕ × RightSide Name)) (i m : ℕ) → length gs ≡ length s.globals → Compiled s ws ks → written ws (coded (gs ++ ls)) i m ≡ run ks i m
+  run_same : {A : Type 0} (ws : List (Write A)) (ks : List (ℕ × RightSide Name)) (i m : ℕ) → length gs ≡ length s.globals
+      → Compiled s ws ks → written ws (coded (gs ++ ls)) i m ≡ run ks i m
   run_same [] [] i m e h = refl
   run_same [] (k ∷ ks) i m e h = absurd h
   run_same (w ∷ ws) [] i m e h = absurd h
@@ -231,7 +238,8 @@ module _ (s : Scope) (gs ls : List Bool) where
   Fits (t ∷ ts) (r ∷ rs) (v ∷ vs) i = FitsOne (lasting t (paired ts rs)) r v i × Fits ts rs vs (behind (lasting t (paired ts rs)) r i)
 
   abbrev Ends : ℕ → List (Option ℕ) → List (RightSide Name) → List Bool → Type 0
-  Ends n ts rs vs = (i m : ℕ) (bs : List Bool) → Fits ts rs vs i → length bs ≡ n → Agree (paired ts rs) m bs → (k : ℕ) → bit_of (run (kept ts rs) i m) k ≡ bit (put ts vs bs) k
+  Ends n ts rs vs = (i m : ℕ) (bs : List Bool) → Fits ts rs vs i → length bs ≡ n → Agree (paired ts rs) m bs → (k : ℕ)
+      → bit_of (run (kept ts rs) i m) k ≡ bit (put ts vs bs) k
 
   ends : (n : ℕ) (ts : List (Option ℕ)) (rs : List (RightSide Name)) (vs : List Bool) → Below n ts → Ends n ts rs vs
   ends n [] rs vs below i m bs f len agree k = agree k refl
@@ -241,7 +249,8 @@ module _ (s : Scope) (gs ls : List Bool) where
   ends n (None ∷ ts) (r ∷ rs) (v ∷ vs) below i m bs f len agree k = ends n ts rs vs below i m bs f.1 len agree k
   ends n (Some b ∷ ts) (r ∷ rs) (v ∷ vs) below i m bs f len agree k = go (is_among b (paired ts rs)) refl f (ends n ts rs vs below.1)
     where
-      go : (h : Bool) → is_among b (paired ts rs) ≡ h → FitsOne (cond h None (Some b)) r v i × Fits ts rs vs (behind (cond h None (Some b)) r i) → Ends n ts rs vs
+      go : (h : Bool) → is_among b (paired ts rs) ≡ h
+          → FitsOne (cond h None (Some b)) r v i × Fits ts rs vs (behind (cond h None (Some b)) r i) → Ends n ts rs vs
           → bit_of (run (kept_one (cond h None (Some b)) r (kept ts rs)) i m) k ≡ bit (put ts vs (with_bit bs b v)) k
       go true e g rest = rest i m (with_bit bs b v) g.1 (length-set bs b v ∙ len) (agree_dropped b v (paired ts rs) m bs e agree) k
       go false e g rest =
@@ -251,7 +260,8 @@ module _ (s : Scope) (gs ls : List Bool) where
   -- ---- values and choices
 
   -- values of the right sides are those of a choice
-  chosen : (ts : List (Option ℕ)) (rs : List (RightSide Name)) (vs : List Bool) → AreValues gs ls (map (resolve_side s) rs) vs → (i : ℕ) × (i < 2 ^ anys_in (kept ts rs)) × Fits ts rs vs i
+  chosen : (ts : List (Option ℕ)) (rs : List (RightSide Name)) (vs : List Bool) → AreValues gs ls (map (resolve_side s) rs) vs
+      → (i : ℕ) × (i < 2 ^ anys_in (kept ts rs)) × Fits ts rs vs i
   chosen [] rs vs h = (0, omega arith, tt)
   chosen (t ∷ ts) [] [] h = (0, omega arith, tt)
   chosen (t ∷ ts) [] (v ∷ vs) h = absurd h
@@ -269,7 +279,8 @@ module _ (s : Scope) (gs ls : List Bool) where
   chosen (t ∷ ts) (value x ∷ rs) (v ∷ vs) h = go (lasting t (paired ts rs)) (chosen ts rs vs h.1)
     where
       go : (o : Option ℕ) → (i : ℕ) × (i < 2 ^ anys_in (kept ts rs)) × Fits ts rs vs i
-          → (i : ℕ) × (i < 2 ^ anys_in (kept_one o (value x) (kept ts rs))) × (FitsOne o (value x) v i × Fits ts rs vs (behind o (value x) i))
+          → (i : ℕ) × (i < 2 ^ anys_in (kept_one o (value x) (kept ts rs)))
+          × (FitsOne o (value x) v i × Fits ts rs vs (behind o (value x) i))
       go None c = (c.0, c.1, (tt, c.2))
       go (Some b) c = (c.0, omega (arith, c.1, once_more (anys_in (kept ts rs))), (h.0, c.2))
 
@@ -284,16 +295,19 @@ module _ (s : Scope) (gs ls : List Bool) where
 
   -- values of the right sides that fit, where the first target is this
   abbrev GivenOne : Option ℕ → RightSide Name → List (Option ℕ) → List (RightSide Name) → ℕ → Type 0
-  GivenOne o r ts rs i = (v : Bool) × (vs : List Bool) × AreValues gs ls (resolve_side s r ∷ map (resolve_side s) rs) (v ∷ vs) × (FitsOne o r v i × Fits ts rs vs (behind o r i))
+  GivenOne o r ts rs i = (v : Bool) × (vs : List Bool) × AreValues gs ls (resolve_side s r ∷ map (resolve_side s) rs) (v ∷ vs)
+      × (FitsOne o r v i × Fits ts rs vs (behind o r i))
 
-  given_one : (o : Option ℕ) (r : RightSide Name) (ts : List (Option ℕ)) (rs : List (RightSide Name)) (i : ℕ) → i < 2 ^ anys_in (kept_one o r (kept ts rs))
+  given_one : (o : Option ℕ) (r : RightSide Name) (ts : List (Option ℕ)) (rs : List (RightSide Name)) (i : ℕ)
+      → i < 2 ^ anys_in (kept_one o r (kept ts rs))
       → ((j : ℕ) → j < 2 ^ anys_in (kept ts rs) → Given ts rs j) → GivenOne o r ts rs i
   given_one None any ts rs i less rest = let c = rest i less in (false, c.0, (tt, c.1), (tt, c.2))
   given_one None (value x) ts rs i less rest = let c = rest i less in (value_of gs ls (resolve_expression s x), c.0, (refl, c.1), (tt, c.2))
   given_one (Some b) any ts rs i less rest =
       let c = rest (i / 2) (omega (arith, less, twice (anys_in (kept ts rs)))) in (bit_of i 0, c.0, (tt, c.1), (refl, c.2))
   given_one (Some b) (value x) ts rs i less rest =
-      let c = rest i (omega (arith, less, once_more (anys_in (kept ts rs)))) in (value_of gs ls (resolve_expression s x), c.0, (refl, c.1), (refl, c.2))
+      let c = rest i (omega (arith, less, once_more (anys_in (kept ts rs)))) in
+      (value_of gs ls (resolve_expression s x), c.0, (refl, c.1), (refl, c.2))
 
   -- a choice gives values of the right sides
   given : (ts : List (Option ℕ)) (rs : List (RightSide Name)) (i : ℕ) → i < 2 ^ anys_in (kept ts rs) → Given ts rs i
@@ -305,7 +319,8 @@ module _ (s : Scope) (gs ls : List Bool) where
   -- ---- each valuation once
 
   -- a bit that no target has keeps its value
-  untouched : (ts : List (Option ℕ)) (rs : List (RightSide Name)) (k : ℕ) → is_among k (paired ts rs) ≡ false → (i m : ℕ) → bit_of (run (kept ts rs) i m) k ≡ bit_of m k
+  untouched : (ts : List (Option ℕ)) (rs : List (RightSide Name)) (k : ℕ) → is_among k (paired ts rs) ≡ false → (i m : ℕ)
+      → bit_of (run (kept ts rs) i m) k ≡ bit_of m k
   untouched [] rs k h i m = refl
   untouched (t ∷ ts) [] k h i m = refl
   untouched (None ∷ ts) (r ∷ rs) k h i m = untouched ts rs k h i m
@@ -316,7 +331,8 @@ module _ (s : Scope) (gs ls : List Bool) where
           → bit_of (run (kept_one (cond h None (Some b)) r (kept ts rs)) i m) k ≡ bit_of m k
       go true e g h rest = absurd (true≢false g)
       go false e g true rest = rest g i m
-      go false e g false rest = rest g (left_of r i) (masked m (2 ^ b) (value_at r i)) ∙ masked_elsewhere m b k (value_at r i) (eqb-false b k e)
+      go false e g false rest = rest g (left_of r i) (masked m (2 ^ b) (value_at r i))
+          ∙ masked_elsewhere m b k (value_at r i) (eqb-false b k e)
 
   -- a number is its lowest bit and its half
   by_half : (i j : ℕ) → bit_of i 0 ≡ bit_of j 0 → i / 2 ≡ j / 2 → i ≡ j
@@ -335,9 +351,11 @@ module _ (s : Scope) (gs ls : List Bool) where
   apart (Some b ∷ ts) (r ∷ rs) i j m n h k same = go (is_among b (paired ts rs)) refl r h k same (apart ts rs)
     where
       go : (c : Bool) → is_among b (paired ts rs) ≡ c → (q : RightSide Name)
-          → i < 2 ^ anys_in (kept_one (cond c None (Some b)) q (kept ts rs)) → j < 2 ^ anys_in (kept_one (cond c None (Some b)) q (kept ts rs))
+          → i < 2 ^ anys_in (kept_one (cond c None (Some b)) q (kept ts rs))
+          → j < 2 ^ anys_in (kept_one (cond c None (Some b)) q (kept ts rs))
           → run (kept_one (cond c None (Some b)) q (kept ts rs)) i m ≡ run (kept_one (cond c None (Some b)) q (kept ts rs)) j n
-          → ((i j m n : ℕ) → i < 2 ^ anys_in (kept ts rs) → j < 2 ^ anys_in (kept ts rs) → run (kept ts rs) i m ≡ run (kept ts rs) j n → i ≡ j)
+          → ((i j m n : ℕ) → i < 2 ^ anys_in (kept ts rs) → j < 2 ^ anys_in (kept ts rs) → run (kept ts rs) i m ≡ run (kept ts rs) j n
+          → i ≡ j)
           → i ≡ j
       go true e q h k same rest = rest i j m n h k same
       go false e any h k same rest =
@@ -371,7 +389,8 @@ module _ {R : Type 0} where
   abbrev bits_of : List (ℕ × R) → List ℕ
   bits_of ks = map (λ (k : ℕ × R). k.0) ks
 
-  others_differ : (ts : List (Option ℕ)) (rs : List R) (b : ℕ) → is_among b (paired ts rs) ≡ false → AllByRecursion (λ c. eqb b c ≡ false) (bits_of (kept ts rs))
+  others_differ : (ts : List (Option ℕ)) (rs : List R) (b : ℕ) → is_among b (paired ts rs) ≡ false
+      → AllByRecursion (λ c. eqb b c ≡ false) (bits_of (kept ts rs))
   others_differ [] rs b h = tt
   others_differ (t ∷ ts) [] b h = tt
   others_differ (None ∷ ts) (r ∷ rs) b h = others_differ ts rs b h
@@ -391,7 +410,8 @@ module _ {R : Type 0} where
   distinct (None ∷ ts) (r ∷ rs) = distinct ts rs
   distinct (Some b ∷ ts) (r ∷ rs) = go (is_among b (paired ts rs)) refl (distinct ts rs)
     where
-      go : (y : Bool) → is_among b (paired ts rs) ≡ y → IsDistinct eqb (bits_of (kept ts rs)) → IsDistinct eqb (bits_of (kept_one (cond y None (Some b)) r (kept ts rs)))
+      go : (y : Bool) → is_among b (paired ts rs) ≡ y → IsDistinct eqb (bits_of (kept ts rs))
+          → IsDistinct eqb (bits_of (kept_one (cond y None (Some b)) r (kept ts rs)))
       go true e rest = rest
       go false e rest = IsDistinct-cons eqb b (bits_of (kept ts rs)) (others_differ ts rs b e) rest
 
@@ -401,18 +421,22 @@ module _ {R : Type 0} where
   all_below n (None ∷ ts) (r ∷ rs) q below h = all_below n ts rs q below h
   all_below n (Some b ∷ ts) (r ∷ rs) q below h = go (is_among b (paired ts rs)) h (all_below n ts rs q below.1)
     where
-      one : (x : Bool) → eqb q b ≡ x → (x || list_any (eqb q) (bits_of (kept ts rs))) ≡ true → (list_any (eqb q) (bits_of (kept ts rs)) ≡ true → q < n) → q < n
+      one : (x : Bool) → eqb q b ≡ x → (x || list_any (eqb q) (bits_of (kept ts rs))) ≡ true
+          → (list_any (eqb q) (bits_of (kept ts rs)) ≡ true → q < n) → q < n
       one true e g rest = let same = eqb-true q b e in omega (arith, same, below.0)
       one false e g rest = rest g
 
-      go : (y : Bool) → list_any (eqb q) (bits_of (kept_one (cond y None (Some b)) r (kept ts rs))) ≡ true → (list_any (eqb q) (bits_of (kept ts rs)) ≡ true → q < n) → q < n
+      go : (y : Bool) → list_any (eqb q) (bits_of (kept_one (cond y None (Some b)) r (kept ts rs))) ≡ true
+          → (list_any (eqb q) (bits_of (kept ts rs)) ≡ true → q < n) → q < n
       go true g rest = rest g
       go false g rest = one (eqb q b) refl g rest
 
 -- no more are kept than there are variables
 pub anys_few : (n : ℕ) (ts : List (Option ℕ)) (rs : List (RightSide Name)) → Below n ts → anys_in (kept ts rs) ≤ n
 anys_few n ts rs below =
-    let most = length-le_from_distinct_below (map (λ (k : ℕ × RightSide Name). k.0) (kept ts rs)) n (distinct ts rs) (λ q. all_below n ts rs q below) in
+    let most =
+    length-le_from_distinct_below (map (λ (k : ℕ × RightSide Name). k.0) (kept ts rs)) n (distinct ts rs)
+    (λ q. all_below n ts rs q below) in
     omega (arith, most, anys_most (kept ts rs))
 
 -- ---- places as bits
@@ -420,16 +444,21 @@ anys_few n ts rs below =
 bit_within : (s : Scope) (x : Name) (b : ℕ) → bit_of_name s x ≡ Some b → b < length s.globals + length s.locals
 bit_within s x b h = go (is_declared x.text s.locals) refl
   where
-    one : (c : Bool) → nat_lt (number_of x.text s.globals) (length s.globals) ≡ c → cond c (Some (number_of x.text s.globals)) None ≡ Some b → b < length s.globals + length s.locals
-    one true is e = let same : number_of x.text s.globals ≡ b = cc in let less = ltb-true (number_of x.text s.globals) (length s.globals) is in omega (arith, same, less)
+    one : (c : Bool) → nat_lt (number_of x.text s.globals) (length s.globals) ≡ c
+        → cond c (Some (number_of x.text s.globals)) None ≡ Some b → b < length s.globals + length s.locals
+    one true is e = let same : number_of x.text s.globals ≡ b = cc in
+        let less = ltb-true (number_of x.text s.globals) (length s.globals) is in omega (arith, same, less)
     one false is e = cc
 
     go : (c : Bool) → is_declared x.text s.locals ≡ c → b < length s.globals + length s.locals
     go true is =
-        let e : Some (length s.globals + number_of x.text s.locals) ≡ Some b = sym (ap (bit_of_place (length s.globals)) (place_declared s x is)) ∙ h in
+        let e : Some (length s.globals + number_of x.text s.locals) ≡ Some b =
+        sym (ap (bit_of_place (length s.globals)) (place_declared s x is)) ∙ h in
         let same : length s.globals + number_of x.text s.locals ≡ b = cc in
         omega (arith, same, number_less x.text s.locals is)
-    go false is = one (nat_lt (number_of x.text s.globals) (length s.globals)) refl (sym (ap (bit_of_place (length s.globals)) (place_other s x is)) ∙ h)
+    go false is =
+        one (nat_lt (number_of x.text s.globals) (length s.globals)) refl
+        (sym (ap (bit_of_place (length s.globals)) (place_other s x is)) ∙ h)
 
 below_one : (n : ℕ) (o : Option ℕ) (ts : List (Option ℕ)) → ((b : ℕ) → o ≡ Some b → b < n) → Below n ts → Below n (o ∷ ts)
 below_one n None ts h k = k
@@ -437,26 +466,34 @@ below_one n (Some b) ts h k = (h b refl, k)
 
 pub names_below : (s : Scope) (xs : List Name) → Below (length s.globals + length s.locals) (map (bit_of_name s) xs)
 names_below s [] = tt
-names_below s (x ∷ xs) = below_one (length s.globals + length s.locals) (bit_of_name s x) (map (bit_of_name s) xs) (bit_within s x) (names_below s xs)
+names_below s (x ∷ xs) =
+    below_one (length s.globals + length s.locals) (bit_of_name s x) (map (bit_of_name s) xs) (bit_within s x) (names_below s xs)
 
 bits_same : (s : Scope) (xs : List Name) → map (bit_of_place (length s.globals)) (map (place_of s) xs) ≡ map (bit_of_name s) xs
 bits_same s [] = refl
 bits_same s (x ∷ xs) = ap (λ l. bit_of_name s x ∷ l) (bits_same s xs)
 
 -- what is written to places is written to their bits
-written_bits : (n : ℕ) (ps : List Place) (vs gs ls : List Bool) → length gs ≡ n → written_globals ps vs gs ++ written_locals ps vs ls ≡ put (map (bit_of_place n) ps) vs (gs ++ ls)
+written_bits : (n : ℕ) (ps : List Place) (vs gs ls : List Bool) → length gs ≡ n
+    → written_globals ps vs gs ++ written_locals ps vs ls ≡ put (map (bit_of_place n) ps) vs (gs ++ ls)
 written_bits n [] vs gs ls e = refl
 written_bits n (global i ∷ ps) [] gs ls e = refl
 written_bits n (local i ∷ ps) [] gs ls e = refl
 written_bits n (local i ∷ ps) (v ∷ vs) gs ls e =
     written_bits n ps vs gs (with_bit ls i v) e
-    ∙ ap (put (map (bit_of_place n) ps) vs) (sym (set-append_right gs ls n (n + i) v e (omega arith) ∙ ap (λ k. gs ++ with_bit ls k v) (let z : n + i - n ≡ i = omega arith in z)))
+    ∙ ap (put (map (bit_of_place n) ps) vs)
+    (sym
+    (set-append_right gs ls n (n + i) v e (omega arith) ∙ ap (λ k. gs ++ with_bit ls k v) (let z : n + i - n ≡ i = omega arith in z)))
 written_bits n (global i ∷ ps) (v ∷ vs) gs ls e = go (nat_lt i n) refl (written_bits n ps vs (with_bit gs i v) ls (length-set gs i v ∙ e))
   where
-    go : (b : Bool) → nat_lt i n ≡ b → written_globals ps vs (with_bit gs i v) ++ written_locals ps vs ls ≡ put (map (bit_of_place n) ps) vs (with_bit gs i v ++ ls)
-        → written_globals ps vs (with_bit gs i v) ++ written_locals ps vs ls ≡ put (cond b (Some i) None ∷ map (bit_of_place n) ps) (v ∷ vs) (gs ++ ls)
-    go true is rest = rest ∙ ap (put (map (bit_of_place n) ps) vs) (sym (set-append_left gs ls i v (let less = ltb-true i n is in omega (arith, less, e))))
-    go false is rest = rest ∙ ap (λ l. put (map (bit_of_place n) ps) vs (l ++ ls)) (set_past gs i v (let least = ltb-false i n is in omega (arith, least, e)))
+    go : (b : Bool) → nat_lt i n ≡ b
+        → written_globals ps vs (with_bit gs i v) ++ written_locals ps vs ls ≡ put (map (bit_of_place n) ps) vs (with_bit gs i v ++ ls)
+        → written_globals ps vs (with_bit gs i v) ++ written_locals ps vs ls
+        ≡ put (cond b (Some i) None ∷ map (bit_of_place n) ps) (v ∷ vs) (gs ++ ls)
+    go true is rest = rest
+        ∙ ap (put (map (bit_of_place n) ps) vs) (sym (set-append_left gs ls i v (let less = ltb-true i n is in omega (arith, less, e))))
+    go false is rest = rest
+        ∙ ap (λ l. put (map (bit_of_place n) ps) vs (l ++ ls)) (set_past gs i v (let least = ltb-false i n is in omega (arith, least, e)))
 
 -- ---- the law
 
@@ -467,13 +504,16 @@ module _ {A : Type 0} (a : Assignment A) (s : Scope) (xs : List Name) (rs : List
   abbrev targets : List (Option ℕ)
   targets = map (bit_of_name s) xs
 
-  ended : (gs ls vs : List Bool) (i : ℕ) → Compiled s a.writes.items (kept targets rs) → length gs ≡ length s.globals → length ls ≡ length s.locals → Fits s gs ls targets rs vs i
-      → written a.writes.items (coded (gs ++ ls)) i (coded (gs ++ ls)) ≡ coded (written_globals (map (place_of s) xs) vs gs ++ written_locals (map (place_of s) xs) vs ls)
+  ended : (gs ls vs : List Bool) (i : ℕ) → Compiled s a.writes.items (kept targets rs) → length gs ≡ length s.globals
+      → length ls ≡ length s.locals → Fits s gs ls targets rs vs i
+      → written a.writes.items (coded (gs ++ ls)) i (coded (gs ++ ls))
+      ≡ coded (written_globals (map (place_of s) xs) vs gs ++ written_locals (map (place_of s) xs) vs ls)
   ended gs ls vs i compiled g l fits =
       run_same s gs ls a.writes.items (kept targets rs) i (coded (gs ++ ls)) g compiled
       ∙ same_bits (run s gs ls (kept targets rs) i (coded (gs ++ ls))) (coded (put targets vs (gs ++ ls)))
       (λ k. ends s gs ls (length s.globals + length s.locals) targets rs vs (names_below s xs) i (coded (gs ++ ls)) (gs ++ ls) fits
-      (length-append gs ls ∙ (let z : length gs + length ls ≡ length s.globals + length s.locals = omega (arith, g, l) in z)) (λ j _. coded_bit (gs ++ ls) j) k
+      (length-append gs ls ∙ (let z : length gs + length ls ≡ length s.globals + length s.locals = omega (arith, g, l) in z))
+      (λ j _. coded_bit (gs ++ ls) j) k
       ∙ sym (coded_bit (put targets vs (gs ++ ls)) k))
       ∙ ap coded (sym (written_bits (length s.globals) (map (place_of s) xs) vs gs ls g ∙ ap (λ ts. put ts vs (gs ++ ls)) (bits_same s xs)))
 
@@ -500,7 +540,8 @@ module _ {A : Type 0} (a : Assignment A) (s : Scope) (xs : List Name) (rs : List
 
 -- ---- compiling
 
-pub anys_step : {A : Type 0} (ws : List (Write A)) (i : ℕ) (w : Write A) → i < length ws → w ≡ get_or ws i w → anys (drop i ws) ≡ any_of w.side + anys (drop (i + 1) ws)
+pub anys_step : {A : Type 0} (ws : List (Write A)) (i : ℕ) (w : Write A) → i < length ws → w ≡ get_or ws i w
+    → anys (drop i ws) ≡ any_of w.side + anys (drop (i + 1) ws)
 anys_step ws i w h e = ap anys (drop_more ws i w h) ∙ ap (λ x. any_of x.side + anys (drop (i + 1) ws)) (sym e)
 
 -- where some write is still a `?`, the choices so far can be doubled
@@ -513,7 +554,8 @@ one_more_fits ws i last w (n, count, all) inside is one few =
     omega (arith, count, most)
 
 -- the later targets that have a right side
-later_paired : {X Y Z R : Type 0} (f : Z → Option ℕ) (g : X → Z) (h : Y → R) (xs : List X) (ys : List Y) (n : ℕ) → n ≡ min (length xs) (length ys)
+later_paired : {X Y Z R : Type 0} (f : Z → Option ℕ) (g : X → Z) (h : Y → R) (xs : List X) (ys : List Y) (n : ℕ)
+    → n ≡ min (length xs) (length ys)
     → map f (map g (take n xs)) ≡ paired (map f (map g xs)) (map h ys)
 later_paired f g h [] ys zero e = refl
 later_paired f g h [] ys (suc n) e = absurd (omega (arith, e))
@@ -523,12 +565,15 @@ later_paired f g h (x ∷ xs) (y ∷ ys) zero e = absurd (omega (arith, e))
 later_paired f g h (x ∷ xs) (y ∷ ys) (suc n) e = ap (λ l. f (g x) ∷ l) (later_paired f g h xs ys n (omega (arith, e)))
 
 kept_step : {X Y Z R : Type 0} (f : Z → Option ℕ) (g : X → Z) (h : Y → R) (xs : List X) (ys : List Y) (at n : ℕ) (x : X) (y : Y)
-    → at < length xs → at < length ys → x ≡ get_or xs at x → y ≡ get_or ys at y → n ≡ min (length (drop (at + 1) xs)) (length (drop (at + 1) ys))
+    → at < length xs → at < length ys → x ≡ get_or xs at x → y ≡ get_or ys at y
+    → n ≡ min (length (drop (at + 1) xs)) (length (drop (at + 1) ys))
     → kept (map f (map g (drop at xs))) (map h (drop at ys))
-    ≡ kept_one (lasting (f (g x)) (map f (map g (take n (drop (at + 1) xs))))) (h y) (kept (map f (map g (drop (at + 1) xs))) (map h (drop (at + 1) ys)))
+    ≡ kept_one (lasting (f (g x)) (map f (map g (take n (drop (at + 1) xs))))) (h y)
+    (kept (map f (map g (drop (at + 1) xs))) (map h (drop (at + 1) ys)))
 kept_step f g h xs ys at n x y inside within is there count =
     ap (λ l. kept (map f (map g l)) (map h (drop at ys))) (drop_more xs at x inside ∙ ap (λ z. z ∷ drop (at + 1) xs) (sym is))
-    ∙ ap (λ l. kept (map f (map g (x ∷ drop (at + 1) xs))) (map h l)) (drop_more ys at y within ∙ ap (λ z. z ∷ drop (at + 1) ys) (sym there))
+    ∙ ap (λ l. kept (map f (map g (x ∷ drop (at + 1) xs))) (map h l))
+    (drop_more ys at y within ∙ ap (λ z. z ∷ drop (at + 1) ys) (sym there))
     ∙ ap (λ l. kept_one (lasting (f (g x)) l) (h y) (kept (map f (map g (drop (at + 1) xs))) (map h (drop (at + 1) ys))))
     (sym (later_paired f g h (drop (at + 1) xs) (drop (at + 1) ys) n count))
 
@@ -545,7 +590,8 @@ element [] at h = absurd (omega (arith, h))
 element (y ∷ ys) zero h = (y, refl)
 element (y ∷ ys) (suc at) h = element ys at (omega (arith, h))
 
-module _ {N A : Type 0} (s : Scope) (xs : List (syntax.Name N)) (ys : List (Rhs N)) (at count : ℕ) (old new : List (Write A)) (all : List (ℕ × RightSide Name)) (x : syntax.Name N)
+module _ {N A : Type 0} (s : Scope) (xs : List (syntax.Name N)) (ys : List (Rhs N)) (at count : ℕ) (old new : List (Write A))
+    (all : List (ℕ × RightSide Name)) (x : syntax.Name N)
     (inside : at < count) (few : count ≡ min (length xs) (length ys)) (found : x ≡ get_or xs at x) where
   -- what lasts of the target here
   abbrev pub lasting_here : Option ℕ
@@ -553,7 +599,8 @@ module _ {N A : Type 0} (s : Scope) (xs : List (syntax.Name N)) (ys : List (Rhs 
 
   one_step : (y : Rhs N) → y ≡ get_or ys at y → kept_from s xs ys at ≡ kept_one lasting_here (rhs_of y) (kept_from s xs ys (at + 1))
   one_step y there =
-      kept_step (bit_of_name s) name_of rhs_of xs ys at (count - (at + 1)) x y (omega (arith, inside, few)) (omega (arith, inside, few)) found there
+      kept_step (bit_of_name s) name_of rhs_of xs ys at (count - (at + 1)) x y (omega (arith, inside, few))
+      (omega (arith, inside, few)) found there
       (omega (arith, inside, few, length-drop (at + 1) xs, length-drop (at + 1) ys))
 
   pub passed_over : lasting_here ≡ None → new ≡ old → Leads s old (kept_from s xs ys at) all → Leads s new (kept_from s xs ys (at + 1)) all
@@ -562,13 +609,17 @@ module _ {N A : Type 0} (s : Scope) (xs : List (syntax.Name N)) (ys : List (Rhs 
       subst (λ l. Compiled s (l ++ ws) all) (sym same)
       (leads ws (subst (Compiled s ws) (sym (one_step y.0 y.1 ∙ ap (λ o. kept_one o (rhs_of y.0) (kept_from s xs ys (at + 1))) gone)) h))
 
-  pub one_written : (y : Rhs N) (w : Write A) (b : ℕ) → y ≡ get_or ys at y → lasting_here ≡ Some b → w.mask ≡ 2 ^ b → SaysSide w.side s (rhs_of y) → new ≡ old ++ (w ∷ [])
+  pub one_written : (y : Rhs N) (w : Write A) (b : ℕ) → y ≡ get_or ys at y → lasting_here ≡ Some b → w.mask ≡ 2 ^ b
+      → SaysSide w.side s (rhs_of y) → new ≡ old ++ (w ∷ [])
       → Leads s old (kept_from s xs ys at) all → Leads s new (kept_from s xs ys (at + 1)) all
   one_written y w b there lasts mask says same leads ws h =
       subst (λ l. Compiled s l all) (sym (ap (λ l. l ++ ws) same ∙ append_assoc old (w ∷ []) ws))
-      (leads (w ∷ ws) (subst (Compiled s (w ∷ ws)) (sym (one_step y there ∙ ap (λ o. kept_one o (rhs_of y) (kept_from s xs ys (at + 1))) lasts)) ((mask, says), h)))
+      (leads (w ∷ ws)
+      (subst (Compiled s (w ∷ ws)) (sym (one_step y there ∙ ap (λ o. kept_one o (rhs_of y) (kept_from s xs ys (at + 1))) lasts))
+      ((mask, says), h)))
 
-kept_none : {X Y Z R : Type 0} (f : Z → Option ℕ) (g : X → Z) (h : Y → R) (xs : List X) (ys : List Y) (n : ℕ) → n ≡ min (length xs) (length ys)
+kept_none : {X Y Z R : Type 0} (f : Z → Option ℕ) (g : X → Z) (h : Y → R) (xs : List X) (ys : List Y) (n : ℕ)
+    → n ≡ min (length xs) (length ys)
     → kept (map f (map g (drop n xs))) (map h (drop n ys)) ≡ []
 kept_none f g h [] ys zero e = refl
 kept_none f g h [] ys (suc n) e = absurd (omega (arith, e))
@@ -578,7 +629,8 @@ kept_none f g h (x ∷ xs) (y ∷ ys) zero e = absurd (omega (arith, e))
 kept_none f g h (x ∷ xs) (y ∷ ys) (suc n) e = kept_none f g h xs ys n (omega (arith, e))
 
 -- where no target is left, the writes are all
-pub all_written : {N A : Type 0} (s : Scope) (xs : List (syntax.Name N)) (ys : List (Rhs N)) (n : ℕ) (ws : List (Write A)) → n ≡ min (length xs) (length ys)
+pub all_written : {N A : Type 0} (s : Scope) (xs : List (syntax.Name N)) (ys : List (Rhs N)) (n : ℕ) (ws : List (Write A))
+    → n ≡ min (length xs) (length ys)
     → Leads s ws (kept_from s xs ys n) (kept_from s xs ys 0) → Compiled s ws (kept_from s xs ys 0)
 all_written {A} s xs ys n ws e leads =
     subst (λ l. Compiled s l (kept_from s xs ys 0)) (append-nil ws)
@@ -589,4 +641,5 @@ one_bit b h = let most : 2 ^ b ≤ 2 ^ 63 = pow_mono (let z : b ≤ 63 = omega (
 
 pub few_variables : {N : Type 0} (gs fs ls : List (syntax.Name N)) → length gs + (length fs + length ls) ≤ most_places →
     length (names_of gs) + length (names_of fs ++ names_of ls) ≤ 64
-few_variables gs fs ls h = omega (arith, h, length-map gs name_of, length-map fs name_of, length-map ls name_of, length-append (names_of fs) (names_of ls))
+few_variables gs fs ls h =
+    omega (arith, h, length-map gs name_of, length-map fs name_of, length-map ls name_of, length-append (names_of fs) (names_of ls))

@@ -1,5 +1,6 @@
 -- Entries of calls, argument by argument.
-use Rattle.std.proofs.Common.{◌≡◌, ℕ, ◌+◌, ◌*◌, ◌^◌, ◌%◌, ◌<◌, ◌≤◌, ◌-◌, ◌/◌, nat_lt, Bool, true, false, List, ◌∷◌, map, refl, ◌∙◌, ap, arith, add-one, pow-suc}
+use Rattle.std.proofs.Common.{◌≡◌, ℕ, ◌+◌, ◌*◌, ◌^◌, ◌%◌, ◌<◌, ◌≤◌, ◌-◌, ◌/◌, nat_lt, Bool, true, false, List, ◌∷◌, map, refl, ◌∙◌, ap}
+use Rattle.std.proofs.Common.{arith, add-one, pow-suc}
 use Rattle.std.proofs.Math.Nat.{mod-eq_of_lt, mod-lt, div-add-mod, mul-add, mul-le-mul_left, lt_of_mul-lt-mul_left}
 use Rattle.std.proofs.lemmas.Nat.{pow-add, pow_pos}
 use Rattle.std.proofs.lemmas.Bool.{ltb-true, ltb-false}
@@ -13,9 +14,11 @@ doubled : (bit : ℕ) → 2 ^ (bit + 1) ≡ 2 ^ bit * 2
 doubled bit = ap (λ n. 2 ^ n) (add-one bit) ∙ omega (arith, pow-suc 2 bit)
 
 -- one argument more of an entry
-pub argument_step : {A : Type 0} (f : A → Bool) (xs rest : List A) (x : A) (entry bit worth whole : ℕ) → entry + 2 ^ bit * coded (map f xs) ≡ whole → xs ≡ x ∷ rest
+pub argument_step : {A : Type 0} (f : A → Bool) (xs rest : List A) (x : A) (entry bit worth whole : ℕ)
+    → entry + 2 ^ bit * coded (map f xs) ≡ whole → xs ≡ x ∷ rest
     → worth ≡ worth_of (f x) → entry < 2 ^ bit → bit < most_places
-    → (entry + worth * 2 ^ bit % 18446744073709551616 + 2 ^ (bit + 1) * coded (map f rest) ≡ whole) × (entry + worth * 2 ^ bit % 18446744073709551616 < 2 ^ (bit + 1))
+    → (entry + worth * 2 ^ bit % 18446744073709551616 + 2 ^ (bit + 1) * coded (map f rest) ≡ whole)
+    × (entry + worth * 2 ^ bit % 18446744073709551616 < 2 ^ (bit + 1))
 argument_step f xs rest x entry bit worth whole h e is small within =
     let twice = doubled bit in
     let most : 2 ^ (bit + 1) ≤ 2 ^ 64 = pow_mono (let le : bit + 1 ≤ 64 = omega (arith, within) in le) in
@@ -34,7 +37,8 @@ entry_fits b entry bit worth is small within =
     omega (arith, below, doubled bit, most)
 
 -- the lowest bits of one number and the others of another are no more than 64
-pub room_below : (g v b low old : ℕ) → v < 18446744073709551616 → b < 18446744073709551616 → low ≡ b % 2 ^ g → old ≡ v % 2 ^ g → low + (v - old) < 18446744073709551616
+pub room_below : (g v b low old : ℕ) → v < 18446744073709551616 → b < 18446744073709551616 → low ≡ b % 2 ^ g → old ≡ v % 2 ^ g
+    → low + (v - old) < 18446744073709551616
 room_below g v b low old fits fits' is is' = go (nat_lt g 65) refl
   where
     go : (t : Bool) → nat_lt g 65 ≡ t → low + (v - old) < 18446744073709551616
@@ -44,8 +48,10 @@ room_below g v b low old fits fits' is is' = go (nat_lt g 65) refl
         let whole : 2 ^ (g + (64 - g)) ≡ 2 ^ 64 = ap (λ n. 2 ^ n) (let e : g + (64 - g) ≡ 64 = omega (arith, within) in e) in
         let parts = div-add-mod v (2 ^ g) in
         let above : v / 2 ^ g < 2 ^ (64 - g) = lt_of_mul-lt-mul_left (2 ^ g) (omega (arith, parts, rest, whole, fits)) in
-        let most : 2 ^ g * (v / 2 ^ g + 1) ≤ 2 ^ g * 2 ^ (64 - g) = mul-le-mul_left (2 ^ g) (let le : v / 2 ^ g + 1 ≤ 2 ^ (64 - g) = omega (arith, above) in le) in
-        let one_more : 2 ^ g * (v / 2 ^ g + 1) ≡ 2 ^ g * (v / 2 ^ g) + 2 ^ g = mul-add (2 ^ g) (v / 2 ^ g) 1 ∙ (let e : 2 ^ g * (v / 2 ^ g) + 2 ^ g * 1 ≡ 2 ^ g * (v / 2 ^ g) + 2 ^ g = omega arith in e) in
+        let most : 2 ^ g * (v / 2 ^ g + 1) ≤ 2 ^ g * 2 ^ (64 - g) =
+        mul-le-mul_left (2 ^ g) (let le : v / 2 ^ g + 1 ≤ 2 ^ (64 - g) = omega (arith, above) in le) in
+        let one_more : 2 ^ g * (v / 2 ^ g + 1) ≡ 2 ^ g * (v / 2 ^ g) + 2 ^ g = mul-add (2 ^ g) (v / 2 ^ g) 1
+        ∙ (let e : 2 ^ g * (v / 2 ^ g) + 2 ^ g * 1 ≡ 2 ^ g * (v / 2 ^ g) + 2 ^ g = omega arith in e) in
         let small = mod-lt b (pow_pos g) in
         omega (arith, is, is', parts, most, one_more, rest, whole, small)
     go false least =

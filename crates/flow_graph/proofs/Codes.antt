@@ -38,14 +38,17 @@ together n m = go (n == m) refl
     }
       where
         larger : (b : Bool) → nat_lt n m ≡ b → 2 ^ max n m ≤ 2 ^ n + 2 ^ m
-        larger true is = let same : 2 ^ max n m ≡ 2 ^ m = ap (λ j. 2 ^ j) (let less = ltb-true n m is in omega (arith, less)) in omega (arith, same)
-        larger false is = let same : 2 ^ max n m ≡ 2 ^ n = ap (λ j. 2 ^ j) (let least = ltb-false n m is in omega (arith, least)) in omega (arith, same)
+        larger true is = let same : 2 ^ max n m ≡ 2 ^ m = ap (λ j. 2 ^ j) (let less = ltb-true n m is in omega (arith, less)) in
+            omega (arith, same)
+        larger false is = let same : 2 ^ max n m ≡ 2 ^ n = ap (λ j. 2 ^ j) (let least = ltb-false n m is in omega (arith, least)) in
+            omega (arith, same)
 
 -- steps behind steps, and one more behind them
 joined : (x y rest : List Step) (last : Step) → (x ++ (y ++ (last ∷ []))) ++ rest ≡ x ++ (y ++ (last ∷ rest))
 joined x y rest last = append_assoc x (y ++ (last ∷ [])) rest ∙ ap (λ l. x ++ l) (append_assoc y (last ∷ []) rest)
 
-behind : (old left right new x y : List Step) (last : Step) → left ≡ old ++ x → right ≡ left ++ y → new ≡ right ++ (last ∷ []) → new ≡ old ++ (x ++ (y ++ (last ∷ [])))
+behind : (old left right new x y : List Step) (last : Step) → left ≡ old ++ x → right ≡ left ++ y → new ≡ right ++ (last ∷ [])
+    → new ≡ old ++ (x ++ (y ++ (last ∷ [])))
 behind old left right new x y last e f h =
     h ∙ ap (λ l. l ++ (last ∷ [])) (f ∙ ap (λ l. l ++ y) e) ∙ append_assoc (old ++ x) y (last ∷ []) ∙ append_assoc old x (y ++ (last ∷ []))
 
@@ -115,7 +118,11 @@ module _ (a b : Expression ℕ) (op : Op) (old left right new : List Step) where
 pub shallow_alone : (e : Expression ℕ) (old new : List Step) → Puts old new e → old ≡ [] → length new < 2 ^ 64 → IsShallow 0 new
 shallow_alone e old new p none short =
     let same : new ≡ p.0 ++ [] = p.1 ∙ ap (λ l. l ++ p.0) none ∙ sym (append-nil p.0) in
-    subst (IsShallow 0) (sym same) (p.2.shallow 0 [] (few (need e) (λ more. let huge : 2 ^ 65 ≤ 2 ^ need e = pow_mono {i = 65} (let above : 65 ≤ need e = omega (arith, more) in above) in omega (arith, huge, p.2.long, short, ap length (p.1 ∙ ap (λ l. l ++ p.0) none)))) tt)
+    subst (IsShallow 0) (sym same)
+    (p.2.shallow 0 []
+    (few (need e)
+    (λ more. let huge : 2 ^ 65 ≤ 2 ^ need e = pow_mono {i = 65} (let above : 65 ≤ need e = omega (arith, more) in above) in
+    omega (arith, huge, p.2.long, short, ap length (p.1 ∙ ap (λ l. l ++ p.0) none)))) tt)
   where
     few : (n : ℕ) → (64 < n → ⊥) → 0 + n ≤ 64
     few n h = go (nat_lt 64 n) refl
@@ -124,7 +131,8 @@ shallow_alone e old new p none short =
         go true is = absurd (h (ltb-true 64 n is))
         go false is = let least = ltb-false 64 n is in omega (arith, least)
 
-pub worth_alone : (f : ℕ → Bool) (e : Expression ℕ) (old new : List Step) → Puts old new e → old ≡ [] → top (after_steps f new []) ≡ worth f e
+pub worth_alone : (f : ℕ → Bool) (e : Expression ℕ) (old new : List Step) → Puts old new e → old ≡ []
+    → top (after_steps f new []) ≡ worth f e
 worth_alone f e old new p none =
     let same : new ≡ p.0 ++ [] = p.1 ∙ ap (λ l. l ++ p.0) none ∙ sym (append-nil p.0) in
     ap (λ l. top (after_steps f l [])) same ∙ ap top (p.2.puts f [] [])

@@ -1,5 +1,6 @@
 -- Valuations and their numbers.
-use Rattle.std.proofs.Common.{◌≡◌, ℕ, zero, suc, ◌+◌, ◌*◌, ◌<◌, ◌%◌, ◌^◌, Bool, true, false, List, [], ◌∷◌, ◌++◌, length, refl, sym, ◌∙◌, ap, ap₂, subst, arith, pow-suc, length-append}
+use Rattle.std.proofs.Common.{◌≡◌, ℕ, zero, suc, ◌+◌, ◌*◌, ◌<◌, ◌%◌, ◌^◌, Bool, true, false, List, [], ◌∷◌, ◌++◌, length, refl, sym, ◌∙◌}
+use Rattle.std.proofs.Common.{ap, ap₂, subst, arith, pow-suc, length-append}
 use Rattle.std.proofs.Math.Nat.{mul_assoc, mod-eq_of_lt}
 use Rattle.std.proofs.lemmas.Nat.{mod_low}
 use Rattle.language.specs.Step.{zeros}
@@ -24,7 +25,8 @@ pub coded_append : (xs ys : List Bool) → coded (xs ++ ys) ≡ coded ys * 2 ^ l
 coded_append [] ys = omega arith
 coded_append (x ∷ xs) ys =
     let more = coded_append xs ys in
-    let twice : coded ys * 2 ^ suc (length xs) ≡ coded ys * 2 ^ length xs * 2 = ap (λ n. coded ys * n) (pow-suc 2 (length xs)) ∙ sym (mul_assoc (coded ys) (2 ^ length xs) 2) in
+    let twice : coded ys * 2 ^ suc (length xs) ≡ coded ys * 2 ^ length xs * 2 = ap (λ n. coded ys * n) (pow-suc 2 (length xs))
+    ∙ sym (mul_assoc (coded ys) (2 ^ length xs) 2) in
     omega (arith, more, twice)
 
 -- two lists of as many values as two others, one after the other, are those two
@@ -68,12 +70,14 @@ pub left_coded : (g : ℕ) (v : Valuation) → length v.globals ≡ g → left g
 left_coded g v e = ap (λ n. n % 2 ^ g) (code_split g v e) ∙ mod_low (coded v.places) g (coded v.globals) (coded_below g v.globals e)
 
 -- the valuation after a return has the globals that are left, and the caller's places
-pub resumed_coded : (g : ℕ) (v : Valuation) (b : List Bool) → length v.globals ≡ g → length b ≡ g → resumed g (code v) (coded b) ≡ coded (b ++ v.places)
+pub resumed_coded : (g : ℕ) (v : Valuation) (b : List Bool) → length v.globals ≡ g → length b ≡ g
+    → resumed g (code v) (coded b) ≡ coded (b ++ v.places)
 resumed_coded g v b e f =
     let after : coded b % 2 ^ g ≡ coded b = mod-eq_of_lt (coded_below g b f) in
     let low : code v % 2 ^ g ≡ coded v.globals = left_coded g v e in
     let all = code_split g v e in
-    let whole : coded (b ++ v.places) ≡ coded v.places * 2 ^ g + coded b = coded_append b v.places ∙ ap (λ n. coded v.places * 2 ^ n + coded b) f in
+    let whole : coded (b ++ v.places) ≡ coded v.places * 2 ^ g + coded b = coded_append b v.places
+    ∙ ap (λ n. coded v.places * 2 ^ n + coded b) f in
     omega (arith, after, low, all, whole)
 
 -- values of 0 are the number 0

@@ -112,8 +112,10 @@ chosen_small false = omega arith
 -- two choices that lead to one of two points are the same
 one_choice : (i j a b : ℕ) → (a ≡ b → ⊥) → i ≤ 1 → j ≤ 1 → cond (bit_of i 0) a b ≡ cond (bit_of j 0) a b → i ≡ j
 one_choice zero zero a b ne le lj e = refl
-one_choice zero (suc zero) a b ne le lj e = absurd (ne (sym (ap (λ x. cond x a b) (sym (first_bit false 0)) ∙ e ∙ ap (λ x. cond x a b) (first_bit true 0))))
-one_choice (suc zero) zero a b ne le lj e = absurd (ne (ap (λ x. cond x a b) (sym (first_bit true 0)) ∙ e ∙ ap (λ x. cond x a b) (first_bit false 0)))
+one_choice zero (suc zero) a b ne le lj e =
+    absurd (ne (sym (ap (λ x. cond x a b) (sym (first_bit false 0)) ∙ e ∙ ap (λ x. cond x a b) (first_bit true 0))))
+one_choice (suc zero) zero a b ne le lj e =
+    absurd (ne (ap (λ x. cond x a b) (sym (first_bit true 0)) ∙ e ∙ ap (λ x. cond x a b) (first_bit false 0)))
 one_choice (suc zero) (suc zero) a b ne le lj e = refl
 one_choice (suc (suc i)) j a b ne le lj e = absurd (omega (arith, le))
 one_choice i (suc (suc j)) a b ne le lj e = absurd (omega (arith, lj))
@@ -181,13 +183,15 @@ does_no_call f p es k w ne d = record {
 abbrev pub AllSay : {A : Type 0} → List (Formula A) → Scope → List (Expression Place) → Type 0
 AllSay fs s es = (gs ls : List Bool) → length gs ≡ length s.globals → map (λ f. says f (coded (gs ++ ls))) fs ≡ values_of gs ls es
 
-entry_code : {A : Type 0} (fs : List (Formula A)) (s : Scope) (es : List (Expression Place)) (v : Valuation) → AllSay fs s es → length v.globals ≡ length s.globals →
+entry_code : {A : Type 0} (fs : List (Formula A)) (s : Scope) (es : List (Expression Place)) (v : Valuation) → AllSay fs s es
+    → length v.globals ≡ length s.globals →
     entry_of (length s.globals) fs (code v) ≡ coded (v.globals ++ values_of v.globals v.places es)
 entry_code fs s es v all e =
     let said = ap coded (all v.globals v.places e) in
     let low = left_coded (length s.globals) v e in
     let whole = coded_append v.globals (values_of v.globals v.places es) in
-    let above : 2 ^ length s.globals * coded (map (λ f. says f (code v)) fs) ≡ coded (values_of v.globals v.places es) * 2 ^ length v.globals =
+    let above : 2 ^ length s.globals * coded (map (λ f. says f (code v)) fs) ≡ coded
+    (values_of v.globals v.places es) * 2 ^ length v.globals =
     mul_comm (2 ^ length s.globals) (coded (map (λ f. says f (code v)) fs)) ∙ λ t. said t * 2 ^ sym e t in
     omega (arith, low, whole, above)
 
@@ -236,6 +240,7 @@ does_return w = record {
 }
 
 -- one formula more says one value more
-pub more_said : {A : Type 0} (f : A → Bool) (fs : List A) (x : A) (b : Bool) (bs : List Bool) → f x ≡ b → map f (fs ++ (x ∷ [])) ++ bs ≡ map f fs ++ (b ∷ bs)
+pub more_said : {A : Type 0} (f : A → Bool) (fs : List A) (x : A) (b : Bool) (bs : List Bool) → f x ≡ b
+    → map f (fs ++ (x ∷ [])) ++ bs ≡ map f fs ++ (b ∷ bs)
 more_said f [] x b bs e = ap (λ v. v ∷ bs) e
 more_said f (y ∷ fs) x b bs e = ap (λ l. f y ∷ l) (more_said f fs x b bs e)

@@ -165,7 +165,8 @@ module _ (p : Program) (q : ℕ) (routine : Routine) (there : slice_get p.routin
   }
 
 -- a drawn graph is that of the procedure of its number
-pub drawn_graph : {N A : Type 0} (t : tree.Program N) (q : ℕ) (proc : Proc N) (graph : Graph A) → Resolves (tree_of t) → AllNarrow (tree_of t) → slice_get t.procs.items q ≡ Some proc → Draws t proc graph →
+pub drawn_graph : {N A : Type 0} (t : tree.Program N) (q : ℕ) (proc : Proc N) (graph : Graph A) → Resolves (tree_of t)
+    → AllNarrow (tree_of t) → slice_get t.procs.items q ≡ Some proc → Draws t proc graph →
     IsGraph (sequential_of (tree_of t)) q graph
 drawn_graph {N} {A} t q proc graph resolves narrow is draws = record {
   globals = draws.0;
@@ -211,7 +212,11 @@ drawn_graph {N} {A} t q proc graph resolves narrow is draws = record {
 
 -- the names in a scope and a body, by what declares them
 abbrev pub scope_in : {N : Type 0} → List (Name N) → List (Name N) → List (Name N) → List (Proc N) → Scope
-scope_in gs fs ls ps = record { globals = names_of gs; locals = names_of fs ++ names_of ls; procedures = map (λ (p : Procedure). p.name) (procs_of ps) }
+scope_in gs fs ls ps = record {
+  globals = names_of gs;
+  locals = names_of fs ++ names_of ls;
+  procedures = map (λ (p : Procedure). p.name) (procs_of ps);
+}
 
 abbrev pub code_in : {N : Type 0} → List (Name N) → List (Name N) → List (Name N) → List (Proc N) → List (Stmt N) → Code
 code_in gs fs ls ps b = numbered 1 (resolve_block (scope_in gs fs ls ps) (block_of b))
@@ -244,16 +249,19 @@ drawn_flows {N} {A} gs gs' fs fs' ls ls' ps ps' b b' old new eg ef el ep eb star
 
 -- each graph is drawn of the procedure of its number
 abbrev pub AllDrawn : {N A : Type 0} → tree.Program N → List (Proc N) → List (Graph A) → Type 0
-AllDrawn {N} {A} t ps graphs = (q : ℕ) (graph : Graph A) → slice_get graphs q ≡ Some graph → (proc : Proc N) × (slice_get ps q ≡ Some proc) × Draws t proc graph
+AllDrawn {N} {A} t ps graphs = (q : ℕ) (graph : Graph A) → slice_get graphs q ≡ Some graph
+    → (proc : Proc N) × (slice_get ps q ≡ Some proc) × Draws t proc graph
 
-at_end : {X : Type 0} (xs : List X) (x y : X) (q : ℕ) → slice_get (xs ++ (x ∷ [])) q ≡ Some y → (slice_get xs q ≡ Some y) ⊎ ((q ≡ length xs) × (x ≡ y))
+at_end : {X : Type 0} (xs : List X) (x y : X) (q : ℕ) → slice_get (xs ++ (x ∷ [])) q ≡ Some y
+    → (slice_get xs q ≡ Some y) ⊎ ((q ≡ length xs) × (x ≡ y))
 at_end [] x y zero e = inr (refl, same_Some x y e)
 at_end [] x y (suc q) e = absurd (none-some _ e)
 at_end (z ∷ xs) x y zero e = inl e
 at_end (z ∷ xs) x y (suc q) e =
     elim (at_end xs x y q e) [ inl h ↦ inl h | inr h ↦ inr (ap suc h.0, h.1) ]
 
-pub drawn_more : {N A : Type 0} (t : tree.Program N) (ps : List (Proc N)) (old new : List (Graph A)) (i : ℕ) (proc : Proc N) (graph : Graph A) → AllDrawn t ps old → length old ≡ i → slice_get ps i ≡ Some proc →
+pub drawn_more : {N A : Type 0} (t : tree.Program N) (ps : List (Proc N)) (old new : List (Graph A)) (i : ℕ) (proc : Proc N)
+    (graph : Graph A) → AllDrawn t ps old → length old ≡ i → slice_get ps i ≡ Some proc →
     Draws t proc graph → new ≡ old ++ (graph ∷ []) → AllDrawn t ps new
 drawn_more t ps old new i proc graph all count is draws e q found h =
     elim (at_end old graph found q (sym (ap (λ l. slice_get l q) e) ∙ h)) [
@@ -262,9 +270,12 @@ drawn_more t ps old new i proc graph all count is draws e q found h =
     ]
 
 -- in a narrow program there is room for each procedure's valuations
-pub has_room : {N : Type 0} (t : tree.Program N) (q : ℕ) (proc : Proc N) → AllNarrow (tree_of t) → slice_get t.procs.items q ≡ Some proc → length t.procs.items ≤ 32 → HasRoom t proc
+pub has_room : {N : Type 0} (t : tree.Program N) (q : ℕ) (proc : Proc N) → AllNarrow (tree_of t) → slice_get t.procs.items q ≡ Some proc
+    → length t.procs.items ≤ 32 → HasRoom t proc
 has_room t q proc narrow is few =
-    let room = narrow_places (tree_of t) narrow q (sequential_routine (tree_of t) (proc_of proc)) (routine_at (tree_of t) q (proc_of proc) (slice_get-map proc_of t.procs.items q ∙ ap (option_map proc_of) is)) in
+    let room =
+    narrow_places (tree_of t) narrow q (sequential_routine (tree_of t) (proc_of proc))
+    (routine_at (tree_of t) q (proc_of proc) (slice_get-map proc_of t.procs.items q ∙ ap (option_map proc_of) is)) in
     let globals = length-map t.globals.items name_of in
     let both = length-append (names_of proc.formals.items) (names_of proc.locals.items) in
     let formals = length-map proc.formals.items name_of in

@@ -70,5 +70,6 @@ module _ (p : Program) (q : ℕ) where
   lead_flows v v' (one m (call k es) t) n h = absurd h
   lead_flows v v' (choose m r a b t) n (true, is, to, same) = let (r', e, f) = went v v' (join a t) n to same in (r', (true, is, e), f)
   lead_flows v v' (choose m r a b t) n (false, is, to, same) = let (r', e, f) = went v v' (join b t) n to same in (r', (false, is, e), f)
-  lead_flows v v' (loop m r a t) n (true, is, to, same) = let (r', e, f) = went v v' (join a (loop m r a t)) n to same in (r', (true, is, e), f)
+  lead_flows v v' (loop m r a t) n (true, is, to, same) = let (r', e, f) = went v v' (join a (loop m r a t)) n to same in
+      (r', (true, is, e), f)
   lead_flows v v' (loop m r a t) n (false, is, to, same) = let (r', e, f) = went v v' t n to same in (r', (false, is, e), f)

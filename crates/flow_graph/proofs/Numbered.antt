@@ -48,7 +48,8 @@ pub behind_branch : (n : ℕ) (s : Scope) (m : Mark tree.Name) (t : Names) (r : 
 behind_branch n s m t r a b =
     ap (λ k. numbered k (resolve_block s t))
     (let x = resolved_statements s a in let y = resolved_statements s b in
-    let e : suc n + (statements (resolve_block s a) + statements (resolve_block s b)) ≡ n + suc (statements a + (statements b + 0)) = omega (arith, x, y) in e)
+    let e : suc n + (statements (resolve_block s a) + statements (resolve_block s b)) ≡ n + suc (statements a + (statements b + 0)) =
+    omega (arith, x, y) in e)
 
 pub behind_repeat : (n : ℕ) (s : Scope) (m : Mark tree.Name) (t : Names) (r : tree.RightSide tree.Name) (a : Names) →
     inner_second n s a t ≡ tail n s m (repeat r a) t

@@ -32,12 +32,14 @@ edge_numbers p q a n v = (there, back)
     there (x, y, r, edge, ea, en, ev) = (x, y, point_of r, (edge_point p q x y (point_of r)).1 (r, refl, edge), ea, en, ev)
 
     back : AreNumbersOfEdge p q a n v → AreNumbersOf (EdgeTo p q) a n v
-    back (x, y, point, edge, ea, en, ev) = let (r, is, inside) = (edge_point p q x y point).0 edge in (x, y, r, inside, ea, en ∙ ap number is, ev)
+    back (x, y, point, edge, ea, en, ev) = let (r, is, inside) = (edge_point p q x y point).0 edge in
+        (x, y, r, inside, ea, en ∙ ap number is, ev)
 
 module _ (p : Program) (fit : ArgumentsFit p) where
   -- a path edge is reached by the messages that are due
   edge_by_due : (q : ℕ) (x y : Valuation) (r : Code) → EdgeTo p q x y r → Reached p q (IsDue p q) x y r
-  edge_by_due q x y r = edge_reached p (IsDue p) (λ a begins. (refl, begins)) (λ k s m owed. owed_due p k (IsDue p k) (λ n d. d) s m owed) q x y r
+  edge_by_due q x y r =
+      edge_reached p (IsDue p) (λ a begins. (refl, begins)) (λ k s m owed. owed_due p k (IsDue p k) (λ n d. d) s m owed) q x y r
 
   -- so it has the widths of its procedure, and what is left can be left of its body
   edge_wide : (q : ℕ) (x y : Valuation) (r : Code) → EdgeTo p q x y r → IsValuationOf p q y
@@ -58,7 +60,8 @@ module _ (p : Program) (fit : ArgumentsFit p) where
     λ is. (m, is, refl),
   )
 
-  pub edge_told : IsInTextOrder p → (q : ℕ) (x y : Valuation) (r : Code) → IsValuationOf p q x → IsValuationOf p q y → IsRestOf (body_of (slice_get p.routines q)) r
+  pub edge_told : IsInTextOrder p → (q : ℕ) (x y : Valuation) (r : Code) → IsValuationOf p q x → IsValuationOf p q y
+      → IsRestOf (body_of (slice_get p.routines q)) r
       → AreNumbersOf (EdgeTo p q) (code x) (point_at r) (code y) ↔ EdgeTo p q x y r
   edge_told order q x y r begins wide stands = (there, λ edge. (x, y, r, edge, refl, refl, refl))
     where
@@ -69,11 +72,13 @@ module _ (p : Program) (fit : ArgumentsFit p) where
           let ar : r' ≡ r = sym (rest_in_order_told p order q r r' stands (edge_stands q x' y' r' edge) en) in
           subst (EdgeTo p q x y) ar (subst (λ z. EdgeTo p q x z r') ay (subst (λ z. EdgeTo p q z y' r') ax edge))
 
-module _ {A : Type 0} (p : Program) (graphs : List (Graph A)) (T : ℕ → NumberedMessage → Type 0) (fit : ArgumentsFit p) (are : AreGraphs p graphs)
+module _ {A : Type 0} (p : Program) (graphs : List (Graph A)) (T : ℕ → NumberedMessage → Type 0) (fit : ArgumentsFit p)
+    (are : AreGraphs p graphs)
     (opening : T 0 (numbered_entry starter 0))
     (sent : (q s : ℕ) (graph : Graph A) (k : NumberedMessage) → slice_get graphs q ≡ Some graph → Sends graph q (T q) s k → T s k)
     (due : (q : ℕ) (k : NumberedMessage) → T q k → IsNumberOf (IsDue p q) k) where
-  pub pairs_left : IsInTextOrder p → (q : ℕ) (graph : Graph A) → slice_get graphs q ≡ Some graph → (a b : ℕ) → Leaves graph (T q) a b ↔ AreNumbersOfPair p q a b
+  pub pairs_left : IsInTextOrder p → (q : ℕ) (graph : Graph A) → slice_get graphs q ≡ Some graph → (a b : ℕ)
+      → Leaves graph (T q) a b ↔ AreNumbersOfPair p q a b
   pairs_left order q graph here a b = (there, back)
     where
       there : Leaves graph (T q) a b → AreNumbersOfPair p q a b
@@ -130,7 +135,8 @@ module _ {A : Type 0} (p : Program) (graphs : List (Graph A)) (T : ℕ → Numbe
       there (from, had) = let (m, is, e) = due q (numbered_entry from a) had in of from m is e
 
       has : (from : Caller) (x : Valuation) → IsDue p q (entry from x) → a ≡ code x → (c : Caller) × T q (numbered_entry c a)
-      has from x is e = (from, (taken_due p graphs T fit are opening sent due q (numbered_entry from a)).1 (entry from x, is, ap (numbered_entry from) e))
+      has from x is e =
+          (from, (taken_due p graphs T fit are opening sent due q (numbered_entry from a)).1 (entry from x, is, ap (numbered_entry from) e))
 
       back : IsNumberOfEntry p q a → (from : Caller) × T q (numbered_entry from a)
       back (x, inl begins, e) = has starter x begins e

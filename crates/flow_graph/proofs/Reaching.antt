@@ -1,5 +1,6 @@
 -- What a flow graph reaches and sends by numbers is what its procedure reaches and owes.
-use Rattle.std.proofs.Common.{◌≡◌, ◌↔◌, ◌⊎◌, ℕ, suc, ◌+◌, ◌≤◌, ◌++◌, length, Option, Some, None, slice_get, inl, inr, refl, sym, ◌∙◌, ap, ap₂, subst, arith}
+use Rattle.std.proofs.Common.{◌≡◌, ◌↔◌, ◌⊎◌, ℕ, suc, ◌+◌, ◌≤◌, ◌++◌, length, Option, Some, None, slice_get, inl, inr, refl, sym, ◌∙◌, ap}
+use Rattle.std.proofs.Common.{ap₂, subst, arith}
 use Rattle.std.proofs.lemmas.Option.{same_Some}
 use Rattle.language.specs.Tree.{done, one, choose, loop}
 use Rattle.language.specs.Value.{values_of}
@@ -57,7 +58,8 @@ pub entry_is : (from : Caller) (a s x b : ℕ) → numbered_entry from a ≡ num
 entry_is from a s x b e = let z : 0 ≡ 1 = ap kind_of e in omega (arith, z)
 
 -- two valuations of one procedure have as many values
-same_widths : (p : Program) (q : ℕ) (v w : Valuation) → IsValuationOf p q v → IsValuationOf p q w → (length v.globals ≡ length w.globals) × (length v.places ≡ length w.places)
+same_widths : (p : Program) (q : ℕ) (v w : Valuation) → IsValuationOf p q v → IsValuationOf p q w
+    → (length v.globals ≡ length w.globals) × (length v.places ≡ length w.places)
 same_widths p q v w (g, l) (g', l') =
     let (routine, is, few) = routine_found (slice_get p.routines q) (λ r. length v.places ≡ r.places) l in
     let few' : length w.places ≡ routine.places = subst (λ o. AtRoutine o (λ r. length w.places ≡ r.places)) is l' in
@@ -80,14 +82,20 @@ message_told p q (summary s v b) (summary s' w b') is is' e =
     λ i. summary (es i) (ev i) (record { globals = eb i })
 
 -- what is entered by a call that fits has the widths of its procedure
-pub called_valuation : (p : Program) → ArgumentsFit p → (q : ℕ) (v : Valuation) (r : Code) (s : ℕ) (e : Valuation) → length v.globals ≡ p.globals
+pub called_valuation : (p : Program) → ArgumentsFit p → (q : ℕ) (v : Valuation) (r : Code) (s : ℕ) (e : Valuation)
+    → length v.globals ≡ p.globals
     → IsRestOf (body_of (slice_get p.routines q)) r → Calls p v.globals v.places r s e → IsValuationOf p s e
 called_valuation p fit q v r s e wide rest calls =
     let (m, es, t, same, h) = call_shape p v.globals v.places r s e calls in
-    let (routine, is, made) = routine_found (slice_get p.routines s) (λ z. e ≡ record { globals = v.globals; places = fresh z.places (values_of v.globals v.places es) }) h in
-    let few : length es ≤ routine.places = subst (λ o. AtRoutine o (λ z. length es ≤ z.places)) is (fit q s m es t (subst (IsRestOf (body_of (slice_get p.routines q))) same rest)) in
+    let (routine, is, made) =
+    routine_found (slice_get p.routines s) (λ z. e
+    ≡ record { globals = v.globals; places = fresh z.places (values_of v.globals v.places es) }) h in
+    let few : length es ≤ routine.places =
+    subst (λ o. AtRoutine o (λ z. length es ≤ z.places)) is
+    (fit q s m es t (subst (IsRestOf (body_of (slice_get p.routines q))) same rest)) in
     let count : length (values_of v.globals v.places es) ≡ length es = length_values v.globals v.places es in
-    let places : length e.places ≡ routine.places = ap (λ (z : Valuation). length z.places) made ∙ length_fresh routine.places (values_of v.globals v.places es) (omega (arith, few, count)) in (
+    let places : length e.places ≡ routine.places = ap (λ (z : Valuation). length z.places) made
+    ∙ length_fresh routine.places (values_of v.globals v.places es) (omega (arith, few, count)) in (
       ap (λ (z : Valuation). length z.globals) made ∙ wide,
       subst (λ o. AtRoutine o (λ z. length e.places ≡ z.places)) (sym is) places,
     )
@@ -211,21 +219,25 @@ module _ {A : Type 0} (p : Program) (q : ℕ) (graph : Graph A) (is : IsGraph p 
     -- ---- what is reached and sent by numbers is reached and owed
 
     module _ (fit : ArgumentsFit p) (tells_of : (k : NumberedMessage) → K k → IsNumberOf M k) where
-      begun : (from : Caller) (a : ℕ) (m : Message) → M m → numbered_entry from a ≡ by_numbers m → AreNumbersOf (Reached p q M) a graph.start a
+      begun : (from : Caller) (a : ℕ) (m : Message) → M m → numbered_entry from a ≡ by_numbers m
+          → AreNumbersOf (Reached p q M) a graph.start a
       begun from a (entry c x) had e = (x, x, body, by_messages.starts c x had, ap entry_of e, is.start, ap entry_of e)
       begun from a (summary s x b) had e = absurd (let z : 0 ≡ 1 = ap kind_of e in omega (arith, z))
 
-      resumed_after : (a : ℕ) (x y e : Valuation) (r : Code) (v s w b n : ℕ) (m : Message) → Reached p q M x y r → a ≡ code x → v ≡ code y → Calls p y.globals y.places r s e → w ≡ code e
+      resumed_after : (a : ℕ) (x y e : Valuation) (r : Code) (v s w b n : ℕ) (m : Message) → Reached p q M x y r → a ≡ code x → v ≡ code y
+          → Calls p y.globals y.places r s e → w ≡ code e
           → n ≡ point_at (after_first r) → M m → numbered_summary s w b ≡ by_numbers m →
           AreNumbersOf (Reached p q M) a n (resumed graph.globals v b)
-      resumed_after a x y e r v s w b n (entry c z) reached ea ev calls ew en had same = absurd (let z : 1 ≡ 0 = ap kind_of same in omega (arith, z))
+      resumed_after a x y e r v s w b n (entry c z) reached ea ev calls ew en had same =
+          absurd (let z : 1 ≡ 0 = ap kind_of same in omega (arith, z))
       resumed_after a x y e r v s w b n (summary s' z b') reached ea ev calls ew en had same =
           let wide = reached_valuation p q M right x y r reached in
           let whole : IsValuationOf p s e = called_valuation p fit q y r s e wide.0 (reached_stands p q M x y r reached) calls in
           let theirs = right (summary s' z b') had in
           let es : s ≡ s' = ap procedure_of same in
           let eb : b ≡ exit_code b' = ap left_of same in
-          let ez : z ≡ e = valuation_told p s z e (subst (λ i. IsValuationOf p i z) (sym es) theirs.0) whole (sym (ap entry_of same) ∙ ew) in
+          let ez : z ≡ e =
+          valuation_told p s z e (subst (λ i. IsValuationOf p i z) (sym es) theirs.0) whole (sym (ap entry_of same) ∙ ew) in
           let m : M (summary s e b') = subst (λ u. M (summary s u b')) ez (subst (λ i. M (summary i z b')) (sym es) had) in
           let back : resumed graph.globals (code y) (exit_code b') ≡ coded (b'.globals ++ y.places) =
           resumed_coded graph.globals y b'.globals (wide.0 ∙ sym is.globals) (theirs.1 ∙ sym is.globals) in (
@@ -264,7 +276,8 @@ module _ {A : Type 0} (p : Program) (q : ℕ) (graph : Graph A) (is : IsGraph p 
           let exit : r ≡ done = rest_at_exit b r (subst (λ k. IsRestOf k r) numbering (reached_stands p q M x y r got)) (sym en) in
           let (from, began) = reached_entry p q M x y r got in
           let ez : z ≡ x = valuation_told p q z x (right (entry c z) had) (right (entry from x) began) (sym (ap entry_of same) ∙ ea) in
-          let m : M (entry (caller s) x) = subst (λ u. M (entry (caller s) u)) ez (subst (λ u. M (entry u z)) (sym (ap caller_of same)) had) in
+          let m : M (entry (caller s) x) =
+          subst (λ u. M (entry (caller s) u)) ez (subst (λ u. M (entry u z)) (sym (ap caller_of same)) had) in
           let wide = reached_valuation p q M right x y r got in (
             summary q x (exit_of y),
             by_messages.tells x y s m (subst (Reached p q M x y) exit got),
@@ -285,7 +298,8 @@ module _ {A : Type 0} (p : Program) (q : ℕ) (graph : Graph A) (is : IsGraph p 
 
     -- ---- both
 
-    module _ (gives : (m : Message) → M m → K (by_numbers m)) (fit : ArgumentsFit p) (tells_of : (k : NumberedMessage) → K k → IsNumberOf M k) where
+    module _ (gives : (m : Message) → M m → K (by_numbers m)) (fit : ArgumentsFit p)
+        (tells_of : (k : NumberedMessage) → K k → IsNumberOf M k) where
       pub reaches_numbers : (a n v : ℕ) → GraphReaches graph K a n v ↔ AreNumbersOf (Reached p q M) a n v
       reaches_numbers a n v = (reached_reaches fit tells_of a n v, back)
         where

@@ -33,17 +33,20 @@ two_bits P a b c d x (suc (suc y)) h k = absurd (omega (arith, k))
 pub bits_and : (a b j : ℕ) → bit_of (bit_and a b) j ≡ (bit_of a j && bit_of b j)
 bits_and a b j =
     ap (λ n. n == 1) (bit_at_and a b j)
-    ∙ two_bits (λ x y. (min x y == 1) ≡ ((x == 1) && (y == 1))) refl refl refl refl (bit_at a j) (bit_at b j) (bit_at-lt a j) (bit_at-lt b j)
+    ∙ two_bits (λ x y. (min x y == 1) ≡ ((x == 1) && (y == 1))) refl refl refl refl (bit_at a j) (bit_at b j) (bit_at-lt a j)
+    (bit_at-lt b j)
 
 pub bits_or : (a b j : ℕ) → bit_of (bit_or a b) j ≡ (bit_of a j || bit_of b j)
 bits_or a b j =
     ap (λ n. n == 1) (bit_at_or a b j)
-    ∙ two_bits (λ x y. (max x y == 1) ≡ ((x == 1) || (y == 1))) refl refl refl refl (bit_at a j) (bit_at b j) (bit_at-lt a j) (bit_at-lt b j)
+    ∙ two_bits (λ x y. (max x y == 1) ≡ ((x == 1) || (y == 1))) refl refl refl refl (bit_at a j) (bit_at b j) (bit_at-lt a j)
+    (bit_at-lt b j)
 
 pub bits_xor : (a b j : ℕ) → bit_of (bit_xor a b) j ≡ cond (bit_of a j) (not (bit_of b j)) (bit_of b j)
 bits_xor a b j =
     ap (λ n. n == 1) (bit_at_xor a b j)
-    ∙ two_bits (λ x y. ((x + y) % 2 == 1) ≡ cond (x == 1) (not (y == 1)) (y == 1)) refl refl refl refl (bit_at a j) (bit_at b j) (bit_at-lt a j) (bit_at-lt b j)
+    ∙ two_bits (λ x y. ((x + y) % 2 == 1) ≡ cond (x == 1) (not (y == 1)) (y == 1)) refl refl refl refl (bit_at a j) (bit_at b j)
+    (bit_at-lt a j) (bit_at-lt b j)
 
 pub bits_not : (a j : ℕ) → a < 2 ^ 64 → j < word_rows → bit_of (18446744073709551615 - a) j ≡ not (bit_of a j)
 bits_not a j h k =
@@ -97,7 +100,8 @@ below (suc n) test h j less = go (test n) refl h (λ k inside. below n test k j 
     last true e is rest = ap test (eqb-true j n e) ∙ is
     last false e is rest = let apart = eqb-false j n e in rest (omega (arith, less, apart))
 
-    go : (b : Bool) → test n ≡ b → cond b (all_below n test) false ≡ true → (all_below n test ≡ true → j < n → test j ≡ true) → test j ≡ true
+    go : (b : Bool) → test n ≡ b → cond b (all_below n test) false ≡ true → (all_below n test ≡ true → j < n → test j ≡ true)
+        → test j ≡ true
     go true is k rest = last (j == n) refl is (rest k)
     go false is k rest = absurd (false≢true k)
 
@@ -132,7 +136,8 @@ pub slot_inside : (b : ℕ) (xs : List ℕ) → slot b xs < length xs → is_inp
 slot_inside b [] h = absurd (omega (arith, h))
 slot_inside b (x ∷ xs) h = go (b == x) h (slot_inside b xs)
   where
-    go : (c : Bool) → cond c 0 (suc (slot b xs)) < suc (length xs) → (slot b xs < length xs → is_input b xs ≡ true) → cond c true (is_input b xs) ≡ true
+    go : (c : Bool) → cond c 0 (suc (slot b xs)) < suc (length xs) → (slot b xs < length xs → is_input b xs ≡ true)
+        → cond c true (is_input b xs) ≡ true
     go true k rest = refl
     go false k rest = rest (omega (arith, k))
 
@@ -141,7 +146,8 @@ pub slot_kept : (b : ℕ) (xs ys : List ℕ) → is_input b xs ≡ true → (slo
 slot_kept b [] ys h = absurd (false≢true h)
 slot_kept b (x ∷ xs) ys h = go (b == x) h (slot_kept b xs ys)
   where
-    go : (c : Bool) → cond c true (is_input b xs) ≡ true → (is_input b xs ≡ true → (slot b (xs ++ ys) ≡ slot b xs) × (is_input b (xs ++ ys) ≡ true))
+    go : (c : Bool) → cond c true (is_input b xs) ≡ true
+        → (is_input b xs ≡ true → (slot b (xs ++ ys) ≡ slot b xs) × (is_input b (xs ++ ys) ≡ true))
         → (cond c 0 (suc (slot b (xs ++ ys))) ≡ cond c 0 (suc (slot b xs))) × (cond c true (is_input b (xs ++ ys)) ≡ true)
     go true k rest = (refl, refl)
     go false k rest = let r = rest k in (ap suc r.0, r.1)
@@ -182,7 +188,8 @@ widens_more xs ys zs (more, is) (others, are) = (more ++ others, are ∙ ap (λ 
 -- ---- expressions
 
 -- where an expression reads only inputs, what it is worth hangs on their values alone
-pub worth_same : (f g : ℕ → Bool) (xs : List ℕ) (e : Expression ℕ) → Reads xs e → ((b : ℕ) → is_input b xs ≡ true → f b ≡ g b) → worth f e ≡ worth g e
+pub worth_same : (f g : ℕ → Bool) (xs : List ℕ) (e : Expression ℕ) → Reads xs e → ((b : ℕ) → is_input b xs ≡ true → f b ≡ g b)
+    → worth f e ≡ worth g e
 worth_same f g xs (const b) r alike = refl
 worth_same f g xs (var i) r alike = alike i r
 worth_same f g xs (negation e) r alike = ap not (worth_same f g xs e r alike)
@@ -198,7 +205,9 @@ reads_widened xs ys (two o a b) r = (reads_widened xs ys a r.0, reads_widened xs
 widened : (xs ys w : List ℕ) (e : Expression ℕ) → Tabulates xs w e → Tabulates (xs ++ ys) w e
 widened xs ys w e t = record {
   reads = reads_widened xs ys e t.reads;
-  rows = λ j less. t.rows j less ∙ worth_same (λ b. bit_of j (slot b xs)) (λ b. bit_of j (slot b (xs ++ ys))) xs e t.reads (λ b h. ap (bit_of j) (sym (slot_kept b xs ys h).0));
+  rows = λ j less. t.rows j less
+      ∙ worth_same (λ b. bit_of j (slot b xs)) (λ b. bit_of j (slot b (xs ++ ys))) xs e t.reads
+      (λ b h. ap (bit_of j) (sym (slot_kept b xs ys h).0));
 }
 
 -- the outputs of a constant: the same in each row
@@ -238,20 +247,25 @@ operated xs ys l r w o a b more s t right =
 
 -- bit 0 of a row is its first value, and the others are those of the rest
 pub first_bit : (b : Bool) (n : ℕ) → bit_of (worth_of b + 2 * n) 0 ≡ b
-first_bit b n = ap (λ k. k == 1) (bit_at_lowest (worth_of b + 2 * n) ∙ (let z : (worth_of b + 2 * n) % 2 ≡ worth_of b = omega (arith, worth_small b) in z)) ∙ one b
+first_bit b n =
+    ap (λ k. k == 1) (bit_at_lowest (worth_of b + 2 * n)
+    ∙ (let z : (worth_of b + 2 * n) % 2 ≡ worth_of b = omega (arith, worth_small b) in z)) ∙ one b
   where
     one : (c : Bool) → (worth_of c == 1) ≡ c
     one true = refl
     one false = refl
 
 pub later_bit : (b : Bool) (n i : ℕ) → bit_of (worth_of b + 2 * n) (suc i) ≡ bit_of n i
-later_bit b n i = ap (λ k. k == 1) (bit_at-suc (worth_of b + 2 * n) i ∙ ap (λ k. bit_at k i) (let z : (worth_of b + 2 * n) / 2 ≡ n = omega (arith, worth_small b) in z))
+later_bit b n i =
+    ap (λ k. k == 1) (bit_at-suc (worth_of b + 2 * n) i
+    ∙ ap (λ k. bit_at k i) (let z : (worth_of b + 2 * n) / 2 ≡ n = omega (arith, worth_small b) in z))
 
 row_bit : (f : ℕ → Bool) (xs : List ℕ) (b : ℕ) → is_input b xs ≡ true → bit_of (coded (map f xs)) (slot b xs) ≡ f b
 row_bit f [] b h = absurd (false≢true h)
 row_bit f (x ∷ xs) b h = go (b == x) refl h (row_bit f xs b)
   where
-    go : (c : Bool) → (b == x) ≡ c → cond c true (is_input b xs) ≡ true → (is_input b xs ≡ true → bit_of (coded (map f xs)) (slot b xs) ≡ f b)
+    go : (c : Bool) → (b == x) ≡ c → cond c true (is_input b xs) ≡ true
+        → (is_input b xs ≡ true → bit_of (coded (map f xs)) (slot b xs) ≡ f b)
         → bit_of (worth_of (f x) + 2 * coded (map f xs)) (cond c 0 (suc (slot b xs))) ≡ f b
     go true e k rest = first_bit (f x) (coded (map f xs)) ∙ ap f (sym (eqb-true b x e))
     go false e k rest = later_bit (f x) (coded (map f xs)) (slot b xs) ∙ rest k
@@ -276,12 +290,15 @@ looked_up f xs words n e few enough t =
 -- one value more of a row: its place counts what it is worth
 split : (p : ℕ) (b : Bool) (n : ℕ) → p * (worth_of b + 2 * n) ≡ worth_of b * p + p * 2 * n
 split p true n = mul-add p 1 (2 * n) ∙ (let a : p * 2 * n ≡ p * (2 * n) = mul_assoc p 2 n in omega (arith, a))
-split p false n = let a : p * 2 * n ≡ p * (2 * n) = mul_assoc p 2 n in let z : 0 + 2 * n ≡ 2 * n = omega arith in ap (λ k. p * k) z ∙ omega (arith, a)
+split p false n = let a : p * 2 * n ≡ p * (2 * n) = mul_assoc p 2 n in let z : 0 + 2 * n ≡ 2 * n = omega arith in
+    ap (λ k. p * k) z ∙ omega (arith, a)
 
-pub row_step : {A : Type 0} (f : A → Bool) (xs rest : List A) (x : A) (row place bit whole : ℕ) → row + place * coded (map f xs) ≡ whole → xs ≡ x ∷ rest → bit ≡ worth_of (f x)
+pub row_step : {A : Type 0} (f : A → Bool) (xs rest : List A) (x : A) (row place bit whole : ℕ) → row + place * coded (map f xs) ≡ whole
+    → xs ≡ x ∷ rest → bit ≡ worth_of (f x)
     → (row + bit * place) + place * 2 * coded (map f rest) ≡ whole
 row_step f xs rest x row place bit whole h e is =
-    let all : place * coded (map f xs) ≡ worth_of (f x) * place + place * 2 * coded (map f rest) = ap (λ l. place * coded (map f l)) e ∙ split place (f x) (coded (map f rest)) in
+    let all : place * coded (map f xs) ≡ worth_of (f x) * place + place * 2 * coded (map f rest) = ap (λ l. place * coded (map f l)) e
+    ∙ split place (f x) (coded (map f rest)) in
     let one : bit * place ≡ worth_of (f x) * place = ap (λ n. n * place) is in
     omega (arith, h, all, one)
 

@@ -1,6 +1,7 @@
 -- A stack of values as the bits of a number.
 use mir.Val.{bool_byte}
-use Rattle.std.proofs.Common.{◌≡◌, ◌<◌, ◌≤◌, ℕ, zero, suc, ◌+◌, ◌*◌, ◌/◌, ◌%◌, ◌^◌, ◌==◌, Bool, true, false, List, [], ◌∷◌, length, refl, ◌∙◌, ap, arith, pow-suc}
+use Rattle.std.proofs.Common.{◌≡◌, ◌<◌, ◌≤◌, ℕ, zero, suc, ◌+◌, ◌*◌, ◌/◌, ◌%◌, ◌^◌, ◌==◌, Bool, true, false, List, [], ◌∷◌, length, refl}
+use Rattle.std.proofs.Common.{◌∙◌, ap, arith, pow-suc}
 use Rattle.std.proofs.Math.Pow.{pow_mono}
 use Rattle.std.proofs.lemmas.Nat.Bits.{shr_and_one, bit_at-lt}
 use Rattle.std.specs.Int.{bit_at}
@@ -17,10 +18,12 @@ coded_small (b ∷ bs) = omega (arith, worth_small b, coded_small bs, pow-suc 2 
 
 -- a stack of fewer than 64 values leaves room for one more
 pub coded_room : (bs : List Bool) → length bs < 64 → coded bs < 9223372036854775808
-coded_room bs h = let few : 2 ^ length bs ≤ 2 ^ 63 = pow_mono (let le : length bs ≤ 63 = omega (arith, h) in le) in let small = coded_small bs in omega (arith, few, small)
+coded_room bs h = let few : 2 ^ length bs ≤ 2 ^ 63 = pow_mono (let le : length bs ≤ 63 = omega (arith, h) in le) in
+    let small = coded_small bs in omega (arith, few, small)
 
 -- one more value on the stack
-pub pushed : (n v : ℕ) (b : Bool) (bs : List Bool) → n ≡ coded bs → length bs < 64 → v ≡ worth_of b → n % 9223372036854775808 * 2 + v ≡ coded (b ∷ bs)
+pub pushed : (n v : ℕ) (b : Bool) (bs : List Bool) → n ≡ coded bs → length bs < 64 → v ≡ worth_of b
+    → n % 9223372036854775808 * 2 + v ≡ coded (b ∷ bs)
 pushed n v b bs e h is = omega (arith, e, coded_room bs h, is)
 
 -- a bit, as its value counts

@@ -23,7 +23,8 @@ use Rattle.flow_graph.proofs.Coding.{coded_zeros}
 use Rattle.flow_graph.proofs.Reaching.{reaches_reached, reached_reaches, sends_owed, owed_sends}
 
 -- as many in one list as in another: there is a second item where there is a first
-pub there_too : {X Y : Type 0} (xs : List X) (ys : List Y) (q : ℕ) (x : X) → length xs ≡ length ys → slice_get xs q ≡ Some x → (y : Y) × (slice_get ys q ≡ Some y)
+pub there_too : {X Y : Type 0} (xs : List X) (ys : List Y) (q : ℕ) (x : X) → length xs ≡ length ys → slice_get xs q ≡ Some x
+    → (y : Y) × (slice_get ys q ≡ Some y)
 there_too [] ys q x h e = absurd (none-some x e)
 there_too (z ∷ zs) [] q x h e = absurd (omega (arith, h))
 there_too (z ∷ zs) (y ∷ ys) zero x h e = (y, refl)
@@ -61,11 +62,13 @@ owes_entry p q M _ _ (by_messages.tells a v s is reached) = (entry (caller s) a,
 -- the first valuation is the number 0
 code_zero : (p : Program) (a : Valuation) → IsZero p a → code a ≡ 0
 code_zero p a begins =
-    let (routine, is, e) = routine_found (slice_get p.routines 0) (λ r. a ≡ record { globals = zeros p.globals; places = zeros r.places }) begins in
+    let (routine, is, e) =
+    routine_found (slice_get p.routines 0) (λ r. a ≡ record { globals = zeros p.globals; places = zeros r.places }) begins in
     ap code e ∙ coded_zeros p.globals routine.places
 
 -- T says which messages each procedure took
-module _ {A : Type 0} (p : Program) (graphs : List (Graph A)) (T : ℕ → NumberedMessage → Type 0) (fit : ArgumentsFit p) (are : AreGraphs p graphs)
+module _ {A : Type 0} (p : Program) (graphs : List (Graph A)) (T : ℕ → NumberedMessage → Type 0) (fit : ArgumentsFit p)
+    (are : AreGraphs p graphs)
     (opening : T 0 (numbered_entry starter 0))
     (sent : (q s : ℕ) (graph : Graph A) (k : NumberedMessage) → slice_get graphs q ≡ Some graph → Sends graph q (T q) s k → T s k)
     (due : (q : ℕ) (k : NumberedMessage) → T q k → IsNumberOf (IsDue p q) k) where

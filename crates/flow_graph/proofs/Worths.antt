@@ -1,5 +1,6 @@
 -- What an expression over bits is worth is its value.
-use Rattle.std.proofs.Common.{◌≡◌, ◌≤◌, ℕ, zero, suc, ◌+◌, Bool, true, false, cond, not, nat_lt, ◌==◌, Some, None, List, [], ◌∷◌, ◌++◌, length, refl, sym, ◌∙◌, ap, arith}
+use Rattle.std.proofs.Common.{◌≡◌, ◌≤◌, ℕ, zero, suc, ◌+◌, Bool, true, false, cond, not, nat_lt, ◌==◌, Some, None, List, [], ◌∷◌, ◌++◌}
+use Rattle.std.proofs.Common.{length, refl, sym, ◌∙◌, ap, arith}
 use Rattle.std.proofs.lemmas.Bool.{ltb-true, ltb-false}
 use Rattle.std.proofs.lemmas.List.{get_or_append_left, get_or-append-add}
 use Rattle.std.proofs.lemmas.Nat.Bits.{bit_at-zero}
@@ -22,7 +23,8 @@ bit_past (x ∷ xs) zero h = absurd (omega (arith, h))
 bit_past (x ∷ xs) (suc i) h = bit_past xs i (omega (arith, h))
 
 -- a read of a place, by its bit
-read_worth : (n : ℕ) (gs ls : List Bool) (p : Place) → length gs ≡ n → worth (bit_of (coded (gs ++ ls))) (read_of (bit_of_place n p)) ≡ look_up gs ls p
+read_worth : (n : ℕ) (gs ls : List Bool) (p : Place) → length gs ≡ n
+    → worth (bit_of (coded (gs ++ ls))) (read_of (bit_of_place n p)) ≡ look_up gs ls p
 read_worth n gs ls (local i) e = coded_bit (gs ++ ls) (n + i) ∙ ap (λ k. bit (gs ++ ls) (k + i)) (sym e) ∙ get_or-append-add gs ls i false
 read_worth n gs ls (global i) e = go (nat_lt i n) refl
   where
@@ -30,7 +32,8 @@ read_worth n gs ls (global i) e = go (nat_lt i n) refl
     go true is = coded_bit (gs ++ ls) i ∙ get_or_append_left gs ls false i (let less = ltb-true i n is in omega (arith, less, e))
     go false is = sym (bit_past gs i (let least = ltb-false i n is in omega (arith, least, e)))
 
-pub worth_is_value : (s : Scope) (gs ls : List Bool) (e : Expression Name) → length gs ≡ length s.globals → worth (bit_of (coded (gs ++ ls))) (located s e) ≡ value_of gs ls (resolve_expression s e)
+pub worth_is_value : (s : Scope) (gs ls : List Bool) (e : Expression Name) → length gs ≡ length s.globals
+    → worth (bit_of (coded (gs ++ ls))) (located s e) ≡ value_of gs ls (resolve_expression s e)
 worth_is_value s gs ls (const b) h = refl
 worth_is_value s gs ls (var x) h = read_worth (length s.globals) gs ls (place_of s x) h
 worth_is_value s gs ls (negation e) h = ap not (worth_is_value s gs ls e h)

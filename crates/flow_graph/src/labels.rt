@@ -6,7 +6,7 @@ ghost use Rattle.flow_graph.specs.Points.{IsFound};
 use crate::sizes::{size, size_of};
 use language::Point;
 use std::alloc::Allocator;
-use trees::{Core, Stmt};
+use trees::Stmt;
 
 /// The point of the first statement with this label, those inside of others included, where the first of the statements
 /// has this number; `None` where none has the label.
@@ -33,12 +33,9 @@ fn find_at<N: Allocator>(label: &str, stmt: &Stmt<N>, number: Point) -> Option<P
         return Some(number);
     }
     let inside = number.saturating_add(1);
-    match &stmt.core {
-        Core::If(_, a, b) => match find(label, a, inside) {
-            Some(found) => Some(found),
-            None => find(label, b, inside.saturating_add(size(a))),
-        },
-        Core::While(_, a) => find(label, a, inside),
-        _ => None,
+    let (first, second) = stmt.core.inside();
+    match find(label, first, inside) {
+        Some(found) => Some(found),
+        None => find(label, second, inside.saturating_add(size(first))),
     }
 }

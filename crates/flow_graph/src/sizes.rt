@@ -4,7 +4,7 @@ ghost use Rattle.std.specs.Prelude.{◌∷◌, []};
 ghost use Rattle.flow_graph.specs.Points.{IsSize};
 
 use std::alloc::Allocator;
-use trees::{Core, Stmt};
+use trees::Stmt;
 
 /// How many statements there are, those inside of others included.
 #[cycle(sizes)]
@@ -23,9 +23,6 @@ pub(crate) fn size<N: Allocator>(stmts: &[Stmt<N>]) -> usize
 pub(crate) fn size_of<N: Allocator>(stmt: &Stmt<N>) -> usize
     ensures { IsSize (stmt.now ∷ []) result }
 {
-    match &stmt.core {
-        Core::If(_, a, b) => size(a).saturating_add(size(b)).saturating_add(1),
-        Core::While(_, a) => size(a).saturating_add(1),
-        _ => 1,
-    }
+    let (first, second) = stmt.core.inside();
+    size(first).saturating_add(size(second)).saturating_add(1)
 }

@@ -1,26 +1,26 @@
 -- What a tree that resolves means is complete, also with its statements numbered.
-use Rattle.std.proofs.Common.{◌≡◌, ℕ, suc, ◌+◌, ◌≤◌, Bool, true, false, cond, List, [], ◌∷◌, ◌++◌, length, map, Option, Some, None}
-use Rattle.std.proofs.Common.{option_map, slice_get, sym, ◌∙◌, ap, subst, arith, length-append}
+use Rattle.std.proofs.Common.{◌≡◌, ℕ, suc, ◌+◌, ◌≤◌, Bool, true, false, cond, List, [], ◌∷◌, ◌++◌, length, map, Option}
+use Rattle.std.proofs.Common.{Some, None, option_map, slice_get, sym, ◌∙◌, ap, subst, arith, length-append}
 use Rattle.std.proofs.lemmas.List.{length-map}
 use Rattle.std.proofs.lemmas.Option.{slice_get-map}
-use Rattle.language.specs.Tree.{Name, Expression, const, var, negation, two, RightSide, any, value, Simple, Mark, Block, done, one, choose}
-use Rattle.language.specs.Tree.{loop, Procedure, ThreadLine, Tree}
+use Rattle.language.specs.Tree.{Name, Expression, const, var, negation, two, RightSide, any, value, Simple, Mark, Block}
+use Rattle.language.specs.Tree.{done, one, choose, loop, Procedure, ThreadLine, Tree}
 use Rattle.language.specs.Value.{Place, global, local}
 use Rattle.language.specs.Rest.{Label, Code, has_label, first_of_two, join, rest_from}
 use Rattle.language.specs.Step.{Routine, AtRoutine, AtRest}
-use Rattle.language.specs.Resolve.{number_of, Scope, place_of, scope_of, resolve_expression, resolve_side, resolve_simple, resolve_block}
-use Rattle.language.specs.Resolve.{routine_of, meaning_of}
+use Rattle.language.specs.Resolve.{number_of, Scope, place_of, scope_of, resolve_expression, resolve_side}
+use Rattle.language.specs.Resolve.{resolve_simple, resolve_block, routine_of, meaning_of}
 use Rattle.language.specs.Sequential.{statements, marked, numbered, numbered_routine, sequential_of}
 use Rattle.language.specs.Parts.{plain, assigns, targets_of, sides_of, test_of, arguments_of, callee_of, jump_of}
 use Rattle.resolved.specs.There.{IsThere, names}
-use Rattle.resolved.specs.Statements.{Statement, statements_of, variables_of, variables_of_side, variables_of_sides, variables_of_test}
-use Rattle.resolved.specs.Statements.{variables_of_all}
+use Rattle.resolved.specs.Statements.{Statement, statements_of, variables_of, variables_of_side, variables_of_sides}
+use Rattle.resolved.specs.Statements.{variables_of_test, variables_of_all}
 use Rattle.resolved.specs.Resolves.{Each, IsPlaceIn, StatementResolves, Resolves}
 use Rattle.resolved.proofs.Each.{each_left, each_right}
 use Rattle.resolved.proofs.Parts.{parts_resolve}
 use Rattle.std.specs.Prelude.{IfSome}
-use Rattle.resolved.specs.Scoped.{PlaceInScope, InScope, AreInScope, SideInScope, SidesInScope, PlacesInScope, Throughout, EachRoutine}
-use Rattle.resolved.specs.Scoped.{EachThread}
+use Rattle.resolved.specs.Scoped.{PlaceInScope, InScope, AreInScope, SideInScope, SidesInScope, PlacesInScope}
+use Rattle.resolved.specs.Scoped.{Throughout, EachRoutine, EachThread}
 use Rattle.resolved.specs.Complete.{SimpleComplete, RoutineComplete, IsComplete}
 
 module _ (t : Tree) (p : Procedure) where
@@ -50,14 +50,16 @@ module _ (t : Tree) (p : Procedure) where
   expression_in_scope (negation e) h = expression_in_scope e h
   expression_in_scope (two o a b) h = (
     expression_in_scope a (each_left Placed (variables_of a) (variables_of b) h),
-    expression_in_scope b (each_right Placed (variables_of a) (variables_of b) h),
+    expression_in_scope b
+        (each_right Placed (variables_of a) (variables_of b) h),
   )
 
   arguments_in_scope : (es : List (Expression Name)) → Each Placed (variables_of_all es) → AreInScope n own (map (resolve_expression s) es)
   arguments_in_scope [] h = tt
   arguments_in_scope (e ∷ es) h = (
     expression_in_scope e (each_left Placed (variables_of e) (variables_of_all es) h),
-    arguments_in_scope es (each_right Placed (variables_of e) (variables_of_all es) h),
+    arguments_in_scope es
+        (each_right Placed (variables_of e) (variables_of_all es) h),
   )
 
   side_in_scope : (r : RightSide Name) → Each Placed (variables_of_side r) → SideInScope n own (resolve_side s r)
@@ -68,7 +70,8 @@ module _ (t : Tree) (p : Procedure) where
   sides_in_scope [] h = tt
   sides_in_scope (r ∷ rs) h = (
     side_in_scope r (each_left Placed (variables_of_side r) (variables_of_sides rs) h),
-    sides_in_scope rs (each_right Placed (variables_of_side r) (variables_of_sides rs) h),
+    sides_in_scope rs
+        (each_right Placed (variables_of_side r) (variables_of_sides rs) h),
   )
 
   room : (o : Option Procedure) (es : List (Expression Name)) → IsThere o (λ r. length r.formals ≡ length es)
@@ -139,7 +142,8 @@ module _ (t : Tree) (p : Procedure) where
   block_complete (loop m r a k) h =
       let P : Statement → Type 0 = StatementResolves t p in (
         side_in_scope r (each_left Placed (variables_of_side r) [] h.0.variables),
-        block_complete a (each_left P (statements_of a) (statements_of k) h.1),
+        block_complete a
+            (each_left P (statements_of a) (statements_of k) h.1),
         block_complete k (each_right P (statements_of a) (statements_of k) h.1),
       )
 
@@ -171,8 +175,7 @@ rest_numbered x (choose m r a b t) i k k' h =
     (rest_from x (numbered (suc i) a) (join t' k')) (first_of_two (rest_from x b' (join t' k')) (rest_from x t' k'))
     (rest_numbered x a (suc i) (join t k) (join t' k'))
     (one_of_two (rest_from x b (join t k)) (rest_from x t k) (rest_from x b' (join t' k')) (rest_from x t' k')
-    (rest_numbered x b (suc i + statements a) (join t k) (join t' k'))
-    (rest_numbered x t (suc i + (statements a + statements b)) k k'))) h
+    (rest_numbered x b (suc i + statements a) (join t k) (join t' k')) (rest_numbered x t (suc i + (statements a + statements b)) k k'))) h
 rest_numbered x (loop m r a t) i k k' h =
     let t' : Code = numbered (suc i + statements a) t in
     let a' : Code = numbered (suc i) a in
@@ -223,7 +226,8 @@ block_numbered rs n r (choose m s a b t) i h = (
   h.0,
   block_numbered rs n r a (suc i) h.1,
   block_numbered rs n r b (suc i + statements a) h.2,
-  block_numbered rs n r t (suc i + (statements a + statements b)) h.3,
+  block_numbered rs n r t
+      (suc i + (statements a + statements b)) h.3,
 )
 block_numbered rs n r (loop m s a t) i h = (h.0, block_numbered rs n r a (suc i) h.1, block_numbered rs n r t (suc i + statements a) h.2)
 
@@ -246,11 +250,9 @@ module _ (t : Tree) where
   start_there None h = h
   start_there (Some r) h = tt
 
-  threads_there : (lines : List ThreadLine)
-      → Each
-      (λ (line : ThreadLine). IsThere (slice_get t.procedures (number_of line.name.text (names t.procedures))) (λ r. length r.formals ≡ 0))
-      lines
-      → EachThread (map numbered_routine (meaning_of t).routines)
+  threads_there : (lines : List ThreadLine) → Each
+      (λ (line : ThreadLine). IsThere (slice_get t.procedures (number_of line.name.text (names t.procedures)))
+      (λ r. length r.formals ≡ 0)) lines → EachThread (map numbered_routine (meaning_of t).routines)
       (map (λ (line : ThreadLine). number_of line.name.text (names t.procedures)) lines)
   threads_there [] h = tt
   threads_there (line ∷ lines) h =

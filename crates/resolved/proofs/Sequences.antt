@@ -1,6 +1,6 @@
 -- The procedures of a tree as a sequential program: one for each, as wide, and each call has a place for each argument.
-use Rattle.std.proofs.Common.{◌≡◌, ℕ, zero, suc, ◌+◌, ◌≤◌, List, [], ◌∷◌, ◌++◌, length, map, Option, Some, None, slice_get, option_map, inl}
-use Rattle.std.proofs.Common.{inr, refl, sym, ◌∙◌, ap, subst}
+use Rattle.std.proofs.Common.{◌≡◌, ℕ, zero, suc, ◌+◌, ◌≤◌, List, [], ◌∷◌, ◌++◌, length, map, Option, Some, None}
+use Rattle.std.proofs.Common.{slice_get, option_map, inl, inr, refl, sym, ◌∙◌, ap, subst}
 use Rattle.std.proofs.lemmas.List.{length-map}
 use Rattle.std.proofs.lemmas.Option.{none-some, same_Some}
 use Rattle.language.specs.Tree.{RightSide, Simple, call, done, one, choose, loop, Procedure, Tree}
@@ -64,10 +64,9 @@ complete_fit p complete q s m es t rest = at (slice_get p.routines q) refl rest
     at : (o : Option Routine) → slice_get p.routines q ≡ o → IsRestOf (body_of o) (one m (call s es) t) → Fits
     at None e rest = absurd (member done rest)
     at (Some routine) e rest =
-        let whole : RoutineComplete p.routines p.globals routine =
-        each_at (RoutineComplete p.routines p.globals) p.routines q routine complete.routines e in
-        let here =
-        heads (SimpleComplete p.routines p.globals routine) (SideInScope p.globals routine.places) routine.body done
+        let whole : RoutineComplete p.routines p.globals routine = each_at
+        (RoutineComplete p.routines p.globals) p.routines q routine complete.routines e in
+        let here = heads (SimpleComplete p.routines p.globals routine) (SideInScope p.globals routine.places) routine.body done
         (one m (call s es) t) whole (member routine.body rest) in
         here.scope.callee
 

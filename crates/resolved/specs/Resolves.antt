@@ -35,10 +35,13 @@ pub record StatementResolves (t : Tree) (p : Procedure) (s : Statement) : Type 0
   pub target : GoesSomewhere t p s.head
   pub sides : HasAllSides s.head
 
+-- the procedure that the thread line names is there, and has no formals
+abbrev pub StartsThere : Tree → ThreadLine → Type 0
+StartsThere t line =
+    IsThere (slice_get t.procedures (number_of line.name.text (names t.procedures))) (λ r. length r.formals ≡ 0)
+
 -- resolving never fails: every statement of every procedure resolves, and each thread starts in a procedure that is
 -- there and has no formals
 pub record Resolves (t : Tree) : Type 0 where
   pub statements : Each (λ (p : Procedure). Each (StatementResolves t p) (statements_of p.body)) t.procedures
-  pub threads : Each
-      (λ (line : ThreadLine). IsThere (slice_get t.procedures (number_of line.name.text (names t.procedures))) (λ r. length r.formals ≡ 0))
-      t.threads
+  pub threads : Each (StartsThere t) t.threads

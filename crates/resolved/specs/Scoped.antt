@@ -40,8 +40,7 @@ PlacesInScope n own [] = Unit {0}
 PlacesInScope n own (x ∷ xs) = PlaceInScope n own x × PlacesInScope n own xs
 
 -- The variables of a statement that holds no others are in scope, and the procedure that it calls is there, with a
--- place
--- for each argument.
+-- place for each argument.
 pub record SimpleInScope (routines : List Routine) (globals own : ℕ) (s : Simple Place ℕ Label) : Type 0 where
   pub targets : PlacesInScope globals own (targets_of (plain s))
   pub sides : SidesInScope globals own (sides_of (plain s))

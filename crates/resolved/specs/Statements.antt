@@ -1,7 +1,7 @@
 -- The statements of a tree as one list, and the names that they use.
 use Rattle.std.specs.Prelude.{List, [], ◌∷◌, ◌++◌, Option, Some, None, map}
-use Rattle.language.specs.Tree.{Name, Expression, const, var, negation, two, RightSide, any, value, Mark, Block, done, one, choose, loop}
-use Rattle.language.specs.Tree.{Procedure}
+use Rattle.language.specs.Tree.{Name, Expression, const, var, negation, two, RightSide, any, value, Mark, Block, done}
+use Rattle.language.specs.Tree.{one, choose, loop, Procedure}
 use Rattle.language.specs.Parts.{Head, plain, tests, targets_of, sides_of, test_of, arguments_of}
 use Rattle.trees.specs.Trees.{Deed, item_of, name_of}
 use Rattle.trees.specs.Parts.{head_of, first_inside, second_inside}
@@ -28,8 +28,7 @@ statements_of_all [] = []
 statements_of_all (p ∷ ps) = statements_of p.body ++ statements_of_all ps
 
 -- the variables of an expression, of a right side, of lists of them, and of a right side that may be there, each as
--- often
--- as it stands there
+-- often as it stands there
 abbrev pub variables_of : Expression Name → List Name
 variables_of (const b) = []
 variables_of (var x) = x ∷ []

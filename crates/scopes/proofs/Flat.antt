@@ -1,6 +1,6 @@
 -- The statements of a block, one statement after the other.
-use Rattle.std.proofs.Common.{◌≡◌, ℕ, ◌+◌, ◌<◌, ◌≤◌, List, [], ◌∷◌, ◌++◌, length, map, drop, get_or, refl, sym, ◌∙◌, ap, append_assoc}
-use Rattle.std.proofs.Common.{append-nil}
+use Rattle.std.proofs.Common.{◌≡◌, ℕ, ◌+◌, ◌<◌, ◌≤◌, List, [], ◌∷◌, ◌++◌, length, map, drop, get_or, refl, sym, ◌∙◌, ap}
+use Rattle.std.proofs.Common.{append_assoc, append-nil}
 use Rattle.std.proofs.lemmas.List.{drop_more, drop_all}
 use Rattle.language.specs.Tree.{Name, Mark, Block}
 use Rattle.trees.specs.Trees.{Deed, simple, branch, repeat, Item, item_of, marked_before, block_of, deed_of, proc_of, procs_of}
@@ -56,8 +56,8 @@ after_two into pushed one two s i a b e f h k =
 
 -- three lists of names, put one behind the other
 pub gathered : {X : Type 0} {Y : Type 0} (h : X → Y) (n f o k : List Y) (d1 d2 d3 x1 x2 x3 : List X)
-    → k ≡ o ++ map h d3 → o ≡ f ++ map h d2 → f ≡ n ++ map h d1 → n ≡ [] → d1 ≡ x1 → d2 ≡ x2 → d3 ≡ x3
-    → (map h x1 ++ map h x2) ++ map h x3 ≡ k
+    → k ≡ o ++ map h d3 → o ≡ f ++ map h d2 → f ≡ n ++ map h d1 → n ≡ [] → d1 ≡ x1 → d2 ≡ x2 → d3 ≡ x3 →
+    (map h x1 ++ map h x2) ++ map h x3 ≡ k
 gathered {X} {Y} h n f o k d1 d2 d3 x1 x2 x3 a b c e p q r =
     sym (a ∙ ap (λ (l : List Y). l ++ map h d3) (b ∙ ap (λ (l : List Y). l ++ map h d2) (c ∙ ap (λ (l : List Y). l ++ map h d1) e))
     ∙ ap (λ (l : List X). (map h l ++ map h d2) ++ map h d3) p ∙ ap (λ (l : List X). (map h x1 ++ map h l) ++ map h d3) q

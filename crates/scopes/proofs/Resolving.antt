@@ -1,6 +1,6 @@
 -- A checked tree resolves.
-use Rattle.std.proofs.Common.{◌≡◌, ℕ, Bool, true, false, cond, List, [], ◌∷◌, ◌++◌, length, Option, Some, None, ◌⊎◌, inl, inr, refl, sym}
-use Rattle.std.proofs.Common.{◌∙◌, ap, subst, append_assoc}
+use Rattle.std.proofs.Common.{◌≡◌, ℕ, Bool, true, false, cond, List, [], ◌∷◌, ◌++◌, length, Option, Some, None, ◌⊎◌}
+use Rattle.std.proofs.Common.{inl, inr, refl, sym, ◌∙◌, ap, subst, append_assoc}
 use Rattle.std.proofs.lemmas.Option.{IfSome_then}
 use Rattle.language.specs.Tree.{Name, Block, done, one, choose, loop, Procedure, Tree}
 use Rattle.language.specs.Value.{global, local}
@@ -51,8 +51,8 @@ one_of (Some a) b h = tt
 
 pub labels_append : (xs ys : List Statement) → labels_of (xs ++ ys) ≡ labels_of xs ++ labels_of ys
 labels_append [] ys = refl
-labels_append (s ∷ xs) ys = ap (λ l. label_of s.mark.label ++ l) (labels_append xs ys)
-    ∙ sym (append_assoc (label_of s.mark.label) (labels_of xs) (labels_of ys))
+labels_append (s ∷ xs) ys =
+    ap (λ l. label_of s.mark.label ++ l) (labels_append xs ys) ∙ sym (append_assoc (label_of s.mark.label) (labels_of xs) (labels_of ys))
 
 either_block : (x : List ℕ) (xs ys : List Statement) → is_declared x (labels_of (xs ++ ys)) ≡ true
     → (is_declared x (labels_of xs) ≡ true) ⊎ (is_declared x (labels_of ys) ≡ true)
@@ -66,7 +66,8 @@ rest_there s x (one m c t) k h =
     here_or _ _ _ tt
     (elim (in_either x (label_of m.label) (labels_of (statements_of t)) h) [
       | inl e ↦ inl (marked x m.label m.at e)
-      | inr e ↦ inr (rest_there s x t k e)
+      | inr e ↦ inr
+          (rest_there s x t k e)
     ])
 rest_there s x (choose m r a b t) k h =
     here_or _ _ _ tt
@@ -90,8 +91,8 @@ rest_there s x (loop m r a t) k h =
       ]))
     ])
 
-target_there : (t : Tree) (p : Procedure) (h : Head Name Name Name) → Called t.procedures h → Labelled (labels_of (statements_of p.body)) h
-    → GoesSomewhere t p h
+target_there : (t : Tree) (p : Procedure) (h : Head Name Name Name) → Called t.procedures h
+    → Labelled (labels_of (statements_of p.body)) h → GoesSomewhere t p h
 target_there t p h called labelled = (
   IfSome_then (callee_of h) called
       (λ q k. subst (λ o. IsThere o (λ r. length r.formals ≡ length (arguments_of h))) (named_is q.text t.procedures) k.1),
@@ -99,8 +100,8 @@ target_there t p h called labelled = (
 )
 
 -- a tree resolves where each statement works and each thread starts
-pub working_resolves : (t : Tree)
-    → Each (λ (p : Procedure). Each (λ (s : Statement). Works t p s.head) (statements_of p.body)) t.procedures
+pub working_resolves : (t : Tree) → Each
+    (λ (p : Procedure). Each (λ (s : Statement). Works t p s.head) (statements_of p.body)) t.procedures
     → Each (Starts t.procedures) t.threads → Resolves t
 working_resolves t work start = record {
   statements = each_of t.procedures (λ p g. each_of (statements_of p.body) (λ s w. record {

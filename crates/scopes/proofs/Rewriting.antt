@@ -1,25 +1,25 @@
 -- A checked tree has what the rewriting asks.
-use Rattle.std.proofs.Common.{◌≡◌, ℕ, suc, ◌+◌, Bool, true, false, cond, ◌&&◌, ◌||◌, nat_eq, List, [], ◌∷◌, ◌++◌, length, get_or, Option}
-use Rattle.std.proofs.Common.{Some, None, inl, inr, refl, sym, ◌∙◌, subst, arith, length-append}
+use Rattle.std.proofs.Common.{◌≡◌, ℕ, suc, ◌+◌, Bool, true, false, cond, ◌&&◌, ◌||◌, nat_eq, List, [], ◌∷◌, ◌++◌}
+use Rattle.std.proofs.Common.{length, get_or, Option, Some, None, inl, inr, refl, sym, ◌∙◌, subst, arith, length-append}
 use Rattle.std.specs.Prelude.{slice_get, IfSome}
 use Rattle.std.proofs.lemmas.Option.{IfSome_then}
 use Rattle.std.proofs.lemmas.Bool.{eqb-true}
-use Rattle.language.specs.Tree.{Name, Expression, const, var, negation, two, RightSide, any, value, Simple, Block, done, one, choose, loop}
-use Rattle.language.specs.Tree.{Procedure, ThreadLine, Tree}
+use Rattle.language.specs.Tree.{Name, Expression, const, var, negation, two, RightSide, any, value, Simple, Block, done}
+use Rattle.language.specs.Tree.{one, choose, loop, Procedure, ThreadLine, Tree}
 use Rattle.language.specs.Rest.{same_text}
 use Rattle.language.specs.Resolve.{number_of, is_declared, Scope, scope_of}
 use Rattle.scopes.specs.Find.{AnyOf}
 use Rattle.language.specs.Parts.{plain, targets_of, sides_of, test_of, arguments_of, callee_of}
-use Rattle.resolved.specs.Statements.{Statement, statements_of, used_by, variables_of, variables_of_side, variables_of_sides}
-use Rattle.resolved.specs.Statements.{variables_of_test, variables_of_all}
+use Rattle.resolved.specs.Statements.{Statement, statements_of, used_by, variables_of, variables_of_side}
+use Rattle.resolved.specs.Statements.{variables_of_sides, variables_of_test, variables_of_all}
 use Rattle.scopes.specs.Faults.{named, known, HasTwoUnderscores, IsReserved, Repeated}
 use Rattle.resolved.specs.There.{names, IsThere}
 use Rattle.scopes.specs.declared.fault.ScopeFault.TheVariants as fault
 use Rattle.scopes.specs.Checked.{IsChecked}
 use Rattle.resolved.specs.Resolves.{Each}
-use Rattle.scopes.specs.Rewritable.{begins_low, has_double, AreFree, AreDistinct, Declared, AllDeclared, ExpressionDeclared}
-use Rattle.scopes.specs.Rewritable.{ExpressionsDeclared, SideDeclared, SidesDeclared, HasRoom, SimpleDeclared, BlockDeclared}
-use Rattle.scopes.specs.Rewritable.{ProcedureRewritable, EachLine, IsRewritable}
+use Rattle.scopes.specs.Rewritable.{begins_low, has_double, AreFree, AreDistinct, Declared, AllDeclared}
+use Rattle.scopes.specs.Rewritable.{ExpressionDeclared, ExpressionsDeclared, SideDeclared, SidesDeclared, HasRoom}
+use Rattle.scopes.specs.Rewritable.{SimpleDeclared, BlockDeclared, ProcedureRewritable, EachLine, IsRewritable}
 use Rattle.resolved.specs.Narrow.{EachProcedure}
 use Rattle.scopes.proofs.Works.{each_of, in_either, named_is, named_declared, Called, Works, IsGood, good, threads_start}
 use Rattle.resolved.proofs.Each.{each_left, each_right}
@@ -87,14 +87,16 @@ expression_declared s (var x) h = h.0
 expression_declared s (negation e) h = expression_declared s e h
 expression_declared s (two o a b) h = (
   expression_declared s a (each_left (Declared s) (variables_of a) (variables_of b) h),
-  expression_declared s b (each_right (Declared s) (variables_of a) (variables_of b) h),
+  expression_declared s b
+      (each_right (Declared s) (variables_of a) (variables_of b) h),
 )
 
 expressions_declared : (s : Scope) (es : List (Expression Name)) → Each (Declared s) (variables_of_all es) → ExpressionsDeclared s es
 expressions_declared s [] h = tt
 expressions_declared s (e ∷ es) h = (
   expression_declared s e (each_left (Declared s) (variables_of e) (variables_of_all es) h),
-  expressions_declared s es (each_right (Declared s) (variables_of e) (variables_of_all es) h),
+  expressions_declared s es
+      (each_right (Declared s) (variables_of e) (variables_of_all es) h),
 )
 
 side_declared : (s : Scope) (r : RightSide Name) → Each (Declared s) (variables_of_side r) → SideDeclared s r
@@ -105,13 +107,14 @@ sides_declared : (s : Scope) (rs : List (RightSide Name)) → Each (Declared s) 
 sides_declared s [] h = tt
 sides_declared s (r ∷ rs) h = (
   side_declared s r (each_left (Declared s) (variables_of_side r) (variables_of_sides rs) h),
-  sides_declared s rs (each_right (Declared s) (variables_of_side r) (variables_of_sides rs) h),
+  sides_declared s rs
+      (each_right (Declared s) (variables_of_side r) (variables_of_sides rs) h),
 )
 
 room : (o : Option Procedure) (m : ℕ) → IsThere o (λ r. length r.formals ≡ m) → HasRoom o m
 room None m h = h
-room (Some r) m h = let e : length (r.formals ++ r.locals) ≡ length r.formals + length r.locals = length-append r.formals r.locals in
-    omega arith
+room (Some r) m h =
+    let e : length (r.formals ++ r.locals) ≡ length r.formals + length r.locals = length-append r.formals r.locals in omega arith
 
 test_declared : (s : Scope) (o : Option (RightSide Name)) → Each (Declared s) (variables_of_test o) → IfSome o (SideDeclared s)
 test_declared s None h = tt
@@ -176,9 +179,8 @@ procedures_rewritable t (p ∷ ps) f h = (
 )
 
 lines_named : (ps : List Procedure) (lines : List ThreadLine)
-    → Each
-    (λ (line : ThreadLine). (named line.name.text ps ≡ None → ⊥) × IsThere (named line.name.text ps) (λ r. length r.formals ≡ 0)) lines
-    → EachLine (names ps) lines
+    → Each (λ (line : ThreadLine). (named line.name.text ps ≡ None → ⊥) × IsThere (named line.name.text ps)
+    (λ r. length r.formals ≡ 0)) lines → EachLine (names ps) lines
 lines_named ps [] h = tt
 lines_named ps (line ∷ lines) h = (named_declared line.name.text ps h.0.0, lines_named ps lines h.1)
 

@@ -1,6 +1,6 @@
 -- What a checked tree's statements and names are: each fact, where the fault that denies it stands nowhere.
-use Rattle.std.proofs.Common.{◌≡◌, ◌≢◌, ℕ, suc, Bool, true, false, cond, List, [], ◌∷◌, ◌++◌, length, Option, Some, None, ◌⊎◌, inl, inr}
-use Rattle.std.proofs.Common.{refl}
+use Rattle.std.proofs.Common.{◌≡◌, ◌≢◌, ℕ, suc, Bool, true, false, cond, List, [], ◌∷◌, ◌++◌, length, Option, Some}
+use Rattle.std.proofs.Common.{None, ◌⊎◌, inl, inr, refl}
 use Rattle.std.specs.Prelude.{slice_get, IfSome}
 use Rattle.std.proofs.lemmas.Bool.{eqb-true}
 use Rattle.std.proofs.lemmas.Bool.Decides.{eqb_tells}
@@ -10,8 +10,8 @@ use Rattle.language.specs.Rest.{same_text}
 use Rattle.language.specs.Resolve.{number_of, is_declared}
 use Rattle.scopes.specs.Find.{AnyOf}
 use Rattle.resolved.specs.Statements.{Statement, statements_of, used_by, labels_of}
-use Rattle.scopes.specs.Faults.{named, IsUnknown, known, IsUndeclaredIn, first_at, Miscounts, GoesNowhere, MislabelledIn, ReservedIn}
-use Rattle.scopes.specs.Faults.{CanStart}
+use Rattle.scopes.specs.Faults.{named, IsUnknown, known, IsUndeclaredIn, first_at, Miscounts, GoesNowhere}
+use Rattle.scopes.specs.Faults.{MislabelledIn, ReservedIn, CanStart}
 use Rattle.resolved.specs.There.{names, IsThere}
 use Rattle.scopes.specs.declared.fault.ScopeFault.TheVariants as fault
 use Rattle.scopes.specs.Checked.{IsChecked}

@@ -1,6 +1,6 @@
 -- Where the faults of scopes stand: each is a property of a tree and an offset.
-use Rattle.std.specs.Prelude.{◌≡◌, ◌≢◌, ℕ, List, [], ◌∷◌, ◌++◌, Bool, true, false, Option, Some, None, length, cond, slice_get, slice_index}
-use Rattle.std.specs.Prelude.{◌==◌, ◌⊎◌, ◌+◌}
+use Rattle.std.specs.Prelude.{◌≡◌, ◌≢◌, ℕ, List, [], ◌∷◌, ◌++◌, Bool, true, false, Option, Some, None, length, cond}
+use Rattle.std.specs.Prelude.{slice_get, slice_index, ◌==◌, ◌⊎◌, ◌+◌}
 use Rattle.language.specs.Tree.{Name, Procedure, ThreadLine, Tree}
 use Rattle.language.specs.Parts.{Head, assigns, targets_of, sides_of, arguments_of, callee_of, jump_of}
 use Rattle.language.specs.Rest.{same_text}

@@ -1,8 +1,8 @@
 -- What the rewriting theorem over names asks of a text's tree. A program without scope faults has it.
-use Rattle.std.specs.Prelude.{◌≡◌, ℕ, ◌≤◌, Bool, true, false, List, [], ◌∷◌, ◌++◌, ◌&&◌, ◌||◌, Option, Some, None, length, map, nat_eq}
-use Rattle.std.specs.Prelude.{slice_get, IfSome}
-use Rattle.language.specs.Tree.{Name, Expression, const, var, negation, two, RightSide, any, value, Simple, Block, done, one, choose, loop}
-use Rattle.language.specs.Tree.{Procedure, ThreadLine, Tree}
+use Rattle.std.specs.Prelude.{◌≡◌, ℕ, ◌≤◌, Bool, true, false, List, [], ◌∷◌, ◌++◌, ◌&&◌, ◌||◌, Option, Some, None}
+use Rattle.std.specs.Prelude.{length, map, nat_eq, slice_get, IfSome}
+use Rattle.language.specs.Tree.{Name, Expression, const, var, negation, two, RightSide, any, value, Simple, Block, done}
+use Rattle.language.specs.Tree.{one, choose, loop, Procedure, ThreadLine, Tree}
 use Rattle.language.specs.Parts.{plain, targets_of, sides_of, test_of, arguments_of, callee_of}
 use Rattle.resolved.specs.Narrow.{EachProcedure}
 use Rattle.language.specs.Resolve.{is_declared, number_of, Scope, scope_of}

@@ -18,5 +18,6 @@ four_behind old a b c d = simp append_assoc
 pub five_behind : {A : Type 0} (old a b c d e : List A) → ((((old ++ a) ++ b) ++ c) ++ d) ++ e ≡ old ++ (a ++ (b ++ (c ++ (d ++ e))))
 five_behind old a b c d e = simp append_assoc
 
-pub seven_behind : {A : Type 0} (old a b c d e f g : List A) → ((((((old ++ a) ++ b) ++ c) ++ d) ++ e) ++ f) ++ g ≡ old ++ (a ++ (b ++ (c ++ (d ++ (e ++ (f ++ g))))))
+pub seven_behind : {A : Type 0} (old a b c d e f g : List A)
+    → ((((((old ++ a) ++ b) ++ c) ++ d) ++ e) ++ f) ++ g ≡ old ++ (a ++ (b ++ (c ++ (d ++ (e ++ (f ++ g))))))
 seven_behind old a b c d e f g = simp append_assoc

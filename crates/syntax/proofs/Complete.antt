@@ -1,13 +1,17 @@
 -- The statements that the grammar has are read.
 use Rattle.std.proofs.Common.{◌≡◌, Bool, true, false, ◌&&◌, List, [], ◌∷◌, Some, refl, ◌∙◌, ap, ◌⊎◌, inl, inr}
-use Rattle.language.specs.Tree.{Name, Expression, RightSide, Simple, skip, assign, assert, assume, goto, leave, call, Mark, Block, one, choose, loop}
+use Rattle.language.specs.Tree.{Name, Expression, RightSide, Simple, skip, assign, assert, assume, goto, leave, call, Mark, Block, one}
+use Rattle.language.specs.Tree.{choose, loop}
 use Rattle.tokens.specs.declared.vocabulary.Kind.{Kind}
 use Rattle.tokens.specs.declared.vocabulary.Kind.TheVariants as kind
 use Rattle.tokens.specs.Token.{Tok, same_kind}
 use Rattle.syntax.specs.Parser.{Parser, give, ◌>>=◌, begins, take}
-use Rattle.syntax.specs.Grammar.{Takes, takes, name_at, IsName, is_name, behind, InParens, in_parens, no_more, one_more, Listed, listed, Perhaps, IsExpression, IsRight, IsMarked, bare, labelled, IsSimple, is_skip, is_return, is_goto, is_assert, is_assume, is_assign, is_call, IsSome, Statements, nothing_more, statement, if_statement, while_statement}
+use Rattle.syntax.specs.Grammar.{Takes, takes, name_at, IsName, is_name, behind, InParens, in_parens, no_more, one_more, Listed, listed}
+use Rattle.syntax.specs.Grammar.{Perhaps, IsExpression, IsRight, IsMarked, bare, labelled, IsSimple, is_skip, is_return, is_goto, is_assert}
+use Rattle.syntax.specs.Grammar.{is_assume, is_assign, is_call, IsSome, Statements, nothing_more, statement, if_statement, while_statement}
 use Rattle.trees.specs.Trees.{Deed, simple, branch, repeat, before, marked_before}
-use Rattle.syntax.specs.Exact.{name, names, rights, arguments, condition, marked, assignment, calling, named, branching, repeating, deed_by, deed_step, starts, starts_here, item_step, rest_step, section}
+use Rattle.syntax.specs.Exact.{name, names, rights, arguments, condition, marked, assignment, calling, named, branching, repeating, deed_by}
+use Rattle.syntax.specs.Exact.{deed_step, starts, starts_here, item_step, rest_step, section}
 use Rattle.syntax.proofs.KindTests.{same_kind-true, same_kind-is}
 use Rattle.syntax.proofs.Fixes.{bind_is}
 use Rattle.syntax.proofs.Expressions.{take_is}
@@ -60,7 +64,8 @@ passing : {X : Type 0} {k : Kind} {ts rest : List Tok} (p : Parser X) → Takes 
 passing {k = k} {ts = ts} {rest = rest} p t = bind_is (take k) (λ _. p) ts (take_is t).0 rest (take_is t).1
 
 -- what begins a list of names goes on with a comma, or ends
-names_next : (t : Tok) (ts us : List Tok) (xs : List Name) → Listed IsName (t ∷ ts) xs us → (t.kind ≡ kind.Id) × ((ts ≡ us) ⊎ (begins kind.Comma ts ≡ true))
+names_next : (t : Tok) (ts us : List Tok) (xs : List Name) → Listed IsName (t ∷ ts) xs us
+    → (t.kind ≡ kind.Id) × ((ts ≡ us) ⊎ (begins kind.Comma ts ≡ true))
 names_next t ts us xs (listed (is_name e) no_more) = (e, inl refl)
 names_next t ts us xs (listed (is_name e) (one_more (behind c h) m)) = (e, inr (begins_takes c))
 
@@ -68,43 +73,56 @@ comma_no : (k : Kind) (ts : List Tok) → same_kind kind.Comma k ≡ false → b
 comma_no k [] e h = refl
 comma_no k (t ∷ ts) e h = let i : t.kind ≡ kind.Comma = same_kind-true h in rw i e
 
-next_no : (k : Kind) (ts us vs : List Tok) → same_kind kind.Comma k ≡ false → same_kind kind.Assign k ≡ false → (ts ≡ us) ⊎ (begins kind.Comma ts ≡ true) → Takes kind.Assign us vs → begins k ts ≡ false
+next_no : (k : Kind) (ts us vs : List Tok) → same_kind kind.Comma k ≡ false → same_kind kind.Assign k ≡ false
+    → (ts ≡ us) ⊎ (begins kind.Comma ts ≡ true) → Takes kind.Assign us vs → begins k ts ≡ false
 next_no k ts us vs c a (inl e) t = rw e (begins_other k t a)
 next_no k ts us vs c a (inr e) t = comma_no k ts c e
 
 -- what statements that hold no others do is read
-simple_reads : (f : Parser (Block Name Name Name)) {ts rest : List Tok} {s : Simple Name Name Name} → IsSimple ts s rest → deed_step f ts ≡ Some (simple s, rest)
+simple_reads : (f : Parser (Block Name Name Name)) {ts rest : List Tok} {s : Simple Name Name Name} → IsSimple ts s rest
+    → deed_step f ts ≡ Some (simple s, rest)
 unfolding same_kind assignment calling named
 simple_reads f (is_skip (takes {t = t} {rest = us} is) c) = at us (by_skip f t is) ∙ ends (simple skip) c
 simple_reads f (is_return (takes {t = t} {rest = us} is) c) = at us (by_return f t is) ∙ ends (simple leave) c
 simple_reads f (is_goto {vs = vs} {l = l} (takes {t = t} {rest = us} is) h c) =
-    at us (by_goto f t is) ∙ bind_is name (λ l. take kind.Semicolon >>= λ _. give (simple (goto l))) us l vs (exactly_name.reads us l vs h tt) ∙ ends (simple (goto l)) c
+    at us (by_goto f t is)
+    ∙ bind_is name (λ l. take kind.Semicolon >>= λ _. give (simple (goto l))) us l vs (exactly_name.reads us l vs h tt)
+    ∙ ends (simple (goto l)) c
 simple_reads f (is_assert {vs = vs} {r = r} (takes {t = t} {rest = us} is) h c) =
-    at us (by_assert f t is) ∙ bind_is condition (λ r. take kind.Semicolon >>= λ _. give (simple (assert r))) us r vs (exactly_test.reads us r vs h tt) ∙ ends (simple (assert r)) c
+    at us (by_assert f t is)
+    ∙ bind_is condition (λ r. take kind.Semicolon >>= λ _. give (simple (assert r))) us r vs (exactly_test.reads us r vs h tt)
+    ∙ ends (simple (assert r)) c
 simple_reads f (is_assume {vs = vs} {r = r} (takes {t = t} {rest = us} is) h c) =
-    at us (by_assume f t is) ∙ bind_is condition (λ r. take kind.Semicolon >>= λ _. give (simple (assume r))) us r vs (exactly_test.reads us r vs h tt) ∙ ends (simple (assume r)) c
+    at us (by_assume f t is)
+    ∙ bind_is condition (λ r. take kind.Semicolon >>= λ _. give (simple (assume r))) us r vs (exactly_test.reads us r vs h tt)
+    ∙ ends (simple (assume r)) c
 simple_reads f (is_assign {ts = []} (listed h m) a l c) = elim h [ ]
 simple_reads f (is_assign {ts = t ∷ ts} {us = us} {vs = vs} {ws = ws} {rest = rest} {xs = xs} {rs = rs} h a l c) =
     let n = names_next t ts us xs h in
     at ts (by_name f t n.0)
     ∙ rw (next_no kind.Open ts us vs refl refl n.1 a)
-    (bind_is names (λ xs. take kind.Assign >>= λ _. rights >>= λ rs. take kind.Semicolon >>= λ _. give (simple (assign xs rs))) (t ∷ ts) xs us
+    (bind_is names (λ xs. take kind.Assign >>= λ _. rights >>= λ rs. take kind.Semicolon >>= λ _. give (simple (assign xs rs)))
+    (t ∷ ts) xs us
     (exactly_names.reads (t ∷ ts) xs us h (tt, begins_other kind.Comma a refl))
     ∙ passing (rights >>= λ rs. take kind.Semicolon >>= λ _. give (simple (assign xs rs))) a
-    ∙ bind_is rights (λ rs. take kind.Semicolon >>= λ _. give (simple (assign xs rs))) vs rs ws (exactly_rights.reads vs rs ws l (semicolon_stops ws rest c, begins_other kind.Comma c refl))
+    ∙ bind_is rights (λ rs. take kind.Semicolon >>= λ _. give (simple (assign xs rs))) vs rs ws
+    (exactly_rights.reads vs rs ws l (semicolon_stops ws rest c, begins_other kind.Comma c refl))
     ∙ ends (simple (assign xs rs)) c)
 simple_reads f (is_call {vs = vs} {p = p} {es = es} (is_name {t = t} {rest = us} is) h c) =
     at us (by_name f t is)
     ∙ rw (opens us vs es h)
-    (bind_is name (λ p. arguments >>= λ es. take kind.Semicolon >>= λ _. give (simple (call p es))) (t ∷ us) (name_at t) us (exactly_name.reads (t ∷ us) (name_at t) us (is_name is) tt)
-    ∙ bind_is arguments (λ es. take kind.Semicolon >>= λ _. give (simple (call (name_at t) es))) us es vs (exactly_arguments.reads us es vs h tt)
+    (bind_is name (λ p. arguments >>= λ es. take kind.Semicolon >>= λ _. give (simple (call p es))) (t ∷ us) (name_at t) us
+    (exactly_name.reads (t ∷ us) (name_at t) us (is_name is) tt)
+    ∙ bind_is arguments (λ es. take kind.Semicolon >>= λ _. give (simple (call (name_at t) es))) us es vs
+    (exactly_arguments.reads us es vs h tt)
     ∙ ends (simple (call (name_at t) es)) c)
   where
     opens : (us vs : List Tok) (es : List (Expression Name)) → InParens (Perhaps IsExpression) us es vs → begins kind.Open us ≡ true
     opens us vs es (in_parens o h c) = begins_takes o
 
 -- no statement goes on as a label would
-if_no : {k : Kind} {ts us : List Tok} {t : Tok} → Takes k (t ∷ ts) us → same_kind k kind.Id ≡ false → same_kind t.kind kind.Id && begins kind.Colon ts ≡ false
+if_no : {k : Kind} {ts us : List Tok} {t : Tok} → Takes k (t ∷ ts) us → same_kind k kind.Id ≡ false
+    → same_kind t.kind kind.Id && begins kind.Colon ts ≡ false
 if_no {ts = ts} (takes e) h = rw (e, h) refl
 
 colon_no : (t : Tok) (ts : List Tok) → begins kind.Colon ts ≡ false → same_kind t.kind kind.Id && begins kind.Colon ts ≡ false
@@ -114,7 +132,8 @@ colon_no t ts e = rw e (by_test (same_kind t.kind kind.Id))
     by_test true = refl
     by_test false = refl
 
-simple_no_label : (t : Tok) (ts rest : List Tok) (s : Simple Name Name Name) → IsSimple (t ∷ ts) s rest → (same_kind t.kind kind.Id && begins kind.Colon ts ≡ false) × (starts t.kind ≡ true)
+simple_no_label : (t : Tok) (ts rest : List Tok) (s : Simple Name Name Name) → IsSimple (t ∷ ts) s rest
+    → (same_kind t.kind kind.Id && begins kind.Colon ts ≡ false) × (starts t.kind ≡ true)
 unfolding same_kind
 simple_no_label t ts rest s (is_skip (takes e) c) = (rw e refl, rw e refl)
 simple_no_label t ts rest s (is_return (takes e) c) = (rw e refl, rw e refl)
@@ -127,10 +146,12 @@ simple_no_label t ts rest s (is_assign {us = us} {vs = vs} {xs = xs} h a l c) =
 simple_no_label t ts rest s (is_call (is_name e) (in_parens o h c) d) = (colon_no t ts (begins_other kind.Colon o refl), rw e refl)
 
 -- marks are read, where what follows goes on as no label does
-marked_reads : {ts us : List Tok} {m : Mark Name} → IsMarked ts m us → ((t : Tok) (vs : List Tok) → us ≡ t ∷ vs → same_kind t.kind kind.Id && begins kind.Colon vs ≡ false) → marked ts ≡ Some (m, us)
+marked_reads : {ts us : List Tok} {m : Mark Name} → IsMarked ts m us
+    → ((t : Tok) (vs : List Tok) → us ≡ t ∷ vs → same_kind t.kind kind.Id && begins kind.Colon vs ≡ false) → marked ts ≡ Some (m, us)
 unfolding marked
 marked_reads (bare {t = t} {ts = ts}) plain = rw (plain t ts refl) refl
-marked_reads (labelled {t = t} {ts = ts} e c) plain = rw (same_kind-is e, begins_takes c) (ends (record { label = Some (name_at t); at = t.at }) c)
+marked_reads (labelled {t = t} {ts = ts} e c) plain =
+    rw (same_kind-is e, begins_takes c) (ends (record { label = Some (name_at t); at = t.at }) c)
 
 marked_starts : {ts us : List Tok} {m : Mark Name} → IsMarked ts m us → starts_here us ≡ true → starts_here ts ≡ true
 unfolding same_kind
@@ -138,11 +159,15 @@ marked_starts bare h = h
 marked_starts (labelled e c) h = rw e refl
 
 -- a statement and what follows it are read
-section_reads : (ts us vs rest : List Tok) (m : Mark Name) (d : Deed) (k : Block Name Name Name) → IsMarked ts m us → ((t : Tok) (ws : List Tok) → us ≡ t ∷ ws → (same_kind t.kind kind.Id && begins kind.Colon ws ≡ false) × (starts t.kind ≡ true)) → starts_here us ≡ true → deed_step section us ≡ Some (d, vs) → rest_step section vs ≡ Some (k, rest) → (section ts ≡ Some (marked_before m d k, rest)) × (starts_here ts ≡ true)
+section_reads : (ts us vs rest : List Tok) (m : Mark Name) (d : Deed) (k : Block Name Name Name) → IsMarked ts m us
+    → ((t : Tok) (ws : List Tok) → us ≡ t ∷ ws → (same_kind t.kind kind.Id && begins kind.Colon ws ≡ false) × (starts t.kind ≡ true))
+    → starts_here us ≡ true → deed_step section us ≡ Some (d, vs) → rest_step section vs ≡ Some (k, rest)
+    → (section ts ≡ Some (marked_before m d k, rest)) × (starts_here ts ≡ true)
 section_reads ts us vs rest m d k marks plain here does more = (
   section_is ts
       ∙ bind_is (item_step section) (λ i. rest_step section >>= λ k. give (before i k)) ts (record { mark = m; deed = d }) vs
-      (bind_is marked (λ m. deed_step section >>= λ d. give (record { mark = m; deed = d })) ts m us (marked_reads marks (λ t ws e. (plain t ws e).0))
+      (bind_is marked (λ m. deed_step section >>= λ d. give (record { mark = m; deed = d })) ts m us
+      (marked_reads marks (λ t ws e. (plain t ws e).0))
       ∙ bind_is (deed_step section) (λ d. give (record { mark = m; deed = d })) us d vs does)
       ∙ bind_is (rest_step section) (λ k. give (marked_before m d k)) vs k rest more,
   marked_starts marks here,
@@ -159,7 +184,8 @@ Read ts b rest = (rest_step section ts ≡ Some (b, rest)) × (IsSome b → sect
 read_from : (ts rest : List Tok) (b : Block Name Name Name) → (section ts ≡ Some (b, rest)) × (starts_here ts ≡ true) → Read ts b rest
 read_from ts rest b h = (rw h.1 h.0, λ s. h.0)
 
-simple_cases : {us vs : List Tok} {s : Simple Name Name Name} → IsSimple us s vs → (t : Tok) (ws : List Tok) → us ≡ t ∷ ws → (same_kind t.kind kind.Id && begins kind.Colon ws ≡ false) × (starts t.kind ≡ true)
+simple_cases : {us vs : List Tok} {s : Simple Name Name Name} → IsSimple us s vs → (t : Tok) (ws : List Tok) → us ≡ t ∷ ws
+    → (same_kind t.kind kind.Id && begins kind.Colon ws ≡ false) × (starts t.kind ≡ true)
 simple_cases {us} {vs} {s} h t ws e = simple_no_label t ws vs s (rw e at h)
 
 simple_here : (us vs : List Tok) (s : Simple Name Name Name) → IsSimple us s vs → starts_here us ≡ true
@@ -172,29 +198,38 @@ simple_here [] vs s (is_assign (listed h m) a l c) = elim h [ ]
 simple_here [] vs s (is_call n h c) = elim n [ ]
 simple_here (t ∷ us) vs s h = (simple_no_label t us vs s h).1
 
-word_case : {k : Kind} {t : Tok} {ws vs : List Tok} → Takes k (t ∷ ws) vs → same_kind k kind.Id ≡ false → starts k ≡ true → (same_kind t.kind kind.Id && begins kind.Colon ws ≡ false) × (starts t.kind ≡ true)
+word_case : {k : Kind} {t : Tok} {ws vs : List Tok} → Takes k (t ∷ ws) vs → same_kind k kind.Id ≡ false → starts k ≡ true
+    → (same_kind t.kind kind.Id && begins kind.Colon ws ≡ false) × (starts t.kind ≡ true)
 word_case (takes is) i s = (rw (is, i) refl, rw is s)
 
-word_cases : {k : Kind} {us vs : List Tok} → Takes k us vs → same_kind k kind.Id ≡ false → starts k ≡ true → (t : Tok) (ws : List Tok) → us ≡ t ∷ ws → (same_kind t.kind kind.Id && begins kind.Colon ws ≡ false) × (starts t.kind ≡ true)
+word_cases : {k : Kind} {us vs : List Tok} → Takes k us vs → same_kind k kind.Id ≡ false → starts k ≡ true → (t : Tok) (ws : List Tok)
+    → us ≡ t ∷ ws → (same_kind t.kind kind.Id && begins kind.Colon ws ≡ false) × (starts t.kind ≡ true)
 word_cases {k} {us} {vs} h i s t ws e = word_case (rw e at h) i s
 
 word_here : {k : Kind} {us vs : List Tok} → Takes k us vs → starts k ≡ true → starts_here us ≡ true
 word_here (takes e) h = rw e h
 
-if_reads : {t1 t2 t3 t4 t5 t6 t7 t8 : List Tok} {r : RightSide Name} {a b : Block Name Name Name} → Takes kind.If t1 t2 → InParens IsRight t2 r t3 → Takes kind.Then t3 t4 → section t4 ≡ Some (a, t5) → Takes kind.Else t5 t6 → section t6 ≡ Some (b, t7) → Takes kind.Fi t7 t8 → deed_step section t1 ≡ Some (branch r a b, t8)
+if_reads : {t1 t2 t3 t4 t5 t6 t7 t8 : List Tok} {r : RightSide Name} {a b : Block Name Name Name} → Takes kind.If t1 t2
+    → InParens IsRight t2 r t3 → Takes kind.Then t3 t4 → section t4 ≡ Some (a, t5) → Takes kind.Else t5 t6 → section t6 ≡ Some (b, t7)
+    → Takes kind.Fi t7 t8 → deed_step section t1 ≡ Some (branch r a b, t8)
 if_reads {t2 = t2} {t3 = t3} {t4 = t4} {t5 = t5} {t6 = t6} {t7 = t7} {r = r} {a = a} {b = b} (takes {t = t} is) h th sa el sb fi =
     at t2 (by_if section t is)
-    ∙ bind_is condition (λ r. take kind.Then >>= λ _. section >>= λ a. take kind.Else >>= λ _. section >>= λ b. take kind.Fi >>= λ _. give (branch r a b)) t2 r t3 (exactly_test.reads t2 r t3 h tt)
+    ∙ bind_is condition
+    (λ r. take kind.Then >>= λ _. section >>= λ a. take kind.Else >>= λ _. section >>= λ b. take kind.Fi >>= λ _. give (branch r a b))
+    t2 r t3 (exactly_test.reads t2 r t3 h tt)
     ∙ passing (section >>= λ a. take kind.Else >>= λ _. section >>= λ b. take kind.Fi >>= λ _. give (branch r a b)) th
     ∙ bind_is section (λ a. take kind.Else >>= λ _. section >>= λ b. take kind.Fi >>= λ _. give (branch r a b)) t4 a t5 sa
     ∙ passing (section >>= λ b. take kind.Fi >>= λ _. give (branch r a b)) el
     ∙ bind_is section (λ b. take kind.Fi >>= λ _. give (branch r a b)) t6 b t7 sb
     ∙ ends (branch r a b) fi
 
-while_reads : {t1 t2 t3 t4 t5 t6 : List Tok} {r : RightSide Name} {a : Block Name Name Name} → Takes kind.While t1 t2 → InParens IsRight t2 r t3 → Takes kind.Do t3 t4 → section t4 ≡ Some (a, t5) → Takes kind.Od t5 t6 → deed_step section t1 ≡ Some (repeat r a, t6)
+while_reads : {t1 t2 t3 t4 t5 t6 : List Tok} {r : RightSide Name} {a : Block Name Name Name} → Takes kind.While t1 t2
+    → InParens IsRight t2 r t3 → Takes kind.Do t3 t4 → section t4 ≡ Some (a, t5) → Takes kind.Od t5 t6
+    → deed_step section t1 ≡ Some (repeat r a, t6)
 while_reads {t2 = t2} {t3 = t3} {t4 = t4} {t5 = t5} {r = r} {a = a} (takes {t = t} is) h th sa od =
     at t2 (by_while section t is)
-    ∙ bind_is condition (λ r. take kind.Do >>= λ _. section >>= λ a. take kind.Od >>= λ _. give (repeat r a)) t2 r t3 (exactly_test.reads t2 r t3 h tt)
+    ∙ bind_is condition (λ r. take kind.Do >>= λ _. section >>= λ a. take kind.Od >>= λ _. give (repeat r a)) t2 r t3
+    (exactly_test.reads t2 r t3 h tt)
     ∙ passing (section >>= λ a. take kind.Od >>= λ _. give (repeat r a)) th
     ∙ bind_is section (λ a. take kind.Od >>= λ _. give (repeat r a)) t4 a t5 sa
     ∙ ends (repeat r a) od
@@ -203,10 +238,14 @@ pub statements_read : {ts rest : List Tok} {b : Block Name Name Name} → Statem
 unfolding same_kind
 statements_read (nothing_more {ts = ts}) e = (rw e refl, λ s. absurd s)
 statements_read (statement {ts = ts} {us = us} {vs = vs} {rest = rest} {m = m} {s = s} {k = k} marks h more) e =
-    read_from ts rest (one m s k) (section_reads ts us vs rest m (simple s) k marks (simple_cases h) (simple_here us vs s h) (simple_reads section h) (statements_read more e).0)
-statements_read (if_statement {ts = ts} {t1 = t1} {t8 = t8} {rest = rest} {m = m} {r = r} {a = a} {b = b} {k = k} marks i h th sa na el sb nb fi more) e =
+    read_from ts rest (one m s k)
+    (section_reads ts us vs rest m (simple s) k marks (simple_cases h) (simple_here us vs s h) (simple_reads section h)
+    (statements_read more e).0)
+statements_read (if_statement {ts = ts} {t1 = t1} {t8 = t8} {rest = rest} {m = m} {r = r} {a = a} {b = b} {k = k} marks i h th sa na el sb
+    nb fi more) e =
     read_from ts rest (choose m r a b k) (section_reads ts t1 t8 rest m (branch r a b) k marks (word_cases i refl refl) (word_here i refl)
-    (if_reads i h th ((statements_read sa (stops el refl)).1 na) el ((statements_read sb (stops fi refl)).1 nb) fi) (statements_read more e).0)
+    (if_reads i h th ((statements_read sa (stops el refl)).1 na) el ((statements_read sb (stops fi refl)).1 nb) fi)
+    (statements_read more e).0)
 statements_read (while_statement {ts = ts} {t1 = t1} {t6 = t6} {rest = rest} {m = m} {r = r} {a = a} {k = k} marks i h th sa na od more) e =
     read_from ts rest (loop m r a k) (section_reads ts t1 t6 rest m (repeat r a) k marks (word_cases i refl refl) (word_here i refl)
     (while_reads i h th ((statements_read sa (stops od refl)).1 na) od) (statements_read more e).0)

@@ -1,5 +1,6 @@
 -- Functions that read just what a relation of the grammar says, part by part.
-use Rattle.std.proofs.Common.{◌≡◌, ℕ, suc, ◌<◌, ◌≤◌, Bool, true, false, cond, List, [], ◌∷◌, length, Option, Some, refl, ◌∙◌, ap, arith, ◌⊎◌, inl, inr}
+use Rattle.std.proofs.Common.{◌≡◌, ℕ, suc, ◌<◌, ◌≤◌, Bool, true, false, cond, List, [], ◌∷◌, length, Option, Some, refl, ◌∙◌, ap, arith}
+use Rattle.std.proofs.Common.{◌⊎◌, inl, inr}
 use Rattle.tokens.specs.declared.vocabulary.Kind.{Kind}
 use Rattle.tokens.specs.declared.vocabulary.Kind.TheVariants as kind
 use Rattle.tokens.specs.Token.{Tok, same_kind}
@@ -43,7 +44,8 @@ begins_take k [] e = cc
 begins_take k (t ∷ ts) e = (t, ts, rw e refl, takes (same_kind-true e))
 
 -- behind a token
-pub exactly_behind : {X : Type 0} {P : List Tok → X → List Tok → Type 0} {S : List Tok → Type 0} {p : Parser X} (k : Kind) → Exactly P S p → Exactly (Behind k P) S (take k >>= λ _. p)
+pub exactly_behind : {X : Type 0} {P : List Tok → X → List Tok → Type 0} {S : List Tok → Type 0} {p : Parser X} (k : Kind) → Exactly P S p
+    → Exactly (Behind k P) S (take k >>= λ _. p)
 exactly_behind {X} {P} {S} {p} k is = record {
   finds = λ ts x rest e.
       let b = between (take k) (λ _. p) ts x rest e in
@@ -55,14 +57,16 @@ exactly_behind {X} {P} {S} {p} k is = record {
     went ts x rest (behind {us = us} t h) s = bind_is (take k) (λ _. p) ts (take_is t).0 us (take_is t).1 ∙ is.reads us x rest h s
 
 -- in parentheses
-pub exactly_parens : {X : Type 0} {P : List Tok → X → List Tok → Type 0} {S : List Tok → Type 0} {p : Parser X} → Exactly P S p → ((us rest : List Tok) → Takes kind.Close us rest → S us) → Exactly (InParens P) Anything (parens p)
+pub exactly_parens : {X : Type 0} {P : List Tok → X → List Tok → Type 0} {S : List Tok → Type 0} {p : Parser X} → Exactly P S p
+    → ((us rest : List Tok) → Takes kind.Close us rest → S us) → Exactly (InParens P) Anything (parens p)
 exactly_parens {X} {P} {S} {p} is close = record {
   finds = λ ts x rest e.
       let b = between (take kind.Open) (λ _. p >>= λ x. take kind.Close >>= λ _. give x) ts x rest e in
       let c = between p (λ x. take kind.Close >>= λ _. give x) b.us x rest b.second in
       let d = between (take kind.Close) (λ _. give c.x) c.us x rest c.second in
       carried (λ x rest. InParens P ts x rest) d.second
-      (in_parens (take_finds kind.Open ts b.x b.us b.first).0 (is.finds b.us c.x c.us c.first) (take_finds kind.Close c.us d.x d.us d.first).0);
+      (in_parens (take_finds kind.Open ts b.x b.us b.first).0 (is.finds b.us c.x c.us c.first)
+      (take_finds kind.Close c.us d.x d.us d.first).0);
   reads = went;
 }
   where
@@ -74,11 +78,18 @@ exactly_parens {X} {P} {S} {p} is close = record {
 
 -- again and again
 module _ {X : Type 0} (test : List Tok → Bool) (p : Parser X) (strict : Strict p) where
-  many_shrinks_at : (f : Unit {0} → Parser (List X)) → ((u : Unit {0}) → Shrinks (f u)) → (b : Bool) (ts : List Tok) (xs : List X) (rest : List Tok) → cond {A = Option (List X × List Tok)} b ((p >>= λ x. f tt >>= λ xs. give (x ∷ xs)) ts) (Some ([], ts)) ≡ Some (xs, rest) → length rest ≤ length ts
-  many_shrinks_at f s true ts xs rest e = (Shrinks-bind (Strict-Shrinks strict) (λ x. Shrinks-bind (s tt) (λ xs. Shrinks-give (x ∷ xs)))).by ts xs rest e
+  many_shrinks_at : (f : Unit {0} → Parser (List X)) → ((u : Unit {0}) → Shrinks (f u))
+      → (b : Bool) (ts : List Tok) (xs : List X) (rest : List Tok)
+      → cond {A = Option (List X × List Tok)} b ((p >>= λ x. f tt >>= λ xs. give (x ∷ xs)) ts) (Some ([], ts)) ≡ Some (xs, rest)
+      → length rest ≤ length ts
+  many_shrinks_at f s true ts xs rest e =
+      (Shrinks-bind (Strict-Shrinks strict) (λ x. Shrinks-bind (s tt) (λ xs. Shrinks-give (x ∷ xs)))).by ts xs rest e
   many_shrinks_at f s false ts xs rest e = let h = (both e).1 in rw h (omega arith)
 
-  many_agrees_at : (n : ℕ) (f g : Unit {0} → Parser (List X)) → ((u : Unit {0}) → Shrinks (f u)) → ((u : Unit {0}) → Agree n (f u) (g u)) → (ts : List Tok) → length ts < suc n → cond {A = Option (List X × List Tok)} (test ts) ((p >>= λ x. f tt >>= λ xs. give (x ∷ xs)) ts) (Some ([], ts)) ≡ cond {A = Option (List X × List Tok)} (test ts) ((p >>= λ x. g tt >>= λ xs. give (x ∷ xs)) ts) (Some ([], ts))
+  many_agrees_at : (n : ℕ) (f g : Unit {0} → Parser (List X)) → ((u : Unit {0}) → Shrinks (f u)) → ((u : Unit {0}) → Agree n (f u) (g u))
+      → (ts : List Tok) → length ts < suc n
+      → cond {A = Option (List X × List Tok)} (test ts) ((p >>= λ x. f tt >>= λ xs. give (x ∷ xs)) ts) (Some ([], ts))
+      ≡ cond {A = Option (List X × List Tok)} (test ts) ((p >>= λ x. g tt >>= λ xs. give (x ∷ xs)) ts) (Some ([], ts))
   many_agrees_at n f g s a ts below =
       ap (λ (r : Option (List X × List Tok)). cond (test ts) r (Some ([], ts)))
       ((Agree-Strict-bind (Agree-same (suc n) p) strict (λ x. Agree-bind (a tt) (s tt) (λ xs. Agree-same n (give (x ∷ xs))))).at ts below)
@@ -102,14 +113,22 @@ module _ {X : Type 0} (test : List Tok → Bool) (p : Parser X) (strict : Strict
   many_ends ts e = many_is ts ∙ rw e refl
 
   -- where it holds, one is read, and the others
-  pub many_goes_on : (ts : List Tok) (x : X) (us : List Tok) (xs : List X) (rest : List Tok) → test ts ≡ true → p ts ≡ Some (x, us) → many test p us ≡ Some (xs, rest) → many test p ts ≡ Some (x ∷ xs, rest)
+  pub many_goes_on : (ts : List Tok) (x : X) (us : List Tok) (xs : List X) (rest : List Tok) → test ts ≡ true → p ts ≡ Some (x, us)
+      → many test p us ≡ Some (xs, rest) → many test p ts ≡ Some (x ∷ xs, rest)
   many_goes_on ts x us xs rest e f g =
-      many_is ts ∙ rw e (bind_is p (λ x. many test p >>= λ xs. give (x ∷ xs)) ts x us f ∙ bind_is (many test p) (λ xs. give (x ∷ xs)) us xs rest g)
+      many_is ts
+      ∙ rw e (bind_is p (λ x. many test p >>= λ xs. give (x ∷ xs)) ts x us f ∙ bind_is (many test p) (λ xs. give (x ∷ xs)) us xs rest g)
 
-  many_found : (P : List Tok → X → List Tok → Type 0) → ((ts : List Tok) (x : X) (rest : List Tok) → p ts ≡ Some (x, rest) → P ts x rest) → Finds (λ (u : Unit {0}) ts xs rest. Many P ts xs rest × (test rest ≡ false)) (fix (many_step test p))
-  many_found P h = fix_finds (many_step test p) (λ u ts xs rest. Many P ts xs rest × (test rest ≡ false)) (λ f sound u ts xs rest e. by_test f sound ts xs rest (test ts) refl e)
+  many_found : (P : List Tok → X → List Tok → Type 0) → ((ts : List Tok) (x : X) (rest : List Tok) → p ts ≡ Some (x, rest) → P ts x rest)
+      → Finds (λ (u : Unit {0}) ts xs rest. Many P ts xs rest × (test rest ≡ false)) (fix (many_step test p))
+  many_found P h =
+      fix_finds (many_step test p) (λ u ts xs rest. Many P ts xs rest × (test rest ≡ false))
+      (λ f sound u ts xs rest e. by_test f sound ts xs rest (test ts) refl e)
     where
-      by_test : (f : Unit {0} → Parser (List X)) → Finds (λ (u : Unit {0}) ts xs rest. Many P ts xs rest × (test rest ≡ false)) f → (ts : List Tok) (xs : List X) (rest : List Tok) (b : Bool) → test ts ≡ b → cond {A = Option (List X × List Tok)} b ((p >>= λ x. f tt >>= λ xs. give (x ∷ xs)) ts) (Some ([], ts)) ≡ Some (xs, rest) → Many P ts xs rest × (test rest ≡ false)
+      by_test : (f : Unit {0} → Parser (List X)) → Finds (λ (u : Unit {0}) ts xs rest. Many P ts xs rest × (test rest ≡ false)) f
+          → (ts : List Tok) (xs : List X) (rest : List Tok) (b : Bool) → test ts ≡ b
+          → cond {A = Option (List X × List Tok)} b ((p >>= λ x. f tt >>= λ xs. give (x ∷ xs)) ts) (Some ([], ts)) ≡ Some (xs, rest)
+          → Many P ts xs rest × (test rest ≡ false)
       by_test f sound ts xs rest true is e =
           let b = between p (λ x. f tt >>= λ xs. give (x ∷ xs)) ts xs rest e in
           let c = between (f tt) (λ xs. give (b.x ∷ xs)) b.us xs rest b.second in
@@ -117,12 +136,16 @@ module _ {X : Type 0} (test : List Tok → Bool) (p : Parser X) (strict : Strict
           carried (λ xs rest. Many P ts xs rest × (test rest ≡ false)) c.second (one_more (h ts b.x b.us b.first) tail.0, tail.1)
       by_test f sound ts xs rest false is e = carried (λ xs rest. Many P ts xs rest × (test rest ≡ false)) e (no_more, is)
 
-  pub many_finds : (P : List Tok → X → List Tok → Type 0) → ((ts : List Tok) (x : X) (rest : List Tok) → p ts ≡ Some (x, rest) → P ts x rest) → (ts : List Tok) (xs : List X) (rest : List Tok) → many test p ts ≡ Some (xs, rest) → Many P ts xs rest × (test rest ≡ false)
+  pub many_finds : (P : List Tok → X → List Tok → Type 0)
+      → ((ts : List Tok) (x : X) (rest : List Tok) → p ts ≡ Some (x, rest) → P ts x rest) → (ts : List Tok) (xs : List X) (rest : List Tok)
+      → many test p ts ≡ Some (xs, rest) → Many P ts xs rest × (test rest ≡ false)
   unfolding many
   many_finds P h ts xs rest e = many_found P h tt ts xs rest e
 
   -- what comes any number of times is read, where each begins as the test says, and what follows may follow one
-  pub many_reads : {P : List Tok → X → List Tok → Type 0} {S : List Tok → Type 0} → Exactly P S p → ((ts : List Tok) (x : X) (us : List Tok) → P ts x us → test ts ≡ true) → ((us : List Tok) → test us ≡ true → S us) → {ts rest : List Tok} {xs : List X} → Many P ts xs rest → S rest → test rest ≡ false → many test p ts ≡ Some (xs, rest)
+  pub many_reads : {P : List Tok → X → List Tok → Type 0} {S : List Tok → Type 0} → Exactly P S p
+      → ((ts : List Tok) (x : X) (us : List Tok) → P ts x us → test ts ≡ true) → ((us : List Tok) → test us ≡ true → S us)
+      → {ts rest : List Tok} {xs : List X} → Many P ts xs rest → S rest → test rest ≡ false → many test p ts ≡ Some (xs, rest)
   many_reads is starts joins (no_more {ts = ts}) s e = many_ends ts e
   many_reads {P} {S} is starts joins (one_more {ts = ts} {us = us} {rest = rest} {x = x} {xs = xs} h t) s e =
       many_goes_on ts x us xs rest (starts ts x us h) (is.reads ts x us h (next t s)) (many_reads is starts joins t s e)
@@ -154,17 +177,26 @@ repeated_reads test {p = p} s is starts ts xs rest (several {us = us} {x = x} {x
     ∙ bind_is (many test p) (λ xs. give (x ∷ xs)) us ys rest (many_reads test p s is starts (λ us h. tt) m tt e)
 
 -- behind commas
-behind_begins : {X : Type 0} {P : List Tok → X → List Tok → Type 0} (k : Kind) (ts : List Tok) (x : X) (us : List Tok) → Behind k P ts x us → begins k ts ≡ true
+behind_begins : {X : Type 0} {P : List Tok → X → List Tok → Type 0} (k : Kind) (ts : List Tok) (x : X) (us : List Tok) → Behind k P ts x us
+    → begins k ts ≡ true
 behind_begins k ts x us (behind t h) = begins_takes t
 
 pub Strict-behind : {X : Type 0} {p : Parser X} (k : Kind) → Shrinks p → Strict (take k >>= λ _. p)
 Strict-behind {p = p} k s = Strict-bind (Strict-take k) (λ t. s)
 
-pub more_finds : {X : Type 0} {P : List Tok → X → List Tok → Type 0} {S : List Tok → Type 0} {p : Parser X} → Strict p → Exactly P S p → (ts : List Tok) (xs : List X) (rest : List Tok) → more p ts ≡ Some (xs, rest) → Many (Behind kind.Comma P) ts xs rest × (begins kind.Comma rest ≡ false)
-more_finds {P = P} {p = p} s is = many_finds (begins kind.Comma) (take kind.Comma >>= λ _. p) (Strict-behind kind.Comma (Strict-Shrinks s)) (Behind kind.Comma P) (exactly_behind kind.Comma is).finds
+pub more_finds : {X : Type 0} {P : List Tok → X → List Tok → Type 0} {S : List Tok → Type 0} {p : Parser X} → Strict p → Exactly P S p
+    → (ts : List Tok) (xs : List X) (rest : List Tok) → more p ts ≡ Some (xs, rest)
+    → Many (Behind kind.Comma P) ts xs rest × (begins kind.Comma rest ≡ false)
+more_finds {P = P} {p = p} s is =
+    many_finds (begins kind.Comma) (take kind.Comma >>= λ _. p) (Strict-behind kind.Comma (Strict-Shrinks s)) (Behind kind.Comma P)
+    (exactly_behind kind.Comma is).finds
 
-pub more_reads : {X : Type 0} {P : List Tok → X → List Tok → Type 0} {S : List Tok → Type 0} {p : Parser X} → Strict p → Exactly P S p → ((us : List Tok) → begins kind.Comma us ≡ true → S us) → {ts rest : List Tok} {xs : List X} → Many (Behind kind.Comma P) ts xs rest → S rest → begins kind.Comma rest ≡ false → more p ts ≡ Some (xs, rest)
-more_reads {P = P} {p = p} s is joins m h e = many_reads (begins kind.Comma) (take kind.Comma >>= λ _. p) (Strict-behind kind.Comma (Strict-Shrinks s)) (exactly_behind kind.Comma is) (λ ts x us b. behind_begins kind.Comma ts x us b) joins m h e
+pub more_reads : {X : Type 0} {P : List Tok → X → List Tok → Type 0} {S : List Tok → Type 0} {p : Parser X} → Strict p → Exactly P S p
+    → ((us : List Tok) → begins kind.Comma us ≡ true → S us) → {ts rest : List Tok} {xs : List X} → Many (Behind kind.Comma P) ts xs rest
+    → S rest → begins kind.Comma rest ≡ false → more p ts ≡ Some (xs, rest)
+more_reads {P = P} {p = p} s is joins m h e =
+    many_reads (begins kind.Comma) (take kind.Comma >>= λ _. p) (Strict-behind kind.Comma (Strict-Shrinks s))
+    (exactly_behind kind.Comma is) (λ ts x us b. behind_begins kind.Comma ts x us b) joins m h e
 
 pub more_shrinks : {X : Type 0} {p : Parser X} → Strict p → Shrinks (more p)
 more_shrinks {p = p} s = many_shrinks (begins kind.Comma) (take kind.Comma >>= λ _. p) (Strict-behind kind.Comma (Strict-Shrinks s))
@@ -177,7 +209,8 @@ Strict-list s = Strict-bind s (λ x. Shrinks-bind (more_shrinks s) (λ xs. Shrin
 abbrev pub NoComma : (List Tok → Type 0) → List Tok → Type 0
 NoComma S ts = S ts × (begins kind.Comma ts ≡ false)
 
-pub exactly_list : {X : Type 0} {P : List Tok → X → List Tok → Type 0} {S : List Tok → Type 0} {p : Parser X} → Strict p → Exactly P S p → ((us : List Tok) → begins kind.Comma us ≡ true → S us) → Exactly (Listed P) (NoComma S) (list p)
+pub exactly_list : {X : Type 0} {P : List Tok → X → List Tok → Type 0} {S : List Tok → Type 0} {p : Parser X} → Strict p → Exactly P S p
+    → ((us : List Tok) → begins kind.Comma us ≡ true → S us) → Exactly (Listed P) (NoComma S) (list p)
 unfolding list
 exactly_list {X} {P} {S} {p} s is joins = record {
   finds = λ ts xs rest e.
@@ -197,14 +230,19 @@ exactly_list {X} {P} {S} {p} s is joins = record {
         ∙ bind_is (more p) (λ xs. give (x ∷ xs)) us ys rest (more_reads s is joins m n.0 n.1)
 
 -- nothing or a list is read before a closing parenthesis
-pub exactly_perhaps : {X : Type 0} {P : List Tok → X → List Tok → Type 0} {S : List Tok → Type 0} {p : Parser X} → Strict p → Exactly P S p → ((us : List Tok) → begins kind.Comma us ≡ true → S us) → ((us rest : List Tok) → Takes kind.Close us rest → S us) → ((ts : List Tok) (x : X) (us : List Tok) → P ts x us → begins kind.Close ts ≡ false) → Exactly (Perhaps P) (λ ts. begins kind.Close ts ≡ true) (perhaps p)
+pub exactly_perhaps : {X : Type 0} {P : List Tok → X → List Tok → Type 0} {S : List Tok → Type 0} {p : Parser X} → Strict p → Exactly P S p
+    → ((us : List Tok) → begins kind.Comma us ≡ true → S us) → ((us rest : List Tok) → Takes kind.Close us rest → S us)
+    → ((ts : List Tok) (x : X) (us : List Tok) → P ts x us → begins kind.Close ts ≡ false)
+    → Exactly (Perhaps P) (λ ts. begins kind.Close ts ≡ true) (perhaps p)
 unfolding same_kind
 exactly_perhaps {X} {P} {S} {p} s is joins close other = record {
   finds = λ ts xs rest e. by_choice ts xs rest (chosen (begins kind.Close ts) (Some ([], ts)) (list p ts) (Some (xs, rest)) e);
   reads = went;
 }
   where
-    by_choice : (ts : List Tok) (xs : List X) (rest : List Tok) → ((begins kind.Close ts ≡ true) × (◌≡◌ {A = Option (List X × List Tok)} (Some ([], ts)) (Some (xs, rest)))) ⊎ ((begins kind.Close ts ≡ false) × (list p ts ≡ Some (xs, rest))) → Perhaps P ts xs rest
+    by_choice : (ts : List Tok) (xs : List X) (rest : List Tok)
+        → ((begins kind.Close ts ≡ true) × (◌≡◌ {A = Option (List X × List Tok)} (Some ([], ts)) (Some (xs, rest))))
+        ⊎ ((begins kind.Close ts ≡ false) × (list p ts ≡ Some (xs, rest))) → Perhaps P ts xs rest
     by_choice ts xs rest (inl h) = carried (λ xs rest. Perhaps P ts xs rest) h.1 nothing
     by_choice ts xs rest (inr h) = something ((exactly_list s is joins).finds ts xs rest h.1)
 
@@ -214,16 +252,24 @@ exactly_perhaps {X} {P} {S} {p} s is joins close other = record {
     begins_so : (ts : List Tok) (xs : List X) (rest : List Tok) → Listed P ts xs rest → begins kind.Close ts ≡ false
     begins_so ts xs rest (listed {us = us} {x = x} h m) = other ts x us h
 
-    went : (ts : List Tok) (xs : List X) (rest : List Tok) → Perhaps P ts xs rest → begins kind.Close rest ≡ true → perhaps p ts ≡ Some (xs, rest)
+    went : (ts : List Tok) (xs : List X) (rest : List Tok) → Perhaps P ts xs rest → begins kind.Close rest ≡ true
+        → perhaps p ts ≡ Some (xs, rest)
     went ts xs rest nothing e = rw e refl
     went ts xs rest (something h) e = let f = begins_so ts xs rest h in rw f ((exactly_list s is joins).reads ts xs rest h (closes rest e))
 
 pub shrinks_perhaps : {X : Type 0} {p : Parser X} → Strict p → Shrinks (perhaps p)
-shrinks_perhaps {X} {p} s = record { by = λ ts xs rest e. by_choice ts xs rest (chosen (begins kind.Close ts) (Some ([], ts)) (list p ts) (Some (xs, rest)) e) }
+shrinks_perhaps {X} {p} s = record {
+  by =
+      λ ts xs rest e. by_choice ts xs rest (chosen (begins kind.Close ts) (Some ([], ts)) (list p ts) (Some (xs, rest)) e);
+}
   where
-    by_choice : (ts : List Tok) (xs : List X) (rest : List Tok) → ((begins kind.Close ts ≡ true) × (◌≡◌ {A = Option (List X × List Tok)} (Some ([], ts)) (Some (xs, rest)))) ⊎ ((begins kind.Close ts ≡ false) × (list p ts ≡ Some (xs, rest))) → length rest ≤ length ts
+    by_choice : (ts : List Tok) (xs : List X) (rest : List Tok)
+        → ((begins kind.Close ts ≡ true) × (◌≡◌ {A = Option (List X × List Tok)} (Some ([], ts)) (Some (xs, rest))))
+        ⊎ ((begins kind.Close ts ≡ false) × (list p ts ≡ Some (xs, rest))) → length rest ≤ length ts
     by_choice ts xs rest (inl h) = let j = (both h.1).1 in rw j (omega arith)
     by_choice ts xs rest (inr h) = let j : length rest < length ts = (Strict-list s).by ts xs rest h.1 in omega arith
 
 pub strict_parens : {X : Type 0} {p : Parser X} → Shrinks p → Strict (parens p)
-strict_parens s = Strict-bind (Strict-take kind.Open) (λ t. Shrinks-bind s (λ x. Shrinks-bind (Strict-Shrinks (Strict-take kind.Close)) (λ u. Shrinks-give x)))
+strict_parens s =
+    Strict-bind (Strict-take kind.Open)
+    (λ t. Shrinks-bind s (λ x. Shrinks-bind (Strict-Shrinks (Strict-take kind.Close)) (λ u. Shrinks-give x)))

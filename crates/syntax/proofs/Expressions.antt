@@ -1,6 +1,7 @@
 -- The function that reads expressions, and the grammar of expressions.
 use Rattle.std.specs.Prelude.{nat_le, option_and_then}
-use Rattle.std.proofs.Common.{◌≡◌, ℕ, zero, suc, ◌+◌, ◌<◌, ◌≤◌, Bool, true, false, cond, List, [], ◌∷◌, length, Option, Some, None, refl, sym, ◌∙◌, ap, arith}
+use Rattle.std.proofs.Common.{◌≡◌, ℕ, zero, suc, ◌+◌, ◌<◌, ◌≤◌, Bool, true, false, cond, List, [], ◌∷◌, length, Option, Some, None, refl}
+use Rattle.std.proofs.Common.{sym, ◌∙◌, ap, arith}
 use Rattle.std.proofs.lemmas.Bool.Decides.{nat_tests}
 use Rattle.language.specs.Tree.{Name, Operator, implies, or, xor, and, equal, differs, Expression, const, var, negation, two}
 use Rattle.tokens.specs.declared.vocabulary.Kind.{Kind}
@@ -8,7 +9,8 @@ use Rattle.tokens.specs.declared.vocabulary.Kind.TheVariants as kind
 use Rattle.tokens.specs.declared.vocabulary.Token.{Token}
 use Rattle.tokens.specs.Token.{Tok, same_kind, tok_of, toks_of}
 use Rattle.syntax.specs.Parser.{Parser, Strict, give, refuse, ◌>>=◌, take}
-use Rattle.syntax.specs.Grammar.{Takes, takes, name_at, operator_at, level, left_level, right_level, Reads, reads_zero, reads_one, reads_name, reads_not, reads_paren, reads_two}
+use Rattle.syntax.specs.Grammar.{Takes, takes, name_at, operator_at, level, left_level, right_level, Reads, reads_zero, reads_one}
+use Rattle.syntax.specs.Grammar.{reads_name, reads_not, reads_paren, reads_two}
 use Rattle.syntax.specs.Exact.{Goal, from, after, binds, operand_step, go_on, expression_step, reading, operand}
 use Rattle.syntax.proofs.KindTests.{same_kind-true, same_kind-is}
 use Rattle.syntax.proofs.Fixes.{both, between, bind_is, Shrinks, Agree, Strict-Shrinks, Shrinks-give}
@@ -19,21 +21,27 @@ use Rattle.syntax.proofs.Fixes.{carried}
 operand_shrinks : (f : Goal → Parser (Expression Name)) → ((i : Goal) → Shrinks (f i)) → (t : Tok) → Shrinks (operand_step f t)
 operand_shrinks f s t = search (s, Shrinks-cond, Shrinks-bind, Shrinks-give, Shrinks-refuse, Strict-Shrinks, Strict-take) depth 12
 
-operand_agrees : (n : ℕ) (f g : Goal → Parser (Expression Name)) → ((i : Goal) → Shrinks (f i)) → ((i : Goal) → Agree n (f i) (g i)) → (t : Tok) → Agree n (operand_step f t) (operand_step g t)
+operand_agrees : (n : ℕ) (f g : Goal → Parser (Expression Name)) → ((i : Goal) → Shrinks (f i)) → ((i : Goal) → Agree n (f i) (g i))
+    → (t : Tok) → Agree n (operand_step f t) (operand_step g t)
 operand_agrees n f g s a t = search (a, s, Agree-cond, Agree-bind, Agree-same) depth 12
 
-go_on_shrinks : (f : Goal → Parser (Expression Name)) → ((i : Goal) → Shrinks (f i)) → (l : ℕ) (a : Expression Name) (t : Tok) (ts : List Tok) (o : Option Operator) (e : Expression Name) (rest : List Tok) → go_on f l a t ts o ≡ Some (e, rest) → length rest ≤ length (t ∷ ts)
+go_on_shrinks : (f : Goal → Parser (Expression Name)) → ((i : Goal) → Shrinks (f i))
+    → (l : ℕ) (a : Expression Name) (t : Tok) (ts : List Tok) (o : Option Operator) (e : Expression Name) (rest : List Tok)
+    → go_on f l a t ts o ≡ Some (e, rest) → length rest ≤ length (t ∷ ts)
 go_on_shrinks f s l a t ts None e rest h = let j = (both h).1 in rw (← j) (omega arith)
 go_on_shrinks f s l a t ts (Some o) e rest h =
     let j : length rest ≤ length ts = (Shrinks-bind (s (from (right_level o))) (λ b. s (after l (two o a b)))).by ts e rest h in
     omega arith
 
-go_on_agrees : (n : ℕ) (f g : Goal → Parser (Expression Name)) → ((i : Goal) → Shrinks (f i)) → ((i : Goal) → Agree n (f i) (g i)) → (l : ℕ) (a : Expression Name) (t : Tok) (ts : List Tok) (o : Option Operator) → length ts < n → go_on f l a t ts o ≡ go_on g l a t ts o
+go_on_agrees : (n : ℕ) (f g : Goal → Parser (Expression Name)) → ((i : Goal) → Shrinks (f i)) → ((i : Goal) → Agree n (f i) (g i))
+    → (l : ℕ) (a : Expression Name) (t : Tok) (ts : List Tok) (o : Option Operator) → length ts < n
+    → go_on f l a t ts o ≡ go_on g l a t ts o
 go_on_agrees n f g s h l a t ts None below = refl
 go_on_agrees n f g s h l a t ts (Some o) below =
     (Agree-bind (h (from (right_level o))) (s (from (right_level o))) (λ b. h (after l (two o a b)))).at ts below
 
-step_shrinks : (f : Goal → Parser (Expression Name)) → ((i : Goal) → Shrinks (f i)) → (i : Goal) (ts : List Tok) (e : Expression Name) (rest : List Tok) → expression_step f i ts ≡ Some (e, rest) → length rest ≤ length ts
+step_shrinks : (f : Goal → Parser (Expression Name)) → ((i : Goal) → Shrinks (f i))
+    → (i : Goal) (ts : List Tok) (e : Expression Name) (rest : List Tok) → expression_step f i ts ≡ Some (e, rest) → length rest ≤ length ts
 step_shrinks f s (from l) [] e rest h = cc
 step_shrinks f s (from l) (t ∷ ts) e rest h =
     let j : length rest ≤ length ts = (Shrinks-bind (operand_shrinks f s t) (λ a. s (after l a))).by ts e rest h in
@@ -41,7 +49,8 @@ step_shrinks f s (from l) (t ∷ ts) e rest h =
 step_shrinks f s (after l a) [] e rest h = let j = (both h).1 in rw (← j) (omega arith)
 step_shrinks f s (after l a) (t ∷ ts) e rest h = go_on_shrinks f s l a t ts (binds l t.kind) e rest h
 
-step_agrees : (n : ℕ) (f g : Goal → Parser (Expression Name)) → ((i : Goal) → Shrinks (f i)) → ((i : Goal) → Agree n (f i) (g i)) → (i : Goal) (ts : List Tok) → length ts < suc n → expression_step f i ts ≡ expression_step g i ts
+step_agrees : (n : ℕ) (f g : Goal → Parser (Expression Name)) → ((i : Goal) → Shrinks (f i)) → ((i : Goal) → Agree n (f i) (g i))
+    → (i : Goal) (ts : List Tok) → length ts < suc n → expression_step f i ts ≡ expression_step g i ts
 step_agrees n f g s a (from l) [] below = refl
 step_agrees n f g s a (from l) (t ∷ ts) below =
     (Agree-bind (operand_agrees n f g s a t) (operand_shrinks f s t) (λ e. a (after l e))).at ts (omega arith)
@@ -93,11 +102,13 @@ module _ (f : Goal → Parser (Expression Name)) (t : Tok) where
 some_binds : (l : ℕ) (k : Kind) (o : Operator) → operator_at k ≡ Some o → l ≤ level o → binds l k ≡ Some o
 some_binds l k o e h = rw e (grind (arith, nat_tests))
 
-binds_some : (l : ℕ) (p : Option Operator) (o : Operator) → option_and_then (λ o. cond (nat_le l (level o)) (Some o) None) p ≡ Some o → (p ≡ Some o) × (l ≤ level o)
+binds_some : (l : ℕ) (p : Option Operator) (o : Operator) → option_and_then (λ o. cond (nat_le l (level o)) (Some o) None) p ≡ Some o
+    → (p ≡ Some o) × (l ≤ level o)
 binds_some l None o e = cc
 binds_some l (Some q) o e = by_test l q o (nat_le l (level q)) refl e
   where
-    by_test : (l : ℕ) (q o : Operator) (b : Bool) → nat_le l (level q) ≡ b → cond {A = Option Operator} b (Some q) None ≡ Some o → (Some q ≡ Some o) × (l ≤ level o)
+    by_test : (l : ℕ) (q o : Operator) (b : Bool) → nat_le l (level q) ≡ b → cond {A = Option Operator} b (Some q) None ≡ Some o
+        → (Some q ≡ Some o) × (l ≤ level o)
     by_test l q o true h e = let j : q ≡ o = cc in (ap Some j, rw (← j) (grind (arith, nat_tests)))
     by_test l q o false h e = cc
 
@@ -108,11 +119,13 @@ none_binds l k o e h = by_test l o (nat_le l (level o)) refl (rw e at h)
     by_test l o true h e = cc
     by_test l o false h e = grind (arith, nat_tests)
 
-weaker_none : (l m : ℕ) (p : Option Operator) → l ≤ m → option_and_then (λ o. cond (nat_le l (level o)) (Some o) None) p ≡ None → option_and_then (λ o. cond (nat_le m (level o)) (Some o) None) p ≡ None
+weaker_none : (l m : ℕ) (p : Option Operator) → l ≤ m → option_and_then (λ o. cond (nat_le l (level o)) (Some o) None) p ≡ None
+    → option_and_then (λ o. cond (nat_le m (level o)) (Some o) None) p ≡ None
 weaker_none l m None h e = refl
 weaker_none l m (Some o) h e = by_test l m o (nat_le l (level o)) refl h e
   where
-    by_test : (l m : ℕ) (o : Operator) (b : Bool) → nat_le l (level o) ≡ b → l ≤ m → cond {A = Option Operator} b (Some o) None ≡ None → cond {A = Option Operator} (nat_le m (level o)) (Some o) None ≡ None
+    by_test : (l m : ℕ) (o : Operator) (b : Bool) → nat_le l (level o) ≡ b → l ≤ m → cond {A = Option Operator} b (Some o) None ≡ None
+        → cond {A = Option Operator} (nat_le m (level o)) (Some o) None ≡ None
     by_test l m o true h j e = cc
     by_test l m o false h j e = let k : nat_le m (level o) ≡ false = grind (arith, nat_tests) in rw k refl
 
@@ -140,13 +153,15 @@ reading_stops l a [] stops_end = reading_is (after l a) []
 reading_stops l a (t ∷ ts) (stops_at e) = reading_is (after l a) (t ∷ ts) ∙ ap (go_on reading l a t ts) e
 
 -- where an operator comes next, its right side is read
-reading_goes_on : (l : ℕ) (a b : Expression Name) (t : Tok) (us rest : List Tok) (o : Operator) → l ≤ level o → operator_at t.kind ≡ Some o → reading (from (right_level o)) us ≡ Some (b, rest) → reading (after l a) (t ∷ us) ≡ reading (after l (two o a b)) rest
+reading_goes_on : (l : ℕ) (a b : Expression Name) (t : Tok) (us rest : List Tok) (o : Operator) → l ≤ level o → operator_at t.kind ≡ Some o
+    → reading (from (right_level o)) us ≡ Some (b, rest) → reading (after l a) (t ∷ us) ≡ reading (after l (two o a b)) rest
 reading_goes_on l a b t us rest o h op e =
     reading_is (after l a) (t ∷ us) ∙ ap (go_on reading l a t us) (some_binds l t.kind o op h)
     ∙ bind_is (reading (from (right_level o))) (λ b. reading (after l (two o a b))) us b rest e
 
 -- the start of an expression is read as its operand, and what follows goes on from there
-reading_starts : (l : ℕ) (a : Expression Name) (t : Tok) (ts rest : List Tok) → operand_step reading t ts ≡ Some (a, rest) → reading (from l) (t ∷ ts) ≡ reading (after l a) rest
+reading_starts : (l : ℕ) (a : Expression Name) (t : Tok) (ts rest : List Tok) → operand_step reading t ts ≡ Some (a, rest)
+    → reading (from l) (t ∷ ts) ≡ reading (after l a) rest
 reading_starts l a t ts rest e =
     reading_is (from l) (t ∷ ts) ∙ bind_is (operand_step reading t) (λ a. reading (after l a)) ts a rest e
 
@@ -202,13 +217,20 @@ operator_stops : (l : ℕ) (t : Tok) (us : List Tok) (o : Operator) → operator
 operator_stops l t us o e h = stops_at (rw e (let j : nat_le l (level o) ≡ false = grind (arith, nat_tests) in rw j refl))
 
 -- reading comes past each expression of the grammar
-passes : {m : ℕ} {ts rest : List Tok} {a : Expression Name} → Reads m ts a rest → (l : ℕ) → l ≤ m → Stops (bound m) rest → reading (from l) ts ≡ reading (after l a) rest
-passes (reads_zero {t = t} {rest = rest} e) l h s = reading_starts l _ t rest rest (ap (λ (p : Parser (Expression Name)). p rest) (operand_zero reading t e))
-passes (reads_one {t = t} {rest = rest} e) l h s = reading_starts l _ t rest rest (ap (λ (p : Parser (Expression Name)). p rest) (operand_one reading t e))
-passes (reads_name {t = t} {rest = rest} e) l h s = reading_starts l _ t rest rest (ap (λ (p : Parser (Expression Name)). p rest) (operand_name reading t e))
+passes : {m : ℕ} {ts rest : List Tok} {a : Expression Name} → Reads m ts a rest → (l : ℕ) → l ≤ m → Stops (bound m) rest
+    → reading (from l) ts ≡ reading (after l a) rest
+passes (reads_zero {t = t} {rest = rest} e) l h s =
+    reading_starts l _ t rest rest (ap (λ (p : Parser (Expression Name)). p rest) (operand_zero reading t e))
+passes (reads_one {t = t} {rest = rest} e) l h s =
+    reading_starts l _ t rest rest (ap (λ (p : Parser (Expression Name)). p rest) (operand_one reading t e))
+passes (reads_name {t = t} {rest = rest} e) l h s =
+    reading_starts l _ t rest rest (ap (λ (p : Parser (Expression Name)). p rest) (operand_name reading t e))
 passes (reads_not {t = t} {ts = ts} {rest = rest} {e = a} e r) l h s =
-    let inner : reading (from 5) ts ≡ Some (a, rest) = passes r 5 (omega arith) (Stops-weaker (omega arith) (Stops-5 rest)) ∙ reading_stops 5 a rest (Stops-5 rest) in
-    reading_starts l _ t ts rest (ap (λ (p : Parser (Expression Name)). p ts) (operand_not reading t e) ∙ bind_is (reading (from 5)) (λ e. give (negation e)) ts a rest inner)
+    let inner : reading (from 5) ts ≡ Some (a, rest) = passes r 5 (omega arith) (Stops-weaker (omega arith) (Stops-5 rest))
+    ∙ reading_stops 5 a rest (Stops-5 rest) in
+    reading_starts l _ t ts rest
+    (ap (λ (p : Parser (Expression Name)). p ts) (operand_not reading t e)
+    ∙ bind_is (reading (from 5)) (λ e. give (negation e)) ts a rest inner)
 passes (reads_paren {t = t} {ts = ts} {us = us} {rest = rest} {e = a} e r c) l h s =
     let inner : reading (from 0) ts ≡ Some (a, us) = passes r 0 (omega arith) (close_stops c) ∙ reading_stops 0 a us (close_stops c) in
     let closed = take_is c in
@@ -224,7 +246,8 @@ passes {m} (reads_two {t = t} {ts = ts} {us = us} {rest = rest} {a = a} {b = b} 
     first ∙ reading_goes_on l a b t us rest o (omega arith) op second
 
 -- what the grammar has is read
-pub reading_complete : {l : ℕ} {ts rest : List Tok} {a : Expression Name} → Reads l ts a rest → Stops l rest → reading (from l) ts ≡ Some (a, rest)
+pub reading_complete : {l : ℕ} {ts rest : List Tok} {a : Expression Name} → Reads l ts a rest → Stops l rest
+    → reading (from l) ts ≡ Some (a, rest)
 reading_complete {l} {ts} {rest} {a} r s = passes r l (omega arith) (Stops-weaker (bound_above l) s) ∙ reading_stops l a rest s
 
 -- an expression of a level is one of each lower level
@@ -300,13 +323,17 @@ pub take_finds : (k : Kind) (ts : List Tok) (t : Tok) (rest : List Tok) → take
 take_finds k [] t rest e = cc
 take_finds k (u ∷ ts) t rest e = by_test k u t ts rest (same_kind u.kind k) refl e
   where
-    by_test : (k : Kind) (u t : Tok) (ts rest : List Tok) (b : Bool) → same_kind u.kind k ≡ b → cond {A = Option (Tok × List Tok)} b (Some (u, ts)) None ≡ Some (t, rest) → Takes k (u ∷ ts) rest × (u ∷ ts ≡ t ∷ rest)
+    by_test : (k : Kind) (u t : Tok) (ts rest : List Tok) (b : Bool) → same_kind u.kind k ≡ b
+        → cond {A = Option (Tok × List Tok)} b (Some (u, ts)) None ≡ Some (t, rest) → Takes k (u ∷ ts) rest × (u ∷ ts ≡ t ∷ rest)
     by_test k u t ts rest true is e = carried (λ t rest. Takes k (u ∷ ts) rest × (u ∷ ts ≡ t ∷ rest)) e (takes (same_kind-true is), refl)
     by_test k u t ts rest false is e = cc
 
 -- what is read at the start is an operand of each level
-operand_finds : (f : Goal → Parser (Expression Name)) → Finds Found f → (t : Tok) (ts : List Tok) (a : Expression Name) (us : List Tok) → operand_step f t ts ≡ Some (a, us) → (m : ℕ) → Reads m (t ∷ ts) a us
-operand_finds f sound t ts a us e m = by_tests (same_kind t.kind kind.Zero) refl (same_kind t.kind kind.One) refl (same_kind t.kind kind.Id) refl (same_kind t.kind kind.Not) refl (same_kind t.kind kind.Open) refl e
+operand_finds : (f : Goal → Parser (Expression Name)) → Finds Found f → (t : Tok) (ts : List Tok) (a : Expression Name) (us : List Tok)
+    → operand_step f t ts ≡ Some (a, us) → (m : ℕ) → Reads m (t ∷ ts) a us
+operand_finds f sound t ts a us e m =
+    by_tests (same_kind t.kind kind.Zero) refl (same_kind t.kind kind.One) refl (same_kind t.kind kind.Id) refl
+    (same_kind t.kind kind.Not) refl (same_kind t.kind kind.Open) refl e
   where
     negated : t.kind ≡ kind.Not → (f (from 5) >>= λ e. give (negation e)) ts ≡ Some (a, us) → Reads m (t ∷ ts) a us
     negated is e =
@@ -317,10 +344,17 @@ operand_finds f sound t ts a us e m = by_tests (same_kind t.kind kind.Zero) refl
     inside is e =
         let b = between (f (from 0)) (λ e. take kind.Close >>= λ _. give e) ts a us e in
         let c = between (take kind.Close) (λ _. give b.x) b.us a us b.second in
-        carried (λ a us. Reads m (t ∷ ts) a us) c.second (reads_paren is (sound (from 0) ts b.x b.us b.first).0 (take_finds kind.Close b.us c.x c.us c.first).0)
+        carried (λ a us. Reads m (t ∷ ts) a us) c.second
+        (reads_paren is (sound (from 0) ts b.x b.us b.first).0 (take_finds kind.Close b.us c.x c.us c.first).0)
 
-    by_tests : (z : Bool) → same_kind t.kind kind.Zero ≡ z → (i : Bool) → same_kind t.kind kind.One ≡ i → (n : Bool) → same_kind t.kind kind.Id ≡ n → (b : Bool) → same_kind t.kind kind.Not ≡ b → (o : Bool) → same_kind t.kind kind.Open ≡ o →
-        cond {A = Parser (Expression Name)} z (give (const false)) (cond i (give (const true)) (cond n (give (var (name_at t))) (cond b (f (from 5) >>= λ e. give (negation e)) (cond o (f (from 0) >>= λ e. take kind.Close >>= λ _. give e) refuse)))) ts ≡ Some (a, us) → Reads m (t ∷ ts) a us
+    by_tests : (z : Bool) → same_kind t.kind kind.Zero ≡ z → (i : Bool) → same_kind t.kind kind.One ≡ i → (n : Bool)
+        → same_kind t.kind kind.Id ≡ n → (b : Bool) → same_kind t.kind kind.Not ≡ b → (o : Bool) → same_kind t.kind kind.Open ≡ o →
+        cond {A =
+        Parser (Expression Name)} z (give (const false))
+        (cond i (give (const true))
+        (cond n (give (var (name_at t)))
+        (cond b (f (from 5) >>= λ e. give (negation e)) (cond o (f (from 0) >>= λ e. take kind.Close >>= λ _. give e) refuse)))) ts
+        ≡ Some (a, us) → Reads m (t ∷ ts) a us
     by_tests true is i _ n _ b _ o _ e = carried (λ a us. Reads m (t ∷ ts) a us) e (reads_zero (same_kind-true is))
     by_tests false _ true is n _ b _ o _ e = carried (λ a us. Reads m (t ∷ ts) a us) e (reads_one (same_kind-true is))
     by_tests false _ false _ true is b _ o _ e = carried (λ a us. Reads m (t ∷ ts) a us) e (reads_name (same_kind-true is))
@@ -328,7 +362,10 @@ operand_finds f sound t ts a us e m = by_tests (same_kind t.kind kind.Zero) refl
     by_tests false _ false _ false _ false _ true is e = inside (same_kind-true is) e
     by_tests false _ false _ false _ false _ false _ e = cc
 
-go_on_finds : (f : Goal → Parser (Expression Name)) → Finds Found f → (l : ℕ) (a : Expression Name) (t : Tok) (us : List Tok) (o : Option Operator) → binds l t.kind ≡ o → (e : Expression Name) (rest : List Tok) → go_on f l a t us o ≡ Some (e, rest) → (ts : List Tok) → Ready l ts a (t ∷ us) → Reads l ts e rest × Stops l rest
+go_on_finds : (f : Goal → Parser (Expression Name)) → Finds Found f
+    → (l : ℕ) (a : Expression Name) (t : Tok) (us : List Tok) (o : Option Operator) → binds l t.kind ≡ o
+    → (e : Expression Name) (rest : List Tok) → go_on f l a t us o ≡ Some (e, rest) → (ts : List Tok) → Ready l ts a (t ∷ us)
+    → Reads l ts e rest × Stops l rest
 go_on_finds f sound l a t us None is e rest h ts ready =
     carried (λ e rest. Reads l ts e rest × Stops l rest) h (lower ready.reads l ready.above, stops_at is)
 go_on_finds f sound l a t us (Some o) is e rest h ts ready =
@@ -358,12 +395,14 @@ step_finds f sound (after l a) [] e rest h = λ ts ready.
 step_finds f sound (after l a) (t ∷ us) e rest h = λ ts ready. go_on_finds f sound l a t us (binds l t.kind) refl e rest h ts ready
 
 -- what is read is in the grammar, and nothing that would make it longer comes next
-pub reading_finds : (l : ℕ) (ts : List Tok) (e : Expression Name) (rest : List Tok) → reading (from l) ts ≡ Some (e, rest) → Reads l ts e rest × Stops l rest
+pub reading_finds : (l : ℕ) (ts : List Tok) (e : Expression Name) (rest : List Tok) → reading (from l) ts ≡ Some (e, rest)
+    → Reads l ts e rest × Stops l rest
 unfolding reading
 reading_finds l ts e rest h = fix_finds expression_step Found step_finds (from l) ts e rest h
 
 -- the steps of reading, as the loop takes them
-pub starts : (l : ℕ) (ts : List Tok) (a : Expression Name) (rest : List Tok) → operand ts ≡ Some (a, rest) → reading (from l) ts ≡ reading (after l a) rest
+pub starts : (l : ℕ) (ts : List Tok) (a : Expression Name) (rest : List Tok) → operand ts ≡ Some (a, rest)
+    → reading (from l) ts ≡ reading (after l a) rest
 unfolding operand
 starts l [] a rest e = cc
 starts l (t ∷ ts) a rest e = reading_starts l a t ts rest e
@@ -373,34 +412,40 @@ unfolding operand
 no_start l [] e = reading_is (from l) []
 no_start l (t ∷ ts) e = reading_is (from l) (t ∷ ts) ∙ rw e refl
 
-pub stops_here : (l : ℕ) (a : Expression Name) (t : Tok) (us : List Tok) → binds l t.kind ≡ None → reading (after l a) (t ∷ us) ≡ Some (a, t ∷ us)
+pub stops_here : (l : ℕ) (a : Expression Name) (t : Tok) (us : List Tok) → binds l t.kind ≡ None
+    → reading (after l a) (t ∷ us) ≡ Some (a, t ∷ us)
 stops_here l a t us e = reading_stops l a (t ∷ us) (stops_at e)
 
 pub stops_at_end : (l : ℕ) (a : Expression Name) → reading (after l a) [] ≡ Some (a, [])
 stops_at_end l a = reading_stops l a [] stops_end
 
-pub goes_on : (l : ℕ) (a b : Expression Name) (t : Tok) (us rest : List Tok) (o : Operator) → binds l t.kind ≡ Some o → reading (from (right_level o)) us ≡ Some (b, rest) → reading (after l a) (t ∷ us) ≡ reading (after l (two o a b)) rest
+pub goes_on : (l : ℕ) (a b : Expression Name) (t : Tok) (us rest : List Tok) (o : Operator) → binds l t.kind ≡ Some o
+    → reading (from (right_level o)) us ≡ Some (b, rest) → reading (after l a) (t ∷ us) ≡ reading (after l (two o a b)) rest
 goes_on l a b t us rest o e f =
     reading_is (after l a) (t ∷ us) ∙ ap (go_on reading l a t us) e
     ∙ bind_is (reading (from (right_level o))) (λ b. reading (after l (two o a b))) us b rest f
 
-pub no_right : (l : ℕ) (a : Expression Name) (t : Tok) (us : List Tok) (o : Operator) → binds l t.kind ≡ Some o → reading (from (right_level o)) us ≡ None → reading (after l a) (t ∷ us) ≡ None
+pub no_right : (l : ℕ) (a : Expression Name) (t : Tok) (us : List Tok) (o : Operator) → binds l t.kind ≡ Some o
+    → reading (from (right_level o)) us ≡ None → reading (after l a) (t ∷ us) ≡ None
 no_right l a t us o e f = reading_is (after l a) (t ∷ us) ∙ ap (go_on reading l a t us) e ∙ rw f refl
 
 pub ends_empty : (l : ℕ) (a : Expression Name) (ts : List Token) → length ts ≡ 0 → reading (after l a) (toks_of ts) ≡ Some (a, toks_of ts)
 ends_empty l a [] e = stops_at_end l a
 ends_empty l a (t ∷ ts) e = absurd (omega arith)
 
-pub ends_before : (l : ℕ) (a : Expression Name) (ts us : List Token) (t : Token) → ts ≡ t ∷ us → binds l t.kind ≡ None → reading (after l a) (toks_of ts) ≡ Some (a, toks_of ts)
+pub ends_before : (l : ℕ) (a : Expression Name) (ts us : List Token) (t : Token) → ts ≡ t ∷ us → binds l t.kind ≡ None
+    → reading (after l a) (toks_of ts) ≡ Some (a, toks_of ts)
 ends_before l a ts us t e h = rw e (stops_here l a (tok_of t) (toks_of us) h)
 
 pub reading_strict : (l : ℕ) → Strict (reading (from l))
 reading_strict l = record { by = λ ts a rest e. by_list l ts a rest (sym (reading_is (from l) ts) ∙ e) }
   where
-    by_list : (l : ℕ) (ts : List Tok) (a : Expression Name) (rest : List Tok) → expression_step reading (from l) ts ≡ Some (a, rest) → length rest < length ts
+    by_list : (l : ℕ) (ts : List Tok) (a : Expression Name) (rest : List Tok) → expression_step reading (from l) ts ≡ Some (a, rest)
+        → length rest < length ts
     by_list l [] a rest e = cc
     by_list l (t ∷ ts) a rest e =
-        let j : length rest ≤ length ts = (Shrinks-bind (operand_shrinks reading reading_shrinks t) (λ a. reading_shrinks (after l a))).by ts a rest e in
+        let j : length rest ≤ length ts =
+        (Shrinks-bind (operand_shrinks reading reading_shrinks t) (λ a. reading_shrinks (after l a))).by ts a rest e in
         omega arith
 
 -- what the loop over operators does

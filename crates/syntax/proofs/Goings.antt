@@ -17,7 +17,8 @@ all_before_more : (is : List Item) (i : Item) (k : Block Name Name Name) → all
 all_before_more [] i k = refl
 all_before_more (j ∷ is) i k = ap (before j) (all_before_more is i k)
 
-put_more : (is : List Item) (i : Item) (r : Option (Block Name Name Name × List Tok)) → put_before is (option_and_then (λ (q : Block Name Name Name × List Tok). Some (before i q.0, q.1)) r) ≡ put_before (is ++ (i ∷ [])) r
+put_more : (is : List Item) (i : Item) (r : Option (Block Name Name Name × List Tok))
+    → put_before is (option_and_then (λ (q : Block Name Name Name × List Tok). Some (before i q.0, q.1)) r) ≡ put_before (is ++ (i ∷ [])) r
 put_more is i None = refl
 put_more is i (Some q) = ap (λ (b : Block Name Name Name). Some (b, q.1)) (all_before_more is i q.0)
 
@@ -39,10 +40,12 @@ going_at : (ts : List Tok) → starts_here ts ≡ true → going_on ts ≡ secti
 unfolding going_on
 going_at ts e = rw e refl
 
-pub sections_go_on : (is : List Item) (ts : List Tok) (i : Item) (us : List Tok) → starts_here ts ≡ true → item ts ≡ Some (i, us) → put_before is (going_on ts) ≡ put_before (is ++ (i ∷ [])) (going_on us)
+pub sections_go_on : (is : List Item) (ts : List Tok) (i : Item) (us : List Tok) → starts_here ts ≡ true → item ts ≡ Some (i, us)
+    → put_before is (going_on ts) ≡ put_before (is ++ (i ∷ [])) (going_on us)
 unfolding item going_on
 sections_go_on is ts i us h e =
-    ap (put_before is) (going_at ts h ∙ section_is ts ∙ bind_is (item_step section) (λ i. rest_step section >>= λ k. give (before i k)) ts i us e)
+    ap (put_before is)
+    (going_at ts h ∙ section_is ts ∙ bind_is (item_step section) (λ i. rest_step section >>= λ k. give (before i k)) ts i us e)
     ∙ put_more is i (rest_step section us)
 
 pub sections_refused : (is : List Item) (ts : List Tok) → starts_here ts ≡ true → item ts ≡ None → put_before is (going_on ts) ≡ None
@@ -56,18 +59,23 @@ sections_end is ts e = rw e refl
 pub ruleset section_steps = (sections_start, sections_no_start, sections_go_on, sections_refused, sections_end)
 
 -- a keyword and the statements behind it, before what comes of them
-behind : {Y : Type 0} (k : Kind) (f : Block Name Name Name → Parser Y) (ts : List Tok) → (take k >>= λ _. (section >>= f)) ts ≡ (section_behind k >>= f) ts
+behind : {Y : Type 0} (k : Kind) (f : Block Name Name Name → Parser Y) (ts : List Tok)
+    → (take k >>= λ _. (section >>= f)) ts ≡ (section_behind k >>= f) ts
 unfolding section_behind
 behind k f ts = by_option (take k ts)
   where
-    by_option : (r : Option (Tok × List Tok)) → option_and_then (λ (q : Tok × List Tok). (section >>= f) q.1) r ≡ option_and_then (λ (q : Block Name Name Name × List Tok). f q.0 q.1) (option_and_then (λ (q : Tok × List Tok). section q.1) r)
+    by_option : (r : Option (Tok × List Tok))
+        → option_and_then (λ (q : Tok × List Tok). (section >>= f) q.1) r
+        ≡ option_and_then (λ (q : Block Name Name Name × List Tok). f q.0 q.1) (option_and_then (λ (q : Tok × List Tok). section q.1) r)
     by_option None = refl
     by_option (Some q) = refl
 
-behind_none : {Y : Type 0} (k : Kind) (f : Block Name Name Name → Parser Y) (ts : List Tok) → section_behind k ts ≡ None → (take k >>= λ _. (section >>= f)) ts ≡ None
+behind_none : {Y : Type 0} (k : Kind) (f : Block Name Name Name → Parser Y) (ts : List Tok) → section_behind k ts ≡ None
+    → (take k >>= λ _. (section >>= f)) ts ≡ None
 behind_none k f ts e = behind k f ts ∙ rw e refl
 
-behind_some : {Y : Type 0} (k : Kind) (f : Block Name Name Name → Parser Y) (ts : List Tok) (a : Block Name Name Name) (us : List Tok) → section_behind k ts ≡ Some (a, us) → (take k >>= λ _. (section >>= f)) ts ≡ f a us
+behind_some : {Y : Type 0} (k : Kind) (f : Block Name Name Name → Parser Y) (ts : List Tok) (a : Block Name Name Name) (us : List Tok)
+    → section_behind k ts ≡ Some (a, us) → (take k >>= λ _. (section >>= f)) ts ≡ f a us
 behind_some k f ts a us e = behind k f ts ∙ bind_is (section_behind k) f ts a us e
 
 -- a test, and the statements behind it

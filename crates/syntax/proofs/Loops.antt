@@ -20,14 +20,17 @@ appended f xs ys zs e = sym (map-append f xs ys) ∙ ap (map f) (sym e)
 pub pushed : {X Y : Type 0} (f : X → Y) (xs ys : List X) (x : X) → ys ≡ xs ++ (x ∷ []) → map f xs ++ (f x ∷ []) ≡ map f ys
 pushed f xs ys x e = appended f xs (x ∷ []) ys e
 
-prepend_more : {X : Type 0} (xs : List X) (x : X) (p : Parser (List X)) (us : List Tok) → prepend xs ((p >>= λ ys. give (x ∷ ys)) us) ≡ prepend (xs ++ (x ∷ [])) (p us)
+prepend_more : {X : Type 0} (xs : List X) (x : X) (p : Parser (List X)) (us : List Tok)
+    → prepend xs ((p >>= λ ys. give (x ∷ ys)) us) ≡ prepend (xs ++ (x ∷ [])) (p us)
 prepend_more {X} xs x p us = by_option (p us)
   where
-    by_option : (r : Option (List X × List Tok)) → prepend xs (option_and_then (λ (q : List X × List Tok). Some (x ∷ q.0, q.1)) r) ≡ prepend (xs ++ (x ∷ [])) r
+    by_option : (r : Option (List X × List Tok))
+        → prepend xs (option_and_then (λ (q : List X × List Tok). Some (x ∷ q.0, q.1)) r) ≡ prepend (xs ++ (x ∷ [])) r
     by_option None = refl
     by_option (Some q) = ap (λ (zs : List X). Some (zs, q.1)) (sym (append_assoc xs (x ∷ []) q.0))
 
-prepend_first : {X : Type 0} (x : X) (r : Option (List X × List Tok)) → option_and_then (λ (q : List X × List Tok). Some (x ∷ q.0, q.1)) r ≡ prepend (x ∷ []) r
+prepend_first : {X : Type 0} (x : X) (r : Option (List X × List Tok))
+    → option_and_then (λ (q : List X × List Tok). Some (x ∷ q.0, q.1)) r ≡ prepend (x ∷ []) r
 prepend_first x None = refl
 prepend_first x (Some q) = refl
 
@@ -81,27 +84,41 @@ module _ {Y : Type 0} (test : List Tok → Bool) (q : Parser Y) (s : Strict q) w
   }
 
 -- declarations, one list after the other
-pub declarations_go_on : (xs : List Name) (ts : List Tok) (ns : List Name) (us : List Tok) → begins kind.Decl ts ≡ true → declaration ts ≡ Some (ns, us) → prepend xs (all_declarations ts) ≡ prepend (xs ++ ns) (all_declarations us)
+pub declarations_go_on : (xs : List Name) (ts : List Tok) (ns : List Name) (us : List Tok) → begins kind.Decl ts ≡ true
+    → declaration ts ≡ Some (ns, us) → prepend xs (all_declarations ts) ≡ prepend (xs ++ ns) (all_declarations us)
 unfolding all_declarations
 declarations_go_on xs ts ns us h e =
-    ap (λ (r : Option (List (List Name) × List Tok)). prepend xs (option_and_then (λ (q : List (List Name) × List Tok). Some (joined q.0, q.1)) r))
-    (others_at (begins kind.Decl) declaration strict_declaration ts h ∙ bind_is declaration (λ x. many (begins kind.Decl) declaration >>= λ xs. give (x ∷ xs)) ts ns us e)
+    ap
+    (λ (r : Option (List (List Name) × List Tok)).
+    prepend xs (option_and_then (λ (q : List (List Name) × List Tok). Some (joined q.0, q.1)) r))
+    (others_at (begins kind.Decl) declaration strict_declaration ts h
+    ∙ bind_is declaration (λ x. many (begins kind.Decl) declaration >>= λ xs. give (x ∷ xs)) ts ns us e)
     ∙ by_option (many (begins kind.Decl) declaration us)
   where
-    by_option : (r : Option (List (List Name) × List Tok)) → prepend xs (option_and_then (λ (q : List (List Name) × List Tok). Some (joined q.0, q.1)) (option_and_then (λ (q : List (List Name) × List Tok). Some (ns ∷ q.0, q.1)) r)) ≡ prepend (xs ++ ns) (option_and_then (λ (q : List (List Name) × List Tok). Some (joined q.0, q.1)) r)
+    by_option : (r : Option (List (List Name) × List Tok))
+        → prepend xs
+        (option_and_then (λ (q : List (List Name) × List Tok). Some (joined q.0, q.1))
+        (option_and_then (λ (q : List (List Name) × List Tok). Some (ns ∷ q.0, q.1)) r))
+        ≡ prepend (xs ++ ns) (option_and_then (λ (q : List (List Name) × List Tok). Some (joined q.0, q.1)) r)
     by_option None = refl
     by_option (Some q) = ap (λ (zs : List Name). Some (zs, q.1)) (sym (append_assoc xs ns (joined q.0)))
 
-pub declarations_refused : (xs : List Name) (ts : List Tok) → begins kind.Decl ts ≡ true → declaration ts ≡ None → prepend xs (all_declarations ts) ≡ None
+pub declarations_refused : (xs : List Name) (ts : List Tok) → begins kind.Decl ts ≡ true → declaration ts ≡ None
+    → prepend xs (all_declarations ts) ≡ None
 unfolding all_declarations
 declarations_refused xs ts h e =
     let f : many (begins kind.Decl) declaration ts ≡ None = others_at (begins kind.Decl) declaration strict_declaration ts h ∙ rw e refl in
-    ap (λ (r : Option (List (List Name) × List Tok)). prepend xs (option_and_then (λ (q : List (List Name) × List Tok). Some (joined q.0, q.1)) r)) f
+    ap
+    (λ (r : Option (List (List Name) × List Tok)).
+    prepend xs (option_and_then (λ (q : List (List Name) × List Tok). Some (joined q.0, q.1)) r)) f
 
 pub declarations_end : (xs : List Name) (ts : List Tok) → begins kind.Decl ts ≡ false → prepend xs (all_declarations ts) ≡ Some (xs, ts)
 unfolding all_declarations
 declarations_end xs ts e =
-    ap (λ (r : Option (List (List Name) × List Tok)). prepend xs (option_and_then (λ (q : List (List Name) × List Tok). Some (joined q.0, q.1)) r)) (many_ends (begins kind.Decl) declaration strict_declaration ts e)
+    ap
+    (λ (r : Option (List (List Name) × List Tok)).
+    prepend xs (option_and_then (λ (q : List (List Name) × List Tok). Some (joined q.0, q.1)) r))
+    (many_ends (begins kind.Decl) declaration strict_declaration ts e)
     ∙ ap (λ (zs : List Name). Some (zs, ts)) (append-nil xs)
 
 pub prepend_nothing : {X : Type 0} (r : Option (List X × List Tok)) → r ≡ prepend [] r

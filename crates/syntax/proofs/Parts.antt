@@ -5,12 +5,14 @@ use Rattle.tokens.specs.declared.vocabulary.Kind.{Kind}
 use Rattle.tokens.specs.declared.vocabulary.Kind.TheVariants as kind
 use Rattle.tokens.specs.Token.{Tok, same_kind}
 use Rattle.syntax.specs.Parser.{Strict, give, ◌>>=◌, begins, take}
-use Rattle.syntax.specs.Grammar.{Takes, takes, name_at, Reads, reads_zero, reads_one, reads_name, reads_not, reads_paren, reads_two, IsName, is_name, InParens, Listed, Perhaps, IsExpression, IsRight, is_any, is_value}
+use Rattle.syntax.specs.Grammar.{Takes, takes, name_at, Reads, reads_zero, reads_one, reads_name, reads_not, reads_paren, reads_two, IsName}
+use Rattle.syntax.specs.Grammar.{is_name, InParens, Listed, Perhaps, IsExpression, IsRight, is_any, is_value}
 use Rattle.syntax.specs.Exact.{binds, name, names, expression, right, rights, formals, arguments, enclosed, condition}
 use Rattle.syntax.proofs.KindTests.{same_kind-true, same_kind-is}
 use Rattle.syntax.proofs.Fixes.{carried, between, bind_is, Strict-Shrinks, Shrinks-give, Strict-take, Strict-bind}
 use Rattle.syntax.proofs.Expressions.{Stops, stops_end, stops_at, take_is, take_finds, reading_finds, reading_complete, reading_strict}
-use Rattle.syntax.proofs.Exactly.{Exactly, Anything, chosen, begins_takes, NoComma, exactly_list, exactly_parens, exactly_perhaps, Strict-list, strict_parens, shrinks_perhaps}
+use Rattle.syntax.proofs.Exactly.{Exactly, Anything, chosen, begins_takes, NoComma, exactly_list, exactly_parens, exactly_perhaps}
+use Rattle.syntax.proofs.Exactly.{Strict-list, strict_parens, shrinks_perhaps}
 
 -- names
 pub strict_name : Strict name
@@ -66,20 +68,32 @@ exactly_expression = record {
 
 -- right sides
 pub strict_right : Strict right
-strict_right = record { by = λ ts x rest e. by_choice ts x rest (chosen (begins kind.Any ts) ((take kind.Any >>= λ _. give any) ts) ((expression >>= λ e. give (value e)) ts) (Some (x, rest)) e) }
+strict_right = record {
+  by =
+      λ ts x rest e.
+      by_choice ts x rest
+      (chosen (begins kind.Any ts) ((take kind.Any >>= λ _. give any) ts) ((expression >>= λ e. give (value e)) ts) (Some (x, rest)) e);
+}
   where
-    by_choice : (ts : List Tok) (x : RightSide Name) (rest : List Tok) → ((begins kind.Any ts ≡ true) × ((take kind.Any >>= λ _. give any) ts ≡ Some (x, rest))) ⊎ ((begins kind.Any ts ≡ false) × ((expression >>= λ e. give (value e)) ts ≡ Some (x, rest))) → length rest < length ts
+    by_choice : (ts : List Tok) (x : RightSide Name) (rest : List Tok)
+        → ((begins kind.Any ts ≡ true) × ((take kind.Any >>= λ _. give any) ts ≡ Some (x, rest)))
+        ⊎ ((begins kind.Any ts ≡ false) × ((expression >>= λ e. give (value e)) ts ≡ Some (x, rest))) → length rest < length ts
     by_choice ts x rest (inl h) = (Strict-bind (Strict-take kind.Any) (λ t. Shrinks-give any)).by ts x rest h.1
     by_choice ts x rest (inr h) = (Strict-bind strict_expression (λ e. Shrinks-give (value e))).by ts x rest h.1
 
 pub exactly_right : Exactly IsRight (Stops 0) right
 unfolding same_kind
 exactly_right = record {
-  finds = λ ts x rest e. by_choice ts x rest (chosen (begins kind.Any ts) ((take kind.Any >>= λ _. give any) ts) ((expression >>= λ e. give (value e)) ts) (Some (x, rest)) e);
+  finds =
+      λ ts x rest e.
+      by_choice ts x rest
+      (chosen (begins kind.Any ts) ((take kind.Any >>= λ _. give any) ts) ((expression >>= λ e. give (value e)) ts) (Some (x, rest)) e);
   reads = went;
 }
   where
-    by_choice : (ts : List Tok) (x : RightSide Name) (rest : List Tok) → ((begins kind.Any ts ≡ true) × ((take kind.Any >>= λ _. give any) ts ≡ Some (x, rest))) ⊎ ((begins kind.Any ts ≡ false) × ((expression >>= λ e. give (value e)) ts ≡ Some (x, rest))) → IsRight ts x rest
+    by_choice : (ts : List Tok) (x : RightSide Name) (rest : List Tok)
+        → ((begins kind.Any ts ≡ true) × ((take kind.Any >>= λ _. give any) ts ≡ Some (x, rest)))
+        ⊎ ((begins kind.Any ts ≡ false) × ((expression >>= λ e. give (value e)) ts ≡ Some (x, rest))) → IsRight ts x rest
     by_choice ts x rest (inl h) =
         let b = between (take kind.Any) (λ _. give any) ts x rest h.1 in
         carried (λ x rest. IsRight ts x rest) b.second (is_any (take_finds kind.Any ts b.x b.us b.first).0)
@@ -123,11 +137,15 @@ name_begins ts x us (is_name e) = rw e refl
 
 pub exactly_formals : Exactly (InParens (Perhaps IsName)) Anything formals
 unfolding enclosed
-exactly_formals = exactly_parens (exactly_perhaps strict_name exactly_name (λ us e. tt) (λ us rest t. tt) name_begins) (λ us rest t. begins_takes t)
+exactly_formals =
+    exactly_parens (exactly_perhaps strict_name exactly_name (λ us e. tt) (λ us rest t. tt) name_begins) (λ us rest t. begins_takes t)
 
 pub exactly_arguments : Exactly (InParens (Perhaps IsExpression)) Anything arguments
 unfolding enclosed same_kind
-exactly_arguments = exactly_parens (exactly_perhaps strict_expression exactly_expression comma_stops close_stops (λ ts x us r. begins_no kind.Close refl r)) (λ us rest t. begins_takes t)
+exactly_arguments =
+    exactly_parens
+    (exactly_perhaps strict_expression exactly_expression comma_stops close_stops (λ ts x us r. begins_no kind.Close refl r))
+    (λ us rest t. begins_takes t)
 
 pub exactly_test : Exactly (InParens IsRight) Anything condition
 unfolding condition

@@ -56,7 +56,8 @@ module _ {A X E : Type 0} (r : Result X E) (old new s1 s2 s3 : List ℕ) where
       → new ≡ cond (is_ok r) (s3 ++ codes ";\n") s3 → IfOk r (λ _. new ≡ old
       ++ text_of (deed_parts 0 (simple (assign (names_of names) (rhss_of sides)))))
   assignment_pushed names sides h1 h2 h3 last =
-      pushed_last r new s3 _ _ last (rw (h3, h2, h1) (four_behind old _ _ _ _ ∙ ap (λ (t : List ℕ). old ++ t) (sym (assign_text 0 (names_of names) (rhss_of sides)))))
+      pushed_last r new s3 _ _ last
+      (rw (h3, h2, h1) (four_behind old _ _ _ _ ∙ ap (λ (t : List ℕ). old ++ t) (sym (assign_text 0 (names_of names) (rhss_of sides)))))
 
   pub call_pushed : (p : Name A) (exprs : List (Expr A))
       → s1 ≡ old ++ text_of (name_parts (name_of p)) → s2 ≡ s1 ++ codes "(" → s3 ≡ s2
@@ -64,9 +65,11 @@ module _ {A X E : Type 0} (r : Result X E) (old new s1 s2 s3 : List ℕ) where
       → new ≡ cond (is_ok r) (s3 ++ codes ");\n") s3 → IfOk r (λ _. new ≡ old
       ++ text_of (deed_parts 0 (simple (call (name_of p) (exprs_of exprs)))))
   call_pushed p exprs h1 h2 h3 last =
-      pushed_last r new s3 _ _ last (rw (h3, h2, h1) (four_behind old _ _ _ _ ∙ ap (λ (t : List ℕ). old ++ t) (sym (call_text 0 (name_of p) (exprs_of exprs)))))
+      pushed_last r new s3 _ _ last
+      (rw (h3, h2, h1) (four_behind old _ _ _ _ ∙ ap (λ (t : List ℕ). old ++ t) (sym (call_text 0 (name_of p) (exprs_of exprs)))))
 
-module _ {A X E : Type 0} (level inner : ℕ) (r : Result X E) (old new : List ℕ) (side : Rhs A) (xs : List (Stmt A)) (below : inner ≡ level + 1) where
+module _ {A X E : Type 0} (level inner : ℕ) (r : Result X E) (old new : List ℕ) (side : Rhs A) (xs : List (Stmt A))
+    (below : inner ≡ level + 1) where
   deeper : inner ≡ suc level
   deeper = below ∙ add-one level
 
@@ -77,7 +80,9 @@ module _ {A X E : Type 0} (level inner : ℕ) (r : Result X E) (old new : List �
       → IfOk r (λ _. new ≡ s4 ++ (text_of (margin level) ++ codes "fi\n"))
       → IfOk r (λ _. new ≡ old ++ text_of (deed_parts level (branch (rhs_of side) (block_of xs) (block_of ys))))
   branch_pushed ys s1 s2 s3 s4 h1 h2 h3 h4 last =
-      put_last r new s4 _ _ last (rw (h4, h3, h2, h1, deeper) (five_behind old _ _ _ _ _ ∙ ap (λ (t : List ℕ). old ++ t) (sym (if_text level (rhs_of side) (block_of xs) (block_of ys)))))
+      put_last r new s4 _ _ last
+      (rw (h4, h3, h2, h1, deeper)
+      (five_behind old _ _ _ _ _ ∙ ap (λ (t : List ℕ). old ++ t) (sym (if_text level (rhs_of side) (block_of xs) (block_of ys)))))
 
   pub loop_pushed : (s1 s2 : List ℕ)
       → s1 ≡ old ++ (codes "while (" ++ (text_of (side_parts (rhs_of side)) ++ codes ") do\n")) → s2 ≡ s1
@@ -94,31 +99,40 @@ module _ {A X E : Type 0} (level : ℕ) (r : Result X E) (k : Core A) (old new :
   abbrev Adds : Type 0
   Adds = IfOk r (λ _. new ≡ old ++ text_of (deed_parts level (deed_of k)))
 
-  deed_text : (d : Deed) (w : List ℕ) → deed_of k ≡ d → text_of (deed_parts level d) ≡ w → old ++ w ≡ old ++ text_of (deed_parts level (deed_of k))
+  deed_text : (d : Deed) (w : List ℕ) → deed_of k ≡ d → text_of (deed_parts level d) ≡ w
+      → old ++ w ≡ old ++ text_of (deed_parts level (deed_of k))
   deed_text d w e f = ap (λ (t : List ℕ). old ++ t) (sym (ap (λ (x : Deed). text_of (deed_parts level x)) e ∙ f))
 
-  pub assigned : (xs : Vec (Name A) A) (rs : Vec (Rhs A) A) (names : List (Name A)) (sides : List (Rhs A)) → k ≡ core.Assign xs rs → names ≡ xs.items → sides ≡ rs.items
+  pub assigned : (xs : Vec (Name A) A) (rs : Vec (Rhs A) A) (names : List (Name A)) (sides : List (Rhs A)) → k ≡ core.Assign xs rs
+      → names ≡ xs.items → sides ≡ rs.items
       → IfOk r (λ _. new ≡ old ++ text_of (deed_parts 0 (simple (assign (names_of names) (rhss_of sides))))) → Adds
   assigned xs rs names sides is e f last =
-      put_last r new old _ _ last (rw (e, f) (deed_text (simple (assign (names_of xs.items) (rhss_of rs.items))) _ (ap deed_of is ∙ deed_of-Assign xs rs) refl))
+      put_last r new old _ _ last
+      (rw (e, f) (deed_text (simple (assign (names_of xs.items) (rhss_of rs.items))) _ (ap deed_of is ∙ deed_of-Assign xs rs) refl))
 
   pub called : (p : Name A) (es : Vec (Expr A) A) (exprs : List (Expr A)) → k ≡ core.Call p es → exprs ≡ es.items
       → IfOk r (λ _. new ≡ old ++ text_of (deed_parts 0 (simple (call (name_of p) (exprs_of exprs))))) → Adds
   called p es exprs is e last =
-      put_last r new old _ _ last (rw e (deed_text (simple (call (name_of p) (exprs_of es.items))) _ (ap deed_of is ∙ deed_of-Call p es) refl))
+      put_last r new old _ _ last
+      (rw e (deed_text (simple (call (name_of p) (exprs_of es.items))) _ (ap deed_of is ∙ deed_of-Call p es) refl))
 
   pub asserted : (side : Rhs A) → k ≡ core.Assert side
       → IfOk r (λ _. new ≡ old ++ (codes "assert(" ++ (text_of (side_parts (rhs_of side)) ++ codes ");\n"))) → Adds
-  asserted side is last = put_last r new old _ _ last (deed_text (simple (assert (rhs_of side))) _ (ap deed_of is ∙ deed_of-Assert side) (assert_text level (rhs_of side)))
+  asserted side is last =
+      put_last r new old _ _ last
+      (deed_text (simple (assert (rhs_of side))) _ (ap deed_of is ∙ deed_of-Assert side) (assert_text level (rhs_of side)))
 
   pub assumed : (side : Rhs A) → k ≡ core.Assume side
       → IfOk r (λ _. new ≡ old ++ (codes "assume(" ++ (text_of (side_parts (rhs_of side)) ++ codes ");\n"))) → Adds
-  assumed side is last = put_last r new old _ _ last (deed_text (simple (assume (rhs_of side))) _ (ap deed_of is ∙ deed_of-Assume side) (assume_text level (rhs_of side)))
+  assumed side is last =
+      put_last r new old _ _ last
+      (deed_text (simple (assume (rhs_of side))) _ (ap deed_of is ∙ deed_of-Assume side) (assume_text level (rhs_of side)))
 
   pub branched : (side : Rhs A) (a b : Vec (Stmt A) A) (xs ys : List (Stmt A)) → k ≡ core.If side a b → xs ≡ a.items → ys ≡ b.items
       → IfOk r (λ _. new ≡ old ++ text_of (deed_parts level (branch (rhs_of side) (block_of xs) (block_of ys)))) → Adds
   branched side a b xs ys is e f last =
-      put_last r new old _ _ last (rw (e, f) (deed_text (branch (rhs_of side) (block_of a.items) (block_of b.items)) _ (ap deed_of is ∙ deed_of-If side a b) refl))
+      put_last r new old _ _ last
+      (rw (e, f) (deed_text (branch (rhs_of side) (block_of a.items) (block_of b.items)) _ (ap deed_of is ∙ deed_of-If side a b) refl))
 
   pub repeated : (side : Rhs A) (a : Vec (Stmt A) A) (xs : List (Stmt A)) → k ≡ core.While side a → xs ≡ a.items
       → IfOk r (λ _. new ≡ old ++ text_of (deed_parts level (repeat (rhs_of side) (block_of xs)))) → Adds

@@ -15,7 +15,8 @@ use Rattle.syntax.proofs.Appended.{four_behind, seven_behind}
 use Rattle.syntax.proofs.Prints.{pushed_last}
 
 declaration_text : (level : ℕ) (n : tree.Name) (ns : List tree.Name)
-    → text_of (declaration_parts level (n ∷ ns)) ≡ text_of (margin level) ++ (codes "decl " ++ (text_of (separated name_parts (n ∷ ns)) ++ (59 ∷ 10 ∷ [])))
+    → text_of (declaration_parts level (n ∷ ns))
+    ≡ text_of (margin level) ++ (codes "decl " ++ (text_of (separated name_parts (n ∷ ns)) ++ (59 ∷ 10 ∷ [])))
 declaration_text level n ns = simp (text_of-append, append_assoc)
 
 pub declared : {A X E : Type 0} (r : Result X E) (level : ℕ) (names : List (Name A)) (old s1 s2 s3 new : List ℕ) → length names == 0 ≡ false
@@ -23,19 +24,29 @@ pub declared : {A X E : Type 0} (r : Result X E) (level : ℕ) (names : List (Na
     → new ≡ cond (is_ok r) (s3 ++ (59 ∷ 10 ∷ [])) s3 → IfOk r (λ _. new ≡ old ++ text_of (declaration_parts level (names_of names)))
 declared r level [] old s1 s2 s3 new some h1 h2 h3 last = cc
 declared r level (n ∷ names) old s1 s2 s3 new some h1 h2 h3 last =
-    pushed_last r new s3 _ _ last (rw (h3, h2, h1) (four_behind old _ _ _ _ ∙ ap (λ (t : List ℕ). old ++ t) (sym (declaration_text level (name_of n) (names_of names)))))
+    pushed_last r new s3 _ _ last
+    (rw (h3, h2, h1)
+    (four_behind old _ _ _ _ ∙ ap (λ (t : List ℕ). old ++ t) (sym (declaration_text level (name_of n) (names_of names)))))
 
 procedure_text : (p : tree.Procedure)
-    → text_of (procedure_parts p) ≡ text_of (name_parts p.name) ++ ((40 ∷ []) ++ (text_of (separated name_parts p.formals) ++ (codes ")\nbegin\n" ++ (text_of (declaration_parts 1 p.locals) ++ (text_of (block_parts 1 p.body) ++ codes "end\n")))))
+    → text_of (procedure_parts p)
+    ≡ text_of (name_parts p.name)
+    ++ ((40 ∷ [])
+    ++ (text_of (separated name_parts p.formals) ++ (codes ")\nbegin\n"
+    ++ (text_of (declaration_parts 1 p.locals) ++ (text_of (block_parts 1 p.body) ++ codes "end\n")))))
 procedure_text p = simp (text_of-append, append_assoc)
 
-pub procedure_printed : {A X E : Type 0} (r : Result X E) (p : Proc A) (formals locals : List (Name A)) (body : List _) (old s1 s2 s3 s4 s5 s6 new : List ℕ)
+pub procedure_printed : {A X E : Type 0} (r : Result X E) (p : Proc A) (formals locals : List (Name A)) (body : List _)
+    (old s1 s2 s3 s4 s5 s6 new : List ℕ)
     → formals ≡ p.formals.items → locals ≡ p.locals.items → body ≡ p.body.items
-    → s1 ≡ old ++ text_of (name_parts (name_of p.name)) → s2 ≡ s1 ++ (40 ∷ []) → s3 ≡ s2 ++ text_of (separated name_parts (names_of formals)) → s4 ≡ s3 ++ codes ")\nbegin\n"
+    → s1 ≡ old ++ text_of (name_parts (name_of p.name)) → s2 ≡ s1 ++ (40 ∷ [])
+    → s3 ≡ s2 ++ text_of (separated name_parts (names_of formals)) → s4 ≡ s3 ++ codes ")\nbegin\n"
     → s5 ≡ s4 ++ text_of (declaration_parts 1 (names_of locals)) → s6 ≡ s5 ++ text_of (block_parts 1 (block_of body))
     → new ≡ cond (is_ok r) (s6 ++ codes "end\n") s6 → IfOk r (λ _. new ≡ old ++ text_of (procedure_parts (proc_of p)))
 procedure_printed r p formals locals body old s1 s2 s3 s4 s5 s6 new f l b h1 h2 h3 h4 h5 h6 last =
-    pushed_last r new s6 _ _ last (rw (h6, h5, h4, h3, h2, h1, f, l, b) (seven_behind old _ _ _ _ _ _ _ ∙ ap (λ (t : List ℕ). old ++ t) (sym (procedure_text (proc_of p)))))
+    pushed_last r new s6 _ _ last
+    (rw (h6, h5, h4, h3, h2, h1, f, l, b)
+    (seven_behind old _ _ _ _ _ _ _ ∙ ap (λ (t : List ℕ). old ++ t) (sym (procedure_text (proc_of p)))))
 
 -- one more of a list is printed
 module _ {X Y : Type 0} (show : Y → List Part) (f : X → Y) where
@@ -44,13 +55,17 @@ module _ {X Y : Type 0} (show : Y → List Part) (f : X → Y) where
       → new ++ text_of (joined (map show (map f (drop (i + 1) l)))) ≡ w
   joined_more l i x old new w lt is h e =
       let step : drop i l ≡ x ∷ drop (i + 1) l = drop_more l i x lt ∙ ap (λ (y : X). y ∷ drop (i + 1) l) (sym is) in
-      let text : text_of (joined (map show (map f (drop i l)))) ≡ text_of (show (f x)) ++ text_of (joined (map show (map f (drop (i + 1) l)))) =
-      ap (λ (xs : List X). text_of (joined (map show (map f xs)))) step ∙ text_of-append (show (f x)) (joined (map show (map f (drop (i + 1) l)))) in
+      let text : text_of (joined (map show (map f (drop i l)))) ≡ text_of (show (f x)) ++ text_of
+      (joined (map show (map f (drop (i + 1) l)))) =
+      ap (λ (xs : List X). text_of (joined (map show (map f xs)))) step
+      ∙ text_of-append (show (f x)) (joined (map show (map f (drop (i + 1) l)))) in
       rw e (append_assoc old _ _ ∙ ap (λ (t : List ℕ). old ++ t) (sym text) ∙ h)
 
-pub program_printed : {A : Type 0} (p : Program A) (globals : List (Name A)) (procs : List (Proc A)) (threads : List _) (old s1 s2 s3 : List ℕ) → old ≡ []
+pub program_printed : {A : Type 0} (p : Program A) (globals : List (Name A)) (procs : List (Proc A)) (threads : List _)
+    (old s1 s2 s3 : List ℕ) → old ≡ []
     → globals ≡ p.globals.items → procs ≡ p.procs.items → threads ≡ p.threads.items
-    → s1 ≡ old ++ text_of (declaration_parts 0 (names_of globals)) → s2 ≡ s1 ++ text_of (joined (map procedure_parts (procs_of procs))) → s3 ≡ s2 ++ text_of (joined (map thread_parts (threads_of threads)))
+    → s1 ≡ old ++ text_of (declaration_parts 0 (names_of globals)) → s2 ≡ s1 ++ text_of (joined (map procedure_parts (procs_of procs)))
+    → s3 ≡ s2 ++ text_of (joined (map thread_parts (threads_of threads)))
     → s3 ≡ printed (tree_of p)
 unfolding printed
 program_printed p globals procs threads old s1 s2 s3 e g q t h1 h2 h3 = rw (h3, h2, h1, e, g, q, t) (simp (text_of-append, append_assoc))

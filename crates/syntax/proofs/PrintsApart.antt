@@ -1,15 +1,21 @@
 -- Printed parts stand apart.
-use Rattle.std.proofs.Common.{◌≡◌, ℕ, zero, suc, true, false, List, [], ◌∷◌, ◌++◌, map, refl, sym, ◌∙◌, ap, append_assoc, append-nil, inl, inr, Option, None, Some}
+use Rattle.std.proofs.Common.{◌≡◌, ℕ, zero, suc, true, false, List, [], ◌∷◌, ◌++◌, map, refl, sym, ◌∙◌, ap, append_assoc, append-nil, inl}
+use Rattle.std.proofs.Common.{inr, Option, None, Some}
 use Rattle.std.specs.List.{AllByRecursion}
-use Rattle.language.specs.Tree.{Name, Operator, implies, or, xor, and, equal, differs, Expression, const, var, negation, two, RightSide, any, value, Simple, skip, assign, assert, assume, goto, leave, call, Block, done, one, choose, loop, Procedure, ThreadLine, Tree}
+use Rattle.language.specs.Tree.{Name, Operator, implies, or, xor, and, equal, differs, Expression, const, var, negation, two, RightSide}
+use Rattle.language.specs.Tree.{any, value, Simple, skip, assign, assert, assume, goto, leave, call, Block, done, one, choose, loop}
+use Rattle.language.specs.Tree.{Procedure, ThreadLine, Tree}
 use Rattle.tokens.specs.declared.vocabulary.Kind.{Kind}
 use Rattle.tokens.specs.declared.vocabulary.Kind.TheVariants as kind
 use Rattle.tokens.specs.Spelling.{reserved, name}
 use Rattle.tokens.specs.Parts.{Part, shown, space, line, spelling, fixed, joins, IsSpelled, IsApart, AreApart}
 use Rattle.syntax.specs.Grammar.{joined}
-use Rattle.syntax.specs.InGrammar.{IsId, AreIds, ExpressionInGrammar, SideInGrammar, SimpleInGrammar, LabelInGrammar, BlockInGrammar, ProcedureInGrammar, ThreadInGrammar, InGrammar}
+use Rattle.syntax.specs.InGrammar.{IsId, AreIds, ExpressionInGrammar, SideInGrammar, SimpleInGrammar, LabelInGrammar, BlockInGrammar}
+use Rattle.syntax.specs.InGrammar.{ProcedureInGrammar, ThreadInGrammar, InGrammar}
 use Rattle.syntax.specs.Printed as printed
-use Rattle.syntax.specs.Printed.{name_parts, after_commas, separated, kind_of, operation, operand_parts, expression_parts, side_parts, ended, simple_parts, label_parts, margin, line_of, test_parts, block_parts, declaration_parts, procedure_parts, thread_parts, program_parts}
+use Rattle.syntax.specs.Printed.{name_parts, after_commas, separated, kind_of, operation, operand_parts, expression_parts, side_parts}
+use Rattle.syntax.specs.Printed.{ended, simple_parts, label_parts, margin, line_of, test_parts, block_parts, declaration_parts}
+use Rattle.syntax.specs.Printed.{procedure_parts, thread_parts, program_parts}
 use Rattle.syntax.proofs.Appended.{four, five, six}
 
 -- No word comes next, and the parts stand apart.
@@ -86,13 +92,17 @@ name_fits n is more tail = (inl (name is), tail.free, tail.apart)
 
 parens_fit : (parts : List Part) → Fits parts → (more : List Part) → AreApart more → AreApart (printed.in_parens parts ++ more)
 parens_fit parts fits more apart =
-    put _ (fixed kind.Open ∷ (parts ++ (fixed kind.Close ∷ more))) (ap (λ (ps : List Part). fixed kind.Open ∷ ps) (append_assoc parts (fixed kind.Close ∷ []) more))
+    put _ (fixed kind.Open ∷ (parts ++ (fixed kind.Close ∷ more)))
+    (ap (λ (ps : List Part). fixed kind.Open ∷ ps) (append_assoc parts (fixed kind.Close ∷ []) more))
     (inr refl, open_free (parts ++ (fixed kind.Close ∷ more)), fits (fixed kind.Close ∷ more) (closed more apart))
 
-operation_fits : (o : Operator) (a b : Expression Name) → Fits (operand_parts a) → Fits (operand_parts b) → Fits (operation o (operand_parts a) (operand_parts b))
+operation_fits : (o : Operator) (a b : Expression Name) → Fits (operand_parts a) → Fits (operand_parts b)
+    → Fits (operation o (operand_parts a) (operand_parts b))
 operation_fits o a b left right more tail =
-    put _ (operand_parts a ++ (space ∷ fixed (kind_of o) ∷ space ∷ (operand_parts b ++ more))) (append_assoc (operand_parts a) (space ∷ fixed (kind_of o) ∷ space ∷ operand_parts b) more)
-    (left (space ∷ fixed (kind_of o) ∷ space ∷ (operand_parts b ++ more)) (spaced (fixed (kind_of o) ∷ space ∷ (operand_parts b ++ more)) (operator_spelled o, tt, right more tail)))
+    put _ (operand_parts a ++ (space ∷ fixed (kind_of o) ∷ space ∷ (operand_parts b ++ more)))
+    (append_assoc (operand_parts a) (space ∷ fixed (kind_of o) ∷ space ∷ operand_parts b) more)
+    (left (space ∷ fixed (kind_of o) ∷ space ∷ (operand_parts b ++ more))
+    (spaced (fixed (kind_of o) ∷ space ∷ (operand_parts b ++ more)) (operator_spelled o, tt, right more tail)))
 
 operand_fits : (e : Expression Name) → ExpressionInGrammar e → Fits (operand_parts e)
 operand_fits (const false) ok more tail =
@@ -101,7 +111,9 @@ operand_fits (const true) ok more tail =
     (inl (reserved refl), free_as_name kind.One (λ j. refl) more tail.free, tail.apart)
 operand_fits (var x) ok more tail = name_fits x ok more tail
 operand_fits (negation e) ok more tail = (inr refl, not_free e more, operand_fits e ok more tail)
-operand_fits (two o a b) ok more tail = parens_fit (operation o (operand_parts a) (operand_parts b)) (operation_fits o a b (operand_fits a ok.0) (operand_fits b ok.1)) more tail.apart
+operand_fits (two o a b) ok more tail =
+    parens_fit (operation o (operand_parts a) (operand_parts b))
+    (operation_fits o a b (operand_fits a ok.0) (operand_fits b ok.1)) more tail.apart
 
 expression_fits : (e : Expression Name) → ExpressionInGrammar e → Fits (expression_parts e)
 expression_fits (const b) ok = operand_fits (const b) ok
@@ -120,39 +132,53 @@ module _ {X : Type 0} (Ok : X → Type 0) (show : X → List Part) (fits : (x : 
   commas_fit (x ∷ xs) all more tail = record {
     free = refl;
     apart =
-        put _ (fixed kind.Comma ∷ space ∷ (show x ++ (after_commas show xs ++ more))) (ap (λ (ps : List Part). fixed kind.Comma ∷ space ∷ ps) (append_assoc (show x) (after_commas show xs) more))
+        put _ (fixed kind.Comma ∷ space ∷ (show x ++ (after_commas show xs ++ more)))
+        (ap (λ (ps : List Part). fixed kind.Comma ∷ space ∷ ps) (append_assoc (show x) (after_commas show xs) more))
         (inr refl, tt, fits x all.0 (after_commas show xs ++ more) (commas_fit xs all.1 more tail));
   }
 
   list_fits : (xs : List X) → AllByRecursion Ok xs → Fits (separated show xs)
   list_fits [] all more tail = tail.apart
-  list_fits (x ∷ xs) all more tail = put _ (show x ++ (after_commas show xs ++ more)) (append_assoc (show x) (after_commas show xs) more) (fits x all.0 (after_commas show xs ++ more) (commas_fit xs all.1 more tail))
+  list_fits (x ∷ xs) all more tail =
+      put _ (show x ++ (after_commas show xs ++ more)) (append_assoc (show x) (after_commas show xs) more)
+      (fits x all.0 (after_commas show xs ++ more) (commas_fit xs all.1 more tail))
 
 names_fit : (ns : List Name) → AreIds ns → Fits (separated name_parts ns)
 names_fit ns all = list_fits IsId name_parts name_fits ns all
 
 -- What a semicolon ends stands apart from everything.
 ended_fits : (parts : List Part) → Fits parts → (more : List Part) → AreApart more → AreApart (ended parts ++ more)
-ended_fits parts fits more apart = put _ (parts ++ (fixed kind.Semicolon ∷ more)) (append_assoc parts (fixed kind.Semicolon ∷ []) more) (fits (fixed kind.Semicolon ∷ more) (semicolon more apart))
+ended_fits parts fits more apart =
+    put _ (parts ++ (fixed kind.Semicolon ∷ more)) (append_assoc parts (fixed kind.Semicolon ∷ []) more)
+    (fits (fixed kind.Semicolon ∷ more) (semicolon more apart))
 
 simple_fits : (s : Simple Name Name Name) → SimpleInGrammar s → (more : List Part) → AreApart more → AreApart (simple_parts s ++ more)
 simple_fits skip ok more apart = (inl (reserved refl), refl, (inr refl, semicolon_free more, apart))
 simple_fits leave ok more apart = (inl (reserved refl), refl, (inr refl, semicolon_free more, apart))
 simple_fits (goto l) ok more apart = (inl (reserved refl), tt, (inl (name ok), refl, (inr refl, semicolon_free more, apart)))
 simple_fits (assert r) ok more apart =
-    ended_fits (fixed kind.Assert ∷ printed.in_parens (side_parts r)) (λ after tail. (inl (reserved refl), refl, parens_fit (side_parts r) (side_fits r ok) after tail.apart)) more apart
+    ended_fits (fixed kind.Assert ∷ printed.in_parens (side_parts r))
+    (λ after tail. (inl (reserved refl), refl, parens_fit (side_parts r) (side_fits r ok) after tail.apart)) more apart
 simple_fits (assume r) ok more apart =
-    ended_fits (fixed kind.Assume ∷ printed.in_parens (side_parts r)) (λ after tail. (inl (reserved refl), refl, parens_fit (side_parts r) (side_fits r ok) after tail.apart)) more apart
+    ended_fits (fixed kind.Assume ∷ printed.in_parens (side_parts r))
+    (λ after tail. (inl (reserved refl), refl, parens_fit (side_parts r) (side_fits r ok) after tail.apart)) more apart
 simple_fits (assign xs rs) ok more apart =
     ended_fits (separated name_parts xs ++ (space ∷ fixed kind.Assign ∷ space ∷ separated side_parts rs))
     (λ after tail.
-    put _ (separated name_parts xs ++ (space ∷ fixed kind.Assign ∷ space ∷ (separated side_parts rs ++ after))) (append_assoc (separated name_parts xs) (space ∷ fixed kind.Assign ∷ space ∷ separated side_parts rs) after)
+    put _ (separated name_parts xs ++ (space ∷ fixed kind.Assign ∷ space ∷ (separated side_parts rs ++ after)))
+    (append_assoc (separated name_parts xs) (space ∷ fixed kind.Assign ∷ space ∷ separated side_parts rs) after)
     (names_fit xs ok.1 (space ∷ fixed kind.Assign ∷ space ∷ (separated side_parts rs ++ after))
-    (spaced (fixed kind.Assign ∷ space ∷ (separated side_parts rs ++ after)) (inr refl, tt, list_fits SideInGrammar side_parts side_fits rs ok.3 after tail))))
+    (spaced (fixed kind.Assign ∷ space ∷ (separated side_parts rs ++ after))
+    (inr refl, tt, list_fits SideInGrammar side_parts side_fits rs ok.3 after tail))))
     more apart
 simple_fits (call p es) ok more apart =
     ended_fits (name_parts p ++ printed.in_parens (separated expression_parts es))
-    (λ after tail. (inl (name ok.0), refl, parens_fit (separated expression_parts es) (list_fits ExpressionInGrammar expression_parts expression_fits es ok.1) after tail.apart)) more apart
+    (λ after tail. (
+      inl (name ok.0),
+      refl,
+      parens_fit (separated expression_parts es)
+          (list_fits ExpressionInGrammar expression_parts expression_fits es ok.1) after tail.apart,
+    )) more apart
 
 label_fits : (l : Option Name) → LabelInGrammar l → (more : List Part) → AreApart more → AreApart (label_parts l ++ more)
 label_fits None ok more apart = apart
@@ -165,28 +191,48 @@ margin_fits (suc level) more apart = margin_fits level more apart
 -- A line stands apart where what is on it does in front of a line feed.
 line_fits : (level : ℕ) (parts more : List Part) → AreApart (parts ++ (line ∷ more)) → AreApart (line_of level parts ++ more)
 line_fits level parts more apart =
-    put _ (margin level ++ (parts ++ (line ∷ more))) (append_assoc (margin level) (parts ++ (line ∷ [])) more ∙ ap (λ (ps : List Part). margin level ++ ps) (append_assoc parts (line ∷ []) more))
+    put _ (margin level ++ (parts ++ (line ∷ more)))
+    (append_assoc (margin level) (parts ++ (line ∷ [])) more
+    ∙ ap (λ (ps : List Part). margin level ++ ps) (append_assoc parts (line ∷ []) more))
     (margin_fits level (parts ++ (line ∷ more)) apart)
 
-first_line_fits : (level : ℕ) (l : Option Name) → LabelInGrammar l → (s more : List Part) → AreApart (s ++ (line ∷ more)) → AreApart (line_of level (label_parts l ++ s) ++ more)
+first_line_fits : (level : ℕ) (l : Option Name) → LabelInGrammar l → (s more : List Part) → AreApart (s ++ (line ∷ more))
+    → AreApart (line_of level (label_parts l ++ s) ++ more)
 first_line_fits level l ok s more apart =
-    line_fits level (label_parts l ++ s) more (put _ (label_parts l ++ (s ++ (line ∷ more))) (append_assoc (label_parts l) s (line ∷ more)) (label_fits l ok (s ++ (line ∷ more)) apart))
+    line_fits level (label_parts l ++ s) more
+    (put _ (label_parts l ++ (s ++ (line ∷ more))) (append_assoc (label_parts l) s (line ∷ more))
+    (label_fits l ok (s ++ (line ∷ more)) apart))
 
-if_fits : (r : RightSide Name) → SideInGrammar r → (more : List Part) → AreApart more → AreApart (test_parts kind.If r kind.Then ++ (line ∷ more))
+if_fits : (r : RightSide Name) → SideInGrammar r → (more : List Part) → AreApart more
+    → AreApart (test_parts kind.If r kind.Then ++ (line ∷ more))
 if_fits r ok more apart =
-    put _ (fixed kind.If ∷ space ∷ (printed.in_parens (side_parts r) ++ (space ∷ fixed kind.Then ∷ line ∷ more))) (ap (λ (ps : List Part). fixed kind.If ∷ space ∷ ps) (append_assoc (printed.in_parens (side_parts r)) (space ∷ fixed kind.Then ∷ []) (line ∷ more)))
-    (inl (reserved refl), tt, parens_fit (side_parts r) (side_fits r ok) (space ∷ fixed kind.Then ∷ line ∷ more) (inl (reserved refl), tt, apart))
+    put _ (fixed kind.If ∷ space ∷ (printed.in_parens (side_parts r) ++ (space ∷ fixed kind.Then ∷ line ∷ more)))
+    (ap (λ (ps : List Part). fixed kind.If ∷ space ∷ ps)
+    (append_assoc (printed.in_parens (side_parts r)) (space ∷ fixed kind.Then ∷ []) (line ∷ more))) (
+      inl (reserved refl),
+      tt,
+      parens_fit (side_parts r) (side_fits r ok) (space ∷ fixed kind.Then ∷ line ∷ more) (inl (reserved refl), tt, apart),
+    )
 
-while_fits : (r : RightSide Name) → SideInGrammar r → (more : List Part) → AreApart more → AreApart (test_parts kind.While r kind.Do ++ (line ∷ more))
+while_fits : (r : RightSide Name) → SideInGrammar r → (more : List Part) → AreApart more
+    → AreApart (test_parts kind.While r kind.Do ++ (line ∷ more))
 while_fits r ok more apart =
-    put _ (fixed kind.While ∷ space ∷ (printed.in_parens (side_parts r) ++ (space ∷ fixed kind.Do ∷ line ∷ more))) (ap (λ (ps : List Part). fixed kind.While ∷ space ∷ ps) (append_assoc (printed.in_parens (side_parts r)) (space ∷ fixed kind.Do ∷ []) (line ∷ more)))
-    (inl (reserved refl), tt, parens_fit (side_parts r) (side_fits r ok) (space ∷ fixed kind.Do ∷ line ∷ more) (inl (reserved refl), tt, apart))
+    put _ (fixed kind.While ∷ space ∷ (printed.in_parens (side_parts r) ++ (space ∷ fixed kind.Do ∷ line ∷ more)))
+    (ap (λ (ps : List Part). fixed kind.While ∷ space ∷ ps)
+    (append_assoc (printed.in_parens (side_parts r)) (space ∷ fixed kind.Do ∷ []) (line ∷ more))) (
+      inl (reserved refl),
+      tt,
+      parens_fit (side_parts r) (side_fits r ok) (space ∷ fixed kind.Do ∷ line ∷ more) (inl (reserved refl), tt, apart),
+    )
 
-block_fits : (b : Block Name Name Name) → BlockInGrammar b → (level : ℕ) (more : List Part) → AreApart more → AreApart (block_parts level b ++ more)
+block_fits : (b : Block Name Name Name) → BlockInGrammar b → (level : ℕ) (more : List Part) → AreApart more
+    → AreApart (block_parts level b ++ more)
 block_fits done ok level more apart = apart
 block_fits (one m s k) ok level more apart =
-    put _ (line_of level (label_parts m.label ++ simple_parts s) ++ (block_parts level k ++ more)) (append_assoc (line_of level (label_parts m.label ++ simple_parts s)) (block_parts level k) more)
-    (first_line_fits level m.label ok.0 (simple_parts s) (block_parts level k ++ more) (simple_fits s ok.1 (line ∷ (block_parts level k ++ more)) (block_fits k ok.2 level more apart)))
+    put _ (line_of level (label_parts m.label ++ simple_parts s) ++ (block_parts level k ++ more))
+    (append_assoc (line_of level (label_parts m.label ++ simple_parts s)) (block_parts level k) more)
+    (first_line_fits level m.label ok.0 (simple_parts s) (block_parts level k ++ more)
+    (simple_fits s ok.1 (line ∷ (block_parts level k ++ more)) (block_fits k ok.2 level more apart)))
 block_fits (choose m r a b k) ok level more apart =
     let rest : List Part = block_parts level k ++ more in
     let from_fi : List Part = line_of level (fixed kind.Fi ∷ []) ++ rest in
@@ -199,7 +245,8 @@ block_fits (choose m r a b k) ok level more apart =
     let h4 : AreApart from_else = line_fits level (fixed kind.Else ∷ []) from_no (inl (reserved refl), tt, h3) in
     let h5 : AreApart from_yes = block_fits a ok.3 (suc level) from_else h4 in
     put _ (line_of level (label_parts m.label ++ test_parts kind.If r kind.Then) ++ from_yes)
-    (six (line_of level (label_parts m.label ++ test_parts kind.If r kind.Then)) (block_parts (suc level) a) (line_of level (fixed kind.Else ∷ [])) (block_parts (suc level) b) (line_of level (fixed kind.Fi ∷ [])) (block_parts level k) more)
+    (six (line_of level (label_parts m.label ++ test_parts kind.If r kind.Then)) (block_parts (suc level) a)
+    (line_of level (fixed kind.Else ∷ [])) (block_parts (suc level) b) (line_of level (fixed kind.Fi ∷ [])) (block_parts level k) more)
     (first_line_fits level m.label ok.0 (test_parts kind.If r kind.Then) from_yes (if_fits r ok.1 from_yes h5))
 block_fits (loop m r a k) ok level more apart =
     let rest : List Part = block_parts level k ++ more in
@@ -209,14 +256,17 @@ block_fits (loop m r a k) ok level more apart =
     let h2 : AreApart from_od = line_fits level (fixed kind.Od ∷ []) rest (inl (reserved refl), tt, h1) in
     let h3 : AreApart from_body = block_fits a ok.3 (suc level) from_od h2 in
     put _ (line_of level (label_parts m.label ++ test_parts kind.While r kind.Do) ++ from_body)
-    (four (line_of level (label_parts m.label ++ test_parts kind.While r kind.Do)) (block_parts (suc level) a) (line_of level (fixed kind.Od ∷ [])) (block_parts level k) more)
+    (four (line_of level (label_parts m.label ++ test_parts kind.While r kind.Do)) (block_parts (suc level) a)
+    (line_of level (fixed kind.Od ∷ [])) (block_parts level k) more)
     (first_line_fits level m.label ok.0 (test_parts kind.While r kind.Do) from_body (while_fits r ok.1 from_body h3))
 
-declaration_fits : (ns : List Name) → AreIds ns → (level : ℕ) (more : List Part) → AreApart more → AreApart (declaration_parts level ns ++ more)
+declaration_fits : (ns : List Name) → AreIds ns → (level : ℕ) (more : List Part) → AreApart more
+    → AreApart (declaration_parts level ns ++ more)
 declaration_fits [] all level more apart = apart
 declaration_fits (n ∷ ns) all level more apart =
     line_fits level (ended (fixed kind.Decl ∷ space ∷ separated name_parts (n ∷ ns))) more
-    (ended_fits (fixed kind.Decl ∷ space ∷ separated name_parts (n ∷ ns)) (λ after tail. (inl (reserved refl), tt, names_fit (n ∷ ns) all after tail)) (line ∷ more) apart)
+    (ended_fits (fixed kind.Decl ∷ space ∷ separated name_parts (n ∷ ns))
+    (λ after tail. (inl (reserved refl), tt, names_fit (n ∷ ns) all after tail)) (line ∷ more) apart)
 
 procedure_fits : (p : Procedure) → ProcedureInGrammar p → (more : List Part) → AreApart more → AreApart (procedure_parts p ++ more)
 procedure_fits p ok more apart =
@@ -229,24 +279,31 @@ procedure_fits p ok more apart =
     let h3 : AreApart from_locals = declaration_fits p.locals ok.locals 1 from_body h2 in
     let h4 : AreApart from_begin = line_fits 0 (fixed kind.Begin ∷ []) from_locals (inl (reserved refl), tt, h3) in
     put _ (line_of 0 (name_parts p.name ++ printed.in_parens (separated name_parts p.formals)) ++ from_begin)
-    (five (line_of 0 (name_parts p.name ++ printed.in_parens (separated name_parts p.formals))) (line_of 0 (fixed kind.Begin ∷ [])) (declaration_parts 1 p.locals) (block_parts 1 p.body) (line_of 0 (fixed kind.End ∷ [])) more)
-    (line_fits 0 (name_parts p.name ++ printed.in_parens (separated name_parts p.formals)) from_begin (inl (name ok.name), refl, parens_fit (separated name_parts p.formals) (names_fit p.formals ok.formals) (line ∷ from_begin) h4))
+    (five (line_of 0 (name_parts p.name ++ printed.in_parens (separated name_parts p.formals))) (line_of 0 (fixed kind.Begin ∷ []))
+    (declaration_parts 1 p.locals) (block_parts 1 p.body) (line_of 0 (fixed kind.End ∷ [])) more)
+    (line_fits 0 (name_parts p.name ++ printed.in_parens (separated name_parts p.formals)) from_begin
+    (inl (name ok.name), refl, parens_fit (separated name_parts p.formals) (names_fit p.formals ok.formals) (line ∷ from_begin) h4))
 
 thread_fits : (t : ThreadLine) → ThreadInGrammar t → (more : List Part) → AreApart more → AreApart (thread_parts t ++ more)
 thread_fits t ok more apart =
-    line_fits 0 (ended (fixed kind.Thread ∷ space ∷ name_parts t.name)) more (inl (reserved refl), tt, (inl (name ok), refl, (inr refl, tt, apart)))
+    line_fits 0 (ended (fixed kind.Thread ∷ space ∷ name_parts t.name)) more
+    (inl (reserved refl), tt, (inl (name ok), refl, (inr refl, tt, apart)))
 
 -- One after the other.
-module _ {X : Type 0} (Ok : X → Type 0) (show : X → List Part) (fits : (x : X) → Ok x → (more : List Part) → AreApart more → AreApart (show x ++ more)) where
+module _ {X : Type 0} (Ok : X → Type 0) (show : X → List Part)
+    (fits : (x : X) → Ok x → (more : List Part) → AreApart more → AreApart (show x ++ more)) where
   all_fit : (xs : List X) → AllByRecursion Ok xs → (more : List Part) → AreApart more → AreApart (joined (map show xs) ++ more)
   all_fit [] all more apart = apart
   all_fit (x ∷ xs) all more apart =
-      put _ (show x ++ (joined (map show xs) ++ more)) (append_assoc (show x) (joined (map show xs)) more) (fits x all.0 (joined (map show xs) ++ more) (all_fit xs all.1 more apart))
+      put _ (show x ++ (joined (map show xs) ++ more)) (append_assoc (show x) (joined (map show xs)) more)
+      (fits x all.0 (joined (map show xs) ++ more) (all_fit xs all.1 more apart))
 
 -- All that is printed for a tree of the grammar stands apart.
 pub program_apart : (t : Tree) → InGrammar t → AreApart (program_parts t)
 program_apart t ok =
     let from_threads : List Part = joined (map thread_parts t.threads) in
-    let h1 : AreApart from_threads = put _ (from_threads ++ []) (sym (append-nil from_threads)) (all_fit ThreadInGrammar thread_parts thread_fits t.threads ok.threads [] tt) in
+    let h1 : AreApart from_threads =
+    put _ (from_threads ++ []) (sym (append-nil from_threads))
+    (all_fit ThreadInGrammar thread_parts thread_fits t.threads ok.threads [] tt) in
     declaration_fits t.globals ok.globals 0 (joined (map procedure_parts t.procedures) ++ from_threads)
     (all_fit ProcedureInGrammar procedure_parts procedure_fits t.procedures ok.procedures from_threads h1)

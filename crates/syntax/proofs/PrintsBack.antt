@@ -1,10 +1,13 @@
 -- The tokens of printed parts, by the grammar.
 use Rattle.std.proofs.Common.{◌≡◌, ℕ, ◌+◌, ◌<◌, ◌≤◌, true, false, List, [], ◌∷◌, ◌++◌, length, map, refl, ap, append_assoc, arith, Some}
-use Rattle.language.specs.Tree.{Name, Operator, implies, or, xor, and, equal, differs, Expression, const, var, negation, two, RightSide, any, value}
+use Rattle.language.specs.Tree.{Name, Operator, implies, or, xor, and, equal, differs, Expression, const, var, negation, two, RightSide}
+use Rattle.language.specs.Tree.{any, value}
 use Rattle.tokens.specs.declared.vocabulary.Kind.TheVariants as kind
 use Rattle.tokens.specs.Token.{Tok}
 use Rattle.tokens.specs.Parts.{Part, space, spelling, fixed, tokens_of}
-use Rattle.syntax.specs.Grammar.{takes, operator_at, level, left_level, right_level, Reads, reads_zero, reads_one, reads_name, reads_not, reads_paren, reads_two, IsName, is_name, Behind, behind, InParens, in_parens, Many, no_more, one_more, Listed, listed, Perhaps, nothing, something, IsRight, is_any, is_value}
+use Rattle.syntax.specs.Grammar.{takes, operator_at, level, left_level, right_level, Reads, reads_zero, reads_one, reads_name, reads_not}
+use Rattle.syntax.specs.Grammar.{reads_paren, reads_two, IsName, is_name, Behind, behind, InParens, in_parens, Many, no_more, one_more}
+use Rattle.syntax.specs.Grammar.{Listed, listed, Perhaps, nothing, something, IsRight, is_any, is_value}
 use Rattle.syntax.specs.Offsets.{unplaced, unplaced_expression, unplaced_side}
 use Rattle.syntax.specs.Printed as printed
 use Rattle.syntax.specs.Printed.{name_parts, after_commas, separated, kind_of, operation, operand_parts, expression_parts, side_parts}
@@ -21,7 +24,8 @@ abbrev pub Shows : {X : Type 0} → (List Tok → X → List Tok → Type 0) →
 Shows P bare parts x = (at : ℕ) (more : List Part) → Read P bare x (tokens_of at (parts ++ more)) more
 
 -- the same tokens, put otherwise
-pub put : {X : Type 0} {P : List Tok → X → List Tok → Type 0} {bare : X → X} {x : X} {more : List Part} (at : ℕ) (ps qs : List Part) → ps ≡ qs → Read P bare x (tokens_of at qs) more → Read P bare x (tokens_of at ps) more
+pub put : {X : Type 0} {P : List Tok → X → List Tok → Type 0} {bare : X → X} {x : X} {more : List Part} (at : ℕ) (ps qs : List Part)
+    → ps ≡ qs → Read P bare x (tokens_of at qs) more → Read P bare x (tokens_of at ps) more
 put {X} {P} {bare} {x} {more} at ps qs e r = rw e r
 
 zero_le : (n : ℕ) → 0 ≤ n
@@ -36,12 +40,16 @@ operator_shown equal = refl
 operator_shown differs = refl
 
 -- An operation without parentheses, where its operands are read at every level.
-operation_shows : (o : Operator) (a b : Expression Name) → ((l : ℕ) → Shows (Reads l) unplaced_expression (operand_parts a) a) → ((l : ℕ) → Shows (Reads l) unplaced_expression (operand_parts b) b)
+operation_shows : (o : Operator) (a b : Expression Name) → ((l : ℕ) → Shows (Reads l) unplaced_expression (operand_parts a) a)
+    → ((l : ℕ) → Shows (Reads l) unplaced_expression (operand_parts b) b)
     → Shows (Reads 0) unplaced_expression (operation o (operand_parts a) (operand_parts b)) (two o a b)
 operation_shows o a b left right at more =
     let behind_left : List Part = space ∷ fixed (kind_of o) ∷ space ∷ (operand_parts b ++ more) in
-    let x : Read (Reads (left_level o)) unplaced_expression a (tokens_of at (operand_parts a ++ behind_left)) behind_left = left (left_level o) at behind_left in
-    let y : Read (Reads (right_level o)) unplaced_expression b (tokens_of (x.next + 1 + length (spelling (kind_of o)) + 1) (operand_parts b ++ more)) more = right (right_level o) (x.next + 1 + length (spelling (kind_of o)) + 1) more in
+    let x : Read (Reads (left_level o)) unplaced_expression a (tokens_of at (operand_parts a ++ behind_left)) behind_left =
+    left (left_level o) at behind_left in
+    let y : Read (Reads (right_level o)) unplaced_expression b
+    (tokens_of (x.next + 1 + length (spelling (kind_of o)) + 1) (operand_parts b ++ more)) more =
+    right (right_level o) (x.next + 1 + length (spelling (kind_of o)) + 1) more in
     rw append_assoc (record {
       found = two o x.found y.found;
       next = y.next;
@@ -52,14 +60,22 @@ operation_shows o a b left right at more =
 pub operand_shows : (e : Expression Name) (l : ℕ) → Shows (Reads l) unplaced_expression (operand_parts e) e
 operand_shows (const false) l at more = record { found = const false; next = at + 1; same = refl; reads = reads_zero refl }
 operand_shows (const true) l at more = record { found = const true; next = at + 1; same = refl; reads = reads_one refl }
-operand_shows (var x) l at more = record { found = var (record { text = x.text; at = at }); next = at + length x.text; same = refl; reads = reads_name refl }
+operand_shows (var x) l at more = record {
+  found = var (record { text = x.text; at = at });
+  next = at + length x.text;
+  same = refl;
+  reads = reads_name refl;
+}
 operand_shows (negation e) l at more =
     let x : Read (Reads 5) unplaced_expression e (tokens_of (at + 1) (operand_parts e ++ more)) more = operand_shows e 5 (at + 1) more in
     record { found = negation x.found; next = x.next; same = ap negation x.same; reads = reads_not refl x.reads }
 operand_shows (two o a b) l at more =
-    let x : Read (Reads 0) unplaced_expression (two o a b) (tokens_of (at + 1) (operation o (operand_parts a) (operand_parts b) ++ (fixed kind.Close ∷ more))) (fixed kind.Close ∷ more) =
+    let x : Read (Reads 0) unplaced_expression (two o a b)
+    (tokens_of (at + 1) (operation o (operand_parts a) (operand_parts b) ++ (fixed kind.Close ∷ more))) (fixed kind.Close ∷ more) =
     operation_shows o a b (operand_shows a) (operand_shows b) (at + 1) (fixed kind.Close ∷ more) in
-    put at _ (fixed kind.Open ∷ (operation o (operand_parts a) (operand_parts b) ++ (fixed kind.Close ∷ more))) (ap (λ (ps : List Part). fixed kind.Open ∷ ps) (append_assoc (operation o (operand_parts a) (operand_parts b)) (fixed kind.Close ∷ []) more))
+    put at _ (fixed kind.Open ∷ (operation o (operand_parts a) (operand_parts b) ++ (fixed kind.Close ∷ more)))
+    (ap (λ (ps : List Part). fixed kind.Open ∷ ps)
+    (append_assoc (operation o (operand_parts a) (operand_parts b)) (fixed kind.Close ∷ []) more))
     (record { found = x.found; next = x.next + 1; same = x.same; reads = reads_paren refl x.reads (takes refl) })
 
 pub expression_shows : (e : Expression Name) → Shows (Reads 0) unplaced_expression (expression_parts e) e
@@ -70,19 +86,22 @@ expression_shows (two o a b) = operation_shows o a b (operand_shows a) (operand_
 
 pub side_shows : (r : RightSide Name) → Shows IsRight unplaced_side (side_parts r) r
 side_shows any at more = record { found = any; next = at + 1; same = refl; reads = is_any (takes refl) }
-side_shows (value e) at more = let x = expression_shows e at more in record { found = value x.found; next = x.next; same = ap value x.same; reads = is_value x.reads }
+side_shows (value e) at more = let x =
+    expression_shows e at more in record { found = value x.found; next = x.next; same = ap value x.same; reads = is_value x.reads }
 
 pub name_shows : (n : Name) → Shows IsName unplaced (name_parts n) n
 name_shows n at more = record { found = record { text = n.text; at = at }; next = at + length n.text; same = refl; reads = is_name refl }
 
 -- Lists, and what stands in parentheses.
-module _ {X : Type 0} (P : List Tok → X → List Tok → Type 0) (bare : X → X) (show : X → List Part) (shows : (x : X) → Shows P bare (show x) x) where
+module _ {X : Type 0} (P : List Tok → X → List Tok → Type 0) (bare : X → X) (show : X → List Part)
+    (shows : (x : X) → Shows P bare (show x) x) where
   commas_show : (xs : List X) → Shows (Many (Behind kind.Comma P)) (map bare) (after_commas show xs) xs
   commas_show [] at more = record { found = []; next = at; same = refl; reads = no_more }
   commas_show (x ∷ xs) at more =
       let first = shows x (at + 1 + 1) (after_commas show xs ++ more) in
       let others = commas_show xs first.next more in
-      put at _ (fixed kind.Comma ∷ space ∷ (show x ++ (after_commas show xs ++ more))) (ap (λ (ps : List Part). fixed kind.Comma ∷ space ∷ ps) (append_assoc (show x) (after_commas show xs) more)) (record {
+      put at _ (fixed kind.Comma ∷ space ∷ (show x ++ (after_commas show xs ++ more)))
+      (ap (λ (ps : List Part). fixed kind.Comma ∷ space ∷ ps) (append_assoc (show x) (after_commas show xs) more)) (record {
         found = first.found ∷ others.found;
         next = others.next;
         same = let e = first.same in let f = others.same in cc;
@@ -107,7 +126,15 @@ module _ {X : Type 0} (P : List Tok → X → List Tok → Type 0) (bare : X →
       let all = list_shows (x ∷ xs) (omega arith) at more in
       record { found = all.found; next = all.next; same = all.same; reads = something all.reads }
 
-pub parens_show : {X : Type 0} (P : List Tok → X → List Tok → Type 0) (bare : X → X) (parts : List Part) (x : X) → Shows P bare parts x → Shows (InParens P) bare (printed.in_parens parts) x
+pub parens_show : {X : Type 0} (P : List Tok → X → List Tok → Type 0) (bare : X → X) (parts : List Part) (x : X) → Shows P bare parts x
+    → Shows (InParens P) bare (printed.in_parens parts) x
 parens_show P bare parts x shows at more =
     let inside = shows (at + 1) (fixed kind.Close ∷ more) in
-    put at _ (fixed kind.Open ∷ (parts ++ (fixed kind.Close ∷ more))) (ap (λ (ps : List Part). fixed kind.Open ∷ ps) (append_assoc parts (fixed kind.Close ∷ []) more)) (record { found = inside.found; next = inside.next + 1; same = inside.same; reads = in_parens (takes refl) inside.reads (takes refl) })
+    put at _ (fixed kind.Open ∷ (parts ++ (fixed kind.Close ∷ more))) (ap (λ (ps : List Part). fixed kind.Open ∷ ps)
+    (append_assoc parts (fixed kind.Close ∷ []) more))
+    (record {
+      found = inside.found;
+      next = inside.next + 1;
+      same = inside.same;
+      reads = in_parens (takes refl) inside.reads (takes refl);
+    })

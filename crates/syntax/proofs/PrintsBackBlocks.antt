@@ -1,15 +1,19 @@
 -- The tokens of printed statements and blocks, by the grammar.
-use Rattle.std.proofs.Common.{◌≡◌, ℕ, zero, suc, ◌+◌, List, [], ◌∷◌, ◌++◌, length, map, refl, sym, ◌∙◌, ap, subst, append_assoc, arith, Option, None, Some}
+use Rattle.std.proofs.Common.{◌≡◌, ℕ, zero, suc, ◌+◌, List, [], ◌∷◌, ◌++◌, length, map, refl, sym, ◌∙◌, ap, subst, append_assoc, arith}
+use Rattle.std.proofs.Common.{Option, None, Some}
 use Rattle.language.specs.Tree.{Name, RightSide, Simple, skip, assign, assert, assume, goto, leave, call, Block, done, one, choose, loop}
 use Rattle.tokens.specs.declared.vocabulary.Kind.{Kind}
 use Rattle.tokens.specs.declared.vocabulary.Kind.TheVariants as kind
 use Rattle.tokens.specs.Token.{Tok}
 use Rattle.tokens.specs.Parts.{Part, shown, space, line, spelling, fixed, tokens_of}
-use Rattle.syntax.specs.Grammar.{Takes, takes, IsName, is_name, InParens, Perhaps, IsExpression, IsRight, IsMarked, bare, labelled, IsSimple, is_skip, is_return, is_goto, is_assert, is_assume, is_assign, is_call, IsSome, Statements, nothing_more, statement, if_statement, while_statement}
+use Rattle.syntax.specs.Grammar.{Takes, takes, IsName, is_name, InParens, Perhaps, IsExpression, IsRight, IsMarked, bare, labelled}
+use Rattle.syntax.specs.Grammar.{IsSimple, is_skip, is_return, is_goto, is_assert, is_assume, is_assign, is_call, IsSome, Statements}
+use Rattle.syntax.specs.Grammar.{nothing_more, statement, if_statement, while_statement}
 use Rattle.syntax.specs.Offsets.{unplaced, unplaced_expression, unplaced_side, unplaced_simple, unplaced_mark, unplaced_block}
 use Rattle.syntax.specs.InGrammar.{SimpleInGrammar, BlockInGrammar}
 use Rattle.syntax.specs.Printed as printed
-use Rattle.syntax.specs.Printed.{name_parts, separated, expression_parts, side_parts, ended, simple_parts, label_parts, margin, line_of, test_parts, block_parts}
+use Rattle.syntax.specs.Printed.{name_parts, separated, expression_parts, side_parts, ended, simple_parts, label_parts, margin, line_of}
+use Rattle.syntax.specs.Printed.{test_parts, block_parts}
 use Rattle.syntax.proofs.Appended.{four, six}
 use Rattle.syntax.proofs.PrintsBack.{Read, Shows, put, expression_shows, side_shows, name_shows, list_shows, perhaps_shows, parens_show}
 
@@ -20,21 +24,41 @@ pub simple_shows : (s : Simple Name Name Name) → SimpleInGrammar s → Shows I
 simple_shows skip ok at more = record { found = skip; next = at + 4 + 1; same = refl; reads = is_skip (takes refl) (takes refl) }
 simple_shows leave ok at more = record { found = leave; next = at + 6 + 1; same = refl; reads = is_return (takes refl) (takes refl) }
 simple_shows (goto l) ok at more =
-    record { found = goto (record { text = l.text; at = at + 4 + 1 }); next = at + 4 + 1 + length l.text + 1; same = refl; reads = is_goto (takes refl) (is_name refl) (takes refl) }
+    record {
+      found = goto (record { text = l.text; at = at + 4 + 1 });
+      next = at + 4 + 1 + length l.text + 1;
+      same = refl;
+      reads = is_goto (takes refl) (is_name refl) (takes refl);
+    }
 simple_shows (assert r) ok at more =
     let test = side_in_parens r (at + 6) (fixed kind.Semicolon ∷ more) in
-    put at _ (fixed kind.Assert ∷ (printed.in_parens (side_parts r) ++ (fixed kind.Semicolon ∷ more))) (ap (λ (ps : List Part). fixed kind.Assert ∷ ps) (append_assoc (printed.in_parens (side_parts r)) (fixed kind.Semicolon ∷ []) more))
-    (record { found = assert test.found; next = test.next + 1; same = ap assert test.same; reads = is_assert (takes refl) test.reads (takes refl) })
+    put at _ (fixed kind.Assert ∷ (printed.in_parens (side_parts r) ++ (fixed kind.Semicolon ∷ more)))
+    (ap (λ (ps : List Part). fixed kind.Assert ∷ ps) (append_assoc (printed.in_parens (side_parts r)) (fixed kind.Semicolon ∷ []) more))
+    (record {
+      found = assert test.found;
+      next = test.next + 1;
+      same = ap assert test.same;
+      reads = is_assert (takes refl) test.reads (takes refl);
+    })
 simple_shows (assume r) ok at more =
     let test = side_in_parens r (at + 6) (fixed kind.Semicolon ∷ more) in
-    put at _ (fixed kind.Assume ∷ (printed.in_parens (side_parts r) ++ (fixed kind.Semicolon ∷ more))) (ap (λ (ps : List Part). fixed kind.Assume ∷ ps) (append_assoc (printed.in_parens (side_parts r)) (fixed kind.Semicolon ∷ []) more))
-    (record { found = assume test.found; next = test.next + 1; same = ap assume test.same; reads = is_assume (takes refl) test.reads (takes refl) })
+    put at _ (fixed kind.Assume ∷ (printed.in_parens (side_parts r) ++ (fixed kind.Semicolon ∷ more)))
+    (ap (λ (ps : List Part). fixed kind.Assume ∷ ps) (append_assoc (printed.in_parens (side_parts r)) (fixed kind.Semicolon ∷ []) more))
+    (record {
+      found = assume test.found;
+      next = test.next + 1;
+      same = ap assume test.same;
+      reads = is_assume (takes refl) test.reads (takes refl);
+    })
 simple_shows (assign xs rs) ok at more =
     let behind_targets : List Part = space ∷ fixed kind.Assign ∷ space ∷ (separated side_parts rs ++ (fixed kind.Semicolon ∷ more)) in
     let targets = list_shows IsName unplaced name_parts name_shows xs ok.0 at behind_targets in
     let sides = list_shows IsRight unplaced_side side_parts side_shows rs ok.2 (targets.next + 1 + 2 + 1) (fixed kind.Semicolon ∷ more) in
     put at _ (separated name_parts xs ++ behind_targets)
-    (append_assoc (separated name_parts xs ++ (space ∷ fixed kind.Assign ∷ space ∷ separated side_parts rs)) (fixed kind.Semicolon ∷ []) more ∙ append_assoc (separated name_parts xs) (space ∷ fixed kind.Assign ∷ space ∷ separated side_parts rs) (fixed kind.Semicolon ∷ more))
+    (append_assoc (separated name_parts xs ++ (space ∷ fixed kind.Assign ∷ space ∷ separated side_parts rs))
+    (fixed kind.Semicolon ∷ []) more
+    ∙ append_assoc (separated name_parts xs) (space ∷ fixed kind.Assign ∷ space ∷ separated side_parts rs)
+    (fixed kind.Semicolon ∷ more))
     (record {
       found = assign targets.found sides.found;
       next = sides.next + 1;
@@ -42,8 +66,13 @@ simple_shows (assign xs rs) ok at more =
       reads = is_assign targets.reads (takes refl) sides.reads (takes refl);
     })
 simple_shows (call p es) ok at more =
-    let inside = parens_show (Perhaps IsExpression) (map unplaced_expression) (separated expression_parts es) es (perhaps_shows IsExpression unplaced_expression expression_parts expression_shows es) (at + length p.text) (fixed kind.Semicolon ∷ more) in
-    put at _ (shown kind.Id p.text ∷ (printed.in_parens (separated expression_parts es) ++ (fixed kind.Semicolon ∷ more))) (ap (λ (ps : List Part). shown kind.Id p.text ∷ ps) (append_assoc (printed.in_parens (separated expression_parts es)) (fixed kind.Semicolon ∷ []) more))
+    let inside =
+    parens_show (Perhaps IsExpression) (map unplaced_expression) (separated expression_parts es) es
+    (perhaps_shows IsExpression unplaced_expression expression_parts expression_shows es) (at + length p.text)
+    (fixed kind.Semicolon ∷ more) in
+    put at _ (shown kind.Id p.text ∷ (printed.in_parens (separated expression_parts es) ++ (fixed kind.Semicolon ∷ more)))
+    (ap (λ (ps : List Part). shown kind.Id p.text ∷ ps)
+    (append_assoc (printed.in_parens (separated expression_parts es)) (fixed kind.Semicolon ∷ []) more))
     (record {
       found = call (record { text = p.text; at = at }) inside.found;
       next = inside.next + 1;
@@ -51,7 +80,8 @@ simple_shows (call p es) ok at more =
       reads = is_call (is_name refl) inside.reads (takes refl);
     })
 
-simple_begun : (s : Simple Name Name Name) → SimpleInGrammar s → (more : List Part) → (k : Kind) × (w : List ℕ) × (others : List Part) × (simple_parts s ++ more ≡ shown k w ∷ others)
+simple_begun : (s : Simple Name Name Name) → SimpleInGrammar s → (more : List Part)
+    → (k : Kind) × (w : List ℕ) × (others : List Part) × (simple_parts s ++ more ≡ shown k w ∷ others)
 simple_begun skip ok more = (_, _, _, refl)
 simple_begun leave ok more = (_, _, _, refl)
 simple_begun (goto l) ok more = (_, _, _, refl)
@@ -64,22 +94,38 @@ simple_begun (call p es) ok more = (_, _, _, refl)
 mark_shows : (label : Option Name) (placed : ℕ) (k : Kind) (w : List ℕ) (others more : List Part) → more ≡ shown k w ∷ others → (at : ℕ)
     → Read IsMarked unplaced_mark (record { label = label; at = placed }) (tokens_of at (label_parts label ++ more)) more
 mark_shows None placed k w others more is at =
-    record { found = record { label = None; at = at }; next = at; same = refl; reads = subst (λ ps. IsMarked (tokens_of at ps) (record { label = None; at = at }) (tokens_of at ps)) (sym is) bare }
+    record {
+      found = record { label = None; at = at };
+      next = at;
+      same = refl;
+      reads = subst (λ ps. IsMarked (tokens_of at ps) (record { label = None; at = at }) (tokens_of at ps)) (sym is) bare;
+    }
 mark_shows (Some l) placed k w others more is at =
-    record { found = record { label = Some (record { text = l.text; at = at }); at = at }; next = at + length l.text + 1 + 1; same = refl; reads = labelled refl (takes refl) }
+    record {
+      found = record { label = Some (record { text = l.text; at = at }); at = at };
+      next = at + length l.text + 1 + 1;
+      same = refl;
+      reads = labelled refl (takes refl);
+    }
 
 -- Margins leave no token.
 margin_at : (level at : ℕ) (ps : List Part) → (n : ℕ) × (tokens_of at (margin level ++ ps) ≡ tokens_of n ps)
 margin_at zero at ps = (at, refl)
 margin_at (suc level) at ps = margin_at level (at + 1 + 1) ps
 
-pub line_at : (level at : ℕ) (parts more : List Part) → (n : ℕ) × (tokens_of at (line_of level parts ++ more) ≡ tokens_of n (parts ++ (line ∷ more)))
+pub line_at : (level at : ℕ) (parts more : List Part)
+    → (n : ℕ) × (tokens_of at (line_of level parts ++ more) ≡ tokens_of n (parts ++ (line ∷ more)))
 line_at level at parts more =
-    let m = margin_at level at (parts ++ (line ∷ more)) in
-    (m.0, ap (tokens_of at) (append_assoc (margin level) (parts ++ (line ∷ [])) more ∙ ap (λ (ps : List Part). margin level ++ ps) (append_assoc parts (line ∷ []) more)) ∙ m.1)
+    let m = margin_at level at (parts ++ (line ∷ more)) in (
+      m.0,
+      ap (tokens_of at)
+          (append_assoc (margin level) (parts ++ (line ∷ [])) more
+          ∙ ap (λ (ps : List Part). margin level ++ ps) (append_assoc parts (line ∷ []) more)) ∙ m.1,
+    )
 
 -- A keyword on a line of its own.
-pub word_at : (k : Kind) (level at : ℕ) (more : List Part) → (n : ℕ) × Takes k (tokens_of at (line_of level (fixed k ∷ []) ++ more)) (tokens_of n more)
+pub word_at : (k : Kind) (level at : ℕ) (more : List Part)
+    → (n : ℕ) × Takes k (tokens_of at (line_of level (fixed k ∷ []) ++ more)) (tokens_of n more)
 word_at k level at more =
     let l = line_at level at (fixed k ∷ []) more in
     (l.0 + length (spelling k) + 1, subst (λ ts. Takes k ts (tokens_of (l.0 + length (spelling k) + 1) more)) (sym l.1) (takes refl))
@@ -95,7 +141,8 @@ record ReadTest (first : Kind) (r : RightSide Name) (last : Kind) (ts : List Tok
   test : InParens IsRight us found vs
   ends : Takes last vs (tokens_of next more)
 
-test_shows : (first : Kind) (r : RightSide Name) (last : Kind) (at : ℕ) (more : List Part) → ReadTest first r last (tokens_of at (test_parts first r last ++ more)) more
+test_shows : (first : Kind) (r : RightSide Name) (last : Kind) (at : ℕ) (more : List Part)
+    → ReadTest first r last (tokens_of at (test_parts first r last ++ more)) more
 test_shows first r last at more =
     let inside = side_in_parens r (at + length (spelling first) + 1) (space ∷ fixed last ∷ more) in
     let e : test_parts first r last ++ more ≡ fixed first ∷ space ∷ (printed.in_parens (side_parts r) ++ (space ∷ fixed last ∷ more)) =
@@ -130,10 +177,13 @@ pub some_too : (x y : Block Name Name Name) → unplaced_block x ≡ unplaced_bl
 some_too x y e some = from_bare x (subst IsSome (sym e) (to_bare y some))
 
 -- the marked first line of a statement
-first_line : (level at : ℕ) (label s more : List Part) → (n : ℕ) × (tokens_of at (line_of level (label ++ s) ++ more) ≡ tokens_of n (label ++ (s ++ (line ∷ more))))
-first_line level at label s more = let l = line_at level at (label ++ s) more in (l.0, l.1 ∙ ap (tokens_of l.0) (append_assoc label s (line ∷ more)))
+first_line : (level at : ℕ) (label s more : List Part)
+    → (n : ℕ) × (tokens_of at (line_of level (label ++ s) ++ more) ≡ tokens_of n (label ++ (s ++ (line ∷ more))))
+first_line level at label s more = let l = line_at level at (label ++ s) more in
+    (l.0, l.1 ∙ ap (tokens_of l.0) (append_assoc label s (line ∷ more)))
 
-pub put_tokens : {X : Type 0} {P : List Tok → X → List Tok → Type 0} {bare : X → X} {x : X} {more : List Part} (ts us : List Tok) → ts ≡ us → Read P bare x us more → Read P bare x ts more
+pub put_tokens : {X : Type 0} {P : List Tok → X → List Tok → Type 0} {bare : X → X} {x : X} {more : List Part} (ts us : List Tok) → ts ≡ us
+    → Read P bare x us more → Read P bare x ts more
 put_tokens {X} {P} {bare} {x} {more} ts us e r = rw e r
 
 pub block_shows : (b : Block Name Name Name) → BlockInGrammar b → (level : ℕ) → Shows Statements unplaced_block (block_parts level b) b
@@ -145,7 +195,8 @@ block_shows (one m s k) ok level at more =
     let mark = mark_shows m.label m.at begun.0 begun.1 begun.2 (simple_parts s ++ (line ∷ rest)) begun.3 start.0 in
     let first = simple_shows s ok.1 mark.next (line ∷ rest) in
     let others = block_shows k ok.2 level (first.next + 1) more in
-    put_tokens _ _ (ap (tokens_of at) (append_assoc (line_of level (label_parts m.label ++ simple_parts s)) (block_parts level k) more) ∙ start.1)
+    put_tokens _ _
+    (ap (tokens_of at) (append_assoc (line_of level (label_parts m.label ++ simple_parts s)) (block_parts level k) more) ∙ start.1)
     (record {
       found = one mark.found first.found others.found;
       next = others.next;
@@ -157,33 +208,47 @@ block_shows (choose m r a b k) ok level at more =
     let from_fi : List Part = line_of level (fixed kind.Fi ∷ []) ++ rest in
     let from_else : List Part = line_of level (fixed kind.Else ∷ []) ++ (block_parts (suc level) b ++ from_fi) in
     let start = first_line level at (label_parts m.label) (test_parts kind.If r kind.Then) (block_parts (suc level) a ++ from_else) in
-    let mark = mark_shows m.label m.at kind.If (spelling kind.If) _ (test_parts kind.If r kind.Then ++ (line ∷ (block_parts (suc level) a ++ from_else))) refl start.0 in
+    let mark =
+    mark_shows m.label m.at kind.If (spelling kind.If) _
+    (test_parts kind.If r kind.Then ++ (line ∷ (block_parts (suc level) a ++ from_else))) refl start.0 in
     let test = test_shows kind.If r kind.Then mark.next (line ∷ (block_parts (suc level) a ++ from_else)) in
     let yes = block_shows a ok.3 (suc level) (test.next + 1) from_else in
     let between = word_at kind.Else level yes.next (block_parts (suc level) b ++ from_fi) in
     let no = block_shows b ok.5 (suc level) between.0 from_fi in
     let end = word_at kind.Fi level no.next rest in
     let others = block_shows k ok.6 level end.0 more in
-    put_tokens _ _ (ap (tokens_of at) (six (line_of level (label_parts m.label ++ test_parts kind.If r kind.Then)) (block_parts (suc level) a) (line_of level (fixed kind.Else ∷ [])) (block_parts (suc level) b) (line_of level (fixed kind.Fi ∷ [])) (block_parts level k) more) ∙ start.1)
+    put_tokens _ _
+    (ap (tokens_of at)
+    (six (line_of level (label_parts m.label ++ test_parts kind.If r kind.Then)) (block_parts (suc level) a)
+    (line_of level (fixed kind.Else ∷ [])) (block_parts (suc level) b) (line_of level (fixed kind.Fi ∷ [])) (block_parts level k) more)
+    ∙ start.1)
     (record {
       found = choose mark.found test.found yes.found no.found others.found;
       next = others.next;
       same = let e1 = mark.same in let e2 = test.same in let e3 = yes.same in let e4 = no.same in let e5 = others.same in cc;
-      reads = if_statement mark.reads test.begins test.test test.ends yes.reads (some_too yes.found a yes.same ok.2) between.1 no.reads (some_too no.found b no.same ok.4) end.1 others.reads;
+      reads =
+          if_statement mark.reads test.begins test.test test.ends yes.reads (some_too yes.found a yes.same ok.2) between.1 no.reads
+          (some_too no.found b no.same ok.4) end.1 others.reads;
     })
 block_shows (loop m r a k) ok level at more =
     let rest : List Part = block_parts level k ++ more in
     let from_od : List Part = line_of level (fixed kind.Od ∷ []) ++ rest in
     let start = first_line level at (label_parts m.label) (test_parts kind.While r kind.Do) (block_parts (suc level) a ++ from_od) in
-    let mark = mark_shows m.label m.at kind.While (spelling kind.While) _ (test_parts kind.While r kind.Do ++ (line ∷ (block_parts (suc level) a ++ from_od))) refl start.0 in
+    let mark =
+    mark_shows m.label m.at kind.While (spelling kind.While) _
+    (test_parts kind.While r kind.Do ++ (line ∷ (block_parts (suc level) a ++ from_od))) refl start.0 in
     let test = test_shows kind.While r kind.Do mark.next (line ∷ (block_parts (suc level) a ++ from_od)) in
     let body = block_shows a ok.3 (suc level) (test.next + 1) from_od in
     let end = word_at kind.Od level body.next rest in
     let others = block_shows k ok.4 level end.0 more in
-    put_tokens _ _ (ap (tokens_of at) (four (line_of level (label_parts m.label ++ test_parts kind.While r kind.Do)) (block_parts (suc level) a) (line_of level (fixed kind.Od ∷ [])) (block_parts level k) more) ∙ start.1)
+    put_tokens _ _
+    (ap (tokens_of at)
+    (four (line_of level (label_parts m.label ++ test_parts kind.While r kind.Do)) (block_parts (suc level) a)
+    (line_of level (fixed kind.Od ∷ [])) (block_parts level k) more) ∙ start.1)
     (record {
       found = loop mark.found test.found body.found others.found;
       next = others.next;
       same = let e1 = mark.same in let e2 = test.same in let e3 = body.same in let e4 = others.same in cc;
-      reads = while_statement mark.reads test.begins test.test test.ends body.reads (some_too body.found a body.same ok.2) end.1 others.reads;
+      reads =
+          while_statement mark.reads test.begins test.test test.ends body.reads (some_too body.found a body.same ok.2) end.1 others.reads;
     })

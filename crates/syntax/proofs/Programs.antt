@@ -5,7 +5,9 @@ use Rattle.tokens.specs.declared.vocabulary.Kind.{Kind}
 use Rattle.tokens.specs.declared.vocabulary.Kind.TheVariants as kind
 use Rattle.tokens.specs.Token.{Tok, same_kind}
 use Rattle.syntax.specs.Parser.{Parser, Strict, give, ◌>>=◌, begins, take, many}
-use Rattle.syntax.specs.Grammar.{Takes, takes, IsName, is_name, InParens, Several, several, Perhaps, IsSome, Statements, joined, IsDeclaration, is_declaration, Declarations, declarations, IsProcedure, is_procedure, IsThread, is_thread, IsProgram, is_program}
+use Rattle.syntax.specs.Grammar.{Takes, takes, IsName, is_name, InParens, Several, several, Perhaps, IsSome, Statements, joined}
+use Rattle.syntax.specs.Grammar.{IsDeclaration, is_declaration, Declarations, declarations, IsProcedure, is_procedure, IsThread, is_thread}
+use Rattle.syntax.specs.Grammar.{IsProgram, is_program}
 use Rattle.syntax.specs.Exact.{name, names, formals, starts, starts_here, section, declaration}
 use Rattle.syntax.specs.Exact.{all_declarations, insides, procedure, procedures, thread_line, any_left}
 use Rattle.syntax.specs.Exact.{thread_lines, program}
@@ -27,7 +29,10 @@ comma_no s = begins_other kind.Comma s refl
 -- declarations
 pub strict_declaration : Strict declaration
 unfolding declaration
-strict_declaration = Strict-bind (Strict-take kind.Decl) (λ _. Shrinks-bind (Strict-Shrinks strict_names) (λ ns. Shrinks-bind (Strict-Shrinks (Strict-take kind.Semicolon)) (λ _. Shrinks-give ns)))
+strict_declaration =
+    Strict-bind (Strict-take kind.Decl)
+    (λ _.
+    Shrinks-bind (Strict-Shrinks strict_names) (λ ns. Shrinks-bind (Strict-Shrinks (Strict-take kind.Semicolon)) (λ _. Shrinks-give ns)))
 
 pub exactly_declaration : Exactly IsDeclaration Anything declaration
 unfolding declaration
@@ -39,7 +44,8 @@ exactly_declaration = record { finds = found; reads = went }
         let c = between names (λ ns. take kind.Semicolon >>= λ _. give ns) b.us ns rest b.second in
         let d = between (take kind.Semicolon) (λ _. give c.x) c.us ns rest c.second in
         carried (λ ns rest. IsDeclaration ts ns rest) d.second
-        (is_declaration (take_finds kind.Decl ts b.x b.us b.first).0 (exactly_names.finds b.us c.x c.us c.first) (take_finds kind.Semicolon c.us d.x d.us d.first).0)
+        (is_declaration (take_finds kind.Decl ts b.x b.us b.first).0 (exactly_names.finds b.us c.x c.us c.first)
+        (take_finds kind.Semicolon c.us d.x d.us d.first).0)
 
     went : (ts : List Tok) (ns : List Name) (rest : List Tok) → IsDeclaration ts ns rest → Unit {0} → declaration ts ≡ Some (ns, rest)
     went ts ns rest (is_declaration {us = us} {vs = vs} d l s) u =
@@ -54,13 +60,17 @@ pub all_declarations_shrinks : Shrinks all_declarations
 unfolding all_declarations
 all_declarations_shrinks = Shrinks-bind (many_shrinks (begins kind.Decl) declaration strict_declaration) (λ nss. Shrinks-give (joined nss))
 
-pub declarations_found : (ts : List Tok) (ns : List Name) (rest : List Tok) → all_declarations ts ≡ Some (ns, rest) → Declarations ts ns rest
+pub declarations_found : (ts : List Tok) (ns : List Name) (rest : List Tok) → all_declarations ts ≡ Some (ns, rest)
+    → Declarations ts ns rest
 unfolding all_declarations
 declarations_found ts ns rest e =
     let b = between (many (begins kind.Decl) declaration) (λ nss. give (joined nss)) ts ns rest e in
-    carried (λ ns rest. Declarations ts ns rest) b.second (declarations (many_finds (begins kind.Decl) declaration strict_declaration IsDeclaration exactly_declaration.finds ts b.x b.us b.first).0)
+    carried (λ ns rest. Declarations ts ns rest) b.second
+    (declarations
+    (many_finds (begins kind.Decl) declaration strict_declaration IsDeclaration exactly_declaration.finds ts b.x b.us b.first).0)
 
-pub declarations_read : (ts : List Tok) (ns : List Name) (rest : List Tok) → Declarations ts ns rest → begins kind.Decl rest ≡ false → all_declarations ts ≡ Some (ns, rest)
+pub declarations_read : (ts : List Tok) (ns : List Name) (rest : List Tok) → Declarations ts ns rest → begins kind.Decl rest ≡ false
+    → all_declarations ts ≡ Some (ns, rest)
 unfolding all_declarations
 declarations_read ts ns rest (declarations {nss = nss} m) e =
     bind_is (many (begins kind.Decl) declaration) (λ nss. give (joined nss)) ts nss rest
@@ -75,11 +85,16 @@ after_locals ls = section >>= λ b. after_section ls b
 
 strict_insides : Strict insides
 unfolding insides
-strict_insides = Strict-bind (Strict-take kind.Begin) (λ _. Shrinks-bind all_declarations_shrinks (λ ls. Shrinks-bind section_shrinks (λ b. Shrinks-bind (Strict-Shrinks (Strict-take kind.End)) (λ _. Shrinks-give (ls, b)))))
+strict_insides =
+    Strict-bind (Strict-take kind.Begin)
+    (λ _.
+    Shrinks-bind all_declarations_shrinks
+    (λ ls. Shrinks-bind section_shrinks (λ b. Shrinks-bind (Strict-Shrinks (Strict-take kind.End)) (λ _. Shrinks-give (ls, b)))))
 
 -- begin, locals, statements, end
 data IsInside : List Tok → List Name × Block Name Name Name → List Tok → Type 0 where
-  is_inside : {ts us vs ws rest : List Tok} {ls : List Name} {b : Block Name Name Name} → Takes kind.Begin ts us → Declarations us ls vs → Statements vs b ws → IsSome b → Takes kind.End ws rest → IsInside ts (ls, b) rest
+  is_inside : {ts us vs ws rest : List Tok} {ls : List Name} {b : Block Name Name Name} → Takes kind.Begin ts us → Declarations us ls vs
+      → Statements vs b ws → IsSome b → Takes kind.End ws rest → IsInside ts (ls, b) rest
 
 no_decl : (k : Kind) → starts k ≡ true → same_kind k kind.Decl ≡ false
 unfolding same_kind
@@ -102,9 +117,11 @@ exactly_insides = record { finds = found; reads = went }
         let f = between (take kind.End) (λ _. give (c.x, d.x)) d.us p rest d.second in
         let s = section_finds c.us d.x d.us d.first in
         carried (λ p rest. IsInside ts p rest) f.second
-        (is_inside (take_finds kind.Begin ts b.x b.us b.first).0 (declarations_found b.us c.x c.us c.first) s.0 s.1 (take_finds kind.End d.us f.x f.us f.first).0)
+        (is_inside (take_finds kind.Begin ts b.x b.us b.first).0 (declarations_found b.us c.x c.us c.first) s.0 s.1
+        (take_finds kind.End d.us f.x f.us f.first).0)
 
-    went : (ts : List Tok) (p : List Name × Block Name Name Name) (rest : List Tok) → IsInside ts p rest → Unit {0} → insides ts ≡ Some (p, rest)
+    went : (ts : List Tok) (p : List Name × Block Name Name Name) (rest : List Tok) → IsInside ts p rest → Unit {0}
+        → insides ts ≡ Some (p, rest)
     went ts p rest (is_inside {us = us} {vs = vs} {ws = ws} {ls = ls} {b = b} g d s n e) u =
         bind_is (take kind.Begin) (λ _. all_declarations >>= λ ls. after_locals ls) ts (take_is g).0 us (take_is g).1
         ∙ bind_is all_declarations after_locals us ls vs (declarations_read us ls vs d (no_declaration vs (statements_start s n)))
@@ -113,12 +130,17 @@ exactly_insides = record { finds = found; reads = went }
 
 pub strict_procedure : Strict procedure
 unfolding procedure
-strict_procedure = Strict-bind strict_name (λ n. Shrinks-bind (Strict-Shrinks strict_formals) (λ fs. Shrinks-bind (Strict-Shrinks strict_insides) (λ p. Shrinks-give (record { name = n; formals = fs; locals = p.0; body = p.1 }))))
+strict_procedure =
+    Strict-bind strict_name (λ n.
+    Shrinks-bind (Strict-Shrinks strict_formals) (λ fs.
+    Shrinks-bind (Strict-Shrinks strict_insides) (λ p. Shrinks-give (record { name = n; formals = fs; locals = p.0; body = p.1 }))))
 
 abbrev after_formals : Name → List Name → Parser Procedure
 after_formals n fs = insides >>= λ p. give (record { name = n; formals = fs; locals = p.0; body = p.1 })
 
-procedure_of : {ts us vs rest : List Tok} {n : Name} {fs : List Name} {p : List Name × Block Name Name Name} → IsName ts n us → InParens (Perhaps IsName) us fs vs → IsInside vs p rest → IsProcedure ts (record { name = n; formals = fs; locals = p.0; body = p.1 }) rest
+procedure_of : {ts us vs rest : List Tok} {n : Name} {fs : List Name} {p : List Name × Block Name Name Name} → IsName ts n us
+    → InParens (Perhaps IsName) us fs vs → IsInside vs p rest
+    → IsProcedure ts (record { name = n; formals = fs; locals = p.0; body = p.1 }) rest
 procedure_of n f (is_inside g d s m e) = is_procedure n f g d s m e
 
 pub exactly_procedure : Exactly IsProcedure Anything procedure
@@ -131,13 +153,15 @@ exactly_procedure = record { finds = found; reads = went }
         let c = between formals (after_formals b.x) b.us p rest b.second in
         let d = between insides (λ p. give (record { name = b.x; formals = c.x; locals = p.0; body = p.1 })) c.us p rest c.second in
         carried (λ p rest. IsProcedure ts p rest) d.second
-        (procedure_of (exactly_name.finds ts b.x b.us b.first) (exactly_formals.finds b.us c.x c.us c.first) (exactly_insides.finds c.us d.x d.us d.first))
+        (procedure_of (exactly_name.finds ts b.x b.us b.first) (exactly_formals.finds b.us c.x c.us c.first)
+        (exactly_insides.finds c.us d.x d.us d.first))
 
     went : (ts : List Tok) (p : Procedure) (rest : List Tok) → IsProcedure ts p rest → Unit {0} → procedure ts ≡ Some (p, rest)
     went ts p rest (is_procedure {us = us} {vs = vs} {n = n} {formals = fs} {locals = ls} {body = b} h f g d s m e) u =
         bind_is name (λ n. formals >>= λ fs. after_formals n fs) ts n us (exactly_name.reads ts n us h tt)
         ∙ bind_is formals (after_formals n) us fs vs (exactly_formals.reads us fs vs f tt)
-        ∙ bind_is insides (λ p. give (record { name = n; formals = fs; locals = p.0; body = p.1 })) vs (ls, b) rest (exactly_insides.reads vs (ls, b) rest (is_inside g d s m e) tt)
+        ∙ bind_is insides (λ p. give (record { name = n; formals = fs; locals = p.0; body = p.1 })) vs (ls, b) rest
+        (exactly_insides.reads vs (ls, b) rest (is_inside g d s m e) tt)
 
 name_begins : {ts us : List Tok} {n : Name} → IsName ts n us → begins kind.Id ts ≡ true
 name_begins (is_name e) = same_kind-is e
@@ -145,21 +169,27 @@ name_begins (is_name e) = same_kind-is e
 procedure_begins : (ts : List Tok) (p : Procedure) (us : List Tok) → IsProcedure ts p us → begins kind.Id ts ≡ true
 procedure_begins ts p us (is_procedure h f g d s m e) = name_begins h
 
-pub procedures_found : (ts : List Tok) (ps : List Procedure) (rest : List Tok) → procedures ts ≡ Some (ps, rest) → Several IsProcedure ts ps rest
+pub procedures_found : (ts : List Tok) (ps : List Procedure) (rest : List Tok) → procedures ts ≡ Some (ps, rest)
+    → Several IsProcedure ts ps rest
 procedures_found ts ps rest e = (repeated_finds (begins kind.Id) strict_procedure exactly_procedure ts ps rest e).0
 
-pub procedures_read : (ts : List Tok) (ps : List Procedure) (rest : List Tok) → Several IsProcedure ts ps rest → begins kind.Id rest ≡ false → procedures ts ≡ Some (ps, rest)
+pub procedures_read : (ts : List Tok) (ps : List Procedure) (rest : List Tok) → Several IsProcedure ts ps rest
+    → begins kind.Id rest ≡ false → procedures ts ≡ Some (ps, rest)
 procedures_read = repeated_reads (begins kind.Id) strict_procedure exactly_procedure procedure_begins
 
 -- thread lines
 pub strict_thread_line : Strict thread_line
 unfolding thread_line
-strict_thread_line = Strict-bind (Strict-take kind.Thread) (λ t. Shrinks-bind (Strict-Shrinks strict_name) (λ n. Shrinks-bind (Strict-Shrinks (Strict-take kind.Semicolon)) (λ _. Shrinks-give (record { at = t.at; name = n }))))
+strict_thread_line =
+    Strict-bind (Strict-take kind.Thread) (λ t.
+    Shrinks-bind (Strict-Shrinks strict_name) (λ n.
+    Shrinks-bind (Strict-Shrinks (Strict-take kind.Semicolon)) (λ _. Shrinks-give (record { at = t.at; name = n }))))
 
 abbrev after_name : Tok → Name → Parser ThreadLine
 after_name t n = take kind.Semicolon >>= λ _. give (record { at = t.at; name = n })
 
-thread_of_takes : (t : Tok) {ts us vs rest : List Tok} {n : Name} → ts ≡ t ∷ us → Takes kind.Thread ts us → IsName us n vs → Takes kind.Semicolon vs rest → IsThread ts (record { at = t.at; name = n }) rest
+thread_of_takes : (t : Tok) {ts us vs rest : List Tok} {n : Name} → ts ≡ t ∷ us → Takes kind.Thread ts us → IsName us n vs
+    → Takes kind.Semicolon vs rest → IsThread ts (record { at = t.at; name = n }) rest
 thread_of_takes t e k n s = rw e (is_thread (kind_of (rw e at k)) n s)
   where
     kind_of : {k : Kind} {t : Tok} {us vs : List Tok} → Takes k (t ∷ us) vs → t.kind ≡ k
@@ -191,7 +221,8 @@ none_left : (ts : List Tok) → any_left ts ≡ false → ts ≡ []
 none_left [] e = refl
 none_left (t ∷ ts) e = cc
 
-pub lines_found : (ts : List Tok) (ls : List ThreadLine) (rest : List Tok) → thread_lines ts ≡ Some (ls, rest) → Several IsThread ts ls [] × (rest ≡ [])
+pub lines_found : (ts : List Tok) (ls : List ThreadLine) (rest : List Tok) → thread_lines ts ≡ Some (ls, rest)
+    → Several IsThread ts ls [] × (rest ≡ [])
 lines_found ts ls rest e =
     let m = repeated_finds any_left strict_thread_line exactly_thread_line ts ls rest e in
     let n = none_left rest m.1 in

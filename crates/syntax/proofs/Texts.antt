@@ -17,7 +17,8 @@ use Rattle.trees.specs.Trees.{tree_of}
 use Rattle.syntax.proofs.Fixes.{both}
 use Rattle.syntax.proofs.Programs.{program_finds, program_reads}
 
-module _ (A : Type 0) (bytes : List ℕ) (tokens : List Tok) (within : length bytes ≤ most_bytes) (ascii : IsAscii bytes) (cut : Cuts 0 bytes tokens) (only : (others : List Tok) → Cuts 0 bytes others → others ≡ tokens) (shallow : TooDeep tokens → ⊥) where
+module _ (A : Type 0) (bytes : List ℕ) (tokens : List Tok) (within : length bytes ≤ most_bytes) (ascii : IsAscii bytes)
+    (cut : Cuts 0 bytes tokens) (only : (others : List Tok) → Cuts 0 bytes others → others ≡ tokens) (shallow : TooDeep tokens → ⊥) where
   reads : (tree : Tree) → Text bytes tree → program tokens ≡ Some (tree, [])
   reads tree text = program_reads tokens tree (rw (only text.tokens text.cut) at text.program)
 

@@ -9,8 +9,14 @@ use Rattle.tokens.specs.Spelling as spelling
 use Rattle.tokens.specs.Spelling.{reserved_word, sign, IsWord, reserved, name}
 use Rattle.tokens.specs.Cuts.{IsToken, word, sign_of, Cuts, nothing, gap, token}
 use Rattle.syntax.specs.Grammar as grammar
-use Rattle.syntax.specs.Grammar.{Takes, takes, Reads, reads_zero, reads_one, reads_name, reads_not, reads_paren, reads_two, IsName, is_name, Behind, behind, InParens, in_parens, Many, no_more, one_more, Several, several, Listed, listed, Perhaps, something, IsExpression, IsRight, is_any, is_value, IsMarked, bare, labelled, IsSimple, is_skip, is_return, is_goto, is_assert, is_assume, is_assign, is_call, Statements, nothing_more, statement, if_statement, while_statement, joined, IsDeclaration, is_declaration, Declarations, declarations, IsProcedure, is_procedure, IsThread, is_thread, IsProgram, is_program}
-use Rattle.syntax.specs.InGrammar.{IsId, AreIds, ExpressionInGrammar, SideInGrammar, SimpleInGrammar, LabelInGrammar, BlockInGrammar, ProcedureInGrammar, ThreadInGrammar, InGrammar}
+use Rattle.syntax.specs.Grammar.{Takes, takes, Reads, reads_zero, reads_one, reads_name, reads_not, reads_paren, reads_two, IsName, is_name}
+use Rattle.syntax.specs.Grammar.{Behind, behind, InParens, in_parens, Many, no_more, one_more, Several, several, Listed, listed, Perhaps}
+use Rattle.syntax.specs.Grammar.{something, IsExpression, IsRight, is_any, is_value, IsMarked, bare, labelled, IsSimple, is_skip, is_return}
+use Rattle.syntax.specs.Grammar.{is_goto, is_assert, is_assume, is_assign, is_call, Statements, nothing_more, statement, if_statement}
+use Rattle.syntax.specs.Grammar.{while_statement, joined, IsDeclaration, is_declaration, Declarations, declarations, IsProcedure}
+use Rattle.syntax.specs.Grammar.{is_procedure, IsThread, is_thread, IsProgram, is_program}
+use Rattle.syntax.specs.InGrammar.{IsId, AreIds, ExpressionInGrammar, SideInGrammar, SimpleInGrammar, LabelInGrammar, BlockInGrammar}
+use Rattle.syntax.specs.InGrammar.{ProcedureInGrammar, ThreadInGrammar, InGrammar}
 use Rattle.syntax.specs.Text.{Text}
 
 -- A token that is a name is spelled as one.
@@ -52,7 +58,8 @@ reads_keep l ts rest x (reads_one is) all = (tt, all.1)
 reads_keep l ts rest x (reads_name is) all = (all.0 is, all.1)
 reads_keep l ts rest x (reads_not is e) all = reads_keep _ _ rest _ e all.1
 reads_keep l ts rest x (reads_paren is e close) all = let h = reads_keep _ _ _ _ e all.1 in (h.0, taken _ rest close h.1)
-reads_keep l ts rest x (reads_two o le a is b) all = let h = reads_keep _ ts _ _ a all in let g = reads_keep _ _ rest _ b h.1.1 in ((h.0, g.0), g.1)
+reads_keep l ts rest x (reads_two o le a is b) all = let h = reads_keep _ ts _ _ a all in let g = reads_keep _ _ rest _ b h.1.1 in
+    ((h.0, g.0), g.1)
 
 name_keeps : Keeps IsName IsId
 name_keeps ts rest x (is_name is) all = (all.0 is, all.1)
@@ -72,11 +79,14 @@ module _ {X : Type 0} (P : List Tok → X → List Tok → Type 0) (Ok : X → T
   many_keep ts rest x no_more all = (tt, all)
   many_keep ts rest x (one_more p others) all = let h = keeps ts _ _ p all in let g = many_keep _ rest _ others h.1 in ((h.0, g.0), g.1)
 
-  several_keep : (ts rest : List Tok) (xs : List X) → Several P ts xs rest → AllSpelled ts → (0 < length xs) × AllByRecursion Ok xs × AllSpelled rest
-  several_keep ts rest xs (several p others) all = let h = keeps ts _ _ p all in let g = many_keep _ rest _ others h.1 in (omega arith, (h.0, g.0), g.1)
+  several_keep : (ts rest : List Tok) (xs : List X) → Several P ts xs rest → AllSpelled ts
+      → (0 < length xs) × AllByRecursion Ok xs × AllSpelled rest
+  several_keep ts rest xs (several p others) all = let h = keeps ts _ _ p all in let g = many_keep _ rest _ others h.1 in
+      (omega arith, (h.0, g.0), g.1)
 
 module _ {X : Type 0} (P : List Tok → X → List Tok → Type 0) (Ok : X → Type 0) (keeps : Keeps P Ok) where
-  list_keeps : (ts rest : List Tok) (xs : List X) → Listed P ts xs rest → AllSpelled ts → (0 < length xs) × AllByRecursion Ok xs × AllSpelled rest
+  list_keeps : (ts rest : List Tok) (xs : List X) → Listed P ts xs rest → AllSpelled ts
+      → (0 < length xs) × AllByRecursion Ok xs × AllSpelled rest
   list_keeps ts rest xs (listed p others) all =
       let h = keeps ts _ _ p all in
       let g = many_keep (Behind kind.Comma P) Ok (behind_keeps P Ok keeps kind.Comma) _ rest _ others h.1 in
@@ -101,7 +111,9 @@ simple_keeps ts rest x (is_assign xs t rs end) all =
     ((h.0, h.1, g.0, g.1), taken _ rest end g.2)
 simple_keeps ts rest x (is_call p es end) all =
     let h = name_keeps ts _ _ p all in
-    let g = parens_keep (Perhaps IsExpression) (AllByRecursion ExpressionInGrammar) (perhaps_keeps IsExpression ExpressionInGrammar (reads_keep 0)) _ _ _ es h.1 in
+    let g =
+    parens_keep (Perhaps IsExpression) (AllByRecursion ExpressionInGrammar)
+    (perhaps_keeps IsExpression ExpressionInGrammar (reads_keep 0)) _ _ _ es h.1 in
     ((h.0, g.0), taken _ rest end g.1)
 
 mark_keeps : Keeps IsMarked (λ m. LabelInGrammar m.label)
@@ -138,10 +150,12 @@ all_joined [] all = tt
 all_joined (xs ∷ xss) all = all_together xs (joined xss) all.0 (all_joined xss all.1)
 
 declaration_keeps : Keeps IsDeclaration AreIds
-declaration_keeps ts rest x (is_declaration t ns end) all = let h = list_keeps IsName IsId name_keeps _ _ _ ns (taken ts _ t all) in (h.1, taken _ rest end h.2)
+declaration_keeps ts rest x (is_declaration t ns end) all = let h = list_keeps IsName IsId name_keeps _ _ _ ns (taken ts _ t all) in
+    (h.1, taken _ rest end h.2)
 
 declarations_keep : Keeps Declarations AreIds
-declarations_keep ts rest x (declarations many) all = let h = many_keep IsDeclaration AreIds declaration_keeps ts rest _ many all in (all_joined _ h.0, h.1)
+declarations_keep ts rest x (declarations many) all = let h = many_keep IsDeclaration AreIds declaration_keeps ts rest _ many all in
+    (all_joined _ h.0, h.1)
 
 procedure_keeps : Keeps IsProcedure ProcedureInGrammar
 procedure_keeps ts rest x (is_procedure n formals begin locals body some end) all =

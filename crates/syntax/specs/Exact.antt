@@ -1,6 +1,7 @@
 -- The grammar once more, as functions.
 use Rattle.std.specs.Prelude.{ℕ, Bool, true, false, nat_le, ◌&&◌, ◌||◌, List, [], ◌∷◌, ◌++◌, cond, Option, Some, None, option_and_then}
-use Rattle.language.specs.Tree.{Name, Operator, Expression, const, var, negation, two, RightSide, any, value, skip, assign, assert, assume, goto, leave, call, Mark, Block, done, Procedure, ThreadLine, Tree}
+use Rattle.language.specs.Tree.{Name, Operator, Expression, const, var, negation, two, RightSide, any, value, skip, assign, assert, assume}
+use Rattle.language.specs.Tree.{goto, leave, call, Mark, Block, done, Procedure, ThreadLine, Tree}
 use Rattle.tokens.specs.declared.vocabulary.Kind.{Kind}
 use Rattle.tokens.specs.declared.vocabulary.Kind.TheVariants as kind
 use Rattle.tokens.specs.Token.{Tok, same_kind}
@@ -28,7 +29,8 @@ operand_step rec t =
     refuse))))
 
 -- the operator comes next, and then its right side
-abbrev pub go_on : (Goal → Parser (Expression Name)) → ℕ → Expression Name → Tok → List Tok → Option Operator → Option (Expression Name × List Tok)
+abbrev pub go_on : (Goal → Parser (Expression Name)) → ℕ → Expression Name → Tok → List Tok → Option Operator
+    → Option (Expression Name × List Tok)
 go_on rec l a t ts None = Some (a, t ∷ ts)
 go_on rec l a t ts (Some o) = (rec (from (right_level o)) >>= λ b. rec (after l (two o a b))) ts
 
@@ -131,7 +133,9 @@ named t ts = cond (begins kind.Open ts) (calling (t ∷ ts)) (assignment (t ∷ 
 
 -- an `if`, behind that word
 abbrev pub branching : Parser (Block Name Name Name) → Parser Deed
-branching block = condition >>= λ r. take kind.Then >>= λ _. block >>= λ a. take kind.Else >>= λ _. block >>= λ b. take kind.Fi >>= λ _. give (branch r a b)
+branching block =
+    condition >>= λ r. take kind.Then >>= λ _. block >>= λ a. take kind.Else >>= λ _. block >>= λ b. take kind.Fi >>= λ _.
+    give (branch r a b)
 
 -- a `while`, behind that word
 abbrev pub repeating : Parser (Block Name Name Name) → Parser Deed
@@ -169,7 +173,9 @@ deed_step block (t ∷ ts) = deed_by block t ts
 
 -- whether a token of this kind begins a statement
 abbrev pub starts : Kind → Bool
-starts k = same_kind k kind.Skip || same_kind k kind.Return || same_kind k kind.Goto || same_kind k kind.Assert || same_kind k kind.Assume || same_kind k kind.If || same_kind k kind.While || same_kind k kind.Id
+starts k =
+    same_kind k kind.Skip || same_kind k kind.Return || same_kind k kind.Goto || same_kind k kind.Assert || same_kind k kind.Assume
+    || same_kind k kind.If || same_kind k kind.While || same_kind k kind.Id
 
 -- whether a statement comes next
 abbrev pub starts_here : List Tok → Bool
@@ -245,7 +251,8 @@ thread_lines = repeated any_left thread_line
 
 -- a program, and the tokens after it, which are none
 unfoldable pub program : Parser Tree
-program = all_declarations >>= λ gs. procedures >>= λ ps. thread_lines >>= λ ls. give (record { globals = gs; procedures = ps; threads = ls })
+program =
+    all_declarations >>= λ gs. procedures >>= λ ps. thread_lines >>= λ ls. give (record { globals = gs; procedures = ps; threads = ls })
 
 -- a list, with others in front
 abbrev pub prepend : {X : Type 0} → List X → Option (List X × List Tok) → Option (List X × List Tok)

@@ -1,6 +1,8 @@
 -- The grammar, as relations between token lists, trees and the tokens after them.
 use Rattle.std.specs.Prelude.{◌≡◌, ℕ, suc, ◌≤◌, true, false, List, [], ◌∷◌, ◌++◌, Option, Some, None}
-use Rattle.language.specs.Tree.{Name, Procedure, ThreadLine, Tree, Operator, implies, or, xor, and, equal, differs, Expression, const, var, negation, two, RightSide, any, value, Simple, skip, assign, assert, assume, goto, leave, call, Mark, Block, done, one, choose, loop}
+use Rattle.language.specs.Tree.{Name, Procedure, ThreadLine, Tree, Operator, implies, or, xor, and, equal, differs, Expression, const, var}
+use Rattle.language.specs.Tree.{negation, two, RightSide, any, value, Simple, skip, assign, assert, assume, goto, leave, call, Mark, Block}
+use Rattle.language.specs.Tree.{done, one, choose, loop}
 use Rattle.tokens.specs.declared.vocabulary.Kind.{Kind}
 use Rattle.tokens.specs.declared.vocabulary.Kind.TheVariants as kind
 use Rattle.tokens.specs.Token.{Tok}
@@ -49,9 +51,12 @@ pub data Reads : ℕ → List Tok → Expression Name → List Tok → Type 0 wh
   reads_zero : {l : ℕ} {t : Tok} {rest : List Tok} → t.kind ≡ kind.Zero → Reads l (t ∷ rest) (const false) rest
   reads_one : {l : ℕ} {t : Tok} {rest : List Tok} → t.kind ≡ kind.One → Reads l (t ∷ rest) (const true) rest
   reads_name : {l : ℕ} {t : Tok} {rest : List Tok} → t.kind ≡ kind.Id → Reads l (t ∷ rest) (var (name_at t)) rest
-  reads_not : {l : ℕ} {t : Tok} {ts rest : List Tok} {e : Expression Name} → t.kind ≡ kind.Not → Reads 5 ts e rest → Reads l (t ∷ ts) (negation e) rest
-  reads_paren : {l : ℕ} {t : Tok} {ts us rest : List Tok} {e : Expression Name} → t.kind ≡ kind.Open → Reads 0 ts e us → Takes kind.Close us rest → Reads l (t ∷ ts) e rest
-  reads_two : {l : ℕ} {t : Tok} {ts us rest : List Tok} {a b : Expression Name} (o : Operator) → l ≤ level o → Reads (left_level o) ts a (t ∷ us) → operator_at t.kind ≡ Some o → Reads (right_level o) us b rest → Reads l ts (two o a b) rest
+  reads_not : {l : ℕ} {t : Tok} {ts rest : List Tok} {e : Expression Name} → t.kind ≡ kind.Not → Reads 5 ts e rest
+      → Reads l (t ∷ ts) (negation e) rest
+  reads_paren : {l : ℕ} {t : Tok} {ts us rest : List Tok} {e : Expression Name} → t.kind ≡ kind.Open → Reads 0 ts e us
+      → Takes kind.Close us rest → Reads l (t ∷ ts) e rest
+  reads_two : {l : ℕ} {t : Tok} {ts us rest : List Tok} {a b : Expression Name} (o : Operator) → l ≤ level o
+      → Reads (left_level o) ts a (t ∷ us) → operator_at t.kind ≡ Some o → Reads (right_level o) us b rest → Reads l ts (two o a b) rest
 
 -- A name comes first.
 pub data IsName : List Tok → Name → List Tok → Type 0 where
@@ -95,18 +100,24 @@ pub data IsRight : List Tok → RightSide Name → List Tok → Type 0 where
 -- A statement begins with its label and a colon, or has none; its offset is that of its first token.
 pub data IsMarked : List Tok → Mark Name → List Tok → Type 0 where
   bare : {t : Tok} {ts : List Tok} → IsMarked (t ∷ ts) (record { label = None; at = t.at }) (t ∷ ts)
-  labelled : {t : Tok} {ts rest : List Tok} → t.kind ≡ kind.Id → Takes kind.Colon ts rest → IsMarked (t ∷ ts) (record { label = Some (name_at t); at = t.at }) rest
+  labelled : {t : Tok} {ts rest : List Tok} → t.kind ≡ kind.Id → Takes kind.Colon ts rest
+      → IsMarked (t ∷ ts) (record { label = Some (name_at t); at = t.at }) rest
 
 -- The statements that hold no others: skip; return; goto and a label; assert and assume with a right side in
 -- parentheses; an assignment of as many right sides as there are to as many targets as there are; a call.
 pub data IsSimple : List Tok → Simple Name Name Name → List Tok → Type 0 where
   is_skip : {ts us rest : List Tok} → Takes kind.Skip ts us → Takes kind.Semicolon us rest → IsSimple ts skip rest
   is_return : {ts us rest : List Tok} → Takes kind.Return ts us → Takes kind.Semicolon us rest → IsSimple ts leave rest
-  is_goto : {ts us vs rest : List Tok} {l : Name} → Takes kind.Goto ts us → IsName us l vs → Takes kind.Semicolon vs rest → IsSimple ts (goto l) rest
-  is_assert : {ts us vs rest : List Tok} {r : RightSide Name} → Takes kind.Assert ts us → InParens IsRight us r vs → Takes kind.Semicolon vs rest → IsSimple ts (assert r) rest
-  is_assume : {ts us vs rest : List Tok} {r : RightSide Name} → Takes kind.Assume ts us → InParens IsRight us r vs → Takes kind.Semicolon vs rest → IsSimple ts (assume r) rest
-  is_assign : {ts us vs ws rest : List Tok} {xs : List Name} {rs : List (RightSide Name)} → Listed IsName ts xs us → Takes kind.Assign us vs → Listed IsRight vs rs ws → Takes kind.Semicolon ws rest → IsSimple ts (assign xs rs) rest
-  is_call : {ts us vs rest : List Tok} {p : Name} {es : List (Expression Name)} → IsName ts p us → InParens (Perhaps IsExpression) us es vs → Takes kind.Semicolon vs rest → IsSimple ts (call p es) rest
+  is_goto : {ts us vs rest : List Tok} {l : Name} → Takes kind.Goto ts us → IsName us l vs → Takes kind.Semicolon vs rest
+      → IsSimple ts (goto l) rest
+  is_assert : {ts us vs rest : List Tok} {r : RightSide Name} → Takes kind.Assert ts us → InParens IsRight us r vs
+      → Takes kind.Semicolon vs rest → IsSimple ts (assert r) rest
+  is_assume : {ts us vs rest : List Tok} {r : RightSide Name} → Takes kind.Assume ts us → InParens IsRight us r vs
+      → Takes kind.Semicolon vs rest → IsSimple ts (assume r) rest
+  is_assign : {ts us vs ws rest : List Tok} {xs : List Name} {rs : List (RightSide Name)} → Listed IsName ts xs us
+      → Takes kind.Assign us vs → Listed IsRight vs rs ws → Takes kind.Semicolon ws rest → IsSimple ts (assign xs rs) rest
+  is_call : {ts us vs rest : List Tok} {p : Name} {es : List (Expression Name)} → IsName ts p us → InParens (Perhaps IsExpression) us es vs
+      → Takes kind.Semicolon vs rest → IsSimple ts (call p es) rest
 
 -- There is a statement.
 abbrev pub IsSome : Block Name Name Name → Type 0
@@ -123,7 +134,8 @@ pub data Statements : List Tok → Block Name Name Name → List Tok → Type 0 
       IsMarked ts m us → IsSimple us s vs → Statements vs k rest → Statements ts (one m s k) rest
   if_statement : {ts t1 t2 t3 t4 t5 t6 t7 t8 rest : List Tok} {m : Mark Name} {r : RightSide Name} {a b k : Block Name Name Name} →
       IsMarked ts m t1 → Takes kind.If t1 t2 → InParens IsRight t2 r t3 → Takes kind.Then t3 t4 → Statements t4 a t5 → IsSome a →
-      Takes kind.Else t5 t6 → Statements t6 b t7 → IsSome b → Takes kind.Fi t7 t8 → Statements t8 k rest → Statements ts (choose m r a b k) rest
+      Takes kind.Else t5 t6 → Statements t6 b t7 → IsSome b → Takes kind.Fi t7 t8 → Statements t8 k rest
+      → Statements ts (choose m r a b k) rest
   while_statement : {ts t1 t2 t3 t4 t5 t6 rest : List Tok} {m : Mark Name} {r : RightSide Name} {a k : Block Name Name Name} →
       IsMarked ts m t1 → Takes kind.While t1 t2 → InParens IsRight t2 r t3 → Takes kind.Do t3 t4 → Statements t4 a t5 → IsSome a →
       Takes kind.Od t5 t6 → Statements t6 k rest → Statements ts (loop m r a k) rest
@@ -135,7 +147,8 @@ joined (xs ∷ xss) = xs ++ joined xss
 
 -- A declaration is decl, a list of names, and a semicolon.
 pub data IsDeclaration : List Tok → List Name → List Tok → Type 0 where
-  is_declaration : {ts us vs rest : List Tok} {ns : List Name} → Takes kind.Decl ts us → Listed IsName us ns vs → Takes kind.Semicolon vs rest → IsDeclaration ts ns rest
+  is_declaration : {ts us vs rest : List Tok} {ns : List Name} → Takes kind.Decl ts us → Listed IsName us ns vs
+      → Takes kind.Semicolon vs rest → IsDeclaration ts ns rest
 
 -- Several declarations of one place give one list of names, in order.
 pub data Declarations : List Tok → List Name → List Tok → Type 0 where
@@ -144,12 +157,14 @@ pub data Declarations : List Tok → List Name → List Tok → Type 0 where
 -- A procedure is its name, its formals in parentheses, begin, its locals, at least one statement, and end.
 pub data IsProcedure : List Tok → Procedure → List Tok → Type 0 where
   is_procedure : {ts us vs ws xs ys rest : List Tok} {n : Name} {formals locals : List Name} {body : Block Name Name Name} →
-      IsName ts n us → InParens (Perhaps IsName) us formals vs → Takes kind.Begin vs ws → Declarations ws locals xs → Statements xs body ys → IsSome body → Takes kind.End ys rest →
+      IsName ts n us → InParens (Perhaps IsName) us formals vs → Takes kind.Begin vs ws → Declarations ws locals xs → Statements xs body ys
+      → IsSome body → Takes kind.End ys rest →
       IsProcedure ts (record { name = n; formals = formals; locals = locals; body = body }) rest
 
 -- A thread line is thread, the name of a procedure, and a semicolon; its offset is that of its first token.
 pub data IsThread : List Tok → ThreadLine → List Tok → Type 0 where
-  is_thread : {t : Tok} {us vs rest : List Tok} {n : Name} → t.kind ≡ kind.Thread → IsName us n vs → Takes kind.Semicolon vs rest → IsThread (t ∷ us) (record { at = t.at; name = n }) rest
+  is_thread : {t : Tok} {us vs rest : List Tok} {n : Name} → t.kind ≡ kind.Thread → IsName us n vs → Takes kind.Semicolon vs rest
+      → IsThread (t ∷ us) (record { at = t.at; name = n }) rest
 
 -- A program is its declarations, one procedure or more, and one thread line or more.
 pub data IsProgram : List Tok → Tree → Type 0 where

@@ -1,7 +1,8 @@
 -- The trees of the grammar.
 use Rattle.std.specs.Prelude.{ℕ, ◌<◌, ◌≤◌, List, length, Option, Some, None}
 use Rattle.std.specs.List.{AllByRecursion}
-use Rattle.language.specs.Tree.{Name, Expression, const, var, negation, two, RightSide, any, value, Simple, skip, assign, assert, assume, goto, leave, call, Block, done, one, choose, loop, Procedure, ThreadLine, Tree}
+use Rattle.language.specs.Tree.{Name, Expression, const, var, negation, two, RightSide, any, value, Simple, skip, assign, assert, assume}
+use Rattle.language.specs.Tree.{goto, leave, call, Block, done, one, choose, loop, Procedure, ThreadLine, Tree}
 use Rattle.tokens.specs.Limits.{most_bytes}
 use Rattle.tokens.specs.Spelling.{IsName}
 use Rattle.syntax.specs.Grammar.{IsSome}
@@ -48,7 +49,8 @@ LabelInGrammar (Some l) = IsId l
 abbrev pub BlockInGrammar : Block Name Name Name → Type 0
 BlockInGrammar done = Unit {0}
 BlockInGrammar (one m s k) = LabelInGrammar m.label × SimpleInGrammar s × BlockInGrammar k
-BlockInGrammar (choose m r a b k) = LabelInGrammar m.label × SideInGrammar r × IsSome a × BlockInGrammar a × IsSome b × BlockInGrammar b × BlockInGrammar k
+BlockInGrammar (choose m r a b k) = LabelInGrammar m.label × SideInGrammar r × IsSome a × BlockInGrammar a × IsSome b × BlockInGrammar b
+    × BlockInGrammar k
 BlockInGrammar (loop m r a k) = LabelInGrammar m.label × SideInGrammar r × IsSome a × BlockInGrammar a × BlockInGrammar k
 
 -- The names of a procedure are ids, and its body has a statement at least.

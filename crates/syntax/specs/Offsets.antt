@@ -1,6 +1,7 @@
 -- Trees without their offsets.
 use Rattle.std.specs.Prelude.{◌≡◌, map, option_map}
-use Rattle.language.specs.Tree.{Name, Expression, const, var, negation, two, RightSide, any, value, Simple, skip, assign, assert, assume, goto, leave, call, Mark, Block, done, one, choose, loop, Procedure, ThreadLine, Tree}
+use Rattle.language.specs.Tree.{Name, Expression, const, var, negation, two, RightSide, any, value, Simple, skip, assign, assert, assume}
+use Rattle.language.specs.Tree.{goto, leave, call, Mark, Block, done, one, choose, loop, Procedure, ThreadLine, Tree}
 
 -- the name, at offset 0
 abbrev pub unplaced : Name → Name
@@ -41,7 +42,12 @@ unplaced_block (loop m r a k) = loop (unplaced_mark m) (unplaced_side r) (unplac
 
 -- the procedure
 abbrev pub unplaced_procedure : Procedure → Procedure
-unplaced_procedure p = record { name = unplaced p.name; formals = map unplaced p.formals; locals = map unplaced p.locals; body = unplaced_block p.body }
+unplaced_procedure p = record {
+  name = unplaced p.name;
+  formals = map unplaced p.formals;
+  locals = map unplaced p.locals;
+  body = unplaced_block p.body;
+}
 
 -- the thread line
 abbrev pub unplaced_thread : ThreadLine → ThreadLine
@@ -49,7 +55,11 @@ unplaced_thread t = record { at = 0; name = unplaced t.name }
 
 -- The tree with every offset 0.
 abbrev pub unplaced_tree : Tree → Tree
-unplaced_tree t = record { globals = map unplaced t.globals; procedures = map unplaced_procedure t.procedures; threads = map unplaced_thread t.threads }
+unplaced_tree t = record {
+  globals = map unplaced t.globals;
+  procedures = map unplaced_procedure t.procedures;
+  threads = map unplaced_thread t.threads;
+}
 
 -- The two trees are the same, offsets aside.
 abbrev pub SameButOffsets : Tree → Tree → Type 0

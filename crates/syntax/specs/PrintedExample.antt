@@ -21,7 +21,9 @@ jumping = record {
         locals = named (codes "l") ∷ [];
         body =
             loop (record { label = Some (named (codes "L")); at = 0 }) any
-            (one unmarked (assign (named (codes "x") ∷ named (codes "l") ∷ []) (value (two equal (var (named (codes "v"))) (negation (var (named (codes "l"))))) ∷ any ∷ [])) done)
+            (one unmarked
+            (assign (named (codes "x") ∷ named (codes "l") ∷ [])
+            (value (two equal (var (named (codes "v"))) (negation (var (named (codes "l"))))) ∷ any ∷ [])) done)
             (one unmarked (goto (named (codes "L"))) done);
       }) ∷ [];
   threads = (record { at = 0; name = named (codes "p") }) ∷ [];

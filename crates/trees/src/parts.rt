@@ -82,8 +82,8 @@ impl<A: Allocator> Core<A> {
         }
     }
 
-    /// The two lists of statements that it holds, in the order of the text: the branches of an `if`, the body of a `while` and
-    /// nothing, and nothing twice where it holds none.
+    /// The two lists of statements that it holds, in the order of the text: the branches of an `if`, or the body of a
+    /// `while` and an empty one; both are empty where it holds none.
     pub fn inside(&self) -> (&[Stmt<A>], &[Stmt<A>])
         ensures first { block_of result.0.now ≡ first_inside (deed_of self.now) }
         ensures second { block_of result.1.now ≡ second_inside (deed_of self.now) }

@@ -23,8 +23,10 @@ loop-write-preserved g c =
     let step = anys_step c.args.writes.now c.loop-write.write-index c.write-item.result c.loop-write-test.true c.write-item.is in
     let n = c.loop-write.invariant.0 in
     elim c.match-write.branch [
-      | in-Any w ↦ let one = ap any_of w.in-Any.is in (suc n, omega (arith, w.last-is, c.loop-write.invariant.1, pow-suc 2 n), omega (arith, c.loop-write.invariant.2, step, one))
-      | in-Value w ↦ let zero = ap any_of w.in-Value.is in (n, omega (arith, w.last-is, c.loop-write.invariant.1), omega (arith, c.loop-write.invariant.2, step, zero))
+      | in-Any w ↦ let one = ap any_of w.in-Any.is in
+          (suc n, omega (arith, w.last-is, c.loop-write.invariant.1, pow-suc 2 n), omega (arith, c.loop-write.invariant.2, step, one))
+      | in-Value w ↦ let zero = ap any_of w.in-Value.is in
+          (n, omega (arith, w.last-is, c.loop-write.invariant.1), omega (arith, c.loop-write.invariant.2, step, zero))
     ]
 
 pub loop-write-init : goal.loop-write-init

@@ -39,7 +39,8 @@ returns g c =
       c.begin.ensures s done refl ∙ ap point_at
           (join_done (numbered 1 (resolve_block s (block_of c.as_slice-body.result.now)))) ∙
           ap (λ l. point_at (numbered 1 (resolve_block s (block_of l)))) body,
-      drawn_flows _ _ _ _ _ _ _ _ _ _ old c.block.new.flows.items c.as_slice.ensures.value c.as_slice-2.ensures.value c.as_slice-3.ensures.value c.as_slice-4.ensures.value body start
+      drawn_flows _ _ _ _ _ _ _ _ _ _ old c.block.new.flows.items c.as_slice.ensures.value c.as_slice-2.ensures.value
+          c.as_slice-3.ensures.value c.as_slice-4.ensures.value body start
           (lowered.1 done refl (omega (arith, lowered.0, small, one), omega (arith, lowered.0, small, one))),
     )
 

@@ -19,7 +19,8 @@ graph-requires g c =
     let same = c.program-program.ensures in
     let proc = c.proc-item.result in
     let is = slice_get_read c.deref-proc-items.result.now _ c.loop-proc.proc-index proc refl c.loop-proc-test.true c.proc-item.is in
-    has_room t c.loop-proc.proc-index proc (subst (λ z. AllNarrow (tree_of z)) (sym same) c.args.sequential.now.narrow) (ap (λ l. slice_get l c.loop-proc.proc-index) (sym items) ∙ is)
+    has_room t c.loop-proc.proc-index proc (subst (λ z. AllNarrow (tree_of z)) (sym same) c.args.sequential.now.narrow)
+    (ap (λ l. slice_get l c.loop-proc.proc-index) (sym items) ∙ is)
     (omega (arith, ap (λ z. length z.procs.items) same, c.args.sequential.now.few))
 
 pub loop-proc-preserved : goal.loop-proc-preserved
@@ -41,9 +42,18 @@ returns-clause-graphs g c =
     let same = c.program-program.ensures in
     let items = c.deref-proc-items.ensures.value in
     let graphs = c.loop-proc.graphs.items in
-    let all = subst (λ z. AllDrawn z program.procs.items graphs) same (subst (λ l. AllDrawn t l graphs) (items ∙ ap (λ z. z.procs.items) same) c.loop-proc.invariant.1) in
+    let all =
+    subst (λ z. AllDrawn z program.procs.items graphs) same
+    (subst (λ l. AllDrawn t l graphs) (items ∙ ap (λ z. z.procs.items) same) c.loop-proc.invariant.1) in
     let end : length graphs ≡ length program.procs.items =
-    omega (arith, c.loop-proc.invariant.0, c.loop-proc-test.false, c.loop-proc.auto.proc-index-end, ap length items, ap (λ z. length z.procs.items) same) in (
+    omega (
+      arith,
+      c.loop-proc.invariant.0,
+      c.loop-proc-test.false,
+      c.loop-proc.auto.proc-index-end,
+      ap length items,
+      ap (λ z. length z.procs.items) same,
+    ) in (
       resolving_fit (tree_of program) c.args.sequential.now.resolves,
       ordered (meaning_of (tree_of program)),
       (

@@ -12,7 +12,8 @@ abbrev pub invariant-find-loop-stmt : goal.invariant-find-loop-stmt
 invariant-find-loop-stmt g l =
     (s : Scope) (k : Code) → l.first + statements (block_of l.stmts) ≤ 18446744073709551615 →
     (l.at + statements (block_of (drop l.stmt-index l.stmts)) ≡ l.first + statements (block_of l.stmts))
-    × (place l.label (numbered l.first (resolve_block s (block_of l.stmts))) k ≡ place l.label (numbered l.at (resolve_block s (block_of (drop l.stmt-index l.stmts)))) k)
+    × (place l.label (numbered l.first (resolve_block s (block_of l.stmts))) k
+    ≡ place l.label (numbered l.at (resolve_block s (block_of (drop l.stmt-index l.stmts)))) k)
 
 abbrev pub decreases-find : goal.decreases-find
 decreases-find g l = 2 * statements (block_of l.stmts.now) + 1

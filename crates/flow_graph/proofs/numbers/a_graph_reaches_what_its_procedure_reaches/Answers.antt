@@ -7,4 +7,5 @@ use Rattle.flow_graph.proofs.numbers.a_graph_reaches_what_its_procedure_reaches.
 
 pub returns : goal.returns
 returns g c = λ p q graph ms fit is right a n v.
-    reaches_numbers p q graph is (λ m. Member m ms) (λ k. Member k (map by_numbers ms)) right (member_map by_numbers ms) fit (map_member by_numbers ms) a n v
+    reaches_numbers p q graph is (λ m. Member m ms) (λ k. Member k (map by_numbers ms)) right (member_map by_numbers ms) fit
+    (map_member by_numbers ms) a n v

@@ -7,4 +7,5 @@ use Rattle.flow_graph.proofs.numbers.a_graph_sends_what_its_procedure_owes.Goals
 
 pub returns : goal.returns
 returns g c = λ p q graph ms fit order is right s k.
-    sends_numbers p q graph is (λ m. Member m ms) (λ k. Member k (map by_numbers ms)) right (member_map by_numbers ms) fit (map_member by_numbers ms) order s k
+    sends_numbers p q graph is (λ m. Member m ms) (λ k. Member k (map by_numbers ms)) right (member_map by_numbers ms) fit
+    (map_member by_numbers ms) order s k

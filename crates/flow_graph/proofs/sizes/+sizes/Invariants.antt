@@ -7,7 +7,8 @@ use Rattle.flow_graph.proofs.sizes.+sizes.Given as goal
 
 abbrev pub invariant-size-loop-stmt : goal.invariant-size-loop-stmt
 invariant-size-loop-stmt g l =
-    statements (block_of l.stmts) ≤ 18446744073709551615 → l.number + statements (block_of (drop l.stmt-index l.stmts)) ≡ statements (block_of l.stmts)
+    statements (block_of l.stmts) ≤ 18446744073709551615
+    → l.number + statements (block_of (drop l.stmt-index l.stmts)) ≡ statements (block_of l.stmts)
 
 abbrev pub decreases-size : goal.decreases-size
 decreases-size g l = 2 * statements (block_of l.stmts.now) + 1

@@ -7,7 +7,8 @@ use Rattle.flow_graph.proofs.table.read.Goals as goal
 
 pub returns-then-slot-len-clause-outputs : goal.returns-then-slot-len-clause-outputs
 returns-then-slot-len-clause-outputs c =
-    let at : slot c.args.bit c.args.inputs.now.items ≡ c.slot_of-slot.result = sym (c.slot_of-slot.ensures ∙ ap (slot c.args.bit) c.as_slice.ensures.value) in
+    let at : slot c.args.bit c.args.inputs.now.items ≡ c.slot_of-slot.result =
+    sym (c.slot_of-slot.ensures ∙ ap (slot c.args.bit) c.as_slice.ensures.value) in
     reads_slot c.args.bit c.slot_of-slot.result c.outputs_of_slot.result c.args.inputs.now.items at
     (slot_inside c.args.bit c.args.inputs.now.items (omega (arith, at, c.if-slot-len.true, c.len.ensures.value)))
     c.outputs_of_slot.ensures

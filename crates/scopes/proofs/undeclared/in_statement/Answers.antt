@@ -3,8 +3,8 @@ use Rattle.trees.specs.Trees.{name_of, expr_of, exprs_of, rhs_of, rhss_of, deed_
 use Rattle.trees.specs.Parts.{head_of}
 use Rattle.language.specs.Tree.{Name}
 use Rattle.language.specs.Parts.{targets_of, sides_of, test_of, arguments_of}
-use Rattle.resolved.specs.Statements.{lent, used_by, variables_of, variables_of_all, variables_of_side, variables_of_sides}
-use Rattle.resolved.specs.Statements.{variables_of_test}
+use Rattle.resolved.specs.Statements.{lent, used_by, variables_of, variables_of_all, variables_of_side}
+use Rattle.resolved.specs.Statements.{variables_of_sides, variables_of_test}
 use Rattle.scopes.proofs.Heads.{head_is}
 use Rattle.scopes.proofs.Earliest.{as_found, found_in, flat}
 use Rattle.scopes.proofs.Found.{moved, in_both_of}

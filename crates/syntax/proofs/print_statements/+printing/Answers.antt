@@ -10,53 +10,70 @@ use Rattle.syntax.proofs.print_statements.+printing.Goals as goal
 
 pub print_block-print_core-requires : goal.print_block-print_core-requires
 print_block-print_core-requires g t c κs within =
-    let less : held (deed_of c.stmt-item.result.core) + 1 ≤ statements (block_of c.args.stmts.now) = smaller c.args.stmts.now c.loop-stmt.stmt-index c.stmt-item.result c.loop-stmt-test.true c.stmt-item.is in
+    let less : held (deed_of c.stmt-item.result.core) + 1 ≤ statements (block_of c.args.stmts.now) =
+    smaller c.args.stmts.now c.loop-stmt.stmt-index c.stmt-item.result c.loop-stmt-test.true c.stmt-item.is in
     let falls : 3 * held (deed_of c.stmt-item.result.core) + 2 < 3 * statements (block_of c.args.stmts.now) = omega arith in
     (rw (← c.decreases) falls, within)
 
 pub print_block-loop-stmt-preserved : goal.print_block-loop-stmt-preserved
 print_block-loop-stmt-preserved g t c =
-    one_printed c.args.level c.args.stmts.now c.loop-stmt.stmt-index c.stmt-item.result (string_bytes c.loop-stmt.out) (string_bytes c.print_margin.new.out) (string_bytes c.print_label.new.out) (string_bytes c.print_core.new.out) _
-    c.loop-stmt-test.true c.stmt-item.is c.loop-stmt.invariant c.in_ok-print_margin.ensures c.in_ok-print_label.ensures c.in_ok-print_core.ensures
+    one_printed c.args.level c.args.stmts.now c.loop-stmt.stmt-index c.stmt-item.result (string_bytes c.loop-stmt.out)
+    (string_bytes c.print_margin.new.out) (string_bytes c.print_label.new.out) (string_bytes c.print_core.new.out) _
+    c.loop-stmt-test.true c.stmt-item.is c.loop-stmt.invariant c.in_ok-print_margin.ensures c.in_ok-print_label.ensures
+    c.in_ok-print_core.ensures
 
 pub print_block-returns : goal.print_block-returns
-print_block-returns g t c = none_left c.args.level c.args.stmts.now c.loop-stmt.stmt-index (string_bytes c.loop-stmt.out) _ c.loop-stmt-test.false c.loop-stmt.invariant
+print_block-returns g t c =
+    none_left c.args.level c.args.stmts.now c.loop-stmt.stmt-index
+    (string_bytes c.loop-stmt.out) _ c.loop-stmt-test.false c.loop-stmt.invariant
 
 pub print_core-returns-in-Assign : goal.print_core-returns-in-Assign
 print_core-returns-in-Assign g t c =
-    assigned c.args.level c.print_assignment.result c.args.core.now (string_bytes c.args.out.now) (string_bytes c.print_assignment.new.out) c.in-Assign.targets c.in-Assign.sides c.deref.result.now c.deref-in-Assign.result.now
+    assigned c.args.level c.print_assignment.result c.args.core.now (string_bytes c.args.out.now)
+    (string_bytes c.print_assignment.new.out) c.in-Assign.targets c.in-Assign.sides c.deref.result.now c.deref-in-Assign.result.now
     c.in-Assign.is c.deref.ensures.value c.deref-in-Assign.ensures.value c.print_assignment.ensures
 
 pub print_core-returns-in-Call : goal.print_core-returns-in-Call
 print_core-returns-in-Call g t c =
-    called c.args.level c.print_call.result c.args.core.now (string_bytes c.args.out.now) (string_bytes c.print_call.new.out) c.in-Call.name c.in-Call.arguments c.deref-in-Call.result.now
+    called c.args.level c.print_call.result c.args.core.now (string_bytes c.args.out.now)
+    (string_bytes c.print_call.new.out) c.in-Call.name c.in-Call.arguments c.deref-in-Call.result.now
     c.in-Call.is c.deref-in-Call.ensures.value c.print_call.ensures
 
 pub print_core-returns-in-Assert : goal.print_core-returns-in-Assert
-print_core-returns-in-Assert g t c = asserted c.args.level c.print_test.result c.args.core.now (string_bytes c.args.out.now) (string_bytes c.print_test.new.out) c.in-Assert.side c.in-Assert.is c.print_test.ensures
+print_core-returns-in-Assert g t c =
+    asserted c.args.level c.print_test.result c.args.core.now (string_bytes c.args.out.now)
+    (string_bytes c.print_test.new.out) c.in-Assert.side c.in-Assert.is c.print_test.ensures
 
 pub print_core-returns-in-Assume : goal.print_core-returns-in-Assume
-print_core-returns-in-Assume g t c = assumed c.args.level c.print_test-in-Assume.result c.args.core.now (string_bytes c.args.out.now) (string_bytes c.print_test-in-Assume.new.out) c.in-Assume.side c.in-Assume.is c.print_test-in-Assume.ensures
+print_core-returns-in-Assume g t c =
+    assumed c.args.level c.print_test-in-Assume.result c.args.core.now (string_bytes c.args.out.now)
+    (string_bytes c.print_test-in-Assume.new.out) c.in-Assume.side c.in-Assume.is c.print_test-in-Assume.ensures
 
 pub print_core-returns-in-If : goal.print_core-returns-in-If
 print_core-returns-in-If g t c =
-    branched c.args.level c.print_branch.result c.args.core.now (string_bytes c.args.out.now) (string_bytes c.print_branch.new.out) c.in-If.side c.in-If.then c.in-If.otherwise c.deref-in-If.result.now c.deref-in-If-2.result.now
+    branched c.args.level c.print_branch.result c.args.core.now (string_bytes c.args.out.now)
+    (string_bytes c.print_branch.new.out) c.in-If.side c.in-If.then c.in-If.otherwise c.deref-in-If.result.now
+    c.deref-in-If-2.result.now
     c.in-If.is c.deref-in-If.ensures.value c.deref-in-If-2.ensures.value c.print_branch.ensures
 
 pub print_core-returns-in-While : goal.print_core-returns-in-While
 print_core-returns-in-While g t c =
-    repeated c.args.level c.print_loop.result c.args.core.now (string_bytes c.args.out.now) (string_bytes c.print_loop.new.out) c.in-While.side c.in-While.body c.deref-in-While.result.now
+    repeated c.args.level c.print_loop.result c.args.core.now (string_bytes c.args.out.now)
+    (string_bytes c.print_loop.new.out) c.in-While.side c.in-While.body c.deref-in-While.result.now
     c.in-While.is c.deref-in-While.ensures.value c.print_loop.ensures
 
 pub print_branch-returns : goal.print_branch-returns
 print_branch-returns g t c =
-    branch_pushed c.args.level c.in_ok-inner.inner c.print_line-2.result (string_bytes c.args.out.now) (string_bytes c.print_line-2.new.out) c.args.side.now c.args.then.now c.in_ok-inner.ensures c.args.otherwise.now
-    (string_bytes c.print_test.new.out) (string_bytes c.print_block.new.out) (string_bytes c.print_line.new.out) (string_bytes c.print_block-2.new.out)
+    branch_pushed c.args.level c.in_ok-inner.inner c.print_line-2.result (string_bytes c.args.out.now)
+    (string_bytes c.print_line-2.new.out) c.args.side.now c.args.then.now c.in_ok-inner.ensures c.args.otherwise.now
+    (string_bytes c.print_test.new.out) (string_bytes c.print_block.new.out) (string_bytes c.print_line.new.out)
+    (string_bytes c.print_block-2.new.out)
     c.in_ok-print_test.ensures c.in_ok-print_block.ensures c.in_ok-print_line.ensures c.in_ok-print_block-2.ensures c.print_line-2.ensures
 
 pub print_loop-returns : goal.print_loop-returns
 print_loop-returns g t c =
-    loop_pushed c.args.level c.in_ok-inner.inner c.print_line.result (string_bytes c.args.out.now) (string_bytes c.print_line.new.out) c.args.side.now c.args.body.now c.in_ok-inner.ensures
+    loop_pushed c.args.level c.in_ok-inner.inner c.print_line.result (string_bytes c.args.out.now)
+    (string_bytes c.print_line.new.out) c.args.side.now c.args.body.now c.in_ok-inner.ensures
     (string_bytes c.print_test.new.out) (string_bytes c.print_block.new.out)
     c.in_ok-print_test.ensures c.in_ok-print_block.ensures c.print_line.ensures
 

@@ -25,7 +25,7 @@ body_falls : {A : Type 0} (l : List (Stmt A)) (i : ℕ) (s : Stmt A) (r : Rhs A)
     → statements (block_of a.items) < statements (block_of l)
 body_falls l i s r a below is core =
     let less = smaller l i s below is in
-    let e : held (deed_of s.core) ≡ statements (block_of a.items) = ap (λ k. held (deed_of k)) core ∙ ap held (deed_of-While r a) in
+    let e : held (deed_of s.core) ≡ statements (block_of a.items) + 0 = ap (λ k. held (deed_of k)) core ∙ ap held (deed_of-While r a) in
     omega (arith, less, e)
 
 first_falls : (a b n : ℕ) → a + b < n → a < n

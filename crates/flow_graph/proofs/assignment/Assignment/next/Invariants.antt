@@ -4,4 +4,5 @@ use Rattle.flow_graph.specs.Assignments.{written}
 use Rattle.flow_graph.proofs.assignment.Assignment.next.Given as goal
 
 abbrev pub invariant-loop-write : goal.invariant-loop-write
-invariant-loop-write g l = written (drop l.write-index l.write-items) l.values l.left l.next ≡ written l.write-items l.values l.choice l.values
+invariant-loop-write g l =
+    written (drop l.write-index l.write-items) l.values l.left l.next ≡ written l.write-items l.values l.choice l.values

@@ -36,7 +36,9 @@ loop-argument-preserved g c =
       c.as_slice-argument-items.ensures.len,
       c.args.self.now.fits,
     ) in
-    let (whole, below) = argument_step (λ f. says f c.args.values) (drop i xs) (drop (i + 1) xs) c.argument-item.result c.loop-argument.entry c.loop-argument.bit _ _
+    let (whole, below) =
+    argument_step (λ f. says f c.args.values) (drop i xs)
+    (drop (i + 1) xs) c.argument-item.result c.loop-argument.entry c.loop-argument.bit _ _
     c.loop-argument.invariant.0 next (byte_worth c.value.result ∙ ap worth_of c.value.ensures) c.loop-argument.invariant.1 bit in
     (whole, below, omega (arith, c.loop-argument.invariant.2))
 

@@ -7,5 +7,6 @@ use Rattle.flow_graph.proofs.call.Call.entry.Given as goal
 
 abbrev pub invariant-loop-argument : goal.invariant-loop-argument
 invariant-loop-argument g l =
-    (l.entry + 2 ^ l.bit * coded (map (λ f. says f l.values) (drop l.argument-index l.argument-items)) ≡ entry_of l.self.globals l.argument-items l.values)
+    (l.entry + 2 ^ l.bit * coded (map (λ f. says f l.values) (drop l.argument-index l.argument-items))
+    ≡ entry_of l.self.globals l.argument-items l.values)
     × (l.entry < 2 ^ l.bit) × (l.bit ≡ l.self.globals + l.argument-index)

@@ -27,7 +27,8 @@ block-statement-requires g t c κs within =
     let more = c.in-Some.more.now in
     let whole = ap (λ l. statements (block_of l)) c.in-Some.ensures.cases.0 in
     let first = first_counts stmt more in
-    let less : 2 * held (deed_of stmt.core) + 2 < 2 * statements (block_of c.args.stmts.now) + 1 = omega (arith, c.loop-stmt.invariant.0, whole, first) in
+    let less : 2 * held (deed_of stmt.core) + 2 < 2 * statements (block_of c.args.stmts.now) + 1 =
+    omega (arith, c.loop-stmt.invariant.0, whole, first) in
     (rw (← c.decreases) less, (within.0, (within.1, c.requires)))
 
 pub block-loop-stmt-smaller : goal.block-loop-stmt-smaller
@@ -50,7 +51,8 @@ block-loop-stmt-preserved g t c =
       omega (arith, c.loop-stmt.invariant.1, lowered.0, whole, split),
       λ k new at_k few h.
           let one = c.size_of.ensures (omega (arith, lowered.0, small)) in
-          let behind : c.saturating_add-behind.result ≡ length mid = omega (arith, c.saturating_add-behind.ensures, c.len.ensures, c.loop-stmt.flows.ok.0, one, lowered.0, small) in
+          let behind : c.saturating_add-behind.result ≡ length mid =
+          omega (arith, c.saturating_add-behind.ensures, c.len.ensures, c.loop-stmt.flows.ok.0, one, lowered.0, small) in
           let next = c.begin.ensures s k at_k ∙ ap (λ j. point_at (join (numbered j (resolve_block s (block_of more))) k)) behind in
           let first = lowered.1 (join (code_from me (length mid) more) k) (sym next) (few.0, omega (arith, lowered.0, small)) in
           c.loop-stmt.invariant.2 k new at_k few

@@ -26,7 +26,8 @@ pub returns-then-es-self : goal.returns-then-es-self
 returns-then-es-self g c =
     let s = lowering_scope c.args.self.now in
     let es = c.args.es.now in
-    let count : length (map (resolve_expression s) (exprs_of es)) ≡ length es = length-map (exprs_of es) (resolve_expression s) ∙ length-map es expr_of in
+    let count : length (map (resolve_expression s) (exprs_of es)) ≡ length es = length-map (exprs_of es) (resolve_expression s)
+    ∙ length-map es expr_of in
     let globals : length s.globals ≡ length c.args.self.now.scope.globals.now = length-map c.args.self.now.scope.globals.now name_of in
     does_no_call c.nowhere-then-es-self.result _ _ c.args.back _
     (inr (λ few. omega (arith, few, count, globals, c.if-es-self.true))) (c.nowhere-then-es-self.ensures _)
@@ -65,5 +66,6 @@ returns g c =
     (omega (arith, callee, count, c.if-callee-self.false))
     (λ gs ls wide.
     sym (append-nil (map (λ f. says f (coded (gs ++ ls))) c.loop-e.arguments.items))
-    ∙ ap (λ l. map (λ f. says f (coded (gs ++ ls))) c.loop-e.arguments.items ++ values_of gs ls (map (resolve_expression s) (exprs_of l))) (sym (drop_all c.loop-e.e-index es c.loop-e-test.false))
+    ∙ ap (λ l. map (λ f. says f (coded (gs ++ ls))) c.loop-e.arguments.items ++ values_of gs ls (map (resolve_expression s) (exprs_of l)))
+    (sym (drop_all c.loop-e.e-index es c.loop-e-test.false))
     ∙ c.loop-e.invariant.1 gs ls wide)

@@ -45,7 +45,9 @@ returns-in_ok-right-in-Two-clause-outputs g t c =
     (operator_of c.in-Two.op)
     (located s (expr_of c.in-Two.a.value)) (located s (expr_of c.in-Two.b.value)) c.outputs-in-Two-2.ensures.widens
     (subst (λ e. Tabulates xs c.in_ok-left-in-Two.left (located s (expr_of e))) c.deref-in-Two.ensures c.in_ok-left-in-Two.ensures.outputs)
-    (subst (λ e. Tabulates ys c.in_ok-right-in-Two.right (located s (expr_of e))) c.deref-in-Two-2.ensures c.in_ok-right-in-Two.ensures.outputs)
+    (subst
+    (λ e. Tabulates ys c.in_ok-right-in-Two.right (located s (expr_of e))) c.deref-in-Two-2.ensures
+    c.in_ok-right-in-Two.ensures.outputs)
     c.combined-in-Two.ensures)
 
 pub returns-in-Some-clause-outputs : goal.returns-in-Some-clause-outputs

@@ -51,7 +51,14 @@ returns-in_ok-put-in-Two-2 g t c =
     let right = c.put-then-need-2.new.steps.items in
     let new = c.push-then-need.new.list.items in
     let less : need (located s (expr_of c.in-Two.a.value)) < need (located s (expr_of c.in-Two.b.value)) =
-    omega (arith, c.need.ensures, c.need-in-Two.ensures, c.if-need.true, ap (λ e. need (located s (expr_of e))) c.deref-in-Two.ensures, ap (λ e. need (located s (expr_of e))) c.deref-in-Two-2.ensures) in
+    omega (
+      arith,
+      c.need.ensures,
+      c.need-in-Two.ensures,
+      c.if-need.true,
+      ap (λ e. need (located s (expr_of e))) c.deref-in-Two.ensures,
+      ap (λ e. need (located s (expr_of e))) c.deref-in-Two-2.ensures,
+    ) in
     IfOk-weaker c.push-then-need.result _ _
     (λ u is. subst (λ e. Puts old new (located s e)) (sym (ap expr_of c.in-Two.is ∙ expr_of-Two c.in-Two.op c.in-Two.a c.in-Two.b))
     (swapped (located s (expr_of c.in-Two.a.value)) (located s (expr_of c.in-Two.b.value)) c.in-Two.op old left right new less
@@ -67,7 +74,14 @@ returns-in_ok-put-in-Two-4 g t c =
     let right = c.put-else-need-2.new.steps.items in
     let new = c.push-else-need.new.list.items in
     let more : need (located s (expr_of c.in-Two.b.value)) ≤ need (located s (expr_of c.in-Two.a.value)) =
-    omega (arith, c.need.ensures, c.need-in-Two.ensures, c.if-need.false, ap (λ e. need (located s (expr_of e))) c.deref-in-Two.ensures, ap (λ e. need (located s (expr_of e))) c.deref-in-Two-2.ensures) in
+    omega (
+      arith,
+      c.need.ensures,
+      c.need-in-Two.ensures,
+      c.if-need.false,
+      ap (λ e. need (located s (expr_of e))) c.deref-in-Two.ensures,
+      ap (λ e. need (located s (expr_of e))) c.deref-in-Two-2.ensures,
+    ) in
     IfOk-weaker c.push-else-need.result _ _
     (λ u is. subst (λ e. Puts old new (located s e)) (sym (ap expr_of c.in-Two.is ∙ expr_of-Two c.in-Two.op c.in-Two.a c.in-Two.b))
     (applied (located s (expr_of c.in-Two.a.value)) (located s (expr_of c.in-Two.b.value)) c.in-Two.op old left right new more

@@ -93,7 +93,8 @@ pub statements-loop-rest-init : goal.statements-loop-rest-init
 statements-loop-rest-init g t c = record {
   whole =
       sections_start (toks_of c.args.tokens.now) (item_of c.in_ok-first.first) (toks_of c.in_ok-first.rest.now) c.in_ok-first.ensures.gives
-      ∙ ap (λ (is : List Item). put_before is (going_on (toks_of c.in_ok-first.rest.now))) (pushed item_of [] c.in_ok-list.list.items c.in_ok-first.first c.in_ok-list.ensures.ok);
+      ∙ ap (λ (is : List Item). put_before is (going_on (toks_of c.in_ok-first.rest.now)))
+      (pushed item_of [] c.in_ok-list.list.items c.in_ok-first.first c.in_ok-list.ensures.ok);
   shorter = c.in_ok-first.ensures.shorter;
 }
 
@@ -101,8 +102,10 @@ pub statements-loop-rest-preserved : goal.statements-loop-rest-preserved
 statements-loop-rest-preserved g t c = record {
   whole =
       c.loop-rest.invariant.whole
-      ∙ sections_go_on (items_of c.loop-rest.list.items) (toks_of c.loop-rest.rest.now) (item_of c.in_ok-next.next) (toks_of c.in_ok-next.after.now) (sym c.begins_statement.ensures ∙ c.loop-rest-test.true) c.in_ok-next.ensures.gives
-      ∙ ap (λ (is : List Item). put_before is (going_on (toks_of c.in_ok-next.after.now))) (pushed item_of c.loop-rest.list.items c.put.new.list.items c.in_ok-next.next c.in_ok-put.ensures.ok);
+      ∙ sections_go_on (items_of c.loop-rest.list.items) (toks_of c.loop-rest.rest.now) (item_of c.in_ok-next.next)
+      (toks_of c.in_ok-next.after.now) (sym c.begins_statement.ensures ∙ c.loop-rest-test.true) c.in_ok-next.ensures.gives
+      ∙ ap (λ (is : List Item). put_before is (going_on (toks_of c.in_ok-next.after.now)))
+      (pushed item_of c.loop-rest.list.items c.put.new.list.items c.in_ok-next.next c.in_ok-put.ensures.ok);
   shorter = search rules;
 }
 

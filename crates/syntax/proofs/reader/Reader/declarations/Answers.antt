@@ -11,9 +11,11 @@ pub loop-rest-preserved : goal.loop-rest-preserved
 loop-rest-preserved g c = record {
   whole =
       c.loop-rest.invariant.whole
-      ∙ declarations_go_on (names_of c.loop-rest.list.items) (toks_of c.loop-rest.rest.now) (names_of c.in_ok-next.next.items) (toks_of c.in_ok-next.after.now)
+      ∙ declarations_go_on (names_of c.loop-rest.list.items) (toks_of c.loop-rest.rest.now) (names_of c.in_ok-next.next.items)
+      (toks_of c.in_ok-next.after.now)
       (sym c.begins.ensures ∙ c.loop-rest-test.true) c.in_ok-next.ensures.gives
-      ∙ ap (λ (xs : List Name). prepend xs (all_declarations (toks_of c.in_ok-next.after.now))) (appended name_of c.loop-rest.list.items c.in_ok-next.next.items c.append.new.self.items c.in_ok-append.ensures.items);
+      ∙ ap (λ (xs : List Name). prepend xs (all_declarations (toks_of c.in_ok-next.after.now)))
+      (appended name_of c.loop-rest.list.items c.in_ok-next.next.items c.append.new.self.items c.in_ok-append.ensures.items);
   no_longer = omega (arith, c.loop-rest.invariant.no_longer, c.in_ok-next.ensures.shorter);
 }
 
