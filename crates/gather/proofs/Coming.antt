@@ -2,7 +2,7 @@
 use Rattle.std.proofs.Common.{◌≡◌, inl, inr, ℕ, zero, suc, ◌<◌, ◌≤◌, List, [], ◌∷◌}
 use Rattle.std.proofs.Common.{◌++◌, Some, slice_get, length, take, refl, sym, ap, ◌∙◌, subst, arith, append_assoc, length-append}
 use Rattle.std.proofs.lemmas.List.{append-nil}
-use Rattle.std.proofs.lemmas.Option.{same_Some}
+use Rattle.std.proofs.lemmas.Option.{same_Some, slice_get_within}
 use Rattle.post_ledger.proofs.Histories.{at_push_cases, at_seam}
 
 module _ {X : Type 0} where
@@ -41,7 +41,8 @@ module _ {X : Type 0} where
   take_whole (x ∷ xs) zero h = absurd (omega (arith, h))
   take_whole (x ∷ xs) (suc n) h = ap (λ l. x ∷ l) (take_whole xs n (omega (arith, h)))
 
--- where R holds of the items of two lists by their places, it holds so with one item more of the second, where it holds of that one
+-- where R holds of the items of two lists by their places, it holds so with one item more of the second, where it
+-- holds of that one
 pub more_by_place : {X Y : Type 0} (R : ℕ → X → Y → Type 0) (all : List X) (ys : List Y) (y : Y) (n : ℕ) → length ys ≡ n
     → ((a : X) → slice_get all n ≡ Some a → R n a y)
     → ((i : ℕ) (a : X) (b : Y) → slice_get all i ≡ Some a → slice_get ys i ≡ Some b → R i a b)
@@ -53,3 +54,31 @@ more_by_place R all ys y n many new each i a b there here = elim (at_push_cases 
       subst (λ z. R i a z) last.1
       (subst (λ k. R k a y) (sym place) (new a (subst (λ k. slice_get all k ≡ Some a) place there)))
 ]
+
+-- behind one that is so all are
+abbrev pub AllBehind : {X : Type 0} → (X → Type 0) → List X → Type 0
+AllBehind {X} is xs = (i k : ℕ) (x y : X) → i ≤ k → slice_get xs i ≡ Some x → slice_get xs k ≡ Some y → is x → is y
+
+-- one more
+pub behind_more : {X : Type 0} (is : X → Type 0) (xs : List X) (z : X) → AllBehind is xs
+    → ((i : ℕ) (x : X) → slice_get xs i ≡ Some x → is x → is z) → AllBehind is (xs ++ z ∷ [])
+behind_more is xs z behind last i k x y near at_i at_k so =
+    elim (at_push_cases xs z y k at_k) [
+      | inl before ↦ elim (at_push_cases xs z x i at_i) [
+        | inl first ↦ behind i k x y near first before so
+        | inr one ↦ absurd (let within = slice_get_within xs k y before in omega (arith, one.0, near, within))
+      ]
+      | inr one ↦ elim (at_push_cases xs z x i at_i) [
+        | inl first ↦ subst is one.1 (last i x first so)
+        | inr same ↦ subst is one.1 (subst is (sym same.1) so)
+      ]
+    ]
+
+-- where R holds of each item by its place, it holds so with one item more, where it holds of that one
+pub each_more : {X : Type 0} (R : ℕ → X → Type 0) (xs new : List X) (z : X) (n : ℕ) → new ≡ xs ++ z ∷ [] → length xs ≡ n
+    → R n z → ((i : ℕ) (x : X) → slice_get xs i ≡ Some x → R i x) → (i : ℕ) (x : X) → slice_get new i ≡ Some x → R i x
+each_more R xs new z n is many last each i x at =
+    elim (at_push_cases xs z x i (subst (λ l. slice_get l i ≡ Some x) is at)) [
+      | inl before ↦ each i x before
+      | inr one ↦ subst (λ k. R k x) (sym (one.0 ∙ many)) (subst (R n) one.1 last)
+    ]

@@ -1,4 +1,5 @@
 pub mod Coming
+pub mod Beginning
 pub mod Lists
 pub mod Tables
 pub mod Posts

@@ -1,5 +1,7 @@
 -- What comes of jobs.
-use Rattle.std.specs.Prelude.{◌≡◌, ◌⊎◌, ◌≤◌, ℕ, true, List, Some, length, slice_get}
+use Rattle.std.specs.Prelude.{◌≡◌, ◌≤◌, ℕ, List, Option, None, Some, length, slice_get}
+use Rattle.gather.specs.declared.no_thread.NoThread.{NoThread}
+use Rattle.gather.specs.declared.jobs.Gives.{Gives}
 use Rattle.gather.specs.declared.jobs.Begun.{Begun}
 use Rattle.gather.specs.declared.jobs.Begun.TheVariants.{InThread, Without}
 use Rattle.gather.specs.declared.jobs.Came.{Came}
@@ -21,35 +23,49 @@ first_of c = (back_of c).0
 abbrev pub second_of : {P O : Type 0} → Came (P × O) → O
 second_of c = (back_of c).1
 
--- This came of the job of number n: it was run, and gave back what it gives then; or it was declined, and gave back what it
--- gives then, and that it gets no thread is shown.
+-- This came of the job of number n: it was run, and gave back what it gives then; or it was declined, and gave back
+-- what it gives then, and that it gets no thread is shown.
 abbrev pub CameOf : {B : Type 0} → (B → Type 0) → (B → Type 0) → ℕ → Came B → Type 0
 CameOf runs declines n (Run b) = runs b
 CameOf runs declines n (Declined b none) = declines b × (none.first ≤ n)
-
--- This came of the jobs, one for each, in their order.
-pub record HaveCome {J B : Type 0} (runs declines : J → B → Type 0) (jobs : List J) (cames : List (Came B)) : Type 0 where
-  pub all : length cames ≡ length jobs
-  pub each : (i : ℕ) (j : J) (c : Came B) → slice_get jobs i ≡ Some j → slice_get cames i ≡ Some c
-      → CameOf (runs j) (declines j) i c
 
 -- the job was declined
 abbrev pub IsDeclined : {B : Type 0} → Came B → Type 0
 IsDeclined (Run b) = ⊥
 IsDeclined (Declined b none) = Unit {0}
 
-module _ {B P : Type 0} (kept_by : P → Came B → Type 0) where
-  -- The job of number n was begun, and Q holds of what comes of it: it is in a thread that promises that; or it was not given
-  -- one, which is shown. Then it was declined, but for the one whose start the system refused, which hands back the thread's
-  -- closure, and that decides.
-  abbrev pub WasBegun : (Came B → Type 0) → ℕ → Begun (Came B) P → Type 0
-  WasBegun Q n (InThread handle) = (c : Came B) → kept_by handle.promise c → Q c
-  WasBegun Q n (Without c none) =
-      Q c × (none.first ≤ n) × (IsDeclined c ⊎ ((none.first ≡ n) × (none.by_system ≡ true)))
+-- This came of the jobs, one for each, in their order; behind one that was declined all were.
+pub record HaveCome {J B : Type 0} (runs declines : J → B → Type 0) (jobs : List J) (cames : List (Came B)) : Type 0 where
+  pub all : length cames ≡ length jobs
+  pub each : (i : ℕ) (j : J) (c : Came B) → slice_get jobs i ≡ Some j → slice_get cames i ≡ Some c
+      → CameOf (runs j) (declines j) i c
+  pub behind : (i k : ℕ) (c d : Came B) → i ≤ k → slice_get cames i ≡ Some c → slice_get cames k ≡ Some d
+      → IsDeclined c → IsDeclined d
 
--- The jobs were begun, in their order.
-pub record AreBegun {J B P : Type 0} (kept_by : P → Came B → Type 0) (runs declines : J → B → Type 0) (jobs : List J)
-    (begun : List (Begun (Came B) P)) : Type 0 where
-  pub all : length begun ≡ length jobs
-  pub each : (i : ℕ) (j : J) (b : Begun (Came B) P) → slice_get jobs i ≡ Some j → slice_get begun i ≡ Some b
-      → WasBegun kept_by (CameOf (runs j) (declines j) i) i b
+-- the job of this number gives this back
+abbrev pub OfJob : {J B : Type 0} → List J → (J → B → Type 0) → ℕ → B → Type 0
+OfJob {J} jobs gives n b = (j : J) → slice_get jobs n ≡ Some j → gives j b
+
+-- what shows that a job that was begun has no thread
+abbrev pub refusal_of : {B P : Type 0} → Begun B P → Option NoThread
+refusal_of (InThread handle) = None
+refusal_of (Without b none) = Some none
+
+-- the job that was begun has no thread
+abbrev pub HasNoThread : {B P : Type 0} → Begun B P → Type 0
+HasNoThread (InThread handle) = ⊥
+HasNoThread (Without b none) = Unit {0}
+
+module _ {J B L : Type 0} (declines : J → B → Type 0) (jobs : List J) where
+  -- The job of number n was begun: it is in a thread, which promises what this job gives where it is run; or it was
+  -- declined, and that it gets no thread is shown.
+  abbrev pub WasBegun : ℕ → Begun B (Gives J L) → Type 0
+  WasBegun n (InThread handle) = handle.promise.number ≡ n
+  WasBegun n (Without b none) = OfJob jobs declines n b × (none.first ≤ n)
+
+  -- The jobs were begun, in their order; behind one that has no thread none has one.
+  pub record AreBegun (begun : List (Begun B (Gives J L))) : Type 0 where
+    pub all : length begun ≡ length jobs
+    pub each : (i : ℕ) (b : Begun B (Gives J L)) → slice_get begun i ≡ Some b → WasBegun i b
+    pub behind : (i k : ℕ) (b c : Begun B (Gives J L)) → i ≤ k → slice_get begun i ≡ Some b → slice_get begun k ≡ Some c
+        → HasNoThread b → HasNoThread c

@@ -1,12 +1,13 @@
 //! Jobs, each in a thread of its own.
-ghost use Rattle.std.specs.Prelude.{◌≡◌, ◌≤◌, [], List, length, vec_capacity, IfOk};
-ghost use Rattle.gather.specs.Jobs.{AllCanRun, AreBegun, CameOf, HaveCome, WasBegun};
+ghost use Rattle.std.specs.Prelude.{◌≡◌, ◌≤◌, [], length, vec_capacity, IfOk, IfSome};
+ghost use Rattle.gather.specs.Jobs.{refusal_of, AllCanRun, AreBegun, HasNoThread, HaveCome, OfJob, WasBegun};
 
 use crate::hire::Hire;
-use crate::no_thread::NoThread;
+use crate::no_thread::{NoThread, start};
+use crate::slot::{Lineup, Slot, taken};
 use std::alloc::{AllocError, Allocator};
-use std::snapshot::Snapshot;
-use std::sync::{OnceLock, Wait};
+use std::marker::{Brand, PhantomData};
+use std::sync::{Mutex, Wait};
 use std::thread;
 use std::thread::{Promise, PromisedHandle, Scope, Threads};
 
@@ -56,141 +57,110 @@ impl<B: Drop> Came<B> {
     }
 }
 
-/// What the thread of a job promises: what comes of the job of this number.
+/// What the thread of a job promises: what the job of this number gives where it is run.
 #[derive(Drop)]
-pub(crate) struct Gives<J> {
-    job: Snapshot<J>,
-    number: u8,
+pub(crate) struct Gives<J, L> {
+    pub(crate) number: u8,
+    pub(crate) of: PhantomData<(J, L)>,
 }
 
-impl<J: Job> Promise<Came<J::Back>> for Gives<J> {
-    ghost kept_by = { λ p c. CameOf (J.runs p.job.value) (J.declines p.job.value) p.number c };
+impl<J: Job, L: Lineup<J>> Promise<J::Back> for Gives<J, L> {
+    ghost kept_by = { λ p b. OfJob L.jobs J.runs p.number b };
 }
 
-/// A job that was begun: in a thread, of which `C` comes; or without one, which the second value shows.
+/// A job that was begun: in a thread, of which `B` comes; or declined, since it gets none, as the second value shows.
 #[derive(Drop)]
-pub(crate) enum Begun<C, P: Promise<C>> {
-    InThread(PromisedHandle<C, P>),
-    Without(C, NoThread),
-}
-
-/// Does the work of the job of this number, where a thread was had for it.
-fn tend<J: Job>(job: J, number: u8, refused: &OnceLock<NoThread>) -> Came<J::Back>
-    requires { J.can_run job }
-    ensures { CameOf (J.runs job) (J.declines job) number result }
-{
-    match refused.get() {
-        Some(no) if no.is_for(number) => Came::Declined(job.decline(), *no),
-        _ => Came::Run(job.run()),
-    }
-}
-
-/// Begins a job: in a thread, where the system has one for it.
-fn begin<'s, 'f: 's, E, J: Job + Send + 's>(
-    scope: &Scope<'s, E>,
-    job: J,
-    number: u8,
-    refused: &'f OnceLock<NoThread>,
-) -> Begun<Came<J::Back>, Gives<J>>
-where
-    J::Back: Send + Drop + 's,
-    requires { J.can_run job }
-    ensures { WasBegun (λ p c. CameOf (J.runs p.job.value) (J.declines p.job.value) p.number c)
-        (CameOf (J.runs job) (J.declines job) number) number result }
-{
-    let gives = Gives {
-        job: Snapshot::of(&job),
-        number,
-    };
-    let work = move || -> Came<J::Back>
-        requires { J.can_run job }
-        ensures { CameOf (J.runs job) (J.declines job) number result }
-    { tend(job, number, refused) };
-    match scope.spawn_with(gives, work) {
-        Ok(handle) => Begun::InThread(handle),
-        Err(refusal) => {
-            let no = NoThread::of_system(&refusal, number);
-            let _ = refused.try_set(no);
-            Begun::Without((refusal.value)(), no)
-        }
-    }
+pub(crate) enum Begun<B, P: Promise<B>> {
+    InThread(PromisedHandle<B, P>),
+    Without(B, NoThread),
 }
 
 /// Begins a job: in a thread, where no job before was refused one, it may have one, and the system has one for it.
-fn begin_hired<'s, 'f: 's, E, J: Job + Send + 's, H: Hire>(
+/// Elsewhere declines it.
+fn begin<'s, 'f: 's, E, R: Wait + Sync, L: Lineup<J> + Send + 's, J: Job + Send + 's, H: Hire>(
     scope: &Scope<'s, E>,
-    job: J,
+    rt: &'f R,
+    slot: &'f Mutex<Slot<J, L>>,
     number: u8,
-    refused: &'f OnceLock<NoThread>,
+    refused: &mut Option<NoThread>,
     hire: &H,
-) -> Begun<Came<J::Back>, Gives<J>>
+) -> Begun<J::Back, Gives<J, L>>
 where
     J::Back: Send + Drop + 's,
-    requires { J.can_run job }
-    ensures { WasBegun (λ p c. CameOf (J.runs p.job.value) (J.declines p.job.value) p.number c)
-        (CameOf (J.runs job) (J.declines job) number) number result }
+    requires runs { AllCanRun J.can_run L.jobs }
+    requires before { IfSome refused.old (λ no. no.first ≤ number) }
+    ensures begun { WasBegun J.declines L.jobs number result }
+    ensures behind { IfSome refused.old (λ no. HasNoThread result) }
+    ensures refused { refused.new ≡ refusal_of result }
 {
-    let none = match refused.get() {
-        Some(no) if no.is_for(number) => Some(*no),
-        _ => NoThread::of_hire(hire, number),
+    let none = match *refused {
+        Some(none) => none,
+        None => match start(scope, rt, slot, number, hire) {
+            Ok(handle) => return Begun::InThread(handle),
+            Err(none) => none,
+        },
     };
-    match none {
-        None => begin(scope, job, number, refused),
-        Some(no) => {
-            let _ = refused.try_set(no);
-            Begun::Without(Came::Declined(job.decline(), no), no)
-        }
-    }
+    *refused = Some(none);
+    Begun::Without(taken(rt, slot, number).decline(), none)
 }
 
 /// Begins all jobs, in their order.
-fn begin_all<'s, 'f: 's, E, J: Job + Send + 's, H: Hire, A: Allocator>(
+fn begin_all<
+    's,
+    'f: 's,
+    E,
+    R: Wait + Sync,
+    L: Lineup<J> + Send + 's,
+    J: Job + Send + 's,
+    H: Hire,
+    A: Allocator,
+>(
     scope: &Scope<'s, E>,
-    jobs: Vec<J, A>,
-    refused: &'f OnceLock<NoThread>,
+    rt: &'f R,
+    slots: &'f [Mutex<Slot<J, L>>],
     hire: &H,
-    begun: &mut Vec<Begun<Came<J::Back>, Gives<J>>, A>,
+    begun: &mut Vec<Begun<J::Back, Gives<J, L>>, A>,
 )
 where
     J::Back: Send + Drop + 's,
-    requires few { length jobs.items ≤ 64 }
-    requires room { length jobs.items ≤ vec_capacity begun.old }
+    requires few { length slots.now ≤ 64 }
+    requires all { length slots.now ≡ length L.jobs }
+    requires room { length slots.now ≤ vec_capacity begun.old }
     requires empty { begun.old.items ≡ [] }
-    requires runs { AllCanRun J.can_run jobs.items }
-    ensures { AreBegun (λ p c. CameOf (J.runs p.job.value) (J.declines p.job.value) p.number c) J.runs J.declines jobs.items
-        begun.new.items }
+    requires runs { AllCanRun J.can_run L.jobs }
+    ensures { AreBegun J.declines L.jobs begun.new.items }
 {
     let mut number = 0;
-    for job in jobs {
-        begun.push_reserved(begin_hired(scope, job, number, refused, hire));
+    let mut refused = None;
+    for slot in slots {
+        begun.push_reserved(begin(scope, rt, slot, number, &mut refused, hire));
         number += 1;
     }
 }
 
 /// Waits for all that was begun.
-fn end_all<R: Threads, J: Job, A: Allocator>(
+fn end_all<R: Threads, L: Lineup<J>, J: Job, A: Allocator>(
     rt: &R,
-    begun: Vec<Begun<Came<J::Back>, Gives<J>>, A>,
+    begun: Vec<Begun<J::Back, Gives<J, L>>, A>,
     cames: &mut Vec<Came<J::Back>, A>,
 )
 where
     J::Back: Drop,
+    requires begun { AreBegun J.declines L.jobs begun.items }
     requires room { length begun.items ≤ vec_capacity cames.old }
     requires empty { cames.old.items ≡ [] }
-    ensures { (jobs : List J)
-        → AreBegun (λ p c. CameOf (J.runs p.job.value) (J.declines p.job.value) p.number c) J.runs J.declines jobs begun.items
-        → HaveCome J.runs J.declines jobs cames.new.items }
+    ensures { HaveCome J.runs J.declines L.jobs cames.new.items }
 {
     for one in begun {
         cames.push_reserved(match one {
-            Begun::InThread(handle) => handle.join(rt),
-            Begun::Without(came, _) => came,
+            Begun::InThread(handle) => Came::Run(handle.join(rt)),
+            Begun::Without(back, none) => Came::Declined(back, none),
         });
     }
 }
 
-/// Two empty lists with room for so many. It is generic in what they hold, so that no caller has the drop of the first where
-/// memory is refused for the second.
+/// Two empty lists with room for so many. It is generic in what they hold, so that no caller has the drop of the
+/// first where memory is refused for the second.
 fn rooms<T: Drop, U: Drop, A: Allocator + Copy>(
     alloc: A,
     count: usize,
@@ -203,8 +173,80 @@ fn rooms<T: Drop, U: Drop, A: Allocator + Copy>(
     Ok((first, second))
 }
 
-/// Runs all jobs, each in a thread of its own, until all have ended. Where a start is refused, that job and those behind it are
-/// declined, and nobody is asked for them any more.
+/// A slot for each job, in their order.
+fn slots_of<L: Lineup<J>, J: Drop, A: Allocator + Copy>(
+    alloc: A,
+    jobs: Vec<J, A>,
+) -> Result<Vec<Mutex<Slot<J, L>>, A>, AllocError>
+    requires few { length jobs.items ≤ 64 }
+    requires all { jobs.items ≡ L.jobs }
+    ensures { IfOk result (λ slots. length slots.items ≡ length L.jobs) }
+{
+    let mut slots = Vec::with_capacity(alloc, jobs.len())?;
+    for job in jobs {
+        let number = slots.len() as u8;
+        slots.push_reserved(Mutex::new(Slot::new(job, number)));
+    }
+    Ok(slots)
+}
+
+/// Begins all jobs in one scope, and waits for them.
+fn run_slots<R: Wait + Threads + Sync, L: Lineup<J> + Send, J: Job + Send, H: Hire, A: Allocator>(
+    rt: &R,
+    slots: &[Mutex<Slot<J, L>>],
+    hire: &H,
+    mut begun: Vec<Begun<J::Back, Gives<J, L>>, A>,
+    mut cames: Vec<Came<J::Back>, A>,
+) -> Vec<Came<J::Back>, A>
+where
+    J::Back: Send + Drop,
+    requires few { length slots.now ≤ 64 }
+    requires all { length slots.now ≡ length L.jobs }
+    requires room { (length slots.now ≤ vec_capacity begun) × (length slots.now ≤ vec_capacity cames) }
+    requires empty { (begun.items ≡ []) × (cames.items ≡ []) }
+    requires runs { AllCanRun J.can_run L.jobs }
+    ensures { HaveCome J.runs J.declines L.jobs result.items }
+{
+    thread::scope(
+        thread::scope_env(),
+        rt,
+        move |scope| -> Vec<Came<J::Back>, A>
+            requires few { length slots.now ≤ 64 }
+            requires all { length slots.now ≡ length L.jobs }
+            requires room { (length slots.now ≤ vec_capacity begun) × (length slots.now ≤ vec_capacity cames) }
+            requires empty { (begun.items ≡ []) × (cames.items ≡ []) }
+            requires runs { AllCanRun J.can_run L.jobs }
+            ensures { HaveCome J.runs J.declines L.jobs result.items }
+        {
+            begin_all(scope, rt, slots, hire, &mut begun);
+            end_all(rt, begun, &mut cames);
+            cames
+        },
+    )
+}
+
+/// Runs all jobs of a lineup.
+fn run_lineup<
+    R: Wait + Threads + Sync,
+    L: Lineup<J> + Send,
+    J: Job + Send,
+    H: Hire,
+    A: Allocator + Copy,
+>(rt: &R, alloc: A, jobs: Vec<J, A>, hire: &H) -> Result<Vec<Came<J::Back>, A>, AllocError>
+where
+    J::Back: Send + Drop,
+    requires few { length jobs.items ≤ 64 }
+    requires all { jobs.items ≡ L.jobs }
+    requires runs { AllCanRun J.can_run L.jobs }
+    ensures { IfOk result (λ cames. HaveCome J.runs J.declines L.jobs cames.items) }
+{
+    let (begun, cames) = rooms(alloc, jobs.len())?;
+    let slots = slots_of::<L, J, A>(alloc, jobs)?;
+    Ok(run_slots(rt, slots.as_slice(), hire, begun, cames))
+}
+
+/// Runs all jobs, each in a thread of its own, until all have ended. Where a start is refused, that job and those
+/// behind it are declined, and nobody is asked for them any more.
 pub(crate) fn run_all<R: Wait + Threads + Sync, J: Job + Send, H: Hire, A: Allocator + Copy>(
     rt: &R,
     alloc: A,
@@ -217,22 +259,5 @@ where
     requires runs { AllCanRun J.can_run jobs.items }
     ensures { IfOk result (λ cames. HaveCome J.runs J.declines jobs.items cames.items) }
 {
-    let (mut begun, mut cames) = rooms(alloc, jobs.len())?;
-    let refused = OnceLock::new();
-    let first = &refused;
-    Ok(thread::scope(
-        thread::scope_env(),
-        rt,
-        move |scope| -> Vec<Came<J::Back>, A>
-            requires few { length jobs.items ≤ 64 }
-            requires room { (length jobs.items ≤ vec_capacity begun) × (length jobs.items ≤ vec_capacity cames) }
-            requires empty { (begun.items ≡ []) × (cames.items ≡ []) }
-            requires runs { AllCanRun J.can_run jobs.items }
-            ensures { HaveCome J.runs J.declines jobs.items result.items }
-        {
-            begin_all(scope, jobs, first, hire, &mut begun);
-            end_all(rt, begun, &mut cames);
-            cames
-        },
-    ))
+    run_lineup::<R, Brand, J, H, A>(rt, alloc, jobs, hire)
 }

@@ -10,6 +10,7 @@ mod lane;
 mod no_thread;
 mod one_thread;
 mod report;
+mod slot;
 
 pub use gathering::gather;
 pub use hire::{Always, Hire};

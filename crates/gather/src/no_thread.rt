@@ -1,47 +1,57 @@
 //! What shows that no thread was had for a job.
-ghost use Rattle.std.specs.Prelude.{◌≡◌, ◌≤◌, ◌↔◌, true, IsTrue, IfSome};
+ghost use Rattle.std.specs.Prelude.{◌≡◌, IfOk, IfErr};
+ghost use Rattle.gather.specs.Jobs.{AllCanRun, OfJob};
 
 use crate::hire::Hire;
-use std::thread::SpawnError;
+use crate::jobs::{Gives, Job};
+use crate::slot::{Lineup, Slot, taken};
+use std::marker::PhantomData;
+use std::sync::{Mutex, Wait};
+use std::thread::{PromisedHandle, Scope};
 
-/// Shows that the start of a job was refused, by the system or by who hires. No job from that one on gets a thread. Nothing
-/// outside this file makes one.
-#[derive(Clone, Copy, Debug)]
+/// Shows that the start of a job was refused, by the system or by who hires. No job from that one on gets a thread.
+/// Nothing outside this file makes one.
+#[derive(Clone, Copy)]
 pub(crate) struct NoThread {
     first: u8,
-    by_system: bool,
 }
 
-impl NoThread {
-    /// The system refused the start of the job of this number.
-    pub(crate) fn of_system<F>(refusal: &SpawnError<F>, number: u8) -> NoThread
-        ensures first { result.first ≡ number }
-        ensures system { result.by_system ≡ true }
-    {
-        let _ = refusal;
-        NoThread {
-            first: number,
-            by_system: true,
-        }
+/// Starts a thread that takes the job of this number and runs it, where it may have one and the system has one.
+/// Elsewhere the job is still in its slot.
+pub(crate) fn start<
+    's,
+    'f: 's,
+    E,
+    R: Wait + Sync,
+    L: Lineup<J> + Send + 's,
+    J: Job + Send + 's,
+    H: Hire,
+>(
+    scope: &Scope<'s, E>,
+    rt: &'f R,
+    slot: &'f Mutex<Slot<J, L>>,
+    number: u8,
+    hire: &H,
+) -> Result<PromisedHandle<J::Back, Gives<J, L>>, NoThread>
+where
+    J::Back: Send + Drop + 's,
+    requires { AllCanRun J.can_run L.jobs }
+    ensures ok { IfOk result (λ h. h.promise.number ≡ number) }
+    ensures err { IfErr result (λ no. no.first ≡ number) }
+{
+    if !hire.may(number) {
+        return Err(NoThread { first: number });
     }
-
-    /// Asks whether the job of this number may have a thread; `None` where it may.
-    pub(crate) fn of_hire<H: Hire>(hire: &H, number: u8) -> Option<NoThread>
-        ensures { IfSome result (λ no. no.first ≡ number) }
-    {
-        if hire.may(number) {
-            return None;
-        }
-        Some(NoThread {
-            first: number,
-            by_system: false,
-        })
-    }
-
-    /// Whether the job of this number gets no thread.
-    pub(crate) fn is_for(&self, number: u8) -> bool
-        ensures { IsTrue result ↔ (self.now.first ≤ number) }
-    {
-        self.first <= number
+    let gives = Gives {
+        number,
+        of: PhantomData,
+    };
+    let work = move || -> J::Back
+        requires { AllCanRun J.can_run L.jobs }
+        ensures { OfJob L.jobs J.runs number result }
+    { taken(rt, slot, number).run() };
+    match scope.spawn_with(gives, work) {
+        Ok(handle) => Ok(handle),
+        Err(_) => Err(NoThread { first: number }),
     }
 }
