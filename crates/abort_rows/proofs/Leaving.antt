@@ -6,14 +6,14 @@ use Rattle.atomic_table.specs.Seated.{TableId}
 use Rattle.post_ledger.specs.Orders.{HasJob}
 use Rattle.switchboard.specs.declared.calls.Abort.{Abort}
 use Rattle.switchboard.specs.Sights.{Sight}
-use Rattle.switchboard.specs.Promises.{WasSpent, GoesOn, MadeNone, TookMessage, WasDone, MadeAbort}
+use Rattle.switchboard.specs.Promises.{WasSpent, GoesOn, MadeNone, TookOldest, WasDone, MadeAbort}
 use Rattle.switchboard.proofs.Jobs.{kept_none, job_new, job_other, take_keeps, done_keeps, abort_keeps}
-use Rattle.abort_rows.specs.Rows.{IsSame, Has, Spends, Leaves, IsSide}
+use Rattle.abort_rows.specs.Rows.{IsSame, Has, Spends, LeavesJob, IsSide}
 
 module _ {M W : Type 0} where
   -- a call that leaves all jobs, and what is in the place
   pub leaves_all : (s t : Sight M W) (job : Option ℕ) → IsSame s t
-      → ((j : ℕ) → HasJob s.number j s.seen.order → HasJob t.number j t.seen.order) → Has s job → Leaves s t job job
+      → ((j : ℕ) → HasJob s.number j s.seen.order → HasJob t.number j t.seen.order) → Has s job → LeavesJob s t job job
   leaves_all s t job same keeps has = record {
     spends = record { same = same; others = λ j h other. keeps j h };
     has = λ j is. keeps j (has j is);
@@ -22,7 +22,7 @@ module _ {M W : Type 0} where
 
   -- a job that came back stays, in its place
   pub leaves_back : (s u t : Sight M W) (old mid new : Option ℕ) (job back : ℕ) → Has s old → old ≡ Some job
-      → back ≡ job → WasSpent s u → mid ≡ None → Spends u t mid → new ≡ Some back → Leaves s t old new
+      → back ≡ job → WasSpent s u → mid ≡ None → Spends u t mid → new ≡ Some back → LeavesJob s t old new
   leaves_back s u t old mid new job back has is same spent none spends there =
       let p : Spends s t mid = subst (λ (z : Sight M W). Spends z t mid) spent.1 spends in
       let nowhere : (j : ℕ) → mid ≢ Some j = λ j at. cc in record {
@@ -32,7 +32,7 @@ module _ {M W : Type 0} where
       }
 
   -- the call has to do with the first place
-  pub side_first : (id : TableId) (n : ℕ) (s t : Sight M W) (a b new : Option ℕ) → IsSide id n s a b → Leaves s t a new
+  pub side_first : (id : TableId) (n : ℕ) (s t : Sight M W) (a b new : Option ℕ) → IsSide id n s a b → LeavesJob s t a new
       → IsSide id n t new b
   side_first id n s t a b new side leaves =
       let other : (j : ℕ) → b ≡ Some j → a ≢ Some j = λ j at same. side.apart j same at in record {
@@ -45,7 +45,7 @@ module _ {M W : Type 0} where
       }
 
   -- the call has to do with the second place
-  pub side_second : (id : TableId) (n : ℕ) (s t : Sight M W) (a b new : Option ℕ) → IsSide id n s a b → Leaves s t b new
+  pub side_second : (id : TableId) (n : ℕ) (s t : Sight M W) (a b new : Option ℕ) → IsSide id n s a b → LeavesJob s t b new
       → IsSide id n t a new
   side_second id n s t a b new side leaves = record {
     board = leaves.spends.same.0 ∙ side.board;
@@ -62,17 +62,17 @@ module _ {M W : Type 0} (fits : W → ℕ → M → Type 0) where
   same_of s t g = (g.board, g.number, g.before.boxes)
 
   -- a call that made no event
-  pub leaves_none : (s t : Sight M W) (job : Option ℕ) → MadeNone fits s t → Has s job → Leaves s t job job
+  pub leaves_none : (s t : Sight M W) (job : Option ℕ) → MadeNone fits s t → Has s job → LeavesJob s t job job
   leaves_none s t job m has = leaves_all s t job (same_of s t m.goes) (λ j h. kept_none fits s t j m h) has
 
   -- an abort that keeps the jobs
   pub leaves_alone : (s t : Sight M W) (job : Option ℕ) (a : Abort) → MadeAbort fits a s t → Has s job
-      → Leaves s t job job
+      → LeavesJob s t job job
   leaves_alone s t job a m has = leaves_all s t job (same_of s t m.goes) (λ j h. abort_keeps fits s t a j m h) has
 
   -- an abort that spends the job
   pub leaves_abort : (s t : Sight M W) (old new : Option ℕ) (a : Abort) → new ≡ None → MadeAbort fits a s t
-      → Leaves s t old new
+      → LeavesJob s t old new
   leaves_abort s t old new a none m = record {
     spends = record { same = same_of s t m.goes; others = λ j h other. abort_keeps fits s t a j m h };
     has = λ j at. cc;
@@ -98,7 +98,7 @@ module _ {M W : Type 0} (fits : W → ℕ → M → Type 0) where
 
   -- a completion leaves no job in the place
   pub leaves_done : (s t : Sight M W) (old new : Option ℕ) (job : ℕ) → old ≡ Some job → new ≡ None
-      → WasDone fits job s t → Leaves s t old new
+      → WasDone fits job s t → LeavesJob s t old new
   leaves_done s t old new job is none done = record {
     spends = spends_done s t old job is done;
     has = λ j at. cc;
@@ -106,8 +106,8 @@ module _ {M W : Type 0} (fits : W → ℕ → M → Type 0) where
   }
 
   -- the job of a message that was taken is in the place
-  pub leaves_taken : (s u t : Sight M W) (old new : Option ℕ) (job : ℕ) (m : M) → Has s old → TookMessage fits job m s u
-      → Spends u t old → new ≡ Some job → Leaves s t old new
+  pub leaves_taken : (s u t : Sight M W) (old new : Option ℕ) (job : ℕ) (m : M) → Has s old → TookOldest fits job m s u
+      → Spends u t old → new ≡ Some job → LeavesJob s t old new
   leaves_taken s u t old new job m has took spends is =
       let new_is : (j : ℕ) → new ≡ Some j → job ≡ j = λ j at. same_Some job j (sym is ∙ at) in
       let first : IsSame s u = same_of s u took.added.goes in record {

@@ -22,7 +22,7 @@ module _ {M W : Type 0} where
 
   -- What a call leaves that had to do with the place of one job: the pass has the job that is there then, if there is
   -- one, and each other job that it had, none of which is there.
-  pub record Leaves (s t : Sight M W) (old new : Option ℕ) : Type 0 where
+  pub record LeavesJob (s t : Sight M W) (old new : Option ℕ) : Type 0 where
     pub spends : Spends s t old
     pub has : Has t new
     pub others : (j : ℕ) → HasJob s.number j s.seen.order → old ≢ Some j → new ≢ Some j

@@ -1,7 +1,7 @@
 //! One call of a pass, with one of its jobs, if it is there.
 ghost use Rattle.std.specs.Prelude.{◌≡◌, ◌≢◌, ◌<◌, Some};
 ghost use Rattle.post_ledger.specs.Orders.{HasJob};
-ghost use Rattle.abort_rows.specs.Rows.{Has, Leaves, Spends};
+ghost use Rattle.abort_rows.specs.Rows.{Has, LeavesJob, Spends};
 
 use crate::boards::{Letter, Letters};
 use crate::calls::{Act, Answer};
@@ -47,7 +47,7 @@ fn put<R: Wait, B: Letters>(
 fn take<R: Wait, B: Letters>(rt: &R, board: &B, pass: &mut B::Pass, job: &mut Option<Job>) -> Answer
     requires board { (B.sight pass.old).board ≡ B.identity board.now }
     requires job { Has (B.sight pass.old) job.old }
-    ensures { Leaves (B.sight pass.old) (B.sight pass.new) job.old job.new }
+    ensures { LeavesJob (B.sight pass.old) (B.sight pass.new) job.old job.new }
 {
     match Board::take(board, rt, pass) {
         Ok(Taken::Message(new, letter)) => {
@@ -71,7 +71,7 @@ fn post<R: Wait, B: Letters>(
     requires board { (B.sight pass.old).board ≡ B.identity board.now }
     requires boxes { 1 < (B.sight pass.old).seen.boxes }
     requires job { Has (B.sight pass.old) job.now }
-    ensures { Leaves (B.sight pass.old) (B.sight pass.new) job.now job.now }
+    ensures { LeavesJob (B.sight pass.old) (B.sight pass.new) job.now job.now }
 {
     let Some(job) = job else {
         return Answer::Nothing;
@@ -90,7 +90,7 @@ fn done<R: Wait, B: Letters>(
 ) -> Answer
     requires board { (B.sight pass.old).board ≡ B.identity board.now }
     requires job { Has (B.sight pass.old) place.old }
-    ensures { Leaves (B.sight pass.old) (B.sight pass.new) place.old place.new }
+    ensures { LeavesJob (B.sight pass.old) (B.sight pass.new) place.old place.new }
 {
     let Some(job) = place.take() else {
         return Answer::Nothing;
@@ -107,7 +107,7 @@ fn done<R: Wait, B: Letters>(
 fn abort<R: Wait, B: Letters>(rt: &R, board: &B, pass: &mut B::Pass, job: &mut Option<Job>)
     requires board { (B.sight pass.old).board ≡ B.identity board.now }
     requires job { Has (B.sight pass.old) job.old }
-    ensures { Leaves (B.sight pass.old) (B.sight pass.new) job.old job.new }
+    ensures { LeavesJob (B.sight pass.old) (B.sight pass.new) job.old job.new }
 {
     let job = job.take();
     Board::abort(board, rt, pass, job, Cause::Memory);
@@ -124,7 +124,7 @@ pub(crate) fn call<R: Wait, B: Letters>(
     requires board { (B.sight pass.old).board ≡ B.identity board.now }
     requires boxes { 1 < (B.sight pass.old).seen.boxes }
     requires job { Has (B.sight pass.old) job.old }
-    ensures { Leaves (B.sight pass.old) (B.sight pass.new) job.old job.new }
+    ensures { LeavesJob (B.sight pass.old) (B.sight pass.new) job.old job.new }
 {
     match act {
         Act::Take => take(rt, board, pass, job),

@@ -9,8 +9,8 @@ module _ {M W : Type 0} where
   IsSame s t = (t.board ≡ s.board) × (t.number ≡ s.number) × (t.seen.boxes ≡ s.seen.boxes)
 
   -- the pass of this number, of a board with so many mailboxes
-  abbrev pub IsPass : ℕ → ℕ → Sight M W → Type 0
-  IsPass n boxes s = (s.number ≡ n) × (s.seen.boxes ≡ boxes)
+  abbrev pub IsPassNumbered : ℕ → ℕ → Sight M W → Type 0
+  IsPassNumbered n boxes s = (s.number ≡ n) × (s.seen.boxes ≡ boxes)
 
   -- the pass has the jobs that it had
   abbrev pub KeepsJobs : Sight M W → Sight M W → Type 0

@@ -24,7 +24,7 @@ use Rattle.cli.specs.Counts.{AreSoMany, names_of}
 use Rattle.cli.specs.Counted.{HasEach, answer_line, answer_status, is_take, lines_behind}
 use Rattle.cli.specs.Refused.{HasRewriting}
 use Rattle.gather.specs.Reports.{AreDueOnce, IsReport, posted_to}
-use Rattle.cli.specs.Verdict.{Answers, AnswersOn, Follows, IsProgramOf}
+use Rattle.cli.specs.Verdict.{Answers, AnswersOn, ComesBehind, IsProgramOf}
 use Rattle.gather.specs.declared.report.Answer.{Answer}
 use Rattle.gather.specs.declared.report.Answer.TheVariants.{Safe, Unsafe}
 use Rattle.gather.specs.declared.report.Report.{Report}
@@ -83,7 +83,7 @@ has_each rounds most t r checked h = record {
 
 -- the lines behind the answer are what is asked for
 lines_follow : {H A : Type 0} (rounds most : ℕ) (t : Tree) (r : Report H A) → IsReport t rounds most r → (stats : Bool)
-    → Follows stats rounds t (lines_behind stats (names_of t) r)
+    → ComesBehind stats rounds t (lines_behind stats (names_of t) r)
 lines_follow rounds most t r h false = refl
 lines_follow rounds most t r h true =
     tell_counts t rounds r.summaries r.ledger.histories.items h.found.summaries h.found.through.all
@@ -91,7 +91,7 @@ lines_follow rounds most t r h true =
 
 -- what is told of an answer is what it says
 answered : (t : Tree) (rounds : ℕ) (stats : Bool) (a : Answer)
-    → ((a ≡ Unsafe) ↔ runs.Unsafe (meaning_of t) rounds) → (lines : List ℕ) → Follows stats rounds t lines
+    → ((a ≡ Unsafe) ↔ runs.Unsafe (meaning_of t) rounds) → (lines : List ℕ) → ComesBehind stats rounds t lines
     → (bytes : List ℕ) (status : ℕ) → bytes ≡ answer_line a ++ lines → status ≡ answer_status a
     → AnswersOn t rounds stats bytes status
 answered t rounds stats Safe iff lines follows bytes status e s =

@@ -6,7 +6,7 @@ use Rattle.std.specs.declared.io.Error.{Error}
 use Rattle.std.specs.declared.io.ErrorKind.{ErrorKind}
 use Rattle.std.specs.declared.io.ErrorKind.TheVariants.{InvalidData}
 use Rattle.clap.specs.Words.{Text}
-use Rattle.cli.specs.Ran.{AnswersWords, Declines, Runs}
+use Rattle.cli.specs.Ran.{AnswersWords, Declines, RunsWords}
 use Rattle.cli.specs.Streams.{Streams}
 use Rattle.command_line.specs.declared.asked.LineFault.{LineFault}
 use Rattle.command_line.specs.declared.asked.LineFault.TheVariants.{Help, Memory, Refused}
@@ -27,9 +27,9 @@ AreUnread kind Memory = ⊤
 module _ {V F : Type 0} (gives : Result V Error → Type 0) (text_of : V → List Text)
     (opens : Text → Result F Error → Type 0) (remaining : F → Option (List ℕ)) where
   -- What the words that were handed over ask for was done; or none were, and that was said.
-  abbrev pub Ends : Streams → Streams → ℕ → Type 0
-  Ends old new result =
-      ((words : V) × gives (Ok words) × Runs opens remaining (text_of words) old new result)
+  abbrev pub ProgramEnds : Streams → Streams → ℕ → Type 0
+  ProgramEnds old new result =
+      ((words : V) × gives (Ok words) × RunsWords opens remaining (text_of words) old new result)
       ⊎ ((error : Error) × gives (Err error)
       × ((fault : LineFault) × AreUnread (error_kind error) fault × Declines fault old new result))
 

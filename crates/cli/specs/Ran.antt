@@ -6,7 +6,7 @@ use Rattle.std.specs.declared.io.Error.{Error}
 use Rattle.clap.specs.Words.{Text}
 use Rattle.command_line.specs.Line as line
 use Rattle.cli.specs.Served.{Answered, Serves, TellsUnread, without_memory}
-use Rattle.cli.specs.Streams.{Said, Says, Stays, Streams, Takes}
+use Rattle.cli.specs.Streams.{Said, Says, Stays, Streams, StreamTakes}
 use Rattle.command_line.specs.declared.asked.LineFault.{LineFault}
 use Rattle.command_line.specs.declared.asked.LineFault.TheVariants.{Help, Memory, Refused}
 use Rattle.orders.specs.declared.order.Order.{Order}
@@ -31,18 +31,17 @@ module _ {F : Type 0} (opens : List ℕ → Result F Error → Type 0) (remainin
       ⊎ ((error : Error) × opens path (Err error) × TellsUnread path (error_kind error) old new result)
 
   -- The words give no order, and that is answered; or they give one, and a reply is due to the file that they name.
-  abbrev pub Runs : List Text → Streams → Streams → ℕ → Type 0
-  Runs words old new result =
-      ((fault : LineFault) × line.Refuses words fault × Declines fault old new result)
+  abbrev pub RunsWords : List Text → Streams → Streams → ℕ → Type 0
+  RunsWords words old new result =
+      ((fault : LineFault) × line.RefusesWords words fault × Declines fault old new result)
       ⊎ ((order : Order) × (path : Text) × line.AskFor words order path × ServesFile path order old new result)
 
   -- The words ask for help, and the standard output took just that; or they give an order, and it took just the reply
-  -- to
-  -- all bytes of the file that they name. The standard error took nothing.
+  -- to all bytes of the file that they name. The standard error took nothing.
   abbrev pub AnswersWords : List Text → Streams → Streams → ℕ → Type 0
   AnswersWords words old new result =
-      ((fault : LineFault) × line.Refuses words fault × ((declined fault).status ≡ 0) × (result ≡ 0)
-      × Takes old.output new.output (declined fault).reply true × Stays old.log new.log)
+      ((fault : LineFault) × line.RefusesWords words fault × ((declined fault).status ≡ 0) × (result ≡ 0)
+      × StreamTakes old.output new.output (declined fault).reply true × Stays old.log new.log)
       ⊎ ((order : Order) × (path : Text) × line.AskFor words order path
       × ((file : F) × opens path (Ok file)
       × ((left : Option (List ℕ)) × Answered order (remaining file) left old new result)))

@@ -31,7 +31,7 @@ HasRewriting bytes rounds = (t : Tree) × Text bytes t × IsChecked t × IsNarro
 -- The text is no program by the grammar, or a fault of scopes stands in it: there is a place at which it is refused.
 abbrev pub HasPlace : List ℕ → Type 0
 HasPlace bytes =
-    ((at : ℕ) × text.Stands (read.Syntax at) bytes)
+    ((at : ℕ) × text.ReadFaultStands (read.Syntax at) bytes)
     ⊎ ((t : Tree) × (fault : ScopeFault) × Text bytes t × IsFirstFault t fault)
 
 -- Some procedure of the text's rewriting has more path edges than the limit, where there is one.
@@ -50,7 +50,7 @@ HasWorkers bytes rounds (Some edges) = HasRewriting bytes rounds
 -- checked. Later it gives out only where the program is rewritten and what follows, or over the line of a refusal that
 -- names an offset. The workers of a check may get no thread, or use up their calls.
 abbrev pub RefusalStands : List ℕ → ℕ → Option ℕ → Refusal → Type 0
-RefusalStands bytes rounds limit (Unread fault) = text.Stands fault bytes
+RefusalStands bytes rounds limit (Unread fault) = text.ReadFaultStands fault bytes
 RefusalStands bytes rounds limit (Unchecked fault) =
     (t : Tree) × Text bytes t × ((fault ≡ scope.Memory) ⊎ IsFirstFault t fault)
 RefusalStands bytes rounds limit (TooWide wide) = (t : Tree) × IsWide bytes rounds t wide

@@ -20,8 +20,7 @@ use Rattle.cli.specs.Refused.{IsPast, RefusalStands}
 use Rattle.cli.specs.Written.{bytes_of}
 
 -- the text is that of a checked program, the bytes are the printed form of its rewriting for so many rounds, and within
--- the
--- limits of texts they are a text of that rewriting, offsets aside
+-- the limits of texts they are a text of that rewriting, offsets aside
 pub record IsSequential (text : List ℕ) (rounds : ℕ) (bytes : List ℕ) : Type 0 where
   pub tree : Tree
   pub of : Text text tree
@@ -39,16 +38,16 @@ abbrev pub IsPastLimit : List ℕ → Order → Type 0
 IsPastLimit text order = IsPast text (rounds_of order) (edges_of order)
 
 -- The reply tells this refusal, and is its line with its status.
-abbrev pub Tells : {A : Type 0} → Refusal → Reply A → Type 0
-Tells why reply = (bytes_of reply ≡ line_of why) × (reply.status ≡ status_of why) × (reply.refusal ≡ Some why)
+abbrev pub TellsRefusal : {A : Type 0} → Refusal → Reply A → Type 0
+TellsRefusal why reply = (bytes_of reply ≡ line_of why) × (reply.status ≡ status_of why) × (reply.refusal ≡ Some why)
 
 -- The reply tells this refusal; or its line names an offset, and the reply tells that memory gave out over that.
 abbrev pub TellsOrLacks : {A : Type 0} → Refusal → Reply A → Type 0
-TellsOrLacks why reply = Tells why reply ⊎ (NamesOffset why × Tells Memory reply)
+TellsOrLacks why reply = TellsRefusal why reply ⊎ (NamesOffset why × TellsRefusal Memory reply)
 
 -- Some refusal stands for so many rounds and this limit, and the reply tells it, and is its line with its status.
 abbrev pub RefusesFor : {A : Type 0} → List ℕ → ℕ → Option ℕ → Reply A → Type 0
-RefusesFor text rounds limit reply = (why : Refusal) × RefusalStands text rounds limit why × Tells why reply
+RefusesFor text rounds limit reply = (why : Refusal) × RefusalStands text rounds limit why × TellsRefusal why reply
 
 -- Some refusal stands for what was asked, and the reply tells it, and is its line with its status.
 abbrev pub Refuses : {A : Type 0} → List ℕ → Order → Reply A → Type 0

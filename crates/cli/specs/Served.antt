@@ -9,7 +9,7 @@ use Rattle.refusals.specs.Lines.{line_of, memory_line, status_of}
 use Rattle.cli.specs.Refused.{RefusalStands}
 use Rattle.cli.specs.Replies.{Replies}
 use Rattle.orders.specs.Parts.{edges_of, rounds_of}
-use Rattle.cli.specs.Streams.{Said, Says, Stays, Streams, Takes}
+use Rattle.cli.specs.Streams.{Said, Says, Stays, Streams, StreamTakes}
 use Rattle.cli.specs.Told.{IsExplanation, IsReason}
 use Rattle.orders.specs.declared.order.Order.{Order}
 use Rattle.refusals.specs.declared.refusal.Refusal.{Refusal}
@@ -62,8 +62,8 @@ pub record TellsUnread (path : List ℕ) (kind : ErrorKind) (old new : Streams) 
   pub says : Says old new said result
 
 -- The reader gave a text, and this is the reply to it; or reading failed, and this says so.
-abbrev pub IsDue : List ℕ → Order → Option (List ℕ) → Option (List ℕ) → Said → Type 0
-IsDue path order given left said =
+abbrev pub ReplyIsDue : List ℕ → Order → Option (List ℕ) → Option (List ℕ) → Said → Type 0
+ReplyIsDue path order given left said =
     ((text : List ℕ) × Gave most_read given left text × IsReply path text order said)
     ⊎ (GavePart most_read given left × ((kind : ErrorKind) × IsUnread path kind said))
 
@@ -71,7 +71,7 @@ IsDue path order given left said =
 pub record Serves (path : List ℕ) (order : Order) (given left : Option (List ℕ)) (old new : Streams)
     (result : ℕ) : Type 0 where
   pub said : Said
-  pub due : IsDue path order given left said
+  pub due : ReplyIsDue path order given left said
   pub says : Says old new said result
 
 -- The reader gave all its bytes, and the standard output took just the reply to them, and the standard error nothing.
@@ -80,5 +80,5 @@ pub record Answered (order : Order) (given left : Option (List ℕ)) (old new : 
   pub bytes : List ℕ
   pub all : GaveAll given left text
   pub reply : Replies text order bytes result
-  pub wrote : Takes old.output new.output bytes true
+  pub wrote : StreamTakes old.output new.output bytes true
   pub quiet : Stays old.log new.log

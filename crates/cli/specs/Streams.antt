@@ -3,39 +3,38 @@ use Rattle.std.specs.Prelude.{◌≡◌, ◌⊎◌, ◌<◌, ℕ, Bool, true, fa
 use Rattle.std.specs.Io.KnownBytes.{Appends}
 
 -- what is known of a stream: the bytes that it holds, where they are known, and whether a write to it may have failed
-pub record Held : Type 0 where
+pub record KnownStream : Type 0 where
   pub bytes : Option (List ℕ)
   pub may_have_failed : Bool
 
 -- The stream took all of these bytes and no others; or a write to it may have failed, and it took a part of them that
--- is
--- not the whole.
-abbrev pub Takes : Held → Held → List ℕ → Bool → Type 0
-Takes old new bytes true = Appends old.bytes new.bytes bytes
-Takes old new bytes false =
+-- is not the whole.
+abbrev pub StreamTakes : KnownStream → KnownStream → List ℕ → Bool → Type 0
+StreamTakes old new bytes true = Appends old.bytes new.bytes bytes
+StreamTakes old new bytes false =
     IsTrue new.may_have_failed × ((n : ℕ) × (n < length bytes) × Appends old.bytes new.bytes (take n bytes))
 
 -- The stream took all of these bytes, or, where a write to it failed, a part, and no others.
-abbrev pub Logs : Held → Held → List ℕ → Type 0
-Logs old new bytes = (all : Bool) × Takes old new bytes all
+abbrev pub Logs : KnownStream → KnownStream → List ℕ → Type 0
+Logs old new bytes = (all : Bool) × StreamTakes old new bytes all
 
 -- The stream holds what it held.
-abbrev pub Stays : Held → Held → Type 0
-Stays old new = Takes old new [] true
+abbrev pub Stays : KnownStream → KnownStream → Type 0
+Stays old new = StreamTakes old new [] true
 
 -- The stream took all of these bytes, and the result is their status; or, where a write to it failed, a part, and the
 -- result is 3.
-abbrev pub Writes : Held → Held → List ℕ → ℕ → ℕ → Type 0
+abbrev pub Writes : KnownStream → KnownStream → List ℕ → ℕ → ℕ → Type 0
 Writes old new bytes status result =
-    (Takes old new bytes true × (result ≡ status)) ⊎ (Takes old new bytes false × (result ≡ 3))
+    (StreamTakes old new bytes true × (result ≡ status)) ⊎ (StreamTakes old new bytes false × (result ≡ 3))
 
 -- the standard output and the standard error
 pub record Streams : Type 0 where
-  pub output : Held
-  pub log : Held
+  pub output : KnownStream
+  pub log : KnownStream
 
 -- the standard output and the standard error, by what each holds
-abbrev pub streams : Held → Held → Streams
+abbrev pub streams : KnownStream → KnownStream → Streams
 streams output log = record { output = output; log = log }
 
 -- what is to be said: the reply, its status, and the message about it

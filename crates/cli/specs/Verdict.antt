@@ -26,15 +26,15 @@ abbrev pub IsProgramOf : List ℕ → Tree → Type 0
 IsProgramOf text t = Text text t × IsChecked t
 
 -- what comes behind a verdict: nothing, or, where it is asked for, what is counted of each procedure
-abbrev pub Follows : Bool → ℕ → Tree → List ℕ → Type 0
-Follows false rounds t lines = lines ≡ []
-Follows true rounds t lines = TellCounts rounds t lines
+abbrev pub ComesBehind : Bool → ℕ → Tree → List ℕ → Type 0
+ComesBehind false rounds t lines = lines ≡ []
+ComesBehind true rounds t lines = TellCounts rounds t lines
 
 -- The reply is `unsafe` with status 1 where some run of at most so many rounds fails an assert, `safe` with status 0
 -- where none does, and behind it comes what is asked for.
 abbrev pub AnswersOn : Tree → ℕ → Bool → List ℕ → ℕ → Type 0
 AnswersOn t rounds stats bytes status =
-    (lines : List ℕ) × Follows stats rounds t lines
+    (lines : List ℕ) × ComesBehind stats rounds t lines
     × (((bytes ≡ codes "unsafe\n" ++ lines) × (status ≡ 1) × Unsafe (meaning_of t) rounds)
     ⊎ ((bytes ≡ codes "safe\n" ++ lines) × (status ≡ 0) × ¬ Unsafe (meaning_of t) rounds))
 

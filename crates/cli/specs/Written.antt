@@ -8,5 +8,5 @@ abbrev pub bytes_of : {A : Type 0} → Reply A → List ℕ
 bytes_of reply = cow_slice_items reply.bytes
 
 -- the reply writes these bytes and has this status
-abbrev pub Says : {A : Type 0} → List ℕ → ℕ → Reply A → Type 0
-Says bytes status reply = (bytes_of reply ≡ bytes) × (reply.status ≡ status)
+abbrev pub IsReplyWith : {A : Type 0} → List ℕ → ℕ → Reply A → Type 0
+IsReplyWith bytes status reply = (bytes_of reply ≡ bytes) × (reply.status ≡ status)

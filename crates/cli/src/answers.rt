@@ -8,10 +8,10 @@ ghost use Rattle.refusals.specs.Lines.{memory_line};
 ghost use Rattle.refusals.specs.declared.refusal.Refusal.TheVariants as why;
 ghost use Rattle.cli.specs.Counted.{HasEach, answer_line, answer_status, lines_behind};
 ghost use Rattle.cli.specs.Counts.{names_of};
-ghost use Rattle.cli.specs.Replies.{IsPastLimit, IsSequential, Refuses, RefusesFor, Replies, Tells};
+ghost use Rattle.cli.specs.Replies.{IsPastLimit, IsSequential, Refuses, RefusesFor, Replies, TellsRefusal};
 ghost use Rattle.cli.specs.Replies.{TellsOrLacks};
 ghost use Rattle.cli.specs.Verdict.{Answers};
-ghost use Rattle.cli.specs.Written.{Says, bytes_of};
+ghost use Rattle.cli.specs.Written.{IsReplyWith, bytes_of};
 
 use crate::checking::checked;
 use crate::counts::push_counts;
@@ -75,7 +75,7 @@ fn reported<N: Allocator, H: Allocator, A: Allocator>(
         ≡ answer_line report.now.answer ++ lines_behind stats
         (names_of (checked_tree program.now)) report.now)
         × (result.status ≡ answer_status report.now.answer) × (result.refusal ≡ None)
-        ⊎ (stats ≡ true) × Tells why.Memory result }
+        ⊎ (stats ≡ true) × TellsRefusal why.Memory result }
 {
     let (word, status) = match report.answer {
         Answer::Safe => ("safe\n", 0),

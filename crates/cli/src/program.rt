@@ -5,7 +5,7 @@ ghost use Rattle.std.specs.Fn.{FnOnceReturnsAt};
 ghost use Rattle.std.specs.IoError.{error_kind};
 ghost use Rattle.std.specs.Process.{exit_status};
 ghost use Rattle.std.specs.String.{string_bytes};
-ghost use Rattle.cli.specs.Ended.{AreUnread, Ends, EndsAnswered};
+ghost use Rattle.cli.specs.Ended.{AreUnread, ProgramEnds, EndsAnswered};
 ghost use Rattle.cli.specs.Streams.{streams};
 
 use crate::running::{decline, run};
@@ -44,7 +44,7 @@ where
     L: Stream,
     requires words { G.IsAlwaysCallable words }
     requires files { O.IsAlwaysCallable opener }
-    ensures ends { Ends (G.post words) (λ v. map string_bytes v.items)
+    ensures ends { ProgramEnds (G.post words) (λ v. map string_bytes v.items)
         (FnOnceReturnsAt O.FnOnce opener) F.remaining
         (streams (W.held writer.old) (L.held log.old))
         (streams (W.held writer.new) (L.held log.new))

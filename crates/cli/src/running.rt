@@ -3,7 +3,7 @@
 ghost use Rattle.std.specs.Prelude.{◌≤◌, map};
 ghost use Rattle.std.specs.Fn.{FnOnceReturnsAt};
 ghost use Rattle.std.specs.String.{string_bytes};
-ghost use Rattle.cli.specs.Ran.{AnswersWords, Declines, Runs};
+ghost use Rattle.cli.specs.Ran.{AnswersWords, Declines, RunsWords};
 ghost use Rattle.cli.specs.Streams.{streams};
 
 use crate::serving::{no_room, serve_telling, unread};
@@ -40,7 +40,7 @@ where
     W: Stream,
     L: Stream,
     requires { O.IsAlwaysCallable opener }
-    ensures runs { Runs (FnOnceReturnsAt O.FnOnce opener) F.remaining (map string_bytes words.now)
+    ensures runs { RunsWords (FnOnceReturnsAt O.FnOnce opener) F.remaining (map string_bytes words.now)
         (streams (W.held writer.old) (L.held log.old))
         (streams (W.held writer.new) (L.held log.new)) result }
     ensures answers { result ≤ 1

@@ -4,7 +4,7 @@ ghost use Rattle.std.specs.Prelude.{◌≤◌, ℕ, IfOk, List, []};
 ghost use Rattle.std.specs.IoError.{error_kind};
 ghost use Rattle.std.specs.String.{string_bytes};
 ghost use Rattle.cli.specs.Served.{Answered, Serves, TellsUnread, without_memory};
-ghost use Rattle.cli.specs.Streams.{Held, Logs, Says, streams};
+ghost use Rattle.cli.specs.Streams.{KnownStream, Logs, Says, streams};
 ghost use Rattle.cli.specs.Told.{IsMessage, IsReason};
 
 use crate::answers::answer;
@@ -137,11 +137,11 @@ pub fn serve<X: Alloc + Wait + Threads + Sync, R: Read, W: Stream>(
 ) -> u8
 where
     X::A: Copy + Send + Sync,
-    ensures serves { (log : Held × Held)
+    ensures serves { (log : KnownStream × KnownStream)
         × Serves [] order (R.remaining reader.old) (R.remaining reader.new)
         (streams (W.held writer.old) log.0) (streams (W.held writer.new) log.1) result }
     ensures answers { result ≤ 1
-        → (log : Held × Held) × Answered order (R.remaining reader.old) (R.remaining reader.new)
+        → (log : KnownStream × KnownStream) × Answered order (R.remaining reader.old) (R.remaining reader.new)
         (streams (W.held writer.old) log.0) (streams (W.held writer.new) log.1) result }
     ensures status { result ≤ 3 }
 {

@@ -2,17 +2,17 @@
 
 ghost use Rattle.std.specs.Prelude.{◌≡◌, ◌≤◌, length, take, true};
 ghost use Rattle.std.specs.Io.KnownBytes.{Appends};
-ghost use Rattle.cli.specs.Streams.{Held, Logs, Takes, Writes};
+ghost use Rattle.cli.specs.Streams.{KnownStream, Logs, StreamTakes, Writes};
 
 use std::io::{ErrorKind, Write};
 
 /// A stream that is written to, as the standard output: it takes bytes one behind the other, until a write fails.
 pub trait Stream {
-    ghost held: { Self → Held };
+    ghost held: { Self → KnownStream };
 
     /// Writes the bytes, and tells whether the stream took all of them, as it does but where a write fails.
     fn put(&mut self, bytes: &[u8]) -> bool
-        ensures { Takes (held self.old) (held self.new) bytes.now result };
+        ensures { StreamTakes (held self.old) (held self.new) bytes.now result };
 }
 
 /// Writes the bytes, and gives how many of them the writer took: all of them but after a failed write.

@@ -62,8 +62,8 @@ abbrev pub IsBuilt : App → Command → Type 0
 IsBuilt app c = (app_of c ≡ app) × ((fields_of c).has_globals ≡ false)
 
 -- The value that was found for this option, given or by default, reads as the number.
-abbrev pub Reads : List Row → Text → ℕ → Type 0
-Reads rows id n = (t : Text) × (one_of id rows ≡ Some t) × IsNumeral 10 (without_leading_plus t)
+abbrev pub ReadsAs : List Row → Text → ℕ → Type 0
+ReadsAs rows id n = (t : Text) × (one_of id rows ≡ Some t) × IsNumeral 10 (without_leading_plus t)
     × (digits_value 10 (without_leading_plus t) ≡ n)
 
 -- what is found for an option without a value: that it was given, or that it was not
@@ -76,11 +76,11 @@ abbrev pub IsGiven : List Row → Text → Bool → Type 0
 IsGiven rows id given = one_of id rows ≡ Some (flag_text given)
 
 -- A command of this name, with what was found for its options, is the order.
-abbrev pub Gives : Text → List Row → Order → Type 0
-Gives name rows (Check k n s) =
-    (name ≡ codes "check") × Reads rows (codes "rounds") (count_of k) × Reads rows (codes "edges") (most_of n)
+abbrev pub CommandGives : Text → List Row → Order → Type 0
+CommandGives name rows (Check k n s) =
+    (name ≡ codes "check") × ReadsAs rows (codes "rounds") (count_of k) × ReadsAs rows (codes "edges") (most_of n)
     × IsGiven rows (codes "stats") s
-Gives name rows (Sequential k) = (name ≡ codes "sequential") × Reads rows (codes "rounds") (count_of k)
+CommandGives name rows (Sequential k) = (name ≡ codes "sequential") × ReadsAs rows (codes "rounds") (count_of k)
 
 -- A command of this name with these numbers, and this option without a value, is the order.
 abbrev pub IsNamed : Text → ℕ → Option ℕ → Option Bool → Order → Type 0
@@ -90,11 +90,11 @@ IsNamed name k n s (Sequential rounds) = (name ≡ codes "sequential") × (count
 
 -- What was found for a command is this order on this file.
 abbrev pub Orders : Text × List Row → Order → Text → Type 0
-Orders command order path = Gives command.0 command.1 order × (first_of (codes "file") command.1 ≡ Some path)
+Orders command order path = CommandGives command.0 command.1 order × (first_of (codes "file") command.1 ≡ Some path)
 
 -- What was found for the words is this order on this file.
-abbrev pub Asks : Option (Text × List Row) → Order → Text → Type 0
-Asks found order path = (command : Text × List Row) × (found ≡ Some command) × Orders command order path
+abbrev pub GivesOrder : Option (Text × List Row) → Order → Text → Type 0
+GivesOrder found order path = (command : Text × List Row) × (found ≡ Some command) × Orders command order path
 
 -- The command line takes the words, the program's own name first, and gives this order on this file for them.
 pub record AskFor (words : List Text) (order : Order) (path : Text) : Type 0 where
@@ -115,7 +115,7 @@ IsOfKind k Memory = ⊤
 
 -- The command line does not take the words: help is asked for, or they have another fault. Memory may run out at any
 -- words.
-abbrev pub Refuses : List Text → LineFault → Type 0
-Refuses words (Help text) = (k : ErrorKind) × IsAmong k (fault_of bebopk words) × IsShown k
-Refuses words (Refused text) = (k : ErrorKind) × IsAmong k (fault_of bebopk words) × ¬ IsShown k
-Refuses words Memory = ⊤
+abbrev pub RefusesWords : List Text → LineFault → Type 0
+RefusesWords words (Help text) = (k : ErrorKind) × IsAmong k (fault_of bebopk words) × IsShown k
+RefusesWords words (Refused text) = (k : ErrorKind) × IsAmong k (fault_of bebopk words) × ¬ IsShown k
+RefusesWords words Memory = ⊤

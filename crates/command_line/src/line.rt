@@ -153,8 +153,8 @@ fn order_of(name: &str, rounds: u8, edges: Option<u32>, stats: Option<bool>) -> 
 /// The order and the file of what was found for the words, if it is an order.
 fn asked<'a>(matches: &ArgMatches<'a>) -> Option<(Order, &'a str)>
     ensures { let found = subcommand_rows_of matches.now in
-        MatchOption result ((order : Order) (path : Text) → ¬ line.Asks found order path)
-        (λ o. line.Asks found o.0 o.1.now) }
+        MatchOption result ((order : Order) (path : Text) → ¬ line.GivesOrder found order path)
+        (λ o. line.GivesOrder found o.0 o.1.now) }
 {
     let (name, found) = matches.subcommand()?;
     let rounds = found.get_one::<u8>("rounds")?;
@@ -170,7 +170,7 @@ fn asked<'a>(matches: &ArgMatches<'a>) -> Option<(Order, &'a str)>
 pub fn order(alloc: Global, words: &[String]) -> Result<(Order, String), LineFault>
     ensures asks { IfOk result
         (λ o. line.AskFor (map string_bytes words.now) o.0 (string_bytes o.1)) }
-    ensures refuses { IfErr result (λ why. line.Refuses (map string_bytes words.now) why) }
+    ensures refuses { IfErr result (λ why. line.RefusesWords (map string_bytes words.now) why) }
 {
     let Ok(command) = command(alloc) else {
         return Err(LineFault::Memory);

@@ -8,7 +8,7 @@ use Rattle.language.specs.Tree.{Operator, Expression, const, var, negation, two}
 use Rattle.trees.specs.Trees.{operator_of}
 use Rattle.trees.specs.declared.tree.Op.{Op}
 use Rattle.flow_graph.specs.Located.{worth, read_of}
-use Rattle.flow_graph.specs.Postfix.{after_steps, top, IsShallow, need, Evaluates, Puts}
+use Rattle.flow_graph.specs.Postfix.{after_steps, top, IsShallow, need, Evaluates, PutsSteps}
 use Rattle.flow_graph.specs.declared.postfix.Step.{Step}
 use Rattle.flow_graph.specs.declared.postfix.Step.TheVariants.{Read, Constant, Not, Apply, ApplySwapped}
 use Rattle.resolved.specs.Limits.{most_places}
@@ -64,8 +64,8 @@ record Joins (first second whole : Expression ℕ) (last : Step) : Type 0 where
   pub long : 2 ^ need whole ≤ 2 ^ need first + 2 ^ need second
 
 both_put : (first second whole : Expression ℕ) (last : Step) (old left right new : List Step) →
-    Joins first second whole last → Puts old left first → Puts left right second → new ≡ right ++ (last ∷ []) →
-    Puts old new whole
+    Joins first second whole last → PutsSteps old left first → PutsSteps left right second → new ≡ right ++ (last ∷ []) →
+    PutsSteps old new whole
 both_put first second whole last old left right new joins (x, is_x, p) (y, is_y, q) e = (
   x ++ (y ++ (last ∷ [])),
   behind old left right new x y last is_x is_y e,
@@ -95,8 +95,8 @@ module _ (a b : Expression ℕ) (op : Op) (old left right new : List Step) where
   needed = together (need a) (need b)
 
   -- the left operand first
-  pub applied : need b ≤ need a → Puts old left a → Puts left right b → new ≡ right ++ (Apply op ∷ []) →
-      Puts old new (two (operator_of op) a b)
+  pub applied : need b ≤ need a → PutsSteps old left a → PutsSteps left right b → new ≡ right ++ (Apply op ∷ []) →
+      PutsSteps old new (two (operator_of op) a b)
   applied le = both_put a b _ (Apply op) old left right new record {
     gives = λ f rest stack. refl;
     takes = taken;
@@ -105,8 +105,8 @@ module _ (a b : Expression ℕ) (op : Op) (old left right new : List Step) where
   }
 
   -- the right operand first
-  pub swapped : need a < need b → Puts old left b → Puts left right a → new ≡ right ++ (ApplySwapped op ∷ []) →
-      Puts old new (two (operator_of op) a b)
+  pub swapped : need a < need b → PutsSteps old left b → PutsSteps left right a → new ≡ right ++ (ApplySwapped op ∷ []) →
+      PutsSteps old new (two (operator_of op) a b)
   swapped less = both_put b a _ (ApplySwapped op) old left right new record {
     gives = λ f rest stack. refl;
     takes = taken;
@@ -115,7 +115,7 @@ module _ (a b : Expression ℕ) (op : Op) (old left right new : List Step) where
   }
 
 -- The steps of an expression alone are shallow: a need above 64 would take more than 2^64 of them.
-pub shallow_alone : (e : Expression ℕ) (old new : List Step) → Puts old new e → old ≡ [] → length new < 2 ^ 64 → IsShallow 0 new
+pub shallow_alone : (e : Expression ℕ) (old new : List Step) → PutsSteps old new e → old ≡ [] → length new < 2 ^ 64 → IsShallow 0 new
 shallow_alone e old new p none short =
     let same : new ≡ p.0 ++ [] = p.1 ∙ ap (λ l. l ++ p.0) none ∙ sym (append-nil p.0) in
     subst (IsShallow 0) (sym same)
@@ -131,7 +131,7 @@ shallow_alone e old new p none short =
         go true is = absurd (h (ltb-true 64 n is))
         go false is = let least = ltb-false 64 n is in omega (arith, least)
 
-pub worth_alone : (f : ℕ → Bool) (e : Expression ℕ) (old new : List Step) → Puts old new e → old ≡ []
+pub worth_alone : (f : ℕ → Bool) (e : Expression ℕ) (old new : List Step) → PutsSteps old new e → old ≡ []
     → top (after_steps f new []) ≡ worth f e
 worth_alone f e old new p none =
     let same : new ≡ p.0 ++ [] = p.1 ∙ ap (λ l. l ++ p.0) none ∙ sym (append-nil p.0) in
@@ -174,11 +174,11 @@ constant_read b = record {
 
 -- one step behind others, and the step that turns the top
 pub one_put : (e : Expression ℕ) (old new : List Step) (step : Step) → Evaluates e (step ∷ []) → new ≡ old ++ (step ∷ []) →
-    Puts old new e
+    PutsSteps old new e
 one_put e old new step evaluates is = (step ∷ [], is, evaluates)
 
-pub turned : (e : Expression ℕ) (old mid new : List Step) → Puts old mid e → new ≡ mid ++ (Not ∷ []) →
-    Puts old new (negation e)
+pub turned : (e : Expression ℕ) (old mid new : List Step) → PutsSteps old mid e → new ≡ mid ++ (Not ∷ []) →
+    PutsSteps old new (negation e)
 turned e old mid new (x, is_x, p) is = (
   x ++ (Not ∷ []),
   is ∙ ap (λ l. l ++ (Not ∷ [])) is_x ∙ append_assoc old x (Not ∷ []),

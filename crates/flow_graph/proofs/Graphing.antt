@@ -30,7 +30,7 @@ use Rattle.flow_graph.specs.Nodes.{Node, number, point_at, node_of, nodes_of, go
 use Rattle.flow_graph.specs.Flows.{code, Widths, widths_of, HasWidths, NodeEnters, Does, AllDo, Lowered}
 use Rattle.flow_graph.specs.Graphs.{StepEnters, HasSteps, AtFlow, IsGraph}
 use Rattle.flow_graph.specs.Drawing as drawing
-use Rattle.flow_graph.specs.Drawing.{Draws, HasRoom, names_in}
+use Rattle.flow_graph.specs.Drawing.{Draws, ScopeHasRoom, names_in}
 use Rattle.flow_graph.specs.declared.flow.Flow.{Flow}
 use Rattle.flow_graph.specs.declared.graph.Graph.{Graph}
 use Rattle.flow_graph.proofs.Nodes.{flow_leads, lead_flows}
@@ -271,7 +271,7 @@ drawn_more t ps old new i proc graph all count is draws e q found h =
 
 -- in a narrow program there is room for each procedure's valuations
 pub has_room : {N : Type 0} (t : tree.Program N) (q : ℕ) (proc : Proc N) → AllNarrow (tree_of t) → slice_get t.procs.items q ≡ Some proc
-    → length t.procs.items ≤ 32 → HasRoom t proc
+    → length t.procs.items ≤ 32 → ScopeHasRoom t proc
 has_room t q proc narrow is few =
     let room =
     narrow_places (tree_of t) narrow q (sequential_routine (tree_of t) (proc_of proc))

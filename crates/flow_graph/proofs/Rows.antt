@@ -15,7 +15,7 @@ use Rattle.std.proofs.lemmas.List.{length-map, get_or-take, get_or-set_same, get
 use Rattle.flow_graph.proofs.Stacks.{worth_small, coded_small}
 use Rattle.flow_graph.specs.Bits.{bit_of, worth_of, coded}
 use Rattle.flow_graph.specs.Located.{worth}
-use Rattle.flow_graph.specs.Tables.{slot, is_input, output, Reads, Tabulates, AreBits, Widens, most_inputs, most_rows}
+use Rattle.flow_graph.specs.Tables.{slot, is_input, output, ReadsInputs, Tabulates, AreBits, Widens, most_inputs, most_rows}
 use Rattle.flow_graph.specs.Tables.{word_rows}
 use Rattle.resolved.specs.Limits.{most_places}
 
@@ -188,7 +188,7 @@ widens_more xs ys zs (more, is) (others, are) = (more ++ others, are ∙ ap (λ 
 -- ---- expressions
 
 -- where an expression reads only inputs, what it is worth hangs on their values alone
-pub worth_same : (f g : ℕ → Bool) (xs : List ℕ) (e : Expression ℕ) → Reads xs e → ((b : ℕ) → is_input b xs ≡ true → f b ≡ g b)
+pub worth_same : (f g : ℕ → Bool) (xs : List ℕ) (e : Expression ℕ) → ReadsInputs xs e → ((b : ℕ) → is_input b xs ≡ true → f b ≡ g b)
     → worth f e ≡ worth g e
 worth_same f g xs (const b) r alike = refl
 worth_same f g xs (var i) r alike = alike i r
@@ -196,7 +196,7 @@ worth_same f g xs (negation e) r alike = ap not (worth_same f g xs e r alike)
 worth_same f g xs (two o a b) r alike =
     ap (λ x. operate o x (worth f b)) (worth_same f g xs a r.0 alike) ∙ ap (λ x. operate o (worth g a) x) (worth_same f g xs b r.1 alike)
 
-reads_widened : (xs ys : List ℕ) (e : Expression ℕ) → Reads xs e → Reads (xs ++ ys) e
+reads_widened : (xs ys : List ℕ) (e : Expression ℕ) → ReadsInputs xs e → ReadsInputs (xs ++ ys) e
 reads_widened xs ys (const b) r = tt
 reads_widened xs ys (var i) r = (slot_kept i xs ys r).1
 reads_widened xs ys (negation e) r = reads_widened xs ys e r

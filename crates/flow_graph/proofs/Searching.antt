@@ -13,7 +13,7 @@ use Rattle.trees.specs.Trees.{Deed, simple, branch, repeat, item_of, deed_of, bl
 use Rattle.trees.specs.Parts.{first_inside, second_inside}
 use Rattle.trees.proofs.Folds.{item_deed}
 use Rattle.flow_graph.specs.Nodes.{point_at}
-use Rattle.flow_graph.specs.Points.{IsFound}
+use Rattle.flow_graph.specs.Points.{IsLabelFound}
 use Rattle.flow_graph.proofs.Counted.{alone_counts}
 use Rattle.flow_graph.proofs.Numbered.{Names, led, tail, inner, inner_second, behind_two}
 use Rattle.flow_graph.proofs.Numbered.{resolved_statements, behind_simple, behind_branch, behind_repeat}
@@ -195,7 +195,7 @@ module _ {A : Type 0} (x : Label) (stmt : Stmt A) (n at : ℕ)
         ∙ (λ j. first_of_two (place x (numbered (sym next j) (resolve_block s (sym parts.0 j))) (behind_first n s i.mark i.deed k))
         (place x (numbered (number j) (resolve_block s (sym parts.1 j))) k))
 
-    pub found_first : (found : ℕ) → IsFound x first at (Some found) → IsFound x (stmt ∷ []) n (Some found)
+    pub found_first : (found : ℕ) → IsLabelFound x first at (Some found) → IsLabelFound x (stmt ∷ []) n (Some found)
     found_first found there s k most =
         let one = there s (behind_first n s (item_of stmt).mark (item_of stmt).deed k) (omega (arith, inside most, counted, most)) in
         sym (in_two s k most
@@ -203,7 +203,7 @@ module _ {A : Type 0} (x : Label) (stmt : Stmt A) (n at : ℕ)
 
     pub found_second : (j : ℕ) (found : Option ℕ) →
         (n + statements (block_of (stmt ∷ [])) ≤ 18446744073709551615 → j ≡ at + statements (block_of first)) →
-        IsFound x first at None → IsFound x second j found → IsFound x (stmt ∷ []) n found
+        IsLabelFound x first at None → IsLabelFound x second j found → IsLabelFound x (stmt ∷ []) n found
     found_second j found behind none there s k most =
         let at_j = behind most in
         let no = none s (behind_first n s (item_of stmt).mark (item_of stmt).deed k) (omega (arith, inside most, counted, most)) in

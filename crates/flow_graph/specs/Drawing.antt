@@ -13,8 +13,8 @@ use Rattle.resolved.specs.Limits.{most_places}
 use Rattle.flow_graph.specs.Drawn.{flows_of, start_of, globals_of}
 
 -- no more variables than places are in the procedure's scope, and at most 32 procedures
-abbrev pub HasRoom : {N : Type 0} → Program N → Proc N → Type 0
-HasRoom t p =
+abbrev pub ScopeHasRoom : {N : Type 0} → Program N → Proc N → Type 0
+ScopeHasRoom t p =
     (length t.globals.items + (length p.formals.items + length p.locals.items) ≤ most_places)
     × (length t.procs.items ≤ 32)
 

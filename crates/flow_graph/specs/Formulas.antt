@@ -25,8 +25,8 @@ abbrev pub table_worth : {A : Type 0} → Table A → ℕ → Bool
 table_worth t values = table_says t.inputs.items (words_of t.outputs) values
 
 -- for all values, the output in their row is what the expression is worth
-abbrev pub IsTableOf : {A : Type 0} → Table A → Expression ℕ → Type 0
-IsTableOf t e = (values : ℕ) → table_worth t values ≡ worth (bit_of values) e
+abbrev pub IsTruthTableOf : {A : Type 0} → Table A → Expression ℕ → Type 0
+IsTruthTableOf t e = (values : ℕ) → table_worth t values ≡ worth (bit_of values) e
 
 -- what the formula answers for these values: the table's output in their row, or what its steps leave on the stack
 abbrev pub says : {A : Type 0} → Formula A → ℕ → Bool
@@ -34,8 +34,8 @@ says (Tabled t) values = table_worth t values
 says (Code p) values = top (after_steps (bit_of values) p.steps.items [])
 
 -- For every valuation of as many globals as the scope has, the formula answers the value of the expression.
-abbrev pub Says : {A : Type 0} → Formula A → Scope → Expression Name → Type 0
-Says f s e =
+abbrev pub FormulaSays : {A : Type 0} → Formula A → Scope → Expression Name → Type 0
+FormulaSays f s e =
     (globals places : List Bool) → length globals ≡ length s.globals →
     says f (coded (globals ++ places)) ≡ value_of globals places (resolve_expression s e)
 
@@ -44,7 +44,7 @@ abbrev pub SaysSide : {A : Type 0} → Side A → Scope → RightSide Name → T
 SaysSide side.Any s any = Unit {0}
 SaysSide side.Any s (value e) = ⊥
 SaysSide (side.Value f) s any = ⊥
-SaysSide (side.Value f) s (value e) = Says f s e
+SaysSide (side.Value f) s (value e) = FormulaSays f s e
 
 -- the value of a compiled right side: for `?` the lowest bit of the choice, else what it says of the valuation
 abbrev pub side_value : {A : Type 0} → Side A → ℕ → ℕ → Bool

@@ -13,8 +13,8 @@ use Rattle.flow_graph.specs.declared.graph.Graph.{Graph}
 use Rattle.flow_graph.specs.Drawn.{flows_of, start_of, globals_of}
 
 -- a step inside the call, with r left to run, leads to point n and the valuation of number w
-abbrev pub StepsTo : Program → ℕ → Code → Valuation → ℕ → ℕ → Type 0
-StepsTo p q r v n w =
+abbrev pub StepsToNumber : Program → ℕ → Code → Valuation → ℕ → ℕ → Type 0
+StepsToNumber p q r v n w =
     (v' : Valuation) × (r' : Code) × steps.Flow p q v r v' r' × (n ≡ point_at r') × (w ≡ code v')
 
 -- a step, with r left to run, enters procedure s with the valuation of number e, and n is the point after the call
@@ -25,7 +25,7 @@ StepEnters p r v s e n =
 -- The flow has the steps of procedure q where r is left to run: it leads where a step inside the call leads, and enters
 -- what a step enters.
 abbrev pub HasSteps : {A : Type 0} → Program → ℕ → Code → Flow A → Type 0
-HasSteps p q r flow = Behaves flow (IsValuationOf p q) (StepsTo p q r) (StepEnters p r)
+HasSteps p q r flow = Behaves flow (IsValuationOf p q) (StepsToNumber p q r) (StepEnters p r)
 
 -- there is a flow, and it has the property
 abbrev pub AtFlow : {A : Type 0} → Option (Flow A) → (Flow A → Type 0) → Type 0

@@ -110,7 +110,7 @@ TakesDue p takes = (q : ℕ) (k : NumberedMessage) → HasTaken takes q k → Is
 
 -- Where these are the graphs of a program whose calls fit, its procedures took, by numbers, the opening message, each
 -- message that is sent, and no message that is not due.
-pub record Gathers {A : Type 0} (p : Program) (graphs : List (Graph A)) (takes : List (List NumberedMessage)) :
+pub record TookAllDue {A : Type 0} (p : Program) (graphs : List (Graph A)) (takes : List (List NumberedMessage)) :
     Type 0 where
   pub fit : ArgumentsFit p
   pub are : AreGraphs p graphs

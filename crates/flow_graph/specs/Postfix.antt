@@ -90,5 +90,5 @@ abbrev pub AreCodeOf : List Step → Expression ℕ → Type 0
 AreCodeOf steps e = (f : ℕ → Bool) → top (after_steps f steps []) ≡ worth f e
 
 -- such steps have been put behind others
-abbrev pub Puts : List Step → List Step → Expression ℕ → Type 0
-Puts old new e = (steps : List Step) × (new ≡ old ++ steps) × Evaluates e steps
+abbrev pub PutsSteps : List Step → List Step → Expression ℕ → Type 0
+PutsSteps old new e = (steps : List Step) × (new ≡ old ++ steps) × Evaluates e steps

@@ -19,11 +19,11 @@ is_input b [] = false
 is_input b (x ∷ xs) = cond (b == x) true (is_input b xs)
 
 -- each bit that the expression reads is an input
-abbrev pub Reads : List ℕ → Expression ℕ → Type 0
-Reads inputs (const b) = Unit {0}
-Reads inputs (var i) = is_input i inputs ≡ true
-Reads inputs (negation e) = Reads inputs e
-Reads inputs (two o a b) = Reads inputs a × Reads inputs b
+abbrev pub ReadsInputs : List ℕ → Expression ℕ → Type 0
+ReadsInputs inputs (const b) = Unit {0}
+ReadsInputs inputs (var i) = is_input i inputs ≡ true
+ReadsInputs inputs (negation e) = ReadsInputs inputs e
+ReadsInputs inputs (two o a b) = ReadsInputs inputs a × ReadsInputs inputs b
 
 -- how many inputs a table has at most
 abbrev pub most_inputs : ℕ
@@ -43,7 +43,7 @@ output words row = bit_of (get_or words (row / word_rows) 0) (row % word_rows)
 
 -- Output j is what the expression is worth where each input has the value of its bit of j.
 pub record Tabulates (inputs : List ℕ) (words : List ℕ) (e : Expression ℕ) : Type 0 where
-  pub reads : Reads inputs e
+  pub reads : ReadsInputs inputs e
   pub rows : (j : ℕ) → j < most_rows → output words j ≡ worth (λ b. bit_of j (slot b inputs)) e
 
 -- the output in the row of these values

@@ -132,8 +132,8 @@ impl<'a, N: Allocator> Scope<'a, N> {
         Ok(Write { mask, side })
     }
 
-    /// Compiles a simultaneous assignment. A target that is declared
-    /// nowhere is not written, nor is one without a right side.
+    /// Compiles a simultaneous assignment. A target that is declared nowhere is not written, nor is one without a right
+    /// side.
     pub(crate) fn assignment<A: Allocator + Clone>(
         &self,
         alloc: &A,

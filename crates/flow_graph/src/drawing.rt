@@ -4,7 +4,7 @@ ghost use Rattle.std.specs.Prelude.{◌≡◌, ◌≤◌, ◌+◌, length, IfOk,
 ghost use Rattle.language.specs.Resolve.{number_of};
 ghost use Rattle.language.specs.Sequential.{sequential_of};
 ghost use Rattle.resolved.specs.Programs.{sequential_tree};
-ghost use Rattle.flow_graph.specs.Drawing.{Draws, HasRoom};
+ghost use Rattle.flow_graph.specs.Drawing.{Draws, ScopeHasRoom};
 ghost use Rattle.flow_graph.specs.Drawn.{bad_of, graphs_of};
 ghost use Rattle.flow_graph.specs.Graphs.{AreDrawnFrom};
 
@@ -24,7 +24,7 @@ fn graph<N: Allocator, A: Allocator + Clone>(
     program: &Program<N>,
     proc: &Proc<N>,
 ) -> Result<Graph<A>, AllocError>
-    requires { HasRoom program.now proc.now }
+    requires { ScopeHasRoom program.now proc.now }
     ensures { IfOk result (λ g. Draws program.now proc.now g) }
 {
     let body = proc.body.as_slice();

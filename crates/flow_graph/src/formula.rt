@@ -2,7 +2,7 @@
 
 ghost use Rattle.std.specs.Prelude.{◌≡◌, IfOk};
 ghost use Rattle.trees.specs.Trees.{expr_of};
-ghost use Rattle.flow_graph.specs.Formulas.{says, Says};
+ghost use Rattle.flow_graph.specs.Formulas.{says, FormulaSays};
 ghost use Rattle.flow_graph.specs.Views.{scope_seen, IsSmall};
 
 use crate::postfix::Postfix;
@@ -41,7 +41,7 @@ impl<'a, N: Allocator> Scope<'a, N> {
         e: &Expr<N>,
     ) -> Result<Formula<A>, AllocError>
         requires { IsSmall self.now }
-        ensures { IfOk result (λ f. Says f (scope_seen self.now) (expr_of e.now)) }
+        ensures { IfOk result (λ f. FormulaSays f (scope_seen self.now) (expr_of e.now)) }
     {
         match self.table(alloc, e)? {
             Some(table) => Ok(Formula::Table(table)),

@@ -1,7 +1,7 @@
 //! The points of labels.
 
 ghost use Rattle.std.specs.Prelude.{◌∷◌, []};
-ghost use Rattle.flow_graph.specs.Points.{IsFound};
+ghost use Rattle.flow_graph.specs.Points.{IsLabelFound};
 
 use crate::sizes::{size, size_of};
 use language::Point;
@@ -12,7 +12,7 @@ use trees::Stmt;
 /// has this number; `None` where none has the label.
 #[cycle(finding)]
 pub(crate) fn find<N: Allocator>(label: &str, stmts: &[Stmt<N>], first: Point) -> Option<Point>
-    ensures { IsFound label.now stmts.now first result }
+    ensures { IsLabelFound label.now stmts.now first result }
 {
     let mut at = first;
     for stmt in stmts {
@@ -27,7 +27,7 @@ pub(crate) fn find<N: Allocator>(label: &str, stmts: &[Stmt<N>], first: Point) -
 /// The same for one statement, which has this number, and those inside of it.
 #[cycle(finding)]
 fn find_at<N: Allocator>(label: &str, stmt: &Stmt<N>, number: Point) -> Option<Point>
-    ensures { IsFound label.now (stmt.now ∷ []) number result }
+    ensures { IsLabelFound label.now (stmt.now ∷ []) number result }
 {
     if stmt.is_labelled(label) {
         return Some(number);

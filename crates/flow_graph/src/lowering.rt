@@ -155,7 +155,8 @@ impl<'a, N: Allocator, A: Allocator + Clone> Lowering<'a, N, A> {
         flows: &mut Vec<Flow<A>, A>,
     ) -> Result<(), AllocError>
         requires { IsLowerable self.now }
-        ensures { IfOk result (λ _. LoweredIn self.now flows.old.items flows.new.items stmts.now after) }
+        ensures { IfOk result
+            (λ _. LoweredIn self.now flows.old.items flows.new.items stmts.now after) }
     {
         let mut rest = stmts;
         while let Some((stmt, more)) = rest.split_first() {
@@ -175,7 +176,8 @@ impl<'a, N: Allocator, A: Allocator + Clone> Lowering<'a, N, A> {
         flows: &mut Vec<Flow<A>, A>,
     ) -> Result<(), AllocError>
         requires { IsLowerable self.now }
-        ensures { IfOk result (λ _. LoweredIn self.now flows.old.items flows.new.items (stmt.now ∷ []) after) }
+        ensures { IfOk result
+            (λ _. LoweredIn self.now flows.old.items flows.new.items (stmt.now ∷ []) after) }
     {
         let number = flows.len();
         put(self.flow(stmt, number, after), flows)?;

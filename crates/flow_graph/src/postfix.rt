@@ -6,7 +6,7 @@ ghost use Rattle.trees.specs.Trees.{name_of};
 ghost use Rattle.flow_graph.specs.Bits.{bit_of};
 ghost use Rattle.flow_graph.specs.Located.{located};
 ghost use Rattle.flow_graph.specs.Postfix.{IsShallow, IsShallow-prop, IsStepped, after_steps, top};
-ghost use Rattle.flow_graph.specs.Postfix.{need, Evaluates, Puts, AreCodeOf};
+ghost use Rattle.flow_graph.specs.Postfix.{need, Evaluates, PutsSteps, AreCodeOf};
 ghost use Rattle.flow_graph.specs.Views.{over_bits, scope_seen, IsSmall};
 
 use crate::put::push;
@@ -109,7 +109,7 @@ impl<'a, N: Allocator> Scope<'a, N> {
     fn put<A: Allocator>(&self, e: &Expr<N>, steps: &mut Vec<Step, A>) -> Result<(), AllocError>
         requires { IsSmall self.now }
         ensures { IfOk result
-            (λ _. Puts steps.old.items steps.new.items (over_bits self.now e.now)) }
+            (λ _. PutsSteps steps.old.items steps.new.items (over_bits self.now e.now)) }
     {
         match e {
             Expr::Const(b) => push(Step::Constant(*b), steps),

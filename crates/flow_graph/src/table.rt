@@ -78,7 +78,7 @@ fn read(inputs: &mut ArrayVec<u8, MOST>, bit: u8) -> Option<[u64; WORDS]>
 }
 
 impl<'a, N: Allocator> Scope<'a, N> {
-    ghost use Rattle.flow_graph.specs.Formulas.{IsTableOf};
+    ghost use Rattle.flow_graph.specs.Formulas.{IsTruthTableOf};
 
     /// The outputs of an expression, whose bits become inputs where they were none; `None` where more than ten would
     /// be.
@@ -117,7 +117,8 @@ impl<'a, N: Allocator> Scope<'a, N> {
         e: &Expr<N>,
     ) -> Result<Option<Table<A>>, AllocError>
         requires { IsSmall self.now }
-        ensures { IfOk result (λ made. IfSome made (λ t. IsTableOf t (over_bits self.now e.now))) }
+        ensures { IfOk result
+            (λ made. IfSome made (λ t. IsTruthTableOf t (over_bits self.now e.now))) }
     {
         let mut inputs = ArrayVec::new();
         let Some(all) = self.outputs(e, &mut inputs) else {

@@ -7,7 +7,7 @@ ghost use Rattle.language.specs.Messages.{EdgeTo};
 ghost use Rattle.flow_graph.specs.Bits.{bit_of};
 ghost use Rattle.flow_graph.specs.Graphs.{IsInTextOrder};
 ghost use Rattle.flow_graph.specs.Numbers.{NumberedMessage, numbered_entry, GraphReaches, Leaves};
-ghost use Rattle.flow_graph.specs.Numbers.{HasTaken, Gathers};
+ghost use Rattle.flow_graph.specs.Numbers.{HasTaken, TookAllDue};
 ghost use Rattle.flow_graph.specs.Numbers.{IsNumberOf, AreNumbersOf, IsNumberOfEntry};
 ghost use Rattle.flow_graph.specs.Numbers.{AreNumbersOfPair};
 ghost use Rattle.flow_graph.specs.declared.graph.Graph.{Graph};
@@ -18,7 +18,7 @@ use std::alloc::Allocator;
 /// path edges are reached and nothing else.
 pub fn what_graphs_send_and_take_is_what_is_due<A: Allocator>()
     ensures { (p : Program) (graphs : List (Graph A)) (takes : List (List NumberedMessage))
-        → Gathers p graphs takes
+        → TookAllDue p graphs takes
         → (q : ℕ) → ((k : NumberedMessage) → HasTaken takes q k ↔ IsNumberOf (IsDue p q) k)
         × ((graph : Graph A) → slice_get graphs q ≡ Some graph → (a n v : ℕ)
         → GraphReaches graph (HasTaken takes q) a n v ↔ AreNumbersOf (EdgeTo p q) a n v) }
@@ -27,7 +27,7 @@ pub fn what_graphs_send_and_take_is_what_is_due<A: Allocator>()
 /// The entries then taken have the numbers of the valuations with which procedures are entered.
 pub fn the_entries_taken_are_those_entered<A: Allocator>()
     ensures { (p : Program) (graphs : List (Graph A)) (takes : List (List NumberedMessage))
-        → Gathers p graphs takes
+        → TookAllDue p graphs takes
         → (q a : ℕ)
         → ((from : Caller) × HasTaken takes q (numbered_entry from a)) ↔ IsNumberOfEntry p q a }
 {}
@@ -35,7 +35,7 @@ pub fn the_entries_taken_are_those_entered<A: Allocator>()
 /// The globals with which each graph is then left have the numbers of its procedure's pairs.
 pub fn what_graphs_leave_are_the_pairs<A: Allocator>()
     ensures { (p : Program) (graphs : List (Graph A)) (takes : List (List NumberedMessage))
-        → Gathers p graphs takes
+        → TookAllDue p graphs takes
         → IsInTextOrder p → (q : ℕ) (graph : Graph A) → slice_get graphs q ≡ Some graph → (a b : ℕ)
         → Leaves graph (HasTaken takes q) a b ↔ AreNumbersOfPair p q a b }
 {}
@@ -43,7 +43,7 @@ pub fn what_graphs_leave_are_the_pairs<A: Allocator>()
 /// Some pair of the first procedure then has a global of 1 exactly where its graph is left with this bit 1.
 pub fn a_bad_pair_is_left_by_its_graph<A: Allocator>()
     ensures { (p : Program) (graphs : List (Graph A)) (takes : List (List NumberedMessage))
-        → Gathers p graphs takes
+        → TookAllDue p graphs takes
         → IsInTextOrder p → (graph : Graph A) → slice_get graphs 0 ≡ Some graph → (bad : ℕ)
         → SomeBad p bad ↔
         ((a : ℕ) × (b : ℕ) × Leaves graph (HasTaken takes 0) a b × (bit_of b bad ≡ true)) }

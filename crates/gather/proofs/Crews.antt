@@ -15,7 +15,7 @@ use Rattle.summaries.specs.declared.due.Due.{Due}
 use Rattle.path_sets.specs.declared.edge_limit.EdgeLimit.{EdgeLimit}
 use Rattle.summaries.specs.declared.table.Table.{Table}
 use Rattle.summaries.specs.Together.{opening}
-use Rattle.switchboard.specs.Sights.{Sight, State, opened, fresh_sight, fresh_sights}
+use Rattle.switchboard.specs.Sights.{Sight, BoardState, opened, fresh_sight, fresh_sights}
 use Rattle.switchboard.specs.Promises.{AreAll}
 use Rattle.switchboard.proofs.Opening.{sights_count}
 use Rattle.procedure_worker.specs.declared.outcome.End.{End}
@@ -32,7 +32,7 @@ use Rattle.gather.specs.Lanes.{start_of, MayWork, HasWorked, WasDeclined, AreOwn
 use Rattle.gather.proofs.Full.{got_map}
 
 -- a pass of a new board
-at_fresh : {M W : Type 0} (id : TableId) (budget : ℕ) (s : State M W) (first count j : ℕ) (p : Sight M W)
+at_fresh : {M W : Type 0} (id : TableId) (budget : ℕ) (s : BoardState M W) (first count j : ℕ) (p : Sight M W)
     → slice_get (fresh_sights id budget s first count) j ≡ Some p → (j < count) × (p ≡ fresh_sight id budget s (first + j))
 at_fresh id budget s first zero j p e = absurd (none-some p e)
 at_fresh id budget s first (suc count) zero p e =

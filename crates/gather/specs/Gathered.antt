@@ -54,7 +54,7 @@ module _ {G A S : Type 0} where
   tables_in (o ∷ os) = beside o.table (tables_in os)
 
 -- Some end names this reason, and none names one of a lesser number.
-pub record IsLeast (ends : List End) (why : NoVerdict) : Type 0 where
+pub record IsLeastCause (ends : List End) (why : NoVerdict) : Type 0 where
   pub cause : Cause
   pub named : Member (Failed cause) ends
   pub is : why ≡ verdict_of cause
@@ -71,7 +71,7 @@ AllClosed ends = (e : End) → Member e ends → e ≡ Closed
 -- the reason is the least that an end names, if one names any
 abbrev pub IsLeastOf : List End → Option NoVerdict → Type 0
 IsLeastOf ends None = NoneFailed ends
-IsLeastOf ends (Some why) = IsLeast ends why
+IsLeastOf ends (Some why) = IsLeastCause ends why
 
 -- The reason is one of the two, and its number is at most those of both.
 pub record IsLesser (one : Option NoVerdict) (other why : NoVerdict) : Type 0 where
@@ -90,7 +90,7 @@ pub record IsGathered {G : Type 0} (graphs : Graphs G) (most : ℕ) (closed : Bo
 
 -- why nothing is gathered: the least cause that an end names, or want of memory where every worker ended at the close
 abbrev pub IsCause : List End → NoVerdict → Type 0
-IsCause ends why = IsLeast ends why ⊎ ((why ≡ verdict.Memory) × AllClosed ends)
+IsCause ends why = IsLeastCause ends why ⊎ ((why ≡ verdict.Memory) × AllClosed ends)
 
 module _ {G A S : Type 0} (members : S → List Triple) where
   -- The outcomes are gathered, whichever board they are of.

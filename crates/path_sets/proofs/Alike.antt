@@ -10,7 +10,7 @@ use Rattle.path_sets.specs.Triples.{Triple, triple}
 use Rattle.path_sets.specs.Edges.{edge_at, edges}
 use Rattle.path_sets.specs.Masks.{bit_of}
 use Rattle.path_sets.specs.Quads.{points_of}
-use Rattle.path_sets.specs.Diagrams.{accepts, merged_has, root_of, Takes}
+use Rattle.path_sets.specs.Diagrams.{accepts, merged_has, root_of, TakesGiven}
 use Rattle.path_sets.specs.Members.{all_edges, has_edge, universe}
 use Rattle.path_sets.specs.Suffixes.{Apart, HasNodes, Prefix, SameSuffixes}
 use Rattle.path_sets.proofs.Filtered.{kept_is}
@@ -79,7 +79,7 @@ point_nodes qs rs e b i root ns n r small at same has =
 module _ (ns ms os : List Quad) (rs ss ts : List (Row × ℕ)) (masks : List (Place × ℕ)) (e p : ℕ) (entry : e < 2 ^ 64)
     (point : p < 2 ^ 64)
     (alone : (v : ℕ) → merged_has ms ss (triple e p v) ≡ merged_has ns rs (triple e p v))
-    (takes : Takes (λ t. Member t (edges masks)) ms os ss ts)
+    (takes : TakesGiven (λ t. Member t (edges masks)) ms os ss ts)
     (all : (t : Triple) → Member t (edges masks) → merged_has os ts t ≡ true) where
   -- a point's set alone, with what is gathered put in, has the members at that point
   members_there : (v : ℕ)
@@ -109,7 +109,7 @@ pub member_nodes : (ns ms os : List Quad) (rs ss ts : List (Row × ℕ)) (masks 
     → edge_at place i ≡ triple e p v
     → ((j v : ℕ) → j < 64
     → merged_has ms ss (triple e (64 * place.block + j) v) ≡ merged_has ns rs (triple e (64 * place.block + j) v))
-    → Takes (λ t. Member t (edges masks)) ms os ss ts
+    → TakesGiven (λ t. Member t (edges masks)) ms os ss ts
     → ((t : Triple) → Member t (edges masks) → merged_has os ts t ≡ true)
     → IfOk r (HasNodes 64 (λ v. (v < 2 ^ 64) × (merged_has os ts (triple e (64 * place.block + i) v) ≡ true)))
     → IfOk r (HasNodes 64 (λ v. Member (triple e p v) (all_edges ns rs masks)))

@@ -11,9 +11,9 @@ use Rattle.path_sets.specs.declared.rows.Row.{Row}
 use Rattle.path_sets.specs.Masks.{bit_of, bits_below, Marks}
 use Rattle.path_sets.specs.Triples.{Triple}
 use Rattle.path_sets.specs.Edges.{edge_at, edges, edges_in, place_eq}
-use Rattle.path_sets.specs.Inserts.{Settles}
-use Rattle.path_sets.specs.Diagrams.{merged_has, Takes}
-use Rattle.path_sets.specs.Members.{all_edges, Covers, IsThere, Puts}
+use Rattle.path_sets.specs.Inserts.{PutsIn}
+use Rattle.path_sets.specs.Diagrams.{merged_has, TakesGiven}
+use Rattle.path_sets.specs.Members.{all_edges, Covers, IsEdgeThere, PutsEdge}
 use Rattle.path_sets.proofs.Gathering.{edges_append}
 use Rattle.path_sets.proofs.Grouped.{absent, Groups, no_edge}
 use Rattle.path_sets.proofs.Inserted.{is_in, is_new_or_old, stays_in}
@@ -22,7 +22,7 @@ use Rattle.path_sets.proofs.Universe.{any_member, Fits, is_member, member_any, m
 
 module _ (ns ms : List Quad) (rs ss : List (Row × ℕ)) (masks : Groups) where
   -- diagrams that take what is gathered have no more at its places
-  pub covers_on : Covers ns rs masks → Takes (λ t. Member t (edges masks)) ns ms rs ss → Covers ms ss masks
+  pub covers_on : Covers ns rs masks → TakesGiven (λ t. Member t (edges masks)) ns ms rs ss → Covers ms ss masks
   covers_on covers takes p bit small key has = elim (takes.sound (edge_at p bit) has) [
     | inl was ↦ covers p bit small key was
     | inr given ↦ member_any (edge_at p bit) (edges masks) given
@@ -51,17 +51,17 @@ module _ (ns : List Quad) (rs : List (Row × ℕ)) (p : Place) (bit : ℕ) (smal
   x = edge_at p bit
 
   -- a point that is put into a mask leaves all that was gathered
-  more_edges : (added : Bool) → Settles x (edges old) (edges new) added → (t : Triple) → Member t (edges old) → Member t (edges new)
+  more_edges : (added : Bool) → PutsIn x (edges old) (edges new) added → (t : Triple) → Member t (edges old) → Member t (edges new)
   more_edges true (more, apart) t m = stays_in x t (edges old) (edges new) more m
   more_edges false (same, there) t m = subst (λ es. Member t es) (sym same) m
 
   -- a point is put into the mask of a place that is gathered
-  pub covers_marked : (added : Bool) → Settles x (edges old) (edges new) added → keys_of new ≡ keys_of old → Covers ns rs new
+  pub covers_marked : (added : Bool) → PutsIn x (edges old) (edges new) added → keys_of new ≡ keys_of old → Covers ns rs new
   covers_marked added settles same q b less key has =
       member_any (edge_at q b) (edges new) (more_edges added settles (edge_at q b) (any_member (edge_at q b) (edges old)
       (covers q b less (subst (λ ks. Member q ks) same key) has)))
 
-  pub puts_marked : Member p (keys_of old) → (added : Bool) → Settles x (edges old) (edges new) added → Puts ns rs x old new added
+  pub puts_marked : Member p (keys_of old) → (added : Bool) → PutsIn x (edges old) (edges new) added → PutsEdge ns rs x old new added
   puts_marked key true (more, apart) = (
     λ is. elim is [ inl merged ↦ apart (any_member x (edges old) (covers p bit small key merged)) | inr gathered ↦ apart gathered ],
     λ t. (
@@ -80,7 +80,7 @@ module _ (ns : List Quad) (rs : List (Row × ℕ)) (p : Place) (bit : ℕ) (smal
   module _ (known mask : ℕ) (none : lookup (place_eq p) old ≡ None)
       (knows : (b : ℕ) → b < 64 → bit_of known b ≡ merged_has ns rs (edge_at p b)) where
     -- the diagrams have it
-    pub puts_none : Marks bit known mask false → new ≡ old → Puts ns rs x old new false
+    pub puts_none : Marks bit known mask false → new ≡ old → PutsEdge ns rs x old new false
     puts_none (set, unchanged) same = (inl (sym (knows bit small) ∙ set), ap edges same)
 
     module _ (marks : Marks bit known mask true) (made : new ≡ old ++ (p, mask) ∷ []) where
@@ -119,7 +119,7 @@ module _ (ns : List Quad) (rs : List (Row × ℕ)) (p : Place) (bit : ℕ) (smal
                 ]))
           ])
 
-      pub puts_begun : Puts ns rs x old new true
+      pub puts_begun : PutsEdge ns rs x old new true
       puts_begun = (
         λ is. elim is [
           | inl merged ↦ true≢false (sym (knows bit small ∙ merged) ∙ marks.0)
@@ -149,14 +149,14 @@ module _ (ns : List Quad) (rs : List (Row × ℕ)) (p : Place) (bit : ℕ) (smal
 -- a path edge that is put in, by the members
 module _ (ns : List Quad) (rs : List (Row × ℕ)) (x own : Triple) (old new : Groups) (all : List Triple) (fits : Fits x) (edge : own ≡ x)
     (same : all_edges ns rs old ≡ all) where
-  module _ (puts : Puts ns rs own old new true) where
-    more_there : (t : Triple) → IsThere ns rs new t ↔ ((t ≡ x) ⊎ IsThere ns rs old t)
-    more_there = subst (λ k. (t : Triple) → IsThere ns rs new t ↔ ((t ≡ k) ⊎ IsThere ns rs old t)) edge puts.1
+  module _ (puts : PutsEdge ns rs own old new true) where
+    more_there : (t : Triple) → IsEdgeThere ns rs new t ↔ ((t ≡ x) ⊎ IsEdgeThere ns rs old t)
+    more_there = subst (λ k. (t : Triple) → IsEdgeThere ns rs new t ↔ ((t ≡ k) ⊎ IsEdgeThere ns rs old t)) edge puts.1
 
     -- it was no member
     pub was_new : Member x all → ⊥
     was_new m =
-        puts.0 (subst (IsThere ns rs old) (sym edge) (member_is ns rs old x (subst (λ l. Member x l) (sym same) m)))
+        puts.0 (subst (IsEdgeThere ns rs old) (sym edge) (member_is ns rs old x (subst (λ l. Member x l) (sym same) m)))
 
     pub members_put : (t : Triple) → Member t (all_edges ns rs new) ↔ ((t ≡ x) ⊎ Member t all)
     members_put t =
@@ -166,10 +166,10 @@ module _ (ns : List Quad) (rs : List (Row × ℕ)) (x own : Triple) (old new : G
     longer =
         one_longer ns rs old new x fits more_there (λ m. was_new (subst (λ l. Member x l) same m)) ∙ ap (λ l. length l + 1) same
 
-  module _ (puts : Puts ns rs own old new false) where
+  module _ (puts : PutsEdge ns rs own old new false) where
     -- it was one
     pub was_known : Member x all
-    was_known = subst (λ l. Member x l) same (is_member ns rs old x fits (subst (IsThere ns rs old) edge puts.0))
+    was_known = subst (λ l. Member x l) same (is_member ns rs old x fits (subst (IsEdgeThere ns rs old) edge puts.0))
 
     pub members_same : all_edges ns rs new ≡ all
     members_same = same_gathered ns rs old new puts.1 ∙ same

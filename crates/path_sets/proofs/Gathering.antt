@@ -14,7 +14,7 @@ use Rattle.path_sets.specs.declared.rows.Row.{Row}
 use Rattle.path_sets.specs.Masks.{bit_of, bits_below}
 use Rattle.path_sets.specs.Triples.{Triple}
 use Rattle.path_sets.specs.Edges.{edge_at, edges_in, edges}
-use Rattle.path_sets.specs.Diagrams.{InRun, Takes, merged_has, row_of}
+use Rattle.path_sets.specs.Diagrams.{InRun, TakesGiven, merged_has, row_of}
 use Rattle.path_sets.proofs.Taken.{takes_on, takes_of}
 use Rattle.path_sets.proofs.Masks.{bits_known, bits_hold}
 use Rattle.path_sets.proofs.Grouped.{Groups}
@@ -130,9 +130,9 @@ module _ (row : Row) (run : Groups) (one : (c : Place × ℕ) → Member c run �
 -- a run of what is left is put in, and the rest stays left
 module _ (cells left run more : Groups) (row : Row) (ns0 ns1 ns2 : List Quad) (rs0 rs1 rs2 : List (Row × ℕ))
     (split : left ≡ run ++ more) (one : (c : Place × ℕ) → Member c run → row_of c.0 ≡ row)
-    (taken : Takes (λ t. Member t (edges cells)) ns0 ns1 rs0 rs1)
+    (taken : TakesGiven (λ t. Member t (edges cells)) ns0 ns1 rs0 rs1)
     (among : (t : Triple) → Member t (edges left) → Member t (edges cells))
-    (put : Takes (InRun row run) ns1 ns2 rs1 rs2) where
+    (put : TakesGiven (InRun row run) ns1 ns2 rs1 rs2) where
   both_parts : edges left ≡ edges run ++ edges more
   both_parts = ap edges split ∙ edges_append run more
 
@@ -140,7 +140,7 @@ module _ (cells left run more : Groups) (row : Row) (ns0 ns1 ns2 : List Quad) (r
   run_among t h =
       among t (subst (λ es. Member t es) (sym both_parts) (member_left t (edges run) (edges more) (of_run row run one t h)))
 
-  pub taken_on : Takes (λ t. Member t (edges cells)) ns0 ns2 rs0 rs2
+  pub taken_on : TakesGiven (λ t. Member t (edges cells)) ns0 ns2 rs0 rs2
   taken_on = takes_on (λ t. Member t (edges cells)) ns0 ns1 ns2 rs0 rs1 rs2 taken
       (takes_of (InRun row run) (λ t. Member t (edges cells)) ns1 ns2 rs1 rs2 run_among put)
 

@@ -34,8 +34,7 @@ none_of n i = elim (cases_lt i n) [
 
 module _ (ns : List Node) (down : GoDown ns) (ordered : AreOrdered ns) (root : ℕ) where
   -- The root is marked. Prefixes lead to all that are marked; with one behind this place its children are marked; and
-  -- those behind
-  -- it are counted.
+  -- those behind it are counted.
   pub record Marked (marks : List Bool) (at count : ℕ) : Type 0 where
     pub long : length marks ≡ root + 1
     pub least : at ≤ root

@@ -4,7 +4,7 @@ use Rattle.std.proofs.Common.{Some, slice_get, sym, ◌∙◌, subst, refl, arit
 use Rattle.path_sets.specs.declared.node.Node.{Node}
 use Rattle.path_sets.specs.Masks.{bit_of}
 use Rattle.path_sets.specs.Walks.{Descends, IsGrown, IsNumber}
-use Rattle.path_sets.specs.Diagrams.{accepts, AreOrdered, AreReduced, child, GoDown, Keeps, level_of}
+use Rattle.path_sets.specs.Diagrams.{accepts, AreOrdered, AreReduced, child, GoDown, KeepsNodes, level_of}
 use Rattle.path_sets.proofs.Grown.{got_from, joined, keeps_grown, keeps_more}
 
 -- a step goes down
@@ -28,7 +28,7 @@ module _ (ns : List Node) (down : GoDown ns) (x : Node) (small : x.level < 64) (
   still_down new (inl same) = subst GoDown (sym same) down
   still_down new (inr more) = subst GoDown (sym more.0) down_more
 
-  pub node_keeps : (new : List Node) → IsGrown x ns new → Keeps ns new
+  pub node_keeps : (new : List Node) → IsGrown x ns new → KeepsNodes ns new
   node_keeps new grown = keeps_grown child (λ y. y.level) 64 ns (descends ns down) x new grown
 
   -- the new node's children test later levels
@@ -37,7 +37,7 @@ module _ (ns : List Node) (down : GoDown ns) (x : Node) (small : x.level < 64) (
   still_ordered own ordered new (inl same) = subst AreOrdered (sym same) ordered
   still_ordered own ordered new (inr more) = subst AreOrdered (sym more.0) all
     where
-      k : Keeps ns (ns ++ x ∷ [])
+      k : KeepsNodes ns (ns ++ x ∷ [])
       k = keeps_more child (λ y. y.level) 64 ns (x ∷ []) (descends ns down)
 
       all : AreOrdered (ns ++ x ∷ [])

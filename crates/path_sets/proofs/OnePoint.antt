@@ -13,8 +13,8 @@ use Rattle.path_sets.specs.declared.binary.Asked.{Asked}
 use Rattle.path_sets.specs.Masks.{bit_of}
 use Rattle.path_sets.specs.Walks.{IsNumber}
 use Rattle.path_sets.specs.Quads.{is_at, points_of, sees, turn}
-use Rattle.path_sets.specs.Diagrams.{accepts, child, Keeps, level_of}
-use Rattle.path_sets.specs.Binary.{Answers, AreFound, asked_eq}
+use Rattle.path_sets.specs.Diagrams.{accepts, child, KeepsNodes, level_of}
+use Rattle.path_sets.specs.Binary.{HasAskedSet, AreFound, asked_eq}
 use Rattle.path_sets.proofs.Grown.{keeps_on}
 use Rattle.path_sets.proofs.Places.{both}
 use Rattle.path_sets.proofs.Shifted.{down_bit, four_pow, next_rest}
@@ -57,7 +57,7 @@ by_four w P none first second both = elim (cases_eq (w % 4) 0) [
         subst (λ x. P x (w % 2) (w / 2 % 2)) (sym a) (subst (λ x. P r x (w / 2 % 2)) (sym b) (subst (λ x. P r p x) (sym c) h))
 
 -- nodes that are kept twice are kept
-pub on : (ns ms os : List Node) → Keeps ns ms → Keeps ms os → Keeps ns os
+pub on : (ns ms os : List Node) → KeepsNodes ns ms → KeepsNodes ms os → KeepsNodes ns os
 on ns ms os a b = keeps_on child (λ (x : Node). x.level) 64 ns ms os a b
 
 -- 0 and 1 have no node
@@ -137,7 +137,7 @@ module _ (qs : List Quad) (bit : ℕ) where
   -- the nodes of a number that has what is asked for
   at_leaf_answers : (ns : List Node) (asked : Asked) (n : ℕ) → n ≤ 1 → asked.level ≤ 32
       → ((v : ℕ) → v < 2 ^ 64 → is_at qs asked.number asked.zero bit (v / 4 ^ asked.level) ≡ nat_eq n 1)
-      → Answers qs bit ns asked n
+      → HasAskedSet qs bit ns asked n
   at_leaf_answers ns asked n small most same = record {
     inside = omega (arith, small);
     deep = omega (arith, most, leaf_level ns n small);
@@ -146,22 +146,22 @@ module _ (qs : List Quad) (bit : ℕ) where
 
   -- behind the last level there is nothing left
   pub last_answers : (ns : List Node) (asked : Asked) (n : ℕ) → n ≤ 1 → asked.level ≡ 32 → asked.zero ≡ nat_eq n 1
-      → Answers qs bit ns asked n
+      → HasAskedSet qs bit ns asked n
   last_answers ns asked n small last told =
       at_leaf_answers ns asked n small (omega (arith, last))
       (λ v less. at_zero asked.number asked.zero (v / 4 ^ asked.level) (no_rest v asked.level last less) ∙ told)
 
   -- no valuation is at the point by a number without points
   pub none_answers : (ns : List Node) (asked : Asked) → asked.level ≤ 32 → asked.number ≤ 1 → asked.zero ≡ false
-      → Answers qs bit ns asked 0
+      → HasAskedSet qs bit ns asked 0
   none_answers ns asked most small told =
       at_leaf_answers ns asked 0 (omega arith) most (λ v less.
       ap (λ t. is_at qs asked.number t bit (v / 4 ^ asked.level)) told
       ∙ at_none asked.number (v / 4 ^ asked.level) small)
 
   -- more nodes leave a number what it has
-  answers_on : (ns ms : List Node) → Keeps ns ms → (asked : Asked) (n : ℕ) → Answers qs bit ns asked n
-      → Answers qs bit ms asked n
+  answers_on : (ns ms : List Node) → KeepsNodes ns ms → (asked : Asked) (n : ℕ) → HasAskedSet qs bit ns asked n
+      → HasAskedSet qs bit ms asked n
   answers_on ns ms keeps asked n a =
       let longer = keeps.longer in
       let inside = a.inside in record {
@@ -170,23 +170,23 @@ module _ (qs : List Quad) (bit : ℕ) where
         same = λ v less. keeps.same n v inside ∙ a.same v less;
       }
 
-  pub found_on : (ns ms : List Node) → Keeps ns ms → (found : List (Asked × ℕ)) → AreFound qs bit ns found
+  pub found_on : (ns ms : List Node) → KeepsNodes ns ms → (found : List (Asked × ℕ)) → AreFound qs bit ns found
       → AreFound qs bit ms found
   found_on ns ms keeps found have asked n at = answers_on ns ms keeps asked n (have asked n at)
 
   -- one more number is found
   pub found_more : (ns : List Node) (old new : List (Asked × ℕ)) (own : Asked) (number : ℕ) → AreFound qs bit ns old
-      → Answers qs bit ns own number
+      → HasAskedSet qs bit ns own number
       → ((q : Asked) → lookup (asked_eq q) new ≡ cond (asked_eq own q) (Some number) (lookup (asked_eq q) old))
       → AreFound qs bit ns new
   found_more ns old new own number have answers updates asked n at = by (asked_eq own asked) refl
     where
-      by : (t : Bool) → asked_eq own asked ≡ t → Answers qs bit ns asked n
+      by : (t : Bool) → asked_eq own asked ≡ t → HasAskedSet qs bit ns asked n
       by true e =
           let same : number ≡ n = same_Some number n
           (sym (ap (λ t. cond t (Some number) (lookup (asked_eq asked) old)) e) ∙ sym (updates asked) ∙ at) in
-          subst (Answers qs bit ns asked) same
-          (subst (λ a. Answers qs bit ns a number) (same_asked own asked e) answers)
+          subst (HasAskedSet qs bit ns asked) same
+          (subst (λ a. HasAskedSet qs bit ns a number) (same_asked own asked e) answers)
       by false e =
           have asked n (sym (ap (λ t. cond t (Some number) (lookup (asked_eq asked) old)) e) ∙ sym (updates asked) ∙ at)
 
@@ -194,19 +194,20 @@ module _ (qs : List Quad) (bit : ℕ) where
   abbrev pub Begins : ℕ → ℕ → Asked → Type 0
   Begins n l asked = (asked.number ≡ n) × (asked.zero ≡ bit_of (points_of qs n 0) bit) × (asked.level ≡ l)
 
-  begun_same : (ns : List Node) (asked : Asked) (m n l v : ℕ) → Answers qs bit ns asked m → Begins n (l + 1) asked → v < 2 ^ 64
+  begun_same : (ns : List Node) (asked : Asked) (m n l v : ℕ) → HasAskedSet qs bit ns asked m → Begins n (l + 1) asked → v < 2 ^ 64
       → accepts ns m v ≡ bit_of (points_of qs n (v / 4 ^ l / 4)) bit
   begun_same ns asked m n l v a (number, nought, level) less =
       a.same v less ∙ (λ j. is_at qs (number j) (nought j) bit (v / 4 ^ (level j))) ∙ at_all n (v / 4 ^ (l + 1))
       ∙ ap (λ u. bit_of (points_of qs n u) bit) (next_rest v l)
 
   -- a number's set by those of the four ways on
-  module _ (n1 n2 n3 n4 n5 n6 : List Node) (k12 : Keeps n1 n2) (k23 : Keeps n2 n3) (k34 : Keeps n3 n4) (k45 : Keeps n4 n5)
-      (k56 : Keeps n5 n6) (asked a b c : Asked) (x : Quad) (none first second both low high : ℕ)
+  module _ (n1 n2 n3 n4 n5 n6 : List Node) (k12 : KeepsNodes n1 n2) (k23 : KeepsNodes n2 n3) (k34 : KeepsNodes n3 n4)
+      (k45 : KeepsNodes n4 n5)
+      (k56 : KeepsNodes n5 n6) (asked a b c : Asked) (x : Quad) (none first second both low high : ℕ)
       (same : (v : ℕ) → sees qs x v ≡ points_of qs asked.number v) (begins-a : Begins x.first (asked.level + 1) a)
       (begins-b : Begins x.second (asked.level + 1) b) (begins-c : Begins x.both (asked.level + 1) c)
-      (none-is : Answers qs bit n1 (record { number = x.none; zero = asked.zero; level = asked.level + 1 }) none)
-      (first-is : Answers qs bit n2 a first) (second-is : Answers qs bit n3 b second) (both-is : Answers qs bit n4 c both)
+      (none-is : HasAskedSet qs bit n1 (record { number = x.none; zero = asked.zero; level = asked.level + 1 }) none)
+      (first-is : HasAskedSet qs bit n2 a first) (second-is : HasAskedSet qs bit n3 b second) (both-is : HasAskedSet qs bit n4 c both)
       (inside : IsNumber n5 low)
       (low-is : (v : ℕ) → accepts n5 low v ≡ cond (bit_of v (2 * asked.level + 1)) (accepts n4 second v) (accepts n4 none v))
       (high-is : (v : ℕ) → accepts n6 high v ≡ cond (bit_of v (2 * asked.level + 1)) (accepts n5 both v) (accepts n5 first v))
@@ -238,7 +239,7 @@ module _ (qs : List Quad) (bit : ℕ) where
       pub parted_answers : {E : Type 0} (n7 : List Node) (r : Result ℕ E) → IfOk r (λ n. IsNumber n7 n)
           → IfOk r (λ n. 2 * asked.level ≤ level_of n7 n)
           → IfOk r (λ n. (v : ℕ) → accepts n7 n v ≡ cond (bit_of v (2 * asked.level)) (accepts n6 high v) (accepts n6 low v))
-          → IfOk r (Answers qs bit n7 asked)
+          → IfOk r (HasAskedSet qs bit n7 asked)
       parted_answers n7 (Err e) inside' deep joined = tt
       parted_answers n7 (Ok n) inside' deep joined = record {
         inside = inside';

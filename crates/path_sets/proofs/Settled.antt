@@ -7,7 +7,7 @@ use Rattle.indexmap.specs.IndexMap.{set_value_at}
 use Rattle.language.specs.Lists.{Member}
 use Rattle.path_sets.specs.declared.place.Place.{Place}
 use Rattle.path_sets.specs.Edges.{edge_at, edges, place_eq}
-use Rattle.path_sets.specs.Inserts.{Inserts, Settles}
+use Rattle.path_sets.specs.Inserts.{Inserts, PutsIn}
 use Rattle.path_sets.specs.Masks.{Marks}
 use Rattle.path_sets.proofs.Masks.{bits_known, bits_hold, put_bit, first_bit}
 use Rattle.path_sets.proofs.Grouped.{Groups, in_group, only_in_group, put_in_group, same_group, absent, no_edge, put_last}
@@ -15,7 +15,7 @@ use Rattle.path_sets.proofs.Grouped.{Groups, in_group, only_in_group, put_in_gro
 -- the mask of a place settles what is an edge
 pub settled : (gs : Groups) (i : ℕ) (p : Place) (m w b : ℕ) → b < 64 → IsDistinct place_eq (keys_of gs) →
     slice_get gs i ≡ Some (p, m) → slice_get (values_of gs) i ≡ Some m → (added : Bool) → Marks b m w added →
-    Settles (edge_at p b) (edges gs) (edges (set_value_at gs i w)) added
+    PutsIn (edge_at p b) (edges gs) (edges (set_value_at gs i w)) added
 settled gs i p m w b small distinct at value true (clear, set, others) = (
   put_in_group gs i p m w b at (put_bit m w b 64 small clear set others),
   λ h. true≢false (sym (bits_known m b 64 (only_in_group gs i p m b small distinct at h)).1 ∙ clear),
@@ -25,7 +25,7 @@ settled gs i p m w b small distinct at value false (set, same) =
 
 -- the first point of a place that had none is a new edge
 pub started : (old new : Groups) (p : Place) (w b : ℕ) → b < 64 → w ≡ 2 ^ b → lookup (place_eq p) old ≡ None →
-    new ≡ old ++ (p, w) ∷ [] → Settles (edge_at p b) (edges old) (edges new) true
+    new ≡ old ++ (p, w) ∷ [] → PutsIn (edge_at p b) (edges old) (edges new) true
 started old new p w b small is none made = (
   subst (λ (es : Groups). Inserts (edge_at p b) (edges old) (edges es)) (sym made) (put_last old p w b (first_bit w b small is)),
   no_edge old p b small (absent old p none),
@@ -33,6 +33,6 @@ started old new p w b small is none made = (
 
 module _ {A : Type 0} (x : A) (old new : List A) where
   -- where the answer is that x was put in, it was no member
-  pub was_put_in : (added : Bool) → added ≡ true → Settles x old new added → Inserts x old new × (Member x old → ⊥)
+  pub was_put_in : (added : Bool) → added ≡ true → PutsIn x old new added → Inserts x old new × (Member x old → ⊥)
   was_put_in true is settles = settles
   was_put_in false is settles = absurd (true≢false (sym is))

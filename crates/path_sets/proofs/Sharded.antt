@@ -9,7 +9,7 @@ use Rattle.language.specs.Lists.{Member}
 use Rattle.language.proofs.Members.{member_left, member_right, member_append}
 use Rattle.path_sets.specs.declared.shards.Shard.{Shard}
 use Rattle.path_sets.specs.Edges.{edges}
-use Rattle.path_sets.specs.Inserts.{Inserts, Settles}
+use Rattle.path_sets.specs.Inserts.{Inserts, PutsIn}
 use Rattle.path_sets.specs.Shards.{edges_at, all_in, AreHome, AreThere}
 use Rattle.path_sets.specs.Triples.{Triple}
 use Rattle.path_sets.proofs.Inserted.{behind, before, is_new_or_old}
@@ -90,18 +90,18 @@ module _ {A : Type 0} where
 
     module _ (w : Shard A) where
       -- what is settled in the entry's shard is settled for all
-      pub settles_all : (added : Bool) → Settles x (edges s.masks.entries) (edges w.masks.entries) added
-          → Settles x (all_in ss) (all_in (slice_set ss k w)) added
+      pub settles_all : (added : Bool) → PutsIn x (edges s.masks.entries) (edges w.masks.entries) added
+          → PutsIn x (all_in ss) (all_in (slice_set ss k w)) added
       settles_all true (more, new) = (put_in_all ss k s w x at more, λ m. new (in_own m))
       settles_all false (same, known) = (same_all ss k s w at same, of_own known)
 
-      old_or_new : (added : Bool) → Settles x (edges s.masks.entries) (edges w.masks.entries) added → (t : Triple)
+      old_or_new : (added : Bool) → PutsIn x (edges s.masks.entries) (edges w.masks.entries) added → (t : Triple)
           → Member t (edges w.masks.entries) → (t ≡ x) ⊎ Member t (edges s.masks.entries)
       old_or_new true (more, new) t m = is_new_or_old x t _ _ more m
       old_or_new false (same, known) t m = inr (subst (Member t) same m)
 
       -- and each path edge stands in its entry's shard still
-      pub home_stays : (added : Bool) → Settles x (edges s.masks.entries) (edges w.masks.entries) added
+      pub home_stays : (added : Bool) → PutsIn x (edges s.masks.entries) (edges w.masks.entries) added
           → AreHome homes (slice_set ss k w)
       home_stays added settles j t m =
           elim (was_at ss k w j t m) [

@@ -9,12 +9,12 @@ use Rattle.path_sets.specs.Masks.{bit_of}
 use Rattle.path_sets.specs.Triples.{Triple}
 use Rattle.path_sets.specs.Walks.{IsNumber}
 use Rattle.path_sets.specs.Quads.{Joins, KeepQuads, points_of}
-use Rattle.path_sets.specs.Diagrams.{HaveNumbers, InRun, Roots, Takes, merged_has, root_of}
+use Rattle.path_sets.specs.Diagrams.{HaveNumbers, InRun, Roots, TakesGiven, merged_has, root_of}
 
 -- more is taken
-pub takes_on : (given : Triple → Type 0) (ns ms os : List Quad) (rs ss ts : List (Row × ℕ)) → Takes given ns ms rs ss
-    → Takes given ms os ss ts
-    → Takes given ns os rs ts
+pub takes_on : (given : Triple → Type 0) (ns ms os : List Quad) (rs ss ts : List (Row × ℕ)) → TakesGiven given ns ms rs ss
+    → TakesGiven given ms os ss ts
+    → TakesGiven given ns os rs ts
 takes_on given ns ms os rs ss ts a b = record {
   kept = λ t h. b.kept t (a.kept t h);
   sound = λ t h. elim (b.sound t h) [ inl was ↦ a.sound t was | inr new ↦ inr new ];
@@ -22,7 +22,7 @@ takes_on given ns ms os rs ss ts a b = record {
 
 -- of fewer
 pub takes_of : (few more : Triple → Type 0) (ns ms : List Quad) (rs ss : List (Row × ℕ)) → ((t : Triple) → few t → more t)
-    → Takes few ns ms rs ss → Takes more ns ms rs ss
+    → TakesGiven few ns ms rs ss → TakesGiven more ns ms rs ss
 takes_of few more ns ms rs ss wider a = record {
   kept = a.kept;
   sound = λ t h. elim (a.sound t h) [ inl was ↦ inl was | inr new ↦ inr (wider t new) ];
@@ -44,7 +44,7 @@ numbers_stay ns ms rs keeps numbers e b =
 
 -- and its diagram
 pub takes_none : (given : Triple → Type 0) (ns ms : List Quad) (rs : List (Row × ℕ)) → KeepQuads ns ms → HaveNumbers ns rs
-    → Takes given ns ms rs rs
+    → TakesGiven given ns ms rs rs
 takes_none given ns ms rs keeps numbers =
     let same = λ (t : Triple). ap (λ m. bit_of m (t.point % 64))
     (keeps.same (root_of rs t.entry (t.point / 64)) t.values (numbers t.entry (t.point / 64))) in
@@ -82,7 +82,7 @@ module _ (row : Row) (cells : List (Place × ℕ)) (number : ℕ) (ns ms : List 
       ∙ ap (λ m. bit_of m (t.point % 64))
       (keeps.same (root_of rs t.entry (t.point / 64)) t.values (have t.entry (t.point / 64)))
 
-  pub takes_row : Takes (InRun row cells) ns ms rs ss
+  pub takes_row : TakesGiven (InRun row cells) ns ms rs ss
   takes_row = record {
     kept = λ t h. elim (is_row t.entry (t.point / 64) row) [
       | inl at ↦ let e = here t at in e.0 ∙ (joins t.values (t.point % 64)).1 (inl (sym e.1 ∙ h))
@@ -109,11 +109,11 @@ pub takes_or_stays : {T E : Type 0} (r : Result T E) (row : Row) (cells : List (
     → Joins cells 0 (points_of ns (root_of rs row.entry row.block)) (points_of ms number)
     → OnOk r (Roots rs row number ss)
     → OnErr r (ss ≡ rs)
-    → Takes (InRun row cells) ns ms rs ss
+    → TakesGiven (InRun row cells) ns ms rs ss
 takes_or_stays (Ok x) row cells number ns ms rs ss keeps have joins roots same =
     takes_row row cells number ns ms rs ss keeps have joins roots
 takes_or_stays (Err x) row cells number ns ms rs ss keeps have joins roots same =
-    subst (λ xs. Takes (InRun row cells) ns ms rs xs) (sym same) (takes_none (InRun row cells) ns ms rs keeps have)
+    subst (λ xs. TakesGiven (InRun row cells) ns ms rs xs) (sym same) (takes_none (InRun row cells) ns ms rs keeps have)
 
 pub all_or_none : {T E : Type 0} (r : Result T E) (row : Row) (cells : List (Place × ℕ)) (number : ℕ) (ns ms : List Quad)
     (rs ss : List (Row × ℕ)) → KeepQuads ns ms

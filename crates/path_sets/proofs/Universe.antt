@@ -11,8 +11,8 @@ use Rattle.path_sets.specs.declared.place.Place.{Place}
 use Rattle.path_sets.specs.declared.rows.Row.{Row}
 use Rattle.path_sets.specs.Triples.{Triple, triple}
 use Rattle.path_sets.specs.Edges.{edges}
-use Rattle.path_sets.specs.Diagrams.{Takes, merged_has}
-use Rattle.path_sets.specs.Members.{below, each, universe, triple_eq, has_edge, all_edges, IsThere}
+use Rattle.path_sets.specs.Diagrams.{TakesGiven, merged_has}
+use Rattle.path_sets.specs.Members.{below, each, universe, triple_eq, has_edge, all_edges, IsEdgeThere}
 use Rattle.path_sets.proofs.Places.{both}
 use Rattle.path_sets.proofs.Filtered.{kept_is, is_kept, same_kept, kept_none_twice, one_more, in_each}
 use Rattle.path_sets.proofs.Filtered.{of_each, each_none_twice, map_none_twice, in_below, of_below, below_none_twice}
@@ -114,7 +114,7 @@ same_test false false f g = refl
 
 module _ (nodes : List Quad) (rows : List (Row × ℕ)) (masks : List (Place × ℕ)) where
   abbrev pub Has : Triple → Type 0
-  Has t = IsThere nodes rows masks t
+  Has t = IsEdgeThere nodes rows masks t
 
   pub has_is : (t : Triple) → has_edge nodes rows masks t ≡ true → Has t
   has_is t h = elim (or_is (merged_has nodes rows t) (list_any (triple_eq t) (edges masks)) h) [
@@ -159,7 +159,7 @@ module _ (ns ms : List Quad) (rs ss : List (Row × ℕ)) (masks masks' : List (P
       (λ had. is_had ms ss masks' t (f.0 (has_is ns rs masks t had))))
 
   -- path edges that go from those gathered into the sets are still there
-  pub members_stay : Takes (λ t. Member t (edges masks)) ns ms rs ss
+  pub members_stay : TakesGiven (λ t. Member t (edges masks)) ns ms rs ss
       → ((t : Triple) → Member t (edges masks') → Member t (edges masks))
       → ((t : Triple) → Member t (edges masks) → (merged_has ms ss t ≡ true) ⊎ Member t (edges masks'))
       → all_edges ms ss masks' ≡ all_edges ns rs masks

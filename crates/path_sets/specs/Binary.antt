@@ -14,9 +14,8 @@ abbrev pub asked_eq : Asked → Asked → Bool
 asked_eq x y = nat_eq x.number y.number && (beq x.zero y.zero && nat_eq x.level y.level)
 
 -- A number of nodes of one bit has the set that is asked for: a valuation is in it where it is at the point by what is
--- left of it
--- at the level; and no bit before that level is tested.
-pub record Answers (quads : List Quad) (point : ℕ) (nodes : List Node) (asked : Asked) (n : ℕ) : Type 0 where
+-- left of it at the level; and no bit before that level is tested.
+pub record HasAskedSet (quads : List Quad) (point : ℕ) (nodes : List Node) (asked : Asked) (n : ℕ) : Type 0 where
   pub inside : IsNumber nodes n
   pub deep : 2 * asked.level ≤ level_of nodes n
   pub same : (v : ℕ) → v < 2 ^ 64 → accepts nodes n v ≡ is_at quads asked.number asked.zero point (v / 4 ^ asked.level)
@@ -24,4 +23,4 @@ pub record Answers (quads : List Quad) (point : ℕ) (nodes : List Node) (asked 
 -- the numbers that were found have the sets that were asked for
 abbrev pub AreFound : List Quad → ℕ → List Node → List (Asked × ℕ) → Type 0
 AreFound quads point nodes found =
-    (asked : Asked) (n : ℕ) → lookup (asked_eq asked) found ≡ Some n → Answers quads point nodes asked n
+    (asked : Asked) (n : ℕ) → lookup (asked_eq asked) found ≡ Some n → HasAskedSet quads point nodes asked n

@@ -39,8 +39,8 @@ abbrev pub AreReduced : List Node → Type 0
 AreReduced nodes = (i : ℕ) (x : Node) → slice_get nodes i ≡ Some x → x.low ≢ x.high
 
 -- more nodes, and the sets and the levels of the numbers that there were are the same
-abbrev pub Keeps : List Node → List Node → Type 0
-Keeps old new = Preserves child (λ x. x.level) 64 old new
+abbrev pub KeepsNodes : List Node → List Node → Type 0
+KeepsNodes old new = Preserves child (λ x. x.level) 64 old new
 
 -- whether two rows are the same
 abbrev pub row_eq : Row → Row → Bool
@@ -72,6 +72,6 @@ abbrev pub HaveNumbers : List Quad → List (Row × ℕ) → Type 0
 HaveNumbers nodes rows = (e b : ℕ) → IsNumber nodes (root_of rows e b)
 
 -- The diagrams have what they had, and of what they were to be given nothing else.
-pub record Takes (given : Triple → Type 0) (nodes nodes' : List Quad) (rows rows' : List (Row × ℕ)) : Type 0 where
+pub record TakesGiven (given : Triple → Type 0) (nodes nodes' : List Quad) (rows rows' : List (Row × ℕ)) : Type 0 where
   pub kept : (t : Triple) → merged_has nodes rows t ≡ true → merged_has nodes' rows' t ≡ true
   pub sound : (t : Triple) → merged_has nodes' rows' t ≡ true → (merged_has nodes rows t ≡ true) ⊎ given t

@@ -8,6 +8,6 @@ pub data Inserts {A : Type 0} (x : A) : List A → List A → Type 0 where
   there : (y : A) (xs ys : List A) → Inserts x xs ys → Inserts x (y ∷ xs) (y ∷ ys)
 
 -- x was put in where it was no member, or the list stays where it was one; the answer says which
-abbrev pub Settles : {A : Type 0} → A → List A → List A → Bool → Type 0
-Settles x old new true = Inserts x old new × (Member x old → ⊥)
-Settles x old new false = (new ≡ old) × Member x old
+abbrev pub PutsIn : {A : Type 0} → A → List A → List A → Bool → Type 0
+PutsIn x old new true = Inserts x old new × (Member x old → ⊥)
+PutsIn x old new false = (new ≡ old) × Member x old

@@ -43,8 +43,8 @@ abbrev pub all_edges : List Quad → List (Row × ℕ) → List (Place × ℕ) �
 all_edges nodes rows masks = filter (has_edge nodes rows masks) universe
 
 -- a path edge is in the diagrams, or among those that are gathered
-abbrev pub IsThere : List Quad → List (Row × ℕ) → List (Place × ℕ) → Triple → Type 0
-IsThere nodes rows masks t = (merged_has nodes rows t ≡ true) ⊎ Member t (edges masks)
+abbrev pub IsEdgeThere : List Quad → List (Row × ℕ) → List (Place × ℕ) → Triple → Type 0
+IsEdgeThere nodes rows masks t = (merged_has nodes rows t ≡ true) ⊎ Member t (edges masks)
 
 -- what the diagrams have at a place that is gathered is among what is gathered
 abbrev pub Covers : List Quad → List (Row × ℕ) → List (Place × ℕ) → Type 0
@@ -59,7 +59,7 @@ pub record AreGathered {S : Type 0} (nodes : List Quad) (rows : List (Row × ℕ
 
 -- The path edge was not there, and it and what was there is; or it was there, and what is gathered is the same. The
 -- answer says which.
-abbrev pub Puts : List Quad → List (Row × ℕ) → Triple → List (Place × ℕ) → List (Place × ℕ) → Bool → Type 0
-Puts nodes rows x old new true =
-    (IsThere nodes rows old x → ⊥) × ((t : Triple) → IsThere nodes rows new t ↔ ((t ≡ x) ⊎ IsThere nodes rows old t))
-Puts nodes rows x old new false = IsThere nodes rows old x × (edges new ≡ edges old)
+abbrev pub PutsEdge : List Quad → List (Row × ℕ) → Triple → List (Place × ℕ) → List (Place × ℕ) → Bool → Type 0
+PutsEdge nodes rows x old new true =
+    (IsEdgeThere nodes rows old x → ⊥) × ((t : Triple) → IsEdgeThere nodes rows new t ↔ ((t ≡ x) ⊎ IsEdgeThere nodes rows old t))
+PutsEdge nodes rows x old new false = IsEdgeThere nodes rows old x × (edges new ≡ edges old)

@@ -1,6 +1,5 @@
 -- The inner nodes of the reduced ordered diagram of a set of valuations, by the set alone (Bryant 1986). A prefix gives
--- the bits of a
--- valuation below a level, bit 0 first, and a suffix those from the level on.
+-- the bits of a valuation below a level, bit 0 first, and a suffix those from the level on.
 use Rattle.std.specs.Prelude.{◌≡◌, ℕ, ◌+◌, ◌*◌, ◌^◌, ◌<◌, ◌↔◌, List, [], ◌∷◌, length}
 use Rattle.language.specs.Lists.{Member}
 
@@ -35,8 +34,7 @@ pub record AreNodes (width : ℕ) (S : ℕ → Type 0) (prefixes : List Prefix) 
   pub apart : Apart S prefixes
 
 -- The diagram of a set of valuations of so many bits has so many inner nodes: one for each level and each set of
--- suffixes that
--- depends on the bit of the level.
+-- suffixes that depends on the bit of the level.
 pub record HasNodes (width : ℕ) (S : ℕ → Type 0) (count : ℕ) : Type 0 where
   pub prefixes : List Prefix
   pub nodes : AreNodes width S prefixes

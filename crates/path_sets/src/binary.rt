@@ -4,8 +4,8 @@ ghost use Rattle.std.specs.Prelude.{◌≡◌, ℕ, ◌<◌, ◌≤◌, ◌^◌,
 ghost use Rattle.path_sets.specs.Masks.{bit_of};
 ghost use Rattle.path_sets.specs.Walks.{IsNumber};
 ghost use Rattle.path_sets.specs.Quads.{points_of};
-ghost use Rattle.path_sets.specs.Diagrams.{accepts, Keeps};
-ghost use Rattle.path_sets.specs.Binary.{AreFound, Answers};
+ghost use Rattle.path_sets.specs.Diagrams.{accepts, KeepsNodes};
+ghost use Rattle.path_sets.specs.Binary.{AreFound, HasAskedSet};
 
 use crate::mask::has;
 use crate::nodes::{ALL, NONE, Nodes};
@@ -39,9 +39,9 @@ fn at_point<A: Allocator + Copy>(
     requires bit { bit < 64 }
     requires level { asked.level ≤ 32 }
     requires found { AreFound quads.now.kept.keys bit nodes.old.kept.keys found.old.entries }
-    ensures keeps { Keeps nodes.old.kept.keys nodes.new.kept.keys }
+    ensures keeps { KeepsNodes nodes.old.kept.keys nodes.new.kept.keys }
     ensures found { AreFound quads.now.kept.keys bit nodes.new.kept.keys found.new.entries }
-    ensures answers { IfOk result (Answers quads.now.kept.keys bit nodes.new.kept.keys asked) }
+    ensures answers { IfOk result (HasAskedSet quads.now.kept.keys bit nodes.new.kept.keys asked) }
 {
     if asked.level == 32 {
         return Ok(if asked.zero { ALL } else { NONE });
@@ -70,9 +70,9 @@ fn parted<A: Allocator + Copy>(
     requires bit { bit < 64 }
     requires level { asked.level < 32 }
     requires found { AreFound quads.now.kept.keys bit nodes.old.kept.keys found.old.entries }
-    ensures keeps { Keeps nodes.old.kept.keys nodes.new.kept.keys }
+    ensures keeps { KeepsNodes nodes.old.kept.keys nodes.new.kept.keys }
     ensures found { AreFound quads.now.kept.keys bit nodes.new.kept.keys found.new.entries }
-    ensures answers { IfOk result (Answers quads.now.kept.keys bit nodes.new.kept.keys asked) }
+    ensures answers { IfOk result (HasAskedSet quads.now.kept.keys bit nodes.new.kept.keys asked) }
 {
     let quad = quads.node(asked.number);
     let level = asked.level + 1;

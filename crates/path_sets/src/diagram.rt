@@ -8,7 +8,7 @@ ghost use Rattle.language.specs.Lists.{Member, NoneTwice, NoneTwice-prop};
 ghost use Rattle.path_sets.specs.Edges.{edge_at, place_eq};
 ghost use Rattle.path_sets.specs.Suffixes.{HasNodes};
 ghost use Rattle.path_sets.specs.Triples.{triple};
-ghost use Rattle.path_sets.specs.Members.{all_edges, AreGathered, Covers, Puts};
+ghost use Rattle.path_sets.specs.Members.{all_edges, AreGathered, Covers, PutsEdge};
 
 use crate::gathered::put_all;
 use crate::mask::{has, mark};
@@ -89,11 +89,12 @@ fn gather<A: Allocator + Copy>(
 ) -> Result<bool, AllocError>
     requires bit { bit < 64 }
     requires none { lookup (place_eq place) gathered.old.entries ≡ None }
-    requires gathered { AreGathered merged.old.nodes.kept.keys merged.old.rows.entries gathered.old }
+    requires gathered { AreGathered merged.old.nodes.kept.keys merged.old.rows.entries
+        gathered.old }
     ensures nodes { merged.new.nodes ≡ merged.old.nodes }
     ensures rows { merged.new.rows ≡ merged.old.rows }
     ensures ok { IfOk result
-        (Puts merged.new.nodes.kept.keys merged.new.rows.entries (edge_at place bit)
+        (PutsEdge merged.new.nodes.kept.keys merged.new.rows.entries (edge_at place bit)
         gathered.old.entries gathered.new.entries) }
     ensures err { OnErr result (gathered.new.entries ≡ gathered.old.entries) }
     ensures gathered { AreGathered merged.new.nodes.kept.keys merged.new.rows.entries gathered.new }
@@ -117,11 +118,12 @@ fn put<A: Allocator + Copy>(
     bit: usize,
 ) -> Result<bool, AllocError>
     requires bit { bit < 64 }
-    requires gathered { AreGathered merged.old.nodes.kept.keys merged.old.rows.entries gathered.old }
+    requires gathered { AreGathered merged.old.nodes.kept.keys merged.old.rows.entries
+        gathered.old }
     ensures nodes { merged.new.nodes ≡ merged.old.nodes }
     ensures rows { merged.new.rows ≡ merged.old.rows }
     ensures ok { IfOk result
-        (Puts merged.new.nodes.kept.keys merged.new.rows.entries (edge_at place bit)
+        (PutsEdge merged.new.nodes.kept.keys merged.new.rows.entries (edge_at place bit)
         gathered.old.entries gathered.new.entries) }
     ensures err { OnErr result (gathered.new.entries ≡ gathered.old.entries) }
     ensures gathered { AreGathered merged.new.nodes.kept.keys merged.new.rows.entries gathered.new }

@@ -6,7 +6,7 @@ ghost use Rattle.language.specs.Lists.{Member};
 ghost use Rattle.path_sets.specs.declared.place.Place.{Place};
 ghost use Rattle.path_sets.specs.Triples.{Triple};
 ghost use Rattle.path_sets.specs.Edges.{edges};
-ghost use Rattle.path_sets.specs.Diagrams.{Takes, merged_has, row_of};
+ghost use Rattle.path_sets.specs.Diagrams.{TakesGiven, merged_has, row_of};
 
 use crate::merged::Merged;
 use crate::place::{Place, cell_at};
@@ -64,7 +64,7 @@ fn put_cells<A: Allocator + Copy>(
     merged: &mut Merged<A>,
     cells: &[(Place, u64)],
 ) -> Result<(), AllocError>
-    ensures takes { Takes (λ t. Member t (edges cells.now))
+    ensures takes { TakesGiven (λ t. Member t (edges cells.now))
         merged.old.nodes.kept.keys merged.new.nodes.kept.keys merged.old.rows.entries merged.new.rows.entries }
     ensures all { OnOk result ((t : Triple) → Member t (edges cells.now)
         → merged_has merged.new.nodes.kept.keys merged.new.rows.entries t ≡ true) }
@@ -85,7 +85,7 @@ pub(crate) fn put_all<A: Allocator + Copy>(
     merged: &mut Merged<A>,
     masks: &Masks<A>,
 ) -> Result<(), AllocError>
-    ensures takes { Takes (λ t. Member t (edges masks.now.entries))
+    ensures takes { TakesGiven (λ t. Member t (edges masks.now.entries))
         merged.old.nodes.kept.keys merged.new.nodes.kept.keys merged.old.rows.entries merged.new.rows.entries }
     ensures all { OnOk result ((t : Triple) → Member t (edges masks.now.entries)
         → merged_has merged.new.nodes.kept.keys merged.new.rows.entries t ≡ true) }

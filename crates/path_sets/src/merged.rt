@@ -7,7 +7,7 @@ ghost use Rattle.std.proofs.lemmas.Map.Keys.{IsDistinct-prop};
 ghost use Rattle.indexmap.specs.IndexMap.{IsUnique, keys};
 ghost use Rattle.path_sets.specs.Triples.{Triple, triple};
 ghost use Rattle.path_sets.specs.Masks.{bit_of};
-ghost use Rattle.path_sets.specs.Diagrams.{HaveNumbers, InRun, Takes, merged_has, row_eq};
+ghost use Rattle.path_sets.specs.Diagrams.{HaveNumbers, InRun, TakesGiven, merged_has, row_eq};
 
 use crate::binary::binary;
 use crate::inner::inner_nodes;
@@ -81,7 +81,7 @@ impl<A: Allocator + Copy> Merged<A> {
     /// Puts the points of places, whatever their rows, into the diagram of one row. Where memory is refused, none of
     /// them are in.
     pub(crate) fn put(&mut self, row: Row, run: &[(Place, u64)]) -> Result<(), AllocError>
-        ensures takes { Takes (InRun row run.now)
+        ensures takes { TakesGiven (InRun row run.now)
             self.old.nodes.kept.keys self.new.nodes.kept.keys self.old.rows.entries self.new.rows.entries }
         ensures all { OnOk result ((t : Triple) → InRun row run.now t
             → merged_has self.new.nodes.kept.keys self.new.rows.entries t ≡ true) }

@@ -4,7 +4,7 @@ ghost use Rattle.std.specs.Prelude.{◌≡◌, ℕ, ◌+◌, ◌<◌, ◌^◌, B
 ghost use Rattle.std.specs.Prelude.{length, ◌≤◌};
 ghost use Rattle.path_sets.specs.Masks.{bit_of};
 ghost use Rattle.path_sets.specs.Walks.{IsGrown, IsNumber};
-ghost use Rattle.path_sets.specs.Diagrams.{accepts, AreOrdered, AreReduced, GoDown, Keeps};
+ghost use Rattle.path_sets.specs.Diagrams.{accepts, AreOrdered, AreReduced, GoDown, KeepsNodes};
 ghost use Rattle.path_sets.specs.Diagrams.{level_of};
 ghost use Rattle.path_sets.specs.Walks.{StandOnce};
 
@@ -59,7 +59,7 @@ impl<A: Allocator + Copy> Nodes<A> {
         requires inside { (IsNumber self.old.kept.keys low) × (IsNumber self.old.kept.keys high) }
         requires deep { (level < level_of self.old.kept.keys low)
             × (level < level_of self.old.kept.keys high) }
-        ensures keeps { Keeps self.old.kept.keys self.new.kept.keys }
+        ensures keeps { KeepsNodes self.old.kept.keys self.new.kept.keys }
         ensures inside { IfOk result (λ n. IsNumber self.new.kept.keys n) }
         ensures deep { IfOk result (λ n. level ≤ level_of self.new.kept.keys n) }
         ensures joined { IfOk result (λ n. (v : ℕ) → accepts self.new.kept.keys n v

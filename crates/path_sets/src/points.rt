@@ -6,7 +6,7 @@ ghost use Rattle.std.specs.Map.{lookup};
 ghost use Rattle.path_sets.specs.declared.place.Place.{Place};
 ghost use Rattle.indexmap.specs.IndexMap.{IsUnique, index_map_len, keys};
 ghost use Rattle.path_sets.specs.Edges.{edges, edge_at, place_eq};
-ghost use Rattle.path_sets.specs.Inserts.{Settles};
+ghost use Rattle.path_sets.specs.Inserts.{PutsIn};
 
 use crate::mask::mark;
 use crate::place::Place;
@@ -57,7 +57,7 @@ pub(crate) fn mark_at<A: Allocator + Copy>(masks: &mut Masks<A>, at: usize, bit:
     requires within { at < index_map_len masks.old }
     requires unique { IsUnique place_eq masks.old }
     ensures settles { (p : Place) → slice_get (keys masks.old) at ≡ Some p
-        → Settles (edge_at p bit) (edges masks.old.entries) (edges masks.new.entries) result }
+        → PutsIn (edge_at p bit) (edges masks.old.entries) (edges masks.new.entries) result }
     ensures keys { keys masks.new ≡ keys masks.old }
     ensures unique { IsUnique place_eq masks.new }
 {

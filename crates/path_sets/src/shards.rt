@@ -5,7 +5,7 @@ ghost use Rattle.std.proofs.lemmas.Map.Keys.{IsDistinct-prop};
 ghost use Rattle.indexmap.specs.IndexMap.{IsUnique, keys};
 ghost use Rattle.language.specs.Lists.{Member};
 ghost use Rattle.path_sets.specs.Edges.{edges, edge_at, place_eq};
-ghost use Rattle.path_sets.specs.Inserts.{Settles};
+ghost use Rattle.path_sets.specs.Inserts.{PutsIn};
 
 use crate::mask::{has, one};
 use crate::place::Place;
@@ -40,7 +40,7 @@ impl<A: Allocator + Copy> Shard<A> {
     ) -> Result<bool, AllocError>
         requires { bit < 64 }
         ensures ok { IfOk result
-            (Settles (edge_at place bit) (edges self.old.masks.entries)
+            (PutsIn (edge_at place bit) (edges self.old.masks.entries)
             (edges self.new.masks.entries)) }
         ensures err { OnErr result (edges self.new.masks.entries ≡ edges self.old.masks.entries) }
     {

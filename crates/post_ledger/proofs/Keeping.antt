@@ -13,11 +13,11 @@ use Rattle.std.proofs.lemmas.Map.Steps.{length-le_from_distinct_below}
 use Rattle.post_ledger.specs.declared.event.Event.{Event}
 use Rattle.post_ledger.specs.declared.event.Event.TheVariants.{Post, Take, Done}
 use Rattle.post_ledger.specs.History.{posts, takes, dones}
-use Rattle.post_ledger.specs.Kept.{Counts}
+use Rattle.post_ledger.specs.Kept.{MailboxCounts}
 use Rattle.post_ledger.proofs.Histories.{posts-append, takes-append, dones-append, legal_push, split_at_element, post_at}
 
 -- an empty mailbox
-pub counts_new : {M : Type 0} (capacity : ℕ) → Counts {M = M} [] capacity 0 0 0 0
+pub counts_new : {M : Type 0} (capacity : ℕ) → MailboxCounts {M = M} [] capacity 0 0 0 0
 unfolding IsDistinct
 counts_new capacity = record {
   legal = λ i e h. cc;
@@ -51,8 +51,8 @@ takes_done : {M : Type 0} (h : List (Event M)) (t : ℕ) → takes (h ++ Done t 
 takes_done h t = takes-append h (Done t ∷ []) ∙ append-nil (takes h)
 
 -- a Post, where the room was reserved
-pub counts_post : {M : Type 0} (h : List (Event M)) (cap cap' n u t o s : ℕ) (m : M) → Counts h cap n u t o
-    → length h + (u + u + o + 3) ≤ cap' → Counts (h ++ Post s m ∷ []) cap' n (u + 1) t o
+pub counts_post : {M : Type 0} (h : List (Event M)) (cap cap' n u t o s : ℕ) (m : M) → MailboxCounts h cap n u t o
+    → length h + (u + u + o + 3) ≤ cap' → MailboxCounts (h ++ Post s m ∷ []) cap' n (u + 1) t o
 counts_post h cap cap' n u t o s m kept room =
     let long : length (h ++ Post s m ∷ []) ≡ length h + 1 = length_push h (Post s m) in
     let more : length (posts (h ++ Post s m ∷ [])) ≡ length (posts h) + 1 = ap length (posts-append h (Post s m ∷ []))
@@ -70,9 +70,9 @@ counts_post h cap cap' n u t o s m kept room =
     }
 
 -- the Take of the oldest Post, which stands at a place behind which none was taken
-pub counts_take : {M : Type 0} (h : List (Event M)) (cap n u t o at s : ℕ) (m : M) → Counts h cap n u t o → 0 < u
+pub counts_take : {M : Type 0} (h : List (Event M)) (cap n u t o at s : ℕ) (m : M) → MailboxCounts h cap n u t o → 0 < u
     → slice_get h at ≡ Some (Post s m) → posts (take at h) ≡ posts (take n h)
-    → Counts (h ++ Take s m ∷ []) cap (at + 1) (u - 1) (t + 1) (o + 1)
+    → MailboxCounts (h ++ Take s m ∷ []) cap (at + 1) (u - 1) (t + 1) (o + 1)
 counts_take h cap n u t o at s m kept some here skipped =
     let long : length (h ++ Take s m ∷ []) ≡ length h + 1 = length_push h (Take s m) in
     let more : length (takes (h ++ Take s m ∷ [])) ≡ length (takes h) + 1 = ap length (takes-append h (Take s m ∷ []))
@@ -98,10 +98,10 @@ counts_take h cap n u t o at s m kept some here skipped =
     }
 
 -- the same events with more room
-pub counts_grow : {M : Type 0} (h h' : List (Event M)) (cap cap' n u t o : ℕ) → h' ≡ h → cap ≤ cap' → Counts h cap n u t o
-    → Counts h' cap' n u t o
+pub counts_grow : {M : Type 0} (h h' : List (Event M)) (cap cap' n u t o : ℕ) → h' ≡ h → cap ≤ cap' → MailboxCounts h cap n u t o
+    → MailboxCounts h' cap' n u t o
 counts_grow h h' cap cap' n u t o same grown kept =
-    subst (λ l. Counts l cap' n u t o) (sym same) (record {
+    subst (λ l. MailboxCounts l cap' n u t o) (sym same) (record {
       legal = kept.legal;
       all_taken = kept.all_taken;
       all_posted = kept.all_posted;
@@ -132,7 +132,7 @@ pub more_earlier : (xs : List ℕ) (t q : ℕ) → ((k : ℕ) → list_any (nat_
 more_earlier xs t q earlier old k e = elim (found_push xs q k e) [ inl found ↦ earlier k found | inr same ↦ omega (arith, same) ]
 
 -- a Take that no Done names is open
-pub some_open : {M : Type 0} (h : List (Event M)) (cap n u t o q : ℕ) → Counts h cap n u t o → q < length (takes h)
+pub some_open : {M : Type 0} (h : List (Event M)) (cap n u t o q : ℕ) → MailboxCounts h cap n u t o → q < length (takes h)
     → (Contains (dones h) q → ⊥) → 0 < o
 some_open h cap n u t o q kept old fresh =
     let early : q < t = omega (arith, kept.all_taken) in
@@ -143,8 +143,8 @@ some_open h cap n u t o q kept old fresh =
     omega (arith, more, length_push (dones h) q, kept.all_open)
 
 -- the Done of an open Take
-pub counts_done : {M : Type 0} (h : List (Event M)) (cap n u t o q : ℕ) → Counts h cap n u t o → q < length (takes h)
-    → (Contains (dones h) q → ⊥) → Counts (h ++ Done q ∷ []) cap n u t (o - 1)
+pub counts_done : {M : Type 0} (h : List (Event M)) (cap n u t o q : ℕ) → MailboxCounts h cap n u t o → q < length (takes h)
+    → (Contains (dones h) q → ⊥) → MailboxCounts (h ++ Done q ∷ []) cap n u t (o - 1)
 counts_done h cap n u t o q kept old fresh =
     let long : length (h ++ Done q ∷ []) ≡ length h + 1 = length_push h (Done q) in
     let open_one : 0 < o = some_open h cap n u t o q kept old fresh in

@@ -8,7 +8,7 @@ use Rattle.post_ledger.specs.History.{posts, takes, dones, IsLegal}
 -- The numbers are those of a legal history: `taken` Takes, of which `open` have no Done; `untaken` Posts
 -- that are not taken, none of them before the event `next`; and room for the Take and the Done that each
 -- Post still owes.
-pub record Counts {M : Type 0} (events : List (Event M)) (capacity next untaken taken open_takes : ℕ) : Type 0 where
+pub record MailboxCounts {M : Type 0} (events : List (Event M)) (capacity next untaken taken open_takes : ℕ) : Type 0 where
   pub legal : IsLegal events
   pub all_taken : length (takes events) ≡ taken
   pub all_posted : length (posts events) ≡ taken + untaken
@@ -21,4 +21,4 @@ pub record Counts {M : Type 0} (events : List (Event M)) (capacity next untaken 
 
 -- the fields of a mailbox are the counts of its events
 abbrev pub IsKept : {M A : Type 0} → Inside M A → Type 0
-IsKept m = Counts m.events.items (vec_capacity m.events) m.next m.untaken m.taken m.open
+IsKept m = MailboxCounts m.events.items (vec_capacity m.events) m.next m.untaken m.taken m.open

@@ -1,6 +1,5 @@
 -- A run of a board with two mailboxes: pass 0 takes the first message, posts two to mailbox 1 under its job, and pass 1
--- takes and
--- completes both before pass 0 completes its own.
+-- takes and completes both before pass 0 completes its own.
 use Rattle.std.specs.Prelude.{ℕ, List, [], ◌∷◌}
 use Rattle.post_ledger.specs.declared.entry.Entry.{Entry}
 use Rattle.post_ledger.specs.declared.entry.Entry.TheVariants.{Posted, Taken, Completed}

@@ -29,7 +29,7 @@ use Rattle.summaries.specs.Dues.{due_of}
 use Rattle.summaries.specs.Fitting.{IsDueFor, FitsIn}
 use Rattle.summaries.specs.Found.{TookMessage}
 use Rattle.summaries.specs.Tables.{graph_of, procedure_of, limit_of, answers_of, failure, IsNew, IsQuiet, IsAnswer}
-use Rattle.summaries.specs.Tables.{Takes, Keeps}
+use Rattle.summaries.specs.Tables.{TableTakes, KeepsTable}
 use Rattle.summaries.specs.Tabulated.{HasMoreEdges}
 use Rattle.summaries.specs.Together.{opening, IsTableOf}
 use Rattle.summaries.proofs.Tabled.{over_limit, answer_due}
@@ -229,7 +229,7 @@ module _ {G : Type 0} (b : Start G) where
     -- a message was taken
     stands_take : (job : ℕ) (d : Due) (s t : Sight Due (Graphs G)) (x : Table G A S) (took : List Due)
         (sent : List (ℕ × Due)) →
-        Stands b members s x took sent → promises.TookMessage FitsIn job d s t → Stands b members t x
+        Stands b members s x took sent → promises.TookOldest FitsIn job d s t → Stands b members t x
         (took ++ d ∷ []) sent
     stands_take job d s t x took sent k m =
         let longer = own_added (Taken s.number m.sender d) s t k.pass m.added in
@@ -310,7 +310,7 @@ module _ {G : Type 0} (b : Start G) where
 
     -- A table that has kept what it took is that of the procedure still.
     table_keeps : (f : Option TableFault) (p : Program) (q : ℕ) (x y : Table G A S) → IsTableOf members p q x
-        → Keeps members f x y →
+        → KeepsTable members f x y →
         IsTableOf members p q y
     table_keeps f p q x y is k = record {
       fit = is.fit;
@@ -323,7 +323,7 @@ module _ {G : Type 0} (b : Start G) where
 
     stands_keeps : (f : Option TableFault) (s : Sight Due (Graphs G)) (x y : Table G A S) (took : List Due)
         (sent : List (ℕ × Due)) →
-        Stands b members s x took sent → Keeps members f x y → Stands b members s y took sent
+        Stands b members s x took sent → KeepsTable members f x y → Stands b members s y took sent
     stands_keeps f s x y took sent k keeps = record {
       pass = k.pass;
       table = λ p drawn. table_keeps f p b.number x y (k.table p drawn) keeps;
@@ -343,7 +343,7 @@ module _ {G : Type 0} (b : Start G) where
 
     -- The table has answered a message, which is due and is posted next.
     pub answered_sending : (job to : ℕ) (d : Due) (s : Sight Due (Graphs G)) (w : Worker G A S) (y : Table G A S) →
-        IsDealing b members job s w → Keeps members None w.table y → IsAnswer w.table y to d →
+        IsDealing b members job s w → KeepsTable members None w.table y → IsAnswer w.table y to d →
         IsSending b members job to d s (record w { table = y })
     answered_sending job to d s w y deals keeps answer =
         let g = deals.sent.0 in
@@ -369,7 +369,7 @@ module _ {G : Type 0} (b : Start G) where
     -- The table has answered all that it owes.
     pub answered_all : (job : ℕ) (s : Sight Due (Graphs G)) (w : Worker G A S) (y : Table G A S)
         → IsDealing b members job s w →
-        Keeps members None w.table y → answers_of y ≡ answers_of w.table → IsDealing b members job s
+        KeepsTable members None w.table y → answers_of y ≡ answers_of w.table → IsDealing b members job s
         (record w { table = y })
     answered_all job s w y deals keeps none =
         let g = deals.sent.0 in record {
@@ -388,7 +388,7 @@ module _ {G : Type 0} (b : Start G) where
 
     -- The table has failed.
     table_stops : (job : ℕ) (f : TableFault) (why : Reason) (s : Sight Due (Graphs G)) (w : Worker G A S)
-        (y : Table G A S) → cause_of why ≡ cause_for f → IsDealing b members job s w → Keeps members (Some f) w.table y →
+        (y : Table G A S) → cause_of why ≡ cause_for f → IsDealing b members job s w → KeepsTable members (Some f) w.table y →
         IsStopped b members job (stop.Failed why) s (record w { table = y })
     table_stops job f why s w y same deals keeps =
         let g = deals.sent.0 in
@@ -403,7 +403,7 @@ module _ {G : Type 0} (b : Start G) where
         }
 
     pub answered_fault : (job : ℕ) (why : Reason) (s : Sight Due (Graphs G)) (w : Worker G A S) (y : Table G A S) →
-        IsDealing b members job s w → FailsFor why (λ f. Keeps members (Some f) w.table y) →
+        IsDealing b members job s w → FailsFor why (λ f. KeepsTable members (Some f) w.table y) →
         IsStopped b members job (stop.Failed why) s (record w { table = y })
     answered_fault job reason.Spent s w y deals failed = absurd failed
     answered_fault job reason.EdgeLimit s w y deals failed =
@@ -497,7 +497,7 @@ module _ {G : Type 0} (b : Start G) where
 
     -- The pass took a message, which the table is to take.
     pub took_taking : (job : ℕ) (d : Due) (s t : Sight Due (Graphs G)) (v w : Worker G A S) → IsReady b members s v
-        → promises.TookMessage FitsIn job d s t →
+        → promises.TookOldest FitsIn job d s t →
         w.number ≡ v.number → w.table ≡ v.table → w.takes.items ≡ v.takes.items ++ d ∷ [] → w.posts ≡ v.posts →
         IsTaking b members job d t w
     took_taking job d s t v w ready m number table takes posts =
@@ -522,7 +522,7 @@ module _ {G : Type 0} (b : Start G) where
     -- The table was given the message, and so answers.
     given_stands : (d : Due) {T : Type 0} (answer : Result T TableFault) (job : ℕ) (s : Sight Due (Graphs G))
         (w : Worker G A S) (y : Table G A S) →
-        IsTaking b members job d s w → Takes members d answer w.table y
+        IsTaking b members job d s w → TableTakes members d answer w.table y
         → Stands b members s y w.takes.items w.posts.items
     given_stands d answer job s w y k given = record {
       pass = k.stands.pass;
@@ -552,7 +552,7 @@ module _ {G : Type 0} (b : Start G) where
     -- The table took the message.
     pub given_dealing : (d : Due) {T : Type 0} (x : T) (job : ℕ) (s : Sight Due (Graphs G)) (w : Worker G A S)
         (y : Table G A S) →
-        IsTaking b members job d s w → Takes members d (Ok x) w.table y → IsDealing b members job s
+        IsTaking b members job d s w → TableTakes members d (Ok x) w.table y → IsDealing b members job s
         (record w { table = y })
     given_dealing d x job s w y k given = record {
       number = k.number;
@@ -575,7 +575,7 @@ module _ {G : Type 0} (b : Start G) where
     -- The table failed at the message.
     taking_stops : (d : Due) {T : Type 0} (f : TableFault) (why : Reason) (job : ℕ) (e : Finish)
         (s t : Sight Due (Graphs G)) (w : Worker G A S) (y : Table G A S) → cause_of why ≡ cause_for f →
-        IsTaking b members job d s w → Takes members d {T = T} (Err f) w.table y → Failed FitsIn why e s t →
+        IsTaking b members job d s w → TableTakes members d {T = T} (Err f) w.table y → Failed FitsIn why e s t →
         HasStopped b members e t (record w { table = y })
     taking_stops d {T} f why job e s t w y same k given failed =
         let stands = given_stands d {T = T} (Err f) job s w y k given in

@@ -5,7 +5,7 @@ use Rattle.summaries.specs.declared.due.Due.{Due}
 use Rattle.summaries.specs.declared.table.Table.{Table}
 use Rattle.summaries.specs.declared.table_fault.TableFault.{TableFault}
 use Rattle.summaries.specs.declared.table_fault.TableFault.TheVariants as fault
-use Rattle.summaries.specs.Tables.{Takes}
+use Rattle.summaries.specs.Tables.{TableTakes}
 use Rattle.switchboard.specs.declared.calls.Cause.{Cause}
 use Rattle.switchboard.specs.declared.calls.Cause.TheVariants as cause
 use Rattle.switchboard.specs.Sights.{Sight}
@@ -63,5 +63,5 @@ FailsFor (reason.NoRoom witness) P = P fault.Memory
 module _ {G A S : Type 0} (members : S → List Triple) where
   -- the table takes the message, or has failed for this reason
   abbrev pub TakesOrFails : {T : Type 0} → Due → Result T Reason → Table G A S → Table G A S → Type 0
-  TakesOrFails d (Ok x) old new = Takes members d (Ok x) old new
-  TakesOrFails {T} d (Err why) old new = FailsFor why (λ f. Takes members d {T = T} (Err f) old new)
+  TakesOrFails d (Ok x) old new = TableTakes members d (Ok x) old new
+  TakesOrFails {T} d (Err why) old new = FailsFor why (λ f. TableTakes members d {T = T} (Err f) old new)

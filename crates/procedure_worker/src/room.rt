@@ -4,7 +4,7 @@ ghost use Rattle.std.specs.Prelude.{OnOk, OnErr, IfOk, IfErr, IfSome, IfNone, Ma
 ghost use Rattle.post_ledger.specs.Orders.{HasJob};
 ghost use Rattle.switchboard.specs.Promises.{WasPosted};
 ghost use Rattle.summaries.specs.Fitting.{FitsIn};
-ghost use Rattle.summaries.specs.Tables.{IsTable, IsAnswer, IsQuiet, Keeps, answers_of};
+ghost use Rattle.summaries.specs.Tables.{IsTable, IsAnswer, IsQuiet, KeepsTable, answers_of};
 ghost use Rattle.procedure_worker.specs.Stops.{RefusedFor, FailsFor, TakesOrFails};
 
 use crate::stop::{Reason, Stop};
@@ -59,11 +59,11 @@ pub(crate) fn next<G: Allocator, A: Allocator + Copy, S: PathSet<A>>(
     table: &mut Table<'_, G, A, S>,
 ) -> Result<Option<(u8, Due)>, Reason>
     requires { IsTable S.members table.old }
-    ensures keeps { OnOk result (Keeps S.members None table.old table.new) }
+    ensures keeps { OnOk result (KeepsTable S.members None table.old table.new) }
     ensures some { IfOk result (λ r. IfSome r (λ m. IsAnswer table.old table.new m.0 m.1)) }
     ensures none { IfOk result (λ r. IfNone r (answers_of table.new ≡ answers_of table.old)) }
     ensures quiet { IfOk result (λ r. IfNone r (IsQuiet S.members table.new)) }
-    ensures fails { IfErr result (λ why. FailsFor why (λ f. Keeps S.members (Some f) table.old table.new)) }
+    ensures fails { IfErr result (λ why. FailsFor why (λ f. KeepsTable S.members (Some f) table.old table.new)) }
 {
     match table.next() {
         Ok(answer) => Ok(answer),

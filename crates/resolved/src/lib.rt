@@ -1,4 +1,5 @@
-//! Trees whose names all resolve, and the sequential programs that they are: what the rewriting makes and the flow graphs draw.
+//! Trees whose names all resolve, and the sequential programs that they are: what the rewriting makes and the flow
+//! graphs draw.
 #![tactic(auto)]
 
 mod limits;
@@ -17,8 +18,8 @@ ghost use Rattle.resolved.specs.Limits.{most_places};
 pub use limits::MOST_PLACES;
 pub use sequential::Sequential;
 
-/// What a tree that resolves means as a sequential program is complete: each variable has its place, each target its right
-/// side, each call a procedure with a place for each argument, and each `goto` a rest that begins at its label.
+/// What a tree that resolves means as a sequential program is complete: each variable has its place, each target its
+/// right side, each call a procedure with a place for each argument, and each `goto` a rest that begins at its label.
 pub fn resolving_trees_are_complete()
     ensures { (t : Tree) → Resolves t → IsComplete (sequential_of t) }
 {}
@@ -28,7 +29,8 @@ pub fn calls_of_resolving_trees_fit()
     ensures { (t : Tree) → Resolves t → ArgumentsFit (sequential_of t) }
 {}
 
-/// In a tree whose procedures have at most 64 places each, as a sequential program, each valuation has at most 64 values.
+/// In a tree whose procedures have at most 64 places each, as a sequential program, each valuation has at most 64
+/// values.
 pub fn narrow_trees_have_narrow_valuations()
     ensures { (t : Tree) → AllNarrow t → (q : ℕ) (routine : Routine)
         → slice_get (sequential_of t).routines q ≡ Some routine

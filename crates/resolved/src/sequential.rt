@@ -10,10 +10,10 @@ ghost use Rattle.resolved.specs.Narrow.{width, AllNarrow, AllNarrow-prop};
 use std::alloc::Allocator;
 use trees::Program;
 
-/// A sequential program that a checked program was rewritten to. Its procedure 0 is `main__`; the others follow in the order
-/// of the source, from 1. What it carries: its tree resolves, so each variable has its place, each call a procedure with as
-/// many formals as it has arguments, each `goto` a rest, and each target a right side; each procedure has at most 64 places;
-/// and there are 1 to 32 procedures.
+/// A sequential program that a checked program was rewritten to. Its procedure 0 is `main__`; the others follow in the
+/// order of the source, from 1. What it carries: its tree resolves, so each variable has its place, each call a
+/// procedure with as many formals as it has arguments, each `goto` a rest, and each target a right side; each procedure
+/// has at most 64 places; and there are 1 to 32 procedures.
 #[derive(Drop)]
 pub struct Sequential<A: Allocator> {
     pub program: Program<A>,

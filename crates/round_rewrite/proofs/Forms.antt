@@ -13,13 +13,13 @@ use Rattle.trees.specs.declared.tree.Core.TheFolds.{fold_out-Stmt}
 use Rattle.trees.specs.Trees.{Deed, simple, branch, repeat, Item, name_of, core_step, stmt_step, items_of, deed_of, marked_before}
 use Rattle.trees.specs.Trees.{all_before, block_of}
 use Rattle.round_rewrite.specs.Table.{Naming, numbers, each, plain, side, drawing, prologue, statement, rewritten}
-use Rattle.round_rewrite.specs.Writing.{Statements, Lays, bare_form, form, forms}
+use Rattle.round_rewrite.specs.Writing.{TextBlock, Lays, bare_form, form, forms}
 use Rattle.language.proofs.Rests.{join_done}
 use Rattle.round_rewrite.proofs.Blocks.{statement-join}
 
 module _ (w : Naming tree.Name tree.Name tree.Name tree.Name) (last : ℕ) where
   -- statements rewritten in front of others are the rewritten block, joined with the others
-  pub forms_rewritten : (is : List Item) (k : Statements) → forms w last is k ≡ join (rewritten w last (all_before is done)) k
+  pub forms_rewritten : (is : List Item) (k : TextBlock) → forms w last is k ≡ join (rewritten w last (all_before is done)) k
   forms_rewritten [] k = refl
   forms_rewritten (i ∷ is) k = by_deed i.deed (forms_rewritten is k)
     where
@@ -36,7 +36,7 @@ module _ (w : Naming tree.Name tree.Name tree.Name tree.Name) (last : ℕ) where
 
   -- a block rewritten from nothing, with others behind it
   pub block_whole : {M N : Type 0} (start new : List (Stmt M)) (body items : List (Stmt N)) → start ≡ [] → body ≡ items
-      → Lays start new (λ k. forms w last (items_of body) k) → (k : Statements)
+      → Lays start new (λ k. forms w last (items_of body) k) → (k : TextBlock)
       → all_before (items_of new) k ≡ join (rewritten w last (block_of items)) k
   block_whole start new body items e f l k =
       l k
@@ -48,7 +48,7 @@ module _ (w : Naming tree.Name tree.Name tree.Name tree.Name) (last : ℕ) where
       → Lays start new (λ k. forms w last (items_of body) k) → block_of new ≡ rewritten w last (block_of items)
   block_done start new body items e f l = block_whole start new body items e f l done ∙ join_done (rewritten w last (block_of items))
 
-  pub drawing_some : (n : ℕ) (k : Statements) → (n ≡ 0 → ⊥)
+  pub drawing_some : (n : ℕ) (k : TextBlock) → (n ≡ 0 → ⊥)
       → drawing w last n k ≡ one plain (assign (map w.drawn (numbers 0 n)) (each any (numbers 0 n))) k
   drawing_some zero k some = absurd (some refl)
   drawing_some (suc n) k some = refl
@@ -70,9 +70,9 @@ module _ (w : Naming tree.Name tree.Name tree.Name tree.Name) (last : ℕ) where
       -- one more statement is rewritten
       pub one_more : (old mid new : List (Stmt M)) (label : Option tree.Name)
           → label ≡ option_map name_of s.label → Lays old mid (λ k. prologue w last (record { label = label; at = s.at }) k)
-          → Lays mid new (λ k. bare_form w last (deed_of s.core) k) → (whole : Statements → Statements)
-          → ((rest : Statements) → all_before (items_of old) (forms w last (items_of (drop i ss)) rest) ≡ whole rest)
-          → (rest : Statements)
+          → Lays mid new (λ k. bare_form w last (deed_of s.core) k) → (whole : TextBlock → TextBlock)
+          → ((rest : TextBlock) → all_before (items_of old) (forms w last (items_of (drop i ss)) rest) ≡ whole rest)
+          → (rest : TextBlock)
           → all_before (items_of new) (forms w last (items_of (drop (i + 1) ss)) rest) ≡ whole rest
       one_more old mid new label named begun laid whole so rest =
           let k = forms w last (items_of (drop (i + 1) ss)) rest in
@@ -85,9 +85,9 @@ module _ (w : Naming tree.Name tree.Name tree.Name tree.Name) (last : ℕ) where
           ∙ (sym (ap (λ is'. all_before (items_of old) (forms w last is' rest)) here) ∙ so rest))))
 
     -- all statements are rewritten
-    pub no_more : length ss ≤ i → (new : List (Stmt M)) (whole : Statements → Statements)
-        → ((rest : Statements) → all_before (items_of new) (forms w last (items_of (drop i ss)) rest) ≡ whole rest)
-        → (rest : Statements)
+    pub no_more : length ss ≤ i → (new : List (Stmt M)) (whole : TextBlock → TextBlock)
+        → ((rest : TextBlock) → all_before (items_of new) (forms w last (items_of (drop i ss)) rest) ≡ whole rest)
+        → (rest : TextBlock)
         → all_before (items_of new) rest ≡ whole rest
     no_more le new whole so rest =
         sym (ap (λ l. all_before (items_of new) (forms w last (items_of l) rest)) (drop_all i ss le)) ∙ so rest

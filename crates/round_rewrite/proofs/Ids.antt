@@ -8,7 +8,7 @@ use Rattle.std.proofs.lemmas.Str.Parse.{digit_from_value}
 use Rattle.language.specs.Tree.{Name}
 use Rattle.tokens.specs.declared.vocabulary.Kind.{Kind}
 use Rattle.tokens.specs.declared.vocabulary.Kind.TheVariants as kind
-use Rattle.tokens.specs.Spelling.{reserved_word, is_word_byte, AreWordBytes, BeginsName, IsName}
+use Rattle.tokens.specs.Spelling.{reserved_word, is_word_byte, AreWordBytes, BeginsName, IsNameWord}
 use Rattle.syntax.specs.InGrammar.{IsId}
 use Rattle.scopes.specs.Rewritable.{has_double}
 use Rattle.round_rewrite.specs.Names.{named, copy_name, save_name, drawn_name}
@@ -30,7 +30,7 @@ begins_both [] ys h = absurd h
 begins_both (x ∷ xs) ys h = h
 
 -- a name with two underscores in a row, in front of which a name begins
-two_lows : (a s : List ℕ) → BeginsName a → AreWordBytes a → AreWordBytes s → IsName (a ++ 95 ∷ 95 ∷ s)
+two_lows : (a s : List ℕ) → BeginsName a → AreWordBytes a → AreWordBytes s → IsNameWord (a ++ 95 ∷ 95 ∷ s)
 two_lows a s begins front back = record {
   begins = begins_both a (95 ∷ 95 ∷ s) begins;
   bytes = words_both a (95 ∷ 95 ∷ s) front (refl, (refl, back));

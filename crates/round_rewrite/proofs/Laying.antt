@@ -6,9 +6,9 @@ use Rattle.language.specs.Tree.{Mark}
 use Rattle.trees.specs.declared.tree.Stmt.{Stmt}
 use Rattle.trees.specs.declared.tree.Core.TheFolds.{fold_out-Stmt}
 use Rattle.trees.specs.Trees.{Deed, Item, name_of, core_step, stmt_step, item_of, items_of, deed_of, before, marked_before, all_before}
-use Rattle.round_rewrite.specs.Writing.{Statements, Lays}
+use Rattle.round_rewrite.specs.Writing.{TextBlock, Lays}
 
-all_before_last : (is : List Item) (i : Item) (k : Statements) → all_before (is ++ i ∷ []) k ≡ all_before is (before i k)
+all_before_last : (is : List Item) (i : Item) (k : TextBlock) → all_before (is ++ i ∷ []) k ≡ all_before is (before i k)
 all_before_last [] i k = refl
 all_before_last (j ∷ is) i k = ap (before j) (all_before_last is i k)
 

@@ -25,7 +25,7 @@ use Rattle.scopes.specs.Rewritable.{SidesDeclared, HasRoom, SimpleDeclared, Bloc
 use Rattle.resolved.proofs.Parts.{parts_resolve}
 use Rattle.resolved.specs.Narrow.{EachProcedure, width}
 use Rattle.round_rewrite.specs.Narrow.{IsNarrow}
-use Rattle.round_rewrite.specs.Law.{Keeps, KeepsTree}
+use Rattle.round_rewrite.specs.Law.{KeepsFailures, KeepsTree}
 use Rattle.round_rewrite.proofs.Spelling.{free_differs}
 use Rattle.round_rewrite.proofs.Numbering.{free_name, length-rows}
 use Rattle.round_rewrite.proofs.Placing.{Vocabulary, wider, bad_place, length-numbers}
@@ -267,7 +267,7 @@ module _ (t : Tree) (last : ℕ) (ok : IsRewritable t) (small : last < most_roun
 
   pub keeps_tree : IsNarrow last t → KeepsTree (suc last) t
   keeps_tree narrow =
-      let k : Keeps (suc last) (meaning_of t) = keeps (meaning_of t) last fits_scopes small in
+      let k : KeepsFailures (suc last) (meaning_of t) = keeps (meaning_of t) last fits_scopes small in
       let same : SomeBad (in_text_order (rewritten_program last (meaning_of t))) (bad_at (length gs) last) ≡ SomeBad
       (sequential_of t') (number_of (codes "bad__") t'.globals) =
       ap₂ (λ p b. SomeBad (in_text_order p) b) (sym (meaning_is narrow)) (sym bad_number) in

@@ -7,14 +7,14 @@ use Rattle.language.specs.Parts.{plain}
 use Rattle.trees.specs.declared.tree.Stmt.{Stmt}
 use Rattle.trees.specs.Trees.{Deed, simple, branch, repeat, item_of, deed_of, block_of, marked_before}
 use Rattle.round_rewrite.specs.Table.{draws_of, temporaries}
-use Rattle.round_rewrite.specs.Writing.{Statements, deed_needs}
+use Rattle.round_rewrite.specs.Writing.{TextBlock, deed_needs}
 use Rattle.trees.proofs.Folds.{item_deed}
 
 max_assoc : (a b c : ℕ) → max a (max b c) ≡ max (max a b) c
 max_assoc a b c = omega arith
 
 module _ (shared : tree.Name → Bool) where
-  put : (m : Mark tree.Name) (d : Deed) (k : Statements)
+  put : (m : Mark tree.Name) (d : Deed) (k : TextBlock)
       → temporaries shared (marked_before m d k) ≡ max (deed_needs shared d) (temporaries shared k)
   put m (simple s) k =
       let e : max (draws_of shared (plain s)) (temporaries shared k) ≡ max (max (draws_of shared (plain s)) (max 0 0))

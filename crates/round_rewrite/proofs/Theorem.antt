@@ -9,7 +9,7 @@ use Rattle.language.specs.Sequential.{numbered, in_text_order, Valuation, point_
 use Rattle.round_rewrite.specs.Table.{main}
 use Rattle.round_rewrite.specs.Places.{places, all_globals, rewritten_program, bad_at, global_count}
 use Rattle.resolved.specs.Scoped.{FitsScopes}
-use Rattle.round_rewrite.specs.Law.{Keeps}
+use Rattle.round_rewrite.specs.Law.{KeepsFailures}
 use Rattle.round_rewrite.proofs.Plain.{PlainAfter, bare_state, world_of, plain_after}
 use Rattle.round_rewrite.proofs.Turns.{after_map, after_pick}
 use Rattle.round_rewrite.proofs.Guessing.{Bad}
@@ -93,5 +93,5 @@ module _ (p : Program) (last : ℕ) (fits : FitsScopes p) (small : last < most_r
   bad_unsafe (a, b, (l, (entered, (rest, e, run))), bad) = from_entry a b.globals l rest e entered run bad
 
 -- the theorem
-pub keeps : (p : Program) (last : ℕ) → FitsScopes p → last < most_rounds → Keeps (suc last) p
+pub keeps : (p : Program) (last : ℕ) → FitsScopes p → last < most_rounds → KeepsFailures (suc last) p
 keeps p last fits small = (unsafe_bad p last fits small, bad_unsafe p last fits small)

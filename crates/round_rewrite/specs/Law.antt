@@ -11,14 +11,13 @@ use Rattle.round_rewrite.specs.Limits.{last_of}
 use Rattle.round_rewrite.specs.Places.{rewritten_program, bad_at}
 
 -- the program is unsafe within so many rounds exactly where some pair of the one that is rewritten for them has `bad`
-abbrev pub Keeps : ℕ → Program → Type 0
-Keeps rounds p =
+abbrev pub KeepsFailures : ℕ → Program → Type 0
+KeepsFailures rounds p =
     let last = last_of rounds in
     Unsafe p rounds ↔ SomeBad (in_text_order (rewritten_program last p)) (bad_at p.globals last)
 
 -- The tree's program is unsafe within so many rounds exactly where some pair of `main__` of the tree that is rewritten
--- for
--- them has `bad__`.
+-- for them has `bad__`.
 abbrev pub KeepsTree : ℕ → Tree → Type 0
 KeepsTree rounds t =
     Unsafe (meaning_of t) rounds

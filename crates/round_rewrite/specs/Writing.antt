@@ -16,13 +16,13 @@ abbrev pub naming_of : {N A : Type 0} → Writer N A → Naming tree.Name tree.N
 naming_of w = names (names_of w.formals.now ++ names_of w.locals.now)
 
 -- a block of a text
-abbrev pub Statements : Type 0
-Statements = Block tree.Name tree.Name tree.Name
+abbrev pub TextBlock : Type 0
+TextBlock = Block tree.Name tree.Name tree.Name
 
 -- Statements have been put behind those that stood there: with any others behind them, they read as `form` does
 -- with the others.
-abbrev pub Lays : {A : Type 0} → List (Stmt A) → List (Stmt A) → (Statements → Statements) → Type 0
-Lays old new form = (rest : Statements) → all_before (items_of new) rest ≡ all_before (items_of old) (form rest)
+abbrev pub Lays : {A : Type 0} → List (Stmt A) → List (Stmt A) → (TextBlock → TextBlock) → Type 0
+Lays old new form = (rest : TextBlock) → all_before (items_of new) rest ≡ all_before (items_of old) (form rest)
 
 -- the names that thread lines have
 abbrev pub line_names : List tree.ThreadLine → List tree.Name
@@ -46,17 +46,17 @@ failing r =
 
 module _ (w : Naming tree.Name tree.Name tree.Name tree.Name) (last : ℕ) where
   -- a statement rewritten, without its prologue, in front of others
-  abbrev pub bare_form : Deed → Statements → Statements
+  abbrev pub bare_form : Deed → TextBlock → TextBlock
   bare_form (simple s) k = statement w last s k
   bare_form (branch r a b) k = choose plain (side w last r) (rewritten w last a) (rewritten w last b) k
   bare_form (repeat r a) k = loop plain (side w last r) (join (rewritten w last a) (prologue w last plain done)) k
 
   -- a statement rewritten, in front of others
-  abbrev pub form : Item → Statements → Statements
+  abbrev pub form : Item → TextBlock → TextBlock
   form i k = prologue w last i.mark (bare_form i.deed k)
 
   -- statements rewritten, in front of others
-  abbrev pub forms : List Item → Statements → Statements
+  abbrev pub forms : List Item → TextBlock → TextBlock
   forms [] k = k
   forms (i ∷ is) k = form i (forms is k)
 

@@ -26,7 +26,7 @@ ghost use Rattle.std.specs.Prelude.{◌≡◌, ◌≤◌, ℕ};
 ghost use Rattle.language.specs.Tree.{Tree};
 ghost use Rattle.language.specs.Step.{Program};
 ghost use Rattle.syntax.specs.Printed.{printed};
-ghost use Rattle.round_rewrite.specs.Law.{Keeps, KeepsTree};
+ghost use Rattle.round_rewrite.specs.Law.{KeepsFailures, KeepsTree};
 ghost use Rattle.round_rewrite.specs.Names.{rewritten_for};
 ghost use Rattle.round_rewrite.specs.WorkedTexts as worked;
 ghost use Rattle.scopes.specs.Rewritable.{IsRewritable};
@@ -54,7 +54,7 @@ pub fn rewriting_keeps_failures()
 /// bound on widths.
 pub fn rewriting_keeps_failures_of_resolved_programs()
     ensures { (p : Program) (rounds : ℕ) → FitsScopes p → 1 ≤ rounds → rounds ≤ most_rounds
-        → Keeps rounds p }
+        → KeepsFailures rounds p }
 {}
 
 /// Three programs are rewritten to exactly these texts, byte for byte: one thread that does nothing, for one round; one

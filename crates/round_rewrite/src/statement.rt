@@ -2,7 +2,8 @@
 
 ghost use Rattle.std.specs.Prelude.{◌≡◌, ◌<◌, ◌^◌, [], IfOk, option_map};
 ghost use Rattle.language.specs.Tree.{goto, assert, assume, assign, call};
-ghost use Rattle.trees.specs.Trees.{branch, repeat, name_of, names_of, rhs_of, rhss_of, exprs_of, items_of, deed_of, block_of};
+ghost use Rattle.trees.specs.Trees.{branch, repeat, name_of, names_of, rhs_of, rhss_of, exprs_of};
+ghost use Rattle.trees.specs.Trees.{items_of, deed_of, block_of};
 ghost use Rattle.round_rewrite.specs.Table.{drawing, prologue, statement};
 ghost use Rattle.round_rewrite.specs.Writing.{Lays, bare_form, forms};
 
@@ -55,7 +56,9 @@ impl<'a, N: Allocator, A: Allocator + Copy> Writer<'a, N, A> {
         into: &mut Vec<Stmt<A>, A>,
     ) -> Result<(), AllocError>
         ensures { IfOk result (λ _. Lays into.old.items into.new.items
-            (λ k. statement (naming_of self.now) self.now.rounds.last (assign (names_of xs.now) (rhss_of rs.now)) k)) }
+            (λ k.
+            statement (naming_of self.now) self.now.rounds.last
+            (assign (names_of xs.now) (rhss_of rs.now)) k)) }
     {
         self.drawing(self.draws(xs, rs), into)?;
         let mut targets = Vec::new(*self.alloc);
@@ -73,7 +76,9 @@ impl<'a, N: Allocator, A: Allocator + Copy> Writer<'a, N, A> {
         into: &mut Vec<Stmt<A>, A>,
     ) -> Result<(), AllocError>
         ensures { IfOk result (λ _. Lays into.old.items into.new.items
-            (λ k. statement (naming_of self.now) self.now.rounds.last (call (name_of p.now) (exprs_of es.now)) k)) }
+            (λ k.
+            statement (naming_of self.now) self.now.rounds.last
+            (call (name_of p.now) (exprs_of es.now)) k)) }
     {
         let name = again(*self.alloc, p)?;
         let arguments = self.arguments(es)?;
@@ -171,7 +176,9 @@ impl<'a, N: Allocator, A: Allocator + Copy> Writer<'a, N, A> {
         into: &mut Vec<Stmt<A>, A>,
     ) -> Result<(), AllocError>
         ensures { IfOk result (λ _. Lays into.old.items into.new.items
-            (λ k. bare_form (naming_of self.now) self.now.rounds.last (repeat (rhs_of r.now) (block_of a.now)) k)) }
+            (λ k.
+            bare_form (naming_of self.now) self.now.rounds.last
+            (repeat (rhs_of r.now) (block_of a.now)) k)) }
     {
         let test = self.side(r)?;
         let mut body = self.rewritten(a)?;

@@ -12,8 +12,8 @@ abbrev pub HasRefused : Count → ℕ → Type 0
 HasRefused c asked = (number : ℕ) × ((0 < number) × (number ≤ asked) × IsRefused c number)
 
 -- This allocator refuses the allocation of this number.
-abbrev pub Refuses : {B : Type 0} → Scarce B → ℕ → Type 0
-Refuses scarce number = IsRefused scarce.count number
+abbrev pub RefusesAllocation : {B : Type 0} → Scarce B → ℕ → Type 0
+RefusesAllocation scarce number = IsRefused scarce.count number
 
 -- The allocator to which it passes on what it does not refuse.
 abbrev pub inner_of : {B : Type 0} → Scarce B → B

@@ -2,7 +2,7 @@
 #![tactic(auto)]
 
 ghost use Rattle.std.specs.Prelude.{◌≡◌, ℕ, ◌≤◌, ◌<◌, ◌^◌, ◌↔◌};
-ghost use Rattle.scarce.specs.Refusals.{Refuses, inner_of};
+ghost use Rattle.scarce.specs.Refusals.{RefusesAllocation, inner_of};
 
 mod count;
 
@@ -20,7 +20,7 @@ pub struct Scarce<B: Allocator> {
 impl<B: Allocator> Scarce<B> {
     /// Refuses the allocation numbered `nth`, counted from 1, and no other. At 0 it refuses none.
     pub fn refusing(inner: B, nth: u64) -> Scarce<B>
-        ensures one { (number : ℕ) → Refuses result number ↔ (number ≡ nth) }
+        ensures one { (number : ℕ) → RefusesAllocation result number ↔ (number ≡ nth) }
         ensures over { inner_of result ≡ inner }
     {
         Scarce {
@@ -31,7 +31,7 @@ impl<B: Allocator> Scarce<B> {
 
     /// Refuses every allocation from the one numbered `nth` on, counted from 1. At 0 and at 1 it refuses each.
     pub fn refusing_from(inner: B, nth: u64) -> Scarce<B>
-        ensures rest { (number : ℕ) → number < 2 ^ 64 → Refuses result number ↔ (nth ≤ number) }
+        ensures rest { (number : ℕ) → number < 2 ^ 64 → RefusesAllocation result number ↔ (nth ≤ number) }
         ensures over { inner_of result ≡ inner }
     {
         Scarce {

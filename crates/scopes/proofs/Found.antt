@@ -6,7 +6,7 @@ use Rattle.std.specs.Prelude.{Result, Ok, Err, IfOk}
 use Rattle.std.proofs.lemmas.Bool.Decides.{leb_tells}
 use Rattle.std.specs.Str.{bytes_eq}
 use Rattle.language.specs.Rest.{same_text}
-use Rattle.scopes.specs.Find.{AnyOf, Finds, lesser_by, earlier_of, Kept}
+use Rattle.scopes.specs.Find.{AnyOf, Finds, lesser_by, earlier_of, FoundSoFar}
 
 lesser : {P Q : ℕ → Type 0} (m n : ℕ) (b : Bool) → nat_le m n ≡ b → Finds P (Some m) → Finds Q (Some n) → Finds
     (λ k. P k ⊎ Q k) (cond b (Some m) (Some n))
@@ -102,20 +102,20 @@ takes_latter {X} key x y lt = go (nat_le (key x) (key y)) refl
 -- of two that may be there, the one that is taken
 pub ruleset lesser_steps = (none_before, none_after, takes_former, takes_latter)
 
-pub begin : {P : ℕ → Type 0} → Kept P P None
+pub begin : {P : ℕ → Type 0} → FoundSoFar P P None
 begin {P} = record { goes = λ r h. subst (λ (o : Option ℕ). Finds P o) (sym (none_before (λ n. n) r)) h }
 
-pub step : {W S R : ℕ → Type 0} (a b : Option ℕ) → Kept W (λ n. S n ⊎ R n) a → Finds S b → Kept W R (earlier_of a b)
+pub step : {W S R : ℕ → Type 0} (a b : Option ℕ) → FoundSoFar W (λ n. S n ⊎ R n) a → Finds S b → FoundSoFar W R (earlier_of a b)
 step {W} a b k h = record {
   goes = λ r g. subst (λ (o : Option ℕ). Finds W o) (either_way a b r)
       (k.goes (earlier_of b r) (both b r h g));
 }
 
-pub weaker : {W R S : ℕ → Type 0} (a : Option ℕ) → ((k : ℕ) → S k → R k) → ((k : ℕ) → R k → S k) → Kept W R a
-    → Kept W S a
+pub weaker : {W R S : ℕ → Type 0} (a : Option ℕ) → ((k : ℕ) → S k → R k) → ((k : ℕ) → R k → S k) → FoundSoFar W R a
+    → FoundSoFar W S a
 weaker a to back k = record { goes = λ r h. k.goes r (same r to back h) }
 
-pub finish : {W R : ℕ → Type 0} (a : Option ℕ) → Kept W R a → ((n : ℕ) → R n → ⊥) → Finds W a
+pub finish : {W R : ℕ → Type 0} (a : Option ℕ) → FoundSoFar W R a → ((n : ℕ) → R n → ⊥) → Finds W a
 finish {W} a k h = subst (λ (o : Option ℕ). Finds W o) (none_after (λ n. n) a) (k.goes None (nowhere h))
 
 -- a name's offset is the answer, where a fact holds that does not speak of offsets

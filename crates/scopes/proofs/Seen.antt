@@ -11,7 +11,7 @@ use Rattle.indexmap.specs.IndexSet.{IndexSet, insert_key}
 use Rattle.language.specs.Tree.{Name}
 use Rattle.language.specs.Rest.{same_text}
 use Rattle.language.specs.Resolve.{is_declared}
-use Rattle.scopes.specs.Find.{AnyOf, Finds, earlier_of, Kept}
+use Rattle.scopes.specs.Find.{AnyOf, Finds, earlier_of, FoundSoFar}
 use Rattle.scopes.specs.Faults.{Repeated}
 use Rattle.scopes.specs.Known.{AreTexts, IsAgain}
 use Rattle.scopes.proofs.Found.{begin, step, weaker, finish}
@@ -128,27 +128,27 @@ one_taken {X} f xs i x lt is = ap (map f) (take_more xs i x lt ∙ ap (λ (y : X
 -- a loop that looks for names that come again, by what was seen: one name more, and the end
 pub next_seen : {W : ℕ → Type 0} {X : Type 0} (f : X → Name) (xs : List X) (i : ℕ) (x : X) (a b r : Option ℕ)
     → i < length xs → x ≡ get_or xs i x → r ≡ earlier_of a b
-    → Kept W (IsAgain (map f (take i xs)) (map f (drop i xs))) a
+    → FoundSoFar W (IsAgain (map f (take i xs)) (map f (drop i xs))) a
     → Finds (λ n. ((f x).at ≡ n) × (is_declared (f x).text (map f (take i xs)) ≡ true)) b
-    → Kept W (IsAgain (map f (take (i + 1) xs)) (map f (drop (i + 1) xs))) r
+    → FoundSoFar W (IsAgain (map f (take (i + 1) xs)) (map f (drop (i + 1) xs))) r
 next_seen {W} {X} f xs i x a b r lt is e k h =
     let before : map f (take (i + 1) xs) ≡ map f (take i xs) ++ f x ∷ [] = one_taken f xs i x lt is in
     let now : map f (drop i xs) ≡ f x ∷ map f (drop (i + 1) xs) =
     ap (map f) (drop_more xs i x lt ∙ ap (λ (y : X). y ∷ drop (i + 1) xs) (sym is)) in
-    subst (λ (o : Option ℕ). Kept W (IsAgain (map f (take (i + 1) xs)) (map f (drop (i + 1) xs))) o) (sym e)
-    (subst (λ (l : List Name). Kept W (IsAgain l (map f (drop (i + 1) xs))) (earlier_of a b)) (sym before)
+    subst (λ (o : Option ℕ). FoundSoFar W (IsAgain (map f (take (i + 1) xs)) (map f (drop (i + 1) xs))) o) (sym e)
+    (subst (λ (l : List Name). FoundSoFar W (IsAgain l (map f (drop (i + 1) xs))) (earlier_of a b)) (sym before)
     (step a b
     (weaker a (again_from (map f (take i xs)) (f x) (map f (drop (i + 1) xs)))
     (again_to (map f (take i xs)) (f x) (map f (drop (i + 1) xs)))
-    (subst (λ (l : List Name). Kept W (IsAgain (map f (take i xs)) l) a) now k)) h))
+    (subst (λ (l : List Name). FoundSoFar W (IsAgain (map f (take i xs)) l) a) now k)) h))
 
 pub end_seen : {W : ℕ → Type 0} {X : Type 0} (f : X → Name) (xs : List X) (i : ℕ) (a : Option ℕ)
-    → length xs ≤ i → Kept W (IsAgain (map f (take i xs)) (map f (drop i xs))) a → Finds W a
+    → length xs ≤ i → FoundSoFar W (IsAgain (map f (take i xs)) (map f (drop i xs))) a → Finds W a
 end_seen {W} {X} f xs i a le k =
-    finish a (subst (λ (l : List X). Kept W (IsAgain (map f (take i xs)) (map f l)) a) (drop_all i xs le) k)
+    finish a (subst (λ (l : List X). FoundSoFar W (IsAgain (map f (take i xs)) (map f l)) a) (drop_all i xs le) k)
     (λ n h. elim h [ inl p ↦ p | inr q ↦ q ])
 
-pub begin_seen : (ns : List Name) → Kept (Repeated ns) (IsAgain [] ns) None
+pub begin_seen : (ns : List Name) → FoundSoFar (Repeated ns) (IsAgain [] ns) None
 begin_seen ns = weaker {R = Repeated ns} None (λ n h. elim h [ inl p ↦ absurd (never n ns p) | inr q ↦ q ]) (λ n q. inr q) begin
   where
     never : (n : ℕ) (xs : List Name) → AnyOf (λ (y : Name). (y.at ≡ n) × (false ≡ true)) xs → ⊥

@@ -32,7 +32,7 @@ Earliest R (x ∷ xs) r = (a : Option ℕ) × (b : Option ℕ) × R x a × Earli
 
 -- What a search has found so far goes with every answer for what remains: together they are an answer for
 -- the whole.
-pub record Kept (Whole Rest : ℕ → Type 0) (found : Option ℕ) : Type 0 where
+pub record FoundSoFar (Whole Rest : ℕ → Type 0) (found : Option ℕ) : Type 0 where
   pub goes : (rest : Option ℕ) → Finds Rest rest → Finds Whole (earlier_of found rest)
 
 -- What a search of a list has found before i goes with every answer for the rest: together they are an answer for

@@ -4,7 +4,8 @@ ghost use Rattle.std.specs.Prelude.{◌≡◌, ◌≢◌, IfOk, length};
 ghost use Rattle.trees.specs.Trees.{names_of, proc_of, procs_of, tree_of};
 ghost use Rattle.scopes.specs.Find.{Finds};
 ghost use Rattle.resolved.specs.Statements.{statement_of};
-ghost use Rattle.scopes.specs.Faults.{first_at, MiscountsSides, MiscountsArguments, Miscounts, MiscountsIn, WrongCount};
+ghost use Rattle.scopes.specs.Faults.{first_at, MiscountsSides, MiscountsArguments, Miscounts};
+ghost use Rattle.scopes.specs.Faults.{MiscountsIn, WrongCount};
 
 use crate::names::earlier;
 use crate::search::{earliest, try_earliest};
@@ -46,7 +47,8 @@ pub fn sides_miscounted<A: Allocator>(stmt: &Stmt<A>) -> Option<u32>
 
 /// The offset of a called name, where the arguments and the formals of what is called differ in number.
 pub fn arguments_miscounted<A: Allocator>(procs: &[Proc<A>], stmt: &Stmt<A>) -> Option<u32>
-    ensures { Finds (λ n. MiscountsArguments (procs_of procs.now) n (statement_of stmt.now).head) result }
+    ensures { Finds
+        (λ n. MiscountsArguments (procs_of procs.now) n (statement_of stmt.now).head) result }
 {
     let callee = stmt.core.callee()?;
     let proc = find(procs, callee)?;

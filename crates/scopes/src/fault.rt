@@ -9,8 +9,8 @@ pub enum ScopeFault {
     /// The variable or the called procedure at this place has no declaration.
     #[error("6 undeclared at {0}")]
     Undeclared(u32),
-    /// The name at this place comes again among the globals, the procedures, the formals and locals of one procedure, or
-    /// the targets of one assignment.
+    /// The name at this place comes again among the globals, the procedures, the formals and locals of one procedure,
+    /// or the targets of one assignment.
     #[error("7 declared twice at {0}")]
     DeclaredTwice(u32),
     /// The targets that begin at this place and their right sides differ in number, or the arguments and the formals of

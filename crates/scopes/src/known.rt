@@ -34,7 +34,8 @@ pub fn seen_again<'a, A: Allocator + Copy>(
     ensures told { (ns : List tree.Name) → AreTexts seen.old ns
         → IfOk result (λ r. AreTexts seen.new (ns ++ name_of name.now ∷ [])) }
     ensures again { (ns : List tree.Name) → AreTexts seen.old ns
-        → IfOk result (λ r. Finds (λ n. (name.now.at ≡ n) × (is_declared (name_of name.now).text ns ≡ true)) r) }
+        → IfOk result
+        (λ r. Finds (λ n. (name.now.at ≡ n) × (is_declared (name_of name.now).text ns ≡ true)) r) }
 {
     if seen.insert(name.text.as_str())? {
         Ok(None)

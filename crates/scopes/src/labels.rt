@@ -31,7 +31,8 @@ pub fn labels<'a, A: Allocator + Copy>(
 
 /// The offset of the name in a `goto`, where it is none of the labels.
 pub fn lost<A: Allocator + Copy>(labels: &Known<A>, stmt: &Stmt<A>) -> Option<u32>
-    ensures { Finds (λ n. GoesNowhere (lent labels.now.names.items) n (statement_of stmt.now).head) result }
+    ensures { Finds
+        (λ n. GoesNowhere (lent labels.now.names.items) n (statement_of stmt.now).head) result }
 {
     labels.unknown(stmt.core.jump()?)
 }

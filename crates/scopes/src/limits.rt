@@ -33,7 +33,8 @@ pub fn procedure_too_many<A: Allocator>(procs: &[Proc<A>]) -> Option<u32>
 
 /// The offset of the first thread line too many.
 pub fn thread_too_many<A: Allocator>(threads: &[Thread<A>]) -> Option<u32>
-    ensures { Finds (λ n. IsThere (slice_get (threads_of threads.now) 8) (λ line. line.at ≡ n)) result }
+    ensures { Finds
+        (λ n. IsThere (slice_get (threads_of threads.now) 8) (λ line. line.at ≡ n)) result }
 {
     match threads.get(THREADS) {
         Some(line) => Some(line.at),
@@ -43,7 +44,8 @@ pub fn thread_too_many<A: Allocator>(threads: &[Thread<A>]) -> Option<u32>
 
 /// The offset of the first statement too many.
 pub fn statement_too_many<A: Allocator>(stmts: &[&Stmt<A>]) -> Option<u32>
-    ensures { Finds (λ n. IsThere (slice_get (lent_statements stmts.now) 1000) (λ s. s.mark.at ≡ n)) result }
+    ensures { Finds
+        (λ n. IsThere (slice_get (lent_statements stmts.now) 1000) (λ s. s.mark.at ≡ n)) result }
 {
     match stmts.get(STATEMENTS) {
         Some(stmt) => Some(stmt.at),

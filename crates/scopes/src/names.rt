@@ -41,7 +41,8 @@ pub fn own_names<'a, A: Allocator + Copy>(
     alloc: &A,
     proc: &'a Proc<A>,
 ) -> Result<Vec<&'a Name<A>, A>, AllocError>
-    ensures { IfOk result (λ v. lent v.items ≡ (proc_of proc.now).formals ++ (proc_of proc.now).locals) }
+    ensures { IfOk result
+        (λ v. lent v.items ≡ (proc_of proc.now).formals ++ (proc_of proc.now).locals) }
 {
     let formals = lend(&proc.formals, Vec::new(*alloc))?;
     lend(&proc.locals, formals)

@@ -40,7 +40,8 @@ fn flatten_one<'a, A: Allocator>(
     into: Vec<&'a Stmt<A>, A>,
 ) -> Result<Vec<&'a Stmt<A>, A>, AllocError>
     ensures { IfOk result (λ v. lent_statements v.items
-        ≡ lent_statements into.entry.items ++ (statement_of stmt.now ∷ inside (deed_of stmt.now.core))) }
+        ≡ lent_statements into.entry.items
+        ++ (statement_of stmt.now ∷ inside (deed_of stmt.now.core))) }
 {
     let mut list = into;
     list.push(stmt)?;

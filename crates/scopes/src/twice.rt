@@ -34,7 +34,8 @@ pub fn target_again<A: Allocator + Copy>(
     alloc: &A,
     stmt: &Stmt<A>,
 ) -> Result<Option<u32>, AllocError>
-    ensures { IfOk result (λ r. Finds (λ n. Repeated (targets_of (statement_of stmt.now).head) n) r) }
+    ensures { IfOk result
+        (λ r. Finds (λ n. Repeated (targets_of (statement_of stmt.now).head) n) r) }
 {
     let list = lend(stmt.core.targets(), Vec::new(*alloc))?;
     repeated(*alloc, &list)

@@ -3,8 +3,10 @@
 ghost use Rattle.std.specs.Prelude.{◌≡◌, None, option_map, IfOk};
 ghost use Rattle.trees.specs.Trees.{name_of, expr_of, rhs_of, proc_of, procs_of, tree_of};
 ghost use Rattle.scopes.specs.Find.{Finds};
-ghost use Rattle.resolved.specs.Statements.{lent, statement_of, used_by, variables_of, variables_of_side, variables_of_test};
-ghost use Rattle.scopes.specs.Faults.{named, AnyUnknown, CallsUnknown, IsUndeclaredIn, UndeclaredInProcedure, Undeclared};
+ghost use Rattle.resolved.specs.Statements.{lent, statement_of, used_by, variables_of};
+ghost use Rattle.resolved.specs.Statements.{variables_of_side, variables_of_test};
+ghost use Rattle.scopes.specs.Faults.{named, AnyUnknown, CallsUnknown, IsUndeclaredIn};
+ghost use Rattle.scopes.specs.Faults.{UndeclaredInProcedure, Undeclared};
 
 use crate::known::Known;
 use crate::names::{earlier, is_same, lend, own_names};
@@ -15,7 +17,8 @@ use trees::{Expr, Name, Proc, Program, Rhs, Stmt};
 
 /// The first procedure that is named as `x` is written.
 pub fn find<'a, A: Allocator>(procs: &'a [Proc<A>], x: &Name<A>) -> Option<&'a Proc<A>>
-    ensures { option_map (λ p. proc_of p.now) result ≡ named (name_of x.now).text (procs_of procs.now) }
+    ensures { option_map (λ p. proc_of p.now) result
+        ≡ named (name_of x.now).text (procs_of procs.now) }
 {
     for proc in procs {
         if is_same(x, &proc.name) {
@@ -27,7 +30,8 @@ pub fn find<'a, A: Allocator>(procs: &'a [Proc<A>], x: &Name<A>) -> Option<&'a P
 
 /// The least offset of a variable of an expression that is not among those known.
 pub fn in_expr<A: Allocator + Copy>(known: &Known<A>, e: &Expr<A>) -> Option<u32>
-    ensures { Finds (AnyUnknown (lent known.now.names.items) (variables_of (expr_of e.now))) result }
+    ensures { Finds
+        (AnyUnknown (lent known.now.names.items) (variables_of (expr_of e.now))) result }
 {
     match e {
         Expr::Const(_) => None,
@@ -43,7 +47,8 @@ pub fn in_expr<A: Allocator + Copy>(known: &Known<A>, e: &Expr<A>) -> Option<u32
 
 /// The same for a right side.
 pub fn in_rhs<A: Allocator + Copy>(known: &Known<A>, rhs: &Rhs<A>) -> Option<u32>
-    ensures { Finds (AnyUnknown (lent known.now.names.items) (variables_of_side (rhs_of rhs.now))) result }
+    ensures { Finds
+        (AnyUnknown (lent known.now.names.items) (variables_of_side (rhs_of rhs.now))) result }
 {
     match rhs {
         Rhs::Any => None,
@@ -53,14 +58,17 @@ pub fn in_rhs<A: Allocator + Copy>(known: &Known<A>, rhs: &Rhs<A>) -> Option<u32
 
 /// The same for a right side that may be there.
 pub fn in_test<A: Allocator + Copy>(known: &Known<A>, test: Option<&Rhs<A>>) -> Option<u32>
-    ensures { Finds (AnyUnknown (lent known.now.names.items) (variables_of_test (option_map (λ r. rhs_of r.now) test.entry))) result }
+    ensures { Finds
+        (AnyUnknown (lent known.now.names.items)
+        (variables_of_test (option_map (λ r. rhs_of r.now) test.entry))) result }
 {
     in_rhs(known, test?)
 }
 
 /// The same for the variables of a statement, without those of the statements that it holds.
 pub fn in_statement<A: Allocator + Copy>(known: &Known<A>, stmt: &Stmt<A>) -> Option<u32>
-    ensures { Finds (AnyUnknown (lent known.now.names.items) (used_by (statement_of stmt.now).head)) result }
+    ensures { Finds
+        (AnyUnknown (lent known.now.names.items) (used_by (statement_of stmt.now).head)) result }
 {
     let targets = earliest(stmt.core.targets(), |target| known.unknown(target));
     let sides = earliest(stmt.core.sides(), |side| in_rhs(known, side));
@@ -88,7 +96,9 @@ pub fn of_statement<A: Allocator + Copy>(
     procs: &[Proc<A>],
     stmt: &Stmt<A>,
 ) -> Option<u32>
-    ensures { Finds (IsUndeclaredIn (lent known.now.names.items) (procs_of procs.now) (statement_of stmt.now)) result }
+    ensures { Finds
+        (IsUndeclaredIn (lent known.now.names.items) (procs_of procs.now) (statement_of stmt.now))
+        result }
 {
     let first = in_statement(known, stmt);
     let second = in_call(procs, stmt);
@@ -101,7 +111,8 @@ pub fn of_proc<A: Allocator + Copy>(
     program: &Program<A>,
     proc: &Proc<A>,
 ) -> Result<Option<u32>, AllocError>
-    ensures { IfOk result (λ r. Finds (UndeclaredInProcedure (tree_of program.now) (proc_of proc.now)) r) }
+    ensures { IfOk result
+        (λ r. Finds (UndeclaredInProcedure (tree_of program.now) (proc_of proc.now)) r) }
 {
     let own = own_names(alloc, proc)?;
     let all = lend(&program.globals, own)?;

@@ -23,7 +23,7 @@ use Rattle.summaries.specs.Under.{under}
 use Rattle.summaries.specs.Mails.{mail}
 use Rattle.summaries.specs.Dues.{due_of}
 use Rattle.summaries.specs.Found.{call, call_eq, site, TookMessage, HasSite, IsOwed, IsGrounded}
-use Rattle.summaries.specs.Grows.{EntersAt, Grows, Gives, Each, IsBehind, triple_of}
+use Rattle.summaries.specs.Grows.{EntersAt, Grows, AddsMails, OfSome, IsBehind, triple_of}
 use Rattle.summaries.proofs.Adding.{same_call, added_or, added_keeps, added_is}
 use Rattle.summaries.proofs.Dues.{due_told}
 use Rattle.summaries.proofs.Stepping.{Step, taken_as}
@@ -55,7 +55,7 @@ module _ {A G : Type 0} (graph : Graph G) (q : ℕ) (f : Found A) (given : Given
 
     -- what is behind the call is reached
     pub behind_reached : (t : Triple) →
-        Each (IsBehind graph (site e.entry e.point e.values)) (under call_eq f.summaries.by_key (call s x)) t →
+        OfSome (IsBehind graph (site e.entry e.point e.values)) (under call_eq f.summaries.by_key (call s x)) t →
         GraphReaches graph (TookMessage asked_to) t.entry t.point t.values
     behind_reached t (b, m, (s', x', n', (fl, at, en), is)) =
         let call : (s', x', n') ≡ (s, x, back) =
@@ -67,7 +67,7 @@ module _ {A G : Type 0} (graph : Graph G) (q : ℕ) (f : Found A) (given : Given
 
     -- so, where nothing but that is added, all edges are
     pub ask_only : ((t : Triple) → Member t ds →
-        Each (IsBehind graph (site e.entry e.point e.values)) (under call_eq f.summaries.by_key (call s x)) t ⊎
+        OfSome (IsBehind graph (site e.entry e.point e.values)) (under call_eq f.summaries.by_key (call s x)) t ⊎
         Member t es) →
         (t : Triple) → Member t ds → GraphReaches graph (TookMessage asked_to) t.entry t.point t.values
     ask_only only t m = elim (only t m) [
@@ -76,10 +76,10 @@ module _ {A G : Type 0} (graph : Graph G) (q : ℕ) (f : Found A) (given : Given
           (sound.edge t.entry t.point t.values was)
     ]
 
-    module _ (gave : Gives (λ m. m ≡ mail s (Entry (Proc q) x)) f.given.mails.items given.mails.items)
+    module _ (gave : AddsMails (λ m. m ≡ mail s (Entry (Proc q) x)) f.given.mails.items given.mails.items)
         (added : under call_eq sites.by_key (call s x) ≡ under call_eq f.sites.by_key (call s x) ++ site e.entry e.point e.values ∷ [])
         (others : (k : Call) → call_eq (call s x) k ≡ false → under call_eq sites.by_key k ≡ under call_eq f.sites.by_key k)
-        (grown : Grows (Each (IsBehind graph (site e.entry e.point e.values))
+        (grown : Grows (OfSome (IsBehind graph (site e.entry e.point e.values))
         (under call_eq f.summaries.by_key (call s x))) es ds f.pending.items pending.items) where
       abbrev M : NumberedMessage → Type 0
       M = TookMessage asked_to

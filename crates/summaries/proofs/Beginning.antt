@@ -18,7 +18,7 @@ use Rattle.summaries.specs.Under.{under}
 use Rattle.summaries.specs.Mails.{mail}
 use Rattle.summaries.specs.Dues.{caller_of, due_of}
 use Rattle.summaries.specs.Found.{TookMessage, IsOwed, IsGrounded}
-use Rattle.summaries.specs.Grows.{Grows, Gives, Each, IsTold}
+use Rattle.summaries.specs.Grows.{Grows, AddsMails, OfSome, IsSummaryTold}
 use Rattle.summaries.specs.Tables.{TookAlso}
 use Rattle.summaries.proofs.Adding.{added_or, added_keeps, added_is, added_once}
 use Rattle.summaries.proofs.Dues.{who, who_is, due_told, same_entry, apart}
@@ -78,7 +78,7 @@ module _ {A G : Type 0} (graph : Graph G) (q : ℕ) (f : Found A) (entries : Gro
     begin_only =
         grown_reached graph q f entries f.summaries given pending es ds (λ t. t ≡ triple a graph.start a) taken_begun start_reached sound
 
-    told : (s : ℕ) (k : NumberedMessage) → Each (λ b. IsTold q a b from) (under nat_eq f.exits.by_key a)
+    told : (s : ℕ) (k : NumberedMessage) → OfSome (λ b. IsSummaryTold q a b from) (under nat_eq f.exits.by_key a)
         (mail s (due_of k)) →
         IsOwed begun_to q s k
     told s k (b, m, (c, is, same)) =
@@ -93,11 +93,11 @@ module _ {A G : Type 0} (graph : Graph G) (q : ℕ) (f : Found A) (entries : Gro
 
     pub begin_step : (Member from (under nat_eq f.entries.by_key a) → ⊥)
         → Grows (λ t. t ≡ triple a graph.start a) es ds f.pending.items pending.items
-        → Gives (Each (λ b. IsTold q a b from) (under nat_eq f.exits.by_key a)) f.given.mails.items given.mails.items
+        → AddsMails (OfSome (λ b. IsSummaryTold q a b from) (under nat_eq f.exits.by_key a)) f.given.mails.items given.mails.items
         → Step graph q f begun_to es ds
     begin_step new grown gave =
         grown_step graph q f entries f.summaries given pending es ds (λ t. t ≡ triple a graph.start a) taken_begun start_reached grown
-        (λ s k m. gives_kept (Each (λ b. IsTold q a b from) (under nat_eq f.exits.by_key a)) f.given.mails.items
+        (λ s k m. gives_kept (OfSome (λ b. IsSummaryTold q a b from) (under nat_eq f.exits.by_key a)) f.given.mails.items
         given.mails.items gave (mail s (due_of k)) m)
         (λ s k m. elim (gave.only (mail s (due_of k)) m) [ inl w ↦ inr (told s k w) | inr was ↦ inl was ])
         (λ c x h. elim (entry_or x (caller_of c) h) [
@@ -119,7 +119,7 @@ module _ {A G : Type 0} (graph : Graph G) (q : ℕ) (f : Found A) (entries : Gro
 -- a caller that is new is told nothing yet
 pub none_told : {A G : Type 0} (graph : Graph G) (q : ℕ) (f : Found A) (es : List Triple) → IsGrounded graph q f es →
     (a : ℕ) (from : rust.Caller) (exits : List ℕ) → (Member from (under nat_eq f.entries.by_key a) → ⊥) →
-    (x : Mail) → Each (λ b. IsTold q a b from) exits x → Member x f.given.mails.items → ⊥
+    (x : Mail) → OfSome (λ b. IsSummaryTold q a b from) exits x → Member x f.given.mails.items → ⊥
 none_told graph q f es sound a from exits new x (b, m, (c, is, same)) given =
     let (own, left, taken) =
     sound.given c (numbered_summary q a b) (subst (λ y. Member y f.given.mails.items) same given) in

@@ -5,20 +5,20 @@ use Rattle.std.specs.Bool.{OnTrue, OnFalse}
 use Rattle.std.proofs.lemmas.List.{take-append-drop}
 use Rattle.language.specs.Lists.{Member}
 use Rattle.language.proofs.Members.{member_left, member_right, member_append}
-use Rattle.summaries.specs.Grows.{Each}
+use Rattle.summaries.specs.Grows.{OfSome}
 use Rattle.summaries.proofs.Firsts.{whole}
 
 module _ {X T : Type 0} (W : X → T → Type 0) where
   -- for a part of the items, so for all
-  pub each_left : (xs ys : List X) (t : T) → Each W xs t → Each W (xs ++ ys) t
+  pub each_left : (xs ys : List X) (t : T) → OfSome W xs t → OfSome W (xs ++ ys) t
   each_left xs ys t w = (w.0, member_left w.0 xs ys w.1, w.2)
 
   -- for the last item, so for all
-  pub each_last : (xs : List X) (x : X) (t : T) → W x t → Each W (xs ++ x ∷ []) t
+  pub each_last : (xs : List X) (x : X) (t : T) → W x t → OfSome W (xs ++ x ∷ []) t
   each_last xs x t w = (x, member_right x xs (x ∷ []) (inl refl), w)
 
   -- for the items before the last, or for the last
-  pub each_or_last : (xs : List X) (x : X) (t : T) → Each W (xs ++ x ∷ []) t → Each W xs t ⊎ W x t
+  pub each_or_last : (xs : List X) (x : X) (t : T) → OfSome W (xs ++ x ∷ []) t → OfSome W xs t ⊎ W x t
   each_or_last xs x t w =
       elim (member_append w.0 xs (x ∷ []) w.1) [
         | inl n ↦ inl (w.0, n, w.2)
@@ -27,18 +27,18 @@ module _ {X T : Type 0} (W : X → T → Type 0) where
 
   module _ (xs : List X) (i : ℕ) where
     -- for the first items, so for all
-    pub each_first : (t : T) → Each W (take i xs) t → Each W xs t
-    each_first t w = subst (λ l. Each W l t) (take-append-drop i xs) (each_left (take i xs) (drop i xs) t w)
+    pub each_first : (t : T) → OfSome W (take i xs) t → OfSome W xs t
+    each_first t w = subst (λ l. OfSome W l t) (take-append-drop i xs) (each_left (take i xs) (drop i xs) t w)
 
     -- for the item at a place, so for all
-    pub each_at : (d : X) → i < length xs → (t : T) → W (get_or xs i d) t → Each W xs t
+    pub each_at : (d : X) → i < length xs → (t : T) → W (get_or xs i d) t → OfSome W xs t
     each_at d within t w =
-        subst (λ l. Each W l t) (whole xs i d within)
+        subst (λ l. OfSome W l t) (whole xs i d within)
         (each_left (take i xs ++ get_or xs i d ∷ []) (drop (i + 1) xs) t (each_last (take i xs) (get_or xs i d) t w))
 
   -- for the item at a place, or before it, or otherwise, so for all or otherwise
   pub each_until : (xs : List X) (i : ℕ) (d : X) → i < length xs → (t : T) {Mid Old : Type 0} → W (get_or xs i d) t ⊎ Mid →
-      (Mid → Each W (take i xs) t ⊎ Old) → Each W xs t ⊎ Old
+      (Mid → OfSome W (take i xs) t ⊎ Old) → OfSome W xs t ⊎ Old
   each_until xs i d within t (inl w) before = inl (each_at xs i d within t w)
   each_until xs i d within t (inr mid) before = elim (before mid) [ inl first ↦ inl (each_first xs i t first) | inr was ↦ inr was ]
 

@@ -17,7 +17,7 @@ use Rattle.summaries.specs.declared.groups.Groups.{Groups}
 use Rattle.summaries.specs.Under.{under}
 use Rattle.summaries.specs.Dues.{caller_of}
 use Rattle.summaries.specs.Found.{call, call_eq, site, TookMessage, IsGrounded}
-use Rattle.summaries.specs.Grows.{Grows, Each, IsBehind}
+use Rattle.summaries.specs.Grows.{Grows, OfSome, IsBehind}
 use Rattle.summaries.specs.Tables.{TookAlso}
 use Rattle.summaries.proofs.Adding.{same_call, added_or, added_keeps, added_is}
 use Rattle.summaries.proofs.Dues.{same_summary, apart}
@@ -68,7 +68,7 @@ module _ {A G : Type 0} (graph : Graph G) (q : ℕ) (f : Found A) (summaries : G
 
   module _ (es ds : List Triple) (sound : IsGrounded graph q f es) where
     -- what is behind a call is reached
-    pub ended_reached : (t : Triple) → Each (λ y. IsBehind graph y b) (under call_eq f.sites.by_key k) t →
+    pub ended_reached : (t : Triple) → OfSome (λ y. IsBehind graph y b) (under call_eq f.sites.by_key k) t →
         GraphReaches graph M t.entry t.point t.values
     ended_reached t (y, m, (s, x, n, (fl, at, en), is)) =
         let (reached, (back, (flow, here, enters))) = sound.site k.callee k.entered y.asked y.point y.values m in
@@ -82,17 +82,17 @@ module _ {A G : Type 0} (graph : Graph G) (q : ℕ) (f : Found A) (summaries : G
 
     -- so, where nothing but that is added, all edges are
     pub end_only : ((t : Triple) → Member t ds →
-        Each (λ y. IsBehind graph y b) (under call_eq f.sites.by_key k) t ⊎ Member t es) → (t : Triple) → Member t ds →
+        OfSome (λ y. IsBehind graph y b) (under call_eq f.sites.by_key k) t ⊎ Member t es) → (t : Triple) → Member t ds →
         GraphReaches graph M t.entry t.point t.values
     end_only =
         grown_reached graph q f f.entries summaries f.given pending es ds
-        (Each (λ y. IsBehind graph y b) (under call_eq f.sites.by_key k)) taken_ended ended_reached sound
+        (OfSome (λ y. IsBehind graph y b) (under call_eq f.sites.by_key k)) taken_ended ended_reached sound
 
-    pub end_step : Grows (Each (λ y. IsBehind graph y b) (under call_eq f.sites.by_key k)) es ds f.pending.items pending.items →
+    pub end_step : Grows (OfSome (λ y. IsBehind graph y b) (under call_eq f.sites.by_key k)) es ds f.pending.items pending.items →
         Step graph q f ended_to es ds
     end_step grown =
         grown_step graph q f f.entries summaries f.given pending es ds
-        (Each (λ y. IsBehind graph y b) (under call_eq f.sites.by_key k)) taken_ended ended_reached grown
+        (OfSome (λ y. IsBehind graph y b) (under call_eq f.sites.by_key k)) taken_ended ended_reached grown
         (λ s m h. h) (λ s m h. inl h) (λ c x h. inl h)
         (λ s x y c n v back at enters taken. elim (summary_or (call s x) y taken) [
           | inl was ↦ inl was

@@ -17,7 +17,7 @@ use Rattle.flow_graph.specs.Flows.{last_of, next_of}
 use Rattle.flow_graph.specs.declared.flow.Flow.{Flow}
 use Rattle.summaries.specs.declared.table_fault.TableFault.{TableFault}
 use Rattle.summaries.specs.declared.table_fault.TableFault.TheVariants.{Memory, EdgeLimit}
-use Rattle.summaries.specs.Grows.{Grows, Adds, Each, IsAt, IsNextBefore, IsNext, triple_of, edge_of}
+use Rattle.summaries.specs.Grows.{Grows, Adds, OfSome, IsAt, IsNextBefore, IsNext, triple_of, edge_of}
 
 -- an edge that was there adds nothing
 pub known : (e : Edge) (old new : List Triple) (before : List Edge) (answer : Bool) → answer ≡ false
@@ -84,9 +84,9 @@ both V W U old mid new before between after first second from to = record {
 -- one item more
 pub each_more : {X : Type 0} (W : X → Triple → Type 0) (xs : List X) (x : X) (old mid new : List Triple)
     (before between after : List Edge) →
-    Grows (Each W xs) old mid before between → Grows (W x) mid new between after → Grows (Each W (xs ++ x ∷ [])) old new before after
+    Grows (OfSome W xs) old mid before between → Grows (W x) mid new between after → Grows (OfSome W (xs ++ x ∷ [])) old new before after
 each_more W xs x old mid new before between after first second =
-    both (Each W xs) (W x) (Each W (xs ++ x ∷ [])) old mid new before between after first second (each_or_last W xs x)
+    both (OfSome W xs) (W x) (OfSome W (xs ++ x ∷ [])) old mid new before between after first second (each_or_last W xs x)
     (λ t w. elim w [ inl n ↦ each_left W xs (x ∷ []) t n | inr l ↦ each_last W xs x t l ])
 
 -- what holds of an error holds of the one that is answered
@@ -163,18 +163,18 @@ failed_ok Q P (Err _) told = tt
 
 -- the items of a list, one after the other
 module _ {X : Type 0} (W : X → Triple → Type 0) (xs : List X) (i : ℕ) (old now : List Triple) (before at : List Edge)
-    (first : Grows (Each W (take i xs)) old now before at) where
+    (first : Grows (OfSome W (take i xs)) old now before at) where
   -- with the next one
   pub each_next : (d : X) → i < length xs → (new : List Triple) (after : List Edge) → Grows (W (get_or xs i d)) now new at after →
-      Grows (Each W (take (i + 1) xs)) old new before after
+      Grows (OfSome W (take (i + 1) xs)) old new before after
   each_next d within new after next =
-      subst (λ l. Grows (Each W l) old new before after) (sym (take_more xs i d within))
+      subst (λ l. Grows (OfSome W l) old new before after) (sym (take_more xs i d within))
       (each_more W (take i xs) (get_or xs i d) old now new before at after first next)
 
   -- all of them
-  pub each_done : {u : Unit {0}} (most : ℕ) → i ≡ length xs → length now ≤ most → Adds (Each W xs) (Ok u) most old now before at
+  pub each_done : {u : Unit {0}} (most : ℕ) → i ≡ length xs → length now ≤ most → Adds (OfSome W xs) (Ok u) most old now before at
   each_done {u} most end within =
-      let all = subst (λ l. Grows (Each W l) old now before at) (ap (λ n. take n xs) end ∙ take-length xs) first in record {
+      let all = subst (λ l. Grows (OfSome W l) old now before at) (ap (λ n. take n xs) end ∙ take-length xs) first in record {
         ok = all;
         only = all.only;
         within = within;

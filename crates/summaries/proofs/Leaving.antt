@@ -16,8 +16,8 @@ use Rattle.summaries.specs.declared.found.Found.{Found}
 use Rattle.summaries.specs.Under.{under}
 use Rattle.summaries.specs.Mails.{mail}
 use Rattle.summaries.specs.Dues.{due_of}
-use Rattle.summaries.specs.Found.{pair, TookMessage, HasExit, IsOwed, IsGrounded, IsComplete}
-use Rattle.summaries.specs.Grows.{Gives, Each, IsTold}
+use Rattle.summaries.specs.Found.{pair, TookMessage, HasExit, IsOwed, IsGrounded, IsSaturated}
+use Rattle.summaries.specs.Grows.{AddsMails, OfSome, IsSummaryTold}
 use Rattle.summaries.proofs.Adding.{added_or, added_keeps, added_is, added_once}
 use Rattle.summaries.proofs.Dues.{due_told}
 use Rattle.summaries.proofs.Stepping.{Step, taken_as}
@@ -47,8 +47,8 @@ module _ {A G : Type 0} (graph : Graph G) (q : ℕ) (f g : Found A) where
       (added : under nat_eq g.exits.by_key a ≡ under nat_eq f.exits.by_key a ++ b ∷ [])
       (others : (k : ℕ) → nat_eq a k ≡ false → under nat_eq g.exits.by_key k ≡ under nat_eq f.exits.by_key k)
       (new : HasExit f a b → ⊥)
-      (gave : Gives
-      (Each (IsTold q a b) (under nat_eq f.entries.by_key a)) f.given.mails.items g.given.mails.items) where
+      (gave : AddsMails
+      (OfSome (IsSummaryTold q a b) (under nat_eq f.entries.by_key a)) f.given.mails.items g.given.mails.items) where
     abbrev M : NumberedMessage → Type 0
     M = TookMessage left_to
 
@@ -64,7 +64,7 @@ module _ {A G : Type 0} (graph : Graph G) (q : ℕ) (f g : Found A) where
     pub left_exit : HasExit left_to a b
     left_exit = added_is nat_eq exact_unsigned_eq (under nat_eq f.exits.by_key) (under nat_eq g.exits.by_key) a b added others
 
-    told : (s : ℕ) (k : NumberedMessage) → Each (IsTold q a b) (under nat_eq f.entries.by_key a) (mail s (due_of k)) →
+    told : (s : ℕ) (k : NumberedMessage) → OfSome (IsSummaryTold q a b) (under nat_eq f.entries.by_key a) (mail s (due_of k)) →
         IsOwed left_to q s k
     told s k (from, m, (c, is, same)) =
         subst (λ to. IsOwed left_to q to k) (sym (ap (λ x. x.to) same))
@@ -87,7 +87,7 @@ module _ {A G : Type 0} (graph : Graph G) (q : ℕ) (f g : Found A) where
         | inr is ↦ inr (subst (λ z. Leaves graph M z y) is.0 (subst (Leaves graph M a) is.1 (v, reached, is_left)))
       ];
       gives = λ s k m. gives_kept
-          (Each (IsTold q a b) (under nat_eq f.entries.by_key a)) f.given.mails.items g.given.mails.items gave
+          (OfSome (IsSummaryTold q a b) (under nat_eq f.entries.by_key a)) f.given.mails.items g.given.mails.items gave
           (mail s (due_of k)) m;
       given = λ s k m. elim (gave.only (mail s (due_of k)) m) [ inl w ↦ inr (told s k w) | inr was ↦ inl was ];
       begun = λ from x h. inl h;
@@ -121,9 +121,9 @@ module _ {A G : Type 0} (graph : Graph G) (q : ℕ) (f g : Found A) where
 
 -- of a pair that is new nobody is told yet
 pub none_told : {A G : Type 0} (graph : Graph G) (q : ℕ) (f : Found A) (es : List Triple) (Aside : Triple → Type 0) →
-    IsGrounded graph q f es → IsComplete graph q f es Aside → (a b : ℕ) (callers : List Caller) →
+    IsGrounded graph q f es → IsSaturated graph q f es Aside → (a b : ℕ) (callers : List Caller) →
     (Member (pair a b) f.pairs.keys → ⊥) →
-    (x : Mail) → Each (IsTold q a b) callers x → Member x f.given.mails.items → ⊥
+    (x : Mail) → OfSome (IsSummaryTold q a b) callers x → Member x f.given.mails.items → ⊥
 none_told graph q f es Aside sound complete a b callers new x (from, m, (c, is, same)) given =
     let (own, left, taken) =
     sound.given c (numbered_summary q a b) (subst (λ y. Member y f.given.mails.items) same given) in

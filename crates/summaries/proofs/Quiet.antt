@@ -8,7 +8,7 @@ use Rattle.flow_graph.specs.Numbers.{starts, flows, returns, Sends, asks, tells,
 use Rattle.flow_graph.specs.declared.graph.Graph.{Graph}
 use Rattle.summaries.specs.declared.found.Found.{Found}
 use Rattle.summaries.specs.Found.{edge, TookMessage, HasExit, HasGiven, IsOwed}
-use Rattle.summaries.specs.Found.{IsGrounded, IsWorked, IsComplete, IsExact}
+use Rattle.summaries.specs.Found.{IsGrounded, IsWorked, IsSaturated, IsExact}
 
 -- a message that is owed is sent
 pub owed_sent : {A G : Type 0} (graph : Graph G) (q : ℕ) (f : Found A) (edges : List Triple) →
@@ -23,7 +23,7 @@ owed_sent graph q f edges sound s (numbered_summary p a b) (is, has, taken) =
     (subst (λ y. Sends graph q (TookMessage f) s (numbered_summary q a y)) (sym leaves) (tells a v s taken reached))
 
 module _ {A G : Type 0} (graph : Graph G) (q : ℕ) (f : Found A) (edges : List Triple)
-    (complete : IsComplete graph q f edges (λ t. ⊥)) (none_pending : f.pending.items ≡ []) where
+    (complete : IsSaturated graph q f edges (λ t. ⊥)) (none_pending : f.pending.items ≡ []) where
   -- each edge is worked on
   is_worked : (a n v : ℕ) → Member (triple a n v) edges → IsWorked graph q f edges a n v
   is_worked a n v e =

@@ -22,13 +22,12 @@ use Rattle.summaries.specs.Under.{under}
 use Rattle.summaries.specs.Mails.{mail}
 use Rattle.summaries.specs.Dues.{caller_of, due_of}
 use Rattle.summaries.specs.Found.{call, call_eq, edge, site, pair, TookMessage, HasSite}
-use Rattle.summaries.specs.Found.{HasExit, HasGiven, IsOwed, IsPending, IsGrounded, IsWorked, IsComplete, IsEmpty}
+use Rattle.summaries.specs.Found.{HasExit, HasGiven, IsOwed, IsPending, IsGrounded, IsWorked, IsSaturated, IsEmpty}
 use Rattle.summaries.specs.Grows.{EntersAt, Grows, triple_of}
 use Rattle.summaries.specs.Tables.{HasMore}
 
 -- A step of the table of procedure q from f, with the edges es, to g, with the edges ds: what comes to be held is
--- reached
--- and sent, nothing goes, and what is then to be held beside it is held.
+-- reached and sent, nothing goes, and what is then to be held beside it is held.
 pub record Step {A G : Type 0} (graph : Graph G) (q : ℕ) (f g : Found A) (es ds : List Triple) : Type 0 where
   pub taken : (k : NumberedMessage) → TookMessage f k → TookMessage g k
   pub kept : (t : Triple) → Member t es → Member t ds
@@ -91,7 +90,7 @@ module _ {A G : Type 0} (graph : Graph G) (q : ℕ) (f g : Found A) (es ds : Lis
   }
 
   -- and nothing is left out
-  pub still_complete : (Aside : Triple → Type 0) → IsComplete graph q f es Aside → IsComplete graph q g ds Aside
+  pub still_complete : (Aside : Triple → Type 0) → IsSaturated graph q f es Aside → IsSaturated graph q g ds Aside
   still_complete Aside old = record {
     begun = λ from a m. elim (step.begun from a m) [ inl was ↦ step.kept (triple a graph.start a) (old.begun from a was) | inr is ↦ is ];
     worked = λ a n v m. elim (step.new (triple a n v) m) [
@@ -119,13 +118,13 @@ module _ {A G : Type 0} (graph : Graph G) (q : ℕ) (f g : Found A) (es ds : Lis
 module _ {A G : Type 0} (graph : Graph G) (q : ℕ) (f g : Found A) (es ds : List Triple) (step : Step graph q f g es ds)
     (Aside : Triple → Type 0) where
   -- after a step all still holds
-  pub still_holds : IsGrounded graph q f es × IsComplete graph q f es Aside → IsGrounded graph q g ds × IsComplete graph q g ds Aside
+  pub still_holds : IsGrounded graph q f es × IsSaturated graph q f es Aside → IsGrounded graph q g ds × IsSaturated graph q g ds Aside
   still_holds old = (still_grounded graph q f g es ds step old.0, still_complete graph q f g es ds step Aside old.1)
 
 module _ {A G : Type 0} (graph : Graph G) (q : ℕ) (f : Found A) (es : List Triple) where
   -- an edge that was left aside and is worked on need not be
-  pub worked_off : (a n v : ℕ) → IsWorked graph q f es a n v → IsComplete graph q f es (λ t. t ≡ triple a n v)
-      → IsComplete graph q f es (λ t. ⊥)
+  pub worked_off : (a n v : ℕ) → IsWorked graph q f es a n v → IsSaturated graph q f es (λ t. t ≡ triple a n v)
+      → IsSaturated graph q f es (λ t. ⊥)
   worked_off a n v worked old = record {
     begun = old.begun;
     worked = λ b m w there. elim (old.worked b m w there) [
@@ -309,7 +308,7 @@ module _ {A G : Type 0} (graph : Graph G) (q : ℕ) (f : Found A) (es : List Tri
       owed s (numbered_summary p a b) h = h
 
   -- the edge may be left aside
-  pub popped_complete : IsComplete graph q f es (λ t. ⊥) → IsComplete graph q popped_to es (λ t. t ≡ triple_of e)
+  pub popped_complete : IsSaturated graph q f es (λ t. ⊥) → IsSaturated graph q popped_to es (λ t. t ≡ triple_of e)
   popped_complete old = record {
     begun = λ from a h. old.begun from a h;
     worked = λ a n v m. elim (old.worked a n v m) [
@@ -355,7 +354,7 @@ module _ {A G : Type 0} (graph : Graph G) (q : ℕ) (f : Found A) (es : List Tri
     exits_once = λ a. subst NoneTwice (sym (empty.exits a)) tt;
   }
 
-  pub empty_complete : IsComplete graph q f es (λ t. ⊥)
+  pub empty_complete : IsSaturated graph q f es (λ t. ⊥)
   empty_complete = record {
     begun = λ from a h. absurd (no_message (numbered_entry from a) h);
     worked = λ a n v m. absurd (no_edge (triple a n v) m);

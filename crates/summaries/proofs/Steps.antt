@@ -35,7 +35,7 @@ use Rattle.summaries.specs.declared.no_verdict.NoVerdict.TheVariants as verdict
 use Rattle.summaries.specs.Mails.{mail}
 use Rattle.summaries.specs.Dues.{due_of}
 use Rattle.summaries.specs.Found.{TookMessage}
-use Rattle.summaries.specs.Tables.{graph_of, answers_of, IsTable, IsQuiet, IsAnswer, Keeps, StaysAs, TookAlso, TookOnly, TookSame}
+use Rattle.summaries.specs.Tables.{graph_of, answers_of, IsTable, IsQuiet, IsAnswer, KeepsTable, StaysAs, TookAlso, TookOnly, TookSame}
 use Rattle.summaries.specs.Tabulated.{no_verdict, HasMoreEdges}
 use Rattle.summaries.specs.Together.{opening, IsReceived, IsTaken, HaveLimit, IsTableOf, AreNew, AreTables, AreQuietBefore}
 use Rattle.summaries.proofs.Tabled.{over_limit, answer_due}
@@ -135,7 +135,8 @@ module _ {G A S : Type 0} (members : S → List Triple) (p : Program) (Aside : M
   same_too_many q t t' is table stays failed same = too_many q t t' is table stays failed (same_due q t t' is same)
 
   -- what a table answers is due
-  pub mail_due : (q : ℕ) (t t' : Table G A S) → slice_get ts q ≡ Some t → Keeps members None t t' → (s : ℕ) (d : Due) → IsAnswer t t' s d
+  pub mail_due : (q : ℕ) (t t' : Table G A S) → slice_get ts q ≡ Some t → KeepsTable members None t t' → (s : ℕ) (d : Due)
+      → IsAnswer t t' s d
       → (k : NumberedMessage) → due_of k ≡ d → IsNumberOf (IsDue p s) k
   mail_due q t t' is keeps s d answer =
       answer_due members p q t' (still_of q t t' is keeps.table keeps.stays (same_due q t t' is keeps.taken)) t s d answer

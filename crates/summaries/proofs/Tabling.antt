@@ -13,9 +13,9 @@ use Rattle.summaries.specs.declared.given.Mail.{Mail}
 use Rattle.summaries.specs.declared.table.Table.{Table}
 use Rattle.summaries.specs.Mails.{mail}
 use Rattle.summaries.specs.Dues.{due_of}
-use Rattle.summaries.specs.Found.{answers_in, TookMessage, HasGiven, IsGrounded, IsComplete}
+use Rattle.summaries.specs.Found.{answers_in, TookMessage, HasGiven, IsGrounded, IsSaturated}
 use Rattle.summaries.specs.Tables as tables
-use Rattle.summaries.specs.Tables.{answers_of, IsReached, IsTable, Keeps}
+use Rattle.summaries.specs.Tables.{answers_of, IsReached, IsTable, KeepsTable}
 use Rattle.summaries.proofs.Quiet.{is_exact, is_left}
 use Rattle.summaries.proofs.Stepping.{same_to, same_step, still_holds}
 
@@ -53,7 +53,7 @@ module _ {G A S : Type 0} (members : S → List Triple) (t : Table G A S) (g : F
     (pended : g.pending.items ≡ t.found.pending.items) where
   -- and keeps what it has taken
   pub same_keeps : IsTable members t → t.fault ≡ None →
-      Keeps members None t (record {
+      KeepsTable members None t (record {
         graph = t.graph;
         procedure = t.procedure;
         limit = t.limit;
@@ -86,7 +86,7 @@ next_sent f (Some (to, due)) n keys same next P gives = λ k is.
 -- a table with nothing pending that has answered all it gave is quiet
 pub quiet_table : {G A S : Type 0} (members : S → List Triple) (t : Table G A S) →
     IsGrounded t.graph.now t.procedure t.found (members t.edges) →
-    IsComplete t.graph.now t.procedure t.found (members t.edges) (λ x. ⊥) →
+    IsSaturated t.graph.now t.procedure t.found (members t.edges) (λ x. ⊥) →
     t.found.pending.items ≡ [] → answers_of t ≡ t.found.given.mails.items → tables.IsQuiet members t
 quiet_table members t sound complete none all =
     let quiet = is_exact t.graph.now t.procedure t.found (members t.edges) complete none sound in record {

@@ -97,8 +97,7 @@ module _ {A G : Type 0} (graph : Graph G) (q : ℕ) (f : Found A) (edges : List 
     pub exits_once : (a : ℕ) → NoneTwice (under nat_eq f.exits.by_key a)
 
   -- The edge is worked on: where its choices lead are edges, its call stands as a site, and at the exit its globals as
-  -- an
-  -- exit.
+  -- an exit.
   pub record IsWorked (a n v : ℕ) : Type 0 where
     pub flows : (flow : Flow G) (i n' v' : ℕ) → slice_get (flows_of graph) n ≡ Some flow → i ≤ last_of flow →
         next_of flow v i ≡ Some (n', v') →
@@ -109,9 +108,8 @@ module _ {A G : Type 0} (graph : Graph G) (q : ℕ) (f : Found A) (edges : List 
 
   -- The start of each entry is an edge; each edge is pending, worked on, or one of those left aside; where a site and a
   -- summary meet is the edge behind the call; each site's entry is given; where an exit and a caller's entry meet is
-  -- the
-  -- summary given; the pairs are the exits.
-  pub record IsComplete (Aside : Triple → Type 0) : Type 0 where
+  -- the summary given; the pairs are the exits.
+  pub record IsSaturated (Aside : Triple → Type 0) : Type 0 where
     pub begun : (from : Caller) (a : ℕ) → TookMessage f (numbered_entry from a) → Member (triple a (start_of graph) a) edges
     pub worked : (a n v : ℕ) → Member (triple a n v) edges → Aside (triple a n v) ⊎ (IsPending f a n v ⊎ IsWorked a n v)
     pub ended : (s e b a n v back : ℕ) → HasSite f s e (site a n v) → EntersAt graph n v s e back →

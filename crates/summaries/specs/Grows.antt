@@ -27,8 +27,8 @@ abbrev pub edge_of : Triple → Edge
 edge_of t = record { entry = t.entry; point = t.point; values = t.values }
 
 -- The triples of which W holds are edges after, beside those before, and no others; each edge that is new stands
--- pending,
--- beside those before; what comes to stand pending is an edge; as many come to stand pending as there are new edges.
+-- pending, beside those before; what comes to stand pending is an edge; as many come to stand pending as there are new
+-- edges.
 pub record Grows (W : Triple → Type 0) (old new : List Triple) (before after : List Edge) : Type 0 where
   pub all : (t : Triple) → W t → Member t new
   pub kept : (t : Triple) → Member t old → Member t new
@@ -44,10 +44,8 @@ abbrev pub AddsOnly : {X : Type 0} → (X → Type 0) → List X → List X → 
 AddsOnly {X} W old new = (x : X) → Member x new → W x ⊎ Member x old
 
 -- Triples were to be added, and so answers the adding. On Ok those of which W holds are added, and what is new stands
--- pending;
--- whatever the answer, no others are added, and no more than the limit; where the answer is that the limit is passed,
--- there are
--- as many, and one of which W holds is not among them.
+-- pending; whatever the answer, no others are added, and no more than the limit; where the answer is that the limit is
+-- passed, there are as many, and one of which W holds is not among them.
 pub record Adds (W : Triple → Type 0) {T : Type 0} (answer : Result T TableFault) (most : ℕ) (old new : List Triple)
     (before after : List Edge) : Type 0 where
   pub ok : OnOk answer (Grows W old new before after)
@@ -68,8 +66,8 @@ abbrev pub IsNext : {G : Type 0} → Flow G → Edge → Triple → Type 0
 IsNext flow e t = (i : ℕ) × (i ≤ last_of flow) × IsAt e (next_of flow e.values i) t
 
 -- W holds of it for some item of the list
-abbrev pub Each : {X T : Type 0} → (X → T → Type 0) → List X → T → Type 0
-Each {X} W xs t = (x : X) × Member x xs × W x t
+abbrev pub OfSome : {X T : Type 0} → (X → T → Type 0) → List X → T → Type 0
+OfSome {X} W xs t = (x : X) × Member x xs × W x t
 
 -- A call at the point n enters s with e from the valuation v, and the run goes on at the point back when it returns.
 abbrev pub EntersAt : {G : Type 0} → Graph G → ℕ → ℕ → ℕ → ℕ → ℕ → Type 0
@@ -83,11 +81,11 @@ IsBehind graph site b t =
     × (t ≡ triple site.asked back (resumed (globals_of graph) site.values b))
 
 -- The messages of which W holds are given after, beside those before, and no others; they come behind those before.
-pub record Gives (W : Mail → Type 0) (old new : List Mail) : Type 0 where
+pub record AddsMails (W : Mail → Type 0) (old new : List Mail) : Type 0 where
   pub all : (x : Mail) → W x → Member x new
   pub only : (x : Mail) → Member x new → W x ⊎ Member x old
   pub behind : (more : List Mail) × (new ≡ old ++ more)
 
 -- A message is the summary of procedure p for this caller, which is not the starter.
-abbrev pub IsTold : ℕ → ℕ → ℕ → Caller → Mail → Type 0
-IsTold p a b from x = (c : ℕ) × (from ≡ Proc c) × (x ≡ mail c (Summary p a b))
+abbrev pub IsSummaryTold : ℕ → ℕ → ℕ → Caller → Mail → Type 0
+IsSummaryTold p a b from x = (c : ℕ) × (from ≡ Proc c) × (x ≡ mail c (Summary p a b))

@@ -17,7 +17,7 @@ use Rattle.summaries.specs.declared.table_fault.TableFault.{TableFault}
 use Rattle.summaries.specs.declared.table_fault.TableFault.TheVariants.{EdgeLimit}
 use Rattle.summaries.specs.Mails.{mail}
 use Rattle.summaries.specs.Dues.{due_of}
-use Rattle.summaries.specs.Found.{pair, site, answers_in, TookMessage, HasSite, HasExit, IsGrounded, IsComplete}
+use Rattle.summaries.specs.Found.{pair, site, answers_in, TookMessage, HasSite, HasExit, IsGrounded, IsSaturated}
 use Rattle.path_sets.specs.EdgeLimits.{most_of}
 
 module _ {G A S : Type 0} where
@@ -90,8 +90,7 @@ pub record StaysAs {G A S : Type 0} (old new : Table G A S) : Type 0 where
   pub limit : new.limit ≡ old.limit
 
 -- The table has answered this message: it comes behind those that were answered before, is sent by the messages taken,
--- and is
--- none of those answered before.
+-- and is none of those answered before.
 pub record IsAnswer {G A S : Type 0} (old new : Table G A S) (to : ℕ) (d : Due) : Type 0 where
   pub behind : answers_of new ≡ answers_of old ++ mail to d ∷ []
   pub due : (k : NumberedMessage) → due_of k ≡ d → Sends new.graph.now new.procedure (TookMessage new.found) to k
@@ -99,15 +98,13 @@ pub record IsAnswer {G A S : Type 0} (old new : Table G A S) (to : ℕ) (d : Due
 
 module _ {G A S : Type 0} (members : S → List Triple) where
   -- All that the table holds is reached and sent, and nothing that is reached or sent is left out but by what is
-  -- pending
-  -- and by the edges left aside.
+  -- pending and by the edges left aside.
   abbrev pub Holds : (Triple → Type 0) → Table G A S → Type 0
   Holds Aside t = IsGrounded t.graph.now t.procedure t.found (members t.edges) ×
-      IsComplete t.graph.now t.procedure t.found (members t.edges) Aside
+      IsSaturated t.graph.now t.procedure t.found (members t.edges) Aside
 
   -- The edges kept are reached by the messages taken, and no more than the limit; unless the table has failed, nothing
-  -- is
-  -- left out but by what is pending; where it has failed for its limit, more edges than that are reached.
+  -- is left out but by what is pending; where it has failed for its limit, more edges than that are reached.
   pub record IsTable (t : Table G A S) : Type 0 where
     pub edges : (x : Triple) → Member x (members t.edges) → IsReached t x
     pub within : length (members t.edges) ≤ limit_of t
@@ -122,10 +119,8 @@ module _ {G A S : Type 0} (members : S → List Triple) where
     pub fault : t.fault ≡ None
 
   -- The table has worked, and so answers. It is that of the same procedure; the edges kept are reached by the messages
-  -- taken,
-  -- and no more than the limit. On Ok nothing is left out but by what is pending and by the edges left aside, and no
-  -- message
-  -- was answered; where the answer is that the limit is passed, more edges than that are reached.
+  -- taken, and no more than the limit. On Ok nothing is left out but by what is pending and by the edges left aside,
+  -- and no message was answered; where the answer is that the limit is passed, more edges than that are reached.
   pub record Worked (Aside : Triple → Type 0) {T : Type 0} (answer : Result T TableFault) (old new : Table G A S) : Type 0 where
     pub holds : OnOk answer (Holds Aside new)
     pub edges : (x : Triple) → Member x (members new.edges) → IsReached new x
@@ -136,10 +131,9 @@ module _ {G A S : Type 0} (members : S → List Triple) where
     pub fault : new.fault ≡ old.fault
 
   -- The table was given a message to take, and so answers. It is that of the same procedure, and has failed where the
-  -- answer is
-  -- a fault. On Ok it has taken the message, and answered none; it has taken no other; once failed, it answers that
-  -- from then on.
-  pub record Takes (d : Due) {T : Type 0} (answer : Result T TableFault) (old new : Table G A S) : Type 0 where
+  -- answer is a fault. On Ok it has taken the message, and answered none; it has taken no other; once failed, it
+  -- answers that from then on.
+  pub record TableTakes (d : Due) {T : Type 0} (answer : Result T TableFault) (old new : Table G A S) : Type 0 where
     pub table : IsTable new
     pub taken : OnOk answer (TookAlso d old.found new.found)
     pub only : TookOnly d old.found new.found
@@ -149,7 +143,7 @@ module _ {G A S : Type 0} (members : S → List Triple) where
     pub again : (e : TableFault) → old.fault ≡ Some e → answer ≡ Err e
 
   -- The table is that of the same procedure, has taken the same messages, and has this fault, where there is one.
-  pub record Keeps (fault_now : Option TableFault) (old new : Table G A S) : Type 0 where
+  pub record KeepsTable (fault_now : Option TableFault) (old new : Table G A S) : Type 0 where
     pub table : IsTable new
     pub taken : TookSame old.found new.found
     pub stays : StaysAs old new

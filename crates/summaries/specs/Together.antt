@@ -53,8 +53,7 @@ module _ {G A S : Type 0} where
 
 module _ {G A S : Type 0} (members : S → List Triple) where
   -- The table is that of procedure q, works on the flow graph that was drawn from it, and has taken only messages that
-  -- are due
-  -- for it.
+  -- are due for it.
   pub record IsTableOf (p : Program) (q : ℕ) (t : Table G A S) : Type 0 where
     pub fit : ArgumentsFit p
     pub in_order : IsInTextOrder p
@@ -69,8 +68,8 @@ module _ {G A S : Type 0} (members : S → List Triple) where
     pub number : (q : ℕ) (t : Table G A S) → slice_get ts q ≡ Some t → procedure_of t ≡ q
 
   -- The tables are those of the program's procedures, by number, and none has failed; what each has taken is due for
-  -- its
-  -- procedure; and the opening and each message that was answered is taken by its receiver, but for those left aside.
+  -- its procedure; and the opening and each message that was answered is taken by its receiver, but for those left
+  -- aside.
   pub record AreTables (p : Program) (Aside : Mail → Type 0) (ts : List (Table G A S)) : Type 0 where
     pub drawn : AreDrawnFrom p (map graph_of ts)
     pub table : (q : ℕ) (t : Table G A S) → slice_get ts q ≡ Some t → IsTable members t

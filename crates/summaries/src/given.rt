@@ -4,7 +4,7 @@ ghost use Rattle.std.specs.Prelude.{◌≡◌, ◌≤◌, ◌<◌, ◌^◌, ◌�
 ghost use Rattle.std.specs.Prelude.{OnOk, OnErr, IfSome, IfNone};
 ghost use Rattle.std.specs.Bool.{OnTrue, OnFalse};
 ghost use Rattle.language.specs.Lists.{Member, NoneTwice, NoneTwice-prop};
-ghost use Rattle.summaries.specs.Grows.{Gives};
+ghost use Rattle.summaries.specs.Grows.{AddsMails};
 ghost use Rattle.summaries.specs.Mails.{mail};
 
 use crate::due::Due;
@@ -56,7 +56,7 @@ impl<A: Allocator + Copy> Given<A> {
         requires known { OnTrue known (Member (mail to due) self.old.mails.items) }
         requires new { OnFalse known (¬ Member (mail to due) self.old.mails.items) }
         ensures ok { OnOk result
-            (Gives (λ m. m ≡ mail to due) self.old.mails.items self.new.mails.items) }
+            (AddsMails (λ m. m ≡ mail to due) self.old.mails.items self.new.mails.items) }
         ensures err { OnErr result (self.new.mails.items ≡ self.old.mails.items) }
         ensures answered { self.new.answered ≡ self.old.answered }
     {

@@ -1,7 +1,7 @@
 //! Calls whose summaries are known.
 
 ghost use Rattle.std.specs.Prelude.{◌≤◌, length};
-ghost use Rattle.summaries.specs.Grows.{Adds, Each, IsBehind};
+ghost use Rattle.summaries.specs.Grows.{Adds, OfSome, IsBehind};
 ghost use Rattle.path_sets.specs.EdgeLimits.{most_of};
 
 use crate::edge::{Edge, Site};
@@ -51,7 +51,7 @@ pub(crate) fn go_on<G: Allocator, A: Allocator, S: PathSet<A>>(
     summaries: &[Word],
 ) -> Result<(), TableFault>
     requires { length (S.members edges.old) ≤ most_of limit }
-    ensures { Adds (Each (IsBehind graph.now site) summaries.now) result (most_of limit)
+    ensures { Adds (OfSome (IsBehind graph.now site) summaries.now) result (most_of limit)
         (S.members edges.old) (S.members edges.new) pending.old.items pending.new.items }
 {
     for globals in summaries {
@@ -71,7 +71,7 @@ pub(crate) fn go_on_at_each<G: Allocator, A: Allocator, S: PathSet<A>>(
     globals: Word,
 ) -> Result<(), TableFault>
     requires { length (S.members edges.old) ≤ most_of limit }
-    ensures { Adds (Each (λ site. IsBehind graph.now site globals) sites.now) result (most_of limit)
+    ensures { Adds (OfSome (λ site. IsBehind graph.now site globals) sites.now) result (most_of limit)
         (S.members edges.old) (S.members edges.new) pending.old.items pending.new.items }
 {
     for site in sites {

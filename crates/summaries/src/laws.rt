@@ -18,7 +18,7 @@ ghost use Rattle.summaries.specs.declared.given.Mail.{Mail};
 ghost use Rattle.summaries.specs.declared.table.Table.{Table};
 ghost use Rattle.summaries.specs.declared.table_fault.TableFault.TheVariants.{EdgeLimit};
 ghost use Rattle.summaries.specs.Dues.{due_of};
-ghost use Rattle.summaries.specs.Found.{IsGrounded, IsComplete, IsWorkedOff, IsExact};
+ghost use Rattle.summaries.specs.Found.{IsGrounded, IsSaturated, IsWorkedOff, IsExact};
 ghost use Rattle.summaries.specs.Tables.{limit_of, edges_of, answers_of, failure, IsAnswer};
 ghost use Rattle.summaries.specs.Tabulated.{HasMoreEdges};
 ghost use Rattle.summaries.specs.Together.{IsTableOf};
@@ -31,7 +31,7 @@ use std::alloc::Allocator;
 pub fn a_quiet_table_has_what_is_reached<A: Allocator, G: Allocator>()
     ensures { (graph : Graph G) (q : ℕ) (f : Found A) (edges : List Triple)
         → IsGrounded graph q f edges
-        → IsComplete graph q f edges (λ t. ⊥) → IsWorkedOff f → IsExact graph q f edges }
+        → IsSaturated graph q f edges (λ t. ⊥) → IsWorkedOff f → IsExact graph q f edges }
 {}
 
 /// The table of a procedure that has taken only messages which are due for it keeps only path edges of the procedure,

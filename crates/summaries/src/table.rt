@@ -34,7 +34,7 @@ impl<'g, G: Allocator, A: Allocator + Copy, S: PathSet<A>> Table<'g, G, A, S> {
     ghost use Rattle.summaries.specs.declared.due.Due.TheVariants.{Entry, Summary};
     ghost use Rattle.summaries.specs.Tables.{graph_of, procedure_of, limit_of, answers_of, failure};
     ghost use Rattle.summaries.specs.Tables.{fault_of};
-    ghost use Rattle.summaries.specs.Tables.{IsTable, IsNew, IsQuiet, IsAnswer, Takes, Keeps};
+    ghost use Rattle.summaries.specs.Tables.{IsTable, IsNew, IsQuiet, IsAnswer, TableTakes, KeepsTable};
     ghost use Rattle.summaries.specs.Tables.{failed_by, work_left};
 
     /// The table of a procedure, which has taken nothing yet, and takes no memory.
@@ -60,7 +60,7 @@ impl<'g, G: Allocator, A: Allocator + Copy, S: PathSet<A>> Table<'g, G, A, S> {
     /// than the limit is found, the table has failed, and answers that from then on.
     pub fn take_entry(&mut self, caller: Caller, a: Word) -> Result<(), TableFault>
         requires { IsTable S.members self.old }
-        ensures { Takes S.members (Entry caller a) result self.old self.new }
+        ensures { TableTakes S.members (Entry caller a) result self.old self.new }
     {
         if let Some(fault) = self.fault {
             return Err(fault);
@@ -73,7 +73,7 @@ impl<'g, G: Allocator, A: Allocator + Copy, S: PathSet<A>> Table<'g, G, A, S> {
     /// does.
     pub fn take_summary(&mut self, p: u8, a: Word, b: Word) -> Result<(), TableFault>
         requires { IsTable S.members self.old }
-        ensures { Takes S.members (Summary p a b) result self.old self.new }
+        ensures { TableTakes S.members (Summary p a b) result self.old self.new }
     {
         if let Some(fault) = self.fault {
             return Err(fault);
@@ -92,7 +92,7 @@ impl<'g, G: Allocator, A: Allocator + Copy, S: PathSet<A>> Table<'g, G, A, S> {
     /// once. `None` where there is no more until another message is taken. It fails as `take_entry` does.
     pub fn next(&mut self) -> Result<Option<(u8, Due)>, TableFault>
         requires { IsTable S.members self.old }
-        ensures keeps { Keeps S.members (fault_of result) self.old self.new }
+        ensures keeps { KeepsTable S.members (fault_of result) self.old self.new }
         ensures some { IfOk result (λ r. IfSome r (λ m. IsAnswer self.old self.new m.0 m.1)) }
         ensures few { length (answers_of self.new) < 2 ^ 64 }
         ensures none { IfOk result (λ r. IfNone r (answers_of self.new ≡ answers_of self.old)) }
@@ -116,7 +116,7 @@ impl<'g, G: Allocator, A: Allocator + Copy, S: PathSet<A>> Table<'g, G, A, S> {
     fn answer(&mut self) -> Option<(u8, Due)>
         requires table { IsTable S.members self.old }
         requires fault { self.old.fault ≡ None }
-        ensures keeps { Keeps S.members None self.old self.new }
+        ensures keeps { KeepsTable S.members None self.old self.new }
         ensures some { IfSome result (λ m. IsAnswer self.old self.new m.0 m.1) }
         ensures none { IfNone result (answers_of self.new ≡ answers_of self.old) }
         ensures all { IfNone result (answers_of self.new ≡ self.new.found.given.mails.items) }
@@ -130,7 +130,7 @@ impl<'g, G: Allocator, A: Allocator + Copy, S: PathSet<A>> Table<'g, G, A, S> {
     fn step(&mut self) -> Result<bool, TableFault>
         requires table { IsTable S.members self.old }
         requires fault { self.old.fault ≡ None }
-        ensures keeps { Keeps S.members (fault_of result) self.old self.new }
+        ensures keeps { KeepsTable S.members (fault_of result) self.old self.new }
         ensures answers { OnOk result (answers_of self.new ≡ answers_of self.old) }
         ensures less { IfOk result (λ worked. OnTrue worked
             (work_left S.members self.new < work_left S.members self.old)) }

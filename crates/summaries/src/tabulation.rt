@@ -5,7 +5,7 @@ ghost use Rattle.language.specs.Step.{Program};
 ghost use Rattle.language.specs.Sequential.{SomeBad};
 ghost use Rattle.flow_graph.specs.Drawn.{bad_of, graphs_of};
 ghost use Rattle.flow_graph.specs.Graphs.{AreDrawnFrom};
-ghost use Rattle.summaries.specs.Tables.{graph_of, IsTable, Takes};
+ghost use Rattle.summaries.specs.Tables.{graph_of, IsTable, TableTakes};
 ghost use Rattle.summaries.specs.Tabulated.{AreSummaries, SomePairBad, HasMoreEdges};
 ghost use Rattle.summaries.specs.Together.{opening, HaveLimit, AreNew, AreTables, AreQuietBefore};
 ghost use Rattle.summaries.specs.Together.{AreFull};
@@ -44,7 +44,7 @@ pub fn deliver<G: Allocator, A: Allocator + Copy, S: PathSet<A>>(
     due: Due,
 ) -> Result<(), TableFault>
     requires { IsTable S.members table.old }
-    ensures { Takes S.members due result table.old table.new }
+    ensures { TableTakes S.members due result table.old table.new }
 {
     match due {
         Due::Entry { caller, a } => table.take_entry(caller, a),

@@ -3,7 +3,7 @@
 ghost use Rattle.std.specs.Prelude.{◌≡◌, OnOk};
 ghost use Rattle.language.specs.Lists.{Member, NoneTwice};
 ghost use Rattle.summaries.specs.declared.given.Mail.{Mail};
-ghost use Rattle.summaries.specs.Grows.{AddsOnly, Gives, Each, IsTold};
+ghost use Rattle.summaries.specs.Grows.{AddsOnly, AddsMails, OfSome, IsSummaryTold};
 
 use crate::due::{Caller, Due};
 use crate::given::Given;
@@ -18,10 +18,10 @@ pub(crate) fn tell<A: Allocator + Copy>(
     b: Word,
     caller: Caller,
 ) -> Result<(), AllocError>
-    requires { (x : Mail) → IsTold p a b caller x → ¬ Member x given.old.mails.items }
+    requires { (x : Mail) → IsSummaryTold p a b caller x → ¬ Member x given.old.mails.items }
     ensures ok { OnOk result
-        (Gives (IsTold p a b caller) given.old.mails.items given.new.mails.items) }
-    ensures only { AddsOnly (IsTold p a b caller) given.old.mails.items given.new.mails.items }
+        (AddsMails (IsSummaryTold p a b caller) given.old.mails.items given.new.mails.items) }
+    ensures only { AddsOnly (IsSummaryTold p a b caller) given.old.mails.items given.new.mails.items }
     ensures answered { given.new.answered ≡ given.old.answered }
 {
     if let Caller::Proc(to) = caller {
@@ -40,12 +40,12 @@ pub(crate) fn tell_all<A: Allocator + Copy>(
     callers: &[Caller],
 ) -> Result<(), AllocError>
     requires once { NoneTwice callers.now }
-    requires new { (x : Mail) → Each (IsTold p a b) callers.now x
+    requires new { (x : Mail) → OfSome (IsSummaryTold p a b) callers.now x
         → ¬ Member x given.old.mails.items }
     ensures ok { OnOk result
-        (Gives (Each (IsTold p a b) callers.now) given.old.mails.items given.new.mails.items) }
+        (AddsMails (OfSome (IsSummaryTold p a b) callers.now) given.old.mails.items given.new.mails.items) }
     ensures only { AddsOnly
-        (Each (IsTold p a b) callers.now) given.old.mails.items given.new.mails.items }
+        (OfSome (IsSummaryTold p a b) callers.now) given.old.mails.items given.new.mails.items }
     ensures answered { given.new.answered ≡ given.old.answered }
 {
     for caller in callers {
@@ -64,11 +64,11 @@ pub(crate) fn tell_exits<A: Allocator + Copy>(
     caller: Caller,
 ) -> Result<(), AllocError>
     requires once { NoneTwice exits.now }
-    requires new { (x : Mail) → Each (λ b. IsTold p a b caller) exits.now x
+    requires new { (x : Mail) → OfSome (λ b. IsSummaryTold p a b caller) exits.now x
         → ¬ Member x given.old.mails.items }
-    ensures ok { OnOk result (Gives (Each (λ b. IsTold p a b caller) exits.now)
+    ensures ok { OnOk result (AddsMails (OfSome (λ b. IsSummaryTold p a b caller) exits.now)
         given.old.mails.items given.new.mails.items) }
-    ensures only { AddsOnly (Each (λ b. IsTold p a b caller) exits.now)
+    ensures only { AddsOnly (OfSome (λ b. IsSummaryTold p a b caller) exits.now)
         given.old.mails.items given.new.mails.items }
     ensures answered { given.new.answered ≡ given.old.answered }
 {

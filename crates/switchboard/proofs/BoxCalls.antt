@@ -24,8 +24,8 @@ use Rattle.switchboard.specs.declared.lock_per_box.knowing.Own.{Own}
 use Rattle.switchboard.specs.Sights.{Sight, IsSound}
 use Rattle.switchboard.specs.Promises.{GoesOn, Looked, Added}
 use Rattle.switchboard.specs.Knowing.{bare, entry_of, owes_after, with_event, state_of, unseen, hand_at, with_hand}
-use Rattle.switchboard.specs.PerBox.{View, Seat, News, HasOwn, IsInside, Recorded, Tells}
-use Rattle.switchboard.specs.BoxPasses.{IsIdle, state_seen, box_sight, IsSeen, IsBoxPass}
+use Rattle.switchboard.specs.PerBox.{View, Seat, News, HasOwn, IsInside, Recorded, TellsOrder}
+use Rattle.switchboard.specs.BoxPasses.{IsIdleHand, state_seen, box_sight, IsSeen, IsBoxPass}
 use Rattle.switchboard.proofs.Visits.{some_later}
 
 module _ {M W : Type 0} (fits : W → ℕ → M → Type 0) where
@@ -82,26 +82,26 @@ module _ {M W : Type 0} (fits : W → ℕ → M → Type 0) where
     pub inside : IsInside fits q x b in_it
     pub hands : v.0.hands ≡ in_it.0.hands
     pub slots : v.1 ≡ in_it.1
-    pub left : lock.Left (hand_at q) (Tells fits q) y v out
+    pub left : lock.Left (hand_at q) (TellsOrder fits q) y v out
 
   module _ (q : ℕ) (x y : List (Event M)) (b in_it v out : Seat M W) (visit : Visit q x y b in_it v out) where
     same_hand : hand_at q v.0 ≡ hand_at q in_it.0
     same_hand = ap (λ l. get_or l q (bare 0)) visit.hands
 
-    pub visit_tells : Tells fits q (passes x y) v.0 out.0
+    pub visit_tells : TellsOrder fits q (passes x y) v.0 out.0
     visit_tells =
         let t = visit.left.2 in
         let ends : EndsIn (hand_at q in_it.0).seen t.0 = subst (λ (h : Hand (List (Event M))). EndsIn h.seen t.0) same_hand t.1 in
-        subst (λ z. Tells fits q (passes z y) v.0 out.0) (EndsIn-same (hand_at q in_it.0).seen t.0 x ends visit.inside.found) t.2
+        subst (λ z. TellsOrder fits q (passes z y) v.0 out.0) (EndsIn-same (hand_at q in_it.0).seen t.0 x ends visit.inside.found) t.2
 
     pub visit_out : out.1 ≡ b.1
     visit_out = visit.left.0 ∙ (ap table.rest visit.slots ∙ ap table.rest visit.inside.out)
 
     -- it has one ticket fewer to draw in that lock, and is ready again
-    pub visit_hands : (left boxes : ℕ) → (left ≡ 0 → ⊥) → ((k : ℕ) → k < boxes → IsIdle left (hand_at k b.0))
-        → out.0.hands ≡ set v.0.hands q (hand_at q out.0) → (k : ℕ) → k < boxes → IsIdle (left - 1) (hand_at k out.0)
+    pub visit_hands : (left boxes : ℕ) → (left ≡ 0 → ⊥) → ((k : ℕ) → k < boxes → IsIdleHand left (hand_at k b.0))
+        → out.0.hands ≡ set v.0.hands q (hand_at q out.0) → (k : ℕ) → k < boxes → IsIdleHand (left - 1) (hand_at k out.0)
     visit_hands left boxes some_of idle hands k near = dite (ℕ_discrete k q)
-        (λ (e : k ≡ q). subst (λ i. IsIdle (left - 1) (hand_at i out.0)) (sym e) (
+        (λ (e : k ≡ q). subst (λ i. IsIdleHand (left - 1) (hand_at i out.0)) (sym e) (
         let was = idle q (subst (λ i. i < boxes) e near) in
         let h : hand_at q out.0 ≡ with_leave y (hand_at q v.0) = visit.left.1 in
         record {
@@ -127,7 +127,7 @@ module _ {M W : Type 0} (fits : W → ℕ → M → Type 0) where
         ∙ (get_or-set_other v.0.hands q k (hand_at q out.0) (bare 0) ne ∙ (ap (λ l. get_or l k (bare 0)) visit.hands
         ∙ (ap (λ (z : View M W). get_or z.hands k (bare 0)) visit.inside.after
         ∙ get_or-set_other b.0.hands q k (hand_at q in_it.0) (bare 0) ne))) in
-        subst (λ h. IsIdle (left - 1) h)
+        subst (λ h. IsIdleHand (left - 1) h)
         (sym there) record { tickets = was.tickets; inside = was.inside; parts = was.parts; drawn = omega (arith, was.drawn) })
 
   module _ (id : TableId) (number left : ℕ) (made : Bool) (w : W) (boxes : ℕ) (m : Seat M W)
@@ -173,7 +173,7 @@ module _ {M W : Type 0} (fits : W → ℕ → M → Type 0) where
     pub pass_on : (id' : TableId) (left' : ℕ) (made' : Bool) (u : Seat M W) → id' ≡ id → u.0.boards ≡ m.0.boards
         → u.0.lanes ≡ record { number = number; events = own number u.0.seen.order; made = made' } ∷ [] → u.1 ≡ [] → u.0.told ≡ unseen
         → u.0.owes ≡ 0
-        → left' ≤ u.0.budget → ((q : ℕ) → q < boxes → IsIdle left' (hand_at q u.0)) → IsSeen fits w boxes made' u.0.seen
+        → left' ≤ u.0.budget → ((q : ℕ) → q < boxes → IsIdleHand left' (hand_at q u.0)) → IsSeen fits w boxes made' u.0.seen
         → IsBoxPass fits id' number left' made' w boxes u
     pass_on id' left' made' u same board lanes out told owes budget hands seen = record {
       base = p.base;
@@ -208,14 +208,14 @@ module _ {M W : Type 0} (fits : W → ℕ → M → Type 0) where
               (same_lanes u.0 (ap (λ (z : Seat M W). z.0.lanes) is) list) (ap (λ (z : Seat M W). z.1) is ∙ p.outside)
               (ap (λ (z : Seat M W). z.0.told) is ∙ p.told) (ap (λ (z : Seat M W). z.0.owes) is ∙ p.owes)
               (omega (arith, ap (λ (z : Seat M W). z.0.budget) is, p.budget))
-              (λ q near. let was = p.hands q near in subst (λ h. IsIdle (left - 1) h) (sym (ap (λ (z : Seat M W). hand_at q z.0) is))
+              (λ q near. let was = p.hands q near in subst (λ h. IsIdleHand (left - 1) h) (sym (ap (λ (z : Seat M W). hand_at q z.0) is))
               record { tickets = was.tickets; inside = was.inside; parts = was.parts; drawn = omega (arith, was.drawn) })
               (seen_on w boxes made m.0.seen u.0.seen p.seen l),
           looked_is id' u.0.seen same some_of l list,
         )
 
     module _ (q : ℕ) (x y : List (Event M)) (b in_it v out : Seat M W) (visit : Visit q x y b in_it v out)
-        (idle : (k : ℕ) → k < boxes → IsIdle left (hand_at k b.0)) (b_out : b.1 ≡ m.1) (some_of : left ≡ 0 → ⊥)
+        (idle : (k : ℕ) → k < boxes → IsIdleHand left (hand_at k b.0)) (b_out : b.1 ≡ m.1) (some_of : left ≡ 0 → ⊥)
         (board : v.0.boards ≡ m.0.boards) (lanes : v.0.lanes ≡ m.0.lanes) (told : v.0.told ≡ m.0.told) (budget : left ≤ v.0.budget + 1)
         (later : Later w boxes m.0.seen v.0.seen) where
       -- it left the mailbox as it was
@@ -283,6 +283,6 @@ module _ {M W : Type 0} (fits : W → ℕ → M → Type 0) where
             (told' ∙ (ap (λ (z : View M W). z.told) is ∙ (told ∙ p.told))) owes
             (omega (arith, budget', ap (λ (z : View M W). z.budget) is))
             (λ k near.
-            subst (λ h. IsIdle (left - 1) h) (sym (ap (λ l. get_or l k (bare 0)) hands))
+            subst (λ h. IsIdleHand (left - 1) h) (sym (ap (λ l. get_or l k (bare 0)) hands))
             (visit_hands q x y b in_it v out visit left boxes some_of idle (ap (λ (z : View M W). z.hands) is) k near))
             (seen_on w boxes made m.0.seen u.0.seen p.seen l)

@@ -19,8 +19,8 @@ use Rattle.switchboard.specs.Sights.{Sight}
 use Rattle.switchboard.specs.Promises.{WasDone, Added, MadeAbort}
 use Rattle.switchboard.specs.Proved.Entries.{job_stays}
 use Rattle.switchboard.specs.Knowing.{hand_at, counted_down, made_abort}
-use Rattle.switchboard.specs.PerBox.{View, Asks, Tells, IsInside, Raised, Seat}
-use Rattle.switchboard.specs.BoxPasses.{IsIdle, box_sight, IsBoxPass}
+use Rattle.switchboard.specs.PerBox.{View, LeavesOneEvent, TellsOrder, IsInside, Raised, Seat}
+use Rattle.switchboard.specs.BoxPasses.{IsIdleHand, box_sight, IsBoxPass}
 use Rattle.switchboard.proofs.BoxCalls.{Later, Visit, own_part, first_later, step_later, own_same, goes, pass_on, recorded_is, added_is}
 use Rattle.switchboard.proofs.BoxCalls.{record_on}
 
@@ -47,11 +47,12 @@ module _ {M W : Type 0} (fits : W → ℕ → M → Type 0) (id : TableId) (numb
       lanes : v.0.lanes ≡ m.0.lanes
       lanes = ap (λ (z : View M W). z.lanes) inside.after
 
-      pub done_asks : (z : List (Event M)) → EndsIn (hand_at number v.0).seen z → Asks fits number (passes z y) v.0
-      done_asks z ends = subst (λ k. Asks fits number (passes k y) v.0) (EndsIn-same (hand_at number v.0).seen x z inside.found ends)
+      pub done_asks : (z : List (Event M)) → EndsIn (hand_at number v.0).seen z → LeavesOneEvent fits number (passes z y) v.0
+      done_asks z ends =
+          subst (λ k. LeavesOneEvent fits number (passes k y) v.0) (EndsIn-same (hand_at number v.0).seen x z inside.found ends)
           (inr (own_part fits id number left made w boxes m p, Done take, lanes ∙ p.lanes, list, grown, (refl, may_complete)))
 
-      module _ (out : Seat M W) (gone : lock.Left (hand_at number) (Tells fits number) y v out) (some_of : left ≡ 0 → ⊥) where
+      module _ (out : Seat M W) (gone : lock.Left (hand_at number) (TellsOrder fits number) y v out) (some_of : left ≡ 0 → ⊥) where
         visit : Visit fits number x y m v v out
         visit = record { inside = inside; hands = refl; slots = refl; left = gone }
 
@@ -120,7 +121,7 @@ module _ {M W : Type 0} (fits : W → ℕ → M → Type 0) (id : TableId) (numb
         (ap (λ (z : Seat M W). z.1) raised.after ∙ p.outside) (ap (λ (z : View M W). z.told) is ∙ p.told)
         (ap (λ (z : View M W). z.owes) is ∙ p.owes)
         (omega (arith, ap (λ (z : View M W). z.budget) is, p.budget))
-        (λ q near. subst (λ (z : View M W). IsIdle left (hand_at q z)) (sym is) (p.hands q near))
+        (λ q near. subst (λ (z : View M W). IsIdleHand left (hand_at q z)) (sym is) (p.hands q near))
         record { sound = later_raised.sound; close = later_raised.close; known = λ _. knows_it }
 
     pub was_aborted : (s : Sight M W) → before ≡ s

@@ -14,7 +14,8 @@ use Rattle.atomic_table.specs.Table as table
 use Rattle.atomic_table.specs.Seated.{TableId}
 use Rattle.ticket_lock.specs.declared.hand.Hand.{Hand}
 use Rattle.ticket_lock.specs.Count.{times, total}
-use Rattle.ticket_lock.specs.Proved.Facts.{total_at, total_two, total_only, total-map, at-map, at_longer, times-one, EndsIn-same, StartsWith-refl}
+use Rattle.ticket_lock.specs.Proved.Facts.{total_at, total_two, total_only, total-map, at-map, at_longer, times-one, EndsIn-same}
+use Rattle.ticket_lock.specs.Proved.Facts.{StartsWith-refl}
 use Rattle.ticket_lock.specs.Proved.Facts.{StartsWith-trans}
 use Rattle.post_ledger.specs.declared.event.Event.{Event}
 use Rattle.post_ledger.specs.declared.entry.Entry.{Entry}
@@ -27,9 +28,9 @@ use Rattle.switchboard.specs.declared.lock_per_box.knowing.Own.{Own}
 use Rattle.switchboard.specs.Sights.{Sight, IsSound}
 use Rattle.switchboard.specs.Promises.{AreAll, Settles}
 use Rattle.switchboard.specs.Knowing.{bare, merged_hands, made_by, state_of, hand_at, numbers, makes, merged, taken_in}
-use Rattle.switchboard.specs.PerBox.{View, flag, Saw, Rule, TookIn, Seat, owed}
+use Rattle.switchboard.specs.PerBox.{View, flag, Saw, Rule, SeatTookIn, Seat, owed}
 use Rattle.switchboard.specs.Proved.PerBoxFacts.{number_in, closed_at_zero}
-use Rattle.switchboard.specs.BoxEnds.{own_of, HasTaken, Gathered, HasSeat, Ends}
+use Rattle.switchboard.specs.BoxEnds.{own_of, TookInPass, Gathered, HasSeat, BoardEnds}
 use Rattle.switchboard.proofs.BoxSeats.{merged_is}
 use Rattle.switchboard.proofs.BoxTakes.{low_zero}
 
@@ -44,10 +45,10 @@ knew_first false b e = e
 
 module _ {M W : Type 0} (fits : W → ℕ → M → Type 0) where
   -- a pass's own seat has what the pass had
-  pub taken_self : (s : Sight M W) (id : TableId) (me : Seat M W) → HasSeat fits s id me → HasTaken s me.0
+  pub taken_self : (s : Sight M W) (id : TableId) (me : Seat M W) → HasSeat fits s id me → TookInPass s me.0
   taken_self s id me has =
       let p = has.0 in
-      subst (λ z. HasTaken z me.0) has.1 record {
+      subst (λ z. TookInPass z me.0) has.1 record {
         begins = StartsWith-refl me.0.seen.order;
         aborted = λ a e. e;
         knows = λ e. e;
@@ -78,12 +79,12 @@ module _ {M W : Type 0} (fits : W → ℕ → M → Type 0) where
           each = λ j t from at.
               let same : j ≡ length front = omega (arith, slice_get_within all j t at) in
               let is : s ≡ t = same_Some s t (sym last_at ∙ (ap (slice_get all) (sym same) ∙ at)) in
-              subst (λ z. HasTaken z me.0) is (taken_self s id me has);
+              subst (λ z. TookInPass z me.0) is (taken_self s id me has);
         }
 
     -- one more seat taken in
     pub gathered_more : (id : TableId) (me own_me me' : Seat M W) → Gathered boxes all (length (front ++ s ∷ [])) me
-        → HasSeat fits s id own_me → s.seen.boxes ≡ boxes → TookIn fits (merged me.0 own_me.0, me.1) me'
+        → HasSeat fits s id own_me → s.seen.boxes ≡ boxes → SeatTookIn fits (merged me.0 own_me.0, me.1) me'
         → Gathered boxes all (length front) me'
     gathered_more id me own_me me' g has count took =
         let p = has.0 in
@@ -125,7 +126,7 @@ module _ {M W : Type 0} (fits : W → ℕ → M → Type 0) where
                 let lt = lt_of_not-le d in
                 let same : j ≡ length front = omega arith in
                 let now : s ≡ t = same_Some s t (sym last_at ∙ (ap (slice_get all) (sym same) ∙ at)) in
-                subst (λ z. HasTaken z me'.0) now record {
+                subst (λ z. TookInPass z me'.0) now record {
                   begins = StartsWith-trans me'.0.seen.order w.seen.order s.seen.order took.theirs theirs.begins;
                   aborted = λ a e. took.aborted a (theirs.aborted a e);
                   knows = λ e. ap (λ (z : View M W). z.seen.knows) is ∙ knew_first v.seen.knows w.seen.knows (theirs.knows e);
@@ -262,7 +263,7 @@ module _ {M W : Type 0} (fits : W → ℕ → M → Type 0) (g : Ground M W) whe
 
   pub ends_is : (v : View M W) (n : ℕ) (slots : List (Option (List (Event M)))) (r : Rests v n slots) (histories : List (List (Event M)))
       → length histories ≡ g.boxes → ((q : ℕ) (h : List (Event M)) → slice_get histories q ≡ Some h → get_elem? slots q ≡ some (Some h))
-      → Ends fits g v histories (nat_eq (n % 2 ^ 63) 0)
+      → BoardEnds fits g v histories (nat_eq (n % 2 ^ 63) 0)
   ends_is v n slots r histories count taken = record {
     order = r.order;
     first = r.first;
@@ -297,10 +298,10 @@ module _ {M W : Type 0} (fits : W → ℕ → M → Type 0) (g : Ground M W) whe
 
   -- what is left of the board is what it promises
   pub settles_is : (id : TableId) (all : List (Sight M W)) (me : Seat M W) (histories : List (List (Event M))) (closed : Bool)
-      → AreAll id g.boxes all → Gathered g.boxes all 0 me → Ends fits g me.0 histories closed
+      → AreAll id g.boxes all → Gathered g.boxes all 0 me → BoardEnds fits g me.0 histories closed
       → Settles fits g.boxes all histories closed
   settles_is id all me histories closed every gathered e =
-      let has : (j : ℕ) (s : Sight M W) → slice_get all j ≡ Some s → HasTaken s me.0 = λ j s at. gathered.each j s (omega arith) at in
+      let has : (j : ℕ) (s : Sight M W) → slice_get all j ≡ Some s → TookInPass s me.0 = λ j s at. gathered.each j s (omega arith) at in
       record {
         order = e.order;
         lawful = e.sound.lawful;

@@ -15,8 +15,8 @@ use Rattle.switchboard.specs.declared.lock_per_box.knowing.Seen.{Seen}
 use Rattle.switchboard.specs.Sights.{Sight, Account}
 use Rattle.switchboard.specs.Promises.{Learned}
 use Rattle.switchboard.specs.Knowing.{bare, merged_hands, either_abort, both_seen, only_seen, merged, taken_in}
-use Rattle.switchboard.specs.PerBox.{View, TookIn, Seat}
-use Rattle.switchboard.specs.BoxPasses.{IsIdle, box_sight, box_account, IsBoxPass, IsBoxTold}
+use Rattle.switchboard.specs.PerBox.{View, SeatTookIn, Seat}
+use Rattle.switchboard.specs.BoxPasses.{IsIdleHand, box_sight, box_account, IsBoxPass, IsBoxTold}
 use Rattle.switchboard.proofs.BoxCalls.{Later, own_part, first_later, step_later, seen_on, goes, pass_on, same_lanes}
 
 merged_none : {T : Type 0} (hs : List (Hand T)) → merged_hands hs [] ≡ hs
@@ -38,7 +38,7 @@ told_knew false b e = e
 module _ {M W : Type 0} (fits : W → ℕ → M → Type 0) (id : TableId) (number left : ℕ) (made : Bool) (w : W) (boxes : ℕ) (m : Seat M W)
     (p : IsBoxPass fits id number left made w boxes m) where
   module _ (told : Seat M W) (told_id : TableId) (t : IsBoxTold told_id told) (u : Seat M W)
-      (took : TookIn fits (merged m.0 told.0, m.1) u) (id' : TableId) (same : id' ≡ id) where
+      (took : SeatTookIn fits (merged m.0 told.0, m.1) u) (id' : TableId) (same : id' ≡ id) where
     abbrev x : Seen M
     x = told.0.seen
 
@@ -74,7 +74,7 @@ module _ {M W : Type 0} (fits : W → ℕ → M → Type 0) (id : TableId) (numb
         (omega (arith, ap (λ (z : View M W). z.owes) is, ap (λ (z : View M W). z.owes) blank, p.owes))
         (omega (arith, ap (λ (z : View M W). z.budget) is, p.budget))
         (λ q near.
-        subst (λ h. IsIdle left h) (sym (ap (λ (z : View M W). get_or z.hands q (bare 0)) is ∙ ap (λ l. get_or l q (bare 0)) hands))
+        subst (λ h. IsIdleHand left h) (sym (ap (λ (z : View M W). get_or z.hands q (bare 0)) is ∙ ap (λ l. get_or l q (bare 0)) hands))
         (p.hands q near))
         (seen_on fits w boxes made m.0.seen u.0.seen p.seen later)
 

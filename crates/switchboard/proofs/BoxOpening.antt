@@ -22,8 +22,8 @@ use Rattle.switchboard.specs.declared.lock_per_box.knowing.Ground.{Ground}
 use Rattle.switchboard.specs.declared.lock_per_box.knowing.Own.{Own}
 use Rattle.switchboard.specs.Sights.{Sight, IsSound, opened, fresh_sight, fresh_sights}
 use Rattle.switchboard.specs.Knowing.{bare, bares, owns_from, first_seen, state_of, hand_at, first_view, less_one, just_one}
-use Rattle.switchboard.specs.PerBox.{View, word_of, IsSized, Knows, Stands, Rule, Seat}
-use Rattle.switchboard.specs.BoxPasses.{IsIdle, box_sight, IsBoxPass}
+use Rattle.switchboard.specs.PerBox.{View, word_of, IsBoardTable, KnowsBoard, LockStands, Rule, Seat}
+use Rattle.switchboard.specs.BoxPasses.{IsIdleHand, box_sight, IsBoxPass}
 use Rattle.switchboard.proofs.Opening.{sound_open, sights_push}
 use Rattle.switchboard.proofs.BoxSeats.{Divides, saw_none, splits}
 
@@ -156,9 +156,9 @@ module _ {M W : Type 0} (fits : W → ℕ → M → Type 0) (g : Ground M W) (ne
         maker = λ a e. cc;
       }
     where
-      one_seat : (v : View M W) → Knows fits g first_order None 1 v → (j : ℕ) (u : View M W)
-          → (let l : List (View M W) = v ∷ [] in get_elem? l j ≡ some u) → Knows fits g first_order None 1 u
-      one_seat v k zero u e = subst (λ z. Knows fits g first_order None 1 z) (some-injective v u e) k
+      one_seat : (v : View M W) → KnowsBoard fits g first_order None 1 v → (j : ℕ) (u : View M W)
+          → (let l : List (View M W) = v ∷ [] in get_elem? l j ≡ some u) → KnowsBoard fits g first_order None 1 u
+      one_seat v k zero u e = subst (λ z. KnowsBoard fits g first_order None 1 z) (some-injective v u e) k
       one_seat v k (suc j) u e = absurd (some-ne-none u (sym e))
 
       one_board : (i : ℕ) (k : Ground M W) → (let l : List (Ground M W) = g ∷ [] in get_elem? l i ≡ some k) → k ≡ g
@@ -231,7 +231,7 @@ module _ {M W : Type 0} (fits : W → ℕ → M → Type 0) (g : Ground M W) (ne
 
   -- the pass that was dealt
   pub dealt_pass : (id : TableId) (number count calls : ℕ) (m : Seat M W) → m ≡ (just_one (first_view g number (suc count)), [])
-      → IsSized id g.boxes → number < g.boxes → calls ≤ 2 ^ 56
+      → IsBoardTable id g.boxes → number < g.boxes → calls ≤ 2 ^ 56
       → IsBoxPass fits id number calls false g.world.value g.boxes m
   dealt_pass id number count calls m is sized short enough =
       subst (λ z. IsBoxPass fits id number calls false g.world.value g.boxes z) (sym is) record {
@@ -248,7 +248,7 @@ module _ {M W : Type 0} (fits : W → ℕ → M → Type 0) (g : Ground M W) (ne
         budget = enough;
         hands =
             λ q there.
-            subst (λ h. IsIdle calls h)
+            subst (λ h. IsIdleHand calls h)
             (sym (ap (λ l. get_or l q (bare 0)) (one_bares g.boxes (suc count)) ∙ bares_at g.boxes 1 q there)) record {
               tickets = refl;
               inside = refl;
@@ -264,7 +264,7 @@ module _ {M W : Type 0} (fits : W → ℕ → M → Type 0) (g : Ground M W) (ne
   deals_from first (suc count) id v is some_of = deals_one first count id v is
 
   pub dealt_from : (id : TableId) (number left calls : ℕ) (m own_me : Seat M W) → m ≡ (first_view g number left, [])
-      → own_me ≡ (just_one m.0, []) → 0 < left → IsSized id g.boxes → number < g.boxes → calls ≤ 2 ^ 56
+      → own_me ≡ (just_one m.0, []) → 0 < left → IsBoardTable id g.boxes → number < g.boxes → calls ≤ 2 ^ 56
       → IsBoxPass fits id number calls false g.world.value g.boxes own_me
   dealt_from id number zero calls m own_me is own_is some_of sized short enough = absurd (omega arith)
   dealt_from id number (suc count) calls m own_me is own_is some_of sized short enough =

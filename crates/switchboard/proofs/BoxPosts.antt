@@ -21,7 +21,7 @@ use Rattle.switchboard.specs.Sights.{Sight}
 use Rattle.switchboard.specs.Promises.{Looked, Added, WasPosted, WasRefused}
 use Rattle.switchboard.specs.Proved.Entries.{job_stays}
 use Rattle.switchboard.specs.Knowing.{hand_at, with_seen, counted_up}
-use Rattle.switchboard.specs.PerBox.{View, Asks, Tells, IsInside, Seat}
+use Rattle.switchboard.specs.PerBox.{View, LeavesOneEvent, TellsOrder, IsInside, Seat}
 use Rattle.switchboard.specs.BoxPasses.{box_sight, IsBoxPass}
 use Rattle.switchboard.specs.BoxAnswers.{SawMore, PutIn}
 use Rattle.switchboard.proofs.BoxCalls.{Later, Visit, own_part, first_later, step_later, own_same, stays_on, recorded_is, added_is}
@@ -87,7 +87,7 @@ module _ {M W : Type 0} (fits : W → ℕ → M → Type 0) (id : TableId) (numb
               let was : HasJob number job m.0.seen.order = subst (λ (z : Sight M W). HasJob z.number job z.seen.order) (sym see) has in
               subst (λ k. HasJob number k v.0.seen.order) (sym under) (job_stays number job m.0.seen.order v.0.seen.order (sym list) was)
 
-          pub made_asks : Asks fits to (passes x y) v.0
+          pub made_asks : LeavesOneEvent fits to (passes x y) v.0
           made_asks =
               let world : s.seen.world ≡ p.base.world.value = sym (ap (λ (z : Sight M W). z.seen.world) see) ∙ sym p.world in
               inr (
@@ -104,7 +104,7 @@ module _ {M W : Type 0} (fits : W → ℕ → M → Type 0) (id : TableId) (numb
                 ),
               )
 
-          module _ (out : Seat M W) (gone : lock.Left (hand_at to) (Tells fits to) y v out) (id' : TableId) (same : id' ≡ id) where
+          module _ (out : Seat M W) (gone : lock.Left (hand_at to) (TellsOrder fits to) y v out) (id' : TableId) (same : id' ≡ id) where
             visit : Visit fits to x y m in_it v out
             visit = record {
               inside = inside;
@@ -140,7 +140,7 @@ module _ {M W : Type 0} (fits : W → ℕ → M → Type 0) (id : TableId) (numb
 
         -- the message came back
         module _ (y : List (Event M)) (is : v ≡ (with_seen v.0.seen in_it.0, in_it.1)) (unchanged : y ≡ x) (out : Seat M W)
-            (gone : lock.Left (hand_at to) (Tells fits to) y v out) (id' : TableId) (same : id' ≡ id) where
+            (gone : lock.Left (hand_at to) (TellsOrder fits to) y v out) (id' : TableId) (same : id' ≡ id) where
           pub refused_on : IsBoxPass fits id' number (left - 1) made w boxes out
               × Looked fits before (box_sight id' number (left - 1) made w boxes out.0.seen) × (out.0.seen ≡ v.0.seen)
           refused_on =
@@ -160,12 +160,13 @@ module _ {M W : Type 0} (fits : W → ℕ → M → Type 0) (id : TableId) (numb
       -- the mailbox is left with the message, or as it was
       pub post_asks : (r : Result (Unit {0}) (PostFault M)) (y : List (Event M)) (v : Seat M W)
           → PutIn fits number job message r x y in_it v → (hand_at to v.0).seen ≡ (hand_at to in_it.0).seen
-          → (z : List (Event M)) → EndsIn (hand_at to v.0).seen z → Asks fits to (passes z y) v.0
+          → (z : List (Event M)) → EndsIn (hand_at to v.0).seen z → LeavesOneEvent fits to (passes z y) v.0
       post_asks r y v put hand z ends =
-          subst (λ k. Asks fits to (passes k y) v.0)
+          subst (λ k. LeavesOneEvent fits to (passes k y) v.0)
           (EndsIn-same (hand_at to in_it.0).seen x z inside.found (subst (λ l. EndsIn l z) hand ends)) (asks r put)
         where
-          asks : (q : Result (Unit {0}) (PostFault M)) → PutIn fits number job message q x y in_it v → Asks fits to (passes x y) v.0
+          asks : (q : Result (Unit {0}) (PostFault M)) → PutIn fits number job message q x y in_it v
+              → LeavesOneEvent fits to (passes x y) v.0
           asks (Ok o) t = made_asks v t.0 y t.2 t.3
           asks (Err (fault.Spent back)) t = absurd t
           asks (Err (fault.Memory back)) t = inl t.3
@@ -173,7 +174,7 @@ module _ {M W : Type 0} (fits : W → ℕ → M → Type 0) (id : TableId) (numb
 
       module _ (r : Result (Unit {0}) (PostFault M)) (y : List (Event M)) (v : Seat M W)
           (put : PutIn fits number job message r x y in_it v) (out : Seat M W)
-          (gone : lock.Left (hand_at to) (Tells fits to) y v out) (id' : TableId) (same : id' ≡ id) where
+          (gone : lock.Left (hand_at to) (TellsOrder fits to) y v out) (id' : TableId) (same : id' ≡ id) where
         pub post_on : IsBoxPass fits id' number (left - 1) made w boxes out
         post_on = on r put
           where

@@ -8,7 +8,7 @@ use Rattle.post_ledger.specs.Orders.{own, HasJob}
 use Rattle.switchboard.specs.declared.calls.Abort.{Abort}
 use Rattle.switchboard.specs.declared.lock_per_box.knowing.Own.{Own}
 use Rattle.switchboard.specs.Proved.Entries.{job_stays}
-use Rattle.switchboard.specs.PerBox.{View, flag, Looked, Seat}
+use Rattle.switchboard.specs.PerBox.{View, flag, LookedAtWord, Seat}
 
 -- bit 63 is clear where there was no abort
 pub not_flagged : (low : ℕ) (a : Option Abort) → low + flag a < 2 ^ 63 → a ≡ None
@@ -19,7 +19,7 @@ pub flagged : (low : ℕ) (a : Option Abort) → low < 2 ^ 63 → 2 ^ 63 ≤ low
 flagged low None small large = absurd (omega arith)
 flagged low (Some a) small large = refl
 
-module _ {M W : Type 0} (fits : W → ℕ → M → Type 0) (m w : Seat M W) (n : ℕ) (looked : Looked fits m n w) where
+module _ {M W : Type 0} (fits : W → ℕ → M → Type 0) (m w : Seat M W) (n : ℕ) (looked : LookedAtWord fits m n w) where
   -- a pass has its job still when it has looked
   pub job_seen : (job : ℕ)
       → ((o : Own M) × (m.0.lanes ≡ o ∷ []) × (own o.number m.0.seen.order ≡ o.events) × HasJob o.number job m.0.seen.order)

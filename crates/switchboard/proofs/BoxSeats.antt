@@ -9,7 +9,8 @@ use Rattle.atomic_table.specs.Table as table
 use Rattle.ticket_lock.specs.declared.hand.Hand.{Hand}
 use Rattle.ticket_lock.specs.Count.{times, total}
 use Rattle.ticket_lock.specs.Core.{in_hand, Fits, Core}
-use Rattle.ticket_lock.specs.Proved.Facts.{total_set, total-snoc, at_set, at_snoc, at_append, set_else, map-set, map-snoc, map-append, at-map}
+use Rattle.ticket_lock.specs.Proved.Facts.{total_set, total-snoc, at_set, at_snoc, at_append, set_else, map-set, map-snoc, map-append}
+use Rattle.ticket_lock.specs.Proved.Facts.{at-map}
 use Rattle.ticket_lock.specs.Proved.Facts.{times-append}
 use Rattle.ticket_lock.proofs.CoreSteps.{core_same}
 use Rattle.post_ledger.specs.declared.event.Event.{Event}
@@ -19,7 +20,7 @@ use Rattle.switchboard.specs.declared.lock_per_box.knowing.Ground.{Ground}
 use Rattle.switchboard.specs.declared.lock_per_box.knowing.Seen.{Seen}
 use Rattle.switchboard.specs.declared.lock_per_box.knowing.Own.{Own}
 use Rattle.switchboard.specs.Knowing.{bare, merged_hands, unseen, made_by, hand_at, numbers, makes, only_seen, merged}
-use Rattle.switchboard.specs.PerBox.{View, word_of, Saw, Knows, Rule, Boxes}
+use Rattle.switchboard.specs.PerBox.{View, word_of, Saw, KnowsBoard, Rule, Boxes}
 
 module _ {T : Type 0} where
   -- two hands have what one had
@@ -123,7 +124,7 @@ module _ {M W : Type 0} (fits : W → ℕ → M → Type 0) (g : Ground M W) whe
 
   -- a seat that has nothing, and saw this
   pub knows_only : (order : List (Entry M)) (first : Option Abort) (low : ℕ) (x : Seen M) → Saw fits g order first low x
-      → Knows fits g order first low (only_seen x)
+      → KnowsBoard fits g order first low (only_seen x)
   knows_only order first low x saw = record {
     board = λ i k e. absurd (some-ne-none k (sym e));
     saw = saw;
@@ -136,7 +137,7 @@ module _ {M W : Type 0} (fits : W → ℕ → M → Type 0) (g : Ground M W) whe
   module _ (s : Boxes M W) (r : Rule fits g s) (id : ℕ) (v : View M W) (is_at : get_elem? s.views id ≡ some v) where
     -- a seat cut in two
     pub splits : (a b : View M W) → ((q : ℕ) → q < g.boxes → Divides (hand_at q v) (hand_at q a) (hand_at q b))
-        → Knows fits g r.order r.first r.low a → Knows fits g r.order r.first r.low b
+        → KnowsBoard fits g r.order r.first r.low a → KnowsBoard fits g r.order r.first r.low b
         → ((n : ℕ) → times n (numbers a) + times n (numbers b) ≡ times n (numbers v)) → length a.lanes + length b.lanes ≡ length v.lanes
         → ((n : ℕ) → makes n a + makes n b ≡ makes n v)
         → a.owes + b.owes ≡ v.owes → a.budget + b.budget ≡ v.budget
@@ -171,10 +172,10 @@ module _ {M W : Type 0} (fits : W → ℕ → M → Type 0) (g : Ground M W) whe
           count = omega (arith, sum (λ (u : View M W). u.owes) owes, r.count);
           few = omega (arith, sum (λ (u : View M W). u.budget) budget, r.few);
           each = λ j u e. elim (at_snoc (set s.views id a) b u j e) [
-            | inl t ↦ subst (λ z. Knows fits g r.order r.first r.low z) t.1 knows_b
+            | inl t ↦ subst (λ z. KnowsBoard fits g r.order r.first r.low z) t.1 knows_b
             | inr t ↦
                 elim (at_set s.views id j a u t) [
-                  | inl q ↦ subst (λ z. Knows fits g r.order r.first r.low z) q.1 knows_a
+                  | inl q ↦ subst (λ z. KnowsBoard fits g r.order r.first r.low z) q.1 knows_a
                   | inr q ↦ r.each j u q.1
                 ]
           ];
@@ -208,7 +209,7 @@ module _ {M W : Type 0} (fits : W → ℕ → M → Type 0) (g : Ground M W) whe
         let there : get_elem? (set s.views id u) other ≡ some w = set_else s.views id other u ne ∙ at_w in
         let sum : (f : View M W → ℕ) → f z ≡ 0 → f u ≡ f v + f w → total f (set (set s.views id u) other z) ≡ total f s.views =
         λ f none e. omega (arith, total_set f s.views id v u is_at, total_set f (set s.views id u) other w z there) in
-        let knows_u : Knows fits g r.order r.first r.low u = record {
+        let knows_u : KnowsBoard fits g r.order r.first r.low u = record {
           board = λ i k e. elim (at_append v.boards w.boards i k e) [ inl t ↦ kv.board i k t | inr t ↦ kw.board t.0 k t.1 ];
           saw = kv.saw;
           told = kw.saw;
@@ -254,11 +255,11 @@ module _ {M W : Type 0} (fits : W → ℕ → M → Type 0) (g : Ground M W) whe
           few = omega (arith, sum (λ (x : View M W). x.budget) refl refl, r.few);
           each = λ j x e. elim (at_set (set s.views id u) other j z x e) [
             | inl t ↦
-                subst (λ k. Knows fits g r.order r.first r.low k) t.1
+                subst (λ k. KnowsBoard fits g r.order r.first r.low k) t.1
                 (knows_only r.order r.first r.low unseen (saw_none r.order r.first r.low))
             | inr t ↦
                 elim (at_set s.views id j u x t.1) [
-                  | inl q ↦ subst (λ k. Knows fits g r.order r.first r.low k) q.1 knows_u
+                  | inl q ↦ subst (λ k. KnowsBoard fits g r.order r.first r.low k) q.1 knows_u
                   | inr q ↦ r.each j x q.1
                 ]
           ];

@@ -20,8 +20,8 @@ use Rattle.switchboard.specs.declared.lock_per_box.knowing.Seen.{Seen}
 use Rattle.switchboard.specs.Sights.{Sight}
 use Rattle.switchboard.specs.Promises.{Took}
 use Rattle.switchboard.specs.Knowing.{hand_at}
-use Rattle.switchboard.specs.PerBox.{View, flag, Asks, Tells, IsInside, Looked, Seat}
-use Rattle.switchboard.specs.BoxPasses.{IsIdle, box_sight, IsBoxPass}
+use Rattle.switchboard.specs.PerBox.{View, flag, LeavesOneEvent, TellsOrder, IsInside, LookedAtWord, Seat}
+use Rattle.switchboard.specs.BoxPasses.{IsIdleHand, box_sight, IsBoxPass}
 use Rattle.switchboard.specs.BoxAnswers.{TookOut}
 use Rattle.switchboard.proofs.Visits.{posted_fits}
 use Rattle.switchboard.proofs.BoxPuts.{not_flagged, flagged}
@@ -39,7 +39,7 @@ low_some low n (Some a) is some_of zero = some_of (omega arith)
 
 module _ {M W : Type 0} (fits : W → ℕ → M → Type 0) (id : TableId) (number left : ℕ) (made : Bool) (w : W) (boxes : ℕ) (m : Seat M W)
     (p : IsBoxPass fits id number left made w boxes m) (some_of : left ≡ 0 → ⊥)
-    (n : ℕ) (u : Seat M W) (looked : Looked fits m n u) where
+    (n : ℕ) (u : Seat M W) (looked : LookedAtWord fits m n u) where
   abbrev before : Sight M W
   before = box_sight id number left made w boxes m.0.seen
 
@@ -87,23 +87,24 @@ module _ {M W : Type 0} (fits : W → ℕ → M → Type 0) (id : TableId) (numb
     alive = inside.aborted ∙ not_flagged looked.low u.0.seen.aborted (omega (arith, looked.found))
 
     module _ (r : Taken M) (y : List (Event M)) (took : TookOut r x y) where
-      pub take_asks : (z : List (Event M)) → EndsIn (hand_at number v.0).seen z → Asks fits number (passes z y) v.0
+      pub take_asks : (z : List (Event M)) → EndsIn (hand_at number v.0).seen z → LeavesOneEvent fits number (passes z y) v.0
       take_asks z ends =
-          subst (λ k. Asks fits number (passes k y) v.0) (EndsIn-same (hand_at number v.0).seen x z inside.found ends) (asks r took)
+          subst (λ k. LeavesOneEvent fits number (passes k y) v.0) (EndsIn-same (hand_at number v.0).seen x z inside.found ends)
+          (asks r took)
         where
-          asks : (q : Taken M) → TookOut q x y → Asks fits number (passes x y) v.0
+          asks : (q : Taken M) → TookOut q x y → LeavesOneEvent fits number (passes x y) v.0
           asks (answer.Message job k) t =
               inr (own_part fits id number left made w boxes m p, event.Take t.0 k, same_lanes ∙ p.lanes, list, t.3, (refl, t.1))
           asks answer.Empty t = inl t.0
           asks answer.Closed t = absurd t
           asks answer.Aborted t = absurd t
 
-      module _ (out : Seat M W) (gone : lock.Left (hand_at number) (Tells fits number) y v out) where
+      module _ (out : Seat M W) (gone : lock.Left (hand_at number) (TellsOrder fits number) y v out) where
         visit : Visit fits number x y u v v out
         visit = record { inside = inside; hands = refl; slots = refl; left = gone }
 
-        idle : (k : ℕ) → k < boxes → IsIdle left (hand_at k u.0)
-        idle k near = subst (λ (z : Seat M W). IsIdle left (hand_at k z.0)) (sym looked.after) (p.hands k near)
+        idle : (k : ℕ) → k < boxes → IsIdleHand left (hand_at k u.0)
+        idle k near = subst (λ (z : Seat M W). IsIdleHand left (hand_at k z.0)) (sym looked.after) (p.hands k near)
 
         board : v.0.boards ≡ m.0.boards
         board = ap (λ (z : View M W). z.boards) inside.after ∙ ap (λ (z : Seat M W). z.0.boards) looked.after

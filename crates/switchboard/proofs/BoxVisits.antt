@@ -9,7 +9,7 @@ use Rattle.ticket_lock.specs.Calls as lock
 use Rattle.post_ledger.specs.declared.event.Event.{Event}
 use Rattle.switchboard.specs.declared.lock_per_box.knowing.Seen.{Seen}
 use Rattle.switchboard.specs.Knowing.{hand_at, with_hand, with_seen}
-use Rattle.switchboard.specs.PerBox.{View, IsReady, Tells, IsInside, News, HasOwn, Seat}
+use Rattle.switchboard.specs.PerBox.{View, CanDraw, TellsOrder, IsInside, News, HasOwn, Seat}
 
 only_ticket : (n : ℕ) (l : List ℕ) → l ≡ [] → without n (l ++ n ∷ []) ≡ []
 only_ticket n l none = ap (λ k. without n (k ++ n ∷ [])) none ∙ rw (eq-eqb n n refl) refl
@@ -20,8 +20,8 @@ module _ {M W : Type 0} (fits : W → ℕ → M → Type 0) where
   hand_news q h v x n = record { begins = n.begins; aborted = n.aborted; knows = n.knows; sound = n.sound; close = n.close }
 
   -- a seat that was ready, drew and entered
-  pub inside_is : (q ticket : ℕ) (x : List (Event M)) (m w : Seat M W) → IsReady (hand_at q m.0)
-      → lock.Came (hand_at q) (Tells fits q) q m ticket x w → IsInside fits q x m w
+  pub inside_is : (q ticket : ℕ) (x : List (Event M)) (m w : Seat M W) → CanDraw (hand_at q m.0)
+      → lock.Came (hand_at q) (TellsOrder fits q) q m ticket x w → IsInside fits q x m w
   inside_is q ticket x m w ready came =
       let d = came.0 in
       let drew = came.1 in

@@ -27,8 +27,9 @@ use Rattle.switchboard.specs.Sights.{IsSound, abort_of}
 use Rattle.switchboard.specs.Proved.Entries.{job_stays}
 use Rattle.switchboard.specs.Knowing.{either_abort, state_of, both_seen, with_seen, numbers, makes, made_by, counted_up, counted_down}
 use Rattle.switchboard.specs.Knowing.{made_abort, taken_in}
-use Rattle.switchboard.specs.PerBox.{View, flag, Saw, Rule, Looked, Raised, TookIn, Seat, owed}
-use Rattle.switchboard.specs.Proved.PerBoxFacts.{Grows, grows_same, saw_grows, saw_all, sound_with, closed_at_zero, fewer_dones, news_is, rebuilt}
+use Rattle.switchboard.specs.PerBox.{View, flag, Saw, Rule, LookedAtWord, Raised, SeatTookIn, Seat, owed}
+use Rattle.switchboard.specs.Proved.PerBoxFacts.{BoardGrows, grows_same, saw_grows, saw_all, sound_with, closed_at_zero, fewer_dones}
+use Rattle.switchboard.specs.Proved.PerBoxFacts.{news_is, rebuilt}
 use Rattle.switchboard.specs.Proved.PerBoxFacts.{locks_still, made_still}
 
 flag_small : (a : Option Abort) → flag a ≤ 2 ^ 63
@@ -62,7 +63,7 @@ module _ {M W : Type 0} (fits : W → ℕ → M → Type 0) (g : Ground M W) whe
       let has_still = job_stays o.number job v.seen.order r.order mine has in
       let open_still : r.low ≡ 0 → ⊥ = λ e. no_job g.boxes r.order o.number job r.sound.lawful
       (closed_at_zero g.boxes r.order r.low (owed s.views) r.sound.lawful r.count e) has_still in
-      let on : Grows r.order r.order r.first r.first r.low
+      let on : BoardGrows r.order r.order r.first r.first r.low
       (r.low + 1) = record { begins = StartsWith-refl r.order; aborted = λ a e. e; still = λ e. absurd (open_still e) } in
       let n : ℕ = (get_or s.words 0 0 + 1) % 2 ^ 64 in
       let budget = total_at (λ (u : View M W). u.budget) s.views id v is_at in
@@ -90,7 +91,7 @@ module _ {M W : Type 0} (fits : W → ℕ → M → Type 0) (g : Ground M W) whe
       let k = r.each id v is_at in
       let owes = total_at (λ (u : View M W). u.owes) s.views id v is_at in
       let above : 0 < r.low = omega (arith, r.count, fewer_dones g.boxes r.order r.sound.lawful) in
-      let on : Grows r.order r.order r.first r.first r.low
+      let on : BoardGrows r.order r.order r.first r.first r.low
       (r.low - 1) = record { begins = StartsWith-refl r.order; aborted = λ a e. e; still = λ e. absurd (omega arith) } in
       let n : ℕ = (get_or s.words 0 0 + (2 ^ 64 - 1)) % 2 ^ 64 in
       let e : n ≡ r.low - 1 + flag r.first = omega (arith, r.word, r.few, flag_small r.first) in
@@ -109,7 +110,7 @@ module _ {M W : Type 0} (fits : W → ℕ → M → Type 0) (g : Ground M W) whe
       (w, table.keeps, tt, holds, refl)
 
   -- a look at the word
-  pub looks : (slots id : ℕ) (m : Seat M W) → table.Allows (Rule fits g) slots id m 0 (λ n. n) (Looked fits m)
+  pub looks : (slots id : ℕ) (m : Seat M W) → table.Allows (Rule fits g) slots id m 0 (λ n. n) (LookedAtWord fits m)
   looks slots id m s r len is_at small =
       let v : View M W = m.0 in
       let x : Seen M = record { order = r.order; aborted = r.first; knows = r.low == 0 } in
@@ -190,7 +191,7 @@ module _ {M W : Type 0} (fits : W → ℕ → M → Type 0) (g : Ground M W) whe
       let short = StartsWith-length (own n c) (own n b) (more c b q) in
       StartsWith-whole (own n b) (own n a) (more b a p) (omega (arith, ap length same))
 
-  pub takes_in : (slots id : ℕ) (m : Seat M W) → table.Allows (Rule fits g) slots id m 0 (λ n. n) (λ n. TookIn fits m)
+  pub takes_in : (slots id : ℕ) (m : Seat M W) → table.Allows (Rule fits g) slots id m 0 (λ n. n) (λ n. SeatTookIn fits m)
   takes_in slots id m s r len is_at small =
       let v : View M W = m.0 in
       let x : Seen M = both_seen v.seen v.told in
@@ -251,7 +252,7 @@ module _ {M W : Type 0} (fits : W → ℕ → M → Type 0) (g : Ground M W) whe
       let n : ℕ = bit_or (get_or s.words 0 0) (2 ^ 63) in
       let low_small : r.low < 2 ^ 63 = omega (arith, r.few) in
       let e : n ≡ r.low + flag first = ap (λ (i : ℕ). bit_or i (2 ^ 63)) r.word ∙ or_flag r.low r.first a low_small in
-      let on : Grows r.order r.order r.first first r.low
+      let on : BoardGrows r.order r.order r.first first r.low
       r.low = record { begins = StartsWith-refl r.order; aborted = λ b is. stays r.first b is; still = λ z. (z, refl) } in
       let sound : IsSound fits
       (state_of g record { order = r.order; aborted = first; knows = false }) = record {

@@ -2,15 +2,15 @@
 use Rattle.std.proofs.Common.{◌≡◌, ℕ, ◌<◌, Bool, true, false, None, Ok, refl, sym, ap, ◌∙◌, subst, arith, IfErr, OnOk}
 use Rattle.std.specs.Prelude.{Result}
 use Rattle.ticket_lock.specs.Lanes.{Standing, Held}
-use Rattle.ticket_lock.specs.Promises.{Entered}
+use Rattle.ticket_lock.specs.Promises.{EnteredLock}
 use Rattle.post_ledger.specs.declared.entry.Entry.TheVariants.{Posted, Completed}
 use Rattle.post_ledger.specs.Orders.{HasJob}
 use Rattle.switchboard.specs.declared.calls.Abort.{Abort}
 use Rattle.switchboard.specs.declared.calls.Cause.{Cause}
 use Rattle.switchboard.specs.declared.calls.PostFault.{PostFault}
 use Rattle.switchboard.specs.declared.calls.Taken.{Taken}
-use Rattle.switchboard.specs.Sights.{State, Sight, abort_of}
-use Rattle.switchboard.specs.Books.{with_entry, Answers, Refuses}
+use Rattle.switchboard.specs.Sights.{BoardState, Sight, abort_of}
+use Rattle.switchboard.specs.Books.{with_entry, TakeAnswers, RefusesPost}
 use Rattle.switchboard.specs.Passes.{calls_of, share, sight_of, Comes, IsPass}
 use Rattle.switchboard.specs.Promises.{Took, Added, MadeAbort}
 use Rattle.switchboard.specs.Proved.Entries.{Allowed}
@@ -21,16 +21,16 @@ use Rattle.switchboard.proofs.Visits.{PostAnswer, abort_pass, aborted_when}
 
 module _ {M W : Type 0} (fits : W → ℕ → M → Type 0) where
   -- The pass shows itself as s and has the number n; it is inside, finds x and is lent it as v.
-  pub record Inside (a : Standing (State M W)) (w : W) (boxes : ℕ) (kept : Bool) (p : IsPass fits a w boxes kept)
-      (x v : State M W) (s : Sight M W) (n : ℕ) : Type 0 where
+  pub record Inside (a : Standing (BoardState M W)) (w : W) (boxes : ℕ) (kept : Bool) (p : IsPass fits a w boxes kept)
+      (x v : BoardState M W) (s : Sight M W) (n : ℕ) : Type 0 where
     pub found : Found fits a.number p.last x
     pub see : showing fits a kept p.last ≡ s
     pub number : n ≡ a.number
     pub lent : v ≡ x
     pub near : a.number < x.boxes
 
-  pub inside : {guard : Held (State M W)} {a m : Standing (State M W)} {w : W} {boxes : ℕ} {kept : Bool} {v : State M W}
-      {s : Sight M W} {n : ℕ} → (p : IsPass fits a w boxes kept) → Entered (Comes fits) share guard a m
+  pub inside : {guard : Held (BoardState M W)} {a m : Standing (BoardState M W)} {w : W} {boxes : ℕ} {kept : Bool} {v : BoardState M W}
+      {s : Sight M W} {n : ℕ} → (p : IsPass fits a w boxes kept) → EnteredLock (Comes fits) share guard a m
       → sight_of a w boxes kept ≡ s → n ≡ s.number → v ≡ guard.value → Inside a w boxes kept p guard.value v s n
   inside {guard} {a} {m} {w} {boxes} {kept} p e view number lent =
       let f = found_here fits guard a m w boxes kept p e in
@@ -44,14 +44,14 @@ module _ {M W : Type 0} (fits : W → ℕ → M → Type 0) where
             omega (arith, f.before.boxes, p.same_boxes, p.number);
       }
 
-  module _ {a : Standing (State M W)} {w : W} {boxes : ℕ} {kept : Bool} {p : IsPass fits a w boxes kept}
-      {x v : State M W} {s : Sight M W} {n : ℕ} (h : Inside a w boxes kept p x v s n) where
+  module _ {a : Standing (BoardState M W)} {w : W} {boxes : ℕ} {kept : Bool} {p : IsPass fits a w boxes kept}
+      {x v : BoardState M W} {s : Sight M W} {n : ℕ} (h : Inside a w boxes kept p x v s n) where
     -- What is said of the number and the state that the call names holds of the lane's number and the state found, and
     -- back.
-    pub to_lane : (R : ℕ → State M W → Type 0) → R n v → R a.number x
+    pub to_lane : (R : ℕ → BoardState M W → Type 0) → R n v → R a.number x
     to_lane R r = subst (λ k. R k x) h.number (subst (λ z. R n z) h.lent r)
 
-    pub to_call : (R : ℕ → State M W → Type 0) → R a.number x → R n v
+    pub to_call : (R : ℕ → BoardState M W → Type 0) → R a.number x → R n v
     to_call R r = subst (λ k. R k v) (sym h.number) (subst (λ z. R a.number z) (sym h.lent) r)
 
     -- The pass's job is one of what it finds.
@@ -66,17 +66,18 @@ module _ {M W : Type 0} (fits : W → ℕ → M → Type 0) where
     world_inside = h.found.before.world ∙ ap (λ z. z.seen.world) h.see
 
     -- It takes.
-    pub taking : (answer : Taken M) {y : State M W} → Answers a.number answer x y → Kept fits a.number x y
+    pub taking : (answer : Taken M) {y : BoardState M W} → TakeAnswers a.number answer x y → Kept fits a.number x y
     taking answer {y} is = step_keeps fits a.number x y h.found.sound (take_step fits a.number answer x y h.near is)
 
     -- It completes a job of its own.
-    pub completing : {job : ℕ} {y : State M W} → HasJob a.number job x.order →
+    pub completing : {job : ℕ} {y : BoardState M W} → HasJob a.number job x.order →
         y ≡ with_entry (Completed a.number job) x → Kept fits a.number x y
     completing {job} {y} has is = step_keeps fits a.number x y h.found.sound
         (adds (Completed a.number job) is refl (job_allowed fits a.number job x h.found.sound has))
 
     -- It aborts.
-    pub aborting : (q : Abort) {y : State M W} → q.by ≡ a.number → y ≡ record x { aborted = abort_of x.aborted q } → Kept fits a.number x y
+    pub aborting : (q : Abort) {y : BoardState M W} → q.by ≡ a.number → y ≡ record x { aborted = abort_of x.aborted q }
+        → Kept fits a.number x y
     aborting q {y} by is = step_keeps fits a.number x y h.found.sound (aborts q is by (subst (λ k. k < x.boxes) (sym by) h.near))
 
     -- It may post under a job of its own what fits, and posts it or is refused.
@@ -86,20 +87,20 @@ module _ {M W : Type 0} (fits : W → ℕ → M → Type 0) where
         post_allowed fits a.number job to m x (omega (arith, near, boxes_inside)) has (subst (λ z. fits z to m) (sym world_inside) fit)
 
     -- It posts the message to a mailbox under the job, and leaves y; or it is refused.
-    pub record Posting (to job : ℕ) (m : M) (answer : Result (Unit {0}) (PostFault M)) (y : State M W) : Type 0 where
+    pub record Posting (to job : ℕ) (m : M) (answer : Result (Unit {0}) (PostFault M)) (y : BoardState M W) : Type 0 where
       pub may : Allowed fits (Posted to a.number m job) x
       pub ok : OnOk answer ((x.aborted ≡ None) × (y ≡ with_entry (Posted to a.number m job) x))
-      pub err : IfErr answer (λ f. Refuses m f x y)
+      pub err : IfErr answer (λ f. RefusesPost m f x y)
       pub keeps : Kept fits a.number x y
 
-    pub posting : (to job : ℕ) (m : M) (answer : Result (Unit {0}) (PostFault M)) (y : State M W) →
+    pub posting : (to job : ℕ) (m : M) (answer : Result (Unit {0}) (PostFault M)) (y : BoardState M W) →
         HasJob s.number job s.seen.order → (to < s.seen.boxes) × fits s.seen.world to m
         → OnOk answer ((v.aborted ≡ None) × (y ≡ with_entry (Posted to n m job) v)) →
-        IfErr answer (λ f. Refuses m f v y) → Posting to job m answer y
+        IfErr answer (λ f. RefusesPost m f v y) → Posting to job m answer y
     posting to job m answer y has may_be ok err =
         let may = allowing (job_inside has) may_be.0 may_be.1 in
         let ok_here = to_lane (λ k z. OnOk answer ((z.aborted ≡ None) × (y ≡ with_entry (Posted to k m job) z))) ok in
-        let err_here = to_lane (λ k z. IfErr answer (λ f. Refuses m f z y)) err in record {
+        let err_here = to_lane (λ k z. IfErr answer (λ f. RefusesPost m f z y)) err in record {
           may = may;
           ok = ok_here;
           err = err_here;
@@ -112,12 +113,12 @@ module _ {M W : Type 0} (fits : W → ℕ → M → Type 0) where
     had_calls {r} is some_of = some_calls fits r a kept p.last s h.see is some_of
 
     -- It left y and is outside: what it shows then.
-    pub shown_after : {b : Standing (State M W)} {y : State M W} (kept' : Bool) → Visit fits a b x y →
+    pub shown_after : {b : Standing (BoardState M W)} {y : BoardState M W} (kept' : Bool) → Visit fits a b x y →
         Kept fits a.number x y → sight_of b w boxes kept' ≡ showing fits b kept' y
     shown_after {b} {y} kept' visit keeps = after_shows fits a b x y w boxes kept kept' p visit keeps
 
     -- So what holds of what it showed and shows then holds of its sights.
-    pub seen_after : {b : Standing (State M W)} {y : State M W} (kept' : Bool) (R : Sight M W → Sight M W → Type 0) →
+    pub seen_after : {b : Standing (BoardState M W)} {y : BoardState M W} (kept' : Bool) (R : Sight M W → Sight M W → Type 0) →
         Visit fits a b x y → Kept fits a.number x y → R (showing fits a kept p.last) (showing fits b kept' y) →
         R s (sight_of b w boxes kept')
     seen_after {b} {y} kept' R visit keeps =
@@ -125,19 +126,19 @@ module _ {M W : Type 0} (fits : W → ℕ → M → Type 0) where
         (sym (shown_after kept' visit keeps))
 
     -- It was inside once, and left y.
-    module _ {b : Standing (State M W)} {y : State M W} (visit : Visit fits a b x y) where
+    module _ {b : Standing (BoardState M W)} {y : BoardState M W} (visit : Visit fits a b x y) where
       -- So, where a call was left, it is a pass still, and shows that it took,
-      pub takes_on : (answer : Taken M) → Answers n answer v y → {r : ℕ} → r ≡ s.calls → (r ≡ 0 → ⊥) →
+      pub takes_on : (answer : Taken M) → TakeAnswers n answer v y → {r : ℕ} → r ≡ s.calls → (r ≡ 0 → ⊥) →
           IsPass fits b w boxes kept
       takes_on answer answers is some_of =
-          let here = to_lane (λ k z. Answers k answer z y) answers in
+          let here = to_lane (λ k z. TakeAnswers k answer z y) answers in
           pass_stays fits a b x y w boxes kept p visit (taking answer here) (take_still fits a.number answer x y here)
           (had_calls is some_of)
 
-      pub shows_taken : (answer : Taken M) → Answers n answer v y → {r : ℕ} → r ≡ s.calls → (r ≡ 0 → ⊥) →
+      pub shows_taken : (answer : Taken M) → TakeAnswers n answer v y → {r : ℕ} → r ≡ s.calls → (r ≡ 0 → ⊥) →
           Took fits (Ok answer) s (sight_of b w boxes kept)
       shows_taken answer answers is some_of =
-          let here = to_lane (λ k z. Answers k answer z y) answers in
+          let here = to_lane (λ k z. TakeAnswers k answer z y) answers in
           seen_after kept (Took fits (Ok answer)) visit (taking answer here)
           (took_is fits answer a b x y w boxes kept p visit h.near here (had_calls is some_of))
 

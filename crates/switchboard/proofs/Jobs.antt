@@ -25,7 +25,7 @@ use Rattle.switchboard.specs.declared.calls.Abort.{Abort}
 use Rattle.switchboard.specs.declared.calls.Taken as answers
 use Rattle.switchboard.specs.declared.calls.Taken.TheVariants as answer
 use Rattle.ticket_lock.specs.declared.lane.Spent.{Spent}
-use Rattle.switchboard.specs.Promises.{AreFirst, MadeNone, Added, Took, TookMessage, WasPosted, WasRefused, WasDone}
+use Rattle.switchboard.specs.Promises.{AreFirst, MadeNone, Added, Took, TookOldest, WasPosted, WasRefused, WasDone}
 use Rattle.switchboard.specs.Promises.{MadeAbort}
 use Rattle.switchboard.specs.Proved.Entries.{job_stays, takes_own, dones_own}
 use Rattle.switchboard.proofs.Settling.{get_front}
@@ -84,7 +84,7 @@ module _ {M W : Type 0} (fits : W → ℕ → M → Type 0) where
       subst (λ n. HasJob n j t.seen.order) (sym a.goes.number) (more_events s.number j s.seen.order t.seen.order e a.own none has)
 
   -- the job of a message taken is one of the pass
-  pub job_new : (s t : Sight M W) (job : ℕ) (m : M) → TookMessage fits job m s t → HasJob t.number job t.seen.order
+  pub job_new : (s t : Sight M W) (job : ℕ) (m : M) → TookOldest fits job m s t → HasJob t.number job t.seen.order
   job_new s t job m k =
       let n : ℕ = s.number in
       let front : List (Entry M) = k.added.front in
@@ -106,7 +106,7 @@ module _ {M W : Type 0} (fits : W → ℕ → M → Type 0) where
       )
 
   -- the job of a message taken is none that the pass had
-  pub job_other : (s t : Sight M W) (job j : ℕ) (m : M) → TookMessage fits job m s t → HasJob s.number j s.seen.order → j ≢ job
+  pub job_other : (s t : Sight M W) (job j : ℕ) (m : M) → TookOldest fits job m s t → HasJob s.number j s.seen.order → j ≢ job
   job_other s t job j m k has same =
       let n : ℕ = s.number in
       let rest = k.added.found.0 in
@@ -119,7 +119,7 @@ module _ {M W : Type 0} (fits : W → ℕ → M → Type 0) where
       omega (arith, count, k.number, has.0, same)
 
   -- a take leaves the jobs
-  pub take_keeps : (s t : Sight M W) (job j : ℕ) (m : M) → TookMessage fits job m s t → HasJob s.number j s.seen.order
+  pub take_keeps : (s t : Sight M W) (job j : ℕ) (m : M) → TookOldest fits job m s t → HasJob s.number j s.seen.order
       → HasJob t.number j t.seen.order
   take_keeps s t job j m k has = kept_added s t j (Taken s.number k.sender m) k.added (no_done_take s.number s.number k.sender m) has
 

@@ -17,10 +17,10 @@ use Rattle.std.proofs.Common.{Bool, true, false, None}
 use Rattle.std.proofs.lemmas.Option.{same_Some}
 use Rattle.std.specs.Prelude.{Option, is_some, IsSome}
 use Rattle.switchboard.specs.declared.calls.Abort.{Abort}
-use Rattle.switchboard.specs.Sights.{State}
+use Rattle.switchboard.specs.Sights.{BoardState}
 use Rattle.switchboard.specs.declared.calls.Taken.{Taken}
 use Rattle.switchboard.specs.declared.calls.Taken.TheVariants.{Message}
-use Rattle.switchboard.specs.Books.{Kept, with_entry, Takes, Answers}
+use Rattle.switchboard.specs.Books.{IsBook, with_entry, TakesOldest, TakeAnswers}
 
 module _ {X : Type 0} where
   set_here : (xs : List X) (i : ℕ) (x y : X) → slice_get (set xs i x) i ≡ Some y → x ≡ y
@@ -55,10 +55,10 @@ module _ {X : Type 0} where
 module _ {M : Type 0} where
   -- the order and its history go on by the same event
   pub kept_push : (hs : List (List (Event M))) (order : List (Entry M)) (cap cap' ps ds ps' ds' : ℕ) (e : Entry M) (h : List (Event M))
-      → Kept hs order cap ps ds → slice_get hs (mailbox_of e) ≡ Some h → mailbox_of e < length hs
+      → IsBook hs order cap ps ds → slice_get hs (mailbox_of e) ≡ Some h → mailbox_of e < length hs
       → MayFollow (part (mailbox_of e) order) (event_of e) → UnderJob order e → ps' ≡ ps + length (posts (event_of e ∷ []))
       → ds' ≡ ds + length (dones (event_of e ∷ [])) → 3 * ps' ≤ cap'
-      → Kept (set hs (mailbox_of e) (h ++ event_of e ∷ [])) (order ++ e ∷ []) cap' ps' ds'
+      → IsBook (set hs (mailbox_of e) (h ++ event_of e ∷ [])) (order ++ e ∷ []) cap' ps' ds'
   kept_push hs order cap cap' ps ds ps' ds' e h k at near may under more_posts more_dones room =
       let q : ℕ = mailbox_of e in
       let new : List (Event M) = h ++ event_of e ∷ [] in
@@ -86,9 +86,9 @@ module _ {M : Type 0} where
 
   -- the same with more room
   pub kept_grow : (hs : List (List (Event M))) (order order' : List (Entry M)) (cap cap' ps ds : ℕ) → order' ≡ order → cap ≤ cap'
-      → Kept hs order cap ps ds → Kept hs order' cap' ps ds
+      → IsBook hs order cap ps ds → IsBook hs order' cap' ps ds
   kept_grow hs order order' cap cap' ps ds same more k =
-      subst (λ l. Kept hs l cap' ps ds)
+      subst (λ l. IsBook hs l cap' ps ds)
       (sym same) record {
         lawful = k.lawful;
         parts = k.parts;
@@ -101,7 +101,7 @@ module _ {M : Type 0} where
   -- a board with the opening post alone
   pub kept_open : (hs : List (List (Event M))) (boxes to cap : ℕ) (m : M) (h : List (Event M)) → length hs ≡ boxes → boxes ≤ 64
       → to < boxes → ((q : ℕ) (x : List (Event M)) → slice_get hs q ≡ Some x → x ≡ []) → h ≡ Post boxes m ∷ [] → 3 ≤ cap
-      → Kept (set hs to h) (Posted to boxes m 0 ∷ []) cap 1 0
+      → IsBook (set hs to h) (Posted to boxes m 0 ∷ []) cap 1 0
   kept_open hs boxes to cap m h long few near none is room = record {
     lawful = subst (λ n. IsLawful n (Posted to boxes m 0 ∷ [])) (sym (length-set hs to h ∙ long)) (lawful_open boxes to m near);
     parts = λ j x there. elim (cases_eq j to) [
@@ -117,14 +117,14 @@ module _ {M : Type 0} where
   }
 
   -- there is room for a Take where a Post is not taken
-  pub room_take : (hs : List (List (Event M))) (order : List (Entry M)) (cap ps ds by : ℕ) → Kept hs order cap ps ds → by < length hs
+  pub room_take : (hs : List (List (Event M))) (order : List (Entry M)) (cap ps ds by : ℕ) → IsBook hs order cap ps ds → by < length hs
       → length (takes (part by order)) < length (posts (part by order)) → length order < cap
   room_take hs order cap ps ds by k near some_of =
       let z = sizes_of (part by order) (k.lawful.legal by) in
       omega (arith, order_shorter (length hs) order by k.lawful near (omega (arith, dones_few (part by order) z)), k.room, k.all_posted)
 
   -- and for a Done where a Take is not completed
-  pub room_done : (hs : List (List (Event M))) (order : List (Entry M)) (cap ps ds by job : ℕ) → Kept hs order cap ps ds
+  pub room_done : (hs : List (List (Event M))) (order : List (Entry M)) (cap ps ds by job : ℕ) → IsBook hs order cap ps ds
       → HasJob by job order → length order < cap
   room_done hs order cap ps ds by job k has =
       let z = sizes_of (part by order) (k.lawful.legal by) in
@@ -137,40 +137,40 @@ module _ {M : Type 0} where
       )
 
   -- the order is not longer than three times its Posts
-  pub order_fits : (hs : List (List (Event M))) (order : List (Entry M)) (cap ps ds : ℕ) → Kept hs order cap ps ds → length order ≤ 3 * ps
+  pub order_fits : (hs : List (List (Event M))) (order : List (Entry M)) (cap ps ds : ℕ) → IsBook hs order cap ps ds → length order ≤ 3 * ps
   order_fits hs order cap ps ds k = omega (arith, order_short (length hs) order k.lawful, k.all_posted)
 
   -- the history of a mailbox
-  pub history_at : (hs : List (List (Event M))) (order : List (Entry M)) (cap ps ds q : ℕ) (h : List (Event M)) → Kept hs order cap ps ds
+  pub history_at : (hs : List (List (Event M))) (order : List (Entry M)) (cap ps ds q : ℕ) (h : List (Event M)) → IsBook hs order cap ps ds
       → slice_get hs q ≡ Some h → h ≡ part q order
   history_at hs order cap ps ds q h k at = k.parts q h at
 
   -- the same, at a place that is the entry's mailbox, with the history and the order as they are now
   pub kept_entry : (hs : List (List (Event M))) (order order' : List (Entry M)) (cap cap' ps ds ps' ds' : ℕ) (e : Entry M) (q : ℕ)
-      (h h' : List (Event M)) → q ≡ mailbox_of e → Kept hs order cap ps ds → slice_get hs q ≡ Some h
+      (h h' : List (Event M)) → q ≡ mailbox_of e → IsBook hs order cap ps ds → slice_get hs q ≡ Some h
       → MayFollow (part (mailbox_of e) order) (event_of e) → UnderJob order e → ps' ≡ ps + length (posts (event_of e ∷ []))
       → ds' ≡ ds + length (dones (event_of e ∷ [])) → 3 * ps' ≤ cap' → h' ≡ h ++ event_of e ∷ [] → order' ≡ order ++ e ∷ []
-      → Kept (set hs q h') order' cap' ps' ds'
+      → IsBook (set hs q h') order' cap' ps' ds'
   kept_entry hs order order' cap cap' ps ds ps' ds' e q h h' at_box k at may under more_posts more_dones room grown longer =
       let at_e : slice_get hs (mailbox_of e) ≡ Some h = subst (λ i. slice_get hs i ≡ Some h) at_box at in
       let r =
       kept_push hs order cap cap' ps ds ps' ds' e h k at_e
       (slice_get_within hs (mailbox_of e) h at_e) may under more_posts more_dones room in
-      subst (λ i. Kept (set hs i h') order' cap' ps' ds') (sym at_box)
-      (subst (λ x. Kept (set hs (mailbox_of e) x) order' cap' ps' ds') (sym grown)
-      (subst (λ l. Kept (set hs (mailbox_of e) (h ++ event_of e ∷ [])) l cap' ps' ds') (sym longer) r))
+      subst (λ i. IsBook (set hs i h') order' cap' ps' ds') (sym at_box)
+      (subst (λ x. IsBook (set hs (mailbox_of e) x) order' cap' ps' ds') (sym grown)
+      (subst (λ l. IsBook (set hs (mailbox_of e) (h ++ event_of e ∷ [])) l cap' ps' ds') (sym longer) r))
 
   -- the same histories, with more room
   pub kept_back : (hs : List (List (Event M))) (order order' : List (Entry M)) (cap cap' ps ds q : ℕ) (h h' : List (Event M))
-      → Kept hs order cap ps ds → slice_get hs q ≡ Some h → h' ≡ h → order' ≡ order → cap ≤ cap' → Kept (set hs q h') order' cap' ps ds
+      → IsBook hs order cap ps ds → slice_get hs q ≡ Some h → h' ≡ h → order' ≡ order → cap ≤ cap' → IsBook (set hs q h') order' cap' ps ds
   kept_back hs order order' cap cap' ps ds q h h' k at same still more =
-      subst (λ l. Kept l order' cap' ps ds) (sym (same_again hs q h h' at same)) (kept_grow hs order order' cap cap' ps ds still more k)
+      subst (λ l. IsBook l order' cap' ps ds) (sym (same_again hs q h h' at same)) (kept_grow hs order order' cap cap' ps ds still more k)
 
-  pub kept_closed : (hs : List (List (Event M))) (order : List (Entry M)) (cap ps ds : ℕ) → Kept hs order cap ps ds → ps ≡ ds
+  pub kept_closed : (hs : List (List (Event M))) (order : List (Entry M)) (cap ps ds : ℕ) → IsBook hs order cap ps ds → ps ≡ ds
       → IsClosed order
   kept_closed hs order cap ps ds k same = (counted_closed (length hs) order k.lawful).0 (sym k.all_posted ∙ (same ∙ k.all_completed))
 
-  pub kept_counts : (hs : List (List (Event M))) (order : List (Entry M)) (cap ps ds : ℕ) → Kept hs order cap ps ds → IsClosed order
+  pub kept_counts : (hs : List (List (Event M))) (order : List (Entry M)) (cap ps ds : ℕ) → IsBook hs order cap ps ds → IsClosed order
       → ps ≡ ds
   kept_counts hs order cap ps ds k closed = k.all_posted ∙ ((counted_closed (length hs) order k.lawful).1 closed ∙ sym k.all_completed)
 
@@ -187,7 +187,7 @@ module _ {M : Type 0} where
 
   -- and so in the mailbox of the job's pass
   pub job_in_box : (hs : List (List (Event M))) (order : List (Entry M)) (cap ps ds by take q : ℕ) (h : List (Event M)) →
-      Kept hs order cap ps ds →
+      IsBook hs order cap ps ds →
       q ≡ by → slice_get hs q ≡ Some h → HasJob by take order → (take < length (takes h)) × (Contains (dones h) take → ⊥)
   job_in_box hs order cap ps ds by take q h kept same at has = job_in_history by take q order h same (kept.parts q h at) has
 
@@ -198,7 +198,7 @@ module _ {M : Type 0} where
   completed_few (entry.Taken of s m ∷ es) = omega (arith, completed_few es)
   completed_few (Completed of t ∷ es) = omega (arith, completed_few es)
 
-  pub few_done : (hs : List (List (Event M))) (order : List (Entry M)) (cap ps ds : ℕ) → Kept hs order cap ps ds → ds ≤ length order
+  pub few_done : (hs : List (List (Event M))) (order : List (Entry M)) (cap ps ds : ℕ) → IsBook hs order cap ps ds → ds ≤ length order
   few_done hs order cap ps ds k = omega (arith, k.all_completed, completed_few order)
 
 pub none_of : {X : Type 0} (o : Option X) (b : Bool) → b ≡ is_some o → b ≡ false → o ≡ None
@@ -211,12 +211,13 @@ some_of o b is there = sym is ∙ there
 module _ {M W : Type 0} where
   -- the state of the fields after one more event
   pub state_push : (w : W) (hs hs' : List (List (Event M))) (order order' : List (Entry M)) (e : Entry M) (a : Option Abort)
-      (s : State M W) → length hs' ≡ length hs → order' ≡ order ++ e ∷ []
-      → (let fields : State M W = record { world = w; boxes = length hs; order = order; aborted = a } in fields ≡ s)
-      → (let fields : State M W = record { world = w; boxes = length hs'; order = order'; aborted = a } in fields ≡ with_entry e s)
+      (s : BoardState M W) → length hs' ≡ length hs → order' ≡ order ++ e ∷ []
+      → (let fields : BoardState M W = record { world = w; boxes = length hs; order = order; aborted = a } in fields ≡ s)
+      → (let fields : BoardState M W = record { world = w; boxes = length hs'; order = order'; aborted = a } in fields ≡ with_entry e s)
   state_push w hs hs' order order' e a s same longer is = (λ i. record { world = w; boxes = same i; order = longer i; aborted = a })
       ∙ ap (with_entry e) is
 
   -- the answer is that take
-  pub answers_message : (by job : ℕ) (m : M) (s t : State M W) (r : Taken M) → r ≡ Message job m → Takes by job m s t → Answers by r s t
-  answers_message by job m s t r is took = subst (λ x. Answers by x s t) (sym is) took
+  pub answers_message : (by job : ℕ) (m : M) (s t : BoardState M W) (r : Taken M) → r ≡ Message job m → TakesOldest by job m s t
+      → TakeAnswers by r s t
+  answers_message by job m s t r is took = subst (λ x. TakeAnswers by x s t) (sym is) took

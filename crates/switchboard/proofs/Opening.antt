@@ -7,7 +7,7 @@ use Rattle.ticket_lock.specs.Lanes.{Standing, fresh_lane, fresh_lanes}
 use Rattle.post_ledger.specs.declared.entry.Entry.TheVariants.{Posted}
 use Rattle.post_ledger.proofs.Histories.{at_push_cases}
 use Rattle.post_ledger.proofs.Orders.{lawful_open}
-use Rattle.switchboard.specs.Sights.{State, IsSound, opened, fresh_sight, fresh_sights}
+use Rattle.switchboard.specs.Sights.{BoardState, IsSound, opened, fresh_sight, fresh_sights}
 use Rattle.switchboard.specs.Passes.{IsPass, sight_of}
 
 plus : (n : ℕ) → n ≡ n + 0
@@ -46,7 +46,7 @@ fresh_count id budget x first (suc count) = ap suc (fresh_count id budget x (suc
 
 module _ {M W : Type 0} where
   -- one more pass
-  pub sights_push : (id : TableId) (budget : ℕ) (s : State M W) (first count : ℕ)
+  pub sights_push : (id : TableId) (budget : ℕ) (s : BoardState M W) (first count : ℕ)
       → fresh_sights id budget s first (suc count) ≡ fresh_sights id budget s first count ++ fresh_sight id budget s (first + count) ∷ []
   sights_push id budget s first zero = ap (λ n. fresh_sight id budget s n ∷ []) (plus first)
   sights_push id budget s first (suc count) =
@@ -54,15 +54,17 @@ module _ {M W : Type 0} where
       (sights_push id budget s (suc first) count
       ∙ ap (λ n. fresh_sights id budget s (suc first) count ++ fresh_sight id budget s n ∷ []) (shift first count))
 
-  pub sights_count : (id : TableId) (budget : ℕ) (s : State M W) (first count : ℕ) → length (fresh_sights id budget s first count) ≡ count
+  pub sights_count : (id : TableId) (budget : ℕ) (s : BoardState M W) (first count : ℕ)
+      → length (fresh_sights id budget s first count) ≡ count
   sights_count id budget s first zero = refl
   sights_count id budget s first (suc count) = ap suc (sights_count id budget s (suc first) count)
 
   -- how a pass with a new lane shows itself
-  pub sight_fresh : (id : TableId) (budget : ℕ) (w v : W) (boxes to number : ℕ) (m : M) (lane : Standing (State M W)) (s : State M W)
+  pub sight_fresh : (id : TableId) (budget : ℕ) (w v : W) (boxes to number : ℕ) (m : M) (lane : Standing (BoardState M W))
+      (s : BoardState M W)
       → s ≡ opened w boxes to m → v ≡ w → lane ≡ fresh_lane id budget s number → sight_of lane v boxes true ≡ fresh_sight id budget s number
   sight_fresh id budget w v boxes to number m lane s same world is =
-      let first : State M W = opened w boxes to m in
+      let first : BoardState M W = opened w boxes to m in
       let there : fresh_sight id budget first number ≡ fresh_sight id budget s number =
       ap (λ q. fresh_sight id budget q number) (sym same) in
       (λ i. sight_of ((is ∙ ap (λ q. fresh_lane id budget q number) same) i) (world i) boxes true) ∙ there
@@ -81,7 +83,8 @@ module _ {M W : Type 0} where
     }
 
     -- a pass with a new lane
-    pub pass_fresh : (id : TableId) (budget : ℕ) (w : W) (boxes to number : ℕ) (m : M) (lane : Standing (State M W)) (s : State M W)
+    pub pass_fresh : (id : TableId) (budget : ℕ) (w : W) (boxes to number : ℕ) (m : M) (lane : Standing (BoardState M W))
+        (s : BoardState M W)
         → s ≡ opened w boxes to m → lane ≡ fresh_lane id budget s number → number < boxes → boxes ≤ 64 → 0 < budget → to < boxes
         → fits w to m → IsPass fits lane w boxes true
     pass_fresh id budget w boxes to number m lane s same is near few some_of short fit =

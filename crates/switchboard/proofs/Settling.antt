@@ -15,7 +15,7 @@ use Rattle.post_ledger.specs.declared.event.Event.{Event}
 use Rattle.post_ledger.specs.declared.entry.Entry.{Entry}
 use Rattle.post_ledger.specs.Orders.{own, IsLawful, IsClosed}
 use Rattle.post_ledger.proofs.Orders.{element_at}
-use Rattle.switchboard.specs.Sights.{State, Sight, Before, IsSound}
+use Rattle.switchboard.specs.Sights.{BoardState, Sight, Before, IsSound}
 use Rattle.switchboard.specs.Books.{AreParts}
 use Rattle.switchboard.specs.Promises.{AreAll, Settles}
 use Rattle.switchboard.specs.Passes.{is_by, is_complete, share, Comes, IsPass}
@@ -29,25 +29,25 @@ get_front (z ∷ xs) ys (suc j) x e = get_front xs ys j x e
 
 module _ {M W : Type 0} (fits : W → ℕ → M → Type 0) where
   -- each lane is that of the pass beside it
-  abbrev pub Pairs : List (Standing (State M W)) → List (Sight M W) → Type 0
+  abbrev pub Pairs : List (Standing (BoardState M W)) → List (Sight M W) → Type 0
   Pairs [] [] = Unit {0}
   Pairs [] (p ∷ ps) = ⊥
   Pairs (x ∷ xs) [] = ⊥
   Pairs (x ∷ xs) (p ∷ ps) = IsLaneOf fits x p × Pairs xs ps
 
   module _ {S Z : Type 0} (of : S → IntoIter (Sight M W) Z) where
-    abbrev Steps : S → Option (Standing (State M W)) → S → Type 0
+    abbrev Steps : S → Option (Standing (BoardState M W)) → S → Type 0
     Steps s r t = Unwraps fits (of s) r (of t)
 
     -- the lanes that came are those of the first passes
-    front : (s : S) (xs : List (Standing (State M W))) (t : S) → Yields Steps s xs t
+    front : (s : S) (xs : List (Standing (BoardState M W))) (t : S) → Yields Steps s xs t
         → (ps : List (Sight M W)) × (into_iter_items (of s) ≡ ps ++ into_iter_items (of t)) × Pairs xs ps
     front s [] t y = ([], ap (λ z. into_iter_items (of z)) y, tt)
     front s (x ∷ xs) t y = let step = y.1 in let rest = front y.0 xs t y.2 in
         (step.0 ∷ rest.0, step.1 ∙ ap (λ l. step.0 ∷ l) rest.1, (step.3, rest.2))
 
     -- all that came are those of all passes
-    pub all_pairs : (s : S) (xs : List (Standing (State M W))) → Drains Steps s xs → Pairs xs (into_iter_items (of s))
+    pub all_pairs : (s : S) (xs : List (Standing (BoardState M W))) → Drains Steps s xs → Pairs xs (into_iter_items (of s))
     all_pairs s xs d =
         let t = d.1.0 in
         let r = front s xs t d.1.1 in
@@ -55,10 +55,10 @@ module _ {M W : Type 0} (fits : W → ℕ → M → Type 0) where
         subst (Pairs xs) (sym (r.1 ∙ (ap (λ l. r.0 ++ l) none ∙ append-nil r.0))) r.2
 
     -- a lane of a pass of this board is idle
-    idle_of : (id : TableId) (x : Standing (State M W)) (p : Sight M W) → IsLaneOf fits x p → p.board ≡ id → IsIdle id x
+    idle_of : (id : TableId) (x : Standing (BoardState M W)) (p : Sight M W) → IsLaneOf fits x p → p.board ≡ id → IsIdle id x
     idle_of id x p l board = (ap (λ (z : Sight M W). z.board) l.4 ∙ board, l.3.waits, l.3.outside)
 
-    all_idle : (id : TableId) (xs : List (Standing (State M W))) (ps : List (Sight M W)) → Pairs xs ps
+    all_idle : (id : TableId) (xs : List (Standing (BoardState M W))) (ps : List (Sight M W)) → Pairs xs ps
         → ((j : ℕ) (p : Sight M W) → slice_get ps j ≡ Some p → p.board ≡ id) → All (IsIdle id) xs
     all_idle id [] ps pairs boards k d h = absurd (omega arith)
     all_idle id (x ∷ xs) [] pairs boards k d h = absurd pairs
@@ -71,19 +71,20 @@ module _ {M W : Type 0} (fits : W → ℕ → M → Type 0) where
         all_idle id xs r.0 r.2
         (λ j p at. (all.1 j p (subst (λ l. slice_get l j ≡ Some p) (sym r.1) (get_front r.0 (into_iter_items (of t)) j p at))).0)
 
-    same_length : (xs : List (Standing (State M W))) (ps : List (Sight M W)) → Pairs xs ps → length xs ≡ length ps
+    same_length : (xs : List (Standing (BoardState M W))) (ps : List (Sight M W)) → Pairs xs ps → length xs ≡ length ps
     same_length [] [] pairs = refl
     same_length [] (p ∷ ps) pairs = absurd pairs
     same_length (x ∷ xs) [] pairs = absurd pairs
     same_length (x ∷ xs) (p ∷ ps) pairs = ap suc (same_length xs ps pairs.1)
 
-    pub drained_length : (id : TableId) (boxes : ℕ) (s : S) → AreAll id boxes (into_iter_items (of s)) → (xs : List (Standing (State M W)))
+    pub drained_length : (id : TableId) (boxes : ℕ) (s : S) → AreAll id boxes (into_iter_items (of s))
+        → (xs : List (Standing (BoardState M W)))
         → Drains Steps s xs → length xs ≡ boxes
     drained_length id boxes s all xs d = same_length xs (into_iter_items (of s)) (all_pairs s xs d) ∙ all.0
 
   -- the lane beside a pass
-  lane_at : (xs : List (Standing (State M W))) (ps : List (Sight M W)) (j : ℕ) (p : Sight M W) → Pairs xs ps → slice_get ps j ≡ Some p
-      → (x : Standing (State M W)) × (get_elem? xs j ≡ some x) × IsLaneOf fits x p
+  lane_at : (xs : List (Standing (BoardState M W))) (ps : List (Sight M W)) (j : ℕ) (p : Sight M W) → Pairs xs ps → slice_get ps j ≡ Some p
+      → (x : Standing (BoardState M W)) × (get_elem? xs j ≡ some x) × IsLaneOf fits x p
   lane_at [] [] j p pairs at = cc
   lane_at [] (q ∷ ps) j p pairs at = absurd pairs
   lane_at (x ∷ xs) [] j p pairs at = absurd pairs
@@ -91,7 +92,7 @@ module _ {M W : Type 0} (fits : W → ℕ → M → Type 0) where
   lane_at (x ∷ xs) (q ∷ ps) (suc j) p pairs at = lane_at xs ps j p pairs.1 at
 
   -- what one pass knows of the state at the end
-  pub record Ends (p : Sight M W) (v : State M W) : Type 0 where
+  pub record Ends (p : Sight M W) (v : BoardState M W) : Type 0 where
     pub before : Before p.seen v
     pub sound : IsSound fits p.seen
     pub final : IsSound fits v
@@ -99,7 +100,7 @@ module _ {M W : Type 0} (fits : W → ℕ → M → Type 0) where
     pub own_list : own p.number v.order ≡ own p.number p.seen.order
     pub mine : is_by p.number v.aborted ≡ true → p.made ≡ true
 
-  ends_at : (x : Standing (State M W)) (w : W) (boxes : ℕ) (kept : Bool) (l : IsPass fits x w boxes kept) (v : State M W)
+  ends_at : (x : Standing (BoardState M W)) (w : W) (boxes : ℕ) (kept : Bool) (l : IsPass fits x w boxes kept) (v : BoardState M W)
       → Comes fits l.last v → share x.number v ≡ share x.number l.left → Ends (showing fits x kept l.last) v
   ends_at x w boxes kept l v comes part = record {
     before = comes.0;
@@ -114,7 +115,7 @@ module _ {M W : Type 0} (fits : W → ℕ → M → Type 0) where
       was true f t = (let no_way = f refl in cc)
       was false f t = refl
 
-  pub ends_of : (xs : List (Standing (State M W))) (ps : List (Sight M W)) (v : State M W) → Pairs xs ps → KeepsOwn share xs v
+  pub ends_of : (xs : List (Standing (BoardState M W))) (ps : List (Sight M W)) (v : BoardState M W) → Pairs xs ps → KeepsOwn share xs v
       → ComesLast (Comes fits) xs v → (j : ℕ) (p : Sight M W) → slice_get ps j ≡ Some p → Ends p v
   ends_of xs ps v pairs keeps comes j p at =
       let o = lane_at xs ps j p pairs at in
@@ -123,7 +124,7 @@ module _ {M W : Type 0} (fits : W → ℕ → M → Type 0) where
       let e = ends_at x o.2.0 o.2.1 o.2.2 l v (comes j x l.last o.1 l.ends) (keeps j x l.left o.1 l.has) in
       subst (λ q. Ends q v) (sym (shows fits x o.2.0 o.2.1 o.2.2 l) ∙ o.2.4) e
 
-  pub settles_is : (id : TableId) (boxes : ℕ) (ps : List (Sight M W)) (xs : List (Standing (State M W))) (v : State M W)
+  pub settles_is : (id : TableId) (boxes : ℕ) (ps : List (Sight M W)) (xs : List (Standing (BoardState M W))) (v : BoardState M W)
       (histories : List (List (Event M))) (closed : Bool) → 0 < boxes → AreAll id boxes ps → Pairs xs ps → KeepsOwn share xs v
       → ComesLast (Comes fits) xs v
       → AreParts histories v → (IsTrue closed ↔ IsClosed v.order) → Settles fits boxes ps histories closed

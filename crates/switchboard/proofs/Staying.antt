@@ -18,8 +18,8 @@ use Rattle.switchboard.specs.declared.calls.PostFault.TheVariants as fault
 use Rattle.switchboard.specs.declared.calls.Taken as answers
 use Rattle.switchboard.specs.declared.calls.Taken.TheVariants as answer
 use Rattle.switchboard.specs.Sights.{Sight, IsSound}
-use Rattle.switchboard.specs.Promises.{GoesOn, Added, TookMessage, WasPosted, WasRefused, Took, SaysClosed, SaysStopped}
-use Rattle.switchboard.specs.Promises.{IsStopped}
+use Rattle.switchboard.specs.Promises.{GoesOn, Added, TookOldest, WasPosted, WasRefused, Took, SaysClosed, SaysStopped}
+use Rattle.switchboard.specs.Promises.{IsPostStopped}
 use Rattle.switchboard.proofs.Visits.{some_later, same_order}
 use Rattle.switchboard.proofs.Jobs.{legal_front, job_new}
 
@@ -62,7 +62,7 @@ module _ {M W : Type 0} (fits : W → ℕ → M → Type 0) where
       omega (arith, more, same, (closed to).0, sizes.fewer)
 
   -- nor is one that a message was taken from last, since its job is left
-  open_behind_take : (s t : Sight M W) (job : ℕ) (m : M) → TookMessage fits job m s t → IsClosed t.seen.order → ⊥
+  open_behind_take : (s t : Sight M W) (job : ℕ) (m : M) → TookOldest fits job m s t → IsClosed t.seen.order → ⊥
   open_behind_take s t job m k closed =
       no_job t.seen.boxes t.seen.order t.number job k.added.goes.sound.lawful closed (job_new fits s t job m k)
 
@@ -110,7 +110,7 @@ module _ {M W : Type 0} (fits : W → ℕ → M → Type 0) where
   pub abort_posts : (s t : Sight M W) (job to : ℕ) (m : M) → IsSome s.seen.aborted → WasPosted fits job to m s t → ⊥
   abort_posts s t job to m some_one p = some_not_none t.seen.aborted (some_later fits s.seen t.seen p.0.goes.before some_one) p.1
 
-  pub abort_refusals : (s t : Sight M W) (m : M) (f : PostFault M) → IsSome s.seen.aborted → WasRefused fits m f s t → IsStopped f
+  pub abort_refusals : (s t : Sight M W) (m : M) (f : PostFault M) → IsSome s.seen.aborted → WasRefused fits m f s t → IsPostStopped f
   abort_refusals s t m (fault.Spent back) some_one p = tt
   abort_refusals s t m (fault.Aborted back) some_one p = tt
   abort_refusals s t m (fault.Memory back) some_one p =

@@ -9,12 +9,12 @@ use Rattle.switchboard.specs.declared.calls.PostFault.{PostFault}
 use Rattle.switchboard.specs.declared.calls.PostFault.TheVariants as fault
 use Rattle.switchboard.specs.declared.calls.Taken.{Taken}
 use Rattle.switchboard.specs.declared.calls.Taken.TheVariants as answer
-use Rattle.switchboard.specs.Sights.{State, AllTaken}
+use Rattle.switchboard.specs.Sights.{BoardState, AllTaken}
 
 -- What a book keeps: its order is lawful, each history is the order's part for its mailbox, its numbers are those of
 -- the Posts and the
 -- Dones, and there is room for the Take and the Done that each Post still owes.
-pub record Kept {M : Type 0} (histories : List (List (Event M))) (order : List (Entry M)) (capacity posts dones : ℕ) : Type 0 where
+pub record IsBook {M : Type 0} (histories : List (List (Event M))) (order : List (Entry M)) (capacity posts dones : ℕ) : Type 0 where
   pub lawful : IsLawful (length histories) order
   pub parts : (q : ℕ) (h : List (Event M)) → slice_get histories q ≡ Some h → h ≡ part q order
   pub few : length histories ≤ 64
@@ -24,12 +24,12 @@ pub record Kept {M : Type 0} (histories : List (List (Event M))) (order : List (
 
 module _ {M W : Type 0} where
   -- the state with one more event
-  abbrev pub with_entry : Entry M → State M W → State M W
+  abbrev pub with_entry : Entry M → BoardState M W → BoardState M W
   with_entry e s = record s { order = s.order ++ e ∷ [] }
 
   -- the oldest message of the mailbox that was not taken is taken, on a board that is not aborted; the job is that of
   -- this take
-  pub record Takes (by job : ℕ) (m : M) (s t : State M W) : Type 0 where
+  pub record TakesOldest (by job : ℕ) (m : M) (s t : BoardState M W) : Type 0 where
     pub sender : ℕ
     pub oldest : slice_get (posts (part by s.order)) (length (takes (part by s.order))) ≡ Some (sender, m)
     pub number : job ≡ length (takes (part by s.order))
@@ -38,20 +38,20 @@ module _ {M W : Type 0} where
 
   -- closed, where the order is; aborted, where it is not and the board is; else the oldest message, or that every one
   -- is taken
-  abbrev pub Answers : ℕ → Taken M → State M W → State M W → Type 0
-  Answers by (answer.Message job m) s t = Takes by job m s t
-  Answers by answer.Empty s t = (t ≡ s) × (IsClosed s.order → ⊥) × (s.aborted ≡ None) × AllTaken by s.order
-  Answers by answer.Closed s t = (t ≡ s) × IsClosed s.order
-  Answers by answer.Aborted s t = (t ≡ s) × (IsClosed s.order → ⊥) × IsSome s.aborted
+  abbrev pub TakeAnswers : ℕ → Taken M → BoardState M W → BoardState M W → Type 0
+  TakeAnswers by (answer.Message job m) s t = TakesOldest by job m s t
+  TakeAnswers by answer.Empty s t = (t ≡ s) × (IsClosed s.order → ⊥) × (s.aborted ≡ None) × AllTaken by s.order
+  TakeAnswers by answer.Closed s t = (t ≡ s) × IsClosed s.order
+  TakeAnswers by answer.Aborted s t = (t ≡ s) × (IsClosed s.order → ⊥) × IsSome s.aborted
 
   -- the message comes back and nothing changes: there was no memory, on a board that is not aborted, or the board is
   -- aborted
-  abbrev pub Refuses : M → PostFault M → State M W → State M W → Type 0
-  Refuses m (fault.Spent back) s t = ⊥
-  Refuses m (fault.Memory back) s t = (back ≡ m) × (t ≡ s) × (s.aborted ≡ None)
-  Refuses m (fault.Aborted back) s t = (back ≡ m) × (t ≡ s) × IsSome s.aborted
+  abbrev pub RefusesPost : M → PostFault M → BoardState M W → BoardState M W → Type 0
+  RefusesPost m (fault.Spent back) s t = ⊥
+  RefusesPost m (fault.Memory back) s t = (back ≡ m) × (t ≡ s) × (s.aborted ≡ None)
+  RefusesPost m (fault.Aborted back) s t = (back ≡ m) × (t ≡ s) × IsSome s.aborted
 
   -- the histories are the parts of the order
-  pub record AreParts (histories : List (List (Event M))) (s : State M W) : Type 0 where
+  pub record AreParts (histories : List (List (Event M))) (s : BoardState M W) : Type 0 where
     pub count : length histories ≡ s.boxes
     pub each : (q : ℕ) (h : List (Event M)) → slice_get histories q ≡ Some h → h ≡ part q s.order

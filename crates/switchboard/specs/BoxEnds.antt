@@ -23,7 +23,7 @@ module _ {M W : Type 0} where
   own_of s = record { number = s.number; events = own s.number s.seen.order; made = s.made }
 
   -- the seat has taken in what this pass had
-  pub record HasTaken (s : Sight M W) (v : View M W) : Type 0 where
+  pub record TookInPass (s : Sight M W) (v : View M W) : Type 0 where
     pub begins : StartsWith v.seen.order s.seen.order
     pub aborted : (a : Abort) → s.seen.aborted ≡ Some a → v.seen.aborted ≡ Some a
     pub knows : s.knows ≡ true → v.seen.knows ≡ true
@@ -37,7 +37,7 @@ module _ {M W : Type 0} where
     pub owes : me.0.owes ≡ 0
     pub quiet : (q : ℕ) → q < boxes → ((hand_at q me.0).tickets ≡ []) × ((hand_at q me.0).inside ≡ [])
     pub count : length me.0.lanes + from ≡ length all
-    pub each : (j : ℕ) (s : Sight M W) → from ≤ j → slice_get all j ≡ Some s → HasTaken s me.0
+    pub each : (j : ℕ) (s : Sight M W) → from ≤ j → slice_get all j ≡ Some s → TookInPass s me.0
 
   module _ (fits : W → ℕ → M → Type 0) where
     -- the seat is that of the pass
@@ -48,7 +48,7 @@ module _ {M W : Type 0} where
     -- What is left of a board whose passes a seat has all: the longest order, whose parts are the histories; it is
     -- closed where no post is outstanding;
     -- and the maker of the first abort has made it.
-    pub record Ends (g : Ground M W) (v : View M W) (histories : List (List (Event M))) (closed : Bool) : Type 0 where
+    pub record BoardEnds (g : Ground M W) (v : View M W) (histories : List (List (Event M))) (closed : Bool) : Type 0 where
       pub order : List (Entry M)
       pub first : Option Abort
       pub low : ℕ

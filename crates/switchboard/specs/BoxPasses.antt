@@ -9,12 +9,12 @@ use Rattle.post_ledger.specs.declared.event.Event.{Event}
 use Rattle.post_ledger.specs.Orders.{own, IsClosed}
 use Rattle.switchboard.specs.declared.lock_per_box.knowing.Ground.{Ground}
 use Rattle.switchboard.specs.declared.lock_per_box.knowing.Seen.{Seen}
-use Rattle.switchboard.specs.Sights.{State, Sight, Account, IsSound}
+use Rattle.switchboard.specs.Sights.{BoardState, Sight, Account, IsSound}
 use Rattle.switchboard.specs.Knowing.{unseen, only_seen, hand_at}
-use Rattle.switchboard.specs.PerBox.{View, IsSized, Seat}
+use Rattle.switchboard.specs.PerBox.{View, IsBoardTable, Seat}
 
 -- the hand has nothing but its share, and has tickets for so many calls
-pub record IsIdle {T : Type 0} (left : ℕ) (h : Hand T) : Type 0 where
+pub record IsIdleHand {T : Type 0} (left : ℕ) (h : Hand T) : Type 0 where
   pub tickets : h.tickets ≡ []
   pub inside : h.inside ≡ []
   pub parts : h.parts ≡ 1
@@ -27,7 +27,7 @@ module _ {M : Type 0} where
 
 module _ {M W : Type 0} where
   -- what was seen, as a state of the board
-  abbrev pub state_seen : W → ℕ → Seen M → State M W
+  abbrev pub state_seen : W → ℕ → Seen M → BoardState M W
   state_seen w boxes x = record { world = w; boxes = boxes; order = x.order; aborted = x.aborted }
 
   -- how contracts see a pass
@@ -50,21 +50,21 @@ module _ {M W : Type 0} where
       pub known : made ≡ true → IsSome x.aborted
 
     -- The seat is this pass's alone, at a board of this world with so many mailboxes. It holds no mailbox, waits for
-    -- none, and has none in the count; it
-    -- made just its own events of the order that it has seen; it has tickets, and Posts to count up, for its calls.
+    -- none, and has none in the count; it made just its own events of the order that it has seen; it has tickets, and
+    -- Posts to count up, for its calls.
     pub record IsBoxPass (id : TableId) (number left : ℕ) (made : Bool) (w : W) (boxes : ℕ) (me : Seat M W) : Type 0 where
       pub base : Ground M W
       pub is_base : get_elem? me.0.boards 0 ≡ some base
       pub world : base.world.value ≡ w
       pub mailboxes : base.boxes ≡ boxes
-      pub sized : IsSized id boxes
+      pub sized : IsBoardTable id boxes
       pub near : number < boxes
       pub lanes : me.0.lanes ≡ record { number = number; events = own number me.0.seen.order; made = made } ∷ []
       pub outside : me.1 ≡ []
       pub told : me.0.told ≡ unseen
       pub owes : me.0.owes ≡ 0
       pub budget : left ≤ me.0.budget
-      pub hands : (q : ℕ) → q < boxes → IsIdle left (hand_at q me.0)
+      pub hands : (q : ℕ) → q < boxes → IsIdleHand left (hand_at q me.0)
       pub seen : IsSeen w boxes made me.0.seen
 
   -- a seat that has nothing, and saw this

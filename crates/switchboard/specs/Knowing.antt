@@ -13,7 +13,7 @@ use Rattle.switchboard.specs.declared.lock_per_box.knowing.Ground.{Ground}
 use Rattle.switchboard.specs.declared.lock_per_box.knowing.Seen.{Seen}
 use Rattle.switchboard.specs.declared.lock_per_box.knowing.Own.{Own}
 use Rattle.switchboard.specs.declared.lock_per_box.knowing.Knowing.{Knowing}
-use Rattle.switchboard.specs.Sights.{State}
+use Rattle.switchboard.specs.Sights.{BoardState}
 
 module _ {T : Type 0} where
   -- a hand that has nothing but its shares
@@ -90,7 +90,7 @@ module _ {M : Type 0} where
 
 module _ {M W : Type 0} where
   -- the state of a board of which this was seen
-  abbrev pub state_of : Ground M W → Seen M → State M W
+  abbrev pub state_of : Ground M W → Seen M → BoardState M W
   state_of g x = record { world = g.world.value; boxes = g.boxes; order = x.order; aborted = x.aborted }
 
   -- nothing but the opening post was seen

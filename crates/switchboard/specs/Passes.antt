@@ -5,7 +5,7 @@ use Rattle.ticket_lock.specs.History.{EndsIn}
 use Rattle.post_ledger.specs.declared.entry.Entry.{Entry}
 use Rattle.post_ledger.specs.Orders.{own, posted, completed}
 use Rattle.switchboard.specs.declared.calls.Abort.{Abort}
-use Rattle.switchboard.specs.Sights.{State, Sight, Account, Before, IsSound}
+use Rattle.switchboard.specs.Sights.{BoardState, Sight, Account, Before, IsSound}
 
 -- whether the abort, if there was one, is of this pass
 abbrev pub is_by : ℕ → Option Abort → Bool
@@ -28,11 +28,11 @@ is_complete order = posted order == completed order
 
 module _ {M W : Type 0} where
   -- a pass's own part of a state: its own list, and whether the abort is its own
-  abbrev pub share : ℕ → State M W → List (Entry M) × Bool
+  abbrev pub share : ℕ → BoardState M W → List (Entry M) × Bool
   share p s = (own p s.order, is_by p s.aborted)
 
   -- how contracts see a pass, which knows the close where the order that it has seen is complete
-  abbrev pub sight_of : Standing (State M W) → W → ℕ → Bool → Sight M W
+  abbrev pub sight_of : Standing (BoardState M W) → W → ℕ → Bool → Sight M W
   sight_of lane w boxes kept = record {
     board = lane.lock;
     number = lane.number;
@@ -48,7 +48,7 @@ module _ {M W : Type 0} where
   }
 
   -- how contracts see what a pass told
-  abbrev pub account_of : Told (State M W) → Account M
+  abbrev pub account_of : Told (BoardState M W) → Account M
   account_of note = record {
     board = note.lock;
     knows = is_complete (latest (λ s. s.order) [] note.seen);
@@ -58,21 +58,20 @@ module _ {M W : Type 0} where
 
   module _ (fits : W → ℕ → M → Type 0) where
     -- one state comes before another under the lock: the second goes on from the first, and is sound where the first is
-    abbrev pub Comes : State M W → State M W → Type 0
+    abbrev pub Comes : BoardState M W → BoardState M W → Type 0
     Comes s t = Before s t × (IsSound fits s → IsSound fits t)
 
     -- The lane is outside and waits for nothing; what it has seen last is sound, and has the pass's own part as the
-    -- lane left it; a ticket is kept
-    -- until the pass makes an abort.
-    pub record IsPass (lane : Standing (State M W)) (w : W) (boxes : ℕ) (kept : Bool) : Type 0 where
+    -- lane left it; a ticket is kept until the pass makes an abort.
+    pub record IsPass (lane : Standing (BoardState M W)) (w : W) (boxes : ℕ) (kept : Bool) : Type 0 where
       pub waits : lane.tickets ≡ []
       pub outside : lane.inside ≡ []
-      pub last : State M W
+      pub last : BoardState M W
       pub ends : EndsIn lane.seen last
       pub sound : IsSound fits last
       pub same_world : last.world ≡ w
       pub same_boxes : last.boxes ≡ boxes
-      pub left : State M W
+      pub left : BoardState M W
       pub has : lane.own ≡ left ∷ []
       pub own_part : share lane.number last ≡ share lane.number left
       pub number : lane.number < boxes
@@ -82,7 +81,7 @@ module _ {M W : Type 0} where
       pub knows : kept ≡ false → IsSome last.aborted
 
     -- what the lane had seen last, which is sound, was told
-    pub record IsTold (note : Told (State M W)) : Type 0 where
-      pub last : State M W
+    pub record IsTold (note : Told (BoardState M W)) : Type 0 where
+      pub last : BoardState M W
       pub ends : EndsIn note.seen last
       pub sound : IsSound fits last

@@ -1,6 +1,5 @@
 -- The rule of a board with a lock for each mailbox, and what each of its steps tells. Word 0 counts the outstanding
--- posts, and its bit 63 says that
--- the board was aborted.
+-- posts, and its bit 63 says that the board was aborted.
 use Rattle.std.specs.Prelude.{◌≡◌, ◌≢◌, ◌⊎◌, ℕ, ◌+◌, ◌*◌, ◌^◌, ◌<◌, ◌≤◌, ◌==◌, true, false, List, [], ◌∷◌, ◌++◌}
 use Rattle.std.specs.Prelude.{map, length, Option, Some, None, slice_index, slice_set}
 use mathlib.Core.Option as maybe
@@ -62,21 +61,22 @@ module _ {M W : Type 0} where
 
 module _ {M : Type 0} where
   -- the lock of a mailbox keeps the lock's rule, and the last value left in it is the order's part for the mailbox
-  abbrev pub Stands : ℕ → List (Entry M) → List ℕ → Homes M → List (Hand (List (Event M))) → Type 0
-  Stands q order words homes hands = (log : List (List (Event M))) × Kept (word_of q) q log words homes hands × EndsIn log (part q order)
+  abbrev pub LockStands : ℕ → List (Entry M) → List ℕ → Homes M → List (Hand (List (Event M))) → Type 0
+  LockStands q order words homes hands = (log : List (List (Event M))) × Kept (word_of q) q log words homes hands
+      × EndsIn log (part q order)
 
 -- the table of a board with so many mailboxes
-abbrev pub IsSized : TableId → ℕ → Type 0
-IsSized id boxes = (id.words ≡ 8 * (boxes + 1)) × (id.slots ≡ boxes) × (boxes ≤ 64)
+abbrev pub IsBoardTable : TableId → ℕ → Type 0
+IsBoardTable id boxes = (id.words ≡ 8 * (boxes + 1)) × (id.slots ≡ boxes) × (boxes ≤ 64)
 
 -- the hand has nothing but its share, and a ticket to draw
-abbrev pub IsReady : {T : Type 0} → Hand T → Type 0
-IsReady h = (h.tickets ≡ []) × (h.inside ≡ []) × (h.parts ≡ 1) × (length h.drawn < 2 ^ 56)
+abbrev pub CanDraw : {T : Type 0} → Hand T → Type 0
+CanDraw h = (h.tickets ≡ []) × (h.inside ≡ []) × (h.parts ≡ 1) × (length h.drawn < 2 ^ 56)
 
 module _ {M W : Type 0} where
   -- the seat is one of the table, and the mailbox one of the board
   abbrev pub IsBoxOf : Ground M W → TableId → TableId → ℕ → Type 0
-  IsBoxOf g id seat number = (seat ≡ id) × IsSized id g.boxes × (number < g.boxes)
+  IsBoxOf g id seat number = (seat ≡ id) × IsBoardTable id g.boxes × (number < g.boxes)
 
   -- a mailbox's history lies in its slot, and its lock has its words
   abbrev pub IsBox : Ground M W → ℕ → ℕ → Type 0
@@ -84,8 +84,7 @@ module _ {M W : Type 0} where
 
   module _ (fits : W → ℕ → M → Type 0) where
     -- What was seen is a beginning of the order, and sound, if it has an event; an abort that was seen is the first;
-    -- who knows the close has seen
-    -- the whole order, and no post is outstanding.
+    -- who knows the close has seen the whole order, and no post is outstanding.
     pub record Saw (g : Ground M W) (order : List (Entry M)) (first : Option Abort) (low : ℕ) (x : Seen M) : Type 0 where
       pub begins : StartsWith order x.order
       pub sound : 0 < length x.order → IsSound fits (state_of g x)
@@ -93,9 +92,8 @@ module _ {M W : Type 0} where
       pub close : x.knows ≡ true → (low ≡ 0) × (x.order ≡ order)
 
     -- What holds of each seat: it has a share of each lock for each of its passes; each of its passes made just its own
-    -- events of the order; without a
-    -- pass it has none in the count.
-    pub record Knows (g : Ground M W) (order : List (Entry M)) (first : Option Abort) (low : ℕ) (v : View M W) : Type 0 where
+    -- events of the order; without a pass it has none in the count.
+    pub record KnowsBoard (g : Ground M W) (order : List (Entry M)) (first : Option Abort) (low : ℕ) (v : View M W) : Type 0 where
       pub board : (i : ℕ) (k : Ground M W) → get_elem? v.boards i ≡ some k → k ≡ g
       pub saw : Saw g order first low v.seen
       pub told : Saw g order first low v.told
@@ -104,20 +102,19 @@ module _ {M W : Type 0} where
       pub idle : length v.lanes ≡ 0 → v.owes ≡ 0
 
     -- The rule: the longest order is sound, and begins with what each seat has seen; each lock stands at its part for
-    -- the mailbox; the low bits of word 0 are the Posts without a Done, and what the
-    -- seats have in the count beside them; each pass is in one seat, and all are; the maker of the first abort has made
-    -- it.
+    -- the mailbox; the low bits of word 0 are the Posts without a Done, and what the seats have in the count beside
+    -- them; each pass is in one seat, and all are; the maker of the first abort has made it.
     pub record Rule (g : Ground M W) (s : Boxes M W) : Type 0 where
       pub order : List (Entry M)
       pub first : Option Abort
       pub low : ℕ
       pub sound : IsSound fits (state_of g (record { order = order; aborted = first; knows = false }))
-      pub locks : (q : ℕ) → q < g.boxes → Stands q order s.words s.homes (map (hand_at q) s.views)
+      pub locks : (q : ℕ) → q < g.boxes → LockStands q order s.words s.homes (map (hand_at q) s.views)
       pub some_word : 0 < length s.words
       pub word : slice_index s.words 0 ≡ low + flag first
       pub count : low + completed order ≡ posted order + owed s.views
       pub few : low + postable s.views < 2 ^ 63
-      pub each : (j : ℕ) (v : View M W) → get_elem? s.views j ≡ some v → Knows g order first low v
+      pub each : (j : ℕ) (v : View M W) → get_elem? s.views j ≡ some v → KnowsBoard g order first low v
       pub once : (n : ℕ) → total (λ (v : View M W). times n (numbers v)) s.views ≤ 1
       pub whole : total (λ (v : View M W). length v.lanes) s.views ≡ g.boxes
       pub maker : (a : Abort) → first ≡ Some a → 0 < total (makes a.by) s.views
@@ -136,8 +133,7 @@ module _ {M W : Type 0} where
     HasOwn v order = (k : ℕ) (o : Own M) → get_elem? v.lanes k ≡ some o → own o.number order ≡ o.events
 
     -- what is asked of an event that a pass is to record, behind the history found: a Post is the pass's own, under a
-    -- job that it has, fits and is counted up; a Take or a Done is one of the pass's
-    -- own mailbox, and may follow
+    -- job that it has, fits and is counted up; a Take or a Done is one of the pass's own mailbox, and may follow
     abbrev pub MayRecord : ℕ → ℕ → Event M → List (Event M) → View M W → Type 0
     MayRecord q n (Post s m) x v = (s ≡ n) × HasJob n v.under v.seen.order
         × ((g : Ground M W) × (get_elem? v.boards 0 ≡ some g) × fits g.world.value q m) × (0 < v.owes)
@@ -145,11 +141,11 @@ module _ {M W : Type 0} where
     MayRecord q n (Done t) x v = (n ≡ q) × MayFollow x (Done t)
 
     -- the history is left as it was found, or with one event that the pass may record
-    abbrev pub Asks : ℕ → Kind (List (Event M)) → View M W → Type 0
-    Asks q draws v = Unit {0}
-    Asks q waits v = Unit {0}
-    Asks q (enters x) v = Unit {0}
-    Asks q (passes x y) v = (y ≡ x)
+    abbrev pub LeavesOneEvent : ℕ → Kind (List (Event M)) → View M W → Type 0
+    LeavesOneEvent q draws v = Unit {0}
+    LeavesOneEvent q waits v = Unit {0}
+    LeavesOneEvent q (enters x) v = Unit {0}
+    LeavesOneEvent q (passes x y) v = (y ≡ x)
         ⊎ ((o : Own M) × (e : Event M) × (v.lanes ≡ o ∷ []) × (own o.number v.seen.order ≡ o.events) × (y ≡ x ++ e ∷ [])
         × MayRecord q o.number e x v)
 
@@ -170,12 +166,12 @@ module _ {M W : Type 0} where
 
     -- a look in turn tells the order, whose part for the mailbox is the history found; a pass on records the event, if
     -- there is one
-    abbrev pub Tells : ℕ → Kind (List (Event M)) → View M W → View M W → Type 0
-    Tells q draws v w = w ≡ with_hand q (hand_at q w) v
-    Tells q waits v w = w ≡ v
-    Tells q (enters x) v w = (w ≡ with_seen w.seen (with_hand q (hand_at q w) v)) × News v w.seen × HasOwn v w.seen.order
+    abbrev pub TellsOrder : ℕ → Kind (List (Event M)) → View M W → View M W → Type 0
+    TellsOrder q draws v w = w ≡ with_hand q (hand_at q w) v
+    TellsOrder q waits v w = w ≡ v
+    TellsOrder q (enters x) v w = (w ≡ with_seen w.seen (with_hand q (hand_at q w) v)) × News v w.seen × HasOwn v w.seen.order
         × (w.seen.aborted ≡ v.seen.aborted) × (w.seen.knows ≡ v.seen.knows) × (part q w.seen.order ≡ x)
-    Tells q (passes x y) v w = (y ≡ x → w ≡ with_hand q (hand_at q w) v)
+    TellsOrder q (passes x y) v w = (y ≡ x → w ≡ with_hand q (hand_at q w) v)
         × ((o : Own M) (e : Event M) → v.lanes ≡ o ∷ [] → y ≡ x ++ e ∷ [] → Recorded q o e x v w)
 
     -- the seat is inside the lock of a mailbox, whose history x is out, and is the part of the order that the seat has
@@ -195,7 +191,7 @@ module _ {M W : Type 0} where
       pub part : part q m'.0.seen.order ≡ x
 
     -- a look at word 0 tells the order as it is, the abort if there was one, and the close where no post is outstanding
-    pub record Looked (m : Seat M W) (n : ℕ) (m' : Seat M W) : Type 0 where
+    pub record LookedAtWord (m : Seat M W) (n : ℕ) (m' : Seat M W) : Type 0 where
       pub after : m' ≡ (with_seen m'.0.seen m.0, m.1)
       pub news : News m.0 m'.0.seen
       pub own : HasOwn m.0 m'.0.seen.order
@@ -213,7 +209,7 @@ module _ {M W : Type 0} where
       pub which : (b : Abort) × (m'.0.seen.aborted ≡ Some b) × ((b ≡ a) ⊎ (b.by ≢ a.by))
 
     -- the seat has taken in what it was told
-    pub record TookIn (m m' : Seat M W) : Type 0 where
+    pub record SeatTookIn (m m' : Seat M W) : Type 0 where
       pub after : m' ≡ (taken_in m.0, m.1)
       pub news : News m.0 m'.0.seen
       pub theirs : StartsWith m'.0.seen.order m.0.told.order

@@ -48,15 +48,14 @@ SaysStopped (Ok answer.Empty) = ⊥
 SaysStopped (Ok (answer.Message job m)) = ⊥
 
 -- a post is refused since the board was aborted, or since the calls are used up
-abbrev pub IsStopped : {M : Type 0} → PostFault M → Type 0
-IsStopped (fault.Spent m) = Unit {0}
-IsStopped (fault.Aborted m) = Unit {0}
-IsStopped (fault.Memory m) = ⊥
+abbrev pub IsPostStopped : {M : Type 0} → PostFault M → Type 0
+IsPostStopped (fault.Spent m) = Unit {0}
+IsPostStopped (fault.Aborted m) = Unit {0}
+IsPostStopped (fault.Memory m) = ⊥
 
 module _ {M W : Type 0} (fits : W → ℕ → M → Type 0) where
-  -- What each call keeps: the pass stays the same one, its order begins with all that it had seen, which is sound,
-  -- who made an
-  -- abort knows of one, who knows the close knows it from then on, and its order is closed.
+  -- What each call keeps: the pass stays the same one, its order begins with all that it had seen, which is sound, who
+  -- made an abort knows of one, who knows the close knows it from then on, and its order is closed.
   pub record GoesOn (s t : Sight M W) : Type 0 where
     pub board : t.board ≡ s.board
     pub number : t.number ≡ s.number
@@ -100,7 +99,7 @@ module _ {M W : Type 0} (fits : W → ℕ → M → Type 0) where
 
   -- the oldest message not yet taken was taken, of a board that was not aborted; it fits the mailbox, and the job is
   -- that of the take
-  pub record TookMessage (job : ℕ) (m : M) (s t : Sight M W) : Type 0 where
+  pub record TookOldest (job : ℕ) (m : M) (s t : Sight M W) : Type 0 where
     pub sender : ℕ
     pub added : Added (Taken s.number sender m) s t
     pub oldest : TakesOldest (part s.number added.front) (part s.number t.seen.order) m
@@ -108,12 +107,11 @@ module _ {M W : Type 0} (fits : W → ℕ → M → Type 0) where
     pub fit : fits s.seen.world s.number m
     pub alive : t.seen.aborted ≡ None
 
-  -- what a take answers: closed, where the pass knows the close; aborted, where it does not and the board is; else
-  -- the oldest message, or
-  -- that every one is taken
+  -- what a take answers: closed, where the pass knows the close; aborted, where it does not and the board is; else the
+  -- oldest message, or that every one is taken
   abbrev pub Took : Result (answers.Taken M) Spent → Sight M W → Sight M W → Type 0
   Took (Err e) s t = WasSpent s t
-  Took (Ok (answer.Message job m)) s t = TookMessage job m s t
+  Took (Ok (answer.Message job m)) s t = TookOldest job m s t
   Took (Ok answer.Empty) s t = Looked s t × (t.knows ≡ false) × (t.seen.aborted ≡ None) × AllTaken s.number t.seen.order
   Took (Ok answer.Closed) s t = Looked s t × (t.knows ≡ true)
   Took (Ok answer.Aborted) s t = Looked s t × (t.knows ≡ false) × IsSome t.seen.aborted
@@ -123,8 +121,7 @@ module _ {M W : Type 0} (fits : W → ℕ → M → Type 0) where
   WasDone job s t = Added (Completed s.number job) s t
 
   -- The board is aborted: by this pass for this cause, unless another pass aborted it before; no call is used up, and
-  -- the pass made no
-  -- event. A second abort of the pass changes nothing.
+  -- the pass made no event. A second abort of the pass changes nothing.
   pub record MadeAbort (a : Abort) (s t : Sight M W) : Type 0 where
     pub goes : GoesOn s t
     pub made : t.made ≡ true
@@ -133,9 +130,8 @@ module _ {M W : Type 0} (fits : W → ℕ → M → Type 0) where
     pub first : s.made ≡ false → (b : Abort) × (t.seen.aborted ≡ Some b) × ((b ≡ a) ⊎ (b.by ≢ s.number))
     pub again : s.made ≡ true → t ≡ s
 
-  -- the pass has seen what it had seen and what it was told, and no more: the longer order, an abort that either
-  -- knew, and the close
-  -- where either knew it
+  -- the pass has seen what it had seen and what it was told, and no more: the longer order, an abort that either knew,
+  -- and the close where either knew it
   pub record Learned (told : Account M) (s t : Sight M W) : Type 0 where
     pub none : MadeNone s t
     pub calls : t.calls ≡ s.calls
@@ -147,9 +143,8 @@ module _ {M W : Type 0} (fits : W → ℕ → M → Type 0) where
     pub known : t.knows ≡ true → (s.knows ≡ true) ⊎ (told.knows ≡ true)
 
   -- What is left of a board: one lawful order, which begins with each pass's order and has each pass's own list; its
-  -- parts are the histories; it is closed where
-  -- all its histories are, and where some pass knows the close; and the abort that some pass knows of was made by a
-  -- pass.
+  -- parts are the histories; it is closed where all its histories are, and where some pass knows the close; and the
+  -- abort that some pass knows of was made by a pass.
   pub record Settles (boxes : ℕ) (passes : List (Sight M W)) (histories : List (List (Event M))) (closed : Bool) : Type 0 where
     pub order : List (Entry M)
     pub lawful : IsLawful boxes order

@@ -11,7 +11,7 @@ use Rattle.switchboard.specs.declared.calls.Abort.{Abort}
 
 -- the world of its messages, the number of its mailboxes, the order of its events, and its first abort, if there was
 -- one
-pub record State (M W : Type 0) : Type 0 where
+pub record BoardState (M W : Type 0) : Type 0 where
   pub world : W
   pub boxes : ℕ
   pub order : List (Entry M)
@@ -25,7 +25,7 @@ pub record Sight (M W : Type 0) : Type 0 where
   pub calls : ℕ
   pub made : Bool
   pub knows : Bool
-  pub seen : State M W
+  pub seen : BoardState M W
 
 -- what a pass told: its board, whether it knew the close, and the order and the abort that it had seen
 pub record Account (M : Type 0) : Type 0 where
@@ -45,11 +45,11 @@ AllTaken q order = length (posts (part q order)) ≡ length (takes (part q order
 
 module _ {M W : Type 0} where
   -- a board on which nothing but the opening post was made
-  abbrev pub opened : W → ℕ → ℕ → M → State M W
+  abbrev pub opened : W → ℕ → ℕ → M → BoardState M W
   opened world boxes to first = record { world = world; boxes = boxes; order = Posted to boxes first 0 ∷ []; aborted = None }
 
   -- the second state goes on from the first: its order begins with the first's, and the first's abort stays
-  pub record Before (s t : State M W) : Type 0 where
+  pub record Before (s t : BoardState M W) : Type 0 where
     pub world : t.world ≡ s.world
     pub boxes : t.boxes ≡ s.boxes
     pub order : StartsWith t.order s.order
@@ -60,7 +60,7 @@ module _ {M W : Type 0} where
   told_by s = record { board = s.board; knows = s.knows; order = s.seen.order; aborted = s.seen.aborted }
 
   -- a pass that has seen the opening post alone
-  abbrev pub fresh_sight : TableId → ℕ → State M W → ℕ → Sight M W
+  abbrev pub fresh_sight : TableId → ℕ → BoardState M W → ℕ → Sight M W
   fresh_sight id budget s number = record {
     board = id;
     number = number;
@@ -72,13 +72,13 @@ module _ {M W : Type 0} where
   }
 
   -- so many passes, numbered from `first` on
-  abbrev pub fresh_sights : TableId → ℕ → State M W → ℕ → ℕ → List (Sight M W)
+  abbrev pub fresh_sights : TableId → ℕ → BoardState M W → ℕ → ℕ → List (Sight M W)
   fresh_sights id budget s first zero = []
   fresh_sights id budget s first (suc count) = fresh_sight id budget s first ∷ fresh_sights id budget s (suc first) count
 
   module _ (fits : W → ℕ → M → Type 0) where
     -- sound: the order is lawful, each message posted fits its mailbox, and an abort is by one of the passes
-    pub record IsSound (s : State M W) : Type 0 where
+    pub record IsSound (s : BoardState M W) : Type 0 where
       pub lawful : IsLawful s.boxes s.order
       pub fitting : (i to sender : ℕ) (m : M) (t : ℕ) → slice_get s.order i ≡ Some (Posted to sender m t) → fits s.world to m
       pub by : (a : Abort) → s.aborted ≡ Some a → a.by < s.boxes

@@ -3,16 +3,16 @@ use Rattle.std.specs.Prelude.{◌≡◌, ℕ, ◌+◌, Bool, ◌∷◌, Option, 
 use Rattle.std.specs.declared.vec.IntoIter.{IntoIter}
 use Rattle.std.specs.Vec.Iter.{into_iter_items, into_iter_len}
 use Rattle.ticket_lock.specs.Lanes.{Standing}
-use Rattle.switchboard.specs.Sights.{State, Sight}
+use Rattle.switchboard.specs.Sights.{BoardState, Sight}
 use Rattle.switchboard.specs.Passes.{sight_of, IsPass}
 
 module _ {M W : Type 0} (fits : W → ℕ → M → Type 0) where
   -- the lane is that of the pass
-  abbrev pub IsLaneOf : Standing (State M W) → Sight M W → Type 0
+  abbrev pub IsLaneOf : Standing (BoardState M W) → Sight M W → Type 0
   IsLaneOf lane p = (w : W) × (boxes : ℕ) × (kept : Bool) × IsPass fits lane w boxes kept × (sight_of lane w boxes kept ≡ p)
 
   -- the lane of the first pass that is left comes next, if one is
-  abbrev pub Unwraps : {Z : Type 0} → IntoIter (Sight M W) Z → Option (Standing (State M W)) → IntoIter (Sight M W) Z → Type 0
+  abbrev pub Unwraps : {Z : Type 0} → IntoIter (Sight M W) Z → Option (Standing (BoardState M W)) → IntoIter (Sight M W) Z → Type 0
   Unwraps s r t =
       MatchOption r ((into_iter_len s ≡ 0) × (into_iter_len t ≡ 0))
       (λ lane. (p : Sight M W) × (into_iter_items s ≡ p ∷ into_iter_items t) × (into_iter_len t + 1 ≡ into_iter_len s) × IsLaneOf lane p)

@@ -6,9 +6,9 @@ ghost use Rattle.switchboard.specs.declared.calls.Taken.{Taken};
 ghost use Rattle.switchboard.specs.declared.calls.PostFault.{PostFault};
 ghost use Rattle.switchboard.specs.declared.calls.Abort.{Abort};
 ghost use Rattle.switchboard.specs.Sights.{Sight, Account, IsSound};
-ghost use Rattle.switchboard.specs.Promises.{Took, TookMessage, WasPosted, WasRefused, WasDone};
+ghost use Rattle.switchboard.specs.Promises.{Took, TookOldest, WasPosted, WasRefused, WasDone};
 ghost use Rattle.switchboard.specs.Promises.{MadeAbort, Learned};
-ghost use Rattle.switchboard.specs.Promises.{WasSpent, SaysClosed, SaysStopped, IsStopped};
+ghost use Rattle.switchboard.specs.Promises.{WasSpent, SaysClosed, SaysStopped, IsPostStopped};
 
 use crate::mail::Mail;
 
@@ -44,7 +44,7 @@ pub fn an_abort_stays<M: Mail<W>, W>()
         → WasPosted M.fits job to m s t → ⊥ }
     ensures refusals { (s t : Sight M W) (m : M) (f : PostFault M) → IsSome s.seen.aborted
         → WasRefused M.fits m f s t
-        → IsStopped f }
+        → IsPostStopped f }
 {}
 
 /// Nobody who has a job has seen a closed order.
@@ -55,9 +55,9 @@ pub fn nobody_with_a_job_knows_the_close<M: Mail<W>, W>()
 
 /// Who took a message has its job, which is none that it had before.
 pub fn a_message_comes_with_a_job<M: Mail<W>, W>()
-    ensures has { (s t : Sight M W) (job : ℕ) (m : M) → TookMessage M.fits job m s t
+    ensures has { (s t : Sight M W) (job : ℕ) (m : M) → TookOldest M.fits job m s t
         → HasJob t.number job t.seen.order }
-    ensures other { (s t : Sight M W) (job old : ℕ) (m : M) → TookMessage M.fits job m s t
+    ensures other { (s t : Sight M W) (job old : ℕ) (m : M) → TookOldest M.fits job m s t
         → HasJob s.number old s.seen.order → old ≢ job }
 {}
 

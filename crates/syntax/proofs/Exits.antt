@@ -1,12 +1,12 @@
 -- Where a part is refused, so is the whole.
 use Rattle.std.proofs.Common.{◌≡◌, Option, None}
 use Rattle.std.specs.Prelude.{Result, Ok, Err, IsErrAnd}
-use Rattle.syntax.specs.Gives.{Fails, Gives}
+use Rattle.syntax.specs.Gives.{RefusesTokens, Gives}
 use Rattle.syntax.specs.declared.fault.ReadFault.{ReadFault}
 use Rattle.syntax.specs.declared.fault.ReadFault.TheVariants as fault
 
 pub fails_on : {Y Z : Type 0} (e : ReadFault) (given : Option Y) (other : Option Z) → (given ≡ None → other ≡ None)
-    → Fails e given → Fails e other
+    → RefusesTokens e given → RefusesTokens e other
 fails_on (fault.Syntax at) given other h f = h f
 fails_on fault.Memory given other h f = tt
 fails_on fault.TooLong given other h f = absurd f
@@ -14,7 +14,7 @@ fails_on fault.NotAscii given other h f = absurd f
 fails_on fault.TooDeep given other h f = absurd f
 
 pub refused : {X Y Z : Type 0} (view : X → Z) (r : Result X ReadFault) (e : ReadFault) (given : Option Y)
-    (other : Option Z) → IsErrAnd r (λ y. y ≡ e) → (given ≡ None → other ≡ None) → Fails e given
+    (other : Option Z) → IsErrAnd r (λ y. y ≡ e) → (given ≡ None → other ≡ None) → RefusesTokens e given
     → Gives view r other
 refused view (Ok x) e given other same h f = absurd same
 refused view (Err y) e given other same h f = rw same (fails_on e given other h f)

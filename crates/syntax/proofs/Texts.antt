@@ -10,9 +10,9 @@ use Rattle.tokens.specs.Depth.{TooDeep}
 use Rattle.syntax.specs.declared.fault.ReadFault.{ReadFault}
 use Rattle.syntax.specs.declared.fault.ReadFault.TheVariants as fault
 use Rattle.trees.specs.declared.tree.Program.{Program}
-use Rattle.syntax.specs.Gives.{Gives, Fails}
+use Rattle.syntax.specs.Gives.{Gives, RefusesTokens}
 use Rattle.syntax.specs.Exact.{program}
-use Rattle.syntax.specs.Text.{Text, Stands}
+use Rattle.syntax.specs.Text.{Text, ReadFaultStands}
 use Rattle.trees.specs.Trees.{tree_of}
 use Rattle.syntax.proofs.Fixes.{both}
 use Rattle.syntax.proofs.Programs.{program_finds, program_reads}
@@ -22,14 +22,14 @@ module _ (A : Type 0) (bytes : List ℕ) (tokens : List Tok) (within : length by
   reads : (tree : Tree) → Text bytes tree → program tokens ≡ Some (tree, [])
   reads tree text = program_reads tokens tree (rw (only text.tokens text.cut) at text.program)
 
-  only_memory : (e : ReadFault) (tree : Tree) → Text bytes tree → Fails {Y = Tree × List Tok} e (program tokens) → e ≡ fault.Memory
+  only_memory : (e : ReadFault) (tree : Tree) → Text bytes tree → RefusesTokens {Y = Tree × List Tok} e (program tokens) → e ≡ fault.Memory
   only_memory (fault.Syntax at) tree text f = let h = reads tree text in cc
   only_memory fault.Memory tree text f = refl
   only_memory fault.TooLong tree text f = absurd f
   only_memory fault.NotAscii tree text f = absurd f
   only_memory fault.TooDeep tree text f = absurd f
 
-  stands : (e : ReadFault) → Fails {Y = Tree × List Tok} e (program tokens) → Stands e bytes
+  stands : (e : ReadFault) → RefusesTokens {Y = Tree × List Tok} e (program tokens) → ReadFaultStands e bytes
   stands (fault.Syntax at) f = (within, ascii, inr (tokens, cut, shallow, λ tree is. let h = program_reads tokens tree is in cc))
   stands fault.Memory f = (within, ascii)
   stands fault.TooLong f = absurd f
@@ -41,7 +41,7 @@ module _ (A : Type 0) (bytes : List ℕ) (tokens : List Tok) (within : length by
   Right r = record {
     found : IfOk r (λ p. Text bytes (tree_of p));
     only : (tree : Tree) → Text bytes tree → MatchResult r (λ p. tree_of p ≡ tree) (λ e. e ≡ fault.Memory);
-    fault : IfErr r (λ e. Stands e bytes);
+    fault : IfErr r (λ e. ReadFaultStands e bytes);
   }
 
   pub text_read : (r : Result (Program A) ReadFault)

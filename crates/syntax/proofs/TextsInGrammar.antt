@@ -21,22 +21,22 @@ use Rattle.syntax.specs.Text.{Text}
 
 -- A token that is a name is spelled as one.
 abbrev Spelled : Tok → Type 0
-Spelled t = t.kind ≡ kind.Id → spelling.IsName t.text
+Spelled t = t.kind ≡ kind.Id → spelling.IsNameWord t.text
 
 abbrev AllSpelled : List Tok → Type 0
 AllSpelled ts = AllByRecursion Spelled ts
 
-no_word : (k : Kind) (text : List ℕ) → reserved_word k ≡ Some text → k ≡ kind.Id → spelling.IsName text
+no_word : (k : Kind) (text : List ℕ) → reserved_word k ≡ Some text → k ≡ kind.Id → spelling.IsNameWord text
 no_word k text e is = let none : None ≡ Some text = rw is at e in cc
 
-no_sign : (k : Kind) (text : List ℕ) → sign k ≡ Some text → k ≡ kind.Id → spelling.IsName text
+no_sign : (k : Kind) (text : List ℕ) → sign k ≡ Some text → k ≡ kind.Id → spelling.IsNameWord text
 no_sign k text e is = let none : None ≡ Some text = rw is at e in cc
 
-word_spelled : (k : Kind) (text : List ℕ) → IsWord k text → k ≡ kind.Id → spelling.IsName text
+word_spelled : (k : Kind) (text : List ℕ) → IsWord k text → k ≡ kind.Id → spelling.IsNameWord text
 word_spelled k text (reserved e) is = no_word k text e is
 word_spelled k text (name n) is = n
 
-token_spelled : (k : Kind) (text rest : List ℕ) → IsToken k text rest → k ≡ kind.Id → spelling.IsName text
+token_spelled : (k : Kind) (text rest : List ℕ) → IsToken k text rest → k ≡ kind.Id → spelling.IsNameWord text
 token_spelled k text rest (word w stops) is = word_spelled k text w is
 token_spelled k text rest (sign_of e longest) is = no_sign k text e is
 

@@ -8,17 +8,17 @@ use Rattle.syntax.specs.declared.fault.ReadFault.{ReadFault}
 use Rattle.syntax.specs.declared.fault.ReadFault.TheVariants as fault
 
 -- Nothing is given where a token is refused; want of memory says nothing; no other fault comes.
-abbrev pub Fails : {Y : Type 0} → ReadFault → Option Y → Type 0
-Fails (fault.Syntax at) given = given ≡ None
-Fails fault.Memory given = Unit {0}
-Fails fault.TooLong given = ⊥
-Fails fault.NotAscii given = ⊥
-Fails fault.TooDeep given = ⊥
+abbrev pub RefusesTokens : {Y : Type 0} → ReadFault → Option Y → Type 0
+RefusesTokens (fault.Syntax at) given = given ≡ None
+RefusesTokens fault.Memory given = Unit {0}
+RefusesTokens fault.TooLong given = ⊥
+RefusesTokens fault.NotAscii given = ⊥
+RefusesTokens fault.TooDeep given = ⊥
 
 -- What was answered, seen by view, is what is given.
 abbrev pub Gives : {X Y : Type 0} → (X → Y) → Result X ReadFault → Option Y → Type 0
 Gives view (Ok x) given = given ≡ Some (view x)
-Gives view (Err e) given = Fails e given
+Gives view (Err e) given = RefusesTokens e given
 
 -- What is read of the tokens, seen by view, is what the grammar's function reads, and the same tokens are left.
 abbrev pub Parses : {X Y : Type 0} → (X → Y) → Result (X × Bor (List Token)) ReadFault → Parser Y → List Token → Type 0

@@ -4,14 +4,14 @@ use Rattle.std.specs.List.{AllByRecursion}
 use Rattle.language.specs.Tree.{Name, Expression, const, var, negation, two, RightSide, any, value, Simple, skip, assign, assert, assume}
 use Rattle.language.specs.Tree.{goto, leave, call, Block, done, one, choose, loop, Procedure, ThreadLine, Tree}
 use Rattle.tokens.specs.Limits.{most_bytes}
-use Rattle.tokens.specs.Spelling.{IsName}
+use Rattle.tokens.specs.Spelling.{IsNameWord}
 use Rattle.syntax.specs.Grammar.{IsSome}
 use Rattle.syntax.specs.Text.{Text, DeepTokens}
 use Rattle.syntax.specs.Offsets.{SameButOffsets}
 
 -- A name is made of word bytes, begins with no digit, and is no keyword.
 abbrev pub IsId : Name → Type 0
-IsId n = IsName n.text
+IsId n = IsNameWord n.text
 
 -- Each name is an id.
 abbrev pub AreIds : List Name → Type 0

@@ -31,12 +31,12 @@ NoProgram bytes = (tokens : List Tok) × Cuts 0 bytes tokens × (TooDeep tokens 
 -- The fault stands, and none that is tested before it: too many bytes; a byte that is not ASCII; a place
 -- up to which the bytes are cut into tokens and where no token begins; tokens that are too deep; tokens that are no
 -- program. Want of memory may come wherever the bytes are not too many and ASCII: those two tests take none.
-abbrev pub Stands : ReadFault → List ℕ → Type 0
-Stands fault.TooLong bytes = most_bytes < length bytes
-Stands fault.NotAscii bytes = (length bytes ≤ most_bytes) × (IsAscii bytes → ⊥)
-Stands (fault.Syntax at) bytes = (length bytes ≤ most_bytes) × IsAscii bytes × (BadAt 0 bytes at ⊎ NoProgram bytes)
-Stands fault.TooDeep bytes = (length bytes ≤ most_bytes) × IsAscii bytes × DeepTokens bytes
-Stands fault.Memory bytes = (length bytes ≤ most_bytes) × IsAscii bytes
+abbrev pub ReadFaultStands : ReadFault → List ℕ → Type 0
+ReadFaultStands fault.TooLong bytes = most_bytes < length bytes
+ReadFaultStands fault.NotAscii bytes = (length bytes ≤ most_bytes) × (IsAscii bytes → ⊥)
+ReadFaultStands (fault.Syntax at) bytes = (length bytes ≤ most_bytes) × IsAscii bytes × (BadAt 0 bytes at ⊎ NoProgram bytes)
+ReadFaultStands fault.TooDeep bytes = (length bytes ≤ most_bytes) × IsAscii bytes × DeepTokens bytes
+ReadFaultStands fault.Memory bytes = (length bytes ≤ most_bytes) × IsAscii bytes
 
 -- The faults are tested in the order of these numbers, but that the tokens are tested for being a program last.
 abbrev pub number : ReadFault → ℕ

@@ -58,7 +58,8 @@ impl<'a, A: Allocator + Clone> Reader<'a, A> {
     /// Reads items, at least one, as long as another comes.
     pub fn repeated<'t, T: Repeated<A>>(&self, tokens: &'t [Token<'t>]) -> Read<'t, Vec<T, A>>
         requires { Strict T.grammar }
-        ensures gives { Parses (λ v. map T.tree v.items) result (repeated T.another T.grammar) tokens.now }
+        ensures gives { Parses (λ v. map T.tree v.items) result
+            (repeated T.another T.grammar) tokens.now }
         ensures shorter { Shorter result tokens.now }
     {
         let (first, mut rest) = T::read(self, tokens)?;

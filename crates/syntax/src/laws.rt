@@ -2,15 +2,17 @@
 
 ghost use Rattle.std.specs.Prelude.{◌≡◌, ◌<◌, ℕ, List};
 ghost use Rattle.language.specs.Tree.{Tree};
-ghost use Rattle.syntax.specs.Text.{Text, Stands, number};
+ghost use Rattle.syntax.specs.Text.{Text, ReadFaultStands, number};
 ghost use Rattle.syntax.specs.declared.fault.ReadFault.{ReadFault};
 
 /// A law: a text has one tree, no fault but want of memory stands at a text, and at other bytes only one of the
 /// faults 1 to 4 stands.
 pub fn texts_have_one_tree()
-    ensures one_tree { (bytes : List ℕ) (tree other : Tree) → Text bytes tree → Text bytes other → tree ≡ other }
+    ensures one_tree { (bytes : List ℕ) (tree other : Tree) → Text bytes tree → Text bytes other
+        → tree ≡ other }
     ensures no_fault { (bytes : List ℕ) (tree : Tree) (fault : ReadFault)
-        → Text bytes tree → Stands fault bytes → number fault ≡ 5 }
+        → Text bytes tree → ReadFaultStands fault bytes → number fault ≡ 5 }
     ensures one_fault { (bytes : List ℕ) (fault other : ReadFault)
-        → Stands fault bytes → Stands other bytes → number fault < 5 → number other < 5 → number fault ≡ number other }
+        → ReadFaultStands fault bytes → ReadFaultStands other bytes → number fault < 5
+        → number other < 5 → number fault ≡ number other }
 {}

@@ -4,7 +4,8 @@ ghost use Rattle.std.specs.Prelude.{◌≡◌, ◌+◌, ◌++◌, IfOk, option_m
 ghost use Rattle.std.specs.String.{string_bytes};
 ghost use Rattle.tokens.specs.Parts.{text_of};
 ghost use Rattle.language.specs.Tree.{assign, goto, call};
-ghost use Rattle.trees.specs.Trees.{name_of, names_of, exprs_of, rhs_of, rhss_of, simple, branch, repeat, deed_of, block_of};
+ghost use Rattle.trees.specs.Trees.{name_of, names_of, exprs_of, rhs_of, rhss_of, simple, branch};
+ghost use Rattle.trees.specs.Trees.{repeat, deed_of, block_of};
 ghost use Rattle.syntax.specs.Printed.{Prints, side_parts, label_parts, margin, block_parts};
 ghost use Rattle.syntax.specs.PrintedDeed.{deed_parts};
 
@@ -31,7 +32,8 @@ pub fn print_margin<A: Allocator>(out: &mut String<A>, level: usize) -> Result<(
 
 /// Prints a text behind the margin of this level.
 fn print_line<A: Allocator>(out: &mut String<A>, level: usize, text: &str) -> Result<(), AllocError>
-    ensures { IfOk result (λ _. string_bytes out.new ≡ string_bytes out.old ++ (text_of (margin level) ++ text.now)) }
+    ensures { IfOk result
+        (λ _. string_bytes out.new ≡ string_bytes out.old ++ (text_of (margin level) ++ text.now)) }
 {
     print_margin(out, level)?;
     out.push_str(text)
@@ -59,7 +61,8 @@ fn print_test<N: Allocator, A: Allocator>(
     behind: &str,
 ) -> Result<(), AllocError>
     ensures { IfOk result (λ _. string_bytes out.new
-        ≡ string_bytes out.old ++ (before.now ++ (text_of (side_parts (rhs_of side.now)) ++ behind.now))) }
+        ≡ string_bytes out.old
+        ++ (before.now ++ (text_of (side_parts (rhs_of side.now)) ++ behind.now))) }
 {
     out.push_str(before)?;
     side.print(out)?;
@@ -99,7 +102,8 @@ fn print_call<N: Allocator, A: Allocator>(
     name: &Name<N>,
     arguments: &[Expr<N>],
 ) -> Result<(), AllocError>
-    ensures { Prints result out.old out.new (deed_parts 0 (simple (call (name_of name.now) (exprs_of arguments.now)))) }
+    ensures { Prints result out.old out.new
+        (deed_parts 0 (simple (call (name_of name.now) (exprs_of arguments.now)))) }
 {
     name.print(out)?;
     out.push_str("(")?;
@@ -174,7 +178,8 @@ fn print_loop<N: Allocator, A: Allocator>(
     side: &Rhs<N>,
     body: &[Stmt<N>],
 ) -> Result<(), AllocError>
-    ensures { Prints result out.old out.new (deed_parts level (repeat (rhs_of side.now) (block_of body.now))) }
+    ensures { Prints result out.old out.new
+        (deed_parts level (repeat (rhs_of side.now) (block_of body.now))) }
 {
     let inner = below(level)?;
     print_test(out, "while (", side, ") do\n")?;

@@ -11,7 +11,8 @@ ghost use Rattle.syntax.specs.Text.{Text};
 /// tree, offsets aside, where it is within the limits of texts; so what is read and printed is read again.
 pub fn printed_texts_are_read_back()
     ensures in_grammar { (bytes : List ℕ) (tree : Tree) → Text bytes tree → InGrammar tree }
-    ensures reads_back { (tree : Tree) → InGrammar tree → WithinLimits (printed tree) → IsTextOf (printed tree) tree }
+    ensures reads_back { (tree : Tree) → InGrammar tree → WithinLimits (printed tree)
+        → IsTextOf (printed tree) tree }
     ensures again { (bytes : List ℕ) (tree : Tree)
         → Text bytes tree → WithinLimits (printed tree) → IsTextOf (printed tree) tree }
 {}

@@ -77,7 +77,8 @@ pub fn print<N: Allocator, A: Allocator>(
     ensures form { IfOk result (λ text. string_bytes text ≡ printed (tree_of program.now)) }
     // Within the limits of texts it is a text with that tree, offsets aside, where the tree is one of the grammar.
     ensures back { InGrammar (tree_of program.now) → IfOk result
-        (λ text. WithinLimits (string_bytes text) → IsTextOf (string_bytes text) (tree_of program.now)) }
+        (λ text. WithinLimits (string_bytes text)
+        → IsTextOf (string_bytes text) (tree_of program.now)) }
 {
     let mut out = String::new(alloc);
     print_declaration(&mut out, 0, &program.globals)?;

@@ -50,7 +50,8 @@ impl<'a, A: Allocator + Clone> Reader<'a, A> {
     /// Reads `begin`, the locals, the statements and `end`.
     #[tactic(auto, using(crate::proofs::Closings::closed_seen), unfolding(crate::specs::Exact::insides))]
     fn insides<'t>(&self, tokens: &'t [Token<'t>]) -> Read<'t, (Vec<Name<A>, A>, Vec<Stmt<A>, A>)>
-        ensures gives { Parses (λ b. (names_of b.0.items, block_of b.1.items)) result insides tokens.now }
+        ensures gives { Parses
+            (λ b. (names_of b.0.items, block_of b.1.items)) result insides tokens.now }
         ensures shorter { Shorter result tokens.now }
     {
         let (_, inside) = self.take(Kind::Begin, tokens)?;

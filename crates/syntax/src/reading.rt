@@ -2,7 +2,7 @@
 
 ghost use Rattle.std.specs.Prelude.{◌≡◌, IfOk, IfErr, MatchResult};
 ghost use Rattle.language.specs.Tree.{Tree};
-ghost use Rattle.syntax.specs.Text.{Text, Stands};
+ghost use Rattle.syntax.specs.Text.{Text, ReadFaultStands};
 ghost use Rattle.trees.specs.Trees.{tree_of};
 ghost use Rattle.syntax.specs.declared.fault.ReadFault.TheVariants.{Memory};
 
@@ -22,7 +22,7 @@ pub fn read<A: Allocator + Clone>(alloc: A, bytes: &[u8]) -> Result<Program<A>, 
     ensures only { (tree : Tree) → Text bytes.now tree
         → MatchResult result (λ program. tree_of program ≡ tree) (λ fault. fault ≡ Memory) }
     // A fault that is answered stands.
-    ensures fault { IfErr result (λ fault. Stands fault bytes.now) }
+    ensures fault { IfErr result (λ fault. ReadFaultStands fault bytes.now) }
 {
     if bytes.len() > MOST_BYTES {
         return Err(ReadFault::TooLong);

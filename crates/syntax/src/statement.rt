@@ -53,7 +53,8 @@ impl<'a, A: Allocator + Clone> Reader<'a, A> {
     /// Reads a label, where there is one, and answers the place of the statement.
     #[tactic(auto, unfolding(crate::specs::Exact::marked))]
     fn mark<'t>(&self, tokens: &'t [Token<'t>]) -> Read<'t, (Option<Name<A>>, u32)>
-        ensures gives { Parses (λ m. record { label = option_map name_of m.0; at = m.1 }) result marked tokens.now }
+        ensures gives { Parses
+            (λ m. record { label = option_map name_of m.0; at = m.1 }) result marked tokens.now }
         ensures no_longer { IfOk result (λ p. length p.1.now ≤ length tokens.now) }
     {
         let Some((first, rest)) = tokens.split_first() else {

@@ -14,9 +14,9 @@ use Rattle.std.proofs.lemmas.List.{append-nil}
 use Rattle.ticket_lock.specs.History.{StartsWith, longer}
 use Rattle.ticket_lock.specs.Turns.{enters}
 use Rattle.ticket_lock.specs.Calls.{Enters, Came}
-use Rattle.ticket_lock.specs.Lone.{hand_of, Tells, TookIn, merged, new_view}
+use Rattle.ticket_lock.specs.Lone.{hand_of, TellsHistory, TookIn, merged, new_view}
 use Rattle.ticket_lock.specs.Lanes.{Standing, Held, Told, standing}
-use Rattle.ticket_lock.specs.Promises.{Drew, Served, Entered, Learned}
+use Rattle.ticket_lock.specs.Promises.{Drew, Served, EnteredLock, LearnedNote}
 use Rattle.ticket_lock.specs.Proved.Facts.{times-snoc, times-one}
 
 -- the last of a list is the first of its kind
@@ -29,7 +29,7 @@ without-snoc n (x ∷ xs) none = dite (ℕ_discrete x n)
 
 module _ {T Part : Type 0} (before : T → T → Type 0) (part : ℕ → T → Part) where
   pub served_is : (id id' : TableId) (number left ticket : ℕ) (v w : View T) (x : T) → id' ≡ id → ((o : T) × (v.own ≡ (number, o) ∷ []))
-      → Enters ticket x v.hand w.hand → Tells before part 0 (enters x) v w
+      → Enters ticket x v.hand w.hand → TellsHistory before part 0 (enters x) v w
       → Served before part ticket record { value = x; number = ticket } (standing id number left v) (standing id' number left w)
   served_is id id' number left ticket v w x same one e t = (
     record {
@@ -71,7 +71,7 @@ module _ {T : Type 0} where
         → ((k : ℕ) → ticket ≤ k → (times k a.drawn ≡ 0) × (times k a.tickets ≡ 0))
         → Served before part ticket guard
         (record a { left = a.left - 1; tickets = a.tickets ++ ticket ∷ []; drawn = a.drawn ++ ticket ∷ [] }) c
-        → Entered before part guard a c
+        → EnteredLock before part guard a c
     entered_from ticket guard a c had fresh s =
         let n : ticket ≡ guard.number = sym s.0.number in
         let back : without ticket (a.tickets ++ ticket ∷ []) ≡ a.tickets = without-snoc ticket a.tickets (fresh ticket (omega arith)).1 in
@@ -93,7 +93,7 @@ module _ {T : Type 0} where
         }
 
     pub entered_is : (ticket : ℕ) (guard : Held T) (a b c : Standing T) → Drew ticket a b → Served before part ticket guard b c
-        → Entered before part guard a c
+        → EnteredLock before part guard a c
     entered_is ticket guard a b c d s =
         entered_from ticket guard a c d.had d.fresh (subst (λ z. Served before part ticket guard z c) d.lane s)
 
@@ -107,8 +107,8 @@ module _ {T Part : Type 0} (before : T → T → Type 0) (part : ℕ → T → P
   -- a lane that drew and entered
   pub came_is : (id id' : TableId) (number left ticket : ℕ) (a : Standing T) (v w : Me (Option T) (View T)) (x : T)
       → standing id number left v.0 ≡ a → id' ≡ id → (left ≡ 0 → ⊥) → ((o : T) × (v.0.own ≡ (number, o) ∷ []))
-      → Came (hand_of 0) (Tells before part 0) 0 v ticket x w
-      → Entered before part record { value = x; number = ticket } a (standing id' number (left - 1) w.0)
+      → Came (hand_of 0) (TellsHistory before part 0) 0 v ticket x w
+      → EnteredLock before part record { value = x; number = ticket } a (standing id' number (left - 1) w.0)
   came_is id id' number left ticket a v w x is same some_of one came =
       let d : Me (Option T) (View T) = came.0 in
       let drew = came.1 in
@@ -129,7 +129,7 @@ module _ {T Part : Type 0} (before : T → T → Type 0) (part : ℕ → T → P
         };
       } in
       let served = served_is before part id id' number (left - 1) ticket d.0 w.0 x same (one.0, drew.2.1 ∙ one.1) came.2.1 came.2.2 in
-      subst (λ z. Entered before part record { value = x; number = ticket } z (standing id' number (left - 1) w.0)) is
+      subst (λ z. EnteredLock before part record { value = x; number = ticket } z (standing id' number (left - 1) w.0)) is
       (entered_is before part ticket record { value = x; number = ticket } (standing id number left v.0)
       (standing id number (left - 1) d.0) (standing id' number (left - 1) w.0) drawn served)
 
@@ -139,7 +139,7 @@ alone x y e = cc
 module _ {T Part : Type 0} (before : T → T → Type 0) (part : ℕ → T → Part) where
   learned_of : (id : TableId) (number left : ℕ) (v m : Me (Option T) (View T)) (x : T) (seen : List T) (note : Told T) → note.seen ≡ seen
       → v.0.own ≡ (number, x) ∷ [] → TookIn before part (merged v.0 (new_view seen []), v.1) m
-      → Learned before part note (standing id number left v.0) (standing id number left m.0)
+      → LearnedNote before part note (standing id number left v.0) (standing id number left m.0)
   learned_of id number left v m x seen note is one took =
       let h = v.0.hand in
       let e = ap (λ z. z.0) took.0 in
@@ -170,10 +170,10 @@ module _ {T Part : Type 0} (before : T → T → Type 0) (part : ℕ → T → P
   pub learned_is : (id id' : TableId) (number left : ℕ) (a : Standing T) (note : Told T) (v w m n : Me (Option T) (View T))
       → standing id number left v.0 ≡ a → id' ≡ id → ((x : T) × (v.0.own ≡ (number, x) ∷ []))
       → w ≡ (new_view note.seen [], []) → m ≡ (merged v.0 w.0, v.1) → TookIn before part m n
-      → Learned before part note a (standing id' number left n.0)
+      → LearnedNote before part note a (standing id' number left n.0)
   learned_is id id' number left a note v w m n is same one blank joined took =
       let view : w.0 ≡ new_view note.seen [] = ap (λ z. z.0) blank in
       let whole : m ≡ (merged v.0 (new_view note.seen []), v.1) = joined ∙ (λ i. (merged v.0 (view i), v.1)) in
       let r = learned_of id number left v n one.0 note.seen note refl one.1 (subst (λ z. TookIn before part z n) whole took) in
-      subst (λ z. Learned before part note z (standing id' number left n.0)) is
-      (subst (λ z. Learned before part note (standing id number left v.0) (standing z number left n.0)) (sym same) r)
+      subst (λ z. LearnedNote before part note z (standing id' number left n.0)) is
+      (subst (λ z. LearnedNote before part note (standing id number left v.0) (standing z number left n.0)) (sym same) r)

@@ -24,8 +24,8 @@ StandsAt is_place seat table key word slot = (seat ≡ table) × IsRoom word slo
 module _ {T : Type 0} where
   -- the hand has drawn a ticket that is above all that it drew and has, and not below the number of values left that it
   -- has seen
-  abbrev pub Draws : ℕ → Hand T → Hand T → Type 0
-  Draws n h h' = (h' ≡ with_ticket n h) × (length h.seen ≤ n + 1) × ((k : ℕ) → n ≤ k → (times k h.drawn ≡ 0) × (in_hand k h ≡ 0))
+  abbrev pub DrawsTicket : ℕ → Hand T → Hand T → Type 0
+  DrawsTicket n h h' = (h' ≡ with_ticket n h) × (length h.seen ≤ n + 1) × ((k : ℕ) → n ≤ k → (times k h.drawn ≡ 0) × (in_hand k h ≡ 0))
 
   -- the hand, which was outside, is inside with one of its tickets, at a history with as many values left as the ticket
   -- says, which begins with all that it had seen and ends in x
@@ -36,23 +36,23 @@ module _ {T : Type 0} where
 module _ {T V : Type 0} (see : V → Hand T) (tells : Kind T → V → V → Type 0) where
   -- a draw: the slots that the seat holds stay
   abbrev pub Drew : Me (Option T) V → ℕ → Me (Option T) V → Type 0
-  Drew m n m' = (m'.1 ≡ m.1) × Draws n (see m.0) (see m'.0) × tells draws m.0 m'.0
+  Drew m n m' = (m'.1 ≡ m.1) × DrawsTicket n (see m.0) (see m'.0) × tells draws m.0 m'.0
 
   -- a look too early: nothing changes, and fewer values are left than the ticket says
   abbrev pub Waited : ℕ → Me (Option T) V → Me (Option T) V → Type 0
   Waited ticket m m' = (m'.1 ≡ m.1) × (see m'.0 ≡ see m.0) × (length (see m.0).seen ≤ ticket) × tells waits m.0 m'.0
 
   -- a look in turn: the seat is inside and holds the slot, with y in it
-  abbrev pub Entered : ℕ → ℕ → T → Option T → Me (Option T) V → Me (Option T) V → Type 0
-  Entered slot ticket x y m m' = (m'.1 ≡ (slot, y) ∷ m.1) × Enters ticket x (see m.0) (see m'.0) × tells (enters x) m.0 m'.0
+  abbrev pub WentInside : ℕ → ℕ → T → Option T → Me (Option T) V → Me (Option T) V → Type 0
+  WentInside slot ticket x y m m' = (m'.1 ≡ (slot, y) ∷ m.1) × Enters ticket x (see m.0) (see m'.0) × tells (enters x) m.0 m'.0
 
   -- a look at the count, which is the ticket where it is this ticket's turn
   abbrev pub Loaded : ℕ → ℕ → Me (Option T) V → ℕ → Me (Option T) V → Type 0
-  Loaded slot ticket m n m' = (n ≡ ticket → (x : T) × Entered slot ticket x (Some x) m m') × (n ≢ ticket → Waited ticket m m')
+  Loaded slot ticket m n m' = (n ≡ ticket → (x : T) × WentInside slot ticket x (Some x) m m') × (n ≢ ticket → Waited ticket m m')
 
   -- a look, which takes the value out where it is this ticket's turn
-  abbrev pub Looked : ℕ → ℕ → Me (Option T) V → Option T → Me (Option T) V → Type 0
-  Looked slot ticket m r m' = MatchOption r (Waited ticket m m') (λ x. Entered slot ticket x None m m')
+  abbrev pub LookedAtTurn : ℕ → ℕ → Me (Option T) V → Option T → Me (Option T) V → Type 0
+  LookedAtTurn slot ticket m r m' = MatchOption r (Waited ticket m m') (λ x. WentInside slot ticket x None m m')
 
   -- the value y, which the seat held in the slot, is the last of the history now, and the seat is outside
   abbrev pub Passed : ℕ → Me (Option T) V → Me (Option T) V → Type 0
@@ -61,7 +61,7 @@ module _ {T V : Type 0} (see : V → Hand T) (tells : Kind T → V → V → Typ
 
   -- a draw, and then a look in turn: the seat is inside with this ticket, and has the value out
   abbrev pub Came : ℕ → Me (Option T) V → ℕ → T → Me (Option T) V → Type 0
-  Came slot m ticket x m' = (d : Me (Option T) V) × Drew m ticket d × Entered slot ticket x None d m'
+  Came slot m ticket x m' = (d : Me (Option T) V) × Drew m ticket d × WentInside slot ticket x None d m'
 
   -- the value y was left after x, and the seat is outside
   abbrev pub Left : T → Me (Option T) V → Me (Option T) V → Type 0

@@ -12,8 +12,8 @@ pub record Lock (T : Type 0) : Type 0 where
   pub lanes : ℕ
 
 -- a lane: its lock and its number, how many tickets it has left to draw, the history that it has seen, the tickets that
--- it waits with, the ticket that it is inside with if any, all tickets that it drew,
--- and, alone in a list, the value that it left last or the opening value
+-- it waits with, the ticket that it is inside with if any, all tickets that it drew, and, alone in a list, the value
+-- that it left last or the opening value
 pub record Standing (T : Type 0) : Type 0 where
   pub lock : TableId
   pub number : ℕ
@@ -35,8 +35,8 @@ pub record Told (T : Type 0) : Type 0 where
   pub seen : List T
 
 -- the table of a lock has two words and a slot
-abbrev pub IsSized : TableId → Type 0
-IsSized id = (id.words ≡ 2) × (id.slots ≡ 1)
+abbrev pub IsLockTable : TableId → Type 0
+IsLockTable id = (id.words ≡ 2) × (id.slots ≡ 1)
 
 module _ {T : Type 0} where
   -- how contracts see a lane
@@ -77,11 +77,11 @@ module _ {T : Type 0} where
     pub taken : me.0.told ≡ []
     pub share : me.0.hand.parts ≡ 1
     pub budget : length me.0.hand.drawn + left ≤ 2 ^ 56
-    pub sized : IsSized id
+    pub sized : IsLockTable id
     pub outside : me.0.hand.inside ≡ [] → me.1 ≡ []
     pub inside : (t : ℕ) → me.0.hand.inside ≡ t ∷ [] → me.1 ≡ (0, None) ∷ []
 
   -- a note tells of a history, and has nothing
   pub record IsNote (id : TableId) (me : Me (Option T) (View T)) : Type 0 where
     pub blank : me ≡ (new_view me.0.hand.seen [], [])
-    pub sized : IsSized id
+    pub sized : IsLockTable id

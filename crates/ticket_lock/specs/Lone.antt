@@ -111,20 +111,20 @@ module _ {T Part : Type 0} (before : T → T → Type 0) (part : ℕ → T → P
 
   -- of a value left it is asked that the value found comes before it, and that it has the parts of all lanes but the
   -- one that leaves as they were found
-  abbrev pub Asks : ℕ → Kind T → View T → Type 0
-  Asks slot draws v = Unit {0}
-  Asks slot waits v = Unit {0}
-  Asks slot (enters x) v = Unit {0}
-  Asks slot (passes x y) v = before x y × ((l : ℕ) × (z : T) × (v.own ≡ (l, z) ∷ []) × ((k : ℕ) → k ≢ l → part k y ≡ part k x))
+  abbrev pub MayBeLeft : ℕ → Kind T → View T → Type 0
+  MayBeLeft slot draws v = Unit {0}
+  MayBeLeft slot waits v = Unit {0}
+  MayBeLeft slot (enters x) v = Unit {0}
+  MayBeLeft slot (passes x y) v = before x y × ((l : ℕ) × (z : T) × (v.own ≡ (l, z) ∷ []) × ((k : ℕ) → k ≢ l → part k y ≡ part k x))
 
   -- a look in turn tells that the history rises, and that the value found has the lanes' parts as they left them; and a
   -- pass on that the value left is the one that its lane left last
-  abbrev pub Tells : ℕ → Kind T → View T → View T → Type 0
-  Tells slot draws v w = (w.told ≡ v.told) × (w.own ≡ v.own)
-  Tells slot waits v w = w ≡ v
-  Tells slot (enters x) v w = (w.told ≡ v.told) × (w.own ≡ v.own) × IsRising before w.hand.seen
+  abbrev pub TellsHistory : ℕ → Kind T → View T → View T → Type 0
+  TellsHistory slot draws v w = (w.told ≡ v.told) × (w.own ≡ v.own)
+  TellsHistory slot waits v w = w ≡ v
+  TellsHistory slot (enters x) v w = (w.told ≡ v.told) × (w.own ≡ v.own) × IsRising before w.hand.seen
       × ((k l : ℕ) (z : T) → get_elem? v.own k ≡ some (l, z) → part l x ≡ part l z)
-  Tells slot (passes x y) v w = (w.told ≡ v.told) × ((l : ℕ) (z : T) → v.own ≡ (l, z) ∷ [] → w.own ≡ (l, y) ∷ [])
+  TellsHistory slot (passes x y) v w = (w.told ≡ v.told) × ((l : ℕ) (z : T) → v.own ≡ (l, z) ∷ [] → w.own ≡ (l, y) ∷ [])
 
   -- a load at which a view takes in what it was told; the last value of the lock's history has each of its lanes' parts
   -- as that lane left it, and what it has seen comes before that value

@@ -17,8 +17,8 @@ module _ {T : Type 0} where
     pub lane : b ≡ record a { left = a.left - 1; tickets = a.tickets ++ ticket ∷ []; drawn = a.drawn ++ ticket ∷ [] }
 
   -- the lane could not draw, since it has drawn all its tickets, and nothing changed
-  abbrev pub WasSpent : Standing T → Standing T → Type 0
-  WasSpent a b = (a.left ≡ 0) × (b ≡ a)
+  abbrev pub LaneWasSpent : Standing T → Standing T → Type 0
+  LaneWasSpent a b = (a.left ≡ 0) × (b ≡ a)
 
   -- it is not yet this ticket's turn: the ticket comes back, the lane stays as it was, and has seen fewer values left
   -- than the ticket says
@@ -27,9 +27,9 @@ module _ {T : Type 0} where
 
   module _ {Part : Type 0} (before : T → T → Type 0) (part : ℕ → T → Part) where
     -- the guard of a ticket stands at a history with as many values left as the ticket says, which begins with all that
-    -- its lane had seen. The guard finds the last value of it,
-    -- which has the lane's own part as the lane left it. Each value of the history comes before the later ones
-    pub record Stands (ticket : ℕ) (guard : Held T) (a b : Standing T) : Type 0 where
+    -- its lane had seen. The guard finds the last value of it, which has the lane's own part as the lane left it. Each
+    -- value of the history comes before the later ones
+    pub record GuardStands (ticket : ℕ) (guard : Held T) (a b : Standing T) : Type 0 where
       pub number : guard.number ≡ ticket
       pub turn : length b.seen ≡ ticket + 1
       pub later : StartsWith b.seen a.seen
@@ -40,14 +40,14 @@ module _ {T : Type 0} where
 
     -- the lane is inside with one of its tickets; nothing else of it changes but what it has seen
     abbrev pub Served : ℕ → Held T → Standing T → Standing T → Type 0
-    Served ticket guard a b = Stands ticket guard a b
+    Served ticket guard a b = GuardStands ticket guard a b
         × (b ≡ record a { seen = b.seen; tickets = without ticket a.tickets; inside = ticket ∷ [] })
 
     -- the lane has drawn the guard's ticket, as `draw` does, and is inside with it
-    pub record Entered (guard : Held T) (a b : Standing T) : Type 0 where
+    pub record EnteredLock (guard : Held T) (a b : Standing T) : Type 0 where
       pub had : 0 < a.left
       pub fresh : (k : ℕ) → guard.number ≤ k → (times k a.drawn ≡ 0) × (times k a.tickets ≡ 0)
-      pub stands : Stands guard.number guard a b
+      pub stands : GuardStands guard.number guard a b
       pub lane : b ≡ record a { left = a.left - 1; drawn = a.drawn ++ guard.number ∷ []; seen = b.seen; inside = guard.number ∷ [] }
 
     -- what a lane that is inside may leave: the last value that it has seen, which it found, comes before it, and it
@@ -59,7 +59,7 @@ module _ {T : Type 0} where
     -- the lane has seen what it had seen and what the note tells, and what comes first of the two values that it had
     -- seen last and has seen last now, comes before;
     -- and what it has seen last comes before a value of the lock that has the lane's own part as the lane left it
-    pub record Learned (note : Told T) (a b : Standing T) : Type 0 where
+    pub record LearnedNote (note : Told T) (a b : Standing T) : Type 0 where
       pub lane : b ≡ record a { seen = longer a.seen note.seen }
       pub mine : StartsWith b.seen a.seen
       pub theirs : StartsWith b.seen note.seen

@@ -17,16 +17,16 @@ impl<T: LaneLaw> TableRule<Option<T>, View<T>, Opening<T>> for Alone {
 }
 
 impl<T: LaneLaw> LockRule<T, View<T>, Opening<T>> for Alone {
-    ghost use Rattle.ticket_lock.specs.Lone.{IsStart, hand_of, Asks, Tells};
+    ghost use Rattle.ticket_lock.specs.Lone.{IsStart, hand_of, MayBeLeft, TellsHistory};
     ghost use Rattle.ticket_lock.specs.Proved.LoneOpens.{lone_opens};
 
     ghost is_place = { IsStart };
 
     ghost see = { hand_of };
 
-    ghost asks = { Asks T.before T.part };
+    ghost asks = { MayBeLeft T.before T.part };
 
-    ghost tells = { Tells T.before T.part };
+    ghost tells = { TellsHistory T.before T.part };
 
     ghost opens = { λ key word slot is_start.
         lone_opens T.before T.part T.reflexive T.transitive key.value.value key.lanes key word slot is_start };

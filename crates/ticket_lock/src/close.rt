@@ -4,7 +4,7 @@ ghost use Rattle.std.specs.Iterator.{IsFinite, HoldsAlong, Drains};
 ghost use Rattle.ticket_lock.specs.declared.lane.Lane.{Lane};
 ghost use Rattle.ticket_lock.specs.Lone.{IsWhole, Rests, KeepsParts};
 ghost use Rattle.ticket_lock.specs.History.{IsRising};
-ghost use Rattle.ticket_lock.specs.Lanes.{IsSized};
+ghost use Rattle.ticket_lock.specs.Lanes.{IsLockTable};
 ghost use Rattle.ticket_lock.specs.Promises.{IsIdle, Closes, KeepsOwn, ComesLast};
 
 use crate::alone::{Arrives, Board, Merges, Place, TakesIn};
@@ -15,7 +15,7 @@ use std::alloc::Allocator;
 
 // Takes the value out of a table whose lanes the seat has all.
 fn finish<T: LaneLaw, A: Allocator>(board: Board<T, A>, seat: Place<T>) -> T
-    requires table { (seat.table_id ≡ board.shared.table_id) × IsSized board.shared.table_id }
+    requires table { (seat.table_id ≡ board.shared.table_id) × IsLockTable board.shared.table_id }
     requires whole { IsWhole board.shared.key.lanes seat.me.0 }
     ensures rests { Rests board.shared.key.value.value seat.me.0 result }
     ensures parts { KeepsParts T.part seat.me.0 result }

@@ -132,10 +132,10 @@ impl<T> Model for Note<T> {
 impl<T> Note<T> {
     ghost use Rattle.std.specs.Prelude.{◌≡◌, []};
     ghost use Rattle.ticket_lock.specs.Lone.{new_view};
-    ghost use Rattle.ticket_lock.specs.Lanes.{IsSized};
+    ghost use Rattle.ticket_lock.specs.Lanes.{IsLockTable};
 
     pub(crate) fn into_seat(self) -> Place<T>
-        ensures { (result.table_id ≡ self.lock) × IsSized self.lock
+        ensures { (result.table_id ≡ self.lock) × IsLockTable self.lock
             × (result.me ≡ (new_view self.seen [], [])) }
     {
         let Note { seat } = self;

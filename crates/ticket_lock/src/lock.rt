@@ -1,9 +1,10 @@
 //! The lock, and what a lane does with it.
 ghost use Rattle.std.specs.Prelude.{◌≡◌, ◌<◌, [], ◌∷◌, MatchResult};
 ghost use Rattle.ticket_lock.specs.Count.{times};
-ghost use Rattle.ticket_lock.specs.Lanes.{IsSized};
-ghost use Rattle.ticket_lock.specs.Promises.{Drew, WasSpent, CameBack, Served, Entered, MayLeave};
-ghost use Rattle.ticket_lock.specs.Promises.{Left, Learned};
+ghost use Rattle.ticket_lock.specs.Lanes.{IsLockTable};
+ghost use Rattle.ticket_lock.specs.Promises.{Drew, LaneWasSpent, CameBack, Served, EnteredLock};
+ghost use Rattle.ticket_lock.specs.Promises.{MayLeave};
+ghost use Rattle.ticket_lock.specs.Promises.{Left, LearnedNote};
 
 use crate::alone::{Board, Merges, TakesIn, Tells};
 use crate::lane::{Guard, Lane, Note, Spent, Ticket};
@@ -20,7 +21,7 @@ pub struct TicketLock<T: LaneLaw, A: Allocator> {
 }
 
 impl<T: LaneLaw, A: Allocator> Model for TicketLock<T, A> {
-    ghost use Rattle.ticket_lock.specs.Lanes.{Lock, IsSized};
+    ghost use Rattle.ticket_lock.specs.Lanes.{Lock, IsLockTable};
 
     ghost Value = { Lock T };
 
@@ -30,12 +31,12 @@ impl<T: LaneLaw, A: Allocator> Model for TicketLock<T, A> {
       lanes = l.board.shared.key.lanes;
     } };
 
-    ghost invariant = { λ l. IsSized l.board.shared.table_id };
+    ghost invariant = { λ l. IsLockTable l.board.shared.table_id };
 }
 
 impl<T: LaneLaw, A: Allocator> TicketLock<T, A> {
     pub(crate) fn into_board(self) -> Board<T, A>
-        ensures { IsSized result.shared.table_id × (result.shared.table_id ≡ self.id)
+        ensures { IsLockTable result.shared.table_id × (result.shared.table_id ≡ self.id)
             × (result.shared.key.value.value ≡ self.opening)
             × (result.shared.key.lanes ≡ self.lanes) }
     {
@@ -48,7 +49,7 @@ impl<T: LaneLaw, A: Allocator> TicketLock<T, A> {
     pub fn draw(&self, lane: &mut Lane<T>) -> Result<Ticket, Spent>
         requires { lane.old.lock ≡ self.now.id }
         ensures { MatchResult result (λ t. Drew t lane.old lane.new)
-            (λ _. WasSpent lane.old lane.new) }
+            (λ _. LaneWasSpent lane.old lane.new) }
     {
         if lane.left == 0 {
             return Err(Spent);
@@ -103,7 +104,7 @@ impl<T: LaneLaw, A: Allocator> TicketLock<T, A> {
     /// the note must be of this lock.
     pub fn learn(&self, lane: &mut Lane<T>, note: Note<T>)
         requires { (lane.old.lock ≡ self.now.id) × (note.lock ≡ self.now.id) }
-        ensures { Learned T.before T.part note lane.old lane.new }
+        ensures { LearnedNote T.before T.part note lane.old lane.new }
     {
         let seat = note.into_seat();
         self.board.shared.join_seat::<Merges>(&mut lane.seat, seat);
@@ -115,8 +116,8 @@ impl<T: LaneLaw, A: Allocator> TicketLock<T, A> {
     /// one of this lock.
     pub fn enter<R: Wait>(&self, rt: &R, lane: &mut Lane<T>) -> Result<Guard<T>, Spent>
         requires { lane.old.lock ≡ self.now.id }
-        ensures { MatchResult result (λ g. Entered T.before T.part g lane.old lane.new)
-            (λ _. WasSpent lane.old lane.new) }
+        ensures { MatchResult result (λ g. EnteredLock T.before T.part g lane.old lane.new)
+            (λ _. LaneWasSpent lane.old lane.new) }
     {
         if lane.left == 0 {
             return Err(Spent);

@@ -2,7 +2,7 @@
 ghost use Rattle.std.specs.Prelude.{◌≡◌, ◌^◌, ◌<◌, ◌≤◌, [], ◌∷◌, IfOk, IfErr, vec_len};
 ghost use Rattle.std.specs.Prelude.{vec_capacity};
 ghost use Rattle.ticket_lock.specs.Lone.{new_view, lanes_from};
-ghost use Rattle.ticket_lock.specs.Lanes.{IsSized, fresh_lanes};
+ghost use Rattle.ticket_lock.specs.Lanes.{IsLockTable, fresh_lanes};
 
 use crate::alone::{Alone, Board, Deals, Place};
 use crate::lane::Lane;
@@ -51,7 +51,7 @@ fn lay<T: LaneLaw, A: Allocator + Clone>(
     requires { (0 < lanes) × (lanes ≤ 64) }
     ensures ok { IfOk result
         (λ r. (r.0.shared.key.value.value ≡ value) × (r.0.shared.key.lanes ≡ lanes)
-        × IsSized r.0.shared.table_id × (r.1.table_id ≡ r.0.shared.table_id)
+        × IsLockTable r.0.shared.table_id × (r.1.table_id ≡ r.0.shared.table_id)
         × (r.1.me ≡ (new_view (value ∷ []) (lanes_from 0 lanes value), []))) }
     ensures err { IfErr result (λ x. x ≡ value) }
 {
@@ -80,7 +80,7 @@ fn deal<T: LaneLaw, A: Allocator>(
     lanes: u8,
     budget: u64,
 )
-    requires table { (seat.table_id ≡ shared.now.table_id) × IsSized shared.now.table_id
+    requires table { (seat.table_id ≡ shared.now.table_id) × IsLockTable shared.now.table_id
         × (budget ≤ 2 ^ 56) }
     requires seat { let x = shared.now.key.value.value in
         seat.me ≡ (new_view (x ∷ []) (lanes_from 0 lanes x), []) }

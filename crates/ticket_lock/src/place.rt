@@ -4,7 +4,8 @@ ghost use Rattle.atomic_table.specs.Table.{rest};
 ghost use Rattle.ticket_lock.specs.Count.{times};
 ghost use Rattle.ticket_lock.specs.History.{EndsIn};
 ghost use Rattle.ticket_lock.specs.Turns.{draws, waits, enters, passes};
-ghost use Rattle.ticket_lock.specs.Calls.{IsSameSeat, IsRoom, StandsAt, IsFree, Drew, Looked, Came};
+ghost use Rattle.ticket_lock.specs.Calls.{IsSameSeat, IsRoom, StandsAt, IsFree, Drew, LookedAtTurn};
+ghost use Rattle.ticket_lock.specs.Calls.{Came};
 ghost use Rattle.ticket_lock.specs.Calls.{Left};
 
 use crate::plays::{Draws, Looks, Passes};
@@ -78,7 +79,8 @@ fn look_step<J: At, T, V, K, P: LockRule<T, V, K>>(
     requires waits { P.asks J.slot waits seat.old.me.0 }
     requires enters { (x : T) → P.asks J.slot (enters x) seat.old.me.0 }
     ensures { IsSameSeat seat.old seat.new
-        × Looked (P.see J.slot) (P.tells J.slot) J.slot J.ticket seat.old.me result seat.new.me }
+        × LookedAtTurn (P.see J.slot)
+        (P.tells J.slot) J.slot J.ticket seat.old.me result seat.new.me }
 {
     if shared.load::<Looks<J, K, P>>(seat, word) != ticket {
         return None;
@@ -101,7 +103,7 @@ pub fn look_at<T, V, K, P: LockRule<T, V, K>>(
     requires waits { P.asks slot waits seat.old.me.0 }
     requires enters { (x : T) → P.asks slot (enters x) seat.old.me.0 }
     ensures { IsSameSeat seat.old seat.new
-        × Looked (P.see slot) (P.tells slot) slot ticket seat.old.me result seat.new.me }
+        × LookedAtTurn (P.see slot) (P.tells slot) slot ticket seat.old.me result seat.new.me }
 {
     look_step::<Brand, T, V, K, P>(shared, seat, word, slot, ticket)
 }

@@ -59,7 +59,7 @@ BeginsName [] = ⊥
 BeginsName (b ∷ bytes) = is_ascii_digit b ≡ false
 
 -- A name is made of word bytes, begins with no digit, and is no keyword.
-pub record IsName (word : List ℕ) : Type 0 where
+pub record IsNameWord (word : List ℕ) : Type 0 where
   pub begins : BeginsName word
   pub bytes : AreWordBytes word
   pub no_keyword : (k : Kind) → reserved_word k ≢ Some word
@@ -67,4 +67,4 @@ pub record IsName (word : List ℕ) : Type 0 where
 -- A word is a keyword, a constant or a name.
 pub data IsWord : Kind → List ℕ → Type 0 where
   reserved : {k : Kind} {word : List ℕ} → reserved_word k ≡ Some word → IsWord k word
-  name : {word : List ℕ} → IsName word → IsWord kind.Id word
+  name : {word : List ℕ} → IsNameWord word → IsWord kind.Id word

@@ -1,8 +1,10 @@
 //! The parts of a statement: what can be asked of it, whatever its kind.
 
 ghost use Rattle.std.specs.Prelude.{◌≡◌, option_map};
-ghost use Rattle.language.specs.Parts.{assigns, targets_of, sides_of, test_of, arguments_of, callee_of, jump_of};
-ghost use Rattle.trees.specs.Trees.{name_of, names_of, rhs_of, rhss_of, exprs_of, block_of, deed_of};
+ghost use Rattle.language.specs.Parts.{assigns, targets_of, sides_of, test_of, arguments_of};
+ghost use Rattle.language.specs.Parts.{callee_of, jump_of};
+ghost use Rattle.trees.specs.Trees.{name_of, names_of, rhs_of, rhss_of, exprs_of, block_of};
+ghost use Rattle.trees.specs.Trees.{deed_of};
 ghost use Rattle.trees.specs.Parts.{head_of, first_inside, second_inside};
 
 use crate::tree::{Core, Expr, Name, Rhs, Stmt};

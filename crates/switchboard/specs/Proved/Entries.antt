@@ -9,7 +9,7 @@ use Rattle.post_ledger.specs.History.{takes, dones, MayFollow}
 use Rattle.post_ledger.specs.Orders.{mailbox_of, event_of, maker_of, part, own, HasJob}
 use Rattle.post_ledger.proofs.Histories.{at_push_cases}
 use Rattle.post_ledger.proofs.Orders.{UnderJob, lawful_push, part_here, part_else, own_here, own_else}
-use Rattle.switchboard.specs.Sights.{State, IsSound}
+use Rattle.switchboard.specs.Sights.{BoardState, IsSound}
 use Rattle.switchboard.specs.Books.{with_entry}
 
 -- what no Post tells of a history
@@ -74,14 +74,14 @@ module _ {M W : Type 0} (fits : W → ℕ → M → Type 0) where
   Fit w (entry.Completed of t) = Unit {0}
 
   -- what an entry needs that it may come after a state
-  pub record Allowed (e : Entry M) (x : State M W) : Type 0 where
+  pub record Allowed (e : Entry M) (x : BoardState M W) : Type 0 where
     pub near : mailbox_of e < x.boxes
     pub follows : MayFollow (part (mailbox_of e) x.order) (event_of e)
     pub under : UnderJob x.order e
     pub fit : Fit x.world e
 
   -- the state stays sound
-  pub sound_push : (e : Entry M) (x : State M W) → IsSound fits x → Allowed e x → IsSound fits (with_entry e x)
+  pub sound_push : (e : Entry M) (x : BoardState M W) → IsSound fits x → Allowed e x → IsSound fits (with_entry e x)
   sound_push e x s may = record {
     lawful = lawful_push x.boxes x.order e s.lawful may.near may.follows may.under;
     fitting = λ i to sender m t at. elim (at_push_cases x.order e (entry.Posted to sender m t) i at) [

@@ -14,7 +14,8 @@ use Rattle.ticket_lock.specs.Count.{times, total}
 use Rattle.ticket_lock.specs.History.{StartsWith, EndsIn}
 use Rattle.ticket_lock.specs.Core.{Core}
 use Rattle.ticket_lock.specs.Turns.{Kept}
-use Rattle.ticket_lock.specs.Proved.Facts.{total_set, total_two, at_set, set_again, map-set, at-map, times-one, StartsWith-refl, StartsWith-trans}
+use Rattle.ticket_lock.specs.Proved.Facts.{total_set, total_two, at_set, set_again, map-set, at-map, times-one, StartsWith-refl}
+use Rattle.ticket_lock.specs.Proved.Facts.{StartsWith-trans}
 use Rattle.post_ledger.specs.declared.event.Event.{Event}
 use Rattle.post_ledger.specs.declared.entry.Entry.{Entry}
 use Rattle.post_ledger.specs.History.{posts, dones}
@@ -26,7 +27,7 @@ use Rattle.switchboard.specs.declared.lock_per_box.knowing.Seen.{Seen}
 use Rattle.switchboard.specs.declared.lock_per_box.knowing.Own.{Own}
 use Rattle.switchboard.specs.Sights.{IsSound}
 use Rattle.switchboard.specs.Knowing.{bare, state_of, hand_at, with_hand, numbers, makes}
-use Rattle.switchboard.specs.PerBox.{View, word_of, flag, Saw, Knows, Stands, Rule, News, Boxes, Homes, owed}
+use Rattle.switchboard.specs.PerBox.{View, word_of, flag, Saw, KnowsBoard, LockStands, Rule, News, Boxes, Homes, owed}
 
 module _ {M W : Type 0} where
   pub hand_here : (q : ℕ) (h : Hand (List (Event M))) (v : View M W) → q < length v.hands → hand_at q (with_hand q h v) ≡ h
@@ -58,10 +59,10 @@ module _ {M : Type 0} where
 
   -- a lock whose words, slot and hands stay, and whose mailbox gets no event, stands
   pub stays_there : (q : ℕ) (order order' : List (Entry M)) (words words' : List ℕ) (homes homes' : Homes M)
-      (hands hands' : List (Hand (List (Event M)))) → Stands q order words homes hands
+      (hands hands' : List (Hand (List (Event M)))) → LockStands q order words homes hands
       → part q order' ≡ part q order → length words' ≡ length words → get_or words' (word_of q) 0 ≡ get_or words (word_of q) 0
       → get_or words' (word_of q + 1) 0 ≡ get_or words (word_of q + 1) 0
-      → get_elem? homes' q ≡ get_elem? homes q → hands' ≡ hands → Stands q order' words' homes' hands'
+      → get_elem? homes' q ≡ get_elem? homes q → hands' ≡ hands → LockStands q order' words' homes' hands'
   stays_there q order order' words words' homes homes' hands hands' s same_part same_length first second same_home same_hands =
       let log = s.0 in
       let c = s.1.core in (
@@ -93,18 +94,18 @@ module _ {M : Type 0} where
   closed_at_zero boxes order low more law count none = (counted_closed boxes order law).0 (omega (arith, fewer_dones boxes order law))
 
   -- the order, the first abort and the low bits go on
-  pub record Grows (order order' : List (Entry M)) (first first' : Option Abort) (low low' : ℕ) : Type 0 where
+  pub record BoardGrows (order order' : List (Entry M)) (first first' : Option Abort) (low low' : ℕ) : Type 0 where
     pub begins : StartsWith order' order
     pub aborted : (a : Abort) → first ≡ Some a → first' ≡ Some a
     pub still : low ≡ 0 → (low' ≡ 0) × (order' ≡ order)
 
-  pub grows_same : (order : List (Entry M)) (first : Option Abort) (low : ℕ) → Grows order order first first low low
+  pub grows_same : (order : List (Entry M)) (first : Option Abort) (low : ℕ) → BoardGrows order order first first low low
   grows_same order first low = record { begins = StartsWith-refl order; aborted = λ a e. e; still = λ e. (e, refl) }
 
 module _ {M W : Type 0} where
   module _ (fits : W → ℕ → M → Type 0) (g : Ground M W) where
     pub saw_grows : (order order' : List (Entry M)) (first first' : Option Abort) (low low' : ℕ) (x : Seen M)
-        → Grows order order' first first' low low' → Saw fits g order first low x → Saw fits g order' first' low' x
+        → BoardGrows order order' first first' low low' → Saw fits g order first low x → Saw fits g order' first' low' x
     saw_grows order order' first first' low low' x on s = record {
       begins = StartsWith-trans order' order x.order on.begins s.begins;
       sound = s.sound;
@@ -172,13 +173,13 @@ module _ {M W : Type 0} where
 
       -- the rule after one seat has another view
       pub rebuilt : (order' : List (Entry M)) (first' : Option Abort) (low' : ℕ) (words : List ℕ) (homes : Homes M) (w : View M W)
-          → Grows r.order order' r.first first' r.low low'
+          → BoardGrows r.order order' r.first first' r.low low'
           → ((n : ℕ) → times n (numbers v) ≡ 0 → own n order' ≡ own n r.order)
           → IsSound fits (state_of g record { order = order'; aborted = first'; knows = false })
-          → ((q : ℕ) → q < g.boxes → Stands q order' words homes (set (map (hand_at q) s.views) id (hand_at q w))) → 0 < length words
+          → ((q : ℕ) → q < g.boxes → LockStands q order' words homes (set (map (hand_at q) s.views) id (hand_at q w))) → 0 < length words
           → get_or words 0 0 ≡ low' + flag first'
           → low' + completed order' + v.owes ≡ posted order' + owed s.views + w.owes → low' + w.budget ≤ r.low + v.budget
-          → Knows fits g order' first' low' w → numbers w ≡ numbers v
+          → KnowsBoard fits g order' first' low' w → numbers w ≡ numbers v
           → ((a : Abort) → first' ≡ Some a → 0 < total (makes a.by) (set s.views id w))
           → Rule fits g record { words = words; homes = homes; views = set s.views id w }
       rebuilt order' first' low' words homes w on apart sound locks some_word word count few mine same maker = record {
@@ -186,13 +187,13 @@ module _ {M W : Type 0} where
         first = first';
         low = low';
         sound = sound;
-        locks = λ q near. subst (λ l. Stands q order' words homes l) (sym (map-set (hand_at q) s.views id w)) (locks q near);
+        locks = λ q near. subst (λ l. LockStands q order' words homes l) (sym (map-set (hand_at q) s.views id w)) (locks q near);
         some_word = some_word;
         word = word;
         count = count_after order' low' w count;
         few = omega (arith, total_set (λ (u : View M W). u.budget) s.views id v w is_at, r.few);
         each = λ j u at. elim (at_set s.views id j w u at) [
-          | inl t ↦ subst (λ z. Knows fits g order' first' low' z) t.1 mine
+          | inl t ↦ subst (λ z. KnowsBoard fits g order' first' low' z) t.1 mine
           | inr t ↦ (let k = r.each j u t.1 in record {
             board = k.board;
             saw = saw_grows r.order order' r.first first' r.low low' u.seen on k.saw;
@@ -223,9 +224,10 @@ module _ {M W : Type 0} where
           → ((q : ℕ) → q ≢ slot → hand_at q w ≡ hand_at q v)
           → Kept (word_of slot) slot log (set s.words i n) homes (set (map (hand_at slot) s.views) id h) → EndsIn log (part slot order')
           → ((q : ℕ) → q ≢ slot → part q order' ≡ part q r.order)
-          → (q : ℕ) → q < g.boxes → Stands q order' (set s.words i n) homes (set (map (hand_at q) s.views) id (hand_at q w))
+          → (q : ℕ) → q < g.boxes → LockStands q order' (set s.words i n) homes (set (map (hand_at q) s.views) id (hand_at q w))
       locks_after order' slot i n homes log w h where_i same_homes is_h others kept ends parts q near = dite (ℕ_discrete q slot)
-          (λ (e : q ≡ slot). subst (λ k. Stands k order' (set s.words i n) homes (set (map (hand_at k) s.views) id (hand_at k w))) (sym e) (
+          (λ (e : q ≡ slot).
+          subst (λ k. LockStands k order' (set s.words i n) homes (set (map (hand_at k) s.views) id (hand_at k w))) (sym e) (
             log,
             subst (λ z. Kept (word_of slot) slot log (set s.words i n) homes (set (map (hand_at slot) s.views) id z)) (sym is_h) kept,
             ends,
@@ -241,7 +243,7 @@ module _ {M W : Type 0} where
 
       -- all locks stand where no hand changes, and no word but word 0
       pub locks_still : (n : ℕ) (w : View M W) → ((q : ℕ) → hand_at q w ≡ hand_at q v) → (q : ℕ) → q < g.boxes
-          → Stands q r.order (set s.words 0 n) s.homes (set (map (hand_at q) s.views) id (hand_at q w))
+          → LockStands q r.order (set s.words 0 n) s.homes (set (map (hand_at q) s.views) id (hand_at q w))
       locks_still n w others q near =
           stays_there q r.order r.order s.words (set s.words 0 n) s.homes s.homes (map (hand_at q) s.views)
           (set (map (hand_at q) s.views) id (hand_at q w)) (r.locks q near) refl (length-set s.words 0 n)

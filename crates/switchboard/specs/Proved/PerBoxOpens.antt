@@ -26,8 +26,10 @@ use Rattle.switchboard.specs.declared.lock_per_box.knowing.Own.{Own}
 use Rattle.switchboard.specs.Sights.{IsSound}
 use Rattle.switchboard.specs.Proved.Entries.{Allowed, sound_push, job_stays}
 use Rattle.switchboard.specs.Knowing.{entry_of, owes_after, with_event, made_by, state_of, hand_at, with_hand, with_seen, numbers, makes}
-use Rattle.switchboard.specs.PerBox.{View, word_of, IsBox, Saw, Knows, Rule, MayRecord, Asks, Recorded, Tells, Boxes, Homes, owed}
-use Rattle.switchboard.specs.Proved.PerBoxFacts.{hand_here, hand_else, has_hand, closed_at_zero, Grows, grows_same, saw_grows, saw_all, news_is}
+use Rattle.switchboard.specs.PerBox.{View, word_of, IsBox, Saw, KnowsBoard, Rule, MayRecord, LeavesOneEvent, Recorded, TellsOrder, Boxes}
+use Rattle.switchboard.specs.PerBox.{Homes, owed}
+use Rattle.switchboard.specs.Proved.PerBoxFacts.{hand_here, hand_else, has_hand, closed_at_zero, BoardGrows, grows_same, saw_grows, saw_all}
+use Rattle.switchboard.specs.Proved.PerBoxFacts.{news_is}
 use Rattle.switchboard.specs.Proved.PerBoxFacts.{made_still, rebuilt, locks_after}
 
 module _ {M : Type 0} where
@@ -112,7 +114,7 @@ module _ {M W : Type 0} (fits : W → ℕ → M → Type 0) (g : Ground M W) whe
 
     -- a seat with another hand of the same shares, which has seen this
     knows_hand : (q : ℕ) (h : Hand (List (Event M))) (x : Seen M) → q < length v.hands → h.parts ≡ (hand_at q v).parts
-        → Saw fits g r.order r.first r.low x → Knows fits g r.order r.first r.low (with_seen x (with_hand q h v))
+        → Saw fits g r.order r.first r.low x → KnowsBoard fits g r.order r.first r.low (with_seen x (with_hand q h v))
     knows_hand q h x short parts saw =
         let k = r.each id v is_at in
         record {
@@ -134,11 +136,11 @@ module _ {M W : Type 0} (fits : W → ℕ → M → Type 0) (g : Ground M W) whe
         (w : View M W) → (i ≡ word_of q) ⊎ (i ≡ word_of q + 1)
         → ((k : ℕ) → k ≢ q → get_elem? homes k ≡ get_elem? s.homes k) → hand_at q w ≡ h → ((k : ℕ) → k ≢ q → hand_at k w ≡ hand_at k v)
         → Kept (word_of q) q log (set s.words i n) homes (set (map (hand_at q) s.views) id h) → EndsIn log (part q order)
-        → ((k : ℕ) → k ≢ q → part k order ≡ part k r.order) → Grows r.order order r.first r.first r.low r.low
+        → ((k : ℕ) → k ≢ q → part k order ≡ part k r.order) → BoardGrows r.order order r.first r.first r.low r.low
         → ((k : ℕ) → times k (numbers v) ≡ 0 → own k order ≡ own k r.order)
         → IsSound fits (state_of g record { order = order; aborted = r.first; knows = false })
         → r.low + completed order + v.owes ≡ posted order + owed s.views + w.owes → w.budget ≡ v.budget
-        → Knows fits g order r.first r.low w → numbers w ≡ numbers v → ((k : ℕ) → makes k w ≡ makes k v)
+        → KnowsBoard fits g order r.first r.low w → numbers w ≡ numbers v → ((k : ℕ) → makes k w ≡ makes k v)
         → Rule fits g record { words = set s.words i n; homes = homes; views = set s.views id w }
     turned order q i n homes log h w where_i same_homes is_h others kept ends parts on apart sound count budget mine same made =
         rebuilt fits g s r id v is_at order r.first r.low (set s.words i n) homes w on apart sound
@@ -164,7 +166,7 @@ module _ {M W : Type 0} (fits : W → ℕ → M → Type 0) (g : Ground M W) whe
       abbrev log : List (List (Event M))
       log = (r.locks q near).0
 
-      follows : Follows (Rule fits g) (hand_at q) (Asks fits q) (Tells fits q) (word_of q) q s log id v
+      follows : Follows (Rule fits g) (hand_at q) (LeavesOneEvent fits q) (TellsOrder fits q) (word_of q) q s log id v
       follows draws i n homes log' h where_i _ same_homes turn kept asked =
           let parts = ap (λ (z : Hand (List (Event M))). z.parts) turn.1.1 in
           let short =
@@ -247,7 +249,7 @@ module _ {M W : Type 0} (fits : W → ℕ → M → Type 0) (g : Ground M W) whe
                 let not_closed : r.low ≡ 0 → ⊥ = λ z. none_more
                 (nothing_follows g.boxes r.order (more ∷ []) r.sound.lawful
                 (closed_at_zero g.boxes r.order r.low (owed s.views) r.sound.lawful r.count z) sound.lawful) in
-                let on : Grows r.order order r.first r.first r.low
+                let on : BoardGrows r.order order r.first r.first r.low
                 r.low = record { begins = (more ∷ [], refl); aborted = λ b z. z; still = λ z. absurd (not_closed z) } in
                 let count = counted q o.number r.low (owed s.views) e x v r.order may r.count in
                 let z : Seen M = record v.seen { order = order } in
@@ -309,9 +311,11 @@ module _ {M W : Type 0} (fits : W → ℕ → M → Type 0) (g : Ground M W) whe
           none_more : {e : Entry M} → (let l : List (Entry M) = e ∷ [] in l ≡ []) → ⊥
           none_more e = cc
 
-  boxes_open_at : (q : ℕ) → q < g.boxes → Opens (Rule fits g) (hand_at q) (Asks fits q) (Tells fits q) (word_of q) q
+  boxes_open_at : (q : ℕ) → q < g.boxes → Opens (Rule fits g) (hand_at q) (LeavesOneEvent fits q) (TellsOrder fits q) (word_of q) q
   boxes_open_at q near s r = let l = r.locks q near in (l.0, l.1, λ id v is_at. follows s r id v is_at q near)
 
-  pub boxes_open : (word slot : ℕ) → IsBox g word slot → Opens (Rule fits g) (hand_at slot) (Asks fits slot) (Tells fits slot) word slot
+  pub boxes_open : (word slot : ℕ) → IsBox g word slot
+      → Opens (Rule fits g) (hand_at slot) (LeavesOneEvent fits slot) (TellsOrder fits slot) word slot
   boxes_open word slot is =
-      subst (λ w. Opens (Rule fits g) (hand_at slot) (Asks fits slot) (Tells fits slot) w slot) (sym is.0) (boxes_open_at slot is.1)
+      subst (λ w. Opens (Rule fits g) (hand_at slot) (LeavesOneEvent fits slot) (TellsOrder fits slot) w slot) (sym is.0)
+      (boxes_open_at slot is.1)

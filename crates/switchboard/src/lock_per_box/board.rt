@@ -7,7 +7,7 @@ ghost use Rattle.switchboard.specs.declared.lock_per_box.knowing.Own.{Own};
 ghost use Rattle.switchboard.specs.Sights.{told_by};
 ghost use Rattle.switchboard.specs.Promises.{WasSpent, WasPosted, WasRefused, Took, WasDone};
 ghost use Rattle.switchboard.specs.Promises.{MadeAbort, Learned};
-ghost use Rattle.switchboard.specs.PerBox.{IsSized};
+ghost use Rattle.switchboard.specs.PerBox.{IsBoardTable};
 ghost use Rattle.switchboard.specs.BoxAnswers.{TookOut, PutIn};
 
 use crate::calls::{Cause, Job, PostFault, Taken};
@@ -39,7 +39,7 @@ pub struct LockPerBox<M: Mail<W>, W, A: Allocator> {
     pub(crate) table: BoxTable<M, W, A>,
     /// For the mailboxes, once the board is at its end.
     pub(crate) room: Vec<Mailbox<M, A>, A>,
-    ghost sized: { IsSized table.shared.table_id table.shared.key.boxes
+    ghost sized: { IsBoardTable table.shared.table_id table.shared.key.boxes
         × (0 < table.shared.key.boxes) },
     ghost free: { (vec_len room ≡ 0) × (table.shared.key.boxes ≤ vec_capacity room) },
 }

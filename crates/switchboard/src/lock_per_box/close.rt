@@ -2,8 +2,8 @@
 ghost use Rattle.std.specs.Prelude.{◌≡◌, ℕ, ◌<◌, ◌≤◌, [], length, map, vec_len, vec_capacity};
 ghost use Rattle.switchboard.specs.Promises.{AreAll, Settles};
 ghost use Rattle.switchboard.specs.Knowing.{hand_at};
-ghost use Rattle.switchboard.specs.PerBox.{IsSized};
-ghost use Rattle.switchboard.specs.BoxEnds.{Gathered, Ends};
+ghost use Rattle.switchboard.specs.PerBox.{IsBoardTable};
+ghost use Rattle.switchboard.specs.BoxEnds.{Gathered, BoardEnds};
 
 use crate::lock_per_box::board::{BoxTable, LockPerBox};
 use crate::lock_per_box::outstanding::{ABORTED, Boards, Place, take_in};
@@ -17,7 +17,7 @@ fn gather<W, M: Mail<W>, A: Allocator>(
     shared: &Boards<M, W, A>,
     passes: &mut Vec<BoxPass<M, W, A>, A>,
 ) -> Place<M, W, A>
-    requires table { IsSized shared.now.table_id shared.now.key.boxes × (0 < shared.now.key.boxes) }
+    requires table { IsBoardTable shared.now.table_id shared.now.key.boxes × (0 < shared.now.key.boxes) }
     requires all { AreAll shared.now.table_id shared.now.key.boxes passes.old.items }
     ensures empty { passes.new.items ≡ [] }
     ensures table { result.table_id ≡ shared.now.table_id }
@@ -40,11 +40,11 @@ fn settle<W, M: Mail<W>, A: Allocator>(
     room: &mut Vec<Mailbox<M, A>, A>,
 ) -> bool
     requires table { (seat.table_id ≡ table.shared.table_id)
-        × IsSized table.shared.table_id table.shared.key.boxes }
+        × IsBoardTable table.shared.table_id table.shared.key.boxes }
     requires whole { (length seat.me.0.lanes ≡ table.shared.key.boxes) × (seat.me.0.owes ≡ 0)
         × ((q : ℕ) → q < table.shared.key.boxes → (hand_at q seat.me.0).inside ≡ []) }
     requires room { (room.old.items ≡ []) × (table.shared.key.boxes ≤ vec_capacity room.old) }
-    ensures { Ends M.fits table.shared.key seat.me.0 room.new.items result }
+    ensures { BoardEnds M.fits table.shared.key seat.me.0 room.new.items result }
 {
     let mut closed = table.close_with(seat);
     let word = closed.word(0);

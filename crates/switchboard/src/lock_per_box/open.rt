@@ -7,7 +7,7 @@ ghost use Rattle.post_ledger.specs.declared.entry.Entry.TheVariants.{Posted};
 ghost use Rattle.post_ledger.specs.Orders.{part};
 ghost use Rattle.switchboard.specs.Sights.{opened, fresh_sights};
 ghost use Rattle.switchboard.specs.Knowing.{first_view};
-ghost use Rattle.switchboard.specs.PerBox.{IsSized};
+ghost use Rattle.switchboard.specs.PerBox.{IsBoardTable};
 
 use crate::lock_per_box::board::{BoxTable, LockPerBox};
 use crate::lock_per_box::knowing::Ground;
@@ -76,7 +76,7 @@ fn lay<W, M: Mail<W>, A: Allocator + Clone>(
     requires boxes { (about.now.to < about.now.boxes) × (about.now.boxes ≤ 64) }
     requires fits { M.fits about.now.world.value about.now.to about.now.first }
     ensures { IfOk result
-        (λ r. (r.0.shared.key ≡ about.now) × IsSized r.0.shared.table_id about.now.boxes
+        (λ r. (r.0.shared.key ≡ about.now) × IsBoardTable r.0.shared.table_id about.now.boxes
         × (r.1.table_id ≡ r.0.shared.table_id)
         × (r.1.me ≡ (first_view about.now 0 about.now.boxes, []))) }
 {
@@ -100,7 +100,7 @@ fn deal<W, M: Mail<W>, A: Allocator>(
     boxes: u8,
     calls: u64,
 )
-    requires table { (seat.table_id ≡ shared.now.table_id) × IsSized shared.now.table_id boxes
+    requires table { (seat.table_id ≡ shared.now.table_id) × IsBoardTable shared.now.table_id boxes
         × (shared.now.key.boxes ≡ boxes) × (shared.now.key.world.value ≡ world.now) }
     requires fits { (shared.now.key.to < boxes)
         × M.fits world.now shared.now.key.to shared.now.key.first }

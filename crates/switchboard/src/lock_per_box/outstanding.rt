@@ -5,7 +5,7 @@ ghost use Rattle.post_ledger.specs.Orders.{own, HasJob};
 ghost use Rattle.switchboard.specs.declared.calls.Abort.{Abort};
 ghost use Rattle.switchboard.specs.declared.lock_per_box.knowing.Own.{Own};
 ghost use Rattle.switchboard.specs.Knowing.{counted_up, counted_down, hand_at, merged};
-ghost use Rattle.switchboard.specs.PerBox.{Looked, Raised, TookIn};
+ghost use Rattle.switchboard.specs.PerBox.{LookedAtWord, Raised, SeatTookIn};
 
 use crate::calls::{Cause, Job};
 use crate::lock_per_box::knowing::{Ground, Knowing};
@@ -61,7 +61,7 @@ pub(crate) struct Looks;
 
 impl<W, M: Mail<W>, A: Allocator> Play<Option<Mailbox<M, A>>, Knowing<M, W, Mailbox<M, A>>>
     for Looks {
-    ghost then = { λ _ m n w. Looked M.fits m n w };
+    ghost then = { λ _ m n w. LookedAtWord M.fits m n w };
 }
 
 pub(crate) struct Raises<J> {
@@ -128,7 +128,7 @@ pub(crate) fn look<W, M: Mail<W>, A: Allocator>(
     seat: &mut Place<M, W, A>,
 ) -> u64
     requires table { (seat.old.table_id ≡ shared.now.table_id) × (0 < shared.now.table_id.words) }
-    ensures { IsSameSeat seat.old seat.new × Looked M.fits seat.old.me result seat.new.me }
+    ensures { IsSameSeat seat.old seat.new × LookedAtWord M.fits seat.old.me result seat.new.me }
 {
     shared.load::<Looks>(seat, 0)
 }
@@ -204,7 +204,7 @@ pub(crate) struct TakesIn;
 
 impl<W, M: Mail<W>, A: Allocator> Play<Option<Mailbox<M, A>>, Knowing<M, W, Mailbox<M, A>>>
     for TakesIn {
-    ghost then = { λ _ m _ w. TookIn M.fits m w };
+    ghost then = { λ _ m _ w. SeatTookIn M.fits m w };
 }
 
 /// Takes in another seat, where both are outside all locks, and then what it has seen: one load.
@@ -220,7 +220,7 @@ pub(crate) fn take_in<W, M: Mail<W>, A: Allocator>(
     requires mine { (q : ℕ) → q < shared.now.key.boxes → (hand_at q seat.old.me.0).inside ≡ [] }
     requires theirs { (q : ℕ) → q < shared.now.key.boxes → (hand_at q other.me.0).inside ≡ [] }
     ensures { IsSameSeat seat.old seat.new
-        × TookIn M.fits (merged seat.old.me.0 other.me.0, seat.old.me.1) seat.new.me }
+        × SeatTookIn M.fits (merged seat.old.me.0 other.me.0, seat.old.me.1) seat.new.me }
 {
     shared.join_seat::<Merges>(seat, other);
     shared.load::<TakesIn>(seat, 0);

@@ -28,16 +28,16 @@ impl<W, M: Mail<W>, A: Allocator> LockRule<
     Ground<M, W>,
 > for Boxes {
     ghost use Rattle.switchboard.specs.Knowing.{hand_at};
-    ghost use Rattle.switchboard.specs.PerBox.{IsBox, Asks, Tells};
+    ghost use Rattle.switchboard.specs.PerBox.{IsBox, LeavesOneEvent, TellsOrder};
     ghost use Rattle.switchboard.specs.Proved.PerBoxOpens.{boxes_open};
 
     ghost is_place = { IsBox };
 
     ghost see = { hand_at };
 
-    ghost asks = { Asks M.fits };
+    ghost asks = { LeavesOneEvent M.fits };
 
-    ghost tells = { Tells M.fits };
+    ghost tells = { TellsOrder M.fits };
 
     ghost opens = { boxes_open M.fits };
 }

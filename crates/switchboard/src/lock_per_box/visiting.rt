@@ -6,7 +6,7 @@ ghost use Rattle.ticket_lock.specs.Turns.{passes};
 ghost use Rattle.ticket_lock.specs.Calls.{IsSameSeat, Left};
 ghost use Rattle.post_ledger.specs.declared.event.Event.{Event};
 ghost use Rattle.switchboard.specs.Knowing.{hand_at};
-ghost use Rattle.switchboard.specs.PerBox.{word_of, IsBoxOf, IsReady, IsInside, Asks, Tells};
+ghost use Rattle.switchboard.specs.PerBox.{word_of, IsBoxOf, CanDraw, IsInside, LeavesOneEvent, TellsOrder};
 
 use crate::lock_per_box::outstanding::{Boards, Place};
 use crate::mail::Mail;
@@ -32,7 +32,7 @@ pub(crate) fn enter_box<R: Wait, W, M: Mail<W>, A: Allocator>(
     number: u8,
 ) -> Mailbox<M, A>
     requires table { IsBoxOf shared.now.key shared.now.table_id seat.old.table_id number }
-    requires ready { IsReady (hand_at number seat.old.me.0) }
+    requires ready { CanDraw (hand_at number seat.old.me.0) }
     ensures { IsSameSeat seat.old seat.new × IsInside M.fits number result seat.old.me seat.new.me }
 {
     let (_, mailbox) = enter_at(rt, shared, seat, first_word(number), usize::from(number));
@@ -50,9 +50,9 @@ pub(crate) fn leave_box<W, M: Mail<W>, A: Allocator>(
     requires out { seat.old.me.1 ≡ (number, None) ∷ rest seat.old.me.1 }
     requires inside { (t : ℕ) × ((hand_at number seat.old.me.0).inside ≡ t ∷ []) }
     requires asks { (x : List (Event M)) → EndsIn (hand_at number seat.old.me.0).seen x
-        → Asks M.fits number (passes x mailbox) seat.old.me.0 }
+        → LeavesOneEvent M.fits number (passes x mailbox) seat.old.me.0 }
     ensures { IsSameSeat seat.old seat.new
-        × Left (hand_at number) (Tells M.fits number) mailbox seat.old.me seat.new.me }
+        × Left (hand_at number) (TellsOrder M.fits number) mailbox seat.old.me seat.new.me }
 {
     leave_at(
         shared,

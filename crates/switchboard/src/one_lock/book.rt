@@ -6,7 +6,7 @@ ghost use Rattle.post_ledger.specs.declared.entry.Entry.TheVariants.{Posted, Com
 ghost use Rattle.post_ledger.specs.declared.event.Event.{Event};
 ghost use Rattle.post_ledger.specs.Orders.{HasJob, IsClosed};
 ghost use Rattle.switchboard.specs.Sights.{opened, abort_of};
-ghost use Rattle.switchboard.specs.Books.{with_entry, Answers, Refuses, AreParts};
+ghost use Rattle.switchboard.specs.Books.{with_entry, TakeAnswers, RefusesPost, AreParts};
 
 use crate::calls::{Abort, Cause, Job, PostFault, Taken};
 use crate::world::Shown;
@@ -29,10 +29,10 @@ pub struct Book<M, W, A: Allocator> {
 
 impl<M, W, A: Allocator> Model for Book<M, W, A> {
     ghost use Rattle.std.specs.Prelude.{length, vec_capacity};
-    ghost use Rattle.switchboard.specs.Sights.{State};
-    ghost use Rattle.switchboard.specs.Books.{Kept};
+    ghost use Rattle.switchboard.specs.Sights.{BoardState};
+    ghost use Rattle.switchboard.specs.Books.{IsBook};
 
-    ghost Value = { State M W };
+    ghost Value = { BoardState M W };
 
     ghost view = { λ b. record {
       world = b.world.value;
@@ -42,7 +42,7 @@ impl<M, W, A: Allocator> Model for Book<M, W, A> {
     } };
 
     ghost invariant = { λ b.
-        Kept b.mailboxes.items b.order.items (vec_capacity b.order) b.posted b.completed };
+        IsBook b.mailboxes.items b.order.items (vec_capacity b.order) b.posted b.completed };
 }
 
 /// So many mailboxes with no events.
@@ -120,7 +120,7 @@ impl<M: Copy, W, A: Allocator> Book<M, W, A> {
         requires to { to < self.old.boxes }
         ensures ok { OnOk result ((self.old.aborted ≡ None)
             × (self.new ≡ with_entry (Posted to by message job.now) self.old)) }
-        ensures err { IfErr result (λ f. Refuses message f self.old self.new) }
+        ensures err { IfErr result (λ f. RefusesPost message f self.old self.new) }
     {
         if self.aborted.is_some() {
             return Err(PostFault::Aborted(message));
@@ -149,7 +149,7 @@ impl<M: Copy, W, A: Allocator> Book<M, W, A> {
     /// What a take of the pass answers. Takes no memory.
     pub fn take(&mut self, by: u8) -> Taken<M>
         requires { by < self.old.boxes }
-        ensures { Answers by result self.old self.new }
+        ensures { TakeAnswers by result self.old self.new }
     {
         if self.posted == self.completed {
             return Taken::Closed;

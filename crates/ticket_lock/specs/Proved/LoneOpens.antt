@@ -13,7 +13,7 @@ use Rattle.ticket_lock.specs.declared.view.Opening.{Opening}
 use Rattle.ticket_lock.specs.Count.{times}
 use Rattle.ticket_lock.specs.History.{StartsWith, EndsIn, IsRising}
 use Rattle.ticket_lock.specs.Turns.{draws, waits, enters, passes, Kept, Follows, Opens}
-use Rattle.ticket_lock.specs.Lone.{IsStart, hand_of, numbers, Knows, Lone, Asks, Tells}
+use Rattle.ticket_lock.specs.Lone.{IsStart, hand_of, numbers, Knows, Lone, MayBeLeft, TellsHistory}
 use Rattle.ticket_lock.specs.Proved.Facts.{total_set, total_two, at_set, set_here, set_else, at_inside, map-set, times-one, StartsWith-more}
 use Rattle.ticket_lock.specs.Proved.Facts.{EndsIn-same, EndsIn-more, rises_on}
 
@@ -133,7 +133,7 @@ module _ {T Part : Type 0} (before : T → T → Type 0) (part : ℕ → T → P
 
   module _ (same : (x : T) → before x x) (on : (x y z : T) → before x y → before y z → before x z) (opening : T) (lanes : ℕ) where
     follows : (s : State (Option T) (View T)) (r : Lone before part opening lanes s) (id : ℕ) (v : View T) → get_elem? s.views id ≡ some v
-        → Follows (Lone before part opening lanes) (hand_of 0) (Asks before part 0) (Tells before part 0) 0 0 s r.log id v
+        → Follows (Lone before part opening lanes) (hand_of 0) (MayBeLeft before part 0) (TellsHistory before part 0) 0 0 s r.log id v
     follows s r id v is_at draws i n homes log' h _ _ _ turn kept asked =
         let seen = ap (λ (z : Hand T). z.seen) turn.1.1 in (
           record { hand = h; told = v.told; own = v.own },
@@ -177,7 +177,9 @@ module _ {T Part : Type 0} (before : T → T → Type 0) (part : ℕ → T → P
         )
 
     pub lone_opens : (key : Opening T) (word slot : ℕ) → IsStart key word slot
-        → Opens (Lone before part opening lanes) (hand_of slot) (Asks before part slot) (Tells before part slot) word slot
+        → Opens (Lone before part opening lanes) (hand_of slot) (MayBeLeft before part slot) (TellsHistory before part slot) word slot
     lone_opens key word slot start =
-        subst (λ (p : ℕ × ℕ). Opens (Lone before part opening lanes) (hand_of p.1) (Asks before part p.1) (Tells before part p.1) p.0 p.1)
+        subst
+        (λ (p : ℕ × ℕ).
+        Opens (Lone before part opening lanes) (hand_of p.1) (MayBeLeft before part p.1) (TellsHistory before part p.1) p.0 p.1)
         (λ i. (sym start.0 i, sym start.1 i)) (λ s r. (r.log, r.kept, follows s r))

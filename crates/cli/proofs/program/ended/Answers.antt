@@ -2,7 +2,7 @@
 use Rattle.std.proofs.Common.{◌≤◌, inl, map, subst, sym}
 use Rattle.std.specs.Fn.{FnOnceReturnsAt}
 use Rattle.std.specs.String.{string_bytes}
-use Rattle.cli.specs.Ran.{AnswersWords, Runs}
+use Rattle.cli.specs.Ran.{AnswersWords, RunsWords}
 use Rattle.cli.specs.Streams.{streams}
 use Rattle.cli.proofs.program.ended.Goals as goal
 
@@ -13,9 +13,9 @@ returns-in-Ok-clause-ends g c =
     let words = map string_bytes c.in-Ok.words.items in
     let old = streams (g.W.Stream.held c.args.writer.now) (g.L.Stream.held c.args.log.now) in
     let new = streams (g.W.Stream.held c.run.new.writer) (g.L.Stream.held c.run.new.log) in
-    let runs = subst (λ l. Runs opens remaining (map string_bytes l) old new c.run.result) c.as_slice.ensures.value
+    let runs = subst (λ l. RunsWords opens remaining (map string_bytes l) old new c.run.result) c.as_slice.ensures.value
     c.run.ensures.runs in
-    inl (c.in-Ok.words, c.in-Ok.ensures, subst (Runs opens remaining words old new) (sym c.from.ensures) runs)
+    inl (c.in-Ok.words, c.in-Ok.ensures, subst (RunsWords opens remaining words old new) (sym c.from.ensures) runs)
 
 pub returns-in-Ok-clause-answers : goal.returns-in-Ok-clause-answers
 returns-in-Ok-clause-answers g c few =

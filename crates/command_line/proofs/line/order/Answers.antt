@@ -12,7 +12,7 @@ use Rattle.command_line.proofs.line.order.Goals as goal
 
 -- why the words give no order, by the kind of the error
 refuses : (words : List Text) (k : ErrorKind) (why : LineFault) → line.IsOfKind k why
-    → (k ≡ OutOfMemory) ⊎ IsAmong k (fault_of line.bebopk words) → line.Refuses words why
+    → (k ≡ OutOfMemory) ⊎ IsAmong k (fault_of line.bebopk words) → line.RefusesWords words why
 refuses words k (Help t) h (inl e) = absurd (h.1 e)
 refuses words k (Help t) h (inr m) = (k, m, h.0)
 refuses words k (Refused t) h (inl e) = absurd (h.1 e)
@@ -36,7 +36,7 @@ unreachable-requires c =
     let given = accepted words taken in
     let met = (c.in-Ok-try_get_matches_from.ensures.matches (ap is_simple is)).1
     ∙ ap (λ (a : App). subcommand_of a words) is in
-    let asked = subst (λ found. line.Asks found given.0 given.1) (sym met) given.2 in
+    let asked = subst (λ found. line.GivesOrder found given.0 given.1) (sym met) given.2 in
     c.in_default-asked.ensures given.0 given.1 asked
 
 pub returns-in-Ok-from_str-clause-asks : goal.returns-in-Ok-from_str-clause-asks

@@ -1,6 +1,6 @@
 use Rattle.std.proofs.Common.{List, arith, sym, subst}
 use Rattle.path_sets.specs.declared.node.Node.{Node}
-use Rattle.path_sets.specs.Diagrams.{Keeps}
+use Rattle.path_sets.specs.Diagrams.{KeepsNodes}
 use Rattle.path_sets.specs.Binary.{AreFound}
 use Rattle.path_sets.proofs.OnePoint.{found_more, found_on, last_answers, none_answers, on, parted_answers}
 use Rattle.path_sets.proofs.binary.+at_point.Goals as goal
@@ -35,7 +35,8 @@ at_point-returns-clause-found g t c =
     c.in_ok-insert.ensures.updates.0
 
 -- the nodes that there were before the four ways on
-before_low : (n0 n1 n2 n3 n4 n5 : List Node) → Keeps n0 n1 → Keeps n1 n2 → Keeps n2 n3 → Keeps n3 n4 → Keeps n4 n5 → Keeps n0 n5
+before_low : (n0 n1 n2 n3 n4 n5 : List Node) → KeepsNodes n0 n1 → KeepsNodes n1 n2 → KeepsNodes n2 n3 → KeepsNodes n3 n4 → KeepsNodes n4 n5
+    → KeepsNodes n0 n5
 before_low n0 n1 n2 n3 n4 n5 a b c d e = on n0 n4 n5 (on n0 n2 n4 (on n0 n1 n2 a b) (on n2 n3 n4 c d)) e
 
 pub parted-returns-in_err-low-clause-keeps : goal.parted-returns-in_err-low-clause-keeps

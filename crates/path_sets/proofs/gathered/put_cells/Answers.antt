@@ -2,7 +2,7 @@ use Rattle.std.proofs.Common.{◌≡◌, ℕ}
 use Rattle.language.specs.Lists.{Member}
 use Rattle.path_sets.specs.declared.place.Place.{Place}
 use Rattle.path_sets.specs.Edges.{edges}
-use Rattle.path_sets.specs.Diagrams.{row_of, Takes}
+use Rattle.path_sets.specs.Diagrams.{row_of, TakesGiven}
 use Rattle.path_sets.proofs.Gathering.{of_row, taken_on, among_on, all_on}
 use Rattle.path_sets.proofs.gathered.put_cells.Given as given
 use Rattle.path_sets.proofs.gathered.put_cells.Goals as goal
@@ -16,7 +16,7 @@ module _ (g : given.Over) (c : After-put g) where
       c.run_of.ensures.all
 
   -- with the run more is taken, and nothing else
-  taken : Takes (λ t. Member t (edges c.args.cells.now)) c.args.merged.now.nodes.kept.keys c.put.new.self.nodes.kept.keys
+  taken : TakesGiven (λ t. Member t (edges c.args.cells.now)) c.args.merged.now.nodes.kept.keys c.put.new.self.nodes.kept.keys
       c.args.merged.now.rows.entries c.put.new.self.rows.entries
   taken = taken_on c.args.cells.now c.loop-left.left.now c.split_at.result.0.now c.split_at.result.1.now c.row_of-row.result _
       c.loop-left.merged.nodes.kept.keys _ _ c.loop-left.merged.rows.entries _ c.split_at.ensures.by_index.0 one

@@ -2,7 +2,7 @@ use Rattle.std.proofs.Common.{◌≡◌, ◌⊎◌, true, length}
 use Rattle.language.specs.Lists.{Member}
 use Rattle.path_sets.specs.Triples.{Triple}
 use Rattle.path_sets.specs.Edges.{edges}
-use Rattle.path_sets.specs.Diagrams.{Takes, merged_has}
+use Rattle.path_sets.specs.Diagrams.{TakesGiven, merged_has}
 use Rattle.path_sets.proofs.gathered.put_cells.Given as goal
 
 abbrev pub decreases-loop-left : goal.decreases-loop-left
@@ -10,7 +10,7 @@ decreases-loop-left g l = length l.left
 
 abbrev pub invariant-loop-left : goal.invariant-loop-left
 invariant-loop-left g l = record {
-  taken : Takes (λ t. Member t (edges l.cells)) l.initial.merged.nodes.kept.keys l.merged.nodes.kept.keys
+  taken : TakesGiven (λ t. Member t (edges l.cells)) l.initial.merged.nodes.kept.keys l.merged.nodes.kept.keys
       l.initial.merged.rows.entries l.merged.rows.entries;
   among : (t : Triple) → Member t (edges l.left) → Member t (edges l.cells);
   all : (t : Triple) → Member t (edges l.cells)

@@ -1,5 +1,5 @@
 use Rattle.std.proofs.Common.{drop, take}
-use Rattle.scopes.specs.Find.{Kept}
+use Rattle.scopes.specs.Find.{FoundSoFar}
 use Rattle.scopes.specs.Faults.{Repeated}
 use Rattle.scopes.specs.Known.{AreTexts, IsAgain}
 use Rattle.resolved.specs.Statements.{lent}
@@ -8,5 +8,5 @@ use Rattle.scopes.proofs.known.repeated.Given as goal
 abbrev pub invariant-loop-name : goal.invariant-loop-name
 invariant-loop-name g l = record {
   told : AreTexts l.seen (lent (take l.name-index l.names));
-  kept : Kept (Repeated (lent l.names)) (IsAgain (lent (take l.name-index l.names)) (lent (drop l.name-index l.names))) l.found;
+  kept : FoundSoFar (Repeated (lent l.names)) (IsAgain (lent (take l.name-index l.names)) (lent (drop l.name-index l.names))) l.found;
 }

@@ -3,7 +3,7 @@ use Rattle.summaries.specs.declared.due.Caller.{Caller}
 use Rattle.summaries.specs.declared.due.Caller.TheVariants.{Proc}
 use Rattle.summaries.specs.declared.due.Due.TheVariants.{Summary}
 use Rattle.summaries.specs.Mails.{mail}
-use Rattle.summaries.specs.Grows.{IsTold}
+use Rattle.summaries.specs.Grows.{IsSummaryTold}
 use Rattle.summaries.proofs.Telling.{gives_one, gives_as}
 use Rattle.summaries.proofs.tell.tell.Goals as goal
 
@@ -21,7 +21,7 @@ returns-in_ok-give-clause-ok g c =
     let told = mail c.in-Proc.to (Summary c.args.p c.args.a c.args.b) in
     let one = gives_one told c.args.given.now.mails.items c.give.new.self.mails.items c.in_ok-give.ensures.ok in
     gives_as (λ x. x ≡ told)
-    (IsTold c.args.p c.args.a c.args.b c.args.caller) c.args.given.now.mails.items c.give.new.self.mails.items
+    (IsSummaryTold c.args.p c.args.a c.args.b c.args.caller) c.args.given.now.mails.items c.give.new.self.mails.items
     (λ x e. (c.in-Proc.to, c.in-Proc.is, e))
     (λ x w. w.2 ∙ ap (λ to. mail to (Summary c.args.p c.args.a c.args.b)) (number w.0 c.in-Proc.to (sym w.1 ∙ c.in-Proc.is)))
     one

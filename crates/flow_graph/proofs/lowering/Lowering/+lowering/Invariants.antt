@@ -1,6 +1,5 @@
 -- Where flows of the statements that are left come behind those so far, all statements are lowered; each call's measure
--- is
--- what it still has to lower.
+-- is what it still has to lower.
 use Rattle.std.proofs.Common.{◌≡◌, ◌≤◌, ◌+◌, ◌*◌, List, length, map}
 use Rattle.language.specs.Rest.{Code}
 use Rattle.language.specs.Sequential.{statements}

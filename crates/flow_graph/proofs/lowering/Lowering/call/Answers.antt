@@ -6,7 +6,7 @@ use Rattle.language.specs.Value.{value_of, values_of}
 use Rattle.language.specs.Resolve.{number_of, resolve_expression}
 use Rattle.trees.specs.Trees.{name_of, expr_of, exprs_of, proc_of, procs_of}
 use Rattle.flow_graph.specs.Bits.{coded}
-use Rattle.flow_graph.specs.Formulas.{says, Says}
+use Rattle.flow_graph.specs.Formulas.{says, FormulaSays}
 use Rattle.flow_graph.specs.Lowering.{lowering_scope}
 use Rattle.flow_graph.specs.Views.{scope_seen}
 use Rattle.flow_graph.proofs.Doing.{does_no_call, does_calls, more_said}
@@ -41,7 +41,7 @@ loop-e-preserved g c =
     let old = c.loop-e.arguments.items in
     let made = c.in_ok-put.ensures in
     let f = made.0 in
-    let says_so = subst (λ r. IfOk r (λ f. Says f (scope_seen me.scope) (expr_of c.e-item.result))) made.1 c.formula.ensures in
+    let says_so = subst (λ r. IfOk r (λ f. FormulaSays f (scope_seen me.scope) (expr_of c.e-item.result))) made.1 c.formula.ensures in
     let next = drop_more es i c.e-item.result c.loop-e-test.true ∙ ap (λ x. x ∷ drop (i + 1) es) (sym c.e-item.is) in (
       omega (arith, c.loop-e.invariant.0, ap length made.2, length-append old (f ∷ [])),
       λ gs ls wide.

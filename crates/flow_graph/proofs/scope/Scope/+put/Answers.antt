@@ -4,7 +4,7 @@ use Rattle.std.proofs.lemmas.Result.{IfOk-weaker}
 use Rattle.trees.specs.Trees.{expr_of}
 use Rattle.trees.proofs.Folds.{expr_of-Const, expr_of-Var, expr_of-Not, expr_of-Two}
 use Rattle.flow_graph.specs.Located.{located}
-use Rattle.flow_graph.specs.Postfix.{need, Puts}
+use Rattle.flow_graph.specs.Postfix.{need, PutsSteps}
 use Rattle.flow_graph.specs.Views.{scope_seen}
 use Rattle.flow_graph.specs.declared.postfix.Step.TheVariants.{Constant}
 use Rattle.flow_graph.proofs.Codes.{one_put, constant_read, turned, applied, swapped}
@@ -17,7 +17,7 @@ returns-in-Const g t c =
     let new = c.push.new.list.items in
     let b = c.in-Const.b in
     IfOk-weaker c.push.result _ _
-    (λ u is. subst (λ e. Puts old new (located s e)) (sym (ap expr_of c.in-Const.is ∙ expr_of-Const g.row.N.Denot b))
+    (λ u is. subst (λ e. PutsSteps old new (located s e)) (sym (ap expr_of c.in-Const.is ∙ expr_of-Const g.row.N.Denot b))
     (one_put _ old new (Constant b) (constant_read b) is))
     c.push.ensures
 
@@ -27,7 +27,7 @@ returns-in-Var g t c =
     let old = c.args.steps.now.items in
     let new = c.push-in-Var.new.list.items in
     IfOk-weaker c.push-in-Var.result _ _
-    (λ u is. subst (λ e. Puts old new (located s e)) (sym (ap expr_of c.in-Var.is ∙ expr_of-Var c.in-Var.x))
+    (λ u is. subst (λ e. PutsSteps old new (located s e)) (sym (ap expr_of c.in-Var.is ∙ expr_of-Var c.in-Var.x))
     (one_put _ old new c.reading.result c.reading.ensures is))
     c.push-in-Var.ensures
 
@@ -38,9 +38,9 @@ returns-in_ok-put-in-Not g t c =
     let mid = c.put.new.steps.items in
     let new = c.push-in-Not.new.list.items in
     IfOk-weaker c.push-in-Not.result _ _
-    (λ u is. subst (λ e. Puts old new (located s e)) (sym (ap expr_of c.in-Not.is ∙ expr_of-Not c.in-Not.a))
+    (λ u is. subst (λ e. PutsSteps old new (located s e)) (sym (ap expr_of c.in-Not.is ∙ expr_of-Not c.in-Not.a))
     (turned (located s (expr_of c.in-Not.a.value)) old mid new
-    (subst (λ e. Puts old mid (located s (expr_of e))) c.deref.ensures c.in_ok-put-in-Not.ensures) is))
+    (subst (λ e. PutsSteps old mid (located s (expr_of e))) c.deref.ensures c.in_ok-put-in-Not.ensures) is))
     c.push-in-Not.ensures
 
 pub returns-in_ok-put-in-Two-2 : goal.returns-in_ok-put-in-Two-2
@@ -60,10 +60,10 @@ returns-in_ok-put-in-Two-2 g t c =
       ap (λ e. need (located s (expr_of e))) c.deref-in-Two-2.ensures,
     ) in
     IfOk-weaker c.push-then-need.result _ _
-    (λ u is. subst (λ e. Puts old new (located s e)) (sym (ap expr_of c.in-Two.is ∙ expr_of-Two c.in-Two.op c.in-Two.a c.in-Two.b))
+    (λ u is. subst (λ e. PutsSteps old new (located s e)) (sym (ap expr_of c.in-Two.is ∙ expr_of-Two c.in-Two.op c.in-Two.a c.in-Two.b))
     (swapped (located s (expr_of c.in-Two.a.value)) (located s (expr_of c.in-Two.b.value)) c.in-Two.op old left right new less
-    (subst (λ e. Puts old left (located s (expr_of e))) c.deref-then-need.ensures c.in_ok-put-in-Two.ensures)
-    (subst (λ e. Puts left right (located s (expr_of e))) c.deref-then-need-2.ensures c.in_ok-put-in-Two-2.ensures) is))
+    (subst (λ e. PutsSteps old left (located s (expr_of e))) c.deref-then-need.ensures c.in_ok-put-in-Two.ensures)
+    (subst (λ e. PutsSteps left right (located s (expr_of e))) c.deref-then-need-2.ensures c.in_ok-put-in-Two-2.ensures) is))
     c.push-then-need.ensures
 
 pub returns-in_ok-put-in-Two-4 : goal.returns-in_ok-put-in-Two-4
@@ -83,8 +83,8 @@ returns-in_ok-put-in-Two-4 g t c =
       ap (λ e. need (located s (expr_of e))) c.deref-in-Two-2.ensures,
     ) in
     IfOk-weaker c.push-else-need.result _ _
-    (λ u is. subst (λ e. Puts old new (located s e)) (sym (ap expr_of c.in-Two.is ∙ expr_of-Two c.in-Two.op c.in-Two.a c.in-Two.b))
+    (λ u is. subst (λ e. PutsSteps old new (located s e)) (sym (ap expr_of c.in-Two.is ∙ expr_of-Two c.in-Two.op c.in-Two.a c.in-Two.b))
     (applied (located s (expr_of c.in-Two.a.value)) (located s (expr_of c.in-Two.b.value)) c.in-Two.op old left right new more
-    (subst (λ e. Puts old left (located s (expr_of e))) c.deref-else-need.ensures c.in_ok-put-in-Two-3.ensures)
-    (subst (λ e. Puts left right (located s (expr_of e))) c.deref-else-need-2.ensures c.in_ok-put-in-Two-4.ensures) is))
+    (subst (λ e. PutsSteps old left (located s (expr_of e))) c.deref-else-need.ensures c.in_ok-put-in-Two-3.ensures)
+    (subst (λ e. PutsSteps left right (located s (expr_of e))) c.deref-else-need-2.ensures c.in_ok-put-in-Two-4.ensures) is))
     c.push-else-need.ensures

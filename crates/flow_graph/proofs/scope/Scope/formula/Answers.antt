@@ -1,7 +1,7 @@
 use Rattle.std.proofs.Common.{◌∙◌, ◌++◌, IfSome, subst}
 use Rattle.trees.specs.Trees.{expr_of}
 use Rattle.flow_graph.specs.Bits.{bit_of, coded}
-use Rattle.flow_graph.specs.Formulas.{IsTableOf}
+use Rattle.flow_graph.specs.Formulas.{IsTruthTableOf}
 use Rattle.flow_graph.specs.Views.{scope_seen, over_bits}
 use Rattle.flow_graph.proofs.Worths.{worth_is_value}
 use Rattle.flow_graph.proofs.scope.Scope.formula.Goals as goal
@@ -10,7 +10,7 @@ pub returns-in-Some : goal.returns-in-Some
 returns-in-Some g c gs ls e =
     let table =
     subst (λ made. IfSome made
-    (λ t. IsTableOf t (over_bits c.args.self.now c.args.e.now))) c.in-Some.is c.in_ok-table.ensures in
+    (λ t. IsTruthTableOf t (over_bits c.args.self.now c.args.e.now))) c.in-Some.is c.in_ok-table.ensures in
     table (coded (gs ++ ls)) ∙ worth_is_value (scope_seen c.args.self.now) gs ls (expr_of c.args.e.now) e
 
 pub returns-in_ok-postfix-in-None : goal.returns-in_ok-postfix-in-None

@@ -2,7 +2,7 @@ use Rattle.std.proofs.Common.{◌≡◌, ◌+◌, Bool, true, false, ap, sym, �
 use Rattle.std.proofs.lemmas.Bool.{OnFalse_from, OnTrue_from}
 use Rattle.path_sets.specs.Edges.{edge_at}
 use Rattle.path_sets.specs.Triples.{Triple, triple}
-use Rattle.path_sets.specs.Members.{all_edges, Puts}
+use Rattle.path_sets.specs.Members.{all_edges, PutsEdge}
 use Rattle.path_sets.proofs.Grouped.{Groups}
 use Rattle.path_sets.proofs.Covered.{longer, members_kept, members_put, was_known, was_new}
 use Rattle.path_sets.proofs.Universe.{Fits, all_none_twice}
@@ -31,9 +31,9 @@ module _ (g : given.Over) (c : In_ok-added g) where
 
   -- what is put in, or is there, as the answer says
   puts : (b : Bool) → c.in_ok-added.added ≡ b
-      → Puts c.put.new.merged.nodes.kept.keys c.put.new.merged.rows.entries
+      → PutsEdge c.put.new.merged.nodes.kept.keys c.put.new.merged.rows.entries
       (edge_at c.place_of-bit.result.0 c.place_of-bit.result.1) old new b
-  puts b is = subst (Puts c.put.new.merged.nodes.kept.keys c.put.new.merged.rows.entries
+  puts b is = subst (PutsEdge c.put.new.merged.nodes.kept.keys c.put.new.merged.rows.entries
       (edge_at c.place_of-bit.result.0 c.place_of-bit.result.1) old new) is c.in_ok-added.ensures.ok
 
 pub invariant_of-self-then-added : goal.invariant_of-self-then-added

@@ -6,7 +6,7 @@ use Rattle.std.proofs.lemmas.Option.{slice_get_read}
 use Rattle.std.proofs.lemmas.Bool.{OnFalse_from, OnTrue_from}
 use Rattle.language.specs.Lists.{Member, NoneTwice}
 use Rattle.path_sets.specs.Edges.{edge_at, edges}
-use Rattle.path_sets.specs.Inserts.{Inserts, Settles}
+use Rattle.path_sets.specs.Inserts.{Inserts, PutsIn}
 use Rattle.path_sets.specs.declared.shards.Shard.{Shard}
 use Rattle.path_sets.specs.Shards.{all_in, AreHome, AreThere}
 use Rattle.path_sets.specs.Triples.{Triple, triple}
@@ -66,10 +66,10 @@ module _ (g : given.Over) (c : In_ok-added g) where
       (c.shard_of.new.self.there c.args.entry c.in_ok-at.at c.in_ok-at.ensures.shard) c.index_mut.ensures.value
 
   -- what is put in, or is there, as the answer says
-  settles : (b : Bool) → c.in_ok-added.added ≡ b → Settles x (all_in old) (all_in new) b
+  settles : (b : Bool) → c.in_ok-added.added ≡ b → PutsIn x (all_in old) (all_in new) b
   settles b is =
       settles_all c.shard_of.new.self.homes.entries old c.shard_of.new.self.home c.in_ok-at.at c.index_mut.result.now x own at
-      c.put.new.self b (subst (Settles x _ _) is c.in_ok-added.ensures.ok)
+      c.put.new.self b (subst (PutsIn x _ _) is c.in_ok-added.ensures.ok)
 
   home : AreHome c.shard_of.new.self.homes.entries new
   home = home_stays c.shard_of.new.self.homes.entries old c.shard_of.new.self.home c.in_ok-at.at c.index_mut.result.now x own at

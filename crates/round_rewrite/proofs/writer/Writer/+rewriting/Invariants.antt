@@ -2,13 +2,13 @@
 use Rattle.std.proofs.Common.{◌≡◌, ◌+◌, ◌*◌, drop}
 use Rattle.language.specs.Sequential.{statements}
 use Rattle.trees.specs.Trees.{items_of, deed_of, block_of, all_before}
-use Rattle.round_rewrite.specs.Writing.{Statements, forms, naming_of}
+use Rattle.round_rewrite.specs.Writing.{TextBlock, forms, naming_of}
 use Rattle.trees.proofs.Held.{held}
 use Rattle.round_rewrite.proofs.writer.Writer.+rewriting.Given as goal
 
 abbrev pub invariant-block-loop-stmt : goal.invariant-block-loop-stmt
 invariant-block-loop-stmt g l =
-    (rest : Statements) → all_before (items_of l.into.items) (forms (naming_of l.self) l.self.rounds.last
+    (rest : TextBlock) → all_before (items_of l.into.items) (forms (naming_of l.self) l.self.rounds.last
     (items_of (drop l.stmt-index l.stmts)) rest)
     ≡ all_before (items_of l.initial.into.items) (forms (naming_of l.self) l.self.rounds.last (items_of l.stmts) rest)
 

@@ -8,7 +8,7 @@ use Rattle.language.specs.Sequential.{caller}
 use Rattle.flow_graph.specs.Numbers.{numbered_entry}
 use Rattle.summaries.specs.Under.{under}
 use Rattle.summaries.specs.Found.{HasSite, call, call_eq, site}
-use Rattle.summaries.specs.Grows.{Grows, Each, IsBehind, triple_of}
+use Rattle.summaries.specs.Grows.{Grows, OfSome, IsBehind, triple_of}
 use Rattle.summaries.proofs.Asking.{asked_to, ask_step, ask_only, behind_reached, asked_site, taken_there}
 use Rattle.summaries.proofs.Eaches.{where_some, where_none}
 use Rattle.summaries.proofs.Mails.{answers_still}
@@ -30,11 +30,11 @@ known : (g : given.Over) (c : goal.After-go_on g) →
     let es = g.S.PathSet.members self.edges in
     let ds = g.S.PathSet.members c.go_on.new.edges in
     let known = under call_eq self.found.summaries.by_key (call c.callee.result c.entry.result) in
-    Grows (Each (IsBehind self.graph.now site) c.of.result.now) es ds self.found.pending.items c.go_on.new.pending.items →
-    Grows (Each (IsBehind self.graph.now site) known) es ds self.found.pending.items c.go_on.new.pending.items
+    Grows (OfSome (IsBehind self.graph.now site) c.of.result.now) es ds self.found.pending.items c.go_on.new.pending.items →
+    Grows (OfSome (IsBehind self.graph.now site) known) es ds self.found.pending.items c.go_on.new.pending.items
 known g c =
     let self = c.args.self.now in
-    subst (λ bs. Grows (Each (IsBehind self.graph.now (site c.args.edge.entry c.args.edge.point c.args.edge.values)) bs)
+    subst (λ bs. Grows (OfSome (IsBehind self.graph.now (site c.args.edge.entry c.args.edge.point c.args.edge.values)) bs)
     (g.S.PathSet.members self.edges) (g.S.PathSet.members c.go_on.new.edges) self.found.pending.items
     c.go_on.new.pending.items) c.of.ensures
 
@@ -87,14 +87,14 @@ returns-clause-worked g c =
     c.callee.result c.entry.result c.args.call.now.back (flow.Call c.args.call.now)
     c.requires.holds.0 c.requires.edge c.requires.call (enters g c)
     (subst (λ bs. (t : Triple) → Member t ds →
-    Each (IsBehind self.graph.now (site e.entry e.point e.values)) bs t ⊎ Member t es) c.of.ensures
+    OfSome (IsBehind self.graph.now (site e.entry e.point e.values)) bs t ⊎ Member t es) c.of.ensures
     c.go_on.ensures.only) in
     added_worked g.S.PathSet.members _ (λ t. t ≡ triple_of e) c.go_on.result self _ es _ _ c.go_on.ensures
     (g.met.S.PathSet.none_twice c.go_on.new.edges) edges
     (λ t w. behind_reached self.graph.now self.procedure f c.give_unless.new.self c.add.new.self c.go_on.new.pending es ds e
     c.callee.result c.entry.result c.args.call.now.back (flow.Call c.args.call.now)
     c.requires.holds.0 c.requires.edge c.requires.call (enters g c) t
-    (subst (λ bs. Each (IsBehind self.graph.now (site e.entry e.point e.values)) bs t) c.of.ensures w))
+    (subst (λ bs. OfSome (IsBehind self.graph.now (site e.entry e.point e.values)) bs t) c.of.ensures w))
     (IfOk-weaker c.go_on.result _ _
     (λ _ grown.
     let step = ask_step self.graph.now self.procedure f c.give_unless.new.self c.add.new.self c.go_on.new.pending es ds e

@@ -3,7 +3,7 @@ use Rattle.language.specs.Lists.{Member, NoneTwice}
 use Rattle.path_sets.specs.Triples.{triple}
 use Rattle.summaries.specs.Found.{TookDue}
 use Rattle.summaries.specs.Under.{under}
-use Rattle.summaries.specs.Grows.{Gives, Each, IsTold}
+use Rattle.summaries.specs.Grows.{AddsMails, OfSome, IsSummaryTold}
 use Rattle.summaries.proofs.Beginning.{begun_also, begin_only, begin_step, start_reached, none_told}
 use Rattle.summaries.proofs.Growing.{ok_err, grows_as, fault_of}
 use Rattle.summaries.proofs.Mails.{caller_known, caller_new, answers_still}
@@ -108,8 +108,8 @@ returns-clause-worked g c =
     (λ t is. is ∙ ap (λ n. triple a n a) c.start.ensures)
     (λ t is. is ∙ ap (λ n. triple a n a) (sym c.start.ensures)) c.in_ok-reach.ensures.ok in
     let gave = subst
-    (λ bs. Gives
-    (Each (λ b. IsTold self.procedure a b c.args.caller) bs) f.given.mails.items
+    (λ bs. AddsMails
+    (OfSome (λ b. IsSummaryTold self.procedure a b c.args.caller) bs) f.given.mails.items
     c.tell_exits.new.given.mails.items) c.of-2.ensures c.in_ok-tell_exits.ensures.ok in
     let step = begin_step self.graph.now self.procedure f c.add.new.self c.tell_exits.new.given c.reach.new.pending a
     c.args.caller c.in_ok-add.ensures.added c.in_ok-add.ensures.others es ds c.requires.holds.0

@@ -2,7 +2,7 @@ use Rattle.std.proofs.Common.{◌⊎◌, inr, refl, sym, subst}
 use Rattle.std.proofs.lemmas.Result.{IfOk-weaker}
 use Rattle.language.specs.Lists.{Member}
 use Rattle.path_sets.specs.Triples.{Triple}
-use Rattle.summaries.specs.Grows.{Grows, Each, IsBehind}
+use Rattle.summaries.specs.Grows.{Grows, OfSome, IsBehind}
 use Rattle.summaries.proofs.Ending.{ended_also, end_only, end_step, ended_reached}
 use Rattle.summaries.proofs.Stepping.{grown_to, still_holds, all_reached, taken_as}
 use Rattle.summaries.proofs.Worked.{refused_worked, added_worked}
@@ -26,16 +26,16 @@ returns-clause-worked g c =
     let ds = g.S.PathSet.members c.go_on_at_each.new.edges in
     let edges = end_only self.graph.now self.procedure f c.add.new.self c.go_on_at_each.new.pending c.args.call c.args.b
     c.in_ok-add.ensures.added c.in_ok-add.ensures.others es ds c.requires.holds.0
-    (subst (λ ss. (t : Triple) → Member t ds → Each (λ y. IsBehind self.graph.now y c.args.b) ss t ⊎ Member t es)
+    (subst (λ ss. (t : Triple) → Member t ds → OfSome (λ y. IsBehind self.graph.now y c.args.b) ss t ⊎ Member t es)
     c.of.ensures c.go_on_at_each.ensures.only) in
     added_worked g.S.PathSet.members _ (λ t. ⊥) c.go_on_at_each.result self _ es _ _ c.go_on_at_each.ensures
     (g.met.S.PathSet.none_twice c.go_on_at_each.new.edges) edges
     (λ t w. ended_reached self.graph.now self.procedure f c.add.new.self c.go_on_at_each.new.pending c.args.call c.args.b
     c.in_ok-add.ensures.added c.in_ok-add.ensures.others es ds c.requires.holds.0 t
-    (subst (λ ss. Each (λ y. IsBehind self.graph.now y c.args.b) ss t) c.of.ensures w))
+    (subst (λ ss. OfSome (λ y. IsBehind self.graph.now y c.args.b) ss t) c.of.ensures w))
     (IfOk-weaker c.go_on_at_each.result _ _
     (λ _ grown.
-    let known = subst (λ ss. Grows (Each (λ y. IsBehind self.graph.now y c.args.b) ss) es ds f.pending.items
+    let known = subst (λ ss. Grows (OfSome (λ y. IsBehind self.graph.now y c.args.b) ss) es ds f.pending.items
     c.go_on_at_each.new.pending.items) c.of.ensures grown in
     let step = end_step self.graph.now self.procedure f c.add.new.self c.go_on_at_each.new.pending c.args.call
     c.args.b c.in_ok-add.ensures.added c.in_ok-add.ensures.others es ds c.requires.holds.0 known in

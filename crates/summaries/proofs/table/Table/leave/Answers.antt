@@ -6,7 +6,7 @@ use Rattle.summaries.proofs.Keys.{found_is_in}
 use Rattle.summaries.specs.declared.found.Found.{Found}
 use Rattle.summaries.specs.Under.{under}
 use Rattle.summaries.specs.Found.{pair, pair_eq}
-use Rattle.summaries.specs.Grows.{Gives, Each, IsTold, triple_of}
+use Rattle.summaries.specs.Grows.{AddsMails, OfSome, IsSummaryTold, triple_of}
 use Rattle.summaries.proofs.Adding.{same_pair}
 use Rattle.summaries.proofs.Mails.{inserted_new, inserted_known, inserted_apart, answers_still}
 use Rattle.summaries.proofs.Leaving.{leave_step, none_told}
@@ -54,7 +54,7 @@ returns-in_ok-tell_all-clause-ok g c =
     let there = subst (λ n. Member (triple e.entry n e.values) es) c.if-edge-ne-EXIT.false c.requires.edge in
     let keys = inserted_new pair_eq (pair e.entry b) f.pairs.keys c.insert.new.self.keys
     c.in_ok-insert.field-0 c.in_ok-insert.ensures.added c.in_ok-insert.ensures.keys c.if-branch.true in
-    let gave = subst (λ cs. Gives (Each (IsTold self.procedure e.entry b) cs) f.given.mails.items h.given.mails.items)
+    let gave = subst (λ cs. AddsMails (OfSome (IsSummaryTold self.procedure e.entry b) cs) f.given.mails.items h.given.mails.items)
     c.of.ensures c.in_ok-tell_all.ensures.ok in
     let step = leave_step self.graph.now self.procedure f h es e.entry e.values b c.left.ensures.number
     c.requires.holds.0 there keys c.in_ok-add.ensures.added c.in_ok-add.ensures.others

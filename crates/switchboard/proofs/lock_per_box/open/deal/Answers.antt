@@ -1,7 +1,7 @@
 -- The next pass has a seat of its own.
 use Rattle.std.proofs.Common.{◌+◌, ◌∙◌, sym, ap, subst, arith, length}
 use Rattle.switchboard.specs.Sights.{opened}
-use Rattle.switchboard.specs.PerBox.{IsSized}
+use Rattle.switchboard.specs.PerBox.{IsBoardTable}
 use Rattle.switchboard.specs.BoxPasses.{IsBoxPass}
 use Rattle.switchboard.proofs.Opening.{sights_count}
 use Rattle.switchboard.proofs.BoxOpening.{deals_from, dealt_from, dealt_next}
@@ -32,7 +32,7 @@ invariant_of-push_reserved g c =
     (subst (λ w. g.M.Mail.fits w key.to key.first) (sym t.3) c.requires.fits.1)
     own.table_id c.loop-number.number now.0 c.args.calls c.loop-number.seat.me own.me now.3 did.4
     (omega (arith, now.1, c.loop-number-test.true))
-    (subst (λ d. IsSized d key.boxes) (sym id) (subst (λ n. IsSized c.args.shared.now.table_id n) (sym t.2) t.1))
+    (subst (λ d. IsBoardTable d key.boxes) (sym id) (subst (λ n. IsBoardTable c.args.shared.now.table_id n) (sym t.2) t.1))
     (omega (arith, c.loop-number-test.true, t.2)) c.requires.calls in
     subst (λ w. IsBoxPass g.M.Mail.fits own.table_id c.loop-number.number c.args.calls _ w c.args.boxes own.me) (t.3 ∙ sym c.of.ensures)
     (subst (λ n. IsBoxPass g.M.Mail.fits own.table_id c.loop-number.number c.args.calls _ key.world.value n own.me) t.2 p)

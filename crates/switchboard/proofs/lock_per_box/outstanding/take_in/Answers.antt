@@ -1,5 +1,5 @@
 use Rattle.std.proofs.Common.{◌∙◌, subst}
-use Rattle.switchboard.specs.PerBox.{TookIn}
+use Rattle.switchboard.specs.PerBox.{SeatTookIn}
 use Rattle.switchboard.proofs.BoxSeats.{joins_allowed}
 use Rattle.switchboard.proofs.BoxWords.{takes_in}
 use Rattle.switchboard.proofs.lock_per_box.outstanding.take_in.Goals as goal
@@ -24,5 +24,5 @@ load-requires g c = (
 pub returns : goal.returns
 returns g c = (
   (c.load.ensures.0 ∙ c.join_seat.ensures.0, c.load.ensures.1 ∙ c.join_seat.ensures.1),
-  subst (λ m. TookIn g.M.Mail.fits m c.load.new.seat.me) c.join_seat.ensures.2 c.load.ensures.2,
+  subst (λ m. SeatTookIn g.M.Mail.fits m c.load.new.seat.me) c.join_seat.ensures.2 c.load.ensures.2,
 )

@@ -1,6 +1,6 @@
 use Rattle.std.proofs.Common.{sym, subst}
 use Rattle.switchboard.specs.Knowing.{hand_at}
-use Rattle.switchboard.specs.PerBox.{IsReady, IsInside}
+use Rattle.switchboard.specs.PerBox.{CanDraw, IsInside}
 use Rattle.switchboard.proofs.BoxVisits.{inside_is}
 use Rattle.switchboard.proofs.lock_per_box.visiting.enter_box.Goals as goal
 
@@ -13,5 +13,5 @@ returns g c =
     let same = c.from.ensures in (
       did.0,
       subst (λ q. IsInside g.M.Mail.fits q x m w) same
-          (inside_is g.M.Mail.fits c.from.result _ x m w (subst (λ q. IsReady (hand_at q m.0)) (sym same) c.requires.ready) did.1),
+          (inside_is g.M.Mail.fits c.from.result _ x m w (subst (λ q. CanDraw (hand_at q m.0)) (sym same) c.requires.ready) did.1),
     )

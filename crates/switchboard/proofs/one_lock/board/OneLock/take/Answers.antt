@@ -1,6 +1,6 @@
 -- The pass answers what the state that it finds has for it.
 use Rattle.std.proofs.Common.{◌<◌}
-use Rattle.switchboard.specs.Books.{Answers}
+use Rattle.switchboard.specs.Books.{TakeAnswers}
 use Rattle.switchboard.proofs.Inside.{inside, to_lane, to_call, taking, takes_on, shows_taken}
 use Rattle.switchboard.proofs.Visits.{may_leave, visit_is}
 use Rattle.switchboard.proofs.one_lock.board.OneLock.take.Goals as goal
@@ -15,7 +15,7 @@ leave-requires-clause-value g c =
     let F = g.M.Mail.fits in
     let y = c.take-answer.new.self in
     let h = inside F c.pass.invariant c.in-Ok.ensures c.pass.view_is c.number-number.ensures c.value.ensures.value in
-    let is = to_lane F h (λ n x. Answers n c.take-answer.result x y) c.take-answer.ensures in
+    let is = to_lane F h (λ n x. TakeAnswers n c.take-answer.result x y) c.take-answer.ensures in
     may_leave F c.in-Ok.guard c.pass.inside.lane c.enter.new.lane y c.in-Ok.ensures (taking F h c.take-answer.result is)
 
 pub invariant_of-pass : goal.invariant_of-pass

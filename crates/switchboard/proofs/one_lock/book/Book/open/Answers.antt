@@ -3,7 +3,7 @@ use Rattle.std.proofs.Common.{◌<◌, ◌∷◌, ◌++◌, [], length, set, sym
 use Rattle.std.specs.Vec.{vec_capacity}
 use Rattle.post_ledger.specs.declared.event.Event.TheVariants.{Post}
 use Rattle.post_ledger.specs.declared.entry.Entry.TheVariants.{Posted}
-use Rattle.switchboard.specs.Books.{Kept}
+use Rattle.switchboard.specs.Books.{IsBook}
 use Rattle.switchboard.proofs.Keeping.{item_at, kept_open}
 use Rattle.switchboard.proofs.one_lock.book.Book.open.Goals as goal
 
@@ -17,9 +17,9 @@ invariant_of-result g c =
     ∙ ap (λ h. h ++ Post c.args.boxes c.args.first ∷ []) (made.1 c.from.result c.index_mut-mailbox.result.now at) in
     let one = c.push_reserved.ensures.items
     ∙ ap (λ l. l ++ Posted c.args.to c.args.boxes c.args.first 0 ∷ []) c.in_ok-order.ensures.items in
-    subst (λ q. Kept (set hs q c.post.new.self) c.push_reserved.new.self.items (vec_capacity c.push_reserved.new.self) 1 0)
+    subst (λ q. IsBook (set hs q c.post.new.self) c.push_reserved.new.self.items (vec_capacity c.push_reserved.new.self) 1 0)
     (sym c.from.ensures)
-    (subst (λ l. Kept (set hs c.args.to c.post.new.self) l (vec_capacity c.push_reserved.new.self) 1 0) (sym one)
+    (subst (λ l. IsBook (set hs c.args.to c.post.new.self) l (vec_capacity c.push_reserved.new.self) 1 0) (sym one)
     (kept_open hs c.args.boxes c.args.to
     (vec_capacity c.push_reserved.new.self) c.args.first c.post.new.self made.0 c.requires.1 c.requires.0 made.1 first
     (omega (arith, c.push_reserved.ensures.capacity, c.in_ok-order.ensures.capacity))))
