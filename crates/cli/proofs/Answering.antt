@@ -1,11 +1,11 @@
 -- What a report says of the program that it is on, and what is told of it.
-use Rattle.std.proofs.Common.{◌≡◌, ◌∙◌, ◌↔◌, ◌++◌, ℕ, suc, Bool, true, false, List, ◌∷◌, ◌+◌}
+use Rattle.std.proofs.Common.{◌≡◌, ◌∙◌, ◌↔◌, ◌++◌, ℕ, Bool, true, false, List, ◌∷◌, ◌+◌}
 use Rattle.std.proofs.Common.{cond, count_by, inl, inr, refl, sym, ap, subst, arith, length}
 use Rattle.std.proofs.lemmas.List.{length-map}
 use Rattle.std.proofs.lemmas.List.Recursion.{is_count_by}
 use Rattle.language.specs.Tree.{Procedure, Tree}
 use Rattle.language.specs.Resolve.{meaning_of}
-use Rattle.language.specs.Rounds as rounds
+use Rattle.language.specs.Rounds as runs
 use Rattle.language.specs.Step.{Program}
 use Rattle.scopes.specs.Checked.{IsChecked}
 use Rattle.round_rewrite.proofs.Widths.{few_procedures}
@@ -70,11 +70,11 @@ due_many p q h due taken = record {
 }
 
 -- a report on a checked program tells of each of its procedures
-pub has_each : {H A : Type 0} (last most : ℕ) (t : Tree) (r : Report H A) → IsChecked t → IsReport t last most r
+pub has_each : {H A : Type 0} (rounds most : ℕ) (t : Tree) (r : Report H A) → IsChecked t → IsReport t rounds most r
     → HasEach (names_of t) r
-has_each last most t r checked h = record {
-  summaries = h.found.summaries.0 ∙ as_many_names last t;
-  mailboxes = h.found.through.all ∙ as_many_names last t;
+has_each rounds most t r checked h = record {
+  summaries = h.found.summaries.0 ∙ as_many_names rounds t;
+  mailboxes = h.found.through.all ∙ as_many_names rounds t;
   few =
       let few = few_procedures t checked in
       let same = length-map t.procedures (λ (p : Procedure). p.name.text) in
@@ -82,34 +82,34 @@ has_each last most t r checked h = record {
 }
 
 -- the lines behind the answer are what is asked for
-lines_follow : {H A : Type 0} (last most : ℕ) (t : Tree) (r : Report H A) → IsReport t last most r → (stats : Bool)
-    → Follows stats (suc last) t (lines_behind stats (names_of t) r)
-lines_follow last most t r h false = refl
-lines_follow last most t r h true =
-    tell_counts t last r.summaries r.ledger.histories.items h.found.summaries h.found.through.all
+lines_follow : {H A : Type 0} (rounds most : ℕ) (t : Tree) (r : Report H A) → IsReport t rounds most r → (stats : Bool)
+    → Follows stats rounds t (lines_behind stats (names_of t) r)
+lines_follow rounds most t r h false = refl
+lines_follow rounds most t r h true =
+    tell_counts t rounds r.summaries r.ledger.histories.items h.found.summaries h.found.through.all
     (λ q history at. due_many _ q history (h.found.due q history at) (h.found.through.each_taken q history at))
 
 -- what is told of an answer is what it says
-answered : (t : Tree) (last : ℕ) (stats : Bool) (a : Answer)
-    → ((a ≡ Unsafe) ↔ rounds.Unsafe (meaning_of t) (suc last)) → (lines : List ℕ) → Follows stats (suc last) t lines
+answered : (t : Tree) (rounds : ℕ) (stats : Bool) (a : Answer)
+    → ((a ≡ Unsafe) ↔ runs.Unsafe (meaning_of t) rounds) → (lines : List ℕ) → Follows stats rounds t lines
     → (bytes : List ℕ) (status : ℕ) → bytes ≡ answer_line a ++ lines → status ≡ answer_status a
-    → AnswersOn t (suc last) stats bytes status
-answered t last stats Safe iff lines follows bytes status e s =
+    → AnswersOn t rounds stats bytes status
+answered t rounds stats Safe iff lines follows bytes status e s =
     (lines, follows, inr (e, s, λ u. let bad = iff.1 u in cc))
-answered t last stats Unsafe iff lines follows bytes status e s = (lines, follows, inl (e, s, iff.0 refl))
+answered t rounds stats Unsafe iff lines follows bytes status e s = (lines, follows, inl (e, s, iff.0 refl))
 
 -- so the reply to a text with a report is the answer on its program
-pub answers : {H A : Type 0} (text : List ℕ) (last most : ℕ) (t : Tree) (r : Report H A) (stats : Bool)
-    → IsProgramOf text t → IsReport t last most r
+pub answers : {H A : Type 0} (text : List ℕ) (rounds most : ℕ) (t : Tree) (r : Report H A) (stats : Bool)
+    → IsProgramOf text t → IsReport t rounds most r
     → (bytes : List ℕ) (status : ℕ) → bytes ≡ answer_line r.answer ++ lines_behind stats (names_of t) r
     → status ≡ answer_status r.answer
-    → Answers text (suc last) most stats bytes status
-answers text last most t r stats of h bytes status e s =
-    let follows = lines_follow last most t r h stats in
-    (t, of.0, of.1, (last, refl, h.found.few), answered t last stats r.answer h.answer _ follows bytes status e s)
+    → Answers text rounds most stats bytes status
+answers text rounds most t r stats of h bytes status e s =
+    let follows = lines_follow rounds most t r h stats in
+    (t, of.0, of.1, h.found.few, answered t rounds stats r.answer h.answer _ follows bytes status e s)
 
 -- where there is a report, the text has a rewriting that is not too wide
-pub reported_rewriting : {H A : Type 0} (text : List ℕ) (last most : ℕ) (t : Tree) (r : Report H A)
-    → IsProgramOf text t → IsReport t last most r
-    → HasRewriting text (suc last)
-reported_rewriting text last most t r of h = (t, last, refl, of.0, of.1, h.narrow)
+pub reported_rewriting : {H A : Type 0} (text : List ℕ) (rounds most : ℕ) (t : Tree) (r : Report H A)
+    → IsProgramOf text t → IsReport t rounds most r
+    → HasRewriting text rounds
+reported_rewriting text rounds most t r of h = (t, of.0, of.1, h.narrow)

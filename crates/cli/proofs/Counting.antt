@@ -10,8 +10,9 @@ use Rattle.std.proofs.lemmas.List.{length-map, take_all}
 use Rattle.std.proofs.lemmas.Option.{same_Some, slice_get-map, slice_get_read}
 use Rattle.language.specs.Tree.{Procedure, Tree}
 use Rattle.language.specs.Resolve.{meaning_of, routine_of}
-use Rattle.language.specs.Sequential.{numbered_routine, sequential_of}
-use Rattle.round_rewrite.specs.Names.{rewritten_procedure, rewritten_tree}
+use Rattle.language.specs.Sequential.{numbered_routine}
+use Rattle.round_rewrite.specs.Limits.{last_of}
+use Rattle.round_rewrite.specs.Names.{rewritten_for, rewritten_procedure, sequential_for}
 use Rattle.language.specs.Step.{Program}
 use Rattle.language.specs.Lists.{Member, NoneTwice}
 use Rattle.post_ledger.specs.declared.event.Event.{Event}
@@ -134,27 +135,25 @@ one_line_more (n ∷ ns) (d ∷ ds) (suc k) name c e f =
     (counts_line name c.entries c.pairs c.taken))
 
 -- the rewriting has a procedure for each name
-pub as_many_names : (last : ℕ) (t : Tree)
-    → length (sequential_of (rewritten_tree last t)).routines ≡ length (names_of t)
-as_many_names last t =
-    let tree = rewritten_tree last t in
+pub as_many_names : (rounds : ℕ) (t : Tree)
+    → length (sequential_for rounds t).routines ≡ length (names_of t)
+as_many_names rounds t =
+    let tree = rewritten_for rounds t in
     length-map (meaning_of tree).routines numbered_routine ∙ (length-map tree.procedures (routine_of tree)
-    ∙ ap suc (length-map t.procedures (rewritten_procedure last)
+    ∙ ap suc (length-map t.procedures (rewritten_procedure (last_of rounds))
     ∙ sym (length-map t.procedures (λ (p : Procedure). p.name.text))))
 
 -- by the summaries of the rewriting and the histories of its mailboxes, the lines tell what is counted
-pub tell_counts : (t : Tree) (last : ℕ) (s : Effects) (hs : List (List (Event Due)))
-    → AreSummaries (sequential_of (rewritten_tree last t)) s
-    → length hs ≡ length (sequential_of (rewritten_tree last t)).routines
+pub tell_counts : (t : Tree) (rounds : ℕ) (s : Effects) (hs : List (List (Event Due)))
+    → AreSummaries (sequential_for rounds t) s
+    → length hs ≡ length (sequential_for rounds t).routines
     → ((q : ℕ) (h : List (Event Due)) → slice_get hs q ≡ Some h
-    → AreSoMany (IsDueFor (sequential_of (rewritten_tree last t)) q) (count_by is_take h))
-    → TellCounts (suc last) t (counts_lines (names_of t) (counted_each s.procedures hs))
-tell_counts t last s hs summaries boxes due = record {
-  last = last;
-  count = refl;
+    → AreSoMany (IsDueFor (sequential_for rounds t) q) (count_by is_take h))
+    → TellCounts rounds t (counts_lines (names_of t) (counted_each s.procedures hs))
+tell_counts t rounds s hs summaries boxes due = record {
   counts = counted_each s.procedures hs;
-  each = counted_length s.procedures hs (boxes ∙ sym summaries.0) ∙ (summaries.0 ∙ as_many_names last t);
-  are = counts_of_each (sequential_of (rewritten_tree last t)) s.procedures hs summaries.1 due;
+  each = counted_length s.procedures hs (boxes ∙ sym summaries.0) ∙ (summaries.0 ∙ as_many_names rounds t);
+  are = counts_of_each (sequential_for rounds t) s.procedures hs summaries.1 due;
   same = refl;
 }
 

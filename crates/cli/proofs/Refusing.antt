@@ -21,7 +21,7 @@ use Rattle.cli.specs.declared.reply.Reply.{Reply}
 -- a text that is rewritten has a rewriting that is not too wide
 pub has_rewriting : (text : List ℕ) (rounds : ℕ) (sequential : Tree) → IsRewriting text rounds sequential
     → HasRewriting text rounds
-has_rewriting text rounds sequential h = (h.tree, h.last, h.count, h.of, h.checked, h.narrow)
+has_rewriting text rounds sequential h = (h.tree, h.of, h.checked, h.narrow)
 
 -- a fault of scopes that is not want of memory has its place
 fault_place : (text : List ℕ) (fault : ScopeFault) → NamesOffset (Unchecked fault)

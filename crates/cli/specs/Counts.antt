@@ -1,11 +1,10 @@
 -- What is counted of the procedures of a program's rewriting, and the lines that tell it.
-use Rattle.std.specs.Prelude.{◌≡◌, ◌↔◌, ℕ, suc, List, [], ◌∷◌, ◌++◌, Some, codes, length, map, slice_get}
+use Rattle.std.specs.Prelude.{◌≡◌, ◌↔◌, ℕ, List, [], ◌∷◌, ◌++◌, Some, codes, length, map, slice_get}
 use Rattle.std.specs.Fmt.{decimal}
 use Rattle.language.specs.Tree.{Procedure, Tree}
 use Rattle.language.specs.Step.{Program}
 use Rattle.language.specs.Lists.{Member, NoneTwice}
-use Rattle.language.specs.Sequential.{sequential_of}
-use Rattle.round_rewrite.specs.Names.{rewritten_tree}
+use Rattle.round_rewrite.specs.Names.{sequential_for}
 use Rattle.flow_graph.specs.Numbers.{AreNumbersOfPair, IsNumberOfEntry}
 use Rattle.summaries.specs.Fitting.{IsDueFor}
 use Rattle.summaries.specs.declared.pair.Pair.{Pair}
@@ -52,9 +51,7 @@ names_of t = codes "main__" ∷ map (λ (p : Procedure). p.name.text) t.procedur
 -- The lines tell, for each procedure of the program's rewriting for so many rounds, in the order of their numbers, its
 -- name and what is counted of it.
 pub record TellCounts (rounds : ℕ) (t : Tree) (lines : List ℕ) : Type 0 where
-  pub last : ℕ
-  pub count : suc last ≡ rounds
   pub counts : List Counts
   pub each : length counts ≡ length (names_of t)
-  pub are : (q : ℕ) (c : Counts) → slice_get counts q ≡ Some c → AreCountsOf (sequential_of (rewritten_tree last t)) q c
+  pub are : (q : ℕ) (c : Counts) → slice_get counts q ≡ Some c → AreCountsOf (sequential_for rounds t) q c
   pub same : lines ≡ counts_lines (names_of t) counts

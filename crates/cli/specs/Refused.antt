@@ -1,5 +1,5 @@
 -- Why texts are refused.
-use Rattle.std.specs.Prelude.{◌≡◌, ℕ, suc, List, Option, Some, None, ◌⊎◌}
+use Rattle.std.specs.Prelude.{◌≡◌, ℕ, List, Option, Some, None, ◌⊎◌}
 use Rattle.language.specs.Tree.{Tree}
 use Rattle.syntax.specs.Text as text
 use Rattle.syntax.specs.Text.{Text}
@@ -7,7 +7,7 @@ use Rattle.syntax.specs.declared.fault.ReadFault.TheVariants as read
 use Rattle.scopes.specs.Checked.{IsChecked, IsFirstFault}
 use Rattle.scopes.specs.declared.fault.ScopeFault.{ScopeFault}
 use Rattle.scopes.specs.declared.fault.ScopeFault.TheVariants as scope
-use Rattle.round_rewrite.specs.Narrow.{IsFirstWide, IsNarrow}
+use Rattle.round_rewrite.specs.Narrow.{IsFirstWideFor, IsNarrowFor}
 use Rattle.round_rewrite.specs.declared.width.Wide.{Wide}
 use Rattle.summaries.specs.declared.no_verdict.NoVerdict.{NoVerdict}
 use Rattle.summaries.specs.declared.no_verdict.NoVerdict.TheVariants as cause
@@ -16,18 +16,16 @@ use Rattle.refusals.specs.declared.refusal.Refusal.TheVariants.{Unread, Unchecke
 use Rattle.refusals.specs.declared.refusal.Refusal.TheVariants.{NoWorker, Spent}
 use Rattle.cli.specs.Verdict.{IsOver}
 
--- The text is that of a checked tree, whose rewriting for so many rounds, one more than the last, is too wide; and this is its
--- first procedure that is.
-pub record IsWide (bytes : List ℕ) (rounds : ℕ) (t : Tree) (last : ℕ) (wide : Option Wide) : Type 0 where
-  pub count : suc last ≡ rounds
+-- The text is that of a checked tree, whose rewriting for so many rounds is too wide; and this is its first procedure that is.
+pub record IsWide (bytes : List ℕ) (rounds : ℕ) (t : Tree) (wide : Option Wide) : Type 0 where
   pub of : Text bytes t
   pub checked : IsChecked t
-  pub wider : IsNarrow last t → ⊥
-  pub first : IsFirstWide last t wide
+  pub wider : IsNarrowFor rounds t → ⊥
+  pub first : IsFirstWideFor rounds t wide
 
 -- The text is that of a checked tree, whose rewriting for so many rounds is not too wide.
 abbrev pub HasRewriting : List ℕ → ℕ → Type 0
-HasRewriting bytes rounds = (t : Tree) × (last : ℕ) × (suc last ≡ rounds) × Text bytes t × IsChecked t × IsNarrow last t
+HasRewriting bytes rounds = (t : Tree) × Text bytes t × IsChecked t × IsNarrowFor rounds t
 
 -- The text is no program by the grammar, or a fault of scopes stands in it: there is a place at which it is refused.
 abbrev pub HasPlace : List ℕ → Type 0
@@ -54,17 +52,17 @@ abbrev pub RefusalStands : List ℕ → ℕ → Option ℕ → Refusal → Type 
 RefusalStands bytes rounds limit (Unread fault) = text.Stands fault bytes
 RefusalStands bytes rounds limit (Unchecked fault) =
     (t : Tree) × Text bytes t × ((fault ≡ scope.Memory) ⊎ IsFirstFault t fault)
-RefusalStands bytes rounds limit (TooWide wide) = (t : Tree) × (last : ℕ) × IsWide bytes rounds t last wide
+RefusalStands bytes rounds limit (TooWide wide) = (t : Tree) × IsWide bytes rounds t wide
 RefusalStands bytes rounds limit EdgeLimit = IsPast bytes rounds limit
 RefusalStands bytes rounds limit Memory = HasRewriting bytes rounds ⊎ HasPlace bytes
 RefusalStands bytes rounds limit NoWorker = HasWorkers bytes rounds limit
 RefusalStands bytes rounds limit Spent = HasWorkers bytes rounds limit
 
 -- A cause for which a program with this tree gets no verdict is told as this refusal: as the one of its name, and where
--- the rewriting for this last round is too wide with the first procedure that is.
+-- the rewriting for so many rounds is too wide with the first procedure that is.
 abbrev pub IsToldAs : Tree → ℕ → NoVerdict → Refusal → Type 0
-IsToldAs t last cause.TooWide why = (wide : Option Wide) × IsFirstWide last t wide × (why ≡ TooWide wide)
-IsToldAs t last cause.Memory why = why ≡ Memory
-IsToldAs t last cause.EdgeLimit why = why ≡ EdgeLimit
-IsToldAs t last cause.NoWorker why = why ≡ NoWorker
-IsToldAs t last cause.Spent why = why ≡ Spent
+IsToldAs t rounds cause.TooWide why = (wide : Option Wide) × IsFirstWideFor rounds t wide × (why ≡ TooWide wide)
+IsToldAs t rounds cause.Memory why = why ≡ Memory
+IsToldAs t rounds cause.EdgeLimit why = why ≡ EdgeLimit
+IsToldAs t rounds cause.NoWorker why = why ≡ NoWorker
+IsToldAs t rounds cause.Spent why = why ≡ Spent

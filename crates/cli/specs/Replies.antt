@@ -1,13 +1,13 @@
 -- What a reply says of a text, by what was asked.
-use Rattle.std.specs.Prelude.{◌≡◌, ◌⊎◌, ℕ, suc, List, Option, Some, None}
+use Rattle.std.specs.Prelude.{◌≡◌, ◌⊎◌, ℕ, List, Option, Some, None}
 use Rattle.language.specs.Tree.{Tree}
 use Rattle.syntax.specs.InGrammar.{WithinLimits, IsTextOf}
 use Rattle.syntax.specs.Text.{Text}
 use Rattle.syntax.specs.Printed.{printed}
 use Rattle.scopes.specs.Checked.{IsChecked}
-use Rattle.round_rewrite.specs.Names.{rewritten_tree}
+use Rattle.round_rewrite.specs.Names.{rewritten_for}
 use Rattle.summaries.specs.Limits.{most_of}
-use Rattle.command_line.specs.Limits.{count_of}
+use Rattle.round_rewrite.specs.Programs.{count_of}
 use Rattle.command_line.specs.declared.asked.Order.{Order}
 use Rattle.command_line.specs.declared.asked.Order.TheVariants.{Check, Sequential}
 use Rattle.refusals.specs.declared.refusal.Refusal.{Refusal}
@@ -22,12 +22,10 @@ use Rattle.cli.specs.Written.{bytes_of}
 -- limits of texts they are a text of that rewriting, offsets aside
 pub record IsSequential (text : List ℕ) (rounds : ℕ) (bytes : List ℕ) : Type 0 where
   pub tree : Tree
-  pub last : ℕ
-  pub count : suc last ≡ rounds
   pub of : Text text tree
   pub checked : IsChecked tree
-  pub same : bytes ≡ printed (rewritten_tree last tree)
-  pub back : WithinLimits bytes → IsTextOf bytes (rewritten_tree last tree)
+  pub same : bytes ≡ printed (rewritten_for rounds tree)
+  pub back : WithinLimits bytes → IsTextOf bytes (rewritten_for rounds tree)
 
 -- the reply with a status of at most 1 is what was asked for
 abbrev pub Replies : List ℕ → Order → List ℕ → ℕ → Type 0

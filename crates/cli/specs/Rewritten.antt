@@ -1,22 +1,20 @@
 -- The sequential program of a text.
-use Rattle.std.specs.Prelude.{◌≡◌, ℕ, suc, List}
+use Rattle.std.specs.Prelude.{◌≡◌, ℕ, List}
 use Rattle.language.specs.Tree.{Tree}
 use Rattle.syntax.specs.InGrammar.{InGrammar}
 use Rattle.syntax.specs.Text.{Text}
 use Rattle.scopes.specs.Checked.{IsChecked}
 use Rattle.round_rewrite.specs.Law.{KeepsTree}
-use Rattle.round_rewrite.specs.Names.{rewritten_tree}
-use Rattle.round_rewrite.specs.Narrow.{IsNarrow}
+use Rattle.round_rewrite.specs.Names.{rewritten_for}
+use Rattle.round_rewrite.specs.Narrow.{IsNarrowFor}
 
 -- The text is that of a checked program, and `sequential` is the tree of the grammar that the program is rewritten to for so
 -- many rounds, which is not too wide and keeps exactly the failing asserts.
 pub record IsRewriting (text : List ℕ) (rounds : ℕ) (sequential : Tree) : Type 0 where
   pub tree : Tree
-  pub last : ℕ
-  pub count : suc last ≡ rounds
   pub of : Text text tree
   pub checked : IsChecked tree
-  pub narrow : IsNarrow last tree
-  pub same : sequential ≡ rewritten_tree last tree
+  pub narrow : IsNarrowFor rounds tree
+  pub same : sequential ≡ rewritten_for rounds tree
   pub grammar : InGrammar sequential
-  pub keeps : KeepsTree last tree
+  pub keeps : KeepsTree rounds tree

@@ -1,22 +1,21 @@
 -- What a verdict says of a text.
-use Rattle.std.specs.Prelude.{◌≡◌, ℕ, suc, Bool, true, false, List, [], ◌++◌, ◌⊎◌, codes}
+use Rattle.std.specs.Prelude.{◌≡◌, ℕ, Bool, true, false, List, [], ◌++◌, ◌⊎◌, codes}
 use Rattle.language.specs.Tree.{Tree}
 use Rattle.language.specs.Resolve.{meaning_of}
 use Rattle.language.specs.Rounds.{Unsafe}
-use Rattle.language.specs.Sequential.{sequential_of}
 use Rattle.syntax.specs.Text.{Text}
 use Rattle.scopes.specs.Checked.{IsChecked}
-use Rattle.round_rewrite.specs.Names.{rewritten_tree}
+use Rattle.round_rewrite.specs.Names.{sequential_for}
 use Rattle.summaries.specs.Tabulated.{HasMoreEdges}
 use Rattle.cli.specs.Counts.{TellCounts}
 
 -- Each procedure of the program's rewriting for so many rounds has at most `edges` path edges.
 abbrev pub IsWithinLimit : ℕ → ℕ → Tree → Type 0
-IsWithinLimit rounds edges t = (last : ℕ) × (suc last ≡ rounds) × ((q : ℕ) → ¬ HasMoreEdges (sequential_of (rewritten_tree last t)) q edges)
+IsWithinLimit rounds edges t = (q : ℕ) → ¬ HasMoreEdges (sequential_for rounds t) q edges
 
 -- Some procedure of the program's rewriting for so many rounds has more than `edges` path edges.
 abbrev pub IsOverLimit : ℕ → ℕ → Tree → Type 0
-IsOverLimit rounds edges t = (last : ℕ) × (suc last ≡ rounds) × ((q : ℕ) × HasMoreEdges (sequential_of (rewritten_tree last t)) q edges)
+IsOverLimit rounds edges t = (q : ℕ) × HasMoreEdges (sequential_for rounds t) q edges
 
 -- The text is that of a checked program, and some procedure of its rewriting has more path edges than the limit.
 abbrev pub IsOver : List ℕ → ℕ → ℕ → Type 0

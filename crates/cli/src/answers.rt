@@ -3,7 +3,7 @@ ghost use Rattle.std.specs.Prelude.{◌≡◌, ◌⊎◌, ◌≤◌, ◌++◌, I
 ghost use Rattle.std.specs.String.{string_bytes};
 ghost use Rattle.scopes.specs.Programs.{checked_tree};
 ghost use Rattle.summaries.specs.Limits.{most_of};
-ghost use Rattle.command_line.specs.Limits.{count_of};
+ghost use Rattle.round_rewrite.specs.Programs.{count_of};
 ghost use Rattle.refusals.specs.Lines.{memory_line};
 ghost use Rattle.refusals.specs.declared.refusal.Refusal.TheVariants as why;
 ghost use Rattle.cli.specs.Counted.{HasEach, answer_line, answer_status, lines_behind};

@@ -3,9 +3,8 @@
 ghost use Rattle.std.specs.Prelude.{ℕ, List, Some, IfErr, IfOk};
 ghost use Rattle.syntax.specs.Text.{Text};
 ghost use Rattle.scopes.specs.Programs.{checked_tree};
-ghost use Rattle.round_rewrite.specs.Programs.{last_round};
+ghost use Rattle.round_rewrite.specs.Programs.{count_of};
 ghost use Rattle.summaries.specs.Limits.{most_of};
-ghost use Rattle.command_line.specs.Limits.{count_of};
 ghost use Rattle.cli.specs.Refused.{IsToldAs, RefusalStands};
 ghost use Rattle.gather.specs.Reports.{IsReport};
 
@@ -26,7 +25,7 @@ fn refusal_of<N: Allocator, A: Allocator + Copy>(
     rounds: Rounds,
     cause: NoVerdict,
 ) -> Refusal
-    ensures { IsToldAs (checked_tree program.now) (last_round rounds) cause result }
+    ensures { IsToldAs (checked_tree program.now) (count_of rounds) cause result }
 {
     match cause {
         NoVerdict::TooWide => Refusal::TooWide(too_wide(alloc, program, rounds)),
@@ -57,7 +56,7 @@ where
     S::Heap: Send + Sync,
     K: Gate + Sync,
     N: Allocator,
-    ensures report { IfOk result (IsReport (checked_tree program.now) (last_round rounds) (most_of edges)) }
+    ensures report { IfOk result (IsReport (checked_tree program.now) (count_of rounds) (most_of edges)) }
     ensures stands { (text : List ℕ) → Text text (checked_tree program.now)
         → IfErr result (RefusalStands text (count_of rounds) (Some (most_of edges))) }
 {

@@ -2,7 +2,7 @@
 
 ghost use Rattle.std.specs.Prelude.{IfOk, IfErr, None};
 ghost use Rattle.std.specs.String.{string_bytes};
-ghost use Rattle.command_line.specs.Limits.{count_of};
+ghost use Rattle.round_rewrite.specs.Programs.{count_of};
 ghost use Rattle.cli.specs.Refused.{RefusalStands};
 ghost use Rattle.cli.specs.Replies.{IsSequential};
 

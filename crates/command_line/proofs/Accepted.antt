@@ -31,7 +31,8 @@ use Rattle.clap.specs.declared.builder.value_parser.ValueParser.TheVariants.{Boo
 use Rattle.clap.proofs.ValueTestLemmas.{accepts-Accepts}
 use Rattle.round_rewrite.specs.declared.rounds.Rounds.{Rounds}
 use Rattle.summaries.specs.declared.edge_limit.EdgeLimit.{EdgeLimit}
-use Rattle.command_line.specs.Limits.{count_of, most_of}
+use Rattle.round_rewrite.specs.Programs.{count_of}
+use Rattle.summaries.specs.Limits.{most_of}
 use Rattle.command_line.specs.Line.{Asks, bebopk, check, file, flag_text, Orders, Reads, sequential}
 use Rattle.command_line.specs.declared.asked.Order.{Order}
 use Rattle.command_line.specs.declared.asked.Order.TheVariants.{Check, Sequential}

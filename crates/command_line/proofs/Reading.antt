@@ -10,7 +10,7 @@ use Rattle.clap.specs.declared.parser.matches.ArgMatches.{ArgMatches}
 use Rattle.clap.specs.declared.parser.matches.ArgMatches.TheViews.{out-ArgMatches, out-SubCommand}
 use Rattle.clap.specs.declared.parser.matches.Found.{Found}
 use Rattle.clap.proofs.WalkLemmas.{one_text-rows}
-use Rattle.command_line.specs.Limits.{count_of}
+use Rattle.round_rewrite.specs.Programs.{count_of}
 use Rattle.command_line.specs.Line.{Asks, Gives, IsGiven, IsNamed, Orders, Reads, flag_text}
 use Rattle.command_line.specs.declared.asked.Order.{Order}
 use Rattle.command_line.specs.declared.asked.Order.TheVariants.{Check, Sequential}

@@ -12,7 +12,8 @@ use Rattle.clap.specs.declared.builder.value_parser.ValueParser.TheVariants.{Sig
 use Rattle.clap.specs.declared.error.kind.ErrorKind.{ErrorKind}
 use Rattle.clap.specs.declared.error.kind.ErrorKind.TheVariants as kind
 use Rattle.round_rewrite.specs.Limits.{most_rounds}
-use Rattle.command_line.specs.Limits.{count_of, most_of}
+use Rattle.round_rewrite.specs.Programs.{count_of}
+use Rattle.summaries.specs.Limits.{most_of}
 use Rattle.command_line.specs.declared.asked.LineFault.{LineFault}
 use Rattle.command_line.specs.declared.asked.LineFault.TheVariants.{Help, Memory, Refused}
 use Rattle.command_line.specs.declared.asked.Order.{Order}

@@ -14,8 +14,8 @@ use Rattle.language.specs.Lists.{Member}
 use Rattle.path_sets.specs.Triples.{Triple}
 use Rattle.language.specs.Sequential.{SomeBad, sequential_of}
 use Rattle.round_rewrite.specs.Law.{KeepsTree}
-use Rattle.round_rewrite.specs.Names.{rewritten_tree}
-use Rattle.round_rewrite.specs.Narrow.{IsNarrow}
+use Rattle.round_rewrite.specs.Names.{rewritten_for, sequential_for}
+use Rattle.round_rewrite.specs.Narrow.{IsNarrowFor}
 use Rattle.flow_graph.specs.declared.graph.Graphs.{Graphs}
 use Rattle.flow_graph.specs.Drawn.{graphs_of}
 use Rattle.flow_graph.specs.Graphs.{AreDrawnFrom}
@@ -40,7 +40,7 @@ use Rattle.gather.specs.declared.jobs.Came.{Came}
 use Rattle.gather.specs.Jobs.{first_of, second_of}
 use Rattle.gather.specs.Ends.{HaveEnded, AreOfBoard}
 use Rattle.gather.specs.Gathered.{verdict_of, ends_of, NoneFailed, AllClosed, IsCause, IsGathered}
-use Rattle.gather.specs.Reports.{rewriting_of, AreDueOnce, IsFound, IsNoReport, IsTabulated}
+use Rattle.gather.specs.Reports.{AreDueOnce, IsFound, IsNoReport, IsTabulated}
 use Rattle.gather.specs.Through.{AreThrough}
 use Rattle.gather.proofs.Lists.{place_of}
 use Rattle.gather.proofs.Full.{got_map, through}
@@ -75,47 +75,47 @@ not_wide ends why (inl least) is = apart least.cause (sym is ∙ least.is)
 not_wide ends why (inr (memory, all)) is = cc
 
 -- some pair of the rewriting has `bad__` exactly where some run fails
-pub keeps_answer : (last : ℕ) (source tree : Tree) → tree ≡ rewritten_tree last source → KeepsTree last source → (bad : ℕ)
-    → bad ≡ number_of (codes "bad__") tree.globals → (P : Type 0) → P ↔ SomeBad (rewriting_of last source) bad
-    → P ↔ Unsafe (meaning_of source) (suc last)
-keeps_answer last source tree same keeps bad is P some =
-    let at : bad ≡ number_of (codes "bad__") (rewritten_tree last source).globals =
+pub keeps_answer : (rounds : ℕ) (source tree : Tree) → tree ≡ rewritten_for rounds source → KeepsTree rounds source → (bad : ℕ)
+    → bad ≡ number_of (codes "bad__") tree.globals → (P : Type 0) → P ↔ SomeBad (sequential_for rounds source) bad
+    → P ↔ Unsafe (meaning_of source) rounds
+keeps_answer rounds source tree same keeps bad is P some =
+    let at : bad ≡ number_of (codes "bad__") (rewritten_for rounds source).globals =
     is ∙ ap (λ (t : Tree). number_of (codes "bad__") t.globals) same in
-    let found : P ↔ SomeBad (rewriting_of last source) (number_of (codes "bad__") (rewritten_tree last source).globals) =
-    subst (λ n. P ↔ SomeBad (rewriting_of last source) n) at some in
+    let found : P ↔ SomeBad (sequential_for rounds source) (number_of (codes "bad__") (rewritten_for rounds source).globals) =
+    subst (λ n. P ↔ SomeBad (sequential_for rounds source) n) at some in
     (λ p. keeps.1 (found.0 p), λ unsafe. found.1 (keeps.0 unsafe))
 
 -- why the workers found nothing is why there is no report
-pub no_report : (source : Tree) (last most : ℕ) (why : NoVerdict) → IsNarrow last source → why ≢ verdict.TooWide
-    → (why ≡ verdict.EdgeLimit → (q : ℕ) × HasMoreEdges (rewriting_of last source) q most)
-    → IsNoReport source last most why
-no_report source last most verdict.TooWide narrow other more = absurd (other refl)
-no_report source last most verdict.EdgeLimit narrow other more = (narrow, more refl)
-no_report source last most verdict.Memory narrow other more = narrow
-no_report source last most verdict.NoWorker narrow other more = narrow
-no_report source last most verdict.Spent narrow other more = narrow
+pub no_report : (source : Tree) (rounds most : ℕ) (why : NoVerdict) → IsNarrowFor rounds source → why ≢ verdict.TooWide
+    → (why ≡ verdict.EdgeLimit → (q : ℕ) × HasMoreEdges (sequential_for rounds source) q most)
+    → IsNoReport source rounds most why
+no_report source rounds most verdict.TooWide narrow other more = absurd (other refl)
+no_report source rounds most verdict.EdgeLimit narrow other more = (narrow, more refl)
+no_report source rounds most verdict.Memory narrow other more = narrow
+no_report source rounds most verdict.NoWorker narrow other more = narrow
+no_report source rounds most verdict.Spent narrow other more = narrow
 
 -- what one thread tabulates of the rewriting tells of the source
-pub tabulated : (last most : ℕ) (source tree : Tree) → tree ≡ rewritten_tree last source → KeepsTree last source
-    → IsNarrow last source → (r : Result Effects NoVerdict) → IfOk r (AreSummaries (sequential_of tree))
+pub tabulated : (rounds most : ℕ) (source tree : Tree) → tree ≡ rewritten_for rounds source → KeepsTree rounds source
+    → IsNarrowFor rounds source → (r : Result Effects NoVerdict) → IfOk r (AreSummaries (sequential_of tree))
     → IfOk r (λ s. SomePairBad s ↔ SomeBad (sequential_of tree) (number_of (codes "bad__") tree.globals))
-    → IfOk r (λ s. (q : ℕ) → HasMoreEdges (sequential_of tree) q most → ⊥) → IfOk r (IsTabulated source last most)
-tabulated last most source tree same keeps narrow (Err why) summaries bad few = tt
-tabulated last most source tree same keeps narrow (Ok s) summaries bad few = record {
+    → IfOk r (λ s. (q : ℕ) → HasMoreEdges (sequential_of tree) q most → ⊥) → IfOk r (IsTabulated source rounds most)
+tabulated rounds most source tree same keeps narrow (Err why) summaries bad few = tt
+tabulated rounds most source tree same keeps narrow (Ok s) summaries bad few = record {
   summaries = subst (λ (t : Tree). AreSummaries (sequential_of t) s) same summaries;
   few = subst (λ (t : Tree). (q : ℕ) → HasMoreEdges (sequential_of t) q most → ⊥) same few;
-  bad = keeps_answer last source tree same keeps (number_of (codes "bad__") tree.globals) refl (SomePairBad s)
+  bad = keeps_answer rounds source tree same keeps (number_of (codes "bad__") tree.globals) refl (SomePairBad s)
       (subst (λ (t : Tree). SomePairBad s ↔ SomeBad (sequential_of t) (number_of (codes "bad__") tree.globals)) same bad);
   narrow = narrow;
 }
 
-pub not_tabulated : (last most : ℕ) (source tree : Tree) → tree ≡ rewritten_tree last source → IsNarrow last source
+pub not_tabulated : (rounds most : ℕ) (source tree : Tree) → tree ≡ rewritten_for rounds source → IsNarrowFor rounds source
     → (r : Result Effects NoVerdict)
     → (r ≡ Err verdict.EdgeLimit → (q : ℕ) × HasMoreEdges (sequential_of tree) q most)
-    → IfErr r (λ e. (e ≡ verdict.Memory) ⊎ (e ≡ verdict.EdgeLimit)) → IfErr r (IsNoReport source last most)
-not_tabulated last most source tree same narrow (Ok s) limit cause = tt
-not_tabulated last most source tree same narrow (Err why) limit cause =
-    no_report source last most why narrow (λ is. elim cause [ inl memory ↦ cc | inr edges ↦ cc ])
+    → IfErr r (λ e. (e ≡ verdict.Memory) ⊎ (e ≡ verdict.EdgeLimit)) → IfErr r (IsNoReport source rounds most)
+not_tabulated rounds most source tree same narrow (Ok s) limit cause = tt
+not_tabulated rounds most source tree same narrow (Err why) limit cause =
+    no_report source rounds most why narrow (λ is. elim cause [ inl memory ↦ cc | inr edges ↦ cc ])
     (λ is. subst (λ (t : Tree). (q : ℕ) × HasMoreEdges (sequential_of t) q most) same (limit (ap Err is)))
 
 -- the images of images

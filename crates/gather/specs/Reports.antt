@@ -1,15 +1,15 @@
 -- What a report says of a program.
-use Rattle.std.specs.Prelude.{◌≡◌, ◌↔◌, ℕ, suc, true, List, Some, map, length, slice_get}
+use Rattle.std.specs.Prelude.{◌≡◌, ◌↔◌, ℕ, true, List, Some, map, length, slice_get}
 use Rattle.language.specs.Tree.{Tree}
 use Rattle.language.specs.Step.{Program}
 use Rattle.language.specs.Lists.{Member, NoneTwice}
 use Rattle.language.specs.Resolve.{meaning_of}
 use Rattle.language.specs.Rounds.{Unsafe}
-use Rattle.language.specs.Sequential.{IsDue, sequential_of}
+use Rattle.language.specs.Sequential.{IsDue}
 use Rattle.post_ledger.specs.declared.event.Event.{Event}
 use Rattle.post_ledger.specs.History.{posts}
-use Rattle.round_rewrite.specs.Names.{rewritten_tree}
-use Rattle.round_rewrite.specs.Narrow.{IsNarrow}
+use Rattle.round_rewrite.specs.Names.{sequential_for}
+use Rattle.round_rewrite.specs.Narrow.{IsNarrowFor}
 use Rattle.flow_graph.specs.Numbers.{NumberedMessage, IsNumberOf}
 use Rattle.summaries.specs.declared.due.Caller.TheVariants.{Proc, Starter}
 use Rattle.summaries.specs.declared.due.Due.{Due}
@@ -51,35 +51,31 @@ pub record IsFound (p : Program) (most : ℕ) (histories : List (List (Event Due
   pub summaries : AreSummaries p s
   pub few : (q : ℕ) → HasMoreEdges p q most → ⊥
 
--- the sequential program that a source is rewritten to, for as many rounds as one more than `last`
-abbrev pub rewriting_of : ℕ → Tree → Program
-rewriting_of last source = sequential_of (rewritten_tree last source)
-
--- The report on a source for as many rounds as one more than `last`: its workers have found what there is in its
--- rewriting, and its board is closed; the answer is `Unsafe`, and some pair of `main__` is bad, exactly where some run of at
--- most so many rounds fails an assert.
-pub record IsReport {H A : Type 0} (source : Tree) (last most : ℕ) (r : Report H A) : Type 0 where
-  pub found : IsFound (rewriting_of last source) most r.ledger.histories.items r.summaries
+-- The report on a source for so many rounds: its workers have found what there is in its rewriting, and its board is
+-- closed; the answer is `Unsafe`, and some pair of `main__` is bad, exactly where some run of at most so many rounds fails an
+-- assert.
+pub record IsReport {H A : Type 0} (source : Tree) (rounds most : ℕ) (r : Report H A) : Type 0 where
+  pub found : IsFound (sequential_for rounds source) most r.ledger.histories.items r.summaries
   pub closed : r.ledger.closed ≡ true
-  pub answer : (r.answer ≡ answer.Unsafe) ↔ Unsafe (meaning_of source) (suc last)
-  pub bad : SomePairBad r.summaries ↔ Unsafe (meaning_of source) (suc last)
-  pub narrow : IsNarrow last source
+  pub answer : (r.answer ≡ answer.Unsafe) ↔ Unsafe (meaning_of source) rounds
+  pub bad : SomePairBad r.summaries ↔ Unsafe (meaning_of source) rounds
+  pub narrow : IsNarrowFor rounds source
 
--- What one thread finds of a source for as many rounds as one more than `last`: the summaries are those of its rewriting, in
--- which no procedure has more path edges than `most`, and some pair of `main__` is bad exactly where some run of at most so
--- many rounds fails an assert.
-pub record IsTabulated (source : Tree) (last most : ℕ) (s : Effects) : Type 0 where
-  pub summaries : AreSummaries (rewriting_of last source) s
-  pub few : (q : ℕ) → HasMoreEdges (rewriting_of last source) q most → ⊥
-  pub bad : SomePairBad s ↔ Unsafe (meaning_of source) (suc last)
-  pub narrow : IsNarrow last source
+-- What one thread finds of a source for so many rounds: the summaries are those of its rewriting, in which no procedure has
+-- more path edges than `most`, and some pair of `main__` is bad exactly where some run of at most so many rounds fails an
+-- assert.
+pub record IsTabulated (source : Tree) (rounds most : ℕ) (s : Effects) : Type 0 where
+  pub summaries : AreSummaries (sequential_for rounds source) s
+  pub few : (q : ℕ) → HasMoreEdges (sequential_for rounds source) q most → ⊥
+  pub bad : SomePairBad s ↔ Unsafe (meaning_of source) rounds
+  pub narrow : IsNarrowFor rounds source
 
 -- Why there is no report: the rewriting is too wide, and only then; some procedure of it has more path edges than
 -- `most`; memory or a thread was refused, or a worker has used up its calls.
 abbrev pub IsNoReport : Tree → ℕ → ℕ → NoVerdict → Type 0
-IsNoReport source last most verdict.TooWide = IsNarrow last source → ⊥
-IsNoReport source last most verdict.EdgeLimit =
-    IsNarrow last source × ((q : ℕ) × HasMoreEdges (rewriting_of last source) q most)
-IsNoReport source last most verdict.Memory = IsNarrow last source
-IsNoReport source last most verdict.NoWorker = IsNarrow last source
-IsNoReport source last most verdict.Spent = IsNarrow last source
+IsNoReport source rounds most verdict.TooWide = IsNarrowFor rounds source → ⊥
+IsNoReport source rounds most verdict.EdgeLimit =
+    IsNarrowFor rounds source × ((q : ℕ) × HasMoreEdges (sequential_for rounds source) q most)
+IsNoReport source rounds most verdict.Memory = IsNarrowFor rounds source
+IsNoReport source rounds most verdict.NoWorker = IsNarrowFor rounds source
+IsNoReport source rounds most verdict.Spent = IsNarrowFor rounds source

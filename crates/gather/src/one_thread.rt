@@ -4,7 +4,7 @@ ghost use Rattle.language.specs.Resolve.{number_of};
 ghost use Rattle.language.specs.Sequential.{SomeBad, sequential_of};
 ghost use Rattle.language.specs.Step.{Program};
 ghost use Rattle.resolved.specs.Programs.{sequential_tree};
-ghost use Rattle.round_rewrite.specs.Programs.{last_round};
+ghost use Rattle.round_rewrite.specs.Programs.{count_of};
 ghost use Rattle.scopes.specs.Programs.{checked_tree};
 ghost use Rattle.summaries.specs.Limits.{most_of};
 ghost use Rattle.summaries.specs.Tabulated.{AreSummaries, HasMoreEdges, SomePairBad};
@@ -50,8 +50,8 @@ where
     S: PathSet<A>,
     A: Allocator + Copy,
     N: Allocator,
-    ensures tabulated { IfOk result (IsTabulated (checked_tree program.now) (last_round rounds) (most_of limit)) }
-    ensures none { IfErr result (IsNoReport (checked_tree program.now) (last_round rounds) (most_of limit)) }
+    ensures tabulated { IfOk result (IsTabulated (checked_tree program.now) (count_of rounds) (most_of limit)) }
+    ensures none { IfErr result (IsNoReport (checked_tree program.now) (count_of rounds) (most_of limit)) }
 {
     let sequential = match rewrite(&alloc, program, rounds) {
         Ok(sequential) => sequential,

@@ -2,7 +2,7 @@
 ghost use Rattle.std.specs.Prelude.{◌≡◌, ◌≢◌, ◌≤◌, ◌^◌, ◌↔◌, ℕ, true, length, IfOk, IfErr, Err};
 ghost use Rattle.language.specs.Step.{Program};
 ghost use Rattle.language.specs.Sequential.{SomeBad};
-ghost use Rattle.round_rewrite.specs.Programs.{last_round};
+ghost use Rattle.round_rewrite.specs.Programs.{count_of};
 ghost use Rattle.scopes.specs.Programs.{checked_tree};
 ghost use Rattle.flow_graph.specs.Drawn.{bad_of, graphs_of};
 ghost use Rattle.flow_graph.specs.Graphs.{AreDrawnFrom};
@@ -123,8 +123,8 @@ where
     H: Hire,
     N: Allocator,
     requires budget { (2 ≤ budget) × (budget ≤ 2 ^ 56) }
-    ensures report { IfOk result (IsReport (checked_tree program.now) (last_round rounds) (most_of limit)) }
-    ensures none { IfErr result (IsNoReport (checked_tree program.now) (last_round rounds) (most_of limit)) }
+    ensures report { IfOk result (IsReport (checked_tree program.now) (count_of rounds) (most_of limit)) }
+    ensures none { IfErr result (IsNoReport (checked_tree program.now) (count_of rounds) (most_of limit)) }
 {
     let sequential = match rewrite(&heap, program, rounds) {
         Ok(sequential) => sequential,
@@ -166,8 +166,8 @@ where
     S::Heap: Send + Sync,
     K: Gate + Sync,
     N: Allocator,
-    ensures report { IfOk result (IsReport (checked_tree program.now) (last_round rounds) (most_of limit)) }
-    ensures none { IfErr result (IsNoReport (checked_tree program.now) (last_round rounds) (most_of limit)) }
+    ensures report { IfOk result (IsReport (checked_tree program.now) (count_of rounds) (most_of limit)) }
+    ensures none { IfErr result (IsNoReport (checked_tree program.now) (count_of rounds) (most_of limit)) }
 {
     check_rounds_tried::<R, B, S, K, Always, N>(
         rt,
@@ -196,8 +196,8 @@ where
     A: Allocator + Copy + Send + Sync,
     K: Gate + Sync,
     N: Allocator,
-    ensures report { IfOk result (IsReport (checked_tree program.now) (last_round rounds) (most_of limit)) }
-    ensures none { IfErr result (IsNoReport (checked_tree program.now) (last_round rounds) (most_of limit)) }
+    ensures report { IfOk result (IsReport (checked_tree program.now) (count_of rounds) (most_of limit)) }
+    ensures none { IfErr result (IsNoReport (checked_tree program.now) (count_of rounds) (most_of limit)) }
 {
     check_rounds_with::<R, LockPerBox<Due, Graphs<A>, A>, DiagramEdges<A>, K, N>(
         rt, alloc, alloc, program, rounds, limit, gate,

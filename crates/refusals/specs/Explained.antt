@@ -6,7 +6,8 @@ use Rattle.syntax.specs.declared.fault.ReadFault.TheVariants as read
 use Rattle.scopes.specs.declared.fault.ScopeFault.{ScopeFault}
 use Rattle.scopes.specs.declared.fault.ScopeFault.TheVariants as scope
 use Rattle.diagnostics.specs.Message.{Locates, LocatesForeign, needs, of_name, unexpected}
-use Rattle.command_line.specs.Limits.{count_of, most_of}
+use Rattle.round_rewrite.specs.Programs.{count_of}
+use Rattle.summaries.specs.Limits.{most_of}
 use Rattle.command_line.specs.declared.asked.Order.{Order}
 use Rattle.command_line.specs.declared.asked.Order.TheVariants.{Check, Sequential}
 use Rattle.refusals.specs.declared.refusal.Refusal.{Refusal}

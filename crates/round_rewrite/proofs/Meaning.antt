@@ -221,9 +221,9 @@ module _ (t : Tree) (last : ℕ) (ok : IsRewritable t) (small : last < most_roun
       bad_place gs [] ps 0 last ok.globals tt (omega arith) small ps' in
       cc
 
-  pub keeps_tree : IsNarrow last t → KeepsTree last t
+  pub keeps_tree : IsNarrow last t → KeepsTree (suc last) t
   keeps_tree narrow =
-      let k : Keeps last (meaning_of t) = keeps (meaning_of t) last fits_scopes small in
+      let k : Keeps (suc last) (meaning_of t) = keeps (meaning_of t) last fits_scopes small in
       let same : SomeBad (in_text_order (rewritten_program last (meaning_of t))) (bad_at (length gs) last) ≡ SomeBad
       (sequential_of t') (number_of (codes "bad__") t'.globals) =
       ap₂ (λ p b. SomeBad (in_text_order p) b) (sym (meaning_is narrow)) (sym bad_number) in

@@ -24,7 +24,8 @@ pushed view f old items item k e i =
     ∙ ap (numbers 0) (let s : suc k ≡ k + 1 = omega arith in s))))))
 
 -- all rounds are done
-pub over_rounds : {B : Type 0} (f : ℕ → B) (old now : List B) (k n last : ℕ) → now ≡ old ++ map f (numbers 0 k) → n ≤ k → k ≤ n → n ≡ last + 1 → now ≡ old ++ map f (numbers 0 (suc last))
+pub over_rounds : {B : Type 0} (f : ℕ → B) (old now : List B) (k n last : ℕ) → now ≡ old ++ map f (numbers 0 k)
+    → n ≤ k → k ≤ n → n ≡ suc last → now ≡ old ++ map f (numbers 0 (suc last))
 over_rounds f old now k n last e a b c = e ∙ ap (λ m. old ++ map f (numbers 0 m)) (let d : k ≡ suc last = omega (arith, a, b, c) in d)
 
 -- one more of a list is put through a function and pushed

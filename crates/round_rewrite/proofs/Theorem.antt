@@ -92,5 +92,5 @@ module _ (p : Program) (last : ℕ) (fits : FitsScopes p) (small : last < most_r
   bad_unsafe (a, b, (l, (entered, (rest, e, run))), bad) = from_entry a b.globals l rest e entered run bad
 
 -- the theorem
-pub keeps : (p : Program) (last : ℕ) → FitsScopes p → last < most_rounds → Keeps last p
+pub keeps : (p : Program) (last : ℕ) → FitsScopes p → last < most_rounds → Keeps (suc last) p
 keeps p last fits small = (unsafe_bad p last fits small, bad_unsafe p last fits small)

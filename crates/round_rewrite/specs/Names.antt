@@ -2,6 +2,9 @@
 use Rattle.std.specs.Prelude.{ℕ, suc, not, List, [], ◌∷◌, ◌++◌, map, codes, decimal}
 use Rattle.language.specs.Tree.{Name, Procedure, ThreadLine, Tree}
 use Rattle.language.specs.Resolve.{is_declared}
+use Rattle.language.specs.Sequential.{sequential_of}
+use Rattle.language.specs.Step.{Program}
+use Rattle.round_rewrite.specs.Limits.{last_of}
 use Rattle.round_rewrite.specs.Table.{Naming, numbers, temporaries, rewritten, main, globals}
 
 -- a name that stands in no text
@@ -55,10 +58,18 @@ main_procedure last t = record {
   body = main (names []) last t.globals (map (λ (line : ThreadLine). line.name) t.threads);
 }
 
--- the rewritten tree
+-- the rewritten tree, where rounds count from 0 to `last`
 abbrev pub rewritten_tree : ℕ → Tree → Tree
 rewritten_tree last t = record {
   globals = globals (names []) last t.globals;
   procedures = main_procedure last t ∷ map (rewritten_procedure last) t.procedures;
   threads = record { at = 0; name = named (codes "main__") } ∷ [];
 }
+
+-- the tree that a tree is rewritten to for so many rounds
+abbrev pub rewritten_for : ℕ → Tree → Tree
+rewritten_for rounds t = rewritten_tree (last_of rounds) t
+
+-- the sequential program that a tree is rewritten to for so many rounds
+abbrev pub sequential_for : ℕ → Tree → Program
+sequential_for rounds t = sequential_of (rewritten_for rounds t)

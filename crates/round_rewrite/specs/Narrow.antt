@@ -2,13 +2,18 @@
 use Rattle.std.specs.Prelude.{◌≡◌, ℕ, ◌<◌, ◌≤◌, List, Option, Some, None, slice_get, take}
 use Rattle.language.specs.Tree.{Procedure, Tree}
 use Rattle.resolved.specs.Narrow.{EachProcedure, width, AllNarrow}
-use Rattle.round_rewrite.specs.Names.{rewritten_procedure, rewritten_tree}
+use Rattle.round_rewrite.specs.Limits.{last_of}
+use Rattle.round_rewrite.specs.Names.{rewritten_for, rewritten_procedure, rewritten_tree}
 use Rattle.resolved.specs.Limits.{most_places}
 use Rattle.round_rewrite.specs.declared.width.Wide.{Wide}
 
--- every procedure of the rewritten tree has at most 64 places
+-- every procedure of the rewritten tree has at most 64 places, where rounds count from 0 to `last`
 abbrev pub IsNarrow : ℕ → Tree → Type 0
 IsNarrow last t = AllNarrow (rewritten_tree last t)
+
+-- every procedure of the tree rewritten for so many rounds has at most 64 places
+abbrev pub IsNarrowFor : ℕ → Tree → Type 0
+IsNarrowFor rounds t = AllNarrow (rewritten_for rounds t)
 
 -- how many places a procedure of the source has in the rewritten tree
 abbrev pub rewritten_width : ℕ → Tree → Procedure → ℕ
@@ -25,3 +30,7 @@ IsFirstWide last t None = AreNarrow last t t.procedures
 IsFirstWide last t (Some wide) =
     (i : ℕ) × (p : Procedure) × (slice_get t.procedures i ≡ Some p) × (p.name.at ≡ wide.at)
     × (wide.places ≡ rewritten_width last t p) × (most_places < wide.places) × AreNarrow last t (take i t.procedures)
+
+-- the same of the tree rewritten for so many rounds
+abbrev pub IsFirstWideFor : ℕ → Tree → Option Wide → Type 0
+IsFirstWideFor rounds t wide = IsFirstWide (last_of rounds) t wide

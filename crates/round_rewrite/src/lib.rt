@@ -22,15 +22,15 @@ mod statement;
 mod width;
 mod writer;
 
-ghost use Rattle.std.specs.Prelude.{◌≡◌, ℕ, ◌<◌};
+ghost use Rattle.std.specs.Prelude.{◌≡◌, ◌≤◌, ℕ};
 ghost use Rattle.language.specs.Tree.{Tree};
 ghost use Rattle.language.specs.Step.{Program};
 ghost use Rattle.syntax.specs.Printed.{printed};
 ghost use Rattle.round_rewrite.specs.Law.{Keeps, KeepsTree};
-ghost use Rattle.round_rewrite.specs.Names.{rewritten_tree};
+ghost use Rattle.round_rewrite.specs.Names.{rewritten_for};
 ghost use Rattle.round_rewrite.specs.WorkedTexts as worked;
 ghost use Rattle.scopes.specs.Rewritable.{IsRewritable};
-ghost use Rattle.round_rewrite.specs.Narrow.{IsNarrow};
+ghost use Rattle.round_rewrite.specs.Narrow.{IsNarrowFor};
 ghost use Rattle.resolved.specs.Scoped.{FitsScopes};
 ghost use Rattle.round_rewrite.specs.Limits.{most_rounds};
 
@@ -41,26 +41,27 @@ pub use rewriting::rewrite;
 pub use rounds::Rounds;
 pub use width::{Wide, too_wide};
 
-/// The rewriting theorem, over the names that are printed: for 1 to 4 rounds (`last` + 1 of them), a tree
-/// whose names are declared, and widths of at most 64, some run within the rounds fails an assert exactly
-/// where `main__` of the rewritten tree can end with `bad__` being 1.
+/// The rewriting theorem, over the names that are printed: for 1 to 4 rounds, a tree whose names are declared, and widths of
+/// at most 64, some run within the rounds fails an assert exactly where `main__` of the rewritten tree can end with `bad__`
+/// being 1.
 pub fn rewriting_keeps_failures()
-    ensures { (t : Tree) (last : ℕ) → IsRewritable t → IsNarrow last t → last < most_rounds → KeepsTree last t }
+    ensures { (t : Tree) (rounds : ℕ) → IsRewritable t → IsNarrowFor rounds t → 1 ≤ rounds → rounds ≤ most_rounds
+        → KeepsTree rounds t }
 {}
 
 /// The same of resolved programs: the rewriting over places keeps exactly the failing asserts, with no
 /// bound on widths.
 pub fn rewriting_keeps_failures_of_resolved_programs()
-    ensures { (p : Program) (last : ℕ) → FitsScopes p → last < most_rounds → Keeps last p }
+    ensures { (p : Program) (rounds : ℕ) → FitsScopes p → 1 ≤ rounds → rounds ≤ most_rounds → Keeps rounds p }
 {}
 
 /// Three programs are rewritten to exactly these texts, byte for byte: one thread that does nothing, for one round; one that sets a
 /// global to either value, for two; and a program with each construct, for three.
 pub fn worked_programs_are_rewritten_to_these_texts()
     ensures skipping { printed worked.skipping ≡ worked.skipping_text }
-    ensures one_round { printed (rewritten_tree 0 worked.skipping) ≡ worked.skipping_in_one_round }
+    ensures one_round { printed (rewritten_for 1 worked.skipping) ≡ worked.skipping_in_one_round }
     ensures drawing { printed worked.drawing_once ≡ worked.drawing_text }
-    ensures two_rounds { printed (rewritten_tree 1 worked.drawing_once) ≡ worked.drawing_in_two_rounds }
+    ensures two_rounds { printed (rewritten_for 2 worked.drawing_once) ≡ worked.drawing_in_two_rounds }
     ensures constructs { printed worked.each_construct ≡ worked.construct_text }
-    ensures three_rounds { printed (rewritten_tree 2 worked.each_construct) ≡ worked.constructs_in_three_rounds }
+    ensures three_rounds { printed (rewritten_for 3 worked.each_construct) ≡ worked.constructs_in_three_rounds }
 {}

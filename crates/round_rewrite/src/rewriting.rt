@@ -4,9 +4,9 @@ ghost use Rattle.std.specs.Prelude.{◌≡◌, [], ◌∷◌, IfOk, IfErr, codes
 ghost use Rattle.syntax.specs.InGrammar.{InGrammar};
 ghost use Rattle.trees.specs.Trees.{threads_of, tree_of};
 ghost use Rattle.round_rewrite.specs.Law.{KeepsTree};
-ghost use Rattle.round_rewrite.specs.Names.{named, rewritten_tree};
-ghost use Rattle.round_rewrite.specs.Narrow.{IsNarrow};
-ghost use Rattle.round_rewrite.specs.Programs.{IsFaultOf, last_round};
+ghost use Rattle.round_rewrite.specs.Names.{named, rewritten_for};
+ghost use Rattle.round_rewrite.specs.Narrow.{IsNarrowFor};
+ghost use Rattle.round_rewrite.specs.Programs.{IsFaultOf, count_of};
 ghost use Rattle.resolved.specs.Programs.{sequential_tree};
 ghost use Rattle.scopes.specs.Programs.{checked_tree};
 
@@ -37,8 +37,8 @@ fn written<N: Allocator, A: Allocator + Copy>(
     rounds: Rounds,
     program: &Program<N>,
 ) -> Result<Program<A>, AllocError>
-    requires { IsNarrow rounds.last (tree_of program.now) }
-    ensures { IfOk result (λ p. tree_of p ≡ rewritten_tree rounds.last (tree_of program.now)) }
+    requires { IsNarrowFor (count_of rounds) (tree_of program.now) }
+    ensures { IfOk result (λ p. tree_of p ≡ rewritten_for (count_of rounds) (tree_of program.now)) }
 {
     let globals = globals(alloc, rounds, &program.globals)?;
     let procs = procedures(alloc, rounds, program)?;
@@ -59,13 +59,13 @@ pub fn rewrite<N: Allocator, A: Allocator + Copy>(
 ) -> Result<Sequential<A>, RewriteFault>
     // What is answered is the program of the table.
     ensures rewritten { IfOk result
-        (λ s. sequential_tree s ≡ rewritten_tree (last_round rounds) (checked_tree checked.now)) }
+        (λ s. sequential_tree s ≡ rewritten_for (count_of rounds) (checked_tree checked.now)) }
     // The source is unsafe within the rounds exactly where some pair of `main__` of that program has `bad__`.
-    ensures keeps { IfOk result (λ s. KeepsTree (last_round rounds) (checked_tree checked.now)) }
+    ensures keeps { IfOk result (λ s. KeepsTree (count_of rounds) (checked_tree checked.now)) }
     // It is a tree of the grammar where the source is.
     ensures grammar { InGrammar (checked_tree checked.now) → IfOk result (λ s. InGrammar (sequential_tree s)) }
     // A fault is that the program is too wide, and then it is, or that memory ran out, and then it is not.
-    ensures fault { IfErr result (IsFaultOf (last_round rounds) (checked_tree checked.now)) }
+    ensures fault { IfErr result (IsFaultOf (count_of rounds) (checked_tree checked.now)) }
 {
     let source = checked.program();
     if !is_narrow(alloc, rounds, source) {

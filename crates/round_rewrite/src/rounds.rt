@@ -1,6 +1,6 @@
 //! Numbers of rounds.
 
-ghost use Rattle.std.specs.Prelude.{◌≡◌, ◌+◌, ◌<◌, ◌≤◌, IfSome, IsSome, ◌↔◌};
+ghost use Rattle.std.specs.Prelude.{◌≡◌, ◌<◌, ◌≤◌, IfSome, IsSome, ◌↔◌};
 ghost use Rattle.round_rewrite.specs.Limits.{most_rounds};
 
 use crate::limits::MOST_ROUNDS;
@@ -14,12 +14,12 @@ pub struct Rounds {
 }
 
 impl Rounds {
-    ghost use Rattle.round_rewrite.specs.Programs.{last_round};
+    ghost use Rattle.round_rewrite.specs.Programs.{count_of};
 
     /// So many rounds; `None` where there are none, or more than 4.
     pub fn new(rounds: u8) -> Option<Rounds>
         ensures some { IsSome result ↔ (1 ≤ rounds) × (rounds ≤ most_rounds) }
-        ensures last { IfSome result (λ r. last_round r + 1 ≡ rounds) }
+        ensures count { IfSome result (λ r. count_of r ≡ rounds) }
     {
         if 1 <= rounds && rounds <= MOST_ROUNDS {
             Some(Rounds { last: rounds - 1 })
@@ -30,7 +30,7 @@ impl Rounds {
 
     /// How many rounds.
     pub fn count(self) -> u8
-        ensures count { result ≡ last_round self + 1 }
+        ensures count { result ≡ count_of self }
         ensures range { (1 ≤ result) × (result ≤ most_rounds) }
     {
         self.last + 1

@@ -3,8 +3,8 @@
 ghost use Rattle.std.specs.Prelude.{◌≡◌, ◌+◌, ◌≤◌, ◌↔◌, IsTrue, length};
 ghost use Rattle.scopes.specs.Programs.{checked_tree};
 ghost use Rattle.trees.specs.Trees.{proc_of, tree_of};
-ghost use Rattle.round_rewrite.specs.Narrow.{IsFirstWide, IsNarrow};
-ghost use Rattle.round_rewrite.specs.Programs.{last_round};
+ghost use Rattle.round_rewrite.specs.Narrow.{IsFirstWideFor, IsNarrowFor};
+ghost use Rattle.round_rewrite.specs.Programs.{count_of};
 ghost use Rattle.round_rewrite.specs.Writing.{own_width};
 ghost use Rattle.round_rewrite.specs.Places.{global_count};
 
@@ -61,7 +61,7 @@ fn first_wide<N: Allocator, A: Allocator + Copy>(
     rounds: Rounds,
     program: &Program<N>,
 ) -> Option<Wide>
-    ensures { IsFirstWide rounds.last (tree_of program.now) result }
+    ensures { IsFirstWideFor (count_of rounds) (tree_of program.now) result }
 {
     let globals = program.globals.as_slice().len();
     for proc in &program.procs {
@@ -80,7 +80,7 @@ pub(crate) fn is_narrow<N: Allocator, A: Allocator + Copy>(
     rounds: Rounds,
     program: &Program<N>,
 ) -> bool
-    ensures { IsTrue result ↔ IsNarrow rounds.last (tree_of program.now) }
+    ensures { IsTrue result ↔ IsNarrowFor (count_of rounds) (tree_of program.now) }
 {
     let globals = global_count(rounds, program.globals.as_slice().len());
     if globals > MOST_PLACES as u128 {
@@ -96,7 +96,7 @@ pub fn too_wide<N: Allocator, A: Allocator + Copy>(
     checked: &Checked<N>,
     rounds: Rounds,
 ) -> Option<Wide>
-    ensures { IsFirstWide (last_round rounds) (checked_tree checked.now) result }
+    ensures { IsFirstWideFor (count_of rounds) (checked_tree checked.now) result }
 {
     first_wide(alloc, rounds, checked.program())
 }

@@ -1,7 +1,7 @@
 -- A reply with a status of 2 or 3 tells a refusal that stands.
 use Rattle.std.proofs.Common.{Some, None, arith, subst, sym}
 use Rattle.summaries.specs.Limits.{most_of}
-use Rattle.command_line.specs.Limits.{count_of}
+use Rattle.round_rewrite.specs.Programs.{count_of}
 use Rattle.cli.specs.Replies.{IsPastLimit, Refuses}
 use Rattle.command_line.specs.declared.asked.Order.{Order}
 use Rattle.cli.proofs.Refusing.{answers_few, is_past, rewriting_few, tells_many, tells_none}

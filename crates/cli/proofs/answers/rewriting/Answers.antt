@@ -1,6 +1,6 @@
 -- Where nothing is rewritten, the refusal that stands is told.
 use Rattle.std.proofs.Common.{None, inr}
-use Rattle.command_line.specs.Limits.{count_of}
+use Rattle.round_rewrite.specs.Programs.{count_of}
 use Rattle.cli.proofs.Refusing.{refuses}
 use Rattle.cli.proofs.answers.rewriting.Goals as goal
 

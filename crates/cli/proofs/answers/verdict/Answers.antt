@@ -1,9 +1,8 @@
 -- The reply is the answer where there is a report, and else tells the refusal that stands.
 use Rattle.std.proofs.Common.{Some, inl, inr}
 use Rattle.summaries.specs.Limits.{most_of}
-use Rattle.round_rewrite.specs.Programs.{last_round}
+use Rattle.round_rewrite.specs.Programs.{count_of}
 use Rattle.scopes.specs.Programs.{checked_tree}
-use Rattle.command_line.specs.Limits.{count_of}
 use Rattle.cli.specs.Written.{bytes_of}
 use Rattle.refusals.specs.declared.refusal.Refusal.TheVariants.{Memory}
 use Rattle.cli.proofs.Answering.{answers, has_each, reported_rewriting}
@@ -19,13 +18,13 @@ returns-in-Err g c =
 
 pub reported-requires : goal.reported-requires
 reported-requires g c =
-    has_each (last_round c.args.rounds) (most_of c.args.edges) (checked_tree c.in-Ok.program) c.in-Ok-judge.report
+    has_each (count_of c.args.rounds) (most_of c.args.edges) (checked_tree c.in-Ok.program) c.in-Ok-judge.report
     c.in-Ok.ensures.program.1 c.in-Ok-judge.ensures.report
 
 pub returns-in-Ok-judge : goal.returns-in-Ok-judge
 returns-in-Ok-judge g c =
     let text = c.args.text.now in
-    let last = last_round c.args.rounds in
+    let rounds = count_of c.args.rounds in
     let most = most_of c.args.edges in
     let t = checked_tree c.in-Ok.program in
     let report = c.in-Ok-judge.report in
@@ -34,8 +33,8 @@ returns-in-Ok-judge g c =
     let is = c.in-Ok-judge.ensures.report in
     elim c.reported.ensures [
       | inl told ↦
-          inl (answers text last most t report c.args.stats of is (bytes_of reply) reply.status told.0 told.1, told.2)
-      | inr lacks ↦ inr (Memory, inl (reported_rewriting text last most t report of is), lacks.1)
+          inl (answers text rounds most t report c.args.stats of is (bytes_of reply) reply.status told.0 told.1, told.2)
+      | inr lacks ↦ inr (Memory, inl (reported_rewriting text rounds most t report of is), lacks.1)
     ]
 
 pub returns : goal.returns

@@ -1,14 +1,13 @@
 -- A text that is rewritten is that of a checked program; where the rewriting fails, it is too wide.
-use Rattle.std.proofs.Common.{ℕ, None, refl, subst, inl, inr}
+use Rattle.std.proofs.Common.{ℕ, None, subst, inl, inr}
 use Rattle.std.proofs.lemmas.Result.{err_from_is_err_and}
 use Rattle.resolved.specs.Narrow.{AllNarrow}
-use Rattle.round_rewrite.specs.Narrow.{IsNarrow}
+use Rattle.round_rewrite.specs.Narrow.{IsNarrowFor}
 use Rattle.round_rewrite.specs.declared.fault.RewriteFault.TheVariants.{Memory, TooWide}
 use Rattle.language.specs.Tree.{Tree}
 use Rattle.syntax.proofs.TextsInGrammar.{text_in_grammar}
-use Rattle.round_rewrite.specs.Programs.{IsFaultOf, last_round}
+use Rattle.round_rewrite.specs.Programs.{IsFaultOf, count_of}
 use Rattle.scopes.specs.Programs.{checked_tree}
-use Rattle.command_line.specs.Limits.{count_of}
 use Rattle.cli.proofs.rewriting.rewritten.Goals as goal
 
 pub returns-in_err-checked-clause-stands : goal.returns-in_err-checked-clause-stands
@@ -22,8 +21,6 @@ returns-in-Ok-clause-rewriting g c =
     let of = c.in_ok-checked.ensures.program in
     record {
       tree = source;
-      last = last_round c.args.rounds;
-      count = refl;
       of = of.0;
       checked = of.1;
       narrow = subst AllNarrow c.in-Ok.ensures.rewritten c.in-Ok.sequential.narrow;
@@ -33,36 +30,34 @@ returns-in-Ok-clause-rewriting g c =
     }
 
 -- where the rewriting is refused as too wide, it is
-pub is_wide : (last : ℕ) (t : Tree) → IsFaultOf last t TooWide → IsNarrow last t → ⊥
-is_wide last t (inl (e, wide)) = wide
-is_wide last t (inr (e, narrow)) = cc
+pub is_wide : (rounds : ℕ) (t : Tree) → IsFaultOf rounds t TooWide → IsNarrowFor rounds t → ⊥
+is_wide rounds t (inl (e, wide)) = wide
+is_wide rounds t (inr (e, narrow)) = cc
 
 -- where memory gives out over the rewriting, it is not too wide
-is_narrow : (last : ℕ) (t : Tree) → IsFaultOf last t Memory → IsNarrow last t
-is_narrow last t (inl (e, wide)) = cc
-is_narrow last t (inr (e, narrow)) = narrow
+is_narrow : (rounds : ℕ) (t : Tree) → IsFaultOf rounds t Memory → IsNarrowFor rounds t
+is_narrow rounds t (inl (e, wide)) = cc
+is_narrow rounds t (inr (e, narrow)) = narrow
 
 pub returns-in-Err-TooWide-clause-stands : goal.returns-in-Err-TooWide-clause-stands
 returns-in-Err-TooWide-clause-stands g c =
-    let last = last_round c.args.rounds in
+    let rounds = count_of c.args.rounds in
     let source = checked_tree c.in_ok-checked.checked in
     let of = c.in_ok-checked.ensures.program in
-    let fault = subst (IsFaultOf last source) c.in-Err-TooWide.field-0-is c.in-Err-TooWide.ensures.fault in (
+    let fault = subst (IsFaultOf rounds source) c.in-Err-TooWide.field-0-is c.in-Err-TooWide.ensures.fault in (
       source,
-      last,
       record {
-        count = refl;
         of = of.0;
         checked = of.1;
-        wider = is_wide last source fault;
+        wider = is_wide rounds source fault;
         first = c.too_wide.ensures;
       },
     )
 
 pub returns-clause-stands : goal.returns-clause-stands
 returns-clause-stands g c =
-    let last = last_round c.args.rounds in
+    let rounds = count_of c.args.rounds in
     let source = checked_tree c.in_ok-checked.checked in
     let of = c.in_ok-checked.ensures.program in
-    let fault = subst (IsFaultOf last source) c.in-Err-Memory.field-0-is c.in-Err-Memory.ensures.fault in
-    inl (source, last, refl, of.0, of.1, is_narrow last source fault)
+    let fault = subst (IsFaultOf rounds source) c.in-Err-Memory.field-0-is c.in-Err-Memory.ensures.fault in
+    inl (source, of.0, of.1, is_narrow rounds source fault)

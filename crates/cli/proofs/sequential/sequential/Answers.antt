@@ -14,8 +14,6 @@ returns-clause-printed g c =
     let rewritten = lent ∙ found.same in
     record {
       tree = found.tree;
-      last = found.last;
-      count = found.count;
       of = found.of;
       checked = found.checked;
       same = c.in-Ok.ensures.form ∙ ap printed rewritten;

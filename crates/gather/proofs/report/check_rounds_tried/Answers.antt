@@ -6,12 +6,12 @@ use Rattle.language.specs.Tree.{Tree}
 use Rattle.flow_graph.specs.Drawn.{bad_of}
 use Rattle.flow_graph.specs.Graphs.{AreDrawnFrom}
 use Rattle.resolved.specs.Narrow.{AllNarrow}
-use Rattle.round_rewrite.specs.Programs.{last_round}
+use Rattle.round_rewrite.specs.Names.{sequential_for}
+use Rattle.round_rewrite.specs.Programs.{count_of}
 use Rattle.resolved.specs.Programs.{sequential_tree}
 use Rattle.scopes.specs.Programs.{checked_tree}
 use Rattle.summaries.specs.Limits.{most_of}
 use Rattle.summaries.specs.Tabulated.{SomePairBad}
-use Rattle.gather.specs.Reports.{rewriting_of}
 use Rattle.gather.proofs.Reporting.{keeps_answer, no_report}
 use Rattle.gather.proofs.report.check_rounds_tried.Goals as goal
 use Rattle.gather.proofs.report.check_rounds_tried.Goals.{then-bad, else-bad}
@@ -22,21 +22,21 @@ returns-in_err-ledger-clause-none g c =
     let same = c.in-Ok.ensures.rewritten in
     let drawn = subst (λ (t : Tree). AreDrawnFrom (sequential_of t) c.in_ok-graphs.graphs.graphs.items) same
     c.in_ok-graphs.ensures.graphs in
-    let last = last_round c.args.rounds in
+    let rounds = count_of c.args.rounds in
     let source = checked_tree c.args.program.now in
-    rw (e.1, e.2) (no_report source last (most_of c.args.limit) c.in_err-ledger.field-0.0
+    rw (e.1, e.2) (no_report source rounds (most_of c.args.limit) c.in_err-ledger.field-0.0
     (subst AllNarrow same c.in-Ok.sequential.narrow) c.in_err-ledger.ensures.cause
-    (λ is. c.in_err-ledger.ensures.limit (rewriting_of last source) drawn (λ i. Err (is i))))
+    (λ is. c.in_err-ledger.ensures.limit (sequential_for rounds source) drawn (λ i. Err (is i))))
 
 pub returns-clause-report : goal.returns-clause-report
 returns-clause-report g c =
     let same = c.in-Ok.ensures.rewritten in
     let drawn = subst (λ (t : Tree). AreDrawnFrom (sequential_of t) c.in_ok-graphs.graphs.graphs.items) same
     c.in_ok-graphs.ensures.graphs in
-    let last = last_round c.args.rounds in
+    let rounds = count_of c.args.rounds in
     let source = checked_tree c.args.program.now in
-    let p = rewriting_of last source in
-    let told = keeps_answer last source (sequential_tree c.in-Ok.sequential) same c.in-Ok.ensures.keeps
+    let p = sequential_for rounds source in
+    let told = keeps_answer rounds source (sequential_tree c.in-Ok.sequential) same c.in-Ok.ensures.keeps
     (bad_of c.in_ok-graphs.graphs) c.in_ok-graphs.ensures.bad (SomePairBad c.in_ok-ledger.summaries)
     (c.in_ok-ledger.ensures.bad p drawn) in
     record {
