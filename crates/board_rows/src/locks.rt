@@ -29,14 +29,14 @@ impl<A: Allocator> LaneLaw for Marks<A> {
 
 type Lock<A> = TicketLock<Marks<A>, A>;
 
-type Place<A> = Lane<Marks<A>>;
+type MarkLane<A> = Lane<Marks<A>>;
 
 fn open<R: Abort, A: Allocator + Clone>(
     rt: &R,
     alloc: A,
     lanes: u8,
     budget: u64,
-) -> (Lock<A>, Vec<Place<A>, A>)
+) -> (Lock<A>, Vec<MarkLane<A>, A>)
     requires { (0 < lanes) × (lanes ≤ 64) × (2 ≤ budget) × (budget ≤ 1000000) }
     ensures { All (IsIdle result.0.id) result.1.items × (vec_len result.1 ≡ lanes)
         × (result.0.lanes ≡ lanes) }
@@ -56,8 +56,8 @@ fn open<R: Abort, A: Allocator + Clone>(
 fn next_lane<R: Abort, A: Allocator>(
     rt: &R,
     lock: &Lock<A>,
-    lanes: &mut Vec<Place<A>, A>,
-) -> Place<A>
+    lanes: &mut Vec<MarkLane<A>, A>,
+) -> MarkLane<A>
     requires { All (IsIdle lock.now.id) lanes.old.items }
     ensures lane { IsIdle lock.now.id result }
     ensures others { All (IsIdle lock.now.id) lanes.new.items
@@ -72,8 +72,8 @@ fn next_lane<R: Abort, A: Allocator>(
 fn give_back<R: Abort, A: Allocator>(
     rt: &R,
     lock: &Lock<A>,
-    lanes: &mut Vec<Place<A>, A>,
-    lane: Place<A>,
+    lanes: &mut Vec<MarkLane<A>, A>,
+    lane: MarkLane<A>,
 )
     requires { All (IsIdle lock.now.id) lanes.old.items × IsIdle lock.now.id lane }
     ensures { All (IsIdle lock.now.id) lanes.new.items
@@ -85,14 +85,14 @@ fn give_back<R: Abort, A: Allocator>(
     }
 }
 
-fn finish<A: Allocator>(lock: Lock<A>, lanes: Vec<Place<A>, A>) -> Marks<A>
+fn finish<A: Allocator>(lock: Lock<A>, lanes: Vec<MarkLane<A>, A>) -> Marks<A>
     requires { All (IsIdle lock.id) lanes.items × (vec_len lanes ≡ lock.lanes) }
 {
     lock.close(lanes.into_iter())
 }
 
 // Draws a ticket, which has to have this number.
-fn draw<R: Abort, A: Allocator>(rt: &R, lock: &Lock<A>, lane: &mut Place<A>, wanted: u64) -> Ticket
+fn draw<R: Abort, A: Allocator>(rt: &R, lock: &Lock<A>, lane: &mut MarkLane<A>, wanted: u64) -> Ticket
     requires { IsIdle lock.now.id lane.old }
     ensures { IsWaiting lock.now.id result lane.new }
 {
@@ -107,7 +107,7 @@ fn draw<R: Abort, A: Allocator>(rt: &R, lock: &Lock<A>, lane: &mut Place<A>, wan
 fn look_early<R: Abort, A: Allocator>(
     rt: &R,
     lock: &Lock<A>,
-    lane: &mut Place<A>,
+    lane: &mut MarkLane<A>,
     ticket: Ticket,
 ) -> Ticket
     requires { IsWaiting lock.now.id ticket lane.old }
@@ -123,7 +123,7 @@ fn look_early<R: Abort, A: Allocator>(
 fn serve<R: Abort, A: Allocator>(
     rt: &R,
     lock: &Lock<A>,
-    lane: &mut Place<A>,
+    lane: &mut MarkLane<A>,
     ticket: Ticket,
     mark: u64,
     wanted: usize,
@@ -147,7 +147,7 @@ fn serve<R: Abort, A: Allocator>(
 fn draw_and_serve<R: Abort, A: Allocator>(
     rt: &R,
     lock: &Lock<A>,
-    lane: &mut Place<A>,
+    lane: &mut MarkLane<A>,
     number: u64,
     mark: u64,
     wanted: usize,
@@ -163,8 +163,8 @@ fn draw_and_serve<R: Abort, A: Allocator>(
 fn in_turn<R: Abort, A: Allocator>(
     rt: &R,
     lock: &Lock<A>,
-    first: &mut Place<A>,
-    second: &mut Place<A>,
+    first: &mut MarkLane<A>,
+    second: &mut MarkLane<A>,
 )
     requires { IsIdle lock.now.id first.old × IsIdle lock.now.id second.old }
     ensures { IsIdle lock.now.id first.new × IsIdle lock.now.id second.new }
@@ -205,8 +205,8 @@ fn a_lane_is_spent_after_its_budget(rt: HostRuntime) {
 fn learns<R: Abort, A: Allocator>(
     rt: &R,
     lock: &Lock<A>,
-    first: &mut Place<A>,
-    second: &mut Place<A>,
+    first: &mut MarkLane<A>,
+    second: &mut MarkLane<A>,
 )
     requires { IsIdle lock.now.id first.old × IsIdle lock.now.id second.old }
 {
@@ -262,7 +262,7 @@ fn a_refused_lock_hands_its_value_back(rt: HostRuntime) {
 }
 
 // Enters, adds a mark and leaves, `rounds` times.
-fn work<R: Wait>(rt: &R, lock: &Lock<Global>, mut lane: Place<Global>, rounds: u64) -> Place<Global>
+fn work<R: Wait>(rt: &R, lock: &Lock<Global>, mut lane: MarkLane<Global>, rounds: u64) -> MarkLane<Global>
     requires { IsIdle lock.now.id lane }
     ensures { IsIdle lock.now.id result }
 {
@@ -280,10 +280,10 @@ fn work<R: Wait>(rt: &R, lock: &Lock<Global>, mut lane: Place<Global>, rounds: u
 fn two_work<R: Threads + Wait + Sync>(
     rt: &R,
     lock: &Lock<Global>,
-    first: Place<Global>,
-    second: Place<Global>,
+    first: MarkLane<Global>,
+    second: MarkLane<Global>,
     rounds: u64,
-) -> (Place<Global>, Place<Global>)
+) -> (MarkLane<Global>, MarkLane<Global>)
     requires { IsIdle lock.now.id first × IsIdle lock.now.id second }
     ensures { IsIdle lock.now.id result.0 × IsIdle lock.now.id result.1 }
 {

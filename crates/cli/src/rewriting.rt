@@ -1,4 +1,4 @@
-//! The sequential program of a text: what every order begins with.
+//! The sequential program that a text is rewritten to.
 
 ghost use Rattle.std.specs.Prelude.{IfOk, IfErr, None};
 ghost use Rattle.resolved.specs.Programs.{sequential_tree};

@@ -1,11 +1,11 @@
 -- What is written about a place locates it.
 use Rattle.std.proofs.Common.{◌≡◌, ◌++◌, ℕ, List, Result, Ok, Err}
 use Rattle.std.specs.Prelude.{OnOk}
-use Rattle.diagnostics.specs.Place.{IsPlace}
+use Rattle.diagnostics.specs.Position.{IsPosition}
 use Rattle.diagnostics.specs.Message.{Locates, caret_line, head, source_line}
 
 pub located : {T E : Type 0} (r : Result T E) (path text : List ℕ) (at line column : ℕ) (before behind : List ℕ)
-    (told : List ℕ → List ℕ) (old new : List ℕ) → IsPlace text at line column before behind
+    (told : List ℕ → List ℕ) (old new : List ℕ) → IsPosition text at line column before behind
     → OnOk r (new ≡ old ++ (head path line column ++ (told behind ++ (source_line before behind ++ caret_line before))))
     → OnOk r (Locates path text at told old new)
 located (Ok _) path text at line column before behind told old new place message =

@@ -1,2 +1,2 @@
-pub mod Place
+pub mod Position
 pub mod Message

@@ -5,7 +5,7 @@ use Rattle.std.specs.Char.{is_ascii_alphanumeric}
 use Rattle.std.specs.Fmt.{decimal}
 use Rattle.std.specs.Int.{is_in_range}
 use Rattle.std.specs.List.{before_first}
-use Rattle.diagnostics.specs.Place.{IsPlace}
+use Rattle.diagnostics.specs.Position.{IsPosition}
 use Rattle.diagnostics.specs.declared.message.Wrong.{Wrong}
 use Rattle.diagnostics.specs.declared.message.Wrong.TheVariants.{NotAscii, Unexpected, Wide, Word}
 
@@ -91,7 +91,7 @@ pub record Locates (path text : List ℕ) (at : ℕ) (told : List ℕ → List �
   pub column : ℕ
   pub before : List ℕ
   pub behind : List ℕ
-  pub place : IsPlace text at line column before behind
+  pub place : IsPosition text at line column before behind
   pub message : new ≡ old
       ++ (head path line column ++ (told behind ++ (source_line before behind ++ caret_line before)))
 

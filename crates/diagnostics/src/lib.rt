@@ -2,6 +2,6 @@
 #![tactic(auto)]
 
 mod message;
-mod place;
+mod position;
 
 pub use message::{Wrong, at_offset, not_ascii};

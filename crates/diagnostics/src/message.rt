@@ -7,7 +7,7 @@ ghost use Rattle.std.specs.Fmt.{decimal};
 ghost use Rattle.std.specs.String.{string_bytes};
 ghost use Rattle.diagnostics.specs.Message as told;
 
-use crate::place::{Place, place_of};
+use crate::position::{Position, position_of};
 use std::alloc::{AllocError, Allocator};
 
 /// How much of a line is shown before a place, and how much from it on.
@@ -175,7 +175,7 @@ fn push_caret<A: Allocator>(message: &mut String<A>, before: &[u8]) -> Result<()
 fn push_head<A: Allocator>(
     message: &mut String<A>,
     path: &str,
-    place: &Place,
+    place: &Position,
 ) -> Result<(), AllocError>
     ensures { OnOk result (string_bytes message.new
         ≡ string_bytes message.old ++ told.head path.now place.now.line place.now.column) }
@@ -276,7 +276,7 @@ fn at_byte<A: Allocator>(
     ensures { OnOk result (told.Locates path.now text.now at (told.of_fault wrong.entry)
         (string_bytes message.old) (string_bytes message.new)) }
 {
-    let place = place_of(text, at);
+    let place = position_of(text, at);
     push_head(message, path, &place)?;
     push_wrong(message, place.behind, wrong)?;
     push_source(message, place.before, place.behind)?;

@@ -2,7 +2,7 @@
 
 use crate::gates::{Late, Meeting, Noting};
 use crate::program::{Asked, Parts, read_case};
-use crate::refusing::Place;
+use crate::refusing::Moment;
 use crate::tried::{parts_at, with_budget, with_budgets, with_limits, without_lane};
 use crate::{report, scarcity};
 use procedure_worker::{Gate, Open};
@@ -66,10 +66,10 @@ fn answer<R: Wait + Threads + Sync>(
 }
 
 /// The call of the gate that words name: `take 2 of lane 0`.
-fn place_of(words: &str) -> Option<Place> {
+fn place_of(words: &str) -> Option<Moment> {
     let (call, lane) = words.split_once(" of lane ")?;
     let (what, count) = call.split_once(' ')?;
-    Some(Place {
+    Some(Moment {
         is_take: what == "take",
         lane: lane.parse::<u8>().ok()?,
         count: count.parse::<u64>().ok()?,

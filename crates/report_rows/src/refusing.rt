@@ -11,7 +11,7 @@ const MOST_TURNS: u64 = 1_000_000;
 
 /// A call of the gate: the how manieth take or post of which lane.
 #[derive(Clone, Copy, PartialEq, Eq)]
-pub struct Place {
+pub struct Moment {
     pub is_take: bool,
     pub lane: u8,
     pub count: u64,
@@ -21,7 +21,7 @@ pub struct Place {
 #[derive(Drop)]
 pub struct Refusing {
     lane: u8,
-    after: Option<Place>,
+    after: Option<Moment>,
     /// Whether the call that is named came.
     came: AtomicBool,
     /// How many lanes were asked for.
@@ -31,7 +31,7 @@ pub struct Refusing {
 }
 
 impl Refusing {
-    pub fn new(lane: u8, after: Option<Place>) -> Refusing {
+    pub fn new(lane: u8, after: Option<Moment>) -> Refusing {
         Refusing {
             lane,
             after,
@@ -52,7 +52,7 @@ impl Refusing {
     }
 
     /// Notes a call of the gate.
-    fn note(&self, place: Place) {
+    fn note(&self, place: Moment) {
         if place.lane >= self.lane {
             self.behind.store(true, SeqCst);
         }
@@ -74,7 +74,7 @@ impl Refusing {
 
 impl Gate for Refusing {
     fn taken(&self, lane: u8, count: u64) {
-        self.note(Place {
+        self.note(Moment {
             is_take: true,
             lane,
             count,
@@ -82,7 +82,7 @@ impl Gate for Refusing {
     }
 
     fn posted(&self, lane: u8, count: u64) {
-        self.note(Place {
+        self.note(Moment {
             is_take: false,
             lane,
             count,

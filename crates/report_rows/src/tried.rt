@@ -3,7 +3,7 @@
 ghost use Rattle.std.specs.Prelude.{◌≤◌, ◌^◌};
 
 use crate::program::{Asked, Parts};
-use crate::refusing::{Place, Refusing};
+use crate::refusing::{Moment, Refusing};
 use flow_graph::Graphs;
 use gather::{Answer, check_rounds_tried};
 use path_sets::{DiagramEdges, OrderedEdges};
@@ -91,7 +91,7 @@ pub fn without_lane<R: Wait + Threads + Sync>(
     out: &mut String,
     asked: &Asked,
     lane: u8,
-    after: Option<Place>,
+    after: Option<Moment>,
 ) -> Result<(), AllocError> {
     for number in 0..4u8 {
         let hire = Refusing::new(lane, after);

@@ -1,8 +1,9 @@
 //! How wide a rewritten program is, before it is made: without memory.
 
-ghost use Rattle.std.specs.Prelude.{◌≡◌, ◌+◌, ◌≤◌, ◌↔◌, IsTrue, length};
+ghost use Rattle.std.specs.Prelude.{◌≡◌, ◌+◌, ◌-◌, ◌*◌, ◌^◌, ◌≤◌, ◌↔◌, IsTrue, length};
 ghost use Rattle.scopes.specs.Programs.{checked_tree};
 ghost use Rattle.trees.specs.Trees.{proc_of, tree_of};
+ghost use Rattle.round_rewrite.specs.Limits.{most_rounds};
 ghost use Rattle.round_rewrite.specs.Narrow.{IsFirstWideFor, IsNarrowFor};
 ghost use Rattle.round_rewrite.specs.Programs.{count_of};
 ghost use Rattle.round_rewrite.specs.Writing.{own_width};
@@ -27,7 +28,7 @@ pub struct Wide {
 /// How many globals the rewritten program has.
 fn global_count(rounds: Rounds, globals: usize) -> u128
     ensures count { result ≡ global_count globals rounds.last }
-    ensures few { result ≤ 129127208515966861309 }
+    ensures few { result ≤ (2 * most_rounds - 1) * (2 ^ 64 - 1) + 4 }
 {
     let last = rounds.last as u128;
     (2 * last + 1) * (globals as u128) + 4

@@ -5,6 +5,7 @@ use Rattle.language.specs.Tree.{Name, Procedure, ThreadLine, Tree}
 use Rattle.language.specs.Parts.{Head, assigns, targets_of, sides_of, arguments_of, callee_of, jump_of}
 use Rattle.language.specs.Rest.{same_text}
 use Rattle.language.specs.Resolve.{is_declared}
+use Rattle.scopes.specs.Limits.{most_procedures, most_statements, most_threads}
 use Rattle.scopes.specs.Find.{AnyOf}
 use Rattle.resolved.specs.There.{IsThere, names}
 use Rattle.resolved.specs.Statements.{Statement, statements_of, statements_of_all, used_by, labels_of}
@@ -142,6 +143,6 @@ Reserved t n =
 -- text does
 abbrev pub TooMany : Tree → ℕ → Type 0
 TooMany t n =
-    IsThere (slice_get t.procedures 31) (λ p. p.name.at ≡ n)
-    ⊎ (IsThere (slice_get t.threads 8) (λ line. line.at ≡ n)
-    ⊎ IsThere (slice_get (statements_of_all t.procedures) 1000) (λ s. s.mark.at ≡ n))
+    IsThere (slice_get t.procedures most_procedures) (λ p. p.name.at ≡ n)
+    ⊎ (IsThere (slice_get t.threads most_threads) (λ line. line.at ≡ n)
+    ⊎ IsThere (slice_get (statements_of_all t.procedures) most_statements) (λ s. s.mark.at ≡ n))

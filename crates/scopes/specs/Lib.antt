@@ -1,3 +1,4 @@
+pub mod Limits
 pub mod Find
 pub mod Faults
 pub mod Known

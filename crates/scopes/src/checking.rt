@@ -34,12 +34,12 @@ fn first_fault<A: Allocator + Copy>(
     let labels = first_bad_label(alloc, program)?.map(ScopeFault::BadLabel);
     let reserved = first_reserved(alloc, program)?.map(ScopeFault::Reserved);
     let many = first_too_many(alloc, program)?.map(ScopeFault::TooMany);
-    let to_seven = sooner(undeclared, twice);
-    let to_eight = sooner(to_seven, counts);
-    let to_nine = sooner(to_eight, threads);
-    let to_ten = sooner(to_nine, labels);
-    let to_eleven = sooner(to_ten, reserved);
-    Ok(sooner(to_eleven, many))
+    let through_twice = sooner(undeclared, twice);
+    let through_counts = sooner(through_twice, counts);
+    let through_threads = sooner(through_counts, threads);
+    let through_labels = sooner(through_threads, labels);
+    let through_reserved = sooner(through_labels, reserved);
+    Ok(sooner(through_reserved, many))
 }
 
 /// Checks the scopes of a program: the program is given back, checked, where none of the faults stands in it. Of

@@ -22,3 +22,4 @@ pub use checked::Checked;
 pub use checking::check;
 pub use fault::ScopeFault;
 pub use laws::{checked_trees_are_rewritable, checked_trees_resolve};
+pub use limits::{MOST_PROCEDURES, MOST_STATEMENTS, MOST_THREADS};

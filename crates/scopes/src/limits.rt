@@ -6,26 +6,27 @@ ghost use Rattle.scopes.specs.Find.{Finds};
 ghost use Rattle.resolved.specs.Statements.{lent_statements, statements_of_all};
 ghost use Rattle.resolved.specs.There.{IsThere};
 ghost use Rattle.scopes.specs.Faults.{TooMany};
+ghost use Rattle.scopes.specs.Limits.{most_procedures, most_statements, most_threads};
 
 use crate::names::earlier;
 use crate::statements::flatten;
 use std::alloc::{AllocError, Allocator};
 use trees::{Proc, Program, Stmt, Thread};
 
-/// The most procedures that a program has.
-const PROCEDURES: usize = 31;
+/// How many procedures a program has at most, which `specs/Limits.antt` has for contracts, as the next two.
+pub const MOST_PROCEDURES: usize = 31;
 
-/// The most thread lines.
-const THREADS: usize = 8;
+/// How many thread lines.
+pub const MOST_THREADS: usize = 8;
 
-/// The most statements, over all procedures.
-const STATEMENTS: usize = 1000;
+/// How many statements, over all procedures.
+pub const MOST_STATEMENTS: usize = 1000;
 
 /// The offset of the name of the first procedure too many.
 pub fn procedure_too_many<A: Allocator>(procs: &[Proc<A>]) -> Option<u32>
-    ensures { Finds (λ n. IsThere (slice_get (procs_of procs.now) 31) (λ p. p.name.at ≡ n)) result }
+    ensures { Finds (λ n. IsThere (slice_get (procs_of procs.now) most_procedures) (λ p. p.name.at ≡ n)) result }
 {
-    match procs.get(PROCEDURES) {
+    match procs.get(MOST_PROCEDURES) {
         Some(proc) => Some(proc.name.at),
         None => None,
     }
@@ -34,9 +35,9 @@ pub fn procedure_too_many<A: Allocator>(procs: &[Proc<A>]) -> Option<u32>
 /// The offset of the first thread line too many.
 pub fn thread_too_many<A: Allocator>(threads: &[Thread<A>]) -> Option<u32>
     ensures { Finds
-        (λ n. IsThere (slice_get (threads_of threads.now) 8) (λ line. line.at ≡ n)) result }
+        (λ n. IsThere (slice_get (threads_of threads.now) most_threads) (λ line. line.at ≡ n)) result }
 {
-    match threads.get(THREADS) {
+    match threads.get(MOST_THREADS) {
         Some(line) => Some(line.at),
         None => None,
     }
@@ -45,9 +46,9 @@ pub fn thread_too_many<A: Allocator>(threads: &[Thread<A>]) -> Option<u32>
 /// The offset of the first statement too many.
 pub fn statement_too_many<A: Allocator>(stmts: &[&Stmt<A>]) -> Option<u32>
     ensures { Finds
-        (λ n. IsThere (slice_get (lent_statements stmts.now) 1000) (λ s. s.mark.at ≡ n)) result }
+        (λ n. IsThere (slice_get (lent_statements stmts.now) most_statements) (λ s. s.mark.at ≡ n)) result }
 {
-    match stmts.get(STATEMENTS) {
+    match stmts.get(MOST_STATEMENTS) {
         Some(stmt) => Some(stmt.at),
         None => None,
     }

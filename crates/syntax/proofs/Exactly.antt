@@ -32,9 +32,6 @@ chosen false p q r e = inr (refl, e)
 pub begins_takes : {k : Kind} {ts rest : List Tok} → Takes k ts rest → begins k ts ≡ true
 begins_takes (takes e) = same_kind-is e
 
-other_kinds : (j k l : Kind) → j ≡ k → same_kind k l ≡ false → same_kind j l ≡ false
-other_kinds j k l e h = rw e h
-
 pub begins_other : {k : Kind} {ts rest : List Tok} (l : Kind) → Takes k ts rest → same_kind k l ≡ false → begins l ts ≡ false
 begins_other l (takes e) h = rw e h
 

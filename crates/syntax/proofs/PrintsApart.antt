@@ -84,9 +84,6 @@ semicolon more apart = record { free = refl; apart = (inr refl, semicolon_free m
 spaced : (more : List Part) → AreApart more → Tail (space ∷ more)
 spaced more apart = record { free = tt; apart = apart }
 
-lined : (more : List Part) → AreApart more → Tail (line ∷ more)
-lined more apart = record { free = tt; apart = apart }
-
 name_fits : (n : Name) → IsId n → Fits (name_parts n)
 name_fits n is more tail = (inl (name is), tail.free, tail.apart)
 

@@ -34,7 +34,7 @@ impl<T: LaneLaw> LockRule<T, View<T>, Opening<T>> for Alone {
 
 pub(crate) type Board<T, A> = Table<Option<T>, View<T>, Opening<T>, Alone, A>;
 
-pub(crate) type Place<T> = Seat<Option<T>, View<T>>;
+pub(crate) type LoneSeat<T> = Seat<Option<T>, View<T>>;
 
 // The first seat gives its first lane away.
 pub(crate) struct Deals;

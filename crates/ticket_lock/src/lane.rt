@@ -1,12 +1,12 @@
 //! What a thread holds of a lock: its lane, and the tickets, guards and notes that the lane gets.
 ghost use Rattle.std.specs.Prelude.{◌≡◌, ◌<◌};
 
-use crate::alone::Place;
+use crate::alone::LoneSeat;
 use std::marker::Model;
 
 /// One of the lanes of a lock, for one thread at a time. Contracts see it as a `Standing`.
 pub struct Lane<T> {
-    pub(crate) seat: Place<T>,
+    pub(crate) seat: LoneSeat<T>,
     pub(crate) number: u64,
     pub(crate) left: u64,
 }
@@ -36,7 +36,7 @@ impl<T> Lane<T> {
     ghost use Rattle.std.specs.Prelude.{◌≡◌};
     ghost use Rattle.ticket_lock.specs.Lanes.{standing, IsLane};
 
-    pub(crate) fn into_seat(self) -> Place<T>
+    pub(crate) fn into_seat(self) -> LoneSeat<T>
         ensures { IsLane result.table_id self.number self.left result.me
             × (standing result.table_id self.number self.left result.me.0 ≡ self) }
     {
@@ -116,7 +116,7 @@ impl<T> Guard<T> {
 
 /// What a lane had seen, to be told to another. Contracts see it as a `Told`.
 pub struct Note<T> {
-    pub(crate) seat: Place<T>,
+    pub(crate) seat: LoneSeat<T>,
 }
 
 impl<T> Model for Note<T> {
@@ -134,7 +134,7 @@ impl<T> Note<T> {
     ghost use Rattle.ticket_lock.specs.Lone.{new_view};
     ghost use Rattle.ticket_lock.specs.Lanes.{IsLockTable};
 
-    pub(crate) fn into_seat(self) -> Place<T>
+    pub(crate) fn into_seat(self) -> LoneSeat<T>
         ensures { (result.table_id ≡ self.lock) × IsLockTable self.lock
             × (result.me ≡ (new_view self.seen [], [])) }
     {

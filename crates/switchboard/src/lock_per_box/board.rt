@@ -13,7 +13,7 @@ ghost use Rattle.switchboard.specs.BoxAnswers.{TookOut, PutIn};
 use crate::calls::{Cause, Job, PostFault, Taken};
 use crate::lock_per_box::knowing::{Ground, Knowing};
 use crate::lock_per_box::outstanding::{
-    ABORTED, Boards, Place, TellsSeen, count_down, count_up, look, raise, take_in,
+    ABORTED, Boards, BoxSeat, TellsSeen, count_down, count_up, look, raise, take_in,
 };
 use crate::lock_per_box::pass::{BoxPass, BoxTold};
 use crate::lock_per_box::rule::Boxes;
@@ -57,7 +57,7 @@ fn take_out<M: Copy, A: Allocator>(mailbox: &mut Mailbox<M, A>) -> Taken<M>
 /// Puts a message into the mailbox, which is out, where the board is not aborted, and counts it up.
 fn put<F: Fn(), W, M: Mail<W>, A: Allocator>(
     shared: &Boards<M, W, A>,
-    seat: &mut Place<M, W, A>,
+    seat: &mut BoxSeat<M, W, A>,
     mailbox: &mut Mailbox<M, A>,
     number: u8,
     job: &Job,

@@ -6,7 +6,7 @@ ghost use Rattle.switchboard.specs.PerBox.{IsBoardTable};
 ghost use Rattle.switchboard.specs.BoxEnds.{Gathered, BoardEnds};
 
 use crate::lock_per_box::board::{BoxTable, LockPerBox};
-use crate::lock_per_box::outstanding::{ABORTED, Boards, Place, take_in};
+use crate::lock_per_box::outstanding::{ABORTED, Boards, BoxSeat, take_in};
 use crate::lock_per_box::pass::BoxPass;
 use crate::mail::Mail;
 use post_ledger::{Ledger, Mailbox};
@@ -16,7 +16,7 @@ use std::alloc::Allocator;
 fn gather<W, M: Mail<W>, A: Allocator>(
     shared: &Boards<M, W, A>,
     passes: &mut Vec<BoxPass<M, W, A>, A>,
-) -> Place<M, W, A>
+) -> BoxSeat<M, W, A>
     requires table { IsBoardTable shared.now.table_id shared.now.key.boxes × (0 < shared.now.key.boxes) }
     requires all { AreAll shared.now.table_id shared.now.key.boxes passes.old.items }
     ensures empty { passes.new.items ≡ [] }
@@ -36,7 +36,7 @@ fn gather<W, M: Mail<W>, A: Allocator>(
 /// Takes all mailboxes out of a table whose passes the seat has all, and answers whether the board is closed.
 fn settle<W, M: Mail<W>, A: Allocator>(
     table: BoxTable<M, W, A>,
-    seat: Place<M, W, A>,
+    seat: BoxSeat<M, W, A>,
     room: &mut Vec<Mailbox<M, A>, A>,
 ) -> bool
     requires table { (seat.table_id ≡ table.shared.table_id)

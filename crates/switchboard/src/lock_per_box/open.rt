@@ -11,7 +11,7 @@ ghost use Rattle.switchboard.specs.PerBox.{IsBoardTable};
 
 use crate::lock_per_box::board::{BoxTable, LockPerBox};
 use crate::lock_per_box::knowing::Ground;
-use crate::lock_per_box::outstanding::{Boards, Deals, Place};
+use crate::lock_per_box::outstanding::{Boards, Deals, BoxSeat};
 use crate::lock_per_box::pass::BoxPass;
 use crate::lock_per_box::visiting::STRIDE;
 use crate::mail::Mail;
@@ -72,7 +72,7 @@ fn first_words<A: Allocator>(alloc: A, boxes: u8) -> Result<Vec<u64, A>, AllocEr
 fn lay<W, M: Mail<W>, A: Allocator + Clone>(
     alloc: A,
     about: &Ground<M, W>,
-) -> Result<(BoxTable<M, W, A>, Place<M, W, A>), AllocError>
+) -> Result<(BoxTable<M, W, A>, BoxSeat<M, W, A>), AllocError>
     requires boxes { (about.now.to < about.now.boxes) × (about.now.boxes ≤ 64) }
     requires fits { M.fits about.now.world.value about.now.to about.now.first }
     ensures { IfOk result
@@ -94,7 +94,7 @@ fn lay<W, M: Mail<W>, A: Allocator + Clone>(
 /// Gives each pass a seat of its own.
 fn deal<W, M: Mail<W>, A: Allocator>(
     shared: &Boards<M, W, A>,
-    mut seat: Place<M, W, A>,
+    mut seat: BoxSeat<M, W, A>,
     passes: &mut Vec<BoxPass<M, W, A>, A>,
     world: &W,
     boxes: u8,

@@ -26,7 +26,7 @@ pub(crate) type Boards<M, W, A> = Shared<
     Boxes,
 >;
 
-pub(crate) type Place<M, W, A> = Seat<Option<Mailbox<M, A>>, Knowing<M, W, Mailbox<M, A>>>;
+pub(crate) type BoxSeat<M, W, A> = Seat<Option<Mailbox<M, A>>, Knowing<M, W, Mailbox<M, A>>>;
 
 // Names the job or the abort that a step is about, which a `Play` cannot see.
 pub(crate) trait About {
@@ -77,7 +77,7 @@ impl<J: About, W, M: Mail<W>, A: Allocator> Play<
 
 fn count_step<J: About, W, M: Mail<W>, A: Allocator>(
     shared: &Boards<M, W, A>,
-    seat: &mut Place<M, W, A>,
+    seat: &mut BoxSeat<M, W, A>,
     job: &Job,
 )
     requires table { (seat.old.table_id ≡ shared.now.table_id) × (0 < shared.now.table_id.words) }
@@ -95,7 +95,7 @@ fn count_step<J: About, W, M: Mail<W>, A: Allocator>(
 /// Counts up a Post that the seat's pass will make under this job: one fetch_add.
 pub(crate) fn count_up<W, M: Mail<W>, A: Allocator>(
     shared: &Boards<M, W, A>,
-    seat: &mut Place<M, W, A>,
+    seat: &mut BoxSeat<M, W, A>,
     job: &Job,
 )
     requires table { (seat.old.table_id ≡ shared.now.table_id) × (0 < shared.now.table_id.words) }
@@ -112,7 +112,7 @@ pub(crate) fn count_up<W, M: Mail<W>, A: Allocator>(
 /// Counts down a Post whose Done the seat's pass has recorded: one fetch_sub.
 pub(crate) fn count_down<W, M: Mail<W>, A: Allocator>(
     shared: &Boards<M, W, A>,
-    seat: &mut Place<M, W, A>,
+    seat: &mut BoxSeat<M, W, A>,
 )
     requires table { (seat.old.table_id ≡ shared.now.table_id) × (0 < shared.now.table_id.words) }
     requires owes { 0 < seat.old.me.0.owes }
@@ -125,7 +125,7 @@ pub(crate) fn count_down<W, M: Mail<W>, A: Allocator>(
 /// Looks at the word: one load.
 pub(crate) fn look<W, M: Mail<W>, A: Allocator>(
     shared: &Boards<M, W, A>,
-    seat: &mut Place<M, W, A>,
+    seat: &mut BoxSeat<M, W, A>,
 ) -> u64
     requires table { (seat.old.table_id ≡ shared.now.table_id) × (0 < shared.now.table_id.words) }
     ensures { IsSameSeat seat.old seat.new × LookedAtWord M.fits seat.old.me result seat.new.me }
@@ -135,7 +135,7 @@ pub(crate) fn look<W, M: Mail<W>, A: Allocator>(
 
 fn raise_step<J: About, W, M: Mail<W>, A: Allocator>(
     shared: &Boards<M, W, A>,
-    seat: &mut Place<M, W, A>,
+    seat: &mut BoxSeat<M, W, A>,
     by: u8,
     cause: Cause,
 )
@@ -153,7 +153,7 @@ fn raise_step<J: About, W, M: Mail<W>, A: Allocator>(
 /// Raises bit 63 for the seat's pass, which has made no abort before: one fetch_or, whatever the other bits are.
 pub(crate) fn raise<W, M: Mail<W>, A: Allocator>(
     shared: &Boards<M, W, A>,
-    seat: &mut Place<M, W, A>,
+    seat: &mut BoxSeat<M, W, A>,
     by: u8,
     cause: Cause,
 )
@@ -210,8 +210,8 @@ impl<W, M: Mail<W>, A: Allocator> Play<Option<Mailbox<M, A>>, Knowing<M, W, Mail
 /// Takes in another seat, where both are outside all locks, and then what it has seen: one load.
 pub(crate) fn take_in<W, M: Mail<W>, A: Allocator>(
     shared: &Boards<M, W, A>,
-    seat: &mut Place<M, W, A>,
-    other: Place<M, W, A>,
+    seat: &mut BoxSeat<M, W, A>,
+    other: BoxSeat<M, W, A>,
 )
     requires table { (seat.old.table_id ≡ shared.now.table_id)
         × (other.table_id ≡ shared.now.table_id)

@@ -1,5 +1,5 @@
 //! What a thread holds of the board with a lock for each mailbox.
-use crate::lock_per_box::outstanding::Place;
+use crate::lock_per_box::outstanding::BoxSeat;
 use crate::mail::Mail;
 use crate::world::Shown;
 use std::alloc::Allocator;
@@ -8,7 +8,7 @@ use std::marker::Model;
 /// A pass of a board with a lock for each mailbox. Contracts see it as a `Sight`.
 #[derive(Drop)]
 pub struct BoxPass<M: Mail<W>, W, A: Allocator> {
-    pub(crate) seat: Place<M, W, A>,
+    pub(crate) seat: BoxSeat<M, W, A>,
     pub(crate) world: Shown<W>,
     pub(crate) boxes: u8,
     pub(crate) number: u8,
@@ -34,7 +34,7 @@ impl<M: Mail<W>, W, A: Allocator> Model for BoxPass<M, W, A> {
 impl<M: Mail<W>, W, A: Allocator> BoxPass<M, W, A> {
     ghost use Rattle.switchboard.specs.BoxEnds.{HasSeat};
 
-    pub(crate) fn into_seat(self) -> Place<M, W, A>
+    pub(crate) fn into_seat(self) -> BoxSeat<M, W, A>
         ensures { HasSeat M.fits self result.table_id result.me }
     {
         let BoxPass {
@@ -52,7 +52,7 @@ impl<M: Mail<W>, W, A: Allocator> BoxPass<M, W, A> {
 /// What a pass had seen. Contracts see it as an `Account`.
 #[derive(Drop)]
 pub struct BoxTold<M: Mail<W>, W, A: Allocator> {
-    pub(crate) seat: Place<M, W, A>,
+    pub(crate) seat: BoxSeat<M, W, A>,
 }
 
 impl<M: Mail<W>, W, A: Allocator> Model for BoxTold<M, W, A> {

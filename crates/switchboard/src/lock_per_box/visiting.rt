@@ -8,7 +8,7 @@ ghost use Rattle.post_ledger.specs.declared.event.Event.{Event};
 ghost use Rattle.switchboard.specs.Knowing.{hand_at};
 ghost use Rattle.switchboard.specs.PerBox.{word_of, IsBoxOf, CanDraw, IsInside, LeavesOneEvent, TellsOrder};
 
-use crate::lock_per_box::outstanding::{Boards, Place};
+use crate::lock_per_box::outstanding::{Boards, BoxSeat};
 use crate::mail::Mail;
 use post_ledger::Mailbox;
 use std::alloc::Allocator;
@@ -28,7 +28,7 @@ fn first_word(number: u8) -> usize
 pub(crate) fn enter_box<R: Wait, W, M: Mail<W>, A: Allocator>(
     rt: &R,
     shared: &Boards<M, W, A>,
-    seat: &mut Place<M, W, A>,
+    seat: &mut BoxSeat<M, W, A>,
     number: u8,
 ) -> Mailbox<M, A>
     requires table { IsBoxOf shared.now.key shared.now.table_id seat.old.table_id number }
@@ -42,7 +42,7 @@ pub(crate) fn enter_box<R: Wait, W, M: Mail<W>, A: Allocator>(
 /// Leaves the mailbox behind the one found, and serves the next ticket.
 pub(crate) fn leave_box<W, M: Mail<W>, A: Allocator>(
     shared: &Boards<M, W, A>,
-    seat: &mut Place<M, W, A>,
+    seat: &mut BoxSeat<M, W, A>,
     number: u8,
     mailbox: Mailbox<M, A>,
 )

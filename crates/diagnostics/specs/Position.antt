@@ -9,7 +9,7 @@ newlines bytes = count_by (λ byte. byte == 10) bytes
 -- The offset stands in the line that goes from `start` to `end`: no newline stands in it, one stands before it where it
 -- is not the first, and one behind it where it is not the last. The line's number is one more than the newlines before
 -- the offset, and the column one more than the bytes of the line before it; `behind` is the rest of the line.
-pub record IsPlace (text : List ℕ) (at line column : ℕ) (before behind : List ℕ) : Type 0 where
+pub record IsPosition (text : List ℕ) (at line column : ℕ) (before behind : List ℕ) : Type 0 where
   pub start : ℕ
   pub end : ℕ
   pub from : start ≤ at

@@ -1,6 +1,6 @@
 -- The line begins behind the last newline so far.
 use Rattle.std.proofs.Common.{◌≡◌, ◌-◌, ◌<◌, ◌≤◌, ℕ, get_or}
-use Rattle.diagnostics.proofs.place.start_of.Given as goal
+use Rattle.diagnostics.proofs.position.start_of.Given as goal
 
 abbrev pub invariant-loop-i : goal.invariant-loop-i
 invariant-loop-i l = record {

@@ -1,11 +1,11 @@
 //! Where an offset of a text stands, for a reader: its line, its column, and the line itself.
 
 ghost use Rattle.std.specs.Prelude.{◌≡◌, ◌≢◌, ◌-◌, ◌<◌, ◌≤◌, ℕ, length, slice_index};
-ghost use Rattle.diagnostics.specs.Place.{IsPlace, newlines};
+ghost use Rattle.diagnostics.specs.Position.{IsPosition, newlines};
 
 /// Where an offset of a text stands.
 #[derive(Clone, Copy, Debug)]
-pub(crate) struct Place<'a> {
+pub(crate) struct Position<'a> {
     /// The number of the line, counted from 1.
     pub line: usize,
     /// The number of the byte in the line, counted from 1.
@@ -57,13 +57,13 @@ fn end_of(text: &[u8], at: usize) -> usize
 }
 
 /// Where an offset stands.
-pub(crate) fn place_of<'a>(text: &'a [u8], at: usize) -> Place<'a>
+pub(crate) fn position_of<'a>(text: &'a [u8], at: usize) -> Position<'a>
     requires { at ≤ length text.now }
-    ensures { IsPlace text.now at result.line result.column result.before.now result.behind.now }
+    ensures { IsPosition text.now at result.line result.column result.before.now result.behind.now }
 {
     let start = start_of(text, at);
     let end = end_of(text, at);
-    Place {
+    Position {
         line: newlines_in(&text[..at]) + 1,
         column: at - start + 1,
         before: &text[start..at],
