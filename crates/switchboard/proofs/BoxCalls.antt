@@ -180,7 +180,7 @@ module _ {M W : Type 0} (fits : W → ℕ → M → Type 0) where
       is_base = ap (λ l. get_elem? l 0) board ∙ p.is_base;
       world = p.world;
       mailboxes = p.mailboxes;
-      sized = subst (λ i. Rattle.switchboard.specs.PerBox.IsSized i boxes) (sym same) p.sized;
+      sized = subst (λ i. Rattle.switchboard.specs.PerBox.IsBoardTable i boxes) (sym same) p.sized;
       near = p.near;
       lanes = lanes;
       outside = out;
