@@ -1,7 +1,7 @@
 -- What a worker knows after each call of its board and of its table.
 use Rattle.std.proofs.Common.{◌≡◌, ◌≢◌, ◌⊎◌, inl, inr, ℕ, ◌<◌, ◌∷◌, ◌++◌, [], List, Some, None, Ok, Err}
 use Rattle.std.proofs.Common.{length, slice_get}
-use Rattle.std.proofs.Common.{refl, sym, ap, ◌∙◌, subst, arith, true, false, MatchOption}
+use Rattle.std.proofs.Common.{refl, sym, ap, ◌∙◌, subst, arith, false, MatchOption}
 use Rattle.std.specs.Prelude.{◌↔◌, Option, Result, IsSome, IsErrAnd, MatchResult}
 use Rattle.std.specs.Option.{ForSome}
 use Rattle.atomic_table.specs.Seated.{TableId}
@@ -48,7 +48,6 @@ use Rattle.switchboard.specs.Promises as promises
 use Rattle.switchboard.proofs.Jobs.{kept_none, kept_added, job_new, no_done_post}
 use Rattle.procedure_worker.specs.declared.outcome.End.{End}
 use Rattle.procedure_worker.specs.declared.outcome.End.TheVariants as end
-use Rattle.procedure_worker.specs.declared.room.NoRoom.{NoRoom}
 use Rattle.procedure_worker.specs.declared.stop.Finish.{Finish}
 use Rattle.procedure_worker.specs.declared.stop.Finish.TheVariants as finish
 use Rattle.procedure_worker.specs.declared.stop.Reason.{Reason}
@@ -63,10 +62,6 @@ use Rattle.procedure_worker.specs.Works.{EndsSo, IsReady, IsTaking, IsDealing, I
 use Rattle.procedure_worker.specs.Works.{Failed, Completes, StopsSo, StoppedFor, IsAtFault, IsFounded}
 use Rattle.procedure_worker.specs.Works.{mails_of, cause_for}
 use Rattle.procedure_worker.proofs.Lists.{taken_post, taken_take, taken_done, posted_post, posted_take, posted_done}
-
--- what a worker began with, by what its pass and its table show
-abbrev pub own_start : {G A S : Type 0} → Sight Due (Graphs G) → Worker G A S → TableId → Start G
-own_start s w board = record { graphs = s.seen.world; number = w.number; limit = limit_of w.table; board = board }
 
 -- what is said of an error holds of an answer that is this error
 pub match_err : {T E : Type 0} (r : Result T E) (e : E) (P : T → Type 0) (Q : E → Type 0)
@@ -155,7 +150,7 @@ module _ {G : Type 0} (b : Start G) where
       let (m, is_due, e) = due i is in
       let (routine, there) = due_there program to m is_due in
       let below : to < length program.routines = slice_get_within program.routines to routine there in
-      omega (arith, below, k.boxes, k.drawn.1.2.0)
+      let are = k.drawn.1 in omega (arith, below, k.boxes, are.2.0)
 
   -- The job goes on where no event was made.
   job_none : (job : ℕ) (s t : Sight Due (Graphs G)) → IsPassOf b s → MadeNone FitsIn s t
@@ -183,7 +178,7 @@ module _ {G : Type 0} (b : Start G) where
     }
 
     -- no event was made
-    pub stands_none : (s t : Sight Due (Graphs G)) (x : Table G A S) (took : List Due) (sent : List (ℕ × Due))
+    stands_none : (s t : Sight Due (Graphs G)) (x : Table G A S) (took : List Due) (sent : List (ℕ × Due))
         → Stands b members s x took sent →
         MadeNone FitsIn s t → Stands b members t x took sent
     stands_none s t x took sent k m = stands_same s t x took sent k m.goes (own_none s t k.pass m)
@@ -244,7 +239,7 @@ module _ {G : Type 0} (b : Start G) where
         }
 
     -- The worker aborted the board.
-    pub failed_ends : (why : Reason) (e : Finish) (s t : Sight Due (Graphs G)) (x : Table G A S) (took : List Due)
+    failed_ends : (why : Reason) (e : Finish) (s t : Sight Due (Graphs G)) (x : Table G A S) (took : List Due)
         (sent : List (ℕ × Due)) →
         Stands b members s x took sent → s.made ≡ false → HasStood b (cause_of why) s
         → IsAtFault (end.Failed (cause_of why)) x → Failed FitsIn why e s t
@@ -255,19 +250,17 @@ module _ {G : Type 0} (b : Start G) where
         ((stands_abort c s t x took sent k f.1, has_failed c s t k.pass made stood f.1), fault)
 
     -- The message is completed, and all that is implied was posted: the worker is ready, or was without a call.
-    pub complete_ends : (job : ℕ) (r : Option Finish) (s t : Sight Due (Graphs G)) (w : Worker G A S)
-        → IsDealing b members job s w →
-        IsQuiet members w.table → Completes FitsIn job r s t →
-        MatchOption r (IsReady b members t w) (λ e. HasStopped b members e t w)
-    complete_ends job None s t w d quiet done =
+    pub complete_ends : {P : Type 0} (job : ℕ) (r : Option Finish) (s t : Sight Due (Graphs G)) (w : Worker P G A S) (pass : P)
+        → IsDealing b members job s w → IsQuiet members w.table → Completes FitsIn job r s t
+        → MatchOption r (IsReady b members t (record w { pass = pass }))
+        (λ e. HasStopped b members e t (record w { pass = pass }))
+    complete_ends job None s t w pass d quiet done =
         let g = d.sent.0 in record {
-          number = d.number;
           served = (
             (
               record {
                 stands = stands_done job s t w.table w.takes.items w.posts.items g.stands done;
-                made =
-                    done.made ∙ g.made;
+                made = done.made ∙ g.made;
                 whole = g.whole;
                 all = g.all;
               },
@@ -276,13 +269,13 @@ module _ {G : Type 0} (b : Start G) where
             quiet,
           );
         }
-    complete_ends job (Some e) s t w d quiet failed =
+    complete_ends job (Some e) s t w pass d quiet failed =
         let g = d.sent.0 in
         failed_ends reason.Spent e s t w.table w.takes.items w.posts.items g.stands g.made failed.0
         (not_at_fault (end.Failed cause.Spent) w.table g.whole) failed.1
 
     -- The worker stops, for its reason.
-    pub stopped_ends : (job : ℕ) (why : Stop) (e : Finish) (s t : Sight Due (Graphs G)) (w : Worker G A S)
+    pub stopped_ends : {P : Type 0} (job : ℕ) (why : Stop) (e : Finish) (s t : Sight Due (Graphs G)) (w : Worker P G A S)
         → IsStopped b members job why s w →
         StopsSo FitsIn job why e s t → HasStopped b members e t w
     stopped_ends job stop.Aborted e s t w k so = elim so [
@@ -342,7 +335,7 @@ module _ {G : Type 0} (b : Start G) where
         subst (HasMoreEdges p b.number) k.limit (over_limit members p b.number x (k.table p drawn) failed)
 
     -- The table has answered a message, which is due and is posted next.
-    pub answered_sending : (job to : ℕ) (d : Due) (s : Sight Due (Graphs G)) (w : Worker G A S) (y : Table G A S) →
+    pub answered_sending : {P : Type 0} (job to : ℕ) (d : Due) (s : Sight Due (Graphs G)) (w : Worker P G A S) (y : Table G A S) →
         IsDealing b members job s w → KeepsTable members None w.table y → IsAnswer w.table y to d →
         IsSending b members job to d s (record w { table = y })
     answered_sending job to d s w y deals keeps answer =
@@ -352,7 +345,6 @@ module _ {G : Type 0} (b : Start G) where
         let p = pass.drawn.0 in
         let due : IsDueFor p to d = answer_due members p b.number y (stands.table p pass.drawn.1) w.table to d answer in
         record {
-          number = deals.number;
           goes = record {
             stands = stands;
             made = g.made;
@@ -366,34 +358,13 @@ module _ {G : Type 0} (b : Start G) where
           has = deals.has;
         }
 
-    -- The table has answered all that it owes.
-    pub answered_all : (job : ℕ) (s : Sight Due (Graphs G)) (w : Worker G A S) (y : Table G A S)
-        → IsDealing b members job s w →
-        KeepsTable members None w.table y → answers_of y ≡ answers_of w.table → IsDealing b members job s
-        (record w { table = y })
-    answered_all job s w y deals keeps none =
-        let g = deals.sent.0 in record {
-          number = deals.number;
-          sent = (
-            record {
-              stands = stands_keeps None s w.table y w.takes.items w.posts.items g.stands keeps;
-              made = g.made;
-              whole = keeps.fault;
-              all = λ i h. same_taken w.table.found y.found keeps.taken i (g.all i h);
-            },
-            deals.sent.1 ∙ sym none,
-          );
-          has = deals.has;
-        }
-
     -- The table has failed.
-    table_stops : (job : ℕ) (f : TableFault) (why : Reason) (s : Sight Due (Graphs G)) (w : Worker G A S)
+    table_stops : {P : Type 0} (job : ℕ) (f : TableFault) (why : Reason) (s : Sight Due (Graphs G)) (w : Worker P G A S)
         (y : Table G A S) → cause_of why ≡ cause_for f → IsDealing b members job s w → KeepsTable members (Some f) w.table y →
         IsStopped b members job (stop.Failed why) s (record w { table = y })
     table_stops job f why s w y same deals keeps =
         let g = deals.sent.0 in
         let stands = stands_keeps (Some f) s w.table y w.takes.items w.posts.items g.stands keeps in record {
-          number = deals.number;
           stands = stands;
           made = g.made;
           has = deals.has;
@@ -402,7 +373,7 @@ module _ {G : Type 0} (b : Start G) where
           fault = subst (λ c. IsAtFault (end.Failed c) y) (sym same) (at_fault f y keeps.fault);
         }
 
-    pub answered_fault : (job : ℕ) (why : Reason) (s : Sight Due (Graphs G)) (w : Worker G A S) (y : Table G A S) →
+    pub answered_fault : {P : Type 0} (job : ℕ) (why : Reason) (s : Sight Due (Graphs G)) (w : Worker P G A S) (y : Table G A S) →
         IsDealing b members job s w → FailsFor why (λ f. KeepsTable members (Some f) w.table y) →
         IsStopped b members job (stop.Failed why) s (record w { table = y })
     answered_fault job reason.Spent s w y deals failed = absurd failed
@@ -412,19 +383,18 @@ module _ {G : Type 0} (b : Start G) where
         table_stops job fault.Memory (reason.NoRoom witness) s w y refl deals failed
 
     -- The message is posted.
-    pub sent_dealing : (job to : ℕ) (d : Due) (s t : Sight Due (Graphs G)) (v w : Worker G A S)
+    pub sent_dealing : {P : Type 0} (job to : ℕ) (d : Due) (s t : Sight Due (Graphs G)) (v w : Worker P G A S)
         → IsSending b members job to d s v →
-        WasPosted FitsIn job to d s t → w.number ≡ v.number → w.table ≡ v.table → w.takes ≡ v.takes
+        WasPosted FitsIn job to d s t → w.table ≡ v.table → w.takes ≡ v.takes
         → w.posts.items ≡ v.posts.items ++ (to, d) ∷ [] →
         IsDealing b members job t w
-    sent_dealing job to d s t v w k p number table takes posts =
+    sent_dealing job to d s t v w k p table takes posts =
         let g = k.goes in
         let still = stands_post job to d s t v.table v.takes.items v.posts.items g.stands p in
         let whole : HasSent b members t v.table v.takes.items (v.posts.items ++ (to, d) ∷ []) = (
           record { stands = still; made = p.0.made ∙ g.made; whole = g.whole; all = g.all },
           map-append (λ (x : ℕ × Due). mail x.0 x.1) v.posts.items ((to, d) ∷ []) ∙ k.but,
         ) in record {
-          number = number ∙ k.number;
           sent = subst (λ l. HasSent b members t w.table w.takes.items l) (sym posts)
               (subst (λ l. HasSent b members t w.table l.items (v.posts.items ++ (to, d) ∷ [])) (sym takes)
               (subst (λ x. HasSent b members t x v.takes.items (v.posts.items ++ (to, d) ∷ [])) (sym table) whole));
@@ -434,7 +404,7 @@ module _ {G : Type 0} (b : Start G) where
         }
 
     -- What stands holds of a worker with the same lists and the same table.
-    stands_like : (t : Sight Due (Graphs G)) (v w : Worker G A S)
+    stands_like : {P : Type 0} (t : Sight Due (Graphs G)) (v w : Worker P G A S)
         → Stands b members t v.table v.takes.items v.posts.items → w.table ≡ v.table →
         w.takes.items ≡ v.takes.items → w.posts.items ≡ v.posts.items
         → Stands b members t w.table w.takes.items w.posts.items
@@ -444,12 +414,11 @@ module _ {G : Type 0} (b : Start G) where
         (subst (λ x. Stands b members t x v.takes.items v.posts.items) (sym table) stands))
 
     -- The worker stops before the post, or at a post that made no event.
-    sending_stopped : (job to : ℕ) (d : Due) (why : Stop) (s : Sight Due (Graphs G)) (v w : Worker G A S)
+    sending_stopped : {P : Type 0} (job to : ℕ) (d : Due) (why : Stop) (s : Sight Due (Graphs G)) (v w : Worker P G A S)
         → IsSending b members job to d s v → StoppedFor b why s →
-        w.number ≡ v.number → w.table ≡ v.table → w.takes ≡ v.takes → w.posts.items ≡ v.posts.items →
+        w.table ≡ v.table → w.takes ≡ v.takes → w.posts.items ≡ v.posts.items →
         IsStopped b members job why s w
-    sending_stopped job to d why s v w k stands number table takes posts = record {
-      number = number ∙ k.number;
+    sending_stopped job to d why s v w k stands table takes posts = record {
       stands = stands_like s v w k.goes.stands table (ap (λ l. l.items) takes) posts;
       made = k.goes.made;
       has = k.has;
@@ -457,14 +426,13 @@ module _ {G : Type 0} (b : Start G) where
       fault = not_at_fault (end_at why) w.table (ap failure table ∙ k.goes.whole);
     }
 
-    sending_none : (job to : ℕ) (d : Due) (why : Stop) (s t : Sight Due (Graphs G)) (v w : Worker G A S)
+    sending_none : {P : Type 0} (job to : ℕ) (d : Due) (why : Stop) (s t : Sight Due (Graphs G)) (v w : Worker P G A S)
         → IsSending b members job to d s v →
-        MadeNone FitsIn s t → StoppedFor b why t → w.number ≡ v.number → w.table ≡ v.table → w.takes ≡ v.takes
+        MadeNone FitsIn s t → StoppedFor b why t → w.table ≡ v.table → w.takes ≡ v.takes
         → w.posts.items ≡ v.posts.items →
         IsStopped b members job why t w
-    sending_none job to d why s t v w k m stopped number table takes posts =
+    sending_none job to d why s t v w k m stopped table takes posts =
         let g = k.goes in record {
-          number = number ∙ k.number;
           stands = stands_like t v w (stands_none s t v.table v.takes.items v.posts.items g.stands m) table
               (ap (λ l. l.items) takes) posts;
           made = m.made ∙ g.made;
@@ -473,40 +441,31 @@ module _ {G : Type 0} (b : Start G) where
           fault = not_at_fault (end_at why) w.table (ap failure table ∙ g.whole);
         }
 
-    -- The worker was without memory before the post.
-    pub sending_starved : (job to : ℕ) (d : Due) (witness : NoRoom) (s : Sight Due (Graphs G)) (v w : Worker G A S)
-        → IsSending b members job to d s v →
-        w.number ≡ v.number → w.table ≡ v.table → w.takes ≡ v.takes → w.posts.items ≡ v.posts.items →
-        IsStopped b members job (stop.Failed (reason.NoRoom witness)) s w
-    sending_starved job to d witness s v w k number table takes posts =
-        sending_stopped job to d (stop.Failed (reason.NoRoom witness)) s v w k tt number table takes posts
-
     -- The post was refused.
-    pub sending_refused : (job to : ℕ) (d : Due) (why : Stop) (s t : Sight Due (Graphs G)) (v w : Worker G A S)
+    pub sending_refused : {P : Type 0} (job to : ℕ) (d : Due) (why : Stop) (s t : Sight Due (Graphs G)) (v w : Worker P G A S)
         → IsSending b members job to d s v → RefusedFor FitsIn why s t →
-        w.number ≡ v.number → w.table ≡ v.table → w.takes ≡ v.takes → w.posts.items ≡ v.posts.items →
+        w.table ≡ v.table → w.takes ≡ v.takes → w.posts.items ≡ v.posts.items →
         IsStopped b members job why t w
-    sending_refused job to d stop.Aborted s t v w k refused number table takes posts =
-        sending_none job to d stop.Aborted s t v w k refused.0.0 refused.1 number table takes posts
-    sending_refused job to d (stop.Failed reason.Spent) s t v w k spent number table takes posts =
+    sending_refused job to d stop.Aborted s t v w k refused table takes posts =
+        sending_none job to d stop.Aborted s t v w k refused.0.0 refused.1 table takes posts
+    sending_refused job to d (stop.Failed reason.Spent) s t v w k spent table takes posts =
         subst (λ z. IsStopped b members job (stop.Failed reason.Spent) z w) (sym spent.1)
-        (sending_stopped job to d (stop.Failed reason.Spent) s v w k spent.0 number table takes posts)
-    sending_refused job to d (stop.Failed reason.EdgeLimit) s t v w k refused number table takes posts = absurd refused
-    sending_refused job to d (stop.Failed (reason.NoRoom witness)) s t v w k refused number table takes posts =
-        sending_none job to d (stop.Failed (reason.NoRoom witness)) s t v w k refused.0.0 tt number table takes posts
+        (sending_stopped job to d (stop.Failed reason.Spent) s v w k spent.0 table takes posts)
+    sending_refused job to d (stop.Failed reason.EdgeLimit) s t v w k refused table takes posts = absurd refused
+    sending_refused job to d (stop.Failed (reason.NoRoom witness)) s t v w k refused table takes posts =
+        sending_none job to d (stop.Failed (reason.NoRoom witness)) s t v w k refused.0.0 tt table takes posts
 
     -- The pass took a message, which the table is to take.
-    pub took_taking : (job : ℕ) (d : Due) (s t : Sight Due (Graphs G)) (v w : Worker G A S) → IsReady b members s v
+    pub took_taking : {P : Type 0} (job : ℕ) (d : Due) (s t : Sight Due (Graphs G)) (v w : Worker P G A S) → IsReady b members s v
         → promises.TookOldest FitsIn job d s t →
-        w.number ≡ v.number → w.table ≡ v.table → w.takes.items ≡ v.takes.items ++ d ∷ [] → w.posts ≡ v.posts →
+        w.table ≡ v.table → w.takes.items ≡ v.takes.items ++ d ∷ [] → w.posts ≡ v.posts →
         IsTaking b members job d t w
-    took_taking job d s t v w ready m number table takes posts =
+    took_taking job d s t v w ready m table takes posts =
         let g = ready.served.0.0 in
         let still = stands_take job d s t v.table v.takes.items v.posts.items g.stands m in
         let here = subst (λ l. Stands b members t w.table w.takes.items l) (sym (ap (λ l. l.items) posts))
         (subst (λ l. Stands b members t w.table l v.posts.items) (sym takes)
         (subst (λ x. Stands b members t x (v.takes.items ++ d ∷ []) v.posts.items) (sym table) still)) in record {
-          number = number ∙ ready.number;
           stands = here;
           made = m.added.made ∙ g.made;
           whole = ap failure table ∙ g.whole;
@@ -520,8 +479,8 @@ module _ {G : Type 0} (b : Start G) where
         }
 
     -- The table was given the message, and so answers.
-    given_stands : (d : Due) {T : Type 0} (answer : Result T TableFault) (job : ℕ) (s : Sight Due (Graphs G))
-        (w : Worker G A S) (y : Table G A S) →
+    given_stands : {P : Type 0} (d : Due) {T : Type 0} (answer : Result T TableFault) (job : ℕ) (s : Sight Due (Graphs G))
+        (w : Worker P G A S) (y : Table G A S) →
         IsTaking b members job d s w → TableTakes members d answer w.table y
         → Stands b members s y w.takes.items w.posts.items
     given_stands d answer job s w y k given = record {
@@ -550,12 +509,11 @@ module _ {G : Type 0} (b : Start G) where
     }
 
     -- The table took the message.
-    pub given_dealing : (d : Due) {T : Type 0} (x : T) (job : ℕ) (s : Sight Due (Graphs G)) (w : Worker G A S)
+    pub given_dealing : {P : Type 0} (d : Due) {T : Type 0} (x : T) (job : ℕ) (s : Sight Due (Graphs G)) (w : Worker P G A S)
         (y : Table G A S) →
         IsTaking b members job d s w → TableTakes members d (Ok x) w.table y → IsDealing b members job s
         (record w { table = y })
     given_dealing d x job s w y k given = record {
-      number = k.number;
       sent = (
         record {
           stands = given_stands d (Ok x) job s w y k given;
@@ -573,8 +531,8 @@ module _ {G : Type 0} (b : Start G) where
     }
 
     -- The table failed at the message.
-    taking_stops : (d : Due) {T : Type 0} (f : TableFault) (why : Reason) (job : ℕ) (e : Finish)
-        (s t : Sight Due (Graphs G)) (w : Worker G A S) (y : Table G A S) → cause_of why ≡ cause_for f →
+    taking_stops : {P : Type 0} (d : Due) {T : Type 0} (f : TableFault) (why : Reason) (job : ℕ) (e : Finish)
+        (s t : Sight Due (Graphs G)) (w : Worker P G A S) (y : Table G A S) → cause_of why ≡ cause_for f →
         IsTaking b members job d s w → TableTakes members d {T = T} (Err f) w.table y → Failed FitsIn why e s t →
         HasStopped b members e t (record w { table = y })
     taking_stops d {T} f why job e s t w y same k given failed =
@@ -583,8 +541,8 @@ module _ {G : Type 0} (b : Start G) where
         (subst (λ c. HasStood b c s) (sym same) (fault_stood f s s y w.takes.items w.posts.items stands given.fault))
         (subst (λ c. IsAtFault (end.Failed c) y) (sym same) (at_fault f y given.fault)) failed
 
-    pub given_fault : (d : Due) (T : Type 0) (why : Reason) (job : ℕ) (e : Finish) (s t : Sight Due (Graphs G))
-        (w : Worker G A S) (y : Table G A S) →
+    pub given_fault : {P : Type 0} (d : Due) (T : Type 0) (why : Reason) (job : ℕ) (e : Finish) (s t : Sight Due (Graphs G))
+        (w : Worker P G A S) (y : Table G A S) →
         IsTaking b members job d s w → TakesOrFails members {T = T} d (Err why) w.table y → Failed FitsIn why e s t →
         HasStopped b members e t (record w { table = y })
     given_fault d T reason.Spent job e s t w y k given failed = absurd given
@@ -593,67 +551,13 @@ module _ {G : Type 0} (b : Start G) where
     given_fault d T (reason.NoRoom witness) job e s t w y k given failed =
         taking_stops d {T = T} fault.Memory (reason.NoRoom witness) job e s t w y refl k given failed
 
-    -- The pass found no message.
-    pub looked_ready : (s t : Sight Due (Graphs G)) (v w : Worker G A S) → IsReady b members s v → MadeNone FitsIn s t
-        → w.number ≡ v.number →
-        w.table ≡ v.table → w.takes.items ≡ v.takes.items → w.posts ≡ v.posts → IsReady b members t w
-    looked_ready s t v w ready m number table takes posts =
-        let g = ready.served.0.0 in record {
-          number = number ∙ ready.number;
-          served = (
-            (
-              record {
-                stands = stands_like t v w
-                    (stands_none s t v.table v.takes.items v.posts.items g.stands m) table takes
-                    (ap (λ l. l.items) posts);
-                made = m.made ∙ g.made;
-                whole = ap failure table ∙ g.whole;
-                all = λ i h. subst (λ x. TookMessage x.found i) (sym table)
-                    (g.all i (subst (Member (due_of i)) takes h));
-              },
-              ap (λ l. mails_of l.items) posts ∙ (ready.served.0.1 ∙ sym (ap answers_of table)),
-            ),
-            subst (IsQuiet members) (sym table) ready.served.1,
-          );
-        }
-
-    -- The pass knows the close.
-    pub looked_closed : (s t : Sight Due (Graphs G)) (v w : Worker G A S) → IsReady b members s v
-        → MadeNone FitsIn s t → t.knows ≡ true →
-        w.number ≡ v.number → w.table ≡ v.table → w.takes.items ≡ v.takes.items → w.posts ≡ v.posts
-        → HasStopped b members finish.Closed t w
-    looked_closed s t v w ready m known number table takes posts =
-        let served = (looked_ready s t v w ready m number table takes posts).served in
-        ((served, known, m.goes.close known), not_at_fault end.Closed w.table served.0.0.whole)
-
-    -- The board was aborted.
-    pub looked_aborted : (s t : Sight Due (Graphs G)) (v w : Worker G A S) → IsReady b members s v
-        → MadeNone FitsIn s t → IsSome t.seen.aborted →
-        w.number ≡ v.number → w.table ≡ v.table → w.takes.items ≡ v.takes.items → w.posts ≡ v.posts
-        → HasStopped b members finish.Aborted t w
-    looked_aborted s t v w ready m aborted number table takes posts =
-        let g = (looked_ready s t v w ready m number table takes posts).served.0.0 in
-        ((g.stands, g.made, aborted), not_at_fault end.Aborted w.table g.whole)
-
-    -- The worker fails between two messages.
-    pub ready_fails : (why : Reason) (e : Finish) (s t : Sight Due (Graphs G)) (v w : Worker G A S)
-        → IsReady b members s v → HasStood b (cause_of why) s →
-        Failed FitsIn why e s t → w.table ≡ v.table → w.takes.items ≡ v.takes.items → w.posts ≡ v.posts
-        → HasStopped b members e t w
-    ready_fails why e s t v w ready stood failed table takes posts =
-        let g = ready.served.0.0 in
-        failed_ends why e s t w.table w.takes.items w.posts.items (stands_like s v w g.stands table takes
-        (ap (λ l. l.items) posts)) g.made stood
-        (not_at_fault (end.Failed (cause_of why)) w.table (ap failure table ∙ g.whole)) failed
-
     -- A new worker is ready.
-    pub fresh_ready : (s : Sight Due (Graphs G)) (w : Worker G A S) → (p : Program) × AreDrawnFrom p
+    pub fresh_ready : {P : Type 0} (s : Sight Due (Graphs G)) (w : Worker P G A S) → (p : Program) × AreDrawnFrom p
         (graphs_of b.graphs) →
-        IsFresh b s → w.number ≡ b.number → IsNew members w.table → IsQuiet members w.table →
+        IsFresh b s → IsNew members w.table → IsQuiet members w.table →
         slice_get (graphs_of b.graphs) b.number ≡ Some (graph_of w.table) → procedure_of w.table ≡ b.number →
         limit_of w.table ≡ b.limit → w.takes.items ≡ [] → w.posts.items ≡ [] → IsReady b members s w
-    fresh_ready s w drawn fresh number new quiet graph procedure limit takes posts = record {
-      number = number;
+    fresh_ready s w drawn fresh new quiet graph procedure limit takes posts = record {
       served = (
         (
           record {
@@ -690,15 +594,6 @@ module _ {G : Type 0} (b : Start G) where
         quiet,
       );
     }
-
-    -- A worker that is ready tells what it began with.
-    pub own_is : (s : Sight Due (Graphs G)) (w : Worker G A S) → IsReady b members s w → own_start s w b.board ≡ b
-    own_is s w ready =
-        let k = ready.served.0.0.stands in
-        let world = k.pass.world in
-        let number = ready.number in
-        let limit = k.limit in
-        λ i. record { graphs = world i; number = number i; limit = limit i; board = b.board }
 
 -- a pass that has seen the opening alone
 pub new_fresh : {G : Type 0} (graphs : Graphs G) (board : TableId) (budget boxes number : ℕ) (limit : EdgeLimit)

@@ -46,8 +46,8 @@ end_at stop.Aborted = end.Aborted
 end_at (stop.Failed why) = end.Failed (cause_of why)
 
 module _ {M W : Type 0} (fits : W → ℕ → M → Type 0) where
-  -- a post was refused for this: no call was left; memory was refused, on a board that was not aborted; or the board was
-  -- aborted
+  -- a post was refused for this: no call was left; memory was refused, on a board that was not aborted; or the board
+  -- was aborted
   abbrev pub RefusedFor : Stop → Sight M W → Sight M W → Type 0
   RefusedFor stop.Aborted s t = Looked fits s t × IsSome t.seen.aborted
   RefusedFor (stop.Failed reason.Spent) s t = WasSpent s t

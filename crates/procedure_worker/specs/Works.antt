@@ -32,6 +32,7 @@ use Rattle.switchboard.specs.declared.calls.Cause.{Cause}
 use Rattle.switchboard.specs.declared.calls.Cause.TheVariants as cause
 use Rattle.switchboard.specs.Sights.{Sight, AllTaken, IsSound}
 use Rattle.switchboard.specs.Promises.{Looked, WasDone, MadeAbort}
+use Rattle.procedure_worker.specs.declared.desk.Desk.{Desk}
 use Rattle.procedure_worker.specs.declared.outcome.End.{End}
 use Rattle.procedure_worker.specs.declared.outcome.End.TheVariants as end
 use Rattle.procedure_worker.specs.declared.outcome.Outcome.{Outcome}
@@ -57,6 +58,10 @@ pub record Start (G : Type 0) : Type 0 where
 -- what a worker begins with, by the values that it is given
 abbrev pub begun : {G : Type 0} → Graphs G → ℕ → EdgeLimit → TableId → Start G
 begun graphs number limit board = record { graphs = graphs; number = number; limit = most_of limit; board = board }
+
+-- what a worker begins with, by its desk
+abbrev pub start_of : {R G B K : Type 0} → (B → TableId) → Desk R G B K → Start G
+start_of identity desk = begun desk.graphs.now desk.number desk.limit (identity desk.board.now)
 
 -- what was posted, as the table answers it
 abbrev pub mails_of : List (ℕ × Due) → List Mail
@@ -121,7 +126,8 @@ module _ {G : Type 0} (b : Start G) where
     pub world : s.seen.world ≡ b.graphs
     pub boxes : s.seen.boxes ≡ length (graphs_of b.graphs)
 
-  -- The pass is that of the procedure as its board gave it, opened by the starter's message: it has made no event and no abort.
+  -- The pass is that of the procedure as its board gave it, opened by the starter's message: it has made no event and
+  -- no abort.
   pub record IsFresh (s : Sight Due (Graphs G)) : Type 0 where
     pub board : s.board ≡ b.board
     pub number : s.number ≡ b.number
@@ -156,8 +162,7 @@ module _ {G : Type 0} (b : Start G) where
 
   module _ {A S : Type 0} (members : S → List Triple) where
     -- The table is that of the procedure, in each program that the graphs are drawn from, and has taken only what its
-    -- pass took;
-    -- what the pass took and posted is listed.
+    -- pass took; what the pass took and posted is listed.
     pub record Stands (s : Sight Due (Graphs G)) (t : Table G A S) (took : List Due)
         (sent : List (ℕ × Due)) : Type 0 where
       pub pass : IsPassOf s
@@ -183,9 +188,8 @@ module _ {G : Type 0} (b : Start G) where
     abbrev pub HasServed : Sight Due (Graphs G) → Table G A S → List Due → List (ℕ × Due) → Type 0
     HasServed s t took sent = HasSent s t took sent × IsQuiet members t
 
-    -- How a worker ends: at the close, which its pass knows, with all posted that the messages taken imply; at
-    -- another pass's
-    -- abort; or at an abort of its own.
+    -- How a worker ends: at the close, which its pass knows, with all posted that the messages taken imply; at another
+    -- pass's abort; or at an abort of its own.
     abbrev pub EndsSo : End → Sight Due (Graphs G) → Table G A S → List Due → List (ℕ × Due) → Type 0
     EndsSo end.Closed s t took sent = HasServed s t took sent × (s.knows ≡ true) × IsClosed s.seen.order
     EndsSo end.Aborted s t took sent = Stands s t took sent × (s.made ≡ false) × IsSome s.seen.aborted
@@ -196,48 +200,44 @@ module _ {G : Type 0} (b : Start G) where
     HasEnded s o =
         (t : Table G A S) × (o.table ≡ Some t) × EndsSo o.end s t o.takes.items o.posts.items × IsFounded o.end o.lack t
 
-    -- The worker between two takes.
-    pub record IsReady (s : Sight Due (Graphs G)) (w : Worker G A S) : Type 0 where
-      pub number : w.number ≡ b.number
-      pub served : HasServed s w.table w.takes.items w.posts.items
+    module _ {P : Type 0} where
+      -- The worker between two takes.
+      pub record IsReady (s : Sight Due (Graphs G)) (w : Worker P G A S) : Type 0 where
+        pub served : HasServed s w.table w.takes.items w.posts.items
 
-    -- The worker has taken a message, which its table is to take next.
-    pub record IsTaking (job : ℕ) (d : Due) (s : Sight Due (Graphs G)) (w : Worker G A S) : Type 0 where
-      pub number : w.number ≡ b.number
-      pub stands : Stands s w.table w.takes.items w.posts.items
-      pub made : s.made ≡ false
-      pub whole : failure w.table ≡ None
-      pub before : List Due
-      pub last : w.takes.items ≡ before ++ d ∷ []
-      pub all : (k : NumberedMessage) → Member (due_of k) before → TookMessage w.table.found k
-      pub sent : mails_of w.posts.items ≡ answers_of w.table
-      pub fits : FitsIn s.seen.world b.number d
-      pub has : HasJob b.number job s.seen.order
+      -- The worker has taken a message, which its table is to take next.
+      pub record IsTaking (job : ℕ) (d : Due) (s : Sight Due (Graphs G)) (w : Worker P G A S) : Type 0 where
+        pub stands : Stands s w.table w.takes.items w.posts.items
+        pub made : s.made ≡ false
+        pub whole : failure w.table ≡ None
+        pub before : List Due
+        pub last : w.takes.items ≡ before ++ d ∷ []
+        pub all : (k : NumberedMessage) → Member (due_of k) before → TookMessage w.table.found k
+        pub sent : mails_of w.posts.items ≡ answers_of w.table
+        pub fits : FitsIn s.seen.world b.number d
+        pub has : HasJob b.number job s.seen.order
 
-    -- The worker has a job, and has posted all that its table answered.
-    pub record IsDealing (job : ℕ) (s : Sight Due (Graphs G)) (w : Worker G A S) : Type 0 where
-      pub number : w.number ≡ b.number
-      pub sent : HasSent s w.table w.takes.items w.posts.items
-      pub has : HasJob b.number job s.seen.order
+      -- The worker has a job, and has posted all that its table answered.
+      pub record IsDealing (job : ℕ) (s : Sight Due (Graphs G)) (w : Worker P G A S) : Type 0 where
+        pub sent : HasSent s w.table w.takes.items w.posts.items
+        pub has : HasJob b.number job s.seen.order
 
-    -- The worker has a job, and all that its table answered is posted but this message, which is due there.
-    pub record IsSending (job to : ℕ) (d : Due) (s : Sight Due (Graphs G)) (w : Worker G A S) : Type 0 where
-      pub number : w.number ≡ b.number
-      pub goes : Goes s w.table w.takes.items w.posts.items
-      pub but : mails_of w.posts.items ++ mail to d ∷ [] ≡ answers_of w.table
-      pub near : to < s.seen.boxes
-      pub fits : FitsIn s.seen.world to d
-      pub has : HasJob b.number job s.seen.order
+      -- The worker has a job, and all that its table answered is posted but this message, which is due there.
+      pub record IsSending (job to : ℕ) (d : Due) (s : Sight Due (Graphs G)) (w : Worker P G A S) : Type 0 where
+        pub goes : Goes s w.table w.takes.items w.posts.items
+        pub but : mails_of w.posts.items ++ mail to d ∷ [] ≡ answers_of w.table
+        pub near : to < s.seen.boxes
+        pub fits : FitsIn s.seen.world to d
+        pub has : HasJob b.number job s.seen.order
 
-    -- The worker has a job, and stops for this reason.
-    pub record IsStopped (job : ℕ) (why : Stop) (s : Sight Due (Graphs G)) (w : Worker G A S) : Type 0 where
-      pub number : w.number ≡ b.number
-      pub stands : Stands s w.table w.takes.items w.posts.items
-      pub made : s.made ≡ false
-      pub has : HasJob b.number job s.seen.order
-      pub reason : StoppedFor why s
-      pub fault : IsAtFault (end_at why) w.table
+      -- The worker has a job, and stops for this reason.
+      pub record IsStopped (job : ℕ) (why : Stop) (s : Sight Due (Graphs G)) (w : Worker P G A S) : Type 0 where
+        pub stands : Stands s w.table w.takes.items w.posts.items
+        pub made : s.made ≡ false
+        pub has : HasJob b.number job s.seen.order
+        pub reason : StoppedFor why s
+        pub fault : IsAtFault (end_at why) w.table
 
-    -- The worker has ended, for its table's fault where that has failed.
-    abbrev pub HasStopped : Finish → Sight Due (Graphs G) → Worker G A S → Type 0
-    HasStopped e s w = EndsSo (end_of e) s w.table w.takes.items w.posts.items × IsAtFault (end_of e) w.table
+      -- The worker has ended, for its table's fault where that has failed.
+      abbrev pub HasStopped : Finish → Sight Due (Graphs G) → Worker P G A S → Type 0
+      HasStopped e s w = EndsSo (end_of e) s w.table w.takes.items w.posts.items × IsAtFault (end_of e) w.table

@@ -1,7 +1,8 @@
-//! The worker of one procedure: a thread of its own, which takes the messages of its mailbox, works on its table, and posts what
-//! the table answers, until all is done or something fails.
+//! The worker of one procedure: a thread of its own, which takes the messages of its mailbox, works on its table, and
+//! posts what the table answers, until all is done or something fails.
 #![tactic(auto)]
 
+mod desk;
 mod gate;
 mod laws;
 mod outcome;

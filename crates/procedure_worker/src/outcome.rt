@@ -16,8 +16,8 @@ pub enum End {
     Failed(Cause),
 }
 
-/// What a worker gives back: its table, how it ended, what shows that memory was refused, and the messages that its pass
-/// took and posted, each in order; a message posted stands with the number of its mailbox.
+/// What a worker gives back: its table, how it ended, what shows that memory was refused, and the messages that its
+/// pass took and posted, each in order; a message posted stands with the number of its mailbox.
 #[derive(Drop)]
 pub struct Outcome<'g, G: Allocator, A: Allocator, S: PathSet<A>> {
     /// None where the worker had no thread.

@@ -7,6 +7,7 @@ ghost use Rattle.summaries.specs.Fitting.{FitsIn};
 ghost use Rattle.summaries.specs.Tables.{IsTable, IsAnswer, IsQuiet, KeepsTable, answers_of};
 ghost use Rattle.procedure_worker.specs.Stops.{RefusedFor, FailsFor, TakesOrFails};
 
+use crate::desk::Desk;
 use crate::stop::{Reason, Stop};
 use flow_graph::Graphs;
 use path_sets::PathSet;
@@ -32,21 +33,20 @@ pub(crate) fn one_more<T, A: Allocator>(list: &mut Vec<T, A>) -> Result<(), NoRo
 }
 
 /// Posts a message, as the board does.
-pub(crate) fn post<R: Wait, G: Allocator, H: Allocator, B: Board<Due, Graphs<G>, H>>(
-    rt: &R,
-    board: &B,
+pub(crate) fn post<R: Wait, G: Allocator, H: Allocator, B: Board<Due, Graphs<G>, H>, K>(
+    desk: &Desk<'_, '_, R, G, B, K>,
     pass: &mut B::Pass,
     job: &Job,
     to: u8,
     due: Due,
 ) -> Result<(), Stop>
-    requires board { (B.sight pass.old).board ≡ B.identity board.now }
+    requires board { (B.sight pass.old).board ≡ B.identity desk.now.board.now }
     requires job { HasJob (B.sight pass.old).number job.now (B.sight pass.old).seen.order }
     requires fits { (to < (B.sight pass.old).seen.boxes) × FitsIn (B.sight pass.old).seen.world to due }
     ensures { MatchResult result (λ _. WasPosted FitsIn job.now to due (B.sight pass.old) (B.sight pass.new))
         (λ why. RefusedFor FitsIn why (B.sight pass.old) (B.sight pass.new)) }
 {
-    match board.post(rt, pass, job, to, due) {
+    match desk.board.post(desk.rt, pass, job, to, due) {
         Ok(()) => Ok(()),
         Err(PostFault::Spent(_)) => Err(Stop::Failed(Reason::Spent)),
         Err(PostFault::Memory(_)) => Err(Stop::Failed(Reason::NoRoom(NoRoom(())))),

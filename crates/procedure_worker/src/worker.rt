@@ -5,9 +5,10 @@ ghost use Rattle.std.specs.Option.{ForSome};
 ghost use Rattle.post_ledger.specs.Orders.{HasJob};
 ghost use Rattle.summaries.specs.Fitting.{FitsIn};
 ghost use Rattle.summaries.specs.Tables.{IsQuiet};
-ghost use Rattle.procedure_worker.specs.Works.{Start, IsReady, IsTaking, IsDealing, IsSending, IsStopped, HasStopped};
+ghost use Rattle.procedure_worker.specs.Works.{start_of, IsReady, IsTaking, IsDealing, IsSending, IsStopped, HasStopped};
 ghost use Rattle.procedure_worker.specs.Works.{Failed, Completes, StopsSo, MayGoOn};
 
+use crate::desk::Desk;
 use crate::gate::Gate;
 use crate::pause::pause;
 use crate::room::{deliver, next, one_more, post};
@@ -22,8 +23,8 @@ use ticket_lock::Spent;
 
 /// A worker between two calls of its board.
 #[derive(Drop)]
-pub(crate) struct Worker<'g, G: Allocator, A: Allocator, S: PathSet<A>> {
-    pub(crate) number: u8,
+pub(crate) struct Worker<'g, P, G: Allocator, A: Allocator, S: PathSet<A>> {
+    pub(crate) pass: P,
     pub(crate) table: Table<'g, G, A, S>,
     /// What its pass took, in order.
     pub(crate) takes: Vec<Due, A>,
@@ -34,106 +35,97 @@ pub(crate) struct Worker<'g, G: Allocator, A: Allocator, S: PathSet<A>> {
 }
 
 /// Aborts the board for this reason, with the job that the pass has, if it has one.
-fn fail<R: Wait, G: Allocator, H: Allocator, B: Board<Due, Graphs<G>, H>>(
-    rt: &R,
-    board: &B,
+fn fail<R: Wait, G: Allocator, H: Allocator, B: Board<Due, Graphs<G>, H>, K>(
+    desk: &Desk<'_, '_, R, G, B, K>,
     pass: &mut B::Pass,
     job: Option<Job>,
     why: Reason,
 ) -> Finish
-    requires board { (B.sight pass.old).board ≡ B.identity board.now }
+    requires board { (B.sight pass.old).board ≡ B.identity desk.now.board.now }
     requires job { ForSome job (λ j. HasJob (B.sight pass.old).number j (B.sight pass.old).seen.order) }
     ensures { Failed FitsIn why result (B.sight pass.old) (B.sight pass.new) }
 {
-    board.abort(rt, pass, job, why.cause());
+    desk.board.abort(desk.rt, pass, job, why.cause());
     Finish::Failed(why)
 }
 
 /// Completes the message of the job. Answers how the worker ended, if it did.
-fn complete<R: Wait, G: Allocator, H: Allocator, B: Board<Due, Graphs<G>, H>>(
-    rt: &R,
-    board: &B,
+fn complete<R: Wait, G: Allocator, H: Allocator, B: Board<Due, Graphs<G>, H>, K>(
+    desk: &Desk<'_, '_, R, G, B, K>,
     pass: &mut B::Pass,
     job: Job,
 ) -> Option<Finish>
-    requires board { (B.sight pass.old).board ≡ B.identity board.now }
+    requires board { (B.sight pass.old).board ≡ B.identity desk.now.board.now }
     requires job { HasJob (B.sight pass.old).number job (B.sight pass.old).seen.order }
     ensures { Completes FitsIn job result (B.sight pass.old) (B.sight pass.new) }
 {
-    match board.done(rt, pass, job) {
+    match desk.board.done(desk.rt, pass, job) {
         Ok(()) => None,
-        Err((job, Spent)) => Some(fail(rt, board, pass, Some(job), Reason::Spent)),
+        Err((job, Spent)) => Some(fail(desk, pass, Some(job), Reason::Spent)),
     }
 }
 
-/// Ends the work on a message, since it stops for this reason. The message of a board that another pass aborted is completed.
-fn give_up<R: Wait, G: Allocator, H: Allocator, B: Board<Due, Graphs<G>, H>>(
-    rt: &R,
-    board: &B,
+/// Ends the work on a message, since it stops for this reason. The message of a board that another pass aborted is
+/// completed.
+fn give_up<R: Wait, G: Allocator, H: Allocator, B: Board<Due, Graphs<G>, H>, K>(
+    desk: &Desk<'_, '_, R, G, B, K>,
     pass: &mut B::Pass,
     job: Job,
     why: Stop,
 ) -> Finish
-    requires board { (B.sight pass.old).board ≡ B.identity board.now }
+    requires board { (B.sight pass.old).board ≡ B.identity desk.now.board.now }
     requires job { HasJob (B.sight pass.old).number job (B.sight pass.old).seen.order }
     ensures { StopsSo FitsIn job why result (B.sight pass.old) (B.sight pass.new) }
 {
     match why {
-        Stop::Aborted => complete(rt, board, pass, job).unwrap_or(Finish::Aborted),
-        Stop::Failed(why) => fail(rt, board, pass, Some(job), why),
+        Stop::Aborted => complete(desk, pass, job).unwrap_or(Finish::Aborted),
+        Stop::Failed(why) => fail(desk, pass, Some(job), why),
     }
 }
 
-impl<'g, G: Allocator, A: Allocator, S: PathSet<A>> Worker<'g, G, A, S> {
+impl<'g, P, G: Allocator, A: Allocator, S: PathSet<A>> Worker<'g, P, G, A, S> {
     /// Posts a message that the table answered.
-    fn send<R: Wait, H: Allocator, B: Board<Due, Graphs<G>, H>, K: Gate>(
+    fn send<R: Wait, H: Allocator, B: Board<Due, Graphs<G>, H, Pass = P>, K: Gate>(
         &mut self,
-        rt: &R,
-        board: &B,
-        pass: &mut B::Pass,
+        desk: &Desk<'_, '_, R, G, B, K>,
         job: &Job,
         to: u8,
         due: Due,
-        gate: &K,
     ) -> Result<(), Stop>
-        ghost start: { Start G }
-        requires board { start.board ≡ B.identity board.now }
-        requires sending { IsSending start S.members job.now to due (B.sight pass.old) self.old }
-        ensures done { MatchResult result (λ _. IsDealing start S.members job.now (B.sight pass.new) self.new)
-            (λ why. IsStopped start S.members job.now why (B.sight pass.new) self.new) }
+        requires { IsSending (start_of B.identity desk.now) S.members job.now to due (B.sight self.old.pass) self.old }
+        ensures done { MatchResult result
+            (λ _. IsDealing (start_of B.identity desk.now) S.members job.now (B.sight self.new.pass) self.new)
+            (λ why. IsStopped (start_of B.identity desk.now) S.members job.now why (B.sight self.new.pass) self.new) }
         ensures takes { self.new.takes ≡ self.old.takes }
     {
         if let Err(witness) = one_more(&mut self.posts) {
             return Err(Stop::Failed(Reason::NoRoom(witness)));
         }
-        post(rt, board, pass, job, to, due)?;
+        post(desk, &mut self.pass, job, to, due)?;
         self.posts.push_reserved((to, due));
-        gate.posted(self.number, self.posts.len() as u64);
+        desk.gate.posted(desk.number, self.posts.len() as u64);
         Ok(())
     }
 }
 
-impl<'g, G: Allocator, A: Allocator + Copy, S: PathSet<A>> Worker<'g, G, A, S> {
+impl<'g, P, G: Allocator, A: Allocator + Copy, S: PathSet<A>> Worker<'g, P, G, A, S> {
     /// Posts the next message that the table owes. Answers whether there was one.
-    fn answer<R: Wait, H: Allocator, B: Board<Due, Graphs<G>, H>, K: Gate>(
+    fn answer<R: Wait, H: Allocator, B: Board<Due, Graphs<G>, H, Pass = P>, K: Gate>(
         &mut self,
-        rt: &R,
-        board: &B,
-        pass: &mut B::Pass,
+        desk: &Desk<'_, '_, R, G, B, K>,
         job: &Job,
-        gate: &K,
     ) -> Result<bool, Stop>
-        ghost start: { Start G }
-        requires board { start.board ≡ B.identity board.now }
-        requires dealing { IsDealing start S.members job.now (B.sight pass.old) self.old }
-        ensures dealing { OnOk result (IsDealing start S.members job.now (B.sight pass.new) self.new) }
+        requires { IsDealing (start_of B.identity desk.now) S.members job.now (B.sight self.old.pass) self.old }
+        ensures dealing { OnOk result
+            (IsDealing (start_of B.identity desk.now) S.members job.now (B.sight self.new.pass) self.new) }
         ensures none { IfOk result (λ more. OnFalse more (IsQuiet S.members self.new.table)) }
-        ensures stopped { IfErr result (λ why. IsStopped start S.members job.now why (B.sight pass.new) self.new) }
+        ensures stopped { IfErr result
+            (λ why. IsStopped (start_of B.identity desk.now) S.members job.now why (B.sight self.new.pass) self.new) }
         ensures takes { self.new.takes ≡ self.old.takes }
     {
         match next(&mut self.table) {
             Ok(Some((to, due))) => {
-                self.send(rt, board, pass, job, to, due, gate)?;
+                self.send(desk, job, to, due)?;
                 Ok(true)
             }
             Ok(None) => Ok(false),
@@ -142,89 +134,77 @@ impl<'g, G: Allocator, A: Allocator + Copy, S: PathSet<A>> Worker<'g, G, A, S> {
     }
 
     /// Posts all that the table owes, and completes the message. Answers how the worker ended, if it did.
-    fn deal<R: Wait, H: Allocator, B: Board<Due, Graphs<G>, H>, K: Gate>(
+    fn deal<R: Wait, H: Allocator, B: Board<Due, Graphs<G>, H, Pass = P>, K: Gate>(
         &mut self,
-        rt: &R,
-        board: &B,
-        pass: &mut B::Pass,
+        desk: &Desk<'_, '_, R, G, B, K>,
         job: Job,
-        gate: &K,
     ) -> Option<Finish>
-        ghost start: { Start G }
-        requires board { start.board ≡ B.identity board.now }
-        requires dealing { IsDealing start S.members job (B.sight pass.old) self.old }
-        ensures ends { MatchOption result (IsReady start S.members (B.sight pass.new) self.new)
-            (λ e. HasStopped start S.members e (B.sight pass.new) self.new) }
+        requires { IsDealing (start_of B.identity desk.now) S.members job (B.sight self.old.pass) self.old }
+        ensures ends { MatchOption result
+            (IsReady (start_of B.identity desk.now) S.members (B.sight self.new.pass) self.new)
+            (λ e. HasStopped (start_of B.identity desk.now) S.members e (B.sight self.new.pass) self.new) }
         ensures takes { self.new.takes ≡ self.old.takes }
     {
-        for _ in rt.forever() {
-            match self.answer(rt, board, pass, &job, gate) {
+        for _ in desk.rt.forever() {
+            match self.answer(desk, &job) {
                 Ok(true) => {}
-                Ok(false) => return complete(rt, board, pass, job),
-                Err(why) => return Some(give_up(rt, board, pass, job, why)),
+                Ok(false) => return complete(desk, &mut self.pass, job),
+                Err(why) => return Some(give_up(desk, &mut self.pass, job, why)),
             }
         }
         unreachable!()
     }
 
     /// The table takes a message, and all that it owes then is posted. Answers how the worker ended, if it did.
-    fn serve<R: Wait, H: Allocator, B: Board<Due, Graphs<G>, H>, K: Gate>(
+    fn serve<R: Wait, H: Allocator, B: Board<Due, Graphs<G>, H, Pass = P>, K: Gate>(
         &mut self,
-        rt: &R,
-        board: &B,
-        pass: &mut B::Pass,
+        desk: &Desk<'_, '_, R, G, B, K>,
         job: Job,
         due: Due,
-        gate: &K,
     ) -> Option<Finish>
-        ghost start: { Start G }
-        requires board { start.board ≡ B.identity board.now }
-        requires taking { IsTaking start S.members job due (B.sight pass.old) self.old }
-        ensures ends { MatchOption result (IsReady start S.members (B.sight pass.new) self.new)
-            (λ e. HasStopped start S.members e (B.sight pass.new) self.new) }
+        requires { IsTaking (start_of B.identity desk.now) S.members job due (B.sight self.old.pass) self.old }
+        ensures ends { MatchOption result
+            (IsReady (start_of B.identity desk.now) S.members (B.sight self.new.pass) self.new)
+            (λ e. HasStopped (start_of B.identity desk.now) S.members e (B.sight self.new.pass) self.new) }
         ensures takes { self.new.takes ≡ self.old.takes }
     {
         match deliver(&mut self.table, due) {
-            Ok(()) => self.deal(rt, board, pass, job, gate),
-            Err(why) => Some(fail(rt, board, pass, Some(job), why)),
+            Ok(()) => self.deal(desk, job),
+            Err(why) => Some(fail(desk, &mut self.pass, Some(job), why)),
         }
     }
 
-    /// Takes a message, if there is one, and works on it; where there is none, waits for a moment. Answers how the worker
-    /// ended, if it did: it goes on only where it took a message, or saw neither the close nor an abort.
-    pub(crate) fn turn<R: Wait, H: Allocator, B: Board<Due, Graphs<G>, H>, K: Gate>(
+    /// Takes a message, if there is one, and works on it; where there is none, waits for a moment. Answers how the
+    /// worker ended, if it did: it goes on only where it took a message, or saw neither the close nor an abort.
+    pub(crate) fn turn<R: Wait, H: Allocator, B: Board<Due, Graphs<G>, H, Pass = P>, K: Gate>(
         &mut self,
-        rt: &R,
-        board: &B,
-        pass: &mut B::Pass,
-        gate: &K,
+        desk: &Desk<'_, '_, R, G, B, K>,
     ) -> Option<Finish>
-        ghost start: { Start G }
-        requires board { start.board ≡ B.identity board.now }
-        requires ready { IsReady start S.members (B.sight pass.old) self.old }
-        ensures ends { MatchOption result (IsReady start S.members (B.sight pass.new) self.new)
-            (λ e. HasStopped start S.members e (B.sight pass.new) self.new) }
-        ensures goes { IfNone result (MayGoOn (B.sight pass.old) (B.sight pass.new)
+        requires { IsReady (start_of B.identity desk.now) S.members (B.sight self.old.pass) self.old }
+        ensures ends { MatchOption result
+            (IsReady (start_of B.identity desk.now) S.members (B.sight self.new.pass) self.new)
+            (λ e. HasStopped (start_of B.identity desk.now) S.members e (B.sight self.new.pass) self.new) }
+        ensures goes { IfNone result (MayGoOn (B.sight self.old.pass) (B.sight self.new.pass)
             self.old.takes.items self.new.takes.items) }
     {
         if let Err(witness) = one_more(&mut self.takes) {
-            return Some(fail(rt, board, pass, None, Reason::NoRoom(witness)));
+            return Some(fail(desk, &mut self.pass, None, Reason::NoRoom(witness)));
         }
-        match board.take(rt, pass) {
+        match desk.board.take(desk.rt, &mut self.pass) {
             Ok(Taken::Message(job, due)) => {
                 self.empty = 0;
                 self.takes.push_reserved(due);
-                gate.taken(self.number, self.takes.len() as u64);
-                self.serve(rt, board, pass, job, due, gate)
+                desk.gate.taken(desk.number, self.takes.len() as u64);
+                self.serve(desk, job, due)
             }
             Ok(Taken::Empty) => {
-                pause(rt, self.empty);
+                pause(desk.rt, self.empty);
                 self.empty = self.empty.saturating_add(1);
                 None
             }
             Ok(Taken::Closed) => Some(Finish::Closed),
             Ok(Taken::Aborted) => Some(Finish::Aborted),
-            Err(Spent) => Some(fail(rt, board, pass, None, Reason::Spent)),
+            Err(Spent) => Some(fail(desk, &mut self.pass, None, Reason::Spent)),
         }
     }
 }

@@ -5,6 +5,7 @@ ghost use Rattle.flow_graph.specs.Drawn.{graphs_of};
 ghost use Rattle.flow_graph.specs.Graphs.{AreDrawnFrom};
 ghost use Rattle.procedure_worker.specs.Works.{begun, IsFresh, HasEnded};
 
+use crate::desk::Desk;
 use crate::gate::Gate;
 use crate::outcome::Outcome;
 use crate::worker::Worker;
@@ -15,13 +16,13 @@ use std::sync::Wait;
 use summaries::{Due, EdgeLimit, Table};
 use switchboard::Board;
 
-/// Works for a procedure: takes one message of its mailbox, posts all that its table then owes, completes it, and begins
-/// again, until the board is closed, or aborted by another pass, or by this one for a cause of its own. It fails for want of
-/// memory only where memory was refused to one of its lists, to its table or to a post, which its outcome shows; where its
-/// table has failed, it fails for the table's fault. Between two takes that find the mailbox empty it lets other threads
-/// run, and sleeps where that goes on. The pass must be that of the procedure, as the board gave it, and the board one of
-/// these graphs that the starter's message opened. Lists and table are in memory of `alloc`; their places are reserved before
-/// each call of the board.
+/// Works for a procedure: takes one message of its mailbox, posts all that its table then owes, completes it, and
+/// begins again, until the board is closed, or aborted by another pass, or by this one for a cause of its own. It
+/// fails for want of memory only where memory was refused to one of its lists, to its table or to a post, which its
+/// outcome shows; where its table has failed, it fails for the table's fault. Between two takes that find the mailbox
+/// empty it lets other threads run, and sleeps where that goes on. The pass must be that of the procedure, as the
+/// board gave it, and the board one of these graphs that the starter's message opened. Lists and table are in memory
+/// of `alloc`; their places are reserved before each call of the board.
 pub fn work<'g, R, G, H, A, B, S, K>(
     rt: &R,
     alloc: A,
@@ -46,18 +47,25 @@ where
     ensures { HasEnded (begun graphs.now procedure limit (B.identity board.now)) S.members
         (B.sight result.0) result.1 }
 {
-    let mut pass = pass;
-    let mut worker: Worker<'g, G, A, S> = Worker {
+    let desk = Desk {
+        rt,
+        board,
+        gate,
+        graphs,
         number: procedure,
-        table: Table::new(alloc, graphs, procedure, limit),
+        limit,
+    };
+    let mut worker: Worker<'g, B::Pass, G, A, S> = Worker {
+        pass,
+        table: Table::new(alloc, desk.graphs, desk.number, desk.limit),
         takes: Vec::new(alloc),
         posts: Vec::new(alloc),
         empty: 0,
     };
     for _ in rt.forever() {
-        if let Some(finish) = worker.turn(rt, board, &mut pass, gate) {
+        if let Some(finish) = worker.turn(&desk) {
             let Worker {
-                number: _,
+                pass,
                 table,
                 takes,
                 posts,

@@ -2,26 +2,27 @@
 use Rattle.std.proofs.Common.{refl, ◌∙◌, subst}
 use Rattle.std.specs.Bool.{OnFalse}
 use Rattle.summaries.specs.Tables.{IsQuiet}
+use Rattle.procedure_worker.specs.Works.{start_of}
 use Rattle.procedure_worker.proofs.Works.{complete_ends, stopped_ends, job_to_pass}
 use Rattle.procedure_worker.proofs.worker.Worker.deal.Goals as goal
 
 pub returns-in-Ok-false-clause-ends : goal.returns-in-Ok-false-clause-ends
 returns-in-Ok-false-clause-ends g c =
     let w = c.answer.new.self in
-    let quiet =
-    subst (λ more. OnFalse more
-    (IsQuiet g.S.PathSet.members w.table)) c.in-Ok-false.field-0-test c.in-Ok-false.ensures.none in
-    complete_ends g.start g.S.PathSet.members c.args.job c.complete.result (g.B.Board.sight c.answer.new.pass)
-    (g.B.Board.sight c.complete.new.pass) w c.in-Ok-false.ensures.dealing quiet c.complete.ensures
+    let quiet = subst (λ more. OnFalse more (IsQuiet g.S.PathSet.members w.table)) c.in-Ok-false.field-0-test
+    c.in-Ok-false.ensures.none in
+    complete_ends (start_of g.B.Board.identity c.args.desk.now) g.S.PathSet.members c.args.job c.complete.result
+    (g.B.Board.sight w.pass) (g.B.Board.sight c.complete.new.pass) w c.complete.new.pass c.in-Ok-false.ensures.dealing quiet
+    c.complete.ensures
 
 pub returns-in-Err-clause-ends : goal.returns-in-Err-clause-ends
 returns-in-Err-clause-ends g c =
-    stopped_ends g.start g.S.PathSet.members c.args.job c.in-Err.why c.give_up.result
-    (g.B.Board.sight c.answer.new.pass)
-    (g.B.Board.sight c.give_up.new.pass) c.answer.new.self c.in-Err.ensures.stopped c.give_up.ensures
+    stopped_ends (start_of g.B.Board.identity c.args.desk.now) g.S.PathSet.members c.args.job c.in-Err.why c.give_up.result
+    (g.B.Board.sight c.answer.new.self.pass) (g.B.Board.sight c.give_up.new.pass) c.answer.new.self c.in-Err.ensures.stopped
+    c.give_up.ensures
 
 pub loop-init : goal.loop-init
-loop-init g c = ((c.requires.1.1.1.1.1.1.1.1.1.1, refl), tt, tt)
+loop-init g c = ((c.requires, refl), tt, tt)
 
 pub loop-preserved : goal.loop-preserved
 loop-preserved g c = ((c.in-Ok-true.ensures.dealing, c.in-Ok-true.ensures.takes ∙ c.loop.invariant.0.1), tt, tt)
@@ -32,40 +33,19 @@ returns-in-Ok-false-clause-takes g c = c.in-Ok-false.ensures.takes ∙ c.loop.in
 pub returns-in-Err-clause-takes : goal.returns-in-Err-clause-takes
 returns-in-Err-clause-takes g c = c.in-Err.ensures.takes ∙ c.loop.invariant.0.1
 
-pub answer-requires : goal.answer-requires
-answer-requires g c = λ κs out. (
-  out.0,
-  (
-    out.1.0,
-    (
-      out.1.1.0,
-      (
-        out.1.1.1.0,
-        (
-          out.1.1.1.1.0,
-          (
-            out.1.1.1.1.1.0,
-            (
-              out.1.1.1.1.1.1.0,
-              (out.1.1.1.1.1.1.1.0, (out.1.1.1.1.1.1.1.1, (c.requires.1.1.1.1.1.1.1.1.1.0, c.loop.invariant.0.0))),
-            ),
-          ),
-        ),
-      ),
-    ),
-  ),
-)
-
 pub give_up-requires : goal.give_up-requires
-give_up-requires g c = record {
-  board = c.in-Err.ensures.stopped.stands.pass.board ∙ c.requires.1.1.1.1.1.1.1.1.1.0;
-  job = job_to_pass g.start (g.B.Board.sight c.answer.new.pass) c.args.job c.in-Err.ensures.stopped.stands.pass
-      c.in-Err.ensures.stopped.has;
-}
+give_up-requires g c =
+    let stopped = c.in-Err.ensures.stopped in record {
+      board = stopped.stands.pass.board;
+      job = job_to_pass (start_of g.B.Board.identity c.args.desk.now) (g.B.Board.sight c.answer.new.self.pass) c.args.job
+          stopped.stands.pass stopped.has;
+    }
 
 pub complete-requires : goal.complete-requires
-complete-requires g c = record {
-  board = c.in-Ok-false.ensures.dealing.sent.0.stands.pass.board ∙ c.requires.1.1.1.1.1.1.1.1.1.0;
-  job = job_to_pass g.start (g.B.Board.sight c.answer.new.pass) c.args.job
-      c.in-Ok-false.ensures.dealing.sent.0.stands.pass c.in-Ok-false.ensures.dealing.has;
-}
+complete-requires g c =
+    let dealing = c.in-Ok-false.ensures.dealing in
+    let pass = dealing.sent.0.stands.pass in record {
+      board = pass.board;
+      job = job_to_pass (start_of g.B.Board.identity c.args.desk.now) (g.B.Board.sight c.answer.new.self.pass) c.args.job pass
+          dealing.has;
+    }
