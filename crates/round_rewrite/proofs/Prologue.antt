@@ -31,8 +31,7 @@ not_true true e = cc
 not_true false e = refl
 
 -- a frame of a rewritten procedure, and what stays the same while it stands at a prologue: the rows and the saved
--- guesses, its
--- procedure, how many places that has in the source, the values of all its places, and the frames below
+-- guesses, its procedure, how many places that has in the source, the values of all its places, and the frames below
 pub record Site (n last : ℕ) : Type 0 where
   pub C : List (List Bool)
   pub S : List (List Bool)

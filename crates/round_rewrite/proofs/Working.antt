@@ -1,6 +1,5 @@
 -- Each statement of a checked tree rewritten works: its variables are declared, what it calls and goes to is there, and
--- each
--- target has its right side. So the rewritten tree resolves.
+-- each target has its right side. So the rewritten tree resolves.
 use Rattle.std.proofs.Common.{◌≡◌, ℕ, zero, suc, ◌+◌, ◌<◌, ◌≤◌, Bool, true, false, cond, List, [], ◌∷◌}
 use Rattle.std.proofs.Common.{◌++◌, length, map, codes, Option, Some, None, option_map, inl, inr, refl, sym, ◌∙◌, ap, subst}
 use Rattle.std.proofs.Common.{ap₂, arith, append_assoc}

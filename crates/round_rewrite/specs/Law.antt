@@ -17,8 +17,7 @@ Keeps rounds p =
     Unsafe p rounds ↔ SomeBad (in_text_order (rewritten_program last p)) (bad_at p.globals last)
 
 -- The tree's program is unsafe within so many rounds exactly where some pair of `main__` of the tree that is rewritten
--- for
--- them has `bad__`.
+-- for them has `bad__`.
 abbrev pub KeepsTree : ℕ → Tree → Type 0
 KeepsTree rounds t =
     Unsafe (meaning_of t) rounds

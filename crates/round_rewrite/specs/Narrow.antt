@@ -24,8 +24,7 @@ abbrev pub AreNarrow : ℕ → Tree → List Procedure → Type 0
 AreNarrow last t = EachProcedure (λ (p : Procedure). rewritten_width last t p ≤ most_places)
 
 -- The first procedure of the source that has more than 64 places in the rewritten tree, with the offset of its name and
--- its
--- places; none where all have at most 64.
+-- its places; none where all have at most 64.
 abbrev pub IsFirstWide : ℕ → Tree → Option Wide → Type 0
 IsFirstWide last t None = AreNarrow last t t.procedures
 IsFirstWide last t (Some wide) =

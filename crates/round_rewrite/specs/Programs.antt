@@ -11,8 +11,7 @@ abbrev pub count_of : Rounds → ℕ
 count_of rounds = suc rounds.last
 
 -- The fault that is answered for a tree: its rewriting for so many rounds is too wide, and then it is, or memory ran
--- out,
--- and then it is not.
+-- out, and then it is not.
 abbrev pub IsFaultOf : ℕ → Tree → RewriteFault → Type 0
 IsFaultOf rounds t f =
     ((f ≡ fault.TooWide) × (IsNarrowFor rounds t → ⊥)) ⊎ ((f ≡ fault.Memory) × IsNarrowFor rounds t)

@@ -55,8 +55,7 @@ abbrev pub l : Name
 l = named (codes "l")
 
 -- Two threads of a procedure t that calls p: an assert, an assume, an `if`, a `while`, a label and its `goto`, a call,
--- a return,
--- assignments to globals and locals, by expressions and by `?`, and a local that hides a global.
+-- a return, assignments to globals and locals, by expressions and by `?`, and a local that hides a global.
 abbrev pub each_construct : Tree
 each_construct = record {
   globals = x ∷ y ∷ [];
