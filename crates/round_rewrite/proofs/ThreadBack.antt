@@ -48,8 +48,7 @@ zip_next n last pre post S g h z e = record {
 pub length-next : (pre : List (List Bool)) (g : List Bool) → length (pre ++ g ∷ []) ≡ suc (length pre)
 length-next pre g = length-append pre (g ∷ []) ∙ omega arith
 
--- where a thread is in the rows: the rows before, the globals in its round, and that all rows, with those behind it,
--- fit
+-- where a thread is in the rows: those before, the globals in its round, and that all fit, with those behind
 pub record Seat (n last : ℕ) (S post : List (List Bool)) : Type 0 where
   pub pre : List (List Bool)
   pub g : List Bool
