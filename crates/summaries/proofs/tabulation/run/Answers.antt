@@ -24,8 +24,9 @@ use Rattle.summaries.proofs.tabulation.run.Goals.{After-index_mut-in-Some}
 
 pub returns-then-is_empty-clause-tables : goal.returns-then-is_empty-clause-tables
 returns-then-is_empty-clause-tables g c =
+    let asked = c.requires.1 in
     none_aside g.S.PathSet.members g.program (λ x. x ≡ opening) c.args.tables.now.items
-    (grind (arith, tests, c.args.tables.now.ok.0)) c.requires.1.1.1
+    (grind (arith, tests, c.args.tables.now.ok.0)) asked.1.1
 
 first_is : (g : Over) (c : After-index_mut g) → slice_get c.args.tables.now.items 0 ≡ Some c.index_mut.result.now
 first_is g c =
@@ -34,25 +35,27 @@ first_is g c =
 
 opened_due : (g : Over) (c : After-index_mut g) → (k : NumberedMessage) → due_of k ≡ Entry Starter 0 → IsNumberOf (IsDue g.program 0) k
 opened_due g c =
-    opening_due g.S.PathSet.members g.program (λ x. x ≡ opening) c.args.tables.now.items c.requires.1.1.1 c.index_mut.result.now
+    let asked = c.requires.1 in
+    opening_due g.S.PathSet.members g.program (λ x. x ≡ opening) c.args.tables.now.items asked.1.1 c.index_mut.result.now
     (first_is g c)
 
 pub deliver-requires : goal.deliver-requires
-deliver-requires g c = c.requires.1.1.1.table 0 c.index_mut.result.now (first_is g c)
+deliver-requires g c = let asked = c.requires.1 in asked.1.1.table 0 c.index_mut.result.now (first_is g c)
 
 pub returns-in_err-deliver-clause-limits : goal.returns-in_err-deliver-clause-limits
 returns-in_err-deliver-clause-limits g c = λ n h. refused _ _ c.from_residual.result c.from_residual.ensures.1
 
 pub returns-in_err-deliver-clause-limit : goal.returns-in_err-deliver-clause-limit
 returns-in_err-deliver-clause-limit g c = λ e n h.
+    let asked = c.requires.1 in
     let delivers = c.in_err-deliver.ensures in
     let told = fault_told _ c.from_residual.result EdgeLimit c.from_residual.ensures.1 e in
     let ts = c.args.tables.now.items in
     let a = (goal.at.returns-in_err-deliver-clause-limit g c).After-index_mut in
     let due =
-    only_due g.S.PathSet.members g.program (λ x. x ≡ opening) ts c.requires.1.1.1 0
+    only_due g.S.PathSet.members g.program (λ x. x ≡ opening) ts asked.1.1 0
     (Entry Starter 0) c.index_mut.result.now c.deliver.new.table (first_is g a) delivers.only (opened_due g a) in
-    too_many g.S.PathSet.members g.program (λ x. x ≡ opening) ts c.requires.1.1.1 0 c.index_mut.result.now c.deliver.new.table
+    too_many g.S.PathSet.members g.program (λ x. x ≡ opening) ts asked.1.1 0 c.index_mut.result.now c.deliver.new.table
     (first_is g a) delivers.table delivers.stays (delivers.fault ∙ ap Some (sym told)) due n h
 
 pub loop-at-init : goal.loop-at-init
@@ -60,7 +63,8 @@ loop-at-init g c = record {
   tables =
       let a = (goal.at.loop-at-init g c).After-index_mut in
       let delivers = c.in_ok-deliver.ensures in
-      delivered g.S.PathSet.members g.program 0 (Entry Starter 0) c.args.tables.now.items c.requires.1.1.1
+      let asked = c.requires.1 in
+      delivered g.S.PathSet.members g.program 0 (Entry Starter 0) c.args.tables.now.items asked.1.1
       c.index_mut.result.now c.deliver.new.table (first_is g a) delivers.table delivers.fault delivers.stays
       delivers.taken delivers.only delivers.answers (opened_due g a);
   quiet = λ q t below is. absurd (omega (arith, below));

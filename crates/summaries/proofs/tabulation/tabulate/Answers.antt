@@ -11,14 +11,15 @@ use Rattle.path_sets.specs.EdgeLimits.{most_of}
 
 pub run-requires : goal.run-requires
 run-requires g c κs within =
-    let new = c.in_ok-tables.ensures in (
+    let new = c.in_ok-tables.ensures in
+    let asked = c.requires.1 in (
       within.0,
       (
         within.1.0,
         (
           within.1.1,
           new_tables g.S.PathSet.members g.program c.in_ok-tables.tables.items
-              (subst (AreDrawnFrom g.program) (sym new.graphs) c.requires.1.1.1) new.new,
+              (subst (AreDrawnFrom g.program) (sym new.graphs) asked.1.1) new.new,
         ),
       ),
     )

@@ -7,7 +7,8 @@ pub look_at-requires-clause-held : goal.look_at-requires-clause-held
 look_at-requires-clause-held g c =
     let h = g.P.LockRule.see c.args.slot c.args.seat.now.me.0 in
     let n = c.draw_at-ticket.result in
-    subst (λ k. 0 < times n k) (sym (ap (λ k. k.tickets) c.loop.invariant.1.1.0)) (omega (arith, times-snoc n h.tickets n, times-one n))
+    let drawn = c.loop.invariant.1 in
+    subst (λ k. 0 < times n k) (sym (ap (λ k. k.tickets) drawn.1.0)) (omega (arith, times-snoc n h.tickets n, times-one n))
 
 pub look_at-requires-clause-enters : goal.look_at-requires-clause-enters
 look_at-requires-clause-enters g c = (c.requires.free.0 c.loop.seat.me.0).2
