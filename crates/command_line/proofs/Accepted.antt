@@ -34,7 +34,7 @@ use Rattle.path_sets.specs.declared.edge_limit.EdgeLimit.{EdgeLimit}
 use Rattle.round_rewrite.specs.Programs.{count_of}
 use Rattle.path_sets.specs.EdgeLimits.{most_of}
 use Rattle.path_sets.specs.Limits.{most_edges}
-use Rattle.command_line.specs.Line.{GivesOrder, bebopk, check, file, flag_text, Orders, ReadsAs, sequential}
+use Rattle.command_line.specs.Line.{GivesOrder, bebopk, check, file, flag_text, Orders, ReadsNumber, sequential}
 use Rattle.orders.specs.declared.order.Order.{Order}
 use Rattle.orders.specs.declared.order.Order.TheVariants.{Check, Sequential}
 use Rattle.command_line.proofs.Walks.{AreFit, AreUsable, defaulted, given_row, kept_by_defaults, level_fit, none}
@@ -250,7 +250,7 @@ sequential_usable = (
 number_read : (c : List Rule) (rows : List Row) (id : Text) (a : Rule) (most : ℕ) → AreFit c rows
     → arg_by_id c id ≡ Some a
     → a.parser ≡ Some (Signed (pos 1) (pos most)) → has_row id rows ≡ true
-    → (n : ℕ) × (1 ≤ n) × (n ≤ most) × ReadsAs rows id n
+    → (n : ℕ) × (1 ≤ n) × (n ≤ most) × ReadsNumber rows id n
 number_read c rows id a most fit is parser has =
     let row = row_read c rows id a fit is has in
     let v = row.0 in
@@ -287,8 +287,8 @@ check_rows rows fit fault =
       (
         (
           refl,
-          subst (ReadsAs all (codes "rounds")) rounds.1 k.3,
-          subst (ReadsAs all (codes "edges")) edges.1 n.3,
+          subst (ReadsNumber all (codes "rounds")) rounds.1 k.3,
+          subst (ReadsNumber all (codes "edges")) edges.1 n.3,
           s.2 ∙ ap Some given.1,
         ),
         path.1,
@@ -307,7 +307,7 @@ sequential_rows rows fit fault =
     let path = row_read c all (codes "file") (rule sequential_ready 1) fit refl (given_row (codes "file") all given.1)
     in
     let rounds = as_rounds k.0 k.1 k.2 in
-    (Sequential rounds.0, path.0, ((refl, subst (ReadsAs all (codes "rounds")) rounds.1 k.3), path.1))
+    (Sequential rounds.0, path.0, ((refl, subst (ReadsNumber all (codes "rounds")) rounds.1 k.3), path.1))
 
 -- the command that was entered, one of two, where the third is not
 entered_one : (a : App) (x y z : Shape) (R : Text × List Row → Type 0) → a.subs ≡ x ∷ y ∷ z ∷ []

@@ -11,7 +11,7 @@ use Rattle.clap.specs.declared.parser.matches.ArgMatches.TheViews.{out-ArgMatche
 use Rattle.clap.specs.declared.parser.matches.Found.{Found}
 use Rattle.clap.proofs.WalkLemmas.{one_text-rows}
 use Rattle.round_rewrite.specs.Programs.{count_of}
-use Rattle.command_line.specs.Line.{GivesOrder, CommandGives, IsGiven, IsNamed, Orders, ReadsAs, flag_text}
+use Rattle.command_line.specs.Line.{GivesOrder, CommandGives, IsGiven, IsNamed, Orders, ReadsNumber, flag_text}
 use Rattle.orders.specs.declared.order.Order.{Order}
 use Rattle.orders.specs.declared.order.Order.TheVariants.{Check, Sequential}
 use Rattle.path_sets.specs.EdgeLimits.{most_of}
@@ -21,10 +21,10 @@ pub reads : {E : Type 0} (gives : List ℕ → Result ℕ E → Type 0) (bits : 
     → ((t : List ℕ) (n : ℕ) → gives t (Ok n) → ParsesUnsigned {E = E} bits 10 t (Ok n))
     → (f : Found) (id : Text) (r : Option ℕ) (n : ℕ) → r ≡ Some n → (one_text f id ≡ None → r ≡ None)
     → ((t : List ℕ) → one_text f id ≡ Some t → ReadsOne gives t r)
-    → ReadsAs (rows_of f) id n
+    → ReadsNumber (rows_of f) id n
 reads gives bits parses f id r n some none value = go (one_text f id) refl
   where
-    go : (o : Option Text) → one_text f id ≡ o → ReadsAs (rows_of f) id n
+    go : (o : Option Text) → one_text f id ≡ o → ReadsNumber (rows_of f) id n
     go None e = absurd (none-some n (sym (none e) ∙ some))
     go (Some t) e =
         let p = parses t n (subst (ReadsOne gives t) some (value t e)) in
@@ -69,16 +69,16 @@ is_given E f id r b some none value = go (one_text f id) refl
 
 -- an order of the name, the numbers and the option without a value that were found
 pub gives : (name : Text) (rows : List Row) (k : ℕ) (n : Option ℕ) (s : Option Bool) (o : Order) → IsNamed name k n s o
-    → ReadsAs rows (codes "rounds") k → ((e : ℕ) → n ≡ Some e → ReadsAs rows (codes "edges") e)
+    → ReadsNumber rows (codes "rounds") k → ((e : ℕ) → n ≡ Some e → ReadsNumber rows (codes "edges") e)
     → ((b : Bool) → s ≡ Some b → IsGiven rows (codes "stats") b) → CommandGives name rows o
 gives name rows k n s (Check r e b) h rounds edges stats =
-    (h.0, subst (ReadsAs rows (codes "rounds")) (sym h.1) rounds, edges (most_of e) h.2, stats b h.3)
-gives name rows k n s (Sequential r) h rounds edges stats = (h.0, subst (ReadsAs rows (codes "rounds")) (sym h.1) rounds)
+    (h.0, subst (ReadsNumber rows (codes "rounds")) (sym h.1) rounds, edges (most_of e) h.2, stats b h.3)
+gives name rows k n s (Sequential r) h rounds edges stats = (h.0, subst (ReadsNumber rows (codes "rounds")) (sym h.1) rounds)
 
 -- what an option reads as is the number that is got of it, where that fits
 pub number : {E : Type 0} (gives : List ℕ → Result ℕ E → Type 0) (bits : ℕ)
     → ((t : List ℕ) (r : Result ℕ E) → gives t r → ParsesUnsigned {E = E} bits 10 t r)
-    → (f : Found) (id : Text) (r : Option ℕ) (n : ℕ) → n < 2 ^ bits → ReadsAs (rows_of f) id n
+    → (f : Found) (id : Text) (r : Option ℕ) (n : ℕ) → n < 2 ^ bits → ReadsNumber (rows_of f) id n
     → ((t : List ℕ) → one_text f id ≡ Some t → ReadsOne gives t r) → r ≡ Some n
 number gives bits parses f id r n fits h value = go r (value h.0 (one_text-rows f id ∙ h.1))
   where
@@ -101,14 +101,14 @@ flag E f id r b h value = go b r (value (flag_text b) (one_text-rows f id ∙ h)
 
 -- each order has a number of rounds, which fits a byte
 pub has_rounds : (name : Text) (rows : List Row) (o : Order) → CommandGives name rows o
-    → (k : ℕ) × (k < 2 ^ 8) × ReadsAs rows (codes "rounds") k
+    → (k : ℕ) × (k < 2 ^ 8) × ReadsNumber rows (codes "rounds") k
 has_rounds name rows (Check r e b) h = (count_of r, omega (arith, r.few), h.1)
 has_rounds name rows (Sequential r) h = (count_of r, omega (arith, r.few), h.1)
 
 -- an order that was found is named by what is got of its options
 pub is_named : (name : Text) (rows : List Row) (k : ℕ) (n : Option ℕ) (s : Option Bool) (o : Order) → CommandGives name rows o
-    → ((j : ℕ) → j < 2 ^ 8 → ReadsAs rows (codes "rounds") j → k ≡ j)
-    → ((e : ℕ) → e < 2 ^ 32 → ReadsAs rows (codes "edges") e → n ≡ Some e)
+    → ((j : ℕ) → j < 2 ^ 8 → ReadsNumber rows (codes "rounds") j → k ≡ j)
+    → ((e : ℕ) → e < 2 ^ 32 → ReadsNumber rows (codes "edges") e → n ≡ Some e)
     → ((b : Bool) → IsGiven rows (codes "stats") b → s ≡ Some b) → IsNamed name k n s o
 is_named name rows k n s (Check r e b) h rounds edges stats = (
   h.0,

@@ -62,8 +62,8 @@ abbrev pub IsBuilt : App → Command → Type 0
 IsBuilt app c = (app_of c ≡ app) × ((fields_of c).has_globals ≡ false)
 
 -- The value that was found for this option, given or by default, reads as the number.
-abbrev pub ReadsAs : List Row → Text → ℕ → Type 0
-ReadsAs rows id n = (t : Text) × (one_of id rows ≡ Some t) × IsNumeral 10 (without_leading_plus t)
+abbrev pub ReadsNumber : List Row → Text → ℕ → Type 0
+ReadsNumber rows id n = (t : Text) × (one_of id rows ≡ Some t) × IsNumeral 10 (without_leading_plus t)
     × (digits_value 10 (without_leading_plus t) ≡ n)
 
 -- what is found for an option without a value: that it was given, or that it was not
@@ -78,9 +78,9 @@ IsGiven rows id given = one_of id rows ≡ Some (flag_text given)
 -- A command of this name, with what was found for its options, is the order.
 abbrev pub CommandGives : Text → List Row → Order → Type 0
 CommandGives name rows (Check k n s) =
-    (name ≡ codes "check") × ReadsAs rows (codes "rounds") (count_of k) × ReadsAs rows (codes "edges") (most_of n)
+    (name ≡ codes "check") × ReadsNumber rows (codes "rounds") (count_of k) × ReadsNumber rows (codes "edges") (most_of n)
     × IsGiven rows (codes "stats") s
-CommandGives name rows (Sequential k) = (name ≡ codes "sequential") × ReadsAs rows (codes "rounds") (count_of k)
+CommandGives name rows (Sequential k) = (name ≡ codes "sequential") × ReadsNumber rows (codes "rounds") (count_of k)
 
 -- A command of this name with these numbers, and this option without a value, is the order.
 abbrev pub IsNamed : Text → ℕ → Option ℕ → Option Bool → Order → Type 0

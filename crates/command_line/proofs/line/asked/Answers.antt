@@ -5,7 +5,7 @@ use Rattle.std.specs.declared.num.ParseIntError.{ParseIntError}
 use Rattle.std.proofs.lemmas.Option.{none-some, same_Some}
 use Rattle.clap.specs.Words.{found_of, rows_of}
 use Rattle.clap.proofs.WalkLemmas.{first_value-rows}
-use Rattle.command_line.specs.Line.{IsGiven, ReadsAs}
+use Rattle.command_line.specs.Line.{IsGiven, ReadsNumber}
 use Rattle.command_line.proofs.Reading.{flag, gives, has_rounds, is_given, is_met, is_named, number, of_command, reads}
 use Rattle.command_line.proofs.line.asked.Goals as goal
 
@@ -61,7 +61,7 @@ returns c =
     c.subcommand.ensures.name c.subcommand.ensures.rows in
     let rounds = reads (ReadsAs 8) 8 (λ t n g. g.0) found (codes "rounds") c.get_one.result c.in_ok-rounds.rounds
     c.in_ok-rounds.was c.get_one.ensures.none c.get_one.ensures.value in
-    let edges : (e : ℕ) → c.get_one-edges.result ≡ Some e → ReadsAs (rows_of found) (codes "edges") e =
+    let edges : (e : ℕ) → c.get_one-edges.result ≡ Some e → ReadsNumber (rows_of found) (codes "edges") e =
     λ e was. reads (ReadsAs 32) 32 (λ t n g. g.0) found (codes "edges") c.get_one-edges.result e was
     c.get_one-edges.ensures.none c.get_one-edges.ensures.value in
     let stats : (b : Bool) → c.get_one-stats.result ≡ Some b → IsGiven (rows_of found) (codes "stats") b =
