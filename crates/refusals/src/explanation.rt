@@ -3,6 +3,7 @@
 ghost use Rattle.std.specs.Prelude.{◌≡◌, ◌++◌, OnOk, option_map};
 ghost use Rattle.std.specs.String.{string_bytes};
 ghost use Rattle.refusals.specs.Explained.{Explains, ExplainsUnread, edge_line, no_memory};
+ghost use Rattle.orders.specs.Parts.{rounds_of};
 ghost use Rattle.refusals.specs.Explained.{scope_told};
 ghost use Rattle.refusals.specs.declared.refusal.Refusal.TheVariants.{TooWide};
 
