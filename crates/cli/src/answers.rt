@@ -19,7 +19,7 @@ use crate::judge::judge;
 use crate::reply::Reply;
 use crate::sequential::sequential;
 use flow_graph::Graphs;
-use gather::{Answer, Report, WorkBoard, WorkSet};
+use gather::{Answer, CrewBoard, CrewSet, Report};
 use orders::Order;
 use path_sets::DiagramEdges;
 use procedure_worker::{Gate, Open};
@@ -128,11 +128,8 @@ fn verdict<R, B, S, K>(
 ) -> Reply<S::Heap>
 where
     R: Wait + Threads + Sync,
-    B: WorkBoard + Sync + Drop,
-    B::Pass: Send + Drop,
-    B::Heap: Send + Sync,
-    S: WorkSet + Send,
-    S::Heap: Send + Sync,
+    B: CrewBoard,
+    S: CrewSet,
     K: Gate + Sync,
     ensures { Answers text.now (count_of rounds) (most_of edges) stats
         (bytes_of result) result.status
@@ -178,11 +175,8 @@ pub fn answer_with<R, B, S, K>(
 ) -> Reply<S::Heap>
 where
     R: Wait + Threads + Sync,
-    B: WorkBoard + Sync + Drop,
-    B::Pass: Send + Drop,
-    B::Heap: Send + Sync,
-    S: WorkSet + Send,
-    S::Heap: Send + Sync,
+    B: CrewBoard,
+    S: CrewSet,
     K: Gate + Sync,
     ensures answers { result.status ≤ 1 → Replies text.now order (bytes_of result) result.status }
     ensures silent { result.status ≤ 1 → result.refusal ≡ None }

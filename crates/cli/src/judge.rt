@@ -8,7 +8,7 @@ ghost use Rattle.path_sets.specs.EdgeLimits.{most_of};
 ghost use Rattle.cli.specs.Refused.{IsToldAs, RefusalStands};
 ghost use Rattle.gather.specs.Reports.{IsReport};
 
-use gather::{Report, WorkBoard, WorkSet, check_rounds_with};
+use gather::{CrewBoard, CrewSet, Report, check_rounds_with};
 use procedure_worker::Gate;
 use refusals::Refusal;
 use round_rewrite::{Rounds, too_wide};
@@ -49,11 +49,8 @@ pub(crate) fn judge<R, B, S, K, N>(
 ) -> Result<Report<B::Heap, S::Heap>, Refusal>
 where
     R: Wait + Threads + Sync,
-    B: WorkBoard + Sync + Drop,
-    B::Pass: Send + Drop,
-    B::Heap: Send + Sync,
-    S: WorkSet + Send,
-    S::Heap: Send + Sync,
+    B: CrewBoard,
+    S: CrewSet,
     K: Gate + Sync,
     N: Allocator,
     ensures report { IfOk result

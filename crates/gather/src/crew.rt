@@ -6,7 +6,7 @@ ghost use Rattle.gather.specs.Lanes.{AreLanes};
 
 use crate::hire::Hire;
 use crate::jobs::{Came, run_all};
-use crate::kinds::{WorkBoard, WorkSet};
+use crate::kinds::{CrewBoard, CrewSet, WorkBoard, WorkSet};
 use crate::lane::Lane;
 use flow_graph::Graphs;
 use procedure_worker::{Gate, Outcome};
@@ -64,11 +64,8 @@ pub(crate) fn work_all<'c, 'g, R, B, S, K, H>(
 ) -> Result<Vec<Came<(B::Pass, Outcome<'g, B::Heap, S::Heap, S>)>, S::Heap>, AllocError>
 where
     R: Wait + Threads + Sync,
-    B: WorkBoard + Sync,
-    B::Pass: Send + Drop,
-    B::Heap: Send + Sync,
-    S: WorkSet + Send,
-    S::Heap: Send + Sync,
+    B: CrewBoard,
+    S: CrewSet,
     K: Gate + Sync,
     H: Hire,
     requires { IsCrew graphs.now limit (B.identity board.now) (map B.sight passes.items) }

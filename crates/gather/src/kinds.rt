@@ -1,4 +1,4 @@
-//! The boards and the sets that workers may work with.
+//! The boards and the sets that workers may work with, and those that a crew of threads may.
 use flow_graph::Graphs;
 use path_sets::{DiagramEdges, OrderedEdges, PathSet};
 use std::alloc::Allocator;
@@ -30,3 +30,23 @@ impl<A: Allocator + Copy> WorkSet for OrderedEdges<A> {
 impl<A: Allocator + Copy> WorkSet for DiagramEdges<A> {
     type Heap = A;
 }
+
+/// A board that threads may share, and whose passes may go to them.
+pub trait CrewBoard: WorkBoard<Heap: Send + Sync>
+    + Board<Due, Graphs<Self::Heap>, Self::Heap, Pass: Send + Drop>
+    + Sync
+    + Drop {}
+
+impl<B: WorkBoard + Sync + Drop> CrewBoard for B
+where
+    B::Pass: Send + Drop,
+    B::Heap: Send + Sync,
+{}
+
+/// A set of path edges that may go to a thread.
+pub trait CrewSet: WorkSet<Heap: Send + Sync> + Send {}
+
+impl<S: WorkSet + Send> CrewSet for S
+where
+    S::Heap: Send + Sync,
+{}

@@ -14,6 +14,6 @@ mod slot;
 
 pub use gathering::gather;
 pub use hire::{Always, Hire};
-pub use kinds::{WorkBoard, WorkSet};
+pub use kinds::{CrewBoard, CrewSet, WorkBoard, WorkSet};
 pub use one_thread::tabulate_rounds;
 pub use report::{Answer, Report, check_rounds, check_rounds_tried, check_rounds_with};

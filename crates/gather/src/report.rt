@@ -13,7 +13,7 @@ ghost use Rattle.gather.specs.Reports.{IsFound, IsReport, IsNoReport};
 use crate::crew::{parted, work_all};
 use crate::gathering::gather;
 use crate::hire::{Always, Hire};
-use crate::kinds::{WorkBoard, WorkSet};
+use crate::kinds::{CrewBoard, CrewSet};
 use flow_graph::{Graphs, graphs};
 use path_sets::DiagramEdges;
 use post_ledger::Ledger;
@@ -59,11 +59,8 @@ fn analyse<R, B, S, K, H>(
 ) -> Result<(Ledger<Due, B::Heap>, Summaries<S::Heap>), NoVerdict>
 where
     R: Wait + Threads + Sync,
-    B: WorkBoard + Sync + Drop,
-    B::Pass: Send + Drop,
-    B::Heap: Send + Sync,
-    S: WorkSet + Send,
-    S::Heap: Send + Sync,
+    B: CrewBoard,
+    S: CrewSet,
     K: Gate + Sync,
     H: Hire,
     requires drawn { (p : Program) × AreDrawnFrom p (graphs_of graphs.now) }
@@ -114,11 +111,8 @@ pub fn check_rounds_tried<R, B, S, K, H, N>(
 ) -> Result<Report<B::Heap, S::Heap>, NoVerdict>
 where
     R: Wait + Threads + Sync,
-    B: WorkBoard + Sync + Drop,
-    B::Pass: Send + Drop,
-    B::Heap: Send + Sync,
-    S: WorkSet + Send,
-    S::Heap: Send + Sync,
+    B: CrewBoard,
+    S: CrewSet,
     K: Gate + Sync,
     H: Hire,
     N: Allocator,
@@ -159,11 +153,8 @@ pub fn check_rounds_with<R, B, S, K, N>(
 ) -> Result<Report<B::Heap, S::Heap>, NoVerdict>
 where
     R: Wait + Threads + Sync,
-    B: WorkBoard + Sync + Drop,
-    B::Pass: Send + Drop,
-    B::Heap: Send + Sync,
-    S: WorkSet + Send,
-    S::Heap: Send + Sync,
+    B: CrewBoard,
+    S: CrewSet,
     K: Gate + Sync,
     N: Allocator,
     ensures report { IfOk result (IsReport (checked_tree program.now) (count_of rounds) (most_of limit)) }
