@@ -60,7 +60,7 @@ module _ {G A S : Type 0} (members : S → List Triple) where
   -- a lane that has ended has the pass of its number
   pass_ended : (b : Start G) (e : End) (s : Sight Due (Graphs G)) (t : Table G A S) (took : List Due) (sent : List (ℕ × Due))
       → EndsSo b members e s t took sent → IsPassOf b s
-  pass_ended b Closed s t took sent (((goes, sent_all), quiet), closed) = goes.stands.pass
+  pass_ended b Closed s t took sent (((goes, sent_all), quiet), knows, closed) = goes.stands.pass
   pass_ended b Aborted s t took sent so = so.0.pass
   pass_ended b (Failed c) s t took sent so = so.0.pass
 

@@ -95,7 +95,7 @@ module _ {G A S : Type 0} where
     -- a pass that has made an abort is that of a worker whose end names a cause
     named_by : (b : Start G) (e : End) (s : Sight Due (Graphs G)) (t : Table G A S) (took : List Due)
         (sent : List (ℕ × Due)) → EndsSo b members e s t took sent → s.made ≡ true → (c : Cause) × (e ≡ Failed c)
-    named_by b Closed s t took sent (((goes, sent_all), quiet), closed) made = absurd (false≢true (sym goes.made ∙ made))
+    named_by b Closed s t took sent (((goes, sent_all), quiet), knows, closed) made = absurd (false≢true (sym goes.made ∙ made))
     named_by b Aborted s t took sent so made = absurd (false≢true (sym so.1 ∙ made))
     named_by b (Failed c) s t took sent so made = (c, refl)
 

@@ -3,7 +3,6 @@ use Rattle.std.specs.Prelude.{◌≡◌, ℕ, List, [], ◌++◌, Option, Some, 
 use Rattle.std.specs.Fmt.{decimal}
 use Rattle.syntax.specs.declared.fault.ReadFault.{ReadFault}
 use Rattle.syntax.specs.declared.fault.ReadFault.TheVariants as read
-use Rattle.scopes.specs.Limits.{most_procedures, most_statements, most_threads}
 use Rattle.scopes.specs.declared.fault.ScopeFault.{ScopeFault}
 use Rattle.scopes.specs.declared.fault.ScopeFault.TheVariants as scope
 use Rattle.diagnostics.specs.Message.{Locates, LocatesForeign, needs, of_name, unexpected}
@@ -29,8 +28,7 @@ scope_told (scope.BadLabel at) = Some (at, codes " is no label of this procedure
 scope_told (scope.Reserved at) =
     Some (at, codes " has two underscores in a row, which only the rewriting may write\n")
 scope_told (scope.TooMany at) =
-    Some (at, codes " is past the limit of " ++ (decimal most_procedures ++ (codes " procedures, " ++ (decimal most_threads
-    ++ (codes " threads and " ++ (decimal most_statements ++ codes " statements\n"))))))
+    Some (at, codes " is past the limit of 31 procedures, 8 threads and 1000 statements\n")
 scope_told scope.Memory = None
 
 -- the line for want of memory
