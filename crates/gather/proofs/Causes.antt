@@ -13,7 +13,7 @@ use Rattle.std.specs.Prelude.{IfOk, IfErr}
 use Rattle.std.specs.Result.{IsErrAnd}
 use Rattle.summaries.specs.Effects.{Effects}
 use Rattle.summaries.specs.declared.no_verdict.NoVerdict.TheVariants as verdict
-use Rattle.gather.specs.Gathered.{number_of, verdict_of, IsLeastOf, IsLesser, AllClosed, IsCause}
+use Rattle.gather.specs.Gathered.{rank_of, verdict_of, IsLeastOf, IsLesser, AllClosed, IsCause}
 
 -- the cause that an end names
 abbrev cause_in : (d : Cause) → End → Cause
@@ -60,7 +60,7 @@ more_least ends d None why least lesser =
       is = is;
       least = λ c there. elim (member_append (Failed c) ends (Failed d ∷ []) there) [
         | inl before ↦ absurd (least c before)
-        | inr (inl same) ↦ subst (λ z. number_of why ≤ number_of (verdict_of z)) (sym (ap (cause_in d) same)) lesser.below
+        | inr (inl same) ↦ subst (λ z. rank_of why ≤ rank_of (verdict_of z)) (sym (ap (cause_in d) same)) lesser.below
         | inr (inr never) ↦ absurd never
       ];
     }
@@ -70,7 +70,7 @@ more_least ends d (Some old) why least lesser = record {
   is = (which lesser.either).2;
   least = λ c there. elim (member_append (Failed c) ends (Failed d ∷ []) there) [
     | inl before ↦ let a = least.least c before in let b = lesser.least old refl in omega (arith, a, b)
-    | inr (inl same) ↦ subst (λ z. number_of why ≤ number_of (verdict_of z)) (sym (ap (cause_in d) same)) lesser.below
+    | inr (inl same) ↦ subst (λ z. rank_of why ≤ rank_of (verdict_of z)) (sym (ap (cause_in d) same)) lesser.below
     | inr (inr never) ↦ absurd never
   ];
 }

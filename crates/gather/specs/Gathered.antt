@@ -23,13 +23,13 @@ use Rattle.procedure_worker.specs.declared.outcome.End.{End}
 use Rattle.procedure_worker.specs.declared.outcome.End.TheVariants.{Closed, Failed}
 use Rattle.procedure_worker.specs.declared.outcome.Outcome.{Outcome}
 
--- the number of a reason why there is no verdict
-abbrev pub number_of : NoVerdict → ℕ
-number_of verdict.TooWide = 14
-number_of verdict.Memory = 19
-number_of verdict.EdgeLimit = 20
-number_of verdict.NoWorker = 21
-number_of verdict.Spent = 22
+-- the rank of a reason why there is no verdict: the place at which `NoVerdict` lists it
+abbrev pub rank_of : NoVerdict → ℕ
+rank_of verdict.TooWide = 0
+rank_of verdict.Memory = 1
+rank_of verdict.EdgeLimit = 2
+rank_of verdict.NoWorker = 3
+rank_of verdict.Spent = 4
 
 -- why there is no verdict, where a worker has failed
 abbrev pub verdict_of : Cause → NoVerdict
@@ -53,12 +53,12 @@ module _ {G A S : Type 0} where
   tables_in [] = []
   tables_in (o ∷ os) = beside o.table (tables_in os)
 
--- Some end names this reason, and none names one of a lesser number.
+-- Some end names this reason, and none names one of a lesser rank.
 pub record IsLeastCause (ends : List End) (why : NoVerdict) : Type 0 where
   pub cause : Cause
   pub named : Member (Failed cause) ends
   pub is : why ≡ verdict_of cause
-  pub least : (c : Cause) → Member (Failed c) ends → number_of why ≤ number_of (verdict_of c)
+  pub least : (c : Cause) → Member (Failed c) ends → rank_of why ≤ rank_of (verdict_of c)
 
 -- no end names a cause
 abbrev pub NoneFailed : List End → Type 0
@@ -73,11 +73,11 @@ abbrev pub IsLeastOf : List End → Option NoVerdict → Type 0
 IsLeastOf ends None = NoneFailed ends
 IsLeastOf ends (Some why) = IsLeastCause ends why
 
--- The reason is one of the two, and its number is at most those of both.
+-- The reason is one of the two, and its rank is at most those of both.
 pub record IsLesser (one : Option NoVerdict) (other why : NoVerdict) : Type 0 where
   pub either : (one ≡ Some why) ⊎ (why ≡ other)
-  pub below : number_of why ≤ number_of other
-  pub least : (w : NoVerdict) → one ≡ Some w → number_of why ≤ number_of w
+  pub below : rank_of why ≤ rank_of other
+  pub least : (w : NoVerdict) → one ≡ Some w → rank_of why ≤ rank_of w
 
 -- The summaries are those of the programs that the graphs are drawn from, where no procedure has more path edges than the limit,
 -- the board is closed, and every worker has ended at the close.

@@ -1,6 +1,6 @@
 //! What workers found, gathered.
 ghost use Rattle.std.specs.Prelude.{◌≡◌, ◌∷◌, ◌++◌, [], List, IfOk};
-ghost use Rattle.gather.specs.Gathered.{number_of, verdict_of, ends_of, tables_in};
+ghost use Rattle.gather.specs.Gathered.{rank_of, verdict_of, ends_of, tables_in};
 ghost use Rattle.gather.specs.Gathered.{IsLeastOf, IsLesser, Gathers};
 
 use flow_graph::Graphs;
@@ -10,16 +10,16 @@ use std::alloc::{AllocError, Allocator};
 use summaries::{NoVerdict, Summaries, Table, collect};
 use switchboard::Cause;
 
-/// The number of a cause for which there is no verdict.
-fn number(why: NoVerdict) -> u8
-    ensures { result ≡ number_of why }
+/// The rank of a cause for which there is no verdict: of several the one that `NoVerdict` lists first is answered.
+fn rank(why: NoVerdict) -> u8
+    ensures { result ≡ rank_of why }
 {
     match why {
-        NoVerdict::TooWide => 14,
-        NoVerdict::Memory => 19,
-        NoVerdict::EdgeLimit => 20,
-        NoVerdict::NoWorker => 21,
-        NoVerdict::Spent => 22,
+        NoVerdict::TooWide => 0,
+        NoVerdict::Memory => 1,
+        NoVerdict::EdgeLimit => 2,
+        NoVerdict::NoWorker => 3,
+        NoVerdict::Spent => 4,
     }
 }
 
@@ -35,12 +35,12 @@ fn verdict_for(cause: Cause) -> NoVerdict
     }
 }
 
-/// The one of the lesser number.
+/// The one of the lesser rank.
 fn lesser(one: Option<NoVerdict>, other: NoVerdict) -> NoVerdict
     ensures { IsLesser one other result }
 {
     match one {
-        Some(one) if number(one) <= number(other) => one,
+        Some(one) if rank(one) <= rank(other) => one,
         _ => other,
     }
 }
@@ -55,7 +55,7 @@ fn least_with(least: Option<NoVerdict>, end: End) -> Option<NoVerdict>
     }
 }
 
-/// The cause of the least number that an end names, if one names any.
+/// The cause of the least rank that an end names, if one names any.
 fn least<G: Allocator, A: Allocator, S: PathSet<A>>(
     outcomes: &[Outcome<'_, G, A, S>],
 ) -> Option<NoVerdict>
@@ -92,7 +92,7 @@ fn tables_of<'g, G: Allocator, A: Allocator + Copy, S: PathSet<A>>(
 }
 
 /// The summaries that the workers of a board have found, by their outcomes: where every worker ended at the close, and memory
-/// aside. Elsewhere the cause of the least number that an end names. What it says holds of the ledger that the board leaves.
+/// aside. Elsewhere the cause of the least rank that an end names. What it says holds of the ledger that the board leaves.
 pub fn gather<G: Allocator, A: Allocator + Copy, S: PathSet<A>>(
     alloc: A,
     graphs: &Graphs<G>,

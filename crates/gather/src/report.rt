@@ -93,7 +93,8 @@ where
 /// board of the type `B`; the path edges are kept in sets of the type `S`. The board and its histories are in memory of
 /// `heap`, tables and summaries in that of `alloc`. The gate is told of each take and post. `TooWide` is answered exactly
 /// where some procedure of the rewriting has more than 64 places, `EdgeLimit` only where some procedure has more path edges
-/// than the limit. Of several causes the one of the least number is answered.
+/// than the limit. Of several causes the one that `NoVerdict` lists first is
+/// answered.
 ///
 /// A worker has a thread only where `hire` says that it may; where it says no, or the system refuses a thread, that worker and
 /// those behind it do nothing but abort the board, and a cause is `NoWorker`. Each worker has one call of the board fewer than
@@ -126,6 +127,8 @@ where
         Err(RewriteFault::Memory) => return Err(NoVerdict::Memory),
     };
     let graphs = graphs(&heap, &sequential)?;
+    // What follows reads the graphs alone.
+    drop(sequential);
     let (ledger, summaries) = analyse::<R, B, S, K, H>(
         rt, heap, alloc, &graphs, limit, gate, hire, budget,
     )?;

@@ -6,18 +6,18 @@ ghost use Rattle.summaries.specs.declared.no_verdict.NoVerdict.TheVariants.{Memo
 use crate::table_fault::TableFault;
 use std::alloc::{AllocError, AllocFailed};
 
-/// Why an analysis has no verdict.
+/// Why an analysis has no verdict. Of several reasons the one that stands first here is answered.
 #[derive(Clone, Copy, Debug, PartialEq, Eq)]
 pub enum NoVerdict {
-    /// Some procedure of the rewritten program has more than 64 places: number 14.
+    /// Some procedure of the rewritten program has more than 64 places.
     TooWide,
-    /// Memory is refused: number 19.
+    /// Memory is refused.
     Memory,
-    /// Some procedure has more path edges than the limit: number 20.
+    /// Some procedure has more path edges than the limit.
     EdgeLimit,
-    /// A thread is refused: number 21.
+    /// A thread is refused.
     NoWorker,
-    /// A worker has used up its calls: number 22.
+    /// A worker has used up its calls.
     Spent,
 }
 
