@@ -13,8 +13,8 @@ pub mod Asking
 pub mod Working
 pub mod Leading
 pub mod Leaving
-pub mod Beginning
-pub mod Ending
+pub mod Entering
+pub mod Resuming
 pub mod Tabling
 pub mod Worked
 pub mod Tabled

@@ -65,8 +65,8 @@ impl<'g, G: Allocator, A: Allocator + Copy, S: PathSet<A>> Table<'g, G, A, S> {
         if let Some(fault) = self.fault {
             return Err(fault);
         }
-        let begun = self.begin(caller, a);
-        self.keep(begun)
+        let entered = self.enter(caller, a);
+        self.keep(entered)
     }
 
     /// Takes a message: procedure `p`, entered with the valuation `a`, leaves the globals `b`. It fails as `take_entry`
@@ -78,14 +78,14 @@ impl<'g, G: Allocator, A: Allocator + Copy, S: PathSet<A>> Table<'g, G, A, S> {
         if let Some(fault) = self.fault {
             return Err(fault);
         }
-        let ended = self.end(
+        let resumed = self.resume(
             Call {
                 callee: p,
                 entered: a,
             },
             b,
         );
-        self.keep(ended)
+        self.keep(resumed)
     }
 
     /// The next message that the table owes by those that it has taken, and the procedure that it is for; each comes

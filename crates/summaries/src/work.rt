@@ -123,7 +123,7 @@ impl<'g, G: Allocator, A: Allocator + Copy, S: PathSet<A>> Table<'g, G, A, S> {
     }
 
     /// Lets a caller enter the procedure, unless it has: its start is reached, and the caller gets the summaries known.
-    pub(crate) fn begin(&mut self, caller: Caller, a: Word) -> Result<(), TableFault>
+    pub(crate) fn enter(&mut self, caller: Caller, a: Word) -> Result<(), TableFault>
         requires holds { Holds S.members (λ t. ⊥) self.old }
         requires within { length (S.members self.old.edges) ≤ limit_of self.old }
         ensures worked { Worked S.members (λ t. ⊥) result self.old self.new }
@@ -150,8 +150,8 @@ impl<'g, G: Allocator, A: Allocator + Copy, S: PathSet<A>> Table<'g, G, A, S> {
         Ok(())
     }
 
-    /// Goes on behind each call of this kind, for globals that it left.
-    pub(crate) fn end(&mut self, call: Call, b: Word) -> Result<(), TableFault>
+    /// Resumes each call of this kind, for globals that it left.
+    pub(crate) fn resume(&mut self, call: Call, b: Word) -> Result<(), TableFault>
         requires holds { Holds S.members (λ t. ⊥) self.old }
         requires within { length (S.members self.old.edges) ≤ limit_of self.old }
         ensures worked { Worked S.members (λ t. ⊥) result self.old self.new }
