@@ -5,6 +5,7 @@ pub mod Mails
 pub mod Firsts
 pub mod Eaches
 pub mod Growing
+pub mod Reaching
 pub mod Dues
 pub mod Telling
 pub mod Adding
