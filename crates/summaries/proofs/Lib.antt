@@ -5,6 +5,7 @@ pub mod Mails
 pub mod Firsts
 pub mod Eaches
 pub mod Growing
+pub mod Reaching
 pub mod Dues
 pub mod Telling
 pub mod Adding
@@ -13,8 +14,8 @@ pub mod Asking
 pub mod Working
 pub mod Leading
 pub mod Leaving
-pub mod Beginning
-pub mod Ending
+pub mod Entering
+pub mod Resuming
 pub mod Tabling
 pub mod Worked
 pub mod Tabled

@@ -4,6 +4,7 @@ pub mod Dues
 pub mod Fitting
 pub mod Found
 pub mod Grows
+pub mod Frontiers
 pub mod Tables
 pub mod Effects
 pub mod Tabulated

@@ -6,10 +6,7 @@ ghost use Rattle.path_sets.specs.EdgeLimits.{most_of};
 use crate::due::{Caller, Due};
 use crate::edge::{Call, Edge};
 use crate::found::Found;
-use crate::go_on::go_on_at_each;
-use crate::reach::reach;
 use crate::table_fault::TableFault;
-use crate::tell::tell_exits;
 use flow_graph::{Graph, Graphs};
 use language::Word;
 use path_sets::{EdgeLimit, PathSet};
@@ -65,8 +62,8 @@ impl<'g, G: Allocator, A: Allocator + Copy, S: PathSet<A>> Table<'g, G, A, S> {
         if let Some(fault) = self.fault {
             return Err(fault);
         }
-        let begun = self.begin(caller, a);
-        self.keep(begun)
+        let entered = self.enter(caller, a);
+        self.keep(entered)
     }
 
     /// Takes a message: procedure `p`, entered with the valuation `a`, leaves the globals `b`. It fails as `take_entry`
@@ -78,14 +75,14 @@ impl<'g, G: Allocator, A: Allocator + Copy, S: PathSet<A>> Table<'g, G, A, S> {
         if let Some(fault) = self.fault {
             return Err(fault);
         }
-        let ended = self.end(
+        let resumed = self.resume(
             Call {
                 callee: p,
                 entered: a,
             },
             b,
         );
-        self.keep(ended)
+        self.keep(resumed)
     }
 
     /// The next message that the table owes by those that it has taken, and the procedure that it is for; each comes

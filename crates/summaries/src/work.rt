@@ -12,10 +12,8 @@ ghost use Rattle.summaries.specs.Tables.{TookAlso, TookOnly, TookSame};
 
 use crate::due::{Caller, Due};
 use crate::edge::{Call, Edge, Site};
-use crate::go_on::{go_on, go_on_at_each};
-use crate::lead::lead;
+use crate::frontier::Frontier;
 use crate::pair::Pair;
-use crate::reach::reach;
 use crate::table::Table;
 use crate::table_fault::TableFault;
 use crate::tell::{tell_all, tell_exits};
@@ -86,14 +84,12 @@ impl<'g, G: Allocator, A: Allocator + Copy, S: PathSet<A>> Table<'g, G, A, S> {
         };
         let known = self.found.sites.add(key, site)?;
         self.found.given.give_unless(known, key.callee, due)?;
-        go_on(
-            self.graph,
-            &mut self.edges,
-            &mut self.found.pending,
-            self.limit,
-            site,
-            self.found.summaries.of(key),
-        )
+        let mut frontier = Frontier {
+            edges: &mut self.edges,
+            pending: &mut self.found.pending,
+            limit: self.limit,
+        };
+        frontier.go_on(self.graph, site, self.found.summaries.of(key))
     }
 
     /// Works on an edge that is no longer pending: adds the edges that it leads to, and gives the messages that it
@@ -112,18 +108,19 @@ impl<'g, G: Allocator, A: Allocator + Copy, S: PathSet<A>> Table<'g, G, A, S> {
         }
         match self.graph.flow(edge.point) {
             Flow::Call(call) => self.ask(edge, call),
-            flow => lead(
-                flow,
-                &mut self.edges,
-                &mut self.found.pending,
-                self.limit,
-                edge,
-            ),
+            flow => {
+                let mut frontier = Frontier {
+                    edges: &mut self.edges,
+                    pending: &mut self.found.pending,
+                    limit: self.limit,
+                };
+                frontier.lead(flow, edge)
+            }
         }
     }
 
     /// Lets a caller enter the procedure, unless it has: its start is reached, and the caller gets the summaries known.
-    pub(crate) fn begin(&mut self, caller: Caller, a: Word) -> Result<(), TableFault>
+    pub(crate) fn enter(&mut self, caller: Caller, a: Word) -> Result<(), TableFault>
         requires holds { Holds S.members (λ t. ⊥) self.old }
         requires within { length (S.members self.old.edges) ≤ limit_of self.old }
         ensures worked { Worked S.members (λ t. ⊥) result self.old self.new }
@@ -139,7 +136,12 @@ impl<'g, G: Allocator, A: Allocator + Copy, S: PathSet<A>> Table<'g, G, A, S> {
             point: self.graph.start(),
             values: a,
         };
-        reach(&mut self.edges, &mut self.found.pending, self.limit, start)?;
+        let mut frontier = Frontier {
+            edges: &mut self.edges,
+            pending: &mut self.found.pending,
+            limit: self.limit,
+        };
+        frontier.reach(start)?;
         tell_exits(
             &mut self.found.given,
             self.procedure,
@@ -150,8 +152,8 @@ impl<'g, G: Allocator, A: Allocator + Copy, S: PathSet<A>> Table<'g, G, A, S> {
         Ok(())
     }
 
-    /// Goes on behind each call of this kind, for globals that it left.
-    pub(crate) fn end(&mut self, call: Call, b: Word) -> Result<(), TableFault>
+    /// Resumes each call of this kind, for globals that it left.
+    pub(crate) fn resume(&mut self, call: Call, b: Word) -> Result<(), TableFault>
         requires holds { Holds S.members (λ t. ⊥) self.old }
         requires within { length (S.members self.old.edges) ≤ limit_of self.old }
         ensures worked { Worked S.members (λ t. ⊥) result self.old self.new }
@@ -160,13 +162,11 @@ impl<'g, G: Allocator, A: Allocator + Copy, S: PathSet<A>> Table<'g, G, A, S> {
         ensures only { TookOnly (Summary call.callee call.entered b) self.old.found self.new.found }
     {
         self.found.summaries.add(call, b)?;
-        go_on_at_each(
-            self.graph,
-            &mut self.edges,
-            &mut self.found.pending,
-            self.limit,
-            self.found.sites.of(call),
-            b,
-        )
+        let mut frontier = Frontier {
+            edges: &mut self.edges,
+            pending: &mut self.found.pending,
+            limit: self.limit,
+        };
+        frontier.go_on_at_each(self.graph, self.found.sites.of(call), b)
     }
 }

@@ -28,15 +28,15 @@ known : (g : given.Over) (c : goal.After-go_on g) →
     let self = c.args.self.now in
     let site = site c.args.edge.entry c.args.edge.point c.args.edge.values in
     let es = g.S.PathSet.members self.edges in
-    let ds = g.S.PathSet.members c.go_on.new.edges in
+    let ds = g.S.PathSet.members c.go_on.new.self.edges.now in
     let known = under call_eq self.found.summaries.by_key (call c.callee.result c.entry.result) in
-    Grows (OfSome (IsBehind self.graph.now site) c.of.result.now) es ds self.found.pending.items c.go_on.new.pending.items →
-    Grows (OfSome (IsBehind self.graph.now site) known) es ds self.found.pending.items c.go_on.new.pending.items
+    Grows (OfSome (IsBehind self.graph.now site) c.of.result.now) es ds self.found.pending.items c.go_on.new.self.pending.now.items →
+    Grows (OfSome (IsBehind self.graph.now site) known) es ds self.found.pending.items c.go_on.new.self.pending.now.items
 known g c =
     let self = c.args.self.now in
     subst (λ bs. Grows (OfSome (IsBehind self.graph.now (site c.args.edge.entry c.args.edge.point c.args.edge.values)) bs)
-    (g.S.PathSet.members self.edges) (g.S.PathSet.members c.go_on.new.edges) self.found.pending.items
-    c.go_on.new.pending.items) c.of.ensures
+    (g.S.PathSet.members self.edges) (g.S.PathSet.members c.go_on.new.self.edges.now) self.found.pending.items
+    c.go_on.new.self.pending.now.items) c.of.ensures
 
 -- where the call stands somewhere, its entry is given already
 pub give_unless-requires-clause-known : goal.give_unless-requires-clause-known
@@ -82,47 +82,47 @@ returns-clause-worked g c =
     let f = self.found in
     let e = c.args.edge in
     let es = g.S.PathSet.members self.edges in
-    let ds = g.S.PathSet.members c.go_on.new.edges in
-    let edges = ask_only self.graph.now self.procedure f c.give_unless.new.self c.add.new.self c.go_on.new.pending es ds e
+    let ds = g.S.PathSet.members c.go_on.new.self.edges.now in
+    let edges = ask_only self.graph.now self.procedure f c.give_unless.new.self c.add.new.self c.go_on.new.self.pending.now es ds e
     c.callee.result c.entry.result c.args.call.now.back (flow.Call c.args.call.now)
     c.requires.holds.0 c.requires.edge c.requires.call (enters g c)
     (subst (λ bs. (t : Triple) → Member t ds →
     OfSome (IsBehind self.graph.now (site e.entry e.point e.values)) bs t ⊎ Member t es) c.of.ensures
-    c.go_on.ensures.only) in
-    added_worked g.S.PathSet.members _ (λ t. t ≡ triple_of e) c.go_on.result self _ es _ _ c.go_on.ensures
-    (g.met.S.PathSet.none_twice c.go_on.new.edges) edges
-    (λ t w. behind_reached self.graph.now self.procedure f c.give_unless.new.self c.add.new.self c.go_on.new.pending es ds e
+    c.go_on.ensures.adds.only) in
+    added_worked g.S.PathSet.members _ (λ t. t ≡ triple_of e) c.go_on.result self _ es _ _ c.go_on.ensures.adds
+    (g.met.S.PathSet.none_twice c.go_on.new.self.edges.now) edges
+    (λ t w. behind_reached self.graph.now self.procedure f c.give_unless.new.self c.add.new.self c.go_on.new.self.pending.now es ds e
     c.callee.result c.entry.result c.args.call.now.back (flow.Call c.args.call.now)
     c.requires.holds.0 c.requires.edge c.requires.call (enters g c) t
     (subst (λ bs. OfSome (IsBehind self.graph.now (site e.entry e.point e.values)) bs t) c.of.ensures w))
     (IfOk-weaker c.go_on.result _ _
     (λ _ grown.
-    let step = ask_step self.graph.now self.procedure f c.give_unless.new.self c.add.new.self c.go_on.new.pending es ds e
+    let step = ask_step self.graph.now self.procedure f c.give_unless.new.self c.add.new.self c.go_on.new.self.pending.now es ds e
     c.callee.result c.entry.result c.args.call.now.back (flow.Call c.args.call.now)
     c.requires.holds.0 c.requires.edge c.requires.call (enters g c) c.in_ok-give_unless.ensures.ok
     c.in_ok-known.ensures.added
     c.in_ok-known.ensures.others (known g c grown) in
     still_holds self.graph.now self.procedure f _ es ds step (λ t. t ≡ triple_of e) c.requires.holds)
-    c.go_on.ensures.ok)
+    c.go_on.ensures.adds.ok)
     (IfOk-weaker c.go_on.result _ _
     (λ _ _. answers_still f.given.mails.items c.give_unless.new.self.mails.items f.given.answered
     c.give_unless.new.self.answered
     f.given.within c.give_unless.ensures.answered c.in_ok-give_unless.ensures.ok.behind)
-    c.go_on.ensures.ok)
+    c.go_on.ensures.adds.ok)
     (record { graph = refl; procedure = refl; limit = refl }) refl
 
 pub returns-clause-asked : goal.returns-clause-asked
 returns-clause-asked g c =
     let self = c.args.self.now in
     let e = c.args.edge in
-    let found = asked_to self.graph.now self.procedure self.found c.give_unless.new.self c.add.new.self c.go_on.new.pending in
+    let found = asked_to self.graph.now self.procedure self.found c.give_unless.new.self c.add.new.self c.go_on.new.self.pending.now in
     let es = g.S.PathSet.members self.edges in
-    let ds = g.S.PathSet.members c.go_on.new.edges in
+    let ds = g.S.PathSet.members c.go_on.new.self.edges.now in
     IfOk-weaker c.go_on.result _ _
     (λ _ grown.
     subst (λ (t : ℕ × ℕ). HasSite found t.0 t.1 (site e.entry e.point e.values)) (λ i. (c.callee.ensures i, c.entry.ensures i))
-    (asked_site self.graph.now self.procedure self.found c.give_unless.new.self c.add.new.self c.go_on.new.pending es ds e
+    (asked_site self.graph.now self.procedure self.found c.give_unless.new.self c.add.new.self c.go_on.new.self.pending.now es ds e
     c.callee.result c.entry.result c.args.call.now.back (flow.Call c.args.call.now)
     c.requires.holds.0 c.requires.edge c.requires.call (enters g c) c.in_ok-give_unless.ensures.ok
     c.in_ok-known.ensures.added c.in_ok-known.ensures.others (known g c grown)))
-    c.go_on.ensures.ok
+    c.go_on.ensures.adds.ok

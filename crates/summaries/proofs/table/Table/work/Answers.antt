@@ -81,31 +81,32 @@ pub returns-in_default : goal.returns-in_default
 returns-in_default g c =
     let new = c.leave.new.self in
     let f = new.found in
+    let after = c.lead.new.self.pending.now in
     let e = c.args.edge in
     let es = g.S.PathSet.members new.edges in
-    let ds = g.S.PathSet.members c.lead.new.edges in
+    let ds = g.S.PathSet.members c.lead.new.self.edges.now in
     let there = subst (λ s. Member (triple_of e) (g.S.PathSet.members s)) (sym c.in_ok-leave.ensures.edges) c.requires.edge in
     let here = c.flow.ensures in
     let only =
-    lead_only new.graph.now new.procedure f c.lead.new.pending es ds e c.flow.result.now c.in_ok-leave.ensures.ok.0 there here
-    c.lead.ensures.only in record {
+    lead_only new.graph.now new.procedure f after es ds e c.flow.result.now c.in_ok-leave.ensures.ok.0 there here
+    c.lead.ensures.adds.only in record {
       worked =
-          added_worked g.S.PathSet.members (IsNext c.flow.result.now e) (λ t. ⊥) c.lead.result c.args.self.now _ es _ _ c.lead.ensures
-          (g.met.S.PathSet.none_twice c.lead.new.edges) only
-          (next_reached new.graph.now new.procedure f c.lead.new.pending es ds e c.flow.result.now c.in_ok-leave.ensures.ok.0 there here)
+          added_worked g.S.PathSet.members (IsNext c.flow.result.now e) (λ t. ⊥) c.lead.result c.args.self.now _ es _ _ c.lead.ensures.adds
+          (g.met.S.PathSet.none_twice c.lead.new.self.edges.now) only
+          (next_reached new.graph.now new.procedure f after es ds e c.flow.result.now c.in_ok-leave.ensures.ok.0 there here)
           (IfOk-weaker c.lead.result _ _
           (λ _ grown.
-          let step = lead_step new.graph.now new.procedure f c.lead.new.pending es ds e c.flow.result.now
+          let step = lead_step new.graph.now new.procedure f after es ds e c.flow.result.now
           c.in_ok-leave.ensures.ok.0 there here grown in
           let held = still_holds new.graph.now new.procedure f _ es ds step (λ t. t ≡ triple_of e) c.in_ok-leave.ensures.ok in (
             held.0,
             worked_off new.graph.now new.procedure _ ds e.entry e.point e.values
-                (led_worked new.graph.now new.procedure (led_to new.graph.now new.procedure f c.lead.new.pending) ds e
+                (led_worked new.graph.now new.procedure (led_to new.graph.now new.procedure f after) ds e
                 c.in_ok-leave.ensures.left c.flow.result.now here c.in_default.not-Call grown.all)
                 held.1,
           ))
-          c.lead.ensures.ok)
-          (IfOk-weaker c.lead.result _ _ (λ _ _. c.in_ok-leave.ensures.answers) c.lead.ensures.ok)
+          c.lead.ensures.adds.ok)
+          (IfOk-weaker c.lead.result _ _ (λ _ _. c.in_ok-leave.ensures.answers) c.lead.ensures.adds.ok)
           (let s = c.in_ok-leave.ensures.stays in record { graph = s.graph; procedure = s.procedure; limit = s.limit })
           c.in_ok-leave.ensures.fault;
       taken = c.in_ok-leave.ensures.taken;
@@ -116,5 +117,5 @@ returns-in_default g c =
           let more = grown.more in
           let longer = grown.longer in
           (omega (arith, pending, edges, more), omega (arith, edges, longer)))
-          c.lead.ensures.ok;
+          c.lead.ensures.adds.ok;
     }

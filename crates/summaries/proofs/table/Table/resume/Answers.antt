@@ -3,10 +3,10 @@ use Rattle.std.proofs.lemmas.Result.{IfOk-weaker}
 use Rattle.language.specs.Lists.{Member}
 use Rattle.path_sets.specs.Triples.{Triple}
 use Rattle.summaries.specs.Grows.{Grows, OfSome, IsBehind}
-use Rattle.summaries.proofs.Ending.{ended_also, end_only, end_step, ended_reached}
+use Rattle.summaries.proofs.Resuming.{resumed_also, resume_only, resume_step, resumed_reached}
 use Rattle.summaries.proofs.Stepping.{grown_to, still_holds, all_reached, taken_as}
 use Rattle.summaries.proofs.Worked.{refused_worked, added_worked}
-use Rattle.summaries.proofs.table.Table.end.Goals as goal
+use Rattle.summaries.proofs.table.Table.resume.Goals as goal
 
 pub returns-in_err-add-clause-worked : goal.returns-in_err-add-clause-worked
 returns-in_err-add-clause-worked g c =
@@ -23,25 +23,25 @@ returns-clause-worked g c =
     let self = c.args.self.now in
     let f = self.found in
     let es = g.S.PathSet.members self.edges in
-    let ds = g.S.PathSet.members c.go_on_at_each.new.edges in
-    let edges = end_only self.graph.now self.procedure f c.add.new.self c.go_on_at_each.new.pending c.args.call c.args.b
+    let ds = g.S.PathSet.members c.go_on_at_each.new.self.edges.now in
+    let edges = resume_only self.graph.now self.procedure f c.add.new.self c.go_on_at_each.new.self.pending.now c.args.call c.args.b
     c.in_ok-add.ensures.added c.in_ok-add.ensures.others es ds c.requires.holds.0
     (subst (λ ss. (t : Triple) → Member t ds → OfSome (λ y. IsBehind self.graph.now y c.args.b) ss t ⊎ Member t es)
-    c.of.ensures c.go_on_at_each.ensures.only) in
-    added_worked g.S.PathSet.members _ (λ t. ⊥) c.go_on_at_each.result self _ es _ _ c.go_on_at_each.ensures
-    (g.met.S.PathSet.none_twice c.go_on_at_each.new.edges) edges
-    (λ t w. ended_reached self.graph.now self.procedure f c.add.new.self c.go_on_at_each.new.pending c.args.call c.args.b
+    c.of.ensures c.go_on_at_each.ensures.adds.only) in
+    added_worked g.S.PathSet.members _ (λ t. ⊥) c.go_on_at_each.result self _ es _ _ c.go_on_at_each.ensures.adds
+    (g.met.S.PathSet.none_twice c.go_on_at_each.new.self.edges.now) edges
+    (λ t w. resumed_reached self.graph.now self.procedure f c.add.new.self c.go_on_at_each.new.self.pending.now c.args.call c.args.b
     c.in_ok-add.ensures.added c.in_ok-add.ensures.others es ds c.requires.holds.0 t
     (subst (λ ss. OfSome (λ y. IsBehind self.graph.now y c.args.b) ss t) c.of.ensures w))
     (IfOk-weaker c.go_on_at_each.result _ _
     (λ _ grown.
     let known = subst (λ ss. Grows (OfSome (λ y. IsBehind self.graph.now y c.args.b) ss) es ds f.pending.items
-    c.go_on_at_each.new.pending.items) c.of.ensures grown in
-    let step = end_step self.graph.now self.procedure f c.add.new.self c.go_on_at_each.new.pending c.args.call
+    c.go_on_at_each.new.self.pending.now.items) c.of.ensures grown in
+    let step = resume_step self.graph.now self.procedure f c.add.new.self c.go_on_at_each.new.self.pending.now c.args.call
     c.args.b c.in_ok-add.ensures.added c.in_ok-add.ensures.others es ds c.requires.holds.0 known in
     still_holds self.graph.now self.procedure f _ es ds step (λ t. ⊥) c.requires.holds)
-    c.go_on_at_each.ensures.ok)
-    (IfOk-weaker c.go_on_at_each.result _ _ (λ _ _. refl) c.go_on_at_each.ensures.ok)
+    c.go_on_at_each.ensures.adds.ok)
+    (IfOk-weaker c.go_on_at_each.result _ _ (λ _ _. refl) c.go_on_at_each.ensures.adds.ok)
     (record { graph = refl; procedure = refl; limit = refl }) refl
 
 pub returns-clause-taken : goal.returns-clause-taken
@@ -50,9 +50,9 @@ returns-clause-taken g c =
     let f = self.found in
     IfOk-weaker c.go_on_at_each.result _ _
     (λ _ _.
-    ended_also self.graph.now self.procedure f c.add.new.self c.go_on_at_each.new.pending c.args.call c.args.b
+    resumed_also self.graph.now self.procedure f c.add.new.self c.go_on_at_each.new.self.pending.now c.args.call c.args.b
     c.in_ok-add.ensures.added c.in_ok-add.ensures.others)
-    c.go_on_at_each.ensures.ok
+    c.go_on_at_each.ensures.adds.ok
 
 pub returns-in_err-add-clause-only : goal.returns-in_err-add-clause-only
 returns-in_err-add-clause-only g c = λ k m.
@@ -63,5 +63,5 @@ returns-in_err-add-clause-only g c = λ k m.
 pub returns-clause-only : goal.returns-clause-only
 returns-clause-only g c = λ k.
     let self = c.args.self.now in
-    (ended_also self.graph.now self.procedure self.found c.add.new.self c.go_on_at_each.new.pending c.args.call c.args.b
+    (resumed_also self.graph.now self.procedure self.found c.add.new.self c.go_on_at_each.new.self.pending.now c.args.call c.args.b
     c.in_ok-add.ensures.added c.in_ok-add.ensures.others k).0

@@ -5,7 +5,8 @@ use Rattle.std.proofs.lemmas.Bool.{ltb-true, ltb-false}
 use Rattle.flow_graph.specs.Flows.{last_of, next_of}
 use Rattle.summaries.specs.Grows.{Grows, IsAt, IsNextBefore, IsNext}
 use Rattle.summaries.proofs.Growing.{ok_err, fault_of, both, grows_as, next_more, next_so_far, next_all, all_next, some_next}
-use Rattle.summaries.proofs.lead.lead.Goals as goal
+use Rattle.summaries.proofs.Reaching.{still_within, reaches_on, stays_on}
+use Rattle.summaries.proofs.frontier.Frontier.lead.Goals as goal
 
 -- a choice with none behind it is the last
 is_last : (k last : ℕ) (more : Bool) → (IsTrue more ↔ (k < last)) → more ≡ false → last ≤ k
@@ -19,8 +20,9 @@ pub returns-in_err-reach_next : goal.returns-in_err-reach_next
 returns-in_err-reach_next g c =
     let flow = c.args.flow.now in
     let k = c.choices.choice in
-    let most = c.choices.invariant.2 in
-    let failed = c.in_err-reach_next.ensures in record {
+    let most = c.choices.invariant.3 in
+    let failed = c.in_err-reach_next.ensures.adds in
+    reaches_on g.S.PathSet.members c.choices.invariant.2 c.in_err-reach_next.ensures.stays (record {
       ok = search rules;
       only = λ t m. elim (failed.only t m) [
         | inl at ↦ inl (k, most, subst (λ next. IsAt c.args.from next t) c.choose-next.ensures.next at)
@@ -31,7 +33,7 @@ returns-in_err-reach_next g c =
       limit = λ e.
           let (t, at, new, full) = failed.limit (ap Err (sym (fault_of _ _ _ c.from_residual.ensures.1 e))) in
           (t, (k, most, subst (λ next. IsAt c.args.from next t) c.choose-next.ensures.next at), new, full);
-    }
+    })
 
 pub choices-preserved : goal.choices-preserved
 choices-preserved g c =
@@ -42,11 +44,12 @@ choices-preserved g c =
           (IsNextBefore (k + 1) flow from) _ _ _ _ _ _ c.choices.invariant.0
           (subst
           (λ next.
-          Grows (IsAt from next) (g.S.PathSet.members c.choices.edges)
-          (g.S.PathSet.members c.reach_next.new.edges) c.choices.pending.items c.reach_next.new.pending.items)
-          c.choose-next.ensures.next c.in_ok-reach_next.ensures.ok)
+          Grows (IsAt from next) (g.S.PathSet.members c.choices.self.edges.now)
+          (g.S.PathSet.members c.reach_next.new.self.edges.now) c.choices.self.pending.now.items c.reach_next.new.self.pending.now.items)
+          c.choose-next.ensures.next c.in_ok-reach_next.ensures.adds.ok)
           (next_more flow from k) (next_so_far flow from k),
-      c.in_ok-reach_next.ensures.within,
+      still_within g.S.PathSet.members c.in_ok-reach_next.ensures,
+      stays_on c.choices.invariant.2 c.in_ok-reach_next.ensures.stays,
       omega (arith, c.choose-next.ensures.more.0 c.if-not-more.false),
     )
 
@@ -55,7 +58,7 @@ returns-then-not-more g c =
     let flow = c.args.flow.now in
     let from = c.args.from in
     let k = c.choices.choice in
-    let most = c.choices.invariant.2 in
+    let most = c.choices.invariant.3 in
     let least = is_last k (last_of flow) c.choose-next.result.1 c.choose-next.ensures.more c.if-not-more.true in
     let grown = grows_as (IsNextBefore (k + 1) flow from) (IsNext flow from) _ _ _ _ (next_all flow from k least most)
     (all_next flow from k least most)
@@ -63,15 +66,16 @@ returns-then-not-more g c =
     (IsNextBefore (k + 1) flow from) _ _ _ _ _ _ c.choices.invariant.0
     (subst
     (λ next.
-    Grows (IsAt from next) (g.S.PathSet.members c.choices.edges)
-    (g.S.PathSet.members c.reach_next.new.edges) c.choices.pending.items c.reach_next.new.pending.items) c.choose-next.ensures.next
-    c.in_ok-reach_next.ensures.ok)
-    (next_more flow from k) (next_so_far flow from k)) in record {
+    Grows (IsAt from next) (g.S.PathSet.members c.choices.self.edges.now)
+    (g.S.PathSet.members c.reach_next.new.self.edges.now) c.choices.self.pending.now.items c.reach_next.new.self.pending.now.items)
+    c.choose-next.ensures.next c.in_ok-reach_next.ensures.adds.ok)
+    (next_more flow from k) (next_so_far flow from k)) in
+    reaches_on g.S.PathSet.members c.choices.invariant.2 c.in_ok-reach_next.ensures.stays (record {
       ok = grown;
       only = grown.only;
-      within = c.in_ok-reach_next.ensures.within;
+      within = c.in_ok-reach_next.ensures.adds.within;
       limit = λ is. absurd (ok_err is);
-    }
+    })
 
 pub overflow_add-choice : goal.overflow_add-choice
 overflow_add-choice g c = let below = c.choose-next.ensures.more.0 c.if-not-more.false in omega (arith, below, c.choose-next.ensures.few)

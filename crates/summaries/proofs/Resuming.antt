@@ -27,20 +27,20 @@ module _ {A G : Type 0} (graph : Graph G) (q : ℕ) (f : Found A) (summaries : G
     (added : under call_eq summaries.by_key k ≡ under call_eq f.summaries.by_key k ++ b ∷ [])
     (others : (j : Call) → call_eq k j ≡ false → under call_eq summaries.by_key j ≡ under call_eq f.summaries.by_key j) where
   -- what is found, with other summaries and edges pending
-  abbrev pub ended_to : Found A
-  ended_to = grown_to graph q f f.entries summaries f.given pending
+  abbrev pub resumed_to : Found A
+  resumed_to = grown_to graph q f f.entries summaries f.given pending
 
   abbrev M : NumberedMessage → Type 0
-  M = TookMessage ended_to
+  M = TookMessage resumed_to
 
   summary_or : (j : Call) (y : ℕ) → Member y (under call_eq summaries.by_key j)
       → Member y (under call_eq f.summaries.by_key j) ⊎ ((k ≡ j) × (b ≡ y))
   summary_or = added_or call_eq same_call (under call_eq f.summaries.by_key) (under call_eq summaries.by_key) k b added others
 
   -- the messages taken stay
-  pub taken_ended : (m : NumberedMessage) → TookMessage f m → TookMessage ended_to m
-  taken_ended (numbered_entry c x) h = h
-  taken_ended (numbered_summary s x y) h =
+  pub taken_resumed : (m : NumberedMessage) → TookMessage f m → TookMessage resumed_to m
+  taken_resumed (numbered_entry c x) h = h
+  taken_resumed (numbered_summary s x y) h =
       added_keeps call_eq same_call (under call_eq f.summaries.by_key) (under call_eq summaries.by_key) k b added others (call s x) y h
 
   -- the summary is taken
@@ -48,10 +48,10 @@ module _ {A G : Type 0} (graph : Graph G) (q : ℕ) (f : Found A) (summaries : G
   left_so = added_is call_eq same_call (under call_eq f.summaries.by_key) (under call_eq summaries.by_key) k b added others
 
   -- and no other
-  pub ended_also : TookAlso (Summary k.callee k.entered b) f ended_to
-  ended_also (numbered_entry c x) =
+  pub resumed_also : TookAlso (Summary k.callee k.entered b) f resumed_to
+  resumed_also (numbered_entry c x) =
       (λ h. inr h, λ w. elim w [ inl is ↦ absurd (apart (caller_of c) k.callee x k.entered b is) | inr was ↦ was ])
-  ended_also (numbered_summary s x y) = (
+  resumed_also (numbered_summary s x y) = (
     λ h.
         elim (summary_or (call s x) y h) [
           | inl was ↦ inr was
@@ -62,15 +62,15 @@ module _ {A G : Type 0} (graph : Graph G) (q : ℕ) (f : Found A) (summaries : G
           let (same, at) = same_summary s k.callee x k.entered y b is in
           subst (λ j. Member y (under call_eq summaries.by_key j)) same
           (subst (λ z. Member z (under call_eq summaries.by_key k)) at left_so)
-      | inr was ↦ taken_ended (numbered_summary s x y) was
+      | inr was ↦ taken_resumed (numbered_summary s x y) was
     ],
   )
 
   module _ (es ds : List Triple) (sound : IsGrounded graph q f es) where
     -- what is behind a call is reached
-    pub ended_reached : (t : Triple) → OfSome (λ y. IsBehind graph y b) (under call_eq f.sites.by_key k) t →
+    pub resumed_reached : (t : Triple) → OfSome (λ y. IsBehind graph y b) (under call_eq f.sites.by_key k) t →
         GraphReaches graph M t.entry t.point t.values
-    ended_reached t (y, m, (s, x, n, (fl, at, en), is)) =
+    resumed_reached t (y, m, (s, x, n, (fl, at, en), is)) =
         let (reached, (back, (flow, here, enters))) = sound.site k.callee k.entered y.asked y.point y.values m in
         let call : (s, x, n) ≡ (k.callee, k.entered, back) =
         same_Some (s, x, n) (k.callee, k.entered, back)
@@ -78,21 +78,21 @@ module _ {A G : Type 0} (graph : Graph G) (q : ℕ) (f : Found A) (summaries : G
         subst (λ u. GraphReaches graph M u.entry u.point u.values)
         (sym (is ∙ ap (λ (c : ℕ × ℕ × ℕ). triple y.asked c.2 (resumed graph.globals y.values b)) call))
         (returns y.asked y.point y.values k.callee k.entered back b flow
-        (reaches_more graph (TookMessage f) M taken_ended y.asked y.point y.values reached) here enters left_so)
+        (reaches_more graph (TookMessage f) M taken_resumed y.asked y.point y.values reached) here enters left_so)
 
     -- so, where nothing but that is added, all edges are
-    pub end_only : ((t : Triple) → Member t ds →
+    pub resume_only : ((t : Triple) → Member t ds →
         OfSome (λ y. IsBehind graph y b) (under call_eq f.sites.by_key k) t ⊎ Member t es) → (t : Triple) → Member t ds →
         GraphReaches graph M t.entry t.point t.values
-    end_only =
+    resume_only =
         grown_reached graph q f f.entries summaries f.given pending es ds
-        (OfSome (λ y. IsBehind graph y b) (under call_eq f.sites.by_key k)) taken_ended ended_reached sound
+        (OfSome (λ y. IsBehind graph y b) (under call_eq f.sites.by_key k)) taken_resumed resumed_reached sound
 
-    pub end_step : Grows (OfSome (λ y. IsBehind graph y b) (under call_eq f.sites.by_key k)) es ds f.pending.items pending.items →
-        Step graph q f ended_to es ds
-    end_step grown =
+    pub resume_step : Grows (OfSome (λ y. IsBehind graph y b) (under call_eq f.sites.by_key k)) es ds f.pending.items pending.items →
+        Step graph q f resumed_to es ds
+    resume_step grown =
         grown_step graph q f f.entries summaries f.given pending es ds
-        (OfSome (λ y. IsBehind graph y b) (under call_eq f.sites.by_key k)) taken_ended ended_reached grown
+        (OfSome (λ y. IsBehind graph y b) (under call_eq f.sites.by_key k)) taken_resumed resumed_reached grown
         (λ s m h. h) (λ s m h. inl h) (λ c x h. inl h)
         (λ s x y c n v back at enters taken. elim (summary_or (call s x) y taken) [
           | inl was ↦ inl was

@@ -1,15 +1,17 @@
-use Rattle.std.proofs.Common.{Err, sym, ap, arith, rules}
+use Rattle.std.proofs.Common.{Err, refl, sym, ap, arith, rules}
 use Rattle.summaries.specs.Found.{site}
 use Rattle.summaries.specs.Grows.{IsBehind}
 use Rattle.summaries.proofs.Growing.{each_next, each_done, fault_of}
+use Rattle.summaries.proofs.Reaching.{still_within, reaches_on, stays_on}
 use Rattle.summaries.proofs.Eaches.{each_at, each_until}
-use Rattle.summaries.proofs.go_on.go_on_at_each.Goals as goal
+use Rattle.summaries.proofs.frontier.Frontier.go_on_at_each.Goals as goal
 
 pub returns-in_err-reach_behind : goal.returns-in_err-reach_behind
 returns-in_err-reach_behind g c =
     let xs = c.args.sites.now in
     let i = c.loop-site.site-index in
-    let failed = c.in_err-reach_behind.ensures in record {
+    let failed = c.in_err-reach_behind.ensures.adds in
+    reaches_on g.S.PathSet.members c.loop-site.invariant.2 c.in_err-reach_behind.ensures.stays (record {
       ok = search rules;
       only = λ t there. each_until (λ site. IsBehind c.args.graph.now site c.args.globals) xs i (site 0 0 0) c.loop-site-test.true t
           (failed.only t there) (c.loop-site.invariant.0.only t);
@@ -21,17 +23,19 @@ returns-in_err-reach_behind g c =
             new,
             full,
           );
-    }
+    })
 
 pub loop-site-preserved : goal.loop-site-preserved
 loop-site-preserved g c = (
   each_next (λ site. IsBehind c.args.graph.now site c.args.globals) c.args.sites.now c.loop-site.site-index _ _ _ _ c.loop-site.invariant.0
-      (site 0 0 0) c.loop-site-test.true _ _ c.in_ok-reach_behind.ensures.ok,
-  c.in_ok-reach_behind.ensures.within,
+      (site 0 0 0) c.loop-site-test.true _ _ c.in_ok-reach_behind.ensures.adds.ok,
+  still_within g.S.PathSet.members c.in_ok-reach_behind.ensures,
+  stays_on c.loop-site.invariant.2 c.in_ok-reach_behind.ensures.stays,
 )
 
 pub returns : goal.returns
 returns g c =
-    each_done (λ site. IsBehind c.args.graph.now site c.args.globals) c.args.sites.now c.loop-site.site-index
+    reaches_on g.S.PathSet.members c.loop-site.invariant.2 (record { edges = refl; pending = refl; limit = refl })
+    (each_done (λ site. IsBehind c.args.graph.now site c.args.globals) c.args.sites.now c.loop-site.site-index
     _ _ _ _ c.loop-site.invariant.0 _
-    (omega (arith, c.loop-site-test.false, c.loop-site.auto.site-index-end)) c.loop-site.invariant.1
+    (omega (arith, c.loop-site-test.false, c.loop-site.auto.site-index-end)) c.loop-site.invariant.1)

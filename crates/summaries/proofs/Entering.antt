@@ -30,22 +30,22 @@ module _ {A G : Type 0} (graph : Graph G) (q : ℕ) (f : Found A) (entries : Gro
     (added : under nat_eq entries.by_key a ≡ under nat_eq f.entries.by_key a ++ from ∷ [])
     (others : (k : ℕ) → nat_eq a k ≡ false → under nat_eq entries.by_key k ≡ under nat_eq f.entries.by_key k) where
   -- what is found, with other entries, messages given and edges pending
-  abbrev pub begun_to : Found A
-  begun_to = grown_to graph q f entries f.summaries given pending
+  abbrev pub entered_to : Found A
+  entered_to = grown_to graph q f entries f.summaries given pending
 
   abbrev M : NumberedMessage → Type 0
-  M = TookMessage begun_to
+  M = TookMessage entered_to
 
   entry_or : (x : ℕ) (c : rust.Caller) → Member c (under nat_eq entries.by_key x)
       → Member c (under nat_eq f.entries.by_key x) ⊎ ((a ≡ x) × (from ≡ c))
   entry_or = added_or nat_eq exact_unsigned_eq (under nat_eq f.entries.by_key) (under nat_eq entries.by_key) a from added others
 
   -- the messages taken stay
-  pub taken_begun : (k : NumberedMessage) → TookMessage f k → TookMessage begun_to k
-  taken_begun (numbered_entry c x) h =
+  pub taken_entered : (k : NumberedMessage) → TookMessage f k → TookMessage entered_to k
+  taken_entered (numbered_entry c x) h =
       added_keeps nat_eq exact_unsigned_eq (under nat_eq f.entries.by_key) (under nat_eq entries.by_key) a from added others x
       (caller_of c) h
-  taken_begun (numbered_summary s x y) h = h
+  taken_entered (numbered_summary s x y) h = h
 
   -- the entry is taken
   entered : M (numbered_entry (who from) a)
@@ -53,8 +53,8 @@ module _ {A G : Type 0} (graph : Graph G) (q : ℕ) (f : Found A) (entries : Gro
       (added_is nat_eq exact_unsigned_eq (under nat_eq f.entries.by_key) (under nat_eq entries.by_key) a from added others)
 
   -- and no other
-  pub begun_also : TookAlso (Entry from a) f begun_to
-  begun_also (numbered_entry c x) = (
+  pub entered_also : TookAlso (Entry from a) f entered_to
+  entered_also (numbered_entry c x) = (
     λ h. elim (entry_or x (caller_of c) h) [ inl was ↦ inr was | inr is ↦ inl (λ i. Entry (sym is.1 i) (sym is.0 i)) ],
     λ w. elim w [
       | inl is ↦
@@ -62,10 +62,10 @@ module _ {A G : Type 0} (graph : Graph G) (q : ℕ) (f : Found A) (entries : Gro
           subst (λ y. Member (caller_of c) (under nat_eq entries.by_key y)) at
           (subst (λ d. Member d (under nat_eq entries.by_key a)) same
           (added_is nat_eq exact_unsigned_eq (under nat_eq f.entries.by_key) (under nat_eq entries.by_key) a from added others))
-      | inr was ↦ taken_begun (numbered_entry c x) was
+      | inr was ↦ taken_entered (numbered_entry c x) was
     ],
   )
-  begun_also (numbered_summary s x y) = (λ h. inr h, λ w. elim w [ inl is ↦ absurd (apart from s a x y (sym is)) | inr was ↦ was ])
+  entered_also (numbered_summary s x y) = (λ h. inr h, λ w. elim w [ inl is ↦ absurd (apart from s a x y (sym is)) | inr was ↦ was ])
 
   module _ (es ds : List Triple) (sound : IsGrounded graph q f es) where
     -- the start is reached
@@ -73,17 +73,17 @@ module _ {A G : Type 0} (graph : Graph G) (q : ℕ) (f : Found A) (entries : Gro
     start_reached t is = subst (λ u. GraphReaches graph M u.entry u.point u.values) (sym is) (starts (who from) a entered)
 
     -- so, where nothing but that is added, all edges are
-    pub begin_only : ((t : Triple) → Member t ds → (t ≡ triple a graph.start a) ⊎ Member t es) → (t : Triple) →
+    pub enter_only : ((t : Triple) → Member t ds → (t ≡ triple a graph.start a) ⊎ Member t es) → (t : Triple) →
         Member t ds → GraphReaches graph M t.entry t.point t.values
-    begin_only =
-        grown_reached graph q f entries f.summaries given pending es ds (λ t. t ≡ triple a graph.start a) taken_begun start_reached sound
+    enter_only =
+        grown_reached graph q f entries f.summaries given pending es ds (λ t. t ≡ triple a graph.start a) taken_entered start_reached sound
 
     told : (s : ℕ) (k : NumberedMessage) → OfSome (λ b. IsSummaryTold q a b from) (under nat_eq f.exits.by_key a)
         (mail s (due_of k)) →
-        IsOwed begun_to q s k
+        IsOwed entered_to q s k
     told s k (b, m, (c, is, same)) =
-        subst (λ to. IsOwed begun_to q to k) (sym (ap (λ x. x.to) same))
-        (subst (IsOwed begun_to q c) (sym (due_told k (Summary q a b) (ap (λ x. x.due) same))) (
+        subst (λ to. IsOwed entered_to q to k) (sym (ap (λ x. x.to) same))
+        (subst (IsOwed entered_to q c) (sym (due_told k (Summary q a b) (ap (λ x. x.due) same))) (
           refl,
           m,
           subst (λ d. Member d (under nat_eq entries.by_key a)) is
@@ -91,12 +91,12 @@ module _ {A G : Type 0} (graph : Graph G) (q : ℕ) (f : Found A) (entries : Gro
               (under nat_eq entries.by_key) a from added others),
         ))
 
-    pub begin_step : (Member from (under nat_eq f.entries.by_key a) → ⊥)
+    pub enter_step : (Member from (under nat_eq f.entries.by_key a) → ⊥)
         → Grows (λ t. t ≡ triple a graph.start a) es ds f.pending.items pending.items
         → AddsMails (OfSome (λ b. IsSummaryTold q a b from) (under nat_eq f.exits.by_key a)) f.given.mails.items given.mails.items
-        → Step graph q f begun_to es ds
-    begin_step new grown gave =
-        grown_step graph q f entries f.summaries given pending es ds (λ t. t ≡ triple a graph.start a) taken_begun start_reached grown
+        → Step graph q f entered_to es ds
+    enter_step new grown gave =
+        grown_step graph q f entries f.summaries given pending es ds (λ t. t ≡ triple a graph.start a) taken_entered start_reached grown
         (λ s k m. gives_kept (OfSome (λ b. IsSummaryTold q a b from) (under nat_eq f.exits.by_key a)) f.given.mails.items
         given.mails.items gave (mail s (due_of k)) m)
         (λ s k m. elim (gave.only (mail s (due_of k)) m) [ inl w ↦ inr (told s k w) | inr was ↦ inl was ])

@@ -8,7 +8,7 @@ use Rattle.flow_graph.specs.Returns.{resumed}
 use Rattle.flow_graph.specs.declared.flow.Flow.TheVariants.{Call}
 use Rattle.summaries.specs.Grows.{IsBehind}
 use Rattle.summaries.proofs.Growing.{grows_as}
-use Rattle.summaries.proofs.go_on.reach_behind.Goals as goal
+use Rattle.summaries.proofs.frontier.Frontier.reach_behind.Goals as goal
 
 pub returns : goal.returns
 returns g c =
@@ -28,10 +28,13 @@ returns g c =
     same_Some (s, e, back) (call.callee, entered_from call site.values, call.back)
     (sym enters ∙ ap (λ w. entered_by w site.values) (same_Some flow (Call call) (sym at ∙ here))) in
     is ∙ ap (λ (k : ℕ × ℕ × ℕ). triple site.asked k.2 (resumed (globals_of graph) site.values globals)) called ∙ sym same in
-    let done = c.reach.ensures in record {
-      ok = IfOk-weaker c.reach.result _ _
-          (λ _ grown. grows_as (λ t. t ≡ behind) (IsBehind graph site globals) _ _ _ _ to from grown) done.ok;
-      only = λ t m. elim (done.only t m) [ inl is ↦ inl (to t is) | inr was ↦ inr was ];
-      within = done.within;
-      limit = λ e. let (t, is, new, full) = done.limit e in (t, to t is, new, full);
+    let done = c.reach.ensures.adds in record {
+      adds = record {
+        ok = IfOk-weaker c.reach.result _ _
+            (λ _ grown. grows_as (λ t. t ≡ behind) (IsBehind graph site globals) _ _ _ _ to from grown) done.ok;
+        only = λ t m. elim (done.only t m) [ inl is ↦ inl (to t is) | inr was ↦ inr was ];
+        within = done.within;
+        limit = λ e. let (t, is, new, full) = done.limit e in (t, to t is, new, full);
+      };
+      stays = c.reach.ensures.stays;
     }

@@ -4,14 +4,14 @@ use Rattle.path_sets.specs.Triples.{triple}
 use Rattle.summaries.specs.Found.{TookDue}
 use Rattle.summaries.specs.Under.{under}
 use Rattle.summaries.specs.Grows.{AddsMails, OfSome, IsSummaryTold}
-use Rattle.summaries.proofs.Beginning.{begun_also, begin_only, begin_step, start_reached, none_told}
+use Rattle.summaries.proofs.Entering.{entered_also, enter_only, enter_step, start_reached, none_told}
 use Rattle.summaries.proofs.Growing.{ok_err, grows_as, fault_of}
 use Rattle.summaries.proofs.Mails.{caller_known, caller_new, answers_still}
 use Rattle.summaries.proofs.Stepping.{grown_to, still_holds, all_reached, taken_as, has_more}
 use Rattle.summaries.proofs.Worked.{failed_worked, refused_worked}
-use Rattle.summaries.proofs.table.Table.begin.Given.{Over}
-use Rattle.summaries.proofs.table.Table.begin.Goals as goal
-use Rattle.summaries.proofs.table.Table.begin.Goals.{After-add}
+use Rattle.summaries.proofs.table.Table.enter.Given.{Over}
+use Rattle.summaries.proofs.table.Table.enter.Goals as goal
+use Rattle.summaries.proofs.table.Table.enter.Goals.{After-add}
 use Rattle.path_sets.specs.EdgeLimits.{most_of}
 
 pub returns-then-contains-clause-worked : goal.returns-then-contains-clause-worked
@@ -66,19 +66,22 @@ returns-in_err-add-clause-worked g c =
 pub returns-in_err-reach-clause-worked : goal.returns-in_err-reach-clause-worked
 returns-in_err-reach-clause-worked g c =
     let self = c.args.self.now in
+    let pending = c.reach.new.self.pending.now in
     let f = self.found in
     let a = c.args.a in
     let es = g.S.PathSet.members self.edges in
-    let ds = g.S.PathSet.members c.reach.new.edges in
-    let edges = begin_only self.graph.now self.procedure f c.add.new.self f.given c.reach.new.pending a c.args.caller
+    let ds = g.S.PathSet.members c.reach.new.self.edges.now in
+    let edges = enter_only self.graph.now self.procedure f c.add.new.self f.given pending a c.args.caller
     c.in_ok-add.ensures.added c.in_ok-add.ensures.others es ds c.requires.holds.0
-    (λ t m. elim (c.in_err-reach.ensures.only t m) [ inl is ↦ inl (is ∙ ap (λ n. triple a n a) c.start.ensures) | inr was ↦ inr was ]) in
-    failed_worked g.S.PathSet.members (λ t. ⊥) _ self _ edges c.in_err-reach.ensures.within
+    (λ t m. elim (c.in_err-reach.ensures.adds.only t m)
+    [ inl is ↦ inl (is ∙ ap (λ n. triple a n a) c.start.ensures) | inr was ↦ inr was ]) in
+    failed_worked g.S.PathSet.members (λ t. ⊥) _ self _ edges c.in_err-reach.ensures.adds.within
     (record { graph = refl; procedure = refl; limit = refl }) refl _ c.from_residual-in_err-reach.ensures.1
     (λ is.
-    let (t, is_start, new, full) = c.in_err-reach.ensures.limit (ap Err (sym (fault_of _ _ _ c.from_residual-in_err-reach.ensures.1 is))) in
-    has_more (most_of self.limit) ds _ (g.met.S.PathSet.none_twice c.reach.new.edges) edges t
-    (start_reached self.graph.now self.procedure f c.add.new.self f.given c.reach.new.pending a c.args.caller
+    let (t, is_start, new, full) =
+    c.in_err-reach.ensures.adds.limit (ap Err (sym (fault_of _ _ _ c.from_residual-in_err-reach.ensures.1 is))) in
+    has_more (most_of self.limit) ds _ (g.met.S.PathSet.none_twice c.reach.new.self.edges.now) edges t
+    (start_reached self.graph.now self.procedure f c.add.new.self f.given pending a c.args.caller
     c.in_ok-add.ensures.added c.in_ok-add.ensures.others es ds c.requires.holds.0
     t (is_start ∙ ap (λ n. triple a n a) c.start.ensures))
     new full)
@@ -86,40 +89,44 @@ returns-in_err-reach-clause-worked g c =
 pub returns-in_err-tell_exits-clause-worked : goal.returns-in_err-tell_exits-clause-worked
 returns-in_err-tell_exits-clause-worked g c =
     let self = c.args.self.now in
+    let pending = c.reach.new.self.pending.now in
     let f = self.found in
     let a = c.args.a in
     refused_worked g.S.PathSet.members (λ t. ⊥) _ self _
-    (begin_only self.graph.now self.procedure f c.add.new.self c.tell_exits.new.given c.reach.new.pending a
+    (enter_only self.graph.now self.procedure f c.add.new.self c.tell_exits.new.given pending a
     c.args.caller c.in_ok-add.ensures.added c.in_ok-add.ensures.others
-    (g.S.PathSet.members self.edges) (g.S.PathSet.members c.reach.new.edges) c.requires.holds.0
-    (λ t m. elim (c.in_ok-reach.ensures.only t m) [ inl is ↦ inl (is ∙ ap (λ n. triple a n a) c.start.ensures) | inr was ↦ inr was ]))
-    c.in_ok-reach.ensures.within (record { graph = refl; procedure = refl; limit = refl }) refl c.from_residual-in_err-tell_exits.ensures.1
+    (g.S.PathSet.members self.edges) (g.S.PathSet.members c.reach.new.self.edges.now) c.requires.holds.0
+    (λ t m. elim (c.in_ok-reach.ensures.adds.only t m) [ inl is ↦ inl (is ∙ ap (λ n. triple a n a) c.start.ensures) | inr was ↦ inr was ]))
+    c.in_ok-reach.ensures.adds.within (record { graph = refl; procedure = refl; limit = refl }) refl
+    c.from_residual-in_err-tell_exits.ensures.1
 
 pub returns-clause-worked : goal.returns-clause-worked
 returns-clause-worked g c =
     let self = c.args.self.now in
+    let pending = c.reach.new.self.pending.now in
     let f = self.found in
     let a = c.args.a in
     let es = g.S.PathSet.members self.edges in
-    let ds = g.S.PathSet.members c.reach.new.edges in
+    let ds = g.S.PathSet.members c.reach.new.self.edges.now in
     let grown =
     grows_as (λ t. t ≡ triple a c.start.result a)
-    (λ t. t ≡ triple a self.graph.now.start a) es ds f.pending.items c.reach.new.pending.items
+    (λ t. t ≡ triple a self.graph.now.start a) es ds f.pending.items pending.items
     (λ t is. is ∙ ap (λ n. triple a n a) c.start.ensures)
-    (λ t is. is ∙ ap (λ n. triple a n a) (sym c.start.ensures)) c.in_ok-reach.ensures.ok in
+    (λ t is. is ∙ ap (λ n. triple a n a) (sym c.start.ensures)) c.in_ok-reach.ensures.adds.ok in
     let gave = subst
     (λ bs. AddsMails
     (OfSome (λ b. IsSummaryTold self.procedure a b c.args.caller) bs) f.given.mails.items
     c.tell_exits.new.given.mails.items) c.of-2.ensures c.in_ok-tell_exits.ensures.ok in
-    let step = begin_step self.graph.now self.procedure f c.add.new.self c.tell_exits.new.given c.reach.new.pending a
+    let step = enter_step self.graph.now self.procedure f c.add.new.self c.tell_exits.new.given pending a
     c.args.caller c.in_ok-add.ensures.added c.in_ok-add.ensures.others es ds c.requires.holds.0
     (is_new g (goal.at.returns-clause-worked g c).After-add) grown gave in record {
       holds =
           still_holds self.graph.now self.procedure f _ es ds step (λ t. ⊥) c.requires.holds;
-      edges = begin_only self.graph.now self.procedure f c.add.new.self c.tell_exits.new.given c.reach.new.pending a
+      edges = enter_only self.graph.now self.procedure f c.add.new.self c.tell_exits.new.given pending a
           c.args.caller c.in_ok-add.ensures.added c.in_ok-add.ensures.others es ds c.requires.holds.0
-          (λ t m. elim (c.in_ok-reach.ensures.only t m) [ inl is ↦ inl (is ∙ ap (λ n. triple a n a) c.start.ensures) | inr was ↦ inr was ]);
-      within = c.in_ok-reach.ensures.within;
+          (λ t m. elim (c.in_ok-reach.ensures.adds.only t m)
+          [ inl is ↦ inl (is ∙ ap (λ n. triple a n a) c.start.ensures) | inr was ↦ inr was ]);
+      within = c.in_ok-reach.ensures.adds.within;
       many = λ is. absurd (ok_err is);
       answers = answers_still f.given.mails.items c.tell_exits.new.given.mails.items f.given.answered
           c.tell_exits.new.given.answered f.given.within c.in_ok-tell_exits.ensures.answered
@@ -131,19 +138,22 @@ returns-clause-worked g c =
 pub returns-clause-taken : goal.returns-clause-taken
 returns-clause-taken g c =
     let self = c.args.self.now in
-    begun_also self.graph.now self.procedure self.found c.add.new.self c.tell_exits.new.given c.reach.new.pending c.args.a c.args.caller
+    let pending = c.reach.new.self.pending.now in
+    entered_also self.graph.now self.procedure self.found c.add.new.self c.tell_exits.new.given pending c.args.a c.args.caller
     c.in_ok-add.ensures.added c.in_ok-add.ensures.others
 
 pub returns-in_err-reach-clause-only : goal.returns-in_err-reach-clause-only
 returns-in_err-reach-clause-only g c = λ k.
     let self = c.args.self.now in
-    (begun_also self.graph.now self.procedure self.found c.add.new.self self.found.given c.reach.new.pending c.args.a c.args.caller
+    let pending = c.reach.new.self.pending.now in
+    (entered_also self.graph.now self.procedure self.found c.add.new.self self.found.given pending c.args.a c.args.caller
     c.in_ok-add.ensures.added c.in_ok-add.ensures.others k).0
 
 pub returns-in_err-tell_exits-clause-only : goal.returns-in_err-tell_exits-clause-only
 returns-in_err-tell_exits-clause-only g c = λ k.
     let self = c.args.self.now in
-    (begun_also self.graph.now self.procedure self.found c.add.new.self c.tell_exits.new.given c.reach.new.pending c.args.a c.args.caller
+    let pending = c.reach.new.self.pending.now in
+    (entered_also self.graph.now self.procedure self.found c.add.new.self c.tell_exits.new.given pending c.args.a c.args.caller
     c.in_ok-add.ensures.added c.in_ok-add.ensures.others k).0
 
 pub returns-clause-only : goal.returns-clause-only

@@ -1,0 +1,42 @@
+//! Path edges that are found, and those of them to work on.
+
+ghost use Rattle.std.specs.Prelude.{◌≡◌};
+
+use crate::edge::Edge;
+use crate::table_fault::TableFault;
+use path_sets::{EdgeLimit, PathSet};
+use std::alloc::Allocator;
+
+/// The path edges of a table, those of them that are pending, and how many there may be. Each `&mut` has a lifetime of
+/// its own, without which no caller that also borrows a group is proved.
+#[derive(Drop)]
+pub(crate) struct Frontier<'e, 'p, A: Allocator, S: PathSet<A>> {
+    pub(crate) edges: &'e mut S,
+    pub(crate) pending: &'p mut Vec<Edge, A>,
+    pub(crate) limit: EdgeLimit,
+}
+
+impl<'e, 'p, A: Allocator, S: PathSet<A>> Frontier<'e, 'p, A, S> {
+    ghost use Rattle.summaries.specs.Grows.{triple_of};
+    ghost use Rattle.summaries.specs.Frontiers.{Reaches, IsWithin};
+
+    /// Adds one path edge, if it is new, and lets it stand pending. Where it is new and the limit is reached, the
+    /// answer is `EdgeLimit`. At an error the edges may have it, and it need not be pending.
+    #[inline(always)]
+    pub(crate) fn reach(&mut self, edge: Edge) -> Result<(), TableFault>
+        requires { IsWithin S.members self.old }
+        ensures { Reaches S.members (λ t. t ≡ triple_of edge) result self.old self.new }
+    {
+        if self.edges.len() >= self.limit.edges() as u64 {
+            return if self.edges.contains(edge.entry, edge.point, edge.values) {
+                Ok(())
+            } else {
+                Err(TableFault::EdgeLimit)
+            };
+        }
+        if self.edges.insert(edge.entry, edge.point, edge.values)? {
+            self.pending.push(edge)?;
+        }
+        Ok(())
+    }
+}
