@@ -10,22 +10,23 @@ use Rattle.flow_graph.specs.declared.assignment.Assignment.{Assignment}
 
 -- the valuation after these values are written to the targets, one after the other
 abbrev pub after_values : Scope → List Name → List Bool → Valuation → Valuation
-after_values s xs vs v = record {
-  globals = written_globals (map (place_of s) xs) vs v.globals;
-  places = written_locals (map (place_of s) xs) vs v.places;
+after_values scope xs vs valuation = record {
+  globals = written_globals (map (place_of scope) xs) vs valuation.globals;
+  places = written_locals (map (place_of scope) xs) vs valuation.places;
 }
 
--- the right sides have values in v that, written to the targets, make the valuation of number w
+-- the right sides have values in the valuation that, written to the targets, make the one of this number
 abbrev pub AssignedTo : Scope → List Name → List (RightSide Name) → Valuation → ℕ → Type 0
-AssignedTo s xs rs v w =
-    (vs : List Bool) × AreValues v.globals v.places (map (resolve_side s) rs) vs × (w ≡ code (after_values s xs vs v))
+AssignedTo scope xs rs valuation number =
+    (vs : List Bool) × AreValues valuation.globals valuation.places (map (resolve_side scope) rs) vs
+    × (number ≡ code (after_values scope xs vs valuation))
 
--- the next valuation of number i, after v, has the number w
+-- the next valuation of number i, after this one, has this number
 abbrev pub NextBy : {A : Type 0} → Assignment A → ℕ → Valuation → ℕ → Type 0
-NextBy a i v w = (i ≤ a.last) × (assigned a (code v) i ≡ w)
+NextBy assignment i valuation number = (i ≤ assignment.last) × (assigned assignment (code valuation) i ≡ number)
 
 -- The numbers up to the last give each next valuation of the simultaneous assignment, no other, and each once.
-pub record Assigns {A : Type 0} (a : Assignment A) (s : Scope) (xs : List Name) (rs : List (RightSide Name)) :
+pub record Assigns {A : Type 0} (assignment : Assignment A) (scope : Scope) (xs : List Name) (rs : List (RightSide Name)) :
     Type 0 where
-  pub leads : (v : Valuation) (w : ℕ) → HasWidths (widths_of s) v → ((i : ℕ) × NextBy a i v w) ↔ AssignedTo s xs rs v w
-  pub once : (v : Valuation) (i j w : ℕ) → HasWidths (widths_of s) v → NextBy a i v w → NextBy a j v w → i ≡ j
+  pub leads : (v : Valuation) (w : ℕ) → HasWidths (widths_of scope) v → ((i : ℕ) × NextBy assignment i v w) ↔ AssignedTo scope xs rs v w
+  pub once : (v : Valuation) (i j w : ℕ) → HasWidths (widths_of scope) v → NextBy assignment i v w → NextBy assignment j v w → i ≡ j

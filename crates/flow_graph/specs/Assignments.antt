@@ -18,43 +18,43 @@ masked values mask false = bit_xor (bit_or values mask) mask
 -- the choice for the right sides behind this one
 abbrev pub choice_left : {A : Type 0} → Side A → ℕ → ℕ
 choice_left side.Any choice = choice / 2
-choice_left (side.Value f) choice = choice
+choice_left (side.Value formula) choice = choice
 
 -- the valuation after the writes, whose right sides are computed over `values`
 abbrev pub written : {A : Type 0} → List (Write A) → ℕ → ℕ → ℕ → ℕ
 written [] values choice next = next
-written (w ∷ ws) values choice next =
-    written ws values (choice_left w.side choice) (masked next w.mask (side_value w.side values choice))
+written (write ∷ writes) values choice next =
+    written writes values (choice_left write.side choice) (masked next write.mask (side_value write.side values choice))
 
 -- the next valuation by this choice for the `?`
 abbrev pub assigned : {A : Type 0} → Assignment A → ℕ → ℕ → ℕ
-assigned a values choice = written a.writes.items values choice values
+assigned assignment values choice = written assignment.writes.items values choice values
 
 -- 1 for `?`
 abbrev pub any_of : {A : Type 0} → Side A → ℕ
 any_of side.Any = 1
-any_of (side.Value f) = 0
+any_of (side.Value formula) = 0
 
 -- how many right sides are `?`
 abbrev pub anys : {A : Type 0} → List (Write A) → ℕ
 anys [] = 0
-anys (w ∷ ws) = any_of w.side + anys ws
+anys (write ∷ writes) = any_of write.side + anys writes
 
 -- the bit is this one
 abbrev pub is_bit : ℕ → Option ℕ → Bool
-is_bit b None = false
-is_bit b (Some c) = c == b
+is_bit bit None = false
+is_bit bit (Some other) = other == bit
 
 -- the bit is one of these
 abbrev pub is_among : ℕ → List (Option ℕ) → Bool
-is_among b [] = false
-is_among b (t ∷ ts) = cond (is_bit b t) true (is_among b ts)
+is_among bit [] = false
+is_among bit (t ∷ ts) = cond (is_bit bit t) true (is_among bit ts)
 
 -- the bit whose value lasts: it is none of the later ones
 abbrev pub lasting : Option ℕ → List (Option ℕ) → Option ℕ
 lasting None ts = None
-lasting (Some b) ts = cond (is_among b ts) None (Some b)
+lasting (Some bit) ts = cond (is_among bit ts) None (Some bit)
 
 -- the bit of a target, where none of the later targets has it
 abbrev pub lasting_bit : Scope → Name → List Name → Option ℕ
-lasting_bit s x later = lasting (bit_of_name s x) (map (bit_of_name s) later)
+lasting_bit scope name later = lasting (bit_of_name scope name) (map (bit_of_name scope) later)

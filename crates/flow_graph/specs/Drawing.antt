@@ -14,21 +14,21 @@ use Rattle.flow_graph.specs.Drawn.{flows_of, start_of, globals_of}
 
 -- no more variables than places are in the procedure's scope, and at most 32 procedures
 abbrev pub ScopeHasRoom : {N : Type 0} → Program N → Proc N → Type 0
-ScopeHasRoom t p =
-    (length t.globals.items + (length p.formals.items + length p.locals.items) ≤ most_places)
-    × (length t.procs.items ≤ 32)
+ScopeHasRoom program procedure =
+    (length program.globals.items + (length procedure.formals.items + length procedure.locals.items) ≤ most_places)
+    × (length program.procs.items ≤ 32)
 
 -- the names in the procedure's scope
 abbrev pub names_in : {N : Type 0} → Program N → Proc N → Scope
-names_in t p = scope_of (tree_of t) (proc_of p)
+names_in program procedure = scope_of (tree_of program) (proc_of procedure)
 
 -- the procedure's body as code
 abbrev pub drawn_body : {N : Type 0} → Program N → Proc N → Code
-drawn_body t p = numbered 1 (resolve_block (names_in t p) (proc_of p).body)
+drawn_body program procedure = numbered 1 (resolve_block (names_in program procedure) (proc_of procedure).body)
 
 -- The graph of the procedure: it begins where the body does, and its flows do what happens at the points of the body,
 -- the exit first.
 abbrev pub Draws : {N A : Type 0} → Program N → Proc N → Graph A → Type 0
-Draws t p graph =
-    (globals_of graph ≡ length (names_in t p).globals) × (start_of graph ≡ point_at (drawn_body t p))
-    × AllDo (flows_of graph) (nodes_of (drawn_body t p)) (widths_of (names_in t p))
+Draws program procedure graph =
+    (globals_of graph ≡ length (names_in program procedure).globals) × (start_of graph ≡ point_at (drawn_body program procedure))
+    × AllDo (flows_of graph) (nodes_of (drawn_body program procedure)) (widths_of (names_in program procedure))

@@ -15,33 +15,33 @@ use Rattle.resolved.specs.Limits.{most_places}
 
 -- a valuation as a number: the globals from bit 0, then the places
 abbrev pub code : Valuation → ℕ
-code v = coded (v.globals ++ v.places)
+code valuation = coded (valuation.globals ++ valuation.places)
 
 -- the last choice
 abbrev pub last_of : {A : Type 0} → Flow A → ℕ
-last_of (Assign a to) = a.last
-last_of (Test side.Any j k) = 1
-last_of (Test (side.Value f) j k) = 0
-last_of (Assume s to) = 0
-last_of (Call c) = 0
+last_of (Assign assignment to) = assignment.last
+last_of (Test side.Any if_true if_false) = 1
+last_of (Test (side.Value formula) if_true if_false) = 0
+last_of (Assume test to) = 0
+last_of (Call call) = 0
 last_of Return = 0
 
 -- the point and the valuation that a flow leads to for a choice, inside the call
 abbrev pub next_of : {A : Type 0} → Flow A → ℕ → ℕ → Option (ℕ × ℕ)
-next_of (Assign a to) values choice = Some (to, assigned a values choice)
-next_of (Test s j k) values choice = Some (cond (side_value s values choice) j k, values)
-next_of (Assume s to) values choice = cond (side_value s values 1) (Some (to, values)) None
-next_of (Call c) values choice = None
+next_of (Assign assignment to) values choice = Some (to, assigned assignment values choice)
+next_of (Test test if_true if_false) values choice = Some (cond (side_value test values choice) if_true if_false, values)
+next_of (Assume test to) values choice = cond (side_value test values 1) (Some (to, values)) None
+next_of (Call call) values choice = None
 next_of Return values choice = None
 
 -- the procedure that a flow enters, with which valuation, and the point after the return
 abbrev pub entered_by : {A : Type 0} → Flow A → ℕ → Option (ℕ × ℕ × ℕ)
-entered_by (Call c) values = Some (c.callee, entry_of c.globals c.arguments.items values, c.back)
+entered_by (Call call) values = Some (call.callee, entry_of call.globals call.arguments.items values, call.back)
 entered_by _ values = None
 
--- by choice i the flow leads from the valuation v to point n and the valuation of number w
+-- by choice i the flow leads from the valuation to the point and the valuation of this number
 abbrev pub LeadsBy : {A : Type 0} → Flow A → ℕ → Valuation → ℕ → ℕ → Type 0
-LeadsBy flow i v n w = (i ≤ last_of flow) × (next_of flow (code v) i ≡ Some (n, w))
+LeadsBy flow i valuation point number = (i ≤ last_of flow) × (next_of flow (code valuation) i ≡ Some (point, number))
 
 -- Behaviour of a flow, for the valuations of which W holds: it leads exactly where L says, to a point and the number of
 -- a valuation, by one choice each; and it enters exactly what E says, a procedure, the number of a valuation, and the
@@ -60,35 +60,35 @@ pub record Widths : Type 0 where
 
 -- those of a scope
 abbrev pub widths_of : Scope → Widths
-widths_of s = record { globals = length s.globals; places = length s.locals; procedures = length s.procedures }
+widths_of scope = record { globals = length scope.globals; places = length scope.locals; procedures = length scope.procedures }
 
 -- so many globals and so many places
 abbrev pub HasWidths : Widths → Valuation → Type 0
-HasWidths w v = (length v.globals ≡ w.globals) × (length v.places ≡ w.places)
+HasWidths widths valuation = (length valuation.globals ≡ widths.globals) × (length valuation.places ≡ widths.places)
 
--- the node leads to point n and the valuation of number k
+-- the node leads to the point and the valuation of this number
 abbrev pub LeadsTo : Node → Valuation → ℕ → ℕ → Type 0
-LeadsTo node v n k = (v' : Valuation) × Leads node v n v' × (k ≡ code v')
+LeadsTo node valuation point number = (v' : Valuation) × Leads node valuation point v' × (number ≡ code v')
 
--- The node calls procedure q, one of so many, with the globals and the arguments, which are e as a number and no more
--- than there are places; the point after the call is n.
+-- The node calls a procedure, one of so many, with the globals and the arguments, which are `entered` as a number and
+-- no more than there are places; and this is the point after the call.
 abbrev pub NodeEnters : Node → ℕ → Valuation → ℕ → ℕ → ℕ → Type 0
-NodeEnters node procedures v q e n =
-    (args : List Bool) × NodeCalls node v q args n × (q < procedures)
-    × (length v.globals + length args ≤ most_places) × (e ≡ coded (v.globals ++ args))
+NodeEnters node procedures valuation callee entered point =
+    (args : List Bool) × NodeCalls node valuation callee args point × (callee < procedures)
+    × (length valuation.globals + length args ≤ most_places) × (entered ≡ coded (valuation.globals ++ args))
 
 -- The flow does what happens at the node, for valuations of these widths: it leads where the node leads, and enters
 -- what the node calls.
 abbrev pub Does : {A : Type 0} → Flow A → Node → Widths → Type 0
-Does flow node w = Behaves flow (HasWidths w) (LeadsTo node) (NodeEnters node w.procedures)
+Does flow node widths = Behaves flow (HasWidths widths) (LeadsTo node) (NodeEnters node widths.procedures)
 
 -- each flow does what happens at its node
 abbrev pub AllDo : {A : Type 0} → List (Flow A) → List Node → Widths → Type 0
-AllDo [] [] w = Unit {0}
-AllDo [] (n ∷ ns) w = ⊥
-AllDo (f ∷ fs) [] w = ⊥
-AllDo (f ∷ fs) (n ∷ ns) w = Does f n w × AllDo fs ns w
+AllDo [] [] widths = Unit {0}
+AllDo [] (n ∷ ns) widths = ⊥
+AllDo (f ∷ fs) [] widths = ⊥
+AllDo (f ∷ fs) (n ∷ ns) widths = Does f n widths × AllDo fs ns widths
 
 -- flows that do these nodes have been put behind others
 abbrev pub Lowered : {A : Type 0} → List (Flow A) → List (Flow A) → List Node → Widths → Type 0
-Lowered {A} old new nodes w = (flows : List (Flow A)) × (new ≡ old ++ flows) × AllDo flows nodes w
+Lowered {A} old new nodes widths = (flows : List (Flow A)) × (new ≡ old ++ flows) × AllDo flows nodes widths

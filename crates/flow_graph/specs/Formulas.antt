@@ -22,31 +22,31 @@ words_of (More words) = words.items
 
 -- the output of a table in the row of these values
 abbrev pub table_worth : {A : Type 0} → Table A → ℕ → Bool
-table_worth t values = table_says t.inputs.items (words_of t.outputs) values
+table_worth table values = table_says table.inputs.items (words_of table.outputs) values
 
 -- for all values, the output in their row is what the expression is worth
 abbrev pub IsTruthTableOf : {A : Type 0} → Table A → Expression ℕ → Type 0
-IsTruthTableOf t e = (values : ℕ) → table_worth t values ≡ worth (bit_of values) e
+IsTruthTableOf table expression = (values : ℕ) → table_worth table values ≡ worth (bit_of values) expression
 
 -- what the formula answers for these values: the table's output in their row, or what its steps leave on the stack
 abbrev pub says : {A : Type 0} → Formula A → ℕ → Bool
-says (Tabled t) values = table_worth t values
+says (Tabled table) values = table_worth table values
 says (Code p) values = top (after_steps (bit_of values) p.steps.items [])
 
 -- For every valuation of as many globals as the scope has, the formula answers the value of the expression.
 abbrev pub FormulaSays : {A : Type 0} → Formula A → Scope → Expression Name → Type 0
-FormulaSays f s e =
-    (globals places : List Bool) → length globals ≡ length s.globals →
-    says f (coded (globals ++ places)) ≡ value_of globals places (resolve_expression s e)
+FormulaSays formula scope expression =
+    (globals places : List Bool) → length globals ≡ length scope.globals →
+    says formula (coded (globals ++ places)) ≡ value_of globals places (resolve_expression scope expression)
 
 -- the compiled right side says what the right side says: `?`, or an expression
 abbrev pub SaysSide : {A : Type 0} → Side A → Scope → RightSide Name → Type 0
-SaysSide side.Any s any = Unit {0}
-SaysSide side.Any s (value e) = ⊥
-SaysSide (side.Value f) s any = ⊥
-SaysSide (side.Value f) s (value e) = FormulaSays f s e
+SaysSide side.Any scope any = Unit {0}
+SaysSide side.Any scope (value expression) = ⊥
+SaysSide (side.Value formula) scope any = ⊥
+SaysSide (side.Value formula) scope (value expression) = FormulaSays formula scope expression
 
 -- the value of a compiled right side: for `?` the lowest bit of the choice, else what it says of the valuation
 abbrev pub side_value : {A : Type 0} → Side A → ℕ → ℕ → Bool
 side_value side.Any values choice = bit_of choice 0
-side_value (side.Value f) values choice = says f values
+side_value (side.Value formula) values choice = says formula values

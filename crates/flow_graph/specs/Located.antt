@@ -11,23 +11,23 @@ bit_of_place globals (local i) = Some (globals + i)
 
 -- the bit of a variable, where it is declared
 abbrev pub bit_of_name : Scope → Name → Option ℕ
-bit_of_name s x = bit_of_place (length s.globals) (place_of s x)
+bit_of_name scope name = bit_of_place (length scope.globals) (place_of scope name)
 
 -- a read of a bit; what is declared nowhere reads as 0
 abbrev pub read_of : Option ℕ → Expression ℕ
 read_of None = const false
-read_of (Some b) = var b
+read_of (Some bit) = var bit
 
 -- the expression over bits
 abbrev pub located : Scope → Expression Name → Expression ℕ
-located s (const b) = const b
-located s (var x) = read_of (bit_of_name s x)
-located s (negation e) = negation (located s e)
-located s (two o a b) = two o (located s a) (located s b)
+located scope (const truth) = const truth
+located scope (var variable) = read_of (bit_of_name scope variable)
+located scope (negation expression) = negation (located scope expression)
+located scope (two operator left right) = two operator (located scope left) (located scope right)
 
 -- what an expression over bits is worth, where each bit has a value
 abbrev pub worth : (ℕ → Bool) → Expression ℕ → Bool
-worth f (const b) = b
+worth f (const truth) = truth
 worth f (var i) = f i
-worth f (negation e) = not (worth f e)
-worth f (two o a b) = operate o (worth f a) (worth f b)
+worth f (negation expression) = not (worth f expression)
+worth f (two operator left right) = operate operator (worth f left) (worth f right)

@@ -14,7 +14,7 @@ number (Some n) = n
 
 -- the number of the point at which a rest begins
 abbrev pub point_at : Code → ℕ
-point_at r = number (point_of r)
+point_at rest = number (point_of rest)
 
 -- What happens at a point: values are written, a test leads to one of two points, an assumption lets only 1 pass on, a
 -- procedure is called and left to at a point, or the procedure is left.
@@ -27,7 +27,7 @@ pub data Node : Type 0 where
 
 -- nothing is written, and the run goes on at the point
 abbrev pub goes : ℕ → Node
-goes k = assigns [] [] k
+goes point = assigns [] [] point
 
 -- no run goes on
 abbrev pub stops : Node
@@ -36,20 +36,20 @@ stops = assumes (value (const false)) 0
 -- the run goes on with what is left from a label on; where there is none, no run goes on
 abbrev pub goes_to : Option Code → Node
 goes_to None = stops
-goes_to (Some r) = goes (point_at r)
+goes_to (Some rest) = goes (point_at rest)
 
 -- what happens at the first point of a rest of this body
 abbrev pub node_of : Code → Code → Node
 node_of body done = returns
-node_of body (one m skip t) = goes (point_at t)
-node_of body (one m (assign xs rs) t) = assigns xs rs (point_at t)
-node_of body (one m (assert r) t) = assumes r (point_at t)
-node_of body (one m (assume r) t) = assumes r (point_at t)
-node_of body (one m (goto x) t) = goes_to (rest_from x body done)
-node_of body (one m leave t) = goes 0
-node_of body (one m (call n es) t) = calls n es (point_at t)
-node_of body (choose m r a b t) = tests r (point_at (join a t)) (point_at (join b t))
-node_of body (loop m r a t) = tests r (point_at (join a (loop m r a t))) (point_at t)
+node_of body (one mark skip rest) = goes (point_at rest)
+node_of body (one mark (assign xs rs) rest) = assigns xs rs (point_at rest)
+node_of body (one mark (assert side) rest) = assumes side (point_at rest)
+node_of body (one mark (assume side) rest) = assumes side (point_at rest)
+node_of body (one mark (goto label) rest) = goes_to (rest_from label body done)
+node_of body (one mark leave rest) = goes 0
+node_of body (one mark (call callee es) rest) = calls callee es (point_at rest)
+node_of body (choose mark side if_true if_false rest) = tests side (point_at (join if_true rest)) (point_at (join if_false rest))
+node_of body (loop mark side inside rest) = tests side (point_at (join inside (loop mark side inside rest))) (point_at rest)
 
 -- what happens at the points of a body, the exit first
 abbrev pub nodes_of : Code → List Node
@@ -57,15 +57,17 @@ nodes_of body = map (node_of body) (done ∷ rests body done)
 
 -- the node leads from a valuation to a point with a valuation, inside the call
 abbrev pub Leads : Node → Valuation → ℕ → Valuation → Type 0
-Leads (assigns xs rs k) v n v' =
-    (vs : List Bool) × AreValues v.globals v.places rs vs
-    × (n ≡ k) × (v' ≡ record { globals = written_globals xs vs v.globals; places = written_locals xs vs v.places })
-Leads (tests r j k) v n v' = (b : Bool) × IsValue v.globals v.places r b × (n ≡ cond b j k) × (v' ≡ v)
-Leads (assumes r k) v n v' = IsValue v.globals v.places r true × (n ≡ k) × (v' ≡ v)
-Leads (calls p es k) v n v' = ⊥
-Leads returns v n v' = ⊥
+Leads (assigns xs rs target) before point after =
+    (vs : List Bool) × AreValues before.globals before.places rs vs
+    × (point ≡ target) × (after ≡ record { globals = written_globals xs vs before.globals; places = written_locals xs vs before.places })
+Leads (tests side if_true if_false) before point after = (b : Bool) × IsValue before.globals before.places side b
+    × (point ≡ cond b if_true if_false) × (after ≡ before)
+Leads (assumes side target) before point after = IsValue before.globals before.places side true × (point ≡ target) × (after ≡ before)
+Leads (calls callee es target) before point after = ⊥
+Leads returns before point after = ⊥
 
 -- the node calls a procedure with these arguments, and the run goes on at the point when it returns
 abbrev pub NodeCalls : Node → Valuation → ℕ → List Bool → ℕ → Type 0
-NodeCalls (calls p es k) v q args n = (q ≡ p) × (args ≡ values_of v.globals v.places es) × (n ≡ k)
-NodeCalls _ v q args n = ⊥
+NodeCalls (calls callee es back) valuation procedure args point = (procedure ≡ callee)
+    × (args ≡ values_of valuation.globals valuation.places es) × (point ≡ back)
+NodeCalls _ valuation procedure args point = ⊥

@@ -31,12 +31,12 @@ AllAre {X} P xs = (x : X) → Member x xs → P x
 
 -- what is left as a number: the globals from bit 0
 abbrev pub exit_code : Exit → ℕ
-exit_code e = coded e.globals
+exit_code exit = coded exit.globals
 
 -- the message by numbers
 abbrev pub by_numbers : Message → NumberedMessage
-by_numbers (entry from a) = numbered_entry from (code a)
-by_numbers (summary s a b) = numbered_summary s (code a) (exit_code b)
+by_numbers (entry from entered) = numbered_entry from (code entered)
+by_numbers (summary callee entered exit) = numbered_summary callee (code entered) (exit_code exit)
 
 -- By the messages of which M holds, the graph reaches from the number of an entry a point with the number of a
 -- valuation: its start from each entry, what a flow leads to for one of its choices, and, behind a call, what a summary
@@ -50,49 +50,51 @@ pub data GraphReaches {A : Type 0} (graph : Graph A) (M : NumberedMessage → Ty
       slice_get (flows_of graph) n ≡ Some flow → entered_by flow v ≡ Some (s, e, n') → M (numbered_summary s e b) →
       GraphReaches graph M a n' (resumed (globals_of graph) v b)
 
--- By the messages of which M holds, the graph of procedure q sends a procedure: the entry of each call of it that is
+-- By the messages of which M holds, the graph of a procedure sends another: the entry of each call of it that is
 -- reached, and for each of its entries the summary of each valuation that is reached at the exit.
-pub data Sends {A : Type 0} (graph : Graph A) (q : ℕ) (M : NumberedMessage → Type 0) :
+pub data Sends {A : Type 0} (graph : Graph A) (procedure : ℕ) (M : NumberedMessage → Type 0) :
     ℕ → NumberedMessage → Type 0 where
   asks : (a n v s e n' : ℕ) (flow : Flow A) → GraphReaches graph M a n v → slice_get (flows_of graph) n ≡ Some flow →
-      entered_by flow v ≡ Some (s, e, n') → Sends graph q M s (numbered_entry (caller q) e)
+      entered_by flow v ≡ Some (s, e, n') → Sends graph procedure M s (numbered_entry (caller procedure) e)
   tells : (a v s : ℕ) → M (numbered_entry (caller s) a) → GraphReaches graph M a 0 v →
-      Sends graph q M s (numbered_summary q a (left (globals_of graph) v))
+      Sends graph procedure M s (numbered_summary procedure a (left (globals_of graph) v))
 
--- By the messages of which M holds, what the graph leaves has the number b where it was entered with that of a.
+-- By the messages of which M holds, what the graph leaves has the number `exit` where it was entered with that of
+-- `entered`.
 abbrev pub Leaves : {A : Type 0} → Graph A → (NumberedMessage → Type 0) → ℕ → ℕ → Type 0
-Leaves graph M a b = (v : ℕ) × GraphReaches graph M a 0 v × (b ≡ left (globals_of graph) v)
+Leaves graph M entered exit = (v : ℕ) × GraphReaches graph M entered 0 v × (exit ≡ left (globals_of graph) v)
 
 -- the message is, by numbers, one of which P holds
 abbrev pub IsNumberOf : (Message → Type 0) → NumberedMessage → Type 0
-IsNumberOf P k = (m : Message) × P m × (k ≡ by_numbers m)
+IsNumberOf P message = (m : Message) × P m × (message ≡ by_numbers m)
 
--- a and v are the numbers of valuations, and n of the point of a rest, of which P holds
+-- the numbers are those of two valuations, and of the point of a rest, of which P holds
 abbrev pub AreNumbersOf : (Valuation → Valuation → Code → Type 0) → ℕ → ℕ → ℕ → Type 0
-AreNumbersOf P a n v =
-    (x : Valuation) × (y : Valuation) × (r : Code) × P x y r × (a ≡ code x) × (n ≡ point_at r) × (v ≡ code y)
+AreNumbersOf P entered point values =
+    (x : Valuation) × (y : Valuation) × (r : Code) × P x y r × (entered ≡ code x) × (point ≡ point_at r) × (values ≡ code y)
 
--- n is the number of a valuation of q
+-- the number is that of a valuation of the procedure
 abbrev pub IsNumberOfValuation : Program → ℕ → ℕ → Type 0
-IsNumberOfValuation p q n = (x : Valuation) × IsValuationOf p q x × (n ≡ code x)
+IsNumberOfValuation program procedure values = (x : Valuation) × IsValuationOf program procedure x × (values ≡ code x)
 
--- a is the number of a valuation with which q is entered
+-- the number is that of a valuation with which the procedure is entered
 abbrev pub IsNumberOfEntry : Program → ℕ → ℕ → Type 0
-IsNumberOfEntry p q a = (x : Valuation) × Entered p q x × (a ≡ code x)
+IsNumberOfEntry program procedure entered = (x : Valuation) × Entered program procedure x × (entered ≡ code x)
 
--- a and v are the numbers of the valuations of a path edge of q, and n of its point
+-- the numbers are those of a path edge of the procedure: of its entry valuation, its point and its valuation there
 abbrev pub AreNumbersOfEdge : Program → ℕ → ℕ → ℕ → ℕ → Type 0
-AreNumbersOfEdge p q a n v =
-    (x : Valuation) × (y : Valuation) × (point : Option ℕ) × Edge p q x point y
-    × (a ≡ code x) × (n ≡ number point) × (v ≡ code y)
+AreNumbersOfEdge program procedure entered at values =
+    (x : Valuation) × (y : Valuation) × (point : Option ℕ) × Edge program procedure x point y
+    × (entered ≡ code x) × (at ≡ number point) × (values ≡ code y)
 
--- a and b are the numbers of a pair of q
+-- the numbers are those of a pair of the procedure
 abbrev pub AreNumbersOfPair : Program → ℕ → ℕ → ℕ → Type 0
-AreNumbersOfPair p q a b = (x : Valuation) × (e : Exit) × Pair p q x e × (a ≡ code x) × (b ≡ exit_code e)
+AreNumbersOfPair program procedure entered exit = (x : Valuation) × (e : Exit) × Pair program procedure x e × (entered ≡ code x)
+    × (exit ≡ exit_code e)
 
--- The message is one that q took, where lists hold what each procedure took, by its number.
+-- The message is one that the procedure took, where lists hold what each procedure took, by its number.
 abbrev pub HasTaken : List (List NumberedMessage) → ℕ → NumberedMessage → Type 0
-HasTaken takes q k = Member k (slice_index_or takes q [])
+HasTaken takes procedure message = Member message (slice_index_or takes procedure [])
 
 -- procedure 0 took the starter's entry, in which every value is 0
 abbrev pub TakesOpening : List (List NumberedMessage) → Type 0
@@ -106,14 +108,14 @@ TakesSent {A} graphs takes =
 
 -- each message that a procedure took is one that is due for it
 abbrev pub TakesDue : Program → List (List NumberedMessage) → Type 0
-TakesDue p takes = (q : ℕ) (k : NumberedMessage) → HasTaken takes q k → IsNumberOf (IsDue p q) k
+TakesDue program takes = (q : ℕ) (k : NumberedMessage) → HasTaken takes q k → IsNumberOf (IsDue program q) k
 
 -- Where these are the graphs of a program whose calls fit, its procedures took, by numbers, the opening message, each
 -- message that is sent, and no message that is not due.
-pub record TookAllDue {A : Type 0} (p : Program) (graphs : List (Graph A)) (takes : List (List NumberedMessage)) :
+pub record TookAllDue {A : Type 0} (program : Program) (graphs : List (Graph A)) (takes : List (List NumberedMessage)) :
     Type 0 where
-  pub fit : ArgumentsFit p
-  pub are : AreGraphs p graphs
+  pub fit : ArgumentsFit program
+  pub are : AreGraphs program graphs
   pub opening : TakesOpening takes
   pub sent : TakesSent graphs takes
-  pub due : TakesDue p takes
+  pub due : TakesDue program takes

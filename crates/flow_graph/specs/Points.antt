@@ -21,6 +21,6 @@ BeginAt stmts first after to =
 -- The point of the first statement with this label was found, or that there is none, among statements whose numbers are
 -- of 64 bits, and those inside of them.
 abbrev pub IsLabelFound : {N : Type 0} → Label → List (Stmt N) → ℕ → Option ℕ → Type 0
-IsLabelFound x stmts first found =
+IsLabelFound label stmts first found =
     (s : Scope) (k : Code) → first + statements (block_of stmts) ≤ 18446744073709551615 →
-    found ≡ option_map point_at (rest_from x (numbered first (resolve_block s (block_of stmts))) k)
+    found ≡ option_map point_at (rest_from label (numbered first (resolve_block s (block_of stmts))) k)

@@ -15,16 +15,16 @@ use Rattle.resolved.specs.Limits.{most_places}
 -- what a step makes of the stack, its top first: a bit or a constant is put on it, `Not` turns the top, and an operator
 -- takes two values, the right one from the top, or the left one where the operands came in the other order
 abbrev pub after_step : (ℕ → Bool) → Step → List Bool → List Bool
-after_step f (Read b) stack = f b ∷ stack
-after_step f (Constant b) stack = b ∷ stack
+after_step f (Read bit) stack = f bit ∷ stack
+after_step f (Constant truth) stack = truth ∷ stack
 after_step f Not [] = []
 after_step f Not (a ∷ stack) = not a ∷ stack
-after_step f (Apply o) [] = []
-after_step f (Apply o) (b ∷ []) = b ∷ []
-after_step f (Apply o) (b ∷ a ∷ stack) = operate (operator_of o) a b ∷ stack
-after_step f (ApplySwapped o) [] = []
-after_step f (ApplySwapped o) (a ∷ []) = a ∷ []
-after_step f (ApplySwapped o) (a ∷ b ∷ stack) = operate (operator_of o) a b ∷ stack
+after_step f (Apply operator) [] = []
+after_step f (Apply operator) (b ∷ []) = b ∷ []
+after_step f (Apply operator) (b ∷ a ∷ stack) = operate (operator_of operator) a b ∷ stack
+after_step f (ApplySwapped operator) [] = []
+after_step f (ApplySwapped operator) (a ∷ []) = a ∷ []
+after_step f (ApplySwapped operator) (a ∷ b ∷ stack) = operate (operator_of operator) a b ∷ stack
 
 -- what the steps make of the stack, one after the other
 abbrev pub after_steps : (ℕ → Bool) → List Step → List Bool → List Bool
@@ -39,11 +39,11 @@ top (b ∷ bs) = b
 -- from a stack with so many values, each step finds what it takes, and none leaves more than 64
 abbrev pub IsShallow : ℕ → List Step → Type 0
 IsShallow depth [] = Unit {0}
-IsShallow depth (Read b ∷ ss) = (depth < 64) × ((b < most_places) × IsShallow (suc depth) ss)
-IsShallow depth (Constant b ∷ ss) = (depth < 64) × IsShallow (suc depth) ss
+IsShallow depth (Read bit ∷ ss) = (depth < 64) × ((bit < most_places) × IsShallow (suc depth) ss)
+IsShallow depth (Constant truth ∷ ss) = (depth < 64) × IsShallow (suc depth) ss
 IsShallow depth (Not ∷ ss) = (1 ≤ depth) × IsShallow depth ss
-IsShallow depth (Apply o ∷ ss) = (2 ≤ depth) × IsShallow (depth - 1) ss
-IsShallow depth (ApplySwapped o ∷ ss) = (2 ≤ depth) × IsShallow (depth - 1) ss
+IsShallow depth (Apply operator ∷ ss) = (2 ≤ depth) × IsShallow (depth - 1) ss
+IsShallow depth (ApplySwapped operator ∷ ss) = (2 ≤ depth) × IsShallow (depth - 1) ss
 
 -- an inequality of numbers has one proof at most
 pub less_prop : (i n : ℕ) → IsProp (i < n)
@@ -55,12 +55,12 @@ few_prop i n = le_prop
 -- this has one proof at most, so a type may carry it
 pub IsShallow-prop : (depth : ℕ) (steps : List Step) → IsProp (IsShallow depth steps)
 IsShallow-prop depth [] = Unit-prop
-IsShallow-prop depth (Read b ∷ ss) =
-    ×_prop (less_prop depth 64) (×_prop (less_prop b most_places) (IsShallow-prop (suc depth) ss))
-IsShallow-prop depth (Constant b ∷ ss) = ×_prop (less_prop depth 64) (IsShallow-prop (suc depth) ss)
+IsShallow-prop depth (Read bit ∷ ss) =
+    ×_prop (less_prop depth 64) (×_prop (less_prop bit most_places) (IsShallow-prop (suc depth) ss))
+IsShallow-prop depth (Constant truth ∷ ss) = ×_prop (less_prop depth 64) (IsShallow-prop (suc depth) ss)
 IsShallow-prop depth (Not ∷ ss) = ×_prop (few_prop 1 depth) (IsShallow-prop depth ss)
-IsShallow-prop depth (Apply o ∷ ss) = ×_prop (few_prop 2 depth) (IsShallow-prop (depth - 1) ss)
-IsShallow-prop depth (ApplySwapped o ∷ ss) = ×_prop (few_prop 2 depth) (IsShallow-prop (depth - 1) ss)
+IsShallow-prop depth (Apply operator ∷ ss) = ×_prop (few_prop 2 depth) (IsShallow-prop (depth - 1) ss)
+IsShallow-prop depth (ApplySwapped operator ∷ ss) = ×_prop (few_prop 2 depth) (IsShallow-prop (depth - 1) ss)
 
 -- For each stack that has the number old, which is deep enough for the step and not full, new is the number of the
 -- stack after the step.
@@ -71,24 +71,24 @@ IsStepped step values old new =
 -- how many values a stack holds at most while an expression is evaluated, the operand that needs more first
 -- (Ershov's number; more than 2^32 - 1 are not told apart)
 abbrev pub need : Expression ℕ → ℕ
-need (const b) = 1
+need (const truth) = 1
 need (var i) = 1
-need (negation e) = need e
-need (two o a b) = cond (need a == need b) (min (need a + 1) 4294967295) (max (need a) (need b))
+need (negation expression) = need expression
+need (two operator left right) = cond (need left == need right) (min (need left + 1) 4294967295) (max (need left) (need right))
 
 -- The steps evaluate the expression: they put its worth on the stack, within the expression's need; and they are so
 -- many that a need above 64 would take more of them than memory has.
-pub record Evaluates (e : Expression ℕ) (steps : List Step) : Type 0 where
+pub record Evaluates (expression : Expression ℕ) (steps : List Step) : Type 0 where
   pub puts : (f : ℕ → Bool) (rest : List Step) (stack : List Bool) →
-      after_steps f (steps ++ rest) stack ≡ after_steps f rest (worth f e ∷ stack)
-  pub shallow : (depth : ℕ) (rest : List Step) → depth + need e ≤ 64 → IsShallow (suc depth) rest →
+      after_steps f (steps ++ rest) stack ≡ after_steps f rest (worth f expression ∷ stack)
+  pub shallow : (depth : ℕ) (rest : List Step) → depth + need expression ≤ 64 → IsShallow (suc depth) rest →
       IsShallow depth (steps ++ rest)
-  pub long : 2 ^ need e ≤ 2 * length steps
+  pub long : 2 ^ need expression ≤ 2 * length steps
 
 -- from an empty stack, the steps end with the worth of the expression on top, whatever values the bits have
 abbrev pub AreCodeOf : List Step → Expression ℕ → Type 0
-AreCodeOf steps e = (f : ℕ → Bool) → top (after_steps f steps []) ≡ worth f e
+AreCodeOf steps expression = (f : ℕ → Bool) → top (after_steps f steps []) ≡ worth f expression
 
 -- such steps have been put behind others
 abbrev pub PutsSteps : List Step → List Step → Expression ℕ → Type 0
-PutsSteps old new e = (steps : List Step) × (new ≡ old ++ steps) × Evaluates e steps
+PutsSteps old new expression = (steps : List Step) × (new ≡ old ++ steps) × Evaluates expression steps

@@ -10,20 +10,20 @@ use Rattle.resolved.specs.Limits.{most_places}
 
 -- how many inputs come before the first that is this bit
 abbrev pub slot : ℕ → List ℕ → ℕ
-slot b [] = 0
-slot b (x ∷ xs) = cond (b == x) 0 (suc (slot b xs))
+slot bit [] = 0
+slot bit (x ∷ xs) = cond (bit == x) 0 (suc (slot bit xs))
 
 -- some input is this bit
 abbrev pub is_input : ℕ → List ℕ → Bool
-is_input b [] = false
-is_input b (x ∷ xs) = cond (b == x) true (is_input b xs)
+is_input bit [] = false
+is_input bit (x ∷ xs) = cond (bit == x) true (is_input bit xs)
 
 -- each bit that the expression reads is an input
 abbrev pub ReadsInputs : List ℕ → Expression ℕ → Type 0
-ReadsInputs inputs (const b) = Unit {0}
+ReadsInputs inputs (const truth) = Unit {0}
 ReadsInputs inputs (var i) = is_input i inputs ≡ true
-ReadsInputs inputs (negation e) = ReadsInputs inputs e
-ReadsInputs inputs (two o a b) = ReadsInputs inputs a × ReadsInputs inputs b
+ReadsInputs inputs (negation expression) = ReadsInputs inputs expression
+ReadsInputs inputs (two operator left right) = ReadsInputs inputs left × ReadsInputs inputs right
 
 -- how many inputs a table has at most
 abbrev pub most_inputs : ℕ
@@ -42,9 +42,9 @@ abbrev pub output : List ℕ → ℕ → Bool
 output words row = bit_of (get_or words (row / word_rows) 0) (row % word_rows)
 
 -- Output j is what the expression is worth where each input has the value of its bit of j.
-pub record Tabulates (inputs : List ℕ) (words : List ℕ) (e : Expression ℕ) : Type 0 where
-  pub reads : ReadsInputs inputs e
-  pub rows : (j : ℕ) → j < most_rows → output words j ≡ worth (λ b. bit_of j (slot b inputs)) e
+pub record Tabulates (inputs : List ℕ) (words : List ℕ) (expression : Expression ℕ) : Type 0 where
+  pub reads : ReadsInputs inputs expression
+  pub rows : (j : ℕ) → j < most_rows → output words j ≡ worth (λ b. bit_of j (slot b inputs)) expression
 
 -- the output in the row of these values
 abbrev pub table_says : List ℕ → List ℕ → ℕ → Bool
@@ -53,7 +53,7 @@ table_says inputs words values = output words (coded (map (bit_of values) inputs
 -- each input is a place
 abbrev pub AreBits : List ℕ → Type 0
 AreBits [] = Unit {0}
-AreBits (b ∷ bs) = (b < most_places) × AreBits bs
+AreBits (bit ∷ bits) = (bit < most_places) × AreBits bits
 
 -- this has one proof at most, so a type may carry it
 pub AreBits-prop : (bs : List ℕ) → IsProp (AreBits bs)

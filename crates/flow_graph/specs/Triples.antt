@@ -28,24 +28,25 @@ HoldReturns {A} graph ms ts =
     entered_by flow v ≡ Some (s, e, n') →
     Member (numbered_summary s e b) ms → Member (a, n', resumed (globals_of graph) v b) ts
 
--- with each triple at a call of q's the messages sent hold the entry for the procedure called
+-- with each triple at a call of the procedure's the messages sent hold the entry for the procedure called
 abbrev pub HoldAsks : {A : Type 0} → Graph A → ℕ → List (ℕ × ℕ × ℕ) → List (ℕ × NumberedMessage) → Type 0
-HoldAsks {A} graph q ts sent =
+HoldAsks {A} graph procedure ts sent =
     (a n v s e n' : ℕ) (flow : Flow A) → Member (a, n, v) ts → slice_get (flows_of graph) n ≡ Some flow →
     entered_by flow v ≡ Some (s, e, n') →
-    Member (s, numbered_entry (caller q) e) sent
+    Member (s, numbered_entry (caller procedure) e) sent
 
--- with each triple of q's at the exit they hold the summary for each procedure that entered it so, by these messages
+-- with each triple of the procedure's at the exit they hold the summary for each one that entered it so, by these
+-- messages
 abbrev pub HoldTells : {A : Type 0} → Graph A → ℕ → List NumberedMessage → List (ℕ × ℕ × ℕ) →
     List (ℕ × NumberedMessage) → Type 0
-HoldTells graph q ms ts sent =
+HoldTells graph procedure ms ts sent =
     (a v s : ℕ) → Member (numbered_entry (caller s) a) ms → Member (a, 0, v) ts →
-    Member (s, numbered_summary q a (left (globals_of graph) v)) sent
+    Member (s, numbered_summary procedure a (left (globals_of graph) v)) sent
 
 -- the triples are those that the graph reaches by these messages
 abbrev pub AreReached : {A : Type 0} → Graph A → List NumberedMessage → List (ℕ × ℕ × ℕ) → Type 0
 AreReached graph ms ts = (a n v : ℕ) → Member (a, n, v) ts ↔ GraphReaches graph (Among ms) a n v
 
--- the messages are those that the graph of q sends by these
+-- the messages are those that the graph of the procedure sends by these
 abbrev pub AreSent : {A : Type 0} → Graph A → ℕ → List NumberedMessage → List (ℕ × NumberedMessage) → Type 0
-AreSent graph q ms sent = (s : ℕ) (k : NumberedMessage) → Member (s, k) sent ↔ Sends graph q (Among ms) s k
+AreSent graph procedure ms sent = (s : ℕ) (k : NumberedMessage) → Member (s, k) sent ↔ Sends graph procedure (Among ms) s k

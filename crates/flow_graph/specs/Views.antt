@@ -10,16 +10,16 @@ use Rattle.resolved.specs.Limits.{most_places}
 
 -- the scope
 abbrev pub scope_seen : {N : Type 0} → Scope N → resolve.Scope
-scope_seen s = record {
-  globals = names_of s.globals.now;
-  locals = names_of s.formals.now ++ names_of s.locals.now;
-  procedures = map (λ (p : Procedure). p.name) (procs_of s.procedures.now);
+scope_seen scope = record {
+  globals = names_of scope.globals.now;
+  locals = names_of scope.formals.now ++ names_of scope.locals.now;
+  procedures = map (λ (p : Procedure). p.name) (procs_of scope.procedures.now);
 }
 
 -- an expression over the bits of the variables
 abbrev pub over_bits : {N : Type 0} → Scope N → Expr N → Expression ℕ
-over_bits s e = located (scope_seen s) (expr_of e)
+over_bits scope expression = located (scope_seen scope) (expr_of expression)
 
 -- the variables are no more than the places
 abbrev pub IsSmall : {N : Type 0} → Scope N → Type 0
-IsSmall s = length s.globals.now + (length s.formals.now + length s.locals.now) ≤ most_places
+IsSmall scope = length scope.globals.now + (length scope.formals.now + length scope.locals.now) ≤ most_places

@@ -15,7 +15,7 @@ routine body = record { places = 0; body = body }
 
 -- x:=1; where x is the first global
 abbrev pub setting : Code → Code
-setting t = one bare (assign (global 0 ∷ []) (value (const true) ∷ [])) t
+setting rest = one bare (assign (global 0 ∷ []) (value (const true) ∷ [])) rest
 
 -- decl x; a() begin x:=1; end b() begin assert(!x); end thread a; thread b;
 abbrev pub writer_then_reader : Program

@@ -24,26 +24,26 @@ sides_of _ = []
 
 -- the right side that the statement tests, where it tests one
 abbrev pub test_of : {V P L : Type 0} → Head V P L → Option (RightSide V)
-test_of (plain (assert r)) = Some r
-test_of (plain (assume r)) = Some r
-test_of (tests r) = Some r
+test_of (plain (assert side)) = Some side
+test_of (plain (assume side)) = Some side
+test_of (tests side) = Some side
 test_of _ = None
 
 -- the arguments that the statement hands on, in order
 abbrev pub arguments_of : {V P L : Type 0} → Head V P L → List (Expression V)
-arguments_of (plain (call p es)) = es
+arguments_of (plain (call callee es)) = es
 arguments_of _ = []
 
 -- the procedure that the statement calls, where it calls one
 abbrev pub callee_of : {V P L : Type 0} → Head V P L → Option P
-callee_of (plain (call p es)) = Some p
+callee_of (plain (call callee es)) = Some callee
 callee_of _ = None
 
 -- the label that the statement jumps to, where it jumps
 abbrev pub jump_of : {V P L : Type 0} → Head V P L → Option L
-jump_of (plain (goto l)) = Some l
+jump_of (plain (goto label)) = Some label
 jump_of _ = None
 
 -- an assignment has as many right sides as targets
 abbrev pub HasAllSides : {V P L : Type 0} → Head V P L → Type 0
-HasAllSides h = assigns h ≡ true → length (targets_of h) ≡ length (sides_of h)
+HasAllSides head = assigns head ≡ true → length (targets_of head) ≡ length (sides_of head)

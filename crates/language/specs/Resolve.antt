@@ -10,12 +10,12 @@ use Rattle.language.specs.Step.{Routine, Program}
 -- how many names come before the first of this text: all of them, where there is none
 abbrev pub number_of : List ℕ → List Name → ℕ
 number_of text [] = 0
-number_of text (n ∷ ns) = cond (same_text text n.text) 0 (suc (number_of text ns))
+number_of text (name ∷ names) = cond (same_text text name.text) 0 (suc (number_of text names))
 
 -- some name has this text
 abbrev pub is_declared : List ℕ → List Name → Rattle.std.specs.Prelude.Bool
 is_declared text [] = Rattle.std.specs.Prelude.false
-is_declared text (n ∷ ns) = cond (same_text text n.text) Rattle.std.specs.Prelude.true (is_declared text ns)
+is_declared text (name ∷ names) = cond (same_text text name.text) Rattle.std.specs.Prelude.true (is_declared text names)
 
 -- the names in whose scope a procedure's statements stand: its formals, then its locals, and the globals
 pub record Scope : Type 0 where
@@ -25,62 +25,64 @@ pub record Scope : Type 0 where
 
 -- the place of a variable
 abbrev pub place_of : Scope → Name → Place
-place_of s x =
-    cond (is_declared x.text s.locals) (local (number_of x.text s.locals)) (global (number_of x.text s.globals))
+place_of scope name =
+    cond (is_declared name.text scope.locals) (local (number_of name.text scope.locals)) (global (number_of name.text scope.globals))
 
 -- an expression, a right side, a statement and a block with its names resolved
 abbrev pub resolve_expression : Scope → Expression Name → Expression Place
-resolve_expression s (const b) = const b
-resolve_expression s (var x) = var (place_of s x)
-resolve_expression s (negation e) = negation (resolve_expression s e)
-resolve_expression s (two o a b) = two o (resolve_expression s a) (resolve_expression s b)
+resolve_expression scope (const truth) = const truth
+resolve_expression scope (var variable) = var (place_of scope variable)
+resolve_expression scope (negation expression) = negation (resolve_expression scope expression)
+resolve_expression scope (two operator left right) = two operator (resolve_expression scope left) (resolve_expression scope right)
 
 abbrev pub resolve_side : Scope → RightSide Name → RightSide Place
-resolve_side s any = any
-resolve_side s (value e) = value (resolve_expression s e)
+resolve_side scope any = any
+resolve_side scope (value expression) = value (resolve_expression scope expression)
 
 abbrev pub resolve_simple : Scope → Simple Name Name Name → Simple Place ℕ Label
-resolve_simple s skip = skip
-resolve_simple s (assign xs rs) = assign (map (place_of s) xs) (map (resolve_side s) rs)
-resolve_simple s (assert r) = assert (resolve_side s r)
-resolve_simple s (assume r) = assume (resolve_side s r)
-resolve_simple s (goto x) = goto x.text
-resolve_simple s leave = leave
-resolve_simple s (call p es) = call (number_of p.text s.procedures) (map (resolve_expression s) es)
+resolve_simple scope skip = skip
+resolve_simple scope (assign xs rs) = assign (map (place_of scope) xs) (map (resolve_side scope) rs)
+resolve_simple scope (assert side) = assert (resolve_side scope side)
+resolve_simple scope (assume side) = assume (resolve_side scope side)
+resolve_simple scope (goto label) = goto label.text
+resolve_simple scope leave = leave
+resolve_simple scope (call callee es) = call (number_of callee.text scope.procedures) (map (resolve_expression scope) es)
 
 abbrev pub resolve_mark : Mark Name → Mark Label
-resolve_mark m = record { label = text_of m.label; at = m.at }
+resolve_mark mark = record { label = text_of mark.label; at = mark.at }
   where
     text_of : Option Name → Option Label
     text_of None = None
     text_of (Some n) = Some n.text
 
 abbrev pub resolve_block : Scope → Block Name Name Name → Code
-resolve_block s done = done
-resolve_block s (one m c t) = one (resolve_mark m) (resolve_simple s c) (resolve_block s t)
-resolve_block s (choose m r a b t) =
-    choose (resolve_mark m) (resolve_side s r) (resolve_block s a) (resolve_block s b) (resolve_block s t)
-resolve_block s (loop m r a t) = loop (resolve_mark m) (resolve_side s r) (resolve_block s a) (resolve_block s t)
+resolve_block scope done = done
+resolve_block scope (one mark statement rest) = one (resolve_mark mark) (resolve_simple scope statement) (resolve_block scope rest)
+resolve_block scope (choose mark side if_true if_false rest) =
+    choose (resolve_mark mark) (resolve_side scope side) (resolve_block scope if_true) (resolve_block scope if_false)
+    (resolve_block scope rest)
+resolve_block scope (loop mark side body rest) =
+    loop (resolve_mark mark) (resolve_side scope side) (resolve_block scope body) (resolve_block scope rest)
 
 -- the scope of a procedure
 abbrev pub scope_of : Tree → Procedure → Scope
-scope_of t p = record {
-  globals = t.globals;
-  locals = p.formals ++ p.locals;
-  procedures = map (λ (q : Procedure). q.name) t.procedures;
+scope_of tree procedure = record {
+  globals = tree.globals;
+  locals = procedure.formals ++ procedure.locals;
+  procedures = map (λ (q : Procedure). q.name) tree.procedures;
 }
 
 -- a procedure by places
 abbrev pub routine_of : Tree → Procedure → Routine
-routine_of t p = record {
-  places = length (p.formals ++ p.locals);
-  body = resolve_block (scope_of t p) p.body;
+routine_of tree procedure = record {
+  places = length (procedure.formals ++ procedure.locals);
+  body = resolve_block (scope_of tree procedure) procedure.body;
 }
 
 -- what a text's tree means, by places
 abbrev pub meaning_of : Tree → Program
-meaning_of t = record {
-  globals = length t.globals;
-  routines = map (routine_of t) t.procedures;
-  threads = map (λ (line : ThreadLine). number_of line.name.text (map (λ (q : Procedure). q.name) t.procedures)) t.threads;
+meaning_of tree = record {
+  globals = length tree.globals;
+  routines = map (routine_of tree) tree.procedures;
+  threads = map (λ (line : ThreadLine). number_of line.name.text (map (λ (q : Procedure). q.name) tree.procedures)) tree.threads;
 }

@@ -51,43 +51,48 @@ body_of (Some routine) = routine.body
 -- Some step of the top frame leads to a state with the property Q. A finished frame goes. `assert` and
 -- `assume` have a step only where 1 is a value. An empty stack has no step.
 abbrev pub StepsTo : Program → State → (State → Type 0) → Type 0
-StepsTo p (state g []) Q = ⊥
-StepsTo p (state g (frame c l done ∷ fs)) Q = Q (state g fs)
-StepsTo p (state g (frame c l (one m skip t) ∷ fs)) Q = Q (state g (frame c l t ∷ fs))
-StepsTo p (state g (frame c l (one m (assign xs rs) t) ∷ fs)) Q =
-    (vs : List Bool) × AreValues g l rs vs
-    × Q (state (written_globals xs vs g) (frame c (written_locals xs vs l) t ∷ fs))
-StepsTo p (state g (frame c l (one m (assert r) t) ∷ fs)) Q = IsValue g l r true × Q (state g (frame c l t ∷ fs))
-StepsTo p (state g (frame c l (one m (assume r) t) ∷ fs)) Q = IsValue g l r true × Q (state g (frame c l t ∷ fs))
-StepsTo p (state g (frame c l (one m (goto x) t) ∷ fs)) Q =
-    AtRest (rest_from x (body_of (slice_get p.routines c)) done) (λ rest. Q (state g (frame c l rest ∷ fs)))
-StepsTo p (state g (frame c l (one m leave t) ∷ fs)) Q = Q (state g (frame c l done ∷ fs))
-StepsTo p (state g (frame c l (one m (call q es) t) ∷ fs)) Q =
-    AtRoutine (slice_get p.routines q) (λ routine.
-    Q (state g (frame q (fresh routine.places (values_of g l es)) routine.body ∷ frame c l t ∷ fs)))
-StepsTo p (state g (frame c l (choose m r a b t) ∷ fs)) Q =
-    (v : Bool) × IsValue g l r v × Q (state g (frame c l (cond v (join a t) (join b t)) ∷ fs))
-StepsTo p (state g (frame c l (loop m r a t) ∷ fs)) Q =
-    (v : Bool) × IsValue g l r v × Q (state g (frame c l (cond v (join a (loop m r a t)) t) ∷ fs))
+StepsTo program (state globals []) Q = ⊥
+StepsTo program (state globals (frame procedure locals done ∷ fs)) Q = Q (state globals fs)
+StepsTo program (state globals (frame procedure locals (one mark skip rest) ∷ fs)) Q = Q (state globals (frame procedure locals rest ∷ fs))
+StepsTo program (state globals (frame procedure locals (one mark (assign xs rs) rest) ∷ fs)) Q =
+    (vs : List Bool) × AreValues globals locals rs vs
+    × Q (state (written_globals xs vs globals) (frame procedure (written_locals xs vs locals) rest ∷ fs))
+StepsTo program (state globals (frame procedure locals (one mark (assert side) rest) ∷ fs)) Q = IsValue globals locals side true
+    × Q (state globals (frame procedure locals rest ∷ fs))
+StepsTo program (state globals (frame procedure locals (one mark (assume side) rest) ∷ fs)) Q = IsValue globals locals side true
+    × Q (state globals (frame procedure locals rest ∷ fs))
+StepsTo program (state globals (frame procedure locals (one mark (goto label) remaining) ∷ fs)) Q =
+    AtRest (rest_from label (body_of (slice_get program.routines procedure)) done)
+    (λ rest. Q (state globals (frame procedure locals rest ∷ fs)))
+StepsTo program (state globals (frame procedure locals (one mark leave rest) ∷ fs)) Q = Q (state globals (frame procedure locals done ∷ fs))
+StepsTo program (state globals (frame procedure locals (one mark (call callee es) rest) ∷ fs)) Q =
+    AtRoutine (slice_get program.routines callee) (λ routine.
+    Q (state globals (frame callee (fresh routine.places (values_of globals locals es)) routine.body ∷ frame procedure locals rest ∷ fs)))
+StepsTo program (state globals (frame procedure locals (choose mark side if_true if_false rest) ∷ fs)) Q =
+    (v : Bool) × IsValue globals locals side v
+    × Q (state globals (frame procedure locals (cond v (join if_true rest) (join if_false rest)) ∷ fs))
+StepsTo program (state globals (frame procedure locals (loop mark side body rest) ∷ fs)) Q =
+    (v : Bool) × IsValue globals locals side v
+    × Q (state globals (frame procedure locals (cond v (join body (loop mark side body rest)) rest) ∷ fs))
 
--- one step leads from s to t
+-- one step leads from the one state to the other
 abbrev pub Step : Program → State → State → Type 0
-Step p s t = StepsTo p s (λ u. u ≡ t)
+Step program before after = StepsTo program before (λ u. u ≡ after)
 
--- n steps lead from s to a state with the property Q
+-- n steps lead from the start to a state with the property Q
 abbrev pub AfterSteps : Program → ℕ → State → (State → Type 0) → Type 0
-AfterSteps p zero s Q = Q s
-AfterSteps p (suc n) s Q = StepsTo p s (λ t. AfterSteps p n t Q)
+AfterSteps program zero start Q = Q start
+AfterSteps program (suc n) start Q = StepsTo program start (λ t. AfterSteps program n t Q)
 
--- some number of steps, perhaps none, leads from s to t
+-- some number of steps, perhaps none, leads from the one state to the other
 abbrev pub Runs : Program → State → State → Type 0
-Runs p s t = (n : ℕ) × AfterSteps p n s (λ u. u ≡ t)
+Runs program before after = (n : ℕ) × AfterSteps program n before (λ u. u ≡ after)
 
 -- the first statement of the top frame is an `assert` for which 0 is a value
 abbrev pub Fails : State → Type 0
-Fails (state g []) = ⊥
-Fails (state g (frame c l done ∷ fs)) = ⊥
-Fails (state g (frame c l (one m (assert r) t) ∷ fs)) = IsValue g l r false
-Fails (state g (frame c l (one m _ t) ∷ fs)) = ⊥
-Fails (state g (frame c l (choose m r a b t) ∷ fs)) = ⊥
-Fails (state g (frame c l (loop m r a t) ∷ fs)) = ⊥
+Fails (state globals []) = ⊥
+Fails (state globals (frame procedure locals done ∷ fs)) = ⊥
+Fails (state globals (frame procedure locals (one mark (assert side) rest) ∷ fs)) = IsValue globals locals side false
+Fails (state globals (frame procedure locals (one mark _ rest) ∷ fs)) = ⊥
+Fails (state globals (frame procedure locals (choose mark side if_true if_false rest) ∷ fs)) = ⊥
+Fails (state globals (frame procedure locals (loop mark side body rest) ∷ fs)) = ⊥

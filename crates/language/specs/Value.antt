@@ -15,16 +15,16 @@ bit bs n = slice_index_or bs n false
 
 -- the list with another value at a number; past the end nothing changes
 abbrev pub with_bit : List Bool → ℕ → Bool → List Bool
-with_bit bs n v = slice_set bs n v
+with_bit bs n truth = slice_set bs n truth
 
 -- the truth tables
 abbrev pub operate : Operator → Bool → Bool → Bool
-operate implies a b = not a || b
-operate or a b = a || b
-operate xor a b = cond a (not b) b
-operate and a b = a && b
-operate equal a b = cond a b (not b)
-operate differs a b = cond a (not b) b
+operate implies left right = not left || right
+operate or left right = left || right
+operate xor left right = cond left (not right) right
+operate and left right = left && right
+operate equal left right = cond left right (not right)
+operate differs left right = cond left (not right) right
 
 -- the value at a place
 abbrev pub look_up : List Bool → List Bool → Place → Bool
@@ -33,27 +33,27 @@ look_up globals locals (local n) = bit locals n
 
 -- the one value of an expression
 abbrev pub value_of : List Bool → List Bool → Expression Place → Bool
-value_of globals locals (const b) = b
-value_of globals locals (var x) = look_up globals locals x
-value_of globals locals (negation e) = not (value_of globals locals e)
-value_of globals locals (two o a b) = operate o (value_of globals locals a) (value_of globals locals b)
+value_of globals locals (const truth) = truth
+value_of globals locals (var variable) = look_up globals locals variable
+value_of globals locals (negation expression) = not (value_of globals locals expression)
+value_of globals locals (two operator left right) = operate operator (value_of globals locals left) (value_of globals locals right)
 
 -- the values of expressions, in order
 abbrev pub values_of : List Bool → List Bool → List (Expression Place) → List Bool
 values_of globals locals [] = []
-values_of globals locals (e ∷ es) = value_of globals locals e ∷ values_of globals locals es
+values_of globals locals (expression ∷ expressions) = value_of globals locals expression ∷ values_of globals locals expressions
 
--- b is a value of the right side: `?` has both, an expression its one
+-- this is a value of the right side: `?` has both, an expression its one
 abbrev pub IsValue : List Bool → List Bool → RightSide Place → Bool → Type 0
-IsValue globals locals any b = Unit {0}
-IsValue globals locals (value e) b = b ≡ value_of globals locals e
+IsValue globals locals any truth = Unit {0}
+IsValue globals locals (value expression) truth = truth ≡ value_of globals locals expression
 
 -- the list has a value of each right side, in order
 abbrev pub AreValues : List Bool → List Bool → List (RightSide Place) → List Bool → Type 0
 AreValues globals locals [] [] = Unit {0}
 AreValues globals locals [] (b ∷ bs) = ⊥
-AreValues globals locals (r ∷ rs) [] = ⊥
-AreValues globals locals (r ∷ rs) (b ∷ bs) = IsValue globals locals r b × AreValues globals locals rs bs
+AreValues globals locals (side ∷ sides) [] = ⊥
+AreValues globals locals (side ∷ sides) (b ∷ bs) = IsValue globals locals side b × AreValues globals locals sides bs
 
 -- the globals after values are written to targets, one target after the other; the values were
 -- computed before

@@ -15,10 +15,10 @@ asked_eq x y = nat_eq x.number y.number && (beq x.zero y.zero && nat_eq x.level 
 
 -- A number of nodes of one bit has the set that is asked for: a valuation is in it where it is at the point by what is
 -- left of it at the level; and no bit before that level is tested.
-pub record HasAskedSet (quads : List Quad) (point : ℕ) (nodes : List Node) (asked : Asked) (n : ℕ) : Type 0 where
-  pub inside : IsNumber nodes n
-  pub deep : 2 * asked.level ≤ level_of nodes n
-  pub same : (v : ℕ) → v < 2 ^ 64 → accepts nodes n v ≡ is_at quads asked.number asked.zero point (v / 4 ^ asked.level)
+pub record HasAskedSet (quads : List Quad) (point : ℕ) (nodes : List Node) (asked : Asked) (number : ℕ) : Type 0 where
+  pub inside : IsNumber nodes number
+  pub deep : 2 * asked.level ≤ level_of nodes number
+  pub same : (v : ℕ) → v < 2 ^ 64 → accepts nodes number v ≡ is_at quads asked.number asked.zero point (v / 4 ^ asked.level)
 
 -- the numbers that were found have the sets that were asked for
 abbrev pub AreFound : List Quad → ℕ → List Node → List (Asked × ℕ) → Type 0

@@ -15,11 +15,11 @@ use Rattle.path_sets.specs.Quads.{Given, points_of}
 
 -- the number that a valuation goes on to from a node, by its bit
 abbrev pub child : Node → ℕ → ℕ
-child x v = cond (bit_of v x.level) x.high x.low
+child node valuation = cond (bit_of valuation node.level) node.high node.low
 
 -- whether a valuation is in the set of a number
 abbrev pub accepts : List Node → ℕ → ℕ → Bool
-accepts nodes n v = reaches child nodes n v
+accepts nodes number valuation = reaches child nodes number valuation
 
 -- each node tests one of 64 bits, and its children have smaller numbers, so each walk ends
 abbrev pub GoDown : List Node → Type 0
@@ -27,7 +27,7 @@ GoDown nodes = (i : ℕ) (x : Node) → slice_get nodes i ≡ Some x → (x.leve
 
 -- the level that a number's node tests; behind the last for 0 and 1, which have none
 abbrev pub level_of : List Node → ℕ → ℕ
-level_of nodes n = level_at (λ x. x.level) 64 nodes n
+level_of nodes number = level_at (λ x. x.level) 64 nodes number
 
 -- a node's children test later levels, so that on each way the levels ascend
 abbrev pub AreOrdered : List Node → Type 0
@@ -57,15 +57,15 @@ pub record Roots (old : List (Row × ℕ)) (row : Row) (number : ℕ) (new : Lis
 
 -- the row of a place
 abbrev pub row_of : Place → Row
-row_of p = record { entry = p.entry; block = p.block }
+row_of place = record { entry = place.entry; block = place.block }
 
 -- a path edge of a row, by the valuations and the masks of these places
 abbrev pub InRun : Row → List (Place × ℕ) → Triple → Type 0
-InRun row cells t = (t.entry ≡ row.entry) × (t.point / 64 ≡ row.block) × Given cells 0 t.values (t.point % 64)
+InRun row cells edge = (edge.entry ≡ row.entry) × (edge.point / 64 ≡ row.block) × Given cells 0 edge.values (edge.point % 64)
 
 -- whether a path edge is in the diagrams: its point is among those of its valuation
 abbrev pub merged_has : List Quad → List (Row × ℕ) → Triple → Bool
-merged_has nodes rows t = bit_of (points_of nodes (root_of rows t.entry (t.point / 64)) t.values) (t.point % 64)
+merged_has nodes rows edge = bit_of (points_of nodes (root_of rows edge.entry (edge.point / 64)) edge.values) (edge.point % 64)
 
 -- the rows have numbers
 abbrev pub HaveNumbers : List Quad → List (Row × ℕ) → Type 0

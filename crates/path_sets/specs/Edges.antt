@@ -10,13 +10,13 @@ place_eq x y = nat_eq x.entry y.entry && (nat_eq x.values y.values && nat_eq x.b
 
 -- the path edge at a bit of a place's mask: a block has 64 points
 abbrev pub edge_at : Place → ℕ → Triple
-edge_at p bit = triple p.entry (64 * p.block + bit) p.values
+edge_at place bit = triple place.entry (64 * place.block + bit) place.values
 
 -- the path edges of a place's mask
 abbrev pub edges_in : Place → ℕ → List Triple
-edges_in p mask = map (edge_at p) (bits_below mask 64)
+edges_in place mask = map (edge_at place) (bits_below mask 64)
 
 -- the path edges of all masks
 abbrev pub edges : List (Place × ℕ) → List Triple
 edges [] = []
-edges (g ∷ gs) = edges_in g.0 g.1 ++ edges gs
+edges (cell ∷ cells) = edges_in cell.0 cell.1 ++ edges cells

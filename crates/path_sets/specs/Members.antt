@@ -32,11 +32,11 @@ triple_eq x y = nat_eq x.entry y.entry && (nat_eq x.point y.point && nat_eq x.va
 
 -- whether a path edge is among those that are gathered
 abbrev pub is_gathered : List (Place × ℕ) → Triple → Bool
-is_gathered masks t = list_any (triple_eq t) (edges masks)
+is_gathered masks edge = list_any (triple_eq edge) (edges masks)
 
 -- whether a path edge is in the diagrams, or among those that are gathered
 abbrev pub has_edge : List Quad → List (Row × ℕ) → List (Place × ℕ) → Triple → Bool
-has_edge nodes rows masks t = merged_has nodes rows t || is_gathered masks t
+has_edge nodes rows masks edge = merged_has nodes rows edge || is_gathered masks edge
 
 -- all of these path edges
 abbrev pub all_edges : List Quad → List (Row × ℕ) → List (Place × ℕ) → List Triple
@@ -44,7 +44,7 @@ all_edges nodes rows masks = filter (has_edge nodes rows masks) universe
 
 -- a path edge is in the diagrams, or among those that are gathered
 abbrev pub IsEdgeThere : List Quad → List (Row × ℕ) → List (Place × ℕ) → Triple → Type 0
-IsEdgeThere nodes rows masks t = (merged_has nodes rows t ≡ true) ⊎ Member t (edges masks)
+IsEdgeThere nodes rows masks edge = (merged_has nodes rows edge ≡ true) ⊎ Member edge (edges masks)
 
 -- what the diagrams have at a place that is gathered is among what is gathered
 abbrev pub Covers : List Quad → List (Row × ℕ) → List (Place × ℕ) → Type 0
@@ -60,6 +60,6 @@ pub record AreGathered {S : Type 0} (nodes : List Quad) (rows : List (Row × ℕ
 -- The path edge was not there, and it and what was there is; or it was there, and what is gathered is the same. The
 -- answer says which.
 abbrev pub PutsEdge : List Quad → List (Row × ℕ) → Triple → List (Place × ℕ) → List (Place × ℕ) → Bool → Type 0
-PutsEdge nodes rows x old new true =
-    (IsEdgeThere nodes rows old x → ⊥) × ((t : Triple) → IsEdgeThere nodes rows new t ↔ ((t ≡ x) ⊎ IsEdgeThere nodes rows old t))
-PutsEdge nodes rows x old new false = IsEdgeThere nodes rows old x × (edges new ≡ edges old)
+PutsEdge nodes rows edge old new true =
+    (IsEdgeThere nodes rows old edge → ⊥) × ((t : Triple) → IsEdgeThere nodes rows new t ↔ ((t ≡ edge) ⊎ IsEdgeThere nodes rows old t))
+PutsEdge nodes rows edge old new false = IsEdgeThere nodes rows old edge × (edges new ≡ edges old)

@@ -10,35 +10,36 @@ use Rattle.path_sets.specs.Walks.{node_at, IsNumber}
 
 -- the number that a valuation goes on to from a node, by its two low bits
 abbrev pub turn : Quad → ℕ → ℕ
-turn x v =
-    cond (nat_eq (v % 4) 0) x.none (cond (nat_eq (v % 4) 1) x.first (cond (nat_eq (v % 4) 2) x.second x.both))
+turn node valuation =
+    cond (nat_eq (valuation % 4) 0) node.none
+    (cond (nat_eq (valuation % 4) 1) node.first (cond (nat_eq (valuation % 4) 2) node.second node.both))
 
 -- the points that a valuation comes to from a number, in less than so many steps: those of the node where nothing of it
 -- is left
 unfoldable pub walk_to : List Quad → ℕ → ℕ → ℕ → ℕ
-walk_to quads zero n v = 0
-walk_to quads (suc most) n v =
-    option_map_or (λ x. cond (nat_eq v 0) x.points (walk_to quads most (turn x v) (v / 4))) (node_at quads n) 0
+walk_to quads zero number valuation = 0
+walk_to quads (suc most) number valuation =
+    option_map_or (λ x. cond (nat_eq valuation 0) x.points (walk_to quads most (turn x valuation) (valuation / 4))) (node_at quads number) 0
 
 -- the points that a valuation is at by the diagram of a number
 unfoldable pub points_of : List Quad → ℕ → ℕ → ℕ
-points_of quads n v = walk_to quads (suc v) n v
+points_of quads number valuation = walk_to quads (suc valuation) number valuation
 
 -- the points that a valuation is at by a node
 abbrev pub sees : List Quad → Quad → ℕ → ℕ
-sees quads x v = cond (nat_eq v 0) x.points (points_of quads (turn x v) (v / 4))
+sees quads node valuation = cond (nat_eq valuation 0) node.points (points_of quads (turn node valuation) (valuation / 4))
 
 -- whether a valuation is at a point by the diagram of a number; of the valuation 0 it is told
 abbrev pub is_at : List Quad → ℕ → Bool → ℕ → ℕ → Bool
-is_at quads n nought bit v = cond (nat_eq v 0) nought (bit_of (points_of quads n v) bit)
+is_at quads number nought bit valuation = cond (nat_eq valuation 0) nought (bit_of (points_of quads number valuation) bit)
 
 -- a node's children are numbers
 abbrev pub AreInside : List Quad → Quad → Type 0
-AreInside quads x = (IsNumber quads x.none) × (IsNumber quads x.first) × (IsNumber quads x.second) × (IsNumber quads x.both)
+AreInside quads node = (IsNumber quads node.none) × (IsNumber quads node.first) × (IsNumber quads node.second) × (IsNumber quads node.both)
 
 -- a node's children are below a number
 abbrev pub IsBelow : Quad → ℕ → Type 0
-IsBelow x n = (x.none < n) × (x.first < n) × (x.second < n) × (x.both < n)
+IsBelow node n = (node.none < n) × (node.first < n) × (node.second < n) × (node.both < n)
 
 -- each node's children have smaller numbers than it has
 abbrev pub QuadsGoDown : List Quad → Type 0
@@ -57,9 +58,9 @@ pub record KeepQuads (old new : List Quad) : Type 0 where
   pub longer : length old ≤ length new
   pub same : (n v : ℕ) → IsNumber old n → points_of new n v ≡ points_of old n v
 
--- the point is in the mask of one of the places, of whose valuation v is left at a level
+-- the point is in the mask of one of the places, of whose valuation this is left at a level
 abbrev pub Given : List (Place × ℕ) → ℕ → ℕ → ℕ → Type 0
-Given cells level v point = (c : Place × ℕ) × Member c cells × (c.0.values / 4 ^ level ≡ v) × (bit_of c.1 point ≡ true)
+Given cells level valuation point = (c : Place × ℕ) × Member c cells × (c.0.values / 4 ^ level ≡ valuation) × (bit_of c.1 point ≡ true)
 
 -- the new diagram has the points of the old one and those of the places
 abbrev pub Joins : List (Place × ℕ) → ℕ → (ℕ → ℕ) → (ℕ → ℕ) → Type 0

@@ -9,13 +9,13 @@ use Rattle.path_sets.specs.Triples.{Triple}
 -- the path edges of the shard with this number; none behind the last
 abbrev pub edges_at : {A : Type 0} → List (Shard A) → ℕ → List Triple
 edges_at [] k = []
-edges_at (s ∷ ss) zero = edges s.masks.entries
-edges_at (s ∷ ss) (suc k) = edges_at ss k
+edges_at (shard ∷ shards) zero = edges shard.masks.entries
+edges_at (shard ∷ shards) (suc k) = edges_at shards k
 
 -- the path edges of all shards
 abbrev pub all_in : {A : Type 0} → List (Shard A) → List Triple
 all_in [] = []
-all_in (s ∷ ss) = edges s.masks.entries ++ all_in ss
+all_in (shard ∷ shards) = edges shard.masks.entries ++ all_in shards
 
 -- a path edge of a shard is one of an entry that has this shard
 abbrev pub AreHome : {A : Type 0} → List (ℕ × ℕ) → List (Shard A) → Type 0

@@ -14,12 +14,12 @@ prefix level bits = record { level = level; bits = bits }
 
 -- after two prefixes of a level the set has the same suffixes
 abbrev pub SameSuffixes : (ℕ → Type 0) → ℕ → ℕ → ℕ → Type 0
-SameSuffixes S level p q = (u : ℕ) → S (p + u * 2 ^ level) ↔ S (q + u * 2 ^ level)
+SameSuffixes S level one other = (u : ℕ) → S (one + u * 2 ^ level) ↔ S (other + u * 2 ^ level)
 
 -- which suffixes the set has after a prefix depends on the bit of the level: after a 0 there they are not those after a
 -- 1
 abbrev pub Depends : (ℕ → Type 0) → ℕ → ℕ → Type 0
-Depends S level p = SameSuffixes S (level + 1) p (p + 2 ^ level) → ⊥
+Depends S level bits = SameSuffixes S (level + 1) bits (bits + 2 ^ level) → ⊥
 
 -- no two of these prefixes have one level and the same suffixes
 abbrev pub Apart : (ℕ → Type 0) → List Prefix → Type 0

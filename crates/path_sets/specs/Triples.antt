@@ -9,4 +9,4 @@ pub record Triple : Type 0 where
 
 -- the path edge of these three
 abbrev pub triple : ℕ → ℕ → ℕ → Triple
-triple e p v = record { entry = e; point = p; values = v }
+triple entry point values = record { entry = entry; point = point; values = values }

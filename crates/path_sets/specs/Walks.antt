@@ -5,16 +5,17 @@ use Rattle.std.specs.Option.{option_map_or}
 
 -- the node of a number: 0 and 1 are the empty set and that of all valuations, and have none
 abbrev pub node_at : {X : Type 0} → List X → ℕ → Option X
-node_at nodes n = cond (nat_lt n 2) None (slice_get nodes (n - 2))
+node_at nodes number = cond (nat_lt number 2) None (slice_get nodes (number - 2))
 
 -- whether a walk by the bits of a valuation comes from a number to 1, in at most so many steps
 unfoldable pub walk : {X : Type 0} → (X → ℕ → ℕ) → List X → ℕ → ℕ → ℕ → Bool
-walk next nodes zero n v = nat_eq n 1
-walk next nodes (suc most) n v = option_map_or (λ x. walk next nodes most (next x v) v) (node_at nodes n) (nat_eq n 1)
+walk next nodes zero number valuation = nat_eq number 1
+walk next nodes (suc most) number valuation =
+    option_map_or (λ x. walk next nodes most (next x valuation) valuation) (node_at nodes number) (nat_eq number 1)
 
 -- whether it comes there at all: no walk has more steps than its number
 unfoldable pub reaches : {X : Type 0} → (X → ℕ → ℕ) → List X → ℕ → ℕ → Bool
-reaches next nodes n v = walk next nodes n n v
+reaches next nodes number valuation = walk next nodes number number valuation
 
 -- each step comes to a smaller number, so each walk ends
 abbrev pub Descends : {X : Type 0} → (X → ℕ → ℕ) → List X → Type 0
@@ -22,11 +23,11 @@ Descends {X} next nodes = (i v : ℕ) (x : X) → slice_get nodes i ≡ Some x �
 
 -- the level of a number's node; the last for 0 and 1, which have none
 abbrev pub level_at : {X : Type 0} → (X → ℕ) → ℕ → List X → ℕ → ℕ
-level_at level last nodes n = option_map_or level (node_at nodes n) last
+level_at level last nodes number = option_map_or level (node_at nodes number) last
 
 -- a number that stands for a set
 abbrev pub IsNumber : {X : Type 0} → List X → ℕ → Type 0
-IsNumber nodes n = n < length nodes + 2
+IsNumber nodes number = number < length nodes + 2
 
 -- more nodes, and the sets and the levels of the numbers that there were are the same
 pub record Preserves {X : Type 0} (next : X → ℕ → ℕ) (level : X → ℕ) (last : ℕ) (old new : List X) : Type 0 where

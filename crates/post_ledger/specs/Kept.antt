@@ -21,4 +21,4 @@ pub record MailboxCounts {M : Type 0} (events : List (Event M)) (capacity next u
 
 -- the fields of a mailbox are the counts of its events
 abbrev pub IsKept : {M A : Type 0} → Inside M A → Type 0
-IsKept m = MailboxCounts m.events.items (vec_capacity m.events) m.next m.untaken m.taken m.open
+IsKept mailbox = MailboxCounts mailbox.events.items (vec_capacity mailbox.events) mailbox.next mailbox.untaken mailbox.taken mailbox.open

@@ -9,45 +9,45 @@ use Rattle.post_ledger.specs.History.{posts, takes, dones, IsLegal}
 module _ {M : Type 0} where
   -- the mailbox of an entry
   abbrev pub mailbox_of : Entry M → ℕ
-  mailbox_of (Posted to s m t) = to
-  mailbox_of (Taken of s m) = of
-  mailbox_of (Completed of t) = of
+  mailbox_of (Posted to sender message job) = to
+  mailbox_of (Taken of sender message) = of
+  mailbox_of (Completed of job) = of
 
   -- the entry as an event of its mailbox
   abbrev pub event_of : Entry M → Event M
-  event_of (Posted to s m t) = Post s m
-  event_of (Taken of s m) = Take s m
-  event_of (Completed of t) = Done t
+  event_of (Posted to sender message job) = Post sender message
+  event_of (Taken of sender message) = Take sender message
+  event_of (Completed of job) = Done job
 
   -- the pass that made the entry: of a Post its sender, of a Take or a Done the pass of the mailbox
   abbrev pub maker_of : Entry M → ℕ
-  maker_of (Posted to s m t) = s
-  maker_of (Taken of s m) = of
-  maker_of (Completed of t) = of
+  maker_of (Posted to sender message job) = sender
+  maker_of (Taken of sender message) = of
+  maker_of (Completed of job) = of
 
   -- the order's part for a mailbox: its history
   abbrev pub part : ℕ → List (Entry M) → List (Event M)
-  part q [] = []
-  part q (e ∷ es) = if mailbox_of e == q then event_of e ∷ part q es else part q es
+  part mailbox [] = []
+  part mailbox (entry ∷ entries) = if mailbox_of entry == mailbox then event_of entry ∷ part mailbox entries else part mailbox entries
 
   -- the order's part for a pass: its own list
   abbrev pub own : ℕ → List (Entry M) → List (Entry M)
-  own p [] = []
-  own p (e ∷ es) = if maker_of e == p then e ∷ own p es else own p es
+  own pass [] = []
+  own pass (entry ∷ entries) = if maker_of entry == pass then entry ∷ own pass entries else own pass entries
 
   -- how many Posts the order has
   abbrev pub posted : List (Entry M) → ℕ
   posted [] = 0
-  posted (e ∷ es) = length (posts (event_of e ∷ [])) + posted es
+  posted (entry ∷ entries) = length (posts (event_of entry ∷ [])) + posted entries
 
   -- how many Dones the order has
   abbrev pub completed : List (Entry M) → ℕ
   completed [] = 0
-  completed (e ∷ es) = length (dones (event_of e ∷ [])) + completed es
+  completed (entry ∷ entries) = length (dones (event_of entry ∷ [])) + completed entries
 
   -- the pass has the job of its Take of this number: the Take stands in the order, and no Done of it does
   abbrev pub HasJob : ℕ → ℕ → List (Entry M) → Type 0
-  HasJob p t order = (t < length (takes (part p order))) × (Contains (dones (part p order)) t → ⊥)
+  HasJob pass job order = (job < length (takes (part pass order))) × (Contains (dones (part pass order)) job → ⊥)
 
   -- Lawful, on a board with so many mailboxes: the order begins with the opening post, whose sender is the starter;
   -- the history of each mailbox is legal; and each later Post stands after its Take and not after that Take's Done.
@@ -59,7 +59,8 @@ module _ {M : Type 0} where
 
   -- a history has as many Posts as Takes as Dones
   abbrev pub IsCompleted : List (Event M) → Type 0
-  IsCompleted h = (length (posts h) ≡ length (takes h)) × (length (takes h) ≡ length (dones h))
+  IsCompleted history =
+      (length (posts history) ≡ length (takes history)) × (length (takes history) ≡ length (dones history))
 
   -- closed: the history of each mailbox has as many Posts as Takes as Dones
   abbrev pub IsClosed : List (Entry M) → Type 0

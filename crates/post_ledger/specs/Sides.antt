@@ -8,17 +8,17 @@ use Rattle.post_ledger.specs.History.{posts, takes}
 module _ {M : Type 0} where
   -- the messages of one sender, in order
   abbrev pub messages_of : ℕ → List (ℕ × M) → List M
-  messages_of s pairs = map (λ p. p.1) (filter (λ p. p.0 == s) pairs)
+  messages_of sender pairs = map (λ p. p.1) (filter (λ p. p.0 == sender) pairs)
 
   -- the messages that the sender posted to the mailbox, in order
   abbrev pub sent : ℕ → List (Event M) → List M
-  sent s h = messages_of s (posts h)
+  sent sender history = messages_of sender (posts history)
 
   -- the messages of the sender that were taken from the mailbox, in order
   abbrev pub taken : ℕ → List (Event M) → List M
-  taken s h = messages_of s (takes h)
+  taken sender history = messages_of sender (takes history)
 
   -- what was sent, at the side of the Posts, and what was taken, at that of the Takes
   abbrev pub on_side : Side → ℕ → List (Event M) → List M
-  on_side Posts s h = sent s h
-  on_side Takes s h = taken s h
+  on_side Posts sender history = sent sender history
+  on_side Takes sender history = taken sender history

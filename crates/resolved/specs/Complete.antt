@@ -9,16 +9,16 @@ use Rattle.resolved.specs.Scoped.{SimpleInScope, SideInScope, Throughout, EachRo
 
 -- In a procedure, among these and so many globals: the statement is in scope, each target has its right side, and there
 -- is a rest from the label of a goto on.
-pub record SimpleComplete (routines : List Routine) (globals : ℕ) (own : Routine) (s : Simple Place ℕ Label) : Type 0 where
-  pub scope : SimpleInScope routines globals own.places s
-  pub sides : HasAllSides (plain s)
-  pub jump : IfSome (jump_of (plain s)) (λ label. AtRest (rest_from label own.body done) (λ rest. Unit {0}))
+pub record SimpleComplete (routines : List Routine) (globals : ℕ) (own : Routine) (statement : Simple Place ℕ Label) : Type 0 where
+  pub scope : SimpleInScope routines globals own.places statement
+  pub sides : HasAllSides (plain statement)
+  pub jump : IfSome (jump_of (plain statement)) (λ label. AtRest (rest_from label own.body done) (λ rest. Unit {0}))
 
 -- so it is for every statement of the procedure
 abbrev pub RoutineComplete : List Routine → ℕ → Routine → Type 0
 RoutineComplete routines globals own = Throughout (SimpleComplete routines globals own) (SideInScope globals own.places) own.body
 
 -- so it is for every procedure, and each thread starts in a procedure that is there
-pub record IsComplete (p : Program) : Type 0 where
-  pub routines : EachRoutine (RoutineComplete p.routines p.globals) p.routines
-  pub threads : EachThread p.routines p.threads
+pub record IsComplete (program : Program) : Type 0 where
+  pub routines : EachRoutine (RoutineComplete program.routines program.globals) program.routines
+  pub threads : EachThread program.routines program.threads

@@ -8,20 +8,20 @@ use Rattle.resolved.specs.Limits.{most_places}
 -- each procedure has the property
 abbrev pub EachProcedure : (Procedure → Type 0) → List Procedure → Type 0
 EachProcedure P [] = Unit {0}
-EachProcedure P (p ∷ ps) = P p × EachProcedure P ps
+EachProcedure P (procedure ∷ procedures) = P procedure × EachProcedure P procedures
 
 -- how many places a procedure's valuations have: the globals, formals and locals
 abbrev pub width : Tree → Procedure → ℕ
-width t p = length t.globals + length (p.formals ++ p.locals)
+width tree procedure = length tree.globals + length (procedure.formals ++ procedure.locals)
 
 -- every procedure of the tree has at most 64 places
 abbrev pub AllNarrow : Tree → Type 0
-AllNarrow t = EachProcedure (λ (p : Procedure). width t p ≤ most_places) t.procedures
+AllNarrow tree = EachProcedure (λ (p : Procedure). width tree p ≤ most_places) tree.procedures
 
 -- this has one proof at most, so a type may carry it
 pub AllNarrow-prop : (t : Tree) → IsProp (AllNarrow t)
-AllNarrow-prop t = each t.procedures
+AllNarrow-prop tree = each tree.procedures
   where
-    each : (ps : List Procedure) → IsProp (EachProcedure (λ (p : Procedure). width t p ≤ most_places) ps)
+    each : (ps : List Procedure) → IsProp (EachProcedure (λ (p : Procedure). width tree p ≤ most_places) ps)
     each [] = Unit-prop
     each (p ∷ ps) = ×_prop le_prop (each ps)

@@ -6,8 +6,8 @@ use Rattle.resolved.specs.declared.sequential.Sequential.{Sequential}
 
 -- the program
 abbrev pub sequential_program : {A : Type 0} → Sequential A → Program A
-sequential_program s = s.program
+sequential_program sequential = sequential.program
 
 -- its tree
 abbrev pub sequential_tree : {A : Type 0} → Sequential A → Tree
-sequential_tree s = tree_of (sequential_program s)
+sequential_tree sequential = tree_of (sequential_program sequential)

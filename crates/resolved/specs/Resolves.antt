@@ -16,32 +16,32 @@ Each P (x ∷ xs) = P x × Each P xs
 
 -- the place is one of the tree's globals, or of the procedure's formals and locals
 abbrev pub IsPlaceIn : Tree → Procedure → Place → Type 0
-IsPlaceIn t p (global i) = i < length t.globals
-IsPlaceIn t p (local i) = i < length (p.formals ++ p.locals)
+IsPlaceIn tree procedure (global i) = i < length tree.globals
+IsPlaceIn tree procedure (local i) = i < length (procedure.formals ++ procedure.locals)
 
 -- a procedure that is called is there, with as many formals as there are arguments; the label of a goto is one of the
 -- procedure's, with what is left to run from it on
 abbrev pub GoesSomewhere : Tree → Procedure → Head Name Name Name → Type 0
-GoesSomewhere t p h =
-    IfSome (callee_of h) (λ callee.
-    IsThere (slice_get t.procedures (number_of callee.text (names t.procedures)))
-    (λ r. length r.formals ≡ length (arguments_of h)))
-    × IfSome (jump_of h) (λ label.
-    AtRest (rest_from label.text (resolve_block (scope_of t p) p.body) done) (λ rest. Unit {0}))
+GoesSomewhere tree procedure head =
+    IfSome (callee_of head) (λ callee.
+    IsThere (slice_get tree.procedures (number_of callee.text (names tree.procedures)))
+    (λ r. length r.formals ≡ length (arguments_of head)))
+    × IfSome (jump_of head) (λ label.
+    AtRest (rest_from label.text (resolve_block (scope_of tree procedure) procedure.body) done) (λ rest. Unit {0}))
 
 -- each variable of the statement has its place, what it calls or goes to is there, and each target has its right side
-pub record StatementResolves (t : Tree) (p : Procedure) (s : Statement) : Type 0 where
-  pub variables : Each (λ x. IsPlaceIn t p (place_of (scope_of t p) x)) (used_by s.head)
-  pub target : GoesSomewhere t p s.head
-  pub sides : HasAllSides s.head
+pub record StatementResolves (tree : Tree) (procedure : Procedure) (statement : Statement) : Type 0 where
+  pub variables : Each (λ x. IsPlaceIn tree procedure (place_of (scope_of tree procedure) x)) (used_by statement.head)
+  pub target : GoesSomewhere tree procedure statement.head
+  pub sides : HasAllSides statement.head
 
 -- the procedure that the thread line names is there, and has no formals
 abbrev pub StartsThere : Tree → ThreadLine → Type 0
-StartsThere t line =
-    IsThere (slice_get t.procedures (number_of line.name.text (names t.procedures))) (λ r. length r.formals ≡ 0)
+StartsThere tree line =
+    IsThere (slice_get tree.procedures (number_of line.name.text (names tree.procedures))) (λ r. length r.formals ≡ 0)
 
 -- resolving never fails: every statement of every procedure resolves, and each thread starts in a procedure that is
 -- there and has no formals
-pub record Resolves (t : Tree) : Type 0 where
-  pub statements : Each (λ (p : Procedure). Each (StatementResolves t p) (statements_of p.body)) t.procedures
-  pub threads : Each (StartsThere t) t.threads
+pub record Resolves (tree : Tree) : Type 0 where
+  pub statements : Each (λ (p : Procedure). Each (StatementResolves tree p) (statements_of p.body)) tree.procedures
+  pub threads : Each (StartsThere tree) tree.threads

@@ -46,7 +46,7 @@ StatementResolves-prop t p s a b = λ i. record {
 }
 
 pub Resolves-prop : (t : Tree) → IsProp (Resolves t)
-Resolves-prop t a b = λ i. record {
-  statements = Each-prop _ (λ p. Each-prop _ (StatementResolves-prop t p) _) t.procedures a.statements b.statements i;
-  threads = Each-prop _ (λ line. IsThere-prop _ _ (λ r. ℕ_set _ _)) t.threads a.threads b.threads i;
+Resolves-prop tree a b = λ i. record {
+  statements = Each-prop _ (λ p. Each-prop _ (StatementResolves-prop tree p) _) tree.procedures a.statements b.statements i;
+  threads = Each-prop _ (λ line. IsThere-prop _ _ (λ r. ℕ_set _ _)) tree.threads a.threads b.threads i;
 }

@@ -17,59 +17,59 @@ pub record Statement : Type 0 where
 -- the statements of a block in the order of the text, those inside an `if` or a `while` after it
 abbrev pub statements_of : Block Name Name Name → List Statement
 statements_of done = []
-statements_of (one m s t) = record { mark = m; head = plain s } ∷ statements_of t
-statements_of (choose m r a b t) =
-    record { mark = m; head = tests r } ∷ (statements_of a ++ (statements_of b ++ statements_of t))
-statements_of (loop m r a t) = record { mark = m; head = tests r } ∷ (statements_of a ++ statements_of t)
+statements_of (one mark statement rest) = record { mark = mark; head = plain statement } ∷ statements_of rest
+statements_of (choose mark side if_true if_false rest) =
+    record { mark = mark; head = tests side } ∷ (statements_of if_true ++ (statements_of if_false ++ statements_of rest))
+statements_of (loop mark side body rest) = record { mark = mark; head = tests side } ∷ (statements_of body ++ statements_of rest)
 
 -- the statements of procedures, in order
 abbrev pub statements_of_all : List Procedure → List Statement
 statements_of_all [] = []
-statements_of_all (p ∷ ps) = statements_of p.body ++ statements_of_all ps
+statements_of_all (procedure ∷ procedures) = statements_of procedure.body ++ statements_of_all procedures
 
 -- the variables of an expression, of a right side, of lists of them, and of a right side that may be there, each as
 -- often as it stands there
 abbrev pub variables_of : Expression Name → List Name
-variables_of (const b) = []
-variables_of (var x) = x ∷ []
-variables_of (negation e) = variables_of e
-variables_of (two o a b) = variables_of a ++ variables_of b
+variables_of (const truth) = []
+variables_of (var variable) = variable ∷ []
+variables_of (negation expression) = variables_of expression
+variables_of (two operator left right) = variables_of left ++ variables_of right
 
 abbrev pub variables_of_side : RightSide Name → List Name
 variables_of_side any = []
-variables_of_side (value e) = variables_of e
+variables_of_side (value expression) = variables_of expression
 
 abbrev pub variables_of_sides : List (RightSide Name) → List Name
 variables_of_sides [] = []
-variables_of_sides (r ∷ rs) = variables_of_side r ++ variables_of_sides rs
+variables_of_sides (side ∷ sides) = variables_of_side side ++ variables_of_sides sides
 
 abbrev pub variables_of_all : List (Expression Name) → List Name
 variables_of_all [] = []
-variables_of_all (e ∷ es) = variables_of e ++ variables_of_all es
+variables_of_all (expression ∷ expressions) = variables_of expression ++ variables_of_all expressions
 
 abbrev pub variables_of_test : Option (RightSide Name) → List Name
 variables_of_test None = []
-variables_of_test (Some r) = variables_of_side r
+variables_of_test (Some side) = variables_of_side side
 
 -- the variables of a statement, targets first
 abbrev pub used_by : Head Name Name Name → List Name
-used_by h =
-    targets_of h
-    ++ (variables_of_sides (sides_of h) ++ (variables_of_test (test_of h) ++ variables_of_all (arguments_of h)))
+used_by head =
+    targets_of head
+    ++ (variables_of_sides (sides_of head) ++ (variables_of_test (test_of head) ++ variables_of_all (arguments_of head)))
 
 -- the label of a statement, where it has one
 abbrev pub label_of : Option Name → List Name
 label_of None = []
-label_of (Some l) = l ∷ []
+label_of (Some label) = label ∷ []
 
 -- the labels that statements define, in order
 abbrev pub labels_of : List Statement → List Name
 labels_of [] = []
-labels_of (s ∷ ss) = label_of s.mark.label ++ labels_of ss
+labels_of (statement ∷ statements) = label_of statement.mark.label ++ labels_of statements
 
 -- a statement as the code holds it, without those that it holds
 abbrev pub statement_of : {A : Type 0} → Stmt A → Statement
-statement_of s = let i = item_of s in record { mark = i.mark; head = head_of i.deed }
+statement_of statement = let i = item_of statement in record { mark = i.mark; head = head_of i.deed }
 
 -- names behind references, in order
 abbrev pub lent : {A : Type 0} → List (Bor (declared.Name A)) → List Name
@@ -81,4 +81,4 @@ lent_statements ss = map (λ r. statement_of r.now) ss
 
 -- the statements that a statement holds
 abbrev pub inside : Deed → List Statement
-inside d = statements_of (first_inside d) ++ statements_of (second_inside d)
+inside deed = statements_of (first_inside deed) ++ statements_of (second_inside deed)

@@ -12,13 +12,13 @@ use Rattle.round_rewrite.specs.Places.{rewritten_program, bad_at}
 
 -- the program is unsafe within so many rounds exactly where some pair of the one that is rewritten for them has `bad`
 abbrev pub KeepsFailures : ℕ → Program → Type 0
-KeepsFailures rounds p =
+KeepsFailures rounds program =
     let last = last_of rounds in
-    Unsafe p rounds ↔ SomeBad (in_text_order (rewritten_program last p)) (bad_at p.globals last)
+    Unsafe program rounds ↔ SomeBad (in_text_order (rewritten_program last program)) (bad_at program.globals last)
 
 -- The tree's program is unsafe within so many rounds exactly where some pair of `main__` of the tree that is rewritten
 -- for them has `bad__`.
 abbrev pub KeepsTree : ℕ → Tree → Type 0
-KeepsTree rounds t =
-    Unsafe (meaning_of t) rounds
-    ↔ SomeBad (sequential_for rounds t) (number_of (codes "bad__") (rewritten_for rounds t).globals)
+KeepsTree rounds tree =
+    Unsafe (meaning_of tree) rounds
+    ↔ SomeBad (sequential_for rounds tree) (number_of (codes "bad__") (rewritten_for rounds tree).globals)

@@ -13,15 +13,15 @@ named text = record { text = text; at = 0 }
 
 -- x__1, x__2 and so on: the copy for a round, from 0
 abbrev pub copy_name : ℕ → Name → Name
-copy_name k x = named (x.text ++ (codes "__" ++ decimal (suc k)))
+copy_name round name = named (name.text ++ (codes "__" ++ decimal (suc round)))
 
 -- x__s2, x__s3 and so on: the guess saved for a round, from 0
 abbrev pub save_name : ℕ → Name → Name
-save_name k x = named (x.text ++ (codes "__s" ++ decimal (suc k)))
+save_name round name = named (name.text ++ (codes "__s" ++ decimal (suc round)))
 
 -- tmp__t1, tmp__t2 and so on
 abbrev pub drawn_name : ℕ → Name
-drawn_name j = named (codes "tmp__t" ++ decimal (suc j))
+drawn_name number = named (codes "tmp__t" ++ decimal (suc number))
 
 -- the names in a procedure with these formals and locals
 abbrev pub names : List Name → Naming Name Name Name Name
@@ -39,37 +39,37 @@ names own = record {
 
 -- a procedure rewritten: its temporaries stand after its locals
 abbrev pub rewritten_procedure : ℕ → Procedure → Procedure
-rewritten_procedure last p =
-    let own = p.formals ++ p.locals in
+rewritten_procedure last procedure =
+    let own = procedure.formals ++ procedure.locals in
     let w = names own in
     record {
-      name = p.name;
-      formals = p.formals;
-      locals = p.locals ++ map drawn_name (numbers 0 (temporaries w.is_shared p.body));
-      body = rewritten w last p.body;
+      name = procedure.name;
+      formals = procedure.formals;
+      locals = procedure.locals ++ map drawn_name (numbers 0 (temporaries w.is_shared procedure.body));
+      body = rewritten w last procedure.body;
     }
 
 -- the first procedure
 abbrev pub main_procedure : ℕ → Tree → Procedure
-main_procedure last t = record {
+main_procedure last tree = record {
   name = named (codes "main__");
   formals = [];
   locals = [];
-  body = main (names []) last t.globals (map (λ (line : ThreadLine). line.name) t.threads);
+  body = main (names []) last tree.globals (map (λ (line : ThreadLine). line.name) tree.threads);
 }
 
 -- the rewritten tree, where rounds count from 0 to `last`
 abbrev pub rewritten_tree : ℕ → Tree → Tree
-rewritten_tree last t = record {
-  globals = globals (names []) last t.globals;
-  procedures = main_procedure last t ∷ map (rewritten_procedure last) t.procedures;
+rewritten_tree last tree = record {
+  globals = globals (names []) last tree.globals;
+  procedures = main_procedure last tree ∷ map (rewritten_procedure last) tree.procedures;
   threads = record { at = 0; name = named (codes "main__") } ∷ [];
 }
 
 -- the tree that a tree is rewritten to for so many rounds
 abbrev pub rewritten_for : ℕ → Tree → Tree
-rewritten_for rounds t = rewritten_tree (last_of rounds) t
+rewritten_for rounds tree = rewritten_tree (last_of rounds) tree
 
 -- the sequential program that a tree is rewritten to for so many rounds
 abbrev pub sequential_for : ℕ → Tree → Program
-sequential_for rounds t = sequential_of (rewritten_for rounds t)
+sequential_for rounds tree = sequential_of (rewritten_for rounds tree)

@@ -9,28 +9,28 @@ use Rattle.round_rewrite.specs.declared.width.Wide.{Wide}
 
 -- every procedure of the rewritten tree has at most 64 places, where rounds count from 0 to `last`
 abbrev pub IsNarrow : ℕ → Tree → Type 0
-IsNarrow last t = AllNarrow (rewritten_tree last t)
+IsNarrow last tree = AllNarrow (rewritten_tree last tree)
 
 -- every procedure of the tree rewritten for so many rounds has at most 64 places
 abbrev pub IsNarrowFor : ℕ → Tree → Type 0
-IsNarrowFor rounds t = AllNarrow (rewritten_for rounds t)
+IsNarrowFor rounds tree = AllNarrow (rewritten_for rounds tree)
 
 -- how many places a procedure of the source has in the rewritten tree
 abbrev pub rewritten_width : ℕ → Tree → Procedure → ℕ
-rewritten_width last t p = width (rewritten_tree last t) (rewritten_procedure last p)
+rewritten_width last tree procedure = width (rewritten_tree last tree) (rewritten_procedure last procedure)
 
 -- each of these procedures has at most 64 places in the rewritten tree
 abbrev pub AreNarrow : ℕ → Tree → List Procedure → Type 0
-AreNarrow last t = EachProcedure (λ (p : Procedure). rewritten_width last t p ≤ most_places)
+AreNarrow last tree = EachProcedure (λ (p : Procedure). rewritten_width last tree p ≤ most_places)
 
 -- The first procedure of the source that has more than 64 places in the rewritten tree, with the offset of its name and
 -- its places; none where all have at most 64.
 abbrev pub IsFirstWide : ℕ → Tree → Option Wide → Type 0
-IsFirstWide last t None = AreNarrow last t t.procedures
-IsFirstWide last t (Some wide) =
-    (i : ℕ) × (p : Procedure) × (slice_get t.procedures i ≡ Some p) × (p.name.at ≡ wide.at)
-    × (wide.places ≡ rewritten_width last t p) × (most_places < wide.places) × AreNarrow last t (take i t.procedures)
+IsFirstWide last tree None = AreNarrow last tree tree.procedures
+IsFirstWide last tree (Some wide) =
+    (i : ℕ) × (p : Procedure) × (slice_get tree.procedures i ≡ Some p) × (p.name.at ≡ wide.at)
+    × (wide.places ≡ rewritten_width last tree p) × (most_places < wide.places) × AreNarrow last tree (take i tree.procedures)
 
 -- the same of the tree rewritten for so many rounds
 abbrev pub IsFirstWideFor : ℕ → Tree → Option Wide → Type 0
-IsFirstWideFor rounds t wide = IsFirstWide (last_of rounds) t wide
+IsFirstWideFor rounds tree wide = IsFirstWide (last_of rounds) tree wide

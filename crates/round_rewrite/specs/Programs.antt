@@ -13,5 +13,5 @@ count_of rounds = suc rounds.last
 -- The fault that is answered for a tree: its rewriting for so many rounds is too wide, and then it is, or memory ran
 -- out, and then it is not.
 abbrev pub IsFaultOf : ℕ → Tree → RewriteFault → Type 0
-IsFaultOf rounds t f =
-    ((f ≡ fault.TooWide) × (IsNarrowFor rounds t → ⊥)) ⊎ ((f ≡ fault.Memory) × IsNarrowFor rounds t)
+IsFaultOf rounds tree answer =
+    ((answer ≡ fault.TooWide) × (IsNarrowFor rounds tree → ⊥)) ⊎ ((answer ≡ fault.Memory) × IsNarrowFor rounds tree)

@@ -31,8 +31,8 @@ plain = record { label = None; at = 0 }
 
 -- the variable, or its negation
 abbrev pub literal : {W : Type 0} → ℕ → W → Expression W
-literal zero w = negation (var w)
-literal (suc n) w = var w
+literal zero bit = negation (var bit)
+literal (suc n) bit = var bit
 
 -- the bits, the low bit first, have the value k
 abbrev pub has_value : {W : Type 0} → ℕ → List W → Expression W
@@ -43,7 +43,7 @@ has_value k (low ∷ next ∷ bits) = two and (has_value (k / 2) (next ∷ bits)
 -- the right sides that add 1 to bits, the low bit first, where the carry comes from the bits below
 abbrev pub added : {W : Type 0} → Expression W → List W → List (RightSide W)
 added carry [] = []
-added carry (b ∷ bits) = value (two xor (var b) carry) ∷ added (two and (var b) carry) bits
+added carry (bit ∷ bits) = value (two xor (var bit) carry) ∷ added (two and (var bit) carry) bits
 
 -- the right sides that add 1 to bits, the low bit first
 abbrev pub raised : {W : Type 0} → List W → List (RightSide W)
@@ -59,49 +59,50 @@ abbrev pub draws : {V : Type 0} → (V → Bool) → List V → List (RightSide 
 draws is_shared [] rs = 0
 draws is_shared (x ∷ xs) [] = 0
 draws is_shared (x ∷ xs) (any ∷ rs) = cond (is_shared x) (suc (draws is_shared xs rs)) (draws is_shared xs rs)
-draws is_shared (x ∷ xs) (value e ∷ rs) = draws is_shared xs rs
+draws is_shared (x ∷ xs) (value operand ∷ rs) = draws is_shared xs rs
 
 -- how many temporaries a statement draws, without those that it holds
 abbrev pub draws_of : {V P L : Type 0} → (V → Bool) → Head V P L → ℕ
-draws_of is_shared h = draws is_shared (targets_of h) (sides_of h)
+draws_of is_shared head = draws is_shared (targets_of head) (sides_of head)
 
 -- how many temporaries a block needs
 abbrev pub temporaries : {V P L : Type 0} → (V → Bool) → Block V P L → ℕ
 temporaries is_shared done = 0
-temporaries is_shared (one m s t) = max (draws_of is_shared (parts.plain s)) (temporaries is_shared t)
-temporaries is_shared (choose m r a b t) =
-    max (temporaries is_shared a) (max (temporaries is_shared b) (temporaries is_shared t))
-temporaries is_shared (loop m r a t) = max (temporaries is_shared a) (temporaries is_shared t)
+temporaries is_shared (one mark simple rest) = max (draws_of is_shared (parts.plain simple)) (temporaries is_shared rest)
+temporaries is_shared (choose mark right_side if_true if_false rest) =
+    max (temporaries is_shared if_true) (max (temporaries is_shared if_false) (temporaries is_shared rest))
+temporaries is_shared (loop mark right_side body rest) = max (temporaries is_shared body) (temporaries is_shared rest)
 
-module _ {V W P Q : Type 0} (w : Naming V W P Q) (last : ℕ) where
-  -- the round is k
+module _ {V W P Q : Type 0} (naming : Naming V W P Q) (last : ℕ) where
+  -- the round is this one
   abbrev pub in_round : ℕ → Expression W
-  in_round k = has_value k w.bits
+  in_round round = has_value round naming.bits
 
-  -- the copy of x for the round, where the round is at most k
+  -- the copy of a variable for the round, where the round is at most this one
   abbrev pub joined : ℕ → V → Expression W
-  joined zero x = two and (in_round 0) (var (w.copy 0 x))
-  joined (suc k) x = two or (joined k x) (two and (in_round (suc k)) (var (w.copy (suc k) x)))
+  joined zero variable = two and (in_round 0) (var (naming.copy 0 variable))
+  joined (suc round) variable = two or (joined round variable) (two and (in_round (suc round)) (var (naming.copy (suc round) variable)))
 
   -- a read of a variable: of a global the copy for the round, of a local itself
   abbrev pub read : V → Expression W
-  read x = cond (w.is_shared x) (joined last x) (var (w.kept x))
+  read variable = cond (naming.is_shared variable) (joined last variable) (var (naming.kept variable))
 
   -- an expression, with each read put so
   abbrev pub expression : Expression V → Expression W
-  expression (const b) = const b
-  expression (var x) = read x
-  expression (negation e) = negation (expression e)
-  expression (two o a b) = two o (expression a) (expression b)
+  expression (const truth) = const truth
+  expression (var variable) = read variable
+  expression (negation operand) = negation (expression operand)
+  expression (two operator left right) = two operator (expression left) (expression right)
 
   -- a right side, with each read put so
   abbrev pub side : RightSide V → RightSide W
   side any = any
-  side (value e) = value (expression e)
+  side (value operand) = value (expression operand)
 
-  -- what the copies of x get where x gets d: in the round d, in every other its own value
+  -- what the copies of a variable get that is assigned: in the round this, in every other its own value
   abbrev pub written : Expression W → V → ℕ → RightSide W
-  written d x k = value (two or (two and (in_round k) d) (two and (negation (in_round k)) (var (w.copy k x))))
+  written operand variable round =
+      value (two or (two and (in_round round) operand) (two and (negation (in_round round)) (var (naming.copy round variable))))
 
   -- the rounds
   abbrev pub rounds : List ℕ
@@ -111,93 +112,97 @@ module _ {V W P Q : Type 0} (w : Naming V W P Q) (last : ℕ) where
   abbrev pub targets : List V → List (RightSide V) → List W
   targets [] rs = []
   targets (x ∷ xs) [] = []
-  targets (x ∷ xs) (r ∷ rs) =
-      cond (w.is_shared x) (map (λ k. w.copy k x) rounds ++ targets xs rs) (w.kept x ∷ targets xs rs)
+  targets (x ∷ xs) (right_side ∷ right_sides) =
+      cond (naming.is_shared x) (map (λ k. naming.copy k x) rounds ++ targets xs right_sides) (naming.kept x ∷ targets xs right_sides)
 
   -- the right sides to those targets
   abbrev pub sides : ℕ → List V → List (RightSide V) → List (RightSide W)
   sides j [] rs = []
   sides j (x ∷ xs) [] = []
   sides j (x ∷ xs) (any ∷ rs) =
-      cond (w.is_shared x) (map (written (var (w.drawn j)) x) rounds ++ sides (suc j) xs rs) (any ∷ sides j xs rs)
-  sides j (x ∷ xs) (value e ∷ rs) =
-      cond (w.is_shared x) (map (written (expression e) x) rounds ++ sides j xs rs)
-      (value (expression e) ∷ sides j xs rs)
+      cond (naming.is_shared x) (map (written (var (naming.drawn j)) x) rounds ++ sides (suc j) xs rs) (any ∷ sides j xs rs)
+  sides j (x ∷ xs) (value operand ∷ rs) =
+      cond (naming.is_shared x) (map (written (expression operand) x) rounds ++ sides j xs rs)
+      (value (expression operand) ∷ sides j xs rs)
 
   module _ {L : Type 0} where
     -- the draw of so many temporaries, if any
     abbrev pub drawing : ℕ → Block W Q L → Block W Q L
-    drawing zero t = t
-    drawing (suc n) t =
-        one plain (assign (map w.drawn (numbers 0 (suc n))) (each any (numbers 0 (suc n)))) t
+    drawing zero rest = rest
+    drawing (suc n) rest =
+        one plain (assign (map naming.drawn (numbers 0 (suc n))) (each any (numbers 0 (suc n)))) rest
 
     -- go on where `stop` is 0, else leave
     abbrev pub stop_test : Block W Q L → Block W Q L
-    stop_test t = choose plain (value (var w.stop)) (one plain leave done) (one plain skip done) t
+    stop_test rest = choose plain (value (var naming.stop)) (one plain leave done) (one plain skip done) rest
 
     -- the body of the prologue's loop: on to the next round, where there is one
     abbrev pub rise : Block W Q L
     rise =
         one plain (assume (value (negation (in_round last))))
-        (one plain (assign (reverse w.bits) (reverse (raised w.bits))) done)
+        (one plain (assign (reverse naming.bits) (reverse (raised naming.bits))) done)
 
     -- the prologue: rise by any number of rounds, stop or not, and leave where `stop` is 1
     abbrev pub prologue : Mark L → Block W Q L → Block W Q L
-    prologue m t =
-        loop m any rise
-        (choose plain any (one plain (assign (w.stop ∷ []) (value (const true) ∷ [])) done) (one plain skip done)
-        (stop_test t))
+    prologue mark rest =
+        loop mark any rise
+        (choose plain any (one plain (assign (naming.stop ∷ []) (value (const true) ∷ [])) done) (one plain skip done)
+        (stop_test rest))
 
     -- a statement that holds no others, behind its prologue
     abbrev pub statement : Simple V P L → Block W Q L → Block W Q L
-    statement skip t = one plain skip t
-    statement (assign xs rs) t = drawing (draws w.is_shared xs rs) (one plain (assign (targets xs rs) (sides 0 xs rs)) t)
-    statement (assert r) t =
-        choose plain (side r) (one plain skip done)
-        (one plain (assign (w.bad ∷ w.stop ∷ []) (value (const true) ∷ value (const true) ∷ []))
-        (one plain leave done)) t
-    statement (assume r) t = one plain (assume (side r)) t
-    statement (goto l) t = one plain (goto l) t
-    statement leave t = one plain leave t
-    statement (call p es) t = one plain (call (w.called p) (map expression es)) (stop_test t)
+    statement skip rest = one plain skip rest
+    statement (assign xs rs) rest = drawing (draws naming.is_shared xs rs) (one plain (assign (targets xs rs) (sides 0 xs rs)) rest)
+    statement (assert right_side) rest =
+        choose plain (side right_side) (one plain skip done)
+        (one plain (assign (naming.bad ∷ naming.stop ∷ []) (value (const true) ∷ value (const true) ∷ []))
+        (one plain leave done)) rest
+    statement (assume right_side) rest = one plain (assume (side right_side)) rest
+    statement (goto label) rest = one plain (goto label) rest
+    statement leave rest = one plain leave rest
+    statement (call callee es) rest = one plain (call (naming.called callee) (map expression es)) (stop_test rest)
 
     -- the rewritten block
     abbrev pub rewritten : Block V P L → Block W Q L
     rewritten done = done
-    rewritten (one m s t) = prologue m (statement s (rewritten t))
-    rewritten (choose m r a b t) = prologue m (choose plain (side r) (rewritten a) (rewritten b) (rewritten t))
-    rewritten (loop m r a t) =
-        prologue m (loop plain (side r) (join (rewritten a) (prologue plain done)) (rewritten t))
+    rewritten (one mark simple rest) = prologue mark (statement simple (rewritten rest))
+    rewritten (choose mark right_side if_true if_false rest) =
+        prologue mark (choose plain (side right_side) (rewritten if_true) (rewritten if_false) (rewritten rest))
+    rewritten (loop mark right_side body rest) =
+        prologue mark (loop plain (side right_side) (join (rewritten body) (prologue plain done)) (rewritten rest))
 
     -- the guess of the globals for one round, saved
     abbrev pub guess : List V → ℕ → Block W Q L → Block W Q L
-    guess [] k t = t
-    guess (x ∷ xs) k t =
-        one plain (assign (map (w.copy k) (x ∷ xs)) (each any (x ∷ xs)))
-        (one plain (assign (map (w.save k) (x ∷ xs)) (map (λ y. value (var (w.copy k y))) (x ∷ xs))) t)
+    guess [] round rest = rest
+    guess (variable ∷ variables) round rest =
+        one plain (assign (map (naming.copy round) (variable ∷ variables)) (each any (variable ∷ variables)))
+        (one plain
+        (assign (map (naming.save round) (variable ∷ variables)) (map (λ y. value (var (naming.copy round y))) (variable ∷ variables)))
+        rest)
 
     -- the guesses for several rounds
     abbrev pub guesses : List V → List ℕ → Block W Q L → Block W Q L
-    guesses xs [] t = t
-    guesses xs (k ∷ ks) t = guess xs k (guesses xs ks t)
+    guesses xs [] rest = rest
+    guesses xs (round ∷ ks) rest = guess xs round (guesses xs ks rest)
 
     -- the threads, one after the other, each from round 0
     abbrev pub starts : List P → Block W Q L → Block W Q L
-    starts [] t = t
-    starts (p ∷ ps) t =
-        one plain (assign (reverse w.bits ++ w.stop ∷ []) (each (value (const false)) (reverse w.bits ++ w.stop ∷ [])))
-        (one plain (call (w.called p) []) (starts ps t))
+    starts [] rest = rest
+    starts (callee ∷ callees) rest =
+        one plain (assign (reverse naming.bits ++ naming.stop ∷ []) (each (value (const false)) (reverse naming.bits ++ naming.stop ∷ [])))
+        (one plain (call (naming.called callee) []) (starts callees rest))
 
-    -- the check that round k ended with the guess for the round after it
+    -- the check that a round ended with the guess for the round after it
     abbrev pub check : List V → ℕ → Block W Q L → Block W Q L
-    check [] k t = t
-    check (x ∷ xs) k t =
-        one plain (assume (value (two equal (var (w.save (suc k) x)) (var (w.copy k x))))) (check xs k t)
+    check [] round rest = rest
+    check (variable ∷ variables) round rest =
+        one plain (assume (value (two equal (var (naming.save (suc round) variable)) (var (naming.copy round variable)))))
+        (check variables round rest)
 
     -- the checks of several rounds
     abbrev pub checks : List V → List ℕ → Block W Q L → Block W Q L
-    checks xs [] t = t
-    checks xs (k ∷ ks) t = check xs k (checks xs ks t)
+    checks xs [] rest = rest
+    checks xs (round ∷ ks) rest = check xs round (checks xs ks rest)
 
     -- the body of the first procedure
     abbrev pub main : List V → List P → Block W Q L
@@ -206,8 +211,9 @@ module _ {V W P Q : Type 0} (w : Naming V W P Q) (last : ℕ) where
   -- the globals written for these rounds, round by round
   abbrev pub copied : (ℕ → V → W) → List V → List ℕ → List W
   copied write xs [] = []
-  copied write xs (k ∷ ks) = map (write k) xs ++ copied write xs ks
+  copied write xs (round ∷ ks) = map (write round) xs ++ copied write xs ks
 
   -- the globals in order: the copies round by round, the guesses saved, the round's bits, stop, bad
   abbrev pub globals : List V → List W
-  globals xs = copied w.copy xs rounds ++ copied w.save xs (numbers 1 last) ++ reverse w.bits ++ w.stop ∷ w.bad ∷ []
+  globals xs =
+      copied naming.copy xs rounds ++ copied naming.save xs (numbers 1 last) ++ reverse naming.bits ++ naming.stop ∷ naming.bad ∷ []

@@ -13,7 +13,7 @@ use Rattle.resolved.specs.Limits.{most_places}
 
 -- how the procedure's names are written
 abbrev pub naming_of : {N A : Type 0} → Writer N A → Naming tree.Name tree.Name tree.Name tree.Name
-naming_of w = names (names_of w.formals.now ++ names_of w.locals.now)
+naming_of writer = names (names_of writer.formals.now ++ names_of writer.locals.now)
 
 -- a block of a text
 abbrev pub TextBlock : Type 0
@@ -39,45 +39,47 @@ stopping =
 
 -- what an assert of this right side becomes
 abbrev pub failing : tree.RightSide tree.Name → Deed
-failing r =
-    branch r (one plain skip done)
+failing right_side =
+    branch right_side (one plain skip done)
     (one plain (assign (named (codes "bad__") ∷ named (codes "stop__") ∷ []) (value (const true) ∷ value (const true) ∷ []))
     (one plain leave done))
 
-module _ (w : Naming tree.Name tree.Name tree.Name tree.Name) (last : ℕ) where
+module _ (naming : Naming tree.Name tree.Name tree.Name tree.Name) (last : ℕ) where
   -- a statement rewritten, without its prologue, in front of others
   abbrev pub bare_form : Deed → TextBlock → TextBlock
-  bare_form (simple s) k = statement w last s k
-  bare_form (branch r a b) k = choose plain (side w last r) (rewritten w last a) (rewritten w last b) k
-  bare_form (repeat r a) k = loop plain (side w last r) (join (rewritten w last a) (prologue w last plain done)) k
+  bare_form (simple s) rest = statement naming last s rest
+  bare_form (branch right_side if_true if_false) rest =
+      choose plain (side naming last right_side) (rewritten naming last if_true) (rewritten naming last if_false) rest
+  bare_form (repeat right_side body) rest =
+      loop plain (side naming last right_side) (join (rewritten naming last body) (prologue naming last plain done)) rest
 
   -- a statement rewritten, in front of others
   abbrev pub form : Item → TextBlock → TextBlock
-  form i k = prologue w last i.mark (bare_form i.deed k)
+  form item rest = prologue naming last item.mark (bare_form item.deed rest)
 
   -- statements rewritten, in front of others
   abbrev pub forms : List Item → TextBlock → TextBlock
-  forms [] k = k
-  forms (i ∷ is) k = form i (forms is k)
+  forms [] rest = rest
+  forms (item ∷ items) rest = form item (forms items rest)
 
 -- how many temporaries one statement needs, with those that it holds
 abbrev pub deed_needs : (tree.Name → Bool) → Deed → ℕ
-deed_needs is_shared d =
-    max (draws_of is_shared (head_of d)) (max (temporaries is_shared (first_inside d)) (temporaries is_shared (second_inside d)))
+deed_needs is_shared deed =
+    max (draws_of is_shared (head_of deed)) (max (temporaries is_shared (first_inside deed)) (temporaries is_shared (second_inside deed)))
 
 -- how many temporaries a procedure needs
 abbrev pub procedure_needs : tree.Procedure → ℕ
-procedure_needs p = temporaries (names (p.formals ++ p.locals)).is_shared p.body
+procedure_needs procedure = temporaries (names (procedure.formals ++ procedure.locals)).is_shared procedure.body
 
 -- no procedure needs more than 64 temporaries
 abbrev pub AreFew : List tree.Procedure → Type 0
 AreFew [] = Unit {0}
-AreFew (p ∷ ps) = (procedure_needs p ≤ most_places) × AreFew ps
+AreFew (procedure ∷ procedures) = (procedure_needs procedure ≤ most_places) × AreFew procedures
 
 -- how many places a procedure has of its own when it is rewritten: formals, locals and temporaries
 abbrev pub own_width : tree.Procedure → ℕ
-own_width p = length p.formals + (length p.locals + procedure_needs p)
+own_width procedure = length procedure.formals + (length procedure.locals + procedure_needs procedure)
 
 -- the globals, so many, and what the procedure has of its own are at most 64 places
 abbrev pub IsOwnNarrow : ℕ → tree.Procedure → Type 0
-IsOwnNarrow globals p = globals + own_width p ≤ most_places
+IsOwnNarrow globals procedure = globals + own_width procedure ≤ most_places

@@ -13,136 +13,141 @@ use Rattle.resolved.specs.Statements.{Statement, statements_of, statements_of_al
 -- the first procedure of this name, where there is one
 abbrev pub named : List ℕ → List Procedure → Option Procedure
 named text [] = None
-named text (p ∷ ps) = cond (same_text text p.name.text) (Some p) (named text ps)
+named text (procedure ∷ procedures) = cond (same_text text procedure.name.text) (Some procedure) (named text procedures)
 
--- a name stands at n, and none of the lists declares it
+-- a name stands at the offset, and none of the lists declares it
 abbrev pub IsUnknown : List Name → ℕ → Name → Type 0
-IsUnknown names n x = (x.at ≡ n) × (is_declared x.text names ≡ false)
+IsUnknown names offset name = (name.at ≡ offset) × (is_declared name.text names ≡ false)
 
--- some of the names stands at n, and none of the first list declares it
+-- some of the names stands at the offset, and none of the first list declares it
 abbrev pub AnyUnknown : List Name → List Name → ℕ → Type 0
-AnyUnknown names xs n = AnyOf (λ x. IsUnknown names n x) xs
+AnyUnknown names xs offset = AnyOf (λ x. IsUnknown names offset x) xs
 
 -- the names of variables that a statement of the procedure can use: its formals, its locals, the globals
 abbrev pub known : Tree → Procedure → List Name
-known t p = (p.formals ++ p.locals) ++ t.globals
+known tree procedure = (procedure.formals ++ procedure.locals) ++ tree.globals
 
--- a called procedure that stands at n and has no declaration
+-- a called procedure that stands at the offset and has no declaration
 abbrev pub CallsUnknown : List Procedure → ℕ → Head Name Name Name → Type 0
-CallsUnknown procedures n h = IsThere (callee_of h) (λ callee. (callee.at ≡ n) × (named callee.text procedures ≡ None))
+CallsUnknown procedures offset head = IsThere (callee_of head) (λ callee. (callee.at ≡ offset) × (named callee.text procedures ≡ None))
 
--- a statement has at n a variable that is none of these, or calls a procedure that has no declaration
+-- a statement has at the offset a variable that is none of these, or calls a procedure that has no declaration
 abbrev pub IsUndeclaredIn : List Name → List Procedure → Statement → ℕ → Type 0
-IsUndeclaredIn variables ps s n = AnyUnknown variables (used_by s.head) n ⊎ CallsUnknown ps n s.head
+IsUndeclaredIn variables ps statement offset = AnyUnknown variables (used_by statement.head) offset ⊎ CallsUnknown ps offset statement.head
 
--- a statement of the procedure has at n a variable or a called procedure that has no declaration
+-- a statement of the procedure has at the offset a variable or a called procedure that has no declaration
 abbrev pub UndeclaredInProcedure : Tree → Procedure → ℕ → Type 0
-UndeclaredInProcedure t p n = AnyOf (λ s. IsUndeclaredIn (known t p) t.procedures s n) (statements_of p.body)
+UndeclaredInProcedure tree procedure offset =
+    AnyOf (λ s. IsUndeclaredIn (known tree procedure) tree.procedures s offset) (statements_of procedure.body)
 
--- a variable or a called procedure at n has no declaration
+-- a variable or a called procedure at the offset has no declaration
 abbrev pub Undeclared : Tree → ℕ → Type 0
-Undeclared t n = AnyOf (λ p. UndeclaredInProcedure t p n) t.procedures
+Undeclared tree offset = AnyOf (λ p. UndeclaredInProcedure tree p offset) tree.procedures
 
--- a name at n has the text of one that comes before it in the list
+-- a name at the offset has the text of one that comes before it in the list
 abbrev pub Repeated : List Name → ℕ → Type 0
-Repeated [] n = ⊥
-Repeated (x ∷ xs) n = AnyOf (λ (y : Name). (y.at ≡ n) × (same_text x.text y.text ≡ true)) xs ⊎ Repeated xs n
+Repeated [] offset = ⊥
+Repeated (x ∷ xs) offset = AnyOf (λ (y : Name). (y.at ≡ offset) × (same_text x.text y.text ≡ true)) xs ⊎ Repeated xs offset
 
--- a name at n comes again among the formals and locals of a procedure, or among the targets of an assignment in it
+-- a name at the offset comes again among the formals and locals of a procedure, or among the targets of an assignment
+-- in it
 abbrev pub IsTwiceIn : Procedure → ℕ → Type 0
-IsTwiceIn p n = Repeated (p.formals ++ p.locals) n ⊎ AnyOf (λ s. Repeated (targets_of s.head) n) (statements_of p.body)
+IsTwiceIn procedure offset = Repeated (procedure.formals ++ procedure.locals) offset
+    ⊎ AnyOf (λ s. Repeated (targets_of s.head) offset) (statements_of procedure.body)
 
--- a name at n comes again among the globals, the procedures, the formals and locals of one procedure, or the
+-- a name at the offset comes again among the globals, the procedures, the formals and locals of one procedure, or the
 -- targets of one assignment
 abbrev pub DeclaredTwice : Tree → ℕ → Type 0
-DeclaredTwice t n =
-    Repeated t.globals n
-    ⊎ (Repeated (names t.procedures) n
-    ⊎ AnyOf (λ p. IsTwiceIn p n) t.procedures)
+DeclaredTwice tree offset =
+    Repeated tree.globals offset
+    ⊎ (Repeated (names tree.procedures) offset
+    ⊎ AnyOf (λ p. IsTwiceIn p offset) tree.procedures)
 
 -- where a list of targets begins: at its first, or where it is empty, where the statement does
 abbrev pub first_at : ℕ → List Name → ℕ
-first_at m [] = m
-first_at m (x ∷ xs) = x.at
+first_at otherwise [] = otherwise
+first_at otherwise (x ∷ xs) = x.at
 
--- an assignment has more or fewer targets than right sides; n is the offset of the first target
+-- an assignment has more or fewer targets than right sides; `offset` is that of the first target
 abbrev pub MiscountsSides : ℕ → Statement → Type 0
-MiscountsSides n s =
-    (assigns s.head ≡ true) × (first_at s.mark.at (targets_of s.head) ≡ n)
-    × (length (targets_of s.head) ≢ length (sides_of s.head))
+MiscountsSides offset statement =
+    (assigns statement.head ≡ true) × (first_at statement.mark.at (targets_of statement.head) ≡ offset)
+    × (length (targets_of statement.head) ≢ length (sides_of statement.head))
 
--- a call has more or fewer arguments than the procedure that it calls has formals; n is the offset of the called name
+-- a call has more or fewer arguments than the procedure that it calls has formals; `offset` is that of the called name
 abbrev pub MiscountsArguments : List Procedure → ℕ → Head Name Name Name → Type 0
-MiscountsArguments procedures n h =
-    IsThere (callee_of h) (λ callee. (callee.at ≡ n)
-    × IsThere (named callee.text procedures) (λ p. length p.formals ≢ length (arguments_of h)))
+MiscountsArguments procedures offset head =
+    IsThere (callee_of head) (λ callee. (callee.at ≡ offset)
+    × IsThere (named callee.text procedures) (λ p. length p.formals ≢ length (arguments_of head)))
 
 -- a statement's targets and right sides, or its arguments and the formals of the procedure that it calls, differ
--- in number; n is the offset of the first target or of the called name
+-- in number; `offset` is that of the first target or of the called name
 abbrev pub Miscounts : List Procedure → ℕ → Statement → Type 0
-Miscounts procedures n s = MiscountsSides n s ⊎ MiscountsArguments procedures n s.head
+Miscounts procedures offset statement = MiscountsSides offset statement ⊎ MiscountsArguments procedures offset statement.head
 
 -- a statement of the procedure does
 abbrev pub MiscountsIn : List Procedure → Procedure → ℕ → Type 0
-MiscountsIn ps p n = AnyOf (Miscounts ps n) (statements_of p.body)
+MiscountsIn ps procedure offset = AnyOf (Miscounts ps offset) (statements_of procedure.body)
 
--- an assignment at n has more or fewer targets than right sides, or a call more or fewer arguments than formals
+-- an assignment at the offset has more or fewer targets than right sides, or a call more or fewer arguments than
+-- formals
 abbrev pub WrongCount : Tree → ℕ → Type 0
-WrongCount t n = AnyOf (λ p. MiscountsIn t.procedures p n) t.procedures
+WrongCount tree offset = AnyOf (λ p. MiscountsIn tree.procedures p offset) tree.procedures
 
 -- the procedure has no formals
 abbrev pub no_formals : Procedure → Bool
-no_formals p = length p.formals == 0
+no_formals procedure = length procedure.formals == 0
 
 -- a thread can start in this procedure: it is there, and has no formals
 abbrev pub CanStart : Option Procedure → Type 0
-CanStart p = IsThere p (λ q. no_formals q ≡ true)
+CanStart procedure = IsThere procedure (λ q. no_formals q ≡ true)
 
--- the thread line names at n no procedure, or one with formals
+-- the thread line names at the offset no procedure, or one with formals
 abbrev pub StartsNowhere : List Procedure → ThreadLine → ℕ → Type 0
-StartsNowhere ps line n = (line.name.at ≡ n) × (CanStart (named line.name.text ps) → ⊥)
+StartsNowhere ps line offset = (line.name.at ≡ offset) × (CanStart (named line.name.text ps) → ⊥)
 
 -- some thread line does
 abbrev pub BadThread : Tree → ℕ → Type 0
-BadThread t n = AnyOf (λ line. StartsNowhere t.procedures line n) t.threads
+BadThread tree offset = AnyOf (λ line. StartsNowhere tree.procedures line offset) tree.threads
 
--- a goto that stands at n names none of these labels
+-- a goto that stands at the offset names none of these labels
 abbrev pub GoesNowhere : List Name → ℕ → Head Name Name Name → Type 0
-GoesNowhere labels n h = IsThere (jump_of h) (IsUnknown labels n)
+GoesNowhere labels offset head = IsThere (jump_of head) (IsUnknown labels offset)
 
--- a goto of the procedure names at n none of its labels, or a label of it comes again at n
+-- a goto of the procedure names at the offset none of its labels, or a label of it comes again at the offset
 abbrev pub MislabelledIn : ℕ → Procedure → Type 0
-MislabelledIn n p =
-    AnyOf (λ (s : Statement). GoesNowhere (labels_of (statements_of p.body)) n s.head) (statements_of p.body)
-    ⊎ Repeated (labels_of (statements_of p.body)) n
+MislabelledIn offset procedure =
+    AnyOf (λ (s : Statement). GoesNowhere (labels_of (statements_of procedure.body)) offset s.head) (statements_of procedure.body)
+    ⊎ Repeated (labels_of (statements_of procedure.body)) offset
 
--- a goto names at n no label of its procedure, or a label of a procedure comes again at n
+-- a goto names at the offset no label of its procedure, or a label of a procedure comes again at the offset
 abbrev pub BadLabel : Tree → ℕ → Type 0
-BadLabel t n = AnyOf (MislabelledIn n) t.procedures
+BadLabel tree offset = AnyOf (MislabelledIn offset) tree.procedures
 
 -- two underscores stand side by side in the text
 abbrev pub HasTwoUnderscores : List ℕ → Type 0
 HasTwoUnderscores text = (k : ℕ) × (slice_index text k ≡ 95) × (slice_index text (k + 1) ≡ 95)
 
--- one of the names stands at n and has two underscores in a row
+-- one of the names stands at the offset and has two underscores in a row
 abbrev pub IsReserved : List Name → ℕ → Type 0
-IsReserved xs n = AnyOf (λ (x : Name). (x.at ≡ n) × HasTwoUnderscores x.text) xs
+IsReserved xs offset = AnyOf (λ (x : Name). (x.at ≡ offset) × HasTwoUnderscores x.text) xs
 
--- a formal, a local or a label of the procedure at n has two underscores in a row
+-- a formal, a local or a label of the procedure at the offset has two underscores in a row
 abbrev pub ReservedIn : ℕ → Procedure → Type 0
-ReservedIn n p = IsReserved (p.formals ++ p.locals) n ⊎ IsReserved (labels_of (statements_of p.body)) n
+ReservedIn offset procedure = IsReserved (procedure.formals ++ procedure.locals) offset
+    ⊎ IsReserved (labels_of (statements_of procedure.body)) offset
 
--- a declared variable, procedure or label at n has two underscores in a row
+-- a declared variable, procedure or label at the offset has two underscores in a row
 abbrev pub Reserved : Tree → ℕ → Type 0
-Reserved t n =
-    IsReserved t.globals n
-    ⊎ (IsReserved (names t.procedures) n
-    ⊎ AnyOf (ReservedIn n) t.procedures)
+Reserved tree offset =
+    IsReserved tree.globals offset
+    ⊎ (IsReserved (names tree.procedures) offset
+    ⊎ AnyOf (ReservedIn offset) tree.procedures)
 
--- the 32nd procedure has its name at n, the 9th thread line stands at n, or the 1,001st statement of the whole
--- text does
+-- the 32nd procedure has its name at the offset, the 9th thread line stands at the offset, or the 1,001st statement of
+-- the whole text does
 abbrev pub TooMany : Tree → ℕ → Type 0
-TooMany t n =
-    IsThere (slice_get t.procedures most_procedures) (λ p. p.name.at ≡ n)
-    ⊎ (IsThere (slice_get t.threads most_threads) (λ line. line.at ≡ n)
-    ⊎ IsThere (slice_get (statements_of_all t.procedures) most_statements) (λ s. s.mark.at ≡ n))
+TooMany tree offset =
+    IsThere (slice_get tree.procedures most_procedures) (λ p. p.name.at ≡ offset)
+    ⊎ (IsThere (slice_get tree.threads most_threads) (λ line. line.at ≡ offset)
+    ⊎ IsThere (slice_get (statements_of_all tree.procedures) most_statements) (λ s. s.mark.at ≡ offset))

@@ -27,8 +27,8 @@ earlier_of a b = lesser_by (λ n. n) a b
 
 -- the answer is the least of those that R has of the members, one of each
 abbrev pub Earliest : {X : Type 0} → (X → Option ℕ → Type 0) → List X → Option ℕ → Type 0
-Earliest R [] r = r ≡ None
-Earliest R (x ∷ xs) r = (a : Option ℕ) × (b : Option ℕ) × R x a × Earliest R xs b × (r ≡ earlier_of a b)
+Earliest R [] answer = answer ≡ None
+Earliest R (x ∷ xs) answer = (a : Option ℕ) × (b : Option ℕ) × R x a × Earliest R xs b × (answer ≡ earlier_of a b)
 
 -- What a search has found so far goes with every answer for what remains: together they are an answer for
 -- the whole.

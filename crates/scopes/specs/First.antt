@@ -7,7 +7,7 @@ use Rattle.scopes.specs.Checked.{offset, ComesFirst}
 -- nothing, where no fault has the property; else one that has it, before all that do
 abbrev pub IsFirst : (ScopeFault → Type 0) → Option ScopeFault → Type 0
 IsFirst S None = (f : ScopeFault) → S f → ⊥
-IsFirst S (Some f) = S f × ((g : ScopeFault) → S g → ComesFirst f g)
+IsFirst S (Some fault) = S fault × ((g : ScopeFault) → S g → ComesFirst fault g)
 
 -- the answer is the first fault with the property, or nothing where no fault has it
 pub record FindsFirst (S : ScopeFault → Type 0) (answer : Option ScopeFault) : Type 0 where

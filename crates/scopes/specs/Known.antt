@@ -10,8 +10,8 @@ use denote.Ref.{Bor}
 
 -- the texts of the set are those of the names
 abbrev pub AreTexts : {S : Type 0} → IndexSet (Bor (List ℕ)) S → List Name → Type 0
-AreTexts s ns = (text : List ℕ) → contains_by (λ k. bytes_eq text k.now) s ≡ is_declared text ns
+AreTexts set ns = (text : List ℕ) → contains_by (λ k. bytes_eq text k.now) set ≡ is_declared text ns
 
--- a name at n has the text of one before it, where some names come before the list
+-- a name at the offset has the text of one before it, where some names come before the list
 abbrev pub IsAgain : List Name → List Name → ℕ → Type 0
-IsAgain before ns n = AnyOf (λ (y : Name). (y.at ≡ n) × (is_declared y.text before ≡ true)) ns ⊎ Repeated ns n
+IsAgain before ns offset = AnyOf (λ (y : Name). (y.at ≡ offset) × (is_declared y.text before ≡ true)) ns ⊎ Repeated ns offset

@@ -6,8 +6,8 @@ use Rattle.scopes.specs.declared.checked.Checked.{Checked}
 
 -- the program that was checked
 abbrev pub checked_program : {A : Type 0} → Checked A → Program A
-checked_program c = c.program
+checked_program checked = checked.program
 
 -- its tree
 abbrev pub checked_tree : {A : Type 0} → Checked A → Tree
-checked_tree c = tree_of (checked_program c)
+checked_tree checked = tree_of (checked_program checked)

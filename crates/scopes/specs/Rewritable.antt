@@ -10,12 +10,12 @@ use Rattle.language.specs.Resolve.{is_declared, number_of, Scope, scope_of}
 -- the text begins with an underscore
 abbrev pub begins_low : List ℕ → Bool
 begins_low [] = false
-begins_low (c ∷ text) = nat_eq c 95
+begins_low (byte ∷ text) = nat_eq byte 95
 
 -- two underscores stand in a row in the text
 abbrev pub has_double : List ℕ → Bool
 has_double [] = false
-has_double (c ∷ text) = (nat_eq c 95 && begins_low text) || has_double text
+has_double (byte ∷ text) = (nat_eq byte 95 && begins_low text) || has_double text
 
 -- no name has two underscores in a row
 abbrev pub AreFree : List Name → Type 0
@@ -29,61 +29,63 @@ AreDistinct (x ∷ xs) = (is_declared x.text xs ≡ false) × AreDistinct xs
 
 -- the variable is a formal, a local or a global
 abbrev pub Declared : Scope → Name → Type 0
-Declared s x = is_declared x.text s.locals ≡ false → is_declared x.text s.globals ≡ true
+Declared scope name = is_declared name.text scope.locals ≡ false → is_declared name.text scope.globals ≡ true
 
 -- so is each of the variables
 abbrev pub AllDeclared : Scope → List Name → Type 0
-AllDeclared s [] = Unit {0}
-AllDeclared s (x ∷ xs) = Declared s x × AllDeclared s xs
+AllDeclared scope [] = Unit {0}
+AllDeclared scope (x ∷ xs) = Declared scope x × AllDeclared scope xs
 
 -- each variable of the expression is declared
 abbrev pub ExpressionDeclared : Scope → Expression Name → Type 0
-ExpressionDeclared s (const b) = Unit {0}
-ExpressionDeclared s (var x) = Declared s x
-ExpressionDeclared s (negation e) = ExpressionDeclared s e
-ExpressionDeclared s (two o a b) = ExpressionDeclared s a × ExpressionDeclared s b
+ExpressionDeclared scope (const truth) = Unit {0}
+ExpressionDeclared scope (var variable) = Declared scope variable
+ExpressionDeclared scope (negation expression) = ExpressionDeclared scope expression
+ExpressionDeclared scope (two operator left right) = ExpressionDeclared scope left × ExpressionDeclared scope right
 
 -- each variable of the expressions is declared
 abbrev pub ExpressionsDeclared : Scope → List (Expression Name) → Type 0
-ExpressionsDeclared s [] = Unit {0}
-ExpressionsDeclared s (e ∷ es) = ExpressionDeclared s e × ExpressionsDeclared s es
+ExpressionsDeclared scope [] = Unit {0}
+ExpressionsDeclared scope (expression ∷ expressions) = ExpressionDeclared scope expression × ExpressionsDeclared scope expressions
 
 -- each variable of the right side is declared
 abbrev pub SideDeclared : Scope → RightSide Name → Type 0
-SideDeclared s any = Unit {0}
-SideDeclared s (value e) = ExpressionDeclared s e
+SideDeclared scope any = Unit {0}
+SideDeclared scope (value expression) = ExpressionDeclared scope expression
 
 -- each variable of the right sides is declared
 abbrev pub SidesDeclared : Scope → List (RightSide Name) → Type 0
-SidesDeclared s [] = Unit {0}
-SidesDeclared s (r ∷ rs) = SideDeclared s r × SidesDeclared s rs
+SidesDeclared scope [] = Unit {0}
+SidesDeclared scope (side ∷ sides) = SideDeclared scope side × SidesDeclared scope sides
 
 -- the first procedure of this name is there, and has at least so many formals and locals
 abbrev pub HasRoom : Option Procedure → ℕ → Type 0
 HasRoom None n = ⊥
-HasRoom (Some p) n = n ≤ length (p.formals ++ p.locals)
+HasRoom (Some procedure) n = n ≤ length (procedure.formals ++ procedure.locals)
 
 -- The names of a statement are declared, and a call has no more arguments than there are places.
-pub record SimpleDeclared (t : Tree) (scope : Scope) (s : Simple Name Name Name) : Type 0 where
-  pub targets : AllDeclared scope (targets_of (plain s))
-  pub sides : SidesDeclared scope (sides_of (plain s))
-  pub test : IfSome (test_of (plain s)) (SideDeclared scope)
-  pub arguments : ExpressionsDeclared scope (arguments_of (plain s))
-  pub callee : IfSome (callee_of (plain s)) (λ callee. (is_declared callee.text scope.procedures ≡ true)
-      × HasRoom (slice_get t.procedures (number_of callee.text scope.procedures)) (length (arguments_of (plain s))))
+pub record SimpleDeclared (tree : Tree) (scope : Scope) (statement : Simple Name Name Name) : Type 0 where
+  pub targets : AllDeclared scope (targets_of (plain statement))
+  pub sides : SidesDeclared scope (sides_of (plain statement))
+  pub test : IfSome (test_of (plain statement)) (SideDeclared scope)
+  pub arguments : ExpressionsDeclared scope (arguments_of (plain statement))
+  pub callee : IfSome (callee_of (plain statement)) (λ callee. (is_declared callee.text scope.procedures ≡ true)
+      × HasRoom (slice_get tree.procedures (number_of callee.text scope.procedures)) (length (arguments_of (plain statement))))
 
 -- so it is for each statement of the block
 abbrev pub BlockDeclared : Tree → Scope → Block Name Name Name → Type 0
-BlockDeclared t s done = Unit {0}
-BlockDeclared t s (one m c k) = SimpleDeclared t s c × BlockDeclared t s k
-BlockDeclared t s (choose m r a b k) = SideDeclared s r × BlockDeclared t s a × BlockDeclared t s b × BlockDeclared t s k
-BlockDeclared t s (loop m r a k) = SideDeclared s r × BlockDeclared t s a × BlockDeclared t s k
+BlockDeclared tree scope done = Unit {0}
+BlockDeclared tree scope (one mark statement rest) = SimpleDeclared tree scope statement × BlockDeclared tree scope rest
+BlockDeclared tree scope (choose mark side if_true if_false rest) = SideDeclared scope side × BlockDeclared tree scope if_true
+    × BlockDeclared tree scope if_false × BlockDeclared tree scope rest
+BlockDeclared tree scope (loop mark side body rest) = SideDeclared scope side × BlockDeclared tree scope body
+    × BlockDeclared tree scope rest
 
 -- the procedure's names are free of two underscores in a row, and all names in it are declared
-pub record ProcedureRewritable (t : Tree) (p : Procedure) : Type 0 where
-  pub name : has_double p.name.text ≡ false
-  pub own : AreFree (p.formals ++ p.locals)
-  pub body : BlockDeclared t (scope_of t p) p.body
+pub record ProcedureRewritable (tree : Tree) (procedure : Procedure) : Type 0 where
+  pub name : has_double procedure.name.text ≡ false
+  pub own : AreFree (procedure.formals ++ procedure.locals)
+  pub body : BlockDeclared tree (scope_of tree procedure) procedure.body
 
 -- each thread line names one of these procedures
 abbrev pub EachLine : List Name → List ThreadLine → Type 0
@@ -92,8 +94,8 @@ EachLine ps (line ∷ lines) = (is_declared line.name.text ps ≡ true) × EachL
 
 -- every name is declared, no two globals are the same, and no declared variable or procedure has two
 -- underscores in a row
-pub record IsRewritable (t : Tree) : Type 0 where
-  pub globals : AreFree t.globals
-  pub distinct : AreDistinct t.globals
-  pub procedures : EachProcedure (ProcedureRewritable t) t.procedures
-  pub threads : EachLine (map (λ (p : Procedure). p.name) t.procedures) t.threads
+pub record IsRewritable (tree : Tree) : Type 0 where
+  pub globals : AreFree tree.globals
+  pub distinct : AreDistinct tree.globals
+  pub procedures : EachProcedure (ProcedureRewritable tree) tree.procedures
+  pub threads : EachLine (map (λ (p : Procedure). p.name) tree.procedures) tree.threads

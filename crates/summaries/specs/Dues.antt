@@ -10,9 +10,9 @@ use Rattle.summaries.specs.declared.due.Due.TheVariants.{Entry, Summary}
 -- who enters a procedure
 abbrev pub caller_of : sequential.Caller → Caller
 caller_of starter = Starter
-caller_of (caller q) = Proc q
+caller_of (caller procedure) = Proc procedure
 
 -- the message with these numbers
 abbrev pub due_of : NumberedMessage → Due
-due_of (numbered_entry from a) = Entry (caller_of from) a
-due_of (numbered_summary s a b) = Summary s a b
+due_of (numbered_entry from entry) = Entry (caller_of from) entry
+due_of (numbered_summary callee entry exit) = Summary callee entry exit

@@ -9,10 +9,10 @@ use Rattle.flow_graph.specs.Numbers.{NumberedMessage, IsNumberOf}
 use Rattle.summaries.specs.declared.due.Due.{Due}
 use Rattle.summaries.specs.Dues.{due_of}
 
--- the message is due for procedure q of the program
+-- the message is due for the procedure of the program
 abbrev pub IsDueFor : Program → ℕ → Due → Type 0
-IsDueFor p q d = (k : NumberedMessage) → due_of k ≡ d → IsNumberOf (IsDue p q) k
+IsDueFor program procedure message = (k : NumberedMessage) → due_of k ≡ message → IsNumberOf (IsDue program procedure) k
 
--- the message is due for procedure q of each program that the graphs are drawn from
+-- the message is due for the procedure of each program that the graphs are drawn from
 abbrev pub FitsIn : {G : Type 0} → Graphs G → ℕ → Due → Type 0
-FitsIn graphs q d = (p : Program) → AreDrawnFrom p (graphs_of graphs) → IsDueFor p q d
+FitsIn graphs procedure message = (p : Program) → AreDrawnFrom p (graphs_of graphs) → IsDueFor p procedure message

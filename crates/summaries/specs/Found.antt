@@ -33,107 +33,109 @@ pair_eq x y = nat_eq x.a y.a && nat_eq x.b y.b
 
 -- the edge of these three
 abbrev pub edge : ℕ → ℕ → ℕ → Edge
-edge a n v = record { entry = a; point = n; values = v }
+edge entry point values = record { entry = entry; point = point; values = values }
 
--- the call of s with the entry valuation e
+-- the call of this procedure with this entry valuation
 abbrev pub call : ℕ → ℕ → Call
-call s e = record { callee = s; entered = e }
+call callee entered = record { callee = callee; entered = entered }
 
--- where a call stands that was asked for by the entry a, at the point n with v
+-- where a call stands that was asked for by this entry, at the point with these values
 abbrev pub site : ℕ → ℕ → ℕ → Site
-site a n v = record { asked = a; point = n; values = v }
+site entry point values = record { asked = entry; point = point; values = values }
 
--- what is left, b, where the entry valuation was a
+-- what is left, `b`, where the entry valuation was `a`
 abbrev pub pair : ℕ → ℕ → Pair
 pair a b = record { a = a; b = b }
 
 -- the messages given that are answered, in order
 abbrev pub answers_in : {A : Type 0} → Given A → List Mail
-answers_in g = take g.answered g.mails.items
+answers_in given = take given.answered given.mails.items
 
-module _ {A : Type 0} (f : Found A) where
+module _ {A : Type 0} (found : Found A) where
   -- the table has taken the message
   abbrev pub TookDue : Due → Type 0
-  TookDue (Entry from a) = Member from (under nat_eq f.entries.by_key a)
-  TookDue (Summary s e b) = Member b (under call_eq f.summaries.by_key (call s e))
+  TookDue (Entry from entered) = Member from (under nat_eq found.entries.by_key entered)
+  TookDue (Summary callee entered exit) = Member exit (under call_eq found.summaries.by_key (call callee entered))
 
   -- the table has taken the message of these numbers
   abbrev pub TookMessage : NumberedMessage → Type 0
-  TookMessage k = TookDue (due_of k)
+  TookMessage message = TookDue (due_of message)
 
-  -- a call of s with the entry valuation e stands at this site
+  -- a call of this procedure with this entry valuation stands at this site
   abbrev pub HasSite : ℕ → ℕ → Site → Type 0
-  HasSite s e x = Member x (under call_eq f.sites.by_key (call s e))
+  HasSite callee entered place = Member place (under call_eq found.sites.by_key (call callee entered))
 
-  -- the globals b are left where the entry valuation was a
+  -- these globals are left where the entry valuation was this
   abbrev pub HasExit : ℕ → ℕ → Type 0
-  HasExit a b = Member b (under nat_eq f.exits.by_key a)
+  HasExit entry exit = Member exit (under nat_eq found.exits.by_key entry)
 
   -- the message of these numbers was given to a procedure
   abbrev pub HasGiven : ℕ → NumberedMessage → Type 0
-  HasGiven s k = Member (mail s (due_of k)) f.given.mails.items
+  HasGiven to message = Member (mail to (due_of message)) found.given.mails.items
 
-  -- The message of these numbers is owed to a procedure by the one of number q: an entry, for a site of that call, or a
-  -- summary, for an exit of q and the caller's entry.
+  -- The message of these numbers is owed to a procedure by the one of this number: an entry, for a site of that call,
+  -- or a summary, for an exit of it and the caller's entry.
   abbrev pub IsOwed : ℕ → ℕ → NumberedMessage → Type 0
-  IsOwed q s (numbered_entry from e) = (from ≡ caller q) × ((x : Site) × HasSite s e x)
-  IsOwed q s (numbered_summary p a b) = (p ≡ q) × HasExit a b × TookMessage (numbered_entry (caller s) a)
+  IsOwed procedure to (numbered_entry from entered) = (from ≡ caller procedure) × ((x : Site) × HasSite to entered x)
+  IsOwed procedure to (numbered_summary callee entry exit) = (callee ≡ procedure) × HasExit entry exit
+      × TookMessage (numbered_entry (caller to) entry)
 
   -- the edge is still to be worked on
   abbrev pub IsPending : ℕ → ℕ → ℕ → Type 0
-  IsPending a n v = Member (edge a n v) f.pending.items
+  IsPending entry point values = Member (edge entry point values) found.pending.items
 
-module _ {A G : Type 0} (graph : Graph G) (q : ℕ) (f : Found A) (edges : List Triple) where
+module _ {A G : Type 0} (graph : Graph G) (procedure : ℕ) (found : Found A) (edges : List Triple) where
   -- Each edge is reached by the messages taken, each site at its call, and each exit; each message given is owed; what
   -- is pending is an edge; no caller enters twice with a valuation, and nothing is left twice for one.
   pub record IsGrounded : Type 0 where
-    pub edge : (a n v : ℕ) → Member (triple a n v) edges → GraphReaches graph (TookMessage f) a n v
-    pub site : (s e a n v : ℕ) → HasSite f s e (site a n v) →
-        GraphReaches graph (TookMessage f) a n v × ((back : ℕ) × EntersAt graph n v s e back)
-    pub exit : (a b : ℕ) → HasExit f a b → Leaves graph (TookMessage f) a b
-    pub given : (s : ℕ) (k : NumberedMessage) → HasGiven f s k → IsOwed f q s k
-    pub pending : (a n v : ℕ) → IsPending f a n v → Member (triple a n v) edges
-    pub callers_once : (a : ℕ) → NoneTwice (under nat_eq f.entries.by_key a)
-    pub exits_once : (a : ℕ) → NoneTwice (under nat_eq f.exits.by_key a)
+    pub edge : (a n v : ℕ) → Member (triple a n v) edges → GraphReaches graph (TookMessage found) a n v
+    pub site : (s e a n v : ℕ) → HasSite found s e (site a n v) →
+        GraphReaches graph (TookMessage found) a n v × ((back : ℕ) × EntersAt graph n v s e back)
+    pub exit : (a b : ℕ) → HasExit found a b → Leaves graph (TookMessage found) a b
+    pub given : (s : ℕ) (k : NumberedMessage) → HasGiven found s k → IsOwed found procedure s k
+    pub pending : (a n v : ℕ) → IsPending found a n v → Member (triple a n v) edges
+    pub callers_once : (a : ℕ) → NoneTwice (under nat_eq found.entries.by_key a)
+    pub exits_once : (a : ℕ) → NoneTwice (under nat_eq found.exits.by_key a)
 
   -- The edge is worked on: where its choices lead are edges, its call stands as a site, and at the exit its globals as
   -- an exit.
-  pub record IsWorked (a n v : ℕ) : Type 0 where
-    pub flows : (flow : Flow G) (i n' v' : ℕ) → slice_get (flows_of graph) n ≡ Some flow → i ≤ last_of flow →
-        next_of flow v i ≡ Some (n', v') →
-        Member (triple a n' v') edges
-    pub calls : (flow : Flow G) (s e n' : ℕ) → slice_get (flows_of graph) n ≡ Some flow → entered_by flow v ≡ Some (s, e, n') →
-        HasSite f s e (site a n v)
-    pub leaves : n ≡ 0 → HasExit f a (left (globals_of graph) v)
+  pub record IsWorked (entry point values : ℕ) : Type 0 where
+    pub flows : (flow : Flow G) (i n' v' : ℕ) → slice_get (flows_of graph) point ≡ Some flow → i ≤ last_of flow →
+        next_of flow values i ≡ Some (n', v') →
+        Member (triple entry n' v') edges
+    pub calls : (flow : Flow G) (s e n' : ℕ) → slice_get (flows_of graph) point ≡ Some flow → entered_by flow values ≡ Some (s, e, n') →
+        HasSite found s e (site entry point values)
+    pub leaves : point ≡ 0 → HasExit found entry (left (globals_of graph) values)
 
   -- The start of each entry is an edge; each edge is pending, worked on, or one of those left aside; where a site and a
   -- summary meet is the edge behind the call; each site's entry is given; where an exit and a caller's entry meet is
   -- the summary given; the pairs are the exits.
   pub record IsSaturated (Aside : Triple → Type 0) : Type 0 where
-    pub begun : (from : Caller) (a : ℕ) → TookMessage f (numbered_entry from a) → Member (triple a (start_of graph) a) edges
-    pub worked : (a n v : ℕ) → Member (triple a n v) edges → Aside (triple a n v) ⊎ (IsPending f a n v ⊎ IsWorked a n v)
-    pub ended : (s e b a n v back : ℕ) → HasSite f s e (site a n v) → EntersAt graph n v s e back →
-        TookMessage f (numbered_summary s e b) → Member (triple a back (resumed (globals_of graph) v b)) edges
-    pub asks : (s e a n v : ℕ) → HasSite f s e (site a n v) → HasGiven f s (numbered_entry (caller q) e)
-    pub tells : (a b c : ℕ) → HasExit f a b → TookMessage f (numbered_entry (caller c) a) → HasGiven f c (numbered_summary q a b)
-    pub pairs : (a b : ℕ) → Member (pair a b) f.pairs.keys ↔ HasExit f a b
+    pub begun : (from : Caller) (a : ℕ) → TookMessage found (numbered_entry from a) → Member (triple a (start_of graph) a) edges
+    pub worked : (a n v : ℕ) → Member (triple a n v) edges → Aside (triple a n v) ⊎ (IsPending found a n v ⊎ IsWorked a n v)
+    pub ended : (s e b a n v back : ℕ) → HasSite found s e (site a n v) → EntersAt graph n v s e back →
+        TookMessage found (numbered_summary s e b) → Member (triple a back (resumed (globals_of graph) v b)) edges
+    pub asks : (s e a n v : ℕ) → HasSite found s e (site a n v) → HasGiven found s (numbered_entry (caller procedure) e)
+    pub tells : (a b c : ℕ) → HasExit found a b → TookMessage found (numbered_entry (caller c) a)
+        → HasGiven found c (numbered_summary procedure a b)
+    pub pairs : (a b : ℕ) → Member (pair a b) found.pairs.keys ↔ HasExit found a b
 
 -- no edge is still to be worked on
 abbrev pub IsWorkedOff : {A : Type 0} → Found A → Type 0
-IsWorkedOff f = f.pending.items ≡ []
+IsWorkedOff found = found.pending.items ≡ []
 
 -- By the messages taken the edges are what is reached, and the messages given are what is sent.
 abbrev pub IsExact : {A G : Type 0} → Graph G → ℕ → Found A → List Triple → Type 0
-IsExact graph q f edges =
-    ((a n v : ℕ) → GraphReaches graph (TookMessage f) a n v ↔ Member (triple a n v) edges)
-    × ((s : ℕ) (k : NumberedMessage) → Sends graph q (TookMessage f) s k ↔ HasGiven f s k)
+IsExact graph procedure found edges =
+    ((a n v : ℕ) → GraphReaches graph (TookMessage found) a n v ↔ Member (triple a n v) edges)
+    × ((s : ℕ) (k : NumberedMessage) → Sends graph procedure (TookMessage found) s k ↔ HasGiven found s k)
 
 -- nothing is found
-pub record IsEmpty {A : Type 0} (f : Found A) : Type 0 where
-  pub entries : (a : ℕ) → under nat_eq f.entries.by_key a ≡ []
-  pub summaries : (c : Call) → under call_eq f.summaries.by_key c ≡ []
-  pub sites : (c : Call) → under call_eq f.sites.by_key c ≡ []
-  pub exits : (a : ℕ) → under nat_eq f.exits.by_key a ≡ []
-  pub pairs : f.pairs.keys ≡ []
-  pub given : f.given.mails.items ≡ []
-  pub pending : f.pending.items ≡ []
+pub record IsEmpty {A : Type 0} (found : Found A) : Type 0 where
+  pub entries : (a : ℕ) → under nat_eq found.entries.by_key a ≡ []
+  pub summaries : (c : Call) → under call_eq found.summaries.by_key c ≡ []
+  pub sites : (c : Call) → under call_eq found.sites.by_key c ≡ []
+  pub exits : (a : ℕ) → under nat_eq found.exits.by_key a ≡ []
+  pub pairs : found.pairs.keys ≡ []
+  pub given : found.given.mails.items ≡ []
+  pub pending : found.pending.items ≡ []

@@ -20,11 +20,11 @@ use Rattle.summaries.specs.Mails.{mail}
 
 -- the path edge as a triple
 abbrev pub triple_of : Edge → Triple
-triple_of e = triple e.entry e.point e.values
+triple_of edge = triple edge.entry edge.point edge.values
 
 -- the triple as an edge to be worked on
 abbrev pub edge_of : Triple → Edge
-edge_of t = record { entry = t.entry; point = t.point; values = t.values }
+edge_of edge = record { entry = edge.entry; point = edge.point; values = edge.values }
 
 -- The triples of which W holds are edges after, beside those before, and no others; each edge that is new stands
 -- pending, beside those before; what comes to stand pending is an edge; as many come to stand pending as there are new
@@ -55,30 +55,30 @@ pub record Adds (W : Triple → Type 0) {T : Type 0} (answer : Result T TableFau
 
 -- A triple is where the run goes on from an edge, if it does.
 abbrev pub IsAt : Edge → Option (ℕ × ℕ) → Triple → Type 0
-IsAt e next t = (n : ℕ) × (v : ℕ) × (next ≡ Some (n, v)) × (t ≡ triple e.entry n v)
+IsAt edge next reached = (n : ℕ) × (v : ℕ) × (next ≡ Some (n, v)) × (reached ≡ triple edge.entry n v)
 
 -- A triple is where one of the first choices leads from an edge.
 abbrev pub IsNextBefore : {G : Type 0} → ℕ → Flow G → Edge → Triple → Type 0
-IsNextBefore k flow e t = (i : ℕ) × (i < k) × IsAt e (next_of flow e.values i) t
+IsNextBefore k flow edge reached = (i : ℕ) × (i < k) × IsAt edge (next_of flow edge.values i) reached
 
 -- A triple is where a choice leads from an edge.
 abbrev pub IsNext : {G : Type 0} → Flow G → Edge → Triple → Type 0
-IsNext flow e t = (i : ℕ) × (i ≤ last_of flow) × IsAt e (next_of flow e.values i) t
+IsNext flow edge reached = (i : ℕ) × (i ≤ last_of flow) × IsAt edge (next_of flow edge.values i) reached
 
 -- W holds of it for some item of the list
 abbrev pub OfSome : {X T : Type 0} → (X → T → Type 0) → List X → T → Type 0
 OfSome {X} W xs t = (x : X) × Member x xs × W x t
 
--- A call at the point n enters s with e from the valuation v, and the run goes on at the point back when it returns.
+-- A call at the point enters this procedure so from these values, and the run goes on at `back` when it returns.
 abbrev pub EntersAt : {G : Type 0} → Graph G → ℕ → ℕ → ℕ → ℕ → ℕ → Type 0
-EntersAt {G} graph n v s e back =
-    (flow : Flow G) × (slice_get (flows_of graph) n ≡ Some flow) × (entered_by flow v ≡ Some (s, e, back))
+EntersAt {G} graph point values callee entered back =
+    (flow : Flow G) × (slice_get (flows_of graph) point ≡ Some flow) × (entered_by flow values ≡ Some (callee, entered, back))
 
--- A triple is the edge behind the call of a site, where it has left b.
+-- A triple is the edge behind the call of a site, where it has left this.
 abbrev pub IsBehind : {G : Type 0} → Graph G → Site → ℕ → Triple → Type 0
-IsBehind graph site b t =
+IsBehind graph site exit edge =
     (s : ℕ) × (e : ℕ) × (back : ℕ) × EntersAt graph site.point site.values s e back
-    × (t ≡ triple site.asked back (resumed (globals_of graph) site.values b))
+    × (edge ≡ triple site.asked back (resumed (globals_of graph) site.values exit))
 
 -- The messages of which W holds are given after, beside those before, and no others; they come behind those before.
 pub record AddsMails (W : Mail → Type 0) (old new : List Mail) : Type 0 where
@@ -86,6 +86,6 @@ pub record AddsMails (W : Mail → Type 0) (old new : List Mail) : Type 0 where
   pub only : (x : Mail) → Member x new → W x ⊎ Member x old
   pub behind : (more : List Mail) × (new ≡ old ++ more)
 
--- A message is the summary of procedure p for this caller, which is not the starter.
+-- A message is the summary of the procedure for this caller, which is not the starter.
 abbrev pub IsSummaryTold : ℕ → ℕ → ℕ → Caller → Mail → Type 0
-IsSummaryTold p a b from x = (c : ℕ) × (from ≡ Proc c) × (x ≡ mail c (Summary p a b))
+IsSummaryTold procedure entry exit from message = (c : ℕ) × (from ≡ Proc c) × (message ≡ mail c (Summary procedure entry exit))

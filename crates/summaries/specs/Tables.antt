@@ -23,35 +23,35 @@ use Rattle.path_sets.specs.EdgeLimits.{most_of}
 module _ {G A S : Type 0} where
   -- the flow graph of the table's procedure
   abbrev pub graph_of : Table G A S → Graph G
-  graph_of t = t.graph.now
+  graph_of table = table.graph.now
 
   -- the number of its procedure
   abbrev pub procedure_of : Table G A S → ℕ
-  procedure_of t = t.procedure
+  procedure_of table = table.procedure
 
   -- how many path edges it may keep
   abbrev pub limit_of : Table G A S → ℕ
-  limit_of t = most_of t.limit
+  limit_of table = most_of table.limit
 
   -- the path edges that it keeps
   abbrev pub edges_of : (S → List Triple) → Table G A S → List Triple
-  edges_of members t = members t.edges
+  edges_of members table = members table.edges
 
   -- the messages that it has answered, in order
   abbrev pub answers_of : Table G A S → List Mail
-  answers_of t = answers_in t.found.given
+  answers_of table = answers_in table.found.given
 
   -- the fault that it has failed with
   abbrev pub failure : Table G A S → Option TableFault
-  failure t = t.fault
+  failure table = table.fault
 
 -- The messages taken are those taken before, and this one.
 abbrev pub TookAlso : {A : Type 0} → Due → Found A → Found A → Type 0
-TookAlso d old new = (k : NumberedMessage) → TookMessage new k ↔ ((due_of k ≡ d) ⊎ TookMessage old k)
+TookAlso message old new = (k : NumberedMessage) → TookMessage new k ↔ ((due_of k ≡ message) ⊎ TookMessage old k)
 
 -- Each message taken is this one, or was taken before.
 abbrev pub TookOnly : {A : Type 0} → Due → Found A → Found A → Type 0
-TookOnly d old new = (k : NumberedMessage) → TookMessage new k → (due_of k ≡ d) ⊎ TookMessage old k
+TookOnly message old new = (k : NumberedMessage) → TookMessage new k → (due_of k ≡ message) ⊎ TookMessage old k
 
 -- The messages taken are those taken before.
 abbrev pub TookSame : {A : Type 0} → Found A → Found A → Type 0
@@ -60,7 +60,7 @@ TookSame old new = (new.entries ≡ old.entries) × (new.summaries ≡ old.summa
 -- the fault that an answer is
 abbrev pub fault_of : {T : Type 0} → Result T TableFault → Option TableFault
 fault_of (Ok _) = None
-fault_of (Err e) = Some e
+fault_of (Err fault) = Some fault
 
 -- there are more than n triples, none twice, of which P holds
 abbrev pub HasMore : ℕ → (Triple → Type 0) → Type 0
@@ -68,20 +68,27 @@ HasMore n P = (ts : List Triple) × NoneTwice ts × (n < length ts) × ((t : Tri
 
 -- the table, failed where the answer is a fault
 abbrev pub failed_by : {G A S T : Type 0} → Result T TableFault → Table G A S → Table G A S
-failed_by (Ok _) t = t
-failed_by (Err e) t = record { graph = t.graph; procedure = t.procedure; limit = t.limit; edges = t.edges; found = t.found; fault = Some e }
+failed_by (Ok _) table = table
+failed_by (Err fault) table = record {
+  graph = table.graph;
+  procedure = table.procedure;
+  limit = table.limit;
+  edges = table.edges;
+  found = table.found;
+  fault = Some fault;
+}
 
 -- the triple is reached by the messages that the table has taken
 abbrev pub IsReached : {G A S : Type 0} → Table G A S → Triple → Type 0
-IsReached t x = GraphReaches t.graph.now (TookMessage t.found) x.entry x.point x.values
+IsReached table edge = GraphReaches table.graph.now (TookMessage table.found) edge.entry edge.point edge.values
 
 -- what an edge leaves that is at the exit stands as an exit
 abbrev pub HasLeft : {G A S : Type 0} → Table G A S → Edge → Type 0
-HasLeft t e = e.point ≡ 0 → HasExit t.found e.entry (left (globals_of (graph_of t)) e.values)
+HasLeft table edge = edge.point ≡ 0 → HasExit table.found edge.entry (left (globals_of (graph_of table)) edge.values)
 
 -- the call stands as a site at the edge
 abbrev pub HasAsked : {G A S : Type 0} → Table G A S → Edge → Call G → Type 0
-HasAsked t e call = HasSite t.found (callee_of call) (entered_from call e.values) (site e.entry e.point e.values)
+HasAsked table edge call = HasSite table.found (callee_of call) (entered_from call edge.values) (site edge.entry edge.point edge.values)
 
 -- The table is that of the same procedure, with the same limit.
 pub record StaysAs {G A S : Type 0} (old new : Table G A S) : Type 0 where
@@ -91,32 +98,32 @@ pub record StaysAs {G A S : Type 0} (old new : Table G A S) : Type 0 where
 
 -- The table has answered this message: it comes behind those that were answered before, is sent by the messages taken,
 -- and is none of those answered before.
-pub record IsAnswer {G A S : Type 0} (old new : Table G A S) (to : ℕ) (d : Due) : Type 0 where
-  pub behind : answers_of new ≡ answers_of old ++ mail to d ∷ []
-  pub due : (k : NumberedMessage) → due_of k ≡ d → Sends new.graph.now new.procedure (TookMessage new.found) to k
-  pub once : Member (mail to d) (answers_of old) → ⊥
+pub record IsAnswer {G A S : Type 0} (old new : Table G A S) (to : ℕ) (message : Due) : Type 0 where
+  pub behind : answers_of new ≡ answers_of old ++ mail to message ∷ []
+  pub due : (k : NumberedMessage) → due_of k ≡ message → Sends new.graph.now new.procedure (TookMessage new.found) to k
+  pub once : Member (mail to message) (answers_of old) → ⊥
 
 module _ {G A S : Type 0} (members : S → List Triple) where
   -- All that the table holds is reached and sent, and nothing that is reached or sent is left out but by what is
   -- pending and by the edges left aside.
   abbrev pub Holds : (Triple → Type 0) → Table G A S → Type 0
-  Holds Aside t = IsGrounded t.graph.now t.procedure t.found (members t.edges) ×
-      IsSaturated t.graph.now t.procedure t.found (members t.edges) Aside
+  Holds Aside table = IsGrounded table.graph.now table.procedure table.found (members table.edges) ×
+      IsSaturated table.graph.now table.procedure table.found (members table.edges) Aside
 
   -- The edges kept are reached by the messages taken, and no more than the limit; unless the table has failed, nothing
   -- is left out but by what is pending; where it has failed for its limit, more edges than that are reached.
-  pub record IsTable (t : Table G A S) : Type 0 where
-    pub edges : (x : Triple) → Member x (members t.edges) → IsReached t x
-    pub within : length (members t.edges) ≤ limit_of t
-    pub holds : t.fault ≡ None → Holds (λ x. ⊥) t
-    pub many : t.fault ≡ Some EdgeLimit → HasMore (limit_of t) (IsReached t)
+  pub record IsTable (table : Table G A S) : Type 0 where
+    pub edges : (x : Triple) → Member x (members table.edges) → IsReached table x
+    pub within : length (members table.edges) ≤ limit_of table
+    pub holds : table.fault ≡ None → Holds (λ x. ⊥) table
+    pub many : table.fault ≡ Some EdgeLimit → HasMore (limit_of table) (IsReached table)
 
   -- The table has taken nothing and answered nothing, and has not failed.
-  pub record IsNew (t : Table G A S) : Type 0 where
-    pub table : IsTable t
-    pub nothing : (k : NumberedMessage) → TookMessage t.found k → ⊥
-    pub answered : answers_of t ≡ []
-    pub fault : t.fault ≡ None
+  pub record IsNew (fresh : Table G A S) : Type 0 where
+    pub table : IsTable fresh
+    pub nothing : (k : NumberedMessage) → TookMessage fresh.found k → ⊥
+    pub answered : answers_of fresh ≡ []
+    pub fault : fresh.fault ≡ None
 
   -- The table has worked, and so answers. It is that of the same procedure; the edges kept are reached by the messages
   -- taken, and no more than the limit. On Ok nothing is left out but by what is pending and by the edges left aside,
@@ -133,10 +140,10 @@ module _ {G A S : Type 0} (members : S → List Triple) where
   -- The table was given a message to take, and so answers. It is that of the same procedure, and has failed where the
   -- answer is a fault. On Ok it has taken the message, and answered none; it has taken no other; once failed, it
   -- answers that from then on.
-  pub record TableTakes (d : Due) {T : Type 0} (answer : Result T TableFault) (old new : Table G A S) : Type 0 where
+  pub record TableTakes (message : Due) {T : Type 0} (answer : Result T TableFault) (old new : Table G A S) : Type 0 where
     pub table : IsTable new
-    pub taken : OnOk answer (TookAlso d old.found new.found)
-    pub only : TookOnly d old.found new.found
+    pub taken : OnOk answer (TookAlso message old.found new.found)
+    pub only : TookOnly message old.found new.found
     pub answers : OnOk answer (answers_of new ≡ answers_of old)
     pub stays : StaysAs old new
     pub fault : new.fault ≡ fault_of answer
@@ -157,11 +164,11 @@ module _ {G A S : Type 0} (members : S → List Triple) where
 
   -- twice as many edges as there may still be, and those pending
   abbrev pub work_left : Table G A S → ℕ
-  work_left t = 2 * (limit_of t - length (members t.edges)) + length t.found.pending.items
+  work_left table = 2 * (limit_of table - length (members table.edges)) + length table.found.pending.items
 
   -- By the messages taken the edges kept are what is reached, and the messages answered are what is sent.
-  pub record IsQuiet (t : Table G A S) : Type 0 where
-    pub edges : (a n v : ℕ) → GraphReaches t.graph.now (TookMessage t.found) a n v ↔ Member (triple a n v) (members t.edges)
+  pub record IsQuiet (table : Table G A S) : Type 0 where
+    pub edges : (a n v : ℕ) → GraphReaches table.graph.now (TookMessage table.found) a n v ↔ Member (triple a n v) (members table.edges)
     pub sends : (s : ℕ) (k : NumberedMessage) →
-        Sends t.graph.now t.procedure (TookMessage t.found) s k ↔ Member (mail s (due_of k)) (answers_of t)
-    pub leaves : (a b : ℕ) → Member (pair a b) t.found.pairs.keys ↔ Leaves t.graph.now (TookMessage t.found) a b
+        Sends table.graph.now table.procedure (TookMessage table.found) s k ↔ Member (mail s (due_of k)) (answers_of table)
+    pub leaves : (a b : ℕ) → Member (pair a b) table.found.pairs.keys ↔ Leaves table.graph.now (TookMessage table.found) a b

@@ -30,26 +30,27 @@ ArePairsAscending [] = Unit {0}
 ArePairsAscending (x ∷ []) = Unit {0}
 ArePairsAscending (x ∷ y ∷ zs) = ((x.a < y.a) ⊎ (x.a ≡ y.a) × (x.b < y.b)) × ArePairsAscending (y ∷ zs)
 
--- The entries are those with which procedure q is entered, by number and ascending, and the pairs are its pairs.
-pub record IsSummary (p : Program) (q : ℕ) (s : Effect) : Type 0 where
-  pub ascend : IsAscending s.entries
-  pub entries : (a : ℕ) → Member a s.entries ↔ IsNumberOfEntry p q a
-  pub pairs_ascend : ArePairsAscending s.pairs
-  pub pairs : (a b : ℕ) → Member (pair a b) s.pairs ↔ AreNumbersOfPair p q a b
+-- The entries are those with which the procedure is entered, by number and ascending, and the pairs are its pairs.
+pub record IsSummary (program : Program) (procedure : ℕ) (summary : Effect) : Type 0 where
+  pub ascend : IsAscending summary.entries
+  pub entries : (a : ℕ) → Member a summary.entries ↔ IsNumberOfEntry program procedure a
+  pub pairs_ascend : ArePairsAscending summary.pairs
+  pub pairs : (a b : ℕ) → Member (pair a b) summary.pairs ↔ AreNumbersOfPair program procedure a b
 
 -- The summaries are those of the program's procedures, by number.
 abbrev pub AreSummaries : Program → Effects → Type 0
-AreSummaries p s =
-    (length s.procedures ≡ length p.routines)
-    × ((q : ℕ) (summary : Effect) → slice_get s.procedures q ≡ Some summary → IsSummary p q summary)
+AreSummaries program effects =
+    (length effects.procedures ≡ length program.routines)
+    × ((q : ℕ) (summary : Effect) → slice_get effects.procedures q ≡ Some summary → IsSummary program q summary)
 
 -- some pair of the first procedure has the bit `bad`
 abbrev pub SomePairBad : Effects → Type 0
-SomePairBad s =
-    (summary : Effect) × (slice_get s.procedures 0 ≡ Some summary)
-    × ((a : ℕ) × (b : ℕ) × Member (pair a b) summary.pairs × (bit_of b s.bad ≡ true))
+SomePairBad effects =
+    (summary : Effect) × (slice_get effects.procedures 0 ≡ Some summary)
+    × ((a : ℕ) × (b : ℕ) × Member (pair a b) summary.pairs × (bit_of b effects.bad ≡ true))
 
--- procedure q has more than n path edges
+-- the procedure has more than n path edges
 abbrev pub HasMoreEdges : Program → ℕ → ℕ → Type 0
-HasMoreEdges p q n =
-    (ts : List Triple) × NoneTwice ts × (n < length ts) × ((t : Triple) → Member t ts → AreNumbersOfEdge p q t.entry t.point t.values)
+HasMoreEdges program procedure n =
+    (ts : List Triple) × NoneTwice ts × (n < length ts)
+    × ((t : Triple) → Member t ts → AreNumbersOfEdge program procedure t.entry t.point t.values)

@@ -12,8 +12,8 @@ values_in (Many many) = many.items
 -- the values, where there are any
 abbrev pub items_of : {V A : Type 0} → Option (Values V A) → List V
 items_of None = []
-items_of (Some v) = values_in v
+items_of (Some values) = values_in values
 
 -- the values that were added to the key, in the order of adding
 abbrev pub under : {K V A S : Type 0} → (K → K → Bool) → IndexMap K (Values V A) S → K → List V
-under eq m k = items_of (get eq m k)
+under eq map key = items_of (get eq map key)

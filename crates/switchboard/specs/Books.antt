@@ -25,33 +25,34 @@ pub record IsBook {M : Type 0} (histories : List (List (Event M))) (order : List
 module _ {M W : Type 0} where
   -- the state with one more event
   abbrev pub with_entry : Entry M → BoardState M W → BoardState M W
-  with_entry e s = record s { order = s.order ++ e ∷ [] }
+  with_entry event state = record state { order = state.order ++ event ∷ [] }
 
   -- the oldest message of the mailbox that was not taken is taken, on a board that is not aborted; the job is that of
   -- this take
-  pub record TakesOldest (by job : ℕ) (m : M) (s t : BoardState M W) : Type 0 where
+  pub record TakesOldest (by job : ℕ) (message : M) (earlier later : BoardState M W) : Type 0 where
     pub sender : ℕ
-    pub oldest : slice_get (posts (part by s.order)) (length (takes (part by s.order))) ≡ Some (sender, m)
-    pub number : job ≡ length (takes (part by s.order))
-    pub after : t ≡ with_entry (entry.Taken by sender m) s
-    pub alive : s.aborted ≡ None
+    pub oldest : slice_get (posts (part by earlier.order)) (length (takes (part by earlier.order))) ≡ Some (sender, message)
+    pub number : job ≡ length (takes (part by earlier.order))
+    pub after : later ≡ with_entry (entry.Taken by sender message) earlier
+    pub alive : earlier.aborted ≡ None
 
   -- closed, where the order is; aborted, where it is not and the board is; else the oldest message, or that every one
   -- is taken
   abbrev pub TakeAnswers : ℕ → Taken M → BoardState M W → BoardState M W → Type 0
-  TakeAnswers by (answer.Message job m) s t = TakesOldest by job m s t
-  TakeAnswers by answer.Empty s t = (t ≡ s) × (IsClosed s.order → ⊥) × (s.aborted ≡ None) × AllTaken by s.order
-  TakeAnswers by answer.Closed s t = (t ≡ s) × IsClosed s.order
-  TakeAnswers by answer.Aborted s t = (t ≡ s) × (IsClosed s.order → ⊥) × IsSome s.aborted
+  TakeAnswers by (answer.Message job message) before after = TakesOldest by job message before after
+  TakeAnswers by answer.Empty before after = (after ≡ before) × (IsClosed before.order → ⊥) × (before.aborted ≡ None)
+      × AllTaken by before.order
+  TakeAnswers by answer.Closed before after = (after ≡ before) × IsClosed before.order
+  TakeAnswers by answer.Aborted before after = (after ≡ before) × (IsClosed before.order → ⊥) × IsSome before.aborted
 
   -- the message comes back and nothing changes: there was no memory, on a board that is not aborted, or the board is
   -- aborted
   abbrev pub RefusesPost : M → PostFault M → BoardState M W → BoardState M W → Type 0
-  RefusesPost m (fault.Spent back) s t = ⊥
-  RefusesPost m (fault.Memory back) s t = (back ≡ m) × (t ≡ s) × (s.aborted ≡ None)
-  RefusesPost m (fault.Aborted back) s t = (back ≡ m) × (t ≡ s) × IsSome s.aborted
+  RefusesPost message (fault.Spent back) before after = ⊥
+  RefusesPost message (fault.Memory back) before after = (back ≡ message) × (after ≡ before) × (before.aborted ≡ None)
+  RefusesPost message (fault.Aborted back) before after = (back ≡ message) × (after ≡ before) × IsSome before.aborted
 
   -- the histories are the parts of the order
-  pub record AreParts (histories : List (List (Event M))) (s : BoardState M W) : Type 0 where
-    pub count : length histories ≡ s.boxes
-    pub each : (q : ℕ) (h : List (Event M)) → slice_get histories q ≡ Some h → h ≡ part q s.order
+  pub record AreParts (histories : List (List (Event M))) (state : BoardState M W) : Type 0 where
+    pub count : length histories ≡ state.boxes
+    pub each : (q : ℕ) (h : List (Event M)) → slice_get histories q ≡ Some h → h ≡ part q state.order

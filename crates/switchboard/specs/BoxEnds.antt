@@ -20,15 +20,15 @@ use Rattle.switchboard.specs.BoxPasses.{box_sight, IsBoxPass}
 module _ {M W : Type 0} where
   -- a pass's own part, as its sight shows it
   abbrev pub own_of : Sight M W → Own M
-  own_of s = record { number = s.number; events = own s.number s.seen.order; made = s.made }
+  own_of sight = record { number = sight.number; events = own sight.number sight.seen.order; made = sight.made }
 
   -- the seat has taken in what this pass had
-  pub record TookInPass (s : Sight M W) (v : View M W) : Type 0 where
-    pub begins : StartsWith v.seen.order s.seen.order
-    pub aborted : (a : Abort) → s.seen.aborted ≡ Some a → v.seen.aborted ≡ Some a
-    pub knows : s.knows ≡ true → v.seen.knows ≡ true
-    pub lane : (i : ℕ) × (get_elem? v.lanes i ≡ some (own_of s))
-    pub world : (i : ℕ) × (g : Ground M W) × (get_elem? v.boards i ≡ some g) × (g.world.value ≡ s.seen.world)
+  pub record TookInPass (sight : Sight M W) (view : View M W) : Type 0 where
+    pub begins : StartsWith view.seen.order sight.seen.order
+    pub aborted : (a : Abort) → sight.seen.aborted ≡ Some a → view.seen.aborted ≡ Some a
+    pub knows : sight.knows ≡ true → view.seen.knows ≡ true
+    pub lane : (i : ℕ) × (get_elem? view.lanes i ≡ some (own_of sight))
+    pub world : (i : ℕ) × (g : Ground M W) × (get_elem? view.boards i ≡ some g) × (g.world.value ≡ sight.seen.world)
 
   -- the seat has taken in the passes from number `from` on, and is outside all locks
   pub record Gathered (boxes : ℕ) (all : List (Sight M W)) (from : ℕ) (me : Seat M W) : Type 0 where
@@ -42,24 +42,24 @@ module _ {M W : Type 0} where
   module _ (fits : W → ℕ → M → Type 0) where
     -- the seat is that of the pass
     abbrev pub HasSeat : Sight M W → TableId → Seat M W → Type 0
-    HasSeat s id me = IsBoxPass fits id s.number s.calls s.made s.seen.world s.seen.boxes me
-        × (box_sight id s.number s.calls s.made s.seen.world s.seen.boxes me.0.seen ≡ s)
+    HasSeat sight id me = IsBoxPass fits id sight.number sight.calls sight.made sight.seen.world sight.seen.boxes me
+        × (box_sight id sight.number sight.calls sight.made sight.seen.world sight.seen.boxes me.0.seen ≡ sight)
 
     -- What is left of a board whose passes a seat has all: the longest order, whose parts are the histories; it is
     -- closed where no post is outstanding;
     -- and the maker of the first abort has made it.
-    pub record BoardEnds (g : Ground M W) (v : View M W) (histories : List (List (Event M))) (closed : Bool) : Type 0 where
+    pub record BoardEnds (ground : Ground M W) (view : View M W) (histories : List (List (Event M))) (closed : Bool) : Type 0 where
       pub order : List (Entry M)
       pub first : Option Abort
       pub low : ℕ
-      pub sound : IsSound fits (state_of g (record { order = order; aborted = first; knows = true }))
-      pub saw : Saw fits g order first low v.seen
-      pub owns : (k : ℕ) (o : Own M) → get_elem? v.lanes k ≡ some o → own o.number order ≡ o.events
-      pub boards : (i : ℕ) (k : Ground M W) → get_elem? v.boards i ≡ some k → k ≡ g
-      pub once : (n : ℕ) → times n (numbers v) ≤ 1
+      pub sound : IsSound fits (state_of ground (record { order = order; aborted = first; knows = true }))
+      pub saw : Saw fits ground order first low view.seen
+      pub owns : (k : ℕ) (o : Own M) → get_elem? view.lanes k ≡ some o → own o.number order ≡ o.events
+      pub boards : (i : ℕ) (k : Ground M W) → get_elem? view.boards i ≡ some k → k ≡ ground
+      pub once : (n : ℕ) → times n (numbers view) ≤ 1
       pub maker : (a : Abort) → first ≡ Some a
-          → (k : ℕ) × (o : Own M) × (get_elem? v.lanes k ≡ some o) × (o.number ≡ a.by) × (o.made ≡ true)
-      pub count : length histories ≡ g.boxes
+          → (k : ℕ) × (o : Own M) × (get_elem? view.lanes k ≡ some o) × (o.number ≡ a.by) × (o.made ≡ true)
+      pub count : length histories ≡ ground.boxes
       pub parts : (q : ℕ) (h : List (Event M)) → slice_get histories q ≡ Some h → h ≡ part q order
       pub close : IsTrue closed ↔ IsClosed order
-      pub known : v.seen.knows ≡ true → closed ≡ true
+      pub known : view.seen.knows ≡ true → closed ≡ true

@@ -14,40 +14,40 @@ use Rattle.switchboard.specs.Knowing.{unseen, only_seen, hand_at}
 use Rattle.switchboard.specs.PerBox.{View, IsBoardTable, Seat}
 
 -- the hand has nothing but its share, and has tickets for so many calls
-pub record IsIdleHand {T : Type 0} (left : ℕ) (h : Hand T) : Type 0 where
-  pub tickets : h.tickets ≡ []
-  pub inside : h.inside ≡ []
-  pub parts : h.parts ≡ 1
-  pub drawn : length h.drawn + left ≤ 2 ^ 56
+pub record IsIdleHand {T : Type 0} (left : ℕ) (hand : Hand T) : Type 0 where
+  pub tickets : hand.tickets ≡ []
+  pub inside : hand.inside ≡ []
+  pub parts : hand.parts ≡ 1
+  pub drawn : length hand.drawn + left ≤ 2 ^ 56
 
 module _ {M : Type 0} where
   -- how contracts see what a pass told
   abbrev pub box_account : TableId → Seen M → Account M
-  box_account id x = record { board = id; knows = x.knows; order = x.order; aborted = x.aborted }
+  box_account id seen = record { board = id; knows = seen.knows; order = seen.order; aborted = seen.aborted }
 
 module _ {M W : Type 0} where
   -- what was seen, as a state of the board
   abbrev pub state_seen : W → ℕ → Seen M → BoardState M W
-  state_seen w boxes x = record { world = w; boxes = boxes; order = x.order; aborted = x.aborted }
+  state_seen world boxes seen = record { world = world; boxes = boxes; order = seen.order; aborted = seen.aborted }
 
   -- how contracts see a pass
   abbrev pub box_sight : TableId → ℕ → ℕ → Bool → W → ℕ → Seen M → Sight M W
-  box_sight id number left made w boxes x = record {
+  box_sight id number left made world boxes seen = record {
     board = id;
     number = number;
     calls = left;
     made = made;
-    knows = x.knows;
-    seen = state_seen w boxes x;
+    knows = seen.knows;
+    seen = state_seen world boxes seen;
   }
 
   module _ (fits : W → ℕ → M → Type 0) where
     -- what a pass has seen: it is sound; who knows the close has seen a closed order; and who made an abort knows of
     -- one
-    pub record IsSeen (w : W) (boxes : ℕ) (made : Bool) (x : Seen M) : Type 0 where
-      pub sound : IsSound fits (state_seen w boxes x)
-      pub close : x.knows ≡ true → IsClosed x.order
-      pub known : made ≡ true → IsSome x.aborted
+    pub record IsSeen (world : W) (boxes : ℕ) (made : Bool) (seen : Seen M) : Type 0 where
+      pub sound : IsSound fits (state_seen world boxes seen)
+      pub close : seen.knows ≡ true → IsClosed seen.order
+      pub known : made ≡ true → IsSome seen.aborted
 
     -- The seat is this pass's alone, at a board of this world with so many mailboxes. It holds no mailbox, waits for
     -- none, and has none in the count; it made just its own events of the order that it has seen; it has tickets, and

@@ -27,12 +27,12 @@ module _ {T : Type 0} where
 
   -- all that two hands had
   abbrev pub merged_hand : Hand T → Hand T → Hand T
-  merged_hand h k = record {
-    seen = h.seen;
-    tickets = h.tickets ++ k.tickets;
-    inside = h.inside ++ k.inside;
-    drawn = h.drawn ++ k.drawn;
-    parts = h.parts + k.parts;
+  merged_hand one other = record {
+    seen = one.seen;
+    tickets = one.tickets ++ other.tickets;
+    inside = one.inside ++ other.inside;
+    drawn = one.drawn ++ other.drawn;
+    parts = one.parts + other.parts;
   }
 
   -- the same, lock by lock
@@ -43,21 +43,21 @@ module _ {T : Type 0} where
 
 -- an abort that either knew
 abbrev pub either_abort : Option Abort → Option Abort → Option Abort
-either_abort None b = b
-either_abort (Some a) b = Some a
+either_abort None other = other
+either_abort (Some abort) other = Some abort
 
 module _ {M : Type 0} where
   -- an event of this mailbox and of this pass, as an entry of the order
   abbrev pub entry_of : ℕ → ℕ → Event M → Entry M
-  entry_of q under (Post s m) = Posted q s m under
-  entry_of q under (Take s m) = Taken q s m
-  entry_of q under (Done t) = Completed q t
+  entry_of mailbox under (Post sender message) = Posted mailbox sender message under
+  entry_of mailbox under (Take sender message) = Taken mailbox sender message
+  entry_of mailbox under (Done job) = Completed mailbox job
 
   -- how many a pass has in the count after it recorded the event
   abbrev pub owes_after : Event M → ℕ → ℕ
-  owes_after (Post s m) owes = owes - 1
-  owes_after (Take s m) owes = owes
-  owes_after (Done t) owes = owes + 1
+  owes_after (Post sender message) owes = owes - 1
+  owes_after (Take sender message) owes = owes
+  owes_after (Done job) owes = owes + 1
 
   -- nothing was seen
   abbrev pub unseen : Seen M
@@ -65,15 +65,15 @@ module _ {M : Type 0} where
 
   -- what two have seen
   abbrev pub both_seen : Seen M → Seen M → Seen M
-  both_seen a b = record {
-    order = longer a.order b.order;
-    aborted = either_abort a.aborted b.aborted;
-    knows = a.knows || b.knows;
+  both_seen one other = record {
+    order = longer one.order other.order;
+    aborted = either_abort one.aborted other.aborted;
+    knows = one.knows || other.knows;
   }
 
   -- the own part with one more event
   abbrev pub with_event : Entry M → Own M → Own M
-  with_event e o = record o { events = o.events ++ e ∷ [] }
+  with_event entry lane = record lane { events = lane.events ++ entry ∷ [] }
 
   -- the passes from this number on, which made no event
   abbrev pub owns_from : ℕ → ℕ → List (Own M)
@@ -82,54 +82,54 @@ module _ {M : Type 0} where
 
   -- the pass has made an abort
   abbrev pub made_abort : Own M → Own M
-  made_abort o = record o { made = true }
+  made_abort lane = record lane { made = true }
 
   -- one, where this pass made an abort
   abbrev pub made_by : ℕ → Own M → ℕ
-  made_by n o = if o.made then (if o.number == n then 1 else 0) else 0
+  made_by number lane = if lane.made then (if lane.number == number then 1 else 0) else 0
 
 module _ {M W : Type 0} where
   -- the state of a board of which this was seen
   abbrev pub state_of : Ground M W → Seen M → BoardState M W
-  state_of g x = record { world = g.world.value; boxes = g.boxes; order = x.order; aborted = x.aborted }
+  state_of ground seen = record { world = ground.world.value; boxes = ground.boxes; order = seen.order; aborted = seen.aborted }
 
   -- nothing but the opening post was seen
   abbrev pub first_seen : Ground M W → Seen M
-  first_seen g = record { order = Posted g.to g.boxes g.first 0 ∷ []; aborted = None; knows = false }
+  first_seen ground = record { order = Posted ground.to ground.boxes ground.first 0 ∷ []; aborted = None; knows = false }
 
 module _ {M W T : Type 0} where
   abbrev pub hand_at : ℕ → Knowing M W T → Hand T
-  hand_at q v = slice_index_or v.hands q (bare 0)
+  hand_at mailbox view = slice_index_or view.hands mailbox (bare 0)
 
   abbrev pub with_hand : ℕ → Hand T → Knowing M W T → Knowing M W T
-  with_hand q h v = record v { hands = slice_set v.hands q h }
+  with_hand mailbox hand view = record view { hands = slice_set view.hands mailbox hand }
 
   abbrev pub with_seen : Seen M → Knowing M W T → Knowing M W T
-  with_seen x v = record v { seen = x }
+  with_seen seen view = record view { seen = seen }
 
   -- the numbers of the passes whose seat it is
   abbrev pub numbers : Knowing M W T → List ℕ
-  numbers v = map (λ o. o.number) v.lanes
+  numbers view = map (λ o. o.number) view.lanes
 
   -- how many of them are this pass and made an abort
   abbrev pub makes : ℕ → Knowing M W T → ℕ
-  makes n v = total (made_by n) v.lanes
+  makes number view = total (made_by number) view.lanes
 
   -- it counted up a Post that it will make under this job
   abbrev pub counted_up : ℕ → Knowing M W T → Knowing M W T
-  counted_up job v = record v { owes = v.owes + 1; budget = v.budget - 1; under = job }
+  counted_up job view = record view { owes = view.owes + 1; budget = view.budget - 1; under = job }
 
   -- it counted down
   abbrev pub counted_down : Knowing M W T → Knowing M W T
-  counted_down v = record v { owes = v.owes - 1 }
+  counted_down view = record view { owes = view.owes - 1 }
 
   -- a seat that has nothing, and was told this or saw it
   abbrev pub only_seen : Seen M → Knowing M W T
-  only_seen x = record {
+  only_seen seen = record {
     boards = [];
     hands = [];
     lanes = [];
-    seen = x;
+    seen = seen;
     told = unseen;
     owes = 0;
     budget = 0;
@@ -138,11 +138,11 @@ module _ {M W T : Type 0} where
 
   -- a seat of so many passes, from this number on, which have seen nothing but the opening post
   abbrev pub first_view : Ground M W → ℕ → ℕ → Knowing M W T
-  first_view g first count = record {
-    boards = g ∷ [];
-    hands = bares g.boxes count;
+  first_view ground first count = record {
+    boards = ground ∷ [];
+    hands = bares ground.boxes count;
     lanes = owns_from first count;
-    seen = first_seen g;
+    seen = first_seen ground;
     told = unseen;
     owes = 0;
     budget = count * 2 ^ 56;
@@ -151,31 +151,31 @@ module _ {M W T : Type 0} where
 
   -- a seat without its first pass
   abbrev pub less_one : Knowing M W T → Knowing M W T
-  less_one v = record v {
-    hands = map (λ h. bare (h.parts - 1)) v.hands;
-    lanes = drop 1 v.lanes;
-    budget = v.budget - 2 ^ 56;
+  less_one view = record view {
+    hands = map (λ h. bare (h.parts - 1)) view.hands;
+    lanes = drop 1 view.lanes;
+    budget = view.budget - 2 ^ 56;
   }
 
   -- a seat of its first pass alone
   abbrev pub just_one : Knowing M W T → Knowing M W T
-  just_one v = record v {
-    hands = map (λ h. bare 1) v.hands;
-    lanes = take 1 v.lanes;
+  just_one view = record view {
+    hands = map (λ h. bare 1) view.hands;
+    lanes = take 1 view.lanes;
     budget = 2 ^ 56;
   }
 
   -- a seat that has all that two had, and was told what the second had seen
   abbrev pub merged : Knowing M W T → Knowing M W T → Knowing M W T
-  merged v w = record v {
-    boards = v.boards ++ w.boards;
-    hands = merged_hands v.hands w.hands;
-    lanes = v.lanes ++ w.lanes;
-    told = w.seen;
-    owes = v.owes + w.owes;
-    budget = v.budget + w.budget;
+  merged one other = record one {
+    boards = one.boards ++ other.boards;
+    hands = merged_hands one.hands other.hands;
+    lanes = one.lanes ++ other.lanes;
+    told = other.seen;
+    owes = one.owes + other.owes;
+    budget = one.budget + other.budget;
   }
 
   -- a seat that has taken in what it was told
   abbrev pub taken_in : Knowing M W T → Knowing M W T
-  taken_in v = record v { seen = both_seen v.seen v.told; told = unseen }
+  taken_in view = record view { seen = both_seen view.seen view.told; told = unseen }

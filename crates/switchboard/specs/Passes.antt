@@ -9,8 +9,8 @@ use Rattle.switchboard.specs.Sights.{BoardState, Sight, Account, Before, IsSound
 
 -- whether the abort, if there was one, is of this pass
 abbrev pub is_by : ℕ → Option Abort → Bool
-is_by p None = false
-is_by p (Some a) = a.by == p
+is_by pass None = false
+is_by pass (Some abort) = abort.by == pass
 
 -- of the last of a list, or where there is none
 abbrev pub latest : {A B : Type 0} → (A → B) → B → List A → B
@@ -29,18 +29,18 @@ is_complete order = posted order == completed order
 module _ {M W : Type 0} where
   -- a pass's own part of a state: its own list, and whether the abort is its own
   abbrev pub share : ℕ → BoardState M W → List (Entry M) × Bool
-  share p s = (own p s.order, is_by p s.aborted)
+  share pass state = (own pass state.order, is_by pass state.aborted)
 
   -- how contracts see a pass, which knows the close where the order that it has seen is complete
   abbrev pub sight_of : Standing (BoardState M W) → W → ℕ → Bool → Sight M W
-  sight_of lane w boxes kept = record {
+  sight_of lane world boxes kept = record {
     board = lane.lock;
     number = lane.number;
     calls = calls_of kept lane.left;
     made = not kept;
     knows = is_complete (latest (λ s. s.order) [] lane.seen);
     seen = record {
-      world = w;
+      world = world;
       boxes = boxes;
       order = latest (λ s. s.order) [] lane.seen;
       aborted = latest (λ s. s.aborted) None lane.seen;
@@ -59,17 +59,17 @@ module _ {M W : Type 0} where
   module _ (fits : W → ℕ → M → Type 0) where
     -- one state comes before another under the lock: the second goes on from the first, and is sound where the first is
     abbrev pub Comes : BoardState M W → BoardState M W → Type 0
-    Comes s t = Before s t × (IsSound fits s → IsSound fits t)
+    Comes before after = Before before after × (IsSound fits before → IsSound fits after)
 
     -- The lane is outside and waits for nothing; what it has seen last is sound, and has the pass's own part as the
     -- lane left it; a ticket is kept until the pass makes an abort.
-    pub record IsPass (lane : Standing (BoardState M W)) (w : W) (boxes : ℕ) (kept : Bool) : Type 0 where
+    pub record IsPass (lane : Standing (BoardState M W)) (world : W) (boxes : ℕ) (kept : Bool) : Type 0 where
       pub waits : lane.tickets ≡ []
       pub outside : lane.inside ≡ []
       pub last : BoardState M W
       pub ends : EndsIn lane.seen last
       pub sound : IsSound fits last
-      pub same_world : last.world ≡ w
+      pub same_world : last.world ≡ world
       pub same_boxes : last.boxes ≡ boxes
       pub left : BoardState M W
       pub has : lane.own ≡ left ∷ []

@@ -27,12 +27,12 @@ use Rattle.switchboard.specs.Knowing.{with_seen, numbers, makes, made_abort, tak
 
 -- the first of the two words of a mailbox's lock; those of different mailboxes lie 64 bytes apart
 abbrev pub word_of : ℕ → ℕ
-word_of q = 8 * (q + 1)
+word_of mailbox = 8 * (mailbox + 1)
 
 -- bit 63 of the word, which is set where there was an abort
 abbrev pub flag : Option Abort → ℕ
 flag None = 0
-flag (Some a) = 2 ^ 63
+flag (Some abort) = 2 ^ 63
 
 -- what a seat of the board knows, where contracts see a mailbox as its history
 abbrev pub View : Type 0 → Type 0 → Type 0
@@ -62,8 +62,8 @@ module _ {M W : Type 0} where
 module _ {M : Type 0} where
   -- the lock of a mailbox keeps the lock's rule, and the last value left in it is the order's part for the mailbox
   abbrev pub LockStands : ℕ → List (Entry M) → List ℕ → Homes M → List (Hand (List (Event M))) → Type 0
-  LockStands q order words homes hands = (log : List (List (Event M))) × Kept (word_of q) q log words homes hands
-      × EndsIn log (part q order)
+  LockStands mailbox order words homes hands = (log : List (List (Event M))) × Kept (word_of mailbox) mailbox log words homes hands
+      × EndsIn log (part mailbox order)
 
 -- the table of a board with so many mailboxes
 abbrev pub IsBoardTable : TableId → ℕ → Type 0
@@ -71,148 +71,149 @@ IsBoardTable id boxes = (id.words ≡ 8 * (boxes + 1)) × (id.slots ≡ boxes) �
 
 -- the hand has nothing but its share, and a ticket to draw
 abbrev pub CanDraw : {T : Type 0} → Hand T → Type 0
-CanDraw h = (h.tickets ≡ []) × (h.inside ≡ []) × (h.parts ≡ 1) × (length h.drawn < 2 ^ 56)
+CanDraw hand = (hand.tickets ≡ []) × (hand.inside ≡ []) × (hand.parts ≡ 1) × (length hand.drawn < 2 ^ 56)
 
 module _ {M W : Type 0} where
   -- the seat is one of the table, and the mailbox one of the board
   abbrev pub IsBoxOf : Ground M W → TableId → TableId → ℕ → Type 0
-  IsBoxOf g id seat number = (seat ≡ id) × IsBoardTable id g.boxes × (number < g.boxes)
+  IsBoxOf ground id seat number = (seat ≡ id) × IsBoardTable id ground.boxes × (number < ground.boxes)
 
   -- a mailbox's history lies in its slot, and its lock has its words
   abbrev pub IsBox : Ground M W → ℕ → ℕ → Type 0
-  IsBox g word slot = (word ≡ word_of slot) × (slot < g.boxes)
+  IsBox ground word slot = (word ≡ word_of slot) × (slot < ground.boxes)
 
   module _ (fits : W → ℕ → M → Type 0) where
     -- What was seen is a beginning of the order, and sound, if it has an event; an abort that was seen is the first;
     -- who knows the close has seen the whole order, and no post is outstanding.
-    pub record Saw (g : Ground M W) (order : List (Entry M)) (first : Option Abort) (low : ℕ) (x : Seen M) : Type 0 where
-      pub begins : StartsWith order x.order
-      pub sound : 0 < length x.order → IsSound fits (state_of g x)
-      pub aborted : (a : Abort) → x.aborted ≡ Some a → first ≡ Some a
-      pub close : x.knows ≡ true → (low ≡ 0) × (x.order ≡ order)
+    pub record Saw (ground : Ground M W) (order : List (Entry M)) (first : Option Abort) (low : ℕ) (seen : Seen M) : Type 0 where
+      pub begins : StartsWith order seen.order
+      pub sound : 0 < length seen.order → IsSound fits (state_of ground seen)
+      pub aborted : (a : Abort) → seen.aborted ≡ Some a → first ≡ Some a
+      pub close : seen.knows ≡ true → (low ≡ 0) × (seen.order ≡ order)
 
     -- What holds of each seat: it has a share of each lock for each of its passes; each of its passes made just its own
     -- events of the order; without a pass it has none in the count.
-    pub record KnowsBoard (g : Ground M W) (order : List (Entry M)) (first : Option Abort) (low : ℕ) (v : View M W) : Type 0 where
-      pub board : (i : ℕ) (k : Ground M W) → get_elem? v.boards i ≡ some k → k ≡ g
-      pub saw : Saw g order first low v.seen
-      pub told : Saw g order first low v.told
-      pub owns : (k : ℕ) (o : Own M) → get_elem? v.lanes k ≡ some o → own o.number order ≡ o.events
-      pub parts : (q : ℕ) → q < g.boxes → (hand_at q v).parts ≡ length v.lanes
-      pub idle : length v.lanes ≡ 0 → v.owes ≡ 0
+    pub record KnowsBoard (ground : Ground M W) (order : List (Entry M)) (first : Option Abort) (low : ℕ) (view : View M W) : Type 0 where
+      pub board : (i : ℕ) (k : Ground M W) → get_elem? view.boards i ≡ some k → k ≡ ground
+      pub saw : Saw ground order first low view.seen
+      pub told : Saw ground order first low view.told
+      pub owns : (k : ℕ) (o : Own M) → get_elem? view.lanes k ≡ some o → own o.number order ≡ o.events
+      pub parts : (q : ℕ) → q < ground.boxes → (hand_at q view).parts ≡ length view.lanes
+      pub idle : length view.lanes ≡ 0 → view.owes ≡ 0
 
     -- The rule: the longest order is sound, and begins with what each seat has seen; each lock stands at its part for
     -- the mailbox; the low bits of word 0 are the Posts without a Done, and what the seats have in the count beside
     -- them; each pass is in one seat, and all are; the maker of the first abort has made it.
-    pub record Rule (g : Ground M W) (s : Boxes M W) : Type 0 where
+    pub record Rule (ground : Ground M W) (state : Boxes M W) : Type 0 where
       pub order : List (Entry M)
       pub first : Option Abort
       pub low : ℕ
-      pub sound : IsSound fits (state_of g (record { order = order; aborted = first; knows = false }))
-      pub locks : (q : ℕ) → q < g.boxes → LockStands q order s.words s.homes (map (hand_at q) s.views)
-      pub some_word : 0 < length s.words
-      pub word : slice_index s.words 0 ≡ low + flag first
-      pub count : low + completed order ≡ posted order + owed s.views
-      pub few : low + postable s.views < 2 ^ 63
-      pub each : (j : ℕ) (v : View M W) → get_elem? s.views j ≡ some v → KnowsBoard g order first low v
-      pub once : (n : ℕ) → total (λ (v : View M W). times n (numbers v)) s.views ≤ 1
-      pub whole : total (λ (v : View M W). length v.lanes) s.views ≡ g.boxes
-      pub maker : (a : Abort) → first ≡ Some a → 0 < total (makes a.by) s.views
+      pub sound : IsSound fits (state_of ground (record { order = order; aborted = first; knows = false }))
+      pub locks : (q : ℕ) → q < ground.boxes → LockStands q order state.words state.homes (map (hand_at q) state.views)
+      pub some_word : 0 < length state.words
+      pub word : slice_index state.words 0 ≡ low + flag first
+      pub count : low + completed order ≡ posted order + owed state.views
+      pub few : low + postable state.views < 2 ^ 63
+      pub each : (j : ℕ) (v : View M W) → get_elem? state.views j ≡ some v → KnowsBoard ground order first low v
+      pub once : (n : ℕ) → total (λ (v : View M W). times n (numbers v)) state.views ≤ 1
+      pub whole : total (λ (v : View M W). length v.lanes) state.views ≡ ground.boxes
+      pub maker : (a : Abort) → first ≡ Some a → 0 < total (makes a.by) state.views
 
     -- what a seat sees after a step goes on from what it had seen, and is sound; who knows the close has seen a closed
     -- order
-    pub record News (v : View M W) (x : Seen M) : Type 0 where
-      pub begins : StartsWith x.order v.seen.order
-      pub aborted : (a : Abort) → v.seen.aborted ≡ Some a → x.aborted ≡ Some a
-      pub knows : v.seen.knows ≡ true → x.knows ≡ true
-      pub sound : 0 < length x.order → (g : Ground M W) → get_elem? v.boards 0 ≡ some g → IsSound fits (state_of g x)
-      pub close : x.knows ≡ true → IsClosed x.order
+    pub record News (view : View M W) (seen : Seen M) : Type 0 where
+      pub begins : StartsWith seen.order view.seen.order
+      pub aborted : (a : Abort) → view.seen.aborted ≡ Some a → seen.aborted ≡ Some a
+      pub knows : view.seen.knows ≡ true → seen.knows ≡ true
+      pub sound : 0 < length seen.order → (g : Ground M W) → get_elem? view.boards 0 ≡ some g → IsSound fits (state_of g seen)
+      pub close : seen.knows ≡ true → IsClosed seen.order
 
     -- each pass of the seat has just its own events in the order
     abbrev pub HasOwn : View M W → List (Entry M) → Type 0
-    HasOwn v order = (k : ℕ) (o : Own M) → get_elem? v.lanes k ≡ some o → own o.number order ≡ o.events
+    HasOwn view order = (k : ℕ) (o : Own M) → get_elem? view.lanes k ≡ some o → own o.number order ≡ o.events
 
     -- what is asked of an event that a pass is to record, behind the history found: a Post is the pass's own, under a
     -- job that it has, fits and is counted up; a Take or a Done is one of the pass's own mailbox, and may follow
     abbrev pub MayRecord : ℕ → ℕ → Event M → List (Event M) → View M W → Type 0
-    MayRecord q n (Post s m) x v = (s ≡ n) × HasJob n v.under v.seen.order
-        × ((g : Ground M W) × (get_elem? v.boards 0 ≡ some g) × fits g.world.value q m) × (0 < v.owes)
-    MayRecord q n (Take s m) x v = (n ≡ q) × MayFollow x (Take s m)
-    MayRecord q n (Done t) x v = (n ≡ q) × MayFollow x (Done t)
+    MayRecord mailbox number (Post sender message) history view = (sender ≡ number) × HasJob number view.under view.seen.order
+        × ((g : Ground M W) × (get_elem? view.boards 0 ≡ some g) × fits g.world.value mailbox message) × (0 < view.owes)
+    MayRecord mailbox number (Take sender message) history view = (number ≡ mailbox) × MayFollow history (Take sender message)
+    MayRecord mailbox number (Done job) history view = (number ≡ mailbox) × MayFollow history (Done job)
 
     -- the history is left as it was found, or with one event that the pass may record
     abbrev pub LeavesOneEvent : ℕ → Kind (List (Event M)) → View M W → Type 0
-    LeavesOneEvent q draws v = Unit {0}
-    LeavesOneEvent q waits v = Unit {0}
-    LeavesOneEvent q (enters x) v = Unit {0}
-    LeavesOneEvent q (passes x y) v = (y ≡ x)
-        ⊎ ((o : Own M) × (e : Event M) × (v.lanes ≡ o ∷ []) × (own o.number v.seen.order ≡ o.events) × (y ≡ x ++ e ∷ [])
-        × MayRecord q o.number e x v)
+    LeavesOneEvent mailbox draws view = Unit {0}
+    LeavesOneEvent mailbox waits view = Unit {0}
+    LeavesOneEvent mailbox (enters x) view = Unit {0}
+    LeavesOneEvent mailbox (passes x y) view = (y ≡ x)
+        ⊎ ((o : Own M) × (e : Event M) × (view.lanes ≡ o ∷ []) × (own o.number view.seen.order ≡ o.events) × (y ≡ x ++ e ∷ [])
+        × MayRecord mailbox o.number e x view)
 
     -- the event is the last of the order that the pass has seen then, and of its own; the history found was the part of
     -- the order before it
-    pub record Recorded (q : ℕ) (o : Own M) (e : Event M) (x : List (Event M)) (v w : View M W) : Type 0 where
+    pub record Recorded (mailbox : ℕ) (lane : Own M) (event : Event M) (history : List (Event M)) (earlier later : View M W) : Type 0 where
       pub front : List (Entry M)
-      pub after : w ≡ record v {
-        hands = slice_set v.hands q (hand_at q w);
-        lanes = with_event (entry_of q v.under e) o ∷ [];
-        seen = record v.seen { order = front ++ entry_of q v.under e ∷ [] };
-        owes = owes_after e v.owes;
+      pub after : later ≡ record earlier {
+        hands = slice_set earlier.hands mailbox (hand_at mailbox later);
+        lanes = with_event (entry_of mailbox earlier.under event) lane ∷ [];
+        seen = record earlier.seen { order = front ++ entry_of mailbox earlier.under event ∷ [] };
+        owes = owes_after event earlier.owes;
       }
-      pub begins : StartsWith front v.seen.order
-      pub own : own o.number front ≡ o.events
-      pub part : part q front ≡ x
-      pub news : News v w.seen
+      pub begins : StartsWith front earlier.seen.order
+      pub own : own lane.number front ≡ lane.events
+      pub part : part mailbox front ≡ history
+      pub news : News earlier later.seen
 
     -- a look in turn tells the order, whose part for the mailbox is the history found; a pass on records the event, if
     -- there is one
     abbrev pub TellsOrder : ℕ → Kind (List (Event M)) → View M W → View M W → Type 0
-    TellsOrder q draws v w = w ≡ with_hand q (hand_at q w) v
-    TellsOrder q waits v w = w ≡ v
-    TellsOrder q (enters x) v w = (w ≡ with_seen w.seen (with_hand q (hand_at q w) v)) × News v w.seen × HasOwn v w.seen.order
-        × (w.seen.aborted ≡ v.seen.aborted) × (w.seen.knows ≡ v.seen.knows) × (part q w.seen.order ≡ x)
-    TellsOrder q (passes x y) v w = (y ≡ x → w ≡ with_hand q (hand_at q w) v)
-        × ((o : Own M) (e : Event M) → v.lanes ≡ o ∷ [] → y ≡ x ++ e ∷ [] → Recorded q o e x v w)
+    TellsOrder mailbox draws before after = after ≡ with_hand mailbox (hand_at mailbox after) before
+    TellsOrder mailbox waits before after = after ≡ before
+    TellsOrder mailbox (enters x) before after = (after ≡ with_seen after.seen (with_hand mailbox (hand_at mailbox after) before))
+        × News before after.seen × HasOwn before after.seen.order
+        × (after.seen.aborted ≡ before.seen.aborted) × (after.seen.knows ≡ before.seen.knows) × (part mailbox after.seen.order ≡ x)
+    TellsOrder mailbox (passes x y) before after = (y ≡ x → after ≡ with_hand mailbox (hand_at mailbox after) before)
+        × ((o : Own M) (e : Event M) → before.lanes ≡ o ∷ [] → y ≡ x ++ e ∷ [] → Recorded mailbox o e x before after)
 
-    -- the seat is inside the lock of a mailbox, whose history x is out, and is the part of the order that the seat has
+    -- the seat is inside the lock of a mailbox, whose history is out, and is the part of the order that the seat has
     -- seen then
-    pub record IsInside (q : ℕ) (x : List (Event M)) (m m' : Seat M W) : Type 0 where
-      pub out : m'.1 ≡ (q, None) ∷ m.1
-      pub after : m'.0 ≡ with_seen m'.0.seen (with_hand q (hand_at q m'.0) m.0)
-      pub inside : (t : ℕ) × ((hand_at q m'.0).inside ≡ t ∷ [])
-      pub tickets : (hand_at q m'.0).tickets ≡ []
-      pub parts : (hand_at q m'.0).parts ≡ (hand_at q m.0).parts
-      pub drawn : length (hand_at q m'.0).drawn ≡ length (hand_at q m.0).drawn + 1
-      pub found : EndsIn (hand_at q m'.0).seen x
-      pub news : News m.0 m'.0.seen
-      pub own : HasOwn m.0 m'.0.seen.order
-      pub aborted : m'.0.seen.aborted ≡ m.0.seen.aborted
-      pub knows : m'.0.seen.knows ≡ m.0.seen.knows
-      pub part : part q m'.0.seen.order ≡ x
+    pub record IsInside (mailbox : ℕ) (history : List (Event M)) (earlier later : Seat M W) : Type 0 where
+      pub out : later.1 ≡ (mailbox, None) ∷ earlier.1
+      pub after : later.0 ≡ with_seen later.0.seen (with_hand mailbox (hand_at mailbox later.0) earlier.0)
+      pub inside : (t : ℕ) × ((hand_at mailbox later.0).inside ≡ t ∷ [])
+      pub tickets : (hand_at mailbox later.0).tickets ≡ []
+      pub parts : (hand_at mailbox later.0).parts ≡ (hand_at mailbox earlier.0).parts
+      pub drawn : length (hand_at mailbox later.0).drawn ≡ length (hand_at mailbox earlier.0).drawn + 1
+      pub found : EndsIn (hand_at mailbox later.0).seen history
+      pub news : News earlier.0 later.0.seen
+      pub own : HasOwn earlier.0 later.0.seen.order
+      pub aborted : later.0.seen.aborted ≡ earlier.0.seen.aborted
+      pub knows : later.0.seen.knows ≡ earlier.0.seen.knows
+      pub part : part mailbox later.0.seen.order ≡ history
 
     -- a look at word 0 tells the order as it is, the abort if there was one, and the close where no post is outstanding
-    pub record LookedAtWord (m : Seat M W) (n : ℕ) (m' : Seat M W) : Type 0 where
-      pub after : m' ≡ (with_seen m'.0.seen m.0, m.1)
-      pub news : News m.0 m'.0.seen
-      pub own : HasOwn m.0 m'.0.seen.order
+    pub record LookedAtWord (earlier : Seat M W) (number : ℕ) (later : Seat M W) : Type 0 where
+      pub after : later ≡ (with_seen later.0.seen earlier.0, earlier.1)
+      pub news : News earlier.0 later.0.seen
+      pub own : HasOwn earlier.0 later.0.seen.order
       pub low : ℕ
       pub small : low < 2 ^ 63
-      pub found : n ≡ low + flag m'.0.seen.aborted
-      pub knows : m'.0.seen.knows ≡ (low == 0)
+      pub found : number ≡ low + flag later.0.seen.aborted
+      pub knows : later.0.seen.knows ≡ (low == 0)
 
     -- bit 63 is set: the first abort is this one, or that of another pass
-    pub record Raised (a : Abort) (m m' : Seat M W) : Type 0 where
-      pub after : m' ≡ (record m.0 { lanes = map made_abort m.0.lanes; seen = m'.0.seen }, m.1)
-      pub news : News m.0 m'.0.seen
-      pub own : HasOwn m.0 m'.0.seen.order
-      pub knows : m'.0.seen.knows ≡ m.0.seen.knows
-      pub which : (b : Abort) × (m'.0.seen.aborted ≡ Some b) × ((b ≡ a) ⊎ (b.by ≢ a.by))
+    pub record Raised (abort : Abort) (earlier later : Seat M W) : Type 0 where
+      pub after : later ≡ (record earlier.0 { lanes = map made_abort earlier.0.lanes; seen = later.0.seen }, earlier.1)
+      pub news : News earlier.0 later.0.seen
+      pub own : HasOwn earlier.0 later.0.seen.order
+      pub knows : later.0.seen.knows ≡ earlier.0.seen.knows
+      pub which : (b : Abort) × (later.0.seen.aborted ≡ Some b) × ((b ≡ abort) ⊎ (b.by ≢ abort.by))
 
     -- the seat has taken in what it was told
-    pub record SeatTookIn (m m' : Seat M W) : Type 0 where
-      pub after : m' ≡ (taken_in m.0, m.1)
-      pub news : News m.0 m'.0.seen
-      pub theirs : StartsWith m'.0.seen.order m.0.told.order
-      pub aborted : (a : Abort) → m.0.told.aborted ≡ Some a → m'.0.seen.aborted ≡ Some a
-      pub own : (k : ℕ) (o : Own M) → get_elem? m.0.lanes k ≡ some o → own o.number m.0.seen.order ≡ o.events
-          → own o.number m'.0.seen.order ≡ o.events
+    pub record SeatTookIn (earlier later : Seat M W) : Type 0 where
+      pub after : later ≡ (taken_in earlier.0, earlier.1)
+      pub news : News earlier.0 later.0.seen
+      pub theirs : StartsWith later.0.seen.order earlier.0.told.order
+      pub aborted : (a : Abort) → earlier.0.told.aborted ≡ Some a → later.0.seen.aborted ≡ Some a
+      pub own : (k : ℕ) (o : Own M) → get_elem? earlier.0.lanes k ≡ some o → own o.number earlier.0.seen.order ≡ o.events
+          → own o.number later.0.seen.order ≡ o.events

@@ -20,7 +20,7 @@ use Rattle.switchboard.specs.Sights.{Sight, Account, Before, AllTaken, IsSound}
 module _ {M W : Type 0} where
   -- the pass has used up its calls, and nothing changed
   abbrev pub WasSpent : Sight M W → Sight M W → Type 0
-  WasSpent s t = (s.calls ≡ 0) × (t ≡ s)
+  WasSpent before after = (before.calls ≡ 0) × (after ≡ before)
 
   -- the first passes of a board with so many mailboxes, in the order of their numbers
   abbrev pub AreFirst : TableId → ℕ → List (Sight M W) → Type 0
@@ -33,114 +33,115 @@ module _ {M W : Type 0} where
 
 -- a take says that the board is closed, or that the calls are used up
 abbrev pub SaysClosed : {M : Type 0} → Result (answers.Taken M) Spent → Type 0
-SaysClosed (Err e) = Unit {0}
+SaysClosed (Err spent) = Unit {0}
 SaysClosed (Ok answer.Closed) = Unit {0}
 SaysClosed (Ok answer.Aborted) = ⊥
 SaysClosed (Ok answer.Empty) = ⊥
-SaysClosed (Ok (answer.Message job m)) = ⊥
+SaysClosed (Ok (answer.Message job message)) = ⊥
 
 -- a take says that the board is closed or aborted, or that the calls are used up
 abbrev pub SaysStopped : {M : Type 0} → Result (answers.Taken M) Spent → Type 0
-SaysStopped (Err e) = Unit {0}
+SaysStopped (Err spent) = Unit {0}
 SaysStopped (Ok answer.Closed) = Unit {0}
 SaysStopped (Ok answer.Aborted) = Unit {0}
 SaysStopped (Ok answer.Empty) = ⊥
-SaysStopped (Ok (answer.Message job m)) = ⊥
+SaysStopped (Ok (answer.Message job message)) = ⊥
 
 -- a post is refused since the board was aborted, or since the calls are used up
 abbrev pub IsPostStopped : {M : Type 0} → PostFault M → Type 0
-IsPostStopped (fault.Spent m) = Unit {0}
-IsPostStopped (fault.Aborted m) = Unit {0}
-IsPostStopped (fault.Memory m) = ⊥
+IsPostStopped (fault.Spent message) = Unit {0}
+IsPostStopped (fault.Aborted message) = Unit {0}
+IsPostStopped (fault.Memory message) = ⊥
 
 module _ {M W : Type 0} (fits : W → ℕ → M → Type 0) where
   -- What each call keeps: the pass stays the same one, its order begins with all that it had seen, which is sound, who
   -- made an abort knows of one, who knows the close knows it from then on, and its order is closed.
-  pub record GoesOn (s t : Sight M W) : Type 0 where
-    pub board : t.board ≡ s.board
-    pub number : t.number ≡ s.number
-    pub before : Before s.seen t.seen
-    pub sound : IsSound fits t.seen
-    pub made : t.made ≡ true → IsSome t.seen.aborted
-    pub knows : s.knows ≡ true → t.knows ≡ true
-    pub close : t.knows ≡ true → IsClosed t.seen.order
+  pub record GoesOn (earlier later : Sight M W) : Type 0 where
+    pub board : later.board ≡ earlier.board
+    pub number : later.number ≡ earlier.number
+    pub before : Before earlier.seen later.seen
+    pub sound : IsSound fits later.seen
+    pub made : later.made ≡ true → IsSome later.seen.aborted
+    pub knows : earlier.knows ≡ true → later.knows ≡ true
+    pub close : later.knows ≡ true → IsClosed later.seen.order
 
   -- the call made no event: the own list stays
-  pub record MadeNone (s t : Sight M W) : Type 0 where
-    pub goes : GoesOn s t
-    pub made : t.made ≡ s.made
-    pub own : own s.number t.seen.order ≡ own s.number s.seen.order
+  pub record MadeNone (before after : Sight M W) : Type 0 where
+    pub goes : GoesOn before after
+    pub made : after.made ≡ before.made
+    pub own : own before.number after.seen.order ≡ own before.number before.seen.order
 
   -- the same, and one call of the pass is used up
   abbrev pub Looked : Sight M W → Sight M W → Type 0
-  Looked s t = MadeNone s t × (s.calls ≡ t.calls + 1)
+  Looked before after = MadeNone before after × (before.calls ≡ after.calls + 1)
 
   -- the call made this event: it is the last of the order, and the own list is the old one and this event; one call is
   -- used up
-  pub record Added (e : Entry M) (s t : Sight M W) : Type 0 where
-    pub goes : GoesOn s t
-    pub made : t.made ≡ s.made
-    pub calls : s.calls ≡ t.calls + 1
+  pub record Added (entry : Entry M) (before after : Sight M W) : Type 0 where
+    pub goes : GoesOn before after
+    pub made : after.made ≡ before.made
+    pub calls : before.calls ≡ after.calls + 1
     pub front : List (Entry M)
-    pub last : t.seen.order ≡ front ++ e ∷ []
-    pub found : StartsWith front s.seen.order
-    pub own : own s.number t.seen.order ≡ own s.number s.seen.order ++ e ∷ []
+    pub last : after.seen.order ≡ front ++ entry ∷ []
+    pub found : StartsWith front before.seen.order
+    pub own : own before.number after.seen.order ≡ own before.number before.seen.order ++ entry ∷ []
 
   -- the message was posted, on a board that was not aborted
   abbrev pub WasPosted : ℕ → ℕ → M → Sight M W → Sight M W → Type 0
-  WasPosted job to m s t = Added (Posted to s.number m job) s t × (t.seen.aborted ≡ None)
+  WasPosted job to message before after = Added (Posted to before.number message job) before after × (after.seen.aborted ≡ None)
 
   -- the message came back: the calls are used up; there was no memory, on a board that was not aborted; or the board
   -- was aborted
   abbrev pub WasRefused : M → PostFault M → Sight M W → Sight M W → Type 0
-  WasRefused m (fault.Spent back) s t = (back ≡ m) × WasSpent s t
-  WasRefused m (fault.Memory back) s t = (back ≡ m) × Looked s t × (t.seen.aborted ≡ None)
-  WasRefused m (fault.Aborted back) s t = (back ≡ m) × Looked s t × IsSome t.seen.aborted
+  WasRefused message (fault.Spent back) before after = (back ≡ message) × WasSpent before after
+  WasRefused message (fault.Memory back) before after = (back ≡ message) × Looked before after × (after.seen.aborted ≡ None)
+  WasRefused message (fault.Aborted back) before after = (back ≡ message) × Looked before after × IsSome after.seen.aborted
 
   -- the oldest message not yet taken was taken, of a board that was not aborted; it fits the mailbox, and the job is
   -- that of the take
-  pub record TookOldest (job : ℕ) (m : M) (s t : Sight M W) : Type 0 where
+  pub record TookOldest (job : ℕ) (message : M) (before after : Sight M W) : Type 0 where
     pub sender : ℕ
-    pub added : Added (Taken s.number sender m) s t
-    pub oldest : TakesOldest (part s.number added.front) (part s.number t.seen.order) m
-    pub number : job ≡ length (takes (part s.number added.front))
-    pub fit : fits s.seen.world s.number m
-    pub alive : t.seen.aborted ≡ None
+    pub added : Added (Taken before.number sender message) before after
+    pub oldest : TakesOldest (part before.number added.front) (part before.number after.seen.order) message
+    pub number : job ≡ length (takes (part before.number added.front))
+    pub fit : fits before.seen.world before.number message
+    pub alive : after.seen.aborted ≡ None
 
   -- what a take answers: closed, where the pass knows the close; aborted, where it does not and the board is; else the
   -- oldest message, or that every one is taken
   abbrev pub Took : Result (answers.Taken M) Spent → Sight M W → Sight M W → Type 0
-  Took (Err e) s t = WasSpent s t
-  Took (Ok (answer.Message job m)) s t = TookOldest job m s t
-  Took (Ok answer.Empty) s t = Looked s t × (t.knows ≡ false) × (t.seen.aborted ≡ None) × AllTaken s.number t.seen.order
-  Took (Ok answer.Closed) s t = Looked s t × (t.knows ≡ true)
-  Took (Ok answer.Aborted) s t = Looked s t × (t.knows ≡ false) × IsSome t.seen.aborted
+  Took (Err spent) before after = WasSpent before after
+  Took (Ok (answer.Message job message)) before after = TookOldest job message before after
+  Took (Ok answer.Empty) before after = Looked before after × (after.knows ≡ false) × (after.seen.aborted ≡ None)
+      × AllTaken before.number after.seen.order
+  Took (Ok answer.Closed) before after = Looked before after × (after.knows ≡ true)
+  Took (Ok answer.Aborted) before after = Looked before after × (after.knows ≡ false) × IsSome after.seen.aborted
 
   -- the take of the job is completed
   abbrev pub WasDone : ℕ → Sight M W → Sight M W → Type 0
-  WasDone job s t = Added (Completed s.number job) s t
+  WasDone job before after = Added (Completed before.number job) before after
 
   -- The board is aborted: by this pass for this cause, unless another pass aborted it before; no call is used up, and
   -- the pass made no event. A second abort of the pass changes nothing.
-  pub record MadeAbort (a : Abort) (s t : Sight M W) : Type 0 where
-    pub goes : GoesOn s t
-    pub made : t.made ≡ true
-    pub calls : t.calls ≡ s.calls
-    pub own : own s.number t.seen.order ≡ own s.number s.seen.order
-    pub first : s.made ≡ false → (b : Abort) × (t.seen.aborted ≡ Some b) × ((b ≡ a) ⊎ (b.by ≢ s.number))
-    pub again : s.made ≡ true → t ≡ s
+  pub record MadeAbort (abort : Abort) (before after : Sight M W) : Type 0 where
+    pub goes : GoesOn before after
+    pub made : after.made ≡ true
+    pub calls : after.calls ≡ before.calls
+    pub own : own before.number after.seen.order ≡ own before.number before.seen.order
+    pub first : before.made ≡ false → (b : Abort) × (after.seen.aborted ≡ Some b) × ((b ≡ abort) ⊎ (b.by ≢ before.number))
+    pub again : before.made ≡ true → after ≡ before
 
   -- the pass has seen what it had seen and what it was told, and no more: the longer order, an abort that either knew,
   -- and the close where either knew it
-  pub record Learned (told : Account M) (s t : Sight M W) : Type 0 where
-    pub none : MadeNone s t
-    pub calls : t.calls ≡ s.calls
-    pub theirs : StartsWith t.seen.order told.order
-    pub longer : (t.seen.order ≡ s.seen.order) ⊎ (t.seen.order ≡ told.order)
-    pub abort : (a : Abort) → told.aborted ≡ Some a → t.seen.aborted ≡ Some a
-    pub either : (t.seen.aborted ≡ s.seen.aborted) ⊎ (t.seen.aborted ≡ told.aborted)
-    pub close : told.knows ≡ true → t.knows ≡ true
-    pub known : t.knows ≡ true → (s.knows ≡ true) ⊎ (told.knows ≡ true)
+  pub record Learned (told : Account M) (before after : Sight M W) : Type 0 where
+    pub none : MadeNone before after
+    pub calls : after.calls ≡ before.calls
+    pub theirs : StartsWith after.seen.order told.order
+    pub longer : (after.seen.order ≡ before.seen.order) ⊎ (after.seen.order ≡ told.order)
+    pub abort : (a : Abort) → told.aborted ≡ Some a → after.seen.aborted ≡ Some a
+    pub either : (after.seen.aborted ≡ before.seen.aborted) ⊎ (after.seen.aborted ≡ told.aborted)
+    pub close : told.knows ≡ true → after.knows ≡ true
+    pub known : after.knows ≡ true → (before.knows ≡ true) ⊎ (told.knows ≡ true)
 
   -- What is left of a board: one lawful order, which begins with each pass's order and has each pass's own list; its
   -- parts are the histories; it is closed where all its histories are, and where some pass knows the close; and the

@@ -41,7 +41,7 @@ abort_of (Some b) a = Some b
 
 -- every message that was posted to the mailbox is taken
 abbrev pub AllTaken : {M : Type 0} → ℕ → List (Entry M) → Type 0
-AllTaken q order = length (posts (part q order)) ≡ length (takes (part q order))
+AllTaken mailbox order = length (posts (part mailbox order)) ≡ length (takes (part mailbox order))
 
 module _ {M W : Type 0} where
   -- a board on which nothing but the opening post was made
@@ -49,36 +49,36 @@ module _ {M W : Type 0} where
   opened world boxes to first = record { world = world; boxes = boxes; order = Posted to boxes first 0 ∷ []; aborted = None }
 
   -- the second state goes on from the first: its order begins with the first's, and the first's abort stays
-  pub record Before (s t : BoardState M W) : Type 0 where
-    pub world : t.world ≡ s.world
-    pub boxes : t.boxes ≡ s.boxes
-    pub order : StartsWith t.order s.order
-    pub aborted : (a : Abort) → s.aborted ≡ Some a → t.aborted ≡ Some a
+  pub record Before (before after : BoardState M W) : Type 0 where
+    pub world : after.world ≡ before.world
+    pub boxes : after.boxes ≡ before.boxes
+    pub order : StartsWith after.order before.order
+    pub aborted : (a : Abort) → before.aborted ≡ Some a → after.aborted ≡ Some a
 
   -- what a pass tells of what it has seen
   abbrev pub told_by : Sight M W → Account M
-  told_by s = record { board = s.board; knows = s.knows; order = s.seen.order; aborted = s.seen.aborted }
+  told_by sight = record { board = sight.board; knows = sight.knows; order = sight.seen.order; aborted = sight.seen.aborted }
 
   -- a pass that has seen the opening post alone
   abbrev pub fresh_sight : TableId → ℕ → BoardState M W → ℕ → Sight M W
-  fresh_sight id budget s number = record {
+  fresh_sight id budget state number = record {
     board = id;
     number = number;
     calls = budget - 1;
     made = false;
     knows =
         false;
-    seen = s;
+    seen = state;
   }
 
   -- so many passes, numbered from `first` on
   abbrev pub fresh_sights : TableId → ℕ → BoardState M W → ℕ → ℕ → List (Sight M W)
-  fresh_sights id budget s first zero = []
-  fresh_sights id budget s first (suc count) = fresh_sight id budget s first ∷ fresh_sights id budget s (suc first) count
+  fresh_sights id budget state first zero = []
+  fresh_sights id budget state first (suc count) = fresh_sight id budget state first ∷ fresh_sights id budget state (suc first) count
 
   module _ (fits : W → ℕ → M → Type 0) where
     -- sound: the order is lawful, each message posted fits its mailbox, and an abort is by one of the passes
-    pub record IsSound (s : BoardState M W) : Type 0 where
-      pub lawful : IsLawful s.boxes s.order
-      pub fitting : (i to sender : ℕ) (m : M) (t : ℕ) → slice_get s.order i ≡ Some (Posted to sender m t) → fits s.world to m
-      pub by : (a : Abort) → s.aborted ≡ Some a → a.by < s.boxes
+    pub record IsSound (state : BoardState M W) : Type 0 where
+      pub lawful : IsLawful state.boxes state.order
+      pub fitting : (i to sender : ℕ) (m : M) (t : ℕ) → slice_get state.order i ≡ Some (Posted to sender m t) → fits state.world to m
+      pub by : (a : Abort) → state.aborted ≡ Some a → a.by < state.boxes

@@ -9,10 +9,11 @@ use Rattle.switchboard.specs.Passes.{sight_of, IsPass}
 module _ {M W : Type 0} (fits : W → ℕ → M → Type 0) where
   -- the lane is that of the pass
   abbrev pub IsLaneOf : Standing (BoardState M W) → Sight M W → Type 0
-  IsLaneOf lane p = (w : W) × (boxes : ℕ) × (kept : Bool) × IsPass fits lane w boxes kept × (sight_of lane w boxes kept ≡ p)
+  IsLaneOf lane pass = (w : W) × (boxes : ℕ) × (kept : Bool) × IsPass fits lane w boxes kept × (sight_of lane w boxes kept ≡ pass)
 
   -- the lane of the first pass that is left comes next, if one is
   abbrev pub Unwraps : {Z : Type 0} → IntoIter (Sight M W) Z → Option (Standing (BoardState M W)) → IntoIter (Sight M W) Z → Type 0
-  Unwraps s r t =
-      MatchOption r ((into_iter_len s ≡ 0) × (into_iter_len t ≡ 0))
-      (λ lane. (p : Sight M W) × (into_iter_items s ≡ p ∷ into_iter_items t) × (into_iter_len t + 1 ≡ into_iter_len s) × IsLaneOf lane p)
+  Unwraps before answer after =
+      MatchOption answer ((into_iter_len before ≡ 0) × (into_iter_len after ≡ 0))
+      (λ lane. (p : Sight M W) × (into_iter_items before ≡ p ∷ into_iter_items after) × (into_iter_len after + 1 ≡ into_iter_len before)
+      × IsLaneOf lane p)

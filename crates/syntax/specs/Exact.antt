@@ -16,29 +16,30 @@ pub data Goal : Type 0 where
 
 -- the operator that a token of this kind is, if it binds at this level or above
 abbrev pub binds : ℕ → Kind → Option Operator
-binds l k = option_and_then (λ o. cond (nat_le l (level o)) (Some o) None) (operator_at k)
+binds least token_kind = option_and_then (λ o. cond (nat_le least (level o)) (Some o) None) (operator_at token_kind)
 
 -- an operand that begins with this token
 abbrev pub operand_step : (Goal → Parser (Expression Name)) → Tok → Parser (Expression Name)
-operand_step rec t =
-    cond (same_kind t.kind kind.Zero) (give (const false))
-    (cond (same_kind t.kind kind.One) (give (const true))
-    (cond (same_kind t.kind kind.Id) (give (var (name_at t)))
-    (cond (same_kind t.kind kind.Not) (rec (from 5) >>= λ e. give (negation e))
-    (cond (same_kind t.kind kind.Open) (rec (from 0) >>= λ e. take kind.Close >>= λ _. give e)
+operand_step rec token =
+    cond (same_kind token.kind kind.Zero) (give (const false))
+    (cond (same_kind token.kind kind.One) (give (const true))
+    (cond (same_kind token.kind kind.Id) (give (var (name_at token)))
+    (cond (same_kind token.kind kind.Not) (rec (from 5) >>= λ e. give (negation e))
+    (cond (same_kind token.kind kind.Open) (rec (from 0) >>= λ e. take kind.Close >>= λ _. give e)
     refuse))))
 
 -- the operator comes next, and then its right side
 abbrev pub go_on : (Goal → Parser (Expression Name)) → ℕ → Expression Name → Tok → List Tok → Option Operator
     → Option (Expression Name × List Tok)
-go_on rec l a t ts None = Some (a, t ∷ ts)
-go_on rec l a t ts (Some o) = (rec (from (right_level o)) >>= λ b. rec (after l (two o a b))) ts
+go_on rec least left token tokens None = Some (left, token ∷ tokens)
+go_on rec least left token tokens (Some operator) =
+    (rec (from (right_level operator)) >>= λ b. rec (after least (two operator left b))) tokens
 
 abbrev pub expression_step : (Goal → Parser (Expression Name)) → Goal → Parser (Expression Name)
-expression_step rec (from l) [] = None
-expression_step rec (from l) (t ∷ ts) = (operand_step rec t >>= λ a. rec (after l a)) ts
-expression_step rec (after l a) [] = Some (a, [])
-expression_step rec (after l a) (t ∷ ts) = go_on rec l a t ts (binds l t.kind)
+expression_step rec (from least) [] = None
+expression_step rec (from least) (token ∷ tokens) = (operand_step rec token >>= λ a. rec (after least a)) tokens
+expression_step rec (after least left) [] = Some (left, [])
+expression_step rec (after least left) (token ∷ tokens) = go_on rec least left token tokens (binds least token.kind)
 
 unfoldable pub reading : Goal → Parser (Expression Name)
 reading = fix expression_step
@@ -46,43 +47,43 @@ reading = fix expression_step
 -- an operand
 unfoldable pub operand : Parser (Expression Name)
 operand [] = None
-operand (t ∷ ts) = operand_step reading t ts
+operand (token ∷ tokens) = operand_step reading token tokens
 
 -- a name
 abbrev pub name : Parser Name
 name = take kind.Id >>= λ t. give (name_at t)
 
--- p behind a comma, again and again
+-- this behind a comma, again and again
 abbrev pub more : {X : Type 0} → Parser X → Parser (List X)
-more p = many (begins kind.Comma) (take kind.Comma >>= λ _. p)
+more parser = many (begins kind.Comma) (take kind.Comma >>= λ _. parser)
 
--- p once or more often, with a comma before each but the first
+-- this once or more often, with a comma before each but the first
 unfoldable pub list : {X : Type 0} → Parser X → Parser (List X)
-list p = p >>= λ x. more p >>= λ xs. give (x ∷ xs)
+list parser = parser >>= λ x. more parser >>= λ xs. give (x ∷ xs)
 
 -- a token of this kind behind x
 abbrev pub closing : {X : Type 0} → Kind → X → Parser X
-closing k x = take k >>= λ _. give x
+closing token_kind x = take token_kind >>= λ _. give x
 
 -- a list with a token of this kind behind it
 abbrev pub listed : {X : Type 0} → Parser X → Kind → Parser (List X)
-listed p k = list p >>= λ xs. closing k xs
+listed parser token_kind = list parser >>= λ xs. closing token_kind xs
 
--- p once, and again while the test holds
+-- this once, and again while the test holds
 unfoldable pub repeated : {X : Type 0} → (List Tok → Bool) → Parser X → Parser (List X)
-repeated test p = p >>= λ x. many test p >>= λ xs. give (x ∷ xs)
+repeated test parser = parser >>= λ x. many test parser >>= λ xs. give (x ∷ xs)
 
--- p in parentheses
+-- this in parentheses
 abbrev pub parens : {X : Type 0} → Parser X → Parser X
-parens p = take kind.Open >>= λ _. p >>= λ x. take kind.Close >>= λ _. give x
+parens parser = take kind.Open >>= λ _. parser >>= λ x. take kind.Close >>= λ _. give x
 
 -- nothing before a closing parenthesis, and else a list
 abbrev pub perhaps : {X : Type 0} → Parser X → Parser (List X)
-perhaps p ts = cond (begins kind.Close ts) (Some ([], ts)) (list p ts)
+perhaps parser ts = cond (begins kind.Close ts) (Some ([], ts)) (list parser ts)
 
 -- a list in parentheses, which may be empty
 unfoldable pub enclosed : {X : Type 0} → Parser X → Parser (List X)
-enclosed p = parens (perhaps p)
+enclosed parser = parens (perhaps parser)
 
 -- an expression
 abbrev pub expression : Parser (Expression Name)
@@ -111,9 +112,9 @@ condition = parens right
 -- the mark of a statement
 unfoldable pub marked : Parser (Mark Name)
 marked [] = None
-marked (t ∷ ts) = cond (same_kind t.kind kind.Id && begins kind.Colon ts)
-    ((take kind.Colon >>= λ _. give (record { label = Some (name_at t); at = t.at })) ts)
-    (Some (record { label = None; at = t.at }, t ∷ ts))
+marked (token ∷ tokens) = cond (same_kind token.kind kind.Id && begins kind.Colon tokens)
+    ((take kind.Colon >>= λ _. give (record { label = Some (name_at token); at = token.at })) tokens)
+    (Some (record { label = None; at = token.at }, token ∷ tokens))
 
 -- a semicolon, behind what a statement does
 abbrev pub ended : Deed → Parser Deed
@@ -129,7 +130,7 @@ calling = name >>= λ p. arguments >>= λ es. ended (simple (call p es))
 
 -- an assignment or a call, by the token after the name
 unfoldable pub named : Tok → List Tok → Option (Deed × List Tok)
-named t ts = cond (begins kind.Open ts) (calling (t ∷ ts)) (assignment (t ∷ ts))
+named token tokens = cond (begins kind.Open tokens) (calling (token ∷ tokens)) (assignment (token ∷ tokens))
 
 -- an `if`, behind that word
 abbrev pub branching : Parser (Block Name Name Name) → Parser Deed
@@ -155,32 +156,33 @@ assuming = condition >>= λ r. ended (simple (assume r))
 
 -- what a statement does that begins with this token
 abbrev pub deed_by : Parser (Block Name Name Name) → Tok → Parser Deed
-deed_by block t =
-    cond (same_kind t.kind kind.Skip) (ended (simple skip))
-    (cond (same_kind t.kind kind.Return) (ended (simple leave))
-    (cond (same_kind t.kind kind.Goto) jumping
-    (cond (same_kind t.kind kind.Assert) asserting
-    (cond (same_kind t.kind kind.Assume) assuming
-    (cond (same_kind t.kind kind.If) (branching block)
-    (cond (same_kind t.kind kind.While) (repeating block)
-    (cond (same_kind t.kind kind.Id) (named t)
+deed_by block token =
+    cond (same_kind token.kind kind.Skip) (ended (simple skip))
+    (cond (same_kind token.kind kind.Return) (ended (simple leave))
+    (cond (same_kind token.kind kind.Goto) jumping
+    (cond (same_kind token.kind kind.Assert) asserting
+    (cond (same_kind token.kind kind.Assume) assuming
+    (cond (same_kind token.kind kind.If) (branching block)
+    (cond (same_kind token.kind kind.While) (repeating block)
+    (cond (same_kind token.kind kind.Id) (named token)
     refuse)))))))
 
 -- what a statement does
 abbrev pub deed_step : Parser (Block Name Name Name) → Parser Deed
 deed_step block [] = None
-deed_step block (t ∷ ts) = deed_by block t ts
+deed_step block (token ∷ tokens) = deed_by block token tokens
 
 -- whether a token of this kind begins a statement
 abbrev pub starts : Kind → Bool
-starts k =
-    same_kind k kind.Skip || same_kind k kind.Return || same_kind k kind.Goto || same_kind k kind.Assert || same_kind k kind.Assume
-    || same_kind k kind.If || same_kind k kind.While || same_kind k kind.Id
+starts token_kind =
+    same_kind token_kind kind.Skip || same_kind token_kind kind.Return || same_kind token_kind kind.Goto
+    || same_kind token_kind kind.Assert || same_kind token_kind kind.Assume
+    || same_kind token_kind kind.If || same_kind token_kind kind.While || same_kind token_kind kind.Id
 
 -- whether a statement comes next
 abbrev pub starts_here : List Tok → Bool
 starts_here [] = false
-starts_here (t ∷ ts) = starts t.kind
+starts_here (token ∷ tokens) = starts token.kind
 
 -- a statement
 abbrev pub item_step : Parser (Block Name Name Name) → Parser Item
@@ -199,7 +201,7 @@ section = fix section_step tt
 
 -- a keyword, and the statements behind it
 unfoldable pub section_behind : Kind → Parser (Block Name Name Name)
-section_behind k = take k >>= λ _. section
+section_behind token_kind = take token_kind >>= λ _. section
 
 unfoldable pub deed : Parser Deed
 deed = deed_step section
@@ -243,7 +245,7 @@ thread_line = take kind.Thread >>= λ t. name >>= λ n. take kind.Semicolon >>= 
 -- whether any token comes
 abbrev pub any_left : List Tok → Bool
 any_left [] = false
-any_left (t ∷ ts) = true
+any_left (token ∷ tokens) = true
 
 -- thread lines, to the end
 abbrev pub thread_lines : Parser (List ThreadLine)

@@ -18,7 +18,7 @@ RefusesTokens fault.TooDeep given = ⊥
 -- What was answered, seen by view, is what is given.
 abbrev pub Gives : {X Y : Type 0} → (X → Y) → Result X ReadFault → Option Y → Type 0
 Gives view (Ok x) given = given ≡ Some (view x)
-Gives view (Err e) given = RefusesTokens e given
+Gives view (Err answer) given = RefusesTokens answer given
 
 -- What is read of the tokens, seen by view, is what the grammar's function reads, and the same tokens are left.
 abbrev pub Parses : {X Y : Type 0} → (X → Y) → Result (X × Bor (List Token)) ReadFault → Parser Y → List Token → Type 0

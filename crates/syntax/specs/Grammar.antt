@@ -8,12 +8,12 @@ use Rattle.tokens.specs.declared.vocabulary.Kind.TheVariants as kind
 use Rattle.tokens.specs.Token.{Tok}
 
 -- A token of this kind comes first.
-pub data Takes (k : Kind) : List Tok → List Tok → Type 0 where
-  takes : {t : Tok} {rest : List Tok} → t.kind ≡ k → Takes k (t ∷ rest) rest
+pub data Takes (token_kind : Kind) : List Tok → List Tok → Type 0 where
+  takes : {t : Tok} {rest : List Tok} → t.kind ≡ token_kind → Takes token_kind (t ∷ rest) rest
 
 -- the name that a token is
 abbrev pub name_at : Tok → Name
-name_at t = record { text = t.text; at = t.at }
+name_at token = record { text = token.text; at = token.at }
 
 -- The operator that a token of this kind is.
 abbrev pub operator_at : Kind → Option Operator
@@ -37,12 +37,12 @@ level differs = 4
 -- Left of => stands what binds more strongly; left of each other operator also what binds as it does.
 abbrev pub left_level : Operator → ℕ
 left_level implies = 1
-left_level o = level o
+left_level operator = level operator
 
 -- Right of => stands also another =>; right of each other operator what binds more strongly.
 abbrev pub right_level : Operator → ℕ
 right_level implies = 0
-right_level o = suc (level o)
+right_level operator = suc (level operator)
 
 -- The tokens begin with an expression that binds at this level or above, without parentheses around it:
 -- a constant, a name, ! and an operand, an expression in parentheses, or two operands and the operator
@@ -63,8 +63,8 @@ pub data IsName : List Tok → Name → List Tok → Type 0 where
   is_name : {t : Tok} {rest : List Tok} → t.kind ≡ kind.Id → IsName (t ∷ rest) (name_at t) rest
 
 -- Behind a token of this kind comes what P says.
-pub data Behind {X : Type 0} (k : Kind) (P : List Tok → X → List Tok → Type 0) : List Tok → X → List Tok → Type 0 where
-  behind : {ts us rest : List Tok} {x : X} → Takes k ts us → P us x rest → Behind k P ts x rest
+pub data Behind {X : Type 0} (token_kind : Kind) (P : List Tok → X → List Tok → Type 0) : List Tok → X → List Tok → Type 0 where
+  behind : {ts us rest : List Tok} {x : X} → Takes token_kind ts us → P us x rest → Behind token_kind P ts x rest
 
 -- What P says comes in parentheses.
 pub data InParens {X : Type 0} (P : List Tok → X → List Tok → Type 0) : List Tok → X → List Tok → Type 0 where
@@ -122,9 +122,9 @@ pub data IsSimple : List Tok → Simple Name Name Name → List Tok → Type 0 w
 -- There is a statement.
 abbrev pub IsSome : Block Name Name Name → Type 0
 IsSome done = ⊥
-IsSome (one m s k) = Unit {0}
-IsSome (choose m r a b k) = Unit {0}
-IsSome (loop m r a k) = Unit {0}
+IsSome (one mark simple rest) = Unit {0}
+IsSome (choose mark side if_true if_false rest) = Unit {0}
+IsSome (loop mark side body rest) = Unit {0}
 
 -- Statements come, one after the other: those that hold no others; an `if` with its right side in parentheses, `then`
 -- and statements, `else` and statements, `fi`; a `while` with its right side in parentheses, `do`, statements, `od`.

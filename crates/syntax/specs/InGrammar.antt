@@ -11,7 +11,7 @@ use Rattle.syntax.specs.Offsets.{SameButOffsets}
 
 -- A name is made of word bytes, begins with no digit, and is no keyword.
 abbrev pub IsId : Name → Type 0
-IsId n = IsNameWord n.text
+IsId name = IsNameWord name.text
 
 -- Each name is an id.
 abbrev pub AreIds : List Name → Type 0
@@ -19,60 +19,62 @@ AreIds ns = AllByRecursion IsId ns
 
 -- The names of an expression are ids.
 abbrev pub ExpressionInGrammar : Expression Name → Type 0
-ExpressionInGrammar (const b) = Unit {0}
-ExpressionInGrammar (var x) = IsId x
-ExpressionInGrammar (negation e) = ExpressionInGrammar e
-ExpressionInGrammar (two o a b) = ExpressionInGrammar a × ExpressionInGrammar b
+ExpressionInGrammar (const truth) = Unit {0}
+ExpressionInGrammar (var variable) = IsId variable
+ExpressionInGrammar (negation expression) = ExpressionInGrammar expression
+ExpressionInGrammar (two operator left right) = ExpressionInGrammar left × ExpressionInGrammar right
 
 -- The names of a right side are ids.
 abbrev pub SideInGrammar : RightSide Name → Type 0
 SideInGrammar any = Unit {0}
-SideInGrammar (value e) = ExpressionInGrammar e
+SideInGrammar (value expression) = ExpressionInGrammar expression
 
 -- The names of a statement are ids, and an assignment has a target and a right side at least.
 abbrev pub SimpleInGrammar : Simple Name Name Name → Type 0
 SimpleInGrammar skip = Unit {0}
 SimpleInGrammar (assign xs rs) = (0 < length xs) × AreIds xs × (0 < length rs) × AllByRecursion SideInGrammar rs
-SimpleInGrammar (assert r) = SideInGrammar r
-SimpleInGrammar (assume r) = SideInGrammar r
-SimpleInGrammar (goto l) = IsId l
+SimpleInGrammar (assert side) = SideInGrammar side
+SimpleInGrammar (assume side) = SideInGrammar side
+SimpleInGrammar (goto label) = IsId label
 SimpleInGrammar leave = Unit {0}
-SimpleInGrammar (call p es) = IsId p × AllByRecursion ExpressionInGrammar es
+SimpleInGrammar (call callee es) = IsId callee × AllByRecursion ExpressionInGrammar es
 
 -- A label is an id.
 abbrev pub LabelInGrammar : Option Name → Type 0
 LabelInGrammar None = Unit {0}
-LabelInGrammar (Some l) = IsId l
+LabelInGrammar (Some label) = IsId label
 
 -- The labels and the statements of a block are of the grammar, and a branch of an `if` and the body of a `while` have a
 -- statement at least.
 abbrev pub BlockInGrammar : Block Name Name Name → Type 0
 BlockInGrammar done = Unit {0}
-BlockInGrammar (one m s k) = LabelInGrammar m.label × SimpleInGrammar s × BlockInGrammar k
-BlockInGrammar (choose m r a b k) = LabelInGrammar m.label × SideInGrammar r × IsSome a × BlockInGrammar a × IsSome b × BlockInGrammar b
-    × BlockInGrammar k
-BlockInGrammar (loop m r a k) = LabelInGrammar m.label × SideInGrammar r × IsSome a × BlockInGrammar a × BlockInGrammar k
+BlockInGrammar (one mark statement rest) = LabelInGrammar mark.label × SimpleInGrammar statement × BlockInGrammar rest
+BlockInGrammar (choose mark side if_true if_false rest) = LabelInGrammar mark.label × SideInGrammar side × IsSome if_true
+    × BlockInGrammar if_true × IsSome if_false × BlockInGrammar if_false
+    × BlockInGrammar rest
+BlockInGrammar (loop mark side body rest) = LabelInGrammar mark.label × SideInGrammar side × IsSome body × BlockInGrammar body
+    × BlockInGrammar rest
 
 -- The names of a procedure are ids, and its body has a statement at least.
-pub record ProcedureInGrammar (p : Procedure) : Type 0 where
-  pub name : IsId p.name
-  pub formals : AreIds p.formals
-  pub locals : AreIds p.locals
-  pub some : IsSome p.body
-  pub body : BlockInGrammar p.body
+pub record ProcedureInGrammar (procedure : Procedure) : Type 0 where
+  pub name : IsId procedure.name
+  pub formals : AreIds procedure.formals
+  pub locals : AreIds procedure.locals
+  pub some : IsSome procedure.body
+  pub body : BlockInGrammar procedure.body
 
 -- A thread line names an id.
 abbrev pub ThreadInGrammar : ThreadLine → Type 0
-ThreadInGrammar t = IsId t.name
+ThreadInGrammar line = IsId line.name
 
 -- A tree is one of the grammar where its names are ids, it has a procedure and a thread line at least, and its parts
 -- are of the grammar.
-pub record InGrammar (t : Tree) : Type 0 where
-  pub globals : AreIds t.globals
-  pub some_procedure : 0 < length t.procedures
-  pub procedures : AllByRecursion ProcedureInGrammar t.procedures
-  pub some_thread : 0 < length t.threads
-  pub threads : AllByRecursion ThreadInGrammar t.threads
+pub record InGrammar (tree : Tree) : Type 0 where
+  pub globals : AreIds tree.globals
+  pub some_procedure : 0 < length tree.procedures
+  pub procedures : AllByRecursion ProcedureInGrammar tree.procedures
+  pub some_thread : 0 < length tree.threads
+  pub threads : AllByRecursion ThreadInGrammar tree.threads
 
 -- The bytes are within the limits of texts: at most 65,536 (`most_bytes`), and not cut into tokens that are too deep.
 pub record WithinLimits (bytes : List ℕ) : Type 0 where
@@ -81,4 +83,4 @@ pub record WithinLimits (bytes : List ℕ) : Type 0 where
 
 -- The bytes are the text of a program with this tree, offsets aside.
 abbrev pub IsTextOf : List ℕ → Tree → Type 0
-IsTextOf bytes t = (read : Tree) × Text bytes read × SameButOffsets read t
+IsTextOf bytes tree = (read : Tree) × Text bytes read × SameButOffsets read tree

@@ -19,17 +19,17 @@ refuse ts = None
 infixl 10 ◌>>=◌
 -- one after the other
 abbrev pub ◌>>=◌ : {X Y : Type 0} → Parser X → (X → Parser Y) → Parser Y
-(p >>= f) ts = option_and_then (λ q. f q.0 q.1) (p ts)
+(parser >>= f) ts = option_and_then (λ q. f q.0 q.1) (parser ts)
 
 -- whether a token of this kind comes next
 abbrev pub begins : Kind → List Tok → Bool
-begins k [] = false
-begins k (t ∷ ts) = same_kind t.kind k
+begins token_kind [] = false
+begins token_kind (token ∷ tokens) = same_kind token.kind token_kind
 
 -- one token of this kind
 abbrev pub take : Kind → Parser Tok
-take k [] = None
-take k (t ∷ ts) = cond (same_kind t.kind k) (Some (t, ts)) None
+take token_kind [] = None
+take token_kind (token ∷ tokens) = cond (same_kind token.kind token_kind) (Some (token, tokens)) None
 
 -- a recursion that may go n levels deep
 unfoldable pub run : {I X : Type 0} → ((I → Parser X) → I → Parser X) → ℕ → I → Parser X
@@ -40,13 +40,13 @@ run step (suc n) i ts = step (run step n) i ts
 unfoldable pub fix : {I X : Type 0} → ((I → Parser X) → I → Parser X) → I → Parser X
 fix step i ts = run step (suc (length ts)) i ts
 
--- p again and again, while the test holds of the tokens
+-- this again and again, while the test holds of the tokens
 abbrev pub many_step : {X : Type 0} → (List Tok → Bool) → Parser X → (Unit {0} → Parser (List X)) → Unit {0} → Parser (List X)
-many_step test p rec u ts = cond (test ts) ((p >>= λ x. rec u >>= λ xs. give (x ∷ xs)) ts) (Some ([], ts))
+many_step test parser rec u ts = cond (test ts) ((parser >>= λ x. rec u >>= λ xs. give (x ∷ xs)) ts) (Some ([], ts))
 
 unfoldable pub many : {X : Type 0} → (List Tok → Bool) → Parser X → Parser (List X)
-many test p = fix (many_step test p) tt
+many test parser = fix (many_step test parser) tt
 
 -- what is left is shorter than what was given
-pub record Strict {X : Type 0} (p : Parser X) : Type 0 where
-  pub by : (ts : List Tok) (x : X) (rest : List Tok) → p ts ≡ Some (x, rest) → length rest < length ts
+pub record Strict {X : Type 0} (parser : Parser X) : Type 0 where
+  pub by : (ts : List Tok) (x : X) (rest : List Tok) → parser ts ≡ Some (x, rest) → length rest < length ts

@@ -16,7 +16,7 @@ Prints result old new parts = IfOk result (λ _. string_bytes new ≡ string_byt
 
 -- A name is printed as it is.
 abbrev pub name_parts : Name → List Part
-name_parts n = shown kind.Id n.text ∷ []
+name_parts name = shown kind.Id name.text ∷ []
 
 -- What stands in parentheses.
 abbrev pub in_parens : List Part → List Part
@@ -43,26 +43,26 @@ kind_of differs = kind.Differs
 
 -- A two-sided operator stands between its operands, with one space on both sides.
 abbrev pub operation : Operator → List Part → List Part → List Part
-operation o a b = a ++ (space ∷ fixed (kind_of o) ∷ space ∷ b)
+operation operator left right = left ++ (space ∷ fixed (kind_of operator) ∷ space ∷ right)
 
 -- An operand is a constant, a name, `!` followed at once by its operand, or a two-sided operation in parentheses.
 abbrev pub operand_parts : Expression Name → List Part
-operand_parts (const b) = fixed (cond b kind.One kind.Zero) ∷ []
-operand_parts (var x) = name_parts x
-operand_parts (negation e) = fixed kind.Not ∷ operand_parts e
-operand_parts (two o a b) = in_parens (operation o (operand_parts a) (operand_parts b))
+operand_parts (const truth) = fixed (cond truth kind.One kind.Zero) ∷ []
+operand_parts (var variable) = name_parts variable
+operand_parts (negation expression) = fixed kind.Not ∷ operand_parts expression
+operand_parts (two operator left right) = in_parens (operation operator (operand_parts left) (operand_parts right))
 
 -- An expression is printed as an operand is, but a two-sided operation without parentheses around it.
 abbrev pub expression_parts : Expression Name → List Part
-expression_parts (const b) = operand_parts (const b)
-expression_parts (var x) = operand_parts (var x)
-expression_parts (negation e) = operand_parts (negation e)
-expression_parts (two o a b) = operation o (operand_parts a) (operand_parts b)
+expression_parts (const truth) = operand_parts (const truth)
+expression_parts (var variable) = operand_parts (var variable)
+expression_parts (negation expression) = operand_parts (negation expression)
+expression_parts (two operator left right) = operation operator (operand_parts left) (operand_parts right)
 
 -- A right side is `?` or an expression.
 abbrev pub side_parts : RightSide Name → List Part
 side_parts any = fixed kind.Any ∷ []
-side_parts (value e) = expression_parts e
+side_parts (value expression) = expression_parts expression
 
 -- What a semicolon ends.
 abbrev pub ended : List Part → List Part
@@ -72,16 +72,16 @@ ended parts = parts ++ (fixed kind.Semicolon ∷ [])
 abbrev pub simple_parts : Simple Name Name Name → List Part
 simple_parts skip = ended (fixed kind.Skip ∷ [])
 simple_parts (assign xs rs) = ended (separated name_parts xs ++ (space ∷ fixed kind.Assign ∷ space ∷ separated side_parts rs))
-simple_parts (assert r) = ended (fixed kind.Assert ∷ in_parens (side_parts r))
-simple_parts (assume r) = ended (fixed kind.Assume ∷ in_parens (side_parts r))
-simple_parts (goto l) = ended (fixed kind.Goto ∷ space ∷ name_parts l)
+simple_parts (assert side) = ended (fixed kind.Assert ∷ in_parens (side_parts side))
+simple_parts (assume side) = ended (fixed kind.Assume ∷ in_parens (side_parts side))
+simple_parts (goto label) = ended (fixed kind.Goto ∷ space ∷ name_parts label)
 simple_parts leave = ended (fixed kind.Return ∷ [])
-simple_parts (call p es) = ended (name_parts p ++ in_parens (separated expression_parts es))
+simple_parts (call callee es) = ended (name_parts callee ++ in_parens (separated expression_parts es))
 
 -- The statement's first line begins with its label, a colon and a space, where it has a label.
 abbrev pub label_parts : Option Name → List Part
 label_parts None = []
-label_parts (Some l) = name_parts l ++ (fixed kind.Colon ∷ space ∷ [])
+label_parts (Some label) = name_parts label ++ (fixed kind.Colon ∷ space ∷ [])
 
 -- Two spaces for each level.
 abbrev pub margin : ℕ → List Part
@@ -94,41 +94,42 @@ line_of level parts = margin level ++ (parts ++ (line ∷ []))
 
 -- A test stands between its keywords, in parentheses, with a space on both sides of them.
 abbrev pub test_parts : Kind → RightSide Name → Kind → List Part
-test_parts first r last = fixed first ∷ space ∷ (in_parens (side_parts r) ++ (space ∷ fixed last ∷ []))
+test_parts first side last = fixed first ∷ space ∷ (in_parens (side_parts side) ++ (space ∷ fixed last ∷ []))
 
 -- The statements of a block, each on a line of its own; `if (r) then`, `else`, `fi`, `while (r) do` and `od` stand on
 -- lines of their own, and what they enclose is one level further in.
 abbrev pub block_parts : ℕ → Block Name Name Name → List Part
 block_parts level done = []
-block_parts level (one m s k) = line_of level (label_parts m.label ++ simple_parts s) ++ block_parts level k
-block_parts level (choose m r a b k) =
-    line_of level (label_parts m.label ++ test_parts kind.If r kind.Then) ++ (block_parts (suc level) a
-    ++ (line_of level (fixed kind.Else ∷ []) ++ (block_parts (suc level) b
-    ++ (line_of level (fixed kind.Fi ∷ []) ++ block_parts level k))))
-block_parts level (loop m r a k) =
-    line_of level (label_parts m.label ++ test_parts kind.While r kind.Do) ++ (block_parts (suc level) a
-    ++ (line_of level (fixed kind.Od ∷ []) ++ block_parts level k))
+block_parts level (one mark statement rest) = line_of level (label_parts mark.label ++ simple_parts statement) ++ block_parts level rest
+block_parts level (choose mark side if_true if_false rest) =
+    line_of level (label_parts mark.label ++ test_parts kind.If side kind.Then) ++ (block_parts (suc level) if_true
+    ++ (line_of level (fixed kind.Else ∷ []) ++ (block_parts (suc level) if_false
+    ++ (line_of level (fixed kind.Fi ∷ []) ++ block_parts level rest))))
+block_parts level (loop mark side body rest) =
+    line_of level (label_parts mark.label ++ test_parts kind.While side kind.Do) ++ (block_parts (suc level) body
+    ++ (line_of level (fixed kind.Od ∷ []) ++ block_parts level rest))
 
 -- All names declared in one place are on one line, if there are any.
 abbrev pub declaration_parts : ℕ → List Name → List Part
 declaration_parts level [] = []
-declaration_parts level (n ∷ ns) = line_of level (ended (fixed kind.Decl ∷ space ∷ separated name_parts (n ∷ ns)))
+declaration_parts level (name ∷ names) = line_of level (ended (fixed kind.Decl ∷ space ∷ separated name_parts (name ∷ names)))
 
 -- A procedure is its name with its formals in parentheses, `begin`, its locals and its statements one level further
 -- in, and `end`.
 abbrev pub procedure_parts : Procedure → List Part
-procedure_parts p =
-    line_of 0 (name_parts p.name ++ in_parens (separated name_parts p.formals)) ++ (line_of 0 (fixed kind.Begin ∷ [])
-    ++ (declaration_parts 1 p.locals ++ (block_parts 1 p.body ++ line_of 0 (fixed kind.End ∷ []))))
+procedure_parts procedure =
+    line_of 0 (name_parts procedure.name ++ in_parens (separated name_parts procedure.formals)) ++ (line_of 0 (fixed kind.Begin ∷ [])
+    ++ (declaration_parts 1 procedure.locals ++ (block_parts 1 procedure.body ++ line_of 0 (fixed kind.End ∷ []))))
 
 -- A thread line.
 abbrev pub thread_parts : ThreadLine → List Part
-thread_parts t = line_of 0 (ended (fixed kind.Thread ∷ space ∷ name_parts t.name))
+thread_parts thread_line = line_of 0 (ended (fixed kind.Thread ∷ space ∷ name_parts thread_line.name))
 
 -- The declaration of all globals, the procedures, and a line for each thread.
 abbrev pub program_parts : Tree → List Part
-program_parts t = declaration_parts 0 t.globals ++ (joined (map procedure_parts t.procedures) ++ joined (map thread_parts t.threads))
+program_parts tree =
+    declaration_parts 0 tree.globals ++ (joined (map procedure_parts tree.procedures) ++ joined (map thread_parts tree.threads))
 
 -- The text that is printed for a tree.
 unfoldable pub printed : Tree → List ℕ
-printed t = text_of (program_parts t)
+printed tree = text_of (program_parts tree)

@@ -7,9 +7,9 @@ use Rattle.syntax.specs.Printed.{simple_parts, test_parts, block_parts, line_of}
 
 -- What a statement prints behind its margin and its label.
 abbrev pub deed_parts : ℕ → Deed → List Part
-deed_parts level (simple s) = simple_parts s ++ (line ∷ [])
-deed_parts level (branch r a b) =
-    test_parts kind.If r kind.Then ++ (line ∷ (block_parts (suc level) a
-    ++ (line_of level (fixed kind.Else ∷ []) ++ (block_parts (suc level) b ++ line_of level (fixed kind.Fi ∷ [])))))
-deed_parts level (repeat r a) =
-    test_parts kind.While r kind.Do ++ (line ∷ (block_parts (suc level) a ++ line_of level (fixed kind.Od ∷ [])))
+deed_parts level (simple statement) = simple_parts statement ++ (line ∷ [])
+deed_parts level (branch side if_true if_false) =
+    test_parts kind.If side kind.Then ++ (line ∷ (block_parts (suc level) if_true
+    ++ (line_of level (fixed kind.Else ∷ []) ++ (block_parts (suc level) if_false ++ line_of level (fixed kind.Fi ∷ [])))))
+deed_parts level (repeat side body) =
+    test_parts kind.While side kind.Do ++ (line ∷ (block_parts (suc level) body ++ line_of level (fixed kind.Od ∷ [])))

@@ -25,47 +25,55 @@ module _ {T : Type 0} where
   -- the hand has drawn a ticket that is above all that it drew and has, and not below the number of values left that it
   -- has seen
   abbrev pub DrawsTicket : ℕ → Hand T → Hand T → Type 0
-  DrawsTicket n h h' = (h' ≡ with_ticket n h) × (length h.seen ≤ n + 1) × ((k : ℕ) → n ≤ k → (times k h.drawn ≡ 0) × (in_hand k h ≡ 0))
+  DrawsTicket ticket before after = (after ≡ with_ticket ticket before) × (length before.seen ≤ ticket + 1)
+      × ((k : ℕ) → ticket ≤ k → (times k before.drawn ≡ 0) × (in_hand k before ≡ 0))
 
   -- the hand, which was outside, is inside with one of its tickets, at a history with as many values left as the ticket
-  -- says, which begins with all that it had seen and ends in x
+  -- says, which begins with all that it had seen and ends in the value
   abbrev pub Enters : ℕ → T → Hand T → Hand T → Type 0
-  Enters n x h h' = (h' ≡ with_entry n h'.seen h) × (h.inside ≡ []) × (length h'.seen ≡ n + 1) × StartsWith h'.seen h.seen
-      × EndsIn h'.seen x
+  Enters ticket value before after = (after ≡ with_entry ticket after.seen before) × (before.inside ≡ [])
+      × (length after.seen ≡ ticket + 1) × StartsWith after.seen before.seen
+      × EndsIn after.seen value
 
 module _ {T V : Type 0} (see : V → Hand T) (tells : Kind T → V → V → Type 0) where
   -- a draw: the slots that the seat holds stay
   abbrev pub Drew : Me (Option T) V → ℕ → Me (Option T) V → Type 0
-  Drew m n m' = (m'.1 ≡ m.1) × DrawsTicket n (see m.0) (see m'.0) × tells draws m.0 m'.0
+  Drew before ticket after = (after.1 ≡ before.1) × DrawsTicket ticket (see before.0) (see after.0) × tells draws before.0 after.0
 
   -- a look too early: nothing changes, and fewer values are left than the ticket says
   abbrev pub Waited : ℕ → Me (Option T) V → Me (Option T) V → Type 0
-  Waited ticket m m' = (m'.1 ≡ m.1) × (see m'.0 ≡ see m.0) × (length (see m.0).seen ≤ ticket) × tells waits m.0 m'.0
+  Waited ticket before after = (after.1 ≡ before.1) × (see after.0 ≡ see before.0) × (length (see before.0).seen ≤ ticket)
+      × tells waits before.0 after.0
 
-  -- a look in turn: the seat is inside and holds the slot, with y in it
+  -- a look in turn: the seat is inside and holds the slot, with the answer in it
   abbrev pub WentInside : ℕ → ℕ → T → Option T → Me (Option T) V → Me (Option T) V → Type 0
-  WentInside slot ticket x y m m' = (m'.1 ≡ (slot, y) ∷ m.1) × Enters ticket x (see m.0) (see m'.0) × tells (enters x) m.0 m'.0
+  WentInside slot ticket value answer before after = (after.1 ≡ (slot, answer) ∷ before.1)
+      × Enters ticket value (see before.0) (see after.0) × tells (enters value) before.0 after.0
 
   -- a look at the count, which is the ticket where it is this ticket's turn
   abbrev pub Loaded : ℕ → ℕ → Me (Option T) V → ℕ → Me (Option T) V → Type 0
-  Loaded slot ticket m n m' = (n ≡ ticket → (x : T) × WentInside slot ticket x (Some x) m m') × (n ≢ ticket → Waited ticket m m')
+  Loaded slot ticket before number after = (number ≡ ticket → (x : T) × WentInside slot ticket x (Some x) before after)
+      × (number ≢ ticket → Waited ticket before after)
 
   -- a look, which takes the value out where it is this ticket's turn
   abbrev pub LookedAtTurn : ℕ → ℕ → Me (Option T) V → Option T → Me (Option T) V → Type 0
-  LookedAtTurn slot ticket m r m' = MatchOption r (Waited ticket m m') (λ x. WentInside slot ticket x None m m')
+  LookedAtTurn slot ticket before answer after =
+      MatchOption answer (Waited ticket before after) (λ x. WentInside slot ticket x None before after)
 
-  -- the value y, which the seat held in the slot, is the last of the history now, and the seat is outside
+  -- the value, which the seat held in the slot, is the last of the history now, and the seat is outside
   abbrev pub Passed : ℕ → Me (Option T) V → Me (Option T) V → Type 0
-  Passed slot m m' = (x : T) × (y : T) × (m.1 ≡ (slot, Some y) ∷ rest m.1) × (m'.1 ≡ rest m.1) × EndsIn (see m.0).seen x
-      × (see m'.0 ≡ with_leave y (see m.0)) × tells (passes x y) m.0 m'.0
+  Passed slot before after = (x : T) × (y : T) × (before.1 ≡ (slot, Some y) ∷ rest before.1) × (after.1 ≡ rest before.1)
+      × EndsIn (see before.0).seen x
+      × (see after.0 ≡ with_leave y (see before.0)) × tells (passes x y) before.0 after.0
 
   -- a draw, and then a look in turn: the seat is inside with this ticket, and has the value out
   abbrev pub Came : ℕ → Me (Option T) V → ℕ → T → Me (Option T) V → Type 0
-  Came slot m ticket x m' = (d : Me (Option T) V) × Drew m ticket d × WentInside slot ticket x None d m'
+  Came slot before ticket value after = (d : Me (Option T) V) × Drew before ticket d × WentInside slot ticket value None d after
 
-  -- the value y was left after x, and the seat is outside
+  -- the value was left after the last, and the seat is outside
   abbrev pub Left : T → Me (Option T) V → Me (Option T) V → Type 0
-  Left y m m' = (m'.1 ≡ rest m.1) × (see m'.0 ≡ with_leave y (see m.0)) × ((x : T) × EndsIn (see m.0).seen x × tells (passes x y) m.0 m'.0)
+  Left added before after = (after.1 ≡ rest before.1) × (see after.0 ≡ with_leave added (see before.0))
+      × ((x : T) × EndsIn (see before.0).seen x × tells (passes x added) before.0 after.0)
 
 -- the lock asks nothing of who draws, looks or enters, and a look too early changes no view
 abbrev pub IsFree : {T V : Type 0} → (Kind T → V → Type 0) → (Kind T → V → V → Type 0) → Type 0

@@ -10,15 +10,15 @@ use Rattle.ticket_lock.specs.History.{StartsWith, EndsIn}
 module _ {T : Type 0} where
   -- how often a hand has the ticket, waiting or inside
   abbrev pub in_hand : ℕ → Hand T → ℕ
-  in_hand n h = times n h.tickets + times n h.inside
+  in_hand ticket hand = times ticket hand.tickets + times ticket hand.inside
 
   -- a hand has seen a beginning of the history, the whole of it while it is inside, where it is with the ticket that is
   -- served; it draws no more than its share, and nothing without one
-  pub record Fits (serving : ℕ) (log : List T) (h : Hand T) : Type 0 where
-    pub begins : StartsWith log h.seen
-    pub inside : (h.inside ≡ []) ⊎ ((h.inside ≡ serving ∷ []) × (h.seen ≡ log))
-    pub few : length h.drawn ≤ h.parts * 2 ^ 56
-    pub idle : h.parts ≡ 0 → (h.tickets ≡ []) × (h.inside ≡ [])
+  pub record Fits (serving : ℕ) (log : List T) (hand : Hand T) : Type 0 where
+    pub begins : StartsWith log hand.seen
+    pub inside : (hand.inside ≡ []) ⊎ ((hand.inside ≡ serving ∷ []) × (hand.seen ≡ log))
+    pub few : length hand.drawn ≤ hand.parts * 2 ^ 56
+    pub idle : hand.parts ≡ 0 → (hand.tickets ≡ []) × (hand.inside ≡ [])
 
   -- the history has the opening value and one value for each ticket served; each ticket from `serving` up to but not
   -- including `next` is in one hand, and no other ticket is;

@@ -41,34 +41,34 @@ IsLockTable id = (id.words ≡ 2) × (id.slots ≡ 1)
 module _ {T : Type 0} where
   -- how contracts see a lane
   abbrev pub standing : TableId → ℕ → ℕ → View T → Standing T
-  standing id number left v = record {
+  standing id number left view = record {
     lock = id;
     number = number;
     left = left;
-    seen = v.hand.seen;
-    tickets = v.hand.tickets;
-    inside = v.hand.inside;
-    drawn = v.hand.drawn;
-    own = map (λ p. p.1) v.own;
+    seen = view.hand.seen;
+    tickets = view.hand.tickets;
+    inside = view.hand.inside;
+    drawn = view.hand.drawn;
+    own = map (λ p. p.1) view.own;
   }
 
   -- a lane that has drawn nothing, and has seen the opening value
   abbrev pub fresh_lane : TableId → ℕ → T → ℕ → Standing T
-  fresh_lane id budget x number = record {
+  fresh_lane id budget value number = record {
     lock = id;
     number = number;
     left = budget;
-    seen = x ∷ [];
+    seen = value ∷ [];
     tickets = [];
     inside = [];
     drawn = [];
-    own = x ∷ [];
+    own = value ∷ [];
   }
 
   -- `count` such lanes, numbered from `first` on
   abbrev pub fresh_lanes : TableId → ℕ → T → ℕ → ℕ → List (Standing T)
-  fresh_lanes id budget x first zero = []
-  fresh_lanes id budget x first (suc count) = fresh_lane id budget x first ∷ fresh_lanes id budget x (suc first) count
+  fresh_lanes id budget value first zero = []
+  fresh_lanes id budget value first (suc count) = fresh_lane id budget value first ∷ fresh_lanes id budget value (suc first) count
 
   -- a lane has one number and one share, has taken in what it was told, draws within its share, and holds the slot just
   -- while it is inside

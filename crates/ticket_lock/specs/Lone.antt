@@ -17,16 +17,16 @@ module _ {T : Type 0} where
   IsStart key word slot = (word ≡ 0) × (slot ≡ 0)
 
   abbrev pub hand_of : ℕ → View T → Hand T
-  hand_of slot v = v.hand
+  hand_of slot view = view.hand
 
   -- the numbers of a view's lanes
   abbrev pub numbers : View T → List ℕ
-  numbers v = map (λ p. p.0) v.own
+  numbers view = map (λ p. p.0) view.own
 
-  -- `count` lanes, numbered from `first` on, each with the value x
+  -- `count` lanes, numbered from `first` on, each with this value
   abbrev pub lanes_from : ℕ → ℕ → T → List (ℕ × T)
-  lanes_from first zero x = []
-  lanes_from first (suc count) x = (first, x) ∷ lanes_from (suc first) count x
+  lanes_from first zero value = []
+  lanes_from first (suc count) value = (first, value) ∷ lanes_from (suc first) count value
 
   -- a hand that has seen this, and has nothing but its shares
   abbrev pub new_hand : List T → ℕ → Hand T
@@ -46,90 +46,95 @@ module _ {T : Type 0} where
 
   -- a view that has this many lanes, and has nothing to take in, no ticket and no guard
   abbrev pub IsWhole : ℕ → View T → Type 0
-  IsWhole lanes v = (v.told ≡ []) × (v.hand.tickets ≡ []) × (v.hand.inside ≡ []) × (length v.own ≡ lanes)
+  IsWhole lanes view = (view.told ≡ []) × (view.hand.tickets ≡ []) × (view.hand.inside ≡ []) × (length view.own ≡ lanes)
 
-  -- x is the last value of the history seen, which begins with the opening value and has one value more than tickets
+  -- the value is the last of the history seen, which begins with the opening value and has one value more than tickets
   -- were drawn; each ticket below the number of tickets was drawn once, and no other was
   abbrev pub Rests : T → View T → T → Type 0
-  Rests opening v x = EndsIn v.hand.seen x × StartsWith v.hand.seen (opening ∷ []) × (length v.hand.seen ≡ length v.hand.drawn + 1)
-      × ((n : ℕ) → n < length v.hand.drawn → times n v.hand.drawn ≡ 1) × ((n : ℕ) → length v.hand.drawn ≤ n → times n v.hand.drawn ≡ 0)
+  Rests opening view value = EndsIn view.hand.seen value × StartsWith view.hand.seen (opening ∷ [])
+      × (length view.hand.seen ≡ length view.hand.drawn + 1)
+      × ((n : ℕ) → n < length view.hand.drawn → times n view.hand.drawn ≡ 1)
+      × ((n : ℕ) → length view.hand.drawn ≤ n → times n view.hand.drawn ≡ 0)
 
   -- a view that has taken in what it was told
   abbrev pub taken_in : View T → View T
-  taken_in v = record v { hand = record v.hand { seen = longer v.hand.seen v.told }; told = [] }
+  taken_in view = record view { hand = record view.hand { seen = longer view.hand.seen view.told }; told = [] }
 
   -- the value has the part of each lane of the view as that lane left it
   abbrev pub KeepsParts : {Part : Type 0} → (ℕ → T → Part) → View T → T → Type 0
-  KeepsParts part v x = (k l : ℕ) (z : T) → get_elem? v.own k ≡ some (l, z) → part l x ≡ part l z
+  KeepsParts part view value = (k l : ℕ) (z : T) → get_elem? view.own k ≡ some (l, z) → part l value ≡ part l z
 
   -- a view that has all that two had, and was told what the second had seen
   abbrev pub merged : View T → View T → View T
-  merged v w = record {
+  merged one other = record {
     hand = record {
-      seen = v.hand.seen;
-      tickets = v.hand.tickets ++ w.hand.tickets;
-      inside = v.hand.inside ++ w.hand.inside;
-      drawn = v.hand.drawn ++ w.hand.drawn;
-      parts = v.hand.parts + w.hand.parts;
+      seen = one.hand.seen;
+      tickets = one.hand.tickets ++ other.hand.tickets;
+      inside = one.hand.inside ++ other.hand.inside;
+      drawn = one.hand.drawn ++ other.hand.drawn;
+      parts = one.hand.parts + other.hand.parts;
     };
-    told = w.hand.seen;
-    own = v.own ++ w.own;
+    told = other.hand.seen;
+    own = one.own ++ other.own;
   }
 
   -- what it has seen, and all of its lanes but the first
   abbrev pub less_one : View T → View T
-  less_one v = new_view v.hand.seen (drop 1 v.own)
+  less_one view = new_view view.hand.seen (drop 1 view.own)
 
   -- what it has seen, and the first of its lanes
   abbrev pub just_one : View T → View T
-  just_one v = new_view v.hand.seen (take 1 v.own)
+  just_one view = new_view view.hand.seen (take 1 view.own)
 
   -- what it has seen alone
   abbrev pub just_seen : View T → View T
-  just_seen v = new_view v.hand.seen []
+  just_seen view = new_view view.hand.seen []
 
 module _ {T Part : Type 0} (before : T → T → Type 0) (part : ℕ → T → Part) where
   -- a view's shares are its lanes; it was told a beginning of the history; and the last value of the history has the
   -- part of each of its lanes as that lane left it
-  pub record Knows (log : List T) (v : View T) : Type 0 where
-    pub shares : v.hand.parts ≡ length v.own
-    pub told : StartsWith log v.told
-    pub owns : (k l : ℕ) (x y : T) → get_elem? v.own k ≡ some (l, x) → EndsIn log y → part l y ≡ part l x
+  pub record Knows (log : List T) (view : View T) : Type 0 where
+    pub shares : view.hand.parts ≡ length view.own
+    pub told : StartsWith log view.told
+    pub owns : (k l : ℕ) (x y : T) → get_elem? view.own k ≡ some (l, x) → EndsIn log y → part l y ≡ part l x
 
   -- the lock's rule; the history begins with the opening value, and each value of it comes before the later ones; each
   -- lane is in one view at most, and all lanes are;
   -- some view with a lane has seen the whole history or was told it
-  pub record Lone (opening : T) (lanes : ℕ) (s : State (Option T) (View T)) : Type 0 where
+  pub record Lone (opening : T) (lanes : ℕ) (state : State (Option T) (View T)) : Type 0 where
     pub log : List T
-    pub kept : Kept 0 0 log s.words s.homes (map (hand_of 0) s.views)
+    pub kept : Kept 0 0 log state.words state.homes (map (hand_of 0) state.views)
     pub begun : StartsWith log (opening ∷ [])
     pub rising : IsRising before log
-    pub each_view : (j : ℕ) (v : View T) → get_elem? s.views j ≡ some v → Knows log v
-    pub whole : total (λ v. length v.own) s.views ≡ lanes
-    pub once : (l : ℕ) → total (λ v. times l (numbers v)) s.views ≤ 1
-    pub known : (j : ℕ) × (v : View T) × (get_elem? s.views j ≡ some v) × (0 < length v.own) × ((v.hand.seen ≡ log) ⊎ (v.told ≡ log))
+    pub each_view : (j : ℕ) (v : View T) → get_elem? state.views j ≡ some v → Knows log v
+    pub whole : total (λ v. length v.own) state.views ≡ lanes
+    pub once : (l : ℕ) → total (λ v. times l (numbers v)) state.views ≤ 1
+    pub known : (j : ℕ) × (v : View T) × (get_elem? state.views j ≡ some v) × (0 < length v.own) × ((v.hand.seen ≡ log) ⊎ (v.told ≡ log))
 
   -- of a value left it is asked that the value found comes before it, and that it has the parts of all lanes but the
   -- one that leaves as they were found
   abbrev pub MayBeLeft : ℕ → Kind T → View T → Type 0
-  MayBeLeft slot draws v = Unit {0}
-  MayBeLeft slot waits v = Unit {0}
-  MayBeLeft slot (enters x) v = Unit {0}
-  MayBeLeft slot (passes x y) v = before x y × ((l : ℕ) × (z : T) × (v.own ≡ (l, z) ∷ []) × ((k : ℕ) → k ≢ l → part k y ≡ part k x))
+  MayBeLeft slot draws view = Unit {0}
+  MayBeLeft slot waits view = Unit {0}
+  MayBeLeft slot (enters value) view = Unit {0}
+  MayBeLeft slot (passes value added) view = before value added
+      × ((l : ℕ) × (z : T) × (view.own ≡ (l, z) ∷ []) × ((k : ℕ) → k ≢ l → part k added ≡ part k value))
 
   -- a look in turn tells that the history rises, and that the value found has the lanes' parts as they left them; and a
   -- pass on that the value left is the one that its lane left last
   abbrev pub TellsHistory : ℕ → Kind T → View T → View T → Type 0
-  TellsHistory slot draws v w = (w.told ≡ v.told) × (w.own ≡ v.own)
-  TellsHistory slot waits v w = w ≡ v
-  TellsHistory slot (enters x) v w = (w.told ≡ v.told) × (w.own ≡ v.own) × IsRising before w.hand.seen
-      × ((k l : ℕ) (z : T) → get_elem? v.own k ≡ some (l, z) → part l x ≡ part l z)
-  TellsHistory slot (passes x y) v w = (w.told ≡ v.told) × ((l : ℕ) (z : T) → v.own ≡ (l, z) ∷ [] → w.own ≡ (l, y) ∷ [])
+  TellsHistory slot draws earlier later = (later.told ≡ earlier.told) × (later.own ≡ earlier.own)
+  TellsHistory slot waits earlier later = later ≡ earlier
+  TellsHistory slot (enters value) earlier later = (later.told ≡ earlier.told) × (later.own ≡ earlier.own) × IsRising before later.hand.seen
+      × ((k l : ℕ) (z : T) → get_elem? earlier.own k ≡ some (l, z) → part l value ≡ part l z)
+  TellsHistory slot (passes value added) earlier later = (later.told ≡ earlier.told)
+      × ((l : ℕ) (z : T) → earlier.own ≡ (l, z) ∷ [] → later.own ≡ (l, added) ∷ [])
 
   -- a load at which a view takes in what it was told; the last value of the lock's history has each of its lanes' parts
   -- as that lane left it, and what it has seen comes before that value
   abbrev pub TookIn : Me (Option T) (View T) → Me (Option T) (View T) → Type 0
-  TookIn m m' = (m' ≡ (taken_in m.0, m.1)) × StartsWith m'.0.hand.seen m.0.hand.seen × StartsWith m'.0.hand.seen m.0.told
-      × IsRising before m'.0.hand.seen
-      × ((k l : ℕ) (x : T) → get_elem? m.0.own k ≡ some (l, x)
-      → (y : T) × (part l y ≡ part l x) × ((z : T) → EndsIn m'.0.hand.seen z → before z y))
+  TookIn earlier later = (later ≡ (taken_in earlier.0, earlier.1)) × StartsWith later.0.hand.seen earlier.0.hand.seen
+      × StartsWith later.0.hand.seen earlier.0.told
+      × IsRising before later.0.hand.seen
+      × ((k l : ℕ) (x : T) → get_elem? earlier.0.own k ≡ some (l, x)
+      → (y : T) × (part l y ≡ part l x) × ((z : T) → EndsIn later.0.hand.seen z → before z y))

@@ -10,61 +10,69 @@ use Rattle.ticket_lock.specs.Lanes.{Standing, Held, Told}
 module _ {T : Type 0} where
   -- the lane has drawn this ticket, which is above all that it drew and all that it waits with, and not below the
   -- number of values left that it has seen; nothing else of the lane changes
-  pub record Drew (ticket : ℕ) (a b : Standing T) : Type 0 where
-    pub had : 0 < a.left
-    pub fresh : (k : ℕ) → ticket ≤ k → (times k a.drawn ≡ 0) × (times k a.tickets ≡ 0)
-    pub served : length a.seen ≤ ticket + 1
-    pub lane : b ≡ record a { left = a.left - 1; tickets = a.tickets ++ ticket ∷ []; drawn = a.drawn ++ ticket ∷ [] }
+  pub record Drew (ticket : ℕ) (before after : Standing T) : Type 0 where
+    pub had : 0 < before.left
+    pub fresh : (k : ℕ) → ticket ≤ k → (times k before.drawn ≡ 0) × (times k before.tickets ≡ 0)
+    pub served : length before.seen ≤ ticket + 1
+    pub lane : after
+        ≡ record before { left = before.left - 1; tickets = before.tickets ++ ticket ∷ []; drawn = before.drawn ++ ticket ∷ [] }
 
   -- the lane could not draw, since it has drawn all its tickets, and nothing changed
   abbrev pub LaneWasSpent : Standing T → Standing T → Type 0
-  LaneWasSpent a b = (a.left ≡ 0) × (b ≡ a)
+  LaneWasSpent before after = (before.left ≡ 0) × (after ≡ before)
 
   -- it is not yet this ticket's turn: the ticket comes back, the lane stays as it was, and has seen fewer values left
   -- than the ticket says
   abbrev pub CameBack : ℕ → ℕ → Standing T → Standing T → Type 0
-  CameBack ticket back a b = (back ≡ ticket) × (b ≡ a) × (length a.seen ≤ ticket)
+  CameBack ticket back before after = (back ≡ ticket) × (after ≡ before) × (length before.seen ≤ ticket)
 
   module _ {Part : Type 0} (before : T → T → Type 0) (part : ℕ → T → Part) where
     -- the guard of a ticket stands at a history with as many values left as the ticket says, which begins with all that
     -- its lane had seen. The guard finds the last value of it, which has the lane's own part as the lane left it. Each
     -- value of the history comes before the later ones
-    pub record GuardStands (ticket : ℕ) (guard : Held T) (a b : Standing T) : Type 0 where
+    pub record GuardStands (ticket : ℕ) (guard : Held T) (earlier after : Standing T) : Type 0 where
       pub number : guard.number ≡ ticket
-      pub turn : length b.seen ≡ ticket + 1
-      pub later : StartsWith b.seen a.seen
-      pub found : EndsIn b.seen guard.value
-      pub own : (x : T) → a.own ≡ x ∷ [] → part a.number guard.value ≡ part a.number x
-      pub rises : IsRising before b.seen
-      pub outside : a.inside ≡ []
+      pub turn : length after.seen ≡ ticket + 1
+      pub later : StartsWith after.seen earlier.seen
+      pub found : EndsIn after.seen guard.value
+      pub own : (x : T) → earlier.own ≡ x ∷ [] → part earlier.number guard.value ≡ part earlier.number x
+      pub rises : IsRising before after.seen
+      pub outside : earlier.inside ≡ []
 
     -- the lane is inside with one of its tickets; nothing else of it changes but what it has seen
     abbrev pub Served : ℕ → Held T → Standing T → Standing T → Type 0
-    Served ticket guard a b = GuardStands ticket guard a b
-        × (b ≡ record a { seen = b.seen; tickets = without ticket a.tickets; inside = ticket ∷ [] })
+    Served ticket guard earlier later = GuardStands ticket guard earlier later
+        × (later ≡ record earlier { seen = later.seen; tickets = without ticket earlier.tickets; inside = ticket ∷ [] })
 
     -- the lane has drawn the guard's ticket, as `draw` does, and is inside with it
-    pub record EnteredLock (guard : Held T) (a b : Standing T) : Type 0 where
-      pub had : 0 < a.left
-      pub fresh : (k : ℕ) → guard.number ≤ k → (times k a.drawn ≡ 0) × (times k a.tickets ≡ 0)
-      pub stands : GuardStands guard.number guard a b
-      pub lane : b ≡ record a { left = a.left - 1; drawn = a.drawn ++ guard.number ∷ []; seen = b.seen; inside = guard.number ∷ [] }
+    pub record EnteredLock (guard : Held T) (earlier later : Standing T) : Type 0 where
+      pub had : 0 < earlier.left
+      pub fresh : (k : ℕ) → guard.number ≤ k → (times k earlier.drawn ≡ 0) × (times k earlier.tickets ≡ 0)
+      pub stands : GuardStands guard.number guard earlier later
+      pub lane : later
+          ≡ record earlier {
+            left = earlier.left - 1;
+            drawn = earlier.drawn ++ guard.number ∷ [];
+            seen = later.seen;
+            inside = guard.number ∷ [];
+          }
 
     -- what a lane that is inside may leave: the last value that it has seen, which it found, comes before it, and it
     -- has the parts of all other lanes as they were found
-    pub record MayLeave (a : Standing T) (left : T) : Type 0 where
-      pub later : (x : T) → EndsIn a.seen x → before x left
-      pub apart : (x : T) → EndsIn a.seen x → (k : ℕ) → k ≢ a.number → part k left ≡ part k x
+    pub record MayLeave (standing : Standing T) (left : T) : Type 0 where
+      pub later : (x : T) → EndsIn standing.seen x → before x left
+      pub apart : (x : T) → EndsIn standing.seen x → (k : ℕ) → k ≢ standing.number → part k left ≡ part k x
 
     -- the lane has seen what it had seen and what the note tells, and what comes first of the two values that it had
     -- seen last and has seen last now, comes before;
     -- and what it has seen last comes before a value of the lock that has the lane's own part as the lane left it
-    pub record LearnedNote (note : Told T) (a b : Standing T) : Type 0 where
-      pub lane : b ≡ record a { seen = longer a.seen note.seen }
-      pub mine : StartsWith b.seen a.seen
-      pub theirs : StartsWith b.seen note.seen
-      pub rises : IsRising before b.seen
-      pub own : (x : T) → a.own ≡ x ∷ [] → (y : T) × (part a.number y ≡ part a.number x) × ((z : T) → EndsIn b.seen z → before z y)
+    pub record LearnedNote (note : Told T) (earlier later : Standing T) : Type 0 where
+      pub lane : later ≡ record earlier { seen = longer earlier.seen note.seen }
+      pub mine : StartsWith later.seen earlier.seen
+      pub theirs : StartsWith later.seen note.seen
+      pub rises : IsRising before later.seen
+      pub own : (x : T) → earlier.own ≡ x ∷ []
+          → (y : T) × (part earlier.number y ≡ part earlier.number x) × ((z : T) → EndsIn later.seen z → before z y)
 
   -- the value has each lane's own part as that lane left it
   abbrev pub KeepsOwn : {Part : Type 0} → (ℕ → T → Part) → List (Standing T) → T → Type 0
@@ -77,11 +85,11 @@ module _ {T : Type 0} where
 
   -- a lane of this lock with no ticket and no guard in hand
   abbrev pub IsIdle : TableId → Standing T → Type 0
-  IsIdle id x = (x.lock ≡ id) × (x.tickets ≡ []) × (x.inside ≡ [])
+  IsIdle id standing = (standing.lock ≡ id) × (standing.tickets ≡ []) × (standing.inside ≡ [])
 
   -- a lane of this lock that waits with one ticket, and has no guard
   abbrev pub IsWaiting : TableId → ℕ → Standing T → Type 0
-  IsWaiting id ticket x = (x.lock ≡ id) × (x.tickets ≡ ticket ∷ []) × (x.inside ≡ [])
+  IsWaiting id ticket standing = (standing.lock ≡ id) × (standing.tickets ≡ ticket ∷ []) × (standing.inside ≡ [])
 
   -- the value is the last one of the longest history that a lane has seen, of which the history of each other lane is a
   -- beginning; it begins with the opening value, and has one value more than tickets were drawn;
@@ -99,4 +107,4 @@ module _ {T : Type 0} where
 
   -- the lane has added the value to the history that it has seen, and is outside
   abbrev pub Left : T → Standing T → Standing T → Type 0
-  Left y a b = b ≡ record a { seen = a.seen ++ y ∷ []; inside = []; own = y ∷ [] }
+  Left added before after = after ≡ record before { seen = before.seen ++ added ∷ []; inside = []; own = added ∷ [] }

@@ -20,22 +20,23 @@ pub data Kind (T : Type 0) : Type 0 where
 module _ {T : Type 0} where
   -- the hand with one more ticket
   abbrev pub with_ticket : ℕ → Hand T → Hand T
-  with_ticket n h = record h { tickets = h.tickets ++ n ∷ []; drawn = h.drawn ++ n ∷ [] }
+  with_ticket ticket hand = record hand { tickets = hand.tickets ++ ticket ∷ []; drawn = hand.drawn ++ ticket ∷ [] }
 
   -- the hand inside, with one of its tickets, at this history
   abbrev pub with_entry : ℕ → List T → Hand T → Hand T
-  with_entry n log h = record h { tickets = without n h.tickets; inside = n ∷ []; seen = log }
+  with_entry ticket log hand = record hand { tickets = without ticket hand.tickets; inside = ticket ∷ []; seen = log }
 
   -- the hand outside again, where it has added a value to the history
   abbrev pub with_leave : T → Hand T → Hand T
-  with_leave y h = record h { inside = []; seen = h.seen ++ y ∷ [] }
+  with_leave added hand = record hand { inside = []; seen = hand.seen ++ added ∷ [] }
 
   -- what a step of this kind does to the history and to the hand that takes it
   abbrev pub Turns : Kind T → List T → List T → Hand T → Hand T → Type 0
-  Turns draws log log' h h' = (log' ≡ log) × ((n : ℕ) × (h' ≡ with_ticket n h))
-  Turns waits log log' h h' = (log' ≡ log) × (h' ≡ h)
-  Turns (enters x) log log' h h' = (log' ≡ log) × EndsIn log x × ((n : ℕ) × (h' ≡ with_entry n log h))
-  Turns (passes x y) log log' h h' = (log' ≡ log ++ y ∷ []) × EndsIn log x × (h.seen ≡ log) × (h' ≡ with_leave y h)
+  Turns draws log log' before after = (log' ≡ log) × ((n : ℕ) × (after ≡ with_ticket n before))
+  Turns waits log log' before after = (log' ≡ log) × (after ≡ before)
+  Turns (enters value) log log' before after = (log' ≡ log) × EndsIn log value × ((n : ℕ) × (after ≡ with_entry n log before))
+  Turns (passes value added) log log' before after = (log' ≡ log ++ added ∷ []) × EndsIn log value × (before.seen ≡ log)
+      × (after ≡ with_leave added before)
 
   -- the lock's rule, at a place of a table
   pub record Kept (word slot : ℕ) (log : List T) (words : List ℕ) (homes : List (maybe.Option (Option T)))
@@ -48,11 +49,12 @@ module _ {T V : Type 0} (holds : State (Option T) V → Type 0) (see : V → Han
   -- where a seat takes a step of the lock that keeps the lock's rule, and meets what the step asks, it has a new view
   -- with that hand which keeps the table's rule, and of which the step tells
   abbrev pub Follows : State (Option T) V → List T → ℕ → V → Type 0
-  Follows s log id v = (kind : Kind T) (i n : ℕ) (homes : List (maybe.Option (Option T))) (log' : List T) (h : Hand T)
-      → (i ≡ word) ⊎ (i ≡ word + 1) → length homes ≡ length s.homes → ((k : ℕ) → k ≢ slot → get_elem? homes k ≡ get_elem? s.homes k)
-      → Turns kind log log' (see v) h → Kept word slot log' (slice_set s.words i n) homes (slice_set (map see s.views) id h) → asks kind v
-      → (w : V) × (see w ≡ h) × holds record { words = slice_set s.words i n; homes = homes; views = slice_set s.views id w }
-      × tells kind v w
+  Follows state log id view = (kind : Kind T) (i n : ℕ) (homes : List (maybe.Option (Option T))) (log' : List T) (h : Hand T)
+      → (i ≡ word) ⊎ (i ≡ word + 1) → length homes ≡ length state.homes → ((k : ℕ) → k ≢ slot → get_elem? homes k ≡ get_elem? state.homes k)
+      → Turns kind log log' (see view) h → Kept word slot log' (slice_set state.words i n) homes (slice_set (map see state.views) id h)
+      → asks kind view
+      → (w : V) × (see w ≡ h) × holds record { words = slice_set state.words i n; homes = homes; views = slice_set state.views id w }
+      × tells kind view w
 
   -- the lock's rule holds wherever the table's does, and each step of the lock can be taken
   abbrev pub Opens : Type 0

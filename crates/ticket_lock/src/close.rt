@@ -7,7 +7,7 @@ ghost use Rattle.ticket_lock.specs.History.{IsRising};
 ghost use Rattle.ticket_lock.specs.Lanes.{IsLockTable};
 ghost use Rattle.ticket_lock.specs.Promises.{IsIdle, Closes, KeepsOwn, ComesLast};
 
-use crate::alone::{Arrives, Board, Merges, LoneSeat, TakesIn};
+use crate::alone::{Arrives, Board, LoneSeat, Merges, TakesIn};
 use crate::lane::Lane;
 use crate::law::LaneLaw;
 use crate::lock::TicketLock;

@@ -24,7 +24,7 @@ use Rattle.trees.specs.declared.tree.Program.{Program}
 
 -- a name: its bytes, and the offset of the first
 abbrev pub name_of : {A : Type 0} → Name A → tree.Name
-name_of n = record { text = string_bytes n.text; at = n.at }
+name_of name = record { text = string_bytes name.text; at = name.at }
 
 -- names, in order
 abbrev pub names_of : {A : Type 0} → List (Name A) → List tree.Name
@@ -41,10 +41,10 @@ operator_of op.Differs = differs
 
 -- one level of an expression, whose operands are trees already
 abbrev pub expr_step : {A : Type 0} → Expr-F A (Expression tree.Name) → Expression tree.Name
-expr_step (expr.Const b) = const b
-expr_step (expr.Var x) = var (name_of x)
-expr_step (expr.Not e) = negation e.value
-expr_step (expr.Two o a b) = two (operator_of o) a.value b.value
+expr_step (expr.Const truth) = const truth
+expr_step (expr.Var variable) = var (name_of variable)
+expr_step (expr.Not operand) = negation operand.value
+expr_step (expr.Two operator left right) = two (operator_of operator) left.value right.value
 
 -- an expression
 abbrev pub expr_of : {A : Type 0} → Expr A → Expression tree.Name
@@ -57,7 +57,7 @@ exprs_of es = map expr_of es
 -- a right side
 abbrev pub rhs_of : {A : Type 0} → Rhs A → RightSide tree.Name
 rhs_of rhs.Any = any
-rhs_of (rhs.Value e) = value (expr_of e)
+rhs_of (rhs.Value expression) = value (expr_of expression)
 
 -- right sides, in order
 abbrev pub rhss_of : {A : Type 0} → List (Rhs A) → List (RightSide tree.Name)
@@ -77,34 +77,34 @@ pub record Item : Type 0 where
 
 -- what a statement does, with its mark, put in front of the statements after it
 abbrev pub marked_before : Mark tree.Name → Deed → Block tree.Name tree.Name tree.Name → Block tree.Name tree.Name tree.Name
-marked_before m (simple s) k = one m s k
-marked_before m (branch r a b) k = choose m r a b k
-marked_before m (repeat r a) k = loop m r a k
+marked_before mark (simple statement) rest = one mark statement rest
+marked_before mark (branch side if_true if_false) rest = choose mark side if_true if_false rest
+marked_before mark (repeat side body) rest = loop mark side body rest
 
 -- the statement, put in front of those after it
 abbrev pub before : Item → Block tree.Name tree.Name tree.Name → Block tree.Name tree.Name tree.Name
-before i k = marked_before i.mark i.deed k
+before item rest = marked_before item.mark item.deed rest
 
 -- statements, in order, put in front of those after them
 abbrev pub all_before : List Item → Block tree.Name tree.Name tree.Name → Block tree.Name tree.Name tree.Name
-all_before [] k = k
-all_before (i ∷ is) k = before i (all_before is k)
+all_before [] rest = rest
+all_before (item ∷ items) rest = before item (all_before items rest)
 
 -- one level of what a statement does: the statements that it holds are trees already
 abbrev pub core_step : {A : Type 0} → Core-F A Deed Item → Deed
 core_step core.Skip = simple skip
 core_step (core.Assign xs rs) = simple (assign (names_of xs.items) (rhss_of rs.items))
-core_step (core.If r a b) = branch (rhs_of r) (all_before a.items done) (all_before b.items done)
-core_step (core.While r a) = repeat (rhs_of r) (all_before a.items done)
-core_step (core.Assert r) = simple (assert (rhs_of r))
-core_step (core.Assume r) = simple (assume (rhs_of r))
-core_step (core.Goto l) = simple (goto (name_of l))
+core_step (core.If side if_true if_false) = branch (rhs_of side) (all_before if_true.items done) (all_before if_false.items done)
+core_step (core.While side body) = repeat (rhs_of side) (all_before body.items done)
+core_step (core.Assert side) = simple (assert (rhs_of side))
+core_step (core.Assume side) = simple (assume (rhs_of side))
+core_step (core.Goto label) = simple (goto (name_of label))
 core_step core.Return = simple leave
-core_step (core.Call p es) = simple (call (name_of p) (exprs_of es.items))
+core_step (core.Call callee es) = simple (call (name_of callee) (exprs_of es.items))
 
 -- one level of a statement: its mark has its label, where it has one, and its offset
 abbrev pub stmt_step : {A : Type 0} → Stmt-F A Deed Item → Item
-stmt_step s = record { mark = record { label = option_map name_of s.label; at = s.at }; deed = s.core }
+stmt_step statement = record { mark = record { label = option_map name_of statement.label; at = statement.at }; deed = statement.core }
 
 -- what a statement does
 abbrev pub deed_of : {A : Type 0} → Core A → Deed
@@ -124,11 +124,11 @@ block_of ss = all_before (items_of ss) done
 
 -- a procedure
 abbrev pub proc_of : {A : Type 0} → Proc A → tree.Procedure
-proc_of p = record {
-  name = name_of p.name;
-  formals = names_of p.formals.items;
-  locals = names_of p.locals.items;
-  body = block_of p.body.items;
+proc_of procedure = record {
+  name = name_of procedure.name;
+  formals = names_of procedure.formals.items;
+  locals = names_of procedure.locals.items;
+  body = block_of procedure.body.items;
 }
 
 -- procedures, in order
@@ -137,7 +137,7 @@ procs_of ps = map proc_of ps
 
 -- a thread line
 abbrev pub thread_of : {A : Type 0} → Thread A → tree.ThreadLine
-thread_of t = record { at = t.at; name = name_of t.name }
+thread_of thread = record { at = thread.at; name = name_of thread.name }
 
 -- thread lines, in order
 abbrev pub threads_of : {A : Type 0} → List (Thread A) → List tree.ThreadLine
@@ -145,4 +145,8 @@ threads_of ts = map thread_of ts
 
 -- a program
 abbrev pub tree_of : {A : Type 0} → Program A → tree.Tree
-tree_of p = record { globals = names_of p.globals.items; procedures = procs_of p.procs.items; threads = threads_of p.threads.items }
+tree_of program = record {
+  globals = names_of program.globals.items;
+  procedures = procs_of program.procs.items;
+  threads = threads_of program.threads.items;
+}

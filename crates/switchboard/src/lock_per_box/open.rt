@@ -11,7 +11,7 @@ ghost use Rattle.switchboard.specs.PerBox.{IsBoardTable};
 
 use crate::lock_per_box::board::{BoxTable, LockPerBox};
 use crate::lock_per_box::knowing::Ground;
-use crate::lock_per_box::outstanding::{Boards, Deals, BoxSeat};
+use crate::lock_per_box::outstanding::{Boards, BoxSeat, Deals};
 use crate::lock_per_box::pass::BoxPass;
 use crate::lock_per_box::visiting::STRIDE;
 use crate::mail::Mail;
