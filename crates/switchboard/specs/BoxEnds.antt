@@ -48,18 +48,18 @@ module _ {M W : Type 0} where
     -- What is left of a board whose passes a seat has all: the longest order, whose parts are the histories; it is
     -- closed where no post is outstanding;
     -- and the maker of the first abort has made it.
-    pub record BoardEnds (ground : Ground M W) (view : View M W) (histories : List (List (Event M))) (closed : Bool) : Type 0 where
+    pub record BoardEnds (basis : Ground M W) (view : View M W) (histories : List (List (Event M))) (closed : Bool) : Type 0 where
       pub order : List (Entry M)
       pub first : Option Abort
       pub low : ℕ
-      pub sound : IsSound fits (state_of ground (record { order = order; aborted = first; knows = true }))
-      pub saw : Saw fits ground order first low view.seen
+      pub sound : IsSound fits (state_of basis (record { order = order; aborted = first; knows = true }))
+      pub saw : Saw fits basis order first low view.seen
       pub owns : (k : ℕ) (o : Own M) → get_elem? view.lanes k ≡ some o → own o.number order ≡ o.events
-      pub boards : (i : ℕ) (k : Ground M W) → get_elem? view.boards i ≡ some k → k ≡ ground
+      pub boards : (i : ℕ) (k : Ground M W) → get_elem? view.boards i ≡ some k → k ≡ basis
       pub once : (n : ℕ) → times n (numbers view) ≤ 1
       pub maker : (a : Abort) → first ≡ Some a
           → (k : ℕ) × (o : Own M) × (get_elem? view.lanes k ≡ some o) × (o.number ≡ a.by) × (o.made ≡ true)
-      pub count : length histories ≡ ground.boxes
+      pub count : length histories ≡ basis.boxes
       pub parts : (q : ℕ) (h : List (Event M)) → slice_get histories q ≡ Some h → h ≡ part q order
       pub close : IsTrue closed ↔ IsClosed order
       pub known : view.seen.knows ≡ true → closed ≡ true

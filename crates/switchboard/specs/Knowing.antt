@@ -91,11 +91,11 @@ module _ {M : Type 0} where
 module _ {M W : Type 0} where
   -- the state of a board of which this was seen
   abbrev pub state_of : Ground M W → Seen M → BoardState M W
-  state_of ground seen = record { world = ground.world.value; boxes = ground.boxes; order = seen.order; aborted = seen.aborted }
+  state_of basis seen = record { world = basis.world.value; boxes = basis.boxes; order = seen.order; aborted = seen.aborted }
 
   -- nothing but the opening post was seen
   abbrev pub first_seen : Ground M W → Seen M
-  first_seen ground = record { order = Posted ground.to ground.boxes ground.first 0 ∷ []; aborted = None; knows = false }
+  first_seen basis = record { order = Posted basis.to basis.boxes basis.first 0 ∷ []; aborted = None; knows = false }
 
 module _ {M W T : Type 0} where
   abbrev pub hand_at : ℕ → Knowing M W T → Hand T
@@ -138,11 +138,11 @@ module _ {M W T : Type 0} where
 
   -- a seat of so many passes, from this number on, which have seen nothing but the opening post
   abbrev pub first_view : Ground M W → ℕ → ℕ → Knowing M W T
-  first_view ground first count = record {
-    boards = ground ∷ [];
-    hands = bares ground.boxes count;
+  first_view basis first count = record {
+    boards = basis ∷ [];
+    hands = bares basis.boxes count;
     lanes = owns_from first count;
-    seen = first_seen ground;
+    seen = first_seen basis;
     told = unseen;
     owes = 0;
     budget = count * 2 ^ 56;

@@ -76,47 +76,47 @@ CanDraw hand = (hand.tickets ≡ []) × (hand.inside ≡ []) × (hand.parts ≡ 
 module _ {M W : Type 0} where
   -- the seat is one of the table, and the mailbox one of the board
   abbrev pub IsBoxOf : Ground M W → TableId → TableId → ℕ → Type 0
-  IsBoxOf ground id seat number = (seat ≡ id) × IsBoardTable id ground.boxes × (number < ground.boxes)
+  IsBoxOf basis id seat number = (seat ≡ id) × IsBoardTable id basis.boxes × (number < basis.boxes)
 
   -- a mailbox's history lies in its slot, and its lock has its words
   abbrev pub IsBox : Ground M W → ℕ → ℕ → Type 0
-  IsBox ground word slot = (word ≡ word_of slot) × (slot < ground.boxes)
+  IsBox basis word slot = (word ≡ word_of slot) × (slot < basis.boxes)
 
   module _ (fits : W → ℕ → M → Type 0) where
     -- What was seen is a beginning of the order, and sound, if it has an event; an abort that was seen is the first;
     -- who knows the close has seen the whole order, and no post is outstanding.
-    pub record Saw (ground : Ground M W) (order : List (Entry M)) (first : Option Abort) (low : ℕ) (seen : Seen M) : Type 0 where
+    pub record Saw (basis : Ground M W) (order : List (Entry M)) (first : Option Abort) (low : ℕ) (seen : Seen M) : Type 0 where
       pub begins : StartsWith order seen.order
-      pub sound : 0 < length seen.order → IsSound fits (state_of ground seen)
+      pub sound : 0 < length seen.order → IsSound fits (state_of basis seen)
       pub aborted : (a : Abort) → seen.aborted ≡ Some a → first ≡ Some a
       pub close : seen.knows ≡ true → (low ≡ 0) × (seen.order ≡ order)
 
     -- What holds of each seat: it has a share of each lock for each of its passes; each of its passes made just its own
     -- events of the order; without a pass it has none in the count.
-    pub record KnowsBoard (ground : Ground M W) (order : List (Entry M)) (first : Option Abort) (low : ℕ) (view : View M W) : Type 0 where
-      pub board : (i : ℕ) (k : Ground M W) → get_elem? view.boards i ≡ some k → k ≡ ground
-      pub saw : Saw ground order first low view.seen
-      pub told : Saw ground order first low view.told
+    pub record KnowsBoard (basis : Ground M W) (order : List (Entry M)) (first : Option Abort) (low : ℕ) (view : View M W) : Type 0 where
+      pub board : (i : ℕ) (k : Ground M W) → get_elem? view.boards i ≡ some k → k ≡ basis
+      pub saw : Saw basis order first low view.seen
+      pub told : Saw basis order first low view.told
       pub owns : (k : ℕ) (o : Own M) → get_elem? view.lanes k ≡ some o → own o.number order ≡ o.events
-      pub parts : (q : ℕ) → q < ground.boxes → (hand_at q view).parts ≡ length view.lanes
+      pub parts : (q : ℕ) → q < basis.boxes → (hand_at q view).parts ≡ length view.lanes
       pub idle : length view.lanes ≡ 0 → view.owes ≡ 0
 
     -- The rule: the longest order is sound, and begins with what each seat has seen; each lock stands at its part for
     -- the mailbox; the low bits of word 0 are the Posts without a Done, and what the seats have in the count beside
     -- them; each pass is in one seat, and all are; the maker of the first abort has made it.
-    pub record Rule (ground : Ground M W) (state : Boxes M W) : Type 0 where
+    pub record Rule (basis : Ground M W) (state : Boxes M W) : Type 0 where
       pub order : List (Entry M)
       pub first : Option Abort
       pub low : ℕ
-      pub sound : IsSound fits (state_of ground (record { order = order; aborted = first; knows = false }))
-      pub locks : (q : ℕ) → q < ground.boxes → LockStands q order state.words state.homes (map (hand_at q) state.views)
+      pub sound : IsSound fits (state_of basis (record { order = order; aborted = first; knows = false }))
+      pub locks : (q : ℕ) → q < basis.boxes → LockStands q order state.words state.homes (map (hand_at q) state.views)
       pub some_word : 0 < length state.words
       pub word : slice_index state.words 0 ≡ low + flag first
       pub count : low + completed order ≡ posted order + owed state.views
       pub few : low + postable state.views < 2 ^ 63
-      pub each : (j : ℕ) (v : View M W) → get_elem? state.views j ≡ some v → KnowsBoard ground order first low v
+      pub each : (j : ℕ) (v : View M W) → get_elem? state.views j ≡ some v → KnowsBoard basis order first low v
       pub once : (n : ℕ) → total (λ (v : View M W). times n (numbers v)) state.views ≤ 1
-      pub whole : total (λ (v : View M W). length v.lanes) state.views ≡ ground.boxes
+      pub whole : total (λ (v : View M W). length v.lanes) state.views ≡ basis.boxes
       pub maker : (a : Abort) → first ≡ Some a → 0 < total (makes a.by) state.views
 
     -- what a seat sees after a step goes on from what it had seen, and is sound; who knows the close has seen a closed
