@@ -11,19 +11,19 @@ use Rattle.gather.specs.declared.report.Report.{Report}
 
 -- whether the event is that a message was taken
 abbrev pub is_take : Event Due → Bool
-is_take (Post s m) = false
-is_take (Take s m) = true
-is_take (Done t) = false
+is_take (Post sender message) = false
+is_take (Take sender message) = true
+is_take (Done job) = false
 
 -- what is counted of a procedure by what it does as a whole and the history of its mailbox
 abbrev pub counted : Effect → List (Event Due) → Counts
-counted s history = record { entries = length s.entries; pairs = length s.pairs; taken = count_by is_take history }
+counted summary history = record { entries = length summary.entries; pairs = length summary.pairs; taken = count_by is_take history }
 
 -- what is counted of each procedure, by number
 abbrev pub counted_each : List Effect → List (List (Event Due)) → List Counts
 counted_each [] histories = []
-counted_each (s ∷ ss) [] = []
-counted_each (s ∷ ss) (history ∷ histories) = counted s history ∷ counted_each ss histories
+counted_each (summary ∷ summaries) [] = []
+counted_each (summary ∷ summaries) (history ∷ histories) = counted summary history ∷ counted_each summaries histories
 
 -- the line of an answer
 abbrev pub answer_line : Answer → List ℕ
@@ -39,11 +39,11 @@ module _ {H A : Type 0} where
   -- what comes behind the answer of a report, of procedures with these names: nothing, or, where it is asked for,
   -- their lines
   abbrev pub lines_behind : Bool → List (List ℕ) → Report H A → List ℕ
-  lines_behind false names r = []
-  lines_behind true names r = counts_lines names (counted_each r.summaries.procedures r.ledger.histories.items)
+  lines_behind false names report = []
+  lines_behind true names report = counts_lines names (counted_each report.summaries.procedures report.ledger.histories.items)
 
   -- The report has a summary and a mailbox for each of these procedures, of which there are at most 32.
-  pub record HasEach (names : List (List ℕ)) (r : Report H A) : Type 0 where
-    pub summaries : length r.summaries.procedures ≡ length names
-    pub mailboxes : length r.ledger.histories.items ≡ length names
+  pub record HasEach (names : List (List ℕ)) (report : Report H A) : Type 0 where
+    pub summaries : length report.summaries.procedures ≡ length names
+    pub mailboxes : length report.ledger.histories.items ≡ length names
     pub few : length names ≤ 32

@@ -24,13 +24,13 @@ pub record Counts : Type 0 where
 
 -- the numbers are those of a pair of procedure q
 abbrev pub IsPairOf : Program → ℕ → Pair → Type 0
-IsPairOf p q x = AreNumbersOfPair p q x.a x.b
+IsPairOf program procedure x = AreNumbersOfPair program procedure x.a x.b
 
 -- Procedure q is entered with so many valuations, it has so many pairs, and so many messages are due for it.
-pub record AreCountsOf (p : Program) (q : ℕ) (c : Counts) : Type 0 where
-  pub entries : AreSoMany (IsNumberOfEntry p q) c.entries
-  pub pairs : AreSoMany (IsPairOf p q) c.pairs
-  pub taken : AreSoMany (IsDueFor p q) c.taken
+pub record AreCountsOf (program : Program) (procedure : ℕ) (counts : Counts) : Type 0 where
+  pub entries : AreSoMany (IsNumberOfEntry program procedure) counts.entries
+  pub pairs : AreSoMany (IsPairOf program procedure) counts.pairs
+  pub taken : AreSoMany (IsDueFor program procedure) counts.taken
 
 -- the line of a procedure of this name, with so many entries, pairs and messages
 abbrev pub counts_line : List ℕ → ℕ → ℕ → ℕ → List ℕ
@@ -42,16 +42,16 @@ counts_line name entries pairs taken =
 abbrev pub counts_lines : List (List ℕ) → List Counts → List ℕ
 counts_lines [] cs = []
 counts_lines (name ∷ names) [] = []
-counts_lines (name ∷ names) (c ∷ cs) = counts_line name c.entries c.pairs c.taken ++ counts_lines names cs
+counts_lines (name ∷ names) (counts ∷ cs) = counts_line name counts.entries counts.pairs counts.taken ++ counts_lines names cs
 
 -- the names of the rewriting's procedures, by number: `main__`, and then those of the source
 abbrev pub names_of : Tree → List (List ℕ)
-names_of t = codes "main__" ∷ map (λ (p : Procedure). p.name.text) t.procedures
+names_of tree = codes "main__" ∷ map (λ (p : Procedure). p.name.text) tree.procedures
 
 -- The lines tell, for each procedure of the program's rewriting for so many rounds, in the order of their numbers, its
 -- name and what is counted of it.
-pub record TellCounts (rounds : ℕ) (t : Tree) (lines : List ℕ) : Type 0 where
+pub record TellCounts (rounds : ℕ) (tree : Tree) (lines : List ℕ) : Type 0 where
   pub counts : List Counts
-  pub each : length counts ≡ length (names_of t)
-  pub are : (q : ℕ) (c : Counts) → slice_get counts q ≡ Some c → AreCountsOf (sequential_for rounds t) q c
-  pub same : lines ≡ counts_lines (names_of t) counts
+  pub each : length counts ≡ length (names_of tree)
+  pub are : (q : ℕ) (c : Counts) → slice_get counts q ≡ Some c → AreCountsOf (sequential_for rounds tree) q c
+  pub same : lines ≡ counts_lines (names_of tree) counts

@@ -18,11 +18,11 @@ use Rattle.cli.specs.Verdict.{IsOver}
 
 -- The text is that of a checked tree, whose rewriting for so many rounds is too wide; and this is its first procedure
 -- that is.
-pub record IsWide (bytes : List ℕ) (rounds : ℕ) (t : Tree) (wide : Option Wide) : Type 0 where
-  pub of : Text bytes t
-  pub checked : IsChecked t
-  pub wider : IsNarrowFor rounds t → ⊥
-  pub first : IsFirstWideFor rounds t wide
+pub record IsWide (bytes : List ℕ) (rounds : ℕ) (tree : Tree) (wide : Option Wide) : Type 0 where
+  pub of : Text bytes tree
+  pub checked : IsChecked tree
+  pub wider : IsNarrowFor rounds tree → ⊥
+  pub first : IsFirstWideFor rounds tree wide
 
 -- The text is that of a checked tree, whose rewriting for so many rounds is not too wide.
 abbrev pub HasRewriting : List ℕ → ℕ → Type 0
@@ -62,8 +62,8 @@ RefusalStands bytes rounds limit Spent = HasWorkers bytes rounds limit
 -- A cause for which a program with this tree gets no verdict is told as this refusal: as the one of its name, and where
 -- the rewriting for so many rounds is too wide with the first procedure that is.
 abbrev pub IsToldAs : Tree → ℕ → NoVerdict → Refusal → Type 0
-IsToldAs t rounds cause.TooWide why = (wide : Option Wide) × IsFirstWideFor rounds t wide × (why ≡ TooWide wide)
-IsToldAs t rounds cause.Memory why = why ≡ Memory
-IsToldAs t rounds cause.EdgeLimit why = why ≡ EdgeLimit
-IsToldAs t rounds cause.NoWorker why = why ≡ NoWorker
-IsToldAs t rounds cause.Spent why = why ≡ Spent
+IsToldAs tree rounds cause.TooWide why = (wide : Option Wide) × IsFirstWideFor rounds tree wide × (why ≡ TooWide wide)
+IsToldAs tree rounds cause.Memory why = why ≡ Memory
+IsToldAs tree rounds cause.EdgeLimit why = why ≡ EdgeLimit
+IsToldAs tree rounds cause.NoWorker why = why ≡ NoWorker
+IsToldAs tree rounds cause.Spent why = why ≡ Spent

@@ -11,11 +11,11 @@ use Rattle.cli.specs.Counts.{TellCounts}
 
 -- Each procedure of the program's rewriting for so many rounds has at most `edges` path edges.
 abbrev pub IsWithinLimit : ℕ → ℕ → Tree → Type 0
-IsWithinLimit rounds edges t = (q : ℕ) → ¬ HasMoreEdges (sequential_for rounds t) q edges
+IsWithinLimit rounds edges tree = (q : ℕ) → ¬ HasMoreEdges (sequential_for rounds tree) q edges
 
 -- Some procedure of the program's rewriting for so many rounds has more than `edges` path edges.
 abbrev pub IsOverLimit : ℕ → ℕ → Tree → Type 0
-IsOverLimit rounds edges t = (q : ℕ) × HasMoreEdges (sequential_for rounds t) q edges
+IsOverLimit rounds edges tree = (q : ℕ) × HasMoreEdges (sequential_for rounds tree) q edges
 
 -- The text is that of a checked program, and some procedure of its rewriting has more path edges than the limit.
 abbrev pub IsOver : List ℕ → ℕ → ℕ → Type 0
@@ -23,20 +23,20 @@ IsOver text rounds edges = (t : Tree) × Text text t × IsChecked t × IsOverLim
 
 -- the text is that of this tree, in which no fault of scopes stands
 abbrev pub IsProgramOf : List ℕ → Tree → Type 0
-IsProgramOf text t = Text text t × IsChecked t
+IsProgramOf text tree = Text text tree × IsChecked tree
 
 -- what comes behind a verdict: nothing, or, where it is asked for, what is counted of each procedure
 abbrev pub ComesBehind : Bool → ℕ → Tree → List ℕ → Type 0
-ComesBehind false rounds t lines = lines ≡ []
-ComesBehind true rounds t lines = TellCounts rounds t lines
+ComesBehind false rounds tree lines = lines ≡ []
+ComesBehind true rounds tree lines = TellCounts rounds tree lines
 
 -- The reply is `unsafe` with status 1 where some run of at most so many rounds fails an assert, `safe` with status 0
 -- where none does, and behind it comes what is asked for.
 abbrev pub AnswersOn : Tree → ℕ → Bool → List ℕ → ℕ → Type 0
-AnswersOn t rounds stats bytes status =
-    (lines : List ℕ) × ComesBehind stats rounds t lines
-    × (((bytes ≡ codes "unsafe\n" ++ lines) × (status ≡ 1) × Unsafe (meaning_of t) rounds)
-    ⊎ ((bytes ≡ codes "safe\n" ++ lines) × (status ≡ 0) × ¬ Unsafe (meaning_of t) rounds))
+AnswersOn tree rounds stats bytes status =
+    (lines : List ℕ) × ComesBehind stats rounds tree lines
+    × (((bytes ≡ codes "unsafe\n" ++ lines) × (status ≡ 1) × Unsafe (meaning_of tree) rounds)
+    ⊎ ((bytes ≡ codes "safe\n" ++ lines) × (status ≡ 0) × ¬ Unsafe (meaning_of tree) rounds))
 
 -- The text is that of a checked program within the limit of path edges, and the reply is the answer on it.
 abbrev pub Answers : List ℕ → ℕ → ℕ → Bool → List ℕ → ℕ → Type 0

@@ -59,7 +59,7 @@ bebopk = with_subcommand (with_subcommand
 
 -- The command is the one written down, and it shares no option with commands below it.
 abbrev pub IsBuilt : App → Command → Type 0
-IsBuilt app c = (app_of c ≡ app) × ((fields_of c).has_globals ≡ false)
+IsBuilt app command = (app_of command ≡ app) × ((fields_of command).has_globals ≡ false)
 
 -- The value that was found for this option, given or by default, reads as the number.
 abbrev pub ReadsNumber : List Row → Text → ℕ → Type 0
@@ -105,13 +105,13 @@ pub record AskFor (words : List Text) (order : Order) (path : Text) : Type 0 whe
 
 -- What is said of this kind is no fault of the words.
 abbrev pub IsShown : ErrorKind → Type 0
-IsShown k = (k ≡ kind.DisplayHelp) ⊎ (k ≡ kind.DisplayVersion)
+IsShown error_kind = (error_kind ≡ kind.DisplayHelp) ⊎ (error_kind ≡ kind.DisplayVersion)
 
 -- An error of this kind is the fault.
 abbrev pub IsOfKind : ErrorKind → LineFault → Type 0
-IsOfKind k (Help text) = IsShown k × (k ≢ kind.OutOfMemory)
-IsOfKind k (Refused text) = ¬ IsShown k × (k ≢ kind.OutOfMemory)
-IsOfKind k Memory = ⊤
+IsOfKind error_kind (Help text) = IsShown error_kind × (error_kind ≢ kind.OutOfMemory)
+IsOfKind error_kind (Refused text) = ¬ IsShown error_kind × (error_kind ≢ kind.OutOfMemory)
+IsOfKind error_kind Memory = ⊤
 
 -- The command line does not take the words: help is asked for, or they have another fault. Memory may run out at any
 -- words.
