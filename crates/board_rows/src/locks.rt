@@ -92,7 +92,12 @@ fn finish<A: Allocator>(lock: Lock<A>, lanes: Vec<MarkLane<A>, A>) -> Marks<A>
 }
 
 // Draws a ticket, which has to have this number.
-fn draw<R: Abort, A: Allocator>(rt: &R, lock: &Lock<A>, lane: &mut MarkLane<A>, wanted: u64) -> Ticket
+fn draw<R: Abort, A: Allocator>(
+    rt: &R,
+    lock: &Lock<A>,
+    lane: &mut MarkLane<A>,
+    wanted: u64,
+) -> Ticket
     requires { IsIdle lock.now.id lane.old }
     ensures { IsWaiting lock.now.id result lane.new }
 {
@@ -262,7 +267,12 @@ fn a_refused_lock_hands_its_value_back(rt: HostRuntime) {
 }
 
 // Enters, adds a mark and leaves, `rounds` times.
-fn work<R: Wait>(rt: &R, lock: &Lock<Global>, mut lane: MarkLane<Global>, rounds: u64) -> MarkLane<Global>
+fn work<R: Wait>(
+    rt: &R,
+    lock: &Lock<Global>,
+    mut lane: MarkLane<Global>,
+    rounds: u64,
+) -> MarkLane<Global>
     requires { IsIdle lock.now.id lane }
     ensures { IsIdle lock.now.id result }
 {

@@ -126,10 +126,14 @@ where
     B::Heap: Clone,
     B::Pass: Drop,
     ensures board { B.mailboxes result.0 ≡ 4 }
-    ensures a { ((B.sight result.1).board ≡ B.identity result.0) × IsPassNumbered 0 4 (B.sight result.1) }
-    ensures b { ((B.sight result.2).board ≡ B.identity result.0) × IsPassNumbered 1 4 (B.sight result.2) }
-    ensures c { ((B.sight result.3).board ≡ B.identity result.0) × IsPassNumbered 2 4 (B.sight result.3) }
-    ensures d { ((B.sight result.4).board ≡ B.identity result.0) × IsPassNumbered 3 4 (B.sight result.4) }
+    ensures a { ((B.sight result.1).board ≡ B.identity result.0)
+        × IsPassNumbered 0 4 (B.sight result.1) }
+    ensures b { ((B.sight result.2).board ≡ B.identity result.0)
+        × IsPassNumbered 1 4 (B.sight result.2) }
+    ensures c { ((B.sight result.3).board ≡ B.identity result.0)
+        × IsPassNumbered 2 4 (B.sight result.3) }
+    ensures d { ((B.sight result.4).board ≡ B.identity result.0)
+        × IsPassNumbered 3 4 (B.sight result.4) }
 {
     let Ok((board, mut passes)) = B::open(alloc, &(), 4, 0, Letter(0)) else {
         panic!(rt; "no memory")
@@ -216,10 +220,14 @@ fn settle_four<R: Abort, B: Letters>(
 where
     B::Pass: Drop,
     requires board { B.mailboxes board ≡ 4 }
-    requires a { ((B.sight first.0).board ≡ B.identity board) × IsPassNumbered 0 4 (B.sight first.0) }
-    requires b { ((B.sight first.1).board ≡ B.identity board) × IsPassNumbered 1 4 (B.sight first.1) }
-    requires c { ((B.sight second.0).board ≡ B.identity board) × IsPassNumbered 2 4 (B.sight second.0) }
-    requires d { ((B.sight second.1).board ≡ B.identity board) × IsPassNumbered 3 4 (B.sight second.1) }
+    requires a { ((B.sight first.0).board ≡ B.identity board)
+        × IsPassNumbered 0 4 (B.sight first.0) }
+    requires b { ((B.sight first.1).board ≡ B.identity board)
+        × IsPassNumbered 1 4 (B.sight first.1) }
+    requires c { ((B.sight second.0).board ≡ B.identity board)
+        × IsPassNumbered 2 4 (B.sight second.0) }
+    requires d { ((B.sight second.1).board ≡ B.identity board)
+        × IsPassNumbered 3 4 (B.sight second.1) }
 {
     let (a, b) = first;
     let (c, d) = second;

@@ -40,7 +40,8 @@ where
     W: Stream,
     L: Stream,
     requires { O.IsAlwaysCallable opener }
-    ensures runs { RunsWords (FnOnceReturnsAt O.FnOnce opener) F.remaining (map string_bytes words.now)
+    ensures runs { RunsWords (FnOnceReturnsAt O.FnOnce opener) F.remaining
+        (map string_bytes words.now)
         (streams (W.held writer.old) (L.held log.old))
         (streams (W.held writer.new) (L.held log.new)) result }
     ensures answers { result ≤ 1

@@ -141,7 +141,8 @@ where
         × Serves [] order (R.remaining reader.old) (R.remaining reader.new)
         (streams (W.held writer.old) log.0) (streams (W.held writer.new) log.1) result }
     ensures answers { result ≤ 1
-        → (log : KnownStream × KnownStream) × Answered order (R.remaining reader.old) (R.remaining reader.new)
+        → (log : KnownStream × KnownStream)
+        × Answered order (R.remaining reader.old) (R.remaining reader.new)
         (streams (W.held writer.old) log.0) (streams (W.held writer.new) log.1) result }
     ensures status { result ≤ 3 }
 {

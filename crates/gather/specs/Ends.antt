@@ -19,7 +19,8 @@ use Rattle.procedure_worker.specs.declared.outcome.End.TheVariants.{Failed}
 use Rattle.procedure_worker.specs.declared.outcome.Outcome.{Outcome}
 use Rattle.procedure_worker.specs.Works.{Start, begun, IsPassOf, IsFresh, HasEnded}
 
--- The lane had no thread: its pass made no event, and aborted the board for that cause, unless another pass aborted it before.
+-- The lane had no thread: its pass made no event, and aborted the board for that cause, unless another pass aborted it
+-- before.
 pub record HadNoThread {G A S : Type 0} (b : Start G) (s : Sight Due (Graphs G)) (o : Outcome G A S) : Type 0 where
   pub pass : IsPassOf b s
   pub made : s.made ≡ true
@@ -59,8 +60,8 @@ module _ {G A S : Type 0} (members : S → List Triple) where
     pub ended : HaveEnded graphs limit board passes outcomes
     pub settled : Settles FitsIn (length (graphs_of graphs)) passes histories closed
 
--- The graphs are some program's, and the passes are those of all its procedures, by number, as a board gave them that the
--- starter's message opened.
+-- The graphs are some program's, and the passes are those of all its procedures, by number, as a board gave them that
+-- the starter's message opened.
 pub record IsCrew {G : Type 0} (graphs : Graphs G) (limit : EdgeLimit) (board : TableId)
     (passes : List (Sight Due (Graphs G))) : Type 0 where
   pub drawn : (p : Program) × AreDrawnFrom p (graphs_of graphs)

@@ -79,8 +79,8 @@ pub record IsLesser (one : Option NoVerdict) (other why : NoVerdict) : Type 0 wh
   pub below : rank_of why ≤ rank_of other
   pub least : (w : NoVerdict) → one ≡ Some w → rank_of why ≤ rank_of w
 
--- The summaries are those of the programs that the graphs are drawn from, where no procedure has more path edges than the limit,
--- the board is closed, and every worker has ended at the close.
+-- The summaries are those of the programs that the graphs are drawn from, where no procedure has more path edges than
+-- the limit, the board is closed, and every worker has ended at the close.
 pub record IsGathered {G : Type 0} (graphs : Graphs G) (most : ℕ) (closed : Bool) (ends : List End) (s : Effects) : Type 0 where
   pub shut : closed ≡ true
   pub ended : AllClosed ends

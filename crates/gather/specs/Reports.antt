@@ -27,15 +27,15 @@ use Rattle.gather.specs.Through.{AreThrough}
 abbrev pub posted_to : {M : Type 0} → List (Event M) → List M
 posted_to {M} h = map (λ (p : ℕ × M). p.1) (posts h)
 
--- the number of the sender of a message, where the starter has this number: an entry is sent by its caller, a summary by the
--- procedure that it is of
+-- the number of the sender of a message, where the starter has this number: an entry is sent by its caller, a summary
+-- by the procedure that it is of
 abbrev pub sender_of : ℕ → Due → ℕ
 sender_of starter (Entry Starter a) = starter
 sender_of starter (Entry (Proc c) a) = c
 sender_of starter (Summary s a b) = s
 
--- The messages posted are those that are due for procedure q, each once, and each was posted by its sender, where the starter's
--- number is that of the procedures.
+-- The messages posted are those that are due for procedure q, each once, and each was posted by its sender, where the
+-- starter's number is that of the procedures.
 pub record AreDueOnce (p : Program) (q : ℕ) (h : List (Event Due)) : Type 0 where
   pub once : NoneTwice (posted_to h)
   pub all : (k : NumberedMessage) → Member (due_of k) (posted_to h) ↔ IsNumberOf (IsDue p q) k
@@ -43,8 +43,8 @@ pub record AreDueOnce (p : Program) (q : ℕ) (h : List (Event Due)) : Type 0 wh
 
 -- What the workers of a sequential program have done and found. In each mailbox each message posted was taken once,
 -- each sender's in the order of posting, and nothing was posted after the close; the messages posted are those due
--- there, each once and by its sender; the summaries are exactly the entries and pairs of each procedure; and no procedure has more path
--- edges than `most`.
+-- there, each once and by its sender; the summaries are exactly the entries and pairs of each procedure; and no
+-- procedure has more path edges than `most`.
 pub record IsFound (p : Program) (most : ℕ) (histories : List (List (Event Due))) (s : Effects) : Type 0 where
   pub through : AreThrough (length p.routines) histories
   pub due : (q : ℕ) (h : List (Event Due)) → slice_get histories q ≡ Some h → AreDueOnce p q h
@@ -52,8 +52,8 @@ pub record IsFound (p : Program) (most : ℕ) (histories : List (List (Event Due
   pub few : (q : ℕ) → HasMoreEdges p q most → ⊥
 
 -- The report on a source for so many rounds: its workers have found what there is in its rewriting, and its board is
--- closed; the answer is `Unsafe`, and some pair of `main__` is bad, exactly where some run of at most so many rounds fails an
--- assert.
+-- closed; the answer is `Unsafe`, and some pair of `main__` is bad, exactly where some run of at most so many rounds
+-- fails an assert.
 pub record IsReport {H A : Type 0} (source : Tree) (rounds most : ℕ) (r : Report H A) : Type 0 where
   pub found : IsFound (sequential_for rounds source) most r.ledger.histories.items r.summaries
   pub closed : r.ledger.closed ≡ true
@@ -61,9 +61,9 @@ pub record IsReport {H A : Type 0} (source : Tree) (rounds most : ℕ) (r : Repo
   pub bad : SomePairBad r.summaries ↔ Unsafe (meaning_of source) rounds
   pub narrow : IsNarrowFor rounds source
 
--- What one thread finds of a source for so many rounds: the summaries are those of its rewriting, in which no procedure has
--- more path edges than `most`, and some pair of `main__` is bad exactly where some run of at most so many rounds fails an
--- assert.
+-- What one thread finds of a source for so many rounds: the summaries are those of its rewriting, in which no procedure
+-- has more path edges than `most`, and some pair of `main__` is bad exactly where some run of at most so many rounds
+-- fails an assert.
 pub record IsTabulated (source : Tree) (rounds most : ℕ) (s : Effects) : Type 0 where
   pub summaries : AreSummaries (sequential_for rounds source) s
   pub few : (q : ℕ) → HasMoreEdges (sequential_for rounds source) q most → ⊥

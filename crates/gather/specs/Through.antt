@@ -6,8 +6,8 @@ use Rattle.post_ledger.specs.History.{posts, takes}
 use Rattle.post_ledger.specs.Sides.{sent, taken}
 use Rattle.post_ledger.specs.Orders.{part, IsLawful, IsClosed}
 
--- The histories are the parts of one lawful order. In each mailbox the messages posted were taken, each once and in the order of
--- posting, and so were each sender's; and nothing was posted, or happened at all, after the close.
+-- The histories are the parts of one lawful order. In each mailbox the messages posted were taken, each once and in the
+-- order of posting, and so were each sender's; and nothing was posted, or happened at all, after the close.
 pub record AreThrough {M : Type 0} (boxes : ℕ) (histories : List (List (Event M))) : Type 0 where
   pub order : List (Entry M)
   pub lawful : IsLawful boxes order

@@ -29,7 +29,8 @@ fn lanes_of<'c, 'g, R: Wait, B: WorkBoard, S: WorkSet, K: Gate>(
 where
     B::Pass: Drop,
     requires { IsCrew graphs.now limit (B.identity board.now) (map B.sight passes.items) }
-    ensures { IfOk result (λ ls. AreLanes B.identity B.sight graphs.now limit (B.identity board.now) ls.items) }
+    ensures { IfOk result
+        (λ ls. AreLanes B.identity B.sight graphs.now limit (B.identity board.now) ls.items) }
 {
     let mut lanes = Vec::with_capacity(alloc, passes.len())?;
     for pass in passes {
@@ -49,9 +50,9 @@ where
     Ok(lanes)
 }
 
-/// Has a worker for each procedure, each in a thread of its own, until all have ended, and gives back each pass with its
-/// outcome, in the order of the mailboxes. Where a start is refused, the passes of that lane and of those behind it abort the
-/// board for that. An error is want of memory, before any thread was started.
+/// Has a worker for each procedure, each in a thread of its own, until all have ended, and gives back each pass with
+/// its outcome, in the order of the mailboxes. Where a start is refused, the passes of that lane and of those behind it
+/// abort the board for that. An error is want of memory, before any thread was started.
 pub(crate) fn work_all<'c, 'g, R, B, S, K, H>(
     rt: &'c R,
     alloc: S::Heap,
@@ -82,7 +83,8 @@ fn part<P: Drop, O: Drop, H: Allocator, A: Allocator>(
     firsts: &mut Vec<P, H>,
     seconds: &mut Vec<O, A>,
 )
-    requires room { (length cames.items ≤ vec_capacity firsts.old) × (length cames.items ≤ vec_capacity seconds.old) }
+    requires room { (length cames.items ≤ vec_capacity firsts.old)
+        × (length cames.items ≤ vec_capacity seconds.old) }
     requires empty { (firsts.old.items ≡ []) × (seconds.old.items ≡ []) }
     ensures firsts { firsts.new.items ≡ map first_of cames.items }
     ensures seconds { seconds.new.items ≡ map second_of cames.items }
@@ -94,8 +96,8 @@ fn part<P: Drop, O: Drop, H: Allocator, A: Allocator>(
     }
 }
 
-/// Parts the pairs that came into two lists. It is generic in what they hold, so that no caller has the drops of a list that is
-/// still empty.
+/// Parts the pairs that came into two lists. It is generic in what they hold, so that no caller has the drops of a list
+/// that is still empty.
 pub(crate) fn parted<P: Drop, O: Drop, H: Allocator, A: Allocator>(
     heap: H,
     alloc: A,

@@ -91,8 +91,9 @@ fn tables_of<'g, G: Allocator, A: Allocator + Copy, S: PathSet<A>>(
     Ok(tables)
 }
 
-/// The summaries that the workers of a board have found, by their outcomes: where every worker ended at the close, and memory
-/// aside. Elsewhere the cause of the least rank that an end names. What it says holds of the ledger that the board leaves.
+/// The summaries that the workers of a board have found, by their outcomes: where every worker ended at the close, and
+/// memory aside. Elsewhere the cause of the least rank that an end names. What it says holds of the ledger that the
+/// board leaves.
 pub fn gather<G: Allocator, A: Allocator + Copy, S: PathSet<A>>(
     alloc: A,
     graphs: &Graphs<G>,

@@ -1,6 +1,7 @@
 //! Jobs, each in a thread of its own.
 ghost use Rattle.std.specs.Prelude.{◌≡◌, ◌≤◌, [], length, vec_capacity, IfOk, IfSome};
-ghost use Rattle.gather.specs.Jobs.{refusal_of, AllCanRun, AreBegun, HasNoThread, HaveCome, OfJob, WasBegun};
+ghost use Rattle.gather.specs.Jobs.{refusal_of, AllCanRun, AreBegun, HasNoThread, HaveCome, OfJob};
+ghost use Rattle.gather.specs.Jobs.{WasBegun};
 
 use crate::hire::Hire;
 use crate::no_thread::{NoThread, start};
@@ -202,7 +203,8 @@ where
     J::Back: Send + Drop,
     requires few { length slots.now ≤ 64 }
     requires all { length slots.now ≡ length L.jobs }
-    requires room { (length slots.now ≤ vec_capacity begun) × (length slots.now ≤ vec_capacity cames) }
+    requires room { (length slots.now ≤ vec_capacity begun)
+        × (length slots.now ≤ vec_capacity cames) }
     requires empty { (begun.items ≡ []) × (cames.items ≡ []) }
     requires runs { AllCanRun J.can_run L.jobs }
     ensures { HaveCome J.runs J.declines L.jobs result.items }
@@ -213,7 +215,8 @@ where
         move |scope| -> Vec<Came<J::Back>, A>
             requires few { length slots.now ≤ 64 }
             requires all { length slots.now ≡ length L.jobs }
-            requires room { (length slots.now ≤ vec_capacity begun) × (length slots.now ≤ vec_capacity cames) }
+            requires room { (length slots.now ≤ vec_capacity begun)
+                × (length slots.now ≤ vec_capacity cames) }
             requires empty { (begun.items ≡ []) × (cames.items ≡ []) }
             requires runs { AllCanRun J.can_run L.jobs }
             ensures { HaveCome J.runs J.declines L.jobs result.items }

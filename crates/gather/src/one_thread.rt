@@ -30,16 +30,18 @@ fn by_graphs<S: PathSet<A>, A: Allocator + Copy>(
     ensures bad { IfOk result (λ s. SomePairBad s
         ↔ SomeBad program (number_of (codes "bad__") (sequential_tree sequential.now).globals)) }
     ensures few { IfOk result (λ s. (q : ℕ) → ¬ HasMoreEdges program q (most_of limit)) }
-    ensures limit { result ≡ Err NoVerdict.EdgeLimit → (q : ℕ) × HasMoreEdges program q (most_of limit) }
+    ensures limit { result ≡ Err NoVerdict.EdgeLimit
+        → (q : ℕ) × HasMoreEdges program q (most_of limit) }
     ensures cause { IfErr result (λ e. (e ≡ NoVerdict.Memory) ⊎ (e ≡ NoVerdict.EdgeLimit)) }
 {
     let graphs = graphs(&alloc, sequential)?;
     tabulate::<A, A, S>(alloc, &graphs, limit)
 }
 
-/// The summaries of a checked program's rewriting for so many rounds, tabulated by one thread and without a board: some pair of
-/// `main__` is bad (`Summaries::bad`) exactly where some run of at most so many rounds fails an assert. The path edges are kept
-/// in sets of the type `S`. `TooWide` and `EdgeLimit` are answered as `check_rounds` does, `NoWorker` and `Spent` never.
+/// The summaries of a checked program's rewriting for so many rounds, tabulated by one thread and without a board: some
+/// pair of `main__` is bad (`Summaries::bad`) exactly where some run of at most so many rounds fails an assert. The
+/// path edges are kept in sets of the type `S`. `TooWide` and `EdgeLimit` are answered as `check_rounds` does,
+/// `NoWorker` and `Spent` never.
 pub fn tabulate_rounds<S, A, N>(
     alloc: A,
     program: &Checked<N>,
@@ -50,8 +52,10 @@ where
     S: PathSet<A>,
     A: Allocator + Copy,
     N: Allocator,
-    ensures tabulated { IfOk result (IsTabulated (checked_tree program.now) (count_of rounds) (most_of limit)) }
-    ensures none { IfErr result (IsNoReport (checked_tree program.now) (count_of rounds) (most_of limit)) }
+    ensures tabulated { IfOk result
+        (IsTabulated (checked_tree program.now) (count_of rounds) (most_of limit)) }
+    ensures none { IfErr result
+        (IsNoReport (checked_tree program.now) (count_of rounds) (most_of limit)) }
 {
     let sequential = match rewrite(&alloc, program, rounds) {
         Ok(sequential) => sequential,

@@ -71,7 +71,8 @@ where
     ensures closed { IfOk result (λ r. r.0.closed ≡ true) }
     ensures bad { (p : Program) → AreDrawnFrom p (graphs_of graphs.now)
         → IfOk result (λ r. SomePairBad r.1 ↔ SomeBad p (bad_of graphs.now)) }
-    ensures limit { (p : Program) → AreDrawnFrom p (graphs_of graphs.now) → result ≡ Err NoVerdict.EdgeLimit
+    ensures limit { (p : Program) → AreDrawnFrom p (graphs_of graphs.now)
+        → result ≡ Err NoVerdict.EdgeLimit
         → (q : ℕ) × HasMoreEdges p q (most_of limit) }
     ensures cause { IfErr result (λ why. why ≢ NoVerdict.TooWide) }
 {
@@ -89,16 +90,15 @@ where
 }
 
 /// The report on a checked program for so many rounds, where no procedure of its rewriting has more path edges than the
-/// limit. It is rewritten into a sequential program, whose procedures have a worker each, in a thread of its own, over a
-/// board of the type `B`; the path edges are kept in sets of the type `S`. The board and its histories are in memory of
-/// `heap`, tables and summaries in that of `alloc`. The gate is told of each take and post. `TooWide` is answered exactly
-/// where some procedure of the rewriting has more than 64 places, `EdgeLimit` only where some procedure has more path edges
-/// than the limit. Of several causes the one that `NoVerdict` lists first is
-/// answered.
+/// limit. It is rewritten into a sequential program, whose procedures have a worker each, in a thread of its own, over
+/// a board of the type `B`; the path edges are kept in sets of the type `S`. The board and its histories are in memory
+/// of `heap`, tables and summaries in that of `alloc`. The gate is told of each take and post. `TooWide` is answered
+/// exactly where some procedure of the rewriting has more than 64 places, `EdgeLimit` only where some procedure has
+/// more path edges than the limit. Of several causes the one that `NoVerdict` lists first is answered.
 ///
-/// A worker has a thread only where `hire` says that it may; where it says no, or the system refuses a thread, that worker and
-/// those behind it do nothing but abort the board, and a cause is `NoWorker`. Each worker has one call of the board fewer than
-/// `budget`, from 2 to 2^56; where one has used them up, a cause is `Spent`.
+/// A worker has a thread only where `hire` says that it may; where it says no, or the system refuses a thread, that
+/// worker and those behind it do nothing but abort the board, and a cause is `NoWorker`. Each worker has one call of
+/// the board fewer than `budget`, from 2 to 2^56; where one has used them up, a cause is `Spent`.
 pub fn check_rounds_tried<R, B, S, K, H, N>(
     rt: &R,
     heap: B::Heap,
@@ -118,8 +118,10 @@ where
     H: Hire,
     N: Allocator,
     requires budget { (2 ≤ budget) × (budget ≤ 2 ^ 56) }
-    ensures report { IfOk result (IsReport (checked_tree program.now) (count_of rounds) (most_of limit)) }
-    ensures none { IfErr result (IsNoReport (checked_tree program.now) (count_of rounds) (most_of limit)) }
+    ensures report { IfOk result
+        (IsReport (checked_tree program.now) (count_of rounds) (most_of limit)) }
+    ensures none { IfErr result
+        (IsNoReport (checked_tree program.now) (count_of rounds) (most_of limit)) }
 {
     let sequential = match rewrite(&heap, program, rounds) {
         Ok(sequential) => sequential,
@@ -160,8 +162,10 @@ where
     S: CrewSet,
     K: Gate + Sync,
     N: Allocator,
-    ensures report { IfOk result (IsReport (checked_tree program.now) (count_of rounds) (most_of limit)) }
-    ensures none { IfErr result (IsNoReport (checked_tree program.now) (count_of rounds) (most_of limit)) }
+    ensures report { IfOk result
+        (IsReport (checked_tree program.now) (count_of rounds) (most_of limit)) }
+    ensures none { IfErr result
+        (IsNoReport (checked_tree program.now) (count_of rounds) (most_of limit)) }
 {
     check_rounds_tried::<R, B, S, K, Always, N>(
         rt,
@@ -176,7 +180,8 @@ where
     )
 }
 
-/// The same over a board with a lock for each mailbox and path edges as decision diagrams, all in memory of one allocator.
+/// The same over a board with a lock for each mailbox and path edges as decision diagrams, all in memory of one
+/// allocator.
 pub fn check_rounds<R, A, K, N>(
     rt: &R,
     alloc: A,
@@ -190,8 +195,10 @@ where
     A: Allocator + Copy + Send + Sync,
     K: Gate + Sync,
     N: Allocator,
-    ensures report { IfOk result (IsReport (checked_tree program.now) (count_of rounds) (most_of limit)) }
-    ensures none { IfErr result (IsNoReport (checked_tree program.now) (count_of rounds) (most_of limit)) }
+    ensures report { IfOk result
+        (IsReport (checked_tree program.now) (count_of rounds) (most_of limit)) }
+    ensures none { IfErr result
+        (IsNoReport (checked_tree program.now) (count_of rounds) (most_of limit)) }
 {
     check_rounds_with::<R, LockPerBox<Due, Graphs<A>, A>, DiagramEdges<A>, K, N>(
         rt, alloc, alloc, program, rounds, limit, gate,

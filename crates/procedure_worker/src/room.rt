@@ -42,8 +42,10 @@ pub(crate) fn post<R: Wait, G: Allocator, H: Allocator, B: Board<Due, Graphs<G>,
 ) -> Result<(), Stop>
     requires board { (B.sight pass.old).board ≡ B.identity desk.now.board.now }
     requires job { HasJob (B.sight pass.old).number job.now (B.sight pass.old).seen.order }
-    requires fits { (to < (B.sight pass.old).seen.boxes) × FitsIn (B.sight pass.old).seen.world to due }
-    ensures { MatchResult result (λ _. WasPosted FitsIn job.now to due (B.sight pass.old) (B.sight pass.new))
+    requires fits { (to < (B.sight pass.old).seen.boxes)
+        × FitsIn (B.sight pass.old).seen.world to due }
+    ensures { MatchResult result
+        (λ _. WasPosted FitsIn job.now to due (B.sight pass.old) (B.sight pass.new))
         (λ why. RefusedFor FitsIn why (B.sight pass.old) (B.sight pass.new)) }
 {
     match desk.board.post(desk.rt, pass, job, to, due) {
@@ -63,7 +65,8 @@ pub(crate) fn next<G: Allocator, A: Allocator + Copy, S: PathSet<A>>(
     ensures some { IfOk result (λ r. IfSome r (λ m. IsAnswer table.old table.new m.0 m.1)) }
     ensures none { IfOk result (λ r. IfNone r (answers_of table.new ≡ answers_of table.old)) }
     ensures quiet { IfOk result (λ r. IfNone r (IsQuiet S.members table.new)) }
-    ensures fails { IfErr result (λ why. FailsFor why (λ f. KeepsTable S.members (Some f) table.old table.new)) }
+    ensures fails { IfErr result
+        (λ why. FailsFor why (λ f. KeepsTable S.members (Some f) table.old table.new)) }
 {
     match table.next() {
         Ok(answer) => Ok(answer),

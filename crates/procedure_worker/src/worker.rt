@@ -5,7 +5,8 @@ ghost use Rattle.std.specs.Option.{ForSome};
 ghost use Rattle.post_ledger.specs.Orders.{HasJob};
 ghost use Rattle.summaries.specs.Fitting.{FitsIn};
 ghost use Rattle.summaries.specs.Tables.{IsQuiet};
-ghost use Rattle.procedure_worker.specs.Works.{start_of, IsReady, IsTaking, IsDealing, IsSending, IsStopped, HasStopped};
+ghost use Rattle.procedure_worker.specs.Works.{start_of, IsReady, IsTaking, IsDealing, IsSending};
+ghost use Rattle.procedure_worker.specs.Works.{IsStopped, HasStopped};
 ghost use Rattle.procedure_worker.specs.Works.{Failed, Completes, StopsSo, MayGoOn};
 
 use crate::desk::Desk;
@@ -42,7 +43,8 @@ fn fail<R: Wait, G: Allocator, H: Allocator, B: Board<Due, Graphs<G>, H>, K>(
     why: Reason,
 ) -> Finish
     requires board { (B.sight pass.old).board ≡ B.identity desk.now.board.now }
-    requires job { ForSome job (λ j. HasJob (B.sight pass.old).number j (B.sight pass.old).seen.order) }
+    requires job { ForSome job
+        (λ j. HasJob (B.sight pass.old).number j (B.sight pass.old).seen.order) }
     ensures { Failed FitsIn why result (B.sight pass.old) (B.sight pass.new) }
 {
     desk.board.abort(desk.rt, pass, job, why.cause());
@@ -92,10 +94,15 @@ impl<'g, P, G: Allocator, A: Allocator, S: PathSet<A>> Worker<'g, P, G, A, S> {
         to: u8,
         due: Due,
     ) -> Result<(), Stop>
-        requires { IsSending (start_of B.identity desk.now) S.members job.now to due (B.sight self.old.pass) self.old }
+        requires { IsSending (start_of B.identity desk.now) S.members job.now to due
+            (B.sight self.old.pass) self.old }
         ensures done { MatchResult result
-            (λ _. IsDealing (start_of B.identity desk.now) S.members job.now (B.sight self.new.pass) self.new)
-            (λ why. IsStopped (start_of B.identity desk.now) S.members job.now why (B.sight self.new.pass) self.new) }
+            (λ _.
+            IsDealing (start_of B.identity desk.now) S.members job.now
+            (B.sight self.new.pass) self.new)
+            (λ why.
+            IsStopped (start_of B.identity desk.now) S.members job.now why
+            (B.sight self.new.pass) self.new) }
         ensures takes { self.new.takes ≡ self.old.takes }
     {
         if let Err(witness) = one_more(&mut self.posts) {
@@ -115,12 +122,16 @@ impl<'g, P, G: Allocator, A: Allocator + Copy, S: PathSet<A>> Worker<'g, P, G, A
         desk: &Desk<'_, '_, R, G, B, K>,
         job: &Job,
     ) -> Result<bool, Stop>
-        requires { IsDealing (start_of B.identity desk.now) S.members job.now (B.sight self.old.pass) self.old }
+        requires { IsDealing (start_of B.identity desk.now) S.members job.now
+            (B.sight self.old.pass) self.old }
         ensures dealing { OnOk result
-            (IsDealing (start_of B.identity desk.now) S.members job.now (B.sight self.new.pass) self.new) }
+            (IsDealing (start_of B.identity desk.now) S.members job.now
+            (B.sight self.new.pass) self.new) }
         ensures none { IfOk result (λ more. OnFalse more (IsQuiet S.members self.new.table)) }
         ensures stopped { IfErr result
-            (λ why. IsStopped (start_of B.identity desk.now) S.members job.now why (B.sight self.new.pass) self.new) }
+            (λ why.
+            IsStopped (start_of B.identity desk.now) S.members job.now why
+            (B.sight self.new.pass) self.new) }
         ensures takes { self.new.takes ≡ self.old.takes }
     {
         match next(&mut self.table) {
@@ -139,10 +150,13 @@ impl<'g, P, G: Allocator, A: Allocator + Copy, S: PathSet<A>> Worker<'g, P, G, A
         desk: &Desk<'_, '_, R, G, B, K>,
         job: Job,
     ) -> Option<Finish>
-        requires { IsDealing (start_of B.identity desk.now) S.members job (B.sight self.old.pass) self.old }
+        requires { IsDealing (start_of B.identity desk.now) S.members job
+            (B.sight self.old.pass) self.old }
         ensures ends { MatchOption result
             (IsReady (start_of B.identity desk.now) S.members (B.sight self.new.pass) self.new)
-            (λ e. HasStopped (start_of B.identity desk.now) S.members e (B.sight self.new.pass) self.new) }
+            (λ e.
+            HasStopped (start_of B.identity desk.now) S.members e
+            (B.sight self.new.pass) self.new) }
         ensures takes { self.new.takes ≡ self.old.takes }
     {
         for _ in desk.rt.forever() {
@@ -162,10 +176,13 @@ impl<'g, P, G: Allocator, A: Allocator + Copy, S: PathSet<A>> Worker<'g, P, G, A
         job: Job,
         due: Due,
     ) -> Option<Finish>
-        requires { IsTaking (start_of B.identity desk.now) S.members job due (B.sight self.old.pass) self.old }
+        requires { IsTaking (start_of B.identity desk.now) S.members job due
+            (B.sight self.old.pass) self.old }
         ensures ends { MatchOption result
             (IsReady (start_of B.identity desk.now) S.members (B.sight self.new.pass) self.new)
-            (λ e. HasStopped (start_of B.identity desk.now) S.members e (B.sight self.new.pass) self.new) }
+            (λ e.
+            HasStopped (start_of B.identity desk.now) S.members e
+            (B.sight self.new.pass) self.new) }
         ensures takes { self.new.takes ≡ self.old.takes }
     {
         match deliver(&mut self.table, due) {
@@ -180,10 +197,13 @@ impl<'g, P, G: Allocator, A: Allocator + Copy, S: PathSet<A>> Worker<'g, P, G, A
         &mut self,
         desk: &Desk<'_, '_, R, G, B, K>,
     ) -> Option<Finish>
-        requires { IsReady (start_of B.identity desk.now) S.members (B.sight self.old.pass) self.old }
+        requires { IsReady (start_of B.identity desk.now) S.members
+            (B.sight self.old.pass) self.old }
         ensures ends { MatchOption result
             (IsReady (start_of B.identity desk.now) S.members (B.sight self.new.pass) self.new)
-            (λ e. HasStopped (start_of B.identity desk.now) S.members e (B.sight self.new.pass) self.new) }
+            (λ e.
+            HasStopped (start_of B.identity desk.now) S.members e
+            (B.sight self.new.pass) self.new) }
         ensures goes { IfNone result (MayGoOn (B.sight self.old.pass) (B.sight self.new.pass)
             self.old.takes.items self.new.takes.items) }
     {

@@ -43,7 +43,8 @@ where
     K: Gate,
     requires drawn { (p : Program) × AreDrawnFrom p (graphs_of graphs.now) }
     requires near { procedure < length (graphs_of graphs.now) }
-    requires fresh { IsFresh (begun graphs.now procedure limit (B.identity board.now)) (B.sight pass) }
+    requires fresh { IsFresh (begun graphs.now procedure limit (B.identity board.now))
+        (B.sight pass) }
     ensures { HasEnded (begun graphs.now procedure limit (B.identity board.now)) S.members
         (B.sight result.0) result.1 }
 {

@@ -31,7 +31,8 @@ impl<B: Allocator> Scarce<B> {
 
     /// Refuses every allocation from the one numbered `nth` on, counted from 1. At 0 and at 1 it refuses each.
     pub fn refusing_from(inner: B, nth: u64) -> Scarce<B>
-        ensures rest { (number : ℕ) → number < 2 ^ 64 → RefusesAllocation result number ↔ (nth ≤ number) }
+        ensures rest { (number : ℕ) → number < 2 ^ 64
+            → RefusesAllocation result number ↔ (nth ≤ number) }
         ensures over { inner_of result ≡ inner }
     {
         Scarce {

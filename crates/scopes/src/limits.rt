@@ -24,7 +24,9 @@ pub const MOST_STATEMENTS: usize = 1000;
 
 /// The offset of the name of the first procedure too many.
 pub fn procedure_too_many<A: Allocator>(procs: &[Proc<A>]) -> Option<u32>
-    ensures { Finds (λ n. IsThere (slice_get (procs_of procs.now) most_procedures) (λ p. p.name.at ≡ n)) result }
+    ensures { Finds
+        (λ n. IsThere (slice_get (procs_of procs.now) most_procedures) (λ p. p.name.at ≡ n))
+        result }
 {
     match procs.get(MOST_PROCEDURES) {
         Some(proc) => Some(proc.name.at),
@@ -35,7 +37,8 @@ pub fn procedure_too_many<A: Allocator>(procs: &[Proc<A>]) -> Option<u32>
 /// The offset of the first thread line too many.
 pub fn thread_too_many<A: Allocator>(threads: &[Thread<A>]) -> Option<u32>
     ensures { Finds
-        (λ n. IsThere (slice_get (threads_of threads.now) most_threads) (λ line. line.at ≡ n)) result }
+        (λ n. IsThere (slice_get (threads_of threads.now) most_threads) (λ line. line.at ≡ n))
+        result }
 {
     match threads.get(MOST_THREADS) {
         Some(line) => Some(line.at),
@@ -46,7 +49,8 @@ pub fn thread_too_many<A: Allocator>(threads: &[Thread<A>]) -> Option<u32>
 /// The offset of the first statement too many.
 pub fn statement_too_many<A: Allocator>(stmts: &[&Stmt<A>]) -> Option<u32>
     ensures { Finds
-        (λ n. IsThere (slice_get (lent_statements stmts.now) most_statements) (λ s. s.mark.at ≡ n)) result }
+        (λ n. IsThere (slice_get (lent_statements stmts.now) most_statements) (λ s. s.mark.at ≡ n))
+        result }
 {
     match stmts.get(MOST_STATEMENTS) {
         Some(stmt) => Some(stmt.at),

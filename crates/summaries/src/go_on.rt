@@ -45,7 +45,8 @@ impl<'e, 'p, A: Allocator, S: PathSet<A>> Frontier<'e, 'p, A, S> {
         summaries: &[Word],
     ) -> Result<(), TableFault>
         requires { IsWithin S.members self.old }
-        ensures { Reaches S.members (OfSome (IsBehind graph.now site) summaries.now) result self.old self.new }
+        ensures { Reaches S.members
+            (OfSome (IsBehind graph.now site) summaries.now) result self.old self.new }
     {
         for globals in summaries {
             self.reach_behind(graph, site, *globals)?;
@@ -62,7 +63,8 @@ impl<'e, 'p, A: Allocator, S: PathSet<A>> Frontier<'e, 'p, A, S> {
         globals: Word,
     ) -> Result<(), TableFault>
         requires { IsWithin S.members self.old }
-        ensures { Reaches S.members (OfSome (λ site. IsBehind graph.now site globals) sites.now) result self.old self.new }
+        ensures { Reaches S.members
+            (OfSome (λ site. IsBehind graph.now site globals) sites.now) result self.old self.new }
     {
         for site in sites {
             self.reach_behind(graph, *site, globals)?;

@@ -31,7 +31,8 @@ impl<'g, G: Allocator, A: Allocator + Copy, S: PathSet<A>> Table<'g, G, A, S> {
     ghost use Rattle.summaries.specs.declared.due.Due.TheVariants.{Entry, Summary};
     ghost use Rattle.summaries.specs.Tables.{graph_of, procedure_of, limit_of, answers_of, failure};
     ghost use Rattle.summaries.specs.Tables.{fault_of};
-    ghost use Rattle.summaries.specs.Tables.{IsTable, IsNew, IsQuiet, IsAnswer, TableTakes, KeepsTable};
+    ghost use Rattle.summaries.specs.Tables.{IsTable, IsNew, IsQuiet, IsAnswer, TableTakes};
+    ghost use Rattle.summaries.specs.Tables.{KeepsTable};
     ghost use Rattle.summaries.specs.Tables.{failed_by, work_left};
 
     /// The table of a procedure, which has taken nothing yet, and takes no memory.

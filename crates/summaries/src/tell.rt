@@ -21,7 +21,8 @@ pub(crate) fn tell<A: Allocator + Copy>(
     requires { (x : Mail) → IsSummaryTold p a b caller x → ¬ Member x given.old.mails.items }
     ensures ok { OnOk result
         (AddsMails (IsSummaryTold p a b caller) given.old.mails.items given.new.mails.items) }
-    ensures only { AddsOnly (IsSummaryTold p a b caller) given.old.mails.items given.new.mails.items }
+    ensures only { AddsOnly
+        (IsSummaryTold p a b caller) given.old.mails.items given.new.mails.items }
     ensures answered { given.new.answered ≡ given.old.answered }
 {
     if let Caller::Proc(to) = caller {
@@ -43,7 +44,8 @@ pub(crate) fn tell_all<A: Allocator + Copy>(
     requires new { (x : Mail) → OfSome (IsSummaryTold p a b) callers.now x
         → ¬ Member x given.old.mails.items }
     ensures ok { OnOk result
-        (AddsMails (OfSome (IsSummaryTold p a b) callers.now) given.old.mails.items given.new.mails.items) }
+        (AddsMails
+        (OfSome (IsSummaryTold p a b) callers.now) given.old.mails.items given.new.mails.items) }
     ensures only { AddsOnly
         (OfSome (IsSummaryTold p a b) callers.now) given.old.mails.items given.new.mails.items }
     ensures answered { given.new.answered ≡ given.old.answered }

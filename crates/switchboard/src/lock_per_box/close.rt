@@ -17,7 +17,8 @@ fn gather<W, M: Mail<W>, A: Allocator>(
     shared: &Boards<M, W, A>,
     passes: &mut Vec<BoxPass<M, W, A>, A>,
 ) -> BoxSeat<M, W, A>
-    requires table { IsBoardTable shared.now.table_id shared.now.key.boxes × (0 < shared.now.key.boxes) }
+    requires table { IsBoardTable shared.now.table_id shared.now.key.boxes
+        × (0 < shared.now.key.boxes) }
     requires all { AreAll shared.now.table_id shared.now.key.boxes passes.old.items }
     ensures empty { passes.new.items ≡ [] }
     ensures table { result.table_id ≡ shared.now.table_id }

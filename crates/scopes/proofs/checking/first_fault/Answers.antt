@@ -15,7 +15,8 @@ returns g c =
     let through_twice =
     next fault.DeclaredTwice (DeclaredTwice t) 6 (λ n. refl)
     (λ n. refl) c.in_ok-first_twice.field-0 c.map-undeclared.result c.map-twice.result c.sooner-through_twice.result
-    (mapped fault.DeclaredTwice c.in_ok-first_twice.field-0 c.map-twice.result c.map-twice.ensures.cases) c.sooner-through_twice.ensures undeclared
+    (mapped fault.DeclaredTwice c.in_ok-first_twice.field-0 c.map-twice.result c.map-twice.ensures.cases) c.sooner-through_twice.ensures
+    undeclared
     c.in_ok-first_twice.ensures in
     let through_counts =
     next fault.WrongCount (WrongCount t) 7 (λ n. refl)
@@ -25,12 +26,14 @@ returns g c =
     let through_threads =
     next fault.BadThread (BadThread t) 8 (λ n. refl)
     (λ n. refl) c.first_bad_thread.result c.sooner-through_counts.result c.map-threads.result c.sooner-through_threads.result
-    (mapped fault.BadThread c.first_bad_thread.result c.map-threads.result c.map-threads.ensures.cases) c.sooner-through_threads.ensures through_counts
+    (mapped fault.BadThread c.first_bad_thread.result c.map-threads.result c.map-threads.ensures.cases) c.sooner-through_threads.ensures
+    through_counts
     c.first_bad_thread.ensures in
     let through_labels =
     next fault.BadLabel (BadLabel t) 9 (λ n. refl)
     (λ n. refl) c.in_ok-first_bad_label.field-0 c.sooner-through_threads.result c.map-labels.result c.sooner-through_labels.result
-    (mapped fault.BadLabel c.in_ok-first_bad_label.field-0 c.map-labels.result c.map-labels.ensures.cases) c.sooner-through_labels.ensures through_threads
+    (mapped fault.BadLabel c.in_ok-first_bad_label.field-0 c.map-labels.result c.map-labels.ensures.cases) c.sooner-through_labels.ensures
+    through_threads
     c.in_ok-first_bad_label.ensures in
     let through_reserved =
     next fault.Reserved (Reserved t) 10 (λ n. refl)
