@@ -2,14 +2,14 @@
 use Rattle.std.proofs.Common.{◌≡◌, ◌↔◌, ◌⊎◌, ℕ, cond, List, [], ◌∷◌, Option, Some, None, slice_get, inl, inr, refl, sym, ap, subst}
 use Rattle.language.specs.Tree.{skip, assign, assert, assume, goto, leave, call, done, one, choose, loop}
 use Rattle.language.specs.Value.{values_of, written_globals, written_locals}
-use Rattle.language.specs.Rest.{Code, join, rest_from}
-use Rattle.language.specs.Step.{Routine, Program, Frame, frame, State, state, fresh, AtRoutine, AtRest, body_of, Step}
+use Rattle.language.specs.Rest.{Code, join, rest_from, target_of}
+use Rattle.language.specs.Step.{Routine, Program, Frame, frame, State, state, fresh, frame_size, AtRoutine, AtRest, body_of, Step}
 use Rattle.language.specs.Sequential.{Valuation, Calls}
-use Rattle.language.specs.Flow.{FlowsTo, ReturnsTo, after_first, EntersTo}
+use Rattle.language.specs.Flow.{FlowsTo, ReturnsTo, after_first, caller_frame, EntersTo}
 use Rattle.language.proofs.Callers.{flow_over_callers}
 
 abbrev Kinds : Program → ℕ → Valuation → Code → List Frame → State → Type 0
-Kinds p q v r fs s = FlowsTo p q v r fs s ⊎ (ReturnsTo v r fs s ⊎ EntersTo p q v r fs s)
+Kinds p q v r fs s = FlowsTo p q v r fs s ⊎ (ReturnsTo p q v r fs s ⊎ EntersTo p q v r fs s)
 
 -- the rest that has the property
 pub rest_found : (o : Option Code) (P : Code → Type 0) → AtRest o P → (rest : Code) × (o ≡ Some rest) × P rest
@@ -42,14 +42,14 @@ kind_of_step p q v (one m leave t) fs s h = inl (v, done, refl, sym h)
 kind_of_step p q v (one m (call n es) t) fs s h =
     let (routine, e, same) =
     routine_found (slice_get p.routines n)
-    (λ z. state v.globals (frame n (fresh z.places (values_of v.globals v.places es)) z.body ∷ frame q v.places t ∷ fs) ≡ s) h in
-    let a : Valuation = record { globals = v.globals; places = fresh routine.places (values_of v.globals v.places es) } in
+    (λ z. state v.globals (frame n (fresh (frame_size z) (values_of v.globals v.places es)) z.body ∷ frame q v.places t ∷ fs) ≡ s) h in
+    let a : Valuation = record { globals = v.globals; places = fresh (frame_size routine) (values_of v.globals v.places es) } in
     inr (inr (
       n,
       a,
       (
         refl,
-        subst (λ o. AtRoutine o (λ z. a ≡ record { globals = v.globals; places = fresh z.places (values_of v.globals v.places es) }))
+        subst (λ o. AtRoutine o (λ z. a ≡ record { globals = v.globals; places = fresh (frame_size z) (values_of v.globals v.places es) }))
             (sym e) refl,
       ),
       subst (λ b. s ≡ state v.globals (frame n a.places b ∷ frame q v.places t ∷ fs)) (sym (ap body_of e)) (sym same),
@@ -59,7 +59,7 @@ kind_of_step p q v (loop m c a t) fs s (w, is, h) = inl (v, cond w (join a (loop
 
 entering_steps : (p : Program) (q : ℕ) (v : Valuation) (r : Code) (fs : List Frame) (s : State) (n : ℕ) (a : Valuation)
     → Calls p v.globals v.places r n a →
-    s ≡ state a.globals (frame n a.places (body_of (slice_get p.routines n)) ∷ frame q v.places (after_first r) ∷ fs) →
+    s ≡ state a.globals (frame n a.places (body_of (slice_get p.routines n)) ∷ caller_frame q v.places (target_of r) (after_first r) ∷ fs) →
     Step p (state v.globals (frame q v.places r ∷ fs)) s
 entering_steps p q v done fs s n a h e = absurd h
 entering_steps p q v (one m skip t) fs s n a h e = absurd h
@@ -74,11 +74,12 @@ entering_steps p q v (one m (call k es) t) fs s n a (same, h) e =
     (subst (λ z. s ≡ state a.globals (frame z a.places (body_of (slice_get p.routines z)) ∷ frame q v.places t ∷ fs)) (sym same) e)
   where
     with_places : Routine → Valuation
-    with_places r = record { globals = v.globals; places = fresh r.places (values_of v.globals v.places es) }
+    with_places r = record { globals = v.globals; places = fresh (frame_size r) (values_of v.globals v.places es) }
 
     entered : (o : Option Routine) → AtRoutine o (λ r. a ≡ with_places r)
         → s ≡ state a.globals (frame k a.places (body_of o) ∷ frame q v.places t ∷ fs) →
-        AtRoutine o (λ r. state v.globals (frame k (fresh r.places (values_of v.globals v.places es)) r.body ∷ frame q v.places t ∷ fs) ≡ s)
+        AtRoutine o
+        (λ r. state v.globals (frame k (fresh (frame_size r) (values_of v.globals v.places es)) r.body ∷ frame q v.places t ∷ fs) ≡ s)
     entered None h e = h
     entered (Some r) h e = sym (subst (λ (z : Valuation). s ≡ state z.globals (frame k z.places r.body ∷ frame q v.places t ∷ fs)) h e)
 entering_steps p q v (choose m c a' b t) fs s n a h e = absurd h
@@ -94,5 +95,5 @@ step_of_kind p q v r fs s (inr (inr (n, a, calls, same))) = entering_steps p q v
 
 pub step_kinds : (p : Program) (q : ℕ) (v : Valuation) (r : Code) (callers : List Frame) (s : State) →
     Step p (state v.globals (frame q v.places r ∷ callers)) s ↔
-    (FlowsTo p q v r callers s ⊎ (ReturnsTo v r callers s ⊎ EntersTo p q v r callers s))
+    (FlowsTo p q v r callers s ⊎ (ReturnsTo p q v r callers s ⊎ EntersTo p q v r callers s))
 step_kinds p q v r callers s = (kind_of_step p q v r callers s, step_of_kind p q v r callers s)

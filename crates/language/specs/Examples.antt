@@ -11,7 +11,7 @@ bare = record { label = None; at = 0 }
 
 -- a procedure without formals and locals that has these statements
 abbrev pub routine : Code → Routine
-routine body = record { places = 0; body = body }
+routine body = record { places = 0; gives = false; body = body }
 
 -- x:=1; where x is the first global
 abbrev pub setting : Code → Code
@@ -68,7 +68,7 @@ abbrev pub passed_values : Program
 passed_values = record {
   globals = 1;
   routines =
-      record { places = 1; body = one bare (assign (global 0 ∷ []) (value (var (local 0)) ∷ [])) done }
+      record { places = 1; gives = false; body = one bare (assign (global 0 ∷ []) (value (var (local 0)) ∷ [])) done }
       ∷ routine
       (one bare (call 0 (const true ∷ []))
       (one bare (call 0 (const false ∷ [])) (one bare (assert (value (negation (var (global 0))))) done)))
@@ -113,6 +113,7 @@ hiding_program = record {
   globals = 1;
   routines = record {
     places = 1;
+    gives = false;
     body = one bare (assign (local 0 ∷ []) (value (const true) ∷ []))
         (one bare (assert (value (negation (var (local 0))))) done);
   } ∷ [];

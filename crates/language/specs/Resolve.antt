@@ -1,6 +1,6 @@
 -- What the names of a text stand for. A name is the local or formal of its procedure where there is one,
 -- else the global; of two procedures of one name it is the first.
-use Rattle.std.specs.Prelude.{ℕ, zero, suc, ◌+◌, List, [], ◌∷◌, ◌++◌, Option, Some, None, length, map, cond}
+use Rattle.std.specs.Prelude.{ℕ, zero, suc, ◌+◌, List, [], ◌∷◌, ◌++◌, Option, Some, None, false, length, map, cond}
 use Rattle.language.specs.Tree.{Name, Expression, const, var, negation, two, RightSide, any, value, Simple, skip, assign, assert, assume}
 use Rattle.language.specs.Tree.{goto, leave, call, Mark, Block, done, one, choose, loop, Procedure, ThreadLine, Tree}
 use Rattle.language.specs.Value.{Place, global, local}
@@ -76,6 +76,7 @@ scope_of tree procedure = record {
 abbrev pub routine_of : Tree → Procedure → Routine
 routine_of tree procedure = record {
   places = length (procedure.formals ++ procedure.locals);
+  gives = false;
   body = resolve_block (scope_of tree procedure) procedure.body;
 }
 

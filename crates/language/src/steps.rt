@@ -8,11 +8,13 @@ ghost use Rattle.language.specs.Tree.{leave, loop, one, skip};
 ghost use Rattle.language.specs.Value.{Place, IsValue, global, values_of};
 ghost use Rattle.language.specs.Rest.{Label, Code, join, rest_from};
 ghost use Rattle.language.specs.Step.{Routine, Program, Frame, frame, State, state, zeros, Step};
+ghost use Rattle.language.specs.Step.{frame_size, result_of, given_back};
 
-/// A frame with nothing left to run goes.
+/// A frame with nothing left to run goes, and its result with it.
 pub fn a_finished_frame_goes()
     ensures { (p : Program) (g l : List Bool) (c : ℕ) (fs : List Frame) (u : State)
-        → Step p (state g (frame c l done ∷ fs)) u ↔ (state g fs ≡ u) }
+        → Step p (state g (frame c l done ∷ fs)) u
+        ↔ (given_back (result_of (slice_get p.routines c) l) g fs ≡ u) }
 {}
 
 /// A `skip` goes on and changes nothing.
@@ -80,7 +82,7 @@ pub fn a_call_enters_with_its_arguments()
         ↔
         (state g
         (frame q
-        (values_of g l es ++ zeros (routine.places - length (values_of g l es))) routine.body
+        (values_of g l es ++ zeros (frame_size routine - length (values_of g l es))) routine.body
         ∷ frame c l t ∷ fs) ≡ u) }
 {}
 
