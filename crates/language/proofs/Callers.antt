@@ -2,7 +2,7 @@
 use Rattle.std.proofs.Common.{◌≡◌, ◌↔◌, ℕ, suc, Bool, List, [], ◌∷◌, length, Option, Some, None, slice_get, refl, sym, ◌∙◌, ap}
 use Rattle.std.proofs.Common.{arith}
 use Rattle.std.proofs.lemmas.Option.{none-some}
-use Rattle.language.specs.Tree.{Expression, skip, assign, assert, assume, goto, leave, call, done, one, choose, loop}
+use Rattle.language.specs.Tree.{Expression, skip, assign, assert, assume, goto, leave, call, leave_with, call_for, done, one, choose, loop}
 use Rattle.language.specs.Value.{Place, values_of}
 use Rattle.language.specs.Rest.{Code, rest_from, called_by}
 use Rattle.language.specs.Step.{Routine, Program, Frame, frame, waiting, State, state, fresh, frame_size, result_of, given_back}
@@ -52,6 +52,11 @@ other_callers p q g l (one m (call n es) t) g' l' r' fs gs h =
     absurd
     (no_entering (slice_get p.routines n) (λ routine. frame n (fresh (frame_size routine) (values_of g l es)) routine.body) g g'
     (frame q l t) (frame q l' r') fs h)
+other_callers p q g l (one m (leave_with e) t) g' l' r' fs gs h = ap (over gs) h
+other_callers p q g l (one m (call_for x n es) t) g' l' r' fs gs h =
+    absurd
+    (no_entering (slice_get p.routines n) (λ routine. frame n (fresh (frame_size routine) (values_of g l es)) routine.body) g g'
+    (waiting q l x t) (frame q l' r') fs h)
 other_callers p q g l (choose m c a b t) g' l' r' fs gs (v, is, h) = (v, is, ap (over gs) h)
 other_callers p q g l (loop m c a t) g' l' r' fs gs (v, is, h) = (v, is, ap (over gs) h)
 
@@ -75,6 +80,10 @@ no_flow_from_call p q n v v' es (one m leave t) r' e h = absurd (none-some (n, e
 no_flow_from_call p q n v v' es (one m (call k ks) t) r' e h =
     no_entering (slice_get p.routines k) (λ routine. frame k (fresh (frame_size routine) (values_of v.globals v.places ks)) routine.body)
     v.globals v'.globals (frame q v.places t) (frame q v'.places r') [] h
+no_flow_from_call p q n v v' es (one m (leave_with u) t) r' e h = absurd (none-some (n, es) e)
+no_flow_from_call p q n v v' es (one m (call_for x k ks) t) r' e h =
+    no_entering (slice_get p.routines k) (λ routine. frame k (fresh (frame_size routine) (values_of v.globals v.places ks)) routine.body)
+    v.globals v'.globals (waiting q v.places x t) (frame q v'.places r') [] h
 no_flow_from_call p q n v v' es (choose m c a b t) r' e h = absurd (none-some (n, es) e)
 no_flow_from_call p q n v v' es (loop m c a t) r' e h = absurd (none-some (n, es) e)
 

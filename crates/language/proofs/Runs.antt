@@ -1,6 +1,6 @@
 -- Steps and runs, as properties of where they lead.
 use Rattle.std.proofs.Common.{◌≡◌, ℕ, zero, suc, [], ◌∷◌, Option, Some, None, slice_get, refl, sym, subst}
-use Rattle.language.specs.Tree.{skip, assign, assert, assume, goto, leave, call, done, one, choose, loop}
+use Rattle.language.specs.Tree.{skip, assign, assert, assume, goto, leave, call, leave_with, call_for, done, one, choose, loop}
 use Rattle.language.specs.Value.{values_of}
 use Rattle.language.specs.Rest.{Code, rest_from}
 use Rattle.language.specs.Step.{Routine, Program, frame, waiting, State, state, fresh, frame_size, AtRoutine, AtRest, body_of}
@@ -31,6 +31,12 @@ steps_map p (state g (frame c l (one m (call q es) t) ∷ fs)) P Q f h =
     at_routine_map (slice_get p.routines q) (λ r. P (state g (frame q (fresh (frame_size r) (values_of g l es)) r.body ∷ frame c l t ∷ fs)))
     (λ r. Q (state g (frame q (fresh (frame_size r) (values_of g l es)) r.body ∷ frame c l t ∷ fs)))
     (λ r. f (state g (frame q (fresh (frame_size r) (values_of g l es)) r.body ∷ frame c l t ∷ fs))) h
+steps_map p (state g (frame c l (one m (leave_with e) t) ∷ fs)) P Q f h = f _ h
+steps_map p (state g (frame c l (one m (call_for x q es) t) ∷ fs)) P Q f h =
+    at_routine_map (slice_get p.routines q)
+    (λ r. P (state g (frame q (fresh (frame_size r) (values_of g l es)) r.body ∷ waiting c l x t ∷ fs)))
+    (λ r. Q (state g (frame q (fresh (frame_size r) (values_of g l es)) r.body ∷ waiting c l x t ∷ fs)))
+    (λ r. f (state g (frame q (fresh (frame_size r) (values_of g l es)) r.body ∷ waiting c l x t ∷ fs))) h
 steps_map p (state g (frame c l (choose m r a b t) ∷ fs)) P Q f h = (h.0, h.1, f _ h.2)
 steps_map p (state g (frame c l (loop m r a t) ∷ fs)) P Q f h = (h.0, h.1, f _ h.2)
 
@@ -64,6 +70,10 @@ steps_pick p (state g (frame c l (one m leave t) ∷ fs)) P h = (_, refl, h)
 steps_pick p (state g (frame c l (one m (call q es) t) ∷ fs)) P h =
     at_routine_pick (slice_get p.routines q)
     (λ r. state g (frame q (fresh (frame_size r) (values_of g l es)) r.body ∷ frame c l t ∷ fs)) P h
+steps_pick p (state g (frame c l (one m (leave_with e) t) ∷ fs)) P h = (_, refl, h)
+steps_pick p (state g (frame c l (one m (call_for x q es) t) ∷ fs)) P h =
+    at_routine_pick (slice_get p.routines q)
+    (λ r. state g (frame q (fresh (frame_size r) (values_of g l es)) r.body ∷ waiting c l x t ∷ fs)) P h
 steps_pick p (state g (frame c l (choose m r a b t) ∷ fs)) P h = (_, (h.0, h.1, refl), h.2)
 steps_pick p (state g (frame c l (loop m r a t) ∷ fs)) P h = (_, (h.0, h.1, refl), h.2)
 

@@ -1,7 +1,7 @@
 -- Each frame stands at a rest of its procedure's body, and steps keep that.
 use Rattle.std.proofs.Common.{◌≡◌, ℕ, zero, suc, true, false, List, [], ◌∷◌, Option, Some, None, slice_get, inl, inr, refl, sym, ap, subst}
 use Rattle.std.proofs.Common.{Bool}
-use Rattle.language.specs.Tree.{skip, assign, assert, assume, goto, leave, call, done, one, choose, loop}
+use Rattle.language.specs.Tree.{skip, assign, assert, assume, goto, leave, call, leave_with, call_for, done, one, choose, loop}
 use Rattle.language.specs.Value.{Place, values_of, written_globals, written_locals}
 use Rattle.language.specs.Rest.{Code, Label, join, rest_from}
 use Rattle.language.specs.Step.{Routine, Program, Frame, frame, waiting, State, state, fresh, zeros, frame_size, result_of, given_back}
@@ -73,6 +73,11 @@ steps_stand p (state g (frame c l (one m (call q es) t) ∷ fs)) P at h =
     entered p q (slice_get p.routines q) refl P
     (λ routine. state g (frame q (fresh (frame_size routine) (values_of g l es)) routine.body ∷ frame c l t ∷ fs))
     (λ routine stands. (stands, (rest_follows (body_of (slice_get p.routines c)) (one m (call q es) t) t at.0 refl, at.1))) h
+steps_stand p (state g (frame c l (one m (leave_with e) t) ∷ fs)) P at h = (_, (inl refl, at.1), h)
+steps_stand p (state g (frame c l (one m (call_for x q es) t) ∷ fs)) P at h =
+    entered p q (slice_get p.routines q) refl P
+    (λ routine. state g (frame q (fresh (frame_size routine) (values_of g l es)) routine.body ∷ waiting c l x t ∷ fs))
+    (λ routine stands. (stands, (rest_follows (body_of (slice_get p.routines c)) (one m (call_for x q es) t) t at.0 refl, at.1))) h
 steps_stand p (state g (frame c l (choose m r a b t) ∷ fs)) P at (true, is, h) = (
   state g (frame c l (join a t) ∷ fs),
   (rest_follows (body_of (slice_get p.routines c)) (choose m r a b t) (join a t) at.0 (inl refl), at.1),

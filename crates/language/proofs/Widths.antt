@@ -2,8 +2,8 @@
 use Rattle.std.proofs.Common.{◌≡◌, ◌⊎◌, ℕ, zero, suc, ◌≤◌, List, [], ◌∷◌, Bool, Option, Some, None, inl, inr, refl, sym, ◌∙◌, ap, subst}
 use Rattle.std.proofs.Common.{arith}
 use Rattle.std.proofs.Common.{length, slice_get}
-use Rattle.language.specs.Tree.{skip, assign, assert, assume, goto, leave, call, done, one, choose, loop}
-use Rattle.language.specs.Value.{Place, values_of}
+use Rattle.language.specs.Tree.{skip, assign, assert, assume, goto, leave, call, leave_with, call_for, done, one, choose, loop}
+use Rattle.language.specs.Value.{Place, value_of, values_of}
 use Rattle.language.specs.Rest.{Code, rest_from, target_of}
 use Rattle.language.specs.Step.{Program, Frame, frame, waiting, State, state, zeros, fresh, frame_size, result_of, given_back}
 use Rattle.language.specs.Step.{AtRoutine, body_of, Step, AfterSteps}
@@ -11,7 +11,7 @@ use Rattle.language.specs.Sequential.{Valuation, Calls, Asks, IsZero, Entered, E
 use Rattle.language.specs.Flow.{Flow, FlowsTo, ReturnsTo, EntersTo}
 use Rattle.language.specs.Messages.{Reached, starts, flows, returns, IsValuationOf, IsMessageTo, ArgumentsFit}
 use Rattle.language.proofs.Runs.{steps_pick}
-use Rattle.language.proofs.Lengths.{length_zeros, length_fresh, length_values, length_globals, length_locals, places_within}
+use Rattle.language.proofs.Lengths.{length_zeros, length_fresh, length_values, length_globals, length_locals, length_result, places_within}
 use Rattle.language.proofs.Callers.{no_flow_from_call, no_flow_from_exit}
 use Rattle.language.proofs.StepKinds.{rest_found, routine_found, step_kinds}
 use Rattle.language.proofs.Standing.{frame_stands}
@@ -54,6 +54,11 @@ flow_widths p q v v' (one m (goto x) t) r' h =
     same_wide _ _ same
 flow_widths p q v v' (one m leave t) r' h = same_wide _ _ h
 flow_widths p q v v' (one m (call n es) t) r' h = absurd (no_flow_from_call p q n v v' es (one m (call n es) t) r' refl h)
+flow_widths p q v v' (one m (leave_with e) t) r' h =
+    let (globals, places) = same_wide _ _ h in
+    (globals, sym (length_result (slice_get p.routines q) v.places (value_of v.globals v.places e)) ∙ places)
+flow_widths p q v v' (one m (call_for x n es) t) r' h =
+    absurd (no_flow_from_call p q n v v' es (one m (call_for x n es) t) r' refl h)
 flow_widths p q v v' (choose m c a b t) r' (w, is, h) = same_wide _ _ h
 flow_widths p q v v' (loop m c a t) r' (w, is, h) = same_wide _ _ h
 

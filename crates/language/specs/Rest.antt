@@ -1,7 +1,7 @@
 -- What is left to run in a frame, as a list of statements.
 use Rattle.std.specs.Prelude.{ℕ, Bool, false, List, Option, Some, None, cond}
 use Rattle.std.specs.Str.{bytes_eq}
-use Rattle.language.specs.Tree.{Expression, call, Mark, Block, done, one, choose, loop}
+use Rattle.language.specs.Tree.{Expression, call, call_for, Mark, Block, done, one, choose, loop}
 use Rattle.language.specs.Value.{Place}
 
 -- a label's text
@@ -53,8 +53,10 @@ rest_from label (loop mark side body rest) next =
 -- the procedure that the first statement calls, and the arguments, where it calls one
 abbrev pub called_by : Code → Option (ℕ × List (Expression Place))
 called_by (one mark (call callee es) rest) = Some (callee, es)
+called_by (one mark (call_for x callee es) rest) = Some (callee, es)
 called_by rest = None
 
 -- the variable that the first statement calls for, where it calls for a value
 abbrev pub target_of : Code → Option Place
+target_of (one mark (call_for x callee es) rest) = Some x
 target_of rest = None

@@ -1,8 +1,8 @@
 -- One step of one thread, over the globals and the thread's stack of frames.
 use Rattle.std.specs.Prelude.{◌≡◌, ℕ, zero, suc, ◌+◌, ◌-◌, Bool, true, false, List, [], ◌∷◌, ◌++◌, Option, Some, None, length, cond}
 use Rattle.std.specs.Prelude.{slice_get}
-use Rattle.language.specs.Tree.{done, one, choose, loop, skip, assign, assert, assume, goto, leave, call}
-use Rattle.language.specs.Value.{Place, bit, with_bit, values_of, IsValue, AreValues, written_globals, written_locals}
+use Rattle.language.specs.Tree.{done, one, choose, loop, skip, assign, assert, assume, goto, leave, call, leave_with, call_for}
+use Rattle.language.specs.Value.{Place, bit, with_bit, value_of, values_of, IsValue, AreValues, written_globals, written_locals}
 use Rattle.language.specs.Rest.{Code, join, rest_from}
 
 -- a procedure of a resolved program: how many places its frame has beside the result, whether it gives a value,
@@ -98,6 +98,13 @@ StepsTo program (state globals (frame procedure locals (one mark (call callee es
     AtRoutine (slice_get program.routines callee) (λ routine.
     Q (state globals
     (frame callee (fresh (frame_size routine) (values_of globals locals es)) routine.body ∷ frame procedure locals rest ∷ fs)))
+StepsTo program (state globals (frame procedure locals (one mark (leave_with expression) rest) ∷ fs)) Q =
+    Q (state globals
+    (frame procedure (with_result (slice_get program.routines procedure) locals (value_of globals locals expression)) done ∷ fs))
+StepsTo program (state globals (frame procedure locals (one mark (call_for x callee es) rest) ∷ fs)) Q =
+    AtRoutine (slice_get program.routines callee) (λ routine.
+    Q (state globals
+    (frame callee (fresh (frame_size routine) (values_of globals locals es)) routine.body ∷ waiting procedure locals x rest ∷ fs)))
 StepsTo program (state globals (frame procedure locals (choose mark side if_true if_false rest) ∷ fs)) Q =
     (v : Bool) × IsValue globals locals side v
     × Q (state globals (frame procedure locals (cond v (join if_true rest) (join if_false rest)) ∷ fs))
