@@ -3,14 +3,13 @@ use Rattle.std.proofs.Common.{◌≡◌, ℕ, suc, ◌+◌, ◌≤◌, Bool, tru
 use Rattle.std.proofs.Common.{Option, Some, None, option_map, slice_get, refl, sym, ◌∙◌, ap, subst, ap₂, arith}
 use Rattle.language.specs.Tree.{Expression, const, RightSide, value, skip, assign, assert, assume, goto, leave, call, leave_with, call_for}
 use Rattle.language.specs.Tree.{Mark, done, one, choose, loop}
-use Rattle.language.specs.Parts as parts
 use Rattle.language.specs.Value.{Place, global, bit, with_bit, value_of, values_of, IsValue, AreValues, written_globals, written_locals}
 use Rattle.language.specs.Rest.{Label, Code, join, rest_from}
 use Rattle.language.specs.Step.{Routine, Frame, frame, State, state, zeros, fresh, frame_size, result_of, with_result, given_back}
 use Rattle.language.specs.Step.{AtRoutine, AtRest, body_of, StepsTo, Fails}
 use Rattle.language.specs.Flow.{caller_frame}
 use Rattle.language.proofs.Lengths.{length_values, length_globals, length_locals}
-use Rattle.round_rewrite.specs.Table.{plain, takes, draws, draws_of, temporaries, expression, side, prologue, stop_test}
+use Rattle.round_rewrite.specs.Table.{plain, takes, draws, temporaries, expression, side, prologue, stop_test}
 use Rattle.round_rewrite.specs.Places.{places, is_global, stop_at, bad_at}
 use Rattle.resolved.specs.Scoped.{AreInScope, SideInScope}
 use Rattle.round_rewrite.proofs.Laid.{row, bits_of, lay, Moment, globals_at, turned, unturned, row_long, bits_with}
@@ -23,7 +22,7 @@ use Rattle.round_rewrite.proofs.Prologue.{stop_back}
 use Rattle.round_rewrite.proofs.Frames.{Activation, both, awaiting, entered, given, source_values, put_values, Both, source, Good, AllGood}
 use Rattle.round_rewrite.proofs.Frames.{GoodStack, put_rest, inner, behind, put_target, callers, top, site, frame_site, stack, Setting}
 use Rattle.round_rewrite.proofs.Frames.{put_routine, source_fresh, put_fresh, source_with, put_given, got, got_back, put_result, put_with}
-use Rattle.round_rewrite.proofs.Frames.{resulting, resulting_good}
+use Rattle.round_rewrite.proofs.Frames.{resulting, resulting_good, draws_room, takes_room}
 use Rattle.round_rewrite.proofs.Forward.{good_with, good_rest, good_awaiting, jump_good, call_good, branch_fits, put_branch, loop_fits}
 use Rattle.round_rewrite.proofs.Forward.{put_loop, side_at}
 
@@ -277,8 +276,7 @@ module _ (setting : Setting) (now : Moment setting.p.globals setting.last) (m : 
         (refl, good_rest p last a (one k skip t) t h h.fits.1, good) refl (later_now w Q _ N n1 e1 r1)
     step_back N a (one k (assign xs rs) t) h starts run =
         let scope = h.fits.0.0 in
-        let room : draws is_global xs rs ≤ temporaries is_global h.routine.body =
-        (let r : draws_of is_global (parts.plain (assign xs rs)) ≤ temporaries is_global h.routine.body = h.fits.0.1 in omega arith) in
+        let room : draws is_global xs rs ≤ temporaries is_global h.routine.body = draws_room p.routines p.globals a.own (temporaries is_global h.routine.body) xs rs h.fits.0 in
         let (M, vs, tmp', lt, are, drawn, r) =
         assign_back w p.globals last a.own (suc a.c) (callers p last bs m) Q now small a.l a.more a.tmp h.long (never_below bs) N xs rs
         (put_rest p last a.own t) scope.targets scope.sides run in
@@ -348,8 +346,7 @@ module _ (setting : Setting) (now : Moment setting.p.globals setting.last) (m : 
         ∙ put_with setting (both a (one k (leave_with e) t)) h v) r1))
     step_back N a (one k (call_for x q' es) t) h starts run =
         let scope = h.fits.0.0 in
-        let room : takes is_global (Some x) ≤ temporaries is_global h.routine.body =
-        (let r : draws_of is_global (parts.plain (call_for x q' es)) ≤ temporaries is_global h.routine.body = h.fits.0.1 in omega arith) in
+        let room : takes is_global (Some x) ≤ temporaries is_global h.routine.body = takes_room p.routines p.globals a.own (temporaries is_global h.routine.body) x q' es h.fits.0 in
         let (n1, e1, r1) = unstep w Q N _ _ _ (never_below bs) run in
         call_made_back N n1 a (one k (call_for x q' es) t) (awaiting a x t) q' es e1
         (good_awaiting p last a (one k (call_for x q' es) t) x t h scope.targets.0 room h.fits.1) scope.arguments scope.callee

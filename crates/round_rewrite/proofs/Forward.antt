@@ -3,13 +3,12 @@ use Rattle.std.proofs.Common.{◌≡◌, ℕ, suc, ◌+◌, ◌≤◌, Bool, tru
 use Rattle.std.proofs.Common.{Option, Some, None, option_map, slice_get, refl, sym, ◌∙◌, ap, subst, arith}
 use Rattle.language.specs.Tree.{Expression, RightSide, skip, assign, assert, assume, goto, leave, call, leave_with, call_for, Mark, done}
 use Rattle.language.specs.Tree.{one, choose, loop}
-use Rattle.language.specs.Parts as parts
 use Rattle.language.specs.Value.{Place, bit, value_of, values_of, IsValue, written_globals, written_locals}
 use Rattle.language.specs.Rest.{Label, Code, join, rest_from}
 use Rattle.language.specs.Step.{Routine, Program, Frame, frame, State, state, zeros, fresh, frame_size, with_result, given_back}
 use Rattle.language.specs.Step.{AtRoutine, AtRest, body_of, StepsTo}
 use Rattle.language.proofs.Lengths.{length_zeros, length_fresh, length_values, length_globals, length_locals}
-use Rattle.round_rewrite.specs.Table.{Naming, plain, takes, draws, draws_of, temporaries, expression, side, prologue, stop_test}
+use Rattle.round_rewrite.specs.Table.{Naming, plain, takes, draws, temporaries, expression, side, prologue, stop_test}
 use Rattle.round_rewrite.specs.Places.{places, is_global}
 use Rattle.resolved.specs.Scoped.{PlaceInScope, AreInScope, SideInScope, RoutineInScope, FitsScopes}
 use Rattle.round_rewrite.proofs.Laid.{row, Moment, globals_at, turned, unturned, row_long}
@@ -23,7 +22,7 @@ use Rattle.round_rewrite.proofs.Prologue.{stop_leads}
 use Rattle.round_rewrite.proofs.Frames.{Activation, both, awaiting, results, entered, given, source_values, put_values, Fits, Roomy, Both}
 use Rattle.round_rewrite.proofs.Frames.{source, Good, AllGood, GoodStack, put_rest, inner, behind, callers, stack, Setting, put_routine, roomy, top, site}
 use Rattle.round_rewrite.proofs.Frames.{throughout-join, throughout-rest, IfThere, bit_zeros, source_fresh, put_fresh, source_with, put_given}
-use Rattle.round_rewrite.proofs.Frames.{put_result, put_with, resulting, resulting_good}
+use Rattle.round_rewrite.proofs.Frames.{put_result, put_with, resulting, resulting_good, draws_room, takes_room}
 use Rattle.resolved.proofs.Each.{each_at}
 
 -- an open call that has new values and goes on in the same procedure
@@ -152,8 +151,8 @@ module _ (setting : Setting) (now : Moment setting.p.globals setting.last) (m : 
 
   -- a rewritten right side has the values that the source has in the row of the round
   pub side_at : (a : Activation) → length a.l ≡ a.own → (r : RightSide Place) → SideInScope p.globals a.own r → (v : Bool)
-      → IsValue X (a.l ++ a.tmp) (side (naming a.own) last r) v ≡ IsValue (row C q) a.l r v
-  side_at a el r h v = side_is small now a.own (a.l ++ a.tmp) a.l a.tmp refl el r h v
+      → IsValue X (put_values a) (side (naming a.own) last r) v ≡ IsValue (row C q) (source_values a) r v
+  side_at a el r h v = side_is small now a.own (put_values a) a.l a.tmp a.more refl el r h v
 
   module _ (Q : State → Type 0) where
     -- the last frame leaves
@@ -280,8 +279,7 @@ module _ (setting : Setting) (now : Moment setting.p.globals setting.last) (m : 
             (suc r.0, r.1)
         step_leads a (one k (assign xs rs) t) h starts s =
             let scope = h.fits.0.0 in
-            let room : draws is_global xs rs ≤ temporaries is_global h.routine.body =
-            (let r : draws_of is_global (parts.plain (assign xs rs)) ≤ temporaries is_global h.routine.body = h.fits.0.1 in omega arith) in
+            let room : draws is_global xs rs ≤ temporaries is_global h.routine.body = draws_room p.routines p.globals a.own (temporaries is_global h.routine.body) xs rs h.fits.0 in
             assign_leads w p.globals last a.own (suc a.c) (callers p last bs m) Q now small a.l a.more a.tmp h.long xs rs s.0
             (put_rest p last a.own t) s.1 scope.targets scope.sides
             (let r : length a.tmp ≡ temporaries is_global h.routine.body + length a.more = h.room in omega arith)
@@ -343,9 +341,7 @@ module _ (setting : Setting) (now : Moment setting.p.globals setting.last) (m : 
             )
         step_leads a (one k (call_for x q' es) t) h starts s =
             let scope = h.fits.0.0 in
-            let room : takes is_global (Some x) ≤ temporaries is_global h.routine.body =
-            (let r : draws_of is_global (parts.plain (call_for x q' es)) ≤ temporaries is_global h.routine.body = h.fits.0.1 in
-            omega arith) in
+            let room : takes is_global (Some x) ≤ temporaries is_global h.routine.body = takes_room p.routines p.globals a.own (temporaries is_global h.routine.body) x q' es h.fits.0 in
             let z =
             call_made (awaiting a x t) q' es
             (good_awaiting p last a (one k (call_for x q' es) t) x t h scope.targets.0 room h.fits.1) scope.arguments scope.callee s in

@@ -2,12 +2,12 @@
 use Rattle.std.proofs.Common.{◌≡◌, ℕ, zero, suc, ◌+◌, ◌-◌, ◌*◌, ◌<◌, ◌≤◌, max, Bool, true, false, cond, List, [], ◌∷◌, ◌++◌, length, map}
 use Rattle.std.proofs.Common.{Option, Some, None, option_map, slice_get, refl, sym, ◌∙◌, ap, ap₂, arith, add_assoc, ◌⊎◌, inl, inr, append_assoc}
 use Rattle.std.proofs.lemmas.List.{get_or-set_same, get_or-set_other, set_past, length-set, set-append_left}
-use Rattle.language.specs.Tree.{Simple, Mark, done, one, choose, loop, RightSide}
+use Rattle.language.specs.Tree.{Expression, Simple, assign, call_for, Mark, done, one, choose, loop, RightSide}
 use Rattle.language.specs.Value.{Place, global, local, bit, with_bit, written_locals}
 use Rattle.language.specs.Rest.{Label, Code, join, rest_from, first_of_two, has_label}
 use Rattle.language.specs.Step.{Routine, Program, Frame, frame, state, zeros, fresh, frame_size, result_of, with_result, given_back}
 use Rattle.language.specs.Flow.{caller_frame}
-use Rattle.round_rewrite.specs.Table.{plain, takes, temporaries, side, prologue, statement, stop_test, received, receiver, draws_of}
+use Rattle.round_rewrite.specs.Table.{plain, takes, draws, temporaries, side, prologue, statement, stop_test, received, receiver, draws_of}
 use Rattle.language.specs.Parts as parts
 use Rattle.round_rewrite.specs.Places.{places, is_global}
 use Rattle.round_rewrite.specs.Limits.{most_rounds}
@@ -67,6 +67,16 @@ throughout-rest S R x (loop m r a t) k hb hk =
 room_simple : (s : Simple Place ℕ Label) (t : Code) (m : Mark Label) (d : ℕ) → temporaries is_global (one m s t) ≤ d
     → (draws_of is_global (parts.plain s) ≤ d) × (temporaries is_global t ≤ d)
 room_simple s t m d h = (omega arith, omega arith)
+
+-- an assignment with room has room for what it draws
+pub draws_room : (routines : List Routine) (n own d : ℕ) (xs : List Place) (rs : List (RightSide Place))
+    → Roomy routines n own d (assign xs rs) → draws is_global xs rs ≤ d
+draws_room routines n own d xs rs (scope, room) = omega arith
+
+-- a call for a value with room has room for the value
+pub takes_room : (routines : List Routine) (n own d : ℕ) (x : Place) (q : ℕ) (es : List (Expression Place))
+    → Roomy routines n own d (call_for x q es) → takes is_global (Some x) ≤ d
+takes_room routines n own d x q es (scope, room) = omega arith
 
 -- a block in scope, with room for its temporaries, fits
 pub roomy : (routines : List Routine) (n own d : ℕ) (b : Code) → Throughout (SimpleInScope routines n own) (SideInScope n own) b
@@ -415,12 +425,11 @@ module _ (setting : Setting) where
       (ap (λ k. k + temporaries is_global h.routine.body) e)
 
   -- a frame with another result, at its end
-  pub resulting : (a : Activation) (rest : Code) → Good p last (both a rest) → Bool → Activation
+  abbrev pub resulting : (a : Activation) (rest : Code) → Good p last (both a rest) → Bool → Activation
   resulting a rest h v = record a { more = with_bit a.more 0 v; tmp = with_bit a.tmp (temporaries is_global h.routine.body) v }
 
   pub resulting_good : (a : Activation) (rest : Code) (h : Good p last (both a rest)) (v : Bool)
       → Good p last (both (resulting a rest h v) done)
-  unfolding resulting
   resulting_good a rest h v = record {
     routine = h.routine;
     there = h.there;

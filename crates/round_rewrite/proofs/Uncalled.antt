@@ -1,7 +1,7 @@
 -- Nobody calls the first procedure of a rewritten program, so it is entered once, with every value 0.
 use Rattle.std.proofs.Common.{◌≡◌, ℕ, zero, suc, ◌+◌, Bool, true, false, cond, List, [], ◌∷◌, map, Option, Some, None}
 use Rattle.std.proofs.Common.{slice_get, refl, sym, ◌∙◌, subst}
-use Rattle.language.specs.Tree.{RightSide, Simple, skip, assign, assert, assume, goto, leave, call, leave_with, call_for, Mark, done}
+use Rattle.language.specs.Tree.{var, RightSide, Simple, skip, assign, assert, assume, goto, leave, call, leave_with, call_for, Mark, done}
 use Rattle.language.specs.Tree.{one, choose, loop}
 use Rattle.language.specs.Value.{Place, values_of}
 use Rattle.language.specs.Rest.{Label, Code, join, rest_from}
@@ -9,7 +9,7 @@ use Rattle.language.specs.Step.{Routine, Program, Frame, frame, waiting, State, 
 use Rattle.language.specs.Step.{AtRest, body_of, StepsTo, AfterSteps}
 use Rattle.language.specs.Sequential.{statements, numbered, numbered_routine, in_text_order, Valuation, Calls, Asks}
 use Rattle.round_rewrite.specs.Table.{Naming, numbers, plain, side, draws, drawing, statement, prologue, rewritten, guess, guesses, starts}
-use Rattle.round_rewrite.specs.Table.{check, checks, main, received}
+use Rattle.round_rewrite.specs.Table.{check, checks, main, received, rounds, written}
 use Rattle.round_rewrite.specs.Places.{places, all_globals, rewritten_routine, main_routine, rewritten_program}
 use Rattle.resolved.specs.Scoped.{Throughout}
 use Rattle.round_rewrite.proofs.Frames.{throughout-join, throughout-rest, IfThere}
@@ -63,6 +63,11 @@ module _ (n last own : ℕ) where
   away-prologue : (m : Mark Label) (t : Code) → Away t → Away (prologue w last m t)
   away-prologue m t h = (tt, (tt, (tt, tt)), (tt, (tt, tt), (tt, tt), (tt, (tt, tt), (tt, tt), h)))
 
+  away-received : (x : Place) (t : Code) → Away t → Away (received w last x t)
+  away-received x t h =
+      away-prologue plain
+      (one plain (assign (map (λ k. w.copy k x) (rounds w last)) (map (written w last (var (w.drawn 0)) x) (rounds w last))) t) (tt, h)
+
   away-cond : (c : Bool) (a b : Code) → Away a → Away b → Away (cond c a b)
   away-cond true a b ha hb = ha
   away-cond false a b ha hb = hb
@@ -81,7 +86,7 @@ module _ (n last own : ℕ) where
   away-statement (leave_with e) t h = (tt, h)
   away-statement (call_for x q es) t h = (
     (q, refl),
-    (tt, (tt, tt), (tt, tt), away-cond (w.is_shared x) (received w last x t) t (away-prologue plain _ (tt, h)) h),
+    (tt, (tt, tt), (tt, tt), away-cond (w.is_shared x) (received w last x t) t (away-received x t h) h),
   )
 
   away-rewritten : (b : Code) → Away (rewritten w last b)

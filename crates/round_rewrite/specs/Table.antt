@@ -130,6 +130,10 @@ module _ {V W P Q : Type 0} (naming : Naming V W P Q) (last : ℕ) where
       cond (naming.is_shared x) (map (written (expression operand) x) rounds ++ sides j xs rs)
       (value (expression operand) ∷ sides j xs rs)
 
+  -- what the value of a call goes to: a global's to the first temporary, a local's to the local itself
+  abbrev pub receiver : V → W
+  receiver x = cond (naming.is_shared x) (naming.drawn 0) (naming.kept x)
+
   module _ {L : Type 0} where
     -- the draw of so many temporaries, if any
     abbrev pub drawing : ℕ → Block W Q L → Block W Q L
@@ -160,10 +164,6 @@ module _ {V W P Q : Type 0} (naming : Naming V W P Q) (last : ℕ) where
     received x rest =
         prologue plain
         (one plain (assign (map (λ k. naming.copy k x) rounds) (map (written (var (naming.drawn 0)) x) rounds)) rest)
-
-    -- what the value of a call goes to: a global's to the first temporary, a local's to the local itself
-    abbrev pub receiver : V → W
-    receiver x = cond (naming.is_shared x) (naming.drawn 0) (naming.kept x)
 
     -- a statement that holds no others, behind its prologue
     abbrev pub statement : Simple V P L → Block W Q L → Block W Q L
