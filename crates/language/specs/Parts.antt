@@ -43,11 +43,6 @@ callee_of (plain (call callee es)) = Some callee
 callee_of (plain (call_for x callee es)) = Some callee
 callee_of _ = None
 
--- the variable that waits for the value of the procedure called, where one does
-abbrev pub receiver_of : {V P L : Type 0} → Head V P L → Option V
-receiver_of (plain (call_for x callee es)) = Some x
-receiver_of _ = None
-
 -- the statement returns a value
 abbrev pub gives : {V P L : Type 0} → Head V P L → Bool
 gives (plain (leave_with e)) = true

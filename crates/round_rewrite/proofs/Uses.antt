@@ -160,7 +160,7 @@ module _ (own : List Name) (last d : ℕ) (D S : Name → Type 0) (held : Held o
       (variables_of (in_round (names own) last k) ++ (copy_name k x ∷ []))
       (each_both D (variables_of (in_round (names own) last k)) (variables_of e) (at_uses k) g) (copy_uses x h hidden k le)
 
-  row_uses : (e : Expression Name) → Each D (variables_of e) → (x : Name) → S x → is_declared x.text own ≡ false → (j m : ℕ)
+  pub row_uses : (e : Expression Name) → Each D (variables_of e) → (x : Name) → S x → is_declared x.text own ≡ false → (j m : ℕ)
       → j + m ≤ suc last → Each D (variables_of_sides (map (written (names own) last e x) (numbers j m)))
   row_uses e g x h hidden j zero le = tt
   row_uses e g x h hidden j (suc m) le =
@@ -168,7 +168,7 @@ module _ (own : List Name) (last d : ℕ) (D S : Name → Type 0) (held : Held o
       (variables_of_sides (map (written (names own) last e x) (numbers (suc j) m)))
       (written_uses e g x h hidden j (omega arith)) (row_uses e g x h hidden (suc j) m (omega arith))
 
-  copies_held : (x : Name) → S x → is_declared x.text own ≡ false → (j m : ℕ) → j + m ≤ suc last
+  pub copies_held : (x : Name) → S x → is_declared x.text own ≡ false → (j m : ℕ) → j + m ≤ suc last
       → Each D (map (λ k. copy_name k x) (numbers j m))
   copies_held x h hidden j zero le = tt
   copies_held x h hidden j (suc m) le = (held.copied x h hidden j (omega arith), copies_held x h hidden (suc j) m (omega arith))
@@ -217,3 +217,29 @@ module _ (own : List Name) (last d : ℕ) (D S : Name → Type 0) (held : Held o
       (λ e.
       subst (λ c. Each D (variables_of_sides (cond (not c) (here ++ others) (value (expression (names own) last v) ∷ others)))) (sym e)
       (sides_both D here others (row_uses (expression (names own) last v) uses x h.0 e 0 (suc last) (omega arith)) rec))
+
+  -- what gets the value of a call
+  pub receiver_held : (x : Name) → S x → takes (names own).is_shared (Some x) ≤ d → D (receiver (names own) last x)
+  receiver_held x h room = by_test (is_declared x.text own)
+      (λ e. subst (λ c. D (cond (not c) (drawn_name 0) x)) (sym e) (held.kept x h e))
+      (λ e.
+      let more : 1 ≤ d = subst (λ c. cond (not c) 1 0 ≤ d) e room in
+      subst (λ c. D (cond (not c) (drawn_name 0) x)) (sym e) (held.drawn 0 (omega arith)))
+
+  -- a property of what stands behind the call, from that of the write to the copies, where a global gets the value
+  pub landing_has : (P : Block Name Name Name → Type 0) (x : Name) (k : Block Name Name Name) → S x
+      → takes (names own).is_shared (Some x) ≤ d → P k
+      → ((xs : List Name) (rs : List (RightSide Name)) → 0 < length xs → length xs ≡ length rs → Each D xs
+      → Each D (variables_of_sides rs) → P (prologue (names own) last plain (one plain (assign xs rs) k)))
+      → P (cond ((names own).is_shared x) (received (names own) last x k) k)
+  landing_has P x k h room pk f = by_test (is_declared x.text own)
+      (λ e. subst (λ c. P (cond (not c) (received (names own) last x k) k)) (sym e) pk)
+      (λ e.
+      let more : 1 ≤ d = subst (λ c. cond (not c) 1 0 ≤ d) e room in
+      subst (λ c. P (cond (not c) (received (names own) last x k) k)) (sym e)
+      (f (map (λ k. copy_name k x) (rounds (names own) last))
+      (map (written (names own) last (var (drawn_name 0)) x) (rounds (names own) last)) (omega arith)
+      (length-map (rounds (names own) last) (λ k. copy_name k x)
+      ∙ sym (length-map (rounds (names own) last) (written (names own) last (var (drawn_name 0)) x)))
+      (copies_held x h e 0 (suc last) (omega arith))
+      (row_uses (var (drawn_name 0)) (held.drawn 0 (omega arith), tt) x h e 0 (suc last) (omega arith))))

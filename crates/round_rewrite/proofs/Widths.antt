@@ -1,10 +1,11 @@
 -- How wide the procedures of the rewritten program are, and how many there are.
-use Rattle.std.proofs.Common.{◌≡◌, ℕ, zero, suc, ◌+◌, ◌<◌, ◌≤◌, Some, inl, refl, slice_get, take, is_some}
+use Rattle.std.proofs.Common.{◌≡◌, ℕ, zero, suc, ◌+◌, ◌<◌, ◌≤◌, cond, Some, inl, refl, slice_get, take, is_some}
 use Rattle.std.proofs.Common.{true≢false, List, [], ◌∷◌, ◌++◌, length, length-append, get_or, map, codes, sym, ◌∙◌, ap}
 use Rattle.std.proofs.Common.{subst, arith, append_assoc}
 use Rattle.std.proofs.lemmas.List.{length-map}
 use Rattle.std.proofs.lemmas.Option.{same_Some}
 use Rattle.language.specs.Tree.{Name, Procedure, Tree}
+use Rattle.language.specs.Resolve.{gives_value}
 use Rattle.trees.specs.declared.tree.Proc.{Proc}
 use Rattle.trees.specs.Trees.{proc_of, procs_of}
 use Rattle.scopes.specs.declared.fault.ScopeFault.TheVariants as fault
@@ -19,6 +20,7 @@ use Rattle.round_rewrite.specs.Writing.{own_width, procedure_needs, IsOwnNarrow,
 use Rattle.round_rewrite.proofs.Numbering.{length-rows}
 use Rattle.round_rewrite.proofs.Placing.{length-numbers}
 use Rattle.round_rewrite.proofs.Copied.{gathered}
+use Rattle.round_rewrite.proofs.Giving.{gives_rewritten}
 use Rattle.resolved.specs.Limits.{most_places}
 
 four_behind : {B : Type 0} (xs : List B) (a b c d : B)
@@ -56,7 +58,12 @@ module _ (t : Tree) (last n : ℕ) (is : global_count (length t.globals) last �
 
   -- what a procedure has when it is rewritten: the globals, and its own
   pub rewritten_places : (p : Procedure) → rewritten_width last t p ≡ n + own_width p
-  rewritten_places p = λ i. wide i + own_places last p i
+  rewritten_places p =
+      let r : ℕ = cond (gives_value p.body) 1 0 in
+      let sum : (length p.formals + (length p.locals + procedure_needs p)) + r ≡ own_width p = omega arith in
+      λ i.
+      wide i
+      + ((λ j. own_places last p j + cond (gives_rewritten (names (p.formals ++ p.locals)) last p.body j) 1 0) ∙ sum) i
 
   into : (ps : List Procedure) → AreNarrow last t ps →
       EachProcedure (λ p. width (rewritten_tree last t) p ≤ most_places) (map (rewritten_procedure last) ps)
@@ -112,7 +119,7 @@ module _ (t : Tree) (last n : ℕ) (is : global_count (length t.globals) last �
 pub few_needs : (n : ℕ) (ps : List Procedure) → EachProcedure (IsOwnNarrow n) ps → AreFew ps
 few_needs n [] e = tt
 few_needs n (p ∷ ps) e = (
-  let h : n + (length p.formals + (length p.locals + procedure_needs p)) ≤ most_places =
+  let h : n + own_width p ≤ most_places =
       e.0 in let k : procedure_needs p ≤ most_places = omega (arith, h) in k,
   few_needs n ps e.1,
 )

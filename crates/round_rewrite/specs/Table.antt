@@ -5,7 +5,8 @@ use Rattle.std.specs.Prelude.{ℕ, zero, suc, ◌/◌, ◌%◌, Bool, true, fals
 use Rattle.language.specs.Tree.{Expression, const, var, negation, two, or, xor, and, equal, RightSide, any, value, Simple, skip, assign}
 use Rattle.language.specs.Tree.{assert, assume, goto, leave, call, leave_with, call_for, Mark, Block, done, one, choose, loop}
 use Rattle.language.specs.Parts as parts
-use Rattle.language.specs.Parts.{Head, targets_of, sides_of, receiver_of}
+use Rattle.language.specs.Parts.{Head, sides_of}
+use Rattle.trees.specs.Parts.{assigned_by, receiver_of}
 pub use Rattle.language.specs.Sequential.{numbers}
 use Rattle.language.specs.Rest.{join}
 
@@ -68,7 +69,7 @@ takes is_shared (Some x) = cond (is_shared x) 1 0
 
 -- how many temporaries a statement needs, without those that it holds
 abbrev pub draws_of : {V P L : Type 0} → (V → Bool) → Head V P L → ℕ
-draws_of is_shared head = max (takes is_shared (receiver_of head)) (draws is_shared (targets_of head) (sides_of head))
+draws_of is_shared head = max (takes is_shared (receiver_of head)) (draws is_shared (assigned_by head) (sides_of head))
 
 -- how many temporaries a block needs
 abbrev pub temporaries : {V P L : Type 0} → (V → Bool) → Block V P L → ℕ
