@@ -1,14 +1,14 @@
 -- What is reached begins with an entry, stands at a rest of the procedure's body, and stays reached by more messages.
-use Rattle.std.proofs.Common.{ℕ, refl, sym, subst, slice_get}
+use Rattle.std.proofs.Common.{ℕ, slice_get}
 use Rattle.language.specs.Tree.{done}
 use Rattle.language.specs.Rest.{Code}
 use Rattle.language.specs.Step.{Program, body_of}
 use Rattle.language.specs.Sequential.{Valuation, Caller, caller, Message, entry, summary}
 use Rattle.language.specs.Flow.{after_first}
 use Rattle.language.specs.Messages.{Reached, starts, flows, returns, Owes, asks, tells}
-use Rattle.language.proofs.RestMembers.{Follows, rest_follows}
+use Rattle.language.proofs.RestMembers.{rest_follows}
 use Rattle.language.proofs.Standing.{Stands, whole_stands, flow_stands}
-use Rattle.language.proofs.Entering.{call_shape}
+use Rattle.language.proofs.Entering.{call_shape, call_follows}
 
 -- what is reached from a valuation has an entry with it
 pub reached_entry : (p : Program) (q : ℕ) (M : Message → Type 0) (a v : Valuation) (r : Code) → Reached p q M a v r
@@ -22,9 +22,8 @@ pub reached_stands : (p : Program) (q : ℕ) (M : Message → Type 0) (a v : Val
 reached_stands p q M _ _ _ (starts from a is) = whole_stands (body_of (slice_get p.routines q))
 reached_stands p q M _ _ _ (flows a v v' r r' reached flow) = flow_stands p q v v' r r' (reached_stands p q M a v r reached) flow
 reached_stands p q M _ _ _ (returns a v e r s b reached calls is) =
-    let (m, es, t, same, h) = call_shape p v.globals v.places r s e calls in
-    rest_follows (body_of (slice_get p.routines q)) r (after_first r) (reached_stands p q M a v r reached)
-    (subst (λ z. Follows z (after_first z)) (sym same) refl)
+    let (es, is, h) = call_shape p v.globals v.places r s e calls in
+    rest_follows (body_of (slice_get p.routines q)) r (after_first r) (reached_stands p q M a v r reached) (call_follows r s es is)
 
 pub reached_more : (p : Program) (q : ℕ) (M N : Message → Type 0) → ((m : Message) → M m → N m) → (a v : Valuation) (r : Code) →
     Reached p q M a v r → Reached p q N a v r

@@ -1,15 +1,17 @@
 -- By messages that are closed under owing, all path edges are reached, and all that is due is there.
 use Rattle.std.proofs.Common.{◌≡◌, ◌⊎◌, ℕ, zero, suc, List, [], ◌∷◌, Bool, Option, Some, None, inl, inr, refl, sym, ap, subst, slice_get}
 use Rattle.language.specs.Tree.{done}
-use Rattle.language.specs.Rest.{Code}
-use Rattle.language.specs.Step.{Routine, Program, Frame, frame, State, state, zeros, AtRoutine, body_of, Step, AfterSteps}
-use Rattle.language.specs.Sequential.{Valuation, Reaches, Calls, Asks, Entered, exit_of}
+use Rattle.language.specs.Rest.{Code, target_of}
+use Rattle.language.specs.Step.{Routine, Program, Frame, frame, waiting, State, state, zeros, frame_size, result_of, given_back}
+use Rattle.language.specs.Step.{AtRoutine, body_of, Step, AfterSteps}
+use Rattle.language.specs.Sequential.{Valuation, Reaches, Calls, Asks, Entered, Exit, exit_of}
 use Rattle.language.specs.Sequential.{Caller, starter, caller, Message, entry, summary, IsDue}
 use Rattle.language.specs.Rounds.{starting_stack}
-use Rattle.language.specs.Flow.{FlowsTo, ReturnsTo, EntersTo, after_first}
+use Rattle.language.specs.Flow.{FlowsTo, ReturnsTo, EntersTo, after_first, caller_frame}
 use Rattle.language.specs.Messages.{Reached, starts, flows, returns, asks, tells, HasOpening, HasOwed}
 use Rattle.language.proofs.Runs.{steps_pick}
 use Rattle.language.proofs.StepKinds.{step_kinds}
+use Rattle.language.proofs.RunsOver.{given_caller}
 use Rattle.language.proofs.Sound.{Inside, alone, pair_inside}
 
 -- what procedure q reaches by its own messages
@@ -20,13 +22,14 @@ Reaching p M q a v r = Reached p q (M q) a v r
 -- entering of procedure k with z.
 abbrev Wait : Program → (ℕ → Message → Type 0) → ℕ → Valuation → ℕ → Valuation → List Frame → Type 0
 Wait p M k z q a [] = (q ≡ k) × (a ≡ z)
-Wait p M k z q a (frame c l t ∷ fs) =
-    (b : Valuation) × (g : List Bool) × (r : Code) × (t ≡ after_first r) × Reaching p M c b (record { globals = g; places = l }) r
-    × Calls p g l r q a × Wait p M k z c b fs
+Wait p M k z q a (f ∷ fs) =
+    (c : ℕ) × (b : Valuation) × (v : Valuation) × (r : Code) × (f ≡ caller_frame c v.places (target_of r) (after_first r))
+    × Reaching p M c b v r × Calls p v.globals v.places r q a × Wait p M k z c b fs
 
 -- the top frame has been reached, and the others wait for it
 abbrev Held : Program → (ℕ → Message → Type 0) → ℕ → Valuation → State → Type 0
 Held p M k z (state g []) = Unit {0}
+Held p M k z (state g (waiting q l x r ∷ fs)) = ⊥
 Held p M k z (state g (frame q l r ∷ fs)) =
     (a : Valuation) × Reaching p M q a (record { globals = g; places = l }) r × Wait p M k z q a fs
 
@@ -38,33 +41,33 @@ called p M closed q a v e r s reached calls = closed q s (entry (caller q) e) (a
 -- a caller goes on behind its call
 back : (p : Program) (M : ℕ → Message → Type 0) → HasOwed p M → (k : ℕ) (z : Valuation) (q : ℕ) (a v : Valuation) → Reaching p M q a v done
     →
-    (fs : List Frame) → Wait p M k z q a fs → Held p M k z (state v.globals fs)
+    (fs : List Frame) → Wait p M k z q a fs → Held p M k z (given_back (result_of (slice_get p.routines q) v.places) v.globals fs)
 back p M closed k z q a v reached [] wait = tt
-back p M closed k z q a v reached (frame c l t ∷ fs) (b, g, r, same, before, calls, below) =
-    let u : Valuation = record { globals = g; places = l } in
+back p M closed k z q a v reached (f ∷ fs) (c, b, u, r, same, before, calls, below) =
+    let left : Exit = exit_of p q v in
     let entered = called p M closed c b u a r q before calls in
-    let told = closed q c (summary q a (exit_of v)) (tells a v c entered reached) in (
-      b,
-      subst (Reaching p M c b (record { globals = v.globals; places = l })) (sym same)
-          (returns b u a r q (exit_of v) before calls told),
-      below,
-    )
+    let told = closed q c (summary q a left) (tells a v c entered reached) in
+    let held : Held p M k z (given_back left.result left.globals (caller_frame c u.places (target_of r) (after_first r) ∷ fs)) =
+    subst (Held p M k z) (sym (given_caller c u (target_of r) (after_first r) fs left))
+    (b, returns b u a r q left before calls told, below) in
+    subst (λ h. Held p M k z (given_back left.result left.globals (h ∷ fs))) (sym same) held
 
 held_step : (p : Program) (M : ℕ → Message → Type 0) → HasOwed p M → (k : ℕ) (z : Valuation) (s t : State) → Held p M k z s → Step p s t
     → Held p M k z t
 held_step p M closed k z (state g []) t held step = absurd step
+held_step p M closed k z (state g (waiting q l x r ∷ fs)) t held step = absurd step
 held_step p M closed k z (state g (frame q l r ∷ fs)) t (a, reached, wait) step = by_kind ((step_kinds p q v r fs t).0 step)
   where
     v : Valuation
     v = record { globals = g; places = l }
 
-    by_kind : FlowsTo p q v r fs t ⊎ (ReturnsTo v r fs t ⊎ EntersTo p q v r fs t) → Held p M k z t
+    by_kind : FlowsTo p q v r fs t ⊎ (ReturnsTo p q v r fs t ⊎ EntersTo p q v r fs t) → Held p M k z t
     by_kind (inl (v', r', flow, same)) = subst (Held p M k z) (sym same) (a, flows a v v' r r' reached flow, wait)
     by_kind (inr (inl (e, same))) =
         subst (Held p M k z) (sym same) (back p M closed k z q a v (subst (Reaching p M q a v) e reached) fs wait)
     by_kind (inr (inr (s, e, calls, same))) =
         subst (Held p M k z) (sym same)
-        (e, starts (caller q) e (called p M closed q a v e r s reached calls), (a, g, r, refl, reached, calls, wait))
+        (e, starts (caller q) e (called p M closed q a v e r s reached calls), (q, a, v, r, refl, reached, calls, wait))
 
 held_steps : (p : Program) (M : ℕ → Message → Type 0) → HasOwed p M → (k : ℕ) (z : Valuation) (n : ℕ) (s t : State) →
     Held p M k z s → AfterSteps p n s (λ u. u ≡ t) → Held p M k z t
@@ -93,11 +96,11 @@ start_held p M opened = of_routine (slice_get p.routines 0) refl
         (z : Valuation)
         × Held p M 0 z
         (state (zeros p.globals)
-        (elim o as (λ x. List Frame) [ None ↦ [] | Some routine ↦ frame 0 (zeros routine.places) routine.body ∷ [] ]))
+        (elim o as (λ x. List Frame) [ None ↦ [] | Some routine ↦ frame 0 (zeros (frame_size routine)) routine.body ∷ [] ]))
     of_routine None e = (record { globals = []; places = [] }, tt)
     of_routine (Some routine) e =
-        let z : Valuation = record { globals = zeros p.globals; places = zeros routine.places } in
-        let begins = subst (λ o. AtRoutine o (λ r. z ≡ record { globals = zeros p.globals; places = zeros r.places })) (sym e) refl in
+        let z : Valuation = record { globals = zeros p.globals; places = zeros (frame_size routine) } in
+        let begins = subst (λ o. AtRoutine o (λ r. z ≡ record { globals = zeros p.globals; places = zeros (frame_size r) })) (sym e) refl in
         (z, whole_held p M 0 z routine e (alone_held p M 0 z starter (opened z begins)))
 
 -- in a sequential run the top frame has been reached
@@ -134,7 +137,8 @@ pub due_had : (p : Program) (M : ℕ → Message → Type 0) → HasOpening p M 
 due_had p M opened closed q (entry starter a) (e, begins) = subst (λ z. M z (entry starter a)) (sym e) (opened a begins)
 due_had p M opened closed q (entry (caller c) a) asking = asked_had p M opened closed c q a asking
 due_had p M opened closed q (summary s a b) (asking, pair) =
-    let (l, inside) = pair_inside p s a b pair in
+    let (l, result, inside) = pair_inside p s a b pair in
     let v : Valuation = record { globals = b.globals; places = l } in
     let entered = asked_had p M opened closed q s a asking in
-    closed s q (summary s a b) (tells a v q entered (inside_reached p M opened closed s a v done inside))
+    let told = closed s q (summary s a (exit_of p s v)) (tells a v q entered (inside_reached p M opened closed s a v done inside)) in
+    subst (λ z. M q (summary s a (record { globals = b.globals; result = z }))) (sym result) told

@@ -1,9 +1,9 @@
 -- How many values are written, entered with, and given by expressions.
-use Rattle.std.proofs.Common.{◌≡◌, ℕ, zero, suc, ◌+◌, ◌-◌, ◌≤◌, List, [], ◌∷◌, Bool, refl, ◌∙◌, ap, arith, length}
+use Rattle.std.proofs.Common.{◌≡◌, ℕ, zero, suc, ◌+◌, ◌-◌, ◌≤◌, List, [], ◌∷◌, Bool, Option, Some, None, cond, refl, ◌∙◌, ap, arith, length}
 use Rattle.std.proofs.lemmas.List.{length-append, length-set}
 use Rattle.language.specs.Tree.{Expression}
 use Rattle.language.specs.Value.{Place, global, local, values_of, with_bit, written_globals, written_locals}
-use Rattle.language.specs.Step.{zeros, fresh}
+use Rattle.language.specs.Step.{Routine, zeros, fresh, frame_size, with_result}
 
 pub length_zeros : (n : ℕ) → length (zeros n) ≡ n
 length_zeros zero = refl
@@ -15,6 +15,18 @@ length_fresh n arguments few =
     length-append arguments (zeros (n - length arguments)) in
     let more : length (zeros (n - length arguments)) ≡ n - length arguments = length_zeros (n - length arguments) in
     omega (arith, all, more, few)
+
+-- another result changes no length
+pub length_result : (o : Option Routine) (l : List Bool) (v : Bool) → length (with_result o l v) ≡ length l
+length_result None l v = refl
+length_result (Some routine) l v = length-set l routine.places v
+
+-- a frame has a value for each place
+pub places_within : (routine : Routine) → routine.places ≤ frame_size routine
+places_within routine = within routine.places (cond routine.gives 1 0)
+  where
+    within : (n k : ℕ) → n ≤ n + k
+    within n k = omega arith
 
 pub length_values : (g l : List Bool) (es : List (Expression Place)) → length (values_of g l es) ≡ length es
 length_values g l [] = refl

@@ -1,15 +1,17 @@
 -- The widths of valuations: as many values as globals and as places.
-use Rattle.std.proofs.Common.{◌≡◌, ◌⊎◌, ℕ, zero, suc, ◌≤◌, List, [], ◌∷◌, Bool, inl, inr, refl, sym, ◌∙◌, ap, subst, arith, length}
-use Rattle.std.proofs.Common.{slice_get}
-use Rattle.language.specs.Tree.{skip, assign, assert, assume, goto, leave, call, done, one, choose, loop}
-use Rattle.language.specs.Value.{values_of}
-use Rattle.language.specs.Rest.{Code, rest_from}
-use Rattle.language.specs.Step.{Program, frame, State, state, zeros, fresh, AtRoutine, body_of, Step, AfterSteps}
-use Rattle.language.specs.Sequential.{Valuation, Calls, Asks, IsZero, Entered, Message, entry, summary, IsDue}
-use Rattle.language.specs.Flow.{IsRestOf, Flow, FlowsTo, ReturnsTo, EntersTo}
+use Rattle.std.proofs.Common.{◌≡◌, ◌⊎◌, ℕ, zero, suc, ◌≤◌, List, [], ◌∷◌, Bool, Option, Some, None, inl, inr, refl, sym, ◌∙◌, ap, subst}
+use Rattle.std.proofs.Common.{arith}
+use Rattle.std.proofs.Common.{length, slice_get}
+use Rattle.language.specs.Tree.{skip, assign, assert, assume, goto, leave, call, leave_with, call_for, done, one, choose, loop}
+use Rattle.language.specs.Value.{Place, value_of, values_of}
+use Rattle.language.specs.Rest.{Code, rest_from, target_of}
+use Rattle.language.specs.Step.{Program, Frame, frame, waiting, State, state, zeros, fresh, frame_size, result_of, given_back}
+use Rattle.language.specs.Step.{AtRoutine, body_of, Step, AfterSteps}
+use Rattle.language.specs.Sequential.{Valuation, Calls, Asks, IsZero, Entered, Exit, resumed_with, Message, entry, summary, IsDue}
+use Rattle.language.specs.Flow.{Flow, FlowsTo, ReturnsTo, EntersTo}
 use Rattle.language.specs.Messages.{Reached, starts, flows, returns, IsValuationOf, IsMessageTo, ArgumentsFit}
 use Rattle.language.proofs.Runs.{steps_pick}
-use Rattle.language.proofs.Lengths.{length_zeros, length_fresh, length_values, length_globals, length_locals}
+use Rattle.language.proofs.Lengths.{length_zeros, length_fresh, length_values, length_globals, length_locals, length_result, places_within}
 use Rattle.language.proofs.Callers.{no_flow_from_call, no_flow_from_exit}
 use Rattle.language.proofs.StepKinds.{rest_found, routine_found, step_kinds}
 use Rattle.language.proofs.Standing.{frame_stands}
@@ -23,6 +25,7 @@ breadth (state g fs) = length g
 abbrev top_breadth : State → ℕ
 top_breadth (state g []) = 0
 top_breadth (state g (frame q l r ∷ fs)) = length l
+top_breadth (state g (waiting q l x r ∷ fs)) = length l
 
 -- as many globals, and as many places in the top frame
 abbrev AsWide : State → State → Type 0
@@ -50,28 +53,40 @@ flow_widths p q v v' (one m (goto x) t) r' h =
     (λ z. state v.globals (frame q v.places z ∷ []) ≡ state v'.globals (frame q v'.places r' ∷ [])) h in
     same_wide _ _ same
 flow_widths p q v v' (one m leave t) r' h = same_wide _ _ h
-flow_widths p q v v' (one m (call n es) t) r' h = absurd (no_flow_from_call p q n v v' m es t r' h)
+flow_widths p q v v' (one m (call n es) t) r' h = absurd (no_flow_from_call p q n v v' es (one m (call n es) t) r' refl h)
+flow_widths p q v v' (one m (leave_with e) t) r' h =
+    let (globals, places) = same_wide _ _ h in
+    (globals, sym (length_result (slice_get p.routines q) v.places (value_of v.globals v.places e)) ∙ places)
+flow_widths p q v v' (one m (call_for x n es) t) r' h =
+    absurd (no_flow_from_call p q n v v' es (one m (call_for x n es) t) r' refl h)
 flow_widths p q v v' (choose m c a b t) r' (w, is, h) = same_wide _ _ h
 flow_widths p q v v' (loop m c a t) r' (w, is, h) = same_wide _ _ h
 
 -- what is entered by a call has the globals of the caller
 entered_breadth : (p : Program) (g l : List Bool) (r : Code) (s : ℕ) (e : Valuation) → Calls p g l r s e → length g ≡ length e.globals
 entered_breadth p g l r s e calls =
-    let (m, es, t, same, h) = call_shape p g l r s e calls in
+    let (es, called, h) = call_shape p g l r s e calls in
     let (routine, is, at) =
-    routine_found (slice_get p.routines s) (λ z. e ≡ record { globals = g; places = fresh z.places (values_of g l es) }) h in
+    routine_found (slice_get p.routines s) (λ z. e ≡ record { globals = g; places = fresh (frame_size z) (values_of g l es) }) h in
     sym (ap (λ (z : Valuation). length z.globals) at)
+
+-- a frame that goes leaves as many globals
+given_breadth : (v : Bool) (g : List Bool) (fs : List Frame) → breadth (given_back v g fs) ≡ length g
+given_breadth v g [] = refl
+given_breadth v g (frame c l t ∷ fs) = refl
+given_breadth v g (waiting c l x t ∷ fs) = length_globals (x ∷ []) (v ∷ []) g
 
 step_breadth : (p : Program) (s t : State) → Step p s t → breadth s ≡ breadth t
 step_breadth p (state g []) t h = absurd h
+step_breadth p (state g (waiting q l x r ∷ fs)) t h = absurd h
 step_breadth p (state g (frame q l r ∷ fs)) t h = by_kind ((step_kinds p q v r fs t).0 h)
   where
     v : Valuation
     v = record { globals = g; places = l }
 
-    by_kind : FlowsTo p q v r fs t ⊎ (ReturnsTo v r fs t ⊎ EntersTo p q v r fs t) → length g ≡ breadth t
+    by_kind : FlowsTo p q v r fs t ⊎ (ReturnsTo p q v r fs t ⊎ EntersTo p q v r fs t) → length g ≡ breadth t
     by_kind (inl (v', r', flow, same)) = (flow_widths p q v v' r r' flow).0 ∙ sym (ap breadth same)
-    by_kind (inr (inl (e, same))) = sym (ap breadth same)
+    by_kind (inr (inl (e, same))) = sym (given_breadth (result_of (slice_get p.routines q) l) g fs) ∙ sym (ap breadth same)
     by_kind (inr (inr (s, e, calls, same))) = entered_breadth p g l r s e calls ∙ sym (ap breadth same)
 
 steps_breadth : (p : Program) (n : ℕ) (s t : State) → AfterSteps p n s (λ u. u ≡ t) → breadth s ≡ breadth t
@@ -82,25 +97,27 @@ steps_breadth p (suc n) s t run =
 
 asked_valuation : (p : Program) → ArgumentsFit p → (c q : ℕ) (a : Valuation) → Asks p c q a → IsValuationOf p q a
 asked_valuation p fit c q a (g, l, r, fs, (n, run), calls) =
-    let (m, es, t, same, h) = call_shape p g l r q a calls in
+    let (es, called, h) = call_shape p g l r q a calls in
     let (routine, is, at) =
-    routine_found (slice_get p.routines q) (λ z. a ≡ record { globals = g; places = fresh z.places (values_of g l es) }) h in
-    let rest = subst (IsRestOf (body_of (slice_get p.routines c))) same (frame_stands p g (frame c l r ∷ fs) c l r (n, run) (inl refl)) in
-    let few : length es ≤ routine.places = subst (λ o. AtRoutine o (λ z. length es ≤ z.places)) is (fit c q m es t rest) in
+    routine_found (slice_get p.routines q) (λ z. a ≡ record { globals = g; places = fresh (frame_size z) (values_of g l es) }) h in
+    let rest = frame_stands p g (frame c l r ∷ fs) c l r (n, run) (inl refl) in
+    let few : length es ≤ routine.places = subst (λ o. AtRoutine o (λ z. length es ≤ z.places)) is (fit c q r es rest called) in
+    let within : routine.places ≤ frame_size routine = places_within routine in
     let count : length (values_of g l es) ≡ length es = length_values g l es in
-    let places : length a.places ≡ routine.places =
-    ap (λ (z : Valuation). length z.places) at ∙ length_fresh routine.places (values_of g l es) (omega (arith, few, count)) in (
+    let places : length a.places ≡ frame_size routine =
+    ap (λ (z : Valuation). length z.places) at
+    ∙ length_fresh (frame_size routine) (values_of g l es) (omega (arith, few, within, count)) in (
       sym (entered_breadth p g l r q a calls) ∙ sym (steps_breadth p n _ _ run) ∙ length_zeros p.globals,
-      subst (λ o. AtRoutine o (λ z. length a.places ≡ z.places)) (sym is) places,
+      subst (λ o. AtRoutine o (λ z. length a.places ≡ frame_size z)) (sym is) places,
     )
 
 zero_valuation : (p : Program) (a : Valuation) → IsZero p a → IsValuationOf p 0 a
 zero_valuation p a begins =
     let (routine, is, at) =
-    routine_found (slice_get p.routines 0) (λ z. a ≡ record { globals = zeros p.globals; places = zeros z.places }) begins in (
+    routine_found (slice_get p.routines 0) (λ z. a ≡ record { globals = zeros p.globals; places = zeros (frame_size z) }) begins in (
       ap (λ (z : Valuation). length z.globals) at ∙ length_zeros p.globals,
-      subst (λ o. AtRoutine o (λ z. length a.places ≡ z.places)) (sym is)
-          (ap (λ (z : Valuation). length z.places) at ∙ length_zeros routine.places),
+      subst (λ o. AtRoutine o (λ z. length a.places ≡ frame_size z)) (sym is)
+          (ap (λ (z : Valuation). length z.places) at ∙ length_zeros (frame_size routine)),
     )
 
 entered_valuation : (p : Program) → ArgumentsFit p → (q : ℕ) (a : Valuation) → Entered p q a → IsValuationOf p q a
@@ -111,13 +128,20 @@ entered_valuation p fit q a (inr (c, asking)) = asked_valuation p fit c q a aski
 pub due_message : (p : Program) → ArgumentsFit p → (q : ℕ) (m : Message) → IsDue p q m → IsMessageTo p q m
 due_message p fit q (entry from a) due = entered_valuation p fit q a (due_entered p q from a due)
 due_message p fit q (summary s a b) (asking, pair) =
-    let (l, (entered, (n, run))) = pair_inside p s a b pair in
+    let (l, result, (entered, (n, run))) = pair_inside p s a b pair in
     let whole = asked_valuation p fit q s a asking in
     (whole, sym (steps_breadth p n (alone p s a) (state b.globals (frame s l done ∷ [])) run) ∙ whole.0)
 
 same_valuation : (p : Program) (q : ℕ) (v w : Valuation) → SameWidths v w → IsValuationOf p q v → IsValuationOf p q w
 same_valuation p q v w (globals, places) (g, l) =
-    (sym globals ∙ g, subst (λ n. AtRoutine (slice_get p.routines q) (λ z. n ≡ z.places)) places l)
+    (sym globals ∙ g, subst (λ n. AtRoutine (slice_get p.routines q) (λ z. n ≡ frame_size z)) places l)
+
+-- a caller goes on with its own places, and with as many globals as its call has left
+resumed_widths : (x : Option Place) (v : Valuation) (b : Exit) →
+    SameWidths (record { globals = b.globals; places = v.places }) (resumed_with x v b)
+resumed_widths None v b = (refl, refl)
+resumed_widths (Some x) v b =
+    (sym (length_globals (x ∷ []) (b.result ∷ []) b.globals), sym (length_locals (x ∷ []) (b.result ∷ []) v.places))
 
 -- by messages of the right widths, what is reached has them
 pub reached_valuation : (p : Program) (q : ℕ) (M : Message → Type 0) → ((m : Message) → M m → IsMessageTo p q m)
@@ -127,4 +151,5 @@ reached_valuation p q M right _ _ _ (starts from a is) = right (entry from a) is
 reached_valuation p q M right _ _ _ (flows a v v' r r' reached flow) =
     same_valuation p q v v' (flow_widths p q v v' r r' flow) (reached_valuation p q M right a v r reached)
 reached_valuation p q M right _ _ _ (returns a v e r s b reached calls is) =
-    ((right (summary s e b) is).1, (reached_valuation p q M right a v r reached).1)
+    same_valuation p q (record { globals = b.globals; places = v.places }) (resumed_with (target_of r) v b)
+    (resumed_widths (target_of r) v b) ((right (summary s e b) is).1, (reached_valuation p q M right a v r reached).1)

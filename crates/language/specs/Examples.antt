@@ -1,6 +1,7 @@
 -- Small programs, by places and as trees, for the laws on what programs mean.
 use Rattle.std.specs.Prelude.{ℕ, false, true, [], ◌∷◌, None}
-use Rattle.language.specs.Tree.{Name, const, var, negation, value, skip, assign, assert, assume, call, Mark, done, one, loop, Tree}
+use Rattle.language.specs.Tree.{Name, const, var, negation, value, skip, assign, assert, assume, call, leave_with, call_for, Mark, done}
+use Rattle.language.specs.Tree.{one, loop, Tree}
 use Rattle.language.specs.Value.{global, local}
 use Rattle.language.specs.Rest.{Code}
 use Rattle.language.specs.Step.{Routine, Program}
@@ -11,7 +12,7 @@ bare = record { label = None; at = 0 }
 
 -- a procedure without formals and locals that has these statements
 abbrev pub routine : Code → Routine
-routine body = record { places = 0; body = body }
+routine body = record { places = 0; gives = false; body = body }
 
 -- x:=1; where x is the first global
 abbrev pub setting : Code → Code
@@ -68,7 +69,7 @@ abbrev pub passed_values : Program
 passed_values = record {
   globals = 1;
   routines =
-      record { places = 1; body = one bare (assign (global 0 ∷ []) (value (var (local 0)) ∷ [])) done }
+      record { places = 1; gives = false; body = one bare (assign (global 0 ∷ []) (value (var (local 0)) ∷ [])) done }
       ∷ routine
       (one bare (call 0 (const true ∷ []))
       (one bare (call 0 (const false ∷ [])) (one bare (assert (value (negation (var (global 0))))) done)))
@@ -87,6 +88,32 @@ handshake = record {
       ∷ routine (setting (one bare (assume (value (var (global 1)))) (one bare (assign (global 2 ∷ []) (value (const true) ∷ [])) done)))
       ∷ [];
   threads = 0 ∷ 1 ∷ [];
+}
+
+-- decl x; p(v) begin return !v; end t() begin x:=p(0); assert(x); end thread t;
+abbrev pub return_and_write : Program
+return_and_write = record {
+  globals = 1;
+  routines =
+      record { places = 1; gives = true; body = one bare (leave_with (negation (var (local 0)))) done }
+      ∷ routine (one bare (call_for (global 0) 0 (const false ∷ [])) (one bare (assert (value (var (global 0)))) done))
+      ∷ [];
+  threads = 1 ∷ [];
+}
+
+-- decl x,y; p() begin return !y; end a() begin x:=p(); end b() begin y:=1; assume(!x); assume(x); assert(0); end
+-- thread a; thread b;
+abbrev pub late_value : Program
+late_value = record {
+  globals = 2;
+  routines =
+      record { places = 0; gives = true; body = one bare (leave_with (negation (var (global 1)))) done }
+      ∷ routine (one bare (call_for (global 0) 0 []) done)
+      ∷ routine
+      (one bare (assign (global 1 ∷ []) (value (const true) ∷ [])) (one bare (assume (value (negation (var (global 0)))))
+      (one bare (assume (value (var (global 0)))) (one bare (assert (value (const false))) done))))
+      ∷ [];
+  threads = 1 ∷ 2 ∷ [];
 }
 
 -- the name whose text is one byte
@@ -113,6 +140,7 @@ hiding_program = record {
   globals = 1;
   routines = record {
     places = 1;
+    gives = false;
     body = one bare (assign (local 0 ∷ []) (value (const true) ∷ []))
         (one bare (assert (value (negation (var (local 0))))) done);
   } ∷ [];

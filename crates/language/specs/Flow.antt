@@ -1,9 +1,10 @@
 -- What can be left to run in a procedure, and the steps inside one call.
-use Rattle.std.specs.Prelude.{◌≡◌, ℕ, List, [], ◌∷◌, ◌++◌, ◌⊎◌, slice_get}
+use Rattle.std.specs.Prelude.{◌≡◌, ℕ, Bool, List, [], ◌∷◌, ◌++◌, ◌⊎◌, Option, Some, None, slice_get}
 use Rattle.language.specs.Lists.{Member}
 use Rattle.language.specs.Tree.{done, one, choose, loop}
-use Rattle.language.specs.Rest.{Code, join}
-use Rattle.language.specs.Step.{Program, Frame, frame, State, state, body_of, Step}
+use Rattle.language.specs.Value.{Place}
+use Rattle.language.specs.Rest.{Code, join, target_of}
+use Rattle.language.specs.Step.{Program, Frame, frame, waiting, State, state, body_of, result_of, given_back, Step}
 use Rattle.language.specs.Sequential.{Valuation, Calls}
 
 -- What is left to run from each statement of a block on, in text order, where `next` comes after the block:
@@ -35,8 +36,10 @@ FlowsTo program procedure valuation rest callers reached =
     × (reached ≡ state v'.globals (frame procedure v'.places r' ∷ callers))
 
 -- the top frame is finished, and its going leads to this state
-abbrev pub ReturnsTo : Valuation → Code → List Frame → State → Type 0
-ReturnsTo valuation rest callers reached = (rest ≡ done) × (reached ≡ state valuation.globals callers)
+abbrev pub ReturnsTo : Program → ℕ → Valuation → Code → List Frame → State → Type 0
+ReturnsTo program procedure valuation rest callers reached =
+    (rest ≡ done)
+    × (reached ≡ given_back (result_of (slice_get program.routines procedure) valuation.places) valuation.globals callers)
 
 -- what comes after the first statement of a block
 abbrev pub after_first : Code → Code
@@ -45,6 +48,11 @@ after_first (one mark statement rest) = rest
 after_first (choose mark side if_true if_false rest) = rest
 after_first (loop mark side body rest) = rest
 
+-- the frame of a caller, with what comes after its call: it waits where a variable gets the value of the call
+abbrev pub caller_frame : ℕ → List Bool → Option Place → Code → Frame
+caller_frame procedure locals None rest = frame procedure locals rest
+caller_frame procedure locals (Some target) rest = waiting procedure locals target rest
+
 -- the top frame calls some procedure, whose entering leads to this state: its whole body is left in the new
 -- frame, and what comes after the call in the caller's
 abbrev pub EntersTo : Program → ℕ → Valuation → Code → List Frame → State → Type 0
@@ -52,4 +60,5 @@ EntersTo program procedure valuation rest callers reached =
     (n : ℕ) × (a : Valuation) × Calls program valuation.globals valuation.places rest n a
     × (reached
     ≡ state a.globals
-    (frame n a.places (body_of (slice_get program.routines n)) ∷ frame procedure valuation.places (after_first rest) ∷ callers))
+    (frame n a.places (body_of (slice_get program.routines n))
+    ∷ caller_frame procedure valuation.places (target_of rest) (after_first rest) ∷ callers))

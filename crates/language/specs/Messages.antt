@@ -1,9 +1,9 @@
 -- What one procedure reaches by the messages that it has, and the messages that it then owes.
-use Rattle.std.specs.Prelude.{◌≡◌, ◌≤◌, ℕ, List, [], ◌∷◌, length, slice_get, slice_index_or}
-use Rattle.language.specs.Tree.{Mark, Expression, call, done, one}
+use Rattle.std.specs.Prelude.{◌≡◌, ◌≤◌, ℕ, List, [], ◌∷◌, Some, length, slice_get, slice_index_or}
+use Rattle.language.specs.Tree.{Expression, done}
 use Rattle.language.specs.Value.{Place}
-use Rattle.language.specs.Rest.{Label, Code}
-use Rattle.language.specs.Step.{Program, frame, state, AtRoutine, body_of, Runs}
+use Rattle.language.specs.Rest.{Code, called_by, target_of}
+use Rattle.language.specs.Step.{Program, frame, state, AtRoutine, frame_size, body_of, Runs}
 use Rattle.language.specs.Sequential.{Valuation, Calls, IsZero, Entered, Exit, exit_of, resumed_with}
 use Rattle.language.specs.Sequential.{Caller, starter, caller, Message, entry, summary, IsDue}
 use Rattle.language.specs.Flow.{IsRestOf, Flow, after_first}
@@ -17,7 +17,7 @@ pub data Reached (program : Program) (procedure : ℕ) (M : Message → Type 0) 
   flows : (a v v' : Valuation) (r r' : Code) → Reached program procedure M a v r → Flow program procedure v r v' r'
       → Reached program procedure M a v' r'
   returns : (a v e : Valuation) (r : Code) (s : ℕ) (b : Exit) → Reached program procedure M a v r → Calls program v.globals v.places r s e →
-      M (summary s e b) → Reached program procedure M a (resumed_with v b) (after_first r)
+      M (summary s e b) → Reached program procedure M a (resumed_with (target_of r) v b) (after_first r)
 
 -- By the messages of which M holds, a procedure owes another: the entry of each call of it that is reached, and
 -- for each of its entries the summary of each exit that is reached.
@@ -25,7 +25,7 @@ pub data Owes (program : Program) (procedure : ℕ) (M : Message → Type 0) : �
   asks : (a v e : Valuation) (r : Code) (s : ℕ) → Reached program procedure M a v r → Calls program v.globals v.places r s e →
       Owes program procedure M s (entry (caller procedure) e)
   tells : (a v : Valuation) (s : ℕ) → M (entry (caller s) a) → Reached program procedure M a v done
-      → Owes program procedure M s (summary procedure a (exit_of v))
+      → Owes program procedure M s (summary procedure a (exit_of program procedure v))
 
 -- each message of which M holds is due for the procedure
 abbrev pub AreDue : Program → ℕ → (Message → Type 0) → Type 0
@@ -47,10 +47,10 @@ EdgeTo program procedure entered valuation rest =
     Runs program (state entered.globals (frame procedure entered.places routine.body ∷ []))
     (state valuation.globals (frame procedure valuation.places rest ∷ [])))
 
--- this is a valuation of the procedure: a value for each global, and one for each of its places
+-- this is a valuation of the procedure: a value for each global, and those of a frame of it
 abbrev pub IsValuationOf : Program → ℕ → Valuation → Type 0
 IsValuationOf program procedure valuation = (length valuation.globals ≡ program.globals)
-    × AtRoutine (slice_get program.routines procedure) (λ r. length valuation.places ≡ r.places)
+    × AtRoutine (slice_get program.routines procedure) (λ r. length valuation.places ≡ frame_size r)
 
 -- A message to a procedure of the right widths: an entry has a valuation of it; a summary has a valuation of the
 -- procedure called, and a value for each global.
@@ -61,8 +61,8 @@ IsMessageTo program procedure (summary callee entered exit) = IsValuationOf prog
 -- each call in a body is of a procedure that is there, with a place for each argument
 abbrev pub ArgumentsFit : Program → Type 0
 ArgumentsFit program =
-    (q s : ℕ) (m : Mark Label) (es : List (Expression Place)) (t : Code) →
-    IsRestOf (body_of (slice_get program.routines q)) (one m (call s es) t) →
+    (q s : ℕ) (rest : Code) (es : List (Expression Place)) → IsRestOf (body_of (slice_get program.routines q)) rest →
+    called_by rest ≡ Some (s, es) →
     AtRoutine (slice_get program.routines s) (λ r. length es ≤ r.places)
 
 -- The message is one that the procedure took, where lists hold what each procedure took, by its number.

@@ -1,6 +1,6 @@
 -- The parts of a statement: what can be asked of it, whatever its kind.
-use Rattle.std.specs.Prelude.{◌≡◌, Bool, true, false, List, [], Option, Some, None, length}
-use Rattle.language.specs.Tree.{Expression, RightSide, Simple, assign, assert, assume, goto, call}
+use Rattle.std.specs.Prelude.{◌≡◌, Bool, true, false, List, [], ◌∷◌, Option, Some, None, length}
+use Rattle.language.specs.Tree.{Expression, RightSide, Simple, assign, assert, assume, goto, call, leave_with, call_for}
 
 -- what a statement does, without the statements that it holds: of an `if` and a `while` its right side
 pub data Head (V P L : Type 0) : Type 0 where
@@ -15,6 +15,7 @@ assigns _ = false
 -- the variables that the statement gives values to, in order
 abbrev pub targets_of : {V P L : Type 0} → Head V P L → List V
 targets_of (plain (assign xs rs)) = xs
+targets_of (plain (call_for x callee es)) = x ∷ []
 targets_of _ = []
 
 -- the right sides for the targets of an assignment, in order
@@ -29,15 +30,23 @@ test_of (plain (assume side)) = Some side
 test_of (tests side) = Some side
 test_of _ = None
 
--- the arguments that the statement hands on, in order
+-- the expressions that the statement hands on, in order: the arguments of a call, or the value that is returned
 abbrev pub arguments_of : {V P L : Type 0} → Head V P L → List (Expression V)
 arguments_of (plain (call callee es)) = es
+arguments_of (plain (call_for x callee es)) = es
+arguments_of (plain (leave_with e)) = e ∷ []
 arguments_of _ = []
 
 -- the procedure that the statement calls, where it calls one
 abbrev pub callee_of : {V P L : Type 0} → Head V P L → Option P
 callee_of (plain (call callee es)) = Some callee
+callee_of (plain (call_for x callee es)) = Some callee
 callee_of _ = None
+
+-- the statement returns a value
+abbrev pub gives : {V P L : Type 0} → Head V P L → Bool
+gives (plain (leave_with e)) = true
+gives _ = false
 
 -- the label that the statement jumps to, where it jumps
 abbrev pub jump_of : {V P L : Type 0} → Head V P L → Option L

@@ -1,8 +1,9 @@
 -- What the names of a text stand for. A name is the local or formal of its procedure where there is one,
 -- else the global; of two procedures of one name it is the first.
-use Rattle.std.specs.Prelude.{ℕ, zero, suc, ◌+◌, List, [], ◌∷◌, ◌++◌, Option, Some, None, length, map, cond}
+use Rattle.std.specs.Prelude.{ℕ, suc, Bool, true, false, ◌||◌, List, [], ◌∷◌, ◌++◌, Option, Some, None, length, map, cond}
 use Rattle.language.specs.Tree.{Name, Expression, const, var, negation, two, RightSide, any, value, Simple, skip, assign, assert, assume}
-use Rattle.language.specs.Tree.{goto, leave, call, Mark, Block, done, one, choose, loop, Procedure, ThreadLine, Tree}
+use Rattle.language.specs.Tree.{goto, leave, call, leave_with, call_for, Mark, Block, done, one, choose, loop, Procedure, ThreadLine, Tree}
+use Rattle.language.specs.Parts.{plain, gives}
 use Rattle.language.specs.Value.{Place, global, local}
 use Rattle.language.specs.Rest.{Label, Code, same_text}
 use Rattle.language.specs.Step.{Routine, Program}
@@ -13,9 +14,9 @@ number_of text [] = 0
 number_of text (name ∷ names) = cond (same_text text name.text) 0 (suc (number_of text names))
 
 -- some name has this text
-abbrev pub is_declared : List ℕ → List Name → Rattle.std.specs.Prelude.Bool
-is_declared text [] = Rattle.std.specs.Prelude.false
-is_declared text (name ∷ names) = cond (same_text text name.text) Rattle.std.specs.Prelude.true (is_declared text names)
+abbrev pub is_declared : List ℕ → List Name → Bool
+is_declared text [] = false
+is_declared text (name ∷ names) = cond (same_text text name.text) true (is_declared text names)
 
 -- the names in whose scope a procedure's statements stand: its formals, then its locals, and the globals
 pub record Scope : Type 0 where
@@ -47,6 +48,9 @@ resolve_simple scope (assume side) = assume (resolve_side scope side)
 resolve_simple scope (goto label) = goto label.text
 resolve_simple scope leave = leave
 resolve_simple scope (call callee es) = call (number_of callee.text scope.procedures) (map (resolve_expression scope) es)
+resolve_simple scope (leave_with expression) = leave_with (resolve_expression scope expression)
+resolve_simple scope (call_for x callee es) =
+    call_for (place_of scope x) (number_of callee.text scope.procedures) (map (resolve_expression scope) es)
 
 abbrev pub resolve_mark : Mark Name → Mark Label
 resolve_mark mark = record { label = text_of mark.label; at = mark.at }
@@ -64,6 +68,13 @@ resolve_block scope (choose mark side if_true if_false rest) =
 resolve_block scope (loop mark side body rest) =
     loop (resolve_mark mark) (resolve_side scope side) (resolve_block scope body) (resolve_block scope rest)
 
+-- some statement of the block returns a value, those in branches and loops included
+abbrev pub gives_value : {V P L : Type 0} → Block V P L → Bool
+gives_value done = false
+gives_value (one mark statement rest) = gives (plain statement) || gives_value rest
+gives_value (choose mark side if_true if_false rest) = gives_value if_true || (gives_value if_false || gives_value rest)
+gives_value (loop mark side body rest) = gives_value body || gives_value rest
+
 -- the scope of a procedure
 abbrev pub scope_of : Tree → Procedure → Scope
 scope_of tree procedure = record {
@@ -76,6 +87,7 @@ scope_of tree procedure = record {
 abbrev pub routine_of : Tree → Procedure → Routine
 routine_of tree procedure = record {
   places = length (procedure.formals ++ procedure.locals);
+  gives = gives_value procedure.body;
   body = resolve_block (scope_of tree procedure) procedure.body;
 }
 

@@ -1,7 +1,7 @@
 -- What is left to run in a frame, as a list of statements.
 use Rattle.std.specs.Prelude.{ℕ, Bool, false, List, Option, Some, None, cond}
 use Rattle.std.specs.Str.{bytes_eq}
-use Rattle.language.specs.Tree.{Mark, Block, done, one, choose, loop}
+use Rattle.language.specs.Tree.{Expression, call, call_for, Mark, Block, done, one, choose, loop}
 use Rattle.language.specs.Value.{Place}
 
 -- a label's text
@@ -49,3 +49,14 @@ rest_from label (choose mark side if_true if_false rest) next =
 rest_from label (loop mark side body rest) next =
     cond (has_label label mark) (Some (loop mark side body (join rest next)))
     (first_of_two (rest_from label body (loop mark side body (join rest next))) (rest_from label rest next))
+
+-- the procedure that the first statement calls, and the arguments, where it calls one
+abbrev pub called_by : Code → Option (ℕ × List (Expression Place))
+called_by (one mark (call callee es) rest) = Some (callee, es)
+called_by (one mark (call_for x callee es) rest) = Some (callee, es)
+called_by rest = None
+
+-- the variable that the first statement calls for, where it calls for a value
+abbrev pub target_of : Code → Option Place
+target_of (one mark (call_for x callee es) rest) = Some x
+target_of rest = None

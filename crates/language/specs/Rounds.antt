@@ -1,7 +1,7 @@
 -- Runs of several threads in rounds (after the bound on contexts of Qadeer and Rehof 2005; here the bound
 -- is on rounds). In each round every thread has one turn, in order.
 use Rattle.std.specs.Prelude.{◌≡◌, ℕ, zero, suc, ◌<◌, Bool, List, [], ◌∷◌, Option, Some, None, map, ◌⊎◌, slice_get}
-use Rattle.language.specs.Step.{Routine, Program, Frame, frame, State, state, zeros, Runs, Fails}
+use Rattle.language.specs.Step.{Routine, Program, Frame, frame, State, state, zeros, frame_size, Runs, Fails}
 
 -- one turn for each thread in order, each zero or more steps on the common globals
 abbrev pub Round : Program → List Bool → List (List Frame) → List Bool → List (List Frame) → Type 0
@@ -23,13 +23,13 @@ FailsInRound program globals (stack ∷ stacks) =
     ((s : State) × Runs program (state globals stack) s × Fails s)
     ⊎ ((h : List Bool) × (stack' : List Frame) × Runs program (state globals stack) (state h stack') × FailsInRound program h stacks)
 
--- the stack of a thread before its first step: one frame of its procedure, whose places are 0
+-- the stack of a thread before its first step: one frame of its procedure, whose values are 0
 abbrev pub starting_stack : List Routine → ℕ → List Frame
 starting_stack routines procedure = of_routine (slice_get routines procedure)
   where
     of_routine : Option Routine → List Frame
     of_routine None = []
-    of_routine (Some routine) = frame procedure (zeros routine.places) routine.body ∷ []
+    of_routine (Some routine) = frame procedure (zeros (frame_size routine)) routine.body ∷ []
 
 -- Unsafe within k rounds: after some number of whole rounds below k, from globals of 0 and fresh stacks,
 -- some thread comes to a failing assert in the next round.

@@ -2,10 +2,10 @@
 -- marked with their numbers in text order, from 1, an `if` or `while` before what it holds.
 -- (Path edges and summary edges after Ball and Rajamani 2000.)
 use Rattle.std.specs.Prelude.{◌≡◌, ℕ, zero, suc, ◌+◌, Bool, true, List, [], ◌∷◌, ◌++◌, Option, Some, None, map, ◌⊎◌, slice_get}
-use Rattle.language.specs.Tree.{call, Mark, Block, done, one, choose, loop, Tree}
-use Rattle.language.specs.Value.{bit, values_of}
-use Rattle.language.specs.Rest.{Code}
-use Rattle.language.specs.Step.{Routine, Program, Frame, frame, State, state, zeros, fresh, AtRoutine, Runs}
+use Rattle.language.specs.Tree.{Expression, Mark, Block, done, one, choose, loop, Tree}
+use Rattle.language.specs.Value.{Place, bit, values_of, written_globals, written_locals}
+use Rattle.language.specs.Rest.{Code, called_by}
+use Rattle.language.specs.Step.{Routine, Program, Frame, frame, State, state, zeros, fresh, frame_size, result_of, AtRoutine, Runs}
 use Rattle.language.specs.Rounds.{starting_stack}
 use Rattle.language.specs.Resolve.{meaning_of}
 
@@ -43,7 +43,7 @@ numbers k (suc n) = k ∷ numbers (suc k) n
 
 -- the procedure, its statements marked with their numbers in text order, from 1
 abbrev pub numbered_routine : Routine → Routine
-numbered_routine routine = record { places = routine.places; body = numbered 1 routine.body }
+numbered_routine routine = record { places = routine.places; gives = routine.gives; body = numbered 1 routine.body }
 
 -- the program, the statements of each procedure marked with their numbers in text order, from 1
 abbrev pub in_text_order : Program → Program
@@ -53,7 +53,7 @@ in_text_order program = record { globals = program.globals; routines = map numbe
 abbrev pub sequential_of : Tree → Program
 sequential_of tree = in_text_order (meaning_of tree)
 
--- a valuation: the globals in order, and the places of one frame (formals, locals, temporaries)
+-- a valuation: the globals in order, and the values of one frame (formals, locals, temporaries, result)
 pub record Valuation : Type 0 where
   pub globals : List Bool
   pub places : List Bool
@@ -69,12 +69,16 @@ point_of (loop mark side body rest) = Some mark.at
 abbrev pub Reaches : Program → State → Type 0
 Reaches program reached = Runs program (state (zeros program.globals) (starting_stack program.routines 0)) reached
 
+-- there is a call, and its procedure and arguments have the property
+abbrev pub AtCall : Option (ℕ × List (Expression Place)) → (ℕ → List (Expression Place) → Type 0) → Type 0
+AtCall None P = ⊥
+AtCall (Some (callee, es)) P = P callee es
+
 -- the first statement of this rest calls the procedure, with the values that make up a new frame of it
 abbrev pub Calls : Program → List Bool → List Bool → Code → ℕ → Valuation → Type 0
-Calls program g l (one mark (call callee es) rest) procedure entered =
+Calls program g l rest procedure entered = AtCall (called_by rest) (λ callee es.
     (callee ≡ procedure) × AtRoutine (slice_get program.routines procedure) (λ r.
-    entered ≡ record { globals = g; places = fresh r.places (values_of g l es) })
-Calls program g l rest procedure entered = ⊥
+    entered ≡ record { globals = g; places = fresh (frame_size r) (values_of g l es) }))
 
 -- some sequential run has the asking procedure on top, and its next step enters the other so
 abbrev pub Asks : Program → ℕ → ℕ → Valuation → Type 0
@@ -85,7 +89,7 @@ Asks program asking procedure entered =
 -- the valuation with which procedure 0 is entered first: every value is 0
 abbrev pub IsZero : Program → Valuation → Type 0
 IsZero program entered =
-    AtRoutine (slice_get program.routines 0) (λ r. entered ≡ record { globals = zeros program.globals; places = zeros r.places })
+    AtRoutine (slice_get program.routines 0) (λ r. entered ≡ record { globals = zeros program.globals; places = zeros (frame_size r) })
 
 -- an entry valuation of the procedure: all 0 where it is procedure 0, or one with which some procedure enters it
 abbrev pub Entered : Program → ℕ → Valuation → Type 0
@@ -100,21 +104,30 @@ Edge program procedure entered point valuation =
     × Runs program (state entered.globals (frame procedure entered.places r.body ∷ []))
     (state valuation.globals (frame procedure valuation.places rest ∷ [])))
 
--- what a procedure leaves at its exit: the globals
+-- what a procedure leaves at its exit: the globals, and the result, which is 0 where it gives none
 pub record Exit : Type 0 where
   pub globals : List Bool
+  pub result : Bool
 
--- what is left where the exit is reached with this valuation
-abbrev pub exit_of : Valuation → Exit
-exit_of valuation = record { globals = valuation.globals }
+-- what the procedure leaves where it reaches its exit with this valuation
+abbrev pub exit_of : Program → ℕ → Valuation → Exit
+exit_of program procedure valuation =
+    record { globals = valuation.globals; result = result_of (slice_get program.routines procedure) valuation.places }
 
--- the valuation with which a caller goes on behind a call that has left this: its places are its own
-abbrev pub resumed_with : Valuation → Exit → Valuation
-resumed_with valuation exit = record { globals = exit.globals; places = valuation.places }
+-- the valuation with which a caller goes on behind a call that has left this: its places are its own, and the variable
+-- that it called for, if any, gets the result
+abbrev pub resumed_with : Option Place → Valuation → Exit → Valuation
+resumed_with None valuation exit = record { globals = exit.globals; places = valuation.places }
+resumed_with (Some x) valuation exit = record {
+  globals = written_globals (x ∷ []) (exit.result ∷ []) exit.globals;
+  places = written_locals (x ∷ []) (exit.result ∷ []) valuation.places;
+}
 
 -- A summary edge, or pair: a path edge to the exit, where this is left.
 abbrev pub Pair : Program → ℕ → Valuation → Exit → Type 0
-Pair program procedure entered exit = (l : List Bool) × Edge program procedure entered None (record { globals = exit.globals; places = l })
+Pair program procedure entered exit =
+    (l : List Bool) × (exit.result ≡ result_of (slice_get program.routines procedure) l)
+    × Edge program procedure entered None (record { globals = exit.globals; places = l })
 
 -- some pair of the first procedure has `bad`, where a sequential program keeps it in the global of this number
 abbrev pub SomeBad : Program → ℕ → Type 0

@@ -1,12 +1,15 @@
 -- One step of one thread, over the globals and the thread's stack of frames.
-use Rattle.std.specs.Prelude.{◌≡◌, ℕ, zero, suc, ◌-◌, Bool, true, false, List, [], ◌∷◌, ◌++◌, Option, Some, None, length, cond, slice_get}
-use Rattle.language.specs.Tree.{done, one, choose, loop, skip, assign, assert, assume, goto, leave, call}
-use Rattle.language.specs.Value.{values_of, IsValue, AreValues, written_globals, written_locals}
+use Rattle.std.specs.Prelude.{◌≡◌, ℕ, zero, suc, ◌+◌, ◌-◌, Bool, true, false, List, [], ◌∷◌, ◌++◌, Option, Some, None, length, cond}
+use Rattle.std.specs.Prelude.{slice_get}
+use Rattle.language.specs.Tree.{done, one, choose, loop, skip, assign, assert, assume, goto, leave, call, leave_with, call_for}
+use Rattle.language.specs.Value.{Place, bit, with_bit, value_of, values_of, IsValue, AreValues, written_globals, written_locals}
 use Rattle.language.specs.Rest.{Code, join, rest_from}
 
--- a procedure of a resolved program: how many places its frame has, and its body
+-- a procedure of a resolved program: how many places its frame has beside the result, whether it gives a value,
+-- and its body
 pub record Routine : Type 0 where
   pub places : ℕ
+  pub gives : Bool
   pub body : Code
 
 -- a resolved program: how many globals it has, its procedures by number, and of each thread in order
@@ -16,9 +19,11 @@ pub record Program : Type 0 where
   pub routines : List Routine
   pub threads : List ℕ
 
--- a frame: its procedure, the values of its formals, locals and temporaries, and what is left to run
+-- a frame: its procedure, the values of its formals, locals and temporaries, then of its result where the procedure
+-- gives one, and what is left to run; or a caller that waits, and the variable that gets the value of its call
 pub data Frame : Type 0 where
   frame : ℕ → List Bool → Code → Frame
+  waiting : ℕ → List Bool → Place → Code → Frame
 
 -- the globals, and one thread's stack with the top frame first
 pub data State : Type 0 where
@@ -32,6 +37,28 @@ zeros (suc n) = false ∷ zeros n
 -- the values of a new frame with so many places: the arguments, and 0 in every other place
 abbrev pub fresh : ℕ → List Bool → List Bool
 fresh n arguments = arguments ++ zeros (n - length arguments)
+
+-- how many values a frame of the procedure has: one for each place, and one more for the result, where it gives one
+abbrev pub frame_size : Routine → ℕ
+frame_size routine = routine.places + cond routine.gives 1 0
+
+-- the result in these values of a frame: 0 where the procedure gives none
+abbrev pub result_of : Option Routine → List Bool → Bool
+result_of None locals = false
+result_of (Some routine) locals = cond routine.gives (bit locals routine.places) false
+
+-- these values of a frame with another result
+abbrev pub with_result : Option Routine → List Bool → Bool → List Bool
+with_result None locals v = locals
+with_result (Some routine) locals v = with_bit locals routine.places v
+
+-- what is there when a frame with this result is gone: the frame below goes on, and one that waits gets the result
+-- written to its variable
+abbrev pub given_back : Bool → List Bool → List Frame → State
+given_back v globals [] = state globals []
+given_back v globals (frame procedure locals rest ∷ fs) = state globals (frame procedure locals rest ∷ fs)
+given_back v globals (waiting procedure locals x rest ∷ fs) =
+    state (written_globals (x ∷ []) (v ∷ []) globals) (frame procedure (written_locals (x ∷ []) (v ∷ []) locals) rest ∷ fs)
 
 -- the procedure of this number has the property
 abbrev pub AtRoutine : Option Routine → (Routine → Type 0) → Type 0
@@ -48,11 +75,13 @@ abbrev pub body_of : Option Routine → Code
 body_of None = done
 body_of (Some routine) = routine.body
 
--- Some step of the top frame leads to a state with the property Q. A finished frame goes. `assert` and
--- `assume` have a step only where 1 is a value. An empty stack has no step.
+-- Some step of the top frame leads to a state with the property Q. A finished frame goes, and its result with it.
+-- `assert` and `assume` have a step only where 1 is a value. An empty stack has no step, nor has a frame that waits.
 abbrev pub StepsTo : Program → State → (State → Type 0) → Type 0
 StepsTo program (state globals []) Q = ⊥
-StepsTo program (state globals (frame procedure locals done ∷ fs)) Q = Q (state globals fs)
+StepsTo program (state globals (waiting procedure locals x rest ∷ fs)) Q = ⊥
+StepsTo program (state globals (frame procedure locals done ∷ fs)) Q =
+    Q (given_back (result_of (slice_get program.routines procedure) locals) globals fs)
 StepsTo program (state globals (frame procedure locals (one mark skip rest) ∷ fs)) Q = Q (state globals (frame procedure locals rest ∷ fs))
 StepsTo program (state globals (frame procedure locals (one mark (assign xs rs) rest) ∷ fs)) Q =
     (vs : List Bool) × AreValues globals locals rs vs
@@ -67,7 +96,15 @@ StepsTo program (state globals (frame procedure locals (one mark (goto label) re
 StepsTo program (state globals (frame procedure locals (one mark leave rest) ∷ fs)) Q = Q (state globals (frame procedure locals done ∷ fs))
 StepsTo program (state globals (frame procedure locals (one mark (call callee es) rest) ∷ fs)) Q =
     AtRoutine (slice_get program.routines callee) (λ routine.
-    Q (state globals (frame callee (fresh routine.places (values_of globals locals es)) routine.body ∷ frame procedure locals rest ∷ fs)))
+    Q (state globals
+    (frame callee (fresh (frame_size routine) (values_of globals locals es)) routine.body ∷ frame procedure locals rest ∷ fs)))
+StepsTo program (state globals (frame procedure locals (one mark (leave_with expression) rest) ∷ fs)) Q =
+    Q (state globals
+    (frame procedure (with_result (slice_get program.routines procedure) locals (value_of globals locals expression)) done ∷ fs))
+StepsTo program (state globals (frame procedure locals (one mark (call_for x callee es) rest) ∷ fs)) Q =
+    AtRoutine (slice_get program.routines callee) (λ routine.
+    Q (state globals
+    (frame callee (fresh (frame_size routine) (values_of globals locals es)) routine.body ∷ waiting procedure locals x rest ∷ fs)))
 StepsTo program (state globals (frame procedure locals (choose mark side if_true if_false rest) ∷ fs)) Q =
     (v : Bool) × IsValue globals locals side v
     × Q (state globals (frame procedure locals (cond v (join if_true rest) (join if_false rest)) ∷ fs))
@@ -91,6 +128,7 @@ Runs program before after = (n : ℕ) × AfterSteps program n before (λ u. u �
 -- the first statement of the top frame is an `assert` for which 0 is a value
 abbrev pub Fails : State → Type 0
 Fails (state globals []) = ⊥
+Fails (state globals (waiting procedure locals x rest ∷ fs)) = ⊥
 Fails (state globals (frame procedure locals done ∷ fs)) = ⊥
 Fails (state globals (frame procedure locals (one mark (assert side) rest) ∷ fs)) = IsValue globals locals side false
 Fails (state globals (frame procedure locals (one mark _ rest) ∷ fs)) = ⊥

@@ -24,7 +24,8 @@ pub data RightSide (V : Type 0) : Type 0 where
   any : RightSide V
   value : Expression V → RightSide V
 
--- the statements that hold no others
+-- the statements that hold no others; of the last two the one returns a value, and the other calls for one, which its
+-- variable gets
 pub data Simple (V P L : Type 0) : Type 0 where
   skip : Simple V P L
   assign : List V → List (RightSide V) → Simple V P L
@@ -33,6 +34,8 @@ pub data Simple (V P L : Type 0) : Type 0 where
   goto : L → Simple V P L
   leave : Simple V P L
   call : P → List (Expression V) → Simple V P L
+  leave_with : Expression V → Simple V P L
+  call_for : V → P → List (Expression V) → Simple V P L
 
 -- what a statement is marked with: its label, if it has one, and in a text its offset (of the label,
 -- where it has one)

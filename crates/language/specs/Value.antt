@@ -4,7 +4,7 @@ use Rattle.language.specs.Tree.{Operator, implies, or, xor, and, equal, differs,
 use Rattle.language.specs.Tree.{value}
 
 -- where a variable's value is kept: a global by its number, or a place of the frame, which has the
--- formals, then the locals, then the temporaries
+-- formals, then the locals, then the temporaries, and behind them the result, where there is one
 pub data Place : Type 0 where
   global : ℕ → Place
   local : ℕ → Place

@@ -1,11 +1,12 @@
 //! Laws on what is left to run in a procedure, on its points, and on the steps inside one call.
 ghost use Rattle.std.specs.Prelude.{◌≡◌, ◌↔◌, ◌⊎◌, ◌∷◌, [], ℕ, suc, length, List, Bool, Some, map};
 ghost use Rattle.std.specs.Prelude.{slice_get};
-ghost use Rattle.language.specs.Tree.{Mark, RightSide, Expression, Simple, call, done, one, choose};
+ghost use Rattle.language.specs.Tree.{Mark, RightSide, Expression, Simple, done, one, choose};
 ghost use Rattle.language.specs.Tree.{loop};
 ghost use Rattle.language.specs.Value.{Place};
-ghost use Rattle.language.specs.Rest.{Label, Code};
-ghost use Rattle.language.specs.Step.{Routine, Program, Frame, frame, State, state, Step, body_of};
+ghost use Rattle.language.specs.Rest.{Label, Code, called_by};
+ghost use Rattle.language.specs.Step.{Routine, Program, Frame, frame, waiting, State, state, Step};
+ghost use Rattle.language.specs.Step.{body_of};
 ghost use Rattle.language.specs.Sequential.{numbered, numbers, statements, point_of, Valuation};
 ghost use Rattle.language.specs.Sequential.{Reaches};
 ghost use Rattle.language.specs.Flow.{rests, IsRestOf, Flow, FlowsTo, ReturnsTo, EntersTo};
@@ -61,9 +62,9 @@ pub fn callers_do_not_matter_to_a_flow()
 
 /// No flow enters a procedure.
 pub fn a_call_has_no_flow()
-    ensures { (p : Program) (q n : ℕ) (v v' : Valuation) (m : Mark Label)
-        (es : List (Expression Place)) (t r' : Code)
-        → Flow p q v (one m (call n es) t) v' r' → ⊥ }
+    ensures { (p : Program) (q n : ℕ) (v v' : Valuation) (es : List (Expression Place))
+        (r r' : Code)
+        → called_by r ≡ Some (n, es) → Flow p q v r v' r' → ⊥ }
 {}
 
 /// No flow leads from the exit.
@@ -75,12 +76,14 @@ pub fn the_exit_has_no_flow()
 pub fn a_step_flows_or_returns_or_enters()
     ensures { (p : Program) (q : ℕ) (v : Valuation) (r : Code) (callers : List Frame) (s : State)
         → Step p (state v.globals (frame q v.places r ∷ callers)) s
-        ↔ (FlowsTo p q v r callers s ⊎ (ReturnsTo v r callers s ⊎ EntersTo p q v r callers s)) }
+        ↔ (FlowsTo p q v r callers s ⊎ (ReturnsTo p q v r callers s ⊎ EntersTo p q v r callers s)) }
 {}
 
-/// In a sequential run, what is left in each frame can be left to run of its procedure's body.
+/// In a sequential run, what is left in each frame, also in one that waits, can be left to run of its procedure's body.
 pub fn each_frame_stands_in_its_body()
     ensures { (p : Program) (g : List Bool) (stack : List Frame) (q : ℕ) (l : List Bool) (r : Code)
         → Reaches p (state g stack)
-        → Member (frame q l r) stack → IsRestOf (body_of (slice_get p.routines q)) r }
+        → (Member (frame q l r) stack → IsRestOf (body_of (slice_get p.routines q)) r)
+        × ((x : Place) → Member (waiting q l x r) stack
+        → IsRestOf (body_of (slice_get p.routines q)) r) }
 {}

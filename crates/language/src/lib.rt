@@ -32,15 +32,18 @@ pub use messages::{
 };
 pub use numbering::{each_body_is_numbered_from_1, statements_are_numbered_in_text_order};
 pub use steps::{
-    a_call_enters_with_its_arguments, a_finished_frame_goes, a_goto_leads_to_its_label,
-    a_loop_goes_into_its_body_or_on, a_question_mark_has_both_values,
-    a_return_leaves_nothing_to_run, a_skip_goes_on, a_target_of_a_question_mark_gets_either_value,
+    a_call_enters_with_its_arguments, a_call_for_a_value_waits, a_finished_frame_gives_its_result,
+    a_finished_frame_goes, a_goto_leads_to_its_label, a_loop_goes_into_its_body_or_on,
+    a_question_mark_has_both_values, a_result_is_0_until_a_value_is_returned,
+    a_result_may_be_dropped, a_return_leaves_nothing_to_run, a_return_of_a_value_keeps_it,
+    a_skip_goes_on, a_target_of_a_question_mark_gets_either_value,
     an_assume_steps_where_1_is_a_value, an_if_goes_into_a_branch,
 };
 pub use verdicts::{
     a_checked_write_is_never_unsafe, a_handshake_needs_three_rounds,
     a_reader_before_the_writer_needs_two_rounds, a_second_thread_of_one_procedure_fails,
-    a_spinning_thread_keeps_no_failure_away, a_writer_before_the_reader_needs_one_round,
-    more_rounds_reach_more, no_threads_never_fail, the_value_passed_last_lasts,
+    a_spinning_thread_keeps_no_failure_away, a_value_given_is_written, a_value_may_be_written_late,
+    a_writer_before_the_reader_needs_one_round, more_rounds_reach_more, no_threads_never_fail,
+    the_value_passed_last_lasts,
 };
 pub use word::{EXIT, Point, Word};

@@ -1,18 +1,22 @@
 //! Laws that pin each kind of step: what a step of the top frame leads to, by its first statement.
 ghost use Rattle.std.specs.Prelude.{◌≡◌, ◌↔◌, ◌⊎◌, ℕ, List, Bool, true, false, [], ◌∷◌};
-ghost use Rattle.std.specs.Prelude.{◌++◌, ◌-◌, Option, Some};
+ghost use Rattle.std.specs.Prelude.{◌++◌, ◌-◌, ◌≤◌, Option, Some};
 ghost use Rattle.std.specs.Prelude.{length, slice_get};
 ghost use Rattle.language.specs.Tree.{RightSide, Expression, Mark, any, assign, assume, call};
-ghost use Rattle.language.specs.Tree.{choose, done, goto};
+ghost use Rattle.language.specs.Tree.{call_for, choose, done, goto, leave_with};
 ghost use Rattle.language.specs.Tree.{leave, loop, one, skip};
-ghost use Rattle.language.specs.Value.{Place, IsValue, global, values_of};
+ghost use Rattle.language.specs.Value.{Place, IsValue, bit, global, value_of, values_of};
+ghost use Rattle.language.specs.Value.{written_globals, written_locals};
 ghost use Rattle.language.specs.Rest.{Label, Code, join, rest_from};
-ghost use Rattle.language.specs.Step.{Routine, Program, Frame, frame, State, state, zeros, Step};
+ghost use Rattle.language.specs.Step.{Routine, Program, Frame, frame, waiting, State, state};
+ghost use Rattle.language.specs.Step.{zeros, fresh, with_result, Step};
+ghost use Rattle.language.specs.Step.{frame_size, result_of, given_back};
 
-/// A frame with nothing left to run goes.
+/// A frame with nothing left to run goes, and its result with it.
 pub fn a_finished_frame_goes()
     ensures { (p : Program) (g l : List Bool) (c : ℕ) (fs : List Frame) (u : State)
-        → Step p (state g (frame c l done ∷ fs)) u ↔ (state g fs ≡ u) }
+        → Step p (state g (frame c l done ∷ fs)) u
+        ↔ (given_back (result_of (slice_get p.routines c) l) g fs ≡ u) }
 {}
 
 /// A `skip` goes on and changes nothing.
@@ -80,8 +84,59 @@ pub fn a_call_enters_with_its_arguments()
         ↔
         (state g
         (frame q
-        (values_of g l es ++ zeros (routine.places - length (values_of g l es))) routine.body
+        (values_of g l es ++ zeros (frame_size routine - length (values_of g l es))) routine.body
         ∷ frame c l t ∷ fs) ≡ u) }
+{}
+
+/// A return of a value leaves nothing to run in its frame, and the value is the frame's result.
+pub fn a_return_of_a_value_keeps_it()
+    ensures { (p : Program) (g l : List Bool) (c : ℕ) (m : Mark Label) (e : Expression Place)
+        (t : Code) (fs : List Frame) (u : State)
+        → Step p (state g (frame c l (one m (leave_with e) t) ∷ fs)) u
+        ↔ (state g (frame c (with_result (slice_get p.routines c) l (value_of g l e)) done ∷ fs)
+        ≡ u) }
+{}
+
+/// The result of a new frame is 0, and then the value that was returned last.
+pub fn a_result_is_0_until_a_value_is_returned()
+    ensures { (routine : Routine) (l : List Bool) (v : Bool)
+        → (length l ≤ routine.places
+        → result_of (Some routine) (fresh (frame_size routine) l) ≡ false)
+        × (routine.gives ≡ true → length l ≡ frame_size routine
+        → result_of (Some routine) (with_result (Some routine) l v) ≡ v) }
+{}
+
+/// A call for a value enters its procedure as a call does, and the caller waits.
+pub fn a_call_for_a_value_waits()
+    ensures { (p : Program) (g l : List Bool) (c q : ℕ) (m : Mark Label) (x : Place)
+        (es : List (Expression Place))
+        (routine : Routine) (t : Code) (fs : List Frame) (u : State)
+        → slice_get p.routines q ≡ Some routine
+        → Step p (state g (frame c l (one m (call_for x q es) t) ∷ fs)) u
+        ↔
+        (state g
+        (frame q
+        (values_of g l es ++ zeros (frame_size routine - length (values_of g l es))) routine.body
+        ∷ waiting c l x t ∷ fs) ≡ u) }
+{}
+
+/// The step that takes a finished frame away writes its result to the variable of a caller that waits, and the caller
+/// goes on.
+pub fn a_finished_frame_gives_its_result()
+    ensures { (p : Program) (g l k : List Bool) (c d : ℕ) (x : Place) (routine : Routine) (t : Code)
+        (fs : List Frame) (u : State)
+        → slice_get p.routines c ≡ Some routine → routine.gives ≡ true
+        → Step p (state g (frame c l done ∷ waiting d k x t ∷ fs)) u
+        ↔ (state (written_globals (x ∷ []) (bit l routine.places ∷ []) g)
+        (frame d (written_locals (x ∷ []) (bit l routine.places ∷ []) k) t ∷ fs) ≡ u) }
+{}
+
+/// A caller that waits for no value, and a thread's first frame, drop the result.
+pub fn a_result_may_be_dropped()
+    ensures { (p : Program) (g l k : List Bool) (c d : ℕ) (t : Code) (fs : List Frame) (u : State)
+        → (Step p (state g (frame c l done ∷ frame d k t ∷ fs)) u
+        ↔ (state g (frame d k t ∷ fs) ≡ u))
+        × (Step p (state g (frame c l done ∷ [])) u ↔ (state g [] ≡ u)) }
 {}
 
 /// A `?` has both values.

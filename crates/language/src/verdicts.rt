@@ -5,6 +5,7 @@ ghost use Rattle.language.specs.Rounds.{Unsafe};
 ghost use Rattle.language.specs.Examples.{writer_then_reader, reader_then_writer};
 ghost use Rattle.language.specs.Examples.{spinner_then_failure, checked_write};
 ghost use Rattle.language.specs.Examples.{run_once, run_twice, passed_values, handshake};
+ghost use Rattle.language.specs.Examples.{return_and_write, late_value};
 
 /// What is unsafe within some rounds is unsafe within more.
 pub fn more_rounds_reach_more()
@@ -44,6 +45,17 @@ pub fn a_second_thread_of_one_procedure_fails()
 /// A call writes the value that it was passed: the second of two is what lasts.
 pub fn the_value_passed_last_lasts()
     ensures { (k : ℕ) → Unsafe passed_values k → ⊥ }
+{}
+
+/// The value that a call gives is written to the variable that it is called for.
+pub fn a_value_given_is_written()
+    ensures { (k : ℕ) → Unsafe return_and_write k → ⊥ }
+{}
+
+/// Between the end of a call and the write of its value other threads may run: what a call gives in one round may be
+/// written in the next.
+pub fn a_value_may_be_written_late()
+    ensures { (Unsafe late_value 1 → ⊥) × Unsafe late_value 2 }
 {}
 
 /// Where two threads wait for each other in turn, it takes a round for each turn: three.

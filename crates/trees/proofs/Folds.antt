@@ -3,7 +3,8 @@ use Rattle.std.proofs.Common.{◌≡◌, Bool, option_map, sym, ◌∙◌, ap}
 use Rattle.std.specs.declared.boxed.Box.{Box}
 use Rattle.std.specs.declared.vec.Vec.{Vec}
 use Rattle.language.specs.Tree as tree
-use Rattle.language.specs.Tree.{Expression, const, var, negation, two, skip, assign, assert, assume, goto, leave, call}
+use Rattle.language.specs.Tree.{Expression, const, var, negation, two, skip, assign, assert, assume, goto, leave, call, call_for}
+use Rattle.language.specs.Tree.{leave_with}
 use Rattle.trees.specs.Trees.{operator_of, expr_step, expr_of, name_of, names_of, exprs_of, rhs_of, rhss_of, Deed, simple, branch, repeat}
 use Rattle.trees.specs.Trees.{Item, core_step, stmt_step, item_of, deed_of, block_of}
 use Rattle.trees.specs.declared.tree.Name.{Name}
@@ -15,7 +16,7 @@ use Rattle.trees.specs.declared.tree.Rhs.{Rhs}
 use Rattle.trees.specs.declared.tree.Stmt.{Stmt}
 use Rattle.trees.specs.declared.tree.Core.TheVariants as core
 use Rattle.trees.specs.declared.tree.Core.TheVariants.{rolls-Skip, rolls-Return, rolls-Assign, rolls-Assert, rolls-Assume, rolls-Goto}
-use Rattle.trees.specs.declared.tree.Core.TheVariants.{rolls-Call, If, rolls-If, While, rolls-While}
+use Rattle.trees.specs.declared.tree.Core.TheVariants.{rolls-Call, rolls-CallTo, rolls-Give, If, rolls-If, While, rolls-While}
 use Rattle.trees.specs.declared.tree.Core.TheOpen as open_core
 use Rattle.trees.specs.declared.tree.Core.TheFolds.{fold-roll-Core, fold_out-Stmt}
 use Rattle.trees.specs.declared.tree.Expr.TheFolds.{fold-roll-Expr}
@@ -62,6 +63,14 @@ deed_of-Goto {A} x = ap deed_of (sym (rolls-Goto x)) ∙ fold-roll-Core A Deed I
 pub deed_of-Call : {A : Type 0} (p : Name A) (es : Vec (Expr A) A)
     → deed_of (core.Call p es) ≡ simple (call (name_of p) (exprs_of es.items))
 deed_of-Call {A} p es = ap deed_of (sym (rolls-Call p es)) ∙ fold-roll-Core A Deed Item core_step stmt_step (open_core.Call p es)
+
+pub deed_of-CallTo : {A : Type 0} (x p : Name A) (es : Vec (Expr A) A)
+    → deed_of (core.CallTo x p es) ≡ simple (call_for (name_of x) (name_of p) (exprs_of es.items))
+deed_of-CallTo {A} x p es = ap deed_of (sym (rolls-CallTo x p es))
+    ∙ fold-roll-Core A Deed Item core_step stmt_step (open_core.CallTo x p es)
+
+pub deed_of-Give : {A : Type 0} (e : Expr A) → deed_of (core.Give e) ≡ simple (leave_with (expr_of e))
+deed_of-Give {A} e = ap deed_of (sym (rolls-Give e)) ∙ fold-roll-Core A Deed Item core_step stmt_step (open_core.Give e)
 
 pub deed_of-If : {A : Type 0} (r : Rhs A) (a b : Vec (Stmt A) A)
     → deed_of (If r a b) ≡ branch (rhs_of r) (block_of a.items) (block_of b.items)

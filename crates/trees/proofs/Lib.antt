@@ -2,3 +2,5 @@ pub mod Folds
 pub mod Held
 mod Counting
 pub mod Plain
+pub mod ByKind
+mod GivesFirst

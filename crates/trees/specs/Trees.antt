@@ -3,7 +3,8 @@ use Rattle.std.specs.Prelude.{List, [], ◌∷◌, map, option_map}
 use Rattle.std.specs.String.{string_bytes}
 use Rattle.language.specs.Tree as tree
 use Rattle.language.specs.Tree.{Operator, implies, or, xor, and, equal, differs, Expression, const, var, negation, two, RightSide, any}
-use Rattle.language.specs.Tree.{value, Simple, skip, assign, assert, assume, goto, leave, call, Mark, Block, done, one, choose, loop}
+use Rattle.language.specs.Tree.{value, Simple, skip, assign, assert, assume, goto, leave, call, call_for, leave_with, Mark, Block, done}
+use Rattle.language.specs.Tree.{one, choose, loop}
 use Rattle.trees.specs.declared.tree.Name.{Name}
 use Rattle.trees.specs.declared.tree.Op.{Op}
 use Rattle.trees.specs.declared.tree.Op.TheVariants as op
@@ -101,6 +102,8 @@ core_step (core.Assume side) = simple (assume (rhs_of side))
 core_step (core.Goto label) = simple (goto (name_of label))
 core_step core.Return = simple leave
 core_step (core.Call callee es) = simple (call (name_of callee) (exprs_of es.items))
+core_step (core.CallTo x callee es) = simple (call_for (name_of x) (name_of callee) (exprs_of es.items))
+core_step (core.Give expression) = simple (leave_with (expr_of expression))
 
 -- one level of a statement: its mark has its label, where it has one, and its offset
 abbrev pub stmt_step : {A : Type 0} → Stmt-F A Deed Item → Item

@@ -6,4 +6,5 @@ mod parts;
 mod tree;
 
 pub use names::{declares, number_of_name, number_of_procedure};
+pub use parts::give_value;
 pub use tree::{Core, Expr, Name, Op, Proc, Program, Rhs, Stmt, Thread};

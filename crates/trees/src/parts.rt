@@ -1,11 +1,12 @@
 //! The parts of a statement: what can be asked of it, whatever its kind.
 
 ghost use Rattle.std.specs.Prelude.{◌≡◌, option_map};
-ghost use Rattle.language.specs.Parts.{assigns, targets_of, sides_of, test_of, arguments_of};
-ghost use Rattle.language.specs.Parts.{callee_of, jump_of};
-ghost use Rattle.trees.specs.Trees.{name_of, names_of, rhs_of, rhss_of, exprs_of, block_of};
-ghost use Rattle.trees.specs.Trees.{deed_of};
-ghost use Rattle.trees.specs.Parts.{head_of, first_inside, second_inside};
+ghost use Rattle.language.specs.Parts.{assigns, sides_of, test_of, callee_of, gives, jump_of};
+ghost use Rattle.language.specs.Resolve.{gives_value};
+ghost use Rattle.trees.specs.Trees.{name_of, names_of, rhs_of, rhss_of, expr_of, exprs_of};
+ghost use Rattle.trees.specs.Trees.{block_of, deed_of};
+ghost use Rattle.trees.specs.Parts.{head_of, first_inside, second_inside, assigned_by, receiver_of};
+ghost use Rattle.trees.specs.Parts.{passed_by, given_by, gives_inside};
 
 use crate::tree::{Core, Expr, Name, Rhs, Stmt};
 use std::alloc::Allocator;
@@ -21,13 +22,24 @@ impl<A: Allocator> Core<A> {
         }
     }
 
-    /// The variables that it gives values to, in order.
+    /// The targets of an assignment, in order.
     pub fn targets(&self) -> &[Name<A>]
-        ensures { names_of result.now ≡ targets_of (head_of (deed_of self.now)) }
+        ensures { names_of result.now ≡ assigned_by (head_of (deed_of self.now)) }
     {
         match self {
             Core::Assign(targets, _) => targets,
             _ => &[],
+        }
+    }
+
+    /// The variable that gets the value of a call, where it calls for one.
+    pub fn receiver(&self) -> Option<&Name<A>>
+        ensures { option_map (λ r. name_of r.now) result
+            ≡ receiver_of (head_of (deed_of self.now)) }
+    {
+        match self {
+            Core::CallTo(name, _, _) => Some(name),
+            _ => None,
         }
     }
 
@@ -54,13 +66,34 @@ impl<A: Allocator> Core<A> {
         }
     }
 
-    /// The arguments that it hands on, in order.
+    /// The arguments of a call, in order.
     pub fn arguments(&self) -> &[Expr<A>]
-        ensures { exprs_of result.now ≡ arguments_of (head_of (deed_of self.now)) }
+        ensures { exprs_of result.now ≡ passed_by (head_of (deed_of self.now)) }
     {
         match self {
             Core::Call(_, arguments) => arguments,
+            Core::CallTo(_, _, arguments) => arguments,
             _ => &[],
+        }
+    }
+
+    /// The value that it returns, where it returns one.
+    pub fn given(&self) -> Option<&Expr<A>>
+        ensures { option_map (λ r. expr_of r.now) result ≡ given_by (head_of (deed_of self.now)) }
+    {
+        match self {
+            Core::Give(value) => Some(value),
+            _ => None,
+        }
+    }
+
+    /// Whether it returns a value.
+    pub fn gives(&self) -> bool
+        ensures { result ≡ gives (head_of (deed_of self.now)) }
+    {
+        match self {
+            Core::Give(_) => true,
+            _ => false,
         }
     }
 
@@ -70,6 +103,7 @@ impl<A: Allocator> Core<A> {
     {
         match self {
             Core::Call(name, _) => Some(name),
+            Core::CallTo(_, name, _) => Some(name),
             _ => None,
         }
     }
@@ -96,4 +130,26 @@ impl<A: Allocator> Core<A> {
             _ => (&[], &[]),
         }
     }
+}
+
+/// Whether some of the statements returns a value, those that they hold included.
+#[cycle(giving)]
+pub fn give_value<A: Allocator>(stmts: &[Stmt<A>]) -> bool
+    ensures { result ≡ gives_value (block_of stmts.now) }
+{
+    for stmt in stmts {
+        if gives_within(&stmt.core) {
+            return true;
+        }
+    }
+    false
+}
+
+/// Whether the statement returns a value, or one that it holds.
+#[cycle(giving)]
+fn gives_within<A: Allocator>(core: &Core<A>) -> bool
+    ensures { result ≡ gives_inside (deed_of core.now) }
+{
+    let (first, second) = core.inside();
+    core.gives() || give_value(first) || give_value(second)
 }

@@ -67,6 +67,10 @@ pub enum Core<A: Allocator> {
     Return,
     /// `p(e, f);`
     Call(Name<A>, Vec<Expr<A>, A>),
+    /// `x := p(e, f);`: the variable that gets the value, the procedure, and the arguments.
+    CallTo(Name<A>, Name<A>, Vec<Expr<A>, A>),
+    /// `return e;`
+    Give(Expr<A>),
 }
 
 /// A right side.
