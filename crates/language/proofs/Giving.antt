@@ -1,7 +1,8 @@
 -- Which procedures give a value: those in whose body one is returned, also by places, and by numbers.
 use Rattle.std.proofs.Common.{◌≡◌, ℕ, suc, ◌+◌, ◌||◌, ◌++◌, Bool, true, false, inl, inr, refl, sym, ◌∙◌, ap, ap₂}
 use Rattle.std.proofs.lemmas.Bool.{false≢true}
-use Rattle.language.specs.Tree.{Name, Simple, skip, assign, assert, assume, goto, leave, call, leave_with, call_for, Block, done, one, choose}
+use Rattle.language.specs.Tree.{Name, Simple, skip, assign, assert, assume, goto, leave, call, leave_with, call_for, Block, done, one}
+use Rattle.language.specs.Tree.{choose}
 use Rattle.language.specs.Tree.{loop}
 use Rattle.language.specs.Parts.{plain, gives}
 use Rattle.language.specs.Rest.{Code, join}
@@ -18,11 +19,11 @@ gives_first done = false
 gives_first (choose m c a b t) = false
 gives_first (loop m c a t) = false
 
-or_left : (a b : Bool) → a ≡ true → a || b ≡ true
+pub or_left : (a b : Bool) → a ≡ true → a || b ≡ true
 or_left true b e = refl
 or_left false b e = absurd (false≢true e)
 
-or_right : (a b : Bool) → b ≡ true → a || b ≡ true
+pub or_right : (a b : Bool) → b ≡ true → a || b ≡ true
 or_right true b e = refl
 or_right false b e = e
 

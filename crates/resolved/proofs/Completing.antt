@@ -1,5 +1,5 @@
 -- What a tree that resolves means is complete, also with its statements numbered.
-use Rattle.std.proofs.Common.{◌≡◌, ℕ, suc, ◌+◌, ◌≤◌, Bool, true, false, cond, List, [], ◌∷◌, ◌++◌, length, map, Option}
+use Rattle.std.proofs.Common.{◌≡◌, ℕ, suc, ◌+◌, ◌≤◌, ◌||◌, Bool, true, false, cond, List, [], ◌∷◌, ◌++◌, length, map, Option}
 use Rattle.std.proofs.Common.{Some, None, option_map, slice_get, sym, ◌∙◌, ap, subst, arith, length-append}
 use Rattle.std.proofs.lemmas.List.{length-map}
 use Rattle.std.proofs.lemmas.Option.{slice_get-map}
@@ -9,9 +9,10 @@ use Rattle.language.specs.Value.{Place, global, local}
 use Rattle.language.specs.Rest.{Label, Code, has_label, first_of_two, join, rest_from}
 use Rattle.language.specs.Step.{Routine, AtRoutine, AtRest}
 use Rattle.language.specs.Resolve.{number_of, Scope, place_of, scope_of, resolve_expression, resolve_side}
-use Rattle.language.specs.Resolve.{resolve_simple, resolve_block, routine_of, meaning_of}
+use Rattle.language.specs.Resolve.{resolve_simple, resolve_block, gives_value, routine_of, meaning_of}
+use Rattle.language.proofs.Giving.{or_left, or_right}
 use Rattle.language.specs.Sequential.{statements, marked, numbered, numbered_routine, sequential_of}
-use Rattle.language.specs.Parts.{plain, assigns, targets_of, sides_of, test_of, arguments_of, callee_of, jump_of}
+use Rattle.language.specs.Parts.{plain, assigns, targets_of, sides_of, test_of, arguments_of, callee_of, gives, jump_of}
 use Rattle.resolved.specs.There.{IsThere, names}
 use Rattle.resolved.specs.Statements.{Statement, statements_of, variables_of, variables_of_side, variables_of_sides}
 use Rattle.resolved.specs.Statements.{variables_of_test, variables_of_all}
@@ -102,8 +103,9 @@ module _ (t : Tree) (p : Procedure) where
   label_there (Some l) P h = h
 
   simple_complete : (m : Mark Name) (c : Simple Name Name Name) → StatementResolves t p (record { mark = m; head = plain c })
+      → (gives (plain c) ≡ true → gives_value p.body ≡ true)
       → SimpleComplete (meaning_of t).routines n (routine_of t p) (resolve_simple s c)
-  simple_complete m c h =
+  simple_complete m c h within =
       let xs = targets_of (plain c) in
       let rs = sides_of (plain c) in
       let test = test_of (plain c) in
@@ -123,28 +125,41 @@ module _ (t : Tree) (p : Procedure) where
         };
         sides = λ is. ap length parts.targets ∙ (has_sides is ∙ sym (ap length parts.sides));
         jump = rw parts.jump (label_there (jump_of (plain c)) _ h.target.1);
+        gives = λ is. within (sym parts.gives ∙ is);
       }
 
   abbrev Complete : Code → Type 0
   Complete b = Throughout (SimpleComplete (meaning_of t).routines n (routine_of t p)) (SideInScope n own) b
 
-  block_complete : (b : Block Name Name Name) → Each (StatementResolves t p) (statements_of b) → Complete (resolve_block s b)
-  block_complete done h = tt
-  block_complete (one m c k) h = (simple_complete m c h.0, block_complete k h.1)
-  block_complete (choose m r a b k) h =
+  -- where the block gives a value, the procedure does
+  abbrev GivesWithin : Block Name Name Name → Type 0
+  GivesWithin b = gives_value b ≡ true → gives_value p.body ≡ true
+
+  block_complete : (b : Block Name Name Name) → Each (StatementResolves t p) (statements_of b) → GivesWithin b
+      → Complete (resolve_block s b)
+  block_complete done h within = tt
+  block_complete (one m c k) h within = (
+    simple_complete m c h.0 (λ is. within (or_left (gives (plain c)) (gives_value k) is)),
+    block_complete k h.1 (λ is. within (or_right (gives (plain c)) (gives_value k) is)),
+  )
+  block_complete (choose m r a b k) h within =
       let P : Statement → Type 0 = StatementResolves t p in
       let rest : Each P (statements_of b ++ statements_of k) = each_right P (statements_of a) (statements_of b ++ statements_of k) h.1 in (
         side_in_scope r (each_left Placed (variables_of_side r) [] h.0.variables),
-        block_complete a (each_left P (statements_of a) (statements_of b ++ statements_of k) h.1),
-        block_complete b (each_left P (statements_of b) (statements_of k) rest),
-        block_complete k (each_right P (statements_of b) (statements_of k) rest),
+        block_complete a (each_left P (statements_of a) (statements_of b ++ statements_of k) h.1)
+            (λ is. within (or_left (gives_value a) (gives_value b || gives_value k) is)),
+        block_complete b (each_left P (statements_of b) (statements_of k) rest)
+            (λ is. within (or_right (gives_value a) (gives_value b || gives_value k) (or_left (gives_value b) (gives_value k) is))),
+        block_complete k (each_right P (statements_of b) (statements_of k) rest)
+            (λ is. within (or_right (gives_value a) (gives_value b || gives_value k) (or_right (gives_value b) (gives_value k) is))),
       )
-  block_complete (loop m r a k) h =
+  block_complete (loop m r a k) h within =
       let P : Statement → Type 0 = StatementResolves t p in (
         side_in_scope r (each_left Placed (variables_of_side r) [] h.0.variables),
-        block_complete a
-            (each_left P (statements_of a) (statements_of k) h.1),
-        block_complete k (each_right P (statements_of a) (statements_of k) h.1),
+        block_complete a (each_left P (statements_of a) (statements_of k) h.1)
+            (λ is. within (or_left (gives_value a) (gives_value k) is)),
+        block_complete k (each_right P (statements_of a) (statements_of k) h.1)
+            (λ is. within (or_right (gives_value a) (gives_value k) is)),
       )
 
 -- there is a rest
@@ -215,6 +230,7 @@ simple_numbered rs n r c h = record {
   };
   sides = h.sides;
   jump = label_numbered r (jump_of (plain c)) h.jump;
+  gives = h.gives;
 }
 
 block_numbered : (rs : List Routine) (n : ℕ) (r : Routine) (b : Code) (i : ℕ)
@@ -241,7 +257,7 @@ module _ (t : Tree) where
   routines_complete [] h = tt
   routines_complete (p ∷ ps) h = (
     block_numbered (meaning_of t).routines (length t.globals) (routine_of t p) (resolve_block (scope_of t p) p.body) 1
-        (block_complete t p p.body h.0),
+        (block_complete t p p.body h.0 (λ is. is)),
     routines_complete ps h.1,
   )
 

@@ -3,12 +3,13 @@ use Rattle.std.proofs.Common.{◌≡◌, ℕ, zero, suc, ◌+◌, ◌≤◌, Lis
 use Rattle.std.proofs.Common.{slice_get, option_map, inl, inr, refl, sym, ◌∙◌, ap, subst}
 use Rattle.std.proofs.lemmas.List.{length-map}
 use Rattle.std.proofs.lemmas.Option.{none-some, same_Some}
-use Rattle.language.specs.Tree.{RightSide, Simple, call, done, one, choose, loop, Procedure, Tree}
+use Rattle.language.specs.Tree.{Expression, RightSide, Simple, skip, assign, assert, assume, goto, leave, call, leave_with, call_for}
+use Rattle.language.specs.Tree.{done, one, choose, loop, Procedure, Tree}
 use Rattle.language.specs.Value.{Place}
-use Rattle.language.specs.Rest.{Label, Code, join}
-use Rattle.language.specs.Step.{Routine, Program, AtRoutine, body_of}
-use Rattle.language.specs.Resolve.{routine_of, scope_of, resolve_block}
-use Rattle.language.specs.Sequential.{numbered, numbered_routine, point_of, sequential_of}
+use Rattle.language.specs.Rest.{Label, Code, join, called_by}
+use Rattle.language.specs.Step.{Routine, Program, AtRoutine, frame_size, body_of}
+use Rattle.language.specs.Resolve.{routine_of, scope_of, resolve_block, gives_value}
+use Rattle.language.specs.Sequential.{numbered, numbered_routine, sequential_of}
 use Rattle.language.specs.Flow.{rests, IsRestOf}
 use Rattle.language.specs.Lists.{Member}
 use Rattle.language.specs.Messages.{ArgumentsFit}
@@ -50,25 +51,44 @@ module _ (S : Simple Place ℕ Label → Type 0) (R : RightSide Place → Type 0
         | inr g ↦ heads t k r h.2 g
       ]
 
+-- a complete call is of a procedure that is there, with a place for each argument
+call_fits : (rs : List Routine) (globals : ℕ) (own : Routine) (r : Code) (n : ℕ) (es : List (Expression Place)) → called_by r ≡ Some (n, es)
+    → Heads (SimpleComplete rs globals own) (SideInScope globals own.places) r
+    → AtRoutine (slice_get rs n) (λ z. length es ≤ z.places)
+call_fits rs globals own done n es e h = absurd (none-some (n, es) e)
+call_fits rs globals own (one m skip t) n es e h = absurd (none-some (n, es) e)
+call_fits rs globals own (one m (assign xs us) t) n es e h = absurd (none-some (n, es) e)
+call_fits rs globals own (one m (assert c) t) n es e h = absurd (none-some (n, es) e)
+call_fits rs globals own (one m (assume c) t) n es e h = absurd (none-some (n, es) e)
+call_fits rs globals own (one m (goto x) t) n es e h = absurd (none-some (n, es) e)
+call_fits rs globals own (one m leave t) n es e h = absurd (none-some (n, es) e)
+call_fits rs globals own (one m (call k ks) t) n es e h =
+    subst (λ (c : ℕ × List (Expression Place)). AtRoutine (slice_get rs c.0) (λ z. length c.1 ≤ z.places)) (same_Some (k, ks) (n, es) e)
+    h.scope.callee
+call_fits rs globals own (one m (leave_with v) t) n es e h = absurd (none-some (n, es) e)
+call_fits rs globals own (one m (call_for x k ks) t) n es e h =
+    subst (λ (c : ℕ × List (Expression Place)). AtRoutine (slice_get rs c.0) (λ z. length c.1 ≤ z.places)) (same_Some (k, ks) (n, es) e)
+    h.scope.callee
+call_fits rs globals own (choose m c a b t) n es e h = absurd (none-some (n, es) e)
+call_fits rs globals own (loop m c a t) n es e h = absurd (none-some (n, es) e)
+
 -- where a program is complete, each call in a body has a place for each argument
 complete_fit : (p : Program) → IsComplete p → ArgumentsFit p
-complete_fit p complete q s m es t rest = at (slice_get p.routines q) refl rest
+complete_fit p complete q n r es rest calls = at (slice_get p.routines q) refl rest
   where
-    Fits : Type 0
-    Fits = AtRoutine (slice_get p.routines s) (λ r. length es ≤ r.places)
-
-    member : (b : Code) → IsRestOf b (one m (call s es) t) → Member (one m (call s es) t) (rests b done)
-    member b (inl e) = absurd (none-some m.at (sym (ap point_of e)))
+    member : (b : Code) → IsRestOf b r → Member r (rests b done)
+    member b (inl e) = absurd (none-some (n, es) (sym (ap called_by e) ∙ calls))
     member b (inr f) = f
 
-    at : (o : Option Routine) → slice_get p.routines q ≡ o → IsRestOf (body_of o) (one m (call s es) t) → Fits
+    at : (o : Option Routine) → slice_get p.routines q ≡ o → IsRestOf (body_of o) r
+        → AtRoutine (slice_get p.routines n) (λ z. length es ≤ z.places)
     at None e rest = absurd (member done rest)
     at (Some routine) e rest =
         let whole : RoutineComplete p.routines p.globals routine = each_at
         (RoutineComplete p.routines p.globals) p.routines q routine complete.routines e in
-        let here = heads (SimpleComplete p.routines p.globals routine) (SideInScope p.globals routine.places) routine.body done
-        (one m (call s es) t) whole (member routine.body rest) in
-        here.scope.callee
+        call_fits p.routines p.globals routine r n es calls
+        (heads (SimpleComplete p.routines p.globals routine) (SideInScope p.globals routine.places) routine.body done r whole
+        (member routine.body rest))
 
 pub resolving_fit : (t : Tree) → Resolves t → ArgumentsFit (sequential_of t)
 resolving_fit t h = complete_fit (sequential_of t) (resolving_complete t h)
@@ -77,6 +97,7 @@ resolving_fit t h = complete_fit (sequential_of t) (resolving_complete t h)
 abbrev pub sequential_routine : Tree → Procedure → Routine
 sequential_routine t p = record {
   places = length (p.formals ++ p.locals);
+  gives = gives_value p.body;
   body = numbered 1 (resolve_block (scope_of t p) p.body);
 }
 
@@ -107,12 +128,12 @@ procedure_at t q r e = go t.procedures q e
     go (x ∷ ps) zero e = (x, refl, sym (same_Some (sequential_routine t x) r e))
     go (x ∷ ps) (suc q) e = go ps q e
 
--- in a narrow tree the globals and the places of each procedure are at most 64
+-- in a narrow tree the globals and what a frame of each procedure has are at most 64
 pub narrow_places : (t : Tree) → AllNarrow t → (q : ℕ) (r : Routine) → slice_get (sequential_of t).routines q ≡ Some r →
-    (sequential_of t).globals + r.places ≤ most_places
+    (sequential_of t).globals + frame_size r ≤ most_places
 narrow_places t narrow q r e =
     let (p, is, same) = procedure_at t q r e in
-    subst (λ (z : Routine). length t.globals + z.places ≤ most_places) (sym same) (go t.procedures q p narrow is)
+    subst (λ (z : Routine). length t.globals + frame_size z ≤ most_places) (sym same) (go t.procedures q p narrow is)
   where
     go : (ps : List Procedure) (q : ℕ) (p : Procedure) → EachProcedure (λ (p : Procedure). width t p ≤ most_places) ps →
         slice_get ps q ≡ Some p → width t p ≤ most_places

@@ -8,7 +8,7 @@ ghost use Rattle.trees.specs.Trees.{tree_of};
 ghost use Rattle.resolved.specs.Narrow.{width, AllNarrow, AllNarrow-prop};
 
 use std::alloc::Allocator;
-use trees::Program;
+use trees::{Program, give_value};
 
 /// A sequential program that a checked program was rewritten to. Its procedure 0 is `main__`; the others follow in the
 /// order of the source, from 1. What it carries: its tree resolves, so each variable has its place, each call a
@@ -33,7 +33,8 @@ impl<A: Allocator> Sequential<A> {
         &self.program
     }
 
-    /// How many places the valuations of a procedure have: the globals, and its formals, locals and temporaries.
+    /// How many places the valuations of a procedure have: the globals, its formals, locals and temporaries, and its
+    /// result, where it gives one.
     pub fn width(&self, procedure: u8) -> u8
         requires { procedure < length (sequential_program self.now).procs.items }
         ensures { IsThere (slice_get (sequential_tree self.now).procedures procedure)
@@ -41,6 +42,7 @@ impl<A: Allocator> Sequential<A> {
     {
         let proc = &self.program.procs[procedure as usize];
         let own = proc.formals.len() + proc.locals.len();
-        (self.program.globals.len() + own) as u8
+        let given = give_value(&proc.body) as usize;
+        (self.program.globals.len() + own + given) as u8
     }
 }

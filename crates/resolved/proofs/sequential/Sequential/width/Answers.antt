@@ -1,9 +1,11 @@
 -- The places are counted, and they are at most 64.
-use Rattle.std.proofs.Common.{◌≡◌, ◌+◌, ◌++◌, length, sym, subst, arith}
+use Rattle.std.proofs.Common.{◌≡◌, ◌+◌, ◌∙◌, ap, sym, subst, arith}
+use mir.Val.{bool_byte}
+use Rattle.language.specs.Resolve.{gives_value}
 use Rattle.resolved.specs.There.{IsThere}
-use Rattle.trees.specs.Trees.{tree_of, names_of}
+use Rattle.trees.specs.Trees.{tree_of, proc_of, block_of}
 use Rattle.resolved.specs.Narrow.{width}
-use Rattle.resolved.proofs.Counted.{proc_there, places_counted, places_few}
+use Rattle.resolved.proofs.Counted.{proc_there, as_number, width_counted, places_few}
 use Rattle.resolved.proofs.sequential.Sequential.width.Goals as goal
 
 pub overflow_add-result : goal.overflow_add-result
@@ -13,10 +15,23 @@ overflow_add-result g c =
       places_few c.args.self.now.program c.args.procedure c.index-proc.result.now c.requires c.index-proc.ensures c.args.self.now.narrow,
     )
 
-pub overflow_cast-result : goal.overflow_cast-result
-overflow_cast-result g c =
+pub overflow_add-result-2 : goal.overflow_add-result-2
+overflow_add-result-2 g c =
+    let given =
+    as_number c.give_value-given.result _ (c.give_value-given.ensures ∙ ap (λ l. gives_value (block_of l)) c.deref.ensures.value) in
     omega (
       arith,
+      given,
+      places_few c.args.self.now.program c.args.procedure c.index-proc.result.now c.requires c.index-proc.ensures c.args.self.now.narrow,
+    )
+
+pub overflow_cast-result : goal.overflow_cast-result
+overflow_cast-result g c =
+    let given =
+    as_number c.give_value-given.result _ (c.give_value-given.ensures ∙ ap (λ l. gives_value (block_of l)) c.deref.ensures.value) in
+    omega (
+      arith,
+      given,
       places_few c.args.self.now.program c.args.procedure c.index-proc.result.now c.requires c.index-proc.ensures c.args.self.now.narrow,
     )
 
@@ -24,8 +39,10 @@ pub returns : goal.returns
 returns g c =
     let program = c.args.self.now.program in
     let proc = c.index-proc.result.now in
-    let counted = places_counted program.globals.items proc.formals.items proc.locals.items in
-    let same : c.len-3.result + (c.len.result + c.len-2.result) ≡ length (names_of program.globals.items) + length
-    (names_of proc.formals.items ++ names_of proc.locals.items) = omega (arith, counted) in
-    subst (λ o. IsThere o (λ p. c.len-3.result + (c.len.result + c.len-2.result) ≡ width (tree_of program) p))
+    let given =
+    as_number c.give_value-given.result _ (c.give_value-given.ensures ∙ ap (λ l. gives_value (block_of l)) c.deref.ensures.value) in
+    let all = c.len-3.result + (c.len.result + c.len-2.result) + bool_byte c.give_value-given.result in
+    let counted = width_counted program proc in
+    let same : all ≡ width (tree_of program) (proc_of proc) = omega (arith, counted, given) in
+    subst (λ o. IsThere o (λ p. all ≡ width (tree_of program) p))
     (sym (proc_there program.procs.items c.args.procedure proc c.requires c.index-proc.ensures)) same
