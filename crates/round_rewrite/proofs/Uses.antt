@@ -1,15 +1,15 @@
 -- Which variables the parts of the rewritten statements use, where D is to hold of each of them and S holds of those of
 -- the source.
 use Rattle.std.proofs.Common.{◌≡◌, ℕ, zero, suc, ◌+◌, ◌/◌, ◌%◌, ◌≤◌, ◌<◌, true, false, cond, not, List, []}
-use Rattle.std.proofs.Common.{◌∷◌, ◌++◌, length, map, codes, refl, sym, ◌∙◌, ap, subst, ap₂, arith, length-append}
+use Rattle.std.proofs.Common.{◌∷◌, ◌++◌, Some, length, map, codes, refl, sym, ◌∙◌, ap, subst, ap₂, arith, length-append}
 use Rattle.std.proofs.lemmas.List.{length-map}
-use Rattle.language.specs.Tree.{Name, Expression, const, var, negation, two, RightSide, any, value}
+use Rattle.language.specs.Tree.{Name, Expression, const, var, negation, two, RightSide, any, value, assign, Block, one}
 use Rattle.language.specs.Resolve.{is_declared}
 use Rattle.resolved.specs.Resolves.{Each}
 use Rattle.resolved.specs.Statements.{variables_of, variables_of_side, variables_of_sides, variables_of_all}
 use Rattle.resolved.proofs.Each.{each_left, each_right}
 use Rattle.round_rewrite.specs.Table.{Naming, numbers, literal, in_round, joined, read, expression, side, written, rounds, targets, sides}
-use Rattle.round_rewrite.specs.Table.{draws}
+use Rattle.round_rewrite.specs.Table.{draws, takes, plain, prologue, received, receiver}
 use Rattle.round_rewrite.specs.Names.{named, copy_name, drawn_name, names}
 use Rattle.round_rewrite.proofs.Resolved.{by_test}
 

@@ -23,7 +23,7 @@ impl<'a, N: Allocator, A: Allocator + Copy> Writer<'a, N, A> {
     /// How many temporaries the value of a call takes: one where a global gets it.
     fn takes(&self, receiver: Option<&Name<N>>) -> usize
         ensures { result ≡ takes (naming_of self.now).is_shared
-            (option_map (λ r. name_of r.now) receiver) }
+            (option_map (λ r. name_of r.now) receiver.entry) }
     {
         match receiver {
             Some(x) => usize::from(self.is_shared(x)),
