@@ -43,10 +43,10 @@ back p M closed k z q a v reached [] wait = tt
 back p M closed k z q a v reached (frame c l t ∷ fs) (b, g, r, same, before, calls, below) =
     let u : Valuation = record { globals = g; places = l } in
     let entered = called p M closed c b u a r q before calls in
-    let told = closed q c (summary q a (exit_of v)) (tells a v c entered reached) in (
+    let told = closed q c (summary q a (exit_of p q v)) (tells a v c entered reached) in (
       b,
       subst (Reaching p M c b (record { globals = v.globals; places = l })) (sym same)
-          (returns b u a r q (exit_of v) before calls told),
+          (returns b u a r q (exit_of p q v) before calls told),
       below,
     )
 
@@ -134,7 +134,8 @@ pub due_had : (p : Program) (M : ℕ → Message → Type 0) → HasOpening p M 
 due_had p M opened closed q (entry starter a) (e, begins) = subst (λ z. M z (entry starter a)) (sym e) (opened a begins)
 due_had p M opened closed q (entry (caller c) a) asking = asked_had p M opened closed c q a asking
 due_had p M opened closed q (summary s a b) (asking, pair) =
-    let (l, inside) = pair_inside p s a b pair in
+    let (l, given, inside) = pair_inside p s a b pair in
     let v : Valuation = record { globals = b.globals; places = l } in
     let entered = asked_had p M opened closed q s a asking in
-    closed s q (summary s a b) (tells a v q entered (inside_reached p M opened closed s a v done inside))
+    let told = closed s q (summary s a (exit_of p s v)) (tells a v q entered (inside_reached p M opened closed s a v done inside)) in
+    subst (λ r. M q (summary s a (record { globals = b.globals; result = r }))) (sym given) told

@@ -1,11 +1,11 @@
 -- Where each procedure has what is owed to it, and no more than is due, it has what is due.
-use Rattle.std.proofs.Common.{◌≡◌, ◌↔◌, ℕ, List, Bool, Option}
+use Rattle.std.proofs.Common.{◌≡◌, ◌↔◌, ℕ, List, Bool, Option, None, refl, slice_get}
 use Rattle.language.specs.Tree.{done}
 use Rattle.language.specs.Rest.{Code}
-use Rattle.language.specs.Step.{Program}
+use Rattle.language.specs.Step.{Program, result_of}
 use Rattle.language.specs.Sequential.{Valuation, point_of, Edge, Exit, Pair, Message, IsDue}
 use Rattle.language.specs.Messages.{Reached, AreDue, HasOpening, HasOwed, EdgeTo}
-use Rattle.language.proofs.Sound.{inside_edge, edge_inside, some_edge, edge_some, pair_inside, inside_pair, reached_inside}
+use Rattle.language.proofs.Sound.{inside_edge, edge_inside, some_edge, edge_some, pair_inside, reached_inside}
 use Rattle.language.proofs.Complete.{inside_reached, due_had}
 
 pub reached_edge : (p : Program) (q : ℕ) (M : Message → Type 0) → AreDue p q M → (a v : Valuation) (r : Code) → Reached p q M a v r
@@ -33,9 +33,12 @@ edge_point p q a v point = (
 
 -- a pair has nothing left to run
 pub pair_exit : (p : Program) (q : ℕ) (a : Valuation) (b : Exit) →
-    Pair p q a b ↔ ((l : List Bool) × EdgeTo p q a (record { globals = b.globals; places = l }) done)
+    Pair p q a b ↔
+    ((l : List Bool) × (b.result ≡ result_of (slice_get p.routines q) l)
+    × EdgeTo p q a (record { globals = b.globals; places = l }) done)
 pair_exit p q a b = (
-  λ pair. let (l, inside) = pair_inside p q a b pair in (l, inside_edge p q a (record { globals = b.globals; places = l }) done inside),
-  λ h. inside_pair p q a (record { globals = b.globals; places = h.0 })
-      (edge_inside p q a (record { globals = b.globals; places = h.0 }) done h.1),
+  λ pair. let (l, given, inside) = pair_inside p q a b pair in
+      (l, given, inside_edge p q a (record { globals = b.globals; places = l }) done inside),
+  λ (l, given, edge). let v : Valuation = record { globals = b.globals; places = l } in
+      (l, given, some_edge p q a v None done refl (edge_inside p q a v done edge)),
 )

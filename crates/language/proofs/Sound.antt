@@ -2,8 +2,8 @@
 use Rattle.std.proofs.Common.{◌≡◌, ℕ, List, [], ◌∷◌, Bool, Option, Some, None, refl, subst, slice_get}
 use Rattle.std.proofs.lemmas.Option.{none-some}
 use Rattle.language.specs.Tree.{done, one, choose, loop}
-use Rattle.language.specs.Rest.{Code}
-use Rattle.language.specs.Step.{Routine, Program, frame, State, state, AtRoutine, body_of, Runs}
+use Rattle.language.specs.Rest.{Code, target_of}
+use Rattle.language.specs.Step.{Routine, Program, frame, State, state, AtRoutine, body_of, result_of, Runs}
 use Rattle.language.specs.Sequential.{Valuation, point_of, Calls, Asks, Entered, Edge, Exit}
 use Rattle.language.specs.Sequential.{exit_of, resumed_with, Pair, Message, entry, caller, summary, IsDue}
 use Rattle.language.specs.Flow.{after_first}
@@ -66,21 +66,21 @@ exit_alone (loop m c a t) e = absurd (none-some m.at e)
 
 -- a pair is a path edge with nothing left to run
 pub pair_inside : (p : Program) (q : ℕ) (a : Valuation) (b : Exit) → Pair p q a b →
-    (l : List Bool) × Inside p q a (record { globals = b.globals; places = l }) done
-pair_inside p q a b (l, edge) =
+    (l : List Bool) × (b.result ≡ result_of (slice_get p.routines q) l) × Inside p q a (record { globals = b.globals; places = l }) done
+pair_inside p q a b (l, given, edge) =
     let (r, at, inside) = edge_some p q a (record { globals = b.globals; places = l }) None edge in
-    (l, subst (Inside p q a (record { globals = b.globals; places = l })) (exit_alone r at) inside)
+    (l, given, subst (Inside p q a (record { globals = b.globals; places = l })) (exit_alone r at) inside)
 
-pub inside_pair : (p : Program) (q : ℕ) (a v : Valuation) → Inside p q a v done → Pair p q a (exit_of v)
-inside_pair p q a v inside = (v.places, some_edge p q a v None done refl inside)
+pub inside_pair : (p : Program) (q : ℕ) (a v : Valuation) → Inside p q a v done → Pair p q a (exit_of p q v)
+inside_pair p q a v inside = (v.places, refl, some_edge p q a v None done refl inside)
 
 -- behind a call, what a pair of the procedure called leads to
 behind : (p : Program) (q : ℕ) (a v e : Valuation) (r : Code) (s : ℕ) (b : Exit) → Inside p q a v r →
     Calls p v.globals v.places r s e → Pair p s e b →
-    Inside p q a (resumed_with v b) (after_first r)
+    Inside p q a (resumed_with (target_of r) v b) (after_first r)
 behind p q a v e r s b (entered, run) calls pair =
     let waiting = frame q v.places (after_first r) ∷ [] in
-    let (l, (asked, inner)) = pair_inside p s e b pair in
+    let (l, given, (asked, inner)) = pair_inside p s e b pair in
     let called = runs_step p _ _ _ run (entering p q v r [] s e calls) in
     let ended = runs_then p _ _ _ called (runs_over p waiting (alone p s e) (state b.globals (frame s l done ∷ [])) inner) in
     (entered, runs_step p _ _ _ ended (returning p s (record { globals = b.globals; places = l }) waiting))

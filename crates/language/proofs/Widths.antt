@@ -111,7 +111,7 @@ entered_valuation p fit q a (inr (c, asking)) = asked_valuation p fit c q a aski
 pub due_message : (p : Program) → ArgumentsFit p → (q : ℕ) (m : Message) → IsDue p q m → IsMessageTo p q m
 due_message p fit q (entry from a) due = entered_valuation p fit q a (due_entered p q from a due)
 due_message p fit q (summary s a b) (asking, pair) =
-    let (l, (entered, (n, run))) = pair_inside p s a b pair in
+    let (l, given, (entered, (n, run))) = pair_inside p s a b pair in
     let whole = asked_valuation p fit q s a asking in
     (whole, sym (steps_breadth p n (alone p s a) (state b.globals (frame s l done ∷ [])) run) ∙ whole.0)
 

@@ -2,7 +2,7 @@
 use Rattle.std.specs.Prelude.{◌≡◌, ◌≤◌, ℕ, List, [], ◌∷◌, length, slice_get, slice_index_or}
 use Rattle.language.specs.Tree.{Mark, Expression, call, done, one}
 use Rattle.language.specs.Value.{Place}
-use Rattle.language.specs.Rest.{Label, Code}
+use Rattle.language.specs.Rest.{Label, Code, target_of}
 use Rattle.language.specs.Step.{Program, frame, state, AtRoutine, body_of, Runs}
 use Rattle.language.specs.Sequential.{Valuation, Calls, IsZero, Entered, Exit, exit_of, resumed_with}
 use Rattle.language.specs.Sequential.{Caller, starter, caller, Message, entry, summary, IsDue}
@@ -17,7 +17,7 @@ pub data Reached (program : Program) (procedure : ℕ) (M : Message → Type 0) 
   flows : (a v v' : Valuation) (r r' : Code) → Reached program procedure M a v r → Flow program procedure v r v' r'
       → Reached program procedure M a v' r'
   returns : (a v e : Valuation) (r : Code) (s : ℕ) (b : Exit) → Reached program procedure M a v r → Calls program v.globals v.places r s e →
-      M (summary s e b) → Reached program procedure M a (resumed_with v b) (after_first r)
+      M (summary s e b) → Reached program procedure M a (resumed_with (target_of r) v b) (after_first r)
 
 -- By the messages of which M holds, a procedure owes another: the entry of each call of it that is reached, and
 -- for each of its entries the summary of each exit that is reached.
@@ -25,7 +25,7 @@ pub data Owes (program : Program) (procedure : ℕ) (M : Message → Type 0) : �
   asks : (a v e : Valuation) (r : Code) (s : ℕ) → Reached program procedure M a v r → Calls program v.globals v.places r s e →
       Owes program procedure M s (entry (caller procedure) e)
   tells : (a v : Valuation) (s : ℕ) → M (entry (caller s) a) → Reached program procedure M a v done
-      → Owes program procedure M s (summary procedure a (exit_of v))
+      → Owes program procedure M s (summary procedure a (exit_of program procedure v))
 
 -- each message of which M holds is due for the procedure
 abbrev pub AreDue : Program → ℕ → (Message → Type 0) → Type 0

@@ -49,3 +49,7 @@ rest_from label (choose mark side if_true if_false rest) next =
 rest_from label (loop mark side body rest) next =
     cond (has_label label mark) (Some (loop mark side body (join rest next)))
     (first_of_two (rest_from label body (loop mark side body (join rest next))) (rest_from label rest next))
+
+-- the variable that the first statement calls for, where it calls for a value
+abbrev pub target_of : Code → Option Place
+target_of rest = None

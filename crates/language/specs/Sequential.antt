@@ -3,9 +3,9 @@
 -- (Path edges and summary edges after Ball and Rajamani 2000.)
 use Rattle.std.specs.Prelude.{◌≡◌, ℕ, zero, suc, ◌+◌, Bool, true, List, [], ◌∷◌, ◌++◌, Option, Some, None, map, ◌⊎◌, slice_get}
 use Rattle.language.specs.Tree.{call, Mark, Block, done, one, choose, loop, Tree}
-use Rattle.language.specs.Value.{bit, values_of}
+use Rattle.language.specs.Value.{Place, bit, values_of, written_globals, written_locals}
 use Rattle.language.specs.Rest.{Code}
-use Rattle.language.specs.Step.{Routine, Program, Frame, frame, State, state, zeros, fresh, AtRoutine, Runs}
+use Rattle.language.specs.Step.{Routine, Program, Frame, frame, State, state, zeros, fresh, AtRoutine, result_of, Runs}
 use Rattle.language.specs.Rounds.{starting_stack}
 use Rattle.language.specs.Resolve.{meaning_of}
 
@@ -100,21 +100,30 @@ Edge program procedure entered point valuation =
     × Runs program (state entered.globals (frame procedure entered.places r.body ∷ []))
     (state valuation.globals (frame procedure valuation.places rest ∷ [])))
 
--- what a procedure leaves at its exit: the globals
+-- what a procedure leaves at its exit: the globals, and the result, which is 0 where it gives none
 pub record Exit : Type 0 where
   pub globals : List Bool
+  pub result : Bool
 
--- what is left where the exit is reached with this valuation
-abbrev pub exit_of : Valuation → Exit
-exit_of valuation = record { globals = valuation.globals }
+-- what the procedure leaves where it reaches its exit with this valuation
+abbrev pub exit_of : Program → ℕ → Valuation → Exit
+exit_of program procedure valuation =
+    record { globals = valuation.globals; result = result_of (slice_get program.routines procedure) valuation.places }
 
--- the valuation with which a caller goes on behind a call that has left this: its places are its own
-abbrev pub resumed_with : Valuation → Exit → Valuation
-resumed_with valuation exit = record { globals = exit.globals; places = valuation.places }
+-- the valuation with which a caller goes on behind a call that has left this: its places are its own, and the variable
+-- that it called for, if any, gets the result
+abbrev pub resumed_with : Option Place → Valuation → Exit → Valuation
+resumed_with None valuation exit = record { globals = exit.globals; places = valuation.places }
+resumed_with (Some x) valuation exit = record {
+  globals = written_globals (x ∷ []) (exit.result ∷ []) exit.globals;
+  places = written_locals (x ∷ []) (exit.result ∷ []) valuation.places;
+}
 
 -- A summary edge, or pair: a path edge to the exit, where this is left.
 abbrev pub Pair : Program → ℕ → Valuation → Exit → Type 0
-Pair program procedure entered exit = (l : List Bool) × Edge program procedure entered None (record { globals = exit.globals; places = l })
+Pair program procedure entered exit =
+    (l : List Bool) × (exit.result ≡ result_of (slice_get program.routines procedure) l)
+    × Edge program procedure entered None (record { globals = exit.globals; places = l })
 
 -- some pair of the first procedure has `bad`, where a sequential program keeps it in the global of this number
 abbrev pub SomeBad : Program → ℕ → Type 0

@@ -48,6 +48,10 @@ abbrev pub body_of : Option Routine → Code
 body_of None = done
 body_of (Some routine) = routine.body
 
+-- the result in these values of a frame: 0, since no procedure gives one
+abbrev pub result_of : Option Routine → List Bool → Bool
+result_of routine locals = false
+
 -- Some step of the top frame leads to a state with the property Q. A finished frame goes. `assert` and
 -- `assume` have a step only where 1 is a value. An empty stack has no step.
 abbrev pub StepsTo : Program → State → (State → Type 0) → Type 0

@@ -2,7 +2,7 @@
 ghost use Rattle.std.specs.Prelude.{◌≡◌, ◌↔◌, ℕ, List, Bool, Option, Some, slice_get};
 ghost use Rattle.language.specs.Tree.{done};
 ghost use Rattle.language.specs.Rest.{Code};
-ghost use Rattle.language.specs.Step.{Routine, Program, body_of};
+ghost use Rattle.language.specs.Step.{Routine, Program, body_of, result_of};
 ghost use Rattle.language.specs.Sequential.{point_of, Valuation, Edge, Exit, Pair, Caller, Message};
 ghost use Rattle.language.specs.Sequential.{entry, IsDue};
 ghost use Rattle.language.specs.Flow.{IsRestOf};
@@ -51,11 +51,12 @@ pub fn a_path_edge_has_a_rest_at_its_point()
         → Edge p q a point v ↔ ((r : Code) × (point ≡ point_of r) × EdgeTo p q a v r) }
 {}
 
-/// A pair is a path edge with nothing left to run.
+/// A pair is a path edge with nothing left to run, and the result.
 pub fn a_pair_has_nothing_left_to_run()
     ensures { (p : Program) (q : ℕ) (a : Valuation) (b : Exit)
         → Pair p q a b ↔
-        ((l : List Bool) × EdgeTo p q a (record { globals = b.globals; places = l }) done) }
+        ((l : List Bool) × (b.result ≡ result_of (slice_get p.routines q) l)
+        × EdgeTo p q a (record { globals = b.globals; places = l }) done) }
 {}
 
 /// What is reached from a valuation has an entry with that valuation.
