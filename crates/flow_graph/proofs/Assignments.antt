@@ -143,7 +143,7 @@ put (None ∷ ts) (v ∷ vs) bs = put ts vs bs
 put (Some b ∷ ts) (v ∷ vs) bs = put ts vs (with_bit bs b v)
 
 -- the bits that are still to be written may differ
-abbrev Agree : List (Option ℕ) → ℕ → List Bool → Type 0
+abbrev pub Agree : List (Option ℕ) → ℕ → List Bool → Type 0
 Agree ts m bs = (k : ℕ) → is_among k ts ≡ false → bit_of m k ≡ bit bs k
 
 abbrev pub Below : ℕ → List (Option ℕ) → Type 0
@@ -167,7 +167,7 @@ agree_dropped b v ts m bs h agree k free =
     let other = not_it b k ts h free in
     agree k (still b k ts other free) ∙ sym (get_or-set_other bs b k v false (λ e. other (sym e)))
 
-agree_kept : (b : ℕ) (v w : Bool) (ts : List (Option ℕ)) (m : ℕ) (bs : List Bool) → v ≡ w → b < length bs → Agree (Some b ∷ ts) m bs
+pub agree_kept : (b : ℕ) (v w : Bool) (ts : List (Option ℕ)) (m : ℕ) (bs : List Bool) → v ≡ w → b < length bs → Agree (Some b ∷ ts) m bs
     → Agree ts (masked m (2 ^ b) w) (with_bit bs b v)
 agree_kept b v w ts m bs same inside agree k free = go (b == k) refl
   where
@@ -474,7 +474,7 @@ bits_same s [] = refl
 bits_same s (x ∷ xs) = ap (λ l. bit_of_name s x ∷ l) (bits_same s xs)
 
 -- what is written to places is written to their bits
-written_bits : (n : ℕ) (ps : List Place) (vs gs ls : List Bool) → length gs ≡ n
+pub written_bits : (n : ℕ) (ps : List Place) (vs gs ls : List Bool) → length gs ≡ n
     → written_globals ps vs gs ++ written_locals ps vs ls ≡ put (map (bit_of_place n) ps) vs (gs ++ ls)
 written_bits n [] vs gs ls e = refl
 written_bits n (global i ∷ ps) [] gs ls e = refl
@@ -497,7 +497,7 @@ written_bits n (global i ∷ ps) (v ∷ vs) gs ls e = go (nat_lt i n) refl (writ
 
 -- ---- the law
 
-same_bits : (a b : ℕ) → ((k : ℕ) → bit_of a k ≡ bit_of b k) → a ≡ b
+pub same_bits : (a b : ℕ) → ((k : ℕ) → bit_of a k ≡ bit_of b k) → a ≡ b
 same_bits a b h = same_from_bits a b (λ k. bit_worth a k ∙ ap worth_of (h k) ∙ sym (bit_worth b k))
 
 module _ {A : Type 0} (a : Assignment A) (s : Scope) (xs : List Name) (rs : List (RightSide Name)) where

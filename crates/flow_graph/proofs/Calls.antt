@@ -1,9 +1,8 @@
 -- Entries of calls, argument by argument.
-use Rattle.std.proofs.Common.{◌≡◌, ℕ, ◌+◌, ◌*◌, ◌^◌, ◌%◌, ◌<◌, ◌≤◌, ◌-◌, ◌/◌, nat_lt, Bool, true, false, List, ◌∷◌, map, refl, ◌∙◌, ap}
+use Rattle.std.proofs.Common.{◌≡◌, ℕ, ◌+◌, ◌*◌, ◌^◌, ◌%◌, ◌<◌, ◌≤◌, ◌-◌, ◌/◌, Bool, List, ◌∷◌, map, ◌∙◌, ap}
 use Rattle.std.proofs.Common.{arith, add-one, pow-suc}
-use Rattle.std.proofs.Math.Nat.{mod-eq_of_lt, mod-lt, div-add-mod, mul-add, mul-le-mul_left, lt_of_mul-lt-mul_left}
+use Rattle.std.proofs.Math.Nat.{mod-lt, div-add-mod, mul-add, mul-le-mul_left, lt_of_mul-lt-mul_left}
 use Rattle.std.proofs.lemmas.Nat.{pow-add, pow_pos}
-use Rattle.std.proofs.lemmas.Bool.{ltb-true, ltb-false}
 use Rattle.std.proofs.Math.Pow.{pow_mono}
 use Rattle.flow_graph.specs.Bits.{worth_of, coded}
 use Rattle.flow_graph.proofs.Rows.{row_step, below_next}
@@ -37,26 +36,16 @@ entry_fits b entry bit worth is small within =
     omega (arith, below, doubled bit, most)
 
 -- the lowest bits of one number and the others of another are no more than 64
-pub room_below : (g v b low old : ℕ) → v < 18446744073709551616 → b < 18446744073709551616 → low ≡ b % 2 ^ g → old ≡ v % 2 ^ g
+pub room_below : (g v b low old : ℕ) → g ≤ most_places → v < 18446744073709551616 → low ≡ b % 2 ^ g → old ≡ v % 2 ^ g
     → low + (v - old) < 18446744073709551616
-room_below g v b low old fits fits' is is' = go (nat_lt g 65) refl
-  where
-    go : (t : Bool) → nat_lt g 65 ≡ t → low + (v - old) < 18446744073709551616
-    go true less =
-        let within = ltb-true g 65 less in
-        let rest : 2 ^ (g + (64 - g)) ≡ 2 ^ g * 2 ^ (64 - g) = pow-add 2 g (64 - g) in
-        let whole : 2 ^ (g + (64 - g)) ≡ 2 ^ 64 = ap (λ n. 2 ^ n) (let e : g + (64 - g) ≡ 64 = omega (arith, within) in e) in
-        let parts = div-add-mod v (2 ^ g) in
-        let above : v / 2 ^ g < 2 ^ (64 - g) = lt_of_mul-lt-mul_left (2 ^ g) (omega (arith, parts, rest, whole, fits)) in
-        let most : 2 ^ g * (v / 2 ^ g + 1) ≤ 2 ^ g * 2 ^ (64 - g) =
-        mul-le-mul_left (2 ^ g) (let le : v / 2 ^ g + 1 ≤ 2 ^ (64 - g) = omega (arith, above) in le) in
-        let one_more : 2 ^ g * (v / 2 ^ g + 1) ≡ 2 ^ g * (v / 2 ^ g) + 2 ^ g = mul-add (2 ^ g) (v / 2 ^ g) 1
-        ∙ (let e : 2 ^ g * (v / 2 ^ g) + 2 ^ g * 1 ≡ 2 ^ g * (v / 2 ^ g) + 2 ^ g = omega arith in e) in
-        let small = mod-lt b (pow_pos g) in
-        omega (arith, is, is', parts, most, one_more, rest, whole, small)
-    go false least =
-        let beyond = ltb-false g 65 least in
-        let all : 2 ^ 64 ≤ 2 ^ g = pow_mono {i = 64} (let le : 64 ≤ g = omega (arith, beyond) in le) in
-        let mine = mod-eq_of_lt (let less : v < 2 ^ g = omega (arith, all, fits) in less) in
-        let yours = mod-eq_of_lt (let less : b < 2 ^ g = omega (arith, all, fits') in less) in
-        omega (arith, is, is', mine, yours, fits')
+room_below g v b low old within fits is is' =
+    let rest : 2 ^ (g + (64 - g)) ≡ 2 ^ g * 2 ^ (64 - g) = pow-add 2 g (64 - g) in
+    let whole : 2 ^ (g + (64 - g)) ≡ 2 ^ 64 = ap (λ n. 2 ^ n) (let e : g + (64 - g) ≡ 64 = omega (arith, within) in e) in
+    let parts = div-add-mod v (2 ^ g) in
+    let above : v / 2 ^ g < 2 ^ (64 - g) = lt_of_mul-lt-mul_left (2 ^ g) (omega (arith, parts, rest, whole, fits)) in
+    let most : 2 ^ g * (v / 2 ^ g + 1) ≤ 2 ^ g * 2 ^ (64 - g) =
+    mul-le-mul_left (2 ^ g) (let le : v / 2 ^ g + 1 ≤ 2 ^ (64 - g) = omega (arith, above) in le) in
+    let one_more : 2 ^ g * (v / 2 ^ g + 1) ≡ 2 ^ g * (v / 2 ^ g) + 2 ^ g = mul-add (2 ^ g) (v / 2 ^ g) 1
+    ∙ (let e : 2 ^ g * (v / 2 ^ g) + 2 ^ g * 1 ≡ 2 ^ g * (v / 2 ^ g) + 2 ^ g = omega arith in e) in
+    let small = mod-lt b (pow_pos g) in
+    omega (arith, is, is', parts, most, one_more, rest, whole, small)

@@ -1,5 +1,5 @@
 -- Valuations and their numbers.
-use Rattle.std.proofs.Common.{◌≡◌, ℕ, zero, suc, ◌+◌, ◌*◌, ◌<◌, ◌%◌, ◌^◌, Bool, true, false, List, [], ◌∷◌, ◌++◌, length, refl, sym, ◌∙◌}
+use Rattle.std.proofs.Common.{◌≡◌, ℕ, zero, suc, ◌+◌, ◌-◌, ◌*◌, ◌<◌, ◌%◌, ◌^◌, Bool, true, false, List, [], ◌∷◌, ◌++◌, length, refl, sym, ◌∙◌}
 use Rattle.std.proofs.Common.{ap, ap₂, subst, arith, pow-suc, length-append}
 use Rattle.std.proofs.Math.Nat.{mul_assoc, mod-eq_of_lt}
 use Rattle.std.proofs.lemmas.Nat.{mod_low}
@@ -7,7 +7,6 @@ use Rattle.language.specs.Step.{zeros}
 use Rattle.language.specs.Sequential.{Valuation}
 use Rattle.flow_graph.specs.Bits.{coded}
 use Rattle.flow_graph.specs.Flows.{code}
-use Rattle.flow_graph.specs.Returns.{left, resumed}
 use Rattle.flow_graph.proofs.Stacks.{coded_small}
 
 -- a number tells its values, where it is known how many there are
@@ -66,12 +65,12 @@ code_split : (g : ℕ) (v : Valuation) → length v.globals ≡ g → code v ≡
 code_split g v e = coded_append v.globals v.places ∙ ap (λ n. coded v.places * 2 ^ n + coded v.globals) e
 
 -- the globals of a valuation's number are those of the valuation
-pub left_coded : (g : ℕ) (v : Valuation) → length v.globals ≡ g → left g (code v) ≡ coded v.globals
+pub left_coded : (g : ℕ) (v : Valuation) → length v.globals ≡ g → code v % 2 ^ g ≡ coded v.globals
 left_coded g v e = ap (λ n. n % 2 ^ g) (code_split g v e) ∙ mod_low (coded v.places) g (coded v.globals) (coded_below g v.globals e)
 
 -- the valuation after a return has the globals that are left, and the caller's places
 pub resumed_coded : (g : ℕ) (v : Valuation) (b : List Bool) → length v.globals ≡ g → length b ≡ g
-    → resumed g (code v) (coded b) ≡ coded (b ++ v.places)
+    → coded b % 2 ^ g + (code v - code v % 2 ^ g) ≡ coded (b ++ v.places)
 resumed_coded g v b e f =
     let after : coded b % 2 ^ g ≡ coded b = mod-eq_of_lt (coded_below g b f) in
     let low : code v % 2 ^ g ≡ coded v.globals = left_coded g v e in

@@ -16,7 +16,7 @@ use Rattle.flow_graph.specs.Formulas.{says, SaysSide}
 use Rattle.flow_graph.specs.Assignments.{assigned, written}
 use Rattle.flow_graph.specs.Assigning.{Assigns, after_values}
 use Rattle.flow_graph.specs.Nodes.{goes, stops, tests, assigns, calls, returns}
-use Rattle.flow_graph.specs.Flows.{code, Widths, widths_of, HasWidths, Does}
+use Rattle.flow_graph.specs.Flows.{code, exit_code, Widths, widths_of, HasWidths, Does}
 use Rattle.flow_graph.proofs.Rows.{first_bit}
 use Rattle.flow_graph.specs.declared.side.Side.{Side}
 use Rattle.flow_graph.specs.declared.side.Side.TheVariants as side
@@ -26,8 +26,11 @@ use Rattle.flow_graph.specs.declared.flow.Flow.TheVariants.{Assign, Test}
 use Rattle.flow_graph.specs.declared.flow.Flow.TheVariants as flow
 use Rattle.flow_graph.specs.declared.call.Call.{Call}
 use Rattle.flow_graph.specs.declared.formula.Formula.{Formula}
-use Rattle.flow_graph.specs.Calls.{entry_of}
+use Rattle.flow_graph.specs.Calls.{entry_of, resumed}
+use Rattle.flow_graph.specs.Located.{target_mask}
+use Rattle.flow_graph.specs.Returns.{HasTarget}
 use Rattle.flow_graph.proofs.Coding.{coded_append, left_coded}
+use Rattle.flow_graph.proofs.Returns.{resumed_code}
 use Rattle.resolved.specs.Limits.{most_places}
 
 -- the two parts of a pair that is there
@@ -47,6 +50,7 @@ does_same {A} f r j k w e d = record {
   );
   once = d.once;
   enters = λ v s e n wide. (λ h. absurd ((d.enters v s e n wide).0 h).1, λ h. absurd h.1);
+  resumes = λ v x s e n wide count h. absurd ((d.enters v s e n wide).0 h).1;
 }
   where
     at_j : (b : Bool) → cond b j k ≡ j
@@ -75,6 +79,7 @@ does_goes {A} a to w none last = record {
   );
   once = λ v i j n m wide one other. omega (arith, one.0, other.0, last);
   enters = λ v s e n wide. (λ h. absurd (none-some _ h), λ h. absurd h.1);
+  resumes = λ v x s e n wide count h. absurd (none-some _ h);
 }
   where
     stays : (values i : ℕ) → assigned a values i ≡ values
@@ -99,6 +104,7 @@ does_assigns {A} a s xs rs to d = record {
       d.once v i j w wide (one.0, same_second to (assigned a (code v) i) n w one.1)
       (other.0, same_second to (assigned a (code v) j) n w other.1);
   enters = λ v s e n wide. (λ h. absurd (none-some _ h), λ h. absurd h.1);
+  resumes = λ v x s e n wide count h. absurd (none-some _ h);
 }
 
 -- the choice of a value
@@ -137,6 +143,7 @@ does_tests side.Any any s j k ne d = record {
       one_choice i i' j k ne one.0 other.0
       (same_first (cond (bit_of i 0) j k) (code v) (cond (bit_of i' 0) j k) (code v) (one.1 ∙ sym other.1));
   enters = λ v s e n wide. (λ h. absurd (none-some _ h), λ h. absurd h.1);
+  resumes = λ v x s e n wide count h. absurd (none-some _ h);
 }
 does_tests side.Any (value e) s j k ne d = absurd d
 does_tests (side.Value f) any s j k ne d = absurd d
@@ -157,12 +164,14 @@ does_tests (side.Value f) (value e) s j k ne d = record {
   );
   once = λ v i i' n w wide one other. omega (arith, one.0, other.0);
   enters = λ v s e n wide. (λ h. absurd (none-some _ h), λ h. absurd h.1);
+  resumes = λ v x s e n wide count h. absurd (none-some _ h);
 }
 
 -- a flow on which no run goes on does a call that no run makes
-pub does_no_call : {A : Type 0} (f : Flow A) (p : ℕ) (es : List (Expression Place)) (k : ℕ) (w : Widths) →
-    ((p < w.procedures → ⊥) ⊎ (w.globals + length es ≤ most_places → ⊥)) → Does f stops w → Does f (calls p es k) w
-does_no_call f p es k w ne d = record {
+pub does_no_call : {A : Type 0} (f : Flow A) (x : Option Place) (p : ℕ) (es : List (Expression Place)) (k : ℕ) (w : Widths) →
+    ((p < w.procedures → ⊥) ⊎ (w.globals + length es ≤ most_places → ⊥)) → Does f stops w →
+    Does f (calls x p es k) w
+does_no_call f x p es k w ne d = record {
   leads = λ v n m wide. (λ h. absurd (true≢false ((d.leads v n m wide).0 h).1.0), λ h. absurd h.1);
   once = d.once;
   enters = λ v q e n wide. (
@@ -172,6 +181,7 @@ does_no_call f p es k w ne d = record {
         let count = ap length same ∙ length_values v.globals v.places es in
         absurd (refused (subst (λ z. z < w.procedures) is less) (omega (arith, few, count, wide.0)) ne),
   );
+  resumes = λ v y q e n wide count h. absurd ((d.enters v q e n wide).0 h).1;
 }
   where
     refused : p < w.procedures → w.globals + length es ≤ most_places →
@@ -195,10 +205,11 @@ entry_code fs s es v all e =
     mul_comm (2 ^ length s.globals) (coded (map (λ f. says f (code v)) fs)) ∙ λ t. said t * 2 ^ sym e t in
     omega (arith, low, whole, above)
 
-pub does_calls : {A : Type 0} (c : Call A) (p : ℕ) (es : List (Expression Place)) (s : Scope) → c.callee ≡ p →
+pub does_calls : {A : Type 0} (c : Call A) (x : Option Place) (p : ℕ) (es : List (Expression Place)) (s : Scope) → c.callee ≡ p →
     c.globals ≡ length s.globals → p < length s.procedures → AllSay c.arguments.items s es →
-    Does (flow.Call c) (calls p es c.back) (widths_of s)
-does_calls {A} c p es s to_p globals there all = record {
+    c.target ≡ target_mask (length s.globals) x → HasTarget (length s.locals) x →
+    Does (flow.Call c) (calls x p es c.back) (widths_of s)
+does_calls {A} c x p es s to_p globals there all masks has = record {
   leads = λ v n w wide. (λ h. absurd (none-some _ h.1.1), λ h. absurd h.1);
   once = λ v i j n w wide one other. absurd (none-some _ one.1);
   enters = λ v q e n wide. (
@@ -217,6 +228,9 @@ does_calls {A} c p es s to_p globals there all = record {
         let enters = entry v wide ∙ ap (λ bs. coded (v.globals ++ bs)) (sym same) ∙ sym at in
         λ t. Some ((to_p ∙ sym is) t, enters t, sym back t),
   );
+  resumes = λ v y q e n wide count h.
+      (λ t. resumed (globals t) (masks t) (code v) (exit_code y))
+      ∙ resumed_code (length s.globals) x v y wide.0 (count ∙ wide.0) (subst (λ k. HasTarget k x) (sym wide.1) has);
 }
   where
     entry : (v : Valuation) → HasWidths (widths_of s) v →
@@ -237,6 +251,7 @@ does_return w = record {
   leads = λ v n k wide. (λ h. absurd (none-some _ h.1.1), λ h. absurd h.1);
   once = λ v i j n k wide one other. absurd (none-some _ one.1);
   enters = λ v s e n wide. (λ h. absurd (none-some _ h), λ h. absurd h.1);
+  resumes = λ v x s e n wide count h. absurd (none-some _ h);
 }
 
 -- one formula more says one value more

@@ -1,15 +1,16 @@
 -- A graph whose flows do what happens at the points of a procedure's body has the procedure's steps.
 use Rattle.std.proofs.Common.{◌≡◌, ◌↔◌, ◌≤◌, ◌+◌, ◌-◌, ℕ, zero, suc, Bool, Option, Some}
 use Rattle.std.proofs.Common.{None, option_map, List, [], ◌∷◌, ◌++◌, length}
-use Rattle.std.proofs.Common.{map, slice_get, inl, inr, refl, sym, ◌∙◌, ap, subst, arith, ◌*◌, ◌⊎◌, get_or, length-append}
+use Rattle.std.proofs.Common.{◌==◌, not, map, slice_get, inl, inr, refl, sym, ◌∙◌, ap, subst, arith, ◌*◌, ◌⊎◌, get_or, length-append}
+use Rattle.std.specs.Int.Bits.{and_zero_r}
 use Rattle.std.proofs.lemmas.List.{length-map, append_assoc}
 use Rattle.std.proofs.lemmas.Option.{none-some, same_Some, slice_get-map, slice_get-get_or, slice_get_within}
 use Rattle.language.specs.Tree.{Mark, Expression, skip, assign, assert, assume, goto, leave, call, done, one, choose, loop, Procedure}
 use Rattle.language.specs.Value.{Place, values_of}
-use Rattle.language.specs.Rest.{Label, Code, rest_from}
+use Rattle.language.specs.Rest.{Label, Code, rest_from, target_of}
 use Rattle.language.specs.Resolve.{Scope, resolve_block}
 use Rattle.language.specs.Step.{Routine, Program, zeros, fresh, AtRoutine, body_of}
-use Rattle.language.specs.Sequential.{statements, numbered, Valuation, Calls, sequential_of}
+use Rattle.language.specs.Sequential.{statements, numbered, Valuation, Calls, resumed_with, sequential_of}
 use Rattle.language.specs.Flow.{rests, IsRestOf, after_first}
 use Rattle.language.specs.Lists.{Member}
 use Rattle.language.specs.Messages.{IsValuationOf, ArgumentsFit}
@@ -25,8 +26,8 @@ use Rattle.trees.specs.Trees.{tree_of, proc_of, procs_of, name_of, names_of, blo
 use Rattle.resolved.specs.Resolves.{Resolves}
 use Rattle.resolved.specs.Narrow.{AllNarrow}
 use Rattle.resolved.proofs.Sequences.{sequential_routine, resolving_fit, routines_counted, routine_at, narrow_places}
-use Rattle.flow_graph.specs.Bits.{worth_of, coded}
-use Rattle.flow_graph.specs.Nodes.{Node, number, point_at, node_of, nodes_of, goes_to, Leads, NodeCalls}
+use Rattle.flow_graph.specs.Bits.{has_any, worth_of, coded}
+use Rattle.flow_graph.specs.Nodes.{Node, number, point_at, node_of, nodes_of, goes_to, target_in, Leads, NodeCalls}
 use Rattle.flow_graph.specs.Flows.{code, Widths, widths_of, HasWidths, NodeEnters, Does, AllDo, Lowered}
 use Rattle.flow_graph.specs.Graphs.{StepEnters, HasSteps, AtFlow, IsGraph}
 use Rattle.flow_graph.specs.Drawing as drawing
@@ -35,6 +36,7 @@ use Rattle.flow_graph.specs.declared.flow.Flow.{Flow}
 use Rattle.flow_graph.specs.declared.graph.Graph.{Graph}
 use Rattle.flow_graph.proofs.Nodes.{flow_leads, lead_flows}
 use Rattle.flow_graph.specs.declared.flow.Flow.TheVariants as flow
+use Rattle.flow_graph.proofs.Coding.{left_coded}
 use Rattle.flow_graph.proofs.Doing.{does_return}
 use Rattle.resolved.specs.Limits.{most_places}
 
@@ -94,6 +96,24 @@ module _ (body : Code) (v : Valuation) (s n : ℕ) (args : List Bool) where
   asks_shape (one m (call p es) t) (same, are, to) = (m, es, t, ap (λ k. one m (call k es) t) (sym same), are, to)
   asks_shape (choose m c a b t) h = absurd h
   asks_shape (loop m c a t) h = absurd h
+
+-- the variable that a node calls for is the one that the statement calls for
+module _ (body : Code) where
+  jumps_for_none : (o : Option Code) → target_in (goes_to o) ≡ None
+  jumps_for_none None = refl
+  jumps_for_none (Some r) = refl
+
+  called_for : (r : Code) → target_in (node_of body r) ≡ target_of r
+  called_for done = refl
+  called_for (one m skip t) = refl
+  called_for (one m (assign xs rs) t) = refl
+  called_for (one m (assert c) t) = refl
+  called_for (one m (assume c) t) = refl
+  called_for (one m (goto x) t) = jumps_for_none (rest_from x body done)
+  called_for (one m leave t) = refl
+  called_for (one m (call p es) t) = refl
+  called_for (choose m c a b t) = refl
+  called_for (loop m c a t) = refl
 
 -- the widths of a procedure of the program
 abbrev widths_in : Program → Routine → Widths
@@ -162,6 +182,8 @@ module _ (p : Program) (q : ℕ) (routine : Routine) (there : slice_get p.routin
       λ h. (node_enters r rest v s e n w).0 ((d.enters v s e n (wide v w)).0 h),
       λ h. (d.enters v s e n (wide v w)).1 ((node_enters r rest v s e n w).1 h),
     );
+    resumes = λ v x s e n w count h.
+        d.resumes v x s e n (wide v w) count h ∙ ap (λ t. code (resumed_with t v x)) (called_for body r);
   }
 
 -- a drawn graph is that of the procedure of its number
@@ -176,6 +198,10 @@ drawn_graph {N} {A} t q proc graph resolves narrow is draws = record {
       ∙ ap suc (length-map (rests body done) (node_of body) ∙ sym (numbers_counted body))
       ∙ ap (λ b. suc (statements b)) (sym same);
   steps = λ r rest. flow_at r (subst (λ b. IsRestOf b r) same rest);
+  left = λ v wide i. record {
+    globals = left_coded graph.globals v (wide.0 ∙ sym draws.0) i;
+    result = (ap (has_any (code v)) draws.3 ∙ ap (λ n. not (n == 0)) (and_zero_r (code v))) i;
+  };
 }
   where
     p : Program

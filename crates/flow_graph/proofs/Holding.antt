@@ -9,13 +9,14 @@ use Rattle.language.specs.Messages.{Owes, IsMessageTo, ArgumentsFit}
 use Rattle.language.proofs.ByMessages.{reached_entry, reached_stands}
 use Rattle.language.proofs.Widths.{reached_valuation}
 use Rattle.flow_graph.specs.Flows.{code, last_of, next_of, entered_by}
-use Rattle.flow_graph.specs.Returns.{left, resumed}
+use Rattle.flow_graph.specs.Returns.{left_by, resumed_at}
 use Rattle.flow_graph.specs.Graphs.{IsGraph, IsInTextOrder}
 use Rattle.flow_graph.specs.Numbers.{NumberedMessage, numbered_entry, numbered_summary, by_numbers, GraphReaches, starts}
 use Rattle.flow_graph.specs.Numbers.{flows, returns, Sends, asks, tells, IsNumberOf, IsNumberOfValuation}
 use Rattle.flow_graph.specs.Triples.{HoldStarts, HoldFlows, HoldReturns, HoldAsks, HoldTells}
 use Rattle.flow_graph.specs.declared.flow.Flow.{Flow}
 use Rattle.flow_graph.specs.declared.graph.Graph.{Graph}
+use Rattle.flow_graph.specs.declared.left.Left.{Left}
 use Rattle.flow_graph.proofs.Coding.{code_small}
 use Rattle.flow_graph.proofs.Reaching.{called_valuation, flow_at, reached_reaches, owed_sends}
 
@@ -24,8 +25,8 @@ module _ {A : Type 0} (graph : Graph A) (M : NumberedMessage → Type 0) where
   pub reaches_least : (T : ℕ → ℕ → ℕ → Type 0) → ((from : Caller) (a : ℕ) → M (numbered_entry from a) → T a graph.start a)
       → ((a n v n' v' i : ℕ) (flow : Flow A) → T a n v → slice_get graph.flows.items n ≡ Some flow → i ≤ last_of flow
       → next_of flow v i ≡ Some (n', v') → T a n' v')
-      → ((a n v s e n' b : ℕ) (flow : Flow A) → T a n v → slice_get graph.flows.items n ≡ Some flow → entered_by flow v ≡ Some (s, e, n')
-      → M (numbered_summary s e b) → T a n' (resumed graph.globals v b))
+      → ((a n v s e n' : ℕ) (b : Left) (flow : Flow A) → T a n v → slice_get graph.flows.items n ≡ Some flow → entered_by flow v ≡ Some (s, e, n')
+      → M (numbered_summary s e b) → T a n' (resumed_at graph n v b))
       → (a n v : ℕ) → GraphReaches graph M a n v → T a n v
   reaches_least T begins goes comes _ _ _ (starts from a k) = begins from a k
   reaches_least T begins goes comes _ _ _ (flows a n v n' v' i flow reached here most next) =
@@ -38,7 +39,7 @@ module _ {A : Type 0} (graph : Graph A) (M : NumberedMessage → Type 0) where
       (S : ℕ → NumberedMessage → Type 0)
       → ((a n v s e n' : ℕ) (flow : Flow A) → T a n v → slice_get graph.flows.items n ≡ Some flow → entered_by flow v ≡ Some (s, e, n')
       → S s (numbered_entry (caller q) e))
-      → ((a v s : ℕ) → M (numbered_entry (caller s) a) → T a 0 v → S s (numbered_summary q a (left graph.globals v)))
+      → ((a v s : ℕ) → M (numbered_entry (caller s) a) → T a 0 v → S s (numbered_summary q a (left_by graph v)))
       → (s : ℕ) (k : NumberedMessage) → Sends graph q M s k → S s k
   sends_least q T least S asked told _ _ (asks a n v s e n' flow reached here enters) =
       asked a n v s e n' flow (least a n v reached) here enters
@@ -82,7 +83,7 @@ module _ {A : Type 0} (graph : Graph A) (ms : List NumberedMessage) (ts : List (
     λ from a k. (all a graph.start a).1 (starts from a k),
     λ a n v n' v' i flow held here most next. (all a n' v').1 (flows a n v n' v' i flow ((all a n v).0 held) here most next),
     λ a n v s e n' b flow held here enters k.
-        (all a n' (resumed graph.globals v b)).1 (returns a n v s e n' b flow ((all a n v).0 held) here enters k),
+        (all a n' (resumed_at graph n v b)).1 (returns a n v s e n' b flow ((all a n v).0 held) here enters k),
   )
 
   pub sent_follow : (q : ℕ) (sent : List (ℕ × NumberedMessage))
@@ -91,7 +92,7 @@ module _ {A : Type 0} (graph : Graph A) (ms : List NumberedMessage) (ts : List (
   sent_follow q sent each = (
     λ a n v s e n' flow held here enters.
         (each s (numbered_entry (caller q) e)).1 (asks a n v s e n' flow ((all a n v).0 held) here enters),
-    λ a v s k held. (each s (numbered_summary q a (left graph.globals v))).1 (tells a v s k ((all a 0 v).0 held)),
+    λ a v s k held. (each s (numbered_summary q a (left_by graph v))).1 (tells a v s k ((all a 0 v).0 held)),
   )
 
 -- what a procedure owes by messages of its widths has the widths of who it is for

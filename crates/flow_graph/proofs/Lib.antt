@@ -10,11 +10,12 @@ pub mod Numbered
 pub mod Searching
 pub mod Assignments
 pub mod Later
+pub mod Coding
+pub mod Returns
 pub mod Doing
 pub mod Lowered
 pub mod Statements
 pub mod Graphing
-pub mod Coding
 pub mod Reaching
 pub mod Taking
 pub mod Holding

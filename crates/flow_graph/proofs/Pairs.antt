@@ -13,13 +13,13 @@ use Rattle.language.proofs.Sound.{owed_due}
 use Rattle.language.proofs.Widths.{due_message, reached_valuation}
 use Rattle.flow_graph.specs.Bits.{bit_of}
 use Rattle.flow_graph.specs.Nodes.{number, point_at}
-use Rattle.flow_graph.specs.Flows.{code}
-use Rattle.flow_graph.specs.Returns.{left}
+use Rattle.flow_graph.specs.Flows.{code, exit_code}
+use Rattle.flow_graph.specs.Returns.{left_by}
 use Rattle.flow_graph.specs.Graphs.{AreGraphs, IsInTextOrder}
-use Rattle.flow_graph.specs.Numbers.{NumberedMessage, numbered_entry, by_numbers, exit_code, Leaves}
+use Rattle.flow_graph.specs.Numbers.{NumberedMessage, numbered_entry, by_numbers, Leaves}
 use Rattle.flow_graph.specs.Numbers.{IsNumberOf, AreNumbersOf, IsNumberOfEntry, AreNumbersOfEdge, AreNumbersOfPair, Sends}
 use Rattle.flow_graph.specs.declared.graph.Graph.{Graph}
-use Rattle.flow_graph.proofs.Coding.{left_coded}
+use Rattle.flow_graph.specs.declared.left.Left.{Left}
 use Rattle.flow_graph.proofs.Reaching.{valuation_told, message_told, rest_in_order_told, entry_of, entry_is}
 use Rattle.flow_graph.proofs.Taking.{taken_due, edges_taken}
 use Rattle.flow_graph.proofs.Worths.{coded_bit}
@@ -77,7 +77,7 @@ module _ {A : Type 0} (p : Program) (graphs : List (Graph A)) (T : ℕ → Numbe
     (opening : T 0 (numbered_entry starter 0))
     (sent : (q s : ℕ) (graph : Graph A) (k : NumberedMessage) → slice_get graphs q ≡ Some graph → Sends graph q (T q) s k → T s k)
     (due : (q : ℕ) (k : NumberedMessage) → T q k → IsNumberOf (IsDue p q) k) where
-  pub pairs_left : IsInTextOrder p → (q : ℕ) (graph : Graph A) → slice_get graphs q ≡ Some graph → (a b : ℕ)
+  pub pairs_left : IsInTextOrder p → (q : ℕ) (graph : Graph A) → slice_get graphs q ≡ Some graph → (a : ℕ) (b : Left)
       → Leaves graph (T q) a b ↔ AreNumbersOfPair p q a b
   pairs_left order q graph here a b = (there, back)
     where
@@ -88,26 +88,25 @@ module _ {A : Type 0} (p : Program) (graphs : List (Graph A)) (T : ℕ → Numbe
           let inside : EdgeTo p q x y done = subst (EdgeTo p q x y) exit edge in
           let wide = edge_wide p fit q x y r edge in (
             x,
-            exit_of y,
-            (pair_exit p q x (exit_of y)).1 (y.places, inside),
+            exit_of p q y,
+            (pair_exit p q x (exit_of p q y)).1 (y.places, refl, inside),
             ea,
-            eb ∙ ap (left graph.globals) ev ∙
-                left_coded graph.globals y (wide.0 ∙ sym (are.1 q graph here).globals),
+            eb ∙ ap (left_by graph) ev ∙ (are.1 q graph here).left y wide,
           )
 
       back : AreNumbersOfPair p q a b → Leaves graph (T q) a b
       back (x, g, pair, ea, eb) =
-          let (l, edge) = (pair_exit p q x g).0 pair in
+          let (l, given, edge) = (pair_exit p q x g).0 pair in
           let y : Valuation = record { globals = g.globals; places = l } in
           let wide = edge_wide p fit q x y done edge in (
             code y,
             (edges_taken p graphs T fit are opening sent due q graph here a 0 (code y)).1 (x, y, done, edge, ea, refl, refl),
-            eb ∙ sym (left_coded graph.globals y (wide.0 ∙ sym (are.1 q graph here).globals)),
+            eb ∙ (λ i. exit_code (record { globals = g.globals; result = given i })) ∙ sym ((are.1 q graph here).left y wide),
           )
 
   -- some pair of the first procedure has `bad` where its graph is left with that bit
   pub bad_left : IsInTextOrder p → (graph : Graph A) → slice_get graphs 0 ≡ Some graph → (bad : ℕ)
-      → SomeBad p bad ↔ ((a : ℕ) × (b : ℕ) × Leaves graph (T 0) a b × (bit_of b bad ≡ true))
+      → SomeBad p bad ↔ ((a : ℕ) × (b : Left) × Leaves graph (T 0) a b × (bit_of b.globals bad ≡ true))
   bad_left order graph here bad = (
     λ h. (
       code h.0,
@@ -118,10 +117,10 @@ module _ {A : Type 0} (p : Program) (graphs : List (Graph A)) (T : ℕ → Numbe
     back,
   )
     where
-      back : (a : ℕ) × (b : ℕ) × Leaves graph (T 0) a b × (bit_of b bad ≡ true) → SomeBad p bad
+      back : (a : ℕ) × (b : Left) × Leaves graph (T 0) a b × (bit_of b.globals bad ≡ true) → SomeBad p bad
       back (a, b, leaves, is) =
           let (x, g, pair, ea, eb) = (pairs_left order 0 graph here a b).0 leaves in
-          (x, g, pair, sym (coded_bit g.globals bad) ∙ ap (λ n. bit_of n bad) (sym eb) ∙ is)
+          (x, g, pair, sym (coded_bit g.globals bad) ∙ ap (λ (n : Left). bit_of n.globals bad) (sym eb) ∙ is)
 
   -- the entries taken are those with which procedures are entered
   pub entries_taken : (q a : ℕ) → ((from : Caller) × T q (numbered_entry from a)) ↔ IsNumberOfEntry p q a

@@ -1,13 +1,13 @@
 -- What a flow graph reaches and sends by numbers is what its procedure reaches and owes.
 use Rattle.std.proofs.Common.{◌≡◌, ◌↔◌, ◌⊎◌, ℕ, suc, ◌+◌, ◌≤◌, ◌++◌, length, Option, Some, None, slice_get, inl, inr, refl, sym, ◌∙◌, ap}
-use Rattle.std.proofs.Common.{ap₂, subst, arith}
+use Rattle.std.proofs.Common.{ap₂, subst, arith, false}
 use Rattle.std.proofs.lemmas.Option.{same_Some}
 use Rattle.language.specs.Tree.{done, one, choose, loop}
 use Rattle.language.specs.Value.{values_of}
-use Rattle.language.specs.Rest.{Code, join}
+use Rattle.language.specs.Rest.{Code, join, target_of}
 use Rattle.language.specs.Step.{Program, fresh, AtRoutine, body_of}
 use Rattle.language.specs.Sequential.{statements, marked, numbered, point_of, Valuation, Calls}
-use Rattle.language.specs.Sequential.{Caller, caller, Message, entry, summary, exit_of, resumed_with}
+use Rattle.language.specs.Sequential.{Caller, caller, Message, entry, summary, Exit, exit_of, resumed_with}
 use Rattle.language.specs.Flow.{rests, IsRestOf, after_first}
 use Rattle.language.specs.Lists.{Member}
 use Rattle.language.specs.Messages as by_messages
@@ -19,16 +19,16 @@ use Rattle.language.proofs.Members.{member_append}
 use Rattle.language.proofs.RestPoints.{point_tells_rest}
 use Rattle.language.proofs.StepKinds.{routine_found}
 use Rattle.language.proofs.Widths.{reached_valuation}
-use Rattle.flow_graph.specs.Bits.{coded}
 use Rattle.flow_graph.specs.Nodes.{point_at}
-use Rattle.flow_graph.specs.Flows.{code, next_of, entered_by}
-use Rattle.flow_graph.specs.Returns.{left, resumed}
+use Rattle.flow_graph.specs.Flows.{code, exit_code, next_of, entered_by, resumed_by}
+use Rattle.flow_graph.specs.Returns.{left_by, behind, resumed_at}
 use Rattle.flow_graph.specs.Graphs.{HasSteps, AtFlow, IsGraph, IsInTextOrder}
-use Rattle.flow_graph.specs.Numbers.{NumberedMessage, numbered_entry, numbered_summary, by_numbers, exit_code, GraphReaches, starts}
+use Rattle.flow_graph.specs.Numbers.{NumberedMessage, numbered_entry, numbered_summary, by_numbers, GraphReaches, starts}
 use Rattle.flow_graph.specs.Numbers.{flows, returns, Sends, asks, tells, IsNumberOf, AreNumbersOf}
 use Rattle.flow_graph.specs.declared.flow.Flow.{Flow}
 use Rattle.flow_graph.specs.declared.graph.Graph.{Graph}
-use Rattle.flow_graph.proofs.Coding.{coded_tells, code_tells, left_coded, resumed_coded}
+use Rattle.flow_graph.specs.declared.left.Left.{Left}
+use Rattle.flow_graph.proofs.Coding.{coded_tells, code_tells}
 
 -- ---- messages
 
@@ -44,8 +44,8 @@ abbrev pub entry_of : NumberedMessage → ℕ
 entry_of (numbered_entry from a) = a
 entry_of (numbered_summary s a b) = a
 
-abbrev left_of : NumberedMessage → ℕ
-left_of (numbered_entry from a) = 0
+abbrev left_of : NumberedMessage → Left
+left_of (numbered_entry from a) = record { globals = 0; result = false }
 left_of (numbered_summary s a b) = b
 
 -- 0 for an entry, 1 for a summary
@@ -54,7 +54,7 @@ kind_of (numbered_entry from a) = 0
 kind_of (numbered_summary s a b) = 1
 
 -- an entry is no summary
-pub entry_is : (from : Caller) (a s x b : ℕ) → numbered_entry from a ≡ numbered_summary s x b → ⊥
+pub entry_is : (from : Caller) (a s x : ℕ) (b : Left) → numbered_entry from a ≡ numbered_summary s x b → ⊥
 entry_is from a s x b e = let z : 0 ≡ 1 = ap kind_of e in omega (arith, z)
 
 -- two valuations of one procedure have as many values
@@ -78,8 +78,9 @@ message_told p q (summary s v b) (entry from w) is is' e = absurd (let z : 1 ≡
 message_told p q (summary s v b) (summary s' w b') is is' e =
     let es : s ≡ s' = ap procedure_of e in
     let ev = valuation_told p s v w is.0 (subst (λ i. IsValuationOf p i w) (sym es) is'.0) (ap entry_of e) in
-    let eb = coded_tells b.globals b'.globals (is.1 ∙ sym is'.1) (ap left_of e) in
-    λ i. summary (es i) (ev i) (record { globals = eb i })
+    let eb = coded_tells b.globals b'.globals (is.1 ∙ sym is'.1) (ap (λ k. (left_of k).globals) e) in
+    let er = ap (λ k. (left_of k).result) e in
+    λ i. summary (es i) (ev i) (record { globals = eb i; result = er i })
 
 -- what is entered by a call that fits has the widths of its procedure
 pub called_valuation : (p : Program) → ArgumentsFit p → (q : ℕ) (v : Valuation) (r : Code) (s : ℕ) (e : Valuation)
@@ -182,6 +183,11 @@ module _ {A : Type 0} (p : Program) (q : ℕ) (graph : Graph A) (is : IsGraph p 
       let (flow', here', steps) = flow_at r rest in
       subst (HasSteps p q r) (same_Some flow' flow (sym here' ∙ ap (slice_get graph.flows.items) (sym e) ∙ here)) steps
 
+  -- a caller at the point goes on as its flow does
+  goes_on : (n : ℕ) (flow : Flow A) → slice_get graph.flows.items n ≡ Some flow → (v : ℕ) (b : Left)
+      → resumed_at graph n v b ≡ resumed_by flow v b
+  goes_on n flow here v b = ap (λ o. behind o v b) here
+
   module _ (M : Message → Type 0) (K : NumberedMessage → Type 0) (right : (m : Message) → M m → IsMessageTo p q m) where
     -- ---- what is reached and owed has its numbers
 
@@ -197,13 +203,14 @@ module _ {A : Type 0} (p : Program) (q : ℕ) (graph : Graph A) (is : IsGraph p 
       reaches_reached _ _ _ (by_messages.returns a v e r s b reached calls m) =
           let (flow, here, steps) = flow_at r (reached_stands p q M a v r reached) in
           let wide = reached_valuation p q M right a v r reached in
-          let back : resumed graph.globals (code v) (exit_code b) ≡ coded (b.globals ++ v.places) =
-          resumed_coded graph.globals v b.globals (wide.0 ∙ sym is.globals) ((right (summary s e b) m).1 ∙ sym is.globals) in
+          let enters = (steps.enters v s (code e) (point_at (after_first r)) wide).1 (e, calls, refl, refl) in
+          let count = (right (summary s e b) m).1 ∙ sym wide.0 in
+          let back : resumed_at graph (point_at r) (code v) (exit_code b) ≡ code (resumed_with (target_of r) v b) =
+          goes_on (point_at r) flow here (code v) (exit_code b)
+          ∙ steps.resumes v b s (code e) (point_at (after_first r)) wide count enters in
           subst (GraphReaches graph K (code a) (point_at (after_first r))) back
           (returns (code a) (point_at r) (code v) s (code e) (point_at (after_first r)) (exit_code b) flow
-          (reaches_reached a v r reached) here
-          ((steps.enters v s (code e) (point_at (after_first r)) wide).1 (e, calls, refl, refl))
-          (gives (summary s e b) m))
+          (reaches_reached a v r reached) here enters (gives (summary s e b) m))
 
       pub sends_owed : (s : ℕ) (m : Message) → Owes p q M s m → Sends graph q K s (by_numbers m)
       sends_owed _ _ (by_messages.asks a v e r s reached calls) =
@@ -213,7 +220,7 @@ module _ {A : Type 0} (p : Program) (q : ℕ) (graph : Graph A) (is : IsGraph p 
           ((steps.enters v s (code e) (point_at (after_first r)) wide).1 (e, calls, refl, refl))
       sends_owed _ _ (by_messages.tells a v s m reached) =
           let wide = reached_valuation p q M right a v done reached in
-          subst (λ n. Sends graph q K s (numbered_summary q (code a) n)) (left_coded graph.globals v (wide.0 ∙ sym is.globals))
+          subst (λ n. Sends graph q K s (numbered_summary q (code a) n)) (is.left v wide)
           (tells (code a) (code v) s (gives (entry (caller s) a) m) (reaches_reached a v done reached))
 
     -- ---- what is reached and sent by numbers is reached and owed
@@ -224,13 +231,15 @@ module _ {A : Type 0} (p : Program) (q : ℕ) (graph : Graph A) (is : IsGraph p 
       begun from a (entry c x) had e = (x, x, body, by_messages.starts c x had, ap entry_of e, is.start, ap entry_of e)
       begun from a (summary s x b) had e = absurd (let z : 0 ≡ 1 = ap kind_of e in omega (arith, z))
 
-      resumed_after : (a : ℕ) (x y e : Valuation) (r : Code) (v s w b n : ℕ) (m : Message) → Reached p q M x y r → a ≡ code x → v ≡ code y
-          → Calls p y.globals y.places r s e → w ≡ code e
-          → n ≡ point_at (after_first r) → M m → numbered_summary s w b ≡ by_numbers m →
-          AreNumbersOf (Reached p q M) a n (resumed graph.globals v b)
-      resumed_after a x y e r v s w b n (entry c z) reached ea ev calls ew en had same =
+      resumed_after : (a : ℕ) (x y e : Valuation) (r : Code) (v s w n k : ℕ) (b : Left) (m : Message) → Reached p q M x y r → a ≡ code x
+          → v ≡ code y → Calls p y.globals y.places r s e → w ≡ code e → n ≡ point_at (after_first r) →
+          ((z : Exit) → length z.globals ≡ length y.globals
+          → resumed_at graph k (code y) (exit_code z) ≡ code (resumed_with (target_of r) y z))
+          → M m → numbered_summary s w b ≡ by_numbers m →
+          AreNumbersOf (Reached p q M) a n (resumed_at graph k v b)
+      resumed_after a x y e r v s w n k b (entry c z) reached ea ev calls ew en back had same =
           absurd (let z : 1 ≡ 0 = ap kind_of same in omega (arith, z))
-      resumed_after a x y e r v s w b n (summary s' z b') reached ea ev calls ew en had same =
+      resumed_after a x y e r v s w n k b (summary s' z b') reached ea ev calls ew en back had same =
           let wide = reached_valuation p q M right x y r reached in
           let whole : IsValuationOf p s e = called_valuation p fit q y r s e wide.0 (reached_stands p q M x y r reached) calls in
           let theirs = right (summary s' z b') had in
@@ -238,16 +247,14 @@ module _ {A : Type 0} (p : Program) (q : ℕ) (graph : Graph A) (is : IsGraph p 
           let eb : b ≡ exit_code b' = ap left_of same in
           let ez : z ≡ e =
           valuation_told p s z e (subst (λ i. IsValuationOf p i z) (sym es) theirs.0) whole (sym (ap entry_of same) ∙ ew) in
-          let m : M (summary s e b') = subst (λ u. M (summary s u b')) ez (subst (λ i. M (summary i z b')) (sym es) had) in
-          let back : resumed graph.globals (code y) (exit_code b') ≡ coded (b'.globals ++ y.places) =
-          resumed_coded graph.globals y b'.globals (wide.0 ∙ sym is.globals) (theirs.1 ∙ sym is.globals) in (
+          let m : M (summary s e b') = subst (λ u. M (summary s u b')) ez (subst (λ i. M (summary i z b')) (sym es) had) in (
             x,
-            resumed_with y b',
+            resumed_with (target_of r) y b',
             after_first r,
             by_messages.returns x y e r s b' reached calls m,
             ea,
             en,
-            (λ i. resumed graph.globals (ev i) (eb i)) ∙ back,
+            (λ i. resumed_at graph k (ev i) (eb i)) ∙ back b' (theirs.1 ∙ sym wide.0),
           )
 
       pub reached_reaches : (a n v : ℕ) → GraphReaches graph K a n v → AreNumbersOf (Reached p q M) a n v
@@ -263,13 +270,15 @@ module _ {A : Type 0} (p : Program) (q : ℕ) (graph : Graph A) (is : IsGraph p 
           let (x, y, r, got, ea, en, ev) = reached_reaches a n v reached in
           let steps : HasSteps p q r flow = steps_at n r flow (reached_stands p q M x y r got) en here in
           let wide = reached_valuation p q M right x y r got in
-          let (e, calls, ew, en') = (steps.enters y s w n' wide).0 (ap (entered_by flow) (sym ev) ∙ enters) in
+          let entered = ap (entered_by flow) (sym ev) ∙ enters in
+          let (e, calls, ew, en') = (steps.enters y s w n' wide).0 entered in
           let (m, had, same) = tells_of (numbered_summary s w b) k in
-          resumed_after a x y e r v s w b n' m got ea ev calls ew en' had same
+          resumed_after a x y e r v s w n' n b m got ea ev calls ew en'
+          (λ z count. goes_on n flow here (code y) (exit_code z) ∙ steps.resumes y z s w n' wide count entered) had same
 
       told : (order : IsInTextOrder p) (a v s : ℕ) (x y : Valuation) (r : Code) (m : Message) → Reached p q M x y r →
           a ≡ code x → 0 ≡ point_at r → v ≡ code y → M m → numbered_entry (caller s) a ≡ by_numbers m
-          → IsNumberOf (Owes p q M s) (numbered_summary q a (left graph.globals v))
+          → IsNumberOf (Owes p q M s) (numbered_summary q a (left_by graph v))
       told order a v s x y r (summary s' z b') got ea en ev had same = absurd (let z : 0 ≡ 1 = ap kind_of same in omega (arith, z))
       told order a v s x y r (entry c z) got ea en ev had same =
           let (b, numbering) = order q in
@@ -279,9 +288,9 @@ module _ {A : Type 0} (p : Program) (q : ℕ) (graph : Graph A) (is : IsGraph p 
           let m : M (entry (caller s) x) =
           subst (λ u. M (entry (caller s) u)) ez (subst (λ u. M (entry u z)) (sym (ap caller_of same)) had) in
           let wide = reached_valuation p q M right x y r got in (
-            summary q x (exit_of y),
+            summary q x (exit_of p q y),
             by_messages.tells x y s m (subst (Reached p q M x y) exit got),
-            ap₂ (numbered_summary q) ea (ap (left graph.globals) ev ∙ left_coded graph.globals y (wide.0 ∙ sym is.globals)),
+            ap₂ (numbered_summary q) ea (ap (left_by graph) ev ∙ is.left y wide),
           )
 
       pub owed_sends : IsInTextOrder p → (s : ℕ) (k : NumberedMessage) → Sends graph q K s k → IsNumberOf (Owes p q M s) k

@@ -1,21 +1,27 @@
 -- What flows lead to, by numbers, and what nodes they do.
 use Rattle.std.specs.Prelude.{◌≡◌, ◌↔◌, ◌≤◌, ◌<◌, ℕ, ◌+◌, Bool, cond, Option, Some, None}
 use Rattle.std.specs.Prelude.{List, [], ◌∷◌, ◌++◌, length}
+use Rattle.language.specs.Value.{Place}
 use Rattle.language.specs.Resolve.{Scope}
-use Rattle.language.specs.Sequential.{Valuation}
+use Rattle.language.specs.Sequential.{Valuation, Exit, resumed_with}
 use Rattle.flow_graph.specs.Bits.{coded}
 use Rattle.flow_graph.specs.Formulas.{side_value}
 use Rattle.flow_graph.specs.Assignments.{assigned}
-use Rattle.flow_graph.specs.Calls.{entry_of}
-use Rattle.flow_graph.specs.Nodes.{Node, Leads, NodeCalls}
+use Rattle.flow_graph.specs.Calls.{entry_of, resumed}
+use Rattle.flow_graph.specs.Nodes.{Node, target_in, Leads, NodeCalls}
 use Rattle.flow_graph.specs.declared.side.Side.TheVariants as side
 use Rattle.flow_graph.specs.declared.flow.Flow.{Flow}
 use Rattle.flow_graph.specs.declared.flow.Flow.TheVariants.{Assign, Test, Assume, Call, Return}
+use Rattle.flow_graph.specs.declared.left.Left.{Left}
 use Rattle.resolved.specs.Limits.{most_places}
 
 -- a valuation as a number: the globals from bit 0, then the places
 abbrev pub code : Valuation → ℕ
 code valuation = coded (valuation.globals ++ valuation.places)
+
+-- what is left by numbers: that of the globals, from bit 0, and the result
+abbrev pub exit_code : Exit → Left
+exit_code exit = record { globals = coded exit.globals; result = exit.result }
 
 -- the last choice
 abbrev pub last_of : {A : Type 0} → Flow A → ℕ
@@ -39,18 +45,25 @@ abbrev pub entered_by : {A : Type 0} → Flow A → ℕ → Option (ℕ × ℕ �
 entered_by (Call call) values = Some (call.callee, entry_of call.globals call.arguments.items values, call.back)
 entered_by _ values = None
 
+-- the valuation with which the caller goes on from its own behind a flow that calls, where the call has left this
+abbrev pub resumed_by : {A : Type 0} → Flow A → ℕ → Left → ℕ
+resumed_by (Call call) values left = resumed call.globals call.target values left
+resumed_by _ values left = values
+
 -- by choice i the flow leads from the valuation to the point and the valuation of this number
 abbrev pub LeadsBy : {A : Type 0} → Flow A → ℕ → Valuation → ℕ → ℕ → Type 0
 LeadsBy flow i valuation point number = (i ≤ last_of flow) × (next_of flow (code valuation) i ≡ Some (point, number))
 
 -- Behaviour of a flow, for the valuations of which W holds: it leads exactly where L says, to a point and the number of
--- a valuation, by one choice each; and it enters exactly what E says, a procedure, the number of a valuation, and the
--- point after the return.
+-- a valuation, by one choice each; it enters exactly what E says, a procedure, the number of a valuation, and the point
+-- after the return; and behind what it enters the caller goes on as one that called for the target.
 pub record Behaves {A : Type 0} (flow : Flow A) (W : Valuation → Type 0) (L : Valuation → ℕ → ℕ → Type 0)
-    (E : Valuation → ℕ → ℕ → ℕ → Type 0) : Type 0 where
+    (E : Valuation → ℕ → ℕ → ℕ → Type 0) (target : Option Place) : Type 0 where
   pub leads : (v : Valuation) (n w : ℕ) → W v → ((i : ℕ) × LeadsBy flow i v n w) ↔ L v n w
   pub once : (v : Valuation) (i j n w : ℕ) → W v → LeadsBy flow i v n w → LeadsBy flow j v n w → i ≡ j
   pub enters : (v : Valuation) (s e n : ℕ) → W v → (entered_by flow (code v) ≡ Some (s, e, n)) ↔ E v s e n
+  pub resumes : (v : Valuation) (x : Exit) (s e n : ℕ) → W v → length x.globals ≡ length v.globals →
+      entered_by flow (code v) ≡ Some (s, e, n) → resumed_by flow (code v) (exit_code x) ≡ code (resumed_with target v x)
 
 -- How many globals and places the valuations of a procedure have, and how many procedures there are.
 pub record Widths : Type 0 where
@@ -77,10 +90,10 @@ NodeEnters node procedures valuation callee entered point =
     (args : List Bool) × NodeCalls node valuation callee args point × (callee < procedures)
     × (length valuation.globals + length args ≤ most_places) × (entered ≡ coded (valuation.globals ++ args))
 
--- The flow does what happens at the node, for valuations of these widths: it leads where the node leads, and enters
--- what the node calls.
+-- The flow does what happens at the node, for valuations of these widths: it leads where the node leads, enters what
+-- the node calls, and goes on behind the call as one that called for the node's target.
 abbrev pub Does : {A : Type 0} → Flow A → Node → Widths → Type 0
-Does flow node widths = Behaves flow (HasWidths widths) (LeadsTo node) (NodeEnters node widths.procedures)
+Does flow node widths = Behaves flow (HasWidths widths) (LeadsTo node) (NodeEnters node widths.procedures) (target_in node)
 
 -- each flow does what happens at its node
 abbrev pub AllDo : {A : Type 0} → List (Flow A) → List Node → Widths → Type 0

@@ -1,13 +1,14 @@
 -- Flow graphs of a program's procedures.
 use Rattle.std.specs.Prelude.{◌≡◌, ℕ, suc, Option, Some, None, List, length, slice_get}
-use Rattle.language.specs.Rest.{Code}
+use Rattle.language.specs.Rest.{Code, target_of}
 use Rattle.language.specs.Step.{Program, body_of}
-use Rattle.language.specs.Sequential.{numbered, statements, Valuation, Calls}
+use Rattle.language.specs.Sequential.{numbered, statements, Valuation, Calls, exit_of}
 use Rattle.language.specs.Flow as steps
 use Rattle.language.specs.Flow.{IsRestOf, after_first}
 use Rattle.language.specs.Messages.{IsValuationOf, ArgumentsFit}
 use Rattle.flow_graph.specs.Nodes.{point_at}
-use Rattle.flow_graph.specs.Flows.{code, Behaves}
+use Rattle.flow_graph.specs.Flows.{code, exit_code, Behaves}
+use Rattle.flow_graph.specs.Returns.{left_by}
 use Rattle.flow_graph.specs.declared.flow.Flow.{Flow}
 use Rattle.flow_graph.specs.declared.graph.Graph.{Graph}
 use Rattle.flow_graph.specs.Drawn.{flows_of, start_of, globals_of}
@@ -23,11 +24,11 @@ StepEnters program rest valuation callee entered point =
     (a : Valuation) × Calls program valuation.globals valuation.places rest callee a × (entered ≡ code a)
     × (point ≡ point_at (after_first rest))
 
--- The flow has the steps of the procedure where this is left to run: it leads where a step inside the call leads, and
--- enters what a step enters.
+-- The flow has the steps of the procedure where this is left to run: it leads where a step inside the call leads,
+-- enters what a step enters, and goes on behind a call as the caller does.
 abbrev pub HasSteps : {A : Type 0} → Program → ℕ → Code → Flow A → Type 0
 HasSteps program procedure rest flow =
-    Behaves flow (IsValuationOf program procedure) (StepsToNumber program procedure rest) (StepEnters program rest)
+    Behaves flow (IsValuationOf program procedure) (StepsToNumber program procedure rest) (StepEnters program rest) (target_of rest)
 
 -- there is a flow, and it has the property
 abbrev pub AtFlow : {A : Type 0} → Option (Flow A) → (Flow A → Type 0) → Type 0
@@ -35,13 +36,15 @@ AtFlow None P = ⊥
 AtFlow (Some flow) P = P flow
 
 -- The graph is that of the procedure: it starts at the first statement, has a point for each statement and the exit,
--- and at the point of each rest of the body the steps from there.
+-- and at the point of each rest of the body the steps from there; and with each valuation it leaves what the procedure
+-- leaves with that.
 pub record IsGraph {A : Type 0} (program : Program) (procedure : ℕ) (graph : Graph A) : Type 0 where
   pub globals : globals_of graph ≡ program.globals
   pub start : start_of graph ≡ point_at (body_of (slice_get program.routines procedure))
   pub points : length (flows_of graph) ≡ suc (statements (body_of (slice_get program.routines procedure)))
   pub steps : (r : Code) → IsRestOf (body_of (slice_get program.routines procedure)) r →
       AtFlow (slice_get (flows_of graph) (point_at r)) (HasSteps program procedure r)
+  pub left : (v : Valuation) → IsValuationOf program procedure v → left_by graph (code v) ≡ exit_code (exit_of program procedure v)
 
 -- the graphs are those of the program's procedures, by number
 abbrev pub AreGraphs : {A : Type 0} → Program → List (Graph A) → Type 0

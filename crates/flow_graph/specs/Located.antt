@@ -1,5 +1,5 @@
 -- Expressions whose variables are bits of a valuation's number: the globals from bit 0, then the formals and locals.
-use Rattle.std.specs.Prelude.{ℕ, ◌+◌, Bool, false, not, cond, nat_lt, Option, Some, None, length}
+use Rattle.std.specs.Prelude.{ℕ, ◌+◌, ◌^◌, Bool, false, not, cond, nat_lt, Option, Some, None, length}
 use Rattle.language.specs.Tree.{Name, Expression, const, var, negation, two}
 use Rattle.language.specs.Value.{Place, global, local, operate}
 use Rattle.language.specs.Resolve.{Scope, place_of}
@@ -12,6 +12,16 @@ bit_of_place globals (local i) = Some (globals + i)
 -- the bit of a variable, where it is declared
 abbrev pub bit_of_name : Scope → Name → Option ℕ
 bit_of_name scope name = bit_of_place (length scope.globals) (place_of scope name)
+
+-- the bit alone; 0 for none
+abbrev pub mask_of : Option ℕ → ℕ
+mask_of None = 0
+mask_of (Some bit) = 2 ^ bit
+
+-- the bit alone of the variable that is called for, where there are so many globals; 0 for none
+abbrev pub target_mask : ℕ → Option Place → ℕ
+target_mask globals None = 0
+target_mask globals (Some place) = mask_of (bit_of_place globals place)
 
 -- a read of a bit; what is declared nowhere reads as 0
 abbrev pub read_of : Option ℕ → Expression ℕ

@@ -1,5 +1,5 @@
 -- What the statements of a procedure are lowered to.
-use Rattle.std.specs.Prelude.{◌≡◌, ◌≤◌, ◌<◌, ◌+◌, ℕ, List, [], ◌∷◌, ◌++◌, map, length}
+use Rattle.std.specs.Prelude.{◌≡◌, ◌≤◌, ◌<◌, ◌+◌, ℕ, None, List, [], ◌∷◌, ◌++◌, map, length}
 use Rattle.language.specs.Tree.{RightSide, done}
 use Rattle.language.specs.Value.{Place}
 use Rattle.language.specs.Resolve.{Scope, number_of, place_of, resolve_expression, resolve_side, resolve_block}
@@ -39,11 +39,12 @@ assignment_in lowering xs rs to =
     let s = lowering_scope lowering in
     assigns (map (place_of s) (names_of xs)) (map (resolve_side s) (rhss_of rs)) to
 
--- the node of a call: the procedure with the name is called with the arguments, and the run goes on at the point
+-- the node of a call for no value: the procedure with the name is called with the arguments, and the run goes on at the
+-- point
 abbrev pub call_in : {N A : Type 0} → Lowering N A → Name N → List (Expr N) → ℕ → Node
 call_in lowering callee es back =
     let s = lowering_scope lowering in
-    calls (number_of (name_of callee).text s.procedures) (map (resolve_expression s) (exprs_of es)) back
+    calls None (number_of (name_of callee).text s.procedures) (map (resolve_expression s) (exprs_of es)) back
 
 -- the flow does what happens at the node, for the procedure's valuations
 abbrev pub DoesIn : {N A : Type 0} → Lowering N A → Flow A → Node → Type 0

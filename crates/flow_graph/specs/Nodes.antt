@@ -17,12 +17,12 @@ abbrev pub point_at : Code → ℕ
 point_at rest = number (point_of rest)
 
 -- What happens at a point: values are written, a test leads to one of two points, an assumption lets only 1 pass on, a
--- procedure is called and left to at a point, or the procedure is left.
+-- procedure is called, for a variable or for none, and left to at a point, or the procedure is left.
 pub data Node : Type 0 where
   assigns : List Place → List (RightSide Place) → ℕ → Node
   tests : RightSide Place → ℕ → ℕ → Node
   assumes : RightSide Place → ℕ → Node
-  calls : ℕ → List (Expression Place) → ℕ → Node
+  calls : Option Place → ℕ → List (Expression Place) → ℕ → Node
   returns : Node
 
 -- nothing is written, and the run goes on at the point
@@ -47,7 +47,7 @@ node_of body (one mark (assert side) rest) = assumes side (point_at rest)
 node_of body (one mark (assume side) rest) = assumes side (point_at rest)
 node_of body (one mark (goto label) rest) = goes_to (rest_from label body done)
 node_of body (one mark leave rest) = goes 0
-node_of body (one mark (call callee es) rest) = calls callee es (point_at rest)
+node_of body (one mark (call callee es) rest) = calls None callee es (point_at rest)
 node_of body (choose mark side if_true if_false rest) = tests side (point_at (join if_true rest)) (point_at (join if_false rest))
 node_of body (loop mark side inside rest) = tests side (point_at (join inside (loop mark side inside rest))) (point_at rest)
 
@@ -63,11 +63,16 @@ Leads (assigns xs rs target) before point after =
 Leads (tests side if_true if_false) before point after = (b : Bool) × IsValue before.globals before.places side b
     × (point ≡ cond b if_true if_false) × (after ≡ before)
 Leads (assumes side target) before point after = IsValue before.globals before.places side true × (point ≡ target) × (after ≡ before)
-Leads (calls callee es target) before point after = ⊥
+Leads (calls target callee es back) before point after = ⊥
 Leads returns before point after = ⊥
 
 -- the node calls a procedure with these arguments, and the run goes on at the point when it returns
 abbrev pub NodeCalls : Node → Valuation → ℕ → List Bool → ℕ → Type 0
-NodeCalls (calls callee es back) valuation procedure args point = (procedure ≡ callee)
+NodeCalls (calls target callee es back) valuation procedure args point = (procedure ≡ callee)
     × (args ≡ values_of valuation.globals valuation.places es) × (point ≡ back)
 NodeCalls _ valuation procedure args point = ⊥
+
+-- the variable that the node calls for, where it calls for a value
+abbrev pub target_in : Node → Option Place
+target_in (calls target callee es back) = target
+target_in _ = None

@@ -6,20 +6,20 @@ use Rattle.language.specs.Sequential.{Valuation, Edge, Exit, Pair, Entered}
 use Rattle.language.specs.Sequential.{Caller, starter, caller, Message, entry, summary, IsDue}
 use Rattle.language.specs.Lists.{Member}
 use Rattle.language.specs.Messages.{IsValuationOf, ArgumentsFit}
-use Rattle.flow_graph.specs.Bits.{coded}
 use Rattle.flow_graph.specs.Nodes.{number, point_at}
-use Rattle.flow_graph.specs.Flows.{code, last_of, next_of, entered_by}
-use Rattle.flow_graph.specs.Returns.{left, resumed}
+use Rattle.flow_graph.specs.Flows.{code, exit_code, last_of, next_of, entered_by}
+use Rattle.flow_graph.specs.Returns.{left_by, resumed_at}
 use Rattle.flow_graph.specs.declared.flow.Flow.{Flow}
 use Rattle.flow_graph.specs.declared.graph.Graph.{Graph}
-use Rattle.flow_graph.specs.Drawn.{flows_of, start_of, globals_of}
+use Rattle.flow_graph.specs.declared.left.Left.{Left}
+use Rattle.flow_graph.specs.Drawn.{flows_of, start_of}
 use Rattle.flow_graph.specs.Graphs.{AreGraphs}
 
 -- A message by numbers: an entry has who enters and the number of the entry valuation; a summary has the procedure
 -- called and the numbers of its entry valuation and of what it left.
 pub data NumberedMessage : Type 0 where
   numbered_entry : Caller → ℕ → NumberedMessage
-  numbered_summary : ℕ → ℕ → ℕ → NumberedMessage
+  numbered_summary : ℕ → ℕ → Left → NumberedMessage
 
 -- one of these
 abbrev pub Among : {X : Type 0} → List X → X → Type 0
@@ -28,10 +28,6 @@ Among xs x = Member x xs
 -- P holds of each of these
 abbrev pub AllAre : {X : Type 0} → (X → Type 0) → List X → Type 0
 AllAre {X} P xs = (x : X) → Member x xs → P x
-
--- what is left as a number: the globals from bit 0
-abbrev pub exit_code : Exit → ℕ
-exit_code exit = coded exit.globals
 
 -- the message by numbers
 abbrev pub by_numbers : Message → NumberedMessage
@@ -46,9 +42,9 @@ pub data GraphReaches {A : Type 0} (graph : Graph A) (M : NumberedMessage → Ty
   flows : (a n v n' v' i : ℕ) (flow : Flow A) → GraphReaches graph M a n v →
       slice_get (flows_of graph) n ≡ Some flow → i ≤ last_of flow →
       next_of flow v i ≡ Some (n', v') → GraphReaches graph M a n' v'
-  returns : (a n v s e n' b : ℕ) (flow : Flow A) → GraphReaches graph M a n v →
+  returns : (a n v s e n' : ℕ) (b : Left) (flow : Flow A) → GraphReaches graph M a n v →
       slice_get (flows_of graph) n ≡ Some flow → entered_by flow v ≡ Some (s, e, n') → M (numbered_summary s e b) →
-      GraphReaches graph M a n' (resumed (globals_of graph) v b)
+      GraphReaches graph M a n' (resumed_at graph n v b)
 
 -- By the messages of which M holds, the graph of a procedure sends another: the entry of each call of it that is
 -- reached, and for each of its entries the summary of each valuation that is reached at the exit.
@@ -57,12 +53,12 @@ pub data Sends {A : Type 0} (graph : Graph A) (procedure : ℕ) (M : NumberedMes
   asks : (a n v s e n' : ℕ) (flow : Flow A) → GraphReaches graph M a n v → slice_get (flows_of graph) n ≡ Some flow →
       entered_by flow v ≡ Some (s, e, n') → Sends graph procedure M s (numbered_entry (caller procedure) e)
   tells : (a v s : ℕ) → M (numbered_entry (caller s) a) → GraphReaches graph M a 0 v →
-      Sends graph procedure M s (numbered_summary procedure a (left (globals_of graph) v))
+      Sends graph procedure M s (numbered_summary procedure a (left_by graph v))
 
--- By the messages of which M holds, what the graph leaves has the number `exit` where it was entered with that of
+-- By the messages of which M holds, what the graph leaves has the numbers `exit` where it was entered with that of
 -- `entered`.
-abbrev pub Leaves : {A : Type 0} → Graph A → (NumberedMessage → Type 0) → ℕ → ℕ → Type 0
-Leaves graph M entered exit = (v : ℕ) × GraphReaches graph M entered 0 v × (exit ≡ left (globals_of graph) v)
+abbrev pub Leaves : {A : Type 0} → Graph A → (NumberedMessage → Type 0) → ℕ → Left → Type 0
+Leaves graph M entered exit = (v : ℕ) × GraphReaches graph M entered 0 v × (exit ≡ left_by graph v)
 
 -- the message is, by numbers, one of which P holds
 abbrev pub IsNumberOf : (Message → Type 0) → NumberedMessage → Type 0
@@ -88,7 +84,7 @@ AreNumbersOfEdge program procedure entered at values =
     × (entered ≡ code x) × (at ≡ number point) × (values ≡ code y)
 
 -- the numbers are those of a pair of the procedure
-abbrev pub AreNumbersOfPair : Program → ℕ → ℕ → ℕ → Type 0
+abbrev pub AreNumbersOfPair : Program → ℕ → ℕ → Left → Type 0
 AreNumbersOfPair program procedure entered exit = (x : Valuation) × (e : Exit) × Pair program procedure x e × (entered ≡ code x)
     × (exit ≡ exit_code e)
 

@@ -4,11 +4,12 @@ use Rattle.std.specs.Prelude.{◌≡◌, ◌↔◌, ◌≤◌, ℕ, Some, List, 
 use Rattle.language.specs.Sequential.{Caller, caller}
 use Rattle.language.specs.Lists.{Member}
 use Rattle.flow_graph.specs.Flows.{last_of, next_of, entered_by}
-use Rattle.flow_graph.specs.Returns.{left, resumed}
+use Rattle.flow_graph.specs.Returns.{left_by, resumed_at}
 use Rattle.flow_graph.specs.Numbers.{NumberedMessage, numbered_entry, numbered_summary, Among, GraphReaches, Sends}
 use Rattle.flow_graph.specs.declared.flow.Flow.{Flow}
 use Rattle.flow_graph.specs.declared.graph.Graph.{Graph}
-use Rattle.flow_graph.specs.Drawn.{flows_of, start_of, globals_of}
+use Rattle.flow_graph.specs.declared.left.Left.{Left}
+use Rattle.flow_graph.specs.Drawn.{flows_of, start_of}
 
 -- the triples hold the start of each entry of these messages
 abbrev pub HoldStarts : {A : Type 0} → Graph A → List NumberedMessage → List (ℕ × ℕ × ℕ) → Type 0
@@ -24,9 +25,9 @@ HoldFlows {A} graph ts =
 -- with each triple at a call they hold what each summary of the call among these messages leads to
 abbrev pub HoldReturns : {A : Type 0} → Graph A → List NumberedMessage → List (ℕ × ℕ × ℕ) → Type 0
 HoldReturns {A} graph ms ts =
-    (a n v s e n' b : ℕ) (flow : Flow A) → Member (a, n, v) ts → slice_get (flows_of graph) n ≡ Some flow →
+    (a n v s e n' : ℕ) (b : Left) (flow : Flow A) → Member (a, n, v) ts → slice_get (flows_of graph) n ≡ Some flow →
     entered_by flow v ≡ Some (s, e, n') →
-    Member (numbered_summary s e b) ms → Member (a, n', resumed (globals_of graph) v b) ts
+    Member (numbered_summary s e b) ms → Member (a, n', resumed_at graph n v b) ts
 
 -- with each triple at a call of the procedure's the messages sent hold the entry for the procedure called
 abbrev pub HoldAsks : {A : Type 0} → Graph A → ℕ → List (ℕ × ℕ × ℕ) → List (ℕ × NumberedMessage) → Type 0
@@ -41,7 +42,7 @@ abbrev pub HoldTells : {A : Type 0} → Graph A → ℕ → List NumberedMessage
     List (ℕ × NumberedMessage) → Type 0
 HoldTells graph procedure ms ts sent =
     (a v s : ℕ) → Member (numbered_entry (caller s) a) ms → Member (a, 0, v) ts →
-    Member (s, numbered_summary procedure a (left (globals_of graph) v)) sent
+    Member (s, numbered_summary procedure a (left_by graph v)) sent
 
 -- the triples are those that the graph reaches by these messages
 abbrev pub AreReached : {A : Type 0} → Graph A → List NumberedMessage → List (ℕ × ℕ × ℕ) → Type 0

@@ -24,7 +24,7 @@ pub(crate) struct Write<A: Allocator> {
 }
 
 /// The valuation with this value for the bits of a mask.
-fn masked(values: Word, mask: Word, value: bool) -> Word
+pub(crate) fn masked(values: Word, mask: Word, value: bool) -> Word
     ensures { result ≡ masked values mask value }
 {
     let set = values | mask;

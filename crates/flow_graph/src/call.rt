@@ -1,10 +1,11 @@
 //! Calls, compiled, and the returns from them.
 
 ghost use Rattle.std.specs.Prelude.{◌≡◌, ◌≤◌, ◌^◌, ◌%◌, ◌+◌, length};
-ghost use Rattle.flow_graph.specs.Calls.{entry_of};
 ghost use Rattle.resolved.specs.Limits.{most_places};
 
+use crate::assignment::masked;
 use crate::formula::Formula;
+use crate::left::Left;
 use crate::word::BITS;
 use language::{Point, Word};
 use std::alloc::Allocator;
@@ -26,12 +27,15 @@ pub struct Call<A: Allocator> {
     pub(crate) callee: u8,
     pub(crate) globals: u8,
     pub(crate) arguments: Vec<Formula<A>, A>,
+    /// The bit of the variable that is called for, alone; 0 for none.
+    pub(crate) target: Word,
     pub(crate) back: Point,
     pub ghost fits: { globals + length arguments.items ≤ most_places },
 }
 
 impl<A: Allocator> Call<A> {
-    ghost use Rattle.flow_graph.specs.Drawn.{back_of, callee_of, entered_from};
+    ghost use Rattle.flow_graph.specs.Drawn.{back_of, callee_of, entered_from, resumed_from};
+    ghost use Rattle.flow_graph.specs.Returns.{IsResumed};
 
     /// The number of the procedure that is called.
     pub fn callee(&self) -> u8
@@ -59,5 +63,16 @@ impl<A: Allocator> Call<A> {
             bit += 1;
         }
         entry
+    }
+
+    /// The valuation with which the caller goes on from its own after a call that left this: the globals are those
+    /// left, the places are the caller's, and the variable that it called for, if any, gets the result.
+    pub fn resumed(&self, values: Word, left: Left) -> Word
+        ensures number { result ≡ resumed_from self.now values left }
+        ensures valuation { IsResumed self.now values left result }
+    {
+        let globals = low_bits(left.globals, self.globals);
+        let places = values - low_bits(values, self.globals);
+        masked(globals + places, self.target, left.result)
     }
 }

@@ -45,6 +45,7 @@ fn graph<N: Allocator, A: Allocator + Clone>(
         flows,
         start: begin(body, 1, EXIT),
         globals: program.globals.len() as u8,
+        result: 0,
     })
 }
 

@@ -1,12 +1,20 @@
 //! Flow graphs.
 
 ghost use Rattle.std.specs.Prelude.{◌≡◌, ◌≤◌, ◌<◌, length, slice_get, Some};
-ghost use Rattle.flow_graph.specs.Returns.{left, resumed, AreGlobalsOf, IsResumed};
+ghost use Rattle.flow_graph.specs.Bits.{has_any};
 
 use crate::call::low_bits;
 use crate::flow::Flow;
+use crate::left::Left;
 use language::{Point, Word};
 use std::alloc::Allocator;
+
+/// Whether some bit of the mask is 1.
+fn has_any(values: Word, mask: Word) -> bool
+    ensures { result ≡ has_any values mask }
+{
+    values & mask != 0
+}
 
 /// The flow graph of a procedure: a point before each statement and the exit, and what leads on from each. A valuation
 /// is a number of 64 bits: the globals from bit 0 in the order of their declaration, then the formals, locals and
@@ -16,10 +24,13 @@ pub struct Graph<A: Allocator> {
     pub(crate) flows: Vec<Flow<A>, A>,
     pub(crate) start: Point,
     pub(crate) globals: u8,
+    /// The bit of the result, alone; 0 where the procedure gives none.
+    pub(crate) result: Word,
 }
 
 impl<A: Allocator> Graph<A> {
     ghost use Rattle.flow_graph.specs.Drawn.{flows_of, globals_of, start_of};
+    ghost use Rattle.flow_graph.specs.Returns.{left_by, AreGlobalsOf};
 
     /// The point of the first statement; the exit, where there is none.
     pub fn start(&self) -> Point
@@ -43,20 +54,15 @@ impl<A: Allocator> Graph<A> {
         &self.flows[point]
     }
 
-    /// The globals of a valuation: what a call leaves that ends with it.
-    pub fn left(&self, values: Word) -> Word
-        ensures number { result ≡ left (globals_of self.now) values }
-        ensures globals { AreGlobalsOf (globals_of self.now) values result }
+    /// What a call leaves that ends with this valuation: its globals, and the result.
+    pub fn left(&self, values: Word) -> Left
+        ensures number { result ≡ left_by self.now values }
+        ensures globals { AreGlobalsOf (globals_of self.now) values result.globals }
     {
-        low_bits(values, self.globals)
-    }
-
-    /// The valuation of a caller after a call that left these globals: the places are the caller's.
-    pub fn resumed(&self, values: Word, globals: Word) -> Word
-        ensures number { result ≡ resumed (globals_of self.now) values globals }
-        ensures valuation { IsResumed (globals_of self.now) values globals result }
-    {
-        low_bits(globals, self.globals) + (values - low_bits(values, self.globals))
+        Left {
+            globals: low_bits(values, self.globals),
+            result: has_any(values, self.result),
+        }
     }
 }
 

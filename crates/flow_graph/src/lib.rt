@@ -8,6 +8,7 @@ mod flow;
 mod formula;
 mod graph;
 mod labels;
+mod left;
 mod lowering;
 mod numbers;
 mod outputs;
@@ -25,6 +26,7 @@ pub use call::Call;
 pub use drawing::graphs;
 pub use flow::Flow;
 pub use graph::{Graph, Graphs};
+pub use left::Left;
 pub use numbers::{
     a_graph_reaches_what_its_procedure_reaches, a_graph_sends_what_its_procedure_owes,
     a_number_tells_its_valuation, by_due_messages_a_graph_reaches_path_edges,

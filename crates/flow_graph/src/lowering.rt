@@ -119,6 +119,7 @@ impl<'a, N: Allocator, A: Allocator + Clone> Lowering<'a, N, A> {
             callee: callee as u8,
             globals: self.scope.globals.len() as u8,
             arguments,
+            target: 0,
             back,
         }))
     }

@@ -11,6 +11,7 @@ ghost use Rattle.flow_graph.specs.Numbers.{HasTaken, TookAllDue};
 ghost use Rattle.flow_graph.specs.Numbers.{IsNumberOf, AreNumbersOf, IsNumberOfEntry};
 ghost use Rattle.flow_graph.specs.Numbers.{AreNumbersOfPair};
 ghost use Rattle.flow_graph.specs.declared.graph.Graph.{Graph};
+ghost use Rattle.flow_graph.specs.declared.left.Left.{Left};
 
 use std::alloc::Allocator;
 
@@ -32,11 +33,12 @@ pub fn the_entries_taken_are_those_entered<A: Allocator>()
         → ((from : Caller) × HasTaken takes q (numbered_entry from a)) ↔ IsNumberOfEntry p q a }
 {}
 
-/// The globals with which each graph is then left have the numbers of its procedure's pairs.
+/// What each graph then leaves has the numbers of its procedure's pairs.
 pub fn what_graphs_leave_are_the_pairs<A: Allocator>()
     ensures { (p : Program) (graphs : List (Graph A)) (takes : List (List NumberedMessage))
         → TookAllDue p graphs takes
-        → IsInTextOrder p → (q : ℕ) (graph : Graph A) → slice_get graphs q ≡ Some graph → (a b : ℕ)
+        → IsInTextOrder p → (q : ℕ) (graph : Graph A) → slice_get graphs q ≡ Some graph
+        → (a : ℕ) (b : Left)
         → Leaves graph (HasTaken takes q) a b ↔ AreNumbersOfPair p q a b }
 {}
 
@@ -46,5 +48,6 @@ pub fn a_bad_pair_is_left_by_its_graph<A: Allocator>()
         → TookAllDue p graphs takes
         → IsInTextOrder p → (graph : Graph A) → slice_get graphs 0 ≡ Some graph → (bad : ℕ)
         → SomeBad p bad ↔
-        ((a : ℕ) × (b : ℕ) × Leaves graph (HasTaken takes 0) a b × (bit_of b bad ≡ true)) }
+        ((a : ℕ) × (b : Left) × Leaves graph (HasTaken takes 0) a b
+        × (bit_of b.globals bad ≡ true)) }
 {}

@@ -67,10 +67,7 @@ pub fn in_test<A: Allocator + Copy>(known: &Known<A>, test: Option<&Rhs<A>>) -> 
 }
 
 /// The same for a variable that may be there.
-pub fn in_receiver<A: Allocator + Copy>(
-    known: &Known<A>,
-    receiver: Option<&Name<A>>,
-) -> Option<u32>
+pub fn in_receiver<A: Allocator + Copy>(known: &Known<A>, receiver: Option<&Name<A>>) -> Option<u32>
     ensures { Finds
         (AnyUnknown (lent known.now.names.items)
         (as_list (option_map (λ r. name_of r.now) receiver.entry))) result }

@@ -42,6 +42,7 @@ returns g c =
       drawn_flows _ _ _ _ _ _ _ _ _ _ old c.block.new.flows.items c.as_slice.ensures.value c.as_slice-2.ensures.value
           c.as_slice-3.ensures.value c.as_slice-4.ensures.value body start
           (lowered.1 done refl (omega (arith, lowered.0, small, one), omega (arith, lowered.0, small, one))),
+      refl,
     )
 
 pub overflow_cast-result : goal.overflow_cast-result

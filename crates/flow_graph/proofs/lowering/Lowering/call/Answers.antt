@@ -1,5 +1,5 @@
 -- Each argument is compiled; a call that no run makes is none.
-use Rattle.std.proofs.Common.{◌≡◌, ◌+◌, ◌++◌, ◌∷◌, [], drop, length, map, inl, inr, sym, ◌∙◌, ap, subst, arith, length-append}
+use Rattle.std.proofs.Common.{◌≡◌, ◌+◌, ◌++◌, ◌∷◌, [], None, drop, length, map, inl, inr, refl, sym, ◌∙◌, ap, subst, arith, length-append}
 use Rattle.std.specs.Prelude.{IfOk}
 use Rattle.std.proofs.lemmas.List.{drop_more, drop_all, length-map, append-nil}
 use Rattle.language.specs.Value.{value_of, values_of}
@@ -19,7 +19,7 @@ returns-then-callee-self g c =
     let e = ap (λ t. number_of t s.procedures) c.as_str.ensures.value in
     let count : length s.procedures ≡ length procs = length-map (procs_of procs) _ ∙ length-map procs proc_of in
     let callee = c.number_of_procedure-callee.ensures in
-    does_no_call c.nowhere.result _ _ c.args.back _
+    does_no_call c.nowhere.result None _ _ c.args.back _
     (inl (λ less. omega (arith, less, e, count, callee, c.if-callee-self.true))) (c.nowhere.ensures _)
 
 pub returns-then-es-self : goal.returns-then-es-self
@@ -29,7 +29,7 @@ returns-then-es-self g c =
     let count : length (map (resolve_expression s) (exprs_of es)) ≡ length es = length-map (exprs_of es) (resolve_expression s)
     ∙ length-map es expr_of in
     let globals : length s.globals ≡ length c.args.self.now.scope.globals.now = length-map c.args.self.now.scope.globals.now name_of in
-    does_no_call c.nowhere-then-es-self.result _ _ c.args.back _
+    does_no_call c.nowhere-then-es-self.result None _ _ c.args.back _
     (inr (λ few. omega (arith, few, count, globals, c.if-es-self.true))) (c.nowhere-then-es-self.ensures _)
 
 pub loop-e-preserved : goal.loop-e-preserved
@@ -62,10 +62,11 @@ returns g c =
     let count : length s.procedures ≡ length procs = length-map (procs_of procs) _ ∙ length-map procs proc_of in
     let globals : length s.globals ≡ length c.args.self.now.scope.globals.now = length-map c.args.self.now.scope.globals.now name_of in
     let callee = c.number_of_procedure-callee.ensures ∙ e in
-    does_calls _ _ (map (resolve_expression s) (exprs_of es)) s callee (sym globals)
+    does_calls _ None _ (map (resolve_expression s) (exprs_of es)) s callee (sym globals)
     (omega (arith, callee, count, c.if-callee-self.false))
     (λ gs ls wide.
     sym (append-nil (map (λ f. says f (coded (gs ++ ls))) c.loop-e.arguments.items))
     ∙ ap (λ l. map (λ f. says f (coded (gs ++ ls))) c.loop-e.arguments.items ++ values_of gs ls (map (resolve_expression s) (exprs_of l)))
     (sym (drop_all c.loop-e.e-index es c.loop-e-test.false))
     ∙ c.loop-e.invariant.1 gs ls wide)
+    refl tt

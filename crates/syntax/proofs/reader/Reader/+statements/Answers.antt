@@ -134,7 +134,7 @@ pub core-returns-in-Id-2-clause-gives : goal.core-returns-in-Id-2-clause-gives
 core-returns-in-Id-2-clause-gives g t c =
     rw (deed_asks c.args.tokens.now c.in-Some.others.now c.in-Some.first.now c.in-Some.ensures.cases.0
     c.in-Id.is (sym c.begins-in-Id-1.ensures ∙ c.if-begins-2.false) (sym c.asks_behind.ensures ∙ c.if-asks_behind.true))
-        c.asking.ensures.gives
+    c.asking.ensures.gives
 
 pub core-returns-in-Id-3-clause-gives : goal.core-returns-in-Id-3-clause-gives
 core-returns-in-Id-3-clause-gives g t c =
