@@ -286,8 +286,7 @@ module _ (setting : Setting) (now : Moment setting.p.globals setting.last) (m : 
           good_with p last a (written_locals xs vs a.l) tmp' (draws is_global xs rs) (one k (assign xs rs) t) t h
               (length_locals xs vs a.l) drawn room h.fits.1,
           good,
-        )
-        (
+        ) (
           vs,
           are,
           ap (λ z. state (written_globals xs vs (row C q)) (frame a.c z t ∷ map source bs))

@@ -195,9 +195,11 @@ module _ (w : World) (n last own c : ℕ) (fs : List Frame) (Q : State → Type 
             spread_all small now own l more tmp el one_target one_draw vs,
             sides_are small now own l more tmp el 0 one_target one_draw vs a (refl, tt) (in_scope, tt) (tt, tt),
             subst (λ z. PlainAfter w k z Q) (sym (write_is one_target one_draw vs tmp t a (in_scope, tt))) h,
-          ) in
-          (suc k, subst (λ z. PlainAfter w (suc k) (state (lay C S (bits_of q false b)) (frame c (l ++ tmp) z ∷ fs)) Q)
-          (sym (landed_is n last own i t)) run)
+          ) in (
+            suc k,
+            subst (λ z. PlainAfter w (suc k) (state (lay C S (bits_of q false b)) (frame c (l ++ tmp) z ∷ fs)) Q)
+                (sym (landed_is n last own i t)) run,
+          )
 
       pub landed_back : Never Q fs → (N : ℕ)
           → PlainAfter w N (state (lay C S (bits_of q false b)) (frame c (l ++ tmp) (landed n last own i t) ∷ fs)) Q

@@ -328,10 +328,12 @@ module _ (setting : Setting) (S : List (List Bool)) (m : Code) (Q : State → Ty
             (begun M (omega (arith, le)) post r b a done (awaiting d (global i) t ∷ bs)
             (moved (with_bit (row now.C now.q) i result) (both d' t ∷ bs) (length-set (row now.C now.q) i result ∙ row_long now)
             (refl, given_good p last result (awaiting d (global i) t) hd, good)
-            (given_step (awaiting d (global i) t) hd)
-            (M', lt',
-            subst (λ v. PlainAfter w M' (state (turned now (with_bit (row now.C now.q) i v)) (stack p last (both d' t ∷ bs) m)) Q) there
-            run')))
+            (given_step (awaiting d (global i) t) hd) (
+              M',
+              lt',
+              subst (λ v. PlainAfter w M' (state (turned now (with_bit (row now.C now.q) i v)) (stack p last (both d' t ∷ bs) m)) Q) there
+                  run',
+            )))
         landing_exited d i t hd (stopped (M, lt, run)) =
             let here : List Frame = map source (both a done ∷ awaiting d (global i) t ∷ bs) in
             let (M', lt', run') =

@@ -106,7 +106,7 @@ module _ {n last : ℕ} (small : last < most_rounds) (now : Moment n last) (own 
       → value_of globals_now L (expression (places n last own) last e) ≡ value_of (row C q) (l ++ more) e
   expression_is l tmp more eL el (const c) h = refl
   expression_is l tmp more eL el (var (global i)) h = from last i (omega arith) h within
-  expression_is l tmp more eL el (var (local i)) h = 
+  expression_is l tmp more eL el (var (local i)) h =
       ap (λ z. bit z i) eL
       ∙ (get_or_append_left l tmp false i (omega arith) ∙ sym (get_or_append_left l more false i (omega arith)))
   expression_is l tmp more eL el (negation e) h = ap not (expression_is l tmp more eL el e h)

@@ -389,9 +389,10 @@ module _ (t : Tree) (last : ℕ) (ok : IsChecked t) (small : last < most_rounds)
     statement_works m (call_for x q es) b k w room h =
         let taken : takes (names own).is_shared (Some x) ≤ drawn = omega arith in (
           record {
-            variables =
-                (receiver_held own last drawn (In p') Known held x w.variables.0 taken,
-                arguments_use own last drawn (In p') Known held es w.variables.1);
+            variables = (
+              receiver_held own last drawn (In p') Known held x w.variables.0 taken,
+              arguments_use own last drawn (In p') Known held es w.variables.1,
+            );
             called =
                 subst (λ n. Takes (named q.text t'.procedures) n) (sym (length-map es (expression (names own) last)))
                 (takes_there q (length es) w.called);

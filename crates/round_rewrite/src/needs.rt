@@ -35,7 +35,10 @@ impl<'a, N: Allocator, A: Allocator + Copy> Writer<'a, N, A> {
     fn own_needs(&self, core: &Core<N>) -> usize
         ensures { result ≡ draws_of (naming_of self.now).is_shared (head_of (deed_of core.now)) }
     {
-        larger(self.takes(core.receiver()), self.draws(core.targets(), core.sides()))
+        larger(
+            self.takes(core.receiver()),
+            self.draws(core.targets(), core.sides()),
+        )
     }
 
     /// How many temporaries statements need: as many as the one that needs most.
