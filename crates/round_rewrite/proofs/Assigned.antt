@@ -295,7 +295,8 @@ module _ {n last : ℕ} (small : last < most_rounds) (now : Moment n last) (own 
       spread_back (expression (places n last own) last e) (value_of (row C q) (l ++ more) e) i hx.0 (expr_is e hr.0)
       (numbers 0 (suc last)) all_below _ ws a in
       let (vs, hv, pv, ev) = sides_back j xs rs us hx.1 hr.1 h in
-      (value_of (row C q) (l ++ more) e ∷ vs, (refl, hv), pv, e1 ∙ ap (λ z. map (spread i (value_of (row C q) (l ++ more) e)) (numbers 0 (suc last)) ++ z) ev)
+      (value_of (row C q) (l ++ more) e ∷ vs, (refl, hv), pv,
+          e1 ∙ ap (λ z. map (spread i (value_of (row C q) (l ++ more) e)) (numbers 0 (suc last)) ++ z) ev)
   sides_back j (local i ∷ xs) (any ∷ rs) [] hx hr a = absurd a
   sides_back j (local i ∷ xs) (any ∷ rs) (w ∷ ws) hx hr a =
       let (vs, hv, pv, ev) = sides_back j xs rs ws hx.1 hr.1 a.1 in
@@ -305,7 +306,8 @@ module _ {n last : ℕ} (small : last < most_rounds) (now : Moment n last) (own 
       let (vs, hv, pv, ev) = sides_back j xs rs ws hx.1 hr.1 a.1 in
       (w ∷ vs, (a.0 ∙ expr_is e hr.0, hv), pv, ap (λ z. w ∷ z) ev)
 
-  pub writes : (xs : List Place) (rs : List (RightSide Place)) (vs h : List Bool) → AreValues (row C q) (l ++ more) rs vs → PlacesInScope n own xs
+  pub writes : (xs : List Place) (rs : List (RightSide Place)) (vs h : List Bool) → AreValues (row C q) (l ++ more) rs vs
+      → PlacesInScope n own xs
       → length h ≡ n
       → written_globals (targets (places n last own) last xs rs) (spread_all xs rs vs) (lay (with_row C q h) S (bits_of q false b))
       ≡ lay (with_row C q (written_globals xs vs h)) S (bits_of q false b)

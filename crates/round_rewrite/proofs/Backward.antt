@@ -214,7 +214,8 @@ module _ (setting : Setting) (now : Moment setting.p.globals setting.last) (m : 
         (λ r.
         Later w N
         (state X
-        (frame (suc q') (fresh (frame_size r) (values_of X (put_values d.activation) (map (expression (places p.globals last d.own) last) es)))
+        (frame (suc q')
+            (fresh (frame_size r) (values_of X (put_values d.activation) (map (expression (places p.globals last d.own) last) es)))
         r.body
         ∷ callers p last (d ∷ bs) m)) Q) → Begins N a rest bs
     call_back N a rest d q' es None e h scope short steps at = absurd at
@@ -248,14 +249,16 @@ module _ (setting : Setting) (now : Moment setting.p.globals setting.last) (m : 
         (λ r.
         PlainAfter w n1
         (state X
-        (frame (suc q') (fresh (frame_size r) (values_of X (put_values d.activation) (map (expression (places p.globals last d.own) last) es)))
+        (frame (suc q')
+            (fresh (frame_size r) (values_of X (put_values d.activation) (map (expression (places p.globals last d.own) last) es)))
         r.body
         ∷ callers p last (d ∷ bs) m)) Q) → Begins N a rest bs
     call_made_back N n1 a rest d q' es e h scope short steps run =
         let F : Routine → State =
         λ r.
         state X
-        (frame (suc q') (fresh (frame_size r) (values_of X (put_values d.activation) (map (expression (places p.globals last d.own) last) es)))
+        (frame (suc q')
+            (fresh (frame_size r) (values_of X (put_values d.activation) (map (expression (places p.globals last d.own) last) es)))
         r.body
         ∷ callers p last (d ∷ bs) m) in
         call_back N a rest d q' es (slice_get p.routines q') refl h scope short steps
@@ -276,7 +279,8 @@ module _ (setting : Setting) (now : Moment setting.p.globals setting.last) (m : 
         (refl, good_rest p last a (one k skip t) t h h.fits.1, good) refl (later_now w Q _ N n1 e1 r1)
     step_back N a (one k (assign xs rs) t) h starts run =
         let scope = h.fits.0.0 in
-        let room : draws is_global xs rs ≤ temporaries is_global h.routine.body = draws_room p.routines p.globals a.own (temporaries is_global h.routine.body) xs rs h.fits.0 in
+        let room : draws is_global xs rs ≤ temporaries is_global h.routine.body =
+            draws_room p.routines p.globals a.own (temporaries is_global h.routine.body) xs rs h.fits.0 in
         let (M, vs, tmp', lt, are, drawn, r) =
         assign_back w p.globals last a.own (suc a.c) (callers p last bs m) Q now small a.l a.more a.tmp h.long (never_below bs) N xs rs
         (put_rest p last a.own t) scope.targets scope.sides run in
@@ -345,7 +349,8 @@ module _ (setting : Setting) (now : Moment setting.p.globals setting.last) (m : 
         ∙ put_with setting (both a (one k (leave_with e) t)) h v) r1))
     step_back N a (one k (call_for x q' es) t) h starts run =
         let scope = h.fits.0.0 in
-        let room : takes is_global (Some x) ≤ temporaries is_global h.routine.body = takes_room p.routines p.globals a.own (temporaries is_global h.routine.body) x q' es h.fits.0 in
+        let room : takes is_global (Some x) ≤ temporaries is_global h.routine.body =
+            takes_room p.routines p.globals a.own (temporaries is_global h.routine.body) x q' es h.fits.0 in
         let (n1, e1, r1) = unstep w Q N _ _ _ (never_below bs) run in
         call_made_back N n1 a (one k (call_for x q' es) t) (awaiting a x t) q' es e1
         (good_awaiting p last a (one k (call_for x q' es) t) x t h scope.targets.0 room h.fits.1) scope.arguments scope.callee

@@ -10,7 +10,8 @@ use Rattle.round_rewrite.specs.Table.{numbers, plain, rounds, targets, sides, dr
 use Rattle.round_rewrite.specs.Places.{places, is_global}
 use Rattle.resolved.specs.Scoped.{PlacesInScope, SidesInScope}
 use Rattle.round_rewrite.proofs.Laid.{row, bits_of, lay, Moment, turned, unturned, row_long}
-use Rattle.round_rewrite.proofs.Assigned.{drawn_to, length-drawn, bit-undrawn, picks, Picked, picked, any_are, drawn_writes, spread_all, sides_are}
+use Rattle.round_rewrite.proofs.Assigned.{drawn_to, length-drawn, bit-undrawn, picks, Picked, picked, any_are, drawn_writes, spread_all}
+use Rattle.round_rewrite.proofs.Assigned.{sides_are}
 use Rattle.round_rewrite.proofs.Assigned.{sides_back, writes, writes_locals}
 use Rattle.round_rewrite.proofs.Plain.{World, PlainAfter}
 use Rattle.round_rewrite.proofs.Leading.{Leads, Never, unstep, Later, later_now}
@@ -147,7 +148,8 @@ module _ (w : World) (n last own c : ℕ) (fs : List Frame) (Q : State → Type 
         → SidesInScope n own rs
         → PlainAfter w N
         (state (lay C S (bits_of q false b)) (frame c (l ++ tmp) (statement (places n last own) last (assign xs rs) t) ∷ fs)) Q
-        → (M : ℕ) × (vs : List Bool) × (tmp' : List Bool) × (M < N) × AreValues (row C q) (l ++ more) rs vs × Redrawn (draws is_global xs rs) tmp tmp'
+        → (M : ℕ) × (vs : List Bool) × (tmp' : List Bool) × (M < N) × AreValues (row C q) (l ++ more) rs vs
+            × Redrawn (draws is_global xs rs) tmp tmp'
         × PlainAfter w M (state (turned now (written_globals xs vs (row C q))) (frame c (written_locals xs vs l ++ tmp') t ∷ fs)) Q
     unfolding write_state
     assign_back never N xs rs t hx hr h =

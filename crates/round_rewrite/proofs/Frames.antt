@@ -1,6 +1,7 @@
 -- A stack of the source and the temporaries together give the rewritten stack.
 use Rattle.std.proofs.Common.{◌≡◌, ℕ, zero, suc, ◌+◌, ◌-◌, ◌*◌, ◌<◌, ◌≤◌, max, Bool, true, false, cond, List, [], ◌∷◌, ◌++◌, length, map}
-use Rattle.std.proofs.Common.{Option, Some, None, option_map, slice_get, refl, sym, ◌∙◌, ap, ap₂, arith, add_assoc, ◌⊎◌, inl, inr, append_assoc}
+use Rattle.std.proofs.Common.{Option, Some, None, option_map, slice_get, refl, sym, ◌∙◌, ap, ap₂, arith, add_assoc, ◌⊎◌, inl, inr}
+use Rattle.std.proofs.Common.{append_assoc}
 use Rattle.std.proofs.lemmas.List.{get_or-set_same, get_or-set_other, set_past, length-set, set-append_left}
 use Rattle.language.specs.Tree.{Expression, Simple, assign, call_for, Mark, done, one, choose, loop, RightSide}
 use Rattle.language.specs.Value.{Place, global, local, bit, with_bit, written_locals}
@@ -94,8 +95,8 @@ roomy routines n own d (choose m r a b t) h room = (
 roomy routines n own d (loop m r a t) h room =
     (h.0, roomy routines n own d a h.1 (omega arith), roomy routines n own d t h.2 (omega arith))
 
--- An open call: its procedure, how many places it has of its own, their values, the result behind them, if the procedure
--- gives one, and what the rewritten frame has behind the places: the temporaries, and the result once more.
+-- An open call: its procedure, how many places it has of its own, their values, the result behind them, if the
+-- procedure gives one, and what the rewritten frame has behind the places: the temporaries, and the result once more.
 pub record Activation : Type 0 where
   pub c : ℕ
   pub own : ℕ
@@ -103,8 +104,8 @@ pub record Activation : Type 0 where
   pub more : List Bool
   pub tmp : List Bool
 
--- an open call, the variable that gets the value of its own call, if it waits for one, and what it has left to do: a frame
--- of the source with the temporaries
+-- an open call, the variable that gets the value of its own call, if it waits for one, and what it has left to do: a
+-- frame of the source with the temporaries
 pub record Both : Type 0 where
   pub activation : Activation
   pub open activation use *

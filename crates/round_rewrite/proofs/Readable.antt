@@ -4,7 +4,8 @@ use Rattle.std.proofs.Common.{length, map, codes, Some, refl, sym, ◌∙◌, su
 use Rattle.std.proofs.lemmas.List.{length-map}
 use Rattle.std.specs.List.{AllByRecursion}
 use Rattle.language.specs.Tree.{Name, Expression, const, var, negation, two, xor, RightSide, any, value, Simple, skip, assign, assert}
-use Rattle.language.specs.Tree.{assume, goto, leave, call, leave_with, call_for, Mark, Block, done, one, choose, loop, Procedure, ThreadLine, Tree}
+use Rattle.language.specs.Tree.{assume, goto, leave, call, leave_with, call_for, Mark, Block, done, one, choose, loop, Procedure}
+use Rattle.language.specs.Tree.{ThreadLine, Tree}
 use Rattle.language.specs.Rest.{join}
 use Rattle.language.specs.Resolve.{is_declared}
 use Rattle.syntax.specs.Grammar.{IsSome}

@@ -14,7 +14,8 @@ use Rattle.round_rewrite.proofs.Plain.{PlainAfter}
 use Rattle.round_rewrite.proofs.Prologue.{Exits, rose, went, stopped, exits}
 use Rattle.round_rewrite.proofs.Drawing.{landed, landed_back}
 use Rattle.round_rewrite.proofs.Frames.{Activation, both, awaiting, given, given_globals, source_values, put_values, Both, source, Good}
-use Rattle.round_rewrite.proofs.Frames.{AllGood, GoodStack, put_rest, inner, callers, top, site, stack, Setting, source_result, source_given, given_good}
+use Rattle.round_rewrite.proofs.Frames.{AllGood, GoodStack, put_rest, inner, callers, top, site, stack, Setting, source_result}
+use Rattle.round_rewrite.proofs.Frames.{source_given, given_good}
 use Rattle.round_rewrite.proofs.Backward.{Begins, moved, failed, moved_here, step_back, last_back, pop_back, unwind_back, never_below}
 use Rattle.round_rewrite.proofs.Turns.{Turns, FailTurns, idle, step_turns, step_fails, no_steps}
 

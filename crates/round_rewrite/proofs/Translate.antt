@@ -110,7 +110,8 @@ module _ {n last : ℕ} (small : last < most_rounds) (now : Moment n last) (own 
       ap (λ z. bit z i) eL
       ∙ (get_or_append_left l tmp false i (omega arith) ∙ sym (get_or_append_left l more false i (omega arith)))
   expression_is l tmp more eL el (negation e) h = ap not (expression_is l tmp more eL el e h)
-  expression_is l tmp more eL el (two o x y) h = ap₂ (operate o) (expression_is l tmp more eL el x h.0) (expression_is l tmp more eL el y h.1)
+  expression_is l tmp more eL el (two o x y) h =
+      ap₂ (operate o) (expression_is l tmp more eL el x h.0) (expression_is l tmp more eL el y h.1)
 
   pub expressions_are : (l tmp more : List Bool) → L ≡ l ++ tmp → length l ≡ own → (es : List (Expression Place))
       → AreInScope n own es
